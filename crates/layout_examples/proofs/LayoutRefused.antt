@@ -65,7 +65,8 @@ mark_has_no_comma_in : (t : List ℕ) → Begins IsPropertyMark t → NoComma t
 mark_has_no_comma_in t (c, cs, h, e) = (c, cs, mark_is_no_comma c h, e)
 
 -- before content stands nothing, or properties first
-pub before : (p : Properties) (indent : ℕ) (t : List ℕ) → IsBeforeContent p indent t → (t ≡ []) ⊎ Begins IsPropertyMark t
+pub before : (p : Properties) (indent : ℕ) (t : List ℕ) → IsBeforeContent p indent t
+    → (t ≡ []) ⊎ Begins IsPropertyMark t
 before p indent t (inl (e, f)) = inl f
 before p indent t (inr (front, separation, h, n, s, e)) =
     inr (front_of IsPropertyMark front separation t (properties p.anchor p.tag front h) e)

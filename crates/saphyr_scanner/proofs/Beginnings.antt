@@ -70,7 +70,8 @@ filler_line t (text, h, e) = with_break text t e (filler_text text h)
     with_break text t e (inl f) = (10, [], inr (inr refl), rw (e, f) refl)
     with_break text t e (inr h) = front_of IsFirst text (codes "\n") t h e
 
-begins_lines : (pieces : List (List ℕ)) → AreEach IsFillerLine pieces → (joined pieces ≡ []) ⊎ Begins IsFirst (joined pieces)
+begins_lines : (pieces : List (List ℕ)) → AreEach IsFillerLine pieces
+    → (joined pieces ≡ []) ⊎ Begins IsFirst (joined pieces)
 begins_lines [] h = inl refl
 begins_lines (line ∷ others) (h, hs) =
     inr (front_of IsFirst line (joined others) (line ++ joined others) (filler_line line h) refl)

@@ -110,7 +110,8 @@ gap_at_counted low n l [] m blank broke tabbed h =
 gap_at_counted low n l (c ∷ cs) m blank broke tabbed h =
     let P = Given (PassedAt low n) in
     let k : At low n (along m 1) cs = (omega (arith, h.0), omega (arith, h.1)) in
-    let line : P (gap l (next_line m 1) true true false cs) = (gap_at_counted low n l cs (next_line m 1) true true false k).0 in
+    let line : P (gap l (next_line m 1) true true false cs) =
+    (gap_at_counted low n l cs (next_line m 1) true true false k).0 in
     let further : (b : Bool) → P (gap l (along m 1) blank broke b cs) =
     λ b. (gap_at_counted low n l cs (along m 1) blank broke b k).0 in
     let inside : P (comment l (along m 1) blank broke tabbed cs) =

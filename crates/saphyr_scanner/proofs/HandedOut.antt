@@ -95,7 +95,8 @@ put_behind hs t q p b = record {
 acts_behind : (hs : List Place) (actions : List Action) (q p : Queue) → Behind hs q p → ActionsAbove (length hs) actions
     → Behind hs (perform actions q) (perform actions p)
 acts_behind hs [] q p b k = b
-acts_behind hs (Put t ∷ others) q p b k = acts_behind hs others (with_piece t q) (with_piece t p) (put_behind hs t q p b) k
+acts_behind hs (Put t ∷ others) q p b k = acts_behind hs others (with_piece t q) (with_piece t p)
+    (put_behind hs t q p b) k
 acts_behind hs (Open n o ∷ others) q p b k =
     let same_number : n - q.handed ≡ n = let z = b.none in omega (arith, z) in
     let places = ap (λ m. places_with_opening m o q.places) same_number ∙ ap (places_with_opening n o) b.places
@@ -107,7 +108,8 @@ same_next hs q p b = let z =
     b.none in let y = b.handed in let x =
     ap length b.places in let l = length-append hs p.places in omega (arith, x, y, z, l)
 
-after_step_agrees : (hs : List Place) (r : StepResult) (q p : Queue) → Behind hs q p → Given (KeepsPlacesAbove (length hs)) r
+after_step_agrees : (hs : List Place) (r : StepResult) (q p : Queue) → Behind hs q p
+    → Given (KeepsPlacesAbove (length hs)) r
     → Same hs (after_step r q) (after_step r p)
 after_step_agrees hs (Ok x) q p b k = record { core = refl; queue = acts_behind hs x.actions q p b k.1; above = k.0 }
 after_step_agrees hs (Err e) q p b k = refl
@@ -215,7 +217,8 @@ content_same hs first second c q p some f g b k =
     let told = after_step_agrees hs (step first second (next q) c) q p b
     (given_map _ _ (step first second (next q) c) (λ x e. e.keeps (length hs) (before, k))
     (step_effect first second (next q) c some f g)) in
-    subst (λ (m : ℕ). Same hs (after_step (step first second (next q) c) q) (after_step (step first second m c) p)) n told
+    subst (λ (m : ℕ). Same hs (after_step (step first second (next q) c) q) (after_step (step first second m c) p)) n
+    told
 
 directive_keeps : (h : ℕ) (c : Core) → Above h c → Given (KeepsPlacesAbove h) (document.read_directive c)
 unfolding document.read_directive
@@ -267,5 +270,6 @@ pub read_agrees : (hs : List Place) (limit : ℕ) → AgreesBehind hs (λ s. fet
 unfolding fetch_within
 read_agrees hs limit c q p b k =
     same_then hs (fetch_within limit (at c q)) (fetch_within limit (at c p)) without_far_key
-    (same_then hs (fetch (at c q)) (fetch (at c p)) (check_limit limit) (fetch_agrees hs c q p b k) (within_agrees hs limit))
+    (same_then hs (fetch (at c q)) (fetch (at c p)) (check_limit limit) (fetch_agrees hs c q p b k)
+    (within_agrees hs limit))
     (settled_agrees hs)

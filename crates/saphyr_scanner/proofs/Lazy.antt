@@ -178,7 +178,8 @@ hands laws limit d s u live e ih (p ∷ ps) hs n g =
     (λ later. hands laws limit d s u live e ih ps (hs ++ p ∷ []) (n + 1) later)
   where
     by : (b : Bool) → is_held (holding s.core (p ∷ ps) n) ≡ b
-        → (Goes (hs ++ p ∷ []) s (holding s.core ps (n + 1)) → GivesRest limit d (hs ++ p ∷ []) (holding s.core ps (n + 1)))
+        → (Goes (hs ++ p ∷ []) s (holding s.core ps (n + 1))
+        → GivesRest limit d (hs ++ p ∷ []) (holding s.core ps (n + 1)))
         → GivesRest limit d hs (holding s.core (p ∷ ps) n)
     by true h more =
         let r = reads laws limit d s u hs (holding s.core (p ∷ ps) n) live e ih g in
@@ -200,7 +201,8 @@ ended_gives laws limit d free hs ws k b =
     }
 
 -- the same where the core is told to be that of the other state
-of_core : (limit : ℕ) (d s : State) (hs : List Place) (t : State) → Goes hs s t → GivesRest limit d hs (at s.core t.queue)
+of_core : (limit : ℕ) (d s : State) (hs : List Place) (t : State) → Goes hs s t
+    → GivesRest limit d hs (at s.core t.queue)
     → GivesRest limit d hs t
 of_core limit d s hs t g w = subst (λ (c : Core). GivesRest limit d hs (at c t.queue)) (sym g.core) w
 

@@ -39,7 +39,8 @@ pub with_opening_outside : (bytes : List ℕ) (n : ℕ) (o : Opening) (ps : List
     → places_with_opening n o (map (place bytes) ps) ≡ map (place bytes) ps
 with_opening_outside bytes n o [] h = refl
 with_opening_outside bytes zero o (q ∷ qs) h = absurd (omega (arith, h))
-with_opening_outside bytes (suc n) o (q ∷ qs) h = ap (λ r. place bytes q ∷ r) (with_opening_outside bytes n o qs (omega (arith, h)))
+with_opening_outside bytes (suc n) o (q ∷ qs) h =
+    ap (λ r. place bytes q ∷ r) (with_opening_outside bytes n o qs (omega (arith, h)))
 
 in_slot_append : (full : Bool) (p : Place) (ps qs : List Place)
     → (if full then p ∷ (ps ++ qs) else (ps ++ qs)) ≡ (if full then p ∷ ps else ps) ++ qs

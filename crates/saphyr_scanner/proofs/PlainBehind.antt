@@ -59,7 +59,8 @@ gap_stops indent start blanks s =
     (lines_stop indent start false [] t.mark t.rest) (λ g h. h))
     (λ e. e)
 
-ended_ends : (in_flow : Bool) (end : Marker) (g : PlainGap) → StopsGap g → Given EndsUnbroken (scalar_ended in_flow end g)
+ended_ends : (in_flow : Bool) (end : Marker) (g : PlainGap) → StopsGap g
+    → Given EndsUnbroken (scalar_ended in_flow end g)
 unfolding comment_of
 ended_ends in_flow end g h = (
   by_test (not in_flow && (slice_index g.behind.rest 0 == 35) && (g.tabbed || not g.behind.blank_so_far))

@@ -125,7 +125,8 @@ refused_in laws limit (suc n) s e a k q =
         ∙ cond-false s.core.ended _ _ (going s.core.ended _ needs)
 
     read_so : (r : Result State Refusal) → read limit s ≡ r → needs_token s ≡ true → (r >>= fill_in n limit) ≡ Err e
-        → ((u : State) → size u.core < size s.core → IsSettled u → fill_in n limit u ≡ Err e → rest limit u ≡ refusal_alone e)
+        → ((u : State) → size u.core < size s.core → IsSettled u → fill_in n limit u ≡ Err e
+        → rest limit u ≡ refusal_alone e)
         → remaining_after r (run (size s.core) limit) ≡ refusal_alone e
     read_so (Ok u) i needs f h =
         let less = smaller_read laws limit s u needs i in
@@ -133,7 +134,8 @@ refused_in laws limit (suc n) s e a k q =
     read_so (Err d) i needs f h = let is : d ≡ e = cc in ap refusal_alone is
 
     by : (b : Bool) → needs_token s ≡ b
-        → ((u : State) → size u.core < size s.core → IsSettled u → fill_in n limit u ≡ Err e → rest limit u ≡ refusal_alone e)
+        → ((u : State) → size u.core < size s.core → IsSettled u → fill_in n limit u ≡ Err e
+        → rest limit u ≡ refusal_alone e)
         → rest limit s ≡ refusal_alone e
     by true needs h =
         let g : (read limit s >>= fill_in n limit) ≡ Err e =

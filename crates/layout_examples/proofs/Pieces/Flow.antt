@@ -49,7 +49,8 @@ pub record Value (adjacent : Bool) (room : ℕ) (value : Node) (indent : ℕ) (t
 pub colon_alone : {adjacent : Bool} {room indent : ℕ} → Value adjacent room left_out indent (codes ":")
 colon_alone = record { holds = inl (refl, refl) }
 
-pub value_behind_colon : {adjacent : Bool} {room indent : ℕ} {value : Node} {t : List ℕ} → FlowText room value true indent t
+pub value_behind_colon : {adjacent : Bool} {room indent : ℕ} {value : Node} {t : List ℕ}
+    → FlowText room value true indent t
     → Value adjacent room value indent (58 ∷ 32 ∷ t)
 value_behind_colon {indent = indent} {t = t} h = record {
   holds = inr (codes " ", t, (blank {indent = indent}).holds, inl (λ e. cc), h.holds, refl);

@@ -14,7 +14,8 @@ returns-clause-no_room c = no_room
 pub returns-clause-single_pair : goal.returns-clause-single_pair
 returns-clause-single_pair c =
     document (codes "[a: b]") (flow no_gap (brackets tight
-    (item_list (pair_item (node_key (word letter_a)) (value_behind_colon (word letter_b)) refl refl) no_comma)) text_end) refl refl
+    (item_list (pair_item (node_key (word letter_a)) (value_behind_colon (word letter_b)) refl refl) no_comma))
+    text_end) refl refl
 
 pub returns-clause-block : goal.returns-clause-block
 returns-clause-block c = compact 0

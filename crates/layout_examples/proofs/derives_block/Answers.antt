@@ -48,7 +48,8 @@ pub returns-clause-explicit_key : goal.returns-clause-explicit_key
 returns-clause-explicit_key c =
     document (codes "? a\n: b\n? - c") (mapping at_start
     (first_pair (asked_pair (line letter_a) no_filler (line letter_b) ((λ e. cc), refl))
-    (next_pair no_filler (asked (sequence behind_question_mark (dash (last letter_c) no_dash)) ((λ e. cc), refl)) no_pair)))
+    (next_pair no_filler (asked (sequence behind_question_mark (dash (last letter_c) no_dash)) ((λ e. cc), refl))
+    no_pair)))
     refl refl
 
 pub returns-clause-properties : goal.returns-clause-properties
@@ -155,9 +156,11 @@ returns-clause-colons_in_keys c =
 pub returns-clause-lone_keys : goal.returns-clause-lone_keys
 returns-clause-lone_keys c =
     document (codes "-: a\n:: b") (mapping at_start (first_pair
-    (pair_by_colon (record { text = sign_key 45 [] refl refl refl; on_line = refl; short = omega arith }) (line letter_a) refl)
+    (pair_by_colon (record { text = sign_key 45 [] refl refl refl; on_line = refl; short = omega arith })
+    (line letter_a) refl)
     (next_pair no_filler
-    (pair_by_colon (record { text = sign_key 58 [] refl refl refl; on_line = refl; short = omega arith }) (last letter_b) refl)
+    (pair_by_colon (record { text = sign_key 58 [] refl refl refl; on_line = refl; short = omega arith })
+    (last letter_b) refl)
     no_pair))) refl refl
 
 pub returns-clause-tabs_in_filler : goal.returns-clause-tabs_in_filler

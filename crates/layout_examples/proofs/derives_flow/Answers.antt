@@ -27,7 +27,8 @@ returns-clause-sequence c =
 pub returns-clause-mapping : goal.returns-clause-mapping
 returns-clause-mapping c =
     document (codes "{a: b}") (flow no_gap (braces (pairs (pair
-    (keyed (node_key (word letter_a)) tight (value_behind_colon (word letter_b)) (inr refl))) no_pair_behind)) text_end) refl refl
+    (keyed (node_key (word letter_a)) tight (value_behind_colon (word letter_b)) (inr refl))) no_pair_behind)) text_end)
+    refl refl
 
 pub returns-clause-empty_collections : goal.returns-clause-empty_collections
 returns-clause-empty_collections c =
@@ -45,7 +46,8 @@ pub returns-clause-explicit_pairs : goal.returns-clause-explicit_pairs
 returns-clause-explicit_pairs c =
     document (codes "[? a : b, : d, ? ]") (flow no_gap (brackets tight (item_list
     (asked_item (pair_asked (keyed (node_key (word letter_a)) blank (value_behind_colon (word letter_b)) (inr refl))))
-    (comma blank (value_item (value_behind_colon (word letter_d))) (comma blank mark_item no_comma)))) text_end) refl refl
+    (comma blank (value_item (value_behind_colon (word letter_d))) (comma blank mark_item no_comma)))) text_end) refl
+    refl
 
 pub returns-clause-entries : goal.returns-clause-entries
 returns-clause-entries c =
@@ -66,7 +68,8 @@ returns-clause-lines c =
 pub returns-clause-collection_key : goal.returns-clause-collection_key
 returns-clause-collection_key c =
     document (codes "[ {a: b}:c]") (flow no_gap (brackets blank (item_list (pair_item (node_key
-    (braces (pairs (pair (keyed (node_key (word letter_a)) tight (value_behind_colon (word letter_b)) (inr refl))) no_pair_behind)))
+    (braces (pairs (pair (keyed (node_key (word letter_a)) tight (value_behind_colon (word letter_b)) (inr refl)))
+    no_pair_behind)))
     (colon_at_once (word letter_c)) refl refl) no_comma)) text_end) refl refl
 
 pub returns-clause-comment_before_colon : goal.returns-clause-comment_before_colon

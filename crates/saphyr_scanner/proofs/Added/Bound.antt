@@ -84,7 +84,8 @@ read_few : (n limit : ℕ) (s t : State) (r : Remaining) → due t ≤ due s + 5
     → IsFew n limit t r → IsFew n limit s r
 read_few n limit s t r a b h = omega (arith, a, b, h)
 
-counts_on : (n limit : ℕ) (s t : State) → GrowsInOrder s t → IsWithinLimit limit t → CountsWithin n limit s → CountsWithin n limit t
+counts_on : (n limit : ℕ) (s t : State) → GrowsInOrder s t → IsWithinLimit limit t → CountsWithin n limit s
+    → CountsWithin n limit t
 counts_on n limit s t g w h =
     record { counted = let a = h.counted in let b = g.ahead.counted in omega (arith, a, b); limited = w }
 
@@ -93,7 +94,8 @@ delivers_few : (n limit : ℕ) (s : State) (r : Result State Refusal) (go : Stat
 delivers_few n limit s (Ok t) go h others = others t refl
 delivers_few n limit s (Err e) go h others = none_few n limit s h
 
-run_few : Readers → ReaderEnds → (n limit fuel : ℕ) (s : State) → CountsWithin n limit s → IsFew n limit s (run fuel limit s)
+run_few : Readers → ReaderEnds → (n limit fuel : ℕ) (s : State) → CountsWithin n limit s
+    → IsFew n limit s (run fuel limit s)
 run_few readers laws n limit zero s h = none_few n limit s h
 run_few readers laws n limit (suc fuel) s h = handed (λ t. run_few readers laws n limit fuel t)
   where
@@ -107,7 +109,8 @@ run_few readers laws n limit (suc fuel) s h = handed (λ t. run_few readers laws
         (λ i. delivers_few n limit t r (run fuel limit) w (λ u q.
         let a = given_of (Fetched t) r u (read_fetched limit t i) q in
         read_few n limit t u (run fuel limit u) a.few (a.smaller readers)
-        (others u (counts_on n limit t u (a.grows laws) (given_of (IsWithinLimit limit) r u (read_stays limit t) q) w))))
+        (others u (counts_on n limit t u (a.grows laws) (given_of (IsWithinLimit limit) r u (read_stays limit t) q)
+        w))))
 
     part : (ps : List Place) (r : Remaining) (k : ℕ) → IsFew n limit (holding s.core ps k) r
         → length r.pieces + 5 * n ≤ tokens_in ps + (open_blocks s.core + 5 * limit + 5 * size s.core)

@@ -42,7 +42,8 @@ added [] = 0
 added (Put t ∷ others) = 1 + added others
 added (Open n o ∷ others) = 2 + added others
 
-pub place_goes_on : (ps : List Place) (t : Piece) → PlacesGoOn ps → IsNoEnd t.kind → PlacesGoOn (ps ++ bare_place t ∷ [])
+pub place_goes_on : (ps : List Place) (t : Piece) → PlacesGoOn ps → IsNoEnd t.kind
+    → PlacesGoOn (ps ++ bare_place t ∷ [])
 place_goes_on [] t h k = (k, tt)
 place_goes_on (p ∷ ps) t h k = (h.0, place_goes_on ps t h.1 k)
 

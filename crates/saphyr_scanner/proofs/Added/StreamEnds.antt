@@ -84,7 +84,8 @@ run_ends laws limit (suc fuel) s f h = by s.core.ended refl (λ t. run_ends laws
     go t = behind fuel limit t
 
     by : (b : Bool) → s.core.ended ≡ b
-        → ((t : State) → size t.core < fuel → Standing t → EndsWithStream (run fuel limit t)) → EndStands b s.queue.places
+        → ((t : State) → size t.core < fuel → Standing t → EndsWithStream (run fuel limit t))
+        → EndStands b s.queue.places
         → EndsWithStream (hand_out s.queue.places go s)
     by true e others w =
         let P : List Place → Type 0 = λ ps. EndsWithStream (hand_out ps go (holding s.core ps s.queue.handed)) in

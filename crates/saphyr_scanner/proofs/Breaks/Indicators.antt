@@ -133,7 +133,8 @@ check_same text c x laws t =
 
 alone_puts : (begins further : Bool) (start : Marker) (i : ℕ) (c : Core) (x : Indexes)
     → is_further start.col c ≡ further
-    → SameActions (value.opening_actions begins start c) (value.opening_actions begins (reindexed i start) (near_core x c))
+    → SameActions (value.opening_actions begins start c)
+    (value.opening_actions begins (reindexed i start) (near_core x c))
 unfolding value.opening_actions
 alone_puts true true start i c x e = rw e (refl, (refl, (refl, tt)))
 alone_puts true false start i c x e = rw e (refl, (refl, tt))

@@ -112,7 +112,8 @@ runs_same text laws readers limit short (suc n) zero c x q r a b t e = absurd (o
 runs_same text laws readers limit short (suc n) (suc m) c x q r a b t e =
     hands_same text c x q.places r.places q.handed r.handed _ _ e.places e.handed
     (λ u v f. choose HaveSameKinds c.ended c.ended _ _ _ _ refl (λ _. record { kinds = refl; refusals = refl })
-    (λ going. remaining_after_same text (read limit (holding c u)) (read limit (holding (near_core x c) v)) (run n limit)
+    (λ going. remaining_after_same text (read limit (holding c u)) (read limit (holding (near_core x c) v))
+    (run n limit)
     (run m limit) (read_same text limit c x u v laws short t f)
     (λ s w i j h.
     let less = less_read readers limit (holding c u) s going i in

@@ -56,7 +56,8 @@ same_opened n o (p ∷ ps) [] h = absurd h
 pub same_act : (a b : Action) (q r : Queue) → SameAction a b → SameQueues q r → SameQueues (act a q) (act b r)
 same_act (Put t) (Put u) q r e h = record { places = same_put q.places r.places t u h.places e; handed = h.handed }
 same_act (Open n o) (Open m p) q r e h =
-    let P : ℕ → Opening → Type 0 = λ k w. SamePlaces (places_with_opening (n - q.handed) o q.places) (places_with_opening k w r.places) in
+    let P : ℕ → Opening → Type 0 = λ k w. SamePlaces (places_with_opening (n - q.handed) o q.places)
+    (places_with_opening k w r.places) in
     let at : n - q.handed ≡ m - r.handed = ap (λ k. k - q.handed) e.0 ∙ ap (λ k. m - k) h.handed in
     record {
       places = subst (λ w. P (m - r.handed) w) e.1
@@ -115,7 +116,8 @@ abbrev pub Ended : List ℕ → Cursor → State → State → Type 0
 Ended text s a b = Cores text a.core b.core × (a.core.cursor ≡ s) × SameQueues a.queue b.queue
 
 outer_indent_twin : (text : List ℕ) (is : List ℕ) (c : Core) (x : Indexes) → Twin text c x
-    → (with_outer_indent is (near_core x c) ≡ near_core x (with_outer_indent is c)) × Twin text (with_outer_indent is c) x ×
+    → (with_outer_indent is (near_core x c) ≡ near_core x (with_outer_indent is c))
+    × Twin text (with_outer_indent is c) x ×
     ((with_outer_indent is c).cursor ≡ c.cursor)
 outer_indent_twin text [] c x t = (refl, t, refl)
 outer_indent_twin text (i ∷ is) c x t = (refl, t, refl)
@@ -149,8 +151,8 @@ ends_blocks text column m k (i ∷ is) c x q r t e =
     (λ _. ((x, refl, t), refl, e))
 
 less_twin : (text : List ℕ) (column : Option ℕ) (c : Core) (x : Indexes) → Twin text c x
-    → (go_less_deep column (near_core x c) ≡ near_core x (go_less_deep column c)) × Twin text (go_less_deep column c) x ×
-    ((go_less_deep column c).cursor ≡ c.cursor)
+    → (go_less_deep column (near_core x c) ≡ near_core x (go_less_deep column c)) × Twin text (go_less_deep column c) x
+    × ((go_less_deep column c).cursor ≡ c.cursor)
 less_twin text None c x t = (refl, t, refl)
 less_twin text (Some column) c x t = (refl, t, refl)
 

@@ -116,7 +116,8 @@ reads_mark {limit = limit} r v =
     let col = at_line (65279 ∷ r) v.mark v.line.0 (cons_not_empty 65279 r) in
     reads_token v refl (inl refl) (λ blank. cursor_at r (beyond_byte_order_mark v.mark) blank) true
     (piece_of v.mark (beyond_byte_order_mark v.mark) tokens.ByteOrderMark)
-    (λ blank key allowed ad ps. mark_here v.mark blank r key allowed ad ps col) (Lined true r) (beyond_byte_order_mark v.mark) r
+    (λ blank key allowed ad ps. mark_here v.mark blank r key allowed ad ps col) (Lined true r)
+    (beyond_byte_order_mark v.mark) r
     (λ _. refl) (mark_count v.mark r limit v.count) (λ _. (inl col, λ _. inl (or-true (crosses r))))
     (index_behind v.mark.index 1) (along_lined v.mark 1 v.lined)
 
@@ -152,7 +153,8 @@ end_further : (m n : Marker) (end o : List ℕ) → n.index + length o ≡ m.ind
 end_further m n end o e = let all = length-append end o in omega (arith, e, all)
 
 pub reads_end : {limit : ℕ} {start : State} {free opened : Bool} {ts : List Kind} (end o : List ℕ)
-    → StandsInStream limit start free (Lined opened (46 ∷ 46 ∷ 46 ∷ (end ++ o))) (46 ∷ 46 ∷ 46 ∷ (end ++ o)) ts → IsEol end o
+    → StandsInStream limit start free (Lined opened (46 ∷ 46 ∷ 46 ∷ (end ++ o))) (46 ∷ 46 ∷ 46 ∷ (end ++ o)) ts
+    → IsEol end o
     → StandsInStream limit start true (Lined true o) o (ts ++ tokens.DocumentEnd ∷ [])
 reads_end {limit = limit} end o v h =
     let r = end ++ o in

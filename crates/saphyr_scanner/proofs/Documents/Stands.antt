@@ -159,10 +159,9 @@ BehindStart o m b = OffLine m × (b ≡ crosses o)
 
 -- The scanner has read these tokens, and stands where the text o does, at a place of which P holds. Where it is free no
 -- plain scalar was ended by a comment. P is told too whether a key may begin at the next token. No colon may stand at
--- once
--- behind that.
-pub record StandsInStream (limit : ℕ) (start : State) (free : Bool) (P : Marker → Bool → Type 0) (o : List ℕ) (ts : List Kind) :
-    Type 0 where
+-- once behind that.
+pub record StandsInStream (limit : ℕ) (start : State) (free : Bool) (P : Marker → Bool → Type 0)
+    (o : List ℕ) (ts : List Kind) : Type 0 where
   pub there : Cursor
   pub key : Option Candidate
   pub allowed : Bool

@@ -55,7 +55,8 @@ step_does first second n c h f g =
           refl n c (f ∙ e));
       mapping = λ e. does _ (start_does 123 tokens.FlowMappingStart context.FlowMapping open_mapping mapping_starts refl
           n c (f ∙ e));
-      sequence_end = λ e. still _ (end_does 93 tokens.FlowSequenceEnd close_sequence (ends_pair c.level.context) c (f ∙ e));
+      sequence_end = λ e. still _ (end_does 93 tokens.FlowSequenceEnd close_sequence (ends_pair c.level.context) c
+          (f ∙ e));
       mapping_end = λ e. still _ (end_does 125 tokens.FlowMappingEnd close_mapping false c (f ∙ e));
       comma = λ e. still _ (entry_does c (f ∙ e));
       dash = λ e b. still _ (block_entry_does c (f ∙ e) (ap is_blank_or_breakz g ∙ b));
@@ -115,7 +116,8 @@ of_advances s (Ok t) going a = record {
       let b = flags t.core.started s.core.started a.started in
       let e = flags t.core.ended s.core.ended a.ended in omega (arith, x, b, e);
   grows = a.grows;
-  stands = λ h. let P : Bool → Type 0 = λ b. EndStands b t.queue.places in subst P (sym (a.ended ∙ going)) (a.goes_on h);
+  stands = λ h. let P : Bool → Type 0 = λ b. EndStands b t.queue.places in
+      subst P (sym (a.ended ∙ going)) (a.goes_on h);
   few = a.few;
 }
 of_advances s (Err f) going a = tt

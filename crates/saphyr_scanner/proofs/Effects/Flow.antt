@@ -116,7 +116,8 @@ start_does i kind x b starts flows n c f =
 bracket_walked : (x : ℕ) (kind : Kind) → Bracket x kind → (b c : Core) (ends : Bool) → slice_index c.cursor.rest 0 ≡ x
     → (f : Core → Core) → ((e : Core) → Same e (f e) × ((f e).cursor ≡ e.cursor))
     → Walked (Premises b) (Doing None c) c.cursor
-    (separate (pass_on 1 c) >>= λ e. completed_step (flow.behind_pair ends c.cursor.mark (up_to_here c.cursor.mark kind e.1))
+    (separate (pass_on 1 c) >>= λ e. completed_step
+    (flow.behind_pair ends c.cursor.mark (up_to_here c.cursor.mark kind e.1))
     (f e.1))
 bracket_walked x kind bracket b c ends first f alike =
     walked_then (Premises b) _ (Doing None c) c.cursor (separate (pass_on 1 c)) _

@@ -45,7 +45,8 @@ pub record Does (n : Option ℕ) (k w : ℕ) (c d : Core) (actions : List Action
   pub goes_on : PutsGoOn actions
   pub few : added actions + open_blocks d ≤ open_blocks c + w
   pub keeps : (h : ℕ) → IsBeforePlace h n → Above h c → Above h d × ActionsAbove h actions
-  pub holds : TextLaws → (columns : List ℕ) (from : Cursor) (q : Queue) → IsNextPlace n c q → HoldsTaken columns from c q
+  pub holds : TextLaws → (columns : List ℕ) (from : Cursor) (q : Queue) → IsNextPlace n c q
+      → HoldsTaken columns from c q
       → HoldsTaken columns from d (perform actions q)
   pub noted : c.comment ≡ None → IsNoted d.comment d.cursor
 

@@ -29,7 +29,8 @@ pub record FetchesTokens (k : ℕ) (s t : State) : Type 0 where
   pub goes_on : PlacesGoOn s.queue.places → PlacesGoOn t.queue.places
   pub few : due t ≤ due s + 5 * k
 
-pub advances_advances : (k l : ℕ) (s t u : State) → FetchesTokens k s t → FetchesTokens l t u → FetchesTokens (k + l) s u
+pub advances_advances : (k l : ℕ) (s t u : State) → FetchesTokens k s t → FetchesTokens l t u
+    → FetchesTokens (k + l) s u
 advances_advances k l s t u a b = record {
   less = λ laws. let x = a.less laws in let y = b.less laws in omega (arith, x, y);
   grows = λ laws. grows_grows s t u (a.grows laws) (b.grows laws);
@@ -132,7 +133,8 @@ unfolding unroll
 unroll_advances column m s i =
     let t : State = with_core (go_less_deep column s.core) s in
     by_test (in_block s.core) _ _ (FetchesTokens 0 s)
-    (λ _. advances_advances 0 0 s t _ (on_core_fetches s (Ok (go_less_deep column s.core)) (go_less_deep_goes column s.core))
+    (λ _. advances_advances 0 0 s t _ (on_core_fetches s (Ok (go_less_deep column s.core))
+    (go_less_deep_goes column s.core))
     (blocks_advance column m s.core.outer_indents t
     (same_index m s.core.cursor t.core.cursor (go_less_deep_cursor column s.core) i)))
     (λ _. advances_none s)

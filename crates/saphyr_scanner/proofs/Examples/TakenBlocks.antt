@@ -56,7 +56,8 @@ takes_literal =
         end = refl;
       };
     } in
-    whole (here stream_start_taken (here (document_start_taken refl refl) (behind_blank scalar (here stream_end_taken no_token))))
+    whole (here stream_start_taken (here (document_start_taken refl refl)
+    (behind_blank scalar (here stream_end_taken no_token))))
 
 pub takes_indentation : AreTakenFrom (codes "a: >1-\n  b\n c\n") texts.indentation
 unfolding encode
@@ -94,5 +95,6 @@ takes_indentation =
         end = refl;
       };
     } in
-    whole (here stream_start_taken (here (mapping_start_taken refl) (here key_taken (here (plain_taken letter_a refl refl refl refl) (here colon_taken
+    whole (here stream_start_taken (here (mapping_start_taken refl)
+    (here key_taken (here (plain_taken letter_a refl refl refl refl) (here colon_taken
     (behind_blank scalar (here block_end_taken (here stream_end_taken no_token))))))))

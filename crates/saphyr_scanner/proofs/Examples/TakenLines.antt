@@ -11,15 +11,19 @@ use Rattle.saphyr_scanner.proofs.Examples.TokenTexts.{plain_taken, letter_a, let
 pub takes_block_alias : AreTakenFrom (codes "- &a b\n- *a") texts.block_alias
 unfolding encode
 takes_block_alias =
-    whole (here stream_start_taken (here (sequence_start_taken refl) (here dash_taken (behind_blank (anchor_taken 97 refl refl refl)
-    (behind_blank (plain_taken letter_b refl refl refl refl) (behind_feed dash_taken (behind_blank (alias_taken 97 refl refl refl)
+    whole (here stream_start_taken (here (sequence_start_taken refl)
+    (here dash_taken (behind_blank (anchor_taken 97 refl refl refl)
+    (behind_blank (plain_taken letter_b refl refl refl refl)
+    (behind_feed dash_taken (behind_blank (alias_taken 97 refl refl refl)
     (here block_end_behind_taken (here stream_end_behind_taken no_token)))))))))
 
 pub takes_block_mappings : AreTakenFrom (codes "- a: b\n- c:\n") texts.block_mappings
 unfolding encode
 takes_block_mappings =
-    whole (here stream_start_taken (here (sequence_start_taken refl) (here dash_taken (behind_blank (mapping_start_taken refl) (here key_taken
-    (here (plain_taken letter_a refl refl refl refl) (here colon_taken (behind_blank (plain_taken letter_b refl refl refl refl)
+    whole (here stream_start_taken (here (sequence_start_taken refl)
+    (here dash_taken (behind_blank (mapping_start_taken refl) (here key_taken
+    (here (plain_taken letter_a refl refl refl refl)
+    (here colon_taken (behind_blank (plain_taken letter_b refl refl refl refl)
     (behind_feed block_end_taken (here dash_taken (behind_blank (mapping_start_taken refl) (here key_taken
     (here (plain_taken letter_c refl refl refl refl) (here colon_taken
     (behind_feed block_end_taken (here block_end_taken (here stream_end_taken no_token)))))))))))))))))

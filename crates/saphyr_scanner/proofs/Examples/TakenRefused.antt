@@ -35,7 +35,17 @@ refusal_stays m t n u c cs s e x y z =
 -- ## `[a]` without its `a`
 
 pub dropped_word_refused : AreTakenFrom (codes "[a]") texts.dropped_word → ⊥
-dropped_word_refused (end, (here, behind, apart, (x, y, is), (h, b, a, ((e, m), s, o), (i, d, f, ((g, n), r, q), rest))), fin) =
+dropped_word_refused (
+  end,
+  (
+    here,
+    behind,
+    apart,
+    (x, y, is),
+    (h, b, a, ((e, m), s, o), (i, d, f, ((g, n), r, q), rest)),
+  ),
+  fin,
+) =
     let first : here.rest ≡ codes "[a]"
     = (refusal_stays _ _ _ _ 91 (codes "a]") apart refl refl refl (λ v. omega arith)).1 in
     let second : h.rest ≡ codes "[a]" =

@@ -24,4 +24,5 @@ unfolding encode
 takes_alias =
     whole (here stream_start_taken (here (open_bracket_taken no_tail) (here (anchor_taken 120 refl refl refl)
     (behind_blank (plain_taken letter_a refl refl refl refl) (here (comma_taken blank)
-    (behind_blank (alias_taken 120 refl refl refl) (here (close_bracket_taken no_tail) (here stream_end_behind_taken no_token))))))))
+    (behind_blank (alias_taken 120 refl refl refl)
+    (here (close_bracket_taken no_tail) (here stream_end_behind_taken no_token))))))))

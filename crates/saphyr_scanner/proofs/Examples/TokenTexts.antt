@@ -79,7 +79,8 @@ whole {n = n} h = (cursor_here [] n, h.holds, refl)
 
 -- ## Tokens without a text
 
-pub stream_start_taken : {indent : ℕ} {m : Marker} {t : List ℕ} → TokenText indent tokens.StreamStart (span_from_to m m) m t m t
+pub stream_start_taken : {indent : ℕ} {m : Marker} {t : List ℕ}
+    → TokenText indent tokens.StreamStart (span_from_to m m) m t m t
 stream_start_taken = record { holds = (refl, inl refl, refl) }
 
 pub stream_end_taken : {indent : ℕ} {m : Marker} → TokenText indent tokens.StreamEnd (span_from_to m m) m [] m []
@@ -98,7 +99,8 @@ pub mapping_start_taken : {indent : ℕ} {m : Marker} {t : List ℕ} → IsTrue 
     → TokenText indent tokens.BlockMappingStart (span_from_to m m) m t m t
 mapping_start_taken b = record { holds = (refl, refl, refl, b) }
 
-pub block_end_taken : {indent : ℕ} {m : Marker} {t : List ℕ} → TokenText indent tokens.BlockEnd (span_from_to m m) m t m t
+pub block_end_taken : {indent : ℕ} {m : Marker} {t : List ℕ}
+    → TokenText indent tokens.BlockEnd (span_from_to m m) m t m t
 block_end_taken = record { holds = (refl, inl refl, refl) }
 
 pub block_end_behind_taken : {indent : ℕ} {m : Marker}
@@ -171,7 +173,8 @@ colon_taken = record { holds = ((refl, refl), refl, refl) }
 
 name_taken : (indicator c : ℕ) (bytes : List ℕ) (m : Marker) (t : List ℕ) → IsTrue (is_anchor_char c)
     → bytes ≡ encode_utf8_all (c ∷ []) → IsFalse (is_anchor_char (slice_index t 0))
-    → IsNameToken indicator bytes (span_from_to m (along m 2)) (cursor_here (indicator ∷ c ∷ t) m) (cursor_here t (along m 2))
+    → IsNameToken indicator bytes (span_from_to m (along m 2)) (cursor_here (indicator ∷ c ∷ t) m)
+    (cursor_here t (along m 2))
 name_taken indicator c bytes m t h e n =
     (c ∷ [], ((λ f. cc), (h, tt)), e, record { is = refl; start = refl; end = refl; goes_on = refl }, n)
 
@@ -211,15 +214,19 @@ in_quotes_taken quote c n bytes m t h s b q d e = (
 pub single_quoted_taken : {indent n : ℕ} {bytes t : List ℕ} {m : Marker} (c : ℕ) → Tail t n
     → IsTrue (stands_for_itself Single c) → IsFalse (is_break c) → IsTrue (is_closing Single (39 ∷ t))
     → bytes ≡ encode_utf8_all (folded (raw_item c ∷ []))
-    → TokenText indent (tokens.Scalar SingleQuoted bytes) (span_from_to m (along (third m) n)) m (39 ∷ c ∷ 39 ∷ t) (third m)
+    → TokenText indent (tokens.Scalar SingleQuoted bytes) (span_from_to m (along (third m) n)) m (39 ∷ c ∷ 39 ∷ t)
+    (third m)
     t
-single_quoted_taken {n = n} {bytes} {t} {m} c h s b d e = record { holds = in_quotes_taken Single c n bytes m t h s b refl d e }
+single_quoted_taken {n = n} {bytes} {t} {m} c h s b d e =
+    record { holds = in_quotes_taken Single c n bytes m t h s b refl d e }
 
 pub double_quoted_taken : {indent n : ℕ} {bytes t : List ℕ} {m : Marker} (c : ℕ) → Tail t n
     → IsTrue (stands_for_itself Double c) → IsFalse (is_break c) → bytes ≡ encode_utf8_all (folded (raw_item c ∷ []))
-    → TokenText indent (tokens.Scalar DoubleQuoted bytes) (span_from_to m (along (third m) n)) m (34 ∷ c ∷ 34 ∷ t) (third m)
+    → TokenText indent (tokens.Scalar DoubleQuoted bytes) (span_from_to m (along (third m) n)) m (34 ∷ c ∷ 34 ∷ t)
+    (third m)
     t
-double_quoted_taken {n = n} {bytes} {t} {m} c h s b e = record { holds = in_quotes_taken Double c n bytes m t h s b refl refl e }
+double_quoted_taken {n = n} {bytes} {t} {m} c h s b e =
+    record { holds = in_quotes_taken Double c n bytes m t h s b refl refl e }
 
 -- a character that may stand alone as a plain scalar
 pub record IsLetter (c : ℕ) : Type 0 where
@@ -291,21 +298,26 @@ feed p = passing.line_break _ _ _ _ refl p
 
 -- ## Tokens that are their spans
 
-pub span_on_line : {text u : List ℕ} {m : Marker} → IsSpan (span_from_to m (along m (length text))) text (cursor_here (text ++ u) m)
+pub span_on_line : {text u : List ℕ} {m : Marker}
+    → IsSpan (span_from_to m (along m (length text))) text (cursor_here (text ++ u) m)
     (cursor_here u (along m (length text)))
 span_on_line = record { is = refl; start = refl; end = refl; goes_on = refl }
 
-pub document_start_taken : {indent : ℕ} {m : Marker} {t : List ℕ} → m.col ≡ 0 → IsTrue (is_document_start (codes "---" ++ t))
+pub document_start_taken : {indent : ℕ} {m : Marker} {t : List ℕ} → m.col ≡ 0
+    → IsTrue (is_document_start (codes "---" ++ t))
     → TokenText indent tokens.DocumentStart (span_from_to m (along m 3)) m (codes "---" ++ t) (along m 3) t
 document_start_taken c h = record { holds = (c, h, span_on_line) }
 
-pub document_end_taken : {indent : ℕ} {m : Marker} {t : List ℕ} → m.col ≡ 0 → IsTrue (is_document_end (codes "..." ++ t))
+pub document_end_taken : {indent : ℕ} {m : Marker} {t : List ℕ} → m.col ≡ 0
+    → IsTrue (is_document_end (codes "..." ++ t))
     → TokenText indent tokens.DocumentEnd (span_from_to m (along m 3)) m (codes "..." ++ t) (along m 3) t
 document_end_taken c h = record { holds = (c, h, span_on_line) }
 
 pub byte_order_mark_taken : {indent : ℕ} {m : Marker} {t : List ℕ} → m.col ≡ 0
     → TokenText indent tokens.ByteOrderMark (span_from_to m (past_mark m)) m (0xFEFF ∷ t) (past_mark m) t
-byte_order_mark_taken c = record { holds = record { is = refl; at_start = c; start = refl; end = refl; goes_on = refl } }
+byte_order_mark_taken c = record {
+  holds = record { is = refl; at_start = c; start = refl; end = refl; goes_on = refl };
+}
 
 -- a handle and a prefix, with nothing behind them on their line
 pub tag_directive_taken : {indent : ℕ} {m : Marker} {front back t : List ℕ} (handle prefix text : List ℕ)
@@ -317,7 +329,8 @@ tag_directive_taken {t = t} handle prefix text h e f c b = record {
   holds = (text, [], t, c, (handle, prefix, h, e, f), span_on_line, ([], [], tt, inl refl, refl), refl, b);
 }
 
-pub tag_taken : {indent : ℕ} {m : Marker} {front back t : List ℕ} (text handle suffix : List ℕ) → IsTagText text handle suffix
+pub tag_taken : {indent : ℕ} {m : Marker} {front back t : List ℕ} (text handle suffix : List ℕ)
+    → IsTagText text handle suffix
     → front ≡ encode_utf8_all handle → back ≡ encode_utf8_all suffix
     → TokenText indent (tokens.Tag front back) (span_from_to m (along m (length text))) m (text ++ t)
     (along m (length text)) t

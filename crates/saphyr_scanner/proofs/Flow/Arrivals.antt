@@ -123,7 +123,8 @@ begins_here around d now h right =
 pub step_comes : (around : Around) (now : FlowMoment) (m : Marker) (y : List ℕ) (v : Arrives around now m y)
     → BeginsToken m y → (next : FlowMoment) (actions : List Action) (to : Bool → Bool) → Deepens around to
     → ((d : Bool) → step (slice_index y 0) (slice_index y 1) (length now.places)
-    (core_at around d (cursor_at y m v.blank) now.context v.key now.outer v.allowed now.adjacent) ≡ completed_step actions
+    (core_at around d (cursor_at y m v.blank) now.context v.key now.outer v.allowed now.adjacent)
+    ≡ completed_step actions
     (core_at around (to d) next.cursor next.context next.key next.outer next.allowed next.adjacent))
     → perform actions (queue_of now.places) ≡ queue_of next.places → next.cursor.mark.index ≤ around.limit
     → ComesAround around (state_at around now) next

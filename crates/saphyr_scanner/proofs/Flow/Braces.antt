@@ -168,7 +168,8 @@ no_pairs_pass {around} room m p o e fits now no_candidate fresh low before text 
     let start = state_at around (moment_in context.FlowMapping now) in
     let there : StandsBefore around now m (125 ∷ o) =
     text ∙ ap (λ (t : List ℕ). past around.indent m (t ++ (125 ∷ o))) e in
-    subst (λ (t : List ℕ). TellsPiece around start (grammar.YieldFlowPairs NoPair) context.FlowMapping now.outer now.places
+    subst (λ (t : List ℕ). TellsPiece around start (grammar.YieldFlowPairs NoPair) context.FlowMapping now.outer
+    now.places
     (moved m t) (125 ∷ o)) (sym e)
     (record {
       tokens = [];
@@ -197,7 +198,8 @@ pairs_pass {around} room key value pairs K V O m p o (pair, others, i, h, e) fit
     let r = O there others o h (fits_back m pair others behind_all q.right whole) (after q) low q.knows q.fits in
     let end = moved there others in
     let place : end ≡ moved m p = sym (ap (moved m) e ∙ moved_append m pair others) in
-    subst (λ (z : Marker). TellsPiece around start (grammar.YieldFlowPairs (MorePairs key value pairs)) context.FlowMapping
+    subst (λ (z : Marker). TellsPiece around start (grammar.YieldFlowPairs (MorePairs key value pairs))
+    context.FlowMapping
     now.outer now.places z behind_all) place
     (record {
       tokens = n.tokens ++ r.tokens;

@@ -75,7 +75,8 @@ pub open_passes : (around : Around) (y : Context) → is_block y ≡ false → (
     → (now : FlowMoment) → length now.outer < 255 → Calm around now.context → now.adjacent ≤ m.index
     → StandsBefore around now m (ch ∷ o) → (j : Option Candidate) × (is_block now.context ≡ false → j ≡ key_behind now
     m)
-    × PassesPiece around (state_at around now) (opened_collection (moved m (ch ∷ []))) y (level_of now.context j ∷ now.outer)
+    × PassesPiece around (state_at around now) (opened_collection (moved m (ch ∷ []))) y (level_of now.context j
+    ∷ now.outer)
     now.places (moved m (ch ∷ [])) o (kind ∷ [])
     × ((t : List ℕ) → (key : Option Candidate) → (key ≡ None) ⊎ (key ≡ j) → Since now.key m t key)
 open_passes around y in_flow kind ch mark begins m o fits parted now low calm before text =
@@ -133,7 +134,8 @@ mark_kinds false m e kind = refl
 
 -- Behind a collection the key is that of the level around it. Where blanks alone stand before a colon, it may stand at
 -- once.
-pub record IsCollectionClosed (indent : ℕ) (x : Context) (j : Option Candidate) (m : Marker) (o : List ℕ) (key : Option Candidate)
+pub record IsCollectionClosed (indent : ℕ) (x : Context) (j : Option Candidate) (m : Marker) (o : List ℕ)
+    (key : Option Candidate)
     (adjacent : ℕ) : Type 0 where
   pub keeps : is_block x ≡ false → key ≡ j
   pub kept : (key ≡ None) ⊎ (key ≡ j)

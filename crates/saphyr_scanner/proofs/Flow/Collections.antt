@@ -138,14 +138,16 @@ pub record BracketsPass (around : Around) (now : FlowMoment) (Is : List Kind →
 
 -- a token of its own is the first, and no colon may stand at once from n on
 abbrev starts_with : Piece → ℕ → Known
-starts_with piece n key allowed adjacent new = ((others : List Place) × (new ≡ bare_place piece ∷ others)) × (adjacent ≤ n)
+starts_with piece n key allowed adjacent new = ((others : List Place) × (new ≡ bare_place piece ∷ others))
+    × (adjacent ≤ n)
 
 all_told : (opens closes : Kind) (ts ends : List Kind)
     → ((opens ∷ []) ++ ts) ++ (ends ++ closes ∷ []) ≡ opens ∷ ((ts ++ ends) ++ closes ∷ [])
 all_told opens closes ts ends = ap (λ (x : List Kind). opens ∷ x) (sym (append_assoc ts ends (closes ∷ [])))
 
 pub brackets_pass : (around : Around) (Is : List Kind → Type 0) (b : Brackets) → AreBrackets b
-    → (m : Marker) (w inside o : List ℕ) → FitsAround around m (bracket_text b w inside) o → IsSeparation around.indent w
+    → (m : Marker) (w inside o : List ℕ) → FitsAround around m (bracket_text b w inside) o
+    → IsSeparation around.indent w
     → IsParted around.indent (w ++ (inside ++ (b.closing ∷ o)))
     → (now : FlowMoment) → length now.outer < 255 → Calm around now.context → now.adjacent ≤ m.index
     → StandsBefore around now m (bracket_text b w inside ++ o)
@@ -201,7 +203,8 @@ brackets_pass around Is b are m w inside o fits parts parted now low calm before
     record {
       inside = inner;
       are = r.are;
-      passes = subst (λ (e : Marker). PassesPiece around start (bracketed around.indent now.context kept e o) now.context
+      passes = subst (λ (e : Marker). PassesPiece around start (bracketed around.indent now.context kept e o)
+          now.context
           now.outer now.places e o (b.opens ∷ (inner ++ b.closes ∷ []))) place
           (subst (λ (ts : List Kind). PassesPiece around start (bracketed around.indent now.context kept end o)
           now.context now.outer now.places end o ts)

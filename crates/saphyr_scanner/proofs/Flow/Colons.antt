@@ -50,11 +50,13 @@ pub colon_reads_value : (around : Around) (d : Bool) (second i : ℕ) (s : Curso
 unfolding step flow_value
 colon_reads_value around d second i s y k ls a ad e (inl f) =
     let c = core_at around d s y k ls a ad in
-    by_test (is_blank_or_breakz second) (value.value_steps c) _ (λ (r : StepResult). r ≡ value.value_steps c) (λ _. refl)
+    by_test (is_blank_or_breakz second) (value.value_steps c) _ (λ (r : StepResult). r ≡ value.value_steps c)
+    (λ _. refl)
     (λ _. rw (eq-eqb s.mark.index ad f, or_right (is_flow second) true refl, e) refl)
 colon_reads_value around d second i s y k ls a ad e (inr h) =
     let c = core_at around d s y k ls a ad in
-    by_test (is_blank_or_breakz second) (value.value_steps c) _ (λ (r : StepResult). r ≡ value.value_steps c) (λ _. refl)
+    by_test (is_blank_or_breakz second) (value.value_steps c) _ (λ (r : StepResult). r ≡ value.value_steps c)
+    (λ _. refl)
     (λ b. let f = is_flow_or_blank second h b in rw (f.0, f.1, and_false (not (s.mark.index == ad)), e) refl)
 
 -- ## Behind the colon
@@ -168,7 +170,8 @@ pub performs : (ps others new : List Place) (op : Opening) (key mark : Piece) �
     ≡ queue_of (ps ++ pair_places op key others mark)
 performs ps others new op key mark is =
     let places = ap (λ (i : ℕ). places_with_opening i op (ps ++ new)) (none_off (length ps))
-    ∙ ap (λ (x : List Place). places_with_opening (length ps) op (ps ++ x)) is ∙ with_opening_seam op ps (bare_place key) others in
+    ∙ ap (λ (x : List Place). places_with_opening (length ps) op (ps ++ x)) is
+    ∙ with_opening_seam op ps (bare_place key) others in
     ap (λ (x : List Place). queue_of (x ++ bare_place mark ∷ [])) places
     ∙ ap queue_of (append_assoc ps (record { opening = op; piece = key } ∷ others) (bare_place mark ∷ []))
 

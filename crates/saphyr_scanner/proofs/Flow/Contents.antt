@@ -163,7 +163,8 @@ key_content_passes reads around p value t r m stands h fits behind now flow low 
     }))
 
 plains_close : ReaderPromises → (around : Around) (value t o : List ℕ) (m : Marker)
-    → IsFlowScalar Plain value false around.indent t → FitsAround around m t o → IsBehindRoot around.indent (moved m t) o
+    → IsFlowScalar Plain value false around.indent t → FitsAround around m t o
+    → IsBehindRoot around.indent (moved m t) o
     → ClosesContent around Plain value t o m
 plains_close reads around value t o m h fits behind now before text =
     let right = plain_right false around.indent m t o h.0 fits.clear fits.right in
@@ -175,7 +176,8 @@ plains_close reads around value t o m h fits behind now before text =
 
 -- ## The content
 
-pub content_passes : ReaderPromises → (around : Around) (p : Properties) (style : Style) (value t o : List ℕ) (m : Marker)
+pub content_passes : ReaderPromises → (around : Around) (p : Properties) (style : Style) (value t o : List ℕ)
+    (m : Marker)
     → IsFlowScalar style value true around.indent t → FitsAround around m t o
     → IsBehindNode around.indent (Scalar p style value) o
     → PassesContent around (Scalar p style value) style value t o m

@@ -59,7 +59,8 @@ marked_in_braces key value t (inl h) = inl h
 marked_in_braces key value t (inr h) = inr (inl h)
 
 pair_text_passes : {around : Around} (room : ℕ) (key value : Node) → PassesNode around room key
-    → PassesNode around room value → (m : Marker) (t o : List ℕ) → FitsAround around m t o → IsBehindEntry around.indent o
+    → PassesNode around room value → (m : Marker) (t o : List ℕ) → FitsAround around m t o
+    → IsBehindEntry around.indent o
     → IsPairText key value (IsFlowNode room key true around.indent) (IsFlowNode room value true around.indent)
     around.indent t → (now : FlowMoment) → now.key ≡ None → now.allowed ≡ true
     → room + length now.outer ≤ 255 → now.adjacent < m.index → StandsBefore around now m (t ++ o)
@@ -199,7 +200,8 @@ same_line m node blanks h are =
     (sym (blanks_moved (moved m node) blanks are ∙ ap (λ (k : Marker). along k (length blanks)) (moved_along m node h)))
 
 single_text_passes : {around : Around} (room : ℕ) (key value : Node) → PassesNode around room key
-    → PassesNode around room value → (m : Marker) (t o : List ℕ) → FitsAround around m t o → IsBehindEntry around.indent o
+    → PassesNode around room value → (m : Marker) (t o : List ℕ) → FitsAround around m t o
+    → IsBehindEntry around.indent o
     → IsSinglePairText key value (IsFlowNode room key true around.indent) (IsFlowNode room value true around.indent)
     around.indent t → (now : FlowMoment) → now.key ≡ None → now.allowed ≡ true
     → room + length now.outer ≤ 255 → now.adjacent < m.index → StandsBefore around now m (t ++ o)

@@ -80,7 +80,8 @@ bare_collection_passes around p none Is b are m w inside o fits parts parted now
     }
 
 -- behind properties and some separation
-collection_behind_properties : (around : Around) (p : Properties) → ReaderPromises → (Is : List Kind → Type 0) (b : Brackets)
+collection_behind_properties : (around : Around) (p : Properties) → ReaderPromises
+    → (Is : List Kind → Type 0) (b : Brackets)
     → AreBrackets b → (m : Marker) (t v w inside o : List ℕ)
     → FitsAround around m ((t ++ v) ++ bracket_text b w inside) o
     → IsProperties p t → v ≢ [] → IsSeparation around.indent v → IsSeparation around.indent w
@@ -102,9 +103,11 @@ collection_behind_properties around p P Is b are m t v w inside o fits h some ga
     let start = state_at around now in
     let kept = keeping now m ((t ++ v) ++ body) in
     let front = keeping now m t in
-    let q : PassesPiece around start (behind_properties now.context front now.adjacent) now.context now.outer now.places here
+    let q : PassesPiece around start (behind_properties now.context front now.adjacent) now.context now.outer now.places
+    here
     (body ++ o) pp.tokens =
-    subst (λ (e : Marker). PassesPiece around start (behind_properties now.context front now.adjacent) now.context now.outer
+    subst (λ (e : Marker). PassesPiece around start (behind_properties now.context front now.adjacent) now.context
+    now.outer
     now.places e (body ++ o) pp.tokens) (sym (moved_append m t v)) (separation_joins (moved m t) v (body ++ o) gap
     pp.passes) in
     let still_before : q.adjacent ≤ here.index = subst (λ (n : ℕ). n ≤ here.index) (sym q.knows.still)
@@ -132,7 +135,8 @@ collection_behind_properties around p P Is b are m t v w inside o fits h some ga
           pp.are;
       inside = r.inside;
       are = r.are;
-      passes = subst (λ (e : Marker). PassesPiece around start (bracketed around.indent now.context kept e o) now.context
+      passes = subst (λ (e : Marker). PassesPiece around start (bracketed around.indent now.context kept e o)
+          now.context
           now.outer now.places e o (pp.tokens ++ (b.opens ∷ (r.inside ++ b.closes ∷ []))))
           (sym (moved_append m (t ++ v) body)) (join q c (bracketed around.indent now.context kept end o) known);
     }

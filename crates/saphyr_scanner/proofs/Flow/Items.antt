@@ -133,9 +133,11 @@ comma_behind around y z flows back m comma o (separation, parts, e) fits b now b
     (p.knows.0, p.knows.1, less_on p.adjacent (moved m (44 ∷ [])) separation p.knows.2) in
     let start = state_at around (moment_in y now) in
     let ts = pending (ends_pair y) ++ tokens.FlowEntry ∷ [] in
-    let r = subst (λ (t : List ℕ). PassesPiece around start (fresh_key (moved m t)) (behind_entry y) now.outer now.places
+    let r = subst (λ (t : List ℕ). PassesPiece around start (fresh_key (moved m t)) (behind_entry y) now.outer
+    now.places
     (moved m t) o ts) (sym e) q in
-    subst (λ (x : Context). PassesPiece around start (fresh_key (moved m comma)) x now.outer now.places (moved m comma) o ts)
+    subst (λ (x : Context). PassesPiece around start (fresh_key (moved m comma)) x now.outer now.places (moved m comma)
+    o ts)
     back r
 
 -- ## One entry
@@ -194,7 +196,8 @@ pub record OthersPass (around : Around) (start : Bool → State) (x : Context) (
 
 abbrev pub PassesOtherItems : Around → ℕ → Nodes → Type 0
 PassesOtherItems around room nodes =
-    (m : Marker) (p o : List ℕ) → AreOtherItems room nodes around.indent p → FitsAround around m p (93 ∷ o) → (x : Context)
+    (m : Marker) (p o : List ℕ) → AreOtherItems room nodes around.indent p → FitsAround around m p (93 ∷ o)
+    → (x : Context)
     → is_block x ≡ false → behind_entry x ≡ context.FlowSequence
     → (now : FlowMoment) → room + length now.outer ≤ 255 → now.adjacent ≤ (past around.indent m (p ++ (93 ∷ o))).0.index
     → StandsBefore around now m (p ++ (93 ∷ o))

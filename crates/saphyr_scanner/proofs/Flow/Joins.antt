@@ -18,7 +18,8 @@ use Rattle.saphyr_scanner.proofs.InBlock.Crossings.{separation_crosses}
 
 -- a piece, and another behind it
 pub join : {around : Around} {start : Bool → State} {known more : Known} {x y : Context} {ls ms : List Level}
-    {ps : List Place} {m e : Marker} {o z : List ℕ} {ts us : List Kind} → (p : PassesPiece around start known x ls ps m o ts)
+    {ps : List Place} {m e : Marker} {o z : List ℕ} {ts us : List Kind}
+    → (p : PassesPiece around start known x ls ps m o ts)
     → (q : PassesPiece around (state_at around (after p)) more y ms (ps ++ p.new)
     e z us) → (all : Known) → all q.key q.allowed q.adjacent (p.new ++ q.new)
     → PassesPiece around start all y ms ps e z (ts ++ us)

@@ -97,11 +97,13 @@ abbrev InsideTokens : Node → Node → List Kind → Type 0
 InsideTokens key value t = MarkedTokens key value (tokens.Key ∷ t)
 
 inside_passes : {around : Around} (room : ℕ) (key value : Node) → PassesNode around room key
-    → PassesNode around room value → (y z : Context) → IsMarked y z → (m : Marker) (t o : List ℕ) → FitsAround around m t o
+    → PassesNode around room value → (y z : Context) → IsMarked y z → (m : Marker) (t o : List ℕ)
+    → FitsAround around m t o
     → IsBehindEntry around.indent o → Inside around.indent room key value t
     → (now : FlowMoment) → now.key ≡ None → now.allowed ≡ false
     → room + length now.outer ≤ 255 → now.adjacent < m.index → StandsBefore around now m (t ++ o)
-    → TellsPiece around (state_at around (moment_in z now)) (InsideTokens key value) z now.outer now.places (moved m t) o
+    → TellsPiece around (state_at around (moment_in z now)) (InsideTokens key value) z now.outer now.places (moved m t)
+    o
 inside_passes {around} room key value K V y z c m t o fits ends (inl (none, h)) now no_candidate none_allowed
     low before text =
     let n = K m t o (inl h) fits (entry_behind around.indent key o ends) (moment_in z now) before c.inside low text in
@@ -124,7 +126,8 @@ inside_passes {around} room key value K V y z c m t o fits ends (inr (inl h)) no
       ap (λ (x : List Kind). tokens.Key ∷ x)
           (is ∙ ap (λ (b : Bool). alone_kinds b ++ (tokens.Value ∷ vs)) c.no_pair),
     ))
-    (subst (λ (x : Context). TellsPiece around start (AloneTokens (alone_kinds (begins_pair z)) value) x now.outer now.places
+    (subst (λ (x : Context). TellsPiece around start (AloneTokens (alone_kinds (begins_pair z)) value) x now.outer
+    now.places
     (moved m t) o) c.colon v)
 inside_passes {around} room key value K V y z c m t o fits ends (inr (inr h)) now no_candidate none_allowed
     low before text =
@@ -140,7 +143,8 @@ inside_passes {around} room key value K V y z c m t o fits ends (inr (inr h)) no
       (vs, others, refl),
       ap (λ (x : List Kind). tokens.Key ∷ x) is,
     ))
-    (subst (λ (x : Context). TellsPiece around start (PairTokens [] key value) x now.outer now.places (moved m t) o) c.colon
+    (subst (λ (x : Context). TellsPiece around start (PairTokens [] key value) x now.outer now.places (moved m t) o)
+    c.colon
     v)
 
 -- a `?` with a key, a value or both
@@ -150,7 +154,8 @@ pub explicit_passes : {around : Around} (room : ℕ) (key value : Node) → Pass
     → IsExplicitPair key value (IsFlowNode room key true around.indent) (IsFlowNode room value true around.indent)
     around.indent t
     → (now : FlowMoment) → room + length now.outer ≤ 255 → now.adjacent < m.index → StandsBefore around now m (t ++ o)
-    → TellsPiece around (state_at around (moment_in y now)) (MarkedTokens key value) z now.outer now.places (moved m t) o
+    → TellsPiece around (state_at around (moment_in y now)) (MarkedTokens key value) z now.outer now.places (moved m t)
+    o
 explicit_passes {around} room key value K V y z c m t o fits ends (separation, pair, mark, h, e) now low before text =
     let b = inside_ink around.indent room key value pair h in
     let is : t ≡ (63 ∷ separation) ++ pair = e in
@@ -176,7 +181,8 @@ upto a b c h k = omega (arith, h, k)
 
 -- a `?` alone
 pub lone_passes : {around : Around} (key value : Node) (y z : Context) → IsMarked y z
-    → (m : Marker) (t : List ℕ) (c : ℕ) (cs : List ℕ) → FitsAround around m t (c ∷ cs) → (c ≡ 44) ⊎ ((c ≡ 93) ⊎ (c ≡ 125))
+    → (m : Marker) (t : List ℕ) (c : ℕ) (cs : List ℕ) → FitsAround around m t (c ∷ cs)
+    → (c ≡ 44) ⊎ ((c ≡ 93) ⊎ (c ≡ 125))
     → IsLoneMark key value around.indent t → (now : FlowMoment) → now.adjacent < m.index
     → StandsBefore around now m (t ++ (c ∷ cs))
     → TellsPiece around (state_at around (moment_in y now)) (MarkedTokens key value) z now.outer now.places (moved m t)

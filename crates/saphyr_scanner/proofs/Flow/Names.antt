@@ -53,7 +53,8 @@ named_along m indicator name e h =
     let one : 1 + length name ≡ length (indicator ∷ name) = omega arith in
     ap (along m) one ∙ sym (unbroken_along m (indicator ∷ name) (e, name_no_break name h))
 
-pub name_step : ReaderPromises → (around : Around) (d : Bool) (token_of : List ℕ → Kind) (n : ℕ) (m : Marker) (b : Bool) (indicator : ℕ)
+pub name_step : ReaderPromises → (around : Around) (d : Bool) (token_of : List ℕ
+    → Kind) (n : ℕ) (m : Marker) (b : Bool) (indicator : ℕ)
     (name o : List ℕ) → is_break indicator ≡ false → IsAnchorName name → is_anchor_char (slice_index o 0) ≡ false
     → (x : Context) (k : Option Candidate) (ls : List Level) (a : Bool) (ad : ℕ) → Placed around x a m
     → property.name_steps token_of n (core_at around d (cursor_at (indicator ∷ (name ++ o)) m b) x k ls a ad)
@@ -68,7 +69,8 @@ name_step reads around d token_of n m b indicator name o e h ends x k ls a ad pl
     ∙ ap (λ q. q >>= token) (reads.anchor s indicator name o refl h ends)
     ∙ ap (λ (end : Marker). token (encode_utf8_all name, at end o)) (named_along m indicator name e h)
 
-name_passes : ReaderPromises → (around : Around) (token_of : List ℕ → Kind) (indicator : ℕ) (name o : List ℕ) (m : Marker)
+name_passes : ReaderPromises → (around : Around) (token_of : List ℕ
+    → Kind) (indicator : ℕ) (name o : List ℕ) (m : Marker)
     → ((second n : ℕ) (c : Core) → step indicator second n c ≡ property.name_steps token_of n c)
     → Begins (indicator ∷ name) → is_break indicator ≡ false → IsAnchorName name
     → is_anchor_char (slice_index o 0) ≡ false → FitsAround around m (indicator ∷ name) o
@@ -128,26 +130,31 @@ alias_first name = record {
 }
 
 pub anchor_passes : ReaderPromises → (around : Around) (name t o : List ℕ) (m : Marker) → IsAnchor name t
-    → is_anchor_char (slice_index o 0) ≡ false → FitsAround around m t o → (now : FlowMoment) → StandsBefore around now m
+    → is_anchor_char (slice_index o 0) ≡ false → FitsAround around m t o → (now : FlowMoment)
+    → StandsBefore around now m
     (t ++ o) → PassesToken around (closes_key now.adjacent) now m t o (anchor_token name)
 anchor_passes reads around name t o m h ends fits now text =
     subst (λ (p : List ℕ). FitsAround around m p o → StandsBefore around now m (p ++ o)
     → PassesToken around (closes_key now.adjacent) now m p o (anchor_token name))
-    (sym h.1) (λ f e. name_passes reads around tokens.Anchor 38 name o m begins_anchor (anchor_first name) refl h.0 ends f now
+    (sym h.1) (λ f e. name_passes reads around tokens.Anchor 38 name o m begins_anchor (anchor_first name) refl h.0 ends
+    f now
     e) fits text
 
 pub alias_token_passes : ReaderPromises → (around : Around) (name t o : List ℕ) (m : Marker) → IsAlias name t
-    → is_anchor_char (slice_index o 0) ≡ false → FitsAround around m t o → (now : FlowMoment) → StandsBefore around now m
+    → is_anchor_char (slice_index o 0) ≡ false → FitsAround around m t o → (now : FlowMoment)
+    → StandsBefore around now m
     (t ++ o) → PassesToken around (closes_key now.adjacent) now m t o (alias_token name)
 alias_token_passes reads around name t o m h ends fits now text =
     subst (λ (p : List ℕ). FitsAround around m p o → StandsBefore around now m (p ++ o)
     → PassesToken around (closes_key now.adjacent) now m p o (alias_token name))
-    (sym h.1) (λ f e. name_passes reads around tokens.Alias 42 name o m begins_alias (alias_first name) refl h.0 ends f now e)
+    (sym h.1) (λ f e. name_passes reads around tokens.Alias 42 name o m begins_alias (alias_first name) refl h.0 ends f
+    now e)
     fits text
 
 -- ## Tags
 
-pub tag_step : ReaderPromises → (around : Around) (d : Bool) (n : ℕ) (m : Marker) (b : Bool) (t handle suffix o : List ℕ)
+pub tag_step : ReaderPromises → (around : Around) (d : Bool) (n : ℕ) (m : Marker) (b : Bool)
+    (t handle suffix o : List ℕ)
     → IsTagText t handle suffix → (x : Context) (k : Option Candidate) (ls : List Level) (a : Bool) (ad : ℕ)
     → EndsTag (not (is_block x)) o → Placed around x a m
     → property.tag_steps n (core_at around d (cursor_at (t ++ o) m b) x k ls a ad)
@@ -168,7 +175,8 @@ pub begins_tag : (second n : ℕ) (c : Core) → step 33 second n c ≡ property
 unfolding step
 begins_tag second n c = refl
 
-pub tag_passes : ReaderPromises → (around : Around) (tag : Tag) (t o : List ℕ) (m : Marker) → IsTag tag t → FitsAround around m t o
+pub tag_passes : ReaderPromises → (around : Around) (tag : Tag) (t o : List ℕ) (m : Marker) → IsTag tag t
+    → FitsAround around m t o
     → (now : FlowMoment) → EndsTag (not (is_block now.context)) o → StandsBefore around now m (t ++ o)
     → PassesToken around (closes_key now.adjacent) now m t o (tag_token tag)
 tag_passes reads around tag t o m h fits now ends text =

@@ -189,7 +189,8 @@ mutual
       pairs_pass room key value pairs (nodes_pass reads around room key) (nodes_pass reads around room value)
       (all_other_pairs_pass reads around room pairs)
 
-  all_other_pairs_pass : ReaderPromises → (around : Around) (room : ℕ) (pairs : Pairs) → PassesOtherPairs around room pairs
+  all_other_pairs_pass : ReaderPromises → (around : Around) (room : ℕ) (pairs : Pairs)
+      → PassesOtherPairs around room pairs
   all_other_pairs_pass reads around room NoPair = no_other_pairs_pass room
   all_other_pairs_pass reads around room (MorePairs key value pairs) =
       other_pairs_pass room key value pairs (nodes_pass reads around room key) (nodes_pass reads around room value)

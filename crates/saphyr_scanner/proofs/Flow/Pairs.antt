@@ -34,7 +34,8 @@ pub record TellsPiece (around : Around) (start : Bool → State) (Is : List Kind
 pub told_at : {around : Around} {start : Bool → State} {Is : List Kind → Type 0} {x : Context} {ls : List Level}
     {ps : List Place} {o : List ℕ} (m n : Marker) → m ≡ n → TellsPiece around start Is x ls ps m o
     → TellsPiece around start Is x ls ps n o
-told_at {around} {start} {Is} {x} {ls} {ps} {o} m n e t = subst (λ (k : Marker). TellsPiece around start Is x ls ps k o) e t
+told_at {around} {start} {Is} {x} {ls} {ps} {o} m n e t =
+    subst (λ (k : Marker). TellsPiece around start Is x ls ps k o) e t
 
 pub told_so : {around : Around} {start : Bool → State} {Is Are : List Kind → Type 0} {x : Context} {ls : List Level}
     {ps : List Place} {m : Marker} {o : List ℕ} → ((t : List Kind) → Is t → Are t)
@@ -272,7 +273,8 @@ pub marked_key_passes : {around : Around} (room : ℕ) (key value : Node) → Pa
     → IsKeyAndValue key value (IsFlowNode room key true around.indent) (IsFlowNode room value true around.indent)
     around.indent t → (now : FlowMoment) → now.key ≡ None → now.allowed ≡ false
     → room + length now.outer ≤ 255 → now.adjacent < m.index → StandsBefore around now m (t ++ o)
-    → TellsPiece around (state_at around (moment_in y now)) (PairTokens [] key value) (behind_colon y) now.outer now.places
+    → TellsPiece around (state_at around (moment_in y now)) (PairTokens [] key value) (behind_colon y) now.outer
+    now.places
     (moved m t) o
 marked_key_passes {around} room key value K V y flows no_pair m t o fits ends
     (node, separation, colon, h, parts, apart, c, e) now no_candidate none_allowed low before text =

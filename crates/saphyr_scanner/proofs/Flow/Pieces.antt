@@ -15,7 +15,8 @@ use Rattle.saphyr_scanner.proofs.Flow.Inks.{BeginsInk}
 
 -- ## A piece in parts
 
-pub fits_front : {around : Around} (m : Marker) (a b o : List ℕ) → FitsAround around m (a ++ b) o → FitsAround around m a (b ++ o)
+pub fits_front : {around : Around} (m : Marker) (a b o : List ℕ) → FitsAround around m (a ++ b) o
+    → FitsAround around m a (b ++ o)
 fits_front {around} m a b o h =
     record {
       clear = clear_front m a b o h.clear;
@@ -34,10 +35,12 @@ fits_back {around} m a b o right h =
     let count = moved_count m a (b ++ o) in
     record { clear = clear_back m a b o h.clear; below = omega (arith, whole, count); right = right; calm = h.calm }
 
-pub fits_so : {around : Around} (m : Marker) (p q o : List ℕ) → p ≡ q → FitsAround around m p o → FitsAround around m q o
+pub fits_so : {around : Around} (m : Marker) (p q o : List ℕ) → p ≡ q → FitsAround around m p o
+    → FitsAround around m q o
 fits_so {around} m p q o e h = subst (λ (t : List ℕ). FitsAround around m t o) e h
 
-pub fits_before : {around : Around} (m : Marker) (p o q : List ℕ) → o ≡ q → FitsAround around m p o → FitsAround around m p q
+pub fits_before : {around : Around} (m : Marker) (p o q : List ℕ) → o ≡ q → FitsAround around m p o
+    → FitsAround around m p q
 fits_before {around} m p o q e h = subst (FitsAround around m p) e h
 
 -- ## What stands behind

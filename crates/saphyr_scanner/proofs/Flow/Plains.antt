@@ -228,7 +228,8 @@ plain_read reads around d n m b t o x h clear k ls a ad placed =
     let s = cursor_at (t ++ o) m b in
     let f = not (is_block x) in
     let c = core_at around false s x (saved a n m k) ls false ad in
-    let token = λ (z : List ℕ × Marker × Option Marker × Cursor). completed_step (from_to m z.1 (tokens.Scalar Plain z.0) ∷ [])
+    let token = λ (z : List ℕ × Marker × Option Marker × Cursor). completed_step
+    (from_to m z.1 (tokens.Scalar Plain z.0) ∷ [])
     (behind_plain z.2 z.3 c) in
     let refused : (f && nat_lt m.col around.indent) ≡ false = plain_placed around x a m placed in
     let got = reads.plain f around.indent s t o refl h
@@ -264,7 +265,8 @@ plain_dispatches around d s n t o x w k ls a ad low =
         subst (λ (y : List ℕ). IsTrue (is_word_ink f (slice_index (y ++ o) 1))) (sym w.is) (w.further e)
 
 -- The premises of a step over a plain scalar: outside flow, or where no colon may stand at once.
-pub plain_step : ReaderPromises → (around : Around) (d : Bool) (n : ℕ) (m : Marker) (b : Bool) (t o : List ℕ) (x : Context)
+pub plain_step : ReaderPromises → (around : Around) (d : Bool) (n : ℕ) (m : Marker) (b : Bool) (t o : List ℕ)
+    (x : Context)
     → BeginsWord (not (is_block x)) t o → IsPlainText (not (is_block x)) around.indent m t o → IsClear m t o
     → (k : Option Candidate) (ls : List Level) (a : Bool) (ad : ℕ) → (is_block x ≡ true) ⊎ (ad < m.index)
     → Placed around x a m

@@ -79,7 +79,8 @@ two_properties : (around : Around) (start : Bool → State) (x : Context) (kept 
     → PassesPiece around (state_at around (after p))
     (after_token (closes_key p.adjacent) x (keeping (after p) (moved (moved m a) w) b)) x ls (ps ++ p.new)
     (moved (moved (moved m a) w) b) o (second ∷ []))
-    → PassesPiece around start (behind_properties x (record { kept = kept; before = before; from = m; over = a ++ (w ++ b) })
+    → PassesPiece around start (behind_properties x
+    (record { kept = kept; before = before; from = m; over = a ++ (w ++ b) })
     ad) x ls ps (moved m (a ++ (w ++ b))) o (first ∷ second ∷ [])
 two_properties around start x kept before ls ps ad m a w b o first second h p passes =
     let here : StandsBefore around (after p) (moved (moved m a) w) (b ++ o) =
@@ -131,7 +132,8 @@ abbrev ReadsProperties : Around → Option (List ℕ) → Option Tag → Marker 
 ReadsProperties around anchor tag m t o now =
     FitsAround around m t o → StandsBefore around now m (t ++ o) → PropertiesRead around now anchor tag m t o
 
-anchor_and_tag : ReaderPromises → (around : Around) (name : List ℕ) (tag : Tag) (m : Marker) (a w b o : List ℕ) → IsAnchor name a
+anchor_and_tag : ReaderPromises → (around : Around) (name : List ℕ) (tag : Tag) (m : Marker) (a w b o : List ℕ)
+    → IsAnchor name a
     → AreSpaces 1 w → IsTag tag b → (now : FlowMoment) → EndsTag (not (is_block now.context)) o
     → ReadsProperties around (Some name) (Some tag) m (a ++ (w ++ b)) o now
 anchor_and_tag reads around name tag m a w b o h spaced g now ends fits text =
@@ -147,7 +149,8 @@ anchor_and_tag reads around name tag m a w b o h spaced g now ends fits text =
           (fits_back (moved m a) w b o right (fits_back m a (w ++ b) o p.right fits)) (after p) ends there);
     }
 
-tag_and_anchor : ReaderPromises → (around : Around) (name : List ℕ) (tag : Tag) (m : Marker) (a w b o : List ℕ) → IsTag tag a
+tag_and_anchor : ReaderPromises → (around : Around) (name : List ℕ) (tag : Tag) (m : Marker) (a w b o : List ℕ)
+    → IsTag tag a
     → AreSpaces 1 w → IsAnchor name b → (now : FlowMoment) → EndsTag (not (is_block now.context)) o
     → ReadsProperties around (Some name) (Some tag) m (a ++ (w ++ b)) o now
 tag_and_anchor reads around name tag m a w b o g spaced h now ends fits text =

@@ -176,7 +176,8 @@ extends low indent below _ _ _ _ (numbered e c ds t items x h r) fit o m clear e
     (clear_back m (backslash ∷ e ∷ ds) t o clear) ends in
     let front : FitsQuotes low Double (backslash ∷ e ∷ (ds ++ (t ++ o))) (Escaped c ∷ items) (x ++ o) =
     (numbered e c ds (t ++ o) items (x ++ o) h more.0, more.1) in
-    subst (λ (y : List ℕ). FitsQuotes low Double (backslash ∷ e ∷ y) (Escaped c ∷ items) (x ++ o)) (sym (append_assoc ds t o))
+    subst (λ (y : List ℕ). FitsQuotes low Double (backslash ∷ e ∷ y) (Escaped c ∷ items) (x ++ o))
+    (sym (append_assoc ds t o))
     front
 extends low indent below _ _ _ _ (escaped_break t items x h r) fit o m clear ends =
     let n = moved m (backslash ∷ []) in

@@ -100,7 +100,8 @@ ContentPasses around p style value t o =
     (m : Marker) → FitsAround around m t o → IsBehindNode around.indent (Scalar p style value) o
     → PassesContent around (Scalar p style value) style value t o m
 
-bare_scalar_passes : ReaderPromises → (around : Around) (p : Properties) (style : Style) (value t o : List ℕ) (m : Marker)
+bare_scalar_passes : ReaderPromises → (around : Around) (p : Properties) (style : Style) (value t o : List ℕ)
+    (m : Marker)
     → p ≡ no_properties → ContentPasses around p style value t o → FitsAround around m t o
     → IsBehindNode around.indent (Scalar p style value) o
     → (now : FlowMoment) → now.adjacent < m.index → is_block now.context ≡ false → StandsBefore around now m (t ++ o)
@@ -234,7 +235,8 @@ ScalarPasses around p style value t o m =
     → (now : FlowMoment) → now.adjacent < m.index → is_block now.context ≡ false → StandsBefore around now m (t ++ o)
     → NodePasses around now (Scalar p style value) m t o
 
-content_node : ReaderPromises → (around : Around) (p : Properties) (style : Style) (value front content o : List ℕ) (m : Marker)
+content_node : ReaderPromises → (around : Around) (p : Properties) (style : Style) (value front content o : List ℕ)
+    (m : Marker)
     → IsBeforeContent p around.indent front → ContentPasses around p style value content o
     → ScalarPasses around p style value (front ++ content) o m
 content_node reads around p style value front content o m (inl (none, is)) g =
@@ -259,7 +261,8 @@ scalar_node reads around p style value t o m (inr (front, content, before, g, is
     (λ n fits behind. content_passes reads around p style value content o n g fits behind))
 
 -- a key before its colon
-pub key_node_passes : ReaderPromises → (around : Around) (p : Properties) (style : Style) (value t r : List ℕ) (m : Marker)
+pub key_node_passes : ReaderPromises → (around : Around) (p : Properties) (style : Style) (value t r : List ℕ)
+    (m : Marker)
     → IsPlainKeyNode (Scalar p style value) true around.indent t → ScalarPasses around p style value t (58 ∷ r) m
 key_node_passes reads around p style value t r m (front, content, plain, before, g, stands, is) =
     subst (λ (q : Style). ScalarPasses around p q value t (58 ∷ r) m) (sym plain)
@@ -283,7 +286,8 @@ ScalarCloses around p style value t o m =
     FitsAround around m t o → IsBehindRoot around.indent (moved m t) o → (now : FlowMoment) → now.adjacent ≤ m.index
     → StandsBefore around now m (t ++ o) → RootCloses around now (Scalar p style value) m t o
 
-content_root : ReaderPromises → (around : Around) (p : Properties) (style : Style) (value front content o : List ℕ) (m : Marker)
+content_root : ReaderPromises → (around : Around) (p : Properties) (style : Style) (value front content o : List ℕ)
+    (m : Marker)
     → IsBeforeContent p around.indent front → IsFlowScalar style value false around.indent content
     → ScalarCloses around p style value (front ++ content) o m
 content_root reads around p style value front content o m (inl (none, is)) g =

@@ -174,7 +174,8 @@ comment_end column c cs ink m blank space n p = by_word (is_yaml_non_break c) re
         let r = no_return_and c (slice_index cs 0 == 10) ink.break in
         let there : past_comment column m (c ∷ cs) ≡ (m, c ∷ cs) = rw (e, ink.break, r) refl in
         let same : m ≡ n = place_of m n (c ∷ cs) (c ∷ cs) (sym there ∙ p) in
-        let here : line_comment m blank space (c ∷ cs) ≡ spaces_end m blank space (c ∷ cs) = rw (e, ink.break, r) refl in
+        let here : line_comment m blank space (c ∷ cs) ≡ spaces_end m blank space (c ∷ cs) =
+        rw (e, ink.break, r) refl in
         record {
           still_blank = blank;
           some =

@@ -280,7 +280,8 @@ pub record PassesPiece (around : Around) (start : Bool → State) (known : Known
 
 -- the moment behind a piece
 abbrev pub after : {around : Around} {start : Bool → State} {known : Known} {x : Context} {ls : List Level}
-    {ps : List Place} {m : Marker} {o : List ℕ} {ts : List Kind} → PassesPiece around start known x ls ps m o ts → FlowMoment
+    {ps : List Place} {m : Marker} {o : List ℕ} {ts : List Kind} → PassesPiece around start known x ls ps m o ts
+    → FlowMoment
 after {x = x} {ls = ls} {ps = ps} p = moment p.there x p.key ls p.allowed p.adjacent (ps ++ p.new)
 
 -- a state with the comment that ended a plain scalar outside flow

@@ -64,7 +64,8 @@ pub record TokenStep (around : Around) (says : Bool → ℕ → Type 0) (kind : 
   pub tells : says allowed adjacent
 
 -- what is known behind a token
-pub record IsAfterToken (says : Bool → ℕ → Type 0) (x : Context) (kept : KeptKey) (key : Option Candidate) (allowed : Bool)
+pub record IsAfterToken (says : Bool → ℕ → Type 0) (x : Context) (kept : KeptKey) (key : Option Candidate)
+    (allowed : Bool)
     (adjacent : ℕ) (new : List Place) : Type 0 where
   pub piece : Piece
   pub is : new ≡ bare_place piece ∷ []
@@ -98,7 +99,8 @@ saved_since false n m k j p key (inl h) (inr g) = inl (g ∙ h)
 saved_since false n m k j p key (inr h) (inr g) = inr (inl (g ∙ h))
 
 pub token_passes : (around : Around) (says : Bool → ℕ → Type 0) (kind : Kind) (p o : List ℕ) (m : Marker) → Begins p
-    → FitsAround around m p o → around.indent ≤ (moved m p).col → (now : FlowMoment) → StandsBefore around now m (p ++ o)
+    → FitsAround around m p o → around.indent ≤ (moved m p).col → (now : FlowMoment)
+    → StandsBefore around now m (p ++ o)
     → ((b : Bool) (j : Option Candidate) (e : Bool)
     → TokenStep around says kind (p ++ o) m (moved m p) o now.context now.outer now.adjacent (length now.places) b j e)
     → PassesToken around says now m p o kind

@@ -45,7 +45,8 @@ pub colon_passes : (around : Around) (y : Context) → is_block y ≡ false
     → (start : Bool → State) (ls : List Level) (ps : List Place) (ts : List Kind)
     → PassesPiece around start (after_node around.indent y (Some (key_at first ps)) node e (w ++ (58 ∷ o))) y ls ps e
     (w ++ (58 ∷ o)) ts
-    → PassesPiece around start (no_key (moved (moved e w) (58 ∷ []))) (behind_colon y) ls ps (moved (moved e w) (58 ∷ [])) o
+    → PassesPiece around start (no_key (moved (moved e w) (58 ∷ []))) (behind_colon y) ls ps
+    (moved (moved e w) (58 ∷ [])) o
     (key_kinds (begins_pair y) ++ (ts ++ tokens.Value ∷ []))
 colon_passes around y flows first e node w o parts fits parted ends same_line start ls ps ts p =
     let m = moved e w in
@@ -123,7 +124,8 @@ alone_step around d m there context.MarkedFlowPair ls a ad e = refl
 alone_puts : (begins : Bool) (ps : List Place) (m : Marker)
     → perform (alone_actions begins m) (queue_of ps) ≡ queue_of (ps ++ alone_places begins m)
 alone_puts true ps m = ap queue_of
-    (append_assoc ps (bare_place (empty_piece m tokens.FlowMappingStart) ∷ []) (bare_place (empty_piece m tokens.Value) ∷ []))
+    (append_assoc ps (bare_place (empty_piece m tokens.FlowMappingStart) ∷ []) (bare_place (empty_piece m tokens.Value)
+    ∷ []))
 alone_puts false ps m = refl
 
 alone_told : (begins : Bool) (m : Marker) → kinds (alone_places begins m) ≡ alone_kinds begins ++ tokens.Value ∷ []

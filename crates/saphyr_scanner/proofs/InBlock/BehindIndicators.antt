@@ -249,7 +249,8 @@ lead_behind p (BehindKey column) least m lead t out (inr (none, h)) b = absurd h
 lead_behind p BehindMarker least m lead t out (inr (none, h)) b = absurd h
 lead_behind p AtStart least m lead t out (inr h) b = absurd (clash true refl out)
 
-flow_behind : {limit : ℕ} → ReadsLeaves limit → (node : Node) (place : Position) (t o : List ℕ) → IsFalse (is_start place)
+flow_behind : {limit : ℕ} → ReadsLeaves limit → (node : Node) (place : Position) (t o : List ℕ)
+    → IsFalse (is_start place)
     → IsFlowInBlock 255 node place t o → IsBehindIndicator (t ++ o)
 flow_behind leaves node place t o out (gap, text, end, gap_is, is, end_is, e) =
     let whole : t ++ o ≡ gap ++ ((text ++ end) ++ o) = ap (λ (x : List ℕ). x ++ o) e

@@ -209,7 +209,8 @@ mark_end {limit} {start} readers leaves marker before filler tail more before_is
     ap (λ (x : List ℕ). x ++ more) (sym text) ∙ append_assoc end (prefix ++ others) more
     ∙ ap (λ (x : List ℕ). end ++ x) (append_assoc prefix others more) in
     passes_suffix ds end prefix others more ts end_is (inr (own, own_is, e)) fed
-    (subst (λ (x : List ℕ). StandsInStream limit start false (Lined false (46 ∷ 46 ∷ 46 ∷ x)) (46 ∷ 46 ∷ 46 ∷ x) ts) whole
+    (subst (λ (x : List ℕ). StandsInStream limit start false (Lined false (46 ∷ 46 ∷ 46 ∷ x)) (46 ∷ 46 ∷ 46 ∷ x) ts)
+    whole
     v)
     (λ us s. closes_documents readers leaves marker (last_rest tail) more (last_rest_is tail tail_is)
     (last_marker start leaves marker tail more tail_is) ds true others us h clean s
@@ -235,7 +236,8 @@ mark_text others rest filler line = simp append_assoc
 
 -- behind no byte order mark
 placed : {limit : ℕ} → ReadsLeaves limit → (marker : DocumentMarker) (forest : Forest) (t front tail : List ℕ)
-    → AreBlockDocuments forest true t → IsBeforeMarker front → t ≡ front ++ marker_line marker tail → Placed marker tail t
+    → AreBlockDocuments forest true t → IsBeforeMarker front → t ≡ front ++ marker_line marker tail
+    → Placed marker tail t
 placed leaves marker forest t front tail h (inl before) e =
     inl (record { front = front; is = e; line = before_line front before })
 placed leaves marker forest t front tail h (inr (inl one)) e =
@@ -275,7 +277,8 @@ placed_behind : (marker : DocumentMarker) (t front tail : List ℕ) → IsBefore
 placed_behind marker t front tail (inl before) e =
     inl (without_mark t front (marker_line marker tail) e (no_byte_order_mark marker tail) (before_line front before))
 placed_behind marker t front tail (inr (inl one)) e =
-    let text : 65279 ∷ t ≡ 65279 ∷ marker_line marker tail = e ∙ ap (λ (x : List ℕ). x ++ marker_line marker tail) one in
+    let text : 65279 ∷ t ≡ 65279 ∷ marker_line marker tail = e
+    ∙ ap (λ (x : List ℕ). x ++ marker_line marker tail) one in
     inl (record { front = []; is = cc; line = refl })
 placed_behind marker t front tail (inr (inr (others, rest, filler, before, rest_is, filler_is, is))) e =
     let line = marker_line marker tail in
@@ -289,7 +292,8 @@ placed_behind marker t front tail (inr (inr (others, rest, filler, before, rest_
           (e ∙ ap (λ (x : List ℕ). x ++ line) is ∙ mark_text others rest filler line) refl (before_line others before),
     )
 
-closes_placed : {limit : ℕ} {start : State} → ReaderPromises → ReadsLeaves limit → (marker : DocumentMarker) (tail more : List ℕ)
+closes_placed : {limit : ℕ} {start : State} → ReaderPromises → ReadsLeaves limit
+    → (marker : DocumentMarker) (tail more : List ℕ)
     → IsLineRest tail → (forest : Forest) (t : List ℕ) (ts : List Kind) → AreBlockDocuments forest true t
     → HasNoReturn t
     → StandsInStream limit start true (Lined true (t ++ more)) (t ++ more) ts → Placed marker tail t
@@ -304,14 +308,16 @@ closes_placed readers leaves marker tail more tail_is forest t ts h clean v
     (mark_end readers leaves marker end filler tail more end_is filler_is tail_is) forest true t ts h clean v line
 
 -- From the start of the text, whatever follows, the scanner comes behind the marker, and holds nothing back.
-closed_leads : ReaderPromises → (limit : ℕ) → ReadsLeaves limit → (marker : DocumentMarker) (forest : Forest) (text more : List ℕ)
+closed_leads : ReaderPromises → (limit : ℕ) → ReadsLeaves limit
+    → (marker : DocumentMarker) (forest : Forest) (text more : List ℕ)
     → HasNoReturn text → EndsWithMarker IsLineRest marker text → IsLayout most_open forest text
     → length (text ++ more) ≤ limit
     → Closes limit (start (text ++ more)) marker (Yields forest) []
 closed_leads readers limit leaves marker forest text more clean (front, tail, tail_is, before, at)
     (mark, others, inl none, documents, e) short =
     let same : text ≡ others = e ∙ ap (λ (x : List ℕ). x ++ others) none in
-    let first = subst (λ (x : List ℕ). StandsInStream limit (start (text ++ more)) true (Lined true (x ++ more)) (x ++ more)
+    let first = subst (λ (x : List ℕ). StandsInStream limit (start (text ++ more)) true (Lined true (x ++ more))
+    (x ++ more)
     (tokens.StreamStart ∷ [])) same (begins limit (text ++ more) short) in
     closes_on [] (tokens.StreamStart ∷ []) (λ all told. ([], all, tt, told, refl))
     (closes_placed readers leaves marker tail more tail_is forest others (tokens.StreamStart ∷ []) documents

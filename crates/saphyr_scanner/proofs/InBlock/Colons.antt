@@ -249,7 +249,8 @@ key_are further ps others key m ts us first are =
 -- the colon of a key is read, which begins a mapping or goes on with one
 pub reads_colon : {limit : ℕ} {start : State} (f : Frame) (n : Moment) (ps others new : List Place) (key : Piece)
     (k m : Marker) (o : List ℕ) (ts us : List Kind) (further : Bool) → nat_le f.indent k.col ≡ further
-    → f.indent ≤ k.col + 1 → GoesOnAs limit start (state_of f n (ps ++ new)) → new ≡ bare_place key ∷ others → kinds ps ≡ ts
+    → f.indent ≤ k.col + 1 → GoesOnAs limit start (state_of f n (ps ++ new)) → new ≡ bare_place key ∷ others
+    → kinds ps ≡ ts
     → kinds new ≡ us → n.key ≡ Some (record { mark = k; place = length ps }) → n.comment ≡ None
     → past 0 n.cursor.mark n.cursor.rest ≡ (m, 58 ∷ o) → IsUntabbed (least_column (core_of f n)) n.cursor
     → is_too_far n.key m ≡ false → k.col ≤ m.col → IsBehindIndicator o

@@ -58,7 +58,8 @@ decoded_line set each (c ∷ cs) t (character, more, is, others, e) =
 prefix_line : (prefix t : List ℕ) → IsPrefix prefix t → IsOneLine t
 prefix_line [] t h = absurd h
 prefix_line (c ∷ cs) t (first, more, is, others, e) =
-    subst IsOneLine (sym e) (both_lines first more (character_line (λ x. is_tag_char x || (x == 33)) tag_line c first is)
+    subst IsOneLine (sym e) (both_lines first more
+    (character_line (λ x. is_tag_char x || (x == 33)) tag_line c first is)
     (decoded_line is_uri_char uri_line cs more others))
   where
     tag_line : (c : ℕ) → IsTrue (is_tag_char c || (c == 33)) → IsTrue (not (c == line_feed))

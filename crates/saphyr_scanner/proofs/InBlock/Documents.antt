@@ -40,7 +40,8 @@ none_inside [] b c k e =
 none_inside (x ∷ a) b c k e = absurd (cc)
 
 -- the node of a bare document is not empty
-node_some : {limit : ℕ} → ReadsLeaves limit → (node : Node) (t o : List ℕ) → IsBlockNode most_open node AtStart t o → t ≡ []
+node_some : {limit : ℕ} → ReadsLeaves limit → (node : Node) (t o : List ℕ) → IsBlockNode most_open node AtStart t o
+    → t ≡ []
     → ⊥
 node_some leaves (Alias name) t o (gap, text, end, gap_is, is, end_is, e) none =
     none_inside gap text end (leaves.flow_ink (Alias name) 255 0 false text is) (sym e ∙ none)
@@ -138,7 +139,8 @@ pub record MarkerStands (limit : ℕ) (start : State) (d : Document) (y : List �
 pub reads_front : {limit : ℕ} {start : State} → ReaderPromises
     → (d : Document) (free : Bool) (directives y : List ℕ) (ts : List Kind) → IsTrue free ⊎ (d.directives ≡ [])
     → AreDirectives d.directives directives
-    → StandsInStream limit start free (Lined free (directives ++ (45 ∷ 45 ∷ 45 ∷ y))) (directives ++ (45 ∷ 45 ∷ 45 ∷ y)) ts
+    → StandsInStream limit start free (Lined free (directives ++ (45 ∷ 45 ∷ 45 ∷ y))) (directives ++ (45 ∷ 45 ∷ 45 ∷ y))
+    ts
     → MarkerStands limit start d y ts
 reads_front {limit = limit} {start = start} readers d free directives y ts (inl is_free) are v =
     let t = directives ++ (45 ∷ 45 ∷ 45 ∷ y) in
@@ -156,7 +158,8 @@ reads_front {limit = limit} {start = start} readers d free directives y ts (inr 
     record {
       free = free;
       opened = free;
-      stands = subst (λ (x : List Kind). StandsInStream limit start free (Lined free (45 ∷ 45 ∷ 45 ∷ y)) (45 ∷ 45 ∷ 45 ∷ y) x)
+      stands = subst (λ (x : List Kind). StandsInStream limit start free (Lined free (45 ∷ 45 ∷ 45 ∷ y)) (45 ∷ 45 ∷ 45
+          ∷ y) x)
           (sym (ap (λ ds. ts ++ map directive_token ds) none ∙ append-nil ts)) first;
     }
 

@@ -210,7 +210,8 @@ forgets g n free = rw free refl
 dash_step : (f : Frame) (m : Marker) (o : List ℕ) (h : IsBehindIndicator o) (blank : Bool) (key : Option Candidate)
     (ad : ℕ) (deeper further : Bool) → nat_le f.indent m.col ≡ further → (i : ℕ)
     → (d : Bool) × (step 45 (slice_index o 0) i (core_of f (moment_at m (45 ∷ o) blank key true ad deeper))
-    ≡ completed_step (behind_start further m tokens.BlockSequenceStart (at_mark (front_end h (along m 1)) tokens.BlockEntry))
+    ≡ completed_step (behind_start further m tokens.BlockSequenceStart
+    (at_mark (front_end h (along m 1)) tokens.BlockEntry))
     (core_of (frame_behind further m.col f) (behind_dash h.more (front_end h (along m 1)) d ad)))
 unfolding step entry next_entry
 dash_step f m o h blank key ad deeper further e i =
@@ -234,7 +235,8 @@ dash_step f m o h blank key ad deeper further e i =
 -- what is put into the queue
 dash_places : Bool → Marker → Marker → List Place → List Place
 dash_places true m n ps =
-    (ps ++ bare_place (empty_piece m tokens.BlockSequenceStart) ∷ []) ++ bare_place (empty_piece n tokens.BlockEntry) ∷ []
+    (ps ++ bare_place (empty_piece m tokens.BlockSequenceStart) ∷ []) ++ bare_place (empty_piece n tokens.BlockEntry)
+    ∷ []
 dash_places false m n ps = ps ++ bare_place (empty_piece n tokens.BlockEntry) ∷ []
 
 dash_performs : (further : Bool) (m n : Marker) (ps : List Place)

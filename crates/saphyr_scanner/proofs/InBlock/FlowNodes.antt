@@ -182,7 +182,8 @@ behind_root f n end o h q is stop left =
     by_text m [] stop (inr k) = inl (inl refl)
     by_text m (c ∷ cs) stop (inr k) = inr (record { left = k; first = c; others = cs; is = refl; blank = stop.0 })
 
-pub reads_flow : ReaderPromises → (limit : ℕ) → limit < 2 ^ 63 → (node : Node) → ReadsAt limit node (IsFlowInBlock 255 node)
+pub reads_flow : ReaderPromises → (limit : ℕ) → limit < 2 ^ 63 → (node : Node)
+    → ReadsAt limit node (IsFlowInBlock 255 node)
 reads_flow reads limit short node place f same m t o (gap, text, end, gap_is, node_is, end_is, e) fits behind start ts
     before =
     let around = around_of limit f in

@@ -213,7 +213,8 @@ pub steps_from : {limit : ℕ} {start s : State} (g : Frame) (n : Moment) (qs : 
     → LeadsTo limit (state_of g n qs) start
 unfolding fetch_within drop_far_key
 steps_from {limit} g n qs f going is none low =
-    let fits : check_limit limit (state_of g n qs) ≡ Ok (state_of g n qs) = rw (le-leb n.cursor.mark.index limit low) refl in
+    let fits : check_limit limit (state_of g n qs) ≡ Ok (state_of g n qs) =
+    rw (le-leb n.cursor.mark.index limit low) refl in
     first_step f going (ap (λ r. r >>= check_limit limit) is ∙ fits) (rw none refl)
 
 -- a key is not too far from its colon

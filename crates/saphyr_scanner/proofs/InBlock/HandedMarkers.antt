@@ -80,7 +80,8 @@ hands_start {limit = limit} r v h =
     (front_low (v.mark.index + 3) (length r) limit (start_count v.mark r limit v.count))
 
 pub hands_end : {limit : ℕ} {start : State} {free opened : Bool} {ts : List Kind} (end o : List ℕ)
-    → StandsInStream limit start free (Lined opened (46 ∷ 46 ∷ 46 ∷ (end ++ o))) (46 ∷ 46 ∷ 46 ∷ (end ++ o)) ts → IsEol end o
+    → StandsInStream limit start free (Lined opened (46 ∷ 46 ∷ 46 ∷ (end ++ o))) (46 ∷ 46 ∷ 46 ∷ (end ++ o)) ts
+    → IsEol end o
     → Handed limit start (ts ++ tokens.DocumentEnd ∷ [])
 hands_end {limit = limit} end o v h =
     let r = end ++ o in

@@ -148,7 +148,8 @@ steps_dropping : {limit : ℕ} {start s : State} (g : Frame) (n : Moment) (qs : 
     → n.cursor.mark.index ≤ limit → LeadsTo limit (state_of g (record n { key = None; required = false }) qs) start
 unfolding fetch_within
 steps_dropping {limit} g n qs f going is free left low =
-    let fits : check_limit limit (state_of g n qs) ≡ Ok (state_of g n qs) = rw (le-leb n.cursor.mark.index limit low) refl in
+    let fits : check_limit limit (state_of g n qs) ≡ Ok (state_of g n qs) =
+    rw (le-leb n.cursor.mark.index limit low) refl in
     first_step f going (ap (λ r. r >>= check_limit limit) is ∙ fits)
     (ap (λ r. on_core r (queue_of qs)) (drops_gone g n free left))
 
@@ -253,7 +254,8 @@ reads_scalar laws {limit} {start} {ts} f style value m more t o short low begins
 reads_styled : ReadsBlocks
     → {limit : ℕ} {start : State} {ts : List Kind} (f : Frame) (style : Style) (value : List ℕ) (m : Marker)
     (t o : List ℕ) → limit < 2 ^ 63 → f.indent ≤ m.col → IsStyled style value f.indent t o
-    → FitsOnLines limit m t o → EndsNodeAt f.indent (moved m t) o → (v : At limit start f m (t ++ o) ts) → IsOnLineOrBefore v.key m
+    → FitsOnLines limit m t o → EndsNodeAt f.indent (moved m t) o → (v : At limit start f m (t ++ o) ts)
+    → IsOnLineOrBefore v.key m
     → Arrived limit start f (moved m t) o (ts ++ scalar_token style value ∷ [])
 reads_styled laws f Literal value m t o short low (more, h, e) fits behind v late =
     reads_scalar laws f block_style.Literal value m more t o short low e h fits behind v late

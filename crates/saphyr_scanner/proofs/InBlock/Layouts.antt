@@ -36,7 +36,8 @@ leaves reads blocks limit short = record {
 }
 
 -- each text of the layout grammar gives tokens of its forest
-pub layout_scans : Readers → ReaderPromises → ReadsBlocks → (limit : ℕ) → limit < 2 ^ 63 → (forest : Forest) (text : List ℕ)
+pub layout_scans : Readers → ReaderPromises → ReadsBlocks → (limit : ℕ) → limit < 2 ^ 63
+    → (forest : Forest) (text : List ℕ)
     → HaveSameKinds (scan limit text) (scan limit (normalized text))
     → IsLayoutText most_open forest text → length text ≤ limit
     → (ts : List Kind) × Yields forest ts × Scans ts (scan limit text)

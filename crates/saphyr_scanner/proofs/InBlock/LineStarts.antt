@@ -70,7 +70,8 @@ pub line_unmarked : (c : ℕ) (cs : List ℕ) → (c == 45) ≡ false → (c == 
     → AreIn (λ c. not (c == line_feed)) (c ∷ cs) → IsUnmarked (c ∷ cs)
 line_unmarked c cs e f h at_start o = first_unmarked c cs o e f (words_unmarked (c ∷ cs) o h) at_start
 
-pub set_on_line : (set : ℕ → Bool) → ((c : ℕ) → IsTrue (set c) → IsTrue (not (c == line_feed))) → (w : List ℕ) → AreIn set w
+pub set_on_line : (set : ℕ → Bool) → ((c : ℕ) → IsTrue (set c) → IsTrue (not (c == line_feed))) → (w : List ℕ)
+    → AreIn set w
     → AreIn (λ c. not (c == line_feed)) w
 set_on_line set each [] h = tt
 set_on_line set each (c ∷ cs) h = (each c h.0, set_on_line set each cs h.1)

@@ -98,7 +98,8 @@ pub record FitsOnLines (limit : ℕ) (m : Marker) (p o : List ℕ) : Type 0 wher
   pub below : m.index + length (p ++ o) ≤ limit
   pub lined : IsLined m
 
-pub fits_front : {limit : ℕ} (m : Marker) (a b o : List ℕ) → FitsOnLines limit m (a ++ b) o → FitsOnLines limit m a (b ++ o)
+pub fits_front : {limit : ℕ} (m : Marker) (a b o : List ℕ) → FitsOnLines limit m (a ++ b) o
+    → FitsOnLines limit m a (b ++ o)
 fits_front {limit} m a b o h =
     record {
       clear = clear_front m a b o h.clear;
@@ -107,7 +108,8 @@ fits_front {limit} m a b o h =
       lined = h.lined;
     }
 
-pub fits_back : {limit : ℕ} (m : Marker) (a b o : List ℕ) → FitsOnLines limit m (a ++ b) o → FitsOnLines limit (moved m a) b o
+pub fits_back : {limit : ℕ} (m : Marker) (a b o : List ℕ) → FitsOnLines limit m (a ++ b) o
+    → FitsOnLines limit (moved m a) b o
 fits_back {limit} m a b o h =
     let whole : m.index + length (a ++ (b ++ o)) ≤ limit = subst (λ (t : List ℕ). m.index + length t ≤ limit)
     (append_assoc a b o) h.below in

@@ -84,7 +84,8 @@ reads_implicit {limit} leaves key value V f n further e far t z
     ahead.first
     (fits_front n (node ++ spaces k) (58 ∷ v) z whole) start ts p.0 p.1 in
     let right : n.col ≤ m.col = further_right n node k line in
-    let b = reads_colon f r.moment r.places r.others (bare_place r.key ∷ r.others) r.key n m (v ++ z) ts r.tokens further e
+    let b = reads_colon f r.moment r.places r.others (bare_place r.key ∷ r.others) r.key n m (v ++ z) ts r.tokens
+    further e
     far r.follows refl r.first r.are r.candidate r.quiet r.lands r.untabbed r.near right ahead fits_colon.below
     r.low in
     let s = V (BehindKey n.col) g (frame_same further f n.col e far) (along m 1) v z h
@@ -195,7 +196,8 @@ reads_marked {limit} leaves key value K V f n further e far t z
     let c = moved k w in
     let colon_v : colon ++ v ≡ w ++ (58 ∷ v) = ap (λ (x : List ℕ). x ++ v) colon_parts ∙ append_assoc w (58 ∷ []) v in
     let fits_node = fits_front (along n 1) node (colon ++ v) z fits_in in
-    let fits_key : FitsOnLines limit (along n 1) node y = subst (FitsOnLines limit (along n 1) node) (append_assoc colon v z)
+    let fits_key : FitsOnLines limit (along n 1) node y =
+    subst (FitsOnLines limit (along n 1) node) (append_assoc colon v z)
     fits_node in
     let fits_rest = fits_so k (colon ++ v) (w ++ (58 ∷ v)) z colon_v
     (fits_back (along n 1) node (colon ++ v) z fits_in) in

@@ -58,7 +58,8 @@ unbroken_line m a b h (n, some, e) =
 two_read : {limit : ℕ} {start : State} {ts : List Kind} (f : Frame) (j k : Kind) (a b w : List ℕ)
     → TokenReads limit start f j a → TokenReads limit start f k w → NoBreaks a → BeginsInk w → AreSpaces 1 b
     → (m : Marker) (o : List ℕ) → f.indent ≤ m.col → IsClean o → IsTrue (is_blank_or_breakz (slice_index o 0))
-    → FitsOnLines limit m (a ++ (b ++ w)) o → (v : At limit start f m ((a ++ (b ++ w)) ++ o) ts) → IsOnLineOrBefore v.key m
+    → FitsOnLines limit m (a ++ (b ++ w)) o → (v : At limit start f m ((a ++ (b ++ w)) ++ o) ts)
+    → IsOnLineOrBefore v.key m
     → TokenRead limit start f m (moved m (a ++ (b ++ w))) o (ts ++ j ∷ k ∷ [])
 two_read {limit} {start} {ts} f j k a b w first second whole ink spaced m o low clean white fits v late =
     let text : (a ++ (b ++ w)) ++ o ≡ a ++ (b ++ (w ++ o)) = append_assoc a (b ++ w) o
@@ -85,7 +86,8 @@ two_read {limit} {start} {ts} f j k a b w first second whole ink spaced m o low 
 
 -- ## Properties
 
-record PassesProperties (limit : ℕ) (start : State) (anchor : Option (List ℕ)) (tag : Option Tag) (f : Frame) (m : Marker)
+record PassesProperties (limit : ℕ) (start : State) (anchor : Option (List ℕ)) (tag : Option Tag) (f : Frame)
+    (m : Marker)
     (t o : List ℕ) (ts : List Kind) : Type 0 where
   tokens : List Kind
   are : grammar.AreBoth (option_map anchor_token anchor) (option_map tag_token tag) tokens
@@ -120,9 +122,11 @@ properties_passed reads {limit} {start} {ts} f (Some name) (Some tag) t (a, b, w
     tag_part : TokenReads limit start f (tag_token tag) w
     tag_part = tag_reads reads f tag w k
 
-    by_order : (t ≡ a ++ (b ++ w)) ⊎ (t ≡ w ++ (b ++ a)) → PassesProperties limit start (Some name) (Some tag) f m t o ts
+    by_order : (t ≡ a ++ (b ++ w)) ⊎ (t ≡ w ++ (b ++ a))
+        → PassesProperties limit start (Some name) (Some tag) f m t o ts
     by_order (inl e) =
-        let P : List ℕ → Type 0 = λ x. FitsOnLines limit m x o → (u : At limit start f m (x ++ o) ts) → IsOnLineOrBefore u.key m
+        let P : List ℕ → Type 0 = λ x. FitsOnLines limit m x o → (u : At limit start f m (x ++ o) ts)
+        → IsOnLineOrBefore u.key m
         → TokenRead limit start f m (moved m x) o (ts ++ anchor_token name ∷ tag_token tag ∷ []) in
         let there = subst P (sym e)
         (two_read f (anchor_token name) (tag_token tag) a b w anchor_part tag_part
@@ -130,7 +134,8 @@ properties_passed reads {limit} {start} {ts} f (Some name) (Some tag) t (a, b, w
         (properties_ink (record { anchor = None; tag = Some tag }) w k) spaced m o low clean white) in
         record { tokens = anchor_token name ∷ tag_token tag ∷ []; are = inl refl; read = there fits v late }
     by_order (inr e) =
-        let P : List ℕ → Type 0 = λ x. FitsOnLines limit m x o → (u : At limit start f m (x ++ o) ts) → IsOnLineOrBefore u.key m
+        let P : List ℕ → Type 0 = λ x. FitsOnLines limit m x o → (u : At limit start f m (x ++ o) ts)
+        → IsOnLineOrBefore u.key m
         → TokenRead limit start f m (moved m x) o (ts ++ tag_token tag ∷ anchor_token name ∷ []) in
         let there = subst P (sym e)
         (two_read f (tag_token tag) (anchor_token name) w b a tag_part anchor_part
@@ -152,7 +157,8 @@ reads_head reads limit p place f same m gap t between y gap_is h spaced ink fits
     (none_late l.0.key n l.1) in
     let line = unbroken_line n t between (unbroken_properties p.anchor p.tag t h) spaced in
     let q = moved (moved n t) between in
-    let Q : Marker × List ℕ → Type 0 = λ x. (u : At limit start f x.0 x.1 (ts ++ r.tokens)) × IsOnLineOrBefore u.key q in
+    let Q : Marker × List ℕ → Type 0 = λ x. (u : At limit start f x.0 x.1 (ts ++ r.tokens))
+    × IsOnLineOrBefore u.key q in
     let z = subst Q (lands_on (moved n t) between y skipped ink)
     (r.read.at, late_same r.read.at.key n q line.0 r.read.late) in
     let here : HeadRead limit start p f q y ts = record { tokens = r.tokens; are = r.are; at = z.0; late = z.1 } in
@@ -166,7 +172,8 @@ gap_of place t (inl h) = inl (inl h)
 gap_of place t (inr (first, (zero, low, e))) = inr (first, e)
 gap_of place t (inr (first, (suc n, low, e))) = inl (inl (suc n, omega arith, e))
 
-late_key_left : (k : Option Candidate) (m n : Marker) → IsOnLineOrBefore k m → m.line < n.line → is_too_far k n ≡ false → k ≡ None
+late_key_left : (k : Option Candidate) (m n : Marker) → IsOnLineOrBefore k m → m.line < n.line → is_too_far k n ≡ false
+    → k ≡ None
 late_key_left None m n late h near = refl
 late_key_left (Some k) m n late h near =
     absurd (let e : true ≡ false = sym (too_far k n (omega (arith, late, h))) ∙ near in cc)

@@ -56,7 +56,8 @@ late_left k n m h = by_far (is_too_far k n)
     by_far true = tt
     by_far false = h
 
-late_saved : (a : Bool) (i : ℕ) (m : Marker) (key : Option Candidate) → IsOnLineOrBefore key m → IsOnLineOrBefore (saved a i m key) m
+late_saved : (a : Bool) (i : ℕ) (m : Marker) (key : Option Candidate) → IsOnLineOrBefore key m
+    → IsOnLineOrBefore (saved a i m key) m
 late_saved true i m key h = omega arith
 late_saved false i m key h = h
 
@@ -70,16 +71,20 @@ steps_keeping : {limit : ℕ} {start s : State} (g : Frame) (n : Moment) (qs : L
     → LeadsTo limit (state_of g (record n { key = left_key n.key n.cursor.mark; required = false }) qs) start
 unfolding fetch_within
 steps_keeping {limit} g n qs f going is free low =
-    let fits : check_limit limit (state_of g n qs) ≡ Ok (state_of g n qs) = rw (le-leb n.cursor.mark.index limit low) refl in
-    first_step f going (ap (λ r. r >>= check_limit limit) is ∙ fits) (ap (λ r. on_core r (queue_of qs)) (drops g n free))
+    let fits : check_limit limit (state_of g n qs) ≡ Ok (state_of g n qs) =
+    rw (le-leb n.cursor.mark.index limit low) refl in
+    first_step f going (ap (λ r. r >>= check_limit limit) is ∙ fits)
+    (ap (λ r. on_core r (queue_of qs)) (drops g n free))
 
 token_read : {limit : ℕ} {start : State} {ts : List Kind} (f : Frame) (k : Kind) (m n : Marker) (y o : List ℕ)
     (v : At limit start f m y ts) → f.indent ≤ m.col → BeginsToken m y
     → ((i : ℕ) (deeper : Bool)
     → step (slice_index y 0) (slice_index y 1) i
     (core_of f (moment_at m y v.blank v.key v.allowed v.adjacent deeper))
-    ≡ completed_step (from_to m n k ∷ []) (core_of f (moment_at n o false (saved v.allowed i m v.key) false v.adjacent deeper)))
-    → n.index ≤ limit → m.index ≤ n.index → IsClean o → IsOnLineOrBefore v.key m → TokenRead limit start f m n o (ts ++ k ∷ [])
+    ≡ completed_step (from_to m n k ∷ []) (core_of f
+    (moment_at n o false (saved v.allowed i m v.key) false v.adjacent deeper)))
+    → n.index ≤ limit → m.index ≤ n.index → IsClean o → IsOnLineOrBefore v.key m
+    → TokenRead limit start f m n o (ts ++ k ∷ [])
 unfolding fetch state_behind_content
 token_read {limit} {start} {ts} f k m n y o v low begins steps limited onward clean late =
     let i = next (queue_of v.places) in
@@ -140,7 +145,8 @@ fits_index m t o h = let below =
 
 -- ## Anchors
 
-anchor_step : ReaderPromises → (f : Frame) (m : Marker) (name o : List ℕ) (blank : Bool) (key : Option Candidate) (a : Bool)
+anchor_step : ReaderPromises → (f : Frame) (m : Marker) (name o : List ℕ) (blank : Bool) (key : Option Candidate)
+    (a : Bool)
     (ad : ℕ) (deeper : Bool) (i : ℕ) → f.indent ≤ m.col → IsAnchorName name → is_anchor_char (slice_index o 0) ≡ false
     → property.anchor_steps i (core_of f (moment_at m (38 ∷ (name ++ o)) blank key a ad deeper))
     ≡ completed_step (from_to m (moved m (38 ∷ name)) (anchor_token name) ∷ [])
@@ -186,7 +192,8 @@ anchor_reads reads {limit} {start} f name t (h, e) =
 
 -- ## Tags
 
-tag_step : ReaderPromises → (f : Frame) (m : Marker) (t handle suffix o : List ℕ) (blank : Bool) (key : Option Candidate)
+tag_step : ReaderPromises → (f : Frame) (m : Marker) (t handle suffix o : List ℕ) (blank : Bool)
+    (key : Option Candidate)
     (a : Bool) (ad : ℕ) (deeper : Bool) (i : ℕ) → f.indent ≤ m.col → IsTagText t handle suffix → EndsTag false o
     → property.tag_steps i (core_of f (moment_at m (t ++ o) blank key a ad deeper))
     ≡ completed_step (from_to m (moved m t) (kind.Tag (encode_utf8_all handle) (encode_utf8_all suffix)) ∷ [])

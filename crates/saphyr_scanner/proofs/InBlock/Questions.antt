@@ -136,7 +136,8 @@ question_step f m o blank key ad deeper further e h clean i =
       r.0,
       rw first (ap (λ q. q >>= λ (d : Core). completed_step
           (behind_start (is_further m.col c) m tokens.BlockMappingStart (up_to_here m tokens.Key d)) d) begun
-          ∙ ap (λ (b : Bool). completed_step (behind_start b m tokens.BlockMappingStart (up_to_here m tokens.Key last)) last) e),
+          ∙ ap (λ (b : Bool). completed_step (behind_start b m tokens.BlockMappingStart (up_to_here m tokens.Key last))
+          last) e),
     )
 
 -- what is put into the queue

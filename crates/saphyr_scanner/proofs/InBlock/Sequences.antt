@@ -144,7 +144,8 @@ no_others {limit} g column same m t o h fits behind starts start ts v =
 grown : (ts us : List Kind) (entry : List Kind) (k : Kind) → ((ts ++ k ∷ []) ++ entry) ++ us ≡ ts ++ (k ∷ (entry ++ us))
 grown ts us entry k = simp append_assoc
 
-pub more_others : {limit : ℕ} → ReadsLeaves limit → (node : Node) (nodes : Nodes) → ReadsAt limit node (IsBlockNode 255 node)
+pub more_others : {limit : ℕ} → ReadsLeaves limit → (node : Node) (nodes : Nodes)
+    → ReadsAt limit node (IsBlockNode 255 node)
     → ReadsOthers limit nodes → ReadsOthers limit (MoreNodes node nodes)
 more_others {limit} leaves node nodes reads more g column same m t o (front, entry, others, front_is, h, k, e) fits
     behind starts start ts v =
@@ -176,7 +177,8 @@ more_others {limit} leaves node nodes reads more g column same m t o (front, ent
     (least g.indent n.col (same ∙ ap (λ (c : ℕ). c + 1) (sym col))) entry z is_node fits_first behind_z start ts
     at_dash.at ready.1 in
     let fits_rest = fits_back n (45 ∷ entry) others o fits_entry in
-    let s = more g column same last others o k fits_rest (subst (λ (x : Marker). EndsNodeAt (suc column) x o) end behind)
+    let s = more g column same last others o k fits_rest
+    (subst (λ (x : Marker). EndsNodeAt (suc column) x o) end behind)
     starts_z start ((ts ++ tokens.BlockEntry ∷ []) ++ r.tokens) r.arrived in
     record {
       tokens = tokens.BlockEntry ∷ (r.tokens ++ s.tokens);

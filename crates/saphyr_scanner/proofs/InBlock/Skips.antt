@@ -350,7 +350,8 @@ spaces_reach m blank c t (inl e) clean =
     let p = spaces_are (along m 1) blank true t (subst (λ (x : ℕ). has_tab (x ∷ t) ≡ false) e clean) in
     let last : gap.spaces_end (past 0 (along m 1) t).0 p.still_blank p.some (past 0 (along m 1) t).1
     ≡ gap.spaces_end (past 0 (along m 1) t).0 p.still_blank true (past 0 (along m 1) t).1 =
-    ap (λ (s : Bool). gap.spaces_end (past 0 (along m 1) t).0 p.still_blank s (past 0 (along m 1) t).1) (p.has refl) in (
+    ap (λ (s : Bool). gap.spaces_end (past 0 (along m 1) t).0 p.still_blank s (past 0 (along m 1) t).1)
+    (p.has refl) in (
       p.still_blank,
       subst (λ (x : ℕ). gap.spaces m blank false (x ∷ t)
           ≡ gap.spaces_end (past 0 m (x ∷ t)).0 p.still_blank true (past 0 m (x ∷ t)).1) (sym e) (p.is ∙ last),

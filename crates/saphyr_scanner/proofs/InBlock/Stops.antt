@@ -60,7 +60,8 @@ pub record StopsUnmarked (t : List ℕ) : Type 0 where
   pub stops : StopsAt t at
   pub unmarked : (o : List ℕ) → at ≡ 65279 ∷ o → ⊥
 
-pub documents_stop : {limit : ℕ} → ReadsLeaves limit → (ds : Forest) (free : Bool) (t : List ℕ) → AreBlockDocuments ds free t
+pub documents_stop : {limit : ℕ} → ReadsLeaves limit → (ds : Forest) (free : Bool) (t : List ℕ)
+    → AreBlockDocuments ds free t
     → StopsUnmarked t
 documents_stop leaves ds free t h = by_token (documents_token leaves ds free t h)
   where

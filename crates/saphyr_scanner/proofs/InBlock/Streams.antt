@@ -37,7 +37,8 @@ pub record PrefixStands (limit : ℕ) (start : State) (others : List ℕ) (ts : 
   pub stands : StandsInStream limit start true (Lined true others) others (ts ++ marks)
 
 pub reads_prefix : {limit : ℕ} {start : State} (prefix others : List ℕ) (ts : List Kind) → IsDocumentPrefix prefix
-    → StandsInStream limit start true (Lined true (prefix ++ others)) (prefix ++ others) ts → PrefixStands limit start others ts
+    → StandsInStream limit start true (Lined true (prefix ++ others)) (prefix ++ others) ts
+    → PrefixStands limit start others ts
 reads_prefix {limit = limit} {start = start} prefix others ts (inl e) v =
     record {
       marks = [];
@@ -59,7 +60,8 @@ reads_prefix {limit = limit} {start = start} prefix others ts (inr (filler, is, 
 -- what stands behind a document is read, where documents are
 reads_behind : {limit : ℕ} {start : State} (ds : Forest)
     → ((free : Bool) (t : List ℕ) (ts : List Kind) → AreBlockDocuments ds free t → HasNoReturn t
-    → StandsInStream limit start free (Lined free t) t ts → FinishesStream limit start (grammar.YieldDocuments ds free) ts)
+    → StandsInStream limit start free (Lined free t) t ts
+    → FinishesStream limit start (grammar.YieldDocuments ds free) ts)
     → (o : List ℕ) (ts : List Kind) → layout.IsBehindDocument (AreBlockDocuments ds) o → HasNoReturn o
     → StandsInStream limit start false (Lined false o) o ts
     → FinishesStream limit start (grammar.YieldsBehindDocument (grammar.YieldDocuments ds)) ts

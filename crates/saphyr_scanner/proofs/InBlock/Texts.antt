@@ -75,7 +75,8 @@ mutual
   node_ends leaves (Map p pairs) place t o (inr (m, lead, entries, lead_is, h, e)) =
       ends_so t (lead ++ entries) o e (ends_back lead entries o (pairs_end leaves pairs m entries o h))
 
-  pub entries_end : {limit : ℕ} → ReadsLeaves limit → (nodes : Nodes) (m : ℕ) (t o : List ℕ) → AreEntries 255 nodes m t o
+  pub entries_end : {limit : ℕ} → ReadsLeaves limit → (nodes : Nodes) (m : ℕ) (t o : List ℕ)
+      → AreEntries 255 nodes m t o
       → EndsWithLine t o
   entries_end leaves NoNode m t o h = absurd h
   entries_end leaves (MoreNodes node nodes) m t o (entry, others, h, k, e) =

@@ -300,7 +300,8 @@ closes_behind {limit = limit} {start = start} {marker = marker} w r more rest fo
         append_assoc end (prefix ++ others) more
         ∙ ap (λ (x : List ℕ). end ++ x) (append_assoc prefix others more) in
         passes_suffix ds end prefix others more ts end_is prefix_is (marked_fed w r (prefix ++ others) rest k)
-        (subst (λ (x : List ℕ). StandsInStream limit start false (Lined false (46 ∷ 46 ∷ 46 ∷ x)) (46 ∷ 46 ∷ 46 ∷ x) ts) behind
+        (subst (λ (x : List ℕ). StandsInStream limit start false (Lined false (46 ∷ 46 ∷ 46 ∷ x)) (46 ∷ 46 ∷ 46 ∷ x) ts)
+        behind
         first)
         (λ us s. go true others us h left s l)
 

@@ -85,7 +85,8 @@ bracket_opens around same start b are k qs e o ad parted right below r =
     [] false ad (behind_key refl refl)
     ∙ open_collection_gives y kind b.opening o e r.blank around d context.Block (Some k) [] false ad p.found p.there
     p.is none_open are.flows (λ _. same)
-    ∙ ap (completed_step (from_to e p.there.mark kind ∷ [])) (same_inside around d p.there y None ls true ad are.flows) in
+    ∙ ap (completed_step (from_to e p.there.mark kind ∷ []))
+    (same_inside around d p.there y None ls true ad are.flows) in
     let fetched : fetch start ≡ Ok st = r.fetches ∙ ap (λ q. after_step q (queue_of qs)) stepped in
     let low = within_index around.indent around.limit p.there (along e 1) o p.lands below in
     let fits : check_limit around.limit st ≡ Ok st = rw (le-leb p.there.mark.index around.limit low) refl in

@@ -75,7 +75,8 @@ fresh_so around t u e h = subst (Fresh around) (sym e) h
 fresh_alias : (around : Around) (name t o : List ℕ) → layout.IsAlias name t → Fresh around (t ++ o)
 fresh_alias around name t o h =
     fresh_so around (t ++ o) (42 ∷ (name ++ o)) (ap (λ (x : List ℕ). x ++ o) h.1)
-    (λ d s k ad n. begins_alias _ n (core_at around d s context.Block k [] true ad) ∙ name_fresh tokens.Alias around d s k ad n
+    (λ d s k ad n. begins_alias _ n (core_at around d s context.Block k [] true ad)
+    ∙ name_fresh tokens.Alias around d s k ad n
     ∙ sym (begins_alias _ n (first_at around d s n ad)))
 
 fresh_anchor : (around : Around) (name t o : List ℕ) → layout.IsAnchor name t → Fresh around (t ++ o)

@@ -218,7 +218,8 @@ first_ready around calm d blank k ad ps m c cs ink right token fresh =
       running = refl;
       fetches = ap (λ r. r >>= fetch_here) arrived
           ∙ begins_low around e there left true ad ps token (still_least around d m right)
-          ∙ ap (λ (i : ℕ). after_step (step c (slice_index cs 0) i (core_at around e there context.Block left [] true ad))
+          ∙ ap (λ (i : ℕ). after_step (step c (slice_index cs 0) i
+          (core_at around e there context.Block left [] true ad))
           (queue_of ps)) (none_before (length ps))
           ∙ ap (λ q. after_step q (queue_of ps)) (fresh e there left ad (length ps));
     }
@@ -233,9 +234,11 @@ pub token_led : (around : Around) (start : State) (k : Candidate) (t : List ℕ)
     → (end : Marker) (kind : Kind) (there : Cursor) (adjacent : ℕ) (to : Bool → Bool)
     → step (slice_index t 0) (slice_index t 1) (length qs)
     (core_at around r.deeper (cursor_at t e r.blank) context.Block (Some k) [] false ad)
-    ≡ completed_step (from_to e end kind ∷ []) (core_at around (to r.deeper) there context.Block (Some k) [] false adjacent)
+    ≡ completed_step (from_to e end kind ∷ [])
+    (core_at around (to r.deeper) there context.Block (Some k) [] false adjacent)
     → IsNear k there.mark → there.mark.index ≤ around.limit
-    → LeadsTo around.limit (state_at around (moment there context.Block (Some k) [] false adjacent (qs ++ token_place e end
+    → LeadsTo around.limit (state_at around (moment there context.Block (Some k) [] false adjacent
+    (qs ++ token_place e end
     kind ∷ [])) (to r.deeper)) start
 unfolding fetch_within
 token_led around start k t e ad qs r end kind there adjacent to is near low =

@@ -39,7 +39,8 @@ some_space zero r (inl some) = absurd (some refl)
 some_space zero r (inr k) = absurd (false≢true k)
 some_space (suc n) r h = refl
 
-pub alias_key : ReaderPromises → (around : Around) (start : State) (name : List ℕ) (k : Candidate) (qs : List Place) (p : List ℕ)
+pub alias_key : ReaderPromises → (around : Around) (start : State) (name : List ℕ) (k : Candidate) (qs : List Place)
+    (p : List ℕ)
     (n : ℕ) (r : List ℕ) (e : Marker) (ad : ℕ) → layout.IsAlias name p → IsBeforeColon (Alias name) (spaces n)
     → InKey around k e (p ++ spaces n) (58 ∷ r) → ad ≤ e.index → Ready around start k (p ++ colon_text n r) e ad qs
     → KeyAlong around start (Alias name) k qs (colon_after e p n) (58 ∷ r)
@@ -51,7 +52,8 @@ alias_key reads around start name k qs p n r e ad h apart text low ready =
           (tag_ends_name false (colon_text n r) (some_space n r apart)) text refl (spaces_are_blank n) low ready;
     }
 
-empty_key : ReaderPromises → (around : Around) (start : State) (p : Properties) (k : Candidate) (qs : List Place) (t : List ℕ)
+empty_key : ReaderPromises → (around : Around) (start : State) (p : Properties) (k : Candidate) (qs : List Place)
+    (t : List ℕ)
     (n : ℕ) (r : List ℕ) (e : Marker) (ad : ℕ) → IsProperties p t → IsBeforeColon (Scalar p Plain []) (spaces n)
     → InKey around k e (t ++ spaces n) (58 ∷ r) → ad ≤ e.index → Ready around start k (t ++ colon_text n r) e ad qs
     → KeyAlong around start (Scalar p Plain []) k qs (colon_after e t n) (58 ∷ r)
@@ -152,7 +154,8 @@ scalar_key reads around start p style value k qs t n r e ad (inr (front, content
     (scalar_reads reads around style value content n r g white) i low z) text ready
 
 -- a plain scalar right before its colon
-pub plain_key : ReaderPromises → (around : Around) (start : State) (node : Node) (k : Candidate) (qs : List Place) (t r : List ℕ)
+pub plain_key : ReaderPromises → (around : Around) (start : State) (node : Node) (k : Candidate) (qs : List Place)
+    (t r : List ℕ)
     (e : Marker) (ad : ℕ) → IsPlainKeyNode node false around.indent t → is_blank_or_breakz (slice_index r 0) ≡ true
     → InKey around k e (t ++ []) (58 ∷ r) → ad ≤ e.index → Ready around start k (t ++ (58 ∷ r)) e ad qs
     → KeyAlong around start node k qs (moved e t) (58 ∷ r)

@@ -97,7 +97,8 @@ abbrev pub colon_after : Marker → List ℕ → ℕ → Marker
 colon_after e t n = moved (moved e t) (spaces n)
 
 -- a text that is read as a plain scalar
-text_along : ReaderPromises → (around : Around) (start : State) (k : Candidate) (qs : List Place) (c : ℕ) (cs : List ℕ) (n : ℕ)
+text_along : ReaderPromises → (around : Around) (start : State) (k : Candidate) (qs : List Place) (c : ℕ) (cs : List ℕ)
+    (n : ℕ)
     (r : List ℕ) (e : Marker) (ad : ℕ) → BeginsWord false (c ∷ cs) (colon_text n r)
     → IsPlainText false around.indent e (c ∷ cs) (colon_text n r) → InKey around k e ((c ∷ cs) ++ spaces n) (58 ∷ r)
     → ad ≤ e.index → Ready around start k ((c ∷ cs) ++ colon_text n r) e ad qs
@@ -138,7 +139,8 @@ text_along reads around start k qs c cs n r e ad begins plain text low ready =
       low = index_behind e t n ad low;
     }
 
-pub plain_along : ReaderPromises → (around : Around) (start : State) (k : Candidate) (qs : List Place) (c : ℕ) (cs : List ℕ)
+pub plain_along : ReaderPromises → (around : Around) (start : State) (k : Candidate) (qs : List Place) (c : ℕ)
+    (cs : List ℕ)
     (n : ℕ) (r : List ℕ) (e : Marker) (ad : ℕ) → IsPlain false around.indent (c ∷ cs)
     → is_blank_or_breakz (slice_index r 0) ≡ true → InKey around k e ((c ∷ cs) ++ spaces n) (58 ∷ r) → ad ≤ e.index
     → Ready around start k ((c ∷ cs) ++ colon_text n r) e ad qs
@@ -247,7 +249,8 @@ quotes_along reads around start k qs quote value t n r e ad h text ready =
     let there = cursor_at (58 ∷ r) m shut.blank_so_far in
     let stepped = quoted_step reads around ready.deeper quote (length qs) e ready.blank value t o h clear (no_quote n r)
     context.Block (Some k) [] false ad (slice_index (t ++ o) 0) first (behind_key refl refl)
-    ∙ behind_step around ready.deeper e (style_of_quote quote) (encode_utf8_all value) (at end o) context.Block (Some k) [] ad
+    ∙ behind_step around ready.deeper e (style_of_quote quote) (encode_utf8_all value) (at end o) context.Block (Some k)
+    [] ad
     m (58 ∷ r) ends.ends g in
     let led = token_led around start k (t ++ o) e ad qs ready ends.ends.there.mark kind there m.index (λ d. d) stepped
     (in_near k m [] (58 ∷ r) last) (in_limit k m [] (58 ∷ r) last) in

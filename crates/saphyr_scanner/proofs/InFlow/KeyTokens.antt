@@ -186,7 +186,8 @@ ends_there : {around : Around} {start : State} {k : Candidate} {qs : List Place}
     (cs b behind w y : List ℕ) (ad : ℕ) (kind : Kind) (deeper : Bool) → InKey around k e ((c ∷ cs) ++ b) behind
     → b ++ behind ≡ w ++ y
     → AreIn is_blank w → ad ≤ e.index
-    → LeadsTo around.limit (state_at around (moment (at (moved e (c ∷ cs)) (b ++ behind)) context.Block (Some k) [] false
+    → LeadsTo around.limit (state_at around (moment (at (moved e (c ∷ cs)) (b ++ behind)) context.Block (Some k) []
+    false
     ad (qs ++ token_place e (moved e (c ∷ cs)) kind ∷ [])) deeper) start
     → Along around start k qs (moved (moved e (c ∷ cs)) w) y (kind ∷ [])
 ends_there {around} {start} {k} {qs} e c cs b behind w y ad kind deeper h is are low leads =
@@ -208,7 +209,8 @@ ends_there {around} {start} {k} {qs} e c cs b behind w y ad kind deeper h is are
       low = omega (arith, one, two, low);
     }
 
-pub name_along : ReaderPromises → (around : Around) (start : State) (k : Candidate) (qs : List Place) (token_of : List ℕ → Kind)
+pub name_along : ReaderPromises → (around : Around) (start : State) (k : Candidate) (qs : List Place) (token_of : List ℕ
+    → Kind)
     (indicator : ℕ) (name b behind w y : List ℕ) (e : Marker) (ad : ℕ)
     → ((second n : ℕ) (c : Core) → step indicator second n c ≡ property.name_steps token_of n c)
     → is_break indicator ≡ false
@@ -238,7 +240,8 @@ pub anchor_along : ReaderPromises
 anchor_along reads around start k qs name t b behind w y e ad h ends text is are low r =
     subst (λ (p : List ℕ). InKey around k e (p ++ b) behind → Ready around start k (p ++ (b ++ behind)) e ad qs
     → Along around start k qs (moved (moved e p) w) y (anchor_token name ∷ [])) (sym h.1)
-    (λ i z. name_along reads around start k qs tokens.Anchor 38 name b behind w y e ad begins_anchor refl h.0 ends i is are low
+    (λ i z. name_along reads around start k qs tokens.Anchor 38 name b behind w y e ad begins_anchor refl h.0 ends i is
+    are low
     z) text r
 
 pub alias_along : ReaderPromises → (around : Around) (start : State) (k : Candidate) (qs : List Place)
@@ -250,7 +253,8 @@ pub alias_along : ReaderPromises → (around : Around) (start : State) (k : Cand
 alias_along reads around start k qs name t b behind w y e ad h ends text is are low r =
     subst (λ (p : List ℕ). InKey around k e (p ++ b) behind → Ready around start k (p ++ (b ++ behind)) e ad qs
     → Along around start k qs (moved (moved e p) w) y (alias_token name ∷ [])) (sym h.1)
-    (λ i z. name_along reads around start k qs tokens.Alias 42 name b behind w y e ad begins_alias refl h.0 ends i is are low z)
+    (λ i z. name_along reads around start k qs tokens.Alias 42 name b behind w y e ad begins_alias refl h.0 ends i is
+    are low z)
     text r
 
 pub tag_along : ReaderPromises → (around : Around) (start : State) (k : Candidate) (qs : List Place) (tag : Tag)

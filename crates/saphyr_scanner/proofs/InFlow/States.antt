@@ -392,4 +392,5 @@ close_collection_gives ends kind ch r m b around d y k j x ls a ad found there i
     ∙ ap (λ (q : Bool). completed_step (behind_pair ends m (from_to m there.mark kind))
     (allow_adjacent (record (core_at around d there x j ls false ad) { required = q })))
     (sym (still_required around x y flows calm))
-    ∙ ap (completed_step (behind_pair ends m (from_to m there.mark kind))) (adjacent_by (is_block x) around d there x j ls ad)
+    ∙ ap (completed_step (behind_pair ends m (from_to m there.mark kind)))
+    (adjacent_by (is_block x) around d there x j ls ad)

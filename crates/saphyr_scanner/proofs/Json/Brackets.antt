@@ -56,7 +56,8 @@ pub further : (m : Marker) (ch : ℕ) (r : List ℕ) (n t : ℕ) → m.index + l
 further m ch r n t e f = omega (arith, e, f)
 
 -- a bracket that opens a collection
-pub open_passes : (limit n : ℕ) → n ≤ limit → (y : Context) (kind : Kind) (ch : ℕ) (r o : List ℕ) → IsContentStart (ch ∷ r)
+pub open_passes : (limit n : ℕ) → n ≤ limit → (y : Context) (kind : Kind) (ch : ℕ) (r o : List ℕ)
+    → IsContentStart (ch ∷ r)
     → IsClean (ch ∷ r)
     → ((second i : ℕ) (c : Core) → step ch second i c ≡ flow.opening_steps y kind i c)
     → (s : Cursor) (x : Context) (k : Option Candidate) (ls : List Level) (a : Bool) (ad : ℕ) (ps : List Place)
@@ -99,9 +100,11 @@ closes ends kind ch r m b y k j x ls a ad found there is =
     let c = core_at false (cursor_at r (along m 1) false) x j ls false ad in
     ap (λ q. (q >>= λ (d : SkipTabs × Cursor). Ok (d.0, with_cursor d.1 c)) >>= λ (d : SkipTabs × Core). completed_step
     (behind_pair ends m (up_to_here m kind d.1)) (allow_adjacent d.1)) is
-    ∙ ap (completed_step (behind_pair ends m (from_to m there.mark kind))) (core_behind_quotes (is_block x) there x j ls ad)
+    ∙ ap (completed_step (behind_pair ends m (from_to m there.mark kind)))
+    (core_behind_quotes (is_block x) there x j ls ad)
 
-pub close_passes : (limit n : ℕ) → n ≤ limit → (y : Context) (kind : Kind) (ch : ℕ) (r o : List ℕ) → IsContentStart (ch ∷ r)
+pub close_passes : (limit n : ℕ) → n ≤ limit → (y : Context) (kind : Kind) (ch : ℕ) (r o : List ℕ)
+    → IsContentStart (ch ∷ r)
     → IsClean (ch ∷ r)
     → ((second i : ℕ) (s : Cursor) (k : Option Candidate) (ls : List Level) (a : Bool) (ad : ℕ)
     → step ch second i (core_at false s y k ls a ad) ≡ close_collection false kind (core_at false s y k ls a ad))

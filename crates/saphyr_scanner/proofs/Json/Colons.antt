@@ -37,7 +37,8 @@ colon_begins_value : (second i : ℕ) (s : Cursor) (k : Option Candidate) (ls : 
 unfolding step flow_value
 colon_begins_value second i s k ls a ad e =
     let c = core_at false s context.FlowMapping k ls a ad in
-    by_test (is_blank_or_breakz second) (value.value_steps c) _ (λ (r : StepResult). r ≡ value.value_steps c) (λ _. refl)
+    by_test (is_blank_or_breakz second) (value.value_steps c) _ (λ (r : StepResult). r ≡ value.value_steps c)
+    (λ _. refl)
     (λ _. rw (eq-eqb s.mark.index ad e, or_right (is_flow second) true refl) refl)
 
 -- behind the colon

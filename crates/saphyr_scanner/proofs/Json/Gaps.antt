@@ -125,12 +125,14 @@ white_passed (c ∷ w) follow m blank broke (white, others) h =
     at_return true e p q = return_case m blank broke w follow e (has_feed w follow h e) p
     at_return false e p q = break_case m blank broke 13 w follow (rw e refl) refl q
 
-    by_kind : IsWhite c → PassesJsonGap (along m 1) blank broke w follow → PassesJsonGap (next_line m 1) true true w follow
+    by_kind : IsWhite c → PassesJsonGap (along m 1) blank broke w follow
+        → PassesJsonGap (next_line m 1) true true w follow
         → PassesJsonGap m blank broke (c ∷ w) follow
     by_kind (inl e) p q = subst (λ (x : ℕ). PassesJsonGap m blank broke (x ∷ w) follow) (sym e)
         (blank_case m blank broke 32 w follow refl refl p)
     by_kind (inr (inl e)) p q =
-        subst (λ (x : ℕ). PassesJsonGap m blank broke (x ∷ w) follow) (sym e) (blank_case m blank broke 9 w follow refl refl p)
+        subst (λ (x : ℕ). PassesJsonGap m blank broke (x ∷ w) follow) (sym e)
+        (blank_case m blank broke 9 w follow refl refl p)
     by_kind (inr (inr (inl e))) p q =
         subst (λ (x : ℕ). PassesJsonGap m blank broke (x ∷ w) follow) (sym e)
         (break_case m blank broke 10 w follow refl refl q)

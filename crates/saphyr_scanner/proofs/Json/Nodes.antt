@@ -76,7 +76,8 @@ strung_passes y o v text still h =
     }
 
 retold : {limit n : ℕ} {start : State} {fresh : Bool} {x : Context} {ls : List Level} {ps : List Place} {o : List ℕ}
-    (ts us : List Kind) → ts ≡ us → PassesJson limit n start fresh x ls ps o ts → PassesJson limit n start fresh x ls ps o us
+    (ts us : List Kind) → ts ≡ us → PassesJson limit n start fresh x ls ps o ts
+    → PassesJson limit n start fresh x ls ps o us
 retold {limit = limit} {n = n} {start = start} {fresh = fresh} {x = x} {ls = ls} {ps = ps} {o = o} ts us e p =
     subst (PassesJson limit n start fresh x ls ps o) e p
 

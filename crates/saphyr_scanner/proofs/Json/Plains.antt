@@ -54,7 +54,8 @@ word_step reads n m b t o y h w white behind x k ls a ad ends =
     let kind = tokens.Scalar Plain (encode_utf8_all t) in
     let all : length (t ++ o) ≡ length t + length o = length-append t o in
     let more : length o ≡ length w + length y = ap length behind ∙ length-append w y in
-    let token = λ (z : List ℕ × Marker × Option Marker × Cursor). completed_step (from_to m z.1 (tokens.Scalar Plain z.0) ∷ [])
+    let token = λ (z : List ℕ × Marker × Option Marker × Cursor). completed_step
+    (from_to m z.1 (tokens.Scalar Plain z.0) ∷ [])
     (behind_plain z.2 z.3 c) in
     let refused : (not (is_block x) && nat_lt m.col 0) ≡ false =
     ap (λ (q : Bool). not (is_block x) && q) (none_below_zero m.col) ∙ and_false (not (is_block x)) in

@@ -105,8 +105,10 @@ behind_step : (m : Marker) (text : List ℕ) (s : Cursor) (x : Context) (k : Opt
 unfolding behind_quotes
 behind_step m text s x k ls ad y p g goes =
     let c = core_at false s x k ls false ad in
-    let token = λ (d : Core). completed_step (from_to m p.there.mark (tokens.Scalar DoubleQuoted text) ∷ []) (adjacent_here d) in
-    ap (λ q. (q >>= λ (d : SkipTabs × Cursor). Ok (d.0, with_cursor d.1 c)) >>= λ (d : SkipTabs × Core). behind_quoted_line m
+    let token = λ (d : Core). completed_step (from_to m p.there.mark (tokens.Scalar DoubleQuoted text) ∷ [])
+    (adjacent_here d) in
+    ap (λ q. (q >>= λ (d : SkipTabs × Cursor). Ok (d.0, with_cursor d.1 c))
+    >>= λ (d : SkipTabs × Core). behind_quoted_line m
     DoubleQuoted text d.1) p.is
     ∙ rw goes (ap (λ q. q >>= token) g.is)
 

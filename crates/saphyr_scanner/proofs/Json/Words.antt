@@ -178,8 +178,10 @@ pub record IsValueEnd (c : ℕ) : Type 0 where
 
 mark_behind : (c : ℕ) → (c ≡ 44) ⊎ (c ≡ 93) ⊎ (c ≡ 125) → IsValueEnd c
 mark_behind c (inl e) = subst IsValueEnd (sym e) (record { blank = refl; break = refl; flow = refl; colon = refl })
-mark_behind c (inr (inl e)) = subst IsValueEnd (sym e) (record { blank = refl; break = refl; flow = refl; colon = refl })
-mark_behind c (inr (inr e)) = subst IsValueEnd (sym e) (record { blank = refl; break = refl; flow = refl; colon = refl })
+mark_behind c (inr (inl e)) = subst IsValueEnd (sym e)
+    (record { blank = refl; break = refl; flow = refl; colon = refl })
+mark_behind c (inr (inr e)) = subst IsValueEnd (sym e)
+    (record { blank = refl; break = refl; flow = refl; colon = refl })
 
 neither : (a b : Bool) → (a && not (b || true)) ≡ false
 neither true true = refl

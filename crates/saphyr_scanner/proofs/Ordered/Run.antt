@@ -25,7 +25,8 @@ FollowsInOrder n low r = AreInOrder n low r.pieces
 
 -- what stands in front of a token, and the token
 place_first : (n low : ℕ) (o : Opening) (t : Piece) (r : Remaining) → low ≤ t.span.start.index
-    → t.span.start.index ≤ t.span.end.index → FollowsInOrder n t.span.end.index r → FollowsInOrder n low (before_place o t r)
+    → t.span.start.index ≤ t.span.end.index → FollowsInOrder n t.span.end.index r
+    → FollowsInOrder n low (before_place o t r)
 place_first n low opening.Nothing t r a b h = (a, b, h)
 place_first n low opening.Key t r a b h = (a, omega arith, (omega arith, b, h))
 place_first n low opening.BlockMappingAndKey t r a b h =
@@ -35,7 +36,8 @@ place_first n low opening.FlowMappingAndKey t r a b h =
 
 handed_in_order : (n : ℕ) (go : State → Remaining) (c : Core)
     → ((low k : ℕ) (ps : List Place) → InOrder low (holding c ps k) → FollowsInOrder n low (go (holding c ps k)))
-    → (low k : ℕ) (ps : List Place) → InOrder low (holding c ps k) → FollowsInOrder n low (hand_out ps go (holding c ps k))
+    → (low k : ℕ) (ps : List Place) → InOrder low (holding c ps k)
+    → FollowsInOrder n low (hand_out ps go (holding c ps k))
 handed_in_order n go c others low k [] h = others low k [] h
 handed_in_order n go c others low k (p ∷ ps) h =
     let next = handed_in_order n go c others p.piece.span.end.index (k + 1) ps h.2 in
@@ -51,7 +53,8 @@ low_within n low s w h = omega (arith, w, places_within s.core.cursor.mark.index
 
 delivers_in_order : (n low : ℕ) (s : State) (r : Result State Refusal) (go : State → Remaining) → IsCounted n s
     → InOrder low s
-    → ((t : State) → r ≡ Ok t → GrowsInOrder s t) → ((t : State) → IsCounted n t → InOrder low t → FollowsInOrder n low (go t))
+    → ((t : State) → r ≡ Ok t → GrowsInOrder s t)
+    → ((t : State) → IsCounted n t → InOrder low t → FollowsInOrder n low (go t))
     → FollowsInOrder n low (remaining_after r go)
 delivers_in_order n low s (Ok t) go w h g others =
     let a = g t refl in others t (omega (arith, w, a.ahead.counted)) (a.ordered low h)

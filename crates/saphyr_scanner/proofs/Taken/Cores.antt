@@ -90,7 +90,8 @@ holds_forgotten columns from c q h =
     (taken.nothing _ _) h
 
 -- outside flow nothing encloses the level
-pub outermost : (columns : List ℕ) (from : Cursor) (c : Core) (q : Queue) → HoldsTaken columns from c q → in_block c ≡ true
+pub outermost : (columns : List ℕ) (from : Cursor) (c : Core) (q : Queue) → HoldsTaken columns from c q
+    → in_block c ≡ true
     → c.outer ≡ []
 outermost columns from c q h e = h.keys.0 e
 
@@ -127,7 +128,8 @@ quiet_put columns from c d q t here behind e a is b l h = record {
   keys =
       let k = keys_put (next q) q c.indent (c.level ∷ c.outer) t e h.keys in
       let n = next_put t q in
-      keys_of (next (with_piece t q)) (with_piece t q) c.indent d.indent c.level d.level c.outer d.outer l.indent l.level l.outer
+      keys_of (next (with_piece t q)) (with_piece t q) c.indent d.indent c.level d.level c.outer d.outer l.indent
+      l.level l.outer
       (keys_weaken (next q) (next (with_piece t q)) (with_piece t q) c.indent (c.level ∷ c.outer) (omega (arith, n)) k);
 }
 
@@ -165,7 +167,8 @@ saved_taken columns from n c d q s h =
 -- the token that may be a key
 pub saved_keys : (c : Core) (q : Queue) (t : Piece) (d : Core) → is_quiet t.kind ≡ true → Begins t
     → t.span.start ≡ c.cursor.mark → (in_block c ≡ true → c.indent ≤ c.cursor.mark.col + 1) → Saved (next q) c d
-    → Keys (next q) q c.indent (c.level ∷ c.outer) → Keys (next (with_piece t q)) (with_piece t q) d.indent (d.level ∷ d.outer)
+    → Keys (next q) q c.indent (c.level ∷ c.outer)
+    → Keys (next (with_piece t q)) (with_piece t q) d.indent (d.level ∷ d.outer)
 saved_keys c q t d e b m deep s h = by s.level
   where
     more : next (with_piece t q) ≡ next q + 1
@@ -178,8 +181,10 @@ saved_keys c q t d e b m deep s h = by s.level
         ⊎ (d.level ≡ record { context = c.level.context; key = Some (record { mark = c.cursor.mark; place = next q }) })
         → Keys (next (with_piece t q)) (with_piece t q) d.indent (d.level ∷ d.outer)
     by (inl f) =
-        keys_of (next (with_piece t q)) (with_piece t q) c.indent d.indent c.level d.level c.outer d.outer s.indent f s.outer
-        (keys_weaken (next q) (next (with_piece t q)) (with_piece t q) c.indent (c.level ∷ c.outer) (omega (arith, more))
+        keys_of (next (with_piece t q)) (with_piece t q) c.indent d.indent c.level d.level c.outer d.outer s.indent f
+        s.outer
+        (keys_weaken (next q) (next (with_piece t q)) (with_piece t q) c.indent (c.level ∷ c.outer)
+        (omega (arith, more))
         (keys_put (next q) q c.indent (c.level ∷ c.outer) t e h))
     by (inr f) =
         let outers = keys_weaken (lower (next q) c.level.key) (next q) q c.indent c.outer
@@ -247,7 +252,8 @@ open_quiet columns from c q k o e is h =
 -- a block mapping and a key
 pub open_loud : (columns : List ℕ) (from : Cursor) (c : Core) (q : Queue) (k : Candidate) → in_block c ≡ true
     → c.level.key ≡ Some k → HoldsTaken columns from c q
-    → HoldsTaken columns from (forget_key (enter_block k.mark.col c)) (with_opening k.place opening.BlockMappingAndKey q)
+    → HoldsTaken columns from (forget_key (enter_block k.mark.col c))
+    (with_opening k.place opening.BlockMappingAndKey q)
 open_loud columns from c q k e is h =
     let known = key_known (next q) q (is_block c.level.context) c.indent c.level.key k c.outer is h.keys.1 h.keys.2 in
     let d : Core = forget_key (enter_block k.mark.col c) in
@@ -283,7 +289,8 @@ unfolding pass_gap check_comment
 behind_gap_of P c f go = by (gaps.whole_gap (least_column c) c.cursor)
     (gap_apart (least_column c) false false c.cursor)
   where
-    checked : (m : Option Marker) (d : Core) → Alike c d → AreApart c.cursor d.cursor → Given P (check_comment_of m d >>= f)
+    checked : (m : Option Marker) (d : Core) → Alike c d → AreApart c.cursor d.cursor
+        → Given P (check_comment_of m d >>= f)
     checked None d a p = go d a p
     checked (Some m) d a p =
         let e : Core = record d { comment = None } in

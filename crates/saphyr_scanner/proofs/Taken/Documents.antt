@@ -32,7 +32,8 @@ HoldsState columns from s = HoldsTaken columns from s.core s.queue
 
 -- all block collections end, and no key is left
 pub forgotten_unrolled : (columns : List ℕ) (from : Cursor) (s : State) → HoldsState columns from s
-    → HoldsTaken columns from (forget_key (unroll None s.core.cursor.mark s).core) (unroll None s.core.cursor.mark s).queue
+    → HoldsTaken columns from (forget_key (unroll None s.core.cursor.mark s).core)
+    (unroll None s.core.cursor.mark s).queue
 unfolding unroll
 forgotten_unrolled columns from s h =
     let m = s.core.cursor.mark in

@@ -81,7 +81,8 @@ held : (columns : List ℕ) (from : Cursor) (r : Result State Refusal) → Given
 held columns from (Ok t) h = holds_fetched columns from t.core t.queue h
 held columns from (Err e) h = tt
 
-after_step_fetched : (columns : List ℕ) (from : Cursor) (q : Queue) (r : StepResult) → Given (FetchedStep columns from q) r
+after_step_fetched : (columns : List ℕ) (from : Cursor) (q : Queue) (r : StepResult)
+    → Given (FetchedStep columns from q) r
     → Given (λ (t : State). Fetched columns from t.core t.queue) (after_step r q)
 after_step_fetched columns from q (Ok x) h = h
 after_step_fetched columns from q (Err e) h = tt
@@ -127,7 +128,8 @@ here_read laws text small columns from s l going a =
     (λ x k. k.fetched laws text small columns from s.queue l refl
     (λ _. deep_of s.core.deeper s.core.indent s.core.cursor.mark.col e) h)
     (step_does (slice_index t 0) (slice_index t 1) (next s.queue) s.core some refl refl)))
-    (after_step_fetches _ s r (step_effect (slice_index t 0) (slice_index t 1) (next s.queue) s.core some refl refl))))))))
+    (after_step_fetches _ s r (step_effect (slice_index t 0) (slice_index t 1) (next s.queue) s.core some refl
+    refl))))))))
 
 begin_live : (columns : List ℕ) (from : Cursor) (s : State) → TakenState columns from s → Live s.core s.queue
     → Live (record s.core { started = true }) (with_piece (empty_piece s.core.cursor.mark tokens.StreamStart) s.queue)

@@ -69,7 +69,8 @@ taken_put columns from c d q t here behind a is b o h =
     (here, behind, apart, subst (λ j. IsToken j t.kind t.span here behind) (sym i) is, refl) in
     let all = tokens_append columns (flat q.places) (t ∷ []) from h.last behind h.tokens one in
     let same : flat q.places ++ t ∷ [] ≡ flat (with_piece t q).places = sym (flat_put t q) in
-    let places_with_opening : open_all (flat (with_piece t q).places) columns ≡ open_behind t.kind t.span.start.col open_now =
+    let places_with_opening : open_all (flat (with_piece t q).places) columns
+    ≡ open_behind t.kind t.span.start.col open_now =
     ap (λ l. open_all l columns) (flat_put t q) ∙ open_append (flat q.places) (t ∷ []) columns in
     record {
       last = behind;
@@ -145,7 +146,8 @@ key_put b q block i (Some k) t e x = record {
   front = x.front;
   back = x.back ++ bare_place t ∷ [];
   token = x.token;
-  places = ap (λ l. l ++ bare_place t ∷ []) x.places ∙ append_assoc x.front (bare_place x.token ∷ x.back) (bare_place t ∷ []);
+  places = ap (λ l. l ++ bare_place t ∷ []) x.places
+      ∙ append_assoc x.front (bare_place x.token ∷ x.back) (bare_place t ∷ []);
   at = x.at;
   below = x.below;
   marked = x.marked;
@@ -203,7 +205,8 @@ key_open b n q block i (Some k) o e h x =
       front = x.front;
       back = places_with_opening m o x.back;
       token = x.token;
-      places = ap (λ j. places_with_opening j o q.places) is ∙ ap (places_with_opening (length x.front + suc m) o) x.places
+      places = ap (λ j. places_with_opening j o q.places) is
+          ∙ ap (places_with_opening (length x.front + suc m) o) x.places
           ∙ with_opening_behind o x.front m (bare_place x.token) x.back;
       at = x.at;
       below = x.below;

@@ -107,7 +107,8 @@ pub with_opening_behind : (o : Opening) (front : List Place) (n : ℕ) (p : Plac
 with_opening_behind o [] n p back = let e : 0 + suc n ≡ suc n = omega arith in rw e refl
 with_opening_behind o (f ∷ front) n p back =
     let e : length (f ∷ front) + suc n ≡ suc (length front + suc n) = omega arith in
-    ap (λ i. places_with_opening i o (f ∷ (front ++ p ∷ back))) e ∙ ap (λ r. f ∷ r) (with_opening_behind o front n p back)
+    ap (λ i. places_with_opening i o (f ∷ (front ++ p ∷ back))) e
+    ∙ ap (λ r. f ∷ r) (with_opening_behind o front n p back)
 
 -- a token with a text, which begins where its span does
 abbrev pub Begins : Piece → Type 0
@@ -160,7 +161,8 @@ pub place_tokens : (columns : List ℕ) (o : Opening) (front : List Place) (t : 
     → AreTokens columns (flat (front ++ with_front o t ∷ back)) s u
 place_tokens columns o front t back s u b q h =
     let P : List Piece → Type 0 = λ l. AreTokens columns l s u in
-    let r = tokens_part columns (flat front) (t ∷ flat back) s u (subst P (flat_append front (bare_place t ∷ back)) h) in
+    let r = tokens_part columns (flat front) (t ∷ flat back) s u
+    (subst P (flat_append front (bare_place t ∷ back)) h) in
     let k = opening_tokens (open_all (flat front) columns) o t (flat back) r.between u b q r.back in
     subst P (sym (flat_append front (with_front o t ∷ back)))
     (tokens_append columns (flat front) (place_pieces o t ++ flat back) s r.between u r.front k)

@@ -122,7 +122,8 @@ FollowsTaken text columns from r =
 
 place_follows : (text columns : List ℕ) (from between : Cursor) (o : Opening) (t : Piece) (r : Remaining)
     → AreTokens columns (place_pieces o t) from between
-    → FollowsTaken text (open_all (place_pieces o t) columns) between r → FollowsTaken text columns from (before_place o t r)
+    → FollowsTaken text (open_all (place_pieces o t) columns) between r
+    → FollowsTaken text columns from (before_place o t r)
 place_follows text columns from between o t r h k =
     by o (tokens_append columns (place_pieces o t) r.pieces from between k.0 h k.1)
   where

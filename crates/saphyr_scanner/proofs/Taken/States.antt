@@ -172,7 +172,8 @@ block_fetched laws text small columns from q style c d l s h b bd f x e =
     let by : (o : Option Candidate) → d.level.key ≡ o → d.cursor.mark.line < x.2.mark.line
     → (Live e2 (with_piece piece q)) ⊎ (IsFar e2) =
     λ o g less. elim o as (λ y. d.level.key ≡ y → (Live e2 (with_piece piece q)) ⊎ (IsFar e2)) [
-      | None ↦ λ i. inl (λ nz. no_keys (next (with_piece piece q)) (with_piece piece q) d.indent d.level d.outer i (s.outer ∙ none))
+      | None ↦ λ i. inl (λ nz. no_keys (next (with_piece piece q)) (with_piece piece q) d.indent d.level d.outer i
+          (s.outer ∙ none))
       | Some k ↦ λ i. inr (
         far_of e2 (Some k) i bd k refl
             (let w = key_line columns from q c d l2 s h k i in omega (arith, w, less)),

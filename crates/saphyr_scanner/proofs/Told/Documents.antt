@@ -58,7 +58,8 @@ documents_told : (s : State) → Premises s.core → (r : Result State Refusal)
 documents_told s laws (Ok t) h = inl (h.comment laws.2)
 documents_told s laws (Err e) h = h laws
 
-after_step_told : (s : Cursor) (r : StepResult) (q : Queue) → HoldsOrRefuses NotedStep s r → HoldsOrRefuses NotedState s (after_step r q)
+after_step_told : (s : Cursor) (r : StepResult) (q : Queue) → HoldsOrRefuses NotedStep s r
+    → HoldsOrRefuses NotedState s (after_step r q)
 after_step_told s (Ok x) q h = h
 after_step_told s (Err e) q h = h
 

@@ -21,7 +21,8 @@ use Rattle.saphyr_scanner.proofs.Told.Documents.{NotedState, on_core_told, fetch
 use Rattle.saphyr_input.proofs.Basics.Booleans.{by_test}
 use Rattle.saphyr_scalar.proofs.Given.{Given}
 
-pub told_ok : {X : Type 0} → (P : X → Type 0) (s : Cursor) (r : Result X Refusal) (x : X) → HoldsOrRefuses P s r → r ≡ Ok x → P x
+pub told_ok : {X : Type 0} → (P : X → Type 0) (s : Cursor) (r : Result X Refusal) (x : X) → HoldsOrRefuses P s r
+    → r ≡ Ok x → P x
 told_ok P s (Ok y) x h e = let same : y ≡ x = cc in subst P same h
 told_ok P s (Err f) x h e = absurd (cc)
 
@@ -68,7 +69,8 @@ read_told laws refusals text small limit columns from s l a going h n =
     by (Ok t) k m =
         let there = reaches_reaches (fresh text) from t.core.cursor a
         (taken_reached columns from t.core t.queue k.fetched.taken) in
-        by_test (nat_le t.core.cursor.mark.index limit) _ _ (λ r. HoldsOrRefuses NotedState (fresh text) (r >>= without_far_key))
+        by_test (nat_le t.core.cursor.mark.index limit) _ _
+        (λ r. HoldsOrRefuses NotedState (fresh text) (r >>= without_far_key))
         (λ _. settled_told text t there m)
         (λ _. at_further (fresh text) t.core.cursor t.core.cursor.mark there (at_here t.core.cursor))
     by (Err e) k m = m

@@ -22,12 +22,14 @@ HoldsOrRefuses P s (Ok x) = P x
 HoldsOrRefuses P s (Err e) = At s e.mark
 
 pub told_then : {X Y : Type 0}
-    → (P : X → Type 0) (Q : Y → Type 0) (s : Cursor) (r : Result X Refusal) (f : X → Result Y Refusal) → HoldsOrRefuses P s r
+    → (P : X → Type 0) (Q : Y → Type 0) (s : Cursor) (r : Result X Refusal) (f : X → Result Y Refusal)
+    → HoldsOrRefuses P s r
     → ((x : X) → P x → HoldsOrRefuses Q s (f x)) → HoldsOrRefuses Q s (r >>= f)
 told_then P Q s (Ok x) f h go = go x h
 told_then P Q s (Err e) f h go = h
 
-pub told_further : {X : Type 0} → (P : X → Type 0) (s t : Cursor) (r : Result X Refusal) → Reaches s t → HoldsOrRefuses P t r
+pub told_further : {X : Type 0} → (P : X → Type 0) (s t : Cursor) (r : Result X Refusal) → Reaches s t
+    → HoldsOrRefuses P t r
     → HoldsOrRefuses P s r
 told_further P s t (Ok x) a h = h
 told_further P s t (Err e) a h = at_further s t e.mark a h
@@ -60,7 +62,8 @@ goes_still s c d e g = let P : Cursor → Type 0 = λ u. Reaches s u in (subst P
 pub drop_still : (c : Core) → HoldsOrRefuses (Still c) c.cursor (drop_far_key c)
 unfolding drop_far_key
 drop_still c =
-    by_test (not (in_block c && is_too_far c.level.key c.cursor.mark)) _ _ (HoldsOrRefuses (Still c) c.cursor) (λ _. (refl, refl))
+    by_test (not (in_block c && is_too_far c.level.key c.cursor.mark)) _ _ (HoldsOrRefuses (Still c) c.cursor)
+    (λ _. (refl, refl))
     (λ _. by_test c.required _ _ (HoldsOrRefuses (Still c) c.cursor) (λ _. at_here c.cursor) (λ _. (refl, refl)))
 
 -- ## What is passed
@@ -77,11 +80,13 @@ gap_told c n =
     checked (Some m) d q (inl f) a = absurd (cc)
     checked (Some m) d q (inr f) a =
         let e : Core = record d { comment = None } in
-        by_test (goes_on_behind m e) _ _ (HoldsOrRefuses (Goes c.cursor) c.cursor) (λ _. here_at c.cursor m (cc)) (λ _. (a, refl))
+        by_test (goes_on_behind m e) _ _ (HoldsOrRefuses (Goes c.cursor) c.cursor) (λ _. here_at c.cursor m (cc))
+        (λ _. (a, refl))
 
     by : (r : Result gaps.GapEnd Refusal) → Given (λ (p : gaps.GapEnd). AreApart c.cursor p.cursor) r
         → Refused c.cursor.mark c.cursor.rest r
-        → HoldsOrRefuses (Goes c.cursor) c.cursor (r >>= λ g. check_comment_of (behind_gap c g).comment (behind_gap c g))
+        → HoldsOrRefuses (Goes c.cursor) c.cursor
+        (r >>= λ g. check_comment_of (behind_gap c g).comment (behind_gap c g))
     by (Ok g) h k = checked c.comment (behind_gap c g) refl n
         (apart_reached c.cursor.mark c.cursor.rest g.cursor.mark g.cursor.rest h)
     by (Err e) h k = at_reached c.cursor e.mark k.0 k.1

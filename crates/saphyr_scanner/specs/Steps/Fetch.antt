@@ -89,7 +89,8 @@ fetch s = if s.core.started then (arrive s >>= fetch_here) else Ok (begin s)
 
 -- a text that is longer than the limit is refused once a token has passed it
 abbrev pub check_limit : ℕ → State → Result State Refusal
-check_limit limit s = if nat_le s.core.cursor.mark.index limit then Ok s else refuse fault.TextTooLong s.core.cursor.mark
+check_limit limit s = if nat_le s.core.cursor.mark.index limit then Ok s else
+    refuse fault.TextTooLong s.core.cursor.mark
 
 unfoldable pub fetch_within : ℕ → State → Result State Refusal
 fetch_within limit s = fetch s >>= check_limit limit

@@ -42,7 +42,8 @@ behind_pair ends m a = if ends then at_mark m tokens.FlowMappingEnd ∷ a ∷ []
 
 unfoldable pub close_collection : Bool → Kind → Core → StepResult
 close_collection ends kind c =
-    separate (pass_on 1 (leave c)) >>= λ d. completed_step (behind_pair ends c.cursor.mark (up_to_here c.cursor.mark kind d.1))
+    separate (pass_on 1 (leave c)) >>= λ d. completed_step
+    (behind_pair ends c.cursor.mark (up_to_here c.cursor.mark kind d.1))
     (allow_adjacent d.1)
 
 -- a bracket, before which an open pair may end

@@ -64,7 +64,11 @@ pub record SpacesEnd : Type 0 where
   pub space : Bool
 
 abbrev pub spaces_end : Marker → Bool → Bool → List ℕ → SpacesEnd
-spaces_end m blank found text = record { cursor = record { rest = text; mark = m; blank_so_far = blank }; space = found }
+spaces_end m blank found text = record {
+  cursor = record { rest = text; mark = m; blank_so_far = blank };
+  space =
+      found;
+}
 
 abbrev mutual
   pub spaces : Marker → Bool → Bool → List ℕ → SpacesEnd

@@ -35,7 +35,8 @@ adjacent_here c = record c { adjacent = c.cursor.mark.index }
 abbrev pub behind_quoted_line : Marker → ScalarStyle → List ℕ → Core → StepResult
 behind_quoted_line start style text c =
     if goes_on_behind_quotes start c
-    then (pass_gap c >>= λ d. completed_step (from_to start c.cursor.mark (tokens.Scalar style text) ∷ []) (adjacent_here d))
+    then (pass_gap c >>= λ d. completed_step (from_to start c.cursor.mark (tokens.Scalar style text) ∷ [])
+    (adjacent_here d))
     else refuse fault.ContentAfterQuotes c.cursor.mark
 
 -- what stands behind a quoted scalar

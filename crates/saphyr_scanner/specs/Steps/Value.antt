@@ -51,7 +51,8 @@ opening_actions begins start c =
 unfoldable pub value_alone : Bool → Marker → Core → StepResult
 value_alone begins start c =
     if in_block c && not c.key_allowed then refuse fault.ValueNotAllowed start
-    else completed_step (opening_actions begins start c) (record (go_deeper (roll start.col c)) { key_allowed = in_block c })
+    else completed_step (opening_actions begins start c)
+    (record (go_deeper (roll start.col c)) { key_allowed = in_block c })
 
 unfoldable pub behind_key : Option Candidate → Bool → Marker → Core → StepResult
 behind_key (Some k) begins start c = value_of_key k begins start c

@@ -60,7 +60,8 @@ impl<T: Input> Engine<T> {
         begins_pair: bool,
         start: Marker,
     ) -> Result<(), Stop>
-        ensures { ActsBy (value.value_of_key (candidate key) begins_pair start) self.old result self.new }
+        ensures { ActsBy (value.value_of_key (candidate key) begins_pair start)
+            self.old result self.new }
     {
         if begins_pair && key.mark.line < start.line {
             return Err(Self::refuse(FaultText::MisplacedColon, start));

@@ -82,7 +82,8 @@ impl Held {
 
     /// Tells what stands in front of the nth of the tokens, if there are so many.
     pub(super) fn open(&mut self, nth: usize, opening: Opening)
-        ensures { held_places self.new ≡ spec.places_with_opening nth opening (held_places self.old) }
+        ensures { held_places self.new
+            ≡ spec.places_with_opening nth opening (held_places self.old) }
     {
         if let Some(place) = self.places.get_mut(nth) {
             place.open(opening);

@@ -32,7 +32,8 @@ impl Texts {
     #[inline(always)]
     pub(super) fn keep(&mut self, text: &str) -> Result<Option<TextPlace>, AllocError>
         ensures grows { GrowsBehind self.old.bytes.items self.new.bytes.items }
-        ensures kept { IfOk result (λ found. IfSome found (IsHeldAs self.new.bytes.items text.now)) }
+        ensures kept { IfOk result
+            (λ found. IfSome found (IsHeldAs self.new.bytes.items text.now)) }
     {
         let (Ok(start), Ok(count)) = (u32::try_from(self.bytes.len()), u32::try_from(text.len()))
         else {

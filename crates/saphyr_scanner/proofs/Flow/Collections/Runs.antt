@@ -134,7 +134,8 @@ parted_by indent w t parts b =
 
 -- the piece inside brackets, behind their front
 inner_fits : {around : Around} (m : Marker) (front opening inside closing o : List ℕ)
-    → around.indent ≤ (moved (moved m front) opening).col → FitsAround around m (front ++ (opening ++ (inside ++ closing))) o
+    → around.indent ≤ (moved (moved m front) opening).col
+    → FitsAround around m (front ++ (opening ++ (inside ++ closing))) o
     → FitsAround around (moved (moved m front) opening) inside (closing ++ o)
 inner_fits {around} m front opening inside closing o right fits =
     fits_front (moved (moved m front) opening) inside closing o

@@ -176,7 +176,8 @@ pub reads_root : {limit : ℕ} {start : State} {P : Marker → Bool → Type 0} 
     → indent_at place ≡ 0 → (node : Node) (t others : List ℕ) (ts : List Kind)
     → IsBlockNode most_open node place t others
     → ((m : Marker) → AtLine others m → Lands m others) → IsPlainBehind others
-    → (v : StandsInStream limit start true P (t ++ others) ts) → FitsOnLines limit v.mark t others → IsPlaced place v.mark
+    → (v : StandsInStream limit start true P (t ++ others) ts) → FitsOnLines limit v.mark t others
+    → IsPlaced place v.mark
     → ((is_compact place || crosses (t ++ others)) ≡ true → (crosses v.there.rest || v.allowed) ≡ true)
     → NodeStands limit start node place others ts
 reads_root {limit} {start} leaves place flat_place node t others ts h lands plain v fits placed opens =
