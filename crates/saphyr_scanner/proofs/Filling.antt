@@ -49,9 +49,9 @@ enough laws limit (suc n) (suc m) s a b =
     go false e h = rw e refl
 
 -- one token more
-pub one_more : Readers → (limit : ℕ) (s u : State) → needs_token s ≡ true → read limit s ≡ Ok u
+pub fetched_is_one_more : Readers → (limit : ℕ) (s u : State) → needs_token s ≡ true → read limit s ≡ Ok u
     → fill_in (suc (size u.core)) limit u ≡ fill_in (suc (size s.core)) limit s
-one_more laws limit s u needs e =
+fetched_is_one_more laws limit s u needs e =
     let less = smaller_read laws limit s u needs e in
     let unfolded : fill_in (suc (size s.core)) limit s ≡ fill_in (size s.core) limit u = rw (needs, e) refl in
     enough laws limit (suc (size u.core)) (size s.core) u (omega arith) less ∙ sym unfolded

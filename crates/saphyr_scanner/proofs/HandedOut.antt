@@ -22,7 +22,7 @@ use Rattle.saphyr_scalar.specs.Steps.Directive as directives
 use Rattle.saphyr_scanner.proofs.Taken.Candidates.{Above, ActionsAbove, KeepsPlacesAbove}
 use Rattle.saphyr_scanner.proofs.Taken.Separated.{given_map}
 use Rattle.saphyr_scanner.proofs.Effects.Steps as effects
-use Rattle.saphyr_scanner.proofs.Effects.Fetch.{left, step_effect, arrival_goes}
+use Rattle.saphyr_scanner.proofs.Effects.Fetch.{some_character_left, step_effect, arrival_goes}
 use Rattle.saphyr_scalar.proofs.Given.{Given, given_bind}
 use Rattle.saphyr_scalar.proofs.Breaks.Results.{both_by}
 
@@ -241,7 +241,7 @@ here_agrees hs c q p b k =
     (marker_agrees hs tokens.DocumentStart c q p b k)
     (same_if hs ((c.cursor.mark.col == 0) && is_document_end t) _ _ _ _ (end_marker_agrees hs c q p b k)
     (same_if hs (nat_lt c.cursor.mark.col (least_column c)) _ _ _ _ refl
-    (content_same hs (slice_index t 0) (slice_index t 1) c q p (left t z) refl refl b k))))))
+    (content_same hs (slice_index t 0) (slice_index t 1) c q p (some_character_left t z) refl refl b k))))))
 
 arrive_agrees : (hs : List Place) → AgreesBehind hs arrive
 unfolding arrive

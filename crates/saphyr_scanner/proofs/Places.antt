@@ -7,17 +7,17 @@ use Rattle.saphyr_scanner.specs.declared.queue.place.Place as declared
 use Rattle.saphyr_scanner.specs.declared.queue.Opening.{Opening}
 use Rattle.saphyr_scanner.specs.Steps.Queue.{Place, places_with_opening}
 use Rattle.saphyr_scanner.specs.declared.queue.slot.Slot.{Slot}
-use Rattle.saphyr_scanner.proofs.Queues.{with_front}
+use Rattle.saphyr_scanner.proofs.Queues.{place_with_front}
 use Rattle.saphyr_scanner.specs.Views.Places.{HasHeldText, IsHeldText, place, text_place}
 use Rattle.saphyr_scanner.specs.Views.Queue.{in_slot, slot_place}
 
 -- where `r` is `q`, which stood at that place, with this in front of it
 pub with_opening_is_set : (bytes : List ℕ) (n : ℕ) (o : Opening) (ps : List declared.Place) (q r : declared.Place)
-    → q ≡ slice_index_or ps n q → place bytes r ≡ with_front o (place bytes q).piece
+    → q ≡ slice_index_or ps n q → place bytes r ≡ place_with_front o (place bytes q).piece
     → map (place bytes) (set ps n r) ≡ places_with_opening n o (map (place bytes) ps)
 with_opening_is_set bytes n o [] q r e f = refl
 with_opening_is_set bytes zero o (p ∷ ps) q r e f =
-    ap (λ x. x ∷ map (place bytes) ps) (f ∙ ap (λ x. with_front o (place bytes x).piece) e)
+    ap (λ x. x ∷ map (place bytes) ps) (f ∙ ap (λ x. place_with_front o (place bytes x).piece) e)
 with_opening_is_set bytes (suc n) o (p ∷ ps) q r e f =
     ap (λ x. place bytes p ∷ x) (with_opening_is_set bytes n o ps q r e f)
 

@@ -18,7 +18,7 @@ use Rattle.saphyr_scanner.proofs.Filling.{IsSettled, settled_once}
 use Rattle.saphyr_scanner.proofs.Unroll.{refused_first, rest, remaining_is, settled_is, filled_in}
 use Rattle.saphyr_scalar.proofs.Given.{bind_ok}
 use Rattle.std.proofs.lemmas.Bool.{cond-true, cond-false}
-use Rattle.saphyr_scanner.proofs.Queues.{holding, with_front}
+use Rattle.saphyr_scanner.proofs.Queues.{holding, place_with_front}
 
 -- what is taken of a state, and what remains of it
 abbrev LeavesToken : ℕ → State → State → Option Piece → Type 0
@@ -42,18 +42,18 @@ place_first limit c p ps n ready = cond-false (needs_token (holding c (p ∷ ps)
 
 -- Whether a token has to be read does not depend on what stands in front of the first one.
 place_taken : (limit : ℕ) (c : Core) (o : Opening) (t : Piece) (ps : List Place) (n : ℕ)
-    → needs_token (holding c (with_front o t ∷ ps) n) ≡ false
-    → TakesToken limit (holding c (with_front o t ∷ ps) n) (take_token (holding c (with_front o t ∷ ps) n))
-place_taken limit c opening.Nothing t ps n ready = place_first limit c (with_front opening.Nothing t) ps n ready
+    → needs_token (holding c (place_with_front o t ∷ ps) n) ≡ false
+    → TakesToken limit (holding c (place_with_front o t ∷ ps) n) (take_token (holding c (place_with_front o t ∷ ps) n))
+place_taken limit c opening.Nothing t ps n ready = place_first limit c (place_with_front opening.Nothing t) ps n ready
 place_taken limit c opening.Key t ps n ready =
-    place_first limit c (with_front opening.Key t) ps n ready
-    ∙ ap (before _) (sym (place_first limit c (with_front opening.Nothing t) ps n ready))
+    place_first limit c (place_with_front opening.Key t) ps n ready
+    ∙ ap (before _) (sym (place_first limit c (place_with_front opening.Nothing t) ps n ready))
 place_taken limit c opening.BlockMappingAndKey t ps n ready =
-    place_first limit c (with_front opening.BlockMappingAndKey t) ps n ready
-    ∙ ap (before _) (sym (place_first limit c (with_front opening.Key t) ps n ready))
+    place_first limit c (place_with_front opening.BlockMappingAndKey t) ps n ready
+    ∙ ap (before _) (sym (place_first limit c (place_with_front opening.Key t) ps n ready))
 place_taken limit c opening.FlowMappingAndKey t ps n ready =
-    place_first limit c (with_front opening.FlowMappingAndKey t) ps n ready
-    ∙ ap (before _) (sym (place_first limit c (with_front opening.Key t) ps n ready))
+    place_first limit c (place_with_front opening.FlowMappingAndKey t) ps n ready
+    ∙ ap (before _) (sym (place_first limit c (place_with_front opening.Key t) ps n ready))
 
 first_taken : (limit : ℕ) (c : Core) (ps : List Place) (n : ℕ) → needs_token (holding c ps n) ≡ false
     → TakesToken limit (holding c ps n) (take_token (holding c ps n))

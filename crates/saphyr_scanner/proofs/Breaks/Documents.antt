@@ -181,10 +181,10 @@ line_ends text k c x q r t e =
     (is_breakz (slice_index (normalized c.cursor.rest) 0)) _ _ _ _ (first_is is_breakz refl c.cursor.rest)
     (λ _. ((x, refl, t), e)) (λ _. refl)
 
-behind_marker : (text : List ℕ) (c : Core) (x : Indexes) (q r : Queue) → Laws text → Twin text c x → SameQueues q r
+behind_marker_same : (text : List ℕ) (c : Core) (x : Indexes) (q r : Queue) → Laws text → Twin text c x → SameQueues q r
     → GiveAlike (States text) (on_core_with (separate c) (holding c q) >>= document.end_line)
     (on_core_with (separate (near_core x c)) (holding (near_core x c) r) >>= document.end_line)
-behind_marker text c x q r laws t e = by (separate c) (separate (near_core x c)) (separate_alike text c x laws t)
+behind_marker_same text c x q r laws t e = by (separate c) (separate (near_core x c)) (separate_alike text c x laws t)
   where
     by : (a b : Result (SkipTabs × Core) Refusal) → GiveAlike (Separated text) a b
         → GiveAlike (States text) (on_core_with a (holding c q) >>= document.end_line)
@@ -207,7 +207,7 @@ end_marker_same text c x q r laws t e k =
     (λ a b i j h. of_cores text (λ d f. GiveAlike (States text)
     (on_core_with (separate d) (holding d a.queue) >>= document.end_line)
     (on_core_with (separate f) (holding f b.queue) >>= document.end_line)) a.core b.core h.0
-    (λ y u. behind_marker text a.core y a.queue b.queue laws u h.1))
+    (λ y u. behind_marker_same text a.core y a.queue b.queue laws u h.1))
 
 -- ## Byte order marks
 

@@ -81,9 +81,9 @@ step_effect first second n c h f g =
     (step_does first second n c h f g)
 
 -- a place that shows no NUL is a character
-pub left : (t : List ℕ) → is_z (slice_index t 0) ≡ false → 0 < length t
-left [] e = absurd (cc)
-left (c ∷ cs) e = omega arith
+pub some_character_left : (t : List ℕ) → is_z (slice_index t 0) ≡ false → 0 < length t
+some_character_left [] e = absurd (cc)
+some_character_left (c ∷ cs) e = omega arith
 
 -- ## A token is fetched
 
@@ -165,7 +165,8 @@ here_fetched : (s : State) → s.core.ended ≡ false → Given (Fetched s) (fet
 unfolding fetch_here state_behind_content
 here_fetched s going =
     let t = s.core.cursor.rest in let P = Given (Fetched s) in
-    by_test (is_z (slice_index t 0)) _ _ P (λ _. end_fetched s going) (λ z. let h : 0 < length t = left t z in
+    by_test (is_z (slice_index t 0)) _ _ P (λ _. end_fetched s going) (λ z. let h : 0 < length t =
+    some_character_left t z in
     by_test (is_bom (slice_index t 0)) _ _ P (λ e. of_advances s _ going (documents_advance s _ (mark_walked s e)))
     (λ _. by_test ((s.core.cursor.mark.col == 0) && (slice_index t 0 == 37)) _ _ P
     (λ e. let w = and_parts (s.core.cursor.mark.col == 0) (slice_index t 0 == 37) e in

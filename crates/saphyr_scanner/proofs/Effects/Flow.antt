@@ -18,7 +18,7 @@ use Rattle.saphyr_scanner.specs.Steps.Flow as flow
 use Rattle.saphyr_scanner.specs.TokensTaken as taken
 use Rattle.saphyr_scanner.specs.TokensTaken.{IsToken, IsFlowIndicator, begins_text}
 use Rattle.saphyr_scanner.proofs.Added.Queue.{IsNoEnd}
-use Rattle.saphyr_scanner.proofs.Effects.Moves.{Does, and_then, Same, same, same_same, lesser, further, entered, left}
+use Rattle.saphyr_scanner.proofs.Effects.Moves.{Does, and_then, Same, same, same_same, lesser, further, enter_does, leave_does}
 use Rattle.saphyr_scanner.proofs.Effects.Puts.{Reading, empty_reading, IndicatorStands, passes, indicated, quiet, saving, saved}
 use Rattle.saphyr_scanner.proofs.Effects.Walked.{Premises, Walked, walked_then, walked_map, at_most, Doing}
 use Rattle.saphyr_scanner.proofs.Effects.Walked.{separate_walked}
@@ -107,7 +107,7 @@ start_does i kind x b starts flows n c f =
     (saved n c behind (bracket_piece kind c u) s refl (λ m. inl m) b.quiet b.no_end
     (starts (record { start = c.cursor.mark; end = u.mark }) (omega (arith, later.index))) refl
     (bracket_read i kind c u b f g.1))
-    (and_then (λ n. n) (entered x behind flows)
+    (and_then (λ n. n) (enter_does x behind flows)
     (further (flow.enter x behind) e.1 g.0 (taken.nothing u.mark u.rest))))))
 
 -- ## The end of a collection or an entry
@@ -145,7 +145,7 @@ pub end_does : (i : ℕ) (kind : Kind) → Bracket i kind → (ends : Bool) (c :
 unfolding flow.closing_steps flow.close_collection
 end_does i kind b ends c first =
     by_test (in_block c) _ _ (Walked (Premises c) (Doing None c) c.cursor) (λ _ _. at_here c.cursor)
-    (λ _. left c
+    (λ _. leave_does c
     (λ d. Walked (Premises c) (Doing None c) c.cursor
     (separate (pass_on 1 d) >>= λ e. completed_step
     (flow.behind_pair ends c.cursor.mark (up_to_here c.cursor.mark kind e.1)) (flow.allow_adjacent e.1)))

@@ -209,8 +209,8 @@ level_changes c d e s t b m above holds =
     }
 
 -- a flow collection is entered
-pub entered : (x : Context) (c : Core) → is_block x ≡ false → Does None 0 0 c (flow.enter x c) []
-entered x c e =
+pub enter_does : (x : Context) (c : Core) → is_block x ≡ false → Does None 0 0 c (flow.enter x c) []
+enter_does x c e =
     level_changes c (flow.enter x c) refl refl refl refl (λ n. n) (λ h a. (tt, a))
     (λ columns from q h. record {
       taken = taken_further columns from c (flow.enter x c) q (taken.nothing c.cursor.mark c.cursor.rest) refl refl
@@ -219,10 +219,10 @@ entered x c e =
     })
 
 -- a flow collection is left for the level around it
-pub left : (c : Core) (P : Core → Type 0)
+pub leave_does : (c : Core) (P : Core → Type 0)
     → ((l : Level) (ls : List Level) → Does None 0 0 c (record c { level = l; outer = ls; key_allowed = false }) []
     → P (record c { level = l; outer = ls; key_allowed = false })) → P (flow.leave c)
-left c P f =
+leave_does c P f =
     by c.outer (λ h a. a) (λ q k. keys_weaken (lower (next q) c.level.key) (next q) q c.indent c.outer
     (below_key (next q) q (is_block c.level.context) c.indent c.level.key k.1) k.2)
   where

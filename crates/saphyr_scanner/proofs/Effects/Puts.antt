@@ -22,7 +22,7 @@ use Rattle.saphyr_scanner.proofs.Effects.Moves.{Around, Does, IsBeforePlace, IsN
 use Rattle.saphyr_scanner.proofs.PlainBehind.{IsNoted}
 use Rattle.saphyr_scanner.proofs.Taken.Candidates.{KeyAbove, LevelsAbove, Above}
 use Rattle.saphyr_scanner.proofs.Taken.Cores.{HoldsTaken, outermost, quiet_opens, quiet_put, loud_put}
-use Rattle.saphyr_scanner.proofs.Taken.Cores.{saved_keys, open_quiet, open_loud, indicator}
+use Rattle.saphyr_scanner.proofs.Taken.Cores.{saved_keys, open_quiet, open_loud, indicator_is_passed}
 use Rattle.saphyr_scanner.proofs.Taken.Held.{Stack, taken_put}
 use Rattle.saphyr_scanner.proofs.Taken.Later.{apart_later}
 use Rattle.saphyr_scanner.proofs.Taken.Parts.{is_quiet, Begins, opens_block}
@@ -59,7 +59,7 @@ pub record IndicatorStands (x : ℕ) (s : Cursor) : Type 0 where
   pub is : slice_index s.rest 0 ≡ x
 
 pub passes : (x : ℕ) (s : Cursor) → IndicatorStands x s → Reaches s (pass 1 s)
-passes x s h = character_reached x s (pass 1 s) h.unbroken (indicator x s h.some h.is)
+passes x s h = character_reached x s (pass 1 s) h.unbroken (indicator_is_passed x s h.some h.is)
 
 -- its token, with separation behind it
 pub indicated : (x : ℕ) (c : Core) (u : Cursor) (t : Piece) → IndicatorStands x c.cursor → AreApart (pass 1 c.cursor) u
@@ -68,7 +68,7 @@ pub indicated : (x : ℕ) (c : Core) (u : Cursor) (t : Piece) → IndicatorStand
     → (TakesCharacter x c.cursor (pass 1 c.cursor) → IsToken c.indent t.kind t.span c.cursor (pass 1 c.cursor))
     → Reading 1 c t u
 indicated x c u t stands apart begins inside ends is =
-    let takes = indicator x c.cursor stands.some stands.is in
+    let takes = indicator_is_passed x c.cursor stands.some stands.is in
     let l : length c.cursor.rest ≡ length (x ∷ (pass 1 c.cursor).rest) = ap length takes.0 in
     let later = apart_later (pass 1 c.cursor).mark (pass 1 c.cursor).rest u.mark u.rest apart in
     record {

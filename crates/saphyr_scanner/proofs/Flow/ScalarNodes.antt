@@ -23,7 +23,7 @@ use Rattle.saphyr_scanner.proofs.Flow.Pieces.{fits_front, fits_back}
 use Rattle.saphyr_scanner.proofs.Flow.Joins.{since_join, join, join_root, closes_unnoted, knowing}
 use Rattle.saphyr_scanner.proofs.Flow.Inks.{node_ink}
 use Rattle.saphyr_scanner.proofs.Flow.Low.{start_low, behind_low}
-use Rattle.saphyr_scanner.proofs.Flow.Ends.{white_ends_tag, node_ends_tag, behind_separation, root_first}
+use Rattle.saphyr_scanner.proofs.Flow.Ends.{white_ends_tag, node_ends_tag, ends_behind_separation, root_first}
 use Rattle.saphyr_scanner.proofs.Flow.Properties.{closed_saved, properties_read}
 use Rattle.saphyr_scanner.proofs.Flow.Contents.{content_passes, content_closes, PassesContent, key_content_passes}
 
@@ -149,7 +149,7 @@ pub separation_ends : (indent : ℕ) (in_flow : Bool) (w b o : List ℕ) → w �
     → EndsTag in_flow ((w ++ b) ++ o)
 separation_ends indent in_flow w b o some h =
     subst (EndsTag in_flow) (sym (append_assoc w b o))
-    (white_ends_tag in_flow (w ++ (b ++ o)) (behind_separation indent w (b ++ o) h some))
+    (white_ends_tag in_flow (w ++ (b ++ o)) (ends_behind_separation indent w (b ++ o) h some))
 
 pub full_are : (p : Properties) (style : Style) (value : List ℕ) (tokens : List Kind) (place : grammar.Context)
     → grammar.YieldProperties p tokens

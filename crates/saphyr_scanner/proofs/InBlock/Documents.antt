@@ -117,9 +117,9 @@ reads_explicit {limit = limit} {start = start} leaves d free t others ts may exp
           (token_list ts (map directive_token d.directives) n.tokens tokens.DocumentStart) n.stands;
     }
 
-pub document_text : (directives node others : List ℕ)
+pub text_of_document : (directives node others : List ℕ)
     → (directives ++ (45 ∷ 45 ∷ 45 ∷ node)) ++ others ≡ directives ++ (45 ∷ 45 ∷ 45 ∷ (node ++ others))
-document_text directives node others = simp append_assoc
+text_of_document directives node others = simp append_assoc
 
 clean_node : (directives node : List ℕ) → HasNoReturn (directives ++ (45 ∷ 45 ∷ 45 ∷ node)) → HasNoReturn node
 clean_node directives node h = back_in _ (45 ∷ 45 ∷ 45 ∷ []) node (back_in _ directives (45 ∷ 45 ∷ 45 ∷ node) h)
@@ -194,7 +194,7 @@ reads_document {limit = limit} {start = start} readers leaves d free t others ts
     }
 reads_document {limit = limit} {start = start} readers leaves d free t others ts
     (inr (may, (directives, node, explicit, compatible, are, unmarked, is, e))) lands plain clean v =
-    let text = ap (λ (x : List ℕ). x ++ others) e ∙ document_text directives node others in
+    let text = ap (λ (x : List ℕ). x ++ others) e ∙ text_of_document directives node others in
     let f = reads_front readers d free directives (node ++ others) ts may are
     (subst (λ (x : List ℕ). StandsInStream limit start free (Lined free x) x ts) text v) in
     reads_explicit leaves d free node others ts may explicit compatible unmarked is lands plain

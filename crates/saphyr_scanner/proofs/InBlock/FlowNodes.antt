@@ -33,7 +33,7 @@ use Rattle.saphyr_scanner.proofs.InBlock.Keys.{around_of}
 use Rattle.saphyr_scanner.proofs.InBlock.Lines.{IsLined, FitsOnLines, fits_front, fits_back, fits_so, later_line, moved_lined, past_line}
 use Rattle.saphyr_scanner.proofs.InBlock.Scalars.{gap_reaches, lands_behind}
 use Rattle.saphyr_scanner.proofs.InBlock.Crossings.{content_crosses}
-use Rattle.saphyr_scanner.proofs.InBlock.Statements.{context_at, ReadsAt, allows_block}
+use Rattle.saphyr_scanner.proofs.InBlock.Statements.{context_at, ReadsAt, place_allows_block}
 use Rattle.saphyr_scanner.proofs.InBlock.BehindIndicators.{further_ink}
 use Rattle.saphyr_scanner.proofs.InBlock.Untabbed.{clean_past, settles}
 use Rattle.saphyr_input.proofs.Basics.Booleans.{or_true_swap}
@@ -92,11 +92,11 @@ in_context place (Alias name) ts h = h
 in_context place (Scalar p style value) ts h = h
 in_context place (Seq p nodes) ts (properties, content, are, inl h, is) = (properties, content, are, inl h, is)
 in_context place (Seq p nodes) ts (properties, content, are, inr (inl h), is) =
-    (properties, content, are, inr (inl (allows_block place, h.1)), is)
+    (properties, content, are, inr (inl (place_allows_block place, h.1)), is)
 in_context place (Seq p nodes) ts (properties, content, are, inr (inr h), is) = absurd h.0
 in_context place (Map p pairs) ts (properties, content, are, inl h, is) = (properties, content, are, inl h, is)
 in_context place (Map p pairs) ts (properties, content, are, inr h, is) =
-    (properties, content, are, inr (allows_block place, h.1), is)
+    (properties, content, are, inr (place_allows_block place, h.1), is)
 
 -- ## What may be a key behind it
 

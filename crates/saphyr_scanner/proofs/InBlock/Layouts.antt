@@ -26,7 +26,7 @@ use Rattle.saphyr_scanner.proofs.Effects.Readers.{Readers}
 pub leaves : ReaderPromises → ReadsBlocks → (limit : ℕ) → limit < 2 ^ 63 → ReadsLeaves limit
 leaves reads blocks limit short = record {
   flow = reads_flow reads limit short;
-  block_scalar = scalars.block_scalar blocks short (reads_head reads limit);
+  block_scalar = scalars.reads_block_scalars blocks short (reads_head reads limit);
   key = reads_key reads limit;
   properties = reads_properties reads limit short;
   key_ink = λ node indent t. plain_key_node_ink false indent node t;

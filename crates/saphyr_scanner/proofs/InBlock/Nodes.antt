@@ -18,7 +18,7 @@ use Rattle.saphyr_scanner.proofs.InBlock.States.{Frame, is_compact, EndsDocument
 use Rattle.saphyr_scanner.proofs.InBlock.Closing.{closes_block}
 use Rattle.saphyr_scanner.proofs.InBlock.Skips.{line_end_skipped, line_end_crosses, skipped_past}
 use Rattle.saphyr_scanner.proofs.InBlock.Entries.{frame_behind}
-use Rattle.saphyr_scanner.proofs.InBlock.Statements.{context_at, EndsNodeAt, ArrivedAt, Arrived, NodeRead, ReadsAt, ReadsLeaves, allows_block}
+use Rattle.saphyr_scanner.proofs.InBlock.Statements.{context_at, EndsNodeAt, ArrivedAt, Arrived, NodeRead, ReadsAt, ReadsLeaves, place_allows_block}
 use Rattle.saphyr_scanner.proofs.InBlock.Texts.{behind_wider}
 use Rattle.saphyr_scanner.proofs.InBlock.BehindIndicators.{entries_ink, pairs_ink, further_ink}
 use Rattle.saphyr_scanner.proofs.InBlock.Leads.{reads_lead, lead_col, mapping_least, sequence_least}
@@ -181,7 +181,7 @@ reads_sequence {limit} leaves p node nodes reads more place f same m t o (column
             tokens.BlockSequenceStart
                 ∷ (r.tokens ++ tokens.BlockEnd ∷ []),
             l.are,
-            inr (inl (allows_block place, (r.tokens, r.are, refl))),
+            inr (inl (place_allows_block place, (r.tokens, r.are, refl))),
             refl,
           );
           arrived = subst (λ (x : Marker). Arrived limit start f x o
@@ -249,7 +249,7 @@ reads_mapping {limit} leaves p key value pairs K V more place f same m t o (colu
         tokens.BlockMappingStart
             ∷ (r.tokens ++ tokens.BlockEnd ∷ []),
         l.are,
-        inr (allows_block place, (r.tokens, r.are, refl)),
+        inr (place_allows_block place, (r.tokens, r.are, refl)),
         refl,
       );
       arrived = subst (λ (x : Marker). Arrived limit start f x o

@@ -140,10 +140,11 @@ scalar_are : (p : Properties) (style : Style) (value : List ℕ) (context : gram
 scalar_are p style value context front h = (front, scalar_token style value ∷ [], h, inl refl, refl)
 
 -- Each block scalar is read.
-pub block_scalar : ReadsBlocks → {limit : ℕ} → limit < 2 ^ 63 → ReadsHead limit
+pub reads_block_scalars : ReadsBlocks → {limit : ℕ} → limit < 2 ^ 63 → ReadsHead limit
     → (p : Properties) (style : Style) (value : List ℕ)
     → ReadsAt limit (Scalar p style value) (IsScalarInBlock p style value)
-block_scalar laws {limit} short heads p style value place f same m t o (gap, front, text, gap_is, front_is, styled, e)
+reads_block_scalars laws {limit} short heads p style value place f same m t o
+    (gap, front, text, gap_is, front_is, styled, e)
     fits behind start ts before = by_front front_is
   where
     is : IsStyled style value f.indent text o

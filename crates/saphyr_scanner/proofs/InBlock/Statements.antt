@@ -28,12 +28,12 @@ context_at (BehindMark m) = grammar.InBlockMapping
 context_at (BehindKey m) = grammar.InBlockMapping
 context_at _ = grammar.InBlock
 
-pub allows_block : (place : Position) → grammar.AllowsBlock (context_at place)
-allows_block (BehindDash m) = tt
-allows_block (BehindMark m) = tt
-allows_block (BehindKey m) = tt
-allows_block BehindMarker = tt
-allows_block AtStart = tt
+pub place_allows_block : (place : Position) → grammar.AllowsBlock (context_at place)
+place_allows_block (BehindDash m) = tt
+place_allows_block (BehindMark m) = tt
+place_allows_block (BehindKey m) = tt
+place_allows_block BehindMarker = tt
+place_allows_block AtStart = tt
 
 -- What stands behind a node, from m on: the next token ends the document or stands left of a column, and no tab stands
 -- before it on its line.

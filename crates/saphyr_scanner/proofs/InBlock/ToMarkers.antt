@@ -26,7 +26,7 @@ use Rattle.saphyr_scanner.proofs.InBlock.Statements.{ReadsLeaves}
 use Rattle.saphyr_scanner.proofs.InBlock.Texts.{node_ends}
 use Rattle.saphyr_scanner.proofs.InBlock.Documents.Ends.{AreBlockDocuments, HasNoReturn, OpensMarker, opens_marker, lands_marked, plain_marked, suffix_text}
 use Rattle.saphyr_scanner.proofs.InBlock.Documents.Nodes.{node_marks}
-use Rattle.saphyr_scanner.proofs.InBlock.Documents.{document_text, reads_front, reads_document}
+use Rattle.saphyr_scanner.proofs.InBlock.Documents.{text_of_document, reads_front, reads_document}
 use Rattle.saphyr_scanner.proofs.InBlock.DirectiveLines.{directives_unmarked}
 use Rattle.saphyr_scanner.proofs.InBlock.Streams.{reads_prefix}
 use Rattle.saphyr_scanner.proofs.InBlock.HandedMarkers.{Handed}
@@ -65,9 +65,10 @@ pub record IsMarkerRest (r : List ℕ) : Type 0 where
   pub first : is_blank_or_breakz (slice_index r 0) ≡ true
   pub fed : EndsFed r
 
-indicator : (w : DocumentMarker) (r : List ℕ) → IsMarkerRest r → IsTrue (is_document_indicator (marker_text w ++ r))
-indicator Starts r h = start_ends r h.first
-indicator Ends r h = end_ends r h.first
+marker_is_indicator : (w : DocumentMarker) (r : List ℕ) → IsMarkerRest r
+    → IsTrue (is_document_indicator (marker_text w ++ r))
+marker_is_indicator Starts r h = start_ends r h.first
+marker_is_indicator Ends r h = end_ends r h.first
 
 dash_or_dot : (cs ds : List ℕ) → 45 ∷ cs ≡ 46 ∷ ds → ⊥
 dash_or_dot cs ds e = let k : true ≡ false = ap (λ (x : List ℕ). slice_index x 0 == 45) e in cc
@@ -175,7 +176,8 @@ closes_beyond readers leaves w r more rest d ds free document others ts is behin
     closes_on ts n.tokens (λ all told. (n.tokens, all, n.are, told, refl)) (go (ts ++ n.tokens) n.stands)
   where
     opens : ((ds ≡ []) × IsLastFiller others) ⊎ OpensMarker others → OpensMarker others
-    opens (inl k) = absurd (no_line others (marker_text w ++ r) (last_unmarked others k.1) line (indicator w r rest))
+    opens (inl k) = absurd (no_line others (marker_text w ++ r) (last_unmarked others k.1) line
+        (marker_is_indicator w r rest))
     opens (inr k) = k
 
 -- behind the first dash of a document's marker
@@ -198,16 +200,16 @@ closes_document readers leaves w r more rest found d ds free document others ts 
     behind clean v line go =
     let l = behind_piece true document others line.front (marker_text w ++ r) line.is
     (node_marks true document others (node_ends leaves d.node AtStart document others is) ∙ unmarked) line.line
-    (indicator w r rest) in
+    (marker_is_indicator w r rest) in
     closes_beyond readers leaves w r more rest d ds free document others ts (inl (is_free, (same, unmarked, is))) behind
     clean v l (go l)
 closes_document {limit = limit} {start = start} {marker = marker} readers leaves w r more rest found d ds free document
     others ts (inr (may, (directives, node, explicit, compatible, are, unmarked, is, e))) behind clean v line go =
     let text : document ++ others ≡ directives ++ (45 ∷ 45 ∷ 45 ∷ (node ++ others)) =
-    ap (λ (x : List ℕ). x ++ others) e ∙ document_text directives node others in
+    ap (λ (x : List ℕ). x ++ others) e ∙ text_of_document directives node others in
     let l = behind_piece true directives (45 ∷ 45 ∷ 45 ∷ (node ++ others)) line.front (marker_text w ++ r)
     (sym text ∙ line.is) (directives_unmarked d.directives directives are true (45 ∷ 45 ∷ 45 ∷ (node ++ others)))
-    line.line (indicator w r rest) in
+    line.line (marker_is_indicator w r rest) in
     by_front l.front l.is l.line
   where
     at_marker : (w : DocumentMarker) → Found limit start marker more w r
@@ -217,7 +219,7 @@ closes_document {limit = limit} {start = start} {marker = marker} readers leaves
     at_marker Starts found same =
         let left : node ++ others ≡ r = cc in
         let text : document ++ (others ++ more) ≡ directives ++ (45 ∷ 45 ∷ 45 ∷ (r ++ more)) =
-        ap (λ (x : List ℕ). x ++ (others ++ more)) e ∙ document_text directives node (others ++ more)
+        ap (λ (x : List ℕ). x ++ (others ++ more)) e ∙ text_of_document directives node (others ++ more)
         ∙ ap (λ (x : List ℕ). directives ++ (45 ∷ 45 ∷ 45 ∷ x))
         (sym (append_assoc node others more) ∙ ap (λ (x : List ℕ). x ++ more) left) in
         let f = reads_front readers d free directives (r ++ more) ts may are
@@ -233,7 +235,7 @@ closes_document {limit = limit} {start = start} {marker = marker} readers leaves
         let none = not_dashes node others
         (node_marks false node others (node_ends leaves d.node BehindMarker node others is) ∙ unmarked) in
         let l = behind_piece false (45 ∷ 45 ∷ node) others cs (marker_text w ++ r) left none
-        (subst (λ (x : ℕ). opens_line (x == line_feed) cs ≡ true) first opens) (indicator w r rest) in
+        (subst (λ (x : ℕ). opens_line (x == line_feed) cs ≡ true) first opens) (marker_is_indicator w r rest) in
         closes_beyond readers leaves w r more rest d ds free document others ts
         (inr (may, (directives, node, explicit, compatible, are, unmarked, is, e))) behind clean v l (go l)
 
@@ -261,7 +263,7 @@ closes_behind {limit = limit} {start = start} {marker = marker} w r more rest fo
     is ∙ ap (λ (x : List ℕ). x ++ others) e ∙ suffix_text filler end prefix others in
     let l = behind_piece true filler (46 ∷ 46 ∷ 46 ∷ (end ++ (prefix ++ others))) line.front (marker_text w ++ r)
     (sym text ∙ line.is) (skipped_unmarked filler (filler_skipped filler filler_is) true _) line.line
-    (indicator w r rest) in
+    (marker_is_indicator w r rest) in
     let whole : o ++ more ≡ filler ++ (46 ∷ 46 ∷ 46 ∷ ((end ++ (prefix ++ others)) ++ more)) =
     ap (λ (x : List ℕ). x ++ more) text ∙ append_assoc filler (46 ∷ 46 ∷ 46 ∷ (end ++ (prefix ++ others))) more in
     let first = passes_filler filler (46 ∷ 46 ∷ 46 ∷ ((end ++ (prefix ++ others)) ++ more)) filler_is
@@ -293,9 +295,9 @@ closes_behind {limit = limit} {start = start} {marker = marker} w r more rest fo
         let text : 46 ∷ 46 ∷ (end ++ (prefix ++ others)) ≡ cs ++ (marker_text w ++ r) = cc in
         let k = behind_piece false (46 ∷ 46 ∷ end) (prefix ++ others) cs (marker_text w ++ r) text
         (end_unmarked end (prefix ++ others) end_is false (prefix ++ others))
-        (subst (λ (x : ℕ). opens_line (x == line_feed) cs ≡ true) dot opens) (indicator w r rest) in
+        (subst (λ (x : ℕ). opens_line (x == line_feed) cs ≡ true) dot opens) (marker_is_indicator w r rest) in
         let l = behind_piece true prefix others k.front (marker_text w ++ r) k.is
-        (prefix_unmarked prefix prefix_is true others) k.line (indicator w r rest) in
+        (prefix_unmarked prefix prefix_is true others) k.line (marker_is_indicator w r rest) in
         let behind : (end ++ (prefix ++ others)) ++ more ≡ end ++ (prefix ++ (others ++ more)) =
         append_assoc end (prefix ++ others) more
         ∙ ap (λ (x : List ℕ). end ++ x) (append_assoc prefix others more) in
@@ -312,12 +314,12 @@ pub closes_documents : {limit : ℕ} {start : State} {marker : DocumentMarker} �
     → StandsInStream limit start free (Lined free (t ++ more)) (t ++ more) ts → HasLine t (marker_text w ++ r)
     → Closes limit start marker (grammar.YieldDocuments forest free) ts
 closes_documents readers leaves w r more rest found [] free t ts h clean v line =
-    absurd (no_line t (marker_text w ++ r) (last_unmarked t h) line (indicator w r rest))
+    absurd (no_line t (marker_text w ++ r) (last_unmarked t h) line (marker_is_indicator w r rest))
 closes_documents {limit = limit} {start = start} readers leaves w r more rest found (d ∷ ds) free t ts
     (filler, document, others, filler_is, is, behind, e) clean v line =
     let l = behind_piece true filler (document ++ others) line.front (marker_text w ++ r) (sym e ∙ line.is)
     (skipped_unmarked filler (filler_skipped filler filler_is) true (document ++ others)) line.line
-    (indicator w r rest) in
+    (marker_is_indicator w r rest) in
     let text : t ++ more ≡ filler ++ (document ++ (others ++ more)) =
     ap (λ (x : List ℕ). x ++ more) e ∙ append_assoc filler (document ++ others) more
     ∙ ap (λ (x : List ℕ). filler ++ x) (append_assoc document others more) in

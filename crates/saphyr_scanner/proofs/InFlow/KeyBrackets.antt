@@ -160,13 +160,13 @@ sequence_key reads around same start p nodes k qs t n r e ad
       along = c.along;
     })
 
-pub mapping_key : ReaderPromises → (around : Around) → around.pending ≡ around.required
+pub mapping_key_reads : ReaderPromises → (around : Around) → around.pending ≡ around.required
     → (start : State) (p : Properties) (pairs : Pairs) (k : Candidate) (qs : List Place) (t : List ℕ) (n : ℕ)
     (r : List ℕ) (e : Marker) (ad : ℕ)
     → IsFlowNode 255 (Map p pairs) false around.indent t → InKey around k e (t ++ spaces n) (58 ∷ r) → ad ≤ e.index
     → Ready around start k (t ++ colon_text n r) e ad qs
     → KeyAlong around start (Map p pairs) k qs (colon_after e t n) (58 ∷ r)
-mapping_key reads around same start p pairs k qs t n r e ad
+mapping_key_reads reads around same start p pairs k qs t n r e ad
     (left, opening, inside, room, (front, w, f, parts, o), h, is) text low ready =
     let body = bracket_text curly w inside in
     let whole : t ≡ front ++ body = whole_text t opening front w inside 123 125 is o in

@@ -22,7 +22,7 @@ use Rattle.saphyr_scanner.proofs.Flow.Tokens.{begins_token}
 use Rattle.saphyr_scalar.proofs.Given.{cursor_at}
 use Rattle.saphyr_scanner.proofs.InFlow.KeyFirsts.{FirstOf, plain_key_first, key_node_first}
 use Rattle.saphyr_scanner.proofs.InFlow.KeyNodes.{KeyAlong, alias_key, scalar_key, plain_key}
-use Rattle.saphyr_scanner.proofs.InFlow.KeyBrackets.{sequence_key, mapping_key}
+use Rattle.saphyr_scanner.proofs.InFlow.KeyBrackets.{sequence_key, mapping_key_reads}
 
 -- ## All keys
 
@@ -39,7 +39,7 @@ key_along reads around same start (Scalar p style value) k qs t n r e ad h apart
 key_along reads around same start (Seq p nodes) k qs t n r e ad h apart white text low ready =
     sequence_key reads around same start p nodes k qs t n r e ad h text low ready
 key_along reads around same start (Map p pairs) k qs t n r e ad h apart white text low ready =
-    mapping_key reads around same start p pairs k qs t n r e ad h text low ready
+    mapping_key_reads reads around same start p pairs k qs t n r e ad h text low ready
 
 no_spaces : (n : ℕ) → spaces n ≡ [] → n ≡ 0
 no_spaces zero e = refl

@@ -22,7 +22,7 @@ use Rattle.saphyr_scanner.proofs.Json.Words.{IsBehindValue, BeginsWord, word_beg
 use Rattle.saphyr_scanner.proofs.Json.FirstTests.{other_than_digit, BeginsNothingElse, first_begins}
 use Rattle.saphyr_scanner.proofs.Json.Firsts.{kind_is_first, word_value, digit_second, no_marker}
 use Rattle.saphyr_scanner.proofs.Json.ReadWords.{ReadsPlainWords, word_read}
-use Rattle.saphyr_scanner.proofs.Json.Gaps.{has_break}
+use Rattle.saphyr_scanner.proofs.Json.Gaps.{contains_break}
 use Rattle.saphyr_scanner.proofs.Json.States.{skip, split, skip_none, skip_skip, IsClean, total, core_at, state_at, arrives, IsContentStart, one}
 use Rattle.saphyr_scanner.proofs.Json.Marks.{PassesJson, once, saved, saves_key}
 use Rattle.saphyr_scanner.proofs.Json.Brackets.{token_place, low_index}
@@ -61,7 +61,7 @@ word_step reads n m b t o y h w white behind x k ls a ad ends =
     ap (λ (q : Bool). not (is_block x) && q) (none_below_zero m.col) ∙ and_false (not (is_block x)) in
     record {
       mark = r.0.mark;
-      broke = has_break w;
+      broke = contains_break w;
       is = ap (λ (d : Core). read_plain (record (disallow_key d) { deeper = false })) (saves_key n s x k ls a ad)
           ∙ rw refused (ap (λ q. q >>= token) r.1);
       count = omega (arith, r.0.index, all, more);

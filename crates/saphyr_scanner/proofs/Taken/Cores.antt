@@ -273,10 +273,10 @@ further_block column c e = first (in_block c) (nat_le c.indent column) e
 
 -- ## What is passed
 
-pub behind_blanks : {X : Type 0} → (P : X → Type 0) (c : Core) (f : SkipTabs × Core → Result X Refusal)
+pub behind_blanks_taken : {X : Type 0} → (P : X → Type 0) (c : Core) (f : SkipTabs × Core → Result X Refusal)
     → ((found : SkipTabs) (t : Cursor) → OnLine c.cursor t → Given P (f (found, with_cursor t c)))
     → Given P (separate c >>= f)
-behind_blanks P c f go = by (separation tabs.Yes c.cursor) (separation_passes c.cursor)
+behind_blanks_taken P c f go = by (separation tabs.Yes c.cursor) (separation_passes c.cursor)
   where
     by : (r : Result (SkipTabs × Cursor) Refusal) → Given (λ (x : SkipTabs × Cursor). OnLine c.cursor x.1) r
         → Given P ((r >>= λ x. Ok (x.0, with_cursor x.1 c)) >>= f)
@@ -305,5 +305,6 @@ behind_gap_of P c f go = by (gaps.whole_gap (least_column c) c.cursor)
     by (Err e) h = tt
 
 -- an indicator is passed
-pub indicator : (x : ℕ) (s : Cursor) → (x == 0) ≡ false → slice_index s.rest 0 ≡ x → TakesCharacter x s (pass 1 s)
-indicator x s z e = (cut_at x s.rest z e, refl)
+pub indicator_is_passed : (x : ℕ) (s : Cursor) → (x == 0) ≡ false → slice_index s.rest 0 ≡ x
+    → TakesCharacter x s (pass 1 s)
+indicator_is_passed x s z e = (cut_at x s.rest z e, refl)

@@ -19,7 +19,7 @@ use Rattle.saphyr_scanner.specs.TokensTaken.{AreTokens, may_begin_plain}
 use Rattle.saphyr_scanner.proofs.Effects.Readers.{TextLaws}
 use Rattle.saphyr_scanner.proofs.Leads.{flat}
 use Rattle.saphyr_scanner.proofs.Effects.States.{FetchesTokens, after_step_fetches}
-use Rattle.saphyr_scanner.proofs.Effects.Fetch.{left, step_does, step_effect, arrive_advances}
+use Rattle.saphyr_scanner.proofs.Effects.Fetch.{some_character_left, step_does, step_effect, arrive_advances}
 use Rattle.saphyr_scanner.proofs.Taken.Later.{LaterThan}
 use Rattle.saphyr_scanner.proofs.Taken.Parts.{tokens_part}
 use Rattle.saphyr_scanner.proofs.Taken.Held.{taken_put}
@@ -101,7 +101,7 @@ here_read laws text small columns from s l going a =
     by_test (is_z (slice_index t 0)) _ _ P
     (λ _. end_given columns from (document.end_stream s) (end_fetched columns from s a.taken)
     (end_over columns from s))
-    (λ z. let some : 0 < length t = left t z in
+    (λ z. let some : 0 < length t = some_character_left t z in
     let h : HoldsState columns from s = record { taken = a.taken; keys = a.live z } in
     let behind : (r : Result State Refusal) → Walked (Premises s.core) (Documented s) s.core.cursor r → P r =
     λ r w. both_given columns from s r going (held columns from r (documents_hold laws columns from s r h w))

@@ -13,7 +13,7 @@ use Rattle.saphyr_scanner.specs.TokensTaken.{AreApart, IsToken, AreTokens, open_
 use Rattle.saphyr_scanner.proofs.Leads.{flat, place_pieces}
 use Rattle.saphyr_scanner.proofs.Taken.Separated.{apart_apart}
 use Rattle.saphyr_scanner.proofs.Taken.Parts.{open_all, open_append, tokens_append, is_quiet, AreQuiet, quiet_append, with_opening_there, with_opening_behind, Begins, opens_block, column_of, place_tokens, place_open}
-use Rattle.saphyr_scanner.proofs.Queues.{flat_append, with_front}
+use Rattle.saphyr_scanner.proofs.Queues.{flat_append, place_with_front}
 
 -- ## The open block collections
 
@@ -239,7 +239,7 @@ pub taken_open : (columns : List ℕ) (from : Cursor) (c d : Core) (q : Queue) (
     → Taken columns from d (with_opening k.place o q)
 taken_open columns from c d q b block k o x e a s h =
     let n : k.place - q.handed ≡ length x.front = omega (arith, x.at) in
-    let now : (with_opening k.place o q).places ≡ x.front ++ with_front o x.token ∷ x.back =
+    let now : (with_opening k.place o q).places ≡ x.front ++ place_with_front o x.token ∷ x.back =
     ap (λ j. places_with_opening j o q.places) n ∙ ap (places_with_opening (length x.front) o) x.places
     ∙ with_opening_there o x.front (bare_place x.token) x.back in
     let quiet : opens_block o ≡ true → AreQuiet (x.token ∷ flat x.back) = λ f. x.quiet (e f) in
@@ -249,7 +249,7 @@ taken_open columns from c d q b block k o x e a s h =
     let all = place_tokens columns o x.front x.token x.back from h.last x.begins quiet (subst P x.places h.tokens) in
     let opened_now = s (open_all (flat (x.front ++ bare_place x.token ∷ x.back)) columns) (subst S x.places h.stack) in
     let column : x.token.span.start.col ≡ k.mark.col = ap (λ (m : Marker). m.col) x.marked in
-    let is : open_all (flat (x.front ++ with_front o x.token ∷ x.back)) columns
+    let is : open_all (flat (x.front ++ place_with_front o x.token ∷ x.back)) columns
     ≡ column_of o k.mark.col (open_all (flat (x.front ++ bare_place x.token ∷ x.back)) columns) =
     place_open columns o x.front x.token x.back quiet
     ∙ ap (λ j. column_of o j (open_all (flat (x.front ++ bare_place x.token ∷ x.back)) columns)) column in

@@ -13,7 +13,7 @@ use Rattle.saphyr_scanner.specs.Steps.Queue.{Place, bare_place, places_with_open
 use Rattle.saphyr_scanner.specs.TokensTaken as taken
 use Rattle.saphyr_scanner.specs.TokensTaken.{IsToken, AreTokens, begins_text, open_behind}
 use Rattle.saphyr_scanner.proofs.Leads.{flat, place_pieces}
-use Rattle.saphyr_scanner.proofs.Queues.{flat_append, with_front}
+use Rattle.saphyr_scanner.proofs.Queues.{flat_append, place_with_front}
 
 -- the columns of the open block collections behind tokens
 abbrev pub open_all : List Piece → List ℕ → List ℕ
@@ -98,7 +98,7 @@ quiet_all (p ∷ ps) columns q =
 -- ## The queue's places
 
 pub with_opening_there : (o : Opening) (front : List Place) (p : Place) (back : List Place)
-    → places_with_opening (length front) o (front ++ p ∷ back) ≡ front ++ with_front o p.piece ∷ back
+    → places_with_opening (length front) o (front ++ p ∷ back) ≡ front ++ place_with_front o p.piece ∷ back
 with_opening_there o [] p back = refl
 with_opening_there o (f ∷ front) p back = ap (λ r. f ∷ r) (with_opening_there o front p back)
 
@@ -158,21 +158,21 @@ opening_open columns opening.BlockMappingAndKey t back q =
 pub place_tokens : (columns : List ℕ) (o : Opening) (front : List Place) (t : Piece) (back : List Place) (s u : Cursor)
     → Begins t → (opens_block o ≡ true → AreQuiet (t ∷ flat back))
     → AreTokens columns (flat (front ++ bare_place t ∷ back)) s u
-    → AreTokens columns (flat (front ++ with_front o t ∷ back)) s u
+    → AreTokens columns (flat (front ++ place_with_front o t ∷ back)) s u
 place_tokens columns o front t back s u b q h =
     let P : List Piece → Type 0 = λ l. AreTokens columns l s u in
     let r = tokens_part columns (flat front) (t ∷ flat back) s u
     (subst P (flat_append front (bare_place t ∷ back)) h) in
     let k = opening_tokens (open_all (flat front) columns) o t (flat back) r.between u b q r.back in
-    subst P (sym (flat_append front (with_front o t ∷ back)))
+    subst P (sym (flat_append front (place_with_front o t ∷ back)))
     (tokens_append columns (flat front) (place_pieces o t ++ flat back) s r.between u r.front k)
 
 pub place_open : (columns : List ℕ) (o : Opening) (front : List Place) (t : Piece) (back : List Place)
     → (opens_block o ≡ true → AreQuiet (t ∷ flat back))
-    → open_all (flat (front ++ with_front o t ∷ back)) columns
+    → open_all (flat (front ++ place_with_front o t ∷ back)) columns
     ≡ column_of o t.span.start.col (open_all (flat (front ++ bare_place t ∷ back)) columns)
 place_open columns o front t back q =
-    ap (λ l. open_all l columns) (flat_append front (with_front o t ∷ back))
+    ap (λ l. open_all l columns) (flat_append front (place_with_front o t ∷ back))
     ∙ open_append (flat front) (place_pieces o t ++ flat back) columns
     ∙ opening_open (open_all (flat front) columns) o t (flat back) q
     ∙ ap (column_of o t.span.start.col)

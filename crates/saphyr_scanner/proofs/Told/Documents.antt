@@ -20,7 +20,7 @@ use Rattle.saphyr_scanner.specs.Steps.Unrolling.{unroll}
 use Rattle.saphyr_scanner.proofs.Blocks.{unrolled_cursor, unrolled_comment}
 use Rattle.saphyr_scanner.proofs.Effects.Documents.{Documented, start_walked, end_marker_walked, mark_walked, directive_walked}
 use Rattle.saphyr_scanner.proofs.Effects.Walked.{Premises, Walked}
-use Rattle.saphyr_scanner.proofs.Effects.Fetch.{left, step_does}
+use Rattle.saphyr_scanner.proofs.Effects.Fetch.{some_character_left, step_does}
 use Rattle.saphyr_scanner.proofs.Taken.Documents.{start_marking, end_place, no_length}
 use Rattle.saphyr_scanner.proofs.Effects.Readers.{TextLaws, RefusalLaws}
 use Rattle.saphyr_scanner.proofs.Taken.Places.{at_here, at_further}
@@ -90,7 +90,7 @@ here_told texts laws s n =
     (λ _. let r = step (slice_index t 0) (slice_index t 1) (next s.queue) s.core in
     after_step_told s.core.cursor r s.queue
     (walked_told s.core (laws, texts, n) (next s.queue) r
-    (step_does (slice_index t 0) (slice_index t 1) (next s.queue) s.core (left t z) refl refl))))))))
+    (step_does (slice_index t 0) (slice_index t 1) (next s.queue) s.core (some_character_left t z) refl refl))))))))
 
 -- ## To where it begins
 
