@@ -7,7 +7,7 @@ use Rattle.saphyr_scanner.specs.Grammar.Forest.{Node, Alias, Scalar, Seq, Map}
 use Rattle.saphyr_scanner.specs.Grammar.FlowScalars.{IsPlain, IsFlowScalar}
 use Rattle.saphyr_scanner.specs.Grammar.FlowNodes.{IsScalarNode, IsFlowNode, IsKeyText}
 use Rattle.saphyr_scanner.proofs.Beginnings.{heads, Begins, front_of, before_in, lacks}
-use Rattle.layout_examples.proofs.LayoutRefused.{IsMark, properties, before}
+use Rattle.layout_examples.proofs.LayoutRefused.{IsPropertyMark, properties, before}
 use Rattle.layout_examples.proofs.NearMisses.{lone_dash}
 
 abbrev is_dash : ℕ → Bool
@@ -16,10 +16,10 @@ is_dash c = c == 45
 dashes : (t : List ℕ) → codes "-" ≡ t → AreIn is_dash t
 dashes t is = subst (AreIn is_dash) is (refl, tt)
 
-dash_is_no_mark : (t : List ℕ) → codes "-" ≡ t → Begins IsMark t → ⊥
+dash_is_no_mark : (t : List ℕ) → codes "-" ≡ t → Begins IsPropertyMark t → ⊥
 dash_is_no_mark t is (c, cs, m, e) = other c m (heads 45 c [] cs (is ∙ e))
   where
-    other : (c : ℕ) → IsMark c → c ≡ 45 → ⊥
+    other : (c : ℕ) → IsPropertyMark c → c ≡ 45 → ⊥
     other c (inl e) f = omega arith
     other c (inr e) f = omega arith
 
@@ -40,9 +40,9 @@ dash_is_no_scalar : (p : Properties) (style : Style) (v : List ℕ) (in_flow : B
 dash_is_no_scalar p style v in_flow indent t is (inl (e, f, h)) = dash_is_no_mark t is (properties p.anchor p.tag t h)
 dash_is_no_scalar p style v in_flow indent t is (inr (front, content, b, h, e)) = by_front (before p indent front b)
   where
-    by_front : (front ≡ []) ⊎ Begins IsMark front → ⊥
+    by_front : (front ≡ []) ⊎ Begins IsPropertyMark front → ⊥
     by_front (inl none) = flow_scalar style v in_flow indent content (is ∙ e ∙ ap (λ x. x ++ content) none) h
-    by_front (inr m) = dash_is_no_mark t is (front_of IsMark front content t m e)
+    by_front (inr m) = dash_is_no_mark t is (front_of IsPropertyMark front content t m e)
 
 node : (room : ℕ) (x : Node) (in_flow : Bool) (indent : ℕ) (t : List ℕ) → codes "-" ≡ t
     → IsFlowNode room x in_flow indent t → ⊥

@@ -28,49 +28,50 @@ no_comma_behind a b t (inr h) g d = front_of (λ c. c ≢ 44) a b t h d
 
 -- ## Properties
 
-abbrev pub IsMark : ℕ → Type 0
-IsMark c = (c ≡ 38) ⊎ (c ≡ 33)
+abbrev pub IsPropertyMark : ℕ → Type 0
+IsPropertyMark c = (c ≡ 38) ⊎ (c ≡ 33)
 
-anchor : (name t : List ℕ) → IsAnchor name t → Begins IsMark t
+anchor : (name t : List ℕ) → IsAnchor name t → Begins IsPropertyMark t
 anchor name t (h, e) = (38, name, inl refl, e)
 
-handle : (h : Handle) (t : List ℕ) → IsHandle h t → Begins IsMark t
+handle : (h : Handle) (t : List ℕ) → IsHandle h t → Begins IsPropertyMark t
 handle Primary t e = (33, [], inr refl, e)
 handle Secondary t e = (33, codes "!", inr refl, e)
 handle (Named w) t (a, b, e) = (33, w ++ codes "!", inr refl, e)
 
-tag : (x : Tag) (t : List ℕ) → IsTag x t → Begins IsMark t
+tag : (x : Tag) (t : List ℕ) → IsTag x t → Begins IsPropertyMark t
 tag NonSpecific t e = (33, [], inr refl, e)
 tag (Verbatim uri) t (inside, n, d, e) = (33, 60 ∷ (inside ++ codes ">"), inr refl, e)
-tag (Shorthand h s) t (front, back, f, n, d, e) = front_of IsMark front back t (handle h front f) e
+tag (Shorthand h s) t (front, back, f, n, d, e) = front_of IsPropertyMark front back t (handle h front f) e
 
-pub properties : (a : Option (List ℕ)) (x : Option Tag) (t : List ℕ) → AreProperties a x t → Begins IsMark t
+pub properties : (a : Option (List ℕ)) (x : Option Tag) (t : List ℕ) → AreProperties a x t → Begins IsPropertyMark t
 properties None None t h = absurd h
 properties (Some name) None t h = anchor name t h
 properties None (Some x) t h = tag x t h
 properties (Some name) (Some x) t (front, between, written, a, b, s, inl e) =
-    front_of IsMark front (between ++ written) t (anchor name front a) e
+    front_of IsPropertyMark front (between ++ written) t (anchor name front a) e
 properties (Some name) (Some x) t (front, between, written, a, b, s, inr e) =
-    front_of IsMark written (between ++ front) t (tag x written b) e
+    front_of IsPropertyMark written (between ++ front) t (tag x written b) e
 
-mark_is_no_comma : (c : ℕ) → IsMark c → c ≢ 44
+mark_is_no_comma : (c : ℕ) → IsPropertyMark c → c ≢ 44
 mark_is_no_comma c (inl e) f = omega arith
 mark_is_no_comma c (inr e) f = omega arith
 
-no_bracket : (c : ℕ) → IsMark c → c ≢ 91
+no_bracket : (c : ℕ) → IsPropertyMark c → c ≢ 91
 no_bracket c (inl e) f = omega arith
 no_bracket c (inr e) f = omega arith
 
-mark_has_no_comma_in : (t : List ℕ) → Begins IsMark t → NoComma t
+mark_has_no_comma_in : (t : List ℕ) → Begins IsPropertyMark t → NoComma t
 mark_has_no_comma_in t (c, cs, h, e) = (c, cs, mark_is_no_comma c h, e)
 
 -- before content stands nothing, or properties first
-pub before : (p : Properties) (indent : ℕ) (t : List ℕ) → IsBeforeContent p indent t → (t ≡ []) ⊎ Begins IsMark t
+pub before : (p : Properties) (indent : ℕ) (t : List ℕ) → IsBeforeContent p indent t
+    → (t ≡ []) ⊎ Begins IsPropertyMark t
 before p indent t (inl (e, f)) = inl f
 before p indent t (inr (front, separation, h, n, s, e)) =
-    inr (front_of IsMark front separation t (properties p.anchor p.tag front h) e)
+    inr (front_of IsPropertyMark front separation t (properties p.anchor p.tag front h) e)
 
-mark_has_no_comma : (t : List ℕ) → (t ≡ []) ⊎ Begins IsMark t → (t ≡ []) ⊎ NoComma t
+mark_has_no_comma : (t : List ℕ) → (t ≡ []) ⊎ Begins IsPropertyMark t → (t ≡ []) ⊎ NoComma t
 mark_has_no_comma t (inl e) = inl e
 mark_has_no_comma t (inr h) = inr (mark_has_no_comma_in t h)
 
@@ -217,7 +218,7 @@ inside_is_no_comma a b (inr (c, cs, n, e)) g d =
     let x : codes ",]" ≡ c ∷ (cs ++ (b ++ codes "]")) = rw (d, e) refl in n
     (heads 44 c (codes "]") (cs ++ (b ++ codes "]")) x)
 
-bracket_and_comma_refused : (front separation inside : List ℕ) (indent : ℕ) → (front ≡ []) ⊎ Begins IsMark front
+bracket_and_comma_refused : (front separation inside : List ℕ) (indent : ℕ) → (front ≡ []) ⊎ Begins IsPropertyMark front
     → IsSeparation indent separation → (inside ≡ []) ⊎ NoComma inside
     → codes "[,]" ≡ (front ++ (91 ∷ separation)) ++ (inside ++ codes "]") → ⊥
 bracket_and_comma_refused front separation inside indent (inl e) s h d =

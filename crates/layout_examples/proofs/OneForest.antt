@@ -19,7 +19,7 @@ use Rattle.saphyr_scanner.specs.Grammar.Layout.{IsBehindDocument, AreDocuments, 
 use Rattle.saphyr_scanner.proofs.Beginnings.{heads, tails, Begins, front_of, behind_in, before_in, lacks, IsFirst}
 use Rattle.saphyr_scanner.proofs.Beginnings.{no_first, filler_text, behind_filler}
 use Rattle.saphyr_scanner.proofs.Examples.MarkerAlone.{only}
-use Rattle.layout_examples.proofs.LayoutRefused.{properties, IsMark}
+use Rattle.layout_examples.proofs.LayoutRefused.{properties, IsPropertyMark}
 
 abbrev is : ℕ → ℕ → Bool
 is c x = x == c
@@ -156,7 +156,7 @@ bare_front (a ∷ b ∷ c ∷ cs) behind e n =
 
 -- ## Text of line feeds alone is no node but one that is left out
 
-no_first_mark : (t : List ℕ) → Begins IsMark t → IsAll 10 t → ⊥
+no_first_mark : (t : List ℕ) → Begins IsPropertyMark t → IsAll 10 t → ⊥
 no_first_mark t (c, cs, inl m, e) h =
     let f : (c == 10) ≡ true = (subst (λ (u : List ℕ). IsAll 10 u) e h).0 in let g : (c == 10) ≡ false = ap
     (λ x. x == 10) m in cc

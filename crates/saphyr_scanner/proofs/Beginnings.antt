@@ -70,16 +70,17 @@ filler_line t (text, h, e) = with_break text t e (filler_text text h)
     with_break text t e (inl f) = (10, [], inr (inr refl), rw (e, f) refl)
     with_break text t e (inr h) = front_of IsFirst text (codes "\n") t h e
 
-lines : (pieces : List (List ℕ)) → AreEach IsFillerLine pieces → (joined pieces ≡ []) ⊎ Begins IsFirst (joined pieces)
-lines [] h = inl refl
-lines (line ∷ others) (h, hs) =
+begins_lines : (pieces : List (List ℕ)) → AreEach IsFillerLine pieces
+    → (joined pieces ≡ []) ⊎ Begins IsFirst (joined pieces)
+begins_lines [] h = inl refl
+begins_lines (line ∷ others) (h, hs) =
     inr (front_of IsFirst line (joined others) (line ++ joined others) (filler_line line h) refl)
 
-along : (a b : List ℕ) → a ≡ b → (b ≡ []) ⊎ Begins IsFirst b → (a ≡ []) ⊎ Begins IsFirst a
-along a b e h = rw e h
+begins_along : (a b : List ℕ) → a ≡ b → (b ≡ []) ⊎ Begins IsFirst b → (a ≡ []) ⊎ Begins IsFirst a
+begins_along a b e h = rw e h
 
 pub filler : (t : List ℕ) → IsFiller t → (t ≡ []) ⊎ Begins IsFirst t
-filler t (pieces, h, f) = along t (joined pieces) f (lines pieces h)
+filler t (pieces, h, f) = begins_along t (joined pieces) f (begins_lines pieces h)
 
 -- a text behind filler begins so, or there is none
 pub behind_filler : (t a b : List ℕ) → IsFiller a → t ≡ a ++ b → (t ≡ b) ⊎ Begins IsFirst t

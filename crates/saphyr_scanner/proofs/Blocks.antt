@@ -3,7 +3,7 @@ use Rattle.std.proofs.Common.{◌≡◌, ℕ, false, List, [], ◌∷◌, Option
 use Rattle.saphyr_scalar.specs.declared.scalar.position.Marker.{Marker}
 use Rattle.saphyr_scanner.specs.Steps.State.{State}
 use Rattle.saphyr_scanner.specs.Steps.Core.{Core, in_block}
-use Rattle.saphyr_scanner.specs.Steps.Unrolling.{end_blocks, end_block, is_right_of, outwards, less_deep, unroll}
+use Rattle.saphyr_scanner.specs.Steps.Unrolling.{end_blocks, end_block, is_right_of, with_outer_indent, go_less_deep, unroll}
 use Rattle.saphyr_input.proofs.Basics.Booleans.{by_test}
 
 pub none_ends : (column : Option ℕ) (m : Marker) (is : List ℕ) (s : State) → is_right_of column s.core.indent ≡ false
@@ -12,12 +12,12 @@ none_ends column m [] s e = rw e refl
 none_ends column m (i ∷ is) s e = rw e refl
 
 -- The text stays as it is.
-outwards_cursor : (is : List ℕ) (c : Core) → (outwards is c).cursor ≡ c.cursor
-outwards_cursor [] c = refl
-outwards_cursor (i ∷ is) c = refl
+outer_indent_cursor : (is : List ℕ) (c : Core) → (with_outer_indent is c).cursor ≡ c.cursor
+outer_indent_cursor [] c = refl
+outer_indent_cursor (i ∷ is) c = refl
 
 pub block_cursor : (m : Marker) (s : State) → (end_block m s).core.cursor ≡ s.core.cursor
-block_cursor m s = outwards_cursor s.core.outer_indents s.core
+block_cursor m s = outer_indent_cursor s.core.outer_indents s.core
 
 blocks_cursor : (column : Option ℕ) (m : Marker) (is : List ℕ) (s : State)
     → (end_blocks column m is s).core.cursor ≡ s.core.cursor
@@ -28,38 +28,38 @@ blocks_cursor column m (i ∷ is) s =
     by_test (is_right_of column s.core.indent) _ _ (λ (t : State). t.core.cursor ≡ s.core.cursor)
     (λ _. blocks_cursor column m is (end_block m s) ∙ block_cursor m s) (λ _. refl)
 
-pub less_deep_cursor : (column : Option ℕ) (c : Core) → (less_deep column c).cursor ≡ c.cursor
-less_deep_cursor None c = refl
-less_deep_cursor (Some column) c = refl
+pub go_less_deep_cursor : (column : Option ℕ) (c : Core) → (go_less_deep column c).cursor ≡ c.cursor
+go_less_deep_cursor None c = refl
+go_less_deep_cursor (Some column) c = refl
 
 pub unrolled_cursor : (column : Option ℕ) (m : Marker) (s : State) → (unroll column m s).core.cursor ≡ s.core.cursor
 unfolding unroll
 unrolled_cursor column m s =
     by_test (in_block s.core) _ _ (λ (t : State). t.core.cursor ≡ s.core.cursor)
-    (λ _. blocks_cursor column m s.core.outer_indents _ ∙ less_deep_cursor column s.core) (λ _. refl)
+    (λ _. blocks_cursor column m s.core.outer_indents _ ∙ go_less_deep_cursor column s.core) (λ _. refl)
 
 -- ## No comment comes
 
-outwards_comment : (is : List ℕ) (c : Core) → (outwards is c).comment ≡ c.comment
-outwards_comment [] c = refl
-outwards_comment (i ∷ is) c = refl
+outer_indent_comment : (is : List ℕ) (c : Core) → (with_outer_indent is c).comment ≡ c.comment
+outer_indent_comment [] c = refl
+outer_indent_comment (i ∷ is) c = refl
 
 blocks_comment : (column : Option ℕ) (m : Marker) (is : List ℕ) (s : State)
     → (end_blocks column m is s).core.comment ≡ s.core.comment
 blocks_comment column m [] s =
     by_test (is_right_of column s.core.indent) _ _ (λ (t : State). t.core.comment ≡ s.core.comment)
-    (λ _. outwards_comment s.core.outer_indents s.core) (λ _. refl)
+    (λ _. outer_indent_comment s.core.outer_indents s.core) (λ _. refl)
 blocks_comment column m (i ∷ is) s =
     by_test (is_right_of column s.core.indent) _ _ (λ (t : State). t.core.comment ≡ s.core.comment)
-    (λ _. blocks_comment column m is (end_block m s) ∙ outwards_comment s.core.outer_indents s.core)
+    (λ _. blocks_comment column m is (end_block m s) ∙ outer_indent_comment s.core.outer_indents s.core)
     (λ _. refl)
 
-less_deep_comment : (column : Option ℕ) (c : Core) → (less_deep column c).comment ≡ c.comment
-less_deep_comment None c = refl
-less_deep_comment (Some column) c = refl
+go_less_deep_comment : (column : Option ℕ) (c : Core) → (go_less_deep column c).comment ≡ c.comment
+go_less_deep_comment None c = refl
+go_less_deep_comment (Some column) c = refl
 
 pub unrolled_comment : (column : Option ℕ) (m : Marker) (s : State) → (unroll column m s).core.comment ≡ s.core.comment
 unfolding unroll
 unrolled_comment column m s =
     by_test (in_block s.core) _ _ (λ (t : State). t.core.comment ≡ s.core.comment)
-    (λ _. blocks_comment column m s.core.outer_indents _ ∙ less_deep_comment column s.core) (λ _. refl)
+    (λ _. blocks_comment column m s.core.outer_indents _ ∙ go_less_deep_comment column s.core) (λ _. refl)

@@ -8,6 +8,7 @@ pub mod Flow
 pub mod Values
 pub mod Blocks
 pub mod Scalars
+pub mod Properties
 pub mod States
 pub mod Documents
 pub mod Fetch

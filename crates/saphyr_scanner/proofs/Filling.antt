@@ -4,7 +4,7 @@ use Rattle.std.specs.Prelude.{◌&&◌, not}
 use Rattle.saphyr_scalar.specs.declared.scalar.fault.Refusal.{Refusal}
 use Rattle.saphyr_scalar.specs.Views.Cursor.{◌>>=◌}
 use Rattle.saphyr_scanner.specs.Steps.Core.{Core, in_block, is_too_far, drop_far_key, forget_key}
-use Rattle.saphyr_scanner.specs.Steps.State.{State, carried}
+use Rattle.saphyr_scanner.specs.Steps.State.{State, on_core}
 use Rattle.saphyr_scanner.specs.Steps.Fetch.{size, fetch_within, without_far_key, needs_token, is_ready, fill_in, fill}
 use Rattle.saphyr_scanner.proofs.Effects.Readers.{Readers}
 use Rattle.saphyr_scanner.proofs.Effects.Fetch.{Fetched, read_fetched}
@@ -49,9 +49,9 @@ enough laws limit (suc n) (suc m) s a b =
     go false e h = rw e refl
 
 -- one token more
-pub one_more : Readers → (limit : ℕ) (s u : State) → needs_token s ≡ true → read limit s ≡ Ok u
+pub fetched_is_one_more : Readers → (limit : ℕ) (s u : State) → needs_token s ≡ true → read limit s ≡ Ok u
     → fill_in (suc (size u.core)) limit u ≡ fill_in (suc (size s.core)) limit s
-one_more laws limit s u needs e =
+fetched_is_one_more laws limit s u needs e =
     let less = smaller_read laws limit s u needs e in
     let unfolded : fill_in (suc (size s.core)) limit s ≡ fill_in (size s.core) limit u = rw (needs, e) refl in
     enough laws limit (suc (size u.core)) (size s.core) u (omega arith) less ∙ sym unfolded
@@ -74,12 +74,12 @@ not_twice c d =
 abbrev pub IsSettled : State → Type 0
 IsSettled s = drop_far_key s.core ≡ Ok s.core
 
-carried_core : (r : Result Core Refusal) (s t : State) → carried r s.queue ≡ Ok t → r ≡ Ok t.core
-carried_core (Ok c) s t e = cc
-carried_core (Err f) s t e = absurd (cc)
+core_of_on_core : (r : Result Core Refusal) (s t : State) → on_core r s.queue ≡ Ok t → r ≡ Ok t.core
+core_of_on_core (Ok c) s t e = cc
+core_of_on_core (Err f) s t e = absurd (cc)
 
 pub settled_once : (s t : State) → without_far_key s ≡ Ok t → IsSettled t
-settled_once s t e = not_twice s.core t.core (carried_core (drop_far_key s.core) s t e)
+settled_once s t e = not_twice s.core t.core (core_of_on_core (drop_far_key s.core) s t e)
 
 pub read_settles : (limit : ℕ) (s u : State) → read limit s ≡ Ok u → IsSettled u
 read_settles limit s u e = let b = bind_ok (fetch_within limit s) without_far_key u e in settled_once b.0 u b.2

@@ -6,7 +6,7 @@ use Rattle.saphyr_scalar.specs.declared.scalar.position.Marker.{Marker}
 use Rattle.saphyr_scalar.specs.declared.scalar.fault.Refusal.{Refusal}
 use Rattle.saphyr_scalar.specs.Views.Cursor.{along, next_line}
 use Rattle.saphyr_scalar.proofs.NoBreaks.{class_no_break}
-use Rattle.saphyr_scanner.specs.Steps.Gap.{gap, comment, stop, Passed, is_tab_indentation}
+use Rattle.saphyr_scanner.specs.Steps.Gap.{gap, comment, stop, GapEnd, is_tab_indentation}
 use Rattle.saphyr_scanner.specs.TokensTaken as taken
 use Rattle.saphyr_scanner.specs.TokensTaken.{IsReached}
 use Rattle.saphyr_scanner.proofs.Reached.{single, double}
@@ -14,11 +14,11 @@ use Rattle.std.proofs.lemmas.Bool.{eqb-true, and_parts, or_cases}
 use Rattle.saphyr_input.proofs.Basics.Booleans.{by_test, or_false_right}
 
 -- a refusal, if there is one, stands at a place on the way from m
-abbrev pub Refused : Marker → List ℕ → Result Passed Refusal → Type 0
+abbrev pub Refused : Marker → List ℕ → Result GapEnd Refusal → Type 0
 Refused m t (Ok p) = Unit {0}
 Refused m t (Err e) = (u : List ℕ) × IsReached m t e.mark u
 
-refused_map : (m : Marker) (t : List ℕ) (n : Marker) (u : List ℕ) (r : Result Passed Refusal)
+refused_map : (m : Marker) (t : List ℕ) (n : Marker) (u : List ℕ) (r : Result GapEnd Refusal)
     → ((k : Marker) (v : List ℕ) → IsReached n u k v → IsReached m t k v) → Refused n u r → Refused m t r
 refused_map m t n u (Ok p) f h = tt
 refused_map m t n u (Err e) f h = (h.0, f e.mark h.0 h.1)
@@ -44,9 +44,9 @@ all_places l [] m blank broke tabbed =
       behind_return = λ e k q. absurd (cc);
     }
 all_places l (c ∷ cs) m blank broke tabbed =
-    let P : Result Passed Refusal → Type 0 = Refused m (c ∷ cs) in
+    let P : Result GapEnd Refusal → Type 0 = Refused m (c ∷ cs) in
     let indented = is_tab_indentation l m blank c || tabbed in
-    let further : is_break c ≡ false → (r : Result Passed Refusal) → Refused (along m 1) cs r → P r =
+    let further : is_break c ≡ false → (r : Result GapEnd Refusal) → Refused (along m 1) cs r → P r =
     λ e r. refused_map m (c ∷ cs) (along m 1) cs r (λ k v p. taken.character m c cs k v e p) in
     let line : ((c == 13) && (slice_index cs 0 == 10)) ≡ false → is_break c ≡ true
     → P (gap l (next_line m 1) true true false cs) =

@@ -7,7 +7,7 @@ use Rattle.saphyr_input.specs.Classes.{is_blank, is_break, is_yaml_non_break}
 use Rattle.saphyr_scalar.specs.declared.scalar.position.Marker.{Marker}
 use Rattle.saphyr_scalar.specs.Views.Cursor.{Cursor, along, pass_comment, pass_spaces}
 use Rattle.saphyr_scalar.specs.declared.scalar.fault.Refusal.{Refusal}
-use Rattle.saphyr_scanner.specs.Steps.Gap.{Passed, stop, gap, comment, gap_at, passed_gap, Spaced, spaces, line_comment, spaces_at}
+use Rattle.saphyr_scanner.specs.Steps.Gap.{GapEnd, stop, gap, comment, gap_at, whole_gap, SpacesEnd, spaces, line_comment, spaces_at}
 use Rattle.saphyr_input.specs.Places.{spaces_within}
 use Rattle.saphyr_scalar.proofs.Moving.{along_none, along_more}
 use Rattle.saphyr_input.proofs.Basics.Booleans.{or_false_left, or_false_right}
@@ -72,7 +72,7 @@ on_comment l broke tabbed s h = go s.rest h
         ∙ one_further l s.mark s.blank_so_far broke tabbed (prefix_len is_yaml_non_break cs) 35 cs))
 
 -- the comment that is read is passed
-pub comment_passed : (l : ℕ) (broke tabbed : Bool) (before read after : Cursor) (all : Result Passed Refusal) (c : ℕ)
+pub comment_passed : (l : ℕ) (broke tabbed : Bool) (before read after : Cursor) (all : Result GapEnd Refusal) (c : ℕ)
     → c ≡ get_or before.rest 0 0 → read ≡ before → after ≡ pass_comment read → c ≡ 35
     → gap_at l broke tabbed before ≡ all → gap_at l broke tabbed after ≡ all
 comment_passed l broke tabbed before read after all c first same passed sign known =
@@ -102,7 +102,7 @@ over_spaces l blank broke tabbed m (suc n) (c ∷ cs) few =
         absurd (omega (arith, less, counted))
 
 -- the spaces that are taken off are passed
-pub spaces_passed : (l most : ℕ) (broke tabbed : Bool) (before read after : Cursor) (all : Result Passed Refusal)
+pub spaces_passed : (l most : ℕ) (broke tabbed : Bool) (before read after : Cursor) (all : Result GapEnd Refusal)
     → read ≡ before → after ≡ pass_spaces most read → gap_at l broke tabbed before ≡ all
     → gap_at l broke tabbed after ≡ all
 spaces_passed l most broke tabbed before read after all same passed known =
@@ -144,7 +144,7 @@ behind_line_sign (c ∷ cs) m blank space =
         (drop (prefix_len is_yaml_non_break (c ∷ cs)) (c ∷ cs)) = rw e refl in
         none ∙ ap (λ (k : Marker). spaces k blank space (c ∷ cs)) (sym (along_none m)) ∙ last
 
-pub line_comment_passed : (space : Bool) (before read after : Cursor) (all : Spaced) (c : ℕ)
+pub line_comment_passed : (space : Bool) (before read after : Cursor) (all : SpacesEnd) (c : ℕ)
     → c ≡ get_or before.rest 0 0 → read ≡ before → after ≡ pass_comment read → c ≡ 35 → spaces_at space before ≡ all
     → spaces_at space after ≡ all
 line_comment_passed space before read after all c first same passed sign known =
@@ -171,7 +171,7 @@ gap_of_nothing least m blank (c ∷ cs) a b e =
 
 -- where a token stands right here, nothing is passed
 pub nothing_passed : (least : ℕ) (s t : Cursor) (c : ℕ) → c ≡ slice_index s.rest 0 → t ≡ s → is_blank c ≡ false
-    → is_break c ≡ false → (c == 35) ≡ false → passed_gap least s ≡ Ok (record { cursor = t; broke = false })
+    → is_break c ≡ false → (c == 35) ≡ false → whole_gap least s ≡ Ok (record { cursor = t; broke = false })
 nothing_passed least s t c e same a b d =
     gap_of_nothing least s.mark s.blank_so_far s.rest (rw (sym e) a) (rw (sym e) b) (rw (sym e) d)
     ∙ ap (λ (u : Cursor). Ok (record { cursor = u; broke = false })) (sym same)

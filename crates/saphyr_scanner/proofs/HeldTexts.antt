@@ -6,25 +6,12 @@ use Rattle.std.specs.List.{All, AllZip}
 use Rattle.std.proofs.lemmas.Bool.{ltb-false}
 use Rattle.std.proofs.lemmas.List.{length-drop, length-append, take-append-drop, take-append-le, drop-append-le}
 use Rattle.std.proofs.lemmas.List.Elements.{All-nil, All-cons, All-head, All-tail, All-push, All-same, All-rest}
-use Rattle.std.proofs.Math.Seq.{drop-append_seam, take-append_seam, take-length}
 use Rattle.saphyr_scanner.specs.declared.queue.place.Place.{Place}
 use Rattle.saphyr_scanner.specs.declared.queue.place.Place.TheVariants.{Bare, Text, Tagged, Whole}
 use Rattle.saphyr_scanner.specs.declared.queue.texts.TextPlace.{TextPlace}
-use Rattle.saphyr_scanner.specs.Steps.Queue.{closed, take, take_place}
+use Rattle.saphyr_scanner.specs.Steps.Queue.{bare_place, take, take_place}
 use Rattle.saphyr_scanner.specs.Views.Tokens.{Piece}
-use Rattle.saphyr_scanner.specs.Views.Places.{
-  GrowsBehind,
-  HasHeldText,
-  IsCopyOfPlace,
-  IsHeldText,
-  IsKept,
-  IsPlaceOf,
-  on_line,
-  place,
-  text_at,
-  text_kind,
-  text_place,
-}
+use Rattle.saphyr_scanner.specs.Views.Places.{GrowsBehind, HasHeldText, IsCopyOfPlace, IsHeldText, IsBarePlaceOf, on_line, place, text_at, text_kind, text_place}
 
 range_of_append : (old more : List ℕ) (a b : ℕ) → a ≤ b → b ≤ length old
     → slice_range (old ++ more) a b ≡ slice_range old a b
@@ -44,21 +31,6 @@ text_stays old new t g h =
     let longer = ap length (grown old new g) ∙ length-append old (drop (length old) new) in
     let within = h.0 in
     ((omega (arith, longer, within), subst (λ bs. ∥ IsUtf8 bs ∥₁) (sym e) h.1), e)
-
--- ## A text is put behind others
-
-pub grows_by : (old text : List ℕ) → GrowsBehind old (old ++ text)
-grows_by old text = take-append_seam old text
-
-pub text_kept : (old text : List ℕ) (t : TextPlace) → t.start ≡ length old → t.count ≡ length text → ∥ IsUtf8 text ∥₁
-    → IsKept (old ++ text) text t
-text_kept old text t s n u =
-    let long = length-append old text in
-    let e = ap (λ k. std.take (k + t.count - k) (drop k (old ++ text))) s
-    ∙ ap (λ bs. std.take (length old + t.count - length old) bs) (drop-append_seam old text)
-    ∙ ap (λ k. std.take k text) (omega (arith, n))
-    ∙ take-length text in
-    ((omega (arith, long, s, n), subst (λ bs. ∥ IsUtf8 bs ∥₁) (sym e) u), e)
 
 -- ## Places over more texts
 
@@ -89,9 +61,9 @@ map_push bytes (q ∷ ps) p = ap (λ qs. place bytes q ∷ qs) (map_push bytes p
 
 -- behind the places stands that of a token, whose text stands behind theirs
 pub place_put : (old new : List ℕ) (ps : List Place) (p : Place) (t : Piece)
-    → GrowsBehind old new → All (HasHeldText old) ps → IsPlaceOf new t p
+    → GrowsBehind old new → All (HasHeldText old) ps → IsBarePlaceOf new t p
     → All (HasHeldText new) (ps ++ p ∷ [])
-    × (map (place new) (ps ++ p ∷ []) ≡ map (place old) ps ++ closed t ∷ [])
+    × (map (place new) (ps ++ p ∷ []) ≡ map (place old) ps ++ bare_place t ∷ [])
 place_put old new ps p t g h is =
     let stay = places_stay old new ps g h in (
       All-push (HasHeldText new) ps p stay.0 is.0,

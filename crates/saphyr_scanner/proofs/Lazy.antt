@@ -7,13 +7,14 @@ use Rattle.saphyr_scanner.specs.declared.queue.Opening.{Opening}
 use Rattle.saphyr_scanner.specs.declared.queue.Opening.TheVariants as opening
 use Rattle.saphyr_scanner.specs.Views.Tokens.{Piece, Remaining, none, before}
 use Rattle.saphyr_scanner.specs.Steps.Queue.{Place}
-use Rattle.saphyr_scanner.specs.Steps.Core.{Candidate, Level, Core, drop_far_key}
+use Rattle.saphyr_scanner.specs.Steps.Core.{Core, drop_far_key}
+use Rattle.saphyr_scanner.specs.Steps.Level.{Candidate, Level, is_place, holds}
 use Rattle.saphyr_scanner.specs.Steps.State.{State, start}
-use Rattle.saphyr_scanner.specs.Steps.Fetch.{size, needs_token, is_held, is_place, holds, any_holds}
-use Rattle.saphyr_scanner.specs.Steps.Remaining.{before_place, hand_out, delivered, run, remaining}
+use Rattle.saphyr_scanner.specs.Steps.Fetch.{size, needs_token, is_held, any_holds}
+use Rattle.saphyr_scanner.specs.Steps.Remaining.{before_place, hand_out, remaining_after, run, remaining}
 use Rattle.saphyr_scanner.proofs.Effects.Readers.{Readers}
 use Rattle.saphyr_scanner.proofs.Filling.{read, read_is, less_read}
-use Rattle.saphyr_scanner.proofs.Leads.{Leads, stay, onward, flat, place_pieces}
+use Rattle.saphyr_scanner.proofs.Leads.{LeadsTo, stay, onward, flat, place_pieces}
 use Rattle.saphyr_scanner.proofs.Unroll.{behind, rest, enough}
 use Rattle.saphyr_scanner.proofs.Taken.Candidates.{KeyAbove, LevelsAbove, Above}
 use Rattle.saphyr_scanner.proofs.HandedOut.{Behind, Goes, Same, at, read_agrees, agreed}
@@ -99,40 +100,40 @@ abbrev others : ℕ → State → Remaining
 others limit d = rest limit (holding d.core [] (length d.queue.places))
 
 -- These places were handed out of those of the last state, and the tokens of the others come.
-record Gives (limit : ℕ) (d : State) (hs : List Place) (t : State) : Type 0 where
+record GivesRest (limit : ℕ) (d : State) (hs : List Place) (t : State) : Type 0 where
   left : List Place
   places : d.queue.places ≡ hs ++ left
   tokens : (n : ℕ) → size t.core < suc n
       → hand_out t.queue.places (behind n limit) t ≡ onto (flat left) (others limit d)
 
-gives : (limit : ℕ) (d : State) (hs : List Place) (t : State) (g : Gives limit d hs t) (n : ℕ) → size t.core < n
+gives : (limit : ℕ) (d : State) (hs : List Place) (t : State) (g : GivesRest limit d hs t) (n : ℕ) → size t.core < n
     → run n limit t ≡ onto (flat g.left) (others limit d)
 gives limit d hs t g zero h = absurd (omega (arith, h))
 gives limit d hs t g (suc n) h = g.tokens n h
 
 -- what comes behind a token that is read, wherever the places are parted
 abbrev Hypothesis : ℕ → State → State → Type 0
-Hypothesis limit d s = (hs : List Place) (t : State) → Goes hs s t → Gives limit d hs t
+Hypothesis limit d s = (hs : List Place) (t : State) → Goes hs s t → GivesRest limit d hs t
 
 -- what comes where a token is read first
-abbrev Reads : ℕ → State → List Place → State → Type 0
-Reads limit d hs t = (left : List Place) × (d.queue.places ≡ hs ++ left)
+abbrev ReadsRest : ℕ → State → List Place → State → Type 0
+ReadsRest limit d hs t = (left : List Place) × (d.queue.places ≡ hs ++ left)
     × ((n : ℕ) → size t.core < suc n → behind n limit t ≡ onto (flat left) (others limit d))
 
 reads : Readers → (limit : ℕ) (d s u : State) (hs : List Place) (t : State) → t.core.ended ≡ false → read limit s ≡ Ok u
-    → Hypothesis limit d u → Goes hs s t → Reads limit d hs t
+    → Hypothesis limit d u → Goes hs s t → ReadsRest limit d hs t
 reads laws limit d s u hs t live e ih g =
     by (read limit t) refl (subst (λ r. Same hs r (read limit t)) e
     (agreed hs (read limit) s t (read_agrees hs limit) g))
   where
-    by : (r : Result State Refusal) → read limit t ≡ r → Same hs (Ok u) r → Reads limit d hs t
+    by : (r : Result State Refusal) → read limit t ≡ r → Same hs (Ok u) r → ReadsRest limit d hs t
     by (Err f) q h = absurd h
     by (Ok v) q h =
         let w = ih hs v h in
         let less = less_read laws limit t v live q in (
           w.left,
           w.places,
-          λ n m. cond-false t.core.ended _ _ live ∙ ap (λ r. delivered r (run n limit)) q
+          λ n m. cond-false t.core.ended _ _ live ∙ ap (λ r. remaining_after r (run n limit)) q
               ∙ gives limit d hs v w n (omega (arith, less, m)),
         )
 
@@ -157,8 +158,8 @@ next_goes s p ps hs n g h =
     }
 
 next_gives : (limit : ℕ) (d : State) (c : Core) (p : Place) (ps hs : List Place) (n : ℕ)
-    → needs_token (holding c (p ∷ ps) n) ≡ false → Gives limit d (hs ++ p ∷ []) (holding c ps (n + 1))
-    → Gives limit d hs (holding c (p ∷ ps) n)
+    → needs_token (holding c (p ∷ ps) n) ≡ false → GivesRest limit d (hs ++ p ∷ []) (holding c ps (n + 1))
+    → GivesRest limit d hs (holding c (p ∷ ps) n)
 next_gives limit d c p ps hs n h g =
     record {
       left = p ∷ g.left;
@@ -168,7 +169,7 @@ next_gives limit d c p ps hs n h g =
 
 -- by the places that are left: each is handed out, unless it may be a key
 hands : Readers → (limit : ℕ) (d s u : State) → s.core.ended ≡ false → read limit s ≡ Ok u → Hypothesis limit d u
-    → (ws hs : List Place) (n : ℕ) → Goes hs s (holding s.core ws n) → Gives limit d hs (holding s.core ws n)
+    → (ws hs : List Place) (n : ℕ) → Goes hs s (holding s.core ws n) → GivesRest limit d hs (holding s.core ws n)
 hands laws limit d s u live e ih [] hs n g =
     let r = reads laws limit d s u hs (holding s.core [] n) live e ih g in
     record { left = r.0; places = r.1; tokens = r.2 }
@@ -177,8 +178,9 @@ hands laws limit d s u live e ih (p ∷ ps) hs n g =
     (λ later. hands laws limit d s u live e ih ps (hs ++ p ∷ []) (n + 1) later)
   where
     by : (b : Bool) → is_held (holding s.core (p ∷ ps) n) ≡ b
-        → (Goes (hs ++ p ∷ []) s (holding s.core ps (n + 1)) → Gives limit d (hs ++ p ∷ []) (holding s.core ps (n + 1)))
-        → Gives limit d hs (holding s.core (p ∷ ps) n)
+        → (Goes (hs ++ p ∷ []) s (holding s.core ps (n + 1))
+        → GivesRest limit d (hs ++ p ∷ []) (holding s.core ps (n + 1)))
+        → GivesRest limit d hs (holding s.core (p ∷ ps) n)
     by true h more =
         let r = reads laws limit d s u hs (holding s.core (p ∷ ps) n) live e ih g in
         record { left = r.0; places = r.1; tokens = λ m k. held_back (behind m limit) s.core p ps n live h ∙ r.2 m k }
@@ -186,7 +188,7 @@ hands laws limit d s u live e ih (p ∷ ps) hs n g =
         (more (next_goes s p ps hs n g h))
 
 ended_gives : Readers → (limit : ℕ) (d : State) → Free d.core → (hs ws : List Place) (k : ℕ)
-    → Behind hs d.queue (record { places = ws; handed = k }) → Gives limit d hs (holding d.core ws k)
+    → Behind hs d.queue (record { places = ws; handed = k }) → GivesRest limit d hs (holding d.core ws k)
 ended_gives laws limit d free hs ws k b =
     let places = ap length b.places in let l = length-append hs ws in let handed = b.handed in
     let e : k + length ws ≡ length d.queue.places = omega (arith, places, l, handed) in
@@ -199,11 +201,12 @@ ended_gives laws limit d free hs ws k b =
     }
 
 -- the same where the core is told to be that of the other state
-of_core : (limit : ℕ) (d s : State) (hs : List Place) (t : State) → Goes hs s t → Gives limit d hs (at s.core t.queue)
-    → Gives limit d hs t
-of_core limit d s hs t g w = subst (λ (c : Core). Gives limit d hs (at c t.queue)) (sym g.core) w
+of_core : (limit : ℕ) (d s : State) (hs : List Place) (t : State) → Goes hs s t
+    → GivesRest limit d hs (at s.core t.queue)
+    → GivesRest limit d hs t
+of_core limit d s hs t g w = subst (λ (c : Core). GivesRest limit d hs (at c t.queue)) (sym g.core) w
 
-lazy : {limit : ℕ} {d s : State} → Readers → Free d.core → Leads limit d s → Hypothesis limit d s
+lazy : {limit : ℕ} {d s : State} → Readers → Free d.core → LeadsTo limit d s → Hypothesis limit d s
 lazy {limit} {d} laws free stay =
     λ hs t g. of_core limit d d hs t g (ended_gives laws limit d free hs t.queue.places t.queue.handed g.queue)
 lazy {limit} {d} laws free (onward s t u live e f l) = λ hs v g.
@@ -213,7 +216,7 @@ lazy {limit} {d} laws free (onward s t u live e f l) = λ hs v g.
 
 -- The tokens of a text begin with those of the places of a run that keeps all of them, where none of these may yet be a
 -- key.
-pub begins_so : Readers → (limit : ℕ) (text : List ℕ) (d : State) → Leads limit d (start text) → Free d.core
+pub begins_so : Readers → (limit : ℕ) (text : List ℕ) (d : State) → LeadsTo limit d (start text) → Free d.core
     → remaining limit (start text) ≡ onto (flat d.queue.places) (rest limit (holding d.core [] (length d.queue.places)))
 unfolding remaining drop_far_key
 begins_so laws limit text d l free =
@@ -222,7 +225,7 @@ begins_so laws limit text d l free =
     w.tokens (size (start text).core) (omega arith) ∙ ap (λ ps. onto (flat ps) (others limit d)) (sym w.places)
 
 -- Where such a run reaches the end, they are all the tokens of the text.
-pub handed_out : Readers → (limit : ℕ) (text : List ℕ) (d : State) → Leads limit d (start text) → d.core.ended ≡ true
+pub handed_out : Readers → (limit : ℕ) (text : List ℕ) (d : State) → LeadsTo limit d (start text) → d.core.ended ≡ true
     → remaining limit (start text) ≡ record { pieces = flat d.queue.places; refusal = None }
 handed_out laws limit text d l over =
     begins_so laws limit text d l (free_end d.core over)

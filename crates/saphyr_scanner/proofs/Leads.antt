@@ -23,7 +23,7 @@ flat [] = []
 flat (p ∷ ps) = place_pieces p.opening p.piece ++ flat ps
 
 -- from a state to d, a token after the other
-pub data Leads (limit : ℕ) (d : State) : State → Type 0 where
-  stay : Leads limit d d
+pub data LeadsTo (limit : ℕ) (d : State) : State → Type 0 where
+  stay : LeadsTo limit d d
   onward : (s t u : State) → s.core.ended ≡ false → fetch_within limit s ≡ Ok t → without_far_key t ≡ Ok u
-      → Leads limit d u → Leads limit d s
+      → LeadsTo limit d u → LeadsTo limit d s

@@ -4,9 +4,9 @@ use Rattle.std.specs.Prelude.{map, reverse, ◌||◌}
 use Rattle.std.proofs.lemmas.List.{reverse-append, map-append}
 use Rattle.std.proofs.Math.Seq.{drop-cons}
 use Rattle.saphyr_scanner.specs.declared.engine.level.Level as declared
-use Rattle.saphyr_scanner.specs.Steps.Core.{Level}
+use Rattle.saphyr_scanner.specs.Steps.Level.{Level, holds}
 use Rattle.saphyr_scanner.specs.Views.Engine.{level}
-use Rattle.saphyr_scanner.specs.Steps.Fetch.{holds, any_holds}
+use Rattle.saphyr_scanner.specs.Steps.Fetch.{any_holds}
 use Rattle.saphyr_input.proofs.Basics.Booleans.{or_assoc}
 use Rattle.std.proofs.Math.Bool.{or-false}
 

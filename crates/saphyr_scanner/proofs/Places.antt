@@ -5,21 +5,21 @@ use Rattle.std.specs.List.{All}
 use Rattle.std.proofs.lemmas.List.Elements.{All-nil, All-cons, All-head, All-tail}
 use Rattle.saphyr_scanner.specs.declared.queue.place.Place as declared
 use Rattle.saphyr_scanner.specs.declared.queue.Opening.{Opening}
-use Rattle.saphyr_scanner.specs.Steps.Queue.{Place, opened}
+use Rattle.saphyr_scanner.specs.Steps.Queue.{Place, places_with_opening}
 use Rattle.saphyr_scanner.specs.declared.queue.slot.Slot.{Slot}
-use Rattle.saphyr_scanner.proofs.Queues.{with_front}
+use Rattle.saphyr_scanner.proofs.Queues.{place_with_front}
 use Rattle.saphyr_scanner.specs.Views.Places.{HasHeldText, IsHeldText, place, text_place}
 use Rattle.saphyr_scanner.specs.Views.Queue.{in_slot, slot_place}
 
 -- where `r` is `q`, which stood at that place, with this in front of it
-pub opened_is_set : (bytes : List ℕ) (n : ℕ) (o : Opening) (ps : List declared.Place) (q r : declared.Place)
-    → q ≡ slice_index_or ps n q → place bytes r ≡ with_front o (place bytes q).piece
-    → map (place bytes) (set ps n r) ≡ opened n o (map (place bytes) ps)
-opened_is_set bytes n o [] q r e f = refl
-opened_is_set bytes zero o (p ∷ ps) q r e f =
-    ap (λ x. x ∷ map (place bytes) ps) (f ∙ ap (λ x. with_front o (place bytes x).piece) e)
-opened_is_set bytes (suc n) o (p ∷ ps) q r e f =
-    ap (λ x. place bytes p ∷ x) (opened_is_set bytes n o ps q r e f)
+pub with_opening_is_set : (bytes : List ℕ) (n : ℕ) (o : Opening) (ps : List declared.Place) (q r : declared.Place)
+    → q ≡ slice_index_or ps n q → place bytes r ≡ place_with_front o (place bytes q).piece
+    → map (place bytes) (set ps n r) ≡ places_with_opening n o (map (place bytes) ps)
+with_opening_is_set bytes n o [] q r e f = refl
+with_opening_is_set bytes zero o (p ∷ ps) q r e f =
+    ap (λ x. x ∷ map (place bytes) ps) (f ∙ ap (λ x. place_with_front o (place bytes x).piece) e)
+with_opening_is_set bytes (suc n) o (p ∷ ps) q r e f =
+    ap (λ x. place bytes p ∷ x) (with_opening_is_set bytes n o ps q r e f)
 
 -- where the opened place has its text where it had it
 pub texts_of_set : (bytes : List ℕ) (n : ℕ) (ps : List declared.Place) (q r : declared.Place)
@@ -35,11 +35,12 @@ texts_of_set bytes (suc n) (p ∷ ps) q r e t h =
     (All-head (HasHeldText bytes) p ps h)
     (texts_of_set bytes n ps q r e t (All-tail (HasHeldText bytes) p ps h))
 
-pub opened_outside : (bytes : List ℕ) (n : ℕ) (o : Opening) (ps : List declared.Place) → length ps ≤ n
-    → opened n o (map (place bytes) ps) ≡ map (place bytes) ps
-opened_outside bytes n o [] h = refl
-opened_outside bytes zero o (q ∷ qs) h = absurd (omega (arith, h))
-opened_outside bytes (suc n) o (q ∷ qs) h = ap (λ r. place bytes q ∷ r) (opened_outside bytes n o qs (omega (arith, h)))
+pub with_opening_outside : (bytes : List ℕ) (n : ℕ) (o : Opening) (ps : List declared.Place) → length ps ≤ n
+    → places_with_opening n o (map (place bytes) ps) ≡ map (place bytes) ps
+with_opening_outside bytes n o [] h = refl
+with_opening_outside bytes zero o (q ∷ qs) h = absurd (omega (arith, h))
+with_opening_outside bytes (suc n) o (q ∷ qs) h =
+    ap (λ r. place bytes q ∷ r) (with_opening_outside bytes n o qs (omega (arith, h)))
 
 in_slot_append : (full : Bool) (p : Place) (ps qs : List Place)
     → (if full then p ∷ (ps ++ qs) else (ps ++ qs)) ≡ (if full then p ∷ ps else ps) ++ qs

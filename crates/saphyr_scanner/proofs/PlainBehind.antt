@@ -11,24 +11,24 @@ use Rattle.saphyr_scalar.specs.Steps.Quoted.{at}
 use Rattle.saphyr_input.proofs.Basics.Booleans.{by_test, or_false_right}
 use Rattle.saphyr_scalar.proofs.Given.{Given}
 
-abbrev pub Stops : Cursor → Type 0
-Stops s = is_break (slice_index s.rest 0) ≡ false
+abbrev pub StopsUnbroken : Cursor → Type 0
+StopsUnbroken s = is_break (slice_index s.rest 0) ≡ false
 
 abbrev StopsGap : PlainGap → Type 0
-StopsGap g = Stops g.behind
+StopsGap g = StopsUnbroken g.behind
 
 abbrev pub IsNoted : Option Marker → Cursor → Type 0
 IsNoted comment s = (comment ≡ None) ⊎ (comment ≡ Some s.mark)
 
-abbrev pub Ends : List ℕ × Marker × Option Marker × Cursor → Type 0
-Ends x = IsNoted x.2 x.3 × Stops x.3
+abbrev pub EndsUnbroken : List ℕ × Marker × Option Marker × Cursor → Type 0
+EndsUnbroken x = IsNoted x.2 x.3 × StopsUnbroken x.3
 
 given_then : {X Y : Type 0} → (P : X → Type 0) (Q : Y → Type 0) (r : Result X Refusal) (f : X → Result Y Refusal)
     → Given P r → ((x : X) → P x → Given Q (f x)) → Given Q (r >>= f)
 given_then P Q (Ok x) f h go = go x h
 given_then P Q (Err e) f h go = tt
 
-line_stops : (start : Marker) (tabbed : Bool) (feeds : List ℕ) (s : Cursor) → Stops s
+line_stops : (start : Marker) (tabbed : Bool) (feeds : List ℕ) (s : Cursor) → StopsUnbroken s
     → Given StopsGap (reached start tabbed feeds s)
 unfolding may_stand
 line_stops start tabbed feeds s h =
@@ -59,7 +59,8 @@ gap_stops indent start blanks s =
     (lines_stop indent start false [] t.mark t.rest) (λ g h. h))
     (λ e. e)
 
-ended_ends : (in_flow : Bool) (end : Marker) (g : PlainGap) → StopsGap g → Given Ends (scalar_ended in_flow end g)
+ended_ends : (in_flow : Bool) (end : Marker) (g : PlainGap) → StopsGap g
+    → Given EndsUnbroken (scalar_ended in_flow end g)
 unfolding comment_of
 ended_ends in_flow end g h = (
   by_test (not in_flow && (slice_index g.behind.rest 0 == 35) && (g.tabbed || not g.behind.blank_so_far))
@@ -67,7 +68,7 @@ ended_ends in_flow end g h = (
   h,
 )
 
-text_ends : (text : List ℕ) (r : PlainScalarRead) → Given Ends r → Given Ends (with_text text r)
+text_ends : (text : List ℕ) (r : PlainScalarRead) → Given EndsUnbroken r → Given EndsUnbroken (with_text text r)
 text_ends text (Ok x) h = h
 text_ends text (Err e) h = tt
 
@@ -79,30 +80,30 @@ mutual
   unfolding between word gap
 
   between_ends : (in_flow : Bool) (indent : ℕ) (start end : Marker) (g : PlainGap) (left : ℕ) (xs : List ℕ) → StopsGap g
-      → Given Ends (between in_flow indent start end g left xs)
+      → Given EndsUnbroken (between in_flow indent start end g left xs)
   between_ends in_flow indent start end g left [] h = ended_ends in_flow end g h
   between_ends in_flow indent start end g zero (c ∷ cs) h =
-      given_then (λ (b : Bool × Cursor). Unit {0}) Ends (goes_on in_flow indent g.behind) _
+      given_then (λ (b : Bool × Cursor). Unit {0}) EndsUnbroken (goes_on in_flow indent g.behind) _
       (any (goes_on in_flow indent g.behind))
-      (λ b _. by_test b.0 _ _ (Given Ends)
+      (λ b _. by_test b.0 _ _ (Given EndsUnbroken)
       (λ _. text_ends _ (word in_flow indent start (along g.behind.mark 1) cs)
       (word_ends in_flow indent start (along g.behind.mark 1) cs))
       (λ _. ended_ends in_flow end g h))
   between_ends in_flow indent start end g (suc left) (c ∷ cs) h = between_ends in_flow indent start end g left cs h
 
   word_ends : (in_flow : Bool) (indent : ℕ) (start m : Marker) (xs : List ℕ)
-      → Given Ends (word in_flow indent start m xs)
+      → Given EndsUnbroken (word in_flow indent start m xs)
   word_ends in_flow indent start m [] =
       ended_ends in_flow m (record { text = []; tabbed = false; behind = at m [] }) refl
   word_ends in_flow indent start m (c ∷ cs) =
-      by_test (in_word in_flow (c ∷ cs)) _ _ (Given Ends)
+      by_test (in_word in_flow (c ∷ cs)) _ _ (Given EndsUnbroken)
       (λ _. text_ends _ (word in_flow indent start (along m 1) cs) (word_ends in_flow indent start (along m 1) cs))
-      (λ _. given_then StopsGap Ends (gap indent start (at m (c ∷ cs))) _ (gap_stops indent start _ _)
-      (λ g h. by_test (gap_len (c ∷ cs) g == 0) _ _ (Given Ends) (λ _. ended_ends in_flow m g h)
+      (λ _. given_then StopsGap EndsUnbroken (gap indent start (at m (c ∷ cs))) _ (gap_stops indent start _ _)
+      (λ g h. by_test (gap_len (c ∷ cs) g == 0) _ _ (Given EndsUnbroken) (λ _. ended_ends in_flow m g h)
       (λ _. between_ends in_flow indent start m g (pred (gap_len (c ∷ cs) g)) cs h)))
 
-pub plain_ends : (in_flow : Bool) (indent : ℕ) (s : Cursor) → Given Ends (plain in_flow indent s)
+pub plain_ends : (in_flow : Bool) (indent : ℕ) (s : Cursor) → Given EndsUnbroken (plain in_flow indent s)
 unfolding plain
 plain_ends in_flow indent s =
-    given_then (λ (b : Bool × Cursor). Unit {0}) Ends (word_starts in_flow s) _ (any (word_starts in_flow s))
-    (λ b _. by_test b.0 _ _ (Given Ends) (λ _. word_ends in_flow indent s.mark b.1.mark b.1.rest) (λ _. tt))
+    given_then (λ (b : Bool × Cursor). Unit {0}) EndsUnbroken (word_starts in_flow s) _ (any (word_starts in_flow s))
+    (λ b _. by_test b.0 _ _ (Given EndsUnbroken) (λ _. word_ends in_flow indent s.mark b.1.mark b.1.rest) (λ _. tt))

@@ -12,8 +12,8 @@ abbrev pub holding : Core → List Place → ℕ → State
 holding c ps n = record { core = c; queue = record { places = ps; handed = n } }
 
 -- a place with what is put before its token
-abbrev pub with_front : Opening → Piece → Place
-with_front o t = record { opening = o; piece = t }
+abbrev pub place_with_front : Opening → Piece → Place
+place_with_front o t = record { opening = o; piece = t }
 
 pub flat_append : (ps qs : List Place) → flat (ps ++ qs) ≡ flat ps ++ flat qs
 flat_append [] qs = refl

@@ -27,11 +27,11 @@ use Rattle.saphyr_scalar.specs.Steps.Tag as tags
 use Rattle.saphyr_scalar.specs.Spelling.Tag.{IsAnchorName, IsTagText, EndsTag}
 use Rattle.saphyr_scalar.proofs.Plain.Texts.{passed_index}
 use Rattle.saphyr_scanner.proofs.Counted.{Ahead, ahead_ahead, text_passed, passed_over, pass_break_counted}
-use Rattle.saphyr_scanner.proofs.Effects.Readers.{Reads, ReadsSpan, ReaderEnds}
+use Rattle.saphyr_scanner.proofs.Effects.Readers.{ReadsUpTo, ReadsSpan, ReaderEnds}
 
 -- ## Plain scalars
 
-plain_counted : (s t : Cursor) (text : List ℕ) (end : Marker) → IsPlainReading s text end t → Reads s end t
+plain_counted : (s t : Cursor) (text : List ℕ) (end : Marker) → IsPlainReading s text end t → ReadsUpTo s end t
 plain_counted s t text end r =
     let a = passed_index s.mark r.piece in
     let b = passed_index end r.white in
@@ -63,7 +63,7 @@ name_counted s t indicator name is e =
 -- ## Directives
 
 directive_counted : (s u : Cursor) (end : Marker) (t tail x : List ℕ) → s.rest ≡ t ++ (tail ++ x)
-    → end ≡ along s.mark (length t) → u ≡ pass_break (at (along s.mark (length t + length tail)) x) → Reads s end u
+    → end ≡ along s.mark (length t) → u ≡ pass_break (at (along s.mark (length t + length tail)) x) → ReadsUpTo s end u
 directive_counted s u end t tail x is ends e =
     let v : Cursor = at (along s.mark (length t + length tail)) x in
     let l : length s.rest ≡ length (t ++ (tail ++ x)) = ap length is in

@@ -18,15 +18,15 @@ use Rattle.saphyr_scanner.proofs.Filling.{IsSettled, settled_once}
 use Rattle.saphyr_scanner.proofs.Unroll.{refused_first, rest, remaining_is, settled_is, filled_in}
 use Rattle.saphyr_scalar.proofs.Given.{bind_ok}
 use Rattle.std.proofs.lemmas.Bool.{cond-true, cond-false}
-use Rattle.saphyr_scanner.proofs.Queues.{holding, with_front}
+use Rattle.saphyr_scanner.proofs.Queues.{holding, place_with_front}
 
 -- what is taken of a state, and what remains of it
-abbrev Leaves : ℕ → State → State → Option Piece → Type 0
-Leaves limit t u None = (rest limit t ≡ none) × (u ≡ t)
-Leaves limit t u (Some x) = rest limit t ≡ before x (rest limit u)
+abbrev LeavesToken : ℕ → State → State → Option Piece → Type 0
+LeavesToken limit t u None = (rest limit t ≡ none) × (u ≡ t)
+LeavesToken limit t u (Some x) = rest limit t ≡ before x (rest limit u)
 
-abbrev Takes : ℕ → State → Option Piece × State → Type 0
-Takes limit t r = Leaves limit t r.1 r.0
+abbrev TakesToken : ℕ → State → Option Piece × State → Type 0
+TakesToken limit t r = LeavesToken limit t r.1 r.0
 
 rest_at_end : (limit : ℕ) (c : Core) (n : ℕ) → needs_token (holding c [] n) ≡ false → rest limit (holding c [] n) ≡ none
 rest_at_end limit c n ready = cond-true c.ended _ _ (over c.ended ready)
@@ -42,21 +42,21 @@ place_first limit c p ps n ready = cond-false (needs_token (holding c (p ∷ ps)
 
 -- Whether a token has to be read does not depend on what stands in front of the first one.
 place_taken : (limit : ℕ) (c : Core) (o : Opening) (t : Piece) (ps : List Place) (n : ℕ)
-    → needs_token (holding c (with_front o t ∷ ps) n) ≡ false
-    → Takes limit (holding c (with_front o t ∷ ps) n) (take_token (holding c (with_front o t ∷ ps) n))
-place_taken limit c opening.Nothing t ps n ready = place_first limit c (with_front opening.Nothing t) ps n ready
+    → needs_token (holding c (place_with_front o t ∷ ps) n) ≡ false
+    → TakesToken limit (holding c (place_with_front o t ∷ ps) n) (take_token (holding c (place_with_front o t ∷ ps) n))
+place_taken limit c opening.Nothing t ps n ready = place_first limit c (place_with_front opening.Nothing t) ps n ready
 place_taken limit c opening.Key t ps n ready =
-    place_first limit c (with_front opening.Key t) ps n ready
-    ∙ ap (before _) (sym (place_first limit c (with_front opening.Nothing t) ps n ready))
+    place_first limit c (place_with_front opening.Key t) ps n ready
+    ∙ ap (before _) (sym (place_first limit c (place_with_front opening.Nothing t) ps n ready))
 place_taken limit c opening.BlockMappingAndKey t ps n ready =
-    place_first limit c (with_front opening.BlockMappingAndKey t) ps n ready
-    ∙ ap (before _) (sym (place_first limit c (with_front opening.Key t) ps n ready))
+    place_first limit c (place_with_front opening.BlockMappingAndKey t) ps n ready
+    ∙ ap (before _) (sym (place_first limit c (place_with_front opening.Key t) ps n ready))
 place_taken limit c opening.FlowMappingAndKey t ps n ready =
-    place_first limit c (with_front opening.FlowMappingAndKey t) ps n ready
-    ∙ ap (before _) (sym (place_first limit c (with_front opening.Key t) ps n ready))
+    place_first limit c (place_with_front opening.FlowMappingAndKey t) ps n ready
+    ∙ ap (before _) (sym (place_first limit c (place_with_front opening.Key t) ps n ready))
 
 first_taken : (limit : ℕ) (c : Core) (ps : List Place) (n : ℕ) → needs_token (holding c ps n) ≡ false
-    → Takes limit (holding c ps n) (take_token (holding c ps n))
+    → TakesToken limit (holding c ps n) (take_token (holding c ps n))
 first_taken limit c [] n ready = (rest_at_end limit c n ready, refl)
 first_taken limit c (p ∷ ps) n ready = place_taken limit c p.opening p.piece ps n ready
 
@@ -78,16 +78,16 @@ filled laws limit s t e =
     (remaining_is limit s b.0 b.1 ∙ f.same, f.ready, f.settles)
 
 hands : (limit : ℕ) (t u : State) (r : Option Token) (old : Remaining) → old ≡ rest limit t → IsSettled t
-    → Takes limit t (take_token t) → (option_map piece r, u) ≡ take_token t → Hands (Ok r) old (remaining limit u)
+    → TakesToken limit t (take_token t) → (option_map piece r, u) ≡ take_token t → Hands (Ok r) old (remaining limit u)
 hands limit t u None old is settles taken e =
     let first : (take_token t).0 ≡ None = ap (λ x. x.0) (sym e) in
     let second : u ≡ (take_token t).1 = ap (λ x. x.1) e in
-    let gone = subst (Leaves limit t (take_token t).1) first taken in
+    let gone = subst (LeavesToken limit t (take_token t).1) first taken in
     (is ∙ gone.0, ap (remaining limit) (second ∙ gone.1) ∙ remaining_of limit t settles ∙ gone.0)
 hands limit t u (Some x) old is settles taken e =
     let first : (take_token t).0 ≡ Some (piece x) = ap (λ x. x.0) (sym e) in
     let second : u ≡ (take_token t).1 = ap (λ x. x.1) e in
-    let gone = subst (Leaves limit t (take_token t).1) first taken in
+    let gone = subst (LeavesToken limit t (take_token t).1) first taken in
     is ∙ gone ∙ ap (before (piece x))
     (sym (remaining_of limit (take_token t).1 (taken_settles t settles)) ∙ ap (remaining limit) (sym second))
 

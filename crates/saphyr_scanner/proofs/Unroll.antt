@@ -2,11 +2,11 @@
 use Rattle.std.proofs.Common.{◌≡◌, ℕ, zero, suc, ◌<◌, Bool, true, false, List, [], ◌∷◌, Result, Ok, Err, refl, sym, ap, ◌∙◌, arith, subst, cond}
 use Rattle.saphyr_scalar.specs.declared.scalar.fault.Refusal.{Refusal}
 use Rattle.saphyr_scalar.specs.Views.Cursor.{◌>>=◌}
-use Rattle.saphyr_scanner.specs.Views.Tokens.{Remaining, none, refused}
+use Rattle.saphyr_scanner.specs.Views.Tokens.{Remaining, none, refusal_alone}
 use Rattle.saphyr_scanner.specs.Steps.Queue.{Place}
 use Rattle.saphyr_scanner.specs.Steps.State.{State}
 use Rattle.saphyr_scanner.specs.Steps.Fetch.{size, without_far_key, needs_token, fill_in, fill}
-use Rattle.saphyr_scanner.specs.Steps.Remaining.{before_place, without_first, hand_out, delivered, run, remaining}
+use Rattle.saphyr_scanner.specs.Steps.Remaining.{before_place, without_first, hand_out, remaining_after, run, remaining}
 use Rattle.saphyr_scanner.proofs.Effects.Readers.{Readers}
 use Rattle.saphyr_scanner.proofs.Filling.{read, going, smaller_read, less_read, IsSettled, settled_once, read_settles}
 use Rattle.saphyr_scalar.proofs.Given.{bind_ok}
@@ -14,7 +14,7 @@ use Rattle.std.proofs.lemmas.Bool.{cond-true, cond-false}
 
 -- what comes behind the tokens that can be handed out
 abbrev pub behind : ℕ → ℕ → State → Remaining
-behind n limit t = cond t.core.ended none (delivered (read limit t) (run n limit))
+behind n limit t = cond t.core.ended none (remaining_after (read limit t) (run n limit))
 
 pub same_hands : (ps : List Place) (go ho : State → Remaining) (s : State)
     → ((t : State) → t.core ≡ s.core → go t ≡ ho t) → hand_out ps go s ≡ hand_out ps ho s
@@ -26,10 +26,10 @@ same_hands (p ∷ ps) go ho s h = by (needs_token s) refl (same_hands ps go ho (
     by true e others = rw e (h s refl)
     by false e others = rw e (ap (before_place p.opening p.piece) others)
 
-delivered_so : (r : Result State Refusal) (f g : State → Remaining) → ((u : State) → r ≡ Ok u → f u ≡ g u)
-    → delivered r f ≡ delivered r g
-delivered_so (Ok u) f g h = h u refl
-delivered_so (Err e) f g h = refl
+remaining_after_so : (r : Result State Refusal) (f g : State → Remaining) → ((u : State) → r ≡ Ok u → f u ≡ g u)
+    → remaining_after r f ≡ remaining_after r g
+remaining_after_so (Ok u) f g h = h u refl
+remaining_after_so (Err e) f g h = refl
 
 -- a token less is to be read behind each
 pub enough : Readers → (limit n m : ℕ) (s : State) → size s.core < n → size s.core < m → run n limit s ≡ run m limit s
@@ -47,7 +47,7 @@ enough laws limit (suc n) (suc m) s a b =
     at t e false over h =
         let same_size : size t.core ≡ size s.core = ap size e in
         cond-false t.core.ended _ _ over
-        ∙ delivered_so (read limit t) _ _
+        ∙ remaining_after_so (read limit t) _ _
         (λ u q. let less = less_read laws limit t u over q in h u (omega (arith, less, same_size)))
         ∙ sym (cond-false t.core.ended _ _ over)
 
@@ -83,7 +83,7 @@ filled_in laws limit (suc n) s t a k e =
         let less = smaller_read laws limit s u needs q in
         let over = going s.core.ended _ needs in
         let first : rest limit s ≡ run (size s.core) limit u = hand_nothing s.queue.places (behind (size s.core) limit)
-        needs ∙ cond-false s.core.ended _ _ over ∙ ap (λ r. delivered r (run (size s.core) limit)) q in
+        needs ∙ cond-false s.core.ended _ _ over ∙ ap (λ r. remaining_after r (run (size s.core) limit)) q in
         record {
           same = first ∙ enough laws limit (size s.core) (suc (size u.core)) u less (omega arith) ∙ others.same;
           ready = others.ready;
@@ -111,7 +111,7 @@ filled_in laws limit (suc n) s t a k e =
 -- ## A refusal
 
 refused_in : Readers → (limit n : ℕ) (s : State) (e : Refusal) → size s.core < n → IsSettled s
-    → fill_in n limit s ≡ Err e → rest limit s ≡ refused e
+    → fill_in n limit s ≡ Err e → rest limit s ≡ refusal_alone e
 refused_in laws limit zero s e a k q = absurd (omega (arith, a))
 refused_in laws limit (suc n) s e a k q =
     by (needs_token s) refl (λ u less settles f. refused_in laws limit n u e (omega (arith, less, a)) settles f)
@@ -120,21 +120,23 @@ refused_in laws limit (suc n) s e a k q =
     hand_nothing [] go needs = refl
     hand_nothing (p ∷ ps) go needs = rw needs refl
 
-    first : needs_token s ≡ true → rest limit s ≡ delivered (read limit s) (run (size s.core) limit)
+    first : needs_token s ≡ true → rest limit s ≡ remaining_after (read limit s) (run (size s.core) limit)
     first needs = hand_nothing s.queue.places (behind (size s.core) limit) needs
         ∙ cond-false s.core.ended _ _ (going s.core.ended _ needs)
 
     read_so : (r : Result State Refusal) → read limit s ≡ r → needs_token s ≡ true → (r >>= fill_in n limit) ≡ Err e
-        → ((u : State) → size u.core < size s.core → IsSettled u → fill_in n limit u ≡ Err e → rest limit u ≡ refused e)
-        → delivered r (run (size s.core) limit) ≡ refused e
+        → ((u : State) → size u.core < size s.core → IsSettled u → fill_in n limit u ≡ Err e
+        → rest limit u ≡ refusal_alone e)
+        → remaining_after r (run (size s.core) limit) ≡ refusal_alone e
     read_so (Ok u) i needs f h =
         let less = smaller_read laws limit s u needs i in
         enough laws limit (size s.core) (suc (size u.core)) u less (omega arith) ∙ h u less (read_settles limit s u i) f
-    read_so (Err d) i needs f h = let is : d ≡ e = cc in ap refused is
+    read_so (Err d) i needs f h = let is : d ≡ e = cc in ap refusal_alone is
 
     by : (b : Bool) → needs_token s ≡ b
-        → ((u : State) → size u.core < size s.core → IsSettled u → fill_in n limit u ≡ Err e → rest limit u ≡ refused e)
-        → rest limit s ≡ refused e
+        → ((u : State) → size u.core < size s.core → IsSettled u → fill_in n limit u ≡ Err e
+        → rest limit u ≡ refusal_alone e)
+        → rest limit s ≡ refusal_alone e
     by true needs h =
         let g : (read limit s >>= fill_in n limit) ≡ Err e =
         sym (cond-true (needs_token s) (read limit s >>= fill_in n limit) (Ok s) needs) ∙ q in
@@ -142,18 +144,18 @@ refused_in laws limit (suc n) s e a k q =
     by false needs h = absurd (cc)
 
 settled_fill : (limit : ℕ) (s : State) (r : Result State Refusal) (e : Refusal)
-    → without_far_key s ≡ r → fill limit s ≡ Err e → Readers → remaining limit s ≡ refused e
+    → without_far_key s ≡ r → fill limit s ≡ Err e → Readers → remaining limit s ≡ refusal_alone e
 unfolding fill remaining
 settled_fill limit s (Ok t) e i f laws =
     let g : fill_in (suc (size t.core)) limit t ≡ Err e =
     sym (ap (λ r. r >>= λ u. fill_in (suc (size u.core)) limit u) i) ∙ f in
-    ap (λ r. delivered r (λ u. run (suc (size u.core)) limit u)) i
+    ap (λ r. remaining_after r (λ u. run (suc (size u.core)) limit u)) i
     ∙ refused_in laws limit (suc (size t.core)) t e (omega arith) (settled_once s t i) g
 settled_fill limit s (Err d) e i f laws =
     let g : Err d ≡ Err e = sym (ap (λ r. r >>= λ u. fill_in (suc (size u.core)) limit u) i) ∙ f in
     let is : d ≡ e = cc in
-    ap (λ r. delivered r (λ u. run (suc (size u.core)) limit u)) i ∙ ap refused is
+    ap (λ r. remaining_after r (λ u. run (suc (size u.core)) limit u)) i ∙ ap refusal_alone is
 
 pub refused_first : Readers → (limit : ℕ) (s : State) (e : Refusal) → fill limit s ≡ Err e
-    → remaining limit s ≡ refused e
+    → remaining limit s ≡ refusal_alone e
 refused_first laws limit s e f = settled_fill limit s (without_far_key s) e refl f laws

@@ -1,6 +1,7 @@
 -- How the steps of a scanner are told, on what it knows and the tokens that it holds.
 pub mod Queue
 pub mod Gap
+pub mod Level
 pub mod Core
 pub mod Passing
 pub mod State

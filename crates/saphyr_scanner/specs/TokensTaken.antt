@@ -83,8 +83,7 @@ abbrev pub HasNoText : Span → Cursor → Cursor → Type 0
 HasNoText span s t = (span.end ≡ span.start) × IsPlaceOrEnd s span.start × (t ≡ s)
 
 -- The start of a block collection stands where the text of the next token begins that has one: neither a blank, a break
--- nor
--- a comment stands there.
+-- nor a comment stands there.
 abbrev pub begins_text : ℕ → Bool
 begins_text c = not (is_blank_or_break c) && not (c == number_sign)
 
@@ -172,10 +171,8 @@ abbrev pub may_begin_plain : ℕ → Bool
 may_begin_plain c = not (is_one_of (codes ",[]{}#&*!'\"%@`") c)
 
 -- The span is the piece that is read. It begins with neither a blank nor a break, and with `-`, `?` or `:` only where
--- no
--- blank, break or NUL follows. Where blanks and breaks behind it are passed no break stands behind those, so that none
--- of
--- two characters is cut.
+-- no blank, break or NUL follows. Where blanks and breaks behind it are passed no break stands behind those, so that
+-- none of two characters is cut.
 pub record IsPlainToken (value : List ℕ) (span : Span) (s t : Cursor) : Type 0 where
   pub start : span.start ≡ s.mark
   pub begins : IsTrue (may_begin_plain (slice_index s.rest 0))

@@ -25,7 +25,7 @@ fn end_gap<T: Input>(
     tabbed: bool,
 ) -> Result<bool, Refusal>
     requires { c ≡ slice_index (cursor_of reader.now).rest 0 }
-    ensures { GivesAs spec.seen_passed (spec.stop_at broke tabbed) reader.now result reader.now }
+    ensures { GivesAs spec.seen_gap_end (spec.stop_at broke tabbed) reader.now result reader.now }
 {
     let mark = reader.mark();
     if tabbed && is_bom(c) {
@@ -41,7 +41,7 @@ fn end_gap<T: Input>(
 
 // Passes blanks, breaks and comments one after the other, spaces and comments in one piece, as `skip_gap` says.
 fn skip_gap_characters<T: Input>(reader: &mut Reader<T>, least: usize) -> Result<bool, Refusal>
-    ensures { GivesAs spec.seen_passed (spec.passed_gap least) reader.old result reader.new }
+    ensures { GivesAs spec.seen_gap_end (spec.whole_gap least) reader.old result reader.new }
 {
     let mut broke = false;
     let mut tabbed = false;
@@ -69,7 +69,7 @@ fn skip_gap_characters<T: Input>(reader: &mut Reader<T>, least: usize) -> Result
 // A tab left of the column `least` is refused where content stands behind it on its line.
 #[inline(always)]
 pub(crate) fn skip_gap<T: Input>(reader: &mut Reader<T>, least: usize) -> Result<bool, Refusal>
-    ensures { GivesAs spec.seen_passed (spec.passed_gap least) reader.old result reader.new }
+    ensures { GivesAs spec.seen_gap_end (spec.whole_gap least) reader.old result reader.new }
 {
     // Most often the next token stands right here.
     let c = reader.look();

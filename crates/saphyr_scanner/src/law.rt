@@ -188,7 +188,7 @@ pub fn bounds_tokens()
 
 /// What is passed between two tokens is blanks, breaks and comments alone.
 pub fn passes_separation()
-    ensures gap { (least : ℕ) (s : Cursor) (g : gaps.Passed) → gaps.passed_gap least s ≡ Ok g
+    ensures gap { (least : ℕ) (s : Cursor) (g : gaps.GapEnd) → gaps.whole_gap least s ≡ Ok g
         → AreApart s g.cursor }
     ensures spaces { (s : Cursor) → AreApart s (gaps.spaces_at false s).cursor }
     ensures line { (s : Cursor) (x : SkipTabs × Cursor) → separation Yes s ≡ Ok x

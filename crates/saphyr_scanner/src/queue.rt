@@ -96,7 +96,7 @@ impl Queue {
         token: Token,
         spare: &mut Spare,
     ) -> Result<(), AllocError>
-        ensures { OnOk result (queue self.new ≡ spec.put (piece token) (queue self.old)) }
+        ensures { OnOk result (queue self.new ≡ spec.with_piece (piece token) (queue self.old)) }
     {
         if self.second.is_full || !self.held.is_empty() {
             let kind = token.kind;
@@ -121,7 +121,7 @@ impl Queue {
         spare: &mut Spare,
     ) -> Result<(), AllocError>
         ensures { OnOk result (queue self.new
-            ≡ spec.put (record { span = span.now; kind = kind_of kind }) (queue self.old)) }
+            ≡ spec.with_piece (record { span = span.now; kind = kind_of kind }) (queue self.old)) }
     {
         self.held.put(alloc, span, kind, spare)
     }

@@ -21,18 +21,18 @@ pub record BlockText (room : ℕ) (node : Node) (place : Position) (t behind : L
 
 -- ## Nodes that are no block collections
 
-in_block : (room : ℕ) (node : Node) (place : Position) (t behind : List ℕ) → IsFlowInBlock room node place t behind
+node_in_block : (room : ℕ) (node : Node) (place : Position) (t behind : List ℕ) → IsFlowInBlock room node place t behind
     → IsBlockNode room node place t behind
-in_block room (Alias name) place t behind h = h
-in_block room (Scalar p style value) place t behind h = inr (inl h)
-in_block room (Seq p nodes) place t behind h = inl h
-in_block room (Map p pairs) place t behind h = inl h
+node_in_block room (Alias name) place t behind h = h
+node_in_block room (Scalar p style value) place t behind h = inr (inl h)
+node_in_block room (Seq p nodes) place t behind h = inl h
+node_in_block room (Map p pairs) place t behind h = inl h
 
 pub flow : {room : ℕ} {node : Node} {place : Position} {gap t end behind : List ℕ} → Gap place gap
     → FlowText room node false (indent_at place) t → End end behind
     → BlockText room node place (gap ++ (t ++ end)) behind
 flow {room} {node} {place} {gap} {t} {end} {behind} g h e = record {
-  holds = in_block room node place (gap ++ (t ++ end)) behind (gap, t, end, g.holds, h.holds, e.holds, refl);
+  holds = node_in_block room node place (gap ++ (t ++ end)) behind (gap, t, end, g.holds, h.holds, e.holds, refl);
 }
 
 -- a word of one letter behind an indicator, up to the end of its line
@@ -60,8 +60,8 @@ at_start = record { holds = inr (refl, refl) }
 pub behind_dash : {least m : ℕ} → Lead no_properties (BehindDash m) least (m + 2) (codes " ")
 behind_dash = record { holds = inr (refl, (1, omega arith, omega arith, refl)) }
 
-pub behind_question : {least m : ℕ} → Lead no_properties (BehindMark m) least (m + 2) (codes " ")
-behind_question = record { holds = inr (refl, (1, omega arith, omega arith, refl)) }
+pub behind_question_mark : {least m : ℕ} → Lead no_properties (BehindMark m) least (m + 2) (codes " ")
+behind_question_mark = record { holds = inr (refl, (1, omega arith, omega arith, refl)) }
 
 -- on the next lines, at column m
 pub below : {place : Position} {least : ℕ} {rest lines : List ℕ} (m : ℕ) → Rest rest → Filler lines → least ≤ m
@@ -165,10 +165,10 @@ pub no_pair : {room m : ℕ} {behind : List ℕ} → MoreBlockPairs room NoPair 
 no_pair = record { holds = refl }
 
 -- a key, its colon right behind it, and a value
-pub colon : {room m : ℕ} {key value : Node} {t v behind : List ℕ} → KeyOnLine room key m t []
+pub pair_by_colon : {room m : ℕ} {key value : Node} {t v behind : List ℕ} → KeyOnLine room key m t []
     → BlockText room value (BehindKey m) v behind → IsTrue (not (needs_separation key))
     → BlockPair room key value m (t ++ (58 ∷ v)) behind
-colon {t = t} {v} k h n = record {
+pair_by_colon {t = t} {v} k h n = record {
   holds = inl (
     t,
     [],
@@ -205,7 +205,7 @@ colon_apart {t = t} {v} k h = record {
 pub letter : {c room m : ℕ} {value : Node} {v behind : List ℕ} → IsLetter c
     → BlockText room value (BehindKey m) v behind
     → BlockPair room (plain_node (c ∷ [])) value m (c ∷ 58 ∷ v) behind
-letter l h = colon (letter_key l (omega arith)) h refl
+letter l h = pair_by_colon (letter_key l (omega arith)) h refl
 
 pub asked : {room m : ℕ} {key : Node} {t behind : List ℕ} → BlockText room key (BehindMark m) t behind
     → IsBehindQuestion t behind → BlockPair room key left_out m (63 ∷ t) behind

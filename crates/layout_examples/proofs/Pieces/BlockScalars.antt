@@ -36,12 +36,12 @@ ends i n others less none z = record {
 }
 
 -- a literal scalar behind an indicator and a space
-pub literal : {room : ℕ} {place : Position} {value others behind : List ℕ} (i n : ℕ) (chomping : Chomping)
+pub literal_scalar : {room : ℕ} {place : Position} {value others behind : List ℕ} (i n : ℕ) (chomping : Chomping)
     (lines : List Line) (t body : List ℕ)
     → (s : IsBlockScalar (indent_at place) i n chomping lines ((124 ∷ t) ++ behind) body others) → s.behind ≡ behind
     → IsBehindScalar (indent_at place) i behind → value ≡ lines_value block.Literal chomping true lines
     → BlockText room (Scalar no_properties Literal value) place (32 ∷ 124 ∷ t) behind
-literal {place = place} {others = others} i n chomping lines t body s e b v = record {
+literal_scalar {place = place} {others = others} i n chomping lines t body s e b v = record {
   holds = inr (inr (
     codes " ",
     [],
@@ -53,12 +53,12 @@ literal {place = place} {others = others} i n chomping lines t body s e b v = re
   ));
 }
 
-pub folded : {room : ℕ} {place : Position} {p : Properties} {value front others behind : List ℕ} (i n : ℕ)
+pub folded_scalar : {room : ℕ} {place : Position} {p : Properties} {value front others behind : List ℕ} (i n : ℕ)
     (chomping : Chomping) (lines : List Line) (t body : List ℕ) → Front p front
     → (s : IsBlockScalar (indent_at place) i n chomping lines ((62 ∷ t) ++ behind) body others) → s.behind ≡ behind
     → IsBehindScalar (indent_at place) i behind → value ≡ lines_value block.Folded chomping true lines
     → BlockText room (Scalar p Folded value) place ((32 ∷ front) ++ (32 ∷ 62 ∷ t)) behind
-folded {place = place} {front = front} {others = others} i n chomping lines t body h s e b v = record {
+folded_scalar {place = place} {front = front} {others = others} i n chomping lines t body h s e b v = record {
   holds = inr (inr (
     codes " ",
     front ++ codes " ",
@@ -93,7 +93,7 @@ literal_a {room} {place} i n others least less none z b =
     ap (λ x. 124 ∷ 10 ∷ x) (sym (append_assoc (spaces i) (codes "a\n") (spaces n ++ others))) in
     let there = subst (λ x. (s : IsBlockScalar (indent_at place) i n Clip (Content (codes "a") ∷ []) x body others)
     × (s.behind ≡ spaces n ++ others)) same (scalar, refl) in
-    literal i n Clip (Content (codes "a") ∷ []) (10 ∷ (spaces i ++ codes "a\n")) body there.0 there.1 b refl
+    literal_scalar i n Clip (Content (codes "a") ∷ []) (10 ∷ (spaces i ++ codes "a\n")) body there.0 there.1 b refl
   where
     no_tab : (i : ℕ) → slice_index (spaces i ++ (97 ∷ 10 ∷ (spaces n ++ others))) 0 ≢ 9
     no_tab zero e = omega arith

@@ -49,9 +49,10 @@ pub record Value (adjacent : Bool) (room : ℕ) (value : Node) (indent : ℕ) (t
 pub colon_alone : {adjacent : Bool} {room indent : ℕ} → Value adjacent room left_out indent (codes ":")
 colon_alone = record { holds = inl (refl, refl) }
 
-pub colon : {adjacent : Bool} {room indent : ℕ} {value : Node} {t : List ℕ} → FlowText room value true indent t
+pub value_behind_colon : {adjacent : Bool} {room indent : ℕ} {value : Node} {t : List ℕ}
+    → FlowText room value true indent t
     → Value adjacent room value indent (58 ∷ 32 ∷ t)
-colon {indent = indent} {t = t} h = record {
+value_behind_colon {indent = indent} {t = t} h = record {
   holds = inr (codes " ", t, (blank {indent = indent}).holds, inl (λ e. cc), h.holds, refl);
 }
 
@@ -153,9 +154,9 @@ pub record MoreItems (room : ℕ) (nodes : Nodes) (indent : ℕ) (t : List ℕ) 
 pub no_items : {room indent : ℕ} → Items room NoNode indent []
 no_items = record { holds = refl }
 
-pub items : {room indent : ℕ} {node : Node} {nodes : Nodes} {t others : List ℕ} → Item room node indent t
+pub item_list : {room indent : ℕ} {node : Node} {nodes : Nodes} {t others : List ℕ} → Item room node indent t
     → MoreItems room nodes indent others → Items room (MoreNodes node nodes) indent (t ++ others)
-items {t = t} {others} h m = record { holds = (t, others, h.holds, m.holds, refl) }
+item_list {t = t} {others} h m = record { holds = (t, others, h.holds, m.holds, refl) }
 
 pub no_comma : {room indent : ℕ} → MoreItems room NoNode indent []
 no_comma = record { holds = inl refl }

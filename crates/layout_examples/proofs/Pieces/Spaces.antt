@@ -55,14 +55,14 @@ end_behind r = record { holds = inr (r.holds, refl) }
 -- ## Filler
 
 -- a line of blanks, or of blanks and a comment, without its break
-pub record Line (t : List ℕ) : Type 0 where
+pub record FillerLine (t : List ℕ) : Type 0 where
   pub holds : IsFillerText t
 
-pub blank_line : (t : List ℕ) → IsTrue (list_all is_blank t) → Line t
+pub blank_line : (t : List ℕ) → IsTrue (list_all is_blank t) → FillerLine t
 blank_line t h = record { holds = (t, [], each is_blank t h, inl refl, sym (append-nil t)) }
 
 pub comment_line : (front words : List ℕ) → IsTrue (list_all is_blank front)
-    → IsTrue (list_all is_yaml_non_break words) → Line (front ++ (35 ∷ words))
+    → IsTrue (list_all is_yaml_non_break words) → FillerLine (front ++ (35 ∷ words))
 comment_line front words h g = record {
   holds = (front, 35 ∷ words, each is_blank front h, inr (words, each is_yaml_non_break words g, refl), refl);
 }
@@ -73,7 +73,7 @@ pub record Filler (t : List ℕ) : Type 0 where
 pub no_filler : Filler []
 no_filler = record { holds = ([], tt, refl) }
 
-pub filler : {line others : List ℕ} → Line line → Filler others → Filler ((line ++ codes "\n") ++ others)
+pub filler : {line others : List ℕ} → FillerLine line → Filler others → Filler ((line ++ codes "\n") ++ others)
 filler {line} l f = record {
   holds = (
     (line ++ codes "\n") ∷ f.holds.0,
@@ -85,11 +85,11 @@ filler {line} l f = record {
 pub record LastFiller (t : List ℕ) : Type 0 where
   pub holds : IsLastFiller t
 
-pub last_line : {lines line : List ℕ} → Filler lines → Line line → LastFiller (lines ++ line)
-last_line {lines} {line} f l = record { holds = (lines, line, f.holds, l.holds, refl) }
+pub last_filler_line : {lines line : List ℕ} → Filler lines → FillerLine line → LastFiller (lines ++ line)
+last_filler_line {lines} {line} f l = record { holds = (lines, line, f.holds, l.holds, refl) }
 
 pub no_more : LastFiller []
-no_more = last_line no_filler (blank_line [] refl)
+no_more = last_filler_line no_filler (blank_line [] refl)
 
 -- ## Separation in flow style
 

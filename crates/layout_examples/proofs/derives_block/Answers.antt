@@ -7,17 +7,17 @@ use Rattle.saphyr_scalar.specs.Spelling.Block.{digit_first, chomping_first, give
 use Rattle.saphyr_scalar.specs.Spelling.Spaces.{IsLastFiller}
 use Rattle.saphyr_scanner.specs.Grammar.Layout.{most_open}
 use Rattle.layout_examples.proofs.Pieces.Spaces.{feed, text_end, feed_behind, end_behind, blanks, blank_line}
-use Rattle.layout_examples.proofs.Pieces.Spaces.{comment_line, no_filler, filler, last_line, tight, lines_apart, space}
+use Rattle.layout_examples.proofs.Pieces.Spaces.{comment_line, no_filler, filler, last_filler_line, tight, lines_apart, space}
 use Rattle.layout_examples.proofs.Pieces.Spaces.{lines_down}
 use Rattle.layout_examples.proofs.Pieces.Spaces as spaces
 use Rattle.layout_examples.proofs.Pieces.Scalars.{anchor_x, alias_x, tag_t, tagged, scalar, letter_a, letter_b}
 use Rattle.layout_examples.proofs.Pieces.Scalars.{letter_c, letter_d, letter_k, plain_word, word, single_quoted}
-use Rattle.layout_examples.proofs.Pieces.Flow.{node_key, plain_key, sign_key, item, items, no_comma, comma, brackets}
-use Rattle.layout_examples.proofs.Pieces.Block.{flow, line, last, nothing, at_start, behind_question, below}
+use Rattle.layout_examples.proofs.Pieces.Flow.{node_key, plain_key, sign_key, item, item_list, no_comma, comma, brackets}
+use Rattle.layout_examples.proofs.Pieces.Block.{flow, line, last, nothing, at_start, behind_question_mark, below}
 use Rattle.layout_examples.proofs.Pieces.Block.{below_first, below_behind, sequence, dash, next_dash, no_dash}
-use Rattle.layout_examples.proofs.Pieces.Block.{letter_key, mapping, first_pair, next_pair, no_pair, colon, colon_apart}
+use Rattle.layout_examples.proofs.Pieces.Block.{letter_key, mapping, first_pair, next_pair, no_pair, pair_by_colon, colon_apart}
 use Rattle.layout_examples.proofs.Pieces.Block.{letter, asked, asked_pair}
-use Rattle.layout_examples.proofs.Pieces.BlockScalars.{ends, literal, folded, literal_a}
+use Rattle.layout_examples.proofs.Pieces.BlockScalars.{ends, literal_scalar, folded_scalar, literal_a}
 use Rattle.layout_examples.proofs.Pieces.Streams.{bare_document, explicit, end_of_stream, documents, at_once, finish}
 use Rattle.layout_examples.proofs.Pieces.Streams.{stream, document}
 use Rattle.layout_examples.proofs.Derived.{compact}
@@ -48,7 +48,8 @@ pub returns-clause-explicit_key : goal.returns-clause-explicit_key
 returns-clause-explicit_key c =
     document (codes "? a\n: b\n? - c") (mapping at_start
     (first_pair (asked_pair (line letter_a) no_filler (line letter_b) ((λ e. cc), refl))
-    (next_pair no_filler (asked (sequence behind_question (dash (last letter_c) no_dash)) ((λ e. cc), refl)) no_pair)))
+    (next_pair no_filler (asked (sequence behind_question_mark (dash (last letter_c) no_dash)) ((λ e. cc), refl))
+    no_pair)))
     refl refl
 
 pub returns-clause-properties : goal.returns-clause-properties
@@ -68,7 +69,7 @@ returns-clause-literal c =
 pub returns-clause-folded : goal.returns-clause-folded
 returns-clause-folded c =
     document (codes "- &x >-1 # x\n a\n b\n\n   c\n\n- d\n") (sequence at_start (dash
-    (folded 1 0 Strip (Content (codes "a") ∷ Content (codes "b") ∷ Empty ∷ Content (codes "  c") ∷ Empty ∷ [])
+    (folded_scalar 1 0 Strip (Content (codes "a") ∷ Content (codes "b") ∷ Empty ∷ Content (codes "  c") ∷ Empty ∷ [])
     (codes "-1 # x\n a\n b\n\n   c\n\n") (codes " a\n b\n\n   c\n\n- d\n") anchor_x (record {
       digit = 1;
       is_given = true;
@@ -101,7 +102,7 @@ returns-clause-comment_left c =
 pub returns-clause-indicator : goal.returns-clause-indicator
 returns-clause-indicator c =
     document (codes "a: |1-\n  b\n") (mapping at_start (first_pair (letter letter_a
-    (literal 1 0 Strip (Content (codes " b") ∷ []) (codes "1-\n  b\n") (codes "  b\n") (record {
+    (literal_scalar 1 0 Strip (Content (codes " b") ∷ []) (codes "1-\n  b\n") (codes "  b\n") (record {
       digit = 1;
       is_given = true;
       behind = [];
@@ -116,7 +117,7 @@ returns-clause-indicator c =
 pub returns-clause-explicit_collections : goal.returns-clause-explicit_collections
 returns-clause-explicit_collections c =
     document (codes "? [a]\n\n # x\n:\n- b\n") (mapping at_start (first_pair (asked_pair
-    (flow space (brackets tight (items (item (word letter_a)) no_comma)) feed)
+    (flow space (brackets tight (item_list (item (word letter_a)) no_comma)) feed)
     (filler (blank_line [] refl) (filler (comment_line (codes " ") (codes " x") refl refl) no_filler))
     (sequence (below 0 (blanks [] refl) no_filler (omega arith)) (dash (line letter_b) no_dash)) ((λ e. cc), refl))
     no_pair)) refl refl
@@ -137,8 +138,8 @@ returns-clause-tabs_behind c =
 pub returns-clause-colons_in_keys : goal.returns-clause-colons_in_keys
 returns-clause-colons_in_keys c =
     document (codes "a:: b\nc :: d") (mapping at_start (first_pair
-    (colon (record { text = sign_key 97 (codes ":") refl refl refl; on_line = refl; short = omega arith })
-    (line letter_b) refl) (next_pair no_filler (colon (record {
+    (pair_by_colon (record { text = sign_key 97 (codes ":") refl refl refl; on_line = refl; short = omega arith })
+    (line letter_b) refl) (next_pair no_filler (pair_by_colon (record {
       text = plain_key (inr (
         codes "c",
         codes " ",
@@ -155,16 +156,18 @@ returns-clause-colons_in_keys c =
 pub returns-clause-lone_keys : goal.returns-clause-lone_keys
 returns-clause-lone_keys c =
     document (codes "-: a\n:: b") (mapping at_start (first_pair
-    (colon (record { text = sign_key 45 [] refl refl refl; on_line = refl; short = omega arith }) (line letter_a) refl)
+    (pair_by_colon (record { text = sign_key 45 [] refl refl refl; on_line = refl; short = omega arith })
+    (line letter_a) refl)
     (next_pair no_filler
-    (colon (record { text = sign_key 58 [] refl refl refl; on_line = refl; short = omega arith }) (last letter_b) refl)
+    (pair_by_colon (record { text = sign_key 58 [] refl refl refl; on_line = refl; short = omega arith })
+    (last letter_b) refl)
     no_pair))) refl refl
 
 pub returns-clause-tabs_in_filler : goal.returns-clause-tabs_in_filler
 returns-clause-tabs_in_filler c =
     stream (codes "a: b\n\t# c\n") (documents
     (bare_document (mapping at_start (first_pair (letter letter_a (line letter_b)) no_pair)) refl) (at_once
-    (end_of_stream (last_line (filler (comment_line (codes "\t") (codes " c") refl refl) no_filler)
+    (end_of_stream (last_filler_line (filler (comment_line (codes "\t") (codes " c") refl refl) no_filler)
     (blank_line [] refl))))) refl
 
 pub returns-clause-tabs_between : goal.returns-clause-tabs_between
@@ -181,14 +184,14 @@ returns-clause-tabs_before c =
 pub returns-clause-tabs_in_flow : goal.returns-clause-tabs_in_flow
 returns-clause-tabs_in_flow c =
     document (codes "- [a,\n\t# c\n  b]") (sequence at_start (dash (flow space (brackets tight
-    (items (item (word letter_a)) (comma (lines_apart (codes " ") (blanks [] refl)
+    (item_list (item (word letter_a)) (comma (lines_apart (codes " ") (blanks [] refl)
     (filler (comment_line (codes "\t") (codes " c") refl refl) no_filler) refl) (item (word letter_b)) no_comma)))
     text_end) no_dash)) refl refl
 
 pub returns-clause-tab_behind_scalar : goal.returns-clause-tab_behind_scalar
 returns-clause-tab_behind_scalar c =
     let tab : IsLastFiller (codes "\t# c") =
-    (last_line no_filler (comment_line (codes "\t") (codes " c") refl refl)).holds
+    (last_filler_line no_filler (comment_line (codes "\t") (codes " c") refl refl)).holds
     in
     stream (codes "- |\n  a\n\t# c") (documents (bare_document (sequence at_start (dash
     (literal_a 2 0 (codes "\t# c") (omega arith) (omega arith) refl (λ e. refl)

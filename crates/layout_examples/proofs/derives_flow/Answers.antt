@@ -10,9 +10,9 @@ use Rattle.layout_examples.proofs.Pieces.Scalars.{anchor_x_before, anchor_x_behi
 use Rattle.layout_examples.proofs.Pieces.Scalars.{scalar, with_front, front_alone, letter_a, letter_b, letter_c}
 use Rattle.layout_examples.proofs.Pieces.Scalars.{letter_d, plain, word, double_quoted, space_gap, empty_line_gap}
 use Rattle.layout_examples.proofs.Pieces.Scalars.{no_word, next_word, words, single_quoted_lines, double_quoted_lines}
-use Rattle.layout_examples.proofs.Pieces.Flow.{node_key, sign_key, colon_alone, colon, colon_at_once, keyed, key_asked}
+use Rattle.layout_examples.proofs.Pieces.Flow.{node_key, sign_key, colon_alone, value_behind_colon, colon_at_once, keyed, key_asked}
 use Rattle.layout_examples.proofs.Pieces.Flow.{value_asked, pair_asked, item, item_apart, pair_item, value_item}
-use Rattle.layout_examples.proofs.Pieces.Flow.{asked_item, mark_item, no_items, items, no_comma, last_comma, comma}
+use Rattle.layout_examples.proofs.Pieces.Flow.{asked_item, mark_item, no_items, item_list, no_comma, last_comma, comma}
 use Rattle.layout_examples.proofs.Pieces.Flow.{brackets, key_pair, pair, value_pair, asked_pair, no_pairs, pairs}
 use Rattle.layout_examples.proofs.Pieces.Flow.{no_pair_behind, comma_pair, braces}
 use Rattle.layout_examples.proofs.Pieces.Block.{flow}
@@ -22,51 +22,54 @@ use Rattle.layout_examples.proofs.derives_flow.Goals as goal
 pub returns-clause-sequence : goal.returns-clause-sequence
 returns-clause-sequence c =
     document (codes "[a, b]") (flow no_gap (brackets tight
-    (items (item (word letter_a)) (comma blank (item (word letter_b)) no_comma))) text_end) refl refl
+    (item_list (item (word letter_a)) (comma blank (item (word letter_b)) no_comma))) text_end) refl refl
 
 pub returns-clause-mapping : goal.returns-clause-mapping
 returns-clause-mapping c =
     document (codes "{a: b}") (flow no_gap (braces (pairs (pair
-    (keyed (node_key (word letter_a)) tight (colon (word letter_b)) (inr refl))) no_pair_behind)) text_end) refl refl
+    (keyed (node_key (word letter_a)) tight (value_behind_colon (word letter_b)) (inr refl))) no_pair_behind)) text_end)
+    refl refl
 
 pub returns-clause-empty_collections : goal.returns-clause-empty_collections
 returns-clause-empty_collections c =
-    document (codes "[[], {},]") (flow no_gap (brackets tight (items (item (brackets tight no_items))
+    document (codes "[[], {},]") (flow no_gap (brackets tight (item_list (item (brackets tight no_items))
     (comma blank (item (braces no_pairs)) last_comma))) text_end) refl refl
 
 pub returns-clause-single_pairs : goal.returns-clause-single_pairs
 returns-clause-single_pairs c =
-    document (codes "[a: b, \"c\":d]") (flow no_gap (brackets tight (items
-    (pair_item (node_key (word letter_a)) (colon (word letter_b)) refl refl) (comma blank (pair_item
+    document (codes "[a: b, \"c\":d]") (flow no_gap (brackets tight (item_list
+    (pair_item (node_key (word letter_a)) (value_behind_colon (word letter_b)) refl refl) (comma blank (pair_item
     (node_key (scalar (double_quoted 99 refl refl))) (colon_at_once (word letter_d)) refl refl) no_comma))) text_end)
     refl refl
 
 pub returns-clause-explicit_pairs : goal.returns-clause-explicit_pairs
 returns-clause-explicit_pairs c =
-    document (codes "[? a : b, : d, ? ]") (flow no_gap (brackets tight (items
-    (asked_item (pair_asked (keyed (node_key (word letter_a)) blank (colon (word letter_b)) (inr refl))))
-    (comma blank (value_item (colon (word letter_d))) (comma blank mark_item no_comma)))) text_end) refl refl
+    document (codes "[? a : b, : d, ? ]") (flow no_gap (brackets tight (item_list
+    (asked_item (pair_asked (keyed (node_key (word letter_a)) blank (value_behind_colon (word letter_b)) (inr refl))))
+    (comma blank (value_item (value_behind_colon (word letter_d))) (comma blank mark_item no_comma)))) text_end) refl
+    refl
 
 pub returns-clause-entries : goal.returns-clause-entries
 returns-clause-entries c =
     document (codes "{a, ? b, ? : c, : d, *x :}") (flow no_gap (braces (pairs (key_pair (word letter_a))
     (comma_pair (asked_pair (key_asked (word letter_b)))
-    (comma_pair (asked_pair (value_asked (colon (word letter_c))))
-    (comma_pair (value_pair (colon (word letter_d)))
+    (comma_pair (asked_pair (value_asked (value_behind_colon (word letter_c))))
+    (comma_pair (value_pair (value_behind_colon (word letter_d)))
     (comma_pair (pair (keyed (node_key alias_x) blank colon_alone (inl (λ e. cc)))) no_pair_behind)))))) text_end)
     refl refl
 
 pub returns-clause-lines : goal.returns-clause-lines
 returns-clause-lines c =
     document (codes "[\n a # x\n ,b]") (flow no_gap
-    (brackets (lines_apart (codes " ") (blanks [] refl) no_filler refl) (items
+    (brackets (lines_apart (codes " ") (blanks [] refl) no_filler refl) (item_list
     (item_apart (word letter_a) (lines_apart (codes " ") (comment 32 [] (codes " x") refl refl) no_filler refl))
     (comma tight (item (word letter_b)) no_comma))) text_end) refl refl
 
 pub returns-clause-collection_key : goal.returns-clause-collection_key
 returns-clause-collection_key c =
-    document (codes "[ {a: b}:c]") (flow no_gap (brackets blank (items (pair_item (node_key
-    (braces (pairs (pair (keyed (node_key (word letter_a)) tight (colon (word letter_b)) (inr refl))) no_pair_behind)))
+    document (codes "[ {a: b}:c]") (flow no_gap (brackets blank (item_list (pair_item (node_key
+    (braces (pairs (pair (keyed (node_key (word letter_a)) tight (value_behind_colon (word letter_b)) (inr refl)))
+    no_pair_behind)))
     (colon_at_once (word letter_c)) refl refl) no_comma)) text_end) refl refl
 
 pub returns-clause-comment_before_colon : goal.returns-clause-comment_before_colon
@@ -79,12 +82,12 @@ returns-clause-comment_before_colon c =
 pub returns-clause-colon_in_key : goal.returns-clause-colon_in_key
 returns-clause-colon_in_key c =
     document (codes "[a::]") (flow no_gap (brackets tight
-    (items (pair_item (sign_key 97 (codes ":") refl refl refl) colon_alone refl refl) no_comma)) text_end) refl refl
+    (item_list (pair_item (sign_key 97 (codes ":") refl refl refl) colon_alone refl refl) no_comma)) text_end) refl refl
 
 pub returns-clause-lone_key : goal.returns-clause-lone_key
 returns-clause-lone_key c =
     document (codes "[?:]") (flow no_gap (brackets tight
-    (items (pair_item (sign_key 63 [] refl refl refl) colon_alone refl refl) no_comma)) text_end) refl refl
+    (item_list (pair_item (sign_key 63 [] refl refl refl) colon_alone refl refl) no_comma)) text_end) refl refl
 
 pub returns-clause-properties : goal.returns-clause-properties
 returns-clause-properties c =
@@ -94,7 +97,7 @@ returns-clause-properties c =
 
 pub returns-clause-properties_alone : goal.returns-clause-properties_alone
 returns-clause-properties_alone c =
-    document (codes "[!!t, !<u> &x\t\"b\"]") (flow no_gap (brackets tight (items
+    document (codes "[!!t, !<u> &x\t\"b\"]") (flow no_gap (brackets tight (item_list
     (item (front_alone (tagged (tag_t (codes "!!") refl)))) (comma blank (item (with_front (anchor_x_behind verbatim_u)
     (apart (codes "\t") refl) (double_quoted 98 refl refl) (λ e. cc))) no_comma))) text_end) refl refl
 
@@ -125,6 +128,6 @@ returns-clause-quoted_lines c =
     let empty : IsLine 0 (codes "\n so'") = record { no_marker = refl; indented = inr refl } in
     let so : IsLine 0 (codes " so'") = record { no_marker = refl; indented = inl (omega arith) } in
     let b : IsLine 0 (codes " b\"") = record { no_marker = refl; indented = inl (omega arith) } in
-    document (codes "['it''s\n\n so', \"a\n b\"]") (flow no_gap (brackets tight (items
+    document (codes "['it''s\n\n so', \"a\n b\"]") (flow no_gap (brackets tight (item_list
     (item (scalar (single_quoted_lines _ its (empty, (so, tt)) refl)))
     (comma blank (item (scalar (double_quoted_lines _ a_and_b (b, tt) refl))) no_comma))) text_end) refl refl

@@ -6,13 +6,13 @@ use Rattle.scalar_values.specs.Block.{Empty, Content}
 use Rattle.saphyr_scalar.specs.Spelling.Block.{no_digit, keep, no_comment, no_lines, empty, first, digit_first, found}
 use Rattle.saphyr_scanner.specs.Grammar.Layout.{most_open}
 use Rattle.layout_examples.proofs.Pieces.Spaces.{feed, text_end, feed_behind, blanks, comment, blank_line, comment_line}
-use Rattle.layout_examples.proofs.Pieces.Spaces.{no_filler, filler, last_line, tight, lines_apart, no_gap, space}
+use Rattle.layout_examples.proofs.Pieces.Spaces.{no_filler, filler, last_filler_line, tight, lines_apart, no_gap, space}
 use Rattle.layout_examples.proofs.Pieces.Spaces.{lines_down}
 use Rattle.layout_examples.proofs.Pieces.Scalars.{anchor_x, alias_x, mark_alone, tagged, front_alone, letter_a}
 use Rattle.layout_examples.proofs.Pieces.Scalars.{letter_b, letter_c, word}
-use Rattle.layout_examples.proofs.Pieces.Flow.{item, item_apart, items, no_comma, comma, brackets}
+use Rattle.layout_examples.proofs.Pieces.Flow.{item, item_apart, item_list, no_comma, comma, brackets}
 use Rattle.layout_examples.proofs.Pieces.Block.{flow, line, last, nothing, below_behind, sequence, dash, no_dash}
-use Rattle.layout_examples.proofs.Pieces.BlockScalars.{literal}
+use Rattle.layout_examples.proofs.Pieces.BlockScalars.{literal_scalar}
 use Rattle.layout_examples.proofs.Pieces.Streams.{bare_document, explicit, directed, end_of_stream, documents, at_once}
 use Rattle.layout_examples.proofs.Pieces.Streams.{finish, no_prefix, mark, dots, stream, marked_stream, document}
 use Rattle.layout_examples.proofs.Pieces.Streams.{no_directive, directive, version, tag_prefix, prefix_of_one}
@@ -22,7 +22,7 @@ use Rattle.layout_examples.proofs.derives_streams.Goals as goal
 pub returns-clause-nothing : goal.returns-clause-nothing
 returns-clause-nothing c =
     stream {room = most_open} (codes "# x\n ") (end_of_stream
-    (last_line (filler (comment_line [] (codes " x") refl refl) no_filler) (blank_line (codes " ") refl))) refl
+    (last_filler_line (filler (comment_line [] (codes " x") refl refl) no_filler) (blank_line (codes " ") refl))) refl
 
 pub returns-clause-directives : goal.returns-clause-directives
 returns-clause-directives c =
@@ -35,7 +35,7 @@ returns-clause-directives c =
 pub returns-clause-documents : goal.returns-clause-documents
 returns-clause-documents c =
     stream {room = most_open} (codes "--- |+\na\n\n--- # x\n---\nb\n# y\n... \nc\n") (documents (explicit
-    (literal 0 0 Keep (Content (codes "a") ∷ Empty ∷ []) (codes "+\na\n\n")
+    (literal_scalar 0 0 Keep (Content (codes "a") ∷ Empty ∷ []) (codes "+\na\n\n")
     (codes "a\n\n--- # x\n---\nb\n# y\n... \nc\n") (record {
       digit = 0;
       is_given = false;
@@ -70,7 +70,7 @@ returns-clause-byte_order_marks c =
 pub returns-clause-carriage_return : goal.returns-clause-carriage_return
 returns-clause-carriage_return c =
     document (codes "[a\r\n ,b]\n") (flow no_gap (brackets tight
-    (items (item_apart (word letter_a) (lines_apart (codes " ") (blanks [] refl) no_filler refl))
+    (item_list (item_apart (word letter_a) (lines_apart (codes " ") (blanks [] refl) no_filler refl))
     (comma tight (item (word letter_b)) no_comma))) feed) refl refl
 
 pub returns-clause-properties : goal.returns-clause-properties
@@ -90,10 +90,10 @@ returns-clause-mark_behind_filler c =
     stream {room = most_open} (codes "!\n...\n# c\n\u{feff}\n") (documents
     (bare_document (flow no_gap (front_alone (tagged mark_alone)) feed) refl)
     (dots no_filler feed (mark (filler (comment_line [] (codes " c") refl refl) no_filler))
-    (end_of_stream (last_line (filler (blank_line [] refl) no_filler) (blank_line [] refl))))) refl
+    (end_of_stream (last_filler_line (filler (blank_line [] refl) no_filler) (blank_line [] refl))))) refl
 
 pub returns-clause-tabs : goal.returns-clause-tabs
 returns-clause-tabs c =
     stream {room = most_open} (codes "--- a\n\t\n...\n\t# c") (documents (explicit (line letter_a) refl)
     (dots (filler (blank_line (codes "\t") refl) no_filler) feed no_prefix
-    (end_of_stream (last_line no_filler (comment_line (codes "\t") (codes " c") refl refl))))) refl
+    (end_of_stream (last_filler_line no_filler (comment_line (codes "\t") (codes " c") refl refl))))) refl

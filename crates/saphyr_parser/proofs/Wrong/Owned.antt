@@ -13,7 +13,7 @@ use Rattle.saphyr_scanner.specs.Views.Tokens.{Piece}
 use Rattle.saphyr_scanner.specs.TokensTaken.{IsToken, IsScalarToken}
 use Rattle.saphyr_scanner.proofs.Taken.Places.{Reaches}
 use Rattle.saphyr_scanner.proofs.Wrong.PlainValues.{plain_value_ink}
-use Rattle.saphyr_scanner.proofs.Wrong.Standing.{Stands, AllStand, tokens_stand, front_stands}
+use Rattle.saphyr_scanner.proofs.Wrong.Standing.{StandsReached, AllStand, tokens_stand, front_stands}
 use Rattle.saphyr_parser.specs.Answer.{Answer}
 use Rattle.saphyr_parser.specs.Events.{Happening, Scalar}
 use Rattle.saphyr_parser.specs.EventsTaken as taking
@@ -47,7 +47,7 @@ content_end (p ∷ q ∷ r ∷ []) own span h = absurd h
 content_end (p ∷ q ∷ r ∷ x ∷ xs) own span h = absurd h
 
 pub last_stands : (text : List ℕ) (front : List Piece) (own : Piece) → AllStand text (front ++ own ∷ [])
-    → Stands text own
+    → StandsReached text own
 last_stands text [] own h = h.0
 last_stands text (p ∷ front) own h = last_stands text front own h.1
 

@@ -14,7 +14,7 @@ use Rattle.saphyr_scanner.specs.TokensTaken.{IsReached, IsPlaceOf}
 use Rattle.saphyr_scanner.proofs.Reached.{reached_counted}
 use Rattle.saphyr_scanner.proofs.Wrong.BlockLines.{all_inside}
 use Rattle.saphyr_scanner.proofs.Wrong.PlainValues.{plain_value_ink}
-use Rattle.saphyr_scanner.proofs.Wrong.Standing.{reached_behind, one_place, has}
+use Rattle.saphyr_scanner.proofs.Wrong.Standing.{reached_behind, one_place, has_character}
 use Rattle.saphyr_parser.specs.Events as events
 use Rattle.saphyr_parser.specs.EventsTaken.{AreTaken}
 use Rattle.saphyr_parser.specs.SpansWithin.{HasSpansIn}
@@ -41,7 +41,8 @@ break_first_is_not_taken keep t = white_refused (codes "a:\n b") (codes "b") _
 
 -- all lines behind `|` are the scalar's
 literal_lines : (before body value : List ℕ) (span : Span) → OwnScalar (before ++ (124 ∷ 10 ∷ body)) value Literal span
-    → has 124 before ≡ false → has 124 (10 ∷ body) ≡ false → span.end.index ≡ length (before ++ (124 ∷ 10 ∷ body))
+    → has_character 124 before ≡ false → has_character 124 (10 ∷ body) ≡ false
+    → span.end.index ≡ length (before ++ (124 ∷ 10 ∷ body))
     → AreInside true body []
 literal_lines before body value span o b a e =
     let text = before ++ (124 ∷ 10 ∷ body) in

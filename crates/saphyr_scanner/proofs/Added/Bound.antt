@@ -9,13 +9,13 @@ use Rattle.saphyr_scanner.specs.declared.queue.Opening.TheVariants as opening
 use Rattle.saphyr_scanner.specs.Views.Tokens.{Piece, Remaining}
 use Rattle.saphyr_scanner.specs.Steps.Queue.{Place}
 use Rattle.saphyr_scanner.specs.Steps.Core.{Core, drop_far_key, in_block, is_too_far}
-use Rattle.saphyr_scanner.specs.Steps.State.{State, start, carried}
-use Rattle.saphyr_scanner.specs.Steps.Fetch.{size, without_far_key, needs_token, fetch, within, fetch_within}
-use Rattle.saphyr_scanner.specs.Steps.Remaining.{before_place, hand_out, delivered, run, remaining, scan}
+use Rattle.saphyr_scanner.specs.Steps.State.{State, start, on_core}
+use Rattle.saphyr_scanner.specs.Steps.Fetch.{size, without_far_key, needs_token, fetch, check_limit, fetch_within}
+use Rattle.saphyr_scanner.specs.Steps.Remaining.{before_place, hand_out, remaining_after, run, remaining, scan}
 use Rattle.saphyr_scanner.proofs.Effects.Readers.{Readers, ReaderEnds}
 use Rattle.saphyr_scanner.proofs.Effects.Fetch.{Fetched, read_fetched}
 use Rattle.saphyr_scanner.proofs.Unroll.{behind}
-use Rattle.saphyr_scanner.proofs.Ordered.Queue.{Grows}
+use Rattle.saphyr_scanner.proofs.Ordered.Queue.{GrowsInOrder}
 use Rattle.saphyr_scanner.proofs.Added.Queue.{tokens_at, tokens_in, open_blocks, due}
 use Rattle.saphyr_input.proofs.Basics.Booleans.{by_test}
 use Rattle.saphyr_scalar.proofs.Given.{Given, given_bind, given_of}
@@ -43,40 +43,40 @@ handed_counted m n go c others k (p ∷ ps) =
 
 -- ## What is read stays within the limit
 
-abbrev IsWithin : ℕ → State → Type 0
-IsWithin limit s = s.core.cursor.mark.index ≤ limit
+abbrev IsWithinLimit : ℕ → State → Type 0
+IsWithinLimit limit s = s.core.cursor.mark.index ≤ limit
 
-drop_stays : (limit : ℕ) (s : State) → IsWithin limit s → Given (IsWithin limit) (without_far_key s)
+drop_stays : (limit : ℕ) (s : State) → IsWithinLimit limit s → Given (IsWithinLimit limit) (without_far_key s)
 unfolding drop_far_key
 drop_stays limit s h =
-    let P : Result Core Refusal → Type 0 = λ r. Given (IsWithin limit) (carried r s.queue) in
+    let P : Result Core Refusal → Type 0 = λ r. Given (IsWithinLimit limit) (on_core r s.queue) in
     by_test (not (in_block s.core && is_too_far s.core.level.key s.core.cursor.mark)) _ _ P (λ _. h)
     (λ _. by_test s.core.required _ _ P (λ _. tt) (λ _. h))
 
-within_stays : (limit : ℕ) (s : State) → Given (IsWithin limit) (fetch_within limit s)
+within_stays : (limit : ℕ) (s : State) → Given (IsWithinLimit limit) (fetch_within limit s)
 unfolding fetch_within
 within_stays limit s =
-    given_bind (IsWithin limit) (fetch s) (within limit) (λ t e.
-    by_test (nat_le t.core.cursor.mark.index limit) _ _ (Given (IsWithin limit))
+    given_bind (IsWithinLimit limit) (fetch s) (check_limit limit) (λ t e.
+    by_test (nat_le t.core.cursor.mark.index limit) _ _ (Given (IsWithinLimit limit))
     (λ i. let j : t.core.cursor.mark.index ≤ limit = grind (arith, nat_tests) in j) (λ _. tt))
 
-read_stays : (limit : ℕ) (s : State) → Given (IsWithin limit) (fetch_within limit s >>= without_far_key)
+read_stays : (limit : ℕ) (s : State) → Given (IsWithinLimit limit) (fetch_within limit s >>= without_far_key)
 read_stays limit s =
-    given_bind (IsWithin limit) (fetch_within limit s) without_far_key
-    (λ t e. drop_stays limit t (given_of (IsWithin limit) (fetch_within limit s) t (within_stays limit s) e))
+    given_bind (IsWithinLimit limit) (fetch_within limit s) without_far_key
+    (λ t e. drop_stays limit t (given_of (IsWithinLimit limit) (fetch_within limit s) t (within_stays limit s) e))
 
 -- ## What comes
 
 -- The index and what is left are n together, and the index is within the limit.
-record Counts (n limit : ℕ) (s : State) : Type 0 where
+record CountsWithin (n limit : ℕ) (s : State) : Type 0 where
   counted : s.core.cursor.mark.index + length s.core.cursor.rest ≡ n
-  limited : IsWithin limit s
+  limited : IsWithinLimit limit s
 
 -- what comes, where so much is due and so much is to be read
 abbrev IsFew : ℕ → ℕ → State → Remaining → Type 0
 IsFew n limit s r = length r.pieces + 5 * n ≤ due s + 5 * limit + 5 * size s.core
 
-none_few : (n limit : ℕ) (s : State) → Counts n limit s → 0 + 5 * n ≤ due s + 5 * limit + 5 * size s.core
+none_few : (n limit : ℕ) (s : State) → CountsWithin n limit s → 0 + 5 * n ≤ due s + 5 * limit + 5 * size s.core
 none_few n limit s h = let a = h.counted in let b = h.limited in omega (arith, a, b)
 
 -- of what is read
@@ -84,30 +84,33 @@ read_few : (n limit : ℕ) (s t : State) (r : Remaining) → due t ≤ due s + 5
     → IsFew n limit t r → IsFew n limit s r
 read_few n limit s t r a b h = omega (arith, a, b, h)
 
-counts_on : (n limit : ℕ) (s t : State) → Grows s t → IsWithin limit t → Counts n limit s → Counts n limit t
+counts_on : (n limit : ℕ) (s t : State) → GrowsInOrder s t → IsWithinLimit limit t → CountsWithin n limit s
+    → CountsWithin n limit t
 counts_on n limit s t g w h =
     record { counted = let a = h.counted in let b = g.ahead.counted in omega (arith, a, b); limited = w }
 
-delivers_few : (n limit : ℕ) (s : State) (r : Result State Refusal) (go : State → Remaining) → Counts n limit s
-    → ((t : State) → r ≡ Ok t → IsFew n limit s (go t)) → IsFew n limit s (delivered r go)
+delivers_few : (n limit : ℕ) (s : State) (r : Result State Refusal) (go : State → Remaining) → CountsWithin n limit s
+    → ((t : State) → r ≡ Ok t → IsFew n limit s (go t)) → IsFew n limit s (remaining_after r go)
 delivers_few n limit s (Ok t) go h others = others t refl
 delivers_few n limit s (Err e) go h others = none_few n limit s h
 
-run_few : Readers → ReaderEnds → (n limit fuel : ℕ) (s : State) → Counts n limit s → IsFew n limit s (run fuel limit s)
+run_few : Readers → ReaderEnds → (n limit fuel : ℕ) (s : State) → CountsWithin n limit s
+    → IsFew n limit s (run fuel limit s)
 run_few readers laws n limit zero s h = none_few n limit s h
 run_few readers laws n limit (suc fuel) s h = handed (λ t. run_few readers laws n limit fuel t)
   where
-    here : ((t : State) → Counts n limit t → IsFew n limit t (run fuel limit t)) → (k : ℕ) (ps : List Place)
+    here : ((t : State) → CountsWithin n limit t → IsFew n limit t (run fuel limit t)) → (k : ℕ) (ps : List Place)
         → IsFew n limit (holding s.core ps k) (behind fuel limit (holding s.core ps k))
     here others k ps =
         let t : State = holding s.core ps k in
         let r = fetch_within limit t >>= without_far_key in
-        let w : Counts n limit t = record { counted = h.counted; limited = h.limited } in
+        let w : CountsWithin n limit t = record { counted = h.counted; limited = h.limited } in
         by_test t.core.ended _ _ (IsFew n limit t) (λ _. none_few n limit t w)
         (λ i. delivers_few n limit t r (run fuel limit) w (λ u q.
         let a = given_of (Fetched t) r u (read_fetched limit t i) q in
         read_few n limit t u (run fuel limit u) a.few (a.smaller readers)
-        (others u (counts_on n limit t u (a.grows laws) (given_of (IsWithin limit) r u (read_stays limit t) q) w))))
+        (others u (counts_on n limit t u (a.grows laws) (given_of (IsWithinLimit limit) r u (read_stays limit t) q)
+        w))))
 
     part : (ps : List Place) (r : Remaining) (k : ℕ) → IsFew n limit (holding s.core ps k) r
         → length r.pieces + 5 * n ≤ tokens_in ps + (open_blocks s.core + 5 * limit + 5 * size s.core)
@@ -117,7 +120,7 @@ run_few readers laws n limit (suc fuel) s h = handed (λ t. run_few readers laws
         ≤ tokens_in s.queue.places + (open_blocks s.core + 5 * limit + 5 * size s.core) → IsFew n limit s r
     whole r x = omega (arith, x)
 
-    handed : ((t : State) → Counts n limit t → IsFew n limit t (run fuel limit t))
+    handed : ((t : State) → CountsWithin n limit t → IsFew n limit t (run fuel limit t))
         → IsFew n limit s (run (suc fuel) limit s)
     handed others =
         whole (run (suc fuel) limit s)

@@ -5,7 +5,7 @@ use Rattle.saphyr_scanner.specs.declared.queue.Opening.TheVariants as opening
 use Rattle.saphyr_scanner.specs.Grammar.Tokens as tokens
 use Rattle.saphyr_scanner.specs.Grammar.Tokens.{Kind}
 use Rattle.saphyr_scanner.specs.Views.Tokens.{Piece}
-use Rattle.saphyr_scanner.specs.Steps.Queue.{Place, Queue, closed, opened}
+use Rattle.saphyr_scanner.specs.Steps.Queue.{Place, Queue, bare_place, places_with_opening}
 use Rattle.saphyr_scanner.specs.Steps.Core.{Core, Action, Put, Open, act, perform}
 use Rattle.saphyr_scanner.specs.Steps.State.{State}
 
@@ -42,23 +42,24 @@ added [] = 0
 added (Put t ∷ others) = 1 + added others
 added (Open n o ∷ others) = 2 + added others
 
-pub place_goes_on : (ps : List Place) (t : Piece) → PlacesGoOn ps → IsNoEnd t.kind → PlacesGoOn (ps ++ closed t ∷ [])
+pub place_goes_on : (ps : List Place) (t : Piece) → PlacesGoOn ps → IsNoEnd t.kind
+    → PlacesGoOn (ps ++ bare_place t ∷ [])
 place_goes_on [] t h k = (k, tt)
 place_goes_on (p ∷ ps) t h k = (h.0, place_goes_on ps t h.1 k)
 
-opened_goes_on : (n : ℕ) (o : Opening) (ps : List Place) → PlacesGoOn ps → PlacesGoOn (opened n o ps)
-opened_goes_on n o [] h = h
-opened_goes_on zero o (p ∷ ps) h = h
-opened_goes_on (suc n) o (p ∷ ps) h = (h.0, opened_goes_on n o ps h.1)
+with_opening_goes_on : (n : ℕ) (o : Opening) (ps : List Place) → PlacesGoOn ps → PlacesGoOn (places_with_opening n o ps)
+with_opening_goes_on n o [] h = h
+with_opening_goes_on zero o (p ∷ ps) h = h
+with_opening_goes_on (suc n) o (p ∷ ps) h = (h.0, with_opening_goes_on n o ps h.1)
 
 pub performed_goes_on : (actions : List Action) (q : Queue) → PlacesGoOn q.places → PutsGoOn actions
     → PlacesGoOn (perform actions q).places
 performed_goes_on [] q h k = h
 performed_goes_on (Put t ∷ others) q h k = performed_goes_on others (act (Put t) q) (place_goes_on q.places t h k.0) k.1
 performed_goes_on (Open n o ∷ others) q h k =
-    performed_goes_on others (act (Open n o) q) (opened_goes_on (n - q.handed) o q.places h) k
+    performed_goes_on others (act (Open n o) q) (with_opening_goes_on (n - q.handed) o q.places h) k
 
-pub tokens_put : (ps : List Place) (t : Piece) → tokens_in (ps ++ closed t ∷ []) ≡ tokens_in ps + 1
+pub tokens_put : (ps : List Place) (t : Piece) → tokens_in (ps ++ bare_place t ∷ []) ≡ tokens_in ps + 1
 tokens_put [] t = refl
 tokens_put (p ∷ ps) t = let e = tokens_put ps t in omega (arith, e)
 
@@ -68,7 +69,7 @@ some_tokens opening.Key = (omega arith, omega arith)
 some_tokens opening.BlockMappingAndKey = (omega arith, omega arith)
 some_tokens opening.FlowMappingAndKey = (omega arith, omega arith)
 
-tokens_opened : (n : ℕ) (o : Opening) (ps : List Place) → tokens_in (opened n o ps) ≤ tokens_in ps + 2
+tokens_opened : (n : ℕ) (o : Opening) (ps : List Place) → tokens_in (places_with_opening n o ps) ≤ tokens_in ps + 2
 tokens_opened n o [] = omega arith
 tokens_opened zero o (p ∷ ps) = let a = (some_tokens o).1 in let b = (some_tokens p.opening).0 in omega (arith, a, b)
 tokens_opened (suc n) o (p ∷ ps) = let e = tokens_opened n o ps in omega (arith, e)

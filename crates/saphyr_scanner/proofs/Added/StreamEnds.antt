@@ -6,14 +6,14 @@ use Rattle.saphyr_scanner.specs.declared.queue.Opening.{Opening}
 use Rattle.saphyr_scanner.specs.declared.queue.Opening.TheVariants as opening
 use Rattle.saphyr_scanner.specs.Grammar.Tokens as tokens
 use Rattle.saphyr_scanner.specs.Views.Tokens.{Piece, Remaining, none, before}
-use Rattle.saphyr_scanner.specs.Steps.Queue.{Place, closed, empty_piece}
+use Rattle.saphyr_scanner.specs.Steps.Queue.{Place, bare_place, empty_piece}
 use Rattle.saphyr_scanner.specs.Steps.Core.{Core, drop_far_key}
 use Rattle.saphyr_scanner.specs.Steps.State.{State, start}
 use Rattle.saphyr_scanner.specs.Steps.Fetch.{size, without_far_key, needs_token, fetch_within}
-use Rattle.saphyr_scanner.specs.Steps.Remaining.{before_place, hand_out, delivered, run, remaining, scan}
+use Rattle.saphyr_scanner.specs.Steps.Remaining.{before_place, hand_out, remaining_after, run, remaining, scan}
 use Rattle.saphyr_scanner.specs.Ends.{EndsWithStream}
 use Rattle.saphyr_scanner.proofs.Effects.Readers.{Readers}
-use Rattle.saphyr_scanner.proofs.Effects.Fetch.{Stands, Standing, Fetched, read_fetched}
+use Rattle.saphyr_scanner.proofs.Effects.Fetch.{EndStands, Standing, Fetched, read_fetched}
 use Rattle.saphyr_scanner.proofs.Filling.{going}
 use Rattle.saphyr_scanner.proofs.Unroll.{behind}
 use Rattle.saphyr_scanner.proofs.Added.Queue.{IsNoEnd, PlacesGoOn}
@@ -59,20 +59,20 @@ going_on go c others k (p ∷ ps) h =
 ended_hands_out : (go : State → Remaining) (c : Core) → c.ended ≡ true
     → ((k : ℕ) (ps : List Place) → go (holding c ps k) ≡ none)
     → (k : ℕ) (front : List Place) (end : Piece) → PlacesGoOn front → end.kind ≡ tokens.StreamEnd
-    → EndsWithStream (hand_out (front ++ closed end ∷ []) go (holding c (front ++ closed end ∷ []) k))
+    → EndsWithStream (hand_out (front ++ bare_place end ∷ []) go (holding c (front ++ bare_place end ∷ []) k))
 ended_hands_out go c over others k [] end h e =
-    by_test (needs_token (holding c (closed end ∷ []) k)) _ _ EndsWithStream
+    by_test (needs_token (holding c (bare_place end ∷ []) k)) _ _ EndsWithStream
     (λ n. absurd (let g = going c.ended _ n in cc))
     (λ _. let r = others (k + 1) [] in
     inr ([], end, tt, e, ap (λ (x : Remaining). end ∷ x.pieces) r, ap (λ (x : Remaining). x.refusal) r))
 ended_hands_out go c over others k (p ∷ front) end h e =
     let next = ended_hands_out go c over others (k + 1) front end h.1 e in
-    by_test (needs_token (holding c (p ∷ (front ++ closed end ∷ [])) k)) _ _ EndsWithStream
+    by_test (needs_token (holding c (p ∷ (front ++ bare_place end ∷ [])) k)) _ _ EndsWithStream
     (λ n. absurd (let g = going c.ended _ n in cc))
     (λ _. place_before p.opening p.piece _ h.0 next)
 
 delivers_end : (r : Result State Refusal) (go : State → Remaining) → ((t : State) → r ≡ Ok t → EndsWithStream (go t))
-    → EndsWithStream (delivered r go)
+    → EndsWithStream (remaining_after r go)
 delivers_end (Ok t) go h = h t refl
 delivers_end (Err e) go h = inl (e, refl, tt)
 
@@ -84,7 +84,8 @@ run_ends laws limit (suc fuel) s f h = by s.core.ended refl (λ t. run_ends laws
     go t = behind fuel limit t
 
     by : (b : Bool) → s.core.ended ≡ b
-        → ((t : State) → size t.core < fuel → Standing t → EndsWithStream (run fuel limit t)) → Stands b s.queue.places
+        → ((t : State) → size t.core < fuel → Standing t → EndsWithStream (run fuel limit t))
+        → EndStands b s.queue.places
         → EndsWithStream (hand_out s.queue.places go s)
     by true e others w =
         let P : List Place → Type 0 = λ ps. EndsWithStream (hand_out ps go (holding s.core ps s.queue.handed)) in

@@ -7,7 +7,8 @@ use Rattle.saphyr_input.specs.declared.input.SkipTabs.TheVariants as tabs
 use Rattle.saphyr_scalar.specs.declared.scalar.position.Marker.{Marker}
 use Rattle.saphyr_scalar.specs.declared.scalar.fault.Refusal.{Refusal}
 use Rattle.saphyr_scalar.specs.Views.Cursor.{Cursor, ◌>>=◌, fresh, pass, separation}
-use Rattle.saphyr_scanner.specs.Steps.Core.{Candidate, Level, Core, in_block, is_too_far, save_key, remove_key, drop_far_key, roll, is_further}
+use Rattle.saphyr_scanner.specs.Steps.Core.{Core, in_block, is_too_far, save_key, remove_key, drop_far_key, roll, is_further}
+use Rattle.saphyr_scanner.specs.Steps.Level.{Candidate, Level}
 use Rattle.saphyr_scanner.specs.Steps.Passing.{separate, pass_on, with_cursor}
 use Rattle.saphyr_scalar.specs.Alike.{AreAlike, AreSame, GiveAlike, ReadsAlike}
 use Rattle.saphyr_scalar.proofs.Breaks.Results.{both_then}
@@ -71,7 +72,7 @@ LevelsEven m j is [] = Unit {0}
 LevelsEven m j is (l ∷ ls) = KeyEven m j (first is) l.key × LevelsEven m j (others is) ls
 
 -- the same of what the levels are, and of where a colon may stand at once
-pub record Parts (text : List ℕ) (s : Cursor) (k : Option Candidate) (ls : List Level) (a : ℕ)
+pub record TwinParts (text : List ℕ) (s : Cursor) (k : Option Candidate) (ls : List Level) (a : ℕ)
     (x : Indexes) : Type 0 where
   pub ahead : Ahead text (fresh text) 0 s x.at
   pub key : KeyEven s.mark x.at x.key k
@@ -80,7 +81,7 @@ pub record Parts (text : List ℕ) (s : Cursor) (k : Option Candidate) (ls : Lis
   pub adjacent : Even line a x.adjacent s.mark.line s.mark.index x.at
 
 abbrev pub Twin : List ℕ → Core → Indexes → Type 0
-Twin text c x = Parts text c.cursor c.level.key c.outer c.adjacent x
+Twin text c x = TwinParts text c.cursor c.level.key c.outer c.adjacent x
 
 -- the second is the first of the normalized text
 abbrev pub Cores : List ℕ → Core → Core → Type 0
@@ -160,20 +161,20 @@ save_still text n c x t =
     choose (Still text c.cursor) c.key_allowed c.key_allowed _ _ _ _ refl
     (λ _.
     let here = even_here c.cursor.mark.line c.cursor.mark.index x.at in
-    let kept : Parts text c.cursor (Some (record { mark = c.cursor.mark; place = n })) c.outer c.adjacent
+    let kept : TwinParts text c.cursor (Some (record { mark = c.cursor.mark; place = n })) c.outer c.adjacent
     (record x { key = x.at }) =
     record { ahead = t.ahead; key = here; outer = t.outer; line = t.line; adjacent = t.adjacent } in
     ((record x { key = x.at }, refl, kept), refl))
     (λ _. ((x, refl, t), refl))
 
 pub forgotten : (text : List ℕ) (c : Core) (x : Indexes) → Twin text c x
-    → Parts text c.cursor None c.outer c.adjacent x
+    → TwinParts text c.cursor None c.outer c.adjacent x
 forgotten text c x t = record { ahead = t.ahead; key = tt; outer = t.outer; line = t.line; adjacent = t.adjacent }
 
 -- a colon may stand at once where both stand
-pub adjacent_here : (text : List ℕ) (c : Core) (x : Indexes) → Twin text c x
-    → Parts text c.cursor c.level.key c.outer c.cursor.mark.index (record x { adjacent = x.at })
-adjacent_here text c x t = record {
+pub here_adjacent : (text : List ℕ) (c : Core) (x : Indexes) → Twin text c x
+    → TwinParts text c.cursor c.level.key c.outer c.cursor.mark.index (record x { adjacent = x.at })
+here_adjacent text c x t = record {
   ahead = t.ahead;
   key = t.key;
   outer = t.outer;

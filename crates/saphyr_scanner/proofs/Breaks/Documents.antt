@@ -16,7 +16,7 @@ use Rattle.saphyr_scanner.specs.Steps.Core.{Core, Put, in_block, remove_key, act
 use Rattle.saphyr_scanner.specs.Steps.Document as document
 use Rattle.saphyr_scanner.specs.Steps.Passing.{separate, with_cursor}
 use Rattle.saphyr_scanner.specs.Steps.Queue.{Queue}
-use Rattle.saphyr_scanner.specs.Steps.State.{State, carried, on_core_with}
+use Rattle.saphyr_scanner.specs.Steps.State.{State, on_core, on_core_with}
 use Rattle.saphyr_scanner.specs.Steps.Unrolling.{unroll}
 use Rattle.saphyr_scalar.specs.Alike.{AreDirectivesAlike, GiveAlike}
 use Rattle.saphyr_scalar.proofs.Breaks.Results.{both_then}
@@ -24,7 +24,7 @@ use Rattle.saphyr_scanner.proofs.Breaks.Cores.{Indexes, near_core, Cores, Twin, 
 use Rattle.saphyr_scanner.proofs.Breaks.Normal.{first_is, normal_none}
 use Rattle.saphyr_scanner.proofs.Breaks.Places.{reindexed, near, Ahead, ahead_ahead, ahead_stands, Stand, one_less}
 use Rattle.saphyr_scanner.proofs.Breaks.Scalars.{Begins, begins_still, begins_near, no_break_here}
-use Rattle.saphyr_scanner.proofs.Breaks.States.{SameQueues, same_act, States, Ended, SameSteps, holding, unroll_same, acted_same}
+use Rattle.saphyr_scanner.proofs.Breaks.States.{SameQueues, same_act, States, Ended, SameSteps, holding, unroll_same, after_step_same}
 use Rattle.saphyr_scanner.proofs.Breaks.Steps.{both_choose, character_ahead}
 use Rattle.saphyr_input.proofs.Basics.Characters.{no_return}
 use Rattle.saphyr_scalar.proofs.Given.{cursor_at}
@@ -40,13 +40,13 @@ content_ends text c x q r t e =
     let w = unroll_same text None c.cursor.mark (reindexed x.at c.cursor.mark) c x q r t e in
     let a = unroll None c.cursor.mark (holding c q) in
     let b = unroll None (reindexed x.at c.cursor.mark) (holding (near_core x c) r) in
-    let P : Core → Core → Type 0 = λ d k. GiveAlike (Ended text c.cursor) (carried (remove_key d) a.queue)
-    (carried (remove_key k) b.queue) in
+    let P : Core → Core → Type 0 = λ d k. GiveAlike (Ended text c.cursor) (on_core (remove_key d) a.queue)
+    (on_core (remove_key k) b.queue) in
     of_cores text P a.core b.core w.0 (λ y u. by (remove_key a.core)
     (remove_key (near_core y a.core)) a.queue b.queue w.2 a.core.cursor w.1 (remove_still text a.core y u))
   where
     by : (u v : Result Core Refusal) (f g : Queue) → SameQueues f g → (s : Cursor) → s ≡ c.cursor
-        → GiveAlike (Still text s) u v → GiveAlike (Ended text c.cursor) (carried u f) (carried v g)
+        → GiveAlike (Still text s) u v → GiveAlike (Ended text c.cursor) (on_core u f) (on_core v g)
     by (Ok d) (Ok k) f g h s m i = (i.0, i.1 ∙ m, h)
     by (Ok d) (Err k) f g h s m i = absurd i
     by (Err d) (Ok k) f g h s m i = absurd i
@@ -181,10 +181,10 @@ line_ends text k c x q r t e =
     (is_breakz (slice_index (normalized c.cursor.rest) 0)) _ _ _ _ (first_is is_breakz refl c.cursor.rest)
     (λ _. ((x, refl, t), e)) (λ _. refl)
 
-behind_marker : (text : List ℕ) (c : Core) (x : Indexes) (q r : Queue) → Laws text → Twin text c x → SameQueues q r
+behind_marker_same : (text : List ℕ) (c : Core) (x : Indexes) (q r : Queue) → Laws text → Twin text c x → SameQueues q r
     → GiveAlike (States text) (on_core_with (separate c) (holding c q) >>= document.end_line)
     (on_core_with (separate (near_core x c)) (holding (near_core x c) r) >>= document.end_line)
-behind_marker text c x q r laws t e = by (separate c) (separate (near_core x c)) (separate_alike text c x laws t)
+behind_marker_same text c x q r laws t e = by (separate c) (separate (near_core x c)) (separate_alike text c x laws t)
   where
     by : (a b : Result (SkipTabs × Core) Refusal) → GiveAlike (Separated text) a b
         → GiveAlike (States text) (on_core_with a (holding c q) >>= document.end_line)
@@ -207,7 +207,7 @@ end_marker_same text c x q r laws t e k =
     (λ a b i j h. of_cores text (λ d f. GiveAlike (States text)
     (on_core_with (separate d) (holding d a.queue) >>= document.end_line)
     (on_core_with (separate f) (holding f b.queue) >>= document.end_line)) a.core b.core h.0
-    (λ y u. behind_marker text a.core y a.queue b.queue laws u h.1))
+    (λ y u. behind_marker_same text a.core y a.queue b.queue laws u h.1))
 
 -- ## Byte order marks
 
@@ -280,5 +280,5 @@ pub directive_same : (text : List ℕ) (c : Core) (x : Indexes) (q r : Queue) �
 unfolding document.state_behind_directive
 directive_same text c x q r laws t e begins =
     content_then text (States text) c x q r _ _ t e
-    (λ d y u v w m f. acted_same text (document.read_directive d) (document.read_directive (near_core y d)) u v
+    (λ d y u v w m f. after_step_same text (document.read_directive d) (document.read_directive (near_core y d)) u v
     (read_directive_same text d y laws w (begins_still 37 c.cursor d.cursor m begins)) f)

@@ -9,11 +9,12 @@ use Rattle.saphyr_scalar.specs.declared.scalar.fault.Refusal.{Refusal}
 use Rattle.saphyr_scalar.specs.Views.Cursor.{Cursor, ◌>>=◌}
 use Rattle.saphyr_scanner.specs.declared.engine.level.Context.TheVariants as context
 use Rattle.saphyr_scanner.specs.Grammar.Tokens as tokens
+use Rattle.saphyr_scanner.specs.Steps.Level.{ends_pair}
 use Rattle.saphyr_scanner.specs.Steps.Core.{Core, in_block, least_column, drop_far_key, at_mark}
-use Rattle.saphyr_scanner.specs.Steps.Fetch.{step, is_value_adjacent, state_behind_content, fetch_here, arrive, fetch, within, fetch_within, without_far_key}
+use Rattle.saphyr_scanner.specs.Steps.Fetch.{step, is_value_adjacent, state_behind_content, fetch_here, arrive, fetch, check_limit, fetch_within, without_far_key}
 use Rattle.saphyr_scanner.specs.Steps.Passing.{pass_gap}
 use Rattle.saphyr_scanner.specs.Steps.Queue.{Queue, next}
-use Rattle.saphyr_scanner.specs.Steps.State.{State, carried, acted}
+use Rattle.saphyr_scanner.specs.Steps.State.{State, on_core, after_step}
 use Rattle.saphyr_scanner.specs.Steps.Unrolling.{unroll}
 use Rattle.saphyr_scalar.specs.Alike.{GiveAlike}
 use Rattle.saphyr_scalar.proofs.Breaks.Results.{both_then}
@@ -24,7 +25,7 @@ use Rattle.saphyr_scanner.proofs.Breaks.Indicators.{start_same, end_same, entry_
 use Rattle.saphyr_scanner.proofs.Breaks.Normal.{first_is, second_is, start_so, end_so, normal_shorter}
 use Rattle.saphyr_scanner.proofs.Breaks.Passing.{Rested, gap_rests, dropped_rest}
 use Rattle.saphyr_scanner.proofs.Breaks.Scalars.{double_same, single_same, plain_same, block_same, name_same, tag_same}
-use Rattle.saphyr_scanner.proofs.Breaks.States.{SameQueues, same_act, same_next, States, SameSteps, holding, unroll_same, acted_same, carried_same}
+use Rattle.saphyr_scanner.proofs.Breaks.States.{SameQueues, same_act, same_next, States, SameSteps, holding, unroll_same, after_step_same, on_core_same}
 use Rattle.saphyr_scanner.proofs.Breaks.Steps.{both_choose}
 use Rattle.saphyr_input.proofs.Basics.Characters.{no_return}
 use Rattle.std.proofs.lemmas.Bool.{and_parts, le-leb, eqb-true}
@@ -43,7 +44,7 @@ step_same text first second other n c x laws t ink f blank is_flow_too opens =
     (record {
       sequence = λ _. start_same text context.FlowSequence tokens.FlowSequenceStart n c x laws t ink;
       mapping = λ _. start_same text context.FlowMapping tokens.FlowMappingStart n c x laws t ink;
-      sequence_end = λ _. end_same text true tokens.FlowSequenceEnd c x laws t ink;
+      sequence_end = λ _. end_same text (ends_pair c.level.context) tokens.FlowSequenceEnd c x laws t ink;
       mapping_end = λ _. end_same text false tokens.FlowMappingEnd c x laws t ink;
       comma = λ _. entry_same text c x laws t ink;
       dash = λ _ _. block_entry_same text c x laws t ink;
@@ -52,8 +53,8 @@ step_same text first second other n c x laws t ink f blank is_flow_too opens =
       beside = λ _ _. flow_value_same text second other c x laws t ink opens;
       double = λ e. double_same text n c x laws t (f ∙ e);
       single = λ e. single_same text n c x laws t (f ∙ e);
-      alias = λ _. name_same text true n c x laws t ink;
-      anchor = λ _. name_same text false n c x laws t ink;
+      alias = λ _. name_same text tokens.Alias n c x laws t ink;
+      anchor = λ _. name_same text tokens.Anchor n c x laws t ink;
       tag = λ e. tag_same text n c x laws t (f ∙ e);
       literal = λ e _. block_same text block_style.Literal n c x laws t (f ∙ e);
       folded = λ e _. block_same text block_style.Folded n c x laws t (f ∙ e);
@@ -76,13 +77,13 @@ content_same text c x q r laws t e ink k =
     let s = c.cursor.rest in
     let n = normalized s in
     let P : ℕ → ℕ → Type 0 = λ f i. GiveAlike (States text)
-    (acted (step (slice_index s 0) (slice_index s 1) (next q) c) q)
-    (acted (step f (slice_index n 1) i (near_core x c)) r) in
+    (after_step (step (slice_index s 0) (slice_index s 1) (next q) c) q)
+    (after_step (step f (slice_index n 1) i (near_core x c)) r) in
     let h = step_same text (slice_index s 0) (slice_index s 1) (slice_index n 1) (next q) c x laws t ink refl
     (second_is is_blank_or_breakz refl s k) (second_is is_flow refl s k)
     (second_is (λ y. (y == 91) || (y == 123)) refl s k) in
     subst (λ f. P f (next r)) (sym (first_same s ink))
-    (subst (λ i. P (slice_index s 0) i) (same_next q r e) (acted_same text _ _ q r h e))
+    (subst (λ i. P (slice_index s 0) i) (same_next q r e) (after_step_same text _ _ q r h e))
 
 inked_of : (t : List ℕ) → is_z (slice_index t 0) ≡ false → is_break (slice_index t 0) ≡ false → Inked t
 inked_of [] z k = absurd (cc)
@@ -119,12 +120,12 @@ here_same text c x q r laws t e k =
 abbrev RestedStates : List ℕ → State → State → Type 0
 RestedStates text s t = Rested text s.core t.core × SameQueues s.queue t.queue
 
-carried_rested : (text : List ℕ) (a b : Result Core Refusal) (q r : Queue) → GiveAlike (Rested text) a b
-    → SameQueues q r → GiveAlike (RestedStates text) (carried a q) (carried b r)
-carried_rested text (Ok c) (Ok d) q r h e = (h, e)
-carried_rested text (Ok c) (Err f) q r h e = absurd h
-carried_rested text (Err d) (Ok c) q r h e = absurd h
-carried_rested text (Err d) (Err f) q r h e = h
+on_core_rested : (text : List ℕ) (a b : Result Core Refusal) (q r : Queue) → GiveAlike (Rested text) a b
+    → SameQueues q r → GiveAlike (RestedStates text) (on_core a q) (on_core b r)
+on_core_rested text (Ok c) (Ok d) q r h e = (h, e)
+on_core_rested text (Ok c) (Err f) q r h e = absurd h
+on_core_rested text (Err d) (Ok c) q r h e = absurd h
+on_core_rested text (Err d) (Err f) q r h e = h
 
 arrive_same : (text : List ℕ) (c : Core) (x : Indexes) (q r : Queue) → Laws text → Twin text c x → SameQueues q r
     → GiveAlike (RestedStates text) (arrive (holding c q)) (arrive (holding (near_core x c) r))
@@ -135,7 +136,7 @@ arrive_same text c x q r laws t e =
     (gap_rests text c x laws t)
     (λ a b i j h. of_cores text (λ d f. GiveAlike (Rested text) (drop_far_key d) (drop_far_key f)) a b h.0
     (λ y u. dropped_rest text a y u h.1)) in
-    both_then (RestedStates text) (RestedStates text) _ _ _ _ (carried_rested text _ _ q r gone e)
+    both_then (RestedStates text) (RestedStates text) _ _ _ _ (on_core_rested text _ _ q r gone e)
     (λ a b i j h. of_cores text (λ d f. RestedStates text
     (unroll (Some d.cursor.mark.col) d.cursor.mark (holding d a.queue))
     (unroll (Some f.cursor.mark.col) f.cursor.mark (holding f b.queue))) a.core b.core h.0.0
@@ -162,7 +163,7 @@ fetch_same text c x q r laws t e =
 
 within_same : (text : List ℕ) (limit : ℕ) (c : Core) (x : Indexes) (q r : Queue) → length text ≤ limit
     → Twin text c x → SameQueues q r
-    → GiveAlike (States text) (within limit (holding c q)) (within limit (holding (near_core x c) r))
+    → GiveAlike (States text) (check_limit limit (holding c q)) (check_limit limit (holding (near_core x c) r))
 within_same text limit c x q r short t e =
     let a : nat_le c.cursor.mark.index limit ≡ true = le-leb c.cursor.mark.index limit
     (omega (arith, t.ahead.counted, short)) in
@@ -174,7 +175,7 @@ within_same text limit c x q r short t e =
 pub settled_same : (text : List ℕ) (c : Core) (x : Indexes) (q r : Queue) → Twin text c x → SameQueues q r
     → GiveAlike (States text) (without_far_key (holding c q)) (without_far_key (holding (near_core x c) r))
 settled_same text c x q r t e =
-    carried_same text (drop_far_key c) (drop_far_key (near_core x c)) q r (drop_twin text c x t) e
+    on_core_same text (drop_far_key c) (drop_far_key (near_core x c)) q r (drop_twin text c x t) e
 
 -- a token is read, and a candidate that is too far is dropped
 pub read_same : (text : List ℕ) (limit : ℕ) (c : Core) (x : Indexes) (q r : Queue) → Laws text → length text ≤ limit
@@ -184,10 +185,10 @@ pub read_same : (text : List ℕ) (limit : ℕ) (c : Core) (x : Indexes) (q r : 
 unfolding fetch_within
 read_same text limit c x q r laws short t e =
     both_then (States text) (States text) _ _ without_far_key without_far_key
-    (both_then (States text) (States text) (fetch (holding c q)) (fetch (holding (near_core x c) r)) (within limit)
-    (within limit) (fetch_same text c x q r laws t e)
-    (λ a b i j h. of_cores text (λ d f. GiveAlike (States text) (within limit (holding d a.queue))
-    (within limit (holding f b.queue))) a.core b.core h.0
+    (both_then (States text) (States text) (fetch (holding c q)) (fetch (holding (near_core x c) r)) (check_limit limit)
+    (check_limit limit) (fetch_same text c x q r laws t e)
+    (λ a b i j h. of_cores text (λ d f. GiveAlike (States text) (check_limit limit (holding d a.queue))
+    (check_limit limit (holding f b.queue))) a.core b.core h.0
     (λ y u. within_same text limit a.core y a.queue b.queue short u h.1)))
     (λ a b i j h. of_cores text (λ d f. GiveAlike (States text) (without_far_key (holding d a.queue))
     (without_far_key (holding f b.queue))) a.core b.core h.0 (λ y u. settled_same text a.core y a.queue b.queue u h.1))

@@ -7,7 +7,7 @@ use Rattle.saphyr_scalar.specs.declared.scalar.position.Marker.{Marker}
 use Rattle.saphyr_scalar.specs.declared.scalar.fault.Refusal.{Refusal}
 use Rattle.saphyr_scalar.specs.Views.Cursor.{Cursor, along, next_line}
 use Rattle.saphyr_scalar.proofs.Breaks.Sides.{Normal, normalized_is, nothing, character, feed, return, pair}
-use Rattle.saphyr_scanner.specs.Steps.Gap.{Passed, Spaced, stop, gap, comment, spaces, line_comment, is_tab_indentation}
+use Rattle.saphyr_scanner.specs.Steps.Gap.{GapEnd, SpacesEnd, stop, gap, comment, spaces, line_comment, is_tab_indentation}
 use Rattle.saphyr_scalar.specs.Alike.{GiveAlike}
 use Rattle.saphyr_scanner.proofs.Breaks.Normal.{beside}
 use Rattle.saphyr_scanner.proofs.Breaks.Places.{reindexed, near, Ahead, Stand, Low, ahead_ahead, ahead_stands, stand_here}
@@ -16,25 +16,25 @@ use Rattle.saphyr_input.proofs.Basics.Characters.{no_return}
 use Rattle.saphyr_scalar.proofs.Given.{cursor_at}
 
 -- from s on the same is passed in both texts, up to no break
-abbrev pub Passes : List ℕ → Cursor → ℕ → Passed → Passed → Type 0
-Passes text s i g h =
+abbrev pub PassesAlike : List ℕ → Cursor → ℕ → GapEnd → GapEnd → Type 0
+PassesAlike text s i g h =
     (j : ℕ) × (h ≡ record { cursor = near j g.cursor; broke = g.broke }) × Ahead text s i g.cursor j ×
     (is_break (slice_index g.cursor.rest 0) ≡ false)
 
-passes_from_ahead : (text : List ℕ) (s : Cursor) (i : ℕ) (t : Cursor) (j : ℕ) (r q : Result Passed Refusal)
-    → Ahead text s i t j → GiveAlike (Passes text t j) r q → GiveAlike (Passes text s i) r q
+passes_from_ahead : (text : List ℕ) (s : Cursor) (i : ℕ) (t : Cursor) (j : ℕ) (r q : Result GapEnd Refusal)
+    → Ahead text s i t j → GiveAlike (PassesAlike text t j) r q → GiveAlike (PassesAlike text s i) r q
 passes_from_ahead text s i t j r q x h =
-    both_so (Passes text t j) (Passes text s i) r q
+    both_so (PassesAlike text t j) (PassesAlike text s i) r q
     (λ g k p. (p.0, p.1, ahead_ahead text s i t j g.cursor p.0 x p.2, p.3)) h
 
 stop_alike : (text : List ℕ) (t n : List ℕ) (m : Marker) (i : ℕ) (blank broke tabbed : Bool) → n ≡ normalized t
     → slice_index n 0 ≡ slice_index t 0 → is_break (slice_index t 0) ≡ false
     → Stand text (cursor_at t m blank) i
-    → GiveAlike (Passes text (cursor_at t m blank) i) (stop m blank broke tabbed t)
+    → GiveAlike (PassesAlike text (cursor_at t m blank) i) (stop m blank broke tabbed t)
     (stop (reindexed i m) blank broke tabbed n)
 unfolding stop
 stop_alike text t n m i blank broke tabbed e f k x =
-    let R = Passes text (cursor_at t m blank) i in
+    let R = PassesAlike text (cursor_at t m blank) i in
     both_choose R (tabbed && is_bom (slice_index t 0)) (tabbed && is_bom (slice_index n 0)) _ _ _ _
     (ap (λ c. tabbed && is_bom c) f) (λ _. refl)
     (λ _. both_choose R (tabbed && not (is_z (slice_index t 0))) (tabbed && not (is_z (slice_index n 0))) _ _ _ _
@@ -45,9 +45,9 @@ stop_alike text t n m i blank broke tabbed e f k x =
 
 -- What is passed from here on, and in a comment.
 record Gaps (text : List ℕ) (least : ℕ) (t n : List ℕ) (m : Marker) (i : ℕ) (blank broke tabbed : Bool) : Type 0 where
-  between : GiveAlike (Passes text (cursor_at t m blank) i) (gap least m blank broke tabbed t)
+  between : GiveAlike (PassesAlike text (cursor_at t m blank) i) (gap least m blank broke tabbed t)
       (gap least (reindexed i m) blank broke tabbed n)
-  inside : GiveAlike (Passes text (cursor_at t m blank) i) (comment least m blank broke tabbed t)
+  inside : GiveAlike (PassesAlike text (cursor_at t m blank) i) (comment least m blank broke tabbed t)
       (comment least (reindexed i m) blank broke tabbed n)
 
 not_cut : (c : ℕ) (t n : List ℕ) → (c == 13) ≡ false
@@ -60,7 +60,7 @@ all_gaps : (text : List ℕ) (least : ℕ) (t n : List ℕ) → Normal t n → (
 all_gaps text least _ _ nothing m i blank broke tabbed low x =
     let h = stop_alike text [] [] m i blank broke tabbed refl refl refl x in record { between = h; inside = h }
 all_gaps text least _ _ (character c {r = t} {q = n} ink w) m i blank broke tabbed low x =
-    let R = Passes text (cursor_at (c ∷ t) m blank) i in
+    let R = PassesAlike text (cursor_at (c ∷ t) m blank) i in
     let e = no_return c ink in
     let is : normalized (c ∷ t) ≡ c ∷ normalized t = rw e refl in
     let line = single_ahead text c c t m i blank true is (omega (arith, low)) x in
@@ -110,7 +110,7 @@ all_gaps text least _ _ (return {r = t} {q = n} e w) m i blank broke tabbed low 
     record { between = rw e h; inside = rw e h }
 
 pub gap_alike : (text : List ℕ) (least : ℕ) (s : Cursor) (i : ℕ) (broke tabbed : Bool) → Low s → Stand text s i
-    → GiveAlike (Passes text s i) (gap least s.mark s.blank_so_far broke tabbed s.rest)
+    → GiveAlike (PassesAlike text s i) (gap least s.mark s.blank_so_far broke tabbed s.rest)
     (gap least (near i s).mark s.blank_so_far broke tabbed (normalized s.rest))
 gap_alike text least s i broke tabbed low x =
     (all_gaps text least s.rest (normalized s.rest)
@@ -118,12 +118,12 @@ gap_alike text least s i broke tabbed low x =
 
 -- ## Behind `?`
 
-abbrev pub Spaces : List ℕ → Cursor → ℕ → Spaced → Spaced → Type 0
+abbrev pub Spaces : List ℕ → Cursor → ℕ → SpacesEnd → SpacesEnd → Type 0
 Spaces text s i g h = (j : ℕ) × (h ≡ record { cursor = near j g.cursor; space = g.space }) × Ahead text s i g.cursor j
 
-spaced_further : (text : List ℕ) (s : Cursor) (i : ℕ) (t : Cursor) (j : ℕ) (g h : Spaced) → Ahead text s i t j
+spaces_end_further : (text : List ℕ) (s : Cursor) (i : ℕ) (t : Cursor) (j : ℕ) (g h : SpacesEnd) → Ahead text s i t j
     → Spaces text t j g h → Spaces text s i g h
-spaced_further text s i t j g h x p = (p.0, p.1, ahead_ahead text s i t j g.cursor p.0 x p.2)
+spaces_end_further text s i t j g h x p = (p.0, p.1, ahead_ahead text s i t j g.cursor p.0 x p.2)
 
 record Spacing (text : List ℕ) (t n : List ℕ) (m : Marker) (i : ℕ) (blank space : Bool) : Type 0 where
   between : Spaces text (cursor_at t m blank) i (spaces m blank space t) (spaces (reindexed i m) blank space n)
@@ -156,38 +156,38 @@ all_spaces text _ _ (character c {r = t} {q = n} ink w) m i blank space low x =
       between =
           choose P ((c == 32) || ((c == 13) && (slice_index t 0 == 10)))
           ((c == 32) || ((c == 13) && (slice_index n 0 == 10))) _ _ _ _ (ap (λ b. (c == 32) || b) (not_cut c t n e))
-          (λ _. spaced_further text _ _ _ _ _ _ on (more true).between)
+          (λ _. spaces_end_further text _ _ _ _ _ _ on (more true).between)
           (λ _. choose P (is_break c) (is_break c) _ _ _ _ refl
-          (λ _. spaced_further text _ _ _ _ _ _ line next.between)
+          (λ _. spaces_end_further text _ _ _ _ _ _ line next.between)
           (λ _. choose P (c == 35) (c == 35) _ _ _ _ refl
-          (λ _. spaced_further text _ _ _ _ _ _ on (more space).inside) (λ _. here)));
+          (λ _. spaces_end_further text _ _ _ _ _ _ on (more space).inside) (λ _. here)));
       inside =
           choose P (is_yaml_non_break c) (is_yaml_non_break c) _ _ _ _ refl
-          (λ _. spaced_further text _ _ _ _ _ _ on (more space).inside)
+          (λ _. spaces_end_further text _ _ _ _ _ _ on (more space).inside)
           (λ _. choose P ((c == 13) && (slice_index t 0 == 10)) ((c == 13) && (slice_index n 0 == 10)) _ _ _ _
           (not_cut c t n e)
-          (λ _. spaced_further text _ _ _ _ _ _ on (more true).between)
+          (λ _. spaces_end_further text _ _ _ _ _ _ on (more true).between)
           (λ _. choose P (is_break c) (is_break c) _ _ _ _ refl
-          (λ _. spaced_further text _ _ _ _ _ _ line next.between) (λ _. here)));
+          (λ _. spaces_end_further text _ _ _ _ _ _ line next.between) (λ _. here)));
     }
 all_spaces text _ _ (feed {r = t} {q = n} w) m i blank space low x =
     let line = single_ahead text 10 10 t m i blank true refl (omega (arith, low)) x in
     let next = all_spaces text t n w (next_line m 1) (i + 1) true true (omega (arith, low))
     (ahead_stands text _ _ _ _ line) in
-    let h = spaced_further text _ _ _ _ _ _ line next.between in
+    let h = spaces_end_further text _ _ _ _ _ _ line next.between in
     record { between = h; inside = h }
 all_spaces text _ _ (pair {r = t} {q = n} w) m i blank space low x =
     let line = two_ahead text t m i blank true (omega (arith, low)) x in
     let next = all_spaces text t n w (line_from m (m.index + 1 + 1)) (i + 1) true true (omega (arith, low))
     (ahead_stands text _ _ _ _ line) in
-    let h = spaced_further text _ _ _ _ _ _ line next.between in
+    let h = spaces_end_further text _ _ _ _ _ _ line next.between in
     record { between = h; inside = h }
 all_spaces text _ _ (return {r = t} {q = n} e w) m i blank space low x =
     let is : normalized (13 ∷ t) ≡ 10 ∷ normalized t = rw e refl in
     let line = single_ahead text 13 10 t m i blank true is (omega (arith, low)) x in
     let next = all_spaces text t n w (next_line m 1) (i + 1) true true (omega (arith, low))
     (ahead_stands text _ _ _ _ line) in
-    let h = spaced_further text _ _ _ _ _ _ line next.between in
+    let h = spaces_end_further text _ _ _ _ _ _ line next.between in
     record { between = rw e h; inside = rw e h }
 
 pub spaces_alike : (text : List ℕ) (s : Cursor) (i : ℕ) (space : Bool) → Low s → Stand text s i

@@ -11,14 +11,15 @@ use Rattle.saphyr_scanner.specs.declared.engine.level.Context.{Context}
 use Rattle.saphyr_scanner.specs.Grammar.Tokens as tokens
 use Rattle.saphyr_scanner.specs.Grammar.Tokens.{Kind}
 use Rattle.saphyr_scanner.specs.Steps.Block as block
-use Rattle.saphyr_scanner.specs.Steps.Core.{Candidate, Level, Core, Put, in_block, save_key, remove_key, go_deeper, roll, is_further, forget_key, with_context}
+use Rattle.saphyr_scanner.specs.Steps.Core.{Core, Put, in_block, save_key, remove_key, go_deeper, roll, is_further, forget_key, with_context}
+use Rattle.saphyr_scanner.specs.Steps.Level.{Candidate, Level, ends_pair, behind_entry, behind_question, begins_pair, behind_colon}
 use Rattle.saphyr_scanner.specs.Steps.Fetch.{flow_value}
 use Rattle.saphyr_scanner.specs.Steps.Flow as flow
 use Rattle.saphyr_scanner.specs.Steps.Gap as gaps
 use Rattle.saphyr_scanner.specs.Steps.Passing.{pass_on, with_cursor}
 use Rattle.saphyr_scanner.specs.Steps.Value as value
 use Rattle.saphyr_scalar.specs.Alike.{GiveAlike}
-use Rattle.saphyr_scanner.proofs.Breaks.Cores.{Indexes, near_core, near_key, near_levels, first, others, LevelsEven, Cores, Twin, Laws, Still, Inked, of_cores, of_still, core_then, still_then, same_length, save_still, remove_still, roll_still, forgotten, separate_then, pass_then, still_pass_then, still_inked, pass_twin, pass_near, pass_ahead, twin_low, twin_stands, twin_moves, going_to, adjacent_here}
+use Rattle.saphyr_scanner.proofs.Breaks.Cores.{Indexes, near_core, near_key, near_levels, first, others, LevelsEven, Cores, Twin, Laws, Still, Inked, of_cores, of_still, core_then, still_then, same_length, save_still, remove_still, roll_still, forgotten, separate_then, pass_then, still_pass_then, still_inked, pass_twin, pass_near, pass_ahead, twin_low, twin_stands, twin_moves, going_to, here_adjacent}
 use Rattle.saphyr_scanner.proofs.Breaks.Gaps.{spaces_alike}
 use Rattle.saphyr_scanner.proofs.Breaks.Normal.{first_is, second_is}
 use Rattle.saphyr_scanner.proofs.Breaks.Places.{reindexed, near, even_index, ahead_ahead, ahead_stands, low_ahead}
@@ -65,7 +66,7 @@ adjacent_twin : (text : List ℕ) (c : Core) (x : Indexes) → Twin text c x
     → Cores text (flow.allow_adjacent c) (flow.allow_adjacent (near_core x c))
 adjacent_twin text c x t =
     choose (Cores text) (in_block c) (in_block c) _ _ _ _ refl (λ _. (x, refl, t))
-    (λ _. (record x { adjacent = x.at }, refl, adjacent_here text c x t))
+    (λ _. (record x { adjacent = x.at }, refl, here_adjacent text c x t))
 
 pair_same : (ends : Bool) (m k : Marker) (kind : Kind) (a b d e : Marker)
     → SameActions (flow.behind_pair ends m (Put (record { span = record { start = a; end = b }; kind = kind })))
@@ -87,14 +88,13 @@ close_same text ends kind c x laws t ink =
           (reindexed y.at d.cursor.mark),
     ))
 
-pub end_same : (text : List ℕ) (is_sequence : Bool) (kind : Kind) (c : Core) (x : Indexes) → Laws text
+pub end_same : (text : List ℕ) (ends : Bool) (kind : Kind) (c : Core) (x : Indexes) → Laws text
     → Twin text c x → Inked c.cursor.rest
-    → GiveAlike (SameSteps text) (flow.closing_steps is_sequence kind c)
-    (flow.closing_steps is_sequence kind (near_core x c))
+    → GiveAlike (SameSteps text) (flow.closing_steps ends kind c) (flow.closing_steps ends kind (near_core x c))
 unfolding flow.closing_steps
-end_same text is_sequence kind c x laws t ink =
+end_same text ends kind c x laws t ink =
     both_choose (SameSteps text) (in_block c) (in_block c) _ _ _ _ refl (λ _. refl)
-    (λ _. close_same text (is_sequence && flow.ends_pair c.level.context) kind c x laws t ink)
+    (λ _. close_same text ends kind c x laws t ink)
 
 pub entry_same : (text : List ℕ) (c : Core) (x : Indexes) → Laws text → Twin text c x → Inked c.cursor.rest
     → GiveAlike (SameSteps text) (flow.flow_entry_steps c) (flow.flow_entry_steps (near_core x c))
@@ -103,11 +103,11 @@ entry_same text c x laws t ink =
     still_then text (SameSteps text) c.cursor (remove_key c)
     (remove_key (near_core x c)) flow.next_flow_entry flow.next_flow_entry (remove_still text c x t)
     (λ d y u e. pass_then text (SameSteps text)
-    (with_context (flow.behind_entry d.level.context) (record d { key_allowed = true })) y _ _ laws u
+    (with_context (behind_entry d.level.context) (record d { key_allowed = true })) y _ _ laws u
     (still_inked c.cursor d.cursor e ink)
     (λ s f z v. (
       (z, refl, v),
-      pair_same (flow.ends_pair d.level.context) d.cursor.mark
+      pair_same (ends_pair d.level.context) d.cursor.mark
           (reindexed y.at d.cursor.mark) tokens.FlowEntry d.cursor.mark f.cursor.mark (reindexed y.at d.cursor.mark)
           (reindexed z.at f.cursor.mark),
     )))
@@ -133,8 +133,9 @@ check_same text c x laws t =
 
 alone_puts : (begins further : Bool) (start : Marker) (i : ℕ) (c : Core) (x : Indexes)
     → is_further start.col c ≡ further
-    → SameActions (value.begin_alone begins start c) (value.begin_alone begins (reindexed i start) (near_core x c))
-unfolding value.begin_alone
+    → SameActions (value.opening_actions begins start c)
+    (value.opening_actions begins (reindexed i start) (near_core x c))
+unfolding value.opening_actions
 alone_puts true true start i c x e = rw e (refl, (refl, (refl, tt)))
 alone_puts true false start i c x e = rw e (refl, (refl, tt))
 alone_puts false true start i c x e = rw e (refl, (refl, tt))
@@ -144,7 +145,7 @@ behind_same : (text : List ℕ) (k : Option Candidate) (i : ℕ) (begins : Bool)
     (x : Indexes) → Twin text c x
     → GiveAlike (SameSteps text) (value.behind_key k begins start c)
     (value.behind_key (near_key i k) begins (reindexed j start) (near_core x c))
-unfolding value.behind_key value.of_key value.alone
+unfolding value.behind_key value.value_of_key value.value_alone
 behind_same text (Some k) i begins start j c x t =
     both_choose (SameSteps text) (begins && nat_lt k.mark.line start.line)
     (begins && nat_lt k.mark.line start.line) _ _ _ _ refl (λ _. refl)
@@ -169,14 +170,14 @@ pub value_same : (text : List ℕ) (c : Core) (x : Indexes) → Laws text → Tw
     → GiveAlike (SameSteps text) (value.value_steps c) (value.value_steps (near_core x c))
 unfolding value.value_steps
 value_same text c x laws t ink =
-    let d : Core = with_context (value.behind_colon c.level.context) c in
+    let d : Core = with_context (behind_colon c.level.context) c in
     of_cores text (λ a b. GiveAlike (SameSteps text)
-    (value.check_tab a >>= λ e. value.behind_key e.level.key (value.begins_pair c.level.context) c.cursor.mark e)
-    (value.check_tab b >>= λ e. value.behind_key e.level.key (value.begins_pair c.level.context)
+    (value.check_tab a >>= λ e. value.behind_key e.level.key (begins_pair c.level.context) c.cursor.mark e)
+    (value.check_tab b >>= λ e. value.behind_key e.level.key (begins_pair c.level.context)
     (reindexed x.at c.cursor.mark) e)) (pass_on 1 d) (pass_on 1 (near_core x d)) (pass_twin text d x t ink)
     (λ y u. core_then text (SameSteps text) (value.check_tab (pass_on 1 d))
     (value.check_tab (near_core y (pass_on 1 d))) _ _ (check_same text (pass_on 1 d) y laws u)
-    (λ e z v. behind_same text e.level.key z.key (value.begins_pair c.level.context) c.cursor.mark x.at e z v))
+    (λ e z v. behind_same text e.level.key z.key (begins_pair c.level.context) c.cursor.mark x.at e z v))
 
 pub adjacent_same : (text : List ℕ) (c : Core) (x : Indexes) → Twin text c x
     → (x.at == x.adjacent) ≡ (c.cursor.mark.index == c.adjacent)
@@ -292,7 +293,7 @@ question_same text c x laws t ink =
     let P : Cursor → Type 0 = λ u. GiveAlike (Cores text) (block.behind_mark g.space (with_cursor g.cursor c))
     (block.behind_mark (gaps.spaces_at false u).space
     (with_cursor (gaps.spaces_at false u).cursor (near_core x c))) in
-    let Q : gaps.Spaced → Type 0 = λ k. GiveAlike (Cores text) (block.behind_mark g.space (with_cursor g.cursor c))
+    let Q : gaps.SpacesEnd → Type 0 = λ k. GiveAlike (Cores text) (block.behind_mark g.space (with_cursor g.cursor c))
     (block.behind_mark k.space (with_cursor k.cursor (near_core x c))) in
     subst P (sym e) (subst Q (sym h.1) (mark_same text g.space (with_cursor g.cursor c) (going_to h.0 x) there))
 
@@ -301,7 +302,7 @@ begin_same : (text : List ℕ) (c : Core) (x : Indexes) → Laws text → Twin t
 unfolding block.begin_key
 begin_same text c x laws t ink =
     let column = c.cursor.mark.col in
-    let f : Core → Core = λ a. with_context (block.behind_question c.level.context) a in
+    let f : Core → Core = λ a. with_context (behind_question c.level.context) a in
     of_still text (λ a b. GiveAlike (Cores text)
     (remove_key (f a) >>= λ d. block.pass_question (record d { key_allowed = in_block d }))
     (remove_key (f b) >>= λ d. block.pass_question (record d { key_allowed = in_block d })))

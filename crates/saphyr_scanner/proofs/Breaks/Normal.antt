@@ -22,15 +22,15 @@ shorter (pair h) = let l = shorter h in omega (arith, l)
 pub normal_shorter : (t : List ℕ) → length (normalized t) ≤ length t
 normal_shorter t = shorter (beside t)
 
-none : {t n : List ℕ} → Normal t n → (length n == 0) ≡ (length t == 0)
-none nothing = refl
-none (character c e h) = grind (arith, nat_tests)
-none (feed h) = grind (arith, nat_tests)
-none (return e h) = grind (arith, nat_tests)
-none (pair h) = grind (arith, nat_tests)
+none_as_long : {t n : List ℕ} → Normal t n → (length n == 0) ≡ (length t == 0)
+none_as_long nothing = refl
+none_as_long (character c e h) = grind (arith, nat_tests)
+none_as_long (feed h) = grind (arith, nat_tests)
+none_as_long (return e h) = grind (arith, nat_tests)
+none_as_long (pair h) = grind (arith, nat_tests)
 
 pub normal_none : (t : List ℕ) → (length (normalized t) == 0) ≡ (length t == 0)
-normal_none t = none (beside t)
+normal_none t = none_as_long (beside t)
 
 -- ## What the first characters are, where CR is what LF is
 

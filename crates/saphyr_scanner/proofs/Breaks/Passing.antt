@@ -8,11 +8,11 @@ use Rattle.saphyr_scalar.specs.declared.scalar.position.Marker.{Marker}
 use Rattle.saphyr_scalar.specs.Views.Cursor.{Cursor}
 use Rattle.saphyr_scanner.specs.Steps.Gap as gaps
 use Rattle.saphyr_scanner.specs.Steps.Core.{Core, in_block, least_column, drop_far_key}
-use Rattle.saphyr_scanner.specs.Steps.Passing.{pass_gap, check_comment, goes_on_behind, behind_gap, intercepts}
+use Rattle.saphyr_scanner.specs.Steps.Passing.{pass_gap, check_comment, goes_on_behind, behind_gap, check_comment_of}
 use Rattle.saphyr_scalar.specs.Alike.{GiveAlike}
 use Rattle.saphyr_scalar.proofs.Breaks.Results.{both_then}
 use Rattle.saphyr_scanner.proofs.Breaks.Cores.{Indexes, near_core, near_comment, Cores, Twin, Laws, twin_low, twin_stands, twin_moves, going_to, Still, drop_still}
-use Rattle.saphyr_scanner.proofs.Breaks.Gaps.{Passes, gap_alike}
+use Rattle.saphyr_scanner.proofs.Breaks.Gaps.{PassesAlike, gap_alike}
 use Rattle.saphyr_scanner.proofs.Breaks.Normal.{first_is, indicator_so, plain_so}
 use Rattle.saphyr_scanner.proofs.Breaks.Places.{reindexed, near}
 use Rattle.saphyr_scanner.proofs.Breaks.Steps.{both_choose, both_so}
@@ -36,7 +36,7 @@ goes_same m i c x =
 
 checked : (text : List ℕ) (o : Option Marker) (c : Core) (x : Indexes) → Twin text c x
     → is_break (slice_index c.cursor.rest 0) ≡ false
-    → GiveAlike (Rested text) (intercepts o c) (intercepts (near_comment x.comment o) (near_core x c))
+    → GiveAlike (Rested text) (check_comment_of o c) (check_comment_of (near_comment x.comment o) (near_core x c))
 checked text None c x t k = ((x, refl, t), k)
 checked text (Some m) c x t k =
     let d : Core = record c { comment = None } in
@@ -47,11 +47,11 @@ pub gap_rests : (text : List ℕ) (c : Core) (x : Indexes) → Laws text → Twi
     → GiveAlike (Rested text) (pass_gap c) (pass_gap (near_core x c))
 unfolding pass_gap check_comment
 gap_rests text c x laws t =
-    both_then (Passes text c.cursor x.at) (Rested text) (gaps.passed_gap (least_column c) c.cursor)
-    (gaps.passed_gap (least_column c) (near x.at c.cursor)) _ _
+    both_then (PassesAlike text c.cursor x.at) (Rested text) (gaps.whole_gap (least_column c) c.cursor)
+    (gaps.whole_gap (least_column c) (near x.at c.cursor)) _ _
     (gap_alike text (least_column c) c.cursor x.at false false (twin_low text c x laws t) (twin_stands text c x t))
     (λ g h e f w.
-    let P : gaps.Passed → Type 0 = λ h. GiveAlike (Rested text) (check_comment (behind_gap c g))
+    let P : gaps.GapEnd → Type 0 = λ h. GiveAlike (Rested text) (check_comment (behind_gap c g))
     (check_comment (behind_gap (near_core x c) h)) in
     let moved = twin_moves text c x g.cursor w.0 t w.2 in
     rw w.1 (checked text c.comment (behind_gap c g) (going_to w.0 x) moved w.3))

@@ -9,10 +9,11 @@ use Rattle.saphyr_scanner.specs.Grammar.Tokens as tokens
 use Rattle.saphyr_scanner.specs.Grammar.Tokens.{Kind}
 use Rattle.saphyr_scanner.specs.Views.Tokens.{Piece, Remaining}
 use Rattle.saphyr_scanner.specs.Steps.Queue.{Place, Queue, is_empty_list}
-use Rattle.saphyr_scanner.specs.Steps.Core.{Level, Core}
+use Rattle.saphyr_scanner.specs.Steps.Core.{Core}
+use Rattle.saphyr_scanner.specs.Steps.Level.{Level, is_place, holds}
 use Rattle.saphyr_scanner.specs.Steps.State.{State, start}
-use Rattle.saphyr_scanner.specs.Steps.Fetch.{size, without_far_key, needs_token, any_holds, is_place, holds}
-use Rattle.saphyr_scanner.specs.Steps.Remaining.{before_place, hand_out, delivered, run, remaining, scan}
+use Rattle.saphyr_scanner.specs.Steps.Fetch.{size, without_far_key, needs_token, any_holds}
+use Rattle.saphyr_scanner.specs.Steps.Remaining.{before_place, hand_out, remaining_after, run, remaining, scan}
 use Rattle.saphyr_scanner.specs.SameKinds.{HaveSameKinds}
 use Rattle.saphyr_scanner.proofs.Filling.{read, less_read}
 use Rattle.saphyr_scanner.proofs.Effects.Readers.{Readers}
@@ -93,14 +94,14 @@ hands_same text c x (p ∷ ps) (q ∷ qs) n m go ho e k h =
 hands_same text c x [] (q ∷ qs) n m go ho e k h = absurd e
 hands_same text c x (p ∷ ps) [] n m go ho e k h = absurd e
 
-delivered_same : (text : List ℕ) (a b : Result State Refusal) (go ho : State → Remaining)
+remaining_after_same : (text : List ℕ) (a b : Result State Refusal) (go ho : State → Remaining)
     → GiveAlike (States text) a b
     → ((s t : State) → a ≡ Ok s → b ≡ Ok t → States text s t → HaveSameKinds (go s) (ho t))
-    → HaveSameKinds (delivered a go) (delivered b ho)
-delivered_same text (Ok s) (Ok t) go ho h k = k s t refl refl h
-delivered_same text (Ok s) (Err f) go ho h k = absurd h
-delivered_same text (Err d) (Ok t) go ho h k = absurd h
-delivered_same text (Err d) (Err f) go ho h k = record { kinds = refl; refusals = ap (λ e. Some e) h }
+    → HaveSameKinds (remaining_after a go) (remaining_after b ho)
+remaining_after_same text (Ok s) (Ok t) go ho h k = k s t refl refl h
+remaining_after_same text (Ok s) (Err f) go ho h k = absurd h
+remaining_after_same text (Err d) (Ok t) go ho h k = absurd h
+remaining_after_same text (Err d) (Err f) go ho h k = record { kinds = refl; refusals = ap (λ e. Some e) h }
 
 runs_same : (text : List ℕ) → Laws text → Readers → (limit : ℕ) → length text ≤ limit
     → (n m : ℕ) (c : Core) (x : Indexes) (q r : Queue) → size c < n → size (near_core x c) < m → Twin text c x
@@ -111,7 +112,8 @@ runs_same text laws readers limit short (suc n) zero c x q r a b t e = absurd (o
 runs_same text laws readers limit short (suc n) (suc m) c x q r a b t e =
     hands_same text c x q.places r.places q.handed r.handed _ _ e.places e.handed
     (λ u v f. choose HaveSameKinds c.ended c.ended _ _ _ _ refl (λ _. record { kinds = refl; refusals = refl })
-    (λ going. delivered_same text (read limit (holding c u)) (read limit (holding (near_core x c) v)) (run n limit)
+    (λ going. remaining_after_same text (read limit (holding c u)) (read limit (holding (near_core x c) v))
+    (run n limit)
     (run m limit) (read_same text limit c x u v laws short t f)
     (λ s w i j h.
     let less = less_read readers limit (holding c u) s going i in
@@ -144,7 +146,7 @@ scans_same text laws readers limit short =
       line = 1;
       adjacent = even_here 1 0 0;
     } in
-    delivered_same text (without_far_key s) (without_far_key (start (normalized text))) _ _
+    remaining_after_same text (without_far_key s) (without_far_key (start (normalized text))) _ _
     (settled_same text s.core at_start s.queue s.queue t (record { places = tt; handed = refl }))
     (λ u v i j h. of_cores text (λ c d. HaveSameKinds (run (suc (size c)) limit (holding c u.queue))
     (run (suc (size d)) limit (holding d v.queue))) u.core v.core h.0

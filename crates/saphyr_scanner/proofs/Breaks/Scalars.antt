@@ -18,6 +18,7 @@ use Rattle.saphyr_scalar.specs.Steps.Plain as words
 use Rattle.saphyr_scalar.specs.Steps.Quoted as quoted
 use Rattle.saphyr_scalar.specs.Steps.Tag as tags
 use Rattle.saphyr_scanner.specs.Grammar.Tokens as tokens
+use Rattle.saphyr_scanner.specs.Grammar.Tokens.{Kind}
 use Rattle.saphyr_scanner.specs.Steps.Core.{Core, in_block, least_column, save_key}
 use Rattle.saphyr_scanner.specs.Steps.Passing.{pass_gap, with_cursor}
 use Rattle.saphyr_scanner.specs.Steps.Property as property
@@ -25,7 +26,7 @@ use Rattle.saphyr_scanner.specs.Steps.Scalar as scalar
 use Rattle.saphyr_scanner.specs.TokensTaken.{block_indicator}
 use Rattle.saphyr_scalar.specs.Alike.{AreSame, AreMarksAlike, AreNoted, ArePlainAlike, AreBlocksAlike, AreTagsAlike, GiveAlike}
 use Rattle.saphyr_scalar.proofs.Breaks.Results.{both_then}
-use Rattle.saphyr_scanner.proofs.Breaks.Cores.{Indexes, near_core, near_comment, Cores, Twin, Laws, Inked, adjacent_here, of_cores, of_still, save_still, separate_then, still_inked, twin_reads, read_twin, going_to}
+use Rattle.saphyr_scanner.proofs.Breaks.Cores.{Indexes, near_core, near_comment, Cores, Twin, Laws, Inked, here_adjacent, of_cores, of_still, save_still, separate_then, still_inked, twin_reads, read_twin, going_to}
 use Rattle.saphyr_scanner.proofs.Breaks.Normal.{first_is}
 use Rattle.saphyr_scanner.proofs.Breaks.Passing.{Rested, gap_rests}
 use Rattle.saphyr_scanner.proofs.Breaks.Places.{reindexed, near}
@@ -54,12 +55,12 @@ no_break_here c s k b = ap is_break b ∙ k
 
 adjacent_twin : (text : List ℕ) (c : Core) (x : Indexes) → Twin text c x
     → Cores text (scalar.adjacent_here c) (scalar.adjacent_here (near_core x c))
-adjacent_twin text c x t = (record x { adjacent = x.at }, refl, adjacent_here text c x t)
+adjacent_twin text c x t = (record x { adjacent = x.at }, refl, here_adjacent text c x t)
 
 line_same : (text : List ℕ) (start : Marker) (i : ℕ) (style : ScalarStyle) (value : List ℕ) (c : Core) (x : Indexes)
     → Laws text → Twin text c x
-    → GiveAlike (SameSteps text) (scalar.behind_line start style value c)
-    (scalar.behind_line (reindexed i start) style value (near_core x c))
+    → GiveAlike (SameSteps text) (scalar.behind_quoted_line start style value c)
+    (scalar.behind_quoted_line (reindexed i start) style value (near_core x c))
 unfolding scalar.goes_on_behind_quotes
 line_same text start i style value c x laws t =
     let p : ℕ → Bool = λ y. cond (in_block c) (is_breakz y || ((y == 58) && (start.line == c.cursor.mark.line)))
@@ -229,11 +230,11 @@ near_inked i s k = by s.rest k
     by [] h = absurd h
     by (c ∷ t) h = let e = no_return c h in rw e (omega arith)
 
-read_name_same : (text : List ℕ) (is_alias : Bool) (c : Core) (x : Indexes) → Laws text → Twin text c x
+read_name_same : (text : List ℕ) (token_of : List ℕ → Kind) (c : Core) (x : Indexes) → Laws text → Twin text c x
     → Inked c.cursor.rest
-    → GiveAlike (SameSteps text) (property.read_name is_alias c) (property.read_name is_alias (near_core x c))
+    → GiveAlike (SameSteps text) (property.read_name token_of c) (property.read_name token_of (near_core x c))
 unfolding property.read_name
-read_name_same text is_alias c x laws t ink =
+read_name_same text token_of c x laws t ink =
     let s = c.cursor in
     both_then (AreSame text) (SameSteps text) (anchors.anchor s) (anchors.anchor (near x.at s)) _ _
     ((twin_reads text c x laws t).anchor (ink_first s.rest ink))
@@ -241,17 +242,17 @@ read_name_same text is_alias c x laws t ink =
     let v = read_twin text c x a.1 b.1 laws t (laws.forward.name s a (some_text s.rest ink) e)
     (laws.forward.name (near x.at s) b (near_inked x.at s ink) h) w.1 in (
       (going_to b.1.mark.index x, ap (λ u. with_cursor u (near_core x c)) v.0, v.1),
-      (ap (λ z. property.name_token is_alias z) w.0, tt),
+      (ap (λ z. token_of z) w.0, tt),
     ))
 
-pub name_same : (text : List ℕ) (is_alias : Bool) (n : ℕ) (c : Core) (x : Indexes) → Laws text → Twin text c x
+pub name_same : (text : List ℕ) (token_of : List ℕ → Kind) (n : ℕ) (c : Core) (x : Indexes) → Laws text → Twin text c x
     → Inked c.cursor.rest
-    → GiveAlike (SameSteps text) (property.name_steps is_alias n c) (property.name_steps is_alias n (near_core x c))
+    → GiveAlike (SameSteps text) (property.name_steps token_of n c) (property.name_steps token_of n (near_core x c))
 unfolding property.name_steps
-name_same text is_alias n c x laws t ink =
-    of_still text (λ a b. GiveAlike (SameSteps text) (property.read_name is_alias (scalar.disallow_key a))
-    (property.read_name is_alias (scalar.disallow_key b))) c.cursor (save_key n c) (save_key n (near_core x c))
-    (save_still text n c x t) (λ y u e. read_name_same text is_alias (scalar.disallow_key (save_key n c)) y laws u
+name_same text token_of n c x laws t ink =
+    of_still text (λ a b. GiveAlike (SameSteps text) (property.read_name token_of (scalar.disallow_key a))
+    (property.read_name token_of (scalar.disallow_key b))) c.cursor (save_key n c) (save_key n (near_core x c))
+    (save_still text n c x t) (λ y u e. read_name_same text token_of (scalar.disallow_key (save_key n c)) y laws u
     (still_inked c.cursor (save_key n c).cursor e ink))
 
 read_tag_same : (text : List ℕ) (c : Core) (x : Indexes) → Laws text → Twin text c x → Begins 33 c.cursor

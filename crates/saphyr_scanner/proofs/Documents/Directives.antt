@@ -12,17 +12,18 @@ use Rattle.saphyr_scanner.specs.Grammar.Forest.{Version, TagPrefix, Reserved}
 use Rattle.saphyr_scanner.specs.Grammar.TagSpelling.{IsHandle}
 use Rattle.saphyr_scanner.specs.Grammar.Tokens.{Kind, directive_token}
 use Rattle.saphyr_scanner.specs.Grammar.Layout.{IsDirective, AreDirectives}
-use Rattle.saphyr_scanner.specs.Steps.Queue.{Place, closed}
-use Rattle.saphyr_scanner.specs.Steps.Core.{Candidate, remove_key}
+use Rattle.saphyr_scanner.specs.Steps.Queue.{Place, bare_place}
+use Rattle.saphyr_scanner.specs.Steps.Core.{remove_key}
+use Rattle.saphyr_scanner.specs.Steps.Level.{Candidate}
 use Rattle.saphyr_scanner.specs.Steps.State.{State}
 use Rattle.saphyr_scanner.specs.Steps.Unrolling.{unroll}
 use Rattle.saphyr_scanner.specs.Steps.Document as document
 use Rattle.saphyr_scanner.specs.Steps.Document.{end_content, read_directive, directive_kind}
 use Rattle.saphyr_scanner.specs.Steps.Fetch.{fetch_here}
 use Rattle.saphyr_scanner.proofs.Json.States.{state_at}
-use Rattle.saphyr_scanner.proofs.Flow.States.{past, Reads}
+use Rattle.saphyr_scanner.proofs.Flow.States.{past, ReaderPromises}
 use Rattle.saphyr_scanner.proofs.Documents.Lines.{passes_filler}
-use Rattle.saphyr_scanner.proofs.Documents.Stands.{Lined, Stands, reads_token}
+use Rattle.saphyr_scanner.proofs.Documents.Stands.{Lined, StandsInStream, reads_token}
 use Rattle.saphyr_scanner.proofs.InBlock.Lines.{one_lined}
 use Rattle.saphyr_scanner.proofs.Documents.Markers.{piece_of, at_line}
 use Rattle.saphyr_scalar.proofs.Given.{cursor_at}
@@ -32,7 +33,7 @@ directive_here : (m e : Marker) (blank : Bool) (r : List ℕ) (d : directives.Re
     (k : Option Candidate) (a : Bool) (ad : ℕ) (ps : List Place) → m.col ≡ 0
     → directives.directive (cursor_at (37 ∷ r) m blank) ≡ Ok (d, e, u)
     → fetch_here (state_at false (cursor_at (37 ∷ r) m blank) context.Block k [] a ad ps)
-    ≡ Ok (state_at false u context.Block None [] false ad (ps ++ closed (piece_of m e (directive_kind d)) ∷ []))
+    ≡ Ok (state_at false u context.Block None [] false ad (ps ++ bare_place (piece_of m e (directive_kind d)) ∷ []))
 unfolding fetch_here document.state_behind_directive end_content remove_key unroll read_directive
 directive_here m e blank r d u k a ad ps col is = rw (eq-eqb m.col 0 col, is) refl
 
@@ -48,7 +49,7 @@ record ReadsAs (d : forest.Directive) (t : List ℕ) : Type 0 where
       → directives.directive (cursor_at (t ++ (10 ∷ o)) m blank)
       ≡ Ok (said, end m, cursor_at o (next_line (along m (length t)) 1) true)
 
-reads_text : Reads → (d : forest.Directive) (said : directives.ReadDirective) (t tail : List ℕ)
+reads_text : ReaderPromises → (d : forest.Directive) (said : directives.ReadDirective) (t tail : List ℕ)
     → directive_kind said ≡ directive_token d → IsDirectiveText said t → IsLineTail tail
     → slice_index (t ++ tail) 0 ≡ 37 → ReadsAs d (t ++ tail)
 reads_text readers d said t tail kind is tail_is first =
@@ -69,7 +70,7 @@ handle_is forest.Primary t h = h
 handle_is forest.Secondary t h = h
 handle_is (forest.Named word) t h = h.2
 
-reads_as : Reads → (d : forest.Directive) (t : List ℕ) → IsDirective d t → ReadsAs d t
+reads_as : ReaderPromises → (d : forest.Directive) (t : List ℕ) → IsDirective d t → ReadsAs d t
 reads_as readers (Version major minor) t (text, tail, is, tail_is, e) =
     subst (ReadsAs (Version major minor)) (sym e)
     (reads_text readers (Version major minor) (directives.version major minor) text tail refl is tail_is
@@ -111,8 +112,8 @@ index_behind_next : (i n : ℕ) → i ≤ i + n + 1
 index_behind_next i n = omega arith
 
 reads_directive : {limit : ℕ} {start : State} {ts : List Kind} (d : forest.Directive) (t o : List ℕ) → ReadsAs d t
-    → Stands limit start true (Lined false (t ++ (10 ∷ o))) (t ++ (10 ∷ o)) ts
-    → Stands limit start true (Lined false o) o (ts ++ directive_token d ∷ [])
+    → StandsInStream limit start true (Lined false (t ++ (10 ∷ o))) (t ++ (10 ∷ o)) ts
+    → StandsInStream limit start true (Lined false o) o (ts ++ directive_token d ∷ [])
 reads_directive {limit = limit} {start = start} {ts = ts} d t o h v =
     let col = at_line (t ++ (10 ∷ o)) v.mark v.line.0 (not_none t o h.first) in
     let b = percent_sign_begins t h.first in
@@ -124,7 +125,7 @@ reads_directive {limit = limit} {start = start} {ts = ts} d t o h v =
     ap (λ (x : List ℕ). fetch_here (state_at false (cursor_at x v.mark blank) context.Block key [] allowed ad ps)) text
     ∙ directive_here v.mark (h.end v.mark) blank (b.0 ++ (10 ∷ o)) h.said (cursor_at o n true) key allowed ad ps col
     (ap (λ (x : List ℕ). directives.directive (cursor_at x v.mark blank)) (sym text) ∙ h.reads v.mark blank o) in
-    subst (λ (k : Kind). Stands limit start true (Lined false o) o (ts ++ k ∷ [])) h.kind
+    subst (λ (k : Kind). StandsInStream limit start true (Lined false o) o (ts ++ k ∷ [])) h.kind
     (reads_token v here (inl refl) (λ _. cursor_at o n true) false
     (piece_of v.mark (h.end v.mark) (directive_kind h.said)) fetched (Lined false o) n o (λ _. refl)
     (line_count v.mark t o limit v.count) (λ _. (inl refl, λ e. absurd (false≢true e)))
@@ -136,19 +137,19 @@ lines_text : (directive filler more y : List ℕ)
 lines_text directive filler more y = simp append_assoc
 
 -- directive lines, and what stands behind them
-pub reads_directives : {limit : ℕ} {start : State} → Reads
+pub reads_directives : {limit : ℕ} {start : State} → ReaderPromises
     → (ds : List forest.Directive) (t y : List ℕ) (ts : List Kind) → AreDirectives ds t
-    → Stands limit start true (Lined false (t ++ y)) (t ++ y) ts
-    → Stands limit start true (Lined false y) y (ts ++ map directive_token ds)
+    → StandsInStream limit start true (Lined false (t ++ y)) (t ++ y) ts
+    → StandsInStream limit start true (Lined false y) y (ts ++ map directive_token ds)
 reads_directives {limit = limit} {start = start} readers [] t y ts h v =
-    rw (append-nil ts) (subst (λ (x : List ℕ). Stands limit start true (Lined false (x ++ y)) (x ++ y) ts) h v)
+    rw (append-nil ts) (subst (λ (x : List ℕ). StandsInStream limit start true (Lined false (x ++ y)) (x ++ y) ts) h v)
 reads_directives {limit = limit} {start = start} readers (d ∷ ds) t y ts
     (directive, filler, more, is, filler_is, others, e) v =
     let text : t ++ y ≡ directive ++ (10 ∷ (filler ++ (more ++ y))) =
     ap (λ (x : List ℕ). x ++ y) e ∙ lines_text directive filler more y in
     let first = reads_directive d directive (filler ++ (more ++ y)) (reads_as readers d directive is)
-    (subst (λ (x : List ℕ). Stands limit start true (Lined false x) x ts) text v) in
+    (subst (λ (x : List ℕ). StandsInStream limit start true (Lined false x) x ts) text v) in
     let last = reads_directives readers ds more y (ts ++ directive_token d ∷ []) others
     (passes_filler filler (more ++ y) filler_is first) in
-    subst (λ (x : List Kind). Stands limit start true (Lined false y) y x)
+    subst (λ (x : List Kind). StandsInStream limit start true (Lined false y) y x)
     (append_assoc ts (directive_token d ∷ []) (map directive_token ds)) last

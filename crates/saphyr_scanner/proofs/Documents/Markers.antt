@@ -14,15 +14,16 @@ use Rattle.saphyr_scanner.specs.declared.engine.level.Context.TheVariants as con
 use Rattle.saphyr_scanner.specs.Grammar.Tokens as tokens
 use Rattle.saphyr_scanner.specs.Grammar.Tokens.{Kind}
 use Rattle.saphyr_scanner.specs.Views.Tokens.{Piece}
-use Rattle.saphyr_scanner.specs.Steps.Queue.{Place, closed}
-use Rattle.saphyr_scanner.specs.Steps.Core.{Candidate, remove_key}
+use Rattle.saphyr_scanner.specs.Steps.Queue.{Place, bare_place}
+use Rattle.saphyr_scanner.specs.Steps.Core.{remove_key}
+use Rattle.saphyr_scanner.specs.Steps.Level.{Candidate}
 use Rattle.saphyr_scanner.specs.Steps.Passing.{with_cursor}
 use Rattle.saphyr_scanner.specs.Steps.State.{on_core_with}
 use Rattle.saphyr_scanner.specs.Steps.State.{State}
 use Rattle.saphyr_scanner.specs.Steps.Unrolling.{unroll}
 use Rattle.saphyr_scanner.specs.Steps.Document.{end_content, marker, end_line, end_marker, state_behind_byte_order_mark}
 use Rattle.saphyr_scanner.specs.Steps.Fetch.{fetch_here}
-use Rattle.saphyr_scanner.proofs.Leads.{Leads}
+use Rattle.saphyr_scanner.proofs.Leads.{LeadsTo}
 use Rattle.saphyr_scanner.proofs.Json.States.{core_at, state_at}
 use Rattle.saphyr_scanner.proofs.Json.Leads.{here, finished}
 use Rattle.saphyr_scanner.proofs.Json.Marks.{kinds, kinds_append}
@@ -30,7 +31,7 @@ use Rattle.saphyr_scanner.proofs.Flow.States.{moved, past}
 use Rattle.saphyr_scanner.proofs.Flow.GapSteps.{past_count}
 use Rattle.saphyr_scanner.proofs.Flow.Separates.{separates_rest}
 use Rattle.saphyr_scanner.proofs.Documents.Lines.{eol, eol_first, break_ends}
-use Rattle.saphyr_scanner.proofs.Documents.Stands.{reads_here, AtLine, Lined, BehindStart, Stands, reads_token}
+use Rattle.saphyr_scanner.proofs.Documents.Stands.{reads_here, AtLine, Lined, BehindStart, StandsInStream, reads_token}
 use Rattle.saphyr_scanner.proofs.InBlock.States.{crosses}
 use Rattle.saphyr_scanner.proofs.InBlock.Follows.{comes_to_end}
 use Rattle.saphyr_scalar.proofs.Given.{cursor_at}
@@ -59,7 +60,7 @@ pub start_here : (m : Marker) (blank : Bool) (r : List ℕ) (k : Option Candidat
     → m.col ≡ 0 → is_blank_or_breakz (slice_index r 0) ≡ true
     → fetch_here (state_at false (cursor_at (45 ∷ 45 ∷ 45 ∷ r) m blank) context.Block k [] a ad ps)
     ≡ Ok (state_at false (cursor_at r (along m 3) false) context.Block None [] false ad
-    (ps ++ closed (piece_of m (along m 3) tokens.DocumentStart) ∷ []))
+    (ps ++ bare_place (piece_of m (along m 3) tokens.DocumentStart) ∷ []))
 unfolding fetch_here marker end_content remove_key unroll
 start_here m blank r k a ad ps col h = rw (eq-eqb m.col 0 col, h) refl
 
@@ -79,9 +80,9 @@ pub start_ends : (r : List ℕ) → is_blank_or_breakz (slice_index r 0) ≡ tru
 start_ends r h = rw h refl
 
 pub reads_start : {limit : ℕ} {start : State} {free opened : Bool} {ts : List Kind} (r : List ℕ)
-    → Stands limit start free (Lined opened (45 ∷ 45 ∷ 45 ∷ r)) (45 ∷ 45 ∷ 45 ∷ r) ts
+    → StandsInStream limit start free (Lined opened (45 ∷ 45 ∷ 45 ∷ r)) (45 ∷ 45 ∷ 45 ∷ r) ts
     → is_blank_or_breakz (slice_index r 0) ≡ true
-    → Stands limit start true (BehindStart r) r (ts ++ tokens.DocumentStart ∷ [])
+    → StandsInStream limit start true (BehindStart r) r (ts ++ tokens.DocumentStart ∷ [])
 reads_start {limit = limit} r v h =
     let col = at_line (45 ∷ 45 ∷ 45 ∷ r) v.mark v.line.0 (cons_not_empty 45 (45 ∷ 45 ∷ r)) in
     reads_token v refl (inr (inr (col, start_ends r h))) (λ _. cursor_at r (along v.mark 3) false) false
@@ -93,14 +94,14 @@ reads_start {limit = limit} r v h =
 -- ## A byte order mark
 
 -- behind a byte order mark, which has no column
-abbrev pub behind_mark : Marker → Marker
-behind_mark m = record { index = m.index + 1; line = m.line; col = m.col }
+abbrev pub beyond_byte_order_mark : Marker → Marker
+beyond_byte_order_mark m = record { index = m.index + 1; line = m.line; col = m.col }
 
 mark_here : (m : Marker) (blank : Bool) (r : List ℕ) (k : Option Candidate) (a : Bool) (ad : ℕ) (ps : List Place)
     → m.col ≡ 0
     → fetch_here (state_at false (cursor_at (65279 ∷ r) m blank) context.Block k [] a ad ps)
-    ≡ Ok (state_at false (cursor_at r (behind_mark m) blank) context.Block None [] true ad
-    (ps ++ closed (piece_of m (behind_mark m) tokens.ByteOrderMark) ∷ []))
+    ≡ Ok (state_at false (cursor_at r (beyond_byte_order_mark m) blank) context.Block None [] true ad
+    (ps ++ bare_place (piece_of m (beyond_byte_order_mark m) tokens.ByteOrderMark) ∷ []))
 unfolding fetch_here state_behind_byte_order_mark end_content remove_key unroll
 mark_here m blank r k a ad ps col = rw (no_greater m.col col) refl
 
@@ -109,13 +110,14 @@ mark_count : (m : Marker) (r : List ℕ) (limit : ℕ) → m.index + length (652
 mark_count m r limit h = omega (arith, h)
 
 pub reads_mark : {limit : ℕ} {start : State} {opened : Bool} {ts : List Kind} (r : List ℕ)
-    → Stands limit start true (Lined opened (65279 ∷ r)) (65279 ∷ r) ts
-    → Stands limit start true (Lined true r) r (ts ++ tokens.ByteOrderMark ∷ [])
+    → StandsInStream limit start true (Lined opened (65279 ∷ r)) (65279 ∷ r) ts
+    → StandsInStream limit start true (Lined true r) r (ts ++ tokens.ByteOrderMark ∷ [])
 reads_mark {limit = limit} r v =
     let col = at_line (65279 ∷ r) v.mark v.line.0 (cons_not_empty 65279 r) in
-    reads_token v refl (inl refl) (λ blank. cursor_at r (behind_mark v.mark) blank) true
-    (piece_of v.mark (behind_mark v.mark) tokens.ByteOrderMark)
-    (λ blank key allowed ad ps. mark_here v.mark blank r key allowed ad ps col) (Lined true r) (behind_mark v.mark) r
+    reads_token v refl (inl refl) (λ blank. cursor_at r (beyond_byte_order_mark v.mark) blank) true
+    (piece_of v.mark (beyond_byte_order_mark v.mark) tokens.ByteOrderMark)
+    (λ blank key allowed ad ps. mark_here v.mark blank r key allowed ad ps col) (Lined true r)
+    (beyond_byte_order_mark v.mark) r
     (λ _. refl) (mark_count v.mark r limit v.count) (λ _. (inl col, λ _. inl (or-true (crosses r))))
     (index_behind v.mark.index 1) (along_lined v.mark 1 v.lined)
 
@@ -127,14 +129,14 @@ pub end_here : (m n : Marker) (blank : Bool) (r more : List ℕ) (found : SkipTa
     → is_breakz (slice_index more 0) ≡ true
     → fetch_here (state_at false (cursor_at (46 ∷ 46 ∷ 46 ∷ r) m blank) context.Block k [] a ad ps)
     ≡ Ok (state_at false (cursor_at more n false) context.Block None [] false ad
-    (ps ++ closed (piece_of m (along m 3) tokens.DocumentEnd) ∷ []))
+    (ps ++ bare_place (piece_of m (along m 3) tokens.DocumentEnd) ∷ []))
 unfolding fetch_here end_marker marker end_content remove_key unroll end_line
 end_here m n blank r more found k a ad ps col first is h =
     let c = core_at false (cursor_at r (along m 3) false) context.Block None [] false ad in
     let t = state_at false (cursor_at r (along m 3) false) context.Block None [] false ad
-    (ps ++ closed (piece_of m (along m 3) tokens.DocumentEnd) ∷ []) in
+    (ps ++ bare_place (piece_of m (along m 3) tokens.DocumentEnd) ∷ []) in
     let u = state_at false (cursor_at more n false) context.Block None [] false ad
-    (ps ++ closed (piece_of m (along m 3) tokens.DocumentEnd) ∷ []) in
+    (ps ++ bare_place (piece_of m (along m 3) tokens.DocumentEnd) ∷ []) in
     let line : end_line (found, u) ≡ Ok u = rw h refl in
     rw (eq-eqb m.col 0 col, first)
     (ap (λ q. on_core_with (q >>= λ (x : SkipTabs × Cursor). Ok (x.0, with_cursor x.1 c)) t >>= end_line) is ∙ line)
@@ -151,8 +153,9 @@ end_further : (m n : Marker) (end o : List ℕ) → n.index + length o ≡ m.ind
 end_further m n end o e = let all = length-append end o in omega (arith, e, all)
 
 pub reads_end : {limit : ℕ} {start : State} {free opened : Bool} {ts : List Kind} (end o : List ℕ)
-    → Stands limit start free (Lined opened (46 ∷ 46 ∷ 46 ∷ (end ++ o))) (46 ∷ 46 ∷ 46 ∷ (end ++ o)) ts → IsEol end o
-    → Stands limit start true (Lined true o) o (ts ++ tokens.DocumentEnd ∷ [])
+    → StandsInStream limit start free (Lined opened (46 ∷ 46 ∷ 46 ∷ (end ++ o))) (46 ∷ 46 ∷ 46 ∷ (end ++ o)) ts
+    → IsEol end o
+    → StandsInStream limit start true (Lined true o) o (ts ++ tokens.DocumentEnd ∷ [])
 reads_end {limit = limit} end o v h =
     let r = end ++ o in
     let col = at_line (46 ∷ 46 ∷ 46 ∷ r) v.mark v.line.0 (cons_not_empty 46 (46 ∷ 46 ∷ r)) in
@@ -174,9 +177,9 @@ reads_end {limit = limit} end o v h =
 -- ## The text's end
 
 -- From the start the scanner comes to the end of the stream, and has read these tokens and others, of which Told holds.
-pub record Finishes (limit : ℕ) (start : State) (Told : List Kind → Type 0) (ts : List Kind) : Type 0 where
+pub record FinishesStream (limit : ℕ) (start : State) (Told : List Kind → Type 0) (ts : List Kind) : Type 0 where
   pub last : State
-  pub leads : Leads limit last start
+  pub leads : LeadsTo limit last start
   pub over : last.core.ended ≡ true
   pub others : List Kind
   pub told : Told others
@@ -186,8 +189,8 @@ low_index : (i l n limit : ℕ) → i + 0 ≡ n + l → n + l ≤ limit → i �
 low_index i l n limit e h = omega (arith, e, h)
 
 pub reads_stream_end : {limit : ℕ} {start : State} {free : Bool} {P : Marker → Bool → Type 0} {o : List ℕ}
-    {ts : List Kind} (v : Stands limit start free P o ts) (m : Marker) → past 0 v.mark o ≡ (m, [])
-    → Finishes limit start (λ t. t ≡ tokens.StreamEnd ∷ []) ts
+    {ts : List Kind} (v : StandsInStream limit start free P o ts) (m : Marker) → past 0 v.mark o ≡ (m, [])
+    → FinishesStream limit start (λ t. t ≡ tokens.StreamEnd ∷ []) ts
 reads_stream_end {limit = limit} {free = free} {o = o} {ts = ts} v m text =
     let counted : m.index + 0 ≡ v.mark.index + length o = ap (λ (p : Marker × List ℕ). p.0.index + length p.1)
     (sym text) ∙ past_count 0 v.mark o in

@@ -8,18 +8,19 @@ use Rattle.saphyr_scalar.specs.Views.Cursor.{Cursor, ◌>>=◌}
 use Rattle.saphyr_scanner.specs.declared.engine.level.Context.TheVariants as context
 use Rattle.saphyr_scanner.specs.Grammar.Tokens.{Kind}
 use Rattle.saphyr_scanner.specs.Views.Tokens.{Piece}
-use Rattle.saphyr_scanner.specs.Steps.Gap.{Passed, stop}
-use Rattle.saphyr_scanner.specs.Steps.Queue.{Place, closed}
-use Rattle.saphyr_scanner.specs.Steps.Core.{Candidate, Core, in_block, drop_far_key}
+use Rattle.saphyr_scanner.specs.Steps.Gap.{GapEnd, stop}
+use Rattle.saphyr_scanner.specs.Steps.Queue.{Place, bare_place}
+use Rattle.saphyr_scanner.specs.Steps.Core.{Core, in_block, drop_far_key}
+use Rattle.saphyr_scanner.specs.Steps.Level.{Candidate}
 use Rattle.saphyr_scanner.specs.Steps.Passing.{goes_on_behind, pass_gap, check_comment, behind_gap}
-use Rattle.saphyr_scanner.specs.Steps.State.{State, carried}
+use Rattle.saphyr_scanner.specs.Steps.State.{State, on_core}
 use Rattle.saphyr_scanner.specs.Steps.Unrolling.{unroll}
 use Rattle.saphyr_scanner.specs.Steps.Fetch.{fetch_here, arrive, fetch}
-use Rattle.saphyr_scanner.proofs.Leads.{Leads}
+use Rattle.saphyr_scanner.proofs.Leads.{LeadsTo}
 use Rattle.saphyr_scanner.proofs.Json.States.{core_at, state_at, queue_of, drops_key, none_unrolls, comes}
 use Rattle.saphyr_scanner.proofs.Json.Marks.{kinds, kinds_append}
 use Rattle.saphyr_scanner.proofs.InFlow.States.{alone}
-use Rattle.saphyr_scanner.proofs.InBlock.States.{crosses, Follows}
+use Rattle.saphyr_scanner.proofs.InBlock.States.{crosses, GoesOnAs}
 use Rattle.saphyr_scanner.proofs.InBlock.Follows.{goes_on}
 use Rattle.saphyr_scanner.proofs.InBlock.Lines.{IsLined}
 use Rattle.saphyr_scanner.proofs.Flow.States.{past, EndsDocument, noted, is_filler_rest}
@@ -89,7 +90,7 @@ passes_noted (Some comment) s k a ad m y here (inr h) =
       blank = g.still_blank;
       allowed =
           b;
-      is = ap (λ r. r >>= λ (p : Passed). check_comment (behind_gap c p)) there ∙ goes;
+      is = ap (λ r. r >>= λ (p : GapEnd). check_comment (behind_gap c p)) there ∙ goes;
     }
 
 -- the text y begins with the next token, which stands at m
@@ -114,7 +115,7 @@ reaches co s k a ad ps m y text h =
       blank = g.blank;
       key = d.left;
       allowed = g.allowed;
-      is = ap (λ r. carried r (queue_of ps) >>= λ (t : State). Ok
+      is = ap (λ r. on_core r (queue_of ps) >>= λ (t : State). Ok
           (unroll (Some t.core.cursor.mark.col) t.core.cursor.mark t)) reached
           ∙ ap Ok (none_unrolls m.col m false there context.Block d.left [] g.allowed ad ps);
     }
@@ -129,7 +130,7 @@ pub reads_here : (limit : ℕ) (co : Option Marker) (s : Cursor) (k : Option Can
     ≡ Ok (state_at e (t blank) context.Block (j key) [] b ad qs))
     → ((blank : Bool) → (t blank).mark.index ≤ limit)
     → (blank : Bool) × (key : Option Candidate) × (seen : Option Candidate) × (j seen ≡ None → key ≡ None)
-    × Leads limit (state_at e (t blank) context.Block key [] b ad qs)
+    × LeadsTo limit (state_at e (t blank) context.Block key [] b ad qs)
     (noted co (state_at false s context.Block k [] a ad ps))
 unfolding fetch
 reads_here limit co s k a ad ps m y text h e t j b qs is low =
@@ -158,10 +159,9 @@ BehindStart o m b = OffLine m × (b ≡ crosses o)
 
 -- The scanner has read these tokens, and stands where the text o does, at a place of which P holds. Where it is free no
 -- plain scalar was ended by a comment. P is told too whether a key may begin at the next token. No colon may stand at
--- once
--- behind that.
-pub record Stands (limit : ℕ) (start : State) (free : Bool) (P : Marker → Bool → Type 0) (o : List ℕ) (ts : List Kind) :
-    Type 0 where
+-- once behind that.
+pub record StandsInStream (limit : ℕ) (start : State) (free : Bool) (P : Marker → Bool → Type 0)
+    (o : List ℕ) (ts : List Kind) : Type 0 where
   pub there : Cursor
   pub key : Option Candidate
   pub allowed : Bool
@@ -170,7 +170,7 @@ pub record Stands (limit : ℕ) (start : State) (free : Bool) (P : Marker → Bo
   pub places : List Place
   pub mark : Marker
   pub none : free ≡ true → key ≡ None
-  pub follows : Follows limit start (noted comment (state_at false there context.Block key [] allowed adjacent places))
+  pub follows : GoesOnAs limit start (noted comment (state_at false there context.Block key [] allowed adjacent places))
   pub fits : past 0 there.mark there.rest ≡ past 0 mark o
   pub line : P mark (crosses there.rest || allowed)
   pub count : mark.index + length o ≤ limit
@@ -187,21 +187,21 @@ passable free co m y quiet (inr h) = inr h
 
 -- a token that stands right here is read
 pub reads_token : {limit : ℕ} {start : State} {free : Bool} {P : Marker → Bool → Type 0} {y : List ℕ} {ts : List Kind}
-    (v : Stands limit start free P y ts) → past 0 v.mark y ≡ (v.mark, y) → (free ≡ true) ⊎ EndsDocument v.mark y
+    (v : StandsInStream limit start free P y ts) → past 0 v.mark y ≡ (v.mark, y) → (free ≡ true) ⊎ EndsDocument v.mark y
     → (t : Bool → Cursor) (b : Bool) (piece : Piece)
     → ((blank : Bool) (key : Option Candidate) (allowed : Bool) (ad : ℕ) (ps : List Place)
     → fetch_here (state_at false (cursor_at y v.mark blank) context.Block key [] allowed ad ps)
-    ≡ Ok (state_at false (t blank) context.Block None [] b ad (ps ++ closed piece ∷ [])))
+    ≡ Ok (state_at false (t blank) context.Block None [] b ad (ps ++ bare_place piece ∷ [])))
     → (Q : Marker → Bool → Type 0) (n : Marker) (o : List ℕ)
     → ((blank : Bool) → past 0 (t blank).mark (t blank).rest ≡ past 0 n o) → n.index + length o ≤ limit
     → ((blank : Bool) → Q n (crosses (t blank).rest || b))
     → v.mark.index ≤ n.index → IsLined n
-    → Stands limit start true Q o (ts ++ piece.kind ∷ [])
+    → StandsInStream limit start true Q o (ts ++ piece.kind ∷ [])
 reads_token {limit = limit} {y = y} {ts = ts} v here may t b piece is Q n o fits count line later lined =
     let first : v.adjacent ≤ v.mark.index = subst (λ (q : Marker × List ℕ). v.adjacent ≤ q.0.index) here v.low in
     let on = past_low 0 n o in
     let r = reads_here limit v.comment v.there v.key v.allowed v.adjacent v.places v.mark y (v.fits ∙ here)
-    (passable _ v.comment v.mark y v.quiet may) false t (λ _. None) b (v.places ++ closed piece ∷ [])
+    (passable _ v.comment v.mark y v.quiet may) false t (λ _. None) b (v.places ++ bare_place piece ∷ [])
     (λ blank key allowed. is blank key allowed v.adjacent v.places)
     (λ blank. within_index 0 limit (t blank) n o (fits blank) count) in
     record {
@@ -210,14 +210,14 @@ reads_token {limit = limit} {y = y} {ts = ts} v here may t b piece is Q n o fits
       allowed = b;
       adjacent = v.adjacent;
       comment = None;
-      places = v.places ++ closed piece ∷ [];
+      places = v.places ++ bare_place piece ∷ [];
       mark = n;
       follows = goes_on v.follows r.4;
       none = λ _. r.3 refl;
       fits = fits r.0;
       line = line r.0;
       count = count;
-      are = kinds_append v.places (closed piece ∷ []) ∙ ap (λ (x : List Kind). x ++ piece.kind ∷ []) v.are;
+      are = kinds_append v.places (bare_place piece ∷ []) ∙ ap (λ (x : List Kind). x ++ piece.kind ∷ []) v.are;
       quiet = λ _. refl;
       low = omega (arith, first, later, on);
       lined = lined;
@@ -225,9 +225,9 @@ reads_token {limit = limit} {y = y} {ts = ts} v here may t b piece is Q n o fits
 
 -- what holds no token is passed
 pub passes_over : {limit : ℕ} {start : State} {free : Bool} {P : Marker → Bool → Type 0} {o : List ℕ} {ts : List Kind}
-    (v : Stands limit start free P o ts) (Q : Marker → Bool → Type 0) (n : Marker) (y : List ℕ)
+    (v : StandsInStream limit start free P o ts) (Q : Marker → Bool → Type 0) (n : Marker) (y : List ℕ)
     → past 0 v.mark o ≡ past 0 n y → n.index + length y ≤ limit → Q n (crosses v.there.rest || v.allowed) → IsLined n
-    → Stands limit start free Q y ts
+    → StandsInStream limit start free Q y ts
 passes_over v Q n y fits count line lined =
     record {
       there = v.there;

@@ -10,7 +10,8 @@ use Rattle.saphyr_scanner.specs.Grammar.Tokens as tokens
 use Rattle.saphyr_scanner.specs.Views.Tokens.{Piece}
 use Rattle.saphyr_scanner.specs.Steps.Gap.{spaces_at}
 use Rattle.saphyr_scanner.specs.Steps.Queue.{empty_piece}
-use Rattle.saphyr_scanner.specs.Steps.Core.{Level, Core, at_mark, up_to_here, is_block, in_block, forget_key, remove_key, is_further, enter_block, with_context, went}
+use Rattle.saphyr_scanner.specs.Steps.Core.{Core, at_mark, up_to_here, in_block, forget_key, remove_key, is_further, enter_block, with_context, completed_step}
+use Rattle.saphyr_scanner.specs.Steps.Level.{Level, is_block, behind_question}
 use Rattle.saphyr_scanner.specs.Steps.Passing.{separate, pass_on, with_cursor}
 use Rattle.saphyr_scanner.specs.Steps.Block as block
 use Rattle.saphyr_scanner.specs.TokensTaken as taken
@@ -79,7 +80,7 @@ next_entry_does c e first second =
     by_bool (is_further s.mark.col c)
     (λ b. Walked (Premises c) (Doing None c) s
     ((block.pass_dash (if b then enter_block s.mark.col (pass_on 1 c) else pass_on 1 c) >>= remove_key) >>= λ d.
-    went (block.behind_start b s.mark tokens.BlockSequenceStart (at_mark d.cursor.mark tokens.BlockEntry))
+    completed_step (block.behind_start b s.mark tokens.BlockSequenceStart (at_mark d.cursor.mark tokens.BlockEntry))
     (record d { key_allowed = true })))
     (λ _. let r : Core = enter_block s.mark.col (pass_on 1 c) in
     walked_then (Premises c) (Behind r) (Doing None c) s (block.pass_dash r >>= remove_key) _ (dash_walked c s r a)
@@ -139,7 +140,7 @@ question c d first second s a =
     (λ k. inl (k, ap is_blank_or_breakz (second_is c.cursor.rest) ∙ second, refl, (u.rest, a)))))
     (further (with_cursor u c) d s (taken.nothing u.mark u.rest))
 
-question_block : (x : Context) → is_block (block.behind_question x) ≡ is_block x
+question_block : (x : Context) → is_block (behind_question x) ≡ is_block x
 question_block context.FlowSequence = refl
 question_block context.FlowPair = refl
 question_block _ = refl
@@ -149,13 +150,13 @@ pub key_does : (c : Core) → slice_index c.cursor.rest 0 ≡ 63 → is_blank_or
 unfolding block.key block.begin_key
 key_does c first second =
     let s = c.cursor in
-    let x = block.behind_question c.level.context in
+    let x = behind_question c.level.context in
     let a = passes 63 s (record { some = refl; unbroken = refl; is = first }) in
     by_test (in_block c && not c.key_allowed) _ _ (Walked (Premises c) (Doing None c) s) (λ _ _. at_here s)
     (λ _. by_bool (is_further s.mark.col c)
     (λ b. Walked (Premises c) (Doing None c) s
     ((remove_key (with_context x (if b then enter_block s.mark.col c else c)) >>= λ d. block.pass_question
-    (record d { key_allowed = in_block d })) >>= λ d. went
+    (record d { key_allowed = in_block d })) >>= λ d. completed_step
     (block.behind_start b s.mark tokens.BlockMappingStart (up_to_here s.mark tokens.Key d)) d))
     (λ f. let r : Core = with_context x (enter_block s.mark.col c) in
     walked_then (Premises c) (Asked r) (Doing None c) s _ _ (question_walked (Premises c) r a)

@@ -14,9 +14,9 @@ use Rattle.saphyr_scalar.proofs.Moving.{along_more}
 use Rattle.saphyr_scalar.proofs.Properties.TagsSpelled.{cut_at}
 use Rattle.saphyr_scanner.specs.Grammar.Tokens as tokens
 use Rattle.saphyr_scanner.specs.Grammar.Tokens.{Kind}
-use Rattle.saphyr_scanner.specs.Steps.Core.{Core, Step, from_to, up_to_here, perform, in_block, forget_key, remove_key, went}
+use Rattle.saphyr_scanner.specs.Steps.Core.{Core, Step, from_to, up_to_here, perform, in_block, forget_key, remove_key, completed_step}
 use Rattle.saphyr_scanner.specs.Steps.Passing.{separate, with_cursor}
-use Rattle.saphyr_scanner.specs.Steps.State.{State, carried, on_core_with, acted}
+use Rattle.saphyr_scanner.specs.Steps.State.{State, on_core, on_core_with, after_step}
 use Rattle.saphyr_scanner.specs.Steps.Unrolling.{unroll}
 use Rattle.saphyr_scanner.specs.Steps.Document as document
 use Rattle.saphyr_scanner.specs.TokensTaken as taken
@@ -29,11 +29,11 @@ use Rattle.saphyr_scanner.proofs.Effects.Puts.{Reading, quiet}
 use Rattle.saphyr_scanner.proofs.Effects.Walked.{Premises, Walked, walked_then, at_most, Doing, unsaved_step, at_reach}
 use Rattle.saphyr_scanner.proofs.Effects.Walked.{at_inside, read_walked, separate_walked}
 use Rattle.saphyr_scanner.proofs.Effects.Readers.{TextLaws}
-use Rattle.saphyr_scanner.proofs.Effects.States.{Advances, advances_advances, carried_advances, acted_advances, unroll_advances}
+use Rattle.saphyr_scanner.proofs.Effects.States.{FetchesTokens, advances_advances, on_core_fetches, after_step_fetches, unroll_advances}
 use Rattle.saphyr_scanner.proofs.Effects.Steps.{begins_none, begins_forgotten}
 use Rattle.saphyr_scanner.proofs.LineTails.{OnLine, tail_apart}
 use Rattle.saphyr_scanner.proofs.Reached.{along_reached, apart_reached}
-use Rattle.saphyr_scanner.proofs.Taken.Documents.{HoldsState, forgotten_unrolled, three_at, Marking, end_marking, break_apart, directive_token, quiet_directive}
+use Rattle.saphyr_scanner.proofs.Taken.Documents.{HoldsState, forgotten_unrolled, three_at, Marking, end_marking, break_apart, directive_is_token, quiet_directive}
 use Rattle.saphyr_scanner.proofs.Taken.Later.{apart_later}
 use Rattle.saphyr_scanner.proofs.Taken.Parts.{is_quiet}
 use Rattle.saphyr_scanner.proofs.Taken.Places.{Reaches, reaches_reaches, At, at_here}
@@ -46,7 +46,7 @@ use Rattle.std.proofs.lemmas.Bool.Decides.{nat_tests}
 
 -- from s to t, at the same place, the content of a document ends
 record Content (s t : State) : Type 0 where
-  advances : Advances 0 s t
+  advances : FetchesTokens 0 s t
   cursor : t.core.cursor ≡ s.core.cursor
   comment : NoComment s.core t.core
   holds : (columns : List ℕ) (from : Cursor) → HoldsState columns from s → HoldsState columns from t
@@ -57,11 +57,11 @@ content_walked s =
     let u : State = unroll None s.core.cursor.mark s in
     let there = unrolled_cursor None s.core.cursor.mark s in
     by_test (in_block u.core && u.core.required) _ _
-    (λ r. Walked (Premises s.core) (Content s) s.core.cursor (carried r u.queue))
+    (λ r. Walked (Premises s.core) (Content s) s.core.cursor (on_core r u.queue))
     (λ _ _. let P : Cursor → Type 0 = λ v. At s.core.cursor v.mark in subst P (sym there) (at_here s.core.cursor))
     (λ _. record {
       advances = advances_advances 0 0 s u _ (unroll_advances None s.core.cursor.mark s refl)
-          (carried_advances u (Ok (forget_key u.core))
+          (on_core_fetches u (Ok (forget_key u.core))
           (stays u.core.cursor u.core.cursor refl, begins_forgotten 0 u.core u.core (begins_none u.core)));
       cursor = there;
       comment = λ n. unrolled_comment None s.core.cursor.mark s ∙ n;
@@ -70,7 +70,7 @@ content_walked s =
 
 -- from s to t a token is put, which is taken from the text
 pub record Documented (s t : State) : Type 0 where
-  pub advances : Advances 1 s t
+  pub advances : FetchesTokens 1 s t
   pub holds : TextLaws → (columns : List ℕ) (from : Cursor) → HoldsState columns from s → HoldsState columns from t
   pub comment : NoComment s.core t.core
 
@@ -79,7 +79,7 @@ documented : (s t : State) (x : Step) → Content s t → NoComment t.core x.cor
     → Documented s (record { core = x.core; queue = perform x.actions t.queue })
 documented s t x c m d = record {
   advances = advances_advances 0 1 s t _ c.advances
-      (acted_advances _ t (Ok x) (unsaved_step (Unit {0}) 0 t.core t.core.cursor (Ok x) d).effect);
+      (after_step_fetches _ t (Ok x) (unsaved_step (Unit {0}) 0 t.core t.core.cursor (Ok x) d).effect);
   holds = λ laws columns from h. d.holds laws columns from t.queue tt (c.holds columns from h);
   comment = λ n. m (c.comment n);
 }
@@ -178,7 +178,7 @@ end_marker_walked s col e =
         by_test (is_breakz (slice_index u.rest 0)) _ _ (Walked (Premises s.core) (Documented s) s.core.cursor)
         (λ _. record {
           advances = advances_advances 1 0 s t _ d.advances
-              (carried_advances t (Ok x.1) (
+              (on_core_fetches t (Ok x.1) (
                 record { later = later.index; counted = later.counted },
                 (f.started, f.ended, (let w = f.few in omega (arith, w)), λ i k. (f.keeps i tt k).0),
               ));
@@ -252,7 +252,7 @@ directive_reading c x col f e = record {
       (along_more s.mark (length text) (length tail) (length text + length tail) refl) first in
       let P : Cursor → Type 0 = λ u. AreApart mid u in (
         mid,
-        directive_token x.0 c.indent (record { start = s.mark; end = x.1 }) s mid (
+        directive_is_token x.0 c.indent (record { start = s.mark; end = x.1 }) s mid (
           text,
           tail,
           behind,
@@ -287,7 +287,7 @@ directive_walked s col f =
         → Walked (Premises s.core) (λ (x : ReadDirective × Marker × Cursor). directives.directive t.core.cursor ≡ Ok x)
         s.core.cursor r
         → Walked (Premises s.core) (Documented s) s.core.cursor
-        (acted (r >>= λ x. went (from_to t.core.cursor.mark x.1 (document.directive_kind x.0) ∷ [])
+        (after_step (r >>= λ x. completed_step (from_to t.core.cursor.mark x.1 (document.directive_kind x.0) ∷ [])
         (record (with_cursor x.2 t.core) { key_allowed = false })) t.queue)
     by t c (Ok x) col first e =
         let d : Core = record (with_cursor x.2 t.core) { key_allowed = false } in
@@ -302,7 +302,7 @@ directive_walked s col f =
 -- ## What follows
 
 pub documents_advance : (s : State) (r : Result State Refusal) → Walked (Premises s.core) (Documented s) s.core.cursor r
-    → Given (Advances 1 s) r
+    → Given (FetchesTokens 1 s) r
 documents_advance s (Ok t) h = h.advances
 documents_advance s (Err e) h = tt
 

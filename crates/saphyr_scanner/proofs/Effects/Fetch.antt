@@ -10,16 +10,17 @@ use Rattle.saphyr_scalar.specs.Views.Cursor.{◌>>=◌}
 use Rattle.saphyr_scanner.specs.declared.engine.level.Context.TheVariants as context
 use Rattle.saphyr_scanner.specs.Grammar.Tokens as tokens
 use Rattle.saphyr_scanner.specs.Views.Tokens.{Piece}
-use Rattle.saphyr_scanner.specs.Steps.Queue.{Place, empty_piece, closed, next}
-use Rattle.saphyr_scanner.specs.Steps.Core.{Core, Steps, least_column, drop_far_key}
+use Rattle.saphyr_scanner.specs.Steps.Queue.{Place, empty_piece, bare_place, next}
+use Rattle.saphyr_scanner.specs.Steps.Level.{ends_pair}
+use Rattle.saphyr_scanner.specs.Steps.Core.{Core, StepResult, least_column, drop_far_key}
 use Rattle.saphyr_scanner.specs.Steps.Passing.{pass_gap}
-use Rattle.saphyr_scanner.specs.Steps.State.{State, carried}
+use Rattle.saphyr_scanner.specs.Steps.State.{State, on_core}
 use Rattle.saphyr_scanner.specs.Steps.Unrolling.{unroll}
 use Rattle.saphyr_scanner.specs.Steps.Document as document
-use Rattle.saphyr_scanner.specs.Steps.Fetch.{size, step, state_behind_content, fetch_here, arrive, begin, fetch, within, fetch_within, without_far_key}
+use Rattle.saphyr_scanner.specs.Steps.Fetch.{size, step, state_behind_content, fetch_here, arrive, begin, fetch, check_limit, fetch_within, without_far_key}
 use Rattle.saphyr_scanner.proofs.Steps.Choice.{cases}
 use Rattle.saphyr_scanner.proofs.Blocks.{unrolled_cursor}
-use Rattle.saphyr_scanner.proofs.Ordered.Queue.{Grows, grows_grows, core_grows, put_grows}
+use Rattle.saphyr_scanner.proofs.Ordered.Queue.{GrowsInOrder, grows_grows, core_grows, put_grows}
 use Rattle.saphyr_scanner.proofs.Added.Queue.{PlacesGoOn, place_goes_on, due, tokens_put}
 use Rattle.saphyr_scanner.proofs.Effects.Readers.{Readers, ReaderEnds}
 use Rattle.saphyr_scanner.proofs.Effects.Steps.{EffectAt, Goes, goes_none, gap_goes, drop_goes}
@@ -28,9 +29,10 @@ use Rattle.saphyr_scanner.proofs.Effects.Walked.{unsaved_step}
 use Rattle.saphyr_scanner.proofs.Effects.Flow.{open_sequence, open_mapping, close_sequence, close_mapping, sequence_starts, mapping_starts, start_does, end_does, entry_does}
 use Rattle.saphyr_scanner.proofs.Effects.Values.{value_does, flow_value_does}
 use Rattle.saphyr_scanner.proofs.Effects.Blocks.{block_entry_does, key_does}
-use Rattle.saphyr_scanner.proofs.Effects.Scalars.{plain_start, double_quoted_does, single_quoted_does, plain_does, an_alias, an_anchor, name_does, tag_does, block_does}
+use Rattle.saphyr_scanner.proofs.Effects.Scalars.{plain_start, double_quoted_does, single_quoted_does, plain_does, block_does}
+use Rattle.saphyr_scanner.proofs.Effects.Properties.{an_alias, an_anchor, name_does, tag_does}
 use Rattle.saphyr_scanner.proofs.Taken.Places.{at_here}
-use Rattle.saphyr_scanner.proofs.Effects.States.{Advances, advances_advances, carried_advances, acted_advances, same_index, unroll_advances}
+use Rattle.saphyr_scanner.proofs.Effects.States.{FetchesTokens, advances_advances, on_core_fetches, after_step_fetches, same_index, unroll_advances}
 use Rattle.saphyr_scanner.proofs.Effects.Documents.{start_walked, end_marker_walked, mark_walked, directive_walked, documents_advance}
 use Rattle.saphyr_scanner.proofs.Taken.Documents.{start_marking}
 use Rattle.saphyr_input.proofs.Basics.Booleans.{by_test}
@@ -42,10 +44,10 @@ use Rattle.std.proofs.lemmas.Bool.{and_parts, eqb-true}
 pub step_does : (first second n : ℕ) (c : Core) → 0 < length c.cursor.rest → slice_index c.cursor.rest 0 ≡ first
     → slice_index c.cursor.rest 1 ≡ second → Walked (Premises c) (Stepped n c) c.cursor (step first second n c)
 step_does first second n c h f g =
-    let does : (r : Steps) → Walked (Premises c) (Doing (Some n) c) c.cursor r
+    let does : (r : StepResult) → Walked (Premises c) (Doing (Some n) c) c.cursor r
     → Walked (Premises c) (Stepped n c) c.cursor r =
     λ r w. walked_step (Premises c) n c c.cursor r w in
-    let still : (r : Steps) → Walked (Premises c) (Doing None c) c.cursor r
+    let still : (r : StepResult) → Walked (Premises c) (Doing None c) c.cursor r
     → Walked (Premises c) (Stepped n c) c.cursor r =
     λ r w. unsaved_step (Premises c) n c c.cursor r w in
     cases (Walked (Premises c) (Stepped n c) c.cursor) first second n c (record {
@@ -53,7 +55,8 @@ step_does first second n c h f g =
           refl n c (f ∙ e));
       mapping = λ e. does _ (start_does 123 tokens.FlowMappingStart context.FlowMapping open_mapping mapping_starts refl
           n c (f ∙ e));
-      sequence_end = λ e. still _ (end_does 93 tokens.FlowSequenceEnd close_sequence true c (f ∙ e));
+      sequence_end = λ e. still _ (end_does 93 tokens.FlowSequenceEnd close_sequence (ends_pair c.level.context) c
+          (f ∙ e));
       mapping_end = λ e. still _ (end_does 125 tokens.FlowMappingEnd close_mapping false c (f ∙ e));
       comma = λ e. still _ (entry_does c (f ∙ e));
       dash = λ e b. still _ (block_entry_does c (f ∙ e) (ap is_blank_or_breakz g ∙ b));
@@ -62,8 +65,8 @@ step_does first second n c h f g =
       beside = λ e _. still _ (flow_value_does second c (f ∙ e));
       double = λ e. does _ (double_quoted_does n c (f ∙ e));
       single = λ e. does _ (single_quoted_does n c (f ∙ e));
-      alias = λ e. does _ (name_does true 42 an_alias n c h (f ∙ e));
-      anchor = λ e. does _ (name_does false 38 an_anchor n c h (f ∙ e));
+      alias = λ e. does _ (name_does tokens.Alias 42 an_alias n c h (f ∙ e));
+      anchor = λ e. does _ (name_does tokens.Anchor 38 an_anchor n c h (f ∙ e));
       tag = λ e. does _ (tag_does n c (f ∙ e));
       literal = λ e b. block_does block_style.Literal n c b h (f ∙ e);
       folded = λ e b. block_does block_style.Folded n c b h (f ∙ e);
@@ -78,25 +81,25 @@ step_effect first second n c h f g =
     (step_does first second n c h f g)
 
 -- a place that shows no NUL is a character
-pub left : (t : List ℕ) → is_z (slice_index t 0) ≡ false → 0 < length t
-left [] e = absurd (cc)
-left (c ∷ cs) e = omega arith
+pub some_character_left : (t : List ℕ) → is_z (slice_index t 0) ≡ false → 0 < length t
+some_character_left [] e = absurd (cc)
+some_character_left (c ∷ cs) e = omega arith
 
 -- ## A token is fetched
 
 -- where the stream has ended, its end is the last token of the queue alone; else it is none of them
-abbrev pub Stands : Bool → List Place → Type 0
-Stands false ps = PlacesGoOn ps
-Stands true ps = (front : List Place) × (end : Piece) × PlacesGoOn front × (end.kind ≡ tokens.StreamEnd)
-    × (ps ≡ front ++ closed end ∷ [])
+abbrev pub EndStands : Bool → List Place → Type 0
+EndStands false ps = PlacesGoOn ps
+EndStands true ps = (front : List Place) × (end : Piece) × PlacesGoOn front × (end.kind ≡ tokens.StreamEnd)
+    × (ps ≡ front ++ bare_place end ∷ [])
 
 abbrev pub Standing : State → Type 0
-Standing s = Stands s.core.ended s.queue.places
+Standing s = EndStands s.core.ended s.queue.places
 
 -- from s, where the stream has not ended
 pub record Fetched (s t : State) : Type 0 where
   pub smaller : Readers → size t.core < size s.core
-  pub grows : ReaderEnds → Grows s t
+  pub grows : ReaderEnds → GrowsInOrder s t
   pub stands : PlacesGoOn s.queue.places → Standing t
   pub few : due t ≤ due s + 5
 
@@ -106,20 +109,21 @@ flag b = cond b 0 1
 flags : (b c : Bool) → b ≡ c → flag b ≡ flag c
 flags b c e = ap flag e
 
-of_advances : (s : State) (r : Result State Refusal) → s.core.ended ≡ false → Given (Advances 1 s) r
+of_advances : (s : State) (r : Result State Refusal) → s.core.ended ≡ false → Given (FetchesTokens 1 s) r
     → Given (Fetched s) r
 of_advances s (Ok t) going a = record {
   smaller = λ laws. let x = a.less laws in
       let b = flags t.core.started s.core.started a.started in
       let e = flags t.core.ended s.core.ended a.ended in omega (arith, x, b, e);
   grows = a.grows;
-  stands = λ h. let P : Bool → Type 0 = λ b. Stands b t.queue.places in subst P (sym (a.ended ∙ going)) (a.goes_on h);
+  stands = λ h. let P : Bool → Type 0 = λ b. EndStands b t.queue.places in
+      subst P (sym (a.ended ∙ going)) (a.goes_on h);
   few = a.few;
 }
 of_advances s (Err f) going a = tt
 
 -- the same, from another state
-onward : (s t : State) (r : Result State Refusal) → Advances 0 s t → Given (Fetched t) r → Given (Fetched s) r
+onward : (s t : State) (r : Result State Refusal) → FetchesTokens 0 s t → Given (Fetched t) r → Given (Fetched s) r
 onward s t (Ok u) a b = record {
   smaller = λ laws. let x = a.less laws in
       let y = b.smaller laws in
@@ -161,7 +165,8 @@ here_fetched : (s : State) → s.core.ended ≡ false → Given (Fetched s) (fet
 unfolding fetch_here state_behind_content
 here_fetched s going =
     let t = s.core.cursor.rest in let P = Given (Fetched s) in
-    by_test (is_z (slice_index t 0)) _ _ P (λ _. end_fetched s going) (λ z. let h : 0 < length t = left t z in
+    by_test (is_z (slice_index t 0)) _ _ P (λ _. end_fetched s going) (λ z. let h : 0 < length t =
+    some_character_left t z in
     by_test (is_bom (slice_index t 0)) _ _ P (λ e. of_advances s _ going (documents_advance s _ (mark_walked s e)))
     (λ _. by_test ((s.core.cursor.mark.col == 0) && (slice_index t 0 == 37)) _ _ P
     (λ e. let w = and_parts (s.core.cursor.mark.col == 0) (slice_index t 0 == 37) e in
@@ -175,7 +180,7 @@ here_fetched s going =
     (λ e. let w = and_parts (s.core.cursor.mark.col == 0) (is_document_end t) e in
     of_advances s _ going (documents_advance s _ (end_marker_walked s (eqb-true s.core.cursor.mark.col 0 w.0) w.1)))
     (λ _. by_test (nat_lt s.core.cursor.mark.col (least_column s.core)) _ _ P (λ _. tt)
-    (λ _. of_advances s _ going (acted_advances _ s (step (slice_index t 0) (slice_index t 1) (next s.queue) s.core)
+    (λ _. of_advances s _ going (after_step_fetches _ s (step (slice_index t 0) (slice_index t 1) (next s.queue) s.core)
     (step_effect (slice_index t 0) (slice_index t 1) (next s.queue) s.core h refl refl))))))))
 
 -- what stands before the next token is passed
@@ -185,13 +190,13 @@ arrival_goes c =
     (λ d e. drop_goes 0 c.cursor c d
     (given_of (Goes 0 c.cursor c) (pass_gap c) d (gap_goes 0 c.cursor c c (goes_none c)) e))
 
-pub arrive_advances : (s : State) → Given (Advances 0 s) (arrive s)
+pub arrive_advances : (s : State) → Given (FetchesTokens 0 s) (arrive s)
 unfolding arrive
 arrive_advances s =
     let r = pass_gap s.core >>= drop_far_key in
-    given_bind (Advances 0 s) (carried r s.queue) _ (λ t e.
+    given_bind (FetchesTokens 0 s) (on_core r s.queue) _ (λ t e.
     advances_advances 0 0 s t _
-    (given_of (Advances 0 s) (carried r s.queue) t (carried_advances s r (arrival_goes s.core)) e)
+    (given_of (FetchesTokens 0 s) (on_core r s.queue) t (on_core_fetches s r (arrival_goes s.core)) e)
     (unroll_advances (Some t.core.cursor.mark.col) t.core.cursor.mark t refl))
 
 begin_fetched : (s : State) → s.core.started ≡ false → s.core.ended ≡ false → Given (Fetched s) (Ok (begin s))
@@ -199,7 +204,7 @@ begin_fetched s first going = record {
   smaller = λ _. let e = flags s.core.started false first in omega (arith, e);
   grows = λ _. put_grows s s.core.cursor.mark tokens.StreamStart (record s.core { started = true }) refl refl;
   stands = λ h.
-      let P : Bool → Type 0 = λ b. Stands b (begin s).queue.places in subst P (sym going)
+      let P : Bool → Type 0 = λ b. EndStands b (begin s).queue.places in subst P (sym going)
       (place_goes_on s.queue.places (empty_piece s.core.cursor.mark tokens.StreamStart) h (λ i. absurd (cc)));
   few = let x = tokens_put s.queue.places (empty_piece s.core.cursor.mark tokens.StreamStart) in omega (arith, x);
 }
@@ -209,30 +214,30 @@ unfolding fetch
 fetch_fetched s going =
     by_test s.core.started _ _ (Given (Fetched s))
     (λ _. given_bind (Fetched s) (arrive s) fetch_here (λ t e.
-    let a = given_of (Advances 0 s) (arrive s) t (arrive_advances s) e in
+    let a = given_of (FetchesTokens 0 s) (arrive s) t (arrive_advances s) e in
     onward s t (fetch_here t) a (here_fetched t (a.ended ∙ going))))
     (λ first. begin_fetched s first going)
 
 within_fetched : (limit : ℕ) (s : State) → s.core.ended ≡ false → Given (Fetched s) (fetch_within limit s)
 unfolding fetch_within
 within_fetched limit s going =
-    given_bind (Fetched s) (fetch s) (within limit) (λ t e.
+    given_bind (Fetched s) (fetch s) (check_limit limit) (λ t e.
     by_test (nat_le t.core.cursor.mark.index limit) _ _ (Given (Fetched s))
     (λ _. given_of (Fetched s) (fetch s) t (fetch_fetched s going) e) (λ _. tt))
 
-pub settled_advances : (s : State) → Given (Advances 0 s) (without_far_key s)
+pub settled_advances : (s : State) → Given (FetchesTokens 0 s) (without_far_key s)
 settled_advances s =
-    carried_advances s (drop_far_key s.core) (drop_goes 0 s.core.cursor s.core s.core (goes_none s.core))
+    on_core_fetches s (drop_far_key s.core) (drop_goes 0 s.core.cursor s.core s.core (goes_none s.core))
 
 -- and a candidate that is too far is dropped
 dropped : (s t : State) (r : Result Core Refusal) → Fetched s t → Given (Goes 0 t.core.cursor t.core) r
-    → Given (Fetched s) (carried r t.queue)
+    → Given (Fetched s) (on_core r t.queue)
 dropped s t (Ok d) a g = record {
   smaller = λ laws. let x = a.smaller laws in
       let b = flags d.started t.core.started g.1.0 in
       let e = flags d.ended t.core.ended g.1.1 in omega (arith, x, b, e, g.0.later, g.0.counted);
   grows = λ laws. grows_grows s t _ (a.grows laws) (core_grows t _ g.0 refl);
-  stands = λ h. let P : Bool → Type 0 = λ b. Stands b t.queue.places in subst P (sym g.1.1) (a.stands h);
+  stands = λ h. let P : Bool → Type 0 = λ b. EndStands b t.queue.places in subst P (sym g.1.1) (a.stands h);
   few = let x = a.few in let y = g.1.2 in omega (arith, x, y);
 }
 dropped s t (Err f) a g = tt

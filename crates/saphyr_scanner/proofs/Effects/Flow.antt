@@ -11,14 +11,15 @@ use Rattle.saphyr_scanner.specs.Grammar.Tokens as tokens
 use Rattle.saphyr_scanner.specs.Grammar.Tokens.{Kind}
 use Rattle.saphyr_scanner.specs.Views.Tokens.{Piece}
 use Rattle.saphyr_scanner.specs.Steps.Queue.{empty_piece}
-use Rattle.saphyr_scanner.specs.Steps.Core.{Core, is_block, in_block, forget_key, remove_key, go_deeper, up_to_here, with_context, went}
+use Rattle.saphyr_scanner.specs.Steps.Core.{Core, in_block, forget_key, remove_key, go_deeper, up_to_here, with_context, completed_step}
+use Rattle.saphyr_scanner.specs.Steps.Level.{is_block, ends_pair, behind_entry}
 use Rattle.saphyr_scanner.specs.Steps.Passing.{separate, pass_on, with_cursor}
 use Rattle.saphyr_scanner.specs.Steps.Flow as flow
 use Rattle.saphyr_scanner.specs.TokensTaken as taken
 use Rattle.saphyr_scanner.specs.TokensTaken.{IsToken, IsFlowIndicator, begins_text}
 use Rattle.saphyr_scanner.proofs.Added.Queue.{IsNoEnd}
-use Rattle.saphyr_scanner.proofs.Effects.Moves.{Does, and_then, Same, same, same_same, lesser, further, entered, left}
-use Rattle.saphyr_scanner.proofs.Effects.Puts.{Reading, empty_reading, Stands, passes, indicated, quiet, saving, saved}
+use Rattle.saphyr_scanner.proofs.Effects.Moves.{Does, and_then, Same, same, same_same, lesser, further, enter_does, leave_does}
+use Rattle.saphyr_scanner.proofs.Effects.Puts.{Reading, empty_reading, IndicatorStands, passes, indicated, quiet, saving, saved}
 use Rattle.saphyr_scanner.proofs.Effects.Walked.{Premises, Walked, walked_then, walked_map, at_most, Doing}
 use Rattle.saphyr_scanner.proofs.Effects.Walked.{separate_walked}
 use Rattle.saphyr_scanner.proofs.LineTails.{OnLine}
@@ -35,8 +36,8 @@ pub record Bracket (x : ℕ) (kind : Kind) : Type 0 where
   pub no_end : IsNoEnd kind
   pub is : (i : ℕ) (span : Span) (s t : Cursor) → IsFlowIndicator x span s t → IsToken i kind span s t
 
-abbrev pub IsStart : Kind → Type 0
-IsStart kind = (span : Span) → span.start.index < span.end.index → Begins (record { span = span; kind = kind })
+abbrev pub BeginsPiece : Kind → Type 0
+BeginsPiece kind = (span : Span) → span.start.index < span.end.index → Begins (record { span = span; kind = kind })
 
 pub open_sequence : Bracket 91 tokens.FlowSequenceStart
 open_sequence =
@@ -58,10 +59,10 @@ comma_is_bracket : Bracket 44 tokens.FlowEntry
 comma_is_bracket =
     record { some = refl; unbroken = refl; quiet = refl; no_end = λ i. absurd (cc); is = λ i span s t h. h }
 
-pub sequence_starts : IsStart tokens.FlowSequenceStart
+pub sequence_starts : BeginsPiece tokens.FlowSequenceStart
 sequence_starts span l i s u h = (h.1, ap (λ t. begins_text (slice_index t 0)) h.0.0)
 
-pub mapping_starts : IsStart tokens.FlowMappingStart
+pub mapping_starts : BeginsPiece tokens.FlowMappingStart
 mapping_starts span l i s u h = by h
   where
     by : IsToken i tokens.FlowMappingStart span s u
@@ -70,7 +71,7 @@ mapping_starts span l i s u h = by h
     by (inr k) = absurd (let e : span.end.index ≡ span.start.index =
         ap (λ (m : Marker). m.index) k.0 in omega (arith, e, l))
 
-stands : (x : ℕ) (kind : Kind) (s : Cursor) → Bracket x kind → slice_index s.rest 0 ≡ x → Stands x s
+stands : (x : ℕ) (kind : Kind) (s : Cursor) → Bracket x kind → slice_index s.rest 0 ≡ x → IndicatorStands x s
 stands x kind s b f = record { some = b.some; unbroken = b.unbroken; is = f }
 
 abbrev bracket_piece : Kind → Core → Cursor → Piece
@@ -87,7 +88,7 @@ bracket_read x kind c u b f o =
 
 -- ## `[` and `{`
 
-pub start_does : (i : ℕ) (kind : Kind) (x : Context) → Bracket i kind → IsStart kind → is_block x ≡ false → (n : ℕ)
+pub start_does : (i : ℕ) (kind : Kind) (x : Context) → Bracket i kind → BeginsPiece kind → is_block x ≡ false → (n : ℕ)
     (c : Core) → slice_index c.cursor.rest 0 ≡ i
     → Walked (Premises c) (Doing (Some n) c) c.cursor (flow.opening_steps x kind n c)
 unfolding flow.opening_steps flow.open_collection
@@ -106,7 +107,7 @@ start_does i kind x b starts flows n c f =
     (saved n c behind (bracket_piece kind c u) s refl (λ m. inl m) b.quiet b.no_end
     (starts (record { start = c.cursor.mark; end = u.mark }) (omega (arith, later.index))) refl
     (bracket_read i kind c u b f g.1))
-    (and_then (λ n. n) (entered x behind flows)
+    (and_then (λ n. n) (enter_does x behind flows)
     (further (flow.enter x behind) e.1 g.0 (taken.nothing u.mark u.rest))))))
 
 -- ## The end of a collection or an entry
@@ -115,7 +116,8 @@ start_does i kind x b starts flows n c f =
 bracket_walked : (x : ℕ) (kind : Kind) → Bracket x kind → (b c : Core) (ends : Bool) → slice_index c.cursor.rest 0 ≡ x
     → (f : Core → Core) → ((e : Core) → Same e (f e) × ((f e).cursor ≡ e.cursor))
     → Walked (Premises b) (Doing None c) c.cursor
-    (separate (pass_on 1 c) >>= λ e. went (flow.behind_pair ends c.cursor.mark (up_to_here c.cursor.mark kind e.1))
+    (separate (pass_on 1 c) >>= λ e. completed_step
+    (flow.behind_pair ends c.cursor.mark (up_to_here c.cursor.mark kind e.1))
     (f e.1))
 bracket_walked x kind bracket b c ends first f alike =
     walked_then (Premises b) _ (Doing None c) c.cursor (separate (pass_on 1 c)) _
@@ -138,22 +140,21 @@ adjacent_same c =
     by_test (in_block c) _ _ (λ (d : Core). Same c d × (d.cursor ≡ c.cursor)) (λ _. (same c, refl))
     (λ _. ((refl, refl, λ n. n), refl))
 
-pub end_does : (i : ℕ) (kind : Kind) → Bracket i kind → (sequence : Bool) (c : Core) → slice_index c.cursor.rest 0 ≡ i
-    → Walked (Premises c) (Doing None c) c.cursor (flow.closing_steps sequence kind c)
+pub end_does : (i : ℕ) (kind : Kind) → Bracket i kind → (ends : Bool) (c : Core) → slice_index c.cursor.rest 0 ≡ i
+    → Walked (Premises c) (Doing None c) c.cursor (flow.closing_steps ends kind c)
 unfolding flow.closing_steps flow.close_collection
-end_does i kind b sequence c first =
-    let ends = sequence && flow.ends_pair c.level.context in
+end_does i kind b ends c first =
     by_test (in_block c) _ _ (Walked (Premises c) (Doing None c) c.cursor) (λ _ _. at_here c.cursor)
-    (λ _. left c
+    (λ _. leave_does c
     (λ d. Walked (Premises c) (Doing None c) c.cursor
-    (separate (pass_on 1 d) >>= λ e. went
+    (separate (pass_on 1 d) >>= λ e. completed_step
     (flow.behind_pair ends c.cursor.mark (up_to_here c.cursor.mark kind e.1)) (flow.allow_adjacent e.1)))
     (λ l ls m.
     let d : Core = record c { level = l; outer = ls; key_allowed = false } in
     walked_map (Premises c) (Doing None d) (Doing None c) c.cursor _ (λ x k. and_then (λ n. n) m k)
     (bracket_walked i kind b c d ends first flow.allow_adjacent adjacent_same)))
 
-entry_block : (x : Context) → is_block (flow.behind_entry x) ≡ is_block x
+entry_block : (x : Context) → is_block (behind_entry x) ≡ is_block x
 entry_block context.Block = refl
 entry_block _ = refl
 
@@ -161,12 +162,12 @@ pub entry_does : (c : Core) → slice_index c.cursor.rest 0 ≡ 44
     → Walked (Premises c) (Doing None c) c.cursor (flow.flow_entry_steps c)
 unfolding flow.flow_entry_steps flow.next_flow_entry remove_key
 entry_does c first =
-    let d : Core = with_context (flow.behind_entry c.level.context) (record (forget_key c) { key_allowed = true }) in
+    let d : Core = with_context (behind_entry c.level.context) (record (forget_key c) { key_allowed = true }) in
     by_test (in_block c && c.required) _ _
     (λ r. Walked (Premises c) (Doing None c) c.cursor (r >>= flow.next_flow_entry)) (λ _ _. at_here c.cursor)
     (λ _. walked_map (Premises c) (Doing None d) (Doing None c) c.cursor _
     (λ x k. and_then (λ n. n)
     (lesser c d (record { block = entry_block c.level.context; key = inr refl }) refl (λ n. n)
     (taken.nothing c.cursor.mark c.cursor.rest)) k)
-    (bracket_walked 44 tokens.FlowEntry comma_is_bracket c d (flow.ends_pair c.level.context) first (λ e. e)
+    (bracket_walked 44 tokens.FlowEntry comma_is_bracket c d (ends_pair c.level.context) first (λ e. e)
     (λ e. (same e, refl))))

@@ -6,8 +6,9 @@ use Rattle.std.proofs.Common.{refl, sym, ap, ◌∙◌, arith, subst, inl, inr}
 use Rattle.saphyr_scalar.specs.Views.Cursor.{Cursor}
 use Rattle.saphyr_scanner.specs.declared.engine.level.Context.{Context}
 use Rattle.saphyr_scanner.specs.Steps.Queue.{Queue, next}
-use Rattle.saphyr_scanner.specs.Steps.Core.{Candidate, Level, Core, Action, Put, Open, act, perform, is_block}
-use Rattle.saphyr_scanner.specs.Steps.Core.{in_block, at_root}
+use Rattle.saphyr_scanner.specs.Steps.Core.{Core, Action, Put, Open, act, perform}
+use Rattle.saphyr_scanner.specs.Steps.Level.{Candidate, Level, is_block, at_root}
+use Rattle.saphyr_scanner.specs.Steps.Core.{in_block}
 use Rattle.saphyr_scanner.specs.Steps.Flow as flow
 use Rattle.saphyr_scanner.specs.TokensTaken as taken
 use Rattle.saphyr_scanner.specs.TokensTaken.{AreApart}
@@ -17,7 +18,7 @@ use Rattle.saphyr_scanner.proofs.Effects.Readers.{Readers, ReaderEnds, TextLaws}
 use Rattle.saphyr_scanner.proofs.Ordered.Queue.{PutsInOrder}
 use Rattle.saphyr_scanner.proofs.PlainBehind.{IsNoted}
 use Rattle.saphyr_scanner.proofs.Taken.Candidates.{KeyAbove, LevelsAbove, Above, ActionsAbove}
-use Rattle.saphyr_scanner.proofs.Taken.Cores.{Holds, Lesser, holds_lesser}
+use Rattle.saphyr_scanner.proofs.Taken.Cores.{HoldsTaken, Lesser, holds_lesser}
 use Rattle.saphyr_scanner.proofs.Taken.Held.{Taken, taken_further, lower, Keys, keys_weaken}
 use Rattle.saphyr_scanner.proofs.Taken.Held.{below_key}
 use Rattle.saphyr_scanner.proofs.Taken.Later.{apart_later}
@@ -25,13 +26,13 @@ use Rattle.saphyr_scanner.proofs.Taken.Later.{apart_later}
 -- ## The statement
 
 -- the place where the next token is put, if it may be a key
-abbrev pub IsNext : Option ℕ → Core → Queue → Type 0
-IsNext None c q = Unit {0}
-IsNext (Some n) c q = (n ≡ next q) × (in_block c ≡ true → c.indent ≤ c.cursor.mark.col + 1)
+abbrev pub IsNextPlace : Option ℕ → Core → Queue → Type 0
+IsNextPlace None c q = Unit {0}
+IsNextPlace (Some n) c q = (n ≡ next q) × (in_block c ≡ true → c.indent ≤ c.cursor.mark.col + 1)
 
-abbrev pub IsBefore : ℕ → Option ℕ → Type 0
-IsBefore h None = Unit {0}
-IsBefore h (Some n) = h ≤ n
+abbrev pub IsBeforePlace : ℕ → Option ℕ → Type 0
+IsBeforePlace h None = Unit {0}
+IsBeforePlace h (Some n) = h ≤ n
 
 -- From c to d these actions are done, by which a key may be saved for the place n: k characters at least are taken off,
 -- and w tokens at most become due. What the readers take off and read is told by their laws.
@@ -43,9 +44,10 @@ pub record Does (n : Option ℕ) (k w : ℕ) (c d : Core) (actions : List Action
   pub ended : d.ended ≡ c.ended
   pub goes_on : PutsGoOn actions
   pub few : added actions + open_blocks d ≤ open_blocks c + w
-  pub keeps : (h : ℕ) → IsBefore h n → Above h c → Above h d × ActionsAbove h actions
-  pub holds : TextLaws → (columns : List ℕ) (from : Cursor) (q : Queue) → IsNext n c q → Holds columns from c q
-      → Holds columns from d (perform actions q)
+  pub keeps : (h : ℕ) → IsBeforePlace h n → Above h c → Above h d × ActionsAbove h actions
+  pub holds : TextLaws → (columns : List ℕ) (from : Cursor) (q : Queue) → IsNextPlace n c q
+      → HoldsTaken columns from c q
+      → HoldsTaken columns from d (perform actions q)
   pub noted : c.comment ≡ None → IsNoted d.comment d.cursor
 
 -- ## One behind another
@@ -103,7 +105,7 @@ and_then {n} {k} {l} {v} {w} {c} {d} {e} {front} {back} m a b = record {
       let p = a.keeps h i x in
       let q = b.keeps h tt p.0 in (q.0, above_append h front back p.1 q.1);
   holds = λ laws columns from q i h.
-      let P : Queue → Type 0 = λ r. Holds columns from e r in
+      let P : Queue → Type 0 = λ r. HoldsTaken columns from e r in
       subst P (sym (perform_append front back q))
       (b.holds laws columns from (perform front q) tt (a.holds laws columns from q i h));
   noted = λ f. b.noted (m f);
@@ -188,7 +190,7 @@ still c d s e =
 -- the level is another, and the text doesn't go on
 level_changes : (c d : Core) → d.cursor ≡ c.cursor → d.started ≡ c.started → d.ended ≡ c.ended
     → open_blocks d ≡ open_blocks c → NoComment c d → ((h : ℕ) → Above h c → Above h d)
-    → ((columns : List ℕ) (from : Cursor) (q : Queue) → Holds columns from c q → Holds columns from d q)
+    → ((columns : List ℕ) (from : Cursor) (q : Queue) → HoldsTaken columns from c q → HoldsTaken columns from d q)
     → Does None 0 0 c d []
 level_changes c d e s t b m above holds =
     let l = ap (λ (u : Cursor). length u.rest) e in
@@ -207,8 +209,8 @@ level_changes c d e s t b m above holds =
     }
 
 -- a flow collection is entered
-pub entered : (x : Context) (c : Core) → is_block x ≡ false → Does None 0 0 c (flow.enter x c) []
-entered x c e =
+pub enter_does : (x : Context) (c : Core) → is_block x ≡ false → Does None 0 0 c (flow.enter x c) []
+enter_does x c e =
     level_changes c (flow.enter x c) refl refl refl refl (λ n. n) (λ h a. (tt, a))
     (λ columns from q h. record {
       taken = taken_further columns from c (flow.enter x c) q (taken.nothing c.cursor.mark c.cursor.rest) refl refl
@@ -217,10 +219,10 @@ entered x c e =
     })
 
 -- a flow collection is left for the level around it
-pub left : (c : Core) (P : Core → Type 0)
+pub leave_does : (c : Core) (P : Core → Type 0)
     → ((l : Level) (ls : List Level) → Does None 0 0 c (record c { level = l; outer = ls; key_allowed = false }) []
     → P (record c { level = l; outer = ls; key_allowed = false })) → P (flow.leave c)
-left c P f =
+leave_does c P f =
     by c.outer (λ h a. a) (λ q k. keys_weaken (lower (next q) c.level.key) (next q) q c.indent c.outer
     (below_key (next q) q (is_block c.level.context) c.indent c.level.key k.1) k.2)
   where

@@ -9,19 +9,20 @@ use Rattle.saphyr_scanner.specs.declared.queue.Opening.{Opening}
 use Rattle.saphyr_scanner.specs.declared.queue.Opening.TheVariants as opening
 use Rattle.saphyr_scanner.specs.Grammar.Tokens.{Kind}
 use Rattle.saphyr_scanner.specs.Views.Tokens.{Piece}
-use Rattle.saphyr_scanner.specs.Steps.Queue.{Queue, put, with_opening, empty_piece}
-use Rattle.saphyr_scanner.specs.Steps.Core.{Candidate, Level, Core, Put, Open, at_mark}
+use Rattle.saphyr_scanner.specs.Steps.Queue.{Queue, with_piece, with_opening, empty_piece}
+use Rattle.saphyr_scanner.specs.Steps.Core.{Core, Put, Open, at_mark}
+use Rattle.saphyr_scanner.specs.Steps.Level.{Candidate, Level}
 use Rattle.saphyr_scanner.specs.Steps.Core.{in_block, save_key, forget_key, enter_block}
 use Rattle.saphyr_scanner.specs.Steps.Passing.{with_cursor}
 use Rattle.saphyr_scanner.specs.TokensTaken as taken
 use Rattle.saphyr_scanner.specs.TokensTaken.{AreApart, IsToken, TakesCharacter, IsBlockStart, begins_text, open_behind}
 use Rattle.saphyr_scanner.proofs.Added.Queue.{IsNoEnd, at_most_one, one_at_most, open_blocks}
 use Rattle.saphyr_scanner.proofs.Effects.Readers.{Readers, ReaderEnds, ReadsSpan, TextLaws}
-use Rattle.saphyr_scanner.proofs.Effects.Moves.{Around, Does, IsBefore, IsNext, NoComment, around}
+use Rattle.saphyr_scanner.proofs.Effects.Moves.{Around, Does, IsBeforePlace, IsNextPlace, NoComment, around}
 use Rattle.saphyr_scanner.proofs.PlainBehind.{IsNoted}
 use Rattle.saphyr_scanner.proofs.Taken.Candidates.{KeyAbove, LevelsAbove, Above}
-use Rattle.saphyr_scanner.proofs.Taken.Cores.{Holds, outermost, quiet_opens, quiet_put, loud_put}
-use Rattle.saphyr_scanner.proofs.Taken.Cores.{saved_keys, open_quiet, open_loud, indicator}
+use Rattle.saphyr_scanner.proofs.Taken.Cores.{HoldsTaken, outermost, quiet_opens, quiet_put, loud_put}
+use Rattle.saphyr_scanner.proofs.Taken.Cores.{saved_keys, open_quiet, open_loud, indicator_is_passed}
 use Rattle.saphyr_scanner.proofs.Taken.Held.{Stack, taken_put}
 use Rattle.saphyr_scanner.proofs.Taken.Later.{apart_later}
 use Rattle.saphyr_scanner.proofs.Taken.Parts.{is_quiet, Begins, opens_block}
@@ -52,22 +53,22 @@ empty_reading c kind is = record {
 }
 
 -- an indicator stands here
-pub record Stands (x : ℕ) (s : Cursor) : Type 0 where
+pub record IndicatorStands (x : ℕ) (s : Cursor) : Type 0 where
   pub some : (x == 0) ≡ false
   pub unbroken : is_break x ≡ false
   pub is : slice_index s.rest 0 ≡ x
 
-pub passes : (x : ℕ) (s : Cursor) → Stands x s → Reaches s (pass 1 s)
-passes x s h = character_reached x s (pass 1 s) h.unbroken (indicator x s h.some h.is)
+pub passes : (x : ℕ) (s : Cursor) → IndicatorStands x s → Reaches s (pass 1 s)
+passes x s h = character_reached x s (pass 1 s) h.unbroken (indicator_is_passed x s h.some h.is)
 
 -- its token, with separation behind it
-pub indicated : (x : ℕ) (c : Core) (u : Cursor) (t : Piece) → Stands x c.cursor → AreApart (pass 1 c.cursor) u
+pub indicated : (x : ℕ) (c : Core) (u : Cursor) (t : Piece) → IndicatorStands x c.cursor → AreApart (pass 1 c.cursor) u
     → c.cursor.mark.index ≤ t.span.start.index → t.span.start.index ≤ t.span.end.index
     → t.span.end.index ≤ u.mark.index
     → (TakesCharacter x c.cursor (pass 1 c.cursor) → IsToken c.indent t.kind t.span c.cursor (pass 1 c.cursor))
     → Reading 1 c t u
 indicated x c u t stands apart begins inside ends is =
-    let takes = indicator x c.cursor stands.some stands.is in
+    let takes = indicator_is_passed x c.cursor stands.some stands.is in
     let l : length c.cursor.rest ≡ length (x ∷ (pass 1 c.cursor).rest) = ap length takes.0 in
     let later = apart_later (pass 1 c.cursor).mark (pass 1 c.cursor).rest u.mark u.rest apart in
     record {
@@ -84,9 +85,9 @@ indicated x c u t stands apart begins inside ends is =
 putting : (n : Option ℕ) (k v : ℕ) (c d : Core) (t : Piece) → Reading k c t d.cursor → IsNoEnd t.kind
     → d.started ≡ c.started → d.ended ≡ c.ended → (c.comment ≡ None → IsNoted d.comment d.cursor)
     → open_blocks d ≤ open_blocks c + v
-    → ((h : ℕ) → IsBefore h n → Above h c → Above h d)
-    → (TextLaws → (columns : List ℕ) (from : Cursor) (q : Queue) → IsNext n c q → Holds columns from c q
-    → Holds columns from d (put t q)) → Does n k (1 + v) c d (Put t ∷ [])
+    → ((h : ℕ) → IsBeforePlace h n → Above h c → Above h d)
+    → (TextLaws → (columns : List ℕ) (from : Cursor) (q : Queue) → IsNextPlace n c q → HoldsTaken columns from c q
+    → HoldsTaken columns from d (with_piece t q)) → Does n k (1 + v) c d (Put t ∷ [])
 putting n k v c d t r e s f m few above holds = record {
   less = r.less;
   ahead = λ laws. (r.span laws).ahead;
@@ -172,8 +173,8 @@ saved n c d t s a m q e begins start h =
 opens : (v : ℕ) (c d : Core) (k : Candidate) (o : Opening) → d.cursor ≡ c.cursor → c.level.key ≡ Some k
     → d.level.key ≡ None → d.outer ≡ c.outer → d.started ≡ c.started → d.ended ≡ c.ended → NoComment c d
     → open_blocks d ≤ open_blocks c + v
-    → ((columns : List ℕ) (from : Cursor) (q : Queue) → Holds columns from c q
-    → Holds columns from d (with_opening k.place o q)) → Does None 0 (2 + v) c d (Open k.place o ∷ [])
+    → ((columns : List ℕ) (from : Cursor) (q : Queue) → HoldsTaken columns from c q
+    → HoldsTaken columns from d (with_opening k.place o q)) → Does None 0 (2 + v) c d (Open k.place o ∷ [])
 opens v c d k o e key none outer s f m few holds =
     let l = ap (λ (u : Cursor). length u.rest) e in
     let i = ap (λ (u : Cursor). u.mark.index) e in

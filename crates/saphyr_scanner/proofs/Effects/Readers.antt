@@ -38,7 +38,7 @@ use Rattle.saphyr_scanner.proofs.Taken.Later.{top}
 -- ## Where it ends
 
 -- what is read from s on ends at a place m before t or at it
-pub record Reads (s : Cursor) (m : Marker) (t : Cursor) : Type 0 where
+pub record ReadsUpTo (s : Cursor) (m : Marker) (t : Cursor) : Type 0 where
   pub ahead : Ahead s t
   pub begins : s.mark.index ≤ m.index
   pub ends : m.index ≤ t.mark.index
@@ -53,7 +53,7 @@ pub record ReadsSpan (s : Cursor) (span : Span) (t : Cursor) : Type 0 where
 -- where each reader ends what it reads, from a text that begins with its indicator
 pub record ReaderEnds : Type 0 where
   pub plain : (in_flow : Bool) (indent : ℕ) (s t : Cursor) (text : List ℕ) (end : Marker) (comment : Option Marker)
-      → words.plain in_flow indent s ≡ Ok (text, end, comment, t) → Reads s end t
+      → words.plain in_flow indent s ≡ Ok (text, end, comment, t) → ReadsUpTo s end t
   pub double_quoted : (indent : ℕ) (s t : Cursor) (text : List ℕ) → slice_index s.rest 0 ≡ 34
       → quoted.double_quoted indent s ≡ Ok (text, t) → Ahead s t
   pub single_quoted : (indent : ℕ) (s t : Cursor) (text : List ℕ) → slice_index s.rest 0 ≡ 39
@@ -64,7 +64,7 @@ pub record ReaderEnds : Type 0 where
   pub tag : (in_flow : Bool) (s t : Cursor) (handle suffix : List ℕ) → slice_index s.rest 0 ≡ 33
       → tags.tag in_flow s ≡ Ok (handle, suffix, t) → Ahead s t
   pub directive : (s t : Cursor) (d : ReadDirective) (end : Marker) → slice_index s.rest 0 ≡ 37
-      → directives.directive s ≡ Ok (d, end, t) → Reads s end t
+      → directives.directive s ≡ Ok (d, end, t) → ReadsUpTo s end t
 
 -- ## What it reads, and where it refuses
 

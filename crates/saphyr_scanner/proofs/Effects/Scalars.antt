@@ -1,5 +1,5 @@
--- What each step of scalars and of properties does, by the laws of the readers.
-use Rattle.std.proofs.Common.{◌≡◌, ◌≢◌, ℕ, ◌+◌, ◌<◌, Bool, true, false, List, [], ◌∷◌, ◌++◌, length, Some, Ok, IsTrue, IsFalse, refl, sym, ap, ◌∙◌, arith, subst, inl, inr}
+-- What each step of scalars does, by the laws of the readers.
+use Rattle.std.proofs.Common.{◌≡◌, ◌≢◌, ℕ, ◌<◌, Bool, true, false, List, [], ◌∷◌, ◌++◌, length, Some, Ok, IsTrue, IsFalse, refl, sym, ap, ◌∙◌, arith, subst, inl, inr}
 use Rattle.std.specs.Prelude.{◌&&◌, ◌||◌, ◌==◌, slice_index, not, nat_lt, codes}
 use Rattle.saphyr_input.specs.Classes.{is_break, is_blank_or_breakz, is_one_of}
 use Rattle.saphyr_input.specs.Places.{is_blank_or_break}
@@ -13,34 +13,29 @@ use Rattle.saphyr_scalar.specs.declared.scalar.position.Span.{Span}
 use Rattle.saphyr_scalar.specs.declared.scalar.style.ScalarStyle.{ScalarStyle}
 use Rattle.saphyr_scalar.specs.declared.scalar.style.ScalarStyle.TheVariants.{Plain, SingleQuoted, DoubleQuoted}
 use Rattle.saphyr_scalar.specs.Reading.Plain.{IsSpelledPlain, IsPlainReading}
-use Rattle.saphyr_scalar.specs.Spelling.Tag.{IsHandleText, IsTagText}
-use Rattle.saphyr_scalar.specs.Steps.Anchor as anchors
 use Rattle.saphyr_scalar.specs.Steps.Block as blocks
 use Rattle.saphyr_scalar.specs.Steps.Plain as words
 use Rattle.saphyr_scalar.specs.Steps.Quoted as quoted
-use Rattle.saphyr_scalar.specs.Steps.Tag as tags
-use Rattle.saphyr_scalar.specs.Views.Cursor.{Cursor, ◌>>=◌, along}
+use Rattle.saphyr_scalar.specs.Views.Cursor.{Cursor, ◌>>=◌}
 use Rattle.saphyr_scanner.specs.Grammar.Tokens as tokens
-use Rattle.saphyr_scanner.specs.Grammar.Tokens.{Kind}
 use Rattle.saphyr_scanner.specs.Views.Tokens.{Piece}
-use Rattle.saphyr_scanner.specs.Steps.Core.{Level, Core, is_block, in_block, least_column}
+use Rattle.saphyr_scanner.specs.Steps.Core.{Core, in_block, least_column}
+use Rattle.saphyr_scanner.specs.Steps.Level.{Level, is_block}
 use Rattle.saphyr_scanner.specs.Steps.Passing.{separate, pass_gap, with_cursor}
-use Rattle.saphyr_scanner.specs.Steps.Property as property
 use Rattle.saphyr_scanner.specs.Steps.Scalar as scalar
 use Rattle.saphyr_scanner.specs.TokensTaken as taken
-use Rattle.saphyr_scanner.specs.TokensTaken.{AreApart, IsToken, IsQuotedToken, may_begin_plain, begins_text}
-use Rattle.saphyr_scanner.proofs.Added.Queue.{IsNoEnd}
+use Rattle.saphyr_scanner.specs.TokensTaken.{IsToken, IsQuotedToken, may_begin_plain, begins_text}
 use Rattle.saphyr_scanner.proofs.Counted.{Ahead}
-use Rattle.saphyr_scanner.proofs.Effects.Puts.{IsSaved, saving, saved_above, saved, Reading}
+use Rattle.saphyr_scanner.proofs.Effects.Puts.{IsSaved, saving, saved_above, saved}
 use Rattle.saphyr_scanner.proofs.Effects.Walked.{Premises, Walked, walked_then, Doing, Stepped, at_inside, read_walked}
 use Rattle.saphyr_scanner.proofs.Effects.Walked.{at_reach, separate_walked, gap_walked}
-use Rattle.saphyr_scanner.proofs.Effects.Readers.{Readers, ReaderEnds, Less, TextLaws}
-use Rattle.saphyr_scanner.proofs.PlainBehind.{Ends, plain_ends}
+use Rattle.saphyr_scanner.proofs.Effects.Readers.{Readers, ReaderEnds, Less}
+use Rattle.saphyr_scanner.proofs.PlainBehind.{EndsUnbroken, plain_ends}
 use Rattle.saphyr_scanner.proofs.Reached.{apart_reached, passed_reached}
 use Rattle.saphyr_scanner.proofs.Steps.Choice.{NoIndicator}
 use Rattle.saphyr_scanner.proofs.Taken.Later.{apart_later}
 use Rattle.saphyr_scanner.proofs.Taken.Parts.{is_quiet}
-use Rattle.saphyr_scanner.proofs.Taken.Places.{Reaches, reaches_reaches, at_here, here_at}
+use Rattle.saphyr_scanner.proofs.Taken.Places.{Reaches, reaches_reaches, at_here}
 use Rattle.saphyr_scanner.proofs.Taken.Separated.{apart_apart}
 use Rattle.saphyr_scanner.proofs.Taken.States.{block_fetched}
 use Rattle.std.proofs.lemmas.Bool.{or_parts, ne_eqb, eqb-true}
@@ -48,7 +43,7 @@ use Rattle.saphyr_input.proofs.Basics.Booleans.{by_test}
 use Rattle.saphyr_scalar.proofs.Given.{given_of}
 
 -- a span begins where a text does
-abbrev Starts : Span → Cursor → Type 0
+abbrev pub Starts : Span → Cursor → Type 0
 Starts span s = (span.start ≡ s.mark) × IsTrue (begins_text (slice_index s.rest 0))
 
 -- ## Quoted scalars
@@ -232,7 +227,7 @@ plain_does n c starts =
     (λ _. walked_then (Premises c) _ Q here (words.plain f c.indent here) _
     (read_walked (Premises c) here (words.plain f c.indent here)
     (λ e q laws. at_inside here e (laws.0.plain f c.indent here e q))) (λ x e.
-    let ends = given_of Ends (words.plain f c.indent here) x (plain_ends f c.indent here) e in
+    let ends = given_of EndsUnbroken (words.plain f c.indent here) x (plain_ends f c.indent here) e in
     let t : Piece = record { span = record { start = here.mark; end = x.1 }; kind = tokens.Scalar Plain x.0 } in
     saved n c (scalar.behind_plain x.2 x.3 d) t s refl (λ _. ends.0) refl (λ i. absurd (cc))
     (λ i a b k. (k.start, plain_begins (slice_index a.rest 0) k.begins k.is_ink)) refl
@@ -253,109 +248,6 @@ plain_does n c starts =
         taken.nothing x.3.mark x.3.rest,
       );
     }))))
-
--- ## Names and tags
-
--- a reader that takes a text off, and ends its token there
-token_read : (c : Core) (kind : Kind) (u : Cursor) → (Readers → Less u c.cursor) → (ReaderEnds → Ahead c.cursor u)
-    → (TextLaws → IsToken c.indent kind (record { start = c.cursor.mark; end = u.mark }) c.cursor u)
-    → Reading 1 c (record { span = record { start = c.cursor.mark; end = u.mark }; kind = kind }) u
-token_read c kind u less ahead is = record {
-  less = λ laws. let z = less laws in omega (arith, z);
-  span = λ laws. let z = ahead laws in
-      record { ahead = z; begins = omega arith; inside = z.later; ends = omega arith };
-  token = λ laws. (u, is laws, taken.nothing u.mark u.rest);
-}
-
-pub record Named (is_alias : Bool) (x : ℕ) : Type 0 where
-  pub no_end : (name : List ℕ) → IsNoEnd (property.name_token is_alias name)
-  pub quiet : (name : List ℕ) → is_quiet (property.name_token is_alias name) ≡ true
-  pub is : (i : ℕ) (name : List ℕ) (span : Span) (s t : Cursor) → taken.IsNameToken x name span s t
-      → IsToken i (property.name_token is_alias name) span s t
-  pub of : (i : ℕ) (name : List ℕ) (span : Span) (s t : Cursor) → IsToken i (property.name_token is_alias name) span s t
-      → Starts span s
-
-pub an_alias : Named true 42
-an_alias = record {
-  no_end = λ n i. absurd (cc);
-  quiet = λ n. refl;
-  is = λ i n p s t h. h;
-  of = λ i n p s t h. (h.3.start, ap (λ l. begins_text (slice_index l 0)) h.3.is);
-}
-
-pub an_anchor : Named false 38
-an_anchor = record {
-  no_end = λ n i. absurd (cc);
-  quiet = λ n. refl;
-  is = λ i n p s t h. h;
-  of = λ i n p s t h. (h.3.start, ap (λ l. begins_text (slice_index l 0)) h.3.is);
-}
-
--- a tag begins with `!`
-tag_begins : (text behind handle suffix : List ℕ) → IsTagText text handle suffix → slice_index (text ++ behind) 0 ≡ 33
-tag_begins text behind handle suffix (inl h) = ap (λ t. slice_index (t ++ behind) 0) h.0
-tag_begins text behind handle suffix (inr (inl h)) = ap (λ t. slice_index (t ++ behind) 0) h.3
-tag_begins text behind handle suffix (inr (inr h)) = ap (λ t. slice_index (t ++ behind) 0) h.4 ∙ by h.1
-  where
-    by : IsHandleText handle → slice_index ((handle ++ h.0) ++ behind) 0 ≡ 33
-    by (inl e) = ap (λ t. slice_index ((t ++ h.0) ++ behind) 0) e
-    by (inr e) = ap (λ t. slice_index ((t ++ h.0) ++ behind) 0) e.2
-
-pub name_does : (is_alias : Bool) (x : ℕ) → Named is_alias x → (n : ℕ) (c : Core) → 0 < length c.cursor.rest
-    → slice_index c.cursor.rest 0 ≡ x
-    → Walked (Premises c) (Doing (Some n) c) c.cursor (property.name_steps is_alias n c)
-unfolding property.name_steps property.read_name
-name_does is_alias x named n c some f =
-    let here = c.cursor in
-    let Q = Doing (Some n) c in
-    saving n c (λ d. Walked (Premises c) Q here (property.read_name is_alias (scalar.disallow_key d))) (λ l r s.
-    let d : Core = scalar.disallow_key (record c { level = l; required = r }) in
-    walked_then (Premises c) _ Q here (anchors.anchor here) _
-    (read_walked (Premises c) here (anchors.anchor here) (λ e q laws. here_at here e.mark (laws.0.name here e q)))
-    (λ y e.
-    let span : Span = record { start = here.mark; end = y.1.mark } in
-    let kind : Kind = property.name_token is_alias y.0 in
-    saved n c (with_cursor y.1 d) (record { span = span; kind = kind }) s refl (λ m. inl m) (named.quiet y.0)
-    (named.no_end y.0) (λ i. named.of i y.0 span) refl
-    (token_read c kind y.1 (λ laws. laws.name here y.1 y.0 some e) (λ laws. laws.name here y.1 y.0 some e) (λ laws.
-    let w = laws.name here y.1 y.0 some e in
-    let first : w.0 ≡ x = sym (ap (λ t. slice_index t 0) w.2) ∙ f in
-    let P : ℕ → Type 0 = λ k. here.rest ≡ k ∷ (w.1 ++ y.1.rest) in
-    let m : 1 + length w.1 ≡ length (x ∷ w.1) = omega arith in
-    let goes : y.1.mark ≡ along here.mark (length (x ∷ w.1)) =
-    ap (λ (u : Cursor). u.mark) w.5 ∙ ap (λ k. along here.mark k) m in
-    named.is c.indent y.0 span here y.1
-    (w.1, w.3, sym w.6, record { is = subst P first w.2; start = refl; end = refl; goes_on = goes }, w.4)))))
-
-pub tag_does : (n : ℕ) (c : Core) → slice_index c.cursor.rest 0 ≡ 33
-    → Walked (Premises c) (Doing (Some n) c) c.cursor (property.tag_steps n c)
-unfolding property.tag_steps property.read_tag
-tag_does n c first =
-    let here = c.cursor in
-    let Q = Doing (Some n) c in
-    saving n c (λ d. Walked (Premises c) Q here (property.read_tag (scalar.disallow_key d))) (λ l r s.
-    let d : Core = scalar.disallow_key (record c { level = l; required = r }) in
-    let f = not (in_block d) in
-    walked_then (Premises c) _ Q here (tags.tag f here) _
-    (read_walked (Premises c) here (tags.tag f here) (λ e q laws. here_at here e.mark (laws.0.tag f here e q))) (λ y e.
-    let span : Span = record { start = here.mark; end = y.2.mark } in
-    saved n c (with_cursor y.2 d) (record { span = span; kind = tokens.Tag y.0 y.1 }) s refl (λ m. inl m) refl
-    (λ i. absurd (cc))
-    (λ i a b k. (
-      k.6.start,
-      ap (λ t. begins_text (slice_index t 0)) k.6.is ∙ ap begins_text (tag_begins k.0 b.rest k.1 k.2 k.3),
-    )) refl
-    (token_read c (tokens.Tag y.0 y.1) y.2 (λ laws. laws.tag f here y.2 y.0 y.1 first e)
-    (λ laws. laws.tag f here y.2 y.0 y.1 first e) (λ laws.
-    let w = laws.tag f here y.2 y.0 y.1 first e in (
-      w.0,
-      w.1,
-      w.2,
-      w.4,
-      sym w.7,
-      sym w.8,
-      record { is = w.3; start = refl; end = refl; goes_on = ap (λ (u : Cursor). u.mark) w.6 },
-    )))))
 
 -- ## Block scalars
 

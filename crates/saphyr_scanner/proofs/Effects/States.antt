@@ -7,11 +7,11 @@ use Rattle.saphyr_scalar.specs.Views.Cursor.{Cursor}
 use Rattle.saphyr_scanner.specs.Grammar.Tokens as tokens
 use Rattle.saphyr_scanner.specs.Grammar.Tokens.{Kind}
 use Rattle.saphyr_scanner.specs.Steps.Queue.{empty_piece}
-use Rattle.saphyr_scanner.specs.Steps.Core.{Core, Steps, at_mark, in_block}
-use Rattle.saphyr_scanner.specs.Steps.State.{State, carried, with_core, with_action, acted}
-use Rattle.saphyr_scanner.specs.Steps.Unrolling.{unroll, end_blocks, end_block, is_right_of, outwards, less_deep}
-use Rattle.saphyr_scanner.proofs.Blocks.{block_cursor, less_deep_cursor}
-use Rattle.saphyr_scanner.proofs.Ordered.Queue.{Grows, grows_grows, core_grows, performed, put_grows}
+use Rattle.saphyr_scanner.specs.Steps.Core.{Core, StepResult, at_mark, in_block}
+use Rattle.saphyr_scanner.specs.Steps.State.{State, on_core, with_core, with_action, after_step}
+use Rattle.saphyr_scanner.specs.Steps.Unrolling.{unroll, end_blocks, end_block, is_right_of, with_outer_indent, go_less_deep}
+use Rattle.saphyr_scanner.proofs.Blocks.{block_cursor, go_less_deep_cursor}
+use Rattle.saphyr_scanner.proofs.Ordered.Queue.{GrowsInOrder, grows_grows, core_grows, performed, put_grows}
 use Rattle.saphyr_scanner.proofs.Added.Queue.{PlacesGoOn, place_goes_on, at_most_one, one_at_most, open_blocks, due, performed_goes_on, tokens_put, tokens_performed}
 use Rattle.saphyr_scanner.proofs.Effects.Readers.{Readers, ReaderEnds}
 use Rattle.saphyr_scanner.proofs.Effects.Steps.{EffectAt, Goes, goes_none}
@@ -21,15 +21,16 @@ use Rattle.saphyr_scalar.proofs.Given.{Given}
 -- ## Tokens are fetched
 
 -- from s to t k tokens are: each takes a character off at least, and makes five tokens due at most
-pub record Advances (k : ℕ) (s t : State) : Type 0 where
+pub record FetchesTokens (k : ℕ) (s t : State) : Type 0 where
   pub less : Readers → length t.core.cursor.rest + k ≤ length s.core.cursor.rest
-  pub grows : ReaderEnds → Grows s t
+  pub grows : ReaderEnds → GrowsInOrder s t
   pub started : t.core.started ≡ s.core.started
   pub ended : t.core.ended ≡ s.core.ended
   pub goes_on : PlacesGoOn s.queue.places → PlacesGoOn t.queue.places
   pub few : due t ≤ due s + 5 * k
 
-pub advances_advances : (k l : ℕ) (s t u : State) → Advances k s t → Advances l t u → Advances (k + l) s u
+pub advances_advances : (k l : ℕ) (s t u : State) → FetchesTokens k s t → FetchesTokens l t u
+    → FetchesTokens (k + l) s u
 advances_advances k l s t u a b = record {
   less = λ laws. let x = a.less laws in let y = b.less laws in omega (arith, x, y);
   grows = λ laws. grows_grows s t u (a.grows laws) (b.grows laws);
@@ -40,9 +41,9 @@ advances_advances k l s t u a b = record {
 }
 
 -- the queue stays as it is
-pub carried_advances : (s : State) (r : Result Core Refusal) → Given (Goes 0 s.core.cursor s.core) r
-    → Given (Advances 0 s) (carried r s.queue)
-carried_advances s (Ok d) g = record {
+pub on_core_fetches : (s : State) (r : Result Core Refusal) → Given (Goes 0 s.core.cursor s.core) r
+    → Given (FetchesTokens 0 s) (on_core r s.queue)
+on_core_fetches s (Ok d) g = record {
   less = λ _. omega (arith, g.0.later, g.0.counted);
   grows = λ _. core_grows s (with_core d s) g.0 refl;
   started = g.1.0;
@@ -50,14 +51,14 @@ carried_advances s (Ok d) g = record {
   goes_on = λ h. h;
   few = let x = g.1.2 in omega (arith, x);
 }
-carried_advances s (Err e) g = tt
+on_core_fetches s (Err e) g = tt
 
-advances_none : (s : State) → Advances 0 s s
-advances_none s = carried_advances s (Ok s.core) (goes_none s.core)
+advances_none : (s : State) → FetchesTokens 0 s s
+advances_none s = on_core_fetches s (Ok s.core) (goes_none s.core)
 
-pub acted_advances : (n : ℕ) (s : State) (r : Steps) → Given (EffectAt n s.core) r
-    → Given (Advances 1 s) (acted r s.queue)
-acted_advances n s (Ok x) h = record {
+pub after_step_fetches : (n : ℕ) (s : State) (r : StepResult) → Given (EffectAt n s.core) r
+    → Given (FetchesTokens 1 s) (after_step r s.queue)
+after_step_fetches n s (Ok x) h = record {
   less = λ laws. let l = h.less laws in omega (arith, l);
   grows = λ laws.
       record {
@@ -70,7 +71,7 @@ acted_advances n s (Ok x) h = record {
   goes_on = λ k. performed_goes_on x.actions s.queue k h.goes_on;
   few = let y = h.few in let z = tokens_performed x.actions s.queue in omega (arith, y, z);
 }
-acted_advances n s (Err e) h = tt
+after_step_fetches n s (Err e) h = tt
 
 -- ## Block collections end
 
@@ -86,7 +87,7 @@ is_open column (suc n) e = refl
 -- the token of its end was due
 end_advances : (m : Marker) (s : State) (d : Core) → m.index ≡ s.core.cursor.mark.index → d.cursor ≡ s.core.cursor
     → d.started ≡ s.core.started → d.ended ≡ s.core.ended → open_blocks d + 1 ≤ open_blocks s.core
-    → Advances 0 s (with_action (at_mark m tokens.BlockEnd) (with_core d s))
+    → FetchesTokens 0 s (with_action (at_mark m tokens.BlockEnd) (with_core d s))
 end_advances m s d i e b f fewer = record {
   less = λ _. let l = ap (λ (c : Cursor). length c.rest) e in omega (arith, l);
   grows = λ _. put_grows s m tokens.BlockEnd d e i;
@@ -97,42 +98,43 @@ end_advances m s d i e b f fewer = record {
 }
 
 block_advances : (m : Marker) (s : State) → m.index ≡ s.core.cursor.mark.index → at_most_one s.core.indent ≡ 1
-    → Advances 0 s (end_block m s)
+    → FetchesTokens 0 s (end_block m s)
 block_advances m s i e = at s.core.outer_indents refl
   where
     at : (is : List ℕ) → s.core.outer_indents ≡ is
-        → Advances 0 s (with_core (outwards is s.core) (with_action (at_mark m tokens.BlockEnd) s))
-    at [] l = end_advances m s (outwards [] s.core) i refl refl refl (omega (arith, e))
+        → FetchesTokens 0 s (with_core (with_outer_indent is s.core) (with_action (at_mark m tokens.BlockEnd) s))
+    at [] l = end_advances m s (with_outer_indent [] s.core) i refl refl refl (omega (arith, e))
     at (x ∷ is) l =
-        end_advances m s (outwards (x ∷ is) s.core) i refl refl refl
+        end_advances m s (with_outer_indent (x ∷ is) s.core) i refl refl refl
         (let k = one_at_most x in let n = ap length l in omega (arith, e, k, n))
 
 pub same_index : (m : Marker) (s t : Cursor) → t ≡ s → m.index ≡ s.mark.index → m.index ≡ t.mark.index
 same_index m s t e i = i ∙ ap (λ (c : Cursor). c.mark.index) (sym e)
 
 blocks_advance : (column : Option ℕ) (m : Marker) (is : List ℕ) (s : State) → m.index ≡ s.core.cursor.mark.index
-    → Advances 0 s (end_blocks column m is s)
+    → FetchesTokens 0 s (end_blocks column m is s)
 blocks_advance column m [] s i =
-    by_test (is_right_of column s.core.indent) _ _ (Advances 0 s)
+    by_test (is_right_of column s.core.indent) _ _ (FetchesTokens 0 s)
     (λ e. block_advances m s i (is_open column s.core.indent e)) (λ _. advances_none s)
 blocks_advance column m (x ∷ is) s i =
-    by_test (is_right_of column s.core.indent) _ _ (Advances 0 s)
+    by_test (is_right_of column s.core.indent) _ _ (FetchesTokens 0 s)
     (λ e. advances_advances 0 0 s (end_block m s) _ (block_advances m s i (is_open column s.core.indent e))
     (blocks_advance column m is (end_block m s)
     (same_index m s.core.cursor (end_block m s).core.cursor (block_cursor m s) i)))
     (λ _. advances_none s)
 
-less_deep_goes : (column : Option ℕ) (c : Core) → Goes 0 c.cursor c (less_deep column c)
-less_deep_goes None c = goes_none c
-less_deep_goes (Some column) c = goes_none c
+go_less_deep_goes : (column : Option ℕ) (c : Core) → Goes 0 c.cursor c (go_less_deep column c)
+go_less_deep_goes None c = goes_none c
+go_less_deep_goes (Some column) c = goes_none c
 
 pub unroll_advances : (column : Option ℕ) (m : Marker) (s : State) → m.index ≡ s.core.cursor.mark.index
-    → Advances 0 s (unroll column m s)
+    → FetchesTokens 0 s (unroll column m s)
 unfolding unroll
 unroll_advances column m s i =
-    let t : State = with_core (less_deep column s.core) s in
-    by_test (in_block s.core) _ _ (Advances 0 s)
-    (λ _. advances_advances 0 0 s t _ (carried_advances s (Ok (less_deep column s.core)) (less_deep_goes column s.core))
+    let t : State = with_core (go_less_deep column s.core) s in
+    by_test (in_block s.core) _ _ (FetchesTokens 0 s)
+    (λ _. advances_advances 0 0 s t _ (on_core_fetches s (Ok (go_less_deep column s.core))
+    (go_less_deep_goes column s.core))
     (blocks_advance column m s.core.outer_indents t
-    (same_index m s.core.cursor t.core.cursor (less_deep_cursor column s.core) i)))
+    (same_index m s.core.cursor t.core.cursor (go_less_deep_cursor column s.core) i)))
     (λ _. advances_none s)

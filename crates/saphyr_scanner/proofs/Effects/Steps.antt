@@ -9,11 +9,11 @@ use Rattle.saphyr_scalar.specs.declared.scalar.position.Marker.{Marker}
 use Rattle.saphyr_scalar.specs.Views.Cursor.{Cursor, separation}
 use Rattle.saphyr_scanner.specs.Steps.Gap as gaps
 use Rattle.saphyr_scanner.specs.Steps.Core.{Core, Step, in_block, remove_key, forget_key, drop_far_key, is_too_far, least_column}
-use Rattle.saphyr_scanner.specs.Steps.Passing.{separate, pass_gap, check_comment, goes_on_behind, behind_gap, intercepts}
+use Rattle.saphyr_scanner.specs.Steps.Passing.{separate, pass_gap, check_comment, goes_on_behind, behind_gap, check_comment_of}
 use Rattle.saphyr_scanner.proofs.Counted.{Ahead, stays, ahead_ahead, separation_counted, gap_counted}
 use Rattle.saphyr_scanner.proofs.Effects.Readers.{Readers, ReaderEnds, Less}
 use Rattle.saphyr_scanner.proofs.Ordered.Queue.{PutsInOrder}
-use Rattle.saphyr_scanner.proofs.Taken.Candidates.{Above, Keeps}
+use Rattle.saphyr_scanner.proofs.Taken.Candidates.{Above, KeepsPlacesAbove}
 use Rattle.saphyr_scanner.proofs.Added.Queue.{PutsGoOn, added, open_blocks}
 use Rattle.saphyr_input.proofs.Basics.Booleans.{by_test}
 use Rattle.saphyr_scalar.proofs.Given.{Given, given_bind, given_of}
@@ -30,7 +30,7 @@ pub record EffectAt (n : ℕ) (c : Core) (x : Step) : Type 0 where
   pub ended : x.core.ended ≡ c.ended
   pub goes_on : PutsGoOn x.actions
   pub few : added x.actions + open_blocks x.core ≤ open_blocks c + 5
-  pub keeps : (h : ℕ) → (h ≤ n) × Above h c → Keeps h x
+  pub keeps : (h : ℕ) → (h ≤ n) × Above h c → KeepsPlacesAbove h x
 
 -- From c to d n block collections begin at most, the stream neither begins nor ends, and nothing more may be a key.
 abbrev pub Begins : ℕ → Core → Core → Type 0
@@ -62,23 +62,23 @@ separate_goes n s c d g =
       g.1,
     ))
 
-intercepts_goes : (n : ℕ) (s : Cursor) (c : Core) (m : Option Marker) (d : Core) → Goes n s c d
-    → Given (Goes n s c) (intercepts m d)
-intercepts_goes n s c None d g = g
-intercepts_goes n s c (Some m) d g =
+check_comment_of_goes : (n : ℕ) (s : Cursor) (c : Core) (m : Option Marker) (d : Core) → Goes n s c d
+    → Given (Goes n s c) (check_comment_of m d)
+check_comment_of_goes n s c None d g = g
+check_comment_of_goes n s c (Some m) d g =
     by_test (goes_on_behind m (record d { comment = None })) _ _ (Given (Goes n s c)) (λ _. tt) (λ _. g)
 
 check_goes : (n : ℕ) (s : Cursor) (c d : Core) → Goes n s c d → Given (Goes n s c) (check_comment d)
 unfolding check_comment
-check_goes n s c d g = intercepts_goes n s c d.comment d g
+check_goes n s c d g = check_comment_of_goes n s c d.comment d g
 
 pub gap_goes : (n : ℕ) (s : Cursor) (c d : Core) → Goes n s c d → Given (Goes n s c) (pass_gap d)
 unfolding pass_gap
 gap_goes n s c d g =
-    given_bind (Goes n s c) (gaps.passed_gap (least_column d) d.cursor) _ (λ p e.
+    given_bind (Goes n s c) (gaps.whole_gap (least_column d) d.cursor) _ (λ p e.
     check_goes n s c (behind_gap d p) (
       ahead_ahead s d.cursor p.cursor g.0
-          (given_of (λ (q : gaps.Passed). Ahead d.cursor q.cursor) (gaps.passed_gap (least_column d) d.cursor) p
+          (given_of (λ (q : gaps.GapEnd). Ahead d.cursor q.cursor) (gaps.whole_gap (least_column d) d.cursor) p
           (gap_counted (least_column d) false false d.cursor) e),
       g.1,
     ))

@@ -10,14 +10,15 @@ use Rattle.saphyr_scanner.specs.declared.queue.Opening.{Opening}
 use Rattle.saphyr_scanner.specs.declared.queue.Opening.TheVariants as opening
 use Rattle.saphyr_scanner.specs.Grammar.Tokens as tokens
 use Rattle.saphyr_scanner.specs.Steps.Queue.{empty_piece}
-use Rattle.saphyr_scanner.specs.Steps.Core.{Candidate, Level, Core, Action, Open, at_mark, is_block, in_block, forget_key, go_deeper, is_further, enter_block, with_context}
+use Rattle.saphyr_scanner.specs.Steps.Core.{Core, Action, Open, at_mark, in_block, forget_key, go_deeper, is_further, enter_block, with_context}
+use Rattle.saphyr_scanner.specs.Steps.Level.{Candidate, Level, is_block, begins_pair, behind_colon}
 use Rattle.saphyr_scanner.specs.Steps.Passing.{separate, pass_on, with_cursor}
 use Rattle.saphyr_scanner.specs.Steps.Value as value
 use Rattle.saphyr_scanner.specs.Steps.Fetch as fetching
 use Rattle.saphyr_scanner.specs.TokensTaken as taken
 use Rattle.saphyr_scanner.specs.TokensTaken.{AreApart}
 use Rattle.saphyr_scanner.proofs.Effects.Moves.{Does, and_then, Around, Same, same, lesser, still}
-use Rattle.saphyr_scanner.proofs.Effects.Puts.{empty_reading, Stands, passes, indicated, quiet, block_begins, key_opens}
+use Rattle.saphyr_scanner.proofs.Effects.Puts.{empty_reading, IndicatorStands, passes, indicated, quiet, block_begins, key_opens}
 use Rattle.saphyr_scanner.proofs.Effects.Puts.{mapping_opens}
 use Rattle.saphyr_scanner.proofs.Effects.Walked.{Premises, Walked, walked_then, walked_map, at_most, Doing, at_reach}
 use Rattle.saphyr_scanner.proofs.Effects.Walked.{separate_walked}
@@ -89,8 +90,8 @@ colon_does e d u first a s there =
 
 key_does : (b c d : Core) (k : Candidate) (begins : Bool) → slice_index c.cursor.rest 0 ≡ 58 → Behind c d
     → (begins ≡ true → in_block d ≡ false) → d.level.key ≡ Some k
-    → Walked (Premises b) (Doing None c) c.cursor (value.of_key k begins c.cursor.mark d)
-unfolding value.of_key
+    → Walked (Premises b) (Doing None c) c.cursor (value.value_of_key k begins c.cursor.mark d)
+unfolding value.value_of_key
 key_does b c d k begins first g flows is =
     let s = c.cursor in
     let u = d.cursor in
@@ -120,8 +121,8 @@ key_does b c d k begins first g flows is =
 -- ## Without a key
 
 alone_does : (b c d : Core) (begins : Bool) → slice_index c.cursor.rest 0 ≡ 58 → Behind c d → d.level.key ≡ None
-    → Walked (Premises b) (Doing None c) c.cursor (value.alone begins c.cursor.mark d)
-unfolding value.alone value.begin_alone
+    → Walked (Premises b) (Doing None c) c.cursor (value.value_alone begins c.cursor.mark d)
+unfolding value.value_alone value.opening_actions
 alone_does b c d begins first g none =
     let s = c.cursor in
     let u = d.cursor in
@@ -156,11 +157,11 @@ unfolding value.behind_key
 either_does b c d (Some k) begins e first g flows = key_does b c d k begins first g flows e
 either_does b c d None begins e first g flows = alone_does b c d begins first g e
 
-colon_block : (x : Context) → is_block (value.behind_colon x) ≡ is_block x
+colon_block : (x : Context) → is_block (behind_colon x) ≡ is_block x
 colon_block context.FlowSequence = refl
 colon_block _ = refl
 
-pair_flows : (x : Context) → value.begins_pair x ≡ true → is_block (value.behind_colon x) ≡ false
+pair_flows : (x : Context) → begins_pair x ≡ true → is_block (behind_colon x) ≡ false
 pair_flows context.FlowSequence e = refl
 pair_flows context.FlowPair e = refl
 pair_flows context.Block e = absurd (cc)
@@ -170,9 +171,9 @@ pub value_does : (c : Core) → slice_index c.cursor.rest 0 ≡ 58
     → Walked (Premises c) (Doing None c) c.cursor (value.value_steps c)
 unfolding value.value_steps
 value_does c first =
-    let v : Core = with_context (value.behind_colon c.level.context) c in
-    let begins = value.begins_pair c.level.context in
-    let stands : Stands 58 c.cursor = record { some = refl; unbroken = refl; is = first } in
+    let v : Core = with_context (behind_colon c.level.context) c in
+    let begins = begins_pair c.level.context in
+    let stands : IndicatorStands 58 c.cursor = record { some = refl; unbroken = refl; is = first } in
     walked_then (Premises c) (Behind v) (Doing None c) c.cursor (value.check_tab (pass_on 1 v)) _
     (tab_walked c v (passes 58 c.cursor stands)) (λ d g.
     walked_map (Premises c) (Doing None v) (Doing None c) c.cursor _

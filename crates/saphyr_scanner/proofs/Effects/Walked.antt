@@ -8,19 +8,19 @@ use Rattle.saphyr_scalar.specs.declared.scalar.fault.Refusal.{Refusal}
 use Rattle.saphyr_scalar.specs.RefusedInside.{IsRefusedInside}
 use Rattle.saphyr_scalar.specs.Views.Cursor.{Cursor, fresh, ◌>>=◌, separation}
 use Rattle.saphyr_scanner.specs.Steps.Queue.{Queue, next}
-use Rattle.saphyr_scanner.specs.Steps.Core.{Core, Action, Step, Steps, perform, in_block, least_column}
+use Rattle.saphyr_scanner.specs.Steps.Core.{Core, Action, Step, StepResult, perform, in_block, least_column}
 use Rattle.saphyr_scanner.specs.Steps.Gap as gaps
 use Rattle.saphyr_scanner.specs.Steps.Passing.{separate, with_cursor, pass_gap, check_comment, goes_on_behind}
-use Rattle.saphyr_scanner.specs.Steps.Passing.{behind_gap, intercepts}
+use Rattle.saphyr_scanner.specs.Steps.Passing.{behind_gap, check_comment_of}
 use Rattle.saphyr_scanner.specs.TokensTaken.{AreApart}
 use Rattle.saphyr_scanner.proofs.Effects.Readers.{TextLaws, RefusalLaws}
 use Rattle.saphyr_scanner.proofs.Effects.Steps.{EffectAt}
-use Rattle.saphyr_scanner.proofs.Effects.Moves.{Does, IsBefore, IsNext, Same, same}
+use Rattle.saphyr_scanner.proofs.Effects.Moves.{Does, IsBeforePlace, IsNextPlace, Same, same}
 use Rattle.saphyr_scanner.proofs.GapPlaces.{Refused, gap_refused}
 use Rattle.saphyr_scanner.proofs.LineTails.{OnLine, separation_passes}
 use Rattle.saphyr_scanner.proofs.PlainBehind.{IsNoted}
 use Rattle.saphyr_scanner.proofs.Reached.{passed_reached}
-use Rattle.saphyr_scanner.proofs.Taken.Cores.{Holds}
+use Rattle.saphyr_scanner.proofs.Taken.Cores.{HoldsTaken}
 use Rattle.saphyr_scanner.proofs.Taken.Later.{LaterThan}
 use Rattle.saphyr_scanner.proofs.Taken.Places.{Reaches, At, at_here, at_further, at_reached}
 use Rattle.saphyr_scanner.proofs.Taken.Separated.{gap_apart}
@@ -55,7 +55,7 @@ walked_given A P Q s (Ok x) go h = go x h
 walked_given A P Q s (Err e) go h = tt
 
 does_weaker : {m n : Option ℕ} {k v w : ℕ} {c d : Core} {actions : List Action} → v ≤ w
-    → ((h : ℕ) → IsBefore h n → IsBefore h m) → ((q : Queue) → IsNext n c q → IsNext m c q)
+    → ((h : ℕ) → IsBeforePlace h n → IsBeforePlace h m) → ((q : Queue) → IsNextPlace n c q → IsNextPlace m c q)
     → Does m k v c d actions → Does n k w c d actions
 does_weaker {m} {n} {k} {v} {w} {c} {d} {actions} l before there a = record {
   less = a.less;
@@ -86,10 +86,10 @@ pub record Stepped (n : ℕ) (c : Core) (x : Step) : Type 0 where
   pub effect : EffectAt n c x
   pub fetched : TextLaws → (text : List ℕ) → length text < 2 ^ 63 → (columns : List ℕ) (from : Cursor) (q : Queue)
       → LaterThan (fresh text) from → n ≡ next q → (in_block c ≡ true → c.indent ≤ c.cursor.mark.col + 1)
-      → Holds columns from c q → FetchedStep columns from q x
+      → HoldsTaken columns from c q → FetchedStep columns from q x
   pub noted : c.comment ≡ None → IsNoted x.core.comment x.core.cursor
 
-pub walked_step : (A : Type 0) (n : ℕ) (c : Core) (s : Cursor) (r : Steps) → Walked A (Doing (Some n) c) s r
+pub walked_step : (A : Type 0) (n : ℕ) (c : Core) (s : Cursor) (r : StepResult) → Walked A (Doing (Some n) c) s r
     → Walked A (Stepped n c) s r
 walked_step A n c s r h = walked_map A (Doing (Some n) c) (Stepped n c) s r (λ x d. record {
   effect = record {
@@ -108,7 +108,7 @@ walked_step A n c s r h = walked_map A (Doing (Some n) c) (Stepped n c) s r (λ 
 }) h
 
 -- where no key is saved
-pub unsaved_step : (A : Type 0) (n : ℕ) (c : Core) (s : Cursor) (r : Steps) → Walked A (Doing None c) s r
+pub unsaved_step : (A : Type 0) (n : ℕ) (c : Core) (s : Cursor) (r : StepResult) → Walked A (Doing None c) s r
     → Walked A (Stepped n c) s r
 unsaved_step A n c s r h =
     walked_step A n c s r (walked_map A (Doing None c) (Doing (Some n) c) s r
@@ -146,20 +146,20 @@ pub gap_walked : (b : Core) (s : Cursor) (c : Core) → (Premises b → Reaches 
     → Walked (Premises b) (λ (d : Core). Same c d × AreApart c.cursor d.cursor) s (pass_gap c)
 unfolding pass_gap check_comment
 gap_walked b s c a none =
-    by (gaps.passed_gap (least_column c) c.cursor) (gap_apart (least_column c) false false c.cursor)
+    by (gaps.whole_gap (least_column c) c.cursor) (gap_apart (least_column c) false false c.cursor)
     (gap_refused (least_column c) c.cursor.mark c.cursor.blank_so_far false false c.cursor.rest)
   where
     checked : (o : Option Marker) (d : Core) → Same c d → AreApart c.cursor d.cursor → (Premises b → o ≡ None)
-        → Walked (Premises b) (λ (e : Core). Same c e × AreApart c.cursor e.cursor) s (intercepts o d)
+        → Walked (Premises b) (λ (e : Core). Same c e × AreApart c.cursor e.cursor) s (check_comment_of o d)
     checked None d m p n = (m, p)
     checked (Some k) d m p n =
         by_test (goes_on_behind k (record d { comment = None })) _ _
         (Walked (Premises b) (λ (e : Core). Same c e × AreApart c.cursor e.cursor) s)
         (λ _ laws. absurd (let no = n laws in cc)) (λ _. ((m.0, m.1, λ _. refl), p))
 
-    by : (r : Result gaps.Passed Refusal) → Given (λ (p : gaps.Passed). AreApart c.cursor p.cursor) r
+    by : (r : Result gaps.GapEnd Refusal) → Given (λ (p : gaps.GapEnd). AreApart c.cursor p.cursor) r
         → Refused c.cursor.mark c.cursor.rest r
         → Walked (Premises b) (λ (d : Core). Same c d × AreApart c.cursor d.cursor) s
-        (r >>= λ g. intercepts (behind_gap c g).comment (behind_gap c g))
+        (r >>= λ g. check_comment_of (behind_gap c g).comment (behind_gap c g))
     by (Ok g) h k = checked c.comment (behind_gap c g) (refl, refl, λ n. n) h none
     by (Err e) h k = λ laws. at_further s c.cursor e.mark (a laws) (at_reached c.cursor e.mark k.0 k.1)

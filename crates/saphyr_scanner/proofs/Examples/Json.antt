@@ -4,14 +4,24 @@ use Rattle.saphyr_scanner.specs.Grammar.Json.{IsUnescaped, IsJsonNumber, IsStrin
 use Rattle.saphyr_scanner.specs.Examples.Forests.{json_text, json_forest, json_array, json_object}
 
 -- the letter a stands for itself
-unescaped : IsUnescaped 97
-unescaped = (inl (omega arith), omega arith, (λ e. omega arith), (λ e. omega arith))
+letter_unescaped : IsUnescaped 97
+letter_unescaped = (inl (omega arith), omega arith, (λ e. omega arith), (λ e. omega arith))
 
 name_is_string : IsString (codes "a") (codes "\"a\"")
-name_is_string = (codes "a", (codes "a", [], inl (unescaped, refl), refl, refl), refl)
+name_is_string = (codes "a", (codes "a", [], inl (letter_unescaped, refl), refl, refl), refl)
 
-number : IsJsonNumber (codes "1")
-number = ([], codes "1", [], [], inl refl, inr (49, [], (omega arith, omega arith), tt, refl), inl refl, inl refl, refl)
+json_number : IsJsonNumber (codes "1")
+json_number = (
+  [],
+  codes "1",
+  [],
+  [],
+  inl refl,
+  inr (49, [], (omega arith, omega arith), tt, refl),
+  inl refl,
+  inl refl,
+  refl,
+)
 
 array : IsValue json_array (codes "[1,true]")
 array = (
@@ -23,7 +33,7 @@ array = (
   (
     codes "1",
     codes ",true",
-    (refl, inr (inr (inr number)), refl),
+    (refl, inr (inr (inr json_number)), refl),
     (codes ",", codes "true", [], ([], [], tt, tt, refl), (refl, inl refl, refl), refl, refl),
     refl,
   ),

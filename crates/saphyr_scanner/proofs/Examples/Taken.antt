@@ -2,10 +2,10 @@
 use Rattle.std.proofs.Common.{codes}
 use Rattle.saphyr_scanner.specs.Examples.Forests.{brackets_tokens}
 use Rattle.saphyr_scanner.specs.TokensTaken.{AreTakenFrom}
-use Rattle.saphyr_scanner.proofs.Examples.TokenTexts.{no_token, here, whole, stream_start, stream_end_behind, no_tail}
-use Rattle.saphyr_scanner.proofs.Examples.TokenTexts.{open_bracket, close_bracket}
+use Rattle.saphyr_scanner.proofs.Examples.TokenTexts.{no_token, here, whole, stream_start_taken, stream_end_behind_taken, no_tail}
+use Rattle.saphyr_scanner.proofs.Examples.TokenTexts.{open_bracket_taken, close_bracket_taken}
 
 pub takes_brackets : AreTakenFrom (codes "[]") brackets_tokens
 takes_brackets =
-    whole (here stream_start
-    (here (open_bracket no_tail) (here (close_bracket no_tail) (here stream_end_behind no_token))))
+    whole (here stream_start_taken
+    (here (open_bracket_taken no_tail) (here (close_bracket_taken no_tail) (here stream_end_behind_taken no_token))))

@@ -11,9 +11,9 @@ use Rattle.saphyr_scanner.specs.Grammar.Tokens as tokens
 use Rattle.saphyr_scanner.specs.TokensTaken.{AreTakenFrom}
 use Rattle.saphyr_scanner.specs.Examples.TakenTexts as texts
 use Rattle.saphyr_scanner.specs.Examples.TakenTexts.{marker_at}
-use Rattle.saphyr_scanner.proofs.Examples.TokenTexts.{from_to, TokenText, no_token, here, behind_blank, whole}
-use Rattle.saphyr_scanner.proofs.Examples.TokenTexts.{stream_start, stream_end, mapping_start, block_end, key, colon}
-use Rattle.saphyr_scanner.proofs.Examples.TokenTexts.{plain, document_start, letter_a, char, feed}
+use Rattle.saphyr_scanner.proofs.Examples.TokenTexts.{span_from_to, TokenText, no_token, here, behind_blank, whole}
+use Rattle.saphyr_scanner.proofs.Examples.TokenTexts.{stream_start_taken, stream_end_taken, mapping_start_taken, block_end_taken, key_taken, colon_taken}
+use Rattle.saphyr_scanner.proofs.Examples.TokenTexts.{plain_taken, document_start_taken, letter_a, char, feed}
 
 -- a header with nothing behind its indicators
 header : (n : ℕ) (chomping : Chomping) (behind : List ℕ) (mark : ℕ) (indicators : List ℕ)
@@ -27,7 +27,7 @@ header n chomping behind mark indicators h e = (mark, indicators, [], codes "\n"
 pub takes_literal : AreTakenFrom (codes "--- |\n a\n") texts.literal
 unfolding encode
 takes_literal =
-    let scalar : TokenText 0 (tokens.Scalar Literal (codes "a\n")) (from_to (marker_at 7 2 1) (marker_at 9 3 0))
+    let scalar : TokenText 0 (tokens.Scalar Literal (codes "a\n")) (span_from_to (marker_at 7 2 1) (marker_at 9 3 0))
     (marker_at 4 1 4) (codes "|\n a\n") (marker_at 9 3 0) [] =
     record {
       holds = record {
@@ -56,14 +56,15 @@ takes_literal =
         end = refl;
       };
     } in
-    whole (here stream_start (here (document_start refl refl) (behind_blank scalar (here stream_end no_token))))
+    whole (here stream_start_taken (here (document_start_taken refl refl)
+    (behind_blank scalar (here stream_end_taken no_token))))
 
 pub takes_indentation : AreTakenFrom (codes "a: >1-\n  b\n c\n") texts.indentation
 unfolding encode
 takes_indentation =
     let inside_c : AreInside true (codes " c\n") [] =
     (refl, (λ e. refl), (refl, (λ e. refl), (refl, (λ e. refl), tt))) in
-    let scalar : TokenText 1 (tokens.Scalar Folded (codes " b\nc")) (from_to (marker_at 8 2 1) (marker_at 14 4 0))
+    let scalar : TokenText 1 (tokens.Scalar Folded (codes " b\nc")) (span_from_to (marker_at 8 2 1) (marker_at 14 4 0))
     (marker_at 3 1 3) (codes ">1-\n  b\n c\n") (marker_at 14 4 0) [] =
     record {
       holds = record {
@@ -94,5 +95,6 @@ takes_indentation =
         end = refl;
       };
     } in
-    whole (here stream_start (here (mapping_start refl) (here key (here (plain letter_a refl refl refl refl) (here colon
-    (behind_blank scalar (here block_end (here stream_end no_token))))))))
+    whole (here stream_start_taken (here (mapping_start_taken refl)
+    (here key_taken (here (plain_taken letter_a refl refl refl refl) (here colon_taken
+    (behind_blank scalar (here block_end_taken (here stream_end_taken no_token))))))))

@@ -8,10 +8,10 @@ use Rattle.saphyr_scanner.specs.TokensTaken as taken
 use Rattle.saphyr_scanner.specs.TokensTaken.{AreTakenFrom}
 use Rattle.saphyr_scanner.specs.Examples.TakenTexts as texts
 use Rattle.saphyr_scanner.specs.Examples.TakenTexts.{marker_at}
-use Rattle.saphyr_scanner.proofs.Examples.TokenTexts.{cursor, Tokens, no_token, here, behind_blank, behind_feed, whole}
-use Rattle.saphyr_scanner.proofs.Examples.TokenTexts.{stream_start, stream_end, mapping_start, key, colon, plain}
-use Rattle.saphyr_scanner.proofs.Examples.TokenTexts.{document_start, document_end, byte_order_mark, letter_a, letter_b}
-use Rattle.saphyr_scanner.proofs.Examples.TokenTexts.{tag_directive, tag, letter_v}
+use Rattle.saphyr_scanner.proofs.Examples.TokenTexts.{cursor_here, Tokens, no_token, here, behind_blank, behind_feed, whole}
+use Rattle.saphyr_scanner.proofs.Examples.TokenTexts.{stream_start_taken, stream_end_taken, mapping_start_taken, key_taken, colon_taken, plain_taken}
+use Rattle.saphyr_scanner.proofs.Examples.TokenTexts.{document_start_taken, document_end_taken, byte_order_mark_taken, letter_a, letter_b}
+use Rattle.saphyr_scanner.proofs.Examples.TokenTexts.{tag_directive_taken, tag_taken, letter_v}
 
 -- one character that stands for itself
 pub decodes_itself : (set : ℕ → Bool) (c : ℕ) → IsTrue (set c) → c ≢ 37 → IsDecoded set (c ∷ []) (c ∷ [])
@@ -22,8 +22,8 @@ handle_e = inr (codes "e", (refl, tt), refl)
 
 prefix_t : IsPrefix (codes "t:") (codes "t:")
 prefix_t =
-    let colon = decodes_itself is_uri_char 58 refl (λ e. omega arith) in
-    (codes "t", codes ":", inl (refl, (λ e. omega arith), refl), colon, refl)
+    let colon_taken = decodes_itself is_uri_char 58 refl (λ e. omega arith) in
+    (codes "t", codes ":", inl (refl, (λ e. omega arith), refl), colon_taken, refl)
 
 directive_e : IsReadTagDirective (codes "!e!") (codes "t:") (codes "%TAG !e! t:")
 directive_e = (codes " ", codes " ", codes "t:", ((λ e. cc), (refl, tt)), (refl, tt), handle_e, prefix_t, refl)
@@ -34,23 +34,25 @@ tag_e = inr (inr (codes "u", handle_e, (λ e. cc), decodes_itself is_tag_char 11
 pub takes_tag : AreTakenFrom (codes "%TAG !e! t:\n--- !e!u v\n") texts.tag_tokens
 unfolding encode
 takes_tag =
-    whole (here stream_start (here (tag_directive (codes "!e!") (codes "t:") _ directive_e refl refl refl refl)
-    (behind_feed (document_start refl refl) (behind_blank (tag _ (codes "!e!") (codes "u") tag_e refl refl)
-    (behind_blank (plain letter_v refl refl refl refl) (behind_feed stream_end no_token))))))
+    whole (here stream_start_taken (here (tag_directive_taken (codes "!e!") (codes "t:") _ directive_e refl refl refl
+    refl)
+    (behind_feed (document_start_taken refl refl) (behind_blank (tag_taken _ (codes "!e!") (codes "u") tag_e refl refl)
+    (behind_blank (plain_taken letter_v refl refl refl refl) (behind_feed stream_end_taken no_token))))))
 
 pub takes_byte_order_mark : AreTakenFrom (codes "\u{feff}a\n...\n") texts.byte_order_mark_tokens
 unfolding encode
 takes_byte_order_mark =
-    whole (here stream_start (here (byte_order_mark refl) (here (plain letter_a refl refl refl refl)
-    (behind_feed (document_end refl refl) (behind_feed stream_end no_token)))))
+    whole (here stream_start_taken (here (byte_order_mark_taken refl) (here (plain_taken letter_a refl refl refl refl)
+    (behind_feed (document_end_taken refl refl) (behind_feed stream_end_taken no_token)))))
 
 pub takes_refusal : AreTakenFrom (codes "a: b: c") texts.refusal
 unfolding encode
 takes_refusal =
     let h : Tokens [] texts.refusal.pieces (marker_at 0 1 0) (codes "a: b: c") (marker_at 4 1 4) (codes ": c") =
-    here stream_start (here (mapping_start refl) (here key (here (plain letter_a refl refl refl refl)
-    (here colon (behind_blank (plain letter_b refl refl refl refl) no_token))))) in
-    let end = cursor (codes ": c") (marker_at 4 1 4) in (
+    here stream_start_taken (here (mapping_start_taken refl)
+    (here key_taken (here (plain_taken letter_a refl refl refl refl)
+    (here colon_taken (behind_blank (plain_taken letter_b refl refl refl refl) no_token))))) in
+    let end = cursor_here (codes ": c") (marker_at 4 1 4) in (
       end,
       h.holds,
       (

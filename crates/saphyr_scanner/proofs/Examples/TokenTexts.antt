@@ -31,22 +31,22 @@ use Rattle.saphyr_scanner.specs.TokensTaken.{least_column_in}
 use Rattle.saphyr_scanner.specs.TokensTaken.{AreTokens, IsPlaceOf, AreTakenFrom}
 use Rattle.saphyr_scanner.specs.Examples.TakenTexts.{marker_at}
 
-abbrev pub cursor : List ℕ → Marker → Cursor
-cursor rest m = record { rest = rest; mark = m; blank_so_far = true }
+abbrev pub cursor_here : List ℕ → Marker → Cursor
+cursor_here rest m = record { rest = rest; mark = m; blank_so_far = true }
 
-abbrev pub from_to : Marker → Marker → Span
-from_to start end = record { start = start; end = end }
+abbrev pub span_from_to : Marker → Marker → Span
+span_from_to start end = record { start = start; end = end }
 
 -- ## Tokens in a row
 
 -- from m, where t stands, to n, where u stands
 pub record Tokens (columns : List ℕ) (ps : List Piece) (m : Marker) (t : List ℕ) (n : Marker) (u : List ℕ) :
     Type 0 where
-  pub holds : AreTokens columns ps (cursor t m) (cursor u n)
+  pub holds : AreTokens columns ps (cursor_here t m) (cursor_here u n)
 
 pub record TokenText (least : ℕ) (kind : Kind) (span : Span) (m : Marker) (t : List ℕ) (n : Marker) (u : List ℕ) :
     Type 0 where
-  pub holds : IsToken least kind span (cursor t m) (cursor u n)
+  pub holds : IsToken least kind span (cursor_here t m) (cursor_here u n)
 
 pub no_token : {columns : List ℕ} {m : Marker} {t : List ℕ} → Tokens columns [] m t m t
 no_token = record { holds = refl }
@@ -55,7 +55,7 @@ no_token = record { holds = refl }
 pub behind : {columns t v w u : List ℕ} {p : Piece} {ps : List Piece} {m a b n : Marker} → IsPassedOver m t a v
     → TokenText (least_column_in columns) p.kind p.span a v b w
     → Tokens (open_behind p.kind p.span.start.col columns) ps b w n u → Tokens columns (p ∷ ps) m t n u
-behind {v = v} {w} {a = a} {b} o h r = record { holds = (cursor v a, cursor w b, o, h.holds, r.holds) }
+behind {v = v} {w} {a = a} {b} o h r = record { holds = (cursor_here v a, cursor_here w b, o, h.holds, r.holds) }
 
 pub here : {columns t w u : List ℕ} {p : Piece} {ps : List Piece} {m b n : Marker}
     → TokenText (least_column_in columns) p.kind p.span m t b w
@@ -75,38 +75,40 @@ behind_feed h r = behind (taken.line_break _ _ _ _ refl (taken.nothing _ _)) h r
 -- all of a text
 pub whole : {pieces : List Piece} {text : List ℕ} {n : Marker} → Tokens [] pieces (marker_at 0 1 0) text n []
     → AreTakenFrom text (record { pieces = pieces; refusal = None })
-whole {n = n} h = (cursor [] n, h.holds, refl)
+whole {n = n} h = (cursor_here [] n, h.holds, refl)
 
 -- ## Tokens without a text
 
-pub stream_start : {indent : ℕ} {m : Marker} {t : List ℕ} → TokenText indent tokens.StreamStart (from_to m m) m t m t
-stream_start = record { holds = (refl, inl refl, refl) }
+pub stream_start_taken : {indent : ℕ} {m : Marker} {t : List ℕ}
+    → TokenText indent tokens.StreamStart (span_from_to m m) m t m t
+stream_start_taken = record { holds = (refl, inl refl, refl) }
 
-pub stream_end : {indent : ℕ} {m : Marker} → TokenText indent tokens.StreamEnd (from_to m m) m [] m []
-stream_end = record { holds = (refl, (refl, inl refl, refl)) }
+pub stream_end_taken : {indent : ℕ} {m : Marker} → TokenText indent tokens.StreamEnd (span_from_to m m) m [] m []
+stream_end_taken = record { holds = (refl, (refl, inl refl, refl)) }
 
 -- behind a last line that no break ends
-pub stream_end_behind : {indent : ℕ} {m : Marker}
-    → TokenText indent tokens.StreamEnd (from_to (next_line m 0) (next_line m 0)) m [] m []
-stream_end_behind = record { holds = (refl, (refl, inr (refl, refl), refl)) }
+pub stream_end_behind_taken : {indent : ℕ} {m : Marker}
+    → TokenText indent tokens.StreamEnd (span_from_to (next_line m 0) (next_line m 0)) m [] m []
+stream_end_behind_taken = record { holds = (refl, (refl, inr (refl, refl), refl)) }
 
-pub sequence_start : {indent : ℕ} {m : Marker} {t : List ℕ} → IsTrue (begins_text (slice_index t 0))
-    → TokenText indent tokens.BlockSequenceStart (from_to m m) m t m t
-sequence_start b = record { holds = (refl, refl, refl, b) }
+pub sequence_start_taken : {indent : ℕ} {m : Marker} {t : List ℕ} → IsTrue (begins_text (slice_index t 0))
+    → TokenText indent tokens.BlockSequenceStart (span_from_to m m) m t m t
+sequence_start_taken b = record { holds = (refl, refl, refl, b) }
 
-pub mapping_start : {indent : ℕ} {m : Marker} {t : List ℕ} → IsTrue (begins_text (slice_index t 0))
-    → TokenText indent tokens.BlockMappingStart (from_to m m) m t m t
-mapping_start b = record { holds = (refl, refl, refl, b) }
+pub mapping_start_taken : {indent : ℕ} {m : Marker} {t : List ℕ} → IsTrue (begins_text (slice_index t 0))
+    → TokenText indent tokens.BlockMappingStart (span_from_to m m) m t m t
+mapping_start_taken b = record { holds = (refl, refl, refl, b) }
 
-pub block_end : {indent : ℕ} {m : Marker} {t : List ℕ} → TokenText indent tokens.BlockEnd (from_to m m) m t m t
-block_end = record { holds = (refl, inl refl, refl) }
+pub block_end_taken : {indent : ℕ} {m : Marker} {t : List ℕ}
+    → TokenText indent tokens.BlockEnd (span_from_to m m) m t m t
+block_end_taken = record { holds = (refl, inl refl, refl) }
 
-pub block_end_behind : {indent : ℕ} {m : Marker}
-    → TokenText indent tokens.BlockEnd (from_to (next_line m 0) (next_line m 0)) m [] m []
-block_end_behind = record { holds = (refl, inr (refl, refl), refl) }
+pub block_end_behind_taken : {indent : ℕ} {m : Marker}
+    → TokenText indent tokens.BlockEnd (span_from_to (next_line m 0) (next_line m 0)) m [] m []
+block_end_behind_taken = record { holds = (refl, inr (refl, refl), refl) }
 
-pub key : {indent : ℕ} {m : Marker} {t : List ℕ} → TokenText indent tokens.Key (from_to m m) m t m t
-key = record { holds = inr (refl, inl refl, refl) }
+pub key_taken : {indent : ℕ} {m : Marker} {t : List ℕ} → TokenText indent tokens.Key (span_from_to m m) m t m t
+key_taken = record { holds = inr (refl, inl refl, refl) }
 
 -- ## Indicators
 
@@ -131,59 +133,60 @@ comment_c {t} = record {
   );
 }
 
-lies : {t : List ℕ} {n : ℕ} (m : Marker) → Tail t n → LiesOnLine (cursor t m) (along m n)
+lies : {t : List ℕ} {n : ℕ} (m : Marker) → Tail t n → LiesOnLine (cursor_here t m) (along m n)
 lies m h = let (tail, behind, is, e, l) = h.holds in (tail, behind, is, e, ap (λ k. along m k) (sym l))
 
-indicator : (c n : ℕ) (m : Marker) (t : List ℕ) → Tail t n
-    → IsFlowIndicator c (from_to m (along (along m 1) n)) (cursor (c ∷ t) m) (cursor t (along m 1))
-indicator c n m t h = ((refl, refl), refl, lies (along m 1) h)
+indicator_taken : (c n : ℕ) (m : Marker) (t : List ℕ) → Tail t n
+    → IsFlowIndicator c (span_from_to m (along (along m 1) n)) (cursor_here (c ∷ t) m) (cursor_here t (along m 1))
+indicator_taken c n m t h = ((refl, refl), refl, lies (along m 1) h)
 
-pub open_bracket : {indent n : ℕ} {m : Marker} {t : List ℕ} → Tail t n
-    → TokenText indent tokens.FlowSequenceStart (from_to m (along (along m 1) n)) m (91 ∷ t) (along m 1) t
-open_bracket {n = n} {m} {t} h = record { holds = indicator 91 n m t h }
+pub open_bracket_taken : {indent n : ℕ} {m : Marker} {t : List ℕ} → Tail t n
+    → TokenText indent tokens.FlowSequenceStart (span_from_to m (along (along m 1) n)) m (91 ∷ t) (along m 1) t
+open_bracket_taken {n = n} {m} {t} h = record { holds = indicator_taken 91 n m t h }
 
-pub close_bracket : {indent n : ℕ} {m : Marker} {t : List ℕ} → Tail t n
-    → TokenText indent tokens.FlowSequenceEnd (from_to m (along (along m 1) n)) m (93 ∷ t) (along m 1) t
-close_bracket {n = n} {m} {t} h = record { holds = indicator 93 n m t h }
+pub close_bracket_taken : {indent n : ℕ} {m : Marker} {t : List ℕ} → Tail t n
+    → TokenText indent tokens.FlowSequenceEnd (span_from_to m (along (along m 1) n)) m (93 ∷ t) (along m 1) t
+close_bracket_taken {n = n} {m} {t} h = record { holds = indicator_taken 93 n m t h }
 
-pub open_brace : {indent n : ℕ} {m : Marker} {t : List ℕ} → Tail t n
-    → TokenText indent tokens.FlowMappingStart (from_to m (along (along m 1) n)) m (123 ∷ t) (along m 1) t
-open_brace {n = n} {m} {t} h = record { holds = inl (indicator 123 n m t h) }
+pub open_brace_taken : {indent n : ℕ} {m : Marker} {t : List ℕ} → Tail t n
+    → TokenText indent tokens.FlowMappingStart (span_from_to m (along (along m 1) n)) m (123 ∷ t) (along m 1) t
+open_brace_taken {n = n} {m} {t} h = record { holds = inl (indicator_taken 123 n m t h) }
 
-pub close_brace : {indent n : ℕ} {m : Marker} {t : List ℕ} → Tail t n
-    → TokenText indent tokens.FlowMappingEnd (from_to m (along (along m 1) n)) m (125 ∷ t) (along m 1) t
-close_brace {n = n} {m} {t} h = record { holds = inl (indicator 125 n m t h) }
+pub close_brace_taken : {indent n : ℕ} {m : Marker} {t : List ℕ} → Tail t n
+    → TokenText indent tokens.FlowMappingEnd (span_from_to m (along (along m 1) n)) m (125 ∷ t) (along m 1) t
+close_brace_taken {n = n} {m} {t} h = record { holds = inl (indicator_taken 125 n m t h) }
 
-pub comma : {indent n : ℕ} {m : Marker} {t : List ℕ} → Tail t n
-    → TokenText indent tokens.FlowEntry (from_to m (along (along m 1) n)) m (44 ∷ t) (along m 1) t
-comma {n = n} {m} {t} h = record { holds = indicator 44 n m t h }
+pub comma_taken : {indent n : ℕ} {m : Marker} {t : List ℕ} → Tail t n
+    → TokenText indent tokens.FlowEntry (span_from_to m (along (along m 1) n)) m (44 ∷ t) (along m 1) t
+comma_taken {n = n} {m} {t} h = record { holds = indicator_taken 44 n m t h }
 
 -- a `-` and a blank
-pub dash : {indent : ℕ} {m : Marker} {t : List ℕ} → TokenText indent tokens.BlockEntry
-    (from_to (along (along m 1) 1) (along (along m 1) 1)) m (45 ∷ 32 ∷ t) (along m 1) (32 ∷ t)
-dash {m = m} = record { holds = ((refl, refl), refl, lies (along m 1) blank, refl) }
+pub dash_taken : {indent : ℕ} {m : Marker} {t : List ℕ} → TokenText indent tokens.BlockEntry
+    (span_from_to (along (along m 1) 1) (along (along m 1) 1)) m (45 ∷ 32 ∷ t) (along m 1) (32 ∷ t)
+dash_taken {m = m} = record { holds = ((refl, refl), refl, lies (along m 1) blank, refl) }
 
-pub colon : {indent : ℕ} {m : Marker} {others : List ℕ}
-    → TokenText indent tokens.Value (from_to m m) m (58 ∷ others) (along m 1) others
-colon = record { holds = ((refl, refl), refl, refl) }
+pub colon_taken : {indent : ℕ} {m : Marker} {others : List ℕ}
+    → TokenText indent tokens.Value (span_from_to m m) m (58 ∷ others) (along m 1) others
+colon_taken = record { holds = ((refl, refl), refl, refl) }
 
 -- ## Names, of one character
 
-named : (indicator c : ℕ) (bytes : List ℕ) (m : Marker) (t : List ℕ) → IsTrue (is_anchor_char c)
+name_taken : (indicator c : ℕ) (bytes : List ℕ) (m : Marker) (t : List ℕ) → IsTrue (is_anchor_char c)
     → bytes ≡ encode_utf8_all (c ∷ []) → IsFalse (is_anchor_char (slice_index t 0))
-    → IsNameToken indicator bytes (from_to m (along m 2)) (cursor (indicator ∷ c ∷ t) m) (cursor t (along m 2))
-named indicator c bytes m t h e n =
+    → IsNameToken indicator bytes (span_from_to m (along m 2)) (cursor_here (indicator ∷ c ∷ t) m)
+    (cursor_here t (along m 2))
+name_taken indicator c bytes m t h e n =
     (c ∷ [], ((λ f. cc), (h, tt)), e, record { is = refl; start = refl; end = refl; goes_on = refl }, n)
 
-pub anchor : {indent : ℕ} {m : Marker} {bytes t : List ℕ} (c : ℕ) → IsTrue (is_anchor_char c)
+pub anchor_taken : {indent : ℕ} {m : Marker} {bytes t : List ℕ} (c : ℕ) → IsTrue (is_anchor_char c)
     → bytes ≡ encode_utf8_all (c ∷ []) → IsFalse (is_anchor_char (slice_index t 0))
-    → TokenText indent (tokens.Anchor bytes) (from_to m (along m 2)) m (38 ∷ c ∷ t) (along m 2) t
-anchor {m = m} {bytes} {t} c h e n = record { holds = named 38 c bytes m t h e n }
+    → TokenText indent (tokens.Anchor bytes) (span_from_to m (along m 2)) m (38 ∷ c ∷ t) (along m 2) t
+anchor_taken {m = m} {bytes} {t} c h e n = record { holds = name_taken 38 c bytes m t h e n }
 
-pub alias : {indent : ℕ} {m : Marker} {bytes t : List ℕ} (c : ℕ) → IsTrue (is_anchor_char c)
+pub alias_taken : {indent : ℕ} {m : Marker} {bytes t : List ℕ} (c : ℕ) → IsTrue (is_anchor_char c)
     → bytes ≡ encode_utf8_all (c ∷ []) → IsFalse (is_anchor_char (slice_index t 0))
-    → TokenText indent (tokens.Alias bytes) (from_to m (along m 2)) m (42 ∷ c ∷ t) (along m 2) t
-alias {m = m} {bytes} {t} c h e n = record { holds = named 42 c bytes m t h e n }
+    → TokenText indent (tokens.Alias bytes) (span_from_to m (along m 2)) m (42 ∷ c ∷ t) (along m 2) t
+alias_taken {m = m} {bytes} {t} c h e n = record { holds = name_taken 42 c bytes m t h e n }
 
 -- ## Scalars
 
@@ -192,12 +195,12 @@ abbrev pub third : Marker → Marker
 third m = along (along (along m 1) 1) 1
 
 -- one character in quotes
-quoted : (quote : Quote) (c n : ℕ) (bytes : List ℕ) (m : Marker) (t : List ℕ) → Tail t n
+in_quotes_taken : (quote : Quote) (c n : ℕ) (bytes : List ℕ) (m : Marker) (t : List ℕ) → Tail t n
     → IsTrue (stands_for_itself quote c) → IsFalse (is_break c) → IsFalse (is_break (mark quote))
     → IsTrue (is_closing quote (mark quote ∷ t)) → bytes ≡ encode_utf8_all (folded (raw_item c ∷ []))
-    → IsQuotedToken quote bytes (from_to m (along (third m) n)) (cursor (mark quote ∷ c ∷ mark quote ∷ t) m)
-    (cursor t (third m))
-quoted quote c n bytes m t h s b q d e = (
+    → IsQuotedToken quote bytes (span_from_to m (along (third m) n)) (cursor_here (mark quote ∷ c ∷ mark quote ∷ t) m)
+    (cursor_here t (third m))
+in_quotes_taken quote c n bytes m t h s b q d e = (
   raw_item c ∷ [],
   (c ∷ mark quote ∷ t, refl, itself quote c (mark quote ∷ t) [] t s (closed quote t d)),
   e,
@@ -208,18 +211,22 @@ quoted quote c n bytes m t h s b q d e = (
   tt,
 )
 
-pub single_quoted : {indent n : ℕ} {bytes t : List ℕ} {m : Marker} (c : ℕ) → Tail t n
+pub single_quoted_taken : {indent n : ℕ} {bytes t : List ℕ} {m : Marker} (c : ℕ) → Tail t n
     → IsTrue (stands_for_itself Single c) → IsFalse (is_break c) → IsTrue (is_closing Single (39 ∷ t))
     → bytes ≡ encode_utf8_all (folded (raw_item c ∷ []))
-    → TokenText indent (tokens.Scalar SingleQuoted bytes) (from_to m (along (third m) n)) m (39 ∷ c ∷ 39 ∷ t) (third m)
+    → TokenText indent (tokens.Scalar SingleQuoted bytes) (span_from_to m (along (third m) n)) m (39 ∷ c ∷ 39 ∷ t)
+    (third m)
     t
-single_quoted {n = n} {bytes} {t} {m} c h s b d e = record { holds = quoted Single c n bytes m t h s b refl d e }
+single_quoted_taken {n = n} {bytes} {t} {m} c h s b d e =
+    record { holds = in_quotes_taken Single c n bytes m t h s b refl d e }
 
-pub double_quoted : {indent n : ℕ} {bytes t : List ℕ} {m : Marker} (c : ℕ) → Tail t n
+pub double_quoted_taken : {indent n : ℕ} {bytes t : List ℕ} {m : Marker} (c : ℕ) → Tail t n
     → IsTrue (stands_for_itself Double c) → IsFalse (is_break c) → bytes ≡ encode_utf8_all (folded (raw_item c ∷ []))
-    → TokenText indent (tokens.Scalar DoubleQuoted bytes) (from_to m (along (third m) n)) m (34 ∷ c ∷ 34 ∷ t) (third m)
+    → TokenText indent (tokens.Scalar DoubleQuoted bytes) (span_from_to m (along (third m) n)) m (34 ∷ c ∷ 34 ∷ t)
+    (third m)
     t
-double_quoted {n = n} {bytes} {t} {m} c h s b e = record { holds = quoted Double c n bytes m t h s b refl refl e }
+double_quoted_taken {n = n} {bytes} {t} {m} c h s b e =
+    record { holds = in_quotes_taken Double c n bytes m t h s b refl refl e }
 
 -- a character that may stand alone as a plain scalar
 pub record IsLetter (c : ℕ) : Type 0 where
@@ -244,11 +251,11 @@ letter_v = record { begins = refl; is_ink = refl; no_indicator = refl; above = o
 absent : (a : Bool) → a ≡ false → IsTrue a → (P : Type 0) → P
 absent a e h P = absurd (let f : false ≡ true = rw e at h in cc)
 
-pub plain : {indent c : ℕ} {m : Marker} {bytes t : List ℕ} → IsLetter c → IsFalse (is_document_indicator (c ∷ t))
+pub plain_taken : {indent c : ℕ} {m : Marker} {bytes t : List ℕ} → IsLetter c → IsFalse (is_document_indicator (c ∷ t))
     → IsTrue (ends_piece (slice_index t 0)) → encode_utf8_all (plain_value (normalized (c ∷ []))) ≡ bytes
     → passed m (c ∷ []) ≡ along m 1
-    → TokenText indent (tokens.Scalar Plain bytes) (from_to m (along m 1)) m (c ∷ t) (along m 1) t
-plain {c = c} {t = t} l d f v e = record {
+    → TokenText indent (tokens.Scalar Plain bytes) (span_from_to m (along m 1)) m (c ∷ t) (along m 1) t
+plain_taken {c = c} {t = t} l d f v e = record {
   holds = record {
     start = refl;
     begins = l.begins;
@@ -291,34 +298,40 @@ feed p = passing.line_break _ _ _ _ refl p
 
 -- ## Tokens that are their spans
 
-pub on_line : {text u : List ℕ} {m : Marker} → IsSpan (from_to m (along m (length text))) text (cursor (text ++ u) m)
-    (cursor u (along m (length text)))
-on_line = record { is = refl; start = refl; end = refl; goes_on = refl }
+pub span_on_line : {text u : List ℕ} {m : Marker}
+    → IsSpan (span_from_to m (along m (length text))) text (cursor_here (text ++ u) m)
+    (cursor_here u (along m (length text)))
+span_on_line = record { is = refl; start = refl; end = refl; goes_on = refl }
 
-pub document_start : {indent : ℕ} {m : Marker} {t : List ℕ} → m.col ≡ 0 → IsTrue (is_document_start (codes "---" ++ t))
-    → TokenText indent tokens.DocumentStart (from_to m (along m 3)) m (codes "---" ++ t) (along m 3) t
-document_start c h = record { holds = (c, h, on_line) }
+pub document_start_taken : {indent : ℕ} {m : Marker} {t : List ℕ} → m.col ≡ 0
+    → IsTrue (is_document_start (codes "---" ++ t))
+    → TokenText indent tokens.DocumentStart (span_from_to m (along m 3)) m (codes "---" ++ t) (along m 3) t
+document_start_taken c h = record { holds = (c, h, span_on_line) }
 
-pub document_end : {indent : ℕ} {m : Marker} {t : List ℕ} → m.col ≡ 0 → IsTrue (is_document_end (codes "..." ++ t))
-    → TokenText indent tokens.DocumentEnd (from_to m (along m 3)) m (codes "..." ++ t) (along m 3) t
-document_end c h = record { holds = (c, h, on_line) }
+pub document_end_taken : {indent : ℕ} {m : Marker} {t : List ℕ} → m.col ≡ 0
+    → IsTrue (is_document_end (codes "..." ++ t))
+    → TokenText indent tokens.DocumentEnd (span_from_to m (along m 3)) m (codes "..." ++ t) (along m 3) t
+document_end_taken c h = record { holds = (c, h, span_on_line) }
 
-pub byte_order_mark : {indent : ℕ} {m : Marker} {t : List ℕ} → m.col ≡ 0
-    → TokenText indent tokens.ByteOrderMark (from_to m (past_mark m)) m (0xFEFF ∷ t) (past_mark m) t
-byte_order_mark c = record { holds = record { is = refl; at_start = c; start = refl; end = refl; goes_on = refl } }
-
--- a handle and a prefix, with nothing behind them on their line
-pub tag_directive : {indent : ℕ} {m : Marker} {front back t : List ℕ} (handle prefix text : List ℕ)
-    → IsReadTagDirective handle prefix text → front ≡ encode_utf8_all handle → back ≡ encode_utf8_all prefix → m.col ≡ 0
-    → IsTrue (is_breakz (slice_index t 0))
-    → TokenText indent (tokens.TagDirective front back) (from_to m (along m (length text))) m (text ++ t)
-    (along m (length text)) t
-tag_directive {t = t} handle prefix text h e f c b = record {
-  holds = (text, [], t, c, (handle, prefix, h, e, f), on_line, ([], [], tt, inl refl, refl), refl, b);
+pub byte_order_mark_taken : {indent : ℕ} {m : Marker} {t : List ℕ} → m.col ≡ 0
+    → TokenText indent tokens.ByteOrderMark (span_from_to m (past_mark m)) m (0xFEFF ∷ t) (past_mark m) t
+byte_order_mark_taken c = record {
+  holds = record { is = refl; at_start = c; start = refl; end = refl; goes_on = refl };
 }
 
-pub tag : {indent : ℕ} {m : Marker} {front back t : List ℕ} (text handle suffix : List ℕ) → IsTagText text handle suffix
-    → front ≡ encode_utf8_all handle → back ≡ encode_utf8_all suffix
-    → TokenText indent (tokens.Tag front back) (from_to m (along m (length text))) m (text ++ t)
+-- a handle and a prefix, with nothing behind them on their line
+pub tag_directive_taken : {indent : ℕ} {m : Marker} {front back t : List ℕ} (handle prefix text : List ℕ)
+    → IsReadTagDirective handle prefix text → front ≡ encode_utf8_all handle → back ≡ encode_utf8_all prefix → m.col ≡ 0
+    → IsTrue (is_breakz (slice_index t 0))
+    → TokenText indent (tokens.TagDirective front back) (span_from_to m (along m (length text))) m (text ++ t)
     (along m (length text)) t
-tag text handle suffix h e f = record { holds = (text, handle, suffix, h, e, f, on_line) }
+tag_directive_taken {t = t} handle prefix text h e f c b = record {
+  holds = (text, [], t, c, (handle, prefix, h, e, f), span_on_line, ([], [], tt, inl refl, refl), refl, b);
+}
+
+pub tag_taken : {indent : ℕ} {m : Marker} {front back t : List ℕ} (text handle suffix : List ℕ)
+    → IsTagText text handle suffix
+    → front ≡ encode_utf8_all handle → back ≡ encode_utf8_all suffix
+    → TokenText indent (tokens.Tag front back) (span_from_to m (along m (length text))) m (text ++ t)
+    (along m (length text)) t
+tag_taken text handle suffix h e f = record { holds = (text, handle, suffix, h, e, f, span_on_line) }

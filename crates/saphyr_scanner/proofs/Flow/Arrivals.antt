@@ -6,15 +6,16 @@ use Rattle.saphyr_input.specs.Places.{is_document_indicator, is_document_start, 
 use Rattle.saphyr_scalar.specs.declared.scalar.position.Marker.{Marker}
 use Rattle.saphyr_scalar.specs.Views.Cursor.{Cursor, ◌>>=◌}
 use Rattle.saphyr_scanner.specs.declared.engine.level.Context.{Context}
-use Rattle.saphyr_scanner.specs.Steps.Gap.{Passed, stop}
+use Rattle.saphyr_scanner.specs.Steps.Gap.{GapEnd, stop}
 use Rattle.saphyr_scanner.specs.Steps.Queue.{Queue}
-use Rattle.saphyr_scanner.specs.Steps.Core.{Candidate, Level, Action, perform, went, is_block, drop_far_key}
+use Rattle.saphyr_scanner.specs.Steps.Core.{Action, perform, completed_step, drop_far_key}
+use Rattle.saphyr_scanner.specs.Steps.Level.{Candidate, Level, is_block}
 use Rattle.saphyr_scanner.specs.Steps.Passing.{pass_gap, check_comment, behind_gap}
-use Rattle.saphyr_scanner.specs.Steps.State.{State, carried, acted}
+use Rattle.saphyr_scanner.specs.Steps.State.{State, on_core, after_step}
 use Rattle.saphyr_scanner.specs.Steps.Unrolling.{unroll}
 use Rattle.saphyr_scanner.specs.Steps.Fetch.{step, state_behind_content, fetch_here, arrive, fetch}
 use Rattle.saphyr_scanner.proofs.Json.States.{queue_of, none_before, stop_here}
-use Rattle.saphyr_scanner.proofs.InFlow.States.{Around, core_at, state_at, least, least_low, not_left, drops_far_key, key_left, left_in_flow, left_or_none, none_unrolls, Deepens, Comes, comes, FlowMoment}
+use Rattle.saphyr_scanner.proofs.InFlow.States.{Around, core_at, state_at, least, least_low, not_left, drops_far_key, key_left, left_in_flow, left_or_none, none_unrolls, Deepens, ComesAround, comes, FlowMoment}
 use Rattle.saphyr_scanner.proofs.Flow.States.{crosses, past, is_filler_rest}
 use Rattle.saphyr_scanner.proofs.Flow.Gaps.{gap_past, no_tab_before}
 use Rattle.saphyr_scanner.proofs.Flow.GapSteps.{past_count}
@@ -46,7 +47,7 @@ passes_gap around s x k ls a ad m y here inked =
           (no_tab_before (is_filler_rest s.rest))
           ∙ ap (λ (p : Marker × List ℕ). stop p.0 g.still_blank g.now_broke false p.1) here
           ∙ stop_here m g.still_blank g.now_broke y in
-          ap (λ r. r >>= λ (p : Passed). check_comment (behind_gap (core_at around d s x k ls a ad) p)) there;
+          ap (λ r. r >>= λ (p : GapEnd). check_comment (behind_gap (core_at around d s x k ls a ad) p)) there;
       same = λ e. rw e (ap (λ (b : Bool). b || a) (and_false g.now_broke));
       fresh = λ e h. let passed =
           g.is stands 0 (none_less around.indent) false (no_tab_before (is_filler_rest s.rest))
@@ -84,7 +85,7 @@ arrives around now m y text inked right calm =
       allowed = g.allowed;
       is = λ d. let reached = ap (λ r. r >>= drop_far_key) (g.is d) ∙ drops_far_key around d there now.context now.key
           now.outer g.allowed now.adjacent calm in
-          ap (λ r. carried r (queue_of now.places) >>= λ (t : State). Ok
+          ap (λ r. on_core r (queue_of now.places) >>= λ (t : State). Ok
           (unroll (Some t.core.cursor.mark.col) t.core.cursor.mark t)) reached
           ∙ ap Ok (none_unrolls around m.col m there now.context left now.outer g.allowed now.adjacent now.places d
           right);
@@ -122,10 +123,11 @@ begins_here around d now h right =
 pub step_comes : (around : Around) (now : FlowMoment) (m : Marker) (y : List ℕ) (v : Arrives around now m y)
     → BeginsToken m y → (next : FlowMoment) (actions : List Action) (to : Bool → Bool) → Deepens around to
     → ((d : Bool) → step (slice_index y 0) (slice_index y 1) (length now.places)
-    (core_at around d (cursor_at y m v.blank) now.context v.key now.outer v.allowed now.adjacent) ≡ went actions
+    (core_at around d (cursor_at y m v.blank) now.context v.key now.outer v.allowed now.adjacent)
+    ≡ completed_step actions
     (core_at around (to d) next.cursor next.context next.key next.outer next.allowed next.adjacent))
     → perform actions (queue_of now.places) ≡ queue_of next.places → next.cursor.mark.index ≤ around.limit
-    → Comes around (state_at around now) next
+    → ComesAround around (state_at around now) next
 unfolding fetch state_behind_content
 step_comes around now m y v h next actions to deepens is done low =
     let seen = cursor_at y m v.blank in
@@ -136,9 +138,9 @@ step_comes around now m y v h next actions to deepens is done low =
       key = v.key;
       allowed = v.allowed;
     }) h v.right in
-    let at_place = ap (λ (n : ℕ). acted (step (slice_index y 0) (slice_index y 1) n c) (queue_of now.places))
+    let at_place = ap (λ (n : ℕ). after_step (step (slice_index y 0) (slice_index y 1) n c) (queue_of now.places))
     (none_before (length now.places)) in
-    let made = ap (λ r. acted r (queue_of now.places)) (is d)
+    let made = ap (λ r. after_step r (queue_of now.places)) (is d)
     ∙ ap (λ (q : Queue). Ok (let r : State = record (state_at around next (to d)) { queue = q } in r)) done in
     there ∙ at_place ∙ made) low v.calm
 

@@ -8,14 +8,14 @@ use Rattle.saphyr_scanner.specs.Grammar.TokenGrammar as grammar
 use Rattle.saphyr_scanner.specs.Grammar.Forest.{Node, Pairs, NoPair, MorePairs}
 use Rattle.saphyr_scanner.specs.Grammar.FlowNodes.{IsPairText, IsPair, IsFlowNode, AreFlowPairs, AreOtherFlowPairs}
 use Rattle.saphyr_scanner.proofs.InFlow.States.{Around, state_at, FlowMoment, moment_in}
-use Rattle.saphyr_scanner.proofs.Flow.States.{Fits, moved, past, ended, PassesNode, after, StandsBefore}
+use Rattle.saphyr_scanner.proofs.Flow.States.{FitsAround, moved, past, ended, PassesNode, after, StandsBefore}
 use Rattle.saphyr_scanner.proofs.Flow.Places.{moved_append}
 use Rattle.saphyr_scanner.proofs.Flow.GapSteps.{less_behind}
 use Rattle.saphyr_scanner.proofs.InBlock.Crossings.{fresh_in_flow}
 use Rattle.saphyr_scanner.proofs.Flow.Joins.{join, knowing, passes_nothing}
 use Rattle.saphyr_scanner.proofs.Flow.Inks.{BeginsInk, begins_with, ink_front, node_ink}
 use Rattle.saphyr_scanner.proofs.Flow.Pieces.{fits_front, fits_back, fits_so, fits_before, end_ink}
-use Rattle.saphyr_scanner.proofs.Flow.Pairs.{Told}
+use Rattle.saphyr_scanner.proofs.Flow.Pairs.{TellsPiece}
 use Rattle.saphyr_scanner.proofs.Flow.MarkedPairs.{alone_ink, key_ink}
 use Rattle.saphyr_scanner.proofs.Flow.Entries.{PairInBraces, pair_passes}
 use Rattle.saphyr_scanner.proofs.Flow.Items.{BeginsEnd, comma_first, last_first, question_ink, comma_behind}
@@ -60,15 +60,15 @@ pairs_ink indent room (MorePairs key value pairs) p o (pair, others, i, h, e) =
 -- ## One pair
 
 one_passes : {around : Around} (room : ℕ) (key value : Node) → PassesNode around room key → PassesNode around room value
-    → (m : Marker) (t o : List ℕ) → Fits around m t o → BeginsEnd o
+    → (m : Marker) (t o : List ℕ) → FitsAround around m t o → BeginsEnd o
     → IsPairIn around.indent room key value t → (now : FlowMoment) → now.key ≡ None → now.allowed ≡ true
     → room + length now.outer ≤ 255 → now.adjacent < m.index → StandsBefore around now m (t ++ o)
-    → Told around (state_at around (moment_in context.FlowMapping now)) (PairInBraces key value)
+    → TellsPiece around (state_at around (moment_in context.FlowMapping now)) (PairInBraces key value)
     context.FlowMapping now.outer now.places (moved m t) o
 one_passes {around} room key value K V m t o fits b h now no_candidate fresh low before text =
     let f = fits_before m t o (b.first ∷ b.others) b.is fits in
     let start = state_at around (moment_in context.FlowMapping now) in
-    subst (λ (x : List ℕ). Told around start (PairInBraces key value) context.FlowMapping now.outer now.places
+    subst (λ (x : List ℕ). TellsPiece around start (PairInBraces key value) context.FlowMapping now.outer now.places
     (moved m t) x) (sym b.is)
     (pair_passes room key value K V m t b.first b.others f b.ends h now no_candidate fresh low before
     (text ∙ ap (λ (x : List ℕ). past around.indent m (t ++ x)) b.is))
@@ -77,11 +77,11 @@ one_passes {around} room key value K V m t o fits b h now no_candidate fresh low
 
 abbrev pub PassesOtherPairs : Around → ℕ → Pairs → Type 0
 PassesOtherPairs around room pairs =
-    (m : Marker) (p o : List ℕ) → AreOtherFlowPairs room pairs around.indent p → Fits around m p (125 ∷ o)
+    (m : Marker) (p o : List ℕ) → AreOtherFlowPairs room pairs around.indent p → FitsAround around m p (125 ∷ o)
     → (now : FlowMoment)
     → room + length now.outer ≤ 255 → now.adjacent ≤ (past around.indent m (p ++ (125 ∷ o))).0.index
     → StandsBefore around now m (p ++ (125 ∷ o))
-    → Told around (state_at around (moment_in context.FlowMapping now)) (grammar.YieldOtherFlowPairs pairs)
+    → TellsPiece around (state_at around (moment_in context.FlowMapping now)) (grammar.YieldOtherFlowPairs pairs)
     context.FlowMapping now.outer now.places (moved m p) (125 ∷ o)
 
 pub no_other_pairs_pass : {around : Around} (room : ℕ) → PassesOtherPairs around room NoPair
@@ -91,7 +91,7 @@ no_other_pairs_pass {around} room m p o (inl e) fits now low before text =
     text ∙ ap (λ (t : List ℕ). past around.indent m (t ++ (125 ∷ o))) e in
     let near : now.adjacent ≤ (past around.indent m (125 ∷ o)).0.index = subst
     (λ (t : List ℕ). now.adjacent ≤ (past around.indent m (t ++ (125 ∷ o))).0.index) e before in
-    subst (λ (t : List ℕ). Told around start (grammar.YieldOtherFlowPairs NoPair) context.FlowMapping now.outer
+    subst (λ (t : List ℕ). TellsPiece around start (grammar.YieldOtherFlowPairs NoPair) context.FlowMapping now.outer
     now.places (moved m t) (125 ∷ o)) (sym e)
     (record {
       tokens = [];
@@ -144,7 +144,7 @@ other_pairs_pass {around} room key value pairs K V O m p o (comma, pair, others,
     let all = join both r.passes (ended around.indent end behind_all) r.passes.knows in
     let place : end ≡ moved m p =
     sym (ap (moved m) e ∙ moved_append m comma (pair ++ others) ∙ moved_append here pair others) in
-    subst (λ (z : Marker). Told around start (grammar.YieldOtherFlowPairs (MorePairs key value pairs))
+    subst (λ (z : Marker). TellsPiece around start (grammar.YieldOtherFlowPairs (MorePairs key value pairs))
     context.FlowMapping now.outer now.places z behind_all) place
     (record {
       tokens = ((tokens.FlowEntry ∷ []) ++ n.tokens) ++ r.tokens;
@@ -157,10 +157,10 @@ other_pairs_pass {around} room key value pairs K V O m p o (comma, pair, others,
 
 abbrev pub PassesPairs : Around → ℕ → Pairs → Type 0
 PassesPairs around room pairs =
-    (m : Marker) (p o : List ℕ) → AreFlowPairs room pairs around.indent p → Fits around m p (125 ∷ o)
+    (m : Marker) (p o : List ℕ) → AreFlowPairs room pairs around.indent p → FitsAround around m p (125 ∷ o)
     → (now : FlowMoment) → now.key ≡ None → now.allowed ≡ true → room + length now.outer ≤ 255 → now.adjacent < m.index
     → StandsBefore around now m (p ++ (125 ∷ o))
-    → Told around (state_at around (moment_in context.FlowMapping now)) (grammar.YieldFlowPairs pairs)
+    → TellsPiece around (state_at around (moment_in context.FlowMapping now)) (grammar.YieldFlowPairs pairs)
     context.FlowMapping now.outer now.places (moved m p) (125 ∷ o)
 
 pub no_pairs_pass : {around : Around} (room : ℕ) → PassesPairs around room NoPair
@@ -168,7 +168,8 @@ no_pairs_pass {around} room m p o e fits now no_candidate fresh low before text 
     let start = state_at around (moment_in context.FlowMapping now) in
     let there : StandsBefore around now m (125 ∷ o) =
     text ∙ ap (λ (t : List ℕ). past around.indent m (t ++ (125 ∷ o))) e in
-    subst (λ (t : List ℕ). Told around start (grammar.YieldFlowPairs NoPair) context.FlowMapping now.outer now.places
+    subst (λ (t : List ℕ). TellsPiece around start (grammar.YieldFlowPairs NoPair) context.FlowMapping now.outer
+    now.places
     (moved m t) (125 ∷ o)) (sym e)
     (record {
       tokens = [];
@@ -197,7 +198,8 @@ pairs_pass {around} room key value pairs K V O m p o (pair, others, i, h, e) fit
     let r = O there others o h (fits_back m pair others behind_all q.right whole) (after q) low q.knows q.fits in
     let end = moved there others in
     let place : end ≡ moved m p = sym (ap (moved m) e ∙ moved_append m pair others) in
-    subst (λ (z : Marker). Told around start (grammar.YieldFlowPairs (MorePairs key value pairs)) context.FlowMapping
+    subst (λ (z : Marker). TellsPiece around start (grammar.YieldFlowPairs (MorePairs key value pairs))
+    context.FlowMapping
     now.outer now.places z behind_all) place
     (record {
       tokens = n.tokens ++ r.tokens;

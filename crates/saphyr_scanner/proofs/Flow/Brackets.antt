@@ -14,16 +14,17 @@ use Rattle.saphyr_scanner.specs.declared.engine.level.Context.{Context}
 use Rattle.saphyr_scanner.specs.Grammar.Tokens as tokens
 use Rattle.saphyr_scanner.specs.Grammar.Tokens.{Kind}
 use Rattle.saphyr_scanner.specs.Views.Tokens.{Piece}
-use Rattle.saphyr_scanner.specs.Steps.Queue.{Place, closed, empty_piece}
-use Rattle.saphyr_scanner.specs.Steps.Core.{Candidate, Level, Core, is_block, from_to, perform}
+use Rattle.saphyr_scanner.specs.Steps.Queue.{Place, bare_place, empty_piece}
+use Rattle.saphyr_scanner.specs.Steps.Core.{Core, from_to, perform}
+use Rattle.saphyr_scanner.specs.Steps.Level.{Candidate, Level, is_block}
 use Rattle.saphyr_scanner.specs.Steps.Flow as flow
 use Rattle.saphyr_scanner.specs.Steps.Flow.{close_collection, behind_pair}
 use Rattle.saphyr_scanner.specs.Steps.Fetch.{step}
 use Rattle.saphyr_scanner.proofs.InFlow.States.{Around, core_at, state_at, Calm, placed_right, opening_steps_open, open_collection_gives, close_collection_gives, deepened, bracket_deepens, as_before, FlowMoment, moment, moment_with}
 use Rattle.saphyr_scanner.proofs.Json.States.{queue_of}
 use Rattle.saphyr_scanner.proofs.Json.Marks.{kinds, saved, level_of}
-use Rattle.saphyr_scanner.proofs.Json.Brackets.{place_of}
-use Rattle.saphyr_scanner.proofs.Flow.States.{IsFresh, Since, moved, past, IsClear, IsInk, IsParted, Known, fresh_key, Passes, Fits, StandsBefore, key_behind}
+use Rattle.saphyr_scanner.proofs.Json.Brackets.{token_place}
+use Rattle.saphyr_scanner.proofs.Flow.States.{IsFresh, Since, moved, past, IsClear, IsInk, IsParted, Known, fresh_key, PassesPiece, FitsAround, StandsBefore, key_behind}
 use Rattle.saphyr_scanner.proofs.Flow.Places.{moved_index, right_one, clear_here}
 use Rattle.saphyr_scanner.proofs.Flow.GapSteps.{past_ink, past_low}
 use Rattle.saphyr_scanner.proofs.Flow.Arrivals.{BeginsToken, arrives, step_comes, within_index}
@@ -35,13 +36,13 @@ use Rattle.saphyr_scalar.proofs.Given.{cursor_at}
 use Rattle.saphyr_input.proofs.Basics.Numbers.{le_next}
 
 -- a character that is a token
-pub record IsMark (c : ℕ) : Type 0 where
+pub record IsTokenMark (c : ℕ) : Type 0 where
   pub ink : IsInk c
   pub nul : is_z c ≡ false
   pub directive : (c == 37) ≡ false
   pub feed : (c == line_feed) ≡ false
 
-pub mark_begins : (m : Marker) (c : ℕ) (o : List ℕ) → IsMark c → IsClear m (c ∷ []) o → BeginsToken m (c ∷ o)
+pub mark_begins : (m : Marker) (c : ℕ) (o : List ℕ) → IsTokenMark c → IsClear m (c ∷ []) o → BeginsToken m (c ∷ o)
 mark_begins m c o h clear =
     record {
       nul = h.nul;
@@ -51,7 +52,7 @@ mark_begins m c o h clear =
       marker = clear_here m c [] o clear;
     }
 
-pub mark_moved : (m : Marker) (c : ℕ) → IsMark c → along m 1 ≡ moved m (c ∷ [])
+pub mark_moved : (m : Marker) (c : ℕ) → IsTokenMark c → along m 1 ≡ moved m (c ∷ [])
 mark_moved m c h = rw h.feed refl
 
 pub one_on : (m : Marker) (c ad : ℕ) → ad ≤ m.index → ad < (moved m (c ∷ [])).index
@@ -62,19 +63,20 @@ one_on m c ad low = let i = moved_index m (c ∷ []) in omega (arith, i, low)
 -- behind an opening bracket
 abbrev pub opened_collection : Marker → Known
 opened_collection m key allowed adjacent new =
-    fresh_key m key allowed adjacent new × ((piece : Piece) × (new ≡ closed piece ∷ []))
+    fresh_key m key allowed adjacent new × ((piece : Piece) × (new ≡ bare_place piece ∷ []))
 
 pub saved_so : (x : Context) (a b : Bool) (n : ℕ) (m : Marker) (k j : Option Candidate)
     → (is_block x ≡ false → (j ≡ k) × (b ≡ a)) → is_block x ≡ false → saved b n m j ≡ saved a n m k
 saved_so x a b n m k j h e = let s = h e in ap (λ (q : Bool). saved q n m j) s.1 ∙ ap (saved a n m) s.0
 
-pub open_passes : (around : Around) (y : Context) → is_block y ≡ false → (kind : Kind) (ch : ℕ) → IsMark ch
+pub open_passes : (around : Around) (y : Context) → is_block y ≡ false → (kind : Kind) (ch : ℕ) → IsTokenMark ch
     → ((second i : ℕ) (c : Core) → step ch second i c ≡ flow.opening_steps y kind i c)
-    → (m : Marker) (o : List ℕ) → Fits around m (ch ∷ []) o → IsParted around.indent o
+    → (m : Marker) (o : List ℕ) → FitsAround around m (ch ∷ []) o → IsParted around.indent o
     → (now : FlowMoment) → length now.outer < 255 → Calm around now.context → now.adjacent ≤ m.index
     → StandsBefore around now m (ch ∷ o) → (j : Option Candidate) × (is_block now.context ≡ false → j ≡ key_behind now
     m)
-    × Passes around (state_at around now) (opened_collection (moved m (ch ∷ []))) y (level_of now.context j ∷ now.outer)
+    × PassesPiece around (state_at around now) (opened_collection (moved m (ch ∷ []))) y (level_of now.context j
+    ∷ now.outer)
     now.places (moved m (ch ∷ [])) o (kind ∷ [])
     × ((t : List ℕ) → (key : Option Candidate) → (key ≡ None) ⊎ (key ≡ j) → Since now.key m t key)
 open_passes around y in_flow kind ch mark begins m o fits parted now low calm before text =
@@ -90,7 +92,7 @@ open_passes around y in_flow kind ch mark begins m o fits parted now low calm be
     ∙ open_collection_gives y kind ch o m v.blank around (deepened around now.context d) now.context key now.outer
     v.allowed now.adjacent p.found p.there p.is low in_flow calm in
     let below = fits.below in
-    let new = place_of m p.there.mark kind ∷ [] in
+    let new = token_place m p.there.mark kind ∷ [] in
     let next = moment p.there y None (level_of now.context key ∷ now.outer) true now.adjacent now.places in
     let came = step_comes around now m (ch ∷ o) v (mark_begins m ch o mark fits.clear) (moment_with new next)
     (from_to m p.there.mark kind ∷ []) (deepened around now.context) (bracket_deepens around now.context)
@@ -116,13 +118,13 @@ pending false = []
 
 -- the places that a mark makes, behind the end of such a pair
 abbrev pub mark_places : Bool → Marker → Marker → Kind → List Place
-mark_places true m e kind = closed (empty_piece m tokens.FlowMappingEnd) ∷ place_of m e kind ∷ []
-mark_places false m e kind = place_of m e kind ∷ []
+mark_places true m e kind = bare_place (empty_piece m tokens.FlowMappingEnd) ∷ token_place m e kind ∷ []
+mark_places false m e kind = token_place m e kind ∷ []
 
 pub mark_puts : (ends : Bool) (ps : List Place) (m e : Marker) (kind : Kind)
     → perform (behind_pair ends m (from_to m e kind)) (queue_of ps) ≡ queue_of (ps ++ mark_places ends m e kind)
 mark_puts true ps m e kind =
-    ap queue_of (append_assoc ps (closed (empty_piece m tokens.FlowMappingEnd) ∷ []) (place_of m e kind ∷ []))
+    ap queue_of (append_assoc ps (bare_place (empty_piece m tokens.FlowMappingEnd) ∷ []) (token_place m e kind ∷ []))
 mark_puts false ps m e kind = refl
 
 pub mark_kinds : (ends : Bool) (m e : Marker) (kind : Kind)
@@ -132,7 +134,8 @@ mark_kinds false m e kind = refl
 
 -- Behind a collection the key is that of the level around it. Where blanks alone stand before a colon, it may stand at
 -- once.
-pub record IsClosed (indent : ℕ) (x : Context) (j : Option Candidate) (m : Marker) (o : List ℕ) (key : Option Candidate)
+pub record IsCollectionClosed (indent : ℕ) (x : Context) (j : Option Candidate) (m : Marker) (o : List ℕ)
+    (key : Option Candidate)
     (adjacent : ℕ) : Type 0 where
   pub keeps : is_block x ≡ false → key ≡ j
   pub kept : (key ≡ None) ⊎ (key ≡ j)
@@ -141,7 +144,7 @@ pub record IsClosed (indent : ℕ) (x : Context) (j : Option Candidate) (m : Mar
   pub low : adjacent ≤ (past indent m o).0.index
 
 abbrev pub closed_collection : ℕ → Context → Option Candidate → Marker → List ℕ → Known
-closed_collection indent x j m o key allowed adjacent new = IsClosed indent x j m o key adjacent
+closed_collection indent x j m o key allowed adjacent new = IsCollectionClosed indent x j m o key adjacent
 
 all_blank : (w : List ℕ) → IsTrue (list_all is_blank w) → AreIn is_blank w
 all_blank [] h = tt
@@ -177,16 +180,16 @@ one_behind indent m c o ad low =
     omega (arith, on, behind)
 
 pub close_passes : (around : Around) (y : Context) → is_block y ≡ false → (ends : Bool) (kind : Kind) (ch : ℕ)
-    → IsMark ch
+    → IsTokenMark ch
     → ((second i : ℕ) (d : Bool) (s : Cursor) (k : Option Candidate) (ls : List Level) (a : Bool) (ad : ℕ)
     → step ch second i (core_at around d s y k ls a ad)
     ≡ close_collection ends kind (core_at around d s y k ls a ad))
-    → (m : Marker) (o : List ℕ) → Fits around m (ch ∷ []) o → (found : SkipTabs) (there : Cursor)
+    → (m : Marker) (o : List ℕ) → FitsAround around m (ch ∷ []) o → (found : SkipTabs) (there : Cursor)
     → separation Yes (cursor_at o (along m 1) false) ≡ Ok (found, there)
     → past around.indent there.mark there.rest ≡ past around.indent (along m 1) o
     → (j : Option Candidate) (x : Context) (ls : List Level) (now : FlowMoment) → IsFresh x o false there
     → Calm around x → now.adjacent ≤ m.index → StandsBefore around now m (ch ∷ o)
-    → Passes around (state_at around (record now { context = y; outer = level_of x j ∷ ls }))
+    → PassesPiece around (state_at around (record now { context = y; outer = level_of x j ∷ ls }))
     (closed_collection around.indent x j (moved m (ch ∷ [])) o) x ls now.places (moved m (ch ∷ [])) o
     (pending ends ++ kind ∷ [])
 close_passes around y flows ends kind ch mark begins m o fits found there is lands j x ls now fresh calm before text =

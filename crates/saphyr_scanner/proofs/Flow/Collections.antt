@@ -13,21 +13,22 @@ use Rattle.saphyr_scanner.specs.declared.engine.level.Context.{Context}
 use Rattle.saphyr_scanner.specs.declared.engine.level.Context.TheVariants as context
 use Rattle.saphyr_scanner.specs.Grammar.Tokens.{Kind}
 use Rattle.saphyr_scanner.specs.Views.Tokens.{Piece}
-use Rattle.saphyr_scanner.specs.Steps.Queue.{Place, closed}
-use Rattle.saphyr_scanner.specs.Steps.Core.{Candidate, Level, Core, is_block}
+use Rattle.saphyr_scanner.specs.Steps.Queue.{Place, bare_place}
+use Rattle.saphyr_scanner.specs.Steps.Core.{Core}
+use Rattle.saphyr_scanner.specs.Steps.Level.{Candidate, Level, is_block, ends_pair}
 use Rattle.saphyr_scanner.specs.Steps.Flow as flow
-use Rattle.saphyr_scanner.specs.Steps.Flow.{close_collection, ends_pair}
+use Rattle.saphyr_scanner.specs.Steps.Flow.{close_collection}
 use Rattle.saphyr_scanner.specs.Steps.State.{State}
 use Rattle.saphyr_scanner.specs.Steps.Fetch.{step}
 use Rattle.saphyr_scanner.proofs.InFlow.States.{Around, core_at, state_at, Calm, FlowMoment}
 use Rattle.saphyr_scanner.proofs.Json.Marks.{level_of}
-use Rattle.saphyr_scanner.proofs.Flow.States.{crosses, IsFresh, Since, Kept, keeping, moved, past, IsParted, IsBehindRoot, Known, Passes, Fits, ended, StandsBefore, after}
+use Rattle.saphyr_scanner.proofs.Flow.States.{crosses, IsFresh, Since, KeptKey, keeping, moved, past, IsParted, IsBehindRoot, Known, PassesPiece, FitsAround, ended, StandsBefore, after}
 use Rattle.saphyr_scanner.proofs.Flow.Places.{moved_append}
 use Rattle.saphyr_scanner.proofs.Flow.GapSteps.{past_ink, less_on}
 use Rattle.saphyr_scanner.proofs.Flow.Fillers.{rest_past}
 use Rattle.saphyr_scanner.proofs.Flow.Separates.{separates, separates_rest}
 use Rattle.saphyr_scanner.proofs.Flow.Joins.{join, separation_joins}
-use Rattle.saphyr_scanner.proofs.Flow.Brackets.{IsMark, open_passes, pending, close_passes}
+use Rattle.saphyr_scanner.proofs.Flow.Brackets.{IsTokenMark, open_passes, pending, close_passes}
 use Rattle.saphyr_scanner.proofs.InBlock.Crossings.{fresh_in_flow, line_rest_crosses}
 use Rattle.saphyr_scanner.proofs.Flow.Pieces.{fits_front, fits_back, fits_before}
 use Rattle.saphyr_scalar.proofs.Given.{cursor_at}
@@ -82,7 +83,7 @@ pub record InsidePasses (around : Around) (start : Bool → State) (Is : List Ki
       ≡ close_collection (ends_pair inside) kind (core_at around d s inside k ms a ad)
   pub tokens : List Kind
   pub are : Is (tokens ++ pending (ends_pair inside))
-  pub passes : Passes around start (ended around.indent m o) inside ls ps m o tokens
+  pub passes : PassesPiece around start (ended around.indent m o) inside ls ps m o tokens
 
 -- a kind of collection: its brackets and their tokens
 pub record Brackets : Type 0 where
@@ -94,23 +95,23 @@ pub record Brackets : Type 0 where
 
 pub record AreBrackets (b : Brackets) : Type 0 where
   pub flows : is_block b.context ≡ false
-  pub opening_mark : IsMark b.opening
-  pub closing_mark : IsMark b.closing
+  pub opening_mark : IsTokenMark b.opening
+  pub closing_mark : IsTokenMark b.closing
   pub begins : (second i : ℕ) (c : Core) → step b.opening second i c ≡ flow.opening_steps b.context b.opens i c
 
 -- Behind a collection: as behind a node, of which blanks alone stand before a colon that may stand at once.
-pub record IsBracketed (indent : ℕ) (x : Context) (kept : Kept) (m : Marker) (o : List ℕ) (key : Option Candidate)
+pub record IsBracketed (indent : ℕ) (x : Context) (kept : KeptKey) (m : Marker) (o : List ℕ) (key : Option Candidate)
     (adjacent : ℕ) (new : List Place) : Type 0 where
   pub piece : Piece
   pub others : List Place
-  pub is : new ≡ closed piece ∷ others
+  pub is : new ≡ bare_place piece ∷ others
   pub keeps : is_block x ≡ false → key ≡ kept.kept
   pub since : Since kept.before kept.from kept.over key
   pub near : is_block x ≡ false → (w more : List ℕ) → o ≡ w ++ (58 ∷ more) → IsSeparation indent w
       → IsTrue (list_all is_blank w) → adjacent ≡ (moved m w).index
   pub low : adjacent ≤ (past indent m o).0.index
 
-abbrev pub bracketed : ℕ → Context → Kept → Marker → List ℕ → Known
+abbrev pub bracketed : ℕ → Context → KeptKey → Marker → List ℕ → Known
 bracketed indent x kept m o key allowed adjacent new = IsBracketed indent x kept m o key adjacent new
 
 -- the text from the opening bracket to the closing one
@@ -131,20 +132,22 @@ pub record BracketsPass (around : Around) (now : FlowMoment) (Is : List Kind →
     (t o : List ℕ) : Type 0 where
   pub inside : List Kind
   pub are : Is inside
-  pub passes : Passes around (state_at around now)
+  pub passes : PassesPiece around (state_at around now)
       (bracketed around.indent now.context (keeping now m t) (moved m t) o) now.context now.outer now.places (moved m t)
       o (b.opens ∷ (inside ++ b.closes ∷ []))
 
 -- a token of its own is the first, and no colon may stand at once from n on
 abbrev starts_with : Piece → ℕ → Known
-starts_with piece n key allowed adjacent new = ((others : List Place) × (new ≡ closed piece ∷ others)) × (adjacent ≤ n)
+starts_with piece n key allowed adjacent new = ((others : List Place) × (new ≡ bare_place piece ∷ others))
+    × (adjacent ≤ n)
 
 all_told : (opens closes : Kind) (ts ends : List Kind)
     → ((opens ∷ []) ++ ts) ++ (ends ++ closes ∷ []) ≡ opens ∷ ((ts ++ ends) ++ closes ∷ [])
 all_told opens closes ts ends = ap (λ (x : List Kind). opens ∷ x) (sym (append_assoc ts ends (closes ∷ [])))
 
 pub brackets_pass : (around : Around) (Is : List Kind → Type 0) (b : Brackets) → AreBrackets b
-    → (m : Marker) (w inside o : List ℕ) → Fits around m (bracket_text b w inside) o → IsSeparation around.indent w
+    → (m : Marker) (w inside o : List ℕ) → FitsAround around m (bracket_text b w inside) o
+    → IsSeparation around.indent w
     → IsParted around.indent (w ++ (inside ++ (b.closing ∷ o)))
     → (now : FlowMoment) → length now.outer < 255 → Calm around now.context → now.adjacent ≤ m.index
     → StandsBefore around now m (bracket_text b w inside ++ o)
@@ -200,9 +203,10 @@ brackets_pass around Is b are m w inside o fits parts parted now low calm before
     record {
       inside = inner;
       are = r.are;
-      passes = subst (λ (e : Marker). Passes around start (bracketed around.indent now.context kept e o) now.context
+      passes = subst (λ (e : Marker). PassesPiece around start (bracketed around.indent now.context kept e o)
+          now.context
           now.outer now.places e o (b.opens ∷ (inner ++ b.closes ∷ []))) place
-          (subst (λ (ts : List Kind). Passes around start (bracketed around.indent now.context kept end o)
+          (subst (λ (ts : List Kind). PassesPiece around start (bracketed around.indent now.context kept end o)
           now.context now.outer now.places end o ts)
           (all_told b.opens b.closes r.tokens (pending (ends_pair r.inside))) all);
     }

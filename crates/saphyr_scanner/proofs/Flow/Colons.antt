@@ -13,19 +13,20 @@ use Rattle.saphyr_scanner.specs.declared.queue.Opening.TheVariants as opening
 use Rattle.saphyr_scanner.specs.Grammar.Tokens as tokens
 use Rattle.saphyr_scanner.specs.Grammar.Tokens.{Kind}
 use Rattle.saphyr_scanner.specs.Views.Tokens.{Piece}
-use Rattle.saphyr_scanner.specs.Steps.Queue.{Place, closed, opened, empty_piece}
-use Rattle.saphyr_scanner.specs.Steps.Core.{Candidate, Level, Core, Put, Open, Steps, is_block, at_mark, went, perform}
+use Rattle.saphyr_scanner.specs.Steps.Queue.{Place, bare_place, places_with_opening, empty_piece}
+use Rattle.saphyr_scanner.specs.Steps.Core.{Core, Put, Open, StepResult, at_mark, completed_step, perform}
+use Rattle.saphyr_scanner.specs.Steps.Level.{Candidate, Level, is_block, begins_pair, behind_colon}
 use Rattle.saphyr_scanner.specs.Steps.Passing.{with_cursor}
 use Rattle.saphyr_scanner.specs.Steps.Value as value
-use Rattle.saphyr_scanner.specs.Steps.Value.{begins_pair, behind_colon, check_tab, refuse_lone_tab, of_key, alone, behind_key}
+use Rattle.saphyr_scanner.specs.Steps.Value.{check_tab, refuse_lone_tab, value_of_key, value_alone, behind_key}
 use Rattle.saphyr_scanner.specs.Steps.Fetch.{step, flow_value}
 use Rattle.saphyr_scanner.proofs.InFlow.States.{Around, required_at, core_at}
 use Rattle.saphyr_scanner.proofs.Json.States.{queue_of}
 use Rattle.saphyr_scanner.proofs.Json.Marks.{kinds, kinds_append}
-use Rattle.saphyr_scanner.proofs.Json.Colons.{opened_seam, none_off}
+use Rattle.saphyr_scanner.proofs.Json.Colons.{with_opening_seam, none_off}
 use Rattle.saphyr_scanner.proofs.Flow.States.{past, IsParted, ends_colon}
 use Rattle.saphyr_scanner.proofs.Flow.Separates.{separates}
-use Rattle.saphyr_scanner.proofs.Flow.Brackets.{IsMark}
+use Rattle.saphyr_scanner.proofs.Flow.Brackets.{IsTokenMark}
 use Rattle.saphyr_input.proofs.Basics.Booleans.{by_test, and_false}
 use Rattle.saphyr_scalar.proofs.Given.{cursor_at}
 use Rattle.std.proofs.lemmas.Bool.{or_right, eq-eqb, true≢false}
@@ -49,11 +50,13 @@ pub colon_reads_value : (around : Around) (d : Bool) (second i : ℕ) (s : Curso
 unfolding step flow_value
 colon_reads_value around d second i s y k ls a ad e (inl f) =
     let c = core_at around d s y k ls a ad in
-    by_test (is_blank_or_breakz second) (value.value_steps c) _ (λ (r : Steps). r ≡ value.value_steps c) (λ _. refl)
+    by_test (is_blank_or_breakz second) (value.value_steps c) _ (λ (r : StepResult). r ≡ value.value_steps c)
+    (λ _. refl)
     (λ _. rw (eq-eqb s.mark.index ad f, or_right (is_flow second) true refl, e) refl)
 colon_reads_value around d second i s y k ls a ad e (inr h) =
     let c = core_at around d s y k ls a ad in
-    by_test (is_blank_or_breakz second) (value.value_steps c) _ (λ (r : Steps). r ≡ value.value_steps c) (λ _. refl)
+    by_test (is_blank_or_breakz second) (value.value_steps c) _ (λ (r : StepResult). r ≡ value.value_steps c)
+    (λ _. refl)
     (λ b. let f = is_flow_or_blank second h b in rw (f.0, f.1, and_false (not (s.mark.index == ad)), e) refl)
 
 -- ## Behind the colon
@@ -104,10 +107,10 @@ no_later a b e = grind (arith, nat_tests)
 
 pub opens_key : (around : Around) (d : Bool) (k : Candidate) (start : Marker) (there : Cursor) (y : Context)
     (ls : List Level) (a : Bool) (ad : ℕ) → is_block y ≡ false → (begins_pair y ≡ true → k.mark.line ≡ start.line)
-    → of_key k (begins_pair y) start (core_at around d there (behind_colon y) (Some k) ls a ad)
-    ≡ went (Open k.place (opened_key (begins_pair y)) ∷ at_mark start tokens.Value ∷ [])
+    → value_of_key k (begins_pair y) start (core_at around d there (behind_colon y) (Some k) ls a ad)
+    ≡ completed_step (Open k.place (opened_key (begins_pair y)) ∷ at_mark start tokens.Value ∷ [])
     (core_at around d there (behind_colon y) None ls false ad)
-unfolding of_key
+unfolding value_of_key
 opens_key around d k start there context.Block ls a ad e line = absurd (true≢false e)
 opens_key around d k start there context.FlowSequence ls a ad e line =
     rw (no_later k.mark.line start.line (line refl)) refl
@@ -139,16 +142,16 @@ fetches around d o m b y k ls a ad flows p =
     ∙ ap (λ q. q >>= λ (e : Core). behind_key e.level.key (begins_pair y) m e) (p.is d)
 
 pub behind_some : (k : Candidate) (begins : Bool) (m : Marker) (c : Core)
-    → behind_key (Some k) begins m c ≡ of_key k begins m c
+    → behind_key (Some k) begins m c ≡ value_of_key k begins m c
 unfolding behind_key
 behind_some k begins m c = refl
 
-pub behind_none : (begins : Bool) (m : Marker) (c : Core) → behind_key None begins m c ≡ alone begins m c
+pub behind_none : (begins : Bool) (m : Marker) (c : Core) → behind_key None begins m c ≡ value_alone begins m c
 unfolding behind_key
 behind_none begins m c = refl
 
-pub colon : IsMark 58
-colon = record {
+pub colon_is_mark : IsTokenMark 58
+colon_is_mark = record {
   ink = record { blank = refl; break = refl; comment = refl; byte_order_mark = refl };
   nul =
       refl;
@@ -160,29 +163,30 @@ colon = record {
 
 -- the places of a key with what stands in front of it, and of the colon
 abbrev pub pair_places : Opening → Piece → List Place → Piece → List Place
-pair_places op key others mark = record { opening = op; piece = key } ∷ (others ++ closed mark ∷ [])
+pair_places op key others mark = record { opening = op; piece = key } ∷ (others ++ bare_place mark ∷ [])
 
-pub performs : (ps others new : List Place) (op : Opening) (key mark : Piece) → new ≡ closed key ∷ others
+pub performs : (ps others new : List Place) (op : Opening) (key mark : Piece) → new ≡ bare_place key ∷ others
     → perform (Open (length ps) op ∷ Put mark ∷ []) (queue_of (ps ++ new))
     ≡ queue_of (ps ++ pair_places op key others mark)
 performs ps others new op key mark is =
-    let places = ap (λ (i : ℕ). opened i op (ps ++ new)) (none_off (length ps))
-    ∙ ap (λ (x : List Place). opened (length ps) op (ps ++ x)) is ∙ opened_seam op ps (closed key) others in
-    ap (λ (x : List Place). queue_of (x ++ closed mark ∷ [])) places
-    ∙ ap queue_of (append_assoc ps (record { opening = op; piece = key } ∷ others) (closed mark ∷ []))
+    let places = ap (λ (i : ℕ). places_with_opening i op (ps ++ new)) (none_off (length ps))
+    ∙ ap (λ (x : List Place). places_with_opening (length ps) op (ps ++ x)) is
+    ∙ with_opening_seam op ps (bare_place key) others in
+    ap (λ (x : List Place). queue_of (x ++ bare_place mark ∷ [])) places
+    ∙ ap queue_of (append_assoc ps (record { opening = op; piece = key } ∷ others) (bare_place mark ∷ []))
 
 pub pair_kinds : (begins : Bool) (key : Piece) (others new : List Place) (m : Marker) (ts : List Kind)
-    → new ≡ closed key ∷ others → kinds new ≡ ts
+    → new ≡ bare_place key ∷ others → kinds new ≡ ts
     → kinds (pair_places (opened_key begins) key others (empty_piece m tokens.Value))
     ≡ key_kinds begins ++ (ts ++ tokens.Value ∷ [])
 pair_kinds begins key others new m ts is are =
-    let whole : kinds (closed key ∷ others) ≡ ts = ap kinds (sym is) ∙ are in
-    let back = kinds_append (closed key ∷ others) (closed (empty_piece m tokens.Value) ∷ [])
+    let whole : kinds (bare_place key ∷ others) ≡ ts = ap kinds (sym is) ∙ are in
+    let back = kinds_append (bare_place key ∷ others) (bare_place (empty_piece m tokens.Value) ∷ [])
     ∙ ap (λ (x : List Kind). x ++ tokens.Value ∷ []) whole in
     by_opening begins back
   where
     by_opening : (begins : Bool)
-        → kinds (closed key ∷ (others ++ closed (empty_piece m tokens.Value) ∷ [])) ≡ ts ++ tokens.Value ∷ []
+        → kinds (bare_place key ∷ (others ++ bare_place (empty_piece m tokens.Value) ∷ [])) ≡ ts ++ tokens.Value ∷ []
         → kinds (pair_places (opened_key begins) key others (empty_piece m tokens.Value))
         ≡ key_kinds begins ++ (ts ++ tokens.Value ∷ [])
     by_opening true e = ap (λ (x : List Kind). tokens.FlowMappingStart ∷ tokens.Key ∷ x) e

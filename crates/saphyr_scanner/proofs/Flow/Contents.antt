@@ -11,20 +11,20 @@ use Rattle.saphyr_scalar.specs.Spelling.Spaces.{IsSeparation}
 use Rattle.saphyr_scanner.specs.declared.engine.level.Context.{Context}
 use Rattle.saphyr_scanner.specs.Grammar.Tokens.{scalar_token}
 use Rattle.saphyr_scanner.specs.Views.Tokens.{Piece}
-use Rattle.saphyr_scanner.specs.Steps.Queue.{Place, closed}
-use Rattle.saphyr_scanner.specs.Steps.Core.{Candidate, is_block}
+use Rattle.saphyr_scanner.specs.Steps.Queue.{Place, bare_place}
+use Rattle.saphyr_scanner.specs.Steps.Level.{Candidate, is_block}
 use Rattle.saphyr_scanner.specs.Grammar.Forest.{Style, Plain, SingleQuoted, DoubleQuoted, Literal, Folded, Properties, Node, Scalar}
 use Rattle.saphyr_scanner.specs.Grammar.FlowNodes.{allows_adjacent}
 use Rattle.scalar_values.specs.Flow.{plain_value}
 use Rattle.saphyr_scanner.specs.Grammar.FlowScalars.{IsPlainKey, IsQuoted, IsFlowScalar}
 use Rattle.saphyr_scanner.proofs.InFlow.States.{Around, state_at, FlowMoment, root_moment}
 use Rattle.saphyr_scanner.proofs.InFlow.Tabs.{lands_on_ink}
-use Rattle.saphyr_scanner.proofs.Flow.States.{moved, past, IsBehindNode, IsBehindRoot, Reads, Known, Passes, Closes, Fits, StandsBefore, key_behind}
+use Rattle.saphyr_scanner.proofs.Flow.States.{moved, past, IsBehindNode, IsBehindRoot, ReaderPromises, Known, PassesPiece, Closes, FitsAround, StandsBefore, key_behind}
 use Rattle.saphyr_scanner.proofs.Flow.GapSteps.{past_ink, less_behind}
 use Rattle.saphyr_scanner.proofs.Flow.Fillers.{separation_past}
 use Rattle.saphyr_scanner.proofs.Flow.Joins.{closes_unnoted, knowing}
 use Rattle.saphyr_scanner.proofs.Flow.Ends.{EndsHere, behind_node_first, root_first}
-use Rattle.saphyr_scanner.proofs.Flow.Quotes.{ends_node_ink, flow_ends_quotes, root_ends_quotes, style_of, quoted_passes}
+use Rattle.saphyr_scanner.proofs.Flow.Quotes.{ends_node_ink, flow_ends_quotes, root_ends_quotes, style_of_quote, quoted_passes}
 use Rattle.saphyr_scanner.proofs.Flow.PlainEnds.{ends_in_flow, ends_at_root}
 use Rattle.saphyr_scanner.proofs.Flow.Plains.{plain_passes, plain_key_passes, plain_closes}
 use Rattle.saphyr_scanner.proofs.Flow.Words.{plain_right, key_right}
@@ -34,7 +34,7 @@ use Rattle.saphyr_scanner.proofs.Flow.Quoted.{quoted_right}
 pub record IsBehindContent (indent : ℕ) (x : Context) (kept : Option Candidate) (node : Node) (m : Marker) (o : List ℕ)
     (key : Option Candidate) (adjacent : ℕ) (new : List Place) : Type 0 where
   pub piece : Piece
-  pub is : new ≡ closed piece ∷ []
+  pub is : new ≡ bare_place piece ∷ []
   pub keeps : is_block x ≡ false → key ≡ kept
   pub near : (separation more : List ℕ) → o ≡ separation ++ (58 ∷ more) → IsSeparation indent separation
       → IsTrue (allows_adjacent node separation) → adjacent ≡ (moved m separation).index
@@ -47,7 +47,7 @@ behind_content indent x kept node m o key allowed adjacent new = IsBehindContent
 abbrev pub PassesContent : Around → Node → Style → List ℕ → List ℕ → List ℕ → Marker → Type 0
 PassesContent around node style value t o m =
     (now : FlowMoment) → is_block now.context ≡ false → now.adjacent < m.index → StandsBefore around now m (t ++ o)
-    → Passes around (state_at around now)
+    → PassesPiece around (state_at around now)
     (behind_content around.indent now.context (key_behind now m) node (moved m t) o) now.context now.outer now.places
     (moved m t) o (scalar_token style value ∷ [])
 
@@ -75,9 +75,9 @@ colon_place indent m o separation more is parts right =
 same_low : (a b : ℕ) → a ≡ b → a ≤ b
 same_low a b e = omega (arith, e)
 
-quotes_pass : Reads → (around : Around) (node : Node) (quote : Quote) (value t o : List ℕ) (m : Marker)
-    → IsQuoted quote around.indent value t → Fits around m t o
-    → IsBehindNode around.indent node o → PassesContent around node (style_of quote) value t o m
+quotes_pass : ReaderPromises → (around : Around) (node : Node) (quote : Quote) (value t o : List ℕ) (m : Marker)
+    → IsQuoted quote around.indent value t → FitsAround around m t o
+    → IsBehindNode around.indent node o → PassesContent around node (style_of_quote quote) value t o m
 quotes_pass reads around node quote value t o m h fits behind now flow low text =
     let right = quoted_right around.indent quote m value t o h fits.clear fits.right in
     let q = quoted_passes reads around quote value t o m h fits
@@ -100,9 +100,9 @@ ClosesContent around style value t o m =
     → Closes around (state_at around (root_moment now)) now.key m t now.places (moved m t) o
     (scalar_token style value ∷ [])
 
-quotes_close : Reads → (around : Around) (quote : Quote) (value t o : List ℕ) (m : Marker)
-    → IsQuoted quote around.indent value t → Fits around m t o → IsBehindRoot around.indent (moved m t) o
-    → ClosesContent around (style_of quote) value t o m
+quotes_close : ReaderPromises → (around : Around) (quote : Quote) (value t o : List ℕ) (m : Marker)
+    → IsQuoted quote around.indent value t → FitsAround around m t o → IsBehindRoot around.indent (moved m t) o
+    → ClosesContent around (style_of_quote quote) value t o m
 quotes_close reads around quote value t o m h fits behind now before text =
     let apart = white_apart (slice_index o 0) (root_first around.indent (moved m t) o behind) in
     let q = quoted_passes reads around quote value t o m h fits apart (root_moment now)
@@ -112,8 +112,8 @@ quotes_close reads around quote value t o m h fits behind now before text =
 
 -- ## Plain scalars
 
-plains_pass : Reads → (around : Around) (p : Properties) (value t o : List ℕ) (m : Marker)
-    → IsFlowScalar Plain value true around.indent t → Fits around m t o
+plains_pass : ReaderPromises → (around : Around) (p : Properties) (value t o : List ℕ) (m : Marker)
+    → IsFlowScalar Plain value true around.indent t → FitsAround around m t o
     → IsBehindNode around.indent (Scalar p Plain value) o
     → PassesContent around (Scalar p Plain value) Plain value t o m
 plains_pass reads around p value t o m h fits behind now flow low text =
@@ -126,7 +126,7 @@ plains_pass reads around p value t o m h fits behind now flow low text =
     let inked = ap (λ (z : Marker × List ℕ). is_blank (slice_index z.1 0)) lands ∙ ink.0.blank in
     let q = plain_passes reads around t o m h.0 fits
     (ends_in_flow around.indent node (moved m t) o (λ w. refl) behind right) inked now flow low text in
-    subst (λ (v : List ℕ). Passes around (state_at around now)
+    subst (λ (v : List ℕ). PassesPiece around (state_at around now)
     (behind_content around.indent now.context (key_behind now m) node (moved m t) o) now.context now.outer now.places
     (moved m t) o (scalar_token Plain v ∷ [])) (sym h.1)
     (knowing q (behind_content around.indent now.context (key_behind now m) node (moved m t) o)
@@ -140,8 +140,8 @@ plains_pass reads around p value t o m h fits behind now flow low text =
     }))
 
 -- a key before its colon
-pub key_content_passes : Reads → (around : Around) (p : Properties) (value t r : List ℕ) (m : Marker)
-    → value ≡ plain_value t → IsPlainKey true around.indent t → Fits around m t (58 ∷ r)
+pub key_content_passes : ReaderPromises → (around : Around) (p : Properties) (value t r : List ℕ) (m : Marker)
+    → value ≡ plain_value t → IsPlainKey true around.indent t → FitsAround around m t (58 ∷ r)
     → IsBehindNode around.indent (Scalar p Plain value) (58 ∷ r)
     → PassesContent around (Scalar p Plain value) Plain value t (58 ∷ r) m
 key_content_passes reads around p value t r m stands h fits behind now flow low text =
@@ -149,7 +149,7 @@ key_content_passes reads around p value t r m stands h fits behind now flow low 
     let right = key_right true around.indent m t r h fits.clear fits.right in
     let q = plain_key_passes reads around t r m h fits
     (ends_in_flow around.indent node (moved m t) (58 ∷ r) (λ w. refl) behind right) now flow low text in
-    subst (λ (v : List ℕ). Passes around (state_at around now)
+    subst (λ (v : List ℕ). PassesPiece around (state_at around now)
     (behind_content around.indent now.context (key_behind now m) node (moved m t) (58 ∷ r)) now.context now.outer
     now.places (moved m t) (58 ∷ r) (scalar_token Plain v ∷ [])) (sym stands)
     (knowing q (behind_content around.indent now.context (key_behind now m) node (moved m t) (58 ∷ r))
@@ -162,8 +162,9 @@ key_content_passes reads around p value t r m stands h fits behind now flow low 
           (less_behind around.indent now.adjacent m t (58 ∷ r) low);
     }))
 
-plains_close : Reads → (around : Around) (value t o : List ℕ) (m : Marker)
-    → IsFlowScalar Plain value false around.indent t → Fits around m t o → IsBehindRoot around.indent (moved m t) o
+plains_close : ReaderPromises → (around : Around) (value t o : List ℕ) (m : Marker)
+    → IsFlowScalar Plain value false around.indent t → FitsAround around m t o
+    → IsBehindRoot around.indent (moved m t) o
     → ClosesContent around Plain value t o m
 plains_close reads around value t o m h fits behind now before text =
     let right = plain_right false around.indent m t o h.0 fits.clear fits.right in
@@ -175,8 +176,9 @@ plains_close reads around value t o m h fits behind now before text =
 
 -- ## The content
 
-pub content_passes : Reads → (around : Around) (p : Properties) (style : Style) (value t o : List ℕ) (m : Marker)
-    → IsFlowScalar style value true around.indent t → Fits around m t o
+pub content_passes : ReaderPromises → (around : Around) (p : Properties) (style : Style) (value t o : List ℕ)
+    (m : Marker)
+    → IsFlowScalar style value true around.indent t → FitsAround around m t o
     → IsBehindNode around.indent (Scalar p style value) o
     → PassesContent around (Scalar p style value) style value t o m
 content_passes reads around p Plain value t o m h fits behind = plains_pass reads around p value t o m h fits behind
@@ -187,8 +189,8 @@ content_passes reads around p DoubleQuoted value t o m h fits behind =
 content_passes reads around p Literal value t o m h fits behind = absurd h
 content_passes reads around p Folded value t o m h fits behind = absurd h
 
-pub content_closes : Reads → (around : Around) (style : Style) (value t o : List ℕ) (m : Marker)
-    → IsFlowScalar style value false around.indent t → Fits around m t o
+pub content_closes : ReaderPromises → (around : Around) (style : Style) (value t o : List ℕ) (m : Marker)
+    → IsFlowScalar style value false around.indent t → FitsAround around m t o
     → IsBehindRoot around.indent (moved m t) o → ClosesContent around style value t o m
 content_closes reads around Plain value t o m h fits behind = plains_close reads around value t o m h fits behind
 content_closes reads around SingleQuoted value t o m h fits behind =

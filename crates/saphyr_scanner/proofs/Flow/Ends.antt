@@ -80,9 +80,9 @@ root_first indent m o h =
     ends (c ∷ cs) (inr e) = feed c e
 
 -- behind separation that is not empty
-pub behind_separation : (indent : ℕ) (w y : List ℕ) → IsSeparation indent w → w ≢ []
+pub ends_behind_separation : (indent : ℕ) (w y : List ℕ) → IsSeparation indent w → w ≢ []
     → IsTrue (is_blank_or_breakz (slice_index (w ++ y) 0))
-behind_separation indent w y h some = by_first w some (separation_white indent w h)
+ends_behind_separation indent w y h some = by_first w some (separation_white indent w h)
   where
     by_first : (w : List ℕ) → w ≢ [] → BeginsWhite w → IsTrue (is_blank_or_breakz (slice_index (w ++ y) 0))
     by_first [] some k = absurd (some refl)

@@ -12,20 +12,19 @@ use Rattle.saphyr_scanner.specs.Grammar.Tokens as tokens
 use Rattle.saphyr_scanner.specs.Grammar.Tokens.{Kind}
 use Rattle.saphyr_scanner.specs.Grammar.TokenGrammar as grammar
 use Rattle.saphyr_scanner.specs.Steps.Queue.{Place}
-use Rattle.saphyr_scanner.specs.Steps.Core.{Level, is_block}
-use Rattle.saphyr_scanner.specs.Steps.Flow.{behind_entry, ends_pair}
+use Rattle.saphyr_scanner.specs.Steps.Level.{Level, is_block, behind_entry, ends_pair}
 use Rattle.saphyr_scanner.specs.Steps.State.{State}
 use Rattle.saphyr_scanner.specs.Grammar.Forest.{no_properties, Node, Map, NoPair, MorePairs}
 use Rattle.saphyr_scanner.specs.Grammar.FlowNodes.{IsOnLine, IsKeyAndValue, IsBeforeSeparation, IsPairText, IsPair, IsSinglePairText, IsSinglePair, IsFlowNode}
 use Rattle.saphyr_scanner.proofs.InFlow.States.{Around, state_at, FlowMoment, moment_in}
-use Rattle.saphyr_scanner.proofs.Flow.States.{Fits, moved, past, Passes, ended, PassesNode, StandsBefore}
+use Rattle.saphyr_scanner.proofs.Flow.States.{FitsAround, moved, past, PassesPiece, ended, PassesNode, StandsBefore}
 use Rattle.saphyr_scanner.proofs.Flow.Places.{moved_append, moved_along}
 use Rattle.saphyr_scanner.proofs.Flow.Fillers.{separation_past}
 use Rattle.saphyr_scanner.proofs.Flow.Separates.{blanks_moved}
 use Rattle.saphyr_scanner.proofs.Flow.Joins.{separation_joins, knowing}
 use Rattle.saphyr_scanner.proofs.Flow.Brackets.{pending}
 use Rattle.saphyr_scanner.proofs.Flow.Pieces.{fits_front, fits_so, IsBehindEntry, entry_behind, wider_entry}
-use Rattle.saphyr_scanner.proofs.Flow.Pairs.{Told, told_at, told_so, key_passes, alone_passes}
+use Rattle.saphyr_scanner.proofs.Flow.Pairs.{TellsPiece, told_at, told_so, key_passes, alone_passes}
 use Rattle.saphyr_scanner.proofs.Flow.MarkedPairs.{MarkedTokens, IsMarked, explicit_passes, lone_passes}
 
 -- ## In braces
@@ -38,8 +37,8 @@ in_brackets = record { flows = refl; question = refl; inside = refl; no_pair = r
 
 ended_behind : {around : Around} {start : Bool → State} {x : Context} {ls : List Level} {ps : List Place}
     {ts : List Kind} (m : Marker) (w o : List ℕ) → IsSeparation around.indent w
-    → Passes around start (ended around.indent m (w ++ o)) x ls ps m (w ++ o) ts
-    → Passes around start (ended around.indent (moved m w) o) x ls ps (moved m w) o ts
+    → PassesPiece around start (ended around.indent m (w ++ o)) x ls ps m (w ++ o) ts
+    → PassesPiece around start (ended around.indent (moved m w) o) x ls ps (moved m w) o ts
 ended_behind {around = around} m w o parts p =
     let q = separation_joins m w o parts p in
     knowing q (ended around.indent (moved m w) o)
@@ -48,7 +47,7 @@ ended_behind {around = around} m w o parts p =
 
 told_behind : {around : Around} {start : Bool → State} {Is : List Kind → Type 0} {x : Context} {ls : List Level}
     {ps : List Place} (m : Marker) (w o : List ℕ) → IsSeparation around.indent w
-    → Told around start Is x ls ps m (w ++ o) → Told around start Is x ls ps (moved m w) o
+    → TellsPiece around start Is x ls ps m (w ++ o) → TellsPiece around start Is x ls ps (moved m w) o
 told_behind m w o parts t = record { tokens = t.tokens; are = t.are; passes = ended_behind m w o parts t.passes }
 
 abbrev pub PairInBraces : Node → Node → List Kind → Type 0
@@ -60,11 +59,12 @@ marked_in_braces key value t (inl h) = inl h
 marked_in_braces key value t (inr h) = inr (inl h)
 
 pair_text_passes : {around : Around} (room : ℕ) (key value : Node) → PassesNode around room key
-    → PassesNode around room value → (m : Marker) (t o : List ℕ) → Fits around m t o → IsBehindEntry around.indent o
+    → PassesNode around room value → (m : Marker) (t o : List ℕ) → FitsAround around m t o
+    → IsBehindEntry around.indent o
     → IsPairText key value (IsFlowNode room key true around.indent) (IsFlowNode room value true around.indent)
     around.indent t → (now : FlowMoment) → now.key ≡ None → now.allowed ≡ true
     → room + length now.outer ≤ 255 → now.adjacent < m.index → StandsBefore around now m (t ++ o)
-    → Told around (state_at around (moment_in context.FlowMapping now)) (PairInBraces key value)
+    → TellsPiece around (state_at around (moment_in context.FlowMapping now)) (PairInBraces key value)
     context.FlowMapping now.outer now.places (moved m t) o
 pair_text_passes {around} room key value K V m t o fits ends (inl (none, h)) now no_candidate fresh low before text =
     let n = K m t o (inl h) fits (entry_behind around.indent key o ends) (moment_in context.FlowMapping now)
@@ -94,12 +94,12 @@ pair_text_passes room key value K V m t o fits ends (inr (inr (inr h))) now no_c
 
 -- a pair in braces, with the separation behind it
 pub pair_passes : {around : Around} (room : ℕ) (key value : Node) → PassesNode around room key
-    → PassesNode around room value → (m : Marker) (t : List ℕ) (c : ℕ) (cs : List ℕ) → Fits around m t (c ∷ cs)
+    → PassesNode around room value → (m : Marker) (t : List ℕ) (c : ℕ) (cs : List ℕ) → FitsAround around m t (c ∷ cs)
     → (c ≡ 44) ⊎ ((c ≡ 93) ⊎ (c ≡ 125))
     → IsPair key value (IsFlowNode room key true around.indent) (IsFlowNode room value true around.indent) around.indent
     t → (now : FlowMoment) → now.key ≡ None → now.allowed ≡ true
     → room + length now.outer ≤ 255 → now.adjacent < m.index → StandsBefore around now m (t ++ (c ∷ cs))
-    → Told around (state_at around (moment_in context.FlowMapping now)) (PairInBraces key value)
+    → TellsPiece around (state_at around (moment_in context.FlowMapping now)) (PairInBraces key value)
     context.FlowMapping now.outer now.places (moved m t) (c ∷ cs)
 pair_passes room key value K V m t c cs fits ends (inl h) now no_candidate fresh low before text =
     told_so (marked_in_braces key value)
@@ -130,7 +130,7 @@ pub record ItemPasses (around : Around) (start : Bool → State) (Is : List Kind
   pub back : behind_entry inside ≡ context.FlowSequence
   pub tokens : List Kind
   pub are : Is (tokens ++ pending (ends_pair inside))
-  pub passes : Passes around start (ended around.indent m o) inside ls ps m o tokens
+  pub passes : PassesPiece around start (ended around.indent m o) inside ls ps m o tokens
 
 item_at : {around : Around} {start : Bool → State} {Is : List Kind → Type 0} {ls : List Level} {ps : List Place}
     {o : List ℕ} (m n : Marker) → m ≡ n → ItemPasses around start Is ls ps m o
@@ -153,7 +153,7 @@ item_behind m w o parts t =
 
 -- a node, with the separation behind it
 pub node_item_passes : {around : Around} (room : ℕ) (node : Node) → PassesNode around room node
-    → (m : Marker) (t : List ℕ) (c : ℕ) (cs : List ℕ) → Fits around m t (c ∷ cs)
+    → (m : Marker) (t : List ℕ) (c : ℕ) (cs : List ℕ) → FitsAround around m t (c ∷ cs)
     → (c ≡ 44) ⊎ ((c ≡ 93) ⊎ (c ≡ 125)) → IsBeforeSeparation (IsFlowNode room node true around.indent) around.indent t
     → (now : FlowMoment) → room + length now.outer ≤ 255 → now.adjacent < m.index
     → StandsBefore around now m (t ++ (c ∷ cs))
@@ -200,7 +200,8 @@ same_line m node blanks h are =
     (sym (blanks_moved (moved m node) blanks are ∙ ap (λ (k : Marker). along k (length blanks)) (moved_along m node h)))
 
 single_text_passes : {around : Around} (room : ℕ) (key value : Node) → PassesNode around room key
-    → PassesNode around room value → (m : Marker) (t o : List ℕ) → Fits around m t o → IsBehindEntry around.indent o
+    → PassesNode around room value → (m : Marker) (t o : List ℕ) → FitsAround around m t o
+    → IsBehindEntry around.indent o
     → IsSinglePairText key value (IsFlowNode room key true around.indent) (IsFlowNode room value true around.indent)
     around.indent t → (now : FlowMoment) → now.key ≡ None → now.allowed ≡ true
     → room + length now.outer ≤ 255 → now.adjacent < m.index → StandsBefore around now m (t ++ o)
@@ -245,7 +246,7 @@ single_text_passes {around} room key value K V m t o fits ends (inr (inr h)) now
 
 -- a pair in brackets, with the separation behind it
 pub single_passes : {around : Around} (room : ℕ) (key value : Node) → PassesNode around room key
-    → PassesNode around room value → (m : Marker) (t : List ℕ) (c : ℕ) (cs : List ℕ) → Fits around m t (c ∷ cs)
+    → PassesNode around room value → (m : Marker) (t : List ℕ) (c : ℕ) (cs : List ℕ) → FitsAround around m t (c ∷ cs)
     → (c ≡ 44) ⊎ ((c ≡ 93) ⊎ (c ≡ 125))
     → IsSinglePair key value (IsFlowNode room key true around.indent) (IsFlowNode room value true around.indent)
     around.indent t → (now : FlowMoment) → now.key ≡ None → now.allowed ≡ true

@@ -10,12 +10,12 @@ use Rattle.saphyr_scanner.specs.declared.engine.level.Context.{Context}
 use Rattle.saphyr_scanner.specs.Grammar.Tokens.{Kind}
 use Rattle.saphyr_scanner.specs.Grammar.TokenGrammar as grammar
 use Rattle.saphyr_scanner.specs.Steps.Queue.{Place}
-use Rattle.saphyr_scanner.specs.Steps.Core.{Level, is_block}
+use Rattle.saphyr_scanner.specs.Steps.Level.{Level, is_block}
 use Rattle.saphyr_scanner.specs.Grammar.Forest.{Properties, no_properties}
 use Rattle.saphyr_scanner.specs.Grammar.FlowNodes.{IsProperties, IsBeforeContent}
 use Rattle.saphyr_scanner.proofs.InFlow.States.{Around, state_at, Calm, FlowMoment}
 use Rattle.saphyr_scanner.proofs.Json.Marks.{saved}
-use Rattle.saphyr_scanner.proofs.Flow.States.{Since, keeping, moved, past, IsParted, Passes, Fits, Reads, after, StandsBefore}
+use Rattle.saphyr_scanner.proofs.Flow.States.{Since, keeping, moved, past, IsParted, PassesPiece, FitsAround, ReaderPromises, after, StandsBefore}
 use Rattle.saphyr_scanner.proofs.Flow.Places.{moved_append, moved_index}
 use Rattle.saphyr_scanner.proofs.Flow.Joins.{since_join, join, separation_joins}
 use Rattle.saphyr_scanner.proofs.Flow.Properties.{behind_properties, properties_read}
@@ -30,7 +30,7 @@ pub record CollectionPasses (around : Around) (now : FlowMoment) (Is : List Kind
   pub are_properties : grammar.YieldProperties p properties
   pub inside : List Kind
   pub are : Is inside
-  pub passes : Passes around (state_at around now)
+  pub passes : PassesPiece around (state_at around now)
       (bracketed around.indent now.context (keeping now m t) (moved m t) o) now.context now.outer now.places (moved m t)
       o (properties ++ (b.opens ∷ (inside ++ b.closes ∷ [])))
 
@@ -62,7 +62,7 @@ Inside around Is b x ls m w inside o =
 bare_collection_passes : (around : Around) (p : Properties) → p ≡ no_properties → (Is : List Kind → Type 0)
     (b : Brackets)
     → AreBrackets b → (m : Marker) (w inside o : List ℕ)
-    → Fits around m (bracket_text b w inside) o → IsSeparation around.indent w
+    → FitsAround around m (bracket_text b w inside) o → IsSeparation around.indent w
     → IsParted around.indent (w ++ (inside ++ (b.closing ∷ o)))
     → (now : FlowMoment) → length now.outer < 255 → Calm around now.context → now.adjacent ≤ m.index
     → StandsBefore around now m (bracket_text b w inside ++ o) → Inside around Is b now.context now.outer m w inside o
@@ -80,9 +80,10 @@ bare_collection_passes around p none Is b are m w inside o fits parts parted now
     }
 
 -- behind properties and some separation
-collection_behind_properties : (around : Around) (p : Properties) → Reads → (Is : List Kind → Type 0) (b : Brackets)
+collection_behind_properties : (around : Around) (p : Properties) → ReaderPromises
+    → (Is : List Kind → Type 0) (b : Brackets)
     → AreBrackets b → (m : Marker) (t v w inside o : List ℕ)
-    → Fits around m ((t ++ v) ++ bracket_text b w inside) o
+    → FitsAround around m ((t ++ v) ++ bracket_text b w inside) o
     → IsProperties p t → v ≢ [] → IsSeparation around.indent v → IsSeparation around.indent w
     → IsParted around.indent (w ++ (inside ++ (b.closing ∷ o)))
     → (now : FlowMoment) → length now.outer < 255 → Calm around now.context → now.adjacent ≤ m.index
@@ -102,9 +103,11 @@ collection_behind_properties around p P Is b are m t v w inside o fits h some ga
     let start = state_at around now in
     let kept = keeping now m ((t ++ v) ++ body) in
     let front = keeping now m t in
-    let q : Passes around start (behind_properties now.context front now.adjacent) now.context now.outer now.places here
+    let q : PassesPiece around start (behind_properties now.context front now.adjacent) now.context now.outer now.places
+    here
     (body ++ o) pp.tokens =
-    subst (λ (e : Marker). Passes around start (behind_properties now.context front now.adjacent) now.context now.outer
+    subst (λ (e : Marker). PassesPiece around start (behind_properties now.context front now.adjacent) now.context
+    now.outer
     now.places e (body ++ o) pp.tokens) (sym (moved_append m t v)) (separation_joins (moved m t) v (body ++ o) gap
     pp.passes) in
     let still_before : q.adjacent ≤ here.index = subst (λ (n : ℕ). n ≤ here.index) (sym q.knows.still)
@@ -132,14 +135,15 @@ collection_behind_properties around p P Is b are m t v w inside o fits h some ga
           pp.are;
       inside = r.inside;
       are = r.are;
-      passes = subst (λ (e : Marker). Passes around start (bracketed around.indent now.context kept e o) now.context
+      passes = subst (λ (e : Marker). PassesPiece around start (bracketed around.indent now.context kept e o)
+          now.context
           now.outer now.places e o (pp.tokens ++ (b.opens ∷ (r.inside ++ b.closes ∷ []))))
           (sym (moved_append m (t ++ v) body)) (join q c (bracketed around.indent now.context kept end o) known);
     }
 
-pub collection_passes : (around : Around) (p : Properties) → Reads → (Is : List Kind → Type 0) (b : Brackets)
+pub collection_passes : (around : Around) (p : Properties) → ReaderPromises → (Is : List Kind → Type 0) (b : Brackets)
     → AreBrackets b → (m : Marker) (front w inside o : List ℕ)
-    → Fits around m (front ++ bracket_text b w inside) o
+    → FitsAround around m (front ++ bracket_text b w inside) o
     → IsBeforeContent p around.indent front → IsSeparation around.indent w
     → IsParted around.indent (w ++ (inside ++ (b.closing ∷ o)))
     → (now : FlowMoment) → length now.outer < 255 → Calm around now.context → now.adjacent ≤ m.index
@@ -149,7 +153,7 @@ pub collection_passes : (around : Around) (p : Properties) → Reads → (Is : L
 collection_passes around p P Is b are m front w inside o fits (inl (none, e)) parts parted now low calm
     before text run =
     subst
-    (λ (f : List ℕ). Fits around m (f ++ bracket_text b w inside) o
+    (λ (f : List ℕ). FitsAround around m (f ++ bracket_text b w inside) o
     → StandsBefore around now m ((f ++ bracket_text b w inside) ++ o)
     → Inside around Is b now.context now.outer (moved m f) w inside o
     → CollectionPasses around now Is b p m (f ++ bracket_text b w inside) o)
@@ -158,7 +162,7 @@ collection_passes around p P Is b are m front w inside o fits (inl (none, e)) pa
 collection_passes around p P Is b are m front w inside o fits (inr (t, v, h, some, gap, e)) parts parted now low calm
     before text run =
     subst
-    (λ (f : List ℕ). Fits around m (f ++ bracket_text b w inside) o
+    (λ (f : List ℕ). FitsAround around m (f ++ bracket_text b w inside) o
     → StandsBefore around now m ((f ++ bracket_text b w inside) ++ o)
     → Inside around Is b now.context now.outer (moved m f) w inside o
     → CollectionPasses around now Is b p m (f ++ bracket_text b w inside) o)

@@ -13,12 +13,12 @@ use Rattle.saphyr_scanner.proofs.Flow.Gaps.{stops_tab}
 -- ## By the characters that are passed
 
 -- P holds of each place and what is behind it, where it does where nothing is passed, and behind each character.
-pub record Steps (column : ℕ) (P : Marker → List ℕ → Marker × List ℕ → Type 0) : Type 0 where
+pub record GapCases (column : ℕ) (P : Marker → List ℕ → Marker × List ℕ → Type 0) : Type 0 where
   pub stays : (m : Marker) (t : List ℕ) → past column m t ≡ (m, t) → P m t (m, t)
   pub onward : (m : Marker) (c : ℕ) (cs : List ℕ) (r : Marker × List ℕ) → P (along m 1) cs r → P m (c ∷ cs) r
   pub line : (m : Marker) (c : ℕ) (cs : List ℕ) (r : Marker × List ℕ) → P (next_line m 1) cs r → P m (c ∷ cs) r
 
-step_kind : (column : ℕ) (P : Marker → List ℕ → Marker × List ℕ → Type 0) → Steps column P
+step_kind : (column : ℕ) (P : Marker → List ℕ → Marker × List ℕ → Type 0) → GapCases column P
     → (m : Marker) (c : ℕ) (cs : List ℕ) (is_tab is_white is_line is_sign : Bool) → stops_tab column m c cs ≡ is_tab
     → (is_blank c || ((c == 13) && (slice_index cs 0 == 10))) ≡ is_white → is_break c ≡ is_line → (c == 35) ≡ is_sign
     → P (along m 1) cs (past column (along m 1) cs) → P (next_line m 1) cs (past column (next_line m 1) cs)
@@ -57,7 +57,7 @@ ends_comment column m c cs e f =
     no_sign : (c : ℕ) → is_yaml_non_break c ≡ false → (c == 35) ≡ false
     no_sign c e = grind (arith, nat_tests)
 
-comment_step : (column : ℕ) (P : Marker → List ℕ → Marker × List ℕ → Type 0) → Steps column P
+comment_step : (column : ℕ) (P : Marker → List ℕ → Marker × List ℕ → Type 0) → GapCases column P
     → (m : Marker) (c : ℕ) (cs : List ℕ) (is_word is_return is_line : Bool)
     → is_yaml_non_break c ≡ is_word → ((c == 13) && (slice_index cs 0 == 10)) ≡ is_return → is_break c ≡ is_line
     → P (along m 1) cs (past_comment column (along m 1) cs) → P (along m 1) cs (past column (along m 1) cs)
@@ -73,7 +73,7 @@ comment_step column P steps m c cs false false false e f g word on line =
     rw (e, f, g) (steps.stays m (c ∷ cs) (ends_comment column m c cs e g))
 
 mutual
-  pub by_steps : (column : ℕ) (P : Marker → List ℕ → Marker × List ℕ → Type 0) → Steps column P
+  pub by_steps : (column : ℕ) (P : Marker → List ℕ → Marker × List ℕ → Type 0) → GapCases column P
       → (m : Marker) (t : List ℕ) → P m t (past column m t)
   by_steps column P steps m [] = steps.stays m [] refl
   by_steps column P steps m (c ∷ cs) =
@@ -82,7 +82,7 @@ mutual
       (by_steps column P steps (along m 1) cs) (by_steps column P steps (next_line m 1) cs)
       (comment_by_steps column P steps (along m 1) cs)
 
-  comment_by_steps : (column : ℕ) (P : Marker → List ℕ → Marker × List ℕ → Type 0) → Steps column P
+  comment_by_steps : (column : ℕ) (P : Marker → List ℕ → Marker × List ℕ → Type 0) → GapCases column P
       → (m : Marker) (t : List ℕ) → P m t (past_comment column m t)
   comment_by_steps column P steps m [] = steps.stays m [] refl
   comment_by_steps column P steps m (c ∷ cs) =
@@ -113,7 +113,7 @@ past_count column m t =
     further n i l e = omega (arith, e)
 
 -- what is left is no longer
-no_longer : (column : ℕ) → Steps column (λ m t r. length r.1 ≤ length t)
+no_longer : (column : ℕ) → GapCases column (λ m t r. length r.1 ≤ length t)
 no_longer column = record {
   stays =
       λ m t e. omega arith;

@@ -8,13 +8,12 @@ use Rattle.saphyr_scanner.specs.Grammar.Tokens as tokens
 use Rattle.saphyr_scanner.specs.Grammar.Tokens.{Kind}
 use Rattle.saphyr_scanner.specs.Grammar.TokenGrammar as grammar
 use Rattle.saphyr_scanner.specs.Steps.Queue.{Place}
-use Rattle.saphyr_scanner.specs.Steps.Core.{Level, is_block}
-use Rattle.saphyr_scanner.specs.Steps.Flow.{behind_entry, ends_pair}
+use Rattle.saphyr_scanner.specs.Steps.Level.{Level, is_block, behind_entry, ends_pair}
 use Rattle.saphyr_scanner.specs.Steps.State.{State}
 use Rattle.saphyr_scanner.specs.Grammar.Forest.{Properties, Node, Alias, Scalar, Seq, Map, Nodes, NoNode, MoreNodes, NoPair, MorePairs}
 use Rattle.saphyr_scanner.specs.Grammar.FlowNodes.{IsBeforeSeparation, IsSinglePairText, IsSinglePair, IsComma, IsLastComma, IsFlowNode, AreItems, AreOtherItems, IsPairItem}
 use Rattle.saphyr_scanner.proofs.InFlow.States.{Around, state_at, FlowMoment, moment_in}
-use Rattle.saphyr_scanner.proofs.Flow.States.{Fits, moved, past, IsParted, Passes, fresh_key, ended, PassesNode, after, StandsBefore}
+use Rattle.saphyr_scanner.proofs.Flow.States.{FitsAround, moved, past, IsParted, PassesPiece, fresh_key, ended, PassesNode, after, StandsBefore}
 use Rattle.saphyr_scanner.proofs.Flow.Places.{moved_append}
 use Rattle.saphyr_scanner.proofs.Flow.GapSteps.{past_ink, less_on, less_behind}
 use Rattle.saphyr_scanner.proofs.InBlock.Crossings.{fresh_in_flow}
@@ -106,10 +105,10 @@ items_ink indent room (MoreNodes node nodes) p o (item, others, i, h, e) =
 -- ## A comma and the separation behind it
 
 pub comma_behind : (around : Around) (y z : Context) → is_block y ≡ false → behind_entry y ≡ z
-    → (m : Marker) (comma o : List ℕ) → IsComma around.indent comma → Fits around m comma o → BeginsInk o
+    → (m : Marker) (comma o : List ℕ) → IsComma around.indent comma → FitsAround around m comma o → BeginsInk o
     → (now : FlowMoment) → now.adjacent ≤ (past around.indent m (comma ++ o)).0.index
     → StandsBefore around now m (comma ++ o)
-    → Passes around (state_at around (moment_in y now)) (fresh_key (moved m comma)) z now.outer now.places
+    → PassesPiece around (state_at around (moment_in y now)) (fresh_key (moved m comma)) z now.outer now.places
     (moved m comma) o (pending (ends_pair y) ++ tokens.FlowEntry ∷ [])
 comma_behind around y z flows back m comma o (separation, parts, e) fits b now before text =
     let whole = fits_so m comma ((44 ∷ []) ++ separation) o e fits in
@@ -134,9 +133,11 @@ comma_behind around y z flows back m comma o (separation, parts, e) fits b now b
     (p.knows.0, p.knows.1, less_on p.adjacent (moved m (44 ∷ [])) separation p.knows.2) in
     let start = state_at around (moment_in y now) in
     let ts = pending (ends_pair y) ++ tokens.FlowEntry ∷ [] in
-    let r = subst (λ (t : List ℕ). Passes around start (fresh_key (moved m t)) (behind_entry y) now.outer now.places
+    let r = subst (λ (t : List ℕ). PassesPiece around start (fresh_key (moved m t)) (behind_entry y) now.outer
+    now.places
     (moved m t) o ts) (sym e) q in
-    subst (λ (x : Context). Passes around start (fresh_key (moved m comma)) x now.outer now.places (moved m comma) o ts)
+    subst (λ (x : Context). PassesPiece around start (fresh_key (moved m comma)) x now.outer now.places (moved m comma)
+    o ts)
     back r
 
 -- ## One entry
@@ -144,7 +145,7 @@ comma_behind around y z flows back m comma o (separation, parts, e) fits b now b
 -- a pair that has no bracket of its own is passed
 abbrev pub PassesPairItem : Around → ℕ → Node → Type 0
 PassesPairItem around room node =
-    (m : Marker) (t : List ℕ) (c : ℕ) (cs : List ℕ) → Fits around m t (c ∷ cs) → EndsEntry c
+    (m : Marker) (t : List ℕ) (c : ℕ) (cs : List ℕ) → FitsAround around m t (c ∷ cs) → EndsEntry c
     → IsPairItem room node around.indent t → (now : FlowMoment) → now.key ≡ None → now.allowed ≡ true
     → room + length now.outer ≤ 255 → now.adjacent < m.index → StandsBefore around now m (t ++ (c ∷ cs))
     → ItemPasses around (state_at around (moment_in context.FlowSequence now)) (IsEntry node) now.outer now.places
@@ -159,7 +160,7 @@ pair_item_passes {around} room p key value K V m t c cs fits ends h now no_candi
     (single_passes room key value K V m t c cs fits ends h.1 now no_candidate fresh low before text)
 
 item_passes : {around : Around} (room : ℕ) (node : Node) → PassesNode around room node → PassesPairItem around room node
-    → (m : Marker) (t o : List ℕ) → Fits around m t o → BeginsEnd o → IsItem around.indent room node t
+    → (m : Marker) (t o : List ℕ) → FitsAround around m t o → BeginsEnd o → IsItem around.indent room node t
     → (now : FlowMoment) → now.key ≡ None → now.allowed ≡ true
     → room + length now.outer ≤ 255 → now.adjacent < m.index → StandsBefore around now m (t ++ o)
     → ItemPasses around (state_at around (moment_in context.FlowSequence now)) (IsEntry node) now.outer now.places
@@ -171,7 +172,7 @@ item_passes {around} room node N P m t o fits b h now no_candidate fresh low bef
     subst (λ (x : List ℕ). ItemPasses around start (IsEntry node) now.outer now.places (moved m t) x) (sym b.is)
     (by_kind h f there)
   where
-    by_kind : IsItem around.indent room node t → Fits around m t (b.first ∷ b.others)
+    by_kind : IsItem around.indent room node t → FitsAround around m t (b.first ∷ b.others)
         → StandsBefore around now m (t ++ (b.first ∷ b.others))
         → ItemPasses around (state_at around (moment_in context.FlowSequence now)) (IsEntry node) now.outer now.places
         (moved m t) (b.first ∷ b.others)
@@ -191,11 +192,12 @@ pub record OthersPass (around : Around) (start : Bool → State) (x : Context) (
   pub others : List Kind
   pub is : tokens ++ pending (ends_pair inside) ≡ pending (ends_pair x) ++ others
   pub are : grammar.YieldOtherFlowEntries nodes others
-  pub passes : Passes around start (ended around.indent m o) inside ls ps m o tokens
+  pub passes : PassesPiece around start (ended around.indent m o) inside ls ps m o tokens
 
 abbrev pub PassesOtherItems : Around → ℕ → Nodes → Type 0
 PassesOtherItems around room nodes =
-    (m : Marker) (p o : List ℕ) → AreOtherItems room nodes around.indent p → Fits around m p (93 ∷ o) → (x : Context)
+    (m : Marker) (p o : List ℕ) → AreOtherItems room nodes around.indent p → FitsAround around m p (93 ∷ o)
+    → (x : Context)
     → is_block x ≡ false → behind_entry x ≡ context.FlowSequence
     → (now : FlowMoment) → room + length now.outer ≤ 255 → now.adjacent ≤ (past around.indent m (p ++ (93 ∷ o))).0.index
     → StandsBefore around now m (p ++ (93 ∷ o))
@@ -294,7 +296,7 @@ others_pass {around} room node nodes N P O m p o (comma, item, others, c, i, h, 
 
 abbrev pub PassesItems : Around → ℕ → Nodes → Type 0
 PassesItems around room nodes =
-    (m : Marker) (p o : List ℕ) → AreItems room nodes around.indent p → Fits around m p (93 ∷ o)
+    (m : Marker) (p o : List ℕ) → AreItems room nodes around.indent p → FitsAround around m p (93 ∷ o)
     → (now : FlowMoment) → now.key ≡ None → now.allowed ≡ true → room + length now.outer ≤ 255 → now.adjacent < m.index
     → StandsBefore around now m (p ++ (93 ∷ o))
     → ItemPasses around (state_at around (moment_in context.FlowSequence now)) (grammar.YieldFlowEntries nodes)

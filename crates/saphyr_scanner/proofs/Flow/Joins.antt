@@ -7,21 +7,22 @@ use Rattle.saphyr_scanner.specs.declared.engine.level.Context.{Context}
 use Rattle.saphyr_scanner.specs.declared.engine.level.Context.TheVariants as context
 use Rattle.saphyr_scanner.specs.Grammar.Tokens.{Kind}
 use Rattle.saphyr_scanner.specs.Steps.Queue.{Place}
-use Rattle.saphyr_scanner.specs.Steps.Core.{Candidate, Level}
+use Rattle.saphyr_scanner.specs.Steps.Level.{Candidate, Level}
 use Rattle.saphyr_scanner.specs.Steps.State.{State}
-use Rattle.saphyr_scanner.proofs.InFlow.States.{Around, state_at, runs_to_itself, chains, Comes, FlowMoment, moment_with}
+use Rattle.saphyr_scanner.proofs.InFlow.States.{Around, state_at, runs_to_itself, chains, ComesAround, FlowMoment, moment_with}
 use Rattle.saphyr_scanner.proofs.Json.Marks.{kinds, kinds_append}
-use Rattle.saphyr_scanner.proofs.Flow.States.{moved, past, IsFresh, Since, Known, Passes, Closes, after, StandsBefore}
+use Rattle.saphyr_scanner.proofs.Flow.States.{moved, past, IsFresh, Since, Known, PassesPiece, Closes, after, StandsBefore}
 use Rattle.saphyr_scanner.proofs.Flow.Places.{moved_append}
 use Rattle.saphyr_scanner.proofs.Flow.Fillers.{separation_past, right_behind}
 use Rattle.saphyr_scanner.proofs.InBlock.Crossings.{separation_crosses}
 
 -- a piece, and another behind it
 pub join : {around : Around} {start : Bool → State} {known more : Known} {x y : Context} {ls ms : List Level}
-    {ps : List Place} {m e : Marker} {o z : List ℕ} {ts us : List Kind} → (p : Passes around start known x ls ps m o ts)
-    → (q : Passes around (state_at around (after p)) more y ms (ps ++ p.new)
+    {ps : List Place} {m e : Marker} {o z : List ℕ} {ts us : List Kind}
+    → (p : PassesPiece around start known x ls ps m o ts)
+    → (q : PassesPiece around (state_at around (after p)) more y ms (ps ++ p.new)
     e z us) → (all : Known) → all q.key q.allowed q.adjacent (p.new ++ q.new)
-    → Passes around start all y ms ps e z (ts ++ us)
+    → PassesPiece around start all y ms ps e z (ts ++ us)
 join {ps = ps} {ts = ts} {us = us} p q all knows =
     record {
       there = q.there;
@@ -69,7 +70,7 @@ since_join k m a w b j key f (inr (inr (front, back, place, is, g))) =
 
 -- a document's node, behind a piece that stands before it
 pub join_root : {around : Around} {start : Bool → State} {known : Known} {ps : List Place} {m e : Marker} {o z : List ℕ}
-    {ts us : List Kind} → (p : Passes around start known context.Block [] ps m o ts)
+    {ts us : List Kind} → (p : PassesPiece around start known context.Block [] ps m o ts)
     {j k : Option Candidate} {first next : Marker} {t u : List ℕ}
     → (q : Closes around (state_at around (after p)) j next
     u (ps ++ p.new) e z us) → Since k first t q.key → Closes around start k first t ps e z (ts ++ us)
@@ -93,7 +94,7 @@ join_root {ps = ps} {ts = ts} p q late =
 -- a document's node behind which no comment is noted
 pub closes_unnoted : {around : Around} {start : Bool → State} {known : Known} {ps : List Place} {m : Marker}
     {o : List ℕ}
-    {ts : List Kind} → (p : Passes around start known context.Block [] ps m o ts)
+    {ts : List Kind} → (p : PassesPiece around start known context.Block [] ps m o ts)
     → p.adjacent ≤ (past around.indent m o).0.index → {k : Option Candidate} {first : Marker} {t : List ℕ}
     → Since k first t p.key → Closes around start k first t ps m o ts
 closes_unnoted p low late = record {
@@ -120,7 +121,7 @@ closes_unnoted p low late = record {
 pub separation_joins : {around : Around} {start : Bool → State} {known : Known} {x : Context} {ls : List Level}
     {ps : List Place}
     {ts : List Kind} → (m : Marker) (w o : List ℕ) → IsSeparation around.indent w
-    → Passes around start known x ls ps m (w ++ o) ts → Passes around start known x ls ps (moved m w) o ts
+    → PassesPiece around start known x ls ps m (w ++ o) ts → PassesPiece around start known x ls ps (moved m w) o ts
 separation_joins {around = around} m w o h p =
     record {
       there = p.there;
@@ -138,8 +139,8 @@ separation_joins {around = around} m w o h p =
 
 -- what is known, told otherwise
 pub knowing : {around : Around} {start : Bool → State} {known : Known} {x : Context} {ls : List Level} {ps : List Place}
-    {m : Marker} {o : List ℕ} {ts : List Kind} → (p : Passes around start known x ls ps m o ts) → (other : Known)
-    → other p.key p.allowed p.adjacent p.new → Passes around start other x ls ps m o ts
+    {m : Marker} {o : List ℕ} {ts : List Kind} → (p : PassesPiece around start known x ls ps m o ts) → (other : Known)
+    → other p.key p.allowed p.adjacent p.new → PassesPiece around start other x ls ps m o ts
 knowing p other h =
     record {
       there = p.there;
@@ -160,10 +161,10 @@ knowing p other h =
 
 -- one step
 pub step_passes : {around : Around} {start : Bool → State} (next : FlowMoment) (new : List Place) (m : Marker)
-    (o : List ℕ) (ts : List Kind) (known : Known) → (c : Comes around start (moment_with new next))
+    (o : List ℕ) (ts : List Kind) (known : Known) → (c : ComesAround around start (moment_with new next))
     → around.indent ≤ m.col → StandsBefore around next m o → IsFresh next.context o next.allowed next.cursor
     → kinds new ≡ ts → known c.key next.allowed next.adjacent new
-    → Passes around start known next.context next.outer next.places m o ts
+    → PassesPiece around start known next.context next.outer next.places m o ts
 step_passes next new m o ts known c right fits fresh are knows =
     record {
       there = next.cursor;
@@ -184,7 +185,7 @@ step_passes next new m o ts known c right fits fresh are knows =
 -- no step
 pub passes_nothing : (around : Around) (now : FlowMoment) (m : Marker) (o : List ℕ) (known : Known) → around.indent
     ≤ m.col → StandsBefore around now m o → IsFresh now.context o now.allowed now.cursor → known now.key now.allowed
-    now.adjacent [] → Passes around (state_at around now) known now.context now.outer now.places m o []
+    now.adjacent [] → PassesPiece around (state_at around now) known now.context now.outer now.places m o []
 passes_nothing around now m o known right text fresh knows =
     record {
       there = now.cursor;

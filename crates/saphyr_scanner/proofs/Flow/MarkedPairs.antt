@@ -6,13 +6,11 @@ use Rattle.saphyr_scanner.specs.declared.engine.level.Context.{Context}
 use Rattle.saphyr_scanner.specs.Grammar.Tokens as tokens
 use Rattle.saphyr_scanner.specs.Grammar.Tokens.{Kind}
 use Rattle.saphyr_scanner.specs.Grammar.TokenGrammar as grammar
-use Rattle.saphyr_scanner.specs.Steps.Core.{is_block}
-use Rattle.saphyr_scanner.specs.Steps.Block.{behind_question}
-use Rattle.saphyr_scanner.specs.Steps.Value.{begins_pair, behind_colon}
+use Rattle.saphyr_scanner.specs.Steps.Level.{is_block, behind_question, begins_pair, behind_colon}
 use Rattle.saphyr_scanner.specs.Grammar.Forest.{Node, left_out}
 use Rattle.saphyr_scanner.specs.Grammar.FlowNodes.{IsColonAndValue, IsKeyAndValue, IsValueAlone, IsBehindMark, IsExplicitPair, IsLoneMark, IsFlowNode}
 use Rattle.saphyr_scanner.proofs.InFlow.States.{Around, state_at, FlowMoment, moment_in}
-use Rattle.saphyr_scanner.proofs.Flow.States.{Fits, moved, past, IsInk, IsParted, Passes, no_key, ended, PassesNode, after, StandsBefore}
+use Rattle.saphyr_scanner.proofs.Flow.States.{FitsAround, moved, past, IsInk, IsParted, PassesPiece, no_key, ended, PassesNode, after, StandsBefore}
 use Rattle.saphyr_scanner.proofs.Flow.Places.{moved_append}
 use Rattle.saphyr_scanner.proofs.Flow.GapSteps.{past_low, less_on}
 use Rattle.saphyr_scanner.proofs.Flow.Joins.{join, separation_joins, knowing}
@@ -20,7 +18,7 @@ use Rattle.saphyr_scanner.proofs.Flow.Values.{alone_kinds}
 use Rattle.saphyr_scanner.proofs.Flow.Questions.{mark_passes}
 use Rattle.saphyr_scanner.proofs.Flow.Inks.{BeginsInk, begins_with, ink_front, node_ink, key_text_ink}
 use Rattle.saphyr_scanner.proofs.Flow.Pieces.{fits_front, fits_back, fits_so, IsBehindEntry, end_ink, entry_behind}
-use Rattle.saphyr_scanner.proofs.Flow.Pairs.{Told, told_at, told_so, PairTokens, AloneTokens, alone_passes, marked_key_passes}
+use Rattle.saphyr_scanner.proofs.Flow.Pairs.{TellsPiece, told_at, told_so, PairTokens, AloneTokens, alone_passes, marked_key_passes}
 
 -- the tokens of such a pair
 abbrev pub MarkedTokens : Node → Node → List Kind → Type 0
@@ -38,10 +36,10 @@ pub record IsMarked (y z : Context) : Type 0 where
 
 -- the `?` and the separation behind it
 mark_behind : (around : Around) (y z : Context) → IsMarked y z → (m : Marker) (separation o : List ℕ)
-    → Fits around m (63 ∷ separation) o → IsBehindMark around.indent separation → (first : ℕ) (others : List ℕ)
+    → FitsAround around m (63 ∷ separation) o → IsBehindMark around.indent separation → (first : ℕ) (others : List ℕ)
     → o ≡ first ∷ others → IsInk first → (now : FlowMoment) → now.adjacent ≤ m.index
     → StandsBefore around now m (63 ∷ (separation ++ o))
-    → Passes around (state_at around (moment_in y now)) (no_key (moved m (63 ∷ separation))) z now.outer now.places
+    → PassesPiece around (state_at around (moment_in y now)) (no_key (moved m (63 ∷ separation))) z now.outer now.places
     (moved m (63 ∷ separation)) o (tokens.Key ∷ [])
 mark_behind around y z c m separation o fits (some, parts, tabs) first others is ink now before text =
     let parted : IsParted around.indent (separation ++ o) =
@@ -58,7 +56,7 @@ mark_behind around y z c m separation o fits (some, parts, tabs) first others is
     let p = mark_passes around y c.flows m (separation ++ o) f parted some tabs now before text in
     let start = state_at around (moment_in y now) in
     let q = separation_joins (moved m (63 ∷ [])) separation o parts p in
-    subst (λ (x : Context). Passes around start (no_key (moved m (63 ∷ separation))) x now.outer now.places
+    subst (λ (x : Context). PassesPiece around start (no_key (moved m (63 ∷ separation))) x now.outer now.places
     (moved m (63 ∷ separation)) o (tokens.Key ∷ [])) c.question (knowing q (no_key (moved m (63 ∷ separation)))
     (q.knows.0, q.knows.1, less_on q.adjacent (moved m (63 ∷ [])) separation q.knows.2))
 
@@ -99,11 +97,13 @@ abbrev InsideTokens : Node → Node → List Kind → Type 0
 InsideTokens key value t = MarkedTokens key value (tokens.Key ∷ t)
 
 inside_passes : {around : Around} (room : ℕ) (key value : Node) → PassesNode around room key
-    → PassesNode around room value → (y z : Context) → IsMarked y z → (m : Marker) (t o : List ℕ) → Fits around m t o
+    → PassesNode around room value → (y z : Context) → IsMarked y z → (m : Marker) (t o : List ℕ)
+    → FitsAround around m t o
     → IsBehindEntry around.indent o → Inside around.indent room key value t
     → (now : FlowMoment) → now.key ≡ None → now.allowed ≡ false
     → room + length now.outer ≤ 255 → now.adjacent < m.index → StandsBefore around now m (t ++ o)
-    → Told around (state_at around (moment_in z now)) (InsideTokens key value) z now.outer now.places (moved m t) o
+    → TellsPiece around (state_at around (moment_in z now)) (InsideTokens key value) z now.outer now.places (moved m t)
+    o
 inside_passes {around} room key value K V y z c m t o fits ends (inl (none, h)) now no_candidate none_allowed
     low before text =
     let n = K m t o (inl h) fits (entry_behind around.indent key o ends) (moment_in z now) before c.inside low text in
@@ -126,7 +126,8 @@ inside_passes {around} room key value K V y z c m t o fits ends (inr (inl h)) no
       ap (λ (x : List Kind). tokens.Key ∷ x)
           (is ∙ ap (λ (b : Bool). alone_kinds b ++ (tokens.Value ∷ vs)) c.no_pair),
     ))
-    (subst (λ (x : Context). Told around start (AloneTokens (alone_kinds (begins_pair z)) value) x now.outer now.places
+    (subst (λ (x : Context). TellsPiece around start (AloneTokens (alone_kinds (begins_pair z)) value) x now.outer
+    now.places
     (moved m t) o) c.colon v)
 inside_passes {around} room key value K V y z c m t o fits ends (inr (inr h)) now no_candidate none_allowed
     low before text =
@@ -142,17 +143,19 @@ inside_passes {around} room key value K V y z c m t o fits ends (inr (inr h)) no
       (vs, others, refl),
       ap (λ (x : List Kind). tokens.Key ∷ x) is,
     ))
-    (subst (λ (x : Context). Told around start (PairTokens [] key value) x now.outer now.places (moved m t) o) c.colon
+    (subst (λ (x : Context). TellsPiece around start (PairTokens [] key value) x now.outer now.places (moved m t) o)
+    c.colon
     v)
 
 -- a `?` with a key, a value or both
 pub explicit_passes : {around : Around} (room : ℕ) (key value : Node) → PassesNode around room key
     → PassesNode around room value → (y z : Context) → IsMarked y z → (m : Marker) (t o : List ℕ)
-    → Fits around m t o → IsBehindEntry around.indent o
+    → FitsAround around m t o → IsBehindEntry around.indent o
     → IsExplicitPair key value (IsFlowNode room key true around.indent) (IsFlowNode room value true around.indent)
     around.indent t
     → (now : FlowMoment) → room + length now.outer ≤ 255 → now.adjacent < m.index → StandsBefore around now m (t ++ o)
-    → Told around (state_at around (moment_in y now)) (MarkedTokens key value) z now.outer now.places (moved m t) o
+    → TellsPiece around (state_at around (moment_in y now)) (MarkedTokens key value) z now.outer now.places (moved m t)
+    o
 explicit_passes {around} room key value K V y z c m t o fits ends (separation, pair, mark, h, e) now low before text =
     let b = inside_ink around.indent room key value pair h in
     let is : t ≡ (63 ∷ separation) ++ pair = e in
@@ -178,10 +181,11 @@ upto a b c h k = omega (arith, h, k)
 
 -- a `?` alone
 pub lone_passes : {around : Around} (key value : Node) (y z : Context) → IsMarked y z
-    → (m : Marker) (t : List ℕ) (c : ℕ) (cs : List ℕ) → Fits around m t (c ∷ cs) → (c ≡ 44) ⊎ ((c ≡ 93) ⊎ (c ≡ 125))
+    → (m : Marker) (t : List ℕ) (c : ℕ) (cs : List ℕ) → FitsAround around m t (c ∷ cs)
+    → (c ≡ 44) ⊎ ((c ≡ 93) ⊎ (c ≡ 125))
     → IsLoneMark key value around.indent t → (now : FlowMoment) → now.adjacent < m.index
     → StandsBefore around now m (t ++ (c ∷ cs))
-    → Told around (state_at around (moment_in y now)) (MarkedTokens key value) z now.outer now.places (moved m t)
+    → TellsPiece around (state_at around (moment_in y now)) (MarkedTokens key value) z now.outer now.places (moved m t)
     (c ∷ cs)
 lone_passes {around} key value y z q m t c cs fits ends (separation, no_key_there, none, mark, e) now before text =
     let p = mark_behind around y z q m separation (c ∷ cs) (fits_so m t (63 ∷ separation) (c ∷ cs) e fits) mark c cs

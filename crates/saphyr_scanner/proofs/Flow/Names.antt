@@ -1,5 +1,5 @@
 -- The anchors, aliases and tags of a text in flow style are passed.
-use Rattle.std.proofs.Common.{◌≡◌, ℕ, ◌+◌, ◌≤◌, Bool, true, false, List, [], ◌∷◌, ◌++◌, length, slice_index, refl, sym, ap, ◌∙◌, arith, subst, encode_utf8_all}
+use Rattle.std.proofs.Common.{◌≡◌, ℕ, ◌+◌, ◌≤◌, Bool, false, List, [], ◌∷◌, ◌++◌, length, slice_index, refl, sym, ap, ◌∙◌, arith, subst, encode_utf8_all}
 use Rattle.std.specs.Prelude.{◌==◌, not, Option}
 use Rattle.saphyr_input.specs.Classes.{is_break, is_anchor_char, line_feed}
 use Rattle.saphyr_scalar.specs.declared.scalar.position.Marker.{Marker}
@@ -11,10 +11,11 @@ use Rattle.saphyr_scanner.specs.declared.engine.level.Context.{Context}
 use Rattle.saphyr_scanner.specs.Grammar.Tokens as tokens
 use Rattle.saphyr_scanner.specs.Grammar.Tokens.{Kind, alias_token, anchor_token, tag_token}
 use Rattle.saphyr_scanner.specs.Grammar.Forest.{Tag}
-use Rattle.saphyr_scanner.specs.Steps.Core.{Candidate, Level, Core, is_block, from_to, went}
+use Rattle.saphyr_scanner.specs.Steps.Core.{Core, from_to, completed_step}
+use Rattle.saphyr_scanner.specs.Steps.Level.{Candidate, Level, is_block}
 use Rattle.saphyr_scanner.specs.Steps.Passing.{with_cursor}
 use Rattle.saphyr_scanner.specs.Steps.Property as property
-use Rattle.saphyr_scanner.specs.Steps.Property.{name_token, read_name, read_tag}
+use Rattle.saphyr_scanner.specs.Steps.Property.{read_name, read_tag}
 use Rattle.saphyr_scanner.specs.Steps.Scalar.{disallow_key}
 use Rattle.saphyr_scanner.specs.Steps.Fetch.{step}
 use Rattle.saphyr_scanner.specs.Grammar.TagSpelling.{IsTag}
@@ -22,7 +23,7 @@ use Rattle.saphyr_scanner.specs.Grammar.FlowNodes.{IsAnchor, IsAlias}
 use Rattle.saphyr_scanner.proofs.LineTexts.{name_no_break, tag_no_break}
 use Rattle.saphyr_scanner.proofs.InFlow.States.{Around, core_at, Placed, placed_right, saves_key, as_before, FlowMoment}
 use Rattle.saphyr_scanner.proofs.Json.Marks.{saved}
-use Rattle.saphyr_scanner.proofs.Flow.States.{moved, Reads, Fits, StandsBefore}
+use Rattle.saphyr_scanner.proofs.Flow.States.{moved, ReaderPromises, FitsAround, StandsBefore}
 use Rattle.saphyr_scanner.proofs.Flow.Places.{moved_along, right_along}
 use Rattle.saphyr_scanner.proofs.Flow.Tokens.{Begins, token_passes, PassesToken}
 use Rattle.saphyr_scanner.proofs.Flow.Tags.{tag_read, tag_first}
@@ -52,29 +53,31 @@ named_along m indicator name e h =
     let one : 1 + length name ≡ length (indicator ∷ name) = omega arith in
     ap (along m) one ∙ sym (unbroken_along m (indicator ∷ name) (e, name_no_break name h))
 
-pub name_step : Reads → (around : Around) (d : Bool) (is_alias : Bool) (n : ℕ) (m : Marker) (b : Bool) (indicator : ℕ)
+pub name_step : ReaderPromises → (around : Around) (d : Bool) (token_of : List ℕ
+    → Kind) (n : ℕ) (m : Marker) (b : Bool) (indicator : ℕ)
     (name o : List ℕ) → is_break indicator ≡ false → IsAnchorName name → is_anchor_char (slice_index o 0) ≡ false
     → (x : Context) (k : Option Candidate) (ls : List Level) (a : Bool) (ad : ℕ) → Placed around x a m
-    → property.name_steps is_alias n (core_at around d (cursor_at (indicator ∷ (name ++ o)) m b) x k ls a ad)
-    ≡ went (from_to m (moved m (indicator ∷ name)) (name_token is_alias (encode_utf8_all name)) ∷ [])
+    → property.name_steps token_of n (core_at around d (cursor_at (indicator ∷ (name ++ o)) m b) x k ls a ad)
+    ≡ completed_step (from_to m (moved m (indicator ∷ name)) (token_of (encode_utf8_all name)) ∷ [])
     (core_at around d (at (moved m (indicator ∷ name)) o) x (saved a n m k) ls false ad)
 unfolding property.name_steps read_name
-name_step reads around d is_alias n m b indicator name o e h ends x k ls a ad placed =
+name_step reads around d token_of n m b indicator name o e h ends x k ls a ad placed =
     let s = cursor_at (indicator ∷ (name ++ o)) m b in
     let c = core_at around d s x (saved a n m k) ls false ad in
-    let token = λ (y : List ℕ × Cursor). went (from_to m y.1.mark (name_token is_alias y.0) ∷ []) (with_cursor y.1 c) in
-    ap (λ (q : Core). read_name is_alias (disallow_key q)) (saves_key n around d s x k ls a ad placed)
+    let token = λ (y : List ℕ × Cursor). completed_step (from_to m y.1.mark (token_of y.0) ∷ []) (with_cursor y.1 c) in
+    ap (λ (q : Core). read_name token_of (disallow_key q)) (saves_key n around d s x k ls a ad placed)
     ∙ ap (λ q. q >>= token) (reads.anchor s indicator name o refl h ends)
     ∙ ap (λ (end : Marker). token (encode_utf8_all name, at end o)) (named_along m indicator name e h)
 
-name_passes : Reads → (around : Around) (is_alias : Bool) (indicator : ℕ) (name o : List ℕ) (m : Marker)
-    → ((second n : ℕ) (c : Core) → step indicator second n c ≡ property.name_steps is_alias n c)
+name_passes : ReaderPromises → (around : Around) (token_of : List ℕ
+    → Kind) (indicator : ℕ) (name o : List ℕ) (m : Marker)
+    → ((second n : ℕ) (c : Core) → step indicator second n c ≡ property.name_steps token_of n c)
     → Begins (indicator ∷ name) → is_break indicator ≡ false → IsAnchorName name
-    → is_anchor_char (slice_index o 0) ≡ false → Fits around m (indicator ∷ name) o
+    → is_anchor_char (slice_index o 0) ≡ false → FitsAround around m (indicator ∷ name) o
     → (now : FlowMoment) → StandsBefore around now m ((indicator ∷ name) ++ o) → PassesToken around
-    (closes_key now.adjacent) now m (indicator ∷ name) o (name_token is_alias (encode_utf8_all name))
-name_passes reads around is_alias indicator name o m begins first break h ends fits now text =
-    let kind = name_token is_alias (encode_utf8_all name) in
+    (closes_key now.adjacent) now m (indicator ∷ name) o (token_of (encode_utf8_all name))
+name_passes reads around token_of indicator name o m begins first break h ends fits now text =
+    let kind = token_of (encode_utf8_all name) in
     let end = moved m (indicator ∷ name) in
     token_passes around (closes_key now.adjacent) kind (indicator ∷ name) o m first fits
     (unbroken_right around.indent m (indicator ∷ name) (break, name_no_break name h) fits.right) now text
@@ -87,18 +90,18 @@ name_passes reads around is_alias indicator name o m begins first break h ends f
       deepens = as_before around;
       is = λ d. begins (slice_index (name ++ o) 0) (length now.places)
           (core_at around d (cursor_at (indicator ∷ (name ++ o)) m b) now.context j now.outer e now.adjacent)
-          ∙ name_step reads around d is_alias (length now.places) m b indicator name o break h ends now.context j
+          ∙ name_step reads around d token_of (length now.places) m b indicator name o break h ends now.context j
           now.outer e now.adjacent (placed_right now.context e fits.calm fits.right);
       fits = refl;
       fresh = λ _ e. e;
       tells = (refl, refl);
     })
 
-pub begins_anchor : (second n : ℕ) (c : Core) → step 38 second n c ≡ property.name_steps false n c
+pub begins_anchor : (second n : ℕ) (c : Core) → step 38 second n c ≡ property.anchor_steps n c
 unfolding step
 begins_anchor second n c = refl
 
-pub begins_alias : (second n : ℕ) (c : Core) → step 42 second n c ≡ property.name_steps true n c
+pub begins_alias : (second n : ℕ) (c : Core) → step 42 second n c ≡ property.alias_steps n c
 unfolding step
 begins_alias second n c = refl
 
@@ -126,37 +129,42 @@ alias_first name = record {
   directive = refl;
 }
 
-pub anchor_passes : Reads → (around : Around) (name t o : List ℕ) (m : Marker) → IsAnchor name t
-    → is_anchor_char (slice_index o 0) ≡ false → Fits around m t o → (now : FlowMoment) → StandsBefore around now m
+pub anchor_passes : ReaderPromises → (around : Around) (name t o : List ℕ) (m : Marker) → IsAnchor name t
+    → is_anchor_char (slice_index o 0) ≡ false → FitsAround around m t o → (now : FlowMoment)
+    → StandsBefore around now m
     (t ++ o) → PassesToken around (closes_key now.adjacent) now m t o (anchor_token name)
 anchor_passes reads around name t o m h ends fits now text =
-    subst (λ (p : List ℕ). Fits around m p o → StandsBefore around now m (p ++ o)
+    subst (λ (p : List ℕ). FitsAround around m p o → StandsBefore around now m (p ++ o)
     → PassesToken around (closes_key now.adjacent) now m p o (anchor_token name))
-    (sym h.1) (λ f e. name_passes reads around false 38 name o m begins_anchor (anchor_first name) refl h.0 ends f now
+    (sym h.1) (λ f e. name_passes reads around tokens.Anchor 38 name o m begins_anchor (anchor_first name) refl h.0 ends
+    f now
     e) fits text
 
-pub alias_token_passes : Reads → (around : Around) (name t o : List ℕ) (m : Marker) → IsAlias name t
-    → is_anchor_char (slice_index o 0) ≡ false → Fits around m t o → (now : FlowMoment) → StandsBefore around now m
+pub alias_token_passes : ReaderPromises → (around : Around) (name t o : List ℕ) (m : Marker) → IsAlias name t
+    → is_anchor_char (slice_index o 0) ≡ false → FitsAround around m t o → (now : FlowMoment)
+    → StandsBefore around now m
     (t ++ o) → PassesToken around (closes_key now.adjacent) now m t o (alias_token name)
 alias_token_passes reads around name t o m h ends fits now text =
-    subst (λ (p : List ℕ). Fits around m p o → StandsBefore around now m (p ++ o)
+    subst (λ (p : List ℕ). FitsAround around m p o → StandsBefore around now m (p ++ o)
     → PassesToken around (closes_key now.adjacent) now m p o (alias_token name))
-    (sym h.1) (λ f e. name_passes reads around true 42 name o m begins_alias (alias_first name) refl h.0 ends f now e)
+    (sym h.1) (λ f e. name_passes reads around tokens.Alias 42 name o m begins_alias (alias_first name) refl h.0 ends f
+    now e)
     fits text
 
 -- ## Tags
 
-pub tag_step : Reads → (around : Around) (d : Bool) (n : ℕ) (m : Marker) (b : Bool) (t handle suffix o : List ℕ)
+pub tag_step : ReaderPromises → (around : Around) (d : Bool) (n : ℕ) (m : Marker) (b : Bool)
+    (t handle suffix o : List ℕ)
     → IsTagText t handle suffix → (x : Context) (k : Option Candidate) (ls : List Level) (a : Bool) (ad : ℕ)
     → EndsTag (not (is_block x)) o → Placed around x a m
     → property.tag_steps n (core_at around d (cursor_at (t ++ o) m b) x k ls a ad)
-    ≡ went (from_to m (moved m t) (tokens.Tag (encode_utf8_all handle) (encode_utf8_all suffix)) ∷ [])
+    ≡ completed_step (from_to m (moved m t) (tokens.Tag (encode_utf8_all handle) (encode_utf8_all suffix)) ∷ [])
     (core_at around d (at (moved m t) o) x (saved a n m k) ls false ad)
 unfolding property.tag_steps read_tag
 tag_step reads around d n m b t handle suffix o h x k ls a ad ends placed =
     let s = cursor_at (t ++ o) m b in
     let c = core_at around d s x (saved a n m k) ls false ad in
-    let token = λ (y : List ℕ × List ℕ × Cursor). went (from_to m y.2.mark (tokens.Tag y.0 y.1) ∷ [])
+    let token = λ (y : List ℕ × List ℕ × Cursor). completed_step (from_to m y.2.mark (tokens.Tag y.0 y.1) ∷ [])
     (with_cursor y.2 c) in
     ap (λ (q : Core). read_tag (disallow_key q)) (saves_key n around d s x k ls a ad placed)
     ∙ ap (λ q. q >>= token) (reads.tag (not (is_block x)) s t handle suffix o refl h ends)
@@ -167,7 +175,8 @@ pub begins_tag : (second n : ℕ) (c : Core) → step 33 second n c ≡ property
 unfolding step
 begins_tag second n c = refl
 
-pub tag_passes : Reads → (around : Around) (tag : Tag) (t o : List ℕ) (m : Marker) → IsTag tag t → Fits around m t o
+pub tag_passes : ReaderPromises → (around : Around) (tag : Tag) (t o : List ℕ) (m : Marker) → IsTag tag t
+    → FitsAround around m t o
     → (now : FlowMoment) → EndsTag (not (is_block now.context)) o → StandsBefore around now m (t ++ o)
     → PassesToken around (closes_key now.adjacent) now m t o (tag_token tag)
 tag_passes reads around tag t o m h fits now ends text =

@@ -2,11 +2,11 @@
 use Rattle.std.proofs.Common.{◌≡◌, ℕ, ◌+◌, ◌<◌, ◌≤◌, true, false, List, [], ◌∷◌, ◌++◌, length, refl, sym, ap, ◌∙◌, arith, subst, inl, inr}
 use Rattle.saphyr_scalar.specs.declared.scalar.position.Marker.{Marker}
 use Rattle.saphyr_scanner.specs.Grammar.Tokens as tokens
-use Rattle.saphyr_scanner.specs.Steps.Core.{is_block}
+use Rattle.saphyr_scanner.specs.Steps.Level.{is_block}
 use Rattle.saphyr_scanner.specs.Grammar.Forest.{Style, Properties, Node, Alias, Scalar, Seq, Map, Nodes, NoNode, MoreNodes, Pairs, NoPair, MorePairs}
 use Rattle.saphyr_scanner.specs.Grammar.FlowNodes.{IsFlowNode}
 use Rattle.saphyr_scanner.proofs.InFlow.States.{Around, FlowMoment, root_moment}
-use Rattle.saphyr_scanner.proofs.Flow.States.{moved, past, Fits, IsParted, IsBehindNode, Reads, after_node, NodePasses, PassesNode, ClosesNode, ClosesNodes, StandsBefore, key_behind}
+use Rattle.saphyr_scanner.proofs.Flow.States.{moved, past, FitsAround, IsParted, IsBehindNode, ReaderPromises, after_node, NodePasses, PassesNode, ClosesNode, ClosesNodes, StandsBefore, key_behind}
 use Rattle.saphyr_scanner.proofs.Flow.GapSteps.{past_ink}
 use Rattle.saphyr_scanner.proofs.Flow.Joins.{knowing, closes_unnoted}
 use Rattle.saphyr_scanner.proofs.Flow.Inks.{BeginsInk, node_ink}
@@ -39,12 +39,12 @@ weaker a b h = omega (arith, h)
 -- a whole node inside flow is passed
 abbrev PassesWhole : Around → ℕ → Node → Type 0
 PassesWhole around room node =
-    (m : Marker) (p o : List ℕ) → IsFlowNode room node true around.indent p → Fits around m p o
+    (m : Marker) (p o : List ℕ) → IsFlowNode room node true around.indent p → FitsAround around m p o
     → IsBehindNode around.indent node o
     → (now : FlowMoment) → now.adjacent < m.index → is_block now.context ≡ false → room + length now.outer ≤ 255
     → StandsBefore around now m (p ++ o) → NodePasses around now node m p o
 
-sequence_passes : {around : Around} → Reads → (room : ℕ) (p : Properties) (nodes : Nodes)
+sequence_passes : {around : Around} → ReaderPromises → (room : ℕ) (p : Properties) (nodes : Nodes)
     → ((left : ℕ) → PassesItems around left nodes) → PassesWhole around room (Seq p nodes)
 sequence_passes {around} reads room p nodes items m t o h fits behind now before flow low text =
     let c = sequence_run reads room p nodes true items m t o h fits now
@@ -65,7 +65,7 @@ sequence_passes {around} reads room p nodes items m t o h fits behind now before
           (record { piece = n.piece; others = n.others; is = n.is; keeps = n.keeps; near = n.near; low = λ e. n.low });
     }
 
-mapping_passes : {around : Around} → Reads → (room : ℕ) (p : Properties) (pairs : Pairs)
+mapping_passes : {around : Around} → ReaderPromises → (room : ℕ) (p : Properties) (pairs : Pairs)
     → ((left : ℕ) → PassesPairs around left pairs) → PassesWhole around room (Map p pairs)
 mapping_passes {around} reads room p pairs members m t o h fits behind now before flow low text =
     let c = mapping_run reads room p pairs true members m t o h fits now
@@ -95,7 +95,7 @@ at_ink indent m t o ad b h =
 all_room : 255 + 0 ≤ 255
 all_room = omega arith
 
-sequence_closes : {around : Around} → Reads → (p : Properties) (nodes : Nodes)
+sequence_closes : {around : Around} → ReaderPromises → (p : Properties) (nodes : Nodes)
     → ((left : ℕ) → PassesItems around left nodes) → around.required ≡ false → ClosesNode around (Seq p nodes)
 sequence_closes {around} reads p nodes items none_required m t o h fits behind now before text =
     let low = at_ink around.indent m t o now.adjacent (node_ink around.indent 255 (Seq p nodes) false t h) before in
@@ -115,7 +115,7 @@ sequence_closes {around} reads p nodes items none_required m t o h fits behind n
       closes = closes_unnoted c.passes c.passes.knows.low c.passes.knows.since;
     }
 
-mapping_closes : {around : Around} → Reads → (p : Properties) (pairs : Pairs)
+mapping_closes : {around : Around} → ReaderPromises → (p : Properties) (pairs : Pairs)
     → ((left : ℕ) → PassesPairs around left pairs) → around.required ≡ false → ClosesNode around (Map p pairs)
 mapping_closes {around} reads p pairs members none_required m t o h fits behind now before text =
     let low = at_ink around.indent m t o now.adjacent (node_ink around.indent 255 (Map p pairs) false t h) before in
@@ -138,14 +138,14 @@ mapping_closes {around} reads p pairs members none_required m t o h fits behind 
 -- what is shown of a key before its colon
 abbrev KeyPasses : Around → ℕ → Properties → Style → List ℕ → Marker → List ℕ → List ℕ → Type 0
 KeyPasses around room p style value m t o =
-    Fits around m t o → IsBehindNode around.indent (Scalar p style value) o
+    FitsAround around m t o → IsBehindNode around.indent (Scalar p style value) o
     → (now : FlowMoment) → now.adjacent < m.index → is_block now.context ≡ false → room + length now.outer ≤ 255
     → StandsBefore around now m (t ++ o) → NodePasses around now (Scalar p style value) m t o
 
 -- ## All nodes
 
 mutual
-  pub nodes_pass : Reads → (around : Around) (room : ℕ) (node : Node) → PassesNode around room node
+  pub nodes_pass : ReaderPromises → (around : Around) (room : ℕ) (node : Node) → PassesNode around room node
   nodes_pass reads around room (Alias name) m t o (inl h) = alias_passes reads around room name m t o h
   nodes_pass reads around room (Alias name) m t o (inr h) = absurd h.0
   nodes_pass reads around room (Scalar p style value) m t o (inl h) =
@@ -161,19 +161,19 @@ mutual
       mapping_passes reads room p pairs (λ left. all_pairs_pass reads around left pairs) m t o h
   nodes_pass reads around room (Map p pairs) m t o (inr h) = absurd h.0
 
-  pub all_items_pass : Reads → (around : Around) (room : ℕ) (nodes : Nodes) → PassesItems around room nodes
+  pub all_items_pass : ReaderPromises → (around : Around) (room : ℕ) (nodes : Nodes) → PassesItems around room nodes
   all_items_pass reads around room NoNode = no_items_pass room
   all_items_pass reads around room (MoreNodes node nodes) =
       items_pass room node nodes (nodes_pass reads around room node) (all_pair_items_pass reads around room node)
       (all_others_pass reads around room nodes)
 
-  all_others_pass : Reads → (around : Around) (room : ℕ) (nodes : Nodes) → PassesOtherItems around room nodes
+  all_others_pass : ReaderPromises → (around : Around) (room : ℕ) (nodes : Nodes) → PassesOtherItems around room nodes
   all_others_pass reads around room NoNode = no_others_pass room
   all_others_pass reads around room (MoreNodes node nodes) =
       others_pass room node nodes (nodes_pass reads around room node) (all_pair_items_pass reads around room node)
       (all_others_pass reads around room nodes)
 
-  all_pair_items_pass : Reads → (around : Around) (room : ℕ) (node : Node) → PassesPairItem around room node
+  all_pair_items_pass : ReaderPromises → (around : Around) (room : ℕ) (node : Node) → PassesPairItem around room node
   all_pair_items_pass reads around room (Map p (MorePairs key value NoPair)) =
       pair_item_passes room p key value (nodes_pass reads around room key) (nodes_pass reads around room value)
   all_pair_items_pass reads around room (Map p (MorePairs key value (MorePairs other another pairs))) =
@@ -183,20 +183,21 @@ mutual
   all_pair_items_pass reads around room (Scalar p style value) = λ m t c cs fits ends h. absurd h
   all_pair_items_pass reads around room (Seq p nodes) = λ m t c cs fits ends h. absurd h
 
-  pub all_pairs_pass : Reads → (around : Around) (room : ℕ) (pairs : Pairs) → PassesPairs around room pairs
+  pub all_pairs_pass : ReaderPromises → (around : Around) (room : ℕ) (pairs : Pairs) → PassesPairs around room pairs
   all_pairs_pass reads around room NoPair = no_pairs_pass room
   all_pairs_pass reads around room (MorePairs key value pairs) =
       pairs_pass room key value pairs (nodes_pass reads around room key) (nodes_pass reads around room value)
       (all_other_pairs_pass reads around room pairs)
 
-  all_other_pairs_pass : Reads → (around : Around) (room : ℕ) (pairs : Pairs) → PassesOtherPairs around room pairs
+  all_other_pairs_pass : ReaderPromises → (around : Around) (room : ℕ) (pairs : Pairs)
+      → PassesOtherPairs around room pairs
   all_other_pairs_pass reads around room NoPair = no_other_pairs_pass room
   all_other_pairs_pass reads around room (MorePairs key value pairs) =
       other_pairs_pass room key value pairs (nodes_pass reads around room key) (nodes_pass reads around room value)
       (all_other_pairs_pass reads around room pairs)
 
 -- at block level, where no key is required
-pub nodes_close : Reads → (around : Around) → ClosesNodes around
+pub nodes_close : ReaderPromises → (around : Around) → ClosesNodes around
 nodes_close reads around none_required (Alias name) = alias_closes reads around name
 nodes_close reads around none_required (Scalar p style value) = scalar_closes reads around p style value
 nodes_close reads around none_required (Seq p nodes) =

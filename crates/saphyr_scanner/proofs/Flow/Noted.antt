@@ -5,11 +5,12 @@ use Rattle.saphyr_scalar.specs.declared.scalar.position.Marker.{Marker}
 use Rattle.saphyr_scalar.specs.Views.Cursor.{◌>>=◌}
 use Rattle.saphyr_scanner.specs.declared.engine.level.Context.TheVariants as context
 use Rattle.saphyr_scanner.specs.Steps.Queue.{Queue}
-use Rattle.saphyr_scanner.specs.Steps.Core.{Candidate, Core, Action, perform, went, is_too_far, drop_far_key}
-use Rattle.saphyr_scanner.specs.Steps.State.{State, carried, acted}
-use Rattle.saphyr_scanner.specs.Steps.Fetch.{step, state_behind_content, fetch_here, fetch, within, fetch_within}
+use Rattle.saphyr_scanner.specs.Steps.Core.{Core, Action, perform, completed_step, is_too_far, drop_far_key}
+use Rattle.saphyr_scanner.specs.Steps.Level.{Candidate}
+use Rattle.saphyr_scanner.specs.Steps.State.{State, on_core, after_step}
+use Rattle.saphyr_scanner.specs.Steps.Fetch.{step, state_behind_content, fetch_here, fetch, check_limit, fetch_within}
 use Rattle.saphyr_scanner.proofs.Leads.{stay, onward}
-use Rattle.saphyr_scanner.proofs.InFlow.States.{Around, core_at, state_at, key_left, left_or_none, Run, Runs, Deepens, FlowMoment, root_moment}
+use Rattle.saphyr_scanner.proofs.InFlow.States.{Around, core_at, state_at, key_left, left_or_none, Run, RunsTo, Deepens, FlowMoment, root_moment}
 use Rattle.saphyr_scanner.proofs.Json.States.{queue_of, none_before}
 use Rattle.saphyr_scanner.proofs.Flow.States.{noted}
 use Rattle.saphyr_scanner.proofs.Flow.Arrivals.{Arrives, BeginsToken, begins_here}
@@ -39,7 +40,7 @@ drops_noted around d comment now calm = by_distance (is_too_far now.key now.curs
 pub record NotedComes (around : Around) (start : Bool → State) (comment : Option Marker) (next : FlowMoment) : Type 0
   where
     pub key : Option Candidate
-    pub leads : Runs around (λ d. noted comment (state_at around (root_moment (record next { key = key })) d)) start
+    pub leads : RunsTo around (λ d. noted comment (state_at around (root_moment (record next { key = key })) d)) start
     pub kept : (key ≡ None) ⊎ (key ≡ next.key)
 
 noted_comes : (around : Around) (start : Bool → State) (comment : Option Marker) (next : FlowMoment) (to : Bool → Bool)
@@ -62,13 +63,13 @@ noted_comes around start comment next to deepens going is low calm =
     one : (d : Bool) → Run around d (λ e. noted comment (state_at around (root_moment (left_at next)) e)) (start d)
     one d =
         let st = noted comment (state_at around (root_moment next) (to d)) in
-        let fits : within around.limit st ≡ Ok st = rw (le-leb next.cursor.mark.index around.limit low) refl in
+        let fits : check_limit around.limit st ≡ Ok st = rw (le-leb next.cursor.mark.index around.limit low) refl in
         record {
           deeper = to d;
           flat = flatly d;
           leads = onward (start d) st (noted comment (state_at around (root_moment (left_at next)) (to d))) (going d)
-              (ap (λ r. r >>= within around.limit) (is d) ∙ fits)
-              (ap (λ r. carried r (queue_of next.places)) (drops_noted around (to d) comment next calm)) stay;
+              (ap (λ r. r >>= check_limit around.limit) (is d) ∙ fits)
+              (ap (λ r. on_core r (queue_of next.places)) (drops_noted around (to d) comment next calm)) stay;
         }
 
 -- what the step at the next token's first characters gives
@@ -77,7 +78,7 @@ pub noted_step_comes : (around : Around) (now : FlowMoment) (m : Marker) (y : Li
     → (comment : Option Marker) (next : FlowMoment) (actions : List Action) (to : Bool → Bool) → Deepens around to
     → ((d : Bool) → step (slice_index y 0) (slice_index y 1) (length now.places)
     (core_at around d (cursor_at y m v.blank) context.Block v.key [] v.allowed now.adjacent)
-    ≡ went actions (core_with around (to d) comment next))
+    ≡ completed_step actions (core_with around (to d) comment next))
     → perform actions (queue_of now.places) ≡ queue_of next.places → next.cursor.mark.index ≤ around.limit
     → NotedComes around (state_at around (root_moment now)) comment next
 unfolding fetch state_behind_content
@@ -87,9 +88,9 @@ noted_step_comes around now m y v h comment next actions to deepens is done low 
     (λ d. let c = core_at around d seen context.Block v.key [] v.allowed now.adjacent in
     let arrived = root_moment (record now { cursor = seen; key = v.key; allowed = v.allowed }) in
     let there = ap (λ r. r >>= fetch_here) (v.is d) ∙ begins_here around d arrived h v.right in
-    let at_place = ap (λ (n : ℕ). acted (step (slice_index y 0) (slice_index y 1) n c) (queue_of now.places))
+    let at_place = ap (λ (n : ℕ). after_step (step (slice_index y 0) (slice_index y 1) n c) (queue_of now.places))
     (none_before (length now.places)) in
-    let made = ap (λ r. acted r (queue_of now.places)) (is d)
+    let made = ap (λ r. after_step r (queue_of now.places)) (is d)
     ∙ ap (λ (q : Queue). Ok (let r : State =
     record { core = core_with around (to d) comment next; queue = q } in r)) done in
     there ∙ at_place ∙ made) low v.calm

@@ -8,14 +8,13 @@ use Rattle.saphyr_scanner.specs.Grammar.Tokens as tokens
 use Rattle.saphyr_scanner.specs.Grammar.Tokens.{Kind}
 use Rattle.saphyr_scanner.specs.Grammar.TokenGrammar as grammar
 use Rattle.saphyr_scanner.specs.Steps.Queue.{Place}
-use Rattle.saphyr_scanner.specs.Steps.Core.{Level, is_block}
-use Rattle.saphyr_scanner.specs.Steps.Value.{begins_pair, behind_colon}
+use Rattle.saphyr_scanner.specs.Steps.Level.{Level, is_block, begins_pair, behind_colon}
 use Rattle.saphyr_scanner.specs.Steps.State.{State}
 use Rattle.saphyr_scanner.specs.Grammar.Forest.{Node, left_out}
 use Rattle.saphyr_scanner.specs.Grammar.FlowNodes.{allows_adjacent, IsColonAndValue, IsBeforeColon, IsKeyAndValue, IsValueAlone, IsFlowNode, IsKeyText}
 use Rattle.saphyr_scanner.proofs.InFlow.States.{Around, state_at, FlowMoment, moment_in}
 use Rattle.saphyr_scanner.proofs.Json.Marks.{saved}
-use Rattle.saphyr_scanner.proofs.Flow.States.{moved, past, Fits, IsInk, IsParted, ends_colon, IsBehindNode, Known, Passes, no_key, ended, after_node, IsAfterNode, IsNodeOrKey, PassesNode, after, StandsBefore, key_behind}
+use Rattle.saphyr_scanner.proofs.Flow.States.{moved, past, FitsAround, IsInk, IsParted, ends_colon, IsBehindNode, Known, PassesPiece, no_key, ended, after_node, IsAfterNode, IsNodeOrKey, PassesNode, after, StandsBefore, key_behind}
 use Rattle.saphyr_scanner.proofs.Flow.Places.{moved_append, right_one}
 use Rattle.saphyr_scanner.proofs.Flow.GapSteps.{past_ink, less_on, less_behind}
 use Rattle.saphyr_scanner.proofs.Flow.Fillers.{separation_past, right_behind}
@@ -26,20 +25,21 @@ use Rattle.saphyr_scanner.proofs.Flow.Inks.{node_ink}
 use Rattle.saphyr_scanner.proofs.Flow.Pieces.{fits_front, fits_back, fits_so, fits_before, IsBehindEntry, entry_behind, entry_parted, ink_parted, white_ends_colon, entry_ends_colon}
 
 -- The tokens of a piece, of which something is told, and the run over its text.
-pub record Told (around : Around) (start : Bool → State) (Is : List Kind → Type 0) (x : Context) (ls : List Level)
+pub record TellsPiece (around : Around) (start : Bool → State) (Is : List Kind → Type 0) (x : Context) (ls : List Level)
     (ps : List Place) (m : Marker) (o : List ℕ) : Type 0 where
   pub tokens : List Kind
   pub are : Is tokens
-  pub passes : Passes around start (ended around.indent m o) x ls ps m o tokens
+  pub passes : PassesPiece around start (ended around.indent m o) x ls ps m o tokens
 
 pub told_at : {around : Around} {start : Bool → State} {Is : List Kind → Type 0} {x : Context} {ls : List Level}
-    {ps : List Place} {o : List ℕ} (m n : Marker) → m ≡ n → Told around start Is x ls ps m o
-    → Told around start Is x ls ps n o
-told_at {around} {start} {Is} {x} {ls} {ps} {o} m n e t = subst (λ (k : Marker). Told around start Is x ls ps k o) e t
+    {ps : List Place} {o : List ℕ} (m n : Marker) → m ≡ n → TellsPiece around start Is x ls ps m o
+    → TellsPiece around start Is x ls ps n o
+told_at {around} {start} {Is} {x} {ls} {ps} {o} m n e t =
+    subst (λ (k : Marker). TellsPiece around start Is x ls ps k o) e t
 
 pub told_so : {around : Around} {start : Bool → State} {Is Are : List Kind → Type 0} {x : Context} {ls : List Level}
     {ps : List Place} {m : Marker} {o : List ℕ} → ((t : List Kind) → Is t → Are t)
-    → Told around start Is x ls ps m o → Told around start Are x ls ps m o
+    → TellsPiece around start Is x ls ps m o → TellsPiece around start Are x ls ps m o
 told_so f t = record { tokens = t.tokens; are = f t.tokens t.are; passes = t.passes }
 
 -- the tokens of a value that may be left out
@@ -58,13 +58,13 @@ IsValueText indent room value rest =
 pub value_behind : {around : Around} {start : Bool → State} {ls : List Level} {ps : List Place} {ts : List Kind}
     (room : ℕ) (value : Node) → PassesNode around room value → (y : Context) → is_block y ≡ false
     → (m : Marker) (rest o : List ℕ)
-    → Fits around m rest o → IsBehindEntry around.indent o → room + length ls ≤ 255
-    → IsValueText around.indent room value rest → Passes around start (no_key m) y ls ps m (rest ++ o) ts
-    → Told around start (λ t. (vs : List Kind) × ValueTokens value vs × (t ≡ ts ++ vs)) y ls ps (moved m rest) o
+    → FitsAround around m rest o → IsBehindEntry around.indent o → room + length ls ≤ 255
+    → IsValueText around.indent room value rest → PassesPiece around start (no_key m) y ls ps m (rest ++ o) ts
+    → TellsPiece around start (λ t. (vs : List Kind) × ValueTokens value vs × (t ≡ ts ++ vs)) y ls ps (moved m rest) o
 value_behind {around} {start} {ls} {ps} {ts} room value V y flows m rest o fits ends low (inl (none, e)) p =
-    let q : Passes around start (no_key m) y ls ps (moved m rest) o ts = subst
-    (λ (t : List ℕ). Passes around start (no_key m) y ls ps m (t ++ o) ts
-    → Passes around start (no_key m) y ls ps (moved m t) o ts) (sym e) (λ k. k) p in
+    let q : PassesPiece around start (no_key m) y ls ps (moved m rest) o ts = subst
+    (λ (t : List ℕ). PassesPiece around start (no_key m) y ls ps m (t ++ o) ts
+    → PassesPiece around start (no_key m) y ls ps (moved m t) o ts) (sym e) (λ k. k) p in
     record {
       tokens = ts;
       are =
@@ -78,7 +78,7 @@ value_behind {around} {start} {ls} {ps} {ts} room value V y flows m rest o fits 
     let f = fits_back m separation node o right (fits_so m rest (separation ++ node) o e fits) in
     let text : rest ++ o ≡ separation ++ (node ++ o) = ap (λ (t : List ℕ). t ++ o) e ∙ append_assoc separation node o in
     let q = separation_joins m separation (node ++ o) parts
-    (subst (λ (t : List ℕ). Passes around start (no_key m) y ls ps m t ts) text p) in
+    (subst (λ (t : List ℕ). PassesPiece around start (no_key m) y ls ps m t ts) text p) in
     let n = V (moved m separation) node o (inl h) f (entry_behind around.indent value o ends) (after q)
     (less_on q.adjacent m separation q.knows.2) flows low q.fits in
     told_at (moved (moved m separation) node) (moved m rest)
@@ -135,11 +135,11 @@ PairTokens front key value t =
     (ks vs : List Kind) × grammar.YieldsNode key grammar.InFlow ks × ValueTokens value vs
     × (t ≡ front ++ (ks ++ tokens.Value ∷ vs))
 
-behind_key : (indent room : ℕ) (key value : Node) (separation rest o : List ℕ) → IsSeparation indent separation
+key_followed : (indent room : ℕ) (key value : Node) (separation rest o : List ℕ) → IsSeparation indent separation
     → IsBeforeColon key separation
     → (IsTrue (allows_adjacent key separation) ⊎ IsTrue (ends_colon (slice_index (rest ++ o) 0)))
     → IsBehindNode indent key (separation ++ (58 ∷ (rest ++ o)))
-behind_key indent room key value separation rest o parts apart ends =
+key_followed indent room key value separation rest o parts apart ends =
     record {
       separation = separation;
       first =
@@ -170,12 +170,12 @@ whole_moved m t node separation rest e =
 -- a key that may be one, without a mark before it
 pub key_passes : {around : Around} (room : ℕ) (key value : Node) → PassesNode around room key
     → PassesNode around room value → (y : Context) → is_block y ≡ false → (m : Marker) (t o : List ℕ)
-    → Fits around m t o → IsBehindEntry around.indent o
+    → FitsAround around m t o → IsBehindEntry around.indent o
     → (h : IsKeyAndValue key value (IsFlowNode room key true around.indent) (IsFlowNode room value true around.indent)
     around.indent t) → (begins_pair y ≡ true → m.line ≡ (moved (moved m h.0) h.1).line)
     → (now : FlowMoment) → now.allowed ≡ true
     → room + length now.outer ≤ 255 → now.adjacent < m.index → StandsBefore around now m (t ++ o)
-    → Told around (state_at around (moment_in y now)) (PairTokens (key_kinds (begins_pair y)) key value)
+    → TellsPiece around (state_at around (moment_in y now)) (PairTokens (key_kinds (begins_pair y)) key value)
     (behind_colon y) now.outer now.places (moved m t) o
 key_passes {around} room key value K V y flows m t o fits ends (node, separation, colon, h, parts, apart, c, e) line now
     fresh low before text =
@@ -195,7 +195,7 @@ key_passes {around} room key value K V y flows m t o fits ends (node, separation
     ∙ ap (λ (z : List ℕ). node ++ z) follow in
     let n = K m node (separation ++ (58 ∷ (rest ++ o)))
     (node_or_key around.indent room key node separation (rest ++ o) h) node_fits
-    (behind_key around.indent room key value separation rest o parts apart x.ends) (moment_in y now) before flows low
+    (key_followed around.indent room key value separation rest o parts apart x.ends) (moment_in y now) before flows low
     (text ∙ ap (past around.indent m) texts) in
     let at_colon_right = right_behind around.indent at_end separation parts n.passes.right in
     let colon_fits = fits_back at_end separation (58 ∷ rest) o at_colon_right
@@ -225,11 +225,11 @@ abbrev pub AloneTokens : List Kind → Node → List Kind → Type 0
 AloneTokens front value t = (vs : List Kind) × ValueTokens value vs × (t ≡ front ++ (tokens.Value ∷ vs))
 
 pub alone_passes : {around : Around} (room : ℕ) (key value : Node) → PassesNode around room value → (y : Context)
-    → is_block y ≡ false → (m : Marker) (t o : List ℕ) → Fits around m t o → IsBehindEntry around.indent o
+    → is_block y ≡ false → (m : Marker) (t o : List ℕ) → FitsAround around m t o → IsBehindEntry around.indent o
     → IsValueAlone key value (IsFlowNode room value true around.indent) around.indent t
     → (now : FlowMoment) → now.key ≡ None
     → room + length now.outer ≤ 255 → now.adjacent < m.index → StandsBefore around now m (t ++ o)
-    → Told around (state_at around (moment_in y now)) (AloneTokens (alone_kinds (begins_pair y)) value)
+    → TellsPiece around (state_at around (moment_in y now)) (AloneTokens (alone_kinds (begins_pair y)) value)
     (behind_colon y) now.outer now.places (moved m t) o
 alone_passes {around} room key value V y flows m t o fits ends (none, c) now no_candidate low before text =
     let x = is_colon_text around.indent room false value t o ends c in
@@ -269,11 +269,12 @@ at_colon here second key allowed adjacent new =
 -- behind `?` no key is kept
 pub marked_key_passes : {around : Around} (room : ℕ) (key value : Node) → PassesNode around room key
     → PassesNode around room value → (y : Context) → is_block y ≡ false → begins_pair y ≡ false
-    → (m : Marker) (t o : List ℕ) → Fits around m t o → IsBehindEntry around.indent o
+    → (m : Marker) (t o : List ℕ) → FitsAround around m t o → IsBehindEntry around.indent o
     → IsKeyAndValue key value (IsFlowNode room key true around.indent) (IsFlowNode room value true around.indent)
     around.indent t → (now : FlowMoment) → now.key ≡ None → now.allowed ≡ false
     → room + length now.outer ≤ 255 → now.adjacent < m.index → StandsBefore around now m (t ++ o)
-    → Told around (state_at around (moment_in y now)) (PairTokens [] key value) (behind_colon y) now.outer now.places
+    → TellsPiece around (state_at around (moment_in y now)) (PairTokens [] key value) (behind_colon y) now.outer
+    now.places
     (moved m t) o
 marked_key_passes {around} room key value K V y flows no_pair m t o fits ends
     (node, separation, colon, h, parts, apart, c, e) now no_candidate none_allowed low before text =
@@ -292,7 +293,7 @@ marked_key_passes {around} room key value K V y flows no_pair m t o fits ends
     ∙ ap (λ (z : List ℕ). node ++ z) follow in
     let n = K m node (separation ++ (58 ∷ (rest ++ o)))
     (node_or_key around.indent room key node separation (rest ++ o) h) node_fits
-    (behind_key around.indent room key value separation rest o parts apart x.ends) (moment_in y now) before flows low
+    (key_followed around.indent room key value separation rest o parts apart x.ends) (moment_in y now) before flows low
     (text ∙ ap (past around.indent m) texts) in
     let at_colon_right = right_behind around.indent at_end separation parts n.passes.right in
     let colon_fits = fits_back at_end separation (58 ∷ rest) o at_colon_right

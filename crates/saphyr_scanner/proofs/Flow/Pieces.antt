@@ -8,14 +8,15 @@ use Rattle.saphyr_scalar.specs.Spelling.Spaces.{IsSeparation}
 use Rattle.saphyr_scanner.specs.Grammar.Forest.{Node}
 use Rattle.saphyr_scanner.specs.Grammar.FlowNodes.{IsBeforeColon, allows_adjacent}
 use Rattle.saphyr_scanner.proofs.InFlow.States.{Around}
-use Rattle.saphyr_scanner.proofs.Flow.States.{moved, IsInk, IsParted, ends_colon, IsBehindNode, Fits}
+use Rattle.saphyr_scanner.proofs.Flow.States.{moved, IsInk, IsParted, ends_colon, IsBehindNode, FitsAround}
 use Rattle.saphyr_scanner.proofs.Flow.Places.{moved_count, clear_front, clear_back}
 use Rattle.saphyr_scanner.proofs.Flow.Spaces.{separation_begins}
 use Rattle.saphyr_scanner.proofs.Flow.Inks.{BeginsInk}
 
 -- ## A piece in parts
 
-pub fits_front : {around : Around} (m : Marker) (a b o : List ℕ) → Fits around m (a ++ b) o → Fits around m a (b ++ o)
+pub fits_front : {around : Around} (m : Marker) (a b o : List ℕ) → FitsAround around m (a ++ b) o
+    → FitsAround around m a (b ++ o)
 fits_front {around} m a b o h =
     record {
       clear = clear_front m a b o h.clear;
@@ -27,18 +28,20 @@ fits_front {around} m a b o h =
     }
 
 pub fits_back : {around : Around} (m : Marker) (a b o : List ℕ) → around.indent ≤ (moved m a).col
-    → Fits around m (a ++ b) o → Fits around (moved m a) b o
+    → FitsAround around m (a ++ b) o → FitsAround around (moved m a) b o
 fits_back {around} m a b o right h =
     let whole : m.index + length (a ++ (b ++ o)) ≤ around.limit =
     subst (λ (t : List ℕ). m.index + length t ≤ around.limit) (append_assoc a b o) h.below in
     let count = moved_count m a (b ++ o) in
     record { clear = clear_back m a b o h.clear; below = omega (arith, whole, count); right = right; calm = h.calm }
 
-pub fits_so : {around : Around} (m : Marker) (p q o : List ℕ) → p ≡ q → Fits around m p o → Fits around m q o
-fits_so {around} m p q o e h = subst (λ (t : List ℕ). Fits around m t o) e h
+pub fits_so : {around : Around} (m : Marker) (p q o : List ℕ) → p ≡ q → FitsAround around m p o
+    → FitsAround around m q o
+fits_so {around} m p q o e h = subst (λ (t : List ℕ). FitsAround around m t o) e h
 
-pub fits_before : {around : Around} (m : Marker) (p o q : List ℕ) → o ≡ q → Fits around m p o → Fits around m p q
-fits_before {around} m p o q e h = subst (Fits around m p) e h
+pub fits_before : {around : Around} (m : Marker) (p o q : List ℕ) → o ≡ q → FitsAround around m p o
+    → FitsAround around m p q
+fits_before {around} m p o q e h = subst (FitsAround around m p) e h
 
 -- ## What stands behind
 

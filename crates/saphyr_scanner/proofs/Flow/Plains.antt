@@ -14,7 +14,8 @@ use Rattle.saphyr_scanner.specs.declared.engine.level.Context.TheVariants as con
 use Rattle.saphyr_scanner.specs.Grammar.Tokens as tokens
 use Rattle.saphyr_scanner.specs.Grammar.Tokens.{Kind, scalar_token}
 use Rattle.saphyr_scanner.specs.Grammar.Forest.{Plain}
-use Rattle.saphyr_scanner.specs.Steps.Core.{Candidate, Level, Core, is_block, from_to, went}
+use Rattle.saphyr_scanner.specs.Steps.Core.{Core, from_to, completed_step}
+use Rattle.saphyr_scanner.specs.Steps.Level.{Candidate, Level, is_block}
 use Rattle.saphyr_scanner.specs.Steps.Scalar as scalar
 use Rattle.saphyr_scanner.specs.Steps.Scalar.{read_plain, disallow_key, behind_plain}
 use Rattle.saphyr_scanner.specs.Steps.Fetch.{step, is_value_adjacent}
@@ -22,8 +23,8 @@ use Rattle.saphyr_scanner.specs.Grammar.FlowScalars.{begins_plain, IsPlain, IsPl
 use Rattle.saphyr_scalar.specs.Spelling.Tag.{AreIn}
 use Rattle.saphyr_scanner.proofs.InFlow.States.{Around, core_at, state_at, Placed, placed_right, plain_placed, saves_key, none_deeper, FlowMoment, moment, root_moment}
 use Rattle.saphyr_scanner.proofs.Json.Marks.{saved}
-use Rattle.saphyr_scanner.proofs.Json.Brackets.{place_of}
-use Rattle.saphyr_scanner.proofs.Flow.States.{moved, past, IsClear, IsInk, Reads, Closes, Fits, StandsBefore}
+use Rattle.saphyr_scanner.proofs.Json.Brackets.{token_place}
+use Rattle.saphyr_scanner.proofs.Flow.States.{moved, past, IsClear, IsInk, ReaderPromises, Closes, FitsAround, StandsBefore}
 use Rattle.saphyr_scanner.proofs.Flow.Places.{moved_count}
 use Rattle.saphyr_scanner.proofs.Flow.Fillers.{white_past}
 use Rattle.saphyr_scanner.proofs.Flow.GapSteps.{past_ink}
@@ -214,12 +215,12 @@ found indent f o end v = Ok (
       false o,
 )
 
-plain_read : Reads → (around : Around) (d : Bool) (n : ℕ) (m : Marker) (b : Bool) (t o : List ℕ) (x : Context)
+plain_read : ReaderPromises → (around : Around) (d : Bool) (n : ℕ) (m : Marker) (b : Bool) (t o : List ℕ) (x : Context)
     → IsPlainText (not (is_block x)) around.indent m t o → IsClear m t o
     → (k : Option Candidate) (ls : List Level) (a : Bool) (ad : ℕ) → Placed around x a m
     → let u = past_white (moved m t) false o in scalar.plain_steps n
     (core_at around d (cursor_at (t ++ o) m b) x k ls a ad)
-    ≡ went (from_to m (moved m t) (plain_token t) ∷ [])
+    ≡ completed_step (from_to m (moved m t) (plain_token t) ∷ [])
     (record (core_at around false u x (saved a n m k) ls u.blank_so_far ad)
     { comment = comment_of (not (is_block x)) (is_tabbed around.indent o) u })
 unfolding scalar.plain_steps read_plain
@@ -227,7 +228,8 @@ plain_read reads around d n m b t o x h clear k ls a ad placed =
     let s = cursor_at (t ++ o) m b in
     let f = not (is_block x) in
     let c = core_at around false s x (saved a n m k) ls false ad in
-    let token = λ (z : List ℕ × Marker × Option Marker × Cursor). went (from_to m z.1 (tokens.Scalar Plain z.0) ∷ [])
+    let token = λ (z : List ℕ × Marker × Option Marker × Cursor). completed_step
+    (from_to m z.1 (tokens.Scalar Plain z.0) ∷ [])
     (behind_plain z.2 z.3 c) in
     let refused : (f && nat_lt m.col around.indent) ≡ false = plain_placed around x a m placed in
     let got = reads.plain f around.indent s t o refl h
@@ -263,13 +265,14 @@ plain_dispatches around d s n t o x w k ls a ad low =
         subst (λ (y : List ℕ). IsTrue (is_word_ink f (slice_index (y ++ o) 1))) (sym w.is) (w.further e)
 
 -- The premises of a step over a plain scalar: outside flow, or where no colon may stand at once.
-pub plain_step : Reads → (around : Around) (d : Bool) (n : ℕ) (m : Marker) (b : Bool) (t o : List ℕ) (x : Context)
+pub plain_step : ReaderPromises → (around : Around) (d : Bool) (n : ℕ) (m : Marker) (b : Bool) (t o : List ℕ)
+    (x : Context)
     → BeginsWord (not (is_block x)) t o → IsPlainText (not (is_block x)) around.indent m t o → IsClear m t o
     → (k : Option Candidate) (ls : List Level) (a : Bool) (ad : ℕ) → (is_block x ≡ true) ⊎ (ad < m.index)
     → Placed around x a m
     → let u = past_white (moved m t) false o in
     step (slice_index (t ++ o) 0) (slice_index (t ++ o) 1) n (core_at around d (cursor_at (t ++ o) m b) x k ls a ad)
-    ≡ went (from_to m (moved m t) (plain_token t) ∷ [])
+    ≡ completed_step (from_to m (moved m t) (plain_token t) ∷ [])
     (record (core_at around false u x (saved a n m k) ls u.blank_so_far ad)
     { comment = comment_of (not (is_block x)) (is_tabbed around.indent o) u })
 plain_step reads around d n m b t o x begins text clear k ls a ad low placed =
@@ -283,8 +286,8 @@ unfolding comment_of
 no_comment f t u e = rw e refl
 
 -- a text that is read as a plain scalar is passed
-pub text_passes : Reads → (around : Around) (t o : List ℕ) (m : Marker) → BeginsWord true t o
-    → IsPlainText true around.indent m t o → Fits around m t o → around.indent ≤ (moved m t).col
+pub text_passes : ReaderPromises → (around : Around) (t o : List ℕ) (m : Marker) → BeginsWord true t o
+    → IsPlainText true around.indent m t o → FitsAround around m t o → around.indent ≤ (moved m t).col
     → is_blank (slice_index (past around.indent (moved m t) o).1 0) ≡ false
     → (now : FlowMoment) → is_block now.context ≡ false → now.adjacent < m.index → StandsBefore around now m (t ++ o)
     → PassesToken around (adjacent_at now.adjacent) now m t o (scalar_token Plain (plain_value t))
@@ -305,7 +308,7 @@ text_passes reads around t o m begins plain fits right inked now flow low text =
       deepens = none_deeper around;
       is = λ d. plain_step reads around d (length now.places) m b t o now.context word is_text fits.clear j now.outer e
           now.adjacent (inr low) (placed_right now.context e fits.calm fits.right)
-          ∙ ap (λ (q : Option Marker). went (from_to m (moved m t) (plain_token t) ∷ [])
+          ∙ ap (λ (q : Option Marker). completed_step (from_to m (moved m t) (plain_token t) ∷ [])
           (record (core_at around false u now.context (saved e (length now.places) m j) now.outer u.blank_so_far
           now.adjacent) { comment = q }))
           (no_comment (not (is_block now.context)) (is_tabbed around.indent o) u inside);
@@ -314,8 +317,8 @@ text_passes reads around t o m begins plain fits right inked now flow low text =
       tells = refl;
     })
 
-pub plain_passes : Reads → (around : Around) (t o : List ℕ) (m : Marker) → IsPlain true around.indent t
-    → Fits around m t o → EndsPlain true around.indent (moved m t) o
+pub plain_passes : ReaderPromises → (around : Around) (t o : List ℕ) (m : Marker) → IsPlain true around.indent t
+    → FitsAround around m t o → EndsPlain true around.indent (moved m t) o
     → is_blank (slice_index (past around.indent (moved m t) o).1 0) ≡ false
     → (now : FlowMoment) → is_block now.context ≡ false → now.adjacent < m.index → StandsBefore around now m (t ++ o)
     → PassesToken around (adjacent_at now.adjacent) now m t o (scalar_token Plain (plain_value t))
@@ -325,8 +328,8 @@ plain_passes reads around t o m h fits ends inked =
     (plain_right true around.indent m t o h fits.clear fits.right) inked
 
 -- a key is passed, up to its colon
-pub plain_key_passes : Reads → (around : Around) (t r : List ℕ) (m : Marker) → IsPlainKey true around.indent t
-    → Fits around m t (58 ∷ r) → EndsPlain true around.indent (moved m t) (58 ∷ r)
+pub plain_key_passes : ReaderPromises → (around : Around) (t r : List ℕ) (m : Marker) → IsPlainKey true around.indent t
+    → FitsAround around m t (58 ∷ r) → EndsPlain true around.indent (moved m t) (58 ∷ r)
     → (now : FlowMoment) → is_block now.context ≡ false → now.adjacent < m.index → StandsBefore around now m
     (t ++ (58 ∷ r))
     → PassesToken around (adjacent_at now.adjacent) now m t (58 ∷ r) (scalar_token Plain (plain_value t))
@@ -341,8 +344,8 @@ plain_key_passes reads around t r m h fits ends =
 
 -- ## A document's node
 
-pub plain_closes : Reads → (around : Around) (t o : List ℕ) (m : Marker) → IsPlain false around.indent t
-    → Fits around m t o → EndsPlain false around.indent (moved m t) o
+pub plain_closes : ReaderPromises → (around : Around) (t o : List ℕ) (m : Marker) → IsPlain false around.indent t
+    → FitsAround around m t o → EndsPlain false around.indent (moved m t) o
     → is_blank (slice_index (past around.indent (moved m t) o).1 0) ≡ false
     → (now : FlowMoment) → now.adjacent ≤ m.index → StandsBefore around now m (t ++ o)
     → Closes around (state_at around (root_moment now)) now.key m t now.places (moved m t) o
@@ -357,7 +360,7 @@ plain_closes reads around t o m h fits ends inked now before text =
     let count = moved_count m t o in
     let below = fits.below in
     let low = within_index around.indent around.limit u (moved m t) o lands (omega (arith, count, below)) in
-    let new = place_of m (moved m t) (plain_token t) ∷ [] in
+    let new = token_place m (moved m t) (plain_token t) ∷ [] in
     let stepped = λ (d : Bool). plain_step reads around d (length now.places) m v.blank t o context.Block w
     (plain_text false around.indent m t o h fits.clear ends) fits.clear v.key [] v.allowed now.adjacent (inl refl)
     (placed_right context.Block v.allowed fits.calm fits.right) in

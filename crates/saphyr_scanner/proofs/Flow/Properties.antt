@@ -10,7 +10,7 @@ use Rattle.saphyr_scanner.specs.declared.engine.level.Context.{Context}
 use Rattle.saphyr_scanner.specs.Grammar.Tokens.{Kind, alias_token, anchor_token, tag_token}
 use Rattle.saphyr_scanner.specs.Grammar.TokenGrammar as grammar
 use Rattle.saphyr_scanner.specs.Steps.Queue.{Place}
-use Rattle.saphyr_scanner.specs.Steps.Core.{Candidate, Level, is_block}
+use Rattle.saphyr_scanner.specs.Steps.Level.{Candidate, Level, is_block}
 use Rattle.saphyr_scanner.specs.Steps.State.{State}
 use Rattle.saphyr_scanner.specs.Grammar.Forest.{Tag, Alias}
 use Rattle.saphyr_scanner.specs.Grammar.TagSpelling.{IsTag}
@@ -18,7 +18,7 @@ use Rattle.saphyr_scanner.specs.Grammar.FlowNodes as layout
 use Rattle.saphyr_scanner.specs.Grammar.FlowNodes.{IsAnchor}
 use Rattle.saphyr_scanner.proofs.InFlow.States.{Around, state_at, FlowMoment, root_moment}
 use Rattle.saphyr_scanner.proofs.Json.Marks.{saved}
-use Rattle.saphyr_scanner.proofs.Flow.States.{Since, Kept, keeping, moved, past, IsBehindNode, IsBehindRoot, Reads, Known, Passes, Fits, IsAfterNode, IsAfterProperties, NodePasses, RootCloses, after, StandsBefore, key_behind}
+use Rattle.saphyr_scanner.proofs.Flow.States.{Since, KeptKey, keeping, moved, past, IsBehindNode, IsBehindRoot, ReaderPromises, Known, PassesPiece, FitsAround, IsAfterNode, IsAfterProperties, NodePasses, RootCloses, after, StandsBefore, key_behind}
 use Rattle.saphyr_scanner.proofs.Flow.Places.{moved_append}
 use Rattle.saphyr_scanner.proofs.Flow.GapSteps.{less_behind}
 use Rattle.saphyr_scanner.proofs.Flow.Fillers.{blanks_past, spaces_are_blank, are_spaces_past}
@@ -33,22 +33,22 @@ use Rattle.saphyr_scanner.proofs.Flow.Ends.{tag_ends_name, white_ends_tag, node_
 -- ## What is known behind properties
 
 -- as IsAfterProperties, and the place where a colon may stand at once is still the same
-pub record IsBehindProperties (x : Context) (kept : Kept) (ad : ℕ) (key : Option Candidate) (allowed : Bool)
+pub record IsBehindProperties (x : Context) (kept : KeptKey) (ad : ℕ) (key : Option Candidate) (allowed : Bool)
     (adjacent : ℕ) (new : List Place) : Type 0 where
   pub properties : IsAfterProperties x kept.kept key allowed new
   pub since : Since kept.before kept.from kept.over key
   pub still : adjacent ≡ ad
 
-abbrev pub behind_properties : Context → Kept → ℕ → Known
+abbrev pub behind_properties : Context → KeptKey → ℕ → Known
 behind_properties x kept ad key allowed adjacent new = IsBehindProperties x kept ad key allowed adjacent new
 
 pub closed_saved : (a : Bool) (n : ℕ) (m : Marker) (k : Option Candidate) → a ≡ false → saved a n m k ≡ k
 closed_saved a n m k e = rw e refl
 
 one_property : {around : Around} {start : Bool → State} {ls : List Level} {ps : List Place} {m : Marker} {o : List ℕ}
-    {ts : List Kind} → (x : Context) (kept : Kept) (ad : ℕ)
-    → Passes around start (after_token (closes_key ad) x kept) x ls ps m o ts
-    → Passes around start (behind_properties x kept ad) x ls ps m o ts
+    {ts : List Kind} → (x : Context) (kept : KeptKey) (ad : ℕ)
+    → PassesPiece around start (after_token (closes_key ad) x kept) x ls ps m o ts
+    → PassesPiece around start (behind_properties x kept ad) x ls ps m o ts
 one_property x kept ad p =
     knowing p (behind_properties x kept ad)
     (record {
@@ -72,14 +72,15 @@ spaces_right column m w h low =
 -- two with spaces between
 two_properties : (around : Around) (start : Bool → State) (x : Context) (kept before : Option Candidate)
     (ls : List Level) (ps : List Place) (ad : ℕ) (m : Marker) (a w b o : List ℕ) (first second : Kind) → AreSpaces 1 w
-    → (p : Passes around start
+    → (p : PassesPiece around start
     (after_token (closes_key ad) x (record { kept = kept; before = before; from = m; over = a })) x ls ps (moved m a)
     ((w ++ b) ++ o) (first ∷ []))
     → (StandsBefore around (after p) (moved (moved m a) w) (b ++ o) → around.indent ≤ (moved (moved m a) w).col
-    → Passes around (state_at around (after p))
+    → PassesPiece around (state_at around (after p))
     (after_token (closes_key p.adjacent) x (keeping (after p) (moved (moved m a) w) b)) x ls (ps ++ p.new)
     (moved (moved (moved m a) w) b) o (second ∷ []))
-    → Passes around start (behind_properties x (record { kept = kept; before = before; from = m; over = a ++ (w ++ b) })
+    → PassesPiece around start (behind_properties x
+    (record { kept = kept; before = before; from = m; over = a ++ (w ++ b) })
     ad) x ls ps (moved m (a ++ (w ++ b))) o (first ∷ second ∷ [])
 two_properties around start x kept before ls ps ad m a w b o first second h p passes =
     let here : StandsBefore around (after p) (moved (moved m a) w) (b ++ o) =
@@ -88,7 +89,7 @@ two_properties around start x kept before ls ps ad m a w b o first second h p pa
     let q = passes here (spaces_right around.indent (moved m a) w h p.right) in
     let place : moved (moved (moved m a) w) b ≡ moved m (a ++ (w ++ b)) =
     sym (moved_append m a (w ++ b) ∙ moved_append (moved m a) w b) in
-    subst (λ (n : Marker). Passes around start
+    subst (λ (n : Marker). PassesPiece around start
     (behind_properties x (record { kept = kept; before = before; from = m; over = a ++ (w ++ b) }) ad) x ls ps n o
     (first ∷ second ∷ [])) place
     (join p q (behind_properties x (record { kept = kept; before = before; from = m; over = a ++ (w ++ b) }) ad)
@@ -123,15 +124,16 @@ pub record PropertiesRead (around : Around) (now : FlowMoment) (anchor : Option 
     (m : Marker) (t o : List ℕ) : Type 0 where
   pub tokens : List Kind
   pub are : grammar.AreBoth (option_map anchor_token anchor) (option_map tag_token tag) tokens
-  pub passes : Passes around (state_at around now) (behind_properties now.context (keeping now m t) now.adjacent)
+  pub passes : PassesPiece around (state_at around now) (behind_properties now.context (keeping now m t) now.adjacent)
       now.context now.outer now.places (moved m t) o tokens
 
 -- what is shown of a piece with properties
 abbrev ReadsProperties : Around → Option (List ℕ) → Option Tag → Marker → List ℕ → List ℕ → FlowMoment → Type 0
 ReadsProperties around anchor tag m t o now =
-    Fits around m t o → StandsBefore around now m (t ++ o) → PropertiesRead around now anchor tag m t o
+    FitsAround around m t o → StandsBefore around now m (t ++ o) → PropertiesRead around now anchor tag m t o
 
-anchor_and_tag : Reads → (around : Around) (name : List ℕ) (tag : Tag) (m : Marker) (a w b o : List ℕ) → IsAnchor name a
+anchor_and_tag : ReaderPromises → (around : Around) (name : List ℕ) (tag : Tag) (m : Marker) (a w b o : List ℕ)
+    → IsAnchor name a
     → AreSpaces 1 w → IsTag tag b → (now : FlowMoment) → EndsTag (not (is_block now.context)) o
     → ReadsProperties around (Some name) (Some tag) m (a ++ (w ++ b)) o now
 anchor_and_tag reads around name tag m a w b o h spaced g now ends fits text =
@@ -147,7 +149,8 @@ anchor_and_tag reads around name tag m a w b o h spaced g now ends fits text =
           (fits_back (moved m a) w b o right (fits_back m a (w ++ b) o p.right fits)) (after p) ends there);
     }
 
-tag_and_anchor : Reads → (around : Around) (name : List ℕ) (tag : Tag) (m : Marker) (a w b o : List ℕ) → IsTag tag a
+tag_and_anchor : ReaderPromises → (around : Around) (name : List ℕ) (tag : Tag) (m : Marker) (a w b o : List ℕ)
+    → IsTag tag a
     → AreSpaces 1 w → IsAnchor name b → (now : FlowMoment) → EndsTag (not (is_block now.context)) o
     → ReadsProperties around (Some name) (Some tag) m (a ++ (w ++ b)) o now
 tag_and_anchor reads around name tag m a w b o g spaced h now ends fits text =
@@ -165,7 +168,7 @@ tag_and_anchor reads around name tag m a w b o g spaced h now ends fits text =
           (fits_back (moved m a) w b o right (fits_back m a (w ++ b) o p.right fits)) (after p) there);
     }
 
-pub properties_read : Reads
+pub properties_read : ReaderPromises
     → (around : Around) (anchor : Option (List ℕ)) (tag : Option Tag) (m : Marker) (t o : List ℕ)
     → layout.AreProperties anchor tag t
     → (now : FlowMoment) → EndsTag (not (is_block now.context)) o → ReadsProperties around anchor tag m t o now
@@ -195,8 +198,8 @@ properties_read reads around (Some name) (Some tag) m t o (anchor, between, writ
 
 -- ## An alias
 
-pub alias_passes : Reads → (around : Around) (room : ℕ) (name : List ℕ) (m : Marker) (p o : List ℕ)
-    → layout.IsFlowNode room (Alias name) true around.indent p → Fits around m p o
+pub alias_passes : ReaderPromises → (around : Around) (room : ℕ) (name : List ℕ) (m : Marker) (p o : List ℕ)
+    → layout.IsFlowNode room (Alias name) true around.indent p → FitsAround around m p o
     → IsBehindNode around.indent (Alias name) o
     → (now : FlowMoment) → now.adjacent < m.index → is_block now.context ≡ false → room + length now.outer ≤ 255
     → StandsBefore around now m (p ++ o) → NodePasses around now (Alias name) m p o
@@ -219,8 +222,8 @@ alias_passes reads around room name m p o h fits behind now before flow small te
           });
     }
 
-pub alias_closes : Reads → (around : Around) (name : List ℕ) (m : Marker) (p o : List ℕ)
-    → layout.IsFlowNode 255 (Alias name) false around.indent p → Fits around m p o
+pub alias_closes : ReaderPromises → (around : Around) (name : List ℕ) (m : Marker) (p o : List ℕ)
+    → layout.IsFlowNode 255 (Alias name) false around.indent p → FitsAround around m p o
     → IsBehindRoot around.indent (moved m p) o
     → (now : FlowMoment) → now.adjacent ≤ (past around.indent m (p ++ o)).0.index → StandsBefore around now m (p ++ o)
     → RootCloses around now (Alias name) m p o

@@ -9,30 +9,31 @@ use Rattle.saphyr_scalar.specs.Spelling.Spaces.{IsSeparation}
 use Rattle.saphyr_scanner.specs.declared.engine.level.Context.{Context}
 use Rattle.saphyr_scanner.specs.declared.engine.level.Context.TheVariants as context
 use Rattle.saphyr_scanner.specs.Grammar.FlowNodes.{has_tab_outside}
-use Rattle.saphyr_scanner.specs.Steps.Gap.{Spaced, spaced, spaces}
+use Rattle.saphyr_scanner.specs.Steps.Gap.{SpacesEnd, spaces_end, spaces}
 use Rattle.saphyr_scanner.specs.Grammar.Tokens as tokens
-use Rattle.saphyr_scanner.specs.Steps.Core.{Candidate, Level, Core, is_block, from_to, up_to_here, went, remove_key}
+use Rattle.saphyr_scanner.specs.Steps.Core.{Core, from_to, up_to_here, completed_step, remove_key}
+use Rattle.saphyr_scanner.specs.Steps.Level.{Candidate, Level, is_block, behind_question}
 use Rattle.saphyr_scanner.specs.Steps.Block as block
-use Rattle.saphyr_scanner.specs.Steps.Block.{behind_question, behind_mark, pass_question, begin_key}
+use Rattle.saphyr_scanner.specs.Steps.Block.{behind_mark, pass_question, begin_key}
 use Rattle.saphyr_scanner.specs.Steps.Passing.{with_cursor}
 use Rattle.saphyr_scanner.specs.Steps.Fetch.{step}
 use Rattle.saphyr_scanner.proofs.InFlow.States.{Around, core_at, state_at, as_before, moment, FlowMoment, moment_in, moment_with}
 use Rattle.saphyr_scanner.proofs.Flow.Places.{right_one}
-use Rattle.saphyr_scanner.proofs.Json.Brackets.{place_of}
-use Rattle.saphyr_scanner.proofs.Flow.States.{moved, past, IsInk, IsParted, no_key, Passes, Fits, StandsBefore}
+use Rattle.saphyr_scanner.proofs.Json.Brackets.{token_place}
+use Rattle.saphyr_scanner.proofs.Flow.States.{moved, past, IsInk, IsParted, no_key, PassesPiece, FitsAround, StandsBefore}
 use Rattle.saphyr_scanner.proofs.Flow.GapSteps.{past_ink}
 use Rattle.saphyr_scanner.proofs.Flow.Fillers.{separation_past}
 use Rattle.saphyr_scanner.proofs.Flow.Arrivals.{arrives, step_comes, within_index}
 use Rattle.saphyr_scanner.proofs.Flow.Joins.{step_passes}
 use Rattle.saphyr_scanner.proofs.InBlock.Crossings.{fresh_in_flow}
-use Rattle.saphyr_scanner.proofs.Flow.Brackets.{IsMark, mark_begins, mark_moved, one_on}
+use Rattle.saphyr_scanner.proofs.Flow.Brackets.{IsTokenMark, mark_begins, mark_moved, one_on}
 use Rattle.saphyr_scanner.proofs.Flow.Spaces.{separation_begins, spaces_passed}
 use Rattle.saphyr_scalar.proofs.Given.{cursor_at}
 use Rattle.saphyr_input.proofs.Basics.Numbers.{le_next}
 use Rattle.saphyr_input.proofs.Basics.Characters.{ink_no_tab}
 use Rattle.std.proofs.lemmas.Bool.{true≢false}
 
-question : IsMark 63
+question : IsTokenMark 63
 question = record {
   ink =
       record { blank = refl; break = refl; comment = refl; byte_order_mark = refl };
@@ -73,13 +74,13 @@ begins_key around d s context.MarkedFlowPair k ls a ad e = refl
 
 passes_mark : (around : Around) (d : Bool) (o : List ℕ) (m : Marker) (b : Bool) (y : Context) (ls : List Level) (ad : ℕ)
     (n : Marker) (blank : Bool) (c : ℕ) (cs : List ℕ) → IsInk c
-    → spaces (along m 1) false false o ≡ spaced n blank true (c ∷ cs)
+    → spaces (along m 1) false false o ≡ spaces_end n blank true (c ∷ cs)
     → pass_question (core_at around d (cursor_at (63 ∷ o) m b) y None ls false ad)
     ≡ Ok (core_at around d (cursor_at (c ∷ cs) n blank) y None ls false ad)
 unfolding behind_mark
 passes_mark around d o m b y ls ad n blank c cs ink is =
     let here = core_at around d (cursor_at (63 ∷ o) m b) y None ls false ad in
-    ap (λ (z : Spaced). behind_mark z.space (with_cursor z.cursor here)) is ∙ rw (ink_no_tab c ink.blank) refl
+    ap (λ (z : SpacesEnd). behind_mark z.space (with_cursor z.cursor here)) is ∙ rw (ink_no_tab c ink.blank) refl
 
 question_flows : (y : Context) → is_block y ≡ false → is_block (behind_question y) ≡ false
 question_flows context.Block e = absurd (true≢false e)
@@ -92,7 +93,7 @@ question_flows context.MarkedFlowPair e = refl
 key_of : (around : Around) (d : Bool) (s : Cursor) (y : Context) (k : Option Candidate) (ls : List Level) (a : Bool)
     (ad : ℕ) → is_block y ≡ false
     → block.key (core_at around d s y k ls a ad)
-    ≡ (begin_key (core_at around d s y k ls a ad) >>= λ e. went (up_to_here s.mark tokens.Key e ∷ []) e)
+    ≡ (begin_key (core_at around d s y k ls a ad) >>= λ e. completed_step (up_to_here s.mark tokens.Key e ∷ []) e)
 unfolding block.key
 key_of around d s context.Block k ls a ad e = absurd (true≢false e)
 key_of around d s context.FlowSequence k ls a ad e = refl
@@ -103,10 +104,10 @@ key_of around d s context.MarkedFlowPair k ls a ad e = refl
 
 -- A `?` before separation without a tab: the key behind it is not kept.
 pub mark_passes : (around : Around) (y : Context) → is_block y ≡ false → (m : Marker) (o : List ℕ)
-    → Fits around m (63 ∷ []) o
+    → FitsAround around m (63 ∷ []) o
     → (parted : IsParted around.indent o) → parted.separation ≢ [] → has_tab_outside false parted.separation ≡ false
     → (now : FlowMoment) → now.adjacent ≤ m.index → StandsBefore around now m (63 ∷ o)
-    → Passes around (state_at around (moment_in y now)) (no_key (moved m (63 ∷ []))) (behind_question y) now.outer
+    → PassesPiece around (state_at around (moment_in y now)) (no_key (moved m (63 ∷ []))) (behind_question y) now.outer
     now.places (moved m (63 ∷ [])) o (tokens.Key ∷ [])
 mark_passes around y flows m o fits parted some tabs now before text =
     let v = arrives around (moment_in y now) m (63 ∷ o) (text ∙ past_ink around.indent m 63 o question.ink) refl
@@ -123,7 +124,7 @@ mark_passes around y flows m o fits parted some tabs now before text =
     parted.is ∙ white_first around.indent w (c ∷ cs) parted.parts some in
     let stepped = λ (d : Bool). question_reads_key (slice_index o 0) (length now.places) (core_at around d seen y v.key
     now.outer v.allowed now.adjacent) white ∙ key_of around d seen y v.key now.outer v.allowed now.adjacent flows
-    ∙ ap (λ q. q >>= λ (e : Core). went (up_to_here m tokens.Key e ∷ []) e)
+    ∙ ap (λ q. q >>= λ (e : Core). completed_step (up_to_here m tokens.Key e ∷ []) e)
     (begins_key around d seen y v.key now.outer v.allowed now.adjacent flows
     ∙ passes_mark around d o m v.blank (behind_question y) now.outer now.adjacent n p.still_blank c cs parted.ink
     (ap (spaces (along m 1) false false) parted.is ∙ p.is)) in
@@ -131,7 +132,7 @@ mark_passes around y flows m o fits parted some tabs now before text =
     sym (ap (past around.indent (along m 1)) parted.is
     ∙ separation_past around.indent (along m 1) w (c ∷ cs) parted.parts on) in
     let below = fits.below in
-    let new = place_of m n tokens.Key ∷ [] in
+    let new = token_place m n tokens.Key ∷ [] in
     let next = moment there (behind_question y) None now.outer false now.adjacent now.places in
     let came = step_comes around (moment_in y now) m (63 ∷ o) v (mark_begins m 63 o question fits.clear)
     (moment_with new next) (from_to m n tokens.Key ∷ []) (λ d. d) (as_before around) stepped refl

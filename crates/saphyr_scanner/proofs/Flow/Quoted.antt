@@ -20,7 +20,7 @@ use Rattle.saphyr_scalar.specs.Spelling.Quoted.{IsText, closed, itself, broken, 
 use Rattle.saphyr_scalar.specs.Spelling.QuotedLines.{space_count, IsLine, LinesFit}
 use Rattle.saphyr_scalar.specs.Spelling.Tag.{AreIn}
 use Rattle.saphyr_scanner.specs.Grammar.FlowScalars.{IsQuoted}
-use Rattle.saphyr_scanner.proofs.Flow.States.{moved, IsClear, Reads}
+use Rattle.saphyr_scanner.proofs.Flow.States.{moved, IsClear, ReaderPromises}
 use Rattle.saphyr_scanner.proofs.Flow.Places.{right_one, clear_back, clear_here}
 use Rattle.saphyr_scanner.proofs.InFlow.Quotes.{text_right}
 use Rattle.saphyr_input.proofs.Basics.Booleans.{by_test}
@@ -130,13 +130,13 @@ quote_closes Single y h = rw h refl
 quote_closes Double y h = refl
 
 -- a text between quotes, with its lines
-abbrev Fits : ℕ → Quote → List ℕ → List Item → List ℕ → Type 0
-Fits low q t items x = (spelled : IsText q t items x) × LinesFit low q t items x spelled
+abbrev FitsQuotes : ℕ → Quote → List ℕ → List Item → List ℕ → Type 0
+FitsQuotes low q t items x = (spelled : IsText q t items x) × LinesFit low q t items x spelled
 
 over_break : (low : ℕ) (q : Quote) (t : List ℕ) (items : List Item) (x o : List ℕ) (m : Marker) → Breaks m t o
-    → Fits low q (drop (break_len t) t ++ o) items (x ++ o)
-    → Fits low q (drop (break_len (t ++ o)) (t ++ o)) items (x ++ o)
-over_break low q t items x o m b f = subst (λ (y : List ℕ). Fits low q y items (x ++ o)) b.same f
+    → FitsQuotes low q (drop (break_len t) t ++ o) items (x ++ o)
+    → FitsQuotes low q (drop (break_len (t ++ o)) (t ++ o)) items (x ++ o)
+over_break low q t items x o m b f = subst (λ (y : List ℕ). FitsQuotes low q y items (x ++ o)) b.same f
 
 break_line : (low indent : ℕ) → low ≤ indent → (q : Quote) (t : List ℕ) (items : List Item) (x o : List ℕ) (m : Marker)
     → IsText q (drop (break_len t) t) items x → Breaks m t o → IsLine indent (drop (break_len t) t)
@@ -150,7 +150,7 @@ extends : (low indent : ℕ) → low ≤ indent
     → (q : Quote) (t : List ℕ) (items : List Item) (x : List ℕ) (spelled : IsText q t items x)
     → LinesFit indent q t items x spelled → (o : List ℕ) (m : Marker) → IsClear m t o
     → (slice_index (x ++ o) 0 == 39) ≡ false
-    → Fits low q (t ++ o) items (x ++ o)
+    → FitsQuotes low q (t ++ o) items (x ++ o)
 extends low indent below _ _ _ _ (closed q x h) fit o m clear ends = (
   closed q (x ++ o) (quote_closes q (x ++ o) ends),
   tt,
@@ -174,9 +174,10 @@ extends low indent below _ _ _ _ (escaped e c t items x h r) fit o m clear ends 
 extends low indent below _ _ _ _ (numbered e c ds t items x h r) fit o m clear ends =
     let more = extends low indent below Double t items x r fit o (moved m (backslash ∷ e ∷ ds))
     (clear_back m (backslash ∷ e ∷ ds) t o clear) ends in
-    let front : Fits low Double (backslash ∷ e ∷ (ds ++ (t ++ o))) (Escaped c ∷ items) (x ++ o) =
+    let front : FitsQuotes low Double (backslash ∷ e ∷ (ds ++ (t ++ o))) (Escaped c ∷ items) (x ++ o) =
     (numbered e c ds (t ++ o) items (x ++ o) h more.0, more.1) in
-    subst (λ (y : List ℕ). Fits low Double (backslash ∷ e ∷ y) (Escaped c ∷ items) (x ++ o)) (sym (append_assoc ds t o))
+    subst (λ (y : List ℕ). FitsQuotes low Double (backslash ∷ e ∷ y) (Escaped c ∷ items) (x ++ o))
+    (sym (append_assoc ds t o))
     front
 extends low indent below _ _ _ _ (escaped_break t items x h r) fit o m clear ends =
     let n = moved m (backslash ∷ []) in
@@ -207,7 +208,7 @@ moved_passes m (c ∷ cs) o h =
 
 -- ## A quoted scalar is read
 
-pub quoted_read : Reads → (low indent : ℕ) → low ≤ indent → (quote : Quote) (s : Cursor) (value t o : List ℕ)
+pub quoted_read : ReaderPromises → (low indent : ℕ) → low ≤ indent → (quote : Quote) (s : Cursor) (value t o : List ℕ)
     → s.rest ≡ t ++ o → IsQuoted quote indent value t → IsClear s.mark t o → (slice_index o 0 == 39) ≡ false
     → quotes.quoted quote low s ≡ Ok (encode_utf8_all value, at (moved s.mark t) o)
 quoted_read reads low indent below quote s value t o is (inside, items, spelled, fit, stands_for, text) clear ends =

@@ -15,16 +15,17 @@ use Rattle.saphyr_scanner.specs.declared.engine.level.Context.TheVariants as con
 use Rattle.saphyr_scanner.specs.Grammar.Tokens as tokens
 use Rattle.saphyr_scanner.specs.Grammar.Tokens.{scalar_token}
 use Rattle.saphyr_scanner.specs.Grammar.Forest.{Style, SingleQuoted, DoubleQuoted, Node}
-use Rattle.saphyr_scanner.specs.Steps.Core.{Candidate, Level, Core, is_block, from_to, went}
+use Rattle.saphyr_scanner.specs.Steps.Core.{Core, from_to, completed_step}
+use Rattle.saphyr_scanner.specs.Steps.Level.{Candidate, Level, is_block}
 use Rattle.saphyr_scanner.specs.Steps.Passing.{with_cursor}
 use Rattle.saphyr_scanner.specs.Steps.Scalar as scalar
-use Rattle.saphyr_scanner.specs.Steps.Scalar.{read_single_quoted, read_double_quoted, disallow_key, behind_quotes, behind_line, goes_on_behind_quotes, adjacent_here}
+use Rattle.saphyr_scanner.specs.Steps.Scalar.{read_single_quoted, read_double_quoted, disallow_key, behind_quotes, behind_quoted_line, goes_on_behind_quotes, adjacent_here}
 use Rattle.saphyr_scanner.specs.Steps.Fetch.{step}
 use Rattle.saphyr_scanner.specs.Grammar.FlowScalars.{IsQuoted}
 use Rattle.saphyr_scanner.proofs.InFlow.States.{Around, core_at, least, least_low, Placed, placed_right, saves_key, as_before, FlowMoment}
 use Rattle.saphyr_scanner.proofs.InFlow.Tabs.{lands_on_ink}
 use Rattle.saphyr_scanner.proofs.Json.Marks.{saved}
-use Rattle.saphyr_scanner.proofs.Flow.States.{moved, past, crosses, IsClear, IsInk, EndsNode, IsBehindNode, IsBehindRoot, Reads, Fits, StandsBefore}
+use Rattle.saphyr_scanner.proofs.Flow.States.{moved, past, crosses, IsClear, IsInk, EndsNode, IsBehindNode, IsBehindRoot, ReaderPromises, FitsAround, StandsBefore}
 use Rattle.saphyr_scanner.proofs.Flow.GapSteps.{past_again, past_ink}
 use Rattle.saphyr_scanner.proofs.Flow.Fillers.{EndsLine, rest_past, separation_past}
 use Rattle.saphyr_scanner.proofs.Flow.Arrivals.{PassesGap, passes_gap}
@@ -126,28 +127,30 @@ pub behind_step : (around : Around) (d : Bool) (start : Marker) (style : Style) 
     (p : EndsQuotes around start s x)
     (g : PassesGap around p.there x k ls false ad m y)
     → behind_quotes start style text (core_at around d s x k ls false ad)
-    ≡ went (from_to start p.there.mark (tokens.Scalar style text) ∷ [])
+    ≡ completed_step (from_to start p.there.mark (tokens.Scalar style text) ∷ [])
     (core_at around d (cursor_at y m g.blank) x k ls g.allowed m.index)
 unfolding behind_quotes
 behind_step around d start style text s x k ls ad m y p g =
     let c = core_at around d s x k ls false ad in
-    let token = λ (e : Core). went (from_to start p.there.mark (tokens.Scalar style text) ∷ []) (adjacent_here e) in
-    ap (λ q. (q >>= λ (e : SkipTabs × Cursor). Ok (e.0, with_cursor e.1 c)) >>= λ (e : SkipTabs × Core). behind_line
+    let token = λ (e : Core). completed_step (from_to start p.there.mark (tokens.Scalar style text) ∷ [])
+    (adjacent_here e) in
+    ap (λ q. (q >>= λ (e : SkipTabs × Cursor). Ok (e.0, with_cursor e.1 c))
+    >>= λ (e : SkipTabs × Core). behind_quoted_line
     start style text e.1) p.is
     ∙ rw (p.goes d k ls false ad) (ap (λ q. q >>= token) (g.is d))
 
 -- ## The scalar
 
-abbrev pub style_of : Quote → Style
-style_of Single = SingleQuoted
-style_of Double = DoubleQuoted
+abbrev pub style_of_quote : Quote → Style
+style_of_quote Single = SingleQuoted
+style_of_quote Double = DoubleQuoted
 
-pub quoted_step : Reads → (around : Around) (d : Bool) (quote : Quote) (n : ℕ) (m : Marker) (b : Bool)
+pub quoted_step : ReaderPromises → (around : Around) (d : Bool) (quote : Quote) (n : ℕ) (m : Marker) (b : Bool)
     (value t o : List ℕ) → IsQuoted quote around.indent value t → IsClear m t o → (slice_index o 0 == 39) ≡ false
     → (x : Context) (k : Option Candidate) (ls : List Level) (a : Bool) (ad : ℕ) (c : ℕ) → c ≡ mark quote
     → Placed around x a m
     → step c (slice_index (t ++ o) 1) n (core_at around d (cursor_at (t ++ o) m b) x k ls a ad)
-    ≡ behind_quotes m (style_of quote) (encode_utf8_all value)
+    ≡ behind_quotes m (style_of_quote quote) (encode_utf8_all value)
     (core_at around d (at (moved m t) o) x (saved a n m k) ls false ad)
 unfolding step scalar.single_quoted_steps scalar.double_quoted_steps read_single_quoted read_double_quoted
 quoted_step reads around d Single n m b value t o h clear ends x k ls a ad c first placed =
@@ -191,18 +194,18 @@ quote_first Double inside =
       directive = refl;
     }
 
-pub quoted_passes : Reads → (around : Around) (quote : Quote) (value t o : List ℕ) (m : Marker)
-    → IsQuoted quote around.indent value t → Fits around m t o
+pub quoted_passes : ReaderPromises → (around : Around) (quote : Quote) (value t o : List ℕ) (m : Marker)
+    → IsQuoted quote around.indent value t → FitsAround around m t o
     → (slice_index o 0 == 39) ≡ false
     → (now : FlowMoment) → EndsQuotes around m (at (moved m t) o) now.context → StandsBefore around now m (t ++ o)
     → PassesToken around (adjacent_at (past around.indent (moved m t) o).0.index) now m t o
-    (scalar_token (style_of quote) value)
+    (scalar_token (style_of_quote quote) value)
 quoted_passes reads around quote value t o m h fits apart now p text =
     let first = subst Begins (sym h.5) (quote_first quote h.0) in
     let at_first : slice_index (t ++ o) 0 ≡ mark quote = ap (λ (y : List ℕ). slice_index (y ++ o) 0) h.5 in
     let behind = past around.indent (moved m t) o in
     let place = length now.places in
-    token_passes around (adjacent_at behind.0.index) (scalar_token (style_of quote) value) t o m first fits
+    token_passes around (adjacent_at behind.0.index) (scalar_token (style_of_quote quote) value) t o m first fits
     (quoted_right around.indent quote m value t o h fits.clear fits.right) now text
     (λ b j e. let g = passes_gap around p.there now.context (saved e place m j) now.outer false now.adjacent behind.0
     behind.1 p.lands p.inked in
@@ -215,7 +218,7 @@ quoted_passes reads around quote value t o m h fits apart now p text =
       deepens = as_before around;
       is = λ d. quoted_step reads around d quote place m b value t o h fits.clear apart now.context j now.outer e
           now.adjacent (slice_index (t ++ o) 0) at_first (placed_right now.context e fits.calm fits.right)
-          ∙ behind_step around d m (style_of quote) (encode_utf8_all value) (at (moved m t) o) now.context
+          ∙ behind_step around d m (style_of_quote quote) (encode_utf8_all value) (at (moved m t) o) now.context
           (saved e place m j) now.outer now.adjacent behind.0 behind.1 p g;
       fits = past_again around.indent (moved m t) o;
       fresh = λ b e. or_left g.allowed (crosses behind.1) (g.fresh b (p.stays b e));

@@ -9,13 +9,13 @@ use Rattle.saphyr_scanner.specs.declared.engine.level.Context.{Context}
 use Rattle.saphyr_scanner.specs.Grammar.Tokens.{Kind, scalar_token}
 use Rattle.saphyr_scanner.specs.Grammar.TokenGrammar as grammar
 use Rattle.saphyr_scanner.specs.Steps.Queue.{Place}
-use Rattle.saphyr_scanner.specs.Steps.Core.{is_block}
+use Rattle.saphyr_scanner.specs.Steps.Level.{is_block}
 use Rattle.saphyr_scanner.specs.Grammar.Forest.{Style, Plain, Tag, Properties, no_properties, HasOne, Scalar}
 use Rattle.saphyr_scanner.specs.Grammar.FlowNodes as layout
 use Rattle.saphyr_scanner.specs.Grammar.FlowNodes.{IsProperties, IsBeforeContent, IsScalarNode, IsPlainKeyNode}
 use Rattle.saphyr_scanner.specs.Grammar.FlowScalars.{IsFlowScalar}
 use Rattle.saphyr_scanner.proofs.InFlow.States.{Around, state_at, FlowMoment, root_moment}
-use Rattle.saphyr_scanner.proofs.Flow.States.{moved, past, IsBehindNode, IsBehindRoot, Reads, Passes, Fits, Closes, after_node, NodePasses, RootCloses, after, StandsBefore, key_behind}
+use Rattle.saphyr_scanner.proofs.Flow.States.{moved, past, IsBehindNode, IsBehindRoot, ReaderPromises, PassesPiece, FitsAround, Closes, after_node, NodePasses, RootCloses, after, StandsBefore, key_behind}
 use Rattle.saphyr_scanner.proofs.Flow.Places.{moved_append, moved_index}
 use Rattle.saphyr_scanner.proofs.Flow.GapSteps.{less_behind}
 use Rattle.saphyr_scanner.proofs.Flow.Fillers.{separation_past, right_behind}
@@ -23,7 +23,7 @@ use Rattle.saphyr_scanner.proofs.Flow.Pieces.{fits_front, fits_back}
 use Rattle.saphyr_scanner.proofs.Flow.Joins.{since_join, join, join_root, closes_unnoted, knowing}
 use Rattle.saphyr_scanner.proofs.Flow.Inks.{node_ink}
 use Rattle.saphyr_scanner.proofs.Flow.Low.{start_low, behind_low}
-use Rattle.saphyr_scanner.proofs.Flow.Ends.{white_ends_tag, node_ends_tag, behind_separation, root_first}
+use Rattle.saphyr_scanner.proofs.Flow.Ends.{white_ends_tag, node_ends_tag, ends_behind_separation, root_first}
 use Rattle.saphyr_scanner.proofs.Flow.Properties.{closed_saved, properties_read}
 use Rattle.saphyr_scanner.proofs.Flow.Contents.{content_passes, content_closes, PassesContent, key_content_passes}
 
@@ -44,8 +44,8 @@ pub empty_are : (p : Properties) (t : List ℕ) (tokens : List Kind) (place : gr
 empty_are p t tokens place h are =
     (tokens, [], are, inr (some_property p.anchor p.tag t h, refl, refl, refl), sym (append-nil tokens))
 
-empty_passes : Reads → (around : Around) (p : Properties) (m : Marker) (t o : List ℕ) → IsProperties p t
-    → Fits around m t o → IsBehindNode around.indent (Scalar p Plain []) o
+empty_passes : ReaderPromises → (around : Around) (p : Properties) (m : Marker) (t o : List ℕ) → IsProperties p t
+    → FitsAround around m t o → IsBehindNode around.indent (Scalar p Plain []) o
     → (now : FlowMoment) → now.adjacent < m.index → is_block now.context ≡ false → StandsBefore around now m (t ++ o)
     → NodePasses around now (Scalar p Plain []) m t o
 empty_passes reads around p m t o h fits behind now low flow text =
@@ -68,8 +68,8 @@ empty_passes reads around p m t o h fits behind now low flow text =
           });
     }
 
-empty_closes : Reads → (around : Around) (p : Properties) (m : Marker) (t o : List ℕ) → IsProperties p t
-    → Fits around m t o → IsBehindRoot around.indent (moved m t) o → (now : FlowMoment) → now.adjacent ≤ m.index
+empty_closes : ReaderPromises → (around : Around) (p : Properties) (m : Marker) (t o : List ℕ) → IsProperties p t
+    → FitsAround around m t o → IsBehindRoot around.indent (moved m t) o → (now : FlowMoment) → now.adjacent ≤ m.index
     → StandsBefore around now m (t ++ o) → RootCloses around now (Scalar p Plain []) m t o
 empty_closes reads around p m t o h fits behind now before text =
     let ends = white_ends_tag false o (root_first around.indent (moved m t) o behind) in
@@ -97,11 +97,12 @@ bare_are p style value place e = (
 -- how the content of a node is passed, wherever it stands
 abbrev ContentPasses : Around → Properties → Style → List ℕ → List ℕ → List ℕ → Type 0
 ContentPasses around p style value t o =
-    (m : Marker) → Fits around m t o → IsBehindNode around.indent (Scalar p style value) o
+    (m : Marker) → FitsAround around m t o → IsBehindNode around.indent (Scalar p style value) o
     → PassesContent around (Scalar p style value) style value t o m
 
-bare_scalar_passes : Reads → (around : Around) (p : Properties) (style : Style) (value t o : List ℕ) (m : Marker)
-    → p ≡ no_properties → ContentPasses around p style value t o → Fits around m t o
+bare_scalar_passes : ReaderPromises → (around : Around) (p : Properties) (style : Style) (value t o : List ℕ)
+    (m : Marker)
+    → p ≡ no_properties → ContentPasses around p style value t o → FitsAround around m t o
     → IsBehindNode around.indent (Scalar p style value) o
     → (now : FlowMoment) → now.adjacent < m.index → is_block now.context ≡ false → StandsBefore around now m (t ++ o)
     → NodePasses around now (Scalar p style value) m t o
@@ -126,13 +127,13 @@ bare_scalar_passes reads around p style value t o m e h fits behind now low flow
 
 -- properties a, separation w and content b
 record Behind (around : Around) (m : Marker) (a w b o : List ℕ) : Type 0 where
-  front : Fits around m a ((w ++ b) ++ o)
-  behind : around.indent ≤ (moved m a).col → Fits around (moved (moved m a) w) b o
+  front : FitsAround around m a ((w ++ b) ++ o)
+  behind : around.indent ≤ (moved m a).col → FitsAround around (moved (moved m a) w) b o
   later : m.index ≤ (moved (moved m a) w).index
   place : moved (moved (moved m a) w) b ≡ moved m (a ++ (w ++ b))
 
 behind_separated : (around : Around) (m : Marker) (a w b o : List ℕ) → IsSeparation around.indent w
-    → Fits around m (a ++ (w ++ b)) o → Behind around m a w b o
+    → FitsAround around m (a ++ (w ++ b)) o → Behind around m a w b o
 behind_separated around m a w b o parts fits =
     let first = moved_index m a in
     let second = moved_index (moved m a) w in
@@ -148,16 +149,16 @@ pub separation_ends : (indent : ℕ) (in_flow : Bool) (w b o : List ℕ) → w �
     → EndsTag in_flow ((w ++ b) ++ o)
 separation_ends indent in_flow w b o some h =
     subst (EndsTag in_flow) (sym (append_assoc w b o))
-    (white_ends_tag in_flow (w ++ (b ++ o)) (behind_separation indent w (b ++ o) h some))
+    (white_ends_tag in_flow (w ++ (b ++ o)) (ends_behind_separation indent w (b ++ o) h some))
 
 pub full_are : (p : Properties) (style : Style) (value : List ℕ) (tokens : List Kind) (place : grammar.Context)
     → grammar.YieldProperties p tokens
     → grammar.YieldsNode (Scalar p style value) place (tokens ++ scalar_token style value ∷ [])
 full_are p style value tokens place are = (tokens, scalar_token style value ∷ [], are, inl refl, refl)
 
-full_passes : Reads → (around : Around) (p : Properties) (style : Style) (value a w b o : List ℕ) (m : Marker)
+full_passes : ReaderPromises → (around : Around) (p : Properties) (style : Style) (value a w b o : List ℕ) (m : Marker)
     → IsProperties p a → w ≢ [] → IsSeparation around.indent w → ContentPasses around p style value b o
-    → Fits around m (a ++ (w ++ b)) o → IsBehindNode around.indent (Scalar p style value) o
+    → FitsAround around m (a ++ (w ++ b)) o → IsBehindNode around.indent (Scalar p style value) o
     → (now : FlowMoment) → now.adjacent < m.index → is_block now.context ≡ false
     → StandsBefore around now m ((a ++ (w ++ b)) ++ o) → NodePasses around now (Scalar p style value) m (a ++ (w ++ b))
     o
@@ -182,7 +183,7 @@ full_passes reads around p style value a w b o m h some parts g fits behind now 
     record {
       tokens = r.tokens ++ scalar_token style value ∷ [];
       are = full_are p style value r.tokens grammar.InFlow r.are;
-      passes = subst (λ (z : Marker). Passes around (state_at around now)
+      passes = subst (λ (z : Marker). PassesPiece around (state_at around now)
           (after_node around.indent now.context kept node z o) now.context now.outer now.places z o
           (r.tokens ++ scalar_token style value ∷ [])) d.place
           (join q c (after_node around.indent now.context kept node (moved n b) o)
@@ -197,9 +198,9 @@ full_passes reads around p style value a w b o m h some parts g fits behind now 
           }));
     }
 
-full_closes : Reads → (around : Around) (p : Properties) (style : Style) (value a w b o : List ℕ) (m : Marker)
+full_closes : ReaderPromises → (around : Around) (p : Properties) (style : Style) (value a w b o : List ℕ) (m : Marker)
     → IsProperties p a → w ≢ [] → IsSeparation around.indent w → IsFlowScalar style value false around.indent b
-    → Fits around m (a ++ (w ++ b)) o → IsBehindRoot around.indent (moved m (a ++ (w ++ b))) o
+    → FitsAround around m (a ++ (w ++ b)) o → IsBehindRoot around.indent (moved m (a ++ (w ++ b))) o
     → (now : FlowMoment) → now.adjacent ≤ m.index → StandsBefore around now m ((a ++ (w ++ b)) ++ o)
     → RootCloses around now (Scalar p style value) m (a ++ (w ++ b)) o
 full_closes reads around p style value a w b o m h some parts g fits behind now before text =
@@ -230,11 +231,12 @@ full_closes reads around p style value a w b o m h some parts g fits behind now 
 
 abbrev ScalarPasses : Around → Properties → Style → List ℕ → List ℕ → List ℕ → Marker → Type 0
 ScalarPasses around p style value t o m =
-    Fits around m t o → IsBehindNode around.indent (Scalar p style value) o
+    FitsAround around m t o → IsBehindNode around.indent (Scalar p style value) o
     → (now : FlowMoment) → now.adjacent < m.index → is_block now.context ≡ false → StandsBefore around now m (t ++ o)
     → NodePasses around now (Scalar p style value) m t o
 
-content_node : Reads → (around : Around) (p : Properties) (style : Style) (value front content o : List ℕ) (m : Marker)
+content_node : ReaderPromises → (around : Around) (p : Properties) (style : Style) (value front content o : List ℕ)
+    (m : Marker)
     → IsBeforeContent p around.indent front → ContentPasses around p style value content o
     → ScalarPasses around p style value (front ++ content) o m
 content_node reads around p style value front content o m (inl (none, is)) g =
@@ -247,7 +249,7 @@ content_node reads around p style value front content o m (inr (written, separat
     (λ fits behind now low flow text. full_passes reads around p style value written separation content o m
     h some parts g fits behind now low flow text)
 
-scalar_node : Reads → (around : Around) (p : Properties) (style : Style) (value t o : List ℕ) (m : Marker)
+scalar_node : ReaderPromises → (around : Around) (p : Properties) (style : Style) (value t o : List ℕ) (m : Marker)
     → IsScalarNode p style value true around.indent t → ScalarPasses around p style value t o m
 scalar_node reads around p style value t o m (inl (plain, empty, h)) =
     subst (λ (q : Style). ScalarPasses around p q value t o m) (sym plain)
@@ -259,7 +261,8 @@ scalar_node reads around p style value t o m (inr (front, content, before, g, is
     (λ n fits behind. content_passes reads around p style value content o n g fits behind))
 
 -- a key before its colon
-pub key_node_passes : Reads → (around : Around) (p : Properties) (style : Style) (value t r : List ℕ) (m : Marker)
+pub key_node_passes : ReaderPromises → (around : Around) (p : Properties) (style : Style) (value t r : List ℕ)
+    (m : Marker)
     → IsPlainKeyNode (Scalar p style value) true around.indent t → ScalarPasses around p style value t (58 ∷ r) m
 key_node_passes reads around p style value t r m (front, content, plain, before, g, stands, is) =
     subst (λ (q : Style). ScalarPasses around p q value t (58 ∷ r) m) (sym plain)
@@ -267,9 +270,9 @@ key_node_passes reads around p style value t r m (front, content, plain, before,
     (content_node reads around p Plain value front content (58 ∷ r) m before
     (λ n fits behind. key_content_passes reads around p value content r n stands g fits behind)))
 
-pub scalar_passes : Reads
+pub scalar_passes : ReaderPromises
     → (around : Around) (room : ℕ) (p : Properties) (style : Style) (value : List ℕ) (m : Marker) (t o : List ℕ)
-    → layout.IsFlowNode room (Scalar p style value) true around.indent t → Fits around m t o
+    → layout.IsFlowNode room (Scalar p style value) true around.indent t → FitsAround around m t o
     → IsBehindNode around.indent (Scalar p style value) o
     → (now : FlowMoment) → now.adjacent < m.index → is_block now.context ≡ false → room + length now.outer ≤ 255
     → StandsBefore around now m (t ++ o) → NodePasses around now (Scalar p style value) m t o
@@ -280,10 +283,11 @@ scalar_passes reads around room p style value m t o h fits behind now low flow s
 
 abbrev ScalarCloses : Around → Properties → Style → List ℕ → List ℕ → List ℕ → Marker → Type 0
 ScalarCloses around p style value t o m =
-    Fits around m t o → IsBehindRoot around.indent (moved m t) o → (now : FlowMoment) → now.adjacent ≤ m.index
+    FitsAround around m t o → IsBehindRoot around.indent (moved m t) o → (now : FlowMoment) → now.adjacent ≤ m.index
     → StandsBefore around now m (t ++ o) → RootCloses around now (Scalar p style value) m t o
 
-content_root : Reads → (around : Around) (p : Properties) (style : Style) (value front content o : List ℕ) (m : Marker)
+content_root : ReaderPromises → (around : Around) (p : Properties) (style : Style) (value front content o : List ℕ)
+    (m : Marker)
     → IsBeforeContent p around.indent front → IsFlowScalar style value false around.indent content
     → ScalarCloses around p style value (front ++ content) o m
 content_root reads around p style value front content o m (inl (none, is)) g =
@@ -299,7 +303,7 @@ content_root reads around p style value front content o m (inr (written, separat
     (λ fits behind now before text. full_closes reads around p style value written separation content o m h some
     parts g fits behind now before text)
 
-scalar_root : Reads → (around : Around) (p : Properties) (style : Style) (value t o : List ℕ) (m : Marker)
+scalar_root : ReaderPromises → (around : Around) (p : Properties) (style : Style) (value t o : List ℕ) (m : Marker)
     → IsScalarNode p style value false around.indent t → ScalarCloses around p style value t o m
 scalar_root reads around p style value t o m (inl (plain, empty, h)) =
     subst (λ (q : Style). ScalarCloses around p q value t o m) (sym plain)
@@ -309,9 +313,9 @@ scalar_root reads around p style value t o m (inr (front, content, before, g, is
     subst (λ (y : List ℕ). ScalarCloses around p style value y o m) (sym is)
     (content_root reads around p style value front content o m before g)
 
-pub scalar_closes : Reads
+pub scalar_closes : ReaderPromises
     → (around : Around) (p : Properties) (style : Style) (value : List ℕ) (m : Marker) (t o : List ℕ)
-    → layout.IsFlowNode 255 (Scalar p style value) false around.indent t → Fits around m t o
+    → layout.IsFlowNode 255 (Scalar p style value) false around.indent t → FitsAround around m t o
     → IsBehindRoot around.indent (moved m t) o
     → (now : FlowMoment) → now.adjacent ≤ (past around.indent m (t ++ o)).0.index → StandsBefore around now m (t ++ o)
     → RootCloses around now (Scalar p style value) m t o

@@ -10,7 +10,7 @@ use Rattle.saphyr_scalar.specs.Steps.BlockRead.{spaces as spaces_of}
 use Rattle.saphyr_scalar.specs.Spelling.Tag.{AreIn}
 use Rattle.saphyr_scalar.specs.Spelling.Spaces.{joined, AreEach, IsCommentBehind, IsSeparationLine, IsSeparation}
 use Rattle.saphyr_scanner.specs.Grammar.FlowNodes.{has_tab_outside}
-use Rattle.saphyr_scanner.specs.Steps.Gap.{spaced, spaces, line_comment}
+use Rattle.saphyr_scanner.specs.Steps.Gap.{spaces_end, spaces, line_comment}
 use Rattle.saphyr_scanner.proofs.Flow.States.{moved, is_left_tab, past, past_comment, IsInk}
 use Rattle.saphyr_scanner.proofs.Flow.GapSteps.{past_ink, comment_shorter}
 use Rattle.saphyr_scanner.proofs.Flow.Fillers.{separation_past}
@@ -23,13 +23,13 @@ use Rattle.saphyr_input.proofs.Basics.Characters.{ink_no_space, non_break_no_bre
 record Spaces (m : Marker) (blank space : Bool) (w y : List ℕ) (n : Marker) : Type 0 where
   still_blank : Bool
   some : Bool
-  is : spaces m blank space (w ++ y) ≡ spaced n still_blank some y
+  is : spaces m blank space (w ++ y) ≡ spaces_end n still_blank some y
   has : space ≡ true → some ≡ true
 
 record Comment (m : Marker) (blank space : Bool) (w y : List ℕ) (n : Marker) : Type 0 where
   still_blank : Bool
   some : Bool
-  is : line_comment m blank space (w ++ y) ≡ spaced n still_blank some y
+  is : line_comment m blank space (w ++ y) ≡ spaces_end n still_blank some y
   has : space ≡ true → some ≡ true
 
 -- what is outside comments behind a character
@@ -65,14 +65,14 @@ spaces_end_at_ink : (column : ℕ) (c : ℕ) (cs : List ℕ) → IsInk c → (m 
     → past column m (c ∷ cs) ≡ (n, c ∷ cs) → Spaces m blank space [] (c ∷ cs) n
 spaces_end_at_ink column c cs ink m blank space n e =
     let same : m ≡ n = place_of m n (c ∷ cs) (c ∷ cs) (sym (past_ink column m c cs ink) ∙ e) in
-    let here : spaces m blank space (c ∷ cs) ≡ spaced m blank space (c ∷ cs) =
+    let here : spaces m blank space (c ∷ cs) ≡ spaces_end m blank space (c ∷ cs) =
     rw (ink_no_space c ink.blank, ink.break, ink.comment, no_return_and c (slice_index cs 0 == 10) ink.break)
     refl in
     record {
       still_blank = blank;
       some =
           space;
-      is = here ∙ ap (λ (k : Marker). spaced k blank space (c ∷ cs)) same;
+      is = here ∙ ap (λ (k : Marker). spaces_end k blank space (c ∷ cs)) same;
       has = λ h. h;
     }
 
@@ -174,12 +174,13 @@ comment_end column c cs ink m blank space n p = by_word (is_yaml_non_break c) re
         let r = no_return_and c (slice_index cs 0 == 10) ink.break in
         let there : past_comment column m (c ∷ cs) ≡ (m, c ∷ cs) = rw (e, ink.break, r) refl in
         let same : m ≡ n = place_of m n (c ∷ cs) (c ∷ cs) (sym there ∙ p) in
-        let here : line_comment m blank space (c ∷ cs) ≡ spaced m blank space (c ∷ cs) = rw (e, ink.break, r) refl in
+        let here : line_comment m blank space (c ∷ cs) ≡ spaces_end m blank space (c ∷ cs) =
+        rw (e, ink.break, r) refl in
         record {
           still_blank = blank;
           some =
               space;
-          is = here ∙ ap (λ (k : Marker). spaced k blank space (c ∷ cs)) same;
+          is = here ∙ ap (λ (k : Marker). spaces_end k blank space (c ∷ cs)) same;
           has = λ h. h;
         }
 
@@ -243,12 +244,12 @@ is_space : (c : ℕ) → is_blank c ≡ true → (c == tab) ≡ false → c ≡ 
 is_space c h k = grind (arith, nat_tests)
 
 -- where separation without a tab outside comments stands, and a token behind it
-pub record Passed (m : Marker) (blank : Bool) (w y : List ℕ) : Type 0 where
+pub record PassesSpaces (m : Marker) (blank : Bool) (w y : List ℕ) : Type 0 where
   pub still_blank : Bool
-  pub is : spaces m blank false (w ++ y) ≡ spaced (moved m w) still_blank true y
+  pub is : spaces m blank false (w ++ y) ≡ spaces_end (moved m w) still_blank true y
 
 pub spaces_passed : (column : ℕ) (m : Marker) (blank : Bool) (w : List ℕ) (c : ℕ) (cs : List ℕ) → IsSeparation column w
-    → column ≤ m.col → w ≢ [] → has_tab_outside false w ≡ false → IsInk c → Passed m blank w (c ∷ cs)
+    → column ≤ m.col → w ≢ [] → has_tab_outside false w ≡ false → IsInk c → PassesSpaces m blank w (c ∷ cs)
 spaces_passed column m blank w c cs parts low some tabs ink =
     let b = separation_begins column w parts some in
     let there = separation_past column m w (c ∷ cs) parts low ∙ past_ink column (moved m w) c cs ink in
@@ -258,7 +259,7 @@ spaces_passed column m blank w c cs parts low some tabs ink =
         → spaces m blank false (d ∷ (ds ++ (c ∷ cs))) ≡ spaces k still true (ds ++ (c ∷ cs))
         → past column m (d ∷ (ds ++ (c ∷ cs))) ≡ past column k (ds ++ (c ∷ cs))
         → past column m (w ++ (c ∷ cs)) ≡ (moved m w, c ∷ cs) → has_tab_outside false ds ≡ false
-        → Passed m blank w (c ∷ cs)
+        → PassesSpaces m blank w (c ∷ cs)
     onward d ds k still same step over p t =
         let text = ap (λ (v : List ℕ). past column m (v ++ (c ∷ cs))) same in
         let g = spaces_go column ds c cs ink k still true (moved m w) t (sym over ∙ sym text ∙ p) in
@@ -266,12 +267,12 @@ spaces_passed column m blank w c cs parts low some tabs ink =
           still_blank = g.still_blank;
           is =
               ap (λ (v : List ℕ). spaces m blank false (v ++ (c ∷ cs))) same ∙ step ∙ g.is
-              ∙ ap (λ (q : Bool). spaced (moved m w) g.still_blank q (c ∷ cs)) (g.has refl);
+              ∙ ap (λ (q : Bool). spaces_end (moved m w) g.still_blank q (c ∷ cs)) (g.has refl);
         }
 
     by_first : (d : ℕ) (ds : List ℕ) → w ≡ d ∷ ds → (is_blank d ≡ true) ⊎ (d ≡ 10)
         → past column m (w ++ (c ∷ cs)) ≡ (moved m w, c ∷ cs) → has_tab_outside false w ≡ false
-        → Passed m blank w (c ∷ cs)
+        → PassesSpaces m blank w (c ∷ cs)
     by_first d ds same (inl h) p t =
         let others : has_tab_outside false (d ∷ ds) ≡ false = ap (has_tab_outside false) (sym same) ∙ t in
         let one : d ≡ 32 = is_space d h (or_parts (d == tab) (has_tab_outside (d == 35) ds) others).0 in

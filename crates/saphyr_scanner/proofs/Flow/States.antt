@@ -32,12 +32,12 @@ use Rattle.saphyr_scanner.specs.declared.engine.level.Context.TheVariants as con
 use Rattle.saphyr_scanner.specs.Grammar.Tokens.{Kind}
 use Rattle.saphyr_scanner.specs.Grammar.TokenGrammar as grammar
 use Rattle.saphyr_scanner.specs.Views.Tokens.{Piece}
-use Rattle.saphyr_scanner.specs.Steps.Queue.{Place, closed}
-use Rattle.saphyr_scanner.specs.Steps.Core.{Candidate, Level, is_block}
+use Rattle.saphyr_scanner.specs.Steps.Queue.{Place, bare_place}
+use Rattle.saphyr_scanner.specs.Steps.Level.{Candidate, Level, is_block}
 use Rattle.saphyr_scanner.specs.Steps.State.{State}
 use Rattle.saphyr_scanner.specs.Grammar.Forest.{Node}
 use Rattle.saphyr_scanner.specs.Grammar.FlowNodes.{IsPlainKeyNode, IsBeforeColon, allows_adjacent, IsFlowNode}
-use Rattle.saphyr_scanner.proofs.InFlow.States.{Around, FlowMoment, moment, state_at, Runs, root_moment}
+use Rattle.saphyr_scanner.proofs.InFlow.States.{Around, FlowMoment, moment, state_at, RunsTo, root_moment}
 use Rattle.saphyr_scanner.proofs.Json.Marks.{kinds, saved}
 
 -- ## Places in a text
@@ -181,7 +181,7 @@ pub record IsBehindRoot (indent : ℕ) (m : Marker) (o : List ℕ) : Type 0 wher
       → EndsDocument (past indent m o).0 (past indent m o).1 ⊎ IsLeft indent (past indent m o).0 (past indent m o).1
 
 -- A piece that is clear, within the limit, and right of the block collection around it, where no key is required.
-pub record Fits (around : Around) (m : Marker) (p o : List ℕ) : Type 0 where
+pub record FitsAround (around : Around) (m : Marker) (p o : List ℕ) : Type 0 where
   pub clear : IsClear m p o
   pub below : m.index + length (p ++ o) ≤ around.limit
   pub right : around.indent ≤ m.col
@@ -189,7 +189,7 @@ pub record Fits (around : Around) (m : Marker) (p o : List ℕ) : Type 0 where
 
 -- ## What the readers of scalars, properties and directives promise
 
-pub record Reads : Type 0 where
+pub record ReaderPromises : Type 0 where
   pub plain : (in_flow : Bool) (indent : ℕ) (s : Cursor) (text x : List ℕ) → s.rest ≡ text ++ x
       → IsPlainText in_flow indent s.mark text x
       → let end = passed s.mark text in let behind =
@@ -236,7 +236,7 @@ Since k m t key =
     × (key ≡ Some (record { mark = moved m front; place = place }))))
 
 -- what is kept inside flow behind a text, and what could be a key before it, and where the text stands
-pub record Kept : Type 0 where
+pub record KeptKey : Type 0 where
   pub kept : Option Candidate
   pub before : Option Candidate
   pub from : Marker
@@ -246,7 +246,7 @@ pub record Kept : Type 0 where
 abbrev pub key_behind : FlowMoment → Marker → Option Candidate
 key_behind now m = saved now.allowed (length now.places) m now.key
 
-abbrev pub keeping : FlowMoment → Marker → List ℕ → Kept
+abbrev pub keeping : FlowMoment → Marker → List ℕ → KeptKey
 keeping now m t = record { kept = key_behind now m; before = now.key; from = m; over = t }
 
 -- ## Where a key may begin
@@ -264,14 +264,14 @@ Known = Option Candidate → Bool → ℕ → List Place → Type 0
 
 -- From a state the scanner comes, behind a piece, to where the text o stands at m, or further within the separation at
 -- its front. The places of the piece hold these tokens.
-pub record Passes (around : Around) (start : Bool → State) (known : Known) (x : Context) (ls : List Level)
+pub record PassesPiece (around : Around) (start : Bool → State) (known : Known) (x : Context) (ls : List Level)
     (ps : List Place) (m : Marker) (o : List ℕ) (ts : List Kind) : Type 0 where
   pub there : Cursor
   pub key : Option Candidate
   pub allowed : Bool
   pub adjacent : ℕ
   pub new : List Place
-  pub leads : Runs around (state_at around (moment there x key ls allowed adjacent (ps ++ new))) start
+  pub leads : RunsTo around (state_at around (moment there x key ls allowed adjacent (ps ++ new))) start
   pub right : around.indent ≤ m.col
   pub fits : past around.indent there.mark there.rest ≡ past around.indent m o
   pub fresh : IsFresh x o allowed there
@@ -280,7 +280,8 @@ pub record Passes (around : Around) (start : Bool → State) (known : Known) (x 
 
 -- the moment behind a piece
 abbrev pub after : {around : Around} {start : Bool → State} {known : Known} {x : Context} {ls : List Level}
-    {ps : List Place} {m : Marker} {o : List ℕ} {ts : List Kind} → Passes around start known x ls ps m o ts → FlowMoment
+    {ps : List Place} {m : Marker} {o : List ℕ} {ts : List Kind} → PassesPiece around start known x ls ps m o ts
+    → FlowMoment
 after {x = x} {ls = ls} {ps = ps} p = moment p.there x p.key ls p.allowed p.adjacent (ps ++ p.new)
 
 -- a state with the comment that ended a plain scalar outside flow
@@ -296,7 +297,7 @@ pub record Closes (around : Around) (start : Bool → State) (k : Option Candida
   pub adjacent : ℕ
   pub comment : Option Marker
   pub new : List Place
-  pub leads : Runs around (λ d. noted comment
+  pub leads : RunsTo around (λ d. noted comment
       (state_at around (moment there context.Block key [] allowed adjacent (ps ++ new)) d)) start
   pub right : around.indent ≤ m.col
   pub fits : past around.indent there.mark there.rest ≡ past around.indent m o
@@ -326,7 +327,7 @@ pub record IsAfterNode (indent : ℕ) (x : Context) (kept : Option Candidate) (n
     (key : Option Candidate) (adjacent : ℕ) (new : List Place) : Type 0 where
   pub piece : Piece
   pub others : List Place
-  pub is : new ≡ closed piece ∷ others
+  pub is : new ≡ bare_place piece ∷ others
   pub keeps : is_block x ≡ false → key ≡ kept
   pub near : is_block x ≡ false → (separation more : List ℕ) → o ≡ separation ++ (58 ∷ more)
       → IsSeparation indent separation → IsTrue (allows_adjacent node separation)
@@ -341,7 +342,7 @@ pub record IsAfterProperties (x : Context) (kept key : Option Candidate) (allowe
     0 where
   pub piece : Piece
   pub others : List Place
-  pub is : new ≡ closed piece ∷ others
+  pub is : new ≡ bare_place piece ∷ others
   pub keeps : is_block x ≡ false → key ≡ kept
   pub closed : allowed ≡ false
 
@@ -351,7 +352,7 @@ pub record IsAfterProperties (x : Context) (kept key : Option Candidate) (allowe
 pub record NodePasses (around : Around) (now : FlowMoment) (node : Node) (m : Marker) (t o : List ℕ) : Type 0 where
   pub tokens : List Kind
   pub are : grammar.YieldsNode node grammar.InFlow tokens
-  pub passes : Passes around (state_at around now)
+  pub passes : PassesPiece around (state_at around now)
       (after_node around.indent now.context (key_behind now m) node (moved m t) o) now.context now.outer now.places
       (moved m t) o tokens
 
@@ -369,7 +370,7 @@ IsNodeOrKey room node indent p o =
 -- A node inside flow is passed, which may open so many flow collections.
 abbrev pub PassesNode : Around → ℕ → Node → Type 0
 PassesNode around room node =
-    (m : Marker) (p o : List ℕ) → IsNodeOrKey room node around.indent p o → Fits around m p o
+    (m : Marker) (p o : List ℕ) → IsNodeOrKey room node around.indent p o → FitsAround around m p o
     → IsBehindNode around.indent node o
     → (now : FlowMoment) → now.adjacent < m.index → is_block now.context ≡ false → room + length now.outer ≤ 255
     → StandsBefore around now m (p ++ o) → NodePasses around now node m p o
@@ -377,7 +378,7 @@ PassesNode around room node =
 -- A node at block level is passed.
 abbrev pub ClosesNode : Around → Node → Type 0
 ClosesNode around node =
-    (m : Marker) (p o : List ℕ) → IsFlowNode 255 node false around.indent p → Fits around m p o
+    (m : Marker) (p o : List ℕ) → IsFlowNode 255 node false around.indent p → FitsAround around m p o
     → IsBehindRoot around.indent (moved m p) o
     → (now : FlowMoment) → now.adjacent ≤ (past around.indent m (p ++ o)).0.index → StandsBefore around now m (p ++ o)
     → RootCloses around now node m p o

@@ -7,13 +7,14 @@ use Rattle.saphyr_scalar.specs.Views.Cursor.{Cursor}
 use Rattle.saphyr_scanner.specs.declared.engine.level.Context.{Context}
 use Rattle.saphyr_scanner.specs.Grammar.Tokens.{Kind}
 use Rattle.saphyr_scanner.specs.Views.Tokens.{Piece}
-use Rattle.saphyr_scanner.specs.Steps.Queue.{Place, closed}
-use Rattle.saphyr_scanner.specs.Steps.Core.{Candidate, Level, is_block, from_to, went}
+use Rattle.saphyr_scanner.specs.Steps.Queue.{Place, bare_place}
+use Rattle.saphyr_scanner.specs.Steps.Core.{from_to, completed_step}
+use Rattle.saphyr_scanner.specs.Steps.Level.{Candidate, Level, is_block}
 use Rattle.saphyr_scanner.specs.Steps.Fetch.{step}
 use Rattle.saphyr_scanner.proofs.InFlow.States.{Around, core_at, state_at, Deepens, FlowMoment, moment}
 use Rattle.saphyr_scanner.proofs.Json.Marks.{saved}
-use Rattle.saphyr_scanner.proofs.Json.Brackets.{place_of}
-use Rattle.saphyr_scanner.proofs.Flow.States.{moved, past, IsClear, IsInk, IsFresh, Since, Kept, keeping, Known, Passes, Fits, StandsBefore}
+use Rattle.saphyr_scanner.proofs.Json.Brackets.{token_place}
+use Rattle.saphyr_scanner.proofs.Flow.States.{moved, past, IsClear, IsInk, IsFresh, Since, KeptKey, keeping, Known, PassesPiece, FitsAround, StandsBefore}
 use Rattle.saphyr_scanner.proofs.Flow.Places.{moved_count, clear_here}
 use Rattle.saphyr_scanner.proofs.Flow.GapSteps.{past_ink}
 use Rattle.saphyr_scanner.proofs.Flow.Arrivals.{BeginsToken, arrives, step_comes, within_index}
@@ -47,7 +48,7 @@ begins_token m p o b clear =
 -- A step over a token that stands at m: y is what stands there, and behind the token o stands at n. `says` tells
 -- whether
 -- a key may begin behind it, and where a colon may stand at once.
-pub record Step (around : Around) (says : Bool → ℕ → Type 0) (kind : Kind) (y : List ℕ) (m n : Marker) (o : List ℕ)
+pub record TokenStep (around : Around) (says : Bool → ℕ → Type 0) (kind : Kind) (y : List ℕ) (m n : Marker) (o : List ℕ)
     (x : Context) (ls : List Level) (ad place : ℕ) (b : Bool) (j : Option Candidate)
     (e : Bool) : Type 0 where
   pub there : Cursor
@@ -57,16 +58,17 @@ pub record Step (around : Around) (says : Bool → ℕ → Type 0) (kind : Kind)
   pub to : Bool → Bool
   pub deepens : Deepens around to
   pub is : (d : Bool) → step (slice_index y 0) (slice_index y 1) place (core_at around d (cursor_at y m b) x j ls e ad)
-      ≡ went (from_to m end kind ∷ []) (core_at around (to d) there x (saved e place m j) ls allowed adjacent)
+      ≡ completed_step (from_to m end kind ∷ []) (core_at around (to d) there x (saved e place m j) ls allowed adjacent)
   pub fits : past around.indent there.mark there.rest ≡ past around.indent n o
   pub fresh : IsFresh x o allowed there
   pub tells : says allowed adjacent
 
 -- what is known behind a token
-pub record IsAfterToken (says : Bool → ℕ → Type 0) (x : Context) (kept : Kept) (key : Option Candidate) (allowed : Bool)
+pub record IsAfterToken (says : Bool → ℕ → Type 0) (x : Context) (kept : KeptKey) (key : Option Candidate)
+    (allowed : Bool)
     (adjacent : ℕ) (new : List Place) : Type 0 where
   pub piece : Piece
-  pub is : new ≡ closed piece ∷ []
+  pub is : new ≡ bare_place piece ∷ []
   pub keeps : is_block x ≡ false → key ≡ kept.kept
   pub since : Since kept.before kept.from kept.over key
   pub tells : says allowed adjacent
@@ -75,13 +77,13 @@ pub record IsAfterToken (says : Bool → ℕ → Type 0) (x : Context) (kept : K
 abbrev pub adjacent_at : ℕ → Bool → ℕ → Type 0
 adjacent_at n allowed adjacent = adjacent ≡ n
 
-abbrev pub after_token : (Bool → ℕ → Type 0) → Context → Kept → Known
+abbrev pub after_token : (Bool → ℕ → Type 0) → Context → KeptKey → Known
 after_token says x kept key allowed adjacent new = IsAfterToken says x kept key allowed adjacent new
 
 -- the run over a token p, which stands at m before o
 abbrev pub PassesToken : Around → (Bool → ℕ → Type 0) → FlowMoment → Marker → List ℕ → List ℕ → Kind → Type 0
 PassesToken around says now m p o kind =
-    Passes around (state_at around now) (after_token says now.context (keeping now m p)) now.context now.outer
+    PassesPiece around (state_at around now) (after_token says now.context (keeping now m p)) now.context now.outer
     now.places (moved m p) o (kind ∷ [])
 
 pub same_saved : (n : ℕ) (m : Marker) (a b : Bool) (k j : Option Candidate) → (j ≡ k) × (b ≡ a)
@@ -97,9 +99,10 @@ saved_since false n m k j p key (inl h) (inr g) = inl (g ∙ h)
 saved_since false n m k j p key (inr h) (inr g) = inr (inl (g ∙ h))
 
 pub token_passes : (around : Around) (says : Bool → ℕ → Type 0) (kind : Kind) (p o : List ℕ) (m : Marker) → Begins p
-    → Fits around m p o → around.indent ≤ (moved m p).col → (now : FlowMoment) → StandsBefore around now m (p ++ o)
+    → FitsAround around m p o → around.indent ≤ (moved m p).col → (now : FlowMoment)
+    → StandsBefore around now m (p ++ o)
     → ((b : Bool) (j : Option Candidate) (e : Bool)
-    → Step around says kind (p ++ o) m (moved m p) o now.context now.outer now.adjacent (length now.places) b j e)
+    → TokenStep around says kind (p ++ o) m (moved m p) o now.context now.outer now.adjacent (length now.places) b j e)
     → PassesToken around says now m p o kind
 token_passes around says kind p o m f fits right now text steps =
     let v = arrives around now m (p ++ o) (text ∙ begins_past around.indent m p o f) (begins_inked p o f)
@@ -108,7 +111,7 @@ token_passes around says kind p o m f fits right now text steps =
     let count = moved_count m p o in
     let below = fits.below in
     let low = within_index around.indent around.limit w.there (moved m p) o w.fits (omega (arith, count, below)) in
-    let new = place_of m w.end kind ∷ [] in
+    let new = token_place m w.end kind ∷ [] in
     let came = step_comes around now m (p ++ o) v (begins_token m p o f fits.clear) (moment w.there now.context
     (saved v.allowed (length now.places) m v.key) now.outer w.allowed w.adjacent
     (now.places ++ new)) (from_to m w.end kind ∷ []) w.to w.deepens w.is refl low in

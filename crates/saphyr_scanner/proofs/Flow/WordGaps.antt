@@ -183,8 +183,8 @@ prefix_reaches indent m t (front, blanks, (n, low, spaced), are, is) =
     subst (λ (i : Marker). indent ≤ i.col) (sym (ap (moved m) is ∙ moved_append m front blanks))
     (blanks_past indent blanks are k (omega (arith, low, there))).right
 
-folded_gap : (indent : ℕ) (m : Marker) (t : List ℕ) → IsFoldedGap indent t → Gapped indent m t
-folded_gap indent m t (blanks, lines, front, are, (pieces, each, joins), prefix, is) =
+folded_gap_passes : (indent : ℕ) (m : Marker) (t : List ℕ) → IsFoldedGap indent t → Gapped indent m t
+folded_gap_passes indent m t (blanks, lines, front, are, (pieces, each, joins), prefix, is) =
     let many : AreWhite lines = subst AreWhite (sym joins) (lines_white indent pieces each) in
     let all : AreWhite (blanks ++ (10 ∷ (lines ++ front))) = both_white blanks (10 ∷ (lines ++ front))
     (blanks_white blanks are) (refl, both_white lines front many (prefix_white indent front prefix)) in
@@ -217,7 +217,7 @@ word_gap indent m t (inl h) =
       indented = inl (no_line_end t h.1);
       right = λ low. (blanks_past indent t h.1 m low).right;
     }
-word_gap indent m t (inr h) = folded_gap indent m t h
+word_gap indent m t (inr h) = folded_gap_passes indent m t h
 
 pub plain_gap : (f : Bool) (indent : ℕ) (m : Marker) (t : List ℕ) → IsWordGap indent t → passed m t ≡ moved m t
     → IsPlainGap f indent m t

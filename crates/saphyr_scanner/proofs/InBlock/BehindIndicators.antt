@@ -18,7 +18,7 @@ use Rattle.saphyr_scanner.proofs.Flow.Inks.{BeginsInk, properties_ink}
 use Rattle.saphyr_scanner.proofs.InBlock.States.{tabbed, crosses}
 use Rattle.saphyr_scanner.proofs.InBlock.Skips.{IsSkipped, spaces_no_line, rest_crosses, last_crosses, IsClean, skipped_past, skipped_crosses, skipped_clean, skipped_append, spaces_skipped, line_end_skipped, filler_skipped, rest_ends_clean}
 use Rattle.saphyr_scanner.proofs.InBlock.Entries.{BeginsWhite, IsBehindIndicator}
-use Rattle.saphyr_scanner.proofs.InBlock.Statements.{Leaves}
+use Rattle.saphyr_scanner.proofs.InBlock.Statements.{ReadsLeaves}
 use Rattle.saphyr_input.proofs.Basics.Booleans.{clash}
 use Rattle.saphyr_scanner.proofs.InBlock.Texts.{ink_clean}
 
@@ -191,12 +191,12 @@ entries_ink NoNode m t o h = absurd h
 entries_ink (MoreNodes node nodes) m t o (entry, others, h, k, e) =
     record { first = 45; others = entry ++ others; is = e; ink = dash_ink }
 
-key_text_ink : {limit : ℕ} → Leaves limit → (key : Node) (m : ℕ) (t between : List ℕ)
+key_text_ink : {limit : ℕ} → ReadsLeaves limit → (key : Node) (m : ℕ) (t between : List ℕ)
     → IsKeyText (IsFlowNode 255 key false (suc m)) key false (suc m) t between → BeginsInk t
 key_text_ink leaves key m t between (inl h) = leaves.flow_ink key 255 (suc m) false t h
 key_text_ink leaves key m t between (inr (h, none)) = leaves.key_ink key (suc m) t h
 
-pub pair_ink : {limit : ℕ} → Leaves limit → (key value : Node) (m : ℕ) (t o : List ℕ)
+pub pair_ink : {limit : ℕ} → ReadsLeaves limit → (key value : Node) (m : ℕ) (t o : List ℕ)
     → IsBlockPair 255 key value (IsBlockNode 255 key) (IsBlockNode 255 value) m t o → BeginsInk t
 pair_ink leaves key value m t o (inl (node, between, v, node_is, line, spaced, before, short, h, e)) =
     let b = further_ink node (between ++ (58 ∷ v)) (key_text_ink leaves key m node between node_is) in
@@ -206,7 +206,7 @@ pair_ink leaves key value m t o (inr (inl (node, out, some, h, e))) =
 pair_ink leaves key value m t o (inr (inr (node, colon, v, some, h, mark, k, e))) =
     record { first = 63; others = node ++ (colon ++ v); is = e; ink = question_ink }
 
-pub pairs_ink : {limit : ℕ} → Leaves limit → (pairs : Pairs) (m : ℕ) (t o : List ℕ) → ArePairs 255 pairs m t o
+pub pairs_ink : {limit : ℕ} → ReadsLeaves limit → (pairs : Pairs) (m : ℕ) (t o : List ℕ) → ArePairs 255 pairs m t o
     → BeginsInk t
 pairs_ink leaves NoPair m t o h = absurd h
 pairs_ink leaves (MorePairs key value pairs) m t o (pair, others, h, k, e) =
@@ -249,7 +249,8 @@ lead_behind p (BehindKey column) least m lead t out (inr (none, h)) b = absurd h
 lead_behind p BehindMarker least m lead t out (inr (none, h)) b = absurd h
 lead_behind p AtStart least m lead t out (inr h) b = absurd (clash true refl out)
 
-flow_behind : {limit : ℕ} → Leaves limit → (node : Node) (place : Position) (t o : List ℕ) → IsFalse (is_start place)
+flow_behind : {limit : ℕ} → ReadsLeaves limit → (node : Node) (place : Position) (t o : List ℕ)
+    → IsFalse (is_start place)
     → IsFlowInBlock 255 node place t o → IsBehindIndicator (t ++ o)
 flow_behind leaves node place t o out (gap, text, end, gap_is, is, end_is, e) =
     let whole : t ++ o ≡ gap ++ ((text ++ end) ++ o) = ap (λ (x : List ℕ). x ++ o) e
@@ -260,7 +261,7 @@ flow_behind leaves node place t o out (gap, text, end, gap_is, is, end_is, e) =
     (ink_so gap ((text ++ end) ++ o) b (λ c cs ink. gap_behind place gap c cs out gap_is ink))
 
 -- what stands behind the indicator of a node that isn't at a document's start
-pub node_behind : {limit : ℕ} → Leaves limit → (node : Node) (place : Position) (t o : List ℕ)
+pub node_behind : {limit : ℕ} → ReadsLeaves limit → (node : Node) (place : Position) (t o : List ℕ)
     → IsFalse (is_start place) → IsBlockNode 255 node place t o → IsClean o → IsBehindIndicator (t ++ o)
 node_behind leaves (Alias name) place t o out h clean = flow_behind leaves (Alias name) place t o out h
 node_behind leaves (Scalar p style value) place t o out (inl h) clean = eol_behind t o h.2 clean

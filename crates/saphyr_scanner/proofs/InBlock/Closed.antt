@@ -18,14 +18,14 @@ use Rattle.saphyr_scanner.specs.Grammar.Tokens as tokens
 use Rattle.saphyr_scanner.specs.Grammar.Tokens.{Kind, directive_token}
 use Rattle.saphyr_scanner.specs.Grammar.TokenGrammar as grammar
 use Rattle.saphyr_scanner.specs.Grammar.TokenGrammar.{Yields}
-use Rattle.saphyr_scanner.proofs.Flow.States.{Reads}
+use Rattle.saphyr_scanner.proofs.Flow.States.{ReaderPromises}
 use Rattle.saphyr_scanner.proofs.Documents.Lines.{rest_first}
 use Rattle.saphyr_scanner.proofs.Documents.Markers.{reads_mark}
-use Rattle.saphyr_scanner.proofs.Documents.Stands.{Lined, Stands}
+use Rattle.saphyr_scanner.proofs.Documents.Stands.{Lined, StandsInStream}
 use Rattle.saphyr_scanner.proofs.InBlock.Skips.{nothing, filler_skipped}
 use Rattle.saphyr_scanner.proofs.InBlock.LineStarts.{opens_line, feed_opens, opens_too, HasLine}
 use Rattle.saphyr_scanner.proofs.InBlock.FurtherScalars.{EndsFed, fed_front}
-use Rattle.saphyr_scanner.proofs.InBlock.Statements.{Leaves}
+use Rattle.saphyr_scanner.proofs.InBlock.Statements.{ReadsLeaves}
 use Rattle.saphyr_scanner.proofs.InBlock.Documents.Ends.{AreBlockDocuments, HasNoReturn, OpensMarker, opens_marker}
 use Rattle.saphyr_scanner.proofs.InBlock.Firsts.{HasToken, token_front, node_token, documents_token}
 use Rattle.saphyr_scanner.proofs.InBlock.HandedMarkers.{Handed, hands_start, hands_end}
@@ -61,7 +61,7 @@ rest_stops tail h = subst (λ (x : List ℕ). StopsAt x []) (append-nil (last_re
     (end_stops (last_rest tail) [] [] (inl (tail, h, refl)) (λ m. refl))
 
 -- behind `...` stand neither a byte order mark nor documents
-none_behind : {limit : ℕ} → Leaves limit → (tail : List ℕ) → IsLineRest tail
+none_behind : {limit : ℕ} → ReadsLeaves limit → (tail : List ℕ) → IsLineRest tail
     → (ds : Forest) (end prefix others : List ℕ) → IsEol end (prefix ++ others) → IsDocumentPrefix prefix
     → AreBlockDocuments ds true others → end ++ (prefix ++ others) ≡ last_rest tail → ds ≡ []
 none_behind leaves tail tail_is ds end prefix others end_is (inr (filler, filler_is, e)) h text =
@@ -83,7 +83,7 @@ none_behind leaves tail tail_is ds end prefix others end_is (inl e) h text =
         (one_stop (end ++ (prefix ++ others)) (last_rest tail) (k.first ∷ k.others) [] text
         (end_stops end (prefix ++ others) (k.first ∷ k.others) end_is stops) (rest_stops tail tail_is)))
 
-last_end : {limit : ℕ} {start : State} → Leaves limit → (tail more : List ℕ) → IsLineRest tail
+last_end : {limit : ℕ} {start : State} → ReadsLeaves limit → (tail more : List ℕ) → IsLineRest tail
     → EndsHere limit start Ends more (last_rest tail)
 last_end leaves tail more tail_is ds end prefix others ts end_is prefix_is h clean text v =
     let none = none_behind leaves tail tail_is ds end prefix others end_is prefix_is h text in
@@ -96,7 +96,7 @@ last_end leaves tail more tail_is ds end prefix others ts end_is prefix_is h cle
     }
 
 -- behind `---` no node stands, and no document behind that
-no_node : {limit : ℕ} → Leaves limit → (tail : List ℕ) → IsLineRest tail
+no_node : {limit : ℕ} → ReadsLeaves limit → (tail : List ℕ) → IsLineRest tail
     → (n : Node) (ds : Forest) (node others : List ℕ) → IsBlockNode most_open n BehindMarker node others
     → layout.IsBehindDocument (AreBlockDocuments ds) others → node ++ others ≡ last_rest tail
     → (n ≡ left_out) × (ds ≡ [])
@@ -116,7 +116,7 @@ no_node leaves tail tail_is n ds node others is behind text = by_token (node_tok
     by_token (inr k) = let front =
         token_front node others k in absurd (ends front.first front.others (token_stops (node ++ others) front))
 
-last_start : {limit : ℕ} {start : State} → Leaves limit → (tail more : List ℕ) → IsLineRest tail
+last_start : {limit : ℕ} {start : State} → ReadsLeaves limit → (tail more : List ℕ) → IsLineRest tail
     → StartsHere limit start Starts more (last_rest tail)
 last_start {limit} {start} leaves tail more tail_is d ds free now opened node others ts may explicit compatible is
     behind text v =
@@ -140,7 +140,7 @@ last_start {limit} {start} leaves tail more tail_is d ds free now opened node ot
           (hands_start (last_rest tail ++ more) v first);
     }
 
-last_marker : {limit : ℕ} (start : State) → Leaves limit → (marker : DocumentMarker) (tail more : List ℕ)
+last_marker : {limit : ℕ} (start : State) → ReadsLeaves limit → (marker : DocumentMarker) (tail more : List ℕ)
     → IsLineRest tail → Found limit start marker more marker (last_rest tail)
 last_marker start leaves Starts tail more tail_is = last_start leaves tail more tail_is
 last_marker start leaves Ends tail more tail_is = last_end leaves tail more tail_is
@@ -148,8 +148,8 @@ last_marker start leaves Ends tail more tail_is = last_end leaves tail more tail
 -- ## A byte order mark behind a `...` line
 
 -- the last line
-abbrev last_line : DocumentMarker → List ℕ → List ℕ
-last_line marker tail = marker_text marker ++ last_rest tail
+abbrev marker_line : DocumentMarker → List ℕ → List ℕ
+marker_line marker tail = marker_text marker ++ last_rest tail
 
 -- the end of a line with its break
 abbrev IsWholeEnd : List ℕ → Type 0
@@ -160,9 +160,9 @@ abbrev mark_rest : List ℕ → List ℕ → List ℕ → List ℕ
 mark_rest end filler line = end ++ (filler ++ (65279 ∷ line))
 
 mark_rest_is : (marker : DocumentMarker) (end filler tail : List ℕ) → IsWholeEnd end
-    → IsMarkerRest (mark_rest end filler (last_line marker tail))
+    → IsMarkerRest (mark_rest end filler (marker_line marker tail))
 mark_rest_is marker end filler tail (rest, h, e) =
-    let line = last_line marker tail in
+    let line = marker_line marker tail in
     let text : mark_rest end filler line ≡ rest ++ (10 ∷ (filler ++ (65279 ∷ line))) =
     ap (λ (x : List ℕ). x ++ (filler ++ (65279 ∷ line))) e
     ∙ append_assoc rest (10 ∷ []) (filler ++ (65279 ∷ line)) in
@@ -180,12 +180,12 @@ mark_rest_stops end filler line end_is filler_is =
     end_stops end (filler ++ (65279 ∷ line)) (65279 ∷ line) (inl end_is)
     (mark_stops filler line (filler_skipped filler filler_is))
 
-mark_end : {limit : ℕ} {start : State} → Reads → Leaves limit
+mark_end : {limit : ℕ} {start : State} → ReaderPromises → ReadsLeaves limit
     → (marker : DocumentMarker) (end filler tail more : List ℕ) → IsWholeEnd end → IsFiller filler → IsLineRest tail
-    → EndsHere limit start marker more (mark_rest end filler (last_line marker tail))
+    → EndsHere limit start marker more (mark_rest end filler (marker_line marker tail))
 mark_end readers leaves marker before filler tail more before_is filler_is tail_is ds end prefix others ts end_is
     (inl e) h clean text v =
-    let line = last_line marker tail in
+    let line = marker_line marker tail in
     let k = documents_stop leaves ds true others h in
     let stops = end_stops end (prefix ++ others) k.at end_is
     (subst (λ (x : List ℕ). StopsAt (x ++ others) k.at) (sym e) k.stops) in
@@ -193,7 +193,7 @@ mark_end readers leaves marker before filler tail more before_is filler_is tail_
     text stops (mark_rest_stops before filler line before_is filler_is)))
 mark_end {limit} {start} readers leaves marker before filler tail more before_is filler_is tail_is ds end prefix others
     ts end_is (inr (own, own_is, e)) h clean text v =
-    let line = last_line marker tail in
+    let line = marker_line marker tail in
     let at : prefix ++ others ≡ own ++ (65279 ∷ others) = ap (λ (x : List ℕ). x ++ others) e
     ∙ append_assoc own (65279 ∷ []) others in
     let stops = end_stops end (prefix ++ others) (65279 ∷ others) end_is
@@ -209,7 +209,8 @@ mark_end {limit} {start} readers leaves marker before filler tail more before_is
     ap (λ (x : List ℕ). x ++ more) (sym text) ∙ append_assoc end (prefix ++ others) more
     ∙ ap (λ (x : List ℕ). end ++ x) (append_assoc prefix others more) in
     passes_suffix ds end prefix others more ts end_is (inr (own, own_is, e)) fed
-    (subst (λ (x : List ℕ). Stands limit start false (Lined false (46 ∷ 46 ∷ 46 ∷ x)) (46 ∷ 46 ∷ 46 ∷ x) ts) whole
+    (subst (λ (x : List ℕ). StandsInStream limit start false (Lined false (46 ∷ 46 ∷ 46 ∷ x)) (46 ∷ 46 ∷ 46 ∷ x) ts)
+    whole
     v)
     (λ us s. closes_documents readers leaves marker (last_rest tail) more (last_rest_is tail tail_is)
     (last_marker start leaves marker tail more tail_is) ds true others us h clean s
@@ -220,9 +221,9 @@ mark_end {limit} {start} readers leaves marker before filler tail more before_is
 -- where the last line stands in the documents' text: at a line's start, or behind a `...` line and a byte order mark
 abbrev Placed : DocumentMarker → List ℕ → List ℕ → Type 0
 Placed marker tail t =
-    HasLine t (last_line marker tail)
+    HasLine t (marker_line marker tail)
     ⊎ ((end filler : List ℕ) × IsWholeEnd end × IsFiller filler
-    × HasLine t (46 ∷ 46 ∷ 46 ∷ mark_rest end filler (last_line marker tail)))
+    × HasLine t (46 ∷ 46 ∷ 46 ∷ mark_rest end filler (marker_line marker tail)))
 
 before_line : (front : List ℕ) → IsBeforeLine front → opens_line true front ≡ true
 before_line front (inl e) = ap (opens_line true) e
@@ -234,17 +235,18 @@ mark_text : (others rest filler line : List ℕ)
 mark_text others rest filler line = simp append_assoc
 
 -- behind no byte order mark
-placed : {limit : ℕ} → Leaves limit → (marker : DocumentMarker) (forest : Forest) (t front tail : List ℕ)
-    → AreBlockDocuments forest true t → IsBeforeMarker front → t ≡ front ++ last_line marker tail → Placed marker tail t
+placed : {limit : ℕ} → ReadsLeaves limit → (marker : DocumentMarker) (forest : Forest) (t front tail : List ℕ)
+    → AreBlockDocuments forest true t → IsBeforeMarker front → t ≡ front ++ marker_line marker tail
+    → Placed marker tail t
 placed leaves marker forest t front tail h (inl before) e =
     inl (record { front = front; is = e; line = before_line front before })
 placed leaves marker forest t front tail h (inr (inl one)) e =
     let k = documents_stop leaves forest true t h in
-    let line = last_line marker tail in
+    let line = marker_line marker tail in
     absurd (k.unmarked line (one_stop t (65279 ∷ line) k.at (65279 ∷ line) (e ∙ ap (λ (x : List ℕ). x ++ line) one)
     k.stops (mark_stops [] line nothing)))
 placed leaves marker forest t front tail h (inr (inr (others, rest, filler, before, rest_is, filler_is, is))) e =
-    let line = last_line marker tail in
+    let line = marker_line marker tail in
     inr (
       rest ++ 10 ∷ [],
       filler,
@@ -265,20 +267,21 @@ without_mark t [] y e other opens =
 without_mark t (c ∷ cs) y e other opens = record { front = cs; is = cc; line = opens_too (c == line_feed) cs opens }
 
 no_byte_order_mark : (marker : DocumentMarker) (tail : List ℕ)
-    → (slice_index (last_line marker tail) 0 == 65279) ≡ false
+    → (slice_index (marker_line marker tail) 0 == 65279) ≡ false
 no_byte_order_mark Starts tail = refl
 no_byte_order_mark Ends tail = refl
 
 -- behind one at the text's start
 placed_behind : (marker : DocumentMarker) (t front tail : List ℕ) → IsBeforeMarker front
-    → 65279 ∷ t ≡ front ++ last_line marker tail → Placed marker tail t
+    → 65279 ∷ t ≡ front ++ marker_line marker tail → Placed marker tail t
 placed_behind marker t front tail (inl before) e =
-    inl (without_mark t front (last_line marker tail) e (no_byte_order_mark marker tail) (before_line front before))
+    inl (without_mark t front (marker_line marker tail) e (no_byte_order_mark marker tail) (before_line front before))
 placed_behind marker t front tail (inr (inl one)) e =
-    let text : 65279 ∷ t ≡ 65279 ∷ last_line marker tail = e ∙ ap (λ (x : List ℕ). x ++ last_line marker tail) one in
+    let text : 65279 ∷ t ≡ 65279 ∷ marker_line marker tail = e
+    ∙ ap (λ (x : List ℕ). x ++ marker_line marker tail) one in
     inl (record { front = []; is = cc; line = refl })
 placed_behind marker t front tail (inr (inr (others, rest, filler, before, rest_is, filler_is, is))) e =
-    let line = last_line marker tail in
+    let line = marker_line marker tail in
     inr (
       rest ++ 10 ∷ [],
       filler,
@@ -289,29 +292,32 @@ placed_behind marker t front tail (inr (inr (others, rest, filler, before, rest_
           (e ∙ ap (λ (x : List ℕ). x ++ line) is ∙ mark_text others rest filler line) refl (before_line others before),
     )
 
-closes_placed : {limit : ℕ} {start : State} → Reads → Leaves limit → (marker : DocumentMarker) (tail more : List ℕ)
+closes_placed : {limit : ℕ} {start : State} → ReaderPromises → ReadsLeaves limit
+    → (marker : DocumentMarker) (tail more : List ℕ)
     → IsLineRest tail → (forest : Forest) (t : List ℕ) (ts : List Kind) → AreBlockDocuments forest true t
     → HasNoReturn t
-    → Stands limit start true (Lined true (t ++ more)) (t ++ more) ts → Placed marker tail t
+    → StandsInStream limit start true (Lined true (t ++ more)) (t ++ more) ts → Placed marker tail t
     → Closes limit start marker (grammar.YieldDocuments forest true) ts
 closes_placed {start = start} readers leaves marker tail more tail_is forest t ts h clean v (inl line) =
     closes_documents readers leaves marker (last_rest tail) more (last_rest_is tail tail_is)
     (last_marker start leaves marker tail more tail_is) forest true t ts h clean v line
 closes_placed readers leaves marker tail more tail_is forest t ts h clean v
     (inr (end, filler, end_is, filler_is, line)) =
-    closes_documents readers leaves Ends (mark_rest end filler (last_line marker tail)) more
+    closes_documents readers leaves Ends (mark_rest end filler (marker_line marker tail)) more
     (mark_rest_is marker end filler tail end_is)
     (mark_end readers leaves marker end filler tail more end_is filler_is tail_is) forest true t ts h clean v line
 
 -- From the start of the text, whatever follows, the scanner comes behind the marker, and holds nothing back.
-closed_leads : Reads → (limit : ℕ) → Leaves limit → (marker : DocumentMarker) (forest : Forest) (text more : List ℕ)
+closed_leads : ReaderPromises → (limit : ℕ) → ReadsLeaves limit
+    → (marker : DocumentMarker) (forest : Forest) (text more : List ℕ)
     → HasNoReturn text → EndsWithMarker IsLineRest marker text → IsLayout most_open forest text
     → length (text ++ more) ≤ limit
     → Closes limit (start (text ++ more)) marker (Yields forest) []
 closed_leads readers limit leaves marker forest text more clean (front, tail, tail_is, before, at)
     (mark, others, inl none, documents, e) short =
     let same : text ≡ others = e ∙ ap (λ (x : List ℕ). x ++ others) none in
-    let first = subst (λ (x : List ℕ). Stands limit (start (text ++ more)) true (Lined true (x ++ more)) (x ++ more)
+    let first = subst (λ (x : List ℕ). StandsInStream limit (start (text ++ more)) true (Lined true (x ++ more))
+    (x ++ more)
     (tokens.StreamStart ∷ [])) same (begins limit (text ++ more) short) in
     closes_on [] (tokens.StreamStart ∷ []) (λ all told. ([], all, tt, told, refl))
     (closes_placed readers leaves marker tail more tail_is forest others (tokens.StreamStart ∷ []) documents
@@ -321,7 +327,7 @@ closed_leads readers limit leaves marker forest text more clean (front, tail, ta
     (mark, others, inr one, documents, e) short =
     let same : text ≡ 65279 ∷ others = e ∙ ap (λ (x : List ℕ). x ++ others) one in
     let first = reads_mark (others ++ more)
-    (subst (λ (x : List ℕ). Stands limit (start (text ++ more)) true (Lined true (x ++ more)) (x ++ more)
+    (subst (λ (x : List ℕ). StandsInStream limit (start (text ++ more)) true (Lined true (x ++ more)) (x ++ more)
     (tokens.StreamStart ∷ [])) same (begins limit (text ++ more) short)) in
     closes_on [] (tokens.StreamStart ∷ tokens.ByteOrderMark ∷ [])
     (λ all told. (tokens.ByteOrderMark ∷ [], all, (inr refl, tt), told, refl))
@@ -338,7 +344,7 @@ onto_kinds [] r = refl
 onto_kinds (t ∷ ts) r = ap (λ ks. t.kind ∷ ks) (onto_kinds ts r)
 
 -- they come first, whatever the text behind the marker's line gives
-closed_begins : Readers → Reads → (limit : ℕ) → Leaves limit
+closed_begins : Readers → ReaderPromises → (limit : ℕ) → ReadsLeaves limit
     → (marker : DocumentMarker) (forest : Forest) (text more : List ℕ) → HasNoReturn text
     → EndsWithMarker IsLineRest marker text → IsLayout most_open forest text → length (text ++ more) ≤ limit
     → HandsOut marker forest (scan limit (text ++ more))
@@ -358,7 +364,7 @@ closed_begins readers reads limit leaves marker forest text more clean ends layo
     }
 
 -- The same of every text whose normalized breaks give such a text. The break between it and what follows is whole.
-pub closed_scans : Readers → Reads → ReadsBlocks → (limit : ℕ) → limit < 2 ^ 63
+pub closed_scans : Readers → ReaderPromises → ReadsBlocks → (limit : ℕ) → limit < 2 ^ 63
     → (marker : DocumentMarker) (forest : Forest) (text more : List ℕ)
     → HaveSameKinds (scan limit (text ++ more)) (scan limit (normalized (text ++ more)))
     → IsLayoutText most_open forest text → EndsWithMarker IsLineRest marker (normalized text)

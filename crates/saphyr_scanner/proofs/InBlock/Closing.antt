@@ -8,17 +8,17 @@ use Rattle.saphyr_scalar.specs.declared.scalar.position.Marker.{Marker}
 use Rattle.saphyr_scalar.specs.declared.scalar.fault.Refusal.{Refusal}
 use Rattle.saphyr_scalar.specs.Views.Cursor.{◌>>=◌}
 use Rattle.saphyr_scanner.specs.Steps.Passing.{separate}
-use Rattle.saphyr_scanner.specs.Steps.Core.{Candidate}
+use Rattle.saphyr_scanner.specs.Steps.Level.{Candidate}
 use Rattle.saphyr_scanner.specs.Steps.Document as document
 use Rattle.saphyr_scanner.specs.Steps.Document.{end_mark}
-use Rattle.saphyr_scanner.specs.Steps.Queue.{Place, closed, empty_piece}
+use Rattle.saphyr_scanner.specs.Steps.Queue.{Place, bare_place, empty_piece}
 use Rattle.saphyr_scanner.specs.Steps.State.{State, on_core_with}
 use Rattle.saphyr_scanner.specs.Grammar.Tokens as tokens
 use Rattle.saphyr_scanner.specs.Grammar.Tokens.{Kind}
 use Rattle.saphyr_scanner.specs.Steps.Unrolling.{unroll}
 use Rattle.saphyr_scanner.specs.Steps.Fetch.{fetch, fetch_here}
 use Rattle.saphyr_scanner.proofs.Json.Marks.{kinds, kinds_append}
-use Rattle.saphyr_scanner.proofs.InBlock.States.{Frame, at_column, moment_at, state_of, EndsDocument, At}
+use Rattle.saphyr_scanner.proofs.InBlock.States.{Frame, frame_at_column, moment_at, state_of, EndsDocument, At}
 use Rattle.saphyr_scanner.proofs.InBlock.Follows.{goes_alike, arrives_at, stays_open}
 use Rattle.saphyr_input.proofs.Basics.Numbers.{zero_below_next}
 use Rattle.saphyr_input.proofs.Basics.Booleans.{and_false}
@@ -26,7 +26,7 @@ use Rattle.std.proofs.lemmas.Bool.{ltb-true, eq-eqb}
 
 -- the token that ends a collection
 abbrev pub end_place : Marker → Place
-end_place m = closed (empty_piece m tokens.BlockEnd)
+end_place m = bare_place (empty_piece m tokens.BlockEnd)
 
 -- ## Before a token to its left
 
@@ -38,7 +38,7 @@ not_deep c col h = grind (arith, nat_tests)
 
 ends_left : (f : Frame) (c : ℕ) (m : Marker) (y : List ℕ) (blank : Bool) (key : Option Candidate) (a : Bool) (ad : ℕ)
     (deeper : Bool) (ps : List Place) → m.col < c
-    → unroll (Some m.col) m (state_of (at_column c f) (moment_at m y blank key a ad deeper) ps)
+    → unroll (Some m.col) m (state_of (frame_at_column c f) (moment_at m y blank key a ad deeper) ps)
     ≡ unroll (Some m.col) m (state_of f (moment_at m y blank key a ad false) (ps ++ end_place m ∷ []))
 unfolding unroll
 ends_left f c m y blank key a ad deeper ps left =
@@ -49,7 +49,7 @@ ends_left f c m y blank key a ad deeper ps left =
 -- the states with and without the collection end alike
 ends_last : (f : Frame) (c : ℕ) (n m : Marker) (y : List ℕ) (blank : Bool) (key : Option Candidate) (a : Bool) (ad : ℕ)
     (deeper other : Bool) (ps : List Place)
-    → unroll None n (state_of (at_column c f) (moment_at m y blank key a ad deeper) ps)
+    → unroll None n (state_of (frame_at_column c f) (moment_at m y blank key a ad deeper) ps)
     ≡ unroll None n (state_of f (moment_at m y blank key a ad other) (ps ++ end_place n ∷ []))
 unfolding unroll
 ends_last f c n m y blank key a ad deeper other ps = rw (zero_below_next c) refl
@@ -150,22 +150,22 @@ stream_ends f m blank key a ad deeper ps = refl
 -- A collection ends at the end of its document, where the next token stands no further left.
 ends_here : (f : Frame) (c : ℕ) (m : Marker) (y : List ℕ) (blank : Bool) (key : Option Candidate) (a : Bool) (ad : ℕ)
     (deeper other : Bool) (ps : List Place) → EndsDocument m y
-    → fetch_here (state_of (at_column c f) (moment_at m y blank key a ad deeper) ps)
+    → fetch_here (state_of (frame_at_column c f) (moment_at m y blank key a ad deeper) ps)
     ≡ fetch_here (state_of f (moment_at m y blank key a ad other) (ps ++ end_place (end_mark m) ∷ []))
 ends_here f c m y blank key a ad deeper other ps (inl e) =
-    subst (λ (z : List ℕ). fetch_here (state_of (at_column c f) (moment_at m z blank key a ad deeper) ps)
+    subst (λ (z : List ℕ). fetch_here (state_of (frame_at_column c f) (moment_at m z blank key a ad deeper) ps)
     ≡ fetch_here (state_of f (moment_at m z blank key a ad other) (ps ++ end_place (end_mark m) ∷ []))) (sym e)
-    (stream_ends (at_column c f) m blank key a ad deeper ps
+    (stream_ends (frame_at_column c f) m blank key a ad deeper ps
     ∙ ap (λ (s : State). Ok (document.finish (end_mark m) s))
     (ends_last f c (end_mark m) m [] blank key a ad deeper other ps)
     ∙ sym (stream_ends f m blank key a ad other (ps ++ end_place (end_mark m) ∷ [])))
 ends_here f c m y blank key a ad deeper other ps (inr h) =
     let same : end_mark m ≡ m = at_line_start m h.0 in
     let start = is_document_start y in
-    subst (λ (n : Marker). fetch_here (state_of (at_column c f) (moment_at m y blank key a ad deeper) ps)
+    subst (λ (n : Marker). fetch_here (state_of (frame_at_column c f) (moment_at m y blank key a ad deeper) ps)
     ≡ fetch_here (state_of f (moment_at m y blank key a ad other) (ps ++ end_place n ∷ []))) (sym same)
-    (marker_here (at_column c f) m y blank key a ad deeper ps start refl h.0 h.1
-    ∙ marked_alike start m (state_of (at_column c f) (moment_at m y blank key a ad deeper) ps)
+    (marker_here (frame_at_column c f) m y blank key a ad deeper ps start refl h.0 h.1
+    ∙ marked_alike start m (state_of (frame_at_column c f) (moment_at m y blank key a ad deeper) ps)
     (state_of f (moment_at m y blank key a ad other) (ps ++ end_place m ∷ [])) refl refl
     (ends_last f c m m y blank key a ad deeper other ps)
     ∙ sym (marker_here f m y blank key a ad other (ps ++ end_place m ∷ []) start refl h.0 h.1))
@@ -185,7 +185,7 @@ ended_kinds ps m ts e = kinds_append ps (end_place m ∷ []) ∙ ap (λ (x : Lis
 
 -- The block collection at a column ends before the token at m, which stands to its left or ends the document.
 pub closes_block : {limit : ℕ} {start : State} {ts : List Kind} (f : Frame) (c : ℕ) (m : Marker) (y : List ℕ)
-    → f.indent ≤ c → EndsDocument m y ⊎ (m.col < c) → (v : At limit start (at_column c f) m y ts)
+    → f.indent ≤ c → EndsDocument m y ⊎ (m.col < c) → (v : At limit start (frame_at_column c f) m y ts)
     → (w : At limit start f m y (ts ++ tokens.BlockEnd ∷ [])) × (w.key ≡ v.key) × (w.allowed ≡ v.allowed)
 unfolding fetch
 closes_block {limit} {start} {ts} f c m y inside ends v = by_column (nat_lt m.col c) refl
@@ -197,7 +197,7 @@ closes_block {limit} {start} {ts} f c m y inside ends v = by_column (nat_lt m.co
         (arrives_at g m y v.blank v.key v.allowed v.adjacent deeper ps v.stop v.near)
 
     closed_at : (n : Marker)
-        → fetch (state_of (at_column c f) (moment_at m y v.blank v.key v.allowed v.adjacent v.deeper) v.places)
+        → fetch (state_of (frame_at_column c f) (moment_at m y v.blank v.key v.allowed v.adjacent v.deeper) v.places)
         ≡ fetch (state_of f (moment_at m y v.blank v.key v.allowed v.adjacent false) (v.places ++ end_place n ∷ []))
         → (w : At limit start f m y (ts ++ tokens.BlockEnd ∷ [])) × (w.key ≡ v.key) × (w.allowed ≡ v.allowed)
     closed_at n e = (
@@ -228,8 +228,8 @@ closes_block {limit} {start} {ts} f c m y inside ends v = by_column (nat_lt m.co
     by_end e (inl h) =
         let far = at_least c m.col e in
         closed_at (end_mark m)
-        (arrived (at_column c f) v.deeper v.places
-        ∙ ap fetch_here (stays_open (at_column c f) false m y v.blank v.key v.allowed v.adjacent v.deeper v.places
+        (arrived (frame_at_column c f) v.deeper v.places
+        ∙ ap fetch_here (stays_open (frame_at_column c f) false m y v.blank v.key v.allowed v.adjacent v.deeper v.places
         far)
         ∙ ends_here f c m y v.blank v.key v.allowed v.adjacent (v.deeper && nat_le (c + 1) m.col) false v.places h
         ∙ sym (arrived f false (v.places ++ end_place (end_mark m) ∷ [])
@@ -240,7 +240,7 @@ closes_block {limit} {start} {ts} f c m y inside ends v = by_column (nat_lt m.co
         → (w : At limit start f m y (ts ++ tokens.BlockEnd ∷ [])) × (w.key ≡ v.key) × (w.allowed ≡ v.allowed)
     by_column true e =
         closed_at m
-        (arrived (at_column c f) v.deeper v.places
+        (arrived (frame_at_column c f) v.deeper v.places
         ∙ ap fetch_here (ends_left f c m y v.blank v.key v.allowed v.adjacent v.deeper v.places
         (ltb-true m.col c e))
         ∙ sym (arrived f false (v.places ++ end_place m ∷ [])))

@@ -12,11 +12,12 @@ use Rattle.saphyr_scalar.specs.Steps.BlockRead.{spaces}
 use Rattle.saphyr_scalar.specs.Views.Cursor.{Cursor, ◌>>=◌, along, separation}
 use Rattle.saphyr_scanner.specs.declared.queue.Opening.{Opening}
 use Rattle.saphyr_scanner.specs.declared.queue.Opening.TheVariants as opening
-use Rattle.saphyr_scanner.specs.Steps.Core.{least_column, Core, Candidate, Open, went, at_mark, is_too_far}
+use Rattle.saphyr_scanner.specs.Steps.Core.{least_column, Core, Open, completed_step, at_mark, is_too_far}
+use Rattle.saphyr_scanner.specs.Steps.Level.{Candidate}
 use Rattle.saphyr_scanner.specs.Steps.Passing.{with_cursor}
-use Rattle.saphyr_scanner.specs.Steps.Queue.{next, Place, Queue, closed, empty_piece}
+use Rattle.saphyr_scanner.specs.Steps.Queue.{next, Place, Queue, bare_place, empty_piece}
 use Rattle.saphyr_scanner.specs.Views.Tokens.{Piece}
-use Rattle.saphyr_scanner.specs.Steps.State.{State, acted}
+use Rattle.saphyr_scanner.specs.Steps.State.{State, after_step}
 use Rattle.saphyr_scanner.specs.Grammar.Tokens as tokens
 use Rattle.saphyr_scanner.specs.Grammar.Tokens.{Kind}
 use Rattle.saphyr_scanner.specs.Steps.Value as value
@@ -28,7 +29,7 @@ use Rattle.saphyr_scanner.proofs.Flow.Colons.{pair_places, performs}
 use Rattle.saphyr_scanner.proofs.Flow.Fillers.{EndsLine}
 use Rattle.saphyr_scanner.proofs.Flow.Separates.{blank_stops}
 use Rattle.saphyr_scanner.proofs.Flow.States.{past}
-use Rattle.saphyr_scanner.proofs.InBlock.States.{Frame, Moment, moment_at, moment_with, core_of, state_of, tabbed, IsUntabbed, crosses, Follows, At, Before}
+use Rattle.saphyr_scanner.proofs.InBlock.States.{Frame, Moment, moment_at, moment_with, core_of, state_of, tabbed, IsUntabbed, crosses, GoesOnAs, At, Before}
 use Rattle.saphyr_scanner.proofs.InBlock.Follows.{steps_from, begins_here, deeper_at, lands_key}
 use Rattle.saphyr_scanner.proofs.InBlock.Entries.{IsBehindIndicator, front_end, separates, frame_behind, steps_on, before_next}
 use Rattle.saphyr_scalar.proofs.Given.{cursor_at}
@@ -137,14 +138,14 @@ behind_value n o ad = record {
 value_step : (f : Frame) (m : Marker) (o : List ℕ) (h : IsBehindIndicator o) (p : PassesColon o h (along m 1))
     (blank : Bool) (ad : ℕ) (deeper : Bool) → f.indent ≡ m.col + 1 → (i : ℕ)
     → step 58 (slice_index o 0) i (core_of f (moment_at m (58 ∷ o) blank None true ad deeper))
-    ≡ went (at_mark m tokens.Value ∷ []) (core_of f (behind_value p.mark p.rest ad))
-unfolding step value.value_steps value.behind_key value.alone value.begin_alone
+    ≡ completed_step (at_mark m tokens.Value ∷ []) (core_of f (behind_value p.mark p.rest ad))
+unfolding step value.value_steps value.behind_key value.value_alone value.opening_actions
 value_step f m o h p blank ad deeper same i =
     let n : Moment = record (moment_at m (58 ∷ o) blank None true ad deeper)
     { cursor = cursor_at o (along m 1) false } in
     let d : Moment = record n { cursor = cursor_at p.rest p.mark false } in
     let there : value.behind_key None false m (core_of f d)
-    ≡ went (at_mark m tokens.Value ∷ []) (core_of f (behind_value p.mark p.rest ad)) =
+    ≡ completed_step (at_mark m tokens.Value ∷ []) (core_of f (behind_value p.mark p.rest ad)) =
     rw (next_not_within f.indent m.col same, some_indent f.indent m.col same) refl in
     rw h.first (ap (λ r. r >>= λ (c : Core). value.behind_key c.level.key false m c) (p.passes f n refl) ∙ there)
 
@@ -159,17 +160,17 @@ reads_value {limit} {start} {ts} f m o same h count v none allowed =
     let deeper = deeper_at f v.deeper m in
     let p = passes_colon o h (along m 1) in
     let t = behind_value p.mark p.rest v.adjacent in
-    let qs = v.places ++ closed (empty_piece m tokens.Value) ∷ [] in
+    let qs = v.places ++ bare_place (empty_piece m tokens.Value) ∷ [] in
     let made : state_behind_content 58 (slice_index o 0)
     (state_of f (moment_at m (58 ∷ o) v.blank None true v.adjacent deeper) v.places) ≡ Ok (state_of f t qs) =
-    ap (λ r. acted r (queue_of v.places)) (value_step f m o h p v.blank v.adjacent deeper same i) in
+    ap (λ r. after_step r (queue_of v.places)) (value_step f m o h p v.blank v.adjacent deeper same i) in
     let there : state_behind_content 58 (slice_index o 0)
     (state_of f (moment_at m (58 ∷ o) v.blank v.key v.allowed v.adjacent deeper) v.places) ≡ Ok (state_of f t qs) =
     ap (λ (b : Bool). state_behind_content 58 (slice_index o 0)
     (state_of f (moment_at m (58 ∷ o) v.blank v.key b v.adjacent deeper) v.places)) allowed
     ∙ ap (λ (k : Option Candidate). state_behind_content 58 (slice_index o 0)
     (state_of f (moment_at m (58 ∷ o) v.blank k true v.adjacent deeper) v.places)) none ∙ made in
-    let kept = kinds_append v.places (closed (empty_piece m tokens.Value) ∷ [])
+    let kept = kinds_append v.places (bare_place (empty_piece m tokens.Value) ∷ [])
     ∙ ap (λ (x : List Kind). x ++ tokens.Value ∷ []) v.are in
     before_next (layout.BehindMark m.col) f t qs (along m 1) o
     (steps_on f f m (58 ∷ o) v (colon_begins m o) (least f.indent m.col same) t qs there refl
@@ -189,8 +190,8 @@ abbrev pub block_opening : Bool → Opening
 block_opening further = if further then opening.BlockMappingAndKey else opening.Key
 
 -- behind the colon of a key
-abbrev behind_colon : Marker → List ℕ → ℕ → Moment
-behind_colon n o ad = record {
+abbrev colon_moment : Marker → List ℕ → ℕ → Moment
+colon_moment n o ad = record {
   cursor =
       cursor_at o n false;
   key = None;
@@ -206,9 +207,9 @@ colon_step : (f : Frame) (r : Bool) (k : Candidate) (m : Marker) (o : List ℕ) 
     → nat_le f.indent k.mark.col ≡ further
     → f.indent ≤ k.mark.col + 1 → nat_lt 0 f.indent ≡ true ⊎ (further ≡ true) → (i : ℕ)
     → step 58 (slice_index o 0) i (core_of f (moment_with r m (58 ∷ o) blank (Some k) a ad deeper))
-    ≡ went (Open k.place (block_opening further) ∷ at_mark m tokens.Value ∷ [])
-    (core_of (frame_behind further k.mark.col f) (behind_colon p.mark p.rest ad))
-unfolding step value.value_steps value.behind_key value.of_key
+    ≡ completed_step (Open k.place (block_opening further) ∷ at_mark m tokens.Value ∷ [])
+    (core_of (frame_behind further k.mark.col f) (colon_moment p.mark p.rest ad))
+unfolding step value.value_steps value.behind_key value.value_of_key
 colon_step f r k m o h p blank a ad deeper further e far some i =
     let n : Moment = record (moment_with r m (58 ∷ o) blank (Some k) a ad deeper)
     { cursor = cursor_at o (along m 1) false } in
@@ -220,18 +221,18 @@ colon_step f r k m o h p blank a ad deeper further e far some i =
 
     opens : (b : Bool) → nat_le f.indent k.mark.col ≡ b → nat_lt 0 f.indent ≡ true ⊎ (b ≡ true)
         → value.behind_key (Some k) false m (core_of f d)
-        ≡ went (Open k.place (block_opening b) ∷ at_mark m tokens.Value ∷ [])
-        (core_of (frame_behind b k.mark.col f) (behind_colon p.mark p.rest ad))
+        ≡ completed_step (Open k.place (block_opening b) ∷ at_mark m tokens.Value ∷ [])
+        (core_of (frame_behind b k.mark.col f) (colon_moment p.mark p.rest ad))
     opens true e s = rw (e, zero_below_next k.mark.col) refl
     opens false e (inl s) = rw (e, s) refl
     opens false e (inr s) = absurd (cc)
 
 key_are : (further : Bool) (ps others : List Place) (key : Piece) (m : Marker) (ts us : List Kind) → kinds ps ≡ ts
-    → kinds (closed key ∷ others) ≡ us
+    → kinds (bare_place key ∷ others) ≡ us
     → kinds (ps ++ pair_places (block_opening further) key others (empty_piece m tokens.Value))
     ≡ ts ++ (key_kinds further ++ (us ++ tokens.Value ∷ []))
 key_are further ps others key m ts us first are =
-    let back = kinds_append (closed key ∷ others) (closed (empty_piece m tokens.Value) ∷ [])
+    let back = kinds_append (bare_place key ∷ others) (bare_place (empty_piece m tokens.Value) ∷ [])
     ∙ ap (λ (x : List Kind). x ++ tokens.Value ∷ []) are in
     kinds_append ps (pair_places (block_opening further) key others (empty_piece m tokens.Value))
     ∙ ap (λ (x : List Kind). x
@@ -239,7 +240,7 @@ key_are further ps others key m ts us first are =
     ∙ ap (λ (x : List Kind). ts ++ x) (by_opening further back)
   where
     by_opening : (further : Bool)
-        → kinds (closed key ∷ (others ++ closed (empty_piece m tokens.Value) ∷ [])) ≡ us ++ tokens.Value ∷ []
+        → kinds (bare_place key ∷ (others ++ bare_place (empty_piece m tokens.Value) ∷ [])) ≡ us ++ tokens.Value ∷ []
         → kinds (pair_places (block_opening further) key others (empty_piece m tokens.Value))
         ≡ key_kinds further ++ (us ++ tokens.Value ∷ [])
     by_opening true e = ap (λ (x : List Kind). tokens.BlockMappingStart ∷ tokens.Key ∷ x) e
@@ -248,7 +249,8 @@ key_are further ps others key m ts us first are =
 -- the colon of a key is read, which begins a mapping or goes on with one
 pub reads_colon : {limit : ℕ} {start : State} (f : Frame) (n : Moment) (ps others new : List Place) (key : Piece)
     (k m : Marker) (o : List ℕ) (ts us : List Kind) (further : Bool) → nat_le f.indent k.col ≡ further
-    → f.indent ≤ k.col + 1 → Follows limit start (state_of f n (ps ++ new)) → new ≡ closed key ∷ others → kinds ps ≡ ts
+    → f.indent ≤ k.col + 1 → GoesOnAs limit start (state_of f n (ps ++ new)) → new ≡ bare_place key ∷ others
+    → kinds ps ≡ ts
     → kinds new ≡ us → n.key ≡ Some (record { mark = k; place = length ps }) → n.comment ≡ None
     → past 0 n.cursor.mark n.cursor.rest ≡ (m, 58 ∷ o) → IsUntabbed (least_column (core_of f n)) n.cursor
     → is_too_far n.key m ≡ false → k.col ≤ m.col → IsBehindIndicator o
@@ -264,7 +266,7 @@ reads_colon {limit} {start} f n ps others new key k m o ts us further e far v is
     let i = next (queue_of (ps ++ new)) in
     let g = frame_behind further k.col f in
     let p = passes_colon o h (along m 1) in
-    let t = behind_colon p.mark p.rest n.adjacent in
+    let t = colon_moment p.mark p.rest n.adjacent in
     let places = pair_places (block_opening further) key others (empty_piece m tokens.Value) in
     let allowed = crosses n.cursor.rest || n.allowed in
     let c = core_of f (moment_with n.required m (58 ∷ o) l.0 n.key allowed n.adjacent deeper) in
@@ -272,7 +274,7 @@ reads_colon {limit} {start} f n ps others new key k m o ts us further e far v is
     (core_of f (moment_with n.required m (58 ∷ o) l.0 q allowed n.adjacent deeper))) candidate
     ∙ colon_step f n.required (record { mark = k; place = length ps }) m o h p l.0 allowed n.adjacent deeper further e
     far (some_further f.indent k.col further e) i in
-    let made = ap (λ r. acted r (queue_of (ps ++ new))) stepped
+    let made = ap (λ r. after_step r (queue_of (ps ++ new))) stepped
     ∙ ap (λ (q : Queue). Ok (let r : State = record { core = core_of g t; queue = q } in r))
     (performs ps others new (block_opening further) key (empty_piece m tokens.Value) is) in
     let there = ap (λ r. r >>= fetch_here) l.1

@@ -10,7 +10,7 @@ use Rattle.saphyr_scalar.specs.Steps.Plain.{ends_line}
 use Rattle.saphyr_scalar.specs.Spelling.Plain.{past_white}
 use Rattle.saphyr_scalar.specs.Spelling.Spaces.{AreEach, joined, IsSeparation, IsSeparationLine, IsLineRest}
 use Rattle.saphyr_scanner.specs.declared.engine.level.Context.{Context}
-use Rattle.saphyr_scanner.specs.Steps.Core.{is_block}
+use Rattle.saphyr_scanner.specs.Steps.Level.{is_block}
 use Rattle.saphyr_scanner.proofs.Flow.States.{crosses, IsFresh}
 use Rattle.saphyr_scanner.proofs.Flow.Fillers.{EndsLine, spaces_are_blank, behind_is}
 use Rattle.saphyr_scanner.proofs.InBlock.Skips.{blanks_cross, rest_crosses, last_crosses}

@@ -9,15 +9,15 @@ use Rattle.saphyr_scalar.specs.Spelling.Tag.{AreIn, IsHandleText, IsPrefix, AreB
 use Rattle.saphyr_scanner.specs.Grammar.Forest.{Directive, Version, TagPrefix, Reserved}
 use Rattle.saphyr_scanner.specs.Grammar.Layout.{IsDirective, AreDirectives}
 use Rattle.saphyr_scanner.proofs.InBlock.Skips.{nothing, one_break, filler_skipped}
-use Rattle.saphyr_scanner.proofs.InBlock.LineStarts.{IsUnmarked, both_unmarked, line_unmarked, on_line, skipped_unmarked}
+use Rattle.saphyr_scanner.proofs.InBlock.LineStarts.{IsUnmarked, both_unmarked, line_unmarked, set_on_line, skipped_unmarked}
 use Rattle.saphyr_input.proofs.Basics.Characters.{blank_no_feed, non_break_no_feed}
 
 -- ## Directives stand on a line
 
-abbrev IsLine : List ℕ → Type 0
-IsLine t = AreIn (λ c. not (c == line_feed)) t
+abbrev IsOneLine : List ℕ → Type 0
+IsOneLine t = AreIn (λ c. not (c == line_feed)) t
 
-both_lines : (a b : List ℕ) → IsLine a → IsLine b → IsLine (a ++ b)
+both_lines : (a b : List ℕ) → IsOneLine a → IsOneLine b → IsOneLine (a ++ b)
 both_lines [] b h k = k
 both_lines (c ∷ cs) b h k = (h.0, both_lines cs b h.1 k)
 
@@ -36,51 +36,52 @@ uri_line c h = grind (arith, nat_tests)
 hex_line : (c : ℕ) → IsHex c → IsTrue (not (c == line_feed))
 hex_line c h = grind (arith, nat_tests)
 
-escapes_line : (bytes t : List ℕ) → AreByteEscapes bytes t → IsLine t
-escapes_line [] t h = subst IsLine (sym h) tt
+escapes_line : (bytes t : List ℕ) → AreByteEscapes bytes t → IsOneLine t
+escapes_line [] t h = subst IsOneLine (sym h) tt
 escapes_line (byte ∷ bytes) t (escape, more, (high, low, high_is, low_is, value, is), others, e) =
-    subst IsLine (sym e) (both_lines escape more
-    (subst IsLine (sym is) (refl, (hex_line high high_is, (hex_line low low_is, tt))))
+    subst IsOneLine (sym e) (both_lines escape more
+    (subst IsOneLine (sym is) (refl, (hex_line high high_is, (hex_line low low_is, tt))))
     (escapes_line bytes more others))
 
 character_line : (set : ℕ → Bool) → ((c : ℕ) → IsTrue (set c) → IsTrue (not (c == line_feed))) → (c : ℕ) (t : List ℕ)
-    → IsCharacter set c t → IsLine t
-character_line set each c t (inl (is, plain, e)) = subst IsLine (sym e) (each c is, tt)
+    → IsCharacter set c t → IsOneLine t
+character_line set each c t (inl (is, plain, e)) = subst IsOneLine (sym e) (each c is, tt)
 character_line set each c t (inr (scalar, h)) = escapes_line (encode_utf8 c) t h
 
 decoded_line : (set : ℕ → Bool) → ((c : ℕ) → IsTrue (set c) → IsTrue (not (c == line_feed))) → (cs t : List ℕ)
-    → IsDecoded set cs t → IsLine t
-decoded_line set each [] t h = subst IsLine (sym h) tt
+    → IsDecoded set cs t → IsOneLine t
+decoded_line set each [] t h = subst IsOneLine (sym h) tt
 decoded_line set each (c ∷ cs) t (character, more, is, others, e) =
-    subst IsLine (sym e) (both_lines character more (character_line set each c character is)
+    subst IsOneLine (sym e) (both_lines character more (character_line set each c character is)
     (decoded_line set each cs more others))
 
-prefix_line : (prefix t : List ℕ) → IsPrefix prefix t → IsLine t
+prefix_line : (prefix t : List ℕ) → IsPrefix prefix t → IsOneLine t
 prefix_line [] t h = absurd h
 prefix_line (c ∷ cs) t (first, more, is, others, e) =
-    subst IsLine (sym e) (both_lines first more (character_line (λ x. is_tag_char x || (x == 33)) tag_line c first is)
+    subst IsOneLine (sym e) (both_lines first more
+    (character_line (λ x. is_tag_char x || (x == 33)) tag_line c first is)
     (decoded_line is_uri_char uri_line cs more others))
   where
     tag_line : (c : ℕ) → IsTrue (is_tag_char c || (c == 33)) → IsTrue (not (c == line_feed))
     tag_line c h = grind (arith, nat_tests)
 
-handle_line : (t : List ℕ) → IsHandleText t → IsLine t
-handle_line t (inl e) = subst IsLine (sym e) (refl, tt)
+handle_line : (t : List ℕ) → IsHandleText t → IsOneLine t
+handle_line t (inl e) = subst IsOneLine (sym e) (refl, tt)
 handle_line t (inr (word, are, e)) =
-    subst IsLine (sym e) (refl, both_lines word (codes "!") (on_line is_alpha alpha_line word are) (refl, tt))
+    subst IsOneLine (sym e) (refl, both_lines word (codes "!") (set_on_line is_alpha alpha_line word are) (refl, tt))
 
-tail_line : (t : List ℕ) → IsLineTail t → IsLine t
+tail_line : (t : List ℕ) → IsLineTail t → IsOneLine t
 tail_line t (blanks, comment, are, inl none, e) =
-    subst IsLine (sym (e ∙ ap (λ (x : List ℕ). blanks ++ x) none))
-    (both_lines blanks [] (on_line is_blank blank_no_feed blanks are) tt)
+    subst IsOneLine (sym (e ∙ ap (λ (x : List ℕ). blanks ++ x) none))
+    (both_lines blanks [] (set_on_line is_blank blank_no_feed blanks are) tt)
 tail_line t (blanks, comment, are, inr (words, some, word_are, is), e) =
-    subst IsLine (sym (e ∙ ap (λ (x : List ℕ). blanks ++ x) is))
-    (both_lines blanks (35 ∷ words) (on_line is_blank blank_no_feed blanks are)
-    (refl, on_line is_yaml_non_break non_break_no_feed words word_are))
+    subst IsOneLine (sym (e ∙ ap (λ (x : List ℕ). blanks ++ x) is))
+    (both_lines blanks (35 ∷ words) (set_on_line is_blank blank_no_feed blanks are)
+    (refl, set_on_line is_yaml_non_break non_break_no_feed words word_are))
 
-version_line : (major minor : ℕ) (t : List ℕ) → IsVersionDirective major minor t → IsLine t
+version_line : (major minor : ℕ) (t : List ℕ) → IsVersionDirective major minor t → IsOneLine t
 version_line major minor t (gap, high, low, gap_is, high_is, low_is, e) =
-    subst IsLine (sym e) (
+    subst IsOneLine (sym e) (
       refl,
       (
         refl,
@@ -90,18 +91,18 @@ version_line major minor t (gap, high, low, gap_is, high_is, low_is, e) =
             refl,
             (
               refl,
-              both_lines gap (high ++ (46 ∷ low)) (on_line is_blank blank_no_feed gap gap_is.1)
-                  (both_lines high (46 ∷ low) (on_line is_digit digit_line high high_is.2)
-                  (refl, on_line is_digit digit_line low low_is.2)),
+              both_lines gap (high ++ (46 ∷ low)) (set_on_line is_blank blank_no_feed gap gap_is.1)
+                  (both_lines high (46 ∷ low) (set_on_line is_digit digit_line high high_is.2)
+                  (refl, set_on_line is_digit digit_line low low_is.2)),
             ),
           ),
         ),
       ),
     )
 
-tag_line : (handle prefix t : List ℕ) → IsTagDirective handle prefix t → IsLine t
+tag_line : (handle prefix t : List ℕ) → IsTagDirective handle prefix t → IsOneLine t
 tag_line handle prefix t (first, second, written, first_are, second_are, handle_is, prefix_is, e) =
-    subst IsLine (sym e) (
+    subst IsOneLine (sym e) (
       refl,
       (
         refl,
@@ -109,28 +110,28 @@ tag_line handle prefix t (first, second, written, first_are, second_are, handle_
           refl,
           (
             refl,
-            both_lines first (handle ++ (second ++ written)) (on_line is_blank blank_no_feed first first_are.1)
+            both_lines first (handle ++ (second ++ written)) (set_on_line is_blank blank_no_feed first first_are.1)
                 (both_lines handle (second ++ written) (handle_line handle handle_is)
-                (both_lines second written (on_line is_blank blank_no_feed second second_are.1)
+                (both_lines second written (set_on_line is_blank blank_no_feed second second_are.1)
                 (prefix_line prefix written prefix_is))),
           ),
         ),
       ),
     )
 
-reserved_line : (name t : List ℕ) → IsReservedDirective name t → IsLine t
+reserved_line : (name t : List ℕ) → IsReservedDirective name t → IsOneLine t
 reserved_line name t (more, some, no_version, no_tag, name_is, more_is, parts, e) =
-    subst IsLine (sym e) (
+    subst IsOneLine (sym e) (
       refl,
-      both_lines name more (on_line is_yaml_non_space ink_line name name_is)
-          (on_line is_yaml_non_break non_break_no_feed more more_is),
+      both_lines name more (set_on_line is_yaml_non_space ink_line name name_is)
+          (set_on_line is_yaml_non_break non_break_no_feed more more_is),
     )
 
 -- a directive with the rest of its line
 pub record DirectiveLine (t : List ℕ) : Type 0 where
   pub others : List ℕ
   pub is : t ≡ 37 ∷ others
-  pub line : IsLine t
+  pub line : IsOneLine t
 
 pub directive_line : (d : Directive) (t : List ℕ) → IsDirective d t → DirectiveLine t
 directive_line (Version major minor) t (directive, tail, is, tail_is, e) =
@@ -139,7 +140,7 @@ directive_line (Version major minor) t (directive, tail, is, tail_is, e) =
       is =
           e ∙ ap (λ (x : List ℕ). x ++ tail) is.6;
       line =
-          subst IsLine (sym e) (both_lines directive tail (version_line major minor directive is)
+          subst IsOneLine (sym e) (both_lines directive tail (version_line major minor directive is)
           (tail_line tail tail_is));
     }
 directive_line (TagPrefix handle prefix) t (written, directive, tail, handle_is, is, tail_is, e) =
@@ -148,7 +149,7 @@ directive_line (TagPrefix handle prefix) t (written, directive, tail, handle_is,
       is =
           e ∙ ap (λ (x : List ℕ). x ++ tail) is.7;
       line =
-          subst IsLine (sym e)
+          subst IsOneLine (sym e)
           (both_lines directive tail (tag_line written prefix directive is) (tail_line tail tail_is));
     }
 directive_line (Reserved name) t h = record { others = name ++ h.0; is = h.7; line = reserved_line name t h }
@@ -161,7 +162,7 @@ directives_unmarked [] t h = subst IsUnmarked (sym h) (λ at_start o. refl)
 directives_unmarked (d ∷ ds) t (directive, filler, more, is, filler_is, others, e) =
     let k = directive_line d directive is in
     let first : IsUnmarked directive = subst IsUnmarked (sym k.is)
-    (line_unmarked 37 k.others refl refl (subst IsLine k.is k.line)) in
+    (line_unmarked 37 k.others refl refl (subst IsOneLine k.is k.line)) in
     subst IsUnmarked (sym e)
     (both_unmarked directive (10 ∷ (filler ++ more)) first
     (both_unmarked (10 ∷ []) (filler ++ more) feed_unmarked

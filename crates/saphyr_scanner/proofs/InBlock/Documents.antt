@@ -12,13 +12,13 @@ use Rattle.saphyr_scanner.specs.Grammar.Forest.{Node, Alias, Scalar, Seq, Map, D
 use Rattle.saphyr_scanner.specs.Grammar.BlockNodes.{BehindMarker, AtStart, IsBlockNode}
 use Rattle.saphyr_scanner.specs.Grammar.Layout as layout
 use Rattle.saphyr_scanner.specs.Grammar.Layout.{most_open, has_marker, AreDirectives}
-use Rattle.saphyr_scanner.proofs.Flow.States.{Reads}
+use Rattle.saphyr_scanner.proofs.Flow.States.{ReaderPromises}
 use Rattle.saphyr_scanner.proofs.Flow.Inks.{BeginsInk}
 use Rattle.saphyr_scanner.proofs.Documents.Markers.{reads_start}
 use Rattle.saphyr_scanner.proofs.Documents.Directives.{reads_directives}
-use Rattle.saphyr_scanner.proofs.Documents.Stands.{AtLine, Lined, BehindStart, Stands, passes_over}
+use Rattle.saphyr_scanner.proofs.Documents.Stands.{AtLine, Lined, BehindStart, StandsInStream, passes_over}
 use Rattle.saphyr_scanner.proofs.InBlock.States.{crosses}
-use Rattle.saphyr_scanner.proofs.InBlock.Statements.{AreRead, as_optional, Leaves}
+use Rattle.saphyr_scanner.proofs.InBlock.Statements.{AreRead, as_optional, ReadsLeaves}
 use Rattle.saphyr_scanner.proofs.InBlock.Texts.{node_ends}
 use Rattle.saphyr_scanner.proofs.InBlock.BehindIndicators.{entries_ink, pairs_ink}
 use Rattle.saphyr_scanner.proofs.Beginnings.{back_in}
@@ -32,7 +32,7 @@ pub record DocumentStands (limit : ℕ) (start : State) (d : Document) (free : B
     Type 0 where
   pub tokens : List Kind
   pub are : grammar.YieldsDocument d free tokens
-  pub stands : Stands limit start false (Lined false others) others (ts ++ tokens)
+  pub stands : StandsInStream limit start false (Lined false others) others (ts ++ tokens)
 
 none_inside : (a b c : List ℕ) → BeginsInk b → a ++ (b ++ c) ≡ [] → ⊥
 none_inside [] b c k e =
@@ -40,7 +40,8 @@ none_inside [] b c k e =
 none_inside (x ∷ a) b c k e = absurd (cc)
 
 -- the node of a bare document is not empty
-node_some : {limit : ℕ} → Leaves limit → (node : Node) (t o : List ℕ) → IsBlockNode most_open node AtStart t o → t ≡ []
+node_some : {limit : ℕ} → ReadsLeaves limit → (node : Node) (t o : List ℕ) → IsBlockNode most_open node AtStart t o
+    → t ≡ []
     → ⊥
 node_some leaves (Alias name) t o (gap, text, end, gap_is, is, end_is, e) none =
     none_inside gap text end (leaves.flow_ink (Alias name) 255 0 false text is) (sym e ∙ none)
@@ -61,10 +62,10 @@ node_some leaves (Map p pairs) t o (inr (m, lead, entries, lead_is, h, e)) none 
     none_inside lead entries [] (pairs_ink leaves pairs m entries o h)
     (ap (λ (x : List ℕ). lead ++ x) (append-nil entries) ∙ sym e ∙ none)
 
-bare_node : {limit : ℕ} {start : State} → Leaves limit → (node : Node) (t others : List ℕ) (ts : List Kind)
+bare_node : {limit : ℕ} {start : State} → ReadsLeaves limit → (node : Node) (t others : List ℕ) (ts : List Kind)
     → has_marker true t ≡ false → IsBlockNode most_open node AtStart t others
     → ((m : Marker) → AtLine others m → Lands m others) → IsPlainBehind others → HasNoReturn t
-    → (v : Stands limit start true (Lined true (t ++ others)) (t ++ others) ts)
+    → (v : StandsInStream limit start true (Lined true (t ++ others)) (t ++ others) ts)
     → NodeStands limit start node AtStart others ts
 bare_node {limit} {start} leaves node t others ts unmarked h lands plain clean v =
     let some : (t ++ others ≡ []) → ⊥ = λ e. node_some leaves node t others h (none_here t others e) in
@@ -82,10 +83,10 @@ bare_node {limit} {start} leaves node t others ts unmarked h lands plain clean v
     opened some (inl e) = e
     opened some (inr e) = absurd (some e)
 
-explicit_node : {limit : ℕ} {start : State} → Leaves limit → (node : Node) (t others : List ℕ) (ts : List Kind)
+explicit_node : {limit : ℕ} {start : State} → ReadsLeaves limit → (node : Node) (t others : List ℕ) (ts : List Kind)
     → has_marker false t ≡ false → IsBlockNode most_open node BehindMarker t others
     → ((m : Marker) → AtLine others m → Lands m others) → IsPlainBehind others → HasNoReturn t
-    → (v : Stands limit start true (BehindStart (t ++ others)) (t ++ others) ts)
+    → (v : StandsInStream limit start true (BehindStart (t ++ others)) (t ++ others) ts)
     → NodeStands limit start node BehindMarker others ts
 explicit_node {limit} {start} leaves node t others ts unmarked h lands plain clean v =
     let clear = explicit_clear v.mark t others v.line.0 clean unmarked
@@ -98,12 +99,12 @@ token_list : (ts directives node : List Kind) (k : Kind)
 token_list ts directives node k = simp append_assoc
 
 -- from a `---` on, behind the document's directives
-reads_explicit : {limit : ℕ} {start : State} {now opened : Bool} → Leaves limit
+reads_explicit : {limit : ℕ} {start : State} {now opened : Bool} → ReadsLeaves limit
     → (d : Document) (free : Bool) (t others : List ℕ) (ts : List Kind) → IsTrue free ⊎ (d.directives ≡ [])
     → d.explicit ≡ true → AreCompatible d.directives
     → has_marker false t ≡ false → IsBlockNode most_open d.node BehindMarker t others
     → ((m : Marker) → AtLine others m → Lands m others) → IsPlainBehind others → HasNoReturn t
-    → Stands limit start now (Lined opened (45 ∷ 45 ∷ 45 ∷ (t ++ others))) (45 ∷ 45 ∷ 45 ∷ (t ++ others))
+    → StandsInStream limit start now (Lined opened (45 ∷ 45 ∷ 45 ∷ (t ++ others))) (45 ∷ 45 ∷ 45 ∷ (t ++ others))
     (ts ++ map directive_token d.directives) → DocumentStands limit start d free others ts
 reads_explicit {limit = limit} {start = start} leaves d free t others ts may explicit compatible unmarked is lands plain
     clean v =
@@ -112,33 +113,34 @@ reads_explicit {limit = limit} {start = start} leaves d free t others ts may exp
     record {
       tokens = map directive_token d.directives ++ tokens.DocumentStart ∷ n.tokens;
       are = inr (may, (n.tokens, explicit, compatible, as_optional d.node BehindMarker n.tokens n.are, refl));
-      stands = subst (Stands limit start false (Lined false others) others)
+      stands = subst (StandsInStream limit start false (Lined false others) others)
           (token_list ts (map directive_token d.directives) n.tokens tokens.DocumentStart) n.stands;
     }
 
-pub document_text : (directives node others : List ℕ)
+pub text_of_document : (directives node others : List ℕ)
     → (directives ++ (45 ∷ 45 ∷ 45 ∷ node)) ++ others ≡ directives ++ (45 ∷ 45 ∷ 45 ∷ (node ++ others))
-document_text directives node others = simp append_assoc
+text_of_document directives node others = simp append_assoc
 
 clean_node : (directives node : List ℕ) → HasNoReturn (directives ++ (45 ∷ 45 ∷ 45 ∷ node)) → HasNoReturn node
 clean_node directives node h = back_in _ (45 ∷ 45 ∷ 45 ∷ []) node (back_in _ directives (45 ∷ 45 ∷ 45 ∷ node) h)
 
 -- where directives may stand, no key is asked for
 unopened : {limit : ℕ} {start : State} {free opened : Bool} {o : List ℕ} {ts : List Kind}
-    → Stands limit start free (Lined opened o) o ts → Stands limit start free (Lined false o) o ts
+    → StandsInStream limit start free (Lined opened o) o ts → StandsInStream limit start free (Lined false o) o ts
 unopened {o = o} v = passes_over v (Lined false o) v.mark o refl v.count (v.line.0, λ e. absurd (cc)) v.lined
 
 -- The scanner has read a document's directives, and stands before its `---`.
 pub record MarkerStands (limit : ℕ) (start : State) (d : Document) (y : List ℕ) (ts : List Kind) : Type 0 where
   pub free : Bool
   pub opened : Bool
-  pub stands : Stands limit start free (Lined opened (45 ∷ 45 ∷ 45 ∷ y)) (45 ∷ 45 ∷ 45 ∷ y)
+  pub stands : StandsInStream limit start free (Lined opened (45 ∷ 45 ∷ 45 ∷ y)) (45 ∷ 45 ∷ 45 ∷ y)
       (ts ++ map directive_token d.directives)
 
-pub reads_front : {limit : ℕ} {start : State} → Reads
+pub reads_front : {limit : ℕ} {start : State} → ReaderPromises
     → (d : Document) (free : Bool) (directives y : List ℕ) (ts : List Kind) → IsTrue free ⊎ (d.directives ≡ [])
     → AreDirectives d.directives directives
-    → Stands limit start free (Lined free (directives ++ (45 ∷ 45 ∷ 45 ∷ y))) (directives ++ (45 ∷ 45 ∷ 45 ∷ y)) ts
+    → StandsInStream limit start free (Lined free (directives ++ (45 ∷ 45 ∷ 45 ∷ y))) (directives ++ (45 ∷ 45 ∷ 45 ∷ y))
+    ts
     → MarkerStands limit start d y ts
 reads_front {limit = limit} {start = start} readers d free directives y ts (inl is_free) are v =
     let t = directives ++ (45 ∷ 45 ∷ 45 ∷ y) in
@@ -147,16 +149,17 @@ reads_front {limit = limit} {start = start} readers d free directives y ts (inl 
       opened =
           false;
       stands = reads_directives readers d.directives directives (45 ∷ 45 ∷ 45 ∷ y) ts are
-          (unopened (subst (λ (b : Bool). Stands limit start b (Lined b t) t ts) is_free v));
+          (unopened (subst (λ (b : Bool). StandsInStream limit start b (Lined b t) t ts) is_free v));
     }
 reads_front {limit = limit} {start = start} readers d free directives y ts (inr none) are v =
     let empty = no_directives d directives none are in
-    let first = subst (λ (x : List ℕ). Stands limit start free (Lined free (x ++ (45 ∷ 45 ∷ 45 ∷ y)))
+    let first = subst (λ (x : List ℕ). StandsInStream limit start free (Lined free (x ++ (45 ∷ 45 ∷ 45 ∷ y)))
     (x ++ (45 ∷ 45 ∷ 45 ∷ y)) ts) empty v in
     record {
       free = free;
       opened = free;
-      stands = subst (λ (x : List Kind). Stands limit start free (Lined free (45 ∷ 45 ∷ 45 ∷ y)) (45 ∷ 45 ∷ 45 ∷ y) x)
+      stands = subst (λ (x : List Kind). StandsInStream limit start free (Lined free (45 ∷ 45 ∷ 45 ∷ y)) (45 ∷ 45 ∷ 45
+          ∷ y) x)
           (sym (ap (λ ds. ts ++ map directive_token ds) none ∙ append-nil ts)) first;
     }
 
@@ -165,16 +168,16 @@ some_node : (node : Node) (ts : List Kind) → AreRead node AtStart ts → gramm
 some_node node ts (inr h) = h
 some_node node ts (inl h) = absurd (let k : true ≡ false = h.0 in cc)
 
-pub reads_document : {limit : ℕ} {start : State} → Reads → Leaves limit
+pub reads_document : {limit : ℕ} {start : State} → ReaderPromises → ReadsLeaves limit
     → (d : Document) (free : Bool) (t others : List ℕ) (ts : List Kind)
     → layout.IsDocument (IsBlockNode most_open) d free t others
     → ((m : Marker) → AtLine others m → Lands m others) → IsPlainBehind others → HasNoReturn t
-    → Stands limit start free (Lined free (t ++ others)) (t ++ others) ts
+    → StandsInStream limit start free (Lined free (t ++ others)) (t ++ others) ts
     → DocumentStands limit start d free others ts
 reads_document {limit = limit} {start = start} readers leaves d free t others ts (inl (is_free, (same, unmarked, is)))
     lands plain clean v =
     let n = bare_node leaves d.node t others ts unmarked is lands plain clean
-    (subst (λ (b : Bool). Stands limit start b (Lined b (t ++ others)) (t ++ others) ts) is_free v) in
+    (subst (λ (b : Bool). StandsInStream limit start b (Lined b (t ++ others)) (t ++ others) ts) is_free v) in
     record {
       tokens = n.tokens;
       are =
@@ -191,8 +194,8 @@ reads_document {limit = limit} {start = start} readers leaves d free t others ts
     }
 reads_document {limit = limit} {start = start} readers leaves d free t others ts
     (inr (may, (directives, node, explicit, compatible, are, unmarked, is, e))) lands plain clean v =
-    let text = ap (λ (x : List ℕ). x ++ others) e ∙ document_text directives node others in
+    let text = ap (λ (x : List ℕ). x ++ others) e ∙ text_of_document directives node others in
     let f = reads_front readers d free directives (node ++ others) ts may are
-    (subst (λ (x : List ℕ). Stands limit start free (Lined free x) x ts) text v) in
+    (subst (λ (x : List ℕ). StandsInStream limit start free (Lined free x) x ts) text v) in
     reads_explicit leaves d free node others ts may explicit compatible unmarked is lands plain
     (clean_node directives node (subst HasNoReturn e clean)) f.stands

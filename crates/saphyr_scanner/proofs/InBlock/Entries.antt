@@ -14,15 +14,16 @@ use Rattle.saphyr_scalar.specs.Steps.BlockRead.{spaces}
 use Rattle.saphyr_scalar.specs.Views.Cursor.{Cursor, ◌>>=◌, along, separation}
 use Rattle.saphyr_scalar.specs.Spelling.Spaces.{IsCommentBehind}
 use Rattle.saphyr_scalar.specs.Spelling.Tag.{AreIn}
-use Rattle.saphyr_scanner.specs.Steps.Core.{least_column, Core, Candidate, went, at_mark, perform, is_further, roll, remove_key}
+use Rattle.saphyr_scanner.specs.Steps.Core.{least_column, Core, completed_step, at_mark, perform, is_further, roll, remove_key}
+use Rattle.saphyr_scanner.specs.Steps.Level.{Candidate}
 use Rattle.saphyr_scanner.specs.Steps.Block.{entry, next_entry, pass_dash, deepen, refuse_tab, behind_start}
 use Rattle.saphyr_scanner.specs.Steps.Passing.{pass_on, with_cursor}
-use Rattle.saphyr_scanner.specs.Steps.Queue.{next, Place, Queue, closed, empty_piece}
-use Rattle.saphyr_scanner.specs.Steps.State.{State, acted}
+use Rattle.saphyr_scanner.specs.Steps.Queue.{next, Place, Queue, bare_place, empty_piece}
+use Rattle.saphyr_scanner.specs.Steps.State.{State, after_step}
 use Rattle.saphyr_scanner.specs.Grammar.Tokens as tokens
 use Rattle.saphyr_scanner.specs.Grammar.Tokens.{Kind}
 use Rattle.saphyr_scanner.specs.Steps.Fetch.{fetch, fetch_here, state_behind_content, step}
-use Rattle.saphyr_scanner.proofs.Leads.{Leads}
+use Rattle.saphyr_scanner.proofs.Leads.{LeadsTo}
 use Rattle.saphyr_scanner.proofs.Json.States.{queue_of}
 use Rattle.saphyr_scanner.proofs.Json.Marks.{kinds, kinds_append}
 use Rattle.saphyr_scanner.proofs.Flow.States.{past}
@@ -31,7 +32,7 @@ use Rattle.saphyr_scanner.specs.Grammar.BlockNodes as layout
 use Rattle.saphyr_scanner.specs.Grammar.BlockNodes.{Position as Position}
 use Rattle.saphyr_scanner.proofs.Flow.Fillers.{EndsLine}
 use Rattle.saphyr_scanner.proofs.Flow.Separates.{StopsLine, blank_stops, line_separated}
-use Rattle.saphyr_scanner.proofs.InBlock.States.{Frame, Moment, at_column, moment_at, core_of, state_of, tabbed, IsUntabbed, crosses, is_compact, IsPlaced, At, Before}
+use Rattle.saphyr_scanner.proofs.InBlock.States.{Frame, Moment, frame_at_column, moment_at, core_of, state_of, tabbed, IsUntabbed, crosses, is_compact, IsPlaced, At, Before}
 use Rattle.saphyr_scanner.proofs.InBlock.Gaps.{past_stops}
 use Rattle.saphyr_scanner.proofs.InBlock.Follows.{follows_itself, steps_from, goes_alike, left_key, left_again, lands, BeginsToken, begins_here, arrives_at, stays_open, deeper_at}
 use Rattle.saphyr_scalar.proofs.Given.{cursor_at}
@@ -112,7 +113,7 @@ pub steps_on : {limit : ℕ} {start : State} {ts : List Kind} (f g : Frame) (m :
     → state_behind_content (slice_index y 0) (slice_index y 1)
     (state_of f (moment_at m y v.blank v.key v.allowed v.adjacent (deeper_at f v.deeper m)) v.places)
     ≡ Ok (state_of g n qs)
-    → n.key ≡ None → n.cursor.mark.index ≤ limit → Leads limit (state_of g n qs) start
+    → n.key ≡ None → n.cursor.mark.index ≤ limit → LeadsTo limit (state_of g n qs) start
 unfolding fetch
 steps_on f g m y v begins far n qs is none low =
     let there = ap (λ r. r >>= fetch_here)
@@ -176,7 +177,7 @@ passes_dash g n o h m at =
 
 -- the frame behind a `-`, and what it puts before its token
 abbrev pub frame_behind : Bool → ℕ → Frame → Frame
-frame_behind further column f = if further then at_column column f else f
+frame_behind further column f = if further then frame_at_column column f else f
 
 -- behind `-`
 abbrev behind_dash : List ℕ → Marker → Bool → ℕ → Moment
@@ -209,7 +210,8 @@ forgets g n free = rw free refl
 dash_step : (f : Frame) (m : Marker) (o : List ℕ) (h : IsBehindIndicator o) (blank : Bool) (key : Option Candidate)
     (ad : ℕ) (deeper further : Bool) → nat_le f.indent m.col ≡ further → (i : ℕ)
     → (d : Bool) × (step 45 (slice_index o 0) i (core_of f (moment_at m (45 ∷ o) blank key true ad deeper))
-    ≡ went (behind_start further m tokens.BlockSequenceStart (at_mark (front_end h (along m 1)) tokens.BlockEntry))
+    ≡ completed_step (behind_start further m tokens.BlockSequenceStart
+    (at_mark (front_end h (along m 1)) tokens.BlockEntry))
     (core_of (frame_behind further m.col f) (behind_dash h.more (front_end h (along m 1)) d ad)))
 unfolding step entry next_entry
 dash_step f m o h blank key ad deeper further e i =
@@ -223,18 +225,19 @@ dash_step f m o h blank key ad deeper further e i =
     let gone = ap (λ q. q >>= remove_key) all ∙ forgets g there refl in
     let last = record (core_of g (record there { key = None; required = false })) { key_allowed = true } in (
       p.0,
-      rw h.first (ap (λ q. q >>= λ (d : Core). went
+      rw h.first (ap (λ q. q >>= λ (d : Core). completed_step
           (behind_start (is_further m.col c) m tokens.BlockSequenceStart (at_mark d.cursor.mark tokens.BlockEntry))
           (record d { key_allowed = true })) gone
-          ∙ ap (λ (b : Bool). went
+          ∙ ap (λ (b : Bool). completed_step
           (behind_start b m tokens.BlockSequenceStart (at_mark last.cursor.mark tokens.BlockEntry)) last) e),
     )
 
 -- what is put into the queue
 dash_places : Bool → Marker → Marker → List Place → List Place
 dash_places true m n ps =
-    (ps ++ closed (empty_piece m tokens.BlockSequenceStart) ∷ []) ++ closed (empty_piece n tokens.BlockEntry) ∷ []
-dash_places false m n ps = ps ++ closed (empty_piece n tokens.BlockEntry) ∷ []
+    (ps ++ bare_place (empty_piece m tokens.BlockSequenceStart) ∷ []) ++ bare_place (empty_piece n tokens.BlockEntry)
+    ∷ []
+dash_places false m n ps = ps ++ bare_place (empty_piece n tokens.BlockEntry) ∷ []
 
 dash_performs : (further : Bool) (m n : Marker) (ps : List Place)
     → perform (behind_start further m tokens.BlockSequenceStart (at_mark n tokens.BlockEntry)) (queue_of ps)
@@ -251,18 +254,18 @@ dash_are : (further : Bool) (m n : Marker) (ps : List Place) (ts : List Kind) �
     → kinds (dash_places further m n ps) ≡ ts ++ dash_kinds further
 unfolding dash_places
 dash_are true m n ps ts e =
-    let first = kinds_append ps (closed (empty_piece m tokens.BlockSequenceStart) ∷ [])
+    let first = kinds_append ps (bare_place (empty_piece m tokens.BlockSequenceStart) ∷ [])
     ∙ ap (λ (x : List Kind). x ++ tokens.BlockSequenceStart ∷ []) e in
-    kinds_append (ps ++ closed (empty_piece m tokens.BlockSequenceStart) ∷ [])
-    (closed (empty_piece n tokens.BlockEntry) ∷ []) ∙ ap (λ (x : List Kind). x ++ tokens.BlockEntry ∷ []) first
+    kinds_append (ps ++ bare_place (empty_piece m tokens.BlockSequenceStart) ∷ [])
+    (bare_place (empty_piece n tokens.BlockEntry) ∷ []) ∙ ap (λ (x : List Kind). x ++ tokens.BlockEntry ∷ []) first
     ∙ append_assoc ts (tokens.BlockSequenceStart ∷ []) (tokens.BlockEntry ∷ [])
 dash_are false m n ps ts e =
-    kinds_append ps (closed (empty_piece n tokens.BlockEntry) ∷ [])
+    kinds_append ps (bare_place (empty_piece n tokens.BlockEntry) ∷ [])
     ∙ ap (λ (x : List Kind). x ++ tokens.BlockEntry ∷ []) e
 
 -- A raw state behind a token, told at the next one.
 pub before_next : {limit : ℕ} {start : State} {ts : List Kind} (place : Position) (g : Frame) (n : Moment)
-    (qs : List Place) (m : Marker) (o : List ℕ) → Leads limit (state_of g n qs) start → kinds qs ≡ ts
+    (qs : List Place) (m : Marker) (o : List ℕ) → LeadsTo limit (state_of g n qs) start → kinds qs ≡ ts
     → n.key ≡ None → n.required ≡ false → n.comment ≡ None → n.adjacent ≤ m.index
     → past 0 n.cursor.mark n.cursor.rest ≡ past 0 m o → ((least : ℕ) → IsUntabbed least n.cursor)
     → (crosses n.cursor.rest || n.allowed) ≡ (is_compact place || crosses o) → IsPlaced place m
@@ -310,7 +313,7 @@ reads_dash {limit} {start} {ts} f m o further e far h count v allowed =
     let made : state_behind_content 45 (slice_index o 0)
     (state_of f (moment_at m (45 ∷ o) v.blank v.key true v.adjacent deeper) v.places)
     ≡ Ok (state_of g t (dash_places further m n v.places)) =
-    ap (λ r. acted r (queue_of v.places)) s.1
+    ap (λ r. after_step r (queue_of v.places)) s.1
     ∙ ap (λ (q : Queue). Ok (let r : State = record { core = core_of g t; queue = q } in r))
     (dash_performs further m n v.places) in
     let there : state_behind_content 45 (slice_index o 0)

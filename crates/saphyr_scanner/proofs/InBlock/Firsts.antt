@@ -9,7 +9,7 @@ use Rattle.saphyr_scanner.specs.Grammar.Layout.{most_open, AreDirectives}
 use Rattle.saphyr_scanner.proofs.Flow.States.{IsInk}
 use Rattle.saphyr_scanner.proofs.Flow.Inks.{BeginsInk, properties_ink}
 use Rattle.saphyr_scanner.proofs.InBlock.Skips.{gap_skipped, IsSkipped, nothing, skipped_append, filler_skipped, spaces_skipped, are_spaces_skipped, line_end_skipped}
-use Rattle.saphyr_scanner.proofs.InBlock.Statements.{Leaves}
+use Rattle.saphyr_scanner.proofs.InBlock.Statements.{ReadsLeaves}
 use Rattle.saphyr_scanner.proofs.InBlock.BehindIndicators.{dash_ink, further_ink, entries_ink, pairs_ink}
 use Rattle.saphyr_scanner.proofs.InBlock.Documents.Ends.{AreBlockDocuments}
 use Rattle.saphyr_scanner.proofs.InBlock.DirectiveLines.{directive_line}
@@ -92,14 +92,14 @@ lead_token p BehindMarker least m lead t u (inr (none, h)) b is = absurd h
 lead_token p AtStart least m lead t u (inr (none, e)) b is =
     ink_token (spaces m) t u (spaces_skipped m) b (is ∙ ap (λ (x : List ℕ). x ++ t) e)
 
-flow_token : {limit : ℕ} → Leaves limit → (node : Node) (place : Position) (t o : List ℕ)
+flow_token : {limit : ℕ} → ReadsLeaves limit → (node : Node) (place : Position) (t o : List ℕ)
     → IsFlowInBlock 255 node place t o → HasToken t
 flow_token leaves node place t o (gap, text, end, gap_is, is, end_is, e) =
     ink_token gap (text ++ end) t (gap_skipped place gap gap_is)
     (further_ink text end (leaves.flow_ink node 255 (indent_at place) false text is)) e
 
 -- a node is left out, or has a token
-pub node_token : {limit : ℕ} → Leaves limit → (node : Node) (place : Position) (t o : List ℕ)
+pub node_token : {limit : ℕ} → ReadsLeaves limit → (node : Node) (place : Position) (t o : List ℕ)
     → IsBlockNode 255 node place t o → IsLeftOut node place t o ⊎ HasToken t
 node_token leaves (Alias name) place t o h = inr (flow_token leaves (Alias name) place t o h)
 node_token leaves (Scalar p style value) place t o (inl h) = inl h
@@ -123,7 +123,7 @@ percent_ink = record { blank = refl; break = refl; comment = refl; byte_order_ma
 ink_is_token : (c : ℕ) (cs t : List ℕ) → IsInk c → t ≡ c ∷ cs → HasToken t
 ink_is_token c cs t ink e = record { white = []; skipped = nothing; first = c; others = cs; ink = ink; is = e }
 
-document_token : {limit : ℕ} → Leaves limit → (d : Document) (free : Bool) (t o : List ℕ)
+document_token : {limit : ℕ} → ReadsLeaves limit → (d : Document) (free : Bool) (t o : List ℕ)
     → layout.IsDocument (IsBlockNode most_open) d free t o → HasToken t
 document_token leaves d free t o (inl (is_free, (same, unmarked, is))) =
     by_node (node_token leaves d.node AtStart t o is)
@@ -144,7 +144,7 @@ document_token leaves d free t o (inr (may, (directives, node, explicit, compati
         (text ∙ ap (λ (x : List ℕ). x ++ (10 ∷ (filler ++ more))) line.is))
 
 -- A text with documents has a token; one without them is filler.
-pub documents_token : {limit : ℕ} → Leaves limit → (ds : Forest) (free : Bool) (t : List ℕ)
+pub documents_token : {limit : ℕ} → ReadsLeaves limit → (ds : Forest) (free : Bool) (t : List ℕ)
     → AreBlockDocuments ds free t → ((ds ≡ []) × IsLastFiller t) ⊎ HasToken t
 documents_token leaves [] free t h = inl (refl, h)
 documents_token leaves (d ∷ ds) free t (filler, document, others, filler_is, is, behind, e) =

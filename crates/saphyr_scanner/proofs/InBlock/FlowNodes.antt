@@ -8,7 +8,8 @@ use Rattle.saphyr_input.specs.Places.{can_be_plain, is_document_indicator}
 use Rattle.saphyr_scalar.specs.declared.scalar.position.Marker.{Marker}
 use Rattle.saphyr_scalar.specs.Spelling.Spaces.{IsEol}
 use Rattle.saphyr_scanner.specs.declared.engine.level.Context.TheVariants as context
-use Rattle.saphyr_scanner.specs.Steps.Core.{Candidate, least_column}
+use Rattle.saphyr_scanner.specs.Steps.Core.{least_column}
+use Rattle.saphyr_scanner.specs.Steps.Level.{Candidate}
 use Rattle.saphyr_scanner.specs.Grammar.Forest.{Node, Alias, Scalar, Seq, Map}
 use Rattle.saphyr_scanner.specs.Grammar.BlockNodes.{Position, IsFlowInBlock}
 use Rattle.saphyr_scanner.specs.Grammar.FlowNodes.{IsFlowNode}
@@ -18,7 +19,7 @@ use Rattle.saphyr_scanner.specs.Grammar.Tokens.{Kind}
 use Rattle.saphyr_scanner.proofs.InFlow.States.{moment, least_low}
 use Rattle.saphyr_scanner.proofs.Json.Marks.{kinds, kinds_append}
 use Rattle.saphyr_scanner.proofs.Flow.States as flow
-use Rattle.saphyr_scanner.proofs.Flow.States.{moved, past, crosses, EndsDocument, IsLeft, IsBehindRoot, Since, Reads}
+use Rattle.saphyr_scanner.proofs.Flow.States.{moved, past, crosses, EndsDocument, IsLeft, IsBehindRoot, Since, ReaderPromises}
 use Rattle.saphyr_scanner.proofs.Flow.Places.{moved_append, moved_count}
 use Rattle.saphyr_scanner.proofs.Flow.GapSteps.{past_low}
 use Rattle.saphyr_scanner.proofs.Flow.Fillers.{rest_past}
@@ -29,10 +30,10 @@ use Rattle.saphyr_scanner.proofs.InBlock.States.{Frame, Moment, core_of, IsStop,
 use Rattle.saphyr_scanner.proofs.InBlock.Gaps.{past_stops}
 use Rattle.saphyr_scanner.proofs.InBlock.Follows.{goes_alike, goes_on, IsQuiet, lands, left_key, left_again}
 use Rattle.saphyr_scanner.proofs.InBlock.Keys.{around_of}
-use Rattle.saphyr_scanner.proofs.InBlock.Lines.{IsLined, Fits, fits_front, fits_back, fits_so, later_line, moved_lined, past_line}
+use Rattle.saphyr_scanner.proofs.InBlock.Lines.{IsLined, FitsOnLines, fits_front, fits_back, fits_so, later_line, moved_lined, past_line}
 use Rattle.saphyr_scanner.proofs.InBlock.Scalars.{gap_reaches, lands_behind}
 use Rattle.saphyr_scanner.proofs.InBlock.Crossings.{content_crosses}
-use Rattle.saphyr_scanner.proofs.InBlock.Statements.{context_at, ReadsAt, allows_block}
+use Rattle.saphyr_scanner.proofs.InBlock.Statements.{context_at, ReadsAt, place_allows_block}
 use Rattle.saphyr_scanner.proofs.InBlock.BehindIndicators.{further_ink}
 use Rattle.saphyr_scanner.proofs.InBlock.Untabbed.{clean_past, settles}
 use Rattle.saphyr_input.proofs.Basics.Booleans.{or_true_swap}
@@ -91,11 +92,11 @@ in_context place (Alias name) ts h = h
 in_context place (Scalar p style value) ts h = h
 in_context place (Seq p nodes) ts (properties, content, are, inl h, is) = (properties, content, are, inl h, is)
 in_context place (Seq p nodes) ts (properties, content, are, inr (inl h), is) =
-    (properties, content, are, inr (inl (allows_block place, h.1)), is)
+    (properties, content, are, inr (inl (place_allows_block place, h.1)), is)
 in_context place (Seq p nodes) ts (properties, content, are, inr (inr h), is) = absurd h.0
 in_context place (Map p pairs) ts (properties, content, are, inl h, is) = (properties, content, are, inl h, is)
 in_context place (Map p pairs) ts (properties, content, are, inr h, is) =
-    (properties, content, are, inr (allows_block place, h.1), is)
+    (properties, content, are, inr (place_allows_block place, h.1), is)
 
 -- ## What may be a key behind it
 
@@ -131,7 +132,7 @@ none_kept k m t key n (inr (inr (front, back, place, is, e))) none later =
 
 -- behind a node and the end of its line the document ends, or a key may begin and none is kept
 what_comes : (limit : ℕ) → limit < 2 ^ 63 → (m : Marker) (t : List ℕ) (at : Marker) (text end o : List ℕ)
-    → moved m t ≡ moved (moved at text) end → Fits limit at (text ++ end) o → IsEol end o
+    → moved m t ≡ moved (moved at text) end → FitsOnLines limit at (text ++ end) o → IsEol end o
     → (k : Option Candidate) → k ≡ None → (key : Option Candidate) → Since k at text key
     → (allowed : Bool) (left : List ℕ) → (crosses (end ++ o) ≡ true → (allowed || crosses left) ≡ true)
     → EndsDocument (past 0 (moved m t) o).0 (past 0 (moved m t) o).1
@@ -181,7 +182,8 @@ behind_root f n end o h q is stop left =
     by_text m [] stop (inr k) = inl (inl refl)
     by_text m (c ∷ cs) stop (inr k) = inr (record { left = k; first = c; others = cs; is = refl; blank = stop.0 })
 
-pub reads_flow : Reads → (limit : ℕ) → limit < 2 ^ 63 → (node : Node) → ReadsAt limit node (IsFlowInBlock 255 node)
+pub reads_flow : ReaderPromises → (limit : ℕ) → limit < 2 ^ 63 → (node : Node)
+    → ReadsAt limit node (IsFlowInBlock 255 node)
 reads_flow reads limit short node place f same m t o (gap, text, end, gap_is, node_is, end_is, e) fits behind start ts
     before =
     let around = around_of limit f in
@@ -200,7 +202,7 @@ reads_flow reads limit short node place f same m t o (gap, text, end, gap_is, no
     let v = l.0 in
     let fits_all = fits_back m gap (text ++ end) o (fits_so m t (gap ++ (text ++ end)) o e fits) in
     let fits_text = fits_front at text end o fits_all in
-    let inside : flow.Fits around at text rest =
+    let inside : flow.FitsAround around at text rest =
     record {
       clear = fits_text.clear;
       below =

@@ -6,18 +6,19 @@ use Rattle.saphyr_input.specs.Classes.{is_z, is_bom}
 use Rattle.saphyr_input.specs.Places.{is_document_start, is_document_end, is_document_indicator}
 use Rattle.saphyr_scalar.specs.declared.scalar.position.Marker.{Marker}
 use Rattle.saphyr_scalar.specs.Views.Cursor.{◌>>=◌}
-use Rattle.saphyr_scanner.specs.Steps.Core.{Core, Candidate, is_too_far, drop_far_key, least_column}
-use Rattle.saphyr_scanner.specs.Steps.Gap.{Passed}
-use Rattle.saphyr_scanner.specs.Steps.Passing.{pass_gap, check_comment, goes_on_behind, behind_gap, intercepts}
+use Rattle.saphyr_scanner.specs.Steps.Core.{Core, is_too_far, drop_far_key, least_column}
+use Rattle.saphyr_scanner.specs.Steps.Level.{Candidate}
+use Rattle.saphyr_scanner.specs.Steps.Gap.{GapEnd}
+use Rattle.saphyr_scanner.specs.Steps.Passing.{pass_gap, check_comment, goes_on_behind, behind_gap, check_comment_of}
 use Rattle.saphyr_scanner.specs.Steps.Queue.{Place}
-use Rattle.saphyr_scanner.specs.Steps.State.{State, carried}
+use Rattle.saphyr_scanner.specs.Steps.State.{State, on_core}
 use Rattle.saphyr_scanner.specs.Steps.Unrolling.{unroll}
-use Rattle.saphyr_scanner.specs.Steps.Fetch.{fetch, fetch_here, arrive, fetch_within, within, without_far_key, state_behind_content}
-use Rattle.saphyr_scanner.proofs.Leads.{Leads, stay, onward}
+use Rattle.saphyr_scanner.specs.Steps.Fetch.{fetch, fetch_here, arrive, fetch_within, check_limit, without_far_key, state_behind_content}
+use Rattle.saphyr_scanner.proofs.Leads.{LeadsTo, stay, onward}
 use Rattle.saphyr_scanner.proofs.Json.States.{queue_of}
 use Rattle.saphyr_scanner.proofs.Json.Marks.{chain}
 use Rattle.saphyr_scanner.proofs.Flow.States.{past}
-use Rattle.saphyr_scanner.proofs.InBlock.States.{Frame, Moment, moment_at, moment_with, core_of, state_of, crosses, IsUntabbed, IsStop, Follows}
+use Rattle.saphyr_scanner.proofs.InBlock.States.{Frame, Moment, moment_at, moment_with, core_of, state_of, crosses, IsUntabbed, IsStop, GoesOnAs}
 use Rattle.saphyr_scanner.proofs.InBlock.Gaps.{past_stops, gap_still, passes_to}
 use Rattle.saphyr_scalar.proofs.Given.{cursor_at}
 use Rattle.saphyr_input.proofs.Basics.Booleans.{and_or_false}
@@ -26,29 +27,29 @@ use Rattle.std.proofs.lemmas.Bool.{le-leb}
 
 -- ## Going on
 
-pub follows_itself : {limit : ℕ} {start s : State} → Leads limit s start → Follows limit start s
+pub follows_itself : {limit : ℕ} {start s : State} → LeadsTo limit s start → GoesOnAs limit start s
 follows_itself {s = s} l = record { reached = s; leads = l; same = refl; running = refl }
 
 -- another state from which the scanner goes on alike
-pub goes_alike : {limit : ℕ} {start s t : State} → Follows limit start s → fetch s ≡ fetch t
-    → s.core.ended ≡ t.core.ended → Follows limit start t
+pub goes_alike : {limit : ℕ} {start s t : State} → GoesOnAs limit start s → fetch s ≡ fetch t
+    → s.core.ended ≡ t.core.ended → GoesOnAs limit start t
 goes_alike f e g = record { reached = f.reached; leads = f.leads; same = f.same ∙ e; running = f.running ∙ g }
 
 -- the first step from a state that goes on alike
-pub first_step : {limit : ℕ} {start s t u : State} → Follows limit start s → s.core.ended ≡ false
-    → fetch_within limit s ≡ Ok t → without_far_key t ≡ Ok u → Leads limit u start
+pub first_step : {limit : ℕ} {start s t u : State} → GoesOnAs limit start s → s.core.ended ≡ false
+    → fetch_within limit s ≡ Ok t → without_far_key t ≡ Ok u → LeadsTo limit u start
 unfolding fetch_within
 first_step {limit} {s = s} {t = t} {u = u} f going is settles =
-    let there : fetch_within limit f.reached ≡ Ok t = ap (λ r. r >>= within limit) f.same ∙ is in
+    let there : fetch_within limit f.reached ≡ Ok t = ap (λ r. r >>= check_limit limit) f.same ∙ is in
     chain f.leads (onward f.reached t u (f.running ∙ going) there settles stay)
 
-pub goes_on : {limit : ℕ} {start s d : State} → Follows limit start s → Leads limit d s → Follows limit start d
+pub goes_on : {limit : ℕ} {start s d : State} → GoesOnAs limit start s → LeadsTo limit d s → GoesOnAs limit start d
 goes_on f stay = f
 goes_on f (onward s t u going is settles l) = follows_itself (chain (first_step f going is settles) l)
 
 -- where the scanner has ended, it has come there
-pub comes_to_end : {limit : ℕ} {start s d : State} → Follows limit start s → s.core.ended ≡ false → Leads limit d s
-    → d.core.ended ≡ true → Leads limit d start
+pub comes_to_end : {limit : ℕ} {start s d : State} → GoesOnAs limit start s → s.core.ended ≡ false → LeadsTo limit d s
+    → d.core.ended ≡ true → LeadsTo limit d start
 comes_to_end f running stay over = absurd (let e = sym running ∙ over in cc)
 comes_to_end f running (onward s t u going is settles l) over = chain (first_step f going is settles) l
 
@@ -94,14 +95,14 @@ passes_untabbed : (f : Frame) (n : Moment) (m : Marker) (y : List ℕ) → past 
 unfolding pass_gap check_comment
 passes_untabbed f n m y here clean quiet =
     let p = passes_to (least_column (core_of f n)) n.cursor m y here clean in
-    let first = ap (λ r. r >>= λ (g : Passed). check_comment (behind_gap (core_of f n) g)) p.is in
+    let first = ap (λ r. r >>= λ (g : GapEnd). check_comment (behind_gap (core_of f n) g)) p.is in
     (p.blank, first ∙ at_comment p.blank n.comment quiet refl)
   where
     behind : Bool → Option Marker → Core
     behind blank co = core_of f (record (landed n m y blank) { key = n.key; required = n.required; comment = co })
 
     at_comment : (blank : Bool) (co : Option Marker) → IsQuiet f n m y → n.comment ≡ co
-        → intercepts n.comment (behind_gap (core_of f n)
+        → check_comment_of n.comment (behind_gap (core_of f n)
         (record { cursor = cursor_at y m blank; broke = crosses n.cursor.rest }))
         ≡ Ok (core_of f (record (landed n m y blank) { key = n.key; required = n.required }))
     at_comment blank None q e = rw (e, and-true (crosses n.cursor.rest)) refl
@@ -116,7 +117,7 @@ pub arrives_still : (f : Frame) (m : Marker) (y : List ℕ) (blank : Bool) (key 
 unfolding pass_gap check_comment
 arrives_still f m y blank key a ad deeper stop near =
     let c = core_of f (moment_at m y blank key a ad deeper) in
-    ap (λ r. (r >>= λ (g : Passed). check_comment (behind_gap c g)) >>= drop_far_key)
+    ap (λ r. (r >>= λ (g : GapEnd). check_comment (behind_gap c g)) >>= drop_far_key)
     (gap_still (least_column c) m blank y stop) ∙ drops f (moment_at m y blank key a ad deeper) refl
     ∙ ap (λ (k : Option Candidate). Ok (core_of f (moment_at m y blank k a ad deeper))) (same near)
   where
@@ -136,7 +137,7 @@ lands f n ps m y free here clean quiet =
     (subst (λ (q : Marker × List ℕ). IsStop q.1) here (past_stops n.cursor.mark n.cursor.rest))
     (left_again n.key m) in (
       p.0,
-      ap (λ r. (carried r (queue_of ps) >>= λ (t : State). Ok
+      ap (λ r. (on_core r (queue_of ps) >>= λ (t : State). Ok
           (unroll (Some t.core.cursor.mark.col) t.core.cursor.mark t)) >>= fetch_here) (raw ∙ sym there),
     )
 
@@ -149,7 +150,7 @@ pub arrives_at : (f : Frame) (m : Marker) (y : List ℕ) (blank : Bool) (key : O
     ≡ Ok (unroll (Some m.col) m (state_of f (moment_at m y blank key a ad deeper) ps))
 unfolding arrive
 arrives_at f m y blank key a ad deeper ps stop near =
-    ap (λ r. carried r (queue_of ps) >>= λ (t : State). Ok (unroll (Some t.core.cursor.mark.col) t.core.cursor.mark t))
+    ap (λ r. on_core r (queue_of ps) >>= λ (t : State). Ok (unroll (Some t.core.cursor.mark.col) t.core.cursor.mark t))
     (arrives_still f m y blank key a ad deeper stop near)
 
 -- whether content stands one column further right, at a token
@@ -207,13 +208,14 @@ begins_here f r m y blank key a ad deeper ps h far =
 -- ## A step
 
 -- from a state that goes on with this state, the scanner comes to that, where no key is kept
-pub steps_from : {limit : ℕ} {start s : State} (g : Frame) (n : Moment) (qs : List Place) → Follows limit start s
+pub steps_from : {limit : ℕ} {start s : State} (g : Frame) (n : Moment) (qs : List Place) → GoesOnAs limit start s
     → s.core.ended ≡ false → fetch s ≡ Ok (state_of g n qs) → n.key ≡ None → n.cursor.mark.index ≤ limit
-    → Leads limit (state_of g n qs) start
+    → LeadsTo limit (state_of g n qs) start
 unfolding fetch_within drop_far_key
 steps_from {limit} g n qs f going is none low =
-    let fits : within limit (state_of g n qs) ≡ Ok (state_of g n qs) = rw (le-leb n.cursor.mark.index limit low) refl in
-    first_step f going (ap (λ r. r >>= within limit) is ∙ fits) (rw none refl)
+    let fits : check_limit limit (state_of g n qs) ≡ Ok (state_of g n qs) =
+    rw (le-leb n.cursor.mark.index limit low) refl in
+    first_step f going (ap (λ r. r >>= check_limit limit) is ∙ fits) (rw none refl)
 
 -- a key is not too far from its colon
 pub lands_key : (f : Frame) (n : Moment) (ps : List Place) (m : Marker) (y : List ℕ)
@@ -229,7 +231,7 @@ lands_key f n ps m y here clean quiet near far =
     n.deeper in
     let kept : drop_far_key (core_of f there) ≡ Ok (core_of f there) = rw near refl in (
       p.0,
-      ap (λ r. carried r (queue_of ps) >>= λ (t : State). Ok
+      ap (λ r. on_core r (queue_of ps) >>= λ (t : State). Ok
           (unroll (Some t.core.cursor.mark.col) t.core.cursor.mark t)) (ap (λ r. r >>= drop_far_key) p.1 ∙ kept)
           ∙ ap Ok (stays_open f n.required m y p.0 n.key (crosses n.cursor.rest || n.allowed) n.adjacent n.deeper ps
           far),

@@ -8,7 +8,7 @@ use Rattle.saphyr_scanner.specs.Grammar.Layout as layout
 use Rattle.saphyr_scanner.specs.Grammar.Layout.{most_open}
 use Rattle.saphyr_scalar.specs.declared.scalar.position.Marker.{Marker}
 use Rattle.saphyr_scanner.proofs.Flow.States.{moved}
-use Rattle.saphyr_scanner.proofs.InBlock.Statements.{EndsWithLine, Leaves}
+use Rattle.saphyr_scanner.proofs.InBlock.Statements.{EndsWithLine, ReadsLeaves}
 use Rattle.saphyr_scanner.proofs.InBlock.Texts.{ends_back, node_ends, other_entries_end, other_pairs_end}
 use Rattle.saphyr_scanner.proofs.InBlock.TabsAhead.{TellsTabs, tells_behind, has_token, token_behind}
 use Rattle.saphyr_scanner.proofs.InBlock.FurtherScalars.{EndsFed, fed_front, none_fed, styled_further}
@@ -29,7 +29,7 @@ flow_further more room node place t o fed (gap, text, end, gap_is, is, end_is, e
     (gap, text, end, gap_is, is, end_further more end o fed end_is, e)
 
 -- What stands behind ends with a break and has a token, and before it is told whether a tab stands ahead.
-pub record IsAhead (more o : List ℕ) : Type 0 where
+pub record IsTokenAhead (more o : List ℕ) : Type 0 where
   pub fed : EndsFed o
   pub token : has_token false o ≡ true
   pub tells : TellsTabs more o
@@ -39,8 +39,8 @@ ends_fed : (t o : List ℕ) → EndsFed o → EndsWithLine t o → (m : Marker) 
 ends_fed t o fed (inl h) = h
 ends_fed t o fed (inr e) = absurd (none_fed o fed e)
 
-ahead_front : (more t o : List ℕ) → (t ≡ []) ⊎ EndsWithLine t o → IsAhead more o → IsAhead more (t ++ o)
-ahead_front more t o (inl e) h = subst (λ (x : List ℕ). IsAhead more (x ++ o)) (sym e) h
+ahead_front : (more t o : List ℕ) → (t ≡ []) ⊎ EndsWithLine t o → IsTokenAhead more o → IsTokenAhead more (t ++ o)
+ahead_front more t o (inl e) h = subst (λ (x : List ℕ). IsTokenAhead more (x ++ o)) (sym e) h
 ahead_front more t o (inr e) h =
     let ends = ends_fed t o h.fed e in
     record {
@@ -49,7 +49,7 @@ ahead_front more t o (inr e) h =
       tells = tells_behind t o more ends h.tells;
     }
 
-question_further : (more node o : List ℕ) → EndsWithLine node o → IsAhead more o → IsBehindQuestion node o
+question_further : (more node o : List ℕ) → EndsWithLine node o → IsTokenAhead more o → IsBehindQuestion node o
     → IsBehindQuestion node (o ++ more)
 question_further more node o ends h (some, clear) = (
   some,
@@ -59,11 +59,11 @@ question_further more node o ends h (some, clear) = (
 
 -- how a node stands before that
 abbrev GoesOn : List ℕ → (Position → List ℕ → List ℕ → Type 0) → Type 0
-GoesOn more Is = (place : Position) (t o : List ℕ) → IsAhead more o → Is place t o → Is place t (o ++ more)
+GoesOn more Is = (place : Position) (t o : List ℕ) → IsTokenAhead more o → Is place t o → Is place t (o ++ more)
 
-pair_further : (more : List ℕ) {limit : ℕ} → Leaves limit → (key value : Node) → GoesOn more (IsBlockNode 255 key)
+pair_further : (more : List ℕ) {limit : ℕ} → ReadsLeaves limit → (key value : Node) → GoesOn more (IsBlockNode 255 key)
     → GoesOn more (IsBlockNode 255 value)
-    → (m : ℕ) (t o : List ℕ) → IsAhead more o
+    → (m : ℕ) (t o : List ℕ) → IsTokenAhead more o
     → IsBlockPair 255 key value (IsBlockNode 255 key) (IsBlockNode 255 value) m t o
     → IsBlockPair 255 key value (IsBlockNode 255 key) (IsBlockNode 255 value) m t (o ++ more)
 pair_further more leaves key value K V m t o ahead
@@ -82,7 +82,7 @@ pair_further more leaves key value K V m t o ahead (inr (inr (node, colon, v, so
     let text : y ++ more ≡ colon ++ (v ++ (o ++ more)) =
     append_assoc colon (v ++ o) more ∙ ap (λ (x : List ℕ). colon ++ x) (append_assoc v o more) in
     let ends = ends_back colon v o (node_ends leaves value (BehindMark m) v o k) in
-    let ahead_y : IsAhead more y = subst (IsAhead more) (append_assoc colon v o)
+    let ahead_y : IsTokenAhead more y = subst (IsTokenAhead more) (append_assoc colon v o)
     (ahead_front more (colon ++ v) o (inr ends) ahead) in
     inr (inr (
       node,
@@ -98,8 +98,8 @@ pair_further more leaves key value K V m t o ahead (inr (inr (node, colon, v, so
     ))
 
 mutual
-  pub node_further : (more : List ℕ) {limit : ℕ} → Leaves limit → (node : Node) (place : Position) (t o : List ℕ)
-      → IsAhead more o → IsBlockNode 255 node place t o → IsBlockNode 255 node place t (o ++ more)
+  pub node_further : (more : List ℕ) {limit : ℕ} → ReadsLeaves limit → (node : Node) (place : Position) (t o : List ℕ)
+      → IsTokenAhead more o → IsBlockNode 255 node place t o → IsBlockNode 255 node place t (o ++ more)
   node_further more leaves (Alias name) place t o ahead h = flow_further more 255 (Alias name) place t o ahead.fed h
   node_further more leaves (Scalar p style value) place t o ahead (inl (none, start, end)) =
       inl (none, start, eol_further more t o ahead.fed end)
@@ -125,8 +125,8 @@ mutual
   node_further more leaves (Map p pairs) place t o ahead (inr (m, lead, entries, lead_is, h, e)) =
       inr (m, lead, entries, lead_is, pairs_further more leaves pairs m entries o ahead h, e)
 
-  entries_further : (more : List ℕ) {limit : ℕ} → Leaves limit → (nodes : Nodes) (m : ℕ) (t o : List ℕ)
-      → IsAhead more o → AreEntries 255 nodes m t o → AreEntries 255 nodes m t (o ++ more)
+  entries_further : (more : List ℕ) {limit : ℕ} → ReadsLeaves limit → (nodes : Nodes) (m : ℕ) (t o : List ℕ)
+      → IsTokenAhead more o → AreEntries 255 nodes m t o → AreEntries 255 nodes m t (o ++ more)
   entries_further more leaves NoNode m t o ahead h = absurd h
   entries_further more leaves (MoreNodes node nodes) m t o ahead (entry, others, h, k, e) = (
     entry,
@@ -138,8 +138,8 @@ mutual
     e,
   )
 
-  other_entries_further : (more : List ℕ) {limit : ℕ} → Leaves limit → (nodes : Nodes) (m : ℕ) (t o : List ℕ)
-      → IsAhead more o → AreOtherEntries 255 nodes m t o → AreOtherEntries 255 nodes m t (o ++ more)
+  other_entries_further : (more : List ℕ) {limit : ℕ} → ReadsLeaves limit → (nodes : Nodes) (m : ℕ) (t o : List ℕ)
+      → IsTokenAhead more o → AreOtherEntries 255 nodes m t o → AreOtherEntries 255 nodes m t (o ++ more)
   other_entries_further more leaves NoNode m t o ahead h = h
   other_entries_further more leaves (MoreNodes node nodes) m t o ahead (front, entry, others, front_is, h, k, e) = (
     front,
@@ -153,8 +153,8 @@ mutual
     e,
   )
 
-  pairs_further : (more : List ℕ) {limit : ℕ} → Leaves limit → (pairs : Pairs) (m : ℕ) (t o : List ℕ)
-      → IsAhead more o → ArePairs 255 pairs m t o → ArePairs 255 pairs m t (o ++ more)
+  pairs_further : (more : List ℕ) {limit : ℕ} → ReadsLeaves limit → (pairs : Pairs) (m : ℕ) (t o : List ℕ)
+      → IsTokenAhead more o → ArePairs 255 pairs m t o → ArePairs 255 pairs m t (o ++ more)
   pairs_further more leaves NoPair m t o ahead h = absurd h
   pairs_further more leaves (MorePairs key value pairs) m t o ahead (pair, others, h, k, e) = (
     pair,
@@ -169,8 +169,8 @@ mutual
     e,
   )
 
-  other_pairs_further : (more : List ℕ) {limit : ℕ} → Leaves limit → (pairs : Pairs) (m : ℕ) (t o : List ℕ)
-      → IsAhead more o → AreOtherPairs 255 pairs m t o → AreOtherPairs 255 pairs m t (o ++ more)
+  other_pairs_further : (more : List ℕ) {limit : ℕ} → ReadsLeaves limit → (pairs : Pairs) (m : ℕ) (t o : List ℕ)
+      → IsTokenAhead more o → AreOtherPairs 255 pairs m t o → AreOtherPairs 255 pairs m t (o ++ more)
   other_pairs_further more leaves NoPair m t o ahead h = h
   other_pairs_further more leaves (MorePairs key value pairs) m t o ahead (front, pair, others, front_is, h, k, e) = (
     front,
@@ -189,8 +189,8 @@ mutual
 
 -- ## Documents
 
-pub document_further : (more : List ℕ) {limit : ℕ} → Leaves limit → (d : Document) (free : Bool) (t o : List ℕ)
-    → IsAhead more o
+pub document_further : (more : List ℕ) {limit : ℕ} → ReadsLeaves limit → (d : Document) (free : Bool) (t o : List ℕ)
+    → IsTokenAhead more o
     → layout.IsDocument (IsBlockNode most_open) d free t o
     → layout.IsDocument (IsBlockNode most_open) d free t (o ++ more)
 document_further more leaves d free t o ahead (inl (is_free, (same, unmarked, is))) =

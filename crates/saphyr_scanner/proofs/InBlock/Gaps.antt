@@ -8,7 +8,7 @@ use Rattle.saphyr_scalar.specs.declared.scalar.position.Marker.{Marker}
 use Rattle.saphyr_scalar.specs.Views.Cursor.{Cursor, along, next_line, refuse}
 use Rattle.saphyr_scalar.specs.declared.scalar.fault.Refusal.{Refusal}
 use Rattle.saphyr_scalar.specs.declared.scalar.fault.FaultText.TheVariants as fault
-use Rattle.saphyr_scanner.specs.Steps.Gap.{Passed, gap, comment, stop, is_tab_indentation, passed_gap}
+use Rattle.saphyr_scanner.specs.Steps.Gap.{GapEnd, gap, comment, stop, is_tab_indentation, whole_gap}
 use Rattle.saphyr_scanner.proofs.Flow.States.{IsInk, is_left_tab, past, past_comment}
 use Rattle.saphyr_scanner.proofs.InBlock.States.{IsStop, tabbed, tabbed_comment, IsUntabbed, crosses, crosses_comment}
 use Rattle.saphyr_input.proofs.Basics.Characters.{no_return_and}
@@ -19,7 +19,7 @@ use Rattle.saphyr_scanner.proofs.Json.States.{stop_here}
 
 -- ## Where `gap` stops
 
-record Stops (least : ℕ) (m : Marker) (blank broke tab : Bool) (t : List ℕ) : Type 0 where
+record GapStops (least : ℕ) (m : Marker) (blank broke tab : Bool) (t : List ℕ) : Type 0 where
   still_blank : Bool
   is : gap least m blank broke tab t
       ≡ stop (past 0 m t).0 still_blank (broke || crosses t) (tabbed least m blank tab t) (past 0 m t).1
@@ -45,9 +45,9 @@ no_left m c = ap (λ (b : Bool). (c == 9) && b) (no_less m.col) ∙ none (c == 9
 
 gap_kind : (least : ℕ) (m : Marker) (blank broke tab : Bool) (c : ℕ) (cs : List ℕ) (is_white is_line is_sign : Bool)
     → (is_blank c || ((c == 13) && (slice_index cs 0 == 10))) ≡ is_white → is_break c ≡ is_line → (c == 35) ≡ is_sign
-    → Stops least (along m 1) blank broke (is_tab_indentation least m blank c || tab) cs
-    → Stops least (next_line m 1) true true false cs
-    → StopsComment least (along m 1) blank broke tab cs → Stops least m blank broke tab (c ∷ cs)
+    → GapStops least (along m 1) blank broke (is_tab_indentation least m blank c || tab) cs
+    → GapStops least (next_line m 1) true true false cs
+    → StopsComment least (along m 1) blank broke tab cs → GapStops least m blank broke tab (c ∷ cs)
 gap_kind least m blank broke tab c cs true q r e f g on line sign =
     record { still_blank = on.still_blank; is = rw (no_left m c, e) on.is; stop = rw (no_left m c, e) on.stop }
 gap_kind least m blank broke tab c cs false true r e f g on line sign =
@@ -76,8 +76,8 @@ gap_kind least m blank broke tab c cs false false false e f g on line sign =
 gap_over_comment : (least : ℕ) (m : Marker) (blank broke tab : Bool) (c : ℕ) (cs : List ℕ)
     (is_word is_return is_line : Bool)
     → is_yaml_non_break c ≡ is_word → ((c == 13) && (slice_index cs 0 == 10)) ≡ is_return → is_break c ≡ is_line
-    → StopsComment least (along m 1) blank broke tab cs → Stops least (along m 1) blank broke tab cs
-    → Stops least (next_line m 1) true true false cs → StopsComment least m blank broke tab (c ∷ cs)
+    → StopsComment least (along m 1) blank broke tab cs → GapStops least (along m 1) blank broke tab cs
+    → GapStops least (next_line m 1) true true false cs → StopsComment least m blank broke tab (c ∷ cs)
 gap_over_comment least m blank broke tab c cs true q r e f g word on line =
     record { still_blank = word.still_blank; is = rw e word.is; stop = rw e word.stop }
 gap_over_comment least m blank broke tab c cs false true r e f g word on line =
@@ -99,7 +99,7 @@ gap_over_comment least m blank broke tab c cs false false false e f g word on li
     no_sign c e = grind (arith, nat_tests)
 
 mutual
-  gap_stops : (least : ℕ) (m : Marker) (blank broke tab : Bool) (t : List ℕ) → Stops least m blank broke tab t
+  gap_stops : (least : ℕ) (m : Marker) (blank broke tab : Bool) (t : List ℕ) → GapStops least m blank broke tab t
   gap_stops least m blank broke tab [] =
       record { still_blank = blank; is = stop_ends m blank broke tab ∙ rw (or-false broke) refl; stop = tt }
   gap_stops least m blank broke tab (c ∷ cs) =
@@ -119,19 +119,19 @@ mutual
       (comment_stops least (along m 1) blank broke tab cs) (gap_stops least (along m 1) blank broke tab cs)
       (gap_stops least (next_line m 1) true true false cs)
 
-broke_by : (x y : Bool) (n : Marker) (q p : Passed)
+broke_by : (x y : Bool) (n : Marker) (q p : GapEnd)
     → (if x then refuse fault.MisplacedByteOrderMark n else if y then refuse fault.TabInBlockIndentation n else Ok q)
     ≡ Ok p → p.broke ≡ q.broke
 broke_by true y n q p e = absurd (cc)
 broke_by false true n q p e = absurd (cc)
 broke_by false false n q p e = ap broke_of (sym e)
   where
-    broke_of : Result Passed Refusal → Bool
+    broke_of : Result GapEnd Refusal → Bool
     broke_of (Ok r) = r.broke
     broke_of (Err e) = false
 
 -- a gap that is passed tells whether a break stands in it
-pub gap_broke : (least : ℕ) (m : Marker) (blank : Bool) (t : List ℕ) (p : Passed)
+pub gap_broke : (least : ℕ) (m : Marker) (blank : Bool) (t : List ℕ) (p : GapEnd)
     → gap least m blank false false t ≡ Ok p → p.broke ≡ crosses t
 unfolding stop
 gap_broke least m blank t p is =
@@ -148,8 +148,8 @@ past_stops m t = (gap_stops 0 m false false false t).stop
 -- what stands between two tokens is passed where no tab indents
 pub record PassesTo (least : ℕ) (s : Cursor) (m : Marker) (y : List ℕ) : Type 0 where
   pub blank : Bool
-  pub is : passed_gap least s
-      ≡ Ok (let p : Passed = record {
+  pub is : whole_gap least s
+      ≡ Ok (let p : GapEnd = record {
         cursor =
             record { rest = y; mark = m; blank_so_far = blank };
         broke = crosses s.rest;
@@ -189,6 +189,6 @@ gap_stays least m blank (c ∷ cs) h = rw (h.0, no_return_and c (slice_index cs 
 -- nothing is passed right at a token
 pub gap_still : (least : ℕ) (m : Marker) (blank : Bool) (y : List ℕ) → IsStop y
     → gap least m blank false false y
-    ≡ Ok (let p : Passed = record { cursor = record { rest = y; mark = m; blank_so_far = blank }; broke = false } in
+    ≡ Ok (let p : GapEnd = record { cursor = record { rest = y; mark = m; blank_so_far = blank }; broke = false } in
     p)
 gap_still least m blank y h = gap_stays least m blank y h ∙ stop_here m blank false y

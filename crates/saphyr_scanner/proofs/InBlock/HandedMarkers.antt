@@ -10,20 +10,20 @@ use Rattle.saphyr_scanner.specs.declared.engine.level.Context.TheVariants as con
 use Rattle.saphyr_scanner.specs.Grammar.Tokens as tokens
 use Rattle.saphyr_scanner.specs.Grammar.Tokens.{Kind}
 use Rattle.saphyr_scanner.specs.Views.Tokens.{Piece}
-use Rattle.saphyr_scanner.specs.Steps.Queue.{Place, closed}
-use Rattle.saphyr_scanner.specs.Steps.Core.{Candidate}
+use Rattle.saphyr_scanner.specs.Steps.Queue.{Place, bare_place}
+use Rattle.saphyr_scanner.specs.Steps.Level.{Candidate}
 use Rattle.saphyr_scanner.specs.Steps.State.{State}
 use Rattle.saphyr_scanner.specs.Steps.Fetch.{fetch_here}
-use Rattle.saphyr_scanner.proofs.Leads.{Leads, stay, onward}
+use Rattle.saphyr_scanner.proofs.Leads.{LeadsTo, stay, onward}
 use Rattle.saphyr_scanner.proofs.Json.States.{state_at}
 use Rattle.saphyr_scanner.proofs.Json.Marks.{kinds, kinds_append, chain}
 use Rattle.saphyr_scanner.proofs.Flow.States.{EndsDocument, moved, past}
 use Rattle.saphyr_scanner.proofs.Flow.Arrivals.{within_index}
 use Rattle.saphyr_scanner.proofs.Flow.Separates.{separates_rest}
 use Rattle.saphyr_scanner.proofs.Documents.Lines.{eol, eol_first, break_ends}
-use Rattle.saphyr_scanner.proofs.Documents.Stands.{reads_here, Lined, Stands}
+use Rattle.saphyr_scanner.proofs.Documents.Stands.{reads_here, Lined, StandsInStream}
 use Rattle.saphyr_scanner.proofs.Documents.Markers.{piece_of, at_line, start_here, start_ends, start_count, end_here, end_ends, end_count}
-use Rattle.saphyr_scanner.proofs.InBlock.States.{Follows}
+use Rattle.saphyr_scanner.proofs.InBlock.States.{GoesOnAs}
 use Rattle.saphyr_scanner.proofs.InBlock.Follows.{first_step}
 use Rattle.saphyr_scalar.proofs.Given.{cursor_at}
 use Rattle.saphyr_input.proofs.Basics.Lists.{cons_not_empty}
@@ -31,14 +31,14 @@ use Rattle.saphyr_input.proofs.Basics.Lists.{cons_not_empty}
 -- The scanner has read these tokens, and none of them may be a key.
 pub record Handed (limit : ℕ) (start : State) (ts : List Kind) : Type 0 where
   pub last : State
-  pub leads : Leads limit last start
+  pub leads : LeadsTo limit last start
   pub none : last.core.level.key ≡ None
   pub outer : last.core.outer ≡ []
   pub are : kinds last.queue.places ≡ ts
 
 -- where a token was read, the scanner has come there
-comes_there : {limit : ℕ} {start s d : State} → Follows limit start s → s.core.ended ≡ false → Leads limit d s
-    → ¬ (d ≡ s) → Leads limit d start
+comes_there : {limit : ℕ} {start s d : State} → GoesOnAs limit start s → s.core.ended ≡ false → LeadsTo limit d s
+    → ¬ (d ≡ s) → LeadsTo limit d start
 comes_there f running stay new = absurd (new refl)
 comes_there f running (onward s t u going is settles l) new = chain (first_step f running is settles) l
 
@@ -46,30 +46,30 @@ longer_by_one : (ps : List Place) (p : Place) → ps ++ p ∷ [] ≡ ps → ⊥
 longer_by_one ps p e = let l = length-append ps (p ∷ []) in let same = ap length e in omega (arith, l, same)
 
 hands_token : {limit : ℕ} {start : State} {free : Bool} {P : Marker → Bool → Type 0} {y : List ℕ} {ts : List Kind}
-    (v : Stands limit start free P y ts) → past 0 v.mark y ≡ (v.mark, y) → EndsDocument v.mark y
+    (v : StandsInStream limit start free P y ts) → past 0 v.mark y ≡ (v.mark, y) → EndsDocument v.mark y
     → (t : Cursor) (piece : Piece)
     → ((blank : Bool) (key : Option Candidate) (allowed : Bool) (ad : ℕ) (ps : List Place)
     → fetch_here (state_at false (cursor_at y v.mark blank) context.Block key [] allowed ad ps)
-    ≡ Ok (state_at false t context.Block None [] false ad (ps ++ closed piece ∷ [])))
+    ≡ Ok (state_at false t context.Block None [] false ad (ps ++ bare_place piece ∷ [])))
     → t.mark.index ≤ limit → Handed limit start (ts ++ piece.kind ∷ [])
 hands_token {limit = limit} {y = y} {ts = ts} v here ends t piece is low =
     let r = reads_here limit v.comment v.there v.key v.allowed v.adjacent v.places v.mark y (v.fits ∙ here) (inr ends)
-    false (λ _. t) (λ _. None) false (v.places ++ closed piece ∷ [])
+    false (λ _. t) (λ _. None) false (v.places ++ bare_place piece ∷ [])
     (λ blank key allowed. is blank key allowed v.adjacent v.places) (λ _. low) in
     record {
-      last = state_at false t context.Block r.1 [] false v.adjacent (v.places ++ closed piece ∷ []);
+      last = state_at false t context.Block r.1 [] false v.adjacent (v.places ++ bare_place piece ∷ []);
       leads = comes_there v.follows refl r.4
-          (λ e. longer_by_one v.places (closed piece) (ap (λ (s : State). s.queue.places) e));
+          (λ e. longer_by_one v.places (bare_place piece) (ap (λ (s : State). s.queue.places) e));
       none = r.3 refl;
       outer = refl;
-      are = kinds_append v.places (closed piece ∷ []) ∙ ap (λ (x : List Kind). x ++ piece.kind ∷ []) v.are;
+      are = kinds_append v.places (bare_place piece ∷ []) ∙ ap (λ (x : List Kind). x ++ piece.kind ∷ []) v.are;
     }
 
 front_low : (i l limit : ℕ) → i + l ≤ limit → i ≤ limit
 front_low i l limit h = omega (arith, h)
 
 pub hands_start : {limit : ℕ} {start : State} {free opened : Bool} {ts : List Kind} (r : List ℕ)
-    → Stands limit start free (Lined opened (45 ∷ 45 ∷ 45 ∷ r)) (45 ∷ 45 ∷ 45 ∷ r) ts
+    → StandsInStream limit start free (Lined opened (45 ∷ 45 ∷ 45 ∷ r)) (45 ∷ 45 ∷ 45 ∷ r) ts
     → is_blank_or_breakz (slice_index r 0) ≡ true
     → Handed limit start (ts ++ tokens.DocumentStart ∷ [])
 hands_start {limit = limit} r v h =
@@ -80,7 +80,8 @@ hands_start {limit = limit} r v h =
     (front_low (v.mark.index + 3) (length r) limit (start_count v.mark r limit v.count))
 
 pub hands_end : {limit : ℕ} {start : State} {free opened : Bool} {ts : List Kind} (end o : List ℕ)
-    → Stands limit start free (Lined opened (46 ∷ 46 ∷ 46 ∷ (end ++ o))) (46 ∷ 46 ∷ 46 ∷ (end ++ o)) ts → IsEol end o
+    → StandsInStream limit start free (Lined opened (46 ∷ 46 ∷ 46 ∷ (end ++ o))) (46 ∷ 46 ∷ 46 ∷ (end ++ o)) ts
+    → IsEol end o
     → Handed limit start (ts ++ tokens.DocumentEnd ∷ [])
 hands_end {limit = limit} end o v h =
     let r = end ++ o in

@@ -11,30 +11,31 @@ use Rattle.saphyr_scalar.specs.declared.scalar.position.Span.{Span}
 use Rattle.saphyr_scalar.specs.Steps.BlockRead.{spaces}
 use Rattle.saphyr_scalar.specs.Steps.Block as blocks
 use Rattle.saphyr_scalar.specs.Views.Cursor.{Cursor, ◌>>=◌}
-use Rattle.saphyr_scanner.specs.Steps.Core.{Core, Candidate, went, from_to, is_too_far, drop_far_key, least_column, save_key}
-use Rattle.saphyr_scanner.specs.Steps.Fetch.{fetch, fetch_here, fetch_within, within, state_behind_content, step}
+use Rattle.saphyr_scanner.specs.Steps.Core.{Core, completed_step, from_to, is_too_far, drop_far_key, least_column, save_key}
+use Rattle.saphyr_scanner.specs.Steps.Level.{Candidate}
+use Rattle.saphyr_scanner.specs.Steps.Fetch.{fetch, fetch_here, fetch_within, check_limit, state_behind_content, step}
 use Rattle.saphyr_scanner.specs.Grammar.Forest.{Style, Plain, SingleQuoted, DoubleQuoted, Literal, Folded}
 use Rattle.saphyr_scanner.specs.Grammar.BlockNodes.{IsBlockScalarText, IsStyled}
 use Rattle.saphyr_scanner.specs.Steps.Passing.{with_cursor}
-use Rattle.saphyr_scanner.specs.Steps.Queue.{next, Place, closed}
+use Rattle.saphyr_scanner.specs.Steps.Queue.{next, Place, bare_place}
 use Rattle.saphyr_scanner.specs.Steps.Scalar as scalar
 use Rattle.saphyr_scanner.specs.Steps.Scalar.{style_of}
 use Rattle.saphyr_scanner.specs.Views.Tokens.{Piece}
-use Rattle.saphyr_scanner.specs.Steps.State.{State, acted, carried}
+use Rattle.saphyr_scanner.specs.Steps.State.{State, after_step, on_core}
 use Rattle.saphyr_scanner.specs.Grammar.Tokens as kind
 use Rattle.saphyr_scanner.specs.Grammar.Tokens.{Kind, scalar_token}
-use Rattle.saphyr_scanner.proofs.Leads.{Leads}
+use Rattle.saphyr_scanner.proofs.Leads.{LeadsTo}
 use Rattle.saphyr_scanner.proofs.Json.States.{queue_of}
 use Rattle.saphyr_scanner.proofs.Json.Marks.{kinds, kinds_append, saved}
 use Rattle.saphyr_scanner.proofs.Flow.States.{moved, past}
 use Rattle.saphyr_scanner.proofs.Flow.GapSteps.{past_low}
 use Rattle.saphyr_scanner.proofs.Flow.Places.{moved_append, moved_count}
-use Rattle.saphyr_scanner.proofs.InBlock.States.{Frame, Moment, moment_at, core_of, state_of, tabbed, IsUntabbed, crosses, Follows, At}
+use Rattle.saphyr_scanner.proofs.InBlock.States.{Frame, Moment, moment_at, core_of, state_of, tabbed, IsUntabbed, crosses, GoesOnAs, At}
 use Rattle.saphyr_scanner.proofs.InBlock.Gaps.{past_stops}
 use Rattle.saphyr_scanner.proofs.InBlock.Skips.{skipped_past, spaces_skipped}
 use Rattle.saphyr_scanner.proofs.InBlock.Follows.{follows_itself, goes_alike, first_step, lands, BeginsToken, begins_here, arrives_at, stays_open, deeper_at}
-use Rattle.saphyr_scanner.proofs.InBlock.Lines.{Fits, fits_back}
-use Rattle.saphyr_scanner.proofs.InBlock.Statements.{IsBehind, Arrived}
+use Rattle.saphyr_scanner.proofs.InBlock.Lines.{FitsOnLines, fits_back}
+use Rattle.saphyr_scanner.proofs.InBlock.Statements.{EndsNodeAt, Arrived}
 use Rattle.saphyr_scanner.proofs.InBlock.ScalarTexts.{ReadsBlocks, block_taken}
 use Rattle.saphyr_scalar.proofs.Given.{cursor_at}
 use Rattle.saphyr_input.proofs.Basics.Booleans.{and_false}
@@ -69,11 +70,11 @@ reads_block : (f : Frame) (style : BlockStyle) (m : Marker) (y : List ℕ) (blan
     (ad : ℕ) (text : List ℕ) (span : Span) (left : Cursor)
     → blocks.block_scalar style f.indent (cursor_at y m blank) ≡ Ok (text, span, left)
     → scalar.read_block style (core_of f (moment_at m y blank key true ad false))
-    ≡ went (from_to span.start span.end (kind.Scalar (style_of style) text) ∷ [])
+    ≡ completed_step (from_to span.start span.end (kind.Scalar (style_of style) text) ∷ [])
     (core_of f (behind_scalar left key ad))
 unfolding scalar.read_block
 reads_block f style m y blank key ad text span left e =
-    ap (λ r. r >>= λ (x : List ℕ × Span × Cursor). went
+    ap (λ r. r >>= λ (x : List ℕ × Span × Cursor). completed_step
     (from_to x.1.start x.1.end (kind.Scalar (style_of style) x.0) ∷ [])
     (with_cursor x.2 (core_of f (moment_at m y blank key true ad false)))) e
 
@@ -81,7 +82,7 @@ block_step : (f : Frame) (style : BlockStyle) (m : Marker) (y : List ℕ) (blank
     (a : Bool) (ad : ℕ) (deeper : Bool) (text : List ℕ) (span : Span) (left : Cursor)
     → f.indent ≤ m.col → blocks.block_scalar style f.indent (cursor_at y m blank) ≡ Ok (text, span, left) → (i : ℕ)
     → scalar.block_scalar_steps style i (core_of f (moment_at m y blank key a ad deeper))
-    ≡ went (from_to span.start span.end (kind.Scalar (style_of style) text) ∷ [])
+    ≡ completed_step (from_to span.start span.end (kind.Scalar (style_of style) text) ∷ [])
     (core_of f (behind_scalar left (saved a i m key) ad))
 unfolding scalar.block_scalar_steps
 block_step f style m y blank key a ad deeper text span left low e i =
@@ -89,11 +90,11 @@ block_step f style m y blank key a ad deeper text span left low e i =
     (saves f m y blank key a ad deeper i low)
     ∙ reads_block f style m y blank (saved a i m key) ad text span left e
 
-at_sign : (f : Frame) (style : BlockStyle) (n : Moment) (second i : ℕ)
+style_at_sign : (f : Frame) (style : BlockStyle) (n : Moment) (second i : ℕ)
     → step (sign style) second i (core_of f n) ≡ scalar.block_scalar_steps style i (core_of f n)
 unfolding step
-at_sign f block_style.Literal n second i = refl
-at_sign f block_style.Folded n second i = refl
+style_at_sign f block_style.Literal n second i = refl
+style_at_sign f block_style.Folded n second i = refl
 
 header_begins : (style : BlockStyle) (m : Marker) (o : List ℕ) → BeginsToken m (sign style ∷ o)
 header_begins block_style.Literal m o =
@@ -122,14 +123,14 @@ sign_is_no_break block_style.Folded = refl
 -- ## A key that is dropped behind a line
 
 -- A candidate, where there is one, begins on this line or before it.
-abbrev pub IsLate : Option Candidate → Marker → Type 0
-IsLate None m = Unit {0}
-IsLate (Some k) m = k.mark.line ≤ m.line
+abbrev pub IsOnLineOrBefore : Option Candidate → Marker → Type 0
+IsOnLineOrBefore None m = Unit {0}
+IsOnLineOrBefore (Some k) m = k.mark.line ≤ m.line
 
 abbrev IsGone : Option Candidate → Marker → Type 0
 IsGone k m = (k ≡ None) ⊎ (is_too_far k m ≡ true)
 
-gone : (a : Bool) (i : ℕ) (m n : Marker) (key : Option Candidate) → IsLate key m → m.line < n.line
+gone : (a : Bool) (i : ℕ) (m n : Marker) (key : Option Candidate) → IsOnLineOrBefore key m → m.line < n.line
     → IsGone (saved a i m key) n
 gone true i m n key late h = inr (too_far (record { mark = m; place = i }) n h)
 gone false i m n None late h = inl refl
@@ -142,14 +143,15 @@ drops_gone g n free (inl e) = rw (e, free) refl
 drops_gone g n free (inr e) = rw (e, free) refl
 
 -- From a state that goes on with this state the scanner comes to that, where the key is dropped.
-steps_dropping : {limit : ℕ} {start s : State} (g : Frame) (n : Moment) (qs : List Place) → Follows limit start s
+steps_dropping : {limit : ℕ} {start s : State} (g : Frame) (n : Moment) (qs : List Place) → GoesOnAs limit start s
     → s.core.ended ≡ false → fetch s ≡ Ok (state_of g n qs) → n.required ≡ false → IsGone n.key n.cursor.mark
-    → n.cursor.mark.index ≤ limit → Leads limit (state_of g (record n { key = None; required = false }) qs) start
+    → n.cursor.mark.index ≤ limit → LeadsTo limit (state_of g (record n { key = None; required = false }) qs) start
 unfolding fetch_within
 steps_dropping {limit} g n qs f going is free left low =
-    let fits : within limit (state_of g n qs) ≡ Ok (state_of g n qs) = rw (le-leb n.cursor.mark.index limit low) refl in
-    first_step f going (ap (λ r. r >>= within limit) is ∙ fits)
-    (ap (λ r. carried r (queue_of qs)) (drops_gone g n free left))
+    let fits : check_limit limit (state_of g n qs) ≡ Ok (state_of g n qs) =
+    rw (le-leb n.cursor.mark.index limit low) refl in
+    first_step f going (ap (λ r. r >>= check_limit limit) is ∙ fits)
+    (ap (λ r. on_core r (queue_of qs)) (drops_gone g n free left))
 
 -- ## A block scalar alone
 
@@ -160,7 +162,7 @@ spaces_tabbed least m blank (suc n) y = spaces_tabbed least (moved m (32 ∷ [])
 
 -- where the scanner stands behind a block scalar
 arrives_behind : {limit : ℕ} {start : State} (f : Frame) (left : Cursor) (ad : ℕ) (qs : List Place) (ts : List Kind)
-    (k : Marker) (o : List ℕ) → Leads limit (state_of f (behind_scalar left None ad) qs) start
+    (k : Marker) (o : List ℕ) → LeadsTo limit (state_of f (behind_scalar left None ad) qs) start
     → kinds qs ≡ ts → past 0 left.mark left.rest ≡ past 0 k o → ((least : ℕ) → IsUntabbed least left)
     → ad ≤ (past 0 k o).0.index → Arrived limit start f k o ts
 arrives_behind f left ad qs ts k o leads are text clean low =
@@ -188,8 +190,8 @@ arrives_behind f left ad qs ts k o leads are text clean low =
 pub reads_scalar : ReadsBlocks
     → {limit : ℕ} {start : State} {ts : List Kind} (f : Frame) (style : BlockStyle) (value : List ℕ) (m : Marker)
     (more t o : List ℕ) → limit < 2 ^ 63 → f.indent ≤ m.col
-    → t ≡ sign style ∷ more → IsBlockScalarText style value f.indent t o → Fits limit m t o
-    → IsBehind f.indent (moved m t) o → (v : At limit start f m (t ++ o) ts) → IsLate v.key m
+    → t ≡ sign style ∷ more → IsBlockScalarText style value f.indent t o → FitsOnLines limit m t o
+    → EndsNodeAt f.indent (moved m t) o → (v : At limit start f m (t ++ o) ts) → IsOnLineOrBefore v.key m
     → Arrived limit start f (moved m t) o (ts ++ kind.Scalar (style_of style) (encode_utf8_all value) ∷ [])
 unfolding fetch state_behind_content
 reads_scalar laws {limit} {start} {ts} f style value m more t o short low begins is fits behind v late =
@@ -201,19 +203,19 @@ reads_scalar laws {limit} {start} {ts} f style value m more t o short low begins
     let deeper = deeper_at f v.deeper m in
     let n = behind_scalar b.left (saved v.allowed i m v.key) v.adjacent in
     let piece : Piece = record { span = b.span; kind = kind.Scalar (style_of style) (encode_utf8_all value) } in
-    let qs = v.places ++ closed piece ∷ [] in
+    let qs = v.places ++ bare_place piece ∷ [] in
     let c = core_of f (moment_at m y v.blank v.key v.allowed v.adjacent deeper) in
     let far = column_far f.indent m.col low in
     let begun : BeginsToken m y = subst (BeginsToken m) (sym start_is) (header_begins style m (more ++ o)) in
     let stepped : step (slice_index y 0) (slice_index y 1) i c
-    ≡ went (from_to b.span.start b.span.end piece.kind ∷ []) (core_of f n) =
+    ≡ completed_step (from_to b.span.start b.span.end piece.kind ∷ []) (core_of f n) =
     ap (λ (x : List ℕ). step (slice_index x 0) (slice_index y 1) i c) start_is
-    ∙ at_sign f style (moment_at m y v.blank v.key v.allowed v.adjacent deeper) (slice_index y 1) i
+    ∙ style_at_sign f style (moment_at m y v.blank v.key v.allowed v.adjacent deeper) (slice_index y 1) i
     ∙ block_step f style m y v.blank v.key v.allowed v.adjacent deeper (encode_utf8_all value) b.span b.left low b.read
     i in
     let made : state_behind_content (slice_index y 0) (slice_index y 1)
     (state_of f (moment_at m y v.blank v.key v.allowed v.adjacent deeper) v.places) ≡ Ok (state_of f n qs) =
-    ap (λ r. acted r (queue_of v.places)) stepped in
+    ap (λ r. after_step r (queue_of v.places)) stepped in
     let there : fetch (state_of f (moment_at m y v.blank v.key v.allowed v.adjacent v.deeper) v.places)
     ≡ Ok (state_of f n qs) =
     ap (λ r. r >>= fetch_here) (arrives_at f m y v.blank v.key v.allowed v.adjacent v.deeper v.places v.stop v.near)
@@ -242,7 +244,7 @@ reads_scalar laws {limit} {start} {ts} f style value m more t o short low begins
     ∙ behind.clean least (moved m t) b.left.blank_so_far in
     let size_y = length-append t o in
     arrives_behind f b.left v.adjacent qs (ts ++ piece.kind ∷ []) (moved m t) o leads
-    (kinds_append v.places (closed piece ∷ []) ∙ ap (λ (x : List Kind). x ++ piece.kind ∷ []) v.are) lands_at clean
+    (kinds_append v.places (bare_place piece ∷ []) ∙ ap (λ (x : List Kind). x ++ piece.kind ∷ []) v.are) lands_at clean
     (omega (arith, lower, on, whole, size_y))
   where
     column_far : (i col : ℕ) → i ≤ col → i ≤ col + 1
@@ -252,7 +254,8 @@ reads_scalar laws {limit} {start} {ts} f style value m more t o short low begins
 reads_styled : ReadsBlocks
     → {limit : ℕ} {start : State} {ts : List Kind} (f : Frame) (style : Style) (value : List ℕ) (m : Marker)
     (t o : List ℕ) → limit < 2 ^ 63 → f.indent ≤ m.col → IsStyled style value f.indent t o
-    → Fits limit m t o → IsBehind f.indent (moved m t) o → (v : At limit start f m (t ++ o) ts) → IsLate v.key m
+    → FitsOnLines limit m t o → EndsNodeAt f.indent (moved m t) o → (v : At limit start f m (t ++ o) ts)
+    → IsOnLineOrBefore v.key m
     → Arrived limit start f (moved m t) o (ts ++ scalar_token style value ∷ [])
 reads_styled laws f Literal value m t o short low (more, h, e) fits behind v late =
     reads_scalar laws f block_style.Literal value m more t o short low e h fits behind v late
@@ -266,10 +269,10 @@ reads_styled laws f DoubleQuoted value m t o short low h fits behind v late = ab
 pub reads_behind : ReadsBlocks
     → {limit : ℕ} {start : State} {ts : List Kind} (f : Frame) (style : Style) (value : List ℕ) (m : Marker)
     (w t o : List ℕ) → limit < 2 ^ 63 → f.indent ≤ (moved m w).col
-    → IsStyled style value f.indent t o → Fits limit m (w ++ t) o → IsBehind f.indent (moved m (w ++ t)) o
-    → (v : At limit start f (moved m w) (t ++ o) ts) → IsLate v.key (moved m w)
+    → IsStyled style value f.indent t o → FitsOnLines limit m (w ++ t) o → EndsNodeAt f.indent (moved m (w ++ t)) o
+    → (v : At limit start f (moved m w) (t ++ o) ts) → IsOnLineOrBefore v.key (moved m w)
     → Arrived limit start f (moved m (w ++ t)) o (ts ++ scalar_token style value ∷ [])
 reads_behind laws {limit} {start} {ts} f style value m w t o short low h fits behind v late =
     subst (λ (k : Marker). Arrived limit start f k o (ts ++ scalar_token style value ∷ [])) (sym (moved_append m w t))
     (reads_styled laws f style value (moved m w) t o short low h (fits_back m w t o fits)
-    (subst (λ (k : Marker). IsBehind f.indent k o) (moved_append m w t) behind) v late)
+    (subst (λ (k : Marker). EndsNodeAt f.indent k o) (moved_append m w t) behind) v late)

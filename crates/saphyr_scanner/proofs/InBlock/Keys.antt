@@ -6,10 +6,10 @@ use Rattle.saphyr_scalar.specs.declared.scalar.position.Marker.{Marker}
 use Rattle.saphyr_scalar.specs.Views.Cursor.{along}
 use Rattle.saphyr_scalar.specs.Steps.BlockRead.{spaces}
 use Rattle.saphyr_scalar.specs.Spelling.Tag.{AreIn}
-use Rattle.saphyr_scanner.specs.Steps.Core.{Candidate}
+use Rattle.saphyr_scanner.specs.Steps.Level.{Candidate}
 use Rattle.saphyr_scanner.specs.Grammar.Forest.{Node}
 use Rattle.saphyr_scanner.specs.Grammar.FlowNodes.{IsOnLine}
-use Rattle.saphyr_scanner.proofs.Flow.States.{moved, past, IsInk, Reads}
+use Rattle.saphyr_scanner.proofs.Flow.States.{moved, past, IsInk, ReaderPromises}
 use Rattle.saphyr_scanner.proofs.Flow.Places.{moved_append, moved_along}
 use Rattle.saphyr_scanner.proofs.Flow.Gaps.{right_tab as no_left_tab}
 use Rattle.saphyr_scanner.proofs.Flow.GapSteps.{past_ink}
@@ -18,7 +18,7 @@ use Rattle.saphyr_scanner.proofs.InFlow.States.{Around, least, least_low}
 use Rattle.saphyr_scanner.proofs.InFlow.KeyLines.{IsNear, not_far, deeper_at, is_required}
 use Rattle.saphyr_scanner.proofs.InFlow.KeyScalars.{colon_ink}
 use Rattle.saphyr_scanner.proofs.InFlow.Keys.{key_read, spaces_on_line, both_on_line}
-use Rattle.saphyr_scanner.proofs.InBlock.States.{Frame, Moment, moment_at, state_of, tabbed, Follows}
+use Rattle.saphyr_scanner.proofs.InBlock.States.{Frame, Moment, moment_at, state_of, tabbed, GoesOnAs}
 use Rattle.saphyr_scanner.proofs.InBlock.Follows.{goes_on}
 use Rattle.saphyr_scanner.proofs.InBlock.Statements.{ReadsKey}
 use Rattle.saphyr_input.proofs.Basics.Numbers.{le_next}
@@ -49,7 +49,7 @@ line_near m place t line short =
     further : (i l : ℕ) → l ≤ 1024 → i + l ≤ i + 1024
     further i l h = omega (arith, h)
 
-pub reads_key : Reads → (limit : ℕ) (node : Node) → ReadsKey limit node
+pub reads_key : ReaderPromises → (limit : ℕ) (node : Node) → ReadsKey limit node
 reads_key reads limit node f m t o n far h line apart short white fits start ts v allowed =
     let around = around_of limit f in
     let y = t ++ (spaces n ++ (58 ∷ o)) in
@@ -67,8 +67,8 @@ reads_key reads limit node f m t o n far h line apart short white fits start ts 
       required = is_required around (deeper_at around v.deeper m) m;
       comment = None;
     } in
-    let before : Follows limit start (state_of f (moment_at m y v.blank v.key true v.adjacent v.deeper) v.places) =
-    subst (λ (b : Bool). Follows limit start (state_of f (moment_at m y v.blank v.key b v.adjacent v.deeper) v.places))
+    let before : GoesOnAs limit start (state_of f (moment_at m y v.blank v.key true v.adjacent v.deeper) v.places) =
+    subst (λ (b : Bool). GoesOnAs limit start (state_of f (moment_at m y v.blank v.key b v.adjacent v.deeper) v.places))
     allowed v.follows in
     let place : moved (moved m t) (spaces n) ≡ moved m (t ++ spaces n) = sym (moved_append m t (spaces n)) in
     let right = a.right in

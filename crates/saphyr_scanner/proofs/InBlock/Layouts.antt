@@ -12,21 +12,21 @@ use Rattle.saphyr_scanner.specs.Grammar.Tokens.{Kind}
 use Rattle.saphyr_scanner.proofs.Breaks.Layouts.{no_return_left, scans_too}
 use Rattle.saphyr_scanner.proofs.Breaks.Normal.{beside, normal_shorter}
 use Rattle.saphyr_scanner.proofs.Flow.Inks.{node_ink, plain_key_node_ink}
-use Rattle.saphyr_scanner.proofs.Flow.States.{Reads}
+use Rattle.saphyr_scanner.proofs.Flow.States.{ReaderPromises}
 use Rattle.saphyr_scanner.proofs.InBlock.FlowNodes.{reads_flow}
 use Rattle.saphyr_scanner.proofs.InBlock.Keys.{reads_key}
 use Rattle.saphyr_scanner.proofs.InBlock.Properties.{reads_head, reads_properties}
 use Rattle.saphyr_scanner.proofs.InBlock.ScalarTexts.{ReadsBlocks, block_ink, scalar_ends}
 use Rattle.saphyr_scanner.proofs.InBlock.Scalars as scalars
-use Rattle.saphyr_scanner.proofs.InBlock.Statements.{Leaves}
+use Rattle.saphyr_scanner.proofs.InBlock.Statements.{ReadsLeaves}
 use Rattle.saphyr_scanner.proofs.InBlock.Streams.{layout_leads}
 use Rattle.saphyr_scanner.proofs.Lazy.{handed_out}
 use Rattle.saphyr_scanner.proofs.Effects.Readers.{Readers}
 
-pub leaves : Reads → ReadsBlocks → (limit : ℕ) → limit < 2 ^ 63 → Leaves limit
+pub leaves : ReaderPromises → ReadsBlocks → (limit : ℕ) → limit < 2 ^ 63 → ReadsLeaves limit
 leaves reads blocks limit short = record {
   flow = reads_flow reads limit short;
-  block_scalar = scalars.block_scalar blocks short (reads_head reads limit);
+  block_scalar = scalars.reads_block_scalars blocks short (reads_head reads limit);
   key = reads_key reads limit;
   properties = reads_properties reads limit short;
   key_ink = λ node indent t. plain_key_node_ink false indent node t;
@@ -36,7 +36,8 @@ leaves reads blocks limit short = record {
 }
 
 -- each text of the layout grammar gives tokens of its forest
-pub layout_scans : Readers → Reads → ReadsBlocks → (limit : ℕ) → limit < 2 ^ 63 → (forest : Forest) (text : List ℕ)
+pub layout_scans : Readers → ReaderPromises → ReadsBlocks → (limit : ℕ) → limit < 2 ^ 63
+    → (forest : Forest) (text : List ℕ)
     → HaveSameKinds (scan limit text) (scan limit (normalized text))
     → IsLayoutText most_open forest text → length text ≤ limit
     → (ts : List Kind) × Yields forest ts × Scans ts (scan limit text)

@@ -11,11 +11,11 @@ use Rattle.saphyr_scanner.specs.Grammar.Forest.{Properties, no_properties}
 use Rattle.saphyr_scanner.specs.Grammar.BlockNodes.{Position, BehindDash, BehindMark, BehindKey, BehindMarker, AtStart, indent_at, sequence_indent_at, IsLead}
 use Rattle.saphyr_scanner.proofs.Flow.States.{moved, past}
 use Rattle.saphyr_scanner.proofs.Flow.Places.{moved_append}
-use Rattle.saphyr_scanner.proofs.InBlock.Lines.{Fits, fits_so}
+use Rattle.saphyr_scanner.proofs.InBlock.Lines.{FitsOnLines, fits_so}
 use Rattle.saphyr_scanner.proofs.Flow.Inks.{BeginsInk}
 use Rattle.saphyr_scanner.proofs.InBlock.States.{Frame, crosses, is_compact, IsPlaced, At, Before}
 use Rattle.saphyr_scanner.proofs.InBlock.Skips.{IsSkipped, skipped_append, filler_skipped, spaces_skipped, line_end_skipped, line_end_crosses}
-use Rattle.saphyr_scanner.proofs.InBlock.Statements.{Leaves, IsNextLineText}
+use Rattle.saphyr_scanner.proofs.InBlock.Statements.{ReadsLeaves, IsNextLineText}
 use Rattle.saphyr_scanner.proofs.InBlock.Texts.{reaches, spaces_moved, indentation_col}
 use Rattle.std.proofs.Math.Bool.{or-true}
 
@@ -52,9 +52,9 @@ true_crosses : (place : Position) (t : List ℕ) → crosses t ≡ true → (is_
 true_crosses place t e = rw e (or-true (is_compact place))
 
 -- up to the first token of a collection, given its lead
-pub reads_lead : {limit : ℕ} → Leaves limit → (p : Properties) (place : Position) (least column : ℕ) (f : Frame)
+pub reads_lead : {limit : ℕ} → ReadsLeaves limit → (p : Properties) (place : Position) (least column : ℕ) (f : Frame)
     → f.indent ≡ indent_at place → (m : Marker) (lead y : List ℕ) → IsLead p place least column lead → BeginsInk y
-    → Fits limit m lead y → (start : State) (ts : List Kind) → Before limit start place f m (lead ++ y) ts
+    → FitsOnLines limit m lead y → (start : State) (ts : List Kind) → Before limit start place f m (lead ++ y) ts
     → LeadRead limit start p f (moved m lead) y ts
 reads_lead {limit} leaves p place least column f same m lead y
     (inl (front, end, filler, low, inl none, end_is, filler_is, e)) b fits start ts v =

@@ -70,16 +70,17 @@ pub line_unmarked : (c : ℕ) (cs : List ℕ) → (c == 45) ≡ false → (c == 
     → AreIn (λ c. not (c == line_feed)) (c ∷ cs) → IsUnmarked (c ∷ cs)
 line_unmarked c cs e f h at_start o = first_unmarked c cs o e f (words_unmarked (c ∷ cs) o h) at_start
 
-pub on_line : (set : ℕ → Bool) → ((c : ℕ) → IsTrue (set c) → IsTrue (not (c == line_feed))) → (w : List ℕ) → AreIn set w
+pub set_on_line : (set : ℕ → Bool) → ((c : ℕ) → IsTrue (set c) → IsTrue (not (c == line_feed))) → (w : List ℕ)
+    → AreIn set w
     → AreIn (λ c. not (c == line_feed)) w
-on_line set each [] h = tt
-on_line set each (c ∷ cs) h = (each c h.0, on_line set each cs h.1)
+set_on_line set each [] h = tt
+set_on_line set each (c ∷ cs) h = (each c h.0, set_on_line set each cs h.1)
 
 comment_unmarked : (t : List ℕ) → (t ≡ []) ⊎ IsComment t → IsUnmarked t
 comment_unmarked t (inl e) = subst IsUnmarked (sym e) (λ at_start o. refl)
 comment_unmarked t (inr (words, are, e)) =
     subst IsUnmarked (sym e)
-    (line_unmarked 35 words refl refl (refl, on_line is_yaml_non_break non_break_no_feed words are))
+    (line_unmarked 35 words refl refl (refl, set_on_line is_yaml_non_break non_break_no_feed words are))
 
 blanks_unmarked : (w : List ℕ) → AreIn is_blank w → IsUnmarked w
 blanks_unmarked [] h at_start o = refl

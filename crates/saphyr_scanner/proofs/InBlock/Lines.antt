@@ -93,12 +93,13 @@ later_line m a b h low =
 
 -- ## A piece that is clear and within the limit, where lines can be told
 
-pub record Fits (limit : ℕ) (m : Marker) (p o : List ℕ) : Type 0 where
+pub record FitsOnLines (limit : ℕ) (m : Marker) (p o : List ℕ) : Type 0 where
   pub clear : IsClear m p o
   pub below : m.index + length (p ++ o) ≤ limit
   pub lined : IsLined m
 
-pub fits_front : {limit : ℕ} (m : Marker) (a b o : List ℕ) → Fits limit m (a ++ b) o → Fits limit m a (b ++ o)
+pub fits_front : {limit : ℕ} (m : Marker) (a b o : List ℕ) → FitsOnLines limit m (a ++ b) o
+    → FitsOnLines limit m a (b ++ o)
 fits_front {limit} m a b o h =
     record {
       clear = clear_front m a b o h.clear;
@@ -107,15 +108,16 @@ fits_front {limit} m a b o h =
       lined = h.lined;
     }
 
-pub fits_back : {limit : ℕ} (m : Marker) (a b o : List ℕ) → Fits limit m (a ++ b) o → Fits limit (moved m a) b o
+pub fits_back : {limit : ℕ} (m : Marker) (a b o : List ℕ) → FitsOnLines limit m (a ++ b) o
+    → FitsOnLines limit (moved m a) b o
 fits_back {limit} m a b o h =
     let whole : m.index + length (a ++ (b ++ o)) ≤ limit = subst (λ (t : List ℕ). m.index + length t ≤ limit)
     (append_assoc a b o) h.below in
     let count = moved_count m a (b ++ o) in
     record { clear = clear_back m a b o h.clear; below = omega (arith, whole, count); lined = moved_lined m a h.lined }
 
-pub fits_so : {limit : ℕ} (m : Marker) (p q o : List ℕ) → p ≡ q → Fits limit m p o → Fits limit m q o
-fits_so {limit} m p q o e h = subst (λ (t : List ℕ). Fits limit m t o) e h
+pub fits_so : {limit : ℕ} (m : Marker) (p q o : List ℕ) → p ≡ q → FitsOnLines limit m p o → FitsOnLines limit m q o
+fits_so {limit} m p q o e h = subst (λ (t : List ℕ). FitsOnLines limit m t o) e h
 
-pub fits_before : {limit : ℕ} (m : Marker) (p o q : List ℕ) → o ≡ q → Fits limit m p o → Fits limit m p q
-fits_before {limit} m p o q e h = subst (Fits limit m p) e h
+pub fits_before : {limit : ℕ} (m : Marker) (p o q : List ℕ) → o ≡ q → FitsOnLines limit m p o → FitsOnLines limit m p q
+fits_before {limit} m p o q e h = subst (FitsOnLines limit m p) e h

@@ -10,10 +10,10 @@ use Rattle.saphyr_scanner.specs.Grammar.Forest.{Node, Pairs, NoPair, MorePairs}
 use Rattle.saphyr_scanner.specs.Grammar.BlockNodes.{IsBlockPair, IsBlockNode, ArePairs, AreOtherPairs}
 use Rattle.saphyr_scanner.proofs.Flow.States.{IsClear, moved, past}
 use Rattle.saphyr_scanner.proofs.Flow.Places.{moved_append, clear_here}
-use Rattle.saphyr_scanner.proofs.InBlock.Lines.{Fits, fits_front, fits_back, fits_so}
+use Rattle.saphyr_scanner.proofs.InBlock.Lines.{FitsOnLines, fits_front, fits_back, fits_so}
 use Rattle.saphyr_scanner.proofs.InBlock.States.{Frame, EndsDocument, At}
 use Rattle.saphyr_scanner.proofs.InBlock.Entries.{frame_behind}
-use Rattle.saphyr_scanner.proofs.InBlock.Statements.{IsBehind, ArrivedAt, Arrived, EndsWithLine, ReadsAt, Leaves, PairsRead}
+use Rattle.saphyr_scanner.proofs.InBlock.Statements.{EndsNodeAt, ArrivedAt, Arrived, EndsWithLine, ReadsAt, ReadsLeaves, PairsRead}
 use Rattle.saphyr_scanner.proofs.InBlock.Texts.{node_ends, pair_ends, behind_indented, indentation_skipped, indentation_col, reaches}
 use Rattle.saphyr_scanner.proofs.InBlock.BehindIndicators.{pair_ink, further_ink}
 use Rattle.saphyr_scanner.proofs.InBlock.Sequences.{StartsLine, starts_behind, not_empty, frame_indent, goes_on}
@@ -25,11 +25,11 @@ use Rattle.saphyr_scanner.proofs.InBlock.Pairs.{mapping_start, some_first, reads
 pair_text : (front pair others o : List ℕ) → (front ++ (pair ++ others)) ++ o ≡ front ++ (pair ++ (others ++ o))
 pair_text front pair others o = simp append_assoc
 
-pub other_pairs_behind : {limit : ℕ} → Leaves limit → (pairs : Pairs) (column : ℕ) (m : Marker) (t o : List ℕ)
-    → AreOtherPairs 255 pairs column t o → StartsLine m (t ++ o) → IsBehind (suc column) (moved m t) o
-    → IsBehind (suc column) m (t ++ o)
+pub other_pairs_behind : {limit : ℕ} → ReadsLeaves limit → (pairs : Pairs) (column : ℕ) (m : Marker) (t o : List ℕ)
+    → AreOtherPairs 255 pairs column t o → StartsLine m (t ++ o) → EndsNodeAt (suc column) (moved m t) o
+    → EndsNodeAt (suc column) m (t ++ o)
 other_pairs_behind leaves NoPair column m t o h starts behind =
-    subst (λ (x : List ℕ). IsBehind (suc column) (moved m x) o → IsBehind (suc column) m (x ++ o)) (sym h) (λ k. k)
+    subst (λ (x : List ℕ). EndsNodeAt (suc column) (moved m x) o → EndsNodeAt (suc column) m (x ++ o)) (sym h) (λ k. k)
     behind
 other_pairs_behind leaves (MorePairs key value pairs) column m t o (front, pair, others, front_is, h, k, e) starts
     behind =
@@ -39,13 +39,13 @@ other_pairs_behind leaves (MorePairs key value pairs) column m t o (front, pair,
     ∙ ap (λ (x : List ℕ). front ++ x) b.is in
     let first = some_first front b.others b.first in
     let col = not_empty m t o first.0 first.1 starts (text ∙ first.2) in
-    subst (IsBehind (suc column) m) (sym text) (behind_indented column m front b.first b.others front_is b.ink col)
+    subst (EndsNodeAt (suc column) m) (sym text) (behind_indented column m front b.first b.others front_is b.ink col)
 
 -- what is shown of the pairs behind the first
 abbrev pub ReadsOtherPairs : ℕ → Pairs → Type 0
 ReadsOtherPairs limit pairs =
     (g : Frame) (column : ℕ) → g.indent ≡ column + 1 → (m : Marker) (t o : List ℕ) → AreOtherPairs 255 pairs column t o
-    → Fits limit m t o → IsBehind (suc column) (moved m t) o → StartsLine m (t ++ o)
+    → FitsOnLines limit m t o → EndsNodeAt (suc column) (moved m t) o → StartsLine m (t ++ o)
     → (start : State) (ts : List Kind) → Arrived limit start g m (t ++ o) ts
     → PairsRead limit start pairs g (moved m t) o ts
 
@@ -78,7 +78,7 @@ least i col e = omega (arith, e)
 list_end : (ts us vs : List Kind) → ((ts ++ []) ++ us) ++ vs ≡ ts ++ (us ++ vs)
 list_end ts us vs = simp (append_assoc, append-nil)
 
-pub more_pairs : {limit : ℕ} → Leaves limit → (key value : Node) (pairs : Pairs)
+pub more_pairs : {limit : ℕ} → ReadsLeaves limit → (key value : Node) (pairs : Pairs)
     → ReadsAt limit key (IsBlockNode 255 key) → ReadsAt limit value (IsBlockNode 255 value)
     → ReadsOtherPairs limit pairs
     → ReadsOtherPairs limit (MorePairs key value pairs)
@@ -104,7 +104,7 @@ more_pairs {limit} leaves key value pairs K V more g column same m t o (front, p
     let fits_pair = fits_front n pair others o fits_pairs in
     let last = moved n pair in
     let end = ap (moved m) e ∙ moved_append m front (pair ++ others) ∙ moved_append n pair others in
-    let behind_o = subst (λ (x : Marker). IsBehind (suc column) x o) end behind in
+    let behind_o = subst (λ (x : Marker). EndsNodeAt (suc column) x o) end behind in
     let starts_z = starts_behind n pair z (ends key value n.col pair z is_pair) in
     let behind_z = other_pairs_behind leaves pairs column last others o k starts_z behind_o in
     let clear = clear_here n b.first b.others z (subst (λ (x : List ℕ). IsClear n x z) b.is fits_pair.clear) in
@@ -114,7 +114,7 @@ more_pairs {limit} leaves key value pairs K V more g column same m t o (front, p
     let width = same ∙ ap (λ (c : ℕ). c + 1) (sym col) in
     let r = reads_pair leaves key value K V g n false (next_not_within g.indent n.col width)
     (least g.indent n.col width) pair z is_pair fits_pair
-    (subst (λ (c : ℕ). IsBehind (suc c) last z) (sym col) behind_z) start ts at_pair.at ready.1 in
+    (subst (λ (c : ℕ). EndsNodeAt (suc c) last z) (sym col) behind_z) start ts at_pair.at ready.1 in
     let s = more g column same last others o k (fits_back n pair others o fits_pairs) behind_o starts_z start
     ((ts ++ []) ++ r.tokens) r.arrived in
     record {
@@ -132,12 +132,12 @@ more_pairs {limit} leaves key value pairs K V more g column same m t o (front, p
         (λ place u y i. node_ends leaves value place u y i) c pair z h
 
 -- from the first pair on
-pub reads_pairs : {limit : ℕ} → Leaves limit → (key value : Node) (pairs : Pairs)
+pub reads_pairs : {limit : ℕ} → ReadsLeaves limit → (key value : Node) (pairs : Pairs)
     → ReadsAt limit key (IsBlockNode 255 key) → ReadsAt limit value (IsBlockNode 255 value)
     → ReadsOtherPairs limit pairs
     → (f : Frame) (n : Marker) (further : Bool) → nat_le f.indent n.col ≡ further → f.indent ≤ n.col + 1
-    → (t o : List ℕ) → ArePairs 255 (MorePairs key value pairs) n.col t o → Fits limit n t o
-    → IsBehind (suc n.col) (moved n t) o
+    → (t o : List ℕ) → ArePairs 255 (MorePairs key value pairs) n.col t o → FitsOnLines limit n t o
+    → EndsNodeAt (suc n.col) (moved n t) o
     → (start : State) (ts : List Kind) (v : At limit start f n (t ++ o) ts) → v.allowed ≡ true
     → PairsRead limit start (MorePairs key value pairs) (frame_behind further n.col f) (moved n t) o
     (ts ++ mapping_start further)
@@ -149,7 +149,7 @@ reads_pairs {limit} leaves key value pairs K V more f n further e far t o (pair,
     let whole = fits_so n t (pair ++ others) o is fits in
     let last = moved n pair in
     let end = ap (moved n) is ∙ moved_append n pair others in
-    let behind_o = subst (λ (x : Marker). IsBehind (suc n.col) x o) end behind in
+    let behind_o = subst (λ (x : Marker). EndsNodeAt (suc n.col) x o) end behind in
     let starts_z = starts_behind n pair z
     (pair_ends key value (λ place u y i. node_ends leaves key place u y i)
     (λ place u y i. node_ends leaves value place u y i) n.col pair z h) in

@@ -12,13 +12,13 @@ use Rattle.saphyr_scanner.specs.Grammar.Forest.{Properties, Node, Alias, Scalar,
 use Rattle.saphyr_scanner.specs.Grammar.BlockNodes.{Position, BehindDash, BehindMark, BehindKey, BehindMarker, AtStart, indent_at, sequence_indent_at, IsLead, IsLeftOut, IsFlowInBlock, IsBlockNode, AreEntries, ArePairs}
 use Rattle.saphyr_scanner.proofs.Flow.States.{moved, past}
 use Rattle.saphyr_scanner.proofs.Flow.Places.{moved_append}
-use Rattle.saphyr_scanner.proofs.InBlock.Lines.{Fits, fits_front, fits_back, fits_so}
+use Rattle.saphyr_scanner.proofs.InBlock.Lines.{FitsOnLines, fits_front, fits_back, fits_so}
 use Rattle.saphyr_scanner.proofs.Flow.Fillers.{rest_past}
 use Rattle.saphyr_scanner.proofs.InBlock.States.{Frame, is_compact, EndsDocument, At, Before}
 use Rattle.saphyr_scanner.proofs.InBlock.Closing.{closes_block}
 use Rattle.saphyr_scanner.proofs.InBlock.Skips.{line_end_skipped, line_end_crosses, skipped_past}
 use Rattle.saphyr_scanner.proofs.InBlock.Entries.{frame_behind}
-use Rattle.saphyr_scanner.proofs.InBlock.Statements.{context_at, IsBehind, ArrivedAt, Arrived, NodeRead, ReadsAt, Leaves, allows_block}
+use Rattle.saphyr_scanner.proofs.InBlock.Statements.{context_at, EndsNodeAt, ArrivedAt, Arrived, NodeRead, ReadsAt, ReadsLeaves, place_allows_block}
 use Rattle.saphyr_scanner.proofs.InBlock.Texts.{behind_wider}
 use Rattle.saphyr_scanner.proofs.InBlock.BehindIndicators.{entries_ink, pairs_ink, further_ink}
 use Rattle.saphyr_scanner.proofs.InBlock.Leads.{reads_lead, lead_col, mapping_least, sequence_least}
@@ -122,7 +122,7 @@ IsBlockSequence p nodes place t o =
     (m : ℕ) × (lead entries : List ℕ) × IsLead p place (sequence_indent_at place) m lead
     × AreEntries 255 nodes m entries o × (t ≡ lead ++ entries)
 
-reads_sequence : {limit : ℕ} → Leaves limit → (p : Properties) (node : Node) (nodes : Nodes)
+reads_sequence : {limit : ℕ} → ReadsLeaves limit → (p : Properties) (node : Node) (nodes : Nodes)
     → ReadsAt limit node (IsBlockNode 255 node) → ReadsOthers limit nodes
     → ReadsAt limit (Seq p (MoreNodes node nodes)) (IsBlockSequence p (MoreNodes node nodes))
 reads_sequence {limit} leaves p node nodes reads more place f same m t o (column, lead, entries, lead_is, h, e) fits
@@ -137,7 +137,7 @@ reads_sequence {limit} leaves p node nodes reads more place f same m t o (column
     text : t ++ o ≡ lead ++ (entries ++ o)
     text = ap (λ (x : List ℕ). x ++ o) e ∙ append_assoc lead entries o
 
-    whole : Fits limit m (lead ++ entries) o
+    whole : FitsOnLines limit m (lead ++ entries) o
     whole = fits_so m t (lead ++ entries) o e fits
 
     end : moved m t ≡ moved n entries
@@ -158,8 +158,8 @@ reads_sequence {limit} leaves p node nodes reads more place f same m t o (column
         by_suc : (i c : ℕ) → i ≤ c + 1 → i ≤ suc c
         by_suc i c h = omega (arith, h)
 
-    behind_o : IsBehind f.indent (moved n entries) o
-    behind_o = subst (λ (x : Marker). IsBehind f.indent x o) end behind
+    behind_o : EndsNodeAt f.indent (moved n entries) o
+    behind_o = subst (λ (x : Marker). EndsNodeAt f.indent x o) end behind
 
     by_column : (further : Bool) → nat_le f.indent n.col ≡ further
         → NodeRead limit start (Seq p (MoreNodes node nodes)) place f (moved m t) o ts
@@ -181,7 +181,7 @@ reads_sequence {limit} leaves p node nodes reads more place f same m t o (column
             tokens.BlockSequenceStart
                 ∷ (r.tokens ++ tokens.BlockEnd ∷ []),
             l.are,
-            inr (inl (allows_block place, (r.tokens, r.are, refl))),
+            inr (inl (place_allows_block place, (r.tokens, r.are, refl))),
             refl,
           );
           arrived = subst (λ (x : Marker). Arrived limit start f x o
@@ -218,7 +218,7 @@ IsBlockMapping p pairs place t o =
     (m : ℕ) × (lead entries : List ℕ) × IsLead p place (indent_at place) m lead × ArePairs 255 pairs m entries o
     × (t ≡ lead ++ entries)
 
-reads_mapping : {limit : ℕ} → Leaves limit → (p : Properties) (key value : Node) (pairs : Pairs)
+reads_mapping : {limit : ℕ} → ReadsLeaves limit → (p : Properties) (key value : Node) (pairs : Pairs)
     → ReadsAt limit key (IsBlockNode 255 key) → ReadsAt limit value (IsBlockNode 255 value)
     → ReadsOtherPairs limit pairs
     → ReadsAt limit (Map p (MorePairs key value pairs)) (IsBlockMapping p (MorePairs key value pairs))
@@ -231,7 +231,7 @@ reads_mapping {limit} leaves p key value pairs K V more place f same m t o (colu
     let end = ap (moved m) e ∙ moved_append m lead entries in
     let low : f.indent ≤ n.col = subst (λ (c : ℕ). f.indent ≤ c) (sym col)
     (subst (λ (i : ℕ). i ≤ column) (sym same) (mapping_least p place column lead lead_is)) in
-    let behind_o = subst (λ (x : Marker). IsBehind f.indent x o) end behind in
+    let behind_o = subst (λ (x : Marker). EndsNodeAt f.indent x o) end behind in
     let l = reads_lead leaves p place (indent_at place) column f same m lead (entries ++ o) lead_is
     (further_ink entries o (pairs_ink leaves (MorePairs key value pairs) column entries o h))
     (fits_front m lead entries o whole) start ts
@@ -249,7 +249,7 @@ reads_mapping {limit} leaves p key value pairs K V more place f same m t o (colu
         tokens.BlockMappingStart
             ∷ (r.tokens ++ tokens.BlockEnd ∷ []),
         l.are,
-        inr (allows_block place, (r.tokens, r.are, refl)),
+        inr (place_allows_block place, (r.tokens, r.are, refl)),
         refl,
       );
       arrived = subst (λ (x : Marker). Arrived limit start f x o
@@ -283,7 +283,7 @@ no_mapping : (limit : ℕ) (p : Properties) → ReadsAt limit (Map p NoPair) (Is
 no_mapping limit p place f same m t o (column, lead, entries, lead_is, h, e) fits behind start ts v = absurd h
 
 mutual
-  pub reads_node : {limit : ℕ} → Leaves limit → (node : Node) → ReadsAt limit node (IsBlockNode 255 node)
+  pub reads_node : {limit : ℕ} → ReadsLeaves limit → (node : Node) → ReadsAt limit node (IsBlockNode 255 node)
   reads_node leaves (Alias name) = leaves.flow (Alias name)
   reads_node {limit} leaves (Scalar p style value) =
       reads_either limit (Scalar p style value) (IsLeftOut (Scalar p style value)) _
@@ -306,12 +306,12 @@ mutual
       (reads_mapping leaves p key value pairs (reads_node leaves key) (reads_node leaves value)
       (reads_other_pairs leaves pairs))
 
-  reads_others : {limit : ℕ} → Leaves limit → (nodes : Nodes) → ReadsOthers limit nodes
+  reads_others : {limit : ℕ} → ReadsLeaves limit → (nodes : Nodes) → ReadsOthers limit nodes
   reads_others leaves NoNode = no_others
   reads_others leaves (MoreNodes node nodes) =
       more_others leaves node nodes (reads_node leaves node) (reads_others leaves nodes)
 
-  reads_other_pairs : {limit : ℕ} → Leaves limit → (pairs : Pairs) → ReadsOtherPairs limit pairs
+  reads_other_pairs : {limit : ℕ} → ReadsLeaves limit → (pairs : Pairs) → ReadsOtherPairs limit pairs
   reads_other_pairs leaves NoPair = no_other_pairs
   reads_other_pairs leaves (MorePairs key value pairs) =
       more_pairs leaves key value pairs (reads_node leaves key) (reads_node leaves value)

@@ -4,7 +4,7 @@ use Rattle.std.specs.Prelude.{◌≢◌, nat_le, if◌then◌else◌}
 use Rattle.saphyr_scalar.specs.declared.scalar.position.Marker.{Marker}
 use Rattle.saphyr_scalar.specs.Steps.BlockRead.{spaces}
 use Rattle.saphyr_scalar.specs.Views.Cursor.{along}
-use Rattle.saphyr_scanner.specs.Steps.Queue.{closed}
+use Rattle.saphyr_scanner.specs.Steps.Queue.{bare_place}
 use Rattle.saphyr_scanner.specs.Steps.State.{State}
 use Rattle.saphyr_scanner.specs.Grammar.Tokens as tokens
 use Rattle.saphyr_scanner.specs.Grammar.Tokens.{Kind}
@@ -14,12 +14,12 @@ use Rattle.saphyr_scanner.specs.Grammar.FlowNodes.{IsOnLine, IsBeforeColon, IsKe
 use Rattle.saphyr_scanner.specs.Grammar.BlockNodes.{BehindMark, BehindKey, IsEntryIndentation, IsImplicitPair, IsKeyAlone, IsMarkedPair, IsBlockPair, IsBlockNode}
 use Rattle.saphyr_scanner.proofs.Flow.States.{IsInk, moved, past}
 use Rattle.saphyr_scanner.proofs.Flow.Places.{moved_append, moved_along}
-use Rattle.saphyr_scanner.proofs.InBlock.Lines.{Fits, fits_front, fits_back, fits_so}
+use Rattle.saphyr_scanner.proofs.InBlock.Lines.{FitsOnLines, fits_front, fits_back, fits_so}
 use Rattle.saphyr_scanner.proofs.InBlock.States.{Frame, EndsDocument, At, Before}
 use Rattle.saphyr_scanner.proofs.InBlock.Entries.{BeginsWhite, frame_behind}
 use Rattle.saphyr_scanner.proofs.InBlock.Questions.{key_kinds, reads_question}
 use Rattle.saphyr_scanner.proofs.InBlock.Colons.{reads_value, reads_colon}
-use Rattle.saphyr_scanner.proofs.InBlock.Statements.{IsBehind, ArrivedAt, Arrived, as_optional, ReadsAt, Leaves}
+use Rattle.saphyr_scanner.proofs.InBlock.Statements.{EndsNodeAt, ArrivedAt, Arrived, as_optional, ReadsAt, ReadsLeaves}
 use Rattle.saphyr_scanner.proofs.InBlock.Texts.{node_ends, behind_indented, indentation_skipped, indentation_col, reaches, spaces_moved}
 use Rattle.saphyr_scanner.proofs.InBlock.BehindIndicators.{node_behind}
 use Rattle.saphyr_scanner.proofs.InBlock.TabsAhead.{no_tab_ahead}
@@ -43,7 +43,7 @@ mapping_start further = if further then tokens.BlockMappingStart ∷ [] else []
 abbrev pub ReadsPair : ℕ → Node → Node → (ℕ → List ℕ → List ℕ → Type 0) → Type 0
 ReadsPair limit key value Is =
     (f : Frame) (n : Marker) (further : Bool) → nat_le f.indent n.col ≡ further → f.indent ≤ n.col + 1 → (t z : List ℕ)
-    → Is n.col t z → Fits limit n t z → IsBehind (suc n.col) (moved n t) z
+    → Is n.col t z → FitsOnLines limit n t z → EndsNodeAt (suc n.col) (moved n t) z
     → (start : State) (ts : List Kind) (v : At limit start f n (t ++ z) ts) → v.allowed ≡ true
     → PairRead limit start key value (frame_behind further n.col f) (moved n t) z (ts ++ mapping_start further)
 
@@ -62,7 +62,7 @@ implicit_list : (further : Bool) (ts us vs : List Kind)
 implicit_list true ts us vs = simp append_assoc
 implicit_list false ts us vs = simp (append_assoc, append-nil)
 
-reads_implicit : {limit : ℕ} → Leaves limit → (key value : Node) → ReadsAt limit value (IsBlockNode 255 value)
+reads_implicit : {limit : ℕ} → ReadsLeaves limit → (key value : Node) → ReadsAt limit value (IsBlockNode 255 value)
     → ReadsPair limit key value (IsImplicitPair 255 key (IsBlockNode 255 value))
 reads_implicit {limit} leaves key value V f n further e far t z
     (node, between, v, node_is, line, (k, least, spaced), before, short, h, is) fits behind start ts at_key allowed =
@@ -75,7 +75,7 @@ reads_implicit {limit} leaves key value V f n further e far t z
     let whole = fits_so n t ((node ++ spaces k) ++ (58 ∷ v)) z inside fits in
     let fits_colon = fits_back n (node ++ spaces k) (58 ∷ v) z whole in
     let end = ap (moved n) inside ∙ moved_append n (node ++ spaces k) (58 ∷ v) in
-    let behind_v = subst (λ (x : Marker). IsBehind (suc n.col) x z) end behind in
+    let behind_v = subst (λ (x : Marker). EndsNodeAt (suc n.col) x z) end behind in
     let ahead = node_behind leaves value (BehindKey n.col) v z refl h behind_v.clean in
     let p = subst (λ (y : List ℕ). (w : At limit start f n y ts) × (w.allowed ≡ true)) text (at_key, allowed) in
     let r = leaves.key key f n node (v ++ z) k far
@@ -84,12 +84,13 @@ reads_implicit {limit} leaves key value V f n further e far t z
     ahead.first
     (fits_front n (node ++ spaces k) (58 ∷ v) z whole) start ts p.0 p.1 in
     let right : n.col ≤ m.col = further_right n node k line in
-    let b = reads_colon f r.moment r.places r.others (closed r.key ∷ r.others) r.key n m (v ++ z) ts r.tokens further e
+    let b = reads_colon f r.moment r.places r.others (bare_place r.key ∷ r.others) r.key n m (v ++ z) ts r.tokens
+    further e
     far r.follows refl r.first r.are r.candidate r.quiet r.lands r.untabbed r.near right ahead fits_colon.below
     r.low in
     let s = V (BehindKey n.col) g (frame_same further f n.col e far) (along m 1) v z h
     (fits_back m (58 ∷ []) v z fits_colon)
-    (subst (λ (i : ℕ). IsBehind i (moved (along m 1) v) z) (sym (frame_same further f n.col e far)) behind_v) start
+    (subst (λ (i : ℕ). EndsNodeAt i (moved (along m 1) v) z) (sym (frame_same further f n.col e far)) behind_v) start
     (ts ++ (key_kinds further ++ (r.tokens ++ tokens.Value ∷ []))) b in
     record {
       tokens = (tokens.Key ∷ r.tokens) ++ (tokens.Value ∷ s.tokens);
@@ -129,7 +130,7 @@ alone_list : (further : Bool) (ts us : List Kind)
 alone_list true ts us = simp append_assoc
 alone_list false ts us = simp (append_assoc, append-nil)
 
-reads_alone : {limit : ℕ} → Leaves limit → (key value : Node) → ReadsAt limit key (IsBlockNode 255 key)
+reads_alone : {limit : ℕ} → ReadsLeaves limit → (key value : Node) → ReadsAt limit key (IsBlockNode 255 key)
     → ReadsPair limit key value (IsKeyAlone value (IsBlockNode 255 key))
 reads_alone {limit} leaves key value K f n further e far t z (node, out, some, h, is) fits behind start ts at_mark
     allowed =
@@ -137,14 +138,14 @@ reads_alone {limit} leaves key value K f n further e far t z (node, out, some, h
     let text : t ++ z ≡ 63 ∷ (node ++ z) = ap (λ (x : List ℕ). x ++ z) is in
     let whole = fits_so n t ((63 ∷ []) ++ node) z is fits in
     let end = ap (moved n) is in
-    let behind_k = subst (λ (x : Marker). IsBehind (suc n.col) x z) end behind in
+    let behind_k = subst (λ (x : Marker). EndsNodeAt (suc n.col) x z) end behind in
     let ahead = node_behind leaves key (BehindMark n.col) node z refl h behind_k.clean in
     let p = subst (λ (y : List ℕ). (w : At limit start f n y ts) × (w.allowed ≡ true)) text (at_mark, allowed) in
     let b = reads_question f n (node ++ z) further e far (some_white node z some.0 ahead.white)
     (no_tab_ahead (node ++ z) some.1) whole.below p.0 p.1 in
     let r = K (BehindMark n.col) g (frame_same further f n.col e far) (along n 1) node z h
     (fits_back n (63 ∷ []) node z whole)
-    (subst (λ (i : ℕ). IsBehind i (moved (along n 1) node) z) (sym (frame_same further f n.col e far)) behind_k) start
+    (subst (λ (i : ℕ). EndsNodeAt i (moved (along n 1) node) z) (sym (frame_same further f n.col e far)) behind_k) start
     (ts ++ key_kinds further) b in
     record {
       tokens = tokens.Key ∷ r.tokens;
@@ -174,7 +175,7 @@ marked_list : (further : Bool) (ts us vs : List Kind)
 marked_list true ts us vs = simp append_assoc
 marked_list false ts us vs = simp (append_assoc, append-nil)
 
-reads_marked : {limit : ℕ} → Leaves limit → (key value : Node) → ReadsAt limit key (IsBlockNode 255 key)
+reads_marked : {limit : ℕ} → ReadsLeaves limit → (key value : Node) → ReadsAt limit key (IsBlockNode 255 key)
     → ReadsAt limit value (IsBlockNode 255 value)
     → ReadsPair limit key value (IsMarkedPair (IsBlockNode 255 key) (IsBlockNode 255 value))
 reads_marked {limit} leaves key value K V f n further e far t z
@@ -195,7 +196,8 @@ reads_marked {limit} leaves key value K V f n further e far t z
     let c = moved k w in
     let colon_v : colon ++ v ≡ w ++ (58 ∷ v) = ap (λ (x : List ℕ). x ++ v) colon_parts ∙ append_assoc w (58 ∷ []) v in
     let fits_node = fits_front (along n 1) node (colon ++ v) z fits_in in
-    let fits_key : Fits limit (along n 1) node y = subst (Fits limit (along n 1) node) (append_assoc colon v z)
+    let fits_key : FitsOnLines limit (along n 1) node y =
+    subst (FitsOnLines limit (along n 1) node) (append_assoc colon v z)
     fits_node in
     let fits_rest = fits_so k (colon ++ v) (w ++ (58 ∷ v)) z colon_v
     (fits_back (along n 1) node (colon ++ v) z fits_in) in
@@ -205,19 +207,19 @@ reads_marked {limit} leaves key value K V f n further e far t z
     let line = not_empty k [] y first.0 first.1 starts (y_is ∙ first.2) in
     let indented : IsEntryIndentation n.col w = (filler, filler_is, refl) in
     let col : c.col ≡ n.col = indentation_col k n.col w indented line in
-    let behind_k = subst (IsBehind (suc n.col) k) (sym y_is)
+    let behind_k = subst (EndsNodeAt (suc n.col) k) (sym y_is)
     (behind_indented n.col k w 58 (v ++ z) indented colon_ink line) in
     let ahead_k = node_behind leaves key (BehindMark n.col) node y refl h behind_k.clean in
     let end = ap (moved n) is ∙ moved_append (along n 1) node (colon ++ v) ∙ ap (moved k) colon_v
     ∙ moved_append k w (58 ∷ v) in
-    let behind_v = subst (λ (x : Marker). IsBehind (suc n.col) x z) end behind in
+    let behind_v = subst (λ (x : Marker). EndsNodeAt (suc n.col) x z) end behind in
     let ahead_v = node_behind leaves value (BehindMark n.col) v z refl j behind_v.clean in
     let p = subst (λ (x : List ℕ). (u : At limit start f n x ts) × (u.allowed ≡ true)) text (at_mark, allowed) in
     let b = reads_question f n (node ++ y) further e far (some_white node y some.0 ahead_k.white)
     (no_tab_ahead (node ++ y) some.1)
     (subst (λ (x : List ℕ). n.index + length x ≤ limit) text fits.below) p.0 p.1 in
     let r = K (BehindMark n.col) g same (along n 1) node y h fits_key
-    (subst (λ (i : ℕ). IsBehind i k y) (sym same) behind_k) start (ts ++ key_kinds further) b in
+    (subst (λ (i : ℕ). EndsNodeAt i k y) (sym same) behind_k) start (ts ++ key_kinds further) b in
     let us = (ts ++ key_kinds further) ++ r.tokens in
     let there : past 0 k y ≡ (c, 58 ∷ (v ++ z)) = ap (past 0 k) y_is
     ∙ reaches k w 58 (v ++ z) (indentation_skipped n.col w indented) colon_ink in
@@ -226,7 +228,7 @@ reads_marked {limit} leaves key value K V f n further e far t z
     let before_v = reads_value g c (v ++ z) (same ∙ sym (suc_is n.col) ∙ ap (λ (i : ℕ). i + 1) (sym col)) ahead_v
     fits_colon.below at_colon.at ready.0 ready.1 in
     let s = V (BehindMark n.col) g same (along c 1) v z j (fits_back c (58 ∷ []) v z fits_colon)
-    (subst (λ (i : ℕ). IsBehind i (moved (along c 1) v) z) (sym same) behind_v) start (us ++ tokens.Value ∷ [])
+    (subst (λ (i : ℕ). EndsNodeAt i (moved (along c 1) v) z) (sym same) behind_v) start (us ++ tokens.Value ∷ [])
     (subst (λ (i : ℕ). Before limit start (BehindMark i) g (along c 1) (v ++ z) (us ++ tokens.Value ∷ [])) col
     before_v) in
     record {
@@ -245,7 +247,7 @@ reads_marked {limit} leaves key value K V f n further e far t z
           (subst (Arrived limit start g (moved (along c 1) v) z) (marked_list further ts r.tokens s.tokens) s.arrived);
     }
 
-pub reads_pair : {limit : ℕ} → Leaves limit → (key value : Node) → ReadsAt limit key (IsBlockNode 255 key)
+pub reads_pair : {limit : ℕ} → ReadsLeaves limit → (key value : Node) → ReadsAt limit key (IsBlockNode 255 key)
     → ReadsAt limit value (IsBlockNode 255 value)
     → ReadsPair limit key value (IsBlockPair 255 key value (IsBlockNode 255 key) (IsBlockNode 255 value))
 reads_pair leaves key value K V f n further e far t z (inl h) fits behind start ts v allowed =

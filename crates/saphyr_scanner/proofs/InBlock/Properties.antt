@@ -8,25 +8,26 @@ use Rattle.saphyr_scalar.specs.declared.scalar.position.Marker.{Marker}
 use Rattle.saphyr_scalar.specs.Steps.BlockRead.{spaces}
 use Rattle.saphyr_scalar.specs.Spelling.Spaces.{AreSpaces, IsLineRest}
 use Rattle.saphyr_scalar.proofs.NoBreaks.{NoBreaks}
-use Rattle.saphyr_scanner.specs.Steps.Core.{Candidate, is_too_far}
+use Rattle.saphyr_scanner.specs.Steps.Core.{is_too_far}
+use Rattle.saphyr_scanner.specs.Steps.Level.{Candidate}
 use Rattle.saphyr_scanner.specs.Grammar.Forest.{Tag}
 use Rattle.saphyr_scanner.specs.Grammar.FlowNodes.{AreProperties}
 use Rattle.saphyr_scanner.specs.Grammar.BlockNodes.{Position as Position, IsGapAt, AreSpacesAt}
 use Rattle.saphyr_scanner.specs.Steps.State.{State}
 use Rattle.saphyr_scanner.specs.Grammar.Tokens.{Kind, anchor_token, tag_token}
 use Rattle.saphyr_scanner.specs.Grammar.TokenGrammar as grammar
-use Rattle.saphyr_scanner.proofs.Flow.States.{moved, past, Reads}
+use Rattle.saphyr_scanner.proofs.Flow.States.{moved, past, ReaderPromises}
 use Rattle.saphyr_scanner.proofs.Flow.Inks.{BeginsInk, properties_ink}
 use Rattle.saphyr_scanner.proofs.Flow.Names.{unbroken_along}
 use Rattle.saphyr_scanner.proofs.Flow.Places.{moved_append}
 use Rattle.saphyr_scanner.proofs.InBlock.States.{Frame, crosses, At}
 use Rattle.saphyr_scanner.proofs.InBlock.Skips.{IsSkipped, IsClean, skipped_clean, skipped_append, spaces_skipped, line_end_skipped, line_end_crosses, filler_skipped, are_spaces_skipped}
-use Rattle.saphyr_scanner.proofs.InBlock.Lines.{later_line, Fits, fits_front, fits_back, fits_before}
+use Rattle.saphyr_scanner.proofs.InBlock.Lines.{later_line, FitsOnLines, fits_front, fits_back, fits_before}
 use Rattle.saphyr_scanner.proofs.InBlock.Statements.{IsNextLineText, PropertiesRead, ReadsProperties}
 use Rattle.saphyr_scanner.proofs.InBlock.Texts.{spaces_moved, ink_clean, reaches}
 use Rattle.saphyr_scanner.proofs.InBlock.BehindIndicators.{further_ink}
 use Rattle.saphyr_scanner.proofs.Documents.Lines.{rest_first}
-use Rattle.saphyr_scanner.proofs.InBlock.HeaderScalars.{IsLate}
+use Rattle.saphyr_scanner.proofs.InBlock.HeaderScalars.{IsOnLineOrBefore}
 use Rattle.saphyr_scanner.proofs.InBlock.Scalars.{HeadRead, ReadsHead, gap_reaches, lands_behind, unbroken_properties, none_late}
 use Rattle.saphyr_scanner.proofs.Flow.Properties.{space_first}
 use Rattle.saphyr_scanner.proofs.Taken.States.{too_far}
@@ -57,12 +58,13 @@ unbroken_line m a b h (n, some, e) =
 two_read : {limit : ℕ} {start : State} {ts : List Kind} (f : Frame) (j k : Kind) (a b w : List ℕ)
     → TokenReads limit start f j a → TokenReads limit start f k w → NoBreaks a → BeginsInk w → AreSpaces 1 b
     → (m : Marker) (o : List ℕ) → f.indent ≤ m.col → IsClean o → IsTrue (is_blank_or_breakz (slice_index o 0))
-    → Fits limit m (a ++ (b ++ w)) o → (v : At limit start f m ((a ++ (b ++ w)) ++ o) ts) → IsLate v.key m
+    → FitsOnLines limit m (a ++ (b ++ w)) o → (v : At limit start f m ((a ++ (b ++ w)) ++ o) ts)
+    → IsOnLineOrBefore v.key m
     → TokenRead limit start f m (moved m (a ++ (b ++ w))) o (ts ++ j ∷ k ∷ [])
 two_read {limit} {start} {ts} f j k a b w first second whole ink spaced m o low clean white fits v late =
     let text : (a ++ (b ++ w)) ++ o ≡ a ++ (b ++ (w ++ o)) = append_assoc a (b ++ w) o
     ∙ ap (λ (x : List ℕ). a ++ x) (append_assoc b w o) in
-    let P : List ℕ → Type 0 = λ x. (u : At limit start f m x ts) × IsLate u.key m in
+    let P : List ℕ → Type 0 = λ x. (u : At limit start f m x ts) × IsOnLineOrBefore u.key m in
     let u = subst P text (v, late) in
     let behind = further_ink w o ink in
     let skipped = are_spaces_skipped 1 b spaced in
@@ -70,7 +72,7 @@ two_read {limit} {start} {ts} f j k a b w first second whole ink spaced m o low 
     let r = first m ts (b ++ (w ++ o)) low (skipped_clean b (w ++ o) skipped (clean_ink (w ++ o) behind))
     (space_first b (w ++ o) spaced)
     (fits_before m a ((b ++ w) ++ o) (b ++ (w ++ o)) (append_assoc b w o) (fits_front m a (b ++ w) o fits)) u.0 u.1 in
-    let Q : Marker × List ℕ → Type 0 = λ q. (u : At limit start f q.0 q.1 (ts ++ j ∷ [])) × IsLate u.key m in
+    let Q : Marker × List ℕ → Type 0 = λ q. (u : At limit start f q.0 q.1 (ts ++ j ∷ [])) × IsOnLineOrBefore u.key m in
     let z = subst Q (lands_on (moved m a) b (w ++ o) skipped behind) (r.at, r.late) in
     let line = unbroken_line m a b whole spaced in
     let reach = line.1 in
@@ -84,17 +86,18 @@ two_read {limit} {start} {ts} f j k a b w first second whole ink spaced m o low 
 
 -- ## Properties
 
-record Passed (limit : ℕ) (start : State) (anchor : Option (List ℕ)) (tag : Option Tag) (f : Frame) (m : Marker)
+record PassesProperties (limit : ℕ) (start : State) (anchor : Option (List ℕ)) (tag : Option Tag) (f : Frame)
+    (m : Marker)
     (t o : List ℕ) (ts : List Kind) : Type 0 where
   tokens : List Kind
   are : grammar.AreBoth (option_map anchor_token anchor) (option_map tag_token tag) tokens
   read : TokenRead limit start f m (moved m t) o (ts ++ tokens)
 
-properties_passed : Reads → {limit : ℕ} {start : State} {ts : List Kind} (f : Frame) (anchor : Option (List ℕ))
+properties_passed : ReaderPromises → {limit : ℕ} {start : State} {ts : List Kind} (f : Frame) (anchor : Option (List ℕ))
     (tag : Option Tag) (t : List ℕ) → AreProperties anchor tag t
     → (m : Marker) (o : List ℕ) → f.indent ≤ m.col → IsClean o → IsTrue (is_blank_or_breakz (slice_index o 0))
-    → Fits limit m t o → (v : At limit start f m (t ++ o) ts) → IsLate v.key m
-    → Passed limit start anchor tag f m t o ts
+    → FitsOnLines limit m t o → (v : At limit start f m (t ++ o) ts) → IsOnLineOrBefore v.key m
+    → PassesProperties limit start anchor tag f m t o ts
 properties_passed reads f None None t h m o low clean white fits v late = absurd h
 properties_passed reads {ts = ts} f (Some name) None t h m o low clean white fits v late =
     record {
@@ -119,9 +122,11 @@ properties_passed reads {limit} {start} {ts} f (Some name) (Some tag) t (a, b, w
     tag_part : TokenReads limit start f (tag_token tag) w
     tag_part = tag_reads reads f tag w k
 
-    by_order : (t ≡ a ++ (b ++ w)) ⊎ (t ≡ w ++ (b ++ a)) → Passed limit start (Some name) (Some tag) f m t o ts
+    by_order : (t ≡ a ++ (b ++ w)) ⊎ (t ≡ w ++ (b ++ a))
+        → PassesProperties limit start (Some name) (Some tag) f m t o ts
     by_order (inl e) =
-        let P : List ℕ → Type 0 = λ x. Fits limit m x o → (u : At limit start f m (x ++ o) ts) → IsLate u.key m
+        let P : List ℕ → Type 0 = λ x. FitsOnLines limit m x o → (u : At limit start f m (x ++ o) ts)
+        → IsOnLineOrBefore u.key m
         → TokenRead limit start f m (moved m x) o (ts ++ anchor_token name ∷ tag_token tag ∷ []) in
         let there = subst P (sym e)
         (two_read f (anchor_token name) (tag_token tag) a b w anchor_part tag_part
@@ -129,7 +134,8 @@ properties_passed reads {limit} {start} {ts} f (Some name) (Some tag) t (a, b, w
         (properties_ink (record { anchor = None; tag = Some tag }) w k) spaced m o low clean white) in
         record { tokens = anchor_token name ∷ tag_token tag ∷ []; are = inl refl; read = there fits v late }
     by_order (inr e) =
-        let P : List ℕ → Type 0 = λ x. Fits limit m x o → (u : At limit start f m (x ++ o) ts) → IsLate u.key m
+        let P : List ℕ → Type 0 = λ x. FitsOnLines limit m x o → (u : At limit start f m (x ++ o) ts)
+        → IsOnLineOrBefore u.key m
         → TokenRead limit start f m (moved m x) o (ts ++ tag_token tag ∷ anchor_token name ∷ []) in
         let there = subst P (sym e)
         (two_read f (tag_token tag) (anchor_token name) w b a tag_part anchor_part
@@ -139,7 +145,7 @@ properties_passed reads {limit} {start} {ts} f (Some name) (Some tag) t (a, b, w
 
 -- ## Before a header
 
-pub reads_head : Reads → (limit : ℕ) → ReadsHead limit
+pub reads_head : ReaderPromises → (limit : ℕ) → ReadsHead limit
 reads_head reads limit p place f same m gap t between y gap_is h spaced ink fits start ts before =
     let n = moved m gap in
     let o = between ++ y in
@@ -151,7 +157,8 @@ reads_head reads limit p place f same m gap t between y gap_is h spaced ink fits
     (none_late l.0.key n l.1) in
     let line = unbroken_line n t between (unbroken_properties p.anchor p.tag t h) spaced in
     let q = moved (moved n t) between in
-    let Q : Marker × List ℕ → Type 0 = λ x. (u : At limit start f x.0 x.1 (ts ++ r.tokens)) × IsLate u.key q in
+    let Q : Marker × List ℕ → Type 0 = λ x. (u : At limit start f x.0 x.1 (ts ++ r.tokens))
+    × IsOnLineOrBefore u.key q in
     let z = subst Q (lands_on (moved n t) between y skipped ink)
     (r.read.at, late_same r.read.at.key n q line.0 r.read.late) in
     let here : HeadRead limit start p f q y ts = record { tokens = r.tokens; are = r.are; at = z.0; late = z.1 } in
@@ -165,7 +172,8 @@ gap_of place t (inl h) = inl (inl h)
 gap_of place t (inr (first, (zero, low, e))) = inr (first, e)
 gap_of place t (inr (first, (suc n, low, e))) = inl (inl (suc n, omega arith, e))
 
-late_key_left : (k : Option Candidate) (m n : Marker) → IsLate k m → m.line < n.line → is_too_far k n ≡ false → k ≡ None
+late_key_left : (k : Option Candidate) (m n : Marker) → IsOnLineOrBefore k m → m.line < n.line → is_too_far k n ≡ false
+    → k ≡ None
 late_key_left None m n late h near = refl
 late_key_left (Some k) m n late h near =
     absurd (let e : true ≡ false = sym (too_far k n (omega (arith, late, h))) ∙ near in cc)
@@ -205,7 +213,7 @@ lines_behind w y (end, filler, n, (rest, rest_is, end_is), filler_is, e) ink =
       is = line;
     }
 
-pub reads_properties : Reads → (limit : ℕ) → limit < 2 ^ 63 → ReadsProperties limit
+pub reads_properties : ReaderPromises → (limit : ℕ) → limit < 2 ^ 63 → ReadsProperties limit
 reads_properties reads limit short p place f same m front t w y spaced h next_line ink fits start ts before =
     let n = moved m front in
     let o = w ++ y in
@@ -226,7 +234,7 @@ reads_properties reads limit short p place f same m front t w y spaced h next_li
     let grown = later_line k b.rest b.more fits_w.lined (omega (arith, below, size, size_line, short)) in
     let at_line = ap (λ (x : List ℕ). (moved k x).line) b.is in
     let later : n.line < q.line = omega (arith, line, grown, at_line) in
-    let Q : Marker × List ℕ → Type 0 = λ x. (u : At limit start f x.0 x.1 (ts ++ r.tokens)) × IsLate u.key n
+    let Q : Marker × List ℕ → Type 0 = λ x. (u : At limit start f x.0 x.1 (ts ++ r.tokens)) × IsOnLineOrBefore u.key n
     × (u.allowed ≡ true) in
     let z = subst Q (lands_on k w y b.skipped ink) (r.read.at, r.read.late, r.read.allowed ∙ b.crossed) in
     let here : PropertiesRead limit start p f q y ts =

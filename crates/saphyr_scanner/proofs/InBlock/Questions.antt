@@ -6,13 +6,14 @@ use Rattle.saphyr_input.specs.Classes.{is_blank, is_blank_or_breakz}
 use Rattle.saphyr_scalar.specs.declared.scalar.position.Marker.{Marker}
 use Rattle.saphyr_scalar.specs.Views.Cursor.{◌>>=◌, along}
 use Rattle.saphyr_scanner.specs.declared.engine.level.Context.TheVariants as context
-use Rattle.saphyr_scanner.specs.Steps.Core.{Core, Candidate, went, from_to, up_to_here, perform, is_further, roll, remove_key, with_context, in_block}
+use Rattle.saphyr_scanner.specs.Steps.Core.{Core, completed_step, from_to, up_to_here, perform, is_further, roll, remove_key, with_context, in_block}
+use Rattle.saphyr_scanner.specs.Steps.Level.{Candidate, behind_question}
 use Rattle.saphyr_scanner.specs.Steps.Block as block
 use Rattle.saphyr_scanner.specs.Steps.Block.{behind_start}
 use Rattle.saphyr_scanner.specs.Steps.Gap as gap
 use Rattle.saphyr_scanner.specs.Steps.Passing.{with_cursor}
-use Rattle.saphyr_scanner.specs.Steps.Queue.{next, Place, Queue, closed, empty_piece}
-use Rattle.saphyr_scanner.specs.Steps.State.{State, acted}
+use Rattle.saphyr_scanner.specs.Steps.Queue.{next, Place, Queue, bare_place, empty_piece}
+use Rattle.saphyr_scanner.specs.Steps.State.{State, after_step}
 use Rattle.saphyr_scanner.specs.Grammar.Tokens as tokens
 use Rattle.saphyr_scanner.specs.Grammar.Tokens.{Kind}
 use Rattle.saphyr_scanner.specs.Steps.Fetch.{state_behind_content, step}
@@ -53,7 +54,7 @@ no_tab_first c cs (inl e) clean = inl (space c e (or_parts (c == 9) (has_tab cs)
 no_tab_first c cs (inr e) clean = inr e
 
 reach : (m : Marker) (o : List ℕ) → BeginsWhite o → has_tab o ≡ false
-    → (b : Bool) × (gap.spaces m false false o ≡ gap.spaced (past 0 m o).0 b true (past 0 m o).1)
+    → (b : Bool) × (gap.spaces m false false o ≡ gap.spaces_end (past 0 m o).0 b true (past 0 m o).1)
 reach m [] h clean = absurd h
 reach m (c ∷ cs) h clean = spaces_reach m false c cs (no_tab_first c cs h clean) clean
 
@@ -90,7 +91,7 @@ mark_enters : (f : Frame) (m : Marker) (y : List ℕ) (blank : Bool) (key : Opti
     (deeper further : Bool)
     → nat_le f.indent m.col ≡ further
     → (d : Bool) × (remove_key
-    (with_context (block.behind_question context.Block)
+    (with_context (behind_question context.Block)
     (roll m.col (core_of f (moment_at m y blank key true ad deeper))))
     ≡ Ok (core_of (frame_behind further m.col f) (moment_at m y blank None true ad d)))
 unfolding remove_key
@@ -98,30 +99,30 @@ mark_enters f m y blank key ad deeper true e = (false, rw e refl)
 mark_enters f m y blank key ad deeper false e = (deeper, rw e refl)
 
 -- behind `?`, at the next token
-abbrev behind_question : Marker → List ℕ → Bool → ℕ → Bool → Moment
-behind_question n y blank ad deeper = moment_at n y blank None true ad deeper
+abbrev question_moment : Marker → List ℕ → Bool → ℕ → Bool → Moment
+question_moment n y blank ad deeper = moment_at n y blank None true ad deeper
 
 passes_mark : (g : Frame) (m : Marker) (o : List ℕ) (blank : Bool) (ad : ℕ) (deeper : Bool) → BeginsWhite o
     → has_tab o ≡ false
     → (b : Bool) × (block.pass_question (core_of g (moment_at m (63 ∷ o) blank None true ad deeper))
-    ≡ Ok (core_of g (behind_question (past 0 (along m 1) o).0 (past 0 (along m 1) o).1 b ad deeper)))
+    ≡ Ok (core_of g (question_moment (past 0 (along m 1) o).0 (past 0 (along m 1) o).1 b ad deeper)))
 unfolding block.behind_mark
 passes_mark g m o blank ad deeper h clean =
     let r = reach (along m 1) o h clean in
     let c = core_of g (moment_at m (63 ∷ o) blank None true ad deeper) in
     let none = no_tab_here (past 0 (along m 1) o).1 (past_stops (along m 1) o) in
     let there : block.behind_mark true
-    (core_of g (behind_question (past 0 (along m 1) o).0 (past 0 (along m 1) o).1 r.0 ad deeper))
-    ≡ Ok (core_of g (behind_question (past 0 (along m 1) o).0 (past 0 (along m 1) o).1 r.0 ad deeper)) =
+    (core_of g (question_moment (past 0 (along m 1) o).0 (past 0 (along m 1) o).1 r.0 ad deeper))
+    ≡ Ok (core_of g (question_moment (past 0 (along m 1) o).0 (past 0 (along m 1) o).1 r.0 ad deeper)) =
     rw none refl in
-    (r.0, ap (λ (s : gap.Spaced). block.behind_mark s.space (with_cursor s.cursor c)) r.1 ∙ there)
+    (r.0, ap (λ (s : gap.SpacesEnd). block.behind_mark s.space (with_cursor s.cursor c)) r.1 ∙ there)
 
 question_step : (f : Frame) (m : Marker) (o : List ℕ) (blank : Bool) (key : Option Candidate) (ad : ℕ)
     (deeper further : Bool) → nat_le f.indent m.col ≡ further → BeginsWhite o → has_tab o ≡ false → (i : ℕ)
     → (b : Bool) × (d : Bool) × (step 63 (slice_index o 0) i (core_of f (moment_at m (63 ∷ o) blank key true ad deeper))
-    ≡ went (behind_start further m tokens.BlockMappingStart (from_to m (past 0 (along m 1) o).0 tokens.Key))
+    ≡ completed_step (behind_start further m tokens.BlockMappingStart (from_to m (past 0 (along m 1) o).0 tokens.Key))
     (core_of (frame_behind further m.col f)
-    (behind_question (past 0 (along m 1) o).0 (past 0 (along m 1) o).1 b ad d)))
+    (question_moment (past 0 (along m 1) o).0 (past 0 (along m 1) o).1 b ad d)))
 unfolding step block.key block.begin_key
 question_step f m o blank key ad deeper further e h clean i =
     let c = core_of f (moment_at m (63 ∷ o) blank key true ad deeper) in
@@ -129,21 +130,22 @@ question_step f m o blank key ad deeper further e h clean i =
     let g = frame_behind further m.col f in
     let p = passes_mark g m o blank ad r.0 h clean in
     let first = white_first o h in
-    let last = core_of g (behind_question (past 0 (along m 1) o).0 (past 0 (along m 1) o).1 p.0 ad r.0) in
+    let last = core_of g (question_moment (past 0 (along m 1) o).0 (past 0 (along m 1) o).1 p.0 ad r.0) in
     let begun = ap (λ q. q >>= λ (d : Core). block.pass_question (record d { key_allowed = in_block d })) r.1 ∙ p.1 in (
       p.0,
       r.0,
-      rw first (ap (λ q. q >>= λ (d : Core). went
+      rw first (ap (λ q. q >>= λ (d : Core). completed_step
           (behind_start (is_further m.col c) m tokens.BlockMappingStart (up_to_here m tokens.Key d)) d) begun
-          ∙ ap (λ (b : Bool). went (behind_start b m tokens.BlockMappingStart (up_to_here m tokens.Key last)) last) e),
+          ∙ ap (λ (b : Bool). completed_step (behind_start b m tokens.BlockMappingStart (up_to_here m tokens.Key last))
+          last) e),
     )
 
 -- what is put into the queue
 mark_places : Bool → Marker → Marker → List Place → List Place
 mark_places true m n ps =
-    (ps ++ closed (empty_piece m tokens.BlockMappingStart) ∷ [])
-    ++ closed (record { span = record { start = m; end = n }; kind = tokens.Key }) ∷ []
-mark_places false m n ps = ps ++ closed (record { span = record { start = m; end = n }; kind = tokens.Key }) ∷ []
+    (ps ++ bare_place (empty_piece m tokens.BlockMappingStart) ∷ [])
+    ++ bare_place (record { span = record { start = m; end = n }; kind = tokens.Key }) ∷ []
+mark_places false m n ps = ps ++ bare_place (record { span = record { start = m; end = n }; kind = tokens.Key }) ∷ []
 
 mark_performs : (further : Bool) (m n : Marker) (ps : List Place)
     → perform (behind_start further m tokens.BlockMappingStart (from_to m n tokens.Key)) (queue_of ps)
@@ -160,14 +162,14 @@ mark_are : (further : Bool) (m n : Marker) (ps : List Place) (ts : List Kind) �
     → kinds (mark_places further m n ps) ≡ ts ++ key_kinds further
 unfolding mark_places
 mark_are true m n ps ts e =
-    let first = kinds_append ps (closed (empty_piece m tokens.BlockMappingStart) ∷ [])
+    let first = kinds_append ps (bare_place (empty_piece m tokens.BlockMappingStart) ∷ [])
     ∙ ap (λ (x : List Kind). x ++ tokens.BlockMappingStart ∷ []) e in
-    let key : Place = closed (record { span = record { start = m; end = n }; kind = tokens.Key }) in
-    kinds_append (ps ++ closed (empty_piece m tokens.BlockMappingStart) ∷ []) (key ∷ [])
+    let key : Place = bare_place (record { span = record { start = m; end = n }; kind = tokens.Key }) in
+    kinds_append (ps ++ bare_place (empty_piece m tokens.BlockMappingStart) ∷ []) (key ∷ [])
     ∙ ap (λ (x : List Kind). x ++ tokens.Key ∷ []) first
     ∙ append_assoc ts (tokens.BlockMappingStart ∷ []) (tokens.Key ∷ [])
 mark_are false m n ps ts e =
-    let key : Place = closed (record { span = record { start = m; end = n }; kind = tokens.Key }) in
+    let key : Place = bare_place (record { span = record { start = m; end = n }; kind = tokens.Key }) in
     kinds_append ps (key ∷ []) ∙ ap (λ (x : List Kind). x ++ tokens.Key ∷ []) e
 
 within_index : (i l j k limit : ℕ) → i + l ≡ j + k → j + k ≤ limit → i ≤ limit
@@ -190,11 +192,11 @@ reads_question {limit} {start} {ts} f m o further e far h clean count v allowed 
     let g = frame_behind further m.col f in
     let n = (past 0 (along m 1) o).0 in
     let y = (past 0 (along m 1) o).1 in
-    let t = behind_question n y s.0 v.adjacent s.1 in
+    let t = question_moment n y s.0 v.adjacent s.1 in
     let qs = mark_places further m n v.places in
     let made : state_behind_content 63 (slice_index o 0)
     (state_of f (moment_at m (63 ∷ o) v.blank v.key true v.adjacent deeper) v.places) ≡ Ok (state_of g t qs) =
-    ap (λ r. acted r (queue_of v.places)) s.2
+    ap (λ r. after_step r (queue_of v.places)) s.2
     ∙ ap (λ (q : Queue). Ok (let r : State = record { core = core_of g t; queue = q } in r))
     (mark_performs further m n v.places) in
     let there : state_behind_content 63 (slice_index o 0)

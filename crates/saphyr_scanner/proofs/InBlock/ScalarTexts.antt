@@ -158,8 +158,8 @@ line_then a b o (inr (inl h)) =
     inl (λ m. ap (λ (n : Marker). n.col) (moved_append m a (10 ∷ b)) ∙ h (next_line (moved m a) 1))
 line_then a b o (inr (inr e)) = inr e
 
-behind_line : (a t o : List ℕ) → Ended t o → Ended (a ++ (10 ∷ t)) o
-behind_line a t o p = record {
+ended_behind_line : (a t o : List ℕ) → Ended t o → Ended (a ++ (10 ∷ t)) o
+ended_behind_line a t o p = record {
   front = a ++ (10 ∷ p.front);
   is = ap (λ (y : List ℕ). a ++ (10 ∷ y)) p.is ∙ sym (append_assoc a (10 ∷ p.front) o);
   ends = inr (line_then a p.front o p.ends);
@@ -168,7 +168,7 @@ behind_line a t o p = record {
 content_line : (i c : ℕ) (cs t o : List ℕ) → Ended t o → Ended (spaces i ++ (c ∷ (cs ++ (10 ∷ t)))) o
 content_line i c cs t o p =
     subst (λ (y : List ℕ). Ended y o) (append_assoc (spaces i) (c ∷ cs) (10 ∷ t))
-    (behind_line (spaces i ++ (c ∷ cs)) t o p)
+    (ended_behind_line (spaces i ++ (c ∷ cs)) t o p)
 
 ended_at_last_line : (t o : List ℕ) → o ≡ [] → Ended t o
 ended_at_last_line t o e = record
@@ -176,13 +176,14 @@ ended_at_last_line t o e = record
 
 lines_end : (i : ℕ) (o : List ℕ) (ls : List Line) (t : List ℕ) → spelling.AreLines i o ls t → Ended t o
 lines_end i o _ _ spelling.no_lines = record { front = []; is = refl; ends = inl refl }
-lines_end i o _ _ (spelling.empty j ls t low r) = behind_line (spaces j) t o (lines_end i o ls t r)
+lines_end i o _ _ (spelling.empty j ls t low r) = ended_behind_line (spaces j) t o (lines_end i o ls t r)
 lines_end i o _ _ (spelling.content c cs ls t h r) = content_line i c cs t o (lines_end i o ls t r)
 lines_end i o _ _ (spelling.last c cs h e) = ended_at_last_line (spaces i ++ (c ∷ cs)) o e
 
 body_end : (i : ℕ) (is_given : Bool) (o : List ℕ) (ls : List Line) (t : List ℕ) → spelling.IsBody i is_given o ls t
     → Ended t o
-body_end i is_given o _ _ (spelling.leading j ls t low r) = behind_line (spaces j) t o (body_end i is_given o ls t r)
+body_end i is_given o _ _ (spelling.leading j ls t low r) =
+    ended_behind_line (spaces j) t o (body_end i is_given o ls t r)
 body_end i is_given o _ _ (spelling.first c cs ls t some h r) = content_line i c cs t o (lines_end i o ls t r)
 body_end i is_given o _ _ (spelling.first_and_last c cs some h e) = ended_at_last_line (spaces i ++ (c ∷ cs)) o e
 

@@ -5,7 +5,7 @@ use Rattle.saphyr_scalar.specs.declared.scalar.position.Marker.{Marker}
 use Rattle.saphyr_scalar.specs.Steps.BlockRead.{spaces}
 use Rattle.saphyr_scalar.specs.Spelling.Spaces.{AreSpaces}
 use Rattle.saphyr_scalar.proofs.NoBreaks.{NoBreaks, no_breaks_both}
-use Rattle.saphyr_scanner.specs.Steps.Core.{Candidate}
+use Rattle.saphyr_scanner.specs.Steps.Level.{Candidate}
 use Rattle.saphyr_scanner.specs.Grammar.Forest.{Style, Tag, Properties, Scalar}
 use Rattle.saphyr_scanner.specs.Grammar.FlowNodes.{AreProperties, IsProperties}
 use Rattle.saphyr_scanner.specs.Grammar.BlockNodes as layout
@@ -21,12 +21,12 @@ use Rattle.saphyr_scanner.proofs.Flow.Tags.{tag_read}
 use Rattle.saphyr_scanner.proofs.LineTexts.{name_no_break, tag_no_break}
 use Rattle.saphyr_scanner.proofs.InBlock.States.{Frame, IsPlaced, At, Before}
 use Rattle.saphyr_scanner.proofs.InBlock.Skips.{gap_skipped}
-use Rattle.saphyr_scanner.proofs.InBlock.Lines.{Fits, fits_front, fits_so}
-use Rattle.saphyr_scanner.proofs.InBlock.Statements.{context_at, IsBehind, Arrived, NodeRead, ReadsAt}
+use Rattle.saphyr_scanner.proofs.InBlock.Lines.{FitsOnLines, fits_front, fits_so}
+use Rattle.saphyr_scanner.proofs.InBlock.Statements.{context_at, EndsNodeAt, Arrived, NodeRead, ReadsAt}
 use Rattle.saphyr_scanner.proofs.InBlock.Texts.{spaces_moved, indentation_col, reaches}
 use Rattle.saphyr_scanner.proofs.InBlock.BehindIndicators.{further_ink}
 use Rattle.saphyr_scanner.proofs.InBlock.ScalarTexts.{ReadsBlocks, sign_ink}
-use Rattle.saphyr_scanner.proofs.InBlock.HeaderScalars.{IsLate, reads_behind}
+use Rattle.saphyr_scanner.proofs.InBlock.HeaderScalars.{IsOnLineOrBefore, reads_behind}
 
 -- ## The gap before it
 
@@ -63,8 +63,8 @@ gap_reaches place m gap (inl (inr (end, filler, front, (rest, rest_is, end_is), 
     omega (arith, there, low)
 gap_reaches place m gap (inr (first, e)) placed = start_reaches place (moved m gap).col first
 
-pub none_late : (k : Option Candidate) (m : Marker) → k ≡ None → IsLate k m
-none_late k m e = subst (λ (x : Option Candidate). IsLate x m) (sym e) tt
+pub none_late : (k : Option Candidate) (m : Marker) → k ≡ None → IsOnLineOrBefore k m
+none_late k m e = subst (λ (x : Option Candidate). IsOnLineOrBefore x m) (sym e) tt
 
 -- the state before a node is that behind the gap
 pub lands_behind : {limit : ℕ} {start : State} {ts : List Kind} {place : Position} (f : Frame) (m : Marker)
@@ -86,7 +86,7 @@ pub record HeadRead (limit : ℕ) (start : State) (p : Properties) (f : Frame) (
   pub tokens : List Kind
   pub are : grammar.YieldProperties p tokens
   pub at : At limit start f m y (ts ++ tokens)
-  pub late : IsLate at.key m
+  pub late : IsOnLineOrBefore at.key m
 
 -- `t` is the properties, `gap` stands before them, and spaces behind.
 abbrev pub ReadsHead : ℕ → Type 0
@@ -94,7 +94,7 @@ ReadsHead limit =
     (p : Properties) (place : Position) (f : Frame) → f.indent ≡ indent_at place
     → (m : Marker) (gap t between y : List ℕ) → IsGapAt place gap → IsProperties p t → AreSpaces 1 between
     → BeginsInk y
-    → Fits limit m (gap ++ (t ++ between)) y → (start : State) (ts : List Kind)
+    → FitsOnLines limit m (gap ++ (t ++ between)) y → (start : State) (ts : List Kind)
     → Before limit start place f m (gap ++ (t ++ (between ++ y))) ts
     → HeadRead limit start p f (moved m (gap ++ (t ++ between))) y ts
 
@@ -140,10 +140,11 @@ scalar_are : (p : Properties) (style : Style) (value : List ℕ) (context : gram
 scalar_are p style value context front h = (front, scalar_token style value ∷ [], h, inl refl, refl)
 
 -- Each block scalar is read.
-pub block_scalar : ReadsBlocks → {limit : ℕ} → limit < 2 ^ 63 → ReadsHead limit
+pub reads_block_scalars : ReadsBlocks → {limit : ℕ} → limit < 2 ^ 63 → ReadsHead limit
     → (p : Properties) (style : Style) (value : List ℕ)
     → ReadsAt limit (Scalar p style value) (IsScalarInBlock p style value)
-block_scalar laws {limit} short heads p style value place f same m t o (gap, front, text, gap_is, front_is, styled, e)
+reads_block_scalars laws {limit} short heads p style value place f same m t o
+    (gap, front, text, gap_is, front_is, styled, e)
     fits behind start ts before = by_front front_is
   where
     is : IsStyled style value f.indent text o
@@ -158,12 +159,12 @@ block_scalar laws {limit} short heads p style value place f same m t o (gap, fro
     -- behind a piece of the text, properties were read
     behind_head : (w : List ℕ) (us : List Kind) → t ≡ w ++ text → grammar.YieldProperties p us
         → f.indent ≤ (moved m w).col → (v : At limit start f (moved m w) (text ++ o) (ts ++ us))
-        → IsLate v.key (moved m w)
+        → IsOnLineOrBefore v.key (moved m w)
         → NodeRead limit start (Scalar p style value) place f (moved m t) o ts
     behind_head w us whole are far v late =
         let fits_all = fits_so m t (w ++ text) o whole fits in
-        let behind_all : IsBehind f.indent (moved m (w ++ text)) o =
-        subst (λ (x : List ℕ). IsBehind f.indent (moved m x) o) whole behind in
+        let behind_all : EndsNodeAt f.indent (moved m (w ++ text)) o =
+        subst (λ (x : List ℕ). EndsNodeAt f.indent (moved m x) o) whole behind in
         let r = reads_behind laws f style value m w text o short far is fits_all behind_all v late in
         record {
           tokens = us ++ scalar_token style value ∷ [];

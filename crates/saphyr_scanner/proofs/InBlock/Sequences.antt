@@ -13,10 +13,10 @@ use Rattle.saphyr_scanner.specs.Grammar.Forest.{Node, Nodes, NoNode, MoreNodes}
 use Rattle.saphyr_scanner.specs.Grammar.BlockNodes.{BehindDash, IsBlockNode, AreOtherEntries, AreEntries}
 use Rattle.saphyr_scanner.proofs.Flow.States.{moved, past}
 use Rattle.saphyr_scanner.proofs.Flow.Places.{moved_append}
-use Rattle.saphyr_scanner.proofs.InBlock.Lines.{Fits, fits_front, fits_back, fits_so}
+use Rattle.saphyr_scanner.proofs.InBlock.Lines.{FitsOnLines, fits_front, fits_back, fits_so}
 use Rattle.saphyr_scanner.proofs.InBlock.States.{Frame, EndsDocument, At}
 use Rattle.saphyr_scanner.proofs.InBlock.Entries.{frame_behind, dash_kinds, reads_dash}
-use Rattle.saphyr_scanner.proofs.InBlock.Statements.{IsBehind, ArrivedAt, Arrived, EndsWithLine, as_optional, NodeRead, ReadsAt, Leaves, EntriesRead}
+use Rattle.saphyr_scanner.proofs.InBlock.Statements.{EndsNodeAt, ArrivedAt, Arrived, EndsWithLine, as_optional, NodeRead, ReadsAt, ReadsLeaves, EntriesRead}
 use Rattle.saphyr_scanner.proofs.InBlock.Texts.{node_ends, behind_indented, indentation_skipped, indentation_col, reaches}
 use Rattle.saphyr_scanner.proofs.InBlock.BehindIndicators.{dash_ink, node_behind}
 use Rattle.saphyr_input.proofs.Basics.Numbers.{next_not_within}
@@ -46,16 +46,16 @@ entry_text front entry others o =
     append_assoc front (45 ∷ (entry ++ others)) o ∙ ap (λ (x : List ℕ). front ++ (45 ∷ x)) (append_assoc entry others o)
 
 pub others_behind : (nodes : Nodes) (column : ℕ) (m : Marker) (t o : List ℕ) → AreOtherEntries 255 nodes column t o
-    → StartsLine m (t ++ o) → IsBehind (suc column) (moved m t) o → IsBehind (suc column) m (t ++ o)
+    → StartsLine m (t ++ o) → EndsNodeAt (suc column) (moved m t) o → EndsNodeAt (suc column) m (t ++ o)
 others_behind NoNode column m t o h starts behind =
-    subst (λ (x : List ℕ). IsBehind (suc column) (moved m x) o → IsBehind (suc column) m (x ++ o)) (sym h) (λ k. k)
+    subst (λ (x : List ℕ). EndsNodeAt (suc column) (moved m x) o → EndsNodeAt (suc column) m (x ++ o)) (sym h) (λ k. k)
     behind
 others_behind (MoreNodes node nodes) column m t o (front, entry, others, front_is, h, k, e) starts behind =
     let text : t ++ o ≡ front ++ (45 ∷ (entry ++ (others ++ o))) =
     ap (λ (x : List ℕ). x ++ o) e ∙ entry_text front entry others o in
     let first = front_first front (entry ++ (others ++ o)) in
     let col = not_empty m t o first.0 first.1 starts (text ∙ first.2) in
-    subst (IsBehind (suc column) m) (sym text)
+    subst (EndsNodeAt (suc column) m) (sym text)
     (behind_indented column m front 45 (entry ++ (others ++ o)) front_is dash_ink col)
 
 -- ## An entry
@@ -72,10 +72,10 @@ pub suc_is : (n : ℕ) → n + 1 ≡ suc n
 suc_is n = omega arith
 
 -- from its `-` on, which may begin the sequence
-pub reads_entry : {limit : ℕ} → Leaves limit → (node : Node) → ReadsAt limit node (IsBlockNode 255 node)
+pub reads_entry : {limit : ℕ} → ReadsLeaves limit → (node : Node) → ReadsAt limit node (IsBlockNode 255 node)
     → (f : Frame) (n : Marker) (further : Bool) → nat_le f.indent n.col ≡ further → f.indent ≤ n.col + 1
-    → (entry z : List ℕ) → IsBlockNode 255 node (BehindDash n.col) entry z → Fits limit n (45 ∷ entry) z
-    → IsBehind (suc n.col) (moved (along n 1) entry) z
+    → (entry z : List ℕ) → IsBlockNode 255 node (BehindDash n.col) entry z → FitsOnLines limit n (45 ∷ entry) z
+    → EndsNodeAt (suc n.col) (moved (along n 1) entry) z
     → (start : State) (ts : List Kind) (v : At limit start f n (45 ∷ (entry ++ z)) ts) → v.allowed ≡ true
     → NodeRead limit start node (BehindDash n.col) (frame_behind further n.col f) (moved (along n 1) entry) z
     (ts ++ dash_kinds further)
@@ -85,7 +85,7 @@ reads_entry {limit} leaves node reads f n further e far entry z is fits behind s
     let ahead = node_behind leaves node (BehindDash n.col) entry z refl is behind.clean in
     let before = reads_dash f n (entry ++ z) further e far ahead fits.below v allowed in
     reads (BehindDash n.col) g (same ∙ suc_is n.col) (along n 1) entry z is (fits_back n (45 ∷ []) entry z fits)
-    (subst (λ (i : ℕ). IsBehind i (moved (along n 1) entry) z) (sym (same ∙ suc_is n.col)) behind)
+    (subst (λ (i : ℕ). EndsNodeAt i (moved (along n 1) entry) z) (sym (same ∙ suc_is n.col)) behind)
     start (ts ++ dash_kinds further) before
 
 -- ## Entries
@@ -126,7 +126,7 @@ goes_on {n = n} {y = y} out v = by_next v.next
 abbrev pub ReadsOthers : ℕ → Nodes → Type 0
 ReadsOthers limit nodes =
     (g : Frame) (column : ℕ) → g.indent ≡ column + 1 → (m : Marker) (t o : List ℕ)
-    → AreOtherEntries 255 nodes column t o → Fits limit m t o → IsBehind (suc column) (moved m t) o
+    → AreOtherEntries 255 nodes column t o → FitsOnLines limit m t o → EndsNodeAt (suc column) (moved m t) o
     → StartsLine m (t ++ o)
     → (start : State) (ts : List Kind) → Arrived limit start g m (t ++ o) ts
     → EntriesRead limit start nodes g (moved m t) o ts
@@ -144,7 +144,8 @@ no_others {limit} g column same m t o h fits behind starts start ts v =
 grown : (ts us : List Kind) (entry : List Kind) (k : Kind) → ((ts ++ k ∷ []) ++ entry) ++ us ≡ ts ++ (k ∷ (entry ++ us))
 grown ts us entry k = simp append_assoc
 
-pub more_others : {limit : ℕ} → Leaves limit → (node : Node) (nodes : Nodes) → ReadsAt limit node (IsBlockNode 255 node)
+pub more_others : {limit : ℕ} → ReadsLeaves limit → (node : Node) (nodes : Nodes)
+    → ReadsAt limit node (IsBlockNode 255 node)
     → ReadsOthers limit nodes → ReadsOthers limit (MoreNodes node nodes)
 more_others {limit} leaves node nodes reads more g column same m t o (front, entry, others, front_is, h, k, e) fits
     behind starts start ts v =
@@ -165,9 +166,9 @@ more_others {limit} leaves node nodes reads more g column same m t o (front, ent
     let last = moved (along n 1) entry in
     let end = ap (moved m) e ∙ moved_append m front ((45 ∷ entry) ++ others) ∙ moved_append n (45 ∷ entry) others in
     let starts_z = starts_behind (along n 1) entry z (node_ends leaves node (BehindDash n.col) entry z is_node) in
-    let behind_z = subst (λ (c : ℕ). IsBehind (suc c) last z) (sym col)
+    let behind_z = subst (λ (c : ℕ). EndsNodeAt (suc c) last z) (sym col)
     (others_behind nodes column last others o k starts_z
-    (subst (λ (x : Marker). IsBehind (suc column) x o) end behind)) in
+    (subst (λ (x : Marker). EndsNodeAt (suc column) x o) end behind)) in
     let ahead = node_behind leaves node (BehindDash n.col) entry z refl is_node behind_z.clean in
     let ready = goes_on (marker_none (entry ++ z) ahead.first n) at_dash in
     let fits_first = fits_front n (45 ∷ entry) others o fits_entry in
@@ -176,7 +177,8 @@ more_others {limit} leaves node nodes reads more g column same m t o (front, ent
     (least g.indent n.col (same ∙ ap (λ (c : ℕ). c + 1) (sym col))) entry z is_node fits_first behind_z start ts
     at_dash.at ready.1 in
     let fits_rest = fits_back n (45 ∷ entry) others o fits_entry in
-    let s = more g column same last others o k fits_rest (subst (λ (x : Marker). IsBehind (suc column) x o) end behind)
+    let s = more g column same last others o k fits_rest
+    (subst (λ (x : Marker). EndsNodeAt (suc column) x o) end behind)
     starts_z start ((ts ++ tokens.BlockEntry ∷ []) ++ r.tokens) r.arrived in
     record {
       tokens = tokens.BlockEntry ∷ (r.tokens ++ s.tokens);
@@ -200,11 +202,11 @@ kinds_of_first_entry true ts us entry = simp append_assoc
 kinds_of_first_entry false ts us entry = simp (append_assoc, append-nil)
 
 -- from the first entry on
-pub reads_entries : {limit : ℕ} → Leaves limit → (node : Node) (nodes : Nodes)
+pub reads_entries : {limit : ℕ} → ReadsLeaves limit → (node : Node) (nodes : Nodes)
     → ReadsAt limit node (IsBlockNode 255 node) → ReadsOthers limit nodes → (f : Frame) (n : Marker) (further : Bool)
     → nat_le f.indent n.col ≡ further
-    → f.indent ≤ n.col + 1 → (t o : List ℕ) → AreEntries 255 (MoreNodes node nodes) n.col t o → Fits limit n t o
-    → IsBehind (suc n.col) (moved n t) o
+    → f.indent ≤ n.col + 1 → (t o : List ℕ) → AreEntries 255 (MoreNodes node nodes) n.col t o → FitsOnLines limit n t o
+    → EndsNodeAt (suc n.col) (moved n t) o
     → (start : State) (ts : List Kind) (v : At limit start f n (t ++ o) ts) → v.allowed ≡ true
     → EntriesRead limit start (MoreNodes node nodes) (frame_behind further n.col f) (moved n t) o
     (ts ++ sequence_start further)
@@ -218,7 +220,7 @@ reads_entries {limit} leaves node nodes reads more f n further e far t o (entry,
     let last = moved (along n 1) entry in
     let end = ap (moved n) is ∙ moved_append n (45 ∷ entry) others in
     let starts_z = starts_behind (along n 1) entry z (node_ends leaves node (BehindDash n.col) entry z h) in
-    let behind_o = subst (λ (x : Marker). IsBehind (suc n.col) x o) end behind in
+    let behind_o = subst (λ (x : Marker). EndsNodeAt (suc n.col) x o) end behind in
     let behind_z = others_behind nodes n.col last others o k starts_z behind_o in
     let p = subst (λ (y : List ℕ). (v : At limit start f n y ts) × (v.allowed ≡ true)) text (v, allowed) in
     let r = reads_entry leaves node reads f n further e far entry z h (fits_front n (45 ∷ entry) others o whole)

@@ -225,13 +225,13 @@ rest_ends_clean (b ∷ bs) comment are k least m blank tab =
 record Spaces (m : Marker) (blank space : Bool) (t : List ℕ) : Type 0 where
   still_blank : Bool
   some : Bool
-  is : gap.spaces m blank space t ≡ gap.spaced (past 0 m t).0 still_blank some (past 0 m t).1
+  is : gap.spaces m blank space t ≡ gap.spaces_end (past 0 m t).0 still_blank some (past 0 m t).1
   has : space ≡ true → some ≡ true
 
 record SpacesBehind (m : Marker) (blank space : Bool) (t : List ℕ) : Type 0 where
   still_blank : Bool
   some : Bool
-  is : gap.line_comment m blank space t ≡ gap.spaced (past_comment 0 m t).0 still_blank some (past_comment 0 m t).1
+  is : gap.line_comment m blank space t ≡ gap.spaces_end (past_comment 0 m t).0 still_blank some (past_comment 0 m t).1
   has : space ≡ true → some ≡ true
 
 space_alone : (c : ℕ) → (c == 9) ≡ false → is_blank c ≡ (c == 32)
@@ -292,9 +292,15 @@ spaces_kind m blank space c cs false false false e f g clean on line sign =
     let white = no_white c ((c == 13) && (slice_index cs 0 == 10)) e in
     record { still_blank = blank; some = space; is = rw (no_left m c, e, f, g, white) refl; has = λ h. h }
 
-in_word : (m : Marker) (blank space : Bool) (c : ℕ) (cs : List ℕ) → is_yaml_non_break c ≡ true
+skips_in_word : (m : Marker) (blank space : Bool) (c : ℕ) (cs : List ℕ) → is_yaml_non_break c ≡ true
     → SpacesBehind (along m 1) blank space cs → SpacesBehind m blank space (c ∷ cs)
-in_word m blank space c cs e p = record { still_blank = p.still_blank; some = p.some; is = rw e p.is; has = p.has }
+skips_in_word m blank space c cs e p = record {
+  still_blank = p.still_blank;
+  some = p.some;
+  is = rw e p.is;
+  has =
+      p.has;
+}
 
 behind_return : (m : Marker) (blank space : Bool) (c : ℕ) (cs : List ℕ) → is_yaml_non_break c ≡ false
     → ((c == 13) && (slice_index cs 0 == 10)) ≡ true → Spaces (along m 1) blank true cs
@@ -302,10 +308,10 @@ behind_return : (m : Marker) (blank space : Bool) (c : ℕ) (cs : List ℕ) → 
 behind_return m blank space c cs e f p =
     record { still_blank = p.still_blank; some = p.some; is = rw (e, f) p.is; has = λ _. p.has refl }
 
-behind_line : (m : Marker) (blank space : Bool) (c : ℕ) (cs : List ℕ) → is_yaml_non_break c ≡ false
+skips_behind_line : (m : Marker) (blank space : Bool) (c : ℕ) (cs : List ℕ) → is_yaml_non_break c ≡ false
     → ((c == 13) && (slice_index cs 0 == 10)) ≡ false → is_break c ≡ true
     → Spaces (next_line m 1) true true cs → SpacesBehind m blank space (c ∷ cs)
-behind_line m blank space c cs e f g p =
+skips_behind_line m blank space c cs e f g p =
     record { still_blank = p.still_blank; some = p.some; is = rw (e, f, g) p.is; has = λ _. p.has refl }
 
 behind_kind : (m : Marker) (blank space : Bool) (c : ℕ) (cs : List ℕ) (is_word is_return is_line : Bool)
@@ -316,13 +322,13 @@ behind_kind : (m : Marker) (blank space : Bool) (c : ℕ) (cs : List ℕ) (is_wo
     → (has_tab cs ≡ false → Spaces (next_line m 1) true true cs) → SpacesBehind m blank space (c ∷ cs)
 behind_kind m blank space c cs true q r e f g clean word on line =
     let same : comment_has_tab (c ∷ cs) ≡ comment_has_tab cs = rw e refl in
-    in_word m blank space c cs e (word (sym same ∙ clean))
+    skips_in_word m blank space c cs e (word (sym same ∙ clean))
 behind_kind m blank space c cs false true r e f g clean word on line =
     let same : comment_has_tab (c ∷ cs) ≡ has_tab cs = rw (e, f) refl in
     behind_return m blank space c cs e f (on (sym same ∙ clean))
 behind_kind m blank space c cs false false true e f g clean word on line =
     let same : comment_has_tab (c ∷ cs) ≡ has_tab cs = rw (e, f, g) refl in
-    behind_line m blank space c cs e f g (line (sym same ∙ clean))
+    skips_behind_line m blank space c cs e f g (line (sym same ∙ clean))
 behind_kind m blank space c cs false false false e f g clean word on line =
     record { still_blank = blank; some = space; is = rw (e, f, g) refl; has = λ h. h }
 
@@ -345,25 +351,26 @@ mutual
 
 -- what a `?` passes: something, up to the next token
 pub spaces_reach : (m : Marker) (blank : Bool) (c : ℕ) (t : List ℕ) → (c ≡ 32) ⊎ (c ≡ 10) → has_tab (c ∷ t) ≡ false
-    → (b : Bool) × (gap.spaces m blank false (c ∷ t) ≡ gap.spaced (past 0 m (c ∷ t)).0 b true (past 0 m (c ∷ t)).1)
+    → (b : Bool) × (gap.spaces m blank false (c ∷ t) ≡ gap.spaces_end (past 0 m (c ∷ t)).0 b true (past 0 m (c ∷ t)).1)
 spaces_reach m blank c t (inl e) clean =
     let p = spaces_are (along m 1) blank true t (subst (λ (x : ℕ). has_tab (x ∷ t) ≡ false) e clean) in
-    let last : gap.spaced (past 0 (along m 1) t).0 p.still_blank p.some (past 0 (along m 1) t).1
-    ≡ gap.spaced (past 0 (along m 1) t).0 p.still_blank true (past 0 (along m 1) t).1 =
-    ap (λ (s : Bool). gap.spaced (past 0 (along m 1) t).0 p.still_blank s (past 0 (along m 1) t).1) (p.has refl) in (
-      p.still_blank,
-      subst (λ (x : ℕ). gap.spaces m blank false (x ∷ t)
-          ≡ gap.spaced (past 0 m (x ∷ t)).0 p.still_blank true (past 0 m (x ∷ t)).1) (sym e) (p.is ∙ last),
-    )
-spaces_reach m blank c t (inr e) clean =
-    let p = spaces_are (next_line m 1) true true t (subst (λ (x : ℕ). has_tab (x ∷ t) ≡ false) e clean) in
-    let last : gap.spaced (past 0 (next_line m 1) t).0 p.still_blank p.some (past 0 (next_line m 1) t).1
-    ≡ gap.spaced (past 0 (next_line m 1) t).0 p.still_blank true (past 0 (next_line m 1) t).1 =
-    ap (λ (s : Bool). gap.spaced (past 0 (next_line m 1) t).0 p.still_blank s (past 0 (next_line m 1) t).1)
+    let last : gap.spaces_end (past 0 (along m 1) t).0 p.still_blank p.some (past 0 (along m 1) t).1
+    ≡ gap.spaces_end (past 0 (along m 1) t).0 p.still_blank true (past 0 (along m 1) t).1 =
+    ap (λ (s : Bool). gap.spaces_end (past 0 (along m 1) t).0 p.still_blank s (past 0 (along m 1) t).1)
     (p.has refl) in (
       p.still_blank,
       subst (λ (x : ℕ). gap.spaces m blank false (x ∷ t)
-          ≡ gap.spaced (past 0 m (x ∷ t)).0 p.still_blank true (past 0 m (x ∷ t)).1) (sym e) (p.is ∙ last),
+          ≡ gap.spaces_end (past 0 m (x ∷ t)).0 p.still_blank true (past 0 m (x ∷ t)).1) (sym e) (p.is ∙ last),
+    )
+spaces_reach m blank c t (inr e) clean =
+    let p = spaces_are (next_line m 1) true true t (subst (λ (x : ℕ). has_tab (x ∷ t) ≡ false) e clean) in
+    let last : gap.spaces_end (past 0 (next_line m 1) t).0 p.still_blank p.some (past 0 (next_line m 1) t).1
+    ≡ gap.spaces_end (past 0 (next_line m 1) t).0 p.still_blank true (past 0 (next_line m 1) t).1 =
+    ap (λ (s : Bool). gap.spaces_end (past 0 (next_line m 1) t).0 p.still_blank s (past 0 (next_line m 1) t).1)
+    (p.has refl) in (
+      p.still_blank,
+      subst (λ (x : ℕ). gap.spaces m blank false (x ∷ t)
+          ≡ gap.spaces_end (past 0 m (x ∷ t)).0 p.still_blank true (past 0 m (x ∷ t)).1) (sym e) (p.is ∙ last),
     )
 
 -- what parts a node from what stands before it

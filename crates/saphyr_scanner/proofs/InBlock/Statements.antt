@@ -7,7 +7,7 @@ use Rattle.saphyr_scalar.specs.Steps.BlockRead.{spaces}
 use Rattle.saphyr_scalar.specs.Spelling.Spaces.{IsLineEnd, IsFiller}
 use Rattle.saphyr_scanner.specs.Steps.Core.{is_too_far, least_column}
 use Rattle.saphyr_scanner.specs.Steps.Queue as queue
-use Rattle.saphyr_scanner.specs.Steps.Queue.{closed}
+use Rattle.saphyr_scanner.specs.Steps.Queue.{bare_place}
 use Rattle.saphyr_scanner.specs.Views.Tokens.{Piece}
 use Rattle.saphyr_scanner.specs.Steps.State.{State}
 use Rattle.saphyr_scanner.specs.Grammar.Tokens.{Kind}
@@ -18,8 +18,8 @@ use Rattle.saphyr_scanner.specs.Grammar.BlockNodes.{Position, BehindMark, Behind
 use Rattle.saphyr_scanner.proofs.Json.Marks.{kinds}
 use Rattle.saphyr_scanner.proofs.Flow.States.{moved, past}
 use Rattle.saphyr_scanner.proofs.Flow.Inks.{BeginsInk}
-use Rattle.saphyr_scanner.proofs.InBlock.Lines.{Fits}
-use Rattle.saphyr_scanner.proofs.InBlock.States.{Frame, Moment, core_of, state_of, IsUntabbed, EndsDocument, IsLeftOf, Follows, At, Before}
+use Rattle.saphyr_scanner.proofs.InBlock.Lines.{FitsOnLines}
+use Rattle.saphyr_scanner.proofs.InBlock.States.{Frame, Moment, core_of, state_of, IsUntabbed, EndsDocument, IsLeftOf, GoesOnAs, At, Before}
 use Rattle.saphyr_scanner.proofs.InBlock.Skips.{IsClean}
 
 -- in which part of the token grammar a node at a place stands
@@ -28,16 +28,16 @@ context_at (BehindMark m) = grammar.InBlockMapping
 context_at (BehindKey m) = grammar.InBlockMapping
 context_at _ = grammar.InBlock
 
-pub allows_block : (place : Position) → grammar.AllowsBlock (context_at place)
-allows_block (BehindDash m) = tt
-allows_block (BehindMark m) = tt
-allows_block (BehindKey m) = tt
-allows_block BehindMarker = tt
-allows_block AtStart = tt
+pub place_allows_block : (place : Position) → grammar.AllowsBlock (context_at place)
+place_allows_block (BehindDash m) = tt
+place_allows_block (BehindMark m) = tt
+place_allows_block (BehindKey m) = tt
+place_allows_block BehindMarker = tt
+place_allows_block AtStart = tt
 
 -- What stands behind a node, from m on: the next token ends the document or stands left of a column, and no tab stands
 -- before it on its line.
-pub record IsBehind (column : ℕ) (m : Marker) (o : List ℕ) : Type 0 where
+pub record EndsNodeAt (column : ℕ) (m : Marker) (o : List ℕ) : Type 0 where
   pub left : IsLeftOf column (past 0 m o).0 (past 0 m o).1
   pub clean : IsClean o
 
@@ -75,7 +75,7 @@ pub record NodeRead (limit : ℕ) (start : State) (node : Node) (place : Positio
 abbrev pub ReadsAt : ℕ → Node → (Position → List ℕ → List ℕ → Type 0) → Type 0
 ReadsAt limit node Is =
     (place : Position) (f : Frame) → f.indent ≡ indent_at place → (m : Marker) (t o : List ℕ) → Is place t o
-    → Fits limit m t o → IsBehind f.indent (moved m t) o
+    → FitsOnLines limit m t o → EndsNodeAt f.indent (moved m t) o
     → (start : State) (ts : List Kind) → Before limit start place f m (t ++ o) ts
     → NodeRead limit start node place f (moved m t) o ts
 
@@ -87,10 +87,10 @@ pub record KeyRead (limit : ℕ) (start : State) (node : Node) (f : Frame) (k m 
   pub places : List queue.Place
   pub key : Piece
   pub others : List queue.Place
-  pub follows : Follows limit start (state_of f moment (places ++ closed key ∷ others))
+  pub follows : GoesOnAs limit start (state_of f moment (places ++ bare_place key ∷ others))
   pub first : kinds places ≡ ts
   pub tokens : List Kind
-  pub are : kinds (closed key ∷ others) ≡ tokens
+  pub are : kinds (bare_place key ∷ others) ≡ tokens
   pub node_are : grammar.YieldsNode node grammar.InBlockMapping tokens
   pub candidate : moment.key ≡ Some (record { mark = k; place = length places })
   pub quiet : moment.comment ≡ None
@@ -105,7 +105,7 @@ ReadsKey limit node =
     (f : Frame) (m : Marker) (t o : List ℕ) (n : ℕ) → f.indent ≤ m.col + 1
     → IsKeyText (IsFlowNode 255 node false (suc m.col)) node false (suc m.col) t (spaces n) → IsOnLine t
     → IsBeforeColon node (spaces n) → length (t ++ spaces n) ≤ 1024
-    → is_blank_or_breakz (slice_index o 0) ≡ true → Fits limit m (t ++ spaces n) (58 ∷ o)
+    → is_blank_or_breakz (slice_index o 0) ≡ true → FitsOnLines limit m (t ++ spaces n) (58 ∷ o)
     → (start : State) (ts : List Kind) → (v : At limit start f m (t ++ (spaces n ++ (58 ∷ o))) ts) → v.allowed ≡ true
     → KeyRead limit start node f m (moved m (t ++ spaces n)) o ts
 
@@ -127,12 +127,12 @@ abbrev pub ReadsProperties : ℕ → Type 0
 ReadsProperties limit =
     (p : Properties) (place : Position) (f : Frame) → f.indent ≡ indent_at place → (m : Marker) (front t w y : List ℕ)
     → AreSpacesAt place front → IsProperties p t → IsNextLineText w → BeginsInk y
-    → Fits limit m (front ++ (t ++ w)) y → (start : State) (ts : List Kind)
+    → FitsOnLines limit m (front ++ (t ++ w)) y → (start : State) (ts : List Kind)
     → Before limit start place f m (front ++ (t ++ (w ++ y))) ts
     → PropertiesRead limit start p f (moved m (front ++ (t ++ w))) y ts
 
 -- What is shown of the leaves, from which collections follow.
-pub record Leaves (limit : ℕ) : Type 0 where
+pub record ReadsLeaves (limit : ℕ) : Type 0 where
   pub flow : (node : Node) → ReadsAt limit node (IsFlowInBlock 255 node)
   pub block_scalar : (p : Properties) (style : Style) (value : List ℕ)
       → ReadsAt limit (Scalar p style value) (IsScalarInBlock p style value)

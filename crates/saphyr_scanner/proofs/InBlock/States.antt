@@ -8,13 +8,14 @@ use Rattle.saphyr_scalar.specs.Views.Cursor.{Cursor, along, next_line}
 use Rattle.saphyr_scanner.specs.declared.engine.level.Context.TheVariants as context
 use Rattle.saphyr_scanner.specs.Grammar.Tokens.{Kind}
 use Rattle.saphyr_scanner.specs.Steps.Queue.{Place}
-use Rattle.saphyr_scanner.specs.Steps.Core.{Core, Candidate, is_too_far}
+use Rattle.saphyr_scanner.specs.Steps.Core.{Core, is_too_far}
+use Rattle.saphyr_scanner.specs.Steps.Level.{Candidate}
 use Rattle.saphyr_scanner.specs.Steps.State.{State}
 use Rattle.saphyr_scanner.specs.Steps.Gap.{is_tab_indentation}
 use Rattle.saphyr_scanner.specs.Steps.Fetch.{fetch}
 use Rattle.saphyr_scanner.specs.Grammar.BlockNodes as layout
 use Rattle.saphyr_scanner.specs.Grammar.BlockNodes.{Position as Position}
-use Rattle.saphyr_scanner.proofs.Leads.{Leads}
+use Rattle.saphyr_scanner.proofs.Leads.{LeadsTo}
 use Rattle.saphyr_scanner.proofs.Json.States.{queue_of}
 use Rattle.saphyr_scanner.proofs.Json.Marks.{kinds}
 use Rattle.saphyr_scanner.proofs.Flow.States.{past}
@@ -33,8 +34,8 @@ abbrev pub root : Frame
 root = record { indent = 0; outers = [] }
 
 -- a further collection inside, at a column
-abbrev pub at_column : ℕ → Frame → Frame
-at_column column f = record { indent = column + 1; outers = f.indent ∷ f.outers }
+abbrev pub frame_at_column : ℕ → Frame → Frame
+frame_at_column column f = record { indent = column + 1; outers = f.indent ∷ f.outers }
 
 -- ## States at block level
 
@@ -126,9 +127,9 @@ IsLeftOf column m y = EndsDocument m y ⊎ (m.col < column)
 -- ## Runs
 
 -- A state from which the scanner goes on as from one that it comes to.
-pub record Follows (limit : ℕ) (start s : State) : Type 0 where
+pub record GoesOnAs (limit : ℕ) (start s : State) : Type 0 where
   pub reached : State
-  pub leads : Leads limit reached start
+  pub leads : LeadsTo limit reached start
   pub same : fetch reached ≡ fetch s
   pub running : reached.core.ended ≡ s.core.ended
 
@@ -142,7 +143,7 @@ pub record At (limit : ℕ) (start : State) (f : Frame) (m : Marker) (y : List �
   pub adjacent : ℕ
   pub deeper : Bool
   pub places : List Place
-  pub follows : Follows limit start (state_of f (moment_at m y blank key allowed adjacent deeper) places)
+  pub follows : GoesOnAs limit start (state_of f (moment_at m y blank key allowed adjacent deeper) places)
   pub stop : IsStop y
   pub near : is_too_far key m ≡ false
   pub are : kinds places ≡ ts

@@ -10,7 +10,7 @@ use Rattle.saphyr_scanner.proofs.Documents.Lines.{eol}
 use Rattle.saphyr_scanner.proofs.InBlock.States.{IsStop}
 use Rattle.saphyr_scanner.proofs.InBlock.Gaps.{ink_stop, stop_past}
 use Rattle.saphyr_scanner.proofs.InBlock.Skips.{IsSkipped, filler_skipped, skipped_past}
-use Rattle.saphyr_scanner.proofs.InBlock.Statements.{Leaves}
+use Rattle.saphyr_scanner.proofs.InBlock.Statements.{ReadsLeaves}
 use Rattle.saphyr_scanner.proofs.InBlock.Documents.Ends.{AreBlockDocuments, OpensMarker}
 use Rattle.saphyr_scanner.proofs.InBlock.Firsts.{HasToken, documents_token}
 
@@ -60,7 +60,8 @@ pub record StopsUnmarked (t : List ℕ) : Type 0 where
   pub stops : StopsAt t at
   pub unmarked : (o : List ℕ) → at ≡ 65279 ∷ o → ⊥
 
-pub documents_stop : {limit : ℕ} → Leaves limit → (ds : Forest) (free : Bool) (t : List ℕ) → AreBlockDocuments ds free t
+pub documents_stop : {limit : ℕ} → ReadsLeaves limit → (ds : Forest) (free : Bool) (t : List ℕ)
+    → AreBlockDocuments ds free t
     → StopsUnmarked t
 documents_stop leaves ds free t h = by_token (documents_token leaves ds free t h)
   where

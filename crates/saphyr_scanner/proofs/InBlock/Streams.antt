@@ -12,17 +12,17 @@ use Rattle.saphyr_scanner.specs.Grammar.Tokens.{Kind}
 use Rattle.saphyr_scanner.specs.Grammar.TokenGrammar as grammar
 use Rattle.saphyr_scanner.specs.Grammar.TokenGrammar.{AreEndsAndMarks, Yields}
 use Rattle.saphyr_scanner.specs.Steps.State.{State, start}
-use Rattle.saphyr_scanner.proofs.Leads.{Leads}
+use Rattle.saphyr_scanner.proofs.Leads.{LeadsTo}
 use Rattle.saphyr_scanner.proofs.Json.Marks.{kinds}
 use Rattle.saphyr_scanner.proofs.Json.Leads.{begun, starts}
-use Rattle.saphyr_scanner.proofs.Flow.States.{moved, Reads}
+use Rattle.saphyr_scanner.proofs.Flow.States.{moved, ReaderPromises}
 use Rattle.saphyr_scanner.proofs.Flow.Fillers.{last_filler_past}
 use Rattle.saphyr_scanner.proofs.Documents.Lines.{passes_filler}
-use Rattle.saphyr_scanner.proofs.Documents.Stands.{Lined, Stands}
-use Rattle.saphyr_scanner.proofs.Documents.Markers.{reads_mark, reads_end, Finishes, reads_stream_end}
+use Rattle.saphyr_scanner.proofs.Documents.Stands.{Lined, StandsInStream}
+use Rattle.saphyr_scanner.proofs.Documents.Markers.{reads_mark, reads_end, FinishesStream, reads_stream_end}
 use Rattle.saphyr_scanner.proofs.InBlock.States.{crosses}
 use Rattle.saphyr_scanner.proofs.InBlock.Follows.{follows_itself}
-use Rattle.saphyr_scanner.proofs.InBlock.Statements.{Leaves}
+use Rattle.saphyr_scanner.proofs.InBlock.Statements.{ReadsLeaves}
 use Rattle.saphyr_scanner.proofs.InBlock.Documents.Ends.{plain_behind, AreBlockDocuments, HasNoReturn, suffix_text, lands_behind}
 use Rattle.saphyr_scanner.proofs.InBlock.Documents.{reads_document}
 use Rattle.std.proofs.Math.Bool.{or-true}
@@ -34,21 +34,22 @@ use Rattle.saphyr_scanner.proofs.Beginnings.{front_in, back_in}
 pub record PrefixStands (limit : ℕ) (start : State) (others : List ℕ) (ts : List Kind) : Type 0 where
   pub marks : List Kind
   pub are : AreEndsAndMarks marks
-  pub stands : Stands limit start true (Lined true others) others (ts ++ marks)
+  pub stands : StandsInStream limit start true (Lined true others) others (ts ++ marks)
 
 pub reads_prefix : {limit : ℕ} {start : State} (prefix others : List ℕ) (ts : List Kind) → IsDocumentPrefix prefix
-    → Stands limit start true (Lined true (prefix ++ others)) (prefix ++ others) ts → PrefixStands limit start others ts
+    → StandsInStream limit start true (Lined true (prefix ++ others)) (prefix ++ others) ts
+    → PrefixStands limit start others ts
 reads_prefix {limit = limit} {start = start} prefix others ts (inl e) v =
     record {
       marks = [];
       are = tt;
-      stands = subst (Stands limit start true (Lined true others) others) (sym (append-nil ts))
-          (subst (λ (x : List ℕ). Stands limit start true (Lined true (x ++ others)) (x ++ others) ts) e v);
+      stands = subst (StandsInStream limit start true (Lined true others) others) (sym (append-nil ts))
+          (subst (λ (x : List ℕ). StandsInStream limit start true (Lined true (x ++ others)) (x ++ others) ts) e v);
     }
 reads_prefix {limit = limit} {start = start} prefix others ts (inr (filler, is, e)) v =
     let text : prefix ++ others ≡ filler ++ (65279 ∷ others) = ap (λ (x : List ℕ). x ++ others) e
     ∙ append_assoc filler (65279 ∷ []) others in
-    let first = subst (λ (x : List ℕ). Stands limit start true (Lined true x) x ts) text v in
+    let first = subst (λ (x : List ℕ). StandsInStream limit start true (Lined true x) x ts) text v in
     record {
       marks = tokens.ByteOrderMark ∷ [];
       are =
@@ -59,10 +60,11 @@ reads_prefix {limit = limit} {start = start} prefix others ts (inr (filler, is, 
 -- what stands behind a document is read, where documents are
 reads_behind : {limit : ℕ} {start : State} (ds : Forest)
     → ((free : Bool) (t : List ℕ) (ts : List Kind) → AreBlockDocuments ds free t → HasNoReturn t
-    → Stands limit start free (Lined free t) t ts → Finishes limit start (grammar.YieldDocuments ds free) ts)
+    → StandsInStream limit start free (Lined free t) t ts
+    → FinishesStream limit start (grammar.YieldDocuments ds free) ts)
     → (o : List ℕ) (ts : List Kind) → layout.IsBehindDocument (AreBlockDocuments ds) o → HasNoReturn o
-    → Stands limit start false (Lined false o) o ts
-    → Finishes limit start (grammar.YieldsBehindDocument (grammar.YieldDocuments ds)) ts
+    → StandsInStream limit start false (Lined false o) o ts
+    → FinishesStream limit start (grammar.YieldsBehindDocument (grammar.YieldDocuments ds)) ts
 reads_behind ds go o ts (inl h) clean v =
     let f = go false o ts h clean v in
     record {
@@ -80,7 +82,7 @@ reads_behind {limit = limit} {start = start} ds go o ts
     let text : o ≡ filler ++ (46 ∷ 46 ∷ 46 ∷ (end ++ (prefix ++ others))) =
     is ∙ ap (λ (x : List ℕ). x ++ others) e ∙ suffix_text filler end prefix others in
     let first = passes_filler filler (46 ∷ 46 ∷ 46 ∷ (end ++ (prefix ++ others))) filler_is
-    (subst (λ (x : List ℕ). Stands limit start false (Lined false x) x ts) text v) in
+    (subst (λ (x : List ℕ). StandsInStream limit start false (Lined false x) x ts) text v) in
     let p = reads_prefix prefix others (ts ++ tokens.DocumentEnd ∷ []) prefix_is
     (reads_end end (prefix ++ others) first end_is) in
     let f = go true others ((ts ++ tokens.DocumentEnd ∷ []) ++ p.marks) h
@@ -99,17 +101,17 @@ reads_behind {limit = limit} {start = start} ds go o ts
 
 -- ## Documents
 
-reads_documents : {limit : ℕ} {start : State} → Reads → Leaves limit
+reads_documents : {limit : ℕ} {start : State} → ReaderPromises → ReadsLeaves limit
     → (forest : Forest) (free : Bool) (t : List ℕ) (ts : List Kind) → AreBlockDocuments forest free t → HasNoReturn t
-    → Stands limit start free (Lined free t) t ts
-    → Finishes limit start (grammar.YieldDocuments forest free) ts
+    → StandsInStream limit start free (Lined free t) t ts
+    → FinishesStream limit start (grammar.YieldDocuments forest free) ts
 reads_documents readers leaves [] free t ts h clean v =
     let f = reads_stream_end v (moved v.mark t) (last_filler_past 0 v.mark t h) in
     record { last = f.last; leads = f.leads; over = f.over; others = f.others; told = f.told; are = f.are }
 reads_documents {limit = limit} {start = start} readers leaves (d ∷ ds) free t ts
     (filler, document, others, filler_is, is, behind, e) clean v =
     let first = passes_filler filler (document ++ others) filler_is
-    (subst (λ (x : List ℕ). Stands limit start free (Lined free x) x ts) e v) in
+    (subst (λ (x : List ℕ). StandsInStream limit start free (Lined free x) x ts) e v) in
     let left = back_in _ filler (document ++ others) (subst HasNoReturn e clean) in
     let n = reads_document readers leaves d free document others ts is (lands_behind leaves ds others behind)
     (plain_behind ds others behind) (front_in _ document others left) first in
@@ -128,7 +130,7 @@ reads_documents {limit = limit} {start = start} readers leaves (d ∷ ds) free t
     }
 
 pub begins : (limit : ℕ) (text : List ℕ) → length text ≤ limit
-    → Stands limit (start text) true (Lined true text) text (tokens.StreamStart ∷ [])
+    → StandsInStream limit (start text) true (Lined true text) text (tokens.StreamStart ∷ [])
 begins limit text h =
     let first = starts limit text in
     record {
@@ -151,21 +153,21 @@ begins limit text h =
     }
 
 -- From the start of a text of the layout grammar the scanner comes to its end, and holds tokens of its forest.
-pub layout_leads : Reads → (limit : ℕ) → Leaves limit → (forest : Forest) (text : List ℕ)
+pub layout_leads : ReaderPromises → (limit : ℕ) → ReadsLeaves limit → (forest : Forest) (text : List ℕ)
     → AreIn (λ c. not (c == carriage_return)) text → IsLayout most_open forest text → length text ≤ limit
-    → (d : State) × Leads limit d (start text) × (d.core.ended ≡ true)
+    → (d : State) × LeadsTo limit d (start text) × (d.core.ended ≡ true)
     × ((tokens : List Kind) × Yields forest tokens × (kinds d.queue.places ≡ tokens))
 layout_leads readers limit leaves forest text clean (mark, others, inl none, documents, e) short =
     let same : text ≡ others = e ∙ ap (λ (x : List ℕ). x ++ others) none in
     let f = reads_documents readers leaves forest true others (tokens.StreamStart ∷ []) documents
     (subst HasNoReturn same clean)
-    (subst (λ (x : List ℕ). Stands limit (start text) true (Lined true x) x (tokens.StreamStart ∷ [])) same
+    (subst (λ (x : List ℕ). StandsInStream limit (start text) true (Lined true x) x (tokens.StreamStart ∷ [])) same
     (begins limit text short)) in
     (f.last, f.leads, f.over, (tokens.StreamStart ∷ f.others, ([], f.others, tt, f.told, refl), f.are))
 layout_leads readers limit leaves forest text clean (mark, others, inr one, documents, e) short =
     let same : text ≡ 65279 ∷ others = e ∙ ap (λ (x : List ℕ). x ++ others) one in
     let first = reads_mark others
-    (subst (λ (x : List ℕ). Stands limit (start text) true (Lined true x) x (tokens.StreamStart ∷ [])) same
+    (subst (λ (x : List ℕ). StandsInStream limit (start text) true (Lined true x) x (tokens.StreamStart ∷ [])) same
     (begins limit text short)) in
     let f = reads_documents readers leaves forest true others (tokens.StreamStart ∷ tokens.ByteOrderMark ∷ []) documents
     (subst HasNoReturn same clean).1 first in (

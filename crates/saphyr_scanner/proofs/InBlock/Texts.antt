@@ -15,7 +15,7 @@ use Rattle.saphyr_scanner.proofs.Documents.Lines.{filler_line}
 use Rattle.saphyr_scanner.proofs.InBlock.States.{EndsDocument}
 use Rattle.saphyr_scanner.proofs.InBlock.Gaps.{ink_stop, stop_tabbed, stop_past}
 use Rattle.saphyr_scanner.proofs.InBlock.Skips.{IsSkipped, IsClean, skipped_past, skipped_clean, skipped_append, spaces_skipped, filler_skipped}
-use Rattle.saphyr_scanner.proofs.InBlock.Statements.{EndsWithLine, IsBehind, Leaves}
+use Rattle.saphyr_scanner.proofs.InBlock.Statements.{EndsWithLine, EndsNodeAt, ReadsLeaves}
 
 -- ## Where a node ends
 
@@ -59,7 +59,7 @@ pair_ends key value K V m t o (inr (inr (node, colon, v, some, h, mark, k, e))) 
     (ends_back (63 ∷ []) (node ++ (colon ++ v)) o (ends_back node (colon ++ v) o (ends_back colon v o (V _ v o k))))
 
 mutual
-  pub node_ends : {limit : ℕ} → Leaves limit → (node : Node) (place : Position) (t o : List ℕ)
+  pub node_ends : {limit : ℕ} → ReadsLeaves limit → (node : Node) (place : Position) (t o : List ℕ)
       → IsBlockNode 255 node place t o → EndsWithLine t o
   node_ends leaves (Alias name) place t o h = flow_ends 255 (Alias name) place t o h
   node_ends leaves (Scalar p style value) place t o (inl h) = left_out_ends (Scalar p style value) place t o h
@@ -75,7 +75,8 @@ mutual
   node_ends leaves (Map p pairs) place t o (inr (m, lead, entries, lead_is, h, e)) =
       ends_so t (lead ++ entries) o e (ends_back lead entries o (pairs_end leaves pairs m entries o h))
 
-  pub entries_end : {limit : ℕ} → Leaves limit → (nodes : Nodes) (m : ℕ) (t o : List ℕ) → AreEntries 255 nodes m t o
+  pub entries_end : {limit : ℕ} → ReadsLeaves limit → (nodes : Nodes) (m : ℕ) (t o : List ℕ)
+      → AreEntries 255 nodes m t o
       → EndsWithLine t o
   entries_end leaves NoNode m t o h = absurd h
   entries_end leaves (MoreNodes node nodes) m t o (entry, others, h, k, e) =
@@ -84,7 +85,7 @@ mutual
       (last_ends entry others o (other_entries_end leaves nodes m others o k)
       (node_ends leaves node _ entry (others ++ o) h)))
 
-  pub other_entries_end : {limit : ℕ} → Leaves limit → (nodes : Nodes) (m : ℕ) (t o : List ℕ)
+  pub other_entries_end : {limit : ℕ} → ReadsLeaves limit → (nodes : Nodes) (m : ℕ) (t o : List ℕ)
       → AreOtherEntries 255 nodes m t o → (t ≡ []) ⊎ EndsWithLine t o
   other_entries_end leaves NoNode m t o h = inl h
   other_entries_end leaves (MoreNodes node nodes) m t o (front, entry, others, front_is, h, k, e) =
@@ -93,7 +94,7 @@ mutual
       (last_ends entry others o (other_entries_end leaves nodes m others o k)
       (node_ends leaves node _ entry (others ++ o) h)))))
 
-  pub pairs_end : {limit : ℕ} → Leaves limit → (pairs : Pairs) (m : ℕ) (t o : List ℕ) → ArePairs 255 pairs m t o
+  pub pairs_end : {limit : ℕ} → ReadsLeaves limit → (pairs : Pairs) (m : ℕ) (t o : List ℕ) → ArePairs 255 pairs m t o
       → EndsWithLine t o
   pairs_end leaves NoPair m t o h = absurd h
   pairs_end leaves (MorePairs key value pairs) m t o (pair, others, h, k, e) =
@@ -102,7 +103,7 @@ mutual
       (pair_ends key value (λ place u z k. node_ends leaves key place u z k)
       (λ place u z k. node_ends leaves value place u z k) m pair (others ++ o) h))
 
-  pub other_pairs_end : {limit : ℕ} → Leaves limit → (pairs : Pairs) (m : ℕ) (t o : List ℕ)
+  pub other_pairs_end : {limit : ℕ} → ReadsLeaves limit → (pairs : Pairs) (m : ℕ) (t o : List ℕ)
       → AreOtherPairs 255 pairs m t o → (t ≡ []) ⊎ EndsWithLine t o
   other_pairs_end leaves NoPair m t o h = inl h
   other_pairs_end leaves (MorePairs key value pairs) m t o (front, pair, others, front_is, h, k, e) =
@@ -152,7 +153,7 @@ reaches m w c cs h ink = skipped_past m w (c ∷ cs) h ∙ stop_past (moved m w)
 
 -- What is skipped stands behind a node that ends a line, before a token at a column.
 pub behind_indented : (column : ℕ) (m : Marker) (w : List ℕ) (c : ℕ) (cs : List ℕ) → IsEntryIndentation column w
-    → IsInk c → m.col ≡ 0 → IsBehind (suc column) m (w ++ (c ∷ cs))
+    → IsInk c → m.col ≡ 0 → EndsNodeAt (suc column) m (w ++ (c ∷ cs))
 behind_indented column m w c cs h ink e =
     let k = indentation_skipped column w h in
     let there = reaches m w c cs k ink in
@@ -166,7 +167,7 @@ behind_indented column m w c cs h ink e =
     less a b e = omega (arith, e)
 
 -- further to the right, what is left of a column is left of it too
-pub behind_wider : (i j : ℕ) (m : Marker) (o : List ℕ) → i ≤ j → IsBehind i m o → IsBehind j m o
+pub behind_wider : (i j : ℕ) (m : Marker) (o : List ℕ) → i ≤ j → EndsNodeAt i m o → EndsNodeAt j m o
 behind_wider i j m o low h = record { left = by_left h.left; clean = h.clean }
   where
     further : (a i j : ℕ) → i ≤ j → a < i → a < j

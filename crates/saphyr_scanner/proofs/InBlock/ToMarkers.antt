@@ -13,20 +13,20 @@ use Rattle.saphyr_scanner.specs.Steps.State.{State}
 use Rattle.saphyr_scanner.specs.Grammar.Tokens as tokens
 use Rattle.saphyr_scanner.specs.Grammar.Tokens.{Kind, directive_token}
 use Rattle.saphyr_scanner.specs.Grammar.TokenGrammar as grammar
-use Rattle.saphyr_scanner.proofs.Flow.States.{marks_line, Reads}
+use Rattle.saphyr_scanner.proofs.Flow.States.{marks_line, ReaderPromises}
 use Rattle.saphyr_scanner.proofs.Documents.Lines.{passes_filler}
 use Rattle.saphyr_scanner.proofs.Documents.Markers.{start_ends, end_ends, reads_end}
-use Rattle.saphyr_scanner.proofs.Documents.Stands.{Lined, Stands}
+use Rattle.saphyr_scanner.proofs.Documents.Stands.{Lined, StandsInStream}
 use Rattle.saphyr_scanner.proofs.InBlock.Skips.{filler_skipped}
 use Rattle.saphyr_scanner.proofs.InBlock.LineStarts.{opens_line, HasLine, behind_piece, no_line, skipped_unmarked, last_unmarked, end_unmarked, prefix_unmarked}
 use Rattle.saphyr_scanner.proofs.InBlock.FurtherScalars.{EndsFed, fed_front, fed_behind, same_marker}
-use Rattle.saphyr_scanner.proofs.InBlock.Further.{end_further, IsAhead, document_further}
+use Rattle.saphyr_scanner.proofs.InBlock.Further.{end_further, IsTokenAhead, document_further}
 use Rattle.saphyr_scanner.proofs.InBlock.TabsAhead.{TellsTabs, tells_filler, tells_token, has_token, token_filler, token_here}
-use Rattle.saphyr_scanner.proofs.InBlock.Statements.{Leaves}
+use Rattle.saphyr_scanner.proofs.InBlock.Statements.{ReadsLeaves}
 use Rattle.saphyr_scanner.proofs.InBlock.Texts.{node_ends}
 use Rattle.saphyr_scanner.proofs.InBlock.Documents.Ends.{AreBlockDocuments, HasNoReturn, OpensMarker, opens_marker, lands_marked, plain_marked, suffix_text}
 use Rattle.saphyr_scanner.proofs.InBlock.Documents.Nodes.{node_marks}
-use Rattle.saphyr_scanner.proofs.InBlock.Documents.{document_text, reads_front, reads_document}
+use Rattle.saphyr_scanner.proofs.InBlock.Documents.{text_of_document, reads_front, reads_document}
 use Rattle.saphyr_scanner.proofs.InBlock.DirectiveLines.{directives_unmarked}
 use Rattle.saphyr_scanner.proofs.InBlock.Streams.{reads_prefix}
 use Rattle.saphyr_scanner.proofs.InBlock.HandedMarkers.{Handed}
@@ -65,9 +65,10 @@ pub record IsMarkerRest (r : List ℕ) : Type 0 where
   pub first : is_blank_or_breakz (slice_index r 0) ≡ true
   pub fed : EndsFed r
 
-indicator : (w : DocumentMarker) (r : List ℕ) → IsMarkerRest r → IsTrue (is_document_indicator (marker_text w ++ r))
-indicator Starts r h = start_ends r h.first
-indicator Ends r h = end_ends r h.first
+marker_is_indicator : (w : DocumentMarker) (r : List ℕ) → IsMarkerRest r
+    → IsTrue (is_document_indicator (marker_text w ++ r))
+marker_is_indicator Starts r h = start_ends r h.first
+marker_is_indicator Ends r h = end_ends r h.first
 
 dash_or_dot : (cs ds : List ℕ) → 45 ∷ cs ≡ 46 ∷ ds → ⊥
 dash_or_dot cs ds e = let k : true ≡ false = ap (λ (x : List ℕ). slice_index x 0 == 45) e in cc
@@ -80,7 +81,7 @@ StartsHere limit start marker more r =
     → IsTrue free ⊎ (d.directives ≡ []) → d.explicit ≡ true → AreCompatible d.directives
     → IsBlockNode most_open d.node BehindMarker node others → layout.IsBehindDocument (AreBlockDocuments ds) others
     → node ++ others ≡ r
-    → Stands limit start now (Lined opened (45 ∷ 45 ∷ 45 ∷ (r ++ more))) (45 ∷ 45 ∷ 45 ∷ (r ++ more))
+    → StandsInStream limit start now (Lined opened (45 ∷ 45 ∷ 45 ∷ (r ++ more))) (45 ∷ 45 ∷ 45 ∷ (r ++ more))
     (ts ++ map directive_token d.directives)
     → Closes limit start marker (grammar.YieldDocuments (d ∷ ds) free) ts
 
@@ -88,7 +89,7 @@ abbrev pub EndsHere : ℕ → State → DocumentMarker → List ℕ → List ℕ
 EndsHere limit start marker more r =
     (ds : Forest) (end prefix others : List ℕ) (ts : List Kind) → IsEol end (prefix ++ others) → IsDocumentPrefix prefix
     → AreBlockDocuments ds true others → HasNoReturn others → end ++ (prefix ++ others) ≡ r
-    → Stands limit start false (Lined false (46 ∷ 46 ∷ 46 ∷ (r ++ more))) (46 ∷ 46 ∷ 46 ∷ (r ++ more)) ts
+    → StandsInStream limit start false (Lined false (46 ∷ 46 ∷ 46 ∷ (r ++ more))) (46 ∷ 46 ∷ 46 ∷ (r ++ more)) ts
     → Closes limit start marker (grammar.YieldsBehindDocument (grammar.YieldDocuments ds)) ts
 
 abbrev pub Found : ℕ → State → DocumentMarker → List ℕ → DocumentMarker → List ℕ → Type 0
@@ -109,9 +110,9 @@ marked_fed w r t h l = subst EndsFed (sym l.is)
 pub passes_suffix : {limit : ℕ} {start : State} {marker : DocumentMarker} (ds : Forest)
     (end prefix others more : List ℕ) (ts : List Kind) → IsEol end (prefix ++ others) → IsDocumentPrefix prefix
     → EndsFed (prefix ++ others)
-    → Stands limit start false (Lined false (46 ∷ 46 ∷ 46 ∷ (end ++ (prefix ++ (others ++ more)))))
+    → StandsInStream limit start false (Lined false (46 ∷ 46 ∷ 46 ∷ (end ++ (prefix ++ (others ++ more)))))
     (46 ∷ 46 ∷ 46 ∷ (end ++ (prefix ++ (others ++ more)))) ts
-    → ((us : List Kind) → Stands limit start true (Lined true (others ++ more)) (others ++ more) us
+    → ((us : List Kind) → StandsInStream limit start true (Lined true (others ++ more)) (others ++ more) us
     → Closes limit start marker (grammar.YieldDocuments ds true) us)
     → Closes limit start marker (grammar.YieldsBehindDocument (grammar.YieldDocuments ds)) ts
 passes_suffix {limit = limit} {start = start} {marker = marker} ds end prefix others more ts end_is prefix_is fed v go =
@@ -150,21 +151,21 @@ token_marked o k =
     subst (λ (x : List ℕ). has_token false x ≡ true) (sym k.is)
     (token_filler k.filler (k.first ∷ k.others) k.filler_is (token_here k.first k.others k.ink))
 
-closes_beyond : {limit : ℕ} {start : State} {marker : DocumentMarker} → Reads → Leaves limit
+closes_beyond : {limit : ℕ} {start : State} {marker : DocumentMarker} → ReaderPromises → ReadsLeaves limit
     → (w : DocumentMarker) (r more : List ℕ) → IsMarkerRest r
     → (d : Document) (ds : Forest) (free : Bool) (document others : List ℕ) (ts : List Kind)
     → layout.IsDocument (IsBlockNode most_open) d free document others
     → layout.IsBehindDocument (AreBlockDocuments ds) others → HasNoReturn document
-    → Stands limit start free (Lined free (document ++ (others ++ more))) (document ++ (others ++ more)) ts
+    → StandsInStream limit start free (Lined free (document ++ (others ++ more))) (document ++ (others ++ more)) ts
     → Marked w r others
-    → ((us : List Kind) → Stands limit start false (Lined false (others ++ more)) (others ++ more) us
+    → ((us : List Kind) → StandsInStream limit start false (Lined false (others ++ more)) (others ++ more) us
     → Closes limit start marker (grammar.YieldsBehindDocument (grammar.YieldDocuments ds)) us)
     → Closes limit start marker (grammar.YieldDocuments (d ∷ ds) free) ts
 closes_beyond readers leaves w r more rest d ds free document others ts is behind clean v line go =
     let fed = marked_fed w r others rest line in
     let here = opens (opens_marker leaves ds others behind) in
     let k = opens_marker_still others more fed here in
-    let ahead : IsAhead more others = record {
+    let ahead : IsTokenAhead more others = record {
       fed = fed;
       token = token_marked others here;
       tells = tells_marked others more here;
@@ -175,7 +176,8 @@ closes_beyond readers leaves w r more rest d ds free document others ts is behin
     closes_on ts n.tokens (λ all told. (n.tokens, all, n.are, told, refl)) (go (ts ++ n.tokens) n.stands)
   where
     opens : ((ds ≡ []) × IsLastFiller others) ⊎ OpensMarker others → OpensMarker others
-    opens (inl k) = absurd (no_line others (marker_text w ++ r) (last_unmarked others k.1) line (indicator w r rest))
+    opens (inl k) = absurd (no_line others (marker_text w ++ r) (last_unmarked others k.1) line
+        (marker_is_indicator w r rest))
     opens (inr k) = k
 
 -- behind the first dash of a document's marker
@@ -183,31 +185,31 @@ not_dashes : (node others : List ℕ) → marks_line false node others ≡ false
     → marks_line false (45 ∷ 45 ∷ node) others ≡ false
 not_dashes node others h = h
 
-closes_document : {limit : ℕ} {start : State} {marker : DocumentMarker} → Reads → Leaves limit
+closes_document : {limit : ℕ} {start : State} {marker : DocumentMarker} → ReaderPromises → ReadsLeaves limit
     → (w : DocumentMarker) (r more : List ℕ) → IsMarkerRest r → Found limit start marker more w r
     → (d : Document) (ds : Forest) (free : Bool) (document others : List ℕ) (ts : List Kind)
     → layout.IsDocument (IsBlockNode most_open) d free document others
     → layout.IsBehindDocument (AreBlockDocuments ds) others → HasNoReturn document
-    → Stands limit start free (Lined free (document ++ (others ++ more))) (document ++ (others ++ more)) ts
+    → StandsInStream limit start free (Lined free (document ++ (others ++ more))) (document ++ (others ++ more)) ts
     → Marked w r (document ++ others)
     → (Marked w r others → (us : List Kind)
-    → Stands limit start false (Lined false (others ++ more)) (others ++ more) us
+    → StandsInStream limit start false (Lined false (others ++ more)) (others ++ more) us
     → Closes limit start marker (grammar.YieldsBehindDocument (grammar.YieldDocuments ds)) us)
     → Closes limit start marker (grammar.YieldDocuments (d ∷ ds) free) ts
 closes_document readers leaves w r more rest found d ds free document others ts (inl (is_free, (same, unmarked, is)))
     behind clean v line go =
     let l = behind_piece true document others line.front (marker_text w ++ r) line.is
     (node_marks true document others (node_ends leaves d.node AtStart document others is) ∙ unmarked) line.line
-    (indicator w r rest) in
+    (marker_is_indicator w r rest) in
     closes_beyond readers leaves w r more rest d ds free document others ts (inl (is_free, (same, unmarked, is))) behind
     clean v l (go l)
 closes_document {limit = limit} {start = start} {marker = marker} readers leaves w r more rest found d ds free document
     others ts (inr (may, (directives, node, explicit, compatible, are, unmarked, is, e))) behind clean v line go =
     let text : document ++ others ≡ directives ++ (45 ∷ 45 ∷ 45 ∷ (node ++ others)) =
-    ap (λ (x : List ℕ). x ++ others) e ∙ document_text directives node others in
+    ap (λ (x : List ℕ). x ++ others) e ∙ text_of_document directives node others in
     let l = behind_piece true directives (45 ∷ 45 ∷ 45 ∷ (node ++ others)) line.front (marker_text w ++ r)
     (sym text ∙ line.is) (directives_unmarked d.directives directives are true (45 ∷ 45 ∷ 45 ∷ (node ++ others)))
-    line.line (indicator w r rest) in
+    line.line (marker_is_indicator w r rest) in
     by_front l.front l.is l.line
   where
     at_marker : (w : DocumentMarker) → Found limit start marker more w r
@@ -217,11 +219,11 @@ closes_document {limit = limit} {start = start} {marker = marker} readers leaves
     at_marker Starts found same =
         let left : node ++ others ≡ r = cc in
         let text : document ++ (others ++ more) ≡ directives ++ (45 ∷ 45 ∷ 45 ∷ (r ++ more)) =
-        ap (λ (x : List ℕ). x ++ (others ++ more)) e ∙ document_text directives node (others ++ more)
+        ap (λ (x : List ℕ). x ++ (others ++ more)) e ∙ text_of_document directives node (others ++ more)
         ∙ ap (λ (x : List ℕ). directives ++ (45 ∷ 45 ∷ 45 ∷ x))
         (sym (append_assoc node others more) ∙ ap (λ (x : List ℕ). x ++ more) left) in
         let f = reads_front readers d free directives (r ++ more) ts may are
-        (subst (λ (x : List ℕ). Stands limit start free (Lined free x) x ts) text v) in
+        (subst (λ (x : List ℕ). StandsInStream limit start free (Lined free x) x ts) text v) in
         found d ds free f.free f.opened node others ts may explicit compatible is behind left f.stands
 
     by_front : (front : List ℕ) → 45 ∷ 45 ∷ 45 ∷ (node ++ others) ≡ front ++ (marker_text w ++ r)
@@ -233,7 +235,7 @@ closes_document {limit = limit} {start = start} {marker = marker} readers leaves
         let none = not_dashes node others
         (node_marks false node others (node_ends leaves d.node BehindMarker node others is) ∙ unmarked) in
         let l = behind_piece false (45 ∷ 45 ∷ node) others cs (marker_text w ++ r) left none
-        (subst (λ (x : ℕ). opens_line (x == line_feed) cs ≡ true) first opens) (indicator w r rest) in
+        (subst (λ (x : ℕ). opens_line (x == line_feed) cs ≡ true) first opens) (marker_is_indicator w r rest) in
         closes_beyond readers leaves w r more rest d ds free document others ts
         (inr (may, (directives, node, explicit, compatible, are, unmarked, is, e))) behind clean v l (go l)
 
@@ -242,10 +244,10 @@ closes_document {limit = limit} {start = start} {marker = marker} readers leaves
 closes_behind : {limit : ℕ} {start : State} {marker : DocumentMarker} (w : DocumentMarker) (r more : List ℕ)
     → IsMarkerRest r → Found limit start marker more w r → (ds : Forest)
     → ((free : Bool) (t : List ℕ) (ts : List Kind) → AreBlockDocuments ds free t → HasNoReturn t
-    → Stands limit start free (Lined free (t ++ more)) (t ++ more) ts → Marked w r t
+    → StandsInStream limit start free (Lined free (t ++ more)) (t ++ more) ts → Marked w r t
     → Closes limit start marker (grammar.YieldDocuments ds free) ts)
     → (o : List ℕ) (ts : List Kind) → layout.IsBehindDocument (AreBlockDocuments ds) o → HasNoReturn o
-    → Stands limit start false (Lined false (o ++ more)) (o ++ more) ts → Marked w r o
+    → StandsInStream limit start false (Lined false (o ++ more)) (o ++ more) ts → Marked w r o
     → Closes limit start marker (grammar.YieldsBehindDocument (grammar.YieldDocuments ds)) ts
 closes_behind w r more rest found ds go o ts (inl h) clean v line =
     let c = go false o ts h clean v line in
@@ -261,15 +263,15 @@ closes_behind {limit = limit} {start = start} {marker = marker} w r more rest fo
     is ∙ ap (λ (x : List ℕ). x ++ others) e ∙ suffix_text filler end prefix others in
     let l = behind_piece true filler (46 ∷ 46 ∷ 46 ∷ (end ++ (prefix ++ others))) line.front (marker_text w ++ r)
     (sym text ∙ line.is) (skipped_unmarked filler (filler_skipped filler filler_is) true _) line.line
-    (indicator w r rest) in
+    (marker_is_indicator w r rest) in
     let whole : o ++ more ≡ filler ++ (46 ∷ 46 ∷ 46 ∷ ((end ++ (prefix ++ others)) ++ more)) =
     ap (λ (x : List ℕ). x ++ more) text ∙ append_assoc filler (46 ∷ 46 ∷ 46 ∷ (end ++ (prefix ++ others))) more in
     let first = passes_filler filler (46 ∷ 46 ∷ 46 ∷ ((end ++ (prefix ++ others)) ++ more)) filler_is
-    (subst (λ (x : List ℕ). Stands limit start false (Lined false x) x ts) whole v) in
+    (subst (λ (x : List ℕ). StandsInStream limit start false (Lined false x) x ts) whole v) in
     by_front (back_in _ suffix others (subst HasNoReturn is clean)) first l.front l.is l.line
   where
     at_marker : HasNoReturn others → (w : DocumentMarker) → Found limit start marker more w r
-        → Stands limit start false (Lined false (46 ∷ 46 ∷ 46 ∷ ((end ++ (prefix ++ others)) ++ more)))
+        → StandsInStream limit start false (Lined false (46 ∷ 46 ∷ 46 ∷ ((end ++ (prefix ++ others)) ++ more)))
         (46 ∷ 46 ∷ 46 ∷ ((end ++ (prefix ++ others)) ++ more)) ts
         → 46 ∷ 46 ∷ 46 ∷ (end ++ (prefix ++ others)) ≡ marker_text w ++ r
         → Closes limit start marker (grammar.YieldsBehindDocument (grammar.YieldDocuments ds)) ts
@@ -278,11 +280,11 @@ closes_behind {limit = limit} {start = start} {marker = marker} w r more rest fo
     at_marker left Ends found first same =
         let text : end ++ (prefix ++ others) ≡ r = cc in
         found ds end prefix others ts end_is prefix_is h left text
-        (subst (λ (x : List ℕ). Stands limit start false (Lined false (46 ∷ 46 ∷ 46 ∷ (x ++ more)))
+        (subst (λ (x : List ℕ). StandsInStream limit start false (Lined false (46 ∷ 46 ∷ 46 ∷ (x ++ more)))
         (46 ∷ 46 ∷ 46 ∷ (x ++ more)) ts) text first)
 
     by_front : HasNoReturn others
-        → Stands limit start false (Lined false (46 ∷ 46 ∷ 46 ∷ ((end ++ (prefix ++ others)) ++ more)))
+        → StandsInStream limit start false (Lined false (46 ∷ 46 ∷ 46 ∷ ((end ++ (prefix ++ others)) ++ more)))
         (46 ∷ 46 ∷ 46 ∷ ((end ++ (prefix ++ others)) ++ more)) ts
         → (front : List ℕ) → 46 ∷ 46 ∷ 46 ∷ (end ++ (prefix ++ others)) ≡ front ++ (marker_text w ++ r)
         → opens_line true front ≡ true
@@ -293,35 +295,36 @@ closes_behind {limit = limit} {start = start} {marker = marker} w r more rest fo
         let text : 46 ∷ 46 ∷ (end ++ (prefix ++ others)) ≡ cs ++ (marker_text w ++ r) = cc in
         let k = behind_piece false (46 ∷ 46 ∷ end) (prefix ++ others) cs (marker_text w ++ r) text
         (end_unmarked end (prefix ++ others) end_is false (prefix ++ others))
-        (subst (λ (x : ℕ). opens_line (x == line_feed) cs ≡ true) dot opens) (indicator w r rest) in
+        (subst (λ (x : ℕ). opens_line (x == line_feed) cs ≡ true) dot opens) (marker_is_indicator w r rest) in
         let l = behind_piece true prefix others k.front (marker_text w ++ r) k.is
-        (prefix_unmarked prefix prefix_is true others) k.line (indicator w r rest) in
+        (prefix_unmarked prefix prefix_is true others) k.line (marker_is_indicator w r rest) in
         let behind : (end ++ (prefix ++ others)) ++ more ≡ end ++ (prefix ++ (others ++ more)) =
         append_assoc end (prefix ++ others) more
         ∙ ap (λ (x : List ℕ). end ++ x) (append_assoc prefix others more) in
         passes_suffix ds end prefix others more ts end_is prefix_is (marked_fed w r (prefix ++ others) rest k)
-        (subst (λ (x : List ℕ). Stands limit start false (Lined false (46 ∷ 46 ∷ 46 ∷ x)) (46 ∷ 46 ∷ 46 ∷ x) ts) behind
+        (subst (λ (x : List ℕ). StandsInStream limit start false (Lined false (46 ∷ 46 ∷ 46 ∷ x)) (46 ∷ 46 ∷ 46 ∷ x) ts)
+        behind
         first)
         (λ us s. go true others us h left s l)
 
 -- The marker stands at a line's start of the documents' text: up to it they are read, and there what is to be shown is.
-pub closes_documents : {limit : ℕ} {start : State} {marker : DocumentMarker} → Reads → Leaves limit
+pub closes_documents : {limit : ℕ} {start : State} {marker : DocumentMarker} → ReaderPromises → ReadsLeaves limit
     → (w : DocumentMarker) (r more : List ℕ) → IsMarkerRest r → Found limit start marker more w r
     → (forest : Forest) (free : Bool) (t : List ℕ) (ts : List Kind) → AreBlockDocuments forest free t → HasNoReturn t
-    → Stands limit start free (Lined free (t ++ more)) (t ++ more) ts → HasLine t (marker_text w ++ r)
+    → StandsInStream limit start free (Lined free (t ++ more)) (t ++ more) ts → HasLine t (marker_text w ++ r)
     → Closes limit start marker (grammar.YieldDocuments forest free) ts
 closes_documents readers leaves w r more rest found [] free t ts h clean v line =
-    absurd (no_line t (marker_text w ++ r) (last_unmarked t h) line (indicator w r rest))
+    absurd (no_line t (marker_text w ++ r) (last_unmarked t h) line (marker_is_indicator w r rest))
 closes_documents {limit = limit} {start = start} readers leaves w r more rest found (d ∷ ds) free t ts
     (filler, document, others, filler_is, is, behind, e) clean v line =
     let l = behind_piece true filler (document ++ others) line.front (marker_text w ++ r) (sym e ∙ line.is)
     (skipped_unmarked filler (filler_skipped filler filler_is) true (document ++ others)) line.line
-    (indicator w r rest) in
+    (marker_is_indicator w r rest) in
     let text : t ++ more ≡ filler ++ (document ++ (others ++ more)) =
     ap (λ (x : List ℕ). x ++ more) e ∙ append_assoc filler (document ++ others) more
     ∙ ap (λ (x : List ℕ). filler ++ x) (append_assoc document others more) in
     let first = passes_filler filler (document ++ (others ++ more)) filler_is
-    (subst (λ (x : List ℕ). Stands limit start free (Lined free x) x ts) text v) in
+    (subst (λ (x : List ℕ). StandsInStream limit start free (Lined free x) x ts) text v) in
     let left = back_in _ filler (document ++ others) (subst HasNoReturn e clean) in
     closes_document readers leaves w r more rest found d ds free document others ts is behind
     (front_in _ document others left) first l

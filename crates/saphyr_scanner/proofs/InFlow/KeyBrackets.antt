@@ -8,7 +8,7 @@ use Rattle.saphyr_scanner.specs.Grammar.Tokens as tokens
 use Rattle.saphyr_scanner.specs.Grammar.Tokens.{Kind}
 use Rattle.saphyr_scanner.specs.Grammar.TokenGrammar as grammar
 use Rattle.saphyr_scanner.specs.Steps.Queue.{Place}
-use Rattle.saphyr_scanner.specs.Steps.Core.{Candidate}
+use Rattle.saphyr_scanner.specs.Steps.Level.{Candidate}
 use Rattle.saphyr_scanner.specs.Steps.State.{State}
 use Rattle.saphyr_scanner.specs.Grammar.Forest.{Properties, Seq, Map, Nodes, Pairs}
 use Rattle.saphyr_scanner.specs.Grammar.FlowNodes.{IsBeforeContent, IsFlowNode}
@@ -18,7 +18,7 @@ use Rattle.saphyr_scanner.proofs.InFlow.KeyLines.{Ready}
 use Rattle.saphyr_scanner.proofs.InFlow.KeyTokens.{InKey, in_back, in_right, in_so, Along, along_joins, along_ready}
 use Rattle.saphyr_scanner.proofs.InFlow.KeyScalars.{colon_text, colon_after}
 use Rattle.saphyr_scanner.proofs.InFlow.KeyCollections.{calmed, collection_along}
-use Rattle.saphyr_scanner.proofs.Flow.States.{moved, Fits, IsParted, Reads}
+use Rattle.saphyr_scanner.proofs.Flow.States.{moved, FitsAround, IsParted, ReaderPromises}
 use Rattle.saphyr_scanner.proofs.Flow.Places.{clear_front}
 use Rattle.saphyr_scanner.proofs.Flow.Collections.{Brackets, AreBrackets, bracket_text, RunsInside}
 use Rattle.saphyr_scanner.proofs.Flow.Items.{items_ink}
@@ -44,7 +44,7 @@ RunsAt around Is b k w inside n r =
     (e : Marker) → InKey around k e (bracket_text b w inside ++ spaces n) (58 ∷ r)
     → RunsInside (calmed around) Is b context.Block [] (moved e (b.opening ∷ w)) inside (colon_text n r)
 
-brackets_key : Reads → (around : Around) → around.pending ≡ around.required
+brackets_key : ReaderPromises → (around : Around) → around.pending ≡ around.required
     → (start : State) (Is : List Kind → Type 0) (b : Brackets) → AreBrackets b
     → (p : Properties) (k : Candidate) (qs : List Place) (front w inside : List ℕ) (n : ℕ)
     (r : List ℕ) (e : Marker) (ad : ℕ) → IsBeforeContent p around.indent front → IsSeparation around.indent w
@@ -97,7 +97,7 @@ brackets_key reads around same start Is b are p k qs front w inside n r e ad (in
 -- a piece inside a key's brackets
 inside_fits : (around : Around) (k : Candidate) (e : Marker) (c : ℕ) (w inside : List ℕ) (d n : ℕ) (r : List ℕ)
     → InKey around k e (((c ∷ w) ++ (inside ++ (d ∷ []))) ++ spaces n) (58 ∷ r)
-    → Fits (calmed around) (moved e (c ∷ w)) inside (d ∷ colon_text n r)
+    → FitsAround (calmed around) (moved e (c ∷ w)) inside (d ∷ colon_text n r)
 inside_fits around k e c w inside d n r text =
     let tail = inside ++ ((d ∷ []) ++ spaces n) in
     let same : ((c ∷ w) ++ (inside ++ (d ∷ []))) ++ spaces n ≡ (c ∷ w) ++ tail =
@@ -116,7 +116,7 @@ inside_fits around k e c w inside d n r text =
 room_inside : (left : ℕ) → 255 ≡ suc left → left + 1 ≤ 255
 room_inside left e = omega (arith, e)
 
-pub sequence_key : Reads → (around : Around) → around.pending ≡ around.required
+pub sequence_key : ReaderPromises → (around : Around) → around.pending ≡ around.required
     → (start : State) (p : Properties) (nodes : Nodes) (k : Candidate) (qs : List Place) (t : List ℕ) (n : ℕ)
     (r : List ℕ) (e : Marker) (ad : ℕ)
     → IsFlowNode 255 (Seq p nodes) false around.indent t → InKey around k e (t ++ spaces n) (58 ∷ r) → ad ≤ e.index
@@ -160,13 +160,13 @@ sequence_key reads around same start p nodes k qs t n r e ad
       along = c.along;
     })
 
-pub mapping_key : Reads → (around : Around) → around.pending ≡ around.required
+pub mapping_key_reads : ReaderPromises → (around : Around) → around.pending ≡ around.required
     → (start : State) (p : Properties) (pairs : Pairs) (k : Candidate) (qs : List Place) (t : List ℕ) (n : ℕ)
     (r : List ℕ) (e : Marker) (ad : ℕ)
     → IsFlowNode 255 (Map p pairs) false around.indent t → InKey around k e (t ++ spaces n) (58 ∷ r) → ad ≤ e.index
     → Ready around start k (t ++ colon_text n r) e ad qs
     → KeyAlong around start (Map p pairs) k qs (colon_after e t n) (58 ∷ r)
-mapping_key reads around same start p pairs k qs t n r e ad
+mapping_key_reads reads around same start p pairs k qs t n r e ad
     (left, opening, inside, room, (front, w, f, parts, o), h, is) text low ready =
     let body = bracket_text curly w inside in
     let whole : t ≡ front ++ body = whole_text t opening front w inside 123 125 is o in

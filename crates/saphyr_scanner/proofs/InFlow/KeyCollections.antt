@@ -9,14 +9,15 @@ use Rattle.saphyr_scanner.specs.declared.engine.level.Context.{Context}
 use Rattle.saphyr_scanner.specs.declared.engine.level.Context.TheVariants as context
 use Rattle.saphyr_scanner.specs.Grammar.Tokens.{Kind}
 use Rattle.saphyr_scanner.specs.Steps.Queue.{Place, Queue}
-use Rattle.saphyr_scanner.specs.Steps.Core.{Candidate, Level, is_block, from_to, went}
-use Rattle.saphyr_scanner.specs.Steps.Flow.{close_collection, ends_pair}
-use Rattle.saphyr_scanner.specs.Steps.State.{State, carried, acted}
-use Rattle.saphyr_scanner.specs.Steps.Fetch.{step, state_behind_content, fetch_here, fetch, within, fetch_within}
-use Rattle.saphyr_scanner.proofs.Leads.{Leads, stay, onward}
+use Rattle.saphyr_scanner.specs.Steps.Core.{from_to, completed_step}
+use Rattle.saphyr_scanner.specs.Steps.Level.{Candidate, Level, is_block, ends_pair}
+use Rattle.saphyr_scanner.specs.Steps.Flow.{close_collection}
+use Rattle.saphyr_scanner.specs.Steps.State.{State, on_core, after_step}
+use Rattle.saphyr_scanner.specs.Steps.Fetch.{step, state_behind_content, fetch_here, fetch, check_limit, fetch_within}
+use Rattle.saphyr_scanner.proofs.Leads.{LeadsTo, stay, onward}
 use Rattle.saphyr_scanner.proofs.Json.States.{queue_of, none_before}
 use Rattle.saphyr_scanner.proofs.Json.Marks.{chain, kinds, kinds_append, level_of}
-use Rattle.saphyr_scanner.proofs.Json.Brackets.{place_of}
+use Rattle.saphyr_scanner.proofs.Json.Brackets.{token_place}
 use Rattle.saphyr_scanner.proofs.InFlow.States.{Around, core_at, state_at, drops_far_key, left_in_flow, behind_key, opening_steps_open, open_collection_gives, close_collection_gives, deepened, moment}
 use Rattle.saphyr_scanner.proofs.InFlow.ScalarsOnLine.{separation_of_blanks}
 use Rattle.saphyr_scanner.proofs.InFlow.KeyLines.{Ready, keeps_near_key}
@@ -57,9 +58,9 @@ record Opened (around : Around) (start : State) (b : Brackets) (k : Candidate) (
   deeper : Bool
   there : Cursor
   lands : past around.indent there.mark there.rest ≡ past around.indent (moved e (b.opening ∷ [])) o
-  leads : Leads around.limit
+  leads : LeadsTo around.limit
       (state_at (calmed around) (moment there b.context None (level_of context.Block (Some k) ∷ []) true ad
-      (qs ++ place_of e there.mark b.opens ∷ [])) deeper) start
+      (qs ++ token_place e there.mark b.opens ∷ [])) deeper) start
 
 none_open : 0 < 255
 none_open = omega arith
@@ -76,7 +77,7 @@ bracket_opens around same start b are k qs e o ad parted right below r =
     let p = separates around.indent (cursor_at o (along e 1) false) parted.separation parted.first parted.others
     parted.is parted.parts right parted.ink in
     let d = deepened around context.Block r.deeper in
-    let new = place_of e p.there.mark kind ∷ [] in
+    let new = token_place e p.there.mark kind ∷ [] in
     let st = state_at (calmed around) (moment p.there y None ls true ad (qs ++ new)) d in
     let stepped = are.begins (slice_index o 0) (length qs)
     (core_at around r.deeper (cursor_at (b.opening ∷ o) e r.blank) context.Block (Some k) [] false ad)
@@ -84,18 +85,19 @@ bracket_opens around same start b are k qs e o ad parted right below r =
     [] false ad (behind_key refl refl)
     ∙ open_collection_gives y kind b.opening o e r.blank around d context.Block (Some k) [] false ad p.found p.there
     p.is none_open are.flows (λ _. same)
-    ∙ ap (went (from_to e p.there.mark kind ∷ [])) (same_inside around d p.there y None ls true ad are.flows) in
-    let fetched : fetch start ≡ Ok st = r.fetches ∙ ap (λ q. acted q (queue_of qs)) stepped in
+    ∙ ap (completed_step (from_to e p.there.mark kind ∷ []))
+    (same_inside around d p.there y None ls true ad are.flows) in
+    let fetched : fetch start ≡ Ok st = r.fetches ∙ ap (λ q. after_step q (queue_of qs)) stepped in
     let low = within_index around.indent around.limit p.there (along e 1) o p.lands below in
-    let fits : within around.limit st ≡ Ok st = rw (le-leb p.there.mark.index around.limit low) refl in
-    let kept = ap (λ q. carried q (queue_of (qs ++ new))) (drops_far_key (calmed around) d p.there y None ls true ad
+    let fits : check_limit around.limit st ≡ Ok st = rw (le-leb p.there.mark.index around.limit low) refl in
+    let kept = ap (λ q. on_core q (queue_of (qs ++ new))) (drops_far_key (calmed around) d p.there y None ls true ad
     refl) ∙ ap (λ (j : Option Candidate). Ok (state_at (calmed around) (moment p.there y j ls true ad (qs ++ new)) d))
     (left_in_flow y None p.there.mark are.flows) in
     record {
       deeper = d;
       there = p.there;
       lands = p.lands ∙ ap (λ (m : Marker). past around.indent m o) (mark_moved e b.opening are.opening_mark);
-      leads = onward start st st r.running (ap (λ q. q >>= within around.limit) fetched ∙ fits) kept stay;
+      leads = onward start st st r.running (ap (λ q. q >>= check_limit around.limit) fetched ∙ fits) kept stay;
     }
 
 -- ## The closing bracket
@@ -105,7 +107,7 @@ record Closed (around : Around) (start : State) (k : Candidate) (qs : List Place
   there : Cursor
   rest : there.rest ≡ 58 ∷ r
   mark : there.mark ≡ m
-  leads : Leads around.limit
+  leads : LeadsTo around.limit
       (state_at around
       (moment there context.Block (Some k) [] false ad (qs ++ mark_places ends at_end there.mark kind)) deeper) start
 
@@ -142,9 +144,9 @@ bracket_closes around same b are inside flows closing k j a ad qs s d e n r text
     v.allowed ad p.found p.there p.is flows (λ _. same) in
     let there = ap (λ q. q >>= fetch_here) (v.is d)
     ∙ begins_here (calmed around) d (moment seen inside v.key ls v.allowed ad qs) begins right in
-    let at_place = ap (λ (i : ℕ). acted (step b.closing (slice_index o 0) i core) (queue_of qs))
+    let at_place = ap (λ (i : ℕ). after_step (step b.closing (slice_index o 0) i core) (queue_of qs))
     (none_before (length qs)) in
-    let made = ap (λ q. acted q (queue_of qs)) stepped
+    let made = ap (λ q. after_step q (queue_of qs)) stepped
     ∙ ap (λ (q : Queue). Ok (let z : State =
     record { core = core_at around d p.there context.Block (Some k) [] false ad; queue = q } in z))
     (mark_puts ends qs e p.there.mark b.closes) in
@@ -158,14 +160,14 @@ bracket_closes around same b are inside flows closing k j a ad qs s d e n r text
     let place : p.there.mark ≡ moved (moved e (b.closing ∷ [])) (spaces n) =
     near.1 ∙ ap (λ (m : Marker). moved m (spaces n)) one in
     let last = subst (λ (m : Marker). InKey around k m [] (58 ∷ r)) (sym place) whole in
-    let fits : within around.limit st ≡ Ok st =
+    let fits : check_limit around.limit st ≡ Ok st =
     rw (le-leb p.there.mark.index around.limit (in_limit k p.there.mark [] (58 ∷ r) last)) refl in
     record {
       there = p.there;
       rest = near.0;
       mark = near.1;
-      leads = onward start st st refl (ap (λ q. q >>= within around.limit) fetched ∙ fits)
-          (ap (λ q. carried q (queue_of (qs ++ new)))
+      leads = onward start st st refl (ap (λ q. q >>= check_limit around.limit) fetched ∙ fits)
+          (ap (λ q. on_core q (queue_of (qs ++ new)))
           (keeps_near_key around d p.there k [] false ad (in_near k p.there.mark [] (58 ∷ r) last))) stay;
     }
 
@@ -217,7 +219,7 @@ collection_along around same start Is b are k qs w inside n r e ad parts parted 
     ≡ past around.indent here (inside ++ (b.closing ∷ o)) =
     first.lands ∙ separation_past around.indent (moved e (b.opening ∷ [])) w (inside ++ (b.closing ∷ o)) parts right0
     ∙ ap (λ (m : Marker). past around.indent m (inside ++ (b.closing ∷ o))) (sym split) in
-    let new1 = place_of e first.there.mark b.opens ∷ [] in
+    let new1 = token_place e first.there.mark b.opens ∷ [] in
     let i1 = moved_index e (b.opening ∷ w) in
     let i2 = moved_index here inside in
     let in_front = run (Some k) (moment first.there b.context None [] true ad (qs ++ new1)) refl refl
@@ -264,7 +266,7 @@ collection_along around same start Is b are k qs w inside n r e ad parts parted 
             (le_next around.indent at_end.col q.right));
         piece = record { span = record { start = e; end = first.there.mark }; kind = b.opens };
         others = q.new ++ new3;
-        leads = subst (λ (ps : List Place). Leads around.limit
+        leads = subst (λ (ps : List Place). LeadsTo around.limit
             (state_at around (moment last.there context.Block (Some k) [] false q.adjacent ps) ran.deeper) start) places
             led;
         are = told;

@@ -4,8 +4,10 @@ use Rattle.std.specs.Prelude.{Option, Some, None}
 use Rattle.saphyr_scalar.specs.Views.Cursor.{Cursor}
 use Rattle.saphyr_scanner.specs.declared.engine.level.Context.{Context}
 use Rattle.saphyr_scanner.specs.declared.engine.level.Context.TheVariants as context
+use Rattle.saphyr_scanner.specs.Grammar.Tokens as tokens
 use Rattle.saphyr_scanner.specs.Grammar.Tokens.{Kind}
-use Rattle.saphyr_scanner.specs.Steps.Core.{Candidate, Core}
+use Rattle.saphyr_scanner.specs.Steps.Core.{Core}
+use Rattle.saphyr_scanner.specs.Steps.Level.{Candidate}
 use Rattle.saphyr_scanner.specs.Steps.Property as property
 use Rattle.saphyr_scanner.specs.Steps.Scalar as scalar
 use Rattle.saphyr_scanner.specs.Steps.Flow as flow
@@ -34,11 +36,11 @@ abbrev first_at : Around → Bool → Cursor → ℕ → ℕ → Core
 first_at around d s n ad =
     core_at (keyed around d s.mark) d s context.Block (Some (record { mark = s.mark; place = n })) [] false ad
 
-name_fresh : (is_alias : Bool) (around : Around) (d : Bool) (s : Cursor) (k : Option Candidate) (ad n : ℕ)
-    → property.name_steps is_alias n (core_at around d s context.Block k [] true ad)
-    ≡ property.name_steps is_alias n (first_at around d s n ad)
+name_fresh : (token_of : List ℕ → Kind) (around : Around) (d : Bool) (s : Cursor) (k : Option Candidate) (ad n : ℕ)
+    → property.name_steps token_of n (core_at around d s context.Block k [] true ad)
+    ≡ property.name_steps token_of n (first_at around d s n ad)
 unfolding property.name_steps
-name_fresh is_alias around d s k ad n = refl
+name_fresh token_of around d s k ad n = refl
 
 tag_fresh : (around : Around) (d : Bool) (s : Cursor) (k : Option Candidate) (ad n second : ℕ)
     → step 33 second n (core_at around d s context.Block k [] true ad) ≡ step 33 second n (first_at around d s n ad)
@@ -73,14 +75,15 @@ fresh_so around t u e h = subst (Fresh around) (sym e) h
 fresh_alias : (around : Around) (name t o : List ℕ) → layout.IsAlias name t → Fresh around (t ++ o)
 fresh_alias around name t o h =
     fresh_so around (t ++ o) (42 ∷ (name ++ o)) (ap (λ (x : List ℕ). x ++ o) h.1)
-    (λ d s k ad n. begins_alias _ n (core_at around d s context.Block k [] true ad) ∙ name_fresh true around d s k ad n
+    (λ d s k ad n. begins_alias _ n (core_at around d s context.Block k [] true ad)
+    ∙ name_fresh tokens.Alias around d s k ad n
     ∙ sym (begins_alias _ n (first_at around d s n ad)))
 
 fresh_anchor : (around : Around) (name t o : List ℕ) → layout.IsAnchor name t → Fresh around (t ++ o)
 fresh_anchor around name t o h =
     fresh_so around (t ++ o) (38 ∷ (name ++ o)) (ap (λ (x : List ℕ). x ++ o) h.1)
     (λ d s k ad n. begins_anchor _ n (core_at around d s context.Block k [] true ad)
-    ∙ name_fresh false around d s k ad n ∙ sym (begins_anchor _ n (first_at around d s n ad)))
+    ∙ name_fresh tokens.Anchor around d s k ad n ∙ sym (begins_anchor _ n (first_at around d s n ad)))
 
 fresh_tag : (around : Around) (tag : Tag) (t o : List ℕ) → IsTag tag t → Fresh around (t ++ o)
 fresh_tag around tag t o h =

@@ -9,16 +9,17 @@ use Rattle.saphyr_scalar.specs.Views.Cursor.{Cursor, ◌>>=◌, along}
 use Rattle.saphyr_scalar.specs.Spelling.Tag.{AreIn}
 use Rattle.saphyr_scanner.specs.declared.engine.level.Context.TheVariants as context
 use Rattle.saphyr_scanner.specs.Grammar.Tokens.{Kind}
-use Rattle.saphyr_scanner.specs.Steps.Gap.{Passed, stop, gap}
+use Rattle.saphyr_scanner.specs.Steps.Gap.{GapEnd, stop, gap}
 use Rattle.saphyr_scanner.specs.Steps.Queue.{Place}
-use Rattle.saphyr_scanner.specs.Steps.Core.{Candidate, Level, is_too_far, drop_far_key, from_to, went}
+use Rattle.saphyr_scanner.specs.Steps.Core.{is_too_far, drop_far_key, from_to, completed_step}
+use Rattle.saphyr_scanner.specs.Steps.Level.{Candidate, Level}
 use Rattle.saphyr_scanner.specs.Steps.Passing.{pass_gap, check_comment, behind_gap}
-use Rattle.saphyr_scanner.specs.Steps.State.{State, carried, acted}
+use Rattle.saphyr_scanner.specs.Steps.State.{State, on_core, after_step}
 use Rattle.saphyr_scanner.specs.Steps.Unrolling.{unroll}
-use Rattle.saphyr_scanner.specs.Steps.Fetch.{step, state_behind_content, fetch_here, arrive, fetch, within, fetch_within}
-use Rattle.saphyr_scanner.proofs.Leads.{Leads, stay, onward}
+use Rattle.saphyr_scanner.specs.Steps.Fetch.{step, state_behind_content, fetch_here, arrive, fetch, check_limit, fetch_within}
+use Rattle.saphyr_scanner.proofs.Leads.{LeadsTo, stay, onward}
 use Rattle.saphyr_scanner.proofs.Json.States.{queue_of, none_before, stop_here}
-use Rattle.saphyr_scanner.proofs.Json.Brackets.{place_of}
+use Rattle.saphyr_scanner.proofs.Json.Brackets.{token_place}
 use Rattle.saphyr_scanner.proofs.InFlow.States.{Around, core_at, state_at, least, least_low, drops_far_key, key_left, no_ends, none_unrolls, moment}
 use Rattle.saphyr_scanner.proofs.Flow.States.{moved, IsInk}
 use Rattle.saphyr_scanner.proofs.Flow.Gaps.{right_tab as no_left_tab}
@@ -86,9 +87,9 @@ line_arrives around d s k ad ps w c cs is are ink right near =
     let gapped = ap (λ (t : List ℕ). gap (least around.indent d) s.mark s.blank_so_far false false t) is
     ∙ blanks_gap (least around.indent d) around.indent (least_low around.indent d) w c cs are ink s.mark s.blank_so_far
     right ∙ stop_here n s.blank_so_far false (c ∷ cs) in
-    let passed = ap (λ r. r >>= λ (p : Passed). check_comment (behind_gap here p)) gapped in
+    let passed = ap (λ r. r >>= λ (p : GapEnd). check_comment (behind_gap here p)) gapped in
     let reached = ap (λ r. r >>= drop_far_key) passed ∙ keeps_near_key around d there k [] false ad near in
-    ap (λ r. carried r (queue_of ps) >>= λ (t : State). Ok (unroll (Some t.core.cursor.mark.col) t.core.cursor.mark t))
+    ap (λ r. on_core r (queue_of ps) >>= λ (t : State). Ok (unroll (Some t.core.cursor.mark.col) t.core.cursor.mark t))
     reached
     ∙ ap Ok (none_unrolls around n.col n there context.Block (Some k) [] false ad ps d
     (blanks_past around.indent w are s.mark right).right)
@@ -102,7 +103,7 @@ pub record Ready (around : Around) (start : State) (k : Candidate) (t : List ℕ
   pub blank : Bool
   pub running : start.core.ended ≡ false
   pub fetches : fetch start
-      ≡ acted (step (slice_index t 0) (slice_index t 1) (length qs)
+      ≡ after_step (step (slice_index t 0) (slice_index t 1) (length qs)
       (core_at around deeper (cursor_at t e blank) context.Block (Some k) [] false ad)) (queue_of qs)
 
 -- content stands no further left than its collection's entries
@@ -139,7 +140,7 @@ later_ready around d s k ad ps w c cs is are ink right near token =
       fetches = ap (λ r. r >>= fetch_here) (line_arrives around d s k ad ps w c cs is are ink right near)
           ∙ begins_low around d there (Some k) false ad ps token
           (reaches_low around d n (blanks_past around.indent w are s.mark right).right)
-          ∙ ap (λ (i : ℕ). acted (step c (slice_index cs 0) i core) (queue_of ps)) (none_before (length ps));
+          ∙ ap (λ (i : ℕ). after_step (step c (slice_index cs 0) i core) (queue_of ps)) (none_before (length ps));
     }
 
 -- whether a key has to stand at a column
@@ -205,9 +206,9 @@ first_ready around calm d blank k ad ps m c cs ink right token fresh =
     let left = key_left context.Block k m in
     let e = deeper_at around d m in
     let gapped = ink_gap (least around.indent d) c cs ink m blank ∙ stop_here m blank false (c ∷ cs) in
-    let passed = ap (λ r. r >>= λ (p : Passed). check_comment (behind_gap here p)) gapped in
+    let passed = ap (λ r. r >>= λ (p : GapEnd). check_comment (behind_gap here p)) gapped in
     let reached = ap (λ r. r >>= drop_far_key) passed ∙ drops_far_key around d there context.Block k [] true ad calm in
-    let arrived = ap (λ r. carried r (queue_of ps) >>= λ (t : State). Ok
+    let arrived = ap (λ r. on_core r (queue_of ps) >>= λ (t : State). Ok
     (unroll (Some t.core.cursor.mark.col) t.core.cursor.mark t)) reached
     ∙ ap Ok (no_ends m.col m around.outers (state_at around (moment there context.Block left [] true ad ps) e)
     (one_less around.indent m.col right)) in
@@ -217,9 +218,10 @@ first_ready around calm d blank k ad ps m c cs ink right token fresh =
       running = refl;
       fetches = ap (λ r. r >>= fetch_here) arrived
           ∙ begins_low around e there left true ad ps token (still_least around d m right)
-          ∙ ap (λ (i : ℕ). acted (step c (slice_index cs 0) i (core_at around e there context.Block left [] true ad))
+          ∙ ap (λ (i : ℕ). after_step (step c (slice_index cs 0) i
+          (core_at around e there context.Block left [] true ad))
           (queue_of ps)) (none_before (length ps))
-          ∙ ap (λ q. acted q (queue_of ps)) (fresh e there left ad (length ps));
+          ∙ ap (λ q. after_step q (queue_of ps)) (fresh e there left ad (length ps));
     }
   where
     one_less : (a b : ℕ) → a ≤ b + 1 → nat_lt b (a - 1) ≡ false
@@ -232,16 +234,18 @@ pub token_led : (around : Around) (start : State) (k : Candidate) (t : List ℕ)
     → (end : Marker) (kind : Kind) (there : Cursor) (adjacent : ℕ) (to : Bool → Bool)
     → step (slice_index t 0) (slice_index t 1) (length qs)
     (core_at around r.deeper (cursor_at t e r.blank) context.Block (Some k) [] false ad)
-    ≡ went (from_to e end kind ∷ []) (core_at around (to r.deeper) there context.Block (Some k) [] false adjacent)
+    ≡ completed_step (from_to e end kind ∷ [])
+    (core_at around (to r.deeper) there context.Block (Some k) [] false adjacent)
     → IsNear k there.mark → there.mark.index ≤ around.limit
-    → Leads around.limit (state_at around (moment there context.Block (Some k) [] false adjacent (qs ++ place_of e end
+    → LeadsTo around.limit (state_at around (moment there context.Block (Some k) [] false adjacent
+    (qs ++ token_place e end
     kind ∷ [])) (to r.deeper)) start
 unfolding fetch_within
 token_led around start k t e ad qs r end kind there adjacent to is near low =
-    let st = state_at around (moment there context.Block (Some k) [] false adjacent (qs ++ place_of e end kind ∷ []))
+    let st = state_at around (moment there context.Block (Some k) [] false adjacent (qs ++ token_place e end kind ∷ []))
     (to r.deeper) in
-    let fits : within around.limit st ≡ Ok st = rw (le-leb there.mark.index around.limit low) refl in
-    let fetched : fetch start ≡ Ok st = r.fetches ∙ ap (λ q. acted q (queue_of qs)) is in
-    onward start st st r.running (ap (λ q. q >>= within around.limit) fetched ∙ fits)
-    (ap (λ q. carried q (queue_of (qs ++ place_of e end kind ∷ [])))
+    let fits : check_limit around.limit st ≡ Ok st = rw (le-leb there.mark.index around.limit low) refl in
+    let fetched : fetch start ≡ Ok st = r.fetches ∙ ap (λ q. after_step q (queue_of qs)) is in
+    onward start st st r.running (ap (λ q. q >>= check_limit around.limit) fetched ∙ fits)
+    (ap (λ q. on_core q (queue_of (qs ++ token_place e end kind ∷ [])))
     (keeps_near_key around (to r.deeper) there k [] false adjacent near)) stay

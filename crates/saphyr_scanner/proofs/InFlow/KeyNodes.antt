@@ -9,7 +9,7 @@ use Rattle.saphyr_scalar.specs.Spelling.Spaces.{IsSeparation}
 use Rattle.saphyr_scanner.specs.Grammar.Tokens.{Kind, alias_token, scalar_token}
 use Rattle.saphyr_scanner.specs.Grammar.TokenGrammar as grammar
 use Rattle.saphyr_scanner.specs.Steps.Queue.{Place}
-use Rattle.saphyr_scanner.specs.Steps.Core.{Candidate}
+use Rattle.saphyr_scanner.specs.Steps.Level.{Candidate}
 use Rattle.saphyr_scanner.specs.Steps.State.{State}
 use Rattle.saphyr_scanner.specs.Grammar.Forest.{Style, Plain, Properties, Node, Alias, Scalar, Seq, Map}
 use Rattle.saphyr_scanner.specs.Grammar.FlowNodes as layout
@@ -19,7 +19,7 @@ use Rattle.saphyr_scanner.proofs.InFlow.ScalarsOnLine.{front_on_line, back_on_li
 use Rattle.saphyr_scanner.proofs.InFlow.KeyLines.{Ready}
 use Rattle.saphyr_scanner.proofs.InFlow.KeyTokens.{InKey, in_back, in_so, Along, along_joins, along_ready, alias_along, properties_along}
 use Rattle.saphyr_scanner.proofs.InFlow.KeyScalars.{colon_text, colon_after, ContentReads, scalar_reads, plain_key_reads}
-use Rattle.saphyr_scanner.proofs.Flow.States.{moved, Reads}
+use Rattle.saphyr_scanner.proofs.Flow.States.{moved, ReaderPromises}
 use Rattle.saphyr_scanner.proofs.Flow.Places.{moved_append}
 use Rattle.saphyr_scanner.proofs.Flow.Fillers.{spaces_are_blank}
 use Rattle.saphyr_scanner.proofs.Flow.Ends.{tag_ends_name}
@@ -39,7 +39,8 @@ some_space zero r (inl some) = absurd (some refl)
 some_space zero r (inr k) = absurd (false≢true k)
 some_space (suc n) r h = refl
 
-pub alias_key : Reads → (around : Around) (start : State) (name : List ℕ) (k : Candidate) (qs : List Place) (p : List ℕ)
+pub alias_key : ReaderPromises → (around : Around) (start : State) (name : List ℕ) (k : Candidate) (qs : List Place)
+    (p : List ℕ)
     (n : ℕ) (r : List ℕ) (e : Marker) (ad : ℕ) → layout.IsAlias name p → IsBeforeColon (Alias name) (spaces n)
     → InKey around k e (p ++ spaces n) (58 ∷ r) → ad ≤ e.index → Ready around start k (p ++ colon_text n r) e ad qs
     → KeyAlong around start (Alias name) k qs (colon_after e p n) (58 ∷ r)
@@ -51,7 +52,8 @@ alias_key reads around start name k qs p n r e ad h apart text low ready =
           (tag_ends_name false (colon_text n r) (some_space n r apart)) text refl (spaces_are_blank n) low ready;
     }
 
-empty_key : Reads → (around : Around) (start : State) (p : Properties) (k : Candidate) (qs : List Place) (t : List ℕ)
+empty_key : ReaderPromises → (around : Around) (start : State) (p : Properties) (k : Candidate) (qs : List Place)
+    (t : List ℕ)
     (n : ℕ) (r : List ℕ) (e : Marker) (ad : ℕ) → IsProperties p t → IsBeforeColon (Scalar p Plain []) (spaces n)
     → InKey around k e (t ++ spaces n) (58 ∷ r) → ad ≤ e.index → Ready around start k (t ++ colon_text n r) e ad qs
     → KeyAlong around start (Scalar p Plain []) k qs (colon_after e t n) (58 ∷ r)
@@ -67,7 +69,7 @@ pub record Fronted (around : Around) (start : State) (p : Properties) (k : Candi
   pub are : grammar.YieldProperties p tokens
   pub along : Along around start k qs m y tokens
 
-pub fronted : Reads → (around : Around) (start : State) (p : Properties) (k : Candidate) (qs : List Place)
+pub fronted : ReaderPromises → (around : Around) (start : State) (p : Properties) (k : Candidate) (qs : List Place)
     (t v c s behind_all : List ℕ) (e : Marker) (ad : ℕ) → IsProperties p t → v ≢ [] → IsSeparation around.indent v
     → InKey around k e (t ++ (v ++ (c ++ s))) behind_all → ad ≤ e.index
     → Ready around start k (t ++ (v ++ (c ++ (s ++ behind_all)))) e ad qs
@@ -94,7 +96,7 @@ colon_after_parts e front t v c n is =
     ∙ ap (λ (x : List ℕ). moved (moved (moved e x) c) (spaces n)) (sym is)
     ∙ ap (λ (m : Marker). moved m (spaces n)) (sym (moved_append e front c))
 
-content_key : Reads → (around : Around) (start : State) (p : Properties) (style : Style) (value : List ℕ)
+content_key : ReaderPromises → (around : Around) (start : State) (p : Properties) (style : Style) (value : List ℕ)
     (k : Candidate) (qs : List Place) (front content : List ℕ) (n : ℕ) (r : List ℕ) (e : Marker) (ad : ℕ)
     → IsBeforeContent p around.indent front → ContentReads around style value content n r
     → InKey around k e ((front ++ content) ++ spaces n) (58 ∷ r) → ad ≤ e.index
@@ -131,7 +133,7 @@ content_key reads around start p style value k qs front content n r e ad (inr (t
       along = along_joins f.along c;
     })
 
-pub scalar_key : Reads → (around : Around) (start : State) (p : Properties) (style : Style) (value : List ℕ)
+pub scalar_key : ReaderPromises → (around : Around) (start : State) (p : Properties) (style : Style) (value : List ℕ)
     (k : Candidate) (qs : List Place) (t : List ℕ) (n : ℕ) (r : List ℕ) (e : Marker) (ad : ℕ)
     → IsScalarNode p style value false around.indent t → IsBeforeColon (Scalar p style value) (spaces n)
     → is_blank_or_breakz (slice_index r 0) ≡ true → InKey around k e (t ++ spaces n) (58 ∷ r) → ad ≤ e.index
@@ -152,7 +154,8 @@ scalar_key reads around start p style value k qs t n r e ad (inr (front, content
     (scalar_reads reads around style value content n r g white) i low z) text ready
 
 -- a plain scalar right before its colon
-pub plain_key : Reads → (around : Around) (start : State) (node : Node) (k : Candidate) (qs : List Place) (t r : List ℕ)
+pub plain_key : ReaderPromises → (around : Around) (start : State) (node : Node) (k : Candidate) (qs : List Place)
+    (t r : List ℕ)
     (e : Marker) (ad : ℕ) → IsPlainKeyNode node false around.indent t → is_blank_or_breakz (slice_index r 0) ≡ true
     → InKey around k e (t ++ []) (58 ∷ r) → ad ≤ e.index → Ready around start k (t ++ (58 ∷ r)) e ad qs
     → KeyAlong around start node k qs (moved e t) (58 ∷ r)

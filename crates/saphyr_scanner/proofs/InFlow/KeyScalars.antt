@@ -13,9 +13,10 @@ use Rattle.saphyr_scalar.specs.Spelling.Plain.{is_tabbed, past_white, EndsPlain,
 use Rattle.saphyr_scalar.specs.Steps.BlockRead.{spaces}
 use Rattle.saphyr_scanner.specs.declared.engine.level.Context.TheVariants as context
 use Rattle.saphyr_scanner.specs.Grammar.Tokens.{scalar_token}
-use Rattle.saphyr_scanner.specs.Steps.Gap.{Passed, gap}
+use Rattle.saphyr_scanner.specs.Steps.Gap.{GapEnd, gap}
 use Rattle.saphyr_scanner.specs.Steps.Queue.{Place}
-use Rattle.saphyr_scanner.specs.Steps.Core.{Candidate, Level, from_to, went}
+use Rattle.saphyr_scanner.specs.Steps.Core.{from_to, completed_step}
+use Rattle.saphyr_scanner.specs.Steps.Level.{Candidate, Level}
 use Rattle.saphyr_scanner.specs.Steps.Passing.{pass_gap, check_comment, behind_gap}
 use Rattle.saphyr_scanner.specs.Steps.Scalar.{goes_on_behind_quotes}
 use Rattle.saphyr_scanner.specs.Steps.State.{State}
@@ -26,14 +27,14 @@ use Rattle.saphyr_scanner.proofs.InFlow.Tabs.{tabs_behind}
 use Rattle.saphyr_scanner.proofs.InFlow.ScalarsOnLine.{separation_of_blanks}
 use Rattle.saphyr_scanner.proofs.InFlow.KeyLines.{Ready, token_led, ink_gap}
 use Rattle.saphyr_scanner.proofs.InFlow.KeyTokens.{InKey, in_near, in_back, in_right, in_limit, Along}
-use Rattle.saphyr_scanner.proofs.Flow.States.{moved, past, crosses, IsInk, Reads}
+use Rattle.saphyr_scanner.proofs.Flow.States.{moved, past, crosses, IsInk, ReaderPromises}
 use Rattle.saphyr_scanner.proofs.Flow.Places.{moved_index, clear_front}
 use Rattle.saphyr_scanner.proofs.Flow.GapSteps.{past_ink}
 use Rattle.saphyr_scanner.proofs.InBlock.Crossings.{spaces_uncrossed}
 use Rattle.saphyr_scanner.proofs.Flow.Fillers.{spaces_past, spaces_are_blank, blanks_past}
 use Rattle.saphyr_scanner.proofs.Flow.Arrivals.{PassesGap}
 use Rattle.saphyr_scanner.proofs.Flow.Separates.{separates}
-use Rattle.saphyr_scanner.proofs.Flow.Quotes.{EndsQuotes, style_of, quote_first, behind_step, quoted_step}
+use Rattle.saphyr_scanner.proofs.Flow.Quotes.{EndsQuotes, style_of_quote, quote_first, behind_step, quoted_step}
 use Rattle.saphyr_scanner.proofs.Flow.Plains.{BeginsWord, word_begins, key_begins, token_begins, plain_step}
 use Rattle.saphyr_scanner.proofs.Flow.Words.{plain_text, key_text}
 use Rattle.saphyr_scanner.proofs.Flow.Tokens.{Begins}
@@ -96,7 +97,8 @@ abbrev pub colon_after : Marker → List ℕ → ℕ → Marker
 colon_after e t n = moved (moved e t) (spaces n)
 
 -- a text that is read as a plain scalar
-text_along : Reads → (around : Around) (start : State) (k : Candidate) (qs : List Place) (c : ℕ) (cs : List ℕ) (n : ℕ)
+text_along : ReaderPromises → (around : Around) (start : State) (k : Candidate) (qs : List Place) (c : ℕ) (cs : List ℕ)
+    (n : ℕ)
     (r : List ℕ) (e : Marker) (ad : ℕ) → BeginsWord false (c ∷ cs) (colon_text n r)
     → IsPlainText false around.indent e (c ∷ cs) (colon_text n r) → InKey around k e ((c ∷ cs) ++ spaces n) (58 ∷ r)
     → ad ≤ e.index → Ready around start k ((c ∷ cs) ++ colon_text n r) e ad qs
@@ -113,10 +115,10 @@ text_along reads around start k qs c cs n r e ad begins plain text low ready =
     (in_back k e t (spaces n) (58 ∷ r) text)) in
     let stepped = plain_step reads around ready.deeper (length qs) e ready.blank t o context.Block begins plain clear
     (Some k) [] false ad (inl refl) (behind_key refl refl)
-    ∙ ap (λ (u : Cursor). went (from_to e end kind ∷ [])
+    ∙ ap (λ (u : Cursor). completed_step (from_to e end kind ∷ [])
     (record (core_at around false u context.Block (Some k) [] u.blank_so_far ad)
     { comment = comment_of false (is_tabbed around.indent o) u })) (white_spaces end n r)
-    ∙ ap (λ (q : Option Marker). went (from_to e end kind ∷ [])
+    ∙ ap (λ (q : Option Marker). completed_step (from_to e end kind ∷ [])
     (record (core_at around false there context.Block (Some k) [] false ad) { comment = q }))
     (no_comment (is_tabbed around.indent o) (colon_after e t n) r) in
     let led = token_led around start k (t ++ o) e ad qs ready end kind there ad (λ d. false) stepped
@@ -137,7 +139,8 @@ text_along reads around start k qs c cs n r e ad begins plain text low ready =
       low = index_behind e t n ad low;
     }
 
-pub plain_along : Reads → (around : Around) (start : State) (k : Candidate) (qs : List Place) (c : ℕ) (cs : List ℕ)
+pub plain_along : ReaderPromises → (around : Around) (start : State) (k : Candidate) (qs : List Place) (c : ℕ)
+    (cs : List ℕ)
     (n : ℕ) (r : List ℕ) (e : Marker) (ad : ℕ) → IsPlain false around.indent (c ∷ cs)
     → is_blank_or_breakz (slice_index r 0) ≡ true → InKey around k e ((c ∷ cs) ++ spaces n) (58 ∷ r) → ad ≤ e.index
     → Ready around start k ((c ∷ cs) ++ colon_text n r) e ad qs
@@ -149,7 +152,7 @@ plain_along reads around start k qs c cs n r e ad h white text low ready =
     (key_ends_plain around.indent (moved e (c ∷ cs)) n r white)) text low ready
 
 -- a plain scalar whose last word may end with a colon, right before the key's colon
-pub plain_key_along : Reads
+pub plain_key_along : ReaderPromises
     → (around : Around) (start : State) (k : Candidate) (qs : List Place) (c : ℕ) (cs r : List ℕ) (e : Marker) (ad : ℕ)
     → IsPlainKey false around.indent (c ∷ cs)
     → is_blank_or_breakz (slice_index r 0) ≡ true → InKey around k e ((c ∷ cs) ++ []) (58 ∷ r) → ad ≤ e.index
@@ -180,7 +183,7 @@ gap_to_colon around d s k ad m r is at_colon =
     let gapped = ap (λ (t : List ℕ). gap low s.mark s.blank_so_far false false t) is
     ∙ ap (λ (n : Marker). gap low n s.blank_so_far false false (58 ∷ r)) at_colon
     ∙ ink_gap low 58 r colon_ink m s.blank_so_far ∙ stop_here m s.blank_so_far false (58 ∷ r) in
-    ap (λ q. q >>= λ (p : Passed). check_comment (behind_gap (core_at around d s context.Block (Some k) [] false ad) p))
+    ap (λ q. q >>= λ (p : GapEnd). check_comment (behind_gap (core_at around d s context.Block (Some k) [] false ad) p))
     gapped
 
 -- what stands behind the closing quote, and the colon
@@ -214,17 +217,17 @@ no_quote : (n : ℕ) (r : List ℕ) → (slice_index (colon_text n r) 0 == 39) �
 no_quote zero r = refl
 no_quote (suc n) r = refl
 
-pub quotes_along : Reads
+pub quotes_along : ReaderPromises
     → (around : Around) (start : State) (k : Candidate) (qs : List Place) (quote : Quote) (value t : List ℕ) (n : ℕ)
     (r : List ℕ) (e : Marker) (ad : ℕ) → IsQuoted quote around.indent value t
     → InKey around k e (t ++ spaces n) (58 ∷ r) → Ready around start k (t ++ colon_text n r) e ad qs
-    → Along around start k qs (colon_after e t n) (58 ∷ r) (scalar_token (style_of quote) value ∷ [])
+    → Along around start k qs (colon_after e t n) (58 ∷ r) (scalar_token (style_of_quote quote) value ∷ [])
 quotes_along reads around start k qs quote value t n r e ad h text ready =
     let o = colon_text n r in
     let clear = clear_front e t (spaces n) (58 ∷ r) text.clear in
     let end = moved e t in
     let m = colon_after e t n in
-    let kind = scalar_token (style_of quote) value in
+    let kind = scalar_token (style_of_quote quote) value in
     let whole = in_back k e t (spaces n) (58 ∷ r) text in
     let last = in_back k end (spaces n) [] (58 ∷ r)
     (subst (λ (x : List ℕ). InKey around k end x (58 ∷ r)) (sym (append-nil (spaces n))) whole) in
@@ -246,7 +249,8 @@ quotes_along reads around start k qs quote value t n r e ad h text ready =
     let there = cursor_at (58 ∷ r) m shut.blank_so_far in
     let stepped = quoted_step reads around ready.deeper quote (length qs) e ready.blank value t o h clear (no_quote n r)
     context.Block (Some k) [] false ad (slice_index (t ++ o) 0) first (behind_key refl refl)
-    ∙ behind_step around ready.deeper e (style_of quote) (encode_utf8_all value) (at end o) context.Block (Some k) [] ad
+    ∙ behind_step around ready.deeper e (style_of_quote quote) (encode_utf8_all value) (at end o) context.Block (Some k)
+    [] ad
     m (58 ∷ r) ends.ends g in
     let led = token_led around start k (t ++ o) e ad qs ready ends.ends.there.mark kind there m.index (λ d. d) stepped
     (in_near k m [] (58 ∷ r) last) (in_limit k m [] (58 ∷ r) last) in
@@ -275,7 +279,7 @@ some_first : (in_flow : Bool) (indent : ℕ) (t : List ℕ) → IsPlain in_flow 
     → (c : ℕ) × (cs : List ℕ) × (t ≡ c ∷ cs)
 some_first in_flow indent t h = let w = word_begins in_flow indent t [] h in (w.first, w.others, w.is)
 
-pub content_along : Reads
+pub content_along : ReaderPromises
     → (around : Around) (start : State) (k : Candidate) (qs : List Place) (style : Style) (value t : List ℕ) (n : ℕ)
     (r : List ℕ) (e : Marker) (ad : ℕ) → IsFlowScalar style value false around.indent t
     → is_blank_or_breakz (slice_index r 0) ≡ true → InKey around k e (t ++ spaces n) (58 ∷ r) → ad ≤ e.index
@@ -310,7 +314,7 @@ scalar_begins indent DoubleQuoted value t h = subst Begins (sym h.5) (quote_firs
 scalar_begins indent Literal value t h = absurd h
 scalar_begins indent Folded value t h = absurd h
 
-pub scalar_reads : Reads → (around : Around) (style : Style) (value content : List ℕ) (n : ℕ) (r : List ℕ)
+pub scalar_reads : ReaderPromises → (around : Around) (style : Style) (value content : List ℕ) (n : ℕ) (r : List ℕ)
     → IsFlowScalar style value false around.indent content → is_blank_or_breakz (slice_index r 0) ≡ true
     → ContentReads around style value content n r
 scalar_reads reads around style value content n r h white =
@@ -321,7 +325,7 @@ scalar_reads reads around style value content n r h white =
           text low ready;
     }
 
-pub plain_key_reads : Reads → (around : Around) (style : Style) (value content r : List ℕ) → style ≡ Plain
+pub plain_key_reads : ReaderPromises → (around : Around) (style : Style) (value content r : List ℕ) → style ≡ Plain
     → value ≡ plain_value content → IsPlainKey false around.indent content → is_blank_or_breakz (slice_index r 0) ≡ true
     → ContentReads around style value content 0 r
 plain_key_reads reads around style value content r plain is h white =

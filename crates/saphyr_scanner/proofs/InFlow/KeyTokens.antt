@@ -1,5 +1,5 @@
 -- The tokens of a key on one line at block level, one behind the other.
-use Rattle.std.proofs.Common.{◌≡◌, ℕ, zero, suc, ◌+◌, ◌≤◌, Bool, true, false, List, [], ◌∷◌, ◌++◌, length, slice_index, refl, sym, ap, ◌∙◌, arith, subst, append_assoc, inl, inr, encode_utf8_all}
+use Rattle.std.proofs.Common.{◌≡◌, ℕ, zero, suc, ◌+◌, ◌≤◌, Bool, false, List, [], ◌∷◌, ◌++◌, length, slice_index, refl, sym, ap, ◌∙◌, arith, subst, append_assoc, inl, inr, encode_utf8_all}
 use Rattle.std.specs.Prelude.{option_map, Option, Some, None}
 use Rattle.std.proofs.lemmas.List.{length-append}
 use Rattle.saphyr_input.specs.Classes.{is_blank, is_break, is_anchor_char}
@@ -13,23 +13,23 @@ use Rattle.saphyr_scanner.specs.Grammar.Tokens as tokens
 use Rattle.saphyr_scanner.specs.Grammar.Tokens.{Kind, alias_token, anchor_token, tag_token}
 use Rattle.saphyr_scanner.specs.Grammar.TokenGrammar as grammar
 use Rattle.saphyr_scanner.specs.Views.Tokens.{Piece}
-use Rattle.saphyr_scanner.specs.Steps.Queue.{Place, closed}
-use Rattle.saphyr_scanner.specs.Steps.Core.{Candidate, Core}
+use Rattle.saphyr_scanner.specs.Steps.Queue.{Place, bare_place}
+use Rattle.saphyr_scanner.specs.Steps.Core.{Core}
+use Rattle.saphyr_scanner.specs.Steps.Level.{Candidate}
 use Rattle.saphyr_scanner.specs.Steps.Property as property
-use Rattle.saphyr_scanner.specs.Steps.Property.{name_token}
 use Rattle.saphyr_scanner.specs.Steps.State.{State}
 use Rattle.saphyr_scanner.specs.Steps.Fetch.{step}
 use Rattle.saphyr_scanner.specs.Grammar.Forest.{Tag}
 use Rattle.saphyr_scanner.specs.Grammar.TagSpelling.{IsTag}
 use Rattle.saphyr_scanner.specs.Grammar.FlowNodes as layout
 use Rattle.saphyr_scanner.specs.Grammar.FlowNodes.{IsOnLine, IsAnchor, IsAlias}
-use Rattle.saphyr_scanner.proofs.Leads.{Leads}
+use Rattle.saphyr_scanner.proofs.Leads.{LeadsTo}
 use Rattle.saphyr_scanner.proofs.Json.Marks.{chain, kinds, kinds_append}
-use Rattle.saphyr_scanner.proofs.Json.Brackets.{place_of}
+use Rattle.saphyr_scanner.proofs.Json.Brackets.{token_place}
 use Rattle.saphyr_scanner.proofs.InFlow.States.{Around, core_at, state_at, behind_key, moment}
 use Rattle.saphyr_scanner.proofs.InFlow.ScalarsOnLine.{front_on_line, back_on_line}
 use Rattle.saphyr_scanner.proofs.InFlow.KeyLines.{IsNear, Ready, later_ready, token_led}
-use Rattle.saphyr_scanner.proofs.Flow.States.{moved, IsClear, Reads}
+use Rattle.saphyr_scanner.proofs.Flow.States.{moved, IsClear, ReaderPromises}
 use Rattle.saphyr_scanner.proofs.Flow.Places.{moved_append, moved_index, moved_along, clear_front, clear_back}
 use Rattle.saphyr_scanner.proofs.Flow.Arrivals.{BeginsToken}
 use Rattle.saphyr_scanner.proofs.Flow.Fillers.{spaces_are_blank}
@@ -125,19 +125,19 @@ pub record Along (around : Around) (start : State) (k : Candidate) (qs : List Pl
   pub right : around.indent ≤ there.mark.col
   pub piece : Piece
   pub others : List Place
-  pub leads : Leads around.limit
-      (state_at around (moment there context.Block (Some k) [] false adjacent (qs ++ closed piece ∷ others)) deeper)
+  pub leads : LeadsTo around.limit
+      (state_at around (moment there context.Block (Some k) [] false adjacent (qs ++ bare_place piece ∷ others)) deeper)
       start
-  pub are : kinds (closed piece ∷ others) ≡ ts
+  pub are : kinds (bare_place piece ∷ others) ≡ ts
   pub low : adjacent ≤ m.index
 
 pub along_joins : {around : Around} {start : State} {k : Candidate} {qs : List Place} {m n : Marker} {y z : List ℕ}
     {ts us : List Kind} → (a : Along around start k qs m y ts)
-    → Along around (state_at around (moment a.there context.Block (Some k) [] false a.adjacent (qs ++ closed a.piece
-    ∷ a.others)) a.deeper) k (qs ++ closed a.piece ∷ a.others) n z us → Along around start k qs n z (ts ++ us)
+    → Along around (state_at around (moment a.there context.Block (Some k) [] false a.adjacent (qs ++ bare_place a.piece
+    ∷ a.others)) a.deeper) k (qs ++ bare_place a.piece ∷ a.others) n z us → Along around start k qs n z (ts ++ us)
 along_joins {around} {start} {k} {qs} {m} {n} {y} {z} {ts} {us} a b =
-    let front = closed a.piece ∷ a.others in
-    let back = closed b.piece ∷ b.others in
+    let front = bare_place a.piece ∷ a.others in
+    let back = bare_place b.piece ∷ b.others in
     record {
       deeper = b.deeper;
       there = b.there;
@@ -149,7 +149,7 @@ along_joins {around} {start} {k} {qs} {m} {n} {y} {z} {ts} {us} a b =
       right = b.right;
       piece = a.piece;
       others = a.others ++ back;
-      leads = subst (λ (ps : List Place). Leads around.limit
+      leads = subst (λ (ps : List Place). LeadsTo around.limit
           (state_at around (moment b.there context.Block (Some k) [] false b.adjacent ps) b.deeper) start)
           (append_assoc qs front back) (chain a.leads b.leads);
       are = kinds_append front back ∙ ap (λ (x : List Kind). x ++ kinds back) a.are
@@ -161,19 +161,19 @@ along_joins {around} {start} {k} {qs} {m} {n} {y} {z} {ts} {us} a b =
 pub along_ready : {around : Around} {start : State} {k : Candidate} {qs : List Place} {m : Marker} {ts : List Kind}
     (p o b behind : List ℕ) → (a : Along around start k qs m (p ++ o) ts) → Begins p → InKey around k m (p ++ b) behind
     → o ≡ b ++ behind
-    → Ready around (state_at around (moment a.there context.Block (Some k) [] false a.adjacent (qs ++ closed a.piece
-    ∷ a.others)) a.deeper) k (p ++ o) m a.adjacent (qs ++ closed a.piece ∷ a.others)
+    → Ready around (state_at around (moment a.there context.Block (Some k) [] false a.adjacent (qs ++ bare_place a.piece
+    ∷ a.others)) a.deeper) k (p ++ o) m a.adjacent (qs ++ bare_place a.piece ∷ a.others)
 along_ready {around} {start} {k} {qs} {m} {ts} p o b behind a begins h same =
     let front : p ++ o ≡ begins.first ∷ (begins.others ++ o) = ap (λ (t : List ℕ). t ++ o) begins.is in
     let clear : IsClear m p o = subst (IsClear m p) (sym same) (clear_front m p b behind h.clear) in
     let token = begins_token m p o begins clear in
-    let st = state_at around (moment a.there context.Block (Some k) [] false a.adjacent (qs ++ closed a.piece
+    let st = state_at around (moment a.there context.Block (Some k) [] false a.adjacent (qs ++ bare_place a.piece
     ∷ a.others)) a.deeper in
     let near = in_near k m (p ++ b) behind h in
-    subst (λ (t : List ℕ). Ready around st k t m a.adjacent (qs ++ closed a.piece ∷ a.others)) (sym front)
+    subst (λ (t : List ℕ). Ready around st k t m a.adjacent (qs ++ bare_place a.piece ∷ a.others)) (sym front)
     (subst (λ (n : Marker). Ready around st k (begins.first ∷ (begins.others ++ o)) n a.adjacent
-    (qs ++ closed a.piece ∷ a.others)) a.mark
-    (later_ready around a.deeper a.there k a.adjacent (qs ++ closed a.piece ∷ a.others) a.white begins.first
+    (qs ++ bare_place a.piece ∷ a.others)) a.mark
+    (later_ready around a.deeper a.there k a.adjacent (qs ++ bare_place a.piece ∷ a.others) a.white begins.first
     (begins.others ++ o) (a.rest ∙ ap (λ (t : List ℕ). a.white ++ t) front) a.are_white begins.ink a.right
     (subst (IsNear k) (sym a.mark) near)
     (subst (λ (n : Marker). BeginsToken n (begins.first ∷ (begins.others ++ o))) (sym a.mark)
@@ -186,8 +186,9 @@ ends_there : {around : Around} {start : State} {k : Candidate} {qs : List Place}
     (cs b behind w y : List ℕ) (ad : ℕ) (kind : Kind) (deeper : Bool) → InKey around k e ((c ∷ cs) ++ b) behind
     → b ++ behind ≡ w ++ y
     → AreIn is_blank w → ad ≤ e.index
-    → Leads around.limit (state_at around (moment (at (moved e (c ∷ cs)) (b ++ behind)) context.Block (Some k) [] false
-    ad (qs ++ place_of e (moved e (c ∷ cs)) kind ∷ [])) deeper) start
+    → LeadsTo around.limit (state_at around (moment (at (moved e (c ∷ cs)) (b ++ behind)) context.Block (Some k) []
+    false
+    ad (qs ++ token_place e (moved e (c ∷ cs)) kind ∷ [])) deeper) start
     → Along around start k qs (moved (moved e (c ∷ cs)) w) y (kind ∷ [])
 ends_there {around} {start} {k} {qs} e c cs b behind w y ad kind deeper h is are low leads =
     let one = moved_index e (c ∷ cs) in
@@ -208,28 +209,29 @@ ends_there {around} {start} {k} {qs} e c cs b behind w y ad kind deeper h is are
       low = omega (arith, one, two, low);
     }
 
-pub name_along : Reads → (around : Around) (start : State) (k : Candidate) (qs : List Place) (is_alias : Bool)
+pub name_along : ReaderPromises → (around : Around) (start : State) (k : Candidate) (qs : List Place) (token_of : List ℕ
+    → Kind)
     (indicator : ℕ) (name b behind w y : List ℕ) (e : Marker) (ad : ℕ)
-    → ((second n : ℕ) (c : Core) → step indicator second n c ≡ property.name_steps is_alias n c)
+    → ((second n : ℕ) (c : Core) → step indicator second n c ≡ property.name_steps token_of n c)
     → is_break indicator ≡ false
     → IsAnchorName name → is_anchor_char (slice_index (b ++ behind) 0) ≡ false
     → InKey around k e ((indicator ∷ name) ++ b) behind → b ++ behind ≡ w ++ y → AreIn is_blank w → ad ≤ e.index
     → Ready around start k ((indicator ∷ name) ++ (b ++ behind)) e ad qs
-    → Along around start k qs (moved (moved e (indicator ∷ name)) w) y (name_token is_alias (encode_utf8_all name) ∷ [])
-name_along reads around start k qs is_alias indicator name b behind w y e ad begins break h ends text is are low r =
+    → Along around start k qs (moved (moved e (indicator ∷ name)) w) y (token_of (encode_utf8_all name) ∷ [])
+name_along reads around start k qs token_of indicator name b behind w y e ad begins break h ends text is are low r =
     let o = b ++ behind in
     let end = moved e (indicator ∷ name) in
-    let kind = name_token is_alias (encode_utf8_all name) in
+    let kind = token_of (encode_utf8_all name) in
     let inside = in_back k e (indicator ∷ name) b behind text in
     let stepped = begins (slice_index (name ++ o) 0) (length qs)
     (core_at around r.deeper (cursor_at (indicator ∷ (name ++ o)) e r.blank) context.Block (Some k) [] false ad)
-    ∙ name_step reads around r.deeper is_alias (length qs) e r.blank indicator name o break h ends context.Block
+    ∙ name_step reads around r.deeper token_of (length qs) e r.blank indicator name o break h ends context.Block
     (Some k) [] false ad (behind_key refl refl) in
     ends_there e indicator name b behind w y ad kind r.deeper text is are low
     (token_led around start k ((indicator ∷ name) ++ o) e ad qs r end kind (at end o) ad (λ d. d) stepped
     (in_near k end b behind inside) (in_limit k end b behind inside))
 
-pub anchor_along : Reads
+pub anchor_along : ReaderPromises
     → (around : Around) (start : State) (k : Candidate) (qs : List Place) (name t b behind w y : List ℕ) (e : Marker)
     (ad : ℕ) → IsAnchor name t → is_anchor_char (slice_index (b ++ behind) 0) ≡ false
     → InKey around k e (t ++ b) behind → b ++ behind ≡ w ++ y → AreIn is_blank w → ad ≤ e.index
@@ -238,10 +240,11 @@ pub anchor_along : Reads
 anchor_along reads around start k qs name t b behind w y e ad h ends text is are low r =
     subst (λ (p : List ℕ). InKey around k e (p ++ b) behind → Ready around start k (p ++ (b ++ behind)) e ad qs
     → Along around start k qs (moved (moved e p) w) y (anchor_token name ∷ [])) (sym h.1)
-    (λ i z. name_along reads around start k qs false 38 name b behind w y e ad begins_anchor refl h.0 ends i is are low
+    (λ i z. name_along reads around start k qs tokens.Anchor 38 name b behind w y e ad begins_anchor refl h.0 ends i is
+    are low
     z) text r
 
-pub alias_along : Reads → (around : Around) (start : State) (k : Candidate) (qs : List Place)
+pub alias_along : ReaderPromises → (around : Around) (start : State) (k : Candidate) (qs : List Place)
     (name t b behind w y : List ℕ) (e : Marker) (ad : ℕ) → IsAlias name t
     → is_anchor_char (slice_index (b ++ behind) 0) ≡ false
     → InKey around k e (t ++ b) behind → b ++ behind ≡ w ++ y → AreIn is_blank w → ad ≤ e.index
@@ -250,10 +253,11 @@ pub alias_along : Reads → (around : Around) (start : State) (k : Candidate) (q
 alias_along reads around start k qs name t b behind w y e ad h ends text is are low r =
     subst (λ (p : List ℕ). InKey around k e (p ++ b) behind → Ready around start k (p ++ (b ++ behind)) e ad qs
     → Along around start k qs (moved (moved e p) w) y (alias_token name ∷ [])) (sym h.1)
-    (λ i z. name_along reads around start k qs true 42 name b behind w y e ad begins_alias refl h.0 ends i is are low z)
+    (λ i z. name_along reads around start k qs tokens.Alias 42 name b behind w y e ad begins_alias refl h.0 ends i is
+    are low z)
     text r
 
-pub tag_along : Reads → (around : Around) (start : State) (k : Candidate) (qs : List Place) (tag : Tag)
+pub tag_along : ReaderPromises → (around : Around) (start : State) (k : Candidate) (qs : List Place) (tag : Tag)
     (t b behind w y : List ℕ) (e : Marker) (ad : ℕ) → IsTag tag t → EndsTag false (b ++ behind)
     → InKey around k e (t ++ b) behind → b ++ behind ≡ w ++ y → AreIn is_blank w → ad ≤ e.index
     → Ready around start k (t ++ (b ++ behind)) e ad qs
@@ -275,8 +279,8 @@ tag_along reads around start k qs tag t b behind w y e ad h ends text is are low
     (in_near k end b behind inside) (in_limit k end b behind inside) in
     subst (λ (q : Kind). Along around start k qs (moved (moved e t) w) y (q ∷ [])) g.token
     (subst (λ (p : List ℕ). InKey around k e (p ++ b) behind
-    → Leads around.limit (state_at around (moment (at (moved e p) o) context.Block (Some k) [] false ad
-    (qs ++ place_of e (moved e p) kind ∷ [])) r.deeper) start
+    → LeadsTo around.limit (state_at around (moment (at (moved e p) o) context.Block (Some k) [] false ad
+    (qs ++ token_place e (moved e p) kind ∷ [])) r.deeper) start
     → Along around start k qs (moved (moved e p) w) y (kind ∷ [])) (sym f.1)
     (λ i l. ends_there e 33 f.0 b behind w y ad kind r.deeper i is are low l) text led)
 
@@ -319,7 +323,7 @@ spaced_parts : (t a s c b : List ℕ) → t ≡ a ++ (s ++ c) → t ++ b ≡ a +
 spaced_parts t a s c b e = ap (λ (x : List ℕ). x ++ b) e ∙ append_assoc a (s ++ c) b
     ∙ ap (λ (x : List ℕ). a ++ x) (append_assoc s c b)
 
-pub properties_along : Reads
+pub properties_along : ReaderPromises
     → (around : Around) (start : State) (k : Candidate) (qs : List Place) (anchor : Option (List ℕ)) (tag : Option Tag)
     (t b behind w y : List ℕ) (e : Marker) (ad : ℕ) → layout.AreProperties anchor tag t
     → EndsTag false (b ++ behind) → InKey around k e (t ++ b) behind → b ++ behind ≡ w ++ y → AreIn is_blank w

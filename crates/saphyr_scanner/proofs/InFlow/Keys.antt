@@ -6,7 +6,7 @@ use Rattle.saphyr_scalar.specs.declared.scalar.position.Marker.{Marker}
 use Rattle.saphyr_scalar.specs.Steps.BlockRead.{spaces}
 use Rattle.saphyr_scanner.specs.declared.engine.level.Context.TheVariants as context
 use Rattle.saphyr_scanner.specs.Steps.Queue.{Place}
-use Rattle.saphyr_scanner.specs.Steps.Core.{Candidate}
+use Rattle.saphyr_scanner.specs.Steps.Level.{Candidate}
 use Rattle.saphyr_scanner.specs.Steps.State.{State}
 use Rattle.saphyr_scanner.specs.Grammar.Forest.{Node, Alias, Scalar, Seq, Map}
 use Rattle.saphyr_scanner.specs.Grammar.FlowNodes.{IsOnLine, IsKeyText, IsBeforeColon, IsFlowNode}
@@ -15,18 +15,18 @@ use Rattle.saphyr_scanner.proofs.InFlow.OnLine.{key_text_lowers}
 use Rattle.saphyr_scanner.proofs.InFlow.KeyLines.{Ready, Fresh, keyed, deeper_at, first_ready}
 use Rattle.saphyr_scanner.proofs.InFlow.KeyTokens.{InKey}
 use Rattle.saphyr_scanner.proofs.InFlow.KeyScalars.{colon_text, colon_after}
-use Rattle.saphyr_scanner.proofs.Flow.States.{IsClear, Reads}
+use Rattle.saphyr_scanner.proofs.Flow.States.{IsClear, ReaderPromises}
 use Rattle.saphyr_scanner.proofs.Flow.Places.{clear_front}
 use Rattle.saphyr_scanner.proofs.Flow.Arrivals.{BeginsToken}
 use Rattle.saphyr_scanner.proofs.Flow.Tokens.{begins_token}
 use Rattle.saphyr_scalar.proofs.Given.{cursor_at}
 use Rattle.saphyr_scanner.proofs.InFlow.KeyFirsts.{FirstOf, plain_key_first, key_node_first}
 use Rattle.saphyr_scanner.proofs.InFlow.KeyNodes.{KeyAlong, alias_key, scalar_key, plain_key}
-use Rattle.saphyr_scanner.proofs.InFlow.KeyBrackets.{sequence_key, mapping_key}
+use Rattle.saphyr_scanner.proofs.InFlow.KeyBrackets.{sequence_key, mapping_key_reads}
 
 -- ## All keys
 
-key_along : Reads → (around : Around) → around.pending ≡ around.required
+key_along : ReaderPromises → (around : Around) → around.pending ≡ around.required
     → (start : State) (node : Node) (k : Candidate) (qs : List Place) (t : List ℕ) (n : ℕ) (r : List ℕ) (e : Marker)
     (ad : ℕ)
     → IsFlowNode 255 node false around.indent t → IsBeforeColon node (spaces n)
@@ -39,14 +39,14 @@ key_along reads around same start (Scalar p style value) k qs t n r e ad h apart
 key_along reads around same start (Seq p nodes) k qs t n r e ad h apart white text low ready =
     sequence_key reads around same start p nodes k qs t n r e ad h text low ready
 key_along reads around same start (Map p pairs) k qs t n r e ad h apart white text low ready =
-    mapping_key reads around same start p pairs k qs t n r e ad h text low ready
+    mapping_key_reads reads around same start p pairs k qs t n r e ad h text low ready
 
 no_spaces : (n : ℕ) → spaces n ≡ [] → n ≡ 0
 no_spaces zero e = refl
 no_spaces (suc n) e = absurd (cc)
 
 -- the text of a key, whatever its form
-text_along : Reads → (around : Around) → around.pending ≡ around.required
+text_along : ReaderPromises → (around : Around) → around.pending ≡ around.required
     → (start : State) (node : Node) (k : Candidate) (qs : List Place) (t : List ℕ) (n : ℕ) (r : List ℕ) (e : Marker)
     (ad : ℕ)
     → IsKeyText (IsFlowNode 255 node false around.indent) node false around.indent t (spaces n)
@@ -78,7 +78,7 @@ both_on_line (c ∷ cs) b h k = (h.0, both_on_line cs b h.1 k)
 -- A key on one line is read from its first character on, up to the spaces before its colon. A key has to stand there
 -- where
 -- that is the column of the innermost collection.
-pub key_read : Reads → (around : Around) → around.pending ≡ false
+pub key_read : ReaderPromises → (around : Around) → around.pending ≡ false
     → (node : Node) (m : Marker) (p : List ℕ) (n : ℕ) (r : List ℕ)
     → IsKeyText (IsFlowNode 255 node false (suc m.col)) node false (suc m.col) p (spaces n) → IsOnLine p
     → IsBeforeColon node (spaces n)

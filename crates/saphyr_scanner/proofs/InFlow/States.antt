@@ -10,14 +10,15 @@ use Rattle.saphyr_scanner.specs.declared.engine.level.Context.{Context}
 use Rattle.saphyr_scanner.specs.declared.engine.level.Context.TheVariants as context
 use Rattle.saphyr_scanner.specs.Grammar.Tokens.{Kind}
 use Rattle.saphyr_scanner.specs.Steps.Queue.{Place}
-use Rattle.saphyr_scanner.specs.Steps.Core.{Candidate, Level, Core, is_block, is_too_far, drop_far_key, save_key, go_deeper, from_to, up_to_here, went}
+use Rattle.saphyr_scanner.specs.Steps.Core.{Core, is_too_far, drop_far_key, save_key, go_deeper, from_to, up_to_here, completed_step}
+use Rattle.saphyr_scanner.specs.Steps.Level.{Candidate, Level, is_block}
 use Rattle.saphyr_scanner.specs.Steps.Passing.{with_cursor}
 use Rattle.saphyr_scanner.specs.Steps.Flow as flow
 use Rattle.saphyr_scanner.specs.Steps.Flow.{open_collection, close_collection, allow_adjacent, behind_pair}
-use Rattle.saphyr_scanner.specs.Steps.State.{State, carried}
+use Rattle.saphyr_scanner.specs.Steps.State.{State, on_core}
 use Rattle.saphyr_scanner.specs.Steps.Unrolling.{end_blocks, unroll}
-use Rattle.saphyr_scanner.specs.Steps.Fetch.{fetch, within, fetch_within}
-use Rattle.saphyr_scanner.proofs.Leads.{Leads, stay, onward}
+use Rattle.saphyr_scanner.specs.Steps.Fetch.{fetch, check_limit, fetch_within}
+use Rattle.saphyr_scanner.proofs.Leads.{LeadsTo, stay, onward}
 use Rattle.saphyr_scanner.proofs.Json.States.{queue_of}
 use Rattle.saphyr_scanner.proofs.Json.Marks.{chain, saved, level_of, not_full}
 use Rattle.saphyr_scalar.proofs.Given.{cursor_at}
@@ -118,15 +119,15 @@ not_left indent col d h = let low = least_low indent d in further col (least ind
 pub record Run (around : Around) (d : Bool) (to : Bool → State) (start : State) : Type 0 where
   pub deeper : Bool
   pub flat : around.indent ≡ 0 → d ≡ false → deeper ≡ false
-  pub leads : Leads around.limit (to deeper) start
+  pub leads : LeadsTo around.limit (to deeper) start
 
-pub record Runs (around : Around) (to start : Bool → State) : Type 0 where
+pub record RunsTo (around : Around) (to start : Bool → State) : Type 0 where
   pub run : (d : Bool) → Run around d to (start d)
 
-pub runs_to_itself : (around : Around) (s : Bool → State) → Runs around s s
+pub runs_to_itself : (around : Around) (s : Bool → State) → RunsTo around s s
 runs_to_itself around s = record { run = λ d. record { deeper = d; flat = λ _ e. e; leads = stay } }
 
-pub chains : {around : Around} {c b a : Bool → State} → Runs around b a → Runs around c b → Runs around c a
+pub chains : {around : Around} {c b a : Bool → State} → RunsTo around b a → RunsTo around c b → RunsTo around c a
 chains f g = record {
   run = λ d. let r = f.run d in let q =
       g.run r.deeper in record {
@@ -225,9 +226,9 @@ bracket_deepens around x = record { flat = λ e. rw e (none_further (is_block x)
     none_further false = refl
 
 -- from a state the scanner comes to another, but for the key outside flow
-pub record Comes (around : Around) (start : Bool → State) (next : FlowMoment) : Type 0 where
+pub record ComesAround (around : Around) (start : Bool → State) (next : FlowMoment) : Type 0 where
   pub key : Option Candidate
-  pub leads : Runs around (state_at around (record next { key = key })) start
+  pub leads : RunsTo around (state_at around (record next { key = key })) start
   pub same : is_block next.context ≡ false → key ≡ next.key
   pub kept : (key ≡ None) ⊎ (key ≡ next.key)
 
@@ -235,7 +236,7 @@ pub record Comes (around : Around) (start : Bool → State) (next : FlowMoment) 
 pub comes : (around : Around) (start : Bool → State) (next : FlowMoment) (to : Bool → Bool) → Deepens around to
     → ((d : Bool) → (start d).core.ended ≡ false)
     → ((d : Bool) → fetch (start d) ≡ Ok (state_at around next (to d))) → next.cursor.mark.index ≤ around.limit
-    → around.pending ≡ false → Comes around start next
+    → around.pending ≡ false → ComesAround around start next
 unfolding fetch_within
 comes around start next to deepens going is low calm =
     let left = key_left next.context next.key next.cursor.mark in
@@ -256,12 +257,12 @@ comes around start next to deepens going is low calm =
     one : (d : Bool) → Run around d (state_at around there) (start d)
     one d =
         let st = state_at around next (to d) in
-        let fits : within around.limit st ≡ Ok st = rw (le-leb next.cursor.mark.index around.limit low) refl in
+        let fits : check_limit around.limit st ≡ Ok st = rw (le-leb next.cursor.mark.index around.limit low) refl in
         record {
           deeper = to d;
           flat = flatly d;
           leads = onward (start d) st (state_at around there (to d)) (going d)
-              (ap (λ r. r >>= within around.limit) (is d) ∙ fits) (ap (λ r. carried r (queue_of next.places))
+              (ap (λ r. r >>= check_limit around.limit) (is d) ∙ fits) (ap (λ r. on_core r (queue_of next.places))
               (drops_far_key around (to d) next.cursor next.context next.key next.outer next.allowed next.adjacent
               calm)) stay;
         }
@@ -355,15 +356,15 @@ pub open_collection_gives : (y : Context) (kind : Kind) (ch : ℕ) (r : List ℕ
     → separation Yes (cursor_at r (along m 1) false) ≡ Ok (found, there) → length ls < 255 → is_block y ≡ false
     → Calm around x
     → open_collection y kind (core_at around d (cursor_at (ch ∷ r) m b) x k ls a ad)
-    ≡ went (from_to m there.mark kind ∷ []) (core_at around d there y None (level_of x k ∷ ls) true ad)
+    ≡ completed_step (from_to m there.mark kind ∷ []) (core_at around d there y None (level_of x k ∷ ls) true ad)
 unfolding open_collection
 open_collection_gives y kind ch r m b around d x k ls a ad found there is low flows calm =
     let c : Core = record (core_at around d (cursor_at r (along m 1) false) y None (level_of x k ∷ ls) true ad)
     { required = required_at around x } in
     rw (not_full (length ls) low)
-    (ap (λ q. (q >>= λ (e : SkipTabs × Cursor). Ok (e.0, with_cursor e.1 c)) >>= λ (e : SkipTabs × Core). went
+    (ap (λ q. (q >>= λ (e : SkipTabs × Cursor). Ok (e.0, with_cursor e.1 c)) >>= λ (e : SkipTabs × Core). completed_step
     (up_to_here m kind e.1 ∷ []) e.1) is
-    ∙ ap (λ (q : Bool). went (from_to m there.mark kind ∷ [])
+    ∙ ap (λ (q : Bool). completed_step (from_to m there.mark kind ∷ [])
     (record (core_at around d there y None (level_of x k ∷ ls) true ad) { required = q }))
     (still_required around x y flows calm))
 
@@ -380,15 +381,16 @@ pub close_collection_gives : (ends : Bool) (kind : Kind) (ch : ℕ) (r : List �
     (there : Cursor) → separation Yes (cursor_at r (along m 1) false) ≡ Ok (found, there) → is_block y ≡ false
     → Calm around x
     → close_collection ends kind (core_at around d (cursor_at (ch ∷ r) m b) y k (level_of x j ∷ ls) a ad)
-    ≡ went (behind_pair ends m (from_to m there.mark kind))
+    ≡ completed_step (behind_pair ends m (from_to m there.mark kind))
     (core_at around d there x j ls false (cond (is_block x) ad there.mark.index))
 unfolding close_collection
 close_collection_gives ends kind ch r m b around d y k j x ls a ad found there is flows calm =
     let was = required_at around y in
     let c : Core = record (core_at around d (cursor_at r (along m 1) false) x j ls false ad) { required = was } in
-    ap (λ q. (q >>= λ (e : SkipTabs × Cursor). Ok (e.0, with_cursor e.1 c)) >>= λ (e : SkipTabs × Core). went
+    ap (λ q. (q >>= λ (e : SkipTabs × Cursor). Ok (e.0, with_cursor e.1 c)) >>= λ (e : SkipTabs × Core). completed_step
     (behind_pair ends m (up_to_here m kind e.1)) (allow_adjacent e.1)) is
-    ∙ ap (λ (q : Bool). went (behind_pair ends m (from_to m there.mark kind))
+    ∙ ap (λ (q : Bool). completed_step (behind_pair ends m (from_to m there.mark kind))
     (allow_adjacent (record (core_at around d there x j ls false ad) { required = q })))
     (sym (still_required around x y flows calm))
-    ∙ ap (went (behind_pair ends m (from_to m there.mark kind))) (adjacent_by (is_block x) around d there x j ls ad)
+    ∙ ap (completed_step (behind_pair ends m (from_to m there.mark kind)))
+    (adjacent_by (is_block x) around d there x j ls ad)

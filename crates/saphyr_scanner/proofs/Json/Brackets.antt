@@ -9,19 +9,20 @@ use Rattle.saphyr_scanner.specs.declared.engine.level.Context.{Context}
 use Rattle.saphyr_scanner.specs.declared.engine.level.Context.TheVariants as context
 use Rattle.saphyr_scanner.specs.Grammar.Tokens as tokens
 use Rattle.saphyr_scanner.specs.Grammar.Tokens.{Kind}
-use Rattle.saphyr_scanner.specs.Steps.Queue.{Place, closed}
-use Rattle.saphyr_scanner.specs.Steps.Core.{Candidate, Level, Core, go_deeper, is_block, from_to, up_to_here, went, remove_key}
+use Rattle.saphyr_scanner.specs.Steps.Queue.{Place, bare_place}
+use Rattle.saphyr_scanner.specs.Steps.Core.{Core, go_deeper, from_to, up_to_here, completed_step, remove_key}
+use Rattle.saphyr_scanner.specs.Steps.Level.{Candidate, Level, is_block}
 use Rattle.saphyr_scanner.specs.Steps.Passing.{with_cursor}
 use Rattle.saphyr_scanner.specs.Steps.Flow as flow
 use Rattle.saphyr_scanner.specs.Steps.Flow.{open_collection, close_collection, next_flow_entry, allow_adjacent, behind_pair}
 use Rattle.saphyr_scanner.specs.Steps.Fetch.{step}
-use Rattle.saphyr_scanner.proofs.Json.States.{skip, IsClean, total, core_at, state_at, arrives, IsContent, one}
-use Rattle.saphyr_scanner.proofs.Json.Marks.{Passes, once, Separates, separates, saved, saves_key, goes_deeper, level_of, not_full}
+use Rattle.saphyr_scanner.proofs.Json.States.{skip, IsClean, total, core_at, state_at, arrives, IsContentStart, one}
+use Rattle.saphyr_scanner.proofs.Json.Marks.{PassesJson, once, Separates, separates, saved, saves_key, goes_deeper, level_of, not_full}
 use Rattle.saphyr_scalar.proofs.Given.{cursor_at}
 
 -- a token that was read
-abbrev pub place_of : Marker → Marker → Kind → Place
-place_of a b kind = closed (record { span = record { start = a; end = b }; kind = kind })
+abbrev pub token_place : Marker → Marker → Kind → Place
+token_place a b kind = bare_place (record { span = record { start = a; end = b }; kind = kind })
 
 -- ## An opening bracket
 
@@ -38,12 +39,12 @@ pub opens : (y : Context) (kind : Kind) (ch : ℕ) (r : List ℕ) (m : Marker) (
     (k : Option Candidate) (ls : List Level) (a : Bool) (ad : ℕ) (found : SkipTabs) (there : Cursor)
     → separation Yes (cursor_at r (along m 1) false) ≡ Ok (found, there) → length ls < 255
     → open_collection y kind (core_at false (cursor_at (ch ∷ r) m b) x k ls a ad)
-    ≡ went (from_to m there.mark kind ∷ []) (core_at false there y None (level_of x k ∷ ls) true ad)
+    ≡ completed_step (from_to m there.mark kind ∷ []) (core_at false there y None (level_of x k ∷ ls) true ad)
 unfolding open_collection
 opens y kind ch r m b x k ls a ad found there is low =
     let c = core_at false (cursor_at r (along m 1) false) y None (level_of x k ∷ ls) true ad in
     rw (not_full (length ls) low)
-    (ap (λ q. (q >>= λ (d : SkipTabs × Cursor). Ok (d.0, with_cursor d.1 c)) >>= λ (d : SkipTabs × Core). went
+    (ap (λ q. (q >>= λ (d : SkipTabs × Cursor). Ok (d.0, with_cursor d.1 c)) >>= λ (d : SkipTabs × Core). completed_step
     (up_to_here m kind d.1 ∷ []) d.1) is)
 
 pub low_index : (s : Cursor) (n limit : ℕ) → total s ≡ n → n ≤ limit → s.mark.index ≤ limit
@@ -55,13 +56,14 @@ pub further : (m : Marker) (ch : ℕ) (r : List ℕ) (n t : ℕ) → m.index + l
 further m ch r n t e f = omega (arith, e, f)
 
 -- a bracket that opens a collection
-pub open_passes : (limit n : ℕ) → n ≤ limit → (y : Context) (kind : Kind) (ch : ℕ) (r o : List ℕ) → IsContent (ch ∷ r)
+pub open_passes : (limit n : ℕ) → n ≤ limit → (y : Context) (kind : Kind) (ch : ℕ) (r o : List ℕ)
+    → IsContentStart (ch ∷ r)
     → IsClean (ch ∷ r)
     → ((second i : ℕ) (c : Core) → step ch second i c ≡ flow.opening_steps y kind i c)
     → (s : Cursor) (x : Context) (k : Option Candidate) (ls : List Level) (a : Bool) (ad : ℕ) (ps : List Place)
     → total s ≡ n → skip s.rest ≡ ch ∷ r → skip r ≡ skip o → IsClean (skip o) → length ls < 255
     → (j : Option Candidate)
-    × Passes limit n (state_at false s x k ls a ad ps) true y (level_of x j ∷ ls) ps o (kind ∷ [])
+    × PassesJson limit n (state_at false s x k ls a ad ps) true y (level_of x j ∷ ls) ps o (kind ∷ [])
 open_passes limit n below y kind ch r o content clean begins s x k ls a ad ps count text follows clean_behind low =
     let v = arrives s x k ls a ad ps (ch ∷ r) text clean in
     let p = separates (cursor_at r (along v.mark 1) false) (subst IsClean (sym follows) clean_behind) in
@@ -72,10 +74,10 @@ open_passes limit n below y kind ch r o content clean begins s x k ls a ad ps co
     ∙ starts y kind (length ps) (cursor_at (ch ∷ r) v.mark v.blank) x v.key ls v.allowed ad
     ∙ opens y kind ch r v.mark v.blank x key ls v.allowed ad p.found p.there p.is low in
     let came = one limit s x k ls a ad ps (ch ∷ r) v content p.there y None (level_of x key ∷ ls) true ad
-    (ps ++ place_of v.mark p.there.mark kind ∷ []) (from_to v.mark p.there.mark kind ∷ []) stepped refl
+    (ps ++ token_place v.mark p.there.mark kind ∷ []) (from_to v.mark p.there.mark kind ∷ []) stepped refl
     (low_index p.there n limit counted below) in (
       key,
-      once true true ad p.there ps (place_of v.mark p.there.mark kind ∷ []) o (kind ∷ []) came (p.rest ∙ follows)
+      once true true ad p.there ps (token_place v.mark p.there.mark kind ∷ []) o (kind ∷ []) came (p.rest ∙ follows)
           counted refl (λ _. refl),
     )
 
@@ -91,22 +93,24 @@ pub closes : (ends : Bool) (kind : Kind) (ch : ℕ) (r : List ℕ) (m : Marker) 
     (k j : Option Candidate) (x : Context) (ls : List Level) (a : Bool) (ad : ℕ) (found : SkipTabs) (there : Cursor)
     → separation Yes (cursor_at r (along m 1) false) ≡ Ok (found, there)
     → close_collection ends kind (core_at false (cursor_at (ch ∷ r) m b) y k (level_of x j ∷ ls) a ad)
-    ≡ went (behind_pair ends m (from_to m there.mark kind))
+    ≡ completed_step (behind_pair ends m (from_to m there.mark kind))
     (core_at false there x j ls false (cond (is_block x) ad there.mark.index))
 unfolding close_collection
 closes ends kind ch r m b y k j x ls a ad found there is =
     let c = core_at false (cursor_at r (along m 1) false) x j ls false ad in
-    ap (λ q. (q >>= λ (d : SkipTabs × Cursor). Ok (d.0, with_cursor d.1 c)) >>= λ (d : SkipTabs × Core). went
+    ap (λ q. (q >>= λ (d : SkipTabs × Cursor). Ok (d.0, with_cursor d.1 c)) >>= λ (d : SkipTabs × Core). completed_step
     (behind_pair ends m (up_to_here m kind d.1)) (allow_adjacent d.1)) is
-    ∙ ap (went (behind_pair ends m (from_to m there.mark kind))) (core_behind_quotes (is_block x) there x j ls ad)
+    ∙ ap (completed_step (behind_pair ends m (from_to m there.mark kind)))
+    (core_behind_quotes (is_block x) there x j ls ad)
 
-pub close_passes : (limit n : ℕ) → n ≤ limit → (y : Context) (kind : Kind) (ch : ℕ) (r o : List ℕ) → IsContent (ch ∷ r)
+pub close_passes : (limit n : ℕ) → n ≤ limit → (y : Context) (kind : Kind) (ch : ℕ) (r o : List ℕ)
+    → IsContentStart (ch ∷ r)
     → IsClean (ch ∷ r)
     → ((second i : ℕ) (s : Cursor) (k : Option Candidate) (ls : List Level) (a : Bool) (ad : ℕ)
     → step ch second i (core_at false s y k ls a ad) ≡ close_collection false kind (core_at false s y k ls a ad))
     → (s : Cursor) (k j : Option Candidate) (x : Context) (ls : List Level) (a : Bool) (ad : ℕ) (ps : List Place)
     → total s ≡ n → skip s.rest ≡ ch ∷ r → skip r ≡ skip o → IsClean (skip o)
-    → Passes limit n (state_at false s y k (level_of x j ∷ ls) a ad ps) false x ls ps o (kind ∷ [])
+    → PassesJson limit n (state_at false s y k (level_of x j ∷ ls) a ad ps) false x ls ps o (kind ∷ [])
 close_passes limit n below y kind ch r o content clean begins s k j x ls a ad ps count text follows clean_behind =
     let v = arrives s y k (level_of x j ∷ ls) a ad ps (ch ∷ r) text clean in
     let p = separates (cursor_at r (along v.mark 1) false) (subst IsClean (sym follows) clean_behind) in
@@ -114,9 +118,9 @@ close_passes limit n below y kind ch r o content clean begins s k j x ls a ad ps
     let stepped = begins (slice_index r 0) (length ps) (cursor_at (ch ∷ r) v.mark v.blank) v.key (level_of x j ∷ ls)
     v.allowed ad ∙ closes false kind ch r v.mark v.blank y v.key j x ls v.allowed ad p.found p.there p.is in
     let came = one limit s y k (level_of x j ∷ ls) a ad ps (ch ∷ r) v content p.there x j ls false
-    (cond (is_block x) ad p.there.mark.index) (ps ++ place_of v.mark p.there.mark kind ∷ [])
+    (cond (is_block x) ad p.there.mark.index) (ps ++ token_place v.mark p.there.mark kind ∷ [])
     (from_to v.mark p.there.mark kind ∷ []) stepped refl (low_index p.there n limit counted below) in
-    once false false (cond (is_block x) ad p.there.mark.index) p.there ps (place_of v.mark p.there.mark kind ∷ []) o
+    once false false (cond (is_block x) ad p.there.mark.index) p.there ps (token_place v.mark p.there.mark kind ∷ []) o
     (kind ∷ []) came (p.rest ∙ follows) counted refl (λ e. e)
 
 -- ## A comma
@@ -129,16 +133,16 @@ collection false = context.FlowMapping
 parts : (is_sequence : Bool) (r : List ℕ) (m : Marker) (b : Bool) (k : Option Candidate) (ls : List Level) (a : Bool)
     (ad : ℕ) (p : Separates (cursor_at r (along m 1) false))
     → flow.flow_entry_steps (core_at false (cursor_at (44 ∷ r) m b) (collection is_sequence) k ls a ad)
-    ≡ went (from_to m p.there.mark tokens.FlowEntry ∷ [])
+    ≡ completed_step (from_to m p.there.mark tokens.FlowEntry ∷ [])
     (core_at false p.there (collection is_sequence) None ls true ad)
 unfolding flow.flow_entry_steps remove_key next_flow_entry
 parts true r m b k ls a ad p =
     let c = core_at false (cursor_at r (along m 1) false) context.FlowSequence None ls true ad in
-    ap (λ q. (q >>= λ (d : SkipTabs × Cursor). Ok (d.0, with_cursor d.1 c)) >>= λ (d : SkipTabs × Core). went
+    ap (λ q. (q >>= λ (d : SkipTabs × Cursor). Ok (d.0, with_cursor d.1 c)) >>= λ (d : SkipTabs × Core). completed_step
     (behind_pair false m (up_to_here m tokens.FlowEntry d.1)) d.1) p.is
 parts false r m b k ls a ad p =
     let c = core_at false (cursor_at r (along m 1) false) context.FlowMapping None ls true ad in
-    ap (λ q. (q >>= λ (d : SkipTabs × Cursor). Ok (d.0, with_cursor d.1 c)) >>= λ (d : SkipTabs × Core). went
+    ap (λ q. (q >>= λ (d : SkipTabs × Cursor). Ok (d.0, with_cursor d.1 c)) >>= λ (d : SkipTabs × Core). completed_step
     (behind_pair false m (up_to_here m tokens.FlowEntry d.1)) d.1) p.is
 
 pub comma_begins : (second i : ℕ) (c : Core) → step 44 second i c ≡ flow.flow_entry_steps c
@@ -148,7 +152,7 @@ comma_begins second i c = refl
 pub comma_passes : (limit n : ℕ) → n ≤ limit → (is_sequence : Bool) (r o : List ℕ)
     → (s : Cursor) (k : Option Candidate) (ls : List Level) (a : Bool) (ad : ℕ) (ps : List Place) → total s ≡ n
     → skip s.rest ≡ 44 ∷ r → skip r ≡ skip o → IsClean (skip o)
-    → Passes limit n (state_at false s (collection is_sequence) k ls a ad ps) true (collection is_sequence) ls ps o
+    → PassesJson limit n (state_at false s (collection is_sequence) k ls a ad ps) true (collection is_sequence) ls ps o
     (tokens.FlowEntry ∷ [])
 comma_passes limit n below is_sequence r o s k ls a ad ps count text follows clean_behind =
     let x = collection is_sequence in
@@ -158,10 +162,10 @@ comma_passes limit n below is_sequence r o s k ls a ad ps count text follows cle
     let stepped = comma_begins (slice_index r 0) (length ps)
     (core_at false (cursor_at (44 ∷ r) v.mark v.blank) x v.key ls v.allowed ad)
     ∙ parts is_sequence r v.mark v.blank v.key ls v.allowed ad p in
-    let content : IsContent (44 ∷ r) =
+    let content : IsContentStart (44 ∷ r) =
     record { nul = refl; byte_order_mark = refl; directive = refl; document_start = refl; document_end = refl } in
     let came = one limit s x k ls a ad ps (44 ∷ r) v content p.there x None ls true ad
-    (ps ++ place_of v.mark p.there.mark tokens.FlowEntry ∷ []) (from_to v.mark p.there.mark tokens.FlowEntry ∷ [])
+    (ps ++ token_place v.mark p.there.mark tokens.FlowEntry ∷ []) (from_to v.mark p.there.mark tokens.FlowEntry ∷ [])
     stepped refl (low_index p.there n limit counted below) in
-    once true true ad p.there ps (place_of v.mark p.there.mark tokens.FlowEntry ∷ []) o (tokens.FlowEntry ∷ []) came
+    once true true ad p.there ps (token_place v.mark p.there.mark tokens.FlowEntry ∷ []) o (tokens.FlowEntry ∷ []) came
     (p.rest ∙ follows) counted refl (λ _. refl)

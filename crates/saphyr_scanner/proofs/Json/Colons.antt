@@ -12,17 +12,18 @@ use Rattle.saphyr_scanner.specs.declared.queue.Opening.TheVariants as opening
 use Rattle.saphyr_scanner.specs.Grammar.Tokens as tokens
 use Rattle.saphyr_scanner.specs.Grammar.Tokens.{Kind}
 use Rattle.saphyr_scanner.specs.Views.Tokens.{Piece}
-use Rattle.saphyr_scanner.specs.Steps.Queue.{Place, closed, opened, empty_piece}
-use Rattle.saphyr_scanner.specs.Steps.Core.{Candidate, is_block, Level, Core, Put, Open, Steps, at_mark, went, perform}
+use Rattle.saphyr_scanner.specs.Steps.Queue.{Place, bare_place, places_with_opening, empty_piece}
+use Rattle.saphyr_scanner.specs.Steps.Core.{Core, Put, Open, StepResult, at_mark, completed_step, perform}
+use Rattle.saphyr_scanner.specs.Steps.Level.{Candidate, is_block, Level}
 use Rattle.saphyr_scanner.specs.Steps.Passing.{with_cursor}
 use Rattle.saphyr_scanner.specs.Steps.Value as value
-use Rattle.saphyr_scanner.specs.Steps.Value.{check_tab, refuse_lone_tab, of_key, behind_key}
+use Rattle.saphyr_scanner.specs.Steps.Value.{check_tab, refuse_lone_tab, value_of_key, behind_key}
 use Rattle.saphyr_scanner.specs.Steps.State.{State}
 use Rattle.saphyr_scanner.specs.Grammar.Forest.{DoubleQuoted}
 use Rattle.saphyr_scanner.specs.Steps.Fetch.{step, flow_value}
-use Rattle.saphyr_scanner.proofs.Leads.{Leads}
-use Rattle.saphyr_scanner.proofs.Json.States.{skip, IsClean, total, core_at, state_at, queue_of, arrives, IsContent, one}
-use Rattle.saphyr_scanner.proofs.Json.Marks.{chain, Passes, Separates, separates}
+use Rattle.saphyr_scanner.proofs.Leads.{LeadsTo}
+use Rattle.saphyr_scanner.proofs.Json.States.{skip, IsClean, total, core_at, state_at, queue_of, arrives, IsContentStart, one}
+use Rattle.saphyr_scanner.proofs.Json.Marks.{chain, PassesJson, Separates, separates}
 use Rattle.saphyr_scanner.proofs.Json.Brackets.{low_index, further}
 use Rattle.saphyr_input.proofs.Basics.Booleans.{by_test}
 use Rattle.saphyr_scalar.proofs.Given.{cursor_at}
@@ -36,7 +37,8 @@ colon_begins_value : (second i : ℕ) (s : Cursor) (k : Option Candidate) (ls : 
 unfolding step flow_value
 colon_begins_value second i s k ls a ad e =
     let c = core_at false s context.FlowMapping k ls a ad in
-    by_test (is_blank_or_breakz second) (value.value_steps c) _ (λ (r : Steps). r ≡ value.value_steps c) (λ _. refl)
+    by_test (is_blank_or_breakz second) (value.value_steps c) _ (λ (r : StepResult). r ≡ value.value_steps c)
+    (λ _. refl)
     (λ _. rw (eq-eqb s.mark.index ad e, or_right (is_flow second) true refl) refl)
 
 -- behind the colon
@@ -71,29 +73,29 @@ tabbed r m k ls a ad h =
 fetches : (r : List ℕ) (m : Marker) (b : Bool) (k : Candidate) (ls : List Level) (a : Bool) (ad : ℕ)
     (p : Tabbed r (along m 1) (Some k) ls a ad)
     → value.value_steps (core_at false (cursor_at (58 ∷ r) m b) context.FlowMapping (Some k) ls a ad)
-    ≡ went (Open k.place opening.Key ∷ at_mark m tokens.Value ∷ [])
+    ≡ completed_step (Open k.place opening.Key ∷ at_mark m tokens.Value ∷ [])
     (core_at false p.there context.FlowMapping None ls false ad)
-unfolding value.value_steps of_key behind_key
+unfolding value.value_steps value_of_key behind_key
 fetches r m b k ls a ad p = ap (λ q. q >>= λ (d : Core). behind_key d.level.key false m d) p.is
 
 -- the place before the others that come behind it is opened
-pub opened_seam : (o : Opening) (ps : List Place) (p : Place) (qs : List Place)
-    → opened (length ps) o (ps ++ p ∷ qs) ≡ ps ++ record { opening = o; piece = p.piece } ∷ qs
-opened_seam o [] p qs = refl
-opened_seam o (q ∷ ps) p qs = ap (λ (x : List Place). q ∷ x) (opened_seam o ps p qs)
+pub with_opening_seam : (o : Opening) (ps : List Place) (p : Place) (qs : List Place)
+    → places_with_opening (length ps) o (ps ++ p ∷ qs) ≡ ps ++ record { opening = o; piece = p.piece } ∷ qs
+with_opening_seam o [] p qs = refl
+with_opening_seam o (q ∷ ps) p qs = ap (λ (x : List Place). q ∷ x) (with_opening_seam o ps p qs)
 
 pub none_off : (n : ℕ) → n - 0 ≡ n
 none_off n = omega arith
 
 performs : (ps : List Place) (t v : Piece)
-    → perform (Open (length ps) opening.Key ∷ Put v ∷ []) (queue_of (ps ++ closed t ∷ []))
-    ≡ queue_of (ps ++ record { opening = opening.Key; piece = t } ∷ closed v ∷ [])
+    → perform (Open (length ps) opening.Key ∷ Put v ∷ []) (queue_of (ps ++ bare_place t ∷ []))
+    ≡ queue_of (ps ++ record { opening = opening.Key; piece = t } ∷ bare_place v ∷ [])
 performs ps t v =
     let key : Place = record { opening = opening.Key; piece = t } in
-    let places = ap (λ (i : ℕ). opened i opening.Key (ps ++ closed t ∷ [])) (none_off (length ps))
-    ∙ opened_seam opening.Key ps (closed t) [] in
-    ap (λ (x : List Place). queue_of (x ++ closed v ∷ [])) places
-    ∙ ap queue_of (append_assoc ps (key ∷ []) (closed v ∷ []))
+    let places = ap (λ (i : ℕ). places_with_opening i opening.Key (ps ++ bare_place t ∷ [])) (none_off (length ps))
+    ∙ with_opening_seam opening.Key ps (bare_place t) [] in
+    ap (λ (x : List Place). queue_of (x ++ bare_place v ∷ [])) places
+    ∙ ap queue_of (append_assoc ps (key ∷ []) (bare_place v ∷ []))
 
 -- Behind a double quoted scalar the text is y, where a colon may stand adjacent. The scalar may be a key where a is
 -- true.
@@ -104,7 +106,7 @@ pub record Strung (limit n : ℕ) (start : State) (x : Context) (ls : List Level
   pub key : Option Candidate
   pub allowed : Bool
   pub piece : Piece
-  pub leads : Leads limit (state_at false there x key ls allowed there.mark.index (ps ++ closed piece ∷ [])) start
+  pub leads : LeadsTo limit (state_at false there x key ls allowed there.mark.index (ps ++ bare_place piece ∷ [])) start
   pub rest : there.rest ≡ y
   pub count : total there ≡ n
   pub is : piece.kind ≡ tokens.scalar_token DoubleQuoted text
@@ -114,12 +116,12 @@ pub record Strung (limit n : ℕ) (start : State) (x : Context) (ls : List Level
 pub name_passes : (limit n : ℕ) → n ≤ limit → (start : State) (ls : List Level) (ps : List Place) (r o text : List ℕ)
     → (h : Strung limit n start context.FlowMapping ls true ps (58 ∷ r) text)
     → skip r ≡ skip o → IsClean (skip o)
-    → Passes limit n start false context.FlowMapping ls ps o
+    → PassesJson limit n start false context.FlowMapping ls ps o
     (tokens.Key ∷ tokens.scalar_token DoubleQuoted text ∷ tokens.Value ∷ [])
 name_passes limit n below start ls ps r o text h follows clean =
     let s = h.there in
     let k : Candidate = record { mark = h.mark; place = length ps } in
-    let qs = ps ++ closed h.piece ∷ [] in
+    let qs = ps ++ bare_place h.piece ∷ [] in
     let v = arrives s context.FlowMapping h.key ls h.allowed s.mark.index qs (58 ∷ r) (ap skip h.rest) (refl, refl) in
     let left = ap length h.rest in
     let place : v.mark.index ≡ s.mark.index = omega (arith, v.count, left) in
@@ -131,10 +133,10 @@ name_passes limit n below start ls ps r o text h follows clean =
     (core_at false seen context.FlowMapping j ls v.allowed s.mark.index))
     (v.same refl ∙ h.saves refl refl)
     ∙ fetches r v.mark v.blank k ls v.allowed s.mark.index p in
-    let content : IsContent (58 ∷ r) =
+    let content : IsContentStart (58 ∷ r) =
     record { nul = refl; byte_order_mark = refl; directive = refl; document_start = refl; document_end = refl } in
     let colon = empty_piece v.mark tokens.Value in
-    let new : List Place = record { opening = opening.Key; piece = h.piece } ∷ closed colon ∷ [] in
+    let new : List Place = record { opening = opening.Key; piece = h.piece } ∷ bare_place colon ∷ [] in
     let came = one limit s context.FlowMapping h.key ls h.allowed s.mark.index qs (58 ∷ r) v content p.there
     context.FlowMapping None ls false s.mark.index (ps ++ new)
     (Open (length ps) opening.Key ∷ at_mark v.mark tokens.Value ∷ [])

@@ -22,16 +22,16 @@ abbrev pub StopsGap : List ℕ → Type 0
 StopsGap [] = Unit {0}
 StopsGap (c ∷ cs) = (is_blank c ≡ false) × (is_break c ≡ false) × ((c == 35) ≡ false)
 
-abbrev pub has_break : List ℕ → Bool
-has_break w = list_any is_break w
+abbrev pub contains_break : List ℕ → Bool
+contains_break w = list_any is_break w
 
 -- Where w stands before `follow`, it is passed.
-pub record Passes (m : Marker) (blank broke : Bool) (w follow : List ℕ) : Type 0 where
+pub record PassesJsonGap (m : Marker) (blank broke : Bool) (w follow : List ℕ) : Type 0 where
   pub mark : Marker
   pub is : gap 0 m blank broke false (w ++ follow)
-      ≡ stop mark (blank || has_break w) (broke || has_break w) false follow
+      ≡ stop mark (blank || contains_break w) (broke || contains_break w) false follow
   pub index : mark.index ≡ m.index + length w
-  pub same_line : has_break w ≡ false → mark ≡ along m (length w)
+  pub same_line : contains_break w ≡ false → mark ≡ along m (length w)
   pub line : m.line < 2 ^ 64 → (m.line ≤ mark.line) × (mark.line < 2 ^ 64)
 
 pub along_more : (m : Marker) (n : ℕ) → along (along m 1) n ≡ along m (suc n)
@@ -48,16 +48,16 @@ gap_stops m blank broke (c ∷ cs) h = rw (h.0, h.1, h.2, no_return c h.1) refl
 -- a character that is passed before the others
 gap_behind_character : (m k : Marker) (blank broke blank_then broke_then : Bool) (c : ℕ) (w follow : List ℕ)
     → gap 0 m blank broke false (c ∷ (w ++ follow)) ≡ gap 0 k blank_then broke_then false (w ++ follow)
-    → (blank_then || has_break w) ≡ (blank || has_break (c ∷ w))
-    → (broke_then || has_break w) ≡ (broke || has_break (c ∷ w))
-    → k.index ≡ m.index + 1 → (has_break (c ∷ w) ≡ false → (has_break w ≡ false) × (k ≡ along m 1))
+    → (blank_then || contains_break w) ≡ (blank || contains_break (c ∷ w))
+    → (broke_then || contains_break w) ≡ (broke || contains_break (c ∷ w))
+    → k.index ≡ m.index + 1 → (contains_break (c ∷ w) ≡ false → (contains_break w ≡ false) × (k ≡ along m 1))
     → (m.line < 2 ^ 64 → (m.line ≤ k.line) × (k.line < 2 ^ 64))
-    → Passes k blank_then broke_then w follow → Passes m blank broke (c ∷ w) follow
+    → PassesJsonGap k blank_then broke_then w follow → PassesJsonGap m blank broke (c ∷ w) follow
 gap_behind_character m k blank broke blank_then broke_then c w follow one same_blank same_broke index same_line line p =
     record {
       mark = p.mark;
-      is = one ∙ p.is ∙ ap (λ b. stop p.mark b (broke_then || has_break w) false follow) same_blank
-          ∙ ap (λ b. stop p.mark (blank || has_break (c ∷ w)) b false follow) same_broke;
+      is = one ∙ p.is ∙ ap (λ b. stop p.mark b (broke_then || contains_break w) false follow) same_blank
+          ∙ ap (λ b. stop p.mark (blank || contains_break (c ∷ w)) b false follow) same_broke;
       index = omega (arith, p.index);
       same_line = λ h. let s =
           same_line h in p.same_line s.0 ∙ ap (λ x. along x (length w)) s.1 ∙ along_more m (length w);
@@ -68,7 +68,7 @@ pub no_tab_indentation : (m : Marker) (blank : Bool) (c : ℕ) → (is_tab_inden
 no_tab_indentation m blank c = grind (arith, nat_tests)
 
 blank_case : (m : Marker) (blank broke : Bool) (c : ℕ) (w follow : List ℕ) → is_blank c ≡ true → is_break c ≡ false
-    → Passes (along m 1) blank broke w follow → Passes m blank broke (c ∷ w) follow
+    → PassesJsonGap (along m 1) blank broke w follow → PassesJsonGap m blank broke (c ∷ w) follow
 blank_case m blank broke c w follow e no_break p =
     gap_behind_character m (along m 1) blank broke blank broke c w follow
     (rw e (ap (λ (t : Bool). gap 0 (along m 1) blank broke t (w ++ follow)) (no_tab_indentation m blank c)))
@@ -77,25 +77,25 @@ blank_case m blank broke c w follow e no_break p =
 break_case : (m : Marker) (blank broke : Bool) (c : ℕ) (w follow : List ℕ)
     → gap 0 m blank broke false (c ∷ (w ++ follow)) ≡ gap 0 (next_line m 1) true true false (w ++ follow)
     → is_break c ≡ true
-    → Passes (next_line m 1) true true w follow → Passes m blank broke (c ∷ w) follow
+    → PassesJsonGap (next_line m 1) true true w follow → PassesJsonGap m blank broke (c ∷ w) follow
 break_case m blank broke c w follow one e p =
     gap_behind_character m (next_line m 1) blank broke true true c w follow one (rw e (sym (or-true blank)))
     (rw e (sym (or-true broke))) refl (λ h. absurd (broken h)) (λ h. (omega arith, omega arith)) p
   where
-    broken : has_break (c ∷ w) ≡ false → ⊥
+    broken : contains_break (c ∷ w) ≡ false → ⊥
     broken h = cc
 
 -- CR before LF
 return_case : (m : Marker) (blank broke : Bool) (w follow : List ℕ) → (slice_index (w ++ follow) 0 == 10) ≡ true
-    → has_break w ≡ true → Passes (along m 1) blank broke w follow
-    → Passes m blank broke (13 ∷ w) follow
+    → contains_break w ≡ true → PassesJsonGap (along m 1) blank broke w follow
+    → PassesJsonGap m blank broke (13 ∷ w) follow
 return_case m blank broke w follow e broken p =
     gap_behind_character m (along m 1) blank broke blank broke 13 w follow (rw e refl) (rw broken refl)
     (rw broken refl) refl
     (λ h. absurd (cc)) (λ h. (omega arith, h)) p
 
 -- a line feed that stands first is the white space's own
-has_feed : (w follow : List ℕ) → StopsGap follow → (slice_index (w ++ follow) 0 == 10) ≡ true → has_break w ≡ true
+has_feed : (w follow : List ℕ) → StopsGap follow → (slice_index (w ++ follow) 0 == 10) ≡ true → contains_break w ≡ true
 has_feed [] [] h e = absurd (cc)
 has_feed [] (c ∷ cs) h e = absurd (clash (c == 10) (c == 13) e h.1)
   where
@@ -106,7 +106,7 @@ has_feed (c ∷ w) follow h e = rw e refl
 
 -- White space is passed up to what stops it.
 pub white_passed : (w follow : List ℕ) (m : Marker) (blank broke : Bool) → IsWhiteSpace w → StopsGap follow
-    → Passes m blank broke w follow
+    → PassesJsonGap m blank broke w follow
 white_passed [] follow m blank broke white h =
     record {
       mark = m;
@@ -120,34 +120,36 @@ white_passed (c ∷ w) follow m blank broke (white, others) h =
     by_kind white (white_passed w follow (along m 1) blank broke others h)
     (white_passed w follow (next_line m 1) true true others h)
   where
-    at_return : (b : Bool) → (slice_index (w ++ follow) 0 == 10) ≡ b → Passes (along m 1) blank broke w follow
-        → Passes (next_line m 1) true true w follow → Passes m blank broke (13 ∷ w) follow
+    at_return : (b : Bool) → (slice_index (w ++ follow) 0 == 10) ≡ b → PassesJsonGap (along m 1) blank broke w follow
+        → PassesJsonGap (next_line m 1) true true w follow → PassesJsonGap m blank broke (13 ∷ w) follow
     at_return true e p q = return_case m blank broke w follow e (has_feed w follow h e) p
     at_return false e p q = break_case m blank broke 13 w follow (rw e refl) refl q
 
-    by_kind : IsWhite c → Passes (along m 1) blank broke w follow → Passes (next_line m 1) true true w follow
-        → Passes m blank broke (c ∷ w) follow
-    by_kind (inl e) p q = subst (λ (x : ℕ). Passes m blank broke (x ∷ w) follow) (sym e)
+    by_kind : IsWhite c → PassesJsonGap (along m 1) blank broke w follow
+        → PassesJsonGap (next_line m 1) true true w follow
+        → PassesJsonGap m blank broke (c ∷ w) follow
+    by_kind (inl e) p q = subst (λ (x : ℕ). PassesJsonGap m blank broke (x ∷ w) follow) (sym e)
         (blank_case m blank broke 32 w follow refl refl p)
     by_kind (inr (inl e)) p q =
-        subst (λ (x : ℕ). Passes m blank broke (x ∷ w) follow) (sym e) (blank_case m blank broke 9 w follow refl refl p)
+        subst (λ (x : ℕ). PassesJsonGap m blank broke (x ∷ w) follow) (sym e)
+        (blank_case m blank broke 9 w follow refl refl p)
     by_kind (inr (inr (inl e))) p q =
-        subst (λ (x : ℕ). Passes m blank broke (x ∷ w) follow) (sym e)
+        subst (λ (x : ℕ). PassesJsonGap m blank broke (x ∷ w) follow) (sym e)
         (break_case m blank broke 10 w follow refl refl q)
     by_kind (inr (inr (inr e))) p q =
-        subst (λ (x : ℕ). Passes m blank broke (x ∷ w) follow) (sym e)
+        subst (λ (x : ℕ). PassesJsonGap m blank broke (x ∷ w) follow) (sym e)
         (at_return (slice_index (w ++ follow) 0 == 10) refl p q)
 
 -- where white space stands next, the gap goes up to what stands behind it
 pub gap_passed : (broke : Bool) (s : Cursor) (w follow : List ℕ) → s.rest ≡ w ++ follow
-    → Passes s.mark s.blank_so_far broke w follow
+    → PassesJsonGap s.mark s.blank_so_far broke w follow
     → (m : Marker) × (blank now : Bool) × (gap_at 0 broke false s ≡ stop m blank now false follow)
     × (m.index + length follow ≡ s.mark.index + length s.rest)
 gap_passed broke s w follow is p =
     let all : length s.rest ≡ length w + length follow = ap length is ∙ length-append w follow in (
       p.mark,
-      s.blank_so_far || has_break w,
-      broke || has_break w,
+      s.blank_so_far || contains_break w,
+      broke || contains_break w,
       ap (gap 0 s.mark s.blank_so_far broke false) is
           ∙ p.is,
       omega (arith, p.index),

@@ -11,16 +11,16 @@ use Rattle.saphyr_scanner.specs.Grammar.JsonTokens.{json_tokens, node_tokens}
 use Rattle.saphyr_scanner.specs.Grammar.Tokens as tokens
 use Rattle.saphyr_scanner.specs.Grammar.Tokens.{Kind}
 use Rattle.saphyr_scanner.specs.Views.Tokens.{Piece}
-use Rattle.saphyr_scanner.specs.Steps.Queue.{Place, closed, empty_piece}
-use Rattle.saphyr_scanner.specs.Steps.Core.{Candidate}
+use Rattle.saphyr_scanner.specs.Steps.Queue.{Place, bare_place, empty_piece}
+use Rattle.saphyr_scanner.specs.Steps.Level.{Candidate}
 use Rattle.saphyr_scanner.specs.Steps.State.{State, start}
 use Rattle.saphyr_scanner.specs.Steps.Unrolling.{unroll}
 use Rattle.saphyr_scanner.specs.Steps.Document.{end_stream, end_at, end_mark}
 use Rattle.saphyr_scanner.specs.Steps.Fetch.{fetch, fetch_here}
-use Rattle.saphyr_scanner.proofs.Leads.{Leads, flat}
+use Rattle.saphyr_scanner.proofs.Leads.{LeadsTo, flat}
 use Rattle.saphyr_scanner.proofs.Json.Strings.{ReadsDoubleQuoted, CountsDoubleQuoted}
 use Rattle.saphyr_scanner.proofs.Json.ReadWords.{ReadsPlainWords}
-use Rattle.saphyr_scanner.proofs.Json.States.{skip, skip_white, total, state_at, arrives, Comes, comes}
+use Rattle.saphyr_scanner.proofs.Json.States.{skip, skip_white, total, state_at, arrives, ComesInJson, comes}
 use Rattle.saphyr_scanner.proofs.Json.Marks.{chain, kinds, kinds_append}
 use Rattle.saphyr_scanner.proofs.Json.Quotes.{reader}
 use Rattle.saphyr_scanner.proofs.Json.Nodes.{Premises, node_passes}
@@ -28,17 +28,17 @@ use Rattle.saphyr_scalar.proofs.Given.{cursor_at}
 
 -- the token of the stream's start
 abbrev pub begun : Place
-begun = closed (empty_piece (record { index = 0; line = 1; col = 0 }) tokens.StreamStart)
+begun = bare_place (empty_piece (record { index = 0; line = 1; col = 0 }) tokens.StreamStart)
 
 pub starts : (limit : ℕ) (text : List ℕ)
-    → Comes limit (start text) false (fresh text) context.Block None [] true 0 (begun ∷ [])
+    → ComesInJson limit (start text) false (fresh text) context.Block None [] true 0 (begun ∷ [])
 unfolding fetch
 starts limit text = comes limit (start text) false (fresh text) context.Block None [] true 0 (begun ∷ []) refl refl
     (omega arith)
 
 -- the token of the stream's end
 abbrev pub finished : Marker → Place
-finished m = closed (empty_piece (end_mark m) tokens.StreamEnd)
+finished m = bare_place (empty_piece (end_mark m) tokens.StreamEnd)
 
 pub here : (m : Marker) (b : Bool) (k : Option Candidate) (a : Bool) (ad : ℕ) (ps : List Place)
     → fetch_here (state_at false (cursor_at [] m b) context.Block k [] a ad ps)
@@ -47,16 +47,16 @@ unfolding fetch_here end_stream end_at unroll
 here m b k a ad ps = refl
 
 -- at the text's end
-record Ends (limit : ℕ) (before : State) (ps : List Place) : Type 0 where
+record EndsStream (limit : ℕ) (before : State) (ps : List Place) : Type 0 where
   after : State
   mark : Marker
-  leads : Leads limit after before
+  leads : LeadsTo limit after before
   over : after.core.ended ≡ true
   handed : after.queue.handed ≡ 0
   places : after.queue.places ≡ ps ++ finished mark ∷ []
 
 leads_to_end : (limit n : ℕ) → n ≤ limit → (s : Cursor) (k : Option Candidate) (a : Bool) (ad : ℕ) (ps : List Place)
-    → total s ≡ n → skip s.rest ≡ [] → Ends limit (state_at false s context.Block k [] a ad ps) ps
+    → total s ≡ n → skip s.rest ≡ [] → EndsStream limit (state_at false s context.Block k [] a ad ps) ps
 unfolding fetch
 leads_to_end limit n below s k a ad ps count text =
     let v = arrives s context.Block k [] a ad ps [] text tt in
@@ -84,7 +84,7 @@ kinds_of_stream new m ts e = ap (λ (x : List Kind). tokens.StreamStart ∷ x)
 pub json_leads : ReadsPlainWords words.plain → ReadsDoubleQuoted reader → CountsDoubleQuoted reader
     → (limit : ℕ) (forest : Forest) (text : List ℕ) → IsJson forest text → open_in_forest forest ≤ 255
     → length text ≤ limit
-    → (d : State) × Leads limit d (start text) × (d.core.ended ≡ true) × (d.queue.handed ≡ 0)
+    → (d : State) × LeadsTo limit d (start text) × (d.core.ended ≡ true) × (d.queue.handed ≡ 0)
     × (map (λ (t : Piece). t.kind) (flat d.queue.places) ≡ json_tokens forest)
 json_leads words_read quoted_read counts limit [] text h deep short = absurd h
 json_leads words_read quoted_read counts limit (document ∷ other ∷ others) text h deep short = absurd h

@@ -13,16 +13,17 @@ use Rattle.saphyr_scanner.specs.declared.engine.level.Context.TheVariants as con
 use Rattle.saphyr_scanner.specs.Grammar.Tokens.{Kind}
 use Rattle.saphyr_scanner.specs.Views.Tokens.{Piece}
 use Rattle.saphyr_scanner.specs.Steps.Queue.{Place}
-use Rattle.saphyr_scanner.specs.Steps.Core.{Candidate, Level, save_key, go_deeper}
+use Rattle.saphyr_scanner.specs.Steps.Core.{save_key, go_deeper}
+use Rattle.saphyr_scanner.specs.Steps.Level.{Candidate, Level}
 use Rattle.saphyr_scanner.specs.Steps.State.{State}
-use Rattle.saphyr_scanner.proofs.Leads.{Leads, stay, onward, flat}
+use Rattle.saphyr_scanner.proofs.Leads.{LeadsTo, stay, onward, flat}
 use Rattle.saphyr_scanner.proofs.Json.Gaps.{line_first, white_separated}
-use Rattle.saphyr_scanner.proofs.Json.States.{skip, split, skip_white, skip_skip, IsClean, stops_blanks, total, core_at, state_at, Comes}
+use Rattle.saphyr_scanner.proofs.Json.States.{skip, split, skip_white, skip_skip, IsClean, stops_blanks, total, core_at, state_at, ComesInJson}
 use Rattle.saphyr_scanner.proofs.Queues.{flat_append}
 
 -- ## Runs
 
-pub chain : {limit : ℕ} {d m : State} {s : State} → Leads limit m s → Leads limit d m → Leads limit d s
+pub chain : {limit : ℕ} {d m : State} {s : State} → LeadsTo limit m s → LeadsTo limit d m → LeadsTo limit d s
 chain stay k = k
 chain (onward s t u going is settles l) k = onward s t u going is settles (chain l k)
 
@@ -36,14 +37,14 @@ kinds_append a b = ap (map (λ (t : Piece). t.kind)) (flat_append a b)
 -- From a state the scanner comes, behind a piece, to the text o, whose end has the index n. The places of the piece
 -- hold these tokens.
 -- A key may begin there where `fresh` says so.
-pub record Passes (limit n : ℕ) (start : State) (fresh : Bool) (x : Context) (ls : List Level) (ps : List Place)
+pub record PassesJson (limit n : ℕ) (start : State) (fresh : Bool) (x : Context) (ls : List Level) (ps : List Place)
     (o : List ℕ) (ts : List Kind) : Type 0 where
   pub there : Cursor
   pub key : Option Candidate
   pub allowed : Bool
   pub adjacent : ℕ
   pub new : List Place
-  pub leads : Leads limit (state_at false there x key ls allowed adjacent (ps ++ new)) start
+  pub leads : LeadsTo limit (state_at false there x key ls allowed adjacent (ps ++ new)) start
   pub fits : skip there.rest ≡ skip o
   pub count : total there ≡ n
   pub are : kinds new ≡ ts
@@ -52,8 +53,8 @@ pub record Passes (limit n : ℕ) (start : State) (fresh : Bool) (x : Context) (
 -- one step
 pub once : {limit n : ℕ} {start : State} {x : Context} {ls : List Level} {k : Option Candidate} (fresh a : Bool)
     (ad : ℕ) (s : Cursor) (ps new : List Place) (o : List ℕ) (ts : List Kind)
-    → Comes limit start false s x k ls a ad (ps ++ new) → skip s.rest ≡ skip o → total s ≡ n → kinds new ≡ ts
-    → (fresh ≡ true → a ≡ true) → Passes limit n start fresh x ls ps o ts
+    → ComesInJson limit start false s x k ls a ad (ps ++ new) → skip s.rest ≡ skip o → total s ≡ n → kinds new ≡ ts
+    → (fresh ≡ true → a ≡ true) → PassesJson limit n start fresh x ls ps o ts
 once fresh a ad s ps new o ts c fits count are allows =
     record {
       there = s;
@@ -73,10 +74,10 @@ once fresh a ad s ps new o ts c fits count are allows =
 -- what stands behind, in one piece with it
 pub join : {limit n : ℕ} {start : State} {fresh more_fresh : Bool} {x y : Context} {ls ms : List Level}
     {ps : List Place} {o z : List ℕ} {ts us : List Kind}
-    → (p : Passes limit n start fresh x ls ps o ts)
-    → Passes limit n (state_at false p.there x p.key ls p.allowed p.adjacent (ps ++ p.new)) more_fresh y ms
+    → (p : PassesJson limit n start fresh x ls ps o ts)
+    → PassesJson limit n (state_at false p.there x p.key ls p.allowed p.adjacent (ps ++ p.new)) more_fresh y ms
     (ps ++ p.new) z us
-    → Passes limit n start more_fresh y ms ps z (ts ++ us)
+    → PassesJson limit n start more_fresh y ms ps z (ts ++ us)
 join {ps = ps} {ts = ts} {us = us} p q =
     record {
       there = q.there;

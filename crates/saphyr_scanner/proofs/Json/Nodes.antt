@@ -9,8 +9,9 @@ use Rattle.saphyr_scanner.specs.Grammar.Forest.{Node, Alias, Scalar, Seq, Map, P
 use Rattle.saphyr_scanner.specs.Grammar.Tokens as tokens
 use Rattle.saphyr_scanner.specs.Grammar.Tokens.{Kind}
 use Rattle.saphyr_scanner.specs.Grammar.JsonTokens.{node_tokens, entry_tokens, other_entry_tokens, pair_tokens, other_pair_tokens}
-use Rattle.saphyr_scanner.specs.Steps.Queue.{Place, closed}
-use Rattle.saphyr_scanner.specs.Steps.Core.{Candidate, Level, Core, is_block}
+use Rattle.saphyr_scanner.specs.Steps.Queue.{Place, bare_place}
+use Rattle.saphyr_scanner.specs.Steps.Core.{Core}
+use Rattle.saphyr_scanner.specs.Steps.Level.{Candidate, Level, is_block}
 use Rattle.saphyr_scanner.specs.Steps.State.{State}
 use Rattle.saphyr_scanner.specs.Steps.Flow as flow
 use Rattle.saphyr_scanner.specs.Steps.Flow.{close_collection}
@@ -20,13 +21,13 @@ use Rattle.saphyr_scanner.proofs.Leads.{stay}
 use Rattle.saphyr_scanner.proofs.Json.Words.{IsBehindValue}
 use Rattle.saphyr_scanner.proofs.Json.Strings.{ReadsDoubleQuoted, CountsDoubleQuoted}
 use Rattle.saphyr_scanner.proofs.Json.ReadWords.{ReadsPlainWords}
-use Rattle.saphyr_scanner.proofs.Json.States.{skip, skip_skip, IsClean, total, core_at, state_at, IsContent}
-use Rattle.saphyr_scanner.proofs.Json.Marks.{Passes, join, level_of}
+use Rattle.saphyr_scanner.proofs.Json.States.{skip, skip_skip, IsClean, total, core_at, state_at, IsContentStart}
+use Rattle.saphyr_scanner.proofs.Json.Marks.{PassesJson, join, level_of}
 use Rattle.saphyr_scanner.proofs.Json.Brackets.{open_passes, close_passes, comma_passes}
 use Rattle.saphyr_scanner.proofs.Json.Colons.{Strung, name_passes}
 use Rattle.saphyr_scanner.proofs.Json.Quotes.{reader, string_passes}
 use Rattle.saphyr_scanner.proofs.Json.Plains.{word_passes}
-use Rattle.saphyr_scanner.proofs.Json.Pieces.{around, behind_clean, behind_quotes, closing_behind, others_behind, other_members_behind, value_clean, elements_clean, name_clean, members_clean}
+use Rattle.saphyr_scanner.proofs.Json.Pieces.{around, behind_clean, quotes_followed, closing_behind, others_behind, other_members_behind, value_clean, elements_clean, name_clean, members_clean}
 use Rattle.std.proofs.lemmas.Bool.{false≢true}
 
 -- what the readers of scalars promise, and that the text is not too long
@@ -37,10 +38,10 @@ pub record Premises (limit n : ℕ) : Type 0 where
   pub below : n ≤ limit
 
 -- no step
-pub none : (limit n : ℕ) (s : Cursor) (x : Context) (k : Option Candidate) (ls : List Level) (a : Bool) (ad : ℕ)
+pub passes_none : (limit n : ℕ) (s : Cursor) (x : Context) (k : Option Candidate) (ls : List Level) (a : Bool) (ad : ℕ)
     (ps : List Place) (o : List ℕ) → total s ≡ n → skip s.rest ≡ skip o
-    → Passes limit n (state_at false s x k ls a ad ps) false x ls ps o []
-none limit n s x k ls a ad ps o count text =
+    → PassesJson limit n (state_at false s x k ls a ad ps) false x ls ps o []
+passes_none limit n s x k ls a ad ps o count text =
     record {
       there = s;
       key =
@@ -59,14 +60,14 @@ none limit n s x k ls a ad ps o count text =
 
 strung_passes : {limit n : ℕ} {start : State} {x : Context} {ls : List Level} {a : Bool} {ps : List Place}
     (y o v : List ℕ) → skip o ≡ y → skip y ≡ y → Strung limit n start x ls a ps y v
-    → Passes limit n start false x ls ps o (tokens.scalar_token DoubleQuoted v ∷ [])
+    → PassesJson limit n start false x ls ps o (tokens.scalar_token DoubleQuoted v ∷ [])
 strung_passes y o v text still h =
     record {
       there = h.there;
       key = h.key;
       allowed = h.allowed;
       adjacent = h.there.mark.index;
-      new = closed h.piece ∷ [];
+      new = bare_place h.piece ∷ [];
       leads = h.leads;
       fits = ap skip h.rest ∙ still ∙ sym text;
       count = h.count;
@@ -75,22 +76,23 @@ strung_passes y o v text still h =
     }
 
 retold : {limit n : ℕ} {start : State} {fresh : Bool} {x : Context} {ls : List Level} {ps : List Place} {o : List ℕ}
-    (ts us : List Kind) → ts ≡ us → Passes limit n start fresh x ls ps o ts → Passes limit n start fresh x ls ps o us
+    (ts us : List Kind) → ts ≡ us → PassesJson limit n start fresh x ls ps o ts
+    → PassesJson limit n start fresh x ls ps o us
 retold {limit = limit} {n = n} {start = start} {fresh = fresh} {x = x} {ls = ls} {ps = ps} {o = o} ts us e p =
-    subst (Passes limit n start fresh x ls ps o) e p
+    subst (PassesJson limit n start fresh x ls ps o) e p
 
-content_of : (c : ℕ) (r : List ℕ) → (c ≡ 91) ⊎ (c ≡ 93) ⊎ (c ≡ 123) ⊎ (c ≡ 125) → IsContent (c ∷ r)
+content_of : (c : ℕ) (r : List ℕ) → (c ≡ 91) ⊎ (c ≡ 93) ⊎ (c ≡ 123) ⊎ (c ≡ 125) → IsContentStart (c ∷ r)
 content_of c r (inl e) =
-    subst (λ (z : ℕ). IsContent (z ∷ r)) (sym e)
+    subst (λ (z : ℕ). IsContentStart (z ∷ r)) (sym e)
     (record { nul = refl; byte_order_mark = refl; directive = refl; document_start = refl; document_end = refl })
 content_of c r (inr (inl e)) =
-    subst (λ (z : ℕ). IsContent (z ∷ r)) (sym e)
+    subst (λ (z : ℕ). IsContentStart (z ∷ r)) (sym e)
     (record { nul = refl; byte_order_mark = refl; directive = refl; document_start = refl; document_end = refl })
 content_of c r (inr (inr (inl e))) =
-    subst (λ (z : ℕ). IsContent (z ∷ r)) (sym e)
+    subst (λ (z : ℕ). IsContentStart (z ∷ r)) (sym e)
     (record { nul = refl; byte_order_mark = refl; directive = refl; document_start = refl; document_end = refl })
 content_of c r (inr (inr (inr e))) =
-    subst (λ (z : ℕ). IsContent (z ∷ r)) (sym e)
+    subst (λ (z : ℕ). IsContentStart (z ∷ r)) (sym e)
     (record { nul = refl; byte_order_mark = refl; directive = refl; document_start = refl; document_end = refl })
 
 pub begins_sequence : (second i : ℕ) (c : Core)
@@ -124,7 +126,7 @@ member_passes : {limit n : ℕ} → Premises limit n → (key : Node) (p colon o
     → IsStructural (codes ":") colon
     → (s : Cursor) (k : Option Candidate) (ls : List Level) (ad : ℕ) (ps : List Place) (a : Bool) → a ≡ true
     → total s ≡ n → skip s.rest ≡ skip (p ++ (colon ++ o)) → IsClean (skip o)
-    → Passes limit n (state_at false s context.FlowMapping k ls a ad ps) false context.FlowMapping ls ps o
+    → PassesJson limit n (state_at false s context.FlowMapping k ls a ad ps) false context.FlowMapping ls ps o
     (tokens.Key ∷ (node_tokens key ++ tokens.Value ∷ []))
 member_passes {limit} {n} q (Scalar _ DoubleQuoted v) p colon o h c s k ls ad ps a allowed count text clean =
     let there = around 58 colon o refl refl c in
@@ -147,13 +149,13 @@ mutual
       → (s : Cursor) (x : Context) (k : Option Candidate) (ls : List Level) (a : Bool) (ad : ℕ) (ps : List Place)
       → total s ≡ n → skip s.rest ≡ skip (p ++ o) → IsBehindValue (not (is_block x)) (skip o)
       → open_collections node + length ls ≤ 255
-      → Passes limit n (state_at false s x k ls a ad ps) false x ls ps o (node_tokens node)
+      → PassesJson limit n (state_at false s x k ls a ad ps) false x ls ps o (node_tokens node)
   node_passes {limit} {n} q (Scalar _ Plain v) p o h s x k ls a ad ps count text ends deep =
       word_passes q.reads_words limit n q.below v o h.1 s x k ls a ad ps count (rw h.2 at text) ends
   node_passes {limit} {n} q (Scalar _ DoubleQuoted v) p o h s x k ls a ad ps count text ends deep =
       strung_passes (skip o) o v refl (skip_skip o)
       (string_passes q.reads_quoted q.counts limit n q.below p o (skip o) v h.1 s x k ls a ad ps count text refl
-      (behind_quotes (is_block x) (skip o) ends))
+      (quotes_followed (is_block x) (skip o) ends))
   node_passes q (Scalar _ SingleQuoted v) p o h s x k ls a ad ps count text ends deep = absurd h
   node_passes q (Scalar _ Literal v) p o h s x k ls a ad ps count text ends deep = absurd h
   node_passes q (Scalar _ Folded v) p o h s x k ls a ad ps count text ends deep = absurd h
@@ -197,10 +199,10 @@ mutual
       → (s : Cursor) (k : Option Candidate) (ls : List Level) (a : Bool) (ad : ℕ) (ps : List Place) → total s ≡ n
       → skip s.rest ≡ skip (p ++ o) → IsBehindValue true (skip o)
       → open_in_nodes nodes + length ls ≤ 255
-      → Passes limit n (state_at false s context.FlowSequence k ls a ad ps) false context.FlowSequence ls ps o
+      → PassesJson limit n (state_at false s context.FlowSequence k ls a ad ps) false context.FlowSequence ls ps o
       (entry_tokens nodes)
   elements_pass {limit} {n} q NoNode p o h s k ls a ad ps count text ends deep =
-      none limit n s context.FlowSequence k ls a ad ps o count (rw h at text)
+      passes_none limit n s context.FlowSequence k ls a ad ps o count (rw h at text)
   elements_pass q (MoreNodes node nodes) p o h s k ls a ad ps count text ends deep =
       let all_text : p ++ o ≡ h.0 ++ (h.1 ++ o) = rw h.4 (append_assoc h.0 h.1 o) in
       let one = node_passes q node h.0 (h.1 ++ o) h.2 s context.FlowSequence k ls a ad ps count
@@ -212,10 +214,10 @@ mutual
       → (s : Cursor) (k : Option Candidate) (ls : List Level) (a : Bool) (ad : ℕ) (ps : List Place) → total s ≡ n
       → skip s.rest ≡ skip (p ++ o) → IsBehindValue true (skip o)
       → open_in_nodes nodes + length ls ≤ 255
-      → Passes limit n (state_at false s context.FlowSequence k ls a ad ps) false context.FlowSequence ls ps o
+      → PassesJson limit n (state_at false s context.FlowSequence k ls a ad ps) false context.FlowSequence ls ps o
       (other_entry_tokens nodes)
   others_pass {limit} {n} q NoNode p o h s k ls a ad ps count text ends deep =
-      none limit n s context.FlowSequence k ls a ad ps o count (rw h at text)
+      passes_none limit n s context.FlowSequence k ls a ad ps o count (rw h at text)
   others_pass {limit} {n} q (MoreNodes node nodes) p o h s k ls a ad ps count text ends deep =
       let all_text : p ++ o ≡ h.0 ++ (h.1 ++ (h.2 ++ o)) = rw h.6 (simp append_assoc) in
       let first = around 44 h.0 (h.1 ++ (h.2 ++ o)) refl refl h.3 in
@@ -231,10 +233,10 @@ mutual
       → (s : Cursor) (k : Option Candidate) (ls : List Level) (a : Bool) (ad : ℕ) (ps : List Place) → a ≡ true
       → total s ≡ n → skip s.rest ≡ skip (p ++ o) → IsBehindValue true (skip o)
       → open_in_pairs pairs + length ls ≤ 255
-      → Passes limit n (state_at false s context.FlowMapping k ls a ad ps) false context.FlowMapping ls ps o
+      → PassesJson limit n (state_at false s context.FlowMapping k ls a ad ps) false context.FlowMapping ls ps o
       (pair_tokens pairs)
   members_pass {limit} {n} q NoPair p o h s k ls a ad ps fresh count text ends deep =
-      none limit n s context.FlowMapping k ls a ad ps o count (rw h at text)
+      passes_none limit n s context.FlowMapping k ls a ad ps o count (rw h at text)
   members_pass q (MorePairs key node pairs) p o h s k ls a ad ps fresh count text ends deep =
       let all_text : p ++ o ≡ h.0 ++ (h.1 ++ (h.2 ++ (h.3 ++ o))) = rw h.8 (simp append_assoc) in
       let name = member_passes q key h.0 h.1 (h.2 ++ (h.3 ++ o)) h.4 h.5 s k ls ad ps a fresh count
@@ -251,10 +253,10 @@ mutual
       → (s : Cursor) (k : Option Candidate) (ls : List Level) (a : Bool) (ad : ℕ) (ps : List Place) → total s ≡ n
       → skip s.rest ≡ skip (p ++ o) → IsBehindValue true (skip o)
       → open_in_pairs pairs + length ls ≤ 255
-      → Passes limit n (state_at false s context.FlowMapping k ls a ad ps) false context.FlowMapping ls ps o
+      → PassesJson limit n (state_at false s context.FlowMapping k ls a ad ps) false context.FlowMapping ls ps o
       (other_pair_tokens pairs)
   other_members_pass {limit} {n} q NoPair p o h s k ls a ad ps count text ends deep =
-      none limit n s context.FlowMapping k ls a ad ps o count (rw h at text)
+      passes_none limit n s context.FlowMapping k ls a ad ps o count (rw h at text)
   other_members_pass {limit} {n} q (MorePairs key node pairs) p o h s k ls a ad ps count text ends deep =
       let all_text : p ++ o ≡ h.0 ++ (h.1 ++ (h.2 ++ (h.3 ++ (h.4 ++ o)))) = rw h.10 (simp append_assoc) in
       let first = around 44 h.0 (h.1 ++ (h.2 ++ (h.3 ++ (h.4 ++ o)))) refl refl h.5 in

@@ -34,13 +34,13 @@ behind_clean b (c ∷ cs) h = by_mark h.1
     by_mark (inr (inl e)) = subst (λ (z : ℕ). IsClean (z ∷ cs)) (sym e) (refl, refl)
     by_mark (inr (inr e)) = subst (λ (z : ℕ). IsClean (z ∷ cs)) (sym e) (refl, refl)
 
-pub behind_quotes : (b : Bool) (y : List ℕ) → IsBehindValue (not b) y → IsBehindQuotes b y
-behind_quotes b [] h = tt
-behind_quotes true (c ∷ cs) h = absurd (none h.0)
+pub quotes_followed : (b : Bool) (y : List ℕ) → IsBehindValue (not b) y → IsBehindQuotes b y
+quotes_followed b [] h = tt
+quotes_followed true (c ∷ cs) h = absurd (none h.0)
   where
     none : false ≡ true → ⊥
     none e = cc
-behind_quotes false (c ∷ cs) h = (refl, inr h.1)
+quotes_followed false (c ∷ cs) h = (refl, inr h.1)
 
 pub closing_behind : (c : ℕ) (t o : List ℕ) → (c ≡ 93) ⊎ (c ≡ 125) → Begins c t o → IsBehindValue true (skip (t ++ o))
 closing_behind c t o kind h = subst (IsBehindValue true) (sym h.1) (refl, inr kind)

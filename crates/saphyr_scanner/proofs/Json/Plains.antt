@@ -12,7 +12,8 @@ use Rattle.saphyr_scanner.specs.declared.engine.level.Context.{Context}
 use Rattle.saphyr_scanner.specs.Grammar.Tokens as tokens
 use Rattle.saphyr_scanner.specs.Grammar.Forest.{Plain}
 use Rattle.saphyr_scanner.specs.Steps.Queue.{Place}
-use Rattle.saphyr_scanner.specs.Steps.Core.{Candidate, Level, Core, is_block, from_to, went}
+use Rattle.saphyr_scanner.specs.Steps.Core.{Core, from_to, completed_step}
+use Rattle.saphyr_scanner.specs.Steps.Level.{Candidate, Level, is_block}
 use Rattle.saphyr_scanner.specs.Steps.Scalar as scalar
 use Rattle.saphyr_scanner.specs.Steps.Scalar.{read_plain, disallow_key, behind_plain}
 use Rattle.saphyr_scanner.specs.Steps.Fetch.{step}
@@ -21,10 +22,10 @@ use Rattle.saphyr_scanner.proofs.Json.Words.{IsBehindValue, BeginsWord, word_beg
 use Rattle.saphyr_scanner.proofs.Json.FirstTests.{other_than_digit, BeginsNothingElse, first_begins}
 use Rattle.saphyr_scanner.proofs.Json.Firsts.{kind_is_first, word_value, digit_second, no_marker}
 use Rattle.saphyr_scanner.proofs.Json.ReadWords.{ReadsPlainWords, word_read}
-use Rattle.saphyr_scanner.proofs.Json.Gaps.{has_break}
-use Rattle.saphyr_scanner.proofs.Json.States.{skip, split, skip_none, skip_skip, IsClean, total, core_at, state_at, arrives, IsContent, one}
-use Rattle.saphyr_scanner.proofs.Json.Marks.{Passes, once, saved, saves_key}
-use Rattle.saphyr_scanner.proofs.Json.Brackets.{place_of, low_index}
+use Rattle.saphyr_scanner.proofs.Json.Gaps.{contains_break}
+use Rattle.saphyr_scanner.proofs.Json.States.{skip, split, skip_none, skip_skip, IsClean, total, core_at, state_at, arrives, IsContentStart, one}
+use Rattle.saphyr_scanner.proofs.Json.Marks.{PassesJson, once, saved, saves_key}
+use Rattle.saphyr_scanner.proofs.Json.Brackets.{token_place, low_index}
 use Rattle.saphyr_scalar.proofs.Given.{cursor_at}
 use Rattle.std.proofs.lemmas.Bool.{or_parts}
 use Rattle.saphyr_input.proofs.Basics.Numbers.{none_below_zero}
@@ -37,7 +38,7 @@ pub record Read (n : ℕ) (m : Marker) (b : Bool) (t o y : List ℕ) (x : Contex
   pub mark : Marker
   pub broke : Bool
   pub is : scalar.plain_steps n (core_at false (cursor_at (t ++ o) m b) x k ls a ad)
-      ≡ went (from_to m (along m (length t)) (tokens.Scalar Plain (encode_utf8_all t)) ∷ [])
+      ≡ completed_step (from_to m (along m (length t)) (tokens.Scalar Plain (encode_utf8_all t)) ∷ [])
       (core_at false (cursor_at y mark broke) x (saved a n m k) ls broke ad)
   pub count : mark.index + length y ≡ m.index + length (t ++ o)
 
@@ -53,13 +54,14 @@ word_step reads n m b t o y h w white behind x k ls a ad ends =
     let kind = tokens.Scalar Plain (encode_utf8_all t) in
     let all : length (t ++ o) ≡ length t + length o = length-append t o in
     let more : length o ≡ length w + length y = ap length behind ∙ length-append w y in
-    let token = λ (z : List ℕ × Marker × Option Marker × Cursor). went (from_to m z.1 (tokens.Scalar Plain z.0) ∷ [])
+    let token = λ (z : List ℕ × Marker × Option Marker × Cursor). completed_step
+    (from_to m z.1 (tokens.Scalar Plain z.0) ∷ [])
     (behind_plain z.2 z.3 c) in
     let refused : (not (is_block x) && nat_lt m.col 0) ≡ false =
     ap (λ (q : Bool). not (is_block x) && q) (none_below_zero m.col) ∙ and_false (not (is_block x)) in
     record {
       mark = r.0.mark;
-      broke = has_break w;
+      broke = contains_break w;
       is = ap (λ (d : Core). read_plain (record (disallow_key d) { deeper = false })) (saves_key n s x k ls a ad)
           ∙ rw refused (ap (λ q. q >>= token) r.1);
       count = omega (arith, r.0.index, all, more);
@@ -129,7 +131,7 @@ word_first t o b =
     by_dash true e = rw e ((digit_second t o (word_value t b) (is_dash b.first e)).blank_or_breakz)
     by_dash false e = rw e refl
 
-word_content : (t o : List ℕ) (b : BeginsWord t) → IsContent (t ++ o)
+word_content : (t o : List ℕ) (b : BeginsWord t) → IsContentStart (t ++ o)
 word_content t o b =
     let first = first_begins b.first (kind_is_first b.first b.kind) in
     let front : t ++ o ≡ b.first ∷ (b.others ++ o) = ap (λ (z : List ℕ). z ++ o) b.is in
@@ -147,7 +149,7 @@ word_content t o b =
 pub word_passes : ReadsPlainWords words.plain → (limit n : ℕ) → n ≤ limit → (t o : List ℕ) → IsWord t
     → (s : Cursor) (x : Context) (k : Option Candidate) (ls : List Level) (a : Bool) (ad : ℕ) (ps : List Place)
     → total s ≡ n → skip s.rest ≡ skip (t ++ o) → IsBehindValue (not (is_block x)) (skip o)
-    → Passes limit n (state_at false s x k ls a ad ps) false x ls ps o (tokens.scalar_token Plain t ∷ [])
+    → PassesJson limit n (state_at false s x k ls a ad ps) false x ls ps o (tokens.scalar_token Plain t ∷ [])
 word_passes reads limit n below t o h s x k ls a ad ps count text ends =
     let b = word_begins t h in
     let first = first_begins b.first (kind_is_first b.first b.kind) in
@@ -167,9 +169,9 @@ word_passes reads limit n below t o h s x k ls a ad ps count text ends =
     let stepped = ap (λ (i : ℕ). step i (slice_index (t ++ o) 1) (length ps) c) at_first
     ∙ plain_begins b.first (slice_index (t ++ o) 1) (length ps) c (word_first t o b) ∙ r.is in
     let came = one limit s x k ls a ad ps (t ++ o) v (word_content t o b) there x
-    (saved v.allowed (length ps) v.mark v.key) ls r.broke ad (ps ++ place_of v.mark end kind ∷ [])
+    (saved v.allowed (length ps) v.mark v.key) ls r.broke ad (ps ++ token_place v.mark end kind ∷ [])
     (from_to v.mark end kind ∷ []) stepped refl (low_index there n limit counted below) in
-    once false r.broke ad there ps (place_of v.mark end kind ∷ []) o (kind ∷ []) came (skip_skip o) counted refl
+    once false r.broke ad there ps (token_place v.mark end kind ∷ []) o (kind ∷ []) came (skip_skip o) counted refl
     (λ e. absurd (none e))
   where
     none : false ≡ true → ⊥

@@ -13,16 +13,17 @@ use Rattle.saphyr_scanner.specs.declared.engine.level.Context.{Context}
 use Rattle.saphyr_scanner.specs.Grammar.Tokens as tokens
 use Rattle.saphyr_scanner.specs.Grammar.Forest.{DoubleQuoted}
 use Rattle.saphyr_scanner.specs.Steps.Queue.{Place}
-use Rattle.saphyr_scanner.specs.Steps.Core.{Candidate, Level, Core, is_block, from_to, went}
+use Rattle.saphyr_scanner.specs.Steps.Core.{Core, from_to, completed_step}
+use Rattle.saphyr_scanner.specs.Steps.Level.{Candidate, Level, is_block}
 use Rattle.saphyr_scanner.specs.Steps.Passing.{with_cursor}
 use Rattle.saphyr_scanner.specs.Steps.Scalar as scalar
-use Rattle.saphyr_scanner.specs.Steps.Scalar.{read_double_quoted, disallow_key, behind_quotes, behind_line, goes_on_behind_quotes, adjacent_here}
+use Rattle.saphyr_scanner.specs.Steps.Scalar.{read_double_quoted, disallow_key, behind_quotes, behind_quoted_line, goes_on_behind_quotes, adjacent_here}
 use Rattle.saphyr_scanner.specs.Steps.Fetch.{step}
 use Rattle.saphyr_scanner.specs.Grammar.Json.{IsString}
 use Rattle.saphyr_scanner.proofs.Json.Strings.{ReadsDoubleQuoted, CountsDoubleQuoted, string_read}
-use Rattle.saphyr_scanner.proofs.Json.States.{skip, IsClean, total, core_at, state_at, arrives, PassesGap, passes_gap, IsContent, one}
+use Rattle.saphyr_scanner.proofs.Json.States.{skip, IsClean, total, core_at, state_at, arrives, PassesGap, passes_gap, IsContentStart, one}
 use Rattle.saphyr_scanner.proofs.Json.Marks.{Separates, separates, saved, saves_key}
-use Rattle.saphyr_scanner.proofs.Json.Brackets.{place_of, low_index}
+use Rattle.saphyr_scanner.proofs.Json.Brackets.{token_place, low_index}
 use Rattle.saphyr_scanner.proofs.Json.Colons.{Strung}
 use Rattle.saphyr_scalar.proofs.Given.{cursor_at}
 use Rattle.std.proofs.lemmas.Bool.{or_left}
@@ -99,13 +100,15 @@ behind_step : (m : Marker) (text : List ℕ) (s : Cursor) (x : Context) (k : Opt
     (y : List ℕ) (p : Separates s) (g : PassesGap p.there x k ls false ad y)
     → goes_on_behind_quotes m (core_at false p.there x k ls false ad) ≡ true
     → behind_quotes m DoubleQuoted text (core_at false s x k ls false ad)
-    ≡ went (from_to m p.there.mark (tokens.Scalar DoubleQuoted text) ∷ [])
+    ≡ completed_step (from_to m p.there.mark (tokens.Scalar DoubleQuoted text) ∷ [])
     (core_at false (cursor_at y g.mark g.blank) x k ls g.allowed g.mark.index)
 unfolding behind_quotes
 behind_step m text s x k ls ad y p g goes =
     let c = core_at false s x k ls false ad in
-    let token = λ (d : Core). went (from_to m p.there.mark (tokens.Scalar DoubleQuoted text) ∷ []) (adjacent_here d) in
-    ap (λ q. (q >>= λ (d : SkipTabs × Cursor). Ok (d.0, with_cursor d.1 c)) >>= λ (d : SkipTabs × Core). behind_line m
+    let token = λ (d : Core). completed_step (from_to m p.there.mark (tokens.Scalar DoubleQuoted text) ∷ [])
+    (adjacent_here d) in
+    ap (λ q. (q >>= λ (d : SkipTabs × Cursor). Ok (d.0, with_cursor d.1 c))
+    >>= λ (d : SkipTabs × Core). behind_quoted_line m
     DoubleQuoted text d.1) p.is
     ∙ rw goes (ap (λ q. q >>= token) g.is)
 
@@ -140,10 +143,10 @@ string_passes reads counts limit n below p o y v h s x k ls a ad ps count text f
     ∙ string_step reads counts (length ps) m u.blank p o r v (sym front) h x u.key ls u.allowed ad
     ∙ behind_step m (encode_utf8_all v) behind x key ls ad y d g
     (reads_on_behind_quotes m d.there x key ls false ad y ends first) in
-    let content : IsContent (34 ∷ r) =
+    let content : IsContentStart (34 ∷ r) =
     record { nul = refl; byte_order_mark = refl; directive = refl; document_start = refl; document_end = refl } in
     let came = one limit s x k ls a ad ps (34 ∷ r) u content there x key ls g.allowed g.mark.index
-    (ps ++ place_of m d.there.mark kind ∷ []) (from_to m d.there.mark kind ∷ []) stepped refl
+    (ps ++ token_place m d.there.mark kind ∷ []) (from_to m d.there.mark kind ∷ []) stepped refl
     (low_index there n limit counted below) in
     record {
       there = there;

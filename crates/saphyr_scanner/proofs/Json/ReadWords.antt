@@ -10,7 +10,7 @@ use Rattle.saphyr_scalar.specs.Steps.Plain.{in_word, PlainScalarRead, comment_of
 use Rattle.saphyr_scalar.specs.Spelling.Plain.{is_tabbed, past_white, IsPlainWord, EndsPlain}
 use Rattle.saphyr_scanner.specs.Grammar.Json.{IsWhite, IsWhiteSpace, IsWord}
 use Rattle.saphyr_scanner.proofs.Json.Words.{IsBehindValue, behind_value_stops, word_is_plain}
-use Rattle.saphyr_scanner.proofs.Json.Gaps.{StopsGap, has_break, along_more}
+use Rattle.saphyr_scanner.proofs.Json.Gaps.{StopsGap, contains_break, along_more}
 use Rattle.saphyr_scalar.proofs.Moving.{along_none}
 use Rattle.saphyr_input.proofs.Basics.Booleans.{or_assoc}
 use Rattle.std.proofs.Math.Bool.{or-false}
@@ -29,9 +29,14 @@ behind_stops_gap in_flow (c ∷ cs) h = by_mark h.1
 -- Where w stands before `follow`, it is passed behind a word.
 pub record PassesLines (m : Marker) (blank : Bool) (w follow : List ℕ) : Type 0 where
   pub mark : Marker
-  pub is : past_white m blank (w ++ follow) ≡ record { rest = follow; mark = mark; blank_so_far = blank || has_break w }
+  pub is : past_white m blank (w ++ follow) ≡ record {
+    rest = follow;
+    mark = mark;
+    blank_so_far = blank
+        || contains_break w;
+  }
   pub index : mark.index ≡ m.index + length w
-  pub same_line : has_break w ≡ false → mark ≡ along m (length w)
+  pub same_line : contains_break w ≡ false → mark ≡ along m (length w)
   pub line : m.line < 2 ^ 64 → (m.line ≤ mark.line) × (mark.line < 2 ^ 64)
 
 ends_here : (m : Marker) (blank : Bool) (follow : List ℕ) → StopsGap follow
@@ -42,14 +47,14 @@ ends_here m blank (c ∷ cs) h = rw (h.0, h.1) refl
 -- a character that is passed before the others
 line_further : (m k : Marker) (blank : Bool) (c : ℕ) (w follow : List ℕ)
     → past_white m blank (c ∷ (w ++ follow)) ≡ past_white k (blank || is_break c) (w ++ follow)
-    → k.index ≡ m.index + 1 → (has_break (c ∷ w) ≡ false → (has_break w ≡ false) × (k ≡ along m 1))
+    → k.index ≡ m.index + 1 → (contains_break (c ∷ w) ≡ false → (contains_break w ≡ false) × (k ≡ along m 1))
     → (m.line < 2 ^ 64 → (m.line ≤ k.line) × (k.line < 2 ^ 64))
     → PassesLines k (blank || is_break c) w follow → PassesLines m blank (c ∷ w) follow
 line_further m k blank c w follow one index same_line line p =
     let there = λ (b : Bool). let s : Cursor = record { rest = follow; mark = p.mark; blank_so_far = b } in s in
     record {
       mark = p.mark;
-      is = one ∙ p.is ∙ ap there (or_assoc blank (is_break c) (has_break w));
+      is = one ∙ p.is ∙ ap there (or_assoc blank (is_break c) (contains_break w));
       index = omega (arith, p.index);
       same_line = λ h. let s =
           same_line h in p.same_line s.0 ∙ ap (λ x. along x (length w)) s.1 ∙ along_more m (length w);
@@ -69,7 +74,7 @@ break_line_case m blank c w follow e one p =
     line_further m (next_line m 1) blank c w follow one refl (λ h. absurd (broken h)) (λ h. (omega arith, omega arith))
     p
   where
-    broken : has_break (c ∷ w) ≡ false → ⊥
+    broken : contains_break (c ∷ w) ≡ false → ⊥
     broken h = cc
 
 -- CR before LF
@@ -165,13 +170,13 @@ pub word_read : (read : Bool → ℕ → Cursor → PlainScalarRead) → ReadsPl
       encode_utf8_all t,
       along s.mark (length t),
       None,
-      record { rest = y; mark = p.mark; blank_so_far = has_break w },
+      record { rest = y; mark = p.mark; blank_so_far = contains_break w },
     ))
 word_read read reads in_flow s t w y is h white ends =
     let end = along s.mark (length t) in
     let stops = behind_stops_gap in_flow y ends in
     let p = lines_passed w y end false white stops in
-    let there : Cursor = record { rest = y; mark = p.mark; blank_so_far = has_break w } in (
+    let there : Cursor = record { rest = y; mark = p.mark; blank_so_far = contains_break w } in (
       p,
       reads in_flow 0 s t (w ++ y) is (word_is_plain t h) (ends_plain in_flow end w y white ends)
           ∙ ap (λ (x : Cursor). Ok (encode_utf8_all t, end, comment_of in_flow (is_tabbed 0 (w ++ y)) x, x)) p.is

@@ -8,15 +8,16 @@ use Rattle.saphyr_scalar.specs.declared.scalar.position.Marker.{Marker}
 use Rattle.saphyr_scalar.specs.Views.Cursor.{Cursor, ◌>>=◌}
 use Rattle.saphyr_scanner.specs.declared.engine.level.Context.{Context}
 use Rattle.saphyr_scanner.specs.declared.engine.level.Context.TheVariants as context
-use Rattle.saphyr_scanner.specs.Steps.Gap.{Passed, stop}
+use Rattle.saphyr_scanner.specs.Steps.Gap.{GapEnd, stop}
 use Rattle.saphyr_scanner.specs.Steps.Queue.{Place, Queue}
-use Rattle.saphyr_scanner.specs.Steps.Core.{Candidate, Level, Core, Action, perform, went, is_block, is_too_far, drop_far_key}
+use Rattle.saphyr_scanner.specs.Steps.Core.{Core, Action, perform, completed_step, is_too_far, drop_far_key}
+use Rattle.saphyr_scanner.specs.Steps.Level.{Candidate, Level, is_block}
 use Rattle.saphyr_scanner.specs.Steps.Passing.{pass_gap, check_comment, behind_gap}
-use Rattle.saphyr_scanner.specs.Steps.State.{State, carried, acted}
+use Rattle.saphyr_scanner.specs.Steps.State.{State, on_core, after_step}
 use Rattle.saphyr_scanner.specs.Steps.Unrolling.{unroll}
-use Rattle.saphyr_scanner.specs.Steps.Fetch.{step, state_behind_content, fetch_here, arrive, fetch, within, fetch_within}
+use Rattle.saphyr_scanner.specs.Steps.Fetch.{step, state_behind_content, fetch_here, arrive, fetch, check_limit, fetch_within}
 use Rattle.saphyr_scanner.specs.Grammar.Json.{IsWhite, IsWhiteSpace}
-use Rattle.saphyr_scanner.proofs.Leads.{Leads, stay, onward}
+use Rattle.saphyr_scanner.proofs.Leads.{LeadsTo, stay, onward}
 use Rattle.saphyr_scanner.proofs.Json.Gaps.{StopsGap, StopsBlanks, white_passed, gap_passed}
 use Rattle.saphyr_input.proofs.Basics.Booleans.{by_test, and_false}
 use Rattle.saphyr_scalar.proofs.Given.{cursor_at}
@@ -143,7 +144,7 @@ passes_gap s x k ls a ad y here h =
       mark = g.0;
       blank = g.1;
       allowed = (g.2 && is_block x) || a;
-      is = ap (λ r. r >>= λ (p : Passed). check_comment (behind_gap c p)) (g.3 ∙ stop_here g.0 g.1 g.2 y);
+      is = ap (λ r. r >>= λ (p : GapEnd). check_comment (behind_gap c p)) (g.3 ∙ stop_here g.0 g.1 g.2 y);
       count = g.4;
       still = or_right (g.2 && is_block x) a;
     }
@@ -212,7 +213,7 @@ arrives s x k ls a ad ps y text h =
       blank = g.blank;
       key = d.left;
       allowed = g.allowed;
-      is = ap (λ r. carried r (queue_of ps) >>= λ (t : State). Ok
+      is = ap (λ r. on_core r (queue_of ps) >>= λ (t : State). Ok
           (unroll (Some t.core.cursor.mark.col) t.core.cursor.mark t)) reached
           ∙ ap Ok (none_unrolls g.mark.col g.mark false there x d.left ls g.allowed ad ps);
       count = g.count;
@@ -221,7 +222,7 @@ arrives s x k ls a ad ps y text h =
     }
 
 -- neither the end nor something else that stands at the start of a line alone
-pub record IsContent (t : List ℕ) : Type 0 where
+pub record IsContentStart (t : List ℕ) : Type 0 where
   pub nul : is_z (slice_index t 0) ≡ false
   pub byte_order_mark : is_bom (slice_index t 0) ≡ false
   pub directive : (slice_index t 0 == 37) ≡ false
@@ -230,7 +231,7 @@ pub record IsContent (t : List ℕ) : Type 0 where
 
 fetches_content : (s : Cursor) (x : Context) (k : Option Candidate) (ls : List Level) (a : Bool) (ad : ℕ)
     (ps : List Place)
-    → IsContent s.rest
+    → IsContentStart s.rest
     → fetch_here (state_at false s x k ls a ad ps)
     ≡ state_behind_content (slice_index s.rest 0) (slice_index s.rest 1) (state_at false s x k ls a ad ps)
 unfolding fetch_here
@@ -249,10 +250,10 @@ pub none_before : (n : ℕ) → 0 + n ≡ n
 none_before n = omega arith
 
 -- from a state the scanner comes to another, but for the key outside flow
-pub record Comes (limit : ℕ) (start : State) (e : Bool) (s : Cursor) (x : Context) (k : Option Candidate)
+pub record ComesInJson (limit : ℕ) (start : State) (e : Bool) (s : Cursor) (x : Context) (k : Option Candidate)
     (ls : List Level) (a : Bool) (ad : ℕ) (ps : List Place) : Type 0 where
   pub key : Option Candidate
-  pub leads : Leads limit (state_at e s x key ls a ad ps) start
+  pub leads : LeadsTo limit (state_at e s x key ls a ad ps) start
   pub same : is_block x ≡ false → key ≡ k
   pub none : k ≡ None → key ≡ None
 
@@ -260,37 +261,37 @@ pub record Comes (limit : ℕ) (start : State) (e : Bool) (s : Cursor) (x : Cont
 pub comes : (limit : ℕ) (start : State) (e : Bool) (s : Cursor) (x : Context) (k : Option Candidate) (ls : List Level)
     (a : Bool) (ad : ℕ) (ps : List Place)
     → start.core.ended ≡ false → fetch start ≡ Ok (state_at e s x k ls a ad ps) → s.mark.index ≤ limit
-    → Comes limit start e s x k ls a ad ps
+    → ComesInJson limit start e s x k ls a ad ps
 unfolding fetch_within
 comes limit start e s x k ls a ad ps going is low =
     let d = drops_key e s x k ls a ad in
     let st = state_at e s x k ls a ad ps in
-    let fits : within limit st ≡ Ok st = rw (le-leb s.mark.index limit low) refl in
+    let fits : check_limit limit st ≡ Ok st = rw (le-leb s.mark.index limit low) refl in
     record {
       key = d.left;
-      leads = onward start st (state_at e s x d.left ls a ad ps) going (ap (λ r. r >>= within limit) is ∙ fits)
-          (ap (λ r. carried r (queue_of ps)) d.is) stay;
+      leads = onward start st (state_at e s x d.left ls a ad ps) going (ap (λ r. r >>= check_limit limit) is ∙ fits)
+          (ap (λ r. on_core r (queue_of ps)) d.is) stay;
       same = d.same;
       none = d.none;
     }
 
 -- what the step at the next token's first characters gives
 pub one : (limit : ℕ) (s : Cursor) (x : Context) (k : Option Candidate) (ls : List Level) (a : Bool) (ad : ℕ)
-    (ps : List Place) (y : List ℕ) (v : Arrives s x k ls a ad ps y) → IsContent y
+    (ps : List Place) (y : List ℕ) (v : Arrives s x k ls a ad ps y) → IsContentStart y
     → (t : Cursor) (z : Context) (j : Option Candidate) (ms : List Level) (b : Bool) (be : ℕ) (qs : List Place)
     (actions : List Action)
     → step (slice_index y 0) (slice_index y 1) (length ps)
     (core_at false (cursor_at y v.mark v.blank) x v.key ls v.allowed ad)
-    ≡ went actions (core_at false t z j ms b be)
+    ≡ completed_step actions (core_at false t z j ms b be)
     → perform actions (queue_of ps) ≡ queue_of qs → t.mark.index ≤ limit
-    → Comes limit (state_at false s x k ls a ad ps) false t z j ms b be qs
+    → ComesInJson limit (state_at false s x k ls a ad ps) false t z j ms b be qs
 unfolding fetch state_behind_content
 one limit s x k ls a ad ps y v h t z j ms b be qs actions is done low =
     let seen = cursor_at y v.mark v.blank in
     let c = core_at false seen x v.key ls v.allowed ad in
     let there = ap (λ r. r >>= fetch_here) v.is ∙ fetches_content seen x v.key ls v.allowed ad ps h in
-    let at_place = ap (λ (n : ℕ). acted (step (slice_index y 0) (slice_index y 1) n c) (queue_of ps))
+    let at_place = ap (λ (n : ℕ). after_step (step (slice_index y 0) (slice_index y 1) n c) (queue_of ps))
     (none_before (length ps)) in
-    let made = ap (λ r. acted r (queue_of ps)) is
+    let made = ap (λ r. after_step r (queue_of ps)) is
     ∙ ap (λ (q : Queue). Ok (let r : State = record { core = core_at false t z j ms b be; queue = q } in r)) done in
     comes limit (state_at false s x k ls a ad ps) false t z j ms b be qs refl (there ∙ at_place ∙ made) low

@@ -170,16 +170,18 @@ IsBehindValue in_flow [] = Unit {0}
 IsBehindValue in_flow (c ∷ cs) = (in_flow ≡ true) × ((c ≡ 44) ⊎ (c ≡ 93) ⊎ (c ≡ 125))
 
 -- a mark behind a value is no blank or break, and no plain scalar goes on with it in flow
-pub record IsMark (c : ℕ) : Type 0 where
+pub record IsValueEnd (c : ℕ) : Type 0 where
   pub blank : is_blank c ≡ false
   pub break : is_break c ≡ false
   pub flow : is_flow c ≡ true
   pub colon : (c == 58) ≡ false
 
-mark_behind : (c : ℕ) → (c ≡ 44) ⊎ (c ≡ 93) ⊎ (c ≡ 125) → IsMark c
-mark_behind c (inl e) = subst IsMark (sym e) (record { blank = refl; break = refl; flow = refl; colon = refl })
-mark_behind c (inr (inl e)) = subst IsMark (sym e) (record { blank = refl; break = refl; flow = refl; colon = refl })
-mark_behind c (inr (inr e)) = subst IsMark (sym e) (record { blank = refl; break = refl; flow = refl; colon = refl })
+mark_behind : (c : ℕ) → (c ≡ 44) ⊎ (c ≡ 93) ⊎ (c ≡ 125) → IsValueEnd c
+mark_behind c (inl e) = subst IsValueEnd (sym e) (record { blank = refl; break = refl; flow = refl; colon = refl })
+mark_behind c (inr (inl e)) = subst IsValueEnd (sym e)
+    (record { blank = refl; break = refl; flow = refl; colon = refl })
+mark_behind c (inr (inr e)) = subst IsValueEnd (sym e)
+    (record { blank = refl; break = refl; flow = refl; colon = refl })
 
 neither : (a b : Bool) → (a && not (b || true)) ≡ false
 neither true true = refl

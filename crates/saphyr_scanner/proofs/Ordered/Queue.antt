@@ -2,7 +2,7 @@
 use Rattle.std.proofs.Common.{◌≡◌, ℕ, zero, suc, ◌-◌, ◌≤◌, List, [], ◌∷◌, ◌++◌, sym, ap, arith, subst}
 use Rattle.saphyr_scanner.specs.declared.queue.Opening.{Opening}
 use Rattle.saphyr_scanner.specs.Views.Tokens.{Piece}
-use Rattle.saphyr_scanner.specs.Steps.Queue.{Place, Queue, closed, opened, empty_piece}
+use Rattle.saphyr_scanner.specs.Steps.Queue.{Place, Queue, bare_place, places_with_opening, empty_piece}
 use Rattle.saphyr_scanner.specs.Grammar.Tokens.{Kind}
 use Rattle.saphyr_scalar.specs.declared.scalar.position.Marker.{Marker}
 use Rattle.saphyr_scalar.specs.Views.Cursor.{Cursor}
@@ -33,13 +33,13 @@ places_further n m low [] k h = omega (arith, h, k)
 places_further n m low (p ∷ ps) k h = (h.0, h.1, places_further n m p.piece.span.end.index ps k h.2)
 
 place_put : (n m low : ℕ) (ps : List Place) (t : Piece) → PlacesInOrder n low ps → n ≤ t.span.start.index
-    → t.span.start.index ≤ t.span.end.index → t.span.end.index ≤ m → PlacesInOrder m low (ps ++ closed t ∷ [])
+    → t.span.start.index ≤ t.span.end.index → t.span.end.index ≤ m → PlacesInOrder m low (ps ++ bare_place t ∷ [])
 place_put n m low [] t h a b c = (omega (arith, h, a), b, c)
 place_put n m low (p ∷ ps) t h a b c = (h.0, h.1, place_put n m p.piece.span.end.index ps t h.2 a b c)
 
 -- What stands in front of a token has its place.
 place_opened : (n low k : ℕ) (o : Opening) (ps : List Place) → PlacesInOrder n low ps
-    → PlacesInOrder n low (opened k o ps)
+    → PlacesInOrder n low (places_with_opening k o ps)
 place_opened n low k o [] h = h
 place_opened n low zero o (p ∷ ps) h = h
 place_opened n low (suc k) o (p ∷ ps) h = (h.0, h.1, place_opened n p.piece.span.end.index k o ps h.2)
@@ -59,11 +59,11 @@ abbrev pub InOrder : ℕ → State → Type 0
 InOrder low s = PlacesInOrder s.core.cursor.mark.index low s.queue.places
 
 -- from s to t: the text is passed on, and the tokens of the queue stay in order
-pub record Grows (s t : State) : Type 0 where
+pub record GrowsInOrder (s t : State) : Type 0 where
   pub ahead : Ahead s.core.cursor t.core.cursor
   pub ordered : (low : ℕ) → InOrder low s → InOrder low t
 
-pub grows_grows : (s t u : State) → Grows s t → Grows t u → Grows s u
+pub grows_grows : (s t u : State) → GrowsInOrder s t → GrowsInOrder t u → GrowsInOrder s u
 grows_grows s t u a b = record {
   ahead =
       ahead_ahead s.core.cursor t.core.cursor u.core.cursor a.ahead b.ahead;
@@ -72,7 +72,7 @@ grows_grows s t u a b = record {
 }
 
 -- the queue stays as it is
-pub core_grows : (s t : State) → Ahead s.core.cursor t.core.cursor → t.queue ≡ s.queue → Grows s t
+pub core_grows : (s t : State) → Ahead s.core.cursor t.core.cursor → t.queue ≡ s.queue → GrowsInOrder s t
 core_grows s t a e = record {
   ahead = a;
   ordered = λ low h.
@@ -82,7 +82,7 @@ core_grows s t a e = record {
 
 -- a token without characters at the place that is reached
 pub put_grows : (s : State) (m : Marker) (kind : Kind) (d : Core) → d.cursor ≡ s.core.cursor
-    → m.index ≡ s.core.cursor.mark.index → Grows s (with_action (at_mark m kind) (with_core d s))
+    → m.index ≡ s.core.cursor.mark.index → GrowsInOrder s (with_action (at_mark m kind) (with_core d s))
 put_grows s m kind d e i =
     let k : d.cursor.mark.index ≡ s.core.cursor.mark.index = ap (λ (c : Cursor). c.mark.index) e in
     record {

@@ -10,7 +10,7 @@ use Rattle.saphyr_scalar.proofs.Breaks.Results.{both_by}
 use Rattle.saphyr_scanner.specs.declared.engine.level.Context.TheVariants as context
 use Rattle.saphyr_scanner.specs.Grammar.Tokens as tokens
 use Rattle.saphyr_scanner.specs.Steps.Block as block
-use Rattle.saphyr_scanner.specs.Steps.Core.{Core, Steps, in_block}
+use Rattle.saphyr_scanner.specs.Steps.Core.{Core, StepResult, in_block}
 use Rattle.saphyr_scanner.specs.Steps.Fetch.{step, is_value_adjacent, flow_value}
 use Rattle.saphyr_scanner.specs.Steps.Flow as flow
 use Rattle.saphyr_scanner.specs.Steps.Property as property
@@ -39,17 +39,15 @@ pub record NoIndicator (first second : ℕ) (c : Core) : Type 0 where
   pub reserved : ((first == 37) || (first == 64) || (first == 96)) ≡ false
 
 -- what is to be shown of each
-pub record Cases (P : Steps → Steps → Type 0) (first second other n : ℕ) (c d : Core) : Type 0 where
+pub record Cases (P : StepResult → StepResult → Type 0) (first second other n : ℕ) (c d : Core) : Type 0 where
   pub sequence : first ≡ 91
       → P (flow.opening_steps context.FlowSequence tokens.FlowSequenceStart n c)
       (flow.opening_steps context.FlowSequence tokens.FlowSequenceStart n d)
   pub mapping : first ≡ 123
       → P (flow.opening_steps context.FlowMapping tokens.FlowMappingStart n c)
       (flow.opening_steps context.FlowMapping tokens.FlowMappingStart n d)
-  pub sequence_end : first ≡ 93 → P (flow.closing_steps true tokens.FlowSequenceEnd c)
-      (flow.closing_steps true tokens.FlowSequenceEnd d)
-  pub mapping_end : first ≡ 125 → P (flow.closing_steps false tokens.FlowMappingEnd c)
-      (flow.closing_steps false tokens.FlowMappingEnd d)
+  pub sequence_end : first ≡ 93 → P (flow.sequence_end_steps c) (flow.sequence_end_steps d)
+  pub mapping_end : first ≡ 125 → P (flow.mapping_end_steps c) (flow.mapping_end_steps d)
   pub comma : first ≡ 44 → P (flow.flow_entry_steps c) (flow.flow_entry_steps d)
   pub dash : first ≡ 45 → is_blank_or_breakz second ≡ true → P (block.entry c) (block.entry d)
   pub question : first ≡ 63 → is_blank_or_breakz second ≡ true → P (block.key c) (block.key d)
@@ -57,8 +55,8 @@ pub record Cases (P : Steps → Steps → Type 0) (first second other n : ℕ) (
   pub beside : first ≡ 58 → is_value_adjacent second c ≡ true → P (flow_value second c) (flow_value other d)
   pub double : first ≡ 34 → P (scalar.double_quoted_steps n c) (scalar.double_quoted_steps n d)
   pub single : first ≡ 39 → P (scalar.single_quoted_steps n c) (scalar.single_quoted_steps n d)
-  pub alias : first ≡ 42 → P (property.name_steps true n c) (property.name_steps true n d)
-  pub anchor : first ≡ 38 → P (property.name_steps false n c) (property.name_steps false n d)
+  pub alias : first ≡ 42 → P (property.alias_steps n c) (property.alias_steps n d)
+  pub anchor : first ≡ 38 → P (property.anchor_steps n c) (property.anchor_steps n d)
   pub tag : first ≡ 33 → P (property.tag_steps n c) (property.tag_steps n d)
   pub literal : first ≡ 124 → in_block c ≡ true
       → P (scalar.block_scalar_steps block_style.Literal n c) (scalar.block_scalar_steps block_style.Literal n d)
@@ -69,7 +67,7 @@ pub record Cases (P : Steps → Steps → Type 0) (first second other n : ℕ) (
       (refuse (fault.UnexpectedCharacter first) d.cursor.mark)
   pub plain : NoIndicator first second c → P (scalar.plain_steps n c) (scalar.plain_steps n d)
 
-pub both_cases : (P : Steps → Steps → Type 0) (first second other n : ℕ) (c d : Core)
+pub both_cases : (P : StepResult → StepResult → Type 0) (first second other n : ℕ) (c d : Core)
     → is_blank_or_breakz second ≡ is_blank_or_breakz other → is_value_adjacent second c ≡ is_value_adjacent other d
     → in_block c ≡ in_block d → Cases P first second other n c d → P (step first second n c) (step first other n d)
 unfolding step
@@ -124,6 +122,6 @@ both_cases P first second other n c d blank beside same h =
     }))))))))))))))))))
 
 -- the same of one step
-pub cases : (Q : Steps → Type 0) (first second n : ℕ) (c : Core) → Cases (λ x y. Q x) first second second n c c
+pub cases : (Q : StepResult → Type 0) (first second n : ℕ) (c : Core) → Cases (λ x y. Q x) first second second n c c
     → Q (step first second n c)
 cases Q first second n c h = both_cases (λ x y. Q x) first second second n c c refl refl refl h

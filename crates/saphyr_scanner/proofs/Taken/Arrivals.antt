@@ -6,10 +6,11 @@ use Rattle.saphyr_scalar.specs.declared.scalar.position.Marker.{Marker}
 use Rattle.saphyr_scalar.specs.declared.scalar.fault.Refusal.{Refusal}
 use Rattle.saphyr_scalar.specs.Views.Cursor.{Cursor, fresh, ◌>>=◌}
 use Rattle.saphyr_scanner.specs.Steps.Queue.{Queue, next}
-use Rattle.saphyr_scanner.specs.Steps.Core.{Candidate, Level, Core, is_block, in_block, is_too_far, forget_key, drop_far_key}
+use Rattle.saphyr_scanner.specs.Steps.Core.{Core, in_block, is_too_far, forget_key, drop_far_key}
+use Rattle.saphyr_scanner.specs.Steps.Level.{Candidate, Level, is_block}
 use Rattle.saphyr_scanner.specs.Steps.Passing.{pass_gap}
-use Rattle.saphyr_scanner.specs.Steps.State.{State, carried, with_core}
-use Rattle.saphyr_scanner.specs.Steps.Unrolling.{unroll, end_blocks, is_right_of, less_deep}
+use Rattle.saphyr_scanner.specs.Steps.State.{State, on_core, with_core}
+use Rattle.saphyr_scanner.specs.Steps.Unrolling.{unroll, end_blocks, is_right_of, go_less_deep}
 use Rattle.saphyr_scanner.specs.Steps.Fetch.{arrive}
 use Rattle.saphyr_scanner.specs.TokensTaken as taken
 use Rattle.saphyr_scanner.specs.TokensTaken.{AreApart, IsPassedOver}
@@ -100,23 +101,23 @@ unrolled_keys text small columns from q c l h nz =
     let z : is_z (slice_index c.cursor.rest 0) ≡ false = ap (λ (u : Cursor). is_z (slice_index u.rest 0))
     (sym (unrolled_cursor (Some m.col) m s)) ∙ nz in
     let keys = h.live z in
-    by_test (in_block c) (end_blocks (Some m.col) m c.outer_indents (with_core (less_deep (Some m.col) c) s)) s P
+    by_test (in_block c) (end_blocks (Some m.col) m c.outer_indents (with_core (go_less_deep (Some m.col) c) s)) s P
     (λ e. by c.level.key refl e keys) (λ _. keys)
   where
     by : (o : Option Candidate) → c.level.key ≡ o → in_block c ≡ true → Keys (next q) q c.indent (c.level ∷ c.outer)
         → let t = end_blocks (Some c.cursor.mark.col) c.cursor.mark c.outer_indents
-        (with_core (less_deep (Some c.cursor.mark.col) c) (record { core = c; queue = q })) in
+        (with_core (go_less_deep (Some c.cursor.mark.col) c) (record { core = c; queue = q })) in
         Keys (next t.queue) t.queue t.core.indent (t.core.level ∷ t.core.outer)
     by None i e keys =
         let t : State = end_blocks (Some c.cursor.mark.col) c.cursor.mark c.outer_indents
-        (with_core (less_deep (Some c.cursor.mark.col) c) (record { core = c; queue = q })) in
+        (with_core (go_less_deep (Some c.cursor.mark.col) c) (record { core = c; queue = q })) in
         let v = blocks_levels (Some c.cursor.mark.col) c.cursor.mark c.outer_indents
-        (with_core (less_deep (Some c.cursor.mark.col) c) (record { core = c; queue = q })) in
+        (with_core (go_less_deep (Some c.cursor.mark.col) c) (record { core = c; queue = q })) in
         no_keys (next t.queue) t.queue t.core.indent t.core.level t.core.outer (ap (λ (y : Level). y.key) v.level ∙ i)
         (v.outer ∙ keys.0 e)
     by (Some k) i e keys =
         let m = c.cursor.mark in
-        let s : State = with_core (less_deep (Some m.col) c) (record { core = c; queue = q }) in
+        let s : State = with_core (go_less_deep (Some m.col) c) (record { core = c; queue = q }) in
         let known = key_known (next q) q (is_block c.level.context) c.indent c.level.key k c.outer i keys.1 keys.2 in
         let from_small : from.mark.line ≤ top = (l.lines (omega arith)).1 in
         let stands = key_stands columns from c q (next q) (is_block c.level.context) c.indent k from_small h.taken
@@ -145,7 +146,7 @@ arrived text small columns from s l h k = by (pass_gap s.core >>= drop_far_key) 
   where
     by : (r : Result Core Refusal) → Given (Near columns from s.queue) r
         → Given (Arrived columns from)
-        (carried r s.queue >>= λ t. Ok (unroll (Some t.core.cursor.mark.col) t.core.cursor.mark t))
+        (on_core r s.queue >>= λ t. Ok (unroll (Some t.core.cursor.mark.col) t.core.cursor.mark t))
     by (Ok d) n =
         record {
           taken = unroll_taken columns from (Some d.cursor.mark.col) d.cursor.mark

@@ -1,7 +1,8 @@
 -- A token that may be a key is the next one when it is saved: no candidate for an earlier place appears later.
 use Rattle.std.proofs.Common.{ℕ, ◌≤◌, List, [], ◌∷◌}
 use Rattle.std.specs.Prelude.{Option, Some, None}
-use Rattle.saphyr_scanner.specs.Steps.Core.{Candidate, Level, Core, Action, Put, Open, Step}
+use Rattle.saphyr_scanner.specs.Steps.Core.{Core, Action, Put, Open, Step}
+use Rattle.saphyr_scanner.specs.Steps.Level.{Candidate, Level}
 
 abbrev pub KeyAbove : ℕ → Option Candidate → Type 0
 KeyAbove h None = Unit {0}
@@ -21,5 +22,5 @@ ActionsAbove h [] = Unit {0}
 ActionsAbove h (Put t ∷ others) = ActionsAbove h others
 ActionsAbove h (Open n o ∷ others) = (h ≤ n) × ActionsAbove h others
 
-abbrev pub Keeps : ℕ → Step → Type 0
-Keeps h x = Above h x.core × ActionsAbove h x.actions
+abbrev pub KeepsPlacesAbove : ℕ → Step → Type 0
+KeepsPlacesAbove h x = Above h x.core × ActionsAbove h x.actions

@@ -11,9 +11,10 @@ use Rattle.saphyr_scanner.specs.declared.queue.Opening.{Opening}
 use Rattle.saphyr_scanner.specs.declared.queue.Opening.TheVariants as opening
 use Rattle.saphyr_scanner.specs.Views.Tokens.{Piece}
 use Rattle.saphyr_scanner.specs.Steps.Gap as gaps
-use Rattle.saphyr_scanner.specs.Steps.Queue.{Place, Queue, closed, put, opened, with_opening, next}
-use Rattle.saphyr_scanner.specs.Steps.Core.{Candidate, Level, Core, is_block, in_block, forget_key, least_column, is_further, enter_block}
-use Rattle.saphyr_scanner.specs.Steps.Passing.{separate, with_cursor, pass_gap, check_comment, goes_on_behind, behind_gap, intercepts}
+use Rattle.saphyr_scanner.specs.Steps.Queue.{Place, Queue, bare_place, with_piece, places_with_opening, with_opening, next}
+use Rattle.saphyr_scanner.specs.Steps.Core.{Core, in_block, forget_key, least_column, is_further, enter_block}
+use Rattle.saphyr_scanner.specs.Steps.Level.{Candidate, Level, is_block}
+use Rattle.saphyr_scanner.specs.Steps.Passing.{separate, with_cursor, pass_gap, check_comment, goes_on_behind, behind_gap, check_comment_of}
 use Rattle.saphyr_scanner.specs.TokensTaken as taken
 use Rattle.saphyr_scanner.specs.TokensTaken.{AreApart, IsToken, TakesCharacter}
 use Rattle.saphyr_scanner.proofs.Taken.Separated.{gap_apart}
@@ -23,7 +24,7 @@ use Rattle.saphyr_scanner.proofs.Taken.Held.{Stack, Taken, taken_further, Opens,
 use Rattle.saphyr_input.proofs.Basics.Booleans.{by_test}
 use Rattle.saphyr_scalar.proofs.Given.{Given}
 
-pub record Holds (columns : List ℕ) (from : Cursor) (c : Core) (q : Queue) : Type 0 where
+pub record HoldsTaken (columns : List ℕ) (from : Cursor) (c : Core) (q : Queue) : Type 0 where
   pub taken : Taken columns from c q
   pub keys : Keys (next q) q c.indent (c.level ∷ c.outer)
 
@@ -75,21 +76,22 @@ keys_lesser b q i l m ls e h = by e.key
 
 pub holds_lesser : (columns : List ℕ) (from : Cursor) (c d : Core) (q : Queue) → Lesser c.level d.level
     → d.outer ≡ c.outer → d.indent ≡ c.indent → d.outer_indents ≡ c.outer_indents → AreApart c.cursor d.cursor
-    → Holds columns from c q → Holds columns from d q
+    → HoldsTaken columns from c q → HoldsTaken columns from d q
 holds_lesser columns from c d q l o i s p h = record {
   taken = taken_further columns from c d q p i s h.taken;
   keys = keys_of (next q) q c.indent d.indent d.level d.level c.outer d.outer i refl o
       (keys_lesser (next q) q c.indent c.level d.level c.outer l h.keys);
 }
 
-pub holds_forgotten : (columns : List ℕ) (from : Cursor) (c : Core) (q : Queue) → Holds columns from c q
-    → Holds columns from (forget_key c) q
+pub holds_forgotten : (columns : List ℕ) (from : Cursor) (c : Core) (q : Queue) → HoldsTaken columns from c q
+    → HoldsTaken columns from (forget_key c) q
 holds_forgotten columns from c q h =
     holds_lesser columns from c (forget_key c) q (record { block = refl; key = inr refl }) refl refl refl
     (taken.nothing _ _) h
 
 -- outside flow nothing encloses the level
-pub outermost : (columns : List ℕ) (from : Cursor) (c : Core) (q : Queue) → Holds columns from c q → in_block c ≡ true
+pub outermost : (columns : List ℕ) (from : Cursor) (c : Core) (q : Queue) → HoldsTaken columns from c q
+    → in_block c ≡ true
     → c.outer ≡ []
 outermost columns from c q h e = h.keys.0 e
 
@@ -113,30 +115,31 @@ quiet_opens t c d e i o columns h =
     subst (λ l. Stack l d.indent d.outer_indents) (sym (quiet_open t.kind t.span.start.col columns e))
     (subst P (sym i) (subst Q (sym o) h))
 
-pub next_put : (t : Piece) (q : Queue) → next (put t q) ≡ next q + 1
-next_put t q = let l = length-append q.places (closed t ∷ []) in omega (arith, l)
+pub next_put : (t : Piece) (q : Queue) → next (with_piece t q) ≡ next q + 1
+next_put t q = let l = length-append q.places (bare_place t ∷ []) in omega (arith, l)
 
 -- a quiet token from here to behind, and separation to the place that is reached
 pub quiet_put : (columns : List ℕ) (from : Cursor) (c d : Core) (q : Queue) (t : Piece) (here behind : Cursor)
     → is_quiet t.kind ≡ true → AreApart c.cursor here → IsToken c.indent t.kind t.span here behind
     → AreApart behind d.cursor
-    → Alike c d → Holds columns from c q → Holds columns from d (put t q)
+    → Alike c d → HoldsTaken columns from c q → HoldsTaken columns from d (with_piece t q)
 quiet_put columns from c d q t here behind e a is b l h = record {
   taken = taken_put columns from c d q t here behind a is b (quiet_opens t c d e l.indent l.outer_indents) h.taken;
   keys =
       let k = keys_put (next q) q c.indent (c.level ∷ c.outer) t e h.keys in
       let n = next_put t q in
-      keys_of (next (put t q)) (put t q) c.indent d.indent c.level d.level c.outer d.outer l.indent l.level l.outer
-      (keys_weaken (next q) (next (put t q)) (put t q) c.indent (c.level ∷ c.outer) (omega (arith, n)) k);
+      keys_of (next (with_piece t q)) (with_piece t q) c.indent d.indent c.level d.level c.outer d.outer l.indent
+      l.level l.outer
+      (keys_weaken (next q) (next (with_piece t q)) (with_piece t q) c.indent (c.level ∷ c.outer) (omega (arith, n)) k);
 }
 
 -- any token, behind which no key is a candidate
 pub loud_put : (columns : List ℕ) (from : Cursor) (c d : Core) (q : Queue) (t : Piece) (here behind : Cursor)
     → AreApart c.cursor here → IsToken c.indent t.kind t.span here behind → AreApart behind d.cursor → Opens t c d
-    → d.level.key ≡ None → d.outer ≡ [] → Holds columns from c q → Holds columns from d (put t q)
+    → d.level.key ≡ None → d.outer ≡ [] → HoldsTaken columns from c q → HoldsTaken columns from d (with_piece t q)
 loud_put columns from c d q t here behind a is b o k n h = record {
   taken = taken_put columns from c d q t here behind a is b o h.taken;
-  keys = no_keys (next (put t q)) (put t q) d.indent d.level d.outer k n;
+  keys = no_keys (next (with_piece t q)) (with_piece t q) d.indent d.level d.outer k n;
 }
 
 -- ## A key is saved
@@ -164,10 +167,11 @@ saved_taken columns from n c d q s h =
 -- the token that may be a key
 pub saved_keys : (c : Core) (q : Queue) (t : Piece) (d : Core) → is_quiet t.kind ≡ true → Begins t
     → t.span.start ≡ c.cursor.mark → (in_block c ≡ true → c.indent ≤ c.cursor.mark.col + 1) → Saved (next q) c d
-    → Keys (next q) q c.indent (c.level ∷ c.outer) → Keys (next (put t q)) (put t q) d.indent (d.level ∷ d.outer)
+    → Keys (next q) q c.indent (c.level ∷ c.outer)
+    → Keys (next (with_piece t q)) (with_piece t q) d.indent (d.level ∷ d.outer)
 saved_keys c q t d e b m deep s h = by s.level
   where
-    more : next (put t q) ≡ next q + 1
+    more : next (with_piece t q) ≡ next q + 1
     more = next_put t q
 
     new : Level
@@ -175,15 +179,17 @@ saved_keys c q t d e b m deep s h = by s.level
 
     by : (d.level ≡ c.level)
         ⊎ (d.level ≡ record { context = c.level.context; key = Some (record { mark = c.cursor.mark; place = next q }) })
-        → Keys (next (put t q)) (put t q) d.indent (d.level ∷ d.outer)
+        → Keys (next (with_piece t q)) (with_piece t q) d.indent (d.level ∷ d.outer)
     by (inl f) =
-        keys_of (next (put t q)) (put t q) c.indent d.indent c.level d.level c.outer d.outer s.indent f s.outer
-        (keys_weaken (next q) (next (put t q)) (put t q) c.indent (c.level ∷ c.outer) (omega (arith, more))
+        keys_of (next (with_piece t q)) (with_piece t q) c.indent d.indent c.level d.level c.outer d.outer s.indent f
+        s.outer
+        (keys_weaken (next q) (next (with_piece t q)) (with_piece t q) c.indent (c.level ∷ c.outer)
+        (omega (arith, more))
         (keys_put (next q) q c.indent (c.level ∷ c.outer) t e h))
     by (inr f) =
         let outers = keys_weaken (lower (next q) c.level.key) (next q) q c.indent c.outer
         (below_key (next q) q (is_block c.level.context) c.indent c.level.key h.1) h.2 in
-        let own : Key (next (put t q)) (put t q) (is_block c.level.context) c.indent
+        let own : Key (next (with_piece t q)) (with_piece t q) (is_block c.level.context) c.indent
         (record { mark = c.cursor.mark; place = next q }) = record {
           front = q.places;
           back = [];
@@ -196,19 +202,19 @@ saved_keys c q t d e b m deep s h = by s.level
           quiet = λ _. (e, tt);
           deep = deep;
         } in
-        keys_of (next (put t q)) (put t q) c.indent d.indent
+        keys_of (next (with_piece t q)) (with_piece t q) c.indent d.indent
         (record { context = c.level.context; key = Some (record { mark = c.cursor.mark; place = next q }) }) d.level
         c.outer d.outer s.indent f s.outer (h.0, own, keys_put (next q) q c.indent c.outer t e outers)
 
 -- ## A candidate turns out to be a key
 
-opened_length : (n : ℕ) (o : Opening) (ps : List Place) → length (opened n o ps) ≡ length ps
-opened_length n o [] = refl
-opened_length zero o (p ∷ ps) = refl
-opened_length (suc n) o (p ∷ ps) = ap suc (opened_length n o ps)
+with_opening_length : (n : ℕ) (o : Opening) (ps : List Place) → length (places_with_opening n o ps) ≡ length ps
+with_opening_length n o [] = refl
+with_opening_length zero o (p ∷ ps) = refl
+with_opening_length (suc n) o (p ∷ ps) = ap suc (with_opening_length n o ps)
 
 next_open : (n : ℕ) (o : Opening) (q : Queue) → next (with_opening n o q) ≡ next q
-next_open n o q = ap (λ l. q.handed + l) (opened_length (n - q.handed) o q.places)
+next_open n o q = ap (λ l. q.handed + l) (with_opening_length (n - q.handed) o q.places)
 
 quiet_column : (o : Opening) (column : ℕ) (columns : List ℕ) → opens_block o ≡ false
     → column_of o column columns ≡ columns
@@ -224,8 +230,8 @@ key_known b q block i o k ls e x y =
 
 -- a key alone, or in flow with its mapping
 pub open_quiet : (columns : List ℕ) (from : Cursor) (c : Core) (q : Queue) (k : Candidate) (o : Opening)
-    → opens_block o ≡ false → c.level.key ≡ Some k → Holds columns from c q
-    → Holds columns from (forget_key c) (with_opening k.place o q)
+    → opens_block o ≡ false → c.level.key ≡ Some k → HoldsTaken columns from c q
+    → HoldsTaken columns from (forget_key c) (with_opening k.place o q)
 open_quiet columns from c q k o e is h =
     let known = key_known (next q) q (is_block c.level.context) c.indent c.level.key k c.outer is h.keys.1 h.keys.2 in
     let key = known.0 in
@@ -245,8 +251,9 @@ open_quiet columns from c q k o e is h =
 
 -- a block mapping and a key
 pub open_loud : (columns : List ℕ) (from : Cursor) (c : Core) (q : Queue) (k : Candidate) → in_block c ≡ true
-    → c.level.key ≡ Some k → Holds columns from c q
-    → Holds columns from (forget_key (enter_block k.mark.col c)) (with_opening k.place opening.BlockMappingAndKey q)
+    → c.level.key ≡ Some k → HoldsTaken columns from c q
+    → HoldsTaken columns from (forget_key (enter_block k.mark.col c))
+    (with_opening k.place opening.BlockMappingAndKey q)
 open_loud columns from c q k e is h =
     let known = key_known (next q) q (is_block c.level.context) c.indent c.level.key k c.outer is h.keys.1 h.keys.2 in
     let d : Core = forget_key (enter_block k.mark.col c) in
@@ -266,10 +273,10 @@ further_block column c e = first (in_block c) (nat_le c.indent column) e
 
 -- ## What is passed
 
-pub behind_blanks : {X : Type 0} → (P : X → Type 0) (c : Core) (f : SkipTabs × Core → Result X Refusal)
+pub behind_blanks_taken : {X : Type 0} → (P : X → Type 0) (c : Core) (f : SkipTabs × Core → Result X Refusal)
     → ((found : SkipTabs) (t : Cursor) → OnLine c.cursor t → Given P (f (found, with_cursor t c)))
     → Given P (separate c >>= f)
-behind_blanks P c f go = by (separation tabs.Yes c.cursor) (separation_passes c.cursor)
+behind_blanks_taken P c f go = by (separation tabs.Yes c.cursor) (separation_passes c.cursor)
   where
     by : (r : Result (SkipTabs × Cursor) Refusal) → Given (λ (x : SkipTabs × Cursor). OnLine c.cursor x.1) r
         → Given P ((r >>= λ x. Ok (x.0, with_cursor x.1 c)) >>= f)
@@ -279,10 +286,11 @@ behind_blanks P c f go = by (separation tabs.Yes c.cursor) (separation_passes c.
 pub behind_gap_of : {X : Type 0} → (P : X → Type 0) (c : Core) (f : Core → Result X Refusal)
     → ((d : Core) → Alike c d → AreApart c.cursor d.cursor → Given P (f d)) → Given P (pass_gap c >>= f)
 unfolding pass_gap check_comment
-behind_gap_of P c f go = by (gaps.passed_gap (least_column c) c.cursor)
+behind_gap_of P c f go = by (gaps.whole_gap (least_column c) c.cursor)
     (gap_apart (least_column c) false false c.cursor)
   where
-    checked : (m : Option Marker) (d : Core) → Alike c d → AreApart c.cursor d.cursor → Given P (intercepts m d >>= f)
+    checked : (m : Option Marker) (d : Core) → Alike c d → AreApart c.cursor d.cursor
+        → Given P (check_comment_of m d >>= f)
     checked None d a p = go d a p
     checked (Some m) d a p =
         let e : Core = record d { comment = None } in
@@ -290,12 +298,13 @@ behind_gap_of P c f go = by (gaps.passed_gap (least_column c) c.cursor)
         (λ _. go e (record { level = a.level; outer = a.outer; indent = a.indent; outer_indents = a.outer_indents })
         p)
 
-    by : (r : Result gaps.Passed Refusal) → Given (λ (p : gaps.Passed). AreApart c.cursor p.cursor) r
-        → Given P ((r >>= λ g. intercepts (behind_gap c g).comment (behind_gap c g)) >>= f)
+    by : (r : Result gaps.GapEnd Refusal) → Given (λ (p : gaps.GapEnd). AreApart c.cursor p.cursor) r
+        → Given P ((r >>= λ g. check_comment_of (behind_gap c g).comment (behind_gap c g)) >>= f)
     by (Ok g) h = checked c.comment (behind_gap c g)
         (record { level = refl; outer = refl; indent = refl; outer_indents = refl }) h
     by (Err e) h = tt
 
 -- an indicator is passed
-pub indicator : (x : ℕ) (s : Cursor) → (x == 0) ≡ false → slice_index s.rest 0 ≡ x → TakesCharacter x s (pass 1 s)
-indicator x s z e = (cut_at x s.rest z e, refl)
+pub indicator_is_passed : (x : ℕ) (s : Cursor) → (x == 0) ≡ false → slice_index s.rest 0 ≡ x
+    → TakesCharacter x s (pass 1 s)
+indicator_is_passed x s z e = (cut_at x s.rest z e, refl)

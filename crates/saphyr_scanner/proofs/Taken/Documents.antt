@@ -14,33 +14,34 @@ use Rattle.saphyr_scanner.specs.Grammar.Tokens.{Kind}
 use Rattle.saphyr_scanner.specs.Steps.Queue.{next, empty_piece}
 use Rattle.saphyr_scanner.specs.Steps.Core.{in_block, forget_key}
 use Rattle.saphyr_scanner.specs.Steps.State.{State, with_core}
-use Rattle.saphyr_scanner.specs.Steps.Unrolling.{unroll, end_blocks, less_deep}
+use Rattle.saphyr_scanner.specs.Steps.Unrolling.{unroll, end_blocks, go_less_deep}
 use Rattle.saphyr_scanner.specs.Steps.Document as document
 use Rattle.saphyr_scanner.specs.TokensTaken as taken
 use Rattle.saphyr_scanner.specs.TokensTaken.{AreApart, IsPassedOver, IsToken, IsPlaceOrEnd}
 use Rattle.saphyr_scanner.proofs.Blocks.{unrolled_cursor}
 use Rattle.saphyr_scanner.proofs.Taken.Parts.{is_quiet}
 use Rattle.saphyr_scanner.proofs.Taken.Held.{taken_further, taken_put}
-use Rattle.saphyr_scanner.proofs.Taken.Cores.{Holds, holds_forgotten, no_keys}
+use Rattle.saphyr_scanner.proofs.Taken.Cores.{HoldsTaken, holds_forgotten, no_keys}
 use Rattle.saphyr_scanner.proofs.Taken.States.{Fetched, TakenState, unroll_taken, blocks_levels}
 use Rattle.std.proofs.lemmas.Bool.{eqb-true, and_parts}
 use Rattle.saphyr_input.proofs.Basics.Booleans.{by_test}
 use Rattle.saphyr_scalar.proofs.Given.{Given}
 
 abbrev pub HoldsState : List ℕ → Cursor → State → Type 0
-HoldsState columns from s = Holds columns from s.core s.queue
+HoldsState columns from s = HoldsTaken columns from s.core s.queue
 
 -- all block collections end, and no key is left
 pub forgotten_unrolled : (columns : List ℕ) (from : Cursor) (s : State) → HoldsState columns from s
-    → Holds columns from (forget_key (unroll None s.core.cursor.mark s).core) (unroll None s.core.cursor.mark s).queue
+    → HoldsTaken columns from (forget_key (unroll None s.core.cursor.mark s).core)
+    (unroll None s.core.cursor.mark s).queue
 unfolding unroll
 forgotten_unrolled columns from s h =
     let m = s.core.cursor.mark in
-    let P : State → Type 0 = λ t. TakenState columns from t → Holds columns from (forget_key t.core) t.queue in
-    by_test (in_block s.core) (end_blocks None m s.core.outer_indents (with_core (less_deep None s.core) s)) s P
+    let P : State → Type 0 = λ t. TakenState columns from t → HoldsTaken columns from (forget_key t.core) t.queue in
+    by_test (in_block s.core) (end_blocks None m s.core.outer_indents (with_core (go_less_deep None s.core) s)) s P
     (λ e k.
-    let t : State = end_blocks None m s.core.outer_indents (with_core (less_deep None s.core) s) in
-    let l = blocks_levels None m s.core.outer_indents (with_core (less_deep None s.core) s) in
+    let t : State = end_blocks None m s.core.outer_indents (with_core (go_less_deep None s.core) s) in
+    let l = blocks_levels None m s.core.outer_indents (with_core (go_less_deep None s.core) s) in
     record {
       taken = taken_further columns from t.core (forget_key t.core) t.queue (taken.nothing _ _) refl refl k;
       keys = no_keys (next t.queue) t.queue t.core.indent (forget_key t.core).level t.core.outer refl
@@ -117,11 +118,11 @@ break_apart s =
     (taken.nothing _ _)))
     (λ c. taken.nothing s.mark s.rest))
 
-pub directive_token : (d : ReadDirective) (i : ℕ) (span : Span) (s t : Cursor) → taken.IsDirectiveToken d span s t
+pub directive_is_token : (d : ReadDirective) (i : ℕ) (span : Span) (s t : Cursor) → taken.IsDirectiveToken d span s t
     → IsToken i (document.directive_kind d) span s t
-directive_token (version major minor) i span s t h = h
-directive_token (tag_prefix handle prefix) i span s t h = h
-directive_token (reserved name) i span s t h = h
+directive_is_token (version major minor) i span s t h = h
+directive_is_token (tag_prefix handle prefix) i span s t h = h
+directive_is_token (reserved name) i span s t h = h
 
 pub quiet_directive : (d : ReadDirective) → is_quiet (document.directive_kind d) ≡ true
 quiet_directive (version major minor) = refl

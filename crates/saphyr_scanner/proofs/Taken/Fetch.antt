@@ -8,18 +8,18 @@ use Rattle.saphyr_scalar.specs.declared.scalar.fault.Refusal.{Refusal}
 use Rattle.saphyr_scalar.specs.Views.Cursor.{Cursor, fresh, ◌>>=◌}
 use Rattle.saphyr_scanner.specs.Grammar.Tokens as tokens
 use Rattle.saphyr_scanner.specs.Views.Tokens.{Piece}
-use Rattle.saphyr_scanner.specs.Steps.Queue.{Queue, closed, put, next, empty_piece}
-use Rattle.saphyr_scanner.specs.Steps.Core.{Steps, in_block, is_too_far, forget_key, drop_far_key, least_column}
-use Rattle.saphyr_scanner.specs.Steps.State.{State, carried, acted}
+use Rattle.saphyr_scanner.specs.Steps.Queue.{Queue, bare_place, with_piece, next, empty_piece}
+use Rattle.saphyr_scanner.specs.Steps.Core.{StepResult, in_block, is_too_far, forget_key, drop_far_key, least_column}
+use Rattle.saphyr_scanner.specs.Steps.State.{State, on_core, after_step}
 use Rattle.saphyr_scanner.specs.Steps.Unrolling.{unroll}
 use Rattle.saphyr_scanner.specs.Steps.Document as document
-use Rattle.saphyr_scanner.specs.Steps.Fetch.{step, state_behind_content, fetch_here, arrive, fetch, begin, within, fetch_within, without_far_key}
+use Rattle.saphyr_scanner.specs.Steps.Fetch.{step, state_behind_content, fetch_here, arrive, fetch, begin, check_limit, fetch_within, without_far_key}
 use Rattle.saphyr_scanner.specs.TokensTaken as taken
 use Rattle.saphyr_scanner.specs.TokensTaken.{AreTokens, may_begin_plain}
 use Rattle.saphyr_scanner.proofs.Effects.Readers.{TextLaws}
 use Rattle.saphyr_scanner.proofs.Leads.{flat}
-use Rattle.saphyr_scanner.proofs.Effects.States.{Advances, acted_advances}
-use Rattle.saphyr_scanner.proofs.Effects.Fetch.{left, step_does, step_effect, arrive_advances}
+use Rattle.saphyr_scanner.proofs.Effects.States.{FetchesTokens, after_step_fetches}
+use Rattle.saphyr_scanner.proofs.Effects.Fetch.{some_character_left, step_does, step_effect, arrive_advances}
 use Rattle.saphyr_scanner.proofs.Taken.Later.{LaterThan}
 use Rattle.saphyr_scanner.proofs.Taken.Parts.{tokens_part}
 use Rattle.saphyr_scanner.proofs.Taken.Held.{taken_put}
@@ -40,11 +40,11 @@ abbrev pub OverAt : List ℕ → Cursor → Queue → Type 0
 OverAt columns from q = (u : Cursor) → AreTokens columns (flat q.places) from u → u.rest ≡ []
 
 over_put : (columns : List ℕ) (from : Cursor) (m : Marker) (q : Queue)
-    → OverAt columns from (put (empty_piece m tokens.StreamEnd) q)
+    → OverAt columns from (with_piece (empty_piece m tokens.StreamEnd) q)
 over_put columns from m q u h =
     let P : List Piece → Type 0 = λ l. AreTokens columns l from u in
     let r = tokens_part columns (flat q.places) (empty_piece m tokens.StreamEnd ∷ []) from u
-    (subst P (flat_append q.places (closed (empty_piece m tokens.StreamEnd) ∷ [])) h) in
+    (subst P (flat_append q.places (bare_place (empty_piece m tokens.StreamEnd) ∷ [])) h) in
     ap (λ (c : Cursor). c.rest) (r.back.4 ∙ r.back.3.1.2) ∙ r.back.3.0
 
 end_over : (columns : List ℕ) (from : Cursor) (s : State)
@@ -64,7 +64,7 @@ pub record Read (columns : List ℕ) (from : Cursor) (t : State) : Type 0 where
   pub over : t.core.ended ≡ true → OverAt columns from t.queue
 
 both_given : (columns : List ℕ) (from : Cursor) (s : State) (r : Result State Refusal) → s.core.ended ≡ false
-    → Given (λ (t : State). Fetched columns from t.core t.queue) r → Given (Advances 1 s) r
+    → Given (λ (t : State). Fetched columns from t.core t.queue) r → Given (FetchesTokens 1 s) r
     → Given (Read columns from) r
 both_given columns from s (Ok t) going a b =
     record { fetched = a; over = λ e. absurd (let f : t.core.ended ≡ false = b.ended ∙ going in cc) }
@@ -81,10 +81,11 @@ held : (columns : List ℕ) (from : Cursor) (r : Result State Refusal) → Given
 held columns from (Ok t) h = holds_fetched columns from t.core t.queue h
 held columns from (Err e) h = tt
 
-acted_fetched : (columns : List ℕ) (from : Cursor) (q : Queue) (r : Steps) → Given (FetchedStep columns from q) r
-    → Given (λ (t : State). Fetched columns from t.core t.queue) (acted r q)
-acted_fetched columns from q (Ok x) h = h
-acted_fetched columns from q (Err e) h = tt
+after_step_fetched : (columns : List ℕ) (from : Cursor) (q : Queue) (r : StepResult)
+    → Given (FetchedStep columns from q) r
+    → Given (λ (t : State). Fetched columns from t.core t.queue) (after_step r q)
+after_step_fetched columns from q (Ok x) h = h
+after_step_fetched columns from q (Err e) h = tt
 
 deep_of : (deeper : Bool) (i col : ℕ) → nat_lt col (cond deeper i (i - 1)) ≡ false → i ≤ col + 1
 deep_of true i col e = let h = ltb-false col i e in omega (arith, h)
@@ -100,7 +101,7 @@ here_read laws text small columns from s l going a =
     by_test (is_z (slice_index t 0)) _ _ P
     (λ _. end_given columns from (document.end_stream s) (end_fetched columns from s a.taken)
     (end_over columns from s))
-    (λ z. let some : 0 < length t = left t z in
+    (λ z. let some : 0 < length t = some_character_left t z in
     let h : HoldsState columns from s = record { taken = a.taken; keys = a.live z } in
     let behind : (r : Result State Refusal) → Walked (Premises s.core) (Documented s) s.core.cursor r → P r =
     λ r w. both_given columns from s r going (held columns from r (documents_hold laws columns from s r h w))
@@ -121,16 +122,17 @@ here_read laws text small columns from s l going a =
     behind (document.end_marker s) (end_marker_walked s (eqb-true s.core.cursor.mark.col 0 w.0) w.1))
     (λ _. by_test (nat_lt s.core.cursor.mark.col (least_column s.core)) _ _ P (λ _. tt)
     (λ e. let r = step (slice_index t 0) (slice_index t 1) (next s.queue) s.core in
-    both_given columns from s (acted r s.queue) going
-    (acted_fetched columns from s.queue r
+    both_given columns from s (after_step r s.queue) going
+    (after_step_fetched columns from s.queue r
     (walked_given (Premises s.core) (Stepped (next s.queue) s.core) (FetchedStep columns from s.queue) s.core.cursor r
     (λ x k. k.fetched laws text small columns from s.queue l refl
     (λ _. deep_of s.core.deeper s.core.indent s.core.cursor.mark.col e) h)
     (step_does (slice_index t 0) (slice_index t 1) (next s.queue) s.core some refl refl)))
-    (acted_advances _ s r (step_effect (slice_index t 0) (slice_index t 1) (next s.queue) s.core some refl refl))))))))
+    (after_step_fetches _ s r (step_effect (slice_index t 0) (slice_index t 1) (next s.queue) s.core some refl
+    refl))))))))
 
 begin_live : (columns : List ℕ) (from : Cursor) (s : State) → TakenState columns from s → Live s.core s.queue
-    → Live (record s.core { started = true }) (put (empty_piece s.core.cursor.mark tokens.StreamStart) s.queue)
+    → Live (record s.core { started = true }) (with_piece (empty_piece s.core.cursor.mark tokens.StreamStart) s.queue)
 begin_live columns from s h l nz =
     (quiet_put columns from s.core (record s.core { started = true }) s.queue
     (empty_piece s.core.cursor.mark tokens.StreamStart) s.core.cursor s.core.cursor refl (taken.nothing _ _)
@@ -158,7 +160,7 @@ fetch_read laws text small columns from s l going h k =
     by_test s.core.started _ _ (Given (Read columns from))
     (λ _. given_bind (Read columns from) (arrive s) fetch_here (λ t e.
     let a = given_of (Arrived columns from) (arrive s) t (arrived text small columns from s l h k) e in
-    let kept = given_of (Advances 0 s) (arrive s) t (arrive_advances s) e in
+    let kept = given_of (FetchesTokens 0 s) (arrive s) t (arrive_advances s) e in
     here_read laws text small columns from t l (kept.ended ∙ going) a))
     (λ _. begin_read columns from s going h k)
 
@@ -175,7 +177,7 @@ unfolding drop_far_key
 settled_ready columns from s h =
     let c = s.core in
     by_test (not (in_block c && is_too_far c.level.key c.cursor.mark)) _ _
-    (λ r. Given (Ready columns from) (carried r s.queue))
+    (λ r. Given (Ready columns from) (on_core r s.queue))
     (λ e. record {
       taken = h.fetched.taken;
       live = λ g. elim (h.fetched.live g) [
@@ -185,7 +187,7 @@ settled_ready columns from s h =
       ];
       over = h.over;
     })
-    (λ _. by_test c.required _ _ (λ r. Given (Ready columns from) (carried r s.queue)) (λ _. tt)
+    (λ _. by_test c.required _ _ (λ r. Given (Ready columns from) (on_core r s.queue)) (λ _. tt)
     (λ _. record {
       taken = forgotten_taken columns from c s.queue h.fetched.taken;
       live = λ g. elim (h.fetched.live g) [
@@ -204,7 +206,7 @@ read_ready laws text small limit columns from s l going h =
     by (fetch s) (fetch_read laws text small columns from s l going h.taken (h.live going))
   where
     by : (r : Result State Refusal) → Given (Read columns from) r
-        → Given (Ready columns from) ((r >>= within limit) >>= without_far_key)
+        → Given (Ready columns from) ((r >>= check_limit limit) >>= without_far_key)
     by (Ok t) k = by_test (nat_le t.core.cursor.mark.index limit) _ _
         (λ r. Given (Ready columns from) (r >>= without_far_key))
         (λ _. settled_ready columns from t k) (λ _. tt)

@@ -6,13 +6,14 @@ use Rattle.saphyr_scalar.specs.Views.Cursor.{Cursor}
 use Rattle.saphyr_scanner.specs.declared.queue.Opening.{Opening}
 use Rattle.saphyr_scanner.specs.declared.queue.Opening.TheVariants as opening
 use Rattle.saphyr_scanner.specs.Views.Tokens.{Piece}
-use Rattle.saphyr_scanner.specs.Steps.Queue.{Place, Queue, closed, opened, put, with_opening}
-use Rattle.saphyr_scanner.specs.Steps.Core.{Candidate, Level, Core, is_block}
+use Rattle.saphyr_scanner.specs.Steps.Queue.{Place, Queue, bare_place, places_with_opening, with_piece, with_opening}
+use Rattle.saphyr_scanner.specs.Steps.Core.{Core}
+use Rattle.saphyr_scanner.specs.Steps.Level.{Candidate, Level, is_block}
 use Rattle.saphyr_scanner.specs.TokensTaken.{AreApart, IsToken, AreTokens, open_behind, least_column_in}
 use Rattle.saphyr_scanner.proofs.Leads.{flat, place_pieces}
 use Rattle.saphyr_scanner.proofs.Taken.Separated.{apart_apart}
-use Rattle.saphyr_scanner.proofs.Taken.Parts.{open_all, open_append, tokens_append, is_quiet, AreQuiet, quiet_append, opened_there, opened_behind, Begins, opens_block, column_of, place_tokens, place_open}
-use Rattle.saphyr_scanner.proofs.Queues.{flat_append, with_front}
+use Rattle.saphyr_scanner.proofs.Taken.Parts.{open_all, open_append, tokens_append, is_quiet, AreQuiet, quiet_append, with_opening_there, with_opening_behind, Begins, opens_block, column_of, place_tokens, place_open}
+use Rattle.saphyr_scanner.proofs.Queues.{flat_append, place_with_front}
 
 -- ## The open block collections
 
@@ -48,8 +49,8 @@ taken_further columns from c d q a i o h = record {
       subst P (sym i) (subst Q (sym o) h.stack);
 }
 
-flat_put : (t : Piece) (q : Queue) → flat (put t q).places ≡ flat q.places ++ t ∷ []
-flat_put t q = flat_append q.places (closed t ∷ [])
+flat_put : (t : Piece) (q : Queue) → flat (with_piece t q).places ≡ flat q.places ++ t ∷ []
+flat_put t q = flat_append q.places (bare_place t ∷ [])
 
 -- how the open block collections change with a token
 abbrev pub Opens : Piece → Core → Core → Type 0
@@ -59,7 +60,7 @@ Opens t c d = (columns : List ℕ) → Stack columns c.indent c.outer_indents
 -- a token is put behind the others
 pub taken_put : (columns : List ℕ) (from : Cursor) (c d : Core) (q : Queue) (t : Piece) (here behind : Cursor)
     → AreApart c.cursor here → IsToken c.indent t.kind t.span here behind → AreApart behind d.cursor → Opens t c d
-    → Taken columns from c q → Taken columns from d (put t q)
+    → Taken columns from c q → Taken columns from d (with_piece t q)
 taken_put columns from c d q t here behind a is b o h =
     let open_now = open_all (flat q.places) columns in
     let i : least_column_in open_now ≡ c.indent = stack_indent open_now c.indent c.outer_indents h.stack in
@@ -67,14 +68,15 @@ taken_put columns from c d q t here behind a is b o h =
     let one : AreTokens open_now (t ∷ []) h.last behind =
     (here, behind, apart, subst (λ j. IsToken j t.kind t.span here behind) (sym i) is, refl) in
     let all = tokens_append columns (flat q.places) (t ∷ []) from h.last behind h.tokens one in
-    let same : flat q.places ++ t ∷ [] ≡ flat (put t q).places = sym (flat_put t q) in
-    let opened : open_all (flat (put t q).places) columns ≡ open_behind t.kind t.span.start.col open_now =
+    let same : flat q.places ++ t ∷ [] ≡ flat (with_piece t q).places = sym (flat_put t q) in
+    let places_with_opening : open_all (flat (with_piece t q).places) columns
+    ≡ open_behind t.kind t.span.start.col open_now =
     ap (λ l. open_all l columns) (flat_put t q) ∙ open_append (flat q.places) (t ∷ []) columns in
     record {
       last = behind;
       tokens = subst (λ l. AreTokens columns l from behind) same all;
       apart = b;
-      stack = subst (λ l. Stack l d.indent d.outer_indents) (sym opened) (o open_now h.stack);
+      stack = subst (λ l. Stack l d.indent d.outer_indents) (sym places_with_opening) (o open_now h.stack);
     }
 
 -- ## Candidates
@@ -86,7 +88,7 @@ pub record Key (b : ℕ) (q : Queue) (block : Bool) (i : ℕ) (k : Candidate) : 
   pub front : List Place
   pub back : List Place
   pub token : Piece
-  pub places : q.places ≡ front ++ closed token ∷ back
+  pub places : q.places ≡ front ++ bare_place token ∷ back
   pub at : k.place ≡ q.handed + length front
   pub below : k.place < b
   pub marked : token.span.start ≡ k.mark
@@ -138,13 +140,14 @@ keys_weaken a b q i (l ∷ ls) h x =
     rest (Some k) z go = z
 
 key_put : (b : ℕ) (q : Queue) (block : Bool) (i : ℕ) (k : Option Candidate) (t : Piece) → is_quiet t.kind ≡ true
-    → KeyOf b q block i k → KeyOf b (put t q) block i k
+    → KeyOf b q block i k → KeyOf b (with_piece t q) block i k
 key_put b q block i None t e x = tt
 key_put b q block i (Some k) t e x = record {
   front = x.front;
-  back = x.back ++ closed t ∷ [];
+  back = x.back ++ bare_place t ∷ [];
   token = x.token;
-  places = ap (λ l. l ++ closed t ∷ []) x.places ∙ append_assoc x.front (closed x.token ∷ x.back) (closed t ∷ []);
+  places = ap (λ l. l ++ bare_place t ∷ []) x.places
+      ∙ append_assoc x.front (bare_place x.token ∷ x.back) (bare_place t ∷ []);
   at = x.at;
   below = x.below;
   marked = x.marked;
@@ -152,12 +155,12 @@ key_put b q block i (Some k) t e x = record {
   quiet = λ h.
       let y = x.quiet h in
       let P : List Piece → Type 0 = λ l. AreQuiet l in
-      (y.0, subst P (sym (flat_append x.back (closed t ∷ []))) (quiet_append (flat x.back) (t ∷ []) y.1 (e, tt)));
+      (y.0, subst P (sym (flat_append x.back (bare_place t ∷ []))) (quiet_append (flat x.back) (t ∷ []) y.1 (e, tt)));
   deep = x.deep;
 }
 
 pub keys_put : (b : ℕ) (q : Queue) (i : ℕ) (ls : List Level) (t : Piece) → is_quiet t.kind ≡ true → Keys b q i ls
-    → Keys b (put t q) i ls
+    → Keys b (with_piece t q) i ls
 keys_put b q i [] t e x = tt
 keys_put b q i (l ∷ ls) t e x =
     (x.0, key_put b q (is_block l.context) i l.key t e x.1, keys_put (lower b l.key) q i ls t e x.2)
@@ -165,7 +168,7 @@ keys_put b q i (l ∷ ls) t e x =
 -- ## What stands in front of a token
 
 quiet_opened : (n : ℕ) (o : Opening) (ps : List Place) → opens_block o ≡ false → AreQuiet (flat ps)
-    → AreQuiet (flat (opened n o ps))
+    → AreQuiet (flat (places_with_opening n o ps))
 quiet_opened n o [] e h = tt
 quiet_opened zero o (p ∷ ps) e h = now o e (own p.opening h)
   where
@@ -184,8 +187,8 @@ quiet_opened zero o (p ∷ ps) e h = now o e (own p.opening h)
 quiet_opened (suc n) o (p ∷ ps) e h = further p.opening h (λ x. quiet_opened n o ps e x)
   where
     further : (w : Opening) → AreQuiet (place_pieces w p.piece ++ flat ps)
-        → (AreQuiet (flat ps) → AreQuiet (flat (opened n o ps)))
-        → AreQuiet (place_pieces w p.piece ++ flat (opened n o ps))
+        → (AreQuiet (flat ps) → AreQuiet (flat (places_with_opening n o ps)))
+        → AreQuiet (place_pieces w p.piece ++ flat (places_with_opening n o ps))
     further opening.Nothing x go = (x.0, go x.1)
     further opening.Key x go = (x.0, (x.1.0, go x.1.1))
     further opening.FlowMappingAndKey x go = (x.0, (x.1.0, (x.1.1.0, go x.1.1.1)))
@@ -200,10 +203,11 @@ key_open b n q block i (Some k) o e h x =
     let is : n - q.handed ≡ length x.front + suc m = omega (arith, x.at, x.below, h) in
     record {
       front = x.front;
-      back = opened m o x.back;
+      back = places_with_opening m o x.back;
       token = x.token;
-      places = ap (λ j. opened j o q.places) is ∙ ap (opened (length x.front + suc m) o) x.places
-          ∙ opened_behind o x.front m (closed x.token) x.back;
+      places = ap (λ j. places_with_opening j o q.places) is
+          ∙ ap (places_with_opening (length x.front + suc m) o) x.places
+          ∙ with_opening_behind o x.front m (bare_place x.token) x.back;
       at = x.at;
       below = x.below;
       marked = x.marked;
@@ -235,20 +239,20 @@ pub taken_open : (columns : List ℕ) (from : Cursor) (c d : Core) (q : Queue) (
     → Taken columns from d (with_opening k.place o q)
 taken_open columns from c d q b block k o x e a s h =
     let n : k.place - q.handed ≡ length x.front = omega (arith, x.at) in
-    let now : (with_opening k.place o q).places ≡ x.front ++ with_front o x.token ∷ x.back =
-    ap (λ j. opened j o q.places) n ∙ ap (opened (length x.front) o) x.places
-    ∙ opened_there o x.front (closed x.token) x.back in
+    let now : (with_opening k.place o q).places ≡ x.front ++ place_with_front o x.token ∷ x.back =
+    ap (λ j. places_with_opening j o q.places) n ∙ ap (places_with_opening (length x.front) o) x.places
+    ∙ with_opening_there o x.front (bare_place x.token) x.back in
     let quiet : opens_block o ≡ true → AreQuiet (x.token ∷ flat x.back) = λ f. x.quiet (e f) in
     let P : List Place → Type 0 = λ l. AreTokens columns (flat l) from h.last in
     let Q : List Place → Type 0 = λ l. Stack (open_all (flat l) columns) d.indent d.outer_indents in
     let S : List Place → Type 0 = λ l. Stack (open_all (flat l) columns) c.indent c.outer_indents in
     let all = place_tokens columns o x.front x.token x.back from h.last x.begins quiet (subst P x.places h.tokens) in
-    let opened_now = s (open_all (flat (x.front ++ closed x.token ∷ x.back)) columns) (subst S x.places h.stack) in
+    let opened_now = s (open_all (flat (x.front ++ bare_place x.token ∷ x.back)) columns) (subst S x.places h.stack) in
     let column : x.token.span.start.col ≡ k.mark.col = ap (λ (m : Marker). m.col) x.marked in
-    let is : open_all (flat (x.front ++ with_front o x.token ∷ x.back)) columns
-    ≡ column_of o k.mark.col (open_all (flat (x.front ++ closed x.token ∷ x.back)) columns) =
+    let is : open_all (flat (x.front ++ place_with_front o x.token ∷ x.back)) columns
+    ≡ column_of o k.mark.col (open_all (flat (x.front ++ bare_place x.token ∷ x.back)) columns) =
     place_open columns o x.front x.token x.back quiet
-    ∙ ap (λ j. column_of o j (open_all (flat (x.front ++ closed x.token ∷ x.back)) columns)) column in
+    ∙ ap (λ j. column_of o j (open_all (flat (x.front ++ bare_place x.token ∷ x.back)) columns)) column in
     record {
       last = h.last;
       tokens = subst P (sym now) all;

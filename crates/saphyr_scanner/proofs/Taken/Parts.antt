@@ -9,11 +9,11 @@ use Rattle.saphyr_scanner.specs.declared.queue.Opening.TheVariants as opening
 use Rattle.saphyr_scanner.specs.Grammar.Tokens as tokens
 use Rattle.saphyr_scanner.specs.Grammar.Tokens.{Kind}
 use Rattle.saphyr_scanner.specs.Views.Tokens.{Piece}
-use Rattle.saphyr_scanner.specs.Steps.Queue.{Place, closed, opened}
+use Rattle.saphyr_scanner.specs.Steps.Queue.{Place, bare_place, places_with_opening}
 use Rattle.saphyr_scanner.specs.TokensTaken as taken
 use Rattle.saphyr_scanner.specs.TokensTaken.{IsToken, AreTokens, begins_text, open_behind}
 use Rattle.saphyr_scanner.proofs.Leads.{flat, place_pieces}
-use Rattle.saphyr_scanner.proofs.Queues.{flat_append, with_front}
+use Rattle.saphyr_scanner.proofs.Queues.{flat_append, place_with_front}
 
 -- the columns of the open block collections behind tokens
 abbrev pub open_all : List Piece → List ℕ → List ℕ
@@ -97,17 +97,18 @@ quiet_all (p ∷ ps) columns q =
 
 -- ## The queue's places
 
-pub opened_there : (o : Opening) (front : List Place) (p : Place) (back : List Place)
-    → opened (length front) o (front ++ p ∷ back) ≡ front ++ with_front o p.piece ∷ back
-opened_there o [] p back = refl
-opened_there o (f ∷ front) p back = ap (λ r. f ∷ r) (opened_there o front p back)
+pub with_opening_there : (o : Opening) (front : List Place) (p : Place) (back : List Place)
+    → places_with_opening (length front) o (front ++ p ∷ back) ≡ front ++ place_with_front o p.piece ∷ back
+with_opening_there o [] p back = refl
+with_opening_there o (f ∷ front) p back = ap (λ r. f ∷ r) (with_opening_there o front p back)
 
-pub opened_behind : (o : Opening) (front : List Place) (n : ℕ) (p : Place) (back : List Place)
-    → opened (length front + suc n) o (front ++ p ∷ back) ≡ front ++ p ∷ opened n o back
-opened_behind o [] n p back = let e : 0 + suc n ≡ suc n = omega arith in rw e refl
-opened_behind o (f ∷ front) n p back =
+pub with_opening_behind : (o : Opening) (front : List Place) (n : ℕ) (p : Place) (back : List Place)
+    → places_with_opening (length front + suc n) o (front ++ p ∷ back) ≡ front ++ p ∷ places_with_opening n o back
+with_opening_behind o [] n p back = let e : 0 + suc n ≡ suc n = omega arith in rw e refl
+with_opening_behind o (f ∷ front) n p back =
     let e : length (f ∷ front) + suc n ≡ suc (length front + suc n) = omega arith in
-    ap (λ i. opened i o (f ∷ (front ++ p ∷ back))) e ∙ ap (λ r. f ∷ r) (opened_behind o front n p back)
+    ap (λ i. places_with_opening i o (f ∷ (front ++ p ∷ back))) e
+    ∙ ap (λ r. f ∷ r) (with_opening_behind o front n p back)
 
 -- a token with a text, which begins where its span does
 abbrev pub Begins : Piece → Type 0
@@ -156,23 +157,24 @@ opening_open columns opening.BlockMappingAndKey t back q =
 -- a token in the queue, in front of which nothing stands, is opened
 pub place_tokens : (columns : List ℕ) (o : Opening) (front : List Place) (t : Piece) (back : List Place) (s u : Cursor)
     → Begins t → (opens_block o ≡ true → AreQuiet (t ∷ flat back))
-    → AreTokens columns (flat (front ++ closed t ∷ back)) s u
-    → AreTokens columns (flat (front ++ with_front o t ∷ back)) s u
+    → AreTokens columns (flat (front ++ bare_place t ∷ back)) s u
+    → AreTokens columns (flat (front ++ place_with_front o t ∷ back)) s u
 place_tokens columns o front t back s u b q h =
     let P : List Piece → Type 0 = λ l. AreTokens columns l s u in
-    let r = tokens_part columns (flat front) (t ∷ flat back) s u (subst P (flat_append front (closed t ∷ back)) h) in
+    let r = tokens_part columns (flat front) (t ∷ flat back) s u
+    (subst P (flat_append front (bare_place t ∷ back)) h) in
     let k = opening_tokens (open_all (flat front) columns) o t (flat back) r.between u b q r.back in
-    subst P (sym (flat_append front (with_front o t ∷ back)))
+    subst P (sym (flat_append front (place_with_front o t ∷ back)))
     (tokens_append columns (flat front) (place_pieces o t ++ flat back) s r.between u r.front k)
 
 pub place_open : (columns : List ℕ) (o : Opening) (front : List Place) (t : Piece) (back : List Place)
     → (opens_block o ≡ true → AreQuiet (t ∷ flat back))
-    → open_all (flat (front ++ with_front o t ∷ back)) columns
-    ≡ column_of o t.span.start.col (open_all (flat (front ++ closed t ∷ back)) columns)
+    → open_all (flat (front ++ place_with_front o t ∷ back)) columns
+    ≡ column_of o t.span.start.col (open_all (flat (front ++ bare_place t ∷ back)) columns)
 place_open columns o front t back q =
-    ap (λ l. open_all l columns) (flat_append front (with_front o t ∷ back))
+    ap (λ l. open_all l columns) (flat_append front (place_with_front o t ∷ back))
     ∙ open_append (flat front) (place_pieces o t ++ flat back) columns
     ∙ opening_open (open_all (flat front) columns) o t (flat back) q
     ∙ ap (column_of o t.span.start.col)
-    (sym (ap (λ l. open_all l columns) (flat_append front (closed t ∷ back))
+    (sym (ap (λ l. open_all l columns) (flat_append front (bare_place t ∷ back))
     ∙ open_append (flat front) (t ∷ flat back) columns))

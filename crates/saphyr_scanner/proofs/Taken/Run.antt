@@ -6,11 +6,12 @@ use Rattle.saphyr_scalar.specs.Views.Cursor.{Cursor, fresh, ◌>>=◌}
 use Rattle.saphyr_scanner.specs.declared.queue.Opening.{Opening}
 use Rattle.saphyr_scanner.specs.declared.queue.Opening.TheVariants as opening
 use Rattle.saphyr_scanner.specs.Views.Tokens.{Piece, Remaining}
-use Rattle.saphyr_scanner.specs.Steps.Queue.{Place, closed}
-use Rattle.saphyr_scanner.specs.Steps.Core.{Candidate, Level, Core, is_block}
+use Rattle.saphyr_scanner.specs.Steps.Queue.{Place, bare_place}
+use Rattle.saphyr_scanner.specs.Steps.Core.{Core}
+use Rattle.saphyr_scanner.specs.Steps.Level.{Candidate, Level, is_block, is_place, holds}
 use Rattle.saphyr_scanner.specs.Steps.State.{State, start}
-use Rattle.saphyr_scanner.specs.Steps.Fetch.{size, without_far_key, needs_token, fetch_within, is_place, holds, any_holds}
-use Rattle.saphyr_scanner.specs.Steps.Remaining.{before_place, hand_out, delivered, run, remaining, scan}
+use Rattle.saphyr_scanner.specs.Steps.Fetch.{size, without_far_key, needs_token, fetch_within, any_holds}
+use Rattle.saphyr_scanner.specs.Steps.Remaining.{before_place, hand_out, remaining_after, run, remaining, scan}
 use Rattle.saphyr_scanner.specs.TokensTaken as taken
 use Rattle.saphyr_scanner.specs.TokensTaken.{IsPlaceOf, AreTokens, IsEndOf, AreTakenFrom}
 use Rattle.saphyr_scanner.proofs.Effects.Fetch.{Fetched, read_fetched}
@@ -37,7 +38,7 @@ key_handed : (b n : ℕ) (p : Place) (ps : List Place) (block : Bool) (i : ℕ) 
 key_handed b n p ps block i None e x = tt
 key_handed b n p ps block i (Some k) e x = by x.front x.places x.at
   where
-    by : (front : List Place) → p ∷ ps ≡ front ++ closed x.token ∷ x.back → k.place ≡ n + length front
+    by : (front : List Place) → p ∷ ps ≡ front ++ bare_place x.token ∷ x.back → k.place ≡ n + length front
         → Key b (record { places = ps; handed = n + 1 }) block i k
     by [] f at =
         let same : k.place ≡ n = omega (arith, at) in
@@ -114,19 +115,20 @@ one_left text columns from c p ps n l h e =
 
 -- ## What comes
 
-abbrev Follows : List ℕ → List ℕ → Cursor → Remaining → Type 0
-Follows text columns from r =
+abbrev FollowsTaken : List ℕ → List ℕ → Cursor → Remaining → Type 0
+FollowsTaken text columns from r =
     (end : Cursor) × AreTokens columns r.pieces from end × (r.refusal ≡ None → end.rest ≡ [])
     × ((e : Refusal) → r.refusal ≡ Some e → IsPlaceOf text e.mark)
 
 place_follows : (text columns : List ℕ) (from between : Cursor) (o : Opening) (t : Piece) (r : Remaining)
     → AreTokens columns (place_pieces o t) from between
-    → Follows text (open_all (place_pieces o t) columns) between r → Follows text columns from (before_place o t r)
+    → FollowsTaken text (open_all (place_pieces o t) columns) between r
+    → FollowsTaken text columns from (before_place o t r)
 place_follows text columns from between o t r h k =
     by o (tokens_append columns (place_pieces o t) r.pieces from between k.0 h k.1)
   where
     by : (w : Opening) → AreTokens columns (place_pieces w t ++ r.pieces) from k.0
-        → Follows text columns from (before_place w t r)
+        → FollowsTaken text columns from (before_place w t r)
     by opening.Nothing x = (k.0, x, k.2, k.3)
     by opening.Key x = (k.0, x, k.2, k.3)
     by opening.BlockMappingAndKey x = (k.0, x, k.2, k.3)
@@ -134,12 +136,12 @@ place_follows text columns from between o t r h k =
 
 handed_follow : (text : List ℕ) (go : State → Remaining) (c : Core)
     → ((columns : List ℕ) (from : Cursor) (n : ℕ) (ps : List Place) → From text from → (c.ended ≡ true → ps ≡ [])
-    → Ready columns from (holding c ps n) → Follows text columns from (go (holding c ps n)))
+    → Ready columns from (holding c ps n) → FollowsTaken text columns from (go (holding c ps n)))
     → (columns : List ℕ) (from : Cursor) (n : ℕ) (ps : List Place) → From text from
-    → Ready columns from (holding c ps n) → Follows text columns from (hand_out ps go (holding c ps n))
+    → Ready columns from (holding c ps n) → FollowsTaken text columns from (hand_out ps go (holding c ps n))
 handed_follow text go c others columns from n [] l h = others columns from n [] l (λ _. refl) h
 handed_follow text go c others columns from n (p ∷ ps) l h =
-    by_test (needs_token (holding c (p ∷ ps) n)) _ _ (Follows text columns from)
+    by_test (needs_token (holding c (p ∷ ps) n)) _ _ (FollowsTaken text columns from)
     (λ e. others columns from n (p ∷ ps) l (λ f. absurd (let g = going c.ended _ e in cc)) h)
     (λ e.
     let w = one_left text columns from c p ps n l h e in
@@ -148,8 +150,8 @@ handed_follow text go c others columns from n (p ∷ ps) l h =
     w.ready))
 
 delivers_taken : (text columns : List ℕ) (from : Cursor) (r : Result State Refusal) (go : State → Remaining)
-    → ((t : State) → r ≡ Ok t → Follows text columns from (go t))
-    → ((e : Refusal) → r ≡ Err e → IsPlaceOf text e.mark) → Follows text columns from (delivered r go)
+    → ((t : State) → r ≡ Ok t → FollowsTaken text columns from (go t))
+    → ((e : Refusal) → r ≡ Err e → IsPlaceOf text e.mark) → FollowsTaken text columns from (remaining_after r go)
 delivers_taken text columns from (Ok t) go h k = h t refl
 delivers_taken text columns from (Err e) go h k =
     (from, refl, (λ i. absurd (cc)), (λ f i. k f (let same : e ≡ f = cc in ap (λ (x : Refusal). Err x) same)))
@@ -163,14 +165,14 @@ pub record AllLaws : Type 0 where
 run_follows : AllLaws → (text : List ℕ) → length text < 2 ^ 63
     → (limit fuel : ℕ) (columns : List ℕ) (from : Cursor) (s : State) → From text from → size s.core < fuel
     → Ready columns from s
-    → NotedState s → Follows text columns from (run fuel limit s)
+    → NotedState s → FollowsTaken text columns from (run fuel limit s)
 run_follows laws text small limit zero columns from s l f h m = absurd (omega (arith, f))
 run_follows laws text small limit (suc fuel) columns from s l f h m =
     handed_follow text _ s.core
     (λ cs u n ps k over w.
     let t : State = holding s.core ps n in
     let r = fetch_within limit t >>= without_far_key in
-    by_test t.core.ended _ _ (Follows text cs u)
+    by_test t.core.ended _ _ (FollowsTaken text cs u)
     (λ e. let P : List Place → Type 0 =
     λ qs. AreTokens cs (flat qs) u u in
     (u, refl, (λ _. w.over e u (subst P (sym (over e)) refl)), (λ f i. absurd (cc))))
@@ -195,7 +197,7 @@ start_read text = record {
 }
 
 scan_follows : AllLaws → (limit : ℕ) (text : List ℕ) → length text < 2 ^ 63
-    → Follows text [] (fresh text) (scan limit text)
+    → FollowsTaken text [] (fresh text) (scan limit text)
 unfolding remaining
 scan_follows laws limit text small =
     let s : State = start text in

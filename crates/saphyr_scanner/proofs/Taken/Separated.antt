@@ -8,7 +8,7 @@ use Rattle.saphyr_scalar.specs.Views.Cursor.{Cursor, along, next_line}
 use Rattle.saphyr_scalar.specs.Steps.Quoted.{break_len}
 use Rattle.saphyr_scalar.specs.Spelling.Tag.{AreIn}
 use Rattle.saphyr_scalar.proofs.Moving.{along_none, along_more}
-use Rattle.saphyr_scanner.specs.Steps.Gap.{gap, comment, stop, Passed, is_tab_indentation, Spaced, spaces, line_comment}
+use Rattle.saphyr_scanner.specs.Steps.Gap.{gap, comment, stop, GapEnd, is_tab_indentation, SpacesEnd, spaces, line_comment}
 use Rattle.saphyr_scanner.specs.TokensTaken as taken
 use Rattle.saphyr_scanner.specs.TokensTaken.{IsPassedOver, AreApart}
 use Rattle.std.proofs.lemmas.Bool.{eqb-true, and_parts, or_cases}
@@ -89,19 +89,19 @@ crlf_break k t n u p =
     taken.line_break k (13 ∷ 10 ∷ t) n u refl (subst (λ (m : Marker). IsPassedOver m t n u) same p)
 
 stop_apart : (m : Marker) (blank broke tabbed : Bool) (t : List ℕ)
-    → Given (λ (p : Passed). To p.cursor.mark p.cursor.rest m t) (stop m blank broke tabbed t)
+    → Given (λ (p : GapEnd). To p.cursor.mark p.cursor.rest m t) (stop m blank broke tabbed t)
 unfolding stop
 stop_apart m blank broke tabbed t =
-    let P = Given (λ (p : Passed). To p.cursor.mark p.cursor.rest m t) in
+    let P = Given (λ (p : GapEnd). To p.cursor.mark p.cursor.rest m t) in
     by_test (tabbed && is_bom (slice_index t 0)) _ _ P (λ _. tt)
     (λ _. by_test (tabbed && not (is_z (slice_index t 0))) _ _ P (λ _. tt) (λ _. taken.nothing m t))
 
 -- What is passed from here on: between tokens, in a comment, and behind a CR before LF.
 record Gaps (l : ℕ) (t : List ℕ) (m : Marker) (blank broke tabbed : Bool) : Type 0 where
-  between : Given (λ (p : Passed). To p.cursor.mark p.cursor.rest m t) (gap l m blank broke tabbed t)
-  inside : Given (λ (p : Passed). Comment m t p.cursor.mark p.cursor.rest) (comment l m blank broke tabbed t)
+  between : Given (λ (p : GapEnd). To p.cursor.mark p.cursor.rest m t) (gap l m blank broke tabbed t)
+  inside : Given (λ (p : GapEnd). Comment m t p.cursor.mark p.cursor.rest) (comment l m blank broke tabbed t)
   behind_return : (slice_index t 0 == 10) ≡ true → (k : Marker) → m ≡ along k 1
-      → Given (λ (p : Passed). To p.cursor.mark p.cursor.rest k (13 ∷ t)) (gap l m blank broke tabbed t)
+      → Given (λ (p : GapEnd). To p.cursor.mark p.cursor.rest k (13 ∷ t)) (gap l m blank broke tabbed t)
 
 all_gaps : (l : ℕ) (t : List ℕ) (m : Marker) (blank broke tabbed : Bool) → Gaps l t m blank broke tabbed
 all_gaps l [] m blank broke tabbed =
@@ -112,8 +112,8 @@ all_gaps l [] m blank broke tabbed =
       behind_return = λ e k q. absurd (cc);
     }
 all_gaps l (c ∷ cs) m blank broke tabbed =
-    let P : Result Passed Refusal → Type 0 = Given (λ (p : Passed). To p.cursor.mark p.cursor.rest m (c ∷ cs)) in
-    let Q : Result Passed Refusal → Type 0 = Given (λ (p : Passed). Comment m (c ∷ cs) p.cursor.mark p.cursor.rest) in
+    let P : Result GapEnd Refusal → Type 0 = Given (λ (p : GapEnd). To p.cursor.mark p.cursor.rest m (c ∷ cs)) in
+    let Q : Result GapEnd Refusal → Type 0 = Given (λ (p : GapEnd). Comment m (c ∷ cs) p.cursor.mark p.cursor.rest) in
     let line : ((c == 13) && (slice_index cs 0 == 10)) ≡ false → is_break c ≡ true
     → P (gap l (next_line m 1) true true false cs) =
     λ e b. given_map _ _ (gap l (next_line m 1) true true false cs)
@@ -136,7 +136,7 @@ all_gaps l (c ∷ cs) m blank broke tabbed =
     λ e. given_map _ _ (comment l (along m 1) blank broke tabbed cs)
     (λ p h. comment_more m c cs p.cursor.mark p.cursor.rest e h)
     (all_gaps l cs (along m 1) blank broke tabbed).inside in
-    let ended : is_yaml_non_break c ≡ false → (r : Result Passed Refusal) → P r → Q r =
+    let ended : is_yaml_non_break c ≡ false → (r : Result GapEnd Refusal) → P r → Q r =
     λ e r h. given_map _ _ r (λ p k. comment_here m (c ∷ cs) p.cursor.mark p.cursor.rest e k) h in
     record {
       between =
@@ -158,18 +158,18 @@ all_gaps l (c ∷ cs) m blank broke tabbed =
     }
   where
     fed : (d : ℕ) → d ≡ 10 → (k : Marker) → m ≡ along k 1
-        → Given (λ (p : Passed). To p.cursor.mark p.cursor.rest (next_line m 1) cs)
+        → Given (λ (p : GapEnd). To p.cursor.mark p.cursor.rest (next_line m 1) cs)
         (gap l (next_line m 1) true true false cs)
-        → Given (λ (p : Passed). To p.cursor.mark p.cursor.rest k (13 ∷ d ∷ cs)) (gap l m blank broke tabbed (d ∷ cs))
+        → Given (λ (p : GapEnd). To p.cursor.mark p.cursor.rest k (13 ∷ d ∷ cs)) (gap l m blank broke tabbed (d ∷ cs))
     fed d e k q h =
-        subst (λ x. Given (λ (p : Passed). To p.cursor.mark p.cursor.rest k (13 ∷ x ∷ cs))
+        subst (λ x. Given (λ (p : GapEnd). To p.cursor.mark p.cursor.rest k (13 ∷ x ∷ cs))
         (gap l m blank broke tabbed (x ∷ cs))) (sym e)
         (given_map _ _ (gap l (next_line m 1) true true false cs)
         (λ p s. crlf_break k cs p.cursor.mark p.cursor.rest
         (subst (λ (j : Marker). IsPassedOver (next_line j 1) cs p.cursor.mark p.cursor.rest) q s)) h)
 
 pub gap_apart : (l : ℕ) (broke tabbed : Bool) (s : Cursor)
-    → Given (λ (p : Passed). AreApart s p.cursor) (gap l s.mark s.blank_so_far broke tabbed s.rest)
+    → Given (λ (p : GapEnd). AreApart s p.cursor) (gap l s.mark s.blank_so_far broke tabbed s.rest)
 gap_apart l broke tabbed s = (all_gaps l s.rest s.mark s.blank_so_far broke tabbed).between
 
 -- ## Behind `?`
@@ -188,8 +188,8 @@ all_spaces [] m blank space =
       behind_return = λ e k q. absurd (cc);
     }
 all_spaces (c ∷ cs) m blank space =
-    let P : Spaced → Type 0 = λ r. To r.cursor.mark r.cursor.rest m (c ∷ cs) in
-    let Q : Spaced → Type 0 = λ r. Comment m (c ∷ cs) r.cursor.mark r.cursor.rest in
+    let P : SpacesEnd → Type 0 = λ r. To r.cursor.mark r.cursor.rest m (c ∷ cs) in
+    let Q : SpacesEnd → Type 0 = λ r. Comment m (c ∷ cs) r.cursor.mark r.cursor.rest in
     let line : ((c == 13) && (slice_index cs 0 == 10)) ≡ false → is_break c ≡ true
     → P (spaces (next_line m 1) true true cs) =
     λ e b. single_break m c cs _ _ b e (all_spaces cs (next_line m 1) true true).between in

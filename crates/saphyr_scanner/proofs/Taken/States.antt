@@ -10,20 +10,21 @@ use Rattle.saphyr_scalar.specs.Steps.Block as blocks
 use Rattle.saphyr_scalar.specs.Views.Cursor.{Cursor, fresh}
 use Rattle.saphyr_scanner.specs.Grammar.Tokens as tokens
 use Rattle.saphyr_scanner.specs.Views.Tokens.{Piece}
-use Rattle.saphyr_scanner.specs.Steps.Queue.{Place, Queue, closed, put, next, empty_piece}
-use Rattle.saphyr_scanner.specs.Steps.Core.{Candidate, Level, Core, Step, perform, in_block, is_block, is_too_far}
+use Rattle.saphyr_scanner.specs.Steps.Queue.{Place, Queue, bare_place, with_piece, next, empty_piece}
+use Rattle.saphyr_scanner.specs.Steps.Core.{Core, Step, perform, in_block, is_too_far}
+use Rattle.saphyr_scanner.specs.Steps.Level.{Candidate, Level, is_block}
 use Rattle.saphyr_scanner.specs.Steps.Passing.{with_cursor}
 use Rattle.saphyr_scanner.specs.Steps.Scalar as scalar
 use Rattle.saphyr_scanner.specs.Steps.State.{State, with_core}
-use Rattle.saphyr_scanner.specs.Steps.Unrolling.{unroll, end_blocks, end_block, is_right_of, outwards, less_deep}
+use Rattle.saphyr_scanner.specs.Steps.Unrolling.{unroll, end_blocks, end_block, is_right_of, with_outer_indent, go_less_deep}
 use Rattle.saphyr_scanner.specs.TokensTaken as taken
 use Rattle.saphyr_scanner.specs.TokensTaken.{AreTokens, IsToken, IsBlockScalarToken, IsPlaceOrEnd}
-use Rattle.saphyr_scanner.proofs.Blocks.{block_cursor, less_deep_cursor}
+use Rattle.saphyr_scanner.proofs.Blocks.{block_cursor, go_less_deep_cursor}
 use Rattle.saphyr_scanner.proofs.Leads.{flat}
 use Rattle.saphyr_scanner.proofs.Taken.Later.{top, Later, LaterThan, later_later, apart_later, token_later, tokens_later}
 use Rattle.saphyr_scanner.proofs.Taken.Parts.{tokens_part}
 use Rattle.saphyr_scanner.proofs.Taken.Held.{Stack, Taken, taken_further, taken_put, Key, Keys}
-use Rattle.saphyr_scanner.proofs.Taken.Cores.{Holds, Saved, no_keys}
+use Rattle.saphyr_scanner.proofs.Taken.Cores.{HoldsTaken, Saved, no_keys}
 use Rattle.saphyr_scanner.proofs.Taken.Cores.{saved_taken, first_at, apart_same}
 use Rattle.saphyr_scanner.proofs.Taken.Cores.{key_known}
 use Rattle.saphyr_scanner.proofs.Effects.Readers.{TextLaws}
@@ -38,7 +39,7 @@ pub line_small : (text : List ℕ) (s : Cursor) → length text < 2 ^ 63 → Lat
 line_small text s h l = omega (arith, l.slow, l.counted)
 
 -- where a candidate stands
-pub record Stands (k : Candidate) (c : Core) : Type 0 where
+pub record CandidateStands (k : Candidate) (c : Core) : Type 0 where
   pub text : List ℕ
   pub small : k.mark.line ≤ top
   pub later : Later k.mark text c.cursor.mark c.cursor.rest
@@ -51,12 +52,12 @@ taken_later columns from c q h =
     (apart_later h.last.mark h.last.rest c.cursor.mark c.cursor.rest h.apart)
 
 pub key_stands : (columns : List ℕ) (from : Cursor) (c : Core) (q : Queue) (b : ℕ) (block : Bool) (i : ℕ)
-    (k : Candidate) → from.mark.line ≤ top → Taken columns from c q → Key b q block i k → Stands k c
+    (k : Candidate) → from.mark.line ≤ top → Taken columns from c q → Key b q block i k → CandidateStands k c
 key_stands columns from c q b block i k l h x =
     let P : List Place → Type 0 = λ ps. AreTokens columns (flat ps) from h.last in
     let Q : List Piece → Type 0 = λ ps. AreTokens columns ps from h.last in
     let r = tokens_part columns (flat x.front) (x.token ∷ flat x.back) from h.last
-    (subst Q (flat_append x.front (closed x.token ∷ x.back)) (subst P x.places h.tokens)) in
+    (subst Q (flat_append x.front (bare_place x.token ∷ x.back)) (subst P x.places h.tokens)) in
     let here = r.back.0 in
     let behind = r.back.1 in
     let same : here.mark ≡ k.mark = sym (x.begins _ here behind r.back.3).0 ∙ x.marked in
@@ -85,7 +86,7 @@ pub record Fetched (columns : List ℕ) (from : Cursor) (c : Core) (q : Queue) :
   pub taken : Taken columns from c q
   pub live : c.ended ≡ false → Live c q ⊎ IsFar c
 
-pub holds_fetched : (columns : List ℕ) (from : Cursor) (c : Core) (q : Queue) → Holds columns from c q
+pub holds_fetched : (columns : List ℕ) (from : Cursor) (c : Core) (q : Queue) → HoldsTaken columns from c q
     → Fetched columns from c q
 holds_fetched columns from c q h = record { taken = h.taken; live = λ e. inl (λ f. h.keys) }
 
@@ -108,7 +109,7 @@ far_of c o e b k f l = rw b (ap (λ x. is_too_far x c.cursor.mark) (e ∙ f) ∙
 
 -- a saved key stands here or before
 key_line : (columns : List ℕ) (from : Cursor) (q : Queue) (c d : Core) → from.mark.line ≤ top → Saved (next q) c d
-    → Holds columns from c q → (k : Candidate) → d.level.key ≡ Some k → k.mark.line ≤ d.cursor.mark.line
+    → HoldsTaken columns from c q → (k : Candidate) → d.level.key ≡ Some k → k.mark.line ≤ d.cursor.mark.line
 key_line columns from q c d l s h k i = by s.level
   where
     same : d.cursor.mark.line ≡ c.cursor.mark.line
@@ -137,10 +138,10 @@ key_line columns from q c d l s h k i = by s.level
 
 pub block_fetched : TextLaws → (text : List ℕ) → length text < 2 ^ 63
     → (columns : List ℕ) (from : Cursor) (q : Queue) (style : BlockStyle) (c d : Core) → LaterThan (fresh text) from
-    → Saved (next q) c d → Holds columns from c q → in_block c ≡ true → in_block d ≡ true
+    → Saved (next q) c d → HoldsTaken columns from c q → in_block c ≡ true → in_block d ≡ true
     → slice_index c.cursor.rest 0 ≡ taken.block_indicator style → (x : List ℕ × Span × Cursor)
     → blocks.block_scalar style d.indent d.cursor ≡ Ok x
-    → Fetched columns from (with_cursor x.2 d) (put (record {
+    → Fetched columns from (with_cursor x.2 d) (with_piece (record {
       span = record { start = x.1.start; end = x.1.end };
       kind = tokens.Scalar (scalar.style_of style) x.0;
     }) q)
@@ -169,9 +170,10 @@ block_fetched laws text small columns from q style c d l s h b bd f x e =
     (taken_later columns from d q held) in
     let none : c.outer ≡ [] = h.keys.0 b in
     let by : (o : Option Candidate) → d.level.key ≡ o → d.cursor.mark.line < x.2.mark.line
-    → (Live e2 (put piece q)) ⊎ (IsFar e2) =
-    λ o g less. elim o as (λ y. d.level.key ≡ y → (Live e2 (put piece q)) ⊎ (IsFar e2)) [
-      | None ↦ λ i. inl (λ nz. no_keys (next (put piece q)) (put piece q) d.indent d.level d.outer i (s.outer ∙ none))
+    → (Live e2 (with_piece piece q)) ⊎ (IsFar e2) =
+    λ o g less. elim o as (λ y. d.level.key ≡ y → (Live e2 (with_piece piece q)) ⊎ (IsFar e2)) [
+      | None ↦ λ i. inl (λ nz. no_keys (next (with_piece piece q)) (with_piece piece q) d.indent d.level d.outer i
+          (s.outer ∙ none))
       | Some k ↦ λ i. inr (
         far_of e2 (Some k) i bd k refl
             (let w = key_line columns from q c d l2 s h k i in omega (arith, w, less)),
@@ -187,12 +189,12 @@ block_fetched laws text small columns from q style c d l s h b bd f x e =
 
 -- ## Block collections end
 
-outwards_stack : (is columns : List ℕ) (c : Core) → Stack columns c.indent is
-    → Stack (taken.without_innermost columns) (outwards is c).indent (outwards is c).outer_indents
-outwards_stack [] [] c h = (refl, refl)
-outwards_stack [] (column ∷ columns) c h = absurd h
-outwards_stack (j ∷ is) [] c h = absurd (let e = h.1 in cc)
-outwards_stack (j ∷ is) (column ∷ columns) c h = h.1
+outer_indent_stack : (is columns : List ℕ) (c : Core) → Stack columns c.indent is
+    → Stack (taken.without_innermost columns) (with_outer_indent is c).indent (with_outer_indent is c).outer_indents
+outer_indent_stack [] [] c h = (refl, refl)
+outer_indent_stack [] (column ∷ columns) c h = absurd h
+outer_indent_stack (j ∷ is) [] c h = absurd (let e = h.1 in cc)
+outer_indent_stack (j ∷ is) (column ∷ columns) c h = h.1
 
 abbrev pub TakenState : List ℕ → Cursor → State → Type 0
 TakenState columns from s = Taken columns from s.core s.queue
@@ -206,7 +208,7 @@ block_taken columns from m s p h =
     taken_put columns from s.core (end_block m s).core s.queue (empty_piece m tokens.BlockEnd) s.core.cursor
     s.core.cursor (taken.nothing _ _) (refl, p, refl)
     (apart_same s.core.cursor (end_block m s).core.cursor (block_cursor m s))
-    (λ cs k. outwards_stack s.core.outer_indents cs s.core k) h
+    (λ cs k. outer_indent_stack s.core.outer_indents cs s.core k) h
 
 blocks_taken : (columns : List ℕ) (from : Cursor) (column : Option ℕ) (m : Marker) (is : List ℕ) (s : State)
     → IsPlaceOrEnd s.core.cursor m → TakenState columns from s → TakenState columns from (end_blocks column m is s)
@@ -219,31 +221,31 @@ blocks_taken columns from column m (i ∷ is) s p h =
     (place_same s.core.cursor (end_block m s).core.cursor m (block_cursor m s) p)
     (block_taken columns from m s p h)) (λ _. h)
 
-less_deep_taken : (columns : List ℕ) (from : Cursor) (column : Option ℕ) (s : State) → TakenState columns from s
-    → TakenState columns from (with_core (less_deep column s.core) s)
-less_deep_taken columns from None s h =
-    taken_further columns from s.core (less_deep None s.core) s.queue (taken.nothing _ _) refl refl h
-less_deep_taken columns from (Some column) s h =
-    taken_further columns from s.core (less_deep (Some column) s.core) s.queue (taken.nothing _ _) refl refl h
+go_less_deep_taken : (columns : List ℕ) (from : Cursor) (column : Option ℕ) (s : State) → TakenState columns from s
+    → TakenState columns from (with_core (go_less_deep column s.core) s)
+go_less_deep_taken columns from None s h =
+    taken_further columns from s.core (go_less_deep None s.core) s.queue (taken.nothing _ _) refl refl h
+go_less_deep_taken columns from (Some column) s h =
+    taken_further columns from s.core (go_less_deep (Some column) s.core) s.queue (taken.nothing _ _) refl refl h
 
 pub unroll_taken : (columns : List ℕ) (from : Cursor) (column : Option ℕ) (m : Marker) (s : State)
     → IsPlaceOrEnd s.core.cursor m → TakenState columns from s → TakenState columns from (unroll column m s)
 unfolding unroll
 unroll_taken columns from column m s p h =
-    let t : State = with_core (less_deep column s.core) s in
+    let t : State = with_core (go_less_deep column s.core) s in
     by_test (in_block s.core) _ _ (TakenState columns from)
     (λ _. blocks_taken columns from column m s.core.outer_indents t
-    (place_same s.core.cursor t.core.cursor m (less_deep_cursor column s.core) p)
-    (less_deep_taken columns from column s h)) (λ _. h)
+    (place_same s.core.cursor t.core.cursor m (go_less_deep_cursor column s.core) p)
+    (go_less_deep_taken columns from column s h)) (λ _. h)
 
 -- the levels stay
 pub record Levels (c d : Core) : Type 0 where
   pub level : d.level ≡ c.level
   pub outer : d.outer ≡ c.outer
 
-outwards_levels : (is : List ℕ) (c : Core) → Levels c (outwards is c)
-outwards_levels [] c = record { level = refl; outer = refl }
-outwards_levels (i ∷ is) c = record { level = refl; outer = refl }
+outer_indent_levels : (is : List ℕ) (c : Core) → Levels c (with_outer_indent is c)
+outer_indent_levels [] c = record { level = refl; outer = refl }
+outer_indent_levels (i ∷ is) c = record { level = refl; outer = refl }
 
 levels_levels : (c d e : Core) → Levels c d → Levels d e → Levels c e
 levels_levels c d e a b = record { level = b.level ∙ a.level; outer = b.outer ∙ a.outer }
@@ -252,9 +254,9 @@ pub blocks_levels : (column : Option ℕ) (m : Marker) (is : List ℕ) (s : Stat
     → Levels s.core (end_blocks column m is s).core
 blocks_levels column m [] s =
     by_test (is_right_of column s.core.indent) _ _ (λ (t : State). Levels s.core t.core)
-    (λ _. outwards_levels s.core.outer_indents s.core) (λ _. record { level = refl; outer = refl })
+    (λ _. outer_indent_levels s.core.outer_indents s.core) (λ _. record { level = refl; outer = refl })
 blocks_levels column m (i ∷ is) s =
     by_test (is_right_of column s.core.indent) _ _ (λ (t : State). Levels s.core t.core)
     (λ _. levels_levels s.core (end_block m s).core (end_blocks column m is (end_block m s)).core
-    (outwards_levels s.core.outer_indents s.core) (blocks_levels column m is (end_block m s)))
+    (outer_indent_levels s.core.outer_indents s.core) (blocks_levels column m is (end_block m s)))
     (λ _. record { level = refl; outer = refl })

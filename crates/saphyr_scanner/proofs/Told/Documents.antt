@@ -9,22 +9,22 @@ use Rattle.saphyr_scalar.specs.Views.Cursor.{Cursor, ◌>>=◌}
 use Rattle.saphyr_scanner.specs.Grammar.Tokens as tokens
 use Rattle.saphyr_scanner.specs.Grammar.Tokens.{Kind}
 use Rattle.saphyr_scanner.specs.Steps.Queue.{Queue, next}
-use Rattle.saphyr_scanner.specs.Steps.Core.{Core, Steps, drop_far_key, least_column}
+use Rattle.saphyr_scanner.specs.Steps.Core.{Core, StepResult, drop_far_key, least_column}
 use Rattle.saphyr_scanner.specs.Steps.Document as document
 use Rattle.saphyr_scanner.specs.Steps.Fetch.{step, state_behind_content, fetch_here, arrive, fetch}
 use Rattle.saphyr_scanner.specs.Steps.Passing.{pass_gap}
-use Rattle.saphyr_scanner.specs.Steps.State.{State, carried, acted}
+use Rattle.saphyr_scanner.specs.Steps.State.{State, on_core, after_step}
 use Rattle.saphyr_scanner.specs.TokensTaken as taken
 use Rattle.saphyr_scanner.specs.TokensTaken.{IsReached}
 use Rattle.saphyr_scanner.specs.Steps.Unrolling.{unroll}
 use Rattle.saphyr_scanner.proofs.Blocks.{unrolled_cursor, unrolled_comment}
 use Rattle.saphyr_scanner.proofs.Effects.Documents.{Documented, start_walked, end_marker_walked, mark_walked, directive_walked}
 use Rattle.saphyr_scanner.proofs.Effects.Walked.{Premises, Walked}
-use Rattle.saphyr_scanner.proofs.Effects.Fetch.{left, step_does}
+use Rattle.saphyr_scanner.proofs.Effects.Fetch.{some_character_left, step_does}
 use Rattle.saphyr_scanner.proofs.Taken.Documents.{start_marking, end_place, no_length}
 use Rattle.saphyr_scanner.proofs.Effects.Readers.{TextLaws, RefusalLaws}
 use Rattle.saphyr_scanner.proofs.Taken.Places.{at_here, at_further}
-use Rattle.saphyr_scanner.proofs.Told.Refusals.{Told, walked_told, told_then, told_further, Goes, Noted, NotedStep, Still, goes_still, drop_still, gap_told}
+use Rattle.saphyr_scanner.proofs.Told.Refusals.{HoldsOrRefuses, walked_told, told_then, told_further, Goes, Noted, NotedStep, Still, goes_still, drop_still, gap_told}
 use Rattle.saphyr_input.proofs.Basics.Booleans.{by_test}
 use Rattle.std.proofs.lemmas.Bool.{and_parts, eqb-true}
 
@@ -36,40 +36,41 @@ NotedState t = Noted t.core
 unrolled_still : (column : Option ℕ) (m : Marker) (s : State) → Still s.core (unroll column m s).core
 unrolled_still column m s = (unrolled_cursor column m s, unrolled_comment column m s)
 
-pub carried_told : (P : Core → Type 0) (s : Cursor) (r : Result Core Refusal) (q : Queue) → Told P s r
-    → Told (λ (t : State). P t.core) s (carried r q)
-carried_told P s (Ok c) q h = h
-carried_told P s (Err e) q h = h
+pub on_core_told : (P : Core → Type 0) (s : Cursor) (r : Result Core Refusal) (q : Queue) → HoldsOrRefuses P s r
+    → HoldsOrRefuses (λ (t : State). P t.core) s (on_core r q)
+on_core_told P s (Ok c) q h = h
+on_core_told P s (Err e) q h = h
 
 -- ## Documents
 
-pub stream_told : (s : State) → s.core.comment ≡ None → Told NotedState s.core.cursor (document.end_stream s)
+pub stream_told : (s : State) → s.core.comment ≡ None → HoldsOrRefuses NotedState s.core.cursor (document.end_stream s)
 unfolding document.end_stream document.end_at
 stream_told s n =
     let c = s.core.cursor in
-    by_test (length c.rest == 0) _ _ (Told NotedState c)
-    (λ e. by_test s.core.required _ _ (Told NotedState c)
+    by_test (length c.rest == 0) _ _ (HoldsOrRefuses NotedState c)
+    (λ e. by_test s.core.required _ _ (HoldsOrRefuses NotedState c)
     (λ _. (c, taken.nothing c.mark c.rest, end_place c (no_length c.rest e)))
     (λ _. inl (unrolled_comment None (document.end_mark c.mark) s ∙ n)))
     (λ _. at_here c)
 
 documents_told : (s : State) → Premises s.core → (r : Result State Refusal)
-    → Walked (Premises s.core) (Documented s) s.core.cursor r → Told NotedState s.core.cursor r
+    → Walked (Premises s.core) (Documented s) s.core.cursor r → HoldsOrRefuses NotedState s.core.cursor r
 documents_told s laws (Ok t) h = inl (h.comment laws.2)
 documents_told s laws (Err e) h = h laws
 
-acted_told : (s : Cursor) (r : Steps) (q : Queue) → Told NotedStep s r → Told NotedState s (acted r q)
-acted_told s (Ok x) q h = h
-acted_told s (Err e) q h = h
+after_step_told : (s : Cursor) (r : StepResult) (q : Queue) → HoldsOrRefuses NotedStep s r
+    → HoldsOrRefuses NotedState s (after_step r q)
+after_step_told s (Ok x) q h = h
+after_step_told s (Err e) q h = h
 
 -- ## What begins here
 
 pub here_told : TextLaws → RefusalLaws → (s : State) → s.core.comment ≡ None
-    → Told NotedState s.core.cursor (fetch_here s)
+    → HoldsOrRefuses NotedState s.core.cursor (fetch_here s)
 unfolding fetch_here state_behind_content
 here_told texts laws s n =
     let t = s.core.cursor.rest in
-    let P = Told NotedState s.core.cursor in
+    let P = HoldsOrRefuses NotedState s.core.cursor in
     let at : (b : Bool) → ((s.core.cursor.mark.col == 0) && b) ≡ true → (s.core.cursor.mark.col ≡ 0) × (b ≡ true) =
     λ b e. let w = and_parts (s.core.cursor.mark.col == 0) b e in (eqb-true s.core.cursor.mark.col 0 w.0, w.1) in
     let told : (r : Result State Refusal) → Walked (Premises s.core) (Documented s) s.core.cursor r → P r =
@@ -87,9 +88,9 @@ here_told texts laws s n =
     (λ e. let w = at (is_document_end t) e in told _ (end_marker_walked s w.0 w.1))
     (λ _. by_test (nat_lt s.core.cursor.mark.col (least_column s.core)) _ _ P (λ _. at_here s.core.cursor)
     (λ _. let r = step (slice_index t 0) (slice_index t 1) (next s.queue) s.core in
-    acted_told s.core.cursor r s.queue
+    after_step_told s.core.cursor r s.queue
     (walked_told s.core (laws, texts, n) (next s.queue) r
-    (step_does (slice_index t 0) (slice_index t 1) (next s.queue) s.core (left t z) refl refl))))))))
+    (step_does (slice_index t 0) (slice_index t 1) (next s.queue) s.core (some_character_left t z) refl refl))))))))
 
 -- ## To where it begins
 
@@ -97,27 +98,27 @@ here_told texts laws s n =
 abbrev GoesState : Cursor → State → Type 0
 GoesState s t = Goes s t.core
 
-arrive_told : (s : State) → NotedState s → Told (GoesState s.core.cursor) s.core.cursor (arrive s)
+arrive_told : (s : State) → NotedState s → HoldsOrRefuses (GoesState s.core.cursor) s.core.cursor (arrive s)
 unfolding arrive
 arrive_told s n =
     let c = s.core.cursor in
     let r = pass_gap s.core >>= drop_far_key in
-    told_then (GoesState c) (GoesState c) c (carried r s.queue) _
-    (carried_told (Goes c) c r s.queue
+    told_then (GoesState c) (GoesState c) c (on_core r s.queue) _
+    (on_core_told (Goes c) c r s.queue
     (told_then (Goes c) (Goes c) c (pass_gap s.core) drop_far_key (gap_told s.core n)
     (λ d g. by d g (drop_far_key d) (drop_still d))))
     (λ t g. goes_still c t.core (unroll (Some t.core.cursor.mark.col) t.core.cursor.mark t).core
     (unrolled_still (Some t.core.cursor.mark.col) t.core.cursor.mark t) g)
   where
-    by : (d : Core) → Goes s.core.cursor d → (r : Result Core Refusal) → Told (Still d) d.cursor r
-        → Told (Goes s.core.cursor) s.core.cursor r
+    by : (d : Core) → Goes s.core.cursor d → (r : Result Core Refusal) → HoldsOrRefuses (Still d) d.cursor r
+        → HoldsOrRefuses (Goes s.core.cursor) s.core.cursor r
     by d g (Ok e) h = goes_still s.core.cursor d e h g
     by d g (Err e) h = at_further s.core.cursor d.cursor e.mark g.0 h
 
-pub fetch_told : TextLaws → RefusalLaws → (s : State) → NotedState s → Told NotedState s.core.cursor (fetch s)
+pub fetch_told : TextLaws → RefusalLaws → (s : State) → NotedState s → HoldsOrRefuses NotedState s.core.cursor (fetch s)
 unfolding fetch
 fetch_told texts laws s n =
-    by_test s.core.started _ _ (Told NotedState s.core.cursor)
+    by_test s.core.started _ _ (HoldsOrRefuses NotedState s.core.cursor)
     (λ _. told_then (GoesState s.core.cursor) NotedState s.core.cursor (arrive s) fetch_here (arrive_told s n)
     (λ t g. told_further NotedState s.core.cursor t.core.cursor (fetch_here t) g.0 (here_told texts laws t g.1)))
     (λ e. n)

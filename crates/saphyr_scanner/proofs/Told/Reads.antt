@@ -5,7 +5,7 @@ use Rattle.saphyr_scalar.specs.declared.scalar.position.Marker.{Marker}
 use Rattle.saphyr_scalar.specs.declared.scalar.fault.Refusal.{Refusal}
 use Rattle.saphyr_scalar.specs.Views.Cursor.{Cursor, fresh, ◌>>=◌}
 use Rattle.saphyr_scanner.specs.Steps.Core.{Core, drop_far_key}
-use Rattle.saphyr_scanner.specs.Steps.Fetch.{fetch, fetch_within, within, without_far_key}
+use Rattle.saphyr_scanner.specs.Steps.Fetch.{fetch, fetch_within, check_limit, without_far_key}
 use Rattle.saphyr_scanner.specs.Steps.Queue.{Queue}
 use Rattle.saphyr_scanner.specs.Steps.State.{State}
 use Rattle.saphyr_scanner.proofs.Taken.Fetch.{Read, Ready, fetch_read}
@@ -16,16 +16,17 @@ use Rattle.saphyr_scanner.proofs.Leads.{flat}
 use Rattle.saphyr_scanner.proofs.PlainBehind.{IsNoted}
 use Rattle.saphyr_scanner.proofs.Reached.{apart_reached}
 use Rattle.saphyr_scanner.proofs.Taken.Places.{Reaches, reaches_reaches, At, at_here, at_further, tokens_reached}
-use Rattle.saphyr_scanner.proofs.Told.Refusals.{Told, told_further, Noted, Still, drop_still}
-use Rattle.saphyr_scanner.proofs.Told.Documents.{NotedState, carried_told, fetch_told}
+use Rattle.saphyr_scanner.proofs.Told.Refusals.{HoldsOrRefuses, told_further, Noted, Still, drop_still}
+use Rattle.saphyr_scanner.proofs.Told.Documents.{NotedState, on_core_told, fetch_told}
 use Rattle.saphyr_input.proofs.Basics.Booleans.{by_test}
 use Rattle.saphyr_scalar.proofs.Given.{Given}
 
-pub told_ok : {X : Type 0} → (P : X → Type 0) (s : Cursor) (r : Result X Refusal) (x : X) → Told P s r → r ≡ Ok x → P x
+pub told_ok : {X : Type 0} → (P : X → Type 0) (s : Cursor) (r : Result X Refusal) (x : X) → HoldsOrRefuses P s r
+    → r ≡ Ok x → P x
 told_ok P s (Ok y) x h e = let same : y ≡ x = cc in subst P same h
 told_ok P s (Err f) x h e = absurd (cc)
 
-pub told_err : {X : Type 0} → (P : X → Type 0) (s : Cursor) (r : Result X Refusal) (e : Refusal) → Told P s r
+pub told_err : {X : Type 0} → (P : X → Type 0) (s : Cursor) (r : Result X Refusal) (e : Refusal) → HoldsOrRefuses P s r
     → r ≡ Err e → At s e.mark
 told_err P s (Ok y) e h q = absurd (cc)
 told_err P s (Err f) e h q = let same : f ≡ e = cc in let Q : Refusal → Type 0 = λ x. At s x.mark in subst Q same h
@@ -44,18 +45,18 @@ noted_still c d s n =
     subst P (sym s.1) (subst Q (sym s.0) n)
 
 pub settled_told : (text : List ℕ) (t : State) → Reaches (fresh text) t.core.cursor → NotedState t
-    → Told NotedState (fresh text) (without_far_key t)
+    → HoldsOrRefuses NotedState (fresh text) (without_far_key t)
 settled_told text t a n =
-    carried_told Noted (fresh text) (drop_far_key t.core) t.queue (by (drop_far_key t.core) (drop_still t.core))
+    on_core_told Noted (fresh text) (drop_far_key t.core) t.queue (by (drop_far_key t.core) (drop_still t.core))
   where
-    by : (r : Result Core Refusal) → Told (Still t.core) t.core.cursor r → Told Noted (fresh text) r
+    by : (r : Result Core Refusal) → HoldsOrRefuses (Still t.core) t.core.cursor r → HoldsOrRefuses Noted (fresh text) r
     by (Ok d) h = noted_still t.core d h n
     by (Err e) h = at_further (fresh text) t.core.cursor e.mark a h
 
 pub read_told : TextLaws → RefusalLaws → (text : List ℕ) → length text < 2 ^ 63
     → (limit : ℕ) (columns : List ℕ) (from : Cursor) (s : State) → LaterThan (fresh text) from
     → Reaches (fresh text) from → s.core.ended ≡ false → Ready columns from s → NotedState s
-    → Told NotedState (fresh text) (fetch_within limit s >>= without_far_key)
+    → HoldsOrRefuses NotedState (fresh text) (fetch_within limit s >>= without_far_key)
 unfolding fetch_within
 read_told laws refusals text small limit columns from s l a going h n =
     by (fetch s) (fetch_read laws text small columns from s l going h.taken (h.live going))
@@ -63,12 +64,13 @@ read_told laws refusals text small limit columns from s l a going h n =
     (reaches_reaches (fresh text) from s.core.cursor a (taken_reached columns from s.core s.queue h.taken))
     (fetch_told laws refusals s n))
   where
-    by : (r : Result State Refusal) → Given (Read columns from) r → Told NotedState (fresh text) r
-        → Told NotedState (fresh text) ((r >>= within limit) >>= without_far_key)
+    by : (r : Result State Refusal) → Given (Read columns from) r → HoldsOrRefuses NotedState (fresh text) r
+        → HoldsOrRefuses NotedState (fresh text) ((r >>= check_limit limit) >>= without_far_key)
     by (Ok t) k m =
         let there = reaches_reaches (fresh text) from t.core.cursor a
         (taken_reached columns from t.core t.queue k.fetched.taken) in
-        by_test (nat_le t.core.cursor.mark.index limit) _ _ (λ r. Told NotedState (fresh text) (r >>= without_far_key))
+        by_test (nat_le t.core.cursor.mark.index limit) _ _
+        (λ r. HoldsOrRefuses NotedState (fresh text) (r >>= without_far_key))
         (λ _. settled_told text t there m)
         (λ _. at_further (fresh text) t.core.cursor t.core.cursor.mark there (at_here t.core.cursor))
     by (Err e) k m = m

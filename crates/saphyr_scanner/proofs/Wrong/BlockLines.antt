@@ -78,9 +78,9 @@ bare_header n chomping behind body first (mark, indicators, tail, end, are, line
 
 -- ## The lines
 
-empty : (t : List ℕ) → length t ≡ 0 → t ≡ []
-empty [] e = refl
-empty (c ∷ cs) e = absurd (omega (arith, e))
+empty_by_length : (t : List ℕ) → length t ≡ 0 → t ≡ []
+empty_by_length [] e = refl
+empty_by_length (c ∷ cs) e = absurd (omega (arith, e))
 
 -- the span ends at the text's end
 pub all_inside : (style : BlockStyle) (i : ℕ) (value : List ℕ) (span : Span) (s t : Cursor) (c : ℕ) (body : List ℕ)
@@ -89,7 +89,7 @@ pub all_inside : (style : BlockStyle) (i : ℕ) (value : List ℕ) (span : Span)
 all_inside style i value span s t c body h e end =
     let r = h.reading in
     let count = reached_counted s.mark s.rest t.mark t.rest (passed_reached s.mark s.rest t.mark t.rest h.passes) in
-    let over : t.rest ≡ [] = empty t.rest (let k = ap (λ m. m.index) h.end in omega (arith, count, end, k)) in
+    let over : t.rest ≡ [] = empty_by_length t.rest (let k = ap (λ m. m.index) h.end in omega (arith, count, end, k)) in
     let first : r.first ≡ c ∷ 10 ∷ [] = bare_header r.digit r.chomping (r.lines ++ t.rest) body r.first r.begins c
     (sym e ∙ r.is) in
     let whole : (c ∷ 10 ∷ []) ++ body ≡ (c ∷ 10 ∷ []) ++ r.lines =

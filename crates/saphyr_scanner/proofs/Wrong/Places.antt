@@ -5,8 +5,8 @@ use Rattle.saphyr_scanner.specs.TokensTaken.{AreTakenFrom, begins_text}
 use Rattle.saphyr_scanner.specs.Examples.TakenTexts as texts
 use Rattle.saphyr_scanner.proofs.Wrong.Standing.{tokens_stand, at_origin}
 
-pub other_indentation : AreTakenFrom (codes " a: |1\n   b") texts.other_indentation → ⊥
-other_indentation (end, tokens, fin) =
+pub other_indentation_refused : AreTakenFrom (codes " a: |1\n   b") texts.other_indentation → ⊥
+other_indentation_refused (end, tokens, fin) =
     let stand = tokens_stand (codes " a: |1\n   b") texts.other_indentation.pieces end tokens in
     let start = stand.1.0 in
     let index : start.here.mark.index ≡ 0 = sym (ap (λ m. m.index) start.is.1) in

@@ -15,7 +15,7 @@ use Rattle.saphyr_scanner.proofs.Taken.Places.{Reaches, reaches_reaches, token_r
 use Rattle.std.proofs.lemmas.Bool.{eq-eqb}
 
 -- the token stands at a place that is reached from the text's start
-pub record Stands (text : List ℕ) (p : Piece) : Type 0 where
+pub record StandsReached (text : List ℕ) (p : Piece) : Type 0 where
   pub indent : ℕ
   pub here : Cursor
   pub behind : Cursor
@@ -24,7 +24,7 @@ pub record Stands (text : List ℕ) (p : Piece) : Type 0 where
 
 abbrev pub AllStand : List ℕ → List Piece → Type 0
 AllStand text [] = Unit {0}
-AllStand text (p ∷ ps) = Stands text p × AllStand text ps
+AllStand text (p ∷ ps) = StandsReached text p × AllStand text ps
 
 tokens_stand_from : (text columns : List ℕ) (ps : List Piece) (s u : Cursor) → Reaches (fresh text) s
     → AreTokens columns ps s u → AllStand text ps
@@ -74,10 +74,10 @@ at_origin text u r e =
 
 -- ## A character that stands once in a text
 
-abbrev pub has : ℕ → List ℕ → Bool
-has c text = list_any (λ x. x == c) text
+abbrev pub has_character : ℕ → List ℕ → Bool
+has_character c text = list_any (λ x. x == c) text
 
-stands_behind : (c : ℕ) (front rest : List ℕ) → slice_index rest 0 ≡ c → c ≢ 0 → has c (front ++ rest) ≡ true
+stands_behind : (c : ℕ) (front rest : List ℕ) → slice_index rest 0 ≡ c → c ≢ 0 → has_character c (front ++ rest) ≡ true
 stands_behind c [] [] e n = absurd (n (sym e))
 stands_behind c [] (x ∷ xs) e n = let here : (x == c) ≡ true = ap (λ y. y == c) e ∙ eq-eqb c c refl in rw here refl
 stands_behind c (x ∷ front) rest e n = let more = stands_behind c front rest e n in rw more (either (x == c))
@@ -87,19 +87,19 @@ stands_behind c (x ∷ front) rest e n = let more = stands_behind c front rest e
     either false = refl
 
 pub one_place : (c : ℕ) (before after front rest : List ℕ) → before ++ (c ∷ after) ≡ front ++ rest
-    → slice_index rest 0 ≡ c → c ≢ 0 → has c before ≡ false → has c after ≡ false → rest ≡ c ∷ after
+    → slice_index rest 0 ≡ c → c ≢ 0 → has_character c before ≡ false → has_character c after ≡ false → rest ≡ c ∷ after
 one_place c [] after [] rest e s n b a = sym e
 one_place c [] after (f ∷ front) rest e s n b a =
     let more : after ≡ front ++ rest = cc in
     let there = stands_behind c front rest s n in
-    absurd (let k : has c after ≡ true = ap (has c) more ∙ there in cc)
+    absurd (let k : has_character c after ≡ true = ap (has_character c) more ∙ there in cc)
 one_place c (x ∷ before) after [] rest e s n b a =
     let first : x ≡ c = ap (λ l. slice_index l 0) e ∙ s in
     let here : (x == c) ≡ true = ap (λ y. y == c) first ∙ eq-eqb c c refl in
-    absurd (let k : ((x == c) || has c before) ≡ true = rw here refl in cc)
+    absurd (let k : ((x == c) || has_character c before) ≡ true = rw here refl in cc)
 one_place c (x ∷ before) after (f ∷ front) rest e s n b a =
     let more : before ++ (c ∷ after) ≡ front ++ rest = cc in
-    one_place c before after front rest more s n (right (x == c) (has c before) b) a
+    one_place c before after front rest more s n (right (x == c) (has_character c before) b) a
   where
     right : (p q : Bool) → (p || q) ≡ false → q ≡ false
     right true q h = absurd (cc)

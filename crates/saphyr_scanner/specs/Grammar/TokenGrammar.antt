@@ -4,8 +4,7 @@ use Rattle.saphyr_scanner.specs.Grammar.Forest.{Style, Plain, Properties, HasPro
 use Rattle.saphyr_scanner.specs.Grammar.Tokens.{Kind, StreamStart, StreamEnd, DocumentStart, DocumentEnd, ByteOrderMark, BlockSequenceStart, BlockMappingStart, BlockEnd, FlowSequenceStart, FlowSequenceEnd, FlowMappingStart, FlowMappingEnd, BlockEntry, FlowEntry, Key, Value, alias_token, anchor_token, tag_token, scalar_token, directive_token}
 
 -- Where a node stands: inside a flow collection, where no block collection is; in block style; or as a key or a value
--- of
--- a block mapping, where a block sequence may stand at the mapping's own column (8.2.2).
+-- of a block mapping, where a block sequence may stand at the mapping's own column (8.2.2).
 pub data Context : Type 0 where
   InFlow : Context
   InBlock : Context
@@ -93,8 +92,7 @@ BeginsWithValue (Value ∷ _) = Unit {0}
 BeginsWithValue _ = ⊥
 
 -- An entry of a block mapping (8.2.2), with the tokens of the other entries behind it. A value belongs to the key
--- before it,
--- where that has none yet.
+-- before it, where that has none yet.
 abbrev pub YieldsBlockPair : Node → Node → (List Kind → Type 0) → (List Kind → Type 0) → List Kind → List Kind → Type 0
 YieldsBlockPair key value K V others t =
     YieldsMarkedPair key value K V t ⊎ ((value ≡ left_out) × ¬ (BeginsWithValue others) × YieldsMarkedKey key K t)
@@ -190,8 +188,7 @@ AreEndsAndMarks [] = Unit {0}
 AreEndsAndMarks (k ∷ others) = ((k ≡ DocumentEnd) ⊎ (k ≡ ByteOrderMark)) × AreEndsAndMarks others
 
 -- Behind a document: byte order marks, optionally `...` and any number of `...` and marks, and what Others tells, which
--- is
--- given whether there was a `...`.
+-- is given whether there was a `...`.
 abbrev pub YieldsBehindDocument : (Bool → List Kind → Type 0) → List Kind → Type 0
 YieldsBehindDocument Others t =
     (marks end others : List Kind) × AreMarks marks

@@ -8,12 +8,11 @@ use Rattle.saphyr_scalar.specs.declared.scalar.position.Marker.{Marker}
 use Rattle.saphyr_scalar.specs.declared.scalar.fault.Refusal.{Refusal}
 use Rattle.saphyr_scalar.specs.declared.scalar.fault.FaultText.TheVariants as fault
 use Rattle.saphyr_scalar.specs.Views.Cursor.{◌>>=◌, refuse}
-use Rattle.saphyr_scanner.specs.declared.engine.level.Context.{Context}
-use Rattle.saphyr_scanner.specs.declared.engine.level.Context.TheVariants as context
 use Rattle.saphyr_scanner.specs.Steps.Gap.{spaces_at}
 use Rattle.saphyr_scanner.specs.Grammar.Tokens as tokens
 use Rattle.saphyr_scanner.specs.Grammar.Tokens.{Kind}
-use Rattle.saphyr_scanner.specs.Steps.Core.{Core, Action, Steps, went, at_mark, up_to_here, in_block, remove_key, with_context, go_deeper, is_further, roll}
+use Rattle.saphyr_scanner.specs.Steps.Level.{behind_question}
+use Rattle.saphyr_scanner.specs.Steps.Core.{Core, Action, StepResult, completed_step, at_mark, up_to_here, in_block, remove_key, with_context, go_deeper, is_further, roll}
 use Rattle.saphyr_scanner.specs.Steps.Passing.{separate, pass_on, with_cursor}
 
 -- a `-` stands here as an indicator
@@ -37,25 +36,19 @@ pass_dash c = separate c >>= refuse_tab
 abbrev pub behind_start : Bool → Marker → Kind → Action → List Action
 behind_start begins m kind a = if begins then at_mark m kind ∷ a ∷ [] else a ∷ []
 
-unfoldable pub next_entry : Core → Steps
+unfoldable pub next_entry : Core → StepResult
 next_entry c =
-    pass_dash (roll c.cursor.mark.col (pass_on 1 c)) >>= remove_key >>= λ d. went
+    pass_dash (roll c.cursor.mark.col (pass_on 1 c)) >>= remove_key >>= λ d. completed_step
     (behind_start (is_further c.cursor.mark.col c) c.cursor.mark tokens.BlockSequenceStart
     (at_mark d.cursor.mark tokens.BlockEntry))
     (record d { key_allowed = true })
 
 -- `-`
-unfoldable pub entry : Core → Steps
+unfoldable pub entry : Core → StepResult
 entry c =
     if not (in_block c) then refuse fault.DashInsideFlow c.cursor.mark
     else if not c.key_allowed then refuse fault.SequenceEntryNotAllowed c.cursor.mark
     else next_entry c
-
--- what is open behind `?`
-abbrev pub behind_question : Context → Context
-behind_question context.FlowSequence = context.ExplicitFlowPair
-behind_question context.FlowPair = context.MarkedFlowPair
-behind_question x = x
 
 -- Something has to stand behind `?`, and no tab before its content.
 unfoldable pub behind_mark : Bool → Core → Result Core Refusal
@@ -73,9 +66,9 @@ begin_key c =
     (record d { key_allowed = in_block d })
 
 -- `?`
-unfoldable pub key : Core → Steps
+unfoldable pub key : Core → StepResult
 key c =
     if in_block c && not c.key_allowed then refuse fault.KeyNotAllowed c.cursor.mark
-    else (begin_key c >>= λ d. went
+    else (begin_key c >>= λ d. completed_step
     (behind_start (is_further c.cursor.mark.col c) c.cursor.mark tokens.BlockMappingStart
     (up_to_here c.cursor.mark tokens.Key d)) d)

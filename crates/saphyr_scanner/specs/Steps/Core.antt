@@ -5,25 +5,14 @@ use Rattle.saphyr_scalar.specs.declared.scalar.fault.Refusal.{Refusal}
 use Rattle.saphyr_scalar.specs.declared.scalar.fault.FaultText.TheVariants as fault
 use Rattle.saphyr_scalar.specs.Views.Cursor.{Cursor, fresh, refuse}
 use Rattle.saphyr_scanner.specs.declared.engine.level.Context.{Context}
-use Rattle.saphyr_scanner.specs.declared.engine.level.Context.TheVariants as context
 use Rattle.saphyr_scanner.specs.declared.queue.Opening.{Opening}
 use Rattle.saphyr_scanner.specs.Grammar.Tokens.{Kind}
 use Rattle.saphyr_scanner.specs.Views.Tokens.{Piece}
-use Rattle.saphyr_scanner.specs.Steps.Queue.{Queue, put, with_opening, empty_piece}
-
--- a token that may be a key: where it begins, and the number of its place in the queue
-pub record Candidate : Type 0 where
-  pub mark : Marker
-  pub place : ℕ
-
--- what is open, and the token in it that may be a key
-pub record Level : Type 0 where
-  pub context : Context
-  pub key : Option Candidate
+use Rattle.saphyr_scanner.specs.Steps.Level.{Candidate, Level, at_root, is_block}
+use Rattle.saphyr_scanner.specs.Steps.Queue.{Queue, with_piece, with_opening, empty_piece}
 
 -- `indent` is the first column to the right of the innermost block collection, 0 where there is none. `deeper` tells
--- that
--- content has to stand one column further right.
+-- that content has to stand one column further right.
 pub record Core : Type 0 where
   pub cursor : Cursor
   pub level : Level
@@ -37,9 +26,6 @@ pub record Core : Type 0 where
   pub comment : Option Marker
   pub started : Bool
   pub ended : Bool
-
-abbrev pub at_root : Level
-at_root = record { context = context.Block; key = None }
 
 -- at the start of a text
 abbrev pub core_at_start : List ℕ → Core
@@ -66,7 +52,7 @@ pub data Action : Type 0 where
   Open : ℕ → Opening → Action
 
 abbrev pub act : Action → Queue → Queue
-act (Put t) q = put t q
+act (Put t) q = with_piece t q
 act (Open n o) q = with_opening n o q
 
 abbrev pub perform : List Action → Queue → Queue
@@ -77,11 +63,11 @@ pub record Step : Type 0 where
   pub core : Core
   pub actions : List Action
 
-abbrev pub Steps : Type 0
-Steps = Result Step Refusal
+abbrev pub StepResult : Type 0
+StepResult = Result Step Refusal
 
-abbrev pub went : List Action → Core → Steps
-went actions c = Ok (record { core = c; actions = actions })
+abbrev pub completed_step : List Action → Core → StepResult
+completed_step actions c = Ok (record { core = c; actions = actions })
 
 -- ## Tokens
 
@@ -96,10 +82,6 @@ abbrev pub up_to_here : Marker → Kind → Core → Action
 up_to_here m kind c = from_to m c.cursor.mark kind
 
 -- ## What is open
-
-abbrev pub is_block : Context → Bool
-is_block context.Block = true
-is_block _ = false
 
 abbrev pub in_block : Core → Bool
 in_block c = is_block c.level.context

@@ -10,13 +10,13 @@ use Rattle.saphyr_scalar.specs.Steps.Directive as directives
 use Rattle.saphyr_scalar.specs.Steps.Directive.{ReadDirective, version, tag_prefix, reserved}
 use Rattle.saphyr_scanner.specs.Grammar.Tokens as tokens
 use Rattle.saphyr_scanner.specs.Grammar.Tokens.{Kind}
-use Rattle.saphyr_scanner.specs.Steps.Core.{Core, Steps, went, at_mark, from_to, up_to_here, in_block, remove_key}
+use Rattle.saphyr_scanner.specs.Steps.Core.{Core, StepResult, completed_step, at_mark, from_to, up_to_here, in_block, remove_key}
 use Rattle.saphyr_scanner.specs.Steps.Passing.{separate, pass_on, with_cursor}
-use Rattle.saphyr_scanner.specs.Steps.State.{State, with_core, with_action, carried, on_core_with, acted}
+use Rattle.saphyr_scanner.specs.Steps.State.{State, with_core, with_action, on_core, on_core_with, after_step}
 use Rattle.saphyr_scanner.specs.Steps.Unrolling.{unroll}
 
 abbrev pub remove_key_of : State → Result State Refusal
-remove_key_of s = carried (remove_key s.core) s.queue
+remove_key_of s = on_core (remove_key s.core) s.queue
 
 -- all block collections end, and what may be a key
 unfoldable pub end_content : State → Result State Refusal
@@ -78,12 +78,12 @@ directive_kind (version major minor) = tokens.VersionDirective major minor
 directive_kind (tag_prefix handle prefix) = tokens.TagDirective handle prefix
 directive_kind (reserved name) = tokens.ReservedDirective name
 
-unfoldable pub read_directive : Core → Steps
+unfoldable pub read_directive : Core → StepResult
 read_directive c =
     directives.directive c.cursor
-    >>= λ x. went (from_to c.cursor.mark x.1 (directive_kind x.0) ∷ [])
+    >>= λ x. completed_step (from_to c.cursor.mark x.1 (directive_kind x.0) ∷ [])
     (record (with_cursor x.2 c) { key_allowed = false })
 
 -- `%` at the start of a line
 unfoldable pub state_behind_directive : State → Result State Refusal
-state_behind_directive s = end_content s >>= λ t. acted (read_directive t.core) t.queue
+state_behind_directive s = end_content s >>= λ t. after_step (read_directive t.core) t.queue

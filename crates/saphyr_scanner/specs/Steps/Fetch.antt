@@ -1,5 +1,5 @@
 -- The next token of a text.
-use Rattle.std.specs.Prelude.{ℕ, zero, suc, ◌+◌, Bool, true, false, ◌||◌, ◌&&◌, ◌==◌, not, nat_lt, nat_le, List, [], ◌∷◌, length, slice_index, Option, Some, None, Result, Ok, if◌then◌else◌}
+use Rattle.std.specs.Prelude.{ℕ, zero, suc, ◌+◌, Bool, true, false, ◌||◌, ◌&&◌, ◌==◌, not, nat_lt, nat_le, List, [], ◌∷◌, length, slice_index, Option, Some, Result, Ok, if◌then◌else◌}
 use Rattle.saphyr_input.specs.Classes.{is_z, is_bom, is_flow, is_blank_or_breakz}
 use Rattle.saphyr_input.specs.Places.{is_document_start, is_document_end}
 use Rattle.saphyr_input.specs.Indicators.{ampersand, apostrophe, asterisk, at_sign, colon, comma, exclamation_mark, grave_accent, greater_than, hyphen, left_brace, left_bracket, percent_sign, question_mark, quotation_mark, right_brace, right_bracket, vertical_bar}
@@ -10,10 +10,11 @@ use Rattle.saphyr_scanner.specs.declared.engine.level.Context.TheVariants as con
 use Rattle.saphyr_scanner.specs.Grammar.Tokens as tokens
 use Rattle.saphyr_scanner.specs.Views.Tokens.{Piece}
 use Rattle.saphyr_scanner.specs.Steps.Queue as queue
-use Rattle.saphyr_scanner.specs.Steps.Queue.{Queue, next}
-use Rattle.saphyr_scanner.specs.Steps.Core.{Candidate, Level, Core, Steps, at_mark, in_block, is_too_far, least_column, drop_far_key}
+use Rattle.saphyr_scanner.specs.Steps.Queue.{next}
+use Rattle.saphyr_scanner.specs.Steps.Core.{Core, StepResult, at_mark, in_block, is_too_far, least_column, drop_far_key}
+use Rattle.saphyr_scanner.specs.Steps.Level.{Level, holds}
 use Rattle.saphyr_scanner.specs.Steps.Passing.{pass_gap}
-use Rattle.saphyr_scanner.specs.Steps.State.{State, with_core, with_action, carried, acted}
+use Rattle.saphyr_scanner.specs.Steps.State.{State, with_core, with_action, on_core, after_step}
 use Rattle.saphyr_scanner.specs.Steps.Unrolling.{unroll}
 use Rattle.saphyr_scanner.specs.Steps.Document as document
 use Rattle.saphyr_scanner.specs.Steps.Flow as flow
@@ -30,19 +31,19 @@ abbrev pub is_value_adjacent : ℕ → Core → Bool
 is_value_adjacent second c = not (in_block c) && (is_flow second || (c.cursor.mark.index == c.adjacent))
 
 -- a colon inside flow that no blank follows
-unfoldable pub flow_value : ℕ → Core → Steps
+unfoldable pub flow_value : ℕ → Core → StepResult
 flow_value second c =
     if not (c.cursor.mark.index == c.adjacent) && ((second == left_bracket) || (second == left_brace)) then
     refuse fault.ColonBeforeFlow c.cursor.mark
     else value.value_steps c
 
 -- what the first character begins, with the second at hand, and the number of the place of its token
-unfoldable pub step : ℕ → ℕ → ℕ → Core → Steps
+unfoldable pub step : ℕ → ℕ → ℕ → Core → StepResult
 step first second n c =
     if first == left_bracket then flow.opening_steps context.FlowSequence tokens.FlowSequenceStart n c
     else if first == left_brace then flow.opening_steps context.FlowMapping tokens.FlowMappingStart n c
-    else if first == right_bracket then flow.closing_steps true tokens.FlowSequenceEnd c
-    else if first == right_brace then flow.closing_steps false tokens.FlowMappingEnd c
+    else if first == right_bracket then flow.sequence_end_steps c
+    else if first == right_brace then flow.mapping_end_steps c
     else if first == comma then flow.flow_entry_steps c
     else if (first == hyphen) && is_blank_or_breakz second then block.entry c
     else if (first == question_mark) && is_blank_or_breakz second then block.key c
@@ -50,8 +51,8 @@ step first second n c =
     else if (first == colon) && is_value_adjacent second c then flow_value second c
     else if first == quotation_mark then scalar.double_quoted_steps n c
     else if first == apostrophe then scalar.single_quoted_steps n c
-    else if first == asterisk then property.name_steps true n c
-    else if first == ampersand then property.name_steps false n c
+    else if first == asterisk then property.alias_steps n c
+    else if first == ampersand then property.anchor_steps n c
     else if first == exclamation_mark then property.tag_steps n c
     else if (first == vertical_bar) && in_block c then scalar.block_scalar_steps block_style.Literal n c
     else if (first == greater_than) && in_block c then scalar.block_scalar_steps block_style.Folded n c
@@ -60,7 +61,7 @@ step first second n c =
     else scalar.plain_steps n c
 
 unfoldable pub state_behind_content : ℕ → ℕ → State → Result State Refusal
-state_behind_content first second s = acted (step first second (next s.queue) s.core) s.queue
+state_behind_content first second s = after_step (step first second (next s.queue) s.core) s.queue
 
 -- what begins at the start of a line alone, or anywhere
 unfoldable pub fetch_here : State → Result State Refusal
@@ -76,7 +77,7 @@ fetch_here s =
 
 -- to where the next token begins
 unfoldable pub arrive : State → Result State Refusal
-arrive s = carried (pass_gap s.core >>= drop_far_key) s.queue >>= λ t. Ok
+arrive s = on_core (pass_gap s.core >>= drop_far_key) s.queue >>= λ t. Ok
     (unroll (Some t.core.cursor.mark.col) t.core.cursor.mark t)
 
 abbrev pub begin : State → State
@@ -87,21 +88,14 @@ unfoldable pub fetch : State → Result State Refusal
 fetch s = if s.core.started then (arrive s >>= fetch_here) else Ok (begin s)
 
 -- a text that is longer than the limit is refused once a token has passed it
-abbrev pub within : ℕ → State → Result State Refusal
-within limit s = if nat_le s.core.cursor.mark.index limit then Ok s else refuse fault.TextTooLong s.core.cursor.mark
+abbrev pub check_limit : ℕ → State → Result State Refusal
+check_limit limit s = if nat_le s.core.cursor.mark.index limit then Ok s else
+    refuse fault.TextTooLong s.core.cursor.mark
 
 unfoldable pub fetch_within : ℕ → State → Result State Refusal
-fetch_within limit s = fetch s >>= within limit
+fetch_within limit s = fetch s >>= check_limit limit
 
 -- ## A token at the head of the queue
-
-abbrev pub is_place : ℕ → Option Candidate → Bool
-is_place place None = false
-is_place place (Some k) = k.place == place
-
--- the token at a place may be a key of the level
-abbrev pub holds : ℕ → Level → Bool
-holds place l = is_place place l.key
 
 abbrev pub any_holds : ℕ → List Level → Bool
 any_holds place [] = false
@@ -120,7 +114,7 @@ abbrev pub is_ready : State → Bool
 is_ready s = not (in_block s.core && is_too_far s.core.level.key s.core.cursor.mark) && not (needs_token s)
 
 abbrev pub without_far_key : State → Result State Refusal
-without_far_key s = carried (drop_far_key s.core) s.queue
+without_far_key s = on_core (drop_far_key s.core) s.queue
 
 abbrev pub fill_by : (State → Result State Refusal) → State → Result State Refusal
 fill_by go s = if needs_token s then go s else Ok s

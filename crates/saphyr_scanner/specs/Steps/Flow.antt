@@ -1,26 +1,14 @@
 -- The indicators of flow collections (YAML 1.2.2, 7.4).
-use Rattle.std.specs.Prelude.{ℕ, Bool, true, false, ◌&&◌, nat_le, List, [], ◌∷◌, length, None, if◌then◌else◌}
+use Rattle.std.specs.Prelude.{ℕ, Bool, true, false, nat_le, List, [], ◌∷◌, length, None, if◌then◌else◌}
 use Rattle.saphyr_scalar.specs.declared.scalar.position.Marker.{Marker}
 use Rattle.saphyr_scalar.specs.declared.scalar.fault.FaultText.TheVariants as fault
 use Rattle.saphyr_scalar.specs.Views.Cursor.{◌>>=◌, refuse}
 use Rattle.saphyr_scanner.specs.declared.engine.level.Context.{Context}
-use Rattle.saphyr_scanner.specs.declared.engine.level.Context.TheVariants as context
 use Rattle.saphyr_scanner.specs.Grammar.Tokens as tokens
 use Rattle.saphyr_scanner.specs.Grammar.Tokens.{Kind}
-use Rattle.saphyr_scanner.specs.Steps.Core.{Level, Core, Action, Steps, went, at_root, at_mark, up_to_here, in_block, save_key, remove_key, with_context, go_deeper}
+use Rattle.saphyr_scanner.specs.Steps.Core.{Core, Action, StepResult, completed_step, at_mark, up_to_here, in_block, save_key, remove_key, with_context, go_deeper}
+use Rattle.saphyr_scanner.specs.Steps.Level.{Level, at_root, ends_pair, behind_entry}
 use Rattle.saphyr_scanner.specs.Steps.Passing.{separate, pass_on}
-
--- whether a pair is open that ends with its entry
-abbrev pub ends_pair : Context → Bool
-ends_pair context.FlowPair = true
-ends_pair context.MarkedFlowPair = true
-ends_pair _ = false
-
--- what is open behind a comma
-abbrev pub behind_entry : Context → Context
-behind_entry context.Block = context.Block
-behind_entry context.FlowMapping = context.FlowMapping
-behind_entry _ = context.FlowSequence
 
 -- a flow collection is open
 abbrev pub enter : Context → Core → Core
@@ -35,13 +23,13 @@ abbrev pub leave : Core → Core
 leave c = leave_to c.outer c
 
 -- At most 255 flow collections are open at once.
-unfoldable pub open_collection : Context → Kind → Core → Steps
+unfoldable pub open_collection : Context → Kind → Core → StepResult
 open_collection x kind c =
     if nat_le 255 (length c.outer) then refuse fault.RecursionLimit c.cursor.mark
-    else (separate (pass_on 1 (enter x c)) >>= λ d. went (up_to_here c.cursor.mark kind d.1 ∷ []) d.1)
+    else (separate (pass_on 1 (enter x c)) >>= λ d. completed_step (up_to_here c.cursor.mark kind d.1 ∷ []) d.1)
 
 -- `[` or `{`, which may begin a key
-unfoldable pub opening_steps : Context → Kind → ℕ → Core → Steps
+unfoldable pub opening_steps : Context → Kind → ℕ → Core → StepResult
 opening_steps x kind n c = open_collection x kind (go_deeper (save_key n c))
 
 -- behind a collection inside flow, which may be a key, its colon may stand at once
@@ -52,23 +40,31 @@ allow_adjacent c = if in_block c then c else record c { adjacent = c.cursor.mark
 abbrev pub behind_pair : Bool → Marker → Action → List Action
 behind_pair ends m a = if ends then at_mark m tokens.FlowMappingEnd ∷ a ∷ [] else a ∷ []
 
-unfoldable pub close_collection : Bool → Kind → Core → Steps
+unfoldable pub close_collection : Bool → Kind → Core → StepResult
 close_collection ends kind c =
-    separate (pass_on 1 (leave c)) >>= λ d. went (behind_pair ends c.cursor.mark (up_to_here c.cursor.mark kind d.1))
+    separate (pass_on 1 (leave c)) >>= λ d. completed_step
+    (behind_pair ends c.cursor.mark (up_to_here c.cursor.mark kind d.1))
     (allow_adjacent d.1)
 
--- `]` or `}`
-unfoldable pub closing_steps : Bool → Kind → Core → Steps
-closing_steps is_sequence kind c =
-    if in_block c then refuse fault.MisplacedBracket c.cursor.mark
-    else close_collection (is_sequence && ends_pair c.level.context) kind c
+-- a bracket, before which an open pair may end
+unfoldable pub closing_steps : Bool → Kind → Core → StepResult
+closing_steps ends kind c =
+    if in_block c then refuse fault.MisplacedBracket c.cursor.mark else close_collection ends kind c
 
-unfoldable pub next_flow_entry : Core → Steps
+-- `]`
+abbrev pub sequence_end_steps : Core → StepResult
+sequence_end_steps c = closing_steps (ends_pair c.level.context) tokens.FlowSequenceEnd c
+
+-- `}`, before which no pair is open that ends with its entry
+abbrev pub mapping_end_steps : Core → StepResult
+mapping_end_steps c = closing_steps false tokens.FlowMappingEnd c
+
+unfoldable pub next_flow_entry : Core → StepResult
 next_flow_entry c =
     separate (pass_on 1 (with_context (behind_entry c.level.context) (record c { key_allowed = true })))
-    >>= λ d. went (behind_pair (ends_pair c.level.context) c.cursor.mark
+    >>= λ d. completed_step (behind_pair (ends_pair c.level.context) c.cursor.mark
     (up_to_here c.cursor.mark tokens.FlowEntry d.1)) d.1
 
 -- `,`
-unfoldable pub flow_entry_steps : Core → Steps
+unfoldable pub flow_entry_steps : Core → StepResult
 flow_entry_steps c = remove_key c >>= next_flow_entry

@@ -8,22 +8,22 @@ use Rattle.saphyr_scalar.specs.declared.scalar.fault.FaultText.TheVariants as fa
 use Rattle.saphyr_scalar.specs.Views.Cursor.{Cursor, along, next_line, refuse}
 
 -- where the text goes on, and whether a break was met
-pub record Passed : Type 0 where
+pub record GapEnd : Type 0 where
   pub cursor : Cursor
   pub broke : Bool
 
 -- what contracts see of a gap that was passed: whether a break was met, and the reader behind it
-abbrev pub seen_passed : Bool → Cursor → Passed
-seen_passed broke s = record { cursor = s; broke = broke }
+abbrev pub seen_gap_end : Bool → Cursor → GapEnd
+seen_gap_end broke s = record { cursor = s; broke = broke }
 
 -- `tabbed` tells that a tab stood on the line where indentation does, so that nothing else may stand there.
-unfoldable pub stop : Marker → Bool → Bool → Bool → List ℕ → Result Passed Refusal
+unfoldable pub stop : Marker → Bool → Bool → Bool → List ℕ → Result GapEnd Refusal
 stop m blank broke tabbed text =
     if tabbed && is_bom (slice_index text 0) then refuse fault.MisplacedByteOrderMark m
     else if tabbed && not (is_z (slice_index text 0)) then refuse fault.TabInBlockIndentation m
     else Ok (record { cursor = record { rest = text; mark = m; blank_so_far = blank }; broke = broke })
 
-abbrev pub stop_at : Bool → Bool → Cursor → Result Passed Refusal
+abbrev pub stop_at : Bool → Bool → Cursor → Result GapEnd Refusal
 stop_at broke tabbed s = stop s.mark s.blank_so_far broke tabbed s.rest
 
 -- a tab left of the column that content has to reach
@@ -32,7 +32,7 @@ is_tab_indentation least m blank c = (c == tab) && blank && nat_lt m.col least
 
 -- Told character by character. CR before LF counts as a character of its line, and the LF ends the line.
 abbrev mutual
-  pub gap : ℕ → Marker → Bool → Bool → Bool → List ℕ → Result Passed Refusal
+  pub gap : ℕ → Marker → Bool → Bool → Bool → List ℕ → Result GapEnd Refusal
   gap least m blank broke tabbed [] = stop m blank broke tabbed []
   gap least m blank broke tabbed (c ∷ cs) =
       if is_blank c || ((c == carriage_return) && (slice_index cs 0 == line_feed)) then
@@ -42,7 +42,7 @@ abbrev mutual
       else stop m blank broke tabbed (c ∷ cs)
 
   -- behind the `#` of a comment
-  pub comment : ℕ → Marker → Bool → Bool → Bool → List ℕ → Result Passed Refusal
+  pub comment : ℕ → Marker → Bool → Bool → Bool → List ℕ → Result GapEnd Refusal
   comment least m blank broke tabbed [] = stop m blank broke tabbed []
   comment least m blank broke tabbed (c ∷ cs) =
       if is_yaml_non_break c then comment least (along m 1) blank broke tabbed cs
@@ -50,39 +50,43 @@ abbrev mutual
       else if is_break c then gap least (next_line m 1) true true false cs
       else stop m blank broke tabbed (c ∷ cs)
 
-abbrev pub gap_at : ℕ → Bool → Bool → Cursor → Result Passed Refusal
+abbrev pub gap_at : ℕ → Bool → Bool → Cursor → Result GapEnd Refusal
 gap_at least broke tabbed s = gap least s.mark s.blank_so_far broke tabbed s.rest
 
 -- what stands between two tokens is passed, where content has to reach a column
-abbrev pub passed_gap : ℕ → Cursor → Result Passed Refusal
-passed_gap least s = gap_at least false false s
+abbrev pub whole_gap : ℕ → Cursor → Result GapEnd Refusal
+whole_gap least s = gap_at least false false s
 
 -- ## Behind `?`: spaces, breaks and comments (8.2.2), of which something has to stand there
 
-pub record Spaced : Type 0 where
+pub record SpacesEnd : Type 0 where
   pub cursor : Cursor
   pub space : Bool
 
-abbrev pub spaced : Marker → Bool → Bool → List ℕ → Spaced
-spaced m blank found text = record { cursor = record { rest = text; mark = m; blank_so_far = blank }; space = found }
+abbrev pub spaces_end : Marker → Bool → Bool → List ℕ → SpacesEnd
+spaces_end m blank found text = record {
+  cursor = record { rest = text; mark = m; blank_so_far = blank };
+  space =
+      found;
+}
 
 abbrev mutual
-  pub spaces : Marker → Bool → Bool → List ℕ → Spaced
-  spaces m blank found [] = spaced m blank found []
+  pub spaces : Marker → Bool → Bool → List ℕ → SpacesEnd
+  spaces m blank found [] = spaces_end m blank found []
   spaces m blank found (c ∷ cs) =
       if (c == space) || ((c == carriage_return) && (slice_index cs 0 == line_feed)) then
       spaces (along m 1) blank true cs
       else if is_break c then spaces (next_line m 1) true true cs
       else if c == number_sign then line_comment (along m 1) blank found cs
-      else spaced m blank found (c ∷ cs)
+      else spaces_end m blank found (c ∷ cs)
 
-  pub line_comment : Marker → Bool → Bool → List ℕ → Spaced
-  line_comment m blank found [] = spaced m blank found []
+  pub line_comment : Marker → Bool → Bool → List ℕ → SpacesEnd
+  line_comment m blank found [] = spaces_end m blank found []
   line_comment m blank found (c ∷ cs) =
       if is_yaml_non_break c then line_comment (along m 1) blank found cs
       else if (c == carriage_return) && (slice_index cs 0 == line_feed) then spaces (along m 1) blank true cs
       else if is_break c then spaces (next_line m 1) true true cs
-      else spaced m blank found (c ∷ cs)
+      else spaces_end m blank found (c ∷ cs)
 
-abbrev pub spaces_at : Bool → Cursor → Spaced
+abbrev pub spaces_at : Bool → Cursor → SpacesEnd
 spaces_at found s = spaces s.mark s.blank_so_far found s.rest

@@ -9,7 +9,7 @@ use Rattle.saphyr_scalar.specs.declared.scalar.fault.Refusal.{Refusal}
 use Rattle.saphyr_scalar.specs.declared.scalar.fault.FaultText.TheVariants as fault
 use Rattle.saphyr_scalar.specs.Views.Cursor.{Cursor, ◌>>=◌, refuse, separation, pass}
 use Rattle.saphyr_scanner.specs.Steps.Gap as gap
-use Rattle.saphyr_scanner.specs.Steps.Gap.{Passed}
+use Rattle.saphyr_scanner.specs.Steps.Gap.{GapEnd}
 use Rattle.saphyr_scanner.specs.Steps.Core.{Core, in_block, least_column}
 
 abbrev pub with_cursor : Cursor → Core → Core
@@ -31,18 +31,18 @@ goes_on_behind comment c =
     && not (is_z (slice_index c.cursor.rest 0)) && not ((c.cursor.mark.col == 0) && is_document_indicator c.cursor.rest)
     && can_be_plain false c.cursor.rest
 
-abbrev pub intercepts : Option Marker → Core → Result Core Refusal
-intercepts None c = Ok c
-intercepts (Some m) c = let d =
+abbrev pub check_comment_of : Option Marker → Core → Result Core Refusal
+check_comment_of None c = Ok c
+check_comment_of (Some m) c = let d =
     record c { comment = None } in if goes_on_behind m d then refuse fault.CommentInsideText m else Ok d
 
 unfoldable pub check_comment : Core → Result Core Refusal
-check_comment c = intercepts c.comment c
+check_comment c = check_comment_of c.comment c
 
 -- Behind a break a key may stand, outside flow.
-abbrev pub behind_gap : Core → Passed → Core
+abbrev pub behind_gap : Core → GapEnd → Core
 behind_gap c g = record c { cursor = g.cursor; key_allowed = (g.broke && in_block c) || c.key_allowed }
 
 -- what stands between two tokens is passed
 unfoldable pub pass_gap : Core → Result Core Refusal
-pass_gap c = gap.passed_gap (least_column c) c.cursor >>= λ g. check_comment (behind_gap c g)
+pass_gap c = gap.whole_gap (least_column c) c.cursor >>= λ g. check_comment (behind_gap c g)

@@ -31,20 +31,20 @@ is_empty q = is_empty_list q.places
 abbrev pub next : Queue → ℕ
 next q = q.handed + length q.places
 
-abbrev pub closed : Piece → Place
-closed t = record { opening = opening.Nothing; piece = t }
+abbrev pub bare_place : Piece → Place
+bare_place t = record { opening = opening.Nothing; piece = t }
 
-abbrev pub put : Piece → Queue → Queue
-put t q = record q { places = q.places ++ closed t ∷ [] }
+abbrev pub with_piece : Piece → Queue → Queue
+with_piece t q = record q { places = q.places ++ bare_place t ∷ [] }
 
 -- at the nth of the places stands this in front of the token
-abbrev pub opened : ℕ → Opening → List Place → List Place
-opened n o [] = []
-opened zero o (p ∷ ps) = record { opening = o; piece = p.piece } ∷ ps
-opened (suc n) o (p ∷ ps) = p ∷ opened n o ps
+abbrev pub places_with_opening : ℕ → Opening → List Place → List Place
+places_with_opening n o [] = []
+places_with_opening zero o (p ∷ ps) = record { opening = o; piece = p.piece } ∷ ps
+places_with_opening (suc n) o (p ∷ ps) = p ∷ places_with_opening n o ps
 
 abbrev pub with_opening : ℕ → Opening → Queue → Queue
-with_opening n o q = record q { places = opened (n - q.handed) o q.places }
+with_opening n o q = record q { places = places_with_opening (n - q.handed) o q.places }
 
 -- a token without characters
 abbrev pub empty_piece : Marker → Kind → Piece

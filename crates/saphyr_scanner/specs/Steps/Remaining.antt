@@ -6,7 +6,7 @@ use Rattle.saphyr_scanner.specs.declared.queue.Opening.{Opening}
 use Rattle.saphyr_scanner.specs.declared.queue.Opening.TheVariants as opening
 use Rattle.saphyr_scanner.specs.Grammar.Tokens as tokens
 use Rattle.saphyr_scanner.specs.Grammar.Tokens.{Kind}
-use Rattle.saphyr_scanner.specs.Views.Tokens.{Piece, Remaining, none, refused, before}
+use Rattle.saphyr_scanner.specs.Views.Tokens.{Piece, Remaining, none, refusal_alone, before}
 use Rattle.saphyr_scanner.specs.Steps.Queue.{Place, empty_piece}
 use Rattle.saphyr_scanner.specs.Steps.State.{State, start}
 use Rattle.saphyr_scanner.specs.Steps.Fetch.{needs_token, fetch_within, without_far_key, size}
@@ -31,18 +31,18 @@ hand_out [] go s = go s
 hand_out (p ∷ ps) go s =
     if needs_token s then go s else before_place p.opening p.piece (hand_out ps go (without_first ps s))
 
-abbrev pub delivered : Result State Refusal → (State → Remaining) → Remaining
-delivered (Ok s) go = go s
-delivered (Err e) go = refused e
+abbrev pub remaining_after : Result State Refusal → (State → Remaining) → Remaining
+remaining_after (Ok s) go = go s
+remaining_after (Err e) go = refusal_alone e
 
 -- the tokens that come where n more are read at most
 abbrev pub run : ℕ → ℕ → State → Remaining
 run zero limit s = none
 run (suc n) limit s = hand_out s.queue.places
-    (λ t. if t.core.ended then none else delivered (fetch_within limit t >>= without_far_key) (run n limit)) s
+    (λ t. if t.core.ended then none else remaining_after (fetch_within limit t >>= without_far_key) (run n limit)) s
 
 unfoldable pub remaining : ℕ → State → Remaining
-remaining limit s = delivered (without_far_key s) (λ t. run (suc (size t.core)) limit t)
+remaining limit s = remaining_after (without_far_key s) (λ t. run (suc (size t.core)) limit t)
 
 -- the tokens of a text
 abbrev pub scan : ℕ → List ℕ → Remaining

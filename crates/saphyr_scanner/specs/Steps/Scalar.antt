@@ -13,7 +13,7 @@ use Rattle.saphyr_scalar.specs.Steps.Block as blocks
 use Rattle.scalar_values.specs.declared.block.BlockStyle.{BlockStyle}
 use Rattle.scalar_values.specs.declared.block.BlockStyle.TheVariants as block_style
 use Rattle.saphyr_scanner.specs.Grammar.Tokens as tokens
-use Rattle.saphyr_scanner.specs.Steps.Core.{Core, Steps, went, from_to, in_block, least_column, save_key}
+use Rattle.saphyr_scanner.specs.Steps.Core.{Core, StepResult, completed_step, from_to, in_block, least_column, save_key}
 use Rattle.saphyr_scanner.specs.Steps.Passing.{separate, pass_gap, with_cursor}
 
 -- no key may begin at the next token
@@ -21,8 +21,7 @@ abbrev pub disallow_key : Core → Core
 disallow_key c = record c { key_allowed = false }
 
 -- What may stand behind a quoted scalar that began at a place: the line's end, a colon (outside flow on the scalar's
--- own line),
--- and what ends an entry in flow.
+-- own line), and what ends an entry in flow.
 unfoldable pub goes_on_behind_quotes : Marker → Core → Bool
 goes_on_behind_quotes start c =
     let x = slice_index c.cursor.rest 0 in
@@ -33,55 +32,56 @@ goes_on_behind_quotes start c =
 abbrev pub adjacent_here : Core → Core
 adjacent_here c = record c { adjacent = c.cursor.mark.index }
 
-abbrev pub behind_line : Marker → ScalarStyle → List ℕ → Core → Steps
-behind_line start style text c =
+abbrev pub behind_quoted_line : Marker → ScalarStyle → List ℕ → Core → StepResult
+behind_quoted_line start style text c =
     if goes_on_behind_quotes start c
-    then (pass_gap c >>= λ d. went (from_to start c.cursor.mark (tokens.Scalar style text) ∷ []) (adjacent_here d))
+    then (pass_gap c >>= λ d. completed_step (from_to start c.cursor.mark (tokens.Scalar style text) ∷ [])
+    (adjacent_here d))
     else refuse fault.ContentAfterQuotes c.cursor.mark
 
 -- what stands behind a quoted scalar
-unfoldable pub behind_quotes : Marker → ScalarStyle → List ℕ → Core → Steps
-behind_quotes start style text c = separate c >>= λ d. behind_line start style text d.1
+unfoldable pub behind_quotes : Marker → ScalarStyle → List ℕ → Core → StepResult
+behind_quotes start style text c = separate c >>= λ d. behind_quoted_line start style text d.1
 
-unfoldable pub read_double_quoted : Core → Steps
+unfoldable pub read_double_quoted : Core → StepResult
 read_double_quoted c = quoted.double_quoted (least_column c) c.cursor >>= λ x. behind_quotes c.cursor.mark DoubleQuoted
     x.0 (with_cursor x.1 c)
 
 -- a double quoted scalar
-unfoldable pub double_quoted_steps : ℕ → Core → Steps
+unfoldable pub double_quoted_steps : ℕ → Core → StepResult
 double_quoted_steps n c = read_double_quoted (disallow_key (save_key n c))
 
-unfoldable pub read_single_quoted : Core → Steps
+unfoldable pub read_single_quoted : Core → StepResult
 read_single_quoted c = quoted.single_quoted (least_column c) c.cursor >>= λ x. behind_quotes c.cursor.mark SingleQuoted
     x.0 (with_cursor x.1 c)
 
 -- a single quoted scalar
-unfoldable pub single_quoted_steps : ℕ → Core → Steps
+unfoldable pub single_quoted_steps : ℕ → Core → StepResult
 single_quoted_steps n c = read_single_quoted (disallow_key (save_key n c))
 
 -- behind a plain scalar: a key may begin where its line has ended, and a comment may have ended it
 abbrev pub behind_plain : Option Marker → Cursor → Core → Core
 behind_plain comment s c = record c { cursor = s; key_allowed = s.blank_so_far; comment = comment }
 
-unfoldable pub read_plain : Core → Steps
+unfoldable pub read_plain : Core → StepResult
 read_plain c =
     if not (in_block c) && nat_lt c.cursor.mark.col c.indent then refuse fault.FlowIndentation c.cursor.mark
-    else (words.plain (not (in_block c)) c.indent c.cursor >>= λ x. went
+    else (words.plain (not (in_block c)) c.indent c.cursor >>= λ x. completed_step
     (from_to c.cursor.mark x.1 (tokens.Scalar Plain x.0) ∷ []) (behind_plain x.2 x.3 c))
 
 -- a plain scalar
-unfoldable pub plain_steps : ℕ → Core → Steps
+unfoldable pub plain_steps : ℕ → Core → StepResult
 plain_steps n c = read_plain (record (disallow_key (save_key n c)) { deeper = false })
 
 abbrev pub style_of : BlockStyle → ScalarStyle
 style_of block_style.Literal = Literal
 style_of block_style.Folded = Folded
 
-unfoldable pub read_block : BlockStyle → Core → Steps
+unfoldable pub read_block : BlockStyle → Core → StepResult
 read_block style c =
-    blocks.block_scalar style c.indent c.cursor >>= λ x. went
+    blocks.block_scalar style c.indent c.cursor >>= λ x. completed_step
     (from_to x.1.start x.1.end (tokens.Scalar (style_of style) x.0) ∷ []) (with_cursor x.2 c)
 
 -- a block scalar, behind which a key may begin
-unfoldable pub block_scalar_steps : BlockStyle → ℕ → Core → Steps
+unfoldable pub block_scalar_steps : BlockStyle → ℕ → Core → StepResult
 block_scalar_steps style n c = read_block style (record (save_key n c) { key_allowed = true; deeper = false })

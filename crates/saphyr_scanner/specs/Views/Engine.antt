@@ -8,8 +8,9 @@ use Rattle.saphyr_scanner.specs.declared.engine.Engine.{Engine}
 use Rattle.saphyr_scanner.specs.declared.engine.level.Candidate as declared_candidate
 use Rattle.saphyr_scanner.specs.declared.engine.level.Level as declared_level
 use Rattle.saphyr_scanner.specs.Views.Queue.{queue}
-use Rattle.saphyr_scanner.specs.Steps.Core.{Candidate, Level, Core, Steps}
-use Rattle.saphyr_scanner.specs.Steps.State.{State, acted, carried}
+use Rattle.saphyr_scanner.specs.Steps.Core.{Core, StepResult}
+use Rattle.saphyr_scanner.specs.Steps.Level.{Candidate, Level}
+use Rattle.saphyr_scanner.specs.Steps.State.{State, after_step, on_core}
 
 abbrev pub candidate : declared_candidate.Candidate → Candidate
 candidate k = record { mark = k.mark; place = k.place }
@@ -47,13 +48,13 @@ MovesBy f old result new = reader.Moves (λ _. state new) result (f (state old))
 abbrev pub CarriesBy
     : {T : Type 0} {g : Ghosts T}
     → (Core → Result Core Refusal) → Engine T g → Result Unit Stop → Engine T g → Type 0
-CarriesBy f = MovesBy (λ s. carried (f s.core) s.queue)
+CarriesBy f = MovesBy (λ s. on_core (f s.core) s.queue)
 
 -- the same of a function on the core that tells what it does to the queue
 abbrev pub ActsBy
     : {T : Type 0} {g : Ghosts T}
-    → (Core → Steps) → Engine T g → Result Unit Stop → Engine T g → Type 0
-ActsBy f = MovesBy (λ s. acted (f s.core) s.queue)
+    → (Core → StepResult) → Engine T g → Result Unit Stop → Engine T g → Type 0
+ActsBy f = MovesBy (λ s. after_step (f s.core) s.queue)
 
 -- what a call answers by `true`, or by `false` and the stop that the engine keeps
 abbrev pub answer_of : Bool → Stop → Result Unit Stop

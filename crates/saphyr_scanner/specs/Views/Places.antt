@@ -15,7 +15,7 @@ use Rattle.saphyr_scanner.specs.declared.queue.Opening.{Opening}
 use Rattle.saphyr_scanner.specs.Grammar.Tokens as tokens
 use Rattle.saphyr_scanner.specs.Grammar.Tokens.{Kind}
 use Rattle.saphyr_scanner.specs.Views.Tokens.{Piece, piece}
-use Rattle.saphyr_scanner.specs.Steps.Queue.{Place, closed}
+use Rattle.saphyr_scanner.specs.Steps.Queue.{Place, bare_place}
 
 abbrev pub near_marker : NearMarker → Marker
 near_marker m = record { index = m.index; line = m.line; col = m.col }
@@ -58,8 +58,8 @@ abbrev pub IsHeldText : List ℕ → TextPlace → Type 0
 IsHeldText bytes t = (t.start + t.count ≤ length bytes) × ∥ IsUtf8 (text_at bytes t) ∥₁
 
 -- At the place this text stands.
-abbrev pub IsKept : List ℕ → List ℕ → TextPlace → Type 0
-IsKept bytes text t = IsHeldText bytes t × (text_at bytes t ≡ text)
+abbrev pub IsHeldAs : List ℕ → List ℕ → TextPlace → Type 0
+IsHeldAs bytes text t = IsHeldText bytes t × (text_at bytes t ≡ text)
 
 -- What stood before stands there still, maybe with more behind it.
 abbrev pub GrowsBehind : List ℕ → List ℕ → Type 0
@@ -89,8 +89,8 @@ place bytes (Tagged o n m tag) =
 place bytes (Whole o t) = record { opening = o; piece = piece t.value }
 
 -- It is the place of this token, with nothing in front of it.
-abbrev pub IsPlaceOf : List ℕ → Piece → declared_place.Place → Type 0
-IsPlaceOf bytes t p = HasHeldText bytes p × (place bytes p ≡ closed t)
+abbrev pub IsBarePlaceOf : List ℕ → Piece → declared_place.Place → Type 0
+IsBarePlaceOf bytes t p = HasHeldText bytes p × (place bytes p ≡ bare_place t)
 
 -- It is seen as the other place, over whatever texts.
 abbrev pub IsCopyOfPlace : declared_place.Place → declared_place.Place → Type 0

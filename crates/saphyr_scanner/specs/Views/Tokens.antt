@@ -51,8 +51,8 @@ pub record Remaining : Type 0 where
 abbrev pub none : Remaining
 none = record { pieces = []; refusal = None }
 
-abbrev pub refused : Refusal → Remaining
-refused e = record { pieces = []; refusal = Some e }
+abbrev pub refusal_alone : Refusal → Remaining
+refusal_alone e = record { pieces = []; refusal = Some e }
 
 abbrev pub before : Piece → Remaining → Remaining
 before t r = record { pieces = t ∷ r.pieces; refusal = r.refusal }
@@ -72,4 +72,4 @@ abbrev pub Hands : Result (Option Token) Stop → Remaining → Remaining → Ty
 Hands (Ok (Some t)) old new = old ≡ before (piece t) new
 Hands (Ok None) old new = (old ≡ none) × (new ≡ none)
 Hands (Err stop.OutOfMemory) old new = Unit {0}
-Hands (Err (stop.Refused e)) old new = old ≡ refused e
+Hands (Err (stop.Refused e)) old new = old ≡ refusal_alone e

@@ -5,25 +5,12 @@ ghost use Rattle.std.specs.Prelude.{◌≡◌, Ok, ◌<◌, length};
 ghost use Rattle.saphyr_scanner.specs.Steps.Block as block;
 ghost use Rattle.saphyr_scanner.specs.Steps.State as spec_state;
 
-use crate::engine::{Context, Engine};
+use crate::engine::Engine;
 use crate::gap::skip_spaces;
 use crate::token::TokenType;
 use saphyr_input::char_traits::{is_blank_or_breakz, is_break, is_flow};
 use saphyr_input::input::{Input, SkipTabs};
 use saphyr_scalar::{FaultText, Stop};
-
-impl Context {
-    // What is open behind `?`.
-    fn behind_question(self) -> Context
-        ensures { result ≡ block.behind_question self }
-    {
-        match self {
-            Context::FlowSequence => Context::ExplicitFlowPair,
-            Context::FlowPair => Context::MarkedFlowPair,
-            other => other,
-        }
-    }
-}
 
 impl<T: Input> Engine<T> {
     ghost use Rattle.saphyr_scanner.specs.Views.Engine.{state, ActsBy, CarriesBy};

@@ -4,27 +4,13 @@
 ghost use Rattle.std.specs.Prelude.{◌≡◌, ◌<◌, Ok, length, slice_index, option_map};
 ghost use Rattle.saphyr_scanner.specs.Steps.Fetch as fetch;
 
-use crate::engine::{Context, Engine, Level};
+use crate::engine::{Context, Engine};
 use crate::law::takes_characters_off;
 use crate::token::{Token, TokenType};
 use saphyr_input::char_traits::{is_blank_or_breakz, is_bom, is_flow, is_z};
 use saphyr_input::input::Input;
 use saphyr_scalar::{FaultText, Stop};
 use scalar_values::BlockStyle;
-
-impl Level {
-    ghost use Rattle.saphyr_scanner.specs.Views.Engine.{level};
-
-    // Whether the token at a place may be a key.
-    fn holds(&self, place: usize) -> bool
-        ensures { result ≡ fetch.holds place (level self.now) }
-    {
-        match self.key {
-            None => false,
-            Some(key) => key.place == place,
-        }
-    }
-}
 
 impl<T: Input> Engine<T> {
     ghost use Rattle.saphyr_scalar.specs.Views.Reader.{Moves};
@@ -101,8 +87,8 @@ impl<T: Input> Engine<T> {
         match c {
             '[' => self.fetch_flow_start(Context::FlowSequence, TokenType::FlowSequenceStart)?,
             '{' => self.fetch_flow_start(Context::FlowMapping, TokenType::FlowMappingStart)?,
-            ']' => self.fetch_flow_end(true, TokenType::FlowSequenceEnd)?,
-            '}' => self.fetch_flow_end(false, TokenType::FlowMappingEnd)?,
+            ']' => self.fetch_sequence_end()?,
+            '}' => self.fetch_mapping_end()?,
             ',' => self.fetch_flow_entry()?,
             '-' if is_blank_or_breakz(next) => self.fetch_block_entry()?,
             '?' if is_blank_or_breakz(next) => self.fetch_key()?,
@@ -110,8 +96,8 @@ impl<T: Input> Engine<T> {
             ':' if self.is_value_adjacent(next) => self.fetch_flow_value(next)?,
             '"' => self.fetch_double_quoted()?,
             '\'' => self.fetch_single_quoted()?,
-            '*' => self.fetch_name(true)?,
-            '&' => self.fetch_name(false)?,
+            '*' => self.fetch_alias()?,
+            '&' => self.fetch_anchor()?,
             '!' => self.fetch_tag()?,
             '|' if self.in_block() => self.fetch_block_scalar(BlockStyle::Literal)?,
             '>' if self.in_block() => self.fetch_block_scalar(BlockStyle::Folded)?,

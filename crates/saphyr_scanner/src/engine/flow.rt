@@ -1,6 +1,6 @@
 //! Flow collections: their brackets, and the commas between their entries (YAML 1.2.2, 7.4).
 
-ghost use Rattle.std.specs.Prelude.{◌≡◌, Ok, ◌<◌, length};
+ghost use Rattle.std.specs.Prelude.{◌≡◌, Ok, false, ◌<◌, length};
 ghost use Rattle.saphyr_scanner.specs.Steps.Flow as flow;
 ghost use Rattle.saphyr_scanner.specs.Steps.State as spec_state;
 
@@ -11,35 +11,6 @@ use saphyr_scalar::{FaultText, Stop};
 
 // How many flow collections may be open at once.
 const MOST_OPEN: usize = 255;
-
-impl Context {
-    // Whether a pair is open that ends with its entry.
-    fn ends_pair(self) -> bool
-        ensures { result ≡ flow.ends_pair self }
-    {
-        match self {
-            Context::FlowPair | Context::MarkedFlowPair => true,
-            Context::Block
-            | Context::FlowMapping
-            | Context::FlowSequence
-            | Context::ExplicitFlowPair => false,
-        }
-    }
-
-    // What is open behind a comma.
-    fn behind_entry(self) -> Context
-        ensures { result ≡ flow.behind_entry self }
-    {
-        match self {
-            Context::Block => Context::Block,
-            Context::FlowMapping => Context::FlowMapping,
-            Context::FlowSequence
-            | Context::FlowPair
-            | Context::ExplicitFlowPair
-            | Context::MarkedFlowPair => Context::FlowSequence,
-        }
-    }
-}
 
 impl<T: Input> Engine<T> {
     ghost use Rattle.saphyr_scanner.specs.Views.Engine.{state, ActsBy, CarriesBy};
@@ -97,20 +68,14 @@ impl<T: Input> Engine<T> {
         Ok(())
     }
 
-    // `]` or `}`.
+    // The innermost flow collection ends with the bracket that stands here.
     #[inline(always)]
-    #[tactic(auto, unfolding(crate::specs::Steps::Flow::closing_steps, crate::specs::Steps::Flow::close_collection))]
-    pub(super) fn fetch_flow_end(&mut self, is_sequence: bool, kind: TokenType) -> Result<(), Stop>
+    #[tactic(auto, unfolding(crate::specs::Steps::Flow::close_collection))]
+    fn close_collection(&mut self, kind: TokenType) -> Result<(), Stop>
         requires { 0 < length (state self.old).core.cursor.rest }
-        ensures { ActsBy (flow.closing_steps is_sequence (kind_of kind)) self.old result self.new }
+        ensures { ActsBy (flow.close_collection false (kind_of kind)) self.old result self.new }
     {
-        if self.in_block() {
-            return Err(self.refuse_here(FaultText::MisplacedBracket));
-        }
         let start = self.reader.mark();
-        if is_sequence && self.level.context.ends_pair() {
-            self.put_empty(start, TokenType::FlowMappingEnd)?;
-        }
         self.leave();
         self.reader.skip_non_blank();
         self.separate()?;
@@ -118,6 +83,38 @@ impl<T: Input> Engine<T> {
             self.adjacent = self.reader.mark().index;
         }
         self.put_from(start, kind)?;
+        Ok(())
+    }
+
+    // `]`. An open pair that has no bracket of its own ends before it.
+    #[inline(always)]
+    #[tactic(auto, unfolding(crate::specs::Steps::Flow::closing_steps, crate::specs::Steps::Flow::close_collection))]
+    pub(super) fn fetch_sequence_end(&mut self) -> Result<(), Stop>
+        requires { 0 < length (state self.old).core.cursor.rest }
+        ensures { ActsBy flow.sequence_end_steps self.old result self.new }
+    {
+        if self.in_block() {
+            return Err(self.refuse_here(FaultText::MisplacedBracket));
+        }
+        if self.level.context.ends_pair() {
+            let end = self.reader.mark();
+            self.put_empty(end, TokenType::FlowMappingEnd)?;
+        }
+        self.close_collection(TokenType::FlowSequenceEnd)?;
+        Ok(())
+    }
+
+    // `}`.
+    #[inline(always)]
+    #[tactic(auto, unfolding(crate::specs::Steps::Flow::closing_steps))]
+    pub(super) fn fetch_mapping_end(&mut self) -> Result<(), Stop>
+        requires { 0 < length (state self.old).core.cursor.rest }
+        ensures { ActsBy flow.mapping_end_steps self.old result self.new }
+    {
+        if self.in_block() {
+            return Err(self.refuse_here(FaultText::MisplacedBracket));
+        }
+        self.close_collection(TokenType::FlowMappingEnd)?;
         Ok(())
     }
 

@@ -86,7 +86,7 @@ impl<T: Input> Engine<T> {
     // to stand right of it.
     fn go_less_deep(&mut self, column: Option<usize>)
         ensures { state self.new ≡ spec_state.with_core
-            (unrolling.less_deep column (state self.old).core) (state self.old) }
+            (unrolling.go_less_deep column (state self.old).core) (state self.old) }
     {
         self.deeper = match column {
             None => false,

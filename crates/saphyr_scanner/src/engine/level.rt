@@ -1,7 +1,7 @@
 //! What is open at a place of the text, and which token there may be a key.
 
 ghost use Rattle.std.specs.Prelude.{◌≡◌, ◌<◌, ◌+◌, ◌^◌};
-ghost use Rattle.saphyr_scanner.specs.Steps.Core as spec;
+ghost use Rattle.saphyr_scanner.specs.Steps.Level as spec;
 
 use saphyr_scalar::Marker;
 
@@ -23,7 +23,7 @@ pub(crate) enum Context {
 }
 
 impl Context {
-    pub(crate) fn is_block(self) -> bool
+    pub(super) fn is_block(self) -> bool
         ensures { result ≡ spec.is_block self }
     {
         match self {
@@ -33,6 +33,67 @@ impl Context {
             | Context::FlowPair
             | Context::ExplicitFlowPair
             | Context::MarkedFlowPair => false,
+        }
+    }
+
+    // Whether a pair is open that ends with its entry.
+    pub(super) fn ends_pair(self) -> bool
+        ensures { result ≡ spec.ends_pair self }
+    {
+        match self {
+            Context::FlowPair | Context::MarkedFlowPair => true,
+            Context::Block
+            | Context::FlowMapping
+            | Context::FlowSequence
+            | Context::ExplicitFlowPair => false,
+        }
+    }
+
+    // What is open behind a comma.
+    pub(super) fn behind_entry(self) -> Context
+        ensures { result ≡ spec.behind_entry self }
+    {
+        match self {
+            Context::Block => Context::Block,
+            Context::FlowMapping => Context::FlowMapping,
+            Context::FlowSequence
+            | Context::FlowPair
+            | Context::ExplicitFlowPair
+            | Context::MarkedFlowPair => Context::FlowSequence,
+        }
+    }
+
+    // What is open behind `?`.
+    pub(super) fn behind_question(self) -> Context
+        ensures { result ≡ spec.behind_question self }
+    {
+        match self {
+            Context::FlowSequence => Context::ExplicitFlowPair,
+            Context::FlowPair => Context::MarkedFlowPair,
+            other => other,
+        }
+    }
+
+    // Whether a colon begins a pair that has no bracket of its own.
+    pub(super) fn begins_pair(self) -> bool
+        ensures { result ≡ spec.begins_pair self }
+    {
+        match self {
+            Context::FlowSequence | Context::FlowPair => true,
+            Context::Block
+            | Context::FlowMapping
+            | Context::ExplicitFlowPair
+            | Context::MarkedFlowPair => false,
+        }
+    }
+
+    // What is open behind a colon.
+    pub(super) fn behind_colon(self) -> Context
+        ensures { result ≡ spec.behind_colon self }
+    {
+        match self {
+            Context::FlowSequence => Context::FlowPair,
+            other => other,
         }
     }
 }
@@ -54,4 +115,18 @@ pub(crate) struct Level {
     pub(super) context: Context,
     // The token with which the last node began that may be a key, until its colon comes or can't come any more.
     pub(super) key: Option<Candidate>,
+}
+
+impl Level {
+    ghost use Rattle.saphyr_scanner.specs.Views.Engine.{level};
+
+    // Whether the token at a place may be a key.
+    pub(super) fn holds(&self, place: usize) -> bool
+        ensures { result ≡ spec.holds place (level self.now) }
+    {
+        match self.key {
+            None => false,
+            Some(key) => key.place == place,
+        }
+    }
 }

@@ -13,23 +13,33 @@ impl<T: Input> Engine<T> {
     ghost use Rattle.saphyr_scanner.specs.Views.Engine.{state, ActsBy};
     ghost use Rattle.saphyr_scanner.specs.Steps.Queue.{next};
 
-    // `&` and an anchor's name, or `*` and an alias's.
+    // `&` and an anchor's name.
     #[tactic(auto, unfolding(crate::specs::Steps::Property::name_steps, crate::specs::Steps::Property::read_name))]
-    pub(super) fn fetch_name(&mut self, is_alias: bool) -> Result<(), Stop>
+    pub(super) fn fetch_anchor(&mut self) -> Result<(), Stop>
         requires { 0 < length (state self.old).core.cursor.rest }
-        ensures { ActsBy (property.name_steps is_alias (next (state self.old).queue))
+        ensures { ActsBy (property.anchor_steps (next (state self.old).queue))
             self.old result self.new }
     {
         self.save_key()?;
         self.key_allowed = false;
         let start = self.reader.mark();
         let name = self.reader.read_anchor(self.alloc)?;
-        let kind = if is_alias {
-            TokenType::Alias(name)
-        } else {
-            TokenType::Anchor(name)
-        };
-        self.put_from(start, kind)?;
+        self.put_from(start, TokenType::Anchor(name))?;
+        Ok(())
+    }
+
+    // `*` and an alias's name.
+    #[tactic(auto, unfolding(crate::specs::Steps::Property::name_steps, crate::specs::Steps::Property::read_name))]
+    pub(super) fn fetch_alias(&mut self) -> Result<(), Stop>
+        requires { 0 < length (state self.old).core.cursor.rest }
+        ensures { ActsBy (property.alias_steps (next (state self.old).queue))
+            self.old result self.new }
+    {
+        self.save_key()?;
+        self.key_allowed = false;
+        let start = self.reader.mark();
+        let name = self.reader.read_anchor(self.alloc)?;
+        self.put_from(start, TokenType::Alias(name))?;
         Ok(())
     }
 

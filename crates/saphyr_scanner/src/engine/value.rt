@@ -4,37 +4,12 @@
 ghost use Rattle.std.specs.Prelude.{◌≡◌, Ok, ◌+◌, ◌<◌, ◌^◌, length};
 ghost use Rattle.saphyr_scanner.specs.Steps.Value as value;
 
-use crate::engine::{Candidate, Context, Engine};
+use crate::engine::{Candidate, Engine};
 use crate::queue::Opening;
 use crate::token::TokenType;
 use saphyr_input::char_traits::is_alpha;
 use saphyr_input::input::Input;
 use saphyr_scalar::{FaultText, Marker, Stop};
-
-impl Context {
-    // Whether a colon begins a pair that has no bracket of its own.
-    fn begins_pair(self) -> bool
-        ensures { result ≡ value.begins_pair self }
-    {
-        match self {
-            Context::FlowSequence | Context::FlowPair => true,
-            Context::Block
-            | Context::FlowMapping
-            | Context::ExplicitFlowPair
-            | Context::MarkedFlowPair => false,
-        }
-    }
-
-    // What is open behind a colon.
-    fn behind_colon(self) -> Context
-        ensures { result ≡ value.behind_colon self }
-    {
-        match self {
-            Context::FlowSequence => Context::FlowPair,
-            other => other,
-        }
-    }
-}
 
 impl<T: Input> Engine<T> {
     ghost use Rattle.saphyr_scanner.specs.Views.Engine.{state, candidate, ActsBy, CarriesBy};
@@ -78,14 +53,15 @@ impl<T: Input> Engine<T> {
 
     // The candidate is the colon's key.
     #[inline(always)]
-    #[tactic(auto, unfolding(crate::specs::Steps::Value::of_key))]
+    #[tactic(auto, unfolding(crate::specs::Steps::Value::value_of_key))]
     fn fetch_value_of(
         &mut self,
         key: Candidate,
         begins_pair: bool,
         start: Marker,
     ) -> Result<(), Stop>
-        ensures { ActsBy (value.of_key (candidate key) begins_pair start) self.old result self.new }
+        ensures { ActsBy (value.value_of_key (candidate key) begins_pair start)
+            self.old result self.new }
     {
         if begins_pair && key.mark.line < start.line {
             return Err(Self::refuse(FaultText::MisplacedColon, start));
@@ -107,10 +83,10 @@ impl<T: Input> Engine<T> {
     }
 
     // The colon has no key on its line, or a key that `?` began.
-    #[tactic(auto, unfolding(crate::specs::Steps::Value::alone, crate::specs::Steps::Value::begin_alone))]
+    #[tactic(auto, unfolding(crate::specs::Steps::Value::value_alone, crate::specs::Steps::Value::opening_actions))]
     fn fetch_value_alone(&mut self, begins_pair: bool, start: Marker) -> Result<(), Stop>
         requires { start.col + 1 < 2 ^ 64 }
-        ensures { ActsBy (value.alone begins_pair start) self.old result self.new }
+        ensures { ActsBy (value.value_alone begins_pair start) self.old result self.new }
     {
         if begins_pair {
             self.put_empty(start, TokenType::FlowMappingStart)?;

@@ -71,7 +71,7 @@ impl Held {
         spare: &mut Spare,
     ) -> Result<(), AllocError>
         ensures { OnOk result (held_places self.new ≡ held_places self.old
-            ++ spec.closed (record { span = span.now; kind = kind_of kind }) ∷ []) }
+            ++ spec.bare_place (record { span = span.now; kind = kind_of kind }) ∷ []) }
     {
         self.clear_texts();
         self.places.reserve(1)?;
@@ -82,7 +82,8 @@ impl Held {
 
     /// Tells what stands in front of the nth of the tokens, if there are so many.
     pub(super) fn open(&mut self, nth: usize, opening: Opening)
-        ensures { held_places self.new ≡ spec.opened nth opening (held_places self.old) }
+        ensures { held_places self.new
+            ≡ spec.places_with_opening nth opening (held_places self.old) }
     {
         if let Some(place) = self.places.get_mut(nth) {
             place.open(opening);

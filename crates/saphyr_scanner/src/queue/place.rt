@@ -6,7 +6,7 @@ ghost use Rattle.saphyr_scanner.specs.Steps.Queue as spec;
 ghost use Rattle.saphyr_scanner.specs.Views.Places.{
   GrowsBehind,
   HasHeldText,
-  IsPlaceOf,
+  IsBarePlaceOf,
   indicator_kind,
   near_span,
   place,
@@ -109,7 +109,7 @@ impl Place {
         spare: &mut Spare,
     ) -> Result<Place, AllocError>
         ensures grows { GrowsBehind texts.old.bytes.items texts.new.bytes.items }
-        ensures place { IfOk result (IsPlaceOf texts.new.bytes.items
+        ensures place { IfOk result (IsBarePlaceOf texts.new.bytes.items
             (record { span = span.now; kind = kind_of kind })) }
     {
         let Some((start, length)) = near(span) else {
@@ -143,7 +143,7 @@ impl Place {
         spare: &mut Spare,
     ) -> Result<Place, AllocError>
         ensures grows { GrowsBehind texts.old.bytes.items texts.new.bytes.items }
-        ensures place { IfOk result (IsPlaceOf texts.new.bytes.items
+        ensures place { IfOk result (IsBarePlaceOf texts.new.bytes.items
             (record { span = near_span start length; kind = kind_of kind })) }
     {
         let (what, text) = match kind {
@@ -164,7 +164,7 @@ impl Place {
 
     // The same of any token.
     fn whole(alloc: Global, span: &Span, kind: TokenType) -> Result<Place, AllocError>
-        ensures { (bytes : List ℕ) → IfOk result (IsPlaceOf bytes
+        ensures { (bytes : List ℕ) → IfOk result (IsBarePlaceOf bytes
             (record { span = span.now; kind = kind_of kind })) }
     {
         let token = Box::new(alloc, Token { span: *span, kind })?;

@@ -37,7 +37,7 @@ impl Slot {
     #[inline(always)]
     pub(super) fn put(&mut self, token: Token)
         ensures full { self.new.is_full ≡ true }
-        ensures place { slot_place self.new ≡ spec.closed (piece token) }
+        ensures place { slot_place self.new ≡ spec.bare_place (piece token) }
     {
         self.token.span = token.span;
         self.token.kind = token.kind;

@@ -1,7 +1,7 @@
 //! The texts of the tokens that are held, behind one another in one piece of memory.
 
 ghost use Rattle.std.specs.Prelude.{◌≡◌, [], IfOk, IfSome};
-ghost use Rattle.saphyr_scanner.specs.Views.Places.{GrowsBehind, IsHeldText, IsKept, text_at};
+ghost use Rattle.saphyr_scanner.specs.Views.Places.{GrowsBehind, IsHeldText, IsHeldAs, text_at};
 
 use std::alloc::{AllocError, Global};
 use std::str;
@@ -32,7 +32,8 @@ impl Texts {
     #[inline(always)]
     pub(super) fn keep(&mut self, text: &str) -> Result<Option<TextPlace>, AllocError>
         ensures grows { GrowsBehind self.old.bytes.items self.new.bytes.items }
-        ensures kept { IfOk result (λ found. IfSome found (IsKept self.new.bytes.items text.now)) }
+        ensures kept { IfOk result
+            (λ found. IfSome found (IsHeldAs self.new.bytes.items text.now)) }
     {
         let (Ok(start), Ok(count)) = (u32::try_from(self.bytes.len()), u32::try_from(text.len()))
         else {

@@ -8,16 +8,16 @@ use Rattle.saphyr_scanner.specs.declared.engine.level.Context.{Context}
 use Rattle.saphyr_scanner.specs.declared.engine.level.Context.TheVariants as context
 use Rattle.saphyr_scanner.specs.Grammar.Tokens as tokens
 use Rattle.saphyr_scanner.specs.Grammar.TokenGrammar as grammar
-use Rattle.saphyr_scanner.specs.Steps.Core.{Candidate, Level, is_block}
+use Rattle.saphyr_scanner.specs.Steps.Level.{Candidate, Level, is_block, ends_pair}
 use Rattle.saphyr_scanner.specs.Steps.Flow as flow
-use Rattle.saphyr_scanner.specs.Steps.Flow.{close_collection, ends_pair}
+use Rattle.saphyr_scanner.specs.Steps.Flow.{close_collection}
 use Rattle.saphyr_scanner.specs.Steps.Fetch.{step}
 use Rattle.saphyr_scanner.specs.Grammar.Forest.{Properties, Seq, Map, Nodes, Pairs}
 use Rattle.saphyr_scanner.specs.Grammar.FlowNodes.{IsFlowNode}
 use Rattle.saphyr_scanner.proofs.InFlow.States.{Around, core_at, Calm, FlowMoment}
 use Rattle.saphyr_scanner.proofs.Json.Marks.{level_of}
 use Rattle.saphyr_scanner.proofs.Json.Nodes.{begins_sequence, begins_mapping}
-use Rattle.saphyr_scanner.proofs.Flow.States.{moved, past, Fits, IsParted, Reads, StandsBefore}
+use Rattle.saphyr_scanner.proofs.Flow.States.{moved, past, FitsAround, IsParted, ReaderPromises, StandsBefore}
 use Rattle.saphyr_scanner.proofs.Flow.Places.{moved_append}
 use Rattle.saphyr_scanner.proofs.Flow.Inks.{BeginsInk}
 use Rattle.saphyr_scanner.proofs.Flow.Pieces.{fits_front, fits_back, fits_so}
@@ -134,20 +134,21 @@ parted_by indent w t parts b =
 
 -- the piece inside brackets, behind their front
 inner_fits : {around : Around} (m : Marker) (front opening inside closing o : List ℕ)
-    → around.indent ≤ (moved (moved m front) opening).col → Fits around m (front ++ (opening ++ (inside ++ closing))) o
-    → Fits around (moved (moved m front) opening) inside (closing ++ o)
+    → around.indent ≤ (moved (moved m front) opening).col
+    → FitsAround around m (front ++ (opening ++ (inside ++ closing))) o
+    → FitsAround around (moved (moved m front) opening) inside (closing ++ o)
 inner_fits {around} m front opening inside closing o right fits =
     fits_front (moved (moved m front) opening) inside closing o
-    (subst (λ (k : Marker). Fits around k (inside ++ closing) o) (moved_append m front opening)
+    (subst (λ (k : Marker). FitsAround around k (inside ++ closing) o) (moved_append m front opening)
     (fits_back m (front ++ opening) (inside ++ closing) o
     (subst (λ (k : Marker). around.indent ≤ k.col) (sym (moved_append m front opening)) right)
     (fits_so m (front ++ (opening ++ (inside ++ closing))) ((front ++ opening) ++ (inside ++ closing)) o
     (sym (append_assoc front opening (inside ++ closing))) fits)))
 
 -- in brackets
-pub sequence_run : {around : Around} → Reads → (room : ℕ) (p : Properties) (nodes : Nodes) (in_flow : Bool)
+pub sequence_run : {around : Around} → ReaderPromises → (room : ℕ) (p : Properties) (nodes : Nodes) (in_flow : Bool)
     → ((left : ℕ) → PassesItems around left nodes) → (m : Marker) (t o : List ℕ)
-    → IsFlowNode room (Seq p nodes) in_flow around.indent t → Fits around m t o → (now : FlowMoment)
+    → IsFlowNode room (Seq p nodes) in_flow around.indent t → FitsAround around m t o → (now : FlowMoment)
     → ((e : Marker) → around.indent ≤ e.col → EndsAt around.indent now.context e o) → room + length now.outer ≤ 255
     → Calm around now.context → now.adjacent ≤ m.index → StandsBefore around now m (t ++ o)
     → CollectionPasses around now (grammar.YieldFlowEntries nodes) square p m t o
@@ -177,9 +178,9 @@ sequence_run {around} reads room p nodes in_flow items m t o (left, opening, ins
     subst (λ (z : List ℕ). CollectionPasses around now (grammar.YieldFlowEntries nodes) square p m z o) (sym text_is) c
 
 -- in braces
-pub mapping_run : {around : Around} → Reads → (room : ℕ) (p : Properties) (pairs : Pairs) (in_flow : Bool)
+pub mapping_run : {around : Around} → ReaderPromises → (room : ℕ) (p : Properties) (pairs : Pairs) (in_flow : Bool)
     → ((left : ℕ) → PassesPairs around left pairs) → (m : Marker) (t o : List ℕ)
-    → IsFlowNode room (Map p pairs) in_flow around.indent t → Fits around m t o → (now : FlowMoment)
+    → IsFlowNode room (Map p pairs) in_flow around.indent t → FitsAround around m t o → (now : FlowMoment)
     → ((e : Marker) → around.indent ≤ e.col → EndsAt around.indent now.context e o) → room + length now.outer ≤ 255
     → Calm around now.context → now.adjacent ≤ m.index → StandsBefore around now m (t ++ o)
     → CollectionPasses around now (grammar.YieldFlowPairs pairs) curly p m t o

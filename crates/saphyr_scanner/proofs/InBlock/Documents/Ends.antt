@@ -16,7 +16,7 @@ use Rattle.saphyr_scanner.proofs.Documents.Lines.{eol, eol_first, filler_at_line
 use Rattle.saphyr_scanner.proofs.Documents.Markers.{start_ends, end_ends}
 use Rattle.saphyr_scanner.proofs.Documents.Stands.{AtLine}
 use Rattle.saphyr_scanner.proofs.InBlock.Skips.{IsClean, skipped_clean, filler_skipped, rest_ends_clean}
-use Rattle.saphyr_scanner.proofs.InBlock.Statements.{Leaves}
+use Rattle.saphyr_scanner.proofs.InBlock.Statements.{ReadsLeaves}
 use Rattle.saphyr_scanner.proofs.InBlock.Texts.{ink_clean, reaches}
 use Rattle.saphyr_scanner.proofs.InBlock.BehindIndicators.{node_behind}
 use Rattle.std.proofs.lemmas.Bool.{false≢true}
@@ -95,7 +95,7 @@ plain_behind ds o (inr (suffix, others, (filler, end, prefix, filler_is, end_is,
     plain_marked filler 46 (46 ∷ 46 ∷ (end ++ (prefix ++ others))) o filler_is whole dot_ink
 
 -- behind `---` stands a blank or a break
-pub explicit_first : {limit : ℕ} → Leaves limit → (node : Node) (t others : List ℕ)
+pub explicit_first : {limit : ℕ} → ReadsLeaves limit → (node : Node) (t others : List ℕ)
     → IsBlockNode most_open node BehindMarker t others → IsPlainBehind others
     → is_blank_or_breakz (slice_index (t ++ others) 0) ≡ true
 explicit_first leaves node t others h plain =
@@ -121,7 +121,7 @@ lands_marked o k m line =
     subst (λ (x : Marker × List ℕ). EndsDocument x.0 x.1) (sym there) (inr (col, k.marker))
 
 -- what stands behind a document: filler alone, or a document marker
-pub opens_marker : {limit : ℕ} → Leaves limit → (ds : Forest) (o : List ℕ)
+pub opens_marker : {limit : ℕ} → ReadsLeaves limit → (ds : Forest) (o : List ℕ)
     → layout.IsBehindDocument (AreBlockDocuments ds) o → ((ds ≡ []) × IsLastFiller o) ⊎ OpensMarker o
 opens_marker leaves [] o (inl h) = inl (refl, h)
 opens_marker leaves (d ∷ ds) o (inl (filler, document, others, filler_is, inl h, behind, e)) = absurd (false≢true h.0)
@@ -163,7 +163,7 @@ opens_marker leaves ds o (inr (suffix, others, (filler, end, prefix, filler_is, 
     })
 
 -- so it is the text's end, or a document marker
-pub lands_behind : {limit : ℕ} → Leaves limit → (ds : Forest) (o : List ℕ)
+pub lands_behind : {limit : ℕ} → ReadsLeaves limit → (ds : Forest) (o : List ℕ)
     → layout.IsBehindDocument (AreBlockDocuments ds) o → (m : Marker) → AtLine o m → Lands m o
 lands_behind leaves ds o h m line = by_first (opens_marker leaves ds o h)
   where

@@ -6,7 +6,8 @@ use Rattle.saphyr_input.specs.Classes.{is_blank, is_break, is_yaml_non_break, li
 use Rattle.saphyr_input.specs.Places.{is_document_start}
 use Rattle.saphyr_scalar.specs.declared.scalar.position.Marker.{Marker}
 use Rattle.saphyr_scalar.specs.Views.Cursor.{◌>>=◌, along, next_line}
-use Rattle.saphyr_scanner.specs.Steps.Core.{Candidate, is_too_far}
+use Rattle.saphyr_scanner.specs.Steps.Core.{is_too_far}
+use Rattle.saphyr_scanner.specs.Steps.Level.{Candidate}
 use Rattle.saphyr_scanner.specs.Steps.Queue.{Place}
 use Rattle.saphyr_scanner.specs.Steps.State.{State}
 use Rattle.saphyr_scanner.specs.Steps.Fetch.{fetch, fetch_here}
@@ -19,13 +20,13 @@ use Rattle.saphyr_scanner.proofs.Flow.States.{IsClear, EndsDocument, marks_line,
 use Rattle.saphyr_scanner.proofs.Flow.Places.{behind_character, moved_count}
 use Rattle.saphyr_scanner.proofs.Flow.GapSteps.{past_again}
 use Rattle.saphyr_scanner.proofs.InBlock.MarkedLines.{fed_marks, last_marks}
-use Rattle.saphyr_scanner.proofs.Documents.Stands.{AtLine, Lined, OffLine, Stands}
+use Rattle.saphyr_scanner.proofs.Documents.Stands.{AtLine, Lined, OffLine, StandsInStream}
 use Rattle.saphyr_scanner.proofs.InBlock.States.{Moment, root, moment_at, state_of, tabbed, tabbed_comment, crosses, IsStop, is_compact, IsPlaced, Before}
 use Rattle.saphyr_scanner.proofs.InBlock.Gaps.{past_stops}
 use Rattle.saphyr_scanner.proofs.InBlock.Follows.{goes_alike, left_key, left_again, lands as land, arrives_at, stays_open}
 use Rattle.saphyr_scanner.proofs.InBlock.Closing.{marker_here, marked_alike, stream_ends}
-use Rattle.saphyr_scanner.proofs.InBlock.Lines.{Fits, moved_lined}
-use Rattle.saphyr_scanner.proofs.InBlock.Statements.{IsBehind, EndsWithLine, AreRead, Leaves}
+use Rattle.saphyr_scanner.proofs.InBlock.Lines.{FitsOnLines, moved_lined}
+use Rattle.saphyr_scanner.proofs.InBlock.Statements.{EndsNodeAt, EndsWithLine, AreRead, ReadsLeaves}
 use Rattle.saphyr_scanner.proofs.InBlock.Texts.{node_ends}
 use Rattle.saphyr_scanner.proofs.InBlock.Sequences.{StartsLine, starts_behind}
 use Rattle.saphyr_scanner.proofs.InBlock.Nodes.{reads_node}
@@ -98,7 +99,7 @@ pub record NodeStands (limit : ℕ) (start : State) (node : Node) (place : Posit
     Type 0 where
   pub tokens : List Kind
   pub are : AreRead node place tokens
-  pub stands : Stands limit start false (Lined false others) others (ts ++ tokens)
+  pub stands : StandsInStream limit start false (Lined false others) others (ts ++ tokens)
 
 -- at the end of a document it doesn't matter where content would have to stand
 flat_here : (m : Marker) (y : List ℕ) (blank : Bool) (key : Option Candidate) (a : Bool) (ad : ℕ) (deeper : Bool)
@@ -171,11 +172,12 @@ mutual
 sum_within : (i l j k limit : ℕ) → i + l ≡ j + k → j + k ≤ limit → i + l ≤ limit
 sum_within i l j k limit e h = omega (arith, e, h)
 
-pub reads_root : {limit : ℕ} {start : State} {P : Marker → Bool → Type 0} → Leaves limit → (place : Position)
+pub reads_root : {limit : ℕ} {start : State} {P : Marker → Bool → Type 0} → ReadsLeaves limit → (place : Position)
     → indent_at place ≡ 0 → (node : Node) (t others : List ℕ) (ts : List Kind)
     → IsBlockNode most_open node place t others
     → ((m : Marker) → AtLine others m → Lands m others) → IsPlainBehind others
-    → (v : Stands limit start true P (t ++ others) ts) → Fits limit v.mark t others → IsPlaced place v.mark
+    → (v : StandsInStream limit start true P (t ++ others) ts) → FitsOnLines limit v.mark t others
+    → IsPlaced place v.mark
     → ((is_compact place || crosses (t ++ others)) ≡ true → (crosses v.there.rest || v.allowed) ≡ true)
     → NodeStands limit start node place others ts
 reads_root {limit} {start} leaves place flat_place node t others ts h lands plain v fits placed opens =
@@ -212,7 +214,7 @@ reads_root {limit} {start} leaves place flat_place node t others ts h lands plai
     let ends = node_ends leaves node place t others h in
     let m = moved v.mark t in
     let line = lined m others (starts_behind v.mark t others ends) in
-    let behind : IsBehind 0 m others =
+    let behind : EndsNodeAt 0 m others =
     record { left = inl (lands m line); clean = plain.clean } in
     let r = reads_node leaves node place root (sym flat_place) v.mark t others h fits behind start ts before in
     let u = r.arrived.at in

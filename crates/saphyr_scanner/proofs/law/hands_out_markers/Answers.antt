@@ -1,12 +1,12 @@
 use Rattle.std.proofs.Common.{arith, ◌++◌}
-use Rattle.saphyr_scanner.proofs.Flow.States.{Reads}
+use Rattle.saphyr_scanner.proofs.Flow.States.{ReaderPromises}
 use Rattle.saphyr_scanner.proofs.InBlock.ScalarTexts.{ReadsBlocks}
 use Rattle.saphyr_scanner.proofs.InBlock.Closed.{closed_scans}
 use Rattle.saphyr_scanner.proofs.law.hands_out_markers.Goals as goal
 
 pub returns : goal.returns
 returns c limit marker forest text others layout ends apart short small =
-    let reads : Reads = record {
+    let reads : ReaderPromises = record {
       plain = c.reads_each_plain_text.ensures;
       quoted = c.reads_each_quoted.ensures;
       place = c.passes_to_one_place.ensures;

@@ -1,12 +1,12 @@
 use Rattle.std.proofs.Common.{arith}
-use Rattle.saphyr_scanner.proofs.Flow.States.{Reads}
+use Rattle.saphyr_scanner.proofs.Flow.States.{ReaderPromises}
 use Rattle.saphyr_scanner.proofs.InBlock.ScalarTexts.{ReadsBlocks}
 use Rattle.saphyr_scanner.proofs.InBlock.Layouts.{layout_scans}
 use Rattle.saphyr_scanner.proofs.law.scans_each_layout_text.Goals as goal
 
 pub returns : goal.returns
 returns c limit forest text layout short small =
-    let reads : Reads = record {
+    let reads : ReaderPromises = record {
       plain = c.reads_each_plain_text.ensures;
       quoted = c.reads_each_quoted.ensures;
       place = c.passes_to_one_place.ensures;

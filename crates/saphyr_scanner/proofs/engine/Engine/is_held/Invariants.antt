@@ -1,6 +1,7 @@
 use Rattle.std.proofs.Common.{◌≡◌, drop, false}
 use Rattle.std.specs.Prelude.{map}
-use Rattle.saphyr_scanner.specs.Steps.Fetch.{any_holds, holds}
+use Rattle.saphyr_scanner.specs.Steps.Fetch.{any_holds}
+use Rattle.saphyr_scanner.specs.Steps.Level.{holds}
 use Rattle.saphyr_scanner.specs.Views.Engine.{state, level}
 use Rattle.saphyr_scanner.proofs.engine.Engine.is_held.Given as goal
 

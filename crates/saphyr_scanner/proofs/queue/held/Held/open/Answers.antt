@@ -1,7 +1,7 @@
 -- One of the places that are held is opened.
 use Rattle.std.proofs.Common.{rules}
 use Rattle.saphyr_scanner.specs.Views.Queue.{held_places}
-use Rattle.saphyr_scanner.proofs.Places.{opened_is_set, opened_outside, texts_of_set}
+use Rattle.saphyr_scanner.proofs.Places.{with_opening_is_set, with_opening_outside, texts_of_set}
 use Rattle.saphyr_scanner.proofs.queue.held.Held.open.Goals as goal
 
 pub invariant_of-self : goal.invariant_of-self
@@ -14,12 +14,12 @@ pub returns-in-Some : goal.returns-in-Some
 unfolding held_places
 returns-in-Some c =
     let bytes = c.args.self.now.texts.bytes.items in
-    opened_is_set bytes c.args.nth c.args.opening c.args.self.now.places.items
+    with_opening_is_set bytes c.args.nth c.args.opening c.args.self.now.places.items
     c.in-Some.place.now c.open.new.self c.in-Some.ensures.value (c.open.ensures.place bytes)
 
 pub returns-in_default : goal.returns-in_default
 unfolding held_places
 returns-in_default c =
-    let outside = opened_outside c.args.self.now.texts.bytes.items c.args.nth c.args.opening
+    let outside = with_opening_outside c.args.self.now.texts.bytes.items c.args.nth c.args.opening
     c.args.self.now.places.items in
     search (rules, outside)

@@ -2,7 +2,7 @@
 use Rattle.std.proofs.Common.{List, ◌∷◌, [], ◌++◌, ap, ◌∙◌}
 use Rattle.std.specs.Prelude.{map}
 use Rattle.std.proofs.lemmas.List.Elements.{All-same}
-use Rattle.saphyr_scanner.specs.Steps.Queue.{Place, closed}
+use Rattle.saphyr_scanner.specs.Steps.Queue.{Place, bare_place}
 use Rattle.saphyr_scanner.specs.Views.Places.{HasHeldText, place}
 use Rattle.saphyr_scanner.specs.Views.Queue.{held_places}
 use Rattle.saphyr_scanner.specs.Views.Tokens.{Piece, kind_of}
@@ -49,4 +49,4 @@ returns c =
     ap (map (place bytes))
     (c.push_back_reserved.ensures.items ∙ ap (λ ps. ps ++ c.in_ok-place.place ∷ []) c.reserve.ensures.items)
     ∙ after.1
-    ∙ ap (λ (ps : List Place). ps ++ closed token ∷ []) c.clear_texts.ensures
+    ∙ ap (λ (ps : List Place). ps ++ bare_place token ∷ []) c.clear_texts.ensures

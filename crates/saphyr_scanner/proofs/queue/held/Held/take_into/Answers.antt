@@ -1,7 +1,5 @@
 -- What is handed out next is taken off the tokens that are held.
-use Rattle.std.proofs.Common.{rules, ◌≡◌, List, ℕ, ◌∷◌, drop, subst, sym, ap, ◌∙◌, Ok}
-use Rattle.std.specs.Prelude.{map}
-use Rattle.saphyr_scanner.specs.Views.Places.{place}
+use Rattle.std.proofs.Common.{rules, ap, Ok}
 use Rattle.saphyr_scanner.specs.Views.Queue.{held_places}
 use Rattle.saphyr_scanner.proofs.HeldTexts.{first_place, take_of_none}
 use Rattle.saphyr_scanner.proofs.queue.held.Held.take_into.Goals as goal

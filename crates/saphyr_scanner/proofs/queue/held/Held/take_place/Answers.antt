@@ -1,5 +1,5 @@
 -- The first place is taken off.
-use Rattle.std.proofs.Common.{rules, refl, ap, sym, ◌∙◌, Ok}
+use Rattle.std.proofs.Common.{rules}
 use Rattle.saphyr_scanner.specs.Views.Queue.{held_places}
 use Rattle.saphyr_scanner.proofs.HeldTexts.{take_none, take_one, text_of_first, texts_behind}
 use Rattle.saphyr_scanner.proofs.queue.held.Held.take_place.Goals as goal

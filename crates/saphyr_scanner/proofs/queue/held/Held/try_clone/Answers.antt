@@ -1,5 +1,5 @@
 -- Copies of places have their texts in the copy of the texts.
-use Rattle.std.proofs.Common.{List, ℕ, rules, sym, subst, ap, ◌∙◌}
+use Rattle.std.proofs.Common.{List, ℕ, sym, subst, ap, ◌∙◌}
 use Rattle.std.specs.Prelude.{map}
 use Rattle.std.specs.List.{All}
 use Rattle.saphyr_scanner.specs.Views.Places.{HasHeldText, place}
