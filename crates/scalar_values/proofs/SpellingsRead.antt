@@ -18,6 +18,7 @@ use Rattle.saphyr_input.proofs.Basics.Numbers.{equal_by_test}
 
 -- a name is not a break
 not_a_break : (name c : ℕ) → short_escape name ≡ Some c → (name == line_feed) ≡ false
+unfolding short_escape
 not_a_break name c h = at (name == line_feed) refl
   where
     at : (b : Bool) → (name == line_feed) ≡ b → b ≡ false
@@ -30,6 +31,7 @@ abbrev pub IsLongName : ℕ → Type 0
 IsLongName name = (short_escape name ≡ None) × ((name == line_feed) ≡ false)
 
 long_name : (name count : ℕ) → digit_count name ≡ Some count → IsLongName name
+unfolding short_escape
 long_name name count h = x (name == 0x78) refl
   where
     U : (b : Bool) → (name == 0x55) ≡ b → (name == 0x78) ≡ false → (name == 0x75) ≡ false → IsLongName name

@@ -6,11 +6,12 @@ use Rattle.saphyr_input.specs.Places.{next_2_are, is_document_indicator}
 use Rattle.std.proofs.lemmas.List.{length-drop}
 use Rattle.scalar_values.specs.declared.flow.Quote.{Quote}
 use Rattle.scalar_values.specs.declared.flow.Quote.TheVariants.{Single, Double}
+use Rattle.scalar_values.specs.Escapes.{digit_count, is_scalar_value, short_escape}
 use Rattle.saphyr_scalar.specs.declared.scalar.position.Marker.{Marker}
 use Rattle.saphyr_scalar.specs.declared.scalar.fault.Refusal.{Refusal}
 use Rattle.scalar_values.specs.Flow as flow
 use Rattle.saphyr_scalar.specs.Views.Cursor.{Cursor, ◌>>=◌, along, next_line, pass}
-use Rattle.saphyr_scalar.specs.Steps.Quoted.{is_literal, simple_escape, hex_digit_count, is_scalar, digits, numbered, escape_of, escaped_character, TextRead, at, special, special_len, QuotedGap, on_line, over_lines, no_gap, is_left, blank_in, break_in, begin_word, end_gap, escaped_gap, break_len, if_some, inside, inside_at, quoted}
+use Rattle.saphyr_scalar.specs.Steps.Quoted.{is_literal, hex_digit_count, digits, numbered, escape_of, escaped_character, TextRead, at, special, special_len, QuotedGap, on_line, over_lines, no_gap, is_left, blank_in, break_in, begin_word, end_gap, escaped_gap, break_len, if_some, inside, inside_at, quoted}
 use Rattle.saphyr_scalar.specs.Steps.Quoted as quotes
 use Rattle.saphyr_scalar.specs.Alike.{AreAlike, GiveAlike, AreSame}
 use Rattle.saphyr_scalar.proofs.Quoted.Inside.{passed_over, word_from, behind_gap}
@@ -43,7 +44,7 @@ character_alike : (text : List ℕ) (a b : Marker) (v w : ℕ) (s t : Cursor) �
     → GiveAlike (AreSame text) (quotes.character a v s) (quotes.character b w t)
 unfolding quotes.character
 character_alike text a b v w s t same e =
-    both_by (is_scalar v) (is_scalar w) _ _ _ _ (GiveAlike (AreSame text)) (ap is_scalar same) (λ _ _. (same, e))
+    both_by (is_scalar_value v) (is_scalar_value w) _ _ _ _ (GiveAlike (AreSame text)) (ap is_scalar_value same) (λ _ _. (same, e))
     (λ _ _. refl)
 
 -- two characters that are no breaks
@@ -51,18 +52,21 @@ two_part : {r q : List ℕ} → NoBreak r → NoBreak (drop 1 r) → Normal r q 
 two_part {r = r} {q = q} first second n =
     both_parts 1 1 1 1 r q (first_part first n) (first_part second (past_first first n))
 
+numbered_alike : (text : List ℕ) (a b : Marker) (o : Option ℕ) (s t : Cursor) → NoBreak s.rest
+    → NoBreak (drop 1 s.rest) → AreAlike text s t → GiveAlike (AreSame text) (numbered a o s) (numbered b o t)
+unfolding numbered
+numbered_alike text a b None s t first second e = refl
+numbered_alike text a b (Some n) s t first second e =
+    both_then (AreSame text) (AreSame text) _ _ _ _
+    (digits_alike text a b n 0 0 (pass 2 s) (pass 2 t) refl (passed 2 2 (two_part first second (normal_of e)) e))
+    (λ x y _ _ is. character_alike text a b x.0 y.0 x.1 y.1 is.0 is.1)
+
 letter_alike : (text : List ℕ) (a b : Marker) (o : Option ℕ) (letter : ℕ) (s t : Cursor) → NoBreak s.rest
     → NoBreak (drop 1 s.rest) → AreAlike text s t
     → GiveAlike (AreSame text) (escape_of a o letter s) (escape_of b o letter t)
-unfolding escape_of numbered
+unfolding escape_of
 letter_alike text a b (Some c) letter s t first second e = (refl, passed 2 2 (two_part first second (normal_of e)) e)
-letter_alike text a b None letter s t first second e =
-    both_by (hex_digit_count letter == 0) (hex_digit_count letter == 0) _ _ _ _ (GiveAlike (AreSame text)) refl
-    (λ _ _. refl)
-    (λ _ _. both_then (AreSame text) (AreSame text) _ _ _ _
-    (digits_alike text a b (hex_digit_count letter) 0 0 (pass 2 s)
-    (pass 2 t) refl (passed 2 2 (two_part first second (normal_of e)) e))
-    (λ x y _ _ is. character_alike text a b x.0 y.0 x.1 y.1 is.0 is.1))
+letter_alike text a b None letter s t first second e = numbered_alike text a b (digit_count letter) s t first second e
 
 escape_alike : (text : List ℕ) (a b : Marker) (s t : Cursor) → NoBreak s.rest → NoBreak (drop 1 s.rest)
     → AreAlike text s t → GiveAlike (AreSame text) (escaped_character a s) (escaped_character b t)
@@ -70,9 +74,9 @@ unfolding escaped_character
 escape_alike text a b s t first second e =
     let letter : slice_index s.rest 1 ≡ slice_index t.rest 1 = sym (second_is s.rest) ∙ first_same second
     (past_first first (normal_of e)) ∙ second_is t.rest in
-    subst (λ c. GiveAlike (AreSame text) (escape_of a (simple_escape (slice_index s.rest 1)) (slice_index s.rest 1) s)
-    (escape_of b (simple_escape c) c t)) letter
-    (letter_alike text a b (simple_escape (slice_index s.rest 1)) (slice_index s.rest 1) s t first second e)
+    subst (λ c. GiveAlike (AreSame text) (escape_of a (short_escape (slice_index s.rest 1)) (slice_index s.rest 1) s)
+    (escape_of b (short_escape c) c t)) letter
+    (letter_alike text a b (short_escape (slice_index s.rest 1)) (slice_index s.rest 1) s t first second e)
 
 two_quotes_alike : {r q : List ℕ} → Normal r q → next_2_are r 39 39 ≡ next_2_are q 39 39
 two_quotes_alike {r = r} {q = q} n =

@@ -4,6 +4,7 @@ use Rattle.std.specs.Prelude.{encode_utf8}
 use Rattle.std.proofs.Common.{inl, inr}
 use Rattle.std.proofs.lemmas.Bool.Decides.{nat_tests}
 use Rattle.saphyr_input.specs.Classes.{is_hex, IsHex}
+use Rattle.scalar_values.specs.Escapes.{IsScalarValue}
 use Rattle.saphyr_scalar.specs.declared.scalar.position.Marker.{Marker}
 use Rattle.saphyr_scalar.specs.declared.scalar.fault.Refusal.{Refusal}
 use Rattle.saphyr_scalar.specs.declared.scalar.tag.UriSet.{UriSet}
@@ -11,7 +12,7 @@ use Rattle.saphyr_scalar.specs.declared.scalar.tag.UriSet.TheVariants.{Uri, Suff
 use Rattle.saphyr_scalar.specs.Views.Cursor.{Cursor, ◌>>=◌, along}
 use Rattle.saphyr_scalar.specs.Steps.Quoted.{with_front, at}
 use Rattle.saphyr_scalar.specs.Steps.Tag.{has, escaped_byte, utf8_width, leading_bits, is_trailing, is_encoded, trailing_byte, trailing_bytes, encoded, behind_leading_byte, percent_escape, uri_character, decoded}
-use Rattle.saphyr_scalar.specs.Spelling.Tag.{IsScalarValue, IsByteEscape, AreByteEscapes, IsCharacter, IsDecoded}
+use Rattle.saphyr_scalar.specs.Spelling.Tag.{IsByteEscape, AreByteEscapes, IsCharacter, IsDecoded}
 use Rattle.saphyr_scalar.proofs.Moving.{along_none, along_more}
 use Rattle.saphyr_scalar.proofs.Properties.PercentEscapes.{one_more, ends_at, reads_on}
 use Rattle.saphyr_scalar.proofs.Properties.EscapedBytes.{AreTrailing, joined, Bytes, bytes_of}

@@ -4,15 +4,16 @@ use Rattle.std.specs.Prelude.{encode_utf8}
 use Rattle.std.specs.Char.{len_utf8}
 use Rattle.std.proofs.lemmas.Bool.{false≢true}
 use Rattle.std.proofs.lemmas.Bool.Decides.{nat_tests}
+use Rattle.scalar_values.specs.Escapes.{IsScalarValue, is_scalar_value}
 use Rattle.saphyr_scalar.specs.declared.scalar.position.Marker.{Marker}
 use Rattle.saphyr_scalar.specs.declared.scalar.fault.FaultText.TheVariants as fault
 use Rattle.saphyr_scalar.specs.declared.scalar.fault.Refusal.{Refusal}
 use Rattle.saphyr_scalar.specs.declared.scalar.tag.UriSet.{UriSet}
 use Rattle.saphyr_scalar.specs.declared.scalar.tag.UriSet.TheVariants.{Uri, Suffix}
 use Rattle.saphyr_scalar.specs.Views.Cursor.{Cursor, ◌>>=◌, along}
-use Rattle.saphyr_scalar.specs.Steps.Quoted.{is_scalar, with_front, at}
+use Rattle.saphyr_scalar.specs.Steps.Quoted.{with_front, at}
 use Rattle.saphyr_scalar.specs.Steps.Tag.{has, escaped_byte, utf8_width, leading_bits, is_encoded, trailing_bytes, encoded, behind_leading_byte, percent_escape, uri_character, decoded, decoded_at}
-use Rattle.saphyr_scalar.specs.Spelling.Tag.{IsScalarValue, AreByteEscapes, IsCharacter, IsDecoded}
+use Rattle.saphyr_scalar.specs.Spelling.Tag.{AreByteEscapes, IsCharacter, IsDecoded}
 use Rattle.saphyr_scalar.proofs.Moving.{along_none, along_more}
 use Rattle.saphyr_scalar.proofs.Properties.PercentEscapes.{one_more, ends_at, has_left, character_shorter}
 use Rattle.saphyr_scalar.proofs.Steps.{bind_ok, Chosen, ok_same, cond_ok, cond_not}
@@ -78,7 +79,7 @@ escape_spelled start m xs c u h =
     (percent_escape, others.piece, escape_of_byte b m xs here byte, others.escaped, refl) in
     record {
       piece = percent_escape ++ others.piece;
-      scalar = scalar_is c (and_true_left (is_scalar c) (nat_eq (len_utf8 c) w) behind.shortest);
+      scalar = scalar_is c (and_true_left (is_scalar_value c) (nat_eq (len_utf8 c) w) behind.shortest);
       escaped = subst (λ (bs : List ℕ). AreByteEscapes bs (percent_escape ++ others.piece)) (sym utf8) are;
       text = byte.text ∙ ap (λ r. 37 ∷ byte.high ∷ byte.low ∷ r) others.text;
       place = others.place ∙ ap (λ k. at k u.rest)

@@ -6,23 +6,22 @@ use Rattle.std.proofs.Math.Utf8.{encode}
 use Rattle.std.proofs.lemmas.Bool.{lt-ltb, le-ltb}
 use Rattle.std.proofs.lemmas.Bool.Decides.{nat_tests}
 use Rattle.std.proofs.lemmas.Str.{encode_ascii}
-use Rattle.saphyr_scalar.specs.Steps.Quoted.{is_scalar}
+use Rattle.scalar_values.specs.Escapes.{IsScalarValue, is_scalar_value}
 use Rattle.saphyr_scalar.specs.Steps.Tag.{utf8_width, leading_bits, is_trailing, is_encoded}
-use Rattle.saphyr_scalar.specs.Spelling.Tag.{IsScalarValue}
 use Rattle.saphyr_scalar.proofs.Properties.EscapedBytes.{AreTrailing, joined, bits_one, bits_two, bits_three, bits_four}
 use Rattle.saphyr_input.proofs.Basics.Booleans.{and_true_left, and_true_right, by_test, either}
 
-pub scalar_is : (c : ℕ) → is_scalar c ≡ true → IsScalarValue c
+pub scalar_is : (c : ℕ) → is_scalar_value c ≡ true → IsScalarValue c
 scalar_is c h =
-    either (nat_lt c 0xD800) (nat_le 0xE000 c && nat_lt c 0x11_0000) (IsScalarValue c) h
+    either (nat_lt c 0xD800) (nat_le 0xE000 c && nat_le c 0x10FFFF) (IsScalarValue c) h
     (λ e. inl (grind (arith, nat_tests)))
     (λ e.
-    let low = and_true_left (nat_le 0xE000 c) (nat_lt c 0x11_0000) e in
-    let high = and_true_right (nat_le 0xE000 c) (nat_lt c 0x11_0000) e in
+    let low = and_true_left (nat_le 0xE000 c) (nat_le c 0x10FFFF) e in
+    let high = and_true_right (nat_le 0xE000 c) (nat_le c 0x10FFFF) e in
     inr (grind (arith, nat_tests), grind (arith, nat_tests)))
 
 len_of : (n c : ℕ) → is_encoded n c ≡ true → len_utf8 c ≡ n
-len_of n c h = let e = and_true_right (is_scalar c) (nat_eq (len_utf8 c) n) h in grind (arith, nat_tests)
+len_of n c h = let e = and_true_right (is_scalar_value c) (nat_eq (len_utf8 c) n) h in grind (arith, nat_tests)
 
 long_two : (c : ℕ) → len_utf8 c ≡ 2 → 0x80 ≤ c
 long_two c h = grind (arith, nat_tests)

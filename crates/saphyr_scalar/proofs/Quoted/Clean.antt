@@ -3,8 +3,9 @@ use Rattle.std.proofs.Common.{◌≡◌, ℕ, List, [], ◌∷◌, ◌++◌, dro
 use Rattle.saphyr_input.specs.Classes.{is_break}
 use Rattle.saphyr_input.specs.Places.{is_document_indicator}
 use Rattle.scalar_values.specs.Flow.{mark, raw_item, apostrophe, backslash}
+use Rattle.scalar_values.specs.Escapes.{short_escape}
 use Rattle.saphyr_scalar.specs.Spelling.OneLine.{IsNumber}
-use Rattle.saphyr_scalar.specs.Steps.Quoted.{simple_escape, break_len, is_closing}
+use Rattle.saphyr_scalar.specs.Steps.Quoted.{break_len, is_closing}
 use Rattle.saphyr_scalar.specs.Spelling.QuotedMarkers.{HasNoMarker}
 use Rattle.saphyr_scalar.specs.Spelling.Quoted as quotes
 pub use Rattle.saphyr_scalar.specs.Spelling.Quoted.{stands_for_itself, IsQuotedText}
@@ -35,7 +36,7 @@ pub two_quotes : (t : List ℕ) (items : List Item) (x : List ℕ) → IsText Si
     → IsText Single (apostrophe ∷ apostrophe ∷ t) (Raw apostrophe ∷ items) x
 two_quotes t items x r = (quotes.two_quotes t items x r.0, r.1)
 
-pub escaped : (e c : ℕ) (t : List ℕ) (items : List Item) (x : List ℕ) → simple_escape e ≡ Some c
+pub escaped : (e c : ℕ) (t : List ℕ) (items : List Item) (x : List ℕ) → short_escape e ≡ Some c
     → IsText Double t items x → IsText Double (backslash ∷ e ∷ t) (Escaped c ∷ items) x
 escaped e c t items x h r = (quotes.escaped e c t items x h r.0, r.1)
 

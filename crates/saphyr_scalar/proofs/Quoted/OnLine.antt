@@ -10,7 +10,7 @@ use Rattle.saphyr_scalar.specs.Views.Cursor.{Cursor, along}
 use Rattle.scalar_values.specs.Flow as flow
 use Rattle.scalar_values.specs.Folding.{folded}
 use Rattle.saphyr_scalar.specs.Passing.{IsPassed, nothing, character}
-use Rattle.saphyr_scalar.specs.Steps.Quoted.{hex_digit_count, at, quoted}
+use Rattle.saphyr_scalar.specs.Steps.Quoted.{at, quoted}
 use Rattle.saphyr_scalar.specs.Spelling.QuotedLines.{AreOnLine}
 use Rattle.saphyr_scalar.specs.Spelling.Quoted as quotes
 use Rattle.saphyr_scalar.proofs.Moving.{along_more}
@@ -60,8 +60,7 @@ text_on_line _ _ _ _ (quotes.escaped e c t items x h r) on =
     (character_on_line e t x (no_break_simple e c h) (text_on_line Double t items x r on))
 text_on_line _ _ _ _ (quotes.numbered e c ds t items x h r) on =
     let b = text_on_line Double t items x r on in
-    let some : hex_digit_count e ≡ 0 → ⊥ = λ z. absurd (omega (arith, h.count, h.some)) in
-    character_on_line 92 (e ∷ (ds ++ t)) x refl (character_on_line e (ds ++ t) x (no_break_digits e some)
+    character_on_line 92 (e ∷ (ds ++ t)) x refl (character_on_line e (ds ++ t) x (no_break_digits e (length ds) h.count)
     (record {
       count = length ds + b.count;
       total = length-append ds t ∙ omega (arith, b.total);

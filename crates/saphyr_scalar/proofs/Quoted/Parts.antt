@@ -3,6 +3,7 @@ use Rattle.std.proofs.Common.{◌≡◌, ℕ, suc, ◌+◌, ◌<◌, Bool, true,
 use Rattle.std.specs.Prelude.{◌||◌, ◌&&◌, ◌==◌, not, encode_utf8, Option, Some, None}
 use Rattle.saphyr_input.specs.Classes.{is_blank, is_break, is_blank_or_breakz}
 use Rattle.saphyr_input.specs.Places.{next_2_are}
+use Rattle.scalar_values.specs.Escapes.{digit_count, short_escape}
 use Rattle.saphyr_scalar.specs.declared.scalar.position.Marker.{Marker}
 use Rattle.saphyr_scalar.specs.declared.scalar.fault.Refusal.{Refusal}
 use Rattle.scalar_values.specs.declared.flow.Quote.{Quote}
@@ -11,7 +12,7 @@ use Rattle.saphyr_scalar.specs.Views.Cursor.{Cursor, ◌>>=◌, along, pass}
 use Rattle.saphyr_scalar.proofs.Moving.{bind_same}
 use Rattle.saphyr_scalar.proofs.Quoted.Escapes.{escape_place}
 use Rattle.saphyr_scalar.proofs.Quoted.Inside.{front_twice, passed_over, behind_no_gap, run_blanks, Moved, slash_left}
-use Rattle.saphyr_scalar.specs.Steps.Quoted.{is_literal, ends_word, simple_escape, hex_digit_count, numbered, escape_of, escaped_character, with_front, at, special, on_line, no_gap, inside, inside_at}
+use Rattle.saphyr_scalar.specs.Steps.Quoted.{is_literal, ends_word, hex_digit_count, numbered, escape_of, escaped_character, with_front, at, special, on_line, no_gap, inside, inside_at}
 use Rattle.std.proofs.lemmas.Bool.{eqb-true}
 use Rattle.saphyr_input.proofs.Basics.Booleans.{clash, and_true_left, and_true_right, and_false, by_test}
 
@@ -89,15 +90,21 @@ two_of_test (c ∷ d ∷ cs) h =
           ∙ ap (λ x. 39 ∷ x ∷ cs) (sym (sym (eqb-true d 39 (and_true_right (c == 39) (d == 39) h))));
     }
 
+numbered_same : (start : Marker) (o : Option ℕ) (s : Cursor)
+    → numbered start o (at s.mark s.rest) ≡ numbered start o s
+unfolding numbered
+numbered_same start (Some n) s = refl
+numbered_same start None s = refl
+
 of_same : (start : Marker) (letter : ℕ) (o : Option ℕ) (s : Cursor)
     → escape_of start o letter (at s.mark s.rest) ≡ escape_of start o letter s
-unfolding escape_of numbered
+unfolding escape_of
 of_same start letter (Some c) s = refl
-of_same start letter None s = refl
+of_same start letter None s = numbered_same start (digit_count letter) s
 
 escape_same : (start : Marker) (s : Cursor) → escaped_character start (at s.mark s.rest) ≡ escaped_character start s
 unfolding escaped_character
-escape_same start s = of_same start (slice_index s.rest 1) (simple_escape (slice_index s.rest 1)) s
+escape_same start s = of_same start (slice_index s.rest 1) (short_escape (slice_index s.rest 1)) s
 
 -- what is read where `special` gives this
 abbrev Reads : Quote → ℕ → Marker → Cursor → Result (Option ℕ × Cursor) Refusal → Type 0

@@ -1,6 +1,6 @@
 -- A quoted scalar whose lines are indented as they should be is read, without a fault, and gives the reading of its
 -- items.
-use Rattle.std.proofs.Common.{◌≡◌, ℕ, ◌+◌, true, List, [], ◌∷◌, ◌++◌, length, drop, Ok, refl, sym, ap, ◌∙◌, arith, subst, encode_utf8_all}
+use Rattle.std.proofs.Common.{◌≡◌, ℕ, ◌+◌, true, List, [], ◌∷◌, ◌++◌, length, drop, Ok, refl, sym, ap, ◌∙◌, subst, encode_utf8_all}
 use Rattle.saphyr_scalar.specs.declared.scalar.position.Marker.{Marker}
 use Rattle.scalar_values.specs.declared.folding.Item.{Item}
 use Rattle.scalar_values.specs.declared.folding.Item.TheVariants.{Blank, Raw, Escaped, Break, EscapedBreak}
@@ -10,7 +10,7 @@ use Rattle.saphyr_scalar.specs.Views.Cursor.{Cursor, along, next_line}
 use Rattle.scalar_values.specs.Flow as flow
 use Rattle.scalar_values.specs.Folding.{folded}
 use Rattle.saphyr_scalar.specs.Passing.{IsPassed, character}
-use Rattle.saphyr_scalar.specs.Steps.Quoted.{hex_digit_count, at, over_lines, no_gap, break_len, escaped_character, inside, quoted}
+use Rattle.saphyr_scalar.specs.Steps.Quoted.{at, over_lines, no_gap, break_len, escaped_character, inside, quoted}
 use Rattle.saphyr_scalar.specs.Spelling.QuotedLines.{AreOnLine, LinesFit}
 use Rattle.saphyr_scalar.specs.Spelling.Quoted as quotes
 use Rattle.saphyr_scalar.proofs.Moving.{along_more}
@@ -44,15 +44,14 @@ inside_read indent start _ _ _ _ (quotes.escaped e c t items x h r) fit m = λ g
 inside_read indent start _ _ _ _ (quotes.numbered e c ds t items x h r) fit m = λ gap fits.
     let k = 2 + length ds in
     let b = inside_read indent start Double t items x r fit (along m k) no_gap tt in
-    let some : hex_digit_count e ≡ 0 → ⊥ = λ z. absurd (omega (arith, h.count, h.some)) in
     let place : escaped_character start (at m (92 ∷ e ∷ (ds ++ t))) ≡ Ok (c, at (along m k) t) =
     number_read start m e c ds t h ∙ ap (λ y. Ok (c, at y t)) (along_more m 2 (length ds) k refl) in
     let passed : IsPassed m (92 ∷ e ∷ (ds ++ t)) b.mark x =
-    letter_passed m e (ds ++ t) b.mark x (no_break_digits e some)
+    letter_passed m e (ds ++ t) b.mark x (no_break_digits e (length ds) h.count)
     (digits_passed (along m 2) ds t b.mark x h.hex
     (subst (λ (n : Marker). IsPassed n t b.mark x) (sym (along_more m 2 (length ds) k refl)) b.passed)) in
     with_gap Double indent start gap m (92 ∷ e ∷ (ds ++ t)) (Escaped c ∷ items) x fits
-    (escape_read indent start m e c (ds ++ t) items x t k (no_break_digits e some) place b passed)
+    (escape_read indent start m e c (ds ++ t) items x t k (no_break_digits e (length ds) h.count) place b passed)
 inside_read indent start _ _ _ _ (quotes.escaped_break t items x h r) fit m = λ gap fits.
     let place = next_line (along m 1) (break_len t) in
     let line = at_line indent place (drop (break_len t) t) refl fit.0 in

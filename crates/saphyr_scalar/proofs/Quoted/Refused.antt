@@ -5,12 +5,13 @@ use Rattle.saphyr_input.specs.Classes.{is_blank, is_break, is_hex, is_z}
 use Rattle.saphyr_input.specs.Places.{next_2_are, is_document_indicator}
 use Rattle.scalar_values.specs.declared.flow.Quote.{Quote}
 use Rattle.scalar_values.specs.declared.flow.Quote.TheVariants.{Single, Double}
+use Rattle.scalar_values.specs.Escapes.{digit_count, is_scalar_value, short_escape}
 use Rattle.saphyr_scalar.specs.declared.scalar.fault.Refusal.{Refusal}
 use Rattle.saphyr_scalar.specs.declared.scalar.position.Marker.{Marker}
 use Rattle.saphyr_scalar.specs.Views.Cursor.{Cursor, ◌>>=◌, along, next_line, pass}
 use Rattle.scalar_values.specs.Flow as flow
 use Rattle.saphyr_scalar.specs.Passing.{IsPassed, nothing, character, line_break}
-use Rattle.saphyr_scalar.specs.Steps.Quoted.{is_literal, simple_escape, hex_digit_count, is_scalar, digits, numbered, escape_of, escaped_character, TextRead, at, special, special_len, QuotedGap, on_line, over_lines, no_gap, is_left, blank_in, break_in, begin_word, end_gap, escaped_gap, break_len, if_some, inside, quoted}
+use Rattle.saphyr_scalar.specs.Steps.Quoted.{is_literal, hex_digit_count, digits, numbered, escape_of, escaped_character, TextRead, at, special, special_len, QuotedGap, on_line, over_lines, no_gap, is_left, blank_in, break_in, begin_word, end_gap, escaped_gap, break_len, if_some, inside, quoted}
 use Rattle.saphyr_scalar.specs.Steps.Quoted as reading
 use Rattle.saphyr_scalar.specs.RefusedInside.{IsRefusedInside}
 use Rattle.saphyr_scalar.proofs.Quoted.Escapes.{escape_place}
@@ -35,20 +36,20 @@ digits_refused start zero v s = tt
 digits_refused start (suc n) v s =
     by_test (is_hex (slice_index s.rest 0)) _ _ (RefusedAt start) (λ _. digits_refused start n _ (pass 1 s)) (λ _. refl)
 
-numbered_refused : (start : Marker) (n : ℕ) (s : Cursor) → RefusedAt start (numbered start n s)
+numbered_refused : (start : Marker) (o : Option ℕ) (s : Cursor) → RefusedAt start (numbered start o s)
 unfolding numbered reading.character
-numbered_refused start n s =
-    by_test (n == 0) _ _ (RefusedAt start) (λ _. refl)
-    (λ _. refused_bind (λ e. e.mark ≡ start) (digits start n 0 (pass 2 s)) _ (digits_refused start n 0 (pass 2 s))
-    (λ x _. by_test (is_scalar x.0) _ _ (RefusedAt start) (λ _. tt) (λ _. refl)))
+numbered_refused start None s = refl
+numbered_refused start (Some n) s =
+    refused_bind (λ e. e.mark ≡ start) (digits start n 0 (pass 2 s)) _ (digits_refused start n 0 (pass 2 s))
+    (λ x _. by_test (is_scalar_value x.0) _ _ (RefusedAt start) (λ _. tt) (λ _. refl))
 
 escape_refused : (start : Marker) (s : Cursor) → RefusedAt start (escaped_character start s)
 unfolding escaped_character escape_of
-escape_refused start s = of (simple_escape (slice_index s.rest 1)) (slice_index s.rest 1)
+escape_refused start s = of (short_escape (slice_index s.rest 1)) (slice_index s.rest 1)
   where
     of : (o : Option ℕ) (letter : ℕ) → RefusedAt start (escape_of start o letter s)
     of (Some c) letter = tt
-    of None letter = numbered_refused start (hex_digit_count letter) s
+    of None letter = numbered_refused start (digit_count letter) s
 
 word_refused : (indent : ℕ) (start : Marker) (s : Cursor) → RefusedAt start (begin_word indent start s)
 unfolding begin_word

@@ -1,12 +1,12 @@
 -- A double quoted scalar that is spelled on one line is read, without a fault, and gives its characters.
-use Rattle.std.proofs.Common.{◌≡◌, ℕ, suc, append_assoc, ◌+◌, ◌<◌, Bool, true, false, List, [], ◌∷◌, ◌++◌, length, drop, Ok, refl, sym, ap, ◌∙◌, arith, encode_utf8_all, IsTrue}
+use Rattle.std.proofs.Common.{◌≡◌, ℕ, suc, append_assoc, ◌+◌, Bool, true, false, List, [], ◌∷◌, ◌++◌, length, drop, Ok, refl, sym, ap, ◌∙◌, arith, encode_utf8_all, IsTrue}
 use Rattle.std.specs.Prelude.{◌||◌, ◌&&◌, ◌==◌, not, encode_utf8, Option, Some, None}
-use Rattle.std.proofs.lemmas.Bool.Decides.{nat_tests}
 use Rattle.saphyr_input.specs.Classes.{is_blank, is_break, is_breakz}
+use Rattle.scalar_values.specs.Escapes.{digit_count, short_escape}
 use Rattle.saphyr_scalar.specs.declared.scalar.position.Marker.{Marker}
 use Rattle.scalar_values.specs.declared.flow.Quote.TheVariants.{Double}
 use Rattle.saphyr_scalar.specs.Views.Cursor.{Cursor, ◌>>=◌, along}
-use Rattle.saphyr_scalar.specs.Steps.Quoted.{is_literal, simple_escape, hex_digit_count, digits, character, numbered, escape_of, escaped_character, with_front, at, on_line, no_gap, inside, inside_at, quoted, double_quoted}
+use Rattle.saphyr_scalar.specs.Steps.Quoted.{is_literal, digits, character, numbered, escape_of, escaped_character, with_front, at, on_line, no_gap, inside, inside_at, quoted, double_quoted}
 use Rattle.saphyr_scalar.specs.Spelling.OneLine as spelling
 use Rattle.saphyr_scalar.proofs.Moving.{along_none, along_more}
 use Rattle.saphyr_scalar.proofs.Quoted.Escapes.{simple_no_digits}
@@ -46,30 +46,30 @@ itself_content c h other = content_of c (by_cases (is_blank c) (is_breakz c) (c 
     by_cases false true q s h other = absurd (cc)
 
 -- an escape of one letter is no break
-pub no_break_simple : (e c : ℕ) → simple_escape e ≡ Some c → is_break e ≡ false
-unfolding simple_escape
+pub no_break_simple : (e c : ℕ) → short_escape e ≡ Some c → is_break e ≡ false
+unfolding short_escape
 no_break_simple e c h = by_test_eq (is_break e)
-    (λ is. absurd (break_cases e is (λ x. simple_escape x ≡ Some c → ⊥) (λ k. absurd (cc)) (λ k. absurd (cc)) h))
+    (λ is. absurd (break_cases e is (λ x. short_escape x ≡ Some c → ⊥) (λ k. absurd (cc)) (λ k. absurd (cc)) h))
     (λ no_break. no_break)
   where
     by_test_eq : (b : Bool) → (b ≡ true → b ≡ false) → (b ≡ false → b ≡ false) → b ≡ false
     by_test_eq true yes_case no_case = yes_case refl
     by_test_eq false yes_case no_case = refl
 
-pub no_break_digits : (e : ℕ) → (hex_digit_count e ≡ 0 → ⊥) → is_break e ≡ false
-no_break_digits e h = by_test_eq (is_break e)
-    (λ is. absurd (h (break_cases e is (λ x. hex_digit_count x ≡ 0) refl refl)))
+pub no_break_digits : (e n : ℕ) → digit_count e ≡ Some n → is_break e ≡ false
+no_break_digits e n h = by_test_eq (is_break e)
+    (λ is. absurd (break_cases e is (λ x. digit_count x ≡ Some n → ⊥) (λ k. absurd (cc)) (λ k. absurd (cc)) h))
     (λ no_break. no_break)
   where
     by_test_eq : (b : Bool) → (b ≡ true → b ≡ false) → (b ≡ false → b ≡ false) → b ≡ false
     by_test_eq true yes_case no_case = yes_case refl
     by_test_eq false yes_case no_case = refl
 
-no_letter : (e : ℕ) (o : Option ℕ) → simple_escape e ≡ o → (hex_digit_count e ≡ 0 → ⊥) → o ≡ None
-no_letter e (Some c) is h = absurd (h (sym (simple_no_digits e c is)))
-no_letter e None is h = refl
+no_letter : (e n : ℕ) (o : Option ℕ) → short_escape e ≡ o → digit_count e ≡ Some n → o ≡ None
+no_letter e n (Some c) is h = let none = simple_no_digits e c is in absurd (cc)
+no_letter e n None is h = refl
 
-pub letter_read : (start m : Marker) (e c : ℕ) (t : List ℕ) → simple_escape e ≡ Some c
+pub letter_read : (start m : Marker) (e c : ℕ) (t : List ℕ) → short_escape e ≡ Some c
     → escaped_character start (at m (92 ∷ e ∷ t)) ≡ Ok (c, at (along m 2) t)
 unfolding escaped_character escape_of
 letter_read start m e c t h = rw h refl
@@ -78,13 +78,8 @@ pub number_read : (start m : Marker) (e c : ℕ) (ds t : List ℕ) → spelling.
     → escaped_character start (at m (92 ∷ e ∷ (ds ++ t))) ≡ Ok (c, at (along (along m 2) (length ds)) t)
 unfolding escaped_character escape_of numbered character
 number_read start m e c ds t h =
-    let some : hex_digit_count e ≡ 0 → ⊥ = λ z. absurd (omega (arith, h.count, h.some)) in
-    let none : simple_escape e ≡ None = no_letter e (simple_escape e) refl some in
-    let many : (length ds == 0) ≡ false = more_than_none (length ds) h.some in
-    rw (none, ← h.count, many, digits_read start (along m 2) 0 ds t h.hex, h.value, h.scalar) refl
-  where
-    more_than_none : (n : ℕ) → 0 < n → (n == 0) ≡ false
-    more_than_none n some = grind (arith, nat_tests)
+    let none : short_escape e ≡ None = no_letter e (length ds) (short_escape e) refl h.count in
+    rw (none, h.count, digits_read start (along m 2) 0 ds t h.hex, h.value, h.scalar) refl
 
 -- A spelled text is read, behind blanks on the line whose bytes are b.
 abbrev pub Reads : ℕ → Marker → List ℕ → Marker → List ℕ → List ℕ → List ℕ → ℕ → Type 0
@@ -150,10 +145,9 @@ inside_read indent start b m _ _ _ (spelling.escaped e c t v x h r) =
     (letter_read start m e c t h) (inside_read indent start [] (along m 2) t v x r)
 inside_read indent start b m _ _ _ (spelling.numbered e c ds t v x h r) =
     let k = 2 + length ds in
-    let some : hex_digit_count e ≡ 0 → ⊥ = λ z. absurd (omega (arith, h.count, h.some)) in
     let place : escaped_character start (at m (92 ∷ e ∷ (ds ++ t))) ≡ Ok (c, at (along m k) t) =
     number_read start m e c ds t h ∙ ap (λ y. Ok (c, at y t)) (along_more m 2 (length ds) k refl) in
-    escape_reads indent start b m e c (ds ++ t) v x t k (spelled_len t v x r) (no_break_digits e some) place
+    escape_reads indent start b m e c (ds ++ t) v x t k (spelled_len t v x r) (no_break_digits e (length ds) h.count) place
     (inside_read indent start [] (along m k) t v x r)
 
 -- A double quoted scalar that is spelled on one line is read: its characters, and what stands behind it.

@@ -28,10 +28,6 @@ word_starts in_flow s =
     fault.PlainDashBeforeFlow s.mark
     else Ok (in_word in_flow s.rest, s)
 
--- content inside flow stands right of the enclosing block collection
-unfoldable pub flow_indented : ℕ → Cursor → Result Cursor Refusal
-flow_indented indent s = if nat_lt s.mark.col indent then refuse fault.FlowIndentation s.mark else Ok s
-
 -- What stands behind a word: what it reads as where another word follows, whether a tab stands in the indentation of
 -- the line that is reached, and what stands behind it.
 pub record PlainGap : Type 0 where

@@ -1,5 +1,5 @@
 -- Quoted scalars (YAML 1.2.2, 7.3.1 and 7.3.2), and the escapes of double quoted ones (5.7).
-use Rattle.std.specs.Prelude.{ℕ, zero, suc, pred, ◌+◌, ◌*◌, Bool, true, false, ◌||◌, ◌&&◌, ◌==◌, not, nat_lt, List, [], ◌∷◌, ◌++◌, take, drop, length, ◌≤◌, slice_index, Option, Some, None, Result, Ok, Err, ◌≡◌, if◌then◌else◌, encode_utf8, encode_utf8_all}
+use Rattle.std.specs.Prelude.{ℕ, zero, suc, pred, ◌+◌, ◌*◌, Bool, true, false, ◌||◌, ◌&&◌, ◌==◌, not, nat_lt, List, [], ◌∷◌, ◌++◌, take, drop, length, ◌≤◌, slice_index, Option, Some, None, unwrap_or, Result, Ok, Err, ◌≡◌, if◌then◌else◌, encode_utf8, encode_utf8_all}
 use Rattle.std.specs.List.{prefix_len}
 use Rattle.saphyr_input.specs.Classes.{is_z, is_break, is_blank, is_blank_or_breakz, is_hex, hex_value, tab}
 use Rattle.saphyr_input.specs.Places.{next_2_are, is_document_indicator}
@@ -12,8 +12,8 @@ use Rattle.scalar_values.specs.declared.flow.Quote.TheVariants.{Single, Double}
 use Rattle.saphyr_scalar.specs.Views.Cursor.{Cursor, ◌>>=◌, refuse, along, next_line, pass}
 use Rattle.scalar_values.specs.Flow as flow
 pub use Rattle.saphyr_scalar.specs.Spelling.LineBreaks.{break_len}
-unfoldable pub use Rattle.saphyr_scalar.specs.Spelling.QuotedWords.{simple_escape}
-pub use Rattle.saphyr_scalar.specs.Spelling.QuotedWords.{hex_digit_count, is_scalar, is_closing}
+pub use Rattle.saphyr_scalar.specs.Spelling.ClosingQuote.{is_closing}
+use Rattle.scalar_values.specs.Escapes.{short_escape, digit_count, is_scalar_value}
 use Rattle.scalar_values.specs.Folding.{raw_break, line_feeds}
 
 -- a character that stands for itself between the quotes and is no blank
@@ -29,21 +29,20 @@ digits start (suc n) v s =
 
 -- the character of a number
 unfoldable pub character : Marker → ℕ → Cursor → Result (ℕ × Cursor) Refusal
-character start v s = if is_scalar v then Ok (v, s) else refuse fault.EscapedCodePoint start
+character start v s = if is_scalar_value v then Ok (v, s) else refuse fault.EscapedCodePoint start
 
--- the character of n digits behind an escape's letter
-unfoldable pub numbered : Marker → ℕ → Cursor → Result (ℕ × Cursor) Refusal
-numbered start n s =
-    if n == 0 then refuse fault.UnknownEscape start
-    else (digits start n 0 (pass 2 s) >>= λ x. character start x.0 x.1)
+-- the character of the digits behind an escape's letter, which asks for so many
+unfoldable pub numbered : Marker → Option ℕ → Cursor → Result (ℕ × Cursor) Refusal
+numbered start None s = refuse fault.UnknownEscape start
+numbered start (Some n) s = digits start n 0 (pass 2 s) >>= λ x. character start x.0 x.1
 
 unfoldable pub escape_of : Marker → Option ℕ → ℕ → Cursor → Result (ℕ × Cursor) Refusal
 escape_of start (Some c) letter s = Ok (c, pass 2 s)
-escape_of start None letter s = numbered start (hex_digit_count letter) s
+escape_of start None letter s = numbered start (digit_count letter) s
 
 -- an escape, from its backslash on: the character that it stands for
 unfoldable pub escaped_character : Marker → Cursor → Result (ℕ × Cursor) Refusal
-escaped_character start s = escape_of start (simple_escape (slice_index s.rest 1)) (slice_index s.rest 1) s
+escaped_character start s = escape_of start (short_escape (slice_index s.rest 1)) (slice_index s.rest 1) s
 
 -- the bytes of a text, and what stands behind what was taken off, or a fault
 abbrev pub TextRead : Type 0
@@ -66,6 +65,10 @@ special Double start s =
     if (slice_index s.rest 0 == backslash) && not (is_break (slice_index s.rest 1)) then
     (escaped_character start s >>= λ e. Ok (Some e.0, e.1))
     else Ok (None, s)
+
+-- how many hexadecimal digits follow the letter of an escape, 0 where none do
+abbrev pub hex_digit_count : ℕ → ℕ
+hex_digit_count letter = unwrap_or (digit_count letter) 0
 
 -- how many characters such a spelling has behind its first one
 abbrev pub special_len : Quote → ℕ → ℕ

@@ -10,7 +10,8 @@ use Rattle.saphyr_scalar.specs.declared.scalar.tag.TagParts.{TagParts}
 use Rattle.saphyr_scalar.specs.declared.scalar.tag.UriSet.{UriSet}
 use Rattle.saphyr_scalar.specs.declared.scalar.tag.UriSet.TheVariants.{Uri, Suffix}
 use Rattle.saphyr_scalar.specs.Views.Cursor.{Cursor, ◌>>=◌, refuse, along, pass}
-use Rattle.saphyr_scalar.specs.Steps.Quoted.{is_scalar, with_front, with_run, at}
+use Rattle.scalar_values.specs.Escapes.{is_scalar_value}
+use Rattle.saphyr_scalar.specs.Steps.Quoted.{with_front, with_run, at}
 
 -- the characters of a uri, or of a tag's suffix
 abbrev pub has : UriSet → ℕ → Bool
@@ -59,7 +60,7 @@ trailing_bytes start (suc n) v s = trailing_byte start v s >>= λ x. trailing_by
 
 -- a character whose UTF-8 has so many bytes: no form is longer than it has to be
 abbrev pub is_encoded : ℕ → ℕ → Bool
-is_encoded width v = is_scalar v && (len_utf8 v == width)
+is_encoded width v = is_scalar_value v && (len_utf8 v == width)
 
 unfoldable pub encoded : Marker → ℕ → ℕ → Cursor → Result (ℕ × Cursor) Refusal
 encoded start width v s = if is_encoded width v then Ok (v, s) else refuse fault.TagEscapeCodePoint start

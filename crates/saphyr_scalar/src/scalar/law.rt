@@ -15,8 +15,7 @@ ghost use Rattle.saphyr_scalar.specs.Steps.Block.{block_scalar};
 ghost use Rattle.saphyr_scalar.specs.Steps.Directive.{ReadDirective, directive};
 ghost use Rattle.saphyr_scalar.specs.Steps.Tag.{tag};
 ghost use Rattle.saphyr_scalar.specs.Views.Cursor.{Cursor, along};
-ghost use Rattle.scalar_values.specs.Escapes as escapes;
-ghost use Rattle.saphyr_scalar.specs.Steps.Quoted.{double_quoted, quoted, at, simple_escape, hex_digit_count, is_scalar};
+ghost use Rattle.saphyr_scalar.specs.Steps.Quoted.{double_quoted, quoted, at};
 ghost use Rattle.saphyr_scalar.specs.Spelling.Quoted.{IsQuotedText};
 ghost use Rattle.scalar_values.specs.Flow as flow;
 ghost use Rattle.scalar_values.specs.Flow.{plain_value};
@@ -71,16 +70,6 @@ pub fn spells_each_quoted()
         → slice_index s.rest 0 ≡ flow.mark quote → quoted quote indent s ≡ Ok (text, t)
         → (items : List Item) × IsQuotedText quote s.rest items t.rest
         × (encode_utf8_all (folded items) ≡ text) × IsPassed s.mark s.rest t.mark t.rest }
-{}
-
-/// The escapes that are read are those of the standard's table: what a name stands for, how many digits
-/// follow one, and which numbers are characters.
-pub fn reads_the_table_of_escapes()
-    ensures names { (name : ℕ) → simple_escape name ≡ escapes.short_escape name }
-    ensures digits { (name count : ℕ) → count ≡ hex_digit_count name → 0 < count
-        → escapes.digit_count name ≡ Some count }
-    ensures characters { (number : ℕ) → is_scalar number ≡ true
-        → escapes.is_scalar_value number ≡ true }
 {}
 
 /// No later line of what is read as a quoted scalar begins with a document marker.

@@ -18,7 +18,7 @@ use Rattle.saphyr_scalar.specs.Reading.Plain.{ends_piece, passed}
 use Rattle.saphyr_scalar.specs.Spelling.Tag.{IsTagText}
 use Rattle.saphyr_scalar.specs.Spelling.Directive.{IsLineTail, IsReadTagDirective}
 use Rattle.saphyr_scalar.specs.Spelling.Quoted.{stands_for_itself, closed, itself}
-use Rattle.saphyr_scalar.specs.Spelling.QuotedWords.{is_closing}
+use Rattle.saphyr_scalar.specs.Spelling.ClosingQuote.{is_closing}
 use Rattle.saphyr_scanner.specs.Grammar.Forest.{Plain, SingleQuoted, DoubleQuoted}
 use Rattle.saphyr_scanner.specs.Grammar.Tokens as tokens
 use Rattle.saphyr_scanner.specs.Grammar.Tokens.{Kind}
