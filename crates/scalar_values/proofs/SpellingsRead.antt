@@ -76,29 +76,29 @@ escape_first (Raw c) text back h = absurd h
 escape_first Break text back h = absurd h
 
 -- what is read first where a spelling stands, and that it has a first character
-abbrev pub IsRead : Quote → Item → List ℕ → List ℕ → Type 0
-IsRead quote item back front =
+abbrev pub IsReadFirst : Quote → Item → List ℕ → List ℕ → Type 0
+IsReadFirst quote item back front =
     (first_item quote (front ++ back) ≡ Some (item, length front))
     × ((c : ℕ) × (others : List ℕ) × (front ≡ c ∷ others))
 
 itself_read : (quote : Quote) (item : Item) (front back : List ℕ) → IsItself quote item front
-    → IsRead quote item back front
+    → IsReadFirst quote item back front
 itself_read quote item front back (c, plain, is, e) =
-    subst (IsRead quote item back) (sym e) (
+    subst (IsReadFirst quote item back) (sym e) (
       cond-false (is_special quote c) (special_item quote c back) (Some (raw_item c, 1)) plain
           ∙ ap (λ (i : Item). Some (i, 1)) (sym is),
       (c, [], refl),
     )
 
 spelling_read : (quote : Quote) (item : Item) (front back : List ℕ) → IsSpelling quote item front
-    → IsRead quote item back front
+    → IsReadFirst quote item back front
 spelling_read Single item front back (inl h) = itself_read Single item front back h
 spelling_read Double item front back (inl h) = itself_read Double item front back h
 spelling_read Single item front back (inr (is, e)) =
-    subst (IsRead Single item back) (sym e)
+    subst (IsReadFirst Single item back) (sym e)
     (ap (λ (i : Item). Some (i, 2)) (sym is), (apostrophe, apostrophe ∷ [], refl))
 spelling_read Double item front back (inr (text, h, e)) =
-    subst (IsRead Double item back) (sym e) (
+    subst (IsReadFirst Double item back) (sym e) (
       ap (option_map (λ x. (x.0, x.1 + 1))) (escape_first item text back h)
           ∙ ap (λ (n : ℕ). Some (item, n)) (add-one (length text)),
       (backslash, text, refl),

@@ -79,7 +79,7 @@ takes text r t a e l keep =
     let ends : AreEnded (IsPlaceOf text) r.refusal r.pieces = ended (IsPlaceOf text) r e
     (λ f is. subst (λ (o : Option Refusal). IsEndOf text o t.0) is t.2) in
     events_taken keep text r (to_come (keeping_tags keep (at_start r))) t (refused_at text r keep a ends)
-    (begins r keep (tokens_form (IsPlaceOf text) r.refusal [] r.pieces (scalar.fresh text) t.0 t.1 (inr ends)) l)
+    (begins r keep (tokens_form (IsPlaceOf text) r.refusal [] r.pieces (scalar.start_cursor text) t.0 t.1 (inr ends)) l)
 
 -- ## Parsers
 

@@ -9,7 +9,7 @@ use Rattle.saphyr_input.specs.Classes.{is_blank, is_yaml_non_break, is_yaml_non_
 use Rattle.saphyr_input.proofs.Runs.{Ran, ran_all}
 use Rattle.saphyr_scalar.specs.declared.scalar.position.Marker.{Marker}
 use Rattle.saphyr_scalar.specs.Views.Cursor.{Cursor, along}
-use Rattle.saphyr_scalar.specs.Steps.Block.{there, with_line}
+use Rattle.saphyr_scalar.specs.Steps.Block.{line_cursor, with_line}
 use Rattle.saphyr_input.proofs.Basics.Lists.{run_ends}
 use Rattle.saphyr_input.proofs.Basics.Booleans.{by_test}
 use Rattle.saphyr_scalar.proofs.Given.{together}
@@ -71,12 +71,12 @@ pub words_within : (xs : List ℕ) → prefix_len is_yaml_non_space xs ≤ prefi
 words_within = run_le is_yaml_non_break is_yaml_non_space (λ c. (classes c).0)
 
 -- the last turn of a line: a run without blanks of k characters, behind which the character c ends the line
-pub line_end : (s : Cursor) (now words text grown more : List ℕ) (m : Marker) (b : Bool) (n k c : ℕ)
+pub last_turn : (s : Cursor) (now words text grown more : List ℕ) (m : Marker) (b : Bool) (n k c : ℕ)
     → k ≡ prefix_len is_yaml_non_space now → words ≡ drop k now → c ≡ get_or words 0 0 → is_blank c ≡ false
     → Ran is_yaml_non_break s.rest now n → grown ≡ text ++ encode_utf8_all (take n s.rest)
     → more ≡ grown ++ encode_utf8_all (take k now) → m ≡ along s.mark (n + k) → b ≡ s.blank_so_far
-    → with_line text s ≡ (more, there b m words)
-line_end s now words text grown more m b n k c e left read h r old word place same =
+    → with_line text s ≡ (more, line_cursor b m words)
+last_turn s now words text grown more m b n k c e left read h r old word place same =
     let within : k ≤ prefix_len is_yaml_non_break now = omega (arith, words_within now) in
     let piece = ran_piece is_yaml_non_break s.rest now words n k within left r in
     let ends : is_yaml_non_space (get_or words 0 0) ≡ false = rw (left, e) (run_ends is_yaml_non_space now refl) in
@@ -84,7 +84,7 @@ line_end s now words text grown more m b n k c e left read h r old word place sa
     let stop = (classes (get_or words 0 0)).1 ends blank in
     let all : n + k ≡ prefix_len is_yaml_non_break s.rest = ran_all is_yaml_non_break s.rest words (n + k) stop piece in
     let here : together (text ++ encode_utf8_all (take (n + k) s.rest))
-    (there s.blank_so_far (along s.mark (n + k)) (drop (n + k) s.rest)) ≡ together more (there b m words) =
+    (line_cursor s.blank_so_far (along s.mark (n + k)) (drop (n + k) s.rest)) ≡ together more (line_cursor b m words) =
     rw (text_piece is_yaml_non_break s.rest now text grown more n k r old word, place, same, piece.left) refl in
     subst (λ i. together (text ++ encode_utf8_all (take i s.rest))
-    (there s.blank_so_far (along s.mark i) (drop i s.rest)) ≡ together more (there b m words)) all here
+    (line_cursor s.blank_so_far (along s.mark i) (drop i s.rest)) ≡ together more (line_cursor b m words)) all here

@@ -13,9 +13,9 @@ AreTrailing [] = Unit {0}
 AreTrailing (b ∷ bs) = (is_trailing b ≡ true) × AreTrailing bs
 
 -- what trailing bytes say, behind those that say v
-abbrev pub joined : ℕ → List ℕ → ℕ
-joined v [] = v
-joined v (b ∷ bs) = joined (v * 64 + (b - 0x80)) bs
+abbrev pub joined_bytes : ℕ → List ℕ → ℕ
+joined_bytes v [] = v
+joined_bytes v (b ∷ bs) = joined_bytes (v * 64 + (b - 0x80)) bs
 
 -- a character's UTF-8, as it is read
 pub record Bytes (c : ℕ) : Type 0 where
@@ -24,7 +24,7 @@ pub record Bytes (c : ℕ) : Type 0 where
   pub is : encode_utf8 c ≡ first ∷ others
   pub width : utf8_width first ≡ suc (length others)
   pub trailing : AreTrailing others
-  pub says : joined (leading_bits first) others ≡ c
+  pub says : joined_bytes (leading_bits first) others ≡ c
   pub shortest : is_encoded (suc (length others)) c ≡ true
 
 scalar_true : (c : ℕ) → IsScalarValue c → is_scalar_value c ≡ true

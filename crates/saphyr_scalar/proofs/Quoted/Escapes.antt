@@ -10,9 +10,9 @@ use Rattle.saphyr_scalar.specs.declared.scalar.position.Marker.{Marker}
 use Rattle.saphyr_scalar.specs.declared.scalar.fault.FaultText.TheVariants as fault
 use Rattle.saphyr_scalar.specs.Views.Cursor.{Cursor, refuse, along, pass}
 use Rattle.saphyr_scalar.proofs.Moving.{along_none, along_more, drop_more}
-use Rattle.saphyr_scalar.specs.Steps.Quoted.{at, digits, hex_digit_count, character, numbered, escape_of, escaped_character}
+use Rattle.saphyr_scalar.specs.Steps.Quoted.{mid_line, digits, hex_digit_count, character, escape_by_number, escape_of, escaped_character}
 use Rattle.saphyr_input.proofs.Basics.Booleans.{by_test}
-use Rattle.saphyr_scalar.proofs.EscapeEnds.{Ends, refused, read, then_ends}
+use Rattle.saphyr_scalar.proofs.EscapeEnds.{EscapeEnds, refused_ends, read, then_ends}
 
 -- no digit is left
 pub digits_none : (start : Marker) (n i v : ℕ) (s : Cursor) → n ≤ i → digits start (n - i) v s ≡ Ok (v, s)
@@ -75,32 +75,34 @@ digits_left xs n slash e = two_left xs (λ z. absurd (omega arith)) (λ z. no_nu
 
 -- Where an escape ends.
 
-digits_place : (start : Marker) (n v : ℕ) (m : Marker) (xs : List ℕ) → Ends m xs n (digits start n v (at m xs))
+digits_place : (start : Marker) (n v : ℕ) (m : Marker) (xs : List ℕ)
+    → EscapeEnds m xs n (digits start n v (mid_line m xs))
 unfolding digits
-digits_place start zero v m xs = subst (λ x. Ends m xs 0 (Ok (v, at x xs))) (along_none m) (read m xs 0 v)
+digits_place start zero v m xs = subst (λ x. EscapeEnds m xs 0 (Ok (v, mid_line x xs))) (along_none m) (read m xs 0 v)
 digits_place start (suc n) v m xs =
-    by_test (is_hex (slice_index xs 0)) _ _ (Ends m xs (suc n))
+    by_test (is_hex (slice_index xs 0)) _ _ (EscapeEnds m xs (suc n))
     (λ _ e is. digits_place start n _ (along m 1) (drop 1 xs) e is
-    ∙ ap (λ x. at x (drop n (drop 1 xs))) (along_more m 1 n (suc n) (omega arith))
-    ∙ ap (at (along m (suc n))) (drop_more n 1 (suc n) xs (omega arith)))
-    (λ _. refused m xs (suc n) _)
+    ∙ ap (λ x. mid_line x (drop n (drop 1 xs))) (along_more m 1 n (suc n) (omega arith))
+    ∙ ap (mid_line (along m (suc n))) (drop_more n 1 (suc n) xs (omega arith)))
+    (λ _. refused_ends m xs (suc n) _)
 
 character_place : (start : Marker) (m : Marker) (xs : List ℕ) (n v : ℕ)
-    → Ends m xs n (character start v (at (along m n) (drop n xs)))
+    → EscapeEnds m xs n (character start v (mid_line (along m n) (drop n xs)))
 unfolding character
-character_place start m xs n v = by_test (is_scalar_value v) _ _ (Ends m xs n) (λ _. read m xs n v) (λ _. refused m xs n _)
+character_place start m xs n v = by_test (is_scalar_value v) _ _ (EscapeEnds m xs n) (λ _. read m xs n v)
+    (λ _. refused_ends m xs n _)
 
 numbered_place : (start m : Marker) (xs : List ℕ) (o : Option ℕ)
-    → Ends m xs (2 + unwrap_or o 0) (numbered start o (at m xs))
-unfolding numbered
-numbered_place start m xs None = refused m xs (2 + 0) _
+    → EscapeEnds m xs (2 + unwrap_or o 0) (escape_by_number start o (mid_line m xs))
+unfolding escape_by_number
+numbered_place start m xs None = refused_ends m xs (2 + 0) _
 numbered_place start m xs (Some n) =
-    then_ends m xs (2 + n) (digits start n 0 (at (along m 2) (drop 2 xs))) _ (λ x is.
-    let place : x.1 ≡ at (along m (2 + n)) (drop (2 + n) xs) =
+    then_ends m xs (2 + n) (digits start n 0 (mid_line (along m 2) (drop 2 xs))) _ (λ x is.
+    let place : x.1 ≡ mid_line (along m (2 + n)) (drop (2 + n) xs) =
     digits_place start n 0 (along m 2) (drop 2 xs) x is
-    ∙ ap (λ y. at y (drop n (drop 2 xs))) (along_more m 2 n (2 + n) refl)
-    ∙ ap (at (along m (2 + n))) (drop_more n 2 (2 + n) xs refl) in
-    subst (λ y. Ends m xs (2 + n) (character start x.0 y)) (sym place) (character_place start m xs (2 + n) x.0))
+    ∙ ap (λ y. mid_line y (drop n (drop 2 xs))) (along_more m 2 n (2 + n) refl)
+    ∙ ap (mid_line (along m (2 + n))) (drop_more n 2 (2 + n) xs refl) in
+    subst (λ y. EscapeEnds m xs (2 + n) (character start x.0 y)) (sym place) (character_place start m xs (2 + n) x.0))
 
 no_x : (v : ℕ) → short_escape 120 ≡ Some v → ⊥
 unfolding short_escape
@@ -128,14 +130,15 @@ simple_no_digits c v h =
     (λ _. refl)))
 
 of_place : (start m : Marker) (xs : List ℕ) (letter : ℕ) (o : Option ℕ) → short_escape letter ≡ o
-    → Ends m xs (2 + hex_digit_count letter) (escape_of start o letter (at m xs))
+    → EscapeEnds m xs (2 + hex_digit_count letter) (escape_of start o letter (mid_line m xs))
 unfolding escape_of
 of_place start m xs letter (Some c) h =
-    subst (λ o. Ends m xs (2 + unwrap_or o 0) (Ok (c, at (along m 2) (drop 2 xs)))) (simple_no_digits letter c h)
+    subst (λ o. EscapeEnds m xs (2 + unwrap_or o 0) (Ok (c, mid_line (along m 2) (drop 2 xs))))
+    (simple_no_digits letter c h)
     (read m xs 2 c)
 of_place start m xs letter None h = numbered_place start m xs (digit_count letter)
 
 pub escape_place : (start m : Marker) (xs : List ℕ)
-    → Ends m xs (2 + hex_digit_count (slice_index xs 1)) (escaped_character start (at m xs))
+    → EscapeEnds m xs (2 + hex_digit_count (slice_index xs 1)) (escaped_character start (mid_line m xs))
 unfolding escaped_character
 escape_place start m xs = of_place start m xs (slice_index xs 1) (short_escape (slice_index xs 1)) refl

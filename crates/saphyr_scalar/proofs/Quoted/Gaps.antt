@@ -15,11 +15,11 @@ use Rattle.saphyr_scalar.specs.Views.Reader.{ReadsOn}
 use Rattle.saphyr_scalar.specs.Views.Cursor.{Cursor, refuse, along, pass, pass_break, pass_line, next_line}
 use Rattle.scalar_values.specs.Flow as flow
 use Rattle.saphyr_scalar.proofs.NoBreaks.{mark_no_nul}
-use Rattle.saphyr_scalar.proofs.Quoted.Inside.{front_twice, passed_over, behind_no_gap, IsContent, at_break, at_end, flushed, Moved, moved_stops, SameRun, moved_of}
+use Rattle.saphyr_scalar.proofs.Quoted.Inside.{front_twice, passed_over, behind_no_gap, IsQuotedInk, at_break, at_end, flushed, Moved, moved_stops, SameRun, moved_of}
 use Rattle.saphyr_scalar.proofs.Quoted.Parts.{blanks_moved}
 use Rattle.std.proofs.lemmas.Bool.{eqb-true}
 use Rattle.saphyr_input.proofs.Basics.Booleans.{and_true_left}
-use Rattle.saphyr_scalar.specs.Steps.Quoted.{is_literal, is_escaped_break, is_closing, ends_word, with_front, at, special, on_line, over_lines, no_gap, escaped_gap, break_len, inside, inside_at}
+use Rattle.saphyr_scalar.specs.Steps.Quoted.{is_literal, is_escaped_break, is_closing, ends_word, with_front, mid_line, special, on_line, over_lines, no_gap, escaped_gap, break_len, inside, inside_at}
 
 pub by_break_len : (s : Cursor) → is_break (slice_index s.rest 0) ≡ true → pass_break s ≡ pass_line (break_len s.rest) s
 by_break_len s h = by_tests (next_2_are s.rest 13 10) (is_break (slice_index s.rest 0)) h
@@ -151,7 +151,7 @@ pub blanks_to_word : (q : Quote) (indent : ℕ) (start : Marker) (text grown : L
     ≡ with_front text (inside_at q indent start no_gap s)
 blanks_to_word q indent start text grown s t u m same break z =
     let left = content_left t.rest z in
-    let is : IsContent left.0 = record {
+    let is : IsQuotedInk left.0 = record {
       blank = ap (λ (xs : List ℕ). is_blank (slice_index xs 0)) (sym left.2) ∙ moved_stops is_blank [] grown s t refl m;
       break = ap (λ (xs : List ℕ). is_break (slice_index xs 0)) (sym left.2) ∙ break;
       nul = ap (λ (xs : List ℕ). is_z (slice_index xs 0)) (sym left.2) ∙ z;
@@ -174,7 +174,7 @@ closing_quote Single xs h e = by_rest (slice_index xs 0) (slice_index xs 1 == 39
     by_rest c false h e = rw e refl
 
 pub at_closing : (q : Quote) (indent : ℕ) (start m : Marker) (cs : List ℕ) → IsTrue (is_closing q (flow.mark q ∷ cs))
-    → inside q indent start no_gap 0 m (flow.mark q ∷ cs) ≡ Ok ([], at (along m 1) cs)
+    → inside q indent start no_gap 0 m (flow.mark q ∷ cs) ≡ Ok ([], mid_line (along m 1) cs)
 unfolding is_literal special
 at_closing Double indent start m cs h = behind_no_gap Double indent start m 34 cs refl refl refl
 at_closing Single indent start m cs h =
@@ -197,7 +197,7 @@ closing_closes q indent start text s h =
     ap (with_front text) (closes s.mark s.rest h (closing_mark q s.rest h)) ∙ rw (append-nil text) refl
   where
     closes : (m : Marker) (xs : List ℕ) → IsTrue (is_closing q xs) → slice_index xs 0 ≡ flow.mark q
-        → inside q indent start no_gap 0 m xs ≡ Ok ([], at (along m 1) (drop 1 xs))
+        → inside q indent start no_gap 0 m xs ≡ Ok ([], mid_line (along m 1) (drop 1 xs))
     closes m [] h e = absurd (mark_no_nul q e)
     closes m (c ∷ cs) h e =
         ap (λ x. inside q indent start no_gap 0 m (x ∷ cs)) e

@@ -16,7 +16,7 @@ use Rattle.saphyr_scalar.specs.Views.Reader.{ReadsOn, Fails}
 use Rattle.saphyr_scalar.specs.Views.Cursor.{Cursor, ◌>>=◌, refuse, along, pass_break, next_line}
 use Rattle.scalar_values.specs.Flow as flow
 use Rattle.saphyr_scalar.proofs.Moving.{along_none, along_more}
-use Rattle.saphyr_scalar.specs.Steps.Quoted.{TextRead, is_literal, with_front, at, special, special_len, QuotedGap, on_line, no_gap, blank_in, break_in, end_gap, escaped_gap, break_len, if_some, inside, inside_at, with_run}
+use Rattle.saphyr_scalar.specs.Steps.Quoted.{TextRead, is_literal, with_front, mid_line, special, special_len, QuotedGap, on_line, no_gap, blank_in, break_in, end_gap, escaped_gap, break_len, if_some, inside, inside_at, with_run}
 use Rattle.saphyr_input.proofs.Basics.Lists.{run_ends}
 use Rattle.saphyr_input.proofs.Basics.Booleans.{neither_parts, by_test, either}
 use Rattle.std.proofs.lemmas.Bool.{or_parts}
@@ -41,39 +41,39 @@ passed_over q indent start gap (suc k) m (c ∷ cs) = passed_over q indent start
 abbrev pub word_from : Quote → ℕ → Marker → Marker → ℕ → List ℕ → TextRead
 word_from q indent start m c cs =
     cond (is_literal q c) (with_front (encode_utf8 c) (inside q indent start no_gap 0 (along m 1) cs))
-    (special q start (at m (c ∷ cs)) >>= λ x. if_some x.0
+    (special q start (mid_line m (c ∷ cs)) >>= λ x. if_some x.0
     (λ d. with_front (encode_utf8 d) (inside q indent start no_gap (special_len q (slice_index cs 0)) x.1.mark cs))
-    (cond (c == flow.mark q) (Ok ([], at (along m 1) cs))
+    (cond (c == flow.mark q) (Ok ([], mid_line (along m 1) cs))
     (inside q indent start (escaped_gap q (slice_index (drop (break_len cs) cs) 0)) (break_len cs)
     (next_line (along m 1) (break_len cs)) cs)))
 
-pub behind_gap : (q : Quote) (indent : ℕ) (start : Marker) (gap : QuotedGap) (m : Marker) (c : ℕ) (cs : List ℕ)
+pub quoted_behind_gap : (q : Quote) (indent : ℕ) (start : Marker) (gap : QuotedGap) (m : Marker) (c : ℕ) (cs : List ℕ)
     → is_blank c ≡ false → is_break c ≡ false
     → inside q indent start gap 0 m (c ∷ cs)
-    ≡ (end_gap indent start gap (at m (c ∷ cs)) >>= λ text. with_front text (word_from q indent start m c cs))
+    ≡ (end_gap indent start gap (mid_line m (c ∷ cs)) >>= λ text. with_front text (word_from q indent start m c cs))
 unfolding inside
-behind_gap q indent start gap m c cs blank break = rw (blank, break) refl
+quoted_behind_gap q indent start gap m c cs blank break = rw (blank, break) refl
 
 pub behind_no_gap : (q : Quote) (indent : ℕ) (start m : Marker) (c : ℕ) (cs : List ℕ) → is_blank c ≡ false
     → is_break c ≡ false → is_z c ≡ false
     → inside q indent start no_gap 0 m (c ∷ cs) ≡ word_from q indent start m c cs
 unfolding end_gap
 behind_no_gap q indent start m c cs blank break z =
-    behind_gap q indent start no_gap m c cs blank break ∙ rw z (no_front (word_from q indent start m c cs))
+    quoted_behind_gap q indent start no_gap m c cs blank break ∙ rw z (no_front (word_from q indent start m c cs))
 
 -- a character that is no blank, break or NUL
-pub record IsContent (c : ℕ) : Type 0 where
+pub record IsQuotedInk (c : ℕ) : Type 0 where
   pub blank : is_blank c ≡ false
   pub break : is_break c ≡ false
   pub nul : is_z c ≡ false
 
-pub content_of : (c : ℕ) → is_blank_or_breakz c ≡ false → IsContent c
+pub content_of : (c : ℕ) → is_blank_or_breakz c ≡ false → IsQuotedInk c
 content_of c h =
     let one = or_parts (is_blank c) (is_break c || is_z c) h in
     let two = or_parts (is_break c) (is_z c) one.1 in
     record { blank = one.0; break = two.0; nul = two.1 }
 
-literal_content : (q : Quote) (c : ℕ) → is_literal q c ≡ true → IsContent c
+literal_content : (q : Quote) (c : ℕ) → is_literal q c ≡ true → IsQuotedInk c
 unfolding is_literal
 literal_content q c h = content_of c (neither_parts (is_blank_or_breakz c) (flow.is_special q c) h).0
 
@@ -86,12 +86,12 @@ stands q indent start m c cs h =
     behind_no_gap q indent start m c cs is.blank is.break is.nul ∙ rw h refl
 
 -- what was read of a word, and what is read behind it
-abbrev pub Piece : Quote → ℕ → Marker → Marker → List ℕ → ℕ → Type 0
-Piece q indent start m xs n =
+abbrev pub WordPiece : Quote → ℕ → Marker → Marker → List ℕ → ℕ → Type 0
+WordPiece q indent start m xs n =
     inside q indent start no_gap 0 m xs
     ≡ with_front (encode_utf8_all (take n xs)) (inside q indent start no_gap 0 (along m n) (drop n xs))
 
-pub no_piece : (q : Quote) (indent : ℕ) (start m : Marker) (xs : List ℕ) → Piece q indent start m xs 0
+pub no_piece : (q : Quote) (indent : ℕ) (start m : Marker) (xs : List ℕ) → WordPiece q indent start m xs 0
 no_piece q indent start m xs =
     sym (no_front _) ∙ ap (λ x. with_front [] (inside q indent start no_gap 0 x xs)) (sym (along_none m))
 
@@ -138,11 +138,11 @@ at_end q indent start bytes m (c ∷ cs) h = rw h refl
 
 -- a word behind blanks
 pub flushed : (q : Quote) (indent : ℕ) (start : Marker) (bytes : List ℕ) (m : Marker) (c : ℕ) (cs : List ℕ)
-    → IsContent c
+    → IsQuotedInk c
     → inside q indent start (on_line bytes) 0 m (c ∷ cs) ≡ with_front bytes (inside q indent start no_gap 0 m (c ∷ cs))
 unfolding end_gap
 flushed q indent start bytes m c cs is =
-    behind_gap q indent start (on_line bytes) m c cs is.blank is.break ∙ rw is.nul refl
+    quoted_behind_gap q indent start (on_line bytes) m c cs is.blank is.break ∙ rw is.nul refl
     ∙ ap (with_front bytes) (sym (behind_no_gap q indent start m c cs is.blank is.break is.nul))
 
 pub break_cases : (c : ℕ) → is_break c ≡ true → (P : ℕ → Type 0) → P 10 → P 13 → P c

@@ -11,8 +11,8 @@ use Rattle.saphyr_scalar.specs.declared.scalar.fault.FaultText.TheVariants as fa
 use Rattle.scalar_values.specs.declared.flow.Quote.{Quote}
 use Rattle.saphyr_scalar.specs.Views.Cursor.{Cursor, ◌>>=◌, refuse, along, pass_blanks, pass_break}
 use Rattle.scalar_values.specs.Folding.{line_feeds}
-use Rattle.saphyr_scalar.proofs.Quoted.Inside.{front_twice, behind_gap, behind_no_gap, word_from, at_break}
-use Rattle.saphyr_scalar.specs.Steps.Quoted.{TextRead, with_front, at, over_lines, no_gap, is_left, blank_in, folded_break, begin_word, end_gap, inside, inside_at}
+use Rattle.saphyr_scalar.proofs.Quoted.Inside.{front_twice, quoted_behind_gap, behind_no_gap, word_from, at_break}
+use Rattle.saphyr_scalar.specs.Steps.Quoted.{TextRead, with_front, mid_line, over_lines, no_gap, is_left, blank_in, folded_break, quoted_line, end_gap, inside, inside_at}
 use Rattle.saphyr_input.proofs.Basics.Booleans.{and_false}
 use Rattle.std.proofs.lemmas.Bool.{lt-ltb}
 use Rattle.saphyr_scalar.proofs.PassedBreaks.{break_shorter}
@@ -102,14 +102,14 @@ tab_on q indent start escaped n s u tab same left =
 
 -- What begins a word on a later line.
 
--- what is read where `begin_word` gives this
+-- what is read where `quoted_line` gives this
 abbrev Begins : Quote → ℕ → Marker → Bool → ℕ → Cursor → Result Cursor Refusal → Type 0
 Begins q indent start escaped n s (Ok t) =
     (t ≡ s) × (with_front (encode_utf8_all (folded_break escaped n)) (inside_at q indent start no_gap s)
     ≡ inside_at q indent start (over_lines escaped n) s)
 Begins q indent start escaped n s (Err r) = inside_at q indent start (over_lines escaped n) s ≡ Err r
 
--- the tests of `begin_word`, in their order
+-- the tests of `quoted_line`, in their order
 abbrev tests : Marker → Bool → Bool → Bool → Cursor → Result Cursor Refusal
 tests start marker nul left s =
     cond marker (refuse fault.DocumentIndicatorInsideQuotes start)
@@ -138,22 +138,22 @@ begins_end q indent start m escaped n b false left = refl
 behind_lines : (q : Quote) (indent : ℕ) (start m : Marker) (escaped : Bool) (n c : ℕ) (cs : List ℕ) → is_blank c ≡ false
     → is_break c ≡ false
     → inside q indent start (over_lines escaped n) 0 m (c ∷ cs)
-    ≡ ((tests start ((m.col == 0) && is_document_indicator (c ∷ cs)) (is_z c) (is_left indent m) (at m (c ∷ cs))
+    ≡ ((tests start ((m.col == 0) && is_document_indicator (c ∷ cs)) (is_z c) (is_left indent m) (mid_line m (c ∷ cs))
     >>= λ u. Ok (encode_utf8_all (folded_break escaped n))) >>= λ text. with_front text
     (word_from q indent start m c cs))
-unfolding end_gap begin_word
+unfolding end_gap quoted_line
 behind_lines q indent start m escaped n c cs blank break =
-    behind_gap q indent start (over_lines escaped n) m c cs blank break
+    quoted_behind_gap q indent start (over_lines escaped n) m c cs blank break
 
 begins_at : (q : Quote) (indent : ℕ) (start m : Marker) (escaped : Bool) (n : ℕ) (b : Bool) (xs : List ℕ)
     → is_blank (slice_index xs 0) ≡ false → is_break (slice_index xs 0) ≡ false
     → Begins q indent start escaped n (record { rest = xs; mark = m; blank_so_far = b })
-    (begin_word indent start (record { rest = xs; mark = m; blank_so_far = b }))
-unfolding begin_word
+    (quoted_line indent start (record { rest = xs; mark = m; blank_so_far = b }))
+unfolding quoted_line
 begins_at q indent start m escaped n b [] blank break =
     begins_end q indent start m escaped n b (m.col == 0) (is_left indent m)
 begins_at q indent start m escaped n b (c ∷ cs) blank break =
-    begins_by q indent start escaped n (record { rest = c ∷ cs; mark = m; blank_so_far = b }) (at m (c ∷ cs))
+    begins_by q indent start escaped n (record { rest = c ∷ cs; mark = m; blank_so_far = b }) (mid_line m (c ∷ cs))
     (word_from q indent start m c cs)
     ((m.col == 0) && is_document_indicator (c ∷ cs)) (is_z c) (is_left indent m)
     (behind_lines q indent start m escaped n c cs blank break)
@@ -161,14 +161,14 @@ begins_at q indent start m escaped n b (c ∷ cs) blank break =
 
 begins_with_ink : (q : Quote) (indent : ℕ) (start : Marker) (escaped : Bool) (n : ℕ) (s : Cursor)
     → is_blank (slice_index s.rest 0) ≡ false → is_break (slice_index s.rest 0) ≡ false
-    → Begins q indent start escaped n s (begin_word indent start s)
+    → Begins q indent start escaped n s (quoted_line indent start s)
 begins_with_ink q indent start escaped n s blank break =
     begins_at q indent start s.mark escaped n s.blank_so_far s.rest blank break
 
 -- a word that may stand on a later line
 pub begins_word : (q : Quote) (indent : ℕ) (start : Marker) (escaped : Bool) (n : ℕ) (text : List ℕ) (s t : Cursor)
     → is_blank (slice_index s.rest 0) ≡ false → is_break (slice_index s.rest 0) ≡ false
-    → begin_word indent start s ≡ Ok t
+    → quoted_line indent start s ≡ Ok t
     → (t ≡ s) × (with_front (text ++ encode_utf8_all (folded_break escaped n)) (inside_at q indent start no_gap t)
     ≡ with_front text (inside_at q indent start (over_lines escaped n) s))
 begins_word q indent start escaped n text s t blank break e =
@@ -181,7 +181,7 @@ begins_word q indent start escaped n text s t blank break e =
 -- one that may not
 pub begins_refused : (q : Quote) (indent : ℕ) (start : Marker) (escaped : Bool) (n : ℕ) (text : List ℕ) (s : Cursor)
     (refusal : Refusal) → is_blank (slice_index s.rest 0) ≡ false → is_break (slice_index s.rest 0) ≡ false
-    → begin_word indent start s ≡ Err refusal
+    → quoted_line indent start s ≡ Err refusal
     → with_front text (inside_at q indent start (over_lines escaped n) s) ≡ Err refusal
 begins_refused q indent start escaped n text s refusal blank break e =
     ap (with_front text) (subst (Begins q indent start escaped n s) e (begins_with_ink q indent start escaped n s blank

@@ -9,6 +9,7 @@ use Rattle.scalar_values.specs.declared.folding.Item.TheVariants.{Raw, Escaped, 
 use Rattle.scalar_values.specs.declared.flow.Quote.{Quote}
 use Rattle.scalar_values.specs.declared.flow.Quote.TheVariants.{Single, Double}
 use Rattle.scalar_values.specs.Escapes.{digit_count, hex_character, is_scalar_value, short_escape}
+use Rattle.saphyr_scalar.specs.Spelling.Tag.{AreIn}
 use Rattle.saphyr_scalar.specs.Views.Cursor.{Cursor}
 use Rattle.scalar_values.specs.Flow as flow
 use Rattle.scalar_values.specs.Folding.{folded}
@@ -22,7 +23,7 @@ use Rattle.saphyr_scalar.proofs.Quoted.SpelledEscapes.{GaveText}
 use Rattle.scalar_values.proofs.SpellingsRead.{quoted_read}
 use Rattle.saphyr_input.proofs.Basics.Characters.{normalized_other}
 
-digits_number : (v : ℕ) (ds : List ℕ) → line.AreHex ds → IsTrue (is_scalar_value (line.hexadecimal_from v ds))
+digits_number : (v : ℕ) (ds : List ℕ) → AreIn is_hex ds → IsTrue (is_scalar_value (line.hexadecimal_from v ds))
     → hex_character v ds ≡ Some (line.hexadecimal_from v ds)
 digits_number v [] hex h = rw h refl
 digits_number v (d ∷ ds) hex h = rw hex.0 (digits_number (v * 16 + hex_value d) ds hex.1 h)
@@ -193,7 +194,7 @@ no_return_hex d h = by_test (d == 13) refl
     by_test true is = let no : is_hex d ≡ false = ap is_hex (number d is) in absurd (cc)
     by_test false is = refl
 
-digits_same : (ds p : List ℕ) → line.AreHex ds → normalized (ds ++ p) ≡ ds ++ normalized p
+digits_same : (ds p : List ℕ) → AreIn is_hex ds → normalized (ds ++ p) ≡ ds ++ normalized p
 digits_same [] p h = refl
 digits_same (d ∷ ds) p h =
     normalized_other d (ds ++ p) (no_return_hex d h.0) ∙ ap (λ (r : List ℕ). d ∷ r) (digits_same ds p h.1)

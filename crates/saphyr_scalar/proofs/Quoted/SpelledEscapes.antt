@@ -3,13 +3,14 @@ use Rattle.std.proofs.Common.{◌≡◌, ℕ, zero, suc, ◌+◌, ◌*◌, ◌�
 use Rattle.std.specs.Prelude.{Option, Some, None}
 use Rattle.saphyr_input.specs.Classes.{is_hex, hex_value}
 use Rattle.scalar_values.specs.Escapes.{digit_count, is_scalar_value, short_escape}
+use Rattle.saphyr_scalar.specs.Spelling.Tag.{AreIn}
 use Rattle.saphyr_scalar.specs.declared.scalar.position.Marker.{Marker}
 use Rattle.saphyr_scalar.specs.declared.scalar.fault.Refusal.{Refusal}
 use Rattle.scalar_values.specs.declared.folding.Item.{Item}
 use Rattle.scalar_values.specs.declared.folding.Item.TheVariants.{Escaped}
 use Rattle.scalar_values.specs.declared.flow.Quote.TheVariants.{Double}
 use Rattle.saphyr_scalar.specs.Views.Cursor.{Cursor, ◌>>=◌, along, pass}
-use Rattle.saphyr_scalar.specs.Steps.Quoted.{digits, character, numbered, escape_of, escaped_character, with_front, at}
+use Rattle.saphyr_scalar.specs.Steps.Quoted.{digits, character, escape_by_number, escape_of, escaped_character, with_front, mid_line}
 use Rattle.saphyr_scalar.specs.Spelling.OneLine as spelling
 use Rattle.saphyr_scalar.proofs.Quoted.Clean as quotes
 use Rattle.saphyr_scalar.specs.Passing.{IsPassed}
@@ -56,7 +57,7 @@ record Digits (v n : ℕ) (m : Marker) (xs : List ℕ) (w : ℕ) (s : Cursor) : 
   ds : List ℕ
   split : xs ≡ ds ++ s.rest
   count : length ds ≡ n
-  hex : spelling.AreHex ds
+  hex : AreIn is_hex ds
   value : spelling.hexadecimal_from v ds ≡ w
   passes : (n : Marker) (u : List ℕ) → IsPassed s.mark s.rest n u → IsPassed m xs n u
 
@@ -92,8 +93,8 @@ digits_spelled start (suc n) v t w s e =
 
 -- an escape that was read, behind its backslash
 pub record Escape (m : Marker) (e : ℕ) (xs : List ℕ) (c : ℕ) (s : Cursor) : Type 0 where
-  pub grows : (items : List Item) (x : List ℕ) → quotes.IsText Double s.rest items x
-      → quotes.IsText Double (92 ∷ e ∷ xs) (Escaped c ∷ items) x
+  pub grows : (items : List Item) (x : List ℕ) → quotes.IsCleanText Double s.rest items x
+      → quotes.IsCleanText Double (92 ∷ e ∷ xs) (Escaped c ∷ items) x
   pub shorter : length s.rest ≤ length xs
   pub passes : (n : Marker) (u : List ℕ) → IsPassed s.mark s.rest n u → IsPassed m (92 ∷ e ∷ xs) n u
 
@@ -121,12 +122,13 @@ scalar_gave start w c u s =
     (λ h g. (h, gave_first w c u s g, gave_second w c u s g)) (λ _ g. nothing _ c s g)
 
 number_spelled : (start m : Marker) (e : ℕ) (xs : List ℕ) (c : ℕ) (s : Cursor) (o : Option ℕ) → digit_count e ≡ o
-    → Gave (numbered start o (at m (92 ∷ e ∷ xs))) c s → Escape m e xs c s
-unfolding numbered
+    → Gave (escape_by_number start o (mid_line m (92 ∷ e ∷ xs))) c s → Escape m e xs c s
+unfolding escape_by_number
 number_spelled start m e xs c s None asked g = nothing _ c s g
 number_spelled start m e xs c s (Some n) asked g =
-    let t = then_gave (digits start n 0 (pass 2 (at m (92 ∷ e ∷ xs)))) _ c s g in
-    let d : Digits 0 n (along m 2) xs t.0 t.1 = digits_spelled start n 0 (pass 2 (at m (92 ∷ e ∷ xs))) t.0 t.1 t.2 in
+    let t = then_gave (digits start n 0 (pass 2 (mid_line m (92 ∷ e ∷ xs)))) _ c s g in
+    let d : Digits 0 n (along m 2) xs t.0 t.1 = digits_spelled start n 0
+    (pass 2 (mid_line m (92 ∷ e ∷ xs))) t.0 t.1 t.2 in
     let k = scalar_gave start t.0 c t.1 s t.3 in
     let split : xs ≡ d.ds ++ s.rest = d.split ∙ ap (λ (u : Cursor). d.ds ++ u.rest) k.2 in
     let is : spelling.IsNumber e c d.ds = record {
@@ -136,7 +138,8 @@ number_spelled start m e xs c s (Some n) asked g =
       scalar = subst (λ (n : ℕ). IsTrue (is_scalar_value n)) k.1 k.0;
     } in
     record {
-      grows = λ items x r. subst (λ (y : List ℕ). quotes.IsText Double (92 ∷ e ∷ y) (Escaped c ∷ items) x) (sym split)
+      grows = λ items x r. subst (λ (y : List ℕ). quotes.IsCleanText Double (92 ∷ e ∷ y) (Escaped c ∷ items) x)
+          (sym split)
           (quotes.numbered e c d.ds s.rest items x is r);
       shorter = rw (split, length-append) (omega arith);
       passes = λ n u p. letter_passed m e xs n u
@@ -145,26 +148,28 @@ number_spelled start m e xs c s (Some n) asked g =
     }
 
 of_spelled : (start m : Marker) (e : ℕ) (xs : List ℕ) (c : ℕ) (s : Cursor) (o : Option ℕ) → short_escape e ≡ o
-    → Gave (escape_of start o e (at m (92 ∷ e ∷ xs))) c s → Escape m e xs c s
+    → Gave (escape_of start o e (mid_line m (92 ∷ e ∷ xs))) c s → Escape m e xs c s
 unfolding escape_of
 of_spelled start m e xs c s (Some k) is g =
-    let same : k ≡ c = gave_first k c (pass 2 (at m (92 ∷ e ∷ xs))) s g in
-    let left : xs ≡ s.rest = ap (λ (u : Cursor). u.rest) (gave_second k c (pass 2 (at m (92 ∷ e ∷ xs))) s g) in
+    let same : k ≡ c = gave_first k c (pass 2 (mid_line m (92 ∷ e ∷ xs))) s g in
+    let left : xs ≡ s.rest = ap (λ (u : Cursor). u.rest) (gave_second k c (pass 2 (mid_line m (92 ∷ e ∷ xs))) s g) in
     record {
-      grows = λ items x r. subst (λ (y : List ℕ). quotes.IsText Double (92 ∷ e ∷ y) (Escaped c ∷ items) x) (sym left)
+      grows = λ items x r. subst (λ (y : List ℕ). quotes.IsCleanText Double (92 ∷ e ∷ y) (Escaped c ∷ items) x)
+          (sym left)
           (quotes.escaped e c s.rest items x (is ∙ ap Some same) r);
       shorter = rw left (omega arith);
       passes = λ n u p. letter_passed m e xs n u (no_break_simple e k is)
-          (subst (λ (x : Cursor). IsPassed x.mark x.rest n u) (sym (gave_second k c (pass 2 (at m (92 ∷ e ∷ xs))) s g))
+          (subst (λ (x : Cursor). IsPassed x.mark x.rest n u)
+          (sym (gave_second k c (pass 2 (mid_line m (92 ∷ e ∷ xs))) s g))
           p);
     }
 of_spelled start m e xs c s None is g = number_spelled start m e xs c s (digit_count e) refl g
 
 pub escape_spelled : (start m : Marker) (e : ℕ) (xs : List ℕ) (c : ℕ) (s : Cursor)
-    → Gave (escaped_character start (at m (92 ∷ e ∷ xs))) c s → Escape m e xs c s
+    → Gave (escaped_character start (mid_line m (92 ∷ e ∷ xs))) c s → Escape m e xs c s
 unfolding escaped_character
 escape_spelled start m e xs c s g = of_spelled start m e xs c s (short_escape e) refl g
 
-pub no_escape : (start m : Marker) (c : ℕ) (s : Cursor) → Gave (escaped_character start (at m (92 ∷ []))) c s → ⊥
-unfolding escaped_character escape_of numbered short_escape
+pub no_escape : (start m : Marker) (c : ℕ) (s : Cursor) → Gave (escaped_character start (mid_line m (92 ∷ []))) c s → ⊥
+unfolding escaped_character escape_of escape_by_number short_escape
 no_escape start m c s g = absurd (nothing _ c s g)

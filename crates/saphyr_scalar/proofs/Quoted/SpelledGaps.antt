@@ -11,7 +11,7 @@ use Rattle.scalar_values.specs.declared.flow.Quote.{Quote}
 use Rattle.scalar_values.specs.declared.flow.Quote.TheVariants.{Single, Double}
 use Rattle.saphyr_scalar.specs.Views.Cursor.{Cursor, ◌>>=◌, along, pass_line}
 use Rattle.scalar_values.specs.Flow as flow
-use Rattle.saphyr_scalar.specs.Steps.Quoted.{at, QuotedGap, on_line, over_lines, is_left, blank_in, break_in, break_len, inside, inside_at}
+use Rattle.saphyr_scalar.specs.Steps.Quoted.{mid_line, QuotedGap, on_line, over_lines, is_left, blank_in, break_in, break_len, inside, inside_at}
 use Rattle.saphyr_scalar.proofs.Quoted.Clean as quotes
 use Rattle.saphyr_scalar.proofs.Quoted.Clean.{IsClear}
 use Rattle.saphyr_scalar.specs.Passing.{IsPassed, character, line_break}
@@ -23,21 +23,21 @@ use Rattle.saphyr_input.proofs.Basics.Characters.{blank_cases, blank_no_break}
 use Rattle.saphyr_scalar.proofs.Quoted.GapBytes.{gap_bytes, blank_bytes, break_bytes}
 
 -- a line began
-abbrev pub IsOver : QuotedGap → Type 0
-IsOver (on_line bytes) = ⊥
-IsOver (over_lines escaped n) = Unit {0}
+abbrev pub IsOverLines : QuotedGap → Type 0
+IsOverLines (on_line bytes) = ⊥
+IsOverLines (over_lines escaped n) = Unit {0}
 
-break_over : (gap : QuotedGap) → IsOver (break_in gap)
+break_over : (gap : QuotedGap) → IsOverLines (break_in gap)
 break_over (on_line bytes) = tt
 break_over (over_lines escaped n) = tt
 
 -- the text that was read is spelled so, and no line of it begins with a document marker
 pub record Spelled (q : Quote) (gap : QuotedGap) (m : Marker) (xs b : List ℕ) (s : Cursor) : Type 0 where
   pub items : List Item
-  pub is : quotes.IsText q xs items s.rest
+  pub is : quotes.IsCleanText q xs items s.rest
   pub bytes : gap_bytes gap items ≡ b
   pub passed : IsPassed m xs s.mark s.rest
-  pub clear : IsOver gap → m.col ≡ 0 → IsClear xs
+  pub clear : IsOverLines gap → m.col ≡ 0 → IsClear xs
 
 -- what is known of shorter texts
 abbrev pub Known : ℕ → Quote → ℕ → Marker → Type 0
@@ -53,9 +53,9 @@ blank_item : (c : ℕ) → is_blank c ≡ true → flow.raw_item c ≡ Blank c
 blank_item c h = blank_cases c h (λ x. flow.raw_item x ≡ Blank x) refl refl
 
 blank_spelled : (q : Quote) (c : ℕ) (cs : List ℕ) (items : List Item) (x : List ℕ) → is_blank c ≡ true
-    → quotes.IsText q cs items x → quotes.IsText q (c ∷ cs) (Blank c ∷ items) x
+    → quotes.IsCleanText q cs items x → quotes.IsCleanText q (c ∷ cs) (Blank c ∷ items) x
 blank_spelled q c cs items x h r =
-    subst (λ (i : Item). quotes.IsText q (c ∷ cs) (i ∷ items) x) (blank_item c h)
+    subst (λ (i : Item). quotes.IsCleanText q (c ∷ cs) (i ∷ items) x) (blank_item c h)
     (quotes.itself q c cs items x (blank_itself q c h) r)
 
 line_blank : (q : Quote) (indent : ℕ) (start : Marker) (escaped : Bool) (k : ℕ) (m : Marker) (c : ℕ) (cs : List ℕ)
@@ -118,7 +118,7 @@ pub break_step : (n : ℕ) (q : Quote) (indent : ℕ) (start : Marker) (gap : Qu
     (s : Cursor) → is_break c ≡ true → length cs ≤ n → Known n q indent start
     → GaveText (inside q indent start gap 0 m (c ∷ cs)) b s → Spelled q gap m (c ∷ cs) b s
 break_step n q indent start gap m c cs b s h le known g =
-    let here = at m (c ∷ cs) in
+    let here = mid_line m (c ∷ cs) in
     let there = pass_line (break_len (c ∷ cs)) here in
     let on : inside q indent start gap 0 m (c ∷ cs) ≡ inside_at q indent start (break_in gap) there =
     at_break q indent start gap here h ∙ ap (inside_at q indent start (break_in gap)) (by_break_len here h) in

@@ -3,16 +3,12 @@
 use Rattle.std.specs.Prelude.{◌≡◌, ℕ, ◌+◌, ◌*◌, Bool, ◌&&◌, ◌==◌, not, List, [], ◌∷◌, ◌++◌, length, Some, IsTrue}
 use Rattle.saphyr_input.specs.Classes.{is_breakz, is_hex, hex_value}
 use Rattle.saphyr_input.specs.Indicators.{backslash, quotation_mark}
+use Rattle.saphyr_scalar.specs.Spelling.Tag.{AreIn}
 use Rattle.scalar_values.specs.Escapes.{short_escape, digit_count, is_scalar_value}
 
 -- a character that stands for itself between double quotes: no break, NUL, quote or backslash
 abbrev pub stands_in_double_quotes : ℕ → Bool
 stands_in_double_quotes c = not (is_breakz c) && not (c == quotation_mark) && not (c == backslash)
-
--- hexadecimal digits
-abbrev pub AreHex : List ℕ → Type 0
-AreHex [] = Unit {0}
-AreHex (d ∷ ds) = IsTrue (is_hex d) × AreHex ds
 
 -- what digits stand for, behind those that stand for v
 abbrev pub hexadecimal_from : ℕ → List ℕ → ℕ
@@ -22,7 +18,7 @@ hexadecimal_from v (d ∷ ds) = hexadecimal_from (v * 16 + hex_value d) ds
 -- a character, by the digits behind the letter e
 pub record IsNumber (e c : ℕ) (ds : List ℕ) : Type 0 where
   pub count : digit_count e ≡ Some (length ds)
-  pub hex : AreHex ds
+  pub hex : AreIn is_hex ds
   pub value : hexadecimal_from 0 ds ≡ c
   pub scalar : IsTrue (is_scalar_value c)
 

@@ -32,13 +32,13 @@ unfoldable pub character : Marker → ℕ → Cursor → Result (ℕ × Cursor) 
 character start v s = if is_scalar_value v then Ok (v, s) else refuse fault.EscapedCodePoint start
 
 -- the character of the digits behind an escape's letter, which asks for so many
-unfoldable pub numbered : Marker → Option ℕ → Cursor → Result (ℕ × Cursor) Refusal
-numbered start None s = refuse fault.UnknownEscape start
-numbered start (Some n) s = digits start n 0 (pass 2 s) >>= λ x. character start x.0 x.1
+unfoldable pub escape_by_number : Marker → Option ℕ → Cursor → Result (ℕ × Cursor) Refusal
+escape_by_number start None s = refuse fault.UnknownEscape start
+escape_by_number start (Some n) s = digits start n 0 (pass 2 s) >>= λ x. character start x.0 x.1
 
 unfoldable pub escape_of : Marker → Option ℕ → ℕ → Cursor → Result (ℕ × Cursor) Refusal
 escape_of start (Some c) letter s = Ok (c, pass 2 s)
-escape_of start None letter s = numbered start (digit_count letter) s
+escape_of start None letter s = escape_by_number start (digit_count letter) s
 
 -- an escape, from its backslash on: the character that it stands for
 unfoldable pub escaped_character : Marker → Cursor → Result (ℕ × Cursor) Refusal
@@ -53,8 +53,8 @@ abbrev pub with_front : List ℕ → TextRead → TextRead
 with_front front read = read >>= λ x. Ok (front ++ x.0, x.1)
 
 -- within the line
-abbrev pub at : Marker → List ℕ → Cursor
-at m cs = record { rest = cs; mark = m; blank_so_far = false }
+abbrev pub mid_line : Marker → List ℕ → Cursor
+mid_line m cs = record { rest = cs; mark = m; blank_so_far = false }
 
 -- The character of a spelling of several characters, where one stands: an escape between double quotes, two single
 -- quotes between single ones.
@@ -104,8 +104,8 @@ abbrev pub folded_break : Bool → ℕ → List ℕ
 folded_break escaped n = if escaped then line_feeds n else raw_break n
 
 -- a word or the closing quote on a later line: no document marker stands there, and nothing left of the indentation
-unfoldable pub begin_word : ℕ → Marker → Cursor → Result Cursor Refusal
-begin_word indent start s =
+unfoldable pub quoted_line : ℕ → Marker → Cursor → Result Cursor Refusal
+quoted_line indent start s =
     if (s.mark.col == 0) && is_document_indicator s.rest then refuse fault.DocumentIndicatorInsideQuotes start
     else if is_z (slice_index s.rest 0) then refuse fault.EndInsideQuotes start
     else if is_left indent s.mark then refuse fault.QuotedIndentation start
@@ -116,7 +116,7 @@ unfoldable pub end_gap : ℕ → Marker → QuotedGap → Cursor → Result (Lis
 end_gap indent start (on_line bytes) s =
     if is_z (slice_index s.rest 0) then refuse fault.EndInsideQuotes start else Ok bytes
 end_gap indent start (over_lines escaped n) s =
-    begin_word indent start s >>= λ t. Ok (encode_utf8_all (folded_break escaped n))
+    quoted_line indent start s >>= λ t. Ok (encode_utf8_all (folded_break escaped n))
 
 -- what an escaped break begins: right before the closing quote nothing, and there the quote may stand anywhere
 abbrev pub escaped_gap : Quote → ℕ → QuotedGap
@@ -127,20 +127,19 @@ if_some (Some c) f x = f c
 if_some None f x = x
 
 -- The text behind the quote at `start`: its bytes, and what stands behind the closing quote. `gap` stands before it.
--- The
--- next k characters are taken off already, and m is the place behind them.
+-- The next k characters are taken off already, and m is the place behind them.
 unfoldable pub inside : Quote → ℕ → Marker → QuotedGap → ℕ → Marker → List ℕ → TextRead
 inside quote indent start gap k m [] = refuse fault.EndInsideQuotes start
 inside quote indent start gap zero m (c ∷ cs) =
     if is_blank c then (blank_in indent gap m c >>= λ g. inside quote indent start g zero (along m 1) cs)
     else if is_break c then inside quote indent start (break_in gap) (pred (break_len (c ∷ cs)))
     (next_line m (break_len (c ∷ cs))) cs
-    else (end_gap indent start gap (at m (c ∷ cs)) >>= λ text. with_front text
+    else (end_gap indent start gap (mid_line m (c ∷ cs)) >>= λ text. with_front text
     (if is_literal quote c then with_front (encode_utf8 c) (inside quote indent start no_gap zero (along m 1) cs)
-    else (special quote start (at m (c ∷ cs)) >>= λ x. if_some x.0
+    else (special quote start (mid_line m (c ∷ cs)) >>= λ x. if_some x.0
     (λ d. with_front (encode_utf8 d)
     (inside quote indent start no_gap (special_len quote (slice_index cs 0)) x.1.mark cs))
-    (if c == flow.mark quote then Ok ([], at (along m 1) cs)
+    (if c == flow.mark quote then Ok ([], mid_line (along m 1) cs)
     else inside quote indent start (escaped_gap quote (slice_index (drop (break_len cs) cs) 0)) (break_len cs)
     (next_line (along m 1) (break_len cs)) cs))))
 inside quote indent start gap (suc k) m (c ∷ cs) = inside quote indent start gap k m cs
@@ -175,9 +174,9 @@ abbrev pub ends_word : Quote → List ℕ → Bool
 ends_word quote xs = is_blank_or_breakz (slice_index xs 0) || is_closing quote xs || is_escaped_break quote xs
 
 -- something was read: what was to be read before is what is read now
-abbrev pub Leads : {X : Type 0} → Result X Refusal → (X → TextRead) → TextRead → Type 0
-Leads (Ok x) now before = now x ≡ before
-Leads (Err e) now before = before ≡ Err e
+abbrev pub ReadsFurther : {X : Type 0} → Result X Refusal → (X → TextRead) → TextRead → Type 0
+ReadsFurther (Ok x) now before = now x ≡ before
+ReadsFurther (Err e) now before = before ≡ Err e
 
 -- Words were put behind a text, up to a character that does not stand for itself.
 pub record QuotedWordsMoved (quote : Quote) (text grown : List ℕ) (s t : Cursor) : Type 0 where

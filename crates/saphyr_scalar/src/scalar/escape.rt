@@ -36,7 +36,7 @@ impl<T: Input> Reader<T> {
     }
 
     // Takes an escape off, from its backslash on, and gives the character that it stands for.
-    #[tactic(auto, using(crate::proofs::Quoted::Escapes::letter_left, crate::proofs::Quoted::Escapes::digits_left), unfolding(crate::specs::Steps::Quoted::escaped_character, crate::specs::Steps::Quoted::escape_of, crate::specs::Steps::Quoted::numbered, crate::specs::Steps::Quoted::character))]
+    #[tactic(auto, using(crate::proofs::Quoted::Escapes::letter_left, crate::proofs::Quoted::Escapes::digits_left), unfolding(crate::specs::Steps::Quoted::escaped_character, crate::specs::Steps::Quoted::escape_of, crate::specs::Steps::Quoted::escape_by_number, crate::specs::Steps::Quoted::character))]
     pub(crate) fn read_escape(&mut self, start: Marker) -> Result<char, Refusal>
         requires { slice_index (cursor_of self.old).rest 0 ≡ backslash }
         ensures { GivesBy (spec.escaped_character start) self.old result self.new }

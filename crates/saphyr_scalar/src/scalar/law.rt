@@ -15,7 +15,7 @@ ghost use Rattle.saphyr_scalar.specs.Steps.Block.{block_scalar};
 ghost use Rattle.saphyr_scalar.specs.Steps.Directive.{ReadDirective, directive};
 ghost use Rattle.saphyr_scalar.specs.Steps.Tag.{tag};
 ghost use Rattle.saphyr_scalar.specs.Views.Cursor.{Cursor, along};
-ghost use Rattle.saphyr_scalar.specs.Steps.Quoted.{double_quoted, quoted, at};
+ghost use Rattle.saphyr_scalar.specs.Steps.Quoted.{double_quoted, quoted, mid_line};
 ghost use Rattle.saphyr_scalar.specs.Spelling.Quoted.{IsQuotedText};
 ghost use Rattle.scalar_values.specs.Flow as flow;
 ghost use Rattle.scalar_values.specs.Flow.{plain_value};
@@ -25,8 +25,8 @@ ghost use Rattle.saphyr_scalar.specs.Passing.{IsPassed};
 ghost use Rattle.saphyr_input.specs.Breaks.{normalized};
 ghost use Rattle.scalar_values.specs.Folding.{folded};
 ghost use Rattle.saphyr_scalar.specs.Spelling.OneLine.{IsDoubleQuoted};
-ghost use Rattle.saphyr_scalar.specs.Steps.Plain.{in_word, plain, comment_of};
-ghost use Rattle.saphyr_scalar.specs.Reading.Plain.{IsPlainReading, passed};
+ghost use Rattle.saphyr_scalar.specs.Steps.Plain.{is_in_word, plain, comment_of};
+ghost use Rattle.saphyr_scalar.specs.Reading.Plain.{IsPlainReading, end_of_text};
 ghost use Rattle.saphyr_scalar.specs.Spelling.Plain.{IsPlainWord, EndsPlain, IsPlainText, is_tabbed, past_white};
 
 use crate::scalar::position::Marker;
@@ -36,7 +36,7 @@ use scalar_values::{Item, Quote};
 /// indentation: its characters, and what stands behind it.
 pub fn reads_each_double_quoted()
     ensures { (indent : ℕ) (s : Cursor) (v x : List ℕ) → IsDoubleQuoted s.rest v x
-        → (n : ℕ) × (double_quoted indent s ≡ Ok (encode_utf8_all v, at (along s.mark n) x)) }
+        → (n : ℕ) × (double_quoted indent s ≡ Ok (encode_utf8_all v, mid_line (along s.mark n) x)) }
 {}
 
 /// Where a quoted scalar is spelled whose later lines are indented as they should be, it is read,
@@ -45,7 +45,7 @@ pub fn reads_each_quoted()
     ensures { (quote : Quote) (indent : ℕ) (s : Cursor) (items : List Item) (x : List ℕ)
         (is : IsQuotedText quote s.rest items x) → LinesFit indent quote is.0 items x is.2
         → (m : Marker) × IsPassed s.mark s.rest m x
-        × (quoted quote indent s ≡ Ok (encode_utf8_all (folded items), at m x)) }
+        × (quoted quote indent s ≡ Ok (encode_utf8_all (folded items), mid_line m x)) }
 {}
 
 /// A quoted scalar on one line is read, without a fault and whatever the indentation, and ends on
@@ -54,7 +54,7 @@ pub fn reads_each_quoted_on_line()
     ensures { (quote : Quote) (indent : ℕ) (s : Cursor) (items : List Item) (x : List ℕ)
         → IsQuotedText quote s.rest items x → AreOnLine items
         → (n : ℕ) × (length s.rest ≡ n + length x)
-        × (quoted quote indent s ≡ Ok (encode_utf8_all (folded items), at (along s.mark n) x)) }
+        × (quoted quote indent s ≡ Ok (encode_utf8_all (folded items), mid_line (along s.mark n) x)) }
 {}
 
 /// The place behind what is passed is told of its characters and line breaks alone.
@@ -106,7 +106,7 @@ pub fn reads_each_plain_word()
 pub fn reads_each_plain_text()
     ensures { (in_flow : Bool) (indent : ℕ) (s : Cursor) (text x : List ℕ) → s.rest ≡ text ++ x
         → IsPlainText in_flow indent s.mark text x → let end =
-        passed s.mark text in let behind =
+        end_of_text s.mark text in let behind =
         past_white end false x in plain in_flow indent s
         ≡ Ok (
           encode_utf8_all (plain_value (normalized text)),
@@ -143,7 +143,7 @@ pub fn passes_blanks_and_breaks()
 /// no word goes on.
 pub fn ends_each_plain_scalar()
     ensures { (in_flow : Bool) (end : Marker) (xs : List ℕ) → slice_index xs 0 ≢ number_sign
-        → in_word in_flow (drop (prefix_len is_blank_or_break xs) xs) ≡ false
+        → is_in_word in_flow (drop (prefix_len is_blank_or_break xs) xs) ≡ false
         → EndsPlain in_flow 0 end xs }
 {}
 

@@ -9,7 +9,7 @@ ghost use Rattle.saphyr_scalar.specs.Steps.Plain as spec;
 ghost use Rattle.saphyr_scalar.specs.Steps.PlainLines as lines;
 
 use crate::scalar::fault::{FaultText, Refusal, Stop};
-use crate::scalar::plain::gap::{is_white, push_gap};
+use crate::scalar::plain::gap::{is_blank_or_break, push_gap};
 use crate::scalar::position::Marker;
 use crate::scalar::reader::Reader;
 use saphyr_input::char_traits::{is_blank, is_break};
@@ -32,9 +32,9 @@ impl<T: Input> Reader<T> {
 
     // Whether another word of a plain scalar begins behind a gap.
     #[inline(always)]
-    #[tactic(auto, unfolding(crate::specs::Steps::Plain::goes_on))]
-    fn plain_goes_on(&mut self, in_flow: bool, indent: usize) -> Result<bool, Refusal>
-        ensures { GivesBy (spec.goes_on in_flow indent) self.old result self.new }
+    #[tactic(auto, unfolding(crate::specs::Steps::Plain::next_word_starts))]
+    fn next_plain_word_starts(&mut self, in_flow: bool, indent: usize) -> Result<bool, Refusal>
+        ensures { GivesBy (spec.next_word_starts in_flow indent) self.old result self.new }
     {
         if self.blank_so_far && !in_flow && self.mark.col < indent {
             return Ok(false);
@@ -67,7 +67,7 @@ impl<T: Input> Reader<T> {
         start: Marker,
         mut text: String,
     ) -> Result<PlainScalar, Stop>
-        requires ended { spec.in_word in_flow (cursor_of self.old).rest ≡ false }
+        requires ended { spec.is_in_word in_flow (cursor_of self.old).rest ≡ false }
         requires on_line { (cursor_of self.old).blank_so_far ≡ false }
         ensures { ReadsBy spec.seen_plain_scalar (λ s. spec.with_text (string_bytes text)
             (spec.word in_flow indent start s.mark s.rest)) self.old result self.new }
@@ -76,7 +76,7 @@ impl<T: Input> Reader<T> {
         loop {
             let end = self.mark;
             let tabbed = self.read_plain_gap(indent, start, &mut gap)?;
-            if !self.plain_goes_on(in_flow, indent)? {
+            if !self.next_plain_word_starts(in_flow, indent)? {
                 let comment = self.plain_comment(in_flow, tabbed);
                 return Ok(PlainScalar { text, end, comment });
             }
@@ -99,11 +99,11 @@ impl<T: Input> Reader<T> {
     ) -> Result<PlainScalar, Stop>
         requires { (cursor_of self.old).blank_so_far ≡ true }
         ensures { ReadsBy spec.seen_plain_scalar (λ s. spec.with_text (string_bytes text)
-            (lines.behind_line in_flow indent start behind_word s)) self.old result self.new }
+            (lines.scalar_behind_line in_flow indent start behind_word s)) self.old result self.new }
     {
         let mut feeds = String::new(alloc);
         let tabbed = self.skip_empty_lines(indent, start, &mut feeds)?;
-        if !self.plain_goes_on(in_flow, indent)? {
+        if !self.next_plain_word_starts(in_flow, indent)? {
             let comment = self.plain_comment(in_flow, tabbed);
             return Ok(PlainScalar {
                 text,
@@ -118,11 +118,11 @@ impl<T: Input> Reader<T> {
 
     // Whether what stands here is left of where a scalar outside flow can go on.
     #[inline(always)]
-    fn plain_stands_left(&mut self, in_flow: bool, indent: usize) -> bool
-        ensures value { result ≡ lines.stands_left in_flow indent (cursor_of self.old) }
+    fn is_left_of_plain(&mut self, in_flow: bool, indent: usize) -> bool
+        ensures value { result ≡ lines.is_left_of_scalar in_flow indent (cursor_of self.old) }
         ensures same { cursor_of self.new ≡ cursor_of self.old }
     {
-        !in_flow && self.mark.col < indent && !is_white(self.look())
+        !in_flow && self.mark.col < indent && !is_blank_or_break(self.look())
     }
 
     // Moves what is left of a plain scalar behind a word at a line's end, as `read_plain_rest` does.
@@ -136,7 +136,7 @@ impl<T: Input> Reader<T> {
         start: Marker,
         text: String,
     ) -> Result<PlainScalar, Stop>
-        requires ended { spec.in_word in_flow (cursor_of self.old).rest ≡ false }
+        requires ended { spec.is_in_word in_flow (cursor_of self.old).rest ≡ false }
         requires on_line { (cursor_of self.old).blank_so_far ≡ false }
         requires breaks { class.is_break (slice_index (cursor_of self.old).rest 0) ≡ true }
         ensures { ReadsBy spec.seen_plain_scalar (λ s. spec.with_text (string_bytes text)
@@ -145,7 +145,7 @@ impl<T: Input> Reader<T> {
         let behind_word = self.mark;
         self.skip_line_break();
         self.skip_spaces(usize::MAX);
-        if self.plain_stands_left(in_flow, indent) {
+        if self.is_left_of_plain(in_flow, indent) {
             let comment = None;
             return Ok(PlainScalar {
                 text,

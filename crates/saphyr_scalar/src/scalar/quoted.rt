@@ -22,7 +22,7 @@ impl<T: Input> Reader<T> {
 
     // Whether the closing quote stands here, and not the first of two single quotes.
     #[inline(always)]
-    fn closes(&mut self, quote: Quote) -> bool
+    fn is_at_closing_quote(&mut self, quote: Quote) -> bool
         ensures value { result ≡ spec.is_closing quote (cursor_of self.old).rest }
         ensures same { cursor_of self.new ≡ cursor_of self.old }
     {
@@ -73,7 +73,7 @@ impl<T: Input> Reader<T> {
         let room = if is_empty { 0 } else { FIRST_ROOM };
         let mut text = self.spare.begin_with(alloc, room)?;
         self.take_literal_words(quote, &mut text)?;
-        if self.closes(quote) {
+        if self.is_at_closing_quote(quote) {
             self.skip_non_blank();
             return Ok(text);
         }

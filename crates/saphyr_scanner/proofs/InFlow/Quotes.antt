@@ -11,7 +11,7 @@ use Rattle.scalar_values.specs.declared.flow.Quote.{Quote}
 use Rattle.scalar_values.specs.declared.flow.Quote.TheVariants.{Single, Double}
 use Rattle.saphyr_scalar.specs.Views.Cursor.{along, next_line}
 use Rattle.scalar_values.specs.Flow.{mark, is_special, backslash, apostrophe}
-use Rattle.saphyr_scalar.specs.Spelling.OneLine.{AreHex, IsNumber}
+use Rattle.saphyr_scalar.specs.Spelling.OneLine.{IsNumber}
 use Rattle.saphyr_scalar.specs.Steps.Quoted.{break_len}
 use Rattle.saphyr_scalar.specs.Spelling.Quoted.{stands_for_itself, IsText, closed, itself, broken, two_quotes, escaped, numbered, escaped_break}
 use Rattle.saphyr_scalar.specs.Spelling.QuotedLines.{space_count, IsLine, LinesFit}
@@ -97,7 +97,7 @@ no_feed_letter e ds c h = by_test (e == line_feed) refl
     by_test true k = let count = h.count in let none : digit_count e ≡ None = ap digit_count (feed e k) in absurd (cc)
     by_test false k = k
 
-hex_line : (ds : List ℕ) → AreHex ds → AreIn (λ c. not (c == line_feed)) ds
+hex_line : (ds : List ℕ) → AreIn is_hex ds → AreIn (λ c. not (c == line_feed)) ds
 hex_line [] h = tt
 hex_line (d ∷ ds) h = (one d h.0, hex_line ds h.1)
   where

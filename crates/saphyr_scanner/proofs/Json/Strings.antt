@@ -7,7 +7,7 @@ use Rattle.saphyr_input.specs.Classes.{IsHex, is_hex, hex_value}
 use Rattle.scalar_values.specs.Escapes.{is_scalar_value, short_escape}
 use Rattle.saphyr_scalar.specs.declared.scalar.fault.Refusal.{Refusal}
 use Rattle.saphyr_scalar.specs.Views.Cursor.{Cursor, along}
-use Rattle.saphyr_scalar.specs.Steps.Quoted.{at}
+use Rattle.saphyr_scalar.specs.Steps.Quoted.{mid_line}
 use Rattle.saphyr_scalar.specs.Spelling.OneLine as spelling
 use Rattle.saphyr_scalar.specs.Spelling.OneLine.{stands_in_double_quotes, IsInside, closed, itself, escaped, numbered, IsDoubleQuoted}
 use Rattle.saphyr_scanner.specs.Grammar.Characters.{IsSurrogate}
@@ -87,7 +87,7 @@ string_spelled value t x h = (
 abbrev pub ReadsDoubleQuoted : (Cursor → Result (List ℕ × Cursor) Refusal) → Type 0
 ReadsDoubleQuoted read =
     (s : Cursor) (v x : List ℕ) → IsDoubleQuoted s.rest v x
-    → (n : ℕ) × (read s ≡ Ok (encode_utf8_all v, at (along s.mark n) x))
+    → (n : ℕ) × (read s ≡ Ok (encode_utf8_all v, mid_line (along s.mark n) x))
 
 -- and of the place behind them
 abbrev pub CountsDoubleQuoted : (Cursor → Result (List ℕ × Cursor) Refusal) → Type 0
@@ -97,12 +97,12 @@ CountsDoubleQuoted read =
 -- A string of JSON is read as a double quoted scalar, up to its closing quote.
 pub string_read : (read : Cursor → Result (List ℕ × Cursor) Refusal) → ReadsDoubleQuoted read → CountsDoubleQuoted read
     → (s : Cursor) (value t x : List ℕ) → s.rest ≡ t ++ x → IsString value t
-    → read s ≡ Ok (encode_utf8_all value, at (along s.mark (length t)) x)
+    → read s ≡ Ok (encode_utf8_all value, mid_line (along s.mark (length t)) x)
 string_read read reads counts s value t x is h =
     let spelled : IsDoubleQuoted s.rest value x = subst (λ (y : List ℕ). IsDoubleQuoted y value x) (sym is)
     (string_spelled value t x h) in
     let got = reads s value x spelled in
-    let counted = counts s (at (along s.mark got.0) x) (encode_utf8_all value) got.1 in
+    let counted = counts s (mid_line (along s.mark got.0) x) (encode_utf8_all value) got.1 in
     let all : length s.rest ≡ length t + length x = ap length is ∙ length-append t x in
     let n : got.0 ≡ length t = omega arith in
-    got.1 ∙ ap (λ (k : ℕ). Ok (encode_utf8_all value, at (along s.mark k) x)) n
+    got.1 ∙ ap (λ (k : ℕ). Ok (encode_utf8_all value, mid_line (along s.mark k) x)) n

@@ -2,7 +2,7 @@
 //! (YAML 1.2.2, 7.3.3 and 6.5).
 
 ghost use Rattle.std.specs.Prelude.{◌≡◌, ◌≤◌, ◌++◌, slice_index, string_bytes, OnOk, true};
-ghost use Rattle.saphyr_input.specs.Places.{is_blank_or_break};
+ghost use Rattle.saphyr_input.specs.Places as place;
 ghost use Rattle.saphyr_scalar.specs.Steps.Plain as spec;
 
 use crate::scalar::fault::{FaultText, Refusal, Stop};
@@ -14,8 +14,8 @@ use std::alloc::AllocError;
 
 // Whether a character is a blank or a break.
 #[inline]
-pub(super) fn is_white(c: char) -> bool
-    ensures { result ≡ is_blank_or_break c }
+pub(super) fn is_blank_or_break(c: char) -> bool
+    ensures { result ≡ place.is_blank_or_break c }
 {
     is_blank(c) || is_break(c)
 }
@@ -38,9 +38,9 @@ impl<T: Input> Reader<T> {
 
     // Whether the content of a line, behind its blanks, may stand there: where a tab stands in the
     // indentation, only a comment may.
-    #[tactic(auto, unfolding(crate::specs::Steps::Plain::may_stand))]
+    #[tactic(auto, unfolding(crate::specs::Steps::Plain::content_behind_tab))]
     fn check_plain_tab(&mut self, start: Marker, tabbed: bool) -> Result<(), Refusal>
-        ensures { PassesBy (spec.may_stand start tabbed) self.old result self.new }
+        ensures { PassesBy (spec.content_behind_tab start tabbed) self.old result self.new }
     {
         if !tabbed {
             return Ok(());
@@ -73,7 +73,7 @@ impl<T: Input> Reader<T> {
     ) -> Result<bool, Stop>
         requires first { c ≡ slice_index (cursor_of self.old).rest 0 }
         requires loaded { 1 ≤ loaded self.old }
-        requires white { is_blank_or_break (slice_index (cursor_of self.old).rest 0) ≡ true }
+        requires white { place.is_blank_or_break (slice_index (cursor_of self.old).rest 0) ≡ true }
         ensures { WritesBy spec.seen_white (spec.white_onto indent tabbed) feeds.old self.old result
             feeds.new self.new }
     {
@@ -104,7 +104,7 @@ impl<T: Input> Reader<T> {
         loop {
             self.skip_spaces(usize::MAX);
             let c = self.look();
-            if !is_white(c) {
+            if !is_blank_or_break(c) {
                 break;
             }
             tabbed = self.skip_plain_white(c, indent, tabbed, feeds)?;

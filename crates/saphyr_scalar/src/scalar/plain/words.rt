@@ -90,11 +90,11 @@ impl<T: Input> Reader<T> {
 
     // Whether a word goes on with c, the first character.
     #[inline(always)]
-    #[tactic(auto, unfolding(crate::specs::Steps::Plain::in_word))]
+    #[tactic(auto, unfolding(crate::specs::Steps::Plain::is_in_word))]
     fn is_in_plain_word(&mut self, c: char, in_flow: bool) -> bool
         requires first { c ≡ slice_index (cursor_of self.old).rest 0 }
         requires loaded { 1 ≤ loaded self.old }
-        ensures value { result ≡ spec.in_word in_flow (cursor_of self.old).rest }
+        ensures value { result ≡ spec.is_in_word in_flow (cursor_of self.old).rest }
         ensures same { cursor_of self.new ≡ cursor_of self.old }
         ensures loaded { 1 ≤ loaded self.new }
     {

@@ -54,7 +54,7 @@ impl<T: Input> Reader<T> {
     // lines.
     fn skip_quoted_lines(&mut self, indent: usize) -> Result<usize, Refusal>
         ensures same { (quote : Quote) → (start : Marker) → (escaped : Bool)
-            → spec.Leads result (λ n. spec.inside_at quote indent start (spec.over_lines escaped n)
+            → spec.ReadsFurther result (λ n. spec.inside_at quote indent start (spec.over_lines escaped n)
             (cursor_of self.new)) (spec.inside_at quote indent start (spec.over_lines escaped 0)
             (cursor_of self.old)) }
         ensures no_blank { OnOk result (class.is_blank (slice_index (cursor_of self.new).rest 0)
@@ -85,9 +85,9 @@ impl<T: Input> Reader<T> {
     }
 
     // Whether a word, or the closing quote, may stand here on a later line.
-    #[tactic(auto, unfolding(crate::specs::Steps::Quoted::begin_word))]
-    fn begin_quoted_word(&mut self, indent: usize, start: Marker) -> Result<(), Refusal>
-        ensures { PassesBy (spec.begin_word indent start) self.old result self.new }
+    #[tactic(auto, unfolding(crate::specs::Steps::Quoted::quoted_line))]
+    fn check_quoted_line(&mut self, indent: usize, start: Marker) -> Result<(), Refusal>
+        ensures { PassesBy (spec.quoted_line indent start) self.old result self.new }
     {
         self.load(4);
         let text = if self.mark.col == 0 && self.input.next_is_document_indicator() {
@@ -119,7 +119,7 @@ impl<T: Input> Reader<T> {
         ensures shorter { OnOk result (IsNoLonger self.old self.new) }
     {
         let empty_lines = self.skip_quoted_lines(indent)?;
-        self.begin_quoted_word(indent, start)?;
+        self.check_quoted_line(indent, start)?;
         push_folded_break(text, escaped, empty_lines)?;
         Ok(())
     }

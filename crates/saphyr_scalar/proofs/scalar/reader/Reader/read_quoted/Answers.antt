@@ -18,18 +18,19 @@ moved_and_left q indent s here there text grown same empty moved =
     ∙ no_front (spec.inside_at q indent s.mark spec.no_gap here)
     ∙ ap (spec.inside_at q indent s.mark spec.no_gap) same
 
-pub returns-then-closes : goal.returns-then-closes
-returns-then-closes g c =
+pub returns-then-is_at_closing_quote : goal.returns-then-is_at_closing_quote
+returns-then-is_at_closing_quote g c =
     let a = c.args in
     let there = cursor_of c.take_literal_words.new.self in
     let text = string_bytes c.take_literal_words.new.text in
-    let closing : IsTrue (spec.is_closing a.quote there.rest) = sym c.closes.ensures.value ∙ c.if-closes.true in
+    let closing : IsTrue (spec.is_closing a.quote there.rest) = sym c.is_at_closing_quote.ensures.value
+    ∙ c.if-is_at_closing_quote.true in
     sym (moved_and_left a.quote a.indent (cursor_of a.self.now) (cursor_of c.look.new.self) there
     (string_bytes c.in_ok-text.text) text (c.look.ensures.same ∙ c.skip_non_blank.ensures) c.in_ok-text.ensures
     c.in_ok-take_literal_words.ensures)
     ∙ closing_closes a.quote a.indent a.self.now.mark text there closing
     ∙ ap (λ s. let r : spec.TextRead = Ok (text, s) in r)
-    (ap (pass 1) (sym c.closes.ensures.same) ∙ sym c.skip_non_blank-then-closes.ensures)
+    (ap (pass 1) (sym c.is_at_closing_quote.ensures.same) ∙ sym c.skip_non_blank-then-is_at_closing_quote.ensures)
 
 pub returns : goal.returns
 returns g c =
@@ -37,7 +38,7 @@ returns g c =
     let there = cursor_of c.take_literal_words.new.self in
     let text = string_bytes c.take_literal_words.new.text in
     let same = ap (λ s. spec.with_front text (spec.inside_at a.quote a.indent a.self.now.mark spec.no_gap s))
-    c.closes.ensures.same
+    c.is_at_closing_quote.ensures.same
     ∙ moved_and_left a.quote a.indent (cursor_of a.self.now) (cursor_of c.look.new.self) there
     (string_bytes c.in_ok-text.text) text (c.look.ensures.same ∙ c.skip_non_blank.ensures) c.in_ok-text.ensures
     c.in_ok-take_literal_words.ensures in
