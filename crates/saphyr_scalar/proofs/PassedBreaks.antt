@@ -4,7 +4,7 @@ use Rattle.std.specs.Prelude.{slice_index, ◌==◌, if◌then◌else◌}
 use Rattle.std.proofs.lemmas.Bool.{false≢true, eqb-true}
 use Rattle.std.proofs.lemmas.Bool.Decides.{nat_tests}
 use Rattle.std.proofs.lemmas.List.{length-drop}
-use Rattle.saphyr_input.proofs.Basics.Lists.{shown}
+use Rattle.saphyr_input.proofs.Basics.Lists.{shows_character}
 use Rattle.saphyr_input.specs.Classes.{is_break}
 use Rattle.saphyr_scalar.specs.declared.scalar.position.Marker.{Marker}
 use Rattle.saphyr_scalar.specs.Spelling.LineBreaks.{ends_line}
@@ -28,7 +28,7 @@ behind_one m c cs = if ends_line c cs then next_line m 1 else along m 1
 -- a break is taken off
 pub break_shorter : (s : Cursor) → is_break (slice_index s.rest 0) ≡ true → length (pass_break s).rest < length s.rest
 break_shorter s h =
-    let some : 1 ≤ length s.rest = shown s.rest is_break true h (λ e. false≢true e) in
+    let some : 1 ≤ length s.rest = shows_character s.rest is_break true h (λ e. false≢true e) in
     grind (arith, nat_tests, length-drop {A = ℕ})
 
 -- the place between the two characters may be told in two ways

@@ -12,7 +12,7 @@ use Rattle.saphyr_scalar.specs.declared.scalar.block.lines.EmptyLines.{EmptyLine
 use Rattle.scalar_values.specs.declared.flow.Quote.{Quote}
 use Rattle.saphyr_scalar.specs.Views.Cursor.{Cursor, along, pass_spaces}
 use Rattle.saphyr_scalar.specs.Steps.Plain.{lines}
-use Rattle.saphyr_scalar.specs.Steps.Quoted.{mid_line, over_lines, inside, inside_at}
+use Rattle.saphyr_scalar.specs.Steps.Quoted.{mid_line, over_lines, inner_text, inner_text_at}
 use Rattle.saphyr_scalar.specs.Steps.Block.{is_indentation, indentation_left, pass_empty_lines, pass_empty_lines_at}
 use Rattle.saphyr_scalar.proofs.Moving.{along_none, along_more}
 use Rattle.saphyr_scalar.proofs.Plain.Lines.{lines_blank}
@@ -73,10 +73,10 @@ lines_over i a t f most s u e =
 
 pub inside_over_spaces : (q : Quote) (indent : ℕ) (start : Marker) (escaped : Bool) (k most : ℕ) (s u : Cursor)
     → u ≡ pass_spaces most s
-    → inside_at q indent start (over_lines escaped k) u ≡ inside_at q indent start (over_lines escaped k) s
+    → inner_text_at q indent start (over_lines escaped k) u ≡ inner_text_at q indent start (over_lines escaped k) s
 inside_over_spaces q indent start escaped k most s u e =
-    ap (inside_at q indent start (over_lines escaped k)) e
-    ∙ over_run (inside q indent start (over_lines escaped k) 0) Always (λ m n _. tt)
+    ap (inner_text_at q indent start (over_lines escaped k)) e
+    ∙ over_run (inner_text q indent start (over_lines escaped k) 0) Always (λ m n _. tt)
     (λ m n cs _. line_blank q indent start escaped k (mid_line m (32 ∷ cs)) refl refl) s.mark
     (spaces_within most s.rest)
     s.rest tt (few most s.rest)

@@ -14,7 +14,7 @@ use Rattle.scalar_values.specs.declared.flow.Quote.TheVariants.{Single, Double}
 use Rattle.scalar_values.specs.Flow as flow
 use Rattle.saphyr_scalar.specs.Steps.Quoted.{mid_line, quoted}
 use Rattle.saphyr_scalar.proofs.Quoted.Pieces.{quoted_reading}
-use Rattle.saphyr_scalar.specs.Steps.Plain.{PlainGap, lines, reached_gap, content_behind_tab, line_front, next_lines, gap_from, gap, next_word_starts, word_starts, is_in_word, between, word, plain, gap_len}
+use Rattle.saphyr_scalar.specs.Steps.Plain.{PlainGap, lines, reached_gap, content_behind_tab, line_front, next_lines, gap_from, gap, next_word_starts, word_starts, is_in_word, word_behind_gap, word, plain, gap_len}
 use Rattle.saphyr_input.proofs.Basics.Booleans.{by_test}
 use Rattle.saphyr_input.proofs.Basics.Lists.{drop_shorter}
 use Rattle.saphyr_scalar.proofs.Given.{Given, given_bind, given_of, bind_ok}
@@ -71,10 +71,10 @@ abbrev Within : ℕ → List ℕ × Marker × Option Marker × Cursor → Type 0
 Within n x = length x.3.rest ≤ n
 
 mutual
-  unfolding between word
+  unfolding word_behind_gap word
 
   between_within : (n : ℕ) (in_flow : Bool) (indent : ℕ) (start end : Marker) (g : PlainGap) (left : ℕ) (t : List ℕ)
-      → length g.behind.rest ≤ n → length t ≤ n → Given (Within n) (between in_flow indent start end g left t)
+      → length g.behind.rest ≤ n → length t ≤ n → Given (Within n) (word_behind_gap in_flow indent start end g left t)
   between_within n in_flow indent start end g left [] h k = h
   between_within n in_flow indent start end g zero (c ∷ cs) h k =
       let others = word_within n in_flow indent start (along g.behind.mark 1) cs (omega (arith, k)) in

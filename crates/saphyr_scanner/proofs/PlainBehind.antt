@@ -6,7 +6,7 @@ use Rattle.saphyr_input.specs.Places.{is_blank_or_break}
 use Rattle.saphyr_scalar.specs.declared.scalar.position.Marker.{Marker}
 use Rattle.saphyr_scalar.specs.declared.scalar.fault.Refusal.{Refusal}
 use Rattle.saphyr_scalar.specs.Views.Cursor.{Cursor, ◌>>=◌, along, next_line, pass_break}
-use Rattle.saphyr_scalar.specs.Steps.Plain.{PlainGap, PlainScalarRead, plain, word_starts, word, between, next_word_starts, gap, gap_from, gap_len, is_in_word, lines, reached_gap, content_behind_tab, ends_line, scalar_end, comment_of, with_text, line_front}
+use Rattle.saphyr_scalar.specs.Steps.Plain.{PlainGap, PlainScalarRead, plain, word_starts, word, word_behind_gap, next_word_starts, gap, gap_from, gap_len, is_in_word, lines, reached_gap, content_behind_tab, ends_line, scalar_end, comment_of, with_text, line_front}
 use Rattle.saphyr_scalar.specs.Steps.Quoted.{mid_line}
 use Rattle.saphyr_input.proofs.Basics.Booleans.{by_test, or_false_right}
 use Rattle.saphyr_scalar.proofs.Given.{Given}
@@ -76,10 +76,10 @@ any (Ok x) = tt
 any (Err e) = tt
 
 mutual
-  unfolding between word gap
+  unfolding word_behind_gap word gap
 
   between_ends : (in_flow : Bool) (indent : ℕ) (start end : Marker) (g : PlainGap) (left : ℕ) (xs : List ℕ) → StopsGap g
-      → Given Ends (between in_flow indent start end g left xs)
+      → Given Ends (word_behind_gap in_flow indent start end g left xs)
   between_ends in_flow indent start end g left [] h = ended_ends in_flow end g h
   between_ends in_flow indent start end g zero (c ∷ cs) h =
       given_then (λ (b : Bool × Cursor). Unit {0}) Ends (next_word_starts in_flow indent g.behind) _

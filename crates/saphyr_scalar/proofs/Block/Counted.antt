@@ -18,7 +18,7 @@ use Rattle.saphyr_scalar.specs.Views.Cursor.{Cursor, along, next_line, pass, pas
 use Rattle.saphyr_scalar.specs.Steps.Block.{chomping, indicator, header_break, header_end, last_chomping, header_behind, header, is_indentation, is_cr_lf, inside_break, with_empty_line, pass_empty_lines, line_starts, LinesRead, between, line, chomped_lines, content, behind_leading_lines, given_indentation, no_lines, behind_header, block_scalar}
 use Rattle.saphyr_scalar.proofs.Lengths.{two_shown, separation_within}
 use Rattle.saphyr_input.proofs.Basics.Booleans.{by_test}
-use Rattle.saphyr_input.proofs.Basics.Lists.{shown}
+use Rattle.saphyr_input.proofs.Basics.Lists.{shows_character}
 use Rattle.saphyr_scalar.proofs.Given.{Given, given_bind, given_of}
 
 -- the index is no less than `low`, and with the length of what is left it is n
@@ -41,9 +41,9 @@ chomping_stands : (low n : ℕ) (s : Cursor) → CountsFrom low n s → CountsFr
 unfolding chomping
 chomping_stands low n s h =
     by_test (slice_index s.rest 0 == 43) _ _ (Behind (Option Chomping) low n)
-    (λ e. one_moved low n s h (shown s.rest (λ c. c == 43) true e (λ k. absurd (cc))))
+    (λ e. one_moved low n s h (shows_character s.rest (λ c. c == 43) true e (λ k. absurd (cc))))
     (λ _. by_test (slice_index s.rest 0 == 45) _ _ (Behind (Option Chomping) low n)
-    (λ e. one_moved low n s h (shown s.rest (λ c. c == 45) true e (λ k. absurd (cc)))) (λ _. h))
+    (λ e. one_moved low n s h (shows_character s.rest (λ c. c == 45) true e (λ k. absurd (cc)))) (λ _. h))
 
 indicator_stands : (low n : ℕ) (start : Marker) (s : Cursor) → CountsFrom low n s
     → Given (Behind ℕ low n) (indicator start s)
@@ -51,14 +51,15 @@ unfolding indicator
 indicator_stands low n start s h =
     by_test (not (is_digit (slice_index s.rest 0))) _ _ (Given (Behind ℕ low n)) (λ _. h)
     (λ e. by_test (slice_index s.rest 0 == 48) _ _ (Given (Behind ℕ low n)) (λ _. tt)
-    (λ _. one_moved low n s h (shown s.rest (λ c. not (is_digit c)) false e (λ k. absurd (cc)))))
+    (λ _. one_moved low n s h (shows_character s.rest (λ c. not (is_digit c)) false e (λ k. absurd (cc)))))
 
 break_stands : (low n : ℕ) (s : Cursor) → CountsFrom low n s → CountsFrom low n (pass_break s)
 break_stands low n s h =
     by_test (next_2_are s.rest 13 10) _ _ (CountsFrom low n)
     (λ e. counts_moved low n 2 s.mark.index s.rest h.0 h.1 (two_shown s.rest e))
     (λ _. by_test (is_break (slice_index s.rest 0)) _ _ (CountsFrom low n)
-    (λ e. counts_moved low n 1 s.mark.index s.rest h.0 h.1 (shown s.rest is_break true e (λ k. absurd (cc)))) (λ _. h))
+    (λ e. counts_moved low n 1 s.mark.index s.rest h.0 h.1 (shows_character s.rest is_break true e (λ k. absurd (cc))))
+    (λ _. h))
 
 header_break_stands : (low n : ℕ) (start : Marker) (s : Cursor) → CountsFrom low n s
     → Given (CountsFrom low n) (header_break start s)

@@ -11,7 +11,7 @@ use Rattle.saphyr_scalar.specs.declared.scalar.position.Marker.{Marker}
 use Rattle.saphyr_scalar.specs.declared.scalar.fault.Refusal.{Refusal}
 use Rattle.scalar_values.specs.Flow as flow
 use Rattle.saphyr_scalar.specs.Views.Cursor.{Cursor, ◌>>=◌, along, next_line, pass}
-use Rattle.saphyr_scalar.specs.Steps.Quoted.{is_literal, hex_digit_count, digits, escape_by_number, escape_of, escaped_character, TextRead, mid_line, special, special_len, QuotedGap, on_line, over_lines, no_gap, is_left, blank_in, break_in, quoted_line, end_gap, escaped_gap, break_len, if_some, inside, inside_at, quoted}
+use Rattle.saphyr_scalar.specs.Steps.Quoted.{is_literal, hex_digit_count, digits, escape_by_number, escape_of, escaped_character, TextRead, mid_line, special, special_len, QuotedGap, on_line, over_lines, no_gap, is_left, blank_in, break_in, quoted_line, end_gap, escaped_gap, break_len, if_some, inner_text, inner_text_at, quoted}
 use Rattle.saphyr_scalar.specs.Steps.Quoted as quotes
 use Rattle.saphyr_scalar.specs.Alike.{AreAlike, GiveAlike, AreSame}
 use Rattle.saphyr_scalar.proofs.Quoted.Inside.{passed_over, word_from, quoted_behind_gap}
@@ -216,7 +216,7 @@ if_alike R None (Some d) f g u v e some none = absurd (cc)
 abbrev SameInside : List ℕ → Quote → ℕ → Marker → Marker → Cursor → Cursor → Type 0
 SameInside text quote i a b s t =
     (gap : QuotedGap) → AreAlike text s t
-    → GiveAlike (AreSame text) (inside_at quote i a gap s) (inside_at quote i b gap t)
+    → GiveAlike (AreSame text) (inner_text_at quote i a gap s) (inner_text_at quote i b gap t)
 
 module _ (text : List ℕ) (quote : Quote) (i : ℕ) (a b : Marker) where
   -- what is read of any shorter text
@@ -226,23 +226,23 @@ module _ (text : List ℕ) (quote : Quote) (i : ℕ) (a b : Marker) where
   -- behind a spelling of several characters
   behind_special : (r q : List ℕ) (u v : Cursor) → u.rest ≡ drop (special_len quote (slice_index r 0)) r
       → v.rest ≡ drop (special_len quote (slice_index q 0)) q → AreAlike text u v → Others (suc (length r))
-      → GiveAlike (AreSame text) (inside quote i a no_gap (special_len quote (slice_index r 0)) u.mark r)
-      (inside quote i b no_gap (special_len quote (slice_index q 0)) v.mark q)
+      → GiveAlike (AreSame text) (inner_text quote i a no_gap (special_len quote (slice_index r 0)) u.mark r)
+      (inner_text quote i b no_gap (special_len quote (slice_index q 0)) v.mark q)
   behind_special r q u v rest other is others =
       let len = length-drop (special_len quote (slice_index r 0)) r in
       let less : length u.rest < suc (length r) = omega (arith, ap length rest, len) in
       both_are (AreSame text) _ _ _ _
       (passed_over quote i a no_gap (special_len quote (slice_index r 0)) u.mark r
-      ∙ ap (inside quote i a no_gap 0 u.mark) (sym rest))
+      ∙ ap (inner_text quote i a no_gap 0 u.mark) (sym rest))
       (passed_over quote i b no_gap (special_len quote (slice_index q 0)) v.mark q
-      ∙ ap (inside quote i b no_gap 0 v.mark) (sym other))
+      ∙ ap (inner_text quote i b no_gap 0 v.mark) (sym other))
       (others u v less no_gap is)
 
   -- behind an escaped break
   behind_escaped : (m n : Marker) {r q : List ℕ} → Normal r q → Places text r q m n → Others (suc (length r))
       → let k = break_len r in let l = break_len q in GiveAlike (AreSame text)
-      (inside quote i a (escaped_gap quote (slice_index (drop k r) 0)) k (next_line m k) r)
-      (inside quote i b (escaped_gap quote (slice_index (drop l q) 0)) l (next_line n l) q)
+      (inner_text quote i a (escaped_gap quote (slice_index (drop k r) 0)) k (next_line m k) r)
+      (inner_text quote i b (escaped_gap quote (slice_index (drop l q) 0)) l (next_line n l) q)
   behind_escaped m n {r = r} {q = q} x p others =
       let k = break_len r in
       let l = break_len q in
@@ -254,7 +254,7 @@ module _ (text : List ℕ) (quote : Quote) (i : ℕ) (a b : Marker) where
       (first_in (λ c. c == flow.mark quote) (mark_in quote) (break_left x)) in
       both_are (AreSame text) _ _ _ _ (passed_over quote i a gap k (next_line m k) r)
       (passed_over quote i b (escaped_gap quote (slice_index (drop l q) 0)) l (next_line n l) q
-      ∙ ap (λ g. inside quote i b g 0 (next_line n l) (drop l q)) (sym same))
+      ∙ ap (λ g. inner_text quote i b g 0 (next_line n l) (drop l q)) (sym same))
       (others (mid_line (next_line m k) (drop k r)) (mid_line (next_line n l) (drop l q)) less gap
       (alike false false refl (break_left x) (moved_down k l p)))
 
@@ -281,17 +281,17 @@ module _ (text : List ℕ) (quote : Quote) (i : ℕ) (a b : Marker) where
       (λ _ _. behind_escaped (along m 1) (along n 1) x one others))))
 
   inside_by : (m n : Marker) (gap : QuotedGap) {r q : List ℕ} → Normal r q → Places text r q m n → Others (length r)
-      → GiveAlike (AreSame text) (inside quote i a gap 0 m r) (inside quote i b gap 0 n q)
-  unfolding inside
+      → GiveAlike (AreSame text) (inner_text quote i a gap 0 m r) (inner_text quote i b gap 0 n q)
+  unfolding inner_text
   inside_by m n gap nothing p others = refl
   inside_by m n gap (character c {r = r} {q = q} h x) p others = by (is_blank c) refl
     where
       by : (t : Bool) → is_blank c ≡ t
-          → GiveAlike (AreSame text) (inside quote i a gap 0 m (c ∷ r)) (inside quote i b gap 0 n (c ∷ q))
+          → GiveAlike (AreSame text) (inner_text quote i a gap 0 m (c ∷ r)) (inner_text quote i b gap 0 n (c ∷ q))
       by true e =
           rw e (both_then AreGaps (AreSame text) _ _ _ _ (blank_alike i gap m n c p.col) (λ g k _ _ is.
-          subst (λ z. GiveAlike (AreSame text) (inside quote i a g 0 (along m 1) r)
-          (inside quote i b z 0 (along n 1) q)) is
+          subst (λ z. GiveAlike (AreSame text) (inner_text quote i a g 0 (along m 1) r)
+          (inner_text quote i b z 0 (along n 1) q)) is
           (others (mid_line (along m 1) r) (mid_line (along n 1) q) (omega arith) g
           (alike false false refl x (moved_along 1 1 refl p)))))
       by false e =

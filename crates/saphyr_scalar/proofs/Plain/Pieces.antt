@@ -14,7 +14,7 @@ use Rattle.saphyr_scalar.specs.declared.scalar.fault.Stop.TheVariants as stop
 use Rattle.saphyr_scalar.specs.Views.Reader.{Moves, Fails}
 use Rattle.saphyr_scalar.specs.Views.Cursor.{Cursor, ◌>>=◌, refuse, along}
 use Rattle.saphyr_scalar.specs.Steps.Quoted.{mid_line}
-use Rattle.saphyr_scalar.specs.Steps.Plain.{is_in_word, word_len, PlainWordsMoved, word_starts, PlainGap, gap_from, gap, next_word_starts, comment_of, PlainScalarRead, with_text, scalar_end, gap_len, between, word, plain}
+use Rattle.saphyr_scalar.specs.Steps.Plain.{is_in_word, word_len, PlainWordsMoved, word_starts, PlainGap, gap_from, gap, next_word_starts, comment_of, PlainScalarRead, with_text, scalar_end, gap_len, word_behind_gap, word, plain}
 use Rattle.saphyr_scalar.proofs.Moving.{along_none, along_more, bind_same}
 use Rattle.saphyr_scalar.proofs.Plain.Gaps.{IsEnd, gap_end}
 use Rattle.saphyr_input.proofs.Basics.Booleans.{by_test}
@@ -155,22 +155,22 @@ gap_over f i a end g h =
     ap (λ r. r >>= λ b. if b.0 then with_text g.text (word f i a b.1.mark b.1.rest) else scalar_end f end g)
     (goes_not f i g.behind h)
 
-between_none : (f : Bool) (i : ℕ) (a end : Marker) (g : PlainGap) (k : ℕ) → between f i a end g k []
+between_none : (f : Bool) (i : ℕ) (a end : Marker) (g : PlainGap) (k : ℕ) → word_behind_gap f i a end g k []
     ≡ scalar_end f end g
-unfolding between
+unfolding word_behind_gap
 between_none f i a end g zero = refl
 between_none f i a end g (suc k) = refl
 
 between_step : (f : Bool) (i : ℕ) (a end : Marker) (g : PlainGap) (c : ℕ) (cs : List ℕ)
-    → between f i a end g zero (c ∷ cs)
+    → word_behind_gap f i a end g zero (c ∷ cs)
     ≡ (next_word_starts f i g.behind >>= λ b. if b.0 then with_text (g.text ++ encode_utf8 c)
     (word f i a (along g.behind.mark 1) cs) else scalar_end f end g)
-unfolding between
+unfolding word_behind_gap
 between_step f i a end g c cs = refl
 
 between_more : (f : Bool) (i : ℕ) (a end : Marker) (g : PlainGap) (k c : ℕ) (cs : List ℕ)
-    → between f i a end g (suc k) (c ∷ cs) ≡ between f i a end g k cs
-unfolding between
+    → word_behind_gap f i a end g (suc k) (c ∷ cs) ≡ word_behind_gap f i a end g k cs
+unfolding word_behind_gap
 between_more f i a end g k c cs = refl
 
 choice : (b : Bool) (x y z : PlainScalarRead) → (b ≡ true → x ≡ y) → (if b then x else z) ≡ (if b then y else z)
@@ -189,7 +189,7 @@ word_first f i a g c cs t is same goes =
     ∙ ap (λ (x : Cursor). with_text g.text (word f i a x.mark x.rest)) (sym same)
 
 between_there : (f : Bool) (i : ℕ) (a end : Marker) (g : PlainGap) (xs : List ℕ) → xs ≡ g.behind.rest
-    → between f i a end g zero xs ≡ plain_behind_gap f i a end g
+    → word_behind_gap f i a end g zero xs ≡ plain_behind_gap f i a end g
 between_there f i a end g [] is =
     between_none f i a end g zero ∙ sym (gap_over f i a end g (ap (is_in_word f) (sym is) ∙ not_in_word f))
 between_there f i a end g (c ∷ cs) is =
@@ -199,7 +199,7 @@ between_there f i a end g (c ∷ cs) is =
     choice b.0 _ _ (scalar_end f end g) (λ goes. word_first f i a g c cs b.1 is says.same (says.goes goes)))
 
 between_all : (f : Bool) (i : ℕ) (a end : Marker) (g : PlainGap) (k : ℕ) (xs : List ℕ) → drop k xs ≡ g.behind.rest
-    → between f i a end g k xs ≡ plain_behind_gap f i a end g
+    → word_behind_gap f i a end g k xs ≡ plain_behind_gap f i a end g
 between_all f i a end g zero xs is = between_there f i a end g xs is
 between_all f i a end g (suc k) [] is =
     between_none f i a end g (suc k) ∙ sym (between_none f i a end g zero) ∙ between_there f i a end g [] is
@@ -212,7 +212,7 @@ word_end f i a m = refl
 
 word_gap : (f : Bool) (i : ℕ) (a m : Marker) (c : ℕ) (cs : List ℕ) → is_in_word f (c ∷ cs) ≡ false
     → word f i a m (c ∷ cs)
-    ≡ (gap i a (mid_line m (c ∷ cs)) >>= λ g. if gap_len (c ∷ cs) g == 0 then scalar_end f m g else between
+    ≡ (gap i a (mid_line m (c ∷ cs)) >>= λ g. if gap_len (c ∷ cs) g == 0 then scalar_end f m g else word_behind_gap
     f i a m g (pred (gap_len (c ∷ cs) g)) cs)
 unfolding word
 word_gap f i a m c cs h = rw h refl

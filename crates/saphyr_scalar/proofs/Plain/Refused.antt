@@ -9,7 +9,7 @@ use Rattle.saphyr_scalar.specs.declared.scalar.fault.Refusal.{Refusal}
 use Rattle.saphyr_scalar.specs.Steps.Block.{is_cr_lf}
 use Rattle.saphyr_scalar.specs.Views.Cursor.{Cursor, ◌>>=◌, along, next_line, pass, pass_break}
 use Rattle.saphyr_scalar.specs.Passing.{IsPassed, nothing}
-use Rattle.saphyr_scalar.specs.Steps.Plain.{PlainGap, folded_gap, ends_line, is_in_word, word_starts, content_behind_tab, reached_gap, line_front, lines, next_lines, gap_from, gap, next_word_starts, PlainScalarRead, with_text, gap_len, between, word, plain}
+use Rattle.saphyr_scalar.specs.Steps.Plain.{PlainGap, folded_gap, ends_line, is_in_word, word_starts, content_behind_tab, reached_gap, line_front, lines, next_lines, gap_from, gap, next_word_starts, PlainScalarRead, with_text, gap_len, word_behind_gap, word, plain}
 use Rattle.saphyr_scalar.specs.Steps.Quoted.{mid_line}
 use Rattle.saphyr_scalar.specs.RefusedInside.{IsRefusedInside}
 use Rattle.saphyr_scalar.proofs.PassedBreaks.{PassesBreak, along_same, one_here, return_here, feed_here, stop_here, end_here, behind_one}
@@ -159,11 +159,11 @@ text_refused : (P : Refusal → Type 0) (text : List ℕ) (r : PlainScalarRead) 
 text_refused P text r h = refused_bind P r _ h (λ x _. tt)
 
 mutual
-  unfolding between word
+  unfolding word_behind_gap word
 
   between_refused : (s : Cursor) (in_flow : Bool) (indent : ℕ) (end : Marker) (g : PlainGap) (left : ℕ) (t : List ℕ)
       → IsPassed s.mark s.rest g.behind.mark g.behind.rest → drop left t ≡ g.behind.rest
-      → Refused (IsRefusedInside s) (between in_flow indent s.mark end g left t)
+      → Refused (IsRefusedInside s) (word_behind_gap in_flow indent s.mark end g left t)
   between_refused s in_flow indent end g left [] p is = tt
   between_refused s in_flow indent end g zero (c ∷ cs) p is =
       let P = IsRefusedInside s in

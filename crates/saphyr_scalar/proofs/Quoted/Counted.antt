@@ -9,7 +9,7 @@ use Rattle.scalar_values.specs.declared.flow.Quote.{Quote}
 use Rattle.scalar_values.specs.declared.flow.Quote.TheVariants.{Single, Double}
 use Rattle.scalar_values.specs.Flow as flow
 use Rattle.saphyr_scalar.specs.Views.Cursor.{Cursor, ◌>>=◌, along, next_line, pass}
-use Rattle.saphyr_scalar.specs.Steps.Quoted.{TextRead, QuotedGap, no_gap, is_literal, hex_digit_count, escaped_character, special, special_len, blank_in, break_in, end_gap, break_len, if_some, with_front, mid_line, inside, quoted}
+use Rattle.saphyr_scalar.specs.Steps.Quoted.{TextRead, QuotedGap, no_gap, is_literal, hex_digit_count, escaped_character, special, special_len, blank_in, break_in, end_gap, break_len, if_some, with_front, mid_line, inner_text, quoted}
 use Rattle.saphyr_scalar.proofs.Quoted.Escapes.{escape_place}
 use Rattle.saphyr_input.proofs.Basics.Booleans.{by_test}
 
@@ -77,11 +77,11 @@ some_break xs = by_test (next_2_are xs 13 10) 2 1 (λ n. pred n + 1 ≡ n) (λ _
 
 inside_counts : (quote : Quote) (indent : ℕ) (start : Marker) (gap : QuotedGap) (k : ℕ) (m : Marker) (cs : List ℕ)
     (n : ℕ)
-    → n + k ≡ m.index + length cs → CountsText n (inside quote indent start gap k m cs)
-unfolding inside
+    → n + k ≡ m.index + length cs → CountsText n (inner_text quote indent start gap k m cs)
+unfolding inner_text
 inside_counts quote indent start gap k m [] n e = by_count k
   where
-    by_count : (k : ℕ) → CountsText n (inside quote indent start gap k m [])
+    by_count : (k : ℕ) → CountsText n (inner_text quote indent start gap k m [])
     by_count zero = tt
     by_count (suc k) = tt
 inside_counts quote indent start gap (suc k) m (c ∷ cs) n e =
@@ -113,9 +113,9 @@ read_counts : (n : ℕ) (r : TextRead) (text : List ℕ) (t : Cursor) → r ≡ 
 read_counts n r text t read h = subst (CountsText n) read h
 
 behind_quote_counts : (quote : Quote) (indent : ℕ) (m : Marker) (xs text : List ℕ) (t : Cursor)
-    → inside quote indent m no_gap zero (along m 1) (drop 1 xs) ≡ Ok (text, t)
+    → inner_text quote indent m no_gap zero (along m 1) (drop 1 xs) ≡ Ok (text, t)
     → t.mark.index + length t.rest ≡ m.index + length xs
-unfolding inside
+unfolding inner_text
 behind_quote_counts quote indent m [] text t read = absurd (cc)
 behind_quote_counts quote indent m (c ∷ cs) text t read =
     read_counts (m.index + length (c ∷ cs)) _ text t read

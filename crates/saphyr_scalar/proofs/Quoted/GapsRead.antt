@@ -9,7 +9,7 @@ use Rattle.scalar_values.specs.declared.flow.Quote.{Quote}
 use Rattle.saphyr_scalar.specs.Views.Cursor.{along, next_line}
 use Rattle.scalar_values.specs.Flow as flow
 use Rattle.saphyr_scalar.specs.Passing.{character, line_break}
-use Rattle.saphyr_scalar.specs.Steps.Quoted.{mid_line, QuotedGap, on_line, over_lines, no_gap, is_left, blank_in, break_in, break_len, inside, inside_at}
+use Rattle.saphyr_scalar.specs.Steps.Quoted.{mid_line, QuotedGap, on_line, over_lines, no_gap, is_left, blank_in, break_in, break_len, inner_text, inner_text_at}
 use Rattle.saphyr_scalar.specs.Spelling.QuotedLines.{IsLine}
 use Rattle.saphyr_scalar.specs.Spelling.Quoted as quotes
 use Rattle.saphyr_scalar.proofs.Quoted.Inside.{one_blank, at_break}
@@ -24,9 +24,9 @@ use Rattle.saphyr_scalar.proofs.Quoted.WordsRead.{Read, with_gap, itself_of, lit
 
 line_blank : (q : Quote) (indent : ℕ) (start : Marker) (escaped : Bool) (k : ℕ) (m : Marker) (c : ℕ) (cs : List ℕ)
     → is_blank c ≡ true → ((c == 9) && is_left indent m) ≡ false
-    → inside q indent start (over_lines escaped k) 0 m (c ∷ cs)
-    ≡ inside q indent start (over_lines escaped k) 0 (along m 1) cs
-unfolding inside blank_in
+    → inner_text q indent start (over_lines escaped k) 0 m (c ∷ cs)
+    ≡ inner_text q indent start (over_lines escaped k) 0 (along m 1) cs
+unfolding inner_text blank_in
 line_blank q indent start escaped k m c cs h fits = rw (h, fits) refl
 
 -- a blank at the start of a line leaves it indented
@@ -94,9 +94,9 @@ pub broken_read : (q : Quote) (indent : ℕ) (start : Marker) (gap : QuotedGap) 
     → Read q indent start gap m t (Break ∷ items) x
 broken_read q indent start gap m t items x h line r =
     let here = mid_line m t in
-    let on : inside q indent start gap 0 m t
-    ≡ inside q indent start (break_in gap) 0 (next_line m (break_len t)) (drop (break_len t) t) =
-    at_break q indent start gap here h ∙ ap (inside_at q indent start (break_in gap)) (by_break_len here h) in
+    let on : inner_text q indent start gap 0 m t
+    ≡ inner_text q indent start (break_in gap) 0 (next_line m (break_len t)) (drop (break_len t) t) =
+    at_break q indent start gap here h ∙ ap (inner_text_at q indent start (break_in gap)) (by_break_len here h) in
     let b = r (break_in gap) (fits_line gap) in
     record {
       mark = b.mark;

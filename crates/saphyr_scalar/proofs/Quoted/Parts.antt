@@ -12,7 +12,7 @@ use Rattle.saphyr_scalar.specs.Views.Cursor.{Cursor, ◌>>=◌, along, pass}
 use Rattle.saphyr_scalar.proofs.Moving.{bind_same}
 use Rattle.saphyr_scalar.proofs.Quoted.Escapes.{escape_place}
 use Rattle.saphyr_scalar.proofs.Quoted.Inside.{front_twice, passed_over, behind_no_gap, run_blanks, Moved, slash_left}
-use Rattle.saphyr_scalar.specs.Steps.Quoted.{is_literal, ends_word, hex_digit_count, escape_by_number, escape_of, escaped_character, with_front, mid_line, special, on_line, no_gap, inside, inside_at}
+use Rattle.saphyr_scalar.specs.Steps.Quoted.{is_literal, ends_word, hex_digit_count, escape_by_number, escape_of, escaped_character, with_front, mid_line, special, on_line, no_gap, inner_text, inner_text_at}
 use Rattle.std.proofs.lemmas.Bool.{eqb-true}
 use Rattle.saphyr_input.proofs.Basics.Booleans.{clash, and_true_left, and_true_right, and_false, by_test}
 
@@ -20,10 +20,10 @@ use Rattle.saphyr_input.proofs.Basics.Booleans.{clash, and_true_left, and_true_r
 
 pub blanks_moved : (q : Quote) (indent : ℕ) (start : Marker) (bytes grown : List ℕ) (s t : Cursor)
     → Moved is_blank bytes grown s t
-    → inside_at q indent start (on_line grown) t ≡ inside_at q indent start (on_line bytes) s
+    → inner_text_at q indent start (on_line grown) t ≡ inner_text_at q indent start (on_line bytes) s
 blanks_moved q indent start bytes grown s t m =
-    subst (λ (x : List ℕ × Cursor). inside_at q indent start (on_line x.0) x.1
-    ≡ inside_at q indent start (on_line bytes) s) m.is
+    subst (λ (x : List ℕ × Cursor). inner_text_at q indent start (on_line x.0) x.1
+    ≡ inner_text_at q indent start (on_line bytes) s) m.is
     (sym (run_blanks q indent start bytes s.mark s.rest))
 
 -- Escapes, and two single quotes.
@@ -35,9 +35,9 @@ bind_twice (Err e) f g = refl
 
 -- an escape and what is read behind it
 pub at_escape : (indent : ℕ) (start m : Marker) (cs : List ℕ) → is_break (slice_index cs 0) ≡ false
-    → inside Double indent start no_gap 0 m (92 ∷ cs)
+    → inner_text Double indent start no_gap 0 m (92 ∷ cs)
     ≡ (escaped_character start (mid_line m (92 ∷ cs)) >>= λ e. with_front (encode_utf8 e.0)
-    (inside_at Double indent start no_gap e.1))
+    (inner_text_at Double indent start no_gap e.1))
 unfolding is_literal special
 at_escape indent start m cs h =
     let k = hex_digit_count (slice_index cs 0) in
@@ -47,16 +47,16 @@ at_escape indent start m cs h =
     let place : e.1 ≡ mid_line (along m (2 + k)) (drop (2 + k) (92 ∷ cs)) = escape_place start m (92 ∷ cs) e is in
     ap (with_front (encode_utf8 e.0))
     (passed_over Double indent start no_gap (suc k) e.1.mark cs
-    ∙ ap (λ n. inside Double indent start no_gap 0 e.1.mark (drop n (92 ∷ cs))) (two_more k)
-    ∙ ap (λ xs. inside Double indent start no_gap 0 e.1.mark xs) (sym (ap (λ (x : Cursor). x.rest) place))))
+    ∙ ap (λ n. inner_text Double indent start no_gap 0 e.1.mark (drop n (92 ∷ cs))) (two_more k)
+    ∙ ap (λ xs. inner_text Double indent start no_gap 0 e.1.mark xs) (sym (ap (λ (x : Cursor). x.rest) place))))
   where
     two_more : (n : ℕ) → suc (suc n) ≡ 2 + n
     two_more n = omega arith
 
 pub at_two_quotes : (indent : ℕ) (start m : Marker) (cs : List ℕ)
-    → inside Single indent start no_gap 0 m (39 ∷ 39 ∷ cs)
-    ≡ with_front (encode_utf8 39) (inside Single indent start no_gap 0 (along m 2) cs)
-unfolding is_literal special inside
+    → inner_text Single indent start no_gap 0 m (39 ∷ 39 ∷ cs)
+    ≡ with_front (encode_utf8 39) (inner_text Single indent start no_gap 0 (along m 2) cs)
+unfolding is_literal special inner_text
 at_two_quotes indent start m cs = behind_no_gap Single indent start m 39 (39 ∷ cs) refl refl refl
 
 -- where an escape stands, and what follows it is no break
@@ -111,17 +111,17 @@ escape_same start s = of_same start (slice_index s.rest 1) (short_escape (slice_
 -- what is read where `special` gives this
 abbrev ReadsSpecial : Quote → ℕ → Marker → Cursor → Result (Option ℕ × Cursor) Refusal → Type 0
 ReadsSpecial q indent start s (Ok (Some d, t)) =
-    (inside_at q indent start no_gap s ≡ with_front (encode_utf8 d) (inside_at q indent start no_gap t))
+    (inner_text_at q indent start no_gap s ≡ with_front (encode_utf8 d) (inner_text_at q indent start no_gap t))
     × (length t.rest < length s.rest)
 ReadsSpecial q indent start s (Ok (None, t)) = t ≡ s
-ReadsSpecial q indent start s (Err r) = inside_at q indent start no_gap s ≡ Err r
+ReadsSpecial q indent start s (Err r) = inner_text_at q indent start no_gap s ≡ Err r
 
 escape_on : (indent : ℕ) (start : Marker) (s : Cursor) → StartsEscape s.rest
-    → inside_at Double indent start no_gap s
-    ≡ (escaped_character start s >>= λ e. with_front (encode_utf8 e.0) (inside_at Double indent start no_gap e.1))
+    → inner_text_at Double indent start no_gap s
+    ≡ (escaped_character start s >>= λ e. with_front (encode_utf8 e.0) (inner_text_at Double indent start no_gap e.1))
 escape_on indent start s is =
-    ap (inside Double indent start no_gap 0 s.mark) is.cut ∙ at_escape indent start s.mark is.cs is.goes
-    ∙ ap (λ r. r >>= λ e. with_front (encode_utf8 e.0) (inside_at Double indent start no_gap e.1))
+    ap (inner_text Double indent start no_gap 0 s.mark) is.cut ∙ at_escape indent start s.mark is.cs is.goes
+    ∙ ap (λ r. r >>= λ e. with_front (encode_utf8 e.0) (inner_text_at Double indent start no_gap e.1))
     (ap (λ xs. escaped_character start (mid_line s.mark xs)) (sym is.cut) ∙ escape_same start s)
 
 escape_shorter : (start : Marker) (s t : Cursor) (c : ℕ) → StartsEscape s.rest → escaped_character start s ≡ Ok (c, t)
@@ -136,21 +136,21 @@ escape_reads : (indent : ℕ) (start : Marker) (s : Cursor) (r : Result (ℕ × 
     → escaped_character start s ≡ r → ReadsSpecial Double indent start s (r >>= λ e. Ok (Some e.0, e.1))
 escape_reads indent start s (Ok e) is h = (
   escape_on indent start s is
-      ∙ ap (λ r. r >>= λ e. with_front (encode_utf8 e.0) (inside_at Double indent start no_gap e.1)) h,
+      ∙ ap (λ r. r >>= λ e. with_front (encode_utf8 e.0) (inner_text_at Double indent start no_gap e.1)) h,
   escape_shorter
       start s e.1 e.0 is h,
 )
 escape_reads indent start s (Err r) is h =
     escape_on indent start s is
-    ∙ ap (λ r. r >>= λ e. with_front (encode_utf8 e.0) (inside_at Double indent start no_gap e.1)) h
+    ∙ ap (λ r. r >>= λ e. with_front (encode_utf8 e.0) (inner_text_at Double indent start no_gap e.1)) h
 
 two_quotes_read : (indent : ℕ) (start : Marker) (s : Cursor) → AreTwoQuotes s.rest
     → ReadsSpecial Single indent start s (Ok (Some 39, pass 2 s))
 two_quotes_read indent start s is = cut s.rest is.cut
   where
     cut : (xs : List ℕ) → xs ≡ 39 ∷ 39 ∷ is.cs
-        → (inside Single indent start no_gap 0 s.mark xs
-        ≡ with_front (encode_utf8 39) (inside Single indent start no_gap 0 (along s.mark 2) (drop 2 xs)))
+        → (inner_text Single indent start no_gap 0 s.mark xs
+        ≡ with_front (encode_utf8 39) (inner_text Single indent start no_gap 0 (along s.mark 2) (drop 2 xs)))
         × (length (drop 2 xs) < length xs)
     cut xs e = rw e (at_two_quotes indent start s.mark is.cs, omega arith)
 
@@ -167,8 +167,8 @@ special_reads Double indent start s =
 
 pub special_moved : (q : Quote) (indent : ℕ) (start : Marker) (text : List ℕ) (s t : Cursor) (d : ℕ)
     → special q start s ≡ Ok (Some d, t)
-    → with_front (text ++ encode_utf8 d) (inside_at q indent start no_gap t)
-    ≡ with_front text (inside_at q indent start no_gap s)
+    → with_front (text ++ encode_utf8 d) (inner_text_at q indent start no_gap t)
+    ≡ with_front text (inner_text_at q indent start no_gap s)
 special_moved q indent start text s t d e =
     let r = subst (ReadsSpecial q indent start s) e (special_reads q indent start s) in
     sym (ap (with_front text) r.0 ∙ front_twice text (encode_utf8 d) _)
@@ -179,7 +179,7 @@ special_shorter q start s t d e = let r = subst (ReadsSpecial q 0 start s) e (sp
 
 pub special_refused : (q : Quote) (indent : ℕ) (start : Marker) (text : List ℕ) (s : Cursor) (refusal : Refusal)
     → special q start s ≡ Err refusal
-    → with_front text (inside_at q indent start no_gap s) ≡ Err refusal
+    → with_front text (inner_text_at q indent start no_gap s) ≡ Err refusal
 special_refused q indent start text s refusal e =
     ap (with_front text) (subst (ReadsSpecial q indent start s) e (special_reads q indent start s))
 

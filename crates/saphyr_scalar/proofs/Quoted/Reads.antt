@@ -10,7 +10,7 @@ use Rattle.saphyr_scalar.specs.Views.Cursor.{Cursor, along, next_line}
 use Rattle.scalar_values.specs.Flow as flow
 use Rattle.scalar_values.specs.Folding.{folded}
 use Rattle.saphyr_scalar.specs.Passing.{IsPassed, character}
-use Rattle.saphyr_scalar.specs.Steps.Quoted.{mid_line, over_lines, no_gap, break_len, escaped_character, inside, quoted}
+use Rattle.saphyr_scalar.specs.Steps.Quoted.{mid_line, over_lines, no_gap, break_len, escaped_character, inner_text, quoted}
 use Rattle.saphyr_scalar.specs.Spelling.QuotedLines.{AreOnLine, LinesFit}
 use Rattle.saphyr_scalar.specs.Spelling.Quoted as quotes
 use Rattle.saphyr_scalar.proofs.Moving.{along_more}
@@ -73,7 +73,7 @@ quoted_read q indent s items x is fit =
       b.mark,
       subst (λ (t : List ℕ). IsPassed s.mark t b.mark x) (sym cut)
           (character s.mark (flow.mark q) inside_text b.mark x (mark_content q).break b.passed),
-      ap (λ t. inside q indent s.mark no_gap 0 (along s.mark 1) (drop 1 t)) cut ∙ b.is
+      ap (λ t. inner_text q indent s.mark no_gap 0 (along s.mark 1) (drop 1 t)) cut ∙ b.is
           ∙ ap (λ y. text_given_at y b.mark x) (no_gap_bytes items),
     )
 

@@ -11,7 +11,7 @@ use Rattle.saphyr_scalar.specs.declared.scalar.position.Marker.{Marker}
 use Rattle.saphyr_scalar.specs.Views.Cursor.{Cursor, ◌>>=◌, along, next_line, pass}
 use Rattle.scalar_values.specs.Flow as flow
 use Rattle.saphyr_scalar.specs.Passing.{IsPassed, nothing, character, line_break}
-use Rattle.saphyr_scalar.specs.Steps.Quoted.{is_literal, hex_digit_count, digits, escape_by_number, escape_of, escaped_character, TextRead, mid_line, special, special_len, QuotedGap, on_line, over_lines, no_gap, is_left, blank_in, break_in, quoted_line, end_gap, escaped_gap, break_len, if_some, inside, quoted}
+use Rattle.saphyr_scalar.specs.Steps.Quoted.{is_literal, hex_digit_count, digits, escape_by_number, escape_of, escaped_character, TextRead, mid_line, special, special_len, QuotedGap, on_line, over_lines, no_gap, is_left, blank_in, break_in, quoted_line, end_gap, escaped_gap, break_len, if_some, inner_text, quoted}
 use Rattle.saphyr_scalar.specs.Steps.Quoted as reading
 use Rattle.saphyr_scalar.specs.RefusedInside.{IsRefusedInside}
 use Rattle.saphyr_scalar.proofs.Quoted.Escapes.{escape_place}
@@ -154,8 +154,8 @@ behind_break c cs = by_test (next_2_are (c ∷ cs) 13 10) 2 1 (λ n. drop n (c �
 
 inside_refused : (q : Quote) (indent : ℕ) (s : Cursor) (gap : QuotedGap) (k : ℕ) (m : Marker) (t : List ℕ)
     → IsPassed s.mark s.rest m (drop k t)
-    → Refused (IsRefusedInside s) (inside q indent s.mark gap k m t)
-unfolding inside
+    → Refused (IsRefusedInside s) (inner_text q indent s.mark gap k m t)
+unfolding inner_text
 inside_refused q indent s gap k m [] p = (s.rest, nothing s.mark s.rest)
 inside_refused q indent s gap zero m (c ∷ cs) p =
     let P = IsRefusedInside s in

@@ -10,7 +10,7 @@ use Rattle.scalar_values.specs.declared.flow.Quote.{Quote}
 use Rattle.saphyr_scalar.specs.Views.Cursor.{Cursor, ◌>>=◌, along}
 use Rattle.scalar_values.specs.Flow as flow
 use Rattle.scalar_values.specs.Folding.{folded}
-use Rattle.saphyr_scalar.specs.Steps.Quoted.{TextRead, mid_line, QuotedGap, on_line, over_lines, no_gap, is_left, folded_break, quoted_line, end_gap, inside, quoted}
+use Rattle.saphyr_scalar.specs.Steps.Quoted.{TextRead, mid_line, QuotedGap, on_line, over_lines, no_gap, is_left, folded_break, quoted_line, end_gap, inner_text, quoted}
 use Rattle.saphyr_scalar.specs.Spelling.QuotedMarkers.{HasNoMarker}
 use Rattle.saphyr_scalar.proofs.Quoted.Clean as quotes
 use Rattle.saphyr_scalar.proofs.Quoted.Clean.{IsClear}
@@ -68,7 +68,7 @@ then_front (Err r) f b s e = nothing_text r b s e
 
 content_step : (n : ℕ) (q : Quote) (indent : ℕ) (start : Marker) (gap : QuotedGap) (m : Marker) (c : ℕ) (cs b : List ℕ)
     (s : Cursor) → is_blank c ≡ false → is_break c ≡ false → length cs ≤ n → Known n q indent start
-    → GaveText (inside q indent start gap 0 m (c ∷ cs)) b s → Spelled q gap m (c ∷ cs) b s
+    → GaveText (inner_text q indent start gap 0 m (c ∷ cs)) b s → Spelled q gap m (c ∷ cs) b s
 content_step n q indent start gap m c cs b s blank break le known g =
     let t = then_front (end_gap indent start gap (mid_line m (c ∷ cs))) _ b s
     (sym (quoted_behind_gap q indent start gap m c cs blank break) ∙ g) in
@@ -87,13 +87,13 @@ content_step n q indent start gap m c cs b s blank break le known g =
     }
 
 at_text_end : (q : Quote) (indent : ℕ) (start : Marker) (gap : QuotedGap) (m : Marker) (b : List ℕ) (s : Cursor)
-    → GaveText (inside q indent start gap 0 m []) b s → Spelled q gap m [] b s
-unfolding inside
+    → GaveText (inner_text q indent start gap 0 m []) b s → Spelled q gap m [] b s
+unfolding inner_text
 at_text_end q indent start gap m b s g = nothing_text _ b s g
 
 inside_spelled : (n : ℕ) (q : Quote) (indent : ℕ) (start : Marker) (gap : QuotedGap) (m : Marker) (xs b : List ℕ)
     (s : Cursor)
-    → length xs ≤ n → GaveText (inside q indent start gap 0 m xs) b s → Spelled q gap m xs b s
+    → length xs ≤ n → GaveText (inner_text q indent start gap 0 m xs) b s → Spelled q gap m xs b s
 inside_spelled n q indent start gap m [] b s le g = at_text_end q indent start gap m b s g
 inside_spelled zero q indent start gap m (c ∷ cs) b s le g = absurd (omega arith)
 inside_spelled (suc n) q indent start gap m (c ∷ cs) b s le g =

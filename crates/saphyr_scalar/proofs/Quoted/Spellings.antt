@@ -7,7 +7,7 @@ use Rattle.saphyr_scalar.specs.Spelling.Tag.{AreIn}
 use Rattle.saphyr_scalar.specs.declared.scalar.position.Marker.{Marker}
 use Rattle.scalar_values.specs.declared.flow.Quote.TheVariants.{Double}
 use Rattle.saphyr_scalar.specs.Views.Cursor.{Cursor, ◌>>=◌, along}
-use Rattle.saphyr_scalar.specs.Steps.Quoted.{is_literal, digits, character, escape_by_number, escape_of, escaped_character, with_front, mid_line, on_line, no_gap, inside, inside_at, quoted, double_quoted}
+use Rattle.saphyr_scalar.specs.Steps.Quoted.{is_literal, digits, character, escape_by_number, escape_of, escaped_character, with_front, mid_line, on_line, no_gap, inner_text, inner_text_at, quoted, double_quoted}
 use Rattle.saphyr_scalar.specs.Spelling.OneLine as spelling
 use Rattle.saphyr_scalar.proofs.Moving.{along_none, along_more}
 use Rattle.saphyr_scalar.proofs.Quoted.Escapes.{simple_no_digits}
@@ -89,7 +89,7 @@ number_read start m e c ds t h =
 -- A spelled text is read, behind blanks on the line whose bytes are b.
 abbrev pub ReadsInside : ℕ → Marker → List ℕ → Marker → List ℕ → List ℕ → List ℕ → ℕ → Type 0
 ReadsInside indent start b m t v x n =
-    inside Double indent start (on_line b) 0 m t ≡ Ok (b ++ encode_utf8_all v, mid_line (along m n) x)
+    inner_text Double indent start (on_line b) 0 m t ≡ Ok (b ++ encode_utf8_all v, mid_line (along m n) x)
 
 pub escape_content : IsQuotedInk 92
 escape_content = record { blank = refl; break = refl; nul = refl }
@@ -110,7 +110,7 @@ escape_reads indent start b m e c t v x rest k n no_break h r =
     flushed Double indent start b m 92 (e ∷ t) escape_content
     ∙ ap (with_front b)
     (at_escape indent start m (e ∷ t) no_break
-    ∙ ap (λ y. y >>= λ z. with_front (encode_utf8 z.0) (inside_at Double indent start no_gap z.1)) h
+    ∙ ap (λ y. y >>= λ z. with_front (encode_utf8 z.0) (inner_text_at Double indent start no_gap z.1)) h
     ∙ ap (with_front (encode_utf8 c)) r)
     ∙ ap (λ y. Ok (b ++ encode_utf8_all (c ∷ v), mid_line y x)) (along_more m k n (k + n) refl)
 
@@ -165,6 +165,6 @@ double_quoted_read indent s v x h =
     let n = spelled_len h.0 v x h.2 in
     let read = inside_read indent s.mark [] (along s.mark 1) h.0 v x h.2 in (
       1 + n,
-      ap (λ t. inside Double indent s.mark no_gap 0 (along s.mark 1) (drop 1 t)) h.1 ∙ read
+      ap (λ t. inner_text Double indent s.mark no_gap 0 (along s.mark 1) (drop 1 t)) h.1 ∙ read
           ∙ ap (λ y. Ok (encode_utf8_all v, mid_line y x)) (along_more s.mark 1 n (1 + n) refl),
     )

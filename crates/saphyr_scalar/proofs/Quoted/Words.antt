@@ -8,7 +8,7 @@ use Rattle.saphyr_input.specs.Places.{words_len, TransfersWords}
 use Rattle.saphyr_scalar.specs.declared.scalar.position.Marker.{Marker}
 use Rattle.scalar_values.specs.declared.flow.Quote.{Quote}
 use Rattle.saphyr_scalar.specs.Views.Cursor.{Cursor, along}
-use Rattle.saphyr_scalar.specs.Steps.Quoted.{is_literal, with_front, mid_line, no_gap, inside, QuotedWordsMoved}
+use Rattle.saphyr_scalar.specs.Steps.Quoted.{is_literal, with_front, mid_line, no_gap, inner_text, QuotedWordsMoved}
 use Rattle.saphyr_scalar.specs.Steps.Sets.{is_content}
 use Rattle.saphyr_scalar.proofs.Moving.{along_more}
 use Rattle.saphyr_scalar.proofs.Quoted.Inside.{front_twice, content_of, stands, WordPiece, no_piece, one_blank, flushed}
@@ -21,8 +21,8 @@ both_true false b h = absurd (cc)
 -- a character is passed
 abbrev PassesQuotedCharacter : Quote → ℕ → Marker → Marker → ℕ → List ℕ → Type 0
 PassesQuotedCharacter q indent start m c cs =
-    inside q indent start no_gap 0 m (c ∷ cs)
-    ≡ with_front (encode_utf8 c) (inside q indent start no_gap 0 (along m 1) cs)
+    inner_text q indent start no_gap 0 m (c ∷ cs)
+    ≡ with_front (encode_utf8 c) (inner_text q indent start no_gap 0 (along m 1) cs)
 
 space_passed : (q : Quote) (indent : ℕ) (start m : Marker) (cs : List ℕ) → is_content (slice_index cs 0) ≡ true
     → PassesQuotedCharacter q indent start m 32 cs
@@ -47,7 +47,8 @@ piece_on : (q : Quote) (indent : ℕ) (start m : Marker) (c : ℕ) (cs : List �
     → WordPiece q indent start (along m 1) cs n → WordPiece q indent start m (c ∷ cs) (suc n)
 piece_on q indent start m c cs n h r =
     h ∙ ap (with_front (encode_utf8 c)) r ∙ front_twice (encode_utf8 c) (encode_utf8_all (take n cs)) _
-    ∙ ap (λ x. with_front (encode_utf8 c ++ encode_utf8_all (take n cs)) (inside q indent start no_gap 0 x (drop n cs)))
+    ∙ ap (λ x. with_front (encode_utf8 c ++ encode_utf8_all (take n cs))
+    (inner_text q indent start no_gap 0 x (drop n cs)))
     (along_more m 1 n (suc n) (omega arith))
 
 words_piece : (q : Quote) (indent : ℕ) (start m : Marker) (n : ℕ) (xs : List ℕ)

@@ -12,7 +12,7 @@ use Rattle.scalar_values.specs.declared.flow.Quote.TheVariants.{Single, Double}
 use Rattle.saphyr_scalar.specs.Views.Cursor.{◌>>=◌, along, next_line}
 use Rattle.scalar_values.specs.Flow as flow
 use Rattle.saphyr_scalar.specs.Passing.{IsPassed, nothing, character, line_break}
-use Rattle.saphyr_scalar.specs.Steps.Quoted.{is_literal, with_front, mid_line, QuotedGap, on_line, over_lines, no_gap, is_left, quoted_line, end_gap, escaped_gap, break_len, is_closing, escaped_character, inside, inside_at}
+use Rattle.saphyr_scalar.specs.Steps.Quoted.{is_literal, with_front, mid_line, QuotedGap, on_line, over_lines, no_gap, is_left, quoted_line, end_gap, escaped_gap, break_len, is_closing, escaped_character, inner_text, inner_text_at}
 use Rattle.saphyr_scalar.specs.Spelling.Quoted as quotes
 use Rattle.saphyr_scalar.proofs.Moving.{along_more}
 use Rattle.saphyr_scalar.proofs.Quoted.Inside.{quoted_behind_gap, behind_no_gap, word_from, IsQuotedInk, content_of, stands}
@@ -30,7 +30,7 @@ pub record Read (q : Quote) (indent : ℕ) (start : Marker) (gap : QuotedGap) (m
     (x : List ℕ) : Type 0 where
   pub mark : Marker
   pub passed : IsPassed m t mark x
-  pub is : inside q indent start gap 0 m t ≡ Ok (gap_bytes gap items, mid_line mark x)
+  pub is : inner_text q indent start gap 0 m t ≡ Ok (gap_bytes gap items, mid_line mark x)
 
 -- a word, or the closing quote
 pub record WordRead (q : Quote) (indent : ℕ) (start m : Marker) (t : List ℕ) (items : List Item) (x : List ℕ)
@@ -42,7 +42,7 @@ pub record WordRead (q : Quote) (indent : ℕ) (start m : Marker) (t : List ℕ)
   pub text : List ℕ
   pub mark : Marker
   pub passed : IsPassed m t mark x
-  pub is : inside q indent start no_gap 0 m t ≡ Ok (text, mid_line mark x)
+  pub is : inner_text q indent start no_gap 0 m t ≡ Ok (text, mid_line mark x)
   pub bytes : (gap : QuotedGap) → gap_front gap ++ text ≡ gap_bytes gap items
 
 ends_gap : (indent : ℕ) (start : Marker) (gap : QuotedGap) (m : Marker) (c : ℕ) (cs : List ℕ) → IsQuotedInk c
@@ -71,12 +71,12 @@ with_gap q indent start gap m t items x fits w =
     let c = w.first in
     let cs = w.others in
     let fits_here : GapFits indent gap m (c ∷ cs) = subst (λ (l : List ℕ). GapFits indent gap m l) w.cut fits in
-    let word : inside q indent start no_gap 0 m (c ∷ cs) ≡ text_given_at w.text w.mark x =
-    ap (inside q indent start no_gap 0 m) (sym w.cut) ∙ w.is in
+    let word : inner_text q indent start no_gap 0 m (c ∷ cs) ≡ text_given_at w.text w.mark x =
+    ap (inner_text q indent start no_gap 0 m) (sym w.cut) ∙ w.is in
     record {
       mark = w.mark;
       passed = w.passed;
-      is = ap (inside q indent start gap 0 m) w.cut
+      is = ap (inner_text q indent start gap 0 m) w.cut
           ∙ quoted_behind_gap q indent start gap m c cs w.content.blank w.content.break
           ∙ ap (λ r. r >>= λ text. with_front text (word_from q indent start m c cs))
           (ends_gap indent start gap m c cs w.content fits_here)
@@ -167,7 +167,7 @@ escape_read indent start m e c t items x rest k no_break h r passed = record {
   mark = r.mark;
   passed = passed;
   is = at_escape indent start m (e ∷ t) no_break
-      ∙ ap (λ y. y >>= λ z. with_front (encode_utf8 z.0) (inside_at Double indent start no_gap z.1)) h
+      ∙ ap (λ y. y >>= λ z. with_front (encode_utf8 z.0) (inner_text_at Double indent start no_gap z.1)) h
       ∙ ap (with_front (encode_utf8 c)) r.is;
   bytes = λ gap. escaped_bytes gap c items;
 }
@@ -176,7 +176,7 @@ pub escaped_break_read : (indent : ℕ) (start m : Marker) (t : List ℕ) (items
     → is_break (slice_index t 0) ≡ true
     → (r : Read Double indent start (over_lines true 0) (next_line (along m 1) (break_len t)) (drop (break_len t) t)
     items x)
-    → inside Double indent start (escaped_gap Double (slice_index (drop (break_len t) t) 0)) 0
+    → inner_text Double indent start (escaped_gap Double (slice_index (drop (break_len t) t) 0)) 0
     (next_line (along m 1) (break_len t)) (drop (break_len t) t)
     ≡ Ok (gap_bytes (over_lines true 0) items, mid_line r.mark x)
     → WordRead Double indent start m (92 ∷ t) (EscapedBreak ∷ items) x
@@ -194,8 +194,8 @@ escaped_break_read indent start m t items x h r same = record {
 
 -- right behind an escaped break the closing quote is read as elsewhere on its line
 pub same_at_quote : (indent : ℕ) (start m : Marker) (t : List ℕ) → Indented indent m t
-    → inside Double indent start (escaped_gap Double (slice_index t 0)) 0 m t
-    ≡ inside Double indent start (over_lines true 0) 0 m t
+    → inner_text Double indent start (escaped_gap Double (slice_index t 0)) 0 m t
+    ≡ inner_text Double indent start (over_lines true 0) 0 m t
 same_at_quote indent start m [] fits = refl
 same_at_quote indent start m (c ∷ cs) fits = by_test (c == 34) refl
   where
@@ -203,7 +203,8 @@ same_at_quote indent start m (c ∷ cs) fits = by_test (c == 34) refl
     number c h = grind (arith, nat_tests)
 
     quote : Indented indent m (34 ∷ cs)
-        → inside Double indent start no_gap 0 m (34 ∷ cs) ≡ inside Double indent start (over_lines true 0) 0 m (34 ∷ cs)
+        → inner_text Double indent start no_gap 0 m (34 ∷ cs) ≡ inner_text Double indent start (over_lines true 0) 0 m
+        (34 ∷ cs)
     quote fits =
         at_closing Double indent start m cs refl
         ∙ sym (quoted_behind_gap Double indent start (over_lines true 0) m 34 cs refl refl
@@ -213,9 +214,10 @@ same_at_quote indent start m (c ∷ cs) fits = by_test (c == 34) refl
         ∙ at_closing Double indent start m cs refl))
 
     by_test : (b : Bool) → (c == 34) ≡ b
-        → inside Double indent start (cond b no_gap (over_lines true 0)) 0 m (c ∷ cs)
-        ≡ inside Double indent start (over_lines true 0) 0 m (c ∷ cs)
+        → inner_text Double indent start (cond b no_gap (over_lines true 0)) 0 m (c ∷ cs)
+        ≡ inner_text Double indent start (over_lines true 0) 0 m (c ∷ cs)
     by_test true h = subst (λ (k : ℕ). Indented indent m (k ∷ cs)
-        → inside Double indent start no_gap 0 m (k ∷ cs) ≡ inside Double indent start (over_lines true 0) 0 m (k ∷ cs))
+        → inner_text Double indent start no_gap 0 m (k ∷ cs) ≡ inner_text Double indent start (over_lines true 0) 0 m
+        (k ∷ cs))
         (number c h) quote fits
     by_test false h = refl

@@ -144,13 +144,13 @@ gap_len xs g = length xs - length g.behind.rest
 
 unfoldable mutual
   -- Behind a word that ended at `end`: so many characters of the gap g are still to be passed.
-  pub between : Bool → ℕ → Marker → Marker → PlainGap → ℕ → List ℕ → PlainScalarRead
-  between in_flow indent start end g left [] = scalar_end in_flow end g
-  between in_flow indent start end g zero (c ∷ cs) = next_word_starts in_flow indent g.behind >>= λ b.
+  pub word_behind_gap : Bool → ℕ → Marker → Marker → PlainGap → ℕ → List ℕ → PlainScalarRead
+  word_behind_gap in_flow indent start end g left [] = scalar_end in_flow end g
+  word_behind_gap in_flow indent start end g zero (c ∷ cs) = next_word_starts in_flow indent g.behind >>= λ b.
       if b.0 then with_text (g.text ++ encode_utf8 c) (word in_flow indent start (along g.behind.mark 1) cs)
       else scalar_end
       in_flow end g
-  between in_flow indent start end g (suc left) (c ∷ cs) = between in_flow indent start end g left cs
+  word_behind_gap in_flow indent start end g (suc left) (c ∷ cs) = word_behind_gap in_flow indent start end g left cs
 
   -- in a word that began before m
   pub word : Bool → ℕ → Marker → Marker → List ℕ → PlainScalarRead
@@ -158,7 +158,7 @@ unfoldable mutual
   word in_flow indent start m (c ∷ cs) =
       if is_in_word in_flow (c ∷ cs) then with_text (encode_utf8 c) (word in_flow indent start (along m 1) cs)
       else gap indent start (mid_line m (c ∷ cs)) >>= λ g.
-      if gap_len (c ∷ cs) g == 0 then scalar_end in_flow m g else between in_flow indent start m g
+      if gap_len (c ∷ cs) g == 0 then scalar_end in_flow m g else word_behind_gap in_flow indent start m g
       (pred (gap_len (c ∷ cs) g)) cs
 
 -- A plain scalar: its text, the place behind its last word, a comment that keeps it from going on, and what stands

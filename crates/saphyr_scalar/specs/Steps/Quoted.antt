@@ -128,29 +128,29 @@ if_some None f x = x
 
 -- The text behind the quote at `start`: its bytes, and what stands behind the closing quote. `gap` stands before it.
 -- The next k characters are taken off already, and m is the place behind them.
-unfoldable pub inside : Quote → ℕ → Marker → QuotedGap → ℕ → Marker → List ℕ → TextRead
-inside quote indent start gap k m [] = refuse fault.EndInsideQuotes start
-inside quote indent start gap zero m (c ∷ cs) =
-    if is_blank c then (blank_in indent gap m c >>= λ g. inside quote indent start g zero (along m 1) cs)
-    else if is_break c then inside quote indent start (break_in gap) (pred (break_len (c ∷ cs)))
+unfoldable pub inner_text : Quote → ℕ → Marker → QuotedGap → ℕ → Marker → List ℕ → TextRead
+inner_text quote indent start gap k m [] = refuse fault.EndInsideQuotes start
+inner_text quote indent start gap zero m (c ∷ cs) =
+    if is_blank c then (blank_in indent gap m c >>= λ g. inner_text quote indent start g zero (along m 1) cs)
+    else if is_break c then inner_text quote indent start (break_in gap) (pred (break_len (c ∷ cs)))
     (next_line m (break_len (c ∷ cs))) cs
     else (end_gap indent start gap (mid_line m (c ∷ cs)) >>= λ text. with_front text
-    (if is_literal quote c then with_front (encode_utf8 c) (inside quote indent start no_gap zero (along m 1) cs)
+    (if is_literal quote c then with_front (encode_utf8 c) (inner_text quote indent start no_gap zero (along m 1) cs)
     else (special quote start (mid_line m (c ∷ cs)) >>= λ x. if_some x.0
     (λ d. with_front (encode_utf8 d)
-    (inside quote indent start no_gap (special_len quote (slice_index cs 0)) x.1.mark cs))
+    (inner_text quote indent start no_gap (special_len quote (slice_index cs 0)) x.1.mark cs))
     (if c == flow.mark quote then Ok ([], mid_line (along m 1) cs)
-    else inside quote indent start (escaped_gap quote (slice_index (drop (break_len cs) cs) 0)) (break_len cs)
+    else inner_text quote indent start (escaped_gap quote (slice_index (drop (break_len cs) cs) 0)) (break_len cs)
     (next_line (along m 1) (break_len cs)) cs))))
-inside quote indent start gap (suc k) m (c ∷ cs) = inside quote indent start gap k m cs
+inner_text quote indent start gap (suc k) m (c ∷ cs) = inner_text quote indent start gap k m cs
 
-abbrev pub inside_at : Quote → ℕ → Marker → QuotedGap → Cursor → TextRead
-inside_at quote indent start gap s = inside quote indent start gap zero s.mark s.rest
+abbrev pub inner_text_at : Quote → ℕ → Marker → QuotedGap → Cursor → TextRead
+inner_text_at quote indent start gap s = inner_text quote indent start gap zero s.mark s.rest
 
 -- A quoted scalar, from its opening quote to its closing one, where `indent` is the column that its later lines have to
 -- reach.
 unfoldable pub quoted : Quote → ℕ → Cursor → TextRead
-quoted quote indent s = inside_at quote indent s.mark no_gap (pass 1 s)
+quoted quote indent s = inner_text_at quote indent s.mark no_gap (pass 1 s)
 
 abbrev pub double_quoted : ℕ → Cursor → TextRead
 double_quoted indent s = quoted Double indent s
@@ -181,7 +181,7 @@ ReadsFurther (Err e) now before = before ≡ Err e
 -- Words were put behind a text, up to a character that does not stand for itself.
 pub record QuotedWordsMoved (quote : Quote) (text grown : List ℕ) (s t : Cursor) : Type 0 where
   pub same : (indent : ℕ) (start : Marker)
-      → with_front grown (inside_at quote indent start no_gap t)
-      ≡ with_front text (inside_at quote indent start no_gap s)
+      → with_front grown (inner_text_at quote indent start no_gap t)
+      ≡ with_front text (inner_text_at quote indent start no_gap s)
   pub stops : is_literal quote (slice_index t.rest 0) ≡ false
   pub shorter : length t.rest ≤ length s.rest

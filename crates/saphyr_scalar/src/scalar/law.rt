@@ -54,7 +54,8 @@ pub fn reads_each_quoted_on_line()
     ensures { (quote : Quote) (indent : ℕ) (s : Cursor) (items : List Item) (x : List ℕ)
         → IsQuotedText quote s.rest items x → AreOnLine items
         → (n : ℕ) × (length s.rest ≡ n + length x)
-        × (quoted quote indent s ≡ Ok (encode_utf8_all (folded items), mid_line (along s.mark n) x)) }
+        × (quoted quote indent s
+        ≡ Ok (encode_utf8_all (folded items), mid_line (along s.mark n) x)) }
 {}
 
 /// The place behind what is passed is told of its characters and line breaks alone.

@@ -99,7 +99,8 @@ impl<T: Input> Reader<T> {
     ) -> Result<PlainScalar, Stop>
         requires { (cursor_of self.old).blank_so_far ≡ true }
         ensures { ReadsBy spec.seen_plain_scalar (λ s. spec.with_text (string_bytes text)
-            (lines.scalar_behind_line in_flow indent start behind_word s)) self.old result self.new }
+            (lines.scalar_behind_line in_flow indent start behind_word s)) self.old result
+            self.new }
     {
         let mut feeds = String::new(alloc);
         let tabbed = self.skip_empty_lines(indent, start, &mut feeds)?;

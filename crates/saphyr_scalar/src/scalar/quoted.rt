@@ -46,7 +46,7 @@ impl<T: Input> Reader<T> {
         mut text: String,
     ) -> Result<String, Stop>
         ensures { ReadsTextBy (λ s. spec.with_front (string_bytes text)
-            (spec.inside_at quote indent start spec.no_gap s)) self.old result self.new }
+            (spec.inner_text_at quote indent start spec.no_gap s)) self.old result self.new }
     {
         let mut blanks = String::new(alloc);
         loop {

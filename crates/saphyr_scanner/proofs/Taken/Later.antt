@@ -19,7 +19,7 @@ use Rattle.saphyr_scanner.specs.Grammar.Tokens.{Kind}
 use Rattle.saphyr_scanner.specs.Views.Tokens.{Piece}
 use Rattle.saphyr_scanner.specs.TokensTaken as taken
 use Rattle.saphyr_scanner.specs.TokensTaken.{IsPassedOver, HasNoText, IsSpan, IsMark, TakesCharacter, IsToken, AreTokens, open_behind}
-use Rattle.saphyr_input.proofs.Basics.Lists.{shown}
+use Rattle.saphyr_input.proofs.Basics.Lists.{shows_character}
 use Rattle.saphyr_input.proofs.Basics.Booleans.{by_test}
 
 -- the greatest number of a line
@@ -89,7 +89,7 @@ line_later m n t u k l =
 break_len_within : (t : List ℕ) → is_break (slice_index t 0) ≡ true → (1 ≤ break_len t) × (break_len t ≤ length t)
 break_len_within t e =
     by_test (next_2_are t 13 10) 2 1 (λ n. (1 ≤ n) × (n ≤ length t)) (λ k. (omega arith, two_shown t k))
-    (λ _. (omega arith, shown t is_break true e (λ k. absurd (cc))))
+    (λ _. (omega arith, shows_character t is_break true e (λ k. absurd (cc))))
 
 pub break_later : (m : Marker) (t : List ℕ) → is_break (slice_index t 0) ≡ true
     → Later m t (next_line m (break_len t)) (drop (break_len t) t)

@@ -54,8 +54,9 @@ impl<T: Input> Reader<T> {
     // lines.
     fn skip_quoted_lines(&mut self, indent: usize) -> Result<usize, Refusal>
         ensures same { (quote : Quote) → (start : Marker) → (escaped : Bool)
-            → spec.ReadsFurther result (λ n. spec.inside_at quote indent start (spec.over_lines escaped n)
-            (cursor_of self.new)) (spec.inside_at quote indent start (spec.over_lines escaped 0)
+            → spec.ReadsFurther result
+            (λ n. spec.inner_text_at quote indent start (spec.over_lines escaped n)
+            (cursor_of self.new)) (spec.inner_text_at quote indent start (spec.over_lines escaped 0)
             (cursor_of self.old)) }
         ensures no_blank { OnOk result (class.is_blank (slice_index (cursor_of self.new).rest 0)
             ≡ false) }
@@ -113,9 +114,10 @@ impl<T: Input> Reader<T> {
     ) -> Result<(), Stop>
         ensures same { (quote : Quote) → ReadsOn result
             (spec.with_front (string_bytes text.old)
-            (spec.inside_at quote indent start (spec.over_lines escaped 0) (cursor_of self.old)))
+            (spec.inner_text_at quote indent start (spec.over_lines escaped 0)
+            (cursor_of self.old)))
             (spec.with_front (string_bytes text.new)
-            (spec.inside_at quote indent start spec.no_gap (cursor_of self.new))) }
+            (spec.inner_text_at quote indent start spec.no_gap (cursor_of self.new))) }
         ensures shorter { OnOk result (IsNoLonger self.old self.new) }
     {
         let empty_lines = self.skip_quoted_lines(indent)?;
@@ -135,9 +137,9 @@ impl<T: Input> Reader<T> {
     ) -> Result<(), Stop>
         requires { IsTrue (spec.is_escaped_break quote (cursor_of self.old).rest) }
         ensures same { ReadsOn result (spec.with_front (string_bytes text.old)
-            (spec.inside_at quote indent start spec.no_gap (cursor_of self.old)))
+            (spec.inner_text_at quote indent start spec.no_gap (cursor_of self.old)))
             (spec.with_front (string_bytes text.new)
-            (spec.inside_at quote indent start spec.no_gap (cursor_of self.new))) }
+            (spec.inner_text_at quote indent start spec.no_gap (cursor_of self.new))) }
         ensures shorter { OnOk result (IsShorter self.old self.new) }
     {
         self.skip_non_blank();
@@ -161,9 +163,9 @@ impl<T: Input> Reader<T> {
         requires ended { IsTrue (spec.ends_word quote (cursor_of self.old).rest) }
         requires open { (slice_index (cursor_of self.old).rest 0 == flow.mark quote) ≡ false }
         ensures same { ReadsOn result (spec.with_front (string_bytes text.old)
-            (spec.inside_at quote indent start spec.no_gap (cursor_of self.old)))
+            (spec.inner_text_at quote indent start spec.no_gap (cursor_of self.old)))
             (spec.with_front (string_bytes text.new)
-            (spec.inside_at quote indent start spec.no_gap (cursor_of self.new))) }
+            (spec.inner_text_at quote indent start spec.no_gap (cursor_of self.new))) }
         ensures shorter { OnOk result (IsShorter self.old self.new) }
     {
         if self.look() == '\\' {

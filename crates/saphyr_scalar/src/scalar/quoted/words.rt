@@ -164,9 +164,9 @@ impl<T: Input> Reader<T> {
     ) -> Result<(), Stop>
         ensures same { (indent : ℕ) → ReadsOn result
             (spec.with_front (string_bytes text.old)
-            (spec.inside_at quote indent start spec.no_gap (cursor_of self.old)))
+            (spec.inner_text_at quote indent start spec.no_gap (cursor_of self.old)))
             (spec.with_front (string_bytes text.new)
-            (spec.inside_at quote indent start spec.no_gap (cursor_of self.new))) }
+            (spec.inner_text_at quote indent start spec.no_gap (cursor_of self.new))) }
         ensures ended { OnOk result (IsTrue (spec.ends_word quote (cursor_of self.new).rest)) }
         ensures shorter { OnOk result (IsNoLonger self.old self.new) }
     {

@@ -27,7 +27,7 @@ returns-clause-same g c = λ quote.
     let word = begins_word quote a.indent a.start a.escaped lines.empty_lines (string_bytes a.text.now)
     (cursor_of c.skip_quoted_lines.new.self) there lines.ensures.no_blank lines.ensures.no_break
     c.in_ok-check_quoted_line.ensures in
-    ap (λ b. spec.with_front b (spec.inside_at quote a.indent a.start spec.no_gap there))
+    ap (λ b. spec.with_front b (spec.inner_text_at quote a.indent a.start spec.no_gap there))
     c.in_ok-push_folded_break.ensures
     ∙ word.1 ∙ ap (spec.with_front (string_bytes a.text.now)) (lines.ensures.same quote a.start a.escaped)
 

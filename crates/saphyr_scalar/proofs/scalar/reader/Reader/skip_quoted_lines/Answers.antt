@@ -2,7 +2,7 @@ use Rattle.std.proofs.Common.{◌≡◌, true, false, length, length-drop, slice
 use Rattle.std.specs.Prelude.{◌&&◌, ◌==◌}
 use Rattle.saphyr_input.specs.Classes as class
 use Rattle.saphyr_scalar.specs.Views.Cursor.{Cursor}
-use Rattle.saphyr_scalar.specs.Steps.Quoted.{is_left, over_lines, inside_at}
+use Rattle.saphyr_scalar.specs.Steps.Quoted.{is_left, over_lines, inner_text_at}
 use Rattle.saphyr_scalar.specs.Views.Reader.{cursor_of}
 use Rattle.saphyr_scalar.proofs.SpaceRuns.{inside_over_spaces, spaces_shorter}
 use Rattle.saphyr_scalar.proofs.Quoted.Lines.{break_on, break_on_shorter, blank_on, tab_on, fits_right, fits_no_tab}
@@ -76,7 +76,7 @@ loop-self-preserved g c =
 pub returns-else-is_blank-clause-same : goal.returns-else-is_blank-clause-same
 returns-else-is_blank-clause-same g c = λ quote start escaped.
     let k = c.loop-self.count in
-    ap (inside_at quote c.args.indent start (over_lines escaped k)) c.look-c.ensures.same
+    ap (inner_text_at quote c.args.indent start (over_lines escaped k)) c.look-c.ensures.same
     ∙ inside_over_spaces quote c.args.indent start escaped k _ (cursor_of c.loop-self.self)
     (cursor_of c.skip_spaces.new.self)
     c.skip_spaces.ensures ∙ c.loop-self.invariant.same quote start escaped
