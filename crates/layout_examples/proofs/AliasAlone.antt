@@ -4,7 +4,7 @@ use Rattle.std.proofs.Common.{◌∙◌, arith, codes, ap, subst, append_assoc, 
 use Rattle.saphyr_input.specs.Classes.{is_one_of, is_blank, is_anchor_char}
 use Rattle.saphyr_scalar.specs.Steps.BlockRead.{spaces}
 use Rattle.saphyr_scalar.specs.Spelling.Tag.{AreIn}
-use Rattle.saphyr_scalar.specs.Spelling.Spaces.{joined, AreEach, IsSeparationLine, IsSeparation}
+use Rattle.saphyr_scalar.specs.Spelling.Spaces.{joined_pieces, AreEach, IsSeparationLine, IsSeparation}
 use Rattle.saphyr_scanner.specs.Grammar.Forest.{Style, Plain, SingleQuoted, DoubleQuoted, Literal, Folded, Properties}
 use Rattle.saphyr_scanner.specs.Grammar.Forest.{Node, Alias, Scalar, Seq, Map, Tag, NonSpecific, Verbatim, Shorthand}
 use Rattle.saphyr_scanner.specs.Grammar.Forest.{Handle, Primary, Secondary, Named}
@@ -43,11 +43,13 @@ no_separation_line indent t (blanks, comment, filler, b, c, f, e) h =
     (codes "\n" ++ (filler ++ spaces indent)) refl
     (behind_in is_here t blanks (comment ++ (codes "\n" ++ (filler ++ spaces indent))) e h))
 
-no_lines : (indent : ℕ) (pieces : List (List ℕ)) → AreEach (IsSeparationLine indent) pieces → AreHere (joined pieces)
-    → joined pieces ≡ []
+no_lines : (indent : ℕ) (pieces : List (List ℕ)) → AreEach (IsSeparationLine indent) pieces
+    → AreHere (joined_pieces pieces)
+    → joined_pieces pieces ≡ []
 no_lines indent [] h i = refl
 no_lines indent (line ∷ lines) (h, hs) i =
-    absurd (no_separation_line indent line h (before_in is_here (line ++ joined lines) line (joined lines) refl i))
+    absurd (no_separation_line indent line h
+    (before_in is_here (line ++ joined_pieces lines) line (joined_pieces lines) refl i))
 
 -- so separation is of blanks
 blanks_alone : (indent : ℕ) (t : List ℕ) → IsSeparation indent t → AreHere t → AreIn is_blank t

@@ -5,7 +5,7 @@ use Rattle.std.proofs.Common.{refl, arith, codes, ap, IsTrue}
 use Rattle.saphyr_input.specs.Classes.{is_blank}
 use Rattle.saphyr_scalar.specs.Steps.BlockRead.{spaces}
 use Rattle.saphyr_scalar.specs.Spelling.Tag.{AreIn}
-use Rattle.saphyr_scalar.specs.Spelling.Spaces.{AreEach, joined, IsSeparationLine, IsSeparation}
+use Rattle.saphyr_scalar.specs.Spelling.Spaces.{AreEach, joined_pieces, IsSeparationLine, IsSeparation}
 use Rattle.saphyr_scanner.specs.Grammar.Forest.{Style, Plain, SingleQuoted, DoubleQuoted, Literal, Folded, Handle}
 use Rattle.saphyr_scanner.specs.Grammar.Forest.{Primary, Secondary, Named, Tag, NonSpecific, Verbatim, Shorthand}
 use Rattle.saphyr_scanner.specs.Grammar.Forest.{Properties, Node, Alias, Scalar, Seq, Map, Nodes, NoNode, MoreNodes}
@@ -187,10 +187,11 @@ line_begins indent t (c ∷ cs, comment, filler, (b, bs), h, f, d) =
     (c, cs ++ (comment ++ (codes "\n" ++ (filler ++ spaces indent))), blank_is_no_comma c b, d)
 
 lines_begin : (indent : ℕ) (pieces : List (List ℕ)) → AreEach (IsSeparationLine indent) pieces
-    → (joined pieces ≡ []) ⊎ NoComma (joined pieces)
+    → (joined_pieces pieces ≡ []) ⊎ NoComma (joined_pieces pieces)
 lines_begin indent [] h = inl refl
 lines_begin indent (line ∷ lines) (h, hs) =
-    inr (front_of (λ c. c ≢ 44) line (joined lines) (line ++ joined lines) (line_begins indent line h) refl)
+    inr (front_of (λ c. c ≢ 44) line (joined_pieces lines) (line ++ joined_pieces lines)
+    (line_begins indent line h) refl)
 
 joined_has_no_comma : (a b t : List ℕ) → (a ≡ []) ⊎ NoComma a → (b ≡ []) ⊎ NoComma b → t ≡ a ++ b → (t ≡ []) ⊎ NoComma t
 joined_has_no_comma a b t (inl e) (inl f) d = inl (rw (d, e, f) refl)
@@ -202,7 +203,7 @@ at_lines a b e h = rw e h
 
 separation_begins : (indent : ℕ) (t : List ℕ) → IsSeparation indent t → (t ≡ []) ⊎ NoComma t
 separation_begins indent t (lines, blanks, (pieces, h, f), b, e) =
-    joined_has_no_comma lines blanks t (at_lines lines (joined pieces) f (lines_begin indent pieces h))
+    joined_has_no_comma lines blanks t (at_lines lines (joined_pieces pieces) f (lines_begin indent pieces h))
     (blanks_begin blanks b) e
 
 -- ## The text

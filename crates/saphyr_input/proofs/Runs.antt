@@ -56,21 +56,21 @@ text_more p start now text grown pushed n z h r e f =
     f ∙ rw (e, more, encodes-append) (simp (append_assoc, append-nil))
 
 -- a loop that takes off the run of p: c is read, and the text that it began at can be counted
-pub record Runs (p : ℕ → Bool) (start now : List ℕ) (n c loaded : ℕ) : Type 0 where
+pub record TakesRun (p : ℕ → Bool) (start now : List ℕ) (n c loaded : ℕ) : Type 0 where
   pub ran : Ran p start now n
   pub read : c ≡ get_or now 0 0
   pub ready : 1 ≤ loaded
   pub countable : length start < 2 ^ 64
 
 pub runs_more : (p : ℕ → Bool) (start now after : List ℕ) (n c d loaded more : ℕ) → p 0 ≡ false → p c ≡ true
-    → Runs p start now n c loaded → after ≡ drop 1 now → d ≡ get_or after 0 0 → 1 ≤ more
-    → Runs p start after (n + 1) d more
+    → TakesRun p start now n c loaded → after ≡ drop 1 now → d ≡ get_or after 0 0 → 1 ≤ more
+    → TakesRun p start after (n + 1) d more
 runs_more p start now after n c d loaded more z h r e read ready =
     let here : p (get_or now 0 0) ≡ true = rw (← r.read) h in
     record { ran = ran_more p start now after n z here e r.ran; read = read; ready = ready; countable = r.countable }
 
 pub runs_text : (p : ℕ → Bool) (start now text grown pushed : List ℕ) (n c loaded : ℕ) → p 0 ≡ false → p c ≡ true
-    → Runs p start now n c loaded
+    → TakesRun p start now n c loaded
     → grown ≡ text ++ encode_utf8_all (take n start) → pushed ≡ grown ++ encode_utf8 c
     → pushed ≡ text ++ encode_utf8_all (take (n + 1) start)
 runs_text p start now text grown pushed n c loaded z h r e f =

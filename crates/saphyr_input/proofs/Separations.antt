@@ -6,10 +6,10 @@ use Rattle.std.proofs.lemmas.Bool.Decides.{nat_tests}
 use Rattle.saphyr_input.specs.Classes as class
 use Rattle.saphyr_input.specs.Separation as separation
 use Rattle.saphyr_input.specs.declared.input.SkipTabs.{SkipTabs}
-use Rattle.saphyr_input.proofs.Runs.{Runs, ran_all}
+use Rattle.saphyr_input.proofs.Runs.{TakesRun, ran_all}
 
 module _ (tabs : SkipTabs) (start now : List ℕ) (n c loaded : ℕ)
-    (runs : Runs (separation.is_skipped tabs) start now n c loaded)
+    (runs : TakesRun (separation.is_skipped tabs) start now n c loaded)
     (stops : separation.is_skipped tabs c ≡ false) where
   ended : n ≡ separation.blank_len tabs start
   ended = ran_all (separation.is_skipped tabs) start now n (rw (← runs.read) stops) runs.ran

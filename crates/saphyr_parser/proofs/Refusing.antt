@@ -64,8 +64,8 @@ placed text = record {
 resumes : (text : List ℕ) → Resumes (placed text)
 resumes text s c d r ts n (inl e) = absurd (n e)
 resumes text s c d r ts n (inr h) =
-    let start : Marker = (scalar.fresh text).mark in
-    (start, ((scalar.fresh text, taken.nothing start text, inl refl, omega arith), h.0, h.1))
+    let start : Marker = (scalar.start_cursor text).mark in
+    (start, ((scalar.start_cursor text, taken.nothing start text, inl refl, omega arith), h.0, h.1))
 
 failed : (text : List ℕ) (o : Option Ending) → IsFailed (placed text) o → HasPlaceIn text o
 failed text None h = tt

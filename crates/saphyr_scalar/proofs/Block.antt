@@ -7,7 +7,6 @@ pub mod LeadingLines
 pub mod Lines
 pub mod Places
 pub mod Reads
-pub mod Runs
 pub mod Texts
 pub mod Turns
 pub mod Values

@@ -12,26 +12,26 @@ use Rattle.saphyr_scalar.specs.declared.scalar.byte_sets.TheConstants.{SETS_OF_B
 abbrev pub has_bit : ℕ → ℕ → Bool
 has_bit bit b = not (bit_and (get_or SETS_OF_BYTES b 0) bit == 0)
 
-abbrev AreAlike : (ℕ → Bool) → (ℕ → Bool) → Type 0
-AreAlike f g = map f (range_with_len 0 256) ≡ map g (range_with_len 0 256)
+abbrev AreAlikeOnBytes : (ℕ → Bool) → (ℕ → Bool) → Type 0
+AreAlikeOnBytes f g = map f (range_with_len 0 256) ≡ map g (range_with_len 0 256)
 
-alike_at : (f g : ℕ → Bool) (b : ℕ) → AreAlike f g → b < 256 → f b ≡ g b
+alike_at : (f g : ℕ → Bool) (b : ℕ) → AreAlikeOnBytes f g → b < 256 → f b ≡ g b
 alike_at f g b same less =
     sym (get_or-map-range_with_len f 0 256 b b false less (omega arith)) ∙ ap (λ (l : List Bool). get_or l b false) same
     ∙ get_or-map-range_with_len g 0 256 b b false less (omega arith)
 
-single_bits : AreAlike (has_bit 1) (ascii_in in_single)
+single_bits : AreAlikeOnBytes (has_bit 1) (ascii_in in_single)
 unfolding is_literal
 single_bits = refl
 
-double_bits : AreAlike (has_bit 2) (ascii_in in_double)
+double_bits : AreAlikeOnBytes (has_bit 2) (ascii_in in_double)
 unfolding is_literal
 double_bits = refl
 
-outside_bits : AreAlike (has_bit 4) (ascii_in (in_plain false))
+outside_bits : AreAlikeOnBytes (has_bit 4) (ascii_in (in_plain false))
 outside_bits = refl
 
-in_flow_bits : AreAlike (has_bit 8) (ascii_in (in_plain true))
+in_flow_bits : AreAlikeOnBytes (has_bit 8) (ascii_in (in_plain true))
 in_flow_bits = refl
 
 pub single_bit : (b : ℕ) → b < 256 → has_bit 1 b ≡ ascii_in in_single b

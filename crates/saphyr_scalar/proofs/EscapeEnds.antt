@@ -3,19 +3,20 @@ use Rattle.std.proofs.Common.{◌≡◌, ℕ, List, drop, Result, Ok, Err, refl,
 use Rattle.saphyr_scalar.specs.declared.scalar.position.Marker.{Marker}
 use Rattle.saphyr_scalar.specs.declared.scalar.fault.Refusal.{Refusal}
 use Rattle.saphyr_scalar.specs.Views.Cursor.{Cursor, ◌>>=◌, along}
-use Rattle.saphyr_scalar.specs.Steps.Quoted.{at}
+use Rattle.saphyr_scalar.specs.Steps.Quoted.{mid_line}
 
-abbrev pub Ends : Marker → List ℕ → ℕ → Result (ℕ × Cursor) Refusal → Type 0
-Ends m xs n r = (e : ℕ × Cursor) → r ≡ Ok e → e.1 ≡ at (along m n) (drop n xs)
+abbrev pub EscapeEnds : Marker → List ℕ → ℕ → Result (ℕ × Cursor) Refusal → Type 0
+EscapeEnds m xs n r = (e : ℕ × Cursor) → r ≡ Ok e → e.1 ≡ mid_line (along m n) (drop n xs)
 
-pub refused : (m : Marker) (xs : List ℕ) (n : ℕ) (r : Refusal) → Ends m xs n (Err r)
-refused m xs n r e is = absurd (cc)
+pub refused_ends : (m : Marker) (xs : List ℕ) (n : ℕ) (r : Refusal) → EscapeEnds m xs n (Err r)
+refused_ends m xs n r e is = absurd (cc)
 
-pub read : (m : Marker) (xs : List ℕ) (n v : ℕ) → Ends m xs n (Ok (v, at (along m n) (drop n xs)))
-read m xs n v e is = let pair : (v, at (along m n) (drop n xs)) ≡ e = cc in sym (ap (λ (x : ℕ × Cursor). x.1) pair)
+pub read : (m : Marker) (xs : List ℕ) (n v : ℕ) → EscapeEnds m xs n (Ok (v, mid_line (along m n) (drop n xs)))
+read m xs n v e is = let pair : (v, mid_line (along m n) (drop n xs)) ≡ e = cc in sym
+    (ap (λ (x : ℕ × Cursor). x.1) pair)
 
 pub then_ends : (m : Marker) (xs : List ℕ) (n : ℕ) (r : Result (ℕ × Cursor) Refusal)
     (f : ℕ × Cursor → Result (ℕ × Cursor) Refusal)
-    → ((x : ℕ × Cursor) → r ≡ Ok x → Ends m xs n (f x)) → Ends m xs n (r >>= f)
+    → ((x : ℕ × Cursor) → r ≡ Ok x → EscapeEnds m xs n (f x)) → EscapeEnds m xs n (r >>= f)
 then_ends m xs n (Ok x) f h = h x refl
-then_ends m xs n (Err r) f h = refused m xs n r
+then_ends m xs n (Err r) f h = refused_ends m xs n r

@@ -4,7 +4,7 @@ use Rattle.std.specs.Prelude.{slice_index, ◌==◌, if◌then◌else◌}
 use Rattle.std.proofs.lemmas.Bool.{false≢true, eqb-true}
 use Rattle.std.proofs.lemmas.Bool.Decides.{nat_tests}
 use Rattle.std.proofs.lemmas.List.{length-drop}
-use Rattle.saphyr_input.proofs.Basics.Lists.{shown}
+use Rattle.saphyr_input.proofs.Basics.Lists.{shows_character}
 use Rattle.saphyr_input.specs.Classes.{is_break}
 use Rattle.saphyr_scalar.specs.declared.scalar.position.Marker.{Marker}
 use Rattle.saphyr_scalar.specs.Spelling.LineBreaks.{ends_line}
@@ -16,7 +16,7 @@ use Rattle.saphyr_scalar.specs.Steps.Quoted.{break_len}
 use Rattle.saphyr_input.proofs.Basics.Booleans.{and_true_left, and_true_right}
 
 -- what is passed from here on, and from a CR on that stands before, where an LF stands first
-pub record Passes (m : Marker) (t : List ℕ) (r : Cursor) : Type 0 where
+pub record PassesBreak (m : Marker) (t : List ℕ) (r : Cursor) : Type 0 where
   pub here : IsPassed m t r.mark r.rest
   pub behind_return : (slice_index t 0 == 10) ≡ true → (k : Marker) → next_line m 1 ≡ next_line k 2
       → IsPassed k (13 ∷ t) r.mark r.rest
@@ -28,7 +28,7 @@ behind_one m c cs = if ends_line c cs then next_line m 1 else along m 1
 -- a break is taken off
 pub break_shorter : (s : Cursor) → is_break (slice_index s.rest 0) ≡ true → length (pass_break s).rest < length s.rest
 break_shorter s h =
-    let some : 1 ≤ length s.rest = shown s.rest is_break true h (λ e. false≢true e) in
+    let some : 1 ≤ length s.rest = shows_character s.rest is_break true h (λ e. false≢true e) in
     grind (arith, nat_tests, length-drop {A = ℕ})
 
 -- the place between the two characters may be told in two ways
@@ -46,15 +46,15 @@ not_both c a b e f g = let h : c ≡ a =
     differs n e = grind (arith, nat_tests, e)
 
 -- a character of the line
-pub one_here : (m : Marker) (c : ℕ) (cs : List ℕ) (r : Cursor) → is_break c ≡ false → Passes (along m 1) cs r
-    → Passes m (c ∷ cs) r
+pub one_here : (m : Marker) (c : ℕ) (cs : List ℕ) (r : Cursor) → is_break c ≡ false → PassesBreak (along m 1) cs r
+    → PassesBreak m (c ∷ cs) r
 one_here m c cs r e p = record {
   here = passing.character m c cs r.mark r.rest e p.here;
   behind_return = λ f k q. absurd (let g : is_break c ≡ true = ap is_break (eqb-true c 10 f) in cc);
 }
 
 pub return_here : (m j : Marker) (c : ℕ) (cs : List ℕ) (r : Cursor) → is_cr_lf c cs ≡ true
-    → next_line j 1 ≡ next_line m 2 → Passes j cs r → Passes m (c ∷ cs) r
+    → next_line j 1 ≡ next_line m 2 → PassesBreak j cs r → PassesBreak m (c ∷ cs) r
 return_here m j c cs r e same p =
     let thirteen : c ≡ 13 = eqb-true c 13 (and_true_left (c == 13) (slice_index cs 0 == 10) e) in
     record {
@@ -64,7 +64,7 @@ return_here m j c cs r e same p =
     }
 
 pub feed_here : (m : Marker) (c : ℕ) (cs : List ℕ) (r : Cursor) → is_cr_lf c cs ≡ false → is_break c ≡ true
-    → IsPassed (next_line m 1) cs r.mark r.rest → Passes m (c ∷ cs) r
+    → IsPassed (next_line m 1) cs r.mark r.rest → PassesBreak m (c ∷ cs) r
 feed_here m c cs r e b p =
     let one : break_len (c ∷ cs) ≡ 1 = rw e refl in
     record {
@@ -81,7 +81,7 @@ feed_here m c cs r e b p =
         (passing.line_break k (13 ∷ 10 ∷ cs) r.mark r.rest refl there)
 
 pub stop_here : (m : Marker) (c : ℕ) (cs : List ℕ) (b : Bool) → is_break c ≡ false
-    → Passes m (c ∷ cs) (record { rest = c ∷ cs; mark = m; blank_so_far = b })
+    → PassesBreak m (c ∷ cs) (record { rest = c ∷ cs; mark = m; blank_so_far = b })
 stop_here m c cs b e = record {
   here =
       passing.nothing m (c ∷ cs);
@@ -89,5 +89,5 @@ stop_here m c cs b e = record {
       λ f k q. absurd (let g : is_break c ≡ true = ap is_break (eqb-true c 10 f) in cc);
 }
 
-pub end_here : (m : Marker) (b : Bool) → Passes m [] (record { rest = []; mark = m; blank_so_far = b })
+pub end_here : (m : Marker) (b : Bool) → PassesBreak m [] (record { rest = []; mark = m; blank_so_far = b })
 end_here m b = record { here = passing.nothing m []; behind_return = λ f k q. absurd (cc) }

@@ -4,9 +4,9 @@ use Rattle.std.specs.Prelude.{◌==◌}
 use Rattle.std.proofs.lemmas.Bool.Decides.{nat_tests}
 use Rattle.saphyr_input.specs.Classes.{is_break, is_hex}
 use Rattle.saphyr_input.specs.Places.{next_2_are}
+use Rattle.saphyr_scalar.specs.Spelling.Tag.{AreIn}
 use Rattle.saphyr_scalar.specs.declared.scalar.position.Marker.{Marker}
 use Rattle.saphyr_scalar.specs.Views.Cursor.{along, next_line}
-use Rattle.saphyr_scalar.specs.Spelling.OneLine as spelling
 use Rattle.saphyr_scalar.specs.Passing.{IsPassed, nothing, character, line_break}
 use Rattle.saphyr_scalar.specs.Steps.Quoted.{break_len}
 use Rattle.saphyr_scalar.proofs.Moving.{along_more, along_none}
@@ -34,7 +34,7 @@ hex_no_break d h = by_test (is_break d) refl
     by_test true is = let no = numbers d is in absurd (cc)
     by_test false is = refl
 
-pub digits_passed : (m : Marker) (ds t : List ℕ) (n : Marker) (x : List ℕ) → spelling.AreHex ds
+pub digits_passed : (m : Marker) (ds t : List ℕ) (n : Marker) (x : List ℕ) → AreIn is_hex ds
     → IsPassed (along m (length ds)) t n x → IsPassed m (ds ++ t) n x
 digits_passed m [] t n x h p = subst (λ (k : Marker). IsPassed k t n x) (along_none m) p
 digits_passed m (d ∷ ds) t n x h p =
@@ -57,12 +57,12 @@ passed_shorter _ _ _ _ (line_break m t n u h p) =
     omega (arith, passed_shorter (next_line m (break_len t)) (drop (break_len t) t) n u p, drop_less t h)
 
 -- what a passing begins with
-record Stays (m : Marker) (s : List ℕ) (n : Marker) (u : List ℕ) : Type 0 where
+record StaysHere (m : Marker) (s : List ℕ) (n : Marker) (u : List ℕ) : Type 0 where
   text : u ≡ s
   place : n ≡ m
 
 behind_character : (m : Marker) (s : List ℕ) (n : Marker) (u : List ℕ) → IsPassed m s n u → (c : ℕ) (t : List ℕ)
-    → s ≡ c ∷ t → is_break c ≡ false → Stays m s n u ⊎ IsPassed (along m 1) t n u
+    → s ≡ c ∷ t → is_break c ≡ false → StaysHere m s n u ⊎ IsPassed (along m 1) t n u
 behind_character _ _ _ _ (nothing m s) c t e h = inl (record { text = refl; place = refl })
 behind_character _ _ _ _ (character m d s n u k p) c t e h =
     inr (subst (λ (l : List ℕ). IsPassed (along m 1) l n u) (ap (drop 1) e) p)
@@ -71,7 +71,7 @@ behind_character _ _ _ _ (line_break m s n u k p) c t e h =
 
 behind_break : (m : Marker) (s : List ℕ) (n : Marker) (u : List ℕ) → IsPassed m s n u
     → is_break (slice_index s 0) ≡ true
-    → Stays m s n u ⊎ IsPassed (next_line m (break_len s)) (drop (break_len s) s) n u
+    → StaysHere m s n u ⊎ IsPassed (next_line m (break_len s)) (drop (break_len s) s) n u
 behind_break _ _ _ _ (nothing m s) h = inl (record { text = refl; place = refl })
 behind_break _ _ _ _ (character m d s n u k p) h = clash (is_break d) h k
 behind_break _ _ _ _ (line_break m s n u k p) h = inr p

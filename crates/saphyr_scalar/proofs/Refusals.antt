@@ -7,10 +7,10 @@ use Rattle.saphyr_scalar.specs.declared.scalar.fault.Refusal.{Refusal}
 use Rattle.saphyr_scalar.specs.declared.scalar.tag.UriSet.{UriSet}
 use Rattle.saphyr_scalar.specs.declared.scalar.tag.UriSet.TheVariants.{Uri, Suffix}
 use Rattle.saphyr_scalar.specs.Views.Cursor.{Cursor, ◌>>=◌, along, pass}
-use Rattle.saphyr_scalar.specs.Steps.Quoted.{with_front, with_run, at}
+use Rattle.saphyr_scalar.specs.Steps.Quoted.{with_front, with_run, mid_line}
 use Rattle.saphyr_scalar.specs.Steps.Anchor as names
 use Rattle.saphyr_scalar.specs.Steps.Anchor.{anchor}
-use Rattle.saphyr_scalar.specs.Steps.Tag.{has, shows_byte, escaped_byte, utf8_width, leading_bits, is_trailing, is_encoded, trailing_byte, trailing_bytes, encoded, behind_leading_byte, percent_escape, uri_character, uri_tail, decoded, decoded_at, Parts, verbatim_end, verbatim, named_tag, named_tail, behind_word, shorthand, tag_end, tag}
+use Rattle.saphyr_scalar.specs.Steps.Tag.{is_in_set, shows_byte, escaped_byte, utf8_width, leading_bits, is_trailing, is_encoded, trailing_byte, trailing_bytes, encoded_character, behind_leading_byte, percent_escape, uri_character, uri_tail, decoded_characters, decoded_at, TagRead, verbatim_end, verbatim_tag, named_tag, named_tail, tag_behind_word, shorthand_tag, tag_end, tag}
 use Rattle.saphyr_input.proofs.Basics.Booleans.{by_test}
 
 -- what is refused, if anything is, has this property
@@ -64,7 +64,7 @@ bytes_refused start (suc n) v s =
     (λ x e. bytes_refused start n x.0 x.1)
 
 leading_refused : (start : Marker) (b : ℕ) (s : Cursor) → RefusedAt start (behind_leading_byte start b s)
-unfolding behind_leading_byte encoded
+unfolding behind_leading_byte encoded_character
 leading_refused start b s =
     by_test (utf8_width b == 0) _ _ (RefusedAt start) (λ _. refl)
     (λ _. refused_bind (λ e. e.mark ≡ start) (trailing_bytes start (utf8_width b - 1) (leading_bits b) s) _
@@ -83,27 +83,28 @@ pub front_refused : (P : Refusal → Type 0) (front : List ℕ) (r : Result (Lis
 front_refused P front r h = refused_bind P r _ h (λ x e. tt)
 
 pub decoded_refused : (set : UriSet) (start : Marker) (k : ℕ) (m : Marker) (t : List ℕ)
-    → RefusedAt start (decoded set start k m t)
-unfolding decoded
+    → RefusedAt start (decoded_characters set start k m t)
+unfolding decoded_characters
 decoded_refused set start k m [] = tt
 decoded_refused set start zero m (c ∷ cs) =
     let P : Refusal → Type 0 = λ e. e.mark ≡ start in
-    by_test (has set c) _ _ (RefusedAt start)
-    (λ _. refused_bind P (uri_character start (at m (c ∷ cs))) _ (character_refused start (at m (c ∷ cs))) (λ x e.
-    front_refused P (encode_utf8 x.0) (decoded set start (uri_tail (c ∷ cs)) (along m 1) cs)
+    by_test (is_in_set set c) _ _ (RefusedAt start)
+    (λ _. refused_bind P (uri_character start (mid_line m (c ∷ cs))) _
+    (character_refused start (mid_line m (c ∷ cs))) (λ x e.
+    front_refused P (encode_utf8 x.0) (decoded_characters set start (uri_tail (c ∷ cs)) (along m 1) cs)
     (decoded_refused set start (uri_tail (c ∷ cs)) (along m 1) cs)))
     (λ _. tt)
 decoded_refused set start (suc k) m (c ∷ cs) = decoded_refused set start k (along m 1) cs
 
-verbatim_refused : (s : Cursor) → RefusedAt s.mark (verbatim s)
-unfolding verbatim verbatim_end
+verbatim_refused : (s : Cursor) → RefusedAt s.mark (verbatim_tag s)
+unfolding verbatim_tag verbatim_end
 verbatim_refused s =
     let t : Cursor = pass 2 s in
     refused_bind (λ e. e.mark ≡ s.mark) (decoded_at Uri s.mark t) _ (decoded_refused Uri s.mark 0 t.mark t.rest)
     (λ x e. by_test (slice_index x.1.rest 0 == 62) _ _ (RefusedAt s.mark) (λ _. tt) (λ _. refl))
 
-word_refused : (start : Marker) (w : List ℕ × Cursor) → RefusedAt start (behind_word start w)
-unfolding behind_word named_tail named_tag
+word_refused : (start : Marker) (w : List ℕ × Cursor) → RefusedAt start (tag_behind_word start w)
+unfolding tag_behind_word named_tail named_tag
 word_refused start w =
     let P : Refusal → Type 0 = λ e. e.mark ≡ start in
     let t : Cursor = pass 1 w.1 in
@@ -115,10 +116,10 @@ word_refused start w =
     (λ x e. tt))
 
 pub tag_refused : (in_flow : Bool) (s : Cursor) → RefusedAt s.mark (tag in_flow s)
-unfolding tag shorthand tag_end
+unfolding tag shorthand_tag tag_end
 tag_refused in_flow s =
     let P : Refusal → Type 0 = λ e. e.mark ≡ s.mark in
-    let end = λ (p : Parts) (e : _). by_test
+    let end = λ (p : TagRead) (e : _). by_test
     (is_blank_or_breakz (slice_index p.2.rest 0) || (in_flow && is_flow (slice_index p.2.rest 0))) _ _
     (RefusedAt s.mark) (λ _. tt) (λ _. refl) in
     let parts = by_test (slice_index s.rest 1 == 60) _ _ (RefusedAt s.mark) (λ _. verbatim_refused s)

@@ -13,12 +13,12 @@ pub inside_from : (s t : Cursor) (e : Refusal) → IsPassed s.mark s.rest t.mark
     → IsRefusedInside s e
 inside_from s t e p (behind, q) = (behind, passed_passed s.mark s.rest t.mark t.rest e.mark behind p q)
 
-pub inside_at : (s t : Cursor) → IsPassed s.mark s.rest t.mark t.rest → (e : Refusal) → e.mark ≡ t.mark
+pub refused_there : (s t : Cursor) → IsPassed s.mark s.rest t.mark t.rest → (e : Refusal) → e.mark ≡ t.mark
     → IsRefusedInside s e
-inside_at s t p e is = (t.rest, subst (λ (m : Marker). IsPassed s.mark s.rest m t.rest) (sym is) p)
+refused_there s t p e is = (t.rest, subst (λ (m : Marker). IsPassed s.mark s.rest m t.rest) (sym is) p)
 
 pub inside_start : (s : Cursor) (e : Refusal) → e.mark ≡ s.mark → IsRefusedInside s e
-inside_start s e is = inside_at s s (nothing s.mark s.rest) e is
+inside_start s e is = refused_there s s (nothing s.mark s.rest) e is
 
 -- a character more is passed
 pub one_more_passed : (s : Cursor) (m : Marker) (c : ℕ) (cs : List ℕ) → IsPassed s.mark s.rest m (c ∷ cs)

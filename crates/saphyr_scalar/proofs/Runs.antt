@@ -6,7 +6,7 @@ use Rattle.saphyr_input.proofs.Runs.{run_stops}
 use Rattle.saphyr_scalar.specs.Spelling.Tag.{AreIn}
 use Rattle.saphyr_scalar.specs.declared.scalar.position.Marker.{Marker}
 use Rattle.saphyr_scalar.specs.Views.Cursor.{along, pass}
-use Rattle.saphyr_scalar.specs.Steps.Quoted.{at, with_run}
+use Rattle.saphyr_scalar.specs.Steps.Quoted.{mid_line, with_run}
 use Rattle.saphyr_input.proofs.Basics.Booleans.{by_test}
 use Rattle.saphyr_scalar.proofs.Given.{together}
 
@@ -17,9 +17,9 @@ run_len p (c ∷ w) y (is, are) ends =
     let one : 1 + length w ≡ suc (length w) = omega arith in rw (is, run_len p w y are ends) one
 
 pub run_read : (p : ℕ → Bool) (m : Marker) (w y : List ℕ) → AreIn p w → p (slice_index y 0) ≡ false
-    → with_run p [] (at m (w ++ y)) ≡ (encode_utf8_all w, at (along m (length w)) y)
+    → with_run p [] (mid_line m (w ++ y)) ≡ (encode_utf8_all w, mid_line (along m (length w)) y)
 run_read p m w y are ends =
-    ap (λ n. together (encode_utf8_all (take n (w ++ y))) (pass n (at m (w ++ y)))) (run_len p w y are ends)
+    ap (λ n. together (encode_utf8_all (take n (w ++ y))) (pass n (mid_line m (w ++ y)))) (run_len p w y are ends)
     ∙ rw (take-append_seam w y, drop-append_seam w y) refl
 
 -- what is taken as a run is one

@@ -12,7 +12,7 @@ use Rattle.saphyr_scalar.specs.declared.scalar.block.lines.EmptyLines.{EmptyLine
 use Rattle.scalar_values.specs.declared.flow.Quote.{Quote}
 use Rattle.saphyr_scalar.specs.Views.Cursor.{Cursor, along, pass_spaces}
 use Rattle.saphyr_scalar.specs.Steps.Plain.{lines}
-use Rattle.saphyr_scalar.specs.Steps.Quoted.{at, over_lines, inside, inside_at}
+use Rattle.saphyr_scalar.specs.Steps.Quoted.{mid_line, over_lines, inner_text, inner_text_at}
 use Rattle.saphyr_scalar.specs.Steps.Block.{is_indentation, indentation_left, pass_empty_lines, pass_empty_lines_at}
 use Rattle.saphyr_scalar.proofs.Moving.{along_none, along_more}
 use Rattle.saphyr_scalar.proofs.Plain.Lines.{lines_blank}
@@ -71,31 +71,32 @@ lines_over i a t f most s u e =
 
 -- between quotes
 
-pub inside_over : (q : Quote) (indent : ℕ) (start : Marker) (escaped : Bool) (k most : ℕ) (s u : Cursor)
+pub inside_over_spaces : (q : Quote) (indent : ℕ) (start : Marker) (escaped : Bool) (k most : ℕ) (s u : Cursor)
     → u ≡ pass_spaces most s
-    → inside_at q indent start (over_lines escaped k) u ≡ inside_at q indent start (over_lines escaped k) s
-inside_over q indent start escaped k most s u e =
-    ap (inside_at q indent start (over_lines escaped k)) e
-    ∙ over_run (inside q indent start (over_lines escaped k) 0) Always (λ m n _. tt)
-    (λ m n cs _. line_blank q indent start escaped k (at m (32 ∷ cs)) refl refl) s.mark (spaces_within most s.rest)
+    → inner_text_at q indent start (over_lines escaped k) u ≡ inner_text_at q indent start (over_lines escaped k) s
+inside_over_spaces q indent start escaped k most s u e =
+    ap (inner_text_at q indent start (over_lines escaped k)) e
+    ∙ over_run (inner_text q indent start (over_lines escaped k) 0) Always (λ m n _. tt)
+    (λ m n cs _. line_blank q indent start escaped k (mid_line m (32 ∷ cs)) refl refl) s.mark
+    (spaces_within most s.rest)
     s.rest tt (few most s.rest)
 
 -- before a block scalar's lines
 
-abbrev Fits : Option ℕ → Marker → ℕ → Type 0
-Fits None m n = Unit {0}
-Fits (Some limit) m n = n ≤ limit - m.col
+abbrev FitsLimit : Option ℕ → Marker → ℕ → Type 0
+FitsLimit None m n = Unit {0}
+FitsLimit (Some limit) m n = n ≤ limit - m.col
 
-fits_next : (limit : Option ℕ) (m : Marker) (n : ℕ) → Fits limit m (suc n) → Fits limit (along m 1) n
+fits_next : (limit : Option ℕ) (m : Marker) (n : ℕ) → FitsLimit limit m (suc n) → FitsLimit limit (along m 1) n
 fits_next None m n f = tt
 fits_next (Some limit) m n f = omega (arith, f)
 
-indented : (limit : Option ℕ) (m : Marker) (n : ℕ) → Fits limit m (suc n) → is_indentation limit m.col 32 ≡ true
+indented : (limit : Option ℕ) (m : Marker) (n : ℕ) → FitsLimit limit m (suc n) → is_indentation limit m.col 32 ≡ true
 indented None m n f = refl
 indented (Some limit) m n f = let less : m.col < limit = omega (arith, f) in grind (arith, nat_tests)
 
 fits_left : (limit : Option ℕ) (m : Marker) (xs : List ℕ)
-    → Fits limit m (spaces_within (indentation_left limit m.col) xs)
+    → FitsLimit limit m (spaces_within (indentation_left limit m.col) xs)
 fits_left None m xs = tt
 fits_left (Some limit) m xs = omega arith
 
@@ -104,7 +105,7 @@ pub empty_over : (limit : Option ℕ) (lines : EmptyLines) (left : ℕ) (s u : C
     → pass_empty_lines_at limit lines u ≡ pass_empty_lines_at limit lines s
 empty_over limit lines left s u room e =
     ap (pass_empty_lines_at limit lines) (e ∙ ap (λ n. pass_spaces n s) room)
-    ∙ over_run (pass_empty_lines limit lines s.blank_so_far) (Fits limit) (fits_next limit)
+    ∙ over_run (pass_empty_lines limit lines s.blank_so_far) (FitsLimit limit) (fits_next limit)
     (λ m n cs f. sym (space_on limit lines s.blank_so_far m 32 cs (indented limit m n f)))
     s.mark (spaces_within (indentation_left limit s.mark.col) s.rest) s.rest (fits_left limit s.mark s.rest)
     (few (indentation_left limit s.mark.col) s.rest)

@@ -12,9 +12,9 @@ use Rattle.saphyr_input.specs.Breaks.{normalized}
 use Rattle.scalar_values.specs.declared.flow.Quote.{Quote}
 use Rattle.scalar_values.specs.declared.flow.Quote.TheVariants.{Single, Double}
 use Rattle.scalar_values.specs.Flow as flow
-use Rattle.saphyr_scalar.specs.Steps.Quoted.{at, quoted}
+use Rattle.saphyr_scalar.specs.Steps.Quoted.{mid_line, quoted}
 use Rattle.saphyr_scalar.proofs.Quoted.Pieces.{quoted_reading}
-use Rattle.saphyr_scalar.specs.Steps.Plain.{PlainGap, lines, reached, may_stand, at_line, next_lines, gap_from, gap, goes_on, word_starts, in_word, between, word, plain, gap_len}
+use Rattle.saphyr_scalar.specs.Steps.Plain.{PlainGap, lines, reached_gap, content_behind_tab, line_front, next_lines, gap_from, gap, next_word_starts, word_starts, is_in_word, word_behind_gap, word, plain, gap_len}
 use Rattle.saphyr_input.proofs.Basics.Booleans.{by_test}
 use Rattle.saphyr_input.proofs.Basics.Lists.{drop_shorter}
 use Rattle.saphyr_scalar.proofs.Given.{Given, given_bind, given_of, bind_ok}
@@ -31,13 +31,13 @@ abbrev GapWithin : ℕ → PlainGap → Type 0
 GapWithin n g = length g.behind.rest ≤ n
 
 reached_within : (n : ℕ) (start : Marker) (tabbed : Bool) (feeds : List ℕ) (s : Cursor) → length s.rest ≤ n
-    → Given (GapWithin n) (reached start tabbed feeds s)
-unfolding may_stand
+    → Given (GapWithin n) (reached_gap start tabbed feeds s)
+unfolding content_behind_tab
 reached_within n start tabbed feeds s h =
-    given_bind (GapWithin n) (may_stand start tabbed s) _
-    (λ t e. given_of (λ (u : Cursor). length u.rest ≤ n) (may_stand start tabbed s) t stands e)
+    given_bind (GapWithin n) (content_behind_tab start tabbed s) _
+    (λ t e. given_of (λ (u : Cursor). length u.rest ≤ n) (content_behind_tab start tabbed s) t stands e)
   where
-    stands : Given (λ (u : Cursor). length u.rest ≤ n) (may_stand start tabbed s)
+    stands : Given (λ (u : Cursor). length u.rest ≤ n) (content_behind_tab start tabbed s)
     stands =
         by_test (tabbed && is_bom (slice_index s.rest 0)) _ _ (Given (λ (u : Cursor). length u.rest ≤ n)) (λ _. tt)
         (λ _. by_test (tabbed && not ((slice_index s.rest 0 == 35) || is_z (slice_index s.rest 0))) _ _
@@ -46,12 +46,12 @@ reached_within n start tabbed feeds s h =
 lines_within : (n indent : ℕ) (start : Marker) (tabbed : Bool) (feeds : List ℕ) (m : Marker) (t : List ℕ) → length t ≤ n
     → Given (GapWithin n) (lines indent start tabbed feeds m t)
 unfolding lines
-lines_within n indent start tabbed feeds m [] h = reached_within n start tabbed feeds (at_line m []) h
+lines_within n indent start tabbed feeds m [] h = reached_within n start tabbed feeds (line_front m []) h
 lines_within n indent start tabbed feeds m (c ∷ cs) h =
     let k : length cs ≤ n = omega (arith, h) in
     let others = λ (b : Bool) (f : List ℕ) (l : Marker). lines_within n indent start b f l cs k in
     by_test (is_blank_or_break c) _ _ (Given (GapWithin n)) (λ _. others _ _ _)
-    (λ _. reached_within n start tabbed feeds (at_line m (c ∷ cs)) h)
+    (λ _. reached_within n start tabbed feeds (line_front m (c ∷ cs)) h)
 
 gap_within : (indent : ℕ) (start : Marker) (s : Cursor) → Given (GapWithin (length s.rest)) (gap indent start s)
 unfolding gap gap_from
@@ -71,14 +71,14 @@ abbrev Within : ℕ → List ℕ × Marker × Option Marker × Cursor → Type 0
 Within n x = length x.3.rest ≤ n
 
 mutual
-  unfolding between word
+  unfolding word_behind_gap word
 
   between_within : (n : ℕ) (in_flow : Bool) (indent : ℕ) (start end : Marker) (g : PlainGap) (left : ℕ) (t : List ℕ)
-      → length g.behind.rest ≤ n → length t ≤ n → Given (Within n) (between in_flow indent start end g left t)
+      → length g.behind.rest ≤ n → length t ≤ n → Given (Within n) (word_behind_gap in_flow indent start end g left t)
   between_within n in_flow indent start end g left [] h k = h
   between_within n in_flow indent start end g zero (c ∷ cs) h k =
       let others = word_within n in_flow indent start (along g.behind.mark 1) cs (omega (arith, k)) in
-      given_bind (Within n) (goes_on in_flow indent g.behind) _ (λ b e.
+      given_bind (Within n) (next_word_starts in_flow indent g.behind) _ (λ b e.
       by_test b.0 _ _ (Given (Within n))
       (λ _. given_bind (Within n) (word in_flow indent start (along g.behind.mark 1) cs) _
       (λ x q. given_of (Within n) _ x others q))
@@ -95,19 +95,19 @@ mutual
       let behind = λ (g : PlainGap) (left : ℕ)
       (q : length g.behind.rest ≤ n). between_within n in_flow indent start m g left
       cs q k in
-      by_test (in_word in_flow (c ∷ cs)) _ _ (Given (Within n))
+      by_test (is_in_word in_flow (c ∷ cs)) _ _ (Given (Within n))
       (λ _. given_bind (Within n) (word in_flow indent start (along m 1) cs) _
       (λ x q. given_of (Within n) _ x others q))
-      (λ _. given_bind (Within n) (gap indent start (at m (c ∷ cs))) _ (λ g e.
-      let l = given_of (GapWithin (length (c ∷ cs))) _ g (gap_within indent start (at m (c ∷ cs))) e in
+      (λ _. given_bind (Within n) (gap indent start (mid_line m (c ∷ cs))) _ (λ g e.
+      let l = given_of (GapWithin (length (c ∷ cs))) _ g (gap_within indent start (mid_line m (c ∷ cs))) e in
       let q : length g.behind.rest ≤ n = omega (arith, l, h) in
       by_test (gap_len (c ∷ cs) g == 0) _ _ (Given (Within n)) (λ _. q) (λ _. behind g (pred (gap_len (c ∷ cs) g)) q)))
 
 -- a word has a character
 first_taken : (in_flow : Bool) (indent : ℕ) (start m : Marker) (t : List ℕ)
-    (x : List ℕ × Marker × Option Marker × Cursor) → in_word in_flow t ≡ true → word in_flow indent start m t ≡ Ok x
+    (x : List ℕ × Marker × Option Marker × Cursor) → is_in_word in_flow t ≡ true → word in_flow indent start m t ≡ Ok x
     → length x.3.rest < length t
-unfolding word in_word
+unfolding word is_in_word
 first_taken in_flow indent start m [] x w e = absurd (cc)
 first_taken in_flow indent start m (c ∷ cs) x w e =
     let others = word_within (length cs) in_flow indent start (along m 1) cs (omega arith) in
@@ -118,7 +118,7 @@ first_taken in_flow indent start m (c ∷ cs) x w e =
     omega (arith, less)
 
 abbrev Starts : Bool → Cursor → Bool × Cursor → Type 0
-Starts in_flow s b = (b.1 ≡ s) × (b.0 ≡ true → in_word in_flow s.rest ≡ true)
+Starts in_flow s b = (b.1 ≡ s) × (b.0 ≡ true → is_in_word in_flow s.rest ≡ true)
 
 starts_here : (in_flow : Bool) (s : Cursor) → Given (Starts in_flow s) (word_starts in_flow s)
 unfolding word_starts
@@ -142,7 +142,7 @@ plain_takes in_flow indent s t text end comment e =
     by (true, u) h q =
         let same : length u.rest ≡ length s.rest = ap (λ (v : Cursor). length v.rest) h.0 in
         let less = first_taken in_flow indent s.mark u.mark u.rest (text, end, comment, t)
-        (ap (λ (v : Cursor). in_word in_flow v.rest) h.0 ∙ h.1 refl) q in
+        (ap (λ (v : Cursor). is_in_word in_flow v.rest) h.0 ∙ h.1 refl) q in
         omega (arith, same, less)
     by (false, u) h q = absurd (cc)
 

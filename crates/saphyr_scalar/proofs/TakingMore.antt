@@ -13,7 +13,7 @@ use Rattle.saphyr_scalar.specs.declared.scalar.position.Span.{Span}
 use Rattle.saphyr_scalar.specs.declared.scalar.block.header.BlockHeader.{BlockHeader}
 use Rattle.saphyr_scalar.specs.declared.scalar.block.lines.EmptyLines.{EmptyLines}
 use Rattle.saphyr_scalar.specs.Views.Cursor.{Cursor, along, next_line, pass, pass_blanks, pass_break, behind_separation, separation}
-use Rattle.saphyr_scalar.specs.Steps.Quoted.{at}
+use Rattle.saphyr_scalar.specs.Steps.Quoted.{mid_line}
 use Rattle.saphyr_scalar.specs.Steps.Block.{chomping, indicator, header_break, header_end, last_chomping, header_behind, header, is_indentation, is_cr_lf, pass_empty_lines, line_starts, LinesRead, between, line, chomped_lines, content, behind_leading_lines, given_indentation, no_lines, behind_header, block_scalar}
 use Rattle.saphyr_scalar.specs.Steps.Anchor.{anchor}
 use Rattle.saphyr_scalar.specs.Steps.Tag.{tag}
@@ -228,7 +228,7 @@ directive_takes s t d end opening e =
     let is : length s.rest ≡ length (spelled.0 ++ (spelled.1 ++ x)) = ap length spelled.3 in
     let whole = length-append spelled.0 (spelled.1 ++ x) in
     let back = length-append spelled.1 x in
-    let behind : Cursor = at (along s.mark (length spelled.0 + length spelled.1)) x in
+    let behind : Cursor = mid_line (along s.mark (length spelled.0 + length spelled.1)) x in
     let left : length t.rest ≡ length (pass_break behind).rest = ap (λ (u : Cursor). length u.rest) spelled.8 in
     let less : length (pass_break behind).rest ≤ length x = break_shorter behind in
     omega (arith, some, is, whole, back, left, less)

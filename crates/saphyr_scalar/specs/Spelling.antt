@@ -1,6 +1,6 @@
 -- How scalars, names, tags, directives and the spaces between are spelled, in the standard's words.
 pub mod LineBreaks
-pub mod QuotedWords
+pub mod ClosingQuote
 pub mod OneLine
 pub mod Quoted
 pub mod QuotedLines

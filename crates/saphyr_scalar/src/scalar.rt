@@ -30,8 +30,8 @@ pub use law::{
     ends_each_plain_scalar, keeps_markers_out_of_quotes, passes_blanks_and_breaks,
     passes_to_one_place, places_each_block_scalar, reads_each_double_quoted, reads_each_plain_text,
     reads_each_plain_word, reads_each_quoted, reads_each_quoted_on_line, reads_plain_values,
-    reads_quoted_values, reads_the_table_of_escapes, spells_each_quoted, takes_anchor,
-    takes_block_scalar, takes_directive, takes_plain, takes_quoted, takes_tag,
+    reads_quoted_values, spells_each_quoted, takes_anchor, takes_block_scalar, takes_directive,
+    takes_plain, takes_quoted, takes_tag,
 };
 pub use plain::PlainScalar;
 pub use position::{Marker, Span};

@@ -4,7 +4,7 @@ use Rattle.std.specs.Prelude.{◌==◌, not}
 use Rattle.saphyr_input.specs.Classes.{is_blank}
 use Rattle.saphyr_input.proofs.Basics.Booleans.{clash}
 use Rattle.saphyr_scalar.specs.Spelling.Tag.{AreIn}
-use Rattle.saphyr_scalar.specs.Spelling.Spaces.{joined, AreEach, IsFillerText, IsFillerLine, IsFiller}
+use Rattle.saphyr_scalar.specs.Spelling.Spaces.{joined_pieces, AreEach, IsFillerText, IsFillerLine, IsFiller}
 
 abbrev pub behind_first : List ℕ → List ℕ
 behind_first [] = []
@@ -71,16 +71,16 @@ filler_line t (text, h, e) = with_break text t e (filler_text text h)
     with_break text t e (inr h) = front_of IsFirst text (codes "\n") t h e
 
 begins_lines : (pieces : List (List ℕ)) → AreEach IsFillerLine pieces
-    → (joined pieces ≡ []) ⊎ Begins IsFirst (joined pieces)
+    → (joined_pieces pieces ≡ []) ⊎ Begins IsFirst (joined_pieces pieces)
 begins_lines [] h = inl refl
 begins_lines (line ∷ others) (h, hs) =
-    inr (front_of IsFirst line (joined others) (line ++ joined others) (filler_line line h) refl)
+    inr (front_of IsFirst line (joined_pieces others) (line ++ joined_pieces others) (filler_line line h) refl)
 
 begins_along : (a b : List ℕ) → a ≡ b → (b ≡ []) ⊎ Begins IsFirst b → (a ≡ []) ⊎ Begins IsFirst a
 begins_along a b e h = rw e h
 
 pub filler : (t : List ℕ) → IsFiller t → (t ≡ []) ⊎ Begins IsFirst t
-filler t (pieces, h, f) = begins_along t (joined pieces) f (begins_lines pieces h)
+filler t (pieces, h, f) = begins_along t (joined_pieces pieces) f (begins_lines pieces h)
 
 -- a text behind filler begins so, or there is none
 pub behind_filler : (t a b : List ℕ) → IsFiller a → t ≡ a ++ b → (t ≡ b) ⊎ Begins IsFirst t
@@ -94,5 +94,6 @@ behind_filler t a b h d = split t a b d (filler a h)
 pub no_feed_no_filler : (t : List ℕ) → AreIn (λ c. not (c == 10)) t → IsFiller t → t ≡ []
 no_feed_no_filler t h ([], each, e) = e
 no_feed_no_filler t h (piece ∷ pieces, (line, each), e) =
-    absurd (lacks (λ c. not (c == 10)) 10 t line.0 (joined pieces) refl
-    (e ∙ ap (λ (x : List ℕ). x ++ joined pieces) line.2 ∙ append_assoc line.0 (10 ∷ []) (joined pieces)) h)
+    absurd (lacks (λ c. not (c == 10)) 10 t line.0 (joined_pieces pieces) refl
+    (e ∙ ap (λ (x : List ℕ). x ++ joined_pieces pieces) line.2 ∙ append_assoc line.0 (10 ∷ [])
+    (joined_pieces pieces)) h)

@@ -13,7 +13,7 @@ use Rattle.saphyr_scalar.specs.Passing.{IsPassed, nothing, character, line_break
 use Rattle.saphyr_scalar.specs.Steps.Quoted.{break_len}
 use Rattle.saphyr_scalar.proofs.Lengths.{two_shown, separation_within}
 use Rattle.saphyr_scanner.specs.Steps.Gap.{gap, comment, stop, GapEnd, is_tab_indentation}
-use Rattle.saphyr_input.proofs.Basics.Lists.{shown}
+use Rattle.saphyr_input.proofs.Basics.Lists.{shows_character}
 use Rattle.saphyr_input.proofs.Basics.Booleans.{by_test}
 use Rattle.saphyr_scalar.proofs.Given.{Given}
 
@@ -53,14 +53,14 @@ text_passed s t text r i =
 
 break_within : (t : List ℕ) → is_break (slice_index t 0) ≡ true → break_len t ≤ length t
 break_within t e = by_test (next_2_are t 13 10) 2 1 (λ n. n ≤ length t) (two_shown t)
-    (λ _. shown t is_break true e (λ k. absurd (cc)))
+    (λ _. shows_character t is_break true e (λ k. absurd (cc)))
 
 -- the break that stands first is passed, if one does
 pub pass_break_counted : (s : Cursor) → Ahead s (pass_break s)
 pass_break_counted s =
     by_test (next_2_are s.rest 13 10) _ _ (Ahead s) (λ e. taken_off s (pass_line 2 s) 2 refl refl (two_shown s.rest e))
     (λ _. by_test (is_break (slice_index s.rest 0)) _ _ (Ahead s)
-    (λ e. taken_off s (pass_line 1 s) 1 refl refl (shown s.rest is_break true e (λ k. absurd (cc))))
+    (λ e. taken_off s (pass_line 1 s) 1 refl refl (shows_character s.rest is_break true e (λ k. absurd (cc))))
     (λ _. stays s s refl))
 
 -- ## From a place to another

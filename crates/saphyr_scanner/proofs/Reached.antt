@@ -7,7 +7,7 @@ use Rattle.saphyr_scalar.specs.Views.Cursor.{along, next_line}
 use Rattle.saphyr_scalar.specs.Passing as passing
 use Rattle.saphyr_scalar.specs.Passing.{IsPassed}
 use Rattle.saphyr_scalar.specs.Steps.Plain.{ends_line}
-use Rattle.saphyr_scalar.specs.Reading.Plain.{passed}
+use Rattle.saphyr_scalar.specs.Reading.Plain.{end_of_text}
 use Rattle.saphyr_scalar.specs.Steps.Quoted.{break_len}
 use Rattle.saphyr_scalar.proofs.NoBreaks.{NoBreaks, class_no_break, no_breaks_in}
 use Rattle.saphyr_scalar.proofs.Moving.{along_none, along_more}
@@ -106,7 +106,7 @@ never true false c e = refl
 never true true c e = absurd (cc)
 never false b c e = refl
 
-pub piece_reached : (m : Marker) (cs u : List ℕ) → Uncut cs u → IsReached m (cs ++ u) (passed m cs) u
+pub piece_reached : (m : Marker) (cs u : List ℕ) → Uncut cs u → IsReached m (cs ++ u) (end_of_text m cs) u
 piece_reached m [] u h = taken.nothing m u
 piece_reached m (c ∷ []) u h =
     by_test (ends_line c []) (next_line m 1) (along m 1) (λ (k : Marker). IsReached m (c ∷ u) k u)
@@ -118,13 +118,13 @@ piece_reached m (c ∷ []) u h =
     (λ e. taken.character m c u (along m 1) u (no_end (is_break c) (c == 13) e) (taken.nothing (along m 1) u))
 piece_reached m (c ∷ d ∷ cs) u h =
     by_test (ends_line c (d ∷ cs)) (next_line m 1) (along m 1)
-    (λ (k : Marker). IsReached m (c ∷ d ∷ (cs ++ u)) (passed k (d ∷ cs)) u)
+    (λ (k : Marker). IsReached m (c ∷ d ∷ (cs ++ u)) (end_of_text k (d ∷ cs)) u)
     (λ e.
     let w = and_parts (is_break c) _ e in
-    single m c (d ∷ (cs ++ u)) (passed (next_line m 1) (d ∷ cs)) u w.0 (not-true ((c == 13) && (d == 10)) w.1)
+    single m c (d ∷ (cs ++ u)) (end_of_text (next_line m 1) (d ∷ cs)) u w.0 (not-true ((c == 13) && (d == 10)) w.1)
     (piece_reached (next_line m 1) (d ∷ cs) u h))
     (λ e. elim (not_both (is_break c) ((c == 13) && (d == 10)) e) [
-      | inl f ↦ taken.character m c (d ∷ (cs ++ u)) (passed (along m 1) (d ∷ cs)) u f
+      | inl f ↦ taken.character m c (d ∷ (cs ++ u)) (end_of_text (along m 1) (d ∷ cs)) u f
           (piece_reached (along m 1) (d ∷ cs) u h)
       | inr f ↦ let w = and_parts (c == 13) (d == 10) f in
           two c d (eqb-true c 13 w.0) (eqb-true d 10 w.1) (piece_reached (next_line (along m 1) 1) cs u (less cs h))
@@ -135,12 +135,12 @@ piece_reached m (c ∷ d ∷ cs) u h =
     less (x ∷ xs) k = k
 
     two : (x y : ℕ) → x ≡ 13 → y ≡ 10
-        → IsReached (next_line (along m 1) 1) (cs ++ u) (passed (next_line (along m 1) 1) cs) u
-        → IsReached m (x ∷ y ∷ (cs ++ u)) (passed (along m 1) (y ∷ cs)) u
+        → IsReached (next_line (along m 1) 1) (cs ++ u) (end_of_text (next_line (along m 1) 1) cs) u
+        → IsReached m (x ∷ y ∷ (cs ++ u)) (end_of_text (along m 1) (y ∷ cs)) u
     two x y e f p =
-        let P : ℕ → Type 0 = λ z. IsReached m (z ∷ y ∷ (cs ++ u)) (passed (along m 1) (y ∷ cs)) u in
-        let Q : ℕ → Type 0 = λ z. IsReached m (13 ∷ z ∷ (cs ++ u)) (passed (along m 1) (z ∷ cs)) u in
-        subst P (sym e) (subst Q (sym f) (double m (cs ++ u) (passed (next_line (along m 1) 1) cs) u p))
+        let P : ℕ → Type 0 = λ z. IsReached m (z ∷ y ∷ (cs ++ u)) (end_of_text (along m 1) (y ∷ cs)) u in
+        let Q : ℕ → Type 0 = λ z. IsReached m (13 ∷ z ∷ (cs ++ u)) (end_of_text (along m 1) (z ∷ cs)) u in
+        subst P (sym e) (subst Q (sym f) (double m (cs ++ u) (end_of_text (next_line (along m 1) 1) cs) u p))
 
 pub uncut_ink : (front : List ℕ) (last : ℕ) (u : List ℕ) → is_break last ≡ false → Uncut (front ++ last ∷ []) u
 uncut_ink [] last u e = inl e

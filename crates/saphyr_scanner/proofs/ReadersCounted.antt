@@ -19,9 +19,9 @@ use Rattle.scalar_values.specs.Flow.{mark}
 use Rattle.scalar_values.specs.Folding.{folded}
 use Rattle.saphyr_scalar.specs.Passing.{IsPassed}
 use Rattle.saphyr_scalar.specs.Steps.Plain as words
-use Rattle.saphyr_scalar.specs.Reading.Plain.{passed, IsPlainReading}
+use Rattle.saphyr_scalar.specs.Reading.Plain.{end_of_text, IsPlainReading}
 use Rattle.saphyr_scalar.specs.Steps.Quoted as quoted
-use Rattle.saphyr_scalar.specs.Steps.Quoted.{at}
+use Rattle.saphyr_scalar.specs.Steps.Quoted.{mid_line}
 use Rattle.saphyr_scalar.specs.Spelling.Quoted.{IsQuotedText}
 use Rattle.saphyr_scalar.specs.Steps.Tag as tags
 use Rattle.saphyr_scalar.specs.Spelling.Tag.{IsAnchorName, IsTagText, EndsTag}
@@ -35,8 +35,8 @@ plain_counted : (s t : Cursor) (text : List ℕ) (end : Marker) → IsPlainReadi
 plain_counted s t text end r =
     let a = passed_index s.mark r.piece in
     let b = passed_index end r.white in
-    let i : (passed s.mark r.piece).index ≡ end.index = ap (λ (m : Marker). m.index) r.ends in
-    let j : (passed end r.white).index ≡ t.mark.index = ap (λ (m : Marker). m.index) r.behind in
+    let i : (end_of_text s.mark r.piece).index ≡ end.index = ap (λ (m : Marker). m.index) r.ends in
+    let j : (end_of_text end r.white).index ≡ t.mark.index = ap (λ (m : Marker). m.index) r.behind in
     let l : length s.rest ≡ length (r.piece ++ (r.white ++ t.rest)) = ap length r.is in
     let x = length-append r.piece (r.white ++ t.rest) in
     let y = length-append r.white t.rest in
@@ -50,12 +50,12 @@ plain_counted s t text end r =
 
 -- what stands behind a text of the line
 ahead_behind_text : (s t : Cursor) (text : List ℕ) → s.rest ≡ text ++ t.rest
-    → t ≡ at (along s.mark (length text)) t.rest
+    → t ≡ mid_line (along s.mark (length text)) t.rest
     → Ahead s t
 ahead_behind_text s t text is e = text_passed s t text is (ap (λ (c : Cursor). c.mark.index) e)
 
 name_counted : (s t : Cursor) (indicator : ℕ) (name : List ℕ) → s.rest ≡ indicator ∷ (name ++ t.rest)
-    → t ≡ at (along s.mark (1 + length name)) t.rest → Ahead s t
+    → t ≡ mid_line (along s.mark (1 + length name)) t.rest → Ahead s t
 name_counted s t indicator name is e =
     let i : t.mark.index ≡ s.mark.index + (1 + length name) = ap (λ (c : Cursor). c.mark.index) e in
     text_passed s t (indicator ∷ name) is (omega (arith, i))
@@ -63,9 +63,9 @@ name_counted s t indicator name is e =
 -- ## Directives
 
 directive_counted : (s u : Cursor) (end : Marker) (t tail x : List ℕ) → s.rest ≡ t ++ (tail ++ x)
-    → end ≡ along s.mark (length t) → u ≡ pass_break (at (along s.mark (length t + length tail)) x) → ReadsUpTo s end u
+    → end ≡ along s.mark (length t) → u ≡ pass_break (mid_line (along s.mark (length t + length tail)) x) → ReadsUpTo s end u
 directive_counted s u end t tail x is ends e =
-    let v : Cursor = at (along s.mark (length t + length tail)) x in
+    let v : Cursor = mid_line (along s.mark (length t + length tail)) x in
     let l : length s.rest ≡ length (t ++ (tail ++ x)) = ap length is in
     let a = length-append t (tail ++ x) in
     let b = length-append tail x in
@@ -105,18 +105,18 @@ pub reader_ends : ((in_flow : Bool) (indent : ℕ) (s t : Cursor) (text : List �
     × (t.mark.index + length t.rest ≡ s.mark.index + length s.rest))
     → ((s t : Cursor) (text : List ℕ) → 0 < length s.rest → anchors.anchor s ≡ Ok (text, t)
     → (indicator : ℕ) × (name : List ℕ) × (s.rest ≡ indicator ∷ (name ++ t.rest)) × IsAnchorName name
-    × (is_anchor_char (slice_index t.rest 0) ≡ false) × (t ≡ at (along s.mark (1 + length name)) t.rest)
+    × (is_anchor_char (slice_index t.rest 0) ≡ false) × (t ≡ mid_line (along s.mark (1 + length name)) t.rest)
     × (encode_utf8_all name ≡ text))
     → ((in_flow : Bool) (s u : Cursor) (front back : List ℕ) → slice_index s.rest 0 ≡ 33
     → tags.tag in_flow s ≡ Ok (front, back, u)
     → (t : List ℕ) × (handle : List ℕ) × (suffix : List ℕ) × (s.rest ≡ t ++ u.rest) × IsTagText t handle suffix
-    × EndsTag in_flow u.rest × (u ≡ at (along s.mark (length t)) u.rest) × (encode_utf8_all handle ≡ front)
+    × EndsTag in_flow u.rest × (u ≡ mid_line (along s.mark (length t)) u.rest) × (encode_utf8_all handle ≡ front)
     × (encode_utf8_all suffix ≡ back))
     → ((s u : Cursor) (d : ReadDirective) (end : Marker) → slice_index s.rest 0 ≡ 37
     → directives.directive s ≡ Ok (d, end, u)
     → (t : List ℕ) × (tail : List ℕ) × (x : List ℕ) × (s.rest ≡ t ++ (tail ++ x)) × IsReadDirective d t
     × IsLineTail tail × (is_breakz (slice_index x 0) ≡ true) × (end ≡ along s.mark (length t))
-    × (u ≡ pass_break (at (along s.mark (length t + length tail)) x)))
+    × (u ≡ pass_break (mid_line (along s.mark (length t + length tail)) x)))
     → ReaderEnds
 reader_ends plain quotes block name tag directive = record {
   plain = λ f i s t text end comment e. plain_counted s t text end (plain f i s t text end comment e);

@@ -15,7 +15,7 @@ use Rattle.scalar_values.specs.declared.flow.Quote.{Quote}
 use Rattle.scalar_values.specs.declared.flow.Quote.TheVariants.{Single, Double}
 use Rattle.scalar_values.specs.declared.block.BlockStyle.{BlockStyle}
 use Rattle.scalar_values.specs.declared.block.BlockStyle.TheVariants as block_style
-use Rattle.saphyr_scalar.specs.Views.Cursor.{Cursor, fresh, along, next_line}
+use Rattle.saphyr_scalar.specs.Views.Cursor.{Cursor, start_cursor, along, next_line}
 use Rattle.saphyr_scalar.specs.Passing.{IsPassed}
 use Rattle.saphyr_scalar.specs.Spelling.LineBreaks.{break_len}
 use Rattle.scalar_values.specs.Folding.{folded}
@@ -53,7 +53,7 @@ IsPlaceOrEnd s m = (m ≡ s.mark) ⊎ ((s.rest ≡ []) × (m ≡ next_line s.mar
 
 -- a place of a text
 abbrev pub IsPlaceOf : List ℕ → Marker → Type 0
-IsPlaceOf text m = (s : Cursor) × IsReached (fresh text).mark text s.mark s.rest × IsPlaceOrEnd s m
+IsPlaceOf text m = (s : Cursor) × IsReached (start_cursor text).mark text s.mark s.rest × IsPlaceOrEnd s m
     × (m.index ≤ length text)
 
 -- ## What stands between tokens (6.6, 6.7)
@@ -260,4 +260,4 @@ IsEndOf text (Some e) u = IsPlaceOf text e.mark
 
 -- the tokens, and the refusal if one ends them, are taken from the text
 abbrev pub AreTakenFrom : List ℕ → Remaining → Type 0
-AreTakenFrom text r = (end : Cursor) × AreTokens [] r.pieces (fresh text) end × IsEndOf text r.refusal end
+AreTakenFrom text r = (end : Cursor) × AreTokens [] r.pieces (start_cursor text) end × IsEndOf text r.refusal end

@@ -19,7 +19,7 @@ ghost use Rattle.saphyr_scanner.specs.Steps.Gap as gaps;
 ghost use Rattle.saphyr_scanner.specs.TakenOff.{Readers};
 ghost use Rattle.saphyr_scanner.specs.TokensTaken.{AreApart, AreTakenFrom, AreTokens, LiesOnLine, IsPlaceOf};
 ghost use Rattle.saphyr_input.specs.Breaks.{normalized};
-ghost use Rattle.saphyr_scalar.specs.Views.Cursor.{Cursor, fresh, separation};
+ghost use Rattle.saphyr_scalar.specs.Views.Cursor.{Cursor, start_cursor, separation};
 ghost use Rattle.saphyr_scanner.specs.Views.Tokens.{Piece};
 ghost use Rattle.saphyr_input.specs.declared.input.SkipTabs.{SkipTabs};
 ghost use Rattle.saphyr_input.specs.declared.input.SkipTabs.TheVariants.{Yes};
@@ -225,7 +225,7 @@ pub fn begins_at_places()
 /// Tokens that are taken from a text begin and end at places of it.
 pub fn places_taken_tokens()
     ensures { (text : List ℕ) (pieces : List Piece) (end : Cursor)
-        → AreTokens [] pieces (fresh text) end → AreAtPlaces text pieces }
+        → AreTokens [] pieces (start_cursor text) end → AreAtPlaces text pieces }
 {}
 
 /// A refusal that ends the tokens of a text stands at a place of it.

@@ -14,11 +14,11 @@ passed_over quote (suc n) [] = refl
 passed_over quote (suc n) (c ∷ text) = passed_over quote n text
 
 -- an item joins those before it
-pub joined : (front : List Item) (item : Item) (others : Option (List Item))
+pub items_joined : (front : List Item) (item : Item) (others : Option (List Item))
     → option_map (λ more. (front ++ item ∷ []) ++ more) others
     ≡ option_map (λ more. front ++ more) (option_map (λ items. item ∷ items) others)
-joined front item None = refl
-joined front item (Some others) = ap Some (append_assoc front (item ∷ []) others)
+items_joined front item None = refl
+items_joined front item (Some others) = ap Some (append_assoc front (item ∷ []) others)
 
 -- the items from one that was looked for
 abbrev pub items_from : Quote → List ℕ → Option (Item × ℕ) → Option (List Item)
@@ -45,5 +45,5 @@ pub next_item : (quote : Quote) (text : List ℕ) (c : ℕ) (others behind : Lis
     ≡ option_map (λ more. front ++ more) (items_to_quote quote zero text)
 next_item quote text c others behind front item len cut unclosed first some e =
     let first_here : first_item quote (c ∷ others) ≡ Some (item, len) = ap (first_item quote) (sym cut) ∙ first in
-    rw (e, cut) (joined front item (items_to_quote quote zero (drop len (c ∷ others)))
+    rw (e, cut) (items_joined front item (items_to_quote quote zero (drop len (c ∷ others)))
     ∙ ap (option_map (λ more. front ++ more)) (sym (one_item quote c others item len unclosed first_here some)))

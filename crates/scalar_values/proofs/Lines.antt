@@ -26,9 +26,9 @@ abbrev pub HasFirstLine : List ℕ → Type 0
 HasFirstLine text = line_len text < length text
     → IsFirstLine text (take (line_len text) text) (drop 1 (drop (line_len text) text))
 
-line_at : (c : ℕ) (cs : List ℕ) (b : Bool) → (c == line_feed) ≡ b → HasFirstLine cs → HasFirstLine (c ∷ cs)
-line_at c cs true e others h = record { ended = rw e refl; last = rw e refl; shorter = rw e (omega arith) }
-line_at c cs false e others h =
+first_line_cases : (c : ℕ) (cs : List ℕ) (b : Bool) → (c == line_feed) ≡ b → HasFirstLine cs → HasFirstLine (c ∷ cs)
+first_line_cases c cs true e others h = record { ended = rw e refl; last = rw e refl; shorter = rw e (omega arith) }
+first_line_cases c cs false e others h =
     let more = rw e at h in
     let within : line_len cs < length cs = omega (arith, more) in
     let first = others within in
@@ -42,7 +42,7 @@ line_at c cs false e others h =
 
 first_line : (text : List ℕ) → HasFirstLine text
 first_line [] h = absurd (omega arith)
-first_line (c ∷ cs) h = line_at c cs (c == line_feed) refl (first_line cs) h
+first_line (c ∷ cs) h = first_line_cases c cs (c == line_feed) refl (first_line cs) h
 
 none_at : (c : ℕ) (cs : List ℕ) (b : Bool) → (c == line_feed) ≡ b → (length cs ≤ line_len cs → has_break cs ≡ false)
     → length (c ∷ cs) ≤ line_len (c ∷ cs) → has_break (c ∷ cs) ≡ false

@@ -39,13 +39,13 @@ pair_from i item m n e =
     (ap (λ (o : Option (Item × ℕ)). (value_or (i, m) o).0) e, ap (λ (o : Option (Item × ℕ)). (value_or (i, m) o).1) e)
 
 -- an item was spelled by the first n characters
-abbrev pub IsTaken : (Item → List ℕ → Type 0) → Item → ℕ → List ℕ → Type 0
-IsTaken spells item n text = spells item (take n text) × (0 < n) × (n ≤ length text)
+abbrev pub IsSpelledFirst : (Item → List ℕ → Type 0) → Item → ℕ → List ℕ → Type 0
+IsSpelledFirst spells item n text = spells item (take n text) × (0 < n) × (n ≤ length text)
 
 -- an escape
 long_taken : (name : ℕ) (rest : List ℕ) (item : Item) (n : ℕ)
     → escape_named None (option_and_then (long_escape rest) (digit_count name)) ≡ Some (item, n)
-    → IsTaken IsEscape item n (name ∷ rest)
+    → IsSpelledFirst IsEscape item n (name ∷ rest)
 long_taken name rest item n e =
     let (found, chain, made) = mapped_from {A = ℕ × ℕ} {B = Item × ℕ} (λ x. (Escaped x.0, x.1 + 1))
     (option_and_then (long_escape rest) (digit_count name)) (item, n) e in
@@ -59,50 +59,51 @@ long_taken name rest item n e =
     ∙ ap (λ (x : Item × ℕ). x.1) made in
     let within : count ≤ length rest = grind (arith, nat_tests, enough) in
     let digits : length (take count rest) ≡ count = simp length-take (omega arith) in
-    subst (λ (i : Item). IsTaken IsEscape i n (name ∷ rest)) is_item
-    (subst (λ (m : ℕ). IsTaken IsEscape (Escaped c) m (name ∷ rest)) is_len
+    subst (λ (i : Item). IsSpelledFirst IsEscape i n (name ∷ rest)) is_item
+    (subst (λ (m : ℕ). IsSpelledFirst IsEscape (Escaped c) m (name ∷ rest)) is_len
     (inr (name, take count rest, named ∙ ap Some (sym digits), value, refl), omega arith, omega arith))
 
 named_taken : (name : ℕ) (rest : List ℕ) (item : Item) (n : ℕ) (short : Option ℕ) → short_escape name ≡ short
     → escape_named short (option_and_then (long_escape rest) (digit_count name)) ≡ Some (item, n)
-    → IsTaken IsEscape item n (name ∷ rest)
+    → IsSpelledFirst IsEscape item n (name ∷ rest)
 named_taken name rest item n (Some c) named e =
     let (is_item, is_len) = pair_from (Escaped c) item 1 n e in
-    subst (λ (i : Item). IsTaken IsEscape i n (name ∷ rest)) is_item
-    (subst (λ (m : ℕ). IsTaken IsEscape (Escaped c) m (name ∷ rest)) is_len
+    subst (λ (i : Item). IsSpelledFirst IsEscape i n (name ∷ rest)) is_item
+    (subst (λ (m : ℕ). IsSpelledFirst IsEscape (Escaped c) m (name ∷ rest)) is_len
     (inl (name, named, refl), omega arith, omega arith))
 named_taken name rest item n None named e = long_taken name rest item n e
 
 break_or_named : (name : ℕ) (rest : List ℕ) (item : Item) (n : ℕ) (b : Bool) → (name == line_feed) ≡ b
     → cond b (Some (EscapedBreak, 1))
     (escape_named (short_escape name) (option_and_then (long_escape rest) (digit_count name))) ≡ Some (item, n)
-    → IsTaken IsEscape item n (name ∷ rest)
+    → IsSpelledFirst IsEscape item n (name ∷ rest)
 break_or_named name rest item n true is e =
     let (is_item, is_len) = pair_from EscapedBreak item 1 n e in
-    subst (λ (i : Item). IsTaken IsEscape i n (name ∷ rest)) is_item
-    (subst (λ (m : ℕ). IsTaken IsEscape EscapedBreak m (name ∷ rest)) is_len
+    subst (λ (i : Item). IsSpelledFirst IsEscape i n (name ∷ rest)) is_item
+    (subst (λ (m : ℕ). IsSpelledFirst IsEscape EscapedBreak m (name ∷ rest)) is_len
     (ap (λ (c : ℕ). c ∷ []) (equal_by_test name line_feed true is refl), omega arith, omega arith))
 break_or_named name rest item n false is e = named_taken name rest item n (short_escape name) refl e
 
-escape_taken : (text : List ℕ) (item : Item) (n : ℕ) → escape text ≡ Some (item, n) → IsTaken IsEscape item n text
+escape_taken : (text : List ℕ) (item : Item) (n : ℕ) → escape text ≡ Some (item, n)
+    → IsSpelledFirst IsEscape item n text
 escape_taken [] item n e = absurd (cc)
 escape_taken (name ∷ rest) item n e = break_or_named name rest item n (name == line_feed) refl e
 
 -- two quotes
 quotes_taken : (c : ℕ) (text : List ℕ) (item : Item) (n : ℕ) → c ≡ apostrophe
-    → special_item Single c text ≡ Some (item, n) → IsTaken (IsSpelling Single) item n (c ∷ text)
+    → special_item Single c text ≡ Some (item, n) → IsSpelledFirst (IsSpelling Single) item n (c ∷ text)
 quotes_taken c [] item n is e = absurd (cc)
 quotes_taken c (d ∷ text) item n is e =
     let (second, pair) = some_from {A = Item × ℕ} (d == apostrophe) (Some (Raw apostrophe, 2)) (item, n) e in
     let (is_item, is_len) = pair_from (Raw apostrophe) item 2 n pair in
     let is_second : d ≡ apostrophe = equal_by_test d apostrophe true second refl in
-    subst (λ (i : Item). IsTaken (IsSpelling Single) i n (c ∷ d ∷ text)) is_item
-    (subst (λ (m : ℕ). IsTaken (IsSpelling Single) (Raw apostrophe) m (c ∷ d ∷ text)) is_len
+    subst (λ (i : Item). IsSpelledFirst (IsSpelling Single) i n (c ∷ d ∷ text)) is_item
+    (subst (λ (m : ℕ). IsSpelledFirst (IsSpelling Single) (Raw apostrophe) m (c ∷ d ∷ text)) is_len
     (inr (refl, rw (is, is_second) refl), omega arith, omega arith))
 
 -- a backslash and an escape
 sequence_taken : (c : ℕ) (text : List ℕ) (item : Item) (n : ℕ) → special_item Double c text ≡ Some (item, n)
-    → IsTaken (IsSpelling Double) item n (c ∷ text)
+    → IsSpelledFirst (IsSpelling Double) item n (c ∷ text)
 sequence_taken c text item n e =
     let (first, told) = some_from {A = Item × ℕ} (c == backslash)
     (option_map {U = Item × ℕ} (λ x. (x.0, x.1 + 1)) (escape text)) (item, n) e in
@@ -111,8 +112,8 @@ sequence_taken c text item n e =
     let is_item : found.0 ≡ item = ap (λ (x : Item × ℕ). x.0) made in
     let is_len : suc found.1 ≡ n = sym (add-one found.1) ∙ ap (λ (x : Item × ℕ). x.1) made in
     let taken = escape_taken text found.0 found.1 behind in
-    subst (λ (i : Item). IsTaken (IsSpelling Double) i n (c ∷ text)) is_item
-    (subst (λ (m : ℕ). IsTaken (IsSpelling Double) found.0 m (c ∷ text)) is_len (
+    subst (λ (i : Item). IsSpelledFirst (IsSpelling Double) i n (c ∷ text)) is_item
+    (subst (λ (m : ℕ). IsSpelledFirst (IsSpelling Double) found.0 m (c ∷ text)) is_len (
       inr (
         take found.1 text,
         taken.0,
@@ -128,23 +129,23 @@ itself Single item text h = inl h
 itself Double item text h = inl h
 
 special_taken : (quote : Quote) (c : ℕ) (text : List ℕ) (item : Item) (n : ℕ) → is_special quote c ≡ true
-    → special_item quote c text ≡ Some (item, n) → IsTaken (IsSpelling quote) item n (c ∷ text)
+    → special_item quote c text ≡ Some (item, n) → IsSpelledFirst (IsSpelling quote) item n (c ∷ text)
 special_taken Single c text item n special e =
     quotes_taken c text item n (equal_by_test c apostrophe true special refl) e
 special_taken Double c text item n special e = sequence_taken c text item n e
 
 special_or_itself : (quote : Quote) (c : ℕ) (text : List ℕ) (item : Item) (n : ℕ) (b : Bool) → is_special quote c ≡ b
     → cond b (special_item quote c text) (Some (raw_item c, 1)) ≡ Some (item, n)
-    → IsTaken (IsSpelling quote) item n (c ∷ text)
+    → IsSpelledFirst (IsSpelling quote) item n (c ∷ text)
 special_or_itself quote c text item n true special e = special_taken quote c text item n special e
 special_or_itself quote c text item n false plain e =
     let (is_item, is_len) = pair_from (raw_item c) item 1 n e in
-    subst (λ (i : Item). IsTaken (IsSpelling quote) i n (c ∷ text)) is_item
-    (subst (λ (m : ℕ). IsTaken (IsSpelling quote) (raw_item c) m (c ∷ text)) is_len
+    subst (λ (i : Item). IsSpelledFirst (IsSpelling quote) i n (c ∷ text)) is_item
+    (subst (λ (m : ℕ). IsSpelledFirst (IsSpelling quote) (raw_item c) m (c ∷ text)) is_len
     (itself quote (raw_item c) (c ∷ []) (c, plain, refl, refl), omega arith, omega arith))
 
 spelling_taken : (quote : Quote) (text : List ℕ) (item : Item) (n : ℕ) → first_item quote text ≡ Some (item, n)
-    → IsTaken (IsSpelling quote) item n text
+    → IsSpelledFirst (IsSpelling quote) item n text
 spelling_taken quote [] item n e = absurd (cc)
 spelling_taken quote (c ∷ text) item n e = special_or_itself quote c text item n (is_special quote c) refl e
 
@@ -161,7 +162,7 @@ read_at_close quote c [] items closing e =
 read_at_close quote c (d ∷ text) items closing e = absurd (cc)
 
 one_taken : (quote : Quote) (c : ℕ) (text : List ℕ) (item : Item) (n : ℕ) (items : List Item)
-    → IsTaken (IsSpelling quote) item n (c ∷ text) → IsTakenToQuote quote items (drop (pred n) text)
+    → IsSpelledFirst (IsSpelling quote) item n (c ∷ text) → IsTakenToQuote quote items (drop (pred n) text)
     → IsTakenToQuote quote (item ∷ items) (c ∷ text)
 one_taken quote c text item zero items first others = absurd (omega (arith, first.1))
 one_taken quote c text item (suc n) items first (inside, spelled, e) =

@@ -18,6 +18,7 @@ use Rattle.saphyr_input.proofs.Basics.Numbers.{equal_by_test}
 
 -- a name is not a break
 not_a_break : (name c : ℕ) → short_escape name ≡ Some c → (name == line_feed) ≡ false
+unfolding short_escape
 not_a_break name c h = at (name == line_feed) refl
   where
     at : (b : Bool) → (name == line_feed) ≡ b → b ≡ false
@@ -30,6 +31,7 @@ abbrev pub IsLongName : ℕ → Type 0
 IsLongName name = (short_escape name ≡ None) × ((name == line_feed) ≡ false)
 
 long_name : (name count : ℕ) → digit_count name ≡ Some count → IsLongName name
+unfolding short_escape
 long_name name count h = x (name == 0x78) refl
   where
     U : (b : Bool) → (name == 0x55) ≡ b → (name == 0x78) ≡ false → (name == 0x75) ≡ false → IsLongName name
@@ -74,29 +76,29 @@ escape_first (Raw c) text back h = absurd h
 escape_first Break text back h = absurd h
 
 -- what is read first where a spelling stands, and that it has a first character
-abbrev pub IsRead : Quote → Item → List ℕ → List ℕ → Type 0
-IsRead quote item back front =
+abbrev pub IsReadFirst : Quote → Item → List ℕ → List ℕ → Type 0
+IsReadFirst quote item back front =
     (first_item quote (front ++ back) ≡ Some (item, length front))
     × ((c : ℕ) × (others : List ℕ) × (front ≡ c ∷ others))
 
 itself_read : (quote : Quote) (item : Item) (front back : List ℕ) → IsItself quote item front
-    → IsRead quote item back front
+    → IsReadFirst quote item back front
 itself_read quote item front back (c, plain, is, e) =
-    subst (IsRead quote item back) (sym e) (
+    subst (IsReadFirst quote item back) (sym e) (
       cond-false (is_special quote c) (special_item quote c back) (Some (raw_item c, 1)) plain
           ∙ ap (λ (i : Item). Some (i, 1)) (sym is),
       (c, [], refl),
     )
 
 spelling_read : (quote : Quote) (item : Item) (front back : List ℕ) → IsSpelling quote item front
-    → IsRead quote item back front
+    → IsReadFirst quote item back front
 spelling_read Single item front back (inl h) = itself_read Single item front back h
 spelling_read Double item front back (inl h) = itself_read Double item front back h
 spelling_read Single item front back (inr (is, e)) =
-    subst (IsRead Single item back) (sym e)
+    subst (IsReadFirst Single item back) (sym e)
     (ap (λ (i : Item). Some (i, 2)) (sym is), (apostrophe, apostrophe ∷ [], refl))
 spelling_read Double item front back (inr (text, h, e)) =
-    subst (IsRead Double item back) (sym e) (
+    subst (IsReadFirst Double item back) (sym e) (
       ap (option_map (λ x. (x.0, x.1 + 1))) (escape_first item text back h)
           ∙ ap (λ (n : ℕ). Some (item, n)) (add-one (length text)),
       (backslash, text, refl),

@@ -34,8 +34,7 @@ abbrev pub is_more_indented : List ℕ → Bool
 is_more_indented text = is_blank (slice_index text 0)
 
 -- The break between two content lines that have only empty lines between them. In literal style (8.1.2) each break
--- stays,
--- and in folded style (8.1.3) they are folded unless one of the lines is more indented.
+-- stays, and in folded style (8.1.3) they are folded unless one of the lines is more indented.
 abbrev pub break_between : BlockStyle → List ℕ → ℕ → List ℕ → List ℕ
 break_between Literal above empty_lines below = line_feeds (empty_lines + 1)
 break_between Folded above empty_lines below =
@@ -84,8 +83,7 @@ is_at_end AtMark = false
 
 -- Whether the last line, which no break ends, counts. One of spaces, at most as many as the indentation, counts at the
 -- end alone, and only where it has a space: behind content where it reaches the indentation, and without content where
--- it
--- stands alone behind the header's line.
+-- it stands alone behind the header's line.
 abbrev pub is_counted : ℕ → List Line → List ℕ → Ending → Bool
 is_counted indentation lines last ending =
     if is_empty_line indentation last then

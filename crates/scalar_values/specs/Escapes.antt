@@ -1,11 +1,11 @@
 -- The escapes of double quoted scalars (YAML 1.2.2, 5.7).
-use Rattle.std.specs.Prelude.{ℕ, ◌+◌, ◌*◌, Bool, ◌||◌, ◌==◌, nat_lt, nat_le, if◌then◌else◌, Option, Some, None, option_map, option_and_then, List, [], ◌∷◌, length, take}
+use Rattle.std.specs.Prelude.{ℕ, ◌+◌, ◌*◌, ◌<◌, ◌≤◌, ◌⊎◌, Bool, ◌||◌, ◌==◌, nat_lt, nat_le, if◌then◌else◌, Option, Some, None, option_map, option_and_then, List, [], ◌∷◌, length, take}
 use Rattle.saphyr_input.specs.Classes.{line_feed, is_from, is_hex, hex_value}
 use Rattle.scalar_values.specs.declared.folding.Item.{Item}
 use Rattle.scalar_values.specs.declared.folding.Item.TheVariants.{Escaped, EscapedBreak}
 
 -- what a character behind a backslash stands for, where it is a whole escape
-abbrev pub short_escape : ℕ → Option ℕ
+unfoldable pub short_escape : ℕ → Option ℕ
 short_escape name =
     if name == 0x30 then Some 0x00  -- 0
     else if name == 0x61 then Some 0x07  -- a
@@ -35,8 +35,12 @@ digit_count name =
     else if name == 0x55 then Some 8  -- U
     else None
 
+-- Unicode scalar values, as a test and as the fact that it decides
 abbrev pub is_scalar_value : ℕ → Bool
 is_scalar_value n = nat_lt n 0xD800 || is_from 0xE000 0x10FFFF n
+
+abbrev pub IsScalarValue : ℕ → Type 0
+IsScalarValue n = (n < 0xD800) ⊎ ((0xDFFF < n) × (n ≤ 0x10FFFF))
 
 -- the character whose number hexadecimal digits spell, behind those that spell `number`
 abbrev pub hex_character : ℕ → List ℕ → Option ℕ

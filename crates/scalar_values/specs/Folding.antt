@@ -61,8 +61,7 @@ AreBreaks (suc n) items =
     (blanks others : List Item) × AreBlankItems blanks × AreBreaks n others × (items ≡ blanks ++ (Break ∷ others))
 
 -- Line folding, told without a state: before a character, breaks of which n end empty lines read as one raw break
--- before
--- n empty lines does, and an escaped break and n empty lines read as n line feeds. No blank of them stays.
+-- before n empty lines does, and an escaped break and n empty lines read as n line feeds. No blank of them stays.
 abbrev pub FoldsBreaks : ℕ → List Item → ℕ → List Item → Type 0
 FoldsBreaks n breaks c others =
     (AreBreaks (suc n) breaks → folded (breaks ++ (Raw c ∷ others)) ≡ raw_break n ++ (c ∷ folded others))

@@ -8,8 +8,9 @@ use saphyr_input::char_traits::{as_hex, is_hex};
 
 const LARGEST_CHARACTER: u32 = 0x10FFFF;
 
-// What a character behind a backslash stands for, where it is a whole escape.
-fn short_escape(name: char) -> Option<char>
+/// What a character behind a backslash stands for, where it is a whole escape.
+#[tactic(auto, unfolding(crate::specs::Escapes::short_escape))]
+pub fn short_escape(name: char) -> Option<char>
     ensures { result ≡ spec.short_escape name }
 {
     match name {
@@ -31,8 +32,8 @@ fn short_escape(name: char) -> Option<char>
     }
 }
 
-// How many hexadecimal digits follow the name of an escape by number.
-fn digit_count(name: char) -> Option<usize>
+/// How many hexadecimal digits follow the name of an escape by number.
+pub fn digit_count(name: char) -> Option<usize>
     ensures count { result ≡ spec.digit_count name }
     ensures few { IfSome result (λ count. count ≤ 8) }
 {

@@ -12,6 +12,7 @@ mod folding;
 
 pub use block::{BlockStyle, Chomping, Ending, block_value, literal_lines_are_kept};
 pub use characters::normalized;
+pub use escapes::{digit_count, short_escape};
 pub use flow::{
     Quote, double_quoted_value, plain_value, quoted_items_are_spelled, single_quoted_value,
 };

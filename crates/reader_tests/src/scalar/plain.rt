@@ -161,14 +161,3 @@ fn refusals(rt: HostRuntime) -> Result<(), Fail> {
     }
     Ok(())
 }
-
-#[test]
-fn flow_stands_right_of_the_block_around_it(rt: HostRuntime) {
-    let reader = Reader::new(StrInput::new("b]"));
-    let refusal = Refusal {
-        text: FaultText::FlowIndentation,
-        mark: Marker::new(0, 1, 0),
-    };
-    assert_eq!(rt; reader.check_flow_indentation(0), Ok(()));
-    assert_eq!(rt; reader.check_flow_indentation(1), Err(refusal));
-}

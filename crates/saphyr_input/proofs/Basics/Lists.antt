@@ -18,9 +18,9 @@ some_left [] h = absurd (h refl)
 some_left (c ∷ cs) h = omega arith
 
 -- a place that shows what NUL is not is a character
-pub shown : (xs : List ℕ) (p : ℕ → Bool) (b : Bool) → p (slice_index xs 0) ≡ b → (p 0 ≡ b → ⊥) → 1 ≤ length xs
-shown [] p b e h = absurd (h e)
-shown (c ∷ cs) p b e h = omega arith
+pub shows_character : (xs : List ℕ) (p : ℕ → Bool) (b : Bool) → p (slice_index xs 0) ≡ b → (p 0 ≡ b → ⊥) → 1 ≤ length xs
+shows_character [] p b e h = absurd (h e)
+shows_character (c ∷ cs) p b e h = omega arith
 
 pub first_and_rest : (xs : List ℕ) → 0 < length xs → xs ≡ slice_index xs 0 ∷ drop 1 xs
 first_and_rest [] h = absurd (omega (arith, h))

@@ -42,8 +42,8 @@ ordered text = record {
 
 resumes : (text : List ℕ) → Resumes (ordered text)
 resumes text s c d r ts n h =
-    let start : Marker = (scalar.fresh text).mark in
-    (start, ((scalar.fresh text, taken.nothing start text, inl refl, omega arith), h.0, h.1))
+    let start : Marker = (scalar.start_cursor text).mark in
+    (start, ((scalar.start_cursor text, taken.nothing start text, inl refl, omega arith), h.0, h.1))
 
 -- the tokens of a parser at its start give events with spans in the text
 pub keeps_spans : (text : List ℕ) (tokens : Remaining) → AreInOrder (length text) 0 tokens.pieces

@@ -41,7 +41,7 @@ named_test b =
     rw long (eq-eqb (slice_index h (length h - 1)) 33 last)
 
 named_handle : (word : List ℕ) → is_named_handle (handle_bytes (Named word)) ≡ true
-named_handle word = ap is_named_handle (sym (scalar.handle_bytes word)) ∙ named_test (encode_utf8_all word)
+named_handle word = ap is_named_handle (sym (scalar.bytes_of_handle word)) ∙ named_test (encode_utf8_all word)
 
 -- ## What a handle stands for
 

@@ -6,7 +6,7 @@ use Rattle.saphyr_input.specs.Places.{is_blank_or_break}
 use Rattle.saphyr_scalar.specs.declared.scalar.position.Span.{Span}
 use Rattle.saphyr_scalar.specs.declared.scalar.style.ScalarStyle.{ScalarStyle}
 use Rattle.saphyr_scalar.specs.declared.scalar.style.ScalarStyle.TheVariants as style
-use Rattle.saphyr_scalar.specs.Views.Cursor.{Cursor, fresh}
+use Rattle.saphyr_scalar.specs.Views.Cursor.{Cursor, start_cursor}
 use Rattle.saphyr_scanner.specs.Grammar.Tokens as tokens
 use Rattle.saphyr_scanner.specs.Grammar.Tokens.{Kind}
 use Rattle.saphyr_scanner.specs.Views.Tokens.{Piece}
@@ -26,7 +26,7 @@ pub record OwnScalar (text value : List ℕ) (how : ScalarStyle) (span : Span) :
   pub indent : ℕ
   pub here : Cursor
   pub behind : Cursor
-  pub reached : Reaches (fresh text) here
+  pub reached : Reaches (start_cursor text) here
   pub is : IsScalarToken how indent value own here behind
   pub end : own.end ≡ span.end
 

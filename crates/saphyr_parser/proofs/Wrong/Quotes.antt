@@ -6,7 +6,7 @@ use Rattle.scalar_values.specs.declared.folding.Item.{Item}
 use Rattle.scalar_values.specs.declared.flow.Quote.{Quote}
 use Rattle.scalar_values.specs.declared.flow.Quote.TheVariants.{Single, Double}
 use Rattle.saphyr_scalar.specs.declared.scalar.style.ScalarStyle.TheVariants.{DoubleQuoted}
-use Rattle.saphyr_scalar.specs.Views.Cursor.{fresh}
+use Rattle.saphyr_scalar.specs.Views.Cursor.{start_cursor}
 use Rattle.scalar_values.specs.Flow.{mark}
 use Rattle.saphyr_scalar.specs.Steps.Quoted.{break_len}
 use Rattle.saphyr_scalar.specs.Spelling.QuotedMarkers.{HasNoMarker}
@@ -90,7 +90,7 @@ marker_in_quotes_is_not_taken keep t = by (owned keep (codes "\"a\n--- b\"") wro
         → ⊥
     by (inl e) = cc
     by (inr o) =
-        let r = reached_behind (fresh (codes "\"a\n--- b\"")).mark (codes "\"a\n--- b\"") o.here.mark o.here.rest
+        let r = reached_behind (start_cursor (codes "\"a\n--- b\"")).mark (codes "\"a\n--- b\"") o.here.mark o.here.rest
         o.reached in
         let q = o.is.1 in
         at_quote (either_quote r.0 q.0 (r.1 ∙ ap (λ l. r.0 ++ l) q.1))

@@ -7,7 +7,7 @@ use Rattle.saphyr_scalar.specs.declared.scalar.style.ScalarStyle.TheVariants.{Pl
 use Rattle.scalar_values.specs.declared.block.BlockStyle.TheVariants as block_style
 use Rattle.saphyr_scalar.specs.Reading.BlockText.{AreInside}
 use Rattle.saphyr_input.specs.Classes.{is_break}
-use Rattle.saphyr_scalar.specs.Views.Cursor.{fresh}
+use Rattle.saphyr_scalar.specs.Views.Cursor.{start_cursor}
 use Rattle.saphyr_scanner.specs.Examples.TakenTexts.{marker_at}
 use Rattle.saphyr_scanner.specs.TokensTaken as taken
 use Rattle.saphyr_scanner.specs.TokensTaken.{IsReached, IsPlaceOf}
@@ -46,8 +46,8 @@ literal_lines : (before body value : List ℕ) (span : Span) → OwnScalar (befo
     → AreInside true body []
 literal_lines before body value span o b a e =
     let text = before ++ (124 ∷ 10 ∷ body) in
-    let r = reached_behind (fresh text).mark text o.here.mark o.here.rest o.reached in
-    let count = reached_counted (fresh text).mark text o.here.mark o.here.rest o.reached in
+    let r = reached_behind (start_cursor text).mark text o.here.mark o.here.rest o.reached in
+    let count = reached_counted (start_cursor text).mark text o.here.mark o.here.rest o.reached in
     let rest = one_place 124 before (10 ∷ body) r.0 o.here.rest r.1 o.is.begins (λ z. omega arith) b a in
     all_inside block_style.Literal o.indent value o.own o.here o.behind 124 body o.is rest
     (let k = ap (λ (m : Marker). m.index) o.end in omega (arith, count, e, k))
@@ -106,7 +106,7 @@ first_place _ t n u (taken.line_break m _ _ _ f p) e =
 
 no_place : IsPlaceOf [] (marker_at 0 9 9) → ⊥
 no_place (s, reached, inl e, l) =
-    let k = first_place (fresh []).mark [] s.mark s.rest reached refl in
+    let k = first_place (start_cursor []).mark [] s.mark s.rest reached refl in
     let z : 9 ≡ 1 = ap (λ (m : Marker). m.line) (e ∙ k) in
     omega (arith, z)
 no_place (s, reached, inr e, l) = let z : 9 ≡ 0 = ap (λ (m : Marker). m.col) e.1 in omega (arith, z)

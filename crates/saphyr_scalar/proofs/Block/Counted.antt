@@ -15,60 +15,61 @@ use Rattle.saphyr_scalar.specs.declared.scalar.position.Span.{Span}
 use Rattle.saphyr_scalar.specs.declared.scalar.block.header.BlockHeader.{BlockHeader}
 use Rattle.saphyr_scalar.specs.declared.scalar.block.lines.EmptyLines.{EmptyLines}
 use Rattle.saphyr_scalar.specs.Views.Cursor.{Cursor, along, next_line, pass, pass_blanks, pass_break, behind_separation, separation}
-use Rattle.saphyr_scalar.specs.Steps.Block.{chomping, indicator, header_break, header_end, last_chomping, header_behind, header, is_indentation, is_cr_lf, inside_break, one_more, pass_empty_lines, line_starts, LinesRead, between, line, chomped_lines, content, behind_leading_lines, given_indentation, no_lines, behind_header, block_scalar}
+use Rattle.saphyr_scalar.specs.Steps.Block.{chomping, indicator, header_break, header_end, last_chomping, header_behind, header, is_indentation, is_cr_lf, inside_break, with_empty_line, pass_empty_lines, line_starts, LinesRead, between, line, chomped_lines, content, behind_leading_lines, given_indentation, no_lines, behind_header, block_scalar}
 use Rattle.saphyr_scalar.proofs.Lengths.{two_shown, separation_within}
 use Rattle.saphyr_input.proofs.Basics.Booleans.{by_test}
-use Rattle.saphyr_input.proofs.Basics.Lists.{shown}
+use Rattle.saphyr_input.proofs.Basics.Lists.{shows_character}
 use Rattle.saphyr_scalar.proofs.Given.{Given, given_bind, given_of}
 
 -- the index is no less than `low`, and with the length of what is left it is n
-abbrev Stands : ℕ → ℕ → Cursor → Type 0
-Stands low n t = (low ≤ t.mark.index) × (t.mark.index + length t.rest ≡ n)
+abbrev CountsFrom : ℕ → ℕ → Cursor → Type 0
+CountsFrom low n t = (low ≤ t.mark.index) × (t.mark.index + length t.rest ≡ n)
 
 abbrev Behind : (A : Type 0) → ℕ → ℕ → A × Cursor → Type 0
-Behind A low n x = Stands low n x.1
+Behind A low n x = CountsFrom low n x.1
 
 counts_moved : (low n k i : ℕ) (xs : List ℕ) → low ≤ i → i + length xs ≡ n → k ≤ length xs
     → (low ≤ i + k) × (i + k + length (drop k xs) ≡ n)
 counts_moved low n k i xs a b c = let l = length-drop k xs in (omega arith, omega (arith, l))
 
-one_moved : (low n : ℕ) (s : Cursor) → Stands low n s → 1 ≤ length s.rest → Stands low n (pass 1 s)
+one_moved : (low n : ℕ) (s : Cursor) → CountsFrom low n s → 1 ≤ length s.rest → CountsFrom low n (pass 1 s)
 one_moved low n s h k = counts_moved low n 1 s.mark.index s.rest h.0 h.1 k
 
 -- ## The header
 
-chomping_stands : (low n : ℕ) (s : Cursor) → Stands low n s → Stands low n (chomping s).1
+chomping_stands : (low n : ℕ) (s : Cursor) → CountsFrom low n s → CountsFrom low n (chomping s).1
 unfolding chomping
 chomping_stands low n s h =
     by_test (slice_index s.rest 0 == 43) _ _ (Behind (Option Chomping) low n)
-    (λ e. one_moved low n s h (shown s.rest (λ c. c == 43) true e (λ k. absurd (cc))))
+    (λ e. one_moved low n s h (shows_character s.rest (λ c. c == 43) true e (λ k. absurd (cc))))
     (λ _. by_test (slice_index s.rest 0 == 45) _ _ (Behind (Option Chomping) low n)
-    (λ e. one_moved low n s h (shown s.rest (λ c. c == 45) true e (λ k. absurd (cc)))) (λ _. h))
+    (λ e. one_moved low n s h (shows_character s.rest (λ c. c == 45) true e (λ k. absurd (cc)))) (λ _. h))
 
-indicator_stands : (low n : ℕ) (start : Marker) (s : Cursor) → Stands low n s
+indicator_stands : (low n : ℕ) (start : Marker) (s : Cursor) → CountsFrom low n s
     → Given (Behind ℕ low n) (indicator start s)
 unfolding indicator
 indicator_stands low n start s h =
     by_test (not (is_digit (slice_index s.rest 0))) _ _ (Given (Behind ℕ low n)) (λ _. h)
     (λ e. by_test (slice_index s.rest 0 == 48) _ _ (Given (Behind ℕ low n)) (λ _. tt)
-    (λ _. one_moved low n s h (shown s.rest (λ c. not (is_digit c)) false e (λ k. absurd (cc)))))
+    (λ _. one_moved low n s h (shows_character s.rest (λ c. not (is_digit c)) false e (λ k. absurd (cc)))))
 
-break_stands : (low n : ℕ) (s : Cursor) → Stands low n s → Stands low n (pass_break s)
+break_stands : (low n : ℕ) (s : Cursor) → CountsFrom low n s → CountsFrom low n (pass_break s)
 break_stands low n s h =
-    by_test (next_2_are s.rest 13 10) _ _ (Stands low n)
+    by_test (next_2_are s.rest 13 10) _ _ (CountsFrom low n)
     (λ e. counts_moved low n 2 s.mark.index s.rest h.0 h.1 (two_shown s.rest e))
-    (λ _. by_test (is_break (slice_index s.rest 0)) _ _ (Stands low n)
-    (λ e. counts_moved low n 1 s.mark.index s.rest h.0 h.1 (shown s.rest is_break true e (λ k. absurd (cc)))) (λ _. h))
+    (λ _. by_test (is_break (slice_index s.rest 0)) _ _ (CountsFrom low n)
+    (λ e. counts_moved low n 1 s.mark.index s.rest h.0 h.1 (shows_character s.rest is_break true e (λ k. absurd (cc))))
+    (λ _. h))
 
-header_break_stands : (low n : ℕ) (start : Marker) (s : Cursor) → Stands low n s
-    → Given (Stands low n) (header_break start s)
+header_break_stands : (low n : ℕ) (start : Marker) (s : Cursor) → CountsFrom low n s
+    → Given (CountsFrom low n) (header_break start s)
 unfolding header_break
 header_break_stands low n start s h =
-    by_test (not (is_breakz (slice_index s.rest 0))) _ _ (Given (Stands low n)) (λ _. tt)
-    (λ _. by_test (slice_index (pass_break s).rest 0 == tab) _ _ (Given (Stands low n)) (λ _. tt)
+    by_test (not (is_breakz (slice_index s.rest 0))) _ _ (Given (CountsFrom low n)) (λ _. tt)
+    (λ _. by_test (slice_index (pass_break s).rest 0 == tab) _ _ (Given (CountsFrom low n)) (λ _. tt)
     (λ _. break_stands low n s h))
 
-separation_stands : (low n : ℕ) (tabs : SkipTabs) (s : Cursor) → Stands low n s
+separation_stands : (low n : ℕ) (tabs : SkipTabs) (s : Cursor) → CountsFrom low n s
     → Given (Behind SkipTabs low n) (separation tabs s)
 unfolding separation behind_separation
 separation_stands low n tabs s h =
@@ -77,28 +78,28 @@ separation_stands low n tabs s h =
     (λ _. by_test (is_bare_comment tabs s.rest) _ _ (Given (Behind SkipTabs low n)) (λ _. tt)
     (λ _. counts_moved low n (separation_len tabs s.rest) s.mark.index s.rest h.0 h.1 (separation_within tabs s.rest)))
 
-header_end_stands : (low n : ℕ) (start : Marker) (s : Cursor) → Stands low n s
-    → Given (Stands low n) (header_end start s)
+header_end_stands : (low n : ℕ) (start : Marker) (s : Cursor) → CountsFrom low n s
+    → Given (CountsFrom low n) (header_end start s)
 unfolding header_end
 header_end_stands low n start s h =
-    given_bind (Stands low n) (separation Yes s) _ (λ x e.
+    given_bind (CountsFrom low n) (separation Yes s) _ (λ x e.
     header_break_stands low n start x.1
     (given_of (Behind SkipTabs low n) (separation Yes s) x (separation_stands low n Yes s h) e))
 
-last_stands : (low n : ℕ) (first : Option Chomping) (s : Cursor) → Stands low n s
-    → Stands low n (last_chomping first s).1
+last_stands : (low n : ℕ) (first : Option Chomping) (s : Cursor) → CountsFrom low n s
+    → CountsFrom low n (last_chomping first s).1
 unfolding last_chomping
 last_stands low n (Some first) s h = h
 last_stands low n None s h = chomping_stands low n s h
 
-header_behind_stands : (low n : ℕ) (start : Marker) (i : ℕ) (x : Chomping × Cursor) → Stands low n x.1
+header_behind_stands : (low n : ℕ) (start : Marker) (i : ℕ) (x : Chomping × Cursor) → CountsFrom low n x.1
     → Given (Behind BlockHeader low n) (header_behind start i x)
 unfolding header_behind
 header_behind_stands low n start i x h =
     given_bind (Behind BlockHeader low n) (header_end start x.1) _
-    (λ s e. given_of (Stands low n) (header_end start x.1) s (header_end_stands low n start x.1 h) e)
+    (λ s e. given_of (CountsFrom low n) (header_end start x.1) s (header_end_stands low n start x.1 h) e)
 
-header_stands : (low n : ℕ) (s : Cursor) → Stands low n (pass 1 s) → Given (Behind BlockHeader low n) (header s)
+header_stands : (low n : ℕ) (s : Cursor) → CountsFrom low n (pass 1 s) → Given (Behind BlockHeader low n) (header s)
 unfolding header
 header_stands low n s h =
     let first = chomping (pass 1 s) in
@@ -120,10 +121,10 @@ empty_stands low n limit before b m (c ∷ cs) a h =
     by_test (is_indentation limit m.col c) _ _ P (λ _. empty_stands low n limit before b (along m 1) cs later count)
     (λ _. by_test (is_cr_lf c cs) _ _ P (λ _. empty_stands low n limit before b (inside_break m) cs later count)
     (λ _. by_test (is_break c) _ _ P
-    (λ _. empty_stands low n limit (one_more before m.col) true (next_line m 1) cs later count) (λ _. (a, h))))
+    (λ _. empty_stands low n limit (with_empty_line before m.col) true (next_line m 1) cs later count) (λ _. (a, h))))
 
 abbrev LinesStand : ℕ → ℕ → LinesRead → Type 0
-LinesStand low n x = Stands low n x.2
+LinesStand low n x = CountsFrom low n x.2
 
 mutual
   unfolding between line
@@ -162,7 +163,7 @@ abbrev SpanStands : ℕ → ℕ → List ℕ × Span × Cursor → Type 0
 SpanStands low n x = (low ≤ x.1.start.index) × (x.1.start.index ≤ x.1.end.index) × (x.1.end ≡ x.2.mark)
     × (x.2.mark.index + length x.2.rest ≡ n)
 
-content_stands : (low n : ℕ) (style : BlockStyle) (c : Chomping) (indent i lines : ℕ) (s : Cursor) → Stands low n s
+content_stands : (low n : ℕ) (style : BlockStyle) (c : Chomping) (indent i lines : ℕ) (s : Cursor) → CountsFrom low n s
     → Given (SpanStands low n) (content style c indent i lines s)
 unfolding content chomped_lines
 content_stands low n style c indent i lines s h =
@@ -171,7 +172,7 @@ content_stands low n style c indent i lines s h =
     (λ _. (h.0, read.0, refl, read.1))
 
 leading_stands : (n : ℕ) (style : BlockStyle) (indent : ℕ) (start : Marker) (c : Chomping) (limit : Option ℕ)
-    (x : EmptyLines × Cursor) → Stands start.index n x.1
+    (x : EmptyLines × Cursor) → CountsFrom start.index n x.1
     → Given (SpanStands start.index n) (behind_leading_lines style indent start c limit x)
 unfolding behind_leading_lines
 leading_stands n style indent start c limit x h =
@@ -179,7 +180,7 @@ leading_stands n style indent start c limit x h =
     (λ _. content_stands start.index n style c indent (unwrap_or limit (max x.0.widest indent)) x.0.count x.1 h)
 
 header_scalar_stands : (n : ℕ) (style : BlockStyle) (indent : ℕ) (start : Marker) (x : BlockHeader × Cursor)
-    → Stands start.index n x.1 → Given (SpanStands start.index n) (behind_header style indent start x)
+    → CountsFrom start.index n x.1 → Given (SpanStands start.index n) (behind_header style indent start x)
 unfolding behind_header
 header_scalar_stands n style indent start x h =
     let limit = given_indentation indent x.0.indicator in
@@ -187,7 +188,7 @@ header_scalar_stands n style indent start x h =
     (pass_empty_lines limit no_lines x.1.blank_so_far x.1.mark x.1.rest)
     (empty_stands start.index n limit no_lines x.1.blank_so_far x.1.mark x.1.rest h.0 h.1)
 
-scalar_stands : (n : ℕ) (style : BlockStyle) (indent : ℕ) (s : Cursor) → Stands s.mark.index n (pass 1 s)
+scalar_stands : (n : ℕ) (style : BlockStyle) (indent : ℕ) (s : Cursor) → CountsFrom s.mark.index n (pass 1 s)
     → Given (SpanStands s.mark.index n) (block_scalar style indent s)
 unfolding block_scalar
 scalar_stands n style indent s h =
@@ -201,6 +202,6 @@ pub block_scalar_counts : (style : BlockStyle) (indent : ℕ) (s t : Cursor) (te
     × (t.mark.index + length t.rest ≡ s.mark.index + length s.rest)
 block_scalar_counts style indent s t text span some e =
     let n = s.mark.index + length s.rest in
-    let first : Stands s.mark.index n (pass 1 s) = one_moved s.mark.index n s (omega arith, refl) (omega arith) in
+    let first : CountsFrom s.mark.index n (pass 1 s) = one_moved s.mark.index n s (omega arith, refl) (omega arith) in
     given_of (SpanStands s.mark.index n) (block_scalar style indent s) (text, span, t)
     (scalar_stands n style indent s first) e

@@ -11,10 +11,11 @@ use Rattle.saphyr_input.specs.declared.input.SkipTabs.{SkipTabs}
 use Rattle.saphyr_input.specs.declared.input.SkipTabs.TheVariants.{Yes}
 use Rattle.scalar_values.specs.declared.block.Chomping.{Chomping}
 use Rattle.scalar_values.specs.declared.block.Chomping.TheVariants.{Strip, Clip, Keep}
+use Rattle.saphyr_scalar.specs.Spelling.Tag.{AreIn}
 use Rattle.saphyr_scalar.specs.declared.scalar.position.Marker.{Marker}
 use Rattle.saphyr_scalar.specs.declared.scalar.fault.Refusal.{Refusal}
 use Rattle.saphyr_scalar.specs.Views.Cursor.{Cursor, ◌>>=◌, pass, pass_blanks, pass_line, pass_break, separation, behind_separation}
-use Rattle.saphyr_scalar.specs.Spelling.Block.{AreBlanks, AreContent, IsIndicator, no_digit, digit, IsChomping, strip, clip, keep, IsHeaderEnd, no_comment, comment, IsHeader, digit_first, chomping_first}
+use Rattle.saphyr_scalar.specs.Spelling.Block.{IsIndicator, no_digit, digit, IsChomping, strip, clip, keep, IsHeaderEnd, no_comment, comment, IsHeader, digit_first, chomping_first}
 use Rattle.saphyr_scalar.specs.Steps.Block.{chomping, indicator, header_break, header_end, last_chomping, header_behind, header}
 use Rattle.saphyr_input.proofs.Basics.Booleans.{and_false, clash, by_test, either}
 use Rattle.saphyr_input.proofs.Basics.Numbers.{one_and}
@@ -61,10 +62,10 @@ pub record Ended (start : Marker) (s : Cursor) (x : List ℕ) : Type 0 where
   pub col : end.mark.col ≡ 0
   pub blank : end.blank_so_far ≡ true
 
-end_at : (start : Marker) (s : Cursor) (x : List ℕ) → drop (separation_len Yes s.rest) s.rest ≡ 10 ∷ x
+header_end_at : (start : Marker) (s : Cursor) (x : List ℕ) → drop (separation_len Yes s.rest) s.rest ≡ 10 ∷ x
     → is_bare_comment Yes s.rest ≡ false → slice_index x 0 ≢ 9 → Ended start s x
 unfolding header_end separation
-end_at start s x e bare tab =
+header_end_at start s x e bare tab =
     let v = pass_blanks (separation_len Yes s.rest) s in
     record {
       end = pass_line 1 v;
@@ -75,13 +76,14 @@ end_at start s x e bare tab =
       blank = refl;
     }
 
-blanks_len : (blanks t : List ℕ) → AreBlanks blanks → is_blank (slice_index t 0) ≡ false
+blanks_len : (blanks t : List ℕ) → AreIn is_blank blanks → is_blank (slice_index t 0) ≡ false
     → prefix_len is_blank (blanks ++ t) ≡ length blanks
 blanks_len [] [] h k = refl
 blanks_len [] (c ∷ cs) h k = rw k refl
 blanks_len (b ∷ bs) t h k = let more = blanks_len bs t h.1 k in rw (h.0, more) (omega arith)
 
-text_len : (text x : List ℕ) → AreContent text → prefix_len is_yaml_non_break (text ++ (10 ∷ x)) ≡ length text
+text_len : (text x : List ℕ) → AreIn is_yaml_non_break text
+    → prefix_len is_yaml_non_break (text ++ (10 ∷ x)) ≡ length text
 text_len [] x h = refl
 text_len (c ∷ cs) x h = let more = text_len cs x h.1 in rw (h.0, more) (omega arith)
 
@@ -95,7 +97,7 @@ no_bare d n len some = rw (len, some) refl
 pub end_read : (start : Marker) (s : Cursor) (d x : List ℕ) → s.rest ≡ d → IsHeaderEnd d x → slice_index x 0 ≢ 9
     → Ended start s x
 end_read start s _ x e (no_comment [] y h) tab =
-    end_at start s y (ap (λ (xs : List ℕ). drop (separation_len Yes xs) xs) e) (ap (is_bare_comment Yes) e) tab
+    header_end_at start s y (ap (λ (xs : List ℕ). drop (separation_len Yes xs) xs) e) (ap (is_bare_comment Yes) e) tab
 end_read start s _ x e (no_comment (b ∷ bs) y h) tab =
     let d = (b ∷ bs) ++ (10 ∷ y) in
     let n = length (b ∷ bs) in
@@ -103,7 +105,7 @@ end_read start s _ x e (no_comment (b ∷ bs) y h) tab =
     let some : nat_eq n 0 ≡ false = grind (arith, nat_tests) in
     let behind : drop n d ≡ 10 ∷ y = drop-append_seam (b ∷ bs) (10 ∷ y) in
     let sep : separation_len Yes d ≡ n = told_sep d n len some ∙ ap (λ xs. n + comment_len xs) behind ∙ add-zero n in
-    end_at start s y (ap (λ (xs : List ℕ). drop (separation_len Yes xs) xs) e ∙ ap (λ k. drop k d) sep ∙ behind)
+    header_end_at start s y (ap (λ (xs : List ℕ). drop (separation_len Yes xs) xs) e ∙ ap (λ k. drop k d) sep ∙ behind)
     (ap (is_bare_comment Yes) e ∙ no_bare d n len some) tab
 end_read start s _ x e (comment b bs text y h k) tab =
     let t = 35 ∷ (text ++ (10 ∷ y)) in
@@ -115,7 +117,7 @@ end_read start s _ x e (comment b bs text y h k) tab =
     let own : comment_len t ≡ suc (length text) = ap (λ i. 1 + i) (text_len text y k) ∙ one_and (length text) in
     let sep : separation_len Yes d ≡ n + suc (length text) = told_sep d n len some
     ∙ ap (λ xs. n + comment_len xs) behind ∙ ap (λ i. n + i) own in
-    end_at start s y (ap (λ (xs : List ℕ). drop (separation_len Yes xs) xs) e ∙ ap (λ i. drop i d) sep
+    header_end_at start s y (ap (λ (xs : List ℕ). drop (separation_len Yes xs) xs) e ∙ ap (λ i. drop i d) sep
     ∙ drop-append-add (b ∷ bs) t (suc (length text)) ∙ drop-append_seam text (10 ∷ y))
     (ap (is_bare_comment Yes) e ∙ no_bare d n len some) tab
 

@@ -17,12 +17,12 @@ use Rattle.saphyr_scalar.specs.Views.Cursor.{Cursor, along, next_line}
 use Rattle.scalar_values.specs.Block.{lines_of, line_of, block_value}
 use Rattle.scalar_values.specs.Lines.{last_line}
 use Rattle.saphyr_scalar.specs.Steps.BlockRead.{ending, indentation_of, IsRead, HasLines, EndsLines}
-use Rattle.saphyr_scalar.specs.Steps.Block.{is_indentation, is_cr_lf, inside_break, one_more, widened, pass_empty_lines, pass_empty_lines_at, between_at, tail, tail_alone, is_unfinished, chomped_lines, content, behind_leading_lines, behind_header, block_scalar, header, no_lines, given_indentation}
+use Rattle.saphyr_scalar.specs.Steps.Block.{is_indentation, is_cr_lf, inside_break, with_empty_line, with_column, pass_empty_lines, pass_empty_lines_at, between_at, tail, tail_alone, is_unfinished, chomped_lines, content, behind_leading_lines, behind_header, block_scalar, header, no_lines, given_indentation}
 use Rattle.saphyr_scalar.proofs.Block.Lines.{stops}
 use Rattle.saphyr_scalar.proofs.Block.Turns.{stopped, no_start}
 use Rattle.saphyr_scalar.proofs.Block.Texts.{spaces, plain_spaces, only_line, empty_spaces, lines_spaces}
-use Rattle.saphyr_scalar.proofs.Block.Wholes.{empties, whole, whole_alone, value_of, first_read}
-use Rattle.saphyr_scalar.proofs.Block.Reads.{Leading, leading, within_limit, Place, header_place, then_gave, gave, refused, same_gift}
+use Rattle.saphyr_scalar.proofs.Block.Wholes.{empties, whole, whole_alone, block_value_of, first_read}
+use Rattle.saphyr_scalar.proofs.Block.Reads.{Leading, leading, within_limit, IsBehindHeaderLine, header_place, then_gave, gave, refused_gave, same_gift}
 use Rattle.saphyr_input.proofs.Basics.Booleans.{by_test}
 use Rattle.saphyr_input.proofs.Basics.Characters.{z_is_nul}
 use Rattle.saphyr_scalar.proofs.Block.Indentations.{nul_no_indentation}
@@ -38,7 +38,8 @@ begun_by_empty_lines limit before m [] = refl
 begun_by_empty_lines limit before m (x ∷ cs) =
     by_test (is_indentation limit m.col x) _ _ Begun (λ _. begun_by_empty_lines limit before (along m 1) cs)
     (λ _. by_test (is_cr_lf x cs) _ _ Begun (λ _. begun_by_empty_lines limit before (inside_break m) cs)
-    (λ _. by_test (is_break x) _ _ Begun (λ _. begun_by_empty_lines limit (one_more before m.col) (next_line m 1) cs)
+    (λ _. by_test (is_break x) _ _ Begun
+    (λ _. begun_by_empty_lines limit (with_empty_line before m.col) (next_line m 1) cs)
     (λ _. refl)))
 
 z_is_none : (x : ℕ) → is_z x ≡ true → is_yaml_non_break x ≡ false
@@ -107,9 +108,9 @@ abbrev pub Read : Type 0
 Read = List ℕ × Span × Cursor
 
 -- without content
-pub alone : (st : BlockStyle) (c : Chomping) (i : ℕ) (u v : Cursor) (k : ℕ) → Led i u v k
+pub alone_read : (st : BlockStyle) (c : Chomping) (i : ℕ) (u v : Cursor) (k : ℕ) → Led i u v k
     → is_z (slice_index v.rest 0) ≡ true → Behind st c i u (encode_utf8_all (tail_alone c k v)) v
-alone st c i u v k l z =
+alone_read st c i u v k l z =
     let w = l.joins [] v.rest refl l.clear in
     let cut = only_line (spaces v.mark.col) (plain_spaces v.mark.col) in
     let nothing : spaces v.mark.col ++ [] ≡ spaces v.mark.col = append-nil (spaces v.mark.col) in
@@ -127,7 +128,7 @@ alone st c i u v k l z =
       value =
           ap encode_utf8_all
           (sym
-          (value_of st c i (normalized w.0) (spaces v.mark.col) (empties k) (ending v)
+          (block_value_of st c i (normalized w.0) (spaces v.mark.col) (empties k) (ending v)
           (ap (lines_of i) w.2 ∙ l.lines [] ∙ ap (λ ys. empties k ++ lines_of i ys) nothing
           ∙ ap (λ ls. empties k ++ map (line_of i) ls) cut.0 ∙ append-nil (empties k))
           (ap last_line w.2 ∙ l.last [] ∙ ap last_line nothing ∙ cut.1)
@@ -185,7 +186,7 @@ cut_header st c i u z blank =
     }
 
 pub nothing_led : (limit : Option ℕ) (u : Cursor) → is_z (slice_index u.rest 0) ≡ true
-    → pass_empty_lines_at limit no_lines u ≡ (widened no_lines u.mark.col, u)
+    → pass_empty_lines_at limit no_lines u ≡ (with_column no_lines u.mark.col, u)
 nothing_led limit u z =
     let first = z_is_nul (slice_index u.rest 0) z in
     stops limit no_lines u (ap (is_indentation limit u.mark.col) first ∙ nul_no_indentation limit u.mark.col)
@@ -205,10 +206,10 @@ behind_begun st indent start c i k limit u x y l same =
     by_test (is_z (slice_index x.1.rest 0)) _ _ (λ r. r ≡ gave y → Behind st c i u y.0 y.2)
     (λ h e. told_behind st c i u
     (encode_utf8_all (tail_alone c x.0.count x.1), record { start = start; end = x.1.mark }, x.1)
-    y e (alone st c i u x.1 x.0.count l h))
+    y e (alone_read st c i u x.1 x.0.count l h))
     (λ h. by_test (nat_lt x.1.mark.col (unwrap_or limit (max x.0.widest indent)) && nat_le indent x.1.mark.col) _ _
     (λ r. r ≡ gave y → Behind st c i u y.0 y.2)
-    (λ _ e. refused _ y e)
+    (λ _ e. refused_gave _ y e)
     (λ _ e.
     let n = unwrap_or limit (max x.0.widest indent) in
     let P : ℕ → Type 0 = λ j. let z = between_at st j None x.0.count x.1 in gave
@@ -223,16 +224,17 @@ behind_begun st indent start c i k limit u x y l same =
 
 pub behind_cut : (st : BlockStyle) (indent : ℕ) (start : Marker) (c : Chomping) (i : ℕ) (limit : Option ℕ) (u : Cursor)
     (y : Read) → is_z (slice_index u.rest 0) ≡ true → u.blank_so_far ≡ false
-    → behind_leading_lines st indent start c limit (widened no_lines u.mark.col, u) ≡ Ok y → Behind st c i u y.0 y.2
+    → behind_leading_lines st indent start c limit (with_column no_lines u.mark.col, u) ≡ Ok y → Behind st c i u y.0 y.2
 unfolding behind_leading_lines
 behind_cut st indent start c i limit u y z blank e =
-    let here : behind_leading_lines st indent start c limit (widened no_lines u.mark.col, u)
+    let here : behind_leading_lines st indent start c limit (with_column no_lines u.mark.col, u)
     ≡ gave (encode_utf8_all (tail_alone c 0 u), record { start = start; end = u.mark }, u) = rw z refl in
     told_behind st c i u (encode_utf8_all (tail_alone c 0 u), record { start = start; end = u.mark }, u) y
     (sym here ∙ e)
     (cut_header st c i u z blank)
 
-behind_place : (st : BlockStyle) (indent : ℕ) (start : Marker) (h : BlockHeader) (u : Cursor) (y : Read) → Place u
+behind_place : (st : BlockStyle) (indent : ℕ) (start : Marker) (h : BlockHeader) (u : Cursor) (y : Read)
+    → IsBehindHeaderLine u
     → behind_header st indent start (h, u) ≡ Ok y → Behind st h.chomping (indentation_of indent h u) u y.0 y.2
 unfolding behind_header
 behind_place st indent start h u y (inl p) e =

@@ -10,7 +10,7 @@ use Rattle.saphyr_scalar.specs.declared.scalar.block.lines.EmptyLines.{EmptyLine
 use Rattle.saphyr_scalar.specs.Views.Cursor.{Cursor, along, next_line}
 use Rattle.saphyr_scalar.specs.Steps.BlockRead.{spaces}
 use Rattle.saphyr_scalar.specs.Spelling.Block.{IsBehind, IsBody, leading, first, first_and_last}
-use Rattle.saphyr_scalar.specs.Steps.Block.{there, is_indentation, widened, one_more, pass_empty_lines, between}
+use Rattle.saphyr_scalar.specs.Steps.Block.{line_cursor, is_indentation, with_column, with_empty_line, pass_empty_lines, between}
 use Rattle.saphyr_scalar.proofs.Moving.{along_none, along_more}
 use Rattle.saphyr_scalar.proofs.Block.Lines.{stops}
 use Rattle.scalar_values.specs.declared.block.Chomping.{Chomping}
@@ -51,7 +51,8 @@ e_spaces i given limit lines b (suc j) m t l h =
     ∙ ap (λ x. pass_empty_lines limit lines b x t) (along_more m 1 j (suc j) (omega arith))
 
 e_feed : (limit : Option ℕ) (lines : EmptyLines) (b : Bool) (m : Marker) (t : List ℕ)
-    → pass_empty_lines limit lines b m (10 ∷ t) ≡ pass_empty_lines limit (one_more lines m.col) true (next_line m 1) t
+    → pass_empty_lines limit lines b m (10 ∷ t) ≡ pass_empty_lines limit (with_empty_line lines m.col) true
+    (next_line m 1) t
 unfolding pass_empty_lines
 e_feed None lines b m t = refl
 e_feed (Some limit) lines b m t = refl
@@ -87,8 +88,9 @@ led_at : (st : BlockStyle) (c : Chomping) (i n : ℕ) (given : Bool) (limit : Op
     → ((k : ℕ) → Value c i (between st i None k b m (x ∷ t)) ≡ line_feeds k ++ FirstValue st c (x ∷ cs) ls)
     → Led st c i n others before (Content (x ∷ cs) ∷ ls) (pass_empty_lines limit before b m (x ∷ t))
 led_at st c i n given limit before b m x cs t others ls l h col wide solid left value =
-    let stop : pass_empty_lines limit before b m (x ∷ t) ≡ (widened before m.col, there b m (x ∷ t)) =
-    stops limit before (there b m (x ∷ t)) (limit_stops i given limit m.col x l h col) (non_break_no_break x solid) in
+    let stop : pass_empty_lines limit before b m (x ∷ t) ≡ (with_column before m.col, line_cursor b m (x ∷ t)) =
+    stops limit before (line_cursor b m (x ∷ t)) (limit_stops i given limit m.col x l h col)
+    (non_break_no_break x solid) in
     subst (Led st c i n others before (Content (x ∷ cs) ∷ ls)) (sym stop)
     (record {
       column = col;
@@ -105,7 +107,8 @@ led_at st c i n given limit before b m x cs t others ls l h col wide solid left 
     })
 
 led_more : (st : BlockStyle) (c : Chomping) (i n : ℕ) (others : List ℕ) (before : EmptyLines) (w : ℕ) (ls : List Line)
-    (r : EmptyLines × Cursor) → Led st c i n others (one_more before w) ls r → Led st c i n others before (Empty ∷ ls) r
+    (r : EmptyLines × Cursor) → Led st c i n others (with_empty_line before w) ls r → Led st c i n others before
+    (Empty ∷ ls) r
 led_more st c i n others before w ls r l = record {
   column = l.column;
   widest = l.widest;
@@ -129,7 +132,8 @@ led_on st c i n given limit x others before b m _ _ l col wide h (leading j ls t
     let same = e_spaces i given limit before b j m (10 ∷ t) l at ∙ e_feed limit before b (along m j) t in
     subst (Led st c i n others before (Empty ∷ ls)) (sym same)
     (led_more st c i n others before (m.col + j) ls _
-    (led_on st c i n given limit x others (one_more before (m.col + j)) true (next_line (along m j) 1) ls t l refl
+    (led_on st c i n given limit x others (with_empty_line before (m.col + j)) true
+    (next_line (along m j) 1) ls t l refl
     more h body))
 led_on st c i n given limit x others before b m _ _ l col wide h (first y cs ls t no_space ic lines) =
     let at : m.col + i ≤ i = omega arith in

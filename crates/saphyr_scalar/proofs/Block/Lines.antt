@@ -8,7 +8,7 @@ use Rattle.saphyr_scalar.specs.declared.scalar.position.Marker.{Marker}
 use Rattle.saphyr_scalar.specs.declared.scalar.block.lines.EmptyLines.{EmptyLines}
 use Rattle.saphyr_scalar.specs.Views.Cursor.{Cursor, along, next_line, pass_break}
 use Rattle.scalar_values.specs.Folding.{line_feeds}
-use Rattle.saphyr_scalar.specs.Steps.Block.{there, is_indentation, widened, one_more, pass_empty_lines, pass_empty_lines_at}
+use Rattle.saphyr_scalar.specs.Steps.Block.{line_cursor, is_indentation, with_column, with_empty_line, pass_empty_lines, pass_empty_lines_at}
 use Rattle.saphyr_scalar.proofs.Quoted.Inside.{break_cases}
 use Rattle.saphyr_input.proofs.Basics.Booleans.{or_false_left, or_false_right, by_test}
 use Rattle.saphyr_scalar.proofs.PassedBreaks.{inside_same}
@@ -43,7 +43,7 @@ no_break c h = (or_false_left (nat_eq c 10) (nat_eq c 13) h, or_false_right (nat
 -- neither a space of the indentation nor a break
 stopped : (limit : Option ℕ) (lines : EmptyLines) (b : Bool) (m : Marker) (xs : List ℕ)
     → is_indentation limit m.col (slice_index xs 0) ≡ false → is_break (slice_index xs 0) ≡ false
-    → pass_empty_lines limit lines b m xs ≡ (widened lines m.col, there b m xs)
+    → pass_empty_lines limit lines b m xs ≡ (with_column lines m.col, line_cursor b m xs)
 unfolding pass_empty_lines
 stopped limit lines b m [] h k = refl
 stopped None lines b m (c ∷ cs) h k = rw (h, (no_break c k).1, (no_break c k).0) refl
@@ -51,55 +51,57 @@ stopped (Some limit) lines b m (c ∷ cs) h k = rw (h, (no_break c k).1, (no_bre
 
 pub stops : (limit : Option ℕ) (lines : EmptyLines) (s : Cursor)
     → is_indentation limit s.mark.col (slice_index s.rest 0) ≡ false → is_break (slice_index s.rest 0) ≡ false
-    → pass_empty_lines_at limit lines s ≡ (widened lines s.mark.col, s)
+    → pass_empty_lines_at limit lines s ≡ (with_column lines s.mark.col, s)
 stops limit lines s h k = stopped limit lines s.blank_so_far s.mark s.rest h k
 
 -- what stands behind a CR, which an LF may follow
 pub behind_cr : (m : Marker) (b : Bool) (cs : List ℕ) (P : Cursor → Type 0)
-    → ((ds : List ℕ) → cs ≡ 10 ∷ ds → P (there true (next_line m 2) ds))
-    → ((slice_index cs 0 == 10) ≡ false → P (there true (next_line m 1) cs)) → P (pass_break (there b m (13 ∷ cs)))
+    → ((ds : List ℕ) → cs ≡ 10 ∷ ds → P (line_cursor true (next_line m 2) ds))
+    → ((slice_index cs 0 == 10) ≡ false → P (line_cursor true (next_line m 1) cs))
+    → P (pass_break (line_cursor b m (13 ∷ cs)))
 behind_cr m b [] P two one = one refl
 behind_cr m b (d ∷ ds) P two one =
-    by_test (d == 10) (there true (next_line m 2) ds) (there true (next_line m 1) (d ∷ ds)) P
+    by_test (d == 10) (line_cursor true (next_line m 2) ds) (line_cursor true (next_line m 1) (d ∷ ds)) P
     (λ h. let e : d ≡ 10 = grind (arith, nat_tests) in two ds (ap (λ (x : ℕ). x ∷ ds) e))
     one
 
 abbrev Taken : Option ℕ → EmptyLines → Bool → Marker → List ℕ → Cursor → Type 0
-Taken limit lines b m xs s = pass_empty_lines limit lines b m xs ≡ pass_empty_lines_at limit (one_more lines m.col) s
+Taken limit lines b m xs s = pass_empty_lines limit lines b m xs ≡ pass_empty_lines_at limit
+    (with_empty_line lines m.col) s
 
 at_lf : (limit : Option ℕ) (lines : EmptyLines) (b : Bool) (m : Marker) (cs : List ℕ)
-    → Taken limit lines b m (10 ∷ cs) (there true (next_line m 1) cs)
+    → Taken limit lines b m (10 ∷ cs) (line_cursor true (next_line m 1) cs)
 unfolding pass_empty_lines
 at_lf None lines b m cs = refl
 at_lf (Some limit) lines b m cs = refl
 
 at_cr : (limit : Option ℕ) (lines : EmptyLines) (b : Bool) (m : Marker) (cs : List ℕ) → (slice_index cs 0 == 10) ≡ false
-    → Taken limit lines b m (13 ∷ cs) (there true (next_line m 1) cs)
+    → Taken limit lines b m (13 ∷ cs) (line_cursor true (next_line m 1) cs)
 unfolding pass_empty_lines
 at_cr None lines b m cs h = rw h refl
 at_cr (Some limit) lines b m cs h = rw h refl
 
 at_cr_lf : (limit : Option ℕ) (lines : EmptyLines) (b : Bool) (m : Marker) (ds : List ℕ)
-    → Taken limit lines b m (13 ∷ 10 ∷ ds) (there true (next_line m 2) ds)
+    → Taken limit lines b m (13 ∷ 10 ∷ ds) (line_cursor true (next_line m 2) ds)
 unfolding pass_empty_lines
-at_cr_lf None lines b m ds = ap (λ x. pass_empty_lines None (one_more lines m.col) true x ds) (inside_same m)
-at_cr_lf (Some limit) lines b m ds = ap (λ x. pass_empty_lines (Some limit) (one_more lines m.col) true x ds)
+at_cr_lf None lines b m ds = ap (λ x. pass_empty_lines None (with_empty_line lines m.col) true x ds) (inside_same m)
+at_cr_lf (Some limit) lines b m ds = ap (λ x. pass_empty_lines (Some limit) (with_empty_line lines m.col) true x ds)
     (inside_same m)
 
 -- a break at the end of an empty line
 at_break : (limit : Option ℕ) (lines : EmptyLines) (b : Bool) (m : Marker) (xs : List ℕ)
-    → is_break (slice_index xs 0) ≡ true → Taken limit lines b m xs (pass_break (there b m xs))
+    → is_break (slice_index xs 0) ≡ true → Taken limit lines b m xs (pass_break (line_cursor b m xs))
 at_break limit lines b m [] h = absurd (cc)
 at_break limit lines b m (c ∷ cs) h =
-    break_cases c h (λ x. Taken limit lines b m (x ∷ cs) (pass_break (there b m (x ∷ cs))))
+    break_cases c h (λ x. Taken limit lines b m (x ∷ cs) (pass_break (line_cursor b m (x ∷ cs))))
     (at_lf limit lines b m cs)
     (behind_cr m b cs (Taken limit lines b m (13 ∷ cs))
-    (λ ds e. subst (λ ys. Taken limit lines b m (13 ∷ ys) (there true (next_line m 2) ds)) (sym e)
+    (λ ds e. subst (λ ys. Taken limit lines b m (13 ∷ ys) (line_cursor true (next_line m 2) ds)) (sym e)
     (at_cr_lf limit lines b m ds))
     (at_cr limit lines b m cs))
 
 pub break_taken : (limit : Option ℕ) (lines : EmptyLines) (s : Cursor) → is_break (slice_index s.rest 0) ≡ true
-    → pass_empty_lines_at limit lines s ≡ pass_empty_lines_at limit (one_more lines s.mark.col) (pass_break s)
+    → pass_empty_lines_at limit lines s ≡ pass_empty_lines_at limit (with_empty_line lines s.mark.col) (pass_break s)
 break_taken limit lines s h = at_break limit lines s.blank_so_far s.mark s.rest h
 
 -- One turn of taking off empty lines: from s, which is looked at as `here`, to t. The first character is c.
@@ -127,10 +129,10 @@ end_turn limit lines s here c w same read h k e =
 
 -- a break has a character or two
 index_on : (m : Marker) (b : Bool) (xs : List ℕ) → is_break (slice_index xs 0) ≡ true
-    → m.index + 1 ≤ (pass_break (there b m xs)).mark.index
+    → m.index + 1 ≤ (pass_break (line_cursor b m xs)).mark.index
 index_on m b [] h = absurd (cc)
 index_on m b (c ∷ cs) h =
-    break_cases c h (λ x. m.index + 1 ≤ (pass_break (there b m (x ∷ cs))).mark.index)
+    break_cases c h (λ x. m.index + 1 ≤ (pass_break (line_cursor b m (x ∷ cs))).mark.index)
     (omega arith)
     (behind_cr m b cs (λ s. m.index + 1 ≤ s.mark.index) (λ ds e. omega arith) (λ _. omega arith))
 

@@ -12,9 +12,9 @@ use Rattle.saphyr_scalar.specs.declared.scalar.block.lines.EmptyLines.{EmptyLine
 use Rattle.saphyr_scalar.specs.Views.Cursor.{Cursor, along, next_line, pass}
 use Rattle.saphyr_scalar.specs.Passing as passing
 use Rattle.saphyr_scalar.specs.Passing.{IsPassed}
-use Rattle.saphyr_scalar.specs.Steps.Block.{header, is_indentation, is_cr_lf, inside_break, one_more, pass_empty_lines, line_starts, LinesRead, between, line, chomped_lines, content, behind_leading_lines, given_indentation, no_lines, behind_header, block_scalar}
-use Rattle.saphyr_scalar.proofs.PassedBreaks.{Passes, inside_same, one_here, return_here, feed_here, stop_here, end_here}
-use Rattle.saphyr_scalar.proofs.Block.PlacedHeaders.{top, passed_passed, passed_lines, Goes, one_passed, Ends, header_ends}
+use Rattle.saphyr_scalar.specs.Steps.Block.{header, is_indentation, is_cr_lf, inside_break, with_empty_line, pass_empty_lines, line_starts, LinesRead, between, line, chomped_lines, content, behind_leading_lines, given_indentation, no_lines, behind_header, block_scalar}
+use Rattle.saphyr_scalar.proofs.PassedBreaks.{PassesBreak, inside_same, one_here, return_here, feed_here, stop_here, end_here}
+use Rattle.saphyr_scalar.proofs.Block.PlacedHeaders.{top, passed_passed, passed_lines, Goes, one_passed, EndsHeaderLine, header_ends}
 use Rattle.saphyr_input.proofs.Basics.Booleans.{and_true_left, by_test}
 use Rattle.std.proofs.lemmas.Bool.{eqb-true}
 use Rattle.saphyr_input.proofs.Basics.Characters.{non_break_no_break}
@@ -24,18 +24,18 @@ use Rattle.saphyr_scalar.proofs.Given.{Given, given_bind, given_of}
 -- ## The lines
 
 pub empty_passes : (limit : Option ℕ) (before : EmptyLines) (b : Bool) (m : Marker) (t : List ℕ)
-    → Passes m t (pass_empty_lines limit before b m t).1
+    → PassesBreak m t (pass_empty_lines limit before b m t).1
 unfolding pass_empty_lines
 empty_passes limit before b m [] = end_here m b
 empty_passes limit before b m (c ∷ cs) =
-    let P : EmptyLines × Cursor → Type 0 = λ x. Passes m (c ∷ cs) x.1 in
+    let P : EmptyLines × Cursor → Type 0 = λ x. PassesBreak m (c ∷ cs) x.1 in
     by_test (is_indentation limit m.col c) _ _ P
     (λ e. one_here m c cs _ (ap is_break (indentation_is_space limit m.col c e))
     (empty_passes limit before b (along m 1) cs))
     (λ _. by_test (is_cr_lf c cs) _ _ P
     (λ e. return_here m (inside_break m) c cs _ e (inside_same m) (empty_passes limit before b (inside_break m) cs))
     (λ e. by_test (is_break c) _ _ P
-    (λ f. feed_here m c cs _ e f (empty_passes limit (one_more before m.col) true (next_line m 1) cs).here)
+    (λ f. feed_here m c cs _ e f (empty_passes limit (with_empty_line before m.col) true (next_line m 1) cs).here)
     (λ f. stop_here m c cs b f)))
 
 starts_non_break : (i col c : ℕ) (cs : List ℕ) → line_starts i col (c ∷ cs) ≡ true → is_break c ≡ false
@@ -51,10 +51,10 @@ mutual
   unfolding between line
 
   pub between_passes : (style : BlockStyle) (i : ℕ) (above : Option Bool) (lines : ℕ) (b : Bool) (m : Marker)
-      (t : List ℕ) → Passes m t (between style i above lines b m t).2
+      (t : List ℕ) → PassesBreak m t (between style i above lines b m t).2
   between_passes style i above lines b m [] = end_here m b
   between_passes style i above lines b m (c ∷ cs) =
-      let P : LinesRead → Type 0 = λ x. Passes m (c ∷ cs) x.2 in
+      let P : LinesRead → Type 0 = λ x. PassesBreak m (c ∷ cs) x.2 in
       by_test (is_indentation (Some i) m.col c) _ _ P
       (λ e. one_here m c cs _ (ap is_break (indentation_is_space (Some i) m.col c e))
       (between_passes style i above lines b (along m 1) cs))
@@ -68,10 +68,10 @@ mutual
       (λ _. stop_here m c cs b f))))
 
   line_passes : (style : BlockStyle) (i : ℕ) (more b : Bool) (m : Marker) (t : List ℕ)
-      → Passes m t (line style i more b m t).2
+      → PassesBreak m t (line style i more b m t).2
   line_passes style i more b m [] = end_here m b
   line_passes style i more b m (c ∷ cs) =
-      let P : LinesRead → Type 0 = λ x. Passes m (c ∷ cs) x.2 in
+      let P : LinesRead → Type 0 = λ x. PassesBreak m (c ∷ cs) x.2 in
       by_test (is_yaml_non_break c) _ _ P
       (λ e. one_here m c cs _ (non_break_no_break c e) (line_passes style i more b (along m 1) cs))
       (λ _. by_test (is_cr_lf c cs) _ _ P
@@ -95,11 +95,11 @@ abbrev PlacedAt : Cursor → List ℕ × Span × Cursor → Type 0
 PlacedAt s x = Placed s x.1 x.2
 
 -- nothing is passed at the end
-empty_at_end : (limit : Option ℕ) (before : EmptyLines) (b : Bool) (m : Marker) (t : List ℕ)
+none_at_end : (limit : Option ℕ) (before : EmptyLines) (b : Bool) (m : Marker) (t : List ℕ)
     → is_z (slice_index t 0) ≡ true → is_z (slice_index (pass_empty_lines limit before b m t).1.rest 0) ≡ true
 unfolding pass_empty_lines
-empty_at_end limit before b m [] e = refl
-empty_at_end limit before b m (c ∷ cs) e =
+none_at_end limit before b m [] e = refl
+none_at_end limit before b m (c ∷ cs) e =
     let P : EmptyLines × Cursor → Type 0 = λ x. is_z (slice_index x.1.rest 0) ≡ true in
     let nul : c ≡ 0 = eqb-true c 0 e in
     by_test (is_indentation limit m.col c) _ _ P
@@ -110,15 +110,15 @@ empty_at_end limit before b m (c ∷ cs) e =
     (λ _. by_test (is_break c) _ _ P (λ f. absurd (let g : is_break c ≡ false = ap is_break nul in cc)) (λ _. e)))
 
 -- the lines behind a place of a later line, or at the end
-end_line : (s h t : Cursor) → IsPassed h.mark h.rest t.mark t.rest
+lines_behind_line : (s h t : Cursor) → IsPassed h.mark h.rest t.mark t.rest
     → (h.mark.line ≡ min (s.mark.line + 1) top) ⊎ (is_z (slice_index h.rest 0) ≡ true)
     → (is_z (slice_index h.rest 0) ≡ true → is_z (slice_index t.rest 0) ≡ true)
     → s.mark.line < top → (s.mark.line < t.mark.line) ⊎ (is_z (slice_index t.rest 0) ≡ true)
-end_line s h t p (inl e) z l =
+lines_behind_line s h t p (inl e) z l =
     inl (let q = passed_lines h.mark h.rest t.mark t.rest p (omega arith) in omega (arith, q, e, l))
-end_line s h t p (inr e) z l = inr (z e)
+lines_behind_line s h t p (inr e) z l = inr (z e)
 
-content_placed : (style : BlockStyle) (c : Chomping) (indent i lines : ℕ) (s h x : Cursor) → Ends s h
+content_placed : (style : BlockStyle) (c : Chomping) (indent i lines : ℕ) (s h x : Cursor) → EndsHeaderLine s h
     → IsPassed h.mark h.rest x.mark x.rest → is_z (slice_index x.rest 0) ≡ false
     → (is_z (slice_index h.rest 0) ≡ true → is_z (slice_index x.rest 0) ≡ true)
     → Given (PlacedAt s) (content style c indent i lines x)
@@ -134,12 +134,12 @@ content_placed style c indent i lines s h x e p none z =
       behind = x.rest;
       start = first;
       inside = q;
-      line = end_line s h t (passed_passed h.mark h.rest x.mark x.rest t.mark t.rest p q) e.line
+      line = lines_behind_line s h t (passed_passed h.mark h.rest x.mark x.rest t.mark t.rest p q) e.line
           (λ f. absurd (let g = z f in cc));
     })
 
 leading_placed : (style : BlockStyle) (indent : ℕ) (c : Chomping) (limit : Option ℕ) (s h : Cursor)
-    (x : EmptyLines × Cursor) → Ends s h → IsPassed h.mark h.rest x.1.mark x.1.rest
+    (x : EmptyLines × Cursor) → EndsHeaderLine s h → IsPassed h.mark h.rest x.1.mark x.1.rest
     → (is_z (slice_index h.rest 0) ≡ true → is_z (slice_index x.1.rest 0) ≡ true)
     → Given (PlacedAt s) (behind_leading_lines style indent s.mark c limit x)
 unfolding behind_leading_lines
@@ -162,13 +162,13 @@ scalar_placed : (style : BlockStyle) (indent : ℕ) (s : Cursor) → Goes s (pas
 unfolding block_scalar behind_header
 scalar_placed style indent s g =
     given_bind (PlacedAt s) (header s) _ (λ x e.
-    let h = given_of (λ (y : BlockHeader × Cursor). Ends s y.1) (header s) x (header_ends s g) e in
+    let h = given_of (λ (y : BlockHeader × Cursor). EndsHeaderLine s y.1) (header s) x (header_ends s g) e in
     let limit = given_indentation indent x.0.indicator in
     leading_placed style indent x.0.chomping limit s x.1
     (pass_empty_lines limit no_lines x.1.blank_so_far x.1.mark x.1.rest)
     h
     (empty_passes limit no_lines x.1.blank_so_far x.1.mark x.1.rest).here
-    (empty_at_end limit no_lines x.1.blank_so_far x.1.mark x.1.rest))
+    (none_at_end limit no_lines x.1.blank_so_far x.1.mark x.1.rest))
 
 pub block_scalar_placed : (style : BlockStyle) (indent : ℕ) (s t : Cursor) (text : List ℕ) (span : Span)
     → is_break (slice_index s.rest 0) ≡ false → 0 < length s.rest → block_scalar style indent s ≡ Ok (text, span, t)

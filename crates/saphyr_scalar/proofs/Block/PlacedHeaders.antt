@@ -155,11 +155,11 @@ separation_goes s =
 
 -- ## The end of the header
 
-pub record Ends (s t : Cursor) : Type 0 where
+pub record EndsHeaderLine (s t : Cursor) : Type 0 where
   pub passes : IsPassed s.mark s.rest t.mark t.rest
   pub line : (t.mark.line ≡ min (s.mark.line + 1) top) ⊎ (is_z (slice_index t.rest 0) ≡ true)
 
-goes_ends : (s t u : Cursor) → Goes s t → Ends t u → Ends s u
+goes_ends : (s t u : Cursor) → Goes s t → EndsHeaderLine t u → EndsHeaderLine s u
 goes_ends s t u a b = record {
   passes =
       passed_passed s.mark s.rest t.mark t.rest u.mark u.rest a.passes b.passes;
@@ -171,9 +171,9 @@ goes_ends s t u a b = record {
     by (inl e) = inl (e ∙ ap (λ l. min (l + 1) top) a.line)
     by (inr e) = inr e
 
-pub break_ends : (s : Cursor) → is_breakz (slice_index s.rest 0) ≡ true → Ends s (pass_break s)
+pub break_ends : (s : Cursor) → is_breakz (slice_index s.rest 0) ≡ true → EndsHeaderLine s (pass_break s)
 break_ends s e =
-    by_test (next_2_are s.rest 13 10) _ _ (Ends s)
+    by_test (next_2_are s.rest 13 10) _ _ (EndsHeaderLine s)
     (λ n. let two : break_len s.rest ≡ 2 = rw n refl in
     let c = ap is_break (eqb-true (slice_index s.rest 0) 13
     (and_true_left (slice_index s.rest 0 == 13) (slice_index s.rest 1 == 10) n)) in
@@ -184,7 +184,7 @@ break_ends s e =
       line = inl refl;
     })
     (λ n. let one : break_len s.rest ≡ 1 = rw n refl in
-    by_test (is_break (slice_index s.rest 0)) _ _ (Ends s)
+    by_test (is_break (slice_index s.rest 0)) _ _ (EndsHeaderLine s)
     (λ c. record {
       passes = passing.line_break s.mark s.rest _ _ c
           (subst (λ k. IsPassed (next_line s.mark k) (drop k s.rest) (next_line s.mark 1) (drop 1 s.rest)) (sym one)
@@ -198,21 +198,22 @@ break_ends s e =
           (is_z (slice_index s.rest 0) ≡ true) e (λ k. absurd (cc)) (λ k. k));
     }))
 
-header_break_ends : (start : Marker) (s : Cursor) → Given (Ends s) (header_break start s)
+header_break_ends : (start : Marker) (s : Cursor) → Given (EndsHeaderLine s) (header_break start s)
 unfolding header_break
 header_break_ends start s =
-    by_test (not (is_breakz (slice_index s.rest 0))) _ _ (Given (Ends s)) (λ _. tt)
-    (λ e. by_test (slice_index (pass_break s).rest 0 == tab) _ _ (Given (Ends s)) (λ _. tt)
+    by_test (not (is_breakz (slice_index s.rest 0))) _ _ (Given (EndsHeaderLine s)) (λ _. tt)
+    (λ e. by_test (slice_index (pass_break s).rest 0 == tab) _ _ (Given (EndsHeaderLine s)) (λ _. tt)
     (λ _. break_ends s (not-false (is_breakz (slice_index s.rest 0)) e)))
 
-ends_from : (s t : Cursor) (r : Result Cursor Refusal) → Goes s t → Given (Ends t) r → Given (Ends s) r
+ends_from : (s t : Cursor) (r : Result Cursor Refusal) → Goes s t → Given (EndsHeaderLine t) r
+    → Given (EndsHeaderLine s) r
 ends_from s t (Ok u) g h = goes_ends s t u g h
 ends_from s t (Err e) g h = tt
 
-header_end_ends : (start : Marker) (s t : Cursor) → Goes s t → Given (Ends s) (header_end start t)
+header_end_ends : (start : Marker) (s t : Cursor) → Goes s t → Given (EndsHeaderLine s) (header_end start t)
 unfolding header_end
 header_end_ends start s t g =
-    given_bind (Ends s) (separation Yes t) _ (λ x e.
+    given_bind (EndsHeaderLine s) (separation Yes t) _ (λ x e.
     let h = given_of (λ (y : SkipTabs × Cursor). Goes t y.1) (separation Yes t) x (separation_goes t) e in
     ends_from s x.1 (header_break start x.1) (goes_goes s t x.1 g h) (header_break_ends start x.1))
 
@@ -222,11 +223,11 @@ last_goes (Some first) s = goes_nowhere s
 last_goes None s = chomping_goes s
 
 header_behind_ends : (start : Marker) (i : ℕ) (s : Cursor) (x : Chomping × Cursor) → Goes s x.1
-    → Given (λ (y : BlockHeader × Cursor). Ends s y.1) (header_behind start i x)
+    → Given (λ (y : BlockHeader × Cursor). EndsHeaderLine s y.1) (header_behind start i x)
 unfolding header_behind
 header_behind_ends start i s x g =
-    given_bind (λ (y : BlockHeader × Cursor). Ends s y.1) (header_end start x.1) _
-    (λ t e. given_of (Ends s) (header_end start x.1) t (header_end_ends start s x.1 g) e)
+    given_bind (λ (y : BlockHeader × Cursor). EndsHeaderLine s y.1) (header_end start x.1) _
+    (λ t e. given_of (EndsHeaderLine s) (header_end start x.1) t (header_end_ends start s x.1 g) e)
 
 -- where the header's indicators end
 pub header_goes : (s : Cursor) (x : ℕ × Cursor) → Goes s (pass 1 s) → indicator s.mark (chomping (pass 1 s)).1 ≡ Ok x
@@ -239,9 +240,10 @@ header_goes s x g e =
     e) in
     goes_goes s x.1 (last_chomping first.0 x.1).1 k (last_goes first.0 x.1)
 
-pub header_ends : (s : Cursor) → Goes s (pass 1 s) → Given (λ (y : BlockHeader × Cursor). Ends s y.1) (header s)
+pub header_ends : (s : Cursor) → Goes s (pass 1 s)
+    → Given (λ (y : BlockHeader × Cursor). EndsHeaderLine s y.1) (header s)
 unfolding header
 header_ends s g =
     let first = chomping (pass 1 s) in
-    given_bind (λ (y : BlockHeader × Cursor). Ends s y.1) (indicator s.mark first.1) _
+    given_bind (λ (y : BlockHeader × Cursor). EndsHeaderLine s y.1) (indicator s.mark first.1) _
     (λ x e. header_behind_ends s.mark x.0 s (last_chomping first.0 x.1) (header_goes s x g e))

@@ -8,7 +8,7 @@ use Rattle.scalar_values.specs.declared.block.BlockStyle.{BlockStyle}
 use Rattle.saphyr_scalar.specs.declared.scalar.position.Marker.{Marker}
 use Rattle.saphyr_scalar.specs.Views.Cursor.{Cursor, along, next_line}
 use Rattle.saphyr_scalar.specs.Spelling.Block.{IsContent, AreLines, no_lines, empty, content, last, IsBehind}
-use Rattle.saphyr_scalar.specs.Steps.Block.{there, break_before, LinesRead, lines_behind_text, between}
+use Rattle.saphyr_scalar.specs.Steps.Block.{line_cursor, break_before, LinesRead, lines_behind_text, between}
 use Rattle.saphyr_scalar.proofs.Block.Values.{cut_tail, same_break}
 use Rattle.scalar_values.specs.declared.block.Chomping.{Chomping}
 use Rattle.scalar_values.specs.declared.block.Chomping.TheVariants.{Strip, Clip, Keep}
@@ -52,7 +52,7 @@ behind_value st c i more k b m n x others col h =
     let at : m.col + n ≡ n = omega arith in
     ap (Value c i) (behind_same st i (Some more) k b m n x others col h)
     ∙ ap (λ u. tail c u (record { broken = true; empty_lines = k }))
-    (not_unfinished i n (there b (along m n) others) at h.finished) ∙ ended_tail c k
+    (not_unfinished i n (line_cursor b (along m n) others) at h.finished) ∙ ended_tail c k
 
 pub content_value : (st : BlockStyle) (c : Chomping) (i : ℕ) (ab : Option Bool) (k : ℕ) (b : Bool) (m : Marker) (x : ℕ)
     (cs t later : List ℕ) → m.col ≡ i → IsContent i x cs (10 ∷ t)
@@ -84,7 +84,7 @@ last_value st c i ab k b m x cs col h =
     ap (Value c i) same
     ∙ append_assoc bb ((x ∷ cs) ++ []) _ ∙ ap (λ y. bb ++ y) (append_assoc (x ∷ cs) [] _)
     ∙ ap (λ u. bb ++ ((x ∷ cs) ++ tail c u (record { broken = false; empty_lines = 0 })))
-    (unfinished i (there b p []) far refl) ∙ ap (λ y. bb ++ ((x ∷ cs) ++ y)) (cut_tail c true)
+    (unfinished i (line_cursor b p []) far refl) ∙ ap (λ y. bb ++ ((x ∷ cs) ++ y)) (cut_tail c true)
 
 pub lines_value_left : (st : BlockStyle) (c : Chomping) (i n : ℕ) (x others : List ℕ) (above : List ℕ) (more : Bool)
     (k : ℕ) (b : Bool) (m : Marker) (ls : List Line) (t : List ℕ) → is_more_indented above ≡ more → m.col ≡ 0

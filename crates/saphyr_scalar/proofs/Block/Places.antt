@@ -6,11 +6,12 @@ use Rattle.std.proofs.lemmas.List.{append-nil}
 use Rattle.saphyr_input.specs.Classes.{is_blank, is_break, is_yaml_non_break}
 use Rattle.saphyr_input.specs.Places.{is_document_indicator}
 use Rattle.scalar_values.specs.declared.block.BlockStyle.{BlockStyle}
+use Rattle.saphyr_scalar.specs.Spelling.Tag.{AreIn}
 use Rattle.saphyr_scalar.specs.declared.scalar.position.Marker.{Marker}
 use Rattle.saphyr_scalar.specs.Views.Cursor.{along, next_line}
 use Rattle.saphyr_scalar.specs.Steps.BlockRead.{spaces}
-use Rattle.saphyr_scalar.specs.Spelling.Block.{AreContent, IsContent, AreLines, no_lines, empty, content, last, IsBehind}
-use Rattle.saphyr_scalar.specs.Steps.Block.{there, is_indentation, line_starts, break_before, LinesRead, lines_behind_text, lines_ended, between, line}
+use Rattle.saphyr_scalar.specs.Spelling.Block.{IsContent, AreLines, no_lines, empty, content, last, IsBehind}
+use Rattle.saphyr_scalar.specs.Steps.Block.{line_cursor, is_indentation, line_starts, break_before, LinesRead, lines_behind_text, lines_ended, between, line}
 use Rattle.saphyr_scalar.proofs.Moving.{along_none, along_more}
 use Rattle.scalar_values.specs.Block.{Line}
 use Rattle.saphyr_scalar.proofs.Block.Turns.{line_begins, line_on, no_line_at}
@@ -39,7 +40,7 @@ unfolding between
 feed_on st i ab k b m t = refl
 
 -- a line's content
-content_on : (st : BlockStyle) (i : ℕ) (more b : Bool) (m : Marker) (cs t : List ℕ) → AreContent cs
+content_on : (st : BlockStyle) (i : ℕ) (more b : Bool) (m : Marker) (cs t : List ℕ) → AreIn is_yaml_non_break cs
     → line st i more b m (cs ++ t) ≡ lines_behind_text cs (line st i more b (along m (length cs)) t)
 content_on st i more b m [] t h = ap (λ x. line st i more b x t) (sym (along_none m))
 content_on st i more b m (c ∷ cs) t h =
@@ -54,7 +55,7 @@ unfolding line
 line_feed_on st i more b m t = refl
 
 pub line_end_on : (st : BlockStyle) (i : ℕ) (more b : Bool) (m : Marker)
-    → line st i more b m [] ≡ lines_ended false 0 (there b m [])
+    → line st i more b m [] ≡ lines_ended false 0 (line_cursor b m [])
 unfolding line
 line_end_on st i more b m = refl
 
@@ -104,7 +105,7 @@ no_break_at x a d = rw (ne_eqb x 10 a, ne_eqb x 13 d) refl
 pub behind_same : (st : BlockStyle) (i : ℕ) (ab : Option Bool) (k : ℕ) (b : Bool) (m : Marker) (n : ℕ)
     (x others : List ℕ)
     → m.col ≡ 0 → IsBehind i n x others → between st i ab k b m x
-    ≡ lines_ended (is_some ab) k (there b (along m n) others)
+    ≡ lines_ended (is_some ab) k (line_cursor b (along m n) others)
 behind_same st i ab k b m n x others col h =
     let at : m.col + n ≡ n = omega arith in
     let within : m.col + n ≤ i = omega (arith, h.within) in

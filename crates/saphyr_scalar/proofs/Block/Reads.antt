@@ -16,8 +16,8 @@ use Rattle.saphyr_input.specs.declared.input.SkipTabs.TheVariants.{Yes}
 use Rattle.saphyr_scalar.specs.Views.Cursor.{Cursor, ◌>>=◌, along, next_line, pass, pass_blanks, pass_break, separation, behind_separation}
 use Rattle.scalar_values.specs.Block.{Empty, lines_of}
 use Rattle.scalar_values.specs.Lines.{last_line}
-use Rattle.saphyr_scalar.specs.Steps.Block.{there, is_indentation, is_cr_lf, inside_break, widened, one_more, pass_empty_lines, header, header_break, header_end, header_behind, chomping, last_chomping, indicator}
-use Rattle.saphyr_scalar.proofs.Block.Texts.{spaces, spaces_more, plain_spaces, first_line, line_spaces, normal_half, normal_break, lines_break}
+use Rattle.saphyr_scalar.specs.Steps.Block.{line_cursor, is_indentation, is_cr_lf, inside_break, with_column, with_empty_line, pass_empty_lines, header, header_break, header_end, header_behind, chomping, last_chomping, indicator}
+use Rattle.saphyr_scalar.proofs.Block.Texts.{spaces, spaces_more, plain_spaces, first_line, line_spaces, normal_half, normalized_break, lines_break}
 use Rattle.saphyr_scalar.specs.Steps.BlockRead.{HasLines}
 use Rattle.saphyr_scalar.proofs.Block.Wholes.{empties}
 use Rattle.std.proofs.lemmas.Bool.{not-false, and_parts}
@@ -42,7 +42,7 @@ pub record Leading (j : ℕ) (before : EmptyLines) (xs : List ℕ) (r : EmptyLin
   pub wider : before.widest ≤ r.0.widest
 
 lead_stop : (lines : EmptyLines) (b : Bool) (m : Marker) (xs : List ℕ)
-    → Leading m.col lines xs (widened lines m.col, there b m xs)
+    → Leading m.col lines xs (with_column lines m.col, line_cursor b m xs)
 lead_stop lines b m xs = record {
   front = [];
   d = 0;
@@ -91,13 +91,13 @@ lead_half j x before cs r e l = record {
 }
 
 lead_break : (j x : ℕ) (before : EmptyLines) (cs : List ℕ) (r : EmptyLines × Cursor) → is_cr_lf x cs ≡ false
-    → is_break x ≡ true → Leading 0 (one_more before j) cs r → Leading j before (x ∷ cs) r
+    → is_break x ≡ true → Leading 0 (with_empty_line before j) cs r → Leading j before (x ∷ cs) r
 lead_break j x before cs r half e l = record {
   front = 10 ∷ l.front;
   d = suc l.d;
   joins = λ taken rest s k. let w =
       l.joins taken rest s k in
-      (x ∷ w.0, ap (λ ys. x ∷ ys) w.1, normal_break x cs w.0 rest half e w.1 ∙ ap (λ ys. 10 ∷ ys) w.2);
+      (x ∷ w.0, ap (λ ys. x ∷ ys) w.1, normalized_break x cs w.0 rest half e w.1 ∙ ap (λ ys. 10 ∷ ys) w.2);
   lines = λ i text h.
       let f = first_line (spaces j) (l.front ++ text) (plain_spaces j) in
       let within : j ≤ i = omega (arith, l.wider) in
@@ -119,7 +119,7 @@ leading limit before b m (x ∷ cs) =
     (λ h0. by_test (is_cr_lf x cs) _ _ (Leading m.col before (x ∷ cs))
     (λ h. lead_half m.col x before cs _ h (leading limit before b (inside_break m) cs))
     (λ h1. by_test (is_break x) _ _ (Leading m.col before (x ∷ cs))
-    (λ h. lead_break m.col x before cs _ h1 h (leading limit (one_more before m.col) true (next_line m 1) cs))
+    (λ h. lead_break m.col x before cs _ h1 h (leading limit (with_empty_line before m.col) true (next_line m 1) cs))
     (λ h2. lead_stop before b m (x ∷ cs))))
 
 -- within a limit
@@ -137,7 +137,7 @@ within_limit i before b m (x ∷ cs) h k =
     (λ _. by_test (is_cr_lf x cs) _ _ (Within i)
     (λ _. within_limit i before b (inside_break m) cs h k)
     (λ _. by_test (is_break x) _ _ (Within i)
-    (λ _. within_limit i (one_more before m.col) true (next_line m 1) cs (omega arith) (omega arith))
+    (λ _. within_limit i (with_empty_line before m.col) true (next_line m 1) cs (omega arith) (omega arith))
     (λ _. omega arith)))
 
 -- a step that gave something came after one that did
@@ -149,31 +149,33 @@ then_gave (Err r) f y e = absurd (cc)
 abbrev pub gave : {A : Type 0} → A → Result A Refusal
 gave x = Ok x
 
-pub refused : {A X : Type 0} (r : Refusal) (y : A) → Err r ≡ gave y → X
-refused r y e = absurd (cc)
+pub refused_gave : {A X : Type 0} (r : Refusal) (y : A) → Err r ≡ gave y → X
+refused_gave r y e = absurd (cc)
 
 pub same_gift : {A : Type 0} (x y : A) → gave x ≡ gave y → x ≡ y
 same_gift x y e = cc
 
 -- behind a header: a line begins, or the text ends there
-abbrev pub Place : Cursor → Type 0
-Place u = ((u.mark.col ≡ 0) × (u.blank_so_far ≡ true))
+abbrev pub IsBehindHeaderLine : Cursor → Type 0
+IsBehindHeaderLine u = ((u.mark.col ≡ 0) × (u.blank_so_far ≡ true))
     ⊎ ((is_z (slice_index u.rest 0) ≡ true) × (u.blank_so_far ≡ false))
 
-break_place : (s : Cursor) → s.blank_so_far ≡ false → is_breakz (slice_index s.rest 0) ≡ true → Place (pass_break s)
+break_place : (s : Cursor) → s.blank_so_far ≡ false → is_breakz (slice_index s.rest 0) ≡ true
+    → IsBehindHeaderLine (pass_break s)
 break_place s blank h =
-    by_test (next_2_are s.rest 13 10) _ _ Place (λ _. inl (refl, refl))
-    (λ _. by_test (is_break (slice_index s.rest 0)) _ _ Place (λ _. inl (refl, refl))
+    by_test (next_2_are s.rest 13 10) _ _ IsBehindHeaderLine (λ _. inl (refl, refl))
+    (λ _. by_test (is_break (slice_index s.rest 0)) _ _ IsBehindHeaderLine (λ _. inl (refl, refl))
     (λ k. let z = rw k at h in inr (z, blank)))
 
-header_break_place : (start : Marker) (s u : Cursor) → s.blank_so_far ≡ false → header_break start s ≡ Ok u → Place u
+header_break_place : (start : Marker) (s u : Cursor) → s.blank_so_far ≡ false → header_break start s ≡ Ok u
+    → IsBehindHeaderLine u
 unfolding header_break
 header_break_place start s u blank =
-    by_test (not (is_breakz (slice_index s.rest 0))) _ _ (λ r. r ≡ gave u → Place u)
-    (λ _ e. refused _ u e)
-    (λ h. by_test (slice_index (pass_break s).rest 0 == tab) _ _ (λ r. r ≡ gave u → Place u)
-    (λ _ e. refused _ u e)
-    (λ _ e. subst Place (same_gift _ u e) (break_place s blank (not-false _ h))))
+    by_test (not (is_breakz (slice_index s.rest 0))) _ _ (λ r. r ≡ gave u → IsBehindHeaderLine u)
+    (λ _ e. refused_gave _ u e)
+    (λ h. by_test (slice_index (pass_break s).rest 0 == tab) _ _ (λ r. r ≡ gave u → IsBehindHeaderLine u)
+    (λ _ e. refused_gave _ u e)
+    (λ _ e. subst IsBehindHeaderLine (same_gift _ u e) (break_place s blank (not-false _ h))))
 
 separation_blank : (s : Cursor) (x : SkipTabs × Cursor) → s.blank_so_far ≡ false → separation Yes s ≡ Ok x
     → x.1.blank_so_far ≡ false
@@ -182,13 +184,14 @@ separation_blank s x blank =
     by_test (nat_lt 0 (along s.mark (separation_len Yes s.rest)).col && is_bom
     (slice_index (pass_blanks (separation_len Yes s.rest) s).rest 0)) _ _
     (λ r. r ≡ gave x → x.1.blank_so_far ≡ false)
-    (λ _ e. refused _ x e)
+    (λ _ e. refused_gave _ x e)
     (λ _. by_test (is_bare_comment Yes s.rest) _ _ (λ r. r ≡ gave x → x.1.blank_so_far ≡ false)
-    (λ _ e. refused _ x e)
+    (λ _ e. refused_gave _ x e)
     (λ _ e. let same = same_gift (found_blanks Yes s.rest, pass_blanks (separation_len Yes s.rest) s) x e in
     sym (ap (λ (y : SkipTabs × Cursor). y.1.blank_so_far) same) ∙ blank))
 
-header_end_place : (start : Marker) (s u : Cursor) → s.blank_so_far ≡ false → header_end start s ≡ Ok u → Place u
+header_end_place : (start : Marker) (s u : Cursor) → s.blank_so_far ≡ false → header_end start s ≡ Ok u
+    → IsBehindHeaderLine u
 unfolding header_end
 header_end_place start s u blank e =
     let w = then_gave (separation Yes s) (λ x. header_break start x.1) u e in
@@ -214,10 +217,10 @@ indicator_blank start s x blank =
     by_test (not (is_digit (slice_index s.rest 0))) _ _ (λ r. r ≡ gave x → x.1.blank_so_far ≡ false)
     (λ _ e. sym (ap (λ (y : ℕ × Cursor). y.1.blank_so_far) (same_gift (0, s) x e)) ∙ blank)
     (λ _. by_test (slice_index s.rest 0 == 48) _ _ (λ r. r ≡ gave x → x.1.blank_so_far ≡ false)
-    (λ _ e. refused _ x e)
+    (λ _ e. refused_gave _ x e)
     (λ _ e. sym (ap (λ (y : ℕ × Cursor). y.1.blank_so_far) (same_gift (slice_index s.rest 0 - 48, pass 1 s) x e))))
 
-pub header_place : (s : Cursor) (x : BlockHeader × Cursor) → header s ≡ Ok x → Place x.1
+pub header_place : (s : Cursor) (x : BlockHeader × Cursor) → header s ≡ Ok x → IsBehindHeaderLine x.1
 unfolding header header_behind
 header_place s x e =
     let first = chomping (pass 1 s) in
@@ -227,4 +230,4 @@ header_place s x e =
     let header_of : Cursor → BlockHeader × Cursor = λ t. (record { chomping = last.0; indicator = w.0.0 }, t) in
     let v = then_gave (header_end s.mark last.1) (λ t. gave (header_of t)) x w.2 in
     let place = header_end_place s.mark last.1 v.0 (last_blank first.0 w.0.1 blank) v.1 in
-    subst (λ (y : BlockHeader × Cursor). Place y.1) (same_gift (header_of v.0) x v.2) place
+    subst (λ (y : BlockHeader × Cursor). IsBehindHeaderLine y.1) (same_gift (header_of v.0) x v.2) place

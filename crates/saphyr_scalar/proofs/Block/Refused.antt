@@ -13,7 +13,7 @@ use Rattle.saphyr_scalar.specs.Views.Cursor.{Cursor, pass, pass_break, separatio
 use Rattle.saphyr_scalar.specs.Passing.{IsPassed}
 use Rattle.saphyr_scalar.specs.RefusedInside.{IsRefusedInside}
 use Rattle.saphyr_scalar.proofs.Block.Placed.{empty_passes}
-use Rattle.saphyr_scalar.proofs.Block.PlacedHeaders.{passed_passed, Goes, one_passed, header_goes, Ends, header_ends}
+use Rattle.saphyr_scalar.proofs.Block.PlacedHeaders.{passed_passed, Goes, one_passed, header_goes, EndsHeaderLine, header_ends}
 use Rattle.saphyr_scalar.proofs.Directives.Refused.{separation_refused}
 use Rattle.saphyr_scalar.proofs.RefusedOnWay.{inside_from, inside_start}
 use Rattle.saphyr_scalar.proofs.Refusals.{Refused, RefusedAt, refused_bind, refused_more}
@@ -73,7 +73,7 @@ unfolding block_scalar behind_header
 block_scalar_refused style indent s b some =
     let g = one_passed s b (omega (arith, some)) in
     refused_bind (IsRefusedInside s) (header s) _ (header_refused s g) (λ x e.
-    let h = given_of (λ (y : BlockHeader × Cursor). Ends s y.1) (header s) x (header_ends s g) e in
+    let h = given_of (λ (y : BlockHeader × Cursor). EndsHeaderLine s y.1) (header s) x (header_ends s g) e in
     let limit = given_indentation indent x.0.indicator in
     let lines = pass_empty_lines limit no_lines x.1.blank_so_far x.1.mark x.1.rest in
     leading_refused style indent s.mark x.0.chomping limit s lines

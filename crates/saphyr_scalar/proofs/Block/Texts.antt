@@ -24,21 +24,21 @@ spaces_more zero xs = refl
 spaces_more (suc n) xs = let e : suc n + 1 ≡ suc (n + 1) = omega arith in rw e (ap (λ ys. 32 ∷ ys) (spaces_more n xs))
 
 -- a text without breaks
-abbrev pub IsPlain : List ℕ → Type 0
-IsPlain text = has_break text ≡ false
+abbrev pub IsUnbroken : List ℕ → Type 0
+IsUnbroken text = has_break text ≡ false
 
-pub parts_plain : (c : ℕ) (cs : List ℕ) → IsPlain (c ∷ cs) → ((c == 10) ≡ false) × IsPlain cs
+pub parts_plain : (c : ℕ) (cs : List ℕ) → IsUnbroken (c ∷ cs) → ((c == 10) ≡ false) × IsUnbroken cs
 parts_plain c cs h =
     (or_false_left (nat_eq c 10) (has_break cs) h, or_false_right (nat_eq c 10) (has_break cs) h)
 
-pub plain_first : (c : ℕ) (cs : List ℕ) → (c == 10) ≡ false → IsPlain cs → IsPlain (c ∷ cs)
+pub plain_first : (c : ℕ) (cs : List ℕ) → (c == 10) ≡ false → IsUnbroken cs → IsUnbroken (c ∷ cs)
 plain_first c cs h k = rw (h, k) refl
 
-pub plain_both : (xs ys : List ℕ) → IsPlain xs → IsPlain ys → IsPlain (xs ++ ys)
+pub plain_both : (xs ys : List ℕ) → IsUnbroken xs → IsUnbroken ys → IsUnbroken (xs ++ ys)
 plain_both [] ys h k = k
 plain_both (c ∷ cs) ys h k = let p = parts_plain c cs h in plain_first c (cs ++ ys) p.0 (plain_both cs ys p.1 k)
 
-pub plain_spaces : (n : ℕ) → IsPlain (spaces n)
+pub plain_spaces : (n : ℕ) → IsUnbroken (spaces n)
 plain_spaces zero = refl
 plain_spaces (suc n) = plain_spaces n
 
@@ -48,7 +48,7 @@ pub record FirstLine (line others : List ℕ) : Type 0 where
   pub last : last_line (line ++ 10 ∷ others) ≡ last_line others
   pub more : has_break (line ++ 10 ∷ others) ≡ true
 
-pub first_line : (line others : List ℕ) → IsPlain line → FirstLine line others
+pub first_line : (line others : List ℕ) → IsUnbroken line → FirstLine line others
 first_line [] others h = record { ended = refl; last = refl; more = refl }
 first_line (c ∷ cs) others h =
     let p = parts_plain c cs h in
@@ -56,7 +56,7 @@ first_line (c ∷ cs) others h =
     record { ended = rw (p.0, r.ended) refl; last = rw (p.0, r.more, r.last) refl; more = rw (p.0, r.more) refl }
 
 -- the only line of a text without breaks
-pub only_line : (text : List ℕ) → IsPlain text → (ended_lines text ≡ []) × (last_line text ≡ text)
+pub only_line : (text : List ℕ) → IsUnbroken text → (ended_lines text ≡ []) × (last_line text ≡ text)
 only_line [] h = (refl, refl)
 only_line (c ∷ cs) h =
     let p = parts_plain c cs h in
@@ -107,9 +107,9 @@ not_feed : (cs taken rest : List ℕ) → (slice_index cs 0 == 10) ≡ false →
 not_feed cs [] rest h e = refl
 not_feed cs (t ∷ ts) rest h e = ap (λ (x : List ℕ). slice_index x 0 == 10) (sym e) ∙ h
 
-pub normal_break : (c : ℕ) (cs taken rest : List ℕ) → is_cr_lf c cs ≡ false → is_break c ≡ true → cs ≡ taken ++ rest
+pub normalized_break : (c : ℕ) (cs taken rest : List ℕ) → is_cr_lf c cs ≡ false → is_break c ≡ true → cs ≡ taken ++ rest
     → normalized (c ∷ taken) ≡ 10 ∷ normalized taken
-normal_break c cs taken rest half h e =
+normalized_break c cs taken rest half h e =
     break_cases c h (λ x. is_cr_lf x cs ≡ false → normalized (x ∷ taken) ≡ 10 ∷ normalized taken)
     (λ _. refl)
     (λ k. rw (not_feed cs taken rest k e) refl)
@@ -153,12 +153,12 @@ lines_spaces i j within =
     let only = only_line (spaces j) (plain_spaces j) in
     record { ended = rw only.0 tt; last = rw only.1 (inl (empty_spaces i j within)) }
 
-pub lines_cut : (i : ℕ) (content : List ℕ) → IsPlain content → HasLines i (spaces i ++ content)
+pub lines_cut : (i : ℕ) (content : List ℕ) → IsUnbroken content → HasLines i (spaces i ++ content)
 lines_cut i content plain =
     let only = only_line (spaces i ++ content) (plain_both (spaces i) content (plain_spaces i) plain) in
     record { ended = rw only.0 tt; last = rw only.1 (inr (content, refl)) }
 
-pub lines_broken : (i : ℕ) (content others : List ℕ) → IsPlain content → HasLines i others
+pub lines_broken : (i : ℕ) (content others : List ℕ) → IsUnbroken content → HasLines i others
     → HasLines i (spaces i ++ (content ++ 10 ∷ others))
 lines_broken i content others plain h =
     let f = first_line (spaces i ++ content) others (plain_both (spaces i) content (plain_spaces i) plain) in

@@ -15,7 +15,7 @@ use Rattle.saphyr_scalar.specs.declared.scalar.fault.Refusal.{Refusal}
 use Rattle.saphyr_scalar.specs.declared.scalar.block.lines.EmptyLines.{EmptyLines}
 use Rattle.saphyr_scalar.specs.declared.scalar.block.breaks.BlockEnd.{BlockEnd}
 use Rattle.saphyr_scalar.specs.Views.Cursor.{Cursor, along, next_line, pass_break, pass_comment}
-use Rattle.saphyr_scalar.specs.Steps.Block.{there, is_indentation, is_cr_lf, inside_break, one_more, pass_empty_lines, pass_empty_lines_at, line_starts, break_before, LinesRead, lines_behind_text, lines_ended, between, line, between_at, line_at, with_line, with_lines, tail, is_unfinished, chomped_lines}
+use Rattle.saphyr_scalar.specs.Steps.Block.{line_cursor, is_indentation, is_cr_lf, inside_break, with_empty_line, pass_empty_lines, pass_empty_lines_at, line_starts, break_before, LinesRead, lines_behind_text, lines_ended, between, line, between_at, line_at, with_line, with_lines, tail, is_unfinished, chomped_lines}
 use Rattle.saphyr_scalar.proofs.Moving.{along_none, along_more}
 use Rattle.saphyr_scalar.proofs.Quoted.Inside.{break_cases}
 use Rattle.saphyr_scalar.proofs.Block.Lines.{no_break, behind_cr}
@@ -66,7 +66,7 @@ between_skips st i ab lines b m (c ∷ cs) =
     (λ h. b_half st i ab lines.count b m c cs h0 h ∙ between_skips st i ab lines b (inside_break m) cs)
     (λ h1. by_test (is_break c) _ _ (Skips st i ab lines.count b m (c ∷ cs))
     (λ h. b_break st i ab lines.count b m c cs h0 h1 h
-    ∙ between_skips st i ab (one_more lines m.col) true (next_line m 1) cs)
+    ∙ between_skips st i ab (with_empty_line lines m.col) true (next_line m 1) cs)
     (λ _. refl)))
 
 -- behind the empty lines and the indentation
@@ -84,7 +84,7 @@ stopped limit lines b m (c ∷ cs) =
     (λ h0. by_test (is_cr_lf c cs) _ _ (Stopped limit)
     (λ h. stopped limit lines b (inside_break m) cs)
     (λ h1. by_test (is_break c) _ _ (Stopped limit)
-    (λ h. stopped limit (one_more lines m.col) true (next_line m 1) cs)
+    (λ h. stopped limit (with_empty_line lines m.col) true (next_line m 1) cs)
     (λ h2. (h0, h2))))
 
 -- nothing is put before what is taken off
@@ -101,7 +101,7 @@ shorter limit lines b m (c ∷ cs) =
     (λ h0. by_test (is_cr_lf c cs) _ _ (Shorter (c ∷ cs))
     (λ h. omega (arith, shorter limit lines b (inside_break m) cs))
     (λ h1. by_test (is_break c) _ _ (Shorter (c ∷ cs))
-    (λ h. omega (arith, shorter limit (one_more lines m.col) true (next_line m 1) cs))
+    (λ h. omega (arith, shorter limit (with_empty_line lines m.col) true (next_line m 1) cs))
     (λ h2. omega arith)))
 
 -- what was left behind empty lines
@@ -127,7 +127,7 @@ skipped st i ab before after s t e =
 -- no content line begins
 pub no_line_at : (st : BlockStyle) (i : ℕ) (ab : Option Bool) (k : ℕ) (b : Bool) (m : Marker) (xs : List ℕ)
     → is_indentation (Some i) m.col (slice_index xs 0) ≡ false → is_break (slice_index xs 0) ≡ false
-    → line_starts i m.col xs ≡ false → between st i ab k b m xs ≡ lines_ended (is_some ab) k (there b m xs)
+    → line_starts i m.col xs ≡ false → between st i ab k b m xs ≡ lines_ended (is_some ab) k (line_cursor b m xs)
 unfolding between
 no_line_at st i ab k b m [] space clear h = refl
 no_line_at st i ab k b m (c ∷ cs) space clear h = rw (space, (no_break c clear).1, (no_break c clear).0, h) refl
@@ -184,20 +184,20 @@ line_begins st i ab k b m (c ∷ cs) h =
     ∙ ap (lines_behind_text (break_before st ab k (is_blank c))) (sym (line_on st i (is_blank c) b m c cs s.content))
 
 -- the rest of a line
-abbrev Runs : BlockStyle → ℕ → Bool → Bool → Marker → List ℕ → ℕ → Type 0
-Runs st i more b m xs n = line st i more b m xs
+abbrev RunsOnLine : BlockStyle → ℕ → Bool → Bool → Marker → List ℕ → ℕ → Type 0
+RunsOnLine st i more b m xs n = line st i more b m xs
     ≡ lines_behind_text (take n xs) (line st i more b (along m n) (drop n xs))
 
-no_run : (st : BlockStyle) (i : ℕ) (more b : Bool) (m : Marker) (xs : List ℕ) → Runs st i more b m xs 0
+no_run : (st : BlockStyle) (i : ℕ) (more b : Bool) (m : Marker) (xs : List ℕ) → RunsOnLine st i more b m xs 0
 no_run st i more b m xs = ap (λ x. lines_behind_text [] (line st i more b x xs)) (sym (along_none m))
 
 line_run : (st : BlockStyle) (i : ℕ) (more b : Bool) (m : Marker) (xs : List ℕ)
-    → Runs st i more b m xs (prefix_len is_yaml_non_break xs)
+    → RunsOnLine st i more b m xs (prefix_len is_yaml_non_break xs)
 line_run st i more b m [] = no_run st i more b m []
 line_run st i more b m (c ∷ cs) =
     let n = prefix_len is_yaml_non_break cs in
     let one : 1 + n ≡ suc n = omega arith in
-    by_test (is_yaml_non_break c) (1 + n) 0 (Runs st i more b m (c ∷ cs))
+    by_test (is_yaml_non_break c) (1 + n) 0 (RunsOnLine st i more b m (c ∷ cs))
     (λ h. rw one
     (line_on st i more b m c cs h ∙ ap (lines_behind_text (c ∷ [])) (line_run st i more b (along m 1) cs)
     ∙ text_twice (c ∷ []) (take n cs) _
@@ -210,35 +210,35 @@ abbrev Breaks : BlockStyle → ℕ → Bool → Bool → Marker → List ℕ →
 Breaks st i more b m xs t = line st i more b m xs ≡ between_at st i (Some more) 0 t
 
 line_lf : (st : BlockStyle) (i : ℕ) (more b : Bool) (m : Marker) (cs : List ℕ)
-    → Breaks st i more b m (10 ∷ cs) (there true (next_line m 1) cs)
+    → Breaks st i more b m (10 ∷ cs) (line_cursor true (next_line m 1) cs)
 unfolding line
 line_lf st i more b m cs = refl
 
 line_cr : (st : BlockStyle) (i : ℕ) (more b : Bool) (m : Marker) (cs : List ℕ) → (slice_index cs 0 == 10) ≡ false
-    → Breaks st i more b m (13 ∷ cs) (there true (next_line m 1) cs)
+    → Breaks st i more b m (13 ∷ cs) (line_cursor true (next_line m 1) cs)
 unfolding line
 line_cr st i more b m cs h = rw h refl
 
 line_cr_lf : (st : BlockStyle) (i : ℕ) (more b : Bool) (m : Marker) (ds : List ℕ)
-    → Breaks st i more b m (13 ∷ 10 ∷ ds) (there true (next_line m 2) ds)
+    → Breaks st i more b m (13 ∷ 10 ∷ ds) (line_cursor true (next_line m 2) ds)
 unfolding line
 line_cr_lf st i more b m ds = ap (λ x. between st i (Some more) 0 true x ds) (inside_same m)
 
 line_breaks : (st : BlockStyle) (i : ℕ) (more b : Bool) (m : Marker) (xs : List ℕ) → is_break (slice_index xs 0) ≡ true
-    → Breaks st i more b m xs (pass_break (there b m xs))
+    → Breaks st i more b m xs (pass_break (line_cursor b m xs))
 line_breaks st i more b m [] h = absurd (cc)
 line_breaks st i more b m (c ∷ cs) h =
-    break_cases c h (λ x. Breaks st i more b m (x ∷ cs) (pass_break (there b m (x ∷ cs))))
+    break_cases c h (λ x. Breaks st i more b m (x ∷ cs) (pass_break (line_cursor b m (x ∷ cs))))
     (line_lf st i more b m cs)
     (behind_cr m b cs (Breaks st i more b m (13 ∷ cs))
-    (λ ds e. subst (λ ys. Breaks st i more b m (13 ∷ ys) (there true (next_line m 2) ds)) (sym e)
+    (λ ds e. subst (λ ys. Breaks st i more b m (13 ∷ ys) (line_cursor true (next_line m 2) ds)) (sym e)
     (line_cr_lf st i more b m ds))
     (line_cr st i more b m cs))
 
 -- a line that no break ends
 line_cut : (st : BlockStyle) (i : ℕ) (more b : Bool) (m : Marker) (xs : List ℕ)
     → is_yaml_non_break (slice_index xs 0) ≡ false → is_break (slice_index xs 0) ≡ false
-    → line st i more b m xs ≡ lines_ended false 0 (there b m xs)
+    → line st i more b m xs ≡ lines_ended false 0 (line_cursor b m xs)
 unfolding line
 line_cut st i more b m [] h k = refl
 line_cut st i more b m (c ∷ cs) h k = rw (h, (no_break c k).1, (no_break c k).0) refl
@@ -301,7 +301,7 @@ turn st i ab before after text more grown s t here end below skip same h e pushe
       omega (arith, r.shorter, less),
     )
 
-break_shorter : (b : Bool) (m : Marker) (xs : List ℕ) → length (pass_break (there b m xs)).rest ≤ length xs
+break_shorter : (b : Bool) (m : Marker) (xs : List ℕ) → length (pass_break (line_cursor b m xs)).rest ≤ length xs
 break_shorter b m xs =
     by_test ((slice_index xs 0 == 13) && (slice_index xs 1 == 10)) _ _ (λ (s : Cursor). length s.rest ≤ length xs)
     (λ _. rw length-drop (omega arith))

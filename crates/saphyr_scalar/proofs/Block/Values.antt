@@ -17,10 +17,10 @@ use Rattle.saphyr_scalar.specs.Views.Cursor.{Cursor, along, next_line}
 use Rattle.scalar_values.specs.Block as reading
 use Rattle.scalar_values.specs.Block.{Line, Empty, is_more_indented, break_between, contents_behind, empty_at_end, is_at_end}
 use Rattle.saphyr_scalar.specs.Steps.BlockRead.{ending, HasLines, EndsLines}
-use Rattle.saphyr_scalar.specs.Steps.Block.{there, is_indentation, is_cr_lf, inside_break, line_starts, break_before, LinesRead, lines_behind_text, lines_ended, between, line, tail, is_unfinished}
+use Rattle.saphyr_scalar.specs.Steps.Block.{line_cursor, is_indentation, is_cr_lf, inside_break, line_starts, break_before, LinesRead, lines_behind_text, lines_ended, between, line, tail, is_unfinished}
 use Rattle.saphyr_scalar.proofs.Block.Lines.{no_break}
 use Rattle.saphyr_scalar.proofs.Block.Turns.{Starts, starts, no_start}
-use Rattle.saphyr_scalar.proofs.Block.Texts.{spaces, spaces_more, IsPlain, plain_first, plain_both, plain_spaces, first_line, only_line, empty_spaces, line_spaces, full_content, line_content, content_of, normal_half, normal_break, is_counted_behind, value_behind, value_empty, lines_break, lines_spaces, lines_cut, lines_broken}
+use Rattle.saphyr_scalar.proofs.Block.Texts.{spaces, spaces_more, IsUnbroken, plain_first, plain_both, plain_spaces, first_line, only_line, empty_spaces, line_spaces, full_content, line_content, content_of, normal_half, normalized_break, is_counted_behind, value_behind, value_empty, lines_break, lines_spaces, lines_cut, lines_broken}
 use Rattle.std.proofs.lemmas.Bool.{and_parts}
 use Rattle.std.proofs.Math.Bool.{and-true}
 use Rattle.saphyr_input.proofs.Basics.Booleans.{and_false, by_test}
@@ -92,15 +92,15 @@ pub record LineRead (st : BlockStyle) (c : Chomping) (i : ℕ) (more : Bool) (xs
   pub split : xs ≡ taken ++ r.2.rest
   pub ends : EndsLines i r.2
   pub content : List ℕ
-  pub plain : IsPlain content
+  pub plain : IsUnbroken content
   pub value : CutLine c i content (normalized taken) r ⊎ BrokenLine st c i more content (normalized taken) r
 
 -- the lines end here, in spaces
 stop_spaces : (st : BlockStyle) (c : Chomping) (i : ℕ) (more : Bool) (k : ℕ) (b : Bool) (m : Marker) (xs : List ℕ)
-    → m.col ≤ i → EndsLines i (there b m xs)
-    → BetweenRead st c i more k m.col xs (lines_ended true k (there b m xs))
+    → m.col ≤ i → EndsLines i (line_cursor b m xs)
+    → BetweenRead st c i more k m.col xs (lines_ended true k (line_cursor b m xs))
 stop_spaces st c i more k b m xs within ends =
-    let s = there b m xs in
+    let s = line_cursor b m xs in
     let only = only_line (spaces m.col) (plain_spaces m.col) in
     let text : spaces m.col ++ [] ≡ spaces m.col = append-nil (spaces m.col) in
     record {
@@ -128,9 +128,9 @@ unfinished_content i s h =
 -- the lines end here, in content
 stop_content : (st : BlockStyle) (c : Chomping) (i : ℕ) (more b : Bool) (m : Marker) (xs : List ℕ) → i < m.col
     → is_yaml_non_break (slice_index xs 0) ≡ false → is_break (slice_index xs 0) ≡ false
-    → LineRead st c i more xs (lines_ended false 0 (there b m xs))
+    → LineRead st c i more xs (lines_ended false 0 (line_cursor b m xs))
 stop_content st c i more b m xs within cut clear =
-    let s = there b m xs in
+    let s = line_cursor b m xs in
     record {
       taken = [];
       split = refl;
@@ -203,12 +203,12 @@ break_more st c i more k j x cs r within half e b = record {
   taken = x ∷ b.taken;
   split = ap (λ ys. x ∷ ys) b.split;
   ends = b.ends;
-  lines = subst (λ text. HasLines i (spaces j ++ text)) (sym (normal_break x cs b.taken r.2.rest half e b.split))
+  lines = subst (λ text. HasLines i (spaces j ++ text)) (sym (normalized_break x cs b.taken r.2.rest half e b.split))
       (lines_break i j (normalized b.taken) within b.lines);
   value = λ above h.
       b.value above h ∙ sym (value_empty st c i above k j (normalized b.taken) (ending r.2) within)
       ∙ ap (λ text. value_behind st c i above k (spaces j ++ text) (ending r.2))
-      (sym (normal_break x cs b.taken r.2.rest half e b.split));
+      (sym (normalized_break x cs b.taken r.2.rest half e b.split));
 }
 
 -- the break of a content line
@@ -220,7 +220,7 @@ break_line st c i more x cs r half e b = record {
   ends = b.ends;
   content = [];
   plain = refl;
-  value = inr (normalized b.taken, normal_break x cs b.taken r.2.rest half e b.split, b.lines, b.value);
+  value = inr (normalized b.taken, normalized_break x cs b.taken r.2.rest half e b.split, b.lines, b.value);
 }
 
 -- a character that is content
@@ -249,7 +249,7 @@ same_break Literal above below a b k e f = refl
 same_break Folded above below a b k e f = rw (e, f) refl
 
 value_cut : (st : BlockStyle) (c : Chomping) (i : ℕ) (above : List ℕ) (k : ℕ) (content : List ℕ) (e : Ending)
-    → IsPlain content → 0 < length content
+    → IsUnbroken content → 0 < length content
     → value_behind st c i above k (spaces i ++ content) e
     ≡ break_between st above k content ++ (content ++ reading.chomped c (is_at_end e) 0)
 value_cut st c i above k content e plain some =
@@ -257,7 +257,7 @@ value_cut st c i above k content e plain some =
     rw (only.0, only.1, full_content i content some, content_of i content, append-nil content, append_assoc) refl
 
 value_broken : (st : BlockStyle) (c : Chomping) (i : ℕ) (above : List ℕ) (k : ℕ) (content others : List ℕ) (e : Ending)
-    → IsPlain content → 0 < length content
+    → IsUnbroken content → 0 < length content
     → value_behind st c i above k (spaces i ++ (content ++ 10 ∷ others)) e
     ≡ break_between st above k content ++ (content ++ value_behind st c i content 0 others e)
 value_broken st c i above k content others e plain some =
@@ -267,10 +267,10 @@ value_broken st c i above k content others e plain some =
     ap (λ text. value_behind st c i above k text e) (sym whole)
     ∙ rw (f.ended, f.last, line_content i content some, append_assoc, append_assoc) refl
 
-begin_line : (st : BlockStyle) (c : Chomping) (i : ℕ) (more : Bool) (k x : ℕ) (cs : List ℕ) (r : LinesRead)
+content_line_read : (st : BlockStyle) (c : Chomping) (i : ℕ) (more : Bool) (k x : ℕ) (cs : List ℕ) (r : LinesRead)
     → is_yaml_non_break x ≡ true → LineRead st c i (is_blank x) cs r
     → BetweenRead st c i more k i (x ∷ cs) (lines_behind_text (break_before st (Some more) k (is_blank x) ++ x ∷ []) r)
-begin_line st c i more k x cs r e l =
+content_line_read st c i more k x cs r e l =
     let clear = no_break x (non_break_no_break x e) in
     let here = x ∷ l.content in
     let breaks = break_before st (Some more) k (is_blank x) in
@@ -318,7 +318,7 @@ begun_line : (st : BlockStyle) (c : Chomping) (i : ℕ) (more : Bool) (k col x :
 begun_line st c i more k col x cs r s l =
     let P : ℕ → Type 0 = λ j. BetweenRead st c i more k j (x ∷ cs)
     (lines_behind_text (break_before st (Some more) k (is_blank x) ++ x ∷ []) r) in
-    subst P (sym s.column) (begin_line st c i more k x cs r s.content l)
+    subst P (sym s.column) (content_line_read st c i more k x cs r s.content l)
 
 no_space_at : (i col : ℕ) → is_indentation (Some i) col 0 ≡ false
 no_space_at i col = refl

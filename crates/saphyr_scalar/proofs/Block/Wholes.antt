@@ -18,9 +18,9 @@ use Rattle.scalar_values.specs.Block as reading
 use Rattle.scalar_values.specs.Block.{Line, Empty, Content, line_of, lines_of, contents, contents_behind, has_content, empty_at_end, is_at_end, is_counted, is_broken, lines_value, block_value}
 use Rattle.scalar_values.specs.Lines.{last_line}
 use Rattle.saphyr_scalar.specs.Steps.BlockRead.{ending, HasLines, EndsLines}
-use Rattle.saphyr_scalar.specs.Steps.Block.{there, is_indentation, line_starts, LinesRead, lines_behind_text, lines_ended, between, line, tail, tail_alone, is_unfinished}
+use Rattle.saphyr_scalar.specs.Steps.Block.{line_cursor, is_indentation, line_starts, LinesRead, lines_behind_text, lines_ended, between, line, tail, tail_alone, is_unfinished}
 use Rattle.saphyr_scalar.proofs.Block.Turns.{starts, line_begins, line_on, no_line_at}
-use Rattle.saphyr_scalar.proofs.Block.Texts.{spaces, IsPlain, plain_first, plain_both, plain_spaces, first_line, only_line, empty_spaces, full_content, line_content, content_of, is_counted_behind, value_behind, lines_spaces, lines_cut, lines_broken}
+use Rattle.saphyr_scalar.proofs.Block.Texts.{spaces, IsUnbroken, plain_first, plain_both, plain_spaces, first_line, only_line, empty_spaces, full_content, line_content, content_of, is_counted_behind, value_behind, lines_spaces, lines_cut, lines_broken}
 use Rattle.saphyr_scalar.proofs.Block.Lines.{no_break}
 use Rattle.saphyr_scalar.proofs.Block.Values.{LineRead, line_read, extra}
 use Rattle.saphyr_input.proofs.Basics.Booleans.{and_false}
@@ -137,9 +137,9 @@ whole_alone st c i k j s within e f =
           (not (nat_eq j 0) && nat_eq k 0),
     ) (alone_value c k j s e f)
 
-pub value_of : (st : BlockStyle) (c : Chomping) (i : ℕ) (text last : List ℕ) (lines : List Line) (e : Ending)
+pub block_value_of : (st : BlockStyle) (c : Chomping) (i : ℕ) (text last : List ℕ) (lines : List Line) (e : Ending)
     → lines_of i text ≡ lines → last_line text ≡ last → block_value st c i text e ≡ whole st c i lines last e
-value_of st c i text last lines e p q =
+block_value_of st c i text last lines e p q =
     ap (λ ls. whole st c i ls (last_line text) e) p ∙ ap (λ l. whole st c i lines l e) q
 
 -- what was read of the lines from the first content line on, where k empty lines and j spaces stand before xs
@@ -152,13 +152,13 @@ pub record FirstRead (st : BlockStyle) (c : Chomping) (i k j : ℕ) (xs : List �
       → last_line text ≡ last_line (spaces j ++ normalized taken)
       → r.0 ++ tail c (is_unfinished i r.2) r.1 ≡ block_value st c i text (ending r.2)
 
-cut_lines : (i : ℕ) (x : List ℕ) → IsPlain x
+cut_lines : (i : ℕ) (x : List ℕ) → IsUnbroken x
     → (lines_of i (spaces i ++ x) ≡ []) × (last_line (spaces i ++ x) ≡ spaces i ++ x)
 cut_lines i x plain =
     let only = only_line (spaces i ++ x) (plain_both (spaces i) x (plain_spaces i) plain) in
     (ap (map (line_of i)) only.0, only.1)
 
-broken_lines : (i : ℕ) (x others : List ℕ) → IsPlain x → 0 < length x
+broken_lines : (i : ℕ) (x others : List ℕ) → IsUnbroken x → 0 < length x
     → (lines_of i (spaces i ++ (x ++ 10 ∷ others)) ≡ Content x ∷ lines_of i others)
     × (last_line (spaces i ++ (x ++ 10 ∷ others)) ≡ last_line others)
 broken_lines i x others plain some =
@@ -199,7 +199,7 @@ begin_first st c i k x cs r e l =
                 let told : normalized (x ∷ l.taken) ≡ here = same ∙ ap (λ ys. x ∷ ys) w.0 in
                 let cut = cut_lines i here plain in
                 ap (λ ys. line_feeds k ++ (x ∷ ys)) w.1 ∙ sym (whole_cut st c i k here (ending r.2) some)
-                ∙ sym (value_of st c i text (spaces i ++ here) (empties k) (ending r.2)
+                ∙ sym (block_value_of st c i text (spaces i ++ here) (empties k) (ending r.2)
                 (lines ∙ ap (λ ys. empties k ++ lines_of i (spaces i ++ ys)) told ∙ ap (λ ls. empties k ++ ls) cut.0
                 ∙ append-nil (empties k))
                 (last ∙ ap (λ ys. last_line (spaces i ++ ys)) told ∙ cut.1))
@@ -207,18 +207,19 @@ begin_first st c i k x cs r e l =
                 let told : normalized (x ∷ l.taken) ≡ here ++ 10 ∷ w.0 = same ∙ ap (λ ys. x ∷ ys) w.1 in
                 let broken = broken_lines i here w.0 plain some in
                 ap (λ ys. line_feeds k ++ (x ∷ ys)) (w.3 here refl) ∙ sym (whole_broken st c i k here w.0 (ending r.2))
-                ∙ sym (value_of st c i text (last_line w.0) (empties k ++ (Content here ∷ lines_of i w.0)) (ending r.2)
+                ∙ sym (block_value_of st c i text (last_line w.0) (empties k ++ (Content here ∷ lines_of i w.0))
+                (ending r.2)
                 (lines ∙ ap (λ ys. empties k ++ lines_of i (spaces i ++ ys)) told ∙ ap (λ ls. empties k ++ ls) broken.0)
                 (last ∙ ap (λ ys. last_line (spaces i ++ ys)) told ∙ broken.1))
           ]);
     }
 
-no_content : (st : BlockStyle) (c : Chomping) (i k : ℕ) (b : Bool) (m : Marker) (xs : List ℕ) → m.col ≤ i
-    → EndsLines i (there b m xs) → is_z (slice_index xs 0) ≡ false
-    → FirstRead st c i k m.col xs (lines_ended false k (there b m xs))
+first_without_content : (st : BlockStyle) (c : Chomping) (i k : ℕ) (b : Bool) (m : Marker) (xs : List ℕ) → m.col ≤ i
+    → EndsLines i (line_cursor b m xs) → is_z (slice_index xs 0) ≡ false
+    → FirstRead st c i k m.col xs (lines_ended false k (line_cursor b m xs))
 unfolding is_unfinished
-no_content st c i k b m xs within ends some =
-    let s = there b m xs in
+first_without_content st c i k b m xs within ends some =
+    let s = line_cursor b m xs in
     let cut = only_line (spaces m.col) (plain_spaces m.col) in
     let nothing : spaces m.col ++ [] ≡ spaces m.col = append-nil (spaces m.col) in
     let mark : ending s ≡ AtMark = rw some refl in
@@ -230,7 +231,7 @@ no_content st c i k b m xs within ends some =
       value = λ text lines last.
           rw some (sym (whole_empty st c i k m.col within))
           ∙ ap (whole st c i (empties k) (spaces m.col)) (sym mark)
-          ∙ sym (value_of st c i text (spaces m.col) (empties k) (ending s)
+          ∙ sym (block_value_of st c i text (spaces m.col) (empties k) (ending s)
           (lines ∙ ap (λ ys. empties k ++ lines_of i ys) nothing ∙ ap (λ ls. empties k ++ map (line_of i) ls) cut.0
           ∙ append-nil (empties k))
           (last ∙ ap last_line nothing ∙ cut.1));
@@ -262,4 +263,5 @@ first_read st c i k b m (x ∷ cs) within space clear some =
     (sym s.column)
     (begin_first st c i k x cs _ s.content (line_read st c i (is_blank x) b (along m 1) cs right))))
     (λ h. subst (λ r. FirstRead st c i k m.col (x ∷ cs) r) (sym (no_line_at st i None k b m (x ∷ cs) space clear h))
-    (no_content st c i k b m (x ∷ cs) within (record { no_space = space; no_break = clear; no_content = h }) some))
+    (first_without_content st c i k b m (x ∷ cs) within
+    (record { no_space = space; no_break = clear; no_content = h }) some))

@@ -10,7 +10,7 @@ use Rattle.saphyr_scalar.specs.declared.scalar.position.Marker.{Marker}
 use Rattle.saphyr_scalar.specs.declared.scalar.block.header.BlockHeader.{BlockHeader}
 use Rattle.saphyr_scalar.specs.declared.scalar.block.lines.EmptyLines.{EmptyLines}
 use Rattle.saphyr_scalar.specs.Views.Cursor.{Cursor, along, next_line, pass_break}
-use Rattle.saphyr_scalar.specs.Steps.Block.{chomping, indicator, header_break, header_end, last_chomping, header_behind, header, is_indentation, inside_break, one_more, pass_empty_lines, line_starts, break_before, LinesRead, lines_behind_text, between, line, is_unfinished, tail_alone, given_indentation, chomped_lines, content, behind_leading_lines, no_lines, behind_header, block_scalar}
+use Rattle.saphyr_scalar.specs.Steps.Block.{chomping, indicator, header_break, header_end, last_chomping, header_behind, header, is_indentation, inside_break, with_empty_line, pass_empty_lines, line_starts, break_before, LinesRead, lines_behind_text, between, line, is_unfinished, tail_alone, given_indentation, chomped_lines, content, behind_leading_lines, no_lines, behind_header, block_scalar}
 use Rattle.saphyr_scalar.specs.Alike.{AreMarksAlike, AreAlike, GiveAlike, AreSame, AreBlocksAlike}
 use Rattle.saphyr_scalar.proofs.Breaks.Sides.{Normal, nothing, character, feed, return, pair, no_feed, first_in, first_same, Places, over_pair, moved_along, moved_down, marks_alike, alike, normal_of, places_of}
 use Rattle.saphyr_scalar.proofs.Breaks.Results.{both_by, both_then}
@@ -98,15 +98,17 @@ empty_alike text limit l k a b m n same e (character c h x) p =
     (λ _ _. rw (no_return c h, no_feed c h) (rw (same, p.col) refl, alike a b e (character c h x) p))
 empty_alike text limit l k a b m n same e (feed x) p =
     rw (no_indentation limit m.col 10 refl, no_indentation limit n.col 10 refl)
-    (empty_alike text limit (one_more l m.col) (one_more k n.col) true true (next_line m 1) (next_line n 1)
+    (empty_alike text limit (with_empty_line l m.col) (with_empty_line k n.col) true true (next_line m 1)
+    (next_line n 1)
     (rw (same, p.col) refl) refl x (moved_down 1 1 p))
 empty_alike text limit l k a b m n same e (return h x) p =
     rw (no_indentation limit m.col 13 refl, no_indentation limit n.col 10 refl, h)
-    (empty_alike text limit (one_more l m.col) (one_more k n.col) true true (next_line m 1) (next_line n 1)
+    (empty_alike text limit (with_empty_line l m.col) (with_empty_line k n.col) true true (next_line m 1)
+    (next_line n 1)
     (rw (same, p.col) refl) refl x (moved_down 1 1 p))
 empty_alike text limit l k a b m n same e (pair x) p =
     rw (no_indentation limit m.col 13 refl, no_indentation limit m.col 10 refl, no_indentation limit n.col 10 refl)
-    (empty_alike text limit (one_more l m.col) (one_more k n.col) true true (next_line (inside_break m) 1)
+    (empty_alike text limit (with_empty_line l m.col) (with_empty_line k n.col) true true (next_line (inside_break m) 1)
     (next_line n 1) (rw (same, p.col) refl) refl x (over_pair m n (inside_break m) refl refl p))
 
 -- ## Content

@@ -7,11 +7,11 @@ use Rattle.saphyr_input.specs.declared.input.SkipTabs.TheVariants as skip
 use Rattle.saphyr_scalar.specs.declared.scalar.position.Marker.{Marker}
 use Rattle.saphyr_scalar.specs.declared.scalar.tag.UriSet.TheVariants.{Uri}
 use Rattle.saphyr_scalar.specs.Views.Cursor.{Cursor, along, pass}
-use Rattle.saphyr_scalar.specs.Steps.Quoted.{at}
+use Rattle.saphyr_scalar.specs.Steps.Quoted.{mid_line}
 use Rattle.saphyr_scalar.specs.Steps.Tag.{handle_of}
 use Rattle.saphyr_scalar.specs.Steps.Directive.{reserved, pass_all_blanks, directive_name_of, name, number_end, number_from, number, behind_major, version_directive, handle_behind_word, handle, prefix, behind_prefix, tag_directive, value, line_end, directive}
 use Rattle.saphyr_scalar.specs.Alike.{AreAlike, GiveAlike, AreSame, AreDirectivesAlike}
-use Rattle.saphyr_scalar.proofs.Breaks.Sides.{Normal, nothing, character, feed, return, pair, run, Places, moved_along, marks_alike, alike, normal_of, places_of}
+use Rattle.saphyr_scalar.proofs.Breaks.Sides.{Normal, nothing, character, feed, return, pair, run_same, Places, moved_along, marks_alike, alike, normal_of, places_of}
 use Rattle.saphyr_scalar.proofs.Breaks.Results.{both_by, both_then}
 use Rattle.saphyr_scalar.proofs.Breaks.Separations.{by_first, part_of, passed_blanks, break_alike, comment_alike, separation_alike}
 use Rattle.saphyr_scalar.proofs.Breaks.Names.{NoBreak, no_break_in, one_passed, run_alike, character_alike, front_alike, decoded_alike}
@@ -20,7 +20,7 @@ blanks_alike : {text : List ℕ} {s t : Cursor} → AreAlike text s t
     → AreAlike text (pass_all_blanks s) (pass_all_blanks t)
 blanks_alike {s = s} {t = t} e =
     passed_blanks (prefix_len is_blank s.rest) (prefix_len is_blank t.rest)
-    (part_of (run is_blank refl refl (normal_of e))) e
+    (part_of (run_same is_blank refl refl (normal_of e))) e
 
 name_of_alike : (text : List ℕ) (m n : Marker) (x y : List ℕ × Cursor) → AreSame text x y
     → GiveAlike (AreSame text) (directive_name_of m x) (directive_name_of n y)
@@ -48,13 +48,14 @@ number_by : (text : List ℕ) (a b : Marker) (k v : ℕ) (m n : Marker) {r q : L
     → GiveAlike (AreSame text) (number_from a k v m r) (number_from b k v n q)
 unfolding number_from
 number_by text a b k v m n nothing p =
-    number_end_alike text a b k v (at m []) (at n []) (alike false false refl nothing p)
+    number_end_alike text a b k v (mid_line m []) (mid_line n []) (alike false false refl nothing p)
 number_by text a b k v m n (character c h x) p =
     both_by (is_digit c) (is_digit c) _ _ _ _ (GiveAlike (AreSame text)) refl
     (λ _ _. both_by (nat_lt k 9) (nat_lt k 9) _ _ _ _ (GiveAlike (AreSame text)) refl
     (λ _ _. number_by text a b (suc k) (v * 10 + (c - 48)) (along m 1) (along n 1) x (moved_along 1 1 refl p))
     (λ _ _. refl))
-    (λ _ _. number_end_alike text a b k v (at m (c ∷ _)) (at n (c ∷ _)) (alike false false refl (character c h x) p))
+    (λ _ _. number_end_alike text a b k v (mid_line m (c ∷ _)) (mid_line n (c ∷ _))
+    (alike false false refl (character c h x) p))
 number_by text a b k v m n (feed x) p = number_end_alike text a b k v _ _ (alike false false refl (feed x) p)
 number_by text a b k v m n (return h x) p = number_end_alike text a b k v _ _ (alike false false refl (return h x) p)
 number_by text a b k v m n (pair x) p = number_end_alike text a b k v _ _ (alike false false refl (pair x) p)

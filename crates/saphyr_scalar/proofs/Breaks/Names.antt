@@ -8,15 +8,15 @@ use Rattle.saphyr_scalar.specs.declared.scalar.fault.Refusal.{Refusal}
 use Rattle.saphyr_scalar.specs.declared.scalar.tag.UriSet.{UriSet}
 use Rattle.saphyr_scalar.specs.declared.scalar.tag.UriSet.TheVariants.{Uri, Suffix}
 use Rattle.saphyr_scalar.specs.Views.Cursor.{Cursor, pass}
-use Rattle.saphyr_scalar.specs.Steps.Quoted.{at, with_run, with_front}
+use Rattle.saphyr_scalar.specs.Steps.Quoted.{mid_line, with_run, with_front}
 use Rattle.saphyr_scalar.specs.Steps.Anchor.{anchor, anchor_name_of}
-use Rattle.saphyr_scalar.specs.Steps.Tag.{has, byte_value, shows_byte, escaped_byte, utf8_width, leading_bits, is_trailing, trailing_byte, trailing_bytes, is_encoded, encoded, behind_leading_byte, percent_escape, uri_character, decoded_at, verbatim_end, verbatim, handle_of, named_tag, named_tail, primary_tag, behind_word, shorthand, tag_end, tag}
+use Rattle.saphyr_scalar.specs.Steps.Tag.{is_in_set, byte_value, shows_byte, escaped_byte, utf8_width, leading_bits, is_trailing, trailing_byte, trailing_bytes, is_encoded, encoded_character, behind_leading_byte, percent_escape, uri_character, decoded_at, verbatim_end, verbatim_tag, handle_of, named_tag, named_tail, primary_tag, tag_behind_word, shorthand_tag, tag_end, tag}
 use Rattle.saphyr_scalar.specs.Alike.{AreAlike, GiveAlike, AreSame, AreTagsAlike}
 use Rattle.saphyr_scalar.proofs.NoBreaks.{class_no_break}
-use Rattle.saphyr_scalar.proofs.Properties.PercentEscapes.{one_more, ends_at, character_shorter, has_left}
-use Rattle.saphyr_scalar.proofs.Breaks.Sides.{Normal, first_in, first_same, past_first, behind_first, second_in, run, alike, normal_of, places_of}
+use Rattle.saphyr_scalar.proofs.Properties.PercentEscapes.{decoded_one_more, ends_at, character_shorter, has_left}
+use Rattle.saphyr_scalar.proofs.Breaks.Sides.{Normal, first_in, first_same, past_first, behind_first, second_in, run_same, alike, normal_of, places_of}
 use Rattle.saphyr_scalar.proofs.Breaks.Results.{both_by, both_then, both_are, by_ends}
-use Rattle.saphyr_scalar.proofs.Breaks.Separations.{by_first, Part, first_part, both_parts, part_of, passed}
+use Rattle.saphyr_scalar.proofs.Breaks.Separations.{by_first, PartsAlike, first_part, both_parts, part_of, passed_alike}
 use Rattle.saphyr_input.proofs.Basics.Booleans.{and_true_left, and_true_right}
 use Rattle.saphyr_input.proofs.Basics.Lists.{second_is, third_is}
 
@@ -30,15 +30,18 @@ no_break_in p a b r h = class_no_break p a b (slice_index r 0) h
 
 pub one_passed : {text : List ℕ} {s t : Cursor} → NoBreak s.rest → AreAlike text s t
     → AreAlike text (pass 1 s) (pass 1 t)
-one_passed h e = passed 1 1 (first_part h (normal_of e)) e
+one_passed h e = passed_alike 1 1 (first_part h (normal_of e)) e
 
 -- ## Anchors
 
 pub run_alike : (p : ℕ → Bool) → p 10 ≡ false → p 13 ≡ false → (front : List ℕ) {text : List ℕ} {s t : Cursor}
     → AreAlike text s t → AreSame text (with_run p front s) (with_run p front t)
 run_alike p a b front {s = s} {t = t} e =
-    let x = run p b a (normal_of e) in
-    (ap (λ r. front ++ encode_utf8_all r) x.text, passed (prefix_len p s.rest) (prefix_len p t.rest) (part_of x) e)
+    let x = run_same p b a (normal_of e) in (
+      ap (λ r. front ++ encode_utf8_all r) x.text,
+      passed_alike (prefix_len p s.rest) (prefix_len p t.rest)
+          (part_of x) e,
+    )
 
 name_alike : (text : List ℕ) (m n : Marker) (x y : List ℕ × Cursor) → AreSame text x y
     → GiveAlike (AreSame text) (anchor_name_of m x) (anchor_name_of n y)
@@ -79,7 +82,7 @@ shows_alike {r = r} {q = q} n =
     shows_is r ∙ behind_first (λ c. c == 37) refl refl two_hex two_hex_alike n ∙ sym (shows_is q)
 
 -- the number that three characters show
-byte_part : {r q : List ℕ} → Normal r q → shows_byte r ≡ true → (byte_value r ≡ byte_value q) × Part 3 3 r q
+byte_part : {r q : List ℕ} → Normal r q → shows_byte r ≡ true → (byte_value r ≡ byte_value q) × PartsAlike 3 3 r q
 byte_part {r = r} {q = q} n shows =
     let is = sym (shows_is r) ∙ shows in
     let first = no_break_in (λ c. c == 37) refl refl r (and_true_left _ _ is) in
@@ -100,7 +103,7 @@ byte_alike : (text : List ℕ) (m n : Marker) (s t : Cursor) → AreAlike text s
 unfolding escaped_byte
 byte_alike text m n s t e =
     both_by (shows_byte s.rest) (shows_byte t.rest) _ _ _ _ (GiveAlike (AreSame text)) (shows_alike (normal_of e))
-    (λ h _. let x = byte_part (normal_of e) h in (x.0, passed 3 3 x.1 e)) (λ _ _. refl)
+    (λ h _. let x = byte_part (normal_of e) h in (x.0, passed_alike 3 3 x.1 e)) (λ _ _. refl)
 
 trailing_alike : (text : List ℕ) (m n : Marker) (v w : ℕ) (s t : Cursor) → v ≡ w → AreAlike text s t
     → GiveAlike (AreSame text) (trailing_byte m v s) (trailing_byte n w t)
@@ -120,8 +123,8 @@ bytes_alike text m n (suc k) v w s t same e =
     (λ x y _ _ is. bytes_alike text m n k x.0 y.0 x.1 y.1 is.0 is.1)
 
 encoded_alike : (text : List ℕ) (m n : Marker) (k v w : ℕ) (s t : Cursor) → v ≡ w → AreAlike text s t
-    → GiveAlike (AreSame text) (encoded m k v s) (encoded n k w t)
-unfolding encoded
+    → GiveAlike (AreSame text) (encoded_character m k v s) (encoded_character n k w t)
+unfolding encoded_character
 encoded_alike text m n k v w s t same e =
     both_by (is_encoded k v) (is_encoded k w) _ _ _ _ (GiveAlike (AreSame text)) (ap (is_encoded k) same)
     (λ _ _. (same, e)) (λ _ _. refl)
@@ -154,11 +157,12 @@ character_alike text m n s t h e =
 
 -- ## Runs of characters and escapes
 
-has_no_break : (set : UriSet) (r : List ℕ) → has set (slice_index r 0) ≡ true → NoBreak r
+has_no_break : (set : UriSet) (r : List ℕ) → is_in_set set (slice_index r 0) ≡ true → NoBreak r
 has_no_break Uri r h = no_break_in is_uri_char refl refl r h
 has_no_break Suffix r h = no_break_in is_tag_char refl refl r h
 
-has_alike : (set : UriSet) {r q : List ℕ} → Normal r q → has set (slice_index r 0) ≡ has set (slice_index q 0)
+has_alike : (set : UriSet) {r q : List ℕ} → Normal r q
+    → is_in_set set (slice_index r 0) ≡ is_in_set set (slice_index q 0)
 has_alike Uri n = first_in is_uri_char refl n
 has_alike Suffix n = first_in is_tag_char refl n
 
@@ -172,16 +176,18 @@ SameRead text set m n s t = AreAlike text s t → GiveAlike (AreSame text) (deco
 
 decoded_by : (text : List ℕ) (set : UriSet) (m n : Marker) (s t : Cursor)
     → ((x y : Cursor) → length x.rest < length s.rest → SameRead text set m n x y)
-    → (b : Bool) → has set (slice_index s.rest 0) ≡ b → SameRead text set m n s t
+    → (b : Bool) → is_in_set set (slice_index s.rest 0) ≡ b → SameRead text set m n s t
 decoded_by text set m n s t others true h e =
-    let here : AreAlike text (at s.mark s.rest) (at t.mark t.rest) = alike false false refl (normal_of e) (places_of e)
+    let here : AreAlike text (mid_line s.mark s.rest) (mid_line t.mark t.rest) = alike false false refl (normal_of e)
+    (places_of e)
     in
-    both_are (AreSame text) _ _ _ _ (one_more set m s.mark s.rest h)
-    (one_more set n t.mark t.rest (sym (has_alike set (normal_of e)) ∙ h))
-    (both_then (AreSame text) (AreSame text) _ _ _ _ (character_alike text m n (at s.mark s.rest) (at t.mark t.rest)
+    both_are (AreSame text) _ _ _ _ (decoded_one_more set m s.mark s.rest h)
+    (decoded_one_more set n t.mark t.rest (sym (has_alike set (normal_of e)) ∙ h))
+    (both_then (AreSame text) (AreSame text) _ _ _ _
+    (character_alike text m n (mid_line s.mark s.rest) (mid_line t.mark t.rest)
     (has_no_break set s.rest h) here)
     (λ x y read _ is. front_alike text _ _ _ _ (ap encode_utf8 is.0)
-    (others x.1 y.1 (character_shorter m (at s.mark s.rest) x.1 x.0 (has_left set s.rest h) read) is.1)))
+    (others x.1 y.1 (character_shorter m (mid_line s.mark s.rest) x.1 x.0 (has_left set s.rest h) read) is.1)))
 decoded_by text set m n s t others false h e =
     both_are (AreSame text) _ _ _ _ (ends_at set m s.mark s.rest h)
     (ends_at set n t.mark t.rest (sym (has_alike set (normal_of e)) ∙ h))
@@ -189,7 +195,8 @@ decoded_by text set m n s t others false h e =
 
 pub decoded_alike : (text : List ℕ) (set : UriSet) (m n : Marker) (s t : Cursor) → SameRead text set m n s t
 decoded_alike text set m n =
-    by_ends (SameRead text set m n) (λ s t others. decoded_by text set m n s t others (has set (slice_index s.rest 0))
+    by_ends (SameRead text set m n)
+    (λ s t others. decoded_by text set m n s t others (is_in_set set (slice_index s.rest 0))
     refl)
 
 -- ## Tags
@@ -202,15 +209,15 @@ verbatim_end_alike text m n x y e =
     (λ h. (refl, e.0, one_passed (no_break_in (λ c. c == 62) refl refl x.1.rest h) e.1)) (λ _. refl)
 
 verbatim_alike : (text : List ℕ) (s t : Cursor) → NoBreak s.rest → (slice_index s.rest 1 == 60) ≡ true
-    → AreAlike text s t → GiveAlike (AreTagsAlike text) (verbatim s) (verbatim t)
-unfolding verbatim
+    → AreAlike text s t → GiveAlike (AreTagsAlike text) (verbatim_tag s) (verbatim_tag t)
+unfolding verbatim_tag
 verbatim_alike text s t h second e =
     let n = normal_of e in
     let next = no_break_in (λ c. c == 60) refl refl (drop 1 s.rest) (rw (second_is s.rest) second) in
-    let two : Part 2 2 s.rest t.rest = both_parts 1 1 1 1 s.rest t.rest (first_part h n)
+    let two : PartsAlike 2 2 s.rest t.rest = both_parts 1 1 1 1 s.rest t.rest (first_part h n)
     (first_part next (past_first h n)) in
     both_then (AreSame text) (AreTagsAlike text) _ _ _ _ (decoded_alike text Uri s.mark t.mark (pass 2 s) (pass 2 t)
-    (passed 2 2 two e))
+    (passed_alike 2 2 two e))
     (λ x y _ _ is. verbatim_end_alike text s.mark t.mark x y is)
 
 named_alike : (text : List ℕ) (m n : Marker) (v w : List ℕ) (x y : List ℕ × Cursor) → v ≡ w → AreSame text x y
@@ -235,8 +242,8 @@ primary_alike text x y e =
     (λ _ _. (refl, refl, e.1)) (λ _ _. (refl, e.0, e.1))
 
 tag_word_alike : (text : List ℕ) (m n : Marker) (x y : List ℕ × Cursor) → AreSame text x y
-    → GiveAlike (AreTagsAlike text) (behind_word m x) (behind_word n y)
-unfolding behind_word
+    → GiveAlike (AreTagsAlike text) (tag_behind_word m x) (tag_behind_word n y)
+unfolding tag_behind_word
 tag_word_alike text m n x y e =
     by_first (λ c. c == 33) refl e.1 (GiveAlike (AreTagsAlike text))
     (λ h. tail_alike text m n x.0 y.0 (pass 1 x.1) (pass 1 y.1) e.0
@@ -246,8 +253,8 @@ tag_word_alike text m n x y e =
     (λ u v _ _ is. primary_alike text u v is))
 
 shorthand_alike : (text : List ℕ) (s t : Cursor) → NoBreak s.rest → AreAlike text s t
-    → GiveAlike (AreTagsAlike text) (shorthand s) (shorthand t)
-unfolding shorthand
+    → GiveAlike (AreTagsAlike text) (shorthand_tag s) (shorthand_tag t)
+unfolding shorthand_tag
 shorthand_alike text s t h e = tag_word_alike text s.mark t.mark _ _ (run_alike is_alpha refl refl [] (one_passed h e))
 
 end_alike : (text : List ℕ) (in_flow : Bool) (m n : Marker) (x y : List ℕ × List ℕ × Cursor) → AreTagsAlike text x y

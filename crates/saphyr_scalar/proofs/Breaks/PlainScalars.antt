@@ -5,11 +5,11 @@ use Rattle.saphyr_input.specs.Classes.{is_break, is_blank, is_blank_or_breakz, i
 use Rattle.saphyr_input.specs.Places.{is_document_indicator, is_blank_or_break}
 use Rattle.saphyr_scalar.specs.declared.scalar.position.Marker.{Marker}
 use Rattle.saphyr_scalar.specs.Views.Cursor.{Cursor, along, next_line}
-use Rattle.saphyr_scalar.specs.Steps.Quoted.{at}
-use Rattle.saphyr_scalar.specs.Steps.Plain.{in_word, word_starts, PlainGap, may_stand, reached, at_line, lines, next_lines, gap_from, gap, goes_on, comment_of, PlainScalarRead, with_text, scalar_ended, word, plain}
+use Rattle.saphyr_scalar.specs.Steps.Quoted.{mid_line}
+use Rattle.saphyr_scalar.specs.Steps.Plain.{is_in_word, word_starts, PlainGap, content_behind_tab, reached_gap, line_front, lines, next_lines, gap_from, gap, next_word_starts, comment_of, PlainScalarRead, with_text, scalar_end, word, plain}
 use Rattle.saphyr_scalar.specs.Alike.{AreMarksAlike, AreAlike, GiveAlike, AreSame, AreNoted, ArePlainAlike}
 use Rattle.saphyr_scalar.proofs.Plain.Gaps.{IsEnd, gap_end}
-use Rattle.saphyr_scalar.proofs.Plain.Pieces.{goes_says, word_on, behind_gap, word_over}
+use Rattle.saphyr_scalar.proofs.Plain.Pieces.{goes_says, word_on, plain_behind_gap, word_over}
 use Rattle.saphyr_scalar.proofs.Breaks.Sides.{Normal, nothing, character, feed, return, pair, no_feed, first_in, behind_first, Places, over_pair, moved_along, moved_down, marks_alike, alike, normal_of, places_of}
 use Rattle.saphyr_scalar.proofs.Breaks.Results.{both_by, both_then, both_are, by_ends}
 use Rattle.saphyr_scalar.proofs.Breaks.Separations.{by_first, indicator_alike, break_alike}
@@ -19,8 +19,8 @@ use Rattle.saphyr_input.proofs.Basics.Characters.{no_return}
 
 -- ## Words
 
-in_word_alike : (f : Bool) {r q : List ℕ} → Normal r q → in_word f r ≡ in_word f q
-unfolding in_word
+in_word_alike : (f : Bool) {r q : List ℕ} → Normal r q → is_in_word f r ≡ is_in_word f q
+unfolding is_in_word
 in_word_alike f nothing = refl
 in_word_alike f (character c h n) =
     ap (λ t. not (is_blank_or_breakz c) && cond (c == 58) (not t) (not (is_bom c || (f && is_flow c))))
@@ -56,8 +56,8 @@ starts_alike text f s t e =
     (λ _ _. refl) (λ _ _. (in_word_alike f (normal_of e), e)))
 
 goes_alike : (text : List ℕ) (f : Bool) (i : ℕ) (s t : Cursor) → AreAlike text s t
-    → GiveAlike (AreSame text) (goes_on f i s) (goes_on f i t)
-unfolding goes_on
+    → GiveAlike (AreSame text) (next_word_starts f i s) (next_word_starts f i t)
+unfolding next_word_starts
 goes_alike text f i s t e =
     both_by (s.blank_so_far && not f && nat_lt s.mark.col i) (t.blank_so_far && not f && nat_lt t.mark.col i) _ _ _ _
     (GiveAlike (AreSame text)) (rw (e.blank, e.col) refl)
@@ -71,8 +71,8 @@ record AreGapsAlike (text : List ℕ) (g k : PlainGap) : Type 0 where
   pub behind : AreAlike text g.behind k.behind
 
 stand_alike : (text : List ℕ) (a b : Marker) (t : Bool) (x y : Cursor) → AreAlike text x y
-    → GiveAlike (AreAlike text) (may_stand a t x) (may_stand b t y)
-unfolding may_stand
+    → GiveAlike (AreAlike text) (content_behind_tab a t x) (content_behind_tab b t y)
+unfolding content_behind_tab
 stand_alike text a b t x y e =
     both_by (t && is_bom (slice_index x.rest 0)) (t && is_bom (slice_index y.rest 0)) _ _ _ _
     (GiveAlike (AreAlike text)) (ap (λ c. t && c) (first_in is_bom refl (normal_of e))) (λ _ _. refl)
@@ -81,9 +81,9 @@ stand_alike text a b t x y e =
     (ap (λ c. t && c) (first_in (λ c. not ((c == 35) || is_z c)) refl (normal_of e))) (λ _ _. refl) (λ _ _. e))
 
 reached_alike : (text : List ℕ) (a b : Marker) (t u : Bool) (feeds : List ℕ) (x y : Cursor) → t ≡ u → AreAlike text x y
-    → GiveAlike (AreGapsAlike text) (reached a t feeds x) (reached b u feeds y)
+    → GiveAlike (AreGapsAlike text) (reached_gap a t feeds x) (reached_gap b u feeds y)
 reached_alike text a b t u feeds x y same e =
-    subst (λ v. GiveAlike (AreGapsAlike text) (reached a t feeds x) (reached b v feeds y)) same
+    subst (λ v. GiveAlike (AreGapsAlike text) (reached_gap a t feeds x) (reached_gap b v feeds y)) same
     (both_then (AreAlike text) (AreGapsAlike text) _ _ _ _ (stand_alike text a b t x y e)
     (λ s k _ _ is. record { same = refl; tabbed = refl; behind = is }))
 
@@ -92,14 +92,14 @@ lines_alike : (text : List ℕ) (i : ℕ) (a b : Marker) (t u : Bool) (feeds : L
     → GiveAlike (AreGapsAlike text) (lines i a t feeds m r) (lines i b u feeds n q)
 unfolding lines
 lines_alike text i a b t u feeds m n same nothing p =
-    reached_alike text a b t u feeds (at_line m []) (at_line n []) same (alike true true refl nothing p)
+    reached_alike text a b t u feeds (line_front m []) (line_front n []) same (alike true true refl nothing p)
 lines_alike text i a b t u feeds m n same (character c h x) p =
     both_by (is_blank_or_break c) (is_blank_or_break c) _ _ _ _ (GiveAlike (AreGapsAlike text)) refl
     (λ _ _. rw (no_return c h, no_feed c h)
     (lines_alike text i a b (is_blank c && (t || ((c == tab) && nat_lt m.col i)))
     (is_blank c && (u || ((c == tab) && nat_lt n.col i))) feeds (along m 1) (along n 1)
     (rw (same, p.col) refl) x (moved_along 1 1 refl p)))
-    (λ _ _. reached_alike text a b t u feeds (at_line m (c ∷ _)) (at_line n (c ∷ _)) same
+    (λ _ _. reached_alike text a b t u feeds (line_front m (c ∷ _)) (line_front n (c ∷ _)) same
     (alike true true refl (character c h x) p))
 lines_alike text i a b t u feeds m n same (feed x) p =
     lines_alike text i a b false false (feeds ++ 10 ∷ []) (next_line m 1) (next_line n 1) refl x (moved_down 1 1 p)
@@ -139,7 +139,7 @@ noted_alike text f a b s t same e =
 
 ended_alike : (text : List ℕ) (f : Bool) (m n : Marker) (g k : PlainGap) → AreMarksAlike text m n
     → AreGapsAlike text g k
-    → GiveAlike (ArePlainAlike text) (scalar_ended f m g) (scalar_ended f n k)
+    → GiveAlike (ArePlainAlike text) (scalar_end f m g) (scalar_end f n k)
 ended_alike text f m n g k marks is =
     (refl, marks, noted_alike text f g.tabbed k.tabbed g.behind k.behind is.tabbed is.behind, is.behind)
 
@@ -150,14 +150,14 @@ front_alike text u v r q same e =
     (λ x y _ _ is. (rw (same, is.0) refl, is.1, is.2, is.3))
 
 -- another word stands behind what ends one
-word_behind : (f : Bool) (xs ys : List ℕ) → IsEnd xs ys → in_word f xs ≡ false → in_word f ys ≡ true
+word_behind : (f : Bool) (xs ys : List ℕ) → IsEnd xs ys → is_in_word f xs ≡ false → is_in_word f ys ≡ true
     → length ys < length xs
 word_behind f xs ys end stops goes = by end.taken refl
   where
     by : (n : ℕ) → end.taken ≡ n → length ys < length xs
     by zero e =
         let same : ys ≡ xs = end.is ∙ ap (λ n. drop n xs) e in
-        let other : true ≡ false = sym goes ∙ ap (in_word f) same ∙ stops in
+        let other : true ≡ false = sym goes ∙ ap (is_in_word f) same ∙ stops in
         absurd (cc)
     by (suc n) e = omega (arith, end.count, e)
 
@@ -170,8 +170,8 @@ module _ (text : List ℕ) (f : Bool) (i : ℕ) (a b : Marker) where
   Others k = (x y : Cursor) → length x.rest < k → SameWord text f i a b x y
 
   behind_alike : (m n : Marker) (g k : PlainGap) (len : ℕ) → AreMarksAlike text m n → AreGapsAlike text g k
-      → (in_word f g.behind.rest ≡ true → length g.behind.rest < len) → Others len
-      → GiveAlike (ArePlainAlike text) (behind_gap f i a m g) (behind_gap f i b n k)
+      → (is_in_word f g.behind.rest ≡ true → length g.behind.rest < len) → Others len
+      → GiveAlike (ArePlainAlike text) (plain_behind_gap f i a m g) (plain_behind_gap f i b n k)
   behind_alike m n g k len marks is shorter others =
       both_then (AreSame text) (ArePlainAlike text) _ _ _ _ (goes_alike text f i g.behind k.behind is.behind)
       (λ x y first _ are.
@@ -183,37 +183,39 @@ module _ (text : List ℕ) (f : Bool) (i : ℕ) (a b : Marker) where
       front_alike text g.text k.text _ _ is.same (others x.1 y.1 less are.1))
       (λ _ _. ended_alike text f m n g k marks is))
 
-  over_alike : (s t : Cursor) → in_word f s.rest ≡ false → AreAlike text s t → Others (length s.rest)
+  over_alike : (s t : Cursor) → is_in_word f s.rest ≡ false → AreAlike text s t → Others (length s.rest)
       → GiveAlike (ArePlainAlike text) (word f i a s.mark s.rest) (word f i b t.mark t.rest)
   over_alike s t stops e others =
-      let here : AreAlike text (at s.mark s.rest) (at t.mark t.rest) =
+      let here : AreAlike text (mid_line s.mark s.rest) (mid_line t.mark t.rest) =
       alike false false refl (normal_of e) (places_of e) in
       both_are (ArePlainAlike text) _ _ _ _ (word_over f i a s.mark s.rest stops)
       (word_over f i b t.mark t.rest (sym (in_word_alike f (normal_of e)) ∙ stops))
       (both_then (AreGapsAlike text) (ArePlainAlike text) _ _ _ _
-      (gap_alike text i a b (at s.mark s.rest) (at t.mark t.rest) here) (λ g k first _ is.
-      let shorter = word_behind f s.rest g.behind.rest (gap_end i a (at s.mark s.rest) g first) stops in
+      (gap_alike text i a b (mid_line s.mark s.rest) (mid_line t.mark t.rest) here) (λ g k first _ is.
+      let shorter = word_behind f s.rest g.behind.rest (gap_end i a (mid_line s.mark s.rest) g first) stops in
       behind_alike s.mark t.mark g k (length s.rest) (marks_alike e) is shorter others))
 
-  on_alike : (m n : Marker) {r q : List ℕ} → in_word f r ≡ true → Normal r q → Places text r q m n → Others (length r)
+  on_alike : (m n : Marker) {r q : List ℕ} → is_in_word f r ≡ true → Normal r q → Places text r q m n
+      → Others (length r)
       → GiveAlike (ArePlainAlike text) (word f i a m r) (word f i b n q)
-  unfolding in_word
+  unfolding is_in_word
   on_alike m n goes nothing p others = absurd (cc)
   on_alike m n goes (character c {r = r} {q = q} h x) p others =
       both_are (ArePlainAlike text) _ _ _ _ (word_on f i a m c r goes)
       (word_on f i b n c q (sym (in_word_alike f (character c h x)) ∙ goes))
-      (front_alike text (encode_utf8 c) (encode_utf8 c) _ _ refl (others (at (along m 1) r) (at (along n 1) q)
+      (front_alike text (encode_utf8 c) (encode_utf8 c) _ _ refl
+      (others (mid_line (along m 1) r) (mid_line (along n 1) q)
       (omega arith) (alike false false refl x (moved_along 1 1 refl p))))
   on_alike m n goes (feed x) p others = absurd (cc)
   on_alike m n goes (return h x) p others = absurd (cc)
   on_alike m n goes (pair x) p others = absurd (cc)
 
-  word_by : (s t : Cursor) → Others (length s.rest) → (z : Bool) → in_word f s.rest ≡ z → SameWord text f i a b s t
+  word_by : (s t : Cursor) → Others (length s.rest) → (z : Bool) → is_in_word f s.rest ≡ z → SameWord text f i a b s t
   word_by s t others true goes e = on_alike s.mark t.mark goes (normal_of e) (places_of e) others
   word_by s t others false stops e = over_alike s t stops e others
 
   words_alike : (s t : Cursor) → SameWord text f i a b s t
-  words_alike = by_ends (SameWord text f i a b) (λ s t others. word_by s t others (in_word f s.rest) refl)
+  words_alike = by_ends (SameWord text f i a b) (λ s t others. word_by s t others (is_in_word f s.rest) refl)
 
 pub plain_alike : (f : Bool) (i : ℕ) {text : List ℕ} {s t : Cursor} → AreAlike text s t
     → GiveAlike (ArePlainAlike text) (plain f i s) (plain f i t)

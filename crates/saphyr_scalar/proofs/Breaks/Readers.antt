@@ -1,7 +1,7 @@
 -- All that is read of a text is read of its normalized text.
 use Rattle.std.proofs.Common.{ℕ, List, refl}
 use Rattle.saphyr_input.specs.Breaks.{normalized}
-use Rattle.saphyr_scalar.specs.Views.Cursor.{Cursor, fresh}
+use Rattle.saphyr_scalar.specs.Views.Cursor.{Cursor, start_cursor}
 use Rattle.saphyr_scalar.specs.Alike.{AreAlike, ReadsAlike}
 use Rattle.saphyr_scalar.proofs.Breaks.Separations.{separation_alike, break_alike, comment_alike, mark_alike}
 use Rattle.saphyr_scalar.proofs.Breaks.Names.{anchor_alike, tag_alike}
@@ -10,7 +10,7 @@ use Rattle.saphyr_scalar.proofs.Breaks.Blocks.{block_alike}
 use Rattle.saphyr_scalar.proofs.Breaks.Quotes.{quoted_alike}
 use Rattle.saphyr_scalar.proofs.Breaks.PlainScalars.{plain_alike}
 
-pub begins_alike : (text : List ℕ) → AreAlike text (fresh text) (fresh (normalized text))
+pub begins_alike : (text : List ℕ) → AreAlike text (start_cursor text) (start_cursor (normalized text))
 begins_alike text = record { line = refl; col = refl; rest = refl; blank = refl; here = refl; there = refl }
 
 pub reads_alike : (text : List ℕ) (s t : Cursor) → AreAlike text s t → ReadsAlike text s t

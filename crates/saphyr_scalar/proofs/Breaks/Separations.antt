@@ -8,11 +8,11 @@ use Rattle.saphyr_input.specs.Places.{next_3_are, is_document_indicator}
 use Rattle.saphyr_input.specs.Separation.{is_skipped, blank_len, comment_len, is_bare_comment, separation_len, found_blanks}
 use Rattle.saphyr_input.specs.declared.input.SkipTabs.{SkipTabs}
 use Rattle.saphyr_input.specs.declared.input.SkipTabs.TheVariants as skip
-use Rattle.saphyr_scalar.specs.Steps.Block.{there}
+use Rattle.saphyr_scalar.specs.Steps.Block.{line_cursor}
 use Rattle.saphyr_scalar.specs.declared.scalar.position.Marker.{Marker}
 use Rattle.saphyr_scalar.specs.Views.Cursor.{Cursor, pass, pass_blanks, pass_break, pass_comment, pass_byte_order_mark, separation, behind_separation}
 use Rattle.saphyr_scalar.specs.Alike.{AreAlike, GiveAlike, AreSame}
-use Rattle.saphyr_scalar.proofs.Breaks.Sides.{Normal, nothing, character, feed, return, pair, no_feed, first_in, past_first, behind_first, Run, run, Places, moved, moved_along, moved_down, alike, normal_of, places_of}
+use Rattle.saphyr_scalar.proofs.Breaks.Sides.{Normal, nothing, character, feed, return, pair, no_feed, first_in, past_first, behind_first, Run, run_same, Places, places_moved, moved_along, moved_down, alike, normal_of, places_of}
 use Rattle.saphyr_scalar.proofs.Breaks.Results.{both_by}
 use Rattle.saphyr_input.proofs.Basics.Lists.{second_is, third_is, fourth_is}
 use Rattle.saphyr_input.proofs.Basics.Characters.{no_return}
@@ -67,35 +67,36 @@ indicator_alike n =
 
 -- ## So many characters, of which none is a break
 
-pub record Part (a b : ℕ) (r q : List ℕ) : Type 0 where
+pub record PartsAlike (a b : ℕ) (r q : List ℕ) : Type 0 where
   pub len : a ≡ b
   pub left : Normal (drop a r) (drop b q)
 
-pub no_part : {r q : List ℕ} → Normal r q → Part 0 0 r q
+pub no_part : {r q : List ℕ} → Normal r q → PartsAlike 0 0 r q
 no_part n = record { len = refl; left = n }
 
-pub part_of : {p : ℕ → Bool} {r q : List ℕ} → Run p r q → Part (prefix_len p r) (prefix_len p q) r q
+pub part_of : {p : ℕ → Bool} {r q : List ℕ} → Run p r q → PartsAlike (prefix_len p r) (prefix_len p q) r q
 part_of x = record { len = x.len; left = x.left }
 
-pub first_part : {r q : List ℕ} → is_break (slice_index r 0) ≡ false → Normal r q → Part 1 1 r q
+pub first_part : {r q : List ℕ} → is_break (slice_index r 0) ≡ false → Normal r q → PartsAlike 1 1 r q
 first_part h n = record { len = refl; left = past_first h n }
 
-pub both_parts : (a b c d : ℕ) (r q : List ℕ) → Part a b r q → Part c d (drop a r) (drop b q) → Part (a + c) (b + d) r q
+pub both_parts : (a b c d : ℕ) (r q : List ℕ) → PartsAlike a b r q → PartsAlike c d (drop a r) (drop b q)
+    → PartsAlike (a + c) (b + d) r q
 both_parts a b c d r q x y = record { len = omega arith; left = rw (← drop-drop c a r, ← drop-drop d b q) y.left }
 
-pub passed_blanks : {text : List ℕ} {s t : Cursor} (a b : ℕ) → Part a b s.rest t.rest → AreAlike text s t
+pub passed_blanks : {text : List ℕ} {s t : Cursor} (a b : ℕ) → PartsAlike a b s.rest t.rest → AreAlike text s t
     → AreAlike text (pass_blanks a s) (pass_blanks b t)
 passed_blanks {s = s} {t = t} a b p e =
     alike s.blank_so_far t.blank_so_far e.blank p.left (moved_along a b p.len (places_of e))
 
-pub passed : {text : List ℕ} {s t : Cursor} (a b : ℕ) → Part a b s.rest t.rest → AreAlike text s t
+pub passed_alike : {text : List ℕ} {s t : Cursor} (a b : ℕ) → PartsAlike a b s.rest t.rest → AreAlike text s t
     → AreAlike text (pass a s) (pass b t)
-passed a b p e = alike false false refl p.left (moved_along a b p.len (places_of e))
+passed_alike a b p e = alike false false refl p.left (moved_along a b p.len (places_of e))
 
 -- ## Breaks, comments and byte order marks
 
 break_at : {text r q : List ℕ} (a b : Bool) (m n : Marker) → a ≡ b → Normal r q → Places text r q m n
-    → AreAlike text (pass_break (there a m r)) (pass_break (there b n q))
+    → AreAlike text (pass_break (line_cursor a m r)) (pass_break (line_cursor b n q))
 break_at a b m n e nothing p = alike a b e nothing p
 break_at a b m n e (character c h x) p = rw (no_return c h, no_feed c h) (alike a b e (character c h x) p)
 break_at a b m n e (feed x) p = alike true true refl x (moved_down 1 1 p)
@@ -108,32 +109,32 @@ break_alike {s = s} {t = t} e = break_at s.blank_so_far t.blank_so_far s.mark t.
 pub comment_alike : {text : List ℕ} {s t : Cursor} → AreAlike text s t → AreAlike text (pass_comment s) (pass_comment t)
 comment_alike {s = s} {t = t} e =
     passed_blanks (prefix_len is_yaml_non_break s.rest) (prefix_len is_yaml_non_break t.rest)
-    (part_of (run is_yaml_non_break refl refl (normal_of e))) e
+    (part_of (run_same is_yaml_non_break refl refl (normal_of e))) e
 
 pub mark_alike : {text : List ℕ} {s t : Cursor} → is_break (slice_index s.rest 0) ≡ false → AreAlike text s t
     → AreAlike text (pass_byte_order_mark s) (pass_byte_order_mark t)
 mark_alike {s = s} {t = t} h e =
     alike s.blank_so_far t.blank_so_far e.blank (past_first h (normal_of e))
-    (moved 1 1 _ _ (places_of e) refl refl e.line e.col)
+    (places_moved 1 1 _ _ (places_of e) refl refl e.line e.col)
 
 -- ## White space and a comment
 
 blanks_run : (tabs : SkipTabs) {r q : List ℕ} → Normal r q → Run (is_skipped tabs) r q
-blanks_run skip.Yes n = run is_blank refl refl n
-blanks_run skip.No n = run (λ c. c == space) refl refl n
-blanks_run (skip.Result a b) n = run (λ c. c == space) refl refl n
+blanks_run skip.Yes n = run_same is_blank refl refl n
+blanks_run skip.No n = run_same (λ c. c == space) refl refl n
+blanks_run (skip.Result a b) n = run_same (λ c. c == space) refl refl n
 
-comment_part : {r q : List ℕ} → Normal r q → Part (comment_len r) (comment_len q) r q
+comment_part : {r q : List ℕ} → Normal r q → PartsAlike (comment_len r) (comment_len q) r q
 comment_part {r = r} {q = q} n =
-    both_by (slice_index r 0 == 35) (slice_index q 0 == 35) _ _ _ _ (λ a b. Part a b r q)
+    both_by (slice_index r 0 == 35) (slice_index q 0 == 35) _ _ _ _ (λ a b. PartsAlike a b r q)
     (first_in (λ c. c == 35) refl n)
-    (λ _ _. part_of (run is_yaml_non_break refl refl n)) (λ _ _. no_part n)
+    (λ _ _. part_of (run_same is_yaml_non_break refl refl n)) (λ _ _. no_part n)
 
 separation_part : (tabs : SkipTabs) {r q : List ℕ} → Normal r q
-    → Part (separation_len tabs r) (separation_len tabs q) r q
+    → PartsAlike (separation_len tabs r) (separation_len tabs q) r q
 separation_part tabs {r = r} {q = q} n =
     let x = blanks_run tabs n in
-    both_by (blank_len tabs r == 0) (blank_len tabs q == 0) _ _ _ _ (λ a b. Part a b r q) (ap (λ k. k == 0) x.len)
+    both_by (blank_len tabs r == 0) (blank_len tabs q == 0) _ _ _ _ (λ a b. PartsAlike a b r q) (ap (λ k. k == 0) x.len)
     (λ _ _. no_part n)
     (λ _ _. both_parts (blank_len tabs r) (blank_len tabs q) _ _ r q (part_of x) (comment_part x.left))
 

@@ -8,7 +8,7 @@ use Rattle.saphyr_input.specs.Breaks.{normalized}
 use Rattle.saphyr_input.specs.Classes.{is_break}
 use Rattle.saphyr_scalar.specs.declared.scalar.position.Marker.{Marker}
 use Rattle.saphyr_scalar.specs.Views.Cursor.{Cursor, along, next_line}
-use Rattle.saphyr_scalar.specs.Steps.Block.{there}
+use Rattle.saphyr_scalar.specs.Steps.Block.{line_cursor}
 use Rattle.saphyr_scalar.specs.Alike.{AreMarksAlike, AreAlike}
 use Rattle.saphyr_input.proofs.Basics.Lists.{second_is}
 use Rattle.saphyr_input.proofs.Basics.Characters.{no_return}
@@ -127,12 +127,12 @@ run_at p c {r = r} {q = q} h n more true e = run_on p c r q more e
 run_at p c h n more false e = record { len = rw e refl; text = rw e refl; left = rw e (character c h n) }
 
 -- a class without breaks
-pub run : (p : ℕ → Bool) → p 13 ≡ false → p 10 ≡ false → {r q : List ℕ} → Normal r q → Run p r q
-run p a b nothing = record { len = refl; text = refl; left = nothing }
-run p a b (character c h n) = run_at p c h n (run p a b n) (p c) refl
-run p a b (feed n) = record { len = rw b refl; text = rw b refl; left = rw b (feed n) }
-run p a b (return h n) = record { len = rw (a, b) refl; text = rw (a, b) refl; left = rw (a, b) (return h n) }
-run p a b (pair n) = record { len = rw (a, b) refl; text = rw (a, b) refl; left = rw (a, b) (pair n) }
+pub run_same : (p : ℕ → Bool) → p 13 ≡ false → p 10 ≡ false → {r q : List ℕ} → Normal r q → Run p r q
+run_same p a b nothing = record { len = refl; text = refl; left = nothing }
+run_same p a b (character c h n) = run_at p c h n (run_same p a b n) (p c) refl
+run_same p a b (feed n) = record { len = rw b refl; text = rw b refl; left = rw b (feed n) }
+run_same p a b (return h n) = record { len = rw (a, b) refl; text = rw (a, b) refl; left = rw (a, b) (return h n) }
+run_same p a b (pair n) = record { len = rw (a, b) refl; text = rw (a, b) refl; left = rw (a, b) (pair n) }
 
 -- ## Places
 
@@ -147,9 +147,10 @@ pub record Places (text r q : List ℕ) (m n : Marker) : Type 0 where
 dropped_further : (text r : List ℕ) (i j a : ℕ) → drop i text ≡ r → j ≡ i + a → drop j text ≡ drop a r
 dropped_further text r i j a e f = rw f (sym (drop-drop a i text) ∙ ap (drop a) e)
 
-pub moved : {text r q : List ℕ} {m n : Marker} (a b : ℕ) (k l : Marker) → Places text r q m n → k.index ≡ m.index + a
+pub places_moved : {text r q : List ℕ} {m n : Marker} (a b : ℕ) (k l : Marker) → Places text r q m n
+    → k.index ≡ m.index + a
     → l.index ≡ n.index + b → k.line ≡ l.line → k.col ≡ l.col → Places text (drop a r) (drop b q) k l
-moved {text = text} {r = r} {q = q} {m = m} {n = n} a b k l p e f line col =
+places_moved {text = text} {r = r} {q = q} {m = m} {n = n} a b k l p e f line col =
     record {
       line = line;
       col = col;
@@ -159,24 +160,24 @@ moved {text = text} {r = r} {q = q} {m = m} {n = n} a b k l p e f line col =
 
 pub moved_along : {text r q : List ℕ} {m n : Marker} (a b : ℕ) → a ≡ b → Places text r q m n
     → Places text (drop a r) (drop b q) (along m a) (along n b)
-moved_along {m = m} {n = n} a b e p = moved a b (along m a) (along n b) p refl refl p.line (rw (p.col, e) refl)
+moved_along {m = m} {n = n} a b e p = places_moved a b (along m a) (along n b) p refl refl p.line (rw (p.col, e) refl)
 
 pub moved_down : {text r q : List ℕ} {m n : Marker} (a b : ℕ) → Places text r q m n
     → Places text (drop a r) (drop b q) (next_line m a) (next_line n b)
-moved_down {m = m} {n = n} a b p = moved a b (next_line m a) (next_line n b) p refl refl (rw p.line refl) refl
+moved_down {m = m} {n = n} a b p = places_moved a b (next_line m a) (next_line n b) p refl refl (rw p.line refl) refl
 
 -- over CR LF, by a place between the two
 pub over_pair : {text r q : List ℕ} (m n k : Marker) → k.index ≡ m.index + 1 → k.line ≡ m.line
     → Places text (13 ∷ 10 ∷ r) (10 ∷ q) m n → Places text r q (next_line k 1) (next_line n 1)
 over_pair m n k at_feed on_line p =
     let two : k.index + 1 ≡ m.index + 2 = omega arith in
-    moved 2 1 (next_line k 1) (next_line n 1) p two refl (rw (on_line, p.line) refl) refl
+    places_moved 2 1 (next_line k 1) (next_line n 1) p two refl (rw (on_line, p.line) refl) refl
 
 pub marks_alike : {text : List ℕ} {s t : Cursor} → AreAlike text s t → AreMarksAlike text s.mark t.mark
 marks_alike a = record { line = a.line; col = a.col; rest = rw (a.here, a.there) a.rest }
 
 pub alike : {text r q : List ℕ} {m n : Marker} (a b : Bool) → a ≡ b → Normal r q → Places text r q m n
-    → AreAlike text (there a m r) (there b n q)
+    → AreAlike text (line_cursor a m r) (line_cursor b n q)
 alike a b e n p =
     record { line = p.line; col = p.col; rest = normalized_is n; blank = e; here = p.here; there = p.there }
 

@@ -8,7 +8,7 @@ use Rattle.saphyr_scalar.specs.declared.scalar.position.Marker.{Marker}
 use Rattle.saphyr_scalar.specs.declared.scalar.fault.FaultText.TheVariants as fault
 use Rattle.saphyr_scalar.specs.Views.Cursor.{Cursor, along}
 use Rattle.saphyr_scalar.specs.Steps.Directive.{directive_name_of, name}
-use Rattle.saphyr_scalar.specs.Steps.Quoted.{at}
+use Rattle.saphyr_scalar.specs.Steps.Quoted.{mid_line}
 use Rattle.saphyr_scalar.specs.Spelling.Tag.{AreIn}
 use Rattle.saphyr_scalar.proofs.Runs.{run_is_in}
 use Rattle.saphyr_scalar.proofs.Properties.TagsSpelled.{some_value}
@@ -24,21 +24,22 @@ pub record NameOf (m : Marker) (xs text : List ℕ) (u : Cursor) : Type 0 where
   pub text_is : xs ≡ word ++ u.rest
   pub bytes : encode_utf8_all word ≡ text
   pub ends : is_blank_or_breakz (slice_index u.rest 0) ≡ true
-  pub place : u ≡ at (along m (length word)) u.rest
+  pub place : u ≡ mid_line (along m (length word)) u.rest
 
-pub name_spelled : (m : Marker) (xs text : List ℕ) (u : Cursor) → name (at m xs) ≡ Ok (text, u) → NameOf m xs text u
+pub name_spelled : (m : Marker) (xs text : List ℕ) (u : Cursor) → name (mid_line m xs) ≡ Ok (text, u)
+    → NameOf m xs text u
 unfolding name directive_name_of
 name_spelled m xs text u h =
     let n = prefix_len is_yaml_non_space xs in
     let w = take n xs in
-    let taken : List ℕ × Cursor = (encode_utf8_all w, at (along m n) (drop n xs)) in
+    let taken : List ℕ × Cursor = (encode_utf8_all w, mid_line (along m n) (drop n xs)) in
     let some = cond_not {A = List ℕ × Cursor} (nat_eq (length (encode_utf8_all w)) 0)
     (cond (is_blank_or_breakz (slice_index (drop n xs) 0)) (Ok taken)
     (Err (record { text = fault.DirectiveNameCharacter; mark = m }))) (text, u)
     (record { text = fault.DirectiveNameExpected; mark = m }) h in
     let is = cond_ok {A = List ℕ × Cursor} (is_blank_or_breakz (slice_index (drop n xs) 0)) taken (text, u)
     (record { text = fault.DirectiveNameCharacter; mark = m }) some.same in
-    let left : at (along m n) (drop n xs) ≡ u = ap (λ (x : List ℕ × Cursor). x.1) is.same in
+    let left : mid_line (along m n) (drop n xs) ≡ u = ap (λ (x : List ℕ × Cursor). x.1) is.same in
     let rest : drop n xs ≡ u.rest = ap (λ (x : Cursor). x.rest) left in
     record {
       word = w;
@@ -47,6 +48,6 @@ name_spelled m xs text u h =
       text_is = sym (take-append-drop n xs) ∙ ap (λ r. w ++ r) rest;
       bytes = ap (λ (x : List ℕ × Cursor). x.0) is.same;
       ends = rw (← rest) is.test;
-      place = sym left ∙ ap (at (along m n)) rest
-          ∙ ap (λ k. at (along m k) u.rest) (sym (run_count is_yaml_non_space xs));
+      place = sym left ∙ ap (mid_line (along m n)) rest
+          ∙ ap (λ k. mid_line (along m k) u.rest) (sym (run_count is_yaml_non_space xs));
     }

@@ -7,43 +7,43 @@ use Rattle.saphyr_scalar.specs.declared.scalar.position.Marker.{Marker}
 use Rattle.saphyr_scalar.specs.declared.scalar.fault.Refusal.{Refusal}
 use Rattle.saphyr_scalar.specs.Views.Cursor.{Cursor, along, pass_blanks}
 use Rattle.saphyr_scalar.specs.Steps.Directive.{ReadDirective, pass_all_blanks}
-use Rattle.saphyr_scalar.specs.Steps.Quoted.{at}
+use Rattle.saphyr_scalar.specs.Steps.Quoted.{mid_line}
 use Rattle.saphyr_scalar.specs.Spelling.Tag.{AreIn}
 use Rattle.saphyr_scalar.proofs.Runs.{run_len}
 use Rattle.saphyr_input.proofs.Basics.Booleans.{either}
 
-pub record Ends (c : ℕ) : Type 0 where
+pub record EndsPart (c : ℕ) : Type 0 where
   pub no_uri : is_uri_char c ≡ false
   pub no_digit : is_digit c ≡ false
   pub no_name : is_yaml_non_space c ≡ false
 
-same_as : (c n : ℕ) → nat_eq c n ≡ true → Ends n → Ends c
-same_as c n h is = let e : n ≡ c = grind (arith, nat_tests) in subst Ends e is
+same_as : (c n : ℕ) → nat_eq c n ≡ true → EndsPart n → EndsPart c
+same_as c n h is = let e : n ≡ c = grind (arith, nat_tests) in subst EndsPart e is
 
-ends_blank : (c : ℕ) → is_blank c ≡ true → Ends c
-ends_blank c h = either (nat_eq c 32) (nat_eq c 9) (Ends c) h
+ends_blank : (c : ℕ) → is_blank c ≡ true → EndsPart c
+ends_blank c h = either (nat_eq c 32) (nat_eq c 9) (EndsPart c) h
     (λ e. same_as c 32 e (record { no_uri = refl; no_digit = refl; no_name = refl }))
     (λ e. same_as c 9 e (record { no_uri = refl; no_digit = refl; no_name = refl }))
 
-ends_breakz : (c : ℕ) → is_breakz c ≡ true → Ends c
-ends_breakz c h = either (is_break c) (is_z c) (Ends c) h
-    (λ b. either (nat_eq c 10) (nat_eq c 13) (Ends c) b
+ends_breakz : (c : ℕ) → is_breakz c ≡ true → EndsPart c
+ends_breakz c h = either (is_break c) (is_z c) (EndsPart c) h
+    (λ b. either (nat_eq c 10) (nat_eq c 13) (EndsPart c) b
     (λ e. same_as c 10 e (record { no_uri = refl; no_digit = refl; no_name = refl }))
     (λ e. same_as c 13 e (record { no_uri = refl; no_digit = refl; no_name = refl })))
     (λ e. same_as c 0 e (record { no_uri = refl; no_digit = refl; no_name = refl }))
 
-pub ends_at : (c : ℕ) → is_blank_or_breakz c ≡ true → Ends c
-ends_at c h = either (is_blank c) (is_breakz c) (Ends c) h (ends_blank c) (ends_breakz c)
+pub ends_at : (c : ℕ) → is_blank_or_breakz c ≡ true → EndsPart c
+ends_at c h = either (is_blank c) (is_breakz c) (EndsPart c) h (ends_blank c) (ends_breakz c)
 
 pub first_of : (p : ℕ → Bool) (w y : List ℕ) → w ≢ [] → AreIn p w → p (slice_index (w ++ y) 0) ≡ true
 first_of p [] y some are = absurd (some refl)
 first_of p (c ∷ w) y some (is, are) = is
 
 abbrev pub blanks_passed : ℕ → Marker → List ℕ → Cursor
-blanks_passed n m xs = pass_blanks n (at m xs)
+blanks_passed n m xs = pass_blanks n (mid_line m xs)
 
 pub blanks_read : (m : Marker) (gap y : List ℕ) → AreIn is_blank gap → is_blank (slice_index y 0) ≡ false
-    → pass_all_blanks (at m (gap ++ y)) ≡ at (along m (length gap)) y
+    → pass_all_blanks (mid_line m (gap ++ y)) ≡ mid_line (along m (length gap)) y
 blanks_read m gap y are ends =
     ap (λ n. blanks_passed n m (gap ++ y)) (run_len is_blank gap y are ends) ∙ rw (drop-append_seam gap y) refl
 

@@ -9,7 +9,7 @@ use Rattle.saphyr_scalar.specs.declared.scalar.fault.Refusal.{Refusal}
 use Rattle.saphyr_scalar.specs.Views.Cursor.{Cursor, along, pass, pass_break}
 use Rattle.saphyr_scalar.specs.Steps.Directive.{ReadDirective, version, tag_prefix, reserved, directive_name_of, name, version_directive, handle, prefix, tag_directive, value, line_end, directive}
 use Rattle.saphyr_scalar.specs.Spelling.Directive.{IsVersionDirective, IsTagDirective, IsDirectiveText, IsLineTail}
-use Rattle.saphyr_scalar.specs.Steps.Quoted.{at}
+use Rattle.saphyr_scalar.specs.Steps.Quoted.{mid_line}
 use Rattle.saphyr_scalar.specs.Spelling.Tag.{AreIn}
 use Rattle.saphyr_scalar.proofs.Moving.{along_more}
 use Rattle.saphyr_scalar.proofs.Runs.{run_read}
@@ -22,7 +22,7 @@ use Rattle.saphyr_scalar.proofs.Directives.TailsRead.{tail_first, line_read}
 
 pub name_read : (m : Marker) (w y : List ℕ) → w ≢ [] → AreIn is_yaml_non_space w
     → is_blank_or_breakz (slice_index y 0) ≡ true
-    → name (at m (w ++ y)) ≡ Ok (encode_utf8_all w, at (along m (length w)) y)
+    → name (mid_line m (w ++ y)) ≡ Ok (encode_utf8_all w, mid_line (along m (length w)) y)
 unfolding name directive_name_of
 name_read m w y some are ends =
     ap (directive_name_of m) (run_read is_yaml_non_space m w y are (ends_at (slice_index y 0) ends).no_name)
@@ -44,10 +44,10 @@ tag_value start s = refl
 -- The whole directive.
 
 abbrev line_given : ReadDirective → Marker → List ℕ → List ℕ → Result (ReadDirective × Marker × Cursor) Refusal
-line_given d k tail x = Ok (d, k, pass_break (at (along k (length tail)) x))
+line_given d k tail x = Ok (d, k, pass_break (mid_line (along k (length tail)) x))
 
 abbrev pub tail_given : ReadDirective → Marker → Marker → List ℕ → Result (ReadDirective × Marker × Cursor) Refusal
-tail_given d k j x = Ok (d, k, pass_break (at j x))
+tail_given d k j x = Ok (d, k, pass_break (mid_line j x))
 
 pub line_place : (d : ReadDirective) (m k : Marker) (n : ℕ) (tail x : List ℕ) → k ≡ along m n
     → line_given d k tail x ≡ tail_given d (along m n) (along m (n + length tail)) x
@@ -55,7 +55,7 @@ line_place d m k n tail x e =
     ap (λ k. line_given d k tail x) e
     ∙ ap (λ j. tail_given d (along m n) j x) (along_more m n (length tail) (n + length tail) refl)
 
-pub directive_same : (s : Cursor) → directive s ≡ directive (at s.mark s.rest)
+pub directive_same : (s : Cursor) → directive s ≡ directive (mid_line s.mark s.rest)
 unfolding directive
 directive_same s = refl
 
@@ -67,7 +67,7 @@ tag_some e = cc
 
 version_line : (m : Marker) (major minor : ℕ) (t tail x : List ℕ) → IsVersionDirective major minor t → IsLineTail tail
     → is_breakz (slice_index x 0) ≡ true
-    → directive (at m (t ++ (tail ++ x)))
+    → directive (mid_line m (t ++ (tail ++ x)))
     ≡ tail_given (version major minor) (along m (length t)) (along m (length t + length tail)) x
 version_line m major minor t tail x (gap, high, low, blanks, first, second, e) is_tail ends =
     let z = tail ++ x in
@@ -82,18 +82,19 @@ version_line m major minor t tail x (gap, high, low, blanks, first, second, e) i
     let a = along (along m 1) 4 in
     let gap_first = or_left (is_blank (slice_index parts 0)) (is_breakz (slice_index parts 0))
     (first_of is_blank gap (high ++ (46 ∷ (low ++ z))) blanks.0 blanks.1) in
-    ap (λ u. directive (at m u)) whole
-    ∙ whole_line (at m (37 ∷ 89 ∷ 65 ∷ 77 ∷ 76 ∷ parts)) (pass_break (at (along (along a n) (length tail)) x))
-    (version major minor) (encode_utf8_all (codes "YAML")) (at a parts) (at (along a n) z)
+    ap (λ u. directive (mid_line m u)) whole
+    ∙ whole_line (mid_line m (37 ∷ 89 ∷ 65 ∷ 77 ∷ 76 ∷ parts))
+    (pass_break (mid_line (along (along a n) (length tail)) x))
+    (version major minor) (encode_utf8_all (codes "YAML")) (mid_line a parts) (mid_line (along a n) z)
     (name_read (along m 1) (codes "YAML") parts yaml_some (refl, (refl, (refl, (refl, tt)))) gap_first)
-    (yaml_value m (at a parts)
+    (yaml_value m (mid_line a parts)
     ∙ version_read m a major minor gap high low z blanks first second (ends_at (slice_index z 0) last).no_digit)
     (line_read m (along a n) tail x is_tail ends)
     ∙ line_place (version major minor) m (along a n) (length t) tail x (along_three m 1 4 n (length t) len)
 
 tag_line : (m : Marker) (h p t tail x : List ℕ) → IsTagDirective h p t → IsLineTail tail
     → is_breakz (slice_index x 0) ≡ true
-    → directive (at m (t ++ (tail ++ x)))
+    → directive (mid_line m (t ++ (tail ++ x)))
     ≡ tail_given (tag_prefix (encode_utf8_all h) (encode_utf8_all p)) (along m (length t))
     (along m (length t + length tail)) x
 tag_line m h p t tail x (first, second, written, before, between, is_h, is_p, e) is_tail ends =
@@ -118,25 +119,26 @@ tag_line m h p t tail x (first, second, written, before, between, is_h, is_p, e)
     let a = along (along m 1) 3 in
     let gap_first = or_left (is_blank (slice_index parts 0)) (is_breakz (slice_index parts 0))
     (first_of is_blank first (h ++ (second ++ (written ++ z))) before.0 before.1) in
-    ap (λ u. directive (at m u)) whole
-    ∙ whole_line (at m (37 ∷ 84 ∷ 65 ∷ 71 ∷ parts)) (pass_break (at (along (along a n) (length tail)) x)) d
-    (encode_utf8_all (codes "TAG")) (at a parts) (at (along a n) z)
+    ap (λ u. directive (mid_line m u)) whole
+    ∙ whole_line (mid_line m (37 ∷ 84 ∷ 65 ∷ 71 ∷ parts)) (pass_break (mid_line (along (along a n) (length tail)) x)) d
+    (encode_utf8_all (codes "TAG")) (mid_line a parts) (mid_line (along a n) z)
     (name_read (along m 1) (codes "TAG") parts tag_some (refl, (refl, (refl, tt))) gap_first)
-    (tag_value m (at a parts) ∙ tag_read m a first h second p written z before is_h between is_p last)
+    (tag_value m (mid_line a parts) ∙ tag_read m a first h second p written z before is_h between is_p last)
     (line_read m (along a n) tail x is_tail ends)
     ∙ line_place d m (along a n) (length t) tail x (along_three m 1 3 n (length t) len)
 
-text_line : (m : Marker) (d : ReadDirective) (t tail x : List ℕ) → IsDirectiveText d t → IsLineTail tail
+directive_with_tail : (m : Marker) (d : ReadDirective) (t tail x : List ℕ) → IsDirectiveText d t → IsLineTail tail
     → is_breakz (slice_index x 0) ≡ true
-    → directive (at m (t ++ (tail ++ x))) ≡ tail_given d (along m (length t)) (along m (length t + length tail)) x
-text_line m (version major minor) t tail x is is_tail ends = version_line m major minor t tail x is is_tail ends
-text_line m (tag_prefix handle prefix) t tail x (h, p, is, is_h, is_p) is_tail ends =
+    → directive (mid_line m (t ++ (tail ++ x))) ≡ tail_given d (along m (length t)) (along m (length t + length tail)) x
+directive_with_tail m (version major minor) t tail x is is_tail ends =
+    version_line m major minor t tail x is is_tail ends
+directive_with_tail m (tag_prefix handle prefix) t tail x (h, p, is, is_h, is_p) is_tail ends =
     rw (is_h, is_p) (tag_line m h p t tail x is is_tail ends)
-text_line m (reserved name) t tail x is is_tail ends = absurd is
+directive_with_tail m (reserved name) t tail x is is_tail ends = absurd is
 
 pub reads_directive : (s : Cursor) (d : ReadDirective) (t tail x : List ℕ) → s.rest ≡ t ++ (tail ++ x)
     → IsDirectiveText d t
     → IsLineTail tail → is_breakz (slice_index x 0) ≡ true
-    → directive s ≡ Ok (d, along s.mark (length t), pass_break (at (along s.mark (length t + length tail)) x))
+    → directive s ≡ Ok (d, along s.mark (length t), pass_break (mid_line (along s.mark (length t + length tail)) x))
 reads_directive s d t tail x e is tail_is ends =
-    directive_same s ∙ ap (λ u. directive (at s.mark u)) e ∙ text_line s.mark d t tail x is tail_is ends
+    directive_same s ∙ ap (λ u. directive (mid_line s.mark u)) e ∙ directive_with_tail s.mark d t tail x is tail_is ends

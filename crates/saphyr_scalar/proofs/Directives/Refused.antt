@@ -12,7 +12,7 @@ use Rattle.saphyr_scalar.specs.declared.scalar.tag.UriSet.TheVariants.{Uri}
 use Rattle.saphyr_scalar.specs.Views.Cursor.{Cursor, along, pass, pass_blanks, separation, behind_separation}
 use Rattle.saphyr_scalar.specs.Steps.Directive.{ReadDirective, pass_all_blanks, directive_name_of, name, number_end, number_from, number, behind_major, version_directive, handle_behind_word, handle, prefix, behind_prefix, tag_directive, value, line_end, directive}
 use Rattle.saphyr_scalar.specs.Passing.{IsPassed, nothing, character}
-use Rattle.saphyr_scalar.specs.Steps.Quoted.{with_run, at}
+use Rattle.saphyr_scalar.specs.Steps.Quoted.{with_run, mid_line}
 use Rattle.saphyr_scalar.specs.RefusedInside.{IsRefusedInside}
 use Rattle.saphyr_scalar.specs.Steps.Tag.{uri_character, decoded_at}
 use Rattle.saphyr_scalar.proofs.Directives.NamesSpelled.{name_spelled}
@@ -20,7 +20,7 @@ use Rattle.saphyr_scalar.proofs.Directives.ValuesSpelled.{value_spelled}
 use Rattle.saphyr_scalar.proofs.NoBreaks.{no_breaks_passed, directive_no_break}
 use Rattle.saphyr_scalar.proofs.Block.PlacedHeaders.{line_passed}
 use Rattle.saphyr_scalar.proofs.Places.{along_three}
-use Rattle.saphyr_scalar.proofs.RefusedOnWay.{inside_from, inside_at, inside_start}
+use Rattle.saphyr_scalar.proofs.RefusedOnWay.{inside_from, refused_there, inside_start}
 use Rattle.saphyr_scalar.proofs.Refusals.{Refused, RefusedAt, refused_bind, refused_more, character_refused, front_refused, decoded_refused}
 use Rattle.saphyr_scalar.proofs.Properties.TagsSpelled.{cut_at}
 use Rattle.saphyr_input.proofs.Basics.Booleans.{by_test}
@@ -49,12 +49,12 @@ number_ended start n v s = by_test (n == 0) _ _ (RefusedAt start) (λ _. refl) (
 
 number_refused : (start : Marker) (n v : ℕ) (m : Marker) (t : List ℕ) → RefusedAt start (number_from start n v m t)
 unfolding number_from
-number_refused start n v m [] = number_ended start n v (at m [])
+number_refused start n v m [] = number_ended start n v (mid_line m [])
 number_refused start n v m (c ∷ cs) =
     by_test (is_digit c) _ _ (RefusedAt start)
     (λ _. by_test (nat_lt n 9) _ _ (RefusedAt start)
     (λ _. number_refused start (suc n) (v * 10 + (c - 48)) (along m 1) cs) (λ _. refl))
-    (λ _. number_ended start n v (at m (c ∷ cs)))
+    (λ _. number_ended start n v (mid_line m (c ∷ cs)))
 
 version_refused : (start : Marker) (s : Cursor) → RefusedAt start (version_directive start s)
 unfolding version_directive behind_major
@@ -109,12 +109,12 @@ end_refused s t p =
 
 -- the place behind what a directive says
 value_passed : (m : Marker) (ys : List ℕ) (x : List ℕ × Cursor) (d : ReadDirective × Cursor)
-    → name (at (along m 1) ys) ≡ Ok x → value m x ≡ Ok d → IsPassed m (37 ∷ ys) d.1.mark d.1.rest
+    → name (mid_line (along m 1) ys) ≡ Ok x → value m x ≡ Ok d → IsPassed m (37 ∷ ys) d.1.mark d.1.rest
 value_passed m ys x d h k =
     let n = name_spelled (along m 1) ys x.0 x.1 h in
     let here : Marker = along (along m 1) (length n.word) in
-    let read : value m (encode_utf8_all n.word, at here x.1.rest) ≡ Ok d =
-    ap (λ v. value m (v, at here x.1.rest)) n.bytes ∙ ap (λ (y : Cursor). value m (x.0, y)) (sym n.place) ∙ k in
+    let read : value m (encode_utf8_all n.word, mid_line here x.1.rest) ≡ Ok d =
+    ap (λ v. value m (v, mid_line here x.1.rest)) n.bytes ∙ ap (λ (y : Cursor). value m (x.0, y)) (sym n.place) ∙ k in
     let is = value_spelled m here n.word x.1.rest d.0 d.1 n.some n.all n.ends read in
     let t : List ℕ = 37 ∷ (n.word ++ is.more) in
     let text : 37 ∷ ys ≡ t ++ d.1.rest =
@@ -126,15 +126,16 @@ value_passed m ys x d h k =
     (subst (λ r. IsPassed m r (along m (length t)) d.1.rest) (sym text)
     (no_breaks_passed m t d.1.rest (directive_no_break d.0 t is.is)))
 
-directive_at : (m : Marker) (ys : List ℕ) → Refused (IsRefusedInside (at m (37 ∷ ys))) (directive (at m (37 ∷ ys)))
+directive_refused_at : (m : Marker) (ys : List ℕ)
+    → Refused (IsRefusedInside (mid_line m (37 ∷ ys))) (directive (mid_line m (37 ∷ ys)))
 unfolding directive
-directive_at m ys =
-    let s : Cursor = at m (37 ∷ ys) in
-    let behind : Cursor = at (along m 1) ys in
+directive_refused_at m ys =
+    let s : Cursor = mid_line m (37 ∷ ys) in
+    let behind : Cursor = mid_line (along m 1) ys in
     let P = IsRefusedInside s in
     refused_bind P (name behind) _
     (refused_more (λ e. e.mark ≡ behind.mark) P (name behind) (name_refused behind)
-    (inside_at s behind (character m 37 ys behind.mark ys refl (nothing behind.mark ys))))
+    (refused_there s behind (character m 37 ys behind.mark ys refl (nothing behind.mark ys))))
     (λ x h. refused_bind P (value m x) _
     (refused_more (λ e. e.mark ≡ m) P (value m x) (value_refused m x) (inside_start s))
     (λ d k. refused_bind P (line_end m d.1) _ (end_refused s d.1 (value_passed m ys x d h k)) (λ t _. tt)))
@@ -143,5 +144,6 @@ pub directive_refused : (s : Cursor) → slice_index s.rest 0 ≡ 37 → Refused
 unfolding directive
 directive_refused s begins =
     let more : s.rest ≡ 37 ∷ drop 1 s.rest = cut_at 37 s.rest refl begins in
-    subst (λ r. Refused (λ e. (behind : List ℕ) × IsPassed s.mark r e.mark behind) (directive (at s.mark r))) (sym more)
-    (directive_at s.mark (drop 1 s.rest))
+    subst (λ r. Refused (λ e. (behind : List ℕ) × IsPassed s.mark r e.mark behind) (directive (mid_line s.mark r)))
+    (sym more)
+    (directive_refused_at s.mark (drop 1 s.rest))

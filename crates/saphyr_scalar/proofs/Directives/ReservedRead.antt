@@ -8,7 +8,7 @@ use Rattle.saphyr_scalar.specs.declared.scalar.position.Marker.{Marker}
 use Rattle.saphyr_scalar.specs.Views.Cursor.{Cursor, along, pass_break, pass_comment}
 use Rattle.saphyr_scalar.specs.Steps.Directive.{reserved, name, value, directive}
 use Rattle.saphyr_scalar.specs.Spelling.Directive.{IsReservedDirective}
-use Rattle.saphyr_scalar.specs.Steps.Quoted.{at}
+use Rattle.saphyr_scalar.specs.Steps.Quoted.{mid_line}
 use Rattle.saphyr_scalar.specs.Spelling.Tag.{AreIn}
 use Rattle.saphyr_scalar.proofs.Runs.{run_len}
 use Rattle.saphyr_scalar.proofs.Places.{along_three}
@@ -35,14 +35,14 @@ more_begins (c ∷ more) x (inl none) ends = absurd (cc)
 more_begins (c ∷ more) x (inr blank) ends = or_left (is_blank c) (is_breakz c) blank
 
 comment_passed : (k : Marker) (more x : List ℕ) → AreIn is_yaml_non_break more → is_breakz (slice_index x 0) ≡ true
-    → pass_comment (at k (more ++ x)) ≡ at (along k (length more)) x
+    → pass_comment (mid_line k (more ++ x)) ≡ mid_line (along k (length more)) x
 comment_passed k more x are ends =
     ap (λ n. blanks_passed n k (more ++ x))
     (run_len is_yaml_non_break more x are (breakz_no_non_break (slice_index x 0) ends))
     ∙ rw (drop-append_seam more x) refl
 
 reserved_line : (m : Marker) (name t x : List ℕ) → IsReservedDirective name t → is_breakz (slice_index x 0) ≡ true
-    → directive (at m (t ++ x))
+    → directive (mid_line m (t ++ x))
     ≡ tail_given (reserved (encode_utf8_all name)) (along m (length t)) (along m (length t)) x
 reserved_line m name t x (more, some, no_yaml, no_tag, are, in_line, begins, e) ends =
     let d = reserved (encode_utf8_all name) in
@@ -52,11 +52,13 @@ reserved_line m name t x (more, some, no_yaml, no_tag, are, in_line, begins, e) 
     let a = along (along m 1) (length name) in
     let b = along a (length more) in
     let none : length t + 0 ≡ length t = omega arith in
-    ap (λ u. directive (at m u)) whole
-    ∙ whole_line (at m (37 ∷ (name ++ parts))) (pass_break (at (along b 0) x)) d (encode_utf8_all name) (at a parts)
-    (at b x)
+    ap (λ u. directive (mid_line m u)) whole
+    ∙ whole_line (mid_line m (37 ∷ (name ++ parts))) (pass_break (mid_line (along b 0) x)) d (encode_utf8_all name)
+    (mid_line a parts)
+    (mid_line b x)
     (name_read (along m 1) name parts some are (more_begins more x begins ends))
-    (reserved_value m name (at a parts) no_yaml no_tag ∙ ap (λ s. said d s) (comment_passed a more x in_line ends))
+    (reserved_value m name (mid_line a parts) no_yaml no_tag ∙ ap (λ s. said d s)
+    (comment_passed a more x in_line ends))
     (line_read m b [] x no_tail ends)
     ∙ line_place d m b (length t) [] x (along_three m 1 (length name) (length more) (length t) len)
     ∙ ap (λ n. tail_given d (along m (length t)) (along m n) x) none
@@ -67,7 +69,7 @@ pub reads_reserved : (s : Cursor) (name t x : List ℕ) → s.rest ≡ t ++ x �
       reserved (encode_utf8_all name),
       along s.mark (length t),
       pass_break
-          (at (along s.mark (length t)) x),
+          (mid_line (along s.mark (length t)) x),
     )
 reads_reserved s name t x e is ends =
-    directive_same s ∙ ap (λ u. directive (at s.mark u)) e ∙ reserved_line s.mark name t x is ends
+    directive_same s ∙ ap (λ u. directive (mid_line s.mark u)) e ∙ reserved_line s.mark name t x is ends

@@ -5,7 +5,7 @@ use Rattle.saphyr_scalar.specs.declared.scalar.position.Marker.{Marker}
 use Rattle.saphyr_scalar.specs.Views.Cursor.{Cursor, ◌>>=◌, along, pass_break}
 use Rattle.saphyr_scalar.specs.Steps.Directive.{ReadDirective, name, value, line_end, directive}
 use Rattle.saphyr_scalar.specs.Spelling.Directive.{IsReadDirective, IsLineTail}
-use Rattle.saphyr_scalar.specs.Steps.Quoted.{at}
+use Rattle.saphyr_scalar.specs.Steps.Quoted.{mid_line}
 use Rattle.saphyr_scalar.proofs.Moving.{along_more}
 use Rattle.saphyr_scalar.proofs.Properties.TagsSpelled.{cut_at}
 use Rattle.saphyr_scalar.proofs.Directives.Read.{directive_same}
@@ -19,7 +19,7 @@ abbrev Spelled : Marker → List ℕ → ReadDirective → Marker → Cursor →
 Spelled m xs d end u =
     (t : List ℕ) × (tail : List ℕ) × (x : List ℕ) × (xs ≡ t ++ (tail ++ x)) × IsReadDirective d t × IsLineTail tail
     × (is_breakz (slice_index x 0) ≡ true) × (end ≡ along m (length t))
-    × (u ≡ pass_break (at (along m (length t + length tail)) x))
+    × (u ≡ pass_break (mid_line (along m (length t + length tail)) x))
 
 abbrev OfLine : Marker → List ℕ → ReadDirective × Marker × Cursor → Type 0
 OfLine m xs r = Spelled m xs r.0 r.1 r.2
@@ -43,19 +43,19 @@ line_spells m ys text a b d u n is tail =
       tail.is,
       tail.ends,
       end,
-      tail.place ∙ ap (λ (j : Marker). pass_break (at (along j (length tail.tail)) tail.behind)) end
-          ∙ ap (λ j. pass_break (at j tail.behind))
+      tail.place ∙ ap (λ (j : Marker). pass_break (mid_line (along j (length tail.tail)) tail.behind)) end
+          ∙ ap (λ j. pass_break (mid_line j tail.behind))
           (along_more m (length t) (length tail.tail) (length t + length tail.tail) refl),
     )
 
-pub at_self : (b : Cursor) (k : Marker) (r : List ℕ) → b ≡ at k r → at b.mark b.rest ≡ b
-at_self b k r e = ap (λ (y : Cursor). at y.mark y.rest) e ∙ sym e
+pub at_self : (b : Cursor) (k : Marker) (r : List ℕ) → b ≡ mid_line k r → mid_line b.mark b.rest ≡ b
+at_self b k r e = ap (λ (y : Cursor). mid_line y.mark y.rest) e ∙ sym e
 
 directive_spelled : (m : Marker) (ys : List ℕ) (d : ReadDirective) (end : Marker) (u : Cursor)
-    → directive (at m (37 ∷ ys)) ≡ Ok (d, end, u) → Spelled m (37 ∷ ys) d end u
+    → directive (mid_line m (37 ∷ ys)) ≡ Ok (d, end, u) → Spelled m (37 ∷ ys) d end u
 unfolding directive
 directive_spelled m ys d end u h =
-    let one = bind_ok (name (at (along m 1) ys))
+    let one = bind_ok (name (mid_line (along m 1) ys))
     (λ (x : List ℕ × Cursor). value m x >>= λ (e : ReadDirective × Cursor). line_end m e.1 >>= λ (t : Cursor). Ok
     (e.0, e.1.mark, t)) (d, end, u) h in
     let n = name_spelled (along m 1) ys one.given.0 one.given.1 one.first in
@@ -64,13 +64,13 @@ directive_spelled m ys d end u h =
     let three = bind_ok (line_end m two.given.1) (λ (t : Cursor). Ok (two.given.0, two.given.1.mark, t)) (d, end, u)
     two.next in
     let a = one.given.1 in
-    let read : value m (encode_utf8_all n.word, at (along (along m 1) (length n.word)) a.rest) ≡ Ok two.given =
-    ap (λ v. value m (v, at (along (along m 1) (length n.word)) a.rest)) n.bytes
+    let read : value m (encode_utf8_all n.word, mid_line (along (along m 1) (length n.word)) a.rest) ≡ Ok two.given =
+    ap (λ v. value m (v, mid_line (along (along m 1) (length n.word)) a.rest)) n.bytes
     ∙ ap (λ (y : Cursor). value m (one.given.0, y)) (sym n.place) ∙ two.first in
     let is = value_spelled m (along (along m 1) (length n.word)) n.word a.rest two.given.0 two.given.1 n.some n.all
     n.ends read in
     let b = two.given.1 in
-    let line : line_end m (at b.mark b.rest) ≡ Ok three.given = ap (λ (y : Cursor). line_end m y)
+    let line : line_end m (mid_line b.mark b.rest) ≡ Ok three.given = ap (λ (y : Cursor). line_end m y)
     (at_self b (along (along (along m 1) (length n.word)) (length is.more)) b.rest is.place) ∙ three.first in
     subst (OfLine m (37 ∷ ys))
     (ok_same {A = ReadDirective × Marker × Cursor} (two.given.0, b.mark, three.given) (d, end, u) three.next)
@@ -80,10 +80,10 @@ pub spells_directive : (s u : Cursor) (d : ReadDirective) (end : Marker) → sli
     → directive s ≡ Ok (d, end, u)
     → (t : List ℕ) × (tail : List ℕ) × (x : List ℕ) × (s.rest ≡ t ++ (tail ++ x)) × IsReadDirective d t
     × IsLineTail tail × (is_breakz (slice_index x 0) ≡ true) × (end ≡ along s.mark (length t))
-    × (u ≡ pass_break (at (along s.mark (length t + length tail)) x))
+    × (u ≡ pass_break (mid_line (along s.mark (length t + length tail)) x))
 spells_directive s u d end begins read =
     let more : s.rest ≡ 37 ∷ drop 1 s.rest = cut_at 37 s.rest refl begins in
     let here = sym (directive_same s) ∙ read in
     let is = directive_spelled s.mark (drop 1 s.rest) d end u
-    (subst (λ r. directive (at s.mark r) ≡ Ok (d, end, u)) more here) in
+    (subst (λ r. directive (mid_line s.mark r) ≡ Ok (d, end, u)) more here) in
     subst (λ r. Spelled s.mark r d end u) (sym more) is

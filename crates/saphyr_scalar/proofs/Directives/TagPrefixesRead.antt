@@ -8,35 +8,36 @@ use Rattle.saphyr_scalar.specs.declared.scalar.tag.UriSet.TheVariants.{Uri}
 use Rattle.saphyr_scalar.specs.Views.Cursor.{Cursor, ◌>>=◌, along}
 use Rattle.saphyr_scalar.specs.Steps.Directive.{ReadDirective, tag_prefix, pass_all_blanks, handle_behind_word, handle, prefix, behind_prefix, tag_directive}
 use Rattle.saphyr_scalar.specs.Spelling.Directive.{AreSomeBlanks}
-use Rattle.saphyr_scalar.specs.Steps.Quoted.{with_front, at}
+use Rattle.saphyr_scalar.specs.Steps.Quoted.{with_front, mid_line}
 use Rattle.saphyr_scalar.specs.Steps.Tag.{uri_character, handle_of}
 use Rattle.saphyr_scalar.specs.Spelling.Tag.{IsCharacter, IsHandleText, IsPrefix}
 use Rattle.saphyr_scalar.proofs.Moving.{along_none, along_more}
 use Rattle.saphyr_scalar.proofs.Properties.PercentEscapes.{reads_on}
 use Rattle.saphyr_scalar.proofs.Properties.EscapesRead.{character_read, escape_first, decoded_read}
 use Rattle.saphyr_scalar.proofs.Runs.{run_read}
-use Rattle.saphyr_scalar.proofs.Properties.TagsRead.{stops_blank, handle_bytes, mark_bytes}
+use Rattle.saphyr_scalar.proofs.Properties.TagsRead.{stops_blank, bytes_of_handle, mark_bytes}
 use Rattle.saphyr_scalar.proofs.Places.{along_three, along_four}
 use Rattle.saphyr_input.proofs.Basics.Booleans.{or_true_swap, other_than}
 use Rattle.saphyr_scalar.proofs.Given.{text_given}
 use Rattle.saphyr_scalar.proofs.Directives.PartEnds.{ends_at, first_of, blanks_read, said}
 
 handle_read : (start m : Marker) (h y : List ℕ) → IsHandleText h → is_blank (slice_index y 0) ≡ true
-    → handle start (at m (h ++ y)) ≡ Ok (encode_utf8_all h, at (along m (length h)) y)
+    → handle start (mid_line m (h ++ y)) ≡ Ok (encode_utf8_all h, mid_line (along m (length h)) y)
 unfolding handle handle_behind_word
 handle_read start m h y (inl primary) ends =
     let stop = stops_blank (slice_index y 0) ends in
     rw primary
     (ap (handle_behind_word start) (run_read is_alpha (along m 1) [] y tt stop.no_alpha)
-    ∙ rw (stop.no_mark, along_none (along m 1)) (ap (λ v. text_given v (at (along m 1) y)) (sym mark_bytes)))
+    ∙ rw (stop.no_mark, along_none (along m 1)) (ap (λ v. text_given v (mid_line (along m 1) y)) (sym mark_bytes)))
 handle_read start m h y (inr (w, are, named)) ends =
     let whole : h ++ y ≡ 33 ∷ (w ++ (33 ∷ y)) = ap (λ u. u ++ y) named
     ∙ ap (λ u. 33 ∷ u) (append_assoc w (codes "!") y) in
     let len : 1 + length w + 1 ≡ length h = rw named (omega (arith, length-append w (codes "!"))) in
-    ap (λ u. handle start (at m u)) whole
+    ap (λ u. handle start (mid_line m u)) whole
     ∙ ap (handle_behind_word start) (run_read is_alpha (along m 1) w (33 ∷ y) are refl)
-    ∙ ap (λ k. text_given (handle_of (encode_utf8_all w)) (at k y)) (along_three m 1 (length w) 1 (length h) (sym len))
-    ∙ ap (λ v. text_given v (at (along m (length h)) y)) (handle_bytes w ∙ ap encode_utf8_all (sym named))
+    ∙ ap (λ k. text_given (handle_of (encode_utf8_all w)) (mid_line k y))
+    (along_three m 1 (length w) 1 (length h) (sym len))
+    ∙ ap (λ v. text_given v (mid_line (along m (length h)) y)) (bytes_of_handle w ∙ ap encode_utf8_all (sym named))
 
 abbrev pub begins_prefix : ℕ → Bool
 begins_prefix c = (c == 33) || is_tag_char c
@@ -61,17 +62,17 @@ unfolding prefix
 prefix_goes start s h = rw h refl
 
 prefix_read : (start m : Marker) (p t y : List ℕ) → IsPrefix p t → is_uri_char (slice_index y 0) ≡ false
-    → prefix start (at m (t ++ y)) ≡ Ok (encode_utf8_all p, at (along m (length t)) y)
+    → prefix start (mid_line m (t ++ y)) ≡ Ok (encode_utf8_all p, mid_line (along m (length t)) y)
 prefix_read start m [] t y is ends = absurd is
 prefix_read start m (c ∷ p) t y (first, more, is, others, e) ends =
     let whole : t ++ y ≡ first ++ (more ++ y) = ap (λ u. u ++ y) e ∙ append_assoc first more y in
     let len : length t ≡ length first + length more = rw (e, length-append) refl in
     let there = along m (length first) in
-    ap (λ u. prefix start (at m u)) whole
-    ∙ prefix_goes start (at m (first ++ (more ++ y))) (prefix_first c first (more ++ y) is)
+    ap (λ u. prefix start (mid_line m u)) whole
+    ∙ prefix_goes start (mid_line m (first ++ (more ++ y))) (prefix_first c first (more ++ y) is)
     ∙ ap (reads_on Uri start) (character_read (λ x. is_tag_char x || (x == 33)) start m c first (more ++ y) is)
     ∙ ap (with_front (encode_utf8 c)) (decoded_read Uri start there p more y others ends)
-    ∙ ap (λ k. text_given (encode_utf8 c ++ encode_utf8_all p) (at k y))
+    ∙ ap (λ k. text_given (encode_utf8 c ++ encode_utf8_all p) (mid_line k y))
     (along_more m (length first) (length more) (length t) len)
 
 prefix_ends : (start : Marker) (h p : List ℕ) (s : Cursor) → is_blank_or_breakz (slice_index s.rest 0) ≡ true
@@ -92,10 +93,10 @@ handle_first h y (inr (w, are, named)) = rw named refl
 pub tag_read : (start m : Marker) (first h second p t y : List ℕ) → AreSomeBlanks first → IsHandleText h
     → AreSomeBlanks second
     → IsPrefix p t → is_blank_or_breakz (slice_index y 0) ≡ true
-    → tag_directive start (at m (first ++ (h ++ (second ++ (t ++ y)))))
+    → tag_directive start (mid_line m (first ++ (h ++ (second ++ (t ++ y)))))
     ≡ Ok (
       tag_prefix (encode_utf8_all h) (encode_utf8_all p),
-      at
+      mid_line
           (along m (length first + length h + length second + length t)) y,
     )
 unfolding tag_directive
@@ -112,7 +113,7 @@ tag_read start m first h second p t y before is_h between is_p ends =
     (blanks_read b second (t ++ y) between.1 (prefix_no_blank (slice_index (t ++ y) 0) (written_first p t y is_p)))
     ∙ ap (then_prefix start (encode_utf8_all h))
     (prefix_read start c p t y is_p (ends_at (slice_index y 0) ends).no_uri)
-    ∙ prefix_ends start (encode_utf8_all h) (encode_utf8_all p) (at d y) ends
-    ∙ ap (λ k. said (tag_prefix (encode_utf8_all h) (encode_utf8_all p)) (at k y))
+    ∙ prefix_ends start (encode_utf8_all h) (encode_utf8_all p) (mid_line d y) ends
+    ∙ ap (λ k. said (tag_prefix (encode_utf8_all h) (encode_utf8_all p)) (mid_line k y))
     (along_four m (length first) (length h) (length second) (length t)
     (length first + length h + length second + length t) refl)

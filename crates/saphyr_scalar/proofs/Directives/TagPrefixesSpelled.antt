@@ -12,12 +12,12 @@ use Rattle.saphyr_scalar.specs.declared.scalar.tag.UriSet.TheVariants.{Uri}
 use Rattle.saphyr_scalar.specs.Views.Cursor.{Cursor, ◌>>=◌, along}
 use Rattle.saphyr_scalar.specs.Steps.Directive.{ReadDirective, tag_prefix, pass_all_blanks, handle_behind_word, handle, prefix, behind_prefix, tag_directive}
 use Rattle.saphyr_scalar.specs.Spelling.Directive.{AreSomeBlanks}
-use Rattle.saphyr_scalar.specs.Steps.Quoted.{with_front, with_run, at}
-use Rattle.saphyr_scalar.specs.Steps.Tag.{uri_character, decoded, decoded_at, handle_of}
+use Rattle.saphyr_scalar.specs.Steps.Quoted.{with_front, with_run, mid_line}
+use Rattle.saphyr_scalar.specs.Steps.Tag.{uri_character, decoded_characters, decoded_at, handle_of}
 use Rattle.saphyr_scalar.specs.Spelling.Tag.{AreIn, IsHandleText, IsPrefix}
 use Rattle.saphyr_scalar.proofs.Moving.{along_more}
 use Rattle.saphyr_scalar.proofs.Runs.{run_is_in}
-use Rattle.saphyr_scalar.proofs.Properties.TagsRead.{handle_bytes, mark_bytes}
+use Rattle.saphyr_scalar.proofs.Properties.TagsRead.{bytes_of_handle, mark_bytes}
 use Rattle.saphyr_scalar.proofs.Properties.TagsSpelled.{cut_at, none_value}
 use Rattle.saphyr_scalar.proofs.Properties.EscapesSpelled.{decoded_spelled, DecodedOf, character_spelled}
 use Rattle.saphyr_scalar.proofs.Directives.TagPrefixesRead.{begins_prefix}
@@ -33,13 +33,14 @@ pub record HandleOf (m : Marker) (xs text : List ℕ) (u : Cursor) : Type 0 wher
   pub bytes : encode_utf8_all handle ≡ text
   pub begins : slice_index xs 0 ≡ 33
   pub rest : xs ≡ handle ++ u.rest
-  pub place : u ≡ at (along m (length handle)) u.rest
+  pub place : u ≡ mid_line (along m (length handle)) u.rest
 
 abbrev OfHandle : Marker → List ℕ → List ℕ × Cursor → Type 0
 OfHandle m xs x = HandleOf m xs x.0 x.1
 
 word_spelled : (start m : Marker) (ys text : List ℕ) (u : Cursor)
-    → handle_behind_word start (with_run is_alpha [] (at (along m 1) ys)) ≡ Ok (text, u) → HandleOf m (33 ∷ ys) text u
+    → handle_behind_word start (with_run is_alpha [] (mid_line (along m 1) ys)) ≡ Ok (text, u)
+    → HandleOf m (33 ∷ ys) text u
 unfolding handle_behind_word
 word_spelled start m ys text u =
     let n = prefix_len is_alpha ys in
@@ -47,8 +48,8 @@ word_spelled start m ys text u =
     let left = drop n ys in
     let k = along (along m 1) n in
     let bytes = encode_utf8_all w in
-    by_test (nat_eq (slice_index left 0) 33) (Ok (handle_of bytes, at (along k 1) (drop 1 left)))
-    (cond (nat_eq (length bytes) 0) (Ok (codes "!", at k left))
+    by_test (nat_eq (slice_index left 0) 33) (Ok (handle_of bytes, mid_line (along k 1) (drop 1 left)))
+    (cond (nat_eq (length bytes) 0) (Ok (codes "!", mid_line k left))
     (Err (record { text = fault.TagDirectiveHandleEndExpected; mark = start })))
     (λ (r : Result (List ℕ × Cursor) Refusal). r ≡ Ok (text, u) → HandleOf m (33 ∷ ys) text u)
     (λ mark h.
@@ -56,17 +57,17 @@ word_spelled start m ys text u =
     let more : left ≡ 33 ∷ drop 1 left = cut_at 33 left refl (eqb-true (slice_index left 0) 33 mark) in
     let len : length handle ≡ 1 + n + 1 = omega (arith, length-append w (codes "!"), run_count is_alpha ys) in
     subst (OfHandle m (33 ∷ ys))
-    (ok_same {A = List ℕ × Cursor} (handle_of bytes, at (along k 1) (drop 1 left)) (text, u) h) (record {
+    (ok_same {A = List ℕ × Cursor} (handle_of bytes, mid_line (along k 1) (drop 1 left)) (text, u) h) (record {
       handle = handle;
       is = inr (w, run_is_in is_alpha ys, refl);
-      bytes = sym (handle_bytes w);
+      bytes = sym (bytes_of_handle w);
       begins = refl;
       rest = ap (λ r. 33 ∷ r) (sym (take-append-drop n ys) ∙ ap (λ r. w ++ r) more
           ∙ sym (append_assoc w (codes "!") (drop 1 left)));
-      place = ap (λ j. at j (drop 1 left)) (along_three m 1 n 1 (length handle) len);
+      place = ap (λ j. mid_line j (drop 1 left)) (along_three m 1 n 1 (length handle) len);
     }))
     (λ _ h.
-    let is = cond_ok {A = List ℕ × Cursor} (nat_eq (length bytes) 0) (codes "!", at k left) (text, u)
+    let is = cond_ok {A = List ℕ × Cursor} (nat_eq (length bytes) 0) (codes "!", mid_line k left) (text, u)
     (record { text = fault.TagDirectiveHandleEndExpected; mark = start }) h in
     let none : w ≡ [] = none_value w is.test in
     let count : 1 ≡ 1 + n = omega (arith, run_count is_alpha ys, ap (λ (v : List ℕ). length v) none) in
@@ -76,15 +77,15 @@ word_spelled start m ys text u =
       bytes = mark_bytes;
       begins = refl;
       rest = ap (λ r. 33 ∷ r) (sym (take-append-drop n ys) ∙ ap (λ v. v ++ left) none);
-      place = ap (λ j. at j left) (along_more m 1 n 1 count);
+      place = ap (λ j. mid_line j left) (along_more m 1 n 1 count);
     }))
 
-handle_spelled : (start m : Marker) (xs text : List ℕ) (u : Cursor) → handle start (at m xs) ≡ Ok (text, u)
+handle_spelled : (start m : Marker) (xs text : List ℕ) (u : Cursor) → handle start (mid_line m xs) ≡ Ok (text, u)
     → HandleOf m xs text u
 unfolding handle
 handle_spelled start m xs text u h =
     let is = cond_then (nat_eq (slice_index xs 0) 33)
-    (handle_behind_word start (with_run is_alpha [] (at (along m 1) (drop 1 xs)))) (text, u)
+    (handle_behind_word start (with_run is_alpha [] (mid_line (along m 1) (drop 1 xs)))) (text, u)
     (record { text = fault.TagHandleStartExpected; mark = start }) h in
     let more : xs ≡ 33 ∷ drop 1 xs = cut_at 33 xs refl (eqb-true (slice_index xs 0) 33 is.test) in
     subst (λ r. HandleOf m r text u) (sym more) (word_spelled start m (drop 1 xs) text u is.same)
@@ -95,18 +96,19 @@ pub record PrefixOf (m : Marker) (xs text : List ℕ) (u : Cursor) : Type 0 wher
   pub is : IsPrefix value written
   pub bytes : encode_utf8_all value ≡ text
   pub rest : xs ≡ written ++ u.rest
-  pub place : u ≡ at (along m (length written)) u.rest
+  pub place : u ≡ mid_line (along m (length written)) u.rest
 
-prefix_spelled : (start m : Marker) (xs text : List ℕ) (u : Cursor) → prefix start (at m xs) ≡ Ok (text, u)
+prefix_spelled : (start m : Marker) (xs text : List ℕ) (u : Cursor) → prefix start (mid_line m xs) ≡ Ok (text, u)
     → PrefixOf m xs text u
 unfolding prefix
 prefix_spelled start m xs text u h =
     let c0 = slice_index xs 0 in
     let begins : ℕ → Bool = λ x. is_tag_char x || (x == 33) in
     let is = cond_then (begins_prefix c0)
-    (uri_character start (at m xs) >>= λ (x : ℕ × Cursor). with_front (encode_utf8 x.0) (decoded_at Uri start x.1))
+    (uri_character start (mid_line m xs) >>= λ (x : ℕ × Cursor). with_front (encode_utf8 x.0)
+    (decoded_at Uri start x.1))
     (text, u) (record { text = fault.TagPrefixCharacter; mark = start }) h in
-    let one = bind_ok (uri_character start (at m xs))
+    let one = bind_ok (uri_character start (mid_line m xs))
     (λ (x : ℕ × Cursor). with_front (encode_utf8 x.0) (decoded_at Uri start x.1)) (text, u) is.same in
     let c = one.given.0 in
     let here = one.given.1 in
@@ -116,7 +118,8 @@ prefix_spelled start m xs text u h =
     one.next in
     let same = ok_same {A = List ℕ × Cursor} (encode_utf8 c ++ two.given.0, two.given.1) (text, u) two.next in
     let left : two.given.1 ≡ u = ap (λ (x : List ℕ × Cursor). x.1) same in
-    let read = subst (λ (y : Cursor). decoded Uri start 0 y.mark y.rest ≡ Ok two.given) first.place two.first in
+    let read = subst (λ (y : Cursor). decoded_characters Uri start 0 y.mark y.rest ≡ Ok two.given) first.place
+    two.first in
     let others = subst (λ (y : Cursor). DecodedOf Uri (along m (length first.piece)) here.rest two.given.0 y) left
     (decoded_spelled Uri start (along m (length first.piece)) here.rest two.given.0 two.given.1 read) in
     let written = first.piece ++ others.piece in
@@ -126,7 +129,7 @@ prefix_spelled start m xs text u h =
       is = (first.piece, others.piece, first.is, others.is, refl);
       bytes = ap (λ b. encode_utf8 c ++ b) others.bytes ∙ ap (λ (x : List ℕ × Cursor). x.0) same;
       rest = first.text ∙ ap (λ r. first.piece ++ r) others.rest ∙ sym (append_assoc first.piece others.piece u.rest);
-      place = others.place ∙ ap (λ k. at k u.rest)
+      place = others.place ∙ ap (λ k. mid_line k u.rest)
           (along_more m (length first.piece) (length others.piece) (length written)
           (length-append first.piece others.piece));
     }
@@ -143,7 +146,7 @@ pub record TagOf (d : ReadDirective) (m : Marker) (xs : List ℕ) (u : Cursor) :
   pub between : AreIn is_blank second
   pub is_prefix : IsPrefix value written
   pub text : xs ≡ first ++ (handle ++ (second ++ (written ++ u.rest)))
-  pub place : u ≡ at (along m (length first + length handle + length second + length written)) u.rest
+  pub place : u ≡ mid_line (along m (length first + length handle + length second + length written)) u.rest
 
 prefix_ended : (start : Marker) (h text : List ℕ) (d : ReadDirective) (k u : Cursor)
     → behind_prefix start h (text, k) ≡ Ok (d, u)
@@ -157,12 +160,12 @@ no_mark_first : (c : ℕ) → is_blank_or_breakz c ≡ true → nat_eq c 33 ≡ 
 no_mark_first c h = other_than is_blank_or_breakz 33 c refl h
 
 pub tag_spelled : (start m : Marker) (xs : List ℕ) (d : ReadDirective) (u : Cursor)
-    → is_blank_or_breakz (slice_index xs 0) ≡ true → tag_directive start (at m xs) ≡ Ok (d, u) → TagOf d m xs u
+    → is_blank_or_breakz (slice_index xs 0) ≡ true → tag_directive start (mid_line m xs) ≡ Ok (d, u) → TagOf d m xs u
 unfolding tag_directive
 tag_spelled start m xs d u begins h =
     let n = prefix_len is_blank xs in
     let first = take n xs in
-    let one = bind_ok (handle start (pass_all_blanks (at m xs)))
+    let one = bind_ok (handle start (pass_all_blanks (mid_line m xs)))
     (λ (h : List ℕ × Cursor). prefix start (pass_all_blanks h.1) >>= λ (x : List ℕ × Cursor). behind_prefix start h.0
     x) (d, u) h in
     let a = handle_spelled start (along m n) (drop n xs) one.given.0 one.given.1 one.first in
@@ -199,7 +202,7 @@ tag_spelled start m xs d u begins h =
       text = sym (take-append-drop n xs)
           ∙ ap (λ r. first ++ r) (a.rest
           ∙ ap (λ r. a.handle ++ r) (sym (take-append-drop o ys) ∙ ap (λ r. second ++ r) b.rest));
-      place = b.place ∙ ap (λ k. at k u.rest)
+      place = b.place ∙ ap (λ k. mid_line k u.rest)
           (along_four m n (length a.handle) o (length b.written)
           (length first + length a.handle + length second + length b.written) total);
     }

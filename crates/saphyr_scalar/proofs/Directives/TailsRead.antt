@@ -12,7 +12,7 @@ use Rattle.saphyr_scalar.specs.declared.scalar.position.Marker.{Marker}
 use Rattle.saphyr_scalar.specs.Views.Cursor.{Cursor, along, pass_break, separation, behind_separation}
 use Rattle.saphyr_scalar.specs.Steps.Directive.{line_end}
 use Rattle.saphyr_scalar.specs.Spelling.Directive.{IsTailComment, IsLineTail}
-use Rattle.saphyr_scalar.specs.Steps.Quoted.{at}
+use Rattle.saphyr_scalar.specs.Steps.Quoted.{mid_line}
 use Rattle.saphyr_scalar.specs.Spelling.Tag.{AreIn}
 use Rattle.saphyr_scalar.proofs.Runs.{run_len}
 use Rattle.saphyr_input.proofs.Basics.Booleans.{other_than}
@@ -83,18 +83,18 @@ tail_len tail x (blanks, comment, are, end, e) ends =
     (separation_is blanks comment x are end ends ∙ sym (length-append blanks comment))
 
 separation_read : (m : Marker) (tail x : List ℕ) → IsLineTail tail → is_breakz (slice_index x 0) ≡ true
-    → separation Yes (at m (tail ++ x)) ≡ Ok (found_blanks Yes (tail ++ x), at (along m (length tail)) x)
+    → separation Yes (mid_line m (tail ++ x)) ≡ Ok (found_blanks Yes (tail ++ x), mid_line (along m (length tail)) x)
 unfolding separation
 separation_read m tail x is ends =
     let bare : is_bare_comment Yes (tail ++ x) ≡ false =
     and_right (nat_eq (blank_len Yes (tail ++ x)) 0) (nat_eq (slice_index (tail ++ x) 0) 35)
     (other_than is_blank_or_breakz 35 (slice_index (tail ++ x) 0) refl (tail_first tail x is ends)) in
     ap (λ n. behind_separation Yes (tail ++ x) (blanks_passed n m (tail ++ x))) (tail_len tail x is ends)
-    ∙ ap (λ u. behind_separation Yes (tail ++ x) (at (along m (length tail)) u)) (drop-append_seam tail x)
-    ∙ nothing_refused (tail ++ x) (at (along m (length tail)) x) (no_bom (slice_index x 0) ends) bare
+    ∙ ap (λ u. behind_separation Yes (tail ++ x) (mid_line (along m (length tail)) u)) (drop-append_seam tail x)
+    ∙ nothing_refused (tail ++ x) (mid_line (along m (length tail)) x) (no_bom (slice_index x 0) ends) bare
 
 pub line_read : (start m : Marker) (tail x : List ℕ) → IsLineTail tail → is_breakz (slice_index x 0) ≡ true
-    → line_end start (at m (tail ++ x)) ≡ Ok (pass_break (at (along m (length tail)) x))
+    → line_end start (mid_line m (tail ++ x)) ≡ Ok (pass_break (mid_line (along m (length tail)) x))
 unfolding line_end
 line_read start m tail x is ends = rw (separation_read m tail x is ends, ends) refl
 

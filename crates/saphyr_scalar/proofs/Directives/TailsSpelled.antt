@@ -14,7 +14,7 @@ use Rattle.saphyr_scalar.specs.declared.scalar.fault.FaultText.TheVariants as fa
 use Rattle.saphyr_scalar.specs.Views.Cursor.{Cursor, along, pass_break, separation, behind_separation}
 use Rattle.saphyr_scalar.specs.Steps.Directive.{line_end}
 use Rattle.saphyr_scalar.specs.Spelling.Directive.{IsLineTail}
-use Rattle.saphyr_scalar.specs.Steps.Quoted.{at}
+use Rattle.saphyr_scalar.specs.Steps.Quoted.{mid_line}
 use Rattle.saphyr_scalar.proofs.Moving.{drop_more}
 use Rattle.saphyr_scalar.proofs.Runs.{run_is_in}
 use Rattle.saphyr_scalar.proofs.Properties.TagsSpelled.{cut_at}
@@ -30,7 +30,7 @@ pub record TailOf (m : Marker) (xs : List ℕ) (u : Cursor) : Type 0 where
   pub text : xs ≡ tail ++ behind
   pub is : IsLineTail tail
   pub ends : is_breakz (slice_index behind 0) ≡ true
-  pub place : u ≡ pass_break (at (along m (length tail)) behind)
+  pub place : u ≡ pass_break (mid_line (along m (length tail)) behind)
 
 comment_at : (blanks ws : List ℕ) → blanks ≢ [] → Tail blanks (take (1 + prefix_len is_yaml_non_break ws) (35 ∷ ws))
 comment_at blanks ws some =
@@ -38,8 +38,8 @@ comment_at blanks ws some =
     let one : 1 + q ≡ suc q = omega arith in
     rw one (inr (take q ws, some, run_is_in is_yaml_non_break ws, refl))
 
-comment_of : (blanks zs : List ℕ) → blanks ≢ [] → Tail blanks (take (comment_len zs) zs)
-comment_of blanks zs some =
+comment_in_tail : (blanks zs : List ℕ) → blanks ≢ [] → Tail blanks (take (comment_len zs) zs)
+comment_in_tail blanks zs some =
     by_test (nat_eq (slice_index zs 0) 35) (prefix_len is_yaml_non_break zs) 0 (λ n. Tail blanks (take n zs))
     (λ e.
     let more : zs ≡ 35 ∷ drop 1 zs = cut_at 35 zs refl (eqb-true (slice_index zs 0) 35 e) in
@@ -51,12 +51,12 @@ comment_count zs =
     by_test (nat_eq (slice_index zs 0) 35) (prefix_len is_yaml_non_break zs) 0 (λ n. length (take n zs) ≡ n)
     (λ _. run_count is_yaml_non_break zs) (λ _. refl)
 
-separation_spelled : (m : Marker) (xs : List ℕ) (x : SkipTabs × Cursor) → separation Yes (at m xs) ≡ Ok x
-    → at (along m (separation_len Yes xs)) (drop (separation_len Yes xs) xs) ≡ x.1
+separation_spelled : (m : Marker) (xs : List ℕ) (x : SkipTabs × Cursor) → separation Yes (mid_line m xs) ≡ Ok x
+    → mid_line (along m (separation_len Yes xs)) (drop (separation_len Yes xs) xs) ≡ x.1
 unfolding separation behind_separation
 separation_spelled m xs x h =
     let n = separation_len Yes xs in
-    let there = at (along m n) (drop n xs) in
+    let there = mid_line (along m n) (drop n xs) in
     let one = cond_not {A = SkipTabs × Cursor} (nat_lt 0 (m.col + n) && is_bom (slice_index (drop n xs) 0))
     (cond (is_bare_comment Yes xs) (Err (record { text = fault.CommentWithoutWhitespace; mark = along m n }))
     (Ok (found_blanks Yes xs, there))) x (record { text = fault.MisplacedByteOrderMark; mark = along m n }) h in
@@ -64,17 +64,17 @@ separation_spelled m xs x h =
     (record { text = fault.CommentWithoutWhitespace; mark = along m n }) one.same in
     ap (λ (y : SkipTabs × Cursor). y.1) (ok_same {A = SkipTabs × Cursor} (found_blanks Yes xs, there) x two.same)
 
-abbrev Line : Marker → List ℕ → List ℕ → ℕ → Type 0
-Line m xs tail n = (xs ≡ tail ++ drop n xs) × IsLineTail tail × (length tail ≡ n)
+abbrev IsTailLine : Marker → List ℕ → List ℕ → ℕ → Type 0
+IsTailLine m xs tail n = (xs ≡ tail ++ drop n xs) × IsLineTail tail × (length tail ≡ n)
 
 no_blanks : (m : Marker) (xs : List ℕ) → nat_eq (blank_len Yes xs) 0 ≡ true
-    → (tail : List ℕ) × Line m xs tail (separation_len Yes xs)
+    → (tail : List ℕ) × IsTailLine m xs tail (separation_len Yes xs)
 no_blanks m xs e =
     let none : 0 ≡ separation_len Yes xs = rw e refl in
-    subst (λ n. (tail : List ℕ) × Line m xs tail n) none ([], (refl, no_tail, refl))
+    subst (λ n. (tail : List ℕ) × IsTailLine m xs tail n) none ([], (refl, no_tail, refl))
 
 some_blanks : (m : Marker) (xs : List ℕ) → nat_eq (blank_len Yes xs) 0 ≡ false
-    → (tail : List ℕ) × Line m xs tail (separation_len Yes xs)
+    → (tail : List ℕ) × IsTailLine m xs tail (separation_len Yes xs)
 some_blanks m xs e =
     let b = prefix_len is_blank xs in
     let blanks = take b xs in
@@ -90,24 +90,24 @@ some_blanks m xs e =
     ∙ sym (append_assoc blanks comment (drop (b + c) xs)) in
     let len : length (blanks ++ comment) ≡ b + c = rw (length-append blanks comment)
     (omega (arith, run_count is_blank xs, comment_count zs)) in
-    subst (λ n. (tail : List ℕ) × Line m xs tail n) some
-    (blanks ++ comment, (text, (blanks, comment, run_is_in is_blank xs, comment_of blanks zs blank, refl), len))
+    subst (λ n. (tail : List ℕ) × IsTailLine m xs tail n) some
+    (blanks ++ comment, (text, (blanks, comment, run_is_in is_blank xs, comment_in_tail blanks zs blank, refl), len))
 
-pub line_of : (m : Marker) (xs : List ℕ) → (tail : List ℕ) × Line m xs tail (separation_len Yes xs)
-line_of m xs = by_test {A = Unit {0}} (nat_eq (blank_len Yes xs) 0) tt tt
-    (λ _. (tail : List ℕ) × Line m xs tail (separation_len Yes xs)) (no_blanks m xs) (some_blanks m xs)
+pub tail_line_of : (m : Marker) (xs : List ℕ) → (tail : List ℕ) × IsTailLine m xs tail (separation_len Yes xs)
+tail_line_of m xs = by_test {A = Unit {0}} (nat_eq (blank_len Yes xs) 0) tt tt
+    (λ _. (tail : List ℕ) × IsTailLine m xs tail (separation_len Yes xs)) (no_blanks m xs) (some_blanks m xs)
 
-pub line_spelled : (start m : Marker) (xs : List ℕ) (u : Cursor) → line_end start (at m xs) ≡ Ok u → TailOf m xs u
+pub line_spelled : (start m : Marker) (xs : List ℕ) (u : Cursor) → line_end start (mid_line m xs) ≡ Ok u → TailOf m xs u
 unfolding line_end
 line_spelled start m xs u h =
     let n = separation_len Yes xs in
-    let one = bind_ok (separation Yes (at m xs))
+    let one = bind_ok (separation Yes (mid_line m xs))
     (λ (x : SkipTabs × Cursor). cond (is_breakz (slice_index x.1.rest 0)) (Ok (pass_break x.1))
     (Err (record { text = fault.DirectiveEndExpected; mark = start }))) u h in
-    let there : at (along m n) (drop n xs) ≡ one.given.1 = separation_spelled m xs one.given one.first in
+    let there : mid_line (along m n) (drop n xs) ≡ one.given.1 = separation_spelled m xs one.given one.first in
     let is = cond_ok {A = Cursor} (is_breakz (slice_index one.given.1.rest 0)) (pass_break one.given.1) u
     (record { text = fault.DirectiveEndExpected; mark = start }) one.next in
-    let line = line_of m xs in
+    let line = tail_line_of m xs in
     record {
       tail = line.0;
       behind = drop n xs;
@@ -115,5 +115,5 @@ line_spelled start m xs u h =
       is = line.1.1;
       ends = subst (λ (y : Cursor). is_breakz (slice_index y.rest 0) ≡ true) (sym there) is.test;
       place = sym is.same ∙ ap pass_break (sym there)
-          ∙ ap (λ k. pass_break (at (along m k) (drop n xs))) (sym line.1.2);
+          ∙ ap (λ k. pass_break (mid_line (along m k) (drop n xs))) (sym line.1.2);
     }

@@ -13,7 +13,7 @@ use Rattle.saphyr_scalar.specs.declared.scalar.fault.Refusal.{Refusal}
 use Rattle.saphyr_scalar.specs.Views.Cursor.{Cursor, along, pass_comment}
 use Rattle.saphyr_scalar.specs.Steps.Directive.{ReadDirective, version, tag_prefix, reserved, version_directive, tag_directive, value}
 use Rattle.saphyr_scalar.specs.Spelling.Directive.{IsReadDirective}
-use Rattle.saphyr_scalar.specs.Steps.Quoted.{at}
+use Rattle.saphyr_scalar.specs.Steps.Quoted.{mid_line}
 use Rattle.saphyr_scalar.specs.Spelling.Tag.{AreIn}
 use Rattle.saphyr_scalar.proofs.Runs.{run_is_in}
 use Rattle.saphyr_scalar.proofs.Directives.LowBytes.{low_unique, AreLow}
@@ -27,7 +27,7 @@ use Rattle.saphyr_scalar.proofs.Directives.TagPrefixesSpelled.{TagOf, tag_spelle
 pub record ValueOf (d : ReadDirective) (k : Marker) (w zs : List ℕ) (u : Cursor) : Type 0 where
   pub more : List ℕ
   pub text : zs ≡ more ++ u.rest
-  pub place : u ≡ at (along k (length more)) u.rest
+  pub place : u ≡ mid_line (along k (length more)) u.rest
   pub is : IsReadDirective d (37 ∷ (w ++ more))
 
 version_value : (d : ReadDirective) (k : Marker) (zs : List ℕ) (u : Cursor) → VersionOf d k zs u
@@ -42,7 +42,7 @@ version_value d k zs u is =
       more = more;
       text = is.text ∙ sym (append_assoc is.gap (is.high ++ (46 ∷ is.low)) u.rest
           ∙ ap (λ r. is.gap ++ r) (append_assoc is.high (46 ∷ is.low) u.rest));
-      place = is.place ∙ ap (λ n. at (along k n) u.rest) len;
+      place = is.place ∙ ap (λ n. mid_line (along k n) u.rest) len;
       is = subst (λ (e : ReadDirective). IsReadDirective e (37 ∷ (codes "YAML" ++ more))) is.says spelled;
     }
 
@@ -73,7 +73,7 @@ tag_value d k zs u is =
           ∙ ap (λ r. is.first ++ r)
           (append_assoc is.handle (is.second ++ is.written) u.rest
           ∙ ap (λ r. is.handle ++ r) (append_assoc is.second is.written u.rest)));
-      place = is.place ∙ ap (λ n. at (along k n) u.rest) len;
+      place = is.place ∙ ap (λ n. mid_line (along k n) u.rest) len;
       is = subst (λ (e : ReadDirective). IsReadDirective e (37 ∷ (codes "TAG" ++ more))) is.says spelled;
     }
 
@@ -111,14 +111,14 @@ same_name w text low e = low_unique w text low ((bytes_eq-Decides (encode_utf8_a
 
 reserved_value : (w : List ℕ) (k : Marker) (zs : List ℕ) → w ≢ [] → w ≢ codes "YAML" → w ≢ codes "TAG"
     → AreIn is_yaml_non_space w → is_blank_or_breakz (slice_index zs 0) ≡ true
-    → ValueOf (reserved (encode_utf8_all w)) k w zs (pass_comment (at k zs))
+    → ValueOf (reserved (encode_utf8_all w)) k w zs (pass_comment (mid_line k zs))
 reserved_value w k zs some no_yaml no_tag all ends =
     let n = prefix_len is_yaml_non_break zs in
     let more = take n zs in
     record {
       more = more;
       text = sym (take-append-drop n zs);
-      place = ap (λ j. at (along k j) (drop n zs)) (sym (run_count is_yaml_non_break zs));
+      place = ap (λ j. mid_line (along k j) (drop n zs)) (sym (run_count is_yaml_non_break zs));
       is = (
         w,
         (more, some, no_yaml, no_tag, all, run_is_in is_yaml_non_break zs, parameters_begin zs ends, refl),
@@ -131,24 +131,24 @@ OfValue k w zs x = ValueOf x.0 k w zs x.1
 
 pub value_spelled : (start k : Marker) (w zs : List ℕ) (d : ReadDirective) (u : Cursor) → w ≢ []
     → AreIn is_yaml_non_space w
-    → is_blank_or_breakz (slice_index zs 0) ≡ true → value start (encode_utf8_all w, at k zs) ≡ Ok (d, u)
+    → is_blank_or_breakz (slice_index zs 0) ≡ true → value start (encode_utf8_all w, mid_line k zs) ≡ Ok (d, u)
     → ValueOf d k w zs u
 unfolding value
 value_spelled start k w zs d u some all ends =
-    by_test (bytes_eq (encode_utf8_all w) (codes "YAML")) (version_directive start (at k zs))
-    (cond (bytes_eq (encode_utf8_all w) (codes "TAG")) (tag_directive start (at k zs))
-    (Ok (reserved (encode_utf8_all w), pass_comment (at k zs))))
+    by_test (bytes_eq (encode_utf8_all w) (codes "YAML")) (version_directive start (mid_line k zs))
+    (cond (bytes_eq (encode_utf8_all w) (codes "TAG")) (tag_directive start (mid_line k zs))
+    (Ok (reserved (encode_utf8_all w), pass_comment (mid_line k zs))))
     (λ (r : Result (ReadDirective × Cursor) Refusal). r ≡ Ok (d, u) → ValueOf d k w zs u)
     (λ yaml h. subst (λ v. ValueOf d k v zs u)
     (sym (same_name w (codes "YAML") (lit< tt, (lit< tt, (lit< tt, (lit< tt, tt)))) yaml))
     (version_value d k zs u (version_spelled start k zs d u ends h)))
-    (λ no_yaml. by_test (bytes_eq (encode_utf8_all w) (codes "TAG")) (tag_directive start (at k zs))
-    (Ok (reserved (encode_utf8_all w), pass_comment (at k zs)))
+    (λ no_yaml. by_test (bytes_eq (encode_utf8_all w) (codes "TAG")) (tag_directive start (mid_line k zs))
+    (Ok (reserved (encode_utf8_all w), pass_comment (mid_line k zs)))
     (λ (r : Result (ReadDirective × Cursor) Refusal). r ≡ Ok (d, u) → ValueOf d k w zs u)
     (λ is_tag h. subst (λ v. ValueOf d k v zs u)
     (sym (same_name w (codes "TAG") (lit< tt, (lit< tt, (lit< tt, tt))) is_tag))
     (tag_value d k zs u (tag_spelled start k zs d u ends h)))
     (λ no_tag h. subst (OfValue k w zs)
-    (ok_same {A = ReadDirective × Cursor} (reserved (encode_utf8_all w), pass_comment (at k zs)) (d, u) h)
+    (ok_same {A = ReadDirective × Cursor} (reserved (encode_utf8_all w), pass_comment (mid_line k zs)) (d, u) h)
     (reserved_value w k zs some (other_name w (codes "YAML") yaml_eq no_yaml) (other_name w (codes "TAG") tag_eq no_tag)
     all ends)))

@@ -11,7 +11,7 @@ use Rattle.saphyr_scalar.specs.declared.scalar.fault.Refusal.{Refusal}
 use Rattle.saphyr_scalar.specs.Views.Cursor.{Cursor, ◌>>=◌, along, pass}
 use Rattle.saphyr_scalar.specs.Steps.Directive.{ReadDirective, version, pass_all_blanks, number_end, number_from, number, behind_major, version_directive}
 use Rattle.saphyr_scalar.specs.Spelling.Directive.{AreSomeBlanks, decimal_from, IsVersionNumber}
-use Rattle.saphyr_scalar.specs.Steps.Quoted.{at}
+use Rattle.saphyr_scalar.specs.Steps.Quoted.{mid_line}
 use Rattle.saphyr_scalar.specs.Spelling.Tag.{AreIn}
 use Rattle.saphyr_scalar.proofs.Moving.{along_none, along_more}
 use Rattle.saphyr_scalar.proofs.Runs.{run_is_in}
@@ -29,16 +29,16 @@ pub record DigitsOf (n v w : ℕ) (m : Marker) (xs : List ℕ) (u : Cursor) : Ty
   pub some : 0 < n + length digits
   pub value : decimal_from v digits ≡ w
   pub text : xs ≡ digits ++ u.rest
-  pub place : u ≡ at (along m (length digits)) u.rest
+  pub place : u ≡ mid_line (along m (length digits)) u.rest
 
 number_ended : (start : Marker) (n v w : ℕ) (m : Marker) (xs : List ℕ) (u : Cursor) → n ≤ 9
-    → number_end start n v (at m xs) ≡ Ok (w, u) → DigitsOf n v w m xs u
+    → number_end start n v (mid_line m xs) ≡ Ok (w, u) → DigitsOf n v w m xs u
 unfolding number_end
 number_ended start n v w m xs u le h =
-    let some = cond_not {A = ℕ × Cursor} (nat_eq n 0) (Ok (v, at m xs)) (w, u)
+    let some = cond_not {A = ℕ × Cursor} (nat_eq n 0) (Ok (v, mid_line m xs)) (w, u)
     (record { text = fault.VersionNumberExpected; mark = start }) h in
-    let same = ok_same {A = ℕ × Cursor} (v, at m xs) (w, u) some.same in
-    let left : at m xs ≡ u = ap (λ (x : ℕ × Cursor). x.1) same in
+    let same = ok_same {A = ℕ × Cursor} (v, mid_line m xs) (w, u) some.same in
+    let left : mid_line m xs ≡ u = ap (λ (x : ℕ × Cursor). x.1) same in
     let rest : xs ≡ u.rest = ap (λ (x : Cursor). x.rest) left in
     let test = some.test in
     record {
@@ -48,7 +48,7 @@ number_ended start n v w m xs u le h =
       some = grind (arith, nat_tests);
       value = ap (λ (x : ℕ × Cursor). x.0) same;
       text = rest;
-      place = sym left ∙ ap (at m) rest ∙ ap (λ k. at k u.rest) (sym (along_none m));
+      place = sym left ∙ ap (mid_line m) rest ∙ ap (λ k. mid_line k u.rest) (sym (along_none m));
     }
 
 digits_spelled : (start : Marker) (n v : ℕ) (m : Marker) (xs : List ℕ) (w : ℕ) (u : Cursor) → n ≤ 9
@@ -70,7 +70,7 @@ digits_spelled start n v m (c ∷ cs) w u le =
       some = omega arith;
       value = others.value;
       text = ap (λ r. c ∷ r) others.text;
-      place = others.place ∙ ap (λ k. at k u.rest)
+      place = others.place ∙ ap (λ k. mid_line k u.rest)
           (along_more m 1 (length others.digits) (suc (length others.digits)) (omega arith));
     })
     (λ _ h. no_result (record { text = fault.VersionNumberTooLong; mark = start }) (w, u) (DigitsOf n v w m (c ∷ cs) u)
@@ -104,15 +104,17 @@ pub record VersionOf (d : ReadDirective) (m : Marker) (xs : List ℕ) (u : Curso
   pub first : IsVersionNumber major high
   pub second : IsVersionNumber minor low
   pub text : xs ≡ gap ++ (high ++ (46 ∷ (low ++ u.rest)))
-  pub place : u ≡ at (along m (length gap + length high + 1 + length low)) u.rest
+  pub place : u ≡ mid_line (along m (length gap + length high + 1 + length low)) u.rest
 
 pub version_spelled : (start m : Marker) (xs : List ℕ) (d : ReadDirective) (u : Cursor)
-    → is_blank_or_breakz (slice_index xs 0) ≡ true → version_directive start (at m xs) ≡ Ok (d, u) → VersionOf d m xs u
+    → is_blank_or_breakz (slice_index xs 0) ≡ true → version_directive start (mid_line m xs) ≡ Ok (d, u)
+    → VersionOf d m xs u
 unfolding version_directive behind_major
 version_spelled start m xs d u begins h =
     let n = prefix_len is_blank xs in
     let gap = take n xs in
-    let one = bind_ok (number start (pass_all_blanks (at m xs))) (λ (x : ℕ × Cursor). behind_major start x) (d, u) h in
+    let one = bind_ok (number start (pass_all_blanks (mid_line m xs))) (λ (x : ℕ × Cursor). behind_major start x)
+    (d, u) h in
     let a = digits_spelled start 0 0 (along m n) (drop n xs) one.given.0 one.given.1 (omega arith) one.first in
     let high = a.digits in
     let mid = one.given.1 in
@@ -148,8 +150,8 @@ version_spelled start m xs d u begins h =
       first = first;
       second = is_version_number two.given.0 (along mid.mark 1) (drop 1 mid.rest) u b;
       text = sym (take-append-drop n xs) ∙ ap (λ r. gap ++ r) point;
-      place = b.place ∙ ap (λ (k : Marker). at (along (along k 1) (length b.digits)) u.rest) mark
-          ∙ ap (λ k. at k u.rest) (along_four m n (length high) 1 (length b.digits)
+      place = b.place ∙ ap (λ (k : Marker). mid_line (along (along k 1) (length b.digits)) u.rest) mark
+          ∙ ap (λ k. mid_line k u.rest) (along_four m n (length high) 1 (length b.digits)
           (length gap + length high + 1 + length b.digits)
           (ap (λ k. k + length high + 1 + length b.digits) (run_count is_blank xs)));
     }

@@ -11,7 +11,7 @@ use Rattle.saphyr_scalar.specs.Views.Cursor.{Cursor, ◌>>=◌, along, next_line
 use Rattle.saphyr_scalar.specs.declared.scalar.fault.Stop.{Stop}
 use Rattle.saphyr_scalar.specs.declared.scalar.fault.Stop.TheVariants as stop
 use Rattle.saphyr_scalar.specs.Views.Reader.{Moves}
-use Rattle.saphyr_scalar.specs.Steps.Plain.{PlainGap, seen_gap, may_stand, reached, at_line, ends_line, lines, folded_gap, gap_text, next_lines, gap_from, gap}
+use Rattle.saphyr_scalar.specs.Steps.Plain.{PlainGap, seen_gap, content_behind_tab, reached_gap, line_front, ends_line, lines, folded_gap, gap_text, next_lines, gap_from, gap}
 use Rattle.saphyr_scalar.proofs.Quoted.Inside.{Moved}
 use Rattle.saphyr_input.proofs.Basics.Booleans.{by_test}
 use Rattle.std.proofs.lemmas.List.Sums.{prefix_len-le-length}
@@ -45,9 +45,9 @@ no_refusal r x e = absurd (cc)
 pub same_gap : (g h : PlainGap) → (let r : Result PlainGap Refusal = Ok g in r ≡ Ok h) → h ≡ g
 same_gap g h e = cc
 
-pub may_stand_same : (a : Marker) (t : Bool) (f : List ℕ) (s : Cursor) (g : PlainGap) → reached a t f s ≡ Ok g
+pub may_stand_same : (a : Marker) (t : Bool) (f : List ℕ) (s : Cursor) (g : PlainGap) → reached_gap a t f s ≡ Ok g
     → g ≡ seen_gap t f s
-unfolding may_stand
+unfolding content_behind_tab
 may_stand_same a t f s g =
     by_test (t && is_bom (slice_index s.rest 0)) _ _
     (λ (r : Result Cursor Refusal). (r >>= λ u. Ok (seen_gap t f u)) ≡ Ok g → g ≡ seen_gap t f s)
@@ -58,8 +58,8 @@ may_stand_same a t f s g =
     (λ _ e. same_gap (seen_gap t f s) g e))
 
 reached_end : (a : Marker) (t : Bool) (f : List ℕ) (m : Marker) (xs : List ℕ) (g : PlainGap)
-    → reached a t f (at_line m xs) ≡ Ok g → IsEnd xs g.behind.rest
-reached_end a t f m xs g e = let is = may_stand_same a t f (at_line m xs) g e in rw is (end_at_start xs)
+    → reached_gap a t f (line_front m xs) ≡ Ok g → IsEnd xs g.behind.rest
+reached_end a t f m xs g e = let is = may_stand_same a t f (line_front m xs) g e in rw is (end_at_start xs)
 
 lines_end : (i : ℕ) (a : Marker) (t : Bool) (f : List ℕ) (m : Marker) (xs : List ℕ) (g : PlainGap)
     → lines i a t f m xs ≡ Ok g → IsEnd xs g.behind.rest
@@ -123,13 +123,13 @@ gap_end i a s g =
 lines_blank : (i : ℕ) (a : Marker) (t : Bool) (f : List ℕ) (m : Marker) (xs : List ℕ) (g : PlainGap)
     → lines i a t f m xs ≡ Ok g → g.behind.blank_so_far ≡ true
 unfolding lines
-lines_blank i a t f m [] g e = ap (λ (x : PlainGap). x.behind.blank_so_far) (may_stand_same a t f (at_line m []) g e)
+lines_blank i a t f m [] g e = ap (λ (x : PlainGap). x.behind.blank_so_far) (may_stand_same a t f (line_front m []) g e)
 lines_blank i a t f m (c ∷ cs) g e =
     by_test (is_blank_or_break c) _ _ (λ (r : Result PlainGap Refusal). r ≡ Ok g → g.behind.blank_so_far ≡ true)
     (λ _ e. lines_blank i a (is_blank c && (t || ((c == tab) && nat_lt m.col i)))
     (if ends_line c cs then f ++ line_feed ∷ [] else f) (if ends_line c cs then next_line m 1 else along m 1) cs g
     e)
-    (λ _ e. ap (λ (x : PlainGap). x.behind.blank_so_far) (may_stand_same a t f (at_line m (c ∷ cs)) g e)) e
+    (λ _ e. ap (λ (x : PlainGap). x.behind.blank_so_far) (may_stand_same a t f (line_front m (c ∷ cs)) g e)) e
 
 pub lines_read : (i : ℕ) (a m : Marker) (xs feeds : List ℕ) (w : Cursor) (r : Result Bool Stop)
     → Moves (λ t. seen_gap t feeds w) r (lines i a false [] m xs)

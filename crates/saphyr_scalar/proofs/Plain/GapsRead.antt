@@ -7,18 +7,19 @@ use Rattle.std.proofs.lemmas.List.{append-nil, take-append-drop, length-take-le}
 use Rattle.std.proofs.lemmas.Str.{encode_ascii}
 use Rattle.saphyr_input.specs.Classes.{is_blank, is_break, tab, line_feed}
 use Rattle.saphyr_input.specs.Places.{is_blank_or_break}
+use Rattle.saphyr_scalar.specs.Spelling.Tag.{AreIn}
 use Rattle.saphyr_scalar.specs.declared.scalar.position.Marker.{Marker}
 use Rattle.saphyr_scalar.specs.declared.scalar.fault.Refusal.{Refusal}
 use Rattle.saphyr_scalar.specs.Views.Cursor.{Cursor, ◌>>=◌, along, next_line, pass, pass_break}
-use Rattle.saphyr_scalar.specs.Steps.Quoted.{at}
+use Rattle.saphyr_scalar.specs.Steps.Quoted.{mid_line}
 use Rattle.scalar_values.specs.Folding.{folded, line_feeds, raw_break}
 use Rattle.saphyr_scalar.specs.Steps.Plain as spec
-use Rattle.saphyr_scalar.specs.Steps.Plain.{seen_gap, PlainGap, ends_line, reached, at_line, lines, next_lines, gap_from, gap}
-use Rattle.saphyr_scalar.specs.Reading.Plain.{AreWhite, passed}
+use Rattle.saphyr_scalar.specs.Steps.Plain.{seen_gap, PlainGap, ends_line, reached_gap, line_front, lines, next_lines, gap_from, gap}
+use Rattle.saphyr_scalar.specs.Reading.Plain.{end_of_text}
 use Rattle.saphyr_scalar.proofs.Moving.{along_none, along_more}
 use Rattle.saphyr_scalar.proofs.Quoted.Inside.{break_cases}
 use Rattle.saphyr_scalar.proofs.Plain.Gaps.{no_refusal, same_gap, may_stand_same}
-use Rattle.saphyr_scalar.proofs.Plain.Runs.{Ink, NoFeed, items, ink_no_feed, same_ends, line_count, folded_breaks, AreBlank, folded_blanks}
+use Rattle.saphyr_scalar.proofs.Plain.Runs.{Ink, NoFeed, items_of, ink_no_feed, same_ends, line_count, folded_breaks, AreBlank, folded_blanks}
 use Rattle.saphyr_input.proofs.Basics.Booleans.{by_test}
 use Rattle.std.proofs.lemmas.List.Sums.{prefix_len-le-length}
 use Rattle.saphyr_input.proofs.Basics.Characters.{blank_no_break}
@@ -27,10 +28,10 @@ use Rattle.saphyr_scalar.proofs.PassedBreaks.{behind_one}
 -- xs begins with a run of blanks and breaks with k breaks, from m on, and rest stands behind it, at `end`
 pub record Run (xs rest : List ℕ) (m end : Marker) (k : ℕ) : Type 0 where
   white : List ℕ
-  are : AreWhite white
+  are : AreIn is_blank_or_break white
   is : xs ≡ white ++ rest
   count : line_count white ≡ k
-  place : passed m white ≡ end
+  place : end_of_text m white ≡ end
 
 no_run : (xs : List ℕ) (m : Marker) → Run xs xs m m 0
 no_run xs m = record { white = []; are = tt; is = refl; count = refl; place = refl }
@@ -46,7 +47,7 @@ more_run c cs rest m end k white none r =
       is = ap (λ l. c ∷ l) r.is;
       count = ap (λ n. if ends_line c r.white then suc n else n) r.count
           ∙ ap (λ (b : Bool). if b then suc k else k) (sym same);
-      place = ap (λ (b : Bool). passed (if b then next_line m 1 else along m 1) r.white) (sym same) ∙ r.place;
+      place = ap (λ (b : Bool). end_of_text (if b then next_line m 1 else along m 1) r.white) (sym same) ∙ r.place;
     }
 
 other_no_feed : (c : ℕ) → is_blank_or_break c ≡ false → (c == 10) ≡ false
@@ -61,9 +62,9 @@ record LinesRun (xs : List ℕ) (m : Marker) (f : List ℕ) (g : PlainGap) : Typ
   text : g.text ≡ f ++ line_feeds breaks
 
 reached_run : (a : Marker) (t : Bool) (f : List ℕ) (m : Marker) (xs : List ℕ) (g : PlainGap) → NoFeed xs
-    → reached a t f (at_line m xs) ≡ Ok g → LinesRun xs m f g
+    → reached_gap a t f (line_front m xs) ≡ Ok g → LinesRun xs m f g
 reached_run a t f m xs g stop e =
-    subst (λ (h : PlainGap). LinesRun xs m f h) (sym (may_stand_same a t f (at_line m xs) g e))
+    subst (λ (h : PlainGap). LinesRun xs m f h) (sym (may_stand_same a t f (line_front m xs) g e))
     (record { breaks = 0; stop = stop; run = no_run xs m; text = sym (append-nil f) })
 
 more_text : (b : Bool) (k : ℕ) (f text : List ℕ) → text ≡ (if b then f ++ 10 ∷ [] else f) ++ line_feeds k
@@ -170,13 +171,14 @@ blanks_run (c ∷ cs) rest m end k none =
 
 pub record GapReads (xs : List ℕ) (m : Marker) (g : PlainGap) : Type 0 where
   pub white : List ℕ
-  pub are : AreWhite white
+  pub are : AreIn is_blank_or_break white
   pub is : xs ≡ white ++ g.behind.rest
-  pub place : passed m white ≡ g.behind.mark
+  pub place : end_of_text m white ≡ g.behind.mark
   pub stop : NoFeed g.behind.rest
   pub value : List ℕ
   pub text : encode_utf8_all value ≡ g.text
-  pub reads : (c : ℕ) (cs : List ℕ) → Ink c → folded (items (white ++ (c ∷ cs))) ≡ value ++ folded (items (c ∷ cs))
+  pub reads : (c : ℕ) (cs : List ℕ) → Ink c
+      → folded (items_of (white ++ (c ∷ cs))) ≡ value ++ folded (items_of (c ∷ cs))
 
 -- blanks alone
 blank_prefix : (xs : List ℕ) → AreBlank (take (prefix_len is_blank xs) xs)
@@ -186,14 +188,14 @@ blank_prefix (c ∷ cs) =
     by_test (is_blank c) (1 + prefix_len is_blank cs) 0 (λ n. AreBlank (take n (c ∷ cs)))
     (λ h. rw one (h, blank_prefix cs)) (λ _. tt)
 
-all_white : (v : List ℕ) → AreBlank v → AreWhite v
+all_white : (v : List ℕ) → AreBlank v → AreIn is_blank_or_break v
 all_white [] h = tt
 all_white (c ∷ v) h = (blank_white c h.0, all_white v h.1)
 
-passed_blanks : (m : Marker) (v : List ℕ) → AreBlank v → passed m v ≡ along m (length v)
+passed_blanks : (m : Marker) (v : List ℕ) → AreBlank v → end_of_text m v ≡ along m (length v)
 passed_blanks m [] h = sym (along_none m)
 passed_blanks m (c ∷ v) h =
-    ap (λ (b : Bool). passed (if b then next_line m 1 else along m 1) v) (blank_line c v h.0)
+    ap (λ (b : Bool). end_of_text (if b then next_line m 1 else along m 1) v) (blank_line c v h.0)
     ∙ passed_blanks (along m 1) v h.1 ∙ along_more m 1 (length v) (suc (length v)) (omega arith)
 
 prefix_take : (xs : List ℕ) → length (take (prefix_len is_blank xs) xs) ≡ prefix_len is_blank xs
@@ -201,7 +203,7 @@ prefix_take xs = length-take-le (prefix_len is_blank xs) xs (prefix_len-le-lengt
 
 blanks_read : (xs : List ℕ) (m : Marker) → is_break (slice_index (drop (prefix_len is_blank xs) xs) 0) ≡ false
     → let n = prefix_len is_blank xs in
-    GapReads xs m (seen_gap false (encode_utf8_all (take n xs)) (at (along m n) (drop n xs)))
+    GapReads xs m (seen_gap false (encode_utf8_all (take n xs)) (mid_line (along m n) (drop n xs)))
 blanks_read xs m other =
     let n = prefix_len is_blank xs in
     let v = take n xs in
@@ -276,12 +278,12 @@ next_lines_read i a xs m g t mark rest breaks =
         (lines_read xs m h t mark rest breaks (runs h refl))
     by_result (Err r) runs e = absurd (no_refusal r g e)
 
-pub gap_reads : (i : ℕ) (a : Marker) (xs : List ℕ) (m : Marker) (g : PlainGap) → gap i a (at m xs) ≡ Ok g
+pub gap_reads : (i : ℕ) (a : Marker) (xs : List ℕ) (m : Marker) (g : PlainGap) → gap i a (mid_line m xs) ≡ Ok g
     → GapReads xs m g
 unfolding gap gap_from
 gap_reads i a xs m g =
     let n = prefix_len is_blank xs in
-    let t = pass n (at m xs) in
+    let t = pass n (mid_line m xs) in
     by_test (is_break (slice_index t.rest 0)) _ _ (λ (r : Result PlainGap Refusal). r ≡ Ok g → GapReads xs m g)
     (λ breaks e. next_lines_read i a xs m g t refl refl breaks e)
     (λ other e. subst (λ (x : PlainGap). GapReads xs m x) (sym (same_gap _ g e)) (blanks_read xs m other))

@@ -3,20 +3,21 @@ use Rattle.std.proofs.Common.{◌≡◌, ℕ, Bool, true, false, List, [], ◌�
 use Rattle.std.specs.Prelude.{◌&&◌, ◌==◌, not, nat_lt, None, if◌then◌else◌}
 use Rattle.std.specs.List.{prefix_len}
 use Rattle.std.proofs.lemmas.List.{append-nil}
+use Rattle.std.proofs.lemmas.Bool.{not-true}
 use Rattle.saphyr_input.specs.Classes.{is_blank, is_break}
 use Rattle.saphyr_input.specs.Places.{is_blank_or_break}
 use Rattle.saphyr_input.proofs.Basics.Booleans.{and_false, by_test}
 use Rattle.saphyr_scalar.specs.declared.scalar.position.Marker.{Marker}
 use Rattle.saphyr_scalar.specs.declared.scalar.fault.Refusal.{Refusal}
 use Rattle.saphyr_scalar.specs.Views.Cursor.{Cursor, ◌>>=◌, pass_break, pass_spaces}
-use Rattle.saphyr_scalar.specs.Steps.Plain.{in_word, PlainGap, seen_gap, at_line, lines, folded_gap, next_lines, gap_from, gap, goes_on, comment_of, with_text, scalar_ended, word, may_stand}
+use Rattle.saphyr_scalar.specs.Steps.Plain.{is_in_word, PlainGap, seen_gap, line_front, lines, folded_gap, next_lines, gap_from, gap, next_word_starts, comment_of, with_text, scalar_end, word, content_behind_tab}
 use Rattle.saphyr_scalar.specs.Steps.Quoted.{with_run}
-use Rattle.saphyr_scalar.specs.Steps.PlainLines.{behind_line, stands_left}
+use Rattle.saphyr_scalar.specs.Steps.PlainLines.{scalar_behind_line, is_left_of_scalar}
 use Rattle.saphyr_scalar.proofs.NoSeparation.{no_run}
 use Rattle.saphyr_scalar.proofs.Quoted.Inside.{break_cases}
 use Rattle.saphyr_scalar.proofs.Quoted.Gaps.{by_break_len}
 use Rattle.saphyr_scalar.proofs.SpaceRuns.{lines_over}
-use Rattle.saphyr_scalar.proofs.Plain.Pieces.{behind_gap, behind_word, goes_says, text_twice}
+use Rattle.saphyr_scalar.proofs.Plain.Pieces.{plain_behind_gap, moved_behind_word, goes_says, text_twice}
 use Rattle.saphyr_scalar.proofs.Plain.WordEnds.{none_moved, none_passed}
 
 no_blanks : (s : Cursor) → s.blank_so_far ≡ false → is_blank (slice_index s.rest 0) ≡ false
@@ -43,14 +44,14 @@ break_gap i a s line breaks =
 
 -- behind the break, and spaces behind it
 pub word_to_line : (f : Bool) (i : ℕ) (a : Marker) (text : List ℕ) (most : ℕ) (s v u : Cursor)
-    → in_word f s.rest ≡ false → s.blank_so_far ≡ false → is_break (slice_index s.rest 0) ≡ true
+    → is_in_word f s.rest ≡ false → s.blank_so_far ≡ false → is_break (slice_index s.rest 0) ≡ true
     → v ≡ pass_break s → u ≡ pass_spaces most v
-    → with_text text (behind_line f i a s.mark u) ≡ with_text text (word f i a s.mark s.rest)
+    → with_text text (scalar_behind_line f i a s.mark u) ≡ with_text text (word f i a s.mark s.rest)
 word_to_line f i a text most s v u ends line breaks on spaces =
     let over : next_lines i a u ≡ next_lines i a v =
     ap (λ (r : Result PlainGap Refusal). r >>= λ g. Ok (folded_gap g)) (lines_over i a false [] most v u spaces) in
-    sym (behind_word f i a text text s s (none_moved f text s ends line)
-    ∙ ap (λ (r : Result PlainGap Refusal). with_text text (r >>= behind_gap f i a s.mark))
+    sym (moved_behind_word f i a text text s s (none_moved f text s ends line)
+    ∙ ap (λ (r : Result PlainGap Refusal). with_text text (r >>= plain_behind_gap f i a s.mark))
     (break_gap i a s line breaks ∙ ap (next_lines i a) (sym on) ∙ sym over))
 
 pub break_begins : (s : Cursor) → is_break (slice_index s.rest 0) ≡ true → (pass_break s).blank_so_far ≡ true
@@ -62,24 +63,20 @@ all_three true true false h = absurd (cc)
 all_three true false c h = absurd (cc)
 all_three false b c h = absurd (cc)
 
-not_true : (b : Bool) → not b ≡ true → b ≡ false
-not_true true h = absurd (cc)
-not_true false h = refl
-
 -- no white space stands at a line's first place
 line_there : (i : ℕ) (a m : Marker) (xs : List ℕ) → is_blank_or_break (slice_index xs 0) ≡ false
-    → lines i a false [] m xs ≡ Ok (seen_gap false [] (at_line m xs))
-unfolding lines may_stand
+    → lines i a false [] m xs ≡ Ok (seen_gap false [] (line_front m xs))
+unfolding lines content_behind_tab
 line_there i a m [] h = refl
 line_there i a m (c ∷ cs) h = rw h refl
 
-there : (u : Cursor) → u.blank_so_far ≡ true → at_line u.mark u.rest ≡ u
-there u blank =
+same_line_front : (u : Cursor) → u.blank_so_far ≡ true → line_front u.mark u.rest ≡ u
+same_line_front u blank =
     ap (λ b. let t : Cursor = record { rest = u.rest; mark = u.mark; blank_so_far = b } in t) (sym blank)
 
 not_on : (f : Bool) (i : ℕ) (u : Cursor) → u.blank_so_far ≡ true → not f ≡ true → nat_lt u.mark.col i ≡ true
-    → goes_on f i u ≡ Ok (false, u)
-unfolding goes_on
+    → next_word_starts f i u ≡ Ok (false, u)
+unfolding next_word_starts
 not_on f i u blank out left = rw (blank, out, left) refl
 
 no_comment : (f : Bool) (u : Cursor) → u.blank_so_far ≡ true → comment_of f false u ≡ None
@@ -88,33 +85,34 @@ no_comment f u blank = rw (blank, and_false (not f && (slice_index u.rest 0 == 3
 
 -- behind a gap no word begins
 pub gap_no_turn : (f : Bool) (i : ℕ) (a end : Marker) (text : List ℕ) (g : PlainGap) (u : Cursor)
-    → goes_on f i g.behind ≡ Ok (false, u)
-    → with_text text (behind_gap f i a end g) ≡ Ok (text, end, comment_of f g.tabbed u, u)
+    → next_word_starts f i g.behind ≡ Ok (false, u)
+    → with_text text (plain_behind_gap f i a end g) ≡ Ok (text, end, comment_of f g.tabbed u, u)
 gap_no_turn f i a end text g u h =
     ap (λ x. with_text text
-    (x >>= λ b. if b.0 then with_text g.text (word f i a b.1.mark b.1.rest) else scalar_ended f end g)) h
+    (x >>= λ b. if b.0 then with_text g.text (word f i a b.1.mark b.1.rest) else scalar_end f end g)) h
     ∙ ap (λ x. Ok (x, end, comment_of f g.tabbed g.behind, g.behind)) (append-nil text)
     ∙ ap (λ x. Ok (text, end, comment_of f g.tabbed x, x)) (sym (goes_says f i false g.behind u h).same)
 
 -- and one begins
 pub gap_turn : (f : Bool) (i : ℕ) (a end : Marker) (text joined : List ℕ) (g : PlainGap) (u : Cursor)
-    → goes_on f i g.behind ≡ Ok (true, u) → joined ≡ text ++ g.text
-    → with_text joined (word f i a u.mark u.rest) ≡ with_text text (behind_gap f i a end g)
+    → next_word_starts f i g.behind ≡ Ok (true, u) → joined ≡ text ++ g.text
+    → with_text joined (word f i a u.mark u.rest) ≡ with_text text (plain_behind_gap f i a end g)
 gap_turn f i a end text joined g u h j =
     ap (λ x. with_text x (word f i a u.mark u.rest)) j
     ∙ sym (ap (λ x. with_text text
-    (x >>= λ b. if b.0 then with_text g.text (word f i a b.1.mark b.1.rest) else scalar_ended f end g)) h
+    (x >>= λ b. if b.0 then with_text g.text (word f i a b.1.mark b.1.rest) else scalar_end f end g)) h
     ∙ text_twice text g.text _)
 
 -- what stands left of the indentation ends the scalar
 pub left_ends : (f : Bool) (i : ℕ) (a end : Marker) (text : List ℕ) (u : Cursor) → u.blank_so_far ≡ true
-    → stands_left f i u ≡ true → with_text text (behind_line f i a end u) ≡ Ok (text, end, None, u)
+    → is_left_of_scalar f i u ≡ true → with_text text (scalar_behind_line f i a end u) ≡ Ok (text, end, None, u)
 left_ends f i a end text u blank left =
     let all = all_three (not f) (nat_lt u.mark.col i) (not (is_blank_or_break (slice_index u.rest 0))) left in
-    let ink = not_true (is_blank_or_break (slice_index u.rest 0)) all.2 in
+    let ink = not-true (is_blank_or_break (slice_index u.rest 0)) all.2 in
     let g = folded_gap (seen_gap false [] u) in
     let reach : lines i a false [] u.mark u.rest ≡ Ok (seen_gap false [] u) =
-    line_there i a u.mark u.rest ink ∙ ap (λ x. Ok (seen_gap false [] x)) (there u blank) in
-    ap (λ (r : Result PlainGap Refusal). with_text text ((r >>= λ g. Ok (folded_gap g)) >>= behind_gap f i a end)) reach
+    line_there i a u.mark u.rest ink ∙ ap (λ x. Ok (seen_gap false [] x)) (same_line_front u blank) in
+    ap (λ (r : Result PlainGap Refusal). with_text text
+    ((r >>= λ g. Ok (folded_gap g)) >>= plain_behind_gap f i a end)) reach
     ∙ gap_no_turn f i a end text g u (not_on f i u blank all.0 all.1)
     ∙ ap (λ x. Ok (text, end, x, u)) (no_comment f u blank)

@@ -7,7 +7,7 @@ use Rattle.saphyr_input.specs.Places.{is_blank_or_break, next_2_are}
 use Rattle.saphyr_scalar.specs.declared.scalar.position.Marker.{Marker}
 use Rattle.saphyr_scalar.specs.declared.scalar.fault.Refusal.{Refusal}
 use Rattle.saphyr_scalar.specs.Views.Cursor.{Cursor, ◌>>=◌, along, next_line, pass_break}
-use Rattle.saphyr_scalar.specs.Steps.Plain.{lines, reached, at_line, pass_white, may_stand}
+use Rattle.saphyr_scalar.specs.Steps.Plain.{lines, reached_gap, line_front, pass_white, content_behind_tab}
 use Rattle.saphyr_scalar.proofs.Quoted.Inside.{break_cases}
 use Rattle.saphyr_input.proofs.Basics.Booleans.{by_test}
 use Rattle.saphyr_input.proofs.Basics.Characters.{blank_cases}
@@ -88,7 +88,7 @@ lines_on i a t f s h = at_first s.rest h
     at_first (c ∷ cs) e = lines_blank i a t f s.mark c cs e
 
 pub lines_over : (i : ℕ) (a : Marker) (t : Bool) (f : List ℕ) (m : Marker) (xs : List ℕ)
-    → is_blank_or_break (slice_index xs 0) ≡ false → lines i a t f m xs ≡ reached a t f (at_line m xs)
+    → is_blank_or_break (slice_index xs 0) ≡ false → lines i a t f m xs ≡ reached_gap a t f (line_front m xs)
 unfolding lines
 lines_over i a t f m [] h = refl
 lines_over i a t f m (c ∷ cs) h = rw h refl
@@ -161,15 +161,15 @@ white_shorter i t f s t2 f2 s2 h p =
 -- a line that is reached
 pub line_over : (i : ℕ) (a : Marker) (t : Bool) (f : List ℕ) (s : Cursor)
     → is_blank_or_break (slice_index s.rest 0) ≡ false → s.blank_so_far ≡ true
-    → lines i a t f s.mark s.rest ≡ reached a t f s
+    → lines i a t f s.mark s.rest ≡ reached_gap a t f s
 line_over i a t f s h b =
     lines_over i a t f s.mark s.rest h
-    ∙ ap (λ x. reached a t f (record { rest = s.rest; mark = s.mark; blank_so_far = x })) (sym b)
+    ∙ ap (λ x. reached_gap a t f (record { rest = s.rest; mark = s.mark; blank_so_far = x })) (sym b)
 
-pub refused_by : (a : Marker) (t : Bool) (f : List ℕ) (s : Cursor) (r : Refusal) → may_stand a t s ≡ Err r
-    → reached a t f s ≡ Err r
+pub refused_by : (a : Marker) (t : Bool) (f : List ℕ) (s : Cursor) (r : Refusal) → content_behind_tab a t s ≡ Err r
+    → reached_gap a t f s ≡ Err r
 refused_by a t f s r h = ap (λ x. x >>= λ u. Ok (record { text = f; tabbed = t; behind = u })) h
 
-pub taken_by : (a : Marker) (t : Bool) (f : List ℕ) (s u : Cursor) → may_stand a t s ≡ Ok u
-    → reached a t f s ≡ Ok (record { text = f; tabbed = t; behind = u })
+pub taken_by : (a : Marker) (t : Bool) (f : List ℕ) (s u : Cursor) → content_behind_tab a t s ≡ Ok u
+    → reached_gap a t f s ≡ Ok (record { text = f; tabbed = t; behind = u })
 taken_by a t f s u h = ap (λ x. x >>= λ u. Ok (record { text = f; tabbed = t; behind = u })) h

@@ -1,5 +1,5 @@
 -- A plain scalar, read a piece at a time.
-use Rattle.std.proofs.Common.{◌≡◌, ℕ, zero, suc, ◌+◌, ◌<◌, Bool, true, false, List, [], ◌∷◌, ◌++◌, length, take, drop, slice_index, Result, Ok, Err, refl, sym, ap, ◌∙◌, arith, subst, encode_utf8_all, append_assoc}
+use Rattle.std.proofs.Common.{◌≡◌, ℕ, zero, suc, ◌+◌, Bool, true, false, List, [], ◌∷◌, ◌++◌, take, drop, slice_index, Result, Ok, Err, refl, sym, ap, ◌∙◌, arith, subst, encode_utf8_all, append_assoc}
 use Rattle.std.specs.Prelude.{◌||◌, ◌&&◌, ◌==◌, not, nat_lt, encode_utf8, if◌then◌else◌, pred}
 use Rattle.std.specs.Result.{IsErrAnd}
 use Rattle.std.proofs.lemmas.Bool.Decides.{nat_tests}
@@ -13,8 +13,8 @@ use Rattle.saphyr_scalar.specs.declared.scalar.fault.Stop.{Stop}
 use Rattle.saphyr_scalar.specs.declared.scalar.fault.Stop.TheVariants as stop
 use Rattle.saphyr_scalar.specs.Views.Reader.{Moves, Fails}
 use Rattle.saphyr_scalar.specs.Views.Cursor.{Cursor, ◌>>=◌, refuse, along}
-use Rattle.saphyr_scalar.specs.Steps.Quoted.{at}
-use Rattle.saphyr_scalar.specs.Steps.Plain.{in_word, word_len, PlainWordsMoved, word_starts, PlainGap, gap_from, gap, goes_on, comment_of, PlainScalarRead, with_text, scalar_ended, gap_len, between, word, plain}
+use Rattle.saphyr_scalar.specs.Steps.Quoted.{mid_line}
+use Rattle.saphyr_scalar.specs.Steps.Plain.{is_in_word, word_len, PlainWordsMoved, word_starts, PlainGap, gap_from, gap, next_word_starts, comment_of, PlainScalarRead, with_text, scalar_end, gap_len, word_behind_gap, word, plain}
 use Rattle.saphyr_scalar.proofs.Moving.{along_none, along_more, bind_same}
 use Rattle.saphyr_scalar.proofs.Plain.Gaps.{IsEnd, gap_end}
 use Rattle.saphyr_input.proofs.Basics.Booleans.{by_test}
@@ -27,15 +27,15 @@ pub no_text : (read : PlainScalarRead) → with_text [] read ≡ read
 no_text (Ok x) = refl
 no_text (Err e) = refl
 
-pub not_in_word : (f : Bool) → in_word f [] ≡ false
-unfolding in_word
+pub not_in_word : (f : Bool) → is_in_word f [] ≡ false
+unfolding is_in_word
 not_in_word f = refl
 
 -- whether a word starts
 
 -- a dash is a character of a word
-dash_in_word : (f : Bool) (xs : List ℕ) → slice_index xs 0 ≡ 45 → in_word f xs ≡ true
-unfolding in_word
+dash_in_word : (f : Bool) (xs : List ℕ) → slice_index xs 0 ≡ 45 → is_in_word f xs ≡ true
+unfolding is_in_word
 dash_in_word true xs h = rw h refl
 dash_in_word false xs h = rw h refl
 
@@ -45,7 +45,7 @@ second_of true false d h = absurd (cc)
 second_of false b d h = absurd (cc)
 
 -- where no word goes on, none begins
-pub starts_not : (f : Bool) (s : Cursor) → in_word f s.rest ≡ false → word_starts f s ≡ Ok (false, s)
+pub starts_not : (f : Bool) (s : Cursor) → is_in_word f s.rest ≡ false → word_starts f s ≡ Ok (false, s)
 unfolding word_starts
 starts_not f s h =
     by_test ((slice_index s.rest 0 == 35) || ((s.mark.col == 0) && is_document_indicator s.rest)) _ _
@@ -58,18 +58,18 @@ starts_not f s h =
     absurd (cc))
     (λ _. rw h refl))
 
-abbrev Answer : Type 0
-Answer = Result (Bool × Cursor) Refusal
+abbrev WordAnswer : Type 0
+WordAnswer = Result (Bool × Cursor) Refusal
 
-abbrev answer : Bool → Cursor → Answer
+abbrev answer : Bool → Cursor → WordAnswer
 answer b s = Ok (b, s)
 
 -- what an answer says: the place stays, and where it is true the word goes on
-pub record Says (f b : Bool) (s t : Cursor) : Type 0 where
+pub record KeepsWord (f b : Bool) (s t : Cursor) : Type 0 where
   pub same : t ≡ s
-  pub goes : b ≡ true → in_word f s.rest ≡ true
+  pub goes : b ≡ true → is_in_word f s.rest ≡ true
 
-says_not : (f b : Bool) (s t : Cursor) → answer false s ≡ answer b t → Says f b s t
+says_not : (f b : Bool) (s t : Cursor) → answer false s ≡ answer b t → KeepsWord f b s t
 says_not f b s t e =
     let pair : ◌≡◌ {A = Bool × Cursor} (false, s) (b, t) = cc in
     record {
@@ -78,97 +78,99 @@ says_not f b s t e =
           λ h. let no : b ≡ false = sym (ap (λ (x : Bool × Cursor). x.0) pair) in absurd (cc);
     }
 
-says_it : (f b : Bool) (s t : Cursor) → answer (in_word f s.rest) s ≡ answer b t → Says f b s t
+says_it : (f b : Bool) (s t : Cursor) → answer (is_in_word f s.rest) s ≡ answer b t → KeepsWord f b s t
 says_it f b s t e =
-    let pair : ◌≡◌ {A = Bool × Cursor} (in_word f s.rest, s) (b, t) = cc in
+    let pair : ◌≡◌ {A = Bool × Cursor} (is_in_word f s.rest, s) (b, t) = cc in
     record { same = sym (ap (λ (x : Bool × Cursor). x.1) pair); goes = λ h. ap (λ (x : Bool × Cursor). x.0) pair ∙ h }
 
 not_refused : (r : Refusal) (b : Bool) (t : Cursor) → Err r ≡ answer b t → ⊥
 not_refused r b t e = absurd (cc)
 
-pub starts_says : (f b : Bool) (s t : Cursor) → word_starts f s ≡ Ok (b, t) → Says f b s t
+pub starts_says : (f b : Bool) (s t : Cursor) → word_starts f s ≡ Ok (b, t) → KeepsWord f b s t
 unfolding word_starts
 starts_says f b s t =
     by_test ((slice_index s.rest 0 == 35) || ((s.mark.col == 0) && is_document_indicator s.rest)) _ _
-    (λ r. r ≡ answer b t → Says f b s t)
+    (λ r. r ≡ answer b t → KeepsWord f b s t)
     (λ _ e. says_not f b s t e)
     (λ _. by_test (f && (slice_index s.rest 0 == 45) && is_flow (slice_index s.rest 1)) _ _
-    (λ r. r ≡ answer b t → Says f b s t)
+    (λ r. r ≡ answer b t → KeepsWord f b s t)
     (λ _ e. absurd (not_refused _ b t e)) (λ _ e. says_it f b s t e))
 
-pub goes_says : (f : Bool) (i : ℕ) (b : Bool) (s t : Cursor) → goes_on f i s ≡ Ok (b, t) → Says f b s t
-unfolding goes_on
-goes_says f i b s t = by_test (s.blank_so_far && not f && nat_lt s.mark.col i) _ _ (λ r. r ≡ answer b t → Says f b s t)
+pub goes_says : (f : Bool) (i : ℕ) (b : Bool) (s t : Cursor) → next_word_starts f i s ≡ Ok (b, t) → KeepsWord f b s t
+unfolding next_word_starts
+goes_says f i b s t = by_test (s.blank_so_far && not f && nat_lt s.mark.col i) _ _
+    (λ r. r ≡ answer b t → KeepsWord f b s t)
     (λ _ e. says_not f b s t e) (λ _ e. starts_says f b s t e)
 
-pub goes_not : (f : Bool) (i : ℕ) (s : Cursor) → in_word f s.rest ≡ false → goes_on f i s ≡ Ok (false, s)
-unfolding goes_on
+pub goes_not : (f : Bool) (i : ℕ) (s : Cursor) → is_in_word f s.rest ≡ false → next_word_starts f i s ≡ Ok (false, s)
+unfolding next_word_starts
 goes_not f i s h = by_test (s.blank_so_far && not f && nat_lt s.mark.col i) _ _ (λ r. r ≡ answer false s) (λ _. refl)
     (λ _. starts_not f s h)
 
 -- in a word
-pub word_on : (f : Bool) (i : ℕ) (a m : Marker) (c : ℕ) (cs : List ℕ) → in_word f (c ∷ cs) ≡ true
+pub word_on : (f : Bool) (i : ℕ) (a m : Marker) (c : ℕ) (cs : List ℕ) → is_in_word f (c ∷ cs) ≡ true
     → word f i a m (c ∷ cs) ≡ with_text (encode_utf8 c) (word f i a (along m 1) cs)
 unfolding word
 word_on f i a m c cs h = rw h refl
 
-abbrev pub Part : Bool → ℕ → Marker → Marker → List ℕ → ℕ → Type 0
-Part f i a m xs n = word f i a m xs ≡ with_text (encode_utf8_all (take n xs)) (word f i a (along m n) (drop n xs))
+abbrev pub WordPart : Bool → ℕ → Marker → Marker → List ℕ → ℕ → Type 0
+WordPart f i a m xs n = word f i a m xs ≡ with_text (encode_utf8_all (take n xs)) (word f i a (along m n) (drop n xs))
 
-pub no_part : (f : Bool) (i : ℕ) (a m : Marker) (xs : List ℕ) → Part f i a m xs 0
+pub no_part : (f : Bool) (i : ℕ) (a m : Marker) (xs : List ℕ) → WordPart f i a m xs 0
 no_part f i a m xs = sym (no_text _) ∙ ap (λ x. with_text [] (word f i a x xs)) (sym (along_none m))
 
-more_part : (f : Bool) (i : ℕ) (a m : Marker) (c : ℕ) (cs : List ℕ) (n : ℕ) → in_word f (c ∷ cs) ≡ true
-    → Part f i a (along m 1) cs n → Part f i a m (c ∷ cs) (suc n)
+more_part : (f : Bool) (i : ℕ) (a m : Marker) (c : ℕ) (cs : List ℕ) (n : ℕ) → is_in_word f (c ∷ cs) ≡ true
+    → WordPart f i a (along m 1) cs n → WordPart f i a m (c ∷ cs) (suc n)
 more_part f i a m c cs n h r =
     word_on f i a m c cs h ∙ ap (with_text (encode_utf8 c)) r
     ∙ text_twice (encode_utf8 c) (encode_utf8_all (take n cs)) _
     ∙ ap (λ x. with_text (encode_utf8 c ++ encode_utf8_all (take n cs)) (word f i a x (drop n cs)))
     (along_more m 1 n (suc n) (omega arith))
 
-pub all_word : (f : Bool) (i : ℕ) (a m : Marker) (xs : List ℕ) → Part f i a m xs (word_len f xs)
+pub all_word : (f : Bool) (i : ℕ) (a m : Marker) (xs : List ℕ) → WordPart f i a m xs (word_len f xs)
 all_word f i a m [] = no_part f i a m []
 all_word f i a m (c ∷ cs) =
     let one : 1 + word_len f cs ≡ suc (word_len f cs) = omega arith in
-    by_test (in_word f (c ∷ cs)) (1 + word_len f cs) 0 (Part f i a m (c ∷ cs))
+    by_test (is_in_word f (c ∷ cs)) (1 + word_len f cs) 0 (WordPart f i a m (c ∷ cs))
     (λ h. rw one (more_part f i a m c cs (word_len f cs) h (all_word f i a (along m 1) cs)))
     (λ h. no_part f i a m (c ∷ cs))
 
 -- the character behind a word is not of it
-pub word_stops : (f : Bool) (xs : List ℕ) → in_word f (drop (word_len f xs) xs) ≡ false
+pub word_stops : (f : Bool) (xs : List ℕ) → is_in_word f (drop (word_len f xs) xs) ≡ false
 word_stops f [] = not_in_word f
 word_stops f (c ∷ cs) =
     let one : 1 + word_len f cs ≡ suc (word_len f cs) = omega arith in
-    by_test (in_word f (c ∷ cs)) (1 + word_len f cs) 0 (λ n. in_word f (drop n (c ∷ cs)) ≡ false)
+    by_test (is_in_word f (c ∷ cs)) (1 + word_len f cs) 0 (λ n. is_in_word f (drop n (c ∷ cs)) ≡ false)
     (λ _. rw one (word_stops f cs)) (λ h. h)
 
 -- behind a gap
-abbrev pub behind_gap : Bool → ℕ → Marker → Marker → PlainGap → PlainScalarRead
-behind_gap f i a end g =
-    goes_on f i g.behind >>= λ b. if b.0 then with_text g.text (word f i a b.1.mark b.1.rest) else scalar_ended f end g
+abbrev pub plain_behind_gap : Bool → ℕ → Marker → Marker → PlainGap → PlainScalarRead
+plain_behind_gap f i a end g =
+    next_word_starts f i g.behind >>= λ b. if b.0 then with_text g.text
+    (word f i a b.1.mark b.1.rest) else scalar_end f end g
 
-gap_over : (f : Bool) (i : ℕ) (a end : Marker) (g : PlainGap) → in_word f g.behind.rest ≡ false
-    → behind_gap f i a end g ≡ scalar_ended f end g
+gap_over : (f : Bool) (i : ℕ) (a end : Marker) (g : PlainGap) → is_in_word f g.behind.rest ≡ false
+    → plain_behind_gap f i a end g ≡ scalar_end f end g
 gap_over f i a end g h =
-    ap (λ r. r >>= λ b. if b.0 then with_text g.text (word f i a b.1.mark b.1.rest) else scalar_ended f end g)
+    ap (λ r. r >>= λ b. if b.0 then with_text g.text (word f i a b.1.mark b.1.rest) else scalar_end f end g)
     (goes_not f i g.behind h)
 
-between_none : (f : Bool) (i : ℕ) (a end : Marker) (g : PlainGap) (k : ℕ) → between f i a end g k []
-    ≡ scalar_ended f end g
-unfolding between
+between_none : (f : Bool) (i : ℕ) (a end : Marker) (g : PlainGap) (k : ℕ) → word_behind_gap f i a end g k []
+    ≡ scalar_end f end g
+unfolding word_behind_gap
 between_none f i a end g zero = refl
 between_none f i a end g (suc k) = refl
 
 between_step : (f : Bool) (i : ℕ) (a end : Marker) (g : PlainGap) (c : ℕ) (cs : List ℕ)
-    → between f i a end g zero (c ∷ cs)
-    ≡ (goes_on f i g.behind >>= λ b. if b.0 then with_text (g.text ++ encode_utf8 c)
-    (word f i a (along g.behind.mark 1) cs) else scalar_ended f end g)
-unfolding between
+    → word_behind_gap f i a end g zero (c ∷ cs)
+    ≡ (next_word_starts f i g.behind >>= λ b. if b.0 then with_text (g.text ++ encode_utf8 c)
+    (word f i a (along g.behind.mark 1) cs) else scalar_end f end g)
+unfolding word_behind_gap
 between_step f i a end g c cs = refl
 
 between_more : (f : Bool) (i : ℕ) (a end : Marker) (g : PlainGap) (k c : ℕ) (cs : List ℕ)
-    → between f i a end g (suc k) (c ∷ cs) ≡ between f i a end g k cs
-unfolding between
+    → word_behind_gap f i a end g (suc k) (c ∷ cs) ≡ word_behind_gap f i a end g k cs
+unfolding word_behind_gap
 between_more f i a end g k c cs = refl
 
 choice : (b : Bool) (x y z : PlainScalarRead) → (b ≡ true → x ≡ y) → (if b then x else z) ≡ (if b then y else z)
@@ -177,96 +179,99 @@ choice false x y z h = refl
 
 -- the next word's first character
 word_first : (f : Bool) (i : ℕ) (a : Marker) (g : PlainGap) (c : ℕ) (cs : List ℕ) (t : Cursor) → c ∷ cs ≡ g.behind.rest
-    → t ≡ g.behind → in_word f g.behind.rest ≡ true
+    → t ≡ g.behind → is_in_word f g.behind.rest ≡ true
     → with_text (g.text ++ encode_utf8 c) (word f i a (along g.behind.mark 1) cs)
     ≡ with_text g.text (word f i a t.mark t.rest)
 word_first f i a g c cs t is same goes =
-    let here : in_word f (c ∷ cs) ≡ true = ap (in_word f) is ∙ goes in
+    let here : is_in_word f (c ∷ cs) ≡ true = ap (is_in_word f) is ∙ goes in
     sym (text_twice g.text (encode_utf8 c) _)
     ∙ ap (with_text g.text) (sym (word_on f i a g.behind.mark c cs here) ∙ ap (word f i a g.behind.mark) is)
     ∙ ap (λ (x : Cursor). with_text g.text (word f i a x.mark x.rest)) (sym same)
 
 between_there : (f : Bool) (i : ℕ) (a end : Marker) (g : PlainGap) (xs : List ℕ) → xs ≡ g.behind.rest
-    → between f i a end g zero xs ≡ behind_gap f i a end g
+    → word_behind_gap f i a end g zero xs ≡ plain_behind_gap f i a end g
 between_there f i a end g [] is =
-    between_none f i a end g zero ∙ sym (gap_over f i a end g (ap (in_word f) (sym is) ∙ not_in_word f))
+    between_none f i a end g zero ∙ sym (gap_over f i a end g (ap (is_in_word f) (sym is) ∙ not_in_word f))
 between_there f i a end g (c ∷ cs) is =
     between_step f i a end g c cs
-    ∙ bind_same (goes_on f i g.behind) _ _ (λ b h.
+    ∙ bind_same (next_word_starts f i g.behind) _ _ (λ b h.
     let says = goes_says f i b.0 g.behind b.1 h in
-    choice b.0 _ _ (scalar_ended f end g) (λ goes. word_first f i a g c cs b.1 is says.same (says.goes goes)))
+    choice b.0 _ _ (scalar_end f end g) (λ goes. word_first f i a g c cs b.1 is says.same (says.goes goes)))
 
 between_all : (f : Bool) (i : ℕ) (a end : Marker) (g : PlainGap) (k : ℕ) (xs : List ℕ) → drop k xs ≡ g.behind.rest
-    → between f i a end g k xs ≡ behind_gap f i a end g
+    → word_behind_gap f i a end g k xs ≡ plain_behind_gap f i a end g
 between_all f i a end g zero xs is = between_there f i a end g xs is
 between_all f i a end g (suc k) [] is =
     between_none f i a end g (suc k) ∙ sym (between_none f i a end g zero) ∙ between_there f i a end g [] is
 between_all f i a end g (suc k) (c ∷ cs) is = between_more f i a end g k c cs ∙ between_all f i a end g k cs is
 
 word_end : (f : Bool) (i : ℕ) (a m : Marker)
-    → word f i a m [] ≡ scalar_ended f m (record { text = []; tabbed = false; behind = at m [] })
+    → word f i a m [] ≡ scalar_end f m (record { text = []; tabbed = false; behind = mid_line m [] })
 unfolding word
 word_end f i a m = refl
 
-word_gap : (f : Bool) (i : ℕ) (a m : Marker) (c : ℕ) (cs : List ℕ) → in_word f (c ∷ cs) ≡ false
+word_gap : (f : Bool) (i : ℕ) (a m : Marker) (c : ℕ) (cs : List ℕ) → is_in_word f (c ∷ cs) ≡ false
     → word f i a m (c ∷ cs)
-    ≡ (gap i a (at m (c ∷ cs)) >>= λ g. if gap_len (c ∷ cs) g == 0 then scalar_ended f m g else between
+    ≡ (gap i a (mid_line m (c ∷ cs)) >>= λ g. if gap_len (c ∷ cs) g == 0 then scalar_end f m g else word_behind_gap
     f i a m g (pred (gap_len (c ∷ cs) g)) cs)
 unfolding word
 word_gap f i a m c cs h = rw h refl
 
-end_gap : (i : ℕ) (a m : Marker) → gap i a (at m []) ≡ Ok (record { text = []; tabbed = false; behind = at m [] })
+gap_at_end : (i : ℕ) (a m : Marker)
+    → gap i a (mid_line m []) ≡ Ok (record { text = []; tabbed = false; behind = mid_line m [] })
 unfolding gap gap_from
-end_gap i a m = ap (λ x. Ok (record { text = []; tabbed = false; behind = at x [] })) (along_none m)
+gap_at_end i a m = ap (λ x. Ok (record { text = []; tabbed = false; behind = mid_line x [] })) (along_none m)
 
 pub some_count : (n : ℕ) → (n == 0) ≡ false → n ≡ suc (pred n)
 some_count zero e = absurd (cc)
 some_count (suc n) e = refl
 
 -- what an end of a text is, by the count of what stands before it
-pub end_at : (xs : List ℕ) (g : PlainGap) → IsEnd xs g.behind.rest → (n : ℕ) → gap_len xs g ≡ n → drop n xs
+pub dropped_at_end : (xs : List ℕ) (g : PlainGap) → IsEnd xs g.behind.rest → (n : ℕ) → gap_len xs g ≡ n → drop n xs
     ≡ g.behind.rest
-end_at xs g e n h = let same : e.taken ≡ n = omega (arith, e.count, h) in ap (λ k. drop k xs) (sym same) ∙ sym e.is
+dropped_at_end xs g e n h = let same : e.taken ≡ n = omega (arith, e.count, h) in ap (λ k. drop k xs) (sym same)
+    ∙ sym e.is
 
-pub word_over : (f : Bool) (i : ℕ) (a m : Marker) (xs : List ℕ) → in_word f xs ≡ false
-    → word f i a m xs ≡ (gap i a (at m xs) >>= behind_gap f i a m)
+pub word_over : (f : Bool) (i : ℕ) (a m : Marker) (xs : List ℕ) → is_in_word f xs ≡ false
+    → word f i a m xs ≡ (gap i a (mid_line m xs) >>= plain_behind_gap f i a m)
 word_over f i a m [] h =
-    word_end f i a m ∙ sym (gap_over f i a m (record { text = []; tabbed = false; behind = at m [] }) h)
-    ∙ sym (ap (λ r. r >>= behind_gap f i a m) (end_gap i a m))
+    word_end f i a m ∙ sym (gap_over f i a m (record { text = []; tabbed = false; behind = mid_line m [] }) h)
+    ∙ sym (ap (λ r. r >>= plain_behind_gap f i a m) (gap_at_end i a m))
 word_over f i a m (c ∷ cs) h =
     word_gap f i a m c cs h
-    ∙ bind_same (gap i a (at m (c ∷ cs))) _ _ (λ g is.
-    let end = gap_end i a (at m (c ∷ cs)) g is in
-    by_test (gap_len (c ∷ cs) g == 0) _ _ (λ (r : PlainScalarRead). r ≡ behind_gap f i a m g)
+    ∙ bind_same (gap i a (mid_line m (c ∷ cs))) _ _ (λ g is.
+    let end = gap_end i a (mid_line m (c ∷ cs)) g is in
+    by_test (gap_len (c ∷ cs) g == 0) _ _ (λ (r : PlainScalarRead). r ≡ plain_behind_gap f i a m g)
     (λ none.
     let no : gap_len (c ∷ cs) g ≡ 0 = grind (arith, nat_tests) in
-    sym (gap_over f i a m g (ap (in_word f) (sym (end_at (c ∷ cs) g end 0 no)) ∙ h)))
+    sym (gap_over f i a m g (ap (is_in_word f) (sym (dropped_at_end (c ∷ cs) g end 0 no)) ∙ h)))
     (λ some.
     let k = pred (gap_len (c ∷ cs) g) in
     let more : gap_len (c ∷ cs) g ≡ suc k = some_count (gap_len (c ∷ cs) g) some in
-    between_all f i a m g k cs (end_at (c ∷ cs) g end (suc k) more)))
+    between_all f i a m g k cs (dropped_at_end (c ∷ cs) g end (suc k) more)))
 
 -- What the calls that read a part leave.
 
 -- words that were put behind a text end on their line
-moved_at : (f : Bool) (text grown : List ℕ) (s t : Cursor) → PlainWordsMoved f text grown s t → at t.mark t.rest ≡ t
+moved_at : (f : Bool) (text grown : List ℕ) (s t : Cursor) → PlainWordsMoved f text grown s t
+    → mid_line t.mark t.rest ≡ t
 moved_at f text grown s t m =
     let there : Bool → Cursor = λ b. record { rest = t.rest; mark = t.mark; blank_so_far = b } in ap there
     (sym m.on_line)
 
 -- behind a word that was read
-pub behind_word : (f : Bool) (i : ℕ) (a : Marker) (text grown : List ℕ) (s t : Cursor)
+pub moved_behind_word : (f : Bool) (i : ℕ) (a : Marker) (text grown : List ℕ) (s t : Cursor)
     → PlainWordsMoved f text grown s t
-    → with_text text (word f i a s.mark s.rest) ≡ with_text grown (gap i a t >>= behind_gap f i a t.mark)
-behind_word f i a text grown s t m =
+    → with_text text (word f i a s.mark s.rest) ≡ with_text grown (gap i a t >>= plain_behind_gap f i a t.mark)
+moved_behind_word f i a text grown s t m =
     sym (m.same i a)
     ∙ ap (with_text grown) (word_over f i a t.mark t.rest m.stops
-    ∙ ap (λ x. gap i a x >>= behind_gap f i a t.mark) (moved_at f text grown s t m))
+    ∙ ap (λ x. gap i a x >>= plain_behind_gap f i a t.mark) (moved_at f text grown s t m))
 
 pub gap_refused : (f : Bool) (i : ℕ) (a : Marker) (text grown : List ℕ) (s t : Cursor) (r : Refusal)
     → PlainWordsMoved f text grown s t → gap i a t ≡ Err r → with_text text (word f i a s.mark s.rest) ≡ Err r
 gap_refused f i a text grown s t r m h =
-    behind_word f i a text grown s t m ∙ ap (λ x. with_text grown (x >>= behind_gap f i a t.mark)) h
+    moved_behind_word f i a text grown s t m ∙ ap (λ x. with_text grown (x >>= plain_behind_gap f i a t.mark)) h
 
 -- a gap behind a word
 pub record GapMoved (f : Bool) (i : ℕ) (a : Marker) (text grown : List ℕ) (s t : Cursor) (g : PlainGap) : Type 0 where
@@ -275,53 +280,45 @@ pub record GapMoved (f : Bool) (i : ℕ) (a : Marker) (text grown : List ℕ) (s
 
 pub behind_both : (f : Bool) (i : ℕ) (a : Marker) (text grown : List ℕ) (s t : Cursor) (g : PlainGap)
     → GapMoved f i a text grown s t g
-    → with_text text (word f i a s.mark s.rest) ≡ with_text grown (behind_gap f i a t.mark g)
+    → with_text text (word f i a s.mark s.rest) ≡ with_text grown (plain_behind_gap f i a t.mark g)
 behind_both f i a text grown s t g m =
-    behind_word f i a text grown s t m.moved ∙ ap (λ x. with_text grown (x >>= behind_gap f i a t.mark)) m.is
+    moved_behind_word f i a text grown s t m.moved
+    ∙ ap (λ x. with_text grown (x >>= plain_behind_gap f i a t.mark)) m.is
 
 pub turn_refused : (f : Bool) (i : ℕ) (a : Marker) (text grown : List ℕ) (s t : Cursor) (g : PlainGap) (r : Refusal)
-    → GapMoved f i a text grown s t g → goes_on f i g.behind ≡ Err r
+    → GapMoved f i a text grown s t g → next_word_starts f i g.behind ≡ Err r
     → with_text text (word f i a s.mark s.rest) ≡ Err r
 turn_refused f i a text grown s t g r m h =
     behind_both f i a text grown s t g m
     ∙ ap (λ x. with_text grown
-    (x >>= λ b. if b.0 then with_text g.text (word f i a b.1.mark b.1.rest) else scalar_ended f t.mark g)) h
+    (x >>= λ b. if b.0 then with_text g.text (word f i a b.1.mark b.1.rest) else scalar_end f t.mark g)) h
 
 -- no word behind the gap
 pub no_turn : (f : Bool) (i : ℕ) (a : Marker) (text grown : List ℕ) (s t : Cursor) (g : PlainGap) (u : Cursor)
-    → GapMoved f i a text grown s t g → goes_on f i g.behind ≡ Ok (false, u)
+    → GapMoved f i a text grown s t g → next_word_starts f i g.behind ≡ Ok (false, u)
     → with_text text (word f i a s.mark s.rest) ≡ Ok (grown, t.mark, comment_of f g.tabbed u, u)
 no_turn f i a text grown s t g u m h =
     behind_both f i a text grown s t g m
     ∙ ap (λ x. with_text grown
-    (x >>= λ b. if b.0 then with_text g.text (word f i a b.1.mark b.1.rest) else scalar_ended f t.mark g)) h
+    (x >>= λ b. if b.0 then with_text g.text (word f i a b.1.mark b.1.rest) else scalar_end f t.mark g)) h
     ∙ ap (λ x. Ok (x, t.mark, comment_of f g.tabbed g.behind, g.behind)) (append-nil grown)
     ∙ ap (λ x. Ok (grown, t.mark, comment_of f g.tabbed x, x)) (sym (goes_says f i false g.behind u h).same)
 
 -- another word behind the gap
 pub turn : (f : Bool) (i : ℕ) (a : Marker) (text grown joined : List ℕ) (s t : Cursor) (g : PlainGap) (u : Cursor)
-    → GapMoved f i a text grown s t g → goes_on f i g.behind ≡ Ok (true, u)
+    → GapMoved f i a text grown s t g → next_word_starts f i g.behind ≡ Ok (true, u)
     → joined ≡ grown ++ g.text → with_text joined (word f i a u.mark u.rest) ≡ with_text text (word f i a s.mark s.rest)
 turn f i a text grown joined s t g u m h j =
     ap (λ x. with_text x (word f i a u.mark u.rest)) j
     ∙ sym (behind_both f i a text grown s t g m
     ∙ ap (λ x. with_text grown
-    (x >>= λ b. if b.0 then with_text g.text (word f i a b.1.mark b.1.rest) else scalar_ended f t.mark g)) h
+    (x >>= λ b. if b.0 then with_text g.text (word f i a b.1.mark b.1.rest) else scalar_end f t.mark g)) h
     ∙ text_twice grown g.text _)
 
-pub turn_goes : (f : Bool) (i : ℕ) (g : PlainGap) (u : Cursor) → goes_on f i g.behind ≡ Ok (true, u)
-    → in_word f u.rest ≡ true
+pub turn_goes : (f : Bool) (i : ℕ) (g : PlainGap) (u : Cursor) → next_word_starts f i g.behind ≡ Ok (true, u)
+    → is_in_word f u.rest ≡ true
 turn_goes f i g u h = let says =
-    goes_says f i true g.behind u h in ap (λ (x : Cursor). in_word f x.rest) says.same ∙ says.goes refl
-
-pub turn_shorter : (f : Bool) (i : ℕ) (a : Marker) (text grown : List ℕ) (s t : Cursor) (g : PlainGap) (u : Cursor)
-    → in_word f s.rest ≡ true → GapMoved f i a text grown s t g → goes_on f i g.behind ≡ Ok (true, u)
-    → length u.rest < length s.rest
-turn_shorter f i a text grown s t g u goes m h =
-    let end = gap_end i a t g m.is in
-    let less : length u.rest ≡ length g.behind.rest = ap (λ (x : Cursor). length x.rest)
-    (goes_says f i true g.behind u h).same in
-    omega (arith, end.count, less, m.moved.shorter goes)
+    goes_says f i true g.behind u h in ap (λ (x : Cursor). is_in_word f x.rest) says.same ∙ says.goes refl
 
 -- the scalar
 
@@ -330,10 +327,6 @@ pub plain_starts : (f : Bool) (i : ℕ) (s t : Cursor) → word_starts f s ≡ O
 unfolding plain
 plain_starts f i s t h =
     ap (λ r. r >>= λ b. if b.0 then word f i s.mark b.1.mark b.1.rest else refuse fault.PlainEnd s.mark) h
-
-pub first_goes : (f : Bool) (s t : Cursor) → word_starts f s ≡ Ok (true, t) → in_word f t.rest ≡ true
-first_goes f s t h = let says =
-    starts_says f true s t h in ap (λ (x : Cursor). in_word f x.rest) says.same ∙ says.goes refl
 
 -- a refusal that `?` hands on
 pub moves_refused : {X Y : Type 0} (view : X → Y) (r : Result X Stop) (f : Result Y Refusal) (refusal : Refusal)

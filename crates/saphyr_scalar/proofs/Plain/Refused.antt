@@ -9,14 +9,14 @@ use Rattle.saphyr_scalar.specs.declared.scalar.fault.Refusal.{Refusal}
 use Rattle.saphyr_scalar.specs.Steps.Block.{is_cr_lf}
 use Rattle.saphyr_scalar.specs.Views.Cursor.{Cursor, ◌>>=◌, along, next_line, pass, pass_break}
 use Rattle.saphyr_scalar.specs.Passing.{IsPassed, nothing}
-use Rattle.saphyr_scalar.specs.Steps.Plain.{PlainGap, folded_gap, ends_line, in_word, word_starts, may_stand, reached, at_line, lines, next_lines, gap_from, gap, goes_on, PlainScalarRead, with_text, gap_len, between, word, plain}
-use Rattle.saphyr_scalar.specs.Steps.Quoted.{at}
+use Rattle.saphyr_scalar.specs.Steps.Plain.{PlainGap, folded_gap, ends_line, is_in_word, word_starts, content_behind_tab, reached_gap, line_front, lines, next_lines, gap_from, gap, next_word_starts, PlainScalarRead, with_text, gap_len, word_behind_gap, word, plain}
+use Rattle.saphyr_scalar.specs.Steps.Quoted.{mid_line}
 use Rattle.saphyr_scalar.specs.RefusedInside.{IsRefusedInside}
-use Rattle.saphyr_scalar.proofs.PassedBreaks.{Passes, along_same, one_here, return_here, feed_here, stop_here, end_here, behind_one}
+use Rattle.saphyr_scalar.proofs.PassedBreaks.{PassesBreak, along_same, one_here, return_here, feed_here, stop_here, end_here, behind_one}
 use Rattle.saphyr_scalar.proofs.Block.PlacedHeaders.{passed_passed, run_passed, break_ends}
 use Rattle.saphyr_scalar.proofs.Plain.Gaps.{gap_end}
-use Rattle.saphyr_scalar.proofs.Plain.Pieces.{some_count, end_at, starts_says, goes_says}
-use Rattle.saphyr_scalar.proofs.RefusedOnWay.{inside_from, inside_at, inside_start, one_more_passed}
+use Rattle.saphyr_scalar.proofs.Plain.Pieces.{some_count, dropped_at_end, starts_says, goes_says}
+use Rattle.saphyr_scalar.proofs.RefusedOnWay.{inside_from, refused_there, inside_start, one_more_passed}
 use Rattle.saphyr_scalar.proofs.Refusals.{Refused, RefusedAt, refused_bind, refused_more}
 use Rattle.std.proofs.lemmas.Bool.{or_left}
 use Rattle.saphyr_input.proofs.Basics.Booleans.{by_test}
@@ -25,36 +25,36 @@ use Rattle.saphyr_input.proofs.Basics.Characters.{blank_no_break}
 -- ## The lines behind a word's line
 
 -- passed up to where the gap ends, or refused at the scalar's start or up to where it is refused
-abbrev Told : Marker → Marker → List ℕ → Result PlainGap Refusal → Type 0
-Told start m t (Ok g) = Passes m t g.behind
-Told start m t (Err e) = (e.mark ≡ start) ⊎ ((behind : List ℕ) × Passes m t (at e.mark behind))
+abbrev TellsGap : Marker → Marker → List ℕ → Result PlainGap Refusal → Type 0
+TellsGap start m t (Ok g) = PassesBreak m t g.behind
+TellsGap start m t (Err e) = (e.mark ≡ start) ⊎ ((behind : List ℕ) × PassesBreak m t (mid_line e.mark behind))
 
 told_more : (start m k : Marker) (t u : List ℕ) (r : Result PlainGap Refusal)
-    → ((s : Cursor) → Passes k u s → Passes m t s)
-    → Told start k u r → Told start m t r
+    → ((s : Cursor) → PassesBreak k u s → PassesBreak m t s)
+    → TellsGap start k u r → TellsGap start m t r
 told_more start m k t u (Ok g) more h = more g.behind h
 told_more start m k t u (Err e) more (inl is) = inl is
-told_more start m k t u (Err e) more (inr h) = inr (h.0, more (at e.mark h.0) h.1)
+told_more start m k t u (Err e) more (inr h) = inr (h.0, more (mid_line e.mark h.0) h.1)
 
 reached_told : (start : Marker) (tabbed : Bool) (feeds : List ℕ) (m : Marker) (t : List ℕ)
-    → ((b : Bool) → Passes m t (record { rest = t; mark = m; blank_so_far = b }))
-    → Told start m t (reached start tabbed feeds (at_line m t))
-unfolding may_stand
+    → ((b : Bool) → PassesBreak m t (record { rest = t; mark = m; blank_so_far = b }))
+    → TellsGap start m t (reached_gap start tabbed feeds (line_front m t))
+unfolding content_behind_tab
 reached_told start tabbed feeds m t here =
     let P : Result Cursor Refusal → Type 0 =
-    λ r. Told start m t (r >>= λ u. Ok (record { text = feeds; tabbed = tabbed; behind = u })) in
+    λ r. TellsGap start m t (r >>= λ u. Ok (record { text = feeds; tabbed = tabbed; behind = u })) in
     by_test (tabbed && is_bom (slice_index t 0)) _ _ P (λ _. inr (t, here false))
     (λ _. by_test (tabbed && not ((slice_index t 0 == 35) || is_z (slice_index t 0))) _ _ P (λ _. inl refl)
     (λ _. here true))
 
 -- a character, of a break or none, before what is told from the place behind it on
 one_told : (start m : Marker) (c : ℕ) (cs : List ℕ) (f : Marker → Result PlainGap Refusal)
-    → ((k : Marker) → Told start k cs (f k)) → Told start m (c ∷ cs) (f (behind_one m c cs))
+    → ((k : Marker) → TellsGap start k cs (f k)) → TellsGap start m (c ∷ cs) (f (behind_one m c cs))
 one_told start m c cs f others = on (is_cr_lf c cs) refl (is_break c) refl
   where
-    step : (k : Marker) → behind_one m c cs ≡ k → ((s : Cursor) → Passes k cs s → Passes m (c ∷ cs) s)
-        → Told start m (c ∷ cs) (f (behind_one m c cs))
-    step k is more = subst (λ (j : Marker). Told start m (c ∷ cs) (f j)) (sym is)
+    step : (k : Marker) → behind_one m c cs ≡ k → ((s : Cursor) → PassesBreak k cs s → PassesBreak m (c ∷ cs) s)
+        → TellsGap start m (c ∷ cs) (f (behind_one m c cs))
+    step k is more = subst (λ (j : Marker). TellsGap start m (c ∷ cs) (f j)) (sym is)
         (told_more start m k (c ∷ cs) cs (f k) more (others k))
 
     inside : (a b : Bool) → b ≡ true → (a && not b) ≡ false
@@ -63,7 +63,7 @@ one_told start m c cs f others = on (is_cr_lf c cs) refl (is_break c) refl
     inside true false h = absurd (cc)
 
     on : (both : Bool) → is_cr_lf c cs ≡ both → (breaks : Bool) → is_break c ≡ breaks
-        → Told start m (c ∷ cs) (f (behind_one m c cs))
+        → TellsGap start m (c ∷ cs) (f (behind_one m c cs))
     on true e breaks g = step (along m 1)
         (let no : ends_line c cs ≡ false = inside (is_break c) (is_cr_lf c cs) e in rw no refl)
         (λ s. return_here m (along m 1) c cs s e (along_same m))
@@ -73,13 +73,13 @@ one_told start m c cs f others = on (is_cr_lf c cs) refl (is_break c) refl
         (λ s. one_here m c cs s g)
 
 lines_told : (indent : ℕ) (start : Marker) (tabbed : Bool) (feeds : List ℕ) (m : Marker) (t : List ℕ)
-    → Told start m t (lines indent start tabbed feeds m t)
+    → TellsGap start m t (lines indent start tabbed feeds m t)
 unfolding lines
 lines_told indent start tabbed feeds m [] = reached_told start tabbed feeds m [] (end_here m)
 lines_told indent start tabbed feeds m (c ∷ cs) =
     let tabs : Bool = is_blank c && (tabbed || ((c == tab) && nat_lt m.col indent)) in
     let fed : List ℕ = if ends_line c cs then feeds ++ line_feed ∷ [] else feeds in
-    by_test (is_blank_or_break c) _ _ (Told start m (c ∷ cs))
+    by_test (is_blank_or_break c) _ _ (TellsGap start m (c ∷ cs))
     (λ _. one_told start m c cs (λ k. lines indent start tabs fed k cs)
     (λ k. lines_told indent start tabs fed k cs))
     (λ e. reached_told start tabbed feeds m (c ∷ cs) (λ b. stop_here m c cs b (no_break (is_blank c) (is_break c) e)))
@@ -99,7 +99,7 @@ next_told : (indent : ℕ) (start : Marker) (s t : Cursor) → IsPassed s.mark s
 next_told indent start s t p =
     by (lines indent start false [] t.mark t.rest) (lines_told indent start false [] t.mark t.rest)
   where
-    by : (r : Result PlainGap Refusal) → Told start t.mark t.rest r → GapTold start s (r >>= λ g. Ok (folded_gap g))
+    by : (r : Result PlainGap Refusal) → TellsGap start t.mark t.rest r → GapTold start s (r >>= λ g. Ok (folded_gap g))
     by (Ok g) h = passed_passed s.mark s.rest t.mark t.rest g.behind.mark g.behind.rest p h.here
     by (Err e) (inl is) = inl is
     by (Err e) (inr h) = inr (inside_from s t e p (h.0, h.1.here))
@@ -139,14 +139,14 @@ starts_refused in_flow s =
     (λ _. by_test (in_flow && (slice_index s.rest 0 == 45) && is_flow (slice_index s.rest 1)) _ _ (RefusedAt s.mark)
     (λ _. refl) (λ _. tt))
 
-goes_refused : (in_flow : Bool) (indent : ℕ) (s : Cursor) → RefusedAt s.mark (goes_on in_flow indent s)
-unfolding goes_on
+goes_refused : (in_flow : Bool) (indent : ℕ) (s : Cursor) → RefusedAt s.mark (next_word_starts in_flow indent s)
+unfolding next_word_starts
 goes_refused in_flow indent s =
     by_test (s.blank_so_far && not in_flow && nat_lt s.mark.col indent) _ _ (RefusedAt s.mark) (λ _. tt)
     (λ _. starts_refused in_flow s)
 
-word_no_break : (in_flow : Bool) (t : List ℕ) → in_word in_flow t ≡ true → is_break (slice_index t 0) ≡ false
-unfolding in_word
+word_no_break : (in_flow : Bool) (t : List ℕ) → is_in_word in_flow t ≡ true → is_break (slice_index t 0) ≡ false
+unfolding is_in_word
 word_no_break in_flow t e =
     by (is_blank (slice_index t 0)) (is_break (slice_index t 0)) (is_z (slice_index t 0)) (can_be_plain in_flow t) e
   where
@@ -159,22 +159,22 @@ text_refused : (P : Refusal → Type 0) (text : List ℕ) (r : PlainScalarRead) 
 text_refused P text r h = refused_bind P r _ h (λ x _. tt)
 
 mutual
-  unfolding between word
+  unfolding word_behind_gap word
 
   between_refused : (s : Cursor) (in_flow : Bool) (indent : ℕ) (end : Marker) (g : PlainGap) (left : ℕ) (t : List ℕ)
       → IsPassed s.mark s.rest g.behind.mark g.behind.rest → drop left t ≡ g.behind.rest
-      → Refused (IsRefusedInside s) (between in_flow indent s.mark end g left t)
+      → Refused (IsRefusedInside s) (word_behind_gap in_flow indent s.mark end g left t)
   between_refused s in_flow indent end g left [] p is = tt
   between_refused s in_flow indent end g zero (c ∷ cs) p is =
       let P = IsRefusedInside s in
       let b = g.behind in
       let here : IsPassed s.mark s.rest b.mark (c ∷ cs) = subst (λ u. IsPassed s.mark s.rest b.mark u) (sym is) p in
-      refused_bind P (goes_on in_flow indent b) _
-      (refused_more (λ e. e.mark ≡ b.mark) P (goes_on in_flow indent b) (goes_refused in_flow indent b)
-      (inside_at s b p)) (λ x e.
+      refused_bind P (next_word_starts in_flow indent b) _
+      (refused_more (λ e. e.mark ≡ b.mark) P (next_word_starts in_flow indent b) (goes_refused in_flow indent b)
+      (refused_there s b p)) (λ x e.
       by_test x.0 _ _ (Refused P)
       (λ goes. let first : is_break c ≡ false =
-      word_no_break in_flow (c ∷ cs) (ap (in_word in_flow) is ∙ (goes_says in_flow indent x.0 b x.1 e).goes goes) in
+      word_no_break in_flow (c ∷ cs) (ap (is_in_word in_flow) is ∙ (goes_says in_flow indent x.0 b x.1 e).goes goes) in
       text_refused P (g.text ++ encode_utf8 c) (word in_flow indent s.mark (along b.mark 1) cs)
       (word_refused s in_flow indent (along b.mark 1) cs (one_more_passed s b.mark c cs here first)))
       (λ _. tt))
@@ -185,8 +185,8 @@ mutual
   word_refused s in_flow indent m [] p = tt
   word_refused s in_flow indent m (c ∷ cs) p =
       let P = IsRefusedInside s in
-      let t : Cursor = at m (c ∷ cs) in
-      by_test (in_word in_flow (c ∷ cs)) _ _ (Refused P)
+      let t : Cursor = mid_line m (c ∷ cs) in
+      by_test (is_in_word in_flow (c ∷ cs)) _ _ (Refused P)
       (λ e. text_refused P (encode_utf8 c) (word in_flow indent s.mark (along m 1) cs)
       (word_refused s in_flow indent (along m 1) cs
       (one_more_passed s m c cs p (word_no_break in_flow (c ∷ cs) e))))
@@ -197,7 +197,7 @@ mutual
       (gap_passed indent s.mark t g e) in
       by_test (gap_len (c ∷ cs) g == 0) _ _ (Refused P) (λ _. tt)
       (λ some. between_refused s in_flow indent m g k cs there
-      (end_at (c ∷ cs) g end (suc k) (some_count (gap_len (c ∷ cs) g) some)))))
+      (dropped_at_end (c ∷ cs) g end (suc k) (some_count (gap_len (c ∷ cs) g) some)))))
 
 pub plain_refused : (in_flow : Bool) (indent : ℕ) (s : Cursor) → Refused (IsRefusedInside s) (plain in_flow indent s)
 unfolding plain

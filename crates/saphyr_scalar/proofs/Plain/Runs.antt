@@ -7,12 +7,13 @@ use Rattle.saphyr_input.specs.Classes.{is_blank, is_break}
 use Rattle.saphyr_input.specs.Places.{is_blank_or_break}
 use Rattle.scalar_values.specs.declared.folding.Item.{Item}
 use Rattle.scalar_values.specs.declared.folding.Item.TheVariants.{Blank, Raw}
+use Rattle.saphyr_scalar.specs.Spelling.Tag.{AreIn}
 use Rattle.saphyr_scalar.specs.declared.scalar.position.Marker.{Marker}
 use Rattle.saphyr_scalar.specs.Views.Cursor.{along, next_line}
 use Rattle.scalar_values.specs.Folding.{folded, is_before_break, raw_break, AreBreaks}
 use Rattle.scalar_values.specs.Flow.{raw_item}
 use Rattle.saphyr_scalar.specs.Steps.Plain.{ends_line}
-use Rattle.saphyr_scalar.specs.Reading.Plain.{AreWhite, passed}
+use Rattle.saphyr_scalar.specs.Reading.Plain.{end_of_text}
 use Rattle.scalar_values.proofs.Foldings.{folds_breaks}
 use Rattle.saphyr_scalar.proofs.Moving.{along_none, along_more}
 use Rattle.saphyr_scalar.proofs.Quoted.Inside.{break_cases}
@@ -31,30 +32,30 @@ AreInk (c ∷ cs) = Ink c × AreInk cs
 abbrev pub NoFeed : List ℕ → Type 0
 NoFeed xs = (slice_index xs 0 == 10) ≡ false
 
-abbrev pub items : List ℕ → List Item
-items text = map raw_item (normalized text)
+abbrev pub items_of : List ℕ → List Item
+items_of text = map raw_item (normalized text)
 
-parts : (a b d : Bool) → (a || (b || d)) ≡ false → (a ≡ false) × (b ≡ false) × (d ≡ false)
-parts false false false h = (refl, refl, refl)
-parts true b d h = absurd (cc)
-parts false true d h = absurd (cc)
-parts false false true h = absurd (cc)
+three_false : (a b d : Bool) → (a || (b || d)) ≡ false → (a ≡ false) × (b ≡ false) × (d ≡ false)
+three_false false false false h = (refl, refl, refl)
+three_false true b d h = absurd (cc)
+three_false false true d h = absurd (cc)
+three_false false false true h = absurd (cc)
 
 pub ink_no_feed : (c : ℕ) → Ink c → (c == 10) ≡ false
-ink_no_feed c h = (parts (is_blank c) (c == 10) (c == 13) h).1
+ink_no_feed c h = (three_false (is_blank c) (c == 10) (c == 13) h).1
 
-items_ink : (c : ℕ) (cs : List ℕ) → Ink c → items (c ∷ cs) ≡ Raw c ∷ items cs
+items_ink : (c : ℕ) (cs : List ℕ) → Ink c → items_of (c ∷ cs) ≡ Raw c ∷ items_of cs
 items_ink c cs h =
-    let t = parts (is_blank c) (c == 10) (c == 13) h in
+    let t = three_false (is_blank c) (c == 10) (c == 13) h in
     let normal : normalized (c ∷ cs) ≡ c ∷ normalized cs = rw t.2 refl in
     let raw : raw_item c ≡ Raw c = rw (t.1, t.0) refl in
-    ap (map raw_item) normal ∙ ap (λ (i : Item). i ∷ items cs) raw
+    ap (map raw_item) normal ∙ ap (λ (i : Item). i ∷ items_of cs) raw
 
-items_blank : (c : ℕ) (cs : List ℕ) → is_blank c ≡ true → items (c ∷ cs) ≡ Blank c ∷ items cs
-items_blank c cs h = blank_cases c h (λ x. items (x ∷ cs) ≡ Blank x ∷ items cs) refl refl
+items_blank : (c : ℕ) (cs : List ℕ) → is_blank c ≡ true → items_of (c ∷ cs) ≡ Blank c ∷ items_of cs
+items_blank c cs h = blank_cases c h (λ x. items_of (x ∷ cs) ≡ Blank x ∷ items_of cs) refl refl
 
 -- a word is read as its characters
-pub folded_word : (w y : List ℕ) → AreInk w → folded (items (w ++ y)) ≡ w ++ folded (items y)
+pub folded_word : (w y : List ℕ) → AreInk w → folded (items_of (w ++ y)) ≡ w ++ folded (items_of y)
 folded_word [] y h = refl
 folded_word (c ∷ w) y h = ap folded (items_ink c (w ++ y) h.0) ∙ ap (λ (l : List ℕ). c ∷ l) (folded_word w y h.1)
 
@@ -75,25 +76,26 @@ normalized_append (c ∷ v) y h =
     ∙ ap (λ (l : List ℕ). normal_break c v ++ l) (normalized_append v y h)
     ∙ sym (append_assoc (normal_break c v) (normalized v) (normalized y))
 
-items_append : (v y : List ℕ) → NoFeed y → items (v ++ y) ≡ items v ++ items y
+items_append : (v y : List ℕ) → NoFeed y → items_of (v ++ y) ≡ items_of v ++ items_of y
 items_append v y h = ap (map raw_item) (normalized_append v y h) ∙ map-append raw_item (normalized v) (normalized y)
 
 -- Places.
 
-pub passed_append : (m : Marker) (v y : List ℕ) → NoFeed y → passed m (v ++ y) ≡ passed (passed m v) y
+pub passed_append : (m : Marker) (v y : List ℕ) → NoFeed y → end_of_text m (v ++ y) ≡ end_of_text (end_of_text m v) y
 passed_append m [] y h = refl
 passed_append m (c ∷ v) y h =
-    ap (λ (b : Bool). passed (if b then next_line m 1 else along m 1) (v ++ y)) (same_ends c v y h)
+    ap (λ (b : Bool). end_of_text (if b then next_line m 1 else along m 1) (v ++ y)) (same_ends c v y h)
     ∙ passed_append (if ends_line c v then next_line m 1 else along m 1) v y h
 
 -- no line ends in a word
-pub passed_word : (m : Marker) (w y : List ℕ) → AreInk w → passed m (w ++ y) ≡ passed (along m (length w)) y
-passed_word m [] y h = ap (λ x. passed x y) (sym (along_none m))
+pub passed_word : (m : Marker) (w y : List ℕ) → AreInk w → end_of_text m (w ++ y) ≡ end_of_text (along m (length w)) y
+passed_word m [] y h = ap (λ x. end_of_text x y) (sym (along_none m))
 passed_word m (c ∷ w) y h =
-    let t = parts (is_blank c) (c == 10) (c == 13) h.0 in
+    let t = three_false (is_blank c) (c == 10) (c == 13) h.0 in
     let none : ends_line c (w ++ y) ≡ false = rw (t.1, t.2) refl in
-    ap (λ (b : Bool). passed (if b then next_line m 1 else along m 1) (w ++ y)) none ∙ passed_word (along m 1) w y h.1
-    ∙ ap (λ x. passed x y) (along_more m 1 (length w) (suc (length w)) (omega arith))
+    ap (λ (b : Bool). end_of_text (if b then next_line m 1 else along m 1) (w ++ y)) none ∙ passed_word
+    (along m 1) w y h.1
+    ∙ ap (λ x. end_of_text x y) (along_more m 1 (length w) (suc (length w)) (omega arith))
 
 -- Runs of blanks and breaks.
 
@@ -102,39 +104,41 @@ abbrev pub line_count : List ℕ → ℕ
 line_count [] = 0
 line_count (c ∷ cs) = if ends_line c cs then suc (line_count cs) else line_count cs
 
-are_breaks : (v : List ℕ) → AreWhite v → AreBreaks (line_count v) (items v)
+are_breaks : (v : List ℕ) → AreIn is_blank_or_break v → AreBreaks (line_count v) (items_of v)
 are_breaks [] h = tt
 are_breaks (c ∷ v) h = by_white (is_blank c) refl (are_breaks v h.1)
   where
     Goal : ℕ → Type 0
-    Goal x = AreBreaks (line_count (x ∷ v)) (items (x ∷ v))
+    Goal x = AreBreaks (line_count (x ∷ v)) (items_of (x ∷ v))
 
     one_blank : (n : ℕ) (x : ℕ) (l : List Item) → AreBreaks n l → AreBreaks n (Blank x ∷ l)
     one_blank zero x l b = b
     one_blank (suc n) x l b = (Blank x ∷ b.0, b.1, b.2, b.3, ap (λ (l : List Item). Blank x ∷ l) b.4)
 
-    at_return : (b : Bool) → (slice_index v 0 == 10) ≡ b → AreBreaks (line_count v) (items v) → Goal 13
+    at_return : (b : Bool) → (slice_index v 0 == 10) ≡ b → AreBreaks (line_count v) (items_of v) → Goal 13
     at_return true e rest = rw e rest
-    at_return false e rest = rw e ([], items v, tt, rest, refl)
+    at_return false e rest = rw e ([], items_of v, tt, rest, refl)
 
     or_break : (a b : Bool) → a ≡ false → IsTrue (a || b) → b ≡ true
     or_break false b e x = x
     or_break true b e x = absurd (cc)
 
-    by_white : (b : Bool) → is_blank c ≡ b → AreBreaks (line_count v) (items v) → Goal c
-    by_white true e rest = blank_cases c e Goal (one_blank (line_count v) 32 (items v) rest)
-        (one_blank (line_count v) 9 (items v) rest)
-    by_white false e rest = break_cases c (or_break (is_blank c) (is_break c) e h.0) Goal ([], items v, tt, rest, refl)
+    by_white : (b : Bool) → is_blank c ≡ b → AreBreaks (line_count v) (items_of v) → Goal c
+    by_white true e rest = blank_cases c e Goal (one_blank (line_count v) 32 (items_of v) rest)
+        (one_blank (line_count v) 9 (items_of v) rest)
+    by_white false e rest = break_cases c (or_break (is_blank c) (is_break c) e h.0) Goal
+        ([], items_of v, tt, rest, refl)
         (at_return (slice_index v 0 == 10) refl rest)
 
 -- breaks before a word
-pub folded_breaks : (k : ℕ) (v : List ℕ) (c : ℕ) (cs : List ℕ) → AreWhite v → line_count v ≡ suc k → Ink c
-    → folded (items (v ++ (c ∷ cs))) ≡ raw_break k ++ folded (items (c ∷ cs))
+pub folded_breaks : (k : ℕ) (v : List ℕ) (c : ℕ) (cs : List ℕ) → AreIn is_blank_or_break v
+    → line_count v ≡ suc k → Ink c
+    → folded (items_of (v ++ (c ∷ cs))) ≡ raw_break k ++ folded (items_of (c ∷ cs))
 folded_breaks k v c cs h count ink =
     let here = items_ink c cs ink in
-    let breaks : AreBreaks (suc k) (items v) = subst (λ n. AreBreaks n (items v)) count (are_breaks v h) in
-    ap folded (items_append v (c ∷ cs) (ink_no_feed c ink) ∙ ap (λ (l : List Item). items v ++ l) here)
-    ∙ (folds_breaks k (items v) c (items cs)).0 breaks
+    let breaks : AreBreaks (suc k) (items_of v) = subst (λ n. AreBreaks n (items_of v)) count (are_breaks v h) in
+    ap folded (items_append v (c ∷ cs) (ink_no_feed c ink) ∙ ap (λ (l : List Item). items_of v ++ l) here)
+    ∙ (folds_breaks k (items_of v) c (items_of cs)).0 breaks
     ∙ ap (λ (l : List ℕ). raw_break k ++ l) (sym (ap folded here))
 
 -- blanks before a word
@@ -143,14 +147,14 @@ AreBlank [] = Unit {0}
 AreBlank (c ∷ cs) = (is_blank c ≡ true) × AreBlank cs
 
 no_break_next : (v : List ℕ) (c : ℕ) (cs : List ℕ) → AreBlank v → Ink c
-    → is_before_break (items (v ++ (c ∷ cs))) ≡ false
+    → is_before_break (items_of (v ++ (c ∷ cs))) ≡ false
 no_break_next [] c cs h ink = ap is_before_break (items_ink c cs ink)
 no_break_next (b ∷ v) c cs h ink = ap is_before_break (items_blank b (v ++ (c ∷ cs)) h.0) ∙ no_break_next v c cs h.1 ink
 
 pub folded_blanks : (v : List ℕ) (c : ℕ) (cs : List ℕ) → AreBlank v → Ink c
-    → folded (items (v ++ (c ∷ cs))) ≡ v ++ folded (items (c ∷ cs))
+    → folded (items_of (v ++ (c ∷ cs))) ≡ v ++ folded (items_of (c ∷ cs))
 folded_blanks [] c cs h ink = refl
 folded_blanks (b ∷ v) c cs h ink =
     ap folded (items_blank b (v ++ (c ∷ cs)) h.0)
-    ∙ ap (λ (t : Bool). (if t then [] else b ∷ []) ++ folded (items (v ++ (c ∷ cs)))) (no_break_next v c cs h.1 ink)
+    ∙ ap (λ (t : Bool). (if t then [] else b ∷ []) ++ folded (items_of (v ++ (c ∷ cs)))) (no_break_next v c cs h.1 ink)
     ∙ ap (λ (l : List ℕ). b ∷ l) (folded_blanks v c cs h.1 ink)

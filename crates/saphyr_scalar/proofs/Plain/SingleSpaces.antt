@@ -4,26 +4,27 @@ use Rattle.std.specs.Prelude.{◌&&◌, ◌||◌, ◌==◌, not, encode_utf8}
 use Rattle.std.specs.List.{prefix_len}
 use Rattle.std.proofs.lemmas.Bool.Decides.{nat_tests}
 use Rattle.std.proofs.lemmas.List.{append-nil, drop-drop}
+use Rattle.std.proofs.lemmas.Bool.{not-true}
 use Rattle.saphyr_input.specs.Classes.{is_blank, is_break, is_bom, is_flow, is_blank_or_breakz}
 use Rattle.saphyr_input.specs.Places.{is_document_indicator, words_len, TransfersWords}
 use Rattle.saphyr_input.proofs.WordRuns.{words_within}
 use Rattle.saphyr_scalar.specs.declared.scalar.position.Marker.{Marker}
 use Rattle.saphyr_scalar.specs.declared.scalar.fault.Refusal.{Refusal}
 use Rattle.saphyr_scalar.specs.Views.Cursor.{Cursor, ◌>>=◌, along, pass}
-use Rattle.saphyr_scalar.specs.Steps.Plain.{in_word, word_starts, goes_on, gap_from, gap, PlainGap, with_text, scalar_ended, word, PlainWordsMoved, seen_gap}
-use Rattle.saphyr_scalar.specs.Steps.Quoted.{at}
+use Rattle.saphyr_scalar.specs.Steps.Plain.{is_in_word, word_starts, next_word_starts, gap_from, gap, PlainGap, with_text, scalar_end, word, PlainWordsMoved, seen_gap}
+use Rattle.saphyr_scalar.specs.Steps.Quoted.{mid_line}
 use Rattle.saphyr_scalar.specs.Steps.Sets.{in_plain, leads_plain}
 use Rattle.saphyr_scalar.proofs.Moving.{along_none, along_more}
-use Rattle.saphyr_scalar.proofs.Plain.Pieces.{behind_gap, word_over, word_on, text_twice, Part, no_part}
+use Rattle.saphyr_scalar.proofs.Plain.Pieces.{plain_behind_gap, word_over, word_on, text_twice, WordPart, no_part}
 use Rattle.saphyr_scalar.proofs.Plain.Words.{word_left}
-use Rattle.saphyr_scalar.proofs.Quoted.Inside.{Moved, IsContent, content_of}
-use Rattle.saphyr_scalar.proofs.Quoted.Words.{not_true, both_true}
+use Rattle.saphyr_scalar.proofs.Quoted.Inside.{Moved, IsQuotedInk, content_of}
+use Rattle.saphyr_scalar.proofs.Quoted.Words.{both_true}
 use Rattle.saphyr_input.proofs.Basics.Booleans.{by_test, either}
 use Rattle.saphyr_scalar.proofs.Given.{together}
 
 -- a character of the set goes on with a word
-set_in_word : (f : Bool) (xs : List ℕ) → in_plain f (slice_index xs 0) ≡ true → in_word f xs ≡ true
-unfolding in_word
+set_in_word : (f : Bool) (xs : List ℕ) → in_plain f (slice_index xs 0) ≡ true → is_in_word f xs ≡ true
+unfolding is_in_word
 set_in_word f xs h =
     let c = slice_index xs 0 in
     all (c == 58) (is_blank_or_breakz c) (is_bom c) (f && is_flow c) _ h
@@ -35,7 +36,7 @@ set_in_word f xs h =
     all false false true e x h = absurd (cc)
     all false false false true x h = absurd (cc)
 
-set_content : (f : Bool) (c : ℕ) → in_plain f c ≡ true → IsContent c
+set_content : (f : Bool) (c : ℕ) → in_plain f c ≡ true → IsQuotedInk c
 set_content f c h = content_of c (second (c == 58) (is_blank_or_breakz c) (is_bom c) (f && is_flow c) h)
   where
     second : (a b d e : Bool) → (not a && not b && not d && not e) ≡ true → b ≡ false
@@ -44,17 +45,17 @@ set_content f c h = content_of c (second (c == 58) (is_blank_or_breakz c) (is_bo
     second false true d e h = absurd (cc)
 
 -- a word that begins behind a space
-record Leads (f : Bool) (cs : List ℕ) : Type 0 where
+record LeadsWord (f : Bool) (cs : List ℕ) : Type 0 where
   set : in_plain f (slice_index cs 0) ≡ true
   hash : (slice_index cs 0 == 35) ≡ false
   dash : (slice_index cs 0 == 45) ≡ false
 
-leads : (f : Bool) (cs : List ℕ) → leads_plain f (slice_index cs 0) ≡ true → Leads f cs
+leads : (f : Bool) (cs : List ℕ) → leads_plain f (slice_index cs 0) ≡ true → LeadsWord f cs
 leads f cs h =
     let two = both_true (in_plain f (slice_index cs 0) && not (slice_index cs 0 == 35)) (not (slice_index cs 0 == 45))
     h in
     let one = both_true (in_plain f (slice_index cs 0)) (not (slice_index cs 0 == 35)) two.0 in
-    record { set = one.0; hash = not_true _ one.1; dash = not_true _ two.1 }
+    record { set = one.0; hash = not-true _ one.1; dash = not-true _ two.1 }
 
 one_blank : (cs : List ℕ) → is_blank (slice_index cs 0) ≡ false → prefix_len is_blank (32 ∷ cs) ≡ 1
 one_blank [] h = refl
@@ -62,20 +63,20 @@ one_blank (d ∷ ds) h = rw h refl
 
 -- the space alone is moved
 space_moved : (m : Marker) (cs : List ℕ) → is_blank (slice_index cs 0) ≡ false
-    → Moved is_blank [] (encode_utf8 32) (at m (32 ∷ cs)) (at (along m 1) cs)
+    → Moved is_blank [] (encode_utf8 32) (mid_line m (32 ∷ cs)) (mid_line (along m 1) cs)
 space_moved m cs h = record {
-  is = ap (λ n. together (encode_utf8_all (take n (32 ∷ cs))) (pass n (at m (32 ∷ cs)))) (one_blank cs h)
-      ∙ ap (λ b. together b (at (along m 1) cs)) (append-nil (encode_utf8 32));
+  is = ap (λ n. together (encode_utf8_all (take n (32 ∷ cs))) (pass n (mid_line m (32 ∷ cs)))) (one_blank cs h)
+      ∙ ap (λ b. together b (mid_line (along m 1) cs)) (append-nil (encode_utf8 32));
 }
 
 abbrev space_gap : Marker → List ℕ → PlainGap
-space_gap m cs = seen_gap false (encode_utf8 32) (at (along m 1) cs)
+space_gap m cs = seen_gap false (encode_utf8 32) (mid_line (along m 1) cs)
 
 abbrev Found : Type 0
 Found = Result PlainGap Refusal
 
-gap_is_space : (f : Bool) (i : ℕ) (a m : Marker) (cs : List ℕ) → Leads f cs
-    → gap i a (at m (32 ∷ cs)) ≡ Ok (space_gap m cs)
+gap_is_space : (f : Bool) (i : ℕ) (a m : Marker) (cs : List ℕ) → LeadsWord f cs
+    → gap i a (mid_line m (32 ∷ cs)) ≡ Ok (space_gap m cs)
 unfolding gap gap_from
 gap_is_space f i a m cs s =
     let content = set_content f (slice_index cs 0) s.set in
@@ -96,57 +97,58 @@ no_second a true d is h = absurd (cc)
 no_second true false d is h = absurd (cc)
 no_second false false d is h = absurd (cc)
 
-space_goes : (f : Bool) (i : ℕ) (m : Marker) (cs : List ℕ) → Leads f cs
-    → goes_on f i (at (along m 1) cs) ≡ answer true (at (along m 1) cs)
-unfolding goes_on word_starts
+space_goes : (f : Bool) (i : ℕ) (m : Marker) (cs : List ℕ) → LeadsWord f cs
+    → next_word_starts f i (mid_line (along m 1) cs) ≡ answer true (mid_line (along m 1) cs)
+unfolding next_word_starts word_starts
 space_goes f i m cs s =
     let c = slice_index cs 0 in
     let column : (m.col + 1 == 0) ≡ false = grind (arith, nat_tests) in
-    by_test ((c == 35) || ((m.col + 1 == 0) && is_document_indicator cs)) _ _ (λ r. r ≡ answer true (at (along m 1) cs))
+    by_test ((c == 35) || ((m.col + 1 == 0) && is_document_indicator cs)) _ _
+    (λ r. r ≡ answer true (mid_line (along m 1) cs))
     (λ h. absurd (no_either _ _ _ s.hash column h))
-    (λ _. by_test (f && (c == 45) && is_flow (slice_index cs 1)) _ _ (λ r. r ≡ answer true (at (along m 1) cs))
+    (λ _. by_test (f && (c == 45) && is_flow (slice_index cs 1)) _ _ (λ r. r ≡ answer true (mid_line (along m 1) cs))
     (λ h. absurd (no_second f _ _ s.dash h))
-    (λ _. ap (λ b. answer b (at (along m 1) cs)) (set_in_word f cs s.set)))
+    (λ _. ap (λ b. answer b (mid_line (along m 1) cs)) (set_in_word f cs s.set)))
 
 -- a character is passed
-abbrev Passed : Bool → ℕ → Marker → Marker → ℕ → List ℕ → Type 0
-Passed f i a m c cs = word f i a m (c ∷ cs) ≡ with_text (encode_utf8 c) (word f i a (along m 1) cs)
+abbrev PassesCharacter : Bool → ℕ → Marker → Marker → ℕ → List ℕ → Type 0
+PassesCharacter f i a m c cs = word f i a m (c ∷ cs) ≡ with_text (encode_utf8 c) (word f i a (along m 1) cs)
 
-space_ends : (f : Bool) (cs : List ℕ) → in_word f (32 ∷ cs) ≡ false
-unfolding in_word
+space_ends : (f : Bool) (cs : List ℕ) → is_in_word f (32 ∷ cs) ≡ false
+unfolding is_in_word
 space_ends f cs = refl
 
-space_passed : (f : Bool) (i : ℕ) (a m : Marker) (cs : List ℕ) → Leads f cs → Passed f i a m 32 cs
+space_passed : (f : Bool) (i : ℕ) (a m : Marker) (cs : List ℕ) → LeadsWord f cs → PassesCharacter f i a m 32 cs
 space_passed f i a m cs s =
-    word_over f i a m (32 ∷ cs) (space_ends f cs) ∙ ap (λ r. r >>= behind_gap f i a m) (gap_is_space f i a m cs s)
+    word_over f i a m (32 ∷ cs) (space_ends f cs) ∙ ap (λ r. r >>= plain_behind_gap f i a m) (gap_is_space f i a m cs s)
     ∙ ap (λ r. r >>= λ b. cond b.0 (with_text (encode_utf8 32) (word f i a b.1.mark b.1.rest))
-    (scalar_ended f m (space_gap m cs))) (space_goes f i m cs s)
+    (scalar_end f m (space_gap m cs))) (space_goes f i m cs s)
 
 word_passed : (f : Bool) (i : ℕ) (a m : Marker) (c : ℕ) (cs : List ℕ)
-    → (in_plain f c || ((c == 32) && leads_plain f (slice_index cs 0))) ≡ true → Passed f i a m c cs
+    → (in_plain f c || ((c == 32) && leads_plain f (slice_index cs 0))) ≡ true → PassesCharacter f i a m c cs
 word_passed f i a m c cs h =
-    either (in_plain f c) ((c == 32) && leads_plain f (slice_index cs 0)) (Passed f i a m c cs) h
+    either (in_plain f c) ((c == 32) && leads_plain f (slice_index cs 0)) (PassesCharacter f i a m c cs) h
     (λ is. word_on f i a m c cs (set_in_word f (c ∷ cs) is))
     (λ is.
     let two = both_true (c == 32) (leads_plain f (slice_index cs 0)) is in
     let space : c ≡ 32 = grind (arith, nat_tests) in
     rw space (space_passed f i a m cs (leads f cs two.1)))
 
-piece_on : (f : Bool) (i : ℕ) (a m : Marker) (c : ℕ) (cs : List ℕ) (n : ℕ) → Passed f i a m c cs
-    → Part f i a (along m 1) cs n → Part f i a m (c ∷ cs) (suc n)
+piece_on : (f : Bool) (i : ℕ) (a m : Marker) (c : ℕ) (cs : List ℕ) (n : ℕ) → PassesCharacter f i a m c cs
+    → WordPart f i a (along m 1) cs n → WordPart f i a m (c ∷ cs) (suc n)
 piece_on f i a m c cs n h r =
     h ∙ ap (with_text (encode_utf8 c)) r ∙ text_twice (encode_utf8 c) (encode_utf8_all (take n cs)) _
     ∙ ap (λ x. with_text (encode_utf8 c ++ encode_utf8_all (take n cs)) (word f i a x (drop n cs)))
     (along_more m 1 n (suc n) (omega arith))
 
 pub words_piece : (f : Bool) (i : ℕ) (a m : Marker) (n : ℕ) (xs : List ℕ)
-    → n ≤ words_len (in_plain f) (leads_plain f) xs → Part f i a m xs n
+    → n ≤ words_len (in_plain f) (leads_plain f) xs → WordPart f i a m xs n
 unfolding words_len
 words_piece f i a m zero xs l = no_part f i a m xs
 words_piece f i a m (suc n) [] l = absurd (omega (arith, l))
 words_piece f i a m (suc n) (c ∷ cs) l =
     by_test (in_plain f c || ((c == 32) && leads_plain f (slice_index cs 0)))
-    (1 + words_len (in_plain f) (leads_plain f) cs) 0 (λ k. suc n ≤ k → Part f i a m (c ∷ cs) (suc n))
+    (1 + words_len (in_plain f) (leads_plain f) cs) 0 (λ k. suc n ≤ k → WordPart f i a m (c ∷ cs) (suc n))
     (λ h less. piece_on f i a m c cs n (word_passed f i a m c cs h)
     (words_piece f i a (along m 1) n cs (omega (arith, less))))
     (λ _ less. absurd (omega (arith, less))) l
@@ -187,7 +189,7 @@ words_ran f text grown more s t u n k r w place =
 
 -- a colon with which the word goes on
 pub colon_ran : (f : Bool) (text grown pushed : List ℕ) (s t u : Cursor) (n c : ℕ) → WordsRan f text grown s t n
-    → in_word f t.rest ≡ true → c ≡ slice_index t.rest 0 → pushed ≡ grown ++ encode_utf8 c
+    → is_in_word f t.rest ≡ true → c ≡ slice_index t.rest 0 → pushed ≡ grown ++ encode_utf8 c
     → u.rest ≡ drop 1 t.rest → u.mark ≡ t.mark → WordsRan f text pushed s u (n + 1)
 colon_ran f text grown pushed s t u n c r goes read e behind place =
     let on = λ (i : ℕ) (a : Marker). one_on f i a (along s.mark n) t.rest goes in
@@ -201,14 +203,14 @@ colon_ran f text grown pushed s t u n c r goes read e behind place =
       mark = place ∙ r.mark;
     }
   where
-    one_on : (f : Bool) (i : ℕ) (a m : Marker) (xs : List ℕ) → in_word f xs ≡ true
+    one_on : (f : Bool) (i : ℕ) (a m : Marker) (xs : List ℕ) → is_in_word f xs ≡ true
         → word f i a m xs ≡ with_text (encode_utf8 (slice_index xs 0)) (word f i a (along m 1) (drop 1 xs))
     one_on f i a m [] h = absurd (omega (arith, word_left f [] h))
     one_on f i a m (c ∷ cs) h = word_on f i a m c cs h
 
 -- the words end
 pub words_done : (f : Bool) (text grown : List ℕ) (s t : Cursor) (n : ℕ) (m : Marker) → WordsRan f text grown s t n
-    → in_word f t.rest ≡ false → m ≡ along s.mark n → PlainWordsMoved f text grown s (at m t.rest)
+    → is_in_word f t.rest ≡ false → m ≡ along s.mark n → PlainWordsMoved f text grown s (mid_line m t.rest)
 words_done f text grown s t n m r stops place = record {
   same = λ i a. ap (λ x. with_text grown (word f i a x t.rest)) place ∙ r.same i a;
   on_line = refl;
@@ -216,7 +218,7 @@ words_done f text grown s t n m r stops place = record {
   shorter = λ goes. some n r.left r.total goes;
 }
   where
-    some : (k : ℕ) → t.rest ≡ drop k s.rest → k + length t.rest ≡ length s.rest → in_word f s.rest ≡ true
+    some : (k : ℕ) → t.rest ≡ drop k s.rest → k + length t.rest ≡ length s.rest → is_in_word f s.rest ≡ true
         → length t.rest < length s.rest
-    some zero left total goes = let still = ap (in_word f) left in absurd (cc)
+    some zero left total goes = let still = ap (is_in_word f) left in absurd (cc)
     some (suc k) left total goes = omega (arith, total)

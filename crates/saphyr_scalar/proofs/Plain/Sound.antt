@@ -7,11 +7,11 @@ use Rattle.saphyr_scalar.specs.declared.scalar.position.Marker.{Marker}
 use Rattle.saphyr_scalar.specs.declared.scalar.fault.Refusal.{Refusal}
 use Rattle.saphyr_scalar.specs.declared.scalar.fault.FaultText.TheVariants as fault
 use Rattle.saphyr_scalar.specs.Views.Cursor.{Cursor, ◌>>=◌, refuse, along}
-use Rattle.saphyr_scalar.specs.Steps.Quoted.{at}
-use Rattle.saphyr_scalar.specs.Steps.Plain.{in_word, word_len, word_starts, goes_on, PlainGap, gap, PlainScalarRead, with_text, scalar_ended, word, plain}
+use Rattle.saphyr_scalar.specs.Steps.Quoted.{mid_line}
+use Rattle.saphyr_scalar.specs.Steps.Plain.{is_in_word, word_len, word_starts, next_word_starts, PlainGap, gap, PlainScalarRead, with_text, scalar_end, word, plain}
 use Rattle.saphyr_scalar.specs.Reading.Plain.{IsPlainReading}
 use Rattle.saphyr_scalar.proofs.Plain.Words.{word_left, word_len_more}
-use Rattle.saphyr_scalar.proofs.Plain.Pieces.{behind_gap, all_word, word_stops, word_over, goes_says, starts_says}
+use Rattle.saphyr_scalar.proofs.Plain.Pieces.{plain_behind_gap, all_word, word_stops, word_over, goes_says, starts_says}
 use Rattle.saphyr_scalar.proofs.Plain.Gaps.{gap_end}
 use Rattle.saphyr_scalar.proofs.Plain.Spelled.{Begins, starts_begins, goes_begins}
 use Rattle.saphyr_scalar.proofs.Plain.Runs.{Ink}
@@ -27,13 +27,13 @@ same_reading : (x y : Read) → (let r : PlainScalarRead = Ok x in r ≡ Ok y) �
 same_reading x y e = cc
 
 abbrev Hypothesis : ℕ → Bool → ℕ → Marker → Type 0
-Hypothesis n f i a = (m : Marker) (xs : List ℕ) → length xs ≤ n → in_word f xs ≡ true → Begins m xs → (x : Read)
+Hypothesis n f i a = (m : Marker) (xs : List ℕ) → length xs ≤ n → is_in_word f xs ≡ true → Begins m xs → (x : Read)
     → word f i a m xs ≡ Ok x → WordReads m xs x
 
 word_turn : (n : ℕ) (f : Bool) (i : ℕ) (a m : Marker) (xs : List ℕ) → Hypothesis n f i a → length xs ≤ suc n
-    → in_word f xs ≡ true → Begins m xs → (x : Read) → word f i a m xs ≡ Ok x → WordReads m xs x
+    → is_in_word f xs ≡ true → Begins m xs → (x : Read) → word f i a m xs ≡ Ok x → WordReads m xs x
 word_turn n f i a m xs hyp short goes begins x is =
-    by_gap (gap i a (at end left)) refl
+    by_gap (gap i a (mid_line end left)) refl
     (sym (all_word f i a m xs ∙ ap (with_text text) (word_over f i a end left (word_stops f xs))) ∙ is)
   where
     k : ℕ
@@ -51,7 +51,7 @@ word_turn n f i a m xs hyp short goes begins x is =
     Goal : Type 0
     Goal = WordReads m xs x
 
-    by_rest : (g : PlainGap) → GapReads left end g → length g.behind.rest ≤ n → in_word f g.behind.rest ≡ true
+    by_rest : (g : PlainGap) → GapReads left end g → length g.behind.rest ≤ n → is_in_word f g.behind.rest ≡ true
         → Begins g.behind.mark g.behind.rest → (r : PlainScalarRead) → word f i a g.behind.mark g.behind.rest ≡ r
         → with_text text (with_text g.text r) ≡ Ok x → Goal
     by_rest g reads less on starts (Ok y) eq e =
@@ -60,14 +60,15 @@ word_turn n f i a m xs hyp short goes begins x is =
         (hyp g.behind.mark g.behind.rest less on starts y eq))
     by_rest g reads less on starts (Err r) eq e = absurd (no_reading r x e)
 
-    by_goes : (g : PlainGap) → gap i a (at end left) ≡ Ok g → (b : Bool) (u : Cursor) → goes_on f i g.behind ≡ Ok (b, u)
-        → with_text text (if b then with_text g.text (word f i a u.mark u.rest) else scalar_ended f end g) ≡ Ok x → Goal
+    by_goes : (g : PlainGap) → gap i a (mid_line end left) ≡ Ok g → (b : Bool) (u : Cursor)
+        → next_word_starts f i g.behind ≡ Ok (b, u)
+        → with_text text (if b then with_text g.text (word f i a u.mark u.rest) else scalar_end f end g) ≡ Ok x → Goal
     by_goes g eq false u q e =
         subst (WordReads m xs) (same_reading _ x e)
         (last_word f m xs g goes begins (front_of f xs goes) (gap_reads i a left end g eq))
     by_goes g eq true u q e =
         let says = goes_says f i true g.behind u q in
-        let gone = gap_end i a (at end left) g eq in
+        let gone = gap_end i a (mid_line end left) g eq in
         let less : length g.behind.rest ≤ n = shorter (length left) (length g.behind.rest) gone.taken
         (rw length-drop refl) gone.count in
         by_rest g (gap_reads i a left end g eq) less (says.goes refl) (goes_begins f i g.behind u q)
@@ -77,18 +78,19 @@ word_turn n f i a m xs hyp short goes begins x is =
         shorter : (d r t : ℕ) → d ≡ length xs - k → t + r ≡ d → r ≤ n
         shorter d r t cut count = let some = word_left f xs goes in omega (arith, word_len_more f xs goes, short)
 
-    by_answer : (g : PlainGap) → gap i a (at end left) ≡ Ok g → (r : Result (Bool × Cursor) Refusal)
-        → goes_on f i g.behind ≡ r
+    by_answer : (g : PlainGap) → gap i a (mid_line end left) ≡ Ok g → (r : Result (Bool × Cursor) Refusal)
+        → next_word_starts f i g.behind ≡ r
         → with_text text (r >>= λ b. if b.0 then with_text g.text (word f i a b.1.mark b.1.rest)
-        else scalar_ended f end g)
+        else scalar_end f end g)
         ≡ Ok x → Goal
     by_answer g eq (Ok b) q e = by_goes g eq b.0 b.1 q e
     by_answer g eq (Err r) q e = absurd (no_reading r x e)
 
-    by_gap : (r : Result PlainGap Refusal) → gap i a (at end left) ≡ r → with_text text (r >>= behind_gap f i a end)
+    by_gap : (r : Result PlainGap Refusal) → gap i a (mid_line end left) ≡ r
+        → with_text text (r >>= plain_behind_gap f i a end)
         ≡ Ok x
         → Goal
-    by_gap (Ok g) eq e = by_answer g eq (goes_on f i g.behind) refl e
+    by_gap (Ok g) eq e = by_answer g eq (next_word_starts f i g.behind) refl e
     by_gap (Err r) eq e = absurd (no_reading r x e)
 
 word_reads : (n : ℕ) (f : Bool) (i : ℕ) (a : Marker) → Hypothesis n f i a
@@ -145,7 +147,7 @@ plain_reads f i s t text end comment is = by_start (word_starts f s) refl is
 
 -- its first character
 
-first_ink : (f : Bool) (xs : List ℕ) → in_word f xs ≡ true → Ink (slice_index xs 0)
+first_ink : (f : Bool) (xs : List ℕ) → is_in_word f xs ≡ true → Ink (slice_index xs 0)
 first_ink f [] h = let none = word_left f [] h in absurd (omega arith)
 first_ink f (c ∷ cs) h = in_word_ink f c cs h
 

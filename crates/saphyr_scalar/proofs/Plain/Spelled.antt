@@ -5,11 +5,12 @@ use Rattle.std.proofs.lemmas.Bool.Decides.{nat_tests}
 use Rattle.std.proofs.lemmas.List.{take-append-drop}
 use Rattle.saphyr_input.specs.Classes.{is_blank, is_break, is_z, is_bom, is_flow, is_blank_or_breakz}
 use Rattle.saphyr_input.specs.Places.{is_blank_or_break, is_document_indicator, can_be_plain}
+use Rattle.saphyr_scalar.specs.Spelling.Tag.{AreIn}
 use Rattle.saphyr_scalar.specs.declared.scalar.position.Marker.{Marker}
 use Rattle.saphyr_scalar.specs.declared.scalar.fault.Refusal.{Refusal}
 use Rattle.saphyr_scalar.specs.Views.Cursor.{Cursor, along, next_line}
-use Rattle.saphyr_scalar.specs.Steps.Plain.{in_word, word_len, word_starts, goes_on, ends_line}
-use Rattle.saphyr_scalar.specs.Reading.Plain.{AreWhite, passed, IsSpelledPlain, ends_piece}
+use Rattle.saphyr_scalar.specs.Steps.Plain.{is_in_word, word_len, word_starts, next_word_starts, ends_line}
+use Rattle.saphyr_scalar.specs.Reading.Plain.{end_of_text, IsSpelledPlain, ends_piece}
 use Rattle.saphyr_scalar.proofs.Moving.{along_none, along_more}
 use Rattle.saphyr_scalar.proofs.Quoted.Inside.{break_cases}
 use Rattle.saphyr_scalar.proofs.Plain.Words.{word_left}
@@ -26,8 +27,8 @@ record WordCharacter (f : Bool) (c : ℕ) (cs : List ℕ) : Type 0 where
   colon : c ≡ 58 → IsFalse (is_blank_or_breakz (slice_index cs 0))
   ink : Ink c
 
-word_character : (f : Bool) (c : ℕ) (cs : List ℕ) → in_word f (c ∷ cs) ≡ true → WordCharacter f c cs
-unfolding in_word
+word_character : (f : Bool) (c : ℕ) (cs : List ℕ) → is_in_word f (c ∷ cs) ≡ true → WordCharacter f c cs
+unfolding is_in_word
 word_character f c cs h = record {
   no_nul = λ e. no (subst (λ x. (not (is_blank_or_breakz x) && can_be_plain f (x ∷ cs)) ≡ true) e h);
   no_mark = λ e. no_bom (subst (λ x. (not (is_blank_or_breakz x) && can_be_plain f (x ∷ cs)) ≡ true) e h);
@@ -86,7 +87,7 @@ word_tail : (f : Bool) (m : Marker) (xs y behind : List ℕ) → 0 < m.col → d
     → IsSpelledPlain m false (take (word_len f xs) xs ++ y) behind
 word_tail f m [] y behind some = λ e h. subst (λ x. IsSpelledPlain x false y behind) (along_none m) h
 word_tail f m (c ∷ cs) y behind some =
-    by_test (in_word f (c ∷ cs)) (1 + word_len f cs) 0
+    by_test (is_in_word f (c ∷ cs)) (1 + word_len f cs) 0
     (λ n. drop n (c ∷ cs) ≡ y ++ behind → IsSpelledPlain (along m n) false y behind
     → IsSpelledPlain m false (take n (c ∷ cs) ++ y) behind)
     (λ goes.
@@ -107,7 +108,7 @@ pub record Begins (m : Marker) (xs : List ℕ) : Type 0 where
   pub comment : slice_index xs 0 ≢ 35
   pub marker : m.col ≡ 0 → IsFalse (is_document_indicator xs)
 
-pub word_spelled : (f : Bool) (m : Marker) (xs y behind : List ℕ) → in_word f xs ≡ true → Begins m xs
+pub word_spelled : (f : Bool) (m : Marker) (xs y behind : List ℕ) → is_in_word f xs ≡ true → Begins m xs
     → drop (word_len f xs) xs ≡ y ++ behind → IsSpelledPlain (along m (word_len f xs)) false y behind
     → IsSpelledPlain m true (take (word_len f xs) xs ++ y) behind
 word_spelled f m [] y behind goes b = let none = word_left f [] goes in absurd (omega arith)
@@ -183,8 +184,9 @@ spelled_apart_or_not : (m : Marker) (apart : Bool) (cs behind : List ℕ) → Is
 spelled_apart_or_not m apart [] behind h = tt
 spelled_apart_or_not m apart (c ∷ cs) behind h = (h.0, h.1, λ _. h.2 refl, h.3, h.4, h.5)
 
-pub white_spelled : (m : Marker) (apart : Bool) (v next behind : List ℕ) → AreWhite v → NoFeed (next ++ behind)
-    → IsSpelledPlain (passed m v) true next behind → IsSpelledPlain m apart (v ++ next) behind
+pub white_spelled : (m : Marker) (apart : Bool) (v next behind : List ℕ) → AreIn is_blank_or_break v
+    → NoFeed (next ++ behind)
+    → IsSpelledPlain (end_of_text m v) true next behind → IsSpelledPlain m apart (v ++ next) behind
 white_spelled m apart [] next behind are none h = spelled_apart_or_not m apart next behind h
 white_spelled m apart (c ∷ v) next behind are none h =
     let w = white_character c ((v ++ next) ++ behind) are.0 in
@@ -202,8 +204,8 @@ white_spelled m apart (c ∷ v) next behind are none h =
     )
 
 -- what stands behind a word
-pub word_follows : (f : Bool) (xs : List ℕ) → in_word f xs ≡ false → IsTrue (ends_piece (slice_index xs 0))
-unfolding in_word
+pub word_follows : (f : Bool) (xs : List ℕ) → is_in_word f xs ≡ false → IsTrue (ends_piece (slice_index xs 0))
+unfolding is_in_word
 word_follows f xs h =
     let c = slice_index xs 0 in
     by_colon (c == 58) (is_blank_or_breakz c) (is_bom c) f (is_flow c)
@@ -260,8 +262,8 @@ starts_begins f s t =
     (λ (r : Result (Bool × Cursor) Refusal). r ≡ Ok (true, t) → Begins s.mark s.rest)
     (λ _ e. absurd (other_answer s t e)) (λ h _. begins_here s h)
 
-pub goes_begins : (f : Bool) (i : ℕ) (s t : Cursor) → goes_on f i s ≡ Ok (true, t) → Begins s.mark s.rest
-unfolding goes_on
+pub goes_begins : (f : Bool) (i : ℕ) (s t : Cursor) → next_word_starts f i s ≡ Ok (true, t) → Begins s.mark s.rest
+unfolding next_word_starts
 goes_begins f i s t = by_test (s.blank_so_far && not f && nat_lt s.mark.col i) _ _
     (λ (r : Result (Bool × Cursor) Refusal). r ≡ Ok (true, t) → Begins s.mark s.rest)
     (λ _ e. absurd (other_answer s t e)) (λ _ e. starts_begins f s t e)

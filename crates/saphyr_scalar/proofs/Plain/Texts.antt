@@ -7,17 +7,18 @@ use Rattle.std.proofs.Math.Seq.{take-append_seam}
 use Rattle.saphyr_input.specs.Breaks.{normalized}
 use Rattle.saphyr_input.specs.Classes.{is_blank, is_break, is_blank_or_breakz, is_flow, is_bom}
 use Rattle.saphyr_input.specs.Places.{is_blank_or_break, is_document_indicator}
+use Rattle.saphyr_scalar.specs.Spelling.Tag.{AreIn}
 use Rattle.saphyr_scalar.specs.declared.scalar.position.Marker.{Marker}
 use Rattle.saphyr_scalar.specs.Views.Cursor.{Cursor, ◌>>=◌, along, next_line}
 use Rattle.scalar_values.specs.Flow.{plain_value}
-use Rattle.saphyr_scalar.specs.Steps.Plain.{in_word, word_starts, goes_on, comment_of, ends_line, with_text, PlainScalarRead, scalar_ended, word, plain}
-use Rattle.saphyr_scalar.specs.Reading.Plain.{AreWhite, passed}
+use Rattle.saphyr_scalar.specs.Steps.Plain.{is_in_word, word_starts, next_word_starts, comment_of, ends_line, with_text, PlainScalarRead, scalar_end, word, plain}
+use Rattle.saphyr_scalar.specs.Reading.Plain.{end_of_text}
 use Rattle.saphyr_scalar.specs.Spelling.Plain.{behind_blanks, past_white, reaches_tabbed, is_tabbed, EndsPlain, is_word_ink, AreInkBefore, IsWordBefore, has_line_end, IsPlainGap, words_text, IsNoMarker, AreFurtherWords, IsPlainText}
 use Rattle.saphyr_scalar.proofs.Moving.{along_none, along_more}
 use Rattle.saphyr_scalar.proofs.Plain.Runs.{AreInk, NoFeed, same_ends, passed_append, passed_word}
 use Rattle.saphyr_scalar.proofs.Plain.White.{flag_on, tabbed_on, tabbed_stop, past_on, past_stop, gap_past}
 use Rattle.saphyr_scalar.proofs.Plain.OneWord.{word_ends, white_stops}
-use Rattle.saphyr_scalar.proofs.Plain.Pieces.{no_text, text_twice, word_on, word_over, behind_gap, plain_starts}
+use Rattle.saphyr_scalar.proofs.Plain.Pieces.{no_text, text_twice, word_on, word_over, plain_behind_gap, plain_starts}
 use Rattle.saphyr_scalar.proofs.Plain.Sound.{plain_reads}
 use Rattle.saphyr_input.proofs.Basics.Lists.{some_length}
 use Rattle.saphyr_input.proofs.Basics.Booleans.{none_of_three, or_assoc}
@@ -27,8 +28,8 @@ use Rattle.saphyr_scalar.proofs.Given.{cursor_at}
 -- words
 
 one_in_word : (f : Bool) (c : ℕ) (cs : List ℕ) → IsTrue (is_word_ink f c)
-    → (c ≡ 58 → IsTrue (is_word_ink f (slice_index cs 0))) → in_word f (c ∷ cs) ≡ true
-unfolding in_word
+    → (c ≡ 58 → IsTrue (is_word_ink f (slice_index cs 0))) → is_in_word f (c ∷ cs) ≡ true
+unfolding is_in_word
 one_in_word f c cs h next = test (c == 58) refl
   where
     d : ℕ
@@ -56,7 +57,7 @@ one_in_word f c cs h next = test (c == 58) refl
         ≡ true) (sym e)
         (subst (λ b. not (b || (f && is_flow c)) ≡ true) (sym parts.1) (ap not parts.2)))
 
-ink_in_word : (f : Bool) (c : ℕ) (cs y : List ℕ) → AreInkBefore f (c ∷ cs) y → in_word f (c ∷ (cs ++ y)) ≡ true
+ink_in_word : (f : Bool) (c : ℕ) (cs y : List ℕ) → AreInkBefore f (c ∷ cs) y → is_in_word f (c ∷ (cs ++ y)) ≡ true
 ink_in_word f c cs y h = one_in_word f c (cs ++ y) h.0 h.1
 
 read_word : (f : Bool) (i : ℕ) (a m : Marker) (w y : List ℕ) → AreInkBefore f w y
@@ -74,7 +75,7 @@ read_word f i a m (c ∷ w) y h =
 starts_so : (f : Bool) (s : Cursor) → (slice_index s.rest 0 == 35) ≡ false
     → ((s.mark.col == 0) && is_document_indicator s.rest) ≡ false
     → (f && (slice_index s.rest 0 == 45) && is_flow (slice_index s.rest 1)) ≡ false
-    → in_word f s.rest ≡ true → word_starts f s ≡ Ok (true, s)
+    → is_in_word f s.rest ≡ true → word_starts f s ≡ Ok (true, s)
 unfolding word_starts
 starts_so f s hash marker lone goes =
     let none : ((slice_index s.rest 0 == 35) || ((s.mark.col == 0) && is_document_indicator s.rest)) ≡ false =
@@ -89,7 +90,7 @@ no_marker_by_test m xs h = test (m.col == 0) refl
         grind (arith, nat_tests) in subst (λ b. (b && is_document_indicator xs) ≡ false) (sym e) (h is)
     test false e = subst (λ b. (b && is_document_indicator xs) ≡ false) (sym e) refl
 
-first_in : (f : Bool) (w y : List ℕ) → IsWordBefore f w y → in_word f (w ++ y) ≡ true
+first_in : (f : Bool) (w y : List ℕ) → IsWordBefore f w y → is_in_word f (w ++ y) ≡ true
 first_in f [] y h = absurd (h.some refl)
 first_in f (c ∷ cs) y h = ink_in_word f c cs y h.ink
 
@@ -142,17 +143,17 @@ dark_no_blank xs h = by_parts (is_blank (slice_index xs 0)) (is_break (slice_ind
     by_parts false b e = refl
     by_parts true b e = absurd (cc)
 
-past_gap : (m : Marker) (b : Bool) (v y : List ℕ) → AreWhite v → Dark y
-    → past_white m b (v ++ y) ≡ cursor_at y (passed m v) (b || has_line_end v)
+past_gap : (m : Marker) (b : Bool) (v y : List ℕ) → AreIn is_blank_or_break v → Dark y
+    → past_white m b (v ++ y) ≡ cursor_at y (end_of_text m v) (b || has_line_end v)
 past_gap m b [] y are dark = past_stop m b y dark ∙ ap (cursor_at y m) (sym (or-false b))
 past_gap m b (c ∷ v) y are dark =
     past_on m b c (v ++ y) are.0
     ∙ ap (λ (t : Bool). past_white (if t then next_line m 1 else along m 1) (b || is_break c) (v ++ y))
     (same_ends c v y (dark_no_feed y dark))
     ∙ past_gap (if ends_line c v then next_line m 1 else along m 1) (b || is_break c) v y are.1 dark
-    ∙ ap (cursor_at y (passed m (c ∷ v))) (or_assoc b (is_break c) (has_line_end v))
+    ∙ ap (cursor_at y (end_of_text m (c ∷ v))) (or_assoc b (is_break c) (has_line_end v))
 
-tabbed_more : (i k : ℕ) (t : Bool) (v y : List ℕ) → Dark y → AreWhite v
+tabbed_more : (i k : ℕ) (t : Bool) (v y : List ℕ) → Dark y → AreIn is_blank_or_break v
     → reaches_tabbed i k t (v ++ y) ≡ reaches_tabbed i k t v
 tabbed_more i k t [] y dark are = tabbed_stop i k t y dark
 tabbed_more i k t (c ∷ v) y dark are =
@@ -173,7 +174,7 @@ blanks_stop (c ∷ cs) h =
     let none : prefix_len is_blank (c ∷ cs) ≡ 0 = rw h refl in
     ap (λ n. drop n (c ∷ cs)) none
 
-is_tabbed_more : (i : ℕ) (v y : List ℕ) → Dark y → AreWhite v → is_tabbed i (v ++ y) ≡ is_tabbed i v
+is_tabbed_more : (i : ℕ) (v y : List ℕ) → Dark y → AreIn is_blank_or_break v → is_tabbed i (v ++ y) ≡ is_tabbed i v
 is_tabbed_more i [] y dark are =
     ap (reaches_tabbed i 0 false) (blanks_stop y (dark_no_blank y dark)) ∙ tabbed_stop i 0 false y dark
 is_tabbed_more i (c ∷ v) y dark are = test (is_blank c) refl (is_tabbed_more i v y dark are.1)
@@ -187,69 +188,70 @@ is_tabbed_more i (c ∷ v) y dark are = test (is_blank c) refl (is_tabbed_more i
         ap (reaches_tabbed i 0 false) (blanks_stop (c ∷ (v ++ y)) e) ∙ tabbed_more i 0 false (c ∷ v) y dark are
         ∙ sym (ap (reaches_tabbed i 0 false) (blanks_stop (c ∷ v) e))
 
-gap_first : (v y : List ℕ) → v ≢ [] → AreWhite v → is_blank_or_break (slice_index (v ++ y) 0) ≡ true
+gap_first : (v y : List ℕ) → v ≢ [] → AreIn is_blank_or_break v → is_blank_or_break (slice_index (v ++ y) 0) ≡ true
 gap_first [] y some are = absurd (some refl)
 gap_first (c ∷ v) y some are = are.0
 
 -- a gap's place is not left of the scalar's indentation
 not_left : (f : Bool) (i : ℕ) (m : Marker) (v : List ℕ) → IsPlainGap f i m v
-    → (has_line_end v && not f && nat_lt (passed m v).col i) ≡ false
+    → (has_line_end v && not f && nat_lt (end_of_text m v).col i) ≡ false
 not_left f i m v h =
     ⊎_elim (λ e. in_flow f e) (λ r. ⊎_elim (λ e. on_line e) (λ e. indented e) r) h.indented
   where
-    in_flow : (g : Bool) → g ≡ true → (has_line_end v && not g && nat_lt (passed m v).col i) ≡ false
-    in_flow true e = none_of (has_line_end v) (nat_lt (passed m v).col i)
+    in_flow : (g : Bool) → g ≡ true → (has_line_end v && not g && nat_lt (end_of_text m v).col i) ≡ false
+    in_flow true e = none_of (has_line_end v) (nat_lt (end_of_text m v).col i)
       where
         none_of : (a b : Bool) → (a && false && b) ≡ false
         none_of true b = refl
         none_of false b = refl
     in_flow false e = absurd (cc)
 
-    on_line : has_line_end v ≡ false → (has_line_end v && not f && nat_lt (passed m v).col i) ≡ false
-    on_line e = subst (λ b. (b && not f && nat_lt (passed m v).col i) ≡ false) (sym e) refl
+    on_line : has_line_end v ≡ false → (has_line_end v && not f && nat_lt (end_of_text m v).col i) ≡ false
+    on_line e = subst (λ b. (b && not f && nat_lt (end_of_text m v).col i) ≡ false) (sym e) refl
 
     last_of : (a b : Bool) → (a && b && false) ≡ false
     last_of true true = refl
     last_of true false = refl
     last_of false b = refl
 
-    indented : i ≤ (passed m v).col → (has_line_end v && not f && nat_lt (passed m v).col i) ≡ false
+    indented : i ≤ (end_of_text m v).col → (has_line_end v && not f && nat_lt (end_of_text m v).col i) ≡ false
     indented le =
-        let more : nat_lt (passed m v).col i ≡ false = grind (arith, nat_tests) in
+        let more : nat_lt (end_of_text m v).col i ≡ false = grind (arith, nat_tests) in
         subst (λ b. (has_line_end v && not f && b) ≡ false) (sym more) (last_of (has_line_end v) (not f))
 
 goes_here : (f : Bool) (i : ℕ) (s : Cursor) → (s.blank_so_far && not f && nat_lt s.mark.col i) ≡ false
-    → word_starts f s ≡ Ok (true, s) → goes_on f i s ≡ Ok (true, s)
-unfolding goes_on
+    → word_starts f s ≡ Ok (true, s) → next_word_starts f i s ≡ Ok (true, s)
+unfolding next_word_starts
 goes_here f i s h starts = rw h starts
 
 -- a gap and the next word's start
-pub record Passes (f : Bool) (i : ℕ) (a m : Marker) (v y : List ℕ) : Type 0 where
+pub record PassesWordGap (f : Bool) (i : ℕ) (a m : Marker) (v y : List ℕ) : Type 0 where
   text : List ℕ
-  is : word f i a m (v ++ y) ≡ with_text text (word f i a (passed m v) y)
+  is : word f i a m (v ++ y) ≡ with_text text (word f i a (end_of_text m v) y)
 
 pub gap_passes : (f : Bool) (i : ℕ) (a m : Marker) (v w z : List ℕ) → IsPlainGap f i m v → IsWordBefore f w z
-    → IsNoMarker (passed m v) (w ++ z) → Passes f i a m v (w ++ z)
+    → IsNoMarker (end_of_text m v) (w ++ z) → PassesWordGap f i a m v (w ++ z)
 gap_passes f i a m v w z h hw marker =
     let y = w ++ z in
     let dark = word_dark f w z z hw in
-    let there = cursor_at y (passed m v) (has_line_end v) in
+    let there = cursor_at y (end_of_text m v) (has_line_end v) in
     let clean : is_tabbed i (v ++ y) ≡ false = is_tabbed_more i v y dark h.white ∙ h.tabs in
     let gap_is = gap_past i a m (v ++ y) (inl clean) in
     let behind : past_white m false (v ++ y) ≡ there = past_gap m false v y h.white dark in
-    let goes : goes_on f i there ≡ Ok (true, there) = goes_here f i there (not_left f i m v h)
-    (word_begins f (passed m v) (has_line_end v) w z hw marker) in
+    let goes : next_word_starts f i there ≡ Ok (true, there) = goes_here f i there (not_left f i m v h)
+    (word_begins f (end_of_text m v) (has_line_end v) w z hw marker) in
     record {
       text = gap_is.text;
       is = word_over f i a m (v ++ y) (white_stops f (v ++ y) (gap_first v y h.some h.white))
-          ∙ ap (λ r. r >>= behind_gap f i a m) gap_is.is
-          ∙ ap (λ (t : Bool). behind_gap f i a m (record {
+          ∙ ap (λ r. r >>= plain_behind_gap f i a m) gap_is.is
+          ∙ ap (λ (t : Bool). plain_behind_gap f i a m (record {
             text = gap_is.text;
             tabbed = t;
             behind = past_white m false (v ++ y);
           })) clean
-          ∙ ap (λ (s : Cursor). behind_gap f i a m (record { text = gap_is.text; tabbed = false; behind = s })) behind
-          ∙ ap (λ r. r >>= λ b. if b.0 then with_text gap_is.text (word f i a b.1.mark b.1.rest) else scalar_ended f m
+          ∙ ap (λ (s : Cursor). plain_behind_gap f i a m
+          (record { text = gap_is.text; tabbed = false; behind = s })) behind
+          ∙ ap (λ r. r >>= λ b. if b.0 then with_text gap_is.text (word f i a b.1.mark b.1.rest) else scalar_end f m
           (record { text = gap_is.text; tabbed = false; behind = there })) goes;
     }
 
@@ -257,7 +259,7 @@ gap_passes f i a m v w z h hw marker =
 
 abbrev end_of : Marker → List (List ℕ × List ℕ) → Marker
 end_of m [] = m
-end_of m (p ∷ ps) = end_of (along (passed m p.0) (length p.1)) ps
+end_of m (p ∷ ps) = end_of (along (end_of_text m p.0) (length p.1)) ps
 
 -- what is read ends there
 record EndsAt (f t : Bool) (r : PlainScalarRead) (end : Marker) (behind : Cursor) : Type 0 where
@@ -277,7 +279,7 @@ words_read f i a (p ∷ ps) m x some h ends =
     let v = p.0 in
     let w = p.1 in
     let z = words_text ps ++ x in
-    let there = passed m v in
+    let there = end_of_text m v in
     let passes = gap_passes f i a m v w z h.0 h.1 h.2 in
     let same : (v ++ (w ++ words_text ps)) ++ x ≡ v ++ (w ++ z) =
     append_assoc v (w ++ words_text ps) x ∙ ap (λ (l : List ℕ). v ++ l) (append_assoc w (words_text ps) x) in
@@ -289,15 +291,15 @@ words_read f i a (p ∷ ps) m x some h ends =
 
 -- places
 passed_words : (f : Bool) (i : ℕ) (ps : List (List ℕ × List ℕ)) (m : Marker) (x : List ℕ) → AreFurtherWords f i m ps x
-    → passed m (words_text ps) ≡ end_of m ps
+    → end_of_text m (words_text ps) ≡ end_of m ps
 passed_words f i [] m x h = refl
 passed_words f i (p ∷ ps) m x h =
     passed_append m p.0 (p.1 ++ words_text ps)
     (dark_no_feed (p.1 ++ words_text ps) (word_dark f p.1 (words_text ps) (words_text ps ++ x) h.1))
-    ∙ passed_word (passed m p.0) p.1 (words_text ps) (ink_of f p.1 (words_text ps ++ x) h.1.ink)
-    ∙ passed_words f i ps (along (passed m p.0) (length p.1)) x h.3
+    ∙ passed_word (end_of_text m p.0) p.1 (words_text ps) (ink_of f p.1 (words_text ps ++ x) h.1.ink)
+    ∙ passed_words f i ps (along (end_of_text m p.0) (length p.1)) x h.3
 
-pub passed_index : (m : Marker) (xs : List ℕ) → (passed m xs).index ≡ m.index + length xs
+pub passed_index : (m : Marker) (xs : List ℕ) → (end_of_text m xs).index ≡ m.index + length xs
 passed_index m [] = omega arith
 passed_index m (c ∷ cs) =
     let more = passed_index (if ends_line c cs then next_line m 1 else along m 1) cs in
@@ -313,15 +315,15 @@ same_piece xs ys us vs e n =
     sym (take-append_seam xs us) ∙ ap (take (length xs)) e ∙ ap (λ k. take k (ys ++ vs)) n ∙ take-append_seam ys vs
 
 text_ends : (f : Bool) (i : ℕ) (s : Cursor) (text x : List ℕ) → s.rest ≡ text ++ x → IsPlainText f i s.mark text x
-    → EndsAt f (is_tabbed i x) (plain f i s) (passed s.mark text) (past_white (passed s.mark text) false x)
+    → EndsAt f (is_tabbed i x) (plain f i s) (end_of_text s.mark text) (past_white (end_of_text s.mark text) false x)
 text_ends f i s text x is h =
     let m = s.mark in
     let w = h.first in
     let z = words_text h.others ++ x in
     let there = along m (length w) in
     let here : s.rest ≡ w ++ z = is ∙ ap (λ (l : List ℕ). l ++ x) h.is ∙ append_assoc w (words_text h.others) x in
-    let place : passed m text ≡ end_of there h.others =
-    ap (passed m) h.is ∙ passed_word m w (words_text h.others) (ink_of f w z h.word.ink)
+    let place : end_of_text m text ≡ end_of there h.others =
+    ap (end_of_text m) h.is ∙ passed_word m w (words_text h.others) (ink_of f w z h.word.ink)
     ∙ passed_words f i h.others there x h.further in
     let marker : IsNoMarker m (w ++ z) = subst (λ (l : List ℕ). IsNoMarker m l) (sym is ∙ here) h.marker in
     let starts : word_starts f s ≡ Ok (true, s) =
@@ -336,12 +338,12 @@ text_ends f i s text x is h =
 
 pub plain_text_read : (f : Bool) (i : ℕ) (s : Cursor) (text x : List ℕ) → s.rest ≡ text ++ x
     → IsPlainText f i s.mark text x
-    → let end = passed s.mark text in let behind =
+    → let end = end_of_text s.mark text in let behind =
     past_white end false x in plain f i s
     ≡ Ok (encode_utf8_all (plain_value (normalized text)), end, comment_of f (is_tabbed i x) behind, behind)
 plain_text_read f i s text x is h =
     let m = s.mark in
-    let end = passed m text in
+    let end = end_of_text m text in
     let behind = past_white end false x in
     let read = text_ends f i s text x is h in
     let reading = plain_reads f i s behind read.text end (comment_of f (is_tabbed i x) behind) read.is in

@@ -8,8 +8,8 @@ use Rattle.saphyr_input.specs.Places.{is_blank_or_break}
 use Rattle.saphyr_scalar.specs.declared.scalar.position.Marker.{Marker}
 use Rattle.saphyr_scalar.specs.declared.scalar.fault.Refusal.{Refusal}
 use Rattle.saphyr_scalar.specs.Views.Cursor.{Cursor, ◌>>=◌, along, next_line, pass_break}
-use Rattle.saphyr_scalar.specs.Steps.Quoted.{at}
-use Rattle.saphyr_scalar.specs.Steps.Plain.{PlainGap, ends_line, may_stand, reached, at_line, lines, folded_gap, gap_from, gap, seen_gap}
+use Rattle.saphyr_scalar.specs.Steps.Quoted.{mid_line}
+use Rattle.saphyr_scalar.specs.Steps.Plain.{PlainGap, ends_line, content_behind_tab, reached_gap, line_front, lines, folded_gap, gap_from, gap, seen_gap}
 use Rattle.saphyr_scalar.specs.Spelling.Plain.{behind_blanks, past_white, reaches_tabbed, is_tabbed, stands_behind_tab}
 use Rattle.saphyr_scalar.proofs.Moving.{along_none, along_more}
 use Rattle.saphyr_scalar.proofs.Quoted.Inside.{break_cases}
@@ -22,7 +22,7 @@ use Rattle.saphyr_input.proofs.Basics.Characters.{blank_no_break}
 use Rattle.saphyr_scalar.proofs.Given.{cursor_at}
 
 -- what a gap leaves
-pub record Leaves (r : Result PlainGap Refusal) (t : Bool) (s : Cursor) : Type 0 where
+pub record LeavesGap (r : Result PlainGap Refusal) (t : Bool) (s : Cursor) : Type 0 where
   pub text : List ℕ
   pub is : r ≡ Ok (seen_gap t text s)
 
@@ -34,8 +34,8 @@ no_byte_order_mark : (c : ℕ) → ((c == 35) || is_z c) ≡ true → is_bom c �
 no_byte_order_mark c h = grind (arith, nat_tests)
 
 is_reached : (a : Marker) (t : Bool) (f : List ℕ) (s : Cursor) → MayStand t s.rest
-    → reached a t f s ≡ Ok (seen_gap t f s)
-unfolding may_stand
+    → reached_gap a t f s ≡ Ok (seen_gap t f s)
+unfolding content_behind_tab
 is_reached a false f s h = refl
 is_reached a true f s (inl e) = absurd (cc)
 is_reached a true f s (inr e) = rw (no_byte_order_mark (slice_index s.rest 0) e, e) refl
@@ -91,14 +91,14 @@ line_past i a t f m c cs white = rw white refl
 
 line_ends_with_ink : (i : ℕ) (a : Marker) (t : Bool) (f : List ℕ) (m : Marker) (c : ℕ) (cs : List ℕ)
     → is_blank_or_break c ≡ false → MayStand t (c ∷ cs)
-    → lines i a t f m (c ∷ cs) ≡ Ok (seen_gap t f (at_line m (c ∷ cs)))
+    → lines i a t f m (c ∷ cs) ≡ Ok (seen_gap t f (line_front m (c ∷ cs)))
 unfolding lines
-line_ends_with_ink i a t f m c cs other h = rw other (is_reached a t f (at_line m (c ∷ cs)) h)
+line_ends_with_ink i a t f m c cs other h = rw other (is_reached a t f (line_front m (c ∷ cs)) h)
 
-text_end : (i : ℕ) (a : Marker) (t : Bool) (f : List ℕ) (m : Marker)
-    → lines i a t f m [] ≡ Ok (seen_gap t f (at_line m []))
+lines_at_end : (i : ℕ) (a : Marker) (t : Bool) (f : List ℕ) (m : Marker)
+    → lines i a t f m [] ≡ Ok (seen_gap t f (line_front m []))
 unfolding lines
-text_end i a t f m = is_reached a t f (at_line m []) (inr refl)
+lines_at_end i a t f m = is_reached a t f (line_front m []) (inr refl)
 
 pub past_on : (m : Marker) (b : Bool) (c : ℕ) (cs : List ℕ) → is_blank_or_break c ≡ true
     → past_white m b (c ∷ cs) ≡ past_white (if ends_line c cs then next_line m 1 else along m 1) (b || is_break c) cs
@@ -109,8 +109,8 @@ pub past_stop : (m : Marker) (b : Bool) (xs : List ℕ) → is_blank_or_break (s
 past_stop m b [] h = refl
 past_stop m b (c ∷ cs) h = rw h refl
 
-leaves_on : (r q : Result PlainGap Refusal) (p t : Bool) (s u : Cursor) → r ≡ q → p ≡ t → s ≡ u → Leaves q t u
-    → Leaves r p s
+leaves_on : (r q : Result PlainGap Refusal) (p t : Bool) (s u : Cursor) → r ≡ q → p ≡ t → s ≡ u → LeavesGap q t u
+    → LeavesGap r p s
 leaves_on r q p t s u e same place l =
     record {
       text = l.text;
@@ -119,8 +119,8 @@ leaves_on r q p t s u e same place l =
 
 pub lines_past : (i : ℕ) (a : Marker) (t : Bool) (f : List ℕ) (m : Marker) (xs : List ℕ)
     → MayStand (reaches_tabbed i m.col t xs) (past_white m true xs).rest
-    → Leaves (lines i a t f m xs) (reaches_tabbed i m.col t xs) (past_white m true xs)
-lines_past i a t f m [] h = record { text = f; is = text_end i a t f m }
+    → LeavesGap (lines i a t f m xs) (reaches_tabbed i m.col t xs) (past_white m true xs)
+lines_past i a t f m [] h = record { text = f; is = lines_at_end i a t f m }
 lines_past i a t f m (c ∷ cs) h = by_case (is_blank_or_break c) refl
     (λ k. lines_past i a (flag_on i m.col t c) (if ends_line c cs then f ++ line_feed ∷ [] else f) on cs k)
   where
@@ -128,11 +128,11 @@ lines_past i a t f m (c ∷ cs) h = by_case (is_blank_or_break c) refl
     on = if ends_line c cs then next_line m 1 else along m 1
 
     Goal : Type 0
-    Goal = Leaves (lines i a t f m (c ∷ cs)) (reaches_tabbed i m.col t (c ∷ cs)) (past_white m true (c ∷ cs))
+    Goal = LeavesGap (lines i a t f m (c ∷ cs)) (reaches_tabbed i m.col t (c ∷ cs)) (past_white m true (c ∷ cs))
 
     Rest : Type 0
     Rest = MayStand (reaches_tabbed i on.col (flag_on i m.col t c) cs) (past_white on true cs).rest
-        → Leaves (lines i a (flag_on i m.col t c) (if ends_line c cs then f ++ line_feed ∷ [] else f) on cs)
+        → LeavesGap (lines i a (flag_on i m.col t c) (if ends_line c cs then f ++ line_feed ∷ [] else f) on cs)
         (reaches_tabbed i on.col (flag_on i m.col t c) cs) (past_white on true cs)
 
     by_case : (b : Bool) → is_blank_or_break c ≡ b → Rest → Goal
@@ -221,20 +221,20 @@ at_break [] m b h = absurd (cc)
 at_break (c ∷ cs) m b h = break_cases c h (λ x. AtBreak (x ∷ cs) m b) (feed_at cs m b) (return_or_two cs m b)
 
 -- what a gap leaves
-same_fold : (r : Result PlainGap Refusal) (t : Bool) (s : Cursor) → Leaves r t s
-    → Leaves (r >>= λ g. Ok (folded_gap g)) t s
+same_fold : (r : Result PlainGap Refusal) (t : Bool) (s : Cursor) → LeavesGap r t s
+    → LeavesGap (r >>= λ g. Ok (folded_gap g)) t s
 same_fold r t s l =
     record { text = (folded_gap (seen_gap t l.text s)).text; is = ap (λ x. x >>= λ g. Ok (folded_gap g)) l.is }
 
 from_past : (i : ℕ) (a : Marker) (blanks : List ℕ) (m : Marker) (xs : List ℕ) → is_blank (slice_index xs 0) ≡ false
     → MayStand (reaches_tabbed i 0 false xs) (past_white m false xs).rest
-    → Leaves (gap_from i a blanks (at m xs)) (reaches_tabbed i 0 false xs) (past_white m false xs)
+    → LeavesGap (gap_from i a blanks (mid_line m xs)) (reaches_tabbed i 0 false xs) (past_white m false xs)
 unfolding gap_from
 from_past i a blanks m xs clean h =
     by_test (is_break (slice_index xs 0)) _ _
-    (λ (r : Result PlainGap Refusal). Leaves r (reaches_tabbed i 0 false xs) (past_white m false xs))
+    (λ (r : Result PlainGap Refusal). LeavesGap r (reaches_tabbed i 0 false xs) (past_white m false xs))
     (λ e.
-    let t = pass_break (at m xs) in
+    let t = pass_break (mid_line m xs) in
     let here = at_break xs m false e in
     leaves_on _ _ _ _ _ _ refl (here.1 i 0) here.0 (same_fold _ _ _ (lines_past i a false [] t.mark t.rest
     (subst (λ (b : Bool). MayStand b (past_white t.mark true t.rest).rest) (here.1 i 0)
@@ -246,7 +246,7 @@ from_past i a blanks m xs clean h =
 
 pub gap_past : (i : ℕ) (a : Marker) (m : Marker) (xs : List ℕ)
     → MayStand (is_tabbed i xs) (past_white m false xs).rest
-    → Leaves (gap i a (at m xs)) (is_tabbed i xs) (past_white m false xs)
+    → LeavesGap (gap i a (mid_line m xs)) (is_tabbed i xs) (past_white m false xs)
 unfolding gap
 gap_past i a m xs h =
     leaves_on _ _ _ _ _ _ refl refl (past_blanks m false xs)

@@ -9,13 +9,13 @@ use Rattle.saphyr_input.specs.Places.{is_blank_or_break}
 use Rattle.saphyr_input.proofs.Basics.Booleans.{by_test, and_false}
 use Rattle.saphyr_scalar.specs.declared.scalar.position.Marker.{Marker}
 use Rattle.saphyr_scalar.specs.Views.Cursor.{Cursor, pass}
-use Rattle.saphyr_scalar.specs.Steps.Plain.{in_word, PlainWordsMoved, seen_gap, gap_from, gap, comment_of, with_text, word}
+use Rattle.saphyr_scalar.specs.Steps.Plain.{is_in_word, PlainWordsMoved, seen_gap, gap_from, gap, comment_of, with_text, word}
 use Rattle.saphyr_scalar.proofs.Moving.{along_none}
 use Rattle.saphyr_scalar.proofs.NoSeparation.{no_run}
 use Rattle.saphyr_scalar.proofs.Plain.Pieces.{GapMoved, goes_not, no_turn}
 
 -- where a word has ended, no more of it is moved
-pub none_moved : (f : Bool) (text : List ℕ) (s : Cursor) → in_word f s.rest ≡ false → s.blank_so_far ≡ false
+pub none_moved : (f : Bool) (text : List ℕ) (s : Cursor) → is_in_word f s.rest ≡ false → s.blank_so_far ≡ false
     → PlainWordsMoved f text text s s
 none_moved f text s ends line = record {
   same = λ i a. refl;
@@ -29,20 +29,21 @@ none_passed s line =
     ap (λ m. let t : Cursor = record { rest = s.rest; mark = m; blank_so_far = false } in t) (along_none s.mark)
     ∙ ap (λ b. let t : Cursor = record { rest = s.rest; mark = s.mark; blank_so_far = b } in t) (sym line)
 
-no_gap : (i : ℕ) (a : Marker) (s : Cursor) → s.blank_so_far ≡ false → is_blank_or_break (slice_index s.rest 0) ≡ false
+gap_before_ink : (i : ℕ) (a : Marker) (s : Cursor) → s.blank_so_far ≡ false
+    → is_blank_or_break (slice_index s.rest 0) ≡ false
     → gap i a s ≡ Ok (seen_gap false [] s)
 unfolding gap gap_from
-no_gap i a s line ink =
+gap_before_ink i a s line ink =
     let two = or_parts (is_blank (slice_index s.rest 0)) (is_break (slice_index s.rest 0)) ink in
     let none : prefix_len is_blank s.rest ≡ 0 = no_run is_blank s.rest two.0 in
     rw (none, none_passed s line, two.1) refl
 
-hash_in_word : (f : Bool) (xs : List ℕ) → slice_index xs 0 ≡ 35 → in_word f xs ≡ true
-unfolding in_word
+hash_in_word : (f : Bool) (xs : List ℕ) → slice_index xs 0 ≡ 35 → is_in_word f xs ≡ true
+unfolding is_in_word
 hash_in_word true xs h = rw h refl
 hash_in_word false xs h = rw h refl
 
-no_comment : (f : Bool) (s : Cursor) → in_word f s.rest ≡ false → comment_of f false s ≡ None
+no_comment : (f : Bool) (s : Cursor) → is_in_word f s.rest ≡ false → comment_of f false s ≡ None
 unfolding comment_of
 no_comment f s ends =
     by_test (slice_index s.rest 0 == 35) true false (λ _. comment_of f false s ≡ None)
@@ -52,13 +53,13 @@ no_comment f s ends =
     absurd (cc))
     (λ is. rw (is, and_false (not f)) refl)
 
-pub scalar_ends : (f : Bool) (i : ℕ) (a : Marker) (text : List ℕ) (s : Cursor) → in_word f s.rest ≡ false
+pub scalar_ends : (f : Bool) (i : ℕ) (a : Marker) (text : List ℕ) (s : Cursor) → is_in_word f s.rest ≡ false
     → s.blank_so_far ≡ false → is_blank_or_break (slice_index s.rest 0) ≡ false
     → with_text text (word f i a s.mark s.rest) ≡ Ok (text, s.mark, None, s)
 scalar_ends f i a text s ends line ink =
     let moved : GapMoved f i a text text s s (seen_gap false [] s) = record {
       moved = none_moved f text s ends line;
-      is = no_gap i a s line ink;
+      is = gap_before_ink i a s line ink;
     } in
     no_turn f i a text text s s (seen_gap false [] s) s moved (goes_not f i s ends)
     ∙ ap (λ x. Ok (text, s.mark, x, s)) (no_comment f s ends)

@@ -4,23 +4,24 @@ use Rattle.std.specs.Prelude.{◌||◌, ◌&&◌, not}
 use Rattle.std.proofs.lemmas.List.{append-nil, take-append-drop, length-take-le}
 use Rattle.std.proofs.lemmas.Str.{encodes-append}
 use Rattle.saphyr_input.specs.Classes.{is_blank, is_break, is_z}
-use Rattle.saphyr_input.specs.Places.{can_be_plain}
+use Rattle.saphyr_input.specs.Places.{can_be_plain, is_blank_or_break}
+use Rattle.saphyr_scalar.specs.Spelling.Tag.{AreIn}
 use Rattle.saphyr_scalar.specs.declared.scalar.position.Marker.{Marker}
 use Rattle.saphyr_scalar.specs.Views.Cursor.{Cursor, along}
 use Rattle.scalar_values.specs.Folding.{folded}
-use Rattle.saphyr_scalar.specs.Steps.Plain.{in_word, word_len, comment_of, PlainGap}
-use Rattle.saphyr_scalar.specs.Reading.Plain.{AreWhite, passed, IsSpelledPlain, ends_piece}
+use Rattle.saphyr_scalar.specs.Steps.Plain.{is_in_word, word_len, comment_of, PlainGap}
+use Rattle.saphyr_scalar.specs.Reading.Plain.{end_of_text, IsSpelledPlain, ends_piece}
 use Rattle.saphyr_scalar.proofs.Plain.Words.{word_left}
 use Rattle.saphyr_scalar.proofs.Plain.Pieces.{word_stops}
 use Rattle.saphyr_scalar.proofs.Plain.Spelled.{Begins, Closes, word_spelled, white_spelled, word_follows, word_closes}
-use Rattle.saphyr_scalar.proofs.Plain.Runs.{Ink, AreInk, items, ink_no_feed, folded_word, passed_append, passed_word}
+use Rattle.saphyr_scalar.proofs.Plain.Runs.{Ink, AreInk, items_of, ink_no_feed, folded_word, passed_append, passed_word}
 use Rattle.saphyr_input.proofs.Basics.Booleans.{by_test}
 use Rattle.saphyr_scalar.proofs.Plain.GapsRead.{GapReads}
 
 -- Words and gaps.
 
-pub in_word_ink : (f : Bool) (c : ℕ) (cs : List ℕ) → in_word f (c ∷ cs) ≡ true → Ink c
-unfolding in_word
+pub in_word_ink : (f : Bool) (c : ℕ) (cs : List ℕ) → is_in_word f (c ∷ cs) ≡ true → Ink c
+unfolding is_in_word
 in_word_ink f c cs h = by_parts (is_blank c) (is_break c) (is_z c) (can_be_plain f (c ∷ cs)) h
   where
     by_parts : (a b z e : Bool) → (not (a || (b || z)) && e) ≡ true → (a || b) ≡ false
@@ -32,13 +33,14 @@ word_ink : (f : Bool) (xs : List ℕ) → AreInk (take (word_len f xs) xs)
 word_ink f [] = tt
 word_ink f (c ∷ cs) =
     let one : 1 + word_len f cs ≡ suc (word_len f cs) = omega arith in
-    by_test (in_word f (c ∷ cs)) (1 + word_len f cs) 0 (λ n. AreInk (take n (c ∷ cs)))
+    by_test (is_in_word f (c ∷ cs)) (1 + word_len f cs) 0 (λ n. AreInk (take n (c ∷ cs)))
     (λ h. rw one (in_word_ink f c cs h, word_ink f cs)) (λ _. tt)
 
 word_within : (f : Bool) (xs : List ℕ) → word_len f xs ≤ length xs
 word_within f [] = omega arith
 word_within f (c ∷ cs) =
-    by_test (in_word f (c ∷ cs)) (1 + word_len f cs) 0 (λ n. n ≤ length (c ∷ cs)) (λ _. omega (arith, word_within f cs))
+    by_test (is_in_word f (c ∷ cs)) (1 + word_len f cs) 0 (λ n. n ≤ length (c ∷ cs))
+    (λ _. omega (arith, word_within f cs))
     (λ _. omega arith)
 
 abbrev pub Read : Type 0
@@ -54,10 +56,10 @@ pub record WordReads (m : Marker) (xs : List ℕ) (x : Read) : Type 0 where
   pub spelled : IsSpelledPlain m true (first ∷ others) (white ++ x.3.rest)
   pub closes : Closes (first ∷ others)
   pub follows : IsTrue (ends_piece (slice_index (white ++ x.3.rest) 0))
-  pub value : encode_utf8_all (folded (items (first ∷ others))) ≡ x.0
-  pub ends : passed m (first ∷ others) ≡ x.1
-  pub are : AreWhite white
-  pub behind : passed x.1 white ≡ x.3.mark
+  pub value : encode_utf8_all (folded (items_of (first ∷ others))) ≡ x.0
+  pub ends : end_of_text m (first ∷ others) ≡ x.1
+  pub are : AreIn is_blank_or_break white
+  pub behind : end_of_text x.1 white ≡ x.3.mark
 
 -- the word at the front
 pub record Front (f : Bool) (xs : List ℕ) : Type 0 where
@@ -66,7 +68,7 @@ pub record Front (f : Bool) (xs : List ℕ) : Type 0 where
   pub is : take (word_len f xs) xs ≡ first ∷ others
   pub ink : AreInk (first ∷ others)
 
-pub front_of : (f : Bool) (xs : List ℕ) → in_word f xs ≡ true → Front f xs
+pub front_of : (f : Bool) (xs : List ℕ) → is_in_word f xs ≡ true → Front f xs
 front_of f [] h = let none = word_left f [] h in absurd (omega arith)
 front_of f (c ∷ cs) h =
     let here : word_len f (c ∷ cs) ≡ suc (word_len f cs) = rw h (omega arith) in
@@ -80,7 +82,7 @@ front_of f (c ∷ cs) h =
     }
 
 -- the last word
-pub last_word : (f : Bool) (m : Marker) (xs : List ℕ) (g : PlainGap) → in_word f xs ≡ true → Begins m xs → Front f xs
+pub last_word : (f : Bool) (m : Marker) (xs : List ℕ) (g : PlainGap) → is_in_word f xs ≡ true → Begins m xs → Front f xs
     → (let n = word_len f xs in GapReads (drop n xs) (along m n) g)
     → WordReads m xs (
       encode_utf8_all (take (word_len f xs) xs)
@@ -105,17 +107,17 @@ last_word f m xs g goes begins w r =
       follows = subst (λ (l : List ℕ). IsTrue (ends_piece (slice_index l 0))) r.is
           (word_follows f (drop n xs) (word_stops f xs));
       value = ap encode_utf8_all
-          (ap (λ l. folded (items l)) (sym (append-nil (w.first ∷ w.others)))
+          (ap (λ l. folded (items_of l)) (sym (append-nil (w.first ∷ w.others)))
           ∙ folded_word (w.first ∷ w.others) [] w.ink ∙ append-nil (w.first ∷ w.others) ∙ sym w.is)
           ∙ sym (append-nil (encode_utf8_all (take n xs)));
-      ends = ap (passed m) (sym (append-nil (w.first ∷ w.others))) ∙ passed_word m (w.first ∷ w.others) [] w.ink
+      ends = ap (end_of_text m) (sym (append-nil (w.first ∷ w.others))) ∙ passed_word m (w.first ∷ w.others) [] w.ink
           ∙ ap (along m) count;
       are = r.are;
       behind = r.place;
     }
 
 -- a word, a gap and what is read behind it
-pub word_more : (f : Bool) (m : Marker) (xs : List ℕ) (g : PlainGap) (x : Read) → in_word f xs ≡ true → Begins m xs
+pub word_more : (f : Bool) (m : Marker) (xs : List ℕ) (g : PlainGap) (x : Read) → is_in_word f xs ≡ true → Begins m xs
     → Front f xs
     → (let n = word_len f xs in GapReads (drop n xs) (along m n) g) → WordReads g.behind.mark g.behind.rest x
     → WordReads m xs (encode_utf8_all (take (word_len f xs) xs) ++ (g.text ++ x.0), x.1, x.2, x.3)
@@ -128,7 +130,7 @@ word_more f m xs g x goes begins w r b =
     let text : xs ≡ word ++ (r.white ++ (next ++ rest)) = sym (take-append-drop n xs)
     ∙ ap (λ (l : List ℕ). l ++ drop n xs) w.is
     ∙ ap (λ (l : List ℕ). word ++ l) (r.is ∙ ap (λ (l : List ℕ). r.white ++ l) b.is) in
-    let read : folded (items (word ++ (r.white ++ next))) ≡ word ++ (r.value ++ folded (items next)) =
+    let read : folded (items_of (word ++ (r.white ++ next))) ≡ word ++ (r.value ++ folded (items_of next)) =
     folded_word word (r.white ++ next) w.ink ∙ ap (λ (l : List ℕ). word ++ l) (r.reads b.first b.others b.ink) in
     let left : drop n xs ≡ (r.white ++ next) ++ rest = r.is ∙ ap (λ (l : List ℕ). r.white ++ l) b.is
     ∙ sym (append_assoc r.white next rest) in
@@ -154,14 +156,14 @@ word_more f m xs g x goes begins w r b =
       follows = b.follows;
       is = text ∙ ap (λ (l : List ℕ). word ++ l) (sym (append_assoc r.white next rest))
           ∙ sym (append_assoc word (r.white ++ next) rest);
-      value = ap encode_utf8_all read ∙ encodes-append word (r.value ++ folded (items next))
+      value = ap encode_utf8_all read ∙ encodes-append word (r.value ++ folded (items_of next))
           ∙ ap (λ (l : List ℕ). encode_utf8_all word ++ l)
-          (encodes-append r.value (folded (items next))
-          ∙ ap (λ (l : List ℕ). l ++ encode_utf8_all (folded (items next))) r.text
+          (encodes-append r.value (folded (items_of next))
+          ∙ ap (λ (l : List ℕ). l ++ encode_utf8_all (folded (items_of next))) r.text
           ∙ ap (λ (l : List ℕ). g.text ++ l) b.value)
           ∙ ap (λ (l : List ℕ). encode_utf8_all l ++ (g.text ++ x.0)) (sym w.is);
-      ends = passed_word m word (r.white ++ next) w.ink ∙ ap (λ k. passed (along m k) (r.white ++ next)) count
-          ∙ passed_append (along m n) r.white next (ink_no_feed b.first b.ink) ∙ ap (λ y. passed y next) r.place
+      ends = passed_word m word (r.white ++ next) w.ink ∙ ap (λ k. end_of_text (along m k) (r.white ++ next)) count
+          ∙ passed_append (along m n) r.white next (ink_no_feed b.first b.ink) ∙ ap (λ y. end_of_text y next) r.place
           ∙ b.ends;
       are = b.are;
       behind = b.behind;

@@ -9,7 +9,7 @@ use Rattle.saphyr_scalar.specs.declared.scalar.position.Marker.{Marker}
 use Rattle.saphyr_scalar.specs.declared.scalar.fault.FaultText.TheVariants as fault
 use Rattle.saphyr_scalar.specs.declared.scalar.fault.Refusal.{Refusal}
 use Rattle.saphyr_scalar.specs.Views.Cursor.{Cursor, along, pass}
-use Rattle.saphyr_scalar.specs.Steps.Quoted.{at}
+use Rattle.saphyr_scalar.specs.Steps.Quoted.{mid_line}
 use Rattle.saphyr_scalar.specs.Steps.Anchor.{anchor, anchor_name_of}
 use Rattle.saphyr_scalar.specs.Spelling.Tag.{IsAnchorName}
 use Rattle.saphyr_scalar.proofs.Moving.{along_more}
@@ -20,7 +20,7 @@ use Rattle.saphyr_input.proofs.Basics.Lists.{first_and_rest, run_ends}
 use Rattle.saphyr_input.proofs.Basics.Booleans.{by_test}
 use Rattle.saphyr_scalar.proofs.Given.{text_given}
 
-anchor_same : (s : Cursor) → anchor s ≡ anchor (at s.mark s.rest)
+anchor_same : (s : Cursor) → anchor s ≡ anchor (mid_line s.mark s.rest)
 unfolding anchor
 anchor_same s = refl
 
@@ -30,18 +30,18 @@ unfolding anchor_name_of
 name_read start name s some = rw (some_bytes name some) refl
 
 at_name : (m : Marker) (indicator : ℕ) (name x : List ℕ) → IsAnchorName name → is_anchor_char (slice_index x 0) ≡ false
-    → anchor (at m (indicator ∷ (name ++ x))) ≡ Ok (encode_utf8_all name, at (along m (1 + length name)) x)
+    → anchor (mid_line m (indicator ∷ (name ++ x))) ≡ Ok (encode_utf8_all name, mid_line (along m (1 + length name)) x)
 unfolding anchor
 at_name m indicator name x (some, are) ends =
     ap (anchor_name_of m) (run_read is_anchor_char (along m 1) name x are ends)
-    ∙ name_read m name (at (along (along m 1) (length name)) x) some
-    ∙ ap (λ k. text_given (encode_utf8_all name) (at k x)) (along_more m 1 (length name) (1 + length name) refl)
+    ∙ name_read m name (mid_line (along (along m 1) (length name)) x) some
+    ∙ ap (λ k. text_given (encode_utf8_all name) (mid_line k x)) (along_more m 1 (length name) (1 + length name) refl)
 
 pub reads_anchor : (s : Cursor) (indicator : ℕ) (name x : List ℕ) → s.rest ≡ indicator ∷ (name ++ x) → IsAnchorName name
     → is_anchor_char (slice_index x 0) ≡ false
-    → anchor s ≡ Ok (encode_utf8_all name, at (along s.mark (1 + length name)) x)
+    → anchor s ≡ Ok (encode_utf8_all name, mid_line (along s.mark (1 + length name)) x)
 reads_anchor s indicator name x e is ends =
-    anchor_same s ∙ ap (λ u. anchor (at s.mark u)) e ∙ at_name s.mark indicator name x is ends
+    anchor_same s ∙ ap (λ u. anchor (mid_line s.mark u)) e ∙ at_name s.mark indicator name x is ends
 
 no_bytes : (v : List ℕ) → v ≡ [] → nat_eq (length (encode_utf8_all v)) 0 ≡ true
 no_bytes v e = rw e refl
@@ -49,12 +49,12 @@ no_bytes v e = rw e refl
 abbrev Spelled : Cursor → List ℕ → Cursor → Type 0
 Spelled s text t =
     (indicator : ℕ) × (name : List ℕ) × (s.rest ≡ indicator ∷ (name ++ t.rest)) × IsAnchorName name
-    × (is_anchor_char (slice_index t.rest 0) ≡ false) × (t ≡ at (along s.mark (1 + length name)) t.rest)
+    × (is_anchor_char (slice_index t.rest 0) ≡ false) × (t ≡ mid_line (along s.mark (1 + length name)) t.rest)
     × (encode_utf8_all name ≡ text)
 
 pub spells_anchor : (s t : Cursor) (text : List ℕ) → 0 < length s.rest → anchor s ≡ Ok (text, t)
     → (indicator : ℕ) × (name : List ℕ) × (s.rest ≡ indicator ∷ (name ++ t.rest)) × IsAnchorName name
-    × (is_anchor_char (slice_index t.rest 0) ≡ false) × (t ≡ at (along s.mark (1 + length name)) t.rest)
+    × (is_anchor_char (slice_index t.rest 0) ≡ false) × (t ≡ mid_line (along s.mark (1 + length name)) t.rest)
     × (encode_utf8_all name ≡ text)
 unfolding anchor anchor_name_of
 spells_anchor s t text some =
@@ -66,16 +66,16 @@ spells_anchor s t text some =
     (λ _ e. no_result (record { text = fault.AnchorNameExpected; mark = s.mark }) (text, t) (Spelled s text t) e)
     (λ there e.
     let pair : (encode_utf8_all name, pass n (pass 1 s)) ≡ (text, t) = cc in
-    let left : at (along (along s.mark 1) n) (drop n xs) ≡ t = ap (λ (x : List ℕ × Cursor). x.1) pair in
+    let left : mid_line (along (along s.mark 1) n) (drop n xs) ≡ t = ap (λ (x : List ℕ × Cursor). x.1) pair in
     let rest : drop n xs ≡ t.rest = ap (λ (x : Cursor). x.rest) left in
     let whole : s.rest ≡ slice_index s.rest 0 ∷ (name ++ t.rest) =
     first_and_rest s.rest some
     ∙ ap (λ u. slice_index s.rest 0 ∷ u) (sym (take-append-drop n xs) ∙ ap (λ u. name ++ u) rest) in
     let count : length name ≡ n = length-take-le n xs (prefix_len-le-length is_anchor_char xs) in
     let ends : is_anchor_char (slice_index t.rest 0) ≡ false = rw (← rest) (run_ends is_anchor_char xs refl) in
-    let place : t ≡ at (along s.mark (1 + length name)) t.rest =
-    sym left ∙ ap (at (along (along s.mark 1) n)) rest
-    ∙ ap (λ k. at k t.rest) (along_more s.mark 1 n (1 + length name) (omega arith)) in (
+    let place : t ≡ mid_line (along s.mark (1 + length name)) t.rest =
+    sym left ∙ ap (mid_line (along (along s.mark 1) n)) rest
+    ∙ ap (λ k. mid_line k t.rest) (along_more s.mark 1 n (1 + length name) (omega arith)) in (
       slice_index s.rest 0,
       name,
       whole,

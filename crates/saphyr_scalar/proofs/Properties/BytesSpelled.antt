@@ -7,11 +7,11 @@ use Rattle.saphyr_input.specs.Classes.{is_hex, IsHex, is_digit, is_from, hex_val
 use Rattle.saphyr_scalar.specs.declared.scalar.position.Marker.{Marker}
 use Rattle.saphyr_scalar.specs.declared.scalar.fault.FaultText.TheVariants as fault
 use Rattle.saphyr_scalar.specs.Views.Cursor.{Cursor, along}
-use Rattle.saphyr_scalar.specs.Steps.Quoted.{at}
+use Rattle.saphyr_scalar.specs.Steps.Quoted.{mid_line}
 use Rattle.saphyr_scalar.specs.Steps.Tag.{byte_value, shows_byte, escaped_byte, is_trailing, trailing_byte, trailing_bytes}
 use Rattle.saphyr_scalar.specs.Spelling.Tag.{IsByteEscape, AreByteEscapes}
 use Rattle.saphyr_scalar.proofs.Moving.{along_none, along_more}
-use Rattle.saphyr_scalar.proofs.Properties.EscapedBytes.{AreTrailing, joined}
+use Rattle.saphyr_scalar.proofs.Properties.EscapedBytes.{AreTrailing, joined_bytes}
 use Rattle.saphyr_scalar.proofs.Steps.{bind_ok, ok_same, cond_ok}
 use Rattle.saphyr_input.proofs.Basics.Booleans.{and_true_left, and_true_right, either}
 
@@ -35,28 +35,29 @@ pub record ByteOf (b : ℕ) (m : Marker) (xs : List ℕ) (u : Cursor) : Type 0 w
   pub is_low : is_hex low ≡ true
   pub value : b ≡ hex_value high * 16 + hex_value low
   pub text : xs ≡ 37 ∷ high ∷ low ∷ u.rest
-  pub place : u ≡ at (along m 3) u.rest
+  pub place : u ≡ mid_line (along m 3) u.rest
 
 no_hex : (b : Bool) (c : ℕ) (P : Type 0) → is_hex c ≡ false → (b && is_hex c) ≡ true → P
 no_hex b c P fails h = let k : false ≡ true = sym fails ∙ and_true_right b (is_hex c) h in absurd (false≢true k)
 
-shown : (xs : List ℕ) → shows_byte xs ≡ true → xs ≡ 37 ∷ slice_index xs 1 ∷ slice_index xs 2 ∷ drop 3 xs
-shown [] h = absurd (cc)
-shown (x ∷ []) h = no_hex _ 0 _ refl h
-shown (x ∷ y ∷ []) h = no_hex _ 0 _ refl h
-shown (x ∷ y ∷ z ∷ xs) h =
+byte_shown : (xs : List ℕ) → shows_byte xs ≡ true → xs ≡ 37 ∷ slice_index xs 1 ∷ slice_index xs 2 ∷ drop 3 xs
+byte_shown [] h = absurd (cc)
+byte_shown (x ∷ []) h = no_hex _ 0 _ refl h
+byte_shown (x ∷ y ∷ []) h = no_hex _ 0 _ refl h
+byte_shown (x ∷ y ∷ z ∷ xs) h =
     let first : nat_eq x 37 ≡ true = and_true_left (nat_eq x 37) (is_hex y)
     (and_true_left (nat_eq x 37 && is_hex y) (is_hex z) h) in
     let is : x ≡ 37 = grind (arith, nat_tests) in
     rw is refl
 
-pub byte_spelled : (start m : Marker) (xs : List ℕ) (b : ℕ) (u : Cursor) → escaped_byte start (at m xs) ≡ Ok (b, u)
+pub byte_spelled : (start m : Marker) (xs : List ℕ) (b : ℕ) (u : Cursor)
+    → escaped_byte start (mid_line m xs) ≡ Ok (b, u)
     → ByteOf b m xs u
 unfolding escaped_byte
 byte_spelled start m xs b u h =
-    let is = cond_ok (shows_byte xs) (byte_value xs, at (along m 3) (drop 3 xs)) (b, u)
+    let is = cond_ok (shows_byte xs) (byte_value xs, mid_line (along m 3) (drop 3 xs)) (b, u)
     (record { text = fault.TagEscape; mark = start }) h in
-    let left : at (along m 3) (drop 3 xs) ≡ u = ap (λ (x : ℕ × Cursor). x.1) is.same in
+    let left : mid_line (along m 3) (drop 3 xs) ≡ u = ap (λ (x : ℕ × Cursor). x.1) is.same in
     let rest : drop 3 xs ≡ u.rest = ap (λ (x : Cursor). x.rest) left in
     let high = slice_index xs 1 in
     let low = slice_index xs 2 in
@@ -67,8 +68,8 @@ byte_spelled start m xs b u h =
       is_high = and_true_right (nat_eq (slice_index xs 0) 37) (is_hex high) both;
       is_low = and_true_right (nat_eq (slice_index xs 0) 37 && is_hex high) (is_hex low) is.test;
       value = sym (ap (λ (x : ℕ × Cursor). x.0) is.same);
-      text = shown xs is.test ∙ ap (λ r. 37 ∷ high ∷ low ∷ r) rest;
-      place = sym left ∙ ap (at (along m 3)) rest;
+      text = byte_shown xs is.test ∙ ap (λ r. 37 ∷ high ∷ low ∷ r) rest;
+      place = sym left ∙ ap (mid_line (along m 3)) rest;
     }
 
 pub record TrailingOf (n v w : ℕ) (m : Marker) (xs : List ℕ) (u : Cursor) : Type 0 where
@@ -76,10 +77,10 @@ pub record TrailingOf (n v w : ℕ) (m : Marker) (xs : List ℕ) (u : Cursor) : 
   pub piece : List ℕ
   pub count : length bytes ≡ n
   pub trailing : AreTrailing bytes
-  pub says : joined v bytes ≡ w
+  pub says : joined_bytes v bytes ≡ w
   pub escaped : AreByteEscapes bytes piece
   pub text : xs ≡ piece ++ u.rest
-  pub place : u ≡ at (along m (length piece)) u.rest
+  pub place : u ≡ mid_line (along m (length piece)) u.rest
 
 pub record TrailingByte (v w : ℕ) (m : Marker) (xs : List ℕ) (u : Cursor) : Type 0 where
   pub byte : ℕ
@@ -88,10 +89,10 @@ pub record TrailingByte (v w : ℕ) (m : Marker) (xs : List ℕ) (u : Cursor) : 
   pub is : ByteOf byte m xs u
 
 trailing_byte_spelled : (start m : Marker) (v : ℕ) (xs : List ℕ) (w : ℕ) (u : Cursor)
-    → trailing_byte start v (at m xs) ≡ Ok (w, u) → TrailingByte v w m xs u
+    → trailing_byte start v (mid_line m xs) ≡ Ok (w, u) → TrailingByte v w m xs u
 unfolding trailing_byte
 trailing_byte_spelled start m v xs w u h =
-    let one = bind_ok (escaped_byte start (at m xs))
+    let one = bind_ok (escaped_byte start (mid_line m xs))
     (λ (b : ℕ × Cursor). cond (is_trailing b.0) (Ok (v * 64 + (b.0 - 0x80), b.1))
     (Err (record { text = fault.TagEscapeTrailingByte; mark = start }))) (w, u) h in
     let is = cond_ok (is_trailing one.given.0) (v * 64 + (one.given.0 - 0x80), one.given.1) (w, u)
@@ -110,11 +111,11 @@ pub escape_of_byte : (b : ℕ) (m : Marker) (xs : List ℕ) (u : Cursor) (is : B
 escape_of_byte b m xs u is = (is.high, is.low, hex_is is.high is.is_high, hex_is is.low is.is_low, is.value, refl)
 
 pub trailing_spelled : (start m : Marker) (n v : ℕ) (xs : List ℕ) (w : ℕ) (u : Cursor)
-    → trailing_bytes start n v (at m xs) ≡ Ok (w, u) → TrailingOf n v w m xs u
+    → trailing_bytes start n v (mid_line m xs) ≡ Ok (w, u) → TrailingOf n v w m xs u
 unfolding trailing_bytes
 trailing_spelled start m zero v xs w u h =
-    let same = ok_same (v, at m xs) (w, u) h in
-    let left : at m xs ≡ u = ap (λ (x : ℕ × Cursor). x.1) same in
+    let same = ok_same (v, mid_line m xs) (w, u) h in
+    let left : mid_line m xs ≡ u = ap (λ (x : ℕ × Cursor). x.1) same in
     let rest : xs ≡ u.rest = ap (λ (x : Cursor). x.rest) left in
     record {
       bytes = [];
@@ -124,10 +125,11 @@ trailing_spelled start m zero v xs w u h =
       says = ap (λ (x : ℕ × Cursor). x.0) same;
       escaped = refl;
       text = rest;
-      place = sym left ∙ ap (at m) rest ∙ ap (λ k. at k u.rest) (sym (along_none m));
+      place = sym left ∙ ap (mid_line m) rest ∙ ap (λ k. mid_line k u.rest) (sym (along_none m));
     }
 trailing_spelled start m (suc n) v xs w u h =
-    let one = bind_ok (trailing_byte start v (at m xs)) (λ (x : ℕ × Cursor). trailing_bytes start n x.0 x.1) (w, u) h in
+    let one = bind_ok (trailing_byte start v (mid_line m xs)) (λ (x : ℕ × Cursor). trailing_bytes start n x.0 x.1)
+    (w, u) h in
     let first = trailing_byte_spelled start m v xs one.given.0 one.given.1 one.first in
     let byte = first.is in
     let here = one.given.1 in
@@ -139,10 +141,10 @@ trailing_spelled start m (suc n) v xs w u h =
       piece = escape ++ others.piece;
       count = ap (λ k. suc k) others.count;
       trailing = (first.trailing, others.trailing);
-      says = ap (λ k. joined k others.bytes) first.says ∙ others.says;
+      says = ap (λ k. joined_bytes k others.bytes) first.says ∙ others.says;
       escaped = (escape, others.piece, escape_of_byte first.byte m xs here byte, others.escaped, refl);
       text = byte.text ∙ ap (λ r. 37 ∷ byte.high ∷ byte.low ∷ r) others.text;
-      place = others.place ∙ ap (λ k. at k u.rest)
+      place = others.place ∙ ap (λ k. mid_line k u.rest)
           (along_more m 3 (length others.piece) (length (escape ++ others.piece))
           (omega (arith, length-append escape others.piece)));
     }

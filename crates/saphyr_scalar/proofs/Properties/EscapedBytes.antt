@@ -3,9 +3,8 @@ use Rattle.std.proofs.Common.{◌≡◌, ℕ, suc, ◌+◌, ◌-◌, ◌*◌, �
 use Rattle.std.specs.Prelude.{nat_lt, encode_utf8}
 use Rattle.std.proofs.Math.Utf8.{encode}
 use Rattle.std.proofs.lemmas.Bool.Decides.{nat_tests}
-use Rattle.saphyr_scalar.specs.Steps.Quoted.{is_scalar}
+use Rattle.scalar_values.specs.Escapes.{IsScalarValue, is_scalar_value}
 use Rattle.saphyr_scalar.specs.Steps.Tag.{utf8_width, leading_bits, is_trailing, is_encoded}
-use Rattle.saphyr_scalar.specs.Spelling.Tag.{IsScalarValue}
 use Rattle.saphyr_input.proofs.Basics.Booleans.{by_test}
 use Rattle.std.proofs.lemmas.Bool.{lt-ltb, le-ltb, le-leb}
 
@@ -14,9 +13,9 @@ AreTrailing [] = Unit {0}
 AreTrailing (b ∷ bs) = (is_trailing b ≡ true) × AreTrailing bs
 
 -- what trailing bytes say, behind those that say v
-abbrev pub joined : ℕ → List ℕ → ℕ
-joined v [] = v
-joined v (b ∷ bs) = joined (v * 64 + (b - 0x80)) bs
+abbrev pub joined_bytes : ℕ → List ℕ → ℕ
+joined_bytes v [] = v
+joined_bytes v (b ∷ bs) = joined_bytes (v * 64 + (b - 0x80)) bs
 
 -- a character's UTF-8, as it is read
 pub record Bytes (c : ℕ) : Type 0 where
@@ -25,10 +24,10 @@ pub record Bytes (c : ℕ) : Type 0 where
   pub is : encode_utf8 c ≡ first ∷ others
   pub width : utf8_width first ≡ suc (length others)
   pub trailing : AreTrailing others
-  pub says : joined (leading_bits first) others ≡ c
+  pub says : joined_bytes (leading_bits first) others ≡ c
   pub shortest : is_encoded (suc (length others)) c ≡ true
 
-scalar_true : (c : ℕ) → IsScalarValue c → is_scalar c ≡ true
+scalar_true : (c : ℕ) → IsScalarValue c → is_scalar_value c ≡ true
 scalar_true c h = grind (arith, nat_tests)
 
 trailing_true : (n : ℕ) → is_trailing (128 + n % 64) ≡ true
@@ -76,7 +75,7 @@ bits_four b h = rw (le-ltb b 0xC0 (omega arith), le-ltb b 0xE0 (omega arith), le
 one_byte : (c : ℕ) → c < 0x80 → Bytes c
 unfolding encode
 one_byte c lt =
-    let s : is_scalar c ≡ true = grind (arith, nat_tests) in
+    let s : is_scalar_value c ≡ true = grind (arith, nat_tests) in
     record {
       first = c;
       others = [];
@@ -90,7 +89,7 @@ one_byte c lt =
 two_bytes : (c : ℕ) → 0x80 ≤ c → c < 0x800 → Bytes c
 unfolding encode
 two_bytes c h lt =
-    let s : is_scalar c ≡ true = grind (arith, nat_tests) in
+    let s : is_scalar_value c ≡ true = grind (arith, nat_tests) in
     let b = 192 + c / 64 in
     let low : 0xC0 ≤ b = omega arith in
     let high : b < 0xE0 = omega arith in
@@ -104,7 +103,7 @@ two_bytes c h lt =
       shortest = rw (s, le-ltb c 0x80 h, lt-ltb c 0x800 lt) refl;
     }
 
-three_bytes : (c : ℕ) → 0x800 ≤ c → c < 0x1_0000 → is_scalar c ≡ true → Bytes c
+three_bytes : (c : ℕ) → 0x800 ≤ c → c < 0x1_0000 → is_scalar_value c ≡ true → Bytes c
 unfolding encode
 three_bytes c h lt s =
     let b = 224 + c / 4096 in
@@ -120,7 +119,7 @@ three_bytes c h lt s =
       shortest = rw (s, le-ltb c 0x80 (omega arith), le-ltb c 0x800 h, lt-ltb c 0x1_0000 lt) refl;
     }
 
-four_bytes : (c : ℕ) → 0x1_0000 ≤ c → c < 0x11_0000 → is_scalar c ≡ true → Bytes c
+four_bytes : (c : ℕ) → 0x1_0000 ≤ c → c < 0x11_0000 → is_scalar_value c ≡ true → Bytes c
 unfolding encode
 four_bytes c h lt s =
     let b = 240 + c / 262144 in

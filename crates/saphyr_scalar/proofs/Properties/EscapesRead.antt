@@ -4,17 +4,18 @@ use Rattle.std.specs.Prelude.{encode_utf8}
 use Rattle.std.proofs.Common.{inl, inr}
 use Rattle.std.proofs.lemmas.Bool.Decides.{nat_tests}
 use Rattle.saphyr_input.specs.Classes.{is_hex, IsHex}
+use Rattle.scalar_values.specs.Escapes.{IsScalarValue}
 use Rattle.saphyr_scalar.specs.declared.scalar.position.Marker.{Marker}
 use Rattle.saphyr_scalar.specs.declared.scalar.fault.Refusal.{Refusal}
 use Rattle.saphyr_scalar.specs.declared.scalar.tag.UriSet.{UriSet}
 use Rattle.saphyr_scalar.specs.declared.scalar.tag.UriSet.TheVariants.{Uri, Suffix}
 use Rattle.saphyr_scalar.specs.Views.Cursor.{Cursor, ◌>>=◌, along}
-use Rattle.saphyr_scalar.specs.Steps.Quoted.{with_front, at}
-use Rattle.saphyr_scalar.specs.Steps.Tag.{has, escaped_byte, utf8_width, leading_bits, is_trailing, is_encoded, trailing_byte, trailing_bytes, encoded, behind_leading_byte, percent_escape, uri_character, decoded}
-use Rattle.saphyr_scalar.specs.Spelling.Tag.{IsScalarValue, IsByteEscape, AreByteEscapes, IsCharacter, IsDecoded}
+use Rattle.saphyr_scalar.specs.Steps.Quoted.{with_front, mid_line}
+use Rattle.saphyr_scalar.specs.Steps.Tag.{is_in_set, escaped_byte, utf8_width, leading_bits, is_trailing, is_encoded, trailing_byte, trailing_bytes, encoded_character, behind_leading_byte, percent_escape, uri_character, decoded_characters}
+use Rattle.saphyr_scalar.specs.Spelling.Tag.{IsByteEscape, AreByteEscapes, IsCharacter, IsDecoded}
 use Rattle.saphyr_scalar.proofs.Moving.{along_none, along_more}
-use Rattle.saphyr_scalar.proofs.Properties.PercentEscapes.{one_more, ends_at, reads_on}
-use Rattle.saphyr_scalar.proofs.Properties.EscapedBytes.{AreTrailing, joined, Bytes, bytes_of}
+use Rattle.saphyr_scalar.proofs.Properties.PercentEscapes.{decoded_one_more, ends_at, reads_on}
+use Rattle.saphyr_scalar.proofs.Properties.EscapedBytes.{AreTrailing, joined_bytes, Bytes, bytes_of}
 use Rattle.saphyr_scalar.proofs.Given.{text_given, number_given}
 
 hex_true : (c : ℕ) → IsHex c → is_hex c ≡ true
@@ -22,7 +23,7 @@ hex_true c h = grind (arith, nat_tests)
 
 -- a byte that is escaped is read
 byte_read : (start m : Marker) (b : ℕ) (t y : List ℕ) → IsByteEscape b t
-    → escaped_byte start (at m (t ++ y)) ≡ Ok (b, at (along m 3) y)
+    → escaped_byte start (mid_line m (t ++ y)) ≡ Ok (b, mid_line (along m 3) y)
 unfolding escaped_byte
 byte_read start m b t y (high, low, is_high, is_low, value, text) =
     rw (text, hex_true high is_high, hex_true low is_low, value) refl
@@ -31,31 +32,32 @@ byte_len : (b : ℕ) (t : List ℕ) → IsByteEscape b t → length t ≡ 3
 byte_len b t (high, low, is_high, is_low, value, text) = rw text refl
 
 trailing_byte_read : (start m : Marker) (b v : ℕ) (t y : List ℕ) → is_trailing b ≡ true → IsByteEscape b t
-    → trailing_byte start v (at m (t ++ y)) ≡ Ok (v * 64 + (b - 0x80), at (along m 3) y)
+    → trailing_byte start v (mid_line m (t ++ y)) ≡ Ok (v * 64 + (b - 0x80), mid_line (along m 3) y)
 unfolding trailing_byte
 trailing_byte_read start m b v t y tail is_byte = rw (byte_read start m b t y is_byte, tail) refl
 
-abbrev goes_on : Marker → ℕ → Result (ℕ × Cursor) Refusal → Result (ℕ × Cursor) Refusal
-goes_on start n r = r >>= λ x. trailing_bytes start n x.0 x.1
+abbrev trailing_behind : Marker → ℕ → Result (ℕ × Cursor) Refusal → Result (ℕ × Cursor) Refusal
+trailing_behind start n r = r >>= λ x. trailing_bytes start n x.0 x.1
 
 -- trailing bytes that are escaped are read
 trailing_read : (start m : Marker) (bs : List ℕ) (v : ℕ) (t y : List ℕ) → AreTrailing bs → AreByteEscapes bs t
-    → trailing_bytes start (length bs) v (at m (t ++ y)) ≡ Ok (joined v bs, at (along m (length t)) y)
+    → trailing_bytes start (length bs) v (mid_line m (t ++ y)) ≡ Ok (joined_bytes v bs, mid_line (along m (length t)) y)
 unfolding trailing_bytes
 trailing_read start m [] v t y tails e = rw (e, along_none m) refl
 trailing_read start m (b ∷ bs) v t y (tail, tails) (percent_escape, more, is_byte, are_more, e) =
     let whole : t ++ y ≡ percent_escape ++ (more ++ y) = ap (λ u. u ++ y) e ∙ append_assoc percent_escape more y in
     let len : length t ≡ 3 + length more = rw (e, length-append) (omega (arith, byte_len b percent_escape is_byte)) in
-    ap (λ u. goes_on start (length bs) (trailing_byte start v (at m u))) whole
-    ∙ ap (goes_on start (length bs)) (trailing_byte_read start m b v percent_escape (more ++ y) tail is_byte)
+    ap (λ u. trailing_behind start (length bs) (trailing_byte start v (mid_line m u))) whole
+    ∙ ap (trailing_behind start (length bs)) (trailing_byte_read start m b v percent_escape (more ++ y) tail is_byte)
     ∙ trailing_read start (along m 3) bs (v * 64 + (b - 0x80)) more y tails are_more
-    ∙ ap (λ k. number_given (joined (v * 64 + (b - 0x80)) bs) (at k y)) (along_more m 3 (length more) (length t) len)
+    ∙ ap (λ k. number_given (joined_bytes (v * 64 + (b - 0x80)) bs) (mid_line k y))
+    (along_more m 3 (length more) (length t) len)
 
 -- the bytes behind the first one are read, and the character that they all stand for
 leading_read : (start : Marker) (b n c : ℕ) (s t : Cursor) → utf8_width b ≡ suc n
     → trailing_bytes start n (leading_bits b) s ≡ Ok (c, t) → is_encoded (suc n) c ≡ true
     → behind_leading_byte start b s ≡ Ok (c, t)
-unfolding behind_leading_byte encoded
+unfolding behind_leading_byte encoded_character
 leading_read start b n c s t width read shortest =
     let some : nat_eq (suc n) 0 ≡ false = grind (arith, nat_tests) in
     let less : suc n - 1 ≡ n = omega arith in
@@ -65,30 +67,31 @@ escape_parts : (c : ℕ) (b : Bytes c) (t : List ℕ) → AreByteEscapes (encode
     → AreByteEscapes (b.first ∷ b.others) t
 escape_parts c b t h = subst (λ bs. AreByteEscapes bs t) b.is h
 
-read_behind : Marker → Result (ℕ × Cursor) Refusal → Result (ℕ × Cursor) Refusal
-read_behind start r = r >>= λ b. behind_leading_byte start b.0 b.1
+behind_first_byte : Marker → Result (ℕ × Cursor) Refusal → Result (ℕ × Cursor) Refusal
+behind_first_byte start r = r >>= λ b. behind_leading_byte start b.0 b.1
 
 escape_bytes_read : (start m : Marker) (c : ℕ) (b : Bytes c) (t y : List ℕ) → AreByteEscapes (b.first ∷ b.others) t
-    → percent_escape start (at m (t ++ y)) ≡ Ok (c, at (along m (length t)) y)
-unfolding percent_escape read_behind
+    → percent_escape start (mid_line m (t ++ y)) ≡ Ok (c, mid_line (along m (length t)) y)
+unfolding percent_escape behind_first_byte
 escape_bytes_read start m c b t y (percent_escape, more, is_byte, are_more, e) =
     let whole : t ++ y ≡ percent_escape ++ (more ++ y) = ap (λ u. u ++ y) e ∙ append_assoc percent_escape more y in
     let len : length t ≡ 3 + length more = rw (e, length-append)
     (omega (arith, byte_len b.first percent_escape is_byte)) in
-    let others : trailing_bytes start (length b.others) (leading_bits b.first) (at (along m 3) (more ++ y))
-    ≡ Ok (c, at (along m (length t)) y) =
+    let others : trailing_bytes start (length b.others) (leading_bits b.first) (mid_line (along m 3) (more ++ y))
+    ≡ Ok (c, mid_line (along m (length t)) y) =
     trailing_read start (along m 3) b.others (leading_bits b.first) more y b.trailing are_more
-    ∙ ap (λ k. number_given (joined (leading_bits b.first) b.others) (at k y))
+    ∙ ap (λ k. number_given (joined_bytes (leading_bits b.first) b.others) (mid_line k y))
     (along_more m 3 (length more) (length t) len)
-    ∙ ap (λ v. number_given v (at (along m (length t)) y)) b.says in
-    ap (λ u. read_behind start (escaped_byte start (at m u))) whole
-    ∙ ap (read_behind start) (byte_read start m b.first percent_escape (more ++ y) is_byte)
-    ∙ leading_read start b.first (length b.others) c (at (along m 3) (more ++ y)) (at (along m (length t)) y) b.width
+    ∙ ap (λ v. number_given v (mid_line (along m (length t)) y)) b.says in
+    ap (λ u. behind_first_byte start (escaped_byte start (mid_line m u))) whole
+    ∙ ap (behind_first_byte start) (byte_read start m b.first percent_escape (more ++ y) is_byte)
+    ∙ leading_read start b.first (length b.others) c (mid_line (along m 3) (more ++ y))
+    (mid_line (along m (length t)) y) b.width
     others b.shortest
 
 -- a character that is escaped is read
 escape_read : (start m : Marker) (c : ℕ) (t y : List ℕ) → IsScalarValue c → AreByteEscapes (encode_utf8 c) t
-    → percent_escape start (at m (t ++ y)) ≡ Ok (c, at (along m (length t)) y)
+    → percent_escape start (mid_line m (t ++ y)) ≡ Ok (c, mid_line (along m (length t)) y)
 escape_read start m c t y scalar h =
     escape_bytes_read start m c (bytes_of c scalar) t y (escape_parts c (bytes_of c scalar) t h)
 
@@ -102,7 +105,7 @@ escape_first c t y scalar h = escape_begins c (bytes_of c scalar) t y (escape_pa
 
 -- a character, or its escape, is read
 pub character_read : (set : ℕ → Bool) (start m : Marker) (c : ℕ) (t y : List ℕ) → IsCharacter set c t
-    → uri_character start (at m (t ++ y)) ≡ Ok (c, at (along m (length t)) y)
+    → uri_character start (mid_line m (t ++ y)) ≡ Ok (c, mid_line (along m (length t)) y)
 unfolding uri_character
 character_read set start m c t y (inl (in_set, plain, e)) =
     let no : nat_eq c 37 ≡ false = grind (arith, nat_tests) in
@@ -110,27 +113,27 @@ character_read set start m c t y (inl (in_set, plain, e)) =
 character_read set start m c t y (inr (scalar, escaped)) =
     rw (escape_first c t y scalar escaped) (escape_read start m c t y scalar escaped)
 
-has_percent : (set : UriSet) → has set 37 ≡ true
+has_percent : (set : UriSet) → is_in_set set 37 ≡ true
 has_percent Uri = refl
 has_percent Suffix = refl
 
-pub character_first : (set : UriSet) (c : ℕ) (t y : List ℕ) → IsCharacter (has set) c t
-    → has set (slice_index (t ++ y) 0) ≡ true
+pub character_first : (set : UriSet) (c : ℕ) (t y : List ℕ) → IsCharacter (is_in_set set) c t
+    → is_in_set set (slice_index (t ++ y) 0) ≡ true
 character_first set c t y (inl (in_set, plain, e)) = rw e in_set
 character_first set c t y (inr (scalar, escaped)) = rw (escape_first c t y scalar escaped) (has_percent set)
 
 -- spelled characters are read, up to one that is none of the set
-pub decoded_read : (set : UriSet) (start m : Marker) (v t x : List ℕ) → IsDecoded (has set) v t
-    → has set (slice_index x 0) ≡ false
-    → decoded set start 0 m (t ++ x) ≡ Ok (encode_utf8_all v, at (along m (length t)) x)
+pub decoded_read : (set : UriSet) (start m : Marker) (v t x : List ℕ) → IsDecoded (is_in_set set) v t
+    → is_in_set set (slice_index x 0) ≡ false
+    → decoded_characters set start 0 m (t ++ x) ≡ Ok (encode_utf8_all v, mid_line (along m (length t)) x)
 decoded_read set start m [] t x e ends = rw (e, along_none m) (ends_at set start m x ends)
 decoded_read set start m (c ∷ v) t x (character, more, is, others, e) ends =
     let whole : t ++ x ≡ character ++ (more ++ x) = ap (λ u. u ++ x) e ∙ append_assoc character more x in
     let len : length t ≡ length character + length more = rw (e, length-append) refl in
     let there = along m (length character) in
-    ap (decoded set start 0 m) whole
-    ∙ one_more set start m (character ++ (more ++ x)) (character_first set c character (more ++ x) is)
-    ∙ ap (reads_on set start) (character_read (has set) start m c character (more ++ x) is)
+    ap (decoded_characters set start 0 m) whole
+    ∙ decoded_one_more set start m (character ++ (more ++ x)) (character_first set c character (more ++ x) is)
+    ∙ ap (reads_on set start) (character_read (is_in_set set) start m c character (more ++ x) is)
     ∙ ap (with_front (encode_utf8 c)) (decoded_read set start there v more x others ends)
-    ∙ ap (λ k. text_given (encode_utf8 c ++ encode_utf8_all v) (at k x))
+    ∙ ap (λ k. text_given (encode_utf8 c ++ encode_utf8_all v) (mid_line k x))
     (along_more m (length character) (length more) (length t) len)

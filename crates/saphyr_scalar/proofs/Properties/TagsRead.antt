@@ -12,60 +12,60 @@ use Rattle.saphyr_scalar.specs.declared.scalar.position.Marker.{Marker}
 use Rattle.saphyr_scalar.specs.declared.scalar.fault.Refusal.{Refusal}
 use Rattle.saphyr_scalar.specs.declared.scalar.tag.UriSet.TheVariants.{Uri, Suffix}
 use Rattle.saphyr_scalar.specs.Views.Cursor.{Cursor, ◌>>=◌, along}
-use Rattle.saphyr_scalar.specs.Steps.Quoted.{with_front, at}
-use Rattle.saphyr_scalar.specs.Steps.Tag.{uri_character, decoded, Parts, verbatim, verbatim_end, handle_of, named_tag, named_tail, primary_tag, behind_word, shorthand, tag, tag_end}
+use Rattle.saphyr_scalar.specs.Steps.Quoted.{with_front, mid_line}
+use Rattle.saphyr_scalar.specs.Steps.Tag.{uri_character, decoded_characters, TagRead, verbatim_tag, verbatim_end, handle_of, named_tag, named_tail, primary_tag, tag_behind_word, shorthand_tag, tag, tag_end}
 use Rattle.saphyr_scalar.specs.Spelling.Tag.{AreIn, IsDecoded, IsTagText, EndsTag}
 use Rattle.saphyr_scalar.proofs.Moving.{along_none, along_more}
 use Rattle.saphyr_scalar.proofs.Quoted.Inside.{front_twice, no_front}
-use Rattle.saphyr_scalar.proofs.Properties.PercentEscapes.{one_more, reads_on}
+use Rattle.saphyr_scalar.proofs.Properties.PercentEscapes.{decoded_one_more, reads_on}
 use Rattle.saphyr_scalar.proofs.Properties.EscapesRead.{decoded_read, escape_first, character_first}
 use Rattle.saphyr_scalar.proofs.Runs.{run_read}
 use Rattle.saphyr_input.proofs.Basics.Booleans.{and_true_right, other_than, by_test, either}
 
-abbrev parts_given : List ℕ → List ℕ → Cursor → Result Parts Refusal
+abbrev parts_given : List ℕ → List ℕ → Cursor → Result TagRead Refusal
 parts_given handle suffix s = Ok (handle, suffix, s)
 
 -- a character that ends a tag
-pub record Stops (c : ℕ) : Type 0 where
+pub record StopsTag (c : ℕ) : Type 0 where
   pub no_alpha : is_alpha c ≡ false
   pub no_suffix : is_tag_char c ≡ false
   pub no_mark : nat_eq c 33 ≡ false
   pub no_uri : nat_eq c 60 ≡ false
 
-same_as : (c n : ℕ) → nat_eq c n ≡ true → Stops n → Stops c
-same_as c n h is = let e : n ≡ c = grind (arith, nat_tests) in subst Stops e is
+same_as : (c n : ℕ) → nat_eq c n ≡ true → StopsTag n → StopsTag c
+same_as c n h is = let e : n ≡ c = grind (arith, nat_tests) in subst StopsTag e is
 
-pub stops_blank : (c : ℕ) → is_blank c ≡ true → Stops c
-stops_blank c h = either (nat_eq c 32) (nat_eq c 9) (Stops c) h
+pub stops_blank : (c : ℕ) → is_blank c ≡ true → StopsTag c
+stops_blank c h = either (nat_eq c 32) (nat_eq c 9) (StopsTag c) h
     (λ e. same_as c 32 e (record { no_alpha = refl; no_suffix = refl; no_mark = refl; no_uri = refl }))
     (λ e. same_as c 9 e (record { no_alpha = refl; no_suffix = refl; no_mark = refl; no_uri = refl }))
 
-stops_breakz : (c : ℕ) → is_breakz c ≡ true → Stops c
-stops_breakz c h = either (is_break c) (is_z c) (Stops c) h
-    (λ b. either (nat_eq c 10) (nat_eq c 13) (Stops c) b
+stops_breakz : (c : ℕ) → is_breakz c ≡ true → StopsTag c
+stops_breakz c h = either (is_break c) (is_z c) (StopsTag c) h
+    (λ b. either (nat_eq c 10) (nat_eq c 13) (StopsTag c) b
     (λ e. same_as c 10 e (record { no_alpha = refl; no_suffix = refl; no_mark = refl; no_uri = refl }))
     (λ e. same_as c 13 e (record { no_alpha = refl; no_suffix = refl; no_mark = refl; no_uri = refl })))
     (λ e. same_as c 0 e (record { no_alpha = refl; no_suffix = refl; no_mark = refl; no_uri = refl }))
 
-stops_flow : (c : ℕ) → is_flow c ≡ true → Stops c
+stops_flow : (c : ℕ) → is_flow c ≡ true → StopsTag c
 stops_flow c h =
-    either (nat_eq c 44) (is_one_of (91 ∷ 93 ∷ 123 ∷ 125 ∷ []) c) (Stops c) h
+    either (nat_eq c 44) (is_one_of (91 ∷ 93 ∷ 123 ∷ 125 ∷ []) c) (StopsTag c) h
     (λ e. same_as c 44 e (record { no_alpha = refl; no_suffix = refl; no_mark = refl; no_uri = refl }))
-    (λ h. either (nat_eq c 91) (is_one_of (93 ∷ 123 ∷ 125 ∷ []) c) (Stops c) h
+    (λ h. either (nat_eq c 91) (is_one_of (93 ∷ 123 ∷ 125 ∷ []) c) (StopsTag c) h
     (λ e. same_as c 91 e (record { no_alpha = refl; no_suffix = refl; no_mark = refl; no_uri = refl }))
-    (λ h. either (nat_eq c 93) (is_one_of (123 ∷ 125 ∷ []) c) (Stops c) h
+    (λ h. either (nat_eq c 93) (is_one_of (123 ∷ 125 ∷ []) c) (StopsTag c) h
     (λ e. same_as c 93 e (record { no_alpha = refl; no_suffix = refl; no_mark = refl; no_uri = refl }))
-    (λ h. either (nat_eq c 123) (is_one_of (125 ∷ []) c) (Stops c) h
+    (λ h. either (nat_eq c 123) (is_one_of (125 ∷ []) c) (StopsTag c) h
     (λ e. same_as c 123 e (record { no_alpha = refl; no_suffix = refl; no_mark = refl; no_uri = refl }))
-    (λ h. either (nat_eq c 125) (is_one_of [] c) (Stops c) h
+    (λ h. either (nat_eq c 125) (is_one_of [] c) (StopsTag c) h
     (λ e. same_as c 125 e (record { no_alpha = refl; no_suffix = refl; no_mark = refl; no_uri = refl }))
     (λ h. absurd (cc))))))
 
-pub stops : (in_flow : Bool) (x : List ℕ) → EndsTag in_flow x → Stops (slice_index x 0)
+pub stops : (in_flow : Bool) (x : List ℕ) → EndsTag in_flow x → StopsTag (slice_index x 0)
 stops in_flow x h =
     let c = slice_index x 0 in
-    either (is_blank_or_breakz c) (in_flow && is_flow c) (Stops c) h
-    (λ b. either (is_blank c) (is_breakz c) (Stops c) b (stops_blank c) (stops_breakz c))
+    either (is_blank_or_breakz c) (in_flow && is_flow c) (StopsTag c) h
+    (λ b. either (is_blank c) (is_breakz c) (StopsTag c) b (stops_blank c) (stops_breakz c))
     (λ b. stops_flow c (and_true_right in_flow (is_flow c) b))
 
 alpha_no_flow : (c : ℕ) → is_alpha c ≡ true → is_flow c ≡ false
@@ -86,36 +86,38 @@ alpha_plain : (c : ℕ) → is_alpha c ≡ true → nat_eq c 37 ≡ false
 alpha_plain c h = other_than is_alpha 37 c refl h
 
 plain_character : (start m : Marker) (c : ℕ) (cs : List ℕ) → nat_eq c 37 ≡ false
-    → uri_character start (at m (c ∷ cs)) ≡ Ok (c, at (along m 1) cs)
+    → uri_character start (mid_line m (c ∷ cs)) ≡ Ok (c, mid_line (along m 1) cs)
 unfolding uri_character
 plain_character start m c cs h = rw h refl
 
 alpha_first : (start m : Marker) (c : ℕ) (cs : List ℕ) → is_alpha c ≡ true
-    → decoded Suffix start 0 m (c ∷ cs) ≡ with_front (encode_utf8 c) (decoded Suffix start 0 (along m 1) cs)
+    → decoded_characters Suffix start 0 m (c ∷ cs) ≡ with_front (encode_utf8 c) (decoded_characters Suffix start 0
+    (along m 1) cs)
 alpha_first start m c cs h =
-    one_more Suffix start m (c ∷ cs) (alpha_tag c h)
+    decoded_one_more Suffix start m (c ∷ cs) (alpha_tag c h)
     ∙ ap (reads_on Suffix start) (plain_character start m c cs (alpha_plain c h))
 
 -- a word that was read before the rest of a suffix
 pub alpha_on : (start m : Marker) (xs : List ℕ)
     → with_front (encode_utf8_all (take (prefix_len is_alpha xs) xs))
-    (decoded Suffix start 0 (along m (prefix_len is_alpha xs)) (drop (prefix_len is_alpha xs) xs))
-    ≡ decoded Suffix start 0 m xs
-alpha_on start m [] = no_front _ ∙ ap (λ k. decoded Suffix start 0 k []) (along_none m)
+    (decoded_characters Suffix start 0 (along m (prefix_len is_alpha xs)) (drop (prefix_len is_alpha xs) xs))
+    ≡ decoded_characters Suffix start 0 m xs
+alpha_on start m [] = no_front _ ∙ ap (λ k. decoded_characters Suffix start 0 k []) (along_none m)
 alpha_on start m (c ∷ cs) =
     let n = prefix_len is_alpha cs in
     let one : 1 + n ≡ suc n = omega arith in
     let word = encode_utf8_all (take n cs) in
     by_test (is_alpha c) (1 + n) 0
-    (λ k. with_front (encode_utf8_all (take k (c ∷ cs))) (decoded Suffix start 0 (along m k) (drop k (c ∷ cs)))
-    ≡ decoded Suffix start 0 m (c ∷ cs))
+    (λ k. with_front (encode_utf8_all (take k (c ∷ cs)))
+    (decoded_characters Suffix start 0 (along m k) (drop k (c ∷ cs)))
+    ≡ decoded_characters Suffix start 0 m (c ∷ cs))
     (λ h. rw one
-    (ap (λ k. with_front (encode_utf8 c ++ word) (decoded Suffix start 0 k (drop n cs)))
+    (ap (λ k. with_front (encode_utf8 c ++ word) (decoded_characters Suffix start 0 k (drop n cs)))
     (sym (along_more m 1 n (suc n) (omega arith)))
     ∙ sym (front_twice (encode_utf8 c) word _)
     ∙ ap (with_front (encode_utf8 c)) (alpha_on start (along m 1) cs)
     ∙ sym (alpha_first start m c cs h)))
-    (λ h. no_front _ ∙ ap (λ k. decoded Suffix start 0 k (c ∷ cs)) (along_none m))
+    (λ h. no_front _ ∙ ap (λ k. decoded_characters Suffix start 0 k (c ∷ cs)) (along_none m))
 
 -- no `!` stands behind the word that a suffix begins with
 abbrev NoMark : List ℕ → Type 0
@@ -131,7 +133,7 @@ one_on c u in_set h =
     by_test (is_alpha c) (1 + n) 0 (λ k. nat_eq (slice_index (drop k (c ∷ u)) 0) 33 ≡ false) (λ _. rw one h)
     (λ _. other_than is_tag_char 33 c refl in_set)
 
-no_second_mark : (v t x : List ℕ) → IsDecoded is_tag_char v t → Stops (slice_index x 0) → NoMark (t ++ x)
+no_second_mark : (v t x : List ℕ) → IsDecoded is_tag_char v t → StopsTag (slice_index x 0) → NoMark (t ++ x)
 no_second_mark [] t x e stop = rw e (at_once x stop.no_alpha stop.no_mark)
 no_second_mark (c ∷ v) t x (character, more, inl (in_set, plain, is), others, e) stop =
     let whole : t ++ x ≡ c ∷ (more ++ x) = ap (λ u. u ++ x) e ∙ ap (λ u. (u ++ more) ++ x) is in
@@ -142,7 +144,7 @@ no_second_mark (c ∷ v) t x (character, more, inr (scalar, escaped), others, e)
     subst NoMark (sym whole) (at_once (character ++ (more ++ x)) (rw first refl) (rw first refl))
 
 -- no `<` stands behind the `!` of a tag with a handle
-suffix_first : (v t x : List ℕ) → IsDecoded is_tag_char v t → Stops (slice_index x 0)
+suffix_first : (v t x : List ℕ) → IsDecoded is_tag_char v t → StopsTag (slice_index x 0)
     → nat_eq (slice_index (t ++ x) 0) 60 ≡ false
 suffix_first [] t x e stop = rw e stop.no_uri
 suffix_first (c ∷ v) t x (character, more, is, others, e) stop =
@@ -153,20 +155,21 @@ word_first : (w y : List ℕ) → AreIn is_alpha w → nat_eq (slice_index (w ++
 word_first [] y are = refl
 word_first (c ∷ w) y (is, are) = other_than is_alpha 60 c refl is
 
-abbrev pub then_primary : Result (List ℕ × Cursor) Refusal → Result Parts Refusal
+abbrev pub then_primary : Result (List ℕ × Cursor) Refusal → Result TagRead Refusal
 then_primary r = r >>= λ y. Ok (primary_tag y)
 
-abbrev primary_given : List ℕ → Cursor → Result Parts Refusal
+abbrev primary_given : List ℕ → Cursor → Result TagRead Refusal
 primary_given v s = Ok (primary_tag (v, s))
 
 -- a suffix behind `!`
-primary_read : (m : Marker) (v back x : List ℕ) → IsDecoded is_tag_char v back → Stops (slice_index x 0)
-    → shorthand (at m (33 ∷ (back ++ x))) ≡ Ok (primary_tag (encode_utf8_all v, at (along m (1 + length back)) x))
-unfolding shorthand behind_word
+primary_read : (m : Marker) (v back x : List ℕ) → IsDecoded is_tag_char v back → StopsTag (slice_index x 0)
+    → shorthand_tag (mid_line m (33 ∷ (back ++ x))) ≡ Ok
+    (primary_tag (encode_utf8_all v, mid_line (along m (1 + length back)) x))
+unfolding shorthand_tag tag_behind_word
 primary_read m v back x is stop = rw (no_second_mark v back x is stop)
     (ap then_primary (alpha_on m (along m 1) (back ++ x))
     ∙ ap then_primary (decoded_read Suffix m (along m 1) v back x is stop.no_suffix)
-    ∙ ap (λ k. primary_given (encode_utf8_all v) (at k x)) (along_more m 1 (length back) (1 + length back) refl))
+    ∙ ap (λ k. primary_given (encode_utf8_all v) (mid_line k x)) (along_more m 1 (length back) (1 + length back) refl))
 
 pub some_bytes : (v : List ℕ) → v ≢ [] → nat_eq (length (encode_utf8_all v)) 0 ≡ false
 some_bytes [] some = absurd (some refl)
@@ -182,7 +185,7 @@ primary_of_none : (s : Cursor) → primary_tag ([], s) ≡ ([], codes "!", s)
 unfolding primary_tag
 primary_of_none s = refl
 
-abbrev then_named : Marker → List ℕ → Result (List ℕ × Cursor) Refusal → Result Parts Refusal
+abbrev then_named : Marker → List ℕ → Result (List ℕ × Cursor) Refusal → Result TagRead Refusal
 then_named start word r = r >>= λ x. named_tag start word x
 
 named_of_some : (start : Marker) (word v : List ℕ) (s : Cursor) → v ≢ []
@@ -191,64 +194,64 @@ unfolding named_tag
 named_of_some start word v s some = rw (some_bytes v some) refl
 
 behind_named : (start m : Marker) (word v back x : List ℕ) → v ≢ [] → IsDecoded is_tag_char v back
-    → Stops (slice_index x 0)
-    → behind_word start (word, at m (33 ∷ (back ++ x)))
-    ≡ Ok (handle_of word, encode_utf8_all v, at (along m (1 + length back)) x)
-unfolding behind_word named_tail
+    → StopsTag (slice_index x 0)
+    → tag_behind_word start (word, mid_line m (33 ∷ (back ++ x)))
+    ≡ Ok (handle_of word, encode_utf8_all v, mid_line (along m (1 + length back)) x)
+unfolding tag_behind_word named_tail
 behind_named start m word v back x some is stop =
     ap (then_named start word) (decoded_read Suffix start (along m 1) v back x is stop.no_suffix)
-    ∙ named_of_some start word v (at (along (along m 1) (length back)) x) some
-    ∙ ap (λ k. parts_given (handle_of word) (encode_utf8_all v) (at k x))
+    ∙ named_of_some start word v (mid_line (along (along m 1) (length back)) x) some
+    ∙ ap (λ k. parts_given (handle_of word) (encode_utf8_all v) (mid_line k x))
     (along_more m 1 (length back) (1 + length back) refl)
 
 -- a suffix behind `!!` or `!word!`
 named_read : (m : Marker) (w v back x : List ℕ) → AreIn is_alpha w → v ≢ [] → IsDecoded is_tag_char v back
-    → Stops (slice_index x 0)
-    → shorthand (at m (33 ∷ (w ++ (33 ∷ (back ++ x)))))
-    ≡ Ok (handle_of (encode_utf8_all w), encode_utf8_all v, at (along m (2 + length w + length back)) x)
-unfolding shorthand
+    → StopsTag (slice_index x 0)
+    → shorthand_tag (mid_line m (33 ∷ (w ++ (33 ∷ (back ++ x)))))
+    ≡ Ok (handle_of (encode_utf8_all w), encode_utf8_all v, mid_line (along m (2 + length w + length back)) x)
+unfolding shorthand_tag
 named_read m w v back x are some is stop =
     let k = along (along m 1) (length w) in
     let there : along k (1 + length back) ≡ along m (2 + length w + length back) =
     ap (λ j. along j (1 + length back)) (along_more m 1 (length w) (1 + length w) refl)
     ∙ along_more m (1 + length w) (1 + length back) (2 + length w + length back) (omega arith) in
-    ap (behind_word m) (run_read is_alpha (along m 1) w (33 ∷ (back ++ x)) are refl)
+    ap (tag_behind_word m) (run_read is_alpha (along m 1) w (33 ∷ (back ++ x)) are refl)
     ∙ behind_named m k (encode_utf8_all w) v back x some is stop
-    ∙ ap (λ j. parts_given (handle_of (encode_utf8_all w)) (encode_utf8_all v) (at j x)) there
+    ∙ ap (λ j. parts_given (handle_of (encode_utf8_all w)) (encode_utf8_all v) (mid_line j x)) there
 
 -- The whole tag.
 
-pub tag_same : (in_flow : Bool) (s : Cursor) → tag in_flow s ≡ tag in_flow (at s.mark s.rest)
-unfolding tag shorthand verbatim
+pub tag_same : (in_flow : Bool) (s : Cursor) → tag in_flow s ≡ tag in_flow (mid_line s.mark s.rest)
+unfolding tag shorthand_tag verbatim_tag
 tag_same in_flow s = refl
 
 tag_ends : (in_flow : Bool) (start k : Marker) (handle suffix x : List ℕ) → EndsTag in_flow x
-    → tag_end in_flow start (handle, suffix, at k x) ≡ Ok (handle, suffix, at k x)
+    → tag_end in_flow start (handle, suffix, mid_line k x) ≡ Ok (handle, suffix, mid_line k x)
 unfolding tag_end
 tag_ends in_flow start k handle suffix x ends = rw ends refl
 
-abbrev then_end : Bool → Marker → Result Parts Refusal → Result Parts Refusal
+abbrev then_end : Bool → Marker → Result TagRead Refusal → Result TagRead Refusal
 then_end in_flow start r = r >>= λ p. tag_end in_flow start p
 
 shorthand_read : (in_flow : Bool) (m k : Marker) (ys handle suffix x : List ℕ) → nat_eq (slice_index ys 0) 60 ≡ false
-    → EndsTag in_flow x → shorthand (at m (33 ∷ ys)) ≡ Ok (handle, suffix, at k x)
-    → tag in_flow (at m (33 ∷ ys)) ≡ Ok (handle, suffix, at k x)
+    → EndsTag in_flow x → shorthand_tag (mid_line m (33 ∷ ys)) ≡ Ok (handle, suffix, mid_line k x)
+    → tag in_flow (mid_line m (33 ∷ ys)) ≡ Ok (handle, suffix, mid_line k x)
 unfolding tag
 shorthand_read in_flow m k ys handle suffix x no_uri ends read =
     rw no_uri (ap (then_end in_flow m) read ∙ tag_ends in_flow m k handle suffix x ends)
 
 uri_ends : (start m : Marker) (suffix x : List ℕ)
-    → verbatim_end start (suffix, at m (62 ∷ x)) ≡ Ok ([], suffix, at (along m 1) x)
+    → verbatim_end start (suffix, mid_line m (62 ∷ x)) ≡ Ok ([], suffix, mid_line (along m 1) x)
 unfolding verbatim_end
 uri_ends start m suffix x = refl
 
-abbrev then_uri_end : Marker → Result (List ℕ × Cursor) Refusal → Result Parts Refusal
+abbrev then_uri_end : Marker → Result (List ℕ × Cursor) Refusal → Result TagRead Refusal
 then_uri_end start r = r >>= λ x. verbatim_end start x
 
 verbatim_read : (in_flow : Bool) (m : Marker) (v inside x : List ℕ) → IsDecoded is_uri_char v inside → EndsTag in_flow x
-    → tag in_flow (at m (33 ∷ 60 ∷ (inside ++ (62 ∷ x))))
-    ≡ Ok ([], encode_utf8_all v, at (along m (3 + length inside)) x)
-unfolding tag verbatim
+    → tag in_flow (mid_line m (33 ∷ 60 ∷ (inside ++ (62 ∷ x))))
+    ≡ Ok ([], encode_utf8_all v, mid_line (along m (3 + length inside)) x)
+unfolding tag verbatim_tag
 verbatim_read in_flow m v inside x is ends =
     let k = along (along m 2) (length inside) in
     let there : along k 1 ≡ along m (3 + length inside) = ap (λ j. along j 1)
@@ -257,42 +260,43 @@ verbatim_read in_flow m v inside x is ends =
     ap (λ r. then_end in_flow m (then_uri_end m r)) (decoded_read Uri m (along m 2) v inside (62 ∷ x) is refl)
     ∙ ap (then_end in_flow m) (uri_ends m k (encode_utf8_all v) x)
     ∙ tag_ends in_flow m (along k 1) [] (encode_utf8_all v) x ends
-    ∙ ap (λ j. parts_given [] (encode_utf8_all v) (at j x)) there
+    ∙ ap (λ j. parts_given [] (encode_utf8_all v) (mid_line j x)) there
 
-abbrev Reads : Bool → Marker → List ℕ → List ℕ → List ℕ → List ℕ → Type 0
-Reads in_flow m t handle suffix x =
-    tag in_flow (at m (t ++ x)) ≡ Ok (encode_utf8_all handle, encode_utf8_all suffix, at (along m (length t)) x)
+abbrev ReadsTag : Bool → Marker → List ℕ → List ℕ → List ℕ → List ℕ → Type 0
+ReadsTag in_flow m t handle suffix x =
+    tag in_flow (mid_line m (t ++ x)) ≡ Ok
+    (encode_utf8_all handle, encode_utf8_all suffix, mid_line (along m (length t)) x)
 
 pub mark_bytes : encode_utf8_all (codes "!") ≡ codes "!"
 unfolding encode
 mark_bytes = refl
 
-pub handle_bytes : (w : List ℕ) → handle_of (encode_utf8_all w) ≡ encode_utf8_all (codes "!" ++ (w ++ codes "!"))
+pub bytes_of_handle : (w : List ℕ) → handle_of (encode_utf8_all w) ≡ encode_utf8_all (codes "!" ++ (w ++ codes "!"))
 unfolding encode
-handle_bytes w = sym (ap (λ t. 33 ∷ t) (encodes-append w (33 ∷ [])))
+bytes_of_handle w = sym (ap (λ t. 33 ∷ t) (encodes-append w (33 ∷ [])))
 
 reads_non_specific : (in_flow : Bool) (m : Marker) (x : List ℕ) → EndsTag in_flow x
-    → Reads in_flow m (codes "!") [] (codes "!") x
+    → ReadsTag in_flow m (codes "!") [] (codes "!") x
 reads_non_specific in_flow m x ends =
     let stop = stops in_flow x ends in
     shorthand_read in_flow m (along m 1) x [] (codes "!") x stop.no_uri ends
-    (primary_read m [] [] x refl stop ∙ ap Ok (primary_of_none (at (along m 1) x)))
-    ∙ ap (λ v. parts_given [] v (at (along m 1) x)) (sym mark_bytes)
+    (primary_read m [] [] x refl stop ∙ ap Ok (primary_of_none (mid_line (along m 1) x)))
+    ∙ ap (λ v. parts_given [] v (mid_line (along m 1) x)) (sym mark_bytes)
 
 reads_primary : (in_flow : Bool) (m : Marker) (v back x : List ℕ) → v ≢ [] → IsDecoded is_tag_char v back
-    → EndsTag in_flow x → Reads in_flow m (codes "!" ++ back) (codes "!") v x
+    → EndsTag in_flow x → ReadsTag in_flow m (codes "!" ++ back) (codes "!") v x
 reads_primary in_flow m v back x some is ends =
     let stop = stops in_flow x ends in
     let k = along m (1 + length back) in
     let one : 1 + length back ≡ suc (length back) = omega arith in
     shorthand_read in_flow m k (back ++ x) (codes "!") (encode_utf8_all v) x (suffix_first v back x is stop) ends
-    (primary_read m v back x is stop ∙ ap Ok (primary_of_some v (at k x) some))
-    ∙ ap (λ h. parts_given h (encode_utf8_all v) (at k x)) (sym mark_bytes)
-    ∙ ap (λ n. parts_given (encode_utf8_all (codes "!")) (encode_utf8_all v) (at (along m n) x)) one
+    (primary_read m v back x is stop ∙ ap Ok (primary_of_some v (mid_line k x) some))
+    ∙ ap (λ h. parts_given h (encode_utf8_all v) (mid_line k x)) (sym mark_bytes)
+    ∙ ap (λ n. parts_given (encode_utf8_all (codes "!")) (encode_utf8_all v) (mid_line (along m n) x)) one
 
 reads_named : (in_flow : Bool) (m : Marker) (w v back x : List ℕ) → AreIn is_alpha w → v ≢ []
     → IsDecoded is_tag_char v back → EndsTag in_flow x
-    → Reads in_flow m ((codes "!" ++ (w ++ codes "!")) ++ back) (codes "!" ++ (w ++ codes "!")) v x
+    → ReadsTag in_flow m ((codes "!" ++ (w ++ codes "!")) ++ back) (codes "!" ++ (w ++ codes "!")) v x
 reads_named in_flow m w v back x are some is ends =
     let stop = stops in_flow x ends in
     let handle = codes "!" ++ (w ++ codes "!") in
@@ -300,23 +304,23 @@ reads_named in_flow m w v back x are some is ends =
     let len : 2 + length w + length back ≡ length (handle ++ back) =
     rw (length-append handle back) (omega (arith, length-append w (codes "!"))) in
     let k = along m (2 + length w + length back) in
-    ap (λ u. tag in_flow (at m u)) whole
+    ap (λ u. tag in_flow (mid_line m u)) whole
     ∙ shorthand_read in_flow m k (w ++ (33 ∷ (back ++ x))) (handle_of (encode_utf8_all w)) (encode_utf8_all v) x
     (word_first w (back ++ x) are) ends (named_read m w v back x are some is stop)
-    ∙ ap (λ h. parts_given h (encode_utf8_all v) (at k x)) (handle_bytes w)
-    ∙ ap (λ n. parts_given (encode_utf8_all handle) (encode_utf8_all v) (at (along m n) x)) len
+    ∙ ap (λ h. parts_given h (encode_utf8_all v) (mid_line k x)) (bytes_of_handle w)
+    ∙ ap (λ n. parts_given (encode_utf8_all handle) (encode_utf8_all v) (mid_line (along m n) x)) len
 
 reads_verbatim : (in_flow : Bool) (m : Marker) (v inside x : List ℕ) → IsDecoded is_uri_char v inside
-    → EndsTag in_flow x → Reads in_flow m (codes "!<" ++ (inside ++ codes ">")) [] v x
+    → EndsTag in_flow x → ReadsTag in_flow m (codes "!<" ++ (inside ++ codes ">")) [] v x
 reads_verbatim in_flow m v inside x is ends =
     let t = codes "!<" ++ (inside ++ codes ">") in
     let whole : t ++ x ≡ 33 ∷ 60 ∷ (inside ++ (62 ∷ x)) = ap (λ u. 33 ∷ 60 ∷ u) (append_assoc inside (codes ">") x) in
     let len : 3 + length inside ≡ length t = omega (arith, length-append inside (codes ">")) in
-    ap (λ u. tag in_flow (at m u)) whole ∙ verbatim_read in_flow m v inside x is ends
-    ∙ ap (λ n. parts_given [] (encode_utf8_all v) (at (along m n) x)) len
+    ap (λ u. tag in_flow (mid_line m u)) whole ∙ verbatim_read in_flow m v inside x is ends
+    ∙ ap (λ n. parts_given [] (encode_utf8_all v) (mid_line (along m n) x)) len
 
 reads_text : (in_flow : Bool) (m : Marker) (t handle suffix x : List ℕ) → IsTagText t handle suffix → EndsTag in_flow x
-    → Reads in_flow m t handle suffix x
+    → ReadsTag in_flow m t handle suffix x
 reads_text in_flow m t handle suffix x (inl (text, no_handle, is)) ends =
     rw (text, no_handle, is) (reads_non_specific in_flow m x ends)
 reads_text in_flow m t handle suffix x (inr (inl (inside, is, no_handle, text))) ends =
@@ -328,6 +332,7 @@ reads_text in_flow m t handle suffix x (inr (inr (back, inr (w, are, named), som
 
 pub reads_tag : (in_flow : Bool) (s : Cursor) (t handle suffix x : List ℕ) → s.rest ≡ t ++ x → IsTagText t handle suffix
     → EndsTag in_flow x → tag in_flow s
-    ≡ Ok (encode_utf8_all handle, encode_utf8_all suffix, at (along s.mark (length t)) x)
+    ≡ Ok (encode_utf8_all handle, encode_utf8_all suffix, mid_line (along s.mark (length t)) x)
 reads_tag in_flow s t handle suffix x e is ends =
-    tag_same in_flow s ∙ ap (λ u. tag in_flow (at s.mark u)) e ∙ reads_text in_flow s.mark t handle suffix x is ends
+    tag_same in_flow s ∙ ap (λ u. tag in_flow (mid_line s.mark u)) e
+    ∙ reads_text in_flow s.mark t handle suffix x is ends

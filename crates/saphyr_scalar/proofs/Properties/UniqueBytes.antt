@@ -6,23 +6,22 @@ use Rattle.std.proofs.Math.Utf8.{encode}
 use Rattle.std.proofs.lemmas.Bool.{lt-ltb, le-ltb}
 use Rattle.std.proofs.lemmas.Bool.Decides.{nat_tests}
 use Rattle.std.proofs.lemmas.Str.{encode_ascii}
-use Rattle.saphyr_scalar.specs.Steps.Quoted.{is_scalar}
+use Rattle.scalar_values.specs.Escapes.{IsScalarValue, is_scalar_value}
 use Rattle.saphyr_scalar.specs.Steps.Tag.{utf8_width, leading_bits, is_trailing, is_encoded}
-use Rattle.saphyr_scalar.specs.Spelling.Tag.{IsScalarValue}
-use Rattle.saphyr_scalar.proofs.Properties.EscapedBytes.{AreTrailing, joined, bits_one, bits_two, bits_three, bits_four}
+use Rattle.saphyr_scalar.proofs.Properties.EscapedBytes.{AreTrailing, joined_bytes, bits_one, bits_two, bits_three, bits_four}
 use Rattle.saphyr_input.proofs.Basics.Booleans.{and_true_left, and_true_right, by_test, either}
 
-pub scalar_is : (c : ℕ) → is_scalar c ≡ true → IsScalarValue c
+pub scalar_is : (c : ℕ) → is_scalar_value c ≡ true → IsScalarValue c
 scalar_is c h =
-    either (nat_lt c 0xD800) (nat_le 0xE000 c && nat_lt c 0x11_0000) (IsScalarValue c) h
+    either (nat_lt c 0xD800) (nat_le 0xE000 c && nat_le c 0x10FFFF) (IsScalarValue c) h
     (λ e. inl (grind (arith, nat_tests)))
     (λ e.
-    let low = and_true_left (nat_le 0xE000 c) (nat_lt c 0x11_0000) e in
-    let high = and_true_right (nat_le 0xE000 c) (nat_lt c 0x11_0000) e in
+    let low = and_true_left (nat_le 0xE000 c) (nat_le c 0x10FFFF) e in
+    let high = and_true_right (nat_le 0xE000 c) (nat_le c 0x10FFFF) e in
     inr (grind (arith, nat_tests), grind (arith, nat_tests)))
 
 len_of : (n c : ℕ) → is_encoded n c ≡ true → len_utf8 c ≡ n
-len_of n c h = let e = and_true_right (is_scalar c) (nat_eq (len_utf8 c) n) h in grind (arith, nat_tests)
+len_of n c h = let e = and_true_right (is_scalar_value c) (nat_eq (len_utf8 c) n) h in grind (arith, nat_tests)
 
 long_two : (c : ℕ) → len_utf8 c ≡ 2 → 0x80 ≤ c
 long_two c h = grind (arith, nat_tests)
@@ -111,28 +110,29 @@ width_cases b P one two three four none =
     (λ low. by_test (nat_lt b 0xF8) 4 0 P (λ e. four (grind (arith, nat_tests))) (λ _. none)))))
 
 -- the bytes, by how many there are
-abbrev Stands : ℕ → ℕ → ℕ → List ℕ → Type 0
-Stands w b c bs = w ≡ suc (length bs) → AreTrailing bs → joined (leading_bits b) bs ≡ c
+abbrev BytesStand : ℕ → ℕ → ℕ → List ℕ → Type 0
+BytesStand w b c bs = w ≡ suc (length bs) → AreTrailing bs → joined_bytes (leading_bits b) bs ≡ c
     → is_encoded (suc (length bs)) c ≡ true → encode_utf8 c ≡ b ∷ bs
 
-pub bytes_unique : (b c : ℕ) (bs : List ℕ) → Stands (utf8_width b) b c bs
-bytes_unique b c [] = width_cases b (λ w. Stands w b c []) (λ lt e tails says shortest. unique_one b c lt says)
+pub bytes_unique : (b c : ℕ) (bs : List ℕ) → BytesStand (utf8_width b) b c bs
+bytes_unique b c [] = width_cases b (λ w. BytesStand w b c []) (λ lt e tails says shortest. unique_one b c lt says)
     (λ _ _ e. absurd (omega arith)) (λ _ _ e. absurd (omega arith)) (λ _ e. absurd (omega arith))
     (λ e. absurd (omega arith))
 bytes_unique b c (x ∷ []) =
-    width_cases b (λ w. Stands w b c (x ∷ [])) (λ _ e. absurd (omega arith))
+    width_cases b (λ w. BytesStand w b c (x ∷ [])) (λ _ e. absurd (omega arith))
     (λ h lt e tails says shortest. unique_two b x c h lt tails.0 says shortest)
     (λ _ _ e. absurd (omega arith)) (λ _ e. absurd (omega arith)) (λ e. absurd (omega arith))
 bytes_unique b c (x ∷ y ∷ []) =
-    width_cases b (λ w. Stands w b c (x ∷ y ∷ [])) (λ _ e. absurd (omega arith)) (λ _ _ e. absurd (omega arith))
+    width_cases b (λ w. BytesStand w b c (x ∷ y ∷ [])) (λ _ e. absurd (omega arith)) (λ _ _ e. absurd (omega arith))
     (λ h lt e tails says shortest. unique_three b x y c h lt tails.0 tails.1.0 says shortest)
     (λ _ e. absurd (omega arith)) (λ e. absurd (omega arith))
 bytes_unique b c (x ∷ y ∷ z ∷ []) =
-    width_cases b (λ w. Stands w b c (x ∷ y ∷ z ∷ [])) (λ _ e. absurd (omega arith)) (λ _ _ e. absurd (omega arith))
+    width_cases b (λ w. BytesStand w b c (x ∷ y ∷ z ∷ [])) (λ _ e. absurd (omega arith)) (λ _ _ e. absurd (omega arith))
     (λ _ _ e. absurd (omega arith))
     (λ h e tails says shortest. unique_four b x y z c h tails.0 tails.1.0 tails.1.1.0 says shortest)
     (λ e. absurd (omega arith))
 bytes_unique b c (x ∷ y ∷ z ∷ v ∷ bs) =
-    width_cases b (λ w. Stands w b c (x ∷ y ∷ z ∷ v ∷ bs)) (λ _ e. absurd (omega arith)) (λ _ _ e. absurd (omega arith))
+    width_cases b (λ w. BytesStand w b c (x ∷ y ∷ z ∷ v ∷ bs)) (λ _ e. absurd (omega arith))
+    (λ _ _ e. absurd (omega arith))
     (λ _ _ e. absurd (omega arith))
     (λ _ e. absurd (omega arith)) (λ e. absurd (omega arith))

@@ -1,17 +1,18 @@
 -- Escapes of double quoted scalars, a step at a time.
 use Rattle.std.proofs.Common.{◌≡◌, ℕ, zero, suc, ◌+◌, ◌-◌, ◌*◌, ◌^◌, ◌<◌, ◌≤◌, true, false, List, [], ◌∷◌, length, drop, slice_index, Ok, refl, sym, ap, ◌∙◌, arith, subst, nat_eq}
 use Rattle.std.proofs.lemmas.Bool.Decides.{nat_tests}
-use Rattle.std.specs.Prelude.{Option, Some, None}
+use Rattle.std.specs.Prelude.{Option, Some, None, unwrap_or}
 use Rattle.std.proofs.Math.Nat.{pow-le-pow_right}
 use Rattle.std.proofs.lemmas.Grind.{pow_more}
 use Rattle.saphyr_input.specs.Classes.{is_hex, hex_value}
+use Rattle.scalar_values.specs.Escapes.{digit_count, is_scalar_value, short_escape}
 use Rattle.saphyr_scalar.specs.declared.scalar.position.Marker.{Marker}
 use Rattle.saphyr_scalar.specs.declared.scalar.fault.FaultText.TheVariants as fault
 use Rattle.saphyr_scalar.specs.Views.Cursor.{Cursor, refuse, along, pass}
 use Rattle.saphyr_scalar.proofs.Moving.{along_none, along_more, drop_more}
-use Rattle.saphyr_scalar.specs.Steps.Quoted.{at, digits, simple_escape, hex_digit_count, is_scalar, character, numbered, escape_of, escaped_character}
+use Rattle.saphyr_scalar.specs.Steps.Quoted.{mid_line, digits, hex_digit_count, character, escape_by_number, escape_of, escaped_character}
 use Rattle.saphyr_input.proofs.Basics.Booleans.{by_test}
-use Rattle.saphyr_scalar.proofs.EscapeEnds.{Ends, refused, read, then_ends}
+use Rattle.saphyr_scalar.proofs.EscapeEnds.{EscapeEnds, refused_ends, read, then_ends}
 
 -- no digit is left
 pub digits_none : (start : Marker) (n i v : ℕ) (s : Cursor) → n ≤ i → digits start (n - i) v s ≡ Ok (v, s)
@@ -55,83 +56,89 @@ two_left [] a b = absurd (a refl)
 two_left (x ∷ []) a b = absurd (b refl)
 two_left (x ∷ y ∷ xs) a b = omega arith
 
-no_nul_escape : (c : ℕ) → simple_escape 0 ≡ Some c → ⊥
-unfolding simple_escape
+no_nul_digits : (n : ℕ) → digit_count 0 ≡ Some n → ⊥
+no_nul_digits n e = absurd (cc)
+
+no_nul_escape : (c : ℕ) → short_escape 0 ≡ Some c → ⊥
+unfolding short_escape
 no_nul_escape c e = absurd (cc)
 
 -- an escape of one letter has its letter
-pub letter_left : (xs : List ℕ) (c : ℕ) → slice_index xs 0 ≡ 92 → simple_escape (slice_index xs 1) ≡ Some c
+pub letter_left : (xs : List ℕ) (c : ℕ) → slice_index xs 0 ≡ 92 → short_escape (slice_index xs 1) ≡ Some c
     → 2 ≤ length xs
 letter_left xs c slash e = two_left xs (λ z. absurd (omega arith)) (λ z. no_nul_escape c (rw z at e))
 
 -- an escape of digits has its letter
-pub digits_left : (xs : List ℕ) → slice_index xs 0 ≡ 92 → (hex_digit_count (slice_index xs 1) ≡ 0 → ⊥) → 2 ≤ length xs
-digits_left xs slash e = two_left xs (λ z. absurd (omega arith)) (λ z. e (rw z refl))
-
-pub count_small : (c : ℕ) → hex_digit_count c ≤ 8
-count_small c = grind arith
+pub digits_left : (xs : List ℕ) (n : ℕ) → slice_index xs 0 ≡ 92 → digit_count (slice_index xs 1) ≡ Some n
+    → 2 ≤ length xs
+digits_left xs n slash e = two_left xs (λ z. absurd (omega arith)) (λ z. no_nul_digits n (rw z at e))
 
 -- Where an escape ends.
 
-digits_place : (start : Marker) (n v : ℕ) (m : Marker) (xs : List ℕ) → Ends m xs n (digits start n v (at m xs))
+digits_place : (start : Marker) (n v : ℕ) (m : Marker) (xs : List ℕ)
+    → EscapeEnds m xs n (digits start n v (mid_line m xs))
 unfolding digits
-digits_place start zero v m xs = subst (λ x. Ends m xs 0 (Ok (v, at x xs))) (along_none m) (read m xs 0 v)
+digits_place start zero v m xs = subst (λ x. EscapeEnds m xs 0 (Ok (v, mid_line x xs))) (along_none m) (read m xs 0 v)
 digits_place start (suc n) v m xs =
-    by_test (is_hex (slice_index xs 0)) _ _ (Ends m xs (suc n))
+    by_test (is_hex (slice_index xs 0)) _ _ (EscapeEnds m xs (suc n))
     (λ _ e is. digits_place start n _ (along m 1) (drop 1 xs) e is
-    ∙ ap (λ x. at x (drop n (drop 1 xs))) (along_more m 1 n (suc n) (omega arith))
-    ∙ ap (at (along m (suc n))) (drop_more n 1 (suc n) xs (omega arith)))
-    (λ _. refused m xs (suc n) _)
+    ∙ ap (λ x. mid_line x (drop n (drop 1 xs))) (along_more m 1 n (suc n) (omega arith))
+    ∙ ap (mid_line (along m (suc n))) (drop_more n 1 (suc n) xs (omega arith)))
+    (λ _. refused_ends m xs (suc n) _)
 
 character_place : (start : Marker) (m : Marker) (xs : List ℕ) (n v : ℕ)
-    → Ends m xs n (character start v (at (along m n) (drop n xs)))
+    → EscapeEnds m xs n (character start v (mid_line (along m n) (drop n xs)))
 unfolding character
-character_place start m xs n v = by_test (is_scalar v) _ _ (Ends m xs n) (λ _. read m xs n v) (λ _. refused m xs n _)
+character_place start m xs n v = by_test (is_scalar_value v) _ _ (EscapeEnds m xs n) (λ _. read m xs n v)
+    (λ _. refused_ends m xs n _)
 
-numbered_place : (start m : Marker) (xs : List ℕ) (n : ℕ) → Ends m xs (2 + n) (numbered start n (at m xs))
-unfolding numbered
-numbered_place start m xs n =
-    by_test (nat_eq n 0) _ _ (Ends m xs (2 + n)) (λ _. refused m xs (2 + n) _)
-    (λ _. then_ends m xs (2 + n) (digits start n 0 (at (along m 2) (drop 2 xs))) _ (λ x is.
-    let place : x.1 ≡ at (along m (2 + n)) (drop (2 + n) xs) =
+numbered_place : (start m : Marker) (xs : List ℕ) (o : Option ℕ)
+    → EscapeEnds m xs (2 + unwrap_or o 0) (escape_by_number start o (mid_line m xs))
+unfolding escape_by_number
+numbered_place start m xs None = refused_ends m xs (2 + 0) _
+numbered_place start m xs (Some n) =
+    then_ends m xs (2 + n) (digits start n 0 (mid_line (along m 2) (drop 2 xs))) _ (λ x is.
+    let place : x.1 ≡ mid_line (along m (2 + n)) (drop (2 + n) xs) =
     digits_place start n 0 (along m 2) (drop 2 xs) x is
-    ∙ ap (λ y. at y (drop n (drop 2 xs))) (along_more m 2 n (2 + n) refl)
-    ∙ ap (at (along m (2 + n))) (drop_more n 2 (2 + n) xs refl) in
-    subst (λ y. Ends m xs (2 + n) (character start x.0 y)) (sym place) (character_place start m xs (2 + n) x.0)))
+    ∙ ap (λ y. mid_line y (drop n (drop 2 xs))) (along_more m 2 n (2 + n) refl)
+    ∙ ap (mid_line (along m (2 + n))) (drop_more n 2 (2 + n) xs refl) in
+    subst (λ y. EscapeEnds m xs (2 + n) (character start x.0 y)) (sym place) (character_place start m xs (2 + n) x.0))
 
-no_x : (v : ℕ) → simple_escape 120 ≡ Some v → ⊥
-unfolding simple_escape
+no_x : (v : ℕ) → short_escape 120 ≡ Some v → ⊥
+unfolding short_escape
 no_x v e = absurd (cc)
 
-no_u : (v : ℕ) → simple_escape 117 ≡ Some v → ⊥
-unfolding simple_escape
+no_u : (v : ℕ) → short_escape 117 ≡ Some v → ⊥
+unfolding short_escape
 no_u v e = absurd (cc)
 
-no_U : (v : ℕ) → simple_escape 85 ≡ Some v → ⊥
-unfolding simple_escape
+no_U : (v : ℕ) → short_escape 85 ≡ Some v → ⊥
+unfolding short_escape
 no_U v e = absurd (cc)
 
 -- an escape of one letter has no digits
-pub simple_no_digits : (c v : ℕ) → simple_escape c ≡ Some v → 0 ≡ hex_digit_count c
+pub simple_no_digits : (c v : ℕ) → short_escape c ≡ Some v → None ≡ digit_count c
 simple_no_digits c v h =
-    by_test (nat_eq c 120) _ _ (λ n. 0 ≡ n)
+    by_test (nat_eq c 120) _ _ (λ o. None ≡ o)
     (λ is. let e : c ≡ 120 =
-    grind (arith, nat_tests) in absurd (no_x v (subst (λ x. simple_escape x ≡ Some v) e h)))
-    (λ _. by_test (nat_eq c 117) _ _ (λ n. 0 ≡ n)
+    grind (arith, nat_tests) in absurd (no_x v (subst (λ x. short_escape x ≡ Some v) e h)))
+    (λ _. by_test (nat_eq c 117) _ _ (λ o. None ≡ o)
     (λ is. let e : c ≡ 117 =
-    grind (arith, nat_tests) in absurd (no_u v (subst (λ x. simple_escape x ≡ Some v) e h)))
-    (λ _. by_test (nat_eq c 85) _ _ (λ n. 0 ≡ n)
-    (λ is. let e : c ≡ 85 = grind (arith, nat_tests) in absurd (no_U v (subst (λ x. simple_escape x ≡ Some v) e h)))
+    grind (arith, nat_tests) in absurd (no_u v (subst (λ x. short_escape x ≡ Some v) e h)))
+    (λ _. by_test (nat_eq c 85) _ _ (λ o. None ≡ o)
+    (λ is. let e : c ≡ 85 = grind (arith, nat_tests) in absurd (no_U v (subst (λ x. short_escape x ≡ Some v) e h)))
     (λ _. refl)))
 
-of_place : (start m : Marker) (xs : List ℕ) (letter : ℕ) (o : Option ℕ) → simple_escape letter ≡ o
-    → Ends m xs (2 + hex_digit_count letter) (escape_of start o letter (at m xs))
+of_place : (start m : Marker) (xs : List ℕ) (letter : ℕ) (o : Option ℕ) → short_escape letter ≡ o
+    → EscapeEnds m xs (2 + hex_digit_count letter) (escape_of start o letter (mid_line m xs))
 unfolding escape_of
 of_place start m xs letter (Some c) h =
-    subst (λ n. Ends m xs (2 + n) (Ok (c, at (along m 2) (drop 2 xs)))) (simple_no_digits letter c h) (read m xs 2 c)
-of_place start m xs letter None h = numbered_place start m xs (hex_digit_count letter)
+    subst (λ o. EscapeEnds m xs (2 + unwrap_or o 0) (Ok (c, mid_line (along m 2) (drop 2 xs))))
+    (simple_no_digits letter c h)
+    (read m xs 2 c)
+of_place start m xs letter None h = numbered_place start m xs (digit_count letter)
 
 pub escape_place : (start m : Marker) (xs : List ℕ)
-    → Ends m xs (2 + hex_digit_count (slice_index xs 1)) (escaped_character start (at m xs))
+    → EscapeEnds m xs (2 + hex_digit_count (slice_index xs 1)) (escaped_character start (mid_line m xs))
 unfolding escaped_character
-escape_place start m xs = of_place start m xs (slice_index xs 1) (simple_escape (slice_index xs 1)) refl
+escape_place start m xs = of_place start m xs (slice_index xs 1) (short_escape (slice_index xs 1)) refl

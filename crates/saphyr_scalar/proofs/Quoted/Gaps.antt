@@ -15,11 +15,11 @@ use Rattle.saphyr_scalar.specs.Views.Reader.{ReadsOn}
 use Rattle.saphyr_scalar.specs.Views.Cursor.{Cursor, refuse, along, pass, pass_break, pass_line, next_line}
 use Rattle.scalar_values.specs.Flow as flow
 use Rattle.saphyr_scalar.proofs.NoBreaks.{mark_no_nul}
-use Rattle.saphyr_scalar.proofs.Quoted.Inside.{front_twice, passed_over, behind_no_gap, IsContent, at_break, at_end, flushed, Moved, moved_stops, SameRun, moved_of}
+use Rattle.saphyr_scalar.proofs.Quoted.Inside.{front_twice, passed_over, behind_no_gap, IsQuotedInk, at_break, at_end, flushed, Moved, moved_stops, SameRun, moved_of}
 use Rattle.saphyr_scalar.proofs.Quoted.Parts.{blanks_moved}
 use Rattle.std.proofs.lemmas.Bool.{eqb-true}
 use Rattle.saphyr_input.proofs.Basics.Booleans.{and_true_left}
-use Rattle.saphyr_scalar.specs.Steps.Quoted.{is_literal, is_escaped_break, is_closing, ends_word, with_front, at, special, on_line, over_lines, no_gap, escaped_gap, break_len, inside, inside_at}
+use Rattle.saphyr_scalar.specs.Steps.Quoted.{is_literal, is_escaped_break, is_closing, ends_word, with_front, mid_line, special, on_line, over_lines, no_gap, escaped_gap, break_len, inner_text, inner_text_at}
 
 pub by_break_len : (s : Cursor) → is_break (slice_index s.rest 0) ≡ true → pass_break s ≡ pass_line (break_len s.rest) s
 by_break_len s h = by_tests (next_2_are s.rest 13 10) (is_break (slice_index s.rest 0)) h
@@ -32,8 +32,8 @@ by_break_len s h = by_tests (next_2_are s.rest 13 10) (is_break (slice_index s.r
 
 -- a backslash before a break
 pub at_escaped_break : (indent : ℕ) (start m : Marker) (cs : List ℕ) → is_break (slice_index cs 0) ≡ true
-    → inside Double indent start no_gap 0 m (92 ∷ cs)
-    ≡ inside Double indent start (escaped_gap Double (slice_index (drop (break_len cs) cs) 0)) 0
+    → inner_text Double indent start no_gap 0 m (92 ∷ cs)
+    ≡ inner_text Double indent start (escaped_gap Double (slice_index (drop (break_len cs) cs) 0)) 0
     (next_line (along m 1) (break_len cs)) (drop (break_len cs) cs)
 unfolding is_literal special
 at_escaped_break indent start m cs h =
@@ -47,16 +47,17 @@ behind_escaped s = pass_break (pass 1 s)
 
 escaped_break_at : (indent : ℕ) (start : Marker) (s : Cursor) (cs : List ℕ) → s.rest ≡ 92 ∷ cs
     → is_break (slice_index cs 0) ≡ true
-    → inside_at Double indent start no_gap s
-    ≡ inside_at Double indent start (escaped_gap Double (slice_index (behind_escaped s).rest 0)) (behind_escaped s)
+    → inner_text_at Double indent start no_gap s
+    ≡ inner_text_at Double indent start (escaped_gap Double (slice_index (behind_escaped s).rest 0)) (behind_escaped s)
 escaped_break_at indent start s cs cut h =
     let behind : (pass 1 s).rest ≡ cs = ap (drop 1) cut in
     let breaks : is_break (slice_index (pass 1 s).rest 0) ≡ true =
     ap (λ (xs : List ℕ). is_break (slice_index xs 0)) behind ∙ h in
     let place : behind_escaped s ≡ pass_line (break_len (pass 1 s).rest) (pass 1 s) = by_break_len (pass 1 s) breaks in
-    ap (inside Double indent start no_gap 0 s.mark) cut ∙ at_escaped_break indent start s.mark cs h
-    ∙ sym (ap (λ (x : Cursor). inside_at Double indent start (escaped_gap Double (slice_index x.rest 0)) x) place
-    ∙ ap (λ (xs : List ℕ). inside Double indent start (escaped_gap Double (slice_index (drop (break_len xs) xs) 0)) 0
+    ap (inner_text Double indent start no_gap 0 s.mark) cut ∙ at_escaped_break indent start s.mark cs h
+    ∙ sym (ap (λ (x : Cursor). inner_text_at Double indent start (escaped_gap Double (slice_index x.rest 0)) x) place
+    ∙ ap (λ (xs : List ℕ). inner_text Double indent start
+    (escaped_gap Double (slice_index (drop (break_len xs) xs) 0)) 0
     (next_line (along s.mark 1) (break_len xs)) (drop (break_len xs) xs)) behind)
 
 record Escaped (xs : List ℕ) : Type 0 where
@@ -79,8 +80,8 @@ escaped_of (c ∷ cs) h =
     number c h = grind (arith, nat_tests)
 
 escaped_break_on : (q : Quote) (indent : ℕ) (start : Marker) (s : Cursor) → IsTrue (is_escaped_break q s.rest)
-    → inside_at q indent start no_gap s
-    ≡ inside_at q indent start (escaped_gap q (slice_index (behind_escaped s).rest 0)) (behind_escaped s)
+    → inner_text_at q indent start no_gap s
+    ≡ inner_text_at q indent start (escaped_gap q (slice_index (behind_escaped s).rest 0)) (behind_escaped s)
 escaped_break_on Single indent start s h = absurd (cc)
 escaped_break_on Double indent start s h =
     let e = escaped_of s.rest h in escaped_break_at indent start s e.cs e.cut e.breaks
@@ -94,21 +95,21 @@ gap_elsewhere q c e = let is : (c == flow.mark q) ≡ false = grind (arith, nat_
 -- an escaped break right before the closing quote, and elsewhere
 pub escaped_to_quote : (q : Quote) (indent : ℕ) (start : Marker) (text : List ℕ) (s t : Cursor)
     → IsTrue (is_escaped_break q s.rest) → t ≡ behind_escaped s → slice_index t.rest 0 ≡ flow.mark q
-    → with_front text (inside_at q indent start no_gap t) ≡ with_front text (inside_at q indent start no_gap s)
+    → with_front text (inner_text_at q indent start no_gap t) ≡ with_front text (inner_text_at q indent start no_gap s)
 escaped_to_quote q indent start text s t h on quote =
-    ap (λ x. with_front text (inside_at q indent start no_gap x)) on
+    ap (λ x. with_front text (inner_text_at q indent start no_gap x)) on
     ∙ sym (ap (with_front text) (escaped_break_on q indent start s h
-    ∙ ap (λ g. inside_at q indent start g (behind_escaped s))
+    ∙ ap (λ g. inner_text_at q indent start g (behind_escaped s))
     (gap_at_quote q _ (ap (λ (x : Cursor). slice_index x.rest 0) (sym on) ∙ quote))))
 
 pub escaped_to_line : (q : Quote) (indent : ℕ) (start : Marker) (text : List ℕ) (s t : Cursor)
     → IsTrue (is_escaped_break q s.rest) → t ≡ behind_escaped s → (slice_index t.rest 0 ≡ flow.mark q → ⊥)
-    → with_front text (inside_at q indent start (over_lines true 0) t)
-    ≡ with_front text (inside_at q indent start no_gap s)
+    → with_front text (inner_text_at q indent start (over_lines true 0) t)
+    ≡ with_front text (inner_text_at q indent start no_gap s)
 escaped_to_line q indent start text s t h on quote =
-    ap (λ x. with_front text (inside_at q indent start (over_lines true 0) x)) on
+    ap (λ x. with_front text (inner_text_at q indent start (over_lines true 0) x)) on
     ∙ sym (ap (with_front text) (escaped_break_on q indent start s h
-    ∙ ap (λ g. inside_at q indent start g (behind_escaped s))
+    ∙ ap (λ g. inner_text_at q indent start g (behind_escaped s))
     (gap_elsewhere q _ (λ e. quote (ap (λ (x : Cursor). slice_index x.rest 0) on ∙ e)))))
 
 -- a part of what was to be read before is told again
@@ -126,16 +127,16 @@ moved_on grown s u t cleared same empty e =
 -- blanks, and what stands behind them
 pub blanks_to_break : (q : Quote) (indent : ℕ) (start : Marker) (text grown : List ℕ) (s t u v : Cursor)
     → Moved is_blank [] grown s t → u ≡ t → is_break (slice_index t.rest 0) ≡ true → v ≡ pass_break u
-    → with_front text (inside_at q indent start (over_lines false 0) v)
-    ≡ with_front text (inside_at q indent start no_gap s)
+    → with_front text (inner_text_at q indent start (over_lines false 0) v)
+    ≡ with_front text (inner_text_at q indent start no_gap s)
 blanks_to_break q indent start text grown s t u v m same h on =
     ap (with_front text)
-    (ap (inside_at q indent start (over_lines false 0)) (on ∙ ap pass_break same)
+    (ap (inner_text_at q indent start (over_lines false 0)) (on ∙ ap pass_break same)
     ∙ sym (at_break q indent start (on_line grown) t h) ∙ blanks_moved q indent start [] grown s t m)
 
 pub blanks_to_end : (q : Quote) (indent : ℕ) (start : Marker) (text grown : List ℕ) (s t : Cursor)
     → Moved is_blank [] grown s t → slice_index t.rest 0 ≡ 0
-    → with_front text (inside_at q indent start no_gap s) ≡ refuse fault.EndInsideQuotes start
+    → with_front text (inner_text_at q indent start no_gap s) ≡ refuse fault.EndInsideQuotes start
 blanks_to_end q indent start text grown s t m h =
     ap (with_front text) (sym (blanks_moved q indent start [] grown s t m)
     ∙ at_end q indent start grown t.mark t.rest h)
@@ -147,19 +148,21 @@ content_left (c ∷ cs) h = (c, cs, refl)
 pub blanks_to_word : (q : Quote) (indent : ℕ) (start : Marker) (text grown : List ℕ) (s t u : Cursor)
     → Moved is_blank [] grown s t → u ≡ t → is_break (slice_index t.rest 0) ≡ false
     → is_z (slice_index t.rest 0) ≡ false
-    → with_front (text ++ grown) (inside_at q indent start no_gap u)
-    ≡ with_front text (inside_at q indent start no_gap s)
+    → with_front (text ++ grown) (inner_text_at q indent start no_gap u)
+    ≡ with_front text (inner_text_at q indent start no_gap s)
 blanks_to_word q indent start text grown s t u m same break z =
     let left = content_left t.rest z in
-    let is : IsContent left.0 = record {
+    let is : IsQuotedInk left.0 = record {
       blank = ap (λ (xs : List ℕ). is_blank (slice_index xs 0)) (sym left.2) ∙ moved_stops is_blank [] grown s t refl m;
       break = ap (λ (xs : List ℕ). is_break (slice_index xs 0)) (sym left.2) ∙ break;
       nul = ap (λ (xs : List ℕ). is_z (slice_index xs 0)) (sym left.2) ∙ z;
     } in
-    let word : inside_at q indent start (on_line grown) t ≡ with_front grown (inside_at q indent start no_gap t) =
-    ap (inside q indent start (on_line grown) 0 t.mark) left.2 ∙ flushed q indent start grown t.mark left.0 left.1 is
-    ∙ ap (λ xs. with_front grown (inside q indent start no_gap 0 t.mark xs)) (sym left.2) in
-    ap (λ x. with_front (text ++ grown) (inside_at q indent start no_gap x)) same
+    let word : inner_text_at q indent start (on_line grown) t ≡ with_front grown
+    (inner_text_at q indent start no_gap t) =
+    ap (inner_text q indent start (on_line grown) 0 t.mark) left.2
+    ∙ flushed q indent start grown t.mark left.0 left.1 is
+    ∙ ap (λ xs. with_front grown (inner_text q indent start no_gap 0 t.mark xs)) (sym left.2) in
+    ap (λ x. with_front (text ++ grown) (inner_text_at q indent start no_gap x)) same
     ∙ sym (front_twice text grown _) ∙ ap (with_front text) (sym word ∙ blanks_moved q indent start [] grown s t m)
 
 -- the closing quote
@@ -174,7 +177,7 @@ closing_quote Single xs h e = by_rest (slice_index xs 0) (slice_index xs 1 == 39
     by_rest c false h e = rw e refl
 
 pub at_closing : (q : Quote) (indent : ℕ) (start m : Marker) (cs : List ℕ) → IsTrue (is_closing q (flow.mark q ∷ cs))
-    → inside q indent start no_gap 0 m (flow.mark q ∷ cs) ≡ Ok ([], at (along m 1) cs)
+    → inner_text q indent start no_gap 0 m (flow.mark q ∷ cs) ≡ Ok ([], mid_line (along m 1) cs)
 unfolding is_literal special
 at_closing Double indent start m cs h = behind_no_gap Double indent start m 34 cs refl refl refl
 at_closing Single indent start m cs h =
@@ -192,18 +195,18 @@ closing_mark Single xs h =
 
 pub closing_closes : (q : Quote) (indent : ℕ) (start : Marker) (text : List ℕ) (s : Cursor)
     → IsTrue (is_closing q s.rest)
-    → with_front text (inside_at q indent start no_gap s) ≡ Ok (text, pass 1 s)
+    → with_front text (inner_text_at q indent start no_gap s) ≡ Ok (text, pass 1 s)
 closing_closes q indent start text s h =
     ap (with_front text) (closes s.mark s.rest h (closing_mark q s.rest h)) ∙ rw (append-nil text) refl
   where
     closes : (m : Marker) (xs : List ℕ) → IsTrue (is_closing q xs) → slice_index xs 0 ≡ flow.mark q
-        → inside q indent start no_gap 0 m xs ≡ Ok ([], at (along m 1) (drop 1 xs))
+        → inner_text q indent start no_gap 0 m xs ≡ Ok ([], mid_line (along m 1) (drop 1 xs))
     closes m [] h e = absurd (mark_no_nul q e)
     closes m (c ∷ cs) h e =
-        ap (λ x. inside q indent start no_gap 0 m (x ∷ cs)) e
+        ap (λ x. inner_text q indent start no_gap 0 m (x ∷ cs)) e
         ∙ at_closing q indent start m cs (subst (λ (x : ℕ). IsTrue (is_closing q (x ∷ cs))) e h)
 
 pub quote_closes : (q : Quote) (indent : ℕ) (start : Marker) (text : List ℕ) (s : Cursor) → IsTrue (ends_word q s.rest)
     → slice_index s.rest 0 ≡ flow.mark q
-    → with_front text (inside_at q indent start no_gap s) ≡ Ok (text, pass 1 s)
+    → with_front text (inner_text_at q indent start no_gap s) ≡ Ok (text, pass 1 s)
 quote_closes q indent start text s h e = closing_closes q indent start text s (closing_quote q s.rest h e)

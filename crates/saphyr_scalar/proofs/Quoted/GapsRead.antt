@@ -9,7 +9,7 @@ use Rattle.scalar_values.specs.declared.flow.Quote.{Quote}
 use Rattle.saphyr_scalar.specs.Views.Cursor.{along, next_line}
 use Rattle.scalar_values.specs.Flow as flow
 use Rattle.saphyr_scalar.specs.Passing.{character, line_break}
-use Rattle.saphyr_scalar.specs.Steps.Quoted.{at, QuotedGap, on_line, over_lines, no_gap, is_left, blank_in, break_in, break_len, inside, inside_at}
+use Rattle.saphyr_scalar.specs.Steps.Quoted.{mid_line, QuotedGap, on_line, over_lines, no_gap, is_left, blank_in, break_in, break_len, inner_text, inner_text_at}
 use Rattle.saphyr_scalar.specs.Spelling.QuotedLines.{IsLine}
 use Rattle.saphyr_scalar.specs.Spelling.Quoted as quotes
 use Rattle.saphyr_scalar.proofs.Quoted.Inside.{one_blank, at_break}
@@ -18,15 +18,15 @@ use Rattle.saphyr_scalar.proofs.Quoted.Lines.{fits_right}
 use Rattle.saphyr_scalar.proofs.Quoted.GapBytes.{blank_bytes, break_bytes}
 use Rattle.saphyr_scalar.proofs.Quoted.SpelledWords.{content_item}
 use Rattle.saphyr_input.proofs.Basics.Characters.{blank_cases, blank_no_break}
-use Rattle.saphyr_scalar.proofs.Given.{text_at}
-use Rattle.saphyr_scalar.proofs.Quoted.IndentedLines.{Indented, GapFits, at_line, behind_space, right_of, behind_tab}
+use Rattle.saphyr_scalar.proofs.Given.{text_given_at}
+use Rattle.saphyr_scalar.proofs.Quoted.IndentedLines.{Indented, GapFits, line_indented, behind_space, right_of, behind_tab}
 use Rattle.saphyr_scalar.proofs.Quoted.WordsRead.{Read, with_gap, itself_of, literal_read}
 
 line_blank : (q : Quote) (indent : ℕ) (start : Marker) (escaped : Bool) (k : ℕ) (m : Marker) (c : ℕ) (cs : List ℕ)
     → is_blank c ≡ true → ((c == 9) && is_left indent m) ≡ false
-    → inside q indent start (over_lines escaped k) 0 m (c ∷ cs)
-    ≡ inside q indent start (over_lines escaped k) 0 (along m 1) cs
-unfolding inside blank_in
+    → inner_text q indent start (over_lines escaped k) 0 m (c ∷ cs)
+    ≡ inner_text q indent start (over_lines escaped k) 0 (along m 1) cs
+unfolding inner_text blank_in
 line_blank q indent start escaped k m c cs h fits = rw (h, fits) refl
 
 -- a blank at the start of a line leaves it indented
@@ -42,19 +42,22 @@ blank_fits indent m c t h = blank_cases c h (λ x. Indented indent m (x ∷ t) �
     record { test = fits_right 9 m.col indent (omega arith); behind = behind_tab indent m t fits })
 
 -- what is read behind a blank, whatever the gap
-abbrev pub ReadsOn : Quote → ℕ → Marker → Marker → List ℕ → List Item → List ℕ → Type 0
-ReadsOn q indent start m t items x = (gap : QuotedGap) → GapFits indent gap m t → Read q indent start gap m t items x
+abbrev pub ReadsBehindBlank : Quote → ℕ → Marker → Marker → List ℕ → List Item → List ℕ → Type 0
+ReadsBehindBlank q indent start m t items x = (gap : QuotedGap) → GapFits indent gap m t
+    → Read q indent start gap m t items x
 
 blank_read : (q : Quote) (indent : ℕ) (start : Marker) (gap : QuotedGap) (m : Marker) (c : ℕ) (t : List ℕ)
     (items : List Item)
-    (x : List ℕ) → is_blank c ≡ true → GapFits indent gap m (c ∷ t) → ReadsOn q indent start (along m 1) t items x
+    (x : List ℕ) → is_blank c ≡ true → GapFits indent gap m (c ∷ t) → ReadsBehindBlank q indent start
+    (along m 1) t items x
     → Read q indent start gap m (c ∷ t) (Blank c ∷ items) x
 blank_read q indent start (on_line bytes) m c t items x h fits r =
     let b = r (on_line (bytes ++ encode_utf8 c)) tt in
     record {
       mark = b.mark;
       passed = character m c t b.mark x (blank_no_break c h) b.passed;
-      is = one_blank q indent start bytes m c t h ∙ b.is ∙ ap (λ y. text_at y b.mark x) (blank_bytes bytes c items);
+      is = one_blank q indent start bytes m c t h ∙ b.is ∙ ap (λ y. text_given_at y b.mark x)
+          (blank_bytes bytes c items);
     }
 blank_read q indent start (over_lines escaped n) m c t items x h fits r =
     let f = blank_fits indent m c t h fits in
@@ -67,7 +70,8 @@ blank_read q indent start (over_lines escaped n) m c t items x h fits r =
 
 pub itself_read : (q : Quote) (indent : ℕ) (start : Marker) (gap : QuotedGap) (m : Marker) (c : ℕ) (t : List ℕ)
     (items : List Item) (x : List ℕ) → IsTrue (quotes.stands_for_itself q c) → GapFits indent gap m (c ∷ t)
-    → ReadsOn q indent start (along m 1) t items x → Read q indent start gap m (c ∷ t) (flow.raw_item c ∷ items) x
+    → ReadsBehindBlank q indent start (along m 1) t items x
+    → Read q indent start gap m (c ∷ t) (flow.raw_item c ∷ items) x
 itself_read q indent start gap m c t items x h fits r = by_blank (is_blank c) refl
   where
     blank_item : is_blank c ≡ true → Blank c ≡ flow.raw_item c
@@ -86,20 +90,20 @@ pub broken_read : (q : Quote) (indent : ℕ) (start : Marker) (gap : QuotedGap) 
     (items : List Item)
     (x : List ℕ) → is_break (slice_index t 0) ≡ true
     → IsLine indent (drop (break_len t) t)
-    → ReadsOn q indent start (next_line m (break_len t)) (drop (break_len t) t) items x
+    → ReadsBehindBlank q indent start (next_line m (break_len t)) (drop (break_len t) t) items x
     → Read q indent start gap m t (Break ∷ items) x
 broken_read q indent start gap m t items x h line r =
-    let here = at m t in
-    let on : inside q indent start gap 0 m t
-    ≡ inside q indent start (break_in gap) 0 (next_line m (break_len t)) (drop (break_len t) t) =
-    at_break q indent start gap here h ∙ ap (inside_at q indent start (break_in gap)) (by_break_len here h) in
+    let here = mid_line m t in
+    let on : inner_text q indent start gap 0 m t
+    ≡ inner_text q indent start (break_in gap) 0 (next_line m (break_len t)) (drop (break_len t) t) =
+    at_break q indent start gap here h ∙ ap (inner_text_at q indent start (break_in gap)) (by_break_len here h) in
     let b = r (break_in gap) (fits_line gap) in
     record {
       mark = b.mark;
       passed = line_break m t b.mark x h b.passed;
-      is = on ∙ b.is ∙ ap (λ y. text_at y b.mark x) (break_bytes gap items);
+      is = on ∙ b.is ∙ ap (λ y. text_given_at y b.mark x) (break_bytes gap items);
     }
   where
     fits_line : (gap : QuotedGap) → GapFits indent (break_in gap) (next_line m (break_len t)) (drop (break_len t) t)
-    fits_line (on_line bytes) = at_line indent (next_line m (break_len t)) (drop (break_len t) t) refl line
-    fits_line (over_lines escaped n) = at_line indent (next_line m (break_len t)) (drop (break_len t) t) refl line
+    fits_line (on_line bytes) = line_indented indent (next_line m (break_len t)) (drop (break_len t) t) refl line
+    fits_line (over_lines escaped n) = line_indented indent (next_line m (break_len t)) (drop (break_len t) t) refl line

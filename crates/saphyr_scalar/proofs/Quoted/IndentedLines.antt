@@ -17,8 +17,8 @@ abbrev pub GapFits : ℕ → QuotedGap → Marker → List ℕ → Type 0
 GapFits indent (on_line bytes) m t = Unit {0}
 GapFits indent (over_lines escaped n) m t = Indented indent m t
 
-pub at_line : (indent : ℕ) (m : Marker) (t : List ℕ) → m.col ≡ 0 → IsLine indent t → Indented indent m t
-at_line indent m t zero_col h =
+pub line_indented : (indent : ℕ) (m : Marker) (t : List ℕ) → m.col ≡ 0 → IsLine indent t → Indented indent m t
+line_indented indent m t zero_col h =
     record {
       marker = λ _. h.no_marker;
       far =

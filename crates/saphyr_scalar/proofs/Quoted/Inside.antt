@@ -16,7 +16,7 @@ use Rattle.saphyr_scalar.specs.Views.Reader.{ReadsOn, Fails}
 use Rattle.saphyr_scalar.specs.Views.Cursor.{Cursor, ◌>>=◌, refuse, along, pass_break, next_line}
 use Rattle.scalar_values.specs.Flow as flow
 use Rattle.saphyr_scalar.proofs.Moving.{along_none, along_more}
-use Rattle.saphyr_scalar.specs.Steps.Quoted.{TextRead, is_literal, with_front, at, special, special_len, QuotedGap, on_line, no_gap, blank_in, break_in, end_gap, escaped_gap, break_len, if_some, inside, inside_at, with_run}
+use Rattle.saphyr_scalar.specs.Steps.Quoted.{TextRead, is_literal, with_front, mid_line, special, special_len, QuotedGap, on_line, no_gap, blank_in, break_in, end_gap, escaped_gap, break_len, if_some, inner_text, inner_text_at, with_run}
 use Rattle.saphyr_input.proofs.Basics.Lists.{run_ends}
 use Rattle.saphyr_input.proofs.Basics.Booleans.{neither_parts, by_test, either}
 use Rattle.std.proofs.lemmas.Bool.{or_parts}
@@ -31,8 +31,8 @@ no_front (Err e) = refl
 
 -- what is taken off already is passed over
 pub passed_over : (q : Quote) (indent : ℕ) (start : Marker) (gap : QuotedGap) (k : ℕ) (m : Marker) (xs : List ℕ)
-    → inside q indent start gap k m xs ≡ inside q indent start gap 0 m (drop k xs)
-unfolding inside
+    → inner_text q indent start gap k m xs ≡ inner_text q indent start gap 0 m (drop k xs)
+unfolding inner_text
 passed_over q indent start gap zero m xs = refl
 passed_over q indent start gap (suc k) m [] = refl
 passed_over q indent start gap (suc k) m (c ∷ cs) = passed_over q indent start gap k m cs
@@ -40,79 +40,79 @@ passed_over q indent start gap (suc k) m (c ∷ cs) = passed_over q indent start
 -- a word or the closing quote, from its first character on
 abbrev pub word_from : Quote → ℕ → Marker → Marker → ℕ → List ℕ → TextRead
 word_from q indent start m c cs =
-    cond (is_literal q c) (with_front (encode_utf8 c) (inside q indent start no_gap 0 (along m 1) cs))
-    (special q start (at m (c ∷ cs)) >>= λ x. if_some x.0
-    (λ d. with_front (encode_utf8 d) (inside q indent start no_gap (special_len q (slice_index cs 0)) x.1.mark cs))
-    (cond (c == flow.mark q) (Ok ([], at (along m 1) cs))
-    (inside q indent start (escaped_gap q (slice_index (drop (break_len cs) cs) 0)) (break_len cs)
+    cond (is_literal q c) (with_front (encode_utf8 c) (inner_text q indent start no_gap 0 (along m 1) cs))
+    (special q start (mid_line m (c ∷ cs)) >>= λ x. if_some x.0
+    (λ d. with_front (encode_utf8 d) (inner_text q indent start no_gap (special_len q (slice_index cs 0)) x.1.mark cs))
+    (cond (c == flow.mark q) (Ok ([], mid_line (along m 1) cs))
+    (inner_text q indent start (escaped_gap q (slice_index (drop (break_len cs) cs) 0)) (break_len cs)
     (next_line (along m 1) (break_len cs)) cs)))
 
-pub behind_gap : (q : Quote) (indent : ℕ) (start : Marker) (gap : QuotedGap) (m : Marker) (c : ℕ) (cs : List ℕ)
+pub quoted_behind_gap : (q : Quote) (indent : ℕ) (start : Marker) (gap : QuotedGap) (m : Marker) (c : ℕ) (cs : List ℕ)
     → is_blank c ≡ false → is_break c ≡ false
-    → inside q indent start gap 0 m (c ∷ cs)
-    ≡ (end_gap indent start gap (at m (c ∷ cs)) >>= λ text. with_front text (word_from q indent start m c cs))
-unfolding inside
-behind_gap q indent start gap m c cs blank break = rw (blank, break) refl
+    → inner_text q indent start gap 0 m (c ∷ cs)
+    ≡ (end_gap indent start gap (mid_line m (c ∷ cs)) >>= λ text. with_front text (word_from q indent start m c cs))
+unfolding inner_text
+quoted_behind_gap q indent start gap m c cs blank break = rw (blank, break) refl
 
 pub behind_no_gap : (q : Quote) (indent : ℕ) (start m : Marker) (c : ℕ) (cs : List ℕ) → is_blank c ≡ false
     → is_break c ≡ false → is_z c ≡ false
-    → inside q indent start no_gap 0 m (c ∷ cs) ≡ word_from q indent start m c cs
+    → inner_text q indent start no_gap 0 m (c ∷ cs) ≡ word_from q indent start m c cs
 unfolding end_gap
 behind_no_gap q indent start m c cs blank break z =
-    behind_gap q indent start no_gap m c cs blank break ∙ rw z (no_front (word_from q indent start m c cs))
+    quoted_behind_gap q indent start no_gap m c cs blank break ∙ rw z (no_front (word_from q indent start m c cs))
 
 -- a character that is no blank, break or NUL
-pub record IsContent (c : ℕ) : Type 0 where
+pub record IsQuotedInk (c : ℕ) : Type 0 where
   pub blank : is_blank c ≡ false
   pub break : is_break c ≡ false
   pub nul : is_z c ≡ false
 
-pub content_of : (c : ℕ) → is_blank_or_breakz c ≡ false → IsContent c
+pub content_of : (c : ℕ) → is_blank_or_breakz c ≡ false → IsQuotedInk c
 content_of c h =
     let one = or_parts (is_blank c) (is_break c || is_z c) h in
     let two = or_parts (is_break c) (is_z c) one.1 in
     record { blank = one.0; break = two.0; nul = two.1 }
 
-literal_content : (q : Quote) (c : ℕ) → is_literal q c ≡ true → IsContent c
+literal_content : (q : Quote) (c : ℕ) → is_literal q c ≡ true → IsQuotedInk c
 unfolding is_literal
 literal_content q c h = content_of c (neither_parts (is_blank_or_breakz c) (flow.is_special q c) h).0
 
 -- what stands for itself is read
 pub stands : (q : Quote) (indent : ℕ) (start m : Marker) (c : ℕ) (cs : List ℕ) → is_literal q c ≡ true
-    → inside q indent start no_gap 0 m (c ∷ cs)
-    ≡ with_front (encode_utf8 c) (inside q indent start no_gap 0 (along m 1) cs)
+    → inner_text q indent start no_gap 0 m (c ∷ cs)
+    ≡ with_front (encode_utf8 c) (inner_text q indent start no_gap 0 (along m 1) cs)
 stands q indent start m c cs h =
     let is = literal_content q c h in
     behind_no_gap q indent start m c cs is.blank is.break is.nul ∙ rw h refl
 
 -- what was read of a word, and what is read behind it
-abbrev pub Piece : Quote → ℕ → Marker → Marker → List ℕ → ℕ → Type 0
-Piece q indent start m xs n =
-    inside q indent start no_gap 0 m xs
-    ≡ with_front (encode_utf8_all (take n xs)) (inside q indent start no_gap 0 (along m n) (drop n xs))
+abbrev pub WordPiece : Quote → ℕ → Marker → Marker → List ℕ → ℕ → Type 0
+WordPiece q indent start m xs n =
+    inner_text q indent start no_gap 0 m xs
+    ≡ with_front (encode_utf8_all (take n xs)) (inner_text q indent start no_gap 0 (along m n) (drop n xs))
 
-pub no_piece : (q : Quote) (indent : ℕ) (start m : Marker) (xs : List ℕ) → Piece q indent start m xs 0
+pub no_piece : (q : Quote) (indent : ℕ) (start m : Marker) (xs : List ℕ) → WordPiece q indent start m xs 0
 no_piece q indent start m xs =
-    sym (no_front _) ∙ ap (λ x. with_front [] (inside q indent start no_gap 0 x xs)) (sym (along_none m))
+    sym (no_front _) ∙ ap (λ x. with_front [] (inner_text q indent start no_gap 0 x xs)) (sym (along_none m))
 
 -- blanks on a line
 abbrev pub Blanks : Quote → ℕ → Marker → List ℕ → Marker → List ℕ → ℕ → Type 0
 Blanks q indent start bytes m xs n =
-    inside q indent start (on_line bytes) 0 m xs
-    ≡ inside q indent start (on_line (bytes ++ encode_utf8_all (take n xs))) 0 (along m n) (drop n xs)
+    inner_text q indent start (on_line bytes) 0 m xs
+    ≡ inner_text q indent start (on_line (bytes ++ encode_utf8_all (take n xs))) 0 (along m n) (drop n xs)
 
 pub one_blank : (q : Quote) (indent : ℕ) (start : Marker) (bytes : List ℕ) (m : Marker) (c : ℕ) (cs : List ℕ)
     → is_blank c ≡ true
-    → inside q indent start (on_line bytes) 0 m (c ∷ cs)
-    ≡ inside q indent start (on_line (bytes ++ encode_utf8 c)) 0 (along m 1) cs
-unfolding inside blank_in
+    → inner_text q indent start (on_line bytes) 0 m (c ∷ cs)
+    ≡ inner_text q indent start (on_line (bytes ++ encode_utf8 c)) 0 (along m 1) cs
+unfolding inner_text blank_in
 one_blank q indent start bytes m c cs h = rw h refl
 
 no_blanks : (q : Quote) (indent : ℕ) (start : Marker) (bytes : List ℕ) (m : Marker) (xs : List ℕ)
     → Blanks q indent start bytes m xs 0
 no_blanks q indent start bytes m xs =
-    ap (λ b. inside q indent start (on_line b) 0 m xs) (sym (append-nil bytes))
-    ∙ ap (λ x. inside q indent start (on_line (bytes ++ [])) 0 x xs) (sym (along_none m))
+    ap (λ b. inner_text q indent start (on_line b) 0 m xs) (sym (append-nil bytes))
+    ∙ ap (λ x. inner_text q indent start (on_line (bytes ++ [])) 0 x xs) (sym (along_none m))
 
 pub run_blanks : (q : Quote) (indent : ℕ) (start : Marker) (bytes : List ℕ) (m : Marker) (xs : List ℕ)
     → Blanks q indent start bytes m xs (prefix_len is_blank xs)
@@ -123,26 +123,27 @@ run_blanks q indent start bytes m (c ∷ cs) =
     by_test (is_blank c) (1 + n) 0 (Blanks q indent start bytes m (c ∷ cs))
     (λ h. rw one
     (one_blank q indent start bytes m c cs h ∙ run_blanks q indent start (bytes ++ encode_utf8 c) (along m 1) cs
-    ∙ ap (λ b. inside q indent start (on_line b) 0 (along (along m 1) n) (drop n cs))
+    ∙ ap (λ b. inner_text q indent start (on_line b) 0 (along (along m 1) n) (drop n cs))
     (append_assoc bytes (encode_utf8 c) (encode_utf8_all (take n cs)))
-    ∙ ap (λ x. inside q indent start (on_line (bytes ++ (encode_utf8 c ++ encode_utf8_all (take n cs)))) 0 x
+    ∙ ap (λ x. inner_text q indent start (on_line (bytes ++ (encode_utf8 c ++ encode_utf8_all (take n cs)))) 0 x
     (drop n cs)) (along_more m 1 n (suc n) (omega arith))))
     (λ h. no_blanks q indent start bytes m (c ∷ cs))
 
 -- NUL, or the end
 pub at_end : (q : Quote) (indent : ℕ) (start : Marker) (bytes : List ℕ) (m : Marker) (xs : List ℕ)
-    → slice_index xs 0 ≡ 0 → inside q indent start (on_line bytes) 0 m xs ≡ refuse fault.EndInsideQuotes start
-unfolding inside end_gap
+    → slice_index xs 0 ≡ 0 → inner_text q indent start (on_line bytes) 0 m xs ≡ refuse fault.EndInsideQuotes start
+unfolding inner_text end_gap
 at_end q indent start bytes m [] h = refl
 at_end q indent start bytes m (c ∷ cs) h = rw h refl
 
 -- a word behind blanks
 pub flushed : (q : Quote) (indent : ℕ) (start : Marker) (bytes : List ℕ) (m : Marker) (c : ℕ) (cs : List ℕ)
-    → IsContent c
-    → inside q indent start (on_line bytes) 0 m (c ∷ cs) ≡ with_front bytes (inside q indent start no_gap 0 m (c ∷ cs))
+    → IsQuotedInk c
+    → inner_text q indent start (on_line bytes) 0 m (c ∷ cs) ≡ with_front bytes (inner_text q indent start no_gap 0 m
+    (c ∷ cs))
 unfolding end_gap
 flushed q indent start bytes m c cs is =
-    behind_gap q indent start (on_line bytes) m c cs is.blank is.break ∙ rw is.nul refl
+    quoted_behind_gap q indent start (on_line bytes) m c cs is.blank is.break ∙ rw is.nul refl
     ∙ ap (with_front bytes) (sym (behind_no_gap q indent start m c cs is.blank is.break is.nul))
 
 pub break_cases : (c : ℕ) → is_break c ≡ true → (P : ℕ → Type 0) → P 10 → P 13 → P c
@@ -153,32 +154,32 @@ break_cases c h P lf cr = either (nat_eq c 10) (nat_eq c 13) (P c) h
 -- a line break
 pub at_break : (q : Quote) (indent : ℕ) (start : Marker) (gap : QuotedGap) (s : Cursor)
     → is_break (slice_index s.rest 0) ≡ true
-    → inside_at q indent start gap s ≡ inside_at q indent start (break_in gap) (pass_break s)
-unfolding inside
+    → inner_text_at q indent start gap s ≡ inner_text_at q indent start (break_in gap) (pass_break s)
+unfolding inner_text
 at_break q indent start gap s h = passes s.mark s.rest h
   where
     by_len : (b : Bool) (m : Marker) (c : ℕ) (cs : List ℕ)
-        → inside q indent start (break_in gap) (pred (cond b 2 1)) (next_line m (cond b 2 1)) cs
-        ≡ inside q indent start (break_in gap) 0 (next_line m (cond b 2 1)) (drop (cond b 2 1) (c ∷ cs))
+        → inner_text q indent start (break_in gap) (pred (cond b 2 1)) (next_line m (cond b 2 1)) cs
+        ≡ inner_text q indent start (break_in gap) 0 (next_line m (cond b 2 1)) (drop (cond b 2 1) (c ∷ cs))
     by_len true m c cs = passed_over q indent start (break_in gap) 1 (next_line m 2) cs
     by_len false m c cs = refl
 
     of_len : (b : Bool) (m : Marker) (c : ℕ) (cs : List ℕ) (u : Bool)
-        → inside q indent start (break_in gap) 0 (next_line m (cond b 2 1)) (drop (cond b 2 1) (c ∷ cs))
-        ≡ inside_at q indent start (break_in gap)
+        → inner_text q indent start (break_in gap) 0 (next_line m (cond b 2 1)) (drop (cond b 2 1) (c ∷ cs))
+        ≡ inner_text_at q indent start (break_in gap)
         (cond b (record { rest = drop 2 (c ∷ cs); mark = next_line m 2; blank_so_far = true })
         (record { rest = drop 1 (c ∷ cs); mark = next_line m 1; blank_so_far = true }))
     of_len true m c cs u = refl
     of_len false m c cs u = refl
 
     passes : (m : Marker) (xs : List ℕ) → is_break (slice_index xs 0) ≡ true
-        → inside q indent start gap 0 m xs
-        ≡ inside_at q indent start (break_in gap)
+        → inner_text q indent start gap 0 m xs
+        ≡ inner_text_at q indent start (break_in gap)
         (pass_break (record { rest = xs; mark = m; blank_so_far = s.blank_so_far }))
     passes m [] h = absurd (cc)
     passes m (c ∷ cs) h = break_cases c h
-        (λ x. inside q indent start gap 0 m (x ∷ cs)
-        ≡ inside_at q indent start (break_in gap)
+        (λ x. inner_text q indent start gap 0 m (x ∷ cs)
+        ≡ inner_text_at q indent start (break_in gap)
         (pass_break (record { rest = x ∷ cs; mark = m; blank_so_far = s.blank_so_far }))) refl
         (by_len (slice_index cs 0 == 10) m 13 cs ∙ of_len (slice_index cs 0 == 10) m 13 cs true)
 

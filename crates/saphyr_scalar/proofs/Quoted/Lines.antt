@@ -11,8 +11,8 @@ use Rattle.saphyr_scalar.specs.declared.scalar.fault.FaultText.TheVariants as fa
 use Rattle.scalar_values.specs.declared.flow.Quote.{Quote}
 use Rattle.saphyr_scalar.specs.Views.Cursor.{Cursor, ◌>>=◌, refuse, along, pass_blanks, pass_break}
 use Rattle.scalar_values.specs.Folding.{line_feeds}
-use Rattle.saphyr_scalar.proofs.Quoted.Inside.{front_twice, behind_gap, behind_no_gap, word_from, at_break}
-use Rattle.saphyr_scalar.specs.Steps.Quoted.{TextRead, with_front, at, over_lines, no_gap, is_left, blank_in, folded_break, begin_word, end_gap, inside, inside_at}
+use Rattle.saphyr_scalar.proofs.Quoted.Inside.{front_twice, quoted_behind_gap, behind_no_gap, word_from, at_break}
+use Rattle.saphyr_scalar.specs.Steps.Quoted.{TextRead, with_front, mid_line, over_lines, no_gap, is_left, blank_in, folded_break, quoted_line, end_gap, inner_text, inner_text_at}
 use Rattle.saphyr_input.proofs.Basics.Booleans.{and_false}
 use Rattle.std.proofs.lemmas.Bool.{lt-ltb}
 use Rattle.saphyr_scalar.proofs.PassedBreaks.{break_shorter}
@@ -30,37 +30,37 @@ one_more_feed n = ap (λ k. encode_utf8_all (line_feeds k)) (add-one n) ∙ agai
 pub line_blank : (q : Quote) (indent : ℕ) (start : Marker) (escaped : Bool) (n : ℕ) (s : Cursor)
     → is_blank (slice_index s.rest 0) ≡ true
     → ((slice_index s.rest 0 == 9) && is_left indent s.mark) ≡ false
-    → inside_at q indent start (over_lines escaped n) (pass_blanks 1 s)
-    ≡ inside_at q indent start (over_lines escaped n) s
-unfolding inside blank_in
+    → inner_text_at q indent start (over_lines escaped n) (pass_blanks 1 s)
+    ≡ inner_text_at q indent start (over_lines escaped n) s
+unfolding inner_text blank_in
 line_blank q indent start escaped n s h fits = passes s.mark s.rest h fits
   where
     passes : (m : Marker) (xs : List ℕ) → is_blank (slice_index xs 0) ≡ true
         → ((slice_index xs 0 == 9) && is_left indent m) ≡ false
-        → inside q indent start (over_lines escaped n) 0 (along m 1) (drop 1 xs)
-        ≡ inside q indent start (over_lines escaped n) 0 m xs
+        → inner_text q indent start (over_lines escaped n) 0 (along m 1) (drop 1 xs)
+        ≡ inner_text q indent start (over_lines escaped n) 0 m xs
     passes m [] h fits = absurd (cc)
     passes m (c ∷ cs) h fits = rw (h, fits) refl
 
 -- a tab left of the indentation
 line_tab : (q : Quote) (indent : ℕ) (start : Marker) (escaped : Bool) (n : ℕ) (s : Cursor) → slice_index s.rest 0 ≡ 9
     → is_left indent s.mark ≡ true
-    → inside_at q indent start (over_lines escaped n) s ≡ refuse fault.TabAsIndentation s.mark
-unfolding inside blank_in
+    → inner_text_at q indent start (over_lines escaped n) s ≡ refuse fault.TabAsIndentation s.mark
+unfolding inner_text blank_in
 line_tab q indent start escaped n s h left = refuses s.mark s.rest h left
   where
     refuses : (m : Marker) (xs : List ℕ) → slice_index xs 0 ≡ 9 → is_left indent m ≡ true
-        → inside q indent start (over_lines escaped n) 0 m xs ≡ refuse fault.TabAsIndentation m
+        → inner_text q indent start (over_lines escaped n) 0 m xs ≡ refuse fault.TabAsIndentation m
     refuses m [] h left = absurd (cc)
     refuses m (c ∷ cs) h left = rw (h, left) refl
 
 -- a break behind another
 pub line_break : (q : Quote) (indent : ℕ) (start : Marker) (escaped : Bool) (n : ℕ) (s : Cursor)
     → is_break (slice_index s.rest 0) ≡ true
-    → inside_at q indent start (over_lines escaped (n + 1)) (pass_break s)
-    ≡ inside_at q indent start (over_lines escaped n) s
+    → inner_text_at q indent start (over_lines escaped (n + 1)) (pass_break s)
+    ≡ inner_text_at q indent start (over_lines escaped n) s
 line_break q indent start escaped n s h =
-    ap (λ k. inside_at q indent start (over_lines escaped k) (pass_break s)) (add-one n)
+    ap (λ k. inner_text_at q indent start (over_lines escaped k) (pass_break s)) (add-one n)
     ∙ sym (at_break q indent start (over_lines escaped n) s h)
 
 pub fits_right : (x col indent : ℕ) → indent ≤ col → ((x == 9) && nat_lt col indent) ≡ false
@@ -73,9 +73,10 @@ fits_no_tab x col indent h = let other : (x == 9) ≡ false = grind (arith, nat_
 -- the same steps, where the place is told again
 pub break_on : (q : Quote) (indent : ℕ) (start : Marker) (escaped : Bool) (n : ℕ) (s u t : Cursor)
     → is_break (slice_index s.rest 0) ≡ true → u ≡ s → t ≡ pass_break u
-    → inside_at q indent start (over_lines escaped (n + 1)) t ≡ inside_at q indent start (over_lines escaped n) s
+    → inner_text_at q indent start (over_lines escaped (n + 1)) t ≡ inner_text_at q indent start
+    (over_lines escaped n) s
 break_on q indent start escaped n s u t h same on =
-    ap (inside_at q indent start (over_lines escaped (n + 1))) (on ∙ ap pass_break same)
+    ap (inner_text_at q indent start (over_lines escaped (n + 1))) (on ∙ ap pass_break same)
     ∙ line_break q indent start escaped n s h
 
 pub break_on_shorter : (s u t : Cursor) → is_break (slice_index s.rest 0) ≡ true → u ≡ s → t ≡ pass_break u
@@ -86,30 +87,30 @@ break_on_shorter s u t h same on =
 pub blank_on : (q : Quote) (indent : ℕ) (start : Marker) (escaped : Bool) (n : ℕ) (s u t : Cursor)
     → is_blank (slice_index s.rest 0) ≡ true
     → ((slice_index s.rest 0 == 9) && is_left indent s.mark) ≡ false → u ≡ s → t ≡ pass_blanks 1 u
-    → inside_at q indent start (over_lines escaped n) t ≡ inside_at q indent start (over_lines escaped n) s
+    → inner_text_at q indent start (over_lines escaped n) t ≡ inner_text_at q indent start (over_lines escaped n) s
 blank_on q indent start escaped n s u t h fits same on =
-    ap (inside_at q indent start (over_lines escaped n)) (on ∙ ap (pass_blanks 1) same)
+    ap (inner_text_at q indent start (over_lines escaped n)) (on ∙ ap (pass_blanks 1) same)
     ∙ line_blank q indent start escaped n s h fits
 
 pub tab_on : (q : Quote) (indent : ℕ) (start : Marker) (escaped : Bool) (n : ℕ) (s u : Cursor)
     → slice_index s.rest 0 ≡ 9 → u ≡ s → u.mark.col < indent
-    → inside_at q indent start (over_lines escaped n) s ≡ refuse fault.TabAsIndentation u.mark
+    → inner_text_at q indent start (over_lines escaped n) s ≡ refuse fault.TabAsIndentation u.mark
 tab_on q indent start escaped n s u tab same left =
-    subst (λ (x : Cursor). inside_at q indent start (over_lines escaped n) s ≡ refuse fault.TabAsIndentation x.mark)
+    subst (λ (x : Cursor). inner_text_at q indent start (over_lines escaped n) s ≡ refuse fault.TabAsIndentation x.mark)
     (sym same)
     (line_tab q indent start escaped n s tab
     (lt-ltb s.mark.col indent (subst (λ (x : Cursor). x.mark.col < indent) same left)))
 
 -- What begins a word on a later line.
 
--- what is read where `begin_word` gives this
+-- what is read where `quoted_line` gives this
 abbrev Begins : Quote → ℕ → Marker → Bool → ℕ → Cursor → Result Cursor Refusal → Type 0
 Begins q indent start escaped n s (Ok t) =
-    (t ≡ s) × (with_front (encode_utf8_all (folded_break escaped n)) (inside_at q indent start no_gap s)
-    ≡ inside_at q indent start (over_lines escaped n) s)
-Begins q indent start escaped n s (Err r) = inside_at q indent start (over_lines escaped n) s ≡ Err r
+    (t ≡ s) × (with_front (encode_utf8_all (folded_break escaped n)) (inner_text_at q indent start no_gap s)
+    ≡ inner_text_at q indent start (over_lines escaped n) s)
+Begins q indent start escaped n s (Err r) = inner_text_at q indent start (over_lines escaped n) s ≡ Err r
 
--- the tests of `begin_word`, in their order
+-- the tests of `quoted_line`, in their order
 abbrev tests : Marker → Bool → Bool → Bool → Cursor → Result Cursor Refusal
 tests start marker nul left s =
     cond marker (refuse fault.DocumentIndicatorInsideQuotes start)
@@ -117,10 +118,10 @@ tests start marker nul left s =
 
 begins_by : (q : Quote) (indent : ℕ) (start : Marker) (escaped : Bool) (n : ℕ) (s t : Cursor) (word : TextRead)
     (marker nul left : Bool)
-    → inside_at q indent start (over_lines escaped n) s
+    → inner_text_at q indent start (over_lines escaped n) s
     ≡ ((tests start marker nul left t >>= λ u. Ok (encode_utf8_all (folded_break escaped n))) >>= λ text. with_front
     text word)
-    → (nul ≡ false → inside_at q indent start no_gap s ≡ word)
+    → (nul ≡ false → inner_text_at q indent start no_gap s ≡ word)
     → Begins q indent start escaped n s (tests start marker nul left s)
 begins_by q indent start escaped n s t word true nul left h w = h
 begins_by q indent start escaped n s t word false true left h w = h
@@ -131,29 +132,29 @@ begins_by q indent start escaped n s t word false false false h w =
 begins_end : (q : Quote) (indent : ℕ) (start m : Marker) (escaped : Bool) (n : ℕ) (b first left : Bool)
     → Begins q indent start escaped n (record { rest = []; mark = m; blank_so_far = b })
     (tests start (first && false) true left (record { rest = []; mark = m; blank_so_far = b }))
-unfolding inside
+unfolding inner_text
 begins_end q indent start m escaped n b true left = refl
 begins_end q indent start m escaped n b false left = refl
 
 behind_lines : (q : Quote) (indent : ℕ) (start m : Marker) (escaped : Bool) (n c : ℕ) (cs : List ℕ) → is_blank c ≡ false
     → is_break c ≡ false
-    → inside q indent start (over_lines escaped n) 0 m (c ∷ cs)
-    ≡ ((tests start ((m.col == 0) && is_document_indicator (c ∷ cs)) (is_z c) (is_left indent m) (at m (c ∷ cs))
+    → inner_text q indent start (over_lines escaped n) 0 m (c ∷ cs)
+    ≡ ((tests start ((m.col == 0) && is_document_indicator (c ∷ cs)) (is_z c) (is_left indent m) (mid_line m (c ∷ cs))
     >>= λ u. Ok (encode_utf8_all (folded_break escaped n))) >>= λ text. with_front text
     (word_from q indent start m c cs))
-unfolding end_gap begin_word
+unfolding end_gap quoted_line
 behind_lines q indent start m escaped n c cs blank break =
-    behind_gap q indent start (over_lines escaped n) m c cs blank break
+    quoted_behind_gap q indent start (over_lines escaped n) m c cs blank break
 
 begins_at : (q : Quote) (indent : ℕ) (start m : Marker) (escaped : Bool) (n : ℕ) (b : Bool) (xs : List ℕ)
     → is_blank (slice_index xs 0) ≡ false → is_break (slice_index xs 0) ≡ false
     → Begins q indent start escaped n (record { rest = xs; mark = m; blank_so_far = b })
-    (begin_word indent start (record { rest = xs; mark = m; blank_so_far = b }))
-unfolding begin_word
+    (quoted_line indent start (record { rest = xs; mark = m; blank_so_far = b }))
+unfolding quoted_line
 begins_at q indent start m escaped n b [] blank break =
     begins_end q indent start m escaped n b (m.col == 0) (is_left indent m)
 begins_at q indent start m escaped n b (c ∷ cs) blank break =
-    begins_by q indent start escaped n (record { rest = c ∷ cs; mark = m; blank_so_far = b }) (at m (c ∷ cs))
+    begins_by q indent start escaped n (record { rest = c ∷ cs; mark = m; blank_so_far = b }) (mid_line m (c ∷ cs))
     (word_from q indent start m c cs)
     ((m.col == 0) && is_document_indicator (c ∷ cs)) (is_z c) (is_left indent m)
     (behind_lines q indent start m escaped n c cs blank break)
@@ -161,28 +162,29 @@ begins_at q indent start m escaped n b (c ∷ cs) blank break =
 
 begins_with_ink : (q : Quote) (indent : ℕ) (start : Marker) (escaped : Bool) (n : ℕ) (s : Cursor)
     → is_blank (slice_index s.rest 0) ≡ false → is_break (slice_index s.rest 0) ≡ false
-    → Begins q indent start escaped n s (begin_word indent start s)
+    → Begins q indent start escaped n s (quoted_line indent start s)
 begins_with_ink q indent start escaped n s blank break =
     begins_at q indent start s.mark escaped n s.blank_so_far s.rest blank break
 
 -- a word that may stand on a later line
 pub begins_word : (q : Quote) (indent : ℕ) (start : Marker) (escaped : Bool) (n : ℕ) (text : List ℕ) (s t : Cursor)
     → is_blank (slice_index s.rest 0) ≡ false → is_break (slice_index s.rest 0) ≡ false
-    → begin_word indent start s ≡ Ok t
-    → (t ≡ s) × (with_front (text ++ encode_utf8_all (folded_break escaped n)) (inside_at q indent start no_gap t)
-    ≡ with_front text (inside_at q indent start (over_lines escaped n) s))
+    → quoted_line indent start s ≡ Ok t
+    → (t ≡ s) × (with_front (text ++ encode_utf8_all (folded_break escaped n)) (inner_text_at q indent start no_gap t)
+    ≡ with_front text (inner_text_at q indent start (over_lines escaped n) s))
 begins_word q indent start escaped n text s t blank break e =
     let r = subst (Begins q indent start escaped n s) e (begins_with_ink q indent start escaped n s blank break) in (
       r.0,
-      ap (λ u. with_front (text ++ encode_utf8_all (folded_break escaped n)) (inside_at q indent start no_gap u)) r.0
+      ap (λ u. with_front (text ++ encode_utf8_all (folded_break escaped n))
+          (inner_text_at q indent start no_gap u)) r.0
           ∙ sym (front_twice text _ _) ∙ ap (with_front text) r.1,
     )
 
 -- one that may not
 pub begins_refused : (q : Quote) (indent : ℕ) (start : Marker) (escaped : Bool) (n : ℕ) (text : List ℕ) (s : Cursor)
     (refusal : Refusal) → is_blank (slice_index s.rest 0) ≡ false → is_break (slice_index s.rest 0) ≡ false
-    → begin_word indent start s ≡ Err refusal
-    → with_front text (inside_at q indent start (over_lines escaped n) s) ≡ Err refusal
+    → quoted_line indent start s ≡ Err refusal
+    → with_front text (inner_text_at q indent start (over_lines escaped n) s) ≡ Err refusal
 begins_refused q indent start escaped n text s refusal blank break e =
     ap (with_front text) (subst (Begins q indent start escaped n s) e (begins_with_ink q indent start escaped n s blank
     break))

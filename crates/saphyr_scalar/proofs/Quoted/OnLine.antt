@@ -10,7 +10,7 @@ use Rattle.saphyr_scalar.specs.Views.Cursor.{Cursor, along}
 use Rattle.scalar_values.specs.Flow as flow
 use Rattle.scalar_values.specs.Folding.{folded}
 use Rattle.saphyr_scalar.specs.Passing.{IsPassed, nothing, character}
-use Rattle.saphyr_scalar.specs.Steps.Quoted.{hex_digit_count, at, quoted}
+use Rattle.saphyr_scalar.specs.Steps.Quoted.{mid_line, quoted}
 use Rattle.saphyr_scalar.specs.Spelling.QuotedLines.{AreOnLine}
 use Rattle.saphyr_scalar.specs.Spelling.Quoted as quotes
 use Rattle.saphyr_scalar.proofs.Moving.{along_more}
@@ -18,7 +18,7 @@ use Rattle.saphyr_scalar.proofs.Passings.{digits_passed, one_place}
 use Rattle.saphyr_scalar.proofs.Quoted.Reads.{quoted_read, line_fits, on_line_behind}
 use Rattle.saphyr_scalar.proofs.Quoted.Spellings.{no_break_simple, no_break_digits}
 use Rattle.saphyr_scalar.proofs.NoBreaks.{mark_no_break}
-use Rattle.saphyr_scalar.proofs.Given.{text_at}
+use Rattle.saphyr_scalar.proofs.Given.{text_given_at}
 
 -- so many characters of a line are passed
 record OnLine (t x : List ℕ) : Type 0 where
@@ -60,8 +60,7 @@ text_on_line _ _ _ _ (quotes.escaped e c t items x h r) on =
     (character_on_line e t x (no_break_simple e c h) (text_on_line Double t items x r on))
 text_on_line _ _ _ _ (quotes.numbered e c ds t items x h r) on =
     let b = text_on_line Double t items x r on in
-    let some : hex_digit_count e ≡ 0 → ⊥ = λ z. absurd (omega (arith, h.count, h.some)) in
-    character_on_line 92 (e ∷ (ds ++ t)) x refl (character_on_line e (ds ++ t) x (no_break_digits e some)
+    character_on_line 92 (e ∷ (ds ++ t)) x refl (character_on_line e (ds ++ t) x (no_break_digits e (length ds) h.count)
     (record {
       count = length ds + b.count;
       total = length-append ds t ∙ omega (arith, b.total);
@@ -75,7 +74,7 @@ text_on_line _ _ _ _ (quotes.escaped_break t items x h r) on = absurd on
 pub quoted_on_line : (q : Quote) (indent : ℕ) (s : Cursor) (items : List Item) (x : List ℕ)
     → quotes.IsQuotedText q s.rest items x → AreOnLine items
     → (n : ℕ) × (length s.rest ≡ n + length x)
-    × (quoted q indent s ≡ Ok (encode_utf8_all (folded items), at (along s.mark n) x))
+    × (quoted q indent s ≡ Ok (encode_utf8_all (folded items), mid_line (along s.mark n) x))
 quoted_on_line q indent s items x is on =
     let (inside_text, cut, text) = is in
     let line = text_on_line q inside_text items x text on in
@@ -91,5 +90,5 @@ quoted_on_line q indent s items x is on =
       n,
       ap (λ (t : List ℕ). length t) cut ∙ omega (arith, line.total),
       read
-          ∙ ap (λ k. text_at (encode_utf8_all (folded items)) k x) place,
+          ∙ ap (λ k. text_given_at (encode_utf8_all (folded items)) k x) place,
     )

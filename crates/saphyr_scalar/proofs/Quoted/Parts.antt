@@ -3,6 +3,7 @@ use Rattle.std.proofs.Common.{◌≡◌, ℕ, suc, ◌+◌, ◌<◌, Bool, true,
 use Rattle.std.specs.Prelude.{◌||◌, ◌&&◌, ◌==◌, not, encode_utf8, Option, Some, None}
 use Rattle.saphyr_input.specs.Classes.{is_blank, is_break, is_blank_or_breakz}
 use Rattle.saphyr_input.specs.Places.{next_2_are}
+use Rattle.scalar_values.specs.Escapes.{digit_count, short_escape}
 use Rattle.saphyr_scalar.specs.declared.scalar.position.Marker.{Marker}
 use Rattle.saphyr_scalar.specs.declared.scalar.fault.Refusal.{Refusal}
 use Rattle.scalar_values.specs.declared.flow.Quote.{Quote}
@@ -11,7 +12,7 @@ use Rattle.saphyr_scalar.specs.Views.Cursor.{Cursor, ◌>>=◌, along, pass}
 use Rattle.saphyr_scalar.proofs.Moving.{bind_same}
 use Rattle.saphyr_scalar.proofs.Quoted.Escapes.{escape_place}
 use Rattle.saphyr_scalar.proofs.Quoted.Inside.{front_twice, passed_over, behind_no_gap, run_blanks, Moved, slash_left}
-use Rattle.saphyr_scalar.specs.Steps.Quoted.{is_literal, ends_word, simple_escape, hex_digit_count, numbered, escape_of, escaped_character, with_front, at, special, on_line, no_gap, inside, inside_at}
+use Rattle.saphyr_scalar.specs.Steps.Quoted.{is_literal, ends_word, hex_digit_count, escape_by_number, escape_of, escaped_character, with_front, mid_line, special, on_line, no_gap, inner_text, inner_text_at}
 use Rattle.std.proofs.lemmas.Bool.{eqb-true}
 use Rattle.saphyr_input.proofs.Basics.Booleans.{clash, and_true_left, and_true_right, and_false, by_test}
 
@@ -19,10 +20,10 @@ use Rattle.saphyr_input.proofs.Basics.Booleans.{clash, and_true_left, and_true_r
 
 pub blanks_moved : (q : Quote) (indent : ℕ) (start : Marker) (bytes grown : List ℕ) (s t : Cursor)
     → Moved is_blank bytes grown s t
-    → inside_at q indent start (on_line grown) t ≡ inside_at q indent start (on_line bytes) s
+    → inner_text_at q indent start (on_line grown) t ≡ inner_text_at q indent start (on_line bytes) s
 blanks_moved q indent start bytes grown s t m =
-    subst (λ (x : List ℕ × Cursor). inside_at q indent start (on_line x.0) x.1
-    ≡ inside_at q indent start (on_line bytes) s) m.is
+    subst (λ (x : List ℕ × Cursor). inner_text_at q indent start (on_line x.0) x.1
+    ≡ inner_text_at q indent start (on_line bytes) s) m.is
     (sym (run_blanks q indent start bytes s.mark s.rest))
 
 -- Escapes, and two single quotes.
@@ -34,32 +35,32 @@ bind_twice (Err e) f g = refl
 
 -- an escape and what is read behind it
 pub at_escape : (indent : ℕ) (start m : Marker) (cs : List ℕ) → is_break (slice_index cs 0) ≡ false
-    → inside Double indent start no_gap 0 m (92 ∷ cs)
-    ≡ (escaped_character start (at m (92 ∷ cs)) >>= λ e. with_front (encode_utf8 e.0)
-    (inside_at Double indent start no_gap e.1))
+    → inner_text Double indent start no_gap 0 m (92 ∷ cs)
+    ≡ (escaped_character start (mid_line m (92 ∷ cs)) >>= λ e. with_front (encode_utf8 e.0)
+    (inner_text_at Double indent start no_gap e.1))
 unfolding is_literal special
 at_escape indent start m cs h =
     let k = hex_digit_count (slice_index cs 0) in
     behind_no_gap Double indent start m 92 cs refl refl refl
-    ∙ rw h (bind_twice (escaped_character start (at m (92 ∷ cs))) (λ e. (Some e.0, e.1)) _)
-    ∙ bind_same (escaped_character start (at m (92 ∷ cs))) _ _ (λ e is.
-    let place : e.1 ≡ at (along m (2 + k)) (drop (2 + k) (92 ∷ cs)) = escape_place start m (92 ∷ cs) e is in
+    ∙ rw h (bind_twice (escaped_character start (mid_line m (92 ∷ cs))) (λ e. (Some e.0, e.1)) _)
+    ∙ bind_same (escaped_character start (mid_line m (92 ∷ cs))) _ _ (λ e is.
+    let place : e.1 ≡ mid_line (along m (2 + k)) (drop (2 + k) (92 ∷ cs)) = escape_place start m (92 ∷ cs) e is in
     ap (with_front (encode_utf8 e.0))
     (passed_over Double indent start no_gap (suc k) e.1.mark cs
-    ∙ ap (λ n. inside Double indent start no_gap 0 e.1.mark (drop n (92 ∷ cs))) (two_more k)
-    ∙ ap (λ xs. inside Double indent start no_gap 0 e.1.mark xs) (sym (ap (λ (x : Cursor). x.rest) place))))
+    ∙ ap (λ n. inner_text Double indent start no_gap 0 e.1.mark (drop n (92 ∷ cs))) (two_more k)
+    ∙ ap (λ xs. inner_text Double indent start no_gap 0 e.1.mark xs) (sym (ap (λ (x : Cursor). x.rest) place))))
   where
     two_more : (n : ℕ) → suc (suc n) ≡ 2 + n
     two_more n = omega arith
 
 pub at_two_quotes : (indent : ℕ) (start m : Marker) (cs : List ℕ)
-    → inside Single indent start no_gap 0 m (39 ∷ 39 ∷ cs)
-    ≡ with_front (encode_utf8 39) (inside Single indent start no_gap 0 (along m 2) cs)
-unfolding is_literal special inside
+    → inner_text Single indent start no_gap 0 m (39 ∷ 39 ∷ cs)
+    ≡ with_front (encode_utf8 39) (inner_text Single indent start no_gap 0 (along m 2) cs)
+unfolding is_literal special inner_text
 at_two_quotes indent start m cs = behind_no_gap Single indent start m 39 (39 ∷ cs) refl refl refl
 
 -- where an escape stands, and what follows it is no break
-pub record IsEscape (xs : List ℕ) : Type 0 where
+pub record StartsEscape (xs : List ℕ) : Type 0 where
   pub cs : List ℕ
   pub cut : xs ≡ 92 ∷ cs
   pub goes : is_break (slice_index cs 0) ≡ false
@@ -68,7 +69,8 @@ record AreTwoQuotes (xs : List ℕ) : Type 0 where
   pub cs : List ℕ
   pub cut : xs ≡ 39 ∷ 39 ∷ cs
 
-escape_of_test : (xs : List ℕ) → ((slice_index xs 0 == 92) && not (is_break (slice_index xs 1))) ≡ true → IsEscape xs
+escape_of_test : (xs : List ℕ) → ((slice_index xs 0 == 92) && not (is_break (slice_index xs 1))) ≡ true
+    → StartsEscape xs
 escape_of_test [] h = absurd (cc)
 escape_of_test (c ∷ cs) h =
     let two = both (c == 92) (is_break (slice_index cs 0)) h in
@@ -89,91 +91,100 @@ two_of_test (c ∷ d ∷ cs) h =
           ∙ ap (λ x. 39 ∷ x ∷ cs) (sym (sym (eqb-true d 39 (and_true_right (c == 39) (d == 39) h))));
     }
 
-of_same : (start : Marker) (letter : ℕ) (o : Option ℕ) (s : Cursor)
-    → escape_of start o letter (at s.mark s.rest) ≡ escape_of start o letter s
-unfolding escape_of numbered
-of_same start letter (Some c) s = refl
-of_same start letter None s = refl
+numbered_same : (start : Marker) (o : Option ℕ) (s : Cursor)
+    → escape_by_number start o (mid_line s.mark s.rest) ≡ escape_by_number start o s
+unfolding escape_by_number
+numbered_same start (Some n) s = refl
+numbered_same start None s = refl
 
-escape_same : (start : Marker) (s : Cursor) → escaped_character start (at s.mark s.rest) ≡ escaped_character start s
+of_same : (start : Marker) (letter : ℕ) (o : Option ℕ) (s : Cursor)
+    → escape_of start o letter (mid_line s.mark s.rest) ≡ escape_of start o letter s
+unfolding escape_of
+of_same start letter (Some c) s = refl
+of_same start letter None s = numbered_same start (digit_count letter) s
+
+escape_same : (start : Marker) (s : Cursor)
+    → escaped_character start (mid_line s.mark s.rest) ≡ escaped_character start s
 unfolding escaped_character
-escape_same start s = of_same start (slice_index s.rest 1) (simple_escape (slice_index s.rest 1)) s
+escape_same start s = of_same start (slice_index s.rest 1) (short_escape (slice_index s.rest 1)) s
 
 -- what is read where `special` gives this
-abbrev Reads : Quote → ℕ → Marker → Cursor → Result (Option ℕ × Cursor) Refusal → Type 0
-Reads q indent start s (Ok (Some d, t)) =
-    (inside_at q indent start no_gap s ≡ with_front (encode_utf8 d) (inside_at q indent start no_gap t))
+abbrev ReadsSpecial : Quote → ℕ → Marker → Cursor → Result (Option ℕ × Cursor) Refusal → Type 0
+ReadsSpecial q indent start s (Ok (Some d, t)) =
+    (inner_text_at q indent start no_gap s ≡ with_front (encode_utf8 d) (inner_text_at q indent start no_gap t))
     × (length t.rest < length s.rest)
-Reads q indent start s (Ok (None, t)) = t ≡ s
-Reads q indent start s (Err r) = inside_at q indent start no_gap s ≡ Err r
+ReadsSpecial q indent start s (Ok (None, t)) = t ≡ s
+ReadsSpecial q indent start s (Err r) = inner_text_at q indent start no_gap s ≡ Err r
 
-escape_on : (indent : ℕ) (start : Marker) (s : Cursor) → IsEscape s.rest
-    → inside_at Double indent start no_gap s
-    ≡ (escaped_character start s >>= λ e. with_front (encode_utf8 e.0) (inside_at Double indent start no_gap e.1))
+escape_on : (indent : ℕ) (start : Marker) (s : Cursor) → StartsEscape s.rest
+    → inner_text_at Double indent start no_gap s
+    ≡ (escaped_character start s >>= λ e. with_front (encode_utf8 e.0) (inner_text_at Double indent start no_gap e.1))
 escape_on indent start s is =
-    ap (inside Double indent start no_gap 0 s.mark) is.cut ∙ at_escape indent start s.mark is.cs is.goes
-    ∙ ap (λ r. r >>= λ e. with_front (encode_utf8 e.0) (inside_at Double indent start no_gap e.1))
-    (ap (λ xs. escaped_character start (at s.mark xs)) (sym is.cut) ∙ escape_same start s)
+    ap (inner_text Double indent start no_gap 0 s.mark) is.cut ∙ at_escape indent start s.mark is.cs is.goes
+    ∙ ap (λ r. r >>= λ e. with_front (encode_utf8 e.0) (inner_text_at Double indent start no_gap e.1))
+    (ap (λ xs. escaped_character start (mid_line s.mark xs)) (sym is.cut) ∙ escape_same start s)
 
-escape_shorter : (start : Marker) (s t : Cursor) (c : ℕ) → IsEscape s.rest → escaped_character start s ≡ Ok (c, t)
+escape_shorter : (start : Marker) (s t : Cursor) (c : ℕ) → StartsEscape s.rest → escaped_character start s ≡ Ok (c, t)
     → length t.rest < length s.rest
 escape_shorter start s t c is e =
-    let place : t ≡ at (along s.mark (2 + hex_digit_count (slice_index s.rest 1)))
+    let place : t ≡ mid_line (along s.mark (2 + hex_digit_count (slice_index s.rest 1)))
     (drop (2 + hex_digit_count (slice_index s.rest 1)) s.rest) =
     escape_place start s.mark s.rest (c, t) (escape_same start s ∙ e) in
     rw (place, length-drop) (omega (arith, slash_left s.rest (ap (λ xs. slice_index xs 0) is.cut)))
 
-escape_reads : (indent : ℕ) (start : Marker) (s : Cursor) (r : Result (ℕ × Cursor) Refusal) → IsEscape s.rest
-    → escaped_character start s ≡ r → Reads Double indent start s (r >>= λ e. Ok (Some e.0, e.1))
+escape_reads : (indent : ℕ) (start : Marker) (s : Cursor) (r : Result (ℕ × Cursor) Refusal) → StartsEscape s.rest
+    → escaped_character start s ≡ r → ReadsSpecial Double indent start s (r >>= λ e. Ok (Some e.0, e.1))
 escape_reads indent start s (Ok e) is h = (
   escape_on indent start s is
-      ∙ ap (λ r. r >>= λ e. with_front (encode_utf8 e.0) (inside_at Double indent start no_gap e.1)) h,
+      ∙ ap (λ r. r >>= λ e. with_front (encode_utf8 e.0) (inner_text_at Double indent start no_gap e.1)) h,
   escape_shorter
       start s e.1 e.0 is h,
 )
 escape_reads indent start s (Err r) is h =
     escape_on indent start s is
-    ∙ ap (λ r. r >>= λ e. with_front (encode_utf8 e.0) (inside_at Double indent start no_gap e.1)) h
+    ∙ ap (λ r. r >>= λ e. with_front (encode_utf8 e.0) (inner_text_at Double indent start no_gap e.1)) h
 
 two_quotes_read : (indent : ℕ) (start : Marker) (s : Cursor) → AreTwoQuotes s.rest
-    → Reads Single indent start s (Ok (Some 39, pass 2 s))
+    → ReadsSpecial Single indent start s (Ok (Some 39, pass 2 s))
 two_quotes_read indent start s is = cut s.rest is.cut
   where
     cut : (xs : List ℕ) → xs ≡ 39 ∷ 39 ∷ is.cs
-        → (inside Single indent start no_gap 0 s.mark xs
-        ≡ with_front (encode_utf8 39) (inside Single indent start no_gap 0 (along s.mark 2) (drop 2 xs)))
+        → (inner_text Single indent start no_gap 0 s.mark xs
+        ≡ with_front (encode_utf8 39) (inner_text Single indent start no_gap 0 (along s.mark 2) (drop 2 xs)))
         × (length (drop 2 xs) < length xs)
     cut xs e = rw e (at_two_quotes indent start s.mark is.cs, omega arith)
 
-special_reads : (q : Quote) (indent : ℕ) (start : Marker) (s : Cursor) → Reads q indent start s (special q start s)
+special_reads : (q : Quote) (indent : ℕ) (start : Marker) (s : Cursor)
+    → ReadsSpecial q indent start s (special q start s)
 unfolding special
 special_reads Single indent start s =
-    by_test (next_2_are s.rest 39 39) _ _ (Reads Single indent start s)
+    by_test (next_2_are s.rest 39 39) _ _ (ReadsSpecial Single indent start s)
     (λ h. two_quotes_read indent start s (two_of_test s.rest h)) (λ h. refl)
 special_reads Double indent start s =
-    by_test ((slice_index s.rest 0 == 92) && not (is_break (slice_index s.rest 1))) _ _ (Reads Double indent start s)
+    by_test ((slice_index s.rest 0 == 92) && not (is_break (slice_index s.rest 1))) _ _
+    (ReadsSpecial Double indent start s)
     (λ h. escape_reads indent start s (escaped_character start s) (escape_of_test s.rest h) refl) (λ h. refl)
 
 pub special_moved : (q : Quote) (indent : ℕ) (start : Marker) (text : List ℕ) (s t : Cursor) (d : ℕ)
     → special q start s ≡ Ok (Some d, t)
-    → with_front (text ++ encode_utf8 d) (inside_at q indent start no_gap t)
-    ≡ with_front text (inside_at q indent start no_gap s)
+    → with_front (text ++ encode_utf8 d) (inner_text_at q indent start no_gap t)
+    ≡ with_front text (inner_text_at q indent start no_gap s)
 special_moved q indent start text s t d e =
-    let r = subst (Reads q indent start s) e (special_reads q indent start s) in
+    let r = subst (ReadsSpecial q indent start s) e (special_reads q indent start s) in
     sym (ap (with_front text) r.0 ∙ front_twice text (encode_utf8 d) _)
 
 pub special_shorter : (q : Quote) (start : Marker) (s t : Cursor) (d : ℕ) → special q start s ≡ Ok (Some d, t)
     → length t.rest < length s.rest
-special_shorter q start s t d e = let r = subst (Reads q 0 start s) e (special_reads q 0 start s) in r.1
+special_shorter q start s t d e = let r = subst (ReadsSpecial q 0 start s) e (special_reads q 0 start s) in r.1
 
 pub special_refused : (q : Quote) (indent : ℕ) (start : Marker) (text : List ℕ) (s : Cursor) (refusal : Refusal)
     → special q start s ≡ Err refusal
-    → with_front text (inside_at q indent start no_gap s) ≡ Err refusal
+    → with_front text (inner_text_at q indent start no_gap s) ≡ Err refusal
 special_refused q indent start text s refusal e =
-    ap (with_front text) (subst (Reads q indent start s) e (special_reads q indent start s))
+    ap (with_front text) (subst (ReadsSpecial q indent start s) e (special_reads q indent start s))
 
 pub special_none : (q : Quote) (start : Marker) (s t : Cursor) → special q start s ≡ Ok (None, t) → t ≡ s
-special_none q start s t e = subst (Reads q 0 start s) e (special_reads q 0 start s)
+special_none q start s t e = subst (ReadsSpecial q 0 start s) e (special_reads q 0 start s)
 
 -- what is neither a literal nor begins such a spelling ends a word
 word_ends_single : (a b d : Bool) → (not a && not b) ≡ false → (b && d) ≡ false → IsTrue (a || (b && not d) || false)

@@ -1,5 +1,5 @@
 -- The piece of a text that is read as a quoted scalar, and what the standard reads of it.
-use Rattle.std.proofs.Common.{◌≡◌, ℕ, ◌+◌, ◌*◌, ◌<◌, Bool, true, false, List, [], ◌∷◌, ◌++◌, length, drop, slice_index, Some, None, refl, sym, ap, ◌∙◌, arith, subst, encode_utf8_all, nat_eq, nat_lt, nat_le, IsTrue, cond, append_assoc, inl, inr}
+use Rattle.std.proofs.Common.{◌≡◌, ℕ, ◌+◌, ◌*◌, Bool, true, false, List, [], ◌∷◌, ◌++◌, length, drop, slice_index, Some, None, refl, sym, ap, ◌∙◌, arith, subst, encode_utf8_all, nat_eq, IsTrue, cond, append_assoc, inl, inr}
 use Rattle.std.specs.Prelude.{◌||◌, ◌&&◌, ◌==◌, not, option_map, IsFalse}
 use Rattle.std.proofs.lemmas.Bool.Decides.{nat_tests}
 use Rattle.saphyr_input.specs.Classes.{is_break, is_hex, hex_value}
@@ -8,12 +8,13 @@ use Rattle.scalar_values.specs.declared.folding.Item.{Item}
 use Rattle.scalar_values.specs.declared.folding.Item.TheVariants.{Raw, Escaped, Break, EscapedBreak}
 use Rattle.scalar_values.specs.declared.flow.Quote.{Quote}
 use Rattle.scalar_values.specs.declared.flow.Quote.TheVariants.{Single, Double}
+use Rattle.scalar_values.specs.Escapes.{digit_count, hex_character, is_scalar_value, short_escape}
+use Rattle.saphyr_scalar.specs.Spelling.Tag.{AreIn}
 use Rattle.saphyr_scalar.specs.Views.Cursor.{Cursor}
-use Rattle.scalar_values.specs.Escapes as escapes
 use Rattle.scalar_values.specs.Flow as flow
 use Rattle.scalar_values.specs.Folding.{folded}
 use Rattle.saphyr_scalar.specs.Spelling.OneLine as line
-use Rattle.saphyr_scalar.specs.Steps.Quoted.{simple_escape, hex_digit_count, is_scalar, break_len, quoted}
+use Rattle.saphyr_scalar.specs.Steps.Quoted.{break_len, quoted}
 use Rattle.saphyr_scalar.specs.Spelling.Quoted as quotes
 use Rattle.scalar_values.specs.Items.{IsSpelling, Spells, IsSpelledQuote}
 use Rattle.saphyr_scalar.proofs.Quoted.Inside.{break_cases}
@@ -22,47 +23,14 @@ use Rattle.saphyr_scalar.proofs.Quoted.SpelledEscapes.{GaveText}
 use Rattle.scalar_values.proofs.SpellingsRead.{quoted_read}
 use Rattle.saphyr_input.proofs.Basics.Characters.{normalized_other}
 
--- The two tables of escapes agree.
-
-or_cond : {X : Type 0} (a b : Bool) (x y : X) → cond (a || b) x y ≡ cond a x (cond b x y)
-or_cond true b x y = refl
-or_cond false b x y = refl
-
-pub same_escape : (e : ℕ) → simple_escape e ≡ escapes.short_escape e
-unfolding simple_escape
-same_escape e = ap (λ r. cond (e == 48) (Some 0x00) (cond (e == 97) (Some 0x07) (cond (e == 98) (Some 0x08) r)))
-    (or_cond (e == 116) (e == 9) (Some 0x09) _)
-
-pub same_count : (e n : ℕ) → n ≡ hex_digit_count e → 0 < n → escapes.digit_count e ≡ Some n
-same_count e n is some = by_tests (e == 120) (e == 117) (e == 85) is
-  where
-    by_tests : (a b c : Bool) → n ≡ cond a 2 (cond b 4 (cond c 8 0))
-        → cond a (Some 2) (cond b (Some 4) (cond c (Some 8) None)) ≡ Some n
-    by_tests true b c h = ap Some (sym h)
-    by_tests false true c h = ap Some (sym h)
-    by_tests false false true h = ap Some (sym h)
-    by_tests false false false h = absurd (omega arith)
-
-pub same_scalar : (n : ℕ) → IsTrue (is_scalar n) → escapes.is_scalar_value n ≡ true
-same_scalar n h = ap (λ b. nat_lt n 0xD800 || (nat_le 0xE000 n && b)) (at_most n) ∙ h
-  where
-    at_most : (n : ℕ) → nat_le n 0x10FFFF ≡ nat_lt n 0x11_0000
-    at_most n = by_bool (nat_le n 0x10FFFF) (nat_lt n 0x11_0000) refl refl
-      where
-        by_bool : (a b : Bool) → nat_le n 0x10FFFF ≡ a → nat_lt n 0x11_0000 ≡ b → a ≡ b
-        by_bool true true h k = refl
-        by_bool false false h k = refl
-        by_bool true false h k = absurd (grind (arith, nat_tests))
-        by_bool false true h k = absurd (grind (arith, nat_tests))
-
-digits_number : (v : ℕ) (ds : List ℕ) → line.AreHex ds → IsTrue (is_scalar (line.hexadecimal_from v ds))
-    → escapes.hex_character v ds ≡ Some (line.hexadecimal_from v ds)
-digits_number v [] hex h = rw (same_scalar v h) refl
+digits_number : (v : ℕ) (ds : List ℕ) → AreIn is_hex ds → IsTrue (is_scalar_value (line.hexadecimal_from v ds))
+    → hex_character v ds ≡ Some (line.hexadecimal_from v ds)
+digits_number v [] hex h = rw h refl
 digits_number v (d ∷ ds) hex h = rw hex.0 (digits_number (v * 16 + hex_value d) ds hex.1 h)
 
-number_spells : (e c : ℕ) (ds : List ℕ) → line.IsNumber e c ds → escapes.hex_character 0 ds ≡ Some c
+number_spells : (e c : ℕ) (ds : List ℕ) → line.IsNumber e c ds → hex_character 0 ds ≡ Some c
 number_spells e c ds h =
-    digits_number 0 ds h.hex (subst (λ (n : ℕ). IsTrue (is_scalar n)) (sym h.value) h.scalar) ∙ ap Some h.value
+    digits_number 0 ds h.hex (subst (λ (n : ℕ). IsTrue (is_scalar_value n)) (sym h.value) h.scalar) ∙ ap Some h.value
 
 -- Normalized breaks.
 
@@ -192,28 +160,28 @@ itself_of q c h = by_tests (c == 10) (c == 13) (c == 0) (flow.is_special q c) re
     by_tests false false true d r s h = absurd (cc)
     by_tests false false false true r s h = absurd (cc)
 
-no_return_simple : (e c : ℕ) → simple_escape e ≡ Some c → (e == 13) ≡ false
-unfolding simple_escape
+no_return_simple : (e c : ℕ) → short_escape e ≡ Some c → (e == 13) ≡ false
+unfolding short_escape
 no_return_simple e c h = by_test (e == 13) refl
   where
     number : (e : ℕ) → nat_eq e 13 ≡ true → e ≡ 13
     number e h = grind (arith, nat_tests)
 
-    none : (e : ℕ) → e ≡ 13 → simple_escape e ≡ None
+    none : (e : ℕ) → e ≡ 13 → short_escape e ≡ None
     none e is = rw is refl
 
     by_test : (b : Bool) → (e == 13) ≡ b → b ≡ false
     by_test true is = let n = none e (number e is) in absurd (cc)
     by_test false is = refl
 
-no_return_count : (e n : ℕ) → n ≡ hex_digit_count e → 0 < n → (e == 13) ≡ false
-no_return_count e n is some = by_test (e == 13) refl
+no_return_count : (e n : ℕ) → digit_count e ≡ Some n → (e == 13) ≡ false
+no_return_count e n is = by_test (e == 13) refl
   where
     number : (e : ℕ) → nat_eq e 13 ≡ true → e ≡ 13
     number e h = grind (arith, nat_tests)
 
     by_test : (b : Bool) → (e == 13) ≡ b → b ≡ false
-    by_test true h = let none : hex_digit_count e ≡ 0 = ap hex_digit_count (number e h) in absurd (omega arith)
+    by_test true h = let none : digit_count e ≡ None = ap digit_count (number e h) in absurd (cc)
     by_test false h = refl
 
 no_return_hex : (d : ℕ) → IsTrue (is_hex d) → (d == 13) ≡ false
@@ -226,7 +194,7 @@ no_return_hex d h = by_test (d == 13) refl
     by_test true is = let no : is_hex d ≡ false = ap is_hex (number d is) in absurd (cc)
     by_test false is = refl
 
-digits_same : (ds p : List ℕ) → line.AreHex ds → normalized (ds ++ p) ≡ ds ++ normalized p
+digits_same : (ds p : List ℕ) → AreIn is_hex ds → normalized (ds ++ p) ≡ ds ++ normalized p
 digits_same [] p h = refl
 digits_same (d ∷ ds) p h =
     normalized_other d (ds ++ p) (no_return_hex d h.0) ∙ ap (λ (r : List ℕ). d ∷ r) (digits_same ds p h.1)
@@ -257,18 +225,18 @@ text_piece _ _ _ _ (quotes.two_quotes t items x r) =
 text_piece _ _ _ _ (quotes.escaped e c t items x h r) =
     let p = text_piece Double t items x r in
     piece_behind_item Double (Escaped c) (92 ∷ e ∷ t) t items x (92 ∷ e ∷ []) (92 ∷ e ∷ p.piece) p
-    (inr (e ∷ [], inl (e, sym (same_escape e) ∙ h, refl), refl))
+    (inr (e ∷ [], inl (e, h, refl), refl))
     (begin_more 92 (e ∷ p.piece) (e ∷ t) x (ap (λ (l : List ℕ). e ∷ l) p.begins.cut))
     (ap (λ (l : List ℕ). 92 ∷ l) (normalized_other e p.piece (no_return_simple e c h)))
 text_piece _ _ _ _ (quotes.numbered e c ds t items x h r) =
     let p = text_piece Double t items x r in
     piece_behind_item Double (Escaped c) (92 ∷ e ∷ (ds ++ t)) t items x (92 ∷ e ∷ ds) (92 ∷ e ∷ (ds ++ p.piece)) p
-    (inr (e ∷ ds, inr (e, ds, same_count e (length ds) h.count h.some, number_spells e c ds h, refl), refl))
+    (inr (e ∷ ds, inr (e, ds, h.count, number_spells e c ds h, refl), refl))
     (begin_more 92 (e ∷ (ds ++ p.piece)) (e ∷ (ds ++ t)) x
     (ap (λ (l : List ℕ). e ∷ (ds ++ l)) p.begins.cut
     ∙ ap (λ (l : List ℕ). e ∷ l) (sym (append_assoc ds p.piece x))))
     (ap (λ (l : List ℕ). 92 ∷ l)
-    (normalized_other e (ds ++ p.piece) (no_return_count e (length ds) h.count h.some)
+    (normalized_other e (ds ++ p.piece) (no_return_count e (length ds) h.count)
     ∙ ap (λ (l : List ℕ). e ∷ l) (digits_same ds p.piece h.hex)))
 text_piece _ _ _ _ (quotes.escaped_break t items x h r) =
     let p = text_piece Double (drop (break_len t) t) items x r in

@@ -5,19 +5,20 @@ use Rattle.saphyr_input.specs.Classes.{is_blank, is_break, is_hex, is_z}
 use Rattle.saphyr_input.specs.Places.{next_2_are, is_document_indicator}
 use Rattle.scalar_values.specs.declared.flow.Quote.{Quote}
 use Rattle.scalar_values.specs.declared.flow.Quote.TheVariants.{Single, Double}
+use Rattle.scalar_values.specs.Escapes.{digit_count, is_scalar_value, short_escape}
 use Rattle.saphyr_scalar.specs.declared.scalar.fault.Refusal.{Refusal}
 use Rattle.saphyr_scalar.specs.declared.scalar.position.Marker.{Marker}
 use Rattle.saphyr_scalar.specs.Views.Cursor.{Cursor, ◌>>=◌, along, next_line, pass}
 use Rattle.scalar_values.specs.Flow as flow
 use Rattle.saphyr_scalar.specs.Passing.{IsPassed, nothing, character, line_break}
-use Rattle.saphyr_scalar.specs.Steps.Quoted.{is_literal, simple_escape, hex_digit_count, is_scalar, digits, numbered, escape_of, escaped_character, TextRead, at, special, special_len, QuotedGap, on_line, over_lines, no_gap, is_left, blank_in, break_in, begin_word, end_gap, escaped_gap, break_len, if_some, inside, quoted}
+use Rattle.saphyr_scalar.specs.Steps.Quoted.{is_literal, hex_digit_count, digits, escape_by_number, escape_of, escaped_character, TextRead, mid_line, special, special_len, QuotedGap, on_line, over_lines, no_gap, is_left, blank_in, break_in, quoted_line, end_gap, escaped_gap, break_len, if_some, inner_text, quoted}
 use Rattle.saphyr_scalar.specs.Steps.Quoted as reading
 use Rattle.saphyr_scalar.specs.RefusedInside.{IsRefusedInside}
 use Rattle.saphyr_scalar.proofs.Quoted.Escapes.{escape_place}
 use Rattle.saphyr_scalar.proofs.Moving.{along_more}
 use Rattle.saphyr_scalar.proofs.Block.PlacedHeaders.{passed_passed}
-use Rattle.saphyr_scalar.proofs.Quoted.Inside.{IsContent}
-use Rattle.saphyr_scalar.proofs.RefusedOnWay.{inside_at, inside_start, one_more_passed}
+use Rattle.saphyr_scalar.proofs.Quoted.Inside.{IsQuotedInk}
+use Rattle.saphyr_scalar.proofs.RefusedOnWay.{refused_there, inside_start, one_more_passed}
 use Rattle.saphyr_scalar.proofs.Refusals.{Refused, RefusedAt, refused_bind, refused_more, front_refused}
 use Rattle.saphyr_scalar.proofs.Quoted.SpelledEscapes.{escape_spelled, no_escape}
 use Rattle.saphyr_scalar.proofs.Quoted.SpelledWords.{special_of}
@@ -35,23 +36,23 @@ digits_refused start zero v s = tt
 digits_refused start (suc n) v s =
     by_test (is_hex (slice_index s.rest 0)) _ _ (RefusedAt start) (λ _. digits_refused start n _ (pass 1 s)) (λ _. refl)
 
-numbered_refused : (start : Marker) (n : ℕ) (s : Cursor) → RefusedAt start (numbered start n s)
-unfolding numbered reading.character
-numbered_refused start n s =
-    by_test (n == 0) _ _ (RefusedAt start) (λ _. refl)
-    (λ _. refused_bind (λ e. e.mark ≡ start) (digits start n 0 (pass 2 s)) _ (digits_refused start n 0 (pass 2 s))
-    (λ x _. by_test (is_scalar x.0) _ _ (RefusedAt start) (λ _. tt) (λ _. refl)))
+numbered_refused : (start : Marker) (o : Option ℕ) (s : Cursor) → RefusedAt start (escape_by_number start o s)
+unfolding escape_by_number reading.character
+numbered_refused start None s = refl
+numbered_refused start (Some n) s =
+    refused_bind (λ e. e.mark ≡ start) (digits start n 0 (pass 2 s)) _ (digits_refused start n 0 (pass 2 s))
+    (λ x _. by_test (is_scalar_value x.0) _ _ (RefusedAt start) (λ _. tt) (λ _. refl))
 
 escape_refused : (start : Marker) (s : Cursor) → RefusedAt start (escaped_character start s)
 unfolding escaped_character escape_of
-escape_refused start s = of (simple_escape (slice_index s.rest 1)) (slice_index s.rest 1)
+escape_refused start s = of (short_escape (slice_index s.rest 1)) (slice_index s.rest 1)
   where
     of : (o : Option ℕ) (letter : ℕ) → RefusedAt start (escape_of start o letter s)
     of (Some c) letter = tt
-    of None letter = numbered_refused start (hex_digit_count letter) s
+    of None letter = numbered_refused start (digit_count letter) s
 
-word_refused : (indent : ℕ) (start : Marker) (s : Cursor) → RefusedAt start (begin_word indent start s)
-unfolding begin_word
+word_refused : (indent : ℕ) (start : Marker) (s : Cursor) → RefusedAt start (quoted_line indent start s)
+unfolding quoted_line
 word_refused indent start s =
     by_test ((s.mark.col == 0) && is_document_indicator s.rest) _ _ (RefusedAt start) (λ _. refl)
     (λ _. by_test (is_z (slice_index s.rest 0)) _ _ (RefusedAt start) (λ _. refl)
@@ -63,7 +64,7 @@ unfolding end_gap
 quoted_gap_refused indent start (on_line bytes) s =
     by_test (is_z (slice_index s.rest 0)) _ _ (RefusedAt start) (λ _. refl) (λ _. tt)
 quoted_gap_refused indent start (over_lines escaped n) s =
-    refused_bind (λ e. e.mark ≡ start) (begin_word indent start s) _ (word_refused indent start s) (λ _ _. tt)
+    refused_bind (λ e. e.mark ≡ start) (quoted_line indent start s) _ (word_refused indent start s) (λ _ _. tt)
 
 -- a tab is refused where it stands
 blank_refused : (indent : ℕ) (gap : QuotedGap) (m : Marker) (c : ℕ) → RefusedAt m (blank_in indent gap m c)
@@ -89,7 +90,8 @@ two_passed m c (d ∷ ds) e f =
     subst (λ (k : Marker). IsPassed m (c ∷ d ∷ ds) k ds) (along_more m 1 1 2 refl)
     (character m c (d ∷ ds) _ ds e (character (along m 1) d ds _ ds quote (nothing _ ds)))
 
-escape_passed : (start m : Marker) (cs : List ℕ) (x : ℕ × Cursor) → escaped_character start (at m (92 ∷ cs)) ≡ Ok x
+escape_passed : (start m : Marker) (cs : List ℕ) (x : ℕ × Cursor)
+    → escaped_character start (mid_line m (92 ∷ cs)) ≡ Ok x
     → IsPassed m (92 ∷ cs) x.1.mark (drop (suc (hex_digit_count (slice_index cs 0))) cs)
 escape_passed start m [] x e = absurd (no_escape start m x.0 x.1 e)
 escape_passed start m (d ∷ ds) x e =
@@ -100,8 +102,8 @@ escape_passed start m (d ∷ ds) x e =
     subst (λ u. IsPassed m (92 ∷ d ∷ ds) x.1.mark u) rest
     ((escape_spelled start m d ds x.0 x.1 e).passes x.1.mark x.1.rest (nothing x.1.mark x.1.rest))
 
-special_told : (q : Quote) (start m : Marker) (c : ℕ) (cs : List ℕ) → IsContent c → is_literal q c ≡ false
-    → SpecialTold q start m c cs (special q start (at m (c ∷ cs)))
+special_told : (q : Quote) (start m : Marker) (c : ℕ) (cs : List ℕ) → IsQuotedInk c → is_literal q c ≡ false
+    → SpecialTold q start m c cs (special q start (mid_line m (c ∷ cs)))
 unfolding special
 special_told Single start m c cs is plain =
     by_test (next_2_are (c ∷ cs) 39 39) _ _ (SpecialTold Single start m c cs)
@@ -132,10 +134,10 @@ special_told Double start m c cs is plain =
     by (Err e) h k = h
 
     backslash : c ≡ 92 → SpecialTold Double start m c cs
-        (escaped_character start (at m (c ∷ cs)) >>= λ e. Ok (Some e.0, e.1))
-    backslash same = by (escaped_character start (at m (c ∷ cs))) (escape_refused start (at m (c ∷ cs)))
+        (escaped_character start (mid_line m (c ∷ cs)) >>= λ e. Ok (Some e.0, e.1))
+    backslash same = by (escaped_character start (mid_line m (c ∷ cs))) (escape_refused start (mid_line m (c ∷ cs)))
         (λ x e. subst (λ d. IsPassed m (d ∷ cs) x.1.mark behind) (sym same)
-        (escape_passed start m cs x (ap (λ d. escaped_character start (at m (d ∷ cs))) (sym same) ∙ e)))
+        (escape_passed start m cs x (ap (λ d. escaped_character start (mid_line m (d ∷ cs))) (sym same) ∙ e)))
 
 -- ## The scalar
 
@@ -152,19 +154,19 @@ behind_break c cs = by_test (next_2_are (c ∷ cs) 13 10) 2 1 (λ n. drop n (c �
 
 inside_refused : (q : Quote) (indent : ℕ) (s : Cursor) (gap : QuotedGap) (k : ℕ) (m : Marker) (t : List ℕ)
     → IsPassed s.mark s.rest m (drop k t)
-    → Refused (IsRefusedInside s) (inside q indent s.mark gap k m t)
-unfolding inside
+    → Refused (IsRefusedInside s) (inner_text q indent s.mark gap k m t)
+unfolding inner_text
 inside_refused q indent s gap k m [] p = (s.rest, nothing s.mark s.rest)
 inside_refused q indent s gap zero m (c ∷ cs) p =
     let P = IsRefusedInside s in
     let start = s.mark in
-    let here : Cursor = at m (c ∷ cs) in
+    let here : Cursor = mid_line m (c ∷ cs) in
     let special_end = drop (special_len q (slice_index cs 0)) cs in
     let others = λ (g : QuotedGap) (h : is_break c ≡ false). inside_refused q indent s g 0 (along m 1) cs
     (one_more_passed s m c cs p h) in
     by_test (is_blank c) _ _ (Refused P)
     (λ blank. refused_bind P (blank_in indent gap m c) _
-    (refused_more (λ e. e.mark ≡ m) P (blank_in indent gap m c) (blank_refused indent gap m c) (inside_at s here p))
+    (refused_more (λ e. e.mark ≡ m) P (blank_in indent gap m c) (blank_refused indent gap m c) (refused_there s here p))
     (λ g _. others g (blank_no_break c blank)))
     (λ no_blank. by_test (is_break c) _ _ (Refused P)
     (λ breaks. let n = break_len (c ∷ cs) in
@@ -173,7 +175,7 @@ inside_refused q indent s gap zero m (c ∷ cs) p =
     (λ no_break. refused_bind P (end_gap indent start gap here) _
     (refused_more (λ e. e.mark ≡ start) P (end_gap indent start gap here) (quoted_gap_refused indent start gap here)
     (inside_start s)) (λ text ended.
-    let is : IsContent c = record {
+    let is : IsQuotedInk c = record {
       blank = no_blank;
       break = no_break;
       nul =
@@ -181,8 +183,8 @@ inside_refused q indent s gap zero m (c ∷ cs) p =
     } in
     front_refused P text _
     (by_test (is_literal q c) _ _ (Refused P) (λ _. front_refused P (encode_utf8 c) _ (others no_gap no_break))
-    (λ no_literal. refused_bind P (special q start (at m (c ∷ cs))) _
-    (refused_of_told (special q start (at m (c ∷ cs))) (special_told q start m c cs is no_literal)) (λ x e.
+    (λ no_literal. refused_bind P (special q start (mid_line m (c ∷ cs))) _
+    (refused_of_told (special q start (mid_line m (c ∷ cs))) (special_told q start m c cs is no_literal)) (λ x e.
     let told = subst (SpecialTold q start m c cs) e (special_told q start m c cs is no_literal) in
     let escaped = λ (d : ℕ) (passed : IsPassed m (c ∷ cs) x.1.mark special_end).
     front_refused P (encode_utf8 d) _

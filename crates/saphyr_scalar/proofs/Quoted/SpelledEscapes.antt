@@ -1,15 +1,16 @@
 -- What is read as an escape is spelled so.
-use Rattle.std.proofs.Common.{◌≡◌, ℕ, zero, suc, ◌+◌, ◌*◌, ◌<◌, ◌≤◌, true, false, List, [], ◌∷◌, ◌++◌, length, length-append, drop, slice_index, Result, Ok, Err, refl, sym, ap, ◌∙◌, arith, subst, nat_eq, IsTrue}
+use Rattle.std.proofs.Common.{◌≡◌, ℕ, zero, suc, ◌+◌, ◌*◌, ◌≤◌, true, List, [], ◌∷◌, ◌++◌, length, length-append, drop, slice_index, Result, Ok, Err, refl, sym, ap, ◌∙◌, arith, subst, IsTrue}
 use Rattle.std.specs.Prelude.{Option, Some, None}
-use Rattle.std.proofs.lemmas.Bool.Decides.{nat_tests}
 use Rattle.saphyr_input.specs.Classes.{is_hex, hex_value}
+use Rattle.scalar_values.specs.Escapes.{digit_count, is_scalar_value, short_escape}
+use Rattle.saphyr_scalar.specs.Spelling.Tag.{AreIn}
 use Rattle.saphyr_scalar.specs.declared.scalar.position.Marker.{Marker}
 use Rattle.saphyr_scalar.specs.declared.scalar.fault.Refusal.{Refusal}
 use Rattle.scalar_values.specs.declared.folding.Item.{Item}
 use Rattle.scalar_values.specs.declared.folding.Item.TheVariants.{Escaped}
 use Rattle.scalar_values.specs.declared.flow.Quote.TheVariants.{Double}
 use Rattle.saphyr_scalar.specs.Views.Cursor.{Cursor, ◌>>=◌, along, pass}
-use Rattle.saphyr_scalar.specs.Steps.Quoted.{simple_escape, hex_digit_count, is_scalar, digits, character, numbered, escape_of, escaped_character, with_front, at}
+use Rattle.saphyr_scalar.specs.Steps.Quoted.{digits, character, escape_by_number, escape_of, escaped_character, with_front, mid_line}
 use Rattle.saphyr_scalar.specs.Spelling.OneLine as spelling
 use Rattle.saphyr_scalar.proofs.Quoted.Clean as quotes
 use Rattle.saphyr_scalar.specs.Passing.{IsPassed}
@@ -56,7 +57,7 @@ record Digits (v n : ℕ) (m : Marker) (xs : List ℕ) (w : ℕ) (s : Cursor) : 
   ds : List ℕ
   split : xs ≡ ds ++ s.rest
   count : length ds ≡ n
-  hex : spelling.AreHex ds
+  hex : AreIn is_hex ds
   value : spelling.hexadecimal_from v ds ≡ w
   passes : (n : Marker) (u : List ℕ) → IsPassed s.mark s.rest n u → IsPassed m xs n u
 
@@ -92,8 +93,8 @@ digits_spelled start (suc n) v t w s e =
 
 -- an escape that was read, behind its backslash
 pub record Escape (m : Marker) (e : ℕ) (xs : List ℕ) (c : ℕ) (s : Cursor) : Type 0 where
-  pub grows : (items : List Item) (x : List ℕ) → quotes.IsText Double s.rest items x
-      → quotes.IsText Double (92 ∷ e ∷ xs) (Escaped c ∷ items) x
+  pub grows : (items : List Item) (x : List ℕ) → quotes.IsCleanText Double s.rest items x
+      → quotes.IsCleanText Double (92 ∷ e ∷ xs) (Escaped c ∷ items) x
   pub shorter : length s.rest ≤ length xs
   pub passes : (n : Marker) (u : List ℕ) → IsPassed s.mark s.rest n u → IsPassed m (92 ∷ e ∷ xs) n u
 
@@ -114,63 +115,61 @@ front_gave a (Ok x) b s e =
 front_gave a (Err r) b s e = nothing_text r b s e
 
 scalar_gave : (start : Marker) (w c : ℕ) (u s : Cursor) → Gave (character start w u) c s
-    → IsTrue (is_scalar w) × (w ≡ c) × (u ≡ s)
+    → IsTrue (is_scalar_value w) × (w ≡ c) × (u ≡ s)
 unfolding character
 scalar_gave start w c u s =
-    by_test (is_scalar w) _ _ (λ r. Gave r c s → IsTrue (is_scalar w) × (w ≡ c) × (u ≡ s))
+    by_test (is_scalar_value w) _ _ (λ r. Gave r c s → IsTrue (is_scalar_value w) × (w ≡ c) × (u ≡ s))
     (λ h g. (h, gave_first w c u s g, gave_second w c u s g)) (λ _ g. nothing _ c s g)
 
-number_spelled : (start m : Marker) (e : ℕ) (xs : List ℕ) (c : ℕ) (s : Cursor)
-    → Gave (numbered start (hex_digit_count e) (at m (92 ∷ e ∷ xs))) c s → Escape m e xs c s
-unfolding numbered
-number_spelled start m e xs c s =
-    by_test (nat_eq (hex_digit_count e) 0) _ _ (λ r. Gave r c s → Escape m e xs c s) (λ _ g. nothing _ c s g)
-    (λ many g.
-    let t = then_gave (digits start (hex_digit_count e) 0 (pass 2 (at m (92 ∷ e ∷ xs)))) _ c s g in
-    let d : Digits 0 (hex_digit_count e) (along m 2) xs t.0 t.1 = digits_spelled start (hex_digit_count e) 0
-    (pass 2 (at m (92 ∷ e ∷ xs))) t.0 t.1 t.2 in
+number_spelled : (start m : Marker) (e : ℕ) (xs : List ℕ) (c : ℕ) (s : Cursor) (o : Option ℕ) → digit_count e ≡ o
+    → Gave (escape_by_number start o (mid_line m (92 ∷ e ∷ xs))) c s → Escape m e xs c s
+unfolding escape_by_number
+number_spelled start m e xs c s None asked g = nothing _ c s g
+number_spelled start m e xs c s (Some n) asked g =
+    let t = then_gave (digits start n 0 (pass 2 (mid_line m (92 ∷ e ∷ xs)))) _ c s g in
+    let d : Digits 0 n (along m 2) xs t.0 t.1 = digits_spelled start n 0
+    (pass 2 (mid_line m (92 ∷ e ∷ xs))) t.0 t.1 t.2 in
     let k = scalar_gave start t.0 c t.1 s t.3 in
     let split : xs ≡ d.ds ++ s.rest = d.split ∙ ap (λ (u : Cursor). d.ds ++ u.rest) k.2 in
     let is : spelling.IsNumber e c d.ds = record {
-      count = d.count;
-      some = omega (arith, some_of (hex_digit_count e) many, d.count);
+      count = asked ∙ ap Some (sym d.count);
       hex = d.hex;
       value = d.value ∙ k.1;
-      scalar = subst (λ (n : ℕ). IsTrue (is_scalar n)) k.1 k.0;
+      scalar = subst (λ (n : ℕ). IsTrue (is_scalar_value n)) k.1 k.0;
     } in
     record {
-      grows = λ items x r. subst (λ (y : List ℕ). quotes.IsText Double (92 ∷ e ∷ y) (Escaped c ∷ items) x) (sym split)
+      grows = λ items x r. subst (λ (y : List ℕ). quotes.IsCleanText Double (92 ∷ e ∷ y) (Escaped c ∷ items) x)
+          (sym split)
           (quotes.numbered e c d.ds s.rest items x is r);
       shorter = rw (split, length-append) (omega arith);
       passes = λ n u p. letter_passed m e xs n u
-          (no_break_digits e (λ z. absurd (omega (arith, some_of (hex_digit_count e) many))))
+          (no_break_digits e _ asked)
           (d.passes n u (subst (λ (x : Cursor). IsPassed x.mark x.rest n u) (sym k.2) p));
-    })
-  where
-    some_of : (n : ℕ) → nat_eq n 0 ≡ false → 0 < n
-    some_of n h = grind (arith, nat_tests)
+    }
 
-of_spelled : (start m : Marker) (e : ℕ) (xs : List ℕ) (c : ℕ) (s : Cursor) (o : Option ℕ) → simple_escape e ≡ o
-    → Gave (escape_of start o e (at m (92 ∷ e ∷ xs))) c s → Escape m e xs c s
+of_spelled : (start m : Marker) (e : ℕ) (xs : List ℕ) (c : ℕ) (s : Cursor) (o : Option ℕ) → short_escape e ≡ o
+    → Gave (escape_of start o e (mid_line m (92 ∷ e ∷ xs))) c s → Escape m e xs c s
 unfolding escape_of
 of_spelled start m e xs c s (Some k) is g =
-    let same : k ≡ c = gave_first k c (pass 2 (at m (92 ∷ e ∷ xs))) s g in
-    let left : xs ≡ s.rest = ap (λ (u : Cursor). u.rest) (gave_second k c (pass 2 (at m (92 ∷ e ∷ xs))) s g) in
+    let same : k ≡ c = gave_first k c (pass 2 (mid_line m (92 ∷ e ∷ xs))) s g in
+    let left : xs ≡ s.rest = ap (λ (u : Cursor). u.rest) (gave_second k c (pass 2 (mid_line m (92 ∷ e ∷ xs))) s g) in
     record {
-      grows = λ items x r. subst (λ (y : List ℕ). quotes.IsText Double (92 ∷ e ∷ y) (Escaped c ∷ items) x) (sym left)
+      grows = λ items x r. subst (λ (y : List ℕ). quotes.IsCleanText Double (92 ∷ e ∷ y) (Escaped c ∷ items) x)
+          (sym left)
           (quotes.escaped e c s.rest items x (is ∙ ap Some same) r);
       shorter = rw left (omega arith);
       passes = λ n u p. letter_passed m e xs n u (no_break_simple e k is)
-          (subst (λ (x : Cursor). IsPassed x.mark x.rest n u) (sym (gave_second k c (pass 2 (at m (92 ∷ e ∷ xs))) s g))
+          (subst (λ (x : Cursor). IsPassed x.mark x.rest n u)
+          (sym (gave_second k c (pass 2 (mid_line m (92 ∷ e ∷ xs))) s g))
           p);
     }
-of_spelled start m e xs c s None is g = number_spelled start m e xs c s g
+of_spelled start m e xs c s None is g = number_spelled start m e xs c s (digit_count e) refl g
 
 pub escape_spelled : (start m : Marker) (e : ℕ) (xs : List ℕ) (c : ℕ) (s : Cursor)
-    → Gave (escaped_character start (at m (92 ∷ e ∷ xs))) c s → Escape m e xs c s
+    → Gave (escaped_character start (mid_line m (92 ∷ e ∷ xs))) c s → Escape m e xs c s
 unfolding escaped_character
-escape_spelled start m e xs c s g = of_spelled start m e xs c s (simple_escape e) refl g
+escape_spelled start m e xs c s g = of_spelled start m e xs c s (short_escape e) refl g
 
-pub no_escape : (start m : Marker) (c : ℕ) (s : Cursor) → Gave (escaped_character start (at m (92 ∷ []))) c s → ⊥
-unfolding escaped_character escape_of numbered simple_escape
+pub no_escape : (start m : Marker) (c : ℕ) (s : Cursor) → Gave (escaped_character start (mid_line m (92 ∷ []))) c s → ⊥
+unfolding escaped_character escape_of escape_by_number short_escape
 no_escape start m c s g = absurd (nothing _ c s g)

@@ -11,7 +11,7 @@ use Rattle.scalar_values.specs.declared.flow.Quote.{Quote}
 use Rattle.scalar_values.specs.declared.flow.Quote.TheVariants.{Single, Double}
 use Rattle.saphyr_scalar.specs.Views.Cursor.{Cursor, ◌>>=◌, along, pass_line}
 use Rattle.scalar_values.specs.Flow as flow
-use Rattle.saphyr_scalar.specs.Steps.Quoted.{at, QuotedGap, on_line, over_lines, is_left, blank_in, break_in, break_len, inside, inside_at}
+use Rattle.saphyr_scalar.specs.Steps.Quoted.{mid_line, QuotedGap, on_line, over_lines, is_left, blank_in, break_in, break_len, inner_text, inner_text_at}
 use Rattle.saphyr_scalar.proofs.Quoted.Clean as quotes
 use Rattle.saphyr_scalar.proofs.Quoted.Clean.{IsClear}
 use Rattle.saphyr_scalar.specs.Passing.{IsPassed, character, line_break}
@@ -23,27 +23,27 @@ use Rattle.saphyr_input.proofs.Basics.Characters.{blank_cases, blank_no_break}
 use Rattle.saphyr_scalar.proofs.Quoted.GapBytes.{gap_bytes, blank_bytes, break_bytes}
 
 -- a line began
-abbrev pub IsOver : QuotedGap → Type 0
-IsOver (on_line bytes) = ⊥
-IsOver (over_lines escaped n) = Unit {0}
+abbrev pub IsOverLines : QuotedGap → Type 0
+IsOverLines (on_line bytes) = ⊥
+IsOverLines (over_lines escaped n) = Unit {0}
 
-break_over : (gap : QuotedGap) → IsOver (break_in gap)
+break_over : (gap : QuotedGap) → IsOverLines (break_in gap)
 break_over (on_line bytes) = tt
 break_over (over_lines escaped n) = tt
 
 -- the text that was read is spelled so, and no line of it begins with a document marker
 pub record Spelled (q : Quote) (gap : QuotedGap) (m : Marker) (xs b : List ℕ) (s : Cursor) : Type 0 where
   pub items : List Item
-  pub is : quotes.IsText q xs items s.rest
+  pub is : quotes.IsCleanText q xs items s.rest
   pub bytes : gap_bytes gap items ≡ b
   pub passed : IsPassed m xs s.mark s.rest
-  pub clear : IsOver gap → m.col ≡ 0 → IsClear xs
+  pub clear : IsOverLines gap → m.col ≡ 0 → IsClear xs
 
 -- what is known of shorter texts
 abbrev pub Known : ℕ → Quote → ℕ → Marker → Type 0
 Known n q indent start =
     (gap : QuotedGap) (m : Marker) (xs b : List ℕ) (s : Cursor) → length xs ≤ n
-    → GaveText (inside q indent start gap 0 m xs) b s → Spelled q gap m xs b s
+    → GaveText (inner_text q indent start gap 0 m xs) b s → Spelled q gap m xs b s
 
 blank_itself : (q : Quote) (c : ℕ) → is_blank c ≡ true → IsTrue (quotes.stands_for_itself q c)
 blank_itself Single c h = blank_cases c h (λ x. IsTrue (quotes.stands_for_itself Single x)) refl refl
@@ -53,16 +53,16 @@ blank_item : (c : ℕ) → is_blank c ≡ true → flow.raw_item c ≡ Blank c
 blank_item c h = blank_cases c h (λ x. flow.raw_item x ≡ Blank x) refl refl
 
 blank_spelled : (q : Quote) (c : ℕ) (cs : List ℕ) (items : List Item) (x : List ℕ) → is_blank c ≡ true
-    → quotes.IsText q cs items x → quotes.IsText q (c ∷ cs) (Blank c ∷ items) x
+    → quotes.IsCleanText q cs items x → quotes.IsCleanText q (c ∷ cs) (Blank c ∷ items) x
 blank_spelled q c cs items x h r =
-    subst (λ (i : Item). quotes.IsText q (c ∷ cs) (i ∷ items) x) (blank_item c h)
+    subst (λ (i : Item). quotes.IsCleanText q (c ∷ cs) (i ∷ items) x) (blank_item c h)
     (quotes.itself q c cs items x (blank_itself q c h) r)
 
 line_blank : (q : Quote) (indent : ℕ) (start : Marker) (escaped : Bool) (k : ℕ) (m : Marker) (c : ℕ) (cs : List ℕ)
     → is_blank c ≡ true
-    → inside q indent start (over_lines escaped k) 0 m (c ∷ cs)
-    ≡ (blank_in indent (over_lines escaped k) m c >>= λ g. inside q indent start g 0 (along m 1) cs)
-unfolding inside
+    → inner_text q indent start (over_lines escaped k) 0 m (c ∷ cs)
+    ≡ (blank_in indent (over_lines escaped k) m c >>= λ g. inner_text q indent start g 0 (along m 1) cs)
+unfolding inner_text
 line_blank q indent start escaped k m c cs h = rw h refl
 
 blank_clear : (c : ℕ) (cs : List ℕ) → is_blank c ≡ true → IsClear (c ∷ cs)
@@ -74,7 +74,7 @@ break_clear c cs h = break_cases c h (λ x. IsClear (x ∷ cs)) refl refl
 pub blank_step : (n : ℕ) (q : Quote) (indent : ℕ) (start : Marker) (gap : QuotedGap) (m : Marker) (c : ℕ)
     (cs b : List ℕ)
     (s : Cursor) → is_blank c ≡ true → length cs ≤ n → Known n q indent start
-    → GaveText (inside q indent start gap 0 m (c ∷ cs)) b s → Spelled q gap m (c ∷ cs) b s
+    → GaveText (inner_text q indent start gap 0 m (c ∷ cs)) b s → Spelled q gap m (c ∷ cs) b s
 unfolding blank_in
 blank_step n q indent start (on_line bytes) m c cs b s h le known g =
     let r = known (on_line (bytes ++ encode_utf8 c)) (along m 1) cs b s le
@@ -91,7 +91,7 @@ blank_step n q indent start (on_line bytes) m c cs b s h le known g =
     }
 blank_step n q indent start (over_lines escaped k) m c cs b s h le known g =
     by_test ((c == 9) && is_left indent m) _ _
-    (λ (r : Result QuotedGap Refusal). GaveText (r >>= λ g. inside q indent start g 0 (along m 1) cs) b s
+    (λ (r : Result QuotedGap Refusal). GaveText (r >>= λ g. inner_text q indent start g 0 (along m 1) cs) b s
     → Spelled q (over_lines escaped k) m (c ∷ cs) b s)
     (λ _ e. nothing_text _ b s e)
     (λ _ e.
@@ -116,12 +116,12 @@ behind_break_shorter c cs =
 pub break_step : (n : ℕ) (q : Quote) (indent : ℕ) (start : Marker) (gap : QuotedGap) (m : Marker) (c : ℕ)
     (cs b : List ℕ)
     (s : Cursor) → is_break c ≡ true → length cs ≤ n → Known n q indent start
-    → GaveText (inside q indent start gap 0 m (c ∷ cs)) b s → Spelled q gap m (c ∷ cs) b s
+    → GaveText (inner_text q indent start gap 0 m (c ∷ cs)) b s → Spelled q gap m (c ∷ cs) b s
 break_step n q indent start gap m c cs b s h le known g =
-    let here = at m (c ∷ cs) in
+    let here = mid_line m (c ∷ cs) in
     let there = pass_line (break_len (c ∷ cs)) here in
-    let on : inside q indent start gap 0 m (c ∷ cs) ≡ inside_at q indent start (break_in gap) there =
-    at_break q indent start gap here h ∙ ap (inside_at q indent start (break_in gap)) (by_break_len here h) in
+    let on : inner_text q indent start gap 0 m (c ∷ cs) ≡ inner_text_at q indent start (break_in gap) there =
+    at_break q indent start gap here h ∙ ap (inner_text_at q indent start (break_in gap)) (by_break_len here h) in
     let r = known (break_in gap) there.mark there.rest b s (omega (arith, behind_break_shorter c cs)) (sym on ∙ g) in
     record {
       items = Break ∷ r.items;

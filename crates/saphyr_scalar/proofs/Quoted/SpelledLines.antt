@@ -10,23 +10,23 @@ use Rattle.scalar_values.specs.declared.flow.Quote.{Quote}
 use Rattle.saphyr_scalar.specs.Views.Cursor.{Cursor, ◌>>=◌, along}
 use Rattle.scalar_values.specs.Flow as flow
 use Rattle.scalar_values.specs.Folding.{folded}
-use Rattle.saphyr_scalar.specs.Steps.Quoted.{TextRead, at, QuotedGap, on_line, over_lines, no_gap, is_left, folded_break, begin_word, end_gap, inside, quoted}
+use Rattle.saphyr_scalar.specs.Steps.Quoted.{TextRead, mid_line, QuotedGap, on_line, over_lines, no_gap, is_left, folded_break, quoted_line, end_gap, inner_text, quoted}
 use Rattle.saphyr_scalar.specs.Spelling.QuotedMarkers.{HasNoMarker}
 use Rattle.saphyr_scalar.proofs.Quoted.Clean as quotes
 use Rattle.saphyr_scalar.proofs.Quoted.Clean.{IsClear}
 use Rattle.saphyr_scalar.specs.Passing.{IsPassed, character}
-use Rattle.saphyr_scalar.proofs.Quoted.Inside.{behind_gap, behind_no_gap, word_from}
+use Rattle.saphyr_scalar.proofs.Quoted.Inside.{quoted_behind_gap, behind_no_gap, word_from}
 use Rattle.saphyr_scalar.proofs.Quoted.SpelledEscapes.{GaveText, nothing_text, front_gave}
 use Rattle.saphyr_input.proofs.Basics.Booleans.{by_test}
 use Rattle.saphyr_scalar.proofs.NoBreaks.{mark_no_break, mark_no_nul}
 use Rattle.saphyr_scalar.proofs.Quoted.GapBytes.{gap_front, no_gap_bytes}
-use Rattle.saphyr_scalar.proofs.Quoted.SpelledGaps.{IsOver, Spelled, Known, blank_step, break_step}
+use Rattle.saphyr_scalar.proofs.Quoted.SpelledGaps.{IsOverLines, Spelled, Known, blank_step, break_step}
 use Rattle.saphyr_scalar.proofs.Quoted.SpelledWords.{cases, word_spelled}
 
 -- what ends a gap
 pub record Ended (gap : QuotedGap) (col : ℕ) (xs text : List ℕ) : Type 0 where
   pub bytes : text ≡ gap_front gap
-  pub clear : IsOver gap → col ≡ 0 → IsClear xs
+  pub clear : IsOverLines gap → col ≡ 0 → IsClear xs
   pub nul : is_z (slice_index xs 0) ≡ false
 
 no_error_is_ok : {A X : Type 0} (r : Refusal) (x : A) → ◌≡◌ {A = Result A Refusal} (Err r) (Ok x) → X
@@ -42,7 +42,7 @@ LinesEnded escaped n s text r =
 
 pub gap_ended : (indent : ℕ) (start : Marker) (gap : QuotedGap) (s : Cursor) (text : List ℕ)
     → end_gap indent start gap s ≡ Ok text → Ended gap s.mark.col s.rest text
-unfolding end_gap begin_word
+unfolding end_gap quoted_line
 gap_ended indent start (on_line bytes) s text =
     by_test (is_z (slice_index s.rest 0)) _ _
     (λ (r : Result (List ℕ) Refusal). r ≡ Ok text → Ended (on_line bytes) s.mark.col s.rest text)
@@ -68,11 +68,11 @@ then_front (Err r) f b s e = nothing_text r b s e
 
 content_step : (n : ℕ) (q : Quote) (indent : ℕ) (start : Marker) (gap : QuotedGap) (m : Marker) (c : ℕ) (cs b : List ℕ)
     (s : Cursor) → is_blank c ≡ false → is_break c ≡ false → length cs ≤ n → Known n q indent start
-    → GaveText (inside q indent start gap 0 m (c ∷ cs)) b s → Spelled q gap m (c ∷ cs) b s
+    → GaveText (inner_text q indent start gap 0 m (c ∷ cs)) b s → Spelled q gap m (c ∷ cs) b s
 content_step n q indent start gap m c cs b s blank break le known g =
-    let t = then_front (end_gap indent start gap (at m (c ∷ cs))) _ b s
-    (sym (behind_gap q indent start gap m c cs blank break) ∙ g) in
-    let ended = gap_ended indent start gap (at m (c ∷ cs)) t.0 t.1 in
+    let t = then_front (end_gap indent start gap (mid_line m (c ∷ cs))) _ b s
+    (sym (quoted_behind_gap q indent start gap m c cs blank break) ∙ g) in
+    let ended = gap_ended indent start gap (mid_line m (c ∷ cs)) t.0 t.1 in
     let f = front_gave t.0 (word_from q indent start m c cs) b s t.2 in
     let w = word_spelled n q indent start m c cs f.0 s (record { blank = blank; break = break; nul = ended.nul }) le
     known (behind_no_gap q indent start m c cs blank break ended.nul ∙ f.1) in
@@ -87,13 +87,13 @@ content_step n q indent start gap m c cs b s blank break le known g =
     }
 
 at_text_end : (q : Quote) (indent : ℕ) (start : Marker) (gap : QuotedGap) (m : Marker) (b : List ℕ) (s : Cursor)
-    → GaveText (inside q indent start gap 0 m []) b s → Spelled q gap m [] b s
-unfolding inside
+    → GaveText (inner_text q indent start gap 0 m []) b s → Spelled q gap m [] b s
+unfolding inner_text
 at_text_end q indent start gap m b s g = nothing_text _ b s g
 
 inside_spelled : (n : ℕ) (q : Quote) (indent : ℕ) (start : Marker) (gap : QuotedGap) (m : Marker) (xs b : List ℕ)
     (s : Cursor)
-    → length xs ≤ n → GaveText (inside q indent start gap 0 m xs) b s → Spelled q gap m xs b s
+    → length xs ≤ n → GaveText (inner_text q indent start gap 0 m xs) b s → Spelled q gap m xs b s
 inside_spelled n q indent start gap m [] b s le g = at_text_end q indent start gap m b s g
 inside_spelled zero q indent start gap m (c ∷ cs) b s le g = absurd (omega arith)
 inside_spelled (suc n) q indent start gap m (c ∷ cs) b s le g =

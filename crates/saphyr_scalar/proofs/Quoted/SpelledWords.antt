@@ -9,11 +9,11 @@ use Rattle.scalar_values.specs.declared.flow.Quote.{Quote}
 use Rattle.scalar_values.specs.declared.flow.Quote.TheVariants.{Single, Double}
 use Rattle.saphyr_scalar.specs.Views.Cursor.{Cursor, along, next_line}
 use Rattle.scalar_values.specs.Flow as flow
-use Rattle.saphyr_scalar.specs.Steps.Quoted.{is_literal, at, QuotedGap, over_lines, no_gap, escaped_gap, break_len, is_closing, escaped_character, inside, inside_at}
+use Rattle.saphyr_scalar.specs.Steps.Quoted.{is_literal, mid_line, QuotedGap, over_lines, no_gap, escaped_gap, break_len, is_closing, escaped_character, inner_text, inner_text_at}
 use Rattle.saphyr_scalar.proofs.Quoted.Clean as quotes
 use Rattle.saphyr_scalar.specs.Passing.{IsPassed, nothing, character, line_break}
 use Rattle.saphyr_scalar.proofs.Moving.{along_more}
-use Rattle.saphyr_scalar.proofs.Quoted.Inside.{IsContent, stands}
+use Rattle.saphyr_scalar.proofs.Quoted.Inside.{IsQuotedInk, stands}
 use Rattle.saphyr_scalar.proofs.Quoted.Parts.{at_escape, at_two_quotes}
 use Rattle.saphyr_scalar.proofs.Quoted.Gaps.{at_escaped_break, at_closing}
 use Rattle.saphyr_scalar.proofs.Quoted.SpelledEscapes.{GaveText, text_first, text_second, then_text, front_gave, escape_spelled, no_escape}
@@ -27,23 +27,23 @@ use Rattle.saphyr_scalar.proofs.Quoted.SpelledGaps.{Spelled, Known}
 -- A word, or the closing quote.
 pub record Word (q : Quote) (m : Marker) (xs y : List ℕ) (s : Cursor) : Type 0 where
   pub items : List Item
-  pub is : quotes.IsText q xs items s.rest
+  pub is : quotes.IsCleanText q xs items s.rest
   pub bytes : (gap : QuotedGap) → gap_front gap ++ y ≡ gap_bytes gap items
   pub passed : IsPassed m xs s.mark s.rest
 
 closed_word : (q : Quote) (indent : ℕ) (start m : Marker) (cs y : List ℕ) (s : Cursor)
     → IsTrue (is_closing q (flow.mark q ∷ cs))
-    → GaveText (inside q indent start no_gap 0 m (flow.mark q ∷ cs)) y s → Word q m (flow.mark q ∷ cs) y s
+    → GaveText (inner_text q indent start no_gap 0 m (flow.mark q ∷ cs)) y s → Word q m (flow.mark q ∷ cs) y s
 closed_word q indent start m cs y s h g =
     let done = sym (at_closing q indent start m cs h) ∙ g in
-    let left : cs ≡ s.rest = ap (λ (u : Cursor). u.rest) (text_second [] y (at (along m 1) cs) s done) in
-    let empty : [] ≡ y = text_first [] y (at (along m 1) cs) s done in
+    let left : cs ≡ s.rest = ap (λ (u : Cursor). u.rest) (text_second [] y (mid_line (along m 1) cs) s done) in
+    let empty : [] ≡ y = text_first [] y (mid_line (along m 1) cs) s done in
     record {
       items = [];
-      is = subst (λ (x : List ℕ). quotes.IsText q (flow.mark q ∷ cs) [] x) left (quotes.closed q cs h);
+      is = subst (λ (x : List ℕ). quotes.IsCleanText q (flow.mark q ∷ cs) [] x) left (quotes.closed q cs h);
       bytes = λ gap. ap (λ b. gap_front gap ++ b) (sym empty) ∙ closed_bytes gap;
       passed = subst (λ (u : Cursor). IsPassed m (flow.mark q ∷ cs) u.mark u.rest)
-          (text_second [] y (at (along m 1) cs) s done)
+          (text_second [] y (mid_line (along m 1) cs) s done)
           (character m (flow.mark q) cs (along m 1) cs (mark_no_break q) (nothing (along m 1) cs));
     }
 
@@ -55,21 +55,21 @@ literal_itself q c h = by_cases (is_blank c) (is_breakz c) (flow.is_special q c)
     by_cases true b d h = absurd (cc)
     by_cases false b d h = h
 
-pub content_item : (c : ℕ) → IsContent c → flow.raw_item c ≡ Raw c
+pub content_item : (c : ℕ) → IsQuotedInk c → flow.raw_item c ≡ Raw c
 content_item c is =
     let no_feed : (c == 10) ≡ false = or_false_left (c == 10) (c == 13) is.break in
     rw (no_feed, is.blank) refl
 
-literal_word : (n : ℕ) (q : Quote) (indent : ℕ) (start m : Marker) (c : ℕ) (cs y : List ℕ) (s : Cursor) → IsContent c
+literal_word : (n : ℕ) (q : Quote) (indent : ℕ) (start m : Marker) (c : ℕ) (cs y : List ℕ) (s : Cursor) → IsQuotedInk c
     → is_literal q c ≡ true → length cs ≤ n → Known n q indent start
-    → GaveText (inside q indent start no_gap 0 m (c ∷ cs)) y s → Word q m (c ∷ cs) y s
+    → GaveText (inner_text q indent start no_gap 0 m (c ∷ cs)) y s → Word q m (c ∷ cs) y s
 literal_word n q indent start m c cs y s content h le known g =
-    let f = front_gave (encode_utf8 c) (inside q indent start no_gap 0 (along m 1) cs) y s
+    let f = front_gave (encode_utf8 c) (inner_text q indent start no_gap 0 (along m 1) cs) y s
     (sym (stands q indent start m c cs h) ∙ g) in
     let r = known no_gap (along m 1) cs f.0 s le f.1 in
     record {
       items = Raw c ∷ r.items;
-      is = subst (λ (i : Item). quotes.IsText q (c ∷ cs) (i ∷ r.items) s.rest) (content_item c content)
+      is = subst (λ (i : Item). quotes.IsCleanText q (c ∷ cs) (i ∷ r.items) s.rest) (content_item c content)
           (quotes.itself q c cs r.items s.rest (literal_itself q c h) r.is);
       bytes = λ gap. ap (λ b. gap_front gap ++ b) (sym f.2 ∙ ap (λ b. encode_utf8 c ++ b) (sym r.bytes))
           ∙ raw_bytes gap c r.items;
@@ -90,17 +90,17 @@ two_passed m cs n u p =
 -- two single quotes, or the closing one
 quote_word : (n : ℕ) (indent : ℕ) (start m : Marker) (cs y : List ℕ) (s : Cursor) → length cs ≤ n
     → Known n Single indent start
-    → GaveText (inside Single indent start no_gap 0 m (39 ∷ cs)) y s → Word Single m (39 ∷ cs) y s
+    → GaveText (inner_text Single indent start no_gap 0 m (39 ∷ cs)) y s → Word Single m (39 ∷ cs) y s
 quote_word n indent start m [] y s le known g = closed_word Single indent start m [] y s refl g
 quote_word n indent start m (d ∷ cs) y s le known g = cases (d == 39)
     (λ h. let is : 39 ≡ d = sym (eqb-true d 39 h) in
     subst (λ (x : ℕ). Word Single m (39 ∷ x ∷ cs) y s) is
-    (second (ap (λ x. inside Single indent start no_gap 0 m (39 ∷ x ∷ cs)) is ∙ g)))
+    (second (ap (λ x. inner_text Single indent start no_gap 0 m (39 ∷ x ∷ cs)) is ∙ g)))
     (λ h. closed_word Single indent start m (d ∷ cs) y s (rw h refl) g)
   where
-    second : GaveText (inside Single indent start no_gap 0 m (39 ∷ 39 ∷ cs)) y s → Word Single m (39 ∷ 39 ∷ cs) y s
+    second : GaveText (inner_text Single indent start no_gap 0 m (39 ∷ 39 ∷ cs)) y s → Word Single m (39 ∷ 39 ∷ cs) y s
     second g =
-        let f = front_gave (encode_utf8 39) (inside Single indent start no_gap 0 (along m 2) cs) y s
+        let f = front_gave (encode_utf8 39) (inner_text Single indent start no_gap 0 (along m 2) cs) y s
         (sym (at_two_quotes indent start m cs) ∙ g) in
         let r = known no_gap (along m 2) cs f.0 s (omega arith) f.1 in
         record {
@@ -114,16 +114,16 @@ quote_word n indent start m (d ∷ cs) y s le known g = cases (d == 39)
 -- what stands behind an escaped break
 line_word : (n : ℕ) (indent : ℕ) (start m : Marker) (xs y : List ℕ) (s : Cursor) → length xs ≤ n
     → Known n Double indent start
-    → GaveText (inside Double indent start (escaped_gap Double (slice_index xs 0)) 0 m xs) y s
+    → GaveText (inner_text Double indent start (escaped_gap Double (slice_index xs 0)) 0 m xs) y s
     → Spelled Double (over_lines true 0) m xs y s
 line_word n indent start m [] y s le known g = known (over_lines true 0) m [] y s le g
 line_word n indent start m (c ∷ cs) y s le known g = cases (c == 34)
     (λ h. let is : 34 ≡ c = sym (eqb-true c 34 h) in
     subst (λ (x : ℕ). Spelled Double (over_lines true 0) m (x ∷ cs) y s) is
-    (closes (ap (λ x. inside Double indent start no_gap 0 m (x ∷ cs)) is
-    ∙ ap (λ g. inside Double indent start g 0 m (c ∷ cs)) (sym (gap_of (c == 34) h)) ∙ g)))
+    (closes (ap (λ x. inner_text Double indent start no_gap 0 m (x ∷ cs)) is
+    ∙ ap (λ g. inner_text Double indent start g 0 m (c ∷ cs)) (sym (gap_of (c == 34) h)) ∙ g)))
     (λ h. known (over_lines true 0) m (c ∷ cs) y s le
-    (ap (λ g. inside Double indent start g 0 m (c ∷ cs)) (sym (line_of (c == 34) h)) ∙ g))
+    (ap (λ g. inner_text Double indent start g 0 m (c ∷ cs)) (sym (line_of (c == 34) h)) ∙ g))
   where
     gap_of : (b : Bool) → b ≡ true → cond b no_gap (over_lines true 0) ≡ no_gap
     gap_of true h = refl
@@ -133,17 +133,17 @@ line_word n indent start m (c ∷ cs) y s le known g = cases (c == 34)
     line_of true h = absurd (cc)
     line_of false h = refl
 
-    closes : GaveText (inside Double indent start no_gap 0 m (34 ∷ cs)) y s
+    closes : GaveText (inner_text Double indent start no_gap 0 m (34 ∷ cs)) y s
         → Spelled Double (over_lines true 0) m (34 ∷ cs) y s
     closes g =
         let done = sym (at_closing Double indent start m cs refl) ∙ g in
-        let left : cs ≡ s.rest = ap (λ (u : Cursor). u.rest) (text_second [] y (at (along m 1) cs) s done) in
+        let left : cs ≡ s.rest = ap (λ (u : Cursor). u.rest) (text_second [] y (mid_line (along m 1) cs) s done) in
         record {
           items = [];
-          is = subst (λ (x : List ℕ). quotes.IsText Double (34 ∷ cs) [] x) left (quotes.closed Double cs refl);
-          bytes = text_first [] y (at (along m 1) cs) s done;
+          is = subst (λ (x : List ℕ). quotes.IsCleanText Double (34 ∷ cs) [] x) left (quotes.closed Double cs refl);
+          bytes = text_first [] y (mid_line (along m 1) cs) s done;
           passed = subst (λ (u : Cursor). IsPassed m (34 ∷ cs) u.mark u.rest)
-              (text_second [] y (at (along m 1) cs) s done)
+              (text_second [] y (mid_line (along m 1) cs) s done)
               (character m 34 cs (along m 1) cs refl (nothing (along m 1) cs));
           clear = λ _ _. refl;
         }
@@ -151,9 +151,10 @@ line_word n indent start m (c ∷ cs) y s le known g = cases (c == 34)
 -- an escape, or an escaped break
 backslash_word : (n : ℕ) (indent : ℕ) (start m : Marker) (cs y : List ℕ) (s : Cursor) → length cs ≤ n
     → Known n Double indent start
-    → GaveText (inside Double indent start no_gap 0 m (92 ∷ cs)) y s → Word Double m (92 ∷ cs) y s
+    → GaveText (inner_text Double indent start no_gap 0 m (92 ∷ cs)) y s → Word Double m (92 ∷ cs) y s
 backslash_word n indent start m [] y s le known g =
-    let t = then_text (escaped_character start (at m (92 ∷ []))) _ y s (sym (at_escape indent start m [] refl) ∙ g) in
+    let t = then_text (escaped_character start (mid_line m (92 ∷ []))) _ y s
+    (sym (at_escape indent start m [] refl) ∙ g) in
     absurd (no_escape start m t.0 t.1 t.2)
 backslash_word n indent start m (e ∷ xs) y s le known g = cases (is_break e)
     (λ h.
@@ -167,10 +168,10 @@ backslash_word n indent start m (e ∷ xs) y s le known g = cases (is_break e)
       passed = character m 92 (e ∷ xs) s.mark s.rest refl (line_break (along m 1) (e ∷ xs) s.mark s.rest h r.passed);
     })
     (λ h.
-    let t = then_text (escaped_character start (at m (92 ∷ e ∷ xs))) _ y s
+    let t = then_text (escaped_character start (mid_line m (92 ∷ e ∷ xs))) _ y s
     (sym (at_escape indent start m (e ∷ xs) h) ∙ g) in
     let esc = escape_spelled start m e xs t.0 t.1 t.2 in
-    let f = front_gave (encode_utf8 t.0) (inside_at Double indent start no_gap t.1) y s t.3 in
+    let f = front_gave (encode_utf8 t.0) (inner_text_at Double indent start no_gap t.1) y s t.3 in
     let r = known no_gap t.1.mark t.1.rest f.0 s (omega (arith, esc.shorter, le)) f.1 in
     record {
       items = Escaped t.0 ∷ r.items;
@@ -180,7 +181,7 @@ backslash_word n indent start m (e ∷ xs) y s le known g = cases (is_break e)
       passed = esc.passes s.mark s.rest r.passed;
     })
 
-pub special_of : (q : Quote) (c : ℕ) → IsContent c → is_literal q c ≡ false → flow.is_special q c ≡ true
+pub special_of : (q : Quote) (c : ℕ) → IsQuotedInk c → is_literal q c ≡ false → flow.is_special q c ≡ true
 unfolding is_literal
 special_of q c is h = by_cases (is_blank c) (is_break c) (is_z c) (flow.is_special q c) is.blank is.break is.nul h
   where
@@ -192,26 +193,26 @@ special_of q c is h = by_cases (is_blank c) (is_break c) (is_z c) (flow.is_speci
     by_cases false false false false x y w h = absurd (cc)
 
 pub word_spelled : (n : ℕ) (q : Quote) (indent : ℕ) (start m : Marker) (c : ℕ) (cs y : List ℕ) (s : Cursor)
-    → IsContent c
+    → IsQuotedInk c
     → length cs ≤ n → Known n q indent start
-    → GaveText (inside q indent start no_gap 0 m (c ∷ cs)) y s → Word q m (c ∷ cs) y s
+    → GaveText (inner_text q indent start no_gap 0 m (c ∷ cs)) y s → Word q m (c ∷ cs) y s
 word_spelled n q indent start m c cs y s is le known g = cases (is_literal q c)
     (λ h. literal_word n q indent start m c cs y s is h le known g)
     (λ h. by_quote q known g (special_of q c is h))
   where
-    by_quote : (q : Quote) → Known n q indent start → GaveText (inside q indent start no_gap 0 m (c ∷ cs)) y s
+    by_quote : (q : Quote) → Known n q indent start → GaveText (inner_text q indent start no_gap 0 m (c ∷ cs)) y s
         → flow.is_special q c ≡ true → Word q m (c ∷ cs) y s
     by_quote Single known g special =
         let same : 39 ≡ c = sym (eqb-true c 39 special) in
         subst (λ (x : ℕ). Word Single m (x ∷ cs) y s) same
         (quote_word n indent start m cs y s le known
-        (ap (λ x. inside Single indent start no_gap 0 m (x ∷ cs)) same ∙ g))
+        (ap (λ x. inner_text Single indent start no_gap 0 m (x ∷ cs)) same ∙ g))
     by_quote Double known g special = either (c == 34) (c == 92) (Word Double m (c ∷ cs) y s) special
         (λ h. let same : 34 ≡ c = sym (eqb-true c 34 h) in
         subst (λ (x : ℕ). Word Double m (x ∷ cs) y s) same
         (closed_word Double indent start m cs y s refl
-        (ap (λ x. inside Double indent start no_gap 0 m (x ∷ cs)) same ∙ g)))
+        (ap (λ x. inner_text Double indent start no_gap 0 m (x ∷ cs)) same ∙ g)))
         (λ h. let same : 92 ≡ c = sym (eqb-true c 92 h) in
         subst (λ (x : ℕ). Word Double m (x ∷ cs) y s) same
         (backslash_word n indent start m cs y s le known
-        (ap (λ x. inside Double indent start no_gap 0 m (x ∷ cs)) same ∙ g)))
+        (ap (λ x. inner_text Double indent start no_gap 0 m (x ∷ cs)) same ∙ g)))

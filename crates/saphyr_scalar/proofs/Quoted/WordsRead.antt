@@ -12,16 +12,16 @@ use Rattle.scalar_values.specs.declared.flow.Quote.TheVariants.{Single, Double}
 use Rattle.saphyr_scalar.specs.Views.Cursor.{◌>>=◌, along, next_line}
 use Rattle.scalar_values.specs.Flow as flow
 use Rattle.saphyr_scalar.specs.Passing.{IsPassed, nothing, character, line_break}
-use Rattle.saphyr_scalar.specs.Steps.Quoted.{is_literal, with_front, at, QuotedGap, on_line, over_lines, no_gap, is_left, begin_word, end_gap, escaped_gap, break_len, is_closing, escaped_character, inside, inside_at}
+use Rattle.saphyr_scalar.specs.Steps.Quoted.{is_literal, with_front, mid_line, QuotedGap, on_line, over_lines, no_gap, is_left, quoted_line, end_gap, escaped_gap, break_len, is_closing, escaped_character, inner_text, inner_text_at}
 use Rattle.saphyr_scalar.specs.Spelling.Quoted as quotes
 use Rattle.saphyr_scalar.proofs.Moving.{along_more}
-use Rattle.saphyr_scalar.proofs.Quoted.Inside.{behind_gap, behind_no_gap, word_from, IsContent, content_of, stands}
+use Rattle.saphyr_scalar.proofs.Quoted.Inside.{quoted_behind_gap, behind_no_gap, word_from, IsQuotedInk, content_of, stands}
 use Rattle.saphyr_scalar.proofs.Quoted.Parts.{at_escape, at_two_quotes}
 use Rattle.saphyr_scalar.proofs.Quoted.Gaps.{at_escaped_break, at_closing}
 use Rattle.saphyr_scalar.proofs.Quoted.Spellings.{escape_content}
 use Rattle.saphyr_scalar.proofs.Quoted.GapBytes.{gap_bytes, gap_front, closed_bytes, raw_bytes, escaped_bytes, escaped_break_bytes}
 use Rattle.saphyr_input.proofs.Basics.Characters.{ink_no_space}
-use Rattle.saphyr_scalar.proofs.Given.{text_at}
+use Rattle.saphyr_scalar.proofs.Given.{text_given_at}
 use Rattle.saphyr_scalar.proofs.Quoted.IndentedLines.{Indented, GapFits, right_of}
 
 -- What was read of a spelled text.
@@ -30,7 +30,7 @@ pub record Read (q : Quote) (indent : ℕ) (start : Marker) (gap : QuotedGap) (m
     (x : List ℕ) : Type 0 where
   pub mark : Marker
   pub passed : IsPassed m t mark x
-  pub is : inside q indent start gap 0 m t ≡ Ok (gap_bytes gap items, at mark x)
+  pub is : inner_text q indent start gap 0 m t ≡ Ok (gap_bytes gap items, mid_line mark x)
 
 -- a word, or the closing quote
 pub record WordRead (q : Quote) (indent : ℕ) (start m : Marker) (t : List ℕ) (items : List Item) (x : List ℕ)
@@ -38,16 +38,16 @@ pub record WordRead (q : Quote) (indent : ℕ) (start m : Marker) (t : List ℕ)
   pub first : ℕ
   pub others : List ℕ
   pub cut : t ≡ first ∷ others
-  pub content : IsContent first
+  pub content : IsQuotedInk first
   pub text : List ℕ
   pub mark : Marker
   pub passed : IsPassed m t mark x
-  pub is : inside q indent start no_gap 0 m t ≡ Ok (text, at mark x)
+  pub is : inner_text q indent start no_gap 0 m t ≡ Ok (text, mid_line mark x)
   pub bytes : (gap : QuotedGap) → gap_front gap ++ text ≡ gap_bytes gap items
 
-ends_gap : (indent : ℕ) (start : Marker) (gap : QuotedGap) (m : Marker) (c : ℕ) (cs : List ℕ) → IsContent c
-    → GapFits indent gap m (c ∷ cs) → end_gap indent start gap (at m (c ∷ cs)) ≡ Ok (gap_front gap)
-unfolding end_gap begin_word
+ends_gap : (indent : ℕ) (start : Marker) (gap : QuotedGap) (m : Marker) (c : ℕ) (cs : List ℕ) → IsQuotedInk c
+    → GapFits indent gap m (c ∷ cs) → end_gap indent start gap (mid_line m (c ∷ cs)) ≡ Ok (gap_front gap)
+unfolding end_gap quoted_line
 ends_gap indent start (on_line bytes) m c cs is fits = rw is.nul refl
 ends_gap indent start (over_lines escaped n) m c cs is fits =
     let right = right_of indent m c cs (ink_no_space c is.blank) is.break fits in
@@ -71,21 +71,21 @@ with_gap q indent start gap m t items x fits w =
     let c = w.first in
     let cs = w.others in
     let fits_here : GapFits indent gap m (c ∷ cs) = subst (λ (l : List ℕ). GapFits indent gap m l) w.cut fits in
-    let word : inside q indent start no_gap 0 m (c ∷ cs) ≡ text_at w.text w.mark x =
-    ap (inside q indent start no_gap 0 m) (sym w.cut) ∙ w.is in
+    let word : inner_text q indent start no_gap 0 m (c ∷ cs) ≡ text_given_at w.text w.mark x =
+    ap (inner_text q indent start no_gap 0 m) (sym w.cut) ∙ w.is in
     record {
       mark = w.mark;
       passed = w.passed;
-      is = ap (inside q indent start gap 0 m) w.cut
-          ∙ behind_gap q indent start gap m c cs w.content.blank w.content.break
+      is = ap (inner_text q indent start gap 0 m) w.cut
+          ∙ quoted_behind_gap q indent start gap m c cs w.content.blank w.content.break
           ∙ ap (λ r. r >>= λ text. with_front text (word_from q indent start m c cs))
           (ends_gap indent start gap m c cs w.content fits_here)
           ∙ ap (with_front (gap_front gap))
           (sym (behind_no_gap q indent start m c cs w.content.blank w.content.break w.content.nul) ∙ word)
-          ∙ ap (λ b. text_at b w.mark x) (w.bytes gap);
+          ∙ ap (λ b. text_given_at b w.mark x) (w.bytes gap);
     }
 
-pub mark_content : (q : Quote) → IsContent (flow.mark q)
+pub mark_content : (q : Quote) → IsQuotedInk (flow.mark q)
 mark_content Single = record { blank = refl; break = refl; nul = refl }
 mark_content Double = record { blank = refl; break = refl; nul = refl }
 
@@ -104,7 +104,7 @@ closed_read q indent start m x h = record {
 }
 
 pub record Itself (q : Quote) (c : ℕ) : Type 0 where
-  pub content : is_blank c ≡ false → IsContent c
+  pub content : is_blank c ≡ false → IsQuotedInk c
   pub literal : is_blank c ≡ false → is_literal q c ≡ true
 
 pub itself_of : (q : Quote) (c : ℕ) → IsTrue (quotes.stands_for_itself q c) → Itself q c
@@ -122,7 +122,7 @@ itself_of q c h = record {
     by_cases false false true h other = absurd (cc)
 
 pub literal_read : (q : Quote) (indent : ℕ) (start m : Marker) (c : ℕ) (t : List ℕ) (items : List Item) (x : List ℕ)
-    → IsContent c → is_literal q c ≡ true → Read q indent start no_gap (along m 1) t items x
+    → IsQuotedInk c → is_literal q c ≡ true → Read q indent start no_gap (along m 1) t items x
     → WordRead q indent start m (c ∷ t) (Raw c ∷ items) x
 literal_read q indent start m c t items x content h r = record {
   first = c;
@@ -155,7 +155,7 @@ two_quotes_read indent start m t items x r = record {
 
 -- an escape, and what is read behind it
 pub escape_read : (indent : ℕ) (start m : Marker) (e c : ℕ) (t : List ℕ) (items : List Item) (x rest : List ℕ) (k : ℕ)
-    → is_break e ≡ false → escaped_character start (at m (92 ∷ e ∷ t)) ≡ Ok (c, at (along m k) rest)
+    → is_break e ≡ false → escaped_character start (mid_line m (92 ∷ e ∷ t)) ≡ Ok (c, mid_line (along m k) rest)
     → (r : Read Double indent start no_gap (along m k) rest items x) → IsPassed m (92 ∷ e ∷ t) r.mark x
     → WordRead Double indent start m (92 ∷ e ∷ t) (Escaped c ∷ items) x
 escape_read indent start m e c t items x rest k no_break h r passed = record {
@@ -167,7 +167,7 @@ escape_read indent start m e c t items x rest k no_break h r passed = record {
   mark = r.mark;
   passed = passed;
   is = at_escape indent start m (e ∷ t) no_break
-      ∙ ap (λ y. y >>= λ z. with_front (encode_utf8 z.0) (inside_at Double indent start no_gap z.1)) h
+      ∙ ap (λ y. y >>= λ z. with_front (encode_utf8 z.0) (inner_text_at Double indent start no_gap z.1)) h
       ∙ ap (with_front (encode_utf8 c)) r.is;
   bytes = λ gap. escaped_bytes gap c items;
 }
@@ -176,9 +176,9 @@ pub escaped_break_read : (indent : ℕ) (start m : Marker) (t : List ℕ) (items
     → is_break (slice_index t 0) ≡ true
     → (r : Read Double indent start (over_lines true 0) (next_line (along m 1) (break_len t)) (drop (break_len t) t)
     items x)
-    → inside Double indent start (escaped_gap Double (slice_index (drop (break_len t) t) 0)) 0
+    → inner_text Double indent start (escaped_gap Double (slice_index (drop (break_len t) t) 0)) 0
     (next_line (along m 1) (break_len t)) (drop (break_len t) t)
-    ≡ Ok (gap_bytes (over_lines true 0) items, at r.mark x)
+    ≡ Ok (gap_bytes (over_lines true 0) items, mid_line r.mark x)
     → WordRead Double indent start m (92 ∷ t) (EscapedBreak ∷ items) x
 escaped_break_read indent start m t items x h r same = record {
   first = 92;
@@ -194,8 +194,8 @@ escaped_break_read indent start m t items x h r same = record {
 
 -- right behind an escaped break the closing quote is read as elsewhere on its line
 pub same_at_quote : (indent : ℕ) (start m : Marker) (t : List ℕ) → Indented indent m t
-    → inside Double indent start (escaped_gap Double (slice_index t 0)) 0 m t
-    ≡ inside Double indent start (over_lines true 0) 0 m t
+    → inner_text Double indent start (escaped_gap Double (slice_index t 0)) 0 m t
+    ≡ inner_text Double indent start (over_lines true 0) 0 m t
 same_at_quote indent start m [] fits = refl
 same_at_quote indent start m (c ∷ cs) fits = by_test (c == 34) refl
   where
@@ -203,19 +203,21 @@ same_at_quote indent start m (c ∷ cs) fits = by_test (c == 34) refl
     number c h = grind (arith, nat_tests)
 
     quote : Indented indent m (34 ∷ cs)
-        → inside Double indent start no_gap 0 m (34 ∷ cs) ≡ inside Double indent start (over_lines true 0) 0 m (34 ∷ cs)
+        → inner_text Double indent start no_gap 0 m (34 ∷ cs) ≡ inner_text Double indent start (over_lines true 0) 0 m
+        (34 ∷ cs)
     quote fits =
         at_closing Double indent start m cs refl
-        ∙ sym (behind_gap Double indent start (over_lines true 0) m 34 cs refl refl
+        ∙ sym (quoted_behind_gap Double indent start (over_lines true 0) m 34 cs refl refl
         ∙ ap (λ r. r >>= λ text. with_front text (word_from Double indent start m 34 cs))
         (ends_gap indent start (over_lines true 0) m 34 cs (mark_content Double) fits)
         ∙ ap (with_front []) (sym (behind_no_gap Double indent start m 34 cs refl refl refl)
         ∙ at_closing Double indent start m cs refl))
 
     by_test : (b : Bool) → (c == 34) ≡ b
-        → inside Double indent start (cond b no_gap (over_lines true 0)) 0 m (c ∷ cs)
-        ≡ inside Double indent start (over_lines true 0) 0 m (c ∷ cs)
+        → inner_text Double indent start (cond b no_gap (over_lines true 0)) 0 m (c ∷ cs)
+        ≡ inner_text Double indent start (over_lines true 0) 0 m (c ∷ cs)
     by_test true h = subst (λ (k : ℕ). Indented indent m (k ∷ cs)
-        → inside Double indent start no_gap 0 m (k ∷ cs) ≡ inside Double indent start (over_lines true 0) 0 m (k ∷ cs))
+        → inner_text Double indent start no_gap 0 m (k ∷ cs) ≡ inner_text Double indent start (over_lines true 0) 0 m
+        (k ∷ cs))
         (number c h) quote fits
     by_test false h = refl

@@ -63,10 +63,8 @@ abbrev pub is_space_or_break : ℕ → Bool
 is_space_or_break c = (c == space) || is_break c
 
 -- Where no digit gives it, the indentation is told by the lines of spaces up to the first other character, with which
--- the
--- content begins: it is that of the widest of them, and at least `indent`, the first column to the right of the
--- enclosing
--- block collection.
+-- the content begins: it is that of the widest of them, and at least `indent`, the first column to the right of the
+-- enclosing block collection.
 abbrev pub IsFound : ℕ → List ℕ → ℕ → Type 0
 IsFound indent behind i =
     (leading : List ℕ) × (others : List ℕ) × (behind ≡ leading ++ others) × AreIn is_space_or_break leading
@@ -100,8 +98,7 @@ pub record IsBehindLines (i : ℕ) (t : Cursor) : Type 0 where
 -- ## The scalar
 
 -- From s on a block scalar stands with this text: a header's line, and lines, up to t. Before the place `start`, on the
--- way,
--- stands no content: it is that of the header, or stands behind its line.
+-- way, stands no content: it is that of the header, or stands behind its line.
 pub record IsBlockText (style : BlockStyle) (indent : ℕ) (s : Cursor) (text : List ℕ) (start : Marker) (t : Cursor) :
     Type 0 where
   pub digit : ℕ

@@ -4,24 +4,20 @@ use Rattle.saphyr_input.specs.Classes.{nul, byte_order_mark, is_blank_or_breakz,
 use Rattle.saphyr_input.specs.Breaks.{normalized}
 use Rattle.saphyr_input.specs.Places.{is_blank_or_break, is_document_indicator}
 use Rattle.saphyr_input.specs.Indicators.{colon, number_sign}
+use Rattle.saphyr_scalar.specs.Spelling.Tag.{AreIn}
 use Rattle.saphyr_scalar.specs.declared.scalar.position.Marker.{Marker}
 use Rattle.saphyr_scalar.specs.Views.Cursor.{Cursor, along, next_line}
 use Rattle.scalar_values.specs.Flow.{plain_value}
 use Rattle.saphyr_scalar.specs.Spelling.LineBreaks.{ends_line}
 
-abbrev pub AreWhite : List ℕ → Type 0
-AreWhite [] = Unit {0}
-AreWhite (c ∷ cs) = IsTrue (is_blank_or_break c) × AreWhite cs
-
 -- the place behind a text that begins at a place: a line more behind each break, and else a column more
-abbrev pub passed : Marker → List ℕ → Marker
-passed m [] = m
-passed m (c ∷ cs) = passed (if ends_line c cs then next_line m 1 else along m 1) cs
+abbrev pub end_of_text : Marker → List ℕ → Marker
+end_of_text m [] = m
+end_of_text m (c ∷ cs) = end_of_text (if ends_line c cs then next_line m 1 else along m 1) cs
 
 -- How a piece of a plain scalar is spelled from the place m on, where `behind` stands behind it: no NUL and no byte
--- order
--- mark, no `#` at its start or behind a blank or break, no colon before a blank, break, NUL or the end, and no document
--- marker at a line's start.
+-- order mark, no `#` at its start or behind a blank or break, no colon before a blank, break, NUL or the end, and no
+-- document marker at a line's start.
 abbrev pub IsSpelledPlain : Marker → Bool → List ℕ → List ℕ → Type 0
 IsSpelledPlain m apart [] behind = Unit {0}
 IsSpelledPlain m apart (c ∷ cs) behind =
@@ -47,6 +43,6 @@ pub record IsPlainReading (s : Cursor) (text : List ℕ) (end : Marker) (t : Cur
   pub is_ink : IsFalse (is_blank_or_break last)
   pub follows : IsTrue (ends_piece (slice_index (white ++ t.rest) 0))
   pub value : encode_utf8_all (plain_value (normalized piece)) ≡ text
-  pub ends : passed s.mark piece ≡ end
-  pub are_white : AreWhite white
-  pub behind : passed end white ≡ t.mark
+  pub ends : end_of_text s.mark piece ≡ end
+  pub are_white : AreIn is_blank_or_break white
+  pub behind : end_of_text end white ≡ t.mark

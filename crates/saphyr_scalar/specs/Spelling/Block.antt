@@ -7,20 +7,12 @@ use Rattle.saphyr_input.specs.Indicators.{hyphen, number_sign, plus_sign}
 use Rattle.scalar_values.specs.declared.block.Chomping.{Chomping}
 use Rattle.scalar_values.specs.declared.block.Chomping.TheVariants.{Strip, Clip, Keep}
 use Rattle.scalar_values.specs.declared.block.BlockStyle.{BlockStyle}
+use Rattle.saphyr_scalar.specs.Spelling.Tag.{AreIn}
 use Rattle.saphyr_scalar.specs.declared.scalar.position.Span.{Span}
 use Rattle.saphyr_scalar.specs.Views.Cursor.{Cursor}
 use Rattle.scalar_values.specs.Block.{Line, Empty, Content, lines_value}
 use Rattle.saphyr_scalar.specs.Steps.BlockRead.{spaces}
 use Rattle.saphyr_scalar.specs.Steps.Block.{block_scalar}
-
--- characters of a class
-abbrev pub AreBlanks : List ℕ → Type 0
-AreBlanks [] = Unit {0}
-AreBlanks (c ∷ cs) = (is_blank c ≡ true) × AreBlanks cs
-
-abbrev pub AreContent : List ℕ → Type 0
-AreContent [] = Unit {0}
-AreContent (c ∷ cs) = (is_yaml_non_break c ≡ true) × AreContent cs
 
 -- 8.1.1.1: a digit from 1 to 9, or none, which is told as 0
 pub data IsIndicator : ℕ → List ℕ → List ℕ → Type 0 where
@@ -35,13 +27,13 @@ pub data IsChomping : Chomping → List ℕ → List ℕ → Type 0 where
 
 -- 6.6: blanks, and behind some blanks a comment, up to a line feed
 pub data IsHeaderEnd : List ℕ → List ℕ → Type 0 where
-  no_comment : (blanks x : List ℕ) → AreBlanks blanks → IsHeaderEnd (blanks ++ (line_feed ∷ x)) x
-  comment : (blank : ℕ) (blanks text x : List ℕ) → AreBlanks (blank ∷ blanks) → AreContent text
+  no_comment : (blanks x : List ℕ) → AreIn is_blank blanks → IsHeaderEnd (blanks ++ (line_feed ∷ x)) x
+  comment : (blank : ℕ) (blanks text x : List ℕ) → AreIn is_blank (blank ∷ blanks) → AreIn is_yaml_non_break text
       → IsHeaderEnd ((blank ∷ blanks) ++ (number_sign ∷ (text ++ (line_feed ∷ x)))) x
 
 -- a line's content: characters that are no breaks, at column 0 none that begin a document marker
 pub record IsContent (i : ℕ) (c : ℕ) (cs x : List ℕ) : Type 0 where
-  pub all : AreContent (c ∷ cs)
+  pub all : AreIn is_yaml_non_break (c ∷ cs)
   pub no_marker : i ≡ 0 → is_document_indicator ((c ∷ cs) ++ x) ≡ false
 
 -- 8.1.2: lines, each empty or content behind the indentation i; the last one may lack a break at the text's end
@@ -84,8 +76,7 @@ pub data IsHeader (n : ℕ) (chomping : Chomping) (x : List ℕ) : List ℕ → 
       → IsHeader n chomping x (mark ∷ a)
 
 -- 8.1.1.1: the indentation i counts from that of the enclosing block collection where a digit gives it. `indent` is the
--- first
--- column to the right of that collection.
+-- first column to the right of that collection.
 pub data IsIndentation (indent i : ℕ) : ℕ → Bool → Type 0 where
   found : indent ≤ i → IsIndentation indent i 0 false
   given : (d : ℕ) → 1 ≤ d → i ≡ indent - 1 + d → i < 2 ^ 64 → IsIndentation indent i d true
@@ -102,8 +93,7 @@ pub record IsBlockScalar (indent i n : ℕ) (chomping : Chomping) (ls : List Lin
   pub ends : IsBehind i n behind others
 
 -- It was read from s: its lines, and the spaces of what ends them, are taken off. Its span starts behind the
--- indentation of
--- the first content line, and ends where reading did.
+-- indentation of the first content line, and ends where reading did.
 pub record IsTaken (style : BlockStyle) (indent i n : ℕ) (chomping : Chomping) (ls : List Line) (s : Cursor)
     (body others : List ℕ) : Type 0 where
   pub text : List ℕ

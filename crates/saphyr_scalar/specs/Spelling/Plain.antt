@@ -4,26 +4,23 @@ use Rattle.std.specs.List.{prefix_len}
 use Rattle.saphyr_input.specs.Classes.{is_blank, is_break, is_blank_or_breakz, is_flow, is_bom, is_z, tab}
 use Rattle.saphyr_input.specs.Places.{is_blank_or_break, is_document_indicator}
 use Rattle.saphyr_input.specs.Indicators.{colon, full_stop, hyphen, number_sign}
+use Rattle.saphyr_scalar.specs.Spelling.Tag.{AreIn}
 use Rattle.saphyr_scalar.specs.declared.scalar.position.Marker.{Marker}
 use Rattle.saphyr_scalar.specs.Views.Cursor.{Cursor, along, next_line}
 use Rattle.saphyr_scalar.specs.Spelling.LineBreaks.{ends_line}
-use Rattle.saphyr_scalar.specs.Steps.Plain.{in_word}
-use Rattle.saphyr_scalar.specs.Reading.Plain.{AreWhite, passed}
+use Rattle.saphyr_scalar.specs.Steps.Plain.{is_in_word}
+use Rattle.saphyr_scalar.specs.Reading.Plain.{end_of_text}
 
 -- a character that goes on with a word whatever follows it, inside flow and outside
 abbrev pub is_plain_safe : ℕ → Bool
 is_plain_safe c = not (is_blank_or_breakz c) && not (c == colon) && not (is_bom c) && not (is_flow c)
-
-abbrev pub AreSafe : List ℕ → Type 0
-AreSafe [] = Unit {0}
-AreSafe (c ∷ cs) = IsTrue (is_plain_safe c) × AreSafe cs
 
 -- a word that begins with no `#`, dash or dot, or with a dash before a character that is no dash
 pub record IsPlainWord (w : List ℕ) : Type 0 where
   pub first : ℕ
   pub others : List ℕ
   pub is : w ≡ first ∷ others
-  pub safe : AreSafe w
+  pub safe : AreIn is_plain_safe w
   pub no_comment : first ≢ number_sign
   pub no_dot : first ≢ full_stop
   pub dash : first ≡ hyphen → (second : ℕ) × (more : List ℕ) × (others ≡ second ∷ more) × (second ≢ hyphen)
@@ -60,7 +57,7 @@ stands_behind_tab xs = (slice_index xs 0 == number_sign) || is_z (slice_index xs
 -- no word goes on, a comment or a document marker stands, or outside flow content left of the scalar's indentation
 abbrev pub StopsPlain : Bool → ℕ → Cursor → Type 0
 StopsPlain in_flow indent s =
-    (in_word in_flow s.rest ≡ false)
+    (is_in_word in_flow s.rest ≡ false)
     ⊎ ((slice_index s.rest 0 ≡ number_sign)
     ⊎ (((s.mark.col ≡ 0) × IsTrue (is_document_indicator s.rest))
     ⊎ ((in_flow ≡ false) × IsTrue s.blank_so_far × (s.mark.col < indent))))
@@ -115,9 +112,9 @@ has_line_end (c ∷ cs) = is_break c || has_line_end cs
 -- the scalar's indentation, and no tab stands in the indentation of its line.
 pub record IsPlainGap (in_flow : Bool) (indent : ℕ) (m : Marker) (gap : List ℕ) : Type 0 where
   pub some : gap ≢ []
-  pub white : AreWhite gap
+  pub white : AreIn is_blank_or_break gap
   pub tabs : IsFalse (is_tabbed indent gap)
-  pub indented : (in_flow ≡ true) ⊎ ((has_line_end gap ≡ false) ⊎ (indent ≤ (passed m gap).col))
+  pub indented : (in_flow ≡ true) ⊎ ((has_line_end gap ≡ false) ⊎ (indent ≤ (end_of_text m gap).col))
 
 -- gaps and the words behind them
 abbrev pub words_text : List (List ℕ × List ℕ) → List ℕ
@@ -132,8 +129,8 @@ abbrev pub AreFurtherWords : Bool → ℕ → Marker → List (List ℕ × List 
 AreFurtherWords in_flow indent m [] behind = Unit {0}
 AreFurtherWords in_flow indent m (p ∷ ps) behind =
     IsPlainGap in_flow indent m p.0 × IsWordBefore in_flow p.1 (words_text ps ++ behind)
-    × IsNoMarker (passed m p.0) (p.1 ++ (words_text ps ++ behind))
-    × AreFurtherWords in_flow indent (along (passed m p.0) (length p.1)) ps behind
+    × IsNoMarker (end_of_text m p.0) (p.1 ++ (words_text ps ++ behind))
+    × AreFurtherWords in_flow indent (along (end_of_text m p.0) (length p.1)) ps behind
 
 -- a plain scalar's text from m on, before what ends it
 pub record IsPlainText (in_flow : Bool) (indent : ℕ) (m : Marker) (text behind : List ℕ) : Type 0 where
@@ -143,4 +140,4 @@ pub record IsPlainText (in_flow : Bool) (indent : ℕ) (m : Marker) (text behind
   pub word : IsWordBefore in_flow first (words_text others ++ behind)
   pub marker : IsNoMarker m (text ++ behind)
   pub further : AreFurtherWords in_flow indent (along m (length first)) others behind
-  pub ends : EndsPlain in_flow indent (passed m text) behind
+  pub ends : EndsPlain in_flow indent (end_of_text m text) behind

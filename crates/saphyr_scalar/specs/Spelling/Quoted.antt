@@ -5,7 +5,8 @@ use Rattle.saphyr_input.specs.Classes.{is_break, is_breakz}
 use Rattle.scalar_values.specs.Flow.{mark, is_special, raw_item, apostrophe, backslash}
 use Rattle.saphyr_scalar.specs.Spelling.OneLine.{IsNumber}
 use Rattle.saphyr_scalar.specs.Spelling.LineBreaks.{break_len}
-use Rattle.saphyr_scalar.specs.Spelling.QuotedWords.{simple_escape, is_closing}
+use Rattle.saphyr_scalar.specs.Spelling.ClosingQuote.{is_closing}
+use Rattle.scalar_values.specs.Escapes.{short_escape}
 use Rattle.scalar_values.specs.declared.folding.Item.{Item}
 use Rattle.scalar_values.specs.declared.folding.Item.TheVariants.{Raw, Escaped, Break, EscapedBreak}
 use Rattle.scalar_values.specs.declared.flow.Quote.{Quote}
@@ -24,7 +25,7 @@ pub data IsText : Quote → List ℕ → List Item → List ℕ → Type 0 where
       → IsText q (drop (break_len t) t) items x → IsText q t (Break ∷ items) x
   two_quotes : (t : List ℕ) (items : List Item) (x : List ℕ) → IsText Single t items x
       → IsText Single (apostrophe ∷ apostrophe ∷ t) (Raw apostrophe ∷ items) x
-  escaped : (e c : ℕ) (t : List ℕ) (items : List Item) (x : List ℕ) → simple_escape e ≡ Some c → IsText Double t items x
+  escaped : (e c : ℕ) (t : List ℕ) (items : List Item) (x : List ℕ) → short_escape e ≡ Some c → IsText Double t items x
       → IsText Double (backslash ∷ e ∷ t) (Escaped c ∷ items) x
   numbered : (e c : ℕ) (ds t : List ℕ) (items : List Item) (x : List ℕ) → IsNumber e c ds → IsText Double t items x
       → IsText Double (backslash ∷ e ∷ (ds ++ t)) (Escaped c ∷ items) x

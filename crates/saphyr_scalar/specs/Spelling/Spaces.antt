@@ -8,9 +8,9 @@ use Rattle.saphyr_scalar.specs.Spelling.Tag.{AreIn}
 -- ## Any number of pieces
 
 -- the pieces one behind the other
-abbrev pub joined : List (List ℕ) → List ℕ
-joined [] = []
-joined (piece ∷ pieces) = piece ++ joined pieces
+abbrev pub joined_pieces : List (List ℕ) → List ℕ
+joined_pieces [] = []
+joined_pieces (piece ∷ pieces) = piece ++ joined_pieces pieces
 
 abbrev pub AreEach : (List ℕ → Type 0) → List (List ℕ) → Type 0
 AreEach P [] = Unit {0}
@@ -18,7 +18,7 @@ AreEach P (piece ∷ pieces) = P piece × AreEach P pieces
 
 -- any number of pieces, also none, of each of which P holds
 abbrev pub AreMany : (List ℕ → Type 0) → List ℕ → Type 0
-AreMany P t = (pieces : List (List ℕ)) × AreEach P pieces × (t ≡ joined pieces)
+AreMany P t = (pieces : List (List ℕ)) × AreEach P pieces × (t ≡ joined_pieces pieces)
 
 -- ## Spaces and comments
 

@@ -1,8 +1,9 @@
 -- How anchors, tags and prefixes are spelled (YAML 1.2.2, 6.8.2 and 6.9), and what the spellings stand for.
-use Rattle.std.specs.Prelude.{◌≡◌, ◌≢◌, ℕ, ◌+◌, ◌*◌, ◌<◌, ◌≤◌, Bool, ◌||◌, ◌&&◌, ◌==◌, ◌⊎◌, List, [], ◌∷◌, ◌++◌, slice_index, IsTrue, codes}
+use Rattle.std.specs.Prelude.{◌≡◌, ◌≢◌, ℕ, ◌+◌, ◌*◌, Bool, ◌||◌, ◌&&◌, ◌==◌, ◌⊎◌, List, [], ◌∷◌, ◌++◌, slice_index, IsTrue, codes}
 use Rattle.std.specs.Char.{encode_utf8}
 use Rattle.saphyr_input.specs.Classes.{is_alpha, is_anchor_char, is_tag_char, is_uri_char, is_blank_or_breakz, is_flow, hex_value, IsHex}
 use Rattle.saphyr_input.specs.Indicators.{exclamation_mark, percent_sign}
+use Rattle.scalar_values.specs.Escapes.{IsScalarValue}
 
 -- a character of the set, each
 abbrev pub AreIn : (ℕ → Bool) → List ℕ → Type 0
@@ -12,10 +13,6 @@ AreIn set (c ∷ others) = IsTrue (set c) × AreIn set others
 -- 6.9.2: a name has a character
 abbrev pub IsAnchorName : List ℕ → Type 0
 IsAnchorName name = (name ≢ []) × AreIn is_anchor_char name
-
--- Unicode scalar values
-abbrev pub IsScalarValue : ℕ → Type 0
-IsScalarValue c = (c < 0xD800) ⊎ ((0xDFFF < c) × (c ≤ 0x10FFFF))
 
 -- a byte as `%` and two hexadecimal digits (5.6)
 abbrev pub IsByteEscape : ℕ → List ℕ → Type 0

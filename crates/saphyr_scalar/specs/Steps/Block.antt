@@ -59,8 +59,8 @@ header s = indicator s.mark (chomping (pass 1 s)).1 >>= λ x. header_behind s.ma
     (last_chomping (chomping (pass 1 s)).0 x.1)
 
 -- the place in the text cs, where only blanks stand before it on its line or others do
-abbrev pub there : Bool → Marker → List ℕ → Cursor
-there b m cs = record { rest = cs; mark = m; blank_so_far = b }
+abbrev pub line_cursor : Bool → Marker → List ℕ → Cursor
+line_cursor b m cs = record { rest = cs; mark = m; blank_so_far = b }
 
 -- whether a space at a column belongs to the indentation, which may have a limit
 abbrev pub is_indentation : Option ℕ → ℕ → ℕ → Bool
@@ -81,20 +81,20 @@ abbrev pub inside_break : Marker → Marker
 inside_break m = record { index = m.index + 1; line = m.line; col = m.col }
 
 -- lines that have no content, and the column that the longest of them reaches
-abbrev pub widened : EmptyLines → ℕ → EmptyLines
-widened lines col = record { count = lines.count; widest = max lines.widest col }
+abbrev pub with_column : EmptyLines → ℕ → EmptyLines
+with_column lines col = record { count = lines.count; widest = max lines.widest col }
 
-abbrev pub one_more : EmptyLines → ℕ → EmptyLines
-one_more lines col = record { count = lines.count + 1; widest = max lines.widest col }
+abbrev pub with_empty_line : EmptyLines → ℕ → EmptyLines
+with_empty_line lines col = record { count = lines.count + 1; widest = max lines.widest col }
 
 -- Empty lines, which have spaces alone, and the indentation behind them. Some were met before.
 unfoldable pub pass_empty_lines : Option ℕ → EmptyLines → Bool → Marker → List ℕ → EmptyLines × Cursor
-pass_empty_lines limit lines b m [] = (widened lines m.col, there b m [])
+pass_empty_lines limit lines b m [] = (with_column lines m.col, line_cursor b m [])
 pass_empty_lines limit lines b m (c ∷ cs) =
     if is_indentation limit m.col c then pass_empty_lines limit lines b (along m 1) cs
     else if is_cr_lf c cs then pass_empty_lines limit lines b (inside_break m) cs
-    else if is_break c then pass_empty_lines limit (one_more lines m.col) true (next_line m 1) cs
-    else (widened lines m.col, there b m (c ∷ cs))
+    else if is_break c then pass_empty_lines limit (with_empty_line lines m.col) true (next_line m 1) cs
+    else (with_column lines m.col, line_cursor b m (c ∷ cs))
 
 abbrev pub pass_empty_lines_at : Option ℕ → EmptyLines → Cursor → EmptyLines × Cursor
 pass_empty_lines_at limit lines s = pass_empty_lines limit lines s.blank_so_far s.mark s.rest
@@ -122,11 +122,10 @@ abbrev pub lines_ended : Bool → ℕ → Cursor → LinesRead
 lines_ended broken lines s = ([], record { broken = broken; empty_lines = lines }, s)
 
 -- The content lines. `between` stands in the indentation of a line, behind the content line `above`, if there is one,
--- and
--- some empty lines; `line` stands inside the content of a line that is more indented or not.
+-- and some empty lines; `line` stands inside the content of a line that is more indented or not.
 unfoldable mutual
   pub between : BlockStyle → ℕ → Option Bool → ℕ → Bool → Marker → List ℕ → LinesRead
-  between style i above lines b m [] = lines_ended (is_some above) lines (there b m [])
+  between style i above lines b m [] = lines_ended (is_some above) lines (line_cursor b m [])
   between style i above lines b m (c ∷ cs) =
       if is_indentation (Some i) m.col c then between style i above lines b (along m 1) cs
       else if is_cr_lf c cs then between style i above lines b (inside_break m) cs
@@ -134,15 +133,15 @@ unfoldable mutual
       else if line_starts i m.col (c ∷ cs) then
       lines_behind_text (break_before style above lines (is_blank c) ++ c ∷ [])
       (line style i (is_blank c) b (along m 1) cs)
-      else lines_ended (is_some above) lines (there b m (c ∷ cs))
+      else lines_ended (is_some above) lines (line_cursor b m (c ∷ cs))
 
   pub line : BlockStyle → ℕ → Bool → Bool → Marker → List ℕ → LinesRead
-  line style i more b m [] = lines_ended false 0 (there b m [])
+  line style i more b m [] = lines_ended false 0 (line_cursor b m [])
   line style i more b m (c ∷ cs) =
       if is_yaml_non_break c then lines_behind_text (c ∷ []) (line style i more b (along m 1) cs)
       else if is_cr_lf c cs then line style i more b (inside_break m) cs
       else if is_break c then between style i (Some more) 0 true (next_line m 1) cs
-      else lines_ended false 0 (there b m (c ∷ cs))
+      else lines_ended false 0 (line_cursor b m (c ∷ cs))
 
 abbrev pub between_at : BlockStyle → ℕ → Option Bool → ℕ → Cursor → LinesRead
 between_at style i above lines s = between style i above lines s.blank_so_far s.mark s.rest

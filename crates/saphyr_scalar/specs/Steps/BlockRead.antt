@@ -44,8 +44,7 @@ pub record EndsLines (i : ℕ) (s : Cursor) : Type 0 where
   pub no_content : block.line_starts i s.mark.col s.rest ≡ false
 
 -- From s a scalar with this text was read, and t stands behind it: behind the header come the lines, and the
--- indentation
--- of the line that ends them.
+-- indentation of the line that ends them.
 pub record IsRead (style : BlockStyle) (indent : ℕ) (s : Cursor) (text : List ℕ) (t : Cursor) : Type 0 where
   pub header : BlockHeader
   pub behind : Cursor

@@ -12,7 +12,7 @@ use Rattle.saphyr_scalar.specs.declared.scalar.directive.Directive.TheVariants a
 use Rattle.saphyr_scalar.specs.declared.scalar.directive.DirectiveLine.{DirectiveLine}
 use Rattle.saphyr_scalar.specs.declared.scalar.tag.UriSet.TheVariants.{Uri}
 use Rattle.saphyr_scalar.specs.Views.Cursor.{Cursor, ◌>>=◌, refuse, along, pass, pass_blanks, pass_break, pass_comment, separation}
-use Rattle.saphyr_scalar.specs.Steps.Quoted.{with_front, with_run, at}
+use Rattle.saphyr_scalar.specs.Steps.Quoted.{with_front, with_run, mid_line}
 use Rattle.saphyr_scalar.specs.Steps.Tag.{uri_character, decoded_at, handle_of}
 
 -- what a directive says: its texts as their bytes
@@ -56,12 +56,12 @@ number_end start n v s = if n == 0 then refuse fault.VersionNumberExpected start
 
 -- the number whose first n digits stand for v, and which has at most nine
 unfoldable pub number_from : Marker → ℕ → ℕ → Marker → List ℕ → Result (ℕ × Cursor) Refusal
-number_from start n v m [] = number_end start n v (at m [])
+number_from start n v m [] = number_end start n v (mid_line m [])
 number_from start n v m (c ∷ cs) =
     if is_digit c then
     (if nat_lt n 9 then number_from start (suc n) (v * 10 + (c - 48)) (along m 1) cs else refuse
     fault.VersionNumberTooLong start)
-    else number_end start n v (at m (c ∷ cs))
+    else number_end start n v (mid_line m (c ∷ cs))
 
 abbrev pub number : Marker → Cursor → Result (ℕ × Cursor) Refusal
 number start s = number_from start 0 0 s.mark s.rest

@@ -9,16 +9,16 @@ use Rattle.saphyr_scalar.specs.declared.scalar.fault.FaultText.TheVariants as fa
 use Rattle.saphyr_scalar.specs.declared.scalar.plain.PlainScalar.{PlainScalar}
 use Rattle.saphyr_scalar.specs.Views.Cursor.{Cursor, ◌>>=◌, refuse, along, next_line, pass_blanks, pass_break}
 pub use Rattle.saphyr_scalar.specs.Spelling.LineBreaks.{ends_line}
-use Rattle.saphyr_scalar.specs.Steps.Quoted.{at, with_run}
+use Rattle.saphyr_scalar.specs.Steps.Quoted.{mid_line, with_run}
 
 -- a word goes on with the first character
-unfoldable pub in_word : Bool → List ℕ → Bool
-in_word in_flow xs = not (is_blank_or_breakz (slice_index xs 0)) && can_be_plain in_flow xs
+unfoldable pub is_in_word : Bool → List ℕ → Bool
+is_in_word in_flow xs = not (is_blank_or_breakz (slice_index xs 0)) && can_be_plain in_flow xs
 
 -- how many characters a word has from here on
 abbrev pub word_len : Bool → List ℕ → ℕ
 word_len in_flow [] = 0
-word_len in_flow (c ∷ cs) = if in_word in_flow (c ∷ cs) then 1 + word_len in_flow cs else 0
+word_len in_flow (c ∷ cs) = if is_in_word in_flow (c ∷ cs) then 1 + word_len in_flow cs else 0
 
 -- whether a word of the scalar begins: neither a comment nor a document marker does, and in flow no lone `-`
 unfoldable pub word_starts : Bool → Cursor → Result (Bool × Cursor) Refusal
@@ -26,11 +26,7 @@ word_starts in_flow s =
     if (slice_index s.rest 0 == number_sign) || ((s.mark.col == 0) && is_document_indicator s.rest) then Ok (false, s)
     else if in_flow && (slice_index s.rest 0 == hyphen) && is_flow (slice_index s.rest 1) then refuse
     fault.PlainDashBeforeFlow s.mark
-    else Ok (in_word in_flow s.rest, s)
-
--- content inside flow stands right of the enclosing block collection
-unfoldable pub flow_indented : ℕ → Cursor → Result Cursor Refusal
-flow_indented indent s = if nat_lt s.mark.col indent then refuse fault.FlowIndentation s.mark else Ok s
+    else Ok (is_in_word in_flow s.rest, s)
 
 -- What stands behind a word: what it reads as where another word follows, whether a tab stands in the indentation of
 -- the line that is reached, and what stands behind it.
@@ -44,8 +40,8 @@ abbrev pub seen_gap : Bool → List ℕ → Cursor → PlainGap
 seen_gap tabbed text s = record { text = text; tabbed = tabbed; behind = s }
 
 -- behind a line's blanks, where a tab stands in its indentation: only a comment may, or nothing
-unfoldable pub may_stand : Marker → Bool → Cursor → Result Cursor Refusal
-may_stand start tabbed s =
+unfoldable pub content_behind_tab : Marker → Bool → Cursor → Result Cursor Refusal
+content_behind_tab start tabbed s =
     if tabbed && is_bom (slice_index s.rest 0) then refuse fault.MisplacedByteOrderMark s.mark
     else if tabbed && not ((slice_index s.rest 0 == number_sign) || is_z (slice_index s.rest 0)) then
     refuse fault.TabInsidePlain
@@ -53,13 +49,13 @@ may_stand start tabbed s =
     else Ok s
 
 -- a line is reached
-abbrev pub reached : Marker → Bool → List ℕ → Cursor → Result PlainGap Refusal
-reached start tabbed feeds s =
-    may_stand start tabbed s >>= λ t. Ok (record { text = feeds; tabbed = tabbed; behind = t })
+abbrev pub reached_gap : Marker → Bool → List ℕ → Cursor → Result PlainGap Refusal
+reached_gap start tabbed feeds s =
+    content_behind_tab start tabbed s >>= λ t. Ok (record { text = feeds; tabbed = tabbed; behind = t })
 
 -- on a line, with blanks alone before it
-abbrev pub at_line : Marker → List ℕ → Cursor
-at_line m cs = record { rest = cs; mark = m; blank_so_far = true }
+abbrev pub line_front : Marker → List ℕ → Cursor
+line_front m cs = record { rest = cs; mark = m; blank_so_far = true }
 
 -- a blank or a break of the lines behind a word is passed
 unfoldable pub pass_white : ℕ → Bool → List ℕ → Cursor → Bool × List ℕ × Cursor
@@ -77,13 +73,13 @@ seen_white tabbed feeds s = (tabbed, feeds, s)
 -- Blanks and breaks from a line's start on: a line feed for each line of them (6.5).
 -- `indent` is the first column to the right of the enclosing block collection.
 unfoldable pub lines : ℕ → Marker → Bool → List ℕ → Marker → List ℕ → Result PlainGap Refusal
-lines indent start tabbed feeds m [] = reached start tabbed feeds (at_line m [])
+lines indent start tabbed feeds m [] = reached_gap start tabbed feeds (line_front m [])
 lines indent start tabbed feeds m (c ∷ cs) =
     if is_blank_or_break c then
     lines indent start (is_blank c && (tabbed || ((c == tab) && nat_lt m.col indent)))
     (if ends_line c cs then feeds ++ line_feed ∷ [] else feeds)
     (if ends_line c cs then next_line m 1 else along m 1) cs
-    else reached start tabbed feeds (at_line m (c ∷ cs))
+    else reached_gap start tabbed feeds (line_front m (c ∷ cs))
 
 abbrev pub feeds_onto : ℕ → Marker → List ℕ → Cursor → Result PlainGap Refusal
 feeds_onto indent start feeds s = lines indent start false feeds s.mark s.rest
@@ -115,8 +111,8 @@ unfoldable pub gap : ℕ → Marker → Cursor → Result PlainGap Refusal
 gap indent start s = gap_from indent start (with_run is_blank [] s).0 (with_run is_blank [] s).1
 
 -- whether another word of the scalar begins behind a gap: outside flow, none does left of the indentation
-unfoldable pub goes_on : Bool → ℕ → Cursor → Result (Bool × Cursor) Refusal
-goes_on in_flow indent s =
+unfoldable pub next_word_starts : Bool → ℕ → Cursor → Result (Bool × Cursor) Refusal
+next_word_starts in_flow indent s =
     if s.blank_so_far && not in_flow && nat_lt s.mark.col indent then Ok (false, s) else word_starts in_flow s
 
 -- The comment that keeps a scalar outside flow from going on in the next line: one behind a word on its line, or
@@ -139,8 +135,8 @@ abbrev pub with_text : List ℕ → PlainScalarRead → PlainScalarRead
 with_text text read = read >>= λ x. Ok (text ++ x.0, x.1, x.2, x.3)
 
 -- the scalar ended at `end`
-abbrev pub scalar_ended : Bool → Marker → PlainGap → PlainScalarRead
-scalar_ended in_flow end g = Ok ([], end, comment_of in_flow g.tabbed g.behind, g.behind)
+abbrev pub scalar_end : Bool → Marker → PlainGap → PlainScalarRead
+scalar_end in_flow end g = Ok ([], end, comment_of in_flow g.tabbed g.behind, g.behind)
 
 -- how many characters of a text a gap has
 abbrev pub gap_len : List ℕ → PlainGap → ℕ
@@ -148,21 +144,21 @@ gap_len xs g = length xs - length g.behind.rest
 
 unfoldable mutual
   -- Behind a word that ended at `end`: so many characters of the gap g are still to be passed.
-  pub between : Bool → ℕ → Marker → Marker → PlainGap → ℕ → List ℕ → PlainScalarRead
-  between in_flow indent start end g left [] = scalar_ended in_flow end g
-  between in_flow indent start end g zero (c ∷ cs) = goes_on in_flow indent g.behind >>= λ b.
+  pub word_behind_gap : Bool → ℕ → Marker → Marker → PlainGap → ℕ → List ℕ → PlainScalarRead
+  word_behind_gap in_flow indent start end g left [] = scalar_end in_flow end g
+  word_behind_gap in_flow indent start end g zero (c ∷ cs) = next_word_starts in_flow indent g.behind >>= λ b.
       if b.0 then with_text (g.text ++ encode_utf8 c) (word in_flow indent start (along g.behind.mark 1) cs)
-      else scalar_ended
+      else scalar_end
       in_flow end g
-  between in_flow indent start end g (suc left) (c ∷ cs) = between in_flow indent start end g left cs
+  word_behind_gap in_flow indent start end g (suc left) (c ∷ cs) = word_behind_gap in_flow indent start end g left cs
 
   -- in a word that began before m
   pub word : Bool → ℕ → Marker → Marker → List ℕ → PlainScalarRead
-  word in_flow indent start m [] = scalar_ended in_flow m (record { text = []; tabbed = false; behind = at m [] })
+  word in_flow indent start m [] = scalar_end in_flow m (record { text = []; tabbed = false; behind = mid_line m [] })
   word in_flow indent start m (c ∷ cs) =
-      if in_word in_flow (c ∷ cs) then with_text (encode_utf8 c) (word in_flow indent start (along m 1) cs)
-      else gap indent start (at m (c ∷ cs)) >>= λ g.
-      if gap_len (c ∷ cs) g == 0 then scalar_ended in_flow m g else between in_flow indent start m g
+      if is_in_word in_flow (c ∷ cs) then with_text (encode_utf8 c) (word in_flow indent start (along m 1) cs)
+      else gap indent start (mid_line m (c ∷ cs)) >>= λ g.
+      if gap_len (c ∷ cs) g == 0 then scalar_end in_flow m g else word_behind_gap in_flow indent start m g
       (pred (gap_len (c ∷ cs) g)) cs
 
 -- A plain scalar: its text, the place behind its last word, a comment that keeps it from going on, and what stands
@@ -177,5 +173,5 @@ pub record PlainWordsMoved (in_flow : Bool) (text grown : List ℕ) (s t : Curso
       → with_text grown (word in_flow indent start t.mark t.rest)
       ≡ with_text text (word in_flow indent start s.mark s.rest)
   pub on_line : t.blank_so_far ≡ false
-  pub stops : in_word in_flow t.rest ≡ false
-  pub shorter : in_word in_flow s.rest ≡ true → length t.rest < length s.rest
+  pub stops : is_in_word in_flow t.rest ≡ false
+  pub shorter : is_in_word in_flow s.rest ≡ true → length t.rest < length s.rest

@@ -1,5 +1,5 @@
 -- Quoted scalars (YAML 1.2.2, 7.3.1 and 7.3.2), and the escapes of double quoted ones (5.7).
-use Rattle.std.specs.Prelude.{ℕ, zero, suc, pred, ◌+◌, ◌*◌, Bool, true, false, ◌||◌, ◌&&◌, ◌==◌, not, nat_lt, List, [], ◌∷◌, ◌++◌, take, drop, length, ◌≤◌, slice_index, Option, Some, None, Result, Ok, Err, ◌≡◌, if◌then◌else◌, encode_utf8, encode_utf8_all}
+use Rattle.std.specs.Prelude.{ℕ, zero, suc, pred, ◌+◌, ◌*◌, Bool, true, false, ◌||◌, ◌&&◌, ◌==◌, not, nat_lt, List, [], ◌∷◌, ◌++◌, take, drop, length, ◌≤◌, slice_index, Option, Some, None, unwrap_or, Result, Ok, Err, ◌≡◌, if◌then◌else◌, encode_utf8, encode_utf8_all}
 use Rattle.std.specs.List.{prefix_len}
 use Rattle.saphyr_input.specs.Classes.{is_z, is_break, is_blank, is_blank_or_breakz, is_hex, hex_value, tab}
 use Rattle.saphyr_input.specs.Places.{next_2_are, is_document_indicator}
@@ -12,8 +12,8 @@ use Rattle.scalar_values.specs.declared.flow.Quote.TheVariants.{Single, Double}
 use Rattle.saphyr_scalar.specs.Views.Cursor.{Cursor, ◌>>=◌, refuse, along, next_line, pass}
 use Rattle.scalar_values.specs.Flow as flow
 pub use Rattle.saphyr_scalar.specs.Spelling.LineBreaks.{break_len}
-unfoldable pub use Rattle.saphyr_scalar.specs.Spelling.QuotedWords.{simple_escape}
-pub use Rattle.saphyr_scalar.specs.Spelling.QuotedWords.{hex_digit_count, is_scalar, is_closing}
+pub use Rattle.saphyr_scalar.specs.Spelling.ClosingQuote.{is_closing}
+use Rattle.scalar_values.specs.Escapes.{short_escape, digit_count, is_scalar_value}
 use Rattle.scalar_values.specs.Folding.{raw_break, line_feeds}
 
 -- a character that stands for itself between the quotes and is no blank
@@ -29,21 +29,20 @@ digits start (suc n) v s =
 
 -- the character of a number
 unfoldable pub character : Marker → ℕ → Cursor → Result (ℕ × Cursor) Refusal
-character start v s = if is_scalar v then Ok (v, s) else refuse fault.EscapedCodePoint start
+character start v s = if is_scalar_value v then Ok (v, s) else refuse fault.EscapedCodePoint start
 
--- the character of n digits behind an escape's letter
-unfoldable pub numbered : Marker → ℕ → Cursor → Result (ℕ × Cursor) Refusal
-numbered start n s =
-    if n == 0 then refuse fault.UnknownEscape start
-    else (digits start n 0 (pass 2 s) >>= λ x. character start x.0 x.1)
+-- the character of the digits behind an escape's letter, which asks for so many
+unfoldable pub escape_by_number : Marker → Option ℕ → Cursor → Result (ℕ × Cursor) Refusal
+escape_by_number start None s = refuse fault.UnknownEscape start
+escape_by_number start (Some n) s = digits start n 0 (pass 2 s) >>= λ x. character start x.0 x.1
 
 unfoldable pub escape_of : Marker → Option ℕ → ℕ → Cursor → Result (ℕ × Cursor) Refusal
 escape_of start (Some c) letter s = Ok (c, pass 2 s)
-escape_of start None letter s = numbered start (hex_digit_count letter) s
+escape_of start None letter s = escape_by_number start (digit_count letter) s
 
 -- an escape, from its backslash on: the character that it stands for
 unfoldable pub escaped_character : Marker → Cursor → Result (ℕ × Cursor) Refusal
-escaped_character start s = escape_of start (simple_escape (slice_index s.rest 1)) (slice_index s.rest 1) s
+escaped_character start s = escape_of start (short_escape (slice_index s.rest 1)) (slice_index s.rest 1) s
 
 -- the bytes of a text, and what stands behind what was taken off, or a fault
 abbrev pub TextRead : Type 0
@@ -54,8 +53,8 @@ abbrev pub with_front : List ℕ → TextRead → TextRead
 with_front front read = read >>= λ x. Ok (front ++ x.0, x.1)
 
 -- within the line
-abbrev pub at : Marker → List ℕ → Cursor
-at m cs = record { rest = cs; mark = m; blank_so_far = false }
+abbrev pub mid_line : Marker → List ℕ → Cursor
+mid_line m cs = record { rest = cs; mark = m; blank_so_far = false }
 
 -- The character of a spelling of several characters, where one stands: an escape between double quotes, two single
 -- quotes between single ones.
@@ -66,6 +65,10 @@ special Double start s =
     if (slice_index s.rest 0 == backslash) && not (is_break (slice_index s.rest 1)) then
     (escaped_character start s >>= λ e. Ok (Some e.0, e.1))
     else Ok (None, s)
+
+-- how many hexadecimal digits follow the letter of an escape, 0 where none do
+abbrev pub hex_digit_count : ℕ → ℕ
+hex_digit_count letter = unwrap_or (digit_count letter) 0
 
 -- how many characters such a spelling has behind its first one
 abbrev pub special_len : Quote → ℕ → ℕ
@@ -101,8 +104,8 @@ abbrev pub folded_break : Bool → ℕ → List ℕ
 folded_break escaped n = if escaped then line_feeds n else raw_break n
 
 -- a word or the closing quote on a later line: no document marker stands there, and nothing left of the indentation
-unfoldable pub begin_word : ℕ → Marker → Cursor → Result Cursor Refusal
-begin_word indent start s =
+unfoldable pub quoted_line : ℕ → Marker → Cursor → Result Cursor Refusal
+quoted_line indent start s =
     if (s.mark.col == 0) && is_document_indicator s.rest then refuse fault.DocumentIndicatorInsideQuotes start
     else if is_z (slice_index s.rest 0) then refuse fault.EndInsideQuotes start
     else if is_left indent s.mark then refuse fault.QuotedIndentation start
@@ -113,7 +116,7 @@ unfoldable pub end_gap : ℕ → Marker → QuotedGap → Cursor → Result (Lis
 end_gap indent start (on_line bytes) s =
     if is_z (slice_index s.rest 0) then refuse fault.EndInsideQuotes start else Ok bytes
 end_gap indent start (over_lines escaped n) s =
-    begin_word indent start s >>= λ t. Ok (encode_utf8_all (folded_break escaped n))
+    quoted_line indent start s >>= λ t. Ok (encode_utf8_all (folded_break escaped n))
 
 -- what an escaped break begins: right before the closing quote nothing, and there the quote may stand anywhere
 abbrev pub escaped_gap : Quote → ℕ → QuotedGap
@@ -124,31 +127,30 @@ if_some (Some c) f x = f c
 if_some None f x = x
 
 -- The text behind the quote at `start`: its bytes, and what stands behind the closing quote. `gap` stands before it.
--- The
--- next k characters are taken off already, and m is the place behind them.
-unfoldable pub inside : Quote → ℕ → Marker → QuotedGap → ℕ → Marker → List ℕ → TextRead
-inside quote indent start gap k m [] = refuse fault.EndInsideQuotes start
-inside quote indent start gap zero m (c ∷ cs) =
-    if is_blank c then (blank_in indent gap m c >>= λ g. inside quote indent start g zero (along m 1) cs)
-    else if is_break c then inside quote indent start (break_in gap) (pred (break_len (c ∷ cs)))
+-- The next k characters are taken off already, and m is the place behind them.
+unfoldable pub inner_text : Quote → ℕ → Marker → QuotedGap → ℕ → Marker → List ℕ → TextRead
+inner_text quote indent start gap k m [] = refuse fault.EndInsideQuotes start
+inner_text quote indent start gap zero m (c ∷ cs) =
+    if is_blank c then (blank_in indent gap m c >>= λ g. inner_text quote indent start g zero (along m 1) cs)
+    else if is_break c then inner_text quote indent start (break_in gap) (pred (break_len (c ∷ cs)))
     (next_line m (break_len (c ∷ cs))) cs
-    else (end_gap indent start gap (at m (c ∷ cs)) >>= λ text. with_front text
-    (if is_literal quote c then with_front (encode_utf8 c) (inside quote indent start no_gap zero (along m 1) cs)
-    else (special quote start (at m (c ∷ cs)) >>= λ x. if_some x.0
+    else (end_gap indent start gap (mid_line m (c ∷ cs)) >>= λ text. with_front text
+    (if is_literal quote c then with_front (encode_utf8 c) (inner_text quote indent start no_gap zero (along m 1) cs)
+    else (special quote start (mid_line m (c ∷ cs)) >>= λ x. if_some x.0
     (λ d. with_front (encode_utf8 d)
-    (inside quote indent start no_gap (special_len quote (slice_index cs 0)) x.1.mark cs))
-    (if c == flow.mark quote then Ok ([], at (along m 1) cs)
-    else inside quote indent start (escaped_gap quote (slice_index (drop (break_len cs) cs) 0)) (break_len cs)
+    (inner_text quote indent start no_gap (special_len quote (slice_index cs 0)) x.1.mark cs))
+    (if c == flow.mark quote then Ok ([], mid_line (along m 1) cs)
+    else inner_text quote indent start (escaped_gap quote (slice_index (drop (break_len cs) cs) 0)) (break_len cs)
     (next_line (along m 1) (break_len cs)) cs))))
-inside quote indent start gap (suc k) m (c ∷ cs) = inside quote indent start gap k m cs
+inner_text quote indent start gap (suc k) m (c ∷ cs) = inner_text quote indent start gap k m cs
 
-abbrev pub inside_at : Quote → ℕ → Marker → QuotedGap → Cursor → TextRead
-inside_at quote indent start gap s = inside quote indent start gap zero s.mark s.rest
+abbrev pub inner_text_at : Quote → ℕ → Marker → QuotedGap → Cursor → TextRead
+inner_text_at quote indent start gap s = inner_text quote indent start gap zero s.mark s.rest
 
 -- A quoted scalar, from its opening quote to its closing one, where `indent` is the column that its later lines have to
 -- reach.
 unfoldable pub quoted : Quote → ℕ → Cursor → TextRead
-quoted quote indent s = inside_at quote indent s.mark no_gap (pass 1 s)
+quoted quote indent s = inner_text_at quote indent s.mark no_gap (pass 1 s)
 
 abbrev pub double_quoted : ℕ → Cursor → TextRead
 double_quoted indent s = quoted Double indent s
@@ -172,14 +174,14 @@ abbrev pub ends_word : Quote → List ℕ → Bool
 ends_word quote xs = is_blank_or_breakz (slice_index xs 0) || is_closing quote xs || is_escaped_break quote xs
 
 -- something was read: what was to be read before is what is read now
-abbrev pub Leads : {X : Type 0} → Result X Refusal → (X → TextRead) → TextRead → Type 0
-Leads (Ok x) now before = now x ≡ before
-Leads (Err e) now before = before ≡ Err e
+abbrev pub ReadsFurther : {X : Type 0} → Result X Refusal → (X → TextRead) → TextRead → Type 0
+ReadsFurther (Ok x) now before = now x ≡ before
+ReadsFurther (Err e) now before = before ≡ Err e
 
 -- Words were put behind a text, up to a character that does not stand for itself.
 pub record QuotedWordsMoved (quote : Quote) (text grown : List ℕ) (s t : Cursor) : Type 0 where
   pub same : (indent : ℕ) (start : Marker)
-      → with_front grown (inside_at quote indent start no_gap t)
-      ≡ with_front text (inside_at quote indent start no_gap s)
+      → with_front grown (inner_text_at quote indent start no_gap t)
+      ≡ with_front text (inner_text_at quote indent start no_gap s)
   pub stops : is_literal quote (slice_index t.rest 0) ≡ false
   pub shorter : length t.rest ≤ length s.rest

@@ -22,7 +22,7 @@ leads_plain in_flow c = in_plain in_flow c && not (c == number_sign) && not (c =
 
 -- a character of a URI, and of a tag's suffix, that begins no escape
 abbrev pub is_bare : UriSet → ℕ → Bool
-is_bare set c = not (c == percent_sign) && tag.has set c
+is_bare set c = not (c == percent_sign) && tag.is_in_set set c
 
 abbrev pub is_bare_in_uri : ℕ → Bool
 is_bare_in_uri = is_bare Uri

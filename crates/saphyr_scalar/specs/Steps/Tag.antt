@@ -10,12 +10,13 @@ use Rattle.saphyr_scalar.specs.declared.scalar.tag.TagParts.{TagParts}
 use Rattle.saphyr_scalar.specs.declared.scalar.tag.UriSet.{UriSet}
 use Rattle.saphyr_scalar.specs.declared.scalar.tag.UriSet.TheVariants.{Uri, Suffix}
 use Rattle.saphyr_scalar.specs.Views.Cursor.{Cursor, ◌>>=◌, refuse, along, pass}
-use Rattle.saphyr_scalar.specs.Steps.Quoted.{is_scalar, with_front, with_run, at}
+use Rattle.scalar_values.specs.Escapes.{is_scalar_value}
+use Rattle.saphyr_scalar.specs.Steps.Quoted.{with_front, with_run, mid_line}
 
 -- the characters of a uri, or of a tag's suffix
-abbrev pub has : UriSet → ℕ → Bool
-has Uri c = is_uri_char c
-has Suffix c = is_tag_char c
+abbrev pub is_in_set : UriSet → ℕ → Bool
+is_in_set Uri c = is_uri_char c
+is_in_set Suffix c = is_tag_char c
 
 -- the byte of two hexadecimal digits behind a `%`
 abbrev pub byte_value : List ℕ → ℕ
@@ -59,15 +60,16 @@ trailing_bytes start (suc n) v s = trailing_byte start v s >>= λ x. trailing_by
 
 -- a character whose UTF-8 has so many bytes: no form is longer than it has to be
 abbrev pub is_encoded : ℕ → ℕ → Bool
-is_encoded width v = is_scalar v && (len_utf8 v == width)
+is_encoded width v = is_scalar_value v && (len_utf8 v == width)
 
-unfoldable pub encoded : Marker → ℕ → ℕ → Cursor → Result (ℕ × Cursor) Refusal
-encoded start width v s = if is_encoded width v then Ok (v, s) else refuse fault.TagEscapeCodePoint start
+unfoldable pub encoded_character : Marker → ℕ → ℕ → Cursor → Result (ℕ × Cursor) Refusal
+encoded_character start width v s = if is_encoded width v then Ok (v, s) else refuse fault.TagEscapeCodePoint start
 
 unfoldable pub behind_leading_byte : Marker → ℕ → Cursor → Result (ℕ × Cursor) Refusal
 behind_leading_byte start b s =
     if utf8_width b == 0 then refuse fault.TagEscapeLeadingByte start
-    else (trailing_bytes start (utf8_width b - 1) (leading_bits b) s >>= λ x. encoded start (utf8_width b) x.0 x.1)
+    else (trailing_bytes start (utf8_width b - 1) (leading_bits b) s
+    >>= λ x. encoded_character start (utf8_width b) x.0 x.1)
 
 -- a character as the bytes of its UTF-8, each escaped
 unfoldable pub percent_escape : Marker → Cursor → Result (ℕ × Cursor) Refusal
@@ -84,68 +86,68 @@ uri_tail xs = if slice_index xs 0 == percent_sign then 3 * utf8_width (byte_valu
 
 -- Characters of the set, with their escapes resolved: their bytes, and what stands behind them.
 -- The next k characters are those of an escape, which is read already.
-unfoldable pub decoded : UriSet → Marker → ℕ → Marker → List ℕ → Result (List ℕ × Cursor) Refusal
-decoded set start k m [] = Ok ([], at (along m k) [])
-decoded set start zero m (c ∷ cs) =
-    if has set c then (uri_character start (at m (c ∷ cs)) >>= λ x. with_front (encode_utf8 x.0)
-    (decoded set start (uri_tail (c ∷ cs)) (along m 1) cs))
-    else Ok ([], at m (c ∷ cs))
-decoded set start (suc k) m (c ∷ cs) = decoded set start k (along m 1) cs
+unfoldable pub decoded_characters : UriSet → Marker → ℕ → Marker → List ℕ → Result (List ℕ × Cursor) Refusal
+decoded_characters set start k m [] = Ok ([], mid_line (along m k) [])
+decoded_characters set start zero m (c ∷ cs) =
+    if is_in_set set c then (uri_character start (mid_line m (c ∷ cs)) >>= λ x. with_front (encode_utf8 x.0)
+    (decoded_characters set start (uri_tail (c ∷ cs)) (along m 1) cs))
+    else Ok ([], mid_line m (c ∷ cs))
+decoded_characters set start (suc k) m (c ∷ cs) = decoded_characters set start k (along m 1) cs
 
 abbrev pub decoded_at : UriSet → Marker → Cursor → Result (List ℕ × Cursor) Refusal
-decoded_at set start s = decoded set start zero s.mark s.rest
+decoded_at set start s = decoded_characters set start zero s.mark s.rest
 
 -- the same behind a text
 abbrev pub decoded_onto : UriSet → Marker → List ℕ → Cursor → Result (List ℕ × Cursor) Refusal
 decoded_onto set start text s = with_front text (decoded_at set start s)
 
 -- a tag's handle as it is written, its suffix, and what stands behind it
-abbrev pub Parts : Type 0
-Parts = List ℕ × List ℕ × Cursor
+abbrev pub TagRead : Type 0
+TagRead = List ℕ × List ℕ × Cursor
 
 -- what contracts see of a tag and of the reader behind it
-abbrev pub seen_tag : TagParts → Cursor → Parts
+abbrev pub seen_tag : TagParts → Cursor → TagRead
 seen_tag tag s = (string_bytes tag.handle, string_bytes tag.suffix, s)
 
 -- `!<uri>`: the uri is the suffix
-unfoldable pub verbatim_end : Marker → List ℕ × Cursor → Result Parts Refusal
+unfoldable pub verbatim_end : Marker → List ℕ × Cursor → Result TagRead Refusal
 verbatim_end start x = if slice_index x.1.rest 0 == greater_than then Ok ([], x.0, pass 1 x.1) else refuse
     fault.VerbatimTagEndExpected start
 
-unfoldable pub verbatim : Cursor → Result Parts Refusal
-verbatim s = decoded_at Uri s.mark (pass 2 s) >>= λ x. verbatim_end s.mark x
+unfoldable pub verbatim_tag : Cursor → Result TagRead Refusal
+verbatim_tag s = decoded_at Uri s.mark (pass 2 s) >>= λ x. verbatim_end s.mark x
 
 -- the handle of a word
 abbrev pub handle_of : List ℕ → List ℕ
 handle_of word = codes "!" ++ word ++ codes "!"
 
 -- a suffix behind `!!` or `!word!`, which has a character
-unfoldable pub named_tag : Marker → List ℕ → List ℕ × Cursor → Result Parts Refusal
+unfoldable pub named_tag : Marker → List ℕ → List ℕ × Cursor → Result TagRead Refusal
 named_tag start word x = if length x.0 == 0 then refuse fault.TagSuffixExpected start else Ok (handle_of word, x.0, x.1)
 
-unfoldable pub named_tail : Marker → List ℕ → Cursor → Result Parts Refusal
+unfoldable pub named_tail : Marker → List ℕ → Cursor → Result TagRead Refusal
 named_tail start word s = decoded_at Suffix start s >>= λ x. named_tag start word x
 
 -- a suffix behind `!`; where there is none, the tag is the non-specific one
-unfoldable pub primary_tag : List ℕ × Cursor → Parts
+unfoldable pub primary_tag : List ℕ × Cursor → TagRead
 primary_tag x = if length x.0 == 0 then ([], codes "!", x.1) else (codes "!", x.0, x.1)
 
 -- behind `!` and a word
-unfoldable pub behind_word : Marker → List ℕ × Cursor → Result Parts Refusal
-behind_word start w =
+unfoldable pub tag_behind_word : Marker → List ℕ × Cursor → Result TagRead Refusal
+tag_behind_word start w =
     if slice_index w.1.rest 0 == exclamation_mark then named_tail start w.0 (pass 1 w.1)
     else (with_front w.0 (decoded_at Suffix start w.1) >>= λ x. Ok (primary_tag x))
 
-unfoldable pub shorthand : Cursor → Result Parts Refusal
-shorthand s = behind_word s.mark (with_run is_alpha [] (pass 1 s))
+unfoldable pub shorthand_tag : Cursor → Result TagRead Refusal
+shorthand_tag s = tag_behind_word s.mark (with_run is_alpha [] (pass 1 s))
 
 -- a tag ends before a blank, a break, NUL or the end, and in flow before a flow indicator
-unfoldable pub tag_end : Bool → Marker → Parts → Result Parts Refusal
+unfoldable pub tag_end : Bool → Marker → TagRead → Result TagRead Refusal
 tag_end in_flow start p =
     if is_blank_or_breakz (slice_index p.2.rest 0) || (in_flow && is_flow (slice_index p.2.rest 0)) then Ok p
     else refuse fault.TagEndExpected start
 
 -- a tag, from its `!` on
-unfoldable pub tag : Bool → Cursor → Result Parts Refusal
+unfoldable pub tag : Bool → Cursor → Result TagRead Refusal
 tag in_flow s =
-    (if slice_index s.rest 1 == less_than then verbatim s else shorthand s) >>= λ p. tag_end in_flow s.mark p
+    (if slice_index s.rest 1 == less_than then verbatim_tag s else shorthand_tag s) >>= λ p. tag_end in_flow s.mark p

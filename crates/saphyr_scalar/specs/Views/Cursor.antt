@@ -23,8 +23,8 @@ pub record Cursor : Type 0 where
   pub blank_so_far : Bool
 
 -- at the start of a text
-abbrev pub fresh : List ℕ → Cursor
-fresh text = record { rest = text; mark = record { index = 0; line = 1; col = 0 }; blank_so_far = true }
+abbrev pub start_cursor : List ℕ → Cursor
+start_cursor text = record { rest = text; mark = record { index = 0; line = 1; col = 0 }; blank_so_far = true }
 
 abbrev pub refuse : {X : Type 0} → FaultText → Marker → Result X Refusal
 refuse text mark = Err (record { text = text; mark = mark })

@@ -4,12 +4,13 @@
 ghost use Rattle.std.specs.Prelude.{List, ℕ};
 ghost use Rattle.saphyr_input.specs.Breaks.{normalized};
 ghost use Rattle.saphyr_scalar.specs.Alike.{AreAlike, ReadsAlike};
-ghost use Rattle.saphyr_scalar.specs.Views.Cursor.{Cursor, fresh};
+ghost use Rattle.saphyr_scalar.specs.Views.Cursor.{Cursor, start_cursor};
 
 /// Line breaks of all three kinds are read alike: a text and its normalized text begin at places
 /// that stand for one another, and at such places each reader gives the same of both, or refuses
 /// both for the same reason.
 pub fn reads_breaks_alike()
-    ensures begins { (text : List ℕ) → AreAlike text (fresh text) (fresh (normalized text)) }
+    ensures begins { (text : List ℕ)
+        → AreAlike text (start_cursor text) (start_cursor (normalized text)) }
     ensures reads { (text : List ℕ) (s t : Cursor) → AreAlike text s t → ReadsAlike text s t }
 {}

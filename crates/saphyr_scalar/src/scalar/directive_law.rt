@@ -7,7 +7,7 @@ ghost use Rattle.saphyr_input.specs.Classes.{is_breakz};
 ghost use Rattle.saphyr_scalar.specs.Views.Cursor.{Cursor, along, pass_break};
 ghost use Rattle.saphyr_scalar.specs.Steps.Directive.{ReadDirective, reserved, directive};
 ghost use Rattle.saphyr_scalar.specs.Spelling.Directive.{IsDirectiveText, IsReservedDirective, IsReadDirective, IsLineTail};
-ghost use Rattle.saphyr_scalar.specs.Steps.Quoted.{at};
+ghost use Rattle.saphyr_scalar.specs.Steps.Quoted.{mid_line};
 ghost use Rattle.saphyr_scalar.specs.declared.scalar.position.Marker.{Marker};
 
 /// Where a version directive or a tag directive is spelled, and behind it blanks, a comment and a
@@ -19,7 +19,7 @@ pub fn reads_each_directive()
           d,
           along s.mark (length t),
           pass_break
-              (at (along s.mark (length t + length tail)) x),
+              (mid_line (along s.mark (length t + length tail)) x),
         ) }
 {}
 
@@ -32,7 +32,7 @@ pub fn reads_each_reserved_directive()
           reserved (encode_utf8_all name),
           along s.mark (length t),
           pass_break
-              (at (along s.mark (length t)) x),
+              (mid_line (along s.mark (length t)) x),
         ) }
 {}
 
@@ -44,5 +44,5 @@ pub fn spells_each_directive()
         → (t : List ℕ) × (tail : List ℕ) × (x : List ℕ) × (s.rest ≡ t ++ (tail ++ x))
         × IsReadDirective d t × IsLineTail tail × (is_breakz (slice_index x 0) ≡ true)
         × (end ≡ along s.mark (length t))
-        × (u ≡ pass_break (at (along s.mark (length t + length tail)) x)) }
+        × (u ≡ pass_break (mid_line (along s.mark (length t + length tail)) x)) }
 {}

@@ -15,8 +15,7 @@ ghost use Rattle.saphyr_scalar.specs.Steps.Block.{block_scalar};
 ghost use Rattle.saphyr_scalar.specs.Steps.Directive.{ReadDirective, directive};
 ghost use Rattle.saphyr_scalar.specs.Steps.Tag.{tag};
 ghost use Rattle.saphyr_scalar.specs.Views.Cursor.{Cursor, along};
-ghost use Rattle.scalar_values.specs.Escapes as escapes;
-ghost use Rattle.saphyr_scalar.specs.Steps.Quoted.{double_quoted, quoted, at, simple_escape, hex_digit_count, is_scalar};
+ghost use Rattle.saphyr_scalar.specs.Steps.Quoted.{double_quoted, quoted, mid_line};
 ghost use Rattle.saphyr_scalar.specs.Spelling.Quoted.{IsQuotedText};
 ghost use Rattle.scalar_values.specs.Flow as flow;
 ghost use Rattle.scalar_values.specs.Flow.{plain_value};
@@ -26,8 +25,8 @@ ghost use Rattle.saphyr_scalar.specs.Passing.{IsPassed};
 ghost use Rattle.saphyr_input.specs.Breaks.{normalized};
 ghost use Rattle.scalar_values.specs.Folding.{folded};
 ghost use Rattle.saphyr_scalar.specs.Spelling.OneLine.{IsDoubleQuoted};
-ghost use Rattle.saphyr_scalar.specs.Steps.Plain.{in_word, plain, comment_of};
-ghost use Rattle.saphyr_scalar.specs.Reading.Plain.{IsPlainReading, passed};
+ghost use Rattle.saphyr_scalar.specs.Steps.Plain.{is_in_word, plain, comment_of};
+ghost use Rattle.saphyr_scalar.specs.Reading.Plain.{IsPlainReading, end_of_text};
 ghost use Rattle.saphyr_scalar.specs.Spelling.Plain.{IsPlainWord, EndsPlain, IsPlainText, is_tabbed, past_white};
 
 use crate::scalar::position::Marker;
@@ -37,7 +36,7 @@ use scalar_values::{Item, Quote};
 /// indentation: its characters, and what stands behind it.
 pub fn reads_each_double_quoted()
     ensures { (indent : ℕ) (s : Cursor) (v x : List ℕ) → IsDoubleQuoted s.rest v x
-        → (n : ℕ) × (double_quoted indent s ≡ Ok (encode_utf8_all v, at (along s.mark n) x)) }
+        → (n : ℕ) × (double_quoted indent s ≡ Ok (encode_utf8_all v, mid_line (along s.mark n) x)) }
 {}
 
 /// Where a quoted scalar is spelled whose later lines are indented as they should be, it is read,
@@ -46,7 +45,7 @@ pub fn reads_each_quoted()
     ensures { (quote : Quote) (indent : ℕ) (s : Cursor) (items : List Item) (x : List ℕ)
         (is : IsQuotedText quote s.rest items x) → LinesFit indent quote is.0 items x is.2
         → (m : Marker) × IsPassed s.mark s.rest m x
-        × (quoted quote indent s ≡ Ok (encode_utf8_all (folded items), at m x)) }
+        × (quoted quote indent s ≡ Ok (encode_utf8_all (folded items), mid_line m x)) }
 {}
 
 /// A quoted scalar on one line is read, without a fault and whatever the indentation, and ends on
@@ -55,7 +54,8 @@ pub fn reads_each_quoted_on_line()
     ensures { (quote : Quote) (indent : ℕ) (s : Cursor) (items : List Item) (x : List ℕ)
         → IsQuotedText quote s.rest items x → AreOnLine items
         → (n : ℕ) × (length s.rest ≡ n + length x)
-        × (quoted quote indent s ≡ Ok (encode_utf8_all (folded items), at (along s.mark n) x)) }
+        × (quoted quote indent s
+        ≡ Ok (encode_utf8_all (folded items), mid_line (along s.mark n) x)) }
 {}
 
 /// The place behind what is passed is told of its characters and line breaks alone.
@@ -71,16 +71,6 @@ pub fn spells_each_quoted()
         → slice_index s.rest 0 ≡ flow.mark quote → quoted quote indent s ≡ Ok (text, t)
         → (items : List Item) × IsQuotedText quote s.rest items t.rest
         × (encode_utf8_all (folded items) ≡ text) × IsPassed s.mark s.rest t.mark t.rest }
-{}
-
-/// The escapes that are read are those of the standard's table: what a name stands for, how many digits
-/// follow one, and which numbers are characters.
-pub fn reads_the_table_of_escapes()
-    ensures names { (name : ℕ) → simple_escape name ≡ escapes.short_escape name }
-    ensures digits { (name count : ℕ) → count ≡ hex_digit_count name → 0 < count
-        → escapes.digit_count name ≡ Some count }
-    ensures characters { (number : ℕ) → is_scalar number ≡ true
-        → escapes.is_scalar_value number ≡ true }
 {}
 
 /// No later line of what is read as a quoted scalar begins with a document marker.
@@ -117,7 +107,7 @@ pub fn reads_each_plain_word()
 pub fn reads_each_plain_text()
     ensures { (in_flow : Bool) (indent : ℕ) (s : Cursor) (text x : List ℕ) → s.rest ≡ text ++ x
         → IsPlainText in_flow indent s.mark text x → let end =
-        passed s.mark text in let behind =
+        end_of_text s.mark text in let behind =
         past_white end false x in plain in_flow indent s
         ≡ Ok (
           encode_utf8_all (plain_value (normalized text)),
@@ -154,7 +144,7 @@ pub fn passes_blanks_and_breaks()
 /// no word goes on.
 pub fn ends_each_plain_scalar()
     ensures { (in_flow : Bool) (end : Marker) (xs : List ℕ) → slice_index xs 0 ≢ number_sign
-        → in_word in_flow (drop (prefix_len is_blank_or_break xs) xs) ≡ false
+        → is_in_word in_flow (drop (prefix_len is_blank_or_break xs) xs) ≡ false
         → EndsPlain in_flow 0 end xs }
 {}
 

@@ -5,7 +5,7 @@ ghost use Rattle.std.specs.Prelude.{◌≡◌, ℕ, ◌+◌, ◌<◌, Bool, fals
 ghost use Rattle.saphyr_input.specs.Indicators.{exclamation_mark};
 ghost use Rattle.saphyr_input.specs.Classes.{is_anchor_char};
 ghost use Rattle.saphyr_scalar.specs.Views.Cursor.{Cursor, along};
-ghost use Rattle.saphyr_scalar.specs.Steps.Quoted.{at};
+ghost use Rattle.saphyr_scalar.specs.Steps.Quoted.{mid_line};
 ghost use Rattle.saphyr_scalar.specs.Steps.Anchor.{anchor};
 ghost use Rattle.saphyr_scalar.specs.Steps.Tag.{tag};
 ghost use Rattle.saphyr_scalar.specs.Spelling.Tag.{IsAnchorName, IsTagText, EndsTag};
@@ -14,7 +14,7 @@ ghost use Rattle.saphyr_scalar.specs.Spelling.Tag.{IsAnchorName, IsTagText, Ends
 pub fn reads_each_anchor()
     ensures { (s : Cursor) (indicator : ℕ) (name x : List ℕ) → s.rest ≡ indicator ∷ (name ++ x)
         → IsAnchorName name → is_anchor_char (slice_index x 0) ≡ false
-        → anchor s ≡ Ok (encode_utf8_all name, at (along s.mark (1 + length name)) x) }
+        → anchor s ≡ Ok (encode_utf8_all name, mid_line (along s.mark (1 + length name)) x) }
 {}
 
 /// What is read as an anchor or an alias is spelled so, and what is left stands behind its name.
@@ -22,7 +22,7 @@ pub fn spells_each_anchor()
     ensures { (s t : Cursor) (text : List ℕ) → 0 < length s.rest → anchor s ≡ Ok (text, t)
         → (indicator : ℕ) × (name : List ℕ) × (s.rest ≡ indicator ∷ (name ++ t.rest))
         × IsAnchorName name × (is_anchor_char (slice_index t.rest 0) ≡ false)
-        × (t ≡ at (along s.mark (1 + length name)) t.rest) × (encode_utf8_all name ≡ text) }
+        × (t ≡ mid_line (along s.mark (1 + length name)) t.rest) × (encode_utf8_all name ≡ text) }
 {}
 
 /// Where a tag is spelled, and behind it what ends a tag, it is read, without a fault.
@@ -32,7 +32,7 @@ pub fn reads_each_tag()
         → tag in_flow s ≡ Ok (
           encode_utf8_all handle,
           encode_utf8_all suffix,
-          at
+          mid_line
               (along s.mark (length t)) x,
         ) }
 {}
@@ -44,6 +44,6 @@ pub fn spells_each_tag()
         → tag in_flow s ≡ Ok (front, back, u)
         → (t : List ℕ) × (handle : List ℕ) × (suffix : List ℕ) × (s.rest ≡ t ++ u.rest)
         × IsTagText t handle suffix × EndsTag in_flow u.rest
-        × (u ≡ at (along s.mark (length t)) u.rest) × (encode_utf8_all handle ≡ front)
+        × (u ≡ mid_line (along s.mark (length t)) u.rest) × (encode_utf8_all handle ≡ front)
         × (encode_utf8_all suffix ≡ back) }
 {}

@@ -45,7 +45,7 @@ impl<T: Input> Reader<T> {
 
     /// A reader at the start of a text.
     pub fn new(mut input: T) -> Self
-        ensures fresh { cursor_of result ≡ spec.fresh (T.rest input) }
+        ensures fresh { cursor_of result ≡ spec.start_cursor (T.rest input) }
         ensures countable { length (T.rest input) < 2 ^ 63 }
     {
         input.lookahead(1);

@@ -39,7 +39,7 @@ impl UriSet {
     // Whether the character is one of the set.
     #[inline]
     fn has(self, c: char) -> bool
-        ensures { result ≡ spec.has self c }
+        ensures { result ≡ spec.is_in_set self c }
     {
         match self {
             UriSet::Uri => is_uri_char(c),
@@ -179,7 +179,7 @@ impl<T: Input> Reader<T> {
     }
 
     // Takes off a percent escape, and gives the character that it stands for (YAML 1.2.2, 5.6).
-    #[tactic(auto, unfolding(crate::specs::Steps::Tag::percent_escape, crate::specs::Steps::Tag::behind_leading_byte, crate::specs::Steps::Tag::encoded))]
+    #[tactic(auto, unfolding(crate::specs::Steps::Tag::percent_escape, crate::specs::Steps::Tag::behind_leading_byte, crate::specs::Steps::Tag::encoded_character))]
     fn read_percent_escape(&mut self, start: Marker) -> Result<char, Refusal>
         ensures { GivesBy (spec.percent_escape start) self.old result self.new }
     {
@@ -264,10 +264,10 @@ impl<T: Input> Reader<T> {
     }
 
     // Takes off `!<uri>`.
-    #[tactic(auto, unfolding(crate::specs::Steps::Tag::verbatim, crate::specs::Steps::Tag::verbatim_end))]
+    #[tactic(auto, unfolding(crate::specs::Steps::Tag::verbatim_tag, crate::specs::Steps::Tag::verbatim_end))]
     fn read_verbatim_tag(&mut self, alloc: Global) -> Result<TagParts, Stop>
         requires { 2 ≤ length (cursor_of self.old).rest }
-        ensures { ReadsBy spec.seen_tag spec.verbatim self.old result self.new }
+        ensures { ReadsBy spec.seen_tag spec.verbatim_tag self.old result self.new }
     {
         let start = self.mark;
         self.skip_n_non_blank(2);
@@ -309,10 +309,10 @@ impl<T: Input> Reader<T> {
     }
 
     // Takes off a tag of a handle and a suffix.
-    #[tactic(auto, unfolding(crate::specs::Steps::Tag::shorthand, crate::specs::Steps::Tag::behind_word, crate::specs::Steps::Tag::primary_tag))]
+    #[tactic(auto, unfolding(crate::specs::Steps::Tag::shorthand_tag, crate::specs::Steps::Tag::tag_behind_word, crate::specs::Steps::Tag::primary_tag))]
     fn read_shorthand_tag(&mut self, alloc: Global) -> Result<TagParts, Stop>
         requires { 0 < length (cursor_of self.old).rest }
-        ensures { ReadsBy spec.seen_tag spec.shorthand self.old result self.new }
+        ensures { ReadsBy spec.seen_tag spec.shorthand_tag self.old result self.new }
     {
         let start = self.mark;
         self.skip_non_blank();

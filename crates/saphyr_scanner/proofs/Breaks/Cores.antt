@@ -6,7 +6,7 @@ use Rattle.saphyr_input.specs.declared.input.SkipTabs.{SkipTabs}
 use Rattle.saphyr_input.specs.declared.input.SkipTabs.TheVariants as tabs
 use Rattle.saphyr_scalar.specs.declared.scalar.position.Marker.{Marker}
 use Rattle.saphyr_scalar.specs.declared.scalar.fault.Refusal.{Refusal}
-use Rattle.saphyr_scalar.specs.Views.Cursor.{Cursor, ◌>>=◌, fresh, pass, separation}
+use Rattle.saphyr_scalar.specs.Views.Cursor.{Cursor, ◌>>=◌, start_cursor, pass, separation}
 use Rattle.saphyr_scanner.specs.Steps.Core.{Core, in_block, is_too_far, save_key, remove_key, drop_far_key, roll, is_further}
 use Rattle.saphyr_scanner.specs.Steps.Level.{Candidate, Level}
 use Rattle.saphyr_scanner.specs.Steps.Passing.{separate, pass_on, with_cursor}
@@ -74,7 +74,7 @@ LevelsEven m j is (l ∷ ls) = KeyEven m j (first is) l.key × LevelsEven m j (o
 -- the same of what the levels are, and of where a colon may stand at once
 pub record TwinParts (text : List ℕ) (s : Cursor) (k : Option Candidate) (ls : List Level) (a : ℕ)
     (x : Indexes) : Type 0 where
-  pub ahead : Ahead text (fresh text) 0 s x.at
+  pub ahead : Ahead text (start_cursor text) 0 s x.at
   pub key : KeyEven s.mark x.at x.key k
   pub outer : LevelsEven s.mark x.at x.outer ls
   pub line : ℕ
@@ -138,7 +138,7 @@ going_to j x = record x { at = j }
 pub twin_moves : (text : List ℕ) (c : Core) (x : Indexes) (s : Cursor) (j : ℕ) → Twin text c x
     → Ahead text c.cursor x.at s j → Twin text (with_cursor s c) (going_to j x)
 twin_moves text c x s j t a = record {
-  ahead = ahead_ahead text (fresh text) 0 c.cursor x.at s j t.ahead a;
+  ahead = ahead_ahead text (start_cursor text) 0 c.cursor x.at s j t.ahead a;
   key = key_moves c.cursor s x.at j x.key c.level.key a.even t.key;
   outer = levels_move c.cursor s x.at j x.outer c.outer a.even t.outer;
   line = t.line;

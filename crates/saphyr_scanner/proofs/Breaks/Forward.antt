@@ -21,9 +21,9 @@ use Rattle.saphyr_scalar.specs.Passing as passing
 use Rattle.saphyr_scalar.specs.Passing.{IsPassed}
 use Rattle.saphyr_scalar.specs.Steps.Plain as words
 use Rattle.saphyr_scalar.specs.Steps.Plain.{ends_line}
-use Rattle.saphyr_scalar.specs.Reading.Plain.{passed, IsPlainReading}
+use Rattle.saphyr_scalar.specs.Reading.Plain.{end_of_text, IsPlainReading}
 use Rattle.saphyr_scalar.specs.Steps.Quoted as quoted
-use Rattle.saphyr_scalar.specs.Steps.Quoted.{at, break_len}
+use Rattle.saphyr_scalar.specs.Steps.Quoted.{mid_line, break_len}
 use Rattle.saphyr_scalar.specs.Steps.Tag as tags
 use Rattle.saphyr_scanner.specs.TokensTaken.{block_indicator}
 use Rattle.saphyr_scanner.proofs.Taken.Later.{top, Later, LaterThan, later_later, along_later, apart_later, passed_later, piece_later, plain_later}
@@ -50,10 +50,10 @@ level_passed _ _ _ _ (passing.line_break m t n u e p) =
     λ h k l. let x = (passed_later (next_line m (break_len t)) (drop (break_len t) t) n u p).lines
     (omega arith) in absurd (omega (arith, h, k, l, x.0))
 
-level_piece : (m : Marker) (cs : List ℕ) → OnOneLine m (passed m cs)
+level_piece : (m : Marker) (cs : List ℕ) → OnOneLine m (end_of_text m cs)
 level_piece m [] = λ h k l. omega arith
 level_piece m (c ∷ cs) =
-    by_test (ends_line c cs) (next_line m 1) (along m 1) (λ (k : Marker). OnOneLine m (passed k cs))
+    by_test (ends_line c cs) (next_line m 1) (along m 1) (λ (k : Marker). OnOneLine m (end_of_text k cs))
     (λ _. λ h k l. let x = (piece_later (next_line m 1) cs []).lines (omega arith) in absurd
     (omega (arith, h, k, l, x.0)))
     (λ _. λ h k l. let i = level_piece (along m 1) cs h k l in omega (arith, i))
@@ -146,7 +146,7 @@ pub record Forwards : Type 0 where
 
 -- a text of the line was read
 pub line_forward : (s t : Cursor) (text : List ℕ) → s.rest ≡ text ++ t.rest
-    → t ≡ at (along s.mark (length text)) t.rest
+    → t ≡ mid_line (along s.mark (length text)) t.rest
     → Forward s t
 line_forward s t text is e =
     let l : length s.rest ≡ length (text ++ t.rest) = ap length is in
@@ -155,10 +155,10 @@ line_forward s t text is e =
 
 -- and a break behind it, or none
 pub break_forward : (s t : Cursor) (text tail behind : List ℕ) → s.rest ≡ text ++ (tail ++ behind)
-    → t ≡ pass_break (at (along s.mark (length text + length tail)) behind) → Forward s t
+    → t ≡ pass_break (mid_line (along s.mark (length text + length tail)) behind) → Forward s t
 break_forward s t text tail behind is e =
     let n = length text + length tail in
-    let there : Cursor = at (along s.mark n) behind in
+    let there : Cursor = mid_line (along s.mark n) behind in
     let l : length s.rest ≡ length (text ++ (tail ++ behind)) = ap length is in
     let k = length-append text (tail ++ behind) in
     let j = length-append tail behind in

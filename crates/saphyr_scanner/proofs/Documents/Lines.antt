@@ -4,7 +4,7 @@ use Rattle.std.proofs.lemmas.Bool.Decides.{nat_tests}
 use Rattle.saphyr_input.specs.Classes.{is_blank, is_blank_or_breakz, is_breakz}
 use Rattle.saphyr_scalar.specs.declared.scalar.position.Marker.{Marker}
 use Rattle.saphyr_scalar.specs.Views.Cursor.{next_line}
-use Rattle.saphyr_scalar.specs.Spelling.Spaces.{joined, AreEach, IsCommentBehind, IsFillerLine, IsFiller, IsLineRest, IsEol}
+use Rattle.saphyr_scalar.specs.Spelling.Spaces.{joined_pieces, AreEach, IsCommentBehind, IsFillerLine, IsFiller, IsLineRest, IsEol}
 use Rattle.saphyr_scalar.specs.Spelling.Tag.{AreIn}
 use Rattle.saphyr_scanner.proofs.Flow.States.{moved, past}
 use Rattle.saphyr_scanner.proofs.Flow.Places.{moved_append, moved_count}
@@ -113,12 +113,13 @@ eol_first m t o e = subst (λ (x : List ℕ). is_blank_or_breakz (slice_index x 
 pub filler_line : (m : Marker) (w : List ℕ) → IsFiller w → m.col ≡ 0 → (moved m w).col ≡ 0
 filler_line m w h col = subst (λ (x : List ℕ). (moved m x).col ≡ 0) (sym h.2) (pieces m h.0 h.1 col)
   where
-    pieces : (m : Marker) (ws : List (List ℕ)) → AreEach IsFillerLine ws → m.col ≡ 0 → (moved m (joined ws)).col ≡ 0
+    pieces : (m : Marker) (ws : List (List ℕ)) → AreEach IsFillerLine ws → m.col ≡ 0
+        → (moved m (joined_pieces ws)).col ≡ 0
     pieces m [] k e = e
     pieces m (v ∷ vs) k e =
         let line : (moved m v).col ≡ 0 = ap (λ (x : List ℕ). (moved m x).col) k.0.2
         ∙ ap (λ (n : Marker). n.col) (moved_append m k.0.0 (10 ∷ [])) in
-        ap (λ (n : Marker). n.col) (moved_append m v (joined vs)) ∙ pieces (moved m v) vs k.1 line
+        ap (λ (n : Marker). n.col) (moved_append m v (joined_pieces vs)) ∙ pieces (moved m v) vs k.1 line
 
 none_behind : (w y : List ℕ) → w ++ y ≡ [] → y ≡ []
 none_behind [] y e = e

@@ -9,7 +9,7 @@ use Rattle.saphyr_scalar.specs.declared.scalar.fault.Refusal.{Refusal}
 use Rattle.saphyr_scalar.specs.Views.Cursor.{Cursor, ◌>>=◌, along, pass, pass_break}
 use Rattle.saphyr_scalar.specs.Steps.Directive as directives
 use Rattle.saphyr_scalar.specs.Steps.Directive.{ReadDirective}
-use Rattle.saphyr_scalar.specs.Steps.Quoted.{at}
+use Rattle.saphyr_scalar.specs.Steps.Quoted.{mid_line}
 use Rattle.saphyr_scalar.proofs.Moving.{along_more}
 use Rattle.saphyr_scalar.proofs.Properties.TagsSpelled.{cut_at}
 use Rattle.saphyr_scanner.specs.Grammar.Tokens as tokens
@@ -244,8 +244,8 @@ directive_reading c x col f e = record {
       let tail = r.1 in
       let behind = r.2 in
       let s = c.cursor in
-      let mid : Cursor = at (along s.mark (length text)) (tail ++ behind) in
-      let there : Cursor = at (along s.mark (length text + length tail)) behind in
+      let mid : Cursor = mid_line (along s.mark (length text)) (tail ++ behind) in
+      let there : Cursor = mid_line (along s.mark (length text + length tail)) behind in
       let first : IsPassedOver mid.mark (tail ++ behind) (along mid.mark (length tail)) behind =
       tail_apart mid.mark tail behind r.5 (breakz_no_non_break (slice_index behind 0) r.6) in
       let second : AreApart mid there = subst (λ (m : Marker). IsPassedOver mid.mark (tail ++ behind) m behind)

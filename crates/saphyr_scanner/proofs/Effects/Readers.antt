@@ -28,7 +28,7 @@ use Rattle.saphyr_scalar.specs.Steps.Directive as directives
 use Rattle.saphyr_scalar.specs.Steps.Directive.{ReadDirective}
 use Rattle.saphyr_scalar.specs.Steps.Plain as words
 use Rattle.saphyr_scalar.specs.Steps.Quoted as quoted
-use Rattle.saphyr_scalar.specs.Steps.Quoted.{at}
+use Rattle.saphyr_scalar.specs.Steps.Quoted.{mid_line}
 use Rattle.saphyr_scalar.specs.Steps.Tag as tags
 pub use Rattle.saphyr_scanner.specs.TakenOff.{Less, Readers}
 use Rattle.saphyr_scanner.specs.TokensTaken as taken
@@ -92,18 +92,18 @@ pub record TextLaws : Type 0 where
       → BlockPlace s span t
   pub name : (s t : Cursor) (text : List ℕ) → 0 < length s.rest → anchors.anchor s ≡ Ok (text, t)
       → (indicator : ℕ) × (name : List ℕ) × (s.rest ≡ indicator ∷ (name ++ t.rest)) × IsAnchorName name
-      × (is_anchor_char (slice_index t.rest 0) ≡ false) × (t ≡ at (along s.mark (1 + length name)) t.rest)
+      × (is_anchor_char (slice_index t.rest 0) ≡ false) × (t ≡ mid_line (along s.mark (1 + length name)) t.rest)
       × (encode_utf8_all name ≡ text)
   pub tag : (in_flow : Bool) (s u : Cursor) (front back : List ℕ) → slice_index s.rest 0 ≡ 33
       → tags.tag in_flow s ≡ Ok (front, back, u)
       → (t : List ℕ) × (handle : List ℕ) × (suffix : List ℕ) × (s.rest ≡ t ++ u.rest) × IsTagText t handle suffix
-      × EndsTag in_flow u.rest × (u ≡ at (along s.mark (length t)) u.rest) × (encode_utf8_all handle ≡ front)
+      × EndsTag in_flow u.rest × (u ≡ mid_line (along s.mark (length t)) u.rest) × (encode_utf8_all handle ≡ front)
       × (encode_utf8_all suffix ≡ back)
   pub directive : (s u : Cursor) (d : ReadDirective) (end : Marker) → slice_index s.rest 0 ≡ 37
       → directives.directive s ≡ Ok (d, end, u)
       → (t : List ℕ) × (tail : List ℕ) × (x : List ℕ) × (s.rest ≡ t ++ (tail ++ x)) × IsReadDirective d t
       × IsLineTail tail × (is_breakz (slice_index x 0) ≡ true) × (end ≡ along s.mark (length t))
-      × (u ≡ pass_break (at (along s.mark (length t + length tail)) x))
+      × (u ≡ pass_break (mid_line (along s.mark (length t + length tail)) x))
 
 -- what the laws of the readers say of their refusals
 pub record RefusalLaws : Type 0 where

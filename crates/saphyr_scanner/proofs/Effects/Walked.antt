@@ -6,7 +6,7 @@ use Rattle.saphyr_input.specs.declared.input.SkipTabs.TheVariants as tabs
 use Rattle.saphyr_scalar.specs.declared.scalar.position.Marker.{Marker}
 use Rattle.saphyr_scalar.specs.declared.scalar.fault.Refusal.{Refusal}
 use Rattle.saphyr_scalar.specs.RefusedInside.{IsRefusedInside}
-use Rattle.saphyr_scalar.specs.Views.Cursor.{Cursor, fresh, ◌>>=◌, separation}
+use Rattle.saphyr_scalar.specs.Views.Cursor.{Cursor, start_cursor, ◌>>=◌, separation}
 use Rattle.saphyr_scanner.specs.Steps.Queue.{Queue, next}
 use Rattle.saphyr_scanner.specs.Steps.Core.{Core, Action, Step, StepResult, perform, in_block, least_column}
 use Rattle.saphyr_scanner.specs.Steps.Gap as gaps
@@ -85,7 +85,7 @@ Doing n c x = Does n 1 5 c x.core x.actions
 pub record Stepped (n : ℕ) (c : Core) (x : Step) : Type 0 where
   pub effect : EffectAt n c x
   pub fetched : TextLaws → (text : List ℕ) → length text < 2 ^ 63 → (columns : List ℕ) (from : Cursor) (q : Queue)
-      → LaterThan (fresh text) from → n ≡ next q → (in_block c ≡ true → c.indent ≤ c.cursor.mark.col + 1)
+      → LaterThan (start_cursor text) from → n ≡ next q → (in_block c ≡ true → c.indent ≤ c.cursor.mark.col + 1)
       → HoldsTaken columns from c q → FetchedStep columns from q x
   pub noted : c.comment ≡ None → IsNoted x.core.comment x.core.cursor
 

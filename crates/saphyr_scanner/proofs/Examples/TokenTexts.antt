@@ -14,11 +14,11 @@ use Rattle.saphyr_scalar.specs.declared.scalar.position.Span.{Span}
 use Rattle.saphyr_scalar.specs.Views.Cursor.{Cursor, along, next_line}
 use Rattle.saphyr_scalar.specs.Passing as passing
 use Rattle.saphyr_scalar.specs.Passing.{IsPassed}
-use Rattle.saphyr_scalar.specs.Reading.Plain.{ends_piece, passed}
+use Rattle.saphyr_scalar.specs.Reading.Plain.{ends_piece, end_of_text}
 use Rattle.saphyr_scalar.specs.Spelling.Tag.{IsTagText}
 use Rattle.saphyr_scalar.specs.Spelling.Directive.{IsLineTail, IsReadTagDirective}
 use Rattle.saphyr_scalar.specs.Spelling.Quoted.{stands_for_itself, closed, itself}
-use Rattle.saphyr_scalar.specs.Spelling.QuotedWords.{is_closing}
+use Rattle.saphyr_scalar.specs.Spelling.ClosingQuote.{is_closing}
 use Rattle.saphyr_scanner.specs.Grammar.Forest.{Plain, SingleQuoted, DoubleQuoted}
 use Rattle.saphyr_scanner.specs.Grammar.Tokens as tokens
 use Rattle.saphyr_scanner.specs.Grammar.Tokens.{Kind}
@@ -253,7 +253,7 @@ absent a e h P = absurd (let f : false ≡ true = rw e at h in cc)
 
 pub plain_taken : {indent c : ℕ} {m : Marker} {bytes t : List ℕ} → IsLetter c → IsFalse (is_document_indicator (c ∷ t))
     → IsTrue (ends_piece (slice_index t 0)) → encode_utf8_all (plain_value (normalized (c ∷ []))) ≡ bytes
-    → passed m (c ∷ []) ≡ along m 1
+    → end_of_text m (c ∷ []) ≡ along m 1
     → TokenText indent (tokens.Scalar Plain bytes) (span_from_to m (along m 1)) m (c ∷ t) (along m 1) t
 plain_taken {c = c} {t = t} l d f v e = record {
   holds = record {

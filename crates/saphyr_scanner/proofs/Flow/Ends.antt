@@ -7,7 +7,7 @@ use Rattle.saphyr_input.specs.Places.{is_blank_or_break}
 use Rattle.saphyr_scalar.specs.declared.scalar.position.Marker.{Marker}
 use Rattle.saphyr_scalar.specs.Steps.BlockRead.{spaces}
 use Rattle.saphyr_scalar.specs.Spelling.Tag.{AreIn, EndsTag}
-use Rattle.saphyr_scalar.specs.Spelling.Spaces.{joined, AreEach, IsCommentBehind, IsSeparationLine, IsSeparation, IsLineRest}
+use Rattle.saphyr_scalar.specs.Spelling.Spaces.{joined_pieces, AreEach, IsCommentBehind, IsSeparationLine, IsSeparation, IsLineRest}
 use Rattle.saphyr_scanner.specs.Grammar.Forest.{Node}
 use Rattle.saphyr_scanner.specs.Grammar.FlowNodes.{needs_separation, IsBeforeColon}
 use Rattle.saphyr_scanner.proofs.Flow.States.{EndsNode, IsBehindNode, IsBehindRoot}
@@ -47,9 +47,9 @@ separation_white indent w h =
     subst BeginsWhite (sym h.4)
     (two_white h.0 h.1 (subst BeginsWhite (sym h.2.2) (pieces h.2.0 h.2.1)) (blanks_white h.1 h.3))
   where
-    pieces : (ws : List (List ℕ)) → AreEach (IsSeparationLine indent) ws → BeginsWhite (joined ws)
+    pieces : (ws : List (List ℕ)) → AreEach (IsSeparationLine indent) ws → BeginsWhite (joined_pieces ws)
     pieces [] k = tt
-    pieces (v ∷ vs) k = two_white v (joined vs) (separation_line_white indent v k.0) (pieces vs k.1)
+    pieces (v ∷ vs) k = two_white v (joined_pieces vs) (separation_line_white indent v k.0) (pieces vs k.1)
 
 rest_white : (rest more : List ℕ) → IsLineRest rest → BeginsWhite more → BeginsWhite (rest ++ more)
 rest_white rest more h k =

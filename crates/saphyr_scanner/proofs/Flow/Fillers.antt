@@ -8,7 +8,7 @@ use Rattle.saphyr_scalar.specs.Views.Cursor.{Cursor, along, next_line}
 use Rattle.saphyr_scalar.specs.Spelling.Plain.{past_white}
 use Rattle.saphyr_scalar.specs.Spelling.Tag.{AreIn}
 use Rattle.saphyr_scalar.specs.Steps.BlockRead.{spaces}
-use Rattle.saphyr_scalar.specs.Spelling.Spaces.{joined, AreEach, AreMany, AreSpaces, IsComment, IsCommentBehind, IsLineRest, IsFillerText, IsFillerLine, IsFiller, IsLastFiller, IsSeparationLine, IsSeparation}
+use Rattle.saphyr_scalar.specs.Spelling.Spaces.{joined_pieces, AreEach, AreMany, AreSpaces, IsComment, IsCommentBehind, IsLineRest, IsFillerText, IsFillerLine, IsFiller, IsLastFiller, IsSeparationLine, IsSeparation}
 use Rattle.saphyr_scanner.proofs.Flow.States.{moved, is_left_tab, is_filler_rest, is_comment_rest, past, past_comment}
 use Rattle.saphyr_scanner.proofs.Flow.Places.{moved_append}
 use Rattle.saphyr_scanner.proofs.Flow.Gaps.{stops_tab, stop_blank}
@@ -47,18 +47,18 @@ pub many_past : (column : ℕ) (P : List ℕ → Type 0) → ((w : List ℕ) →
     → IsPast column w
 many_past column P each w h = subst (IsPast column) (sym h.2) (pieces h.0 h.1)
   where
-    pieces : (ws : List (List ℕ)) → AreEach P ws → IsPast column (joined ws)
+    pieces : (ws : List (List ℕ)) → AreEach P ws → IsPast column (joined_pieces ws)
     pieces [] k = λ m y. refl
-    pieces (v ∷ vs) k = both_past column v (joined vs) (each v k.0) (pieces vs k.1)
+    pieces (v ∷ vs) k = both_past column v (joined_pieces vs) (each v k.0) (pieces vs k.1)
 
 pub many_right : (column : ℕ) (P : List ℕ → Type 0) → ((w : List ℕ) → P w → IsPastRight column w) → (w : List ℕ)
     → AreMany P w → IsPastRight column w
 many_right column P each w h = subst (IsPastRight column) (sym h.2) (pieces h.0 h.1)
   where
-    pieces : (ws : List (List ℕ)) → AreEach P ws → IsPastRight column (joined ws)
+    pieces : (ws : List (List ℕ)) → AreEach P ws → IsPastRight column (joined_pieces ws)
     pieces [] k m low = record { right = low; is = λ y. refl }
     pieces (v ∷ vs) k m low =
-        let one = each v k.0 m low in both_right column m v (joined vs) one (pieces vs k.1 (moved m v) one.right)
+        let one = each v k.0 m low in both_right column m v (joined_pieces vs) one (pieces vs k.1 (moved m v) one.right)
 
 pub no_feed : (c : ℕ) → is_blank c ≡ true → (c == line_feed) ≡ false
 no_feed c h = grind (arith, nat_tests)

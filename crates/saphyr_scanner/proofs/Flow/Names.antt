@@ -4,7 +4,7 @@ use Rattle.std.specs.Prelude.{◌==◌, not, Option}
 use Rattle.saphyr_input.specs.Classes.{is_break, is_anchor_char, line_feed}
 use Rattle.saphyr_scalar.specs.declared.scalar.position.Marker.{Marker}
 use Rattle.saphyr_scalar.specs.Views.Cursor.{Cursor, ◌>>=◌, along}
-use Rattle.saphyr_scalar.specs.Steps.Quoted.{at}
+use Rattle.saphyr_scalar.specs.Steps.Quoted.{mid_line}
 use Rattle.saphyr_scalar.specs.Spelling.Tag.{AreIn, IsAnchorName, IsTagText, EndsTag}
 use Rattle.saphyr_scalar.proofs.NoBreaks.{NoBreaks}
 use Rattle.saphyr_scanner.specs.declared.engine.level.Context.{Context}
@@ -59,7 +59,7 @@ pub name_step : ReaderPromises → (around : Around) (d : Bool) (token_of : List
     → (x : Context) (k : Option Candidate) (ls : List Level) (a : Bool) (ad : ℕ) → Placed around x a m
     → property.name_steps token_of n (core_at around d (cursor_at (indicator ∷ (name ++ o)) m b) x k ls a ad)
     ≡ completed_step (from_to m (moved m (indicator ∷ name)) (token_of (encode_utf8_all name)) ∷ [])
-    (core_at around d (at (moved m (indicator ∷ name)) o) x (saved a n m k) ls false ad)
+    (core_at around d (mid_line (moved m (indicator ∷ name)) o) x (saved a n m k) ls false ad)
 unfolding property.name_steps read_name
 name_step reads around d token_of n m b indicator name o e h ends x k ls a ad placed =
     let s = cursor_at (indicator ∷ (name ++ o)) m b in
@@ -67,7 +67,7 @@ name_step reads around d token_of n m b indicator name o e h ends x k ls a ad pl
     let token = λ (y : List ℕ × Cursor). completed_step (from_to m y.1.mark (token_of y.0) ∷ []) (with_cursor y.1 c) in
     ap (λ (q : Core). read_name token_of (disallow_key q)) (saves_key n around d s x k ls a ad placed)
     ∙ ap (λ q. q >>= token) (reads.anchor s indicator name o refl h ends)
-    ∙ ap (λ (end : Marker). token (encode_utf8_all name, at end o)) (named_along m indicator name e h)
+    ∙ ap (λ (end : Marker). token (encode_utf8_all name, mid_line end o)) (named_along m indicator name e h)
 
 name_passes : ReaderPromises → (around : Around) (token_of : List ℕ
     → Kind) (indicator : ℕ) (name o : List ℕ) (m : Marker)
@@ -82,7 +82,7 @@ name_passes reads around token_of indicator name o m begins first break h ends f
     token_passes around (closes_key now.adjacent) kind (indicator ∷ name) o m first fits
     (unbroken_right around.indent m (indicator ∷ name) (break, name_no_break name h) fits.right) now text
     (λ b j e. record {
-      there = at end o;
+      there = mid_line end o;
       end = end;
       allowed = false;
       adjacent = now.adjacent;
@@ -159,7 +159,7 @@ pub tag_step : ReaderPromises → (around : Around) (d : Bool) (n : ℕ) (m : Ma
     → EndsTag (not (is_block x)) o → Placed around x a m
     → property.tag_steps n (core_at around d (cursor_at (t ++ o) m b) x k ls a ad)
     ≡ completed_step (from_to m (moved m t) (tokens.Tag (encode_utf8_all handle) (encode_utf8_all suffix)) ∷ [])
-    (core_at around d (at (moved m t) o) x (saved a n m k) ls false ad)
+    (core_at around d (mid_line (moved m t) o) x (saved a n m k) ls false ad)
 unfolding property.tag_steps read_tag
 tag_step reads around d n m b t handle suffix o h x k ls a ad ends placed =
     let s = cursor_at (t ++ o) m b in
@@ -168,7 +168,7 @@ tag_step reads around d n m b t handle suffix o h x k ls a ad ends placed =
     (with_cursor y.2 c) in
     ap (λ (q : Core). read_tag (disallow_key q)) (saves_key n around d s x k ls a ad placed)
     ∙ ap (λ q. q >>= token) (reads.tag (not (is_block x)) s t handle suffix o refl h ends)
-    ∙ ap (λ (end : Marker). token (encode_utf8_all handle, encode_utf8_all suffix, at end o))
+    ∙ ap (λ (end : Marker). token (encode_utf8_all handle, encode_utf8_all suffix, mid_line end o))
     (sym (unbroken_along m t (tag_no_break t handle suffix h)))
 
 pub begins_tag : (second n : ℕ) (c : Core) → step 33 second n c ≡ property.tag_steps n c
@@ -199,7 +199,7 @@ tag_passes reads around tag t o m h fits now ends text =
     subst (λ (q : Kind). PassesToken around (closes_key now.adjacent) now m t o q) r.token (token_passes around
     (closes_key now.adjacent) kind t o m first fits
     (unbroken_right around.indent m t (tag_no_break t r.handle r.suffix r.is) fits.right) now text (λ b j e. record {
-      there = at end o;
+      there = mid_line end o;
       end = end;
       allowed = false;
       adjacent = now.adjacent;

@@ -7,7 +7,7 @@ use Rattle.saphyr_input.specs.Classes.{is_blank, is_break, is_blank_or_breakz, i
 use Rattle.saphyr_input.specs.Places.{is_blank_or_break, is_document_indicator}
 use Rattle.saphyr_scalar.specs.declared.scalar.position.Marker.{Marker}
 use Rattle.saphyr_scalar.specs.Views.Cursor.{Cursor, along, next_line}
-use Rattle.saphyr_scalar.specs.Steps.Plain.{in_word, ends_line}
+use Rattle.saphyr_scalar.specs.Steps.Plain.{is_in_word, ends_line}
 use Rattle.saphyr_scalar.specs.Spelling.Plain.{past_white, StopsPlain, EndsPlain}
 use Rattle.saphyr_scanner.specs.Grammar.Forest.{Node}
 use Rattle.saphyr_scanner.specs.Grammar.FlowNodes.{allows_adjacent}
@@ -71,8 +71,8 @@ reaches column m o inked =
 
 -- ## Where no word goes on
 
-no_word : (f : Bool) (t : List ℕ) → t ≡ [] → in_word f t ≡ false
-unfolding in_word
+no_word : (f : Bool) (t : List ℕ) → t ≡ [] → is_in_word f t ≡ false
+unfolding is_in_word
 no_word f t e = rw e refl
 
 colon_ends : (c : ℕ) → IsTrue (ends_colon c) → (is_blank_or_breakz c || (true && is_flow c)) ≡ true
@@ -91,8 +91,8 @@ colon_ends c h = by_blank (is_blank_or_breakz c) refl h
     by_blank true e k = rw e refl
     by_blank false e k = rw e (flow c (parts (is_blank_or_breakz c) (c == 44) (c == 93) (c == 125) e k))
 
-colon_stops : (others : List ℕ) → IsTrue (ends_colon (slice_index others 0)) → in_word true (58 ∷ others) ≡ false
-unfolding in_word
+colon_stops : (others : List ℕ) → IsTrue (ends_colon (slice_index others 0)) → is_in_word true (58 ∷ others) ≡ false
+unfolding is_in_word
 colon_stops others h = rw (colon_ends (slice_index others 0) h) refl
 
 -- a node that lets no value stand right behind its colon
@@ -100,15 +100,15 @@ abbrev pub ParsColon : Node → Type 0
 ParsColon node = (w : List ℕ) → allows_adjacent node w ≡ false
 
 word_stops : (node : Node) (w : List ℕ) (c : ℕ) (others : List ℕ) → ParsColon node → EndsNode node w c others
-    → in_word true (c ∷ others) ≡ false
-unfolding in_word
+    → is_in_word true (c ∷ others) ≡ false
+unfolding is_in_word
 word_stops node w c others apart (inl e) = rw e refl
 word_stops node w c others apart (inr (inl e)) = rw e refl
 word_stops node w c others apart (inr (inr (inl e))) = rw e refl
 word_stops node w c others apart (inr (inr (inr (e, before, inl allows)))) =
     absurd (false≢true (sym (apart w) ∙ allows))
 word_stops node w c others apart (inr (inr (inr (e, before, inr ends)))) =
-    subst (λ (d : ℕ). in_word true (d ∷ others) ≡ false) (sym e) (colon_stops others ends)
+    subst (λ (d : ℕ). is_in_word true (d ∷ others) ≡ false) (sym e) (colon_stops others ends)
 
 -- ## Ends
 
@@ -146,7 +146,7 @@ ends_in_flow column node m o apart h right =
         → StopsPlain true column (past_white m false o)
     stops (inl e) = inl (no_word true (past_white m false o).rest e)
     stops (inr (inl e)) = inr (inl e)
-    stops (inr (inr e)) = inl (subst (λ (r : List ℕ). in_word true r ≡ false)
+    stops (inr (inr e)) = inl (subst (λ (r : List ℕ). is_in_word true r ≡ false)
         (sym (e.1 ∙ ap (λ (p : Marker × List ℕ). p.1) lands))
         (word_stops node h.separation h.first h.others apart h.ends))
 

@@ -15,7 +15,7 @@ use Rattle.scalar_values.specs.Flow.{mark, backslash, apostrophe}
 use Rattle.scalar_values.specs.Folding.{folded}
 use Rattle.saphyr_scalar.specs.Passing.{IsPassed, nothing, character, line_break}
 use Rattle.saphyr_scalar.specs.Steps.Quoted as quotes
-use Rattle.saphyr_scalar.specs.Steps.Quoted.{at, break_len, is_closing}
+use Rattle.saphyr_scalar.specs.Steps.Quoted.{mid_line, break_len, is_closing}
 use Rattle.saphyr_scalar.specs.Spelling.Quoted.{IsText, closed, itself, broken, two_quotes, escaped, numbered, escaped_break}
 use Rattle.saphyr_scalar.specs.Spelling.QuotedLines.{space_count, IsLine, LinesFit}
 use Rattle.saphyr_scalar.specs.Spelling.Tag.{AreIn}
@@ -210,7 +210,7 @@ moved_passes m (c ∷ cs) o h =
 
 pub quoted_read : ReaderPromises → (low indent : ℕ) → low ≤ indent → (quote : Quote) (s : Cursor) (value t o : List ℕ)
     → s.rest ≡ t ++ o → IsQuoted quote indent value t → IsClear s.mark t o → (slice_index o 0 == 39) ≡ false
-    → quotes.quoted quote low s ≡ Ok (encode_utf8_all value, at (moved s.mark t) o)
+    → quotes.quoted quote low s ≡ Ok (encode_utf8_all value, mid_line (moved s.mark t) o)
 quoted_read reads low indent below quote s value t o is (inside, items, spelled, fit, stands_for, text) clear ends =
     let behind = clear_back s.mark (mark quote ∷ []) inside o (subst (λ (y : List ℕ). IsClear s.mark y o) text clear) in
     let more = extends low indent below quote inside items [] spelled fit o (moved s.mark (mark quote ∷ [])) behind
@@ -219,8 +219,8 @@ quoted_read reads low indent below quote s value t o is (inside, items, spelled,
     let passed : IsPassed s.mark s.rest (moved s.mark t) o = subst
     (λ (y : List ℕ). IsPassed s.mark y (moved s.mark t) o) (sym is) (moved_passes s.mark t o clear.no_return) in
     let there : got.0 ≡ moved s.mark t = reads.place s.mark s.rest (moved s.mark t) o passed got.0 got.1 in
-    got.2 ∙ ap (λ (n : Marker). Ok (encode_utf8_all (folded items), at n o)) there
-    ∙ ap (λ (v : List ℕ). Ok (encode_utf8_all v, at (moved s.mark t) o)) (sym stands_for)
+    got.2 ∙ ap (λ (n : Marker). Ok (encode_utf8_all (folded items), mid_line n o)) there
+    ∙ ap (λ (v : List ℕ). Ok (encode_utf8_all v, mid_line (moved s.mark t) o)) (sym stands_for)
 
 -- a quoted scalar ends right of a column that its lines reach
 pub quoted_right : (indent : ℕ) (quote : Quote) (m : Marker) (value t o : List ℕ) → IsQuoted quote indent value t

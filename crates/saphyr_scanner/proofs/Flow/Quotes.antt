@@ -9,7 +9,7 @@ use Rattle.scalar_values.specs.declared.flow.Quote.{Quote}
 use Rattle.scalar_values.specs.declared.flow.Quote.TheVariants.{Single, Double}
 use Rattle.saphyr_scalar.specs.Views.Cursor.{Cursor, ◌>>=◌, separation}
 use Rattle.scalar_values.specs.Flow.{mark}
-use Rattle.saphyr_scalar.specs.Steps.Quoted.{at}
+use Rattle.saphyr_scalar.specs.Steps.Quoted.{mid_line}
 use Rattle.saphyr_scanner.specs.declared.engine.level.Context.{Context}
 use Rattle.saphyr_scanner.specs.declared.engine.level.Context.TheVariants as context
 use Rattle.saphyr_scanner.specs.Grammar.Tokens as tokens
@@ -81,10 +81,10 @@ ends_node_ink node w others c (inr (inr (inr h))) =
 
 pub flow_ends_quotes : (around : Around) (node : Node) (start m : Marker) (o : List ℕ) (x : Context)
     → is_block x ≡ false → IsBehindNode around.indent node o → around.indent ≤ m.col
-    → EndsQuotes around start (at m o) x
+    → EndsQuotes around start (mid_line m o) x
 flow_ends_quotes around node start m o x flow h right =
     let ink = ends_node_ink node h.separation h.others h.first h.ends in
-    let p = separates around.indent (at m o) h.separation h.first h.others h.is h.parts right ink.0 in
+    let p = separates around.indent (mid_line m o) h.separation h.first h.others h.is h.parts right ink.0 in
     let reached = ap (past around.indent m) h.is
     ∙ separation_past around.indent m h.separation (h.first ∷ h.others) h.parts right
     ∙ past_ink around.indent (moved m h.separation) h.first h.others ink.0 in
@@ -104,9 +104,9 @@ flow_ends_quotes around node start m o x flow h right =
     first rest e (inr k) = rw k e
 
 pub root_ends_quotes : (around : Around) (start m : Marker) (o : List ℕ) → IsBehindRoot around.indent m o
-    → around.indent ≤ m.col → EndsQuotes around start (at m o) context.Block
+    → around.indent ≤ m.col → EndsQuotes around start (mid_line m o) context.Block
 root_ends_quotes around start m o h right =
-    let p = separates_rest (at m o) h.rest h.more h.is h.line h.break in
+    let p = separates_rest (mid_line m o) h.rest h.more h.is h.line h.break in
     let there : Cursor = record { rest = h.more; mark = moved m h.rest; blank_so_far = false } in
     record {
       found = p.0;
@@ -151,7 +151,7 @@ pub quoted_step : ReaderPromises → (around : Around) (d : Bool) (quote : Quote
     → Placed around x a m
     → step c (slice_index (t ++ o) 1) n (core_at around d (cursor_at (t ++ o) m b) x k ls a ad)
     ≡ behind_quotes m (style_of_quote quote) (encode_utf8_all value)
-    (core_at around d (at (moved m t) o) x (saved a n m k) ls false ad)
+    (core_at around d (mid_line (moved m t) o) x (saved a n m k) ls false ad)
 unfolding step scalar.single_quoted_steps scalar.double_quoted_steps read_single_quoted read_double_quoted
 quoted_step reads around d Single n m b value t o h clear ends x k ls a ad c first placed =
     let s = cursor_at (t ++ o) m b in
@@ -197,7 +197,7 @@ quote_first Double inside =
 pub quoted_passes : ReaderPromises → (around : Around) (quote : Quote) (value t o : List ℕ) (m : Marker)
     → IsQuoted quote around.indent value t → FitsAround around m t o
     → (slice_index o 0 == 39) ≡ false
-    → (now : FlowMoment) → EndsQuotes around m (at (moved m t) o) now.context → StandsBefore around now m (t ++ o)
+    → (now : FlowMoment) → EndsQuotes around m (mid_line (moved m t) o) now.context → StandsBefore around now m (t ++ o)
     → PassesToken around (adjacent_at (past around.indent (moved m t) o).0.index) now m t o
     (scalar_token (style_of_quote quote) value)
 quoted_passes reads around quote value t o m h fits apart now p text =
@@ -218,7 +218,7 @@ quoted_passes reads around quote value t o m h fits apart now p text =
       deepens = as_before around;
       is = λ d. quoted_step reads around d quote place m b value t o h fits.clear apart now.context j now.outer e
           now.adjacent (slice_index (t ++ o) 0) at_first (placed_right now.context e fits.calm fits.right)
-          ∙ behind_step around d m (style_of_quote quote) (encode_utf8_all value) (at (moved m t) o) now.context
+          ∙ behind_step around d m (style_of_quote quote) (encode_utf8_all value) (mid_line (moved m t) o) now.context
           (saved e place m j) now.outer now.adjacent behind.0 behind.1 p g;
       fits = past_again around.indent (moved m t) o;
       fresh = λ b e. or_left g.allowed (crosses behind.1) (g.fresh b (p.stays b e));

@@ -13,7 +13,7 @@ use Rattle.saphyr_scalar.specs.declared.scalar.position.Marker.{Marker}
 use Rattle.saphyr_scalar.specs.Views.Cursor.{Cursor, along, pass_blanks, separation, behind_separation}
 use Rattle.saphyr_scalar.specs.Spelling.Tag.{AreIn}
 use Rattle.saphyr_scalar.specs.Steps.BlockRead.{spaces}
-use Rattle.saphyr_scalar.specs.Spelling.Spaces.{joined, AreEach, IsComment, IsCommentBehind, IsSeparationLine, IsSeparation, IsLineRest}
+use Rattle.saphyr_scalar.specs.Spelling.Spaces.{joined_pieces, AreEach, IsComment, IsCommentBehind, IsSeparationLine, IsSeparation, IsLineRest}
 use Rattle.saphyr_scalar.proofs.Runs.{run_len}
 use Rattle.saphyr_scanner.proofs.Json.Gaps.{separated}
 use Rattle.saphyr_scanner.proofs.Flow.States.{moved, past, IsInk}
@@ -222,20 +222,20 @@ pub separates : (column : ℕ) (s : Cursor) (w : List ℕ) (c : ℕ) (cs : List 
     → IsSeparation column w → column ≤ s.mark.col → IsInk c → Separates column s w (c ∷ cs)
 separates column s w c cs is (lines, blanks, (pieces, each, lines_are), are, e) low ink = by_lines pieces each lines_are
   where
-    by_lines : (pieces : List (List ℕ)) → AreEach (IsSeparationLine column) pieces → lines ≡ joined pieces
+    by_lines : (pieces : List (List ℕ)) → AreEach (IsSeparationLine column) pieces → lines ≡ joined_pieces pieces
         → Separates column s w (c ∷ cs)
     by_lines [] each lines_are =
         let same : w ≡ blanks = e ∙ ap (λ (t : List ℕ). t ++ blanks) lines_are in
         subst (λ (v : List ℕ). Separates column s v (c ∷ cs)) (sym same)
         (separates_on_line column s blanks c cs (is ∙ ap (λ (t : List ℕ). t ++ (c ∷ cs)) same) are low ink)
     by_lines (p ∷ ps) ((first, comment, filler, first_are, k, filler_is, line_is), others) lines_are =
-        let more = (filler ++ spaces column) ++ (joined ps ++ (blanks ++ (c ∷ cs))) in
-        let inside : w ≡ first ++ (comment ++ (10 ∷ ((filler ++ spaces column) ++ (joined ps ++ blanks)))) =
-        e ∙ ap (λ (t : List ℕ). t ++ blanks) lines_are ∙ ap (λ (t : List ℕ). (t ++ joined ps) ++ blanks) line_is
+        let more = (filler ++ spaces column) ++ (joined_pieces ps ++ (blanks ++ (c ∷ cs))) in
+        let inside : w ≡ first ++ (comment ++ (10 ∷ ((filler ++ spaces column) ++ (joined_pieces ps ++ blanks)))) =
+        e ∙ ap (λ (t : List ℕ). t ++ blanks) lines_are ∙ ap (λ (t : List ℕ). (t ++ joined_pieces ps) ++ blanks) line_is
         ∙ simp append_assoc in
         let text : w ++ (c ∷ cs) ≡ first ++ (comment ++ (10 ∷ more)) =
         ap (λ (t : List ℕ). t ++ (c ∷ cs)) inside ∙ simp append_assoc in
-        let both : w ≡ (first ++ comment) ++ (10 ∷ ((filler ++ spaces column) ++ (joined ps ++ blanks))) =
+        let both : w ≡ (first ++ comment) ++ (10 ∷ ((filler ++ spaces column) ++ (joined_pieces ps ++ blanks))) =
         inside ∙ sym (append_assoc first comment _) in
         over_lines column s w first comment more c cs (is ∙ text) text
         (λ h. no_blank_feed (first ++ comment) _ (subst (AreIn is_blank) both h)) first_are k low

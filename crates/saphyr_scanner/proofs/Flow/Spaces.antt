@@ -8,7 +8,7 @@ use Rattle.saphyr_scalar.specs.declared.scalar.position.Marker.{Marker}
 use Rattle.saphyr_scalar.specs.Views.Cursor.{along, next_line}
 use Rattle.saphyr_scalar.specs.Steps.BlockRead.{spaces as spaces_of}
 use Rattle.saphyr_scalar.specs.Spelling.Tag.{AreIn}
-use Rattle.saphyr_scalar.specs.Spelling.Spaces.{joined, AreEach, IsCommentBehind, IsSeparationLine, IsSeparation}
+use Rattle.saphyr_scalar.specs.Spelling.Spaces.{joined_pieces, AreEach, IsCommentBehind, IsSeparationLine, IsSeparation}
 use Rattle.saphyr_scanner.specs.Grammar.FlowNodes.{has_tab_outside}
 use Rattle.saphyr_scanner.specs.Steps.Gap.{spaces_end, spaces, line_comment}
 use Rattle.saphyr_scanner.proofs.Flow.States.{moved, is_left_tab, past, past_comment, IsInk}
@@ -231,14 +231,14 @@ separation_begins column w (lines, blanks, (pieces, each, lines_are), are, e) so
     of_line (c ∷ cs) comment more k behind same =
         record { first = c; others = cs ++ (comment ++ (10 ∷ more)); is = same; white = inl k.0 }
 
-    by_lines : (pieces : List (List ℕ)) → AreEach (IsSeparationLine column) pieces → lines ≡ joined pieces
+    by_lines : (pieces : List (List ℕ)) → AreEach (IsSeparationLine column) pieces → lines ≡ joined_pieces pieces
         → BeginsWhite w
     by_lines [] each lines_are = of_blanks blanks are (e ∙ ap (λ (t : List ℕ). t ++ blanks) lines_are)
     by_lines (p ∷ ps) ((front, comment, filler, front_are, k, filler_is, line_is), others) lines_are =
-        let inside : w ≡ front ++ (comment ++ (10 ∷ ((filler ++ spaces_of column) ++ (joined ps ++ blanks)))) =
-        e ∙ ap (λ (t : List ℕ). t ++ blanks) lines_are ∙ ap (λ (t : List ℕ). (t ++ joined ps) ++ blanks) line_is
+        let inside : w ≡ front ++ (comment ++ (10 ∷ ((filler ++ spaces_of column) ++ (joined_pieces ps ++ blanks)))) =
+        e ∙ ap (λ (t : List ℕ). t ++ blanks) lines_are ∙ ap (λ (t : List ℕ). (t ++ joined_pieces ps) ++ blanks) line_is
         ∙ simp append_assoc in
-        of_line front comment ((filler ++ spaces_of column) ++ (joined ps ++ blanks)) front_are k inside
+        of_line front comment ((filler ++ spaces_of column) ++ (joined_pieces ps ++ blanks)) front_are k inside
 
 is_space : (c : ℕ) → is_blank c ≡ true → (c == tab) ≡ false → c ≡ 32
 is_space c h k = grind (arith, nat_tests)

@@ -11,10 +11,10 @@ use Rattle.saphyr_scalar.specs.Steps.Anchor as anchors
 use Rattle.saphyr_scalar.specs.Steps.Tag as tags
 use Rattle.saphyr_scalar.specs.Steps.Plain as words
 use Rattle.saphyr_scalar.specs.Steps.Plain.{comment_of}
-use Rattle.saphyr_scalar.specs.Reading.Plain.{passed}
+use Rattle.saphyr_scalar.specs.Reading.Plain.{end_of_text}
 use Rattle.saphyr_scalar.specs.Spelling.Plain.{IsPlainText, is_tabbed, past_white}
 use Rattle.saphyr_scalar.specs.Steps.Quoted as quotes
-use Rattle.saphyr_scalar.specs.Steps.Quoted.{at}
+use Rattle.saphyr_scalar.specs.Steps.Quoted.{mid_line}
 use Rattle.saphyr_scalar.specs.Spelling.QuotedLines.{LinesFit}
 use Rattle.saphyr_scalar.specs.Spelling.Quoted.{IsQuotedText}
 use Rattle.scalar_values.specs.Flow.{plain_value}
@@ -192,7 +192,7 @@ pub record FitsAround (around : Around) (m : Marker) (p o : List ℕ) : Type 0 w
 pub record ReaderPromises : Type 0 where
   pub plain : (in_flow : Bool) (indent : ℕ) (s : Cursor) (text x : List ℕ) → s.rest ≡ text ++ x
       → IsPlainText in_flow indent s.mark text x
-      → let end = passed s.mark text in let behind =
+      → let end = end_of_text s.mark text in let behind =
       past_white end false x in words.plain in_flow indent s
       ≡ Ok (
         encode_utf8_all (plain_value (normalized text)),
@@ -203,19 +203,19 @@ pub record ReaderPromises : Type 0 where
   pub quoted : (quote : Quote) (indent : ℕ) (s : Cursor) (items : List Item) (x : List ℕ)
       (is : IsQuotedText quote s.rest items x) → LinesFit indent quote is.0 items x is.2
       → (m : Marker) × IsPassed s.mark s.rest m x
-      × (quotes.quoted quote indent s ≡ Ok (encode_utf8_all (folded items), at m x))
+      × (quotes.quoted quote indent s ≡ Ok (encode_utf8_all (folded items), mid_line m x))
   pub place : (m : Marker) (s : List ℕ) (n : Marker) (u : List ℕ) → IsPassed m s n u → (k : Marker) → IsPassed m s k u
       → k ≡ n
   pub anchor : (s : Cursor) (indicator : ℕ) (name x : List ℕ) → s.rest ≡ indicator ∷ (name ++ x) → IsAnchorName name
       → is_anchor_char (slice_index x 0) ≡ false
-      → anchors.anchor s ≡ Ok (encode_utf8_all name, at (along s.mark (1 + length name)) x)
+      → anchors.anchor s ≡ Ok (encode_utf8_all name, mid_line (along s.mark (1 + length name)) x)
   pub tag : (in_flow : Bool) (s : Cursor) (t handle suffix x : List ℕ) → s.rest ≡ t ++ x → IsTagText t handle suffix
       → EndsTag in_flow x
-      → tags.tag in_flow s ≡ Ok (encode_utf8_all handle, encode_utf8_all suffix, at (along s.mark (length t)) x)
+      → tags.tag in_flow s ≡ Ok (encode_utf8_all handle, encode_utf8_all suffix, mid_line (along s.mark (length t)) x)
   pub directive : (s : Cursor) (d : ReadDirective) (t tail x : List ℕ) → s.rest ≡ t ++ (tail ++ x) → IsDirectiveText d t
       → IsLineTail tail → is_breakz (slice_index x 0) ≡ true
       → directives.directive s
-      ≡ Ok (d, along s.mark (length t), pass_break (at (along s.mark (length t + length tail)) x))
+      ≡ Ok (d, along s.mark (length t), pass_break (mid_line (along s.mark (length t + length tail)) x))
   pub reserved : (s : Cursor) (name t x : List ℕ) → s.rest ≡ t ++ x → IsReservedDirective name t
       → is_breakz (slice_index x 0) ≡ true
       → directives.directive s
@@ -223,7 +223,7 @@ pub record ReaderPromises : Type 0 where
         directives.reserved (encode_utf8_all name),
         along s.mark (length t),
         pass_break
-            (at (along s.mark (length t)) x),
+            (mid_line (along s.mark (length t)) x),
       )
 
 -- ## What may be a key

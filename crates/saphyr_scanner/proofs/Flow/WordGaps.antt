@@ -5,14 +5,15 @@ use Rattle.std.specs.List.{prefix_len}
 use Rattle.std.proofs.lemmas.Bool.Decides.{nat_tests}
 use Rattle.saphyr_input.specs.Breaks.{normalized}
 use Rattle.saphyr_input.specs.Classes.{is_blank, is_break, line_feed, carriage_return, tab}
+use Rattle.saphyr_input.specs.Places.{is_blank_or_break}
 use Rattle.saphyr_scalar.specs.declared.scalar.position.Marker.{Marker}
 use Rattle.saphyr_scalar.specs.Views.Cursor.{along, next_line}
 use Rattle.saphyr_scalar.specs.Steps.BlockRead.{spaces}
 use Rattle.saphyr_scalar.specs.Steps.Plain.{ends_line}
-use Rattle.saphyr_scalar.specs.Reading.Plain.{AreWhite, passed}
+use Rattle.saphyr_scalar.specs.Reading.Plain.{end_of_text}
 use Rattle.saphyr_scalar.specs.Spelling.Plain.{behind_blanks, reaches_tabbed, has_line_end, IsPlainGap}
 use Rattle.saphyr_scalar.specs.Spelling.Tag.{AreIn}
-use Rattle.saphyr_scalar.specs.Spelling.Spaces.{joined, AreEach, AreSpaces}
+use Rattle.saphyr_scalar.specs.Spelling.Spaces.{joined_pieces, AreEach, AreSpaces}
 use Rattle.saphyr_scanner.specs.Grammar.FlowScalars.{IsLinePrefix, IsEmptyLine, IsFoldedGap, IsWordGap}
 use Rattle.saphyr_scanner.proofs.Flow.States.{moved}
 use Rattle.saphyr_scanner.proofs.Flow.Places.{moved_append}
@@ -34,10 +35,10 @@ feed_alone c cs h = rw h (by_feed (c == line_feed))
     by_feed true = refl
     by_feed false = refl
 
-pub passed_moved : (m : Marker) (t : List ℕ) → NoReturn t → passed m t ≡ moved m t
+pub passed_moved : (m : Marker) (t : List ℕ) → NoReturn t → end_of_text m t ≡ moved m t
 passed_moved m [] h = refl
 passed_moved m (c ∷ cs) h =
-    ap (λ (b : Bool). passed (if b then next_line m 1 else along m 1) cs) (feed_alone c cs (no_return c h.0))
+    ap (λ (b : Bool). end_of_text (if b then next_line m 1 else along m 1) cs) (feed_alone c cs (no_return c h.0))
     ∙ passed_moved (if c == line_feed then next_line m 1 else along m 1) cs h.1
 
 pub normalized_same : (t : List ℕ) → NoReturn t → normalized t ≡ t
@@ -46,30 +47,33 @@ normalized_same (c ∷ cs) h = rw (no_return c h.0) (ap (λ (t : List ℕ). c �
 
 -- ## Gaps
 
-blanks_white : (t : List ℕ) → AreIn is_blank t → AreWhite t
+blanks_white : (t : List ℕ) → AreIn is_blank t → AreIn is_blank_or_break t
 blanks_white [] h = tt
 blanks_white (c ∷ cs) h = (blank_white c h.0, blanks_white cs h.1)
 
-both_white : (a b : List ℕ) → AreWhite a → AreWhite b → AreWhite (a ++ b)
+both_white : (a b : List ℕ) → AreIn is_blank_or_break a → AreIn is_blank_or_break b → AreIn is_blank_or_break (a ++ b)
 both_white [] b h k = k
 both_white (c ∷ cs) b h k = (h.0, both_white cs b h.1 k)
 
-spaces_white : (least : ℕ) (t : List ℕ) → AreSpaces least t → AreWhite t
-spaces_white least t h = subst AreWhite (sym h.2) (blanks_white (spaces h.0) (spaces_are_blank h.0))
+spaces_white : (least : ℕ) (t : List ℕ) → AreSpaces least t → AreIn is_blank_or_break t
+spaces_white least t h = subst (AreIn is_blank_or_break) (sym h.2) (blanks_white (spaces h.0) (spaces_are_blank h.0))
 
-prefix_white : (indent : ℕ) (t : List ℕ) → IsLinePrefix indent t → AreWhite t
+prefix_white : (indent : ℕ) (t : List ℕ) → IsLinePrefix indent t → AreIn is_blank_or_break t
 prefix_white indent t (front, blanks, spaced, are, is) =
-    subst AreWhite (sym is) (both_white front blanks (spaces_white indent front spaced) (blanks_white blanks are))
+    subst (AreIn is_blank_or_break) (sym is)
+    (both_white front blanks (spaces_white indent front spaced) (blanks_white blanks are))
 
-empty_line_white : (indent : ℕ) (t : List ℕ) → IsEmptyLine indent t → AreWhite t
+empty_line_white : (indent : ℕ) (t : List ℕ) → IsEmptyLine indent t → AreIn is_blank_or_break t
 empty_line_white indent t (front, inl h, is) =
-    subst AreWhite (sym is) (both_white front (10 ∷ []) (spaces_white 0 front h) (refl, tt))
+    subst (AreIn is_blank_or_break) (sym is) (both_white front (10 ∷ []) (spaces_white 0 front h) (refl, tt))
 empty_line_white indent t (front, inr h, is) =
-    subst AreWhite (sym is) (both_white front (10 ∷ []) (prefix_white indent front h) (refl, tt))
+    subst (AreIn is_blank_or_break) (sym is) (both_white front (10 ∷ []) (prefix_white indent front h) (refl, tt))
 
-lines_white : (indent : ℕ) (ts : List (List ℕ)) → AreEach (IsEmptyLine indent) ts → AreWhite (joined ts)
+lines_white : (indent : ℕ) (ts : List (List ℕ)) → AreEach (IsEmptyLine indent) ts
+    → AreIn is_blank_or_break (joined_pieces ts)
 lines_white indent [] h = tt
-lines_white indent (t ∷ ts) h = both_white t (joined ts) (empty_line_white indent t h.0) (lines_white indent ts h.1)
+lines_white indent (t ∷ ts) h = both_white t (joined_pieces ts) (empty_line_white indent t h.0)
+    (lines_white indent ts h.1)
 
 not_nothing : (a : List ℕ) (c : ℕ) (b : List ℕ) → a ++ (c ∷ b) ≢ []
 not_nothing [] c b e = absurd (cc)
@@ -161,16 +165,16 @@ line_fits indent t y (front, inr p, is) h =
     (prefix_fits indent front (10 ∷ y) p (λ i. feed_fits indent i y h))
 
 lines_fit : (indent : ℕ) (ts : List (List ℕ)) (y : List ℕ) → AreEach (IsEmptyLine indent) ts
-    → IsFalse (reaches_tabbed indent 0 false y) → IsFalse (reaches_tabbed indent 0 false (joined ts ++ y))
+    → IsFalse (reaches_tabbed indent 0 false y) → IsFalse (reaches_tabbed indent 0 false (joined_pieces ts ++ y))
 lines_fit indent [] y h fits = fits
 lines_fit indent (t ∷ ts) y h fits =
-    subst (λ (x : List ℕ). IsFalse (reaches_tabbed indent 0 false x)) (sym (append_assoc t (joined ts) y))
-    (line_fits indent t (joined ts ++ y) h.0 (lines_fit indent ts y h.1 fits))
+    subst (λ (x : List ℕ). IsFalse (reaches_tabbed indent 0 false x)) (sym (append_assoc t (joined_pieces ts) y))
+    (line_fits indent t (joined_pieces ts ++ y) h.0 (lines_fit indent ts y h.1 fits))
 
 -- what stands between two words
 pub record Gapped (indent : ℕ) (m : Marker) (t : List ℕ) : Type 0 where
   pub some : t ≢ []
-  pub white : AreWhite t
+  pub white : AreIn is_blank_or_break t
   pub tabs : IsFalse (reaches_tabbed indent 0 false (behind_blanks t))
   pub indented : (has_line_end t ≡ false) ⊎ (indent ≤ (moved m t).col)
   pub right : indent ≤ m.col → indent ≤ (moved m t).col
@@ -185,8 +189,9 @@ prefix_reaches indent m t (front, blanks, (n, low, spaced), are, is) =
 
 folded_gap_passes : (indent : ℕ) (m : Marker) (t : List ℕ) → IsFoldedGap indent t → Gapped indent m t
 folded_gap_passes indent m t (blanks, lines, front, are, (pieces, each, joins), prefix, is) =
-    let many : AreWhite lines = subst AreWhite (sym joins) (lines_white indent pieces each) in
-    let all : AreWhite (blanks ++ (10 ∷ (lines ++ front))) = both_white blanks (10 ∷ (lines ++ front))
+    let many : AreIn is_blank_or_break lines = subst (AreIn is_blank_or_break) (sym joins)
+    (lines_white indent pieces each) in
+    let all : AreIn is_blank_or_break (blanks ++ (10 ∷ (lines ++ front))) = both_white blanks (10 ∷ (lines ++ front))
     (blanks_white blanks are) (refl, both_white lines front many (prefix_white indent front prefix)) in
     let last : IsFalse (reaches_tabbed indent 0 false front) = subst
     (λ (x : List ℕ). IsFalse (reaches_tabbed indent 0 false x))
@@ -200,7 +205,7 @@ folded_gap_passes indent m t (blanks, lines, front, are, (pieces, each, joins), 
     (prefix_reaches indent (moved m (blanks ++ (10 ∷ lines))) front prefix) in
     record {
       some = λ e. not_nothing blanks 10 (lines ++ front) (sym is ∙ e);
-      white = subst AreWhite (sym is) all;
+      white = subst (AreIn is_blank_or_break) (sym is) all;
       tabs = subst (λ (y : List ℕ). IsFalse (reaches_tabbed indent 0 false (behind_blanks y))) (sym is)
           (subst (λ (y : List ℕ). IsFalse (reaches_tabbed indent 0 false y))
           (sym (blanks_before blanks 10 (lines ++ front) are refl)) (feed_fits indent 0 (lines ++ front) fit));
@@ -219,7 +224,7 @@ word_gap indent m t (inl h) =
     }
 word_gap indent m t (inr h) = folded_gap_passes indent m t h
 
-pub plain_gap : (f : Bool) (indent : ℕ) (m : Marker) (t : List ℕ) → IsWordGap indent t → passed m t ≡ moved m t
+pub plain_gap : (f : Bool) (indent : ℕ) (m : Marker) (t : List ℕ) → IsWordGap indent t → end_of_text m t ≡ moved m t
     → IsPlainGap f indent m t
 plain_gap f indent m t h e =
     let g = word_gap indent m t h in

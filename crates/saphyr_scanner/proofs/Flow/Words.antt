@@ -6,10 +6,10 @@ use Rattle.saphyr_input.specs.Classes.{is_break, is_blank_or_breakz, is_bom, is_
 use Rattle.saphyr_input.specs.Places.{is_document_indicator}
 use Rattle.saphyr_scalar.specs.declared.scalar.position.Marker.{Marker}
 use Rattle.saphyr_scalar.specs.Views.Cursor.{along}
-use Rattle.saphyr_scalar.specs.Reading.Plain.{passed}
+use Rattle.saphyr_scalar.specs.Reading.Plain.{end_of_text}
 use Rattle.saphyr_scalar.specs.Spelling.Plain.{EndsPlain, is_word_ink, AreWordInk, IsWordIn, AreInkBefore, IsWordBefore, words_text, IsNoMarker, AreFurtherWords, IsPlainText}
 use Rattle.saphyr_scalar.specs.Spelling.Tag.{AreIn}
-use Rattle.saphyr_scalar.specs.Spelling.Spaces.{joined, AreEach}
+use Rattle.saphyr_scalar.specs.Spelling.Spaces.{joined_pieces, AreEach}
 use Rattle.saphyr_scalar.proofs.NoBreaks.{NoBreaks}
 use Rattle.saphyr_scanner.specs.Grammar.FlowScalars.{IsWordGap, IsFurtherWord, IsPlain, IsLastWord, IsPlainKey}
 use Rattle.saphyr_scanner.proofs.Flow.States.{moved, IsClear}
@@ -134,7 +134,7 @@ behind_word m word more o unbroken clear =
 
 -- at a word
 at_word : (m : Marker) (gap word more o : List ℕ) → IsClear m (gap ++ (word ++ more)) o
-    → IsClear (passed m gap) (word ++ more) o
+    → IsClear (end_of_text m gap) (word ++ more) o
 at_word m gap word more o clear =
     subst (λ (n : Marker). IsClear n (word ++ more) o)
     (sym (passed_moved m gap (clear_front m gap (word ++ more) o clear).no_return))
@@ -143,16 +143,18 @@ at_word m gap word more o clear =
 -- a gap and a word before others
 one_further : (f : Bool) (indent : ℕ) (m : Marker) (gap word more o : List ℕ) → IsWordGap indent gap
     → IsWordBefore f word (more ++ o) → IsClear m (gap ++ (word ++ more)) o
-    → IsFurther f indent (along (passed m gap) (length word)) more o → IsFurther f indent m (gap ++ (word ++ more)) o
+    → IsFurther f indent (along (end_of_text m gap) (length word)) more o
+    → IsFurther f indent m (gap ++ (word ++ more)) o
 one_further f indent m gap word more o gapped is_word clear rest =
-    let there : passed m gap ≡ moved m gap = passed_moved m gap (clear_front m gap (word ++ more) o clear).no_return in
+    let there : end_of_text m gap ≡ moved m gap =
+    passed_moved m gap (clear_front m gap (word ++ more) o clear).no_return in
     let unbroken = word_unbroken f word (more ++ o) is_word.ink in
-    let line : moved (passed m gap) word ≡ along (passed m gap) (length word) =
-    unbroken_along (passed m gap) word unbroken in
-    let unmarked : IsNoMarker (passed m gap) (word ++ (words_text rest.words ++ o)) =
-    subst (λ (t : List ℕ). IsNoMarker (passed m gap) (word ++ (t ++ o))) rest.is
-    (no_marker (passed m gap) word (more ++ o) is_word.some
-    (clear_front (passed m gap) word more o (at_word m gap word more o clear))) in
+    let line : moved (end_of_text m gap) word ≡ along (end_of_text m gap) (length word) =
+    unbroken_along (end_of_text m gap) word unbroken in
+    let unmarked : IsNoMarker (end_of_text m gap) (word ++ (words_text rest.words ++ o)) =
+    subst (λ (t : List ℕ). IsNoMarker (end_of_text m gap) (word ++ (t ++ o))) rest.is
+    (no_marker (end_of_text m gap) word (more ++ o) is_word.some
+    (clear_front (end_of_text m gap) word more o (at_word m gap word more o clear))) in
     record {
       words = (gap, word) ∷ rest.words;
       is = ap (λ (t : List ℕ). gap ++ (word ++ t)) rest.is;
@@ -167,26 +169,26 @@ one_further f indent m gap word more o gapped is_word clear rest =
           (sym (moved_append m gap (word ++ more) ∙ moved_append (moved m gap) word more
           ∙ ap (λ (k : Marker). moved (moved k word) more) (sym there) ∙ ap (λ (k : Marker). moved k more) line))
           (rest.right (subst (λ (k : Marker). indent ≤ k.col) line
-          (right_along indent (passed m gap) word (unbroken_on_line word unbroken)
+          (right_along indent (end_of_text m gap) word (unbroken_on_line word unbroken)
           (subst (λ (k : Marker). indent ≤ k.col) (sym there) ((word_gap indent m gap gapped).right low)))));
     }
 
 -- words, and what stands behind them
 further_words : (f : Bool) (indent : ℕ) (pieces : List (List ℕ)) → AreEach (IsFurtherWord f indent) pieces
     → (last o : List ℕ) → ((m : Marker) → IsClear m last o → IsFurther f indent m last o)
-    → (m : Marker) → IsClear m (joined pieces ++ last) o → IsFurther f indent m (joined pieces ++ last) o
+    → (m : Marker) → IsClear m (joined_pieces pieces ++ last) o → IsFurther f indent m (joined_pieces pieces ++ last) o
 further_words f indent [] h last o ends m clear = ends m clear
 further_words f indent (p ∷ ps) ((gap, word, gapped, is_word, is), others) last o ends m clear =
-    let more = joined ps ++ last in
-    let text : (p ++ joined ps) ++ last ≡ gap ++ (word ++ more) =
-    append_assoc p (joined ps) last ∙ ap (λ (t : List ℕ). t ++ more) is ∙ append_assoc gap word more in
+    let more = joined_pieces ps ++ last in
+    let text : (p ++ joined_pieces ps) ++ last ≡ gap ++ (word ++ more) =
+    append_assoc p (joined_pieces ps) last ∙ ap (λ (t : List ℕ). t ++ more) is ∙ append_assoc gap word more in
     let all : IsClear m (gap ++ (word ++ more)) o = subst (λ (t : List ℕ). IsClear m t o) text clear in
     let before = word_before f word (more ++ o) is_word in
-    let behind = behind_word (passed m gap) word more o (word_unbroken f word (more ++ o) before.ink)
+    let behind = behind_word (end_of_text m gap) word more o (word_unbroken f word (more ++ o) before.ink)
     (at_word m gap word more o all) in
     subst (λ (t : List ℕ). IsFurther f indent m t o) (sym text)
     (one_further f indent m gap word more o gapped before all
-    (further_words f indent ps others last o ends (along (passed m gap) (length word)) behind))
+    (further_words f indent ps others last o ends (along (end_of_text m gap) (length word)) behind))
 
 nothing_further : (f : Bool) (indent : ℕ) (m : Marker) (o : List ℕ) → IsFurther f indent m [] o
 nothing_further f indent m o = record { words = []; is = refl; further = tt; right = λ low. low }
@@ -199,7 +201,7 @@ last_further f indent gap word r gapped is_word m clear =
     subst (λ (t : List ℕ). IsFurther f indent m t (58 ∷ r)) (sym text)
     (one_further f indent m gap word [] (58 ∷ r) gapped (last_before f word r is_word)
     (subst (λ (t : List ℕ). IsClear m t (58 ∷ r)) text clear)
-    (nothing_further f indent (along (passed m gap) (length word)) (58 ∷ r)))
+    (nothing_further f indent (along (end_of_text m gap) (length word)) (58 ∷ r)))
 
 -- ## The whole scalar
 
@@ -231,10 +233,10 @@ has_words f indent m t o first behind is word clear further = record {
 plain_words : (f : Bool) (indent : ℕ) (m : Marker) (t o : List ℕ) → IsPlain f indent t → IsClear m t o
     → HasWords f indent m t o
 plain_words f indent m t o (first, others, is_first, (pieces, each, joins), is) clear =
-    let text : t ≡ first ++ (joined pieces ++ []) = is ∙ ap (λ (y : List ℕ). first ++ y)
-    (joins ∙ sym (append-nil (joined pieces))) in
-    has_words f indent m t o first (joined pieces ++ []) text
-    (word_before f first ((joined pieces ++ []) ++ o) is_first.0) clear
+    let text : t ≡ first ++ (joined_pieces pieces ++ []) = is ∙ ap (λ (y : List ℕ). first ++ y)
+    (joins ∙ sym (append-nil (joined_pieces pieces))) in
+    has_words f indent m t o first (joined_pieces pieces ++ []) text
+    (word_before f first ((joined_pieces pieces ++ []) ++ o) is_first.0) clear
     (further_words f indent pieces each [] o (λ n _. nothing_further f indent n o))
 
 -- those of a key before its colon
@@ -245,9 +247,9 @@ key_words f indent m t r (inl (word, begins)) clear =
     (λ n _. nothing_further f indent n (58 ∷ r))
 key_words f indent m t r (inr (plain, gap, word, (first, others, is_first, (pieces, each, joins), is), gapped, last, e))
     clear =
-    let behind = joined pieces ++ (gap ++ word) in
+    let behind = joined_pieces pieces ++ (gap ++ word) in
     let text : t ≡ first ++ behind = e ∙ ap (λ (y : List ℕ). y ++ (gap ++ word))
-    (is ∙ ap (λ (y : List ℕ). first ++ y) joins) ∙ append_assoc first (joined pieces) (gap ++ word) in
+    (is ∙ ap (λ (y : List ℕ). first ++ y) joins) ∙ append_assoc first (joined_pieces pieces) (gap ++ word) in
     has_words f indent m t (58 ∷ r) first behind text (word_before f first (behind ++ (58 ∷ r)) is_first.0) clear
     (further_words f indent pieces each (gap ++ word) (58 ∷ r) (last_further f indent gap word r gapped last))
 

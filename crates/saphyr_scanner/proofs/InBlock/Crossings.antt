@@ -8,7 +8,7 @@ use Rattle.saphyr_scalar.specs.Steps.BlockRead.{spaces}
 use Rattle.saphyr_scalar.specs.Views.Cursor.{Cursor, along, next_line}
 use Rattle.saphyr_scalar.specs.Steps.Plain.{ends_line}
 use Rattle.saphyr_scalar.specs.Spelling.Plain.{past_white}
-use Rattle.saphyr_scalar.specs.Spelling.Spaces.{AreEach, joined, IsSeparation, IsSeparationLine, IsLineRest}
+use Rattle.saphyr_scalar.specs.Spelling.Spaces.{AreEach, joined_pieces, IsSeparation, IsSeparationLine, IsLineRest}
 use Rattle.saphyr_scanner.specs.declared.engine.level.Context.{Context}
 use Rattle.saphyr_scanner.specs.Steps.Level.{is_block}
 use Rattle.saphyr_scanner.proofs.Flow.States.{crosses, IsFresh}
@@ -30,15 +30,17 @@ pub separation_crosses : (indent : ℕ) (w o : List ℕ) → IsSeparation indent
     → crosses (w ++ o) ≡ true
 separation_crosses indent w o (lines, blanks, (pieces, each, lines_are), are, e) h = by_lines pieces each lines_are
   where
-    by_lines : (ps : List (List ℕ)) → AreEach (IsSeparationLine indent) ps → lines ≡ joined ps → crosses (w ++ o) ≡ true
+    by_lines : (ps : List (List ℕ)) → AreEach (IsSeparationLine indent) ps → lines ≡ joined_pieces ps
+        → crosses (w ++ o) ≡ true
     by_lines [] each lines_are =
         ap (λ (t : List ℕ). crosses (t ++ o)) (e ∙ ap (λ (t : List ℕ). t ++ blanks) lines_are)
         ∙ blanks_cross blanks o are ∙ h
     by_lines (p ∷ ps) ((first, comment, filler, first_are, k, filler_is, line_is), others) lines_are =
-        let more = (filler ++ spaces indent) ++ (joined ps ++ (blanks ++ o)) in
+        let more = (filler ++ spaces indent) ++ (joined_pieces ps ++ (blanks ++ o)) in
         let text : w ++ o ≡ first ++ (comment ++ (10 ∷ more)) =
         ap (λ (t : List ℕ). t ++ o)
-        (e ∙ ap (λ (t : List ℕ). t ++ blanks) lines_are ∙ ap (λ (t : List ℕ). (t ++ joined ps) ++ blanks) line_is)
+        (e ∙ ap (λ (t : List ℕ). t ++ blanks) lines_are
+        ∙ ap (λ (t : List ℕ). (t ++ joined_pieces ps) ++ blanks) line_is)
         ∙ simp append_assoc in
         ap crosses text ∙ rest_crosses first comment more first_are (behind_is first comment k)
 

@@ -4,7 +4,7 @@ use Rattle.std.specs.Prelude.{◌||◌, ◌==◌, Option, Some, None, if◌then�
 use Rattle.saphyr_input.specs.Classes.{is_blank_or_breakz, is_anchor_char}
 use Rattle.saphyr_scalar.specs.declared.scalar.position.Marker.{Marker}
 use Rattle.saphyr_scalar.specs.Views.Cursor.{Cursor, ◌>>=◌, along}
-use Rattle.saphyr_scalar.specs.Steps.Quoted.{at}
+use Rattle.saphyr_scalar.specs.Steps.Quoted.{mid_line}
 use Rattle.saphyr_scalar.specs.Spelling.Tag.{IsAnchorName, IsTagText, EndsTag}
 use Rattle.saphyr_scanner.specs.Steps.Core.{Core, completed_step, from_to, is_too_far, least_column}
 use Rattle.saphyr_scanner.specs.Steps.Level.{Candidate}
@@ -160,7 +160,7 @@ anchor_step reads f m name o blank key a ad deeper i low h ends =
     let one : 1 + length name ≡ length (38 ∷ name) = omega arith in
     ap (λ (d : Core). property.read_name kind.Anchor (disallow_key d)) (saves f m y blank key a ad deeper i low)
     ∙ ap (λ q. q >>= token) (reads.anchor (cursor_at y m blank) 38 name o refl h ends)
-    ∙ ap (λ (end : Marker). token (encode_utf8_all name, at end o))
+    ∙ ap (λ (end : Marker). token (encode_utf8_all name, mid_line end o))
     (ap (along m) one ∙ sym (unbroken_along m (38 ∷ name) (refl, name_no_break name h)))
 
 anchor_begins : (m : Marker) (o : List ℕ) → BeginsToken m (38 ∷ o)
@@ -205,7 +205,7 @@ tag_step reads f m t handle suffix o blank key a ad deeper i low h ends =
     (with_cursor x.2 c) in
     ap (λ (d : Core). property.read_tag (disallow_key d)) (saves f m (t ++ o) blank key a ad deeper i low)
     ∙ ap (λ q. q >>= token) (reads.tag false (cursor_at (t ++ o) m blank) t handle suffix o refl h ends)
-    ∙ ap (λ (end : Marker). token (encode_utf8_all handle, encode_utf8_all suffix, at end o))
+    ∙ ap (λ (end : Marker). token (encode_utf8_all handle, encode_utf8_all suffix, mid_line end o))
     (sym (unbroken_along m t (tag_no_break t handle suffix h)))
 
 tag_begins : (m : Marker) (o : List ℕ) → BeginsToken m (33 ∷ o)

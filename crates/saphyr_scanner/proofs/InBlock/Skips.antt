@@ -7,7 +7,7 @@ use Rattle.saphyr_scalar.specs.declared.scalar.position.Marker.{Marker}
 use Rattle.saphyr_scalar.specs.Steps.BlockRead.{spaces}
 use Rattle.saphyr_scalar.specs.Views.Cursor.{along, next_line}
 use Rattle.saphyr_scalar.specs.Spelling.Tag.{AreIn}
-use Rattle.saphyr_scalar.specs.Spelling.Spaces.{AreEach, AreSpaces, joined, IsComment, IsLineRest, IsLineEnd, IsFillerLine, IsFiller}
+use Rattle.saphyr_scalar.specs.Spelling.Spaces.{AreEach, AreSpaces, joined_pieces, IsComment, IsLineRest, IsLineEnd, IsFillerLine, IsFiller}
 use Rattle.saphyr_scanner.specs.Grammar.BlockNodes.{Position, indent_at, IsGapAt}
 use Rattle.saphyr_scanner.specs.Steps.Gap as gap
 use Rattle.saphyr_scanner.specs.Steps.Gap.{is_tab_indentation}
@@ -63,9 +63,9 @@ filler_line_skipped t (text, (front, c, are, k, is_text), is) =
 pub filler_skipped : (t : List ℕ) → IsFiller t → IsSkipped t
 filler_skipped t (pieces, each, is) = subst IsSkipped (sym is) (lines pieces each)
   where
-    lines : (ws : List (List ℕ)) → AreEach IsFillerLine ws → IsSkipped (joined ws)
+    lines : (ws : List (List ℕ)) → AreEach IsFillerLine ws → IsSkipped (joined_pieces ws)
     lines [] h = nothing
-    lines (v ∷ vs) h = skipped_append v (joined vs) (filler_line_skipped v h.0) (lines vs h.1)
+    lines (v ∷ vs) h = skipped_append v (joined_pieces vs) (filler_line_skipped v h.0) (lines vs h.1)
 
 pub are_spaces_skipped : (least : ℕ) (t : List ℕ) → AreSpaces least t → IsSkipped t
 are_spaces_skipped least t (n, low, is) = subst IsSkipped (sym is) (spaces_skipped n)

@@ -2,7 +2,7 @@
 use Rattle.std.proofs.Common.{◌≡◌, ℕ, ◌≤◌, Bool, true, false, List, [], ◌∷◌, ◌++◌, length, inl, inr, refl, sym, ap, ◌∙◌, arith, subst, append_assoc, append-nil}
 use Rattle.std.specs.Prelude.{None, ◌==◌, not}
 use Rattle.saphyr_input.specs.Classes.{carriage_return}
-use Rattle.saphyr_scalar.specs.Views.Cursor.{fresh}
+use Rattle.saphyr_scalar.specs.Views.Cursor.{start_cursor}
 use Rattle.saphyr_scalar.specs.Spelling.Tag.{AreIn}
 use Rattle.saphyr_scanner.specs.Grammar.Forest.{Forest}
 use Rattle.saphyr_scanner.specs.Grammar.Layout as layout
@@ -134,7 +134,7 @@ pub begins : (limit : ℕ) (text : List ℕ) → length text ≤ limit
 begins limit text h =
     let first = starts limit text in
     record {
-      there = fresh text;
+      there = start_cursor text;
       key = first.key;
       allowed = true;
       adjacent = 0;

@@ -11,7 +11,7 @@ use Rattle.saphyr_scanner.proofs.Flow.Places.{behind_character}
 use Rattle.saphyr_scanner.proofs.InBlock.Skips.{has_tab, comment_has_tab}
 use Rattle.std.proofs.lemmas.Bool.{or_parts}
 use Rattle.saphyr_scanner.proofs.Flow.Spaces.{white_no_sign, break_no_sign}
-use Rattle.saphyr_scalar.specs.Spelling.Spaces.{IsFiller, AreEach, joined, IsComment, IsFillerLine, IsLastFiller}
+use Rattle.saphyr_scalar.specs.Spelling.Spaces.{IsFiller, AreEach, joined_pieces, IsComment, IsFillerLine, IsLastFiller}
 use Rattle.saphyr_scanner.proofs.Documents.Lines.{filler_line}
 use Rattle.saphyr_scalar.specs.Spelling.Tag.{AreIn}
 use Rattle.saphyr_input.proofs.Basics.Booleans.{by_test}
@@ -231,15 +231,16 @@ line_none t o (text, (front, comment, are, k, is_text), is) h =
         ap (λ (x : List ℕ). has_token false (x ++ (10 ∷ o))) e ∙ words_none words o are_words h
 
 filler_none : (ws : List (List ℕ)) (o : List ℕ) → AreEach IsFillerLine ws → has_token false o ≡ false
-    → has_token false (joined ws ++ o) ≡ false
+    → has_token false (joined_pieces ws ++ o) ≡ false
 filler_none [] o h k = k
 filler_none (v ∷ vs) o h k =
-    ap (has_token false) (append_assoc v (joined vs) o) ∙ line_none v (joined vs ++ o) h.0 (filler_none vs o h.1 k)
+    ap (has_token false) (append_assoc v (joined_pieces vs) o) ∙ line_none v (joined_pieces vs ++ o) h.0
+    (filler_none vs o h.1 k)
 
 pub last_none : (t : List ℕ) → IsLastFiller t → has_token false t ≡ false
 last_none t (filler, text, (pieces, each, joins), (front, comment, are, k, is_text), is) =
-    let whole : t ≡ joined pieces ++ (front ++ comment) =
-    is ∙ ap (λ (x : List ℕ). x ++ text) joins ∙ ap (λ (x : List ℕ). joined pieces ++ x) is_text in
+    let whole : t ≡ joined_pieces pieces ++ (front ++ comment) =
+    is ∙ ap (λ (x : List ℕ). x ++ text) joins ∙ ap (λ (x : List ℕ). joined_pieces pieces ++ x) is_text in
     ap (has_token false) whole
     ∙ filler_none pieces (front ++ comment) each (blanks_none front comment are (by_comment k))
   where

@@ -7,8 +7,8 @@ use Rattle.scalar_values.specs.declared.flow.Quote.{Quote}
 use Rattle.scalar_values.specs.declared.flow.Quote.TheVariants.{Single, Double}
 use Rattle.saphyr_scalar.specs.Views.Cursor.{Cursor, ◌>>=◌, along}
 use Rattle.scalar_values.specs.Flow.{mark, plain_value}
-use Rattle.saphyr_scalar.specs.Steps.Quoted.{at}
-use Rattle.saphyr_scalar.specs.Steps.Plain.{in_word, comment_of}
+use Rattle.saphyr_scalar.specs.Steps.Quoted.{mid_line}
+use Rattle.saphyr_scalar.specs.Steps.Plain.{is_in_word, comment_of}
 use Rattle.saphyr_scalar.specs.Spelling.Plain.{is_tabbed, past_white, EndsPlain, IsPlainText}
 use Rattle.saphyr_scalar.specs.Steps.BlockRead.{spaces}
 use Rattle.saphyr_scanner.specs.declared.engine.level.Context.TheVariants as context
@@ -61,8 +61,8 @@ white_spaces : (m : Marker) (n : ℕ) (r : List ℕ)
 white_spaces m zero r = refl
 white_spaces m (suc n) r = white_spaces (along m 1) n r
 
-colon_stops : (r : List ℕ) → is_blank_or_breakz (slice_index r 0) ≡ true → in_word false (58 ∷ r) ≡ false
-unfolding in_word
+colon_stops : (r : List ℕ) → is_blank_or_breakz (slice_index r 0) ≡ true → is_in_word false (58 ∷ r) ≡ false
+unfolding is_in_word
 colon_stops r h = rw h refl
 
 no_comment : (t : Bool) (m : Marker) (r : List ℕ) → comment_of false t (cursor_at (58 ∷ r) m false) ≡ None
@@ -77,7 +77,7 @@ key_ends_plain : (column : ℕ) (m : Marker) (n : ℕ) (r : List ℕ) → is_bla
     → EndsPlain false column m (colon_text n r)
 key_ends_plain column m n r h =
     record {
-      stops = inl (ap (λ (u : Cursor). in_word false u.rest) (white_spaces m n r) ∙ colon_stops r h);
+      stops = inl (ap (λ (u : Cursor). is_in_word false u.rest) (white_spaces m n r) ∙ colon_stops r h);
       apart = spaces_apart n r;
       tabs = tabs_behind column m m false (colon_text n r)
           (ap (λ (z : Marker × List ℕ). is_blank (slice_index z.1 0)) (colon_lands column m n r));
@@ -188,14 +188,14 @@ gap_to_colon around d s k ad m r is at_colon =
 
 -- what stands behind the closing quote, and the colon
 record KeyQuotes (around : Around) (start : Marker) (m : Marker) (n : ℕ) (r : List ℕ) : Type 0 where
-  ends : EndsQuotes around start (at m (colon_text n r)) context.Block
+  ends : EndsQuotes around start (mid_line m (colon_text n r)) context.Block
   rest : ends.there.rest ≡ 58 ∷ r
   mark : ends.there.mark ≡ moved m (spaces n)
 
 key_quotes : (around : Around) (start m : Marker) (n : ℕ) (r : List ℕ) → around.indent ≤ m.col
     → start.line ≡ (moved m (spaces n)).line → KeyQuotes around start m n r
 key_quotes around start m n r right line =
-    let p = separates around.indent (at m (colon_text n r)) (spaces n) 58 r refl
+    let p = separates around.indent (mid_line m (colon_text n r)) (spaces n) 58 r refl
     (separation_of_blanks around.indent (spaces n) (spaces_are_blank n)) right colon_ink in
     let near = p.near (spaces_are_blank n) in
     record {
@@ -249,7 +249,7 @@ quotes_along reads around start k qs quote value t n r e ad h text ready =
     let there = cursor_at (58 ∷ r) m shut.blank_so_far in
     let stepped = quoted_step reads around ready.deeper quote (length qs) e ready.blank value t o h clear (no_quote n r)
     context.Block (Some k) [] false ad (slice_index (t ++ o) 0) first (behind_key refl refl)
-    ∙ behind_step around ready.deeper e (style_of_quote quote) (encode_utf8_all value) (at end o) context.Block (Some k)
+    ∙ behind_step around ready.deeper e (style_of_quote quote) (encode_utf8_all value) (mid_line end o) context.Block (Some k)
     [] ad
     m (58 ∷ r) ends.ends g in
     let led = token_led around start k (t ++ o) e ad qs ready ends.ends.there.mark kind there m.index (λ d. d) stepped

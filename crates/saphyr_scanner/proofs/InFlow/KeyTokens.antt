@@ -5,7 +5,7 @@ use Rattle.std.proofs.lemmas.List.{length-append}
 use Rattle.saphyr_input.specs.Classes.{is_blank, is_break, is_anchor_char}
 use Rattle.saphyr_scalar.specs.declared.scalar.position.Marker.{Marker}
 use Rattle.saphyr_scalar.specs.Views.Cursor.{Cursor, along}
-use Rattle.saphyr_scalar.specs.Steps.Quoted.{at}
+use Rattle.saphyr_scalar.specs.Steps.Quoted.{mid_line}
 use Rattle.saphyr_scalar.specs.Spelling.Tag.{AreIn, IsAnchorName, EndsTag}
 use Rattle.saphyr_scalar.specs.Spelling.Spaces.{AreSpaces}
 use Rattle.saphyr_scanner.specs.declared.engine.level.Context.TheVariants as context
@@ -186,7 +186,7 @@ ends_there : {around : Around} {start : State} {k : Candidate} {qs : List Place}
     (cs b behind w y : List ℕ) (ad : ℕ) (kind : Kind) (deeper : Bool) → InKey around k e ((c ∷ cs) ++ b) behind
     → b ++ behind ≡ w ++ y
     → AreIn is_blank w → ad ≤ e.index
-    → LeadsTo around.limit (state_at around (moment (at (moved e (c ∷ cs)) (b ++ behind)) context.Block (Some k) []
+    → LeadsTo around.limit (state_at around (moment (mid_line (moved e (c ∷ cs)) (b ++ behind)) context.Block (Some k) []
     false
     ad (qs ++ token_place e (moved e (c ∷ cs)) kind ∷ [])) deeper) start
     → Along around start k qs (moved (moved e (c ∷ cs)) w) y (kind ∷ [])
@@ -195,7 +195,7 @@ ends_there {around} {start} {k} {qs} e c cs b behind w y ad kind deeper h is are
     let two = moved_index (moved e (c ∷ cs)) w in
     record {
       deeper = deeper;
-      there = at (moved e (c ∷ cs)) (b ++ behind);
+      there = mid_line (moved e (c ∷ cs)) (b ++ behind);
       adjacent = ad;
       white = w;
       are_white = are;
@@ -228,7 +228,7 @@ name_along reads around start k qs token_of indicator name b behind w y e ad beg
     ∙ name_step reads around r.deeper token_of (length qs) e r.blank indicator name o break h ends context.Block
     (Some k) [] false ad (behind_key refl refl) in
     ends_there e indicator name b behind w y ad kind r.deeper text is are low
-    (token_led around start k ((indicator ∷ name) ++ o) e ad qs r end kind (at end o) ad (λ d. d) stepped
+    (token_led around start k ((indicator ∷ name) ++ o) e ad qs r end kind (mid_line end o) ad (λ d. d) stepped
     (in_near k end b behind inside) (in_limit k end b behind inside))
 
 pub anchor_along : ReaderPromises
@@ -275,11 +275,11 @@ tag_along reads around start k qs tag t b behind w y e ad h ends text is are low
     ∙ tag_step reads around r.deeper (length qs) e r.blank t g.handle g.suffix o g.is context.Block (Some k) [] false ad
     ends (behind_key refl refl) in
     let inside = in_back k e t b behind text in
-    let led = token_led around start k (t ++ o) e ad qs r end kind (at end o) ad (λ d. d) stepped
+    let led = token_led around start k (t ++ o) e ad qs r end kind (mid_line end o) ad (λ d. d) stepped
     (in_near k end b behind inside) (in_limit k end b behind inside) in
     subst (λ (q : Kind). Along around start k qs (moved (moved e t) w) y (q ∷ [])) g.token
     (subst (λ (p : List ℕ). InKey around k e (p ++ b) behind
-    → LeadsTo around.limit (state_at around (moment (at (moved e p) o) context.Block (Some k) [] false ad
+    → LeadsTo around.limit (state_at around (moment (mid_line (moved e p) o) context.Block (Some k) [] false ad
     (qs ++ token_place e (moved e p) kind ∷ [])) r.deeper) start
     → Along around start k qs (moved (moved e p) w) y (kind ∷ [])) (sym f.1)
     (λ i l. ends_there e 33 f.0 b behind w y ad kind r.deeper i is are low l) text led)

@@ -1,17 +1,18 @@
 -- A quoted scalar ends right of a column that its lines reach.
 use Rattle.std.proofs.Common.{◌≡◌, ℕ, suc, ◌+◌, ◌≤◌, Bool, true, false, List, [], ◌∷◌, ◌++◌, length, drop, slice_index, refl, sym, ap, ◌∙◌, arith, subst, IsTrue, ◌⊎◌, inl, inr}
-use Rattle.std.specs.Prelude.{◌&&◌, ◌==◌, not, Some}
+use Rattle.std.specs.Prelude.{◌&&◌, ◌==◌, not, Some, None}
 use Rattle.std.proofs.lemmas.Bool.{false≢true}
 use Rattle.std.proofs.lemmas.Bool.Decides.{nat_tests}
 use Rattle.saphyr_input.specs.Classes.{is_break, is_hex, is_breakz, space, line_feed, carriage_return}
+use Rattle.scalar_values.specs.Escapes.{digit_count, short_escape}
 use Rattle.saphyr_scalar.specs.declared.scalar.position.Marker.{Marker}
 use Rattle.scalar_values.specs.declared.folding.Item.{Item}
 use Rattle.scalar_values.specs.declared.flow.Quote.{Quote}
 use Rattle.scalar_values.specs.declared.flow.Quote.TheVariants.{Single, Double}
 use Rattle.saphyr_scalar.specs.Views.Cursor.{along, next_line}
 use Rattle.scalar_values.specs.Flow.{mark, is_special, backslash, apostrophe}
-use Rattle.saphyr_scalar.specs.Spelling.OneLine.{AreHex, IsNumber}
-use Rattle.saphyr_scalar.specs.Steps.Quoted.{simple_escape, hex_digit_count, break_len}
+use Rattle.saphyr_scalar.specs.Spelling.OneLine.{IsNumber}
+use Rattle.saphyr_scalar.specs.Steps.Quoted.{break_len}
 use Rattle.saphyr_scalar.specs.Spelling.Quoted.{stands_for_itself, IsText, closed, itself, broken, two_quotes, escaped, numbered, escaped_break}
 use Rattle.saphyr_scalar.specs.Spelling.QuotedLines.{space_count, IsLine, LinesFit}
 use Rattle.saphyr_scalar.specs.Spelling.Tag.{AreIn}
@@ -72,18 +73,18 @@ line_reaches column m t e h = by_line h.indented
     by_line (inl k) = inl (let n = space_count t in omega (arith, e, k))
     by_line (inr k) = inr k
 
-no_feed_simple : (e c : ℕ) → simple_escape e ≡ Some c → (e == line_feed) ≡ false
-unfolding simple_escape
+no_feed_simple : (e c : ℕ) → short_escape e ≡ Some c → (e == line_feed) ≡ false
+unfolding short_escape
 no_feed_simple e c h = by_test (e == line_feed) refl
   where
     feed : (e : ℕ) → (e == line_feed) ≡ true → e ≡ 10
     feed e h = grind (arith, nat_tests)
 
-    none : simple_escape 10 ≡ Some c → ⊥
+    none : short_escape 10 ≡ Some c → ⊥
     none k = cc
 
     by_test : (b : Bool) → (e == line_feed) ≡ b → (e == line_feed) ≡ false
-    by_test true k = absurd (none (subst (λ (z : ℕ). simple_escape z ≡ Some c) (feed e k) h))
+    by_test true k = absurd (none (subst (λ (z : ℕ). short_escape z ≡ Some c) (feed e k) h))
     by_test false k = k
 
 no_feed_letter : (e : ℕ) (ds : List ℕ) (c : ℕ) → IsNumber e c ds → (e == line_feed) ≡ false
@@ -93,11 +94,10 @@ no_feed_letter e ds c h = by_test (e == line_feed) refl
     feed e h = grind (arith, nat_tests)
 
     by_test : (b : Bool) → (e == line_feed) ≡ b → (e == line_feed) ≡ false
-    by_test true k = let count : length ds ≡ 0 =
-        h.count ∙ ap hex_digit_count (feed e k) in let some = h.some in absurd (omega (arith, count, some))
+    by_test true k = let count = h.count in let none : digit_count e ≡ None = ap digit_count (feed e k) in absurd (cc)
     by_test false k = k
 
-hex_line : (ds : List ℕ) → AreHex ds → AreIn (λ c. not (c == line_feed)) ds
+hex_line : (ds : List ℕ) → AreIn is_hex ds → AreIn (λ c. not (c == line_feed)) ds
 hex_line [] h = tt
 hex_line (d ∷ ds) h = (one d h.0, hex_line ds h.1)
   where

@@ -10,7 +10,7 @@ use Rattle.saphyr_scalar.specs.Steps.Quoted.{break_len}
 use Rattle.saphyr_scalar.specs.Spelling.Quoted.{IsText, closed, itself, broken, two_quotes, escaped, numbered, escaped_break}
 use Rattle.saphyr_scalar.specs.Spelling.QuotedLines.{space_count, IsLine, LinesFit}
 use Rattle.saphyr_scalar.specs.Spelling.Tag.{AreIn}
-use Rattle.saphyr_scalar.specs.Spelling.Spaces.{joined, AreEach, IsSeparationLine, IsSeparation}
+use Rattle.saphyr_scalar.specs.Spelling.Spaces.{joined_pieces, AreEach, IsSeparationLine, IsSeparation}
 use Rattle.saphyr_scanner.specs.Grammar.Forest.{Style, Plain, SingleQuoted, DoubleQuoted, Literal, Folded, Properties, Node, Alias, Scalar, Seq, Map}
 use Rattle.saphyr_scanner.specs.Grammar.FlowScalars.{IsLinePrefix, IsEmptyLine, IsWordGap, IsFurtherWord, IsPlain, IsPlainKey, IsQuoted, IsFlowScalar}
 use Rattle.saphyr_scanner.specs.Grammar.FlowNodes.{IsOnLine, IsBeforeContent, IsScalarNode, IsPlainKeyNode, IsKeyText, IsOpening}
@@ -31,14 +31,14 @@ blanks_on_line indent w (lines, blanks, (pieces, each, lines_are), are, e) h = b
     no_feed : (a b : List ℕ) → IsOnLine (a ++ (10 ∷ b)) → ⊥
     no_feed a b k = absurd (let f : false ≡ true = (back_in (λ c. not (c == line_feed)) a (10 ∷ b) k).0 in cc)
 
-    by_lines : (pieces : List (List ℕ)) → AreEach (IsSeparationLine indent) pieces → lines ≡ joined pieces
+    by_lines : (pieces : List (List ℕ)) → AreEach (IsSeparationLine indent) pieces → lines ≡ joined_pieces pieces
         → AreIn is_blank w
     by_lines [] each lines_are = subst (AreIn is_blank) (sym (e ∙ ap (λ (t : List ℕ). t ++ blanks) lines_are)) are
     by_lines (p ∷ ps) ((first, comment, filler, first_are, k, filler_is, line_is), others) lines_are =
-        let inside : w ≡ (first ++ comment) ++ (10 ∷ ((filler ++ spaces indent) ++ (joined ps ++ blanks))) =
-        e ∙ ap (λ (t : List ℕ). t ++ blanks) lines_are ∙ ap (λ (t : List ℕ). (t ++ joined ps) ++ blanks) line_is
+        let inside : w ≡ (first ++ comment) ++ (10 ∷ ((filler ++ spaces indent) ++ (joined_pieces ps ++ blanks))) =
+        e ∙ ap (λ (t : List ℕ). t ++ blanks) lines_are ∙ ap (λ (t : List ℕ). (t ++ joined_pieces ps) ++ blanks) line_is
         ∙ simp append_assoc in
-        absurd (no_feed (first ++ comment) ((filler ++ spaces indent) ++ (joined ps ++ blanks))
+        absurd (no_feed (first ++ comment) ((filler ++ spaces indent) ++ (joined_pieces ps ++ blanks))
         (subst IsOnLine inside h))
 
 pub separation_of_blanks : (indent : ℕ) (w : List ℕ) → AreIn is_blank w → IsSeparation indent w

@@ -2,7 +2,7 @@
 use Rattle.std.proofs.Common.{◌≡◌, ℕ, ◌+◌, ◌≤◌, Bool, true, false, List, [], ◌∷◌, ◌++◌, length, Ok, refl, sym, ap, ◌∙◌, append-nil, arith}
 use Rattle.std.specs.Prelude.{map, Option, None}
 use Rattle.saphyr_scalar.specs.declared.scalar.position.Marker.{Marker}
-use Rattle.saphyr_scalar.specs.Views.Cursor.{Cursor, ◌>>=◌, fresh}
+use Rattle.saphyr_scalar.specs.Views.Cursor.{Cursor, ◌>>=◌, start_cursor}
 use Rattle.saphyr_scalar.specs.Steps.Plain as words
 use Rattle.saphyr_scanner.specs.declared.engine.level.Context.TheVariants as context
 use Rattle.saphyr_scanner.specs.Grammar.Forest.{Forest, open_in_forest}
@@ -31,9 +31,10 @@ abbrev pub begun : Place
 begun = bare_place (empty_piece (record { index = 0; line = 1; col = 0 }) tokens.StreamStart)
 
 pub starts : (limit : ℕ) (text : List ℕ)
-    → ComesInJson limit (start text) false (fresh text) context.Block None [] true 0 (begun ∷ [])
+    → ComesInJson limit (start text) false (start_cursor text) context.Block None [] true 0 (begun ∷ [])
 unfolding fetch
-starts limit text = comes limit (start text) false (fresh text) context.Block None [] true 0 (begun ∷ []) refl refl
+starts limit text = comes limit (start text) false (start_cursor text) context.Block None [] true 0
+    (begun ∷ []) refl refl
     (omega arith)
 
 -- the token of the stream's end
@@ -97,7 +98,7 @@ json_leads words_read quoted_read counts limit (document ∷ []) text h deep sho
     let first = starts limit text in
     let piece : skip text ≡ skip (t.1 ++ t.2) = rw t.6 (skip_white t.0 (t.1 ++ t.2) t.3) in
     let behind : skip t.2 ≡ [] = ap skip (sym (append-nil t.2)) ∙ skip_white t.2 [] t.5 in
-    let node = node_passes premises document.node t.1 t.2 t.4 (fresh text) context.Block first.key [] true 0
+    let node = node_passes premises document.node t.1 t.2 t.4 (start_cursor text) context.Block first.key [] true 0
     (begun ∷ []) refl piece (rw behind tt) (omega arith) in
     let last = leads_to_end limit n below node.there node.key node.allowed node.adjacent ((begun ∷ []) ++ node.new)
     node.count

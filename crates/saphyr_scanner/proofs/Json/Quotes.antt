@@ -8,7 +8,7 @@ use Rattle.saphyr_scalar.specs.declared.scalar.position.Marker.{Marker}
 use Rattle.saphyr_scalar.specs.declared.scalar.fault.Refusal.{Refusal}
 use Rattle.saphyr_scalar.specs.Views.Cursor.{Cursor, ◌>>=◌, along}
 use Rattle.saphyr_scalar.specs.Steps.Quoted as quoted
-use Rattle.saphyr_scalar.specs.Steps.Quoted.{at}
+use Rattle.saphyr_scalar.specs.Steps.Quoted.{mid_line}
 use Rattle.saphyr_scanner.specs.declared.engine.level.Context.{Context}
 use Rattle.saphyr_scanner.specs.Grammar.Tokens as tokens
 use Rattle.saphyr_scanner.specs.Grammar.Forest.{DoubleQuoted}
@@ -39,7 +39,7 @@ string_step : ReadsDoubleQuoted reader → CountsDoubleQuoted reader → (n : �
     → (x : Context) (k : Option Candidate) (ls : List Level) (a : Bool) (ad : ℕ)
     → scalar.double_quoted_steps n (core_at false (cursor_at (34 ∷ r) m b) x k ls a ad)
     ≡ behind_quotes m DoubleQuoted (encode_utf8_all v)
-    (core_at false (at (along m (length p)) o) x (saved a n m k) ls false ad)
+    (core_at false (mid_line (along m (length p)) o) x (saved a n m k) ls false ad)
 unfolding scalar.double_quoted_steps read_double_quoted
 string_step reads counts n m b p o r v text h x k ls a ad =
     let s = cursor_at (34 ∷ r) m b in
@@ -128,7 +128,7 @@ string_passes reads counts limit n below p o y v h s x k ls a ad ps count text f
     let u = arrives s x k ls a ad ps (34 ∷ r) (text ∙ ap skip front) (refl, refl) in
     let m = u.mark in
     let key = saved u.allowed (length ps) m u.key in
-    let behind = at (along m (length p)) o in
+    let behind = mid_line (along m (length p)) o in
     let clean = clean_behind (is_block x) y ends in
     let d = separates behind (subst IsClean (sym follows) clean) in
     let g = passes_gap d.there x key ls false ad y (d.rest ∙ follows) clean in

@@ -6,7 +6,7 @@ use Rattle.saphyr_input.specs.Classes.{is_break}
 use Rattle.saphyr_input.specs.Places.{is_blank_or_break}
 use Rattle.saphyr_scalar.specs.declared.scalar.position.Marker.{Marker}
 use Rattle.saphyr_scalar.specs.Views.Cursor.{Cursor, along, next_line}
-use Rattle.saphyr_scalar.specs.Steps.Plain.{in_word, PlainScalarRead, comment_of}
+use Rattle.saphyr_scalar.specs.Steps.Plain.{is_in_word, PlainScalarRead, comment_of}
 use Rattle.saphyr_scalar.specs.Spelling.Plain.{is_tabbed, past_white, IsPlainWord, EndsPlain}
 use Rattle.saphyr_scanner.specs.Grammar.Json.{IsWhite, IsWhiteSpace, IsWord}
 use Rattle.saphyr_scanner.proofs.Json.Words.{IsBehindValue, behind_value_stops, word_is_plain}
@@ -135,7 +135,7 @@ ends_plain in_flow end w y white h =
     let stops = behind_stops_gap in_flow y h in
     let p = lines_passed w y end false white stops in
     record {
-      stops = inl (ap (λ (s : Cursor). in_word in_flow s.rest) p.is ∙ behind_value_stops in_flow y h);
+      stops = inl (ap (λ (s : Cursor). is_in_word in_flow s.rest) p.is ∙ behind_value_stops in_flow y h);
       apart = first_no_comment w y white stops;
       tabs = inl (untabbed_root (w ++ y));
     }

@@ -4,9 +4,10 @@ use Rattle.std.specs.Prelude.{Some}
 use Rattle.std.proofs.lemmas.Bool.Decides.{nat_tests}
 use Rattle.std.proofs.lemmas.List.{length-append}
 use Rattle.saphyr_input.specs.Classes.{IsHex, is_hex, hex_value}
+use Rattle.scalar_values.specs.Escapes.{is_scalar_value, short_escape}
 use Rattle.saphyr_scalar.specs.declared.scalar.fault.Refusal.{Refusal}
 use Rattle.saphyr_scalar.specs.Views.Cursor.{Cursor, along}
-use Rattle.saphyr_scalar.specs.Steps.Quoted.{simple_escape, is_scalar, at}
+use Rattle.saphyr_scalar.specs.Steps.Quoted.{mid_line}
 use Rattle.saphyr_scalar.specs.Spelling.OneLine as spelling
 use Rattle.saphyr_scalar.specs.Spelling.OneLine.{stands_in_double_quotes, IsInside, closed, itself, escaped, numbered, IsDoubleQuoted}
 use Rattle.saphyr_scanner.specs.Grammar.Characters.{IsSurrogate}
@@ -15,8 +16,8 @@ use Rattle.saphyr_scanner.specs.Grammar.Json.{IsUnescaped, IsJsonEscape, IsCode,
 unescaped_fits : (c : ℕ) → IsUnescaped c → IsTrue (stands_in_double_quotes c)
 unescaped_fits c h = grind (arith, nat_tests)
 
-short_fits : (letter c : ℕ) → IsJsonEscape letter c → simple_escape letter ≡ Some c
-unfolding simple_escape
+short_fits : (letter c : ℕ) → IsJsonEscape letter c → short_escape letter ≡ Some c
+unfolding short_escape
 short_fits letter c (inl h) = rw (h.0, h.1) refl
 short_fits letter c (inr (inl h)) = rw (h.0, h.1) refl
 short_fits letter c (inr (inr (inl h))) = rw (h.0, h.1) refl
@@ -32,7 +33,7 @@ hex_fits d h = grind (arith, nat_tests)
 hex_small : (d : ℕ) → IsHex d → hex_value d ≤ 15
 hex_small d h = grind (arith, nat_tests)
 
-scalar_fits : (c : ℕ) → c < 0x1_0000 → ¬ (IsSurrogate c) → IsTrue (is_scalar c)
+scalar_fits : (c : ℕ) → c < 0x1_0000 → ¬ (IsSurrogate c) → IsTrue (is_scalar_value c)
 scalar_fits c h other = grind (arith, nat_tests)
 
 four : (a b d e c : ℕ) → c ≡ ((a * 16 + b) * 16 + d) * 16 + e → (((0 * 16 + a) * 16 + b) * 16 + d) * 16 + e ≡ c
@@ -45,7 +46,6 @@ code_fits c code (d3, d2, d1, d0, h3, h2, h1, h0, is, spelled) other =
     subst (spelling.IsNumber 117 c) (sym spelled)
     (record {
       count = refl;
-      some = omega arith;
       hex = (hex_fits d3 h3, (hex_fits d2 h2, (hex_fits d1 h1, (hex_fits d0 h0, tt))));
       value = four (hex_value d3) (hex_value d2) (hex_value d1) (hex_value d0) c is;
       scalar = scalar_fits c small other;
@@ -87,7 +87,7 @@ string_spelled value t x h = (
 abbrev pub ReadsDoubleQuoted : (Cursor → Result (List ℕ × Cursor) Refusal) → Type 0
 ReadsDoubleQuoted read =
     (s : Cursor) (v x : List ℕ) → IsDoubleQuoted s.rest v x
-    → (n : ℕ) × (read s ≡ Ok (encode_utf8_all v, at (along s.mark n) x))
+    → (n : ℕ) × (read s ≡ Ok (encode_utf8_all v, mid_line (along s.mark n) x))
 
 -- and of the place behind them
 abbrev pub CountsDoubleQuoted : (Cursor → Result (List ℕ × Cursor) Refusal) → Type 0
@@ -97,12 +97,12 @@ CountsDoubleQuoted read =
 -- A string of JSON is read as a double quoted scalar, up to its closing quote.
 pub string_read : (read : Cursor → Result (List ℕ × Cursor) Refusal) → ReadsDoubleQuoted read → CountsDoubleQuoted read
     → (s : Cursor) (value t x : List ℕ) → s.rest ≡ t ++ x → IsString value t
-    → read s ≡ Ok (encode_utf8_all value, at (along s.mark (length t)) x)
+    → read s ≡ Ok (encode_utf8_all value, mid_line (along s.mark (length t)) x)
 string_read read reads counts s value t x is h =
     let spelled : IsDoubleQuoted s.rest value x = subst (λ (y : List ℕ). IsDoubleQuoted y value x) (sym is)
     (string_spelled value t x h) in
     let got = reads s value x spelled in
-    let counted = counts s (at (along s.mark got.0) x) (encode_utf8_all value) got.1 in
+    let counted = counts s (mid_line (along s.mark got.0) x) (encode_utf8_all value) got.1 in
     let all : length s.rest ≡ length t + length x = ap length is ∙ length-append t x in
     let n : got.0 ≡ length t = omega arith in
-    got.1 ∙ ap (λ (k : ℕ). Ok (encode_utf8_all value, at (along s.mark k) x)) n
+    got.1 ∙ ap (λ (k : ℕ). Ok (encode_utf8_all value, mid_line (along s.mark k) x)) n

@@ -3,8 +3,9 @@ use Rattle.std.proofs.Common.{◌≡◌, ◌≢◌, ℕ, Bool, true, false, List
 use Rattle.std.specs.Prelude.{◌||◌, ◌&&◌, ◌==◌, not}
 use Rattle.std.proofs.lemmas.Bool.Decides.{nat_tests}
 use Rattle.saphyr_input.specs.Classes.{IsDigit, is_blank, is_break, is_blank_or_breakz, is_flow}
-use Rattle.saphyr_scalar.specs.Steps.Plain.{in_word}
-use Rattle.saphyr_scalar.specs.Spelling.Plain.{is_plain_safe, AreSafe, IsPlainWord}
+use Rattle.saphyr_scalar.specs.Spelling.Tag.{AreIn}
+use Rattle.saphyr_scalar.specs.Steps.Plain.{is_in_word}
+use Rattle.saphyr_scalar.specs.Spelling.Plain.{is_plain_safe, IsPlainWord}
 use Rattle.saphyr_scanner.specs.Grammar.Characters.{AreAll}
 use Rattle.saphyr_scanner.specs.Grammar.Json.{IsInteger, IsFraction, IsExponent, IsJsonNumber, IsWord}
 
@@ -13,54 +14,54 @@ use Rattle.saphyr_scanner.specs.Grammar.Json.{IsInteger, IsFraction, IsExponent,
 digit_safe : (c : ℕ) → IsDigit c → IsTrue (is_plain_safe c)
 digit_safe c h = grind (arith, nat_tests)
 
-safe_append : (a b : List ℕ) → AreSafe a → AreSafe b → AreSafe (a ++ b)
+safe_append : (a b : List ℕ) → AreIn is_plain_safe a → AreIn is_plain_safe b → AreIn is_plain_safe (a ++ b)
 safe_append [] b s t = t
 safe_append (c ∷ a) b s t = (s.0, safe_append a b s.1 t)
 
-digits_safe : (t : List ℕ) → AreAll IsDigit t → AreSafe t
+digits_safe : (t : List ℕ) → AreAll IsDigit t → AreIn is_plain_safe t
 digits_safe [] h = tt
 digits_safe (c ∷ t) h = (digit_safe c h.0, digits_safe t h.1)
 
-minus_safe : (t : List ℕ) → (t ≡ []) ⊎ (t ≡ codes "-") → AreSafe t
-minus_safe t (inl e) = subst AreSafe (sym e) tt
-minus_safe t (inr e) = subst AreSafe (sym e) (refl, tt)
+minus_safe : (t : List ℕ) → (t ≡ []) ⊎ (t ≡ codes "-") → AreIn is_plain_safe t
+minus_safe t (inl e) = subst (AreIn is_plain_safe) (sym e) tt
+minus_safe t (inr e) = subst (AreIn is_plain_safe) (sym e) (refl, tt)
 
-integer_safe : (t : List ℕ) → IsInteger t → AreSafe t
-integer_safe t (inl e) = subst AreSafe (sym e) (refl, tt)
+integer_safe : (t : List ℕ) → IsInteger t → AreIn is_plain_safe t
+integer_safe t (inl e) = subst (AreIn is_plain_safe) (sym e) (refl, tt)
 integer_safe t (inr h) =
-    subst AreSafe (sym h.4) (digit_safe h.0 (omega (arith, h.2), omega (arith, h.2)), digits_safe h.1 h.3)
+    subst (AreIn is_plain_safe) (sym h.4) (digit_safe h.0 (omega (arith, h.2), omega (arith, h.2)), digits_safe h.1 h.3)
 
-fraction_safe : (t : List ℕ) → (t ≡ []) ⊎ IsFraction t → AreSafe t
-fraction_safe t (inl e) = subst AreSafe (sym e) tt
-fraction_safe t (inr h) = subst AreSafe (sym h.2) (refl, digits_safe h.0 h.1.1)
+fraction_safe : (t : List ℕ) → (t ≡ []) ⊎ IsFraction t → AreIn is_plain_safe t
+fraction_safe t (inl e) = subst (AreIn is_plain_safe) (sym e) tt
+fraction_safe t (inr h) = subst (AreIn is_plain_safe) (sym h.2) (refl, digits_safe h.0 h.1.1)
 
-letter_safe : (t : List ℕ) → (t ≡ codes "e") ⊎ (t ≡ codes "E") → AreSafe t
-letter_safe t (inl e) = subst AreSafe (sym e) (refl, tt)
-letter_safe t (inr e) = subst AreSafe (sym e) (refl, tt)
+letter_safe : (t : List ℕ) → (t ≡ codes "e") ⊎ (t ≡ codes "E") → AreIn is_plain_safe t
+letter_safe t (inl e) = subst (AreIn is_plain_safe) (sym e) (refl, tt)
+letter_safe t (inr e) = subst (AreIn is_plain_safe) (sym e) (refl, tt)
 
-sign_safe : (t : List ℕ) → (t ≡ []) ⊎ (t ≡ codes "+") ⊎ (t ≡ codes "-") → AreSafe t
-sign_safe t (inl e) = subst AreSafe (sym e) tt
-sign_safe t (inr (inl e)) = subst AreSafe (sym e) (refl, tt)
-sign_safe t (inr (inr e)) = subst AreSafe (sym e) (refl, tt)
+sign_safe : (t : List ℕ) → (t ≡ []) ⊎ (t ≡ codes "+") ⊎ (t ≡ codes "-") → AreIn is_plain_safe t
+sign_safe t (inl e) = subst (AreIn is_plain_safe) (sym e) tt
+sign_safe t (inr (inl e)) = subst (AreIn is_plain_safe) (sym e) (refl, tt)
+sign_safe t (inr (inr e)) = subst (AreIn is_plain_safe) (sym e) (refl, tt)
 
-exponent_safe : (t : List ℕ) → (t ≡ []) ⊎ IsExponent t → AreSafe t
-exponent_safe t (inl e) = subst AreSafe (sym e) tt
+exponent_safe : (t : List ℕ) → (t ≡ []) ⊎ IsExponent t → AreIn is_plain_safe t
+exponent_safe t (inl e) = subst (AreIn is_plain_safe) (sym e) tt
 exponent_safe t (inr h) =
-    subst AreSafe (sym h.6) (safe_append h.0 (h.1 ++ h.2) (letter_safe h.0 h.3)
+    subst (AreIn is_plain_safe) (sym h.6) (safe_append h.0 (h.1 ++ h.2) (letter_safe h.0 h.3)
     (safe_append h.1 h.2 (sign_safe h.1 h.4) (digits_safe h.2 h.5.1)))
 
-number_safe : (t : List ℕ) → IsJsonNumber t → AreSafe t
+number_safe : (t : List ℕ) → IsJsonNumber t → AreIn is_plain_safe t
 number_safe t h =
-    subst AreSafe (sym h.8)
+    subst (AreIn is_plain_safe) (sym h.8)
     (safe_append h.0 (h.1 ++ (h.2 ++ h.3)) (minus_safe h.0 h.4)
     (safe_append h.1 (h.2 ++ h.3) (integer_safe h.1 h.5)
     (safe_append h.2 h.3 (fraction_safe h.2 h.6) (exponent_safe h.3 h.7))))
 
 -- each character of a word goes on with a plain scalar, whatever follows it
-pub word_safe : (t : List ℕ) → IsWord t → AreSafe t
-word_safe t (inl e) = subst AreSafe (sym e) (refl, (refl, (refl, (refl, tt))))
-word_safe t (inr (inl e)) = subst AreSafe (sym e) (refl, (refl, (refl, (refl, (refl, tt)))))
-word_safe t (inr (inr (inl e))) = subst AreSafe (sym e) (refl, (refl, (refl, (refl, tt))))
+pub word_safe : (t : List ℕ) → IsWord t → AreIn is_plain_safe t
+word_safe t (inl e) = subst (AreIn is_plain_safe) (sym e) (refl, (refl, (refl, (refl, tt))))
+word_safe t (inr (inl e)) = subst (AreIn is_plain_safe) (sym e) (refl, (refl, (refl, (refl, (refl, tt)))))
+word_safe t (inr (inr (inl e))) = subst (AreIn is_plain_safe) (sym e) (refl, (refl, (refl, (refl, tt))))
 word_safe t (inr (inr (inr h))) = number_safe t h
 
 -- ## A word's first character
@@ -189,8 +190,8 @@ neither true false = refl
 neither false b = refl
 
 -- no plain scalar goes on behind a value
-pub behind_value_stops : (in_flow : Bool) (y : List ℕ) → IsBehindValue in_flow y → in_word in_flow y ≡ false
-unfolding in_word
+pub behind_value_stops : (in_flow : Bool) (y : List ℕ) → IsBehindValue in_flow y → is_in_word in_flow y ≡ false
+unfolding is_in_word
 behind_value_stops in_flow [] h = refl
 behind_value_stops in_flow (c ∷ cs) h =
     let m = mark_behind c h.1 in rw (h.0, m.colon, m.flow) (neither (not (is_blank_or_breakz c)) (c == 65279))

@@ -4,7 +4,7 @@ use Rattle.std.specs.Prelude.{◌&&◌, slice_index, not, nat_lt}
 use Rattle.saphyr_input.specs.Classes.{is_z, is_blank, is_break}
 use Rattle.saphyr_scalar.specs.declared.scalar.position.Marker.{Marker}
 use Rattle.saphyr_scalar.specs.declared.scalar.fault.Refusal.{Refusal}
-use Rattle.saphyr_scalar.specs.Views.Cursor.{Cursor, fresh, ◌>>=◌}
+use Rattle.saphyr_scalar.specs.Views.Cursor.{Cursor, start_cursor, ◌>>=◌}
 use Rattle.saphyr_scanner.specs.Steps.Queue.{Queue, next}
 use Rattle.saphyr_scanner.specs.Steps.Core.{Core, in_block, is_too_far, forget_key, drop_far_key}
 use Rattle.saphyr_scanner.specs.Steps.Level.{Candidate, Level, is_block}
@@ -91,7 +91,7 @@ line_near k m e = ltb-false k.mark.line m.line (first (nat_lt k.mark.line m.line
 
 -- where a key is a candidate no block collection ends
 unrolled_keys : (text : List ℕ) → length text < 2 ^ 63 → (columns : List ℕ) (from : Cursor) (q : Queue) (c : Core)
-    → LaterThan (fresh text) from → Near columns from q c → let t =
+    → LaterThan (start_cursor text) from → Near columns from q c → let t =
     unroll (Some c.cursor.mark.col) c.cursor.mark (record { core = c; queue = q }) in Live t.core t.queue
 unfolding unroll
 unrolled_keys text small columns from q c l h nz =
@@ -122,7 +122,7 @@ unrolled_keys text small columns from q c l h nz =
         let from_small : from.mark.line ≤ top = (l.lines (omega arith)).1 in
         let stands = key_stands columns from c q (next q) (is_block c.level.context) c.indent k from_small h.taken
         known.0 in
-        let here = later_later (fresh text).mark text from.mark from.rest c.cursor.mark c.cursor.rest l
+        let here = later_later (start_cursor text).mark text from.mark from.rest c.cursor.mark c.cursor.rest l
         (taken_later columns from c q h.taken) in
         let far : is_too_far (Some k) m ≡ false = ap (λ o. is_too_far o m) (sym i)
         ∙ sym (ap (λ b. b && is_too_far c.level.key m) e) ∙ h.near in
@@ -139,7 +139,7 @@ pub record Arrived (columns : List ℕ) (from : Cursor) (t : State) : Type 0 whe
   pub live : Live t.core t.queue
 
 pub arrived : (text : List ℕ) → length text < 2 ^ 63 → (columns : List ℕ) (from : Cursor) (s : State)
-    → LaterThan (fresh text) from → TakenState columns from s → Live s.core s.queue
+    → LaterThan (start_cursor text) from → TakenState columns from s → Live s.core s.queue
     → Given (Arrived columns from) (arrive s)
 unfolding arrive
 arrived text small columns from s l h k = by (pass_gap s.core >>= drop_far_key) (gapped columns from s.queue s.core h k)

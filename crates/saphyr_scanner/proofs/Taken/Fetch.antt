@@ -5,7 +5,7 @@ use Rattle.saphyr_input.specs.Classes.{is_z, is_bom}
 use Rattle.saphyr_input.specs.Places.{is_document_start, is_document_end}
 use Rattle.saphyr_scalar.specs.declared.scalar.position.Marker.{Marker}
 use Rattle.saphyr_scalar.specs.declared.scalar.fault.Refusal.{Refusal}
-use Rattle.saphyr_scalar.specs.Views.Cursor.{Cursor, fresh, ◌>>=◌}
+use Rattle.saphyr_scalar.specs.Views.Cursor.{Cursor, start_cursor, ◌>>=◌}
 use Rattle.saphyr_scanner.specs.Grammar.Tokens as tokens
 use Rattle.saphyr_scanner.specs.Views.Tokens.{Piece}
 use Rattle.saphyr_scanner.specs.Steps.Queue.{Queue, bare_place, with_piece, next, empty_piece}
@@ -92,7 +92,7 @@ deep_of true i col e = let h = ltb-false col i e in omega (arith, h)
 deep_of false i col e = let h = ltb-false col (i - 1) e in omega (arith, h)
 
 here_read : TextLaws → (text : List ℕ) → length text < 2 ^ 63 → (columns : List ℕ) (from : Cursor) (s : State)
-    → LaterThan (fresh text) from → s.core.ended ≡ false → Arrived columns from s
+    → LaterThan (start_cursor text) from → s.core.ended ≡ false → Arrived columns from s
     → Given (Read columns from) (fetch_here s)
 unfolding fetch_here state_behind_content
 here_read laws text small columns from s l going a =
@@ -153,7 +153,7 @@ begin_read columns from s going h l = record {
 }
 
 pub fetch_read : TextLaws → (text : List ℕ) → length text < 2 ^ 63
-    → (columns : List ℕ) (from : Cursor) (s : State) → LaterThan (fresh text) from → s.core.ended ≡ false
+    → (columns : List ℕ) (from : Cursor) (s : State) → LaterThan (start_cursor text) from → s.core.ended ≡ false
     → TakenState columns from s → Live s.core s.queue → Given (Read columns from) (fetch s)
 unfolding fetch
 fetch_read laws text small columns from s l going h k =
@@ -199,7 +199,8 @@ settled_ready columns from s h =
     }))
 
 pub read_ready : TextLaws → (text : List ℕ) → length text < 2 ^ 63
-    → (limit : ℕ) (columns : List ℕ) (from : Cursor) (s : State) → LaterThan (fresh text) from → s.core.ended ≡ false
+    → (limit : ℕ) (columns : List ℕ) (from : Cursor) (s : State) → LaterThan (start_cursor text) from
+    → s.core.ended ≡ false
     → Ready columns from s → Given (Ready columns from) (fetch_within limit s >>= without_far_key)
 unfolding fetch_within
 read_ready laws text small limit columns from s l going h =

@@ -11,7 +11,7 @@ use Rattle.saphyr_scalar.specs.Views.Cursor.{Cursor, along, next_line}
 use Rattle.saphyr_scalar.specs.Passing as passing
 use Rattle.saphyr_scalar.specs.Passing.{IsPassed}
 use Rattle.saphyr_scalar.specs.Steps.Plain.{ends_line}
-use Rattle.saphyr_scalar.specs.Reading.Plain.{passed, IsPlainReading}
+use Rattle.saphyr_scalar.specs.Reading.Plain.{end_of_text, IsPlainReading}
 use Rattle.saphyr_scalar.specs.Steps.Quoted.{break_len}
 use Rattle.saphyr_scalar.proofs.Lengths.{two_shown}
 use Rattle.saphyr_scanner.specs.Grammar.Tokens as tokens
@@ -19,7 +19,7 @@ use Rattle.saphyr_scanner.specs.Grammar.Tokens.{Kind}
 use Rattle.saphyr_scanner.specs.Views.Tokens.{Piece}
 use Rattle.saphyr_scanner.specs.TokensTaken as taken
 use Rattle.saphyr_scanner.specs.TokensTaken.{IsPassedOver, HasNoText, IsSpan, IsMark, TakesCharacter, IsToken, AreTokens, open_behind}
-use Rattle.saphyr_input.proofs.Basics.Lists.{shown}
+use Rattle.saphyr_input.proofs.Basics.Lists.{shows_character}
 use Rattle.saphyr_input.proofs.Basics.Booleans.{by_test}
 
 -- the greatest number of a line
@@ -89,7 +89,7 @@ line_later m n t u k l =
 break_len_within : (t : List ℕ) → is_break (slice_index t 0) ≡ true → (1 ≤ break_len t) × (break_len t ≤ length t)
 break_len_within t e =
     by_test (next_2_are t 13 10) 2 1 (λ n. (1 ≤ n) × (n ≤ length t)) (λ k. (omega arith, two_shown t k))
-    (λ _. (omega arith, shown t is_break true e (λ k. absurd (cc))))
+    (λ _. (omega arith, shows_character t is_break true e (λ k. absurd (cc))))
 
 pub break_later : (m : Marker) (t : List ℕ) → is_break (slice_index t 0) ≡ true
     → Later m t (next_line m (break_len t)) (drop (break_len t) t)
@@ -120,13 +120,13 @@ passed_later _ _ _ _ (passing.line_break m t n u e p) =
     (passed_later (next_line m (break_len t)) (drop (break_len t) t) n u p)
 
 -- a piece of a plain scalar
-pub piece_later : (m : Marker) (cs u : List ℕ) → Later m (cs ++ u) (passed m cs) u
+pub piece_later : (m : Marker) (cs u : List ℕ) → Later m (cs ++ u) (end_of_text m cs) u
 piece_later m [] u = later_here m u
 piece_later m (c ∷ cs) u =
-    by_test (ends_line c cs) (next_line m 1) (along m 1) (λ (k : Marker). Later m (c ∷ (cs ++ u)) (passed k cs) u)
-    (λ _. later_later m (c ∷ (cs ++ u)) (next_line m 1) (cs ++ u) (passed (next_line m 1) cs) u
+    by_test (ends_line c cs) (next_line m 1) (along m 1) (λ (k : Marker). Later m (c ∷ (cs ++ u)) (end_of_text k cs) u)
+    (λ _. later_later m (c ∷ (cs ++ u)) (next_line m 1) (cs ++ u) (end_of_text (next_line m 1) cs) u
     (line_later m 1 (c ∷ (cs ++ u)) (cs ++ u) (omega arith) (omega arith)) (piece_later (next_line m 1) cs u))
-    (λ _. later_later m (c ∷ (cs ++ u)) (along m 1) (cs ++ u) (passed (along m 1) cs) u
+    (λ _. later_later m (c ∷ (cs ++ u)) (along m 1) (cs ++ u) (end_of_text (along m 1) cs) u
     (along_later m 1 (c ∷ (cs ++ u)) (cs ++ u) (omega arith)) (piece_later (along m 1) cs u))
 
 pub plain_later : (s t : Cursor) (text : List ℕ) (end : Marker) → IsPlainReading s text end t → LaterThan s t

@@ -5,9 +5,9 @@ use Rattle.saphyr_input.specs.Classes.{is_break, is_blank}
 use Rattle.saphyr_scalar.specs.declared.scalar.position.Marker.{Marker}
 use Rattle.saphyr_scalar.specs.declared.scalar.position.Span.{Span}
 use Rattle.saphyr_scalar.specs.declared.scalar.style.ScalarStyle.TheVariants as style
-use Rattle.saphyr_scalar.specs.Views.Cursor.{Cursor, fresh, along}
+use Rattle.saphyr_scalar.specs.Views.Cursor.{Cursor, start_cursor, along}
 use Rattle.saphyr_scalar.specs.Steps.Directive.{version, tag_prefix, reserved}
-use Rattle.saphyr_scalar.specs.Reading.Plain.{passed, IsPlainReading}
+use Rattle.saphyr_scalar.specs.Reading.Plain.{end_of_text, IsPlainReading}
 use Rattle.saphyr_scalar.proofs.NoBreaks.{NoBreaks, directive_no_break}
 use Rattle.saphyr_scanner.specs.Grammar.Tokens as tokens
 use Rattle.saphyr_scanner.specs.Grammar.Tokens.{Kind}
@@ -39,13 +39,13 @@ at_further s t m a b = (b.0, reaches_reaches s t b.0 a b.1, b.2)
 pub at_reached : (s : Cursor) (m : Marker) (u : List ℕ) → IsReached s.mark s.rest m u → At s m
 at_reached s m u a = (record { rest = u; mark = m; blank_so_far = true }, a, inl refl)
 
-pub place_of : (text : List ℕ) (m : Marker) → At (fresh text) m → IsPlaceOf text m
+pub place_of : (text : List ℕ) (m : Marker) → At (start_cursor text) m → IsPlaceOf text m
 place_of text m a = (a.0, a.1, a.2, by a.2)
   where
     by : IsPlaceOrEnd a.0 m → m.index ≤ length text
-    by (inl e) = let h = reached_counted (fresh text).mark text a.0.mark a.0.rest a.1 in let i =
+    by (inl e) = let h = reached_counted (start_cursor text).mark text a.0.mark a.0.rest a.1 in let i =
         ap (λ (x : Marker). x.index) e in omega (arith, h, i)
-    by (inr e) = let h = reached_counted (fresh text).mark text a.0.mark a.0.rest a.1 in let i =
+    by (inr e) = let h = reached_counted (start_cursor text).mark text a.0.mark a.0.rest a.1 in let i =
         ap (λ (x : Marker). x.index) e.1 in omega (arith, h, i)
 
 -- ## Tokens
@@ -78,10 +78,10 @@ pub plain_reached : (s t : Cursor) (text : List ℕ) (end : Marker) (r : IsPlain
 plain_reached s t text end r e =
     let w = r.white ++ t.rest in
     let ink : is_break r.last ≡ false = or_false_right (is_blank r.last) (is_break r.last) r.is_ink in
-    let P : List ℕ → Type 0 = λ p. IsReached s.mark (p ++ w) (passed s.mark p) w in
-    let a : IsReached s.mark (r.piece ++ w) (passed s.mark r.piece) w =
+    let P : List ℕ → Type 0 = λ p. IsReached s.mark (p ++ w) (end_of_text s.mark p) w in
+    let a : IsReached s.mark (r.piece ++ w) (end_of_text s.mark r.piece) w =
     subst P (sym r.closes) (piece_reached s.mark (r.front ++ r.last ∷ []) w (uncut_ink r.front r.last w ink)) in
-    let b : IsReached end w (passed end r.white) t.rest = piece_reached end r.white t.rest (whole e) in
+    let b : IsReached end w (end_of_text end r.white) t.rest = piece_reached end r.white t.rest (whole e) in
     let both = reached_reached s.mark (r.piece ++ w) end w t.mark t.rest
     (subst (λ (k : Marker). IsReached s.mark (r.piece ++ w) k w) r.ends a)
     (subst (λ (k : Marker). IsReached end w k t.rest) r.behind b) in
@@ -198,8 +198,8 @@ plain_to : (s t : Cursor) (text : List ℕ) (end : Marker) → IsPlainReading s 
 plain_to s t text end r =
     let w = r.white ++ t.rest in
     let ink : is_break r.last ≡ false = or_false_right (is_blank r.last) (is_break r.last) r.is_ink in
-    let P : List ℕ → Type 0 = λ p. IsReached s.mark (p ++ w) (passed s.mark p) w in
-    let a : IsReached s.mark (r.piece ++ w) (passed s.mark r.piece) w =
+    let P : List ℕ → Type 0 = λ p. IsReached s.mark (p ++ w) (end_of_text s.mark p) w in
+    let a : IsReached s.mark (r.piece ++ w) (end_of_text s.mark r.piece) w =
     subst P (sym r.closes) (piece_reached s.mark (r.front ++ r.last ∷ []) w (uncut_ink r.front r.last w ink)) in
     let b : IsReached s.mark (r.piece ++ w) end w = subst (λ (k : Marker). IsReached s.mark (r.piece ++ w) k w) r.ends
     a in
@@ -258,15 +258,15 @@ token_to i (tokens.Scalar style.Literal value) span s t h =
 token_to i (tokens.Scalar style.Folded value) span s t h =
     at_behind s t span.end (passed_reached s.mark s.rest t.mark t.rest h.passes) h.end
 
-pub tokens_at : (text columns : List ℕ) (ps : List Piece) (s u : Cursor) → Reaches (fresh text) s
+pub tokens_at : (text columns : List ℕ) (ps : List Piece) (s u : Cursor) → Reaches (start_cursor text) s
     → AreTokens columns ps s u → AreAtPlaces text ps
 tokens_at text columns [] s u r h = tt
 tokens_at text columns (p ∷ ps) s u r h =
     let i = least_column_in columns in
-    let a = reaches_reaches (fresh text) s h.0 r (apart_reached s.mark s.rest h.0.mark h.0.rest h.2) in
-    let b = reaches_reaches (fresh text) h.0 h.1 a (token_reached i p.kind p.span h.0 h.1 h.3) in
+    let a = reaches_reaches (start_cursor text) s h.0 r (apart_reached s.mark s.rest h.0.mark h.0.rest h.2) in
+    let b = reaches_reaches (start_cursor text) h.0 h.1 a (token_reached i p.kind p.span h.0 h.1 h.3) in
     let first = place_of text p.span.start
-    (at_further (fresh text) h.0 p.span.start a (token_at i p.kind p.span h.0 h.1 h.3)) in
+    (at_further (start_cursor text) h.0 p.span.start a (token_at i p.kind p.span h.0 h.1 h.3)) in
     let last = place_of text p.span.end
-    (at_further (fresh text) h.0 p.span.end a (token_to i p.kind p.span h.0 h.1 h.3)) in
+    (at_further (start_cursor text) h.0 p.span.end a (token_to i p.kind p.span h.0 h.1 h.3)) in
     ((first, last), tokens_at text (open_behind p.kind p.span.start.col columns) ps h.1 u b h.4)

@@ -2,7 +2,7 @@
 use Rattle.std.proofs.Common.{◌≡◌, ℕ, zero, suc, ◌+◌, ◌^◌, ◌<◌, Bool, true, false, List, [], ◌∷◌, ◌++◌, length, drop, Option, Some, None, Result, Ok, Err, refl, sym, ap, ◌∙◌, arith, subst, inl}
 use Rattle.std.specs.Prelude.{◌&&◌, ◌==◌, not}
 use Rattle.saphyr_scalar.specs.declared.scalar.fault.Refusal.{Refusal}
-use Rattle.saphyr_scalar.specs.Views.Cursor.{Cursor, fresh, ◌>>=◌}
+use Rattle.saphyr_scalar.specs.Views.Cursor.{Cursor, start_cursor, ◌>>=◌}
 use Rattle.saphyr_scanner.specs.declared.queue.Opening.{Opening}
 use Rattle.saphyr_scanner.specs.declared.queue.Opening.TheVariants as opening
 use Rattle.saphyr_scanner.specs.Views.Tokens.{Piece, Remaining}
@@ -69,7 +69,7 @@ not_held false h e f = f
 not_held true h e f = absurd (cc)
 
 abbrev From : List ℕ → Cursor → Type 0
-From text u = LaterThan (fresh text) u × Reaches (fresh text) u
+From text u = LaterThan (start_cursor text) u × Reaches (start_cursor text) u
 
 -- what is left where a place was handed out
 record Left (text : List ℕ) (columns : List ℕ) (from : Cursor) (c : Core) (p : Place) (ps : List Place) (n : ℕ) : Type
@@ -92,8 +92,8 @@ one_left text columns from c p ps n l h e =
       between = r.between;
       tokens = r.front;
       later = (
-        later_later (fresh text).mark text from.mark from.rest r.between.mark r.between.rest l.0 further,
-        reaches_reaches (fresh text) from r.between l.1 reached,
+        later_later (start_cursor text).mark text from.mark from.rest r.between.mark r.between.rest l.0 further,
+        reaches_reaches (start_cursor text) from r.between l.1 reached,
       );
       ready = record {
         taken = record {
@@ -181,15 +181,15 @@ run_follows laws text small limit (suc fuel) columns from s l f h m =
     (λ v q. let less = (given_of (Fetched t) r v (read_fetched limit t e) q).smaller laws.readers in
     run_follows laws text small limit fuel cs u v k (omega (arith, less, f))
     (given_of (Ready cs u) r v (read_ready laws.texts text small limit cs u t k.0 e w) q)
-    (told_ok NotedState (fresh text) r v told q))
-    (λ g q. place_of text g.mark (told_err NotedState (fresh text) r g told q))))
+    (told_ok NotedState (start_cursor text) r v told q))
+    (λ g q. place_of text g.mark (told_err NotedState (start_cursor text) r g told q))))
     columns from s.queue.handed s.queue.places l h
 
-start_read : (text : List ℕ) → Read [] (fresh text) (start text)
+start_read : (text : List ℕ) → Read [] (start_cursor text) (start text)
 start_read text = record {
   fetched = record {
     taken =
-        record { last = fresh text; tokens = refl; apart = taken.nothing _ _; stack = (refl, refl) };
+        record { last = start_cursor text; tokens = refl; apart = taken.nothing _ _; stack = (refl, refl) };
     live =
         λ _. inl (λ nz. ((λ _. refl), tt, tt));
   };
@@ -197,18 +197,19 @@ start_read text = record {
 }
 
 scan_follows : AllLaws → (limit : ℕ) (text : List ℕ) → length text < 2 ^ 63
-    → FollowsTaken text [] (fresh text) (scan limit text)
+    → FollowsTaken text [] (start_cursor text) (scan limit text)
 unfolding remaining
 scan_follows laws limit text small =
     let s : State = start text in
-    let here : Reaches (fresh text) (fresh text) = taken.nothing _ _ in
+    let here : Reaches (start_cursor text) (start_cursor text) = taken.nothing _ _ in
     let told = settled_told text s here (inl refl) in
-    delivers_taken text [] (fresh text) (without_far_key s) (λ t. run (suc (size t.core)) limit t)
-    (λ t e. run_follows laws text small limit (suc (size t.core)) [] (fresh text) t
-    (later_here (fresh text).mark text, here) (omega arith)
-    (given_of (Ready [] (fresh text)) (without_far_key s) t (settled_ready [] (fresh text) s (start_read text)) e)
-    (told_ok NotedState (fresh text) (without_far_key s) t told e))
-    (λ g q. place_of text g.mark (told_err NotedState (fresh text) (without_far_key s) g told q))
+    delivers_taken text [] (start_cursor text) (without_far_key s) (λ t. run (suc (size t.core)) limit t)
+    (λ t e. run_follows laws text small limit (suc (size t.core)) [] (start_cursor text) t
+    (later_here (start_cursor text).mark text, here) (omega arith)
+    (given_of (Ready [] (start_cursor text)) (without_far_key s) t
+    (settled_ready [] (start_cursor text) s (start_read text)) e)
+    (told_ok NotedState (start_cursor text) (without_far_key s) t told e))
+    (λ g q. place_of text g.mark (told_err NotedState (start_cursor text) (without_far_key s) g told q))
 
 pub scan_taken : AllLaws → (limit : ℕ) (text : List ℕ) → length text < 2 ^ 63 → AreTakenFrom text (scan limit text)
 scan_taken laws limit text small =

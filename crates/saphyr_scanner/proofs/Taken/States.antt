@@ -7,7 +7,7 @@ use Rattle.scalar_values.specs.declared.block.BlockStyle.TheVariants as block_st
 use Rattle.saphyr_scalar.specs.declared.scalar.position.Marker.{Marker}
 use Rattle.saphyr_scalar.specs.declared.scalar.position.Span.{Span}
 use Rattle.saphyr_scalar.specs.Steps.Block as blocks
-use Rattle.saphyr_scalar.specs.Views.Cursor.{Cursor, fresh}
+use Rattle.saphyr_scalar.specs.Views.Cursor.{Cursor, start_cursor}
 use Rattle.saphyr_scanner.specs.Grammar.Tokens as tokens
 use Rattle.saphyr_scanner.specs.Views.Tokens.{Piece}
 use Rattle.saphyr_scanner.specs.Steps.Queue.{Place, Queue, bare_place, with_piece, next, empty_piece}
@@ -35,7 +35,8 @@ use Rattle.saphyr_scanner.proofs.Queues.{flat_append}
 -- ## Lines
 
 -- no text has as many lines as can't be counted
-pub line_small : (text : List ℕ) (s : Cursor) → length text < 2 ^ 63 → LaterThan (fresh text) s → s.mark.line < top
+pub line_small : (text : List ℕ) (s : Cursor) → length text < 2 ^ 63 → LaterThan (start_cursor text) s
+    → s.mark.line < top
 line_small text s h l = omega (arith, l.slow, l.counted)
 
 -- where a candidate stands
@@ -137,7 +138,7 @@ key_line columns from q c d l s h k i = by s.level
         omega (arith, n, u)
 
 pub block_fetched : TextLaws → (text : List ℕ) → length text < 2 ^ 63
-    → (columns : List ℕ) (from : Cursor) (q : Queue) (style : BlockStyle) (c d : Core) → LaterThan (fresh text) from
+    → (columns : List ℕ) (from : Cursor) (q : Queue) (style : BlockStyle) (c d : Core) → LaterThan (start_cursor text) from
     → Saved (next q) c d → HoldsTaken columns from c q → in_block c ≡ true → in_block d ≡ true
     → slice_index c.cursor.rest 0 ≡ taken.block_indicator style → (x : List ℕ × Span × Cursor)
     → blocks.block_scalar style d.indent d.cursor ≡ Ok x
@@ -166,7 +167,7 @@ block_fetched laws text small columns from q style c d l s h b bd f x e =
     let e2 : Core = with_cursor x.2 d in
     let from_small : from.mark.line ≤ top = (l.lines (omega arith)).1 in
     let l2 : from.mark.line ≤ top = from_small in
-    let r = later_later (fresh text).mark text from.mark from.rest d.cursor.mark d.cursor.rest l
+    let r = later_later (start_cursor text).mark text from.mark from.rest d.cursor.mark d.cursor.rest l
     (taken_later columns from d q held) in
     let none : c.outer ≡ [] = h.keys.0 b in
     let by : (o : Option Candidate) → d.level.key ≡ o → d.cursor.mark.line < x.2.mark.line

@@ -3,7 +3,7 @@ use Rattle.std.proofs.Common.{◌≡◌, ℕ, ◌^◌, ◌<◌, false, List, len
 use Rattle.std.specs.Prelude.{nat_le}
 use Rattle.saphyr_scalar.specs.declared.scalar.position.Marker.{Marker}
 use Rattle.saphyr_scalar.specs.declared.scalar.fault.Refusal.{Refusal}
-use Rattle.saphyr_scalar.specs.Views.Cursor.{Cursor, fresh, ◌>>=◌}
+use Rattle.saphyr_scalar.specs.Views.Cursor.{Cursor, start_cursor, ◌>>=◌}
 use Rattle.saphyr_scanner.specs.Steps.Core.{Core, drop_far_key}
 use Rattle.saphyr_scanner.specs.Steps.Fetch.{fetch, fetch_within, check_limit, without_far_key}
 use Rattle.saphyr_scanner.specs.Steps.Queue.{Queue}
@@ -44,33 +44,33 @@ noted_still c d s n =
     let Q : Cursor → Type 0 = λ u. IsNoted c.comment u in
     subst P (sym s.1) (subst Q (sym s.0) n)
 
-pub settled_told : (text : List ℕ) (t : State) → Reaches (fresh text) t.core.cursor → NotedState t
-    → HoldsOrRefuses NotedState (fresh text) (without_far_key t)
+pub settled_told : (text : List ℕ) (t : State) → Reaches (start_cursor text) t.core.cursor → NotedState t
+    → HoldsOrRefuses NotedState (start_cursor text) (without_far_key t)
 settled_told text t a n =
-    on_core_told Noted (fresh text) (drop_far_key t.core) t.queue (by (drop_far_key t.core) (drop_still t.core))
+    on_core_told Noted (start_cursor text) (drop_far_key t.core) t.queue (by (drop_far_key t.core) (drop_still t.core))
   where
-    by : (r : Result Core Refusal) → HoldsOrRefuses (Still t.core) t.core.cursor r → HoldsOrRefuses Noted (fresh text) r
+    by : (r : Result Core Refusal) → HoldsOrRefuses (Still t.core) t.core.cursor r → HoldsOrRefuses Noted (start_cursor text) r
     by (Ok d) h = noted_still t.core d h n
-    by (Err e) h = at_further (fresh text) t.core.cursor e.mark a h
+    by (Err e) h = at_further (start_cursor text) t.core.cursor e.mark a h
 
 pub read_told : TextLaws → RefusalLaws → (text : List ℕ) → length text < 2 ^ 63
-    → (limit : ℕ) (columns : List ℕ) (from : Cursor) (s : State) → LaterThan (fresh text) from
-    → Reaches (fresh text) from → s.core.ended ≡ false → Ready columns from s → NotedState s
-    → HoldsOrRefuses NotedState (fresh text) (fetch_within limit s >>= without_far_key)
+    → (limit : ℕ) (columns : List ℕ) (from : Cursor) (s : State) → LaterThan (start_cursor text) from
+    → Reaches (start_cursor text) from → s.core.ended ≡ false → Ready columns from s → NotedState s
+    → HoldsOrRefuses NotedState (start_cursor text) (fetch_within limit s >>= without_far_key)
 unfolding fetch_within
 read_told laws refusals text small limit columns from s l a going h n =
     by (fetch s) (fetch_read laws text small columns from s l going h.taken (h.live going))
-    (told_further NotedState (fresh text) s.core.cursor (fetch s)
-    (reaches_reaches (fresh text) from s.core.cursor a (taken_reached columns from s.core s.queue h.taken))
+    (told_further NotedState (start_cursor text) s.core.cursor (fetch s)
+    (reaches_reaches (start_cursor text) from s.core.cursor a (taken_reached columns from s.core s.queue h.taken))
     (fetch_told laws refusals s n))
   where
-    by : (r : Result State Refusal) → Given (Read columns from) r → HoldsOrRefuses NotedState (fresh text) r
-        → HoldsOrRefuses NotedState (fresh text) ((r >>= check_limit limit) >>= without_far_key)
+    by : (r : Result State Refusal) → Given (Read columns from) r → HoldsOrRefuses NotedState (start_cursor text) r
+        → HoldsOrRefuses NotedState (start_cursor text) ((r >>= check_limit limit) >>= without_far_key)
     by (Ok t) k m =
-        let there = reaches_reaches (fresh text) from t.core.cursor a
+        let there = reaches_reaches (start_cursor text) from t.core.cursor a
         (taken_reached columns from t.core t.queue k.fetched.taken) in
         by_test (nat_le t.core.cursor.mark.index limit) _ _
-        (λ r. HoldsOrRefuses NotedState (fresh text) (r >>= without_far_key))
+        (λ r. HoldsOrRefuses NotedState (start_cursor text) (r >>= without_far_key))
         (λ _. settled_told text t there m)
-        (λ _. at_further (fresh text) t.core.cursor t.core.cursor.mark there (at_here t.core.cursor))
+        (λ _. at_further (start_cursor text) t.core.cursor t.core.cursor.mark there (at_here t.core.cursor))
     by (Err e) k m = m

@@ -8,7 +8,7 @@ use Rattle.saphyr_scalar.specs.Views.Cursor.{Cursor}
 use Rattle.scalar_values.specs.Flow.{plain_value}
 use Rattle.scalar_values.specs.Folding.{folded}
 use Rattle.saphyr_scalar.proofs.Directives.LowBytes.{begins}
-use Rattle.saphyr_scalar.proofs.Plain.Runs.{items, folded_word}
+use Rattle.saphyr_scalar.proofs.Plain.Runs.{items_of, folded_word}
 use Rattle.saphyr_scanner.specs.TokensTaken.{IsPlainToken}
 
 white_is_low : (b : ℕ) → is_blank_or_break b ≡ true → b < 128
@@ -34,8 +34,8 @@ value_begins_as_piece [] [] others last rest value e is ink v = absurd (cc)
 value_begins_as_piece [] (x ∷ xs) others last rest value e is ink v = absurd (cc)
 value_begins_as_piece (c ∷ cs) front others last rest value e is ink v =
     let first : is_blank_or_break c ≡ false = sym (ap (λ l. is_blank_or_break (slice_index l 0)) is) ∙ ink in
-    let told : folded (items (c ∷ cs)) ≡ c ∷ folded (items cs) = folded_word (c ∷ []) cs (first, tt) in
-    first_byte c (folded (items cs)) value first (sym (ap encode_utf8_all told) ∙ v)
+    let told : folded (items_of (c ∷ cs)) ≡ c ∷ folded (items_of cs) = folded_word (c ∷ []) cs (first, tt) in
+    first_byte c (folded (items_of cs)) value first (sym (ap encode_utf8_all told) ∙ v)
 
 pub plain_value_ink : (value : List ℕ) (span : Span) (s t : Cursor) → IsPlainToken value span s t
     → is_blank_or_break (slice_index value 0) ≡ false

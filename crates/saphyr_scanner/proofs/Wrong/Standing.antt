@@ -4,7 +4,7 @@ use Rattle.std.specs.Prelude.{◌||◌, ◌==◌, slice_index}
 use Rattle.std.specs.List.{list_any}
 use Rattle.std.proofs.lemmas.List.{take-append-drop, length-append}
 use Rattle.saphyr_scalar.specs.declared.scalar.position.Marker.{Marker}
-use Rattle.saphyr_scalar.specs.Views.Cursor.{Cursor, fresh}
+use Rattle.saphyr_scalar.specs.Views.Cursor.{Cursor, start_cursor}
 use Rattle.saphyr_scalar.specs.Steps.Quoted.{break_len}
 use Rattle.saphyr_input.specs.Classes.{byte_order_mark}
 use Rattle.saphyr_scanner.specs.Views.Tokens.{Piece}
@@ -19,27 +19,29 @@ pub record StandsReached (text : List ℕ) (p : Piece) : Type 0 where
   pub indent : ℕ
   pub here : Cursor
   pub behind : Cursor
-  pub reached : Reaches (fresh text) here
+  pub reached : Reaches (start_cursor text) here
   pub is : IsToken indent p.kind p.span here behind
 
 abbrev pub AllStand : List ℕ → List Piece → Type 0
 AllStand text [] = Unit {0}
 AllStand text (p ∷ ps) = StandsReached text p × AllStand text ps
 
-tokens_stand_from : (text columns : List ℕ) (ps : List Piece) (s u : Cursor) → Reaches (fresh text) s
+tokens_stand_from : (text columns : List ℕ) (ps : List Piece) (s u : Cursor) → Reaches (start_cursor text) s
     → AreTokens columns ps s u → AllStand text ps
 tokens_stand_from text columns [] s u r h = tt
 tokens_stand_from text columns (p ∷ ps) s u r h =
     let i = least_column_in columns in
-    let a = reaches_reaches (fresh text) s h.0 r (apart_reached s.mark s.rest h.0.mark h.0.rest h.2) in
-    let b = reaches_reaches (fresh text) h.0 h.1 a (token_reached i p.kind p.span h.0 h.1 h.3) in (
+    let a = reaches_reaches (start_cursor text) s h.0 r (apart_reached s.mark s.rest h.0.mark h.0.rest h.2) in
+    let b = reaches_reaches (start_cursor text) h.0 h.1 a (token_reached i p.kind p.span h.0 h.1 h.3) in (
       record { indent = i; here = h.0; behind = h.1; reached = a; is = h.3 },
       tokens_stand_from text
           (open_behind p.kind p.span.start.col columns) ps h.1 u b h.4,
     )
 
-pub tokens_stand : (text : List ℕ) (ps : List Piece) (u : Cursor) → AreTokens [] ps (fresh text) u → AllStand text ps
-tokens_stand text ps u h = tokens_stand_from text [] ps (fresh text) u (taken.nothing (fresh text).mark text) h
+pub tokens_stand : (text : List ℕ) (ps : List Piece) (u : Cursor) → AreTokens [] ps (start_cursor text) u
+    → AllStand text ps
+tokens_stand text ps u h = tokens_stand_from text [] ps (start_cursor text) u
+    (taken.nothing (start_cursor text).mark text) h
 
 pub front_stands : (text : List ℕ) (ps qs : List Piece) → AllStand text (ps ++ qs) → AllStand text ps
 front_stands text [] qs h = tt
@@ -62,10 +64,10 @@ reached_behind _ t n u (taken.line_break m _ _ _ e p) =
     )
 
 -- at the text's start all of it stands
-pub at_origin : (text : List ℕ) (u : Cursor) → Reaches (fresh text) u → u.mark.index ≡ 0 → u.rest ≡ text
+pub at_origin : (text : List ℕ) (u : Cursor) → Reaches (start_cursor text) u → u.mark.index ≡ 0 → u.rest ≡ text
 at_origin text u r e =
     let b = reached_behind _ text u.mark u.rest r in
-    let count = reached_counted (fresh text).mark text u.mark u.rest r in
+    let count = reached_counted (start_cursor text).mark text u.mark u.rest r in
     by b.0 b.1 (let l = length-append b.0 u.rest in let k = ap length b.1 in omega (arith, l, k, count, e))
   where
     by : (front : List ℕ) → text ≡ front ++ u.rest → length front ≡ 0 → u.rest ≡ text

@@ -3,7 +3,7 @@ use Rattle.std.specs.Prelude.{ℕ, ◌+◌, ◌-◌, Bool, true, false, ◌&&◌
 use Rattle.saphyr_scalar.specs.declared.scalar.position.Marker.{Marker}
 use Rattle.saphyr_scalar.specs.declared.scalar.fault.Refusal.{Refusal}
 use Rattle.saphyr_scalar.specs.declared.scalar.fault.FaultText.TheVariants as fault
-use Rattle.saphyr_scalar.specs.Views.Cursor.{Cursor, fresh, refuse}
+use Rattle.saphyr_scalar.specs.Views.Cursor.{Cursor, start_cursor, refuse}
 use Rattle.saphyr_scanner.specs.declared.engine.level.Context.{Context}
 use Rattle.saphyr_scanner.specs.declared.queue.Opening.{Opening}
 use Rattle.saphyr_scanner.specs.Grammar.Tokens.{Kind}
@@ -31,7 +31,7 @@ pub record Core : Type 0 where
 abbrev pub core_at_start : List ℕ → Core
 core_at_start text =
     record {
-      cursor = fresh text;
+      cursor = start_cursor text;
       level = at_root;
       outer = [];
       required = false;

@@ -15,8 +15,8 @@ use Rattle.saphyr_scalar.specs.Steps.Block.{chomping, indicator, header_break, h
 use Rattle.saphyr_scalar.specs.Reading.BlockText.{digit_of, chomping_of, AreIndicators, IsBreakBefore, EndsHeader, IsHeaderLine}
 use Rattle.saphyr_scalar.specs.Views.Cursor.{Cursor, pass, pass_blanks, pass_break, separation, behind_separation}
 use Rattle.saphyr_scalar.specs.Spelling.Directive.{IsLineTail}
-use Rattle.saphyr_scalar.proofs.Block.Reads.{then_gave, gave, refused, same_gift}
-use Rattle.saphyr_scalar.proofs.Directives.TailsSpelled.{line_of}
+use Rattle.saphyr_scalar.proofs.Block.Reads.{then_gave, gave, refused_gave, same_gift}
+use Rattle.saphyr_scalar.proofs.Directives.TailsSpelled.{tail_line_of}
 use Rattle.saphyr_scalar.proofs.Quoted.Inside.{break_cases}
 use Rattle.saphyr_scalar.proofs.Properties.TagsSpelled.{cut_at}
 use Rattle.saphyr_input.proofs.Basics.Booleans.{and_true_left, and_true_right, by_test}
@@ -59,7 +59,7 @@ indicator_told start s x =
     by_test (not (is_digit c)) _ _ (λ r. r ≡ gave x → Digit s x)
     (λ _ e. subst (Digit s) (same_gift (0, s) x e) (record { few = omega arith; is = refl }))
     (λ d. by_test (c == 48) _ _ (λ r. r ≡ gave x → Digit s x)
-    (λ _ e. refused _ x e)
+    (λ _ e. refused_gave _ x e)
     (λ z e. let v = digit_value c d z in
     subst (Digit s) (same_gift (c - 48, pass 1 s) x e)
     (record { few = v.1; is = digit_here s c (c - 48) refl v.2 v.0 })))
@@ -136,9 +136,9 @@ break_told : (start : Marker) (s u : Cursor) → header_break start s ≡ Ok u �
 unfolding header_break
 break_told start s u =
     by_test (not (is_breakz (slice_index s.rest 0))) _ _ (λ r. r ≡ gave u → Ended s.rest u.rest)
-    (λ _ e. refused _ u e)
+    (λ _ e. refused_gave _ u e)
     (λ h. by_test (slice_index (pass_break s).rest 0 == tab) _ _ (λ r. r ≡ gave u → Ended s.rest u.rest)
-    (λ _ e. refused _ u e)
+    (λ _ e. refused_gave _ u e)
     (λ t e. subst (λ (v : Cursor). Ended s.rest v.rest) (same_gift (pass_break s) u e)
     (break_ended s (not-false _ h) t)))
 
@@ -148,20 +148,20 @@ unfolding separation behind_separation
 separation_left s x =
     let t = pass_blanks (separation_len Yes s.rest) s in
     by_test (nat_lt 0 t.mark.col && is_bom (slice_index t.rest 0)) _ _ (λ r. r ≡ gave x → t ≡ x.1)
-    (λ _ e. refused _ x e)
+    (λ _ e. refused_gave _ x e)
     (λ _. by_test (is_bare_comment Yes s.rest) _ _ (λ r. r ≡ gave x → t ≡ x.1)
-    (λ _ e. refused _ x e)
+    (λ _ e. refused_gave _ x e)
     (λ _ e. ap (λ (y : SkipTabs × Cursor). y.1) (same_gift (found_blanks Yes s.rest, t) x e)))
 
-abbrev Line : List ℕ → List ℕ → Type 0
-Line xs behind = (tail : List ℕ) × (end : List ℕ) × IsLineTail tail × EndsHeader behind end
+abbrev IsHeaderTail : List ℕ → List ℕ → Type 0
+IsHeaderTail xs behind = (tail : List ℕ) × (end : List ℕ) × IsLineTail tail × EndsHeader behind end
     × (xs ≡ tail ++ (end ++ behind))
 
-end_told : (start : Marker) (s u : Cursor) → header_end start s ≡ Ok u → Line s.rest u.rest
+end_told : (start : Marker) (s u : Cursor) → header_end start s ≡ Ok u → IsHeaderTail s.rest u.rest
 unfolding header_end
 end_told start s u e =
     let w = then_gave (separation Yes s) (λ x. header_break start x.1) u e in
-    let l = line_of s.mark s.rest in
+    let l = tail_line_of s.mark s.rest in
     let b = break_told start w.0.1 u w.2 in
     let left : drop (separation_len Yes s.rest) s.rest ≡ b.0 ++ u.rest =
     ap (λ (t : Cursor). t.rest) (separation_left s w.0 w.1) ∙ b.2 in

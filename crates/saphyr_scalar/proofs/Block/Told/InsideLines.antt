@@ -7,7 +7,7 @@ use Rattle.saphyr_input.specs.Places.{is_document_indicator}
 use Rattle.scalar_values.specs.declared.block.BlockStyle.{BlockStyle}
 use Rattle.saphyr_scalar.specs.declared.scalar.block.lines.EmptyLines.{EmptyLines}
 use Rattle.saphyr_scalar.specs.declared.scalar.position.Marker.{Marker}
-use Rattle.saphyr_scalar.specs.Steps.Block.{is_indentation, is_cr_lf, inside_break, one_more, pass_empty_lines, line_starts, LinesRead, between, line}
+use Rattle.saphyr_scalar.specs.Steps.Block.{is_indentation, is_cr_lf, inside_break, with_empty_line, pass_empty_lines, line_starts, LinesRead, between, line}
 use Rattle.saphyr_scalar.specs.Reading.BlockText.{AreInside}
 use Rattle.saphyr_scalar.specs.Views.Cursor.{Cursor, along, next_line}
 use Rattle.saphyr_scalar.proofs.Quoted.Inside.{break_cases}
@@ -126,7 +126,7 @@ empty_inside limit before b m (c ∷ cs) rest =
     (λ e w. a_return (At m) _ c cs rest e (empty_inside limit before b (inside_break m) cs rest w))
     (λ _. by_test (is_break c) _ _ P
     (λ e w. a_break (At m) (At (next_line m 1)) c cs rest e refl
-    (empty_inside limit (one_more before m.col) true (next_line m 1) cs rest w)) (λ _ w. w)))
+    (empty_inside limit (with_empty_line before m.col) true (next_line m 1) cs rest w)) (λ _ w. w)))
 
 mutual
   unfolding between line

@@ -15,21 +15,21 @@ use Rattle.saphyr_scalar.specs.declared.scalar.position.Span.{Span}
 use Rattle.saphyr_scalar.specs.Steps.BlockRead as step
 use Rattle.saphyr_scalar.specs.Steps.BlockRead.{indentation_of}
 use Rattle.scalar_values.specs.Block.{Line, Empty, has_content, line_of, lines_of}
-use Rattle.saphyr_scalar.specs.Steps.Block.{line_starts, pass_empty_lines_at, no_lines, given_indentation, widened, chomped_lines, content, behind_leading_lines, behind_header, block_scalar, header}
+use Rattle.saphyr_scalar.specs.Steps.Block.{line_starts, pass_empty_lines_at, no_lines, given_indentation, with_column, chomped_lines, content, behind_leading_lines, behind_header, block_scalar, header}
 use Rattle.saphyr_scalar.specs.Reading.BlockText.{AreInside, HasNoContent, IsIndentationFrom, IsBehindLines, IsBlockText, IsHeaderLine}
 use Rattle.saphyr_scalar.specs.Views.Cursor.{Cursor}
 use Rattle.scalar_values.specs.Lines.{ended_lines, last_line}
 use Rattle.saphyr_scalar.specs.Passing as passing
 use Rattle.saphyr_scalar.specs.Passing.{IsPassed}
 use Rattle.saphyr_scalar.proofs.Block.Law.{Behind, Led, Read, led, nothing_led, behind_begun, behind_cut}
-use Rattle.saphyr_scalar.proofs.Block.Reads.{header_place, then_gave, gave, refused, same_gift}
+use Rattle.saphyr_scalar.proofs.Block.Reads.{header_place, then_gave, gave, refused_gave, same_gift}
 use Rattle.saphyr_scalar.proofs.Block.Texts.{spaces, plain_spaces, only_line, line_spaces}
 use Rattle.saphyr_scalar.proofs.Block.Told.HeaderLines.{header_line}
 use Rattle.saphyr_scalar.proofs.Block.Told.InsideLines.{Within, within_nothing, empty_inside, between_inside}
 use Rattle.saphyr_scalar.proofs.Block.Told.Widths.{indentation_told, indentation_at_end}
 use Rattle.saphyr_scalar.proofs.Block.Wholes.{empties}
 use Rattle.saphyr_scalar.proofs.Block.Placed.{empty_passes, between_passes}
-use Rattle.saphyr_scalar.proofs.Block.PlacedHeaders.{passed_passed, one_passed, Ends, header_ends}
+use Rattle.saphyr_scalar.proofs.Block.PlacedHeaders.{passed_passed, one_passed, EndsHeaderLine, header_ends}
 use Rattle.std.proofs.lemmas.Bool.{eqb-true}
 use Rattle.saphyr_input.proofs.Basics.Booleans.{by_test}
 use Rattle.saphyr_scalar.proofs.Given.{given_of}
@@ -64,22 +64,23 @@ ends_told i t e = record {
 
 -- ## Where the lines end, and where the span begins
 
-record Told (start : Marker) (x : EmptyLines × Cursor) (y : Read) : Type 0 where
+record LinesTold (start : Marker) (x : EmptyLines × Cursor) (y : Read) : Type 0 where
   inside : Within (x.1.mark.col ≡ 0) x.1.rest y.2.rest
   passes : IsPassed x.1.mark x.1.rest y.2.mark y.2.rest
   begins : (y.1.start ≡ start) ⊎ ((y.1.start ≡ x.1.mark) × (is_z (slice_index x.1.rest 0) ≡ false))
 
 leading_told : (style : BlockStyle) (indent : ℕ) (start : Marker) (c : Chomping) (limit : Option ℕ)
-    (x : EmptyLines × Cursor) (y : Read) → behind_leading_lines style indent start c limit x ≡ Ok y → Told start x y
+    (x : EmptyLines × Cursor) (y : Read) → behind_leading_lines style indent start c limit x ≡ Ok y
+    → LinesTold start x y
 unfolding behind_leading_lines content chomped_lines
 leading_told style indent start c limit x y =
     let i = unwrap_or limit (max x.0.widest indent) in
-    by_test (is_z (slice_index x.1.rest 0)) _ _ (λ r. r ≡ gave y → Told start x y)
-    (λ _ e. subst (Told start x) (same_gift _ y e)
+    by_test (is_z (slice_index x.1.rest 0)) _ _ (λ r. r ≡ gave y → LinesTold start x y)
+    (λ _ e. subst (LinesTold start x) (same_gift _ y e)
     (record { inside = within_nothing _ x.1.rest; passes = passing.nothing x.1.mark x.1.rest; begins = inl refl }))
-    (λ some. by_test (nat_lt x.1.mark.col i && nat_le indent x.1.mark.col) _ _ (λ r. r ≡ gave y → Told start x y)
-    (λ _ e. refused _ y e)
-    (λ _ e. subst (Told start x) (same_gift _ y e)
+    (λ some. by_test (nat_lt x.1.mark.col i && nat_le indent x.1.mark.col) _ _ (λ r. r ≡ gave y → LinesTold start x y)
+    (λ _ e. refused_gave _ y e)
+    (λ _ e. subst (LinesTold start x) (same_gift _ y e)
     (record {
       inside = between_inside style i _ x.0.count x.1.blank_so_far x.1.mark x.1.rest;
       passes =
@@ -126,7 +127,8 @@ same_lines A xs rest lines e starts h w =
     subst (λ t. AreInside starts t rest) same (w.inside starts h)
 
 -- what was read behind the header, and where the span begins
-record Parts (style : BlockStyle) (indent : ℕ) (s : Cursor) (h : BlockHeader) (first : List ℕ) (u : Cursor) (y : Read) :
+record BlockParts (style : BlockStyle) (indent : ℕ) (s : Cursor) (h : BlockHeader) (first : List ℕ) (u : Cursor)
+    (y : Read) :
     Type 0 where
   i : ℕ
   own : Behind style h.chomping i u y.0 y.2
@@ -141,7 +143,7 @@ record Parts (style : BlockStyle) (indent : ℕ) (s : Cursor) (h : BlockHeader) 
 
 put_together : (style : BlockStyle) (indent : ℕ) (s : Cursor) (h : BlockHeader) (first : List ℕ) (u t : Cursor)
     (text : List ℕ) (span : Span) → s.rest ≡ first ++ u.rest → IsHeaderLine h.indicator h.chomping u.rest first
-    → Parts style indent s h first u (text, span, t)
+    → BlockParts style indent s h first u (text, span, t)
     → IsBlockText style indent s text span.start t
 put_together style indent s h first u t text span e l p = record {
   digit = h.indicator;
@@ -165,12 +167,13 @@ put_together style indent s h first u t text span e l p = record {
 }
 
 -- behind a header's line
-at_line : (style : BlockStyle) (indent : ℕ) (s : Cursor) (h : BlockHeader) (first : List ℕ) (u : Cursor) (y : Read)
+behind_header_line : (style : BlockStyle) (indent : ℕ) (s : Cursor) (h : BlockHeader) (first : List ℕ) (u : Cursor)
+    (y : Read)
     → s.rest ≡ first ++ u.rest → IsPassed s.mark s.rest u.mark u.rest → u.mark.col ≡ 0 → u.blank_so_far ≡ true
     → behind_header style indent s.mark (h, u) ≡ Ok y
-    → Parts style indent s h first u y
+    → BlockParts style indent s h first u y
 unfolding behind_header
-at_line style indent s h first u y e p col blank is =
+behind_header_line style indent s h first u y e p col blank is =
     let limit = given_indentation indent h.indicator in
     let x = pass_empty_lines_at limit no_lines u in
     let i = indentation_of indent h u in
@@ -230,13 +233,13 @@ no_lines_at_end xs rest z (c ∷ cs) e h =
 whole_at_end : (style : BlockStyle) (indent : ℕ) (s : Cursor) (h : BlockHeader) (first : List ℕ) (u : Cursor) (y : Read)
     → s.rest ≡ first ++ u.rest → IsPassed s.mark s.rest u.mark u.rest → is_z (slice_index u.rest 0) ≡ true
     → u.blank_so_far ≡ false → behind_header style indent s.mark (h, u) ≡ Ok y
-    → Parts style indent s h first u y
+    → BlockParts style indent s h first u y
 unfolding behind_header
 whole_at_end style indent s h first u y e p z blank is =
     let limit = given_indentation indent h.indicator in
     let x = pass_empty_lines_at limit no_lines u in
     let found = indentation_at_end indent h.indicator u.rest z in
-    let cut : behind_leading_lines style indent s.mark h.chomping limit (widened no_lines u.mark.col, u) ≡ Ok y =
+    let cut : behind_leading_lines style indent s.mark h.chomping limit (with_column no_lines u.mark.col, u) ≡ Ok y =
     ap (behind_leading_lines style indent s.mark h.chomping limit) (sym (nothing_led limit u z)) ∙ is in
     let own = behind_cut style indent s.mark h.chomping found.0 limit u y z blank cut in
     let told = leading_told style indent s.mark h.chomping limit x y is in
@@ -272,10 +275,10 @@ unfolding block_scalar
 block_text style indent s t text span b some e =
     let w = then_gave (header s) (behind_header style indent s.mark) (text, span, t) e in
     let l = header_line s w.0 some w.1 in
-    let p = (given_of (λ (y : BlockHeader × Cursor). Ends s y.1) (header s) w.0
+    let p = (given_of (λ (y : BlockHeader × Cursor). EndsHeaderLine s y.1) (header s) w.0
     (header_ends s (one_passed s b (omega (arith, some)))) w.1).passes in
     put_together style indent s w.0.0 l.0 w.0.1 t text span l.1 l.2
     (elim (header_place s w.0 w.1) [
-      | inl q ↦ at_line style indent s w.0.0 l.0 w.0.1 (text, span, t) l.1 p q.0 q.1 w.2
+      | inl q ↦ behind_header_line style indent s w.0.0 l.0 w.0.1 (text, span, t) l.1 p q.0 q.1 w.2
       | inr q ↦ whole_at_end style indent s w.0.0 l.0 w.0.1 (text, span, t) l.1 p q.0 q.1 w.2
     ])

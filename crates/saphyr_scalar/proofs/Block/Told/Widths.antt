@@ -7,11 +7,11 @@ use Rattle.saphyr_input.specs.Breaks.{normalized}
 use Rattle.saphyr_input.specs.Classes.{is_break, is_z}
 use Rattle.saphyr_scalar.specs.declared.scalar.block.lines.EmptyLines.{EmptyLines}
 use Rattle.saphyr_scalar.specs.declared.scalar.position.Marker.{Marker}
-use Rattle.saphyr_scalar.specs.Steps.Block.{there, is_cr_lf, inside_break, widened, one_more, pass_empty_lines, pass_empty_lines_at, no_lines, given_indentation}
+use Rattle.saphyr_scalar.specs.Steps.Block.{line_cursor, is_cr_lf, inside_break, with_column, with_empty_line, pass_empty_lines, pass_empty_lines_at, no_lines, given_indentation}
 use Rattle.saphyr_scalar.specs.Reading.BlockText.{all_lines, widest, is_space_or_break, IsIndentationFrom}
 use Rattle.saphyr_scalar.specs.Views.Cursor.{Cursor, along, next_line}
 use Rattle.saphyr_scalar.specs.Spelling.Tag.{AreIn}
-use Rattle.saphyr_scalar.proofs.Block.Texts.{spaces, spaces_more, plain_spaces, first_line, only_line, normal_half, normal_break}
+use Rattle.saphyr_scalar.proofs.Block.Texts.{spaces, spaces_more, plain_spaces, first_line, only_line, normal_half, normalized_break}
 use Rattle.saphyr_input.proofs.Basics.Booleans.{and_true_left, or_false_right, by_test}
 use Rattle.std.proofs.lemmas.Bool.{eqb-true, or_right}
 
@@ -34,7 +34,7 @@ record Width (j : ℕ) (before : EmptyLines) (xs : List ℕ) (r : EmptyLines × 
   width : r.0.widest ≡ max before.widest (widest (all_lines (spaces j ++ normalized leading)))
 
 width_stop : (before : EmptyLines) (b : Bool) (m : Marker) (xs : List ℕ) → is_space_or_break (slice_index xs 0) ≡ false
-    → Width m.col before xs (widened before m.col, there b m xs)
+    → Width m.col before xs (with_column before m.col, line_cursor b m xs)
 width_stop before b m xs h =
     record { leading = []; is = refl; are = tt; stops = h; width = ap (max before.widest) (sym (lone m.col)) }
 
@@ -63,7 +63,7 @@ width_half j x before cs r e b w = record {
     broken = or_right (x == 32) (is_break x) b
 
 width_break : (j x : ℕ) (before : EmptyLines) (cs : List ℕ) (r : EmptyLines × Cursor) → is_cr_lf x cs ≡ false
-    → is_break x ≡ true → Width 0 (one_more before j) cs r → Width j before (x ∷ cs) r
+    → is_break x ≡ true → Width 0 (with_empty_line before j) cs r → Width j before (x ∷ cs) r
 width_break j x before cs r e b w = record {
   leading = x ∷ w.leading;
   is = ap (λ t. x ∷ t) w.is;
@@ -72,7 +72,7 @@ width_break j x before cs r e b w = record {
   width =
       let others = widest (all_lines (normalized w.leading)) in
       let told : widest (all_lines (spaces j ++ normalized (x ∷ w.leading))) ≡ max j others =
-      ap (λ t. widest (all_lines (spaces j ++ t))) (normal_break x cs w.leading r.1.rest e b w.is)
+      ap (λ t. widest (all_lines (spaces j ++ t))) (normalized_break x cs w.leading r.1.rest e b w.is)
       ∙ one_line_more j (normalized w.leading) in
       let own : r.0.widest ≡ max (max before.widest j) others = w.width in
       rw told (omega (arith, own));
@@ -94,7 +94,7 @@ widths before b m (x ∷ cs) =
     (λ h0. by_test (is_cr_lf x cs) _ _ (Width m.col before (x ∷ cs))
     (λ h. width_half m.col x before cs _ h (half_breaks x cs h) (widths before b (inside_break m) cs))
     (λ h1. by_test (is_break x) _ _ (Width m.col before (x ∷ cs))
-    (λ h. width_break m.col x before cs _ h1 h (widths (one_more before m.col) true (next_line m 1) cs))
+    (λ h. width_break m.col x before cs _ h1 h (widths (with_empty_line before m.col) true (next_line m 1) cs))
     (λ h2. width_stop before b m (x ∷ cs) (rw (h0, h2) refl))))
 
 -- at the start of a line

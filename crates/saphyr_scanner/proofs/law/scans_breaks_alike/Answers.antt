@@ -3,7 +3,7 @@ use Rattle.saphyr_input.specs.Classes.{is_break}
 use Rattle.scalar_values.specs.declared.block.BlockStyle.{BlockStyle}
 use Rattle.scalar_values.specs.declared.block.BlockStyle.TheVariants as block_style
 use Rattle.saphyr_scalar.specs.Views.Cursor.{along}
-use Rattle.saphyr_scalar.specs.Steps.Quoted.{at}
+use Rattle.saphyr_scalar.specs.Steps.Quoted.{mid_line}
 use Rattle.saphyr_scalar.specs.declared.scalar.position.Marker.{Marker}
 use Rattle.saphyr_scanner.specs.TokensTaken.{block_indicator}
 use Rattle.saphyr_scanner.proofs.Breaks.Cores.{Laws}
@@ -17,7 +17,7 @@ some_indicator style (x ∷ xs) e = omega arith
 some_indicator block_style.Literal [] e = absurd (omega (arith, e))
 some_indicator block_style.Folded [] e = absurd (omega (arith, e))
 
-at_one : (m : Marker) (n : ℕ) (t : List ℕ) → at (along m (1 + n)) t ≡ at (along m (suc n)) t
+at_one : (m : Marker) (n : ℕ) (t : List ℕ) → mid_line (along m (1 + n)) t ≡ mid_line (along m (suc n)) t
 at_one m n t = let one : 1 + n ≡ suc n = omega arith in rw one refl
 
 pub returns : goal.returns

@@ -19,8 +19,8 @@ returns-in_err-tabbed g c =
     (λ r h. sym inv.same
     ∙ gap_refused f i start text text here here r (none_moved f text here inv.ended inv.on_line) h)
 
-pub returns-in_err-plain_goes_on : goal.returns-in_err-plain_goes_on
-returns-in_err-plain_goes_on g c =
+pub returns-in_err-next_plain_word_starts : goal.returns-in_err-next_plain_word_starts
+returns-in_err-next_plain_word_starts g c =
     let f = c.args.in_flow in
     let i = c.args.indent in
     let start = c.args.start in
@@ -33,8 +33,8 @@ returns-in_err-plain_goes_on g c =
       moved = none_moved f text here inv.ended inv.on_line;
       is = c.in_ok-tabbed.ensures;
     } in
-    moves_refused _ _ _ _ c.from_residual-in_err-plain_goes_on.ensures.1
-    (sym inv.same ∙ turn_refused f i start text text here here gap _ moved c.in_err-plain_goes_on.ensures)
+    moves_refused _ _ _ _ c.from_residual-in_err-next_plain_word_starts.ensures.1
+    (sym inv.same ∙ turn_refused f i start text text here here gap _ moved c.in_err-next_plain_word_starts.ensures)
 
 pub returns-then-not-branch : goal.returns-then-not-branch
 returns-then-not-branch g c =
@@ -45,14 +45,15 @@ returns-then-not-branch g c =
     let text = string_bytes c.loop-gap.text in
     let inv = c.loop-gap.invariant in
     let behind = cursor_of c.read_plain_gap.new.self in
-    let there = cursor_of c.plain_goes_on.new.self in
+    let there = cursor_of c.next_plain_word_starts.new.self in
     let gap = spec.seen_word_gap c.in_ok-tabbed.tabbed (string_bytes c.read_plain_gap.new.gap) behind in
     let moved : GapMoved f i start text text here here gap = record {
       moved = none_moved f text here inv.ended inv.on_line;
       is = c.in_ok-tabbed.ensures;
     } in
-    let over : spec.goes_on f i behind ≡ Ok (false, there) = subst
-    (λ (b : Bool). spec.goes_on f i behind ≡ Ok (b, there)) c.if-not-branch.true c.in_ok-plain_goes_on.ensures in
+    let over : spec.next_word_starts f i behind ≡ Ok (false, there) = subst
+    (λ (b : Bool). spec.next_word_starts f i behind ≡ Ok (b, there)) c.if-not-branch.true
+    c.in_ok-next_plain_word_starts.ensures in
     sym inv.same ∙ no_turn f i start text text here here gap there moved over
     ∙ ap (λ x. Ok (text, here.mark, x, there)) (sym c.plain_comment-comment.ensures.value)
     ∙ ap (λ x. Ok (text, here.mark, c.plain_comment-comment.result, x)) (sym c.plain_comment-comment.ensures.same)
@@ -64,10 +65,11 @@ loop-gap-smaller g c =
     let start = c.args.start in
     let here = cursor_of c.loop-gap.self in
     let behind = cursor_of c.read_plain_gap.new.self in
-    let there = cursor_of c.plain_goes_on.new.self in
+    let there = cursor_of c.next_plain_word_starts.new.self in
     let gap = spec.seen_word_gap c.in_ok-tabbed.tabbed (string_bytes c.read_plain_gap.new.gap) behind in
-    let goes : spec.goes_on f i behind ≡ Ok (true, there) = subst
-    (λ (b : Bool). spec.goes_on f i behind ≡ Ok (b, there)) c.if-not-branch.false c.in_ok-plain_goes_on.ensures in
+    let goes : spec.next_word_starts f i behind ≡ Ok (true, there) = subst
+    (λ (b : Bool). spec.next_word_starts f i behind ≡ Ok (b, there)) c.if-not-branch.false
+    c.in_ok-next_plain_word_starts.ensures in
     let end = gap_end i start here gap c.in_ok-tabbed.ensures in
     let same : length there.rest ≡ length behind.rest =
     ap (λ (x : Cursor). length x.rest) (goes_says f i true behind there goes).same in
@@ -83,14 +85,15 @@ loop-gap-preserved g c =
     let text = string_bytes c.loop-gap.text in
     let inv = c.loop-gap.invariant in
     let behind = cursor_of c.read_plain_gap.new.self in
-    let there = cursor_of c.plain_goes_on.new.self in
+    let there = cursor_of c.next_plain_word_starts.new.self in
     let gap = spec.seen_word_gap c.in_ok-tabbed.tabbed (string_bytes c.read_plain_gap.new.gap) behind in
     let moved : GapMoved f i start text text here here gap = record {
       moved = none_moved f text here inv.ended inv.on_line;
       is = c.in_ok-tabbed.ensures;
     } in
-    let goes : spec.goes_on f i behind ≡ Ok (true, there) = subst
-    (λ (b : Bool). spec.goes_on f i behind ≡ Ok (b, there)) c.if-not-branch.false c.in_ok-plain_goes_on.ensures in
+    let goes : spec.next_word_starts f i behind ≡ Ok (true, there) = subst
+    (λ (b : Bool). spec.next_word_starts f i behind ≡ Ok (b, there)) c.if-not-branch.false
+    c.in_ok-next_plain_word_starts.ensures in
     let joined = c.in_ok-push_gap.ensures ∙ ap (λ b. text ++ spec.gap_text there.blank_so_far b) c.as_str.ensures.value
     ∙ ap (λ (x : Cursor). text ++ spec.gap_text x.blank_so_far (string_bytes c.read_plain_gap.new.gap))
     (goes_says f i true behind there goes).same in

@@ -1,5 +1,5 @@
 use Rattle.std.proofs.Common.{◌≡◌, false, length, string_bytes}
-use Rattle.saphyr_scalar.specs.Steps.Plain.{in_word, with_text, word}
+use Rattle.saphyr_scalar.specs.Steps.Plain.{is_in_word, with_text, word}
 use Rattle.saphyr_scalar.specs.Views.Reader.{cursor_of}
 use Rattle.saphyr_scalar.proofs.scalar.reader.Reader.read_plain_rest.Given as goal
 
@@ -9,7 +9,7 @@ invariant-loop-gap g l = record {
       (word l.in_flow l.indent l.start (cursor_of l.self).mark (cursor_of l.self).rest)
       ≡ with_text (string_bytes l.fn.text)
       (word l.in_flow l.indent l.start (cursor_of l.fn.self).mark (cursor_of l.fn.self).rest);
-  ended : in_word l.in_flow (cursor_of l.self).rest ≡ false;
+  ended : is_in_word l.in_flow (cursor_of l.self).rest ≡ false;
   on_line : (cursor_of l.self).blank_so_far ≡ false;
 }
 

@@ -1,7 +1,7 @@
 use Rattle.std.proofs.Common.{◌≡◌, ◌+◌, true, false, drop, slice_index, string_bytes, refl, sym, ap, ◌∙◌, arith, subst}
 use Rattle.saphyr_scalar.specs.declared.scalar.position.Marker.{Marker}
 use Rattle.saphyr_scalar.specs.Views.Cursor.{Cursor, along}
-use Rattle.saphyr_scalar.specs.Steps.Plain.{in_word}
+use Rattle.saphyr_scalar.specs.Steps.Plain.{is_in_word}
 use Rattle.saphyr_scalar.specs.Views.Reader.{cursor_of}
 use Rattle.saphyr_scalar.proofs.Plain.SingleSpaces.{WordsRan, none_ran, words_ran, colon_ran, words_done}
 use Rattle.saphyr_scalar.proofs.scalar.reader.Reader.read_plain_words.Goals as goal
@@ -31,7 +31,7 @@ overflow_add-count-in-loop-count g c =
     let same = c.is_in_plain_word.ensures.same ∙ c.look-c.ensures.same in
     let ran_here = subst (λ (x : Cursor). WordsRan f (string_bytes c.args.text.now)
     (string_bytes c.fetch_plain_words.new.text) start x n) (sym same) ran in
-    let goes : in_word f here.rest ≡ true = ap (λ (s : Cursor). in_word f s.rest) c.is_in_plain_word.ensures.same
+    let goes : is_in_word f here.rest ≡ true = ap (λ (s : Cursor). is_in_word f s.rest) c.is_in_plain_word.ensures.same
     ∙ sym c.is_in_plain_word.ensures.value ∙ c.if-not-is_in_plain_word.false in
     let more = colon_ran f _ _ _ start here (record here { rest = drop 1 here.rest }) n c.look-c.result ran_here goes
     (c.look-c.ensures.value ∙ ap (λ (s : Cursor). slice_index s.rest 0) (sym same)) refl refl refl in
@@ -49,7 +49,7 @@ loop-count-smaller g c =
     let same = c.is_in_plain_word.ensures.same ∙ c.look-c.ensures.same in
     let ran_here = subst (λ (x : Cursor). WordsRan f (string_bytes c.args.text.now)
     (string_bytes c.fetch_plain_words.new.text) start x n) (sym same) ran in
-    let goes : in_word f here.rest ≡ true = ap (λ (s : Cursor). in_word f s.rest) c.is_in_plain_word.ensures.same
+    let goes : is_in_word f here.rest ≡ true = ap (λ (s : Cursor). is_in_word f s.rest) c.is_in_plain_word.ensures.same
     ∙ sym c.is_in_plain_word.ensures.value ∙ c.if-not-is_in_plain_word.false in
     let more = colon_ran f _ _ _ start here (record here { rest = g.T.Input.rest c.skip.new.self }) n c.look-c.result
     ran_here goes (c.look-c.ensures.value ∙ ap (λ (s : Cursor). slice_index s.rest 0) (sym same)) refl
@@ -68,7 +68,7 @@ loop-count-preserved g c =
     let same = c.is_in_plain_word.ensures.same ∙ c.look-c.ensures.same in
     let ran_here = subst (λ (x : Cursor). WordsRan f (string_bytes c.args.text.now)
     (string_bytes c.fetch_plain_words.new.text) start x n) (sym same) ran in
-    let goes : in_word f here.rest ≡ true = ap (λ (s : Cursor). in_word f s.rest) c.is_in_plain_word.ensures.same
+    let goes : is_in_word f here.rest ≡ true = ap (λ (s : Cursor). is_in_word f s.rest) c.is_in_plain_word.ensures.same
     ∙ sym c.is_in_plain_word.ensures.value ∙ c.if-not-is_in_plain_word.false in
     colon_ran f _ _ _ start here _ n c.look-c.result ran_here goes
     (c.look-c.ensures.value ∙ ap (λ (s : Cursor). slice_index s.rest 0) (sym same)) c.in_ok-push.ensures.bytes
@@ -100,7 +100,8 @@ returns g c =
     let same = c.is_in_plain_word.ensures.same ∙ c.look-c.ensures.same in
     let ran_here = subst (λ (x : Cursor). WordsRan f (string_bytes c.args.text.now)
     (string_bytes c.fetch_plain_words.new.text) start x n) (sym same) ran in
-    let stops : in_word f here.rest ≡ false = ap (λ (s : Cursor). in_word f s.rest) c.is_in_plain_word.ensures.same
+    let stops : is_in_word f here.rest ≡ false =
+    ap (λ (s : Cursor). is_in_word f s.rest) c.is_in_plain_word.ensures.same
     ∙ sym c.is_in_plain_word.ensures.value ∙ c.if-not-is_in_plain_word.true in
     words_done f _ _ start here n c.along-self.result ran_here stops
     (c.along-self.ensures ∙ ap (λ m. along m n) ran_here.mark)

@@ -51,7 +51,7 @@ returns-clause-same g c =
     ap class.is_break (sym c.look-c.ensures.value) ∙ sym c.is_break.ensures.test ∙ c.if-is_break.false in
     let some : class.is_z (slice_index blanks.rest 0) ≡ false = ap class.is_z (sym c.look-c.ensures.value)
     ∙ sym c.is_z.ensures.test ∙ c.if-is_z.false in
-    ap (λ b. spec.with_front b (spec.inside_at a.quote a.indent a.start spec.no_gap there))
+    ap (λ b. spec.with_front b (spec.inner_text_at a.quote a.indent a.start spec.no_gap there))
     (c.in_ok-push_str.ensures.bytes ∙ ap (λ b. string_bytes a.text.now ++ b) c.as_str.ensures.value)
     ∙ blanks_to_word a.quote a.indent a.start (string_bytes a.text.now) grown here blanks there moved
     c.look-c.ensures.same goes some

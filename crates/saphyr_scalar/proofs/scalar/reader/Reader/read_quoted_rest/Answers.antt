@@ -17,7 +17,7 @@ returns g c =
     (λ (s : Cursor). IsTrue (spec.ends_word a.quote s.rest)) (sym same) c.in_ok-read_quoted_word.ensures.ended in
     let quote : slice_index here.rest 0 ≡ flow.mark a.quote = ap (λ (s : Cursor). slice_index s.rest 0) same
     ∙ sym c.look.ensures.value ∙ c.if-look-mark.true ∙ c.mark.ensures in
-    sym (ap (λ x. spec.with_front text (spec.inside_at a.quote a.indent a.start spec.no_gap x)) same
+    sym (ap (λ x. spec.with_front text (spec.inner_text_at a.quote a.indent a.start spec.no_gap x)) same
     ∙ c.in_ok-read_quoted_word.ensures.same a.indent ∙ c.loop-blanks.invariant)
     ∙ quote_closes a.quote a.indent a.start text here ended quote
     ∙ ap (λ s. let r : spec.TextRead = Ok (text, s) in r) (sym c.skip_non_blank.ensures)

@@ -25,7 +25,7 @@ returns-in_default-clause-same g c = λ indent.
     let moved = c.in_ok-read_literal_words.ensures in
     let none = gives (spec.special q c.args.start here) _ None there c.in_ok-c.ensures c.in_default.is in
     ap (λ x. spec.with_front (string_bytes c.read_literal_words.new.text)
-    (spec.inside_at q indent c.args.start spec.no_gap x)) (special_none q c.args.start here there none)
+    (spec.inner_text_at q indent c.args.start spec.no_gap x)) (special_none q c.args.start here there none)
     ∙ moved.same indent c.args.start ∙ c.loop-self.invariant.same indent
 
 pub returns-in_default-clause-ended : goal.returns-in_default-clause-ended

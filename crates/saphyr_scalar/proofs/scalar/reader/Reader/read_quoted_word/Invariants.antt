@@ -1,13 +1,13 @@
 use Rattle.std.proofs.Common.{◌≡◌, ℕ, ◌≤◌, length, string_bytes}
-use Rattle.saphyr_scalar.specs.Steps.Quoted.{with_front, inside_at, no_gap}
+use Rattle.saphyr_scalar.specs.Steps.Quoted.{with_front, inner_text_at, no_gap}
 use Rattle.saphyr_scalar.specs.Views.Reader.{cursor_of}
 use Rattle.saphyr_scalar.proofs.scalar.reader.Reader.read_quoted_word.Given as goal
 
 abbrev pub invariant-loop-self : goal.invariant-loop-self
 invariant-loop-self g l = record {
   same : (indent : ℕ) → with_front (string_bytes l.text)
-      (inside_at l.fn.quote indent l.fn.start no_gap (cursor_of l.self))
-      ≡ with_front (string_bytes l.fn.text) (inside_at l.fn.quote indent l.fn.start no_gap (cursor_of l.fn.self));
+      (inner_text_at l.fn.quote indent l.fn.start no_gap (cursor_of l.self))
+      ≡ with_front (string_bytes l.fn.text) (inner_text_at l.fn.quote indent l.fn.start no_gap (cursor_of l.fn.self));
   shorter : length (cursor_of l.self).rest ≤ length (cursor_of l.fn.self).rest;
 }
 

@@ -85,8 +85,8 @@ returns g c =
     (c.along-self.ensures ∙ ap (λ m. along m c.in_ok-count.count) c.fetch_bare_characters.ensures.mark) in
     let reached = ap (λ (s : Cursor). with_front grown (spec.decoded_at set start s)) same ∙ moved
     ∙ c.loop-count.invariant in
-    let ends : spec.has set (slice_index here.rest 0) ≡ false =
-    ap (λ (s : Cursor). spec.has set (slice_index s.rest 0)) same
+    let ends : spec.is_in_set set (slice_index here.rest 0) ≡ false =
+    ap (λ (s : Cursor). spec.is_in_set set (slice_index s.rest 0)) same
     ∙ bare_stops set _ _ c.in_ok-count.count _ _ c.in_ok-count.ensures.run
     (λ is. c.if-look-ne37.true (c.look.ensures.value ∙ is)) in
     sym reached ∙ characters_end set start grown here ends

@@ -13,7 +13,8 @@ loop-c-smaller g c =
     let here = cursor_of c.look-c.new.self in
     let goes : is_blank_or_break (slice_index here.rest 0) ≡ true =
     ap (λ (s : Cursor). is_blank_or_break (slice_index s.rest 0)) c.look-c.ensures.same
-    ∙ ap is_blank_or_break (sym c.look-c.ensures.value) ∙ sym c.is_white.ensures ∙ c.if-not-is_white.false in
+    ∙ ap is_blank_or_break (sym c.look-c.ensures.value) ∙ sym c.is_blank_or_break.ensures
+    ∙ c.if-not-is_blank_or_break.false in
     let past = past_of c.args.indent c.loop-c.tabbed (string_bytes c.loop-c.feeds) here _
     (string_bytes c.skip_plain_white.new.feeds) (cursor_of c.skip_plain_white.new.self) c.in_ok-tabbed.ensures in
     omega (
@@ -33,7 +34,7 @@ loop-c-preserved g c =
     let goes : is_blank_or_break (slice_index here.rest 0) ≡ true =
     ap (λ (s : Cursor). is_blank_or_break (slice_index s.rest 0)) same ∙ ap is_blank_or_break (sym
     c.look-c.ensures.value)
-    ∙ sym c.is_white.ensures ∙ c.if-not-is_white.false in
+    ∙ sym c.is_blank_or_break.ensures ∙ c.if-not-is_blank_or_break.false in
     let past = past_of c.args.indent c.loop-c.tabbed (string_bytes c.loop-c.feeds) here _
     (string_bytes c.skip_plain_white.new.feeds) next c.in_ok-tabbed.ensures in
     let blank = ap (λ (s : Cursor). s.blank_so_far) same ∙ ap (λ (s : Cursor). s.blank_so_far) c.skip_spaces.ensures
@@ -56,7 +57,7 @@ returns-in_err-check_plain_tab g c =
     let over : is_blank_or_break (slice_index here.rest 0) ≡ false =
     ap (λ (s : Cursor). is_blank_or_break (slice_index s.rest 0)) same ∙ ap is_blank_or_break (sym
     c.look-c.ensures.value)
-    ∙ sym c.is_white.ensures ∙ c.if-not-is_white.true in
+    ∙ sym c.is_blank_or_break.ensures ∙ c.if-not-is_blank_or_break.true in
     let blank = ap (λ (s : Cursor). s.blank_so_far) same ∙ ap (λ (s : Cursor). s.blank_so_far) c.skip_spaces.ensures
     ∙ c.loop-c.invariant.blank in
     let reached = ap (λ (s : Cursor). spec.lines c.args.indent c.args.start c.loop-c.tabbed
@@ -75,7 +76,7 @@ returns g c =
     let over : is_blank_or_break (slice_index here.rest 0) ≡ false =
     ap (λ (s : Cursor). is_blank_or_break (slice_index s.rest 0)) same ∙ ap is_blank_or_break (sym
     c.look-c.ensures.value)
-    ∙ sym c.is_white.ensures ∙ c.if-not-is_white.true in
+    ∙ sym c.is_blank_or_break.ensures ∙ c.if-not-is_blank_or_break.true in
     let blank = ap (λ (s : Cursor). s.blank_so_far) same ∙ ap (λ (s : Cursor). s.blank_so_far) c.skip_spaces.ensures
     ∙ c.loop-c.invariant.blank in
     let reached = ap (λ (s : Cursor). spec.lines c.args.indent c.args.start c.loop-c.tabbed

@@ -2,9 +2,9 @@ use Rattle.std.proofs.Common.{◌≡◌, true, false, length, length-drop, slice
 use Rattle.std.specs.Prelude.{◌&&◌, ◌==◌}
 use Rattle.saphyr_input.specs.Classes as class
 use Rattle.saphyr_scalar.specs.Views.Cursor.{Cursor}
-use Rattle.saphyr_scalar.specs.Steps.Quoted.{is_left, over_lines, inside_at}
+use Rattle.saphyr_scalar.specs.Steps.Quoted.{is_left, over_lines, inner_text_at}
 use Rattle.saphyr_scalar.specs.Views.Reader.{cursor_of}
-use Rattle.saphyr_scalar.proofs.SpaceRuns.{inside_over, spaces_shorter}
+use Rattle.saphyr_scalar.proofs.SpaceRuns.{inside_over_spaces, spaces_shorter}
 use Rattle.saphyr_scalar.proofs.Quoted.Lines.{break_on, break_on_shorter, blank_on, tab_on, fits_right, fits_no_tab}
 use Rattle.saphyr_scalar.proofs.scalar.reader.Reader.skip_quoted_lines.Goals.{else-c-eq9-via-then-c-eq9+else-self-indent, else-c-eq9-via-else-c-eq9}
 use Rattle.saphyr_scalar.proofs.scalar.reader.Reader.skip_quoted_lines.Goals as goal
@@ -20,7 +20,7 @@ loop-self-preserved-then-is_break g c =
     record {
       same = λ q start escaped. break_on q c.args.indent start escaped c.loop-self.count here there behind breaks
           c.look-c.ensures.same c.skip_seen_break.ensures
-          ∙ inside_over q c.args.indent start escaped c.loop-self.count _ first here c.skip_spaces.ensures
+          ∙ inside_over_spaces q c.args.indent start escaped c.loop-self.count _ first here c.skip_spaces.ensures
           ∙ c.loop-self.invariant.same q start escaped;
       counted = omega (
         arith,
@@ -36,7 +36,7 @@ returns-then-self-indent-clause-same g c = λ quote start escaped.
     let here = cursor_of c.skip_spaces.new.self in
     let tab : slice_index here.rest 0 ≡ 9 = sym c.look-c.ensures.value ∙ c.if-c-eq9.true in
     sym (c.loop-self.invariant.same quote start escaped)
-    ∙ sym (inside_over quote c.args.indent start escaped c.loop-self.count _ first here c.skip_spaces.ensures)
+    ∙ sym (inside_over_spaces quote c.args.indent start escaped c.loop-self.count _ first here c.skip_spaces.ensures)
     ∙ tab_on quote c.args.indent start escaped c.loop-self.count here (cursor_of c.look-c.new.self) tab
     c.look-c.ensures.same
     c.if-self-indent.true
@@ -60,7 +60,7 @@ loop-self-preserved g c =
     record {
       same = λ q start escaped. blank_on q c.args.indent start escaped c.loop-self.count here there behind blank fits
           c.look-c.ensures.same c.skip_blank.ensures
-          ∙ inside_over q c.args.indent start escaped c.loop-self.count _ first here c.skip_spaces.ensures
+          ∙ inside_over_spaces q c.args.indent start escaped c.loop-self.count _ first here c.skip_spaces.ensures
           ∙ c.loop-self.invariant.same q start escaped;
       counted = omega (
         arith,
@@ -76,6 +76,7 @@ loop-self-preserved g c =
 pub returns-else-is_blank-clause-same : goal.returns-else-is_blank-clause-same
 returns-else-is_blank-clause-same g c = λ quote start escaped.
     let k = c.loop-self.count in
-    ap (inside_at quote c.args.indent start (over_lines escaped k)) c.look-c.ensures.same
-    ∙ inside_over quote c.args.indent start escaped k _ (cursor_of c.loop-self.self) (cursor_of c.skip_spaces.new.self)
+    ap (inner_text_at quote c.args.indent start (over_lines escaped k)) c.look-c.ensures.same
+    ∙ inside_over_spaces quote c.args.indent start escaped k _ (cursor_of c.loop-self.self)
+    (cursor_of c.skip_spaces.new.self)
     c.skip_spaces.ensures ∙ c.loop-self.invariant.same quote start escaped

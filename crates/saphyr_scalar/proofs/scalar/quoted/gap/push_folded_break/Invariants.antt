@@ -1,6 +1,6 @@
 use Rattle.std.proofs.Common.{◌≡◌, ◌++◌, string_bytes, encode_utf8_all}
 use Rattle.scalar_values.specs.Folding.{line_feeds}
-use Rattle.saphyr_scalar.proofs.scalar.quoted.push_folded_break.Given as goal
+use Rattle.saphyr_scalar.proofs.scalar.quoted.gap.push_folded_break.Given as goal
 
 abbrev pub invariant-loop : goal.invariant-loop
 invariant-loop l = record {

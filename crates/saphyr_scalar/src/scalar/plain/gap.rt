@@ -1,0 +1,139 @@
+//! What stands between two words of a plain scalar: blanks, or line breaks and empty lines, which are folded
+//! (YAML 1.2.2, 7.3.3 and 6.5).
+
+ghost use Rattle.std.specs.Prelude.{◌≡◌, ◌≤◌, ◌++◌, slice_index, string_bytes, OnOk, true};
+ghost use Rattle.saphyr_input.specs.Places as place;
+ghost use Rattle.saphyr_scalar.specs.Steps.Plain as spec;
+
+use crate::scalar::fault::{FaultText, Refusal, Stop};
+use crate::scalar::position::Marker;
+use crate::scalar::reader::Reader;
+use saphyr_input::char_traits::{is_blank, is_bom, is_break, is_z};
+use saphyr_input::input::Input;
+use std::alloc::AllocError;
+
+// Whether a character is a blank or a break.
+#[inline]
+pub(super) fn is_blank_or_break(c: char) -> bool
+    ensures { result ≡ place.is_blank_or_break c }
+{
+    is_blank(c) || is_break(c)
+}
+
+// Moves what a gap between two words reads as to the end of a text: a break before no empty line
+// is a space.
+#[inline]
+pub(super) fn push_gap(text: &mut String, over_lines: bool, gap: &str) -> Result<(), AllocError>
+    ensures { OnOk result (string_bytes text.new
+        ≡ string_bytes text.old ++ spec.gap_text over_lines gap.now) }
+{
+    if over_lines && gap.is_empty() {
+        return text.push(' ');
+    }
+    text.push_str(gap)
+}
+
+impl<T: Input> Reader<T> {
+    ghost use Rattle.saphyr_scalar.specs.Views.Reader.{cursor_of, loaded, PassesBy, WritesBy};
+
+    // Whether the content of a line, behind its blanks, may stand there: where a tab stands in the
+    // indentation, only a comment may.
+    #[tactic(auto, unfolding(crate::specs::Steps::Plain::content_behind_tab))]
+    fn check_plain_tab(&mut self, start: Marker, tabbed: bool) -> Result<(), Refusal>
+        ensures { PassesBy (spec.content_behind_tab start tabbed) self.old result self.new }
+    {
+        if !tabbed {
+            return Ok(());
+        }
+        let c = self.look();
+        if is_bom(c) {
+            return Err(Refusal {
+                text: FaultText::MisplacedByteOrderMark,
+                mark: self.mark,
+            });
+        }
+        if c != '#' && !is_z(c) {
+            return Err(Refusal {
+                text: FaultText::TabInsidePlain,
+                mark: start,
+            });
+        }
+        Ok(())
+    }
+
+    // Takes off `c`, a blank or a break of the lines behind a word, with a line feed for the break at
+    // the end of a text. Gives whether a tab stands in the indentation of the line that is reached.
+    #[tactic(auto, using(crate::proofs::Plain::Lines::some_blank), unfolding(crate::specs::Steps::Plain::pass_white))]
+    fn skip_plain_white(
+        &mut self,
+        c: char,
+        indent: usize,
+        tabbed: bool,
+        feeds: &mut String,
+    ) -> Result<bool, Stop>
+        requires first { c ≡ slice_index (cursor_of self.old).rest 0 }
+        requires loaded { 1 ≤ loaded self.old }
+        requires white { place.is_blank_or_break (slice_index (cursor_of self.old).rest 0) ≡ true }
+        ensures { WritesBy spec.seen_white (spec.white_onto indent tabbed) feeds.old self.old result
+            feeds.new self.new }
+    {
+        if is_break(c) {
+            self.skip_seen_break(c);
+            feeds.push('\n')?;
+            return Ok(false);
+        }
+        let in_indentation = c == '\t' && self.mark.col < indent;
+        self.skip_blank();
+        Ok(tabbed || in_indentation)
+    }
+
+    // Takes off blanks and breaks from the start of a line on, with a line feed for each line of
+    // them at the end of a text. Gives whether a tab stands in the indentation of the line that is
+    // reached, which is a comment or nothing then.
+    pub(super) fn skip_empty_lines(
+        &mut self,
+        indent: usize,
+        start: Marker,
+        feeds: &mut String,
+    ) -> Result<bool, Stop>
+        requires { (cursor_of self.old).blank_so_far ≡ true }
+        ensures { WritesBy spec.seen_gap (spec.feeds_onto indent start) feeds.old self.old result
+            feeds.new self.new }
+    {
+        let mut tabbed = false;
+        loop {
+            self.skip_spaces(usize::MAX);
+            let c = self.look();
+            if !is_blank_or_break(c) {
+                break;
+            }
+            tabbed = self.skip_plain_white(c, indent, tabbed, feeds)?;
+        }
+        self.check_plain_tab(start, tabbed)?;
+        Ok(tabbed)
+    }
+
+    // Takes off what stands behind a word, and puts it in place of a text: its blanks, or a line
+    // feed for each empty line. Gives whether a tab stands in the indentation of the line that is
+    // reached.
+    #[inline]
+    #[tactic(auto, unfolding(crate::specs::Steps::Plain::gap, crate::specs::Steps::Plain::gap_from))]
+    pub(super) fn read_plain_gap(
+        &mut self,
+        indent: usize,
+        start: Marker,
+        gap: &mut String,
+    ) -> Result<bool, Stop>
+        ensures { WritesBy spec.seen_word_gap (λ _. spec.gap indent start) gap.old self.old result
+            gap.new self.new }
+    {
+        gap.clear();
+        self.read_blanks(gap)?;
+        if !is_break(self.look()) {
+            return Ok(false);
+        }
+        gap.clear();
+        self.skip_line_break();
+        self.skip_empty_lines(indent, start, gap)
+    }
+}

@@ -1,0 +1,154 @@
+//! The words of plain scalars, with the single spaces between them (YAML 1.2.2, 7.3.3).
+
+ghost use Rattle.std.specs.Prelude.{◌≡◌, ◌≤◌, slice_index, string_bytes, IfOk, OnOk, false, true, refl};
+ghost use Rattle.saphyr_input.specs.Places.{TransfersWords};
+ghost use Rattle.saphyr_scalar.specs.Steps.Plain as spec;
+ghost use Rattle.saphyr_scalar.specs.Steps.Sets as sets;
+
+use crate::scalar::byte_sets::{is_in_plain_in_flow, is_in_plain_outside};
+use crate::scalar::fault::{FaultText, Refusal};
+use crate::scalar::reader::Reader;
+use saphyr_input::char_set::{CharSet, SpacedSet};
+use saphyr_input::char_traits::{is_blank_or_breakz, is_bom, is_flow};
+use saphyr_input::input::Input;
+use std::alloc::AllocError;
+
+// The characters of a plain scalar outside flow, without a colon, with which a word goes on wherever they stand.
+pub(crate) struct PlainOutside;
+
+impl CharSet for PlainOutside {
+    ghost test = { sets.in_plain false };
+
+    ghost without_nul = { refl };
+
+    fn has(c: char) -> bool {
+        c != ':' && !is_blank_or_breakz(c) && !is_bom(c)
+    }
+
+    #[inline(always)]
+    fn has_ascii(byte: u8) -> bool {
+        is_in_plain_outside(byte)
+    }
+}
+
+impl SpacedSet for PlainOutside {
+    ghost lead = { sets.leads_plain false };
+
+    fn leads(byte: u8) -> bool {
+        byte != b'#' && byte != b'-' && PlainOutside::has_ascii(byte)
+    }
+}
+
+// The same inside flow.
+pub(crate) struct PlainInFlow;
+
+impl CharSet for PlainInFlow {
+    ghost test = { sets.in_plain true };
+
+    ghost without_nul = { refl };
+
+    fn has(c: char) -> bool {
+        c != ':' && !is_blank_or_breakz(c) && !is_bom(c) && !is_flow(c)
+    }
+
+    #[inline(always)]
+    fn has_ascii(byte: u8) -> bool {
+        is_in_plain_in_flow(byte)
+    }
+}
+
+impl SpacedSet for PlainInFlow {
+    ghost lead = { sets.leads_plain true };
+
+    fn leads(byte: u8) -> bool {
+        byte != b'#' && byte != b'-' && PlainInFlow::has_ascii(byte)
+    }
+}
+
+impl<T: Input> Reader<T> {
+    ghost use Rattle.saphyr_scalar.specs.Views.Reader.{cursor_of, loaded, GivesBy};
+
+    // Whether a word of a plain scalar begins here.
+    #[inline(always)]
+    #[tactic(auto, unfolding(crate::specs::Steps::Plain::word_starts))]
+    pub(super) fn plain_word_starts(&mut self, in_flow: bool) -> Result<bool, Refusal>
+        ensures { GivesBy (spec.word_starts in_flow) self.old result self.new }
+    {
+        self.load(4);
+        let c = self.input.peek();
+        if c == '#' || self.mark.col == 0 && self.input.next_is_document_indicator() {
+            return Ok(false);
+        }
+        if in_flow && c == '-' && is_flow(self.input.peek_nth(1)) {
+            return Err(Refusal {
+                text: FaultText::PlainDashBeforeFlow,
+                mark: self.mark,
+            });
+        }
+        Ok(self.is_in_plain_word(c, in_flow))
+    }
+
+    // Whether a word goes on with c, the first character.
+    #[inline(always)]
+    #[tactic(auto, unfolding(crate::specs::Steps::Plain::is_in_word))]
+    fn is_in_plain_word(&mut self, c: char, in_flow: bool) -> bool
+        requires first { c ≡ slice_index (cursor_of self.old).rest 0 }
+        requires loaded { 1 ≤ loaded self.old }
+        ensures value { result ≡ spec.is_in_word in_flow (cursor_of self.old).rest }
+        ensures same { cursor_of self.new ≡ cursor_of self.old }
+        ensures loaded { 1 ≤ loaded self.new }
+    {
+        if c == ':' {
+            self.load(2);
+            let next = self.input.peek_nth(1);
+            return !(is_blank_or_breakz(next) || in_flow && is_flow(next));
+        }
+        !is_blank_or_breakz(c) && !is_bom(c) && !(in_flow && is_flow(c))
+    }
+
+    // Moves characters of words without colons, and single spaces between them, to the end of a
+    // text, and gives how many. The place stays.
+    #[inline(always)]
+    fn fetch_plain_words(&mut self, in_flow: bool, text: &mut String) -> Result<usize, AllocError>
+        ensures words { IfOk result (λ n. TransfersWords (sets.in_plain in_flow)
+            (sets.leads_plain in_flow) n (cursor_of self.old).rest (cursor_of self.new).rest
+            (string_bytes text.old) (string_bytes text.new)) }
+        ensures mark { (cursor_of self.new).mark ≡ (cursor_of self.old).mark }
+    {
+        // For speed: colons may stand in a row, and a run of nothing before each costs more than this look.
+        if self.look() == ':' {
+            return Ok(0);
+        }
+        if in_flow {
+            self.input.fetch_words::<PlainInFlow>(text)
+        } else {
+            self.input.fetch_words::<PlainOutside>(text)
+        }
+    }
+
+    // Moves the rest of a word to the end of a text, and words behind it before each of which a
+    // single space stands.
+    pub(super) fn read_plain_words(
+        &mut self,
+        in_flow: bool,
+        text: &mut String,
+    ) -> Result<(), AllocError>
+        ensures { OnOk result (spec.PlainWordsMoved in_flow (string_bytes text.old)
+            (string_bytes text.new) (cursor_of self.old) (cursor_of self.new)) }
+    {
+        let mut count = 0;
+        loop {
+            count += self.fetch_plain_words(in_flow, text)?;
+            let c = self.look();
+            if !self.is_in_plain_word(c, in_flow) {
+                break;
+            }
+            text.push(c)?;
+            self.input.skip();
+            count += 1;
+        }
+        self.mark = self.mark.along(count);
+        self.blank_so_far = false;
+        Ok(())
+    }
+}

@@ -1,0 +1,190 @@
+//! What stands between two words of a quoted scalar: blanks, or a line break, escaped or not, and the empty lines
+//! behind it (YAML 1.2.2, 7.3.1, 7.3.2 and 6.5).
+
+ghost use Rattle.std.specs.Prelude.{◌≡◌, ℕ, Bool, false, ◌==◌, ◌++◌, slice_index, string_bytes, encode_utf8_all, OnOk, IsTrue};
+ghost use Rattle.saphyr_input.specs.Classes as class;
+ghost use Rattle.saphyr_scalar.specs.Steps.Quoted as spec;
+ghost use Rattle.scalar_values.specs.Flow as flow;
+
+use crate::scalar::fault::{FaultText, Refusal, Stop};
+use crate::scalar::position::Marker;
+use crate::scalar::reader::Reader;
+use saphyr_input::char_traits::{is_blank, is_break, is_z};
+use saphyr_input::input::Input;
+use scalar_values::Quote;
+use std::alloc::AllocError;
+
+// Moves what a line break and the empty lines behind it read as to the end of a text.
+fn push_folded_break(text: &mut String, escaped: bool, empty_lines: usize) -> Result<(), AllocError>
+    ensures { OnOk result (string_bytes text.new
+        ≡ string_bytes text.old ++ encode_utf8_all (spec.folded_break escaped empty_lines)) }
+{
+    if !escaped && empty_lines == 0 {
+        return text.push(' ');
+    }
+    for _ in 0..empty_lines {
+        text.push('\n')?;
+    }
+    Ok(())
+}
+
+impl<T: Input> Reader<T> {
+    ghost use Rattle.saphyr_scalar.specs.Views.Reader.{cursor_of, PassesBy, AppendsBy, ReadsOn, IsNoLonger, IsShorter};
+
+    // Moves the blanks inside a text to its end.
+    #[inline(always)]
+    pub(crate) fn read_blanks(&mut self, text: &mut String) -> Result<(), Stop>
+        ensures { AppendsBy (spec.with_run class.is_blank) text.old self.old result text.new
+            self.new }
+    {
+        let mut count = 0;
+        let mut c = self.input.look_ch();
+        while is_blank(c) {
+            text.push(c)?;
+            self.input.skip();
+            count += 1;
+            c = self.input.look_ch();
+        }
+        self.mark = self.mark.along(count);
+        self.blank_so_far = false;
+        Ok(())
+    }
+
+    // Takes off the empty lines, and the blanks before what stands behind them, and counts those
+    // lines.
+    fn skip_quoted_lines(&mut self, indent: usize) -> Result<usize, Refusal>
+        ensures same { (quote : Quote) → (start : Marker) → (escaped : Bool)
+            → spec.ReadsFurther result
+            (λ n. spec.inner_text_at quote indent start (spec.over_lines escaped n)
+            (cursor_of self.new)) (spec.inner_text_at quote indent start (spec.over_lines escaped 0)
+            (cursor_of self.old)) }
+        ensures no_blank { OnOk result (class.is_blank (slice_index (cursor_of self.new).rest 0)
+            ≡ false) }
+        ensures no_break { OnOk result (class.is_break (slice_index (cursor_of self.new).rest 0)
+            ≡ false) }
+        ensures shorter { OnOk result (IsNoLonger self.old self.new) }
+    {
+        let mut count = 0;
+        loop {
+            self.skip_spaces(usize::MAX);
+            let c = self.look();
+            if is_break(c) {
+                self.skip_seen_break(c);
+                count += 1;
+            } else if is_blank(c) {
+                if c == '\t' && self.mark.col < indent {
+                    return Err(Refusal {
+                        text: FaultText::TabAsIndentation,
+                        mark: self.mark,
+                    });
+                }
+                self.skip_blank();
+            } else {
+                return Ok(count);
+            }
+        }
+    }
+
+    // Whether a word, or the closing quote, may stand here on a later line.
+    #[tactic(auto, unfolding(crate::specs::Steps::Quoted::quoted_line))]
+    fn check_quoted_line(&mut self, indent: usize, start: Marker) -> Result<(), Refusal>
+        ensures { PassesBy (spec.quoted_line indent start) self.old result self.new }
+    {
+        self.load(4);
+        let text = if self.mark.col == 0 && self.input.next_is_document_indicator() {
+            FaultText::DocumentIndicatorInsideQuotes
+        } else if self.input.next_is_z() {
+            FaultText::EndInsideQuotes
+        } else if self.mark.col < indent {
+            FaultText::QuotedIndentation
+        } else {
+            return Ok(());
+        };
+        Err(Refusal { text, mark: start })
+    }
+
+    // Takes off the empty lines behind a break, and the blanks before what stands behind them, and
+    // moves what the break and they read as to the end of a text.
+    fn read_quoted_lines(
+        &mut self,
+        escaped: bool,
+        indent: usize,
+        start: Marker,
+        text: &mut String,
+    ) -> Result<(), Stop>
+        ensures same { (quote : Quote) → ReadsOn result
+            (spec.with_front (string_bytes text.old)
+            (spec.inner_text_at quote indent start (spec.over_lines escaped 0)
+            (cursor_of self.old)))
+            (spec.with_front (string_bytes text.new)
+            (spec.inner_text_at quote indent start spec.no_gap (cursor_of self.new))) }
+        ensures shorter { OnOk result (IsNoLonger self.old self.new) }
+    {
+        let empty_lines = self.skip_quoted_lines(indent)?;
+        self.check_quoted_line(indent, start)?;
+        push_folded_break(text, escaped, empty_lines)?;
+        Ok(())
+    }
+
+    // Takes off an escaped break and what stands behind it, up to the next word or the closing
+    // quote, and moves what it reads as to the end of a text.
+    fn read_escaped_break(
+        &mut self,
+        quote: Quote,
+        indent: usize,
+        start: Marker,
+        text: &mut String,
+    ) -> Result<(), Stop>
+        requires { IsTrue (spec.is_escaped_break quote (cursor_of self.old).rest) }
+        ensures same { ReadsOn result (spec.with_front (string_bytes text.old)
+            (spec.inner_text_at quote indent start spec.no_gap (cursor_of self.old)))
+            (spec.with_front (string_bytes text.new)
+            (spec.inner_text_at quote indent start spec.no_gap (cursor_of self.new))) }
+        ensures shorter { OnOk result (IsShorter self.old self.new) }
+    {
+        self.skip_non_blank();
+        self.skip_line_break();
+        if self.look() == quote.mark() {
+            return Ok(());
+        }
+        self.read_quoted_lines(true, indent, start, text)
+    }
+
+    // Takes off what stands between two words, up to the next word or the closing quote, and moves
+    // what it reads as to the end of a text.
+    pub(super) fn read_quoted_gap(
+        &mut self,
+        quote: Quote,
+        indent: usize,
+        start: Marker,
+        blanks: &mut String,
+        text: &mut String,
+    ) -> Result<(), Stop>
+        requires ended { IsTrue (spec.ends_word quote (cursor_of self.old).rest) }
+        requires open { (slice_index (cursor_of self.old).rest 0 == flow.mark quote) ≡ false }
+        ensures same { ReadsOn result (spec.with_front (string_bytes text.old)
+            (spec.inner_text_at quote indent start spec.no_gap (cursor_of self.old)))
+            (spec.with_front (string_bytes text.new)
+            (spec.inner_text_at quote indent start spec.no_gap (cursor_of self.new))) }
+        ensures shorter { OnOk result (IsShorter self.old self.new) }
+    {
+        if self.look() == '\\' {
+            return self.read_escaped_break(quote, indent, start, text);
+        }
+        blanks.clear();
+        self.read_blanks(blanks)?;
+        let c = self.look();
+        if is_break(c) {
+            self.skip_line_break();
+            return self.read_quoted_lines(false, indent, start, text);
+        }
+        if is_z(c) {
+            return Err(Stop::Refused(Refusal {
+                text: FaultText::EndInsideQuotes,
+                mark: start,
+            }));
+        }
+        text.push_str(blanks.as_str())?;
+        Ok(())
+    }
+}

@@ -1,0 +1,181 @@
+//! The words of quoted scalars: characters that stand for themselves, single spaces between them, escapes and doubled
+//! quotes (YAML 1.2.2, 7.3.1, 7.3.2 and 5.7).
+
+ghost use Rattle.std.specs.Prelude.{◌≡◌, ℕ, ◌++◌, string_bytes, IfOk, OnOk, IsTrue};
+ghost use Rattle.saphyr_input.specs.Places.{TransfersWords};
+ghost use Rattle.saphyr_scalar.specs.Steps.Quoted as spec;
+ghost use Rattle.saphyr_scalar.specs.Steps.Sets as sets;
+
+use crate::scalar::byte_sets::{is_in_double, is_in_single};
+use crate::scalar::fault::{Refusal, Stop};
+use crate::scalar::position::Marker;
+use crate::scalar::reader::Reader;
+use saphyr_input::char_set::{CharSet, SpacedSet};
+use saphyr_input::char_traits::{is_blank_or_breakz, is_break};
+use saphyr_input::input::Input;
+use scalar_values::Quote;
+use std::alloc::AllocError;
+
+// Whether a character between the quotes stands for itself and is no blank.
+#[inline]
+#[tactic(auto, unfolding(crate::specs::Steps::Quoted::is_literal))]
+fn is_literal(quote: Quote, c: char) -> bool
+    ensures { result ≡ spec.is_literal quote c }
+{
+    let special = match quote {
+        Quote::Single => c == '\'',
+        Quote::Double => c == '"' || c == '\\',
+    };
+    !is_blank_or_breakz(c) && !special
+}
+
+// The characters that stand for themselves between single quotes and are no blank.
+pub(crate) struct InSingle;
+
+impl CharSet for InSingle {
+    ghost test = { sets.in_single };
+
+    ghost without_nul = { sets.no_nul_in_single };
+
+    fn has(c: char) -> bool {
+        is_literal(Quote::Single, c)
+    }
+
+    #[inline(always)]
+    fn has_ascii(byte: u8) -> bool {
+        is_in_single(byte)
+    }
+}
+
+impl SpacedSet for InSingle {
+    ghost lead = { sets.is_content };
+
+    fn leads(byte: u8) -> bool {
+        InDouble::leads(byte)
+    }
+}
+
+// The characters that stand for themselves between double quotes and are no blank.
+pub(crate) struct InDouble;
+
+impl CharSet for InDouble {
+    ghost test = { sets.in_double };
+
+    ghost without_nul = { sets.no_nul_in_double };
+
+    fn has(c: char) -> bool {
+        is_literal(Quote::Double, c)
+    }
+
+    #[inline(always)]
+    fn has_ascii(byte: u8) -> bool {
+        is_in_double(byte)
+    }
+}
+
+impl SpacedSet for InDouble {
+    ghost lead = { sets.is_content };
+
+    fn leads(byte: u8) -> bool {
+        !is_blank_or_breakz(byte as char)
+    }
+}
+
+impl<T: Input> Reader<T> {
+    ghost use Rattle.saphyr_scalar.specs.Views.Reader.{cursor_of, GivesBy, ReadsOn, IsNoLonger};
+
+    // Moves words, and single spaces between them, to the end of a text, and gives how many
+    // characters. The place stays.
+    #[inline(always)]
+    fn fetch_literal_words(&mut self, quote: Quote, text: &mut String) -> Result<usize, AllocError>
+        ensures words { IfOk result (λ n. TransfersWords (spec.is_literal quote) sets.is_content n
+            (cursor_of self.old).rest (cursor_of self.new).rest (string_bytes text.old)
+            (string_bytes text.new)) }
+        ensures mark { (cursor_of self.new).mark ≡ (cursor_of self.old).mark }
+    {
+        match quote {
+            Quote::Single => self.input.fetch_words::<InSingle>(text),
+            Quote::Double => self.input.fetch_words::<InDouble>(text),
+        }
+    }
+
+    // Moves words, and single spaces between them, to the end of a text: up to what does not stand
+    // for itself.
+    #[inline(always)]
+    pub(super) fn take_literal_words(
+        &mut self,
+        quote: Quote,
+        text: &mut String,
+    ) -> Result<(), AllocError>
+        ensures { OnOk result
+            (spec.QuotedWordsMoved quote (string_bytes text.old) (string_bytes text.new)
+            (cursor_of self.old) (cursor_of self.new)) }
+    {
+        let count = self.fetch_literal_words(quote, text)?;
+        self.mark = self.mark.along(count);
+        self.blank_so_far = false;
+        Ok(())
+    }
+
+    // The same behind an escape: there mostly stands another, or the closing quote, and to look is cheaper than to
+    // move nothing.
+    #[inline(always)]
+    fn read_literal_words(&mut self, quote: Quote, text: &mut String) -> Result<(), AllocError>
+        ensures { OnOk result
+            (spec.QuotedWordsMoved quote (string_bytes text.old) (string_bytes text.new)
+            (cursor_of self.old) (cursor_of self.new)) }
+    {
+        if !is_literal(quote, self.look()) {
+            return Ok(());
+        }
+        self.take_literal_words(quote, text)
+    }
+
+    // Takes off an escape, or a quote that two single ones stand for, if one is next.
+    #[tactic(auto, unfolding(crate::specs::Steps::Quoted::special))]
+    fn read_quoted_special(&mut self, quote: Quote, start: Marker) -> Result<Option<char>, Refusal>
+        ensures { GivesBy (spec.special quote start) self.old result self.new }
+    {
+        self.load(2);
+        match quote {
+            Quote::Single => {
+                if !self.input.next_2_are('\'', '\'') {
+                    return Ok(None);
+                }
+                self.skip_n_non_blank(2);
+                Ok(Some('\''))
+            }
+            Quote::Double => {
+                if !self.input.next_char_is('\\') || is_break(self.input.peek_nth(1)) {
+                    return Ok(None);
+                }
+                Ok(Some(self.read_escape(start)?))
+            }
+        }
+    }
+
+    // Moves words, and the single spaces between them, to the end of a text, with their escapes
+    // resolved: up to a blank, a break, escaped or not, the closing quote, NUL or the end.
+    pub(super) fn read_quoted_word(
+        &mut self,
+        quote: Quote,
+        start: Marker,
+        text: &mut String,
+    ) -> Result<(), Stop>
+        ensures same { (indent : ℕ) → ReadsOn result
+            (spec.with_front (string_bytes text.old)
+            (spec.inner_text_at quote indent start spec.no_gap (cursor_of self.old)))
+            (spec.with_front (string_bytes text.new)
+            (spec.inner_text_at quote indent start spec.no_gap (cursor_of self.new))) }
+        ensures ended { OnOk result (IsTrue (spec.ends_word quote (cursor_of self.new).rest)) }
+        ensures shorter { OnOk result (IsNoLonger self.old self.new) }
+    {
+        loop {
+            self.read_literal_words(quote, text)?;
+            let Some(c) = self.read_quoted_special(quote, start)? else {
+                return Ok(());
+            };
+            text.push(c)?;
+        }
+    }
+}
