@@ -13,6 +13,8 @@ ghost use Rattle.saphyr_input.specs.Indicators.{
   right_bracket,
 };
 ghost use Rattle.saphyr_scanner.specs.Steps.Fetch as fetch;
+ghost use Rattle.saphyr_scanner.specs.Steps.Queue as spec_queue;
+ghost use Rattle.saphyr_scanner.specs.Steps.Scalar as scalar;
 
 use crate::engine::{Context, Engine, Level};
 use crate::law::takes_characters_off;
@@ -125,10 +127,18 @@ impl<T: Input> Engine<T> {
             ',' => self.fetch_flow_entry()?,
             '-' if is_blank_or_breakz(next) => self.fetch_block_entry()?,
             ':' if is_blank_or_breakz(next) => self.fetch_value()?,
-            ':' if self.is_value_adjacent(next) => self.fetch_flow_value(next)?,
+            ':' if self.is_value_adjacent(next) => {
+                if !self.fetches_flow_value(next) {
+                    return Err(self.stop);
+                }
+            }
             '"' => self.fetch_double_quoted()?,
             '?' | '\'' | '*' | '&' | '!' | '|' | '>' | '%' | '@' | '`' => self.fetch_rare(c, next)?,
-            _ => self.fetch_plain()?,
+            _ => {
+                if !self.fetches_plain() {
+                    return Err(self.stop);
+                }
+            }
         }
         Ok(())
     }
@@ -156,7 +166,11 @@ impl<T: Input> Engine<T> {
             '|' if self.in_block() => self.fetch_block_scalar(BlockStyle::Literal)?,
             '>' if self.in_block() => self.fetch_block_scalar(BlockStyle::Folded)?,
             '%' | '@' | '`' => return Err(self.refuse_here(FaultText::UnexpectedCharacter(c))),
-            _ => self.fetch_plain()?,
+            _ => {
+                if !self.fetches_plain() {
+                    return Err(self.stop);
+                }
+            }
         }
         Ok(())
     }
@@ -178,6 +192,27 @@ impl<T: Input> Engine<T> {
             return Err(self.refuse_here(FaultText::ColonBeforeFlow));
         }
         self.fetch_value()
+    }
+
+    // The same with the stop kept, as `reads_on` does.
+    #[inline(never)]
+    fn fetches_flow_value(&mut self, next: char) -> bool
+        requires { 0 < length (state self.old).core.cursor.rest }
+        ensures { ActsBy (fetch.flow_value next) self.old (answer_of result self.new.stop) self.new }
+    {
+        let ended = self.fetch_flow_value(next);
+        self.keep(ended)
+    }
+
+    // A plain scalar, with the stop kept, as `reads_on` does.
+    #[inline(never)]
+    fn fetches_plain(&mut self) -> bool
+        requires { 0 < length (state self.old).core.cursor.rest }
+        ensures { ActsBy (scalar.plain_steps (spec_queue.next (state self.old).queue)) self.old
+            (answer_of result self.new.stop) self.new }
+    {
+        let ended = self.fetch_plain();
+        self.keep(ended)
     }
 
     // Whether the first token of the queue may yet turn out to be a key, in whatever is open. Then it can't be
