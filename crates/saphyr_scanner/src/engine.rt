@@ -21,7 +21,7 @@ ghost use Rattle.saphyr_scanner.specs.Steps.State as spec_state;
 
 use crate::gap::skip_gap;
 use crate::queue::{Opening, Queue};
-use crate::token::TokenType;
+use crate::token::{Token, TokenType};
 pub(crate) use level::{Candidate, Context, Level};
 use saphyr_input::input::{Input, SkipTabs};
 use saphyr_scalar::{FaultText, Marker, Reader, Refusal, Span, Stop};
@@ -150,7 +150,7 @@ impl<T: Input> Engine<T> {
     {
         let span = Span::new(start, end);
         self.queue
-            .put(self.alloc, span, kind, &mut self.reader.spare)
+            .put(self.alloc, Token { span, kind }, &mut self.reader.spare)
     }
 
     // Puts a token without characters into the queue.

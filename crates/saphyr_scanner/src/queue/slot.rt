@@ -3,7 +3,7 @@
 ghost use Rattle.std.specs.Prelude.{◌≡◌, ◌∷◌, ◌+◌, ◌<◌, ◌^◌, List, Some, true, false, IfOk};
 ghost use Rattle.saphyr_scanner.specs.Steps.Queue as spec;
 ghost use Rattle.saphyr_scanner.specs.Views.Queue.{in_slot, slot_place};
-ghost use Rattle.saphyr_scanner.specs.Views.Tokens.{kind_of, piece};
+ghost use Rattle.saphyr_scanner.specs.Views.Tokens.{piece};
 
 use crate::queue::Opening;
 use crate::token::{Token, TokenType};
@@ -35,14 +35,13 @@ impl Slot {
 
     /// Puts a token here.
     #[inline(always)]
-    pub(super) fn put(&mut self, span: Span, kind: TokenType)
+    pub(super) fn put(&mut self, token: Token)
         ensures full { self.new.is_full ≡ true }
-        ensures place { slot_place self.new
-            ≡ spec.closed (record { span = span; kind = kind_of kind }) }
+        ensures place { slot_place self.new ≡ spec.closed (piece token) }
     {
-        self.token.span = span;
+        self.token.span = token.span;
         // What stood here was taken: for speed no code for its drop stands here.
-        forget(replace(&mut self.token.kind, kind));
+        forget(replace(&mut self.token.kind, token.kind));
         self.opening = Opening::Nothing;
         self.is_full = true;
     }
