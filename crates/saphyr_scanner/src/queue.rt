@@ -12,8 +12,8 @@ ghost use Rattle.saphyr_scanner.specs.Steps.Queue as spec;
 
 use crate::queue::held::Held;
 use crate::queue::slot::Slot;
-use crate::token::{Token, TokenType};
-use saphyr_scalar::{Span, Spare, Stop};
+use crate::token::Token;
+use saphyr_scalar::{Spare, Stop};
 use std::alloc::{AllocError, Global};
 
 /// What stands in front of a token: nothing, or the tokens that make it a key.
@@ -46,7 +46,7 @@ pub(crate) struct Queue {
 
 impl Queue {
     ghost use Rattle.saphyr_scalar.specs.Views.Reader.{Moves};
-    ghost use Rattle.saphyr_scanner.specs.Views.Tokens.{kind_of, piece};
+    ghost use Rattle.saphyr_scanner.specs.Views.Tokens.{piece};
     ghost use Rattle.saphyr_scanner.specs.Views.Queue.{queue, TakesOffBy};
     ghost use Rattle.std.specs.Prelude.{◌<◌};
 
@@ -99,8 +99,7 @@ impl Queue {
         ensures { OnOk result (queue self.new ≡ spec.with_piece (piece token) (queue self.old)) }
     {
         if self.second.is_full || !self.held.is_empty() {
-            let kind = token.kind;
-            return self.put_behind(alloc, &token.span, kind, spare);
+            return self.put_behind(alloc, token, spare);
         }
         if self.first.is_full {
             self.second.put(token);
@@ -116,14 +115,14 @@ impl Queue {
     fn put_behind(
         &mut self,
         alloc: Global,
-        span: &Span,
-        kind: TokenType,
+        token: Token,
         spare: &mut Spare,
     ) -> Result<(), AllocError>
-        ensures { OnOk result (queue self.new
-            ≡ spec.with_piece (record { span = span.now; kind = kind_of kind }) (queue self.old)) }
+        ensures { OnOk result (queue self.new ≡ spec.with_piece (piece token) (queue self.old)) }
     {
-        self.held.put(alloc, span, kind, spare)
+        // For speed the span stays where it is: most of it isn't kept.
+        let kind = token.kind;
+        self.held.put(alloc, &token.span, kind, spare)
     }
 
     /// Tells what stands in front of the token at a place.

@@ -3,6 +3,7 @@
 
 ghost use Rattle.std.specs.Prelude.{◌≡◌, ◌≤◌, ◌<◌, length, slice_index, None, IfOk};
 ghost use Rattle.saphyr_input.specs.Indicators.{percent_sign};
+ghost use Rattle.saphyr_scanner.specs.Grammar.Tokens as tokens;
 ghost use Rattle.saphyr_scanner.specs.Steps.Document as document;
 ghost use Rattle.saphyr_scanner.specs.Views.Tokens.{kind_of};
 ghost use Rattle.saphyr_scalar.specs.Steps.Directive.{directive_of};
@@ -28,6 +29,7 @@ impl<T: Input> Engine<T> {
     }
 
     // NUL, or the end of the text.
+    #[inline(never)]
     #[tactic(auto, unfolding(crate::specs::Steps::Document::end_stream, crate::specs::Steps::Document::end_at))]
     pub(super) fn fetch_end(&mut self) -> Result<(), Stop>
         requires { slice_index (state self.old).core.cursor.rest 0 ≡ 0 }
@@ -62,6 +64,15 @@ impl<T: Input> Engine<T> {
         Ok(())
     }
 
+    // `---`. For speed it is apart: a kind that is handed over has a place that is cleared for each token.
+    #[inline(never)]
+    pub(super) fn fetch_document_start(&mut self) -> Result<(), Stop>
+        requires { 3 ≤ length (state self.old).core.cursor.rest }
+        ensures { MovesBy (document.marker tokens.DocumentStart) self.old result self.new }
+    {
+        self.fetch_document_marker(TokenType::DocumentStart)
+    }
+
     // `...` and what stands behind it on its line.
     #[tactic(auto, unfolding(crate::specs::Steps::Document::end_marker, crate::specs::Steps::Document::end_line))]
     pub(super) fn fetch_document_end(&mut self) -> Result<(), Stop>
@@ -78,6 +89,7 @@ impl<T: Input> Engine<T> {
     }
 
     // `%` and the rest of a directive's line.
+    #[inline(never)]
     #[tactic(auto, using(crate::proofs::Blocks::unrolled_cursor), unfolding(crate::specs::Steps::Document::state_behind_directive, crate::specs::Steps::Document::read_directive, crate::specs::Steps::Document::end_content, crate::specs::Steps::Core::remove_key))]
     pub(super) fn fetch_directive(&mut self) -> Result<(), Stop>
         requires { slice_index (state self.old).core.cursor.rest 0 ≡ percent_sign }
@@ -93,6 +105,7 @@ impl<T: Input> Engine<T> {
     }
 
     // A byte order mark, which has a place at the start of a line outside flow alone.
+    #[inline(never)]
     #[tactic(auto, using(crate::proofs::Blocks::unrolled_cursor), unfolding(crate::specs::Steps::Document::state_behind_byte_order_mark, crate::specs::Steps::Document::end_content, crate::specs::Steps::Core::remove_key))]
     pub(super) fn fetch_byte_order_mark(&mut self) -> Result<(), Stop>
         requires { 0 < length (state self.old).core.cursor.rest }

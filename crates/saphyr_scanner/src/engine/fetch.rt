@@ -1,8 +1,20 @@
 //! Which token stands next, by its first characters (YAML 1.2.2, 5.3), and how many tokens are read before the
 //! first of them is handed out.
 
-ghost use Rattle.std.specs.Prelude.{◌≡◌, ◌<◌, Ok, length, slice_index, option_map};
+ghost use Rattle.std.specs.Prelude.{◌≡◌, ◌<◌, ◌==◌, false, Ok, OnOk, length, slice_index, option_map};
+ghost use Rattle.saphyr_input.specs.Indicators.{
+  colon,
+  comma,
+  hyphen,
+  left_brace,
+  left_bracket,
+  quotation_mark,
+  right_brace,
+  right_bracket,
+};
 ghost use Rattle.saphyr_scanner.specs.Steps.Fetch as fetch;
+ghost use Rattle.saphyr_scanner.specs.Steps.Queue as spec_queue;
+ghost use Rattle.saphyr_scanner.specs.Steps.Scalar as scalar;
 
 use crate::engine::{Context, Engine};
 use crate::law::takes_characters_off;
@@ -11,6 +23,7 @@ use saphyr_input::char_traits::{is_blank_or_breakz, is_bom, is_flow, is_z};
 use saphyr_input::input::Input;
 use saphyr_scalar::{FaultText, Stop};
 use scalar_values::BlockStyle;
+use std::alloc::AllocError;
 
 impl<T: Input> Engine<T> {
     ghost use Rattle.saphyr_scalar.specs.Views.Reader.{Moves};
@@ -29,15 +42,23 @@ impl<T: Input> Engine<T> {
         Ok(())
     }
 
+    // Puts the token of the stream's start into the queue. For speed it is apart, since it comes once.
+    #[inline(never)]
+    fn start(&mut self) -> Result<(), AllocError>
+        ensures { OnOk result (state self.new ≡ fetch.begin (state self.old)) }
+    {
+        self.started = true;
+        let mark = self.reader.mark();
+        self.put_empty(mark, TokenType::StreamStart)
+    }
+
     // Puts the next token into the queue.
     #[tactic(auto, unfolding(crate::specs::Steps::Fetch::fetch))]
     fn fetch(&mut self) -> Result<(), Stop>
         ensures { MovesBy fetch.fetch self.old result self.new }
     {
         if !self.started {
-            self.started = true;
-            let mark = self.reader.mark();
-            self.put_empty(mark, TokenType::StreamStart)?;
+            self.start()?;
             return Ok(());
         }
         self.arrive()?;
@@ -63,7 +84,7 @@ impl<T: Input> Engine<T> {
             return self.fetch_directive();
         }
         if column == 0 && self.reader.input().next_is_document_start() {
-            return self.fetch_document_marker(TokenType::DocumentStart);
+            return self.fetch_document_start();
         }
         if column == 0 && self.reader.input().next_is_document_end() {
             return self.fetch_document_end();
@@ -91,10 +112,39 @@ impl<T: Input> Engine<T> {
             '}' => self.fetch_mapping_end()?,
             ',' => self.fetch_flow_entry()?,
             '-' if is_blank_or_breakz(next) => self.fetch_block_entry()?,
-            '?' if is_blank_or_breakz(next) => self.fetch_key()?,
             ':' if is_blank_or_breakz(next) => self.fetch_value()?,
-            ':' if self.is_value_adjacent(next) => self.fetch_flow_value(next)?,
+            ':' if self.is_value_adjacent(next) => {
+                if !self.fetches_flow_value(next) {
+                    return Err(self.stop);
+                }
+            }
             '"' => self.fetch_double_quoted()?,
+            '?' | '\'' | '*' | '&' | '!' | '|' | '>' | '%' | '@' | '`' => self.fetch_rare(c, next)?,
+            _ => {
+                if !self.fetches_plain() {
+                    return Err(self.stop);
+                }
+            }
+        }
+        Ok(())
+    }
+
+    // The same of characters that most tokens don't begin with. For speed it is apart: the results of its calls are
+    // cleared here, and not for each token.
+    #[inline(never)]
+    #[tactic(auto, unfolding(crate::specs::Steps::Fetch::state_behind_content, crate::specs::Steps::Fetch::step))]
+    fn fetch_rare(&mut self, c: char, next: char) -> Result<(), Stop>
+        requires some { 0 < length (state self.old).core.cursor.rest }
+        requires first { c ≡ slice_index (state self.old).core.cursor.rest 0 }
+        requires second { next ≡ slice_index (state self.old).core.cursor.rest 1 }
+        requires outside_brackets { ((c == left_bracket) ≡ false) × ((c == left_brace) ≡ false)
+            × ((c == right_bracket) ≡ false) × ((c == right_brace) ≡ false) }
+        requires rare { ((c == comma) ≡ false) × ((c == hyphen) ≡ false) × ((c == colon) ≡ false)
+            × ((c == quotation_mark) ≡ false) }
+        ensures { MovesBy (fetch.state_behind_content c next) self.old result self.new }
+    {
+        match c {
+            '?' if is_blank_or_breakz(next) => self.fetch_key()?,
             '\'' => self.fetch_single_quoted()?,
             '*' => self.fetch_alias()?,
             '&' => self.fetch_anchor()?,
@@ -102,7 +152,11 @@ impl<T: Input> Engine<T> {
             '|' if self.in_block() => self.fetch_block_scalar(BlockStyle::Literal)?,
             '>' if self.in_block() => self.fetch_block_scalar(BlockStyle::Folded)?,
             '%' | '@' | '`' => return Err(self.refuse_here(FaultText::UnexpectedCharacter(c))),
-            _ => self.fetch_plain()?,
+            _ => {
+                if !self.fetches_plain() {
+                    return Err(self.stop);
+                }
+            }
         }
         Ok(())
     }
@@ -124,6 +178,27 @@ impl<T: Input> Engine<T> {
             return Err(self.refuse_here(FaultText::ColonBeforeFlow));
         }
         self.fetch_value()
+    }
+
+    // The same with the stop kept, as `reads_on` does.
+    #[inline(never)]
+    fn fetches_flow_value(&mut self, next: char) -> bool
+        requires { 0 < length (state self.old).core.cursor.rest }
+        ensures { ActsBy (fetch.flow_value next) self.old (answer_of result self.new.stop) self.new }
+    {
+        let ended = self.fetch_flow_value(next);
+        self.keep(ended)
+    }
+
+    // A plain scalar, with the stop kept, as `reads_on` does.
+    #[inline(never)]
+    fn fetches_plain(&mut self) -> bool
+        requires { 0 < length (state self.old).core.cursor.rest }
+        ensures { ActsBy (scalar.plain_steps (spec_queue.next (state self.old).queue)) self.old
+            (answer_of result self.new.stop) self.new }
+    {
+        let ended = self.fetch_plain();
+        self.keep(ended)
     }
 
     // Whether the first token of the queue may yet turn out to be a key, in whatever is open. Then it can't be

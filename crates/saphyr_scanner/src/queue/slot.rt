@@ -9,7 +9,7 @@ use crate::queue::Opening;
 use crate::token::{Token, TokenType};
 use saphyr_scalar::Span;
 use std::alloc::AllocError;
-use std::mem::replace;
+use std::mem::{forget, replace};
 
 /// A place for a token.
 #[derive(Drop)]
@@ -40,7 +40,8 @@ impl Slot {
         ensures place { slot_place self.new ≡ spec.bare_place (piece token) }
     {
         self.token.span = token.span;
-        self.token.kind = token.kind;
+        // What stood here was taken: for speed no code for its drop stands here.
+        forget(replace(&mut self.token.kind, token.kind));
         self.opening = Opening::Nothing;
         self.is_full = true;
     }
