@@ -63,7 +63,8 @@ name_counted s t indicator name is e =
 -- ## Directives
 
 directive_counted : (s u : Cursor) (end : Marker) (t tail x : List ℕ) → s.rest ≡ t ++ (tail ++ x)
-    → end ≡ along s.mark (length t) → u ≡ pass_break (mid_line (along s.mark (length t + length tail)) x) → ReadsUpTo s end u
+    → end ≡ along s.mark (length t) → u ≡ pass_break (mid_line (along s.mark (length t + length tail)) x)
+    → ReadsUpTo s end u
 directive_counted s u end t tail x is ends e =
     let v : Cursor = mid_line (along s.mark (length t + length tail)) x in
     let l : length s.rest ≡ length (t ++ (tail ++ x)) = ap length is in

@@ -249,7 +249,8 @@ quotes_along reads around start k qs quote value t n r e ad h text ready =
     let there = cursor_at (58 ∷ r) m shut.blank_so_far in
     let stepped = quoted_step reads around ready.deeper quote (length qs) e ready.blank value t o h clear (no_quote n r)
     context.Block (Some k) [] false ad (slice_index (t ++ o) 0) first (behind_key refl refl)
-    ∙ behind_step around ready.deeper e (style_of_quote quote) (encode_utf8_all value) (mid_line end o) context.Block (Some k)
+    ∙ behind_step around ready.deeper e (style_of_quote quote) (encode_utf8_all value)
+    (mid_line end o) context.Block (Some k)
     [] ad
     m (58 ∷ r) ends.ends g in
     let led = token_led around start k (t ++ o) e ad qs ready ends.ends.there.mark kind there m.index (λ d. d) stepped

@@ -186,7 +186,8 @@ ends_there : {around : Around} {start : State} {k : Candidate} {qs : List Place}
     (cs b behind w y : List ℕ) (ad : ℕ) (kind : Kind) (deeper : Bool) → InKey around k e ((c ∷ cs) ++ b) behind
     → b ++ behind ≡ w ++ y
     → AreIn is_blank w → ad ≤ e.index
-    → LeadsTo around.limit (state_at around (moment (mid_line (moved e (c ∷ cs)) (b ++ behind)) context.Block (Some k) []
+    → LeadsTo around.limit (state_at around
+    (moment (mid_line (moved e (c ∷ cs)) (b ++ behind)) context.Block (Some k) []
     false
     ad (qs ++ token_place e (moved e (c ∷ cs)) kind ∷ [])) deeper) start
     → Along around start k qs (moved (moved e (c ∷ cs)) w) y (kind ∷ [])

@@ -138,7 +138,8 @@ key_line columns from q c d l s h k i = by s.level
         omega (arith, n, u)
 
 pub block_fetched : TextLaws → (text : List ℕ) → length text < 2 ^ 63
-    → (columns : List ℕ) (from : Cursor) (q : Queue) (style : BlockStyle) (c d : Core) → LaterThan (start_cursor text) from
+    → (columns : List ℕ) (from : Cursor) (q : Queue) (style : BlockStyle) (c d : Core)
+    → LaterThan (start_cursor text) from
     → Saved (next q) c d → HoldsTaken columns from c q → in_block c ≡ true → in_block d ≡ true
     → slice_index c.cursor.rest 0 ≡ taken.block_indicator style → (x : List ℕ × Span × Cursor)
     → blocks.block_scalar style d.indent d.cursor ≡ Ok x

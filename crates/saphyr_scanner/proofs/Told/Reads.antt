@@ -49,7 +49,8 @@ pub settled_told : (text : List ℕ) (t : State) → Reaches (start_cursor text)
 settled_told text t a n =
     on_core_told Noted (start_cursor text) (drop_far_key t.core) t.queue (by (drop_far_key t.core) (drop_still t.core))
   where
-    by : (r : Result Core Refusal) → HoldsOrRefuses (Still t.core) t.core.cursor r → HoldsOrRefuses Noted (start_cursor text) r
+    by : (r : Result Core Refusal) → HoldsOrRefuses (Still t.core) t.core.cursor r
+        → HoldsOrRefuses Noted (start_cursor text) r
     by (Ok d) h = noted_still t.core d h n
     by (Err e) h = at_further (start_cursor text) t.core.cursor e.mark a h
 
