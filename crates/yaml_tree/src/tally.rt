@@ -40,8 +40,8 @@ impl Tally {
 
     // Counts an event, whose span starts here, unless a limit forbids it.
     pub(crate) fn count(&mut self, event: &Event, place: Marker) -> Result<(), TreeFault>
-        ensures { Tallies result (counts_behind (happening event.now) (counts_of self.old)) place self.old
-            self.new }
+        ensures { Tallies result (counts_behind (happening event.now) (counts_of self.old))
+            place self.old self.new }
     {
         match event {
             Event::Alias(_) => self.count_node(place),

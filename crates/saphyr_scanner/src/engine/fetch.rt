@@ -184,7 +184,8 @@ impl<T: Input> Engine<T> {
     #[inline(never)]
     fn fetches_flow_value(&mut self, next: char) -> bool
         requires { 0 < length (state self.old).core.cursor.rest }
-        ensures { ActsBy (fetch.flow_value next) self.old (answer_of result self.new.stop) self.new }
+        ensures { ActsBy (fetch.flow_value next) self.old (answer_of result self.new.stop)
+            self.new }
     {
         let ended = self.fetch_flow_value(next);
         self.keep(ended)
