@@ -91,23 +91,12 @@ impl<'input> Event<'input> {
         *self = Event::Nothing;
     }
 
-    // The same, of an event whose text was taken out.
-    #[inline(always)]
-    pub(super) fn clear_rest(&mut self)
-        ensures { self.new ≡ Nothing }
-    {
-        if self.is_tagged() {
-            self.clear();
-        }
-        replace(self, Event::Nothing).let_go();
-    }
-
-    // Writes an event into this place, where most often is none.
+    // Writes an event into this place, whose text was taken out. For speed nothing but a tag is looked for.
     #[inline(always)]
     pub(super) fn write_over(&mut self, event: Event<'input>)
         ensures { self.new ≡ event.entry }
     {
-        if !matches!(self, Event::Nothing) {
+        if self.is_tagged() {
             self.clear();
         }
         replace(self, event).let_go();

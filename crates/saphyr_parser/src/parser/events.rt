@@ -85,8 +85,7 @@ impl<T: Input> Machine<T> {
         *fault = Fault::new(self.alloc, stop);
     }
 
-    // Gives the text of the event that is written over back, for the memory of the next one. Then no event is left
-    // in its place, so that the next one is written there without a look at all of it.
+    // Gives the text of the event that is written over back, for the memory of the next one.
     #[inline(always)]
     fn give_back<'input>(&mut self, place: &mut Event<'input>)
         ensures { machine_of self.new ≡ machine_of self.old }
@@ -95,7 +94,6 @@ impl<T: Input> Machine<T> {
             self.scanner
                 .give_back(replace(text, String::new(self.alloc)));
         }
-        place.clear_rest();
     }
 
     // Reads the next event or fault into its place, if there is one.
