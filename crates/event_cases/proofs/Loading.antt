@@ -22,17 +22,17 @@ use Rattle.event_cases.specs.Handed.{ListAllButOne, StandsBetween}
 abbrev pub takes : Comparing → Happening × Span → Result (Unit {0}) Refused → Comparing → Type 0
 takes s e r t = PassesLine r e.0 e.1 s t
 
-line_comes : (text : List ℕ) (ls : List (String Global)) → IsNext text ls
+next_line : (text : List ℕ) (ls : List (String Global)) → IsNext text ls
     → map string_bytes ls ≡ text ∷ map string_bytes (drop 1 ls)
-line_comes text [] next = absurd next
-line_comes text (l ∷ ls) next = ap (λ x. x ∷ map string_bytes ls) next
+next_line text [] next = absurd next
+next_line text (l ∷ ls) next = ap (λ x. x ∷ map string_bytes ls) next
 
 -- the receiver has passed the lines of what was sent
 pub sent_lines : (sent : List (Happening × Span)) (first last : Comparing) → Sends takes first sent last
     → map string_bytes first.left ≡ lines_of_events sent ++ map string_bytes last.left
 sent_lines [] first last is = ap (λ (c : Comparing). map string_bytes c.left) (sym is)
 sent_lines (e ∷ es) first last (next, taken, sends) =
-    line_comes (event_line e.0 e.1) first.left taken.0
+    next_line (event_line e.0 e.1) first.left taken.0
     ∙ ap (λ l. event_line e.0 e.1 ∷ l)
     (ap (λ (c : Comparing). map string_bytes c.left) (sym taken.1) ∙ sent_lines es next last sends)
 
@@ -102,7 +102,7 @@ lost_lines multi old new first last lost next over =
       };
       written = sent_lines lost.sent first last lost.sends
           ∙ ap (λ l. lines_of_events lost.sent ++ l)
-          (line_comes want_line last.left next ∙ ap (λ l. want_line ∷ map string_bytes l) over);
+          (next_line want_line last.left next ∙ ap (λ l. want_line ∷ map string_bytes l) over);
     })
 
 keeps_it : (c : EventCursor) (f : Ending) → Keeps f c → to_come c ≡ fault_alone f
