@@ -1,16 +1,18 @@
--- Comments and spaces among what stands between two tokens.
+-- What stands between two tokens: its comments and spaces, and where it ends.
 use Rattle.std.proofs.Common.{◌≡◌, ℕ, ◌+◌, ◌≤◌, Bool, true, false, List, [], ◌∷◌, drop, get_or, slice_index, refl, sym, ap, ◌∙◌, arith, nat_eq, zero, suc, Result, Ok}
-use Rattle.std.specs.Prelude.{◌==◌}
+use Rattle.std.specs.Prelude.{◌==◌, ◌||◌, nat_lt}
 use Rattle.std.specs.List.{prefix_len}
 use Rattle.std.proofs.lemmas.Bool.Decides.{nat_tests}
-use Rattle.saphyr_input.specs.Classes.{is_blank, is_break, is_yaml_non_break}
+use Rattle.saphyr_input.specs.Classes.{is_blank, is_break, is_bom, is_yaml_non_break}
+use Rattle.saphyr_input.specs.Separation.{blank_len, found_blanks}
+use Rattle.saphyr_input.specs.declared.input.SkipTabs.TheVariants.{Yes}
 use Rattle.saphyr_scalar.specs.declared.scalar.position.Marker.{Marker}
-use Rattle.saphyr_scalar.specs.Views.Cursor.{Cursor, along, pass_comment, pass_spaces}
+use Rattle.saphyr_scalar.specs.Views.Cursor.{Cursor, along, pass_comment, pass_spaces, behind_separation}
 use Rattle.saphyr_scalar.specs.declared.scalar.fault.Refusal.{Refusal}
-use Rattle.saphyr_scanner.specs.Steps.Gap.{GapEnd, stop, gap, comment, gap_at, whole_gap, SpacesEnd, spaces, line_comment, spaces_at}
+use Rattle.saphyr_scanner.specs.Steps.Gap.{GapEnd, stop, gap, comment, gap_at, whole_gap, is_tab_indentation, SpacesEnd, spaces, line_comment, spaces_at}
 use Rattle.saphyr_input.specs.Places.{spaces_within}
 use Rattle.saphyr_scalar.proofs.Moving.{along_none, along_more}
-use Rattle.saphyr_input.proofs.Basics.Booleans.{or_false_left, or_false_right}
+use Rattle.saphyr_input.proofs.Basics.Booleans.{or_false_left, or_false_right, and_false}
 
 along-along : (m : Marker) (a b : ℕ) → along (along m a) b ≡ along m (a + b)
 along-along m a b =
@@ -175,3 +177,20 @@ pub nothing_passed : (least : ℕ) (s t : Cursor) (c : ℕ) → c ≡ slice_inde
 nothing_passed least s t c e same a b d =
     gap_of_nothing least s.mark s.blank_so_far s.rest (rw (sym e) a) (rw (sym e) b) (rw (sym e) d)
     ∙ ap (λ (u : Cursor). Ok (record { cursor = u; broke = false })) (sym same)
+
+-- a gap that stops where no tab stands in the indentation
+pub stop_here : (m : Marker) (blank now : Bool) (t : List ℕ)
+    → stop m blank now false t
+    ≡ Ok (record { cursor = record { rest = t; mark = m; blank_so_far = blank }; broke = now })
+unfolding stop
+stop_here m blank now t = refl
+
+-- where no block collection is open, no tab stands in its indentation
+pub no_tab_indentation : (m : Marker) (blank : Bool) (c : ℕ) → (is_tab_indentation 0 m blank c || false) ≡ false
+no_tab_indentation m blank c = grind (arith, nat_tests)
+
+-- behind blanks stands neither a comment nor a byte order mark
+pub separated : (text : List ℕ) (t : Cursor) → (slice_index text 0 == 35) ≡ false
+    → is_bom (slice_index t.rest 0) ≡ false → behind_separation Yes text t ≡ Ok (found_blanks Yes text, t)
+unfolding behind_separation
+separated text t sign mark = rw (mark, sign, and_false (nat_lt 0 t.mark.col), and_false (blank_len Yes text == 0)) refl

@@ -1,10 +1,13 @@
 -- The stack of what is open, whose top is the last item of a vector.
 use Rattle.std.proofs.Common.{◌≡◌, ℕ, ◌≤◌, ◌<◌, Bool, true, false, List, [], ◌∷◌, ◌++◌, length, drop, get_or, refl, sym, ◌∙◌, ap, zero, suc, arith}
-use Rattle.std.specs.Prelude.{map, reverse, ◌||◌}
+use Rattle.std.specs.Prelude.{map, reverse, ◌||◌, nat_le, Option, Some}
+use Rattle.std.proofs.lemmas.Bool.Decides.{nat_tests}
+use Rattle.saphyr_scalar.specs.declared.scalar.position.Marker.{Marker}
+use Rattle.saphyr_scanner.specs.declared.engine.level.Context.{Context}
 use Rattle.std.proofs.lemmas.List.{reverse-append, map-append}
 use Rattle.std.proofs.Math.Seq.{drop-cons}
 use Rattle.saphyr_scanner.specs.declared.engine.level.Level as declared
-use Rattle.saphyr_scanner.specs.Steps.Level.{Level, holds}
+use Rattle.saphyr_scanner.specs.Steps.Level.{Candidate, Level, holds}
 use Rattle.saphyr_scanner.specs.Views.Engine.{level}
 use Rattle.saphyr_scanner.specs.Steps.Fetch.{any_holds}
 use Rattle.saphyr_input.proofs.Basics.Booleans.{or_assoc}
@@ -74,3 +77,18 @@ pub none_holds : (p i : ℕ) (xs : List declared.Level) (innermost : Level) → 
 none_holds p i xs innermost h told others =
     let rest : any_holds p (map level (drop i xs)) ≡ false = ap (λ ys. any_holds p (map level ys)) (past_end i xs h) in
     sym (ap (λ c. c || any_holds p (map level (reverse xs))) told ∙ any_reverse p xs ∙ sym others ∙ rest)
+
+-- ## Keys, and how many levels there are
+
+-- the key that may begin at the next token
+abbrev pub saved : Bool → ℕ → Marker → Option Candidate → Option Candidate
+saved true n m k = Some (record { mark = m; place = n })
+saved false n m k = k
+
+-- a level, of what is open and the key there
+abbrev pub level_of : Context → Option Candidate → Level
+level_of x k = record { context = x; key = k }
+
+-- one more may be opened
+pub not_full : (n : ℕ) → n < 255 → nat_le 255 n ≡ false
+not_full n h = grind (arith, nat_tests)

@@ -8,6 +8,7 @@ pub mod Filling
 pub mod Blocks
 pub mod Gaps
 pub mod Leads
+pub mod Root
 pub mod Taken
 pub mod HandedOut
 pub mod Lazy

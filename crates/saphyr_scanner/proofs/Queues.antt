@@ -1,9 +1,13 @@
 -- The queue of a scanner: its places and their pieces.
-use Rattle.std.proofs.Common.{◌≡◌, ℕ, List, [], ◌∷◌, ◌++◌, refl, sym, ap, ◌∙◌, append_assoc}
+use Rattle.std.proofs.Common.{◌≡◌, ℕ, List, [], ◌∷◌, ◌++◌, length, refl, sym, ap, ◌∙◌, append_assoc}
+use Rattle.std.specs.Prelude.{map}
+use Rattle.std.proofs.lemmas.List.{map-append}
+use Rattle.saphyr_scalar.specs.declared.scalar.position.Marker.{Marker}
 use Rattle.saphyr_scanner.specs.declared.queue.Opening.{Opening}
+use Rattle.saphyr_scanner.specs.Grammar.Tokens.{Kind}
 use Rattle.saphyr_scanner.specs.Views.Tokens.{Piece}
 use Rattle.saphyr_scanner.specs.Steps.Core.{Core}
-use Rattle.saphyr_scanner.specs.Steps.Queue.{Place}
+use Rattle.saphyr_scanner.specs.Steps.Queue.{Place, Queue, bare_place, places_with_opening}
 use Rattle.saphyr_scanner.specs.Steps.State.{State}
 use Rattle.saphyr_scanner.proofs.Leads.{flat, place_pieces}
 
@@ -20,3 +24,25 @@ flat_append [] qs = refl
 flat_append (p ∷ ps) qs =
     ap (λ r. place_pieces p.opening p.piece ++ r) (flat_append ps qs)
     ∙ sym (append_assoc (place_pieces p.opening p.piece) (flat ps) (flat qs))
+
+-- the queue of these places, of which none was handed out
+abbrev pub queue_of : List Place → Queue
+queue_of ps = record { places = ps; handed = 0 }
+
+-- a token that was read
+abbrev pub token_place : Marker → Marker → Kind → Place
+token_place a b kind = bare_place (record { span = record { start = a; end = b }; kind = kind })
+
+-- the place_kinds of the tokens of places
+abbrev pub place_kinds : List Place → List Kind
+place_kinds ps = map (λ (t : Piece). t.kind) (flat ps)
+
+pub place_kinds_append : (a b : List Place) → place_kinds (a ++ b) ≡ place_kinds a ++ place_kinds b
+place_kinds_append a b = ap (map (λ (t : Piece). t.kind)) (flat_append a b)
+    ∙ map-append (λ (t : Piece). t.kind) (flat a) (flat b)
+
+-- the place before the others that come behind it is opened
+pub with_opening_seam : (o : Opening) (ps : List Place) (p : Place) (qs : List Place)
+    → places_with_opening (length ps) o (ps ++ p ∷ qs) ≡ ps ++ record { opening = o; piece = p.piece } ∷ qs
+with_opening_seam o [] p qs = refl
+with_opening_seam o (q ∷ ps) p qs = ap (λ (x : List Place). q ∷ x) (with_opening_seam o ps p qs)

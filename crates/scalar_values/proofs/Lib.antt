@@ -3,5 +3,5 @@ pub mod Items
 pub mod Kept
 pub mod LargeEscapes
 pub mod Lines
-pub mod ReadSpellings
-pub mod SpellingsRead
+pub mod ItemsSpelled
+pub mod ItemsRead

@@ -20,7 +20,7 @@ use Rattle.scalar_values.specs.Items.{IsSpelling, Spells, IsSpelledQuote}
 use Rattle.saphyr_scalar.proofs.Quoted.Inside.{break_cases}
 use Rattle.saphyr_scalar.proofs.Quoted.SpelledLines.{quoted_spelled}
 use Rattle.saphyr_scalar.proofs.Quoted.SpelledEscapes.{GaveText}
-use Rattle.scalar_values.proofs.SpellingsRead.{quoted_read}
+use Rattle.scalar_values.proofs.ItemsRead.{quoted_read}
 use Rattle.saphyr_input.proofs.Basics.Characters.{normalized_other}
 
 digits_number : (v : ℕ) (ds : List ℕ) → AreIn is_hex ds → IsTrue (is_scalar_value (line.hexadecimal_from v ds))

@@ -20,7 +20,6 @@ use Rattle.saphyr_scanner.specs.Steps.Unrolling.{unroll}
 use Rattle.saphyr_scanner.specs.Steps.Document as document
 use Rattle.saphyr_scanner.specs.Steps.Document.{end_content, read_directive, directive_kind}
 use Rattle.saphyr_scanner.specs.Steps.Fetch.{fetch_here}
-use Rattle.saphyr_scanner.proofs.Json.States.{state_at}
 use Rattle.saphyr_scanner.proofs.Flow.States.{past, ReaderPromises}
 use Rattle.saphyr_scanner.proofs.Documents.Lines.{passes_filler}
 use Rattle.saphyr_scanner.proofs.Documents.Stands.{Lined, StandsInStream, reads_token}
@@ -28,6 +27,7 @@ use Rattle.saphyr_scanner.proofs.InBlock.Lines.{one_lined}
 use Rattle.saphyr_scanner.proofs.Documents.Markers.{piece_of, at_line}
 use Rattle.saphyr_scalar.proofs.Given.{cursor_at}
 use Rattle.std.proofs.lemmas.Bool.{eq-eqb, false≢true}
+use Rattle.saphyr_scanner.proofs.Root.{state_at}
 
 directive_here : (m e : Marker) (blank : Bool) (r : List ℕ) (d : directives.ReadDirective) (u : Cursor)
     (k : Option Candidate) (a : Bool) (ad : ℕ) (ps : List Place) → m.col ≡ 0

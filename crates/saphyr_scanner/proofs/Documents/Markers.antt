@@ -24,9 +24,6 @@ use Rattle.saphyr_scanner.specs.Steps.Unrolling.{unroll}
 use Rattle.saphyr_scanner.specs.Steps.Document.{end_content, marker, end_line, end_marker, state_behind_byte_order_mark}
 use Rattle.saphyr_scanner.specs.Steps.Fetch.{fetch_here}
 use Rattle.saphyr_scanner.proofs.Leads.{LeadsTo}
-use Rattle.saphyr_scanner.proofs.Json.States.{core_at, state_at}
-use Rattle.saphyr_scanner.proofs.Json.Leads.{here, finished}
-use Rattle.saphyr_scanner.proofs.Json.Marks.{kinds, kinds_append}
 use Rattle.saphyr_scanner.proofs.Flow.States.{moved, past}
 use Rattle.saphyr_scanner.proofs.Flow.GapSteps.{past_count}
 use Rattle.saphyr_scanner.proofs.Flow.Separates.{separates_rest}
@@ -38,6 +35,8 @@ use Rattle.saphyr_scalar.proofs.Given.{cursor_at}
 use Rattle.std.proofs.Math.Bool.{or-false, or-true}
 use Rattle.std.proofs.lemmas.Bool.{eq-eqb}
 use Rattle.saphyr_input.proofs.Basics.Lists.{cons_not_empty}
+use Rattle.saphyr_scanner.proofs.Queues.{place_kinds, place_kinds_append}
+use Rattle.saphyr_scanner.proofs.Root.{core_at, state_at, fetches_stream_end, stream_end_place}
 
 no_greater : (n : ℕ) → n ≡ 0 → nat_lt 0 n ≡ false
 no_greater n h = grind (arith, nat_tests)
@@ -183,7 +182,7 @@ pub record FinishesStream (limit : ℕ) (start : State) (Told : List Kind → Ty
   pub over : last.core.ended ≡ true
   pub others : List Kind
   pub told : Told others
-  pub are : kinds last.queue.places ≡ ts ++ others
+  pub are : place_kinds last.queue.places ≡ ts ++ others
 
 low_index : (i l n limit : ℕ) → i + 0 ≡ n + l → n + l ≤ limit → i ≤ limit
 low_index i l n limit e h = omega (arith, e, h)
@@ -196,13 +195,15 @@ reads_stream_end {limit = limit} {free = free} {o = o} {ts = ts} v m text =
     (sym text) ∙ past_count 0 v.mark o in
     let low = low_index m.index (length o) v.mark.index limit counted v.count in
     let r = reads_here limit v.comment v.there v.key v.allowed v.adjacent v.places m [] (v.fits ∙ text) (inr (inl refl))
-    true (λ blank. cursor_at [] m blank) (λ key. key) false (v.places ++ finished m ∷ [])
-    (λ blank key allowed. here m blank key allowed v.adjacent v.places) (λ _. low) in
+    true (λ blank. cursor_at [] m blank) (λ key. key) false (v.places ++ stream_end_place m ∷ [])
+    (λ blank key allowed. fetches_stream_end m blank key allowed v.adjacent v.places) (λ _. low) in
     record {
-      last = state_at true (cursor_at [] m r.0) context.Block r.1 [] false v.adjacent (v.places ++ finished m ∷ []);
+      last = state_at true (cursor_at [] m r.0) context.Block r.1 [] false v.adjacent
+          (v.places ++ stream_end_place m ∷ []);
       leads = comes_to_end v.follows refl r.4 refl;
       over = refl;
       others = tokens.StreamEnd ∷ [];
       told = refl;
-      are = kinds_append v.places (finished m ∷ []) ∙ ap (λ (x : List Kind). x ++ tokens.StreamEnd ∷ []) v.are;
+      are = place_kinds_append v.places (stream_end_place m ∷ [])
+          ∙ ap (λ (x : List Kind). x ++ tokens.StreamEnd ∷ []) v.are;
     }

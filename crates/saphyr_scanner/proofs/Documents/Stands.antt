@@ -17,8 +17,6 @@ use Rattle.saphyr_scanner.specs.Steps.State.{State, on_core}
 use Rattle.saphyr_scanner.specs.Steps.Unrolling.{unroll}
 use Rattle.saphyr_scanner.specs.Steps.Fetch.{fetch_here, arrive, fetch}
 use Rattle.saphyr_scanner.proofs.Leads.{LeadsTo}
-use Rattle.saphyr_scanner.proofs.Json.States.{core_at, state_at, queue_of, drops_key, none_unrolls, comes}
-use Rattle.saphyr_scanner.proofs.Json.Marks.{kinds, kinds_append}
 use Rattle.saphyr_scanner.proofs.InFlow.States.{alone}
 use Rattle.saphyr_scanner.proofs.InBlock.States.{crosses, GoesOnAs}
 use Rattle.saphyr_scanner.proofs.InBlock.Follows.{goes_on}
@@ -29,6 +27,8 @@ use Rattle.saphyr_scanner.proofs.Flow.GapSteps.{past_low, past_inked}
 use Rattle.saphyr_scanner.proofs.Flow.Arrivals.{passes_gap, within_index}
 use Rattle.saphyr_scalar.proofs.Given.{cursor_at}
 use Rattle.std.proofs.lemmas.Bool.{eq-eqb}
+use Rattle.saphyr_scanner.proofs.Queues.{place_kinds, place_kinds_append, queue_of}
+use Rattle.saphyr_scanner.proofs.Root.{core_at, state_at, drops_key, none_unrolls, comes}
 
 -- ## Behind a comment that ended a plain scalar
 
@@ -174,7 +174,7 @@ pub record StandsInStream (limit : ℕ) (start : State) (free : Bool) (P : Marke
   pub fits : past 0 there.mark there.rest ≡ past 0 mark o
   pub line : P mark (crosses there.rest || allowed)
   pub count : mark.index + length o ≤ limit
-  pub are : kinds places ≡ ts
+  pub are : place_kinds places ≡ ts
   pub quiet : free ≡ true → comment ≡ None
   pub low : adjacent ≤ (past 0 mark o).0.index
   pub lined : IsLined mark
@@ -217,7 +217,7 @@ reads_token {limit = limit} {y = y} {ts = ts} v here may t b piece is Q n o fits
       fits = fits r.0;
       line = line r.0;
       count = count;
-      are = kinds_append v.places (bare_place piece ∷ []) ∙ ap (λ (x : List Kind). x ++ piece.kind ∷ []) v.are;
+      are = place_kinds_append v.places (bare_place piece ∷ []) ∙ ap (λ (x : List Kind). x ++ piece.kind ∷ []) v.are;
       quiet = λ _. refl;
       low = omega (arith, first, later, on);
       lined = lined;

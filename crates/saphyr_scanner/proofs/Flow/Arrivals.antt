@@ -1,5 +1,6 @@
 -- The next token of a text in flow style is reached, and read by a step.
 use Rattle.std.proofs.Common.{◌≡◌, ◌⊎◌, ℕ, ◌+◌, ◌≤◌, Bool, true, false, List, length, slice_index, Ok, refl, ap, ◌∙◌, arith}
+use Rattle.std.proofs.Math.Nat.{zero-add}
 use Rattle.std.specs.Prelude.{◌||◌, ◌&&◌, ◌==◌, Option, Some, None}
 use Rattle.saphyr_input.specs.Classes.{is_blank, is_bom, is_z}
 use Rattle.saphyr_input.specs.Places.{is_document_indicator, is_document_start, is_document_end}
@@ -14,7 +15,6 @@ use Rattle.saphyr_scanner.specs.Steps.Passing.{pass_gap, check_comment, behind_g
 use Rattle.saphyr_scanner.specs.Steps.State.{State, on_core, after_step}
 use Rattle.saphyr_scanner.specs.Steps.Unrolling.{unroll}
 use Rattle.saphyr_scanner.specs.Steps.Fetch.{step, state_behind_content, fetch_here, arrive, fetch}
-use Rattle.saphyr_scanner.proofs.Json.States.{queue_of, none_before, stop_here}
 use Rattle.saphyr_scanner.proofs.InFlow.States.{Around, core_at, state_at, least, least_low, not_left, drops_far_key, key_left, left_in_flow, left_or_none, none_unrolls, Deepens, ComesAround, comes, FlowMoment}
 use Rattle.saphyr_scanner.proofs.Flow.States.{crosses, past, is_filler_rest}
 use Rattle.saphyr_scanner.proofs.Flow.Gaps.{gap_past, no_tab_before}
@@ -22,6 +22,8 @@ use Rattle.saphyr_scanner.proofs.Flow.GapSteps.{past_count}
 use Rattle.saphyr_scanner.proofs.InBlock.Gaps.{gap_broke}
 use Rattle.saphyr_scalar.proofs.Given.{cursor_at}
 use Rattle.saphyr_input.proofs.Basics.Booleans.{and_false, and_or_false}
+use Rattle.saphyr_scanner.proofs.Queues.{queue_of}
+use Rattle.saphyr_scanner.proofs.Gaps.{stop_here}
 
 -- What stands between two tokens is passed, up to the place m, where y stands.
 pub record PassesGap (around : Around) (s : Cursor) (x : Context) (k : Option Candidate) (ls : List Level) (a : Bool)
@@ -139,7 +141,7 @@ step_comes around now m y v h next actions to deepens is done low =
       allowed = v.allowed;
     }) h v.right in
     let at_place = ap (λ (n : ℕ). after_step (step (slice_index y 0) (slice_index y 1) n c) (queue_of now.places))
-    (none_before (length now.places)) in
+    (zero-add (length now.places)) in
     let made = ap (λ r. after_step r (queue_of now.places)) (is d)
     ∙ ap (λ (q : Queue). Ok (let r : State = record (state_at around next (to d)) { queue = q } in r)) done in
     there ∙ at_place ∙ made) low v.calm

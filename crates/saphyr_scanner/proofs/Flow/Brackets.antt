@@ -21,9 +21,6 @@ use Rattle.saphyr_scanner.specs.Steps.Flow as flow
 use Rattle.saphyr_scanner.specs.Steps.Flow.{close_collection, behind_pair}
 use Rattle.saphyr_scanner.specs.Steps.Fetch.{step}
 use Rattle.saphyr_scanner.proofs.InFlow.States.{Around, core_at, state_at, Calm, placed_right, opening_steps_open, open_collection_gives, close_collection_gives, deepened, bracket_deepens, as_before, FlowMoment, moment, moment_with}
-use Rattle.saphyr_scanner.proofs.Json.States.{queue_of}
-use Rattle.saphyr_scanner.proofs.Json.Marks.{kinds, saved, level_of}
-use Rattle.saphyr_scanner.proofs.Json.Brackets.{token_place}
 use Rattle.saphyr_scanner.proofs.Flow.States.{IsFresh, Since, moved, past, IsClear, IsInk, IsParted, Known, fresh_key, PassesPiece, FitsAround, StandsBefore, key_behind}
 use Rattle.saphyr_scanner.proofs.Flow.Places.{moved_index, right_one, clear_here}
 use Rattle.saphyr_scanner.proofs.Flow.GapSteps.{past_ink, past_low}
@@ -34,6 +31,8 @@ use Rattle.saphyr_scanner.proofs.Flow.Joins.{step_passes}
 use Rattle.saphyr_scanner.proofs.InBlock.Crossings.{fresh_in_flow}
 use Rattle.saphyr_scalar.proofs.Given.{cursor_at}
 use Rattle.saphyr_input.proofs.Basics.Numbers.{le_next}
+use Rattle.saphyr_scanner.proofs.Queues.{token_place, place_kinds, queue_of}
+use Rattle.saphyr_scanner.proofs.Levels.{saved, level_of}
 
 -- a character that is a token
 pub record IsTokenMark (c : ℕ) : Type 0 where
@@ -128,7 +127,7 @@ mark_puts true ps m e kind =
 mark_puts false ps m e kind = refl
 
 pub mark_kinds : (ends : Bool) (m e : Marker) (kind : Kind)
-    → kinds (mark_places ends m e kind) ≡ pending ends ++ kind ∷ []
+    → place_kinds (mark_places ends m e kind) ≡ pending ends ++ kind ∷ []
 mark_kinds true m e kind = refl
 mark_kinds false m e kind = refl
 

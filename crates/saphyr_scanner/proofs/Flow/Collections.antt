@@ -21,7 +21,6 @@ use Rattle.saphyr_scanner.specs.Steps.Flow.{close_collection}
 use Rattle.saphyr_scanner.specs.Steps.State.{State}
 use Rattle.saphyr_scanner.specs.Steps.Fetch.{step}
 use Rattle.saphyr_scanner.proofs.InFlow.States.{Around, core_at, state_at, Calm, FlowMoment}
-use Rattle.saphyr_scanner.proofs.Json.Marks.{level_of}
 use Rattle.saphyr_scanner.proofs.Flow.States.{crosses, IsFresh, Since, KeptKey, keeping, moved, past, IsParted, IsBehindRoot, Known, PassesPiece, FitsAround, ended, StandsBefore, after}
 use Rattle.saphyr_scanner.proofs.Flow.Places.{moved_append}
 use Rattle.saphyr_scanner.proofs.Flow.GapSteps.{past_ink, less_on}
@@ -33,6 +32,7 @@ use Rattle.saphyr_scanner.proofs.InBlock.Crossings.{fresh_in_flow, line_rest_cro
 use Rattle.saphyr_scanner.proofs.Flow.Pieces.{fits_front, fits_back, fits_before}
 use Rattle.saphyr_scalar.proofs.Given.{cursor_at}
 use Rattle.saphyr_input.proofs.Basics.Numbers.{le_next}
+use Rattle.saphyr_scanner.proofs.Levels.{level_of}
 
 -- ## Behind the closing bracket
 

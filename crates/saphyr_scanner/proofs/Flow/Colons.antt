@@ -1,5 +1,6 @@
 -- The colons of a text in flow style are read, behind a key and without one.
 use Rattle.std.proofs.Common.{◌≡◌, ℕ, ◌≤◌, Bool, true, false, List, [], ◌∷◌, ◌++◌, length, slice_index, Ok, refl, sym, ap, ◌∙◌, arith, append_assoc, IsTrue, ◌⊎◌, inl, inr}
+use Rattle.std.proofs.Math.Nat.{sub-zero}
 use Rattle.std.specs.Prelude.{if◌then◌else◌, ◌||◌, ◌==◌, not, nat_lt, Option, Some, None}
 use Rattle.std.proofs.lemmas.Bool.Decides.{nat_tests}
 use Rattle.saphyr_input.specs.Classes.{is_blank_or_breakz, is_flow}
@@ -21,15 +22,13 @@ use Rattle.saphyr_scanner.specs.Steps.Value as value
 use Rattle.saphyr_scanner.specs.Steps.Value.{check_tab, refuse_lone_tab, value_of_key, value_alone, behind_key}
 use Rattle.saphyr_scanner.specs.Steps.Fetch.{step, flow_value}
 use Rattle.saphyr_scanner.proofs.InFlow.States.{Around, required_at, core_at}
-use Rattle.saphyr_scanner.proofs.Json.States.{queue_of}
-use Rattle.saphyr_scanner.proofs.Json.Marks.{kinds, kinds_append}
-use Rattle.saphyr_scanner.proofs.Json.Colons.{with_opening_seam, none_off}
 use Rattle.saphyr_scanner.proofs.Flow.States.{past, IsParted, ends_colon}
 use Rattle.saphyr_scanner.proofs.Flow.Separates.{separates}
 use Rattle.saphyr_scanner.proofs.Flow.Brackets.{IsTokenMark}
 use Rattle.saphyr_input.proofs.Basics.Booleans.{by_test, and_false}
 use Rattle.saphyr_scalar.proofs.Given.{cursor_at}
 use Rattle.std.proofs.lemmas.Bool.{or_right, eq-eqb, true≢false}
+use Rattle.saphyr_scanner.proofs.Queues.{place_kinds, place_kinds_append, queue_of, with_opening_seam}
 
 -- ## A colon is an indicator
 
@@ -169,25 +168,26 @@ pub performs : (ps others new : List Place) (op : Opening) (key mark : Piece) �
     → perform (Open (length ps) op ∷ Put mark ∷ []) (queue_of (ps ++ new))
     ≡ queue_of (ps ++ pair_places op key others mark)
 performs ps others new op key mark is =
-    let places = ap (λ (i : ℕ). places_with_opening i op (ps ++ new)) (none_off (length ps))
+    let places = ap (λ (i : ℕ). places_with_opening i op (ps ++ new)) (sub-zero (length ps))
     ∙ ap (λ (x : List Place). places_with_opening (length ps) op (ps ++ x)) is
     ∙ with_opening_seam op ps (bare_place key) others in
     ap (λ (x : List Place). queue_of (x ++ bare_place mark ∷ [])) places
     ∙ ap queue_of (append_assoc ps (record { opening = op; piece = key } ∷ others) (bare_place mark ∷ []))
 
 pub pair_kinds : (begins : Bool) (key : Piece) (others new : List Place) (m : Marker) (ts : List Kind)
-    → new ≡ bare_place key ∷ others → kinds new ≡ ts
-    → kinds (pair_places (opened_key begins) key others (empty_piece m tokens.Value))
+    → new ≡ bare_place key ∷ others → place_kinds new ≡ ts
+    → place_kinds (pair_places (opened_key begins) key others (empty_piece m tokens.Value))
     ≡ key_kinds begins ++ (ts ++ tokens.Value ∷ [])
 pair_kinds begins key others new m ts is are =
-    let whole : kinds (bare_place key ∷ others) ≡ ts = ap kinds (sym is) ∙ are in
-    let back = kinds_append (bare_place key ∷ others) (bare_place (empty_piece m tokens.Value) ∷ [])
+    let whole : place_kinds (bare_place key ∷ others) ≡ ts = ap place_kinds (sym is) ∙ are in
+    let back = place_kinds_append (bare_place key ∷ others) (bare_place (empty_piece m tokens.Value) ∷ [])
     ∙ ap (λ (x : List Kind). x ++ tokens.Value ∷ []) whole in
     by_opening begins back
   where
     by_opening : (begins : Bool)
-        → kinds (bare_place key ∷ (others ++ bare_place (empty_piece m tokens.Value) ∷ [])) ≡ ts ++ tokens.Value ∷ []
-        → kinds (pair_places (opened_key begins) key others (empty_piece m tokens.Value))
+        → place_kinds (bare_place key ∷ (others ++ bare_place (empty_piece m tokens.Value) ∷ [])) ≡ ts ++
+        tokens.Value ∷ []
+        → place_kinds (pair_places (opened_key begins) key others (empty_piece m tokens.Value))
         ≡ key_kinds begins ++ (ts ++ tokens.Value ∷ [])
     by_opening true e = ap (λ (x : List Kind). tokens.FlowMappingStart ∷ tokens.Key ∷ x) e
     by_opening false e = ap (λ (x : List Kind). tokens.Key ∷ x) e

@@ -25,7 +25,7 @@ use Rattle.saphyr_scanner.proofs.Flow.Brackets.{IsTokenMark, mark_begins, mark_m
 use Rattle.saphyr_scalar.proofs.Given.{cursor_at}
 use Rattle.saphyr_input.proofs.Basics.Numbers.{le_next}
 use Rattle.std.proofs.lemmas.Bool.{true≢false}
-use Rattle.saphyr_scanner.proofs.Json.Brackets.{comma_begins}
+use Rattle.saphyr_scanner.proofs.Steps.Choice.{comma_begins}
 
 in_flow : (y : Context) → is_block y ≡ false → is_block (behind_entry y) ≡ false
 in_flow context.Block e = absurd (true≢false e)

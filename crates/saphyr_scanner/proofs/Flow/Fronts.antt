@@ -14,7 +14,6 @@ use Rattle.saphyr_scanner.specs.Steps.Level.{Level, is_block}
 use Rattle.saphyr_scanner.specs.Grammar.Forest.{Properties, no_properties}
 use Rattle.saphyr_scanner.specs.Grammar.FlowNodes.{IsProperties, IsBeforeContent}
 use Rattle.saphyr_scanner.proofs.InFlow.States.{Around, state_at, Calm, FlowMoment}
-use Rattle.saphyr_scanner.proofs.Json.Marks.{saved}
 use Rattle.saphyr_scanner.proofs.Flow.States.{Since, keeping, moved, past, IsParted, PassesPiece, FitsAround, ReaderPromises, after, StandsBefore}
 use Rattle.saphyr_scanner.proofs.Flow.Places.{moved_append, moved_index}
 use Rattle.saphyr_scanner.proofs.Flow.Joins.{since_join, join, separation_joins}
@@ -22,6 +21,7 @@ use Rattle.saphyr_scanner.proofs.Flow.Properties.{behind_properties, properties_
 use Rattle.saphyr_scanner.proofs.Flow.Spaces.{separation_begins}
 use Rattle.saphyr_scanner.proofs.Flow.Pieces.{fits_front, fits_back}
 use Rattle.saphyr_scanner.proofs.Flow.Collections.{EndsAt, Brackets, AreBrackets, IsBracketed, bracketed, bracket_text, RunsInside, brackets_pass}
+use Rattle.saphyr_scanner.proofs.Levels.{saved}
 
 -- the tokens of properties and of a collection behind them, and the run over its text
 pub record CollectionPasses (around : Around) (now : FlowMoment) (Is : List Kind → Type 0) (b : Brackets)

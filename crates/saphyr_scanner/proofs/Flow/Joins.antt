@@ -10,11 +10,11 @@ use Rattle.saphyr_scanner.specs.Steps.Queue.{Place}
 use Rattle.saphyr_scanner.specs.Steps.Level.{Candidate, Level}
 use Rattle.saphyr_scanner.specs.Steps.State.{State}
 use Rattle.saphyr_scanner.proofs.InFlow.States.{Around, state_at, runs_to_itself, chains, ComesAround, FlowMoment, moment_with}
-use Rattle.saphyr_scanner.proofs.Json.Marks.{kinds, kinds_append}
 use Rattle.saphyr_scanner.proofs.Flow.States.{moved, past, IsFresh, Since, Known, PassesPiece, Closes, after, StandsBefore}
 use Rattle.saphyr_scanner.proofs.Flow.Places.{moved_append}
 use Rattle.saphyr_scanner.proofs.Flow.Fillers.{separation_past, right_behind}
 use Rattle.saphyr_scanner.proofs.InBlock.Crossings.{separation_crosses}
+use Rattle.saphyr_scanner.proofs.Queues.{place_kinds, place_kinds_append}
 
 -- a piece, and another behind it
 pub join : {around : Around} {start : Bool → State} {known more : Known} {x y : Context} {ls ms : List Level}
@@ -34,7 +34,7 @@ join {ps = ps} {ts = ts} {us = us} p q all knows =
       right = q.right;
       fits = q.fits;
       fresh = q.fresh;
-      are = kinds_append p.new q.new ∙ ap (λ x. x ++ kinds q.new) p.are ∙ ap (λ x. ts ++ x) q.are;
+      are = place_kinds_append p.new q.new ∙ ap (λ x. x ++ place_kinds q.new) p.are ∙ ap (λ x. ts ++ x) q.are;
       knows = knows;
     }
 
@@ -85,7 +85,7 @@ join_root {ps = ps} {ts = ts} p q late =
       new = p.new ++ q.new;
       leads = rw (← append_assoc ps p.new q.new) (chains p.leads q.leads);
       fits = q.fits;
-      are = kinds_append p.new q.new ∙ ap (λ x. x ++ kinds q.new) p.are ∙ ap (λ x. ts ++ x) q.are;
+      are = place_kinds_append p.new q.new ∙ ap (λ x. x ++ place_kinds q.new) p.are ∙ ap (λ x. ts ++ x) q.are;
       low = q.low;
       late = late;
       fresh = q.fresh;
@@ -163,7 +163,7 @@ knowing p other h =
 pub step_passes : {around : Around} {start : Bool → State} (next : FlowMoment) (new : List Place) (m : Marker)
     (o : List ℕ) (ts : List Kind) (known : Known) → (c : ComesAround around start (moment_with new next))
     → around.indent ≤ m.col → StandsBefore around next m o → IsFresh next.context o next.allowed next.cursor
-    → kinds new ≡ ts → known c.key next.allowed next.adjacent new
+    → place_kinds new ≡ ts → known c.key next.allowed next.adjacent new
     → PassesPiece around start known next.context next.outer next.places m o ts
 step_passes next new m o ts known c right fits fresh are knows =
     record {

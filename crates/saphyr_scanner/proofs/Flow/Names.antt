@@ -22,13 +22,13 @@ use Rattle.saphyr_scanner.specs.Grammar.TagSpelling.{IsTag}
 use Rattle.saphyr_scanner.specs.Grammar.FlowNodes.{IsAnchor, IsAlias}
 use Rattle.saphyr_scanner.proofs.LineTexts.{name_no_break, tag_no_break}
 use Rattle.saphyr_scanner.proofs.InFlow.States.{Around, core_at, Placed, placed_right, saves_key, as_before, FlowMoment}
-use Rattle.saphyr_scanner.proofs.Json.Marks.{saved}
 use Rattle.saphyr_scanner.proofs.Flow.States.{moved, ReaderPromises, FitsAround, StandsBefore}
 use Rattle.saphyr_scanner.proofs.Flow.Places.{moved_along, right_along}
 use Rattle.saphyr_scanner.proofs.Flow.Tokens.{Begins, token_passes, PassesToken}
 use Rattle.saphyr_scanner.proofs.Flow.Tags.{tag_read, tag_first}
 use Rattle.saphyr_scalar.proofs.Given.{cursor_at}
 use Rattle.saphyr_input.proofs.Basics.Characters.{no_break_no_feed}
+use Rattle.saphyr_scanner.proofs.Levels.{saved}
 
 -- on its line what has no break has no line feed
 pub unbroken_on_line : (t : List ℕ) → NoBreaks t → AreIn (λ c. not (c == line_feed)) t

@@ -1,5 +1,6 @@
 -- A step outside flow that notes a comment.
 use Rattle.std.proofs.Common.{◌≡◌, ◌⊎◌, ℕ, ◌≤◌, Bool, true, false, List, [], length, slice_index, Ok, refl, ap, ◌∙◌}
+use Rattle.std.proofs.Math.Nat.{zero-add}
 use Rattle.std.specs.Prelude.{Option, None}
 use Rattle.saphyr_scalar.specs.declared.scalar.position.Marker.{Marker}
 use Rattle.saphyr_scalar.specs.Views.Cursor.{◌>>=◌}
@@ -11,11 +12,11 @@ use Rattle.saphyr_scanner.specs.Steps.State.{State, on_core, after_step}
 use Rattle.saphyr_scanner.specs.Steps.Fetch.{step, state_behind_content, fetch_here, fetch, check_limit, fetch_within}
 use Rattle.saphyr_scanner.proofs.Leads.{stay, onward}
 use Rattle.saphyr_scanner.proofs.InFlow.States.{Around, core_at, state_at, key_left, left_or_none, Run, RunsTo, Deepens, FlowMoment, root_moment}
-use Rattle.saphyr_scanner.proofs.Json.States.{queue_of, none_before}
 use Rattle.saphyr_scanner.proofs.Flow.States.{noted}
 use Rattle.saphyr_scanner.proofs.Flow.Arrivals.{Arrives, BeginsToken, begins_here}
 use Rattle.saphyr_scalar.proofs.Given.{cursor_at}
 use Rattle.std.proofs.lemmas.Bool.{le-leb}
+use Rattle.saphyr_scanner.proofs.Queues.{queue_of}
 
 -- the core at a moment outside flow, with a comment
 abbrev pub core_with : Around → Bool → Option Marker → FlowMoment → Core
@@ -89,7 +90,7 @@ noted_step_comes around now m y v h comment next actions to deepens is done low 
     let arrived = root_moment (record now { cursor = seen; key = v.key; allowed = v.allowed }) in
     let there = ap (λ r. r >>= fetch_here) (v.is d) ∙ begins_here around d arrived h v.right in
     let at_place = ap (λ (n : ℕ). after_step (step (slice_index y 0) (slice_index y 1) n c) (queue_of now.places))
-    (none_before (length now.places)) in
+    (zero-add (length now.places)) in
     let made = ap (λ r. after_step r (queue_of now.places)) (is d)
     ∙ ap (λ (q : Queue). Ok (let r : State =
     record { core = core_with around (to d) comment next; queue = q } in r)) done in

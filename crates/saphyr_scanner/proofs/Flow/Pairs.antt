@@ -13,7 +13,6 @@ use Rattle.saphyr_scanner.specs.Steps.State.{State}
 use Rattle.saphyr_scanner.specs.Grammar.Forest.{Node, left_out}
 use Rattle.saphyr_scanner.specs.Grammar.FlowNodes.{allows_adjacent, IsColonAndValue, IsBeforeColon, IsKeyAndValue, IsValueAlone, IsFlowNode, IsKeyText}
 use Rattle.saphyr_scanner.proofs.InFlow.States.{Around, state_at, FlowMoment, moment_in}
-use Rattle.saphyr_scanner.proofs.Json.Marks.{saved}
 use Rattle.saphyr_scanner.proofs.Flow.States.{moved, past, FitsAround, IsInk, IsParted, ends_colon, IsBehindNode, Known, PassesPiece, no_key, ended, after_node, IsAfterNode, IsNodeOrKey, PassesNode, after, StandsBefore, key_behind}
 use Rattle.saphyr_scanner.proofs.Flow.Places.{moved_append, right_one}
 use Rattle.saphyr_scanner.proofs.Flow.GapSteps.{past_ink, less_on, less_behind}
@@ -23,6 +22,7 @@ use Rattle.saphyr_scanner.proofs.Flow.Colons.{key_kinds, colon_flows}
 use Rattle.saphyr_scanner.proofs.Flow.Values.{key_at, colon_passes, alone_kinds, value_passes}
 use Rattle.saphyr_scanner.proofs.Flow.Inks.{node_ink}
 use Rattle.saphyr_scanner.proofs.Flow.Pieces.{fits_front, fits_back, fits_so, fits_before, IsBehindEntry, entry_behind, entry_parted, ink_parted, white_ends_colon, entry_ends_colon}
+use Rattle.saphyr_scanner.proofs.Levels.{saved}
 
 -- The tokens of a piece, of which something is told, and the run over its text.
 pub record TellsPiece (around : Around) (start : Bool → State) (Is : List Kind → Type 0) (x : Context) (ls : List Level)

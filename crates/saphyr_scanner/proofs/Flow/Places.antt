@@ -8,9 +8,8 @@ use Rattle.saphyr_input.specs.Places.{is_document_indicator}
 use Rattle.saphyr_scalar.specs.declared.scalar.position.Marker.{Marker}
 use Rattle.saphyr_scalar.specs.Views.Cursor.{along, next_line}
 use Rattle.saphyr_scalar.specs.Spelling.Tag.{AreIn}
-use Rattle.saphyr_scanner.proofs.Json.Gaps.{along_more}
 use Rattle.saphyr_scanner.proofs.Flow.States.{moved, marks_line, IsClear}
-use Rattle.saphyr_scalar.proofs.Moving.{along_none}
+use Rattle.saphyr_scalar.proofs.Moving.{along_none, along_more}
 use Rattle.saphyr_input.proofs.Basics.Booleans.{by_test}
 use Rattle.std.proofs.lemmas.Bool.{or_parts, or_from}
 use Rattle.saphyr_scanner.proofs.Beginnings.{front_in, back_in}
@@ -45,7 +44,8 @@ pub moved_along : (m : Marker) (p : List ℕ) → AreIn (λ c. not (c == line_fe
 moved_along m [] h = sym (along_none m)
 moved_along m (c ∷ cs) h =
     by_test (c == line_feed) (next_line m 1) (along m 1) (λ (k : Marker). moved k cs ≡ along m (suc (length cs)))
-    (λ e. absurd (never (c == line_feed) e h.0)) (λ _. moved_along (along m 1) cs h.1 ∙ along_more m (length cs))
+    (λ e. absurd (never (c == line_feed) e h.0))
+    (λ _. moved_along (along m 1) cs h.1 ∙ along_more m 1 (length cs) (length (c ∷ cs)) (omega arith))
   where
     never : (b : Bool) → b ≡ true → IsTrue (not b) → ⊥
     never true e k = absurd (cc)

@@ -22,8 +22,6 @@ use Rattle.saphyr_scanner.specs.Steps.Fetch.{step, is_value_adjacent}
 use Rattle.saphyr_scanner.specs.Grammar.FlowScalars.{begins_plain, IsPlain, IsPlainKey}
 use Rattle.saphyr_scalar.specs.Spelling.Tag.{AreIn}
 use Rattle.saphyr_scanner.proofs.InFlow.States.{Around, core_at, state_at, Placed, placed_right, plain_placed, saves_key, none_deeper, FlowMoment, moment, root_moment}
-use Rattle.saphyr_scanner.proofs.Json.Marks.{saved}
-use Rattle.saphyr_scanner.proofs.Json.Brackets.{token_place}
 use Rattle.saphyr_scanner.proofs.Flow.States.{moved, past, IsClear, IsInk, ReaderPromises, Closes, FitsAround, StandsBefore}
 use Rattle.saphyr_scanner.proofs.Flow.Places.{moved_count}
 use Rattle.saphyr_scanner.proofs.Flow.Fillers.{white_past}
@@ -38,6 +36,8 @@ use Rattle.saphyr_scanner.proofs.InBlock.Crossings.{white_crosses}
 use Rattle.saphyr_input.proofs.Basics.Booleans.{other_than, and_false}
 use Rattle.saphyr_scalar.proofs.Given.{cursor_at}
 use Rattle.std.proofs.lemmas.Bool.{ne_eqb, eqb-true}
+use Rattle.saphyr_scanner.proofs.Queues.{token_place}
+use Rattle.saphyr_scanner.proofs.Levels.{saved}
 
 -- ## The first two characters
 

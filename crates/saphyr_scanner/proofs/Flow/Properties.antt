@@ -17,7 +17,6 @@ use Rattle.saphyr_scanner.specs.Grammar.TagSpelling.{IsTag}
 use Rattle.saphyr_scanner.specs.Grammar.FlowNodes as layout
 use Rattle.saphyr_scanner.specs.Grammar.FlowNodes.{IsAnchor}
 use Rattle.saphyr_scanner.proofs.InFlow.States.{Around, state_at, FlowMoment, root_moment}
-use Rattle.saphyr_scanner.proofs.Json.Marks.{saved}
 use Rattle.saphyr_scanner.proofs.Flow.States.{Since, KeptKey, keeping, moved, past, IsBehindNode, IsBehindRoot, ReaderPromises, Known, PassesPiece, FitsAround, IsAfterNode, IsAfterProperties, NodePasses, RootCloses, after, StandsBefore, key_behind}
 use Rattle.saphyr_scanner.proofs.Flow.Places.{moved_append}
 use Rattle.saphyr_scanner.proofs.Flow.GapSteps.{less_behind}
@@ -29,6 +28,7 @@ use Rattle.saphyr_scanner.proofs.Flow.Low.{start_low, behind_low}
 use Rattle.saphyr_scanner.proofs.Flow.Tokens.{after_token}
 use Rattle.saphyr_scanner.proofs.Flow.Names.{closes_key, anchor_passes, alias_token_passes, tag_passes}
 use Rattle.saphyr_scanner.proofs.Flow.Ends.{tag_ends_name, white_ends_tag, node_ends_tag, root_first}
+use Rattle.saphyr_scanner.proofs.Levels.{saved}
 
 -- ## What is known behind properties
 

@@ -24,7 +24,6 @@ use Rattle.saphyr_scanner.specs.Steps.Fetch.{step}
 use Rattle.saphyr_scanner.specs.Grammar.FlowScalars.{IsQuoted}
 use Rattle.saphyr_scanner.proofs.InFlow.States.{Around, core_at, least, least_low, Placed, placed_right, saves_key, as_before, FlowMoment}
 use Rattle.saphyr_scanner.proofs.InFlow.Tabs.{lands_on_ink}
-use Rattle.saphyr_scanner.proofs.Json.Marks.{saved}
 use Rattle.saphyr_scanner.proofs.Flow.States.{moved, past, crosses, IsClear, IsInk, EndsNode, IsBehindNode, IsBehindRoot, ReaderPromises, FitsAround, StandsBefore}
 use Rattle.saphyr_scanner.proofs.Flow.GapSteps.{past_again, past_ink}
 use Rattle.saphyr_scanner.proofs.Flow.Fillers.{EndsLine, rest_past, separation_past}
@@ -36,6 +35,7 @@ use Rattle.saphyr_scanner.proofs.InBlock.Crossings.{line_rest_crosses}
 use Rattle.std.proofs.lemmas.Bool.{or_left}
 use Rattle.saphyr_scalar.proofs.Given.{cursor_at}
 use Rattle.saphyr_input.proofs.Basics.Booleans.{clash}
+use Rattle.saphyr_scanner.proofs.Levels.{saved}
 
 -- ## Behind the closing quote
 

@@ -15,12 +15,12 @@ use Rattle.saphyr_scalar.specs.Spelling.Tag.{AreIn}
 use Rattle.saphyr_scalar.specs.Steps.BlockRead.{spaces}
 use Rattle.saphyr_scalar.specs.Spelling.Spaces.{joined_pieces, AreEach, IsComment, IsCommentBehind, IsSeparationLine, IsSeparation, IsLineRest}
 use Rattle.saphyr_scalar.proofs.Runs.{run_len}
-use Rattle.saphyr_scanner.proofs.Json.Gaps.{separated}
 use Rattle.saphyr_scanner.proofs.Flow.States.{moved, past, IsInk}
 use Rattle.saphyr_scanner.proofs.Flow.Places.{moved_along}
 use Rattle.saphyr_scanner.proofs.Flow.Fillers.{EndsLine, blanks_past, front_past, behind_is}
 use Rattle.saphyr_input.proofs.Basics.Characters.{blank_no_feed, non_break_no_feed}
 use Rattle.saphyr_scanner.proofs.Beginnings.{back_in, both_in}
+use Rattle.saphyr_scanner.proofs.Gaps.{separated}
 
 -- what ends blanks and a comment, or blanks alone
 pub record StopsLine (comment more : List ℕ) : Type 0 where

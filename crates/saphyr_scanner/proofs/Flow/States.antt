@@ -38,7 +38,8 @@ use Rattle.saphyr_scanner.specs.Steps.State.{State}
 use Rattle.saphyr_scanner.specs.Grammar.Forest.{Node}
 use Rattle.saphyr_scanner.specs.Grammar.FlowNodes.{IsPlainKeyNode, IsBeforeColon, allows_adjacent, IsFlowNode}
 use Rattle.saphyr_scanner.proofs.InFlow.States.{Around, FlowMoment, moment, state_at, RunsTo, root_moment}
-use Rattle.saphyr_scanner.proofs.Json.Marks.{kinds, saved}
+use Rattle.saphyr_scanner.proofs.Queues.{place_kinds}
+use Rattle.saphyr_scanner.proofs.Levels.{saved}
 
 -- ## Places in a text
 
@@ -275,7 +276,7 @@ pub record PassesPiece (around : Around) (start : Bool → State) (known : Known
   pub right : around.indent ≤ m.col
   pub fits : past around.indent there.mark there.rest ≡ past around.indent m o
   pub fresh : IsFresh x o allowed there
-  pub are : kinds new ≡ ts
+  pub are : place_kinds new ≡ ts
   pub knows : known key allowed adjacent new
 
 -- the moment behind a piece
@@ -301,7 +302,7 @@ pub record Closes (around : Around) (start : Bool → State) (k : Option Candida
       (state_at around (moment there context.Block key [] allowed adjacent (ps ++ new)) d)) start
   pub right : around.indent ≤ m.col
   pub fits : past around.indent there.mark there.rest ≡ past around.indent m o
-  pub are : kinds new ≡ ts
+  pub are : place_kinds new ≡ ts
   pub low : adjacent ≤ (past around.indent m o).0.index
   pub late : Since k first t key
   pub fresh : IsFresh context.Block o allowed there

@@ -12,13 +12,13 @@ use Rattle.saphyr_scanner.specs.Steps.Core.{from_to, completed_step}
 use Rattle.saphyr_scanner.specs.Steps.Level.{Candidate, Level, is_block}
 use Rattle.saphyr_scanner.specs.Steps.Fetch.{step}
 use Rattle.saphyr_scanner.proofs.InFlow.States.{Around, core_at, state_at, Deepens, FlowMoment, moment}
-use Rattle.saphyr_scanner.proofs.Json.Marks.{saved}
-use Rattle.saphyr_scanner.proofs.Json.Brackets.{token_place}
 use Rattle.saphyr_scanner.proofs.Flow.States.{moved, past, IsClear, IsInk, IsFresh, Since, KeptKey, keeping, Known, PassesPiece, FitsAround, StandsBefore}
 use Rattle.saphyr_scanner.proofs.Flow.Places.{moved_count, clear_here}
 use Rattle.saphyr_scanner.proofs.Flow.GapSteps.{past_ink}
 use Rattle.saphyr_scanner.proofs.Flow.Arrivals.{BeginsToken, arrives, step_comes, within_index}
 use Rattle.saphyr_scalar.proofs.Given.{cursor_at}
+use Rattle.saphyr_scanner.proofs.Queues.{token_place}
+use Rattle.saphyr_scanner.proofs.Levels.{saved}
 
 -- a piece whose first character begins a token
 pub record Begins (p : List ℕ) : Type 0 where

@@ -17,8 +17,6 @@ use Rattle.saphyr_scanner.specs.Steps.State.{State}
 use Rattle.saphyr_scanner.specs.Grammar.Forest.{Node}
 use Rattle.saphyr_scanner.specs.Grammar.FlowNodes.{allows_adjacent}
 use Rattle.saphyr_scanner.proofs.InFlow.States.{Around, core_at, state_at, chains, as_before, moment, FlowMoment, moment_in, moment_with}
-use Rattle.saphyr_scanner.proofs.Json.States.{queue_of}
-use Rattle.saphyr_scanner.proofs.Json.Marks.{kinds}
 use Rattle.saphyr_scanner.proofs.Flow.States.{moved, past, IsParted, ends_colon, no_key, after_node, PassesPiece, FitsAround, after, StandsBefore}
 use Rattle.saphyr_scanner.proofs.Flow.Places.{right_one}
 use Rattle.saphyr_scanner.proofs.Flow.GapSteps.{past_ink}
@@ -31,6 +29,7 @@ use Rattle.saphyr_scanner.proofs.Flow.Colons.{colon_reads_value, tabbed, opened_
 use Rattle.saphyr_scalar.proofs.Given.{cursor_at}
 use Rattle.saphyr_input.proofs.Basics.Numbers.{le_next}
 use Rattle.std.proofs.lemmas.Bool.{true≢false}
+use Rattle.saphyr_scanner.proofs.Queues.{place_kinds, queue_of}
 
 -- the key that a token at a place of the text and of the queue may be
 abbrev pub key_at : Marker → List Place → Candidate
@@ -128,7 +127,8 @@ alone_puts true ps m = ap queue_of
     ∷ []))
 alone_puts false ps m = refl
 
-alone_told : (begins : Bool) (m : Marker) → kinds (alone_places begins m) ≡ alone_kinds begins ++ tokens.Value ∷ []
+alone_told : (begins : Bool) (m : Marker)
+    → place_kinds (alone_places begins m) ≡ alone_kinds begins ++ tokens.Value ∷ []
 alone_told true m = refl
 alone_told false m = refl
 

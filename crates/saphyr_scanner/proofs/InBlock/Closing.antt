@@ -17,12 +17,12 @@ use Rattle.saphyr_scanner.specs.Grammar.Tokens as tokens
 use Rattle.saphyr_scanner.specs.Grammar.Tokens.{Kind}
 use Rattle.saphyr_scanner.specs.Steps.Unrolling.{unroll}
 use Rattle.saphyr_scanner.specs.Steps.Fetch.{fetch, fetch_here}
-use Rattle.saphyr_scanner.proofs.Json.Marks.{kinds, kinds_append}
 use Rattle.saphyr_scanner.proofs.InBlock.States.{Frame, frame_at_column, moment_at, state_of, EndsDocument, At}
 use Rattle.saphyr_scanner.proofs.InBlock.Follows.{goes_alike, arrives_at, stays_open}
 use Rattle.saphyr_input.proofs.Basics.Numbers.{zero_below_next}
 use Rattle.saphyr_input.proofs.Basics.Booleans.{and_false}
 use Rattle.std.proofs.lemmas.Bool.{ltb-true, eq-eqb}
+use Rattle.saphyr_scanner.proofs.Queues.{place_kinds, place_kinds_append}
 
 -- the token that ends a collection
 abbrev pub end_place : Marker → Place
@@ -179,9 +179,9 @@ outer_least : (i c col : ℕ) → i ≤ c → c + 1 ≤ col + 1 → i ≤ col + 
 outer_least i c col h k = omega (arith, h, k)
 
 -- the tokens of places before the end of a collection
-ended_kinds : (ps : List Place) (m : Marker) (ts : List Kind) → kinds ps ≡ ts
-    → kinds (ps ++ end_place m ∷ []) ≡ ts ++ tokens.BlockEnd ∷ []
-ended_kinds ps m ts e = kinds_append ps (end_place m ∷ []) ∙ ap (λ (x : List Kind). x ++ tokens.BlockEnd ∷ []) e
+ended_kinds : (ps : List Place) (m : Marker) (ts : List Kind) → place_kinds ps ≡ ts
+    → place_kinds (ps ++ end_place m ∷ []) ≡ ts ++ tokens.BlockEnd ∷ []
+ended_kinds ps m ts e = place_kinds_append ps (end_place m ∷ []) ∙ ap (λ (x : List Kind). x ++ tokens.BlockEnd ∷ []) e
 
 -- The block collection at a column ends before the token at m, which stands to its left or ends the document.
 pub closes_block : {limit : ℕ} {start : State} {ts : List Kind} (f : Frame) (c : ℕ) (m : Marker) (y : List ℕ)

@@ -23,8 +23,6 @@ use Rattle.saphyr_scanner.specs.Grammar.Tokens.{Kind}
 use Rattle.saphyr_scanner.specs.Steps.Value as value
 use Rattle.saphyr_scanner.specs.Steps.Fetch.{fetch, fetch_here, state_behind_content, step}
 use Rattle.saphyr_scanner.specs.Grammar.BlockNodes as layout
-use Rattle.saphyr_scanner.proofs.Json.States.{queue_of}
-use Rattle.saphyr_scanner.proofs.Json.Marks.{kinds, kinds_append}
 use Rattle.saphyr_scanner.proofs.Flow.Colons.{pair_places, performs}
 use Rattle.saphyr_scanner.proofs.Flow.Fillers.{EndsLine}
 use Rattle.saphyr_scanner.proofs.Flow.Separates.{blank_stops}
@@ -37,6 +35,7 @@ use Rattle.saphyr_input.proofs.Basics.Numbers.{le_next, zero_below_next, next_no
 use Rattle.saphyr_input.proofs.Basics.Booleans.{and_false}
 use Rattle.std.proofs.Math.Bool.{or-true}
 use Rattle.saphyr_scanner.proofs.InBlock.Questions.{colon_begins, key_kinds}
+use Rattle.saphyr_scanner.proofs.Queues.{place_kinds, place_kinds_append, queue_of}
 
 -- ## Behind a colon
 
@@ -170,7 +169,7 @@ reads_value {limit} {start} {ts} f m o same h count v none allowed =
     (state_of f (moment_at m (58 ∷ o) v.blank v.key b v.adjacent deeper) v.places)) allowed
     ∙ ap (λ (k : Option Candidate). state_behind_content 58 (slice_index o 0)
     (state_of f (moment_at m (58 ∷ o) v.blank k true v.adjacent deeper) v.places)) none ∙ made in
-    let kept = kinds_append v.places (bare_place (empty_piece m tokens.Value) ∷ [])
+    let kept = place_kinds_append v.places (bare_place (empty_piece m tokens.Value) ∷ [])
     ∙ ap (λ (x : List Kind). x ++ tokens.Value ∷ []) v.are in
     before_next (layout.BehindMark m.col) f t qs (along m 1) o
     (steps_on f f m (58 ∷ o) v (colon_begins m o) (least f.indent m.col same) t qs there refl
@@ -227,21 +226,22 @@ colon_step f r k m o h p blank a ad deeper further e far some i =
     opens false e (inl s) = rw (e, s) refl
     opens false e (inr s) = absurd (cc)
 
-key_are : (further : Bool) (ps others : List Place) (key : Piece) (m : Marker) (ts us : List Kind) → kinds ps ≡ ts
-    → kinds (bare_place key ∷ others) ≡ us
-    → kinds (ps ++ pair_places (block_opening further) key others (empty_piece m tokens.Value))
+key_are : (further : Bool) (ps others : List Place) (key : Piece) (m : Marker) (ts us : List Kind) → place_kinds ps ≡ ts
+    → place_kinds (bare_place key ∷ others) ≡ us
+    → place_kinds (ps ++ pair_places (block_opening further) key others (empty_piece m tokens.Value))
     ≡ ts ++ (key_kinds further ++ (us ++ tokens.Value ∷ []))
 key_are further ps others key m ts us first are =
-    let back = kinds_append (bare_place key ∷ others) (bare_place (empty_piece m tokens.Value) ∷ [])
+    let back = place_kinds_append (bare_place key ∷ others) (bare_place (empty_piece m tokens.Value) ∷ [])
     ∙ ap (λ (x : List Kind). x ++ tokens.Value ∷ []) are in
-    kinds_append ps (pair_places (block_opening further) key others (empty_piece m tokens.Value))
+    place_kinds_append ps (pair_places (block_opening further) key others (empty_piece m tokens.Value))
     ∙ ap (λ (x : List Kind). x
-    ++ kinds (pair_places (block_opening further) key others (empty_piece m tokens.Value))) first
+    ++ place_kinds (pair_places (block_opening further) key others (empty_piece m tokens.Value))) first
     ∙ ap (λ (x : List Kind). ts ++ x) (by_opening further back)
   where
     by_opening : (further : Bool)
-        → kinds (bare_place key ∷ (others ++ bare_place (empty_piece m tokens.Value) ∷ [])) ≡ us ++ tokens.Value ∷ []
-        → kinds (pair_places (block_opening further) key others (empty_piece m tokens.Value))
+        → place_kinds (bare_place key ∷ (others ++ bare_place (empty_piece m tokens.Value) ∷ [])) ≡ us ++
+        tokens.Value ∷ []
+        → place_kinds (pair_places (block_opening further) key others (empty_piece m tokens.Value))
         ≡ key_kinds further ++ (us ++ tokens.Value ∷ [])
     by_opening true e = ap (λ (x : List Kind). tokens.BlockMappingStart ∷ tokens.Key ∷ x) e
     by_opening false e = ap (λ (x : List Kind). tokens.Key ∷ x) e
@@ -250,8 +250,8 @@ key_are further ps others key m ts us first are =
 pub reads_colon : {limit : ℕ} {start : State} (f : Frame) (n : Moment) (ps others new : List Place) (key : Piece)
     (k m : Marker) (o : List ℕ) (ts us : List Kind) (further : Bool) → nat_le f.indent k.col ≡ further
     → f.indent ≤ k.col + 1 → GoesOnAs limit start (state_of f n (ps ++ new)) → new ≡ bare_place key ∷ others
-    → kinds ps ≡ ts
-    → kinds new ≡ us → n.key ≡ Some (record { mark = k; place = length ps }) → n.comment ≡ None
+    → place_kinds ps ≡ ts
+    → place_kinds new ≡ us → n.key ≡ Some (record { mark = k; place = length ps }) → n.comment ≡ None
     → past 0 n.cursor.mark n.cursor.rest ≡ (m, 58 ∷ o) → IsUntabbed (least_column (core_of f n)) n.cursor
     → is_too_far n.key m ≡ false → k.col ≤ m.col → IsBehindIndicator o
     → m.index + length (58 ∷ o) ≤ limit → n.adjacent ≤ m.index
@@ -282,7 +282,7 @@ reads_colon {limit} {start} f n ps others new key k m o ts us further e far v is
     (further_right f.indent k.col m.col far right) ∙ made in
     before_next (layout.BehindKey k.col) g t (ps ++ places) (along m 1) o
     (steps_from g t (ps ++ places) v refl there refl (room m.index p.mark.index (length o) limit p.low count))
-    (key_are further ps others key m ts us first (ap kinds (sym is) ∙ are)) refl refl refl
+    (key_are further ps others key m ts us first (ap place_kinds (sym is) ∙ are)) refl refl refl
     (le_next n.adjacent m.index low) p.lands p.clean (none_same (crosses p.rest) (crosses o) p.crosses_same)
     (behind k.col m.col right)
   where

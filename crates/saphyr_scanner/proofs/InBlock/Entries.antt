@@ -24,8 +24,6 @@ use Rattle.saphyr_scanner.specs.Grammar.Tokens as tokens
 use Rattle.saphyr_scanner.specs.Grammar.Tokens.{Kind}
 use Rattle.saphyr_scanner.specs.Steps.Fetch.{fetch, fetch_here, state_behind_content, step}
 use Rattle.saphyr_scanner.proofs.Leads.{LeadsTo}
-use Rattle.saphyr_scanner.proofs.Json.States.{queue_of}
-use Rattle.saphyr_scanner.proofs.Json.Marks.{kinds, kinds_append}
 use Rattle.saphyr_scanner.proofs.Flow.States.{past}
 use Rattle.saphyr_scanner.proofs.Flow.GapSteps.{past_low}
 use Rattle.saphyr_scanner.specs.Grammar.BlockNodes as layout
@@ -37,6 +35,7 @@ use Rattle.saphyr_scanner.proofs.InBlock.Gaps.{past_stops}
 use Rattle.saphyr_scanner.proofs.InBlock.Follows.{follows_itself, steps_from, goes_alike, left_key, left_again, lands, BeginsToken, begins_here, arrives_at, stays_open, deeper_at}
 use Rattle.saphyr_scalar.proofs.Given.{cursor_at}
 use Rattle.saphyr_input.proofs.Basics.Booleans.{and_false}
+use Rattle.saphyr_scanner.proofs.Queues.{place_kinds, place_kinds_append, queue_of}
 
 -- ## What stands behind an indicator
 
@@ -250,22 +249,22 @@ dash_performs false m n ps = refl
 abbrev pub dash_kinds : Bool → List Kind
 dash_kinds further = if further then tokens.BlockSequenceStart ∷ tokens.BlockEntry ∷ [] else tokens.BlockEntry ∷ []
 
-dash_are : (further : Bool) (m n : Marker) (ps : List Place) (ts : List Kind) → kinds ps ≡ ts
-    → kinds (dash_places further m n ps) ≡ ts ++ dash_kinds further
+dash_are : (further : Bool) (m n : Marker) (ps : List Place) (ts : List Kind) → place_kinds ps ≡ ts
+    → place_kinds (dash_places further m n ps) ≡ ts ++ dash_kinds further
 unfolding dash_places
 dash_are true m n ps ts e =
-    let first = kinds_append ps (bare_place (empty_piece m tokens.BlockSequenceStart) ∷ [])
+    let first = place_kinds_append ps (bare_place (empty_piece m tokens.BlockSequenceStart) ∷ [])
     ∙ ap (λ (x : List Kind). x ++ tokens.BlockSequenceStart ∷ []) e in
-    kinds_append (ps ++ bare_place (empty_piece m tokens.BlockSequenceStart) ∷ [])
+    place_kinds_append (ps ++ bare_place (empty_piece m tokens.BlockSequenceStart) ∷ [])
     (bare_place (empty_piece n tokens.BlockEntry) ∷ []) ∙ ap (λ (x : List Kind). x ++ tokens.BlockEntry ∷ []) first
     ∙ append_assoc ts (tokens.BlockSequenceStart ∷ []) (tokens.BlockEntry ∷ [])
 dash_are false m n ps ts e =
-    kinds_append ps (bare_place (empty_piece n tokens.BlockEntry) ∷ [])
+    place_kinds_append ps (bare_place (empty_piece n tokens.BlockEntry) ∷ [])
     ∙ ap (λ (x : List Kind). x ++ tokens.BlockEntry ∷ []) e
 
 -- A raw state behind a token, told at the next one.
 pub before_next : {limit : ℕ} {start : State} {ts : List Kind} (place : Position) (g : Frame) (n : Moment)
-    (qs : List Place) (m : Marker) (o : List ℕ) → LeadsTo limit (state_of g n qs) start → kinds qs ≡ ts
+    (qs : List Place) (m : Marker) (o : List ℕ) → LeadsTo limit (state_of g n qs) start → place_kinds qs ≡ ts
     → n.key ≡ None → n.required ≡ false → n.comment ≡ None → n.adjacent ≤ m.index
     → past 0 n.cursor.mark n.cursor.rest ≡ past 0 m o → ((least : ℕ) → IsUntabbed least n.cursor)
     → (crosses n.cursor.rest || n.allowed) ≡ (is_compact place || crosses o) → IsPlaced place m

@@ -17,7 +17,6 @@ use Rattle.saphyr_scanner.specs.Steps.Passing.{goes_on_behind}
 use Rattle.saphyr_scanner.specs.Grammar.TokenGrammar as grammar
 use Rattle.saphyr_scanner.specs.Grammar.Tokens.{Kind}
 use Rattle.saphyr_scanner.proofs.InFlow.States.{moment, least_low}
-use Rattle.saphyr_scanner.proofs.Json.Marks.{kinds, kinds_append}
 use Rattle.saphyr_scanner.proofs.Flow.States as flow
 use Rattle.saphyr_scanner.proofs.Flow.States.{moved, past, crosses, EndsDocument, IsLeft, IsBehindRoot, Since, ReaderPromises}
 use Rattle.saphyr_scanner.proofs.Flow.Places.{moved_append, moved_count}
@@ -39,6 +38,7 @@ use Rattle.saphyr_scanner.proofs.InBlock.Untabbed.{clean_past, settles}
 use Rattle.saphyr_input.proofs.Basics.Booleans.{or_true_swap}
 use Rattle.saphyr_scalar.proofs.Given.{cursor_at}
 use Rattle.saphyr_scanner.proofs.Taken.States.{too_far}
+use Rattle.saphyr_scanner.proofs.Queues.{place_kinds, place_kinds_append}
 
 -- ## What stands behind the end of its line
 
@@ -252,7 +252,7 @@ reads_flow reads limit short node place f same m t o (gap, text, end, gap_is, no
           follows = goes_alike (goes_on v.follows ran.leads) land.1 refl;
           stop = past_stops (moved m t) o;
           near = left_again c.key q.0;
-          are = kinds_append v.places c.new ∙ ap (λ (x : List Kind). x ++ kinds c.new) v.are
+          are = place_kinds_append v.places c.new ∙ ap (λ (x : List Kind). x ++ place_kinds c.new) v.are
               ∙ ap (λ (x : List Kind). ts ++ x) c.are;
           low = subst (λ (z : Marker × List ℕ). c.adjacent ≤ z.0.index) (lands_at c.right) c.low;
         };

@@ -14,9 +14,7 @@ use Rattle.saphyr_scanner.specs.Steps.Queue.{Place}
 use Rattle.saphyr_scanner.specs.Steps.State.{State, on_core}
 use Rattle.saphyr_scanner.specs.Steps.Unrolling.{unroll}
 use Rattle.saphyr_scanner.specs.Steps.Fetch.{fetch, fetch_here, arrive, fetch_within, check_limit, without_far_key, state_behind_content}
-use Rattle.saphyr_scanner.proofs.Leads.{LeadsTo, stay, onward}
-use Rattle.saphyr_scanner.proofs.Json.States.{queue_of}
-use Rattle.saphyr_scanner.proofs.Json.Marks.{chain}
+use Rattle.saphyr_scanner.proofs.Leads.{LeadsTo, stay, onward, leads_on}
 use Rattle.saphyr_scanner.proofs.Flow.States.{past}
 use Rattle.saphyr_scanner.proofs.InBlock.States.{Frame, Moment, moment_at, moment_with, core_of, state_of, crosses, IsUntabbed, IsStop, GoesOnAs}
 use Rattle.saphyr_scanner.proofs.InBlock.Gaps.{past_stops, gap_still, passes_to}
@@ -24,6 +22,7 @@ use Rattle.saphyr_scalar.proofs.Given.{cursor_at}
 use Rattle.saphyr_input.proofs.Basics.Booleans.{and_or_false}
 use Rattle.std.proofs.Math.Bool.{and-true}
 use Rattle.std.proofs.lemmas.Bool.{le-leb}
+use Rattle.saphyr_scanner.proofs.Queues.{queue_of}
 
 -- ## Going on
 
@@ -41,17 +40,17 @@ pub first_step : {limit : ℕ} {start s t u : State} → GoesOnAs limit start s 
 unfolding fetch_within
 first_step {limit} {s = s} {t = t} {u = u} f going is settles =
     let there : fetch_within limit f.reached ≡ Ok t = ap (λ r. r >>= check_limit limit) f.same ∙ is in
-    chain f.leads (onward f.reached t u (f.running ∙ going) there settles stay)
+    leads_on f.leads (onward f.reached t u (f.running ∙ going) there settles stay)
 
 pub goes_on : {limit : ℕ} {start s d : State} → GoesOnAs limit start s → LeadsTo limit d s → GoesOnAs limit start d
 goes_on f stay = f
-goes_on f (onward s t u going is settles l) = follows_itself (chain (first_step f going is settles) l)
+goes_on f (onward s t u going is settles l) = follows_itself (leads_on (first_step f going is settles) l)
 
 -- where the scanner has ended, it has come there
 pub comes_to_end : {limit : ℕ} {start s d : State} → GoesOnAs limit start s → s.core.ended ≡ false → LeadsTo limit d s
     → d.core.ended ≡ true → LeadsTo limit d start
 comes_to_end f running stay over = absurd (let e = sym running ∙ over in cc)
-comes_to_end f running (onward s t u going is settles l) over = chain (first_step f going is settles) l
+comes_to_end f running (onward s t u going is settles l) over = leads_on (first_step f going is settles) l
 
 -- ## The next token
 

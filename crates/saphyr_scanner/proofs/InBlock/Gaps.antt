@@ -15,7 +15,7 @@ use Rattle.saphyr_input.proofs.Basics.Characters.{no_return_and}
 use Rattle.saphyr_input.proofs.Basics.Booleans.{or_false_left}
 use Rattle.std.proofs.Math.Bool.{or-false, or-true}
 use Rattle.saphyr_scanner.proofs.Flow.Gaps.{stop_ends}
-use Rattle.saphyr_scanner.proofs.Json.States.{stop_here}
+use Rattle.saphyr_scanner.proofs.Gaps.{stop_here}
 
 -- ## Where `gap` stops
 

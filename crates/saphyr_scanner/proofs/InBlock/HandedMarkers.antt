@@ -14,9 +14,7 @@ use Rattle.saphyr_scanner.specs.Steps.Queue.{Place, bare_place}
 use Rattle.saphyr_scanner.specs.Steps.Level.{Candidate}
 use Rattle.saphyr_scanner.specs.Steps.State.{State}
 use Rattle.saphyr_scanner.specs.Steps.Fetch.{fetch_here}
-use Rattle.saphyr_scanner.proofs.Leads.{LeadsTo, stay, onward}
-use Rattle.saphyr_scanner.proofs.Json.States.{state_at}
-use Rattle.saphyr_scanner.proofs.Json.Marks.{kinds, kinds_append, chain}
+use Rattle.saphyr_scanner.proofs.Leads.{LeadsTo, stay, onward, leads_on}
 use Rattle.saphyr_scanner.proofs.Flow.States.{EndsDocument, moved, past}
 use Rattle.saphyr_scanner.proofs.Flow.Arrivals.{within_index}
 use Rattle.saphyr_scanner.proofs.Flow.Separates.{separates_rest}
@@ -27,6 +25,8 @@ use Rattle.saphyr_scanner.proofs.InBlock.States.{GoesOnAs}
 use Rattle.saphyr_scanner.proofs.InBlock.Follows.{first_step}
 use Rattle.saphyr_scalar.proofs.Given.{cursor_at}
 use Rattle.saphyr_input.proofs.Basics.Lists.{cons_not_empty}
+use Rattle.saphyr_scanner.proofs.Queues.{place_kinds, place_kinds_append}
+use Rattle.saphyr_scanner.proofs.Root.{state_at}
 
 -- The scanner has read these tokens, and none of them may be a key.
 pub record Handed (limit : ℕ) (start : State) (ts : List Kind) : Type 0 where
@@ -34,13 +34,13 @@ pub record Handed (limit : ℕ) (start : State) (ts : List Kind) : Type 0 where
   pub leads : LeadsTo limit last start
   pub none : last.core.level.key ≡ None
   pub outer : last.core.outer ≡ []
-  pub are : kinds last.queue.places ≡ ts
+  pub are : place_kinds last.queue.places ≡ ts
 
 -- where a token was read, the scanner has come there
 comes_there : {limit : ℕ} {start s d : State} → GoesOnAs limit start s → s.core.ended ≡ false → LeadsTo limit d s
     → ¬ (d ≡ s) → LeadsTo limit d start
 comes_there f running stay new = absurd (new refl)
-comes_there f running (onward s t u going is settles l) new = chain (first_step f running is settles) l
+comes_there f running (onward s t u going is settles l) new = leads_on (first_step f running is settles) l
 
 longer_by_one : (ps : List Place) (p : Place) → ps ++ p ∷ [] ≡ ps → ⊥
 longer_by_one ps p e = let l = length-append ps (p ∷ []) in let same = ap length e in omega (arith, l, same)
@@ -62,7 +62,7 @@ hands_token {limit = limit} {y = y} {ts = ts} v here ends t piece is low =
           (λ e. longer_by_one v.places (bare_place piece) (ap (λ (s : State). s.queue.places) e));
       none = r.3 refl;
       outer = refl;
-      are = kinds_append v.places (bare_place piece ∷ []) ∙ ap (λ (x : List Kind). x ++ piece.kind ∷ []) v.are;
+      are = place_kinds_append v.places (bare_place piece ∷ []) ∙ ap (λ (x : List Kind). x ++ piece.kind ∷ []) v.are;
     }
 
 front_low : (i l limit : ℕ) → i + l ≤ limit → i ≤ limit

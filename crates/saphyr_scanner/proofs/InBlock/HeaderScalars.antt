@@ -25,8 +25,6 @@ use Rattle.saphyr_scanner.specs.Steps.State.{State, after_step, on_core}
 use Rattle.saphyr_scanner.specs.Grammar.Tokens as kind
 use Rattle.saphyr_scanner.specs.Grammar.Tokens.{Kind, scalar_token}
 use Rattle.saphyr_scanner.proofs.Leads.{LeadsTo}
-use Rattle.saphyr_scanner.proofs.Json.States.{queue_of}
-use Rattle.saphyr_scanner.proofs.Json.Marks.{kinds, kinds_append, saved}
 use Rattle.saphyr_scanner.proofs.Flow.States.{moved, past}
 use Rattle.saphyr_scanner.proofs.Flow.GapSteps.{past_low}
 use Rattle.saphyr_scanner.proofs.Flow.Places.{moved_append, moved_count}
@@ -42,6 +40,8 @@ use Rattle.saphyr_input.proofs.Basics.Booleans.{and_false}
 use Rattle.std.proofs.Math.Bool.{or-true}
 use Rattle.std.proofs.lemmas.Bool.{le-leb}
 use Rattle.saphyr_scanner.proofs.Taken.States.{too_far}
+use Rattle.saphyr_scanner.proofs.Queues.{place_kinds, place_kinds_append, queue_of}
+use Rattle.saphyr_scanner.proofs.Levels.{saved}
 
 -- ## The step at a header
 
@@ -163,7 +163,7 @@ spaces_tabbed least m blank (suc n) y = spaces_tabbed least (moved m (32 ∷ [])
 -- where the scanner stands behind a block scalar
 arrives_behind : {limit : ℕ} {start : State} (f : Frame) (left : Cursor) (ad : ℕ) (qs : List Place) (ts : List Kind)
     (k : Marker) (o : List ℕ) → LeadsTo limit (state_of f (behind_scalar left None ad) qs) start
-    → kinds qs ≡ ts → past 0 left.mark left.rest ≡ past 0 k o → ((least : ℕ) → IsUntabbed least left)
+    → place_kinds qs ≡ ts → past 0 left.mark left.rest ≡ past 0 k o → ((least : ℕ) → IsUntabbed least left)
     → ad ≤ (past 0 k o).0.index → Arrived limit start f k o ts
 arrives_behind f left ad qs ts k o leads are text clean low =
     let n = behind_scalar left None ad in
@@ -244,7 +244,8 @@ reads_scalar laws {limit} {start} {ts} f style value m more t o short low begins
     ∙ behind.clean least (moved m t) b.left.blank_so_far in
     let size_y = length-append t o in
     arrives_behind f b.left v.adjacent qs (ts ++ piece.kind ∷ []) (moved m t) o leads
-    (kinds_append v.places (bare_place piece ∷ []) ∙ ap (λ (x : List Kind). x ++ piece.kind ∷ []) v.are) lands_at clean
+    (place_kinds_append v.places (bare_place piece ∷ []) ∙ ap (λ (x : List Kind). x ++ piece.kind ∷ []) v.are)
+    lands_at clean
     (omega (arith, lower, on, whole, size_y))
   where
     column_far : (i col : ℕ) → i ≤ col → i ≤ col + 1

@@ -21,8 +21,6 @@ use Rattle.saphyr_scanner.specs.Grammar.TagSpelling.{IsTag}
 use Rattle.saphyr_scanner.specs.Grammar.Tokens as kind
 use Rattle.saphyr_scanner.specs.Grammar.Tokens.{Kind, anchor_token, tag_token}
 use Rattle.saphyr_scanner.proofs.Leads.{LeadsTo}
-use Rattle.saphyr_scanner.proofs.Json.States.{queue_of}
-use Rattle.saphyr_scanner.proofs.Json.Marks.{kinds_append, saved}
 use Rattle.saphyr_scanner.proofs.LineTexts.{name_no_break, tag_no_break}
 use Rattle.saphyr_scanner.proofs.Flow.States.{moved, past, ReaderPromises}
 use Rattle.saphyr_scanner.proofs.Flow.Ends.{tag_ends_name, white_ends_tag}
@@ -40,6 +38,8 @@ use Rattle.saphyr_scalar.proofs.Given.{cursor_at}
 use Rattle.saphyr_input.proofs.Basics.Booleans.{and_false}
 use Rattle.std.proofs.Math.Bool.{or-false}
 use Rattle.std.proofs.lemmas.Bool.{le-leb}
+use Rattle.saphyr_scanner.proofs.Queues.{place_kinds_append, queue_of}
+use Rattle.saphyr_scanner.proofs.Levels.{saved}
 
 -- ## A token behind which no key may begin
 
@@ -118,7 +118,7 @@ token_read {limit} {start} {ts} f k m n y o v low begins steps limited onward cl
         follows = goes_alike (follows_itself leads) l.1 refl;
         stop = past_stops n o;
         near = left_again (left_key (saved v.allowed i m v.key) n) t.0;
-        are = kinds_append v.places (bare_place piece ∷ []) ∙ ap (λ (x : List Kind). x ++ k ∷ []) v.are;
+        are = place_kinds_append v.places (bare_place piece ∷ []) ∙ ap (λ (x : List Kind). x ++ k ∷ []) v.are;
         low = omega (arith, lower, onward, on);
       };
       late = late_left (left_key (saved v.allowed i m v.key) n) t.0 m

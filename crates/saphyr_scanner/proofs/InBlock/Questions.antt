@@ -18,8 +18,6 @@ use Rattle.saphyr_scanner.specs.Grammar.Tokens as tokens
 use Rattle.saphyr_scanner.specs.Grammar.Tokens.{Kind}
 use Rattle.saphyr_scanner.specs.Steps.Fetch.{state_behind_content, step}
 use Rattle.saphyr_scanner.specs.Grammar.BlockNodes as layout
-use Rattle.saphyr_scanner.proofs.Json.States.{queue_of}
-use Rattle.saphyr_scanner.proofs.Json.Marks.{kinds, kinds_append}
 use Rattle.saphyr_scanner.proofs.Flow.GapSteps.{past_count, past_again}
 use Rattle.saphyr_scanner.proofs.Flow.States.{past}
 use Rattle.saphyr_scanner.proofs.InBlock.States.{Frame, Moment, moment_at, core_of, state_of, IsStop, crosses, At, Before}
@@ -31,6 +29,7 @@ use Rattle.saphyr_input.proofs.Basics.Numbers.{le_next}
 use Rattle.saphyr_input.proofs.Basics.Booleans.{and_false}
 use Rattle.std.proofs.Math.Bool.{or-true}
 use Rattle.std.proofs.lemmas.Bool.{or_parts}
+use Rattle.saphyr_scanner.proofs.Queues.{place_kinds, place_kinds_append, queue_of}
 
 -- ## `?`
 
@@ -158,19 +157,19 @@ mark_performs false m n ps = refl
 abbrev pub key_kinds : Bool → List Kind
 key_kinds further = if further then tokens.BlockMappingStart ∷ tokens.Key ∷ [] else tokens.Key ∷ []
 
-mark_are : (further : Bool) (m n : Marker) (ps : List Place) (ts : List Kind) → kinds ps ≡ ts
-    → kinds (mark_places further m n ps) ≡ ts ++ key_kinds further
+mark_are : (further : Bool) (m n : Marker) (ps : List Place) (ts : List Kind) → place_kinds ps ≡ ts
+    → place_kinds (mark_places further m n ps) ≡ ts ++ key_kinds further
 unfolding mark_places
 mark_are true m n ps ts e =
-    let first = kinds_append ps (bare_place (empty_piece m tokens.BlockMappingStart) ∷ [])
+    let first = place_kinds_append ps (bare_place (empty_piece m tokens.BlockMappingStart) ∷ [])
     ∙ ap (λ (x : List Kind). x ++ tokens.BlockMappingStart ∷ []) e in
     let key : Place = bare_place (record { span = record { start = m; end = n }; kind = tokens.Key }) in
-    kinds_append (ps ++ bare_place (empty_piece m tokens.BlockMappingStart) ∷ []) (key ∷ [])
+    place_kinds_append (ps ++ bare_place (empty_piece m tokens.BlockMappingStart) ∷ []) (key ∷ [])
     ∙ ap (λ (x : List Kind). x ++ tokens.Key ∷ []) first
     ∙ append_assoc ts (tokens.BlockMappingStart ∷ []) (tokens.Key ∷ [])
 mark_are false m n ps ts e =
     let key : Place = bare_place (record { span = record { start = m; end = n }; kind = tokens.Key }) in
-    kinds_append ps (key ∷ []) ∙ ap (λ (x : List Kind). x ++ tokens.Key ∷ []) e
+    place_kinds_append ps (key ∷ []) ∙ ap (λ (x : List Kind). x ++ tokens.Key ∷ []) e
 
 within_index : (i l j k limit : ℕ) → i + l ≡ j + k → j + k ≤ limit → i ≤ limit
 within_index i l j k limit e h = omega (arith, e, h)

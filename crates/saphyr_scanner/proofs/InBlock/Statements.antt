@@ -15,12 +15,12 @@ use Rattle.saphyr_scanner.specs.Grammar.TokenGrammar as grammar
 use Rattle.saphyr_scanner.specs.Grammar.Forest.{Style, Properties, Node, Scalar, Nodes, Pairs, left_out}
 use Rattle.saphyr_scanner.specs.Grammar.FlowNodes.{IsFlowNode, IsOnLine, IsPlainKeyNode, IsKeyText, IsBeforeColon, IsProperties}
 use Rattle.saphyr_scanner.specs.Grammar.BlockNodes.{Position, BehindMark, BehindKey, is_start, indent_at, AreSpacesAt, IsFlowInBlock, IsStyled, IsScalarFront, IsScalarInBlock, BehindDash, BehindMarker, AtStart}
-use Rattle.saphyr_scanner.proofs.Json.Marks.{kinds}
 use Rattle.saphyr_scanner.proofs.Flow.States.{moved, past}
 use Rattle.saphyr_scanner.proofs.Flow.Inks.{BeginsInk}
 use Rattle.saphyr_scanner.proofs.InBlock.Lines.{FitsOnLines}
 use Rattle.saphyr_scanner.proofs.InBlock.States.{Frame, Moment, core_of, state_of, IsUntabbed, EndsDocument, IsLeftOf, GoesOnAs, At, Before}
 use Rattle.saphyr_scanner.proofs.InBlock.Skips.{IsClean}
+use Rattle.saphyr_scanner.proofs.Queues.{place_kinds}
 
 -- in which part of the token grammar a node at a place stands
 abbrev pub context_at : Position → grammar.Context
@@ -88,9 +88,9 @@ pub record KeyRead (limit : ℕ) (start : State) (node : Node) (f : Frame) (k m 
   pub key : Piece
   pub others : List queue.Place
   pub follows : GoesOnAs limit start (state_of f moment (places ++ bare_place key ∷ others))
-  pub first : kinds places ≡ ts
+  pub first : place_kinds places ≡ ts
   pub tokens : List Kind
-  pub are : kinds (bare_place key ∷ others) ≡ tokens
+  pub are : place_kinds (bare_place key ∷ others) ≡ tokens
   pub node_are : grammar.YieldsNode node grammar.InBlockMapping tokens
   pub candidate : moment.key ≡ Some (record { mark = k; place = length places })
   pub quiet : moment.comment ≡ None

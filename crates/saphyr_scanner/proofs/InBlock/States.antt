@@ -16,11 +16,10 @@ use Rattle.saphyr_scanner.specs.Steps.Fetch.{fetch}
 use Rattle.saphyr_scanner.specs.Grammar.BlockNodes as layout
 use Rattle.saphyr_scanner.specs.Grammar.BlockNodes.{Position as Position}
 use Rattle.saphyr_scanner.proofs.Leads.{LeadsTo}
-use Rattle.saphyr_scanner.proofs.Json.States.{queue_of}
-use Rattle.saphyr_scanner.proofs.Json.Marks.{kinds}
 use Rattle.saphyr_scanner.proofs.Flow.States.{past}
 pub use Rattle.saphyr_scanner.proofs.Flow.States.{EndsDocument, crosses, crosses_comment}
 use Rattle.saphyr_scalar.proofs.Given.{cursor_at}
+use Rattle.saphyr_scanner.proofs.Queues.{place_kinds, queue_of}
 
 -- ## The block collections that are open
 
@@ -146,7 +145,7 @@ pub record At (limit : ℕ) (start : State) (f : Frame) (m : Marker) (y : List �
   pub follows : GoesOnAs limit start (state_of f (moment_at m y blank key allowed adjacent deeper) places)
   pub stop : IsStop y
   pub near : is_too_far key m ≡ false
-  pub are : kinds places ≡ ts
+  pub are : place_kinds places ≡ ts
   pub low : adjacent ≤ m.index
 
 -- ## Before a node

@@ -13,8 +13,6 @@ use Rattle.saphyr_scanner.specs.Grammar.TokenGrammar as grammar
 use Rattle.saphyr_scanner.specs.Grammar.TokenGrammar.{AreEndsAndMarks, Yields}
 use Rattle.saphyr_scanner.specs.Steps.State.{State, start}
 use Rattle.saphyr_scanner.proofs.Leads.{LeadsTo}
-use Rattle.saphyr_scanner.proofs.Json.Marks.{kinds}
-use Rattle.saphyr_scanner.proofs.Json.Leads.{begun, starts}
 use Rattle.saphyr_scanner.proofs.Flow.States.{moved, ReaderPromises}
 use Rattle.saphyr_scanner.proofs.Flow.Fillers.{last_filler_past}
 use Rattle.saphyr_scanner.proofs.Documents.Lines.{passes_filler}
@@ -27,6 +25,8 @@ use Rattle.saphyr_scanner.proofs.InBlock.Documents.Ends.{plain_behind, AreBlockD
 use Rattle.saphyr_scanner.proofs.InBlock.Documents.{reads_document}
 use Rattle.std.proofs.Math.Bool.{or-true}
 use Rattle.saphyr_scanner.proofs.Beginnings.{front_in, back_in}
+use Rattle.saphyr_scanner.proofs.Queues.{place_kinds}
+use Rattle.saphyr_scanner.proofs.Root.{stream_start_place, fetches_stream_start}
 
 -- ## Between documents
 
@@ -132,14 +132,14 @@ reads_documents {limit = limit} {start = start} readers leaves (d ∷ ds) free t
 pub begins : (limit : ℕ) (text : List ℕ) → length text ≤ limit
     → StandsInStream limit (start text) true (Lined true text) text (tokens.StreamStart ∷ [])
 begins limit text h =
-    let first = starts limit text in
+    let first = fetches_stream_start limit text in
     record {
       there = start_cursor text;
       key = first.key;
       allowed = true;
       adjacent = 0;
       comment = None;
-      places = begun ∷ [];
+      places = stream_start_place ∷ [];
       mark = record { index = 0; line = 1; col = 0 };
       follows = follows_itself first.leads;
       none = λ _. first.none refl;
@@ -156,7 +156,7 @@ begins limit text h =
 pub layout_leads : ReaderPromises → (limit : ℕ) → ReadsLeaves limit → (forest : Forest) (text : List ℕ)
     → AreIn (λ c. not (c == carriage_return)) text → IsLayout most_open forest text → length text ≤ limit
     → (d : State) × LeadsTo limit d (start text) × (d.core.ended ≡ true)
-    × ((tokens : List Kind) × Yields forest tokens × (kinds d.queue.places ≡ tokens))
+    × ((tokens : List Kind) × Yields forest tokens × (place_kinds d.queue.places ≡ tokens))
 layout_leads readers limit leaves forest text clean (mark, others, inl none, documents, e) short =
     let same : text ≡ others = e ∙ ap (λ (x : List ℕ). x ++ others) none in
     let f = reads_documents readers leaves forest true others (tokens.StreamStart ∷ []) documents

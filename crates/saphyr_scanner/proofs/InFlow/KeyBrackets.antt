@@ -12,7 +12,6 @@ use Rattle.saphyr_scanner.specs.Steps.Level.{Candidate}
 use Rattle.saphyr_scanner.specs.Steps.State.{State}
 use Rattle.saphyr_scanner.specs.Grammar.Forest.{Properties, Seq, Map, Nodes, Pairs}
 use Rattle.saphyr_scanner.specs.Grammar.FlowNodes.{IsBeforeContent, IsFlowNode}
-use Rattle.saphyr_scanner.proofs.Json.Marks.{level_of}
 use Rattle.saphyr_scanner.proofs.InFlow.States.{Around}
 use Rattle.saphyr_scanner.proofs.InFlow.KeyLines.{Ready}
 use Rattle.saphyr_scanner.proofs.InFlow.KeyTokens.{InKey, in_back, in_right, in_so, Along, along_joins, along_ready}
@@ -27,6 +26,7 @@ use Rattle.saphyr_scanner.proofs.Flow.Collections.Runs.{square, curly, are_squar
 use Rattle.saphyr_scanner.proofs.Flow.NodesPass.{all_items_pass, all_pairs_pass}
 use Rattle.saphyr_scanner.proofs.InFlow.KeyFirsts.{bracket_begins}
 use Rattle.saphyr_scanner.proofs.InFlow.KeyNodes.{KeyAlong, fronted, front_parts, colon_after_parts}
+use Rattle.saphyr_scanner.proofs.Levels.{level_of}
 
 -- ## Collections
 

@@ -1,5 +1,6 @@
 -- A flow collection that is a key on one line at block level.
 use Rattle.std.proofs.Common.{◌≡◌, ℕ, suc, ◌+◌, ◌<◌, ◌≤◌, Bool, true, false, List, [], ◌∷◌, ◌++◌, length, slice_index, Ok, refl, sym, ap, ◌∙◌, arith, subst, append_assoc, append-nil}
+use Rattle.std.proofs.Math.Nat.{zero-add}
 use Rattle.std.specs.Prelude.{Option, Some, None}
 use Rattle.saphyr_scalar.specs.declared.scalar.position.Marker.{Marker}
 use Rattle.saphyr_scalar.specs.Views.Cursor.{Cursor, ◌>>=◌, along}
@@ -14,10 +15,7 @@ use Rattle.saphyr_scanner.specs.Steps.Level.{Candidate, Level, is_block, ends_pa
 use Rattle.saphyr_scanner.specs.Steps.Flow.{close_collection}
 use Rattle.saphyr_scanner.specs.Steps.State.{State, on_core, after_step}
 use Rattle.saphyr_scanner.specs.Steps.Fetch.{step, state_behind_content, fetch_here, fetch, check_limit, fetch_within}
-use Rattle.saphyr_scanner.proofs.Leads.{LeadsTo, stay, onward}
-use Rattle.saphyr_scanner.proofs.Json.States.{queue_of, none_before}
-use Rattle.saphyr_scanner.proofs.Json.Marks.{chain, kinds, kinds_append, level_of}
-use Rattle.saphyr_scanner.proofs.Json.Brackets.{token_place}
+use Rattle.saphyr_scanner.proofs.Leads.{LeadsTo, stay, onward, leads_on}
 use Rattle.saphyr_scanner.proofs.InFlow.States.{Around, core_at, state_at, drops_far_key, left_in_flow, behind_key, opening_steps_open, open_collection_gives, close_collection_gives, deepened, moment}
 use Rattle.saphyr_scanner.proofs.InFlow.ScalarsOnLine.{separation_of_blanks}
 use Rattle.saphyr_scanner.proofs.InFlow.KeyLines.{Ready, keeps_near_key}
@@ -34,6 +32,8 @@ use Rattle.saphyr_scanner.proofs.Flow.Collections.{Brackets, AreBrackets, bracke
 use Rattle.saphyr_scalar.proofs.Given.{cursor_at}
 use Rattle.saphyr_input.proofs.Basics.Numbers.{le_next}
 use Rattle.std.proofs.lemmas.Bool.{le-leb}
+use Rattle.saphyr_scanner.proofs.Queues.{token_place, place_kinds, place_kinds_append, queue_of}
+use Rattle.saphyr_scanner.proofs.Levels.{level_of}
 
 -- inside a key's brackets nothing is required at block level
 abbrev pub calmed : Around → Around
@@ -145,7 +145,7 @@ bracket_closes around same b are inside flows closing k j a ad qs s d e n r text
     let there = ap (λ q. q >>= fetch_here) (v.is d)
     ∙ begins_here (calmed around) d (moment seen inside v.key ls v.allowed ad qs) begins right in
     let at_place = ap (λ (i : ℕ). after_step (step b.closing (slice_index o 0) i core) (queue_of qs))
-    (none_before (length qs)) in
+    (zero-add (length qs)) in
     let made = ap (λ q. after_step q (queue_of qs)) stepped
     ∙ ap (λ (q : Queue). Ok (let z : State =
     record { core = core_at around d p.there context.Block (Some k) [] false ad; queue = q } in z))
@@ -234,16 +234,16 @@ collection_along around same start Is b are k qs w inside n r e ad parts parted 
     let new3 = mark_places (ends_pair in_front.inside) at_end last.there.mark b.closes in
     let places : qs2 ++ new3 ≡ qs ++ (new1 ++ (q.new ++ new3)) =
     append_assoc (qs ++ new1) q.new new3 ∙ append_assoc qs new1 (q.new ++ new3) in
-    let led = chain first.leads (chain ran.leads last.leads) in
+    let led = leads_on first.leads (leads_on ran.leads last.leads) in
     let end : moved (along at_end 1) (spaces n) ≡ colon_after e body n =
     ap (λ (m : Marker). moved m (spaces n))
     (mark_moved at_end b.closing are.closing_mark
     ∙ sym (moved_append e (b.opening ∷ w) (inside ++ close) ∙ moved_append here inside close)) in
-    let told : kinds (new1 ++ (q.new ++ new3))
+    let told : place_kinds (new1 ++ (q.new ++ new3))
     ≡ b.opens ∷ ((in_front.tokens ++ pending (ends_pair in_front.inside)) ++ b.closes ∷ []) =
-    kinds_append new1 (q.new ++ new3)
+    place_kinds_append new1 (q.new ++ new3)
     ∙ ap (λ (x : List Kind). (b.opens ∷ []) ++ x)
-    (kinds_append q.new new3 ∙ ap (λ (x : List Kind). x ++ kinds new3) q.are
+    (place_kinds_append q.new new3 ∙ ap (λ (x : List Kind). x ++ place_kinds new3) q.are
     ∙ ap (λ (x : List Kind). in_front.tokens ++ x)
     (mark_kinds (ends_pair in_front.inside) at_end last.there.mark b.closes))
     ∙ all_told b.opens b.closes in_front.tokens (pending (ends_pair in_front.inside)) in

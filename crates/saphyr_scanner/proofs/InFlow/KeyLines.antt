@@ -1,5 +1,6 @@
 -- Tokens on the line of a key at block level: the scanner keeps the place where the key begins.
 use Rattle.std.proofs.Common.{◌≡◌, ℕ, ◌+◌, ◌≤◌, Bool, true, false, List, [], ◌∷◌, ◌++◌, length, slice_index, Ok, refl, ap, ◌∙◌, arith}
+use Rattle.std.proofs.Math.Nat.{zero-add}
 use Rattle.std.specs.Prelude.{◌-◌, ◌&&◌, ◌==◌, not, nat_lt, nat_le, Option, Some}
 use Rattle.std.proofs.lemmas.Bool.Decides.{nat_tests}
 use Rattle.saphyr_input.specs.Classes.{is_blank}
@@ -18,8 +19,6 @@ use Rattle.saphyr_scanner.specs.Steps.State.{State, on_core, after_step}
 use Rattle.saphyr_scanner.specs.Steps.Unrolling.{unroll}
 use Rattle.saphyr_scanner.specs.Steps.Fetch.{step, state_behind_content, fetch_here, arrive, fetch, check_limit, fetch_within}
 use Rattle.saphyr_scanner.proofs.Leads.{LeadsTo, stay, onward}
-use Rattle.saphyr_scanner.proofs.Json.States.{queue_of, none_before, stop_here}
-use Rattle.saphyr_scanner.proofs.Json.Brackets.{token_place}
 use Rattle.saphyr_scanner.proofs.InFlow.States.{Around, core_at, state_at, least, least_low, drops_far_key, key_left, no_ends, none_unrolls, moment}
 use Rattle.saphyr_scanner.proofs.Flow.States.{moved, IsInk}
 use Rattle.saphyr_scanner.proofs.Flow.Gaps.{right_tab as no_left_tab}
@@ -30,6 +29,8 @@ use Rattle.saphyr_input.proofs.Basics.Numbers.{le_next}
 use Rattle.saphyr_input.proofs.Basics.Characters.{no_return}
 use Rattle.saphyr_input.proofs.Basics.Booleans.{and_false, and_or_false}
 use Rattle.std.proofs.lemmas.Bool.{le-ltb, le-leb}
+use Rattle.saphyr_scanner.proofs.Queues.{token_place, queue_of}
+use Rattle.saphyr_scanner.proofs.Gaps.{stop_here}
 
 -- ## A key is kept on its line
 
@@ -140,7 +141,7 @@ later_ready around d s k ad ps w c cs is are ink right near token =
       fetches = ap (λ r. r >>= fetch_here) (line_arrives around d s k ad ps w c cs is are ink right near)
           ∙ begins_low around d there (Some k) false ad ps token
           (reaches_low around d n (blanks_past around.indent w are s.mark right).right)
-          ∙ ap (λ (i : ℕ). after_step (step c (slice_index cs 0) i core) (queue_of ps)) (none_before (length ps));
+          ∙ ap (λ (i : ℕ). after_step (step c (slice_index cs 0) i core) (queue_of ps)) (zero-add (length ps));
     }
 
 -- whether a key has to stand at a column
@@ -220,7 +221,7 @@ first_ready around calm d blank k ad ps m c cs ink right token fresh =
           ∙ begins_low around e there left true ad ps token (still_least around d m right)
           ∙ ap (λ (i : ℕ). after_step (step c (slice_index cs 0) i
           (core_at around e there context.Block left [] true ad))
-          (queue_of ps)) (none_before (length ps))
+          (queue_of ps)) (zero-add (length ps))
           ∙ ap (λ q. after_step q (queue_of ps)) (fresh e there left ad (length ps));
     }
   where

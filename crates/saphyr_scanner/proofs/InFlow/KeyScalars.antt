@@ -41,7 +41,7 @@ use Rattle.saphyr_scanner.proofs.Flow.Tokens.{Begins}
 use Rattle.saphyr_scalar.proofs.Given.{cursor_at}
 use Rattle.std.proofs.lemmas.Bool.{eq-eqb}
 use Rattle.saphyr_input.proofs.Basics.Booleans.{clash}
-use Rattle.saphyr_scanner.proofs.Json.States.{stop_here}
+use Rattle.saphyr_scanner.proofs.Gaps.{stop_here}
 
 pub colon_ink : IsInk 58
 colon_ink = record { blank = refl; break = refl; comment = refl; byte_order_mark = refl }

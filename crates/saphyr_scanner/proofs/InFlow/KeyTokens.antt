@@ -23,9 +23,7 @@ use Rattle.saphyr_scanner.specs.Grammar.Forest.{Tag}
 use Rattle.saphyr_scanner.specs.Grammar.TagSpelling.{IsTag}
 use Rattle.saphyr_scanner.specs.Grammar.FlowNodes as layout
 use Rattle.saphyr_scanner.specs.Grammar.FlowNodes.{IsOnLine, IsAnchor, IsAlias}
-use Rattle.saphyr_scanner.proofs.Leads.{LeadsTo}
-use Rattle.saphyr_scanner.proofs.Json.Marks.{chain, kinds, kinds_append}
-use Rattle.saphyr_scanner.proofs.Json.Brackets.{token_place}
+use Rattle.saphyr_scanner.proofs.Leads.{LeadsTo, leads_on}
 use Rattle.saphyr_scanner.proofs.InFlow.States.{Around, core_at, state_at, behind_key, moment}
 use Rattle.saphyr_scanner.proofs.InFlow.ScalarsOnLine.{front_on_line, back_on_line}
 use Rattle.saphyr_scanner.proofs.InFlow.KeyLines.{IsNear, Ready, later_ready, token_led}
@@ -38,6 +36,7 @@ use Rattle.saphyr_scanner.proofs.Flow.Names.{name_step, begins_anchor, begins_al
 use Rattle.saphyr_scanner.proofs.Flow.Tags.{tag_read, tag_first}
 use Rattle.saphyr_scanner.proofs.Flow.Ends.{tag_ends_name}
 use Rattle.saphyr_scalar.proofs.Given.{cursor_at}
+use Rattle.saphyr_scanner.proofs.Queues.{token_place, place_kinds, place_kinds_append}
 
 -- ## The rest of a key
 
@@ -128,7 +127,7 @@ pub record Along (around : Around) (start : State) (k : Candidate) (qs : List Pl
   pub leads : LeadsTo around.limit
       (state_at around (moment there context.Block (Some k) [] false adjacent (qs ++ bare_place piece ∷ others)) deeper)
       start
-  pub are : kinds (bare_place piece ∷ others) ≡ ts
+  pub are : place_kinds (bare_place piece ∷ others) ≡ ts
   pub low : adjacent ≤ m.index
 
 pub along_joins : {around : Around} {start : State} {k : Candidate} {qs : List Place} {m n : Marker} {y z : List ℕ}
@@ -151,8 +150,8 @@ along_joins {around} {start} {k} {qs} {m} {n} {y} {z} {ts} {us} a b =
       others = a.others ++ back;
       leads = subst (λ (ps : List Place). LeadsTo around.limit
           (state_at around (moment b.there context.Block (Some k) [] false b.adjacent ps) b.deeper) start)
-          (append_assoc qs front back) (chain a.leads b.leads);
-      are = kinds_append front back ∙ ap (λ (x : List Kind). x ++ kinds back) a.are
+          (append_assoc qs front back) (leads_on a.leads b.leads);
+      are = place_kinds_append front back ∙ ap (λ (x : List Kind). x ++ place_kinds back) a.are
           ∙ ap (λ (x : List Kind). ts ++ x) b.are;
       low = b.low;
     }

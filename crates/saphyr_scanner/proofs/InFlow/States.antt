@@ -18,11 +18,11 @@ use Rattle.saphyr_scanner.specs.Steps.Flow.{open_collection, close_collection, a
 use Rattle.saphyr_scanner.specs.Steps.State.{State, on_core}
 use Rattle.saphyr_scanner.specs.Steps.Unrolling.{end_blocks, unroll}
 use Rattle.saphyr_scanner.specs.Steps.Fetch.{fetch, check_limit, fetch_within}
-use Rattle.saphyr_scanner.proofs.Leads.{LeadsTo, stay, onward}
-use Rattle.saphyr_scanner.proofs.Json.States.{queue_of}
-use Rattle.saphyr_scanner.proofs.Json.Marks.{chain, saved, level_of, not_full}
+use Rattle.saphyr_scanner.proofs.Leads.{LeadsTo, stay, onward, leads_on}
 use Rattle.saphyr_scalar.proofs.Given.{cursor_at}
 use Rattle.std.proofs.lemmas.Bool.{le-leb}
+use Rattle.saphyr_scanner.proofs.Levels.{saved, level_of, not_full}
+use Rattle.saphyr_scanner.proofs.Queues.{queue_of}
 
 -- ## What stays as it is
 
@@ -134,7 +134,7 @@ chains f g = record {
         deeper =
             q.deeper;
         flat = λ e h. q.flat e (r.flat e h);
-        leads = chain r.leads q.leads;
+        leads = leads_on r.leads q.leads;
       };
 }
 

@@ -9,20 +9,20 @@ use Rattle.saphyr_scanner.specs.declared.engine.level.Context.{Context}
 use Rattle.saphyr_scanner.specs.declared.engine.level.Context.TheVariants as context
 use Rattle.saphyr_scanner.specs.Grammar.Tokens as tokens
 use Rattle.saphyr_scanner.specs.Grammar.Tokens.{Kind}
-use Rattle.saphyr_scanner.specs.Steps.Queue.{Place, bare_place}
+use Rattle.saphyr_scanner.specs.Steps.Queue.{Place}
 use Rattle.saphyr_scanner.specs.Steps.Core.{Core, go_deeper, from_to, up_to_here, completed_step, remove_key}
 use Rattle.saphyr_scanner.specs.Steps.Level.{Candidate, Level, is_block}
 use Rattle.saphyr_scanner.specs.Steps.Passing.{with_cursor}
 use Rattle.saphyr_scanner.specs.Steps.Flow as flow
 use Rattle.saphyr_scanner.specs.Steps.Flow.{open_collection, close_collection, next_flow_entry, allow_adjacent, behind_pair}
 use Rattle.saphyr_scanner.specs.Steps.Fetch.{step}
-use Rattle.saphyr_scanner.proofs.Json.States.{skip, IsClean, total, core_at, state_at, arrives, IsContentStart, one}
-use Rattle.saphyr_scanner.proofs.Json.Marks.{PassesJson, once, Separates, separates, saved, saves_key, goes_deeper, level_of, not_full}
+use Rattle.saphyr_scanner.proofs.Json.States.{skip, IsClean, total, arrives, IsContentStart, one}
+use Rattle.saphyr_scanner.proofs.Json.Marks.{PassesJson, once, Separates, separates, saves_key, goes_deeper}
 use Rattle.saphyr_scalar.proofs.Given.{cursor_at}
-
--- a token that was read
-abbrev pub token_place : Marker → Marker → Kind → Place
-token_place a b kind = bare_place (record { span = record { start = a; end = b }; kind = kind })
+use Rattle.saphyr_scanner.proofs.Levels.{saved, level_of, not_full}
+use Rattle.saphyr_scanner.proofs.Root.{core_at, state_at}
+use Rattle.saphyr_scanner.proofs.Queues.{token_place}
+use Rattle.saphyr_scanner.proofs.Steps.Choice.{comma_begins}
 
 -- ## An opening bracket
 
@@ -144,10 +144,6 @@ parts false r m b k ls a ad p =
     let c = core_at false (cursor_at r (along m 1) false) context.FlowMapping None ls true ad in
     ap (λ q. (q >>= λ (d : SkipTabs × Cursor). Ok (d.0, with_cursor d.1 c)) >>= λ (d : SkipTabs × Core). completed_step
     (behind_pair false m (up_to_here m tokens.FlowEntry d.1)) d.1) p.is
-
-pub comma_begins : (second i : ℕ) (c : Core) → step 44 second i c ≡ flow.flow_entry_steps c
-unfolding step
-comma_begins second i c = refl
 
 pub comma_passes : (limit n : ℕ) → n ≤ limit → (is_sequence : Bool) (r o : List ℕ)
     → (s : Cursor) (k : Option Candidate) (ls : List Level) (a : Bool) (ad : ℕ) (ps : List Place) → total s ≡ n

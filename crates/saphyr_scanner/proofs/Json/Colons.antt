@@ -1,5 +1,6 @@
 -- The colon of JSON is read, behind the name of a member.
 use Rattle.std.proofs.Common.{◌≡◌, ℕ, ◌+◌, ◌-◌, ◌≤◌, Bool, true, false, List, [], ◌∷◌, ◌++◌, length, slice_index, Ok, refl, sym, ap, ◌∙◌, arith, subst, append_assoc}
+use Rattle.std.proofs.Math.Nat.{sub-zero}
 use Rattle.std.specs.Prelude.{◌==◌, Option, Some, None}
 use Rattle.saphyr_input.specs.Classes.{is_blank_or_breakz, is_flow}
 use Rattle.saphyr_input.specs.declared.input.SkipTabs.{SkipTabs}
@@ -7,7 +8,6 @@ use Rattle.saphyr_scalar.specs.declared.scalar.position.Marker.{Marker}
 use Rattle.saphyr_scalar.specs.Views.Cursor.{Cursor, ◌>>=◌, along}
 use Rattle.saphyr_scanner.specs.declared.engine.level.Context.{Context}
 use Rattle.saphyr_scanner.specs.declared.engine.level.Context.TheVariants as context
-use Rattle.saphyr_scanner.specs.declared.queue.Opening.{Opening}
 use Rattle.saphyr_scanner.specs.declared.queue.Opening.TheVariants as opening
 use Rattle.saphyr_scanner.specs.Grammar.Tokens as tokens
 use Rattle.saphyr_scanner.specs.Grammar.Tokens.{Kind}
@@ -21,13 +21,15 @@ use Rattle.saphyr_scanner.specs.Steps.Value.{check_tab, refuse_lone_tab, value_o
 use Rattle.saphyr_scanner.specs.Steps.State.{State}
 use Rattle.saphyr_scanner.specs.Grammar.Forest.{DoubleQuoted}
 use Rattle.saphyr_scanner.specs.Steps.Fetch.{step, flow_value}
-use Rattle.saphyr_scanner.proofs.Leads.{LeadsTo}
-use Rattle.saphyr_scanner.proofs.Json.States.{skip, IsClean, total, core_at, state_at, queue_of, arrives, IsContentStart, one}
-use Rattle.saphyr_scanner.proofs.Json.Marks.{chain, PassesJson, Separates, separates}
+use Rattle.saphyr_scanner.proofs.Leads.{LeadsTo, leads_on}
+use Rattle.saphyr_scanner.proofs.Json.States.{skip, IsClean, total, arrives, IsContentStart, one}
+use Rattle.saphyr_scanner.proofs.Json.Marks.{PassesJson, Separates, separates}
 use Rattle.saphyr_scanner.proofs.Json.Brackets.{low_index, further}
 use Rattle.saphyr_input.proofs.Basics.Booleans.{by_test}
 use Rattle.saphyr_scalar.proofs.Given.{cursor_at}
 use Rattle.std.proofs.lemmas.Bool.{or_right, eq-eqb}
+use Rattle.saphyr_scanner.proofs.Root.{core_at, state_at}
+use Rattle.saphyr_scanner.proofs.Queues.{queue_of, with_opening_seam}
 
 -- a colon at the place where one may stand adjacent, inside flow
 colon_begins_value : (second i : ℕ) (s : Cursor) (k : Option Candidate) (ls : List Level) (a : Bool) (ad : ℕ)
@@ -78,21 +80,12 @@ fetches : (r : List ℕ) (m : Marker) (b : Bool) (k : Candidate) (ls : List Leve
 unfolding value.value_steps value_of_key behind_key
 fetches r m b k ls a ad p = ap (λ q. q >>= λ (d : Core). behind_key d.level.key false m d) p.is
 
--- the place before the others that come behind it is opened
-pub with_opening_seam : (o : Opening) (ps : List Place) (p : Place) (qs : List Place)
-    → places_with_opening (length ps) o (ps ++ p ∷ qs) ≡ ps ++ record { opening = o; piece = p.piece } ∷ qs
-with_opening_seam o [] p qs = refl
-with_opening_seam o (q ∷ ps) p qs = ap (λ (x : List Place). q ∷ x) (with_opening_seam o ps p qs)
-
-pub none_off : (n : ℕ) → n - 0 ≡ n
-none_off n = omega arith
-
 performs : (ps : List Place) (t v : Piece)
     → perform (Open (length ps) opening.Key ∷ Put v ∷ []) (queue_of (ps ++ bare_place t ∷ []))
     ≡ queue_of (ps ++ record { opening = opening.Key; piece = t } ∷ bare_place v ∷ [])
 performs ps t v =
     let key : Place = record { opening = opening.Key; piece = t } in
-    let places = ap (λ (i : ℕ). places_with_opening i opening.Key (ps ++ bare_place t ∷ [])) (none_off (length ps))
+    let places = ap (λ (i : ℕ). places_with_opening i opening.Key (ps ++ bare_place t ∷ [])) (sub-zero (length ps))
     ∙ with_opening_seam opening.Key ps (bare_place t) [] in
     ap (λ (x : List Place). queue_of (x ++ bare_place v ∷ [])) places
     ∙ ap queue_of (append_assoc ps (key ∷ []) (bare_place v ∷ []))
@@ -147,7 +140,7 @@ name_passes limit n below start ls ps r o text h follows clean =
       allowed = false;
       adjacent = s.mark.index;
       new = new;
-      leads = chain h.leads came.leads;
+      leads = leads_on h.leads came.leads;
       fits = p.rest ∙ follows;
       count = counted;
       are = ap (λ (t : Kind). tokens.Key ∷ t ∷ tokens.Value ∷ []) h.is;

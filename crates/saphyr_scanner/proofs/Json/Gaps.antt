@@ -1,21 +1,21 @@
 -- White space of JSON is passed between two tokens.
 use Rattle.std.proofs.Common.{◌≡◌, ℕ, suc, ◌+◌, ◌^◌, ◌<◌, ◌≤◌, Bool, true, false, List, [], ◌∷◌, ◌++◌, length, drop, slice_index, Ok, refl, sym, ap, ◌∙◌, arith, subst, append_assoc, ◌⊎◌, inl, inr, cond}
-use Rattle.std.specs.Prelude.{◌||◌, ◌==◌, nat_lt}
+use Rattle.std.specs.Prelude.{◌||◌, ◌==◌}
 use Rattle.std.specs.List.{list_any, prefix_len}
 use Rattle.std.proofs.lemmas.Bool.Decides.{nat_tests}
 use Rattle.std.proofs.lemmas.List.{length-append}
 use Rattle.saphyr_input.specs.Classes.{IsBlank, is_blank, is_break, is_bom}
-use Rattle.saphyr_input.specs.Separation.{blank_len, separation_len, comment_len, found_blanks}
+use Rattle.saphyr_input.specs.Separation.{separation_len, comment_len, found_blanks}
 use Rattle.saphyr_input.specs.declared.input.SkipTabs.TheVariants.{Yes}
 use Rattle.saphyr_scalar.specs.declared.scalar.position.Marker.{Marker}
 use Rattle.saphyr_scalar.specs.Views.Cursor.{Cursor, along, next_line, pass_blanks, behind_separation, separation}
 use Rattle.saphyr_scanner.specs.Grammar.Characters.{AreAll}
-use Rattle.saphyr_scanner.specs.Steps.Gap.{stop, gap, gap_at, is_tab_indentation}
+use Rattle.saphyr_scanner.specs.Steps.Gap.{stop, gap, gap_at}
 use Rattle.saphyr_scanner.specs.Grammar.Json.{IsWhite, IsWhiteSpace}
 use Rattle.saphyr_scalar.proofs.Moving.{along_none}
 use Rattle.saphyr_input.proofs.Basics.Characters.{no_return}
-use Rattle.saphyr_input.proofs.Basics.Booleans.{and_false}
 use Rattle.std.proofs.Math.Bool.{or-false, or-true}
+use Rattle.saphyr_scanner.proofs.Gaps.{no_tab_indentation, separated}
 
 -- what ends the white space: the text's end, or a character that begins no blank, break or comment
 abbrev pub StopsGap : List ℕ → Type 0
@@ -63,9 +63,6 @@ gap_behind_character m k blank broke blank_then broke_then c w follow one same_b
           same_line h in p.same_line s.0 ∙ ap (λ x. along x (length w)) s.1 ∙ along_more m (length w);
       line = λ h. let l = line h in let more = p.line l.1 in (omega (arith, l.0, more.0), more.1);
     }
-
-pub no_tab_indentation : (m : Marker) (blank : Bool) (c : ℕ) → (is_tab_indentation 0 m blank c || false) ≡ false
-no_tab_indentation m blank c = grind (arith, nat_tests)
 
 blank_case : (m : Marker) (blank broke : Bool) (c : ℕ) (w follow : List ℕ) → is_blank c ≡ true → is_break c ≡ false
     → PassesJsonGap (along m 1) blank broke w follow → PassesJsonGap m blank broke (c ∷ w) follow
@@ -262,11 +259,6 @@ first_no_sign (c ∷ w) y blanks h = no_sign c blanks.0
   where
     no_sign : (c : ℕ) → IsBlank c → (c == 35) ≡ false
     no_sign c h = grind (arith, nat_tests)
-
-pub separated : (text : List ℕ) (t : Cursor) → (slice_index text 0 == 35) ≡ false
-    → is_bom (slice_index t.rest 0) ≡ false → behind_separation Yes text t ≡ Ok (found_blanks Yes text, t)
-unfolding behind_separation
-separated text t sign mark = rw (mark, sign, and_false (nat_lt 0 t.mark.col), and_false (blank_len Yes text == 0)) refl
 
 -- Blanks on a line are passed as separation.
 pub blanks_separated : (s : Cursor) (w y : List ℕ) → s.rest ≡ w ++ y → AreAll IsBlank w → StopsBlanks y

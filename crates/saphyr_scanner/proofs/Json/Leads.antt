@@ -1,6 +1,6 @@
 -- The scanner takes a text of JSON and makes the tokens of its forest.
-use Rattle.std.proofs.Common.{◌≡◌, ℕ, ◌+◌, ◌≤◌, Bool, true, false, List, [], ◌∷◌, ◌++◌, length, Ok, refl, sym, ap, ◌∙◌, append-nil, arith}
-use Rattle.std.specs.Prelude.{map, Option, None}
+use Rattle.std.proofs.Common.{◌≡◌, ℕ, ◌+◌, ◌≤◌, Bool, true, false, List, [], ◌∷◌, ◌++◌, length, refl, sym, ap, ◌∙◌, append-nil, arith}
+use Rattle.std.specs.Prelude.{map, Option}
 use Rattle.saphyr_scalar.specs.declared.scalar.position.Marker.{Marker}
 use Rattle.saphyr_scalar.specs.Views.Cursor.{Cursor, ◌>>=◌, start_cursor}
 use Rattle.saphyr_scalar.specs.Steps.Plain as words
@@ -11,41 +11,19 @@ use Rattle.saphyr_scanner.specs.Grammar.JsonTokens.{json_tokens, node_tokens}
 use Rattle.saphyr_scanner.specs.Grammar.Tokens as tokens
 use Rattle.saphyr_scanner.specs.Grammar.Tokens.{Kind}
 use Rattle.saphyr_scanner.specs.Views.Tokens.{Piece}
-use Rattle.saphyr_scanner.specs.Steps.Queue.{Place, bare_place, empty_piece}
+use Rattle.saphyr_scanner.specs.Steps.Queue.{Place}
 use Rattle.saphyr_scanner.specs.Steps.Level.{Candidate}
 use Rattle.saphyr_scanner.specs.Steps.State.{State, start}
-use Rattle.saphyr_scanner.specs.Steps.Unrolling.{unroll}
-use Rattle.saphyr_scanner.specs.Steps.Document.{end_stream, end_at, end_mark}
 use Rattle.saphyr_scanner.specs.Steps.Fetch.{fetch, fetch_here}
-use Rattle.saphyr_scanner.proofs.Leads.{LeadsTo, flat}
+use Rattle.saphyr_scanner.proofs.Leads.{LeadsTo, flat, leads_on}
 use Rattle.saphyr_scanner.proofs.Json.Strings.{ReadsDoubleQuoted, CountsDoubleQuoted}
 use Rattle.saphyr_scanner.proofs.Json.ReadWords.{ReadsPlainWords}
-use Rattle.saphyr_scanner.proofs.Json.States.{skip, skip_white, total, state_at, arrives, ComesInJson, comes}
-use Rattle.saphyr_scanner.proofs.Json.Marks.{chain, kinds, kinds_append}
+use Rattle.saphyr_scanner.proofs.Json.States.{skip, skip_white, total, arrives}
 use Rattle.saphyr_scanner.proofs.Json.Quotes.{reader}
 use Rattle.saphyr_scanner.proofs.Json.Nodes.{Premises, node_passes}
 use Rattle.saphyr_scalar.proofs.Given.{cursor_at}
-
--- the token of the stream's start
-abbrev pub begun : Place
-begun = bare_place (empty_piece (record { index = 0; line = 1; col = 0 }) tokens.StreamStart)
-
-pub starts : (limit : ℕ) (text : List ℕ)
-    → ComesInJson limit (start text) false (start_cursor text) context.Block None [] true 0 (begun ∷ [])
-unfolding fetch
-starts limit text = comes limit (start text) false (start_cursor text) context.Block None [] true 0
-    (begun ∷ []) refl refl
-    (omega arith)
-
--- the token of the stream's end
-abbrev pub finished : Marker → Place
-finished m = bare_place (empty_piece (end_mark m) tokens.StreamEnd)
-
-pub here : (m : Marker) (b : Bool) (k : Option Candidate) (a : Bool) (ad : ℕ) (ps : List Place)
-    → fetch_here (state_at false (cursor_at [] m b) context.Block k [] a ad ps)
-    ≡ Ok (state_at true (cursor_at [] m b) context.Block k [] false ad (ps ++ finished m ∷ []))
-unfolding fetch_here end_stream end_at unroll
-here m b k a ad ps = refl
+use Rattle.saphyr_scanner.proofs.Queues.{place_kinds, place_kinds_append}
+use Rattle.saphyr_scanner.proofs.Root.{state_at, comes, stream_start_place, fetches_stream_start, stream_end_place, fetches_stream_end}
 
 -- at the text's end
 record EndsStream (limit : ℕ) (before : State) (ps : List Place) : Type 0 where
@@ -54,7 +32,7 @@ record EndsStream (limit : ℕ) (before : State) (ps : List Place) : Type 0 wher
   leads : LeadsTo limit after before
   over : after.core.ended ≡ true
   handed : after.queue.handed ≡ 0
-  places : after.queue.places ≡ ps ++ finished mark ∷ []
+  places : after.queue.places ≡ ps ++ stream_end_place mark ∷ []
 
 leads_to_end : (limit n : ℕ) → n ≤ limit → (s : Cursor) (k : Option Candidate) (a : Bool) (ad : ℕ) (ps : List Place)
     → total s ≡ n → skip s.rest ≡ [] → EndsStream limit (state_at false s context.Block k [] a ad ps) ps
@@ -64,10 +42,11 @@ leads_to_end limit n below s k a ad ps count text =
     let low : v.mark.index ≤ limit = omega (arith, v.count, count, below) in
     let there = cursor_at [] v.mark v.blank in
     let came = comes limit (state_at false s context.Block k [] a ad ps) true there context.Block v.key [] false ad
-    (ps ++ finished v.mark ∷ []) refl (ap (λ r. r >>= fetch_here) v.is ∙ here v.mark v.blank v.key v.allowed ad ps)
+    (ps ++ stream_end_place v.mark ∷ []) refl
+    (ap (λ r. r >>= fetch_here) v.is ∙ fetches_stream_end v.mark v.blank v.key v.allowed ad ps)
     low in
     record {
-      after = state_at true there context.Block came.key [] false ad (ps ++ finished v.mark ∷ []);
+      after = state_at true there context.Block came.key [] false ad (ps ++ stream_end_place v.mark ∷ []);
       mark =
           v.mark;
       leads = came.leads;
@@ -76,10 +55,11 @@ leads_to_end limit n below s k a ad ps count text =
       places = refl;
     }
 
-kinds_of_stream : (new : List Place) (m : Marker) (ts : List Kind) → kinds new ≡ ts
-    → kinds ((begun ∷ new) ++ finished m ∷ []) ≡ tokens.StreamStart ∷ (ts ++ tokens.StreamEnd ∷ [])
+kinds_of_stream : (new : List Place) (m : Marker) (ts : List Kind) → place_kinds new ≡ ts
+    → place_kinds ((stream_start_place ∷ new) ++ stream_end_place m ∷ []) ≡ tokens.StreamStart ∷
+    (ts ++ tokens.StreamEnd ∷ [])
 kinds_of_stream new m ts e = ap (λ (x : List Kind). tokens.StreamStart ∷ x)
-    (kinds_append new (finished m ∷ []) ∙ ap (λ (x : List Kind). x ++ tokens.StreamEnd ∷ []) e)
+    (place_kinds_append new (stream_end_place m ∷ []) ∙ ap (λ (x : List Kind). x ++ tokens.StreamEnd ∷ []) e)
 
 -- Each text of JSON is taken up to its end, where the queue holds the tokens of its forest.
 pub json_leads : ReadsPlainWords words.plain → ReadsDoubleQuoted reader → CountsDoubleQuoted reader
@@ -95,17 +75,18 @@ json_leads words_read quoted_read counts limit (document ∷ []) text h deep sho
     let below : n ≤ limit = omega arith in
     let premises : Premises limit n =
     record { reads_words = words_read; reads_quoted = quoted_read; counts = counts; below = below } in
-    let first = starts limit text in
+    let first = fetches_stream_start limit text in
     let piece : skip text ≡ skip (t.1 ++ t.2) = rw t.6 (skip_white t.0 (t.1 ++ t.2) t.3) in
     let behind : skip t.2 ≡ [] = ap skip (sym (append-nil t.2)) ∙ skip_white t.2 [] t.5 in
     let node = node_passes premises document.node t.1 t.2 t.4 (start_cursor text) context.Block first.key [] true 0
-    (begun ∷ []) refl piece (rw behind tt) (omega arith) in
-    let last = leads_to_end limit n below node.there node.key node.allowed node.adjacent ((begun ∷ []) ++ node.new)
+    (stream_start_place ∷ []) refl piece (rw behind tt) (omega arith) in
+    let last = leads_to_end limit n below node.there node.key node.allowed node.adjacent
+    ((stream_start_place ∷ []) ++ node.new)
     node.count
     (node.fits ∙ behind) in (
       last.after,
-      chain first.leads (chain node.leads last.leads),
+      leads_on first.leads (leads_on node.leads last.leads),
       last.over,
       last.handed,
-      ap kinds last.places ∙ kinds_of_stream node.new last.mark (node_tokens document.node) node.are,
+      ap place_kinds last.places ∙ kinds_of_stream node.new last.mark (node_tokens document.node) node.are,
     )

@@ -1,38 +1,27 @@
--- The indicators of JSON are read: brackets, commas and colons.
+-- Runs over pieces of a text of JSON, and how they are joined; what the reader does at an indicator there.
 use Rattle.std.proofs.Common.{◌≡◌, ℕ, ◌+◌, ◌<◌, Bool, true, false, List, [], ◌∷◌, ◌++◌, length, slice_index, Ok, refl, ap, ◌∙◌, arith, append_assoc, ◌⊎◌, inl, inr}
-use Rattle.std.specs.Prelude.{map, ◌==◌, nat_le, Option, Some}
+use Rattle.std.specs.Prelude.{◌==◌, Option}
 use Rattle.std.proofs.lemmas.Bool.Decides.{nat_tests}
-use Rattle.std.proofs.lemmas.List.{length-append, map-append}
+use Rattle.std.proofs.lemmas.List.{length-append}
 use Rattle.saphyr_input.specs.Classes.{is_break}
 use Rattle.saphyr_input.specs.declared.input.SkipTabs.{SkipTabs}
 use Rattle.saphyr_input.specs.declared.input.SkipTabs.TheVariants.{Yes}
-use Rattle.saphyr_scalar.specs.declared.scalar.position.Marker.{Marker}
 use Rattle.saphyr_scalar.specs.Views.Cursor.{Cursor, along, separation}
 use Rattle.saphyr_scanner.specs.declared.engine.level.Context.{Context}
 use Rattle.saphyr_scanner.specs.declared.engine.level.Context.TheVariants as context
 use Rattle.saphyr_scanner.specs.Grammar.Tokens.{Kind}
-use Rattle.saphyr_scanner.specs.Views.Tokens.{Piece}
 use Rattle.saphyr_scanner.specs.Steps.Queue.{Place}
 use Rattle.saphyr_scanner.specs.Steps.Core.{save_key, go_deeper}
 use Rattle.saphyr_scanner.specs.Steps.Level.{Candidate, Level}
 use Rattle.saphyr_scanner.specs.Steps.State.{State}
-use Rattle.saphyr_scanner.proofs.Leads.{LeadsTo, stay, onward, flat}
+use Rattle.saphyr_scanner.proofs.Leads.{LeadsTo, leads_on}
 use Rattle.saphyr_scanner.proofs.Json.Gaps.{line_first, white_separated}
-use Rattle.saphyr_scanner.proofs.Json.States.{skip, split, skip_white, skip_skip, IsClean, stops_blanks, total, core_at, state_at, ComesInJson}
-use Rattle.saphyr_scanner.proofs.Queues.{flat_append}
+use Rattle.saphyr_scanner.proofs.Json.States.{skip, split, skip_white, skip_skip, IsClean, stops_blanks, total}
+use Rattle.saphyr_scanner.proofs.Queues.{place_kinds, place_kinds_append}
+use Rattle.saphyr_scanner.proofs.Root.{core_at, state_at, ComesTo}
+use Rattle.saphyr_scanner.proofs.Levels.{saved}
 
 -- ## Runs
-
-pub chain : {limit : ℕ} {d m : State} {s : State} → LeadsTo limit m s → LeadsTo limit d m → LeadsTo limit d s
-chain stay k = k
-chain (onward s t u going is settles l) k = onward s t u going is settles (chain l k)
-
-abbrev pub kinds : List Place → List Kind
-kinds ps = map (λ (t : Piece). t.kind) (flat ps)
-
-pub kinds_append : (a b : List Place) → kinds (a ++ b) ≡ kinds a ++ kinds b
-kinds_append a b = ap (map (λ (t : Piece). t.kind)) (flat_append a b)
-    ∙ map-append (λ (t : Piece). t.kind) (flat a) (flat b)
 
 -- From a state the scanner comes, behind a piece, to the text o, whose end has the index n. The places of the piece
 -- hold these tokens.
@@ -47,13 +36,13 @@ pub record PassesJson (limit n : ℕ) (start : State) (fresh : Bool) (x : Contex
   pub leads : LeadsTo limit (state_at false there x key ls allowed adjacent (ps ++ new)) start
   pub fits : skip there.rest ≡ skip o
   pub count : total there ≡ n
-  pub are : kinds new ≡ ts
+  pub are : place_kinds new ≡ ts
   pub allows : fresh ≡ true → allowed ≡ true
 
 -- one step
 pub once : {limit n : ℕ} {start : State} {x : Context} {ls : List Level} {k : Option Candidate} (fresh a : Bool)
     (ad : ℕ) (s : Cursor) (ps new : List Place) (o : List ℕ) (ts : List Kind)
-    → ComesInJson limit start false s x k ls a ad (ps ++ new) → skip s.rest ≡ skip o → total s ≡ n → kinds new ≡ ts
+    → ComesTo limit start false s x k ls a ad (ps ++ new) → skip s.rest ≡ skip o → total s ≡ n → place_kinds new ≡ ts
     → (fresh ≡ true → a ≡ true) → PassesJson limit n start fresh x ls ps o ts
 once fresh a ad s ps new o ts c fits count are allows =
     record {
@@ -85,10 +74,10 @@ join {ps = ps} {ts = ts} {us = us} p q =
       allowed = q.allowed;
       adjacent = q.adjacent;
       new = p.new ++ q.new;
-      leads = rw (← append_assoc ps p.new q.new) (chain p.leads q.leads);
+      leads = rw (← append_assoc ps p.new q.new) (leads_on p.leads q.leads);
       fits = q.fits;
       count = q.count;
-      are = kinds_append p.new q.new ∙ ap (λ x. x ++ kinds q.new) p.are ∙ ap (λ x. ts ++ x) q.are;
+      are = place_kinds_append p.new q.new ∙ ap (λ x. x ++ place_kinds q.new) p.are ∙ ap (λ x. ts ++ x) q.are;
       allows = q.allows;
     }
 
@@ -127,11 +116,6 @@ separates s h =
 
 -- ## Brackets
 
--- the key that may begin at the next token
-abbrev pub saved : Bool → ℕ → Marker → Option Candidate → Option Candidate
-saved true n m k = Some (record { mark = m; place = n })
-saved false n m k = k
-
 no_column : (n : ℕ) → (0 == n + 1) ≡ false
 no_column n = grind (arith, nat_tests)
 
@@ -153,9 +137,3 @@ goes_deeper s context.FlowMapping k ls a ad = refl
 goes_deeper s context.FlowPair k ls a ad = refl
 goes_deeper s context.ExplicitFlowPair k ls a ad = refl
 goes_deeper s context.MarkedFlowPair k ls a ad = refl
-
-abbrev pub level_of : Context → Option Candidate → Level
-level_of x k = record { context = x; key = k }
-
-pub not_full : (n : ℕ) → n < 255 → nat_le 255 n ≡ false
-not_full n h = grind (arith, nat_tests)

@@ -10,7 +10,6 @@ use Rattle.saphyr_scanner.specs.Grammar.Tokens as tokens
 use Rattle.saphyr_scanner.specs.Grammar.Tokens.{Kind}
 use Rattle.saphyr_scanner.specs.Grammar.JsonTokens.{node_tokens, entry_tokens, other_entry_tokens, pair_tokens, other_pair_tokens}
 use Rattle.saphyr_scanner.specs.Steps.Queue.{Place, bare_place}
-use Rattle.saphyr_scanner.specs.Steps.Core.{Core}
 use Rattle.saphyr_scanner.specs.Steps.Level.{Candidate, Level, is_block}
 use Rattle.saphyr_scanner.specs.Steps.State.{State}
 use Rattle.saphyr_scanner.specs.Steps.Flow as flow
@@ -21,14 +20,17 @@ use Rattle.saphyr_scanner.proofs.Leads.{stay}
 use Rattle.saphyr_scanner.proofs.Json.Words.{IsBehindValue}
 use Rattle.saphyr_scanner.proofs.Json.Strings.{ReadsDoubleQuoted, CountsDoubleQuoted}
 use Rattle.saphyr_scanner.proofs.Json.ReadWords.{ReadsPlainWords}
-use Rattle.saphyr_scanner.proofs.Json.States.{skip, skip_skip, IsClean, total, core_at, state_at, IsContentStart}
-use Rattle.saphyr_scanner.proofs.Json.Marks.{PassesJson, join, level_of}
+use Rattle.saphyr_scanner.proofs.Json.States.{skip, skip_skip, IsClean, total, IsContentStart}
+use Rattle.saphyr_scanner.proofs.Json.Marks.{PassesJson, join}
 use Rattle.saphyr_scanner.proofs.Json.Brackets.{open_passes, close_passes, comma_passes}
 use Rattle.saphyr_scanner.proofs.Json.Colons.{Strung, name_passes}
 use Rattle.saphyr_scanner.proofs.Json.Quotes.{reader, string_passes}
 use Rattle.saphyr_scanner.proofs.Json.Plains.{word_passes}
 use Rattle.saphyr_scanner.proofs.Json.Pieces.{around, behind_clean, quotes_followed, closing_behind, others_behind, other_members_behind, value_clean, elements_clean, name_clean, members_clean}
 use Rattle.std.proofs.lemmas.Bool.{false≢true}
+use Rattle.saphyr_scanner.proofs.Levels.{level_of}
+use Rattle.saphyr_scanner.proofs.Root.{core_at, state_at}
+use Rattle.saphyr_scanner.proofs.Steps.Choice.{begins_sequence, begins_mapping}
 
 -- what the readers of scalars promise, and that the text is not too long
 pub record Premises (limit n : ℕ) : Type 0 where
@@ -94,16 +96,6 @@ content_of c r (inr (inr (inl e))) =
 content_of c r (inr (inr (inr e))) =
     subst (λ (z : ℕ). IsContentStart (z ∷ r)) (sym e)
     (record { nul = refl; byte_order_mark = refl; directive = refl; document_start = refl; document_end = refl })
-
-pub begins_sequence : (second i : ℕ) (c : Core)
-    → step 91 second i c ≡ flow.opening_steps context.FlowSequence tokens.FlowSequenceStart i c
-unfolding step
-begins_sequence second i c = refl
-
-pub begins_mapping : (second i : ℕ) (c : Core)
-    → step 123 second i c ≡ flow.opening_steps context.FlowMapping tokens.FlowMappingStart i c
-unfolding step
-begins_mapping second i c = refl
 
 ends_sequence : (second i : ℕ) (s : Cursor) (k : Option Candidate) (ls : List Level) (a : Bool) (ad : ℕ)
     → step 93 second i (core_at false s context.FlowSequence k ls a ad)

@@ -23,13 +23,16 @@ use Rattle.saphyr_scanner.proofs.Json.FirstTests.{other_than_digit, BeginsNothin
 use Rattle.saphyr_scanner.proofs.Json.Firsts.{kind_is_first, word_value, digit_second, no_marker}
 use Rattle.saphyr_scanner.proofs.Json.ReadWords.{ReadsPlainWords, word_read}
 use Rattle.saphyr_scanner.proofs.Json.Gaps.{contains_break}
-use Rattle.saphyr_scanner.proofs.Json.States.{skip, split, skip_none, skip_skip, IsClean, total, core_at, state_at, arrives, IsContentStart, one}
-use Rattle.saphyr_scanner.proofs.Json.Marks.{PassesJson, once, saved, saves_key}
-use Rattle.saphyr_scanner.proofs.Json.Brackets.{token_place, low_index}
+use Rattle.saphyr_scanner.proofs.Json.States.{skip, split, skip_none, skip_skip, IsClean, total, arrives, IsContentStart, one}
+use Rattle.saphyr_scanner.proofs.Json.Marks.{PassesJson, once, saves_key}
+use Rattle.saphyr_scanner.proofs.Json.Brackets.{low_index}
 use Rattle.saphyr_scalar.proofs.Given.{cursor_at}
 use Rattle.std.proofs.lemmas.Bool.{or_parts}
 use Rattle.saphyr_input.proofs.Basics.Numbers.{none_below_zero}
 use Rattle.saphyr_input.proofs.Basics.Booleans.{and_false}
+use Rattle.saphyr_scanner.proofs.Queues.{token_place}
+use Rattle.saphyr_scanner.proofs.Levels.{saved}
+use Rattle.saphyr_scanner.proofs.Root.{core_at, state_at}
 
 -- ## The scalar itself
 

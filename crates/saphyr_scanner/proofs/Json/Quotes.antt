@@ -21,12 +21,15 @@ use Rattle.saphyr_scanner.specs.Steps.Scalar.{read_double_quoted, disallow_key, 
 use Rattle.saphyr_scanner.specs.Steps.Fetch.{step}
 use Rattle.saphyr_scanner.specs.Grammar.Json.{IsString}
 use Rattle.saphyr_scanner.proofs.Json.Strings.{ReadsDoubleQuoted, CountsDoubleQuoted, string_read}
-use Rattle.saphyr_scanner.proofs.Json.States.{skip, IsClean, total, core_at, state_at, arrives, PassesGap, passes_gap, IsContentStart, one}
-use Rattle.saphyr_scanner.proofs.Json.Marks.{Separates, separates, saved, saves_key}
-use Rattle.saphyr_scanner.proofs.Json.Brackets.{token_place, low_index}
+use Rattle.saphyr_scanner.proofs.Json.States.{skip, IsClean, total, arrives, PassesGap, passes_gap, IsContentStart, one}
+use Rattle.saphyr_scanner.proofs.Json.Marks.{Separates, separates, saves_key}
+use Rattle.saphyr_scanner.proofs.Json.Brackets.{low_index}
 use Rattle.saphyr_scanner.proofs.Json.Colons.{Strung}
 use Rattle.saphyr_scalar.proofs.Given.{cursor_at}
 use Rattle.std.proofs.lemmas.Bool.{or_left}
+use Rattle.saphyr_scanner.proofs.Queues.{token_place}
+use Rattle.saphyr_scanner.proofs.Levels.{saved}
+use Rattle.saphyr_scanner.proofs.Root.{core_at, state_at}
 
 -- ## The scalar itself
 

@@ -1,6 +1,7 @@
--- The states of a scanner that reads a text of JSON, and the way to the next token.
+-- The white space of a text of JSON, and the way to its next token.
 use Rattle.std.proofs.Common.{◌≡◌, ℕ, ◌+◌, ◌≤◌, Bool, true, false, List, [], ◌∷◌, ◌++◌, length, slice_index, Ok, refl, sym, ap, ◌∙◌, arith, subst}
-use Rattle.std.specs.Prelude.{◌||◌, ◌&&◌, ◌==◌, Option, Some, None, if◌then◌else◌}
+use Rattle.std.proofs.Math.Nat.{zero-add}
+use Rattle.std.specs.Prelude.{◌||◌, ◌&&◌, ◌==◌, Option, Some, if◌then◌else◌}
 use Rattle.std.proofs.lemmas.Bool.Decides.{nat_tests}
 use Rattle.saphyr_input.specs.Classes.{is_blank, is_break, is_bom, is_z}
 use Rattle.saphyr_input.specs.Places.{is_document_start, is_document_end}
@@ -8,21 +9,23 @@ use Rattle.saphyr_scalar.specs.declared.scalar.position.Marker.{Marker}
 use Rattle.saphyr_scalar.specs.Views.Cursor.{Cursor, ◌>>=◌}
 use Rattle.saphyr_scanner.specs.declared.engine.level.Context.{Context}
 use Rattle.saphyr_scanner.specs.declared.engine.level.Context.TheVariants as context
-use Rattle.saphyr_scanner.specs.Steps.Gap.{GapEnd, stop}
+use Rattle.saphyr_scanner.specs.Steps.Gap.{GapEnd}
 use Rattle.saphyr_scanner.specs.Steps.Queue.{Place, Queue}
-use Rattle.saphyr_scanner.specs.Steps.Core.{Core, Action, perform, completed_step, is_too_far, drop_far_key}
+use Rattle.saphyr_scanner.specs.Steps.Core.{Action, perform, completed_step, drop_far_key}
 use Rattle.saphyr_scanner.specs.Steps.Level.{Candidate, Level, is_block}
 use Rattle.saphyr_scanner.specs.Steps.Passing.{pass_gap, check_comment, behind_gap}
 use Rattle.saphyr_scanner.specs.Steps.State.{State, on_core, after_step}
 use Rattle.saphyr_scanner.specs.Steps.Unrolling.{unroll}
-use Rattle.saphyr_scanner.specs.Steps.Fetch.{step, state_behind_content, fetch_here, arrive, fetch, check_limit, fetch_within}
+use Rattle.saphyr_scanner.specs.Steps.Fetch.{step, state_behind_content, fetch_here, arrive, fetch}
 use Rattle.saphyr_scanner.specs.Grammar.Json.{IsWhite, IsWhiteSpace}
-use Rattle.saphyr_scanner.proofs.Leads.{LeadsTo, stay, onward}
 use Rattle.saphyr_scanner.proofs.Json.Gaps.{StopsGap, StopsBlanks, white_passed, gap_passed}
 use Rattle.saphyr_input.proofs.Basics.Booleans.{by_test, and_false}
 use Rattle.saphyr_scalar.proofs.Given.{cursor_at}
 use Rattle.saphyr_input.proofs.Basics.Numbers.{none_below_zero}
-use Rattle.std.proofs.lemmas.Bool.{or_right, le-leb}
+use Rattle.std.proofs.lemmas.Bool.{or_right}
+use Rattle.saphyr_scanner.proofs.Queues.{queue_of}
+use Rattle.saphyr_scanner.proofs.Gaps.{stop_here}
+use Rattle.saphyr_scanner.proofs.Root.{core_at, state_at, drops_key, none_unrolls, ComesTo, comes}
 
 -- ## White space
 
@@ -88,31 +91,6 @@ stops_blanks (c ∷ cs) h =
 abbrev pub total : Cursor → ℕ
 total s = s.mark.index + length s.rest
 
--- ## States: no block collection is open
-
-abbrev pub core_at : Bool → Cursor → Context → Option Candidate → List Level → Bool → ℕ → Core
-core_at e s x k ls a ad =
-    record {
-      cursor = s;
-      level = record { context = x; key = k };
-      outer = ls;
-      required = false;
-      key_allowed = a;
-      adjacent = ad;
-      indent = 0;
-      deeper = false;
-      outer_indents = [];
-      comment = None;
-      started = true;
-      ended = e;
-    }
-
-abbrev pub queue_of : List Place → Queue
-queue_of ps = record { places = ps; handed = 0 }
-
-abbrev pub state_at : Bool → Cursor → Context → Option Candidate → List Level → Bool → ℕ → List Place → State
-state_at e s x k ls a ad ps = record { core = core_at e s x k ls a ad; queue = queue_of ps }
-
 -- ## What stands between two tokens is passed
 
 -- before the text y
@@ -124,12 +102,6 @@ pub record PassesGap (s : Cursor) (x : Context) (k : Option Candidate) (ls : Lis
   pub is : pass_gap (core_at false s x k ls a ad) ≡ Ok (core_at false (cursor_at y mark blank) x k ls allowed ad)
   pub count : mark.index + length y ≡ total s
   pub still : a ≡ true → allowed ≡ true
-
-pub stop_here : (m : Marker) (blank now : Bool) (t : List ℕ)
-    → stop m blank now false t
-    ≡ Ok (record { cursor = record { rest = t; mark = m; blank_so_far = blank }; broke = now })
-unfolding stop
-stop_here m blank now t = refl
 
 pub passes_gap : (s : Cursor) (x : Context) (k : Option Candidate) (ls : List Level) (a : Bool) (ad : ℕ) (y : List ℕ)
     → skip s.rest ≡ y → IsClean y → PassesGap s x k ls a ad y
@@ -148,42 +120,6 @@ passes_gap s x k ls a ad y here h =
       count = g.4;
       still = or_right (g.2 && is_block x) a;
     }
-
--- a key outside flow may be forgotten
-pub record DropsKey (e : Bool) (s : Cursor) (x : Context) (k : Option Candidate) (ls : List Level) (a : Bool) (ad : ℕ) :
-    Type 0 where
-  pub left : Option Candidate
-  pub is : drop_far_key (core_at e s x k ls a ad) ≡ Ok (core_at e s x left ls a ad)
-  pub same : is_block x ≡ false → left ≡ k
-  pub none : k ≡ None → left ≡ None
-
-pub drops_key : (e : Bool) (s : Cursor) (x : Context) (k : Option Candidate) (ls : List Level) (a : Bool) (ad : ℕ)
-    → DropsKey e s x k ls a ad
-unfolding drop_far_key
-drops_key e s context.Block k ls a ad = by_distance (is_too_far k s.mark) refl
-  where
-    none : true ≡ false → ⊥
-    none e = cc
-
-    by_distance : (far : Bool) → is_too_far k s.mark ≡ far → DropsKey e s context.Block k ls a ad
-    by_distance true h = record { left = None; is = rw h refl; same = λ e. absurd (none e); none = λ _. refl }
-    by_distance false h = record { left = k; is = rw h refl; same = λ _. refl; none = λ e. e }
-drops_key e s context.FlowSequence k ls a ad = record { left = k; is = refl; same = λ _. refl; none = λ e. e }
-drops_key e s context.FlowMapping k ls a ad = record { left = k; is = refl; same = λ _. refl; none = λ e. e }
-drops_key e s context.FlowPair k ls a ad = record { left = k; is = refl; same = λ _. refl; none = λ e. e }
-drops_key e s context.ExplicitFlowPair k ls a ad = record { left = k; is = refl; same = λ _. refl; none = λ e. e }
-drops_key e s context.MarkedFlowPair k ls a ad = record { left = k; is = refl; same = λ _. refl; none = λ e. e }
-
-pub none_unrolls : (col : ℕ) (m : Marker) (e : Bool) (s : Cursor) (x : Context) (k : Option Candidate) (ls : List Level)
-    (a : Bool) (ad : ℕ) (ps : List Place)
-    → unroll (Some col) m (state_at e s x k ls a ad ps) ≡ state_at e s x k ls a ad ps
-unfolding unroll
-none_unrolls col m e s context.Block k ls a ad ps = rw (none_below_zero col) refl
-none_unrolls col m e s context.FlowSequence k ls a ad ps = refl
-none_unrolls col m e s context.FlowMapping k ls a ad ps = refl
-none_unrolls col m e s context.FlowPair k ls a ad ps = refl
-none_unrolls col m e s context.ExplicitFlowPair k ls a ad ps = refl
-none_unrolls col m e s context.MarkedFlowPair k ls a ad ps = refl
 
 -- ## The next token is reached
 
@@ -246,35 +182,6 @@ fetches_content s x k ls a ad ps h =
       none_below_zero s.mark.col,
     ) refl
 
-pub none_before : (n : ℕ) → 0 + n ≡ n
-none_before n = omega arith
-
--- from a state the scanner comes to another, but for the key outside flow
-pub record ComesInJson (limit : ℕ) (start : State) (e : Bool) (s : Cursor) (x : Context) (k : Option Candidate)
-    (ls : List Level) (a : Bool) (ad : ℕ) (ps : List Place) : Type 0 where
-  pub key : Option Candidate
-  pub leads : LeadsTo limit (state_at e s x key ls a ad ps) start
-  pub same : is_block x ≡ false → key ≡ k
-  pub none : k ≡ None → key ≡ None
-
--- where a step gives this, it leads there
-pub comes : (limit : ℕ) (start : State) (e : Bool) (s : Cursor) (x : Context) (k : Option Candidate) (ls : List Level)
-    (a : Bool) (ad : ℕ) (ps : List Place)
-    → start.core.ended ≡ false → fetch start ≡ Ok (state_at e s x k ls a ad ps) → s.mark.index ≤ limit
-    → ComesInJson limit start e s x k ls a ad ps
-unfolding fetch_within
-comes limit start e s x k ls a ad ps going is low =
-    let d = drops_key e s x k ls a ad in
-    let st = state_at e s x k ls a ad ps in
-    let fits : check_limit limit st ≡ Ok st = rw (le-leb s.mark.index limit low) refl in
-    record {
-      key = d.left;
-      leads = onward start st (state_at e s x d.left ls a ad ps) going (ap (λ r. r >>= check_limit limit) is ∙ fits)
-          (ap (λ r. on_core r (queue_of ps)) d.is) stay;
-      same = d.same;
-      none = d.none;
-    }
-
 -- what the step at the next token's first characters gives
 pub one : (limit : ℕ) (s : Cursor) (x : Context) (k : Option Candidate) (ls : List Level) (a : Bool) (ad : ℕ)
     (ps : List Place) (y : List ℕ) (v : Arrives s x k ls a ad ps y) → IsContentStart y
@@ -284,14 +191,14 @@ pub one : (limit : ℕ) (s : Cursor) (x : Context) (k : Option Candidate) (ls : 
     (core_at false (cursor_at y v.mark v.blank) x v.key ls v.allowed ad)
     ≡ completed_step actions (core_at false t z j ms b be)
     → perform actions (queue_of ps) ≡ queue_of qs → t.mark.index ≤ limit
-    → ComesInJson limit (state_at false s x k ls a ad ps) false t z j ms b be qs
+    → ComesTo limit (state_at false s x k ls a ad ps) false t z j ms b be qs
 unfolding fetch state_behind_content
 one limit s x k ls a ad ps y v h t z j ms b be qs actions is done low =
     let seen = cursor_at y v.mark v.blank in
     let c = core_at false seen x v.key ls v.allowed ad in
     let there = ap (λ r. r >>= fetch_here) v.is ∙ fetches_content seen x v.key ls v.allowed ad ps h in
     let at_place = ap (λ (n : ℕ). after_step (step (slice_index y 0) (slice_index y 1) n c) (queue_of ps))
-    (none_before (length ps)) in
+    (zero-add (length ps)) in
     let made = ap (λ r. after_step r (queue_of ps)) is
     ∙ ap (λ (q : Queue). Ok (let r : State = record { core = core_at false t z j ms b be; queue = q } in r)) done in
     comes limit (state_at false s x k ls a ad ps) false t z j ms b be qs refl (there ∙ at_place ∙ made) low

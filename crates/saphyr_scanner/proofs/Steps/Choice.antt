@@ -125,3 +125,19 @@ both_cases P first second other n c d blank beside same h =
 pub cases : (Q : StepResult → Type 0) (first second n : ℕ) (c : Core) → Cases (λ x y. Q x) first second second n c c
     → Q (step first second n c)
 cases Q first second n c h = both_cases (λ x y. Q x) first second second n c c refl refl refl h
+
+-- ## What some indicators begin
+
+pub begins_sequence : (second i : ℕ) (c : Core)
+    → step 91 second i c ≡ flow.opening_steps context.FlowSequence tokens.FlowSequenceStart i c
+unfolding step
+begins_sequence second i c = refl
+
+pub begins_mapping : (second i : ℕ) (c : Core)
+    → step 123 second i c ≡ flow.opening_steps context.FlowMapping tokens.FlowMappingStart i c
+unfolding step
+begins_mapping second i c = refl
+
+pub comma_begins : (second i : ℕ) (c : Core) → step 44 second i c ≡ flow.flow_entry_steps c
+unfolding step
+comma_begins second i c = refl

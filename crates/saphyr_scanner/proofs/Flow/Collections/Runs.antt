@@ -15,8 +15,6 @@ use Rattle.saphyr_scanner.specs.Steps.Fetch.{step}
 use Rattle.saphyr_scanner.specs.Grammar.Forest.{Properties, Seq, Map, Nodes, Pairs}
 use Rattle.saphyr_scanner.specs.Grammar.FlowNodes.{IsFlowNode}
 use Rattle.saphyr_scanner.proofs.InFlow.States.{Around, core_at, Calm, FlowMoment}
-use Rattle.saphyr_scanner.proofs.Json.Marks.{level_of}
-use Rattle.saphyr_scanner.proofs.Json.Nodes.{begins_sequence, begins_mapping}
 use Rattle.saphyr_scanner.proofs.Flow.States.{moved, past, FitsAround, IsParted, ReaderPromises, StandsBefore}
 use Rattle.saphyr_scanner.proofs.Flow.Places.{moved_append}
 use Rattle.saphyr_scanner.proofs.Flow.Inks.{BeginsInk}
@@ -26,6 +24,8 @@ use Rattle.saphyr_scanner.proofs.Flow.Fronts.{CollectionPasses, collection_passe
 use Rattle.saphyr_scanner.proofs.Flow.Items.{PassesItems, items_ink}
 use Rattle.saphyr_scanner.proofs.Flow.Braces.{PassesPairs, pairs_ink}
 use Rattle.std.proofs.lemmas.Bool.{true≢false}
+use Rattle.saphyr_scanner.proofs.Levels.{level_of}
+use Rattle.saphyr_scanner.proofs.Steps.Choice.{begins_sequence, begins_mapping}
 
 -- ## Brackets and braces
 

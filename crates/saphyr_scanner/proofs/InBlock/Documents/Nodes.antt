@@ -32,8 +32,8 @@ use Rattle.saphyr_scanner.proofs.InBlock.Sequences.{StartsLine, starts_behind}
 use Rattle.saphyr_scanner.proofs.InBlock.Nodes.{reads_node}
 use Rattle.saphyr_scalar.proofs.Given.{cursor_at}
 use Rattle.std.proofs.lemmas.Bool.{eq-eqb}
-use Rattle.saphyr_scanner.proofs.Json.Gaps.{no_tab_indentation}
 use Rattle.saphyr_scanner.proofs.InBlock.Documents.Ends.{HasNoReturn, Lands, IsPlainBehind}
+use Rattle.saphyr_scanner.proofs.Gaps.{no_tab_indentation}
 
 -- ## The text of a node is clear
 

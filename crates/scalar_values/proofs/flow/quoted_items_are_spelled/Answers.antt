@@ -1,5 +1,5 @@
-use Rattle.scalar_values.proofs.SpellingsRead.{quoted_read}
-use Rattle.scalar_values.proofs.ReadSpellings.{quoted_taken}
+use Rattle.scalar_values.proofs.ItemsRead.{quoted_read}
+use Rattle.scalar_values.proofs.ItemsSpelled.{quoted_taken}
 use Rattle.scalar_values.proofs.flow.quoted_items_are_spelled.Goals as goal
 
 pub returns : goal.returns
