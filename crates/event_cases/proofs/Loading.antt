@@ -12,7 +12,6 @@ use Rattle.saphyr_parser.specs.declared.parser.event.Event.{Event}
 use Rattle.saphyr_parser.specs.Cursor.{EventCursor, HandsOutNext, Kept, IsKept, count, inside_behind, keeping_tags, to_come, with_event_ahead, answer_behind}
 use Rattle.saphyr_parser.specs.Calls.{EndsTheStream}
 use Rattle.saphyr_parser.specs.Loading.{Portion, is_last, with_event, portion, portion_to_send, inside_over, Keeps, Tells, Sends, SendsOne, Stopped, Lost, Finished, Loads}
-use Rattle.saphyr_parser.proofs.Loading.{behind_first}
 use Rattle.case_files.specs.Lines.{Comparing, IsNext, PassesLine, event_line, line_of_fault, want_line}
 use Rattle.case_files.specs.Listings.{AreLinesOf, EndsInWant, IsBefore, ListAll, lines_of_answer, lines_of_events}
 use Rattle.case_files.proofs.Listings.{hands_less, lists_before, lists_more}
@@ -23,17 +22,17 @@ use Rattle.event_cases.specs.Handed.{ListAllButOne, StandsBetween}
 abbrev pub takes : Comparing → Happening × Span → Result (Unit {0}) Refused → Comparing → Type 0
 takes s e r t = PassesLine r e.0 e.1 s t
 
-line_comes : (text : List ℕ) (ls : List (String Global)) → IsNext text ls
+next_line : (text : List ℕ) (ls : List (String Global)) → IsNext text ls
     → map string_bytes ls ≡ text ∷ map string_bytes (drop 1 ls)
-line_comes text [] next = absurd next
-line_comes text (l ∷ ls) next = ap (λ x. x ∷ map string_bytes ls) next
+next_line text [] next = absurd next
+next_line text (l ∷ ls) next = ap (λ x. x ∷ map string_bytes ls) next
 
 -- the receiver has passed the lines of what was sent
 pub sent_lines : (sent : List (Happening × Span)) (first last : Comparing) → Sends takes first sent last
     → map string_bytes first.left ≡ lines_of_events sent ++ map string_bytes last.left
 sent_lines [] first last is = ap (λ (c : Comparing). map string_bytes c.left) (sym is)
 sent_lines (e ∷ es) first last (next, taken, sends) =
-    line_comes (event_line e.0 e.1) first.left taken.0
+    next_line (event_line e.0 e.1) first.left taken.0
     ∙ ap (λ l. event_line e.0 e.1 ∷ l)
     (ap (λ (c : Comparing). map string_bytes c.left) (sym taken.1) ∙ sent_lines es next last sends)
 
@@ -69,6 +68,9 @@ record RestOf (es : List (Happening × Span)) (f : Option Ending) (p : Portion) 
   fewer : one_if p.fault ≤ one_if f
   some : 0 < count (record { events = es; fault = f }) → 0 < count (record { events = p.sent; fault = p.fault })
 
+abbrev behind_first : Bool → Happening × Span → Portion → Portion
+behind_first last e p = if last then (record { sent = e ∷ []; fault = None }) else with_event e p
+
 rest_behind : (last : Bool) (e : Happening × Span) (es : List (Happening × Span)) (f : Option Ending) (p : Portion)
     → RestOf es f p → RestOf (e ∷ es) f (behind_first last e p)
 rest_behind true e es f p r = record { rest = es; split = refl; fewer = omega arith; some = λ h. omega arith }
@@ -100,7 +102,7 @@ lost_lines multi old new first last lost next over =
       };
       written = sent_lines lost.sent first last lost.sends
           ∙ ap (λ l. lines_of_events lost.sent ++ l)
-          (line_comes want_line last.left next ∙ ap (λ l. want_line ∷ map string_bytes l) over);
+          (next_line want_line last.left next ∙ ap (λ l. want_line ∷ map string_bytes l) over);
     })
 
 keeps_it : (c : EventCursor) (f : Ending) → Keeps f c → to_come c ≡ fault_alone f
