@@ -58,7 +58,7 @@ def block_text(size):
 
 
 KINDS = {
-    # The six files of the goal, against libyaml.
+    # Six files for the comparison with libyaml.
     "data.json": json_text,
     "data.yaml": block_text,
     "many_small": lambda size: counted(lambda at: f"- item {at}\n", size),

@@ -1,4 +1,4 @@
-//! Laws of the definitions.
+//! The law that the `chars` of a text are an iterator from which an input can be made.
 ghost use Rattle.std.specs.Str.{chars};
 ghost use Rattle.std.specs.Str.Iter.{chars_rest};
 ghost use Rattle.saphyr_input.specs.Listed.{Lists, Listed};

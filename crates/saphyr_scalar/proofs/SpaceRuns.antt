@@ -30,8 +30,7 @@ pub spaces_shorter : (most : ℕ) (s u : Cursor) → u ≡ pass_spaces most s �
 spaces_shorter most s u e = rw (ap (λ (x : Cursor). x.rest) e, length-drop) (omega arith)
 
 -- What takes no notice of a space takes none of a run of them. `read m xs` is what is read at m, and `fits m` says
--- where a space
--- goes without notice, for so many spaces.
+-- where a space goes without notice, for so many spaces.
 over_run : {X : Type 0} (read : Marker → List ℕ → X) (fits : Marker → ℕ → Type 0)
     → ((m : Marker) (n : ℕ) → fits m (suc n) → fits (along m 1) n)
     → ((m : Marker) (n : ℕ) (cs : List ℕ) → fits m (suc n) → read (along m 1) cs ≡ read m (32 ∷ cs))

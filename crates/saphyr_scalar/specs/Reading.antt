@@ -1,3 +1,3 @@
--- What a scalar reads as, in the standard's words: its escapes, its lines, and which text of it was read.
+-- What is read as a plain scalar and as a block scalar, in the standard's words: which piece of a text, and its value.
 pub mod Plain
 pub mod BlockText

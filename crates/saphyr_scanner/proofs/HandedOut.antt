@@ -48,7 +48,7 @@ Same hs (Err e) (Err f) = e ≡ f
 abbrev pub at : Core → Queue → State
 at c q = record { core = c; queue = q }
 
--- what does the same
+-- what gives the same with these places in front
 abbrev pub AgreesBehind : List Place → (State → Result State Refusal) → Type 0
 AgreesBehind hs f = (c : Core) (q p : Queue) → Behind hs q p → Above (length hs) c → Same hs (f (at c q)) (f (at c p))
 

@@ -1,4 +1,5 @@
-//! Laws of the definitions.
+//! Laws of the tokens of a text: those that a text of JSON or of the layout grammar gives, that all are taken from
+//! their text, and where they and refusals stand. Code needs none of them: they are for the proofs of crates above.
 ghost use Rattle.std.specs.Prelude.{◌≡◌, ◌≤◌, List, codes, ◌∷◌, ◌++◌, [], ℕ, length};
 ghost use Rattle.saphyr_scalar.specs.Spelling.Spaces.{IsLineRest};
 ghost use Rattle.saphyr_scanner.specs.Examples.Forests.{block_forest, block_tokens, brackets_tokens, json_forest, json_text, json_text_tokens};

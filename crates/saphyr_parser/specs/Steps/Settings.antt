@@ -3,7 +3,7 @@ use Rattle.std.specs.Prelude.{Bool, Result, Ok, Err}
 use Rattle.saphyr_scalar.specs.declared.scalar.fault.Refusal.{Refusal}
 use Rattle.saphyr_parser.specs.Steps.Machine.{Machine, Told}
 
--- whether prefixes are kept for later documents
+-- with the setting whether prefixes are kept for later documents
 abbrev pub with_keep_tags : Bool → Machine → Machine
 with_keep_tags keep m = record m { keep_tags = keep }
 

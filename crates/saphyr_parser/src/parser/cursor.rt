@@ -74,7 +74,7 @@ impl<'input, T: Input> Parser<'input, T> {
     ///
     /// The events of every text are taken from it: all events of a forest, or a beginning of them and one
     /// fault. The text spells the forest's tokens in order, or a beginning of them, and a refusal has its
-    /// place in it.
+    /// place in it, as both ends of each event's span have.
     #[must_use]
     pub fn new(alloc: Global, src: T) -> Self
         ensures decided { result ≡ spec.at_start (scan most_characters (T.rest src)) }

@@ -80,10 +80,11 @@ is_cr_lf c cs = (c == carriage_return) && (slice_index cs 0 == line_feed)
 abbrev pub inside_break : Marker → Marker
 inside_break m = record { index = m.index + 1; line = m.line; col = m.col }
 
--- lines that have no content, and the column that the longest of them reaches
+-- empty lines, and behind them a line's spaces up to a column, where the widest of all is kept
 abbrev pub with_column : EmptyLines → ℕ → EmptyLines
 with_column lines col = record { count = lines.count; widest = max lines.widest col }
 
+-- one empty line more, with spaces up to a column
 abbrev pub with_empty_line : EmptyLines → ℕ → EmptyLines
 with_empty_line lines col = record { count = lines.count + 1; widest = max lines.widest col }
 

@@ -48,7 +48,7 @@ content_behind_tab start tabbed s =
     start
     else Ok s
 
--- a line is reached
+-- the gap up to what stands on the line that is reached
 abbrev pub reached_gap : Marker → Bool → List ℕ → Cursor → Result PlainGap Refusal
 reached_gap start tabbed feeds s =
     content_behind_tab start tabbed s >>= λ t. Ok (record { text = feeds; tabbed = tabbed; behind = t })
@@ -134,7 +134,7 @@ seen_plain_scalar scalar s = (string_bytes scalar.text, scalar.end, scalar.comme
 abbrev pub with_text : List ℕ → PlainScalarRead → PlainScalarRead
 with_text text read = read >>= λ x. Ok (text ++ x.0, x.1, x.2, x.3)
 
--- the scalar ended at `end`
+-- what is read of a scalar behind its last word, which ended at `end`
 abbrev pub scalar_end : Bool → Marker → PlainGap → PlainScalarRead
 scalar_end in_flow end g = Ok ([], end, comment_of in_flow g.tabbed g.behind, g.behind)
 

@@ -5,7 +5,7 @@ use Rattle.saphyr_scalar.specs.declared.scalar.position.Marker.{Marker}
 use Rattle.saphyr_scalar.specs.Views.Cursor.{Cursor, ◌>>=◌}
 use Rattle.saphyr_scalar.specs.Steps.Plain.{PlainScalarRead, next_lines, next_word_starts, with_text, word, scalar_end}
 
--- the word ended at `end`
+-- what is read behind the line of a word that ended at `end`
 abbrev pub scalar_behind_line : Bool → ℕ → Marker → Marker → Cursor → PlainScalarRead
 scalar_behind_line in_flow indent start end s =
     next_lines indent start s >>= λ g. next_word_starts in_flow indent g.behind >>= λ b.

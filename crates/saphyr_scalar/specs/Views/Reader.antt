@@ -19,11 +19,12 @@ abbrev pub Gives : {X Y : Type 0} → (X → Y) → Result X Refusal → Result 
 Gives view (Ok x) f = f ≡ Ok (view x)
 Gives view (Err e) f = f ≡ Err e
 
--- What a call returned and left is what the function gives, unless memory ran out.
+-- A call that stopped was refused as the function is, or memory ran out.
 abbrev pub Fails : {Y : Type 0} → Stop → Result Y Refusal → Type 0
 Fails stop.OutOfMemory f = Unit {0}
 Fails (stop.Refused e) f = f ≡ Err e
 
+-- What a call returned and left is what the function gives, unless memory ran out.
 abbrev pub Moves : {X Y : Type 0} → (X → Y) → Result X Stop → Result Y Refusal → Type 0
 Moves view (Ok x) f = f ≡ Ok (view x)
 Moves view (Err e) f = Fails e f

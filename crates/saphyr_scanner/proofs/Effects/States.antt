@@ -20,7 +20,7 @@ use Rattle.saphyr_scalar.proofs.Given.{Given}
 
 -- ## Tokens are fetched
 
--- from s to t k tokens are: each takes a character off at least, and makes five tokens due at most
+-- from s to t k tokens are fetched: each takes a character off at least, and makes five tokens due at most
 pub record FetchesTokens (k : ℕ) (s t : State) : Type 0 where
   pub less : Readers → length t.core.cursor.rest + k ≤ length s.core.cursor.rest
   pub grows : ReaderEnds → GrowsInOrder s t

@@ -170,8 +170,7 @@ pub record IsLeft (column : ℕ) (m : Marker) (y : List ℕ) : Type 0 where
   pub blank : is_blank first ≡ false
 
 -- What stands behind a node at block level, from its end m on: the rest of its line, and behind filler the text's end,
--- a
--- document marker at a line's start, or a token left of the node.
+-- a document marker at a line's start, or a token left of the node.
 pub record IsBehindRoot (indent : ℕ) (m : Marker) (o : List ℕ) : Type 0 where
   pub rest : List ℕ
   pub more : List ℕ
@@ -322,8 +321,7 @@ abbrev pub ended : ℕ → Marker → List ℕ → Known
 ended indent m o key allowed adjacent new = adjacent ≤ (past indent m o).0.index
 
 -- Behind a node that ends at m before o: its first token has nothing in front of it, inside flow the key is as told,
--- and
--- where a colon may stand at once, the place of that is kept.
+-- and where a colon may stand at once, the place of that is kept.
 pub record IsAfterNode (indent : ℕ) (x : Context) (kept : Option Candidate) (node : Node) (m : Marker) (o : List ℕ)
     (key : Option Candidate) (adjacent : ℕ) (new : List Place) : Type 0 where
   pub piece : Piece

@@ -46,8 +46,7 @@ begins_token m p o b clear =
     subst (BeginsToken m) (sym front) token
 
 -- A step over a token that stands at m: y is what stands there, and behind the token o stands at n. `says` tells
--- whether
--- a key may begin behind it, and where a colon may stand at once.
+-- whether a key may begin behind it, and where a colon may stand at once.
 pub record TokenStep (around : Around) (says : Bool → ℕ → Type 0) (kind : Kind) (y : List ℕ) (m n : Marker) (o : List ℕ)
     (x : Context) (ls : List Level) (ad place : ℕ) (b : Bool) (j : Option Candidate)
     (e : Bool) : Type 0 where

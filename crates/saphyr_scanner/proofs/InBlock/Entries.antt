@@ -45,8 +45,7 @@ BeginsWhite [] = ⊥
 BeginsWhite (c ∷ cs) = IsTrue (is_blank c) ⊎ (c ≡ 10)
 
 -- Behind an indicator stand blanks, and a comment behind some or none; then the end of the line, or a token, with
--- spaces
--- alone before it. No tab indents what comes next.
+-- spaces alone before it. No tab indents what comes next.
 pub record IsBehindIndicator (o : List ℕ) : Type 0 where
   pub blanks : List ℕ
   pub comment : List ℕ

@@ -133,8 +133,7 @@ pub record GoesOnAs (limit : ℕ) (start s : State) : Type 0 where
   pub running : reached.core.ended ≡ s.core.ended
 
 -- The scanner stands before the token at m, where the text is y, and has read these tokens. Nothing is required there,
--- and
--- no comment has ended a scalar.
+-- and no comment has ended a scalar.
 pub record At (limit : ℕ) (start : State) (f : Frame) (m : Marker) (y : List ℕ) (ts : List Kind) : Type 0 where
   pub blank : Bool
   pub key : Option Candidate

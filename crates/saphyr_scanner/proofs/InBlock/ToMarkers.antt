@@ -35,8 +35,7 @@ use Rattle.saphyr_scanner.proofs.Beginnings.{front_in, back_in}
 -- ## Tokens up to a marker's
 
 -- The scanner has handed out these tokens and others, up to and with a marker's own. Were the stream's end the next
--- token,
--- Told would hold of the others.
+-- token, Told would hold of the others.
 pub record Closes (limit : ℕ) (start : State) (marker : DocumentMarker) (Told : List Kind → Type 0) (ts : List Kind) :
     Type 0 where
   pub earlier : List Kind

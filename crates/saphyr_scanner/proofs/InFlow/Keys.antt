@@ -76,8 +76,7 @@ both_on_line [] b h k = k
 both_on_line (c ∷ cs) b h k = (h.0, both_on_line cs b h.1 k)
 
 -- A key on one line is read from its first character on, up to the spaces before its colon. A key has to stand there
--- where
--- that is the column of the innermost collection.
+-- where that is the column of the innermost collection.
 pub key_read : ReaderPromises → (around : Around) → around.pending ≡ false
     → (node : Node) (m : Marker) (p : List ℕ) (n : ℕ) (r : List ℕ)
     → IsKeyText (IsFlowNode 255 node false (suc m.col)) node false (suc m.col) p (spaces n) → IsOnLine p

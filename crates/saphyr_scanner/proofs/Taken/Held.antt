@@ -82,8 +82,7 @@ taken_put columns from c d q t here behind a is b o h =
 -- ## Candidates
 
 -- A candidate is a token of the queue. Where its level is no flow collection, no block collection began or ended since,
--- and
--- no block scalar came.
+-- and no block scalar came.
 pub record Key (b : ℕ) (q : Queue) (block : Bool) (i : ℕ) (k : Candidate) : Type 0 where
   pub front : List Place
   pub back : List Place

@@ -87,8 +87,9 @@ impl TextKind {
 
 /// A token, and in front of it what is handed out before it.
 ///
-/// All but the last are tokens on one line, of which the place is kept, and how many characters they have. A text stands
-/// among those of all that are held. A place has 24 bytes, since the fields of one byte stand beside one another.
+/// All but the last are tokens on one line, of which the place is kept, and how many characters they have. A text
+/// stands among those of all that are held. A place has 24 bytes, since the fields of one byte stand beside one
+/// another.
 #[derive(Drop)]
 pub(super) enum Place {
     Bare(Opening, Indicator, u8, NearMarker),
