@@ -200,7 +200,7 @@ pub fn begins_some_forest()
 
 /// Where tokens begin at places of a text, and the end of the stream ends them, or a refusal that has its place
 /// there, the refusal that ends their events has its place there too.
-pub fn refuses_at_places()
+pub fn refuses_at_tokens()
     ensures { (text : List ℕ) (tokens : Remaining) (keep : Bool) → AreAtPlaces text tokens.pieces
         → EndsWithStream tokens → ((e : Refusal) → tokens.refusal ≡ Some e → IsPlaceOf text e.mark)
         → HasPlaceIn text (to_come (keeping_tags keep (at_start tokens))).fault }

@@ -16,7 +16,7 @@ pub fn ends_with_stream_end()
 {}
 
 /// The value of no plain scalar begins with a blank or a break.
-pub fn begins_values_with_ink()
+pub fn begins_plain_values_with_ink()
     ensures { (keep : Bool) (text : List ℕ) (a : Answer) → AreTaken keep text a
         → All (λ (e : Happening × Span). BeginsWithInk e.0) a.events }
 {}

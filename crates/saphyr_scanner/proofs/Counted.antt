@@ -12,7 +12,7 @@ use Rattle.saphyr_scalar.specs.Views.Cursor.{Cursor, along, next_line, pass_blan
 use Rattle.saphyr_scalar.specs.Passing.{IsPassed, nothing, character, line_break}
 use Rattle.saphyr_scalar.specs.Steps.Quoted.{break_len}
 use Rattle.saphyr_scalar.proofs.Lengths.{two_shown, separation_within}
-use Rattle.saphyr_scanner.specs.Steps.Gap.{gap, comment, stop, GapEnd, is_tab_indentation}
+use Rattle.saphyr_scanner.specs.Steps.Gap.{end_of_gap, end_of_gap_in_comment, stop, GapEnd, is_tab_indentation}
 use Rattle.saphyr_input.proofs.Basics.Lists.{shows_character}
 use Rattle.saphyr_input.proofs.Basics.Booleans.{by_test}
 use Rattle.saphyr_scalar.proofs.Given.{Given}
@@ -104,17 +104,18 @@ stop_at_counted low n m blank broke tabbed t h =
     (λ _. by_test (tabbed && not (is_z (slice_index t 0))) _ _ (Given (PassedAt low n)) (λ _. tt) (λ _. h))
 
 gap_at_counted : (low n l : ℕ) (t : List ℕ) (m : Marker) (blank broke tabbed : Bool) → At low n m t
-    → Given (PassedAt low n) (gap l m blank broke tabbed t) × Given (PassedAt low n) (comment l m blank broke tabbed t)
+    → Given (PassedAt low n) (end_of_gap l m blank broke tabbed t) × Given (PassedAt low n)
+    (end_of_gap_in_comment l m blank broke tabbed t)
 gap_at_counted low n l [] m blank broke tabbed h =
     (stop_at_counted low n m blank broke tabbed [] h, stop_at_counted low n m blank broke tabbed [] h)
 gap_at_counted low n l (c ∷ cs) m blank broke tabbed h =
     let P = Given (PassedAt low n) in
     let k : At low n (along m 1) cs = (omega (arith, h.0), omega (arith, h.1)) in
-    let line : P (gap l (next_line m 1) true true false cs) =
+    let line : P (end_of_gap l (next_line m 1) true true false cs) =
     (gap_at_counted low n l cs (next_line m 1) true true false k).0 in
-    let further : (b : Bool) → P (gap l (along m 1) blank broke b cs) =
+    let further : (b : Bool) → P (end_of_gap l (along m 1) blank broke b cs) =
     λ b. (gap_at_counted low n l cs (along m 1) blank broke b k).0 in
-    let inside : P (comment l (along m 1) blank broke tabbed cs) =
+    let inside : P (end_of_gap_in_comment l (along m 1) blank broke tabbed cs) =
     (gap_at_counted low n l cs (along m 1) blank broke tabbed k).1 in
     let here : P (stop m blank broke tabbed (c ∷ cs)) = stop_at_counted low n m blank broke tabbed (c ∷ cs) h in (
       by_test (is_blank c || ((c == 13) && (slice_index cs 0 == 10))) _ _ P
@@ -126,9 +127,9 @@ gap_at_counted low n l (c ∷ cs) m blank broke tabbed h =
     )
 
 pub gap_counted : (l : ℕ) (broke tabbed : Bool) (s : Cursor)
-    → Given (λ (p : GapEnd). Ahead s p.cursor) (gap l s.mark s.blank_so_far broke tabbed s.rest)
+    → Given (λ (p : GapEnd). Ahead s p.cursor) (end_of_gap l s.mark s.blank_so_far broke tabbed s.rest)
 gap_counted l broke tabbed s =
-    ahead_of (gap l s.mark s.blank_so_far broke tabbed s.rest)
+    ahead_of (end_of_gap l s.mark s.blank_so_far broke tabbed s.rest)
     (gap_at_counted s.mark.index (s.mark.index + length s.rest) l s.rest s.mark s.blank_so_far broke tabbed
     (omega arith, refl)).0
   where

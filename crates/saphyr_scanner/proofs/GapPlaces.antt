@@ -6,7 +6,7 @@ use Rattle.saphyr_scalar.specs.declared.scalar.position.Marker.{Marker}
 use Rattle.saphyr_scalar.specs.declared.scalar.fault.Refusal.{Refusal}
 use Rattle.saphyr_scalar.specs.Views.Cursor.{along, next_line}
 use Rattle.saphyr_scalar.proofs.NoBreaks.{class_no_break}
-use Rattle.saphyr_scanner.specs.Steps.Gap.{gap, comment, stop, GapEnd, is_tab_indentation}
+use Rattle.saphyr_scanner.specs.Steps.Gap.{end_of_gap, end_of_gap_in_comment, stop, GapEnd, is_tab_indentation}
 use Rattle.saphyr_scanner.specs.TokensTaken as taken
 use Rattle.saphyr_scanner.specs.TokensTaken.{IsReached}
 use Rattle.saphyr_scanner.proofs.Reached.{single, double}
@@ -31,10 +31,10 @@ stop_refused m blank broke tabbed t =
 
 -- between tokens, in a comment, and behind a CR before LF
 record Places (l : ℕ) (t : List ℕ) (m : Marker) (blank broke tabbed : Bool) : Type 0 where
-  between : Refused m t (gap l m blank broke tabbed t)
-  inside : Refused m t (comment l m blank broke tabbed t)
+  between : Refused m t (end_of_gap l m blank broke tabbed t)
+  inside : Refused m t (end_of_gap_in_comment l m blank broke tabbed t)
   behind_return : (slice_index t 0 == 10) ≡ true → (k : Marker) → m ≡ along k 1
-      → Refused k (13 ∷ t) (gap l m blank broke tabbed t)
+      → Refused k (13 ∷ t) (end_of_gap l m blank broke tabbed t)
 
 all_places : (l : ℕ) (t : List ℕ) (m : Marker) (blank broke tabbed : Bool) → Places l t m blank broke tabbed
 all_places l [] m blank broke tabbed =
@@ -49,23 +49,25 @@ all_places l (c ∷ cs) m blank broke tabbed =
     let further : is_break c ≡ false → (r : Result GapEnd Refusal) → Refused (along m 1) cs r → P r =
     λ e r. refused_map m (c ∷ cs) (along m 1) cs r (λ k v p. taken.character m c cs k v e p) in
     let line : ((c == 13) && (slice_index cs 0 == 10)) ≡ false → is_break c ≡ true
-    → P (gap l (next_line m 1) true true false cs) =
-    λ e b. refused_map m (c ∷ cs) (next_line m 1) cs (gap l (next_line m 1) true true false cs)
+    → P (end_of_gap l (next_line m 1) true true false cs) =
+    λ e b. refused_map m (c ∷ cs) (next_line m 1) cs (end_of_gap l (next_line m 1) true true false cs)
     (λ k v p. single m c cs k v b e p) (all_places l cs (next_line m 1) true true false).between in
-    let return : (x : Bool) → ((c == 13) && (slice_index cs 0 == 10)) ≡ true → P (gap l (along m 1) blank broke x cs) =
+    let return : (x : Bool) → ((c == 13) && (slice_index cs 0 == 10)) ≡ true → P
+    (end_of_gap l (along m 1) blank broke x cs) =
     λ x e.
     let f = and_parts (c == 13) (slice_index cs 0 == 10) e in
-    let r = gap l (along m 1) blank broke x cs in
+    let r = end_of_gap l (along m 1) blank broke x cs in
     refused_map m (c ∷ cs) m (13 ∷ cs) r (λ k v p. subst (λ d. IsReached m (d ∷ cs) k v) (sym (eqb-true c 13 f.0)) p)
     ((all_places l cs (along m 1) blank broke x).behind_return f.1 m refl) in
-    let blanks : (x : Bool) → is_blank c ≡ true → P (gap l (along m 1) blank broke x cs) =
-    λ x b. further (class_no_break is_blank refl refl c b) (gap l (along m 1) blank broke x cs)
+    let blanks : (x : Bool) → is_blank c ≡ true → P (end_of_gap l (along m 1) blank broke x cs) =
+    λ x b. further (class_no_break is_blank refl refl c b) (end_of_gap l (along m 1) blank broke x cs)
     (all_places l cs (along m 1) blank broke x).between in
-    let comments : (c == 35) ≡ true → P (comment l (along m 1) blank broke tabbed cs) =
-    λ e. further (ap is_break (eqb-true c 35 e)) (comment l (along m 1) blank broke tabbed cs)
+    let comments : (c == 35) ≡ true → P (end_of_gap_in_comment l (along m 1) blank broke tabbed cs) =
+    λ e. further (ap is_break (eqb-true c 35 e)) (end_of_gap_in_comment l (along m 1) blank broke tabbed cs)
     (all_places l cs (along m 1) blank broke tabbed).inside in
-    let more : is_yaml_non_break c ≡ true → P (comment l (along m 1) blank broke tabbed cs) =
-    λ e. further (class_no_break is_yaml_non_break refl refl c e) (comment l (along m 1) blank broke tabbed cs)
+    let more : is_yaml_non_break c ≡ true → P (end_of_gap_in_comment l (along m 1) blank broke tabbed cs) =
+    λ e. further (class_no_break is_yaml_non_break refl refl c e)
+    (end_of_gap_in_comment l (along m 1) blank broke tabbed cs)
     (all_places l cs (along m 1) blank broke tabbed).inside in
     record {
       between =
@@ -83,13 +85,13 @@ all_places l (c ∷ cs) m blank broke tabbed =
     }
   where
     fed : (d : ℕ) → d ≡ 10 → (k : Marker) → m ≡ along k 1
-        → Refused (next_line m 1) cs (gap l (next_line m 1) true true false cs)
-        → Refused k (13 ∷ d ∷ cs) (gap l m blank broke tabbed (d ∷ cs))
+        → Refused (next_line m 1) cs (end_of_gap l (next_line m 1) true true false cs)
+        → Refused k (13 ∷ d ∷ cs) (end_of_gap l m blank broke tabbed (d ∷ cs))
     fed d e k q h =
-        subst (λ x. Refused k (13 ∷ x ∷ cs) (gap l m blank broke tabbed (x ∷ cs))) (sym e)
-        (refused_map k (13 ∷ 10 ∷ cs) (next_line m 1) cs (gap l (next_line m 1) true true false cs)
+        subst (λ x. Refused k (13 ∷ x ∷ cs) (end_of_gap l m blank broke tabbed (x ∷ cs))) (sym e)
+        (refused_map k (13 ∷ 10 ∷ cs) (next_line m 1) cs (end_of_gap l (next_line m 1) true true false cs)
         (λ j v p. double k cs j v (subst (λ (i : Marker). IsReached (next_line i 1) cs j v) q p)) h)
 
 pub gap_refused : (l : ℕ) (m : Marker) (blank broke tabbed : Bool) (t : List ℕ)
-    → Refused m t (gap l m blank broke tabbed t)
+    → Refused m t (end_of_gap l m blank broke tabbed t)
 gap_refused l m blank broke tabbed t = (all_places l t m blank broke tabbed).between

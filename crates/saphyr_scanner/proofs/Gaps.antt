@@ -9,7 +9,7 @@ use Rattle.saphyr_input.specs.declared.input.SkipTabs.TheVariants.{Yes}
 use Rattle.saphyr_scalar.specs.declared.scalar.position.Marker.{Marker}
 use Rattle.saphyr_scalar.specs.Views.Cursor.{Cursor, along, pass_comment, pass_spaces, behind_separation}
 use Rattle.saphyr_scalar.specs.declared.scalar.fault.Refusal.{Refusal}
-use Rattle.saphyr_scanner.specs.Steps.Gap.{GapEnd, stop, gap, comment, gap_at, whole_gap, is_tab_indentation, SpacesEnd, spaces, line_comment, spaces_at}
+use Rattle.saphyr_scanner.specs.Steps.Gap.{GapEnd, stop, end_of_gap, end_of_gap_in_comment, gap_at, whole_gap, is_tab_indentation, SpacesEnd, end_of_spaces, end_of_spaces_in_comment, spaces_at}
 use Rattle.saphyr_input.specs.Places.{spaces_within}
 use Rattle.saphyr_scalar.proofs.Moving.{along_none, along_more}
 use Rattle.saphyr_input.proofs.Basics.Booleans.{or_false_left, or_false_right, and_false}
@@ -30,44 +30,45 @@ break_is_no_sign : (c : ℕ) → is_yaml_non_break c ≡ false → nat_eq c 35 �
 break_is_no_sign c e = grind (arith, nat_tests)
 
 one_further : (l : ℕ) (m : Marker) (blank broke tabbed : Bool) (n c : ℕ) (cs : List ℕ)
-    → gap l (along (along m 1) n) blank broke tabbed (drop n cs)
-    ≡ gap l (along m (1 + n)) blank broke tabbed (drop (1 + n) (c ∷ cs))
+    → end_of_gap l (along (along m 1) n) blank broke tabbed (drop n cs)
+    ≡ end_of_gap l (along m (1 + n)) blank broke tabbed (drop (1 + n) (c ∷ cs))
 one_further l m blank broke tabbed n c cs = let one : 1 + n ≡ suc n = omega arith in rw (along-along m 1 n, one) refl
 
 -- behind the `#`, the rest of the comment is passed
 behind_sign : (l : ℕ) (t : List ℕ) (m : Marker) (blank broke tabbed : Bool)
-    → comment l m blank broke tabbed t
-    ≡ gap l (along m (prefix_len is_yaml_non_break t)) blank broke tabbed (drop (prefix_len is_yaml_non_break t) t)
+    → end_of_gap_in_comment l m blank broke tabbed t
+    ≡ end_of_gap l (along m (prefix_len is_yaml_non_break t)) blank broke tabbed
+    (drop (prefix_len is_yaml_non_break t) t)
 behind_sign l [] m blank broke tabbed = rw (along_none m) refl
 behind_sign l (c ∷ cs) m blank broke tabbed =
     by_test (is_yaml_non_break c) refl (behind_sign l cs (along m 1) blank broke tabbed)
   where
     by_test : (b : Bool) → is_yaml_non_break c ≡ b
-        → comment l (along m 1) blank broke tabbed cs
-        ≡ gap l (along (along m 1) (prefix_len is_yaml_non_break cs)) blank broke tabbed
+        → end_of_gap_in_comment l (along m 1) blank broke tabbed cs
+        ≡ end_of_gap l (along (along m 1) (prefix_len is_yaml_non_break cs)) blank broke tabbed
         (drop (prefix_len is_yaml_non_break cs) cs)
-        → comment l m blank broke tabbed (c ∷ cs)
-        ≡ gap l (along m (prefix_len is_yaml_non_break (c ∷ cs))) blank broke tabbed
+        → end_of_gap_in_comment l m blank broke tabbed (c ∷ cs)
+        ≡ end_of_gap l (along m (prefix_len is_yaml_non_break (c ∷ cs))) blank broke tabbed
         (drop (prefix_len is_yaml_non_break (c ∷ cs)) (c ∷ cs))
     by_test true e ih = rw e (ih ∙ one_further l m blank broke tabbed (prefix_len is_yaml_non_break cs) c cs)
     by_test false e ih =
         let b = break_is_no_blank c e in
         let s = break_is_no_sign c e in
         let t = no_tab c e in
-        let none : comment l m blank broke tabbed (c ∷ cs) ≡ gap l m blank broke tabbed (c ∷ cs) =
+        let none : end_of_gap_in_comment l m blank broke tabbed (c ∷ cs) ≡ end_of_gap l m blank broke tabbed (c ∷ cs) =
         rw (e, b, s, t) refl in
-        let last : gap l (along m 0) blank broke tabbed (c ∷ cs)
-        ≡ gap l (along m (prefix_len is_yaml_non_break (c ∷ cs))) blank broke tabbed
+        let last : end_of_gap l (along m 0) blank broke tabbed (c ∷ cs)
+        ≡ end_of_gap l (along m (prefix_len is_yaml_non_break (c ∷ cs))) blank broke tabbed
         (drop (prefix_len is_yaml_non_break (c ∷ cs)) (c ∷ cs)) = rw e refl in
-        none ∙ ap (λ (k : Marker). gap l k blank broke tabbed (c ∷ cs)) (sym (along_none m)) ∙ last
+        none ∙ ap (λ (k : Marker). end_of_gap l k blank broke tabbed (c ∷ cs)) (sym (along_none m)) ∙ last
 
 on_comment : (l : ℕ) (broke tabbed : Bool) (s : Cursor) → get_or s.rest 0 0 ≡ 35
     → gap_at l broke tabbed (pass_comment s) ≡ gap_at l broke tabbed s
 on_comment l broke tabbed s h = go s.rest h
   where
     go : (t : List ℕ) → get_or t 0 0 ≡ 35
-        → gap l (along s.mark (prefix_len is_yaml_non_break t)) s.blank_so_far broke tabbed
-        (drop (prefix_len is_yaml_non_break t) t) ≡ gap l s.mark s.blank_so_far broke tabbed t
+        → end_of_gap l (along s.mark (prefix_len is_yaml_non_break t)) s.blank_so_far broke tabbed
+        (drop (prefix_len is_yaml_non_break t) t) ≡ end_of_gap l s.mark s.blank_so_far broke tabbed t
     go [] e = absurd (omega arith)
     go (c ∷ cs) e = rw e (sym
         (behind_sign l cs (along s.mark 1) s.blank_so_far broke tabbed
@@ -83,22 +84,23 @@ comment_passed l broke tabbed before read after all c first same passed sign kno
 -- ## Spaces that are passed in one piece
 
 over_spaces : (l : ℕ) (blank broke tabbed : Bool) (m : Marker) (n : ℕ) (t : List ℕ) → n ≤ prefix_len (λ c. c == 32) t
-    → gap l (along m n) blank broke tabbed (drop n t) ≡ gap l m blank broke tabbed t
-over_spaces l blank broke tabbed m zero t few = ap (λ k. gap l k blank broke tabbed t) (along_none m)
+    → end_of_gap l (along m n) blank broke tabbed (drop n t) ≡ end_of_gap l m blank broke tabbed t
+over_spaces l blank broke tabbed m zero t few = ap (λ k. end_of_gap l k blank broke tabbed t) (along_none m)
 over_spaces l blank broke tabbed m (suc n) [] few = absurd (omega (arith, few))
 over_spaces l blank broke tabbed m (suc n) (c ∷ cs) few =
     by_test (c == 32) refl (over_spaces l blank broke tabbed (along m 1) n cs) few
   where
     by_test : (b : Bool) → (c == 32) ≡ b
         → (n ≤ prefix_len (λ d. d == 32) cs
-        → gap l (along (along m 1) n) blank broke tabbed (drop n cs) ≡ gap l (along m 1) blank broke tabbed cs)
+        → end_of_gap l (along (along m 1) n) blank broke tabbed (drop n cs) ≡ end_of_gap l (along m 1) blank broke
+        tabbed cs)
         → suc n ≤ prefix_len (λ d. d == 32) (c ∷ cs)
-        → gap l (along m (suc n)) blank broke tabbed (drop n cs) ≡ gap l m blank broke tabbed (c ∷ cs)
+        → end_of_gap l (along m (suc n)) blank broke tabbed (drop n cs) ≡ end_of_gap l m blank broke tabbed (c ∷ cs)
     by_test true e rest less =
         let space : 32 ≡ c = grind (arith, nat_tests) in
         let counted : prefix_len (λ d. d == 32) (c ∷ cs) ≡ 1 + prefix_len (λ d. d == 32) cs = rw e refl in
-        ap (λ k. gap l k blank broke tabbed (drop n cs)) (sym (along_more m 1 n (suc n) (omega arith)))
-        ∙ rest (omega (arith, less, counted)) ∙ ap (λ d. gap l m blank broke tabbed (d ∷ cs)) space
+        ap (λ k. end_of_gap l k blank broke tabbed (drop n cs)) (sym (along_more m 1 n (suc n) (omega arith)))
+        ∙ rest (omega (arith, less, counted)) ∙ ap (λ d. end_of_gap l m blank broke tabbed (d ∷ cs)) space
     by_test false e rest less =
         let counted : prefix_len (λ d. d == 32) (c ∷ cs) ≡ 0 = rw e refl in
         absurd (omega (arith, less, counted))
@@ -115,36 +117,37 @@ spaces_passed l most broke tabbed before read after all same passed known =
 -- ## The same behind `?`
 
 spaces_further : (m : Marker) (blank space : Bool) (n c : ℕ) (cs : List ℕ)
-    → spaces (along (along m 1) n) blank space (drop n cs)
-    ≡ spaces (along m (1 + n)) blank space (drop (1 + n) (c ∷ cs))
+    → end_of_spaces (along (along m 1) n) blank space (drop n cs)
+    ≡ end_of_spaces (along m (1 + n)) blank space (drop (1 + n) (c ∷ cs))
 spaces_further m blank space n c cs = let one : 1 + n ≡ suc n = omega arith in rw (along-along m 1 n, one) refl
 
 no_space : (c : ℕ) → is_yaml_non_break c ≡ false → nat_eq c 32 ≡ false
 no_space c e = grind (arith, nat_tests)
 
 behind_line_sign : (t : List ℕ) (m : Marker) (blank space : Bool)
-    → line_comment m blank space t
-    ≡ spaces (along m (prefix_len is_yaml_non_break t)) blank space (drop (prefix_len is_yaml_non_break t) t)
+    → end_of_spaces_in_comment m blank space t
+    ≡ end_of_spaces (along m (prefix_len is_yaml_non_break t)) blank space (drop (prefix_len is_yaml_non_break t) t)
 behind_line_sign [] m blank space = rw (along_none m) refl
 behind_line_sign (c ∷ cs) m blank space =
     by_test (is_yaml_non_break c) refl (behind_line_sign cs (along m 1) blank space)
   where
     by_test : (b : Bool) → is_yaml_non_break c ≡ b
-        → line_comment (along m 1) blank space cs
-        ≡ spaces (along (along m 1) (prefix_len is_yaml_non_break cs)) blank space
+        → end_of_spaces_in_comment (along m 1) blank space cs
+        ≡ end_of_spaces (along (along m 1) (prefix_len is_yaml_non_break cs)) blank space
         (drop (prefix_len is_yaml_non_break cs) cs)
-        → line_comment m blank space (c ∷ cs)
-        ≡ spaces (along m (prefix_len is_yaml_non_break (c ∷ cs))) blank space
+        → end_of_spaces_in_comment m blank space (c ∷ cs)
+        ≡ end_of_spaces (along m (prefix_len is_yaml_non_break (c ∷ cs))) blank space
         (drop (prefix_len is_yaml_non_break (c ∷ cs)) (c ∷ cs))
     by_test true e ih = rw e (ih ∙ spaces_further m blank space (prefix_len is_yaml_non_break cs) c cs)
     by_test false e ih =
         let b = no_space c e in
         let s = break_is_no_sign c e in
-        let none : line_comment m blank space (c ∷ cs) ≡ spaces m blank space (c ∷ cs) = rw (e, b, s) refl in
-        let last : spaces (along m 0) blank space (c ∷ cs)
-        ≡ spaces (along m (prefix_len is_yaml_non_break (c ∷ cs))) blank space
+        let none : end_of_spaces_in_comment m blank space (c ∷ cs) ≡ end_of_spaces m blank space (c ∷ cs) =
+        rw (e, b, s) refl in
+        let last : end_of_spaces (along m 0) blank space (c ∷ cs)
+        ≡ end_of_spaces (along m (prefix_len is_yaml_non_break (c ∷ cs))) blank space
         (drop (prefix_len is_yaml_non_break (c ∷ cs)) (c ∷ cs)) = rw e refl in
-        none ∙ ap (λ (k : Marker). spaces k blank space (c ∷ cs)) (sym (along_none m)) ∙ last
+        none ∙ ap (λ (k : Marker). end_of_spaces k blank space (c ∷ cs)) (sym (along_none m)) ∙ last
 
 pub line_comment_passed : (space : Bool) (before read after : Cursor) (all : SpacesEnd) (c : ℕ)
     → c ≡ get_or before.rest 0 0 → read ≡ before → after ≡ pass_comment read → c ≡ 35 → spaces_at space before ≡ all
@@ -153,8 +156,8 @@ line_comment_passed space before read after all c first same passed sign known =
     rw (passed, same) (go before.rest (sym first ∙ sign) ∙ known)
   where
     go : (t : List ℕ) → get_or t 0 0 ≡ 35
-        → spaces (along before.mark (prefix_len is_yaml_non_break t)) before.blank_so_far space
-        (drop (prefix_len is_yaml_non_break t) t) ≡ spaces before.mark before.blank_so_far space t
+        → end_of_spaces (along before.mark (prefix_len is_yaml_non_break t)) before.blank_so_far space
+        (drop (prefix_len is_yaml_non_break t) t) ≡ end_of_spaces before.mark before.blank_so_far space t
     go [] e = absurd (omega arith)
     go (c ∷ cs) e = rw e (sym
         (behind_line_sign cs (along before.mark 1) before.blank_so_far space
@@ -162,7 +165,7 @@ line_comment_passed space before read after all c first same passed sign known =
 
 gap_of_nothing : (least : ℕ) (m : Marker) (blank : Bool) (text : List ℕ) → is_blank (slice_index text 0) ≡ false
     → is_break (slice_index text 0) ≡ false → (slice_index text 0 == 35) ≡ false
-    → gap least m blank false false text
+    → end_of_gap least m blank false false text
     ≡ Ok (record { cursor = record { rest = text; mark = m; blank_so_far = blank }; broke = false })
 unfolding stop
 gap_of_nothing least m blank [] a b e = refl

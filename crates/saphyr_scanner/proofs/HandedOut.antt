@@ -164,16 +164,17 @@ unfolding document.end_content
 content_ends hs c q p b k =
     agreed hs document.remove_key_of _ _ (removal_agrees hs) (unroll_goes hs None c.cursor.mark c q p b k)
 
-marker_agrees : (hs : List Place) (kind : Kind) → AgreesBehind hs (document.marker kind)
-unfolding document.marker
+marker_agrees : (hs : List Place) (kind : Kind) → AgreesBehind hs (document.state_behind_marker kind)
+unfolding document.state_behind_marker
 marker_agrees hs kind c q p b k =
     same_then hs (document.end_content (at c q)) (document.end_content (at c p)) _ (content_ends hs c q p b k)
     (λ d r s e a. record { core = refl; queue = put_behind hs _ r s e; above = a })
 
-end_marker_agrees : (hs : List Place) → AgreesBehind hs document.end_marker
-unfolding document.end_marker document.end_line
+end_marker_agrees : (hs : List Place) → AgreesBehind hs document.state_behind_document_end
+unfolding document.state_behind_document_end document.end_line
 end_marker_agrees hs c q p b k =
-    same_then hs (document.marker tokens.DocumentEnd (at c q)) (document.marker tokens.DocumentEnd (at c p)) _
+    same_then hs (document.state_behind_marker tokens.DocumentEnd (at c q))
+    (document.state_behind_marker tokens.DocumentEnd (at c p)) _
     (marker_agrees hs tokens.DocumentEnd c q p b k)
     (λ d r s e a. line (separate d) d r s e a (effects.separate_goes 0 d.cursor d d (effects.goes_none d)))
   where
@@ -196,8 +197,8 @@ finish_goes : (hs : List Place) (m : Marker) (s t : State) → Goes hs s t
 finish_goes hs m s t g =
     record { core = ap document.core_at_end g.core; queue = put_behind hs _ s.queue t.queue g.queue; above = g.above }
 
-stream_agrees : (hs : List Place) → AgreesBehind hs document.end_stream
-unfolding document.end_stream document.end_at
+stream_agrees : (hs : List Place) → AgreesBehind hs document.state_behind_end
+unfolding document.state_behind_end document.end_at
 stream_agrees hs c q p b k =
     same_if hs (length c.cursor.rest == 0) _ _ _ _
     (same_if hs c.required _ _ _ _ refl

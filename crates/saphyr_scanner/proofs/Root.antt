@@ -14,7 +14,7 @@ use Rattle.saphyr_scanner.specs.Steps.Core.{Core, is_too_far, drop_far_key}
 use Rattle.saphyr_scanner.specs.Steps.Level.{Candidate, Level, is_block}
 use Rattle.saphyr_scanner.specs.Steps.State.{State, start, on_core}
 use Rattle.saphyr_scanner.specs.Steps.Unrolling.{unroll}
-use Rattle.saphyr_scanner.specs.Steps.Document.{end_stream, end_at, end_mark}
+use Rattle.saphyr_scanner.specs.Steps.Document.{state_behind_end, end_at, end_mark}
 use Rattle.saphyr_scanner.specs.Steps.Fetch.{fetch, fetch_here, check_limit, fetch_within}
 use Rattle.saphyr_scanner.proofs.Leads.{LeadsTo, stay, onward}
 use Rattle.saphyr_scanner.proofs.Queues.{queue_of}
@@ -126,5 +126,5 @@ stream_end_place m = bare_place (empty_piece (end_mark m) tokens.StreamEnd)
 pub fetches_stream_end : (m : Marker) (b : Bool) (k : Option Candidate) (a : Bool) (ad : ℕ) (ps : List Place)
     → fetch_here (state_at false (cursor_at [] m b) context.Block k [] a ad ps)
     ≡ Ok (state_at true (cursor_at [] m b) context.Block k [] false ad (ps ++ stream_end_place m ∷ []))
-unfolding fetch_here end_stream end_at unroll
+unfolding fetch_here state_behind_end end_at unroll
 fetches_stream_end m b k a ad ps = refl

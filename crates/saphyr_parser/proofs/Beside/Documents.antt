@@ -238,18 +238,22 @@ steps_beside w state.DocumentContent r m n e on keeps near =
 steps_beside w state.DocumentEnd r m n e on keeps near = rw e (inl (end_beside w (keeps refl) m n near))
 steps_beside w state.BlockNode r m n e on keeps near =
     rw e (inl (taken w _ (λ k. node Block) (λ k. node Block) m n near (node_beside w Block)))
-steps_beside w state.BlockSequenceEntry r m n e on keeps near = rw e (inl (steps.sequence_entry w m n near))
-steps_beside w state.IndentlessSequenceEntry r m n e on keeps near = rw e (inl (steps.indentless_entry w m n near))
-steps_beside w state.BlockMappingKey r m n e on keeps near = rw e (inl (steps.mapping_key w m n near))
-steps_beside w state.BlockMappingValue r m n e on keeps near = rw e (inl (steps.mapping_value w m n near))
-steps_beside w state.FlowSequenceFirstEntry r m n e on keeps near = rw e (inl (steps.flow_first_entry w m n near))
-steps_beside w state.FlowSequenceEntry r m n e on keeps near = rw e (inl (steps.flow_other_entry w m n near))
-steps_beside w state.FlowSequenceEntryMappingKey r m n e on keeps near = rw e (inl (steps.flow_pair_key w m n near))
-steps_beside w state.FlowSequenceEntryMappingValue r m n e on keeps near = rw e (inl (steps.flow_pair_value w m n near))
+steps_beside w state.BlockSequenceEntry r m n e on keeps near = rw e (inl (steps.sequence_entry_beside w m n near))
+steps_beside w state.IndentlessSequenceEntry r m n e on keeps near = rw e
+    (inl (steps.indentless_entry_beside w m n near))
+steps_beside w state.BlockMappingKey r m n e on keeps near = rw e (inl (steps.mapping_key_beside w m n near))
+steps_beside w state.BlockMappingValue r m n e on keeps near = rw e (inl (steps.mapping_value_beside w m n near))
+steps_beside w state.FlowSequenceFirstEntry r m n e on keeps near = rw e
+    (inl (steps.flow_first_entry_beside w m n near))
+steps_beside w state.FlowSequenceEntry r m n e on keeps near = rw e (inl (steps.flow_other_entry_beside w m n near))
+steps_beside w state.FlowSequenceEntryMappingKey r m n e on keeps near = rw e
+    (inl (steps.flow_pair_key_beside w m n near))
+steps_beside w state.FlowSequenceEntryMappingValue r m n e on keeps near = rw e
+    (inl (steps.flow_pair_value_beside w m n near))
 steps_beside w (state.FlowSequenceEntryMappingEnd p) r m n e on keeps near =
-    rw e.2 (inl (steps.flow_pair_end w p e.0 e.1 m n near))
-steps_beside w state.FlowMappingFirstKey r m n e on keeps near = rw e (inl (steps.flow_first_pair w m n near))
-steps_beside w state.FlowMappingKey r m n e on keeps near = rw e (inl (steps.flow_other_pair w m n near))
-steps_beside w state.FlowMappingValue r m n e on keeps near = rw e (inl (steps.flow_mapping_value w m n near))
-steps_beside w state.FlowMappingEmptyValue r m n e on keeps near = rw e (inl (steps.flow_empty_value w m n near))
+    rw e.2 (inl (steps.flow_pair_end_beside w p e.0 e.1 m n near))
+steps_beside w state.FlowMappingFirstKey r m n e on keeps near = rw e (inl (steps.flow_first_pair_beside w m n near))
+steps_beside w state.FlowMappingKey r m n e on keeps near = rw e (inl (steps.flow_other_pair_beside w m n near))
+steps_beside w state.FlowMappingValue r m n e on keeps near = rw e (inl (steps.flow_mapping_value_beside w m n near))
+steps_beside w state.FlowMappingEmptyValue r m n e on keeps near = rw e (inl (steps.flow_empty_value_beside w m n near))
 steps_beside w state.End r m n e on keeps near = rw e (absurd (on refl))

@@ -99,26 +99,26 @@ nodes c t m = nodes_at t.kind c t m
 
 -- ## Block collections
 
-sequence_nodes : (k : Kind) (s : Span) (t : Piece) (m : Machine) → Closes (block.sequence_node_at k s t m)
+sequence_nodes : (k : Kind) (s : Span) (t : Piece) (m : Machine) → Closes (block.block_sequence_node_at k s t m)
 sequence_nodes tokens.BlockEntry s t m = tt
 sequence_nodes tokens.BlockEnd s t m = tt
 sequence_nodes _ s t m = nodes Block t _
 
-sequence_entries : (k : Kind) (t : Piece) (m : Machine) → Closes (block.sequence_entry_at k t m)
-unfolding block.sequence_node
+sequence_entries : (k : Kind) (t : Piece) (m : Machine) → Closes (block.block_sequence_entry_at k t m)
+unfolding block.block_sequence_node
 sequence_entries tokens.BlockEnd t m = tt
 sequence_entries tokens.BlockEntry t m = closes_behind (taken_token m) _ (λ u. sequence_nodes u.0.kind t.span u.0 u.1)
 sequence_entries _ t m = tt
 
-indentless_nodes : (k : Kind) (s : Span) (t : Piece) (m : Machine) → Closes (block.indentless_node_at k s t m)
+indentless_nodes : (k : Kind) (s : Span) (t : Piece) (m : Machine) → Closes (block.indentless_sequence_node_at k s t m)
 indentless_nodes tokens.BlockEntry s t m = tt
 indentless_nodes tokens.Key s t m = tt
 indentless_nodes tokens.Value s t m = tt
 indentless_nodes tokens.BlockEnd s t m = tt
 indentless_nodes _ s t m = nodes Block t _
 
-indentless_entries : (k : Kind) (t : Piece) (m : Machine) → Closes (block.indentless_entry_at k t m)
-unfolding block.indentless_node
+indentless_entries : (k : Kind) (t : Piece) (m : Machine) → Closes (block.indentless_sequence_entry_at k t m)
+unfolding block.indentless_sequence_node
 indentless_entries tokens.BlockEntry t m =
     closes_behind (taken_token m) _ (λ u. indentless_nodes u.0.kind t.span u.0 u.1)
 indentless_entries _ t m = tt
@@ -129,7 +129,7 @@ block_keys tokens.Value t m = tt
 block_keys tokens.BlockEnd t m = tt
 block_keys _ t m = nodes BlockMapping t _
 
-mapping_keys : (k : Kind) (t : Piece) (m : Machine) → Closes (block.mapping_key_at k t m)
+mapping_keys : (k : Kind) (t : Piece) (m : Machine) → Closes (block.block_mapping_key_at k t m)
 unfolding block.block_key_node
 mapping_keys tokens.Key t m = closes_behind (taken_token m) _ (λ u. block_keys u.0.kind u.0 u.1)
 mapping_keys tokens.Value t m = tt
@@ -149,33 +149,33 @@ mapping_values _ t m = tt
 
 -- ## Flow collections
 
-entries : (k : Kind) (t : Piece) (m : Machine) → Closes (flow.entry_at k t m)
+entries : (k : Kind) (t : Piece) (m : Machine) → Closes (flow.flow_sequence_first_entry_at k t m)
 entries tokens.FlowSequenceEnd t m = tt
 entries tokens.Key t m = tt
 entries _ t m = nodes Flow t _
 
-first_entries : (m : Machine) → Closes (flow.first_entry m)
-unfolding flow.first_entry
+first_entries : (m : Machine) → Closes (flow.flow_sequence_first_entry m)
+unfolding flow.flow_sequence_first_entry
 first_entries m = closes_behind (taken_token m) _ (λ t. entries t.0.kind t.0 t.1)
 
-other_entries : (k : Kind) (t : Piece) (m : Machine) → Closes (flow.other_entry_at k t m)
+other_entries : (k : Kind) (t : Piece) (m : Machine) → Closes (flow.flow_sequence_entry_at k t m)
 other_entries tokens.FlowSequenceEnd t m = tt
 other_entries tokens.FlowEntry t m = first_entries m
 other_entries _ t m = tt
 
-pair_keys : (k : Kind) (t : Piece) (m : Machine) → Closes (flow.pair_key_at k t m)
+pair_keys : (k : Kind) (t : Piece) (m : Machine) → Closes (flow.flow_sequence_entry_mapping_key_at k t m)
 pair_keys tokens.Value t m = tt
 pair_keys tokens.FlowEntry t m = tt
 pair_keys tokens.FlowSequenceEnd t m = tt
 pair_keys _ t m = nodes Flow t _
 
-pair_nodes : (k : Kind) (t : Piece) (m : Machine) → Closes (flow.pair_value_node_at k t m)
+pair_nodes : (k : Kind) (t : Piece) (m : Machine) → Closes (flow.flow_sequence_entry_mapping_node_at k t m)
 pair_nodes tokens.FlowEntry t m = tt
 pair_nodes tokens.FlowSequenceEnd t m = tt
 pair_nodes _ t m = nodes Flow t _
 
-pair_values : (k : Kind) (t : Piece) (m : Machine) → Closes (flow.pair_value_at k t m)
-unfolding flow.pair_value_node
+pair_values : (k : Kind) (t : Piece) (m : Machine) → Closes (flow.flow_sequence_entry_mapping_value_at k t m)
+unfolding flow.flow_sequence_entry_mapping_node
 pair_values tokens.Value t m = closes_behind (taken_token m) _ (λ u. pair_nodes u.0.kind u.0 u.1)
 pair_values _ t m = tt
 
@@ -185,15 +185,15 @@ keys tokens.FlowEntry t m = tt
 keys tokens.FlowMappingEnd t m = tt
 keys _ t m = nodes Flow t _
 
-pairs : (k : Kind) (s : Span) (t : Piece) (m : Machine) → Closes (flow.pair_at k s t m)
+pairs : (k : Kind) (s : Span) (t : Piece) (m : Machine) → Closes (flow.flow_mapping_pair_at k s t m)
 unfolding flow.flow_key_node
 pairs tokens.Key s t m = closes_behind (taken_token m) _ (λ u. keys u.0.kind u.0 u.1)
 pairs tokens.Value s t m = tt
 pairs tokens.FlowMappingEnd s t m = tt
 pairs _ s t m = nodes Flow t _
 
-other_pairs : (k : Kind) (t : Piece) (m : Machine) → Closes (flow.other_pair_at k t m)
-unfolding flow.pair_behind_comma
+other_pairs : (k : Kind) (t : Piece) (m : Machine) → Closes (flow.flow_mapping_key_at k t m)
+unfolding flow.flow_mapping_pair_behind_comma
 other_pairs tokens.FlowMappingEnd t m = tt
 other_pairs tokens.FlowEntry t m = closes_behind (taken_token m) _ (λ u. pairs u.0.kind t.span u.0 u.1)
 other_pairs _ t m = tt
@@ -258,9 +258,11 @@ document_end_closes _ t m = tt
 
 closes_at : (s : State) (m : Machine) → Closes (event_step_at s m)
 unfolding block_node document.stream_start document.implicit_start document.explicit_start document.document_content
-    document.document_end block.sequence_entry block.indentless_entry block.mapping_key block.block_mapping_value
-    flow.other_entry flow.pair_key flow.pair_value flow.pair_end flow.first_pair flow.other_pair flow.flow_mapping_value
-    flow.empty_value
+    document.document_end block.block_sequence_entry block.indentless_sequence_entry block.block_mapping_key
+    block.block_mapping_value
+    flow.flow_sequence_entry flow.flow_sequence_entry_mapping_key flow.flow_sequence_entry_mapping_value
+    flow.flow_sequence_entry_mapping_end flow.flow_mapping_first_key flow.flow_mapping_key flow.flow_mapping_value
+    flow.flow_mapping_empty_value
 closes_at state.StreamStart m = closes_behind (taken_token m) _ (λ t. stream_start_closes t.0.kind t.0 t.1)
 closes_at state.ImplicitDocumentStart m =
     closes_behind (document.unpassed_token document.is_end_or_mark m) _ (λ t. implicit_at t.0.kind t.0 t.1)

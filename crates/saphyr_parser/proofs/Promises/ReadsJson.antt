@@ -23,9 +23,10 @@ GivesJson =
     → kinds tokens.pieces ≡ json_tokens forest → tokens.refusal ≡ None → events forest keep ≡ Some told
     → GivesExactly told (to_come (keeping_tags keep (at_start tokens)))
 
-pub reads_json : ScansJson → GivesJson → (limit : ℕ) (text : List ℕ) (c : EventCursor) → c ≡ at_start (scan limit text)
+pub reads_each_json : ScansJson → GivesJson → (limit : ℕ) (text : List ℕ) (c : EventCursor)
+    → c ≡ at_start (scan limit text)
     → ReadsJson limit text c
-reads_json scans gives limit text c is forest keep told p =
+reads_each_json scans gives limit text c is forest keep told p =
     let json = p.stands_for.0 in
     let scanned = scans limit forest text json p.stands_for.1 p.within in
     let given = gives forest text keep (scan limit text) told json scanned.1 scanned.0 p.has_events in

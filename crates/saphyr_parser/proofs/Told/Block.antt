@@ -9,7 +9,7 @@ use Rattle.saphyr_parser.specs.declared.parser.state.State.{State}
 use Rattle.saphyr_parser.specs.declared.parser.state.State.TheVariants as state
 use Rattle.saphyr_parser.specs.Preorder.{Part, node_parts}
 use Rattle.saphyr_parser.specs.Steps.Machine.{told_event, empty_scalar}
-use Rattle.saphyr_parser.specs.Steps.Block.{sequence_entry, sequence_node, indentless_entry, indentless_node, mapping_key, block_key_node, block_mapping_value, block_value_node}
+use Rattle.saphyr_parser.specs.Steps.Block.{block_sequence_entry, block_sequence_node, indentless_sequence_entry, indentless_sequence_node, block_mapping_key, block_key_node, block_mapping_value, block_value_node}
 use Rattle.saphyr_parser.specs.Steps.Expected.{event_step}
 use Rattle.saphyr_parser.proofs.Told.Telling.{SpansByKinds, Memory, at}
 use Rattle.saphyr_parser.proofs.Remembering.{after_node, TellsParts}
@@ -32,7 +32,7 @@ entry_end_follows _ h = elim h [ ]
 entry_begins : (f : SpansByKinds) (j : Kind) (l : List Kind) (ss : List State) (e : Memory) → Starts InBlock j
     → event_step (at f (BlockEntry ∷ j ∷ l) state.BlockSequenceEntry ss e)
     ≡ next_node Block (at f (j ∷ l) state.BlockSequenceEntry (state.BlockSequenceEntry ∷ ss) e)
-unfolding event_step sequence_entry sequence_node
+unfolding event_step block_sequence_entry block_sequence_node
 entry_begins f BlockEntry l ss e h = elim h [ ]
 entry_begins f BlockEnd l ss e h = elim h [ ]
 entry_begins f _ l ss e h = refl
@@ -40,7 +40,7 @@ entry_begins f _ l ss e h = refl
 entry_is_left_out : (f : SpansByKinds) (k : Kind) (ks : List Kind) (ss : List State) (e : Memory) → EndsBlockEntry k
     → event_step (at f (BlockEntry ∷ k ∷ ks) state.BlockSequenceEntry ss e)
     ≡ told_event empty_scalar (f (k ∷ ks)) (at f (k ∷ ks) state.BlockSequenceEntry ss e)
-unfolding event_step sequence_entry sequence_node
+unfolding event_step block_sequence_entry block_sequence_node
 entry_is_left_out f BlockEntry ks ss e h = refl
 entry_is_left_out f BlockEnd ks ss e h = refl
 entry_is_left_out f _ ks ss e h = elim h [ ]
@@ -75,7 +75,7 @@ mapping_follow_ends _ h = h
 indentless_begins : (f : SpansByKinds) (j : Kind) (l : List Kind) (ss : List State) (e : Memory) → Starts InBlock j
     → event_step (at f (BlockEntry ∷ j ∷ l) state.IndentlessSequenceEntry ss e)
     ≡ next_node Block (at f (j ∷ l) state.IndentlessSequenceEntry (state.IndentlessSequenceEntry ∷ ss) e)
-unfolding event_step indentless_entry indentless_node
+unfolding event_step indentless_sequence_entry indentless_sequence_node
 indentless_begins f BlockEntry l ss e h = elim h [ ]
 indentless_begins f Key l ss e h = elim h [ ]
 indentless_begins f Value l ss e h = elim h [ ]
@@ -86,7 +86,7 @@ indentless_is_left_out : (f : SpansByKinds) (k : Kind) (ks : List Kind) (ss : Li
     → EndsIndentless k
     → event_step (at f (BlockEntry ∷ k ∷ ks) state.IndentlessSequenceEntry ss e)
     ≡ told_event empty_scalar (f (k ∷ ks)) (at f (k ∷ ks) state.IndentlessSequenceEntry ss e)
-unfolding event_step indentless_entry indentless_node
+unfolding event_step indentless_sequence_entry indentless_sequence_node
 indentless_is_left_out f BlockEntry ks ss e h = refl
 indentless_is_left_out f Key ks ss e h = refl
 indentless_is_left_out f Value ks ss e h = refl
@@ -109,7 +109,7 @@ block_key_begins : (f : SpansByKinds) (j : Kind) (l : List Kind) (ss : List Stat
     → Starts InBlockMapping j
     → event_step (at f (Key ∷ j ∷ l) state.BlockMappingKey ss e)
     ≡ next_node BlockMapping (at f (j ∷ l) state.BlockMappingKey (state.BlockMappingValue ∷ ss) e)
-unfolding event_step mapping_key block_key_node
+unfolding event_step block_mapping_key block_key_node
 block_key_begins f Key l ss e h = elim h [ ]
 block_key_begins f Value l ss e h = elim h [ ]
 block_key_begins f BlockEnd l ss e h = elim h [ ]
@@ -119,7 +119,7 @@ key_is_left_out : (f : SpansByKinds) (k : Kind) (ks : List Kind) (ss : List Stat
     → MayFollow InBlockMapping k
     → event_step (at f (Key ∷ k ∷ ks) state.BlockMappingKey ss e)
     ≡ told_event empty_scalar (f ks) (at f (k ∷ ks) state.BlockMappingValue ss e)
-unfolding event_step mapping_key block_key_node
+unfolding event_step block_mapping_key block_key_node
 key_is_left_out f Key ks ss e h = refl
 key_is_left_out f Value ks ss e h = refl
 key_is_left_out f BlockEnd ks ss e h = refl
@@ -200,7 +200,7 @@ keyless_says : (value : Node) (t : List Kind) → YieldsMarkedValue value (Yield
     → (f : SpansByKinds) (k : Kind) (ks : List Kind) (ss : List State) (e : Memory) (ps : List Part)
     → MayFollow InBlockMapping k → TellsParts f (k ∷ ks) state.BlockMappingKey ss (after_node value e) ps
     → TellsParts f (t ++ k ∷ ks) state.BlockMappingKey ss e (node_parts forest.left_out ++ (node_parts value ++ ps))
-unfolding event_step mapping_key
+unfolding event_step block_mapping_key
 keyless_says value t h g f k ks ss e ps z l =
     let rest : List Kind = h.0 ++ k ∷ ks in
     let second : TellsParts f (Value ∷ rest) state.BlockMappingValue ss e (node_parts value ++ ps) =

@@ -9,8 +9,8 @@ use Rattle.saphyr_parser.specs.declared.parser.state.State.TheVariants as state
 use Rattle.saphyr_parser.specs.Preorder.{Part, OpenMapping, CloseSequence, CloseMapping, node_parts, entry_parts, pair_parts}
 use Rattle.saphyr_parser.specs.Events.{SequenceEnd, MappingEnd}
 use Rattle.saphyr_parser.specs.Steps.Machine.{Machine}
-use Rattle.saphyr_parser.specs.Steps.Flow.{first_entry, other_entry, first_pair, pair_behind_comma, other_pair}
-use Rattle.saphyr_parser.specs.Steps.Block.{sequence_entry, indentless_entry, mapping_key}
+use Rattle.saphyr_parser.specs.Steps.Flow.{flow_sequence_first_entry, flow_sequence_entry, flow_mapping_first_key, flow_mapping_pair_behind_comma, flow_mapping_key}
+use Rattle.saphyr_parser.specs.Steps.Block.{block_sequence_entry, indentless_sequence_entry, block_mapping_key}
 use Rattle.saphyr_parser.specs.Steps.Expected.{event_step}
 use Rattle.saphyr_parser.proofs.Told.Telling.{SpansByKinds, Memory, at}
 use Rattle.saphyr_parser.proofs.Remembering.{after_node, after_nodes, after_pairs, SaysParts, TellsParts, plainly}
@@ -34,7 +34,7 @@ no_entry_told f x ss e ps t rest h l = subst (λ (u : List Kind). TellsParts f (
 flow_sequence_ends : (f : SpansByKinds) (ks : List Kind) (s : State) (ss : List State) (e : Memory) (ps : List Part)
     → TellsParts f ks s ss e ps → TellsParts f (FlowSequenceEnd ∷ ks) state.FlowSequenceFirstEntry (s ∷ ss) e
     (CloseSequence ∷ ps)
-unfolding event_step first_entry
+unfolding event_step flow_sequence_first_entry
 flow_sequence_ends f ks s ss e ps l =
     plainly e (at f (FlowSequenceEnd ∷ ks) state.FlowSequenceFirstEntry (s ∷ ss) e) (at f ks s ss e) CloseSequence ps
     SequenceEnd (f ks) (λ q. cc) refl refl l
@@ -42,7 +42,7 @@ flow_sequence_ends f ks s ss e ps l =
 other_sequence_ends : (f : SpansByKinds) (ks : List Kind) (s : State) (ss : List State) (e : Memory) (ps : List Part)
     → TellsParts f ks s ss e ps → TellsParts f (FlowSequenceEnd ∷ ks) state.FlowSequenceEntry (s ∷ ss) e
     (CloseSequence ∷ ps)
-unfolding event_step other_entry
+unfolding event_step flow_sequence_entry
 other_sequence_ends f ks s ss e ps l =
     plainly e (at f (FlowSequenceEnd ∷ ks) state.FlowSequenceEntry (s ∷ ss) e) (at f ks s ss e) CloseSequence ps
     SequenceEnd (f ks) (λ q. cc) refl refl l
@@ -50,7 +50,7 @@ other_sequence_ends f ks s ss e ps l =
 comma_sequence_ends : (f : SpansByKinds) (ks : List Kind) (s : State) (ss : List State) (e : Memory) (ps : List Part)
     → TellsParts f ks s ss e ps → TellsParts f (FlowEntry ∷ FlowSequenceEnd ∷ ks) state.FlowSequenceEntry (s ∷ ss) e
     (CloseSequence ∷ ps)
-unfolding event_step other_entry first_entry
+unfolding event_step flow_sequence_entry flow_sequence_first_entry
 comma_sequence_ends f ks s ss e ps l =
     plainly e (at f (FlowEntry ∷ FlowSequenceEnd ∷ ks) state.FlowSequenceEntry (s ∷ ss) e) (at f ks s ss e)
     CloseSequence ps SequenceEnd (f ks) (λ q. cc) refl refl l
@@ -68,14 +68,14 @@ list_sequence_ends f t ks s ss e ps (inr h) l =
 flow_mapping_ends : (f : SpansByKinds) (ks : List Kind) (s : State) (ss : List State) (e : Memory) (ps : List Part)
     → TellsParts f ks s ss e ps → TellsParts f (FlowMappingEnd ∷ ks) state.FlowMappingFirstKey (s ∷ ss) e
     (CloseMapping ∷ ps)
-unfolding event_step first_pair
+unfolding event_step flow_mapping_first_key
 flow_mapping_ends f ks s ss e ps l =
     plainly e (at f (FlowMappingEnd ∷ ks) state.FlowMappingFirstKey (s ∷ ss) e) (at f ks s ss e) CloseMapping ps
     MappingEnd (f ks) (λ q. cc) refl refl l
 
 other_mapping_ends : (f : SpansByKinds) (ks : List Kind) (s : State) (ss : List State) (e : Memory) (ps : List Part)
     → TellsParts f ks s ss e ps → TellsParts f (FlowMappingEnd ∷ ks) state.FlowMappingKey (s ∷ ss) e (CloseMapping ∷ ps)
-unfolding event_step other_pair
+unfolding event_step flow_mapping_key
 other_mapping_ends f ks s ss e ps l =
     plainly e (at f (FlowMappingEnd ∷ ks) state.FlowMappingKey (s ∷ ss) e) (at f ks s ss e) CloseMapping ps MappingEnd
     (f ks) (λ q. cc) refl refl l
@@ -83,7 +83,7 @@ other_mapping_ends f ks s ss e ps l =
 comma_mapping_ends : (f : SpansByKinds) (ks : List Kind) (s : State) (ss : List State) (e : Memory) (ps : List Part)
     → TellsParts f ks s ss e ps → TellsParts f (FlowEntry ∷ FlowMappingEnd ∷ ks) state.FlowMappingKey (s ∷ ss) e
     (CloseMapping ∷ ps)
-unfolding event_step other_pair pair_behind_comma
+unfolding event_step flow_mapping_key flow_mapping_pair_behind_comma
 comma_mapping_ends f ks s ss e ps l =
     plainly e (at f (FlowEntry ∷ FlowMappingEnd ∷ ks) state.FlowMappingKey (s ∷ ss) e) (at f ks s ss e) CloseMapping ps
     MappingEnd (f (FlowMappingEnd ∷ ks)) (λ q. cc) refl refl l
@@ -101,14 +101,14 @@ list_mapping_ends f t ks s ss e ps (inr h) l =
 
 block_sequence_ends : (f : SpansByKinds) (ks : List Kind) (s : State) (ss : List State) (e : Memory) (ps : List Part)
     → TellsParts f ks s ss e ps → TellsParts f (BlockEnd ∷ ks) state.BlockSequenceEntry (s ∷ ss) e (CloseSequence ∷ ps)
-unfolding event_step sequence_entry
+unfolding event_step block_sequence_entry
 block_sequence_ends f ks s ss e ps l =
     plainly e (at f (BlockEnd ∷ ks) state.BlockSequenceEntry (s ∷ ss) e) (at f ks s ss e) CloseSequence ps SequenceEnd
     (f ks) (λ q. cc) refl refl l
 
 block_mapping_ends : (f : SpansByKinds) (ks : List Kind) (s : State) (ss : List State) (e : Memory) (ps : List Part)
     → TellsParts f ks s ss e ps → TellsParts f (BlockEnd ∷ ks) state.BlockMappingKey (s ∷ ss) e (CloseMapping ∷ ps)
-unfolding event_step mapping_key
+unfolding event_step block_mapping_key
 block_mapping_ends f ks s ss e ps l =
     plainly e (at f (BlockEnd ∷ ks) state.BlockMappingKey (s ∷ ss) e) (at f ks s ss e) CloseMapping ps MappingEnd (f ks)
     (λ q. cc) refl refl l
@@ -117,7 +117,7 @@ indentless_ends : (f : SpansByKinds) (k : Kind) (ks : List Kind) (s : State) (ss
     (ps : List Part)
     → MayFollow InBlockMapping k → TellsParts f (k ∷ ks) s ss e ps
     → TellsParts f (k ∷ ks) state.IndentlessSequenceEntry (s ∷ ss) e (CloseSequence ∷ ps)
-unfolding event_step indentless_entry
+unfolding event_step indentless_sequence_entry
 indentless_ends f Key ks s ss e ps z l =
     plainly e (at f (Key ∷ ks) state.IndentlessSequenceEntry (s ∷ ss) e) (at f (Key ∷ ks) s ss e) CloseSequence ps
     SequenceEnd (f ks) (λ q. cc) refl refl l
@@ -133,12 +133,12 @@ indentless_ends f _ ks s ss e ps z l = elim z [ ]
 
 at_first_entry : (f : SpansByKinds) (ss : List State) (e : Memory)
     → AtEntry f state.FlowSequenceFirstEntry ss e (λ l. at f l state.FlowSequenceFirstEntry ss e)
-unfolding event_step first_entry
+unfolding event_step flow_sequence_first_entry
 at_first_entry f ss e = record { goes_on = λ l q. cc; steps = λ k l. refl }
 
 at_other_entry : (f : SpansByKinds) (ss : List State) (e : Memory)
     → AtEntry f state.FlowSequenceEntry ss e (λ l. at f (FlowEntry ∷ l) state.FlowSequenceEntry ss e)
-unfolding event_step first_entry other_entry
+unfolding event_step flow_sequence_first_entry flow_sequence_entry
 at_other_entry f ss e = record { goes_on = λ l q. cc; steps = λ k l. refl }
 
 -- the span of the first token
@@ -148,12 +148,12 @@ span_of_first f (k ∷ l) = f l
 
 at_first_pair : (f : SpansByKinds) (ss : List State) (e : Memory)
     → AtPair f state.FlowMappingFirstKey ss e (λ l. at f l state.FlowMappingFirstKey ss e)
-unfolding event_step first_pair span_of_first
+unfolding event_step flow_mapping_first_key span_of_first
 at_first_pair f ss e = record { goes_on = λ l q. cc; span = span_of_first f; steps = λ k l. refl }
 
 at_other_pair : (f : SpansByKinds) (ss : List State) (e : Memory)
     → AtPair f state.FlowMappingKey ss e (λ l. at f (FlowEntry ∷ l) state.FlowMappingKey ss e)
-unfolding event_step other_pair pair_behind_comma
+unfolding event_step flow_mapping_key flow_mapping_pair_behind_comma
 at_other_pair f ss e = record { goes_on = λ l q. cc; span = f; steps = λ k l. refl }
 
 -- an entry, with the token behind it shown

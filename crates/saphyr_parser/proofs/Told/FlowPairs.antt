@@ -12,7 +12,7 @@ use Rattle.saphyr_parser.specs.declared.parser.state.State.TheVariants as state
 use Rattle.saphyr_parser.specs.Preorder.{Part, node_parts}
 use Rattle.saphyr_parser.specs.Steps.Machine.{Machine, told_event, empty_scalar}
 use Rattle.saphyr_parser.specs.Steps.Nodes.{node_inside}
-use Rattle.saphyr_parser.specs.Steps.Flow.{pair_at, flow_key_node, flow_mapping_value, flow_value_node, empty_value}
+use Rattle.saphyr_parser.specs.Steps.Flow.{flow_mapping_pair_at, flow_key_node, flow_mapping_value, flow_value_node, flow_mapping_empty_value}
 use Rattle.saphyr_parser.specs.Steps.Expected.{event_step}
 use Rattle.saphyr_parser.proofs.Told.Telling.{SpansByKinds, Memory, at}
 use Rattle.saphyr_parser.proofs.Remembering.{after_node, SaysParts, TellsParts}
@@ -36,7 +36,8 @@ pub record AtPair (f : SpansByKinds) (x : State) (ss : List State) (e : Memory) 
     pub goes_on : (l : List Kind) → (machine l).state ≢ state.End
     pub span : List Kind → Span
     pub steps : (k : Kind) (l : List Kind)
-        → event_step (machine (k ∷ l)) ≡ pair_at k (span (k ∷ l)) (record { span = f l; kind = k }) (at f l x ss e)
+        → event_step (machine (k ∷ l)) ≡ flow_mapping_pair_at k (span (k ∷ l)) (record { span = f l; kind = k })
+        (at f l x ss e)
 
 -- ## Keys
 
@@ -58,7 +59,7 @@ key_is_left_out f _ ks x ss e h = elim h [ ]
 
 -- a key without its mark
 bare_key_begins : (j : Kind) (s : Span) (t : Piece) (m : Machine) → Starts InFlow j
-    → pair_at j s t m ≡ node_inside state.FlowMappingEmptyValue Flow t m
+    → flow_mapping_pair_at j s t m ≡ node_inside state.FlowMappingEmptyValue Flow t m
 bare_key_begins Key s t m h = elim h [ ]
 bare_key_begins Value s t m h = elim h [ ]
 bare_key_begins FlowMappingEnd s t m h = elim h [ ]
@@ -133,7 +134,7 @@ alone_says : (key : Node) (t : List Kind) → YieldsMarkedKey key (YieldsNode ke
     (ps : List Part) → EndsPair k → AtPair f x ss e machine
     → TellsParts f (k ∷ ks) state.FlowMappingKey ss (after_node key e) ps
     → SaysParts e (machine (t ++ k ∷ ks)) (node_parts key ++ (node_parts forest.left_out ++ ps))
-unfolding event_step empty_value
+unfolding event_step flow_mapping_empty_value
 alone_says key t (inl h) g f k ks machine x ss e ps z a l =
     subst (λ (u : List Kind). SaysParts e (machine (u ++ k ∷ ks))
     (node_parts key ++ (node_parts forest.left_out ++ ps)))

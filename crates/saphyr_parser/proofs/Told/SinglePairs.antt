@@ -13,7 +13,7 @@ use Rattle.saphyr_parser.specs.Preorder.{Part, OpenMapping, CloseMapping, node_p
 use Rattle.saphyr_parser.specs.Events.{MappingStart, MappingEnd}
 use Rattle.saphyr_parser.specs.Steps.Machine.{Machine, told_event, empty_scalar}
 use Rattle.saphyr_parser.specs.Steps.Nodes.{node_inside}
-use Rattle.saphyr_parser.specs.Steps.Flow.{entry_at, pair_key, pair_value, pair_value_node, pair_end}
+use Rattle.saphyr_parser.specs.Steps.Flow.{flow_sequence_first_entry_at, flow_sequence_entry_mapping_key, flow_sequence_entry_mapping_value, flow_sequence_entry_mapping_node, flow_sequence_entry_mapping_end}
 use Rattle.saphyr_parser.specs.Steps.Expected.{event_step}
 use Rattle.saphyr_parser.proofs.Told.Telling.{SpansByKinds, Memory, at}
 use Rattle.saphyr_parser.proofs.Remembering.{after_node, SaysParts, TellsParts, plainly}
@@ -33,7 +33,7 @@ entry_end_follows _ h = elim h [ ]
 
 -- an entry begins with the first token of a node
 entry_begins : (k : Kind) (t : Piece) (m : Machine) → Starts InFlow k
-    → entry_at k t m ≡ node_inside state.FlowSequenceEntry Flow t m
+    → flow_sequence_first_entry_at k t m ≡ node_inside state.FlowSequenceEntry Flow t m
 entry_begins FlowSequenceEnd t m h = elim h [ ]
 entry_begins Key t m h = elim h [ ]
 entry_begins _ t m h = refl
@@ -43,7 +43,7 @@ pub record AtEntry (f : SpansByKinds) (x : State) (ss : List State) (e : Memory)
     0 where
   pub goes_on : (l : List Kind) → (machine l).state ≢ state.End
   pub steps : (k : Kind) (l : List Kind)
-      → event_step (machine (k ∷ l)) ≡ entry_at k (record { span = f l; kind = k }) (at f l x ss e)
+      → event_step (machine (k ∷ l)) ≡ flow_sequence_first_entry_at k (record { span = f l; kind = k }) (at f l x ss e)
 
 -- an entry that is a node
 pub entry_says : (n : Node) (t : List Kind) → YieldsNode n InFlow t → NodeSays n InFlow t
@@ -61,7 +61,7 @@ entry_says n t h g f k ks machine x ss e ps z a l =
 single_key_begins : (f : SpansByKinds) (j : Kind) (l : List Kind) (ss : List State) (e : Memory) → Starts InFlow j
     → event_step (at f (j ∷ l) state.FlowSequenceEntryMappingKey ss e)
     ≡ next_node Flow (at f (j ∷ l) state.FlowSequenceEntryMappingKey (state.FlowSequenceEntryMappingValue ∷ ss) e)
-unfolding event_step pair_key
+unfolding event_step flow_sequence_entry_mapping_key
 single_key_begins f Value l ss e h = elim h [ ]
 single_key_begins f FlowEntry l ss e h = elim h [ ]
 single_key_begins f FlowSequenceEnd l ss e h = elim h [ ]
@@ -75,7 +75,7 @@ behind_value f (j ∷ l) = state.FlowSequenceEntryMappingEnd (f l).end
 single_value_begins : (f : SpansByKinds) (j : Kind) (l : List Kind) (ss : List State) (e : Memory) → Starts InFlow j
     → event_step (at f (Value ∷ j ∷ l) state.FlowSequenceEntryMappingValue ss e)
     ≡ next_node Flow (at f (j ∷ l) state.FlowSequenceEntryMappingValue (behind_value f (j ∷ l) ∷ ss) e)
-unfolding event_step pair_value pair_value_node behind_value
+unfolding event_step flow_sequence_entry_mapping_value flow_sequence_entry_mapping_node behind_value
 single_value_begins f FlowEntry l ss e h = elim h [ ]
 single_value_begins f FlowSequenceEnd l ss e h = elim h [ ]
 single_value_begins f _ l ss e h = refl
@@ -83,7 +83,7 @@ single_value_begins f _ l ss e h = refl
 value_is_left_out : (f : SpansByKinds) (k : Kind) (ks : List Kind) (ss : List State) (e : Memory) → EndsEntry k
     → event_step (at f (Value ∷ k ∷ ks) state.FlowSequenceEntryMappingValue ss e)
     ≡ told_event empty_scalar (f ks) (at f (k ∷ ks) (behind_value f (k ∷ ks)) ss e)
-unfolding event_step pair_value pair_value_node behind_value
+unfolding event_step flow_sequence_entry_mapping_value flow_sequence_entry_mapping_node behind_value
 value_is_left_out f FlowEntry ks ss e h = refl
 value_is_left_out f FlowSequenceEnd ks ss e h = refl
 value_is_left_out f _ ks ss e h = elim h [ ]
@@ -92,7 +92,7 @@ value_is_left_out f _ ks ss e h = elim h [ ]
 value_is_missing : (f : SpansByKinds) (k : Kind) (ks : List Kind) (ss : List State) (e : Memory) → EndsEntry k
     → event_step (at f (k ∷ ks) state.FlowSequenceEntryMappingValue ss e)
     ≡ told_event empty_scalar (f ks) (at f (k ∷ ks) (behind_value f (k ∷ ks)) ss e)
-unfolding event_step pair_value behind_value
+unfolding event_step flow_sequence_entry_mapping_value behind_value
 value_is_missing f FlowEntry ks ss e h = refl
 value_is_missing f FlowSequenceEnd ks ss e h = refl
 value_is_missing f _ ks ss e h = elim h [ ]
@@ -100,7 +100,7 @@ value_is_missing f _ ks ss e h = elim h [ ]
 key_is_left_out : (f : SpansByKinds) (k : Kind) (ks : List Kind) (ss : List State) (e : Memory) → EndsEntry k
     → event_step (at f (k ∷ ks) state.FlowSequenceEntryMappingKey ss e)
     ≡ told_event empty_scalar (f ks) (at f (k ∷ ks) state.FlowSequenceEntryMappingValue ss e)
-unfolding event_step pair_key
+unfolding event_step flow_sequence_entry_mapping_key
 key_is_left_out f FlowEntry ks ss e h = refl
 key_is_left_out f FlowSequenceEnd ks ss e h = refl
 key_is_left_out f _ ks ss e h = elim h [ ]
@@ -108,7 +108,7 @@ key_is_left_out f _ ks ss e h = elim h [ ]
 pair_ends_at : (f : SpansByKinds) (place : Marker) (l : List Kind) (ss : List State) (e : Memory) (ps : List Part)
     → TellsParts f l state.FlowSequenceEntry ss e ps
     → TellsParts f l (state.FlowSequenceEntryMappingEnd place) ss e (CloseMapping ∷ ps)
-unfolding event_step pair_end
+unfolding event_step flow_sequence_entry_mapping_end
 pair_ends_at f place l ss e ps h =
     plainly e (at f l (state.FlowSequenceEntryMappingEnd place) ss e) (at f l state.FlowSequenceEntry ss e) CloseMapping
     ps MappingEnd (record { start = place; end = place }) (λ q. cc) refl refl h
@@ -169,7 +169,7 @@ pub pair_says : (key value : Node) (t : List Kind)
     → TellsParts f (k ∷ ks) state.FlowSequenceEntry ss (after_node value (after_node key e)) ps
     → SaysParts e (machine (t ++ k ∷ ks))
     (OpenMapping no_properties ∷ (node_parts key ++ (node_parts value ++ CloseMapping ∷ ps)))
-unfolding event_step pair_key
+unfolding event_step flow_sequence_entry_mapping_key
 pair_says key value t (inl h) gk gv f k ks machine x ss e ps z a l =
     let kt : List Kind = h.2.0 in
     let vt : List Kind = h.3.0 in

@@ -15,7 +15,7 @@ use Rattle.saphyr_parser.specs.declared.parser.state.State.TheVariants as state
 use Rattle.saphyr_parser.specs.Preorder.{Part, Leaf, CloseSequence, CloseMapping, node_parts, pair_parts}
 use Rattle.saphyr_parser.specs.Events.{SequenceEnd, MappingEnd}
 use Rattle.saphyr_parser.specs.Exactly.{kinds}
-use Rattle.saphyr_parser.specs.Steps.Block.{sequence_node_at, sequence_node, sequence_entry_at, sequence_entry, indentless_node_at, indentless_node, indentless_entry_at, indentless_entry, block_key_node_at, block_key_node, mapping_key_at, mapping_key, block_value_node_at, block_value_node, block_mapping_value_at, block_mapping_value}
+use Rattle.saphyr_parser.specs.Steps.Block.{block_sequence_node_at, block_sequence_node, block_sequence_entry_at, block_sequence_entry, indentless_sequence_node_at, indentless_sequence_node, indentless_sequence_entry_at, indentless_sequence_entry, block_key_node_at, block_key_node, block_mapping_key_at, block_mapping_key, block_value_node_at, block_value_node, block_mapping_value_at, block_mapping_value}
 use Rattle.saphyr_parser.specs.WellFormed.{AreWellFormed}
 use Rattle.saphyr_parser.proofs.Told.Telling.{Memory}
 use Rattle.saphyr_parser.proofs.Turned.Following.{Claim, Then, Exactly, IsOptionalOf, IsSkipped, IsValueOf, BlockEntries, BlockPairs, InBlockPairs, AtBlockValue, FollowsStates, IsAlive}
@@ -49,7 +49,7 @@ one_entry T ks ps h =
 node_at_turned : (k : Kind) (sp span : Span) (ts : List Piece) (r : Option Refusal) (x s : State) (ss : List State)
     (e : Memory) → AreWellFormed (record { span = sp; kind = k } ∷ ts) → IsAlive s ss
     → Turned (Then (IsOptionalOf InBlock) (InEntries (FollowsStates s ss))) e (record { span = sp; kind = k } ∷ ts)
-    (sequence_node_at k span (record { span = sp; kind = k }) (machine ts r x (s ∷ ss) e))
+    (block_sequence_node_at k span (record { span = sp; kind = k }) (machine ts r x (s ∷ ss) e))
 node_at_turned BlockEntry sp span ts r x s ss e w a =
     skip_optional InBlock _ span ts r x state.BlockSequenceEntry (s ∷ ss) e (tt, a)
 node_at_turned BlockEnd sp span ts r x s ss e w a =
@@ -60,15 +60,15 @@ node_at_turned k sp span ts r x s ss e w a =
 sequence_node_turned : (span : Span) (ts : List Piece) (r : Option Refusal) (x s : State) (ss : List State) (e : Memory)
     → AreWellFormed ts → IsAlive s ss
     → Turned (Then (IsOptionalOf InBlock) (InEntries (FollowsStates s ss))) e ts
-    (sequence_node span (machine ts r x (s ∷ ss) e))
-unfolding sequence_node
+    (block_sequence_node span (machine ts r x (s ∷ ss) e))
+unfolding block_sequence_node
 sequence_node_turned span [] r x s ss e w a = tt
 sequence_node_turned span (t ∷ ts) r x s ss e w a = node_at_turned t.kind t.span span ts r x s ss e w a
 
 sequence_entry_at_turned : (k : Kind) (sp : Span) (ts : List Piece) (r : Option Refusal) (x s : State) (ss : List State)
     (e : Memory) → AreWellFormed ts → IsAlive s ss
     → Turned (InEntries (FollowsStates s ss)) e (record { span = sp; kind = k } ∷ ts)
-    (sequence_entry_at k (record { span = sp; kind = k }) (machine ts r x (s ∷ ss) e))
+    (block_sequence_entry_at k (record { span = sp; kind = k }) (machine ts r x (s ∷ ss) e))
 sequence_entry_at_turned BlockEnd sp ts r x s ss e w a =
     ends (InEntries (FollowsStates s ss)) _ SequenceEnd CloseSequence sp ts r x s ss e refl refl refl tt refl a
     (λ ks ps f. collection_ends BlockEntries (FollowsStates s ss) (BlockEnd ∷ []) CloseSequence ks ps
@@ -83,8 +83,8 @@ sequence_entry_at_turned _ sp ts r x s ss e w a = tt
 
 pub sequence_entry_turned : (ts : List Piece) (r : Option Refusal) (x s : State) (ss : List State) (e : Memory)
     → AreWellFormed ts → IsAlive s ss
-    → Turned (InEntries (FollowsStates s ss)) e ts (sequence_entry (machine ts r x (s ∷ ss) e))
-unfolding sequence_entry
+    → Turned (InEntries (FollowsStates s ss)) e ts (block_sequence_entry (machine ts r x (s ∷ ss) e))
+unfolding block_sequence_entry
 sequence_entry_turned [] r x s ss e w a = tt
 sequence_entry_turned (t ∷ ts) r x s ss e w a = sequence_entry_at_turned t.kind t.span ts r x s ss e w.2 a
 
@@ -93,7 +93,7 @@ sequence_entry_turned (t ∷ ts) r x s ss e w a = sequence_entry_at_turned t.kin
 indentless_at_turned : (k : Kind) (sp span : Span) (ts : List Piece) (r : Option Refusal) (x s : State)
     (ss : List State) (e : Memory) → AreWellFormed (record { span = sp; kind = k } ∷ ts) → IsAlive s ss
     → Turned (Then (IsOptionalOf InBlock) (InIndentless (FollowsStates s ss))) e (record { span = sp; kind = k } ∷ ts)
-    (indentless_node_at k span (record { span = sp; kind = k }) (machine ts r x (s ∷ ss) e))
+    (indentless_sequence_node_at k span (record { span = sp; kind = k }) (machine ts r x (s ∷ ss) e))
 indentless_at_turned BlockEntry sp span ts r x s ss e w a =
     skip_optional InBlock _ span ts r x state.IndentlessSequenceEntry (s ∷ ss) e (tt, a)
 indentless_at_turned Key sp span ts r x s ss e w a =
@@ -108,15 +108,15 @@ indentless_at_turned k sp span ts r x s ss e w a =
 indentless_node_turned : (span : Span) (ts : List Piece) (r : Option Refusal) (x s : State) (ss : List State)
     (e : Memory) → AreWellFormed ts → IsAlive s ss
     → Turned (Then (IsOptionalOf InBlock) (InIndentless (FollowsStates s ss))) e ts
-    (indentless_node span (machine ts r x (s ∷ ss) e))
-unfolding indentless_node
+    (indentless_sequence_node span (machine ts r x (s ∷ ss) e))
+unfolding indentless_sequence_node
 indentless_node_turned span [] r x s ss e w a = tt
 indentless_node_turned span (t ∷ ts) r x s ss e w a = indentless_at_turned t.kind t.span span ts r x s ss e w a
 
 entry_at_turned : (k : Kind) (sp : Span) (ts : List Piece) (r : Option Refusal) (x s : State) (ss : List State)
     (e : Memory) → AreWellFormed ts → IsAlive s ss
     → Turned (Wanted state.IndentlessSequenceEntry (s ∷ ss) (k ∷ kinds ts)) e (record { span = sp; kind = k } ∷ ts)
-    (indentless_entry_at k (record { span = sp; kind = k }) (machine ts r x (s ∷ ss) e))
+    (indentless_sequence_entry_at k (record { span = sp; kind = k }) (machine ts r x (s ∷ ss) e))
 entry_at_turned BlockEntry sp ts r x s ss e w a =
     behind (record { span = sp; kind = BlockEntry }) (Then (IsOptionalOf InBlock) (InIndentless (FollowsStates s ss)))
     (Wanted state.IndentlessSequenceEntry (s ∷ ss) (BlockEntry ∷ kinds ts)) e ts _ tt
@@ -146,8 +146,8 @@ entry_at_turned k sp ts r x s ss e w a =
 pub indentless_entry_turned : (ts : List Piece) (r : Option Refusal) (x s : State) (ss : List State) (e : Memory)
     → AreWellFormed ts → IsAlive s ss
     → Turned (Wanted state.IndentlessSequenceEntry (s ∷ ss) (kinds ts)) e ts
-    (indentless_entry (machine ts r x (s ∷ ss) e))
-unfolding indentless_entry
+    (indentless_sequence_entry (machine ts r x (s ∷ ss) e))
+unfolding indentless_sequence_entry
 indentless_entry_turned [] r x s ss e w a = tt
 indentless_entry_turned (t ∷ ts) r x s ss e w a = entry_at_turned t.kind t.span ts r x s ss e w.2 a
 
@@ -293,7 +293,7 @@ key_turned (t ∷ ts) r x s ss e w a = key_at_turned t.kind t.span ts r x s ss e
 mapping_key_at_turned : (k : Kind) (sp : Span) (ts : List Piece) (r : Option Refusal) (x s : State) (ss : List State)
     (e : Memory) → AreWellFormed ts → IsAlive s ss
     → Turned (Wanted state.BlockMappingKey (s ∷ ss) (k ∷ kinds ts)) e (record { span = sp; kind = k } ∷ ts)
-    (mapping_key_at k (record { span = sp; kind = k }) (machine ts r x (s ∷ ss) e))
+    (block_mapping_key_at k (record { span = sp; kind = k }) (machine ts r x (s ∷ ss) e))
 mapping_key_at_turned Key sp ts r x s ss e w a =
     behind (record { span = sp; kind = Key }) (Then (IsOptionalOf InBlockMapping) (AtBlockValue (FollowsStates s ss)))
     (Wanted state.BlockMappingKey (s ∷ ss) (Key ∷ kinds ts)) e ts _ tt
@@ -312,8 +312,8 @@ mapping_key_at_turned _ sp ts r x s ss e w a = tt
 
 pub mapping_key_turned : (ts : List Piece) (r : Option Refusal) (x s : State) (ss : List State) (e : Memory)
     → AreWellFormed ts → IsAlive s ss
-    → Turned (Wanted state.BlockMappingKey (s ∷ ss) (kinds ts)) e ts (mapping_key (machine ts r x (s ∷ ss) e))
-unfolding mapping_key
+    → Turned (Wanted state.BlockMappingKey (s ∷ ss) (kinds ts)) e ts (block_mapping_key (machine ts r x (s ∷ ss) e))
+unfolding block_mapping_key
 mapping_key_turned [] r x s ss e w a = tt
 mapping_key_turned (t ∷ ts) r x s ss e w a = mapping_key_at_turned t.kind t.span ts r x s ss e w.2 a
 

@@ -14,7 +14,7 @@ use Rattle.saphyr_parser.specs.declared.parser.state.State.TheVariants as state
 use Rattle.saphyr_parser.specs.Preorder.{Part, Leaf, CloseMapping, node_parts, pair_parts}
 use Rattle.saphyr_parser.specs.Events.{MappingEnd}
 use Rattle.saphyr_parser.specs.Exactly.{kinds}
-use Rattle.saphyr_parser.specs.Steps.Flow.{flow_key_node_at, flow_key_node, pair_at, first_pair, pair_behind_comma, other_pair_at, other_pair, flow_value_node_at, flow_value_node, flow_mapping_value_at, flow_mapping_value, empty_value}
+use Rattle.saphyr_parser.specs.Steps.Flow.{flow_key_node_at, flow_key_node, flow_mapping_pair_at, flow_mapping_first_key, flow_mapping_pair_behind_comma, flow_mapping_key_at, flow_mapping_key, flow_value_node_at, flow_value_node, flow_mapping_value_at, flow_mapping_value, flow_mapping_empty_value}
 use Rattle.saphyr_parser.specs.WellFormed.{AreWellFormed}
 use Rattle.saphyr_parser.proofs.Told.Telling.{Memory}
 use Rattle.saphyr_parser.proofs.Turned.Following.{Claim, Then, Exactly, IsNodeOf, IsOptionalOf, IsSkipped, IsAnyValueOf, FirstPairs, OtherPairs, InMapping, FollowsStates, IsAlive}
@@ -172,7 +172,7 @@ key_turned (t ∷ ts) r x s ss e w a = key_at_turned t.kind t.span ts r x s ss e
 pair_at_turned : (k : Kind) (sp span : Span) (ts : List Piece) (r : Option Refusal) (x s : State) (ss : List State)
     (e : Memory) → AreWellFormed (record { span = sp; kind = k } ∷ ts) → IsAlive s ss
     → Turned (AtFirst (FollowsStates s ss)) e (record { span = sp; kind = k } ∷ ts)
-    (pair_at k span (record { span = sp; kind = k }) (machine ts r x (s ∷ ss) e))
+    (flow_mapping_pair_at k span (record { span = sp; kind = k }) (machine ts r x (s ∷ ss) e))
 pair_at_turned Key sp span ts r x s ss e w a =
     behind (record { span = sp; kind = Key })
     (Then (IsOptionalOf InFlow) (Then (IsAnyValueOf InFlow) (InMapping (FollowsStates s ss))))
@@ -195,22 +195,22 @@ pair_at_turned k sp span ts r x s ss e w a =
 
 pub first_pair_turned : (ts : List Piece) (r : Option Refusal) (x s : State) (ss : List State) (e : Memory)
     → AreWellFormed ts → IsAlive s ss → Turned (AtFirst (FollowsStates s ss)) e ts
-    (first_pair (machine ts r x (s ∷ ss) e))
-unfolding first_pair
+    (flow_mapping_first_key (machine ts r x (s ∷ ss) e))
+unfolding flow_mapping_first_key
 first_pair_turned [] r x s ss e w a = tt
 first_pair_turned (t ∷ ts) r x s ss e w a = pair_at_turned t.kind t.span t.span ts r x s ss e w a
 
 behind_comma_turned : (span : Span) (ts : List Piece) (r : Option Refusal) (x s : State) (ss : List State) (e : Memory)
     → AreWellFormed ts → IsAlive s ss
-    → Turned (AtFirst (FollowsStates s ss)) e ts (pair_behind_comma span (machine ts r x (s ∷ ss) e))
-unfolding pair_behind_comma
+    → Turned (AtFirst (FollowsStates s ss)) e ts (flow_mapping_pair_behind_comma span (machine ts r x (s ∷ ss) e))
+unfolding flow_mapping_pair_behind_comma
 behind_comma_turned span [] r x s ss e w a = tt
 behind_comma_turned span (t ∷ ts) r x s ss e w a = pair_at_turned t.kind t.span span ts r x s ss e w a
 
 other_pair_at_turned : (k : Kind) (sp : Span) (ts : List Piece) (r : Option Refusal) (x s : State) (ss : List State)
     (e : Memory) → AreWellFormed ts → IsAlive s ss
     → Turned (InMapping (FollowsStates s ss)) e (record { span = sp; kind = k } ∷ ts)
-    (other_pair_at k (record { span = sp; kind = k }) (machine ts r x (s ∷ ss) e))
+    (flow_mapping_key_at k (record { span = sp; kind = k }) (machine ts r x (s ∷ ss) e))
 other_pair_at_turned FlowMappingEnd sp ts r x s ss e w a =
     ends (InMapping (FollowsStates s ss)) _ MappingEnd CloseMapping sp ts r x s ss e refl refl refl tt refl a
     (λ ks ps f. collection_ends OtherPairs (FollowsStates s ss) (FlowMappingEnd ∷ []) CloseMapping ks ps
@@ -223,8 +223,8 @@ other_pair_at_turned _ sp ts r x s ss e w a = tt
 
 pub other_pair_turned : (ts : List Piece) (r : Option Refusal) (x s : State) (ss : List State) (e : Memory)
     → AreWellFormed ts → IsAlive s ss → Turned (InMapping (FollowsStates s ss)) e ts
-    (other_pair (machine ts r x (s ∷ ss) e))
-unfolding other_pair
+    (flow_mapping_key (machine ts r x (s ∷ ss) e))
+unfolding flow_mapping_key
 other_pair_turned [] r x s ss e w a = tt
 other_pair_turned (t ∷ ts) r x s ss e w a = other_pair_at_turned t.kind t.span ts r x s ss e w.2 a
 
@@ -278,8 +278,8 @@ mapping_value_turned (t ∷ ts) r x s ss e w a = mapping_value_at_turned t.kind 
 
 pub empty_value_turned : (ts : List Piece) (r : Option Refusal) (x s : State) (ss : List State) (e : Memory)
     → IsAlive s ss → Turned (Then IsSkipped (InMapping (FollowsStates s ss))) e ts
-    (empty_value (machine ts r x (s ∷ ss) e))
-unfolding empty_value
+    (flow_mapping_empty_value (machine ts r x (s ∷ ss) e))
+unfolding flow_mapping_empty_value
 empty_value_turned [] r x s ss e a = tt
 empty_value_turned (t ∷ ts) r x s ss e a =
     skipped (Then IsSkipped (InMapping (FollowsStates s ss))) t t.span ts r x state.FlowMappingKey (s ∷ ss) e (tt, a)

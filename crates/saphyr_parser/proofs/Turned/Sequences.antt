@@ -14,7 +14,7 @@ use Rattle.saphyr_parser.specs.declared.parser.state.State.{State}
 use Rattle.saphyr_parser.specs.declared.parser.state.State.TheVariants as state
 use Rattle.saphyr_parser.specs.Preorder.{Part, CloseSequence, OpenMapping, CloseMapping, node_parts}
 use Rattle.saphyr_parser.specs.Events.{SequenceEnd}
-use Rattle.saphyr_parser.specs.Steps.Flow.{entry_at, first_entry, other_entry_at, other_entry, pair_key_at, pair_key, pair_value_node_at, pair_value_node, pair_value_at, pair_value, pair_end}
+use Rattle.saphyr_parser.specs.Steps.Flow.{flow_sequence_first_entry_at, flow_sequence_first_entry, flow_sequence_entry_at, flow_sequence_entry, flow_sequence_entry_mapping_key_at, flow_sequence_entry_mapping_key, flow_sequence_entry_mapping_node_at, flow_sequence_entry_mapping_node, flow_sequence_entry_mapping_value_at, flow_sequence_entry_mapping_value, flow_sequence_entry_mapping_end}
 use Rattle.saphyr_parser.specs.WellFormed.{AreWellFormed}
 use Rattle.saphyr_parser.proofs.Told.Telling.{Memory}
 use Rattle.saphyr_parser.proofs.Turned.Following.{Claim, Then, Exactly, IsNodeOf, IsOptionalOf, IsAnyValueOf, FirstEntries, OtherEntries, InSequence, AtPairEnd, AtPairValue, FollowsStates, IsAlive}
@@ -121,7 +121,7 @@ pair_first R ks ps h =
 entry_turned : (k : Kind) (sp : Span) (ts : List Piece) (r : Option Refusal) (x s : State) (ss : List State)
     (e : Memory) → AreWellFormed (record { span = sp; kind = k } ∷ ts) → IsAlive s ss
     → Turned (AtFirst (FollowsStates s ss)) e (record { span = sp; kind = k } ∷ ts)
-    (entry_at k (record { span = sp; kind = k }) (machine ts r x (s ∷ ss) e))
+    (flow_sequence_first_entry_at k (record { span = sp; kind = k }) (machine ts r x (s ∷ ss) e))
 entry_turned FlowSequenceEnd sp ts r x s ss e w a =
     ends (AtFirst (FollowsStates s ss)) _ SequenceEnd CloseSequence sp ts r x s ss e refl refl refl tt refl a
     (λ ks ps f. collection_ends FirstEntries (FollowsStates s ss) (FlowSequenceEnd ∷ []) CloseSequence ks ps
@@ -152,15 +152,15 @@ entry_turned k sp ts r x s ss e w a =
 
 pub first_entry_turned : (ts : List Piece) (r : Option Refusal) (x s : State) (ss : List State) (e : Memory)
     → AreWellFormed ts → IsAlive s ss → Turned (AtFirst (FollowsStates s ss)) e ts
-    (first_entry (machine ts r x (s ∷ ss) e))
-unfolding first_entry
+    (flow_sequence_first_entry (machine ts r x (s ∷ ss) e))
+unfolding flow_sequence_first_entry
 first_entry_turned [] r x s ss e w a = tt
 first_entry_turned (t ∷ ts) r x s ss e w a = entry_turned t.kind t.span ts r x s ss e w a
 
 other_entry_at_turned : (k : Kind) (sp : Span) (ts : List Piece) (r : Option Refusal) (x s : State) (ss : List State)
     (e : Memory) → AreWellFormed ts → IsAlive s ss
     → Turned (InSequence (FollowsStates s ss)) e (record { span = sp; kind = k } ∷ ts)
-    (other_entry_at k (record { span = sp; kind = k }) (machine ts r x (s ∷ ss) e))
+    (flow_sequence_entry_at k (record { span = sp; kind = k }) (machine ts r x (s ∷ ss) e))
 other_entry_at_turned FlowSequenceEnd sp ts r x s ss e w a =
     ends (InSequence (FollowsStates s ss)) _ SequenceEnd CloseSequence sp ts r x s ss e refl refl refl tt refl a
     (λ ks ps f. collection_ends OtherEntries (FollowsStates s ss) (FlowSequenceEnd ∷ []) CloseSequence ks ps
@@ -174,8 +174,8 @@ other_entry_at_turned _ sp ts r x s ss e w a = tt
 
 pub other_entry_turned : (ts : List Piece) (r : Option Refusal) (x s : State) (ss : List State) (e : Memory)
     → AreWellFormed ts → IsAlive s ss
-    → Turned (InSequence (FollowsStates s ss)) e ts (other_entry (machine ts r x (s ∷ ss) e))
-unfolding other_entry
+    → Turned (InSequence (FollowsStates s ss)) e ts (flow_sequence_entry (machine ts r x (s ∷ ss) e))
+unfolding flow_sequence_entry
 other_entry_turned [] r x s ss e w a = tt
 other_entry_turned (t ∷ ts) r x s ss e w a = other_entry_at_turned t.kind t.span ts r x s ss e w.2 a
 
@@ -183,7 +183,7 @@ other_entry_turned (t ∷ ts) r x s ss e w a = other_entry_at_turned t.kind t.sp
 pair_key_at_turned : (k : Kind) (sp : Span) (ts : List Piece) (r : Option Refusal) (x s : State) (ss : List State)
     (e : Memory) → AreWellFormed (record { span = sp; kind = k } ∷ ts) → IsAlive s ss
     → Turned (Then (IsOptionalOf InFlow) (AtPairValue (FollowsStates s ss))) e (record { span = sp; kind = k } ∷ ts)
-    (pair_key_at k (record { span = sp; kind = k }) (machine ts r x (s ∷ ss) e))
+    (flow_sequence_entry_mapping_key_at k (record { span = sp; kind = k }) (machine ts r x (s ∷ ss) e))
 pair_key_at_turned Value sp ts r x s ss e w a =
     skip_optional InFlow _ sp ts r x state.FlowSequenceEntryMappingValue (s ∷ ss) e (tt, a)
 pair_key_at_turned FlowEntry sp ts r x s ss e w a =
@@ -196,8 +196,9 @@ pair_key_at_turned k sp ts r x s ss e w a =
 
 pub pair_key_turned : (ts : List Piece) (r : Option Refusal) (x s : State) (ss : List State) (e : Memory)
     → AreWellFormed ts → IsAlive s ss
-    → Turned (Then (IsOptionalOf InFlow) (AtPairValue (FollowsStates s ss))) e ts (pair_key (machine ts r x (s ∷ ss) e))
-unfolding pair_key
+    → Turned (Then (IsOptionalOf InFlow) (AtPairValue (FollowsStates s ss))) e ts (flow_sequence_entry_mapping_key
+    (machine ts r x (s ∷ ss) e))
+unfolding flow_sequence_entry_mapping_key
 pair_key_turned [] r x s ss e w a = tt
 pair_key_turned (t ∷ ts) r x s ss e w a = pair_key_at_turned t.kind t.span ts r x s ss e w a
 
@@ -205,7 +206,7 @@ pair_key_turned (t ∷ ts) r x s ss e w a = pair_key_at_turned t.kind t.span ts 
 value_node_at_turned : (k : Kind) (sp : Span) (ts : List Piece) (r : Option Refusal) (x s : State) (ss : List State)
     (e : Memory) → AreWellFormed (record { span = sp; kind = k } ∷ ts) → IsAlive s ss
     → Turned (Then (IsOptionalOf InFlow) (AtPairEnd (FollowsStates s ss))) e (record { span = sp; kind = k } ∷ ts)
-    (pair_value_node_at k (record { span = sp; kind = k }) (machine ts r x (s ∷ ss) e))
+    (flow_sequence_entry_mapping_node_at k (record { span = sp; kind = k }) (machine ts r x (s ∷ ss) e))
 value_node_at_turned FlowEntry sp ts r x s ss e w a =
     skip_optional InFlow _ sp ts r x (state.FlowSequenceEntryMappingEnd sp.end) (s ∷ ss) e (tt, a)
 value_node_at_turned FlowSequenceEnd sp ts r x s ss e w a =
@@ -217,15 +218,15 @@ value_node_at_turned k sp ts r x s ss e w a =
 value_node_turned : (ts : List Piece) (r : Option Refusal) (x s : State) (ss : List State) (e : Memory)
     → AreWellFormed ts → IsAlive s ss
     → Turned (Then (IsOptionalOf InFlow) (AtPairEnd (FollowsStates s ss))) e ts
-    (pair_value_node (machine ts r x (s ∷ ss) e))
-unfolding pair_value_node
+    (flow_sequence_entry_mapping_node (machine ts r x (s ∷ ss) e))
+unfolding flow_sequence_entry_mapping_node
 value_node_turned [] r x s ss e w a = tt
 value_node_turned (t ∷ ts) r x s ss e w a = value_node_at_turned t.kind t.span ts r x s ss e w a
 
 pair_value_at_turned : (k : Kind) (sp : Span) (ts : List Piece) (r : Option Refusal) (x s : State) (ss : List State)
     (e : Memory) → AreWellFormed ts → IsAlive s ss
     → Turned (AtPairValue (FollowsStates s ss)) e (record { span = sp; kind = k } ∷ ts)
-    (pair_value_at k (record { span = sp; kind = k }) (machine ts r x (s ∷ ss) e))
+    (flow_sequence_entry_mapping_value_at k (record { span = sp; kind = k }) (machine ts r x (s ∷ ss) e))
 pair_value_at_turned Value sp ts r x s ss e w a =
     behind (record { span = sp; kind = Value }) (Then (IsOptionalOf InFlow) (AtPairEnd (FollowsStates s ss)))
     (AtPairValue (FollowsStates s ss)) e ts _ tt
@@ -239,15 +240,15 @@ pair_value_at_turned k sp ts r x s ss e w a =
 
 pub pair_value_turned : (ts : List Piece) (r : Option Refusal) (x s : State) (ss : List State) (e : Memory)
     → AreWellFormed ts → IsAlive s ss
-    → Turned (AtPairValue (FollowsStates s ss)) e ts (pair_value (machine ts r x (s ∷ ss) e))
-unfolding pair_value
+    → Turned (AtPairValue (FollowsStates s ss)) e ts (flow_sequence_entry_mapping_value (machine ts r x (s ∷ ss) e))
+unfolding flow_sequence_entry_mapping_value
 pair_value_turned [] r x s ss e w a = tt
 pair_value_turned (t ∷ ts) r x s ss e w a = pair_value_at_turned t.kind t.span ts r x s ss e w.2 a
 
 pub pair_end_turned : (place : Marker) (ts : List Piece) (r : Option Refusal) (x s : State) (ss : List State)
     (e : Memory) → IsAlive s ss → Turned (AtPairEnd (FollowsStates s ss)) e ts
-    (pair_end place (machine ts r x (s ∷ ss) e))
-unfolding pair_end
+    (flow_sequence_entry_mapping_end place (machine ts r x (s ∷ ss) e))
+unfolding flow_sequence_entry_mapping_end
 pair_end_turned place ts r x s ss e a =
     record {
       used = [];

@@ -20,48 +20,48 @@ block_node m = do
 -- ## Sequences
 
 -- behind a `-` with this span
-abbrev pub sequence_node_at : Kind → Span → Piece → Machine → Result Told Refusal
-sequence_node_at BlockEntry s t m = left_out_event t state.BlockSequenceEntry s m
-sequence_node_at BlockEnd s t m = left_out_event t state.BlockSequenceEntry s m
-sequence_node_at _ s t m = node_inside state.BlockSequenceEntry Block t m
+abbrev pub block_sequence_node_at : Kind → Span → Piece → Machine → Result Told Refusal
+block_sequence_node_at BlockEntry s t m = left_out_event t state.BlockSequenceEntry s m
+block_sequence_node_at BlockEnd s t m = left_out_event t state.BlockSequenceEntry s m
+block_sequence_node_at _ s t m = node_inside state.BlockSequenceEntry Block t m
 
-unfoldable pub sequence_node : Span → Machine → Result Told Refusal
-sequence_node s m = do
+unfoldable pub block_sequence_node : Span → Machine → Result Told Refusal
+block_sequence_node s m = do
   t ← taken_token m
-  sequence_node_at t.0.kind s t.0 t.1
+  block_sequence_node_at t.0.kind s t.0 t.1
 
-abbrev pub sequence_entry_at : Kind → Piece → Machine → Result Told Refusal
-sequence_entry_at BlockEnd t m = told_event SequenceEnd t.span (pop m)
-sequence_entry_at BlockEntry t m = sequence_node t.span m
-sequence_entry_at _ t m = refusal_at fault.SequenceEntryExpected t
+abbrev pub block_sequence_entry_at : Kind → Piece → Machine → Result Told Refusal
+block_sequence_entry_at BlockEnd t m = told_event SequenceEnd t.span (pop m)
+block_sequence_entry_at BlockEntry t m = block_sequence_node t.span m
+block_sequence_entry_at _ t m = refusal_at fault.SequenceEntryExpected t
 
-unfoldable pub sequence_entry : Machine → Result Told Refusal
-sequence_entry m = do
+unfoldable pub block_sequence_entry : Machine → Result Told Refusal
+block_sequence_entry m = do
   t ← taken_token m
-  sequence_entry_at t.0.kind t.0 t.1
+  block_sequence_entry_at t.0.kind t.0 t.1
 
 -- ## Sequences at the column of the mapping around them
 
-abbrev pub indentless_node_at : Kind → Span → Piece → Machine → Result Told Refusal
-indentless_node_at BlockEntry s t m = left_out_event t state.IndentlessSequenceEntry s m
-indentless_node_at Key s t m = left_out_event t state.IndentlessSequenceEntry s m
-indentless_node_at Value s t m = left_out_event t state.IndentlessSequenceEntry s m
-indentless_node_at BlockEnd s t m = left_out_event t state.IndentlessSequenceEntry s m
-indentless_node_at _ s t m = node_inside state.IndentlessSequenceEntry Block t m
+abbrev pub indentless_sequence_node_at : Kind → Span → Piece → Machine → Result Told Refusal
+indentless_sequence_node_at BlockEntry s t m = left_out_event t state.IndentlessSequenceEntry s m
+indentless_sequence_node_at Key s t m = left_out_event t state.IndentlessSequenceEntry s m
+indentless_sequence_node_at Value s t m = left_out_event t state.IndentlessSequenceEntry s m
+indentless_sequence_node_at BlockEnd s t m = left_out_event t state.IndentlessSequenceEntry s m
+indentless_sequence_node_at _ s t m = node_inside state.IndentlessSequenceEntry Block t m
 
-unfoldable pub indentless_node : Span → Machine → Result Told Refusal
-indentless_node s m = do
+unfoldable pub indentless_sequence_node : Span → Machine → Result Told Refusal
+indentless_sequence_node s m = do
   t ← taken_token m
-  indentless_node_at t.0.kind s t.0 t.1
+  indentless_sequence_node_at t.0.kind s t.0 t.1
 
-abbrev pub indentless_entry_at : Kind → Piece → Machine → Result Told Refusal
-indentless_entry_at BlockEntry t m = indentless_node t.span m
-indentless_entry_at _ t m = told_event SequenceEnd t.span (pop (put_back t m))
+abbrev pub indentless_sequence_entry_at : Kind → Piece → Machine → Result Told Refusal
+indentless_sequence_entry_at BlockEntry t m = indentless_sequence_node t.span m
+indentless_sequence_entry_at _ t m = told_event SequenceEnd t.span (pop (put_back t m))
 
-unfoldable pub indentless_entry : Machine → Result Told Refusal
-indentless_entry m = do
+unfoldable pub indentless_sequence_entry : Machine → Result Told Refusal
+indentless_sequence_entry m = do
   t ← taken_token m
-  indentless_entry_at t.0.kind t.0 t.1
+  indentless_sequence_entry_at t.0.kind t.0 t.1
 
 -- ## Mappings
 
@@ -77,16 +77,16 @@ block_key_node m = do
   t ← taken_token m
   block_key_node_at t.0.kind t.0 t.1
 
-abbrev pub mapping_key_at : Kind → Piece → Machine → Result Told Refusal
-mapping_key_at Key t m = block_key_node m
-mapping_key_at Value t m = left_out_event t state.BlockMappingValue t.span m
-mapping_key_at BlockEnd t m = told_event MappingEnd t.span (pop m)
-mapping_key_at _ t m = refusal_at fault.BlockMappingKeyExpected t
+abbrev pub block_mapping_key_at : Kind → Piece → Machine → Result Told Refusal
+block_mapping_key_at Key t m = block_key_node m
+block_mapping_key_at Value t m = left_out_event t state.BlockMappingValue t.span m
+block_mapping_key_at BlockEnd t m = told_event MappingEnd t.span (pop m)
+block_mapping_key_at _ t m = refusal_at fault.BlockMappingKeyExpected t
 
-unfoldable pub mapping_key : Machine → Result Told Refusal
-mapping_key m = do
+unfoldable pub block_mapping_key : Machine → Result Told Refusal
+block_mapping_key m = do
   t ← taken_token m
-  mapping_key_at t.0.kind t.0 t.1
+  block_mapping_key_at t.0.kind t.0 t.1
 
 -- behind a value's token with this span
 abbrev pub block_value_node_at : Kind → Span → Piece → Machine → Result Told Refusal

@@ -15,62 +15,66 @@ use Rattle.saphyr_parser.specs.Steps.Nodes.{node_inside}
 -- ## Sequences
 
 -- an entry begins with the token, or the sequence ends
-abbrev pub entry_at : Kind → Piece → Machine → Result Told Refusal
-entry_at FlowSequenceEnd t m = told_event SequenceEnd t.span (pop m)
-entry_at Key t m = told_event (MappingStart 0 None) t.span (with_state state.FlowSequenceEntryMappingKey m)
-entry_at _ t m = node_inside state.FlowSequenceEntry Flow t m
+abbrev pub flow_sequence_first_entry_at : Kind → Piece → Machine → Result Told Refusal
+flow_sequence_first_entry_at FlowSequenceEnd t m = told_event SequenceEnd t.span (pop m)
+flow_sequence_first_entry_at Key t m = told_event (MappingStart 0 None) t.span
+    (with_state state.FlowSequenceEntryMappingKey m)
+flow_sequence_first_entry_at _ t m = node_inside state.FlowSequenceEntry Flow t m
 
-unfoldable pub first_entry : Machine → Result Told Refusal
-first_entry m = do
+unfoldable pub flow_sequence_first_entry : Machine → Result Told Refusal
+flow_sequence_first_entry m = do
   t ← taken_token m
-  entry_at t.0.kind t.0 t.1
+  flow_sequence_first_entry_at t.0.kind t.0 t.1
 
-abbrev pub other_entry_at : Kind → Piece → Machine → Result Told Refusal
-other_entry_at FlowSequenceEnd t m = told_event SequenceEnd t.span (pop m)
-other_entry_at FlowEntry t m = first_entry m
-other_entry_at _ t m = refusal_at fault.FlowSequenceEndExpected t
+abbrev pub flow_sequence_entry_at : Kind → Piece → Machine → Result Told Refusal
+flow_sequence_entry_at FlowSequenceEnd t m = told_event SequenceEnd t.span (pop m)
+flow_sequence_entry_at FlowEntry t m = flow_sequence_first_entry m
+flow_sequence_entry_at _ t m = refusal_at fault.FlowSequenceEndExpected t
 
-unfoldable pub other_entry : Machine → Result Told Refusal
-other_entry m = do
+unfoldable pub flow_sequence_entry : Machine → Result Told Refusal
+flow_sequence_entry m = do
   t ← taken_token m
-  other_entry_at t.0.kind t.0 t.1
+  flow_sequence_entry_at t.0.kind t.0 t.1
 
 -- ## Pairs of a sequence that begin with `?`
 
 -- a key that is left out leaves what follows it
-abbrev pub pair_key_at : Kind → Piece → Machine → Result Told Refusal
-pair_key_at Value t m = left_out_event t state.FlowSequenceEntryMappingValue t.span m
-pair_key_at FlowEntry t m = left_out_event t state.FlowSequenceEntryMappingValue t.span m
-pair_key_at FlowSequenceEnd t m = left_out_event t state.FlowSequenceEntryMappingValue t.span m
-pair_key_at _ t m = node_inside state.FlowSequenceEntryMappingValue Flow t m
+abbrev pub flow_sequence_entry_mapping_key_at : Kind → Piece → Machine → Result Told Refusal
+flow_sequence_entry_mapping_key_at Value t m = left_out_event t state.FlowSequenceEntryMappingValue t.span m
+flow_sequence_entry_mapping_key_at FlowEntry t m = left_out_event t state.FlowSequenceEntryMappingValue t.span m
+flow_sequence_entry_mapping_key_at FlowSequenceEnd t m = left_out_event t state.FlowSequenceEntryMappingValue t.span m
+flow_sequence_entry_mapping_key_at _ t m = node_inside state.FlowSequenceEntryMappingValue Flow t m
 
-unfoldable pub pair_key : Machine → Result Told Refusal
-pair_key m = do
+unfoldable pub flow_sequence_entry_mapping_key : Machine → Result Told Refusal
+flow_sequence_entry_mapping_key m = do
   t ← taken_token m
-  pair_key_at t.0.kind t.0 t.1
+  flow_sequence_entry_mapping_key_at t.0.kind t.0 t.1
 
 -- behind the colon of such a pair; the pair ends behind the first token of its value
-abbrev pub pair_value_node_at : Kind → Piece → Machine → Result Told Refusal
-pair_value_node_at FlowEntry t m = left_out_event t (state.FlowSequenceEntryMappingEnd t.span.end) t.span m
-pair_value_node_at FlowSequenceEnd t m = left_out_event t (state.FlowSequenceEntryMappingEnd t.span.end) t.span m
-pair_value_node_at _ t m = node_inside (state.FlowSequenceEntryMappingEnd t.span.end) Flow t m
+abbrev pub flow_sequence_entry_mapping_node_at : Kind → Piece → Machine → Result Told Refusal
+flow_sequence_entry_mapping_node_at FlowEntry t m = left_out_event t
+    (state.FlowSequenceEntryMappingEnd t.span.end) t.span m
+flow_sequence_entry_mapping_node_at FlowSequenceEnd t m = left_out_event t
+    (state.FlowSequenceEntryMappingEnd t.span.end) t.span m
+flow_sequence_entry_mapping_node_at _ t m = node_inside (state.FlowSequenceEntryMappingEnd t.span.end) Flow t m
 
-unfoldable pub pair_value_node : Machine → Result Told Refusal
-pair_value_node m = do
+unfoldable pub flow_sequence_entry_mapping_node : Machine → Result Told Refusal
+flow_sequence_entry_mapping_node m = do
   t ← taken_token m
-  pair_value_node_at t.0.kind t.0 t.1
+  flow_sequence_entry_mapping_node_at t.0.kind t.0 t.1
 
-abbrev pub pair_value_at : Kind → Piece → Machine → Result Told Refusal
-pair_value_at Value t m = pair_value_node m
-pair_value_at _ t m = left_out_event t (state.FlowSequenceEntryMappingEnd t.span.end) t.span m
+abbrev pub flow_sequence_entry_mapping_value_at : Kind → Piece → Machine → Result Told Refusal
+flow_sequence_entry_mapping_value_at Value t m = flow_sequence_entry_mapping_node m
+flow_sequence_entry_mapping_value_at _ t m = left_out_event t (state.FlowSequenceEntryMappingEnd t.span.end) t.span m
 
-unfoldable pub pair_value : Machine → Result Told Refusal
-pair_value m = do
+unfoldable pub flow_sequence_entry_mapping_value : Machine → Result Told Refusal
+flow_sequence_entry_mapping_value m = do
   t ← taken_token m
-  pair_value_at t.0.kind t.0 t.1
+  flow_sequence_entry_mapping_value_at t.0.kind t.0 t.1
 
-unfoldable pub pair_end : Marker → Machine → Result Told Refusal
-pair_end place m = told_event MappingEnd (record { start = place; end = place }) (with_state state.FlowSequenceEntry m)
+unfoldable pub flow_sequence_entry_mapping_end : Marker → Machine → Result Told Refusal
+flow_sequence_entry_mapping_end place m = told_event MappingEnd (record { start = place; end = place })
+    (with_state state.FlowSequenceEntry m)
 
 -- ## Mappings
 
@@ -87,31 +91,31 @@ flow_key_node m = do
   flow_key_node_at t.0.kind t.0 t.1
 
 -- A pair begins with the token, or the mapping ends, where its end has the span of the comma or brace before it.
-abbrev pub pair_at : Kind → Span → Piece → Machine → Result Told Refusal
-pair_at Key s t m = flow_key_node m
-pair_at Value s t m = left_out_event t state.FlowMappingValue t.span m
-pair_at FlowMappingEnd s t m = told_event MappingEnd s (pop m)
-pair_at _ s t m = node_inside state.FlowMappingEmptyValue Flow t m
+abbrev pub flow_mapping_pair_at : Kind → Span → Piece → Machine → Result Told Refusal
+flow_mapping_pair_at Key s t m = flow_key_node m
+flow_mapping_pair_at Value s t m = left_out_event t state.FlowMappingValue t.span m
+flow_mapping_pair_at FlowMappingEnd s t m = told_event MappingEnd s (pop m)
+flow_mapping_pair_at _ s t m = node_inside state.FlowMappingEmptyValue Flow t m
 
-unfoldable pub first_pair : Machine → Result Told Refusal
-first_pair m = do
+unfoldable pub flow_mapping_first_key : Machine → Result Told Refusal
+flow_mapping_first_key m = do
   t ← taken_token m
-  pair_at t.0.kind t.0.span t.0 t.1
+  flow_mapping_pair_at t.0.kind t.0.span t.0 t.1
 
-unfoldable pub pair_behind_comma : Span → Machine → Result Told Refusal
-pair_behind_comma s m = do
+unfoldable pub flow_mapping_pair_behind_comma : Span → Machine → Result Told Refusal
+flow_mapping_pair_behind_comma s m = do
   t ← taken_token m
-  pair_at t.0.kind s t.0 t.1
+  flow_mapping_pair_at t.0.kind s t.0 t.1
 
-abbrev pub other_pair_at : Kind → Piece → Machine → Result Told Refusal
-other_pair_at FlowMappingEnd t m = told_event MappingEnd t.span (pop m)
-other_pair_at FlowEntry t m = pair_behind_comma t.span m
-other_pair_at _ t m = refusal_at fault.FlowMappingEndExpected t
+abbrev pub flow_mapping_key_at : Kind → Piece → Machine → Result Told Refusal
+flow_mapping_key_at FlowMappingEnd t m = told_event MappingEnd t.span (pop m)
+flow_mapping_key_at FlowEntry t m = flow_mapping_pair_behind_comma t.span m
+flow_mapping_key_at _ t m = refusal_at fault.FlowMappingEndExpected t
 
-unfoldable pub other_pair : Machine → Result Told Refusal
-other_pair m = do
+unfoldable pub flow_mapping_key : Machine → Result Told Refusal
+flow_mapping_key m = do
   t ← taken_token m
-  other_pair_at t.0.kind t.0 t.1
+  flow_mapping_key_at t.0.kind t.0 t.1
 
 -- behind a value's token with this span
 abbrev pub flow_value_node_at : Kind → Span → Piece → Machine → Result Told Refusal
@@ -134,7 +138,7 @@ flow_mapping_value m = do
   flow_mapping_value_at t.0.kind t.0 t.1
 
 -- the value of a pair that has a key alone
-unfoldable pub empty_value : Machine → Result Told Refusal
-empty_value m = do
+unfoldable pub flow_mapping_empty_value : Machine → Result Told Refusal
+flow_mapping_empty_value m = do
   t ← taken_token m
   left_out_event t.0 state.FlowMappingKey t.0.span t.1

@@ -28,12 +28,12 @@ impl<T: Input> Machine<T> {
     }
 
     // An entry of a block sequence, or its end.
-    #[tactic(auto, unfolding(crate::specs::Steps::Block::sequence_entry))]
+    #[tactic(auto, unfolding(crate::specs::Steps::Block::block_sequence_entry))]
     pub(super) fn block_sequence_entry<'input>(
         &mut self,
         next: &mut (Event<'input>, Span),
     ) -> Result<(), Stop>
-        ensures { TellsBy spec.sequence_entry self.old result next.new self.new }
+        ensures { TellsBy spec.block_sequence_entry self.old result next.new self.new }
     {
         let token = self.take()?;
         match token.kind {
@@ -50,13 +50,13 @@ impl<T: Input> Machine<T> {
 
     // The node behind a `-`.
     #[inline(always)]
-    #[tactic(auto, unfolding(crate::specs::Steps::Block::sequence_node))]
+    #[tactic(auto, unfolding(crate::specs::Steps::Block::block_sequence_node))]
     fn block_sequence_node<'input>(
         &mut self,
         dash: Span,
         next: &mut (Event<'input>, Span),
     ) -> Result<(), Stop>
-        ensures { TellsBy (spec.sequence_node dash) self.old result next.new self.new }
+        ensures { TellsBy (spec.block_sequence_node dash) self.old result next.new self.new }
     {
         let token = self.take()?;
         match token.kind {
@@ -69,12 +69,12 @@ impl<T: Input> Machine<T> {
     }
 
     // An entry of a sequence at the column of the mapping around it, or its end.
-    #[tactic(auto, unfolding(crate::specs::Steps::Block::indentless_entry))]
+    #[tactic(auto, unfolding(crate::specs::Steps::Block::indentless_sequence_entry))]
     pub(super) fn indentless_sequence_entry<'input>(
         &mut self,
         next: &mut (Event<'input>, Span),
     ) -> Result<(), Stop>
-        ensures { TellsBy spec.indentless_entry self.old result next.new self.new }
+        ensures { TellsBy spec.indentless_sequence_entry self.old result next.new self.new }
     {
         let token = self.take()?;
         match token.kind {
@@ -90,13 +90,13 @@ impl<T: Input> Machine<T> {
         Ok(())
     }
 
-    #[tactic(auto, unfolding(crate::specs::Steps::Block::indentless_node))]
+    #[tactic(auto, unfolding(crate::specs::Steps::Block::indentless_sequence_node))]
     fn indentless_sequence_node<'input>(
         &mut self,
         dash: Span,
         next: &mut (Event<'input>, Span),
     ) -> Result<(), Stop>
-        ensures { TellsBy (spec.indentless_node dash) self.old result next.new self.new }
+        ensures { TellsBy (spec.indentless_sequence_node dash) self.old result next.new self.new }
     {
         let token = self.take()?;
         match token.kind {
@@ -114,12 +114,12 @@ impl<T: Input> Machine<T> {
     }
 
     // A key of a block mapping, or its end.
-    #[tactic(auto, unfolding(crate::specs::Steps::Block::mapping_key))]
+    #[tactic(auto, unfolding(crate::specs::Steps::Block::block_mapping_key))]
     pub(super) fn block_mapping_key<'input>(
         &mut self,
         next: &mut (Event<'input>, Span),
     ) -> Result<(), Stop>
-        ensures { TellsBy spec.mapping_key self.old result next.new self.new }
+        ensures { TellsBy spec.block_mapping_key self.old result next.new self.new }
     {
         let token = self.take()?;
         match token.kind {

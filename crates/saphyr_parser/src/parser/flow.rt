@@ -17,12 +17,12 @@ impl<T: Input> Machine<T> {
 
     // The first entry of a flow sequence, or the one behind a comma, or the end of the sequence.
     #[inline(always)]
-    #[tactic(auto, unfolding(crate::specs::Steps::Flow::first_entry))]
+    #[tactic(auto, unfolding(crate::specs::Steps::Flow::flow_sequence_first_entry))]
     pub(super) fn flow_sequence_first_entry<'input>(
         &mut self,
         next: &mut (Event<'input>, Span),
     ) -> Result<(), Stop>
-        ensures { TellsBy spec.first_entry self.old result next.new self.new }
+        ensures { TellsBy spec.flow_sequence_first_entry self.old result next.new self.new }
     {
         let token = self.take()?;
         match token.kind {
@@ -43,12 +43,12 @@ impl<T: Input> Machine<T> {
 
     // The comma before an entry of a flow sequence, with the entry, or the end of the sequence.
     #[inline(always)]
-    #[tactic(auto, unfolding(crate::specs::Steps::Flow::other_entry))]
+    #[tactic(auto, unfolding(crate::specs::Steps::Flow::flow_sequence_entry))]
     pub(super) fn flow_sequence_entry<'input>(
         &mut self,
         next: &mut (Event<'input>, Span),
     ) -> Result<(), Stop>
-        ensures { TellsBy spec.other_entry self.old result next.new self.new }
+        ensures { TellsBy spec.flow_sequence_entry self.old result next.new self.new }
     {
         let token = self.take()?;
         match token.kind {
@@ -64,12 +64,12 @@ impl<T: Input> Machine<T> {
     }
 
     // The key of a pair of a flow sequence, behind its `?`. One that is left out leaves what follows it.
-    #[tactic(auto, unfolding(crate::specs::Steps::Flow::pair_key))]
+    #[tactic(auto, unfolding(crate::specs::Steps::Flow::flow_sequence_entry_mapping_key))]
     pub(super) fn flow_sequence_entry_mapping_key<'input>(
         &mut self,
         next: &mut (Event<'input>, Span),
     ) -> Result<(), Stop>
-        ensures { TellsBy spec.pair_key self.old result next.new self.new }
+        ensures { TellsBy spec.flow_sequence_entry_mapping_key self.old result next.new self.new }
     {
         let token = self.take()?;
         match token.kind {
@@ -88,12 +88,12 @@ impl<T: Input> Machine<T> {
     }
 
     // The value of a pair of a flow sequence.
-    #[tactic(auto, unfolding(crate::specs::Steps::Flow::pair_value))]
+    #[tactic(auto, unfolding(crate::specs::Steps::Flow::flow_sequence_entry_mapping_value))]
     pub(super) fn flow_sequence_entry_mapping_value<'input>(
         &mut self,
         next: &mut (Event<'input>, Span),
     ) -> Result<(), Stop>
-        ensures { TellsBy spec.pair_value self.old result next.new self.new }
+        ensures { TellsBy spec.flow_sequence_entry_mapping_value self.old result next.new self.new }
     {
         let token = self.take()?;
         match token.kind {
@@ -113,12 +113,12 @@ impl<T: Input> Machine<T> {
 
     // The node behind the colon of a pair of a flow sequence. The pair's end has its place behind the
     // node's first token.
-    #[tactic(auto, unfolding(crate::specs::Steps::Flow::pair_value_node))]
+    #[tactic(auto, unfolding(crate::specs::Steps::Flow::flow_sequence_entry_mapping_node))]
     fn flow_sequence_entry_mapping_node<'input>(
         &mut self,
         next: &mut (Event<'input>, Span),
     ) -> Result<(), Stop>
-        ensures { TellsBy spec.pair_value_node self.old result next.new self.new }
+        ensures { TellsBy spec.flow_sequence_entry_mapping_node self.old result next.new self.new }
     {
         let token = self.take()?;
         let span = token.span;
@@ -133,13 +133,14 @@ impl<T: Input> Machine<T> {
     }
 
     // The end of a pair of a flow sequence.
-    #[tactic(auto, unfolding(crate::specs::Steps::Flow::pair_end))]
+    #[tactic(auto, unfolding(crate::specs::Steps::Flow::flow_sequence_entry_mapping_end))]
     pub(super) fn flow_sequence_entry_mapping_end<'input>(
         &mut self,
         place: Marker,
         next: &mut (Event<'input>, Span),
     ) -> Result<(), Stop>
-        ensures { TellsBy (spec.pair_end place) self.old result next.new self.new }
+        ensures { TellsBy (spec.flow_sequence_entry_mapping_end place) self.old result next.new
+            self.new }
     {
         self.state = State::FlowSequenceEntry;
         let span = Span {
@@ -152,12 +153,12 @@ impl<T: Input> Machine<T> {
     }
 
     // The first pair of a flow mapping, or its end.
-    #[tactic(auto, unfolding(crate::specs::Steps::Flow::first_pair))]
+    #[tactic(auto, unfolding(crate::specs::Steps::Flow::flow_mapping_first_key))]
     pub(super) fn flow_mapping_first_key<'input>(
         &mut self,
         next: &mut (Event<'input>, Span),
     ) -> Result<(), Stop>
-        ensures { TellsBy spec.first_pair self.old result next.new self.new }
+        ensures { TellsBy spec.flow_mapping_first_key self.old result next.new self.new }
     {
         let token = self.take()?;
         let span = token.span;
@@ -167,12 +168,12 @@ impl<T: Input> Machine<T> {
 
     // The comma before a pair of a flow mapping, with its key, or the end of the mapping.
     #[inline(always)]
-    #[tactic(auto, unfolding(crate::specs::Steps::Flow::other_pair))]
+    #[tactic(auto, unfolding(crate::specs::Steps::Flow::flow_mapping_key))]
     pub(super) fn flow_mapping_key<'input>(
         &mut self,
         next: &mut (Event<'input>, Span),
     ) -> Result<(), Stop>
-        ensures { TellsBy spec.other_pair self.old result next.new self.new }
+        ensures { TellsBy spec.flow_mapping_key self.old result next.new self.new }
     {
         let token = self.take()?;
         match token.kind {
@@ -188,13 +189,14 @@ impl<T: Input> Machine<T> {
     }
 
     #[inline(always)]
-    #[tactic(auto, unfolding(crate::specs::Steps::Flow::pair_behind_comma))]
+    #[tactic(auto, unfolding(crate::specs::Steps::Flow::flow_mapping_pair_behind_comma))]
     fn flow_mapping_pair_behind_comma<'input>(
         &mut self,
         comma: Span,
         next: &mut (Event<'input>, Span),
     ) -> Result<(), Stop>
-        ensures { TellsBy (spec.pair_behind_comma comma) self.old result next.new self.new }
+        ensures { TellsBy (spec.flow_mapping_pair_behind_comma comma) self.old result next.new
+            self.new }
     {
         let token = self.take()?;
         self.flow_mapping_pair(comma, token, next)?;
@@ -210,7 +212,7 @@ impl<T: Input> Machine<T> {
         next: &mut (Event<'input>, Span),
     ) -> Result<(), Stop>
         requires { self.old.token ≡ None }
-        ensures { TellsBy (spec.pair_at (piece token).kind end (piece token))
+        ensures { TellsBy (spec.flow_mapping_pair_at (piece token).kind end (piece token))
             self.old result next.new self.new }
     {
         match token.kind {
@@ -285,12 +287,12 @@ impl<T: Input> Machine<T> {
     }
 
     // The value of a pair that has a key alone.
-    #[tactic(auto, unfolding(crate::specs::Steps::Flow::empty_value))]
+    #[tactic(auto, unfolding(crate::specs::Steps::Flow::flow_mapping_empty_value))]
     pub(super) fn flow_mapping_empty_value<'input>(
         &mut self,
         next: &mut (Event<'input>, Span),
     ) -> Result<(), Stop>
-        ensures { TellsBy spec.empty_value self.old result next.new self.new }
+        ensures { TellsBy spec.flow_mapping_empty_value self.old result next.new self.new }
     {
         let token = self.take()?;
         let span = token.span;

@@ -73,8 +73,9 @@ put_same m k n o kind q r e =
 -- ## The end of the stream
 
 pub stream_same : (text : List ℕ) (c : Core) (x : Indexes) (q r : Queue) → Twin text c x → SameQueues q r
-    → GiveAlike (States text) (document.end_stream (holding c q)) (document.end_stream (holding (near_core x c) r))
-unfolding document.end_stream document.end_at
+    → GiveAlike (States text) (document.state_behind_end (holding c q)) (document.state_behind_end
+    (holding (near_core x c) r))
+unfolding document.state_behind_end document.end_at
 stream_same text c x q r t e =
     both_choose (States text) (length c.cursor.rest == 0) (length (normalized c.cursor.rest) == 0) _ _ _ _
     (normal_none c.cursor.rest)
@@ -155,8 +156,9 @@ three_still s t e k = let P : Cursor → Type 0 = λ u. Three u.rest in subst P 
 
 marker_same : (text : List ℕ) (kind : Kind) (c : Core) (x : Indexes) (q r : Queue) → Twin text c x → SameQueues q r
     → Three c.cursor.rest
-    → GiveAlike (States text) (document.marker kind (holding c q)) (document.marker kind (holding (near_core x c) r))
-unfolding document.marker
+    → GiveAlike (States text) (document.state_behind_marker kind (holding c q)) (document.state_behind_marker kind
+    (holding (near_core x c) r))
+unfolding document.state_behind_marker
 marker_same text kind c x q r t e three =
     content_then text (States text) c x q r _ _ t e
     (λ d y u v w m f. (
@@ -168,8 +170,8 @@ marker_same text kind c x q r t e three =
 
 pub start_marker_same : (text : List ℕ) (c : Core) (x : Indexes) (q r : Queue) → Twin text c x → SameQueues q r
     → is_document_start c.cursor.rest ≡ true
-    → GiveAlike (States text) (document.marker tokens.DocumentStart (holding c q))
-    (document.marker tokens.DocumentStart (holding (near_core x c) r))
+    → GiveAlike (States text) (document.state_behind_marker tokens.DocumentStart (holding c q))
+    (document.state_behind_marker tokens.DocumentStart (holding (near_core x c) r))
 start_marker_same text c x q r t e k =
     marker_same text tokens.DocumentStart c x q r t e (three_marks 45 refl refl c.cursor.rest _ k)
 
@@ -199,8 +201,9 @@ behind_marker_same text c x q r laws t e = by (separate c) (separate (near_core 
 
 pub end_marker_same : (text : List ℕ) (c : Core) (x : Indexes) (q r : Queue) → Laws text → Twin text c x
     → SameQueues q r → is_document_end c.cursor.rest ≡ true
-    → GiveAlike (States text) (document.end_marker (holding c q)) (document.end_marker (holding (near_core x c) r))
-unfolding document.end_marker
+    → GiveAlike (States text) (document.state_behind_document_end (holding c q)) (document.state_behind_document_end
+    (holding (near_core x c) r))
+unfolding document.state_behind_document_end
 end_marker_same text c x q r laws t e k =
     both_then (States text) (States text) _ _ _ _
     (marker_same text tokens.DocumentEnd c x q r t e (three_marks 46 refl refl c.cursor.rest _ k))

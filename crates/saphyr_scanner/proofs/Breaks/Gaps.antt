@@ -7,7 +7,7 @@ use Rattle.saphyr_scalar.specs.declared.scalar.position.Marker.{Marker}
 use Rattle.saphyr_scalar.specs.declared.scalar.fault.Refusal.{Refusal}
 use Rattle.saphyr_scalar.specs.Views.Cursor.{Cursor, along, next_line}
 use Rattle.saphyr_scalar.proofs.Breaks.Sides.{Normal, normalized_is, nothing, character, feed, return, pair}
-use Rattle.saphyr_scanner.specs.Steps.Gap.{GapEnd, SpacesEnd, stop, gap, comment, spaces, line_comment, is_tab_indentation}
+use Rattle.saphyr_scanner.specs.Steps.Gap.{GapEnd, SpacesEnd, stop, end_of_gap, end_of_gap_in_comment, end_of_spaces, end_of_spaces_in_comment, is_tab_indentation}
 use Rattle.saphyr_scalar.specs.Alike.{GiveAlike}
 use Rattle.saphyr_scanner.proofs.Breaks.Normal.{beside}
 use Rattle.saphyr_scanner.proofs.Breaks.Places.{reindexed, near, Ahead, Stand, Low, ahead_ahead, ahead_stands, stand_here}
@@ -45,10 +45,10 @@ stop_alike text t n m i blank broke tabbed e f k x =
 
 -- What is passed from here on, and in a comment.
 record Gaps (text : List ℕ) (least : ℕ) (t n : List ℕ) (m : Marker) (i : ℕ) (blank broke tabbed : Bool) : Type 0 where
-  between : GiveAlike (PassesAlike text (cursor_at t m blank) i) (gap least m blank broke tabbed t)
-      (gap least (reindexed i m) blank broke tabbed n)
-  inside : GiveAlike (PassesAlike text (cursor_at t m blank) i) (comment least m blank broke tabbed t)
-      (comment least (reindexed i m) blank broke tabbed n)
+  between : GiveAlike (PassesAlike text (cursor_at t m blank) i) (end_of_gap least m blank broke tabbed t)
+      (end_of_gap least (reindexed i m) blank broke tabbed n)
+  inside : GiveAlike (PassesAlike text (cursor_at t m blank) i) (end_of_gap_in_comment least m blank broke tabbed t)
+      (end_of_gap_in_comment least (reindexed i m) blank broke tabbed n)
 
 not_cut : (c : ℕ) (t n : List ℕ) → (c == 13) ≡ false
     → ((c == 13) && (slice_index n 0 == 10)) ≡ ((c == 13) && (slice_index t 0 == 10))
@@ -110,8 +110,8 @@ all_gaps text least _ _ (return {r = t} {q = n} e w) m i blank broke tabbed low 
     record { between = rw e h; inside = rw e h }
 
 pub gap_alike : (text : List ℕ) (least : ℕ) (s : Cursor) (i : ℕ) (broke tabbed : Bool) → Low s → Stand text s i
-    → GiveAlike (PassesAlike text s i) (gap least s.mark s.blank_so_far broke tabbed s.rest)
-    (gap least (near i s).mark s.blank_so_far broke tabbed (normalized s.rest))
+    → GiveAlike (PassesAlike text s i) (end_of_gap least s.mark s.blank_so_far broke tabbed s.rest)
+    (end_of_gap least (near i s).mark s.blank_so_far broke tabbed (normalized s.rest))
 gap_alike text least s i broke tabbed low x =
     (all_gaps text least s.rest (normalized s.rest)
     (beside s.rest) s.mark i s.blank_so_far broke tabbed low x).between
@@ -126,14 +126,16 @@ spaces_end_further : (text : List ℕ) (s : Cursor) (i : ℕ) (t : Cursor) (j : 
 spaces_end_further text s i t j g h x p = (p.0, p.1, ahead_ahead text s i t j g.cursor p.0 x p.2)
 
 record Spacing (text : List ℕ) (t n : List ℕ) (m : Marker) (i : ℕ) (blank space : Bool) : Type 0 where
-  between : Spaces text (cursor_at t m blank) i (spaces m blank space t) (spaces (reindexed i m) blank space n)
-  inside : Spaces text (cursor_at t m blank) i (line_comment m blank space t)
-      (line_comment (reindexed i m) blank space n)
+  between : Spaces text (cursor_at t m blank) i (end_of_spaces m blank space t)
+      (end_of_spaces (reindexed i m) blank space n)
+  inside : Spaces text (cursor_at t m blank) i (end_of_spaces_in_comment m blank space t)
+      (end_of_spaces_in_comment (reindexed i m) blank space n)
 
 all_spaces : (text : List ℕ) (t n : List ℕ) → Normal t n → (m : Marker) (i : ℕ) (blank space : Bool)
     → m.line + length t ≤ 2 ^ 63 → Stand text (cursor_at t m blank) i → Spacing text t n m i blank space
 all_spaces text _ _ nothing m i blank space low x =
-    let h : Spaces text (cursor_at [] m blank) i (spaces m blank space []) (spaces (reindexed i m) blank space []) =
+    let h : Spaces text (cursor_at [] m blank) i (end_of_spaces m blank space [])
+    (end_of_spaces (reindexed i m) blank space []) =
     (i, refl, stand_here text (cursor_at [] m blank) i x) in record { between = h; inside = h }
 all_spaces text _ _ (character c {r = t} {q = n} ink w) m i blank space low x =
     let P = Spaces text (cursor_at (c ∷ t) m blank) i in
@@ -191,7 +193,7 @@ all_spaces text _ _ (return {r = t} {q = n} e w) m i blank space low x =
     record { between = rw e h; inside = rw e h }
 
 pub spaces_alike : (text : List ℕ) (s : Cursor) (i : ℕ) (space : Bool) → Low s → Stand text s i
-    → Spaces text s i (spaces s.mark s.blank_so_far space s.rest)
-    (spaces (near i s).mark s.blank_so_far space (normalized s.rest))
+    → Spaces text s i (end_of_spaces s.mark s.blank_so_far space s.rest)
+    (end_of_spaces (near i s).mark s.blank_so_far space (normalized s.rest))
 spaces_alike text s i space low x =
     (all_spaces text s.rest (normalized s.rest) (beside s.rest) s.mark i s.blank_so_far space low x).between

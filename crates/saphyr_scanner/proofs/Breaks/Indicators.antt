@@ -13,7 +13,7 @@ use Rattle.saphyr_scanner.specs.Grammar.Tokens.{Kind}
 use Rattle.saphyr_scanner.specs.Steps.Block as block
 use Rattle.saphyr_scanner.specs.Steps.Core.{Core, Put, in_block, save_key, remove_key, go_deeper, roll, is_further, forget_key, with_context}
 use Rattle.saphyr_scanner.specs.Steps.Level.{Candidate, Level, ends_pair, behind_entry, behind_question, begins_pair, behind_colon}
-use Rattle.saphyr_scanner.specs.Steps.Fetch.{flow_value}
+use Rattle.saphyr_scanner.specs.Steps.Fetch.{flow_value_steps}
 use Rattle.saphyr_scanner.specs.Steps.Flow as flow
 use Rattle.saphyr_scanner.specs.Steps.Gap as gaps
 use Rattle.saphyr_scanner.specs.Steps.Passing.{pass_on, with_cursor}
@@ -186,8 +186,8 @@ adjacent_same text c x t =
 
 pub flow_value_same : (text : List ℕ) (second other : ℕ) (c : Core) (x : Indexes) → Laws text → Twin text c x
     → Inked c.cursor.rest → ((other == 91) || (other == 123)) ≡ ((second == 91) || (second == 123))
-    → GiveAlike (SameSteps text) (flow_value second c) (flow_value other (near_core x c))
-unfolding flow_value
+    → GiveAlike (SameSteps text) (flow_value_steps second c) (flow_value_steps other (near_core x c))
+unfolding flow_value_steps
 flow_value_same text second other c x laws t ink e =
     both_choose (SameSteps text) (not (c.cursor.mark.index == c.adjacent) && ((second == 91) || (second == 123)))
     (not (x.at == x.adjacent) && ((other == 91) || (other == 123))) _ _ _ _
@@ -262,8 +262,8 @@ next_same text c x laws t ink =
         (remove_still text d z v)
 
 pub block_entry_same : (text : List ℕ) (c : Core) (x : Indexes) → Laws text → Twin text c x → Inked c.cursor.rest
-    → GiveAlike (SameSteps text) (block.entry c) (block.entry (near_core x c))
-unfolding block.entry
+    → GiveAlike (SameSteps text) (block.block_entry_steps c) (block.block_entry_steps (near_core x c))
+unfolding block.block_entry_steps
 block_entry_same text c x laws t ink =
     both_choose (SameSteps text) (not (in_block c)) (not (in_block c)) _ _ _ _ refl (λ _. refl)
     (λ _. both_choose (SameSteps text) (not c.key_allowed) (not c.key_allowed) _ _ _ _ refl (λ _. refl)
@@ -313,8 +313,8 @@ begin_same text c x laws t ink =
     (still_inked c.cursor d.cursor (g ∙ e) ink)))
 
 pub key_same : (text : List ℕ) (c : Core) (x : Indexes) → Laws text → Twin text c x → Inked c.cursor.rest
-    → GiveAlike (SameSteps text) (block.key c) (block.key (near_core x c))
-unfolding block.key
+    → GiveAlike (SameSteps text) (block.key_steps c) (block.key_steps (near_core x c))
+unfolding block.key_steps
 key_same text c x laws t ink =
     both_choose (SameSteps text) (in_block c && not c.key_allowed) (in_block c && not c.key_allowed) _ _ _ _ refl
     (λ _. refl)

@@ -21,7 +21,7 @@ use Rattle.saphyr_scanner.specs.Steps.Passing.{with_cursor}
 use Rattle.saphyr_scanner.specs.Steps.State.{on_core_with}
 use Rattle.saphyr_scanner.specs.Steps.State.{State}
 use Rattle.saphyr_scanner.specs.Steps.Unrolling.{unroll}
-use Rattle.saphyr_scanner.specs.Steps.Document.{end_content, marker, end_line, end_marker, state_behind_byte_order_mark}
+use Rattle.saphyr_scanner.specs.Steps.Document.{end_content, state_behind_marker, end_line, state_behind_document_end, state_behind_byte_order_mark}
 use Rattle.saphyr_scanner.specs.Steps.Fetch.{fetch_here}
 use Rattle.saphyr_scanner.proofs.Leads.{LeadsTo}
 use Rattle.saphyr_scanner.proofs.Flow.States.{moved, past}
@@ -60,7 +60,7 @@ pub start_here : (m : Marker) (blank : Bool) (r : List ℕ) (k : Option Candidat
     → fetch_here (state_at false (cursor_at (45 ∷ 45 ∷ 45 ∷ r) m blank) context.Block k [] a ad ps)
     ≡ Ok (state_at false (cursor_at r (along m 3) false) context.Block None [] false ad
     (ps ++ bare_place (piece_of m (along m 3) tokens.DocumentStart) ∷ []))
-unfolding fetch_here marker end_content remove_key unroll
+unfolding fetch_here state_behind_marker end_content remove_key unroll
 start_here m blank r k a ad ps col h = rw (eq-eqb m.col 0 col, h) refl
 
 off_line : (n : ℕ) → (n + 3 == 0) ≡ false
@@ -129,7 +129,7 @@ pub end_here : (m n : Marker) (blank : Bool) (r more : List ℕ) (found : SkipTa
     → fetch_here (state_at false (cursor_at (46 ∷ 46 ∷ 46 ∷ r) m blank) context.Block k [] a ad ps)
     ≡ Ok (state_at false (cursor_at more n false) context.Block None [] false ad
     (ps ++ bare_place (piece_of m (along m 3) tokens.DocumentEnd) ∷ []))
-unfolding fetch_here end_marker marker end_content remove_key unroll end_line
+unfolding fetch_here state_behind_document_end state_behind_marker end_content remove_key unroll end_line
 end_here m n blank r more found k a ad ps col first is h =
     let c = core_at false (cursor_at r (along m 3) false) context.Block None [] false ad in
     let t = state_at false (cursor_at r (along m 3) false) context.Block None [] false ad

@@ -97,8 +97,8 @@ next_entry_does c e first second =
 
 pub block_entry_does : (c : Core) → slice_index c.cursor.rest 0 ≡ 45
     → is_blank_or_breakz (slice_index c.cursor.rest 1) ≡ true
-    → Walked (Premises c) (Doing None c) c.cursor (block.entry c)
-unfolding block.entry
+    → Walked (Premises c) (Doing None c) c.cursor (block.block_entry_steps c)
+unfolding block.block_entry_steps
 block_entry_does c first second =
     let P = Walked (Premises c) (Doing None c) c.cursor in
     by_test (not (in_block c)) _ _ P (λ _ _. at_here c.cursor)
@@ -146,8 +146,8 @@ question_block context.FlowPair = refl
 question_block _ = refl
 
 pub key_does : (c : Core) → slice_index c.cursor.rest 0 ≡ 63 → is_blank_or_breakz (slice_index c.cursor.rest 1) ≡ true
-    → Walked (Premises c) (Doing None c) c.cursor (block.key c)
-unfolding block.key block.begin_key
+    → Walked (Premises c) (Doing None c) c.cursor (block.key_steps c)
+unfolding block.key_steps block.begin_key
 key_does c first second =
     let s = c.cursor in
     let x = behind_question c.level.context in

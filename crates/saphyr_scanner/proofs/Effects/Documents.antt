@@ -106,8 +106,8 @@ spelled c d kind text is i some q e s token =
 pub marker_walked : (stands : List ℕ → Bool) (text : List ℕ) (kind : Kind) → Marking stands text kind → IsNoEnd kind
     → (s : State) → s.core.cursor.mark.col ≡ 0 → stands s.core.cursor.rest ≡ true
     → Walked (Premises s.core) (λ (t : State). Documented s t × (t.core.cursor ≡ pass 3 s.core.cursor)) s.core.cursor
-    (document.marker kind s)
-unfolding document.marker
+    (document.state_behind_marker kind s)
+unfolding document.state_behind_marker
 marker_walked stands text kind marking no_end s col e =
     walked_then (Premises s.core) (Content s)
     (λ (t : State). Documented s t × (t.core.cursor ≡ pass 3 s.core.cursor)) s.core.cursor (document.end_content s) _
@@ -132,9 +132,9 @@ marker_walked stands text kind marking no_end s col e =
 
 pub start_walked : (stands : List ℕ → Bool) (text : List ℕ) (kind : Kind) → Marking stands text kind → IsNoEnd kind
     → (s : State) → s.core.cursor.mark.col ≡ 0 → stands s.core.cursor.rest ≡ true
-    → Walked (Premises s.core) (Documented s) s.core.cursor (document.marker kind s)
+    → Walked (Premises s.core) (Documented s) s.core.cursor (document.state_behind_marker kind s)
 start_walked stands text kind marking no_end s col e =
-    weaker (document.marker kind s) (marker_walked stands text kind marking no_end s col e)
+    weaker (document.state_behind_marker kind s) (marker_walked stands text kind marking no_end s col e)
   where
     weaker : (r : Result State Refusal)
         → Walked (Premises s.core) (λ (t : State). Documented s t × (t.core.cursor ≡ pass 3 s.core.cursor))
@@ -150,12 +150,12 @@ three_reached x s z b e =
     subst P (sym three) (along_reached s.mark (x ∷ x ∷ x ∷ []) (drop 3 s.rest) (b, (b, (b, tt))))
 
 pub end_marker_walked : (s : State) → s.core.cursor.mark.col ≡ 0 → is_document_end s.core.cursor.rest ≡ true
-    → Walked (Premises s.core) (Documented s) s.core.cursor (document.end_marker s)
-unfolding document.end_marker document.end_line
+    → Walked (Premises s.core) (Documented s) s.core.cursor (document.state_behind_document_end s)
+unfolding document.state_behind_document_end document.end_line
 end_marker_walked s col e =
     let here = s.core.cursor in
     walked_then (Premises s.core) (λ (t : State). Documented s t × (t.core.cursor ≡ pass 3 here)) (Documented s) here
-    (document.marker tokens.DocumentEnd s) _
+    (document.state_behind_marker tokens.DocumentEnd s) _
     (marker_walked is_document_end (codes "...") tokens.DocumentEnd end_marking (λ i. absurd (cc)) s col e)
     (λ t g. by t g.0 (there t g.1) (separate t.core) (separate_walked s.core here t.core (λ _. there t g.1)))
   where

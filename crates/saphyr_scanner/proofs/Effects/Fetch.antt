@@ -147,8 +147,8 @@ finish_fetched m s going i = record {
 end_mark_index : (m : Marker) → (document.end_mark m).index ≡ m.index
 end_mark_index m = by_test (m.col == 0) _ _ (λ (k : Marker). k.index ≡ m.index) (λ _. refl) (λ _. omega arith)
 
-end_fetched : (s : State) → s.core.ended ≡ false → Given (Fetched s) (document.end_stream s)
-unfolding document.end_stream document.end_at
+end_fetched : (s : State) → s.core.ended ≡ false → Given (Fetched s) (document.state_behind_end s)
+unfolding document.state_behind_end document.end_at
 end_fetched s going =
     let m : Marker = document.end_mark s.core.cursor.mark in
     let t : State = unroll None m s in

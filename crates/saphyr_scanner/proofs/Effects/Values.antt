@@ -184,8 +184,8 @@ value_does c first =
     (λ e. ap (λ (l : Level). is_block l.context) g.0.0 ∙ pair_flows c.level.context e)))
 
 pub flow_value_does : (second : ℕ) (c : Core) → slice_index c.cursor.rest 0 ≡ 58
-    → Walked (Premises c) (Doing None c) c.cursor (fetching.flow_value second c)
-unfolding fetching.flow_value
+    → Walked (Premises c) (Doing None c) c.cursor (fetching.flow_value_steps second c)
+unfolding fetching.flow_value_steps
 flow_value_does second c first =
     by_test (not (c.cursor.mark.index == c.adjacent) && ((second == 91) || (second == 123))) _ _
     (Walked (Premises c) (Doing None c) c.cursor) (λ _ _. at_here c.cursor) (λ _. value_does c first)

@@ -20,7 +20,7 @@ use Rattle.saphyr_scanner.specs.Steps.Level.{Candidate, Level, is_block, begins_
 use Rattle.saphyr_scanner.specs.Steps.Passing.{with_cursor}
 use Rattle.saphyr_scanner.specs.Steps.Value as value
 use Rattle.saphyr_scanner.specs.Steps.Value.{check_tab, refuse_lone_tab, value_of_key, value_alone, behind_key}
-use Rattle.saphyr_scanner.specs.Steps.Fetch.{step, flow_value}
+use Rattle.saphyr_scanner.specs.Steps.Fetch.{step, flow_value_steps}
 use Rattle.saphyr_scanner.proofs.InFlow.States.{Around, required_at, core_at}
 use Rattle.saphyr_scanner.proofs.Flow.States.{past, IsParted, ends_colon}
 use Rattle.saphyr_scanner.proofs.Flow.Separates.{separates}
@@ -46,7 +46,7 @@ is_flow_or_blank c h e = (flow_one c h e, other c h e)
 pub colon_reads_value : (around : Around) (d : Bool) (second i : ℕ) (s : Cursor) (y : Context) (k : Option Candidate)
     (ls : List Level) (a : Bool) (ad : ℕ) → is_block y ≡ false → (s.mark.index ≡ ad) ⊎ IsTrue (ends_colon second)
     → step 58 second i (core_at around d s y k ls a ad) ≡ value.value_steps (core_at around d s y k ls a ad)
-unfolding step flow_value
+unfolding step flow_value_steps
 colon_reads_value around d second i s y k ls a ad e (inl f) =
     let c = core_at around d s y k ls a ad in
     by_test (is_blank_or_breakz second) (value.value_steps c) _ (λ (r : StepResult). r ≡ value.value_steps c)

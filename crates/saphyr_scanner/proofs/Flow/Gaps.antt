@@ -5,7 +5,7 @@ use Rattle.std.proofs.lemmas.Bool.Decides.{nat_tests}
 use Rattle.saphyr_input.specs.Classes.{is_blank, is_break, is_yaml_non_break}
 use Rattle.saphyr_scalar.specs.declared.scalar.position.Marker.{Marker}
 use Rattle.saphyr_scalar.specs.Views.Cursor.{along, next_line}
-use Rattle.saphyr_scanner.specs.Steps.Gap.{stop, is_tab_indentation, gap, comment}
+use Rattle.saphyr_scanner.specs.Steps.Gap.{stop, is_tab_indentation, end_of_gap, end_of_gap_in_comment}
 use Rattle.saphyr_scanner.proofs.Flow.States.{is_left_tab, past, past_comment, is_filler_rest, is_comment_rest}
 use Rattle.saphyr_input.proofs.Basics.Booleans.{clash, and_true_left, and_true_right}
 use Rattle.std.proofs.lemmas.Bool.{or_parts}
@@ -19,14 +19,14 @@ pub record GapPast (column : ℕ) (m : Marker) (blank broke : Bool) (t : List �
   pub now_broke : Bool
   pub is : is_blank (slice_index (past column m t).1 0) ≡ false → (low : ℕ) → low ≤ column → (tab : Bool)
       → (tab ≡ true → is_filler_rest t ≡ true)
-      → gap low m blank broke tab t ≡ stop (past column m t).0 still_blank now_broke false (past column m t).1
+      → end_of_gap low m blank broke tab t ≡ stop (past column m t).0 still_blank now_broke false (past column m t).1
 
 record CommentPast (column : ℕ) (m : Marker) (blank broke : Bool) (t : List ℕ) : Type 0 where
   still_blank : Bool
   now_broke : Bool
   is : is_blank (slice_index (past_comment column m t).1 0) ≡ false → (low : ℕ) → low ≤ column → (tab : Bool)
       → (tab ≡ true → is_comment_rest t ≡ true)
-      → comment low m blank broke tab t
+      → end_of_gap_in_comment low m blank broke tab t
       ≡ stop (past_comment column m t).0 still_blank now_broke false (past_comment column m t).1
 
 -- no tab left of a column is none left of a lower one

@@ -9,7 +9,7 @@ use Rattle.saphyr_scalar.specs.Spelling.Spaces.{IsSeparation}
 use Rattle.saphyr_scanner.specs.declared.engine.level.Context.{Context}
 use Rattle.saphyr_scanner.specs.declared.engine.level.Context.TheVariants as context
 use Rattle.saphyr_scanner.specs.Grammar.FlowNodes.{has_tab_outside}
-use Rattle.saphyr_scanner.specs.Steps.Gap.{SpacesEnd, spaces_end, spaces}
+use Rattle.saphyr_scanner.specs.Steps.Gap.{SpacesEnd, spaces_end, end_of_spaces}
 use Rattle.saphyr_scanner.specs.Grammar.Tokens as tokens
 use Rattle.saphyr_scanner.specs.Steps.Core.{Core, from_to, up_to_here, completed_step, remove_key}
 use Rattle.saphyr_scanner.specs.Steps.Level.{Candidate, Level, is_block, behind_question}
@@ -56,7 +56,8 @@ white_first indent w y parts some =
     by_first c (inl h) = blank c h
     by_first c (inr e) = ap is_blank_or_breakz e
 
-question_reads_key : (second i : ℕ) (c : Core) → is_blank_or_breakz second ≡ true → step 63 second i c ≡ block.key c
+question_reads_key : (second i : ℕ) (c : Core) → is_blank_or_breakz second ≡ true
+    → step 63 second i c ≡ block.key_steps c
 unfolding step
 question_reads_key second i c h = rw h refl
 
@@ -74,7 +75,7 @@ begins_key around d s context.MarkedFlowPair k ls a ad e = refl
 
 passes_mark : (around : Around) (d : Bool) (o : List ℕ) (m : Marker) (b : Bool) (y : Context) (ls : List Level) (ad : ℕ)
     (n : Marker) (blank : Bool) (c : ℕ) (cs : List ℕ) → IsInk c
-    → spaces (along m 1) false false o ≡ spaces_end n blank true (c ∷ cs)
+    → end_of_spaces (along m 1) false false o ≡ spaces_end n blank true (c ∷ cs)
     → pass_question (core_at around d (cursor_at (63 ∷ o) m b) y None ls false ad)
     ≡ Ok (core_at around d (cursor_at (c ∷ cs) n blank) y None ls false ad)
 unfolding behind_mark
@@ -92,9 +93,9 @@ question_flows context.MarkedFlowPair e = refl
 
 key_of : (around : Around) (d : Bool) (s : Cursor) (y : Context) (k : Option Candidate) (ls : List Level) (a : Bool)
     (ad : ℕ) → is_block y ≡ false
-    → block.key (core_at around d s y k ls a ad)
+    → block.key_steps (core_at around d s y k ls a ad)
     ≡ (begin_key (core_at around d s y k ls a ad) >>= λ e. completed_step (up_to_here s.mark tokens.Key e ∷ []) e)
-unfolding block.key
+unfolding block.key_steps
 key_of around d s context.Block k ls a ad e = absurd (true≢false e)
 key_of around d s context.FlowSequence k ls a ad e = refl
 key_of around d s context.FlowMapping k ls a ad e = refl
@@ -127,7 +128,7 @@ mark_passes around y flows m o fits parted some tabs now before text =
     ∙ ap (λ q. q >>= λ (e : Core). completed_step (up_to_here m tokens.Key e ∷ []) e)
     (begins_key around d seen y v.key now.outer v.allowed now.adjacent flows
     ∙ passes_mark around d o m v.blank (behind_question y) now.outer now.adjacent n p.still_blank c cs parted.ink
-    (ap (spaces (along m 1) false false) parted.is ∙ p.is)) in
+    (ap (end_of_spaces (along m 1) false false) parted.is ∙ p.is)) in
     let lands : past around.indent there.mark there.rest ≡ past around.indent (along m 1) o =
     sym (ap (past around.indent (along m 1)) parted.is
     ∙ separation_past around.indent (along m 1) w (c ∷ cs) parted.parts on) in

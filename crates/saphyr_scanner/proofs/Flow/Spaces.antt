@@ -10,7 +10,7 @@ use Rattle.saphyr_scalar.specs.Steps.BlockRead.{spaces as spaces_of}
 use Rattle.saphyr_scalar.specs.Spelling.Tag.{AreIn}
 use Rattle.saphyr_scalar.specs.Spelling.Spaces.{joined_pieces, AreEach, IsCommentBehind, IsSeparationLine, IsSeparation}
 use Rattle.saphyr_scanner.specs.Grammar.FlowNodes.{has_tab_outside}
-use Rattle.saphyr_scanner.specs.Steps.Gap.{spaces_end, spaces, line_comment}
+use Rattle.saphyr_scanner.specs.Steps.Gap.{spaces_end, end_of_spaces, end_of_spaces_in_comment}
 use Rattle.saphyr_scanner.proofs.Flow.States.{moved, is_left_tab, past, past_comment, IsInk}
 use Rattle.saphyr_scanner.proofs.Flow.GapSteps.{past_ink, comment_shorter}
 use Rattle.saphyr_scanner.proofs.Flow.Fillers.{separation_past}
@@ -23,13 +23,13 @@ use Rattle.saphyr_input.proofs.Basics.Characters.{ink_no_space, non_break_no_bre
 record Spaces (m : Marker) (blank space : Bool) (w y : List ℕ) (n : Marker) : Type 0 where
   still_blank : Bool
   some : Bool
-  is : spaces m blank space (w ++ y) ≡ spaces_end n still_blank some y
+  is : end_of_spaces m blank space (w ++ y) ≡ spaces_end n still_blank some y
   has : space ≡ true → some ≡ true
 
 record Comment (m : Marker) (blank space : Bool) (w y : List ℕ) (n : Marker) : Type 0 where
   still_blank : Bool
   some : Bool
-  is : line_comment m blank space (w ++ y) ≡ spaces_end n still_blank some y
+  is : end_of_spaces_in_comment m blank space (w ++ y) ≡ spaces_end n still_blank some y
   has : space ≡ true → some ≡ true
 
 -- what is outside comments behind a character
@@ -65,7 +65,7 @@ spaces_end_at_ink : (column : ℕ) (c : ℕ) (cs : List ℕ) → IsInk c → (m 
     → past column m (c ∷ cs) ≡ (n, c ∷ cs) → Spaces m blank space [] (c ∷ cs) n
 spaces_end_at_ink column c cs ink m blank space n e =
     let same : m ≡ n = place_of m n (c ∷ cs) (c ∷ cs) (sym (past_ink column m c cs ink) ∙ e) in
-    let here : spaces m blank space (c ∷ cs) ≡ spaces_end m blank space (c ∷ cs) =
+    let here : end_of_spaces m blank space (c ∷ cs) ≡ spaces_end m blank space (c ∷ cs) =
     rw (ink_no_space c ink.blank, ink.break, ink.comment, no_return_and c (slice_index cs 0 == 10) ink.break)
     refl in
     record {
@@ -92,7 +92,8 @@ spaces_kind column d ds y m blank space n tabs true q r e f g p on line sign =
     let k = on (outside d ds false (white_no_sign d (slice_index (ds ++ y) 0 == 10) e) tabs) (sym there ∙ p) in
     let white = ap (λ (b : Bool). b || ((d == 13) && (slice_index (ds ++ y) 0 == 10)))
     (sym (space_alone d (or_parts (d == tab) (has_tab_outside (d == 35) ds) tabs).0)) ∙ e in
-    let here : spaces m blank space (d ∷ (ds ++ y)) ≡ spaces (along m 1) blank true (ds ++ y) = rw white refl in
+    let here : end_of_spaces m blank space (d ∷ (ds ++ y)) ≡ end_of_spaces (along m 1) blank true (ds ++ y) =
+    rw white refl in
     record { still_blank = k.still_blank; some = k.some; is = here ∙ k.is; has = λ _. k.has refl }
 spaces_kind column d ds y m blank space n tabs false true r e f g p on line sign =
     let there : past column m (d ∷ (ds ++ y)) ≡ past column (next_line m 1) (ds ++ y) =
@@ -100,7 +101,8 @@ spaces_kind column d ds y m blank space n tabs false true r e f g p on line sign
     let k = line (outside d ds false (break_no_sign d f) tabs) (sym there ∙ p) in
     let white = ap (λ (b : Bool). b || ((d == 13) && (slice_index (ds ++ y) 0 == 10)))
     (sym (space_alone d (or_parts (d == tab) (has_tab_outside (d == 35) ds) tabs).0)) ∙ e in
-    let here : spaces m blank space (d ∷ (ds ++ y)) ≡ spaces (next_line m 1) true true (ds ++ y) = rw (white, f) refl in
+    let here : end_of_spaces m blank space (d ∷ (ds ++ y)) ≡ end_of_spaces (next_line m 1) true true (ds ++ y) =
+    rw (white, f) refl in
     record { still_blank = k.still_blank; some = k.some; is = here ∙ k.is; has = λ _. k.has refl }
 spaces_kind column d ds y m blank space n tabs false false true e f g p on line sign =
     let there : past column m (d ∷ (ds ++ y)) ≡ past_comment column (along m 1) (ds ++ y) =
@@ -108,7 +110,8 @@ spaces_kind column d ds y m blank space n tabs false false true e f g p on line 
     let k = sign (outside d ds true g tabs) (sym there ∙ p) in
     let white = ap (λ (b : Bool). b || ((d == 13) && (slice_index (ds ++ y) 0 == 10)))
     (sym (space_alone d (or_parts (d == tab) (has_tab_outside (d == 35) ds) tabs).0)) ∙ e in
-    let here : spaces m blank space (d ∷ (ds ++ y)) ≡ line_comment (along m 1) blank space (ds ++ y) =
+    let here : end_of_spaces m blank space (d ∷ (ds ++ y)) ≡ end_of_spaces_in_comment (along m 1) blank space
+    (ds ++ y) =
     rw (white, f, g) refl in
     record { still_blank = k.still_blank; some = k.some; is = here ∙ k.is; has = k.has }
 spaces_kind column d ds y m blank space n tabs false false false e f g p on line sign =
@@ -138,18 +141,21 @@ spaces_in_comment : (column : ℕ) (d : ℕ) (ds y : List ℕ) (m : Marker) (bla
 spaces_in_comment column d ds y m blank space n true q r e f g p tabs word on line =
     let there : past_comment column m (d ∷ (ds ++ y)) ≡ past_comment column (along m 1) (ds ++ y) = rw e refl in
     let k = word (behind_word d ds (non_break_no_break d e) tabs) (sym there ∙ p) in
-    let here : line_comment m blank space (d ∷ (ds ++ y)) ≡ line_comment (along m 1) blank space (ds ++ y) =
+    let here : end_of_spaces_in_comment m blank space (d ∷ (ds ++ y)) ≡ end_of_spaces_in_comment
+    (along m 1) blank space (ds ++ y) =
     rw e refl in
     record { still_blank = k.still_blank; some = k.some; is = here ∙ k.is; has = k.has }
 spaces_in_comment column d ds y m blank space n false true r e f g p tabs word on line =
     let there : past_comment column m (d ∷ (ds ++ y)) ≡ past column (along m 1) (ds ++ y) = rw (e, f) refl in
     let k = on (behind_break d ds (return_breaks d (slice_index (ds ++ y) 0 == 10) f) tabs) (sym there ∙ p) in
-    let here : line_comment m blank space (d ∷ (ds ++ y)) ≡ spaces (along m 1) blank true (ds ++ y) = rw (e, f) refl in
+    let here : end_of_spaces_in_comment m blank space (d ∷ (ds ++ y)) ≡ end_of_spaces (along m 1) blank true
+    (ds ++ y) = rw (e, f) refl in
     record { still_blank = k.still_blank; some = k.some; is = here ∙ k.is; has = λ _. k.has refl }
 spaces_in_comment column d ds y m blank space n false false true e f g p tabs word on line =
     let there : past_comment column m (d ∷ (ds ++ y)) ≡ past column (next_line m 1) (ds ++ y) = rw (e, f, g) refl in
     let k = line (behind_break d ds g tabs) (sym there ∙ p) in
-    let here : line_comment m blank space (d ∷ (ds ++ y)) ≡ spaces (next_line m 1) true true (ds ++ y) =
+    let here : end_of_spaces_in_comment m blank space (d ∷ (ds ++ y)) ≡ end_of_spaces (next_line m 1) true true
+    (ds ++ y) =
     rw (e, f, g) refl in
     record { still_blank = k.still_blank; some = k.some; is = here ∙ k.is; has = λ _. k.has refl }
 spaces_in_comment column d ds y m blank space n false false false e f g p tabs word on line =
@@ -174,7 +180,7 @@ comment_end column c cs ink m blank space n p = by_word (is_yaml_non_break c) re
         let r = no_return_and c (slice_index cs 0 == 10) ink.break in
         let there : past_comment column m (c ∷ cs) ≡ (m, c ∷ cs) = rw (e, ink.break, r) refl in
         let same : m ≡ n = place_of m n (c ∷ cs) (c ∷ cs) (sym there ∙ p) in
-        let here : line_comment m blank space (c ∷ cs) ≡ spaces_end m blank space (c ∷ cs) =
+        let here : end_of_spaces_in_comment m blank space (c ∷ cs) ≡ spaces_end m blank space (c ∷ cs) =
         rw (e, ink.break, r) refl in
         record {
           still_blank = blank;
@@ -246,7 +252,7 @@ is_space c h k = grind (arith, nat_tests)
 -- where separation without a tab outside comments stands, and a token behind it
 pub record PassesSpaces (m : Marker) (blank : Bool) (w y : List ℕ) : Type 0 where
   pub still_blank : Bool
-  pub is : spaces m blank false (w ++ y) ≡ spaces_end (moved m w) still_blank true y
+  pub is : end_of_spaces m blank false (w ++ y) ≡ spaces_end (moved m w) still_blank true y
 
 pub spaces_passed : (column : ℕ) (m : Marker) (blank : Bool) (w : List ℕ) (c : ℕ) (cs : List ℕ) → IsSeparation column w
     → column ≤ m.col → w ≢ [] → has_tab_outside false w ≡ false → IsInk c → PassesSpaces m blank w (c ∷ cs)
@@ -256,7 +262,7 @@ spaces_passed column m blank w c cs parts low some tabs ink =
     by_first b.first b.others b.is b.white there tabs
   where
     onward : (d : ℕ) (ds : List ℕ) (k : Marker) (still : Bool) → w ≡ d ∷ ds
-        → spaces m blank false (d ∷ (ds ++ (c ∷ cs))) ≡ spaces k still true (ds ++ (c ∷ cs))
+        → end_of_spaces m blank false (d ∷ (ds ++ (c ∷ cs))) ≡ end_of_spaces k still true (ds ++ (c ∷ cs))
         → past column m (d ∷ (ds ++ (c ∷ cs))) ≡ past column k (ds ++ (c ∷ cs))
         → past column m (w ++ (c ∷ cs)) ≡ (moved m w, c ∷ cs) → has_tab_outside false ds ≡ false
         → PassesSpaces m blank w (c ∷ cs)
@@ -266,7 +272,7 @@ spaces_passed column m blank w c cs parts low some tabs ink =
         record {
           still_blank = g.still_blank;
           is =
-              ap (λ (v : List ℕ). spaces m blank false (v ++ (c ∷ cs))) same ∙ step ∙ g.is
+              ap (λ (v : List ℕ). end_of_spaces m blank false (v ++ (c ∷ cs))) same ∙ step ∙ g.is
               ∙ ap (λ (q : Bool). spaces_end (moved m w) g.still_blank q (c ∷ cs)) (g.has refl);
         }
 

@@ -104,7 +104,8 @@ marker_sign y false e h =
     (is_blank_or_breakz (slice_index y 3)) end)
 
 abbrev by_marker : Bool → State → Result State Refusal
-by_marker start s = if start then document.marker tokens.DocumentStart s else document.end_marker s
+by_marker start s =
+    if start then document.state_behind_marker tokens.DocumentStart s else document.state_behind_document_end s
 
 pub marker_here : (f : Frame) (m : Marker) (y : List ℕ) (blank : Bool) (key : Option Candidate) (a : Bool) (ad : ℕ)
     (deeper : Bool) (ps : List Place) (start : Bool) → is_document_start y ≡ start → m.col ≡ 0
@@ -122,14 +123,14 @@ marker_here f m y blank key a ad deeper ps false e col h =
 -- states whose collections all end alike are ended alike by a marker
 pub marked_alike : (start : Bool) (m : Marker) (s t : State) → s.core.cursor.mark ≡ m → t.core.cursor.mark ≡ m
     → unroll None m s ≡ unroll None m t → by_marker start s ≡ by_marker start t
-unfolding document.marker document.end_marker document.end_content
+unfolding document.state_behind_marker document.state_behind_document_end document.end_content
 marked_alike start m s t at_s at_t e = by_start start
   where
     content : document.end_content s ≡ document.end_content t
     content = ap (λ (n : Marker). document.remove_key_of (unroll None n s)) at_s ∙ ap document.remove_key_of e
         ∙ sym (ap (λ (n : Marker). document.remove_key_of (unroll None n t)) at_t)
 
-    marker : (kind : Kind) → document.marker kind s ≡ document.marker kind t
+    marker : (kind : Kind) → document.state_behind_marker kind s ≡ document.state_behind_marker kind t
     marker kind = ap (λ r. r >>= λ (u : State). Ok
         (document.put_passed u.core.cursor.mark kind (document.pass_marker u.core) u)) content
 
@@ -144,7 +145,7 @@ pub stream_ends : (f : Frame) (m : Marker) (blank : Bool) (key : Option Candidat
     → fetch_here (state_of f (moment_at m [] blank key a ad deeper) ps)
     ≡ Ok (document.finish (end_mark m)
     (unroll None (end_mark m) (state_of f (moment_at m [] blank key a ad deeper) ps)))
-unfolding fetch_here document.end_stream document.end_at
+unfolding fetch_here document.state_behind_end document.end_at
 stream_ends f m blank key a ad deeper ps = refl
 
 -- A collection ends at the end of its document, where the next token stands no further left.

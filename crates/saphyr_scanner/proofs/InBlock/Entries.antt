@@ -16,7 +16,7 @@ use Rattle.saphyr_scalar.specs.Spelling.Spaces.{IsCommentBehind}
 use Rattle.saphyr_scalar.specs.Spelling.Tag.{AreIn}
 use Rattle.saphyr_scanner.specs.Steps.Core.{least_column, Core, completed_step, at_mark, perform, is_further, roll, remove_key}
 use Rattle.saphyr_scanner.specs.Steps.Level.{Candidate}
-use Rattle.saphyr_scanner.specs.Steps.Block.{entry, next_entry, pass_dash, deepen, refuse_tab, behind_start}
+use Rattle.saphyr_scanner.specs.Steps.Block.{block_entry_steps, next_entry, pass_dash, deepen, refuse_tab, behind_start}
 use Rattle.saphyr_scanner.specs.Steps.Passing.{pass_on, with_cursor}
 use Rattle.saphyr_scanner.specs.Steps.Queue.{next, Place, Queue, bare_place, empty_piece}
 use Rattle.saphyr_scanner.specs.Steps.State.{State, after_step}
@@ -211,7 +211,7 @@ dash_step : (f : Frame) (m : Marker) (o : List ℕ) (h : IsBehindIndicator o) (b
     ≡ completed_step (behind_start further m tokens.BlockSequenceStart
     (at_mark (front_end h (along m 1)) tokens.BlockEntry))
     (core_of (frame_behind further m.col f) (behind_dash h.more (front_end h (along m 1)) d ad)))
-unfolding step entry next_entry
+unfolding step block_entry_steps next_entry
 dash_step f m o h blank key ad deeper further e i =
     let c = core_of f (moment_at m (45 ∷ o) blank key true ad deeper) in
     let r = dash_enters f m o blank key ad deeper further e in

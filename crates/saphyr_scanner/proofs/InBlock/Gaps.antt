@@ -8,7 +8,7 @@ use Rattle.saphyr_scalar.specs.declared.scalar.position.Marker.{Marker}
 use Rattle.saphyr_scalar.specs.Views.Cursor.{Cursor, along, next_line, refuse}
 use Rattle.saphyr_scalar.specs.declared.scalar.fault.Refusal.{Refusal}
 use Rattle.saphyr_scalar.specs.declared.scalar.fault.FaultText.TheVariants as fault
-use Rattle.saphyr_scanner.specs.Steps.Gap.{GapEnd, gap, comment, stop, is_tab_indentation, whole_gap}
+use Rattle.saphyr_scanner.specs.Steps.Gap.{GapEnd, end_of_gap, end_of_gap_in_comment, stop, is_tab_indentation, whole_gap}
 use Rattle.saphyr_scanner.proofs.Flow.States.{IsInk, is_left_tab, past, past_comment}
 use Rattle.saphyr_scanner.proofs.InBlock.States.{IsStop, tabbed, tabbed_comment, IsUntabbed, crosses, crosses_comment}
 use Rattle.saphyr_input.proofs.Basics.Characters.{no_return_and}
@@ -21,13 +21,13 @@ use Rattle.saphyr_scanner.proofs.Gaps.{stop_here}
 
 record GapStops (least : ℕ) (m : Marker) (blank broke tab : Bool) (t : List ℕ) : Type 0 where
   still_blank : Bool
-  is : gap least m blank broke tab t
+  is : end_of_gap least m blank broke tab t
       ≡ stop (past 0 m t).0 still_blank (broke || crosses t) (tabbed least m blank tab t) (past 0 m t).1
   stop : IsStop (past 0 m t).1
 
 record StopsComment (least : ℕ) (m : Marker) (blank broke tab : Bool) (t : List ℕ) : Type 0 where
   still_blank : Bool
-  is : comment least m blank broke tab t
+  is : end_of_gap_in_comment least m blank broke tab t
       ≡ stop (past_comment 0 m t).0 still_blank (broke || crosses_comment t) (tabbed_comment least m blank tab t)
       (past_comment 0 m t).1
   stop : IsStop (past_comment 0 m t).1
@@ -132,7 +132,7 @@ broke_by false false n q p e = ap broke_of (sym e)
 
 -- a gap that is passed tells whether a break stands in it
 pub gap_broke : (least : ℕ) (m : Marker) (blank : Bool) (t : List ℕ) (p : GapEnd)
-    → gap least m blank false false t ≡ Ok p → p.broke ≡ crosses t
+    → end_of_gap least m blank false false t ≡ Ok p → p.broke ≡ crosses t
 unfolding stop
 gap_broke least m blank t p is =
     let g = gap_stops least m blank false false t in
@@ -182,13 +182,13 @@ pub ink_stop : (c : ℕ) (cs : List ℕ) → IsInk c → IsStop (c ∷ cs)
 ink_stop c cs h = (h.blank, h.break, h.comment)
 
 gap_stays : (least : ℕ) (m : Marker) (blank : Bool) (y : List ℕ) → IsStop y
-    → gap least m blank false false y ≡ stop m blank false false y
+    → end_of_gap least m blank false false y ≡ stop m blank false false y
 gap_stays least m blank [] h = refl
 gap_stays least m blank (c ∷ cs) h = rw (h.0, no_return_and c (slice_index cs 0 == 10) h.1, h.1, h.2) refl
 
 -- nothing is passed right at a token
 pub gap_still : (least : ℕ) (m : Marker) (blank : Bool) (y : List ℕ) → IsStop y
-    → gap least m blank false false y
+    → end_of_gap least m blank false false y
     ≡ Ok (let p : GapEnd = record { cursor = record { rest = y; mark = m; blank_so_far = blank }; broke = false } in
     p)
 gap_still least m blank y h = gap_stays least m blank y h ∙ stop_here m blank false y

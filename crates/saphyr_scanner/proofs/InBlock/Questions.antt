@@ -53,7 +53,7 @@ no_tab_first c cs (inl e) clean = inl (space c e (or_parts (c == 9) (has_tab cs)
 no_tab_first c cs (inr e) clean = inr e
 
 reach : (m : Marker) (o : List ℕ) → BeginsWhite o → has_tab o ≡ false
-    → (b : Bool) × (gap.spaces m false false o ≡ gap.spaces_end (past 0 m o).0 b true (past 0 m o).1)
+    → (b : Bool) × (gap.end_of_spaces m false false o ≡ gap.spaces_end (past 0 m o).0 b true (past 0 m o).1)
 reach m [] h clean = absurd h
 reach m (c ∷ cs) h clean = spaces_reach m false c cs (no_tab_first c cs h clean) clean
 
@@ -122,7 +122,7 @@ question_step : (f : Frame) (m : Marker) (o : List ℕ) (blank : Bool) (key : Op
     ≡ completed_step (behind_start further m tokens.BlockMappingStart (from_to m (past 0 (along m 1) o).0 tokens.Key))
     (core_of (frame_behind further m.col f)
     (question_moment (past 0 (along m 1) o).0 (past 0 (along m 1) o).1 b ad d)))
-unfolding step block.key block.begin_key
+unfolding step block.key_steps block.begin_key
 question_step f m o blank key ad deeper further e h clean i =
     let c = core_of f (moment_at m (63 ∷ o) blank key true ad deeper) in
     let r = mark_enters f m (63 ∷ o) blank key ad deeper further e in

@@ -225,13 +225,14 @@ rest_ends_clean (b ∷ bs) comment are k least m blank tab =
 record Spaces (m : Marker) (blank space : Bool) (t : List ℕ) : Type 0 where
   still_blank : Bool
   some : Bool
-  is : gap.spaces m blank space t ≡ gap.spaces_end (past 0 m t).0 still_blank some (past 0 m t).1
+  is : gap.end_of_spaces m blank space t ≡ gap.spaces_end (past 0 m t).0 still_blank some (past 0 m t).1
   has : space ≡ true → some ≡ true
 
 record SpacesBehind (m : Marker) (blank space : Bool) (t : List ℕ) : Type 0 where
   still_blank : Bool
   some : Bool
-  is : gap.line_comment m blank space t ≡ gap.spaces_end (past_comment 0 m t).0 still_blank some (past_comment 0 m t).1
+  is : gap.end_of_spaces_in_comment m blank space t ≡ gap.spaces_end (past_comment 0 m t).0 still_blank some
+      (past_comment 0 m t).1
   has : space ≡ true → some ≡ true
 
 space_alone : (c : ℕ) → (c == 9) ≡ false → is_blank c ≡ (c == 32)
@@ -351,7 +352,8 @@ mutual
 
 -- what a `?` passes: something, up to the next token
 pub spaces_reach : (m : Marker) (blank : Bool) (c : ℕ) (t : List ℕ) → (c ≡ 32) ⊎ (c ≡ 10) → has_tab (c ∷ t) ≡ false
-    → (b : Bool) × (gap.spaces m blank false (c ∷ t) ≡ gap.spaces_end (past 0 m (c ∷ t)).0 b true (past 0 m (c ∷ t)).1)
+    → (b : Bool) × (gap.end_of_spaces m blank false (c ∷ t) ≡ gap.spaces_end (past 0 m (c ∷ t)).0 b true
+    (past 0 m (c ∷ t)).1)
 spaces_reach m blank c t (inl e) clean =
     let p = spaces_are (along m 1) blank true t (subst (λ (x : ℕ). has_tab (x ∷ t) ≡ false) e clean) in
     let last : gap.spaces_end (past 0 (along m 1) t).0 p.still_blank p.some (past 0 (along m 1) t).1
@@ -359,7 +361,7 @@ spaces_reach m blank c t (inl e) clean =
     ap (λ (s : Bool). gap.spaces_end (past 0 (along m 1) t).0 p.still_blank s (past 0 (along m 1) t).1)
     (p.has refl) in (
       p.still_blank,
-      subst (λ (x : ℕ). gap.spaces m blank false (x ∷ t)
+      subst (λ (x : ℕ). gap.end_of_spaces m blank false (x ∷ t)
           ≡ gap.spaces_end (past 0 m (x ∷ t)).0 p.still_blank true (past 0 m (x ∷ t)).1) (sym e) (p.is ∙ last),
     )
 spaces_reach m blank c t (inr e) clean =
@@ -369,7 +371,7 @@ spaces_reach m blank c t (inr e) clean =
     ap (λ (s : Bool). gap.spaces_end (past 0 (next_line m 1) t).0 p.still_blank s (past 0 (next_line m 1) t).1)
     (p.has refl) in (
       p.still_blank,
-      subst (λ (x : ℕ). gap.spaces m blank false (x ∷ t)
+      subst (λ (x : ℕ). gap.end_of_spaces m blank false (x ∷ t)
           ≡ gap.spaces_end (past 0 m (x ∷ t)).0 p.still_blank true (past 0 m (x ∷ t)).1) (sym e) (p.is ∙ last),
     )
 

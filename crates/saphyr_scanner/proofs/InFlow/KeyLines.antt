@@ -10,7 +10,7 @@ use Rattle.saphyr_scalar.specs.Views.Cursor.{Cursor, ◌>>=◌, along}
 use Rattle.saphyr_scalar.specs.Spelling.Tag.{AreIn}
 use Rattle.saphyr_scanner.specs.declared.engine.level.Context.TheVariants as context
 use Rattle.saphyr_scanner.specs.Grammar.Tokens.{Kind}
-use Rattle.saphyr_scanner.specs.Steps.Gap.{GapEnd, stop, gap}
+use Rattle.saphyr_scanner.specs.Steps.Gap.{GapEnd, stop, end_of_gap}
 use Rattle.saphyr_scanner.specs.Steps.Queue.{Place}
 use Rattle.saphyr_scanner.specs.Steps.Core.{is_too_far, drop_far_key, from_to, completed_step}
 use Rattle.saphyr_scanner.specs.Steps.Level.{Candidate, Level}
@@ -58,17 +58,17 @@ keeps_near_key around d s k ls a ad near = rw (not_far k s.mark near) refl
 -- ## Blanks before a token
 
 pub ink_gap : (low : ℕ) (c : ℕ) (cs : List ℕ) → IsInk c → (m : Marker) (blank : Bool)
-    → gap low m blank false false (c ∷ cs) ≡ stop m blank false false (c ∷ cs)
+    → end_of_gap low m blank false false (c ∷ cs) ≡ stop m blank false false (c ∷ cs)
 ink_gap low c cs ink m blank = rw (ink.blank, ink.break, ink.comment, no_return c ink.break) refl
 
 blanks_gap : (low column : ℕ) → low ≤ column → (w : List ℕ) (c : ℕ) (cs : List ℕ) → AreIn is_blank w → IsInk c
     → (m : Marker) (blank : Bool) → column ≤ m.col
-    → gap low m blank false false (w ++ (c ∷ cs)) ≡ stop (moved m w) blank false false (c ∷ cs)
+    → end_of_gap low m blank false false (w ++ (c ∷ cs)) ≡ stop (moved m w) blank false false (c ∷ cs)
 blanks_gap low column under [] c cs are ink m blank right = ink_gap low c cs ink m blank
 blanks_gap low column under (x ∷ xs) c cs are ink m blank right =
     let same : moved (along m 1) xs ≡ moved m (x ∷ xs) = rw (no_feed x are.0) refl in
     rw are.0
-    (ap (λ (t : Bool). gap low (along m 1) blank false t (xs ++ (c ∷ cs)))
+    (ap (λ (t : Bool). end_of_gap low (along m 1) blank false t (xs ++ (c ∷ cs)))
     (no_left_tab column low m blank x (right_tab column m x right) under)
     ∙ blanks_gap low column under xs c cs are.1 ink (along m 1) blank (le_next column m.col right)
     ∙ ap (λ (n : Marker). stop n blank false false (c ∷ cs)) same)
@@ -85,7 +85,7 @@ line_arrives around d s k ad ps w c cs is are ink right near =
     let n = moved s.mark w in
     let there = cursor_at (c ∷ cs) n s.blank_so_far in
     let here = core_at around d s context.Block (Some k) [] false ad in
-    let gapped = ap (λ (t : List ℕ). gap (least around.indent d) s.mark s.blank_so_far false false t) is
+    let gapped = ap (λ (t : List ℕ). end_of_gap (least around.indent d) s.mark s.blank_so_far false false t) is
     ∙ blanks_gap (least around.indent d) around.indent (least_low around.indent d) w c cs are ink s.mark s.blank_so_far
     right ∙ stop_here n s.blank_so_far false (c ∷ cs) in
     let passed = ap (λ r. r >>= λ (p : GapEnd). check_comment (behind_gap here p)) gapped in

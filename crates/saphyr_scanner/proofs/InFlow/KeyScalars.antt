@@ -13,7 +13,7 @@ use Rattle.saphyr_scalar.specs.Spelling.Plain.{is_tabbed, past_white, EndsPlain,
 use Rattle.saphyr_scalar.specs.Steps.BlockRead.{spaces}
 use Rattle.saphyr_scanner.specs.declared.engine.level.Context.TheVariants as context
 use Rattle.saphyr_scanner.specs.Grammar.Tokens.{scalar_token}
-use Rattle.saphyr_scanner.specs.Steps.Gap.{GapEnd, gap}
+use Rattle.saphyr_scanner.specs.Steps.Gap.{GapEnd, end_of_gap}
 use Rattle.saphyr_scanner.specs.Steps.Queue.{Place}
 use Rattle.saphyr_scanner.specs.Steps.Core.{from_to, completed_step}
 use Rattle.saphyr_scanner.specs.Steps.Level.{Candidate, Level}
@@ -180,8 +180,8 @@ gap_to_colon : (around : Around) (d : Bool) (s : Cursor) (k : Candidate) (ad : �
 unfolding pass_gap check_comment
 gap_to_colon around d s k ad m r is at_colon =
     let low = least around.indent d in
-    let gapped = ap (λ (t : List ℕ). gap low s.mark s.blank_so_far false false t) is
-    ∙ ap (λ (n : Marker). gap low n s.blank_so_far false false (58 ∷ r)) at_colon
+    let gapped = ap (λ (t : List ℕ). end_of_gap low s.mark s.blank_so_far false false t) is
+    ∙ ap (λ (n : Marker). end_of_gap low n s.blank_so_far false false (58 ∷ r)) at_colon
     ∙ ink_gap low 58 r colon_ink m s.blank_so_far ∙ stop_here m s.blank_so_far false (58 ∷ r) in
     ap (λ q. q >>= λ (p : GapEnd). check_comment (behind_gap (core_at around d s context.Block (Some k) [] false ad) p))
     gapped

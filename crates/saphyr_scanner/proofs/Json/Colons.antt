@@ -20,7 +20,7 @@ use Rattle.saphyr_scanner.specs.Steps.Value as value
 use Rattle.saphyr_scanner.specs.Steps.Value.{check_tab, refuse_lone_tab, value_of_key, behind_key}
 use Rattle.saphyr_scanner.specs.Steps.State.{State}
 use Rattle.saphyr_scanner.specs.Grammar.Forest.{DoubleQuoted}
-use Rattle.saphyr_scanner.specs.Steps.Fetch.{step, flow_value}
+use Rattle.saphyr_scanner.specs.Steps.Fetch.{step, flow_value_steps}
 use Rattle.saphyr_scanner.proofs.Leads.{LeadsTo, leads_on}
 use Rattle.saphyr_scanner.proofs.Json.States.{skip, IsClean, total, arrives, IsContentStart, one}
 use Rattle.saphyr_scanner.proofs.Json.Marks.{PassesJson, Separates, separates}
@@ -36,7 +36,7 @@ colon_begins_value : (second i : ℕ) (s : Cursor) (k : Option Candidate) (ls : 
     → s.mark.index ≡ ad
     → step 58 second i (core_at false s context.FlowMapping k ls a ad)
     ≡ value.value_steps (core_at false s context.FlowMapping k ls a ad)
-unfolding step flow_value
+unfolding step flow_value_steps
 colon_begins_value second i s k ls a ad e =
     let c = core_at false s context.FlowMapping k ls a ad in
     by_test (is_blank_or_breakz second) (value.value_steps c) _ (λ (r : StepResult). r ≡ value.value_steps c)

@@ -10,7 +10,7 @@ use Rattle.saphyr_input.specs.declared.input.SkipTabs.TheVariants.{Yes}
 use Rattle.saphyr_scalar.specs.declared.scalar.position.Marker.{Marker}
 use Rattle.saphyr_scalar.specs.Views.Cursor.{Cursor, along, next_line, pass_blanks, behind_separation, separation}
 use Rattle.saphyr_scanner.specs.Grammar.Characters.{AreAll}
-use Rattle.saphyr_scanner.specs.Steps.Gap.{stop, gap, gap_at}
+use Rattle.saphyr_scanner.specs.Steps.Gap.{stop, end_of_gap, gap_at}
 use Rattle.saphyr_scanner.specs.Grammar.Json.{IsWhite, IsWhiteSpace}
 use Rattle.saphyr_scalar.proofs.Moving.{along_none}
 use Rattle.saphyr_input.proofs.Basics.Characters.{no_return}
@@ -28,7 +28,7 @@ contains_break w = list_any is_break w
 -- Where w stands before `follow`, it is passed.
 pub record PassesJsonGap (m : Marker) (blank broke : Bool) (w follow : List ℕ) : Type 0 where
   pub mark : Marker
-  pub is : gap 0 m blank broke false (w ++ follow)
+  pub is : end_of_gap 0 m blank broke false (w ++ follow)
       ≡ stop mark (blank || contains_break w) (broke || contains_break w) false follow
   pub index : mark.index ≡ m.index + length w
   pub same_line : contains_break w ≡ false → mark ≡ along m (length w)
@@ -41,13 +41,13 @@ along_more m n =
     rw (i, k) refl
 
 gap_stops : (m : Marker) (blank broke : Bool) (follow : List ℕ) → StopsGap follow
-    → gap 0 m blank broke false follow ≡ stop m blank broke false follow
+    → end_of_gap 0 m blank broke false follow ≡ stop m blank broke false follow
 gap_stops m blank broke [] h = refl
 gap_stops m blank broke (c ∷ cs) h = rw (h.0, h.1, h.2, no_return c h.1) refl
 
 -- a character that is passed before the others
 gap_behind_character : (m k : Marker) (blank broke blank_then broke_then : Bool) (c : ℕ) (w follow : List ℕ)
-    → gap 0 m blank broke false (c ∷ (w ++ follow)) ≡ gap 0 k blank_then broke_then false (w ++ follow)
+    → end_of_gap 0 m blank broke false (c ∷ (w ++ follow)) ≡ end_of_gap 0 k blank_then broke_then false (w ++ follow)
     → (blank_then || contains_break w) ≡ (blank || contains_break (c ∷ w))
     → (broke_then || contains_break w) ≡ (broke || contains_break (c ∷ w))
     → k.index ≡ m.index + 1 → (contains_break (c ∷ w) ≡ false → (contains_break w ≡ false) × (k ≡ along m 1))
@@ -68,11 +68,11 @@ blank_case : (m : Marker) (blank broke : Bool) (c : ℕ) (w follow : List ℕ) �
     → PassesJsonGap (along m 1) blank broke w follow → PassesJsonGap m blank broke (c ∷ w) follow
 blank_case m blank broke c w follow e no_break p =
     gap_behind_character m (along m 1) blank broke blank broke c w follow
-    (rw e (ap (λ (t : Bool). gap 0 (along m 1) blank broke t (w ++ follow)) (no_tab_indentation m blank c)))
+    (rw e (ap (λ (t : Bool). end_of_gap 0 (along m 1) blank broke t (w ++ follow)) (no_tab_indentation m blank c)))
     (rw no_break refl) (rw no_break refl) refl (λ h. (rw no_break at h, refl)) (λ h. (omega arith, h)) p
 
 break_case : (m : Marker) (blank broke : Bool) (c : ℕ) (w follow : List ℕ)
-    → gap 0 m blank broke false (c ∷ (w ++ follow)) ≡ gap 0 (next_line m 1) true true false (w ++ follow)
+    → end_of_gap 0 m blank broke false (c ∷ (w ++ follow)) ≡ end_of_gap 0 (next_line m 1) true true false (w ++ follow)
     → is_break c ≡ true
     → PassesJsonGap (next_line m 1) true true w follow → PassesJsonGap m blank broke (c ∷ w) follow
 break_case m blank broke c w follow one e p =
@@ -147,7 +147,7 @@ gap_passed broke s w follow is p =
       p.mark,
       s.blank_so_far || contains_break w,
       broke || contains_break w,
-      ap (gap 0 s.mark s.blank_so_far broke false) is
+      ap (end_of_gap 0 s.mark s.blank_so_far broke false) is
           ∙ p.is,
       omega (arith, p.index),
     )

@@ -11,7 +11,7 @@ use Rattle.saphyr_scanner.specs.declared.engine.level.Context.TheVariants as con
 use Rattle.saphyr_scanner.specs.Grammar.Tokens as tokens
 use Rattle.saphyr_scanner.specs.Steps.Block as block
 use Rattle.saphyr_scanner.specs.Steps.Core.{Core, StepResult, in_block}
-use Rattle.saphyr_scanner.specs.Steps.Fetch.{step, is_value_adjacent, flow_value}
+use Rattle.saphyr_scanner.specs.Steps.Fetch.{step, is_value_adjacent, flow_value_steps}
 use Rattle.saphyr_scanner.specs.Steps.Flow as flow
 use Rattle.saphyr_scanner.specs.Steps.Property as property
 use Rattle.saphyr_scanner.specs.Steps.Scalar as scalar
@@ -49,10 +49,10 @@ pub record Cases (P : StepResult → StepResult → Type 0) (first second other 
   pub sequence_end : first ≡ 93 → P (flow.sequence_end_steps c) (flow.sequence_end_steps d)
   pub mapping_end : first ≡ 125 → P (flow.mapping_end_steps c) (flow.mapping_end_steps d)
   pub comma : first ≡ 44 → P (flow.flow_entry_steps c) (flow.flow_entry_steps d)
-  pub dash : first ≡ 45 → is_blank_or_breakz second ≡ true → P (block.entry c) (block.entry d)
-  pub question : first ≡ 63 → is_blank_or_breakz second ≡ true → P (block.key c) (block.key d)
+  pub dash : first ≡ 45 → is_blank_or_breakz second ≡ true → P (block.block_entry_steps c) (block.block_entry_steps d)
+  pub question : first ≡ 63 → is_blank_or_breakz second ≡ true → P (block.key_steps c) (block.key_steps d)
   pub colon : first ≡ 58 → is_blank_or_breakz second ≡ true → P (value.value_steps c) (value.value_steps d)
-  pub beside : first ≡ 58 → is_value_adjacent second c ≡ true → P (flow_value second c) (flow_value other d)
+  pub beside : first ≡ 58 → is_value_adjacent second c ≡ true → P (flow_value_steps second c) (flow_value_steps other d)
   pub double : first ≡ 34 → P (scalar.double_quoted_steps n c) (scalar.double_quoted_steps n d)
   pub single : first ≡ 39 → P (scalar.single_quoted_steps n c) (scalar.single_quoted_steps n d)
   pub alias : first ≡ 42 → P (property.alias_steps n c) (property.alias_steps n d)

@@ -1,11 +1,10 @@
 -- What is held stays so where the core of a scanner changes, and where a token comes.
 use Rattle.std.proofs.Common.{◌≡◌, ℕ, zero, suc, ◌+◌, ◌-◌, ◌≤◌, ◌⊎◌, Bool, true, false, List, [], ◌∷◌, length, Option, Some, None, Result, Ok, Err, refl, sym, ap, ◌∙◌, arith, subst, inl, inr, length-append}
 use Rattle.std.specs.Prelude.{◌&&◌, ◌==◌, slice_index, nat_le}
-use Rattle.saphyr_input.specs.declared.input.SkipTabs.{SkipTabs}
 use Rattle.saphyr_input.specs.declared.input.SkipTabs.TheVariants as tabs
 use Rattle.saphyr_scalar.specs.declared.scalar.position.Marker.{Marker}
 use Rattle.saphyr_scalar.specs.declared.scalar.fault.Refusal.{Refusal}
-use Rattle.saphyr_scalar.specs.Views.Cursor.{Cursor, ◌>>=◌, pass, separation}
+use Rattle.saphyr_scalar.specs.Views.Cursor.{Cursor, ◌>>=◌, pass}
 use Rattle.saphyr_scalar.proofs.Properties.TagsSpelled.{cut_at}
 use Rattle.saphyr_scanner.specs.declared.queue.Opening.{Opening}
 use Rattle.saphyr_scanner.specs.declared.queue.Opening.TheVariants as opening
@@ -14,11 +13,10 @@ use Rattle.saphyr_scanner.specs.Steps.Gap as gaps
 use Rattle.saphyr_scanner.specs.Steps.Queue.{Place, Queue, bare_place, with_piece, places_with_opening, with_opening, next}
 use Rattle.saphyr_scanner.specs.Steps.Core.{Core, in_block, forget_key, least_column, is_further, enter_block}
 use Rattle.saphyr_scanner.specs.Steps.Level.{Candidate, Level, is_block}
-use Rattle.saphyr_scanner.specs.Steps.Passing.{separate, with_cursor, pass_gap, check_comment, goes_on_behind, behind_gap, check_comment_of}
+use Rattle.saphyr_scanner.specs.Steps.Passing.{pass_gap, check_comment, goes_on_behind, behind_gap, check_comment_of}
 use Rattle.saphyr_scanner.specs.TokensTaken as taken
 use Rattle.saphyr_scanner.specs.TokensTaken.{AreApart, IsToken, TakesCharacter}
 use Rattle.saphyr_scanner.proofs.Taken.Separated.{gap_apart}
-use Rattle.saphyr_scanner.proofs.LineTails.{OnLine, separation_passes}
 use Rattle.saphyr_scanner.proofs.Taken.Parts.{is_quiet, quiet_open, Begins, opens_block, column_of}
 use Rattle.saphyr_scanner.proofs.Taken.Held.{Stack, Taken, taken_further, Opens, taken_put, taken_open, Key, KeyOf, lower, Keys, keys_weaken, keys_put, keys_open, below_key}
 use Rattle.saphyr_input.proofs.Basics.Booleans.{by_test}
@@ -272,16 +270,6 @@ further_block column c e = first (in_block c) (nat_le c.indent column) e
     first false b e = absurd (cc)
 
 -- ## What is passed
-
-pub behind_blanks_taken : {X : Type 0} → (P : X → Type 0) (c : Core) (f : SkipTabs × Core → Result X Refusal)
-    → ((found : SkipTabs) (t : Cursor) → OnLine c.cursor t → Given P (f (found, with_cursor t c)))
-    → Given P (separate c >>= f)
-behind_blanks_taken P c f go = by (separation tabs.Yes c.cursor) (separation_passes c.cursor)
-  where
-    by : (r : Result (SkipTabs × Cursor) Refusal) → Given (λ (x : SkipTabs × Cursor). OnLine c.cursor x.1) r
-        → Given P ((r >>= λ x. Ok (x.0, with_cursor x.1 c)) >>= f)
-    by (Ok x) h = go x.0 x.1 h
-    by (Err e) h = tt
 
 pub behind_gap_of : {X : Type 0} → (P : X → Type 0) (c : Core) (f : Core → Result X Refusal)
     → ((d : Core) → Alike c d → AreApart c.cursor d.cursor → Given P (f d)) → Given P (pass_gap c >>= f)

@@ -139,8 +139,8 @@ no_length [] e = refl
 no_length (c ∷ cs) e = absurd (let h : length (c ∷ cs) ≡ 0 = eqb-true (length (c ∷ cs)) 0 e in omega (arith, h))
 
 pub end_fetched : (columns : List ℕ) (from : Cursor) (s : State) → TakenState columns from s
-    → Given (λ (t : State). Fetched columns from t.core t.queue) (document.end_stream s)
-unfolding document.end_stream document.end_at
+    → Given (λ (t : State). Fetched columns from t.core t.queue) (document.state_behind_end s)
+unfolding document.state_behind_end document.end_at
 end_fetched columns from s h =
     let P : State → Type 0 = λ t. Fetched columns from t.core t.queue in
     let m : Marker = document.end_mark s.core.cursor.mark in

@@ -48,8 +48,8 @@ over_put columns from m q u h =
     ap (λ (c : Cursor). c.rest) (r.back.4 ∙ r.back.3.1.2) ∙ r.back.3.0
 
 end_over : (columns : List ℕ) (from : Cursor) (s : State)
-    → Given (λ (t : State). OverAt columns from t.queue) (document.end_stream s)
-unfolding document.end_stream document.end_at
+    → Given (λ (t : State). OverAt columns from t.queue) (document.state_behind_end s)
+unfolding document.state_behind_end document.end_at
 end_over columns from s =
     let P : State → Type 0 = λ t. OverAt columns from t.queue in
     let m : Marker = document.end_mark s.core.cursor.mark in
@@ -99,7 +99,7 @@ here_read laws text small columns from s l going a =
     let t = s.core.cursor.rest in
     let P = Given (Read columns from) in
     by_test (is_z (slice_index t 0)) _ _ P
-    (λ _. end_given columns from (document.end_stream s) (end_fetched columns from s a.taken)
+    (λ _. end_given columns from (document.state_behind_end s) (end_fetched columns from s a.taken)
     (end_over columns from s))
     (λ z. let some : 0 < length t = some_character_left t z in
     let h : HoldsState columns from s = record { taken = a.taken; keys = a.live z } in
@@ -114,12 +114,12 @@ here_read laws text small columns from s l going a =
     (directive_walked s (eqb-true s.core.cursor.mark.col 0 w.0) (eqb-true (slice_index t 0) 37 w.1)))
     (λ _. by_test ((s.core.cursor.mark.col == 0) && is_document_start t) _ _ P
     (λ e. let w = and_parts (s.core.cursor.mark.col == 0) (is_document_start t) e in
-    behind (document.marker tokens.DocumentStart s)
+    behind (document.state_behind_marker tokens.DocumentStart s)
     (start_walked is_document_start (codes "---") tokens.DocumentStart start_marking (λ i. absurd (cc)) s
     (eqb-true s.core.cursor.mark.col 0 w.0) w.1))
     (λ _. by_test ((s.core.cursor.mark.col == 0) && is_document_end t) _ _ P
     (λ e. let w = and_parts (s.core.cursor.mark.col == 0) (is_document_end t) e in
-    behind (document.end_marker s) (end_marker_walked s (eqb-true s.core.cursor.mark.col 0 w.0) w.1))
+    behind (document.state_behind_document_end s) (end_marker_walked s (eqb-true s.core.cursor.mark.col 0 w.0) w.1))
     (λ _. by_test (nat_lt s.core.cursor.mark.col (least_column s.core)) _ _ P (λ _. tt)
     (λ e. let r = step (slice_index t 0) (slice_index t 1) (next s.queue) s.core in
     both_given columns from s (after_step r s.queue) going

@@ -8,7 +8,7 @@ use Rattle.saphyr_scalar.specs.Views.Cursor.{Cursor, along, next_line}
 use Rattle.saphyr_scalar.specs.Steps.Quoted.{break_len}
 use Rattle.saphyr_scalar.specs.Spelling.Tag.{AreIn}
 use Rattle.saphyr_scalar.proofs.Moving.{along_none, along_more}
-use Rattle.saphyr_scanner.specs.Steps.Gap.{gap, comment, stop, GapEnd, is_tab_indentation, SpacesEnd, spaces, line_comment}
+use Rattle.saphyr_scanner.specs.Steps.Gap.{end_of_gap, end_of_gap_in_comment, stop, GapEnd, is_tab_indentation, SpacesEnd, end_of_spaces, end_of_spaces_in_comment}
 use Rattle.saphyr_scanner.specs.TokensTaken as taken
 use Rattle.saphyr_scanner.specs.TokensTaken.{IsPassedOver, AreApart}
 use Rattle.std.proofs.lemmas.Bool.{eqb-true, and_parts, or_cases}
@@ -98,10 +98,11 @@ stop_apart m blank broke tabbed t =
 
 -- What is passed from here on: between tokens, in a comment, and behind a CR before LF.
 record Gaps (l : ℕ) (t : List ℕ) (m : Marker) (blank broke tabbed : Bool) : Type 0 where
-  between : Given (λ (p : GapEnd). To p.cursor.mark p.cursor.rest m t) (gap l m blank broke tabbed t)
-  inside : Given (λ (p : GapEnd). Comment m t p.cursor.mark p.cursor.rest) (comment l m blank broke tabbed t)
+  between : Given (λ (p : GapEnd). To p.cursor.mark p.cursor.rest m t) (end_of_gap l m blank broke tabbed t)
+  inside : Given (λ (p : GapEnd). Comment m t p.cursor.mark p.cursor.rest)
+      (end_of_gap_in_comment l m blank broke tabbed t)
   behind_return : (slice_index t 0 == 10) ≡ true → (k : Marker) → m ≡ along k 1
-      → Given (λ (p : GapEnd). To p.cursor.mark p.cursor.rest k (13 ∷ t)) (gap l m blank broke tabbed t)
+      → Given (λ (p : GapEnd). To p.cursor.mark p.cursor.rest k (13 ∷ t)) (end_of_gap l m blank broke tabbed t)
 
 all_gaps : (l : ℕ) (t : List ℕ) (m : Marker) (blank broke tabbed : Bool) → Gaps l t m blank broke tabbed
 all_gaps l [] m blank broke tabbed =
@@ -115,25 +116,26 @@ all_gaps l (c ∷ cs) m blank broke tabbed =
     let P : Result GapEnd Refusal → Type 0 = Given (λ (p : GapEnd). To p.cursor.mark p.cursor.rest m (c ∷ cs)) in
     let Q : Result GapEnd Refusal → Type 0 = Given (λ (p : GapEnd). Comment m (c ∷ cs) p.cursor.mark p.cursor.rest) in
     let line : ((c == 13) && (slice_index cs 0 == 10)) ≡ false → is_break c ≡ true
-    → P (gap l (next_line m 1) true true false cs) =
-    λ e b. given_map _ _ (gap l (next_line m 1) true true false cs)
+    → P (end_of_gap l (next_line m 1) true true false cs) =
+    λ e b. given_map _ _ (end_of_gap l (next_line m 1) true true false cs)
     (λ p h. single_break m c cs p.cursor.mark p.cursor.rest b e h)
     (all_gaps l cs (next_line m 1) true true false).between in
-    let return : (x : Bool) → ((c == 13) && (slice_index cs 0 == 10)) ≡ true → P (gap l (along m 1) blank broke x cs) =
+    let return : (x : Bool) → ((c == 13) && (slice_index cs 0 == 10)) ≡ true → P
+    (end_of_gap l (along m 1) blank broke x cs) =
     λ x e.
     let f = and_parts (c == 13) (slice_index cs 0 == 10) e in
-    given_map _ _ (gap l (along m 1) blank broke x cs)
+    given_map _ _ (end_of_gap l (along m 1) blank broke x cs)
     (λ p h. subst (λ d. IsPassedOver m (d ∷ cs) p.cursor.mark p.cursor.rest) (sym (eqb-true c 13 f.0)) h)
     ((all_gaps l cs (along m 1) blank broke x).behind_return f.1 m refl) in
-    let further : (x : Bool) → is_blank c ≡ true → P (gap l (along m 1) blank broke x cs) =
-    λ x b. given_map _ _ (gap l (along m 1) blank broke x cs)
+    let further : (x : Bool) → is_blank c ≡ true → P (end_of_gap l (along m 1) blank broke x cs) =
+    λ x b. given_map _ _ (end_of_gap l (along m 1) blank broke x cs)
     (λ p h. taken.blank m c cs p.cursor.mark p.cursor.rest b h) (all_gaps l cs (along m 1) blank broke x).between in
-    let comments : (c == 35) ≡ true → P (comment l (along m 1) blank broke tabbed cs) =
-    λ e. given_map _ _ (comment l (along m 1) blank broke tabbed cs)
+    let comments : (c == 35) ≡ true → P (end_of_gap_in_comment l (along m 1) blank broke tabbed cs) =
+    λ e. given_map _ _ (end_of_gap_in_comment l (along m 1) blank broke tabbed cs)
     (λ p h. comment_whole m c cs p.cursor.mark p.cursor.rest (eqb-true c 35 e) h)
     (all_gaps l cs (along m 1) blank broke tabbed).inside in
-    let more : is_yaml_non_break c ≡ true → Q (comment l (along m 1) blank broke tabbed cs) =
-    λ e. given_map _ _ (comment l (along m 1) blank broke tabbed cs)
+    let more : is_yaml_non_break c ≡ true → Q (end_of_gap_in_comment l (along m 1) blank broke tabbed cs) =
+    λ e. given_map _ _ (end_of_gap_in_comment l (along m 1) blank broke tabbed cs)
     (λ p h. comment_more m c cs p.cursor.mark p.cursor.rest e h)
     (all_gaps l cs (along m 1) blank broke tabbed).inside in
     let ended : is_yaml_non_break c ≡ false → (r : Result GapEnd Refusal) → P r → Q r =
@@ -159,26 +161,28 @@ all_gaps l (c ∷ cs) m blank broke tabbed =
   where
     fed : (d : ℕ) → d ≡ 10 → (k : Marker) → m ≡ along k 1
         → Given (λ (p : GapEnd). To p.cursor.mark p.cursor.rest (next_line m 1) cs)
-        (gap l (next_line m 1) true true false cs)
-        → Given (λ (p : GapEnd). To p.cursor.mark p.cursor.rest k (13 ∷ d ∷ cs)) (gap l m blank broke tabbed (d ∷ cs))
+        (end_of_gap l (next_line m 1) true true false cs)
+        → Given (λ (p : GapEnd). To p.cursor.mark p.cursor.rest k (13 ∷ d ∷ cs)) (end_of_gap l m blank broke tabbed
+        (d ∷ cs))
     fed d e k q h =
         subst (λ x. Given (λ (p : GapEnd). To p.cursor.mark p.cursor.rest k (13 ∷ x ∷ cs))
-        (gap l m blank broke tabbed (x ∷ cs))) (sym e)
-        (given_map _ _ (gap l (next_line m 1) true true false cs)
+        (end_of_gap l m blank broke tabbed (x ∷ cs))) (sym e)
+        (given_map _ _ (end_of_gap l (next_line m 1) true true false cs)
         (λ p s. crlf_break k cs p.cursor.mark p.cursor.rest
         (subst (λ (j : Marker). IsPassedOver (next_line j 1) cs p.cursor.mark p.cursor.rest) q s)) h)
 
 pub gap_apart : (l : ℕ) (broke tabbed : Bool) (s : Cursor)
-    → Given (λ (p : GapEnd). AreApart s p.cursor) (gap l s.mark s.blank_so_far broke tabbed s.rest)
+    → Given (λ (p : GapEnd). AreApart s p.cursor) (end_of_gap l s.mark s.blank_so_far broke tabbed s.rest)
 gap_apart l broke tabbed s = (all_gaps l s.rest s.mark s.blank_so_far broke tabbed).between
 
 -- ## Behind `?`
 
 record Spacing (t : List ℕ) (m : Marker) (blank space : Bool) : Type 0 where
-  between : To (spaces m blank space t).cursor.mark (spaces m blank space t).cursor.rest m t
-  inside : Comment m t (line_comment m blank space t).cursor.mark (line_comment m blank space t).cursor.rest
+  between : To (end_of_spaces m blank space t).cursor.mark (end_of_spaces m blank space t).cursor.rest m t
+  inside : Comment m t (end_of_spaces_in_comment m blank space t).cursor.mark
+      (end_of_spaces_in_comment m blank space t).cursor.rest
   behind_return : (slice_index t 0 == 10) ≡ true → (k : Marker) → m ≡ along k 1
-      → To (spaces m blank space t).cursor.mark (spaces m blank space t).cursor.rest k (13 ∷ t)
+      → To (end_of_spaces m blank space t).cursor.mark (end_of_spaces m blank space t).cursor.rest k (13 ∷ t)
 
 all_spaces : (t : List ℕ) (m : Marker) (blank space : Bool) → Spacing t m blank space
 all_spaces [] m blank space =
@@ -191,19 +195,19 @@ all_spaces (c ∷ cs) m blank space =
     let P : SpacesEnd → Type 0 = λ r. To r.cursor.mark r.cursor.rest m (c ∷ cs) in
     let Q : SpacesEnd → Type 0 = λ r. Comment m (c ∷ cs) r.cursor.mark r.cursor.rest in
     let line : ((c == 13) && (slice_index cs 0 == 10)) ≡ false → is_break c ≡ true
-    → P (spaces (next_line m 1) true true cs) =
+    → P (end_of_spaces (next_line m 1) true true cs) =
     λ e b. single_break m c cs _ _ b e (all_spaces cs (next_line m 1) true true).between in
-    let return : ((c == 13) && (slice_index cs 0 == 10)) ≡ true → P (spaces (along m 1) blank true cs) =
+    let return : ((c == 13) && (slice_index cs 0 == 10)) ≡ true → P (end_of_spaces (along m 1) blank true cs) =
     λ e.
     let f = and_parts (c == 13) (slice_index cs 0 == 10) e in
-    let r = spaces (along m 1) blank true cs in
+    let r = end_of_spaces (along m 1) blank true cs in
     subst (λ d. IsPassedOver m (d ∷ cs) r.cursor.mark r.cursor.rest) (sym (eqb-true c 13 f.0))
     ((all_spaces cs (along m 1) blank true).behind_return f.1 m refl) in
-    let further : (c == 32) ≡ true → P (spaces (along m 1) blank true cs) =
+    let further : (c == 32) ≡ true → P (end_of_spaces (along m 1) blank true cs) =
     λ b. taken.blank m c cs _ _ (ap is_blank (eqb-true c 32 b)) (all_spaces cs (along m 1) blank true).between in
-    let comments : (c == 35) ≡ true → P (line_comment (along m 1) blank space cs) =
+    let comments : (c == 35) ≡ true → P (end_of_spaces_in_comment (along m 1) blank space cs) =
     λ e. comment_whole m c cs _ _ (eqb-true c 35 e) (all_spaces cs (along m 1) blank space).inside in
-    let more : is_yaml_non_break c ≡ true → Q (line_comment (along m 1) blank space cs) =
+    let more : is_yaml_non_break c ≡ true → Q (end_of_spaces_in_comment (along m 1) blank space cs) =
     λ e. comment_more m c cs _ _ e (all_spaces cs (along m 1) blank space).inside in
     record {
       between =
@@ -222,15 +226,18 @@ all_spaces (c ∷ cs) m blank space =
     }
   where
     fed : (d : ℕ) → d ≡ 10 → (k : Marker) → m ≡ along k 1
-        → To (spaces (next_line m 1) true true cs).cursor.mark (spaces (next_line m 1) true true cs).cursor.rest
-        (next_line m 1) cs → To (spaces m blank space (d ∷ cs)).cursor.mark (spaces m blank space (d ∷ cs)).cursor.rest
+        → To (end_of_spaces (next_line m 1) true true cs).cursor.mark
+        (end_of_spaces (next_line m 1) true true cs).cursor.rest
+        (next_line m 1) cs → To (end_of_spaces m blank space (d ∷ cs)).cursor.mark
+        (end_of_spaces m blank space (d ∷ cs)).cursor.rest
         k (13 ∷ d ∷ cs)
     fed d e k q h =
-        let r = spaces (next_line m 1) true true cs in
-        subst (λ x. To (spaces m blank space (x ∷ cs)).cursor.mark (spaces m blank space (x ∷ cs)).cursor.rest k
+        let r = end_of_spaces (next_line m 1) true true cs in
+        subst (λ x. To (end_of_spaces m blank space (x ∷ cs)).cursor.mark
+        (end_of_spaces m blank space (x ∷ cs)).cursor.rest k
         (13 ∷ x ∷ cs)) (sym e)
         (crlf_break k cs r.cursor.mark r.cursor.rest
         (subst (λ (j : Marker). IsPassedOver (next_line j 1) cs r.cursor.mark r.cursor.rest) q h))
 
-pub spaces_apart : (space : Bool) (s : Cursor) → AreApart s (spaces s.mark s.blank_so_far space s.rest).cursor
+pub spaces_apart : (space : Bool) (s : Cursor) → AreApart s (end_of_spaces s.mark s.blank_so_far space s.rest).cursor
 spaces_apart space s = (all_spaces s.rest s.mark s.blank_so_far space).between

@@ -43,8 +43,9 @@ on_core_told P s (Err e) q h = h
 
 -- ## Documents
 
-pub stream_told : (s : State) → s.core.comment ≡ None → HoldsOrRefuses NotedState s.core.cursor (document.end_stream s)
-unfolding document.end_stream document.end_at
+pub stream_told : (s : State) → s.core.comment ≡ None
+    → HoldsOrRefuses NotedState s.core.cursor (document.state_behind_end s)
+unfolding document.state_behind_end document.end_at
 stream_told s n =
     let c = s.core.cursor in
     by_test (length c.rest == 0) _ _ (HoldsOrRefuses NotedState c)

@@ -44,8 +44,8 @@ next_entry c =
     (record d { key_allowed = true })
 
 -- `-`
-unfoldable pub entry : Core → StepResult
-entry c =
+unfoldable pub block_entry_steps : Core → StepResult
+block_entry_steps c =
     if not (in_block c) then refuse fault.DashInsideFlow c.cursor.mark
     else if not c.key_allowed then refuse fault.SequenceEntryNotAllowed c.cursor.mark
     else next_entry c
@@ -66,8 +66,8 @@ begin_key c =
     (record d { key_allowed = in_block d })
 
 -- `?`
-unfoldable pub key : Core → StepResult
-key c =
+unfoldable pub key_steps : Core → StepResult
+key_steps c =
     if in_block c && not c.key_allowed then refuse fault.KeyNotAllowed c.cursor.mark
     else (begin_key c >>= λ d. completed_step
     (behind_start (is_further c.cursor.mark.col c) c.cursor.mark tokens.BlockMappingStart

@@ -36,8 +36,8 @@ unfoldable pub end_at : Marker → State → Result State Refusal
 end_at m s = if s.core.required then refuse fault.KeyExpected m else Ok (finish m (unroll None m s))
 
 -- NUL, or the end of the text
-unfoldable pub end_stream : State → Result State Refusal
-end_stream s =
+unfoldable pub state_behind_end : State → Result State Refusal
+state_behind_end s =
     if length s.core.cursor.rest == 0 then end_at (end_mark s.core.cursor.mark) s
     else refuse fault.UnprintableCharacter s.core.cursor.mark
 
@@ -49,8 +49,8 @@ abbrev pub put_passed : Marker → Kind → Core → State → State
 put_passed m kind c s = with_action (up_to_here m kind c) (with_core c s)
 
 -- `---` or `...`
-unfoldable pub marker : Kind → State → Result State Refusal
-marker kind s = end_content s >>= λ t. Ok (put_passed t.core.cursor.mark kind (pass_marker t.core) t)
+unfoldable pub state_behind_marker : Kind → State → Result State Refusal
+state_behind_marker kind s = end_content s >>= λ t. Ok (put_passed t.core.cursor.mark kind (pass_marker t.core) t)
 
 unfoldable pub end_line : SkipTabs × State → Result State Refusal
 end_line x =
@@ -58,8 +58,9 @@ end_line x =
     x.1.core.cursor.mark
 
 -- `...`, and what stands behind it on its line
-unfoldable pub end_marker : State → Result State Refusal
-end_marker s = marker tokens.DocumentEnd s >>= λ t. on_core_with (separate t.core) t >>= end_line
+unfoldable pub state_behind_document_end : State → Result State Refusal
+state_behind_document_end s = state_behind_marker tokens.DocumentEnd s >>= λ t. on_core_with
+    (separate t.core) t >>= end_line
 
 abbrev pub pass_mark : Core → Core
 pass_mark c = record (with_cursor (pass_byte_order_mark c.cursor) c) { key_allowed = true }

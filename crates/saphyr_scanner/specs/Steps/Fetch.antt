@@ -31,8 +31,8 @@ abbrev pub is_value_adjacent : ℕ → Core → Bool
 is_value_adjacent second c = not (in_block c) && (is_flow second || (c.cursor.mark.index == c.adjacent))
 
 -- a colon inside flow that no blank follows
-unfoldable pub flow_value : ℕ → Core → StepResult
-flow_value second c =
+unfoldable pub flow_value_steps : ℕ → Core → StepResult
+flow_value_steps second c =
     if not (c.cursor.mark.index == c.adjacent) && ((second == left_bracket) || (second == left_brace)) then
     refuse fault.ColonBeforeFlow c.cursor.mark
     else value.value_steps c
@@ -45,10 +45,10 @@ step first second n c =
     else if first == right_bracket then flow.sequence_end_steps c
     else if first == right_brace then flow.mapping_end_steps c
     else if first == comma then flow.flow_entry_steps c
-    else if (first == hyphen) && is_blank_or_breakz second then block.entry c
-    else if (first == question_mark) && is_blank_or_breakz second then block.key c
+    else if (first == hyphen) && is_blank_or_breakz second then block.block_entry_steps c
+    else if (first == question_mark) && is_blank_or_breakz second then block.key_steps c
     else if (first == colon) && is_blank_or_breakz second then value.value_steps c
-    else if (first == colon) && is_value_adjacent second c then flow_value second c
+    else if (first == colon) && is_value_adjacent second c then flow_value_steps second c
     else if first == quotation_mark then scalar.double_quoted_steps n c
     else if first == apostrophe then scalar.single_quoted_steps n c
     else if first == asterisk then property.alias_steps n c
@@ -67,11 +67,11 @@ state_behind_content first second s = after_step (step first second (next s.queu
 unfoldable pub fetch_here : State → Result State Refusal
 fetch_here s =
     let c = s.core in let t = c.cursor.rest in let at_start = c.cursor.mark.col == 0 in
-    if is_z (slice_index t 0) then document.end_stream s
+    if is_z (slice_index t 0) then document.state_behind_end s
     else if is_bom (slice_index t 0) then document.state_behind_byte_order_mark s
     else if at_start && (slice_index t 0 == percent_sign) then document.state_behind_directive s
-    else if at_start && is_document_start t then document.marker tokens.DocumentStart s
-    else if at_start && is_document_end t then document.end_marker s
+    else if at_start && is_document_start t then document.state_behind_marker tokens.DocumentStart s
+    else if at_start && is_document_end t then document.state_behind_document_end s
     else if nat_lt c.cursor.mark.col (least_column c) then refuse fault.InvalidIndentation c.cursor.mark
     else state_behind_content (slice_index t 0) (slice_index t 1) s
 

@@ -4,6 +4,7 @@ use Rattle.saphyr_scalar.specs.declared.scalar.position.Marker.{Marker}
 use Rattle.saphyr_scalar.specs.declared.scalar.fault.FaultText.TheVariants as fault
 use Rattle.saphyr_scalar.specs.Views.Cursor.{◌>>=◌, refuse}
 use Rattle.saphyr_scanner.specs.declared.engine.level.Context.{Context}
+use Rattle.saphyr_scanner.specs.Grammar.Layout.{most_open}
 use Rattle.saphyr_scanner.specs.Grammar.Tokens as tokens
 use Rattle.saphyr_scanner.specs.Grammar.Tokens.{Kind}
 use Rattle.saphyr_scanner.specs.Steps.Core.{Core, Action, StepResult, completed_step, at_mark, up_to_here, in_block, save_key, remove_key, with_context, go_deeper}
@@ -22,10 +23,10 @@ leave_to (l ∷ ls) c = record c { level = l; outer = ls; key_allowed = false }
 abbrev pub leave : Core → Core
 leave c = leave_to c.outer c
 
--- At most 255 flow collections are open at once.
+-- No more than `most_open` flow collections are open at once.
 unfoldable pub open_collection : Context → Kind → Core → StepResult
 open_collection x kind c =
-    if nat_le 255 (length c.outer) then refuse fault.RecursionLimit c.cursor.mark
+    if nat_le most_open (length c.outer) then refuse fault.RecursionLimit c.cursor.mark
     else (separate (pass_on 1 (enter x c)) >>= λ d. completed_step (up_to_here c.cursor.mark kind d.1 ∷ []) d.1)
 
 -- `[` or `{`, which may begin a key

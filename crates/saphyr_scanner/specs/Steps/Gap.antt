@@ -32,26 +32,27 @@ is_tab_indentation least m blank c = (c == tab) && blank && nat_lt m.col least
 
 -- Told character by character. CR before LF counts as a character of its line, and the LF ends the line.
 abbrev mutual
-  pub gap : ℕ → Marker → Bool → Bool → Bool → List ℕ → Result GapEnd Refusal
-  gap least m blank broke tabbed [] = stop m blank broke tabbed []
-  gap least m blank broke tabbed (c ∷ cs) =
+  pub end_of_gap : ℕ → Marker → Bool → Bool → Bool → List ℕ → Result GapEnd Refusal
+  end_of_gap least m blank broke tabbed [] = stop m blank broke tabbed []
+  end_of_gap least m blank broke tabbed (c ∷ cs) =
       if is_blank c || ((c == carriage_return) && (slice_index cs 0 == line_feed)) then
-      gap least (along m 1) blank broke (is_tab_indentation least m blank c || tabbed) cs
-      else if is_break c then gap least (next_line m 1) true true false cs
-      else if c == number_sign then comment least (along m 1) blank broke tabbed cs
+      end_of_gap least (along m 1) blank broke (is_tab_indentation least m blank c || tabbed) cs
+      else if is_break c then end_of_gap least (next_line m 1) true true false cs
+      else if c == number_sign then end_of_gap_in_comment least (along m 1) blank broke tabbed cs
       else stop m blank broke tabbed (c ∷ cs)
 
   -- behind the `#` of a comment
-  pub comment : ℕ → Marker → Bool → Bool → Bool → List ℕ → Result GapEnd Refusal
-  comment least m blank broke tabbed [] = stop m blank broke tabbed []
-  comment least m blank broke tabbed (c ∷ cs) =
-      if is_yaml_non_break c then comment least (along m 1) blank broke tabbed cs
-      else if (c == carriage_return) && (slice_index cs 0 == line_feed) then gap least (along m 1) blank broke tabbed cs
-      else if is_break c then gap least (next_line m 1) true true false cs
+  pub end_of_gap_in_comment : ℕ → Marker → Bool → Bool → Bool → List ℕ → Result GapEnd Refusal
+  end_of_gap_in_comment least m blank broke tabbed [] = stop m blank broke tabbed []
+  end_of_gap_in_comment least m blank broke tabbed (c ∷ cs) =
+      if is_yaml_non_break c then end_of_gap_in_comment least (along m 1) blank broke tabbed cs
+      else if (c == carriage_return) && (slice_index cs 0 == line_feed) then end_of_gap least
+      (along m 1) blank broke tabbed cs
+      else if is_break c then end_of_gap least (next_line m 1) true true false cs
       else stop m blank broke tabbed (c ∷ cs)
 
 abbrev pub gap_at : ℕ → Bool → Bool → Cursor → Result GapEnd Refusal
-gap_at least broke tabbed s = gap least s.mark s.blank_so_far broke tabbed s.rest
+gap_at least broke tabbed s = end_of_gap least s.mark s.blank_so_far broke tabbed s.rest
 
 -- what stands between two tokens is passed, where content has to reach a column
 abbrev pub whole_gap : ℕ → Cursor → Result GapEnd Refusal
@@ -71,22 +72,22 @@ spaces_end m blank found text = record {
 }
 
 abbrev mutual
-  pub spaces : Marker → Bool → Bool → List ℕ → SpacesEnd
-  spaces m blank found [] = spaces_end m blank found []
-  spaces m blank found (c ∷ cs) =
+  pub end_of_spaces : Marker → Bool → Bool → List ℕ → SpacesEnd
+  end_of_spaces m blank found [] = spaces_end m blank found []
+  end_of_spaces m blank found (c ∷ cs) =
       if (c == space) || ((c == carriage_return) && (slice_index cs 0 == line_feed)) then
-      spaces (along m 1) blank true cs
-      else if is_break c then spaces (next_line m 1) true true cs
-      else if c == number_sign then line_comment (along m 1) blank found cs
+      end_of_spaces (along m 1) blank true cs
+      else if is_break c then end_of_spaces (next_line m 1) true true cs
+      else if c == number_sign then end_of_spaces_in_comment (along m 1) blank found cs
       else spaces_end m blank found (c ∷ cs)
 
-  pub line_comment : Marker → Bool → Bool → List ℕ → SpacesEnd
-  line_comment m blank found [] = spaces_end m blank found []
-  line_comment m blank found (c ∷ cs) =
-      if is_yaml_non_break c then line_comment (along m 1) blank found cs
-      else if (c == carriage_return) && (slice_index cs 0 == line_feed) then spaces (along m 1) blank true cs
-      else if is_break c then spaces (next_line m 1) true true cs
+  pub end_of_spaces_in_comment : Marker → Bool → Bool → List ℕ → SpacesEnd
+  end_of_spaces_in_comment m blank found [] = spaces_end m blank found []
+  end_of_spaces_in_comment m blank found (c ∷ cs) =
+      if is_yaml_non_break c then end_of_spaces_in_comment (along m 1) blank found cs
+      else if (c == carriage_return) && (slice_index cs 0 == line_feed) then end_of_spaces (along m 1) blank true cs
+      else if is_break c then end_of_spaces (next_line m 1) true true cs
       else spaces_end m blank found (c ∷ cs)
 
 abbrev pub spaces_at : Bool → Cursor → SpacesEnd
-spaces_at found s = spaces s.mark s.blank_so_far found s.rest
+spaces_at found s = end_of_spaces s.mark s.blank_so_far found s.rest

@@ -60,10 +60,10 @@ impl<T: Input> Engine<T> {
 
     // `-`.
     #[inline(always)]
-    #[tactic(auto, unfolding(crate::specs::Steps::Block::entry, crate::specs::Steps::Block::next_entry))]
+    #[tactic(auto, unfolding(crate::specs::Steps::Block::block_entry_steps, crate::specs::Steps::Block::next_entry))]
     pub(super) fn fetch_block_entry(&mut self) -> Result<(), Stop>
         requires { 0 < length (state self.old).core.cursor.rest }
-        ensures { ActsBy block.entry self.old result self.new }
+        ensures { ActsBy block.block_entry_steps self.old result self.new }
     {
         if !self.in_block() {
             return Err(self.refuse_here(FaultText::DashInsideFlow));
@@ -86,10 +86,10 @@ impl<T: Input> Engine<T> {
     }
 
     // `?`.
-    #[tactic(auto, unfolding(crate::specs::Steps::Block::key, crate::specs::Steps::Block::begin_key, crate::specs::Steps::Block::behind_mark, crate::specs::Steps::Core::remove_key))]
+    #[tactic(auto, unfolding(crate::specs::Steps::Block::key_steps, crate::specs::Steps::Block::begin_key, crate::specs::Steps::Block::behind_mark, crate::specs::Steps::Core::remove_key))]
     pub(super) fn fetch_key(&mut self) -> Result<(), Stop>
         requires { 0 < length (state self.old).core.cursor.rest }
-        ensures { ActsBy block.key self.old result self.new }
+        ensures { ActsBy block.key_steps self.old result self.new }
     {
         if self.in_block() && !self.key_allowed {
             return Err(self.refuse_here(FaultText::KeyNotAllowed));

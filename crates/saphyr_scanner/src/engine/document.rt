@@ -30,10 +30,10 @@ impl<T: Input> Engine<T> {
 
     // NUL, or the end of the text.
     #[inline(never)]
-    #[tactic(auto, unfolding(crate::specs::Steps::Document::end_stream, crate::specs::Steps::Document::end_at))]
+    #[tactic(auto, unfolding(crate::specs::Steps::Document::state_behind_end, crate::specs::Steps::Document::end_at))]
     pub(super) fn fetch_end(&mut self) -> Result<(), Stop>
         requires { slice_index (state self.old).core.cursor.rest 0 ≡ 0 }
-        ensures { MovesBy document.end_stream self.old result self.new }
+        ensures { MovesBy document.state_behind_end self.old result self.new }
     {
         self.reader.load(1);
         if self.reader.input().peek_opt().is_some() {
@@ -51,10 +51,10 @@ impl<T: Input> Engine<T> {
     }
 
     // `---` or `...`.
-    #[tactic(auto, using(crate::proofs::Blocks::unrolled_cursor), unfolding(crate::specs::Steps::Document::marker, crate::specs::Steps::Document::end_content, crate::specs::Steps::Core::remove_key))]
+    #[tactic(auto, using(crate::proofs::Blocks::unrolled_cursor), unfolding(crate::specs::Steps::Document::state_behind_marker, crate::specs::Steps::Document::end_content, crate::specs::Steps::Core::remove_key))]
     pub(super) fn fetch_document_marker(&mut self, kind: TokenType) -> Result<(), Stop>
         requires { 3 ≤ length (state self.old).core.cursor.rest }
-        ensures { MovesBy (document.marker (kind_of kind)) self.old result self.new }
+        ensures { MovesBy (document.state_behind_marker (kind_of kind)) self.old result self.new }
     {
         self.end_content()?;
         self.key_allowed = false;
@@ -68,16 +68,17 @@ impl<T: Input> Engine<T> {
     #[inline(never)]
     pub(super) fn fetch_document_start(&mut self) -> Result<(), Stop>
         requires { 3 ≤ length (state self.old).core.cursor.rest }
-        ensures { MovesBy (document.marker tokens.DocumentStart) self.old result self.new }
+        ensures { MovesBy (document.state_behind_marker tokens.DocumentStart) self.old result
+            self.new }
     {
         self.fetch_document_marker(TokenType::DocumentStart)
     }
 
     // `...` and what stands behind it on its line.
-    #[tactic(auto, unfolding(crate::specs::Steps::Document::end_marker, crate::specs::Steps::Document::end_line))]
+    #[tactic(auto, unfolding(crate::specs::Steps::Document::state_behind_document_end, crate::specs::Steps::Document::end_line))]
     pub(super) fn fetch_document_end(&mut self) -> Result<(), Stop>
         requires { 3 ≤ length (state self.old).core.cursor.rest }
-        ensures { MovesBy document.end_marker self.old result self.new }
+        ensures { MovesBy document.state_behind_document_end self.old result self.new }
     {
         self.fetch_document_marker(TokenType::DocumentEnd)?;
         self.separate()?;

@@ -169,10 +169,10 @@ impl<T: Input> Engine<T> {
     }
 
     // A colon inside flow that no blank follows.
-    #[tactic(auto, unfolding(crate::specs::Steps::Fetch::flow_value))]
+    #[tactic(auto, unfolding(crate::specs::Steps::Fetch::flow_value_steps))]
     fn fetch_flow_value(&mut self, next: char) -> Result<(), Stop>
         requires { 0 < length (state self.old).core.cursor.rest }
-        ensures { ActsBy (fetch.flow_value next) self.old result self.new }
+        ensures { ActsBy (fetch.flow_value_steps next) self.old result self.new }
     {
         if self.reader.mark().index != self.adjacent && (next == '[' || next == '{') {
             return Err(self.refuse_here(FaultText::ColonBeforeFlow));
@@ -184,7 +184,7 @@ impl<T: Input> Engine<T> {
     #[inline(never)]
     fn fetches_flow_value(&mut self, next: char) -> bool
         requires { 0 < length (state self.old).core.cursor.rest }
-        ensures { ActsBy (fetch.flow_value next) self.old (answer_of result self.new.stop)
+        ensures { ActsBy (fetch.flow_value_steps next) self.old (answer_of result self.new.stop)
             self.new }
     {
         let ended = self.fetch_flow_value(next);

@@ -2,14 +2,14 @@ use Rattle.std.proofs.Common.{ap, ◌∙◌, arith}
 use Rattle.saphyr_parser.specs.Cursor.{at_start}
 use Rattle.saphyr_parser.proofs.Promises.KeepsSpans.{parser_keeps_spans}
 use Rattle.saphyr_parser.proofs.Promises.ReadsClosedLayout.{reads_closed_layout}
-use Rattle.saphyr_parser.proofs.Promises.ReadsJson.{reads_json}
+use Rattle.saphyr_parser.proofs.Promises.ReadsJson.{reads_each_json}
 use Rattle.saphyr_parser.proofs.Promises.ReadsLayout.{reads_layout}
 use Rattle.saphyr_parser.proofs.Promises.TakesEvents.{parser_takes}
 use Rattle.saphyr_parser.proofs.parser.cursor.Parser.with_limit.Goals as goal
 
 pub returns-clause-json : goal.returns-clause-json
 returns-clause-json g c =
-    reads_json c.scans_each_json.ensures c.gives_json.ensures.parser _ _ _
+    reads_each_json c.scans_each_json.ensures c.gives_json.ensures.parser _ _ _
     (c.new-2.ensures ∙ ap at_start c.new.ensures.tokens)
 
 pub returns-clause-spans : goal.returns-clause-spans
