@@ -64,8 +64,7 @@ directive_view (directives.Reserved name) = forest.Reserved (text_view name)
 
 abbrev pub document_view : Document → forest.Document
 document_view d = record {
-  explicit =
-      d.explicit;
+  explicit = d.explicit;
   directives = map directive_view d.directives.items;
   node = node_view d.node;
 }

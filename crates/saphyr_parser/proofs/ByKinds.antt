@@ -47,8 +47,7 @@ as_before : (a c b d : Answer) → a ≡ c → b ≡ d → Alike c d → Alike a
 as_before a c b d e f h =
     record {
       told = ap happenings_of f ∙ h.told ∙ sym (ap happenings_of e);
-      fault =
-          ap (λ (v : Answer). is_some v.fault) f ∙ h.fault ∙ sym (ap (λ (v : Answer). is_some v.fault) e);
+      fault = ap (λ (v : Answer). is_some v.fault) f ∙ h.fault ∙ sym (ap (λ (v : Answer). is_some v.fault) e);
     }
 
 first_step : (m : Machine)

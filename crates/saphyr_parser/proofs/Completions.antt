@@ -86,10 +86,8 @@ outside : (s : State) → IsOutside s → Completion s []
 outside state.StreamStart i =
     record {
       kinds = StreamStart ∷ StreamEnd ∷ [];
-      parts =
-          OpenStream ∷ CloseStream ∷ [];
-      follows =
-          ([], ([], StreamEnd ∷ [], tt, refl, refl), refl);
+      parts = OpenStream ∷ CloseStream ∷ [];
+      follows = ([], ([], StreamEnd ∷ [], tt, refl, refl), refl);
       starts = λ ahead. tt;
       some = λ e. cc;
       quiet = (tt, (tt, tt));
@@ -97,10 +95,8 @@ outside state.StreamStart i =
 outside state.ImplicitDocumentStart i =
     record {
       kinds = StreamEnd ∷ [];
-      parts =
-          CloseStream ∷ [];
-      follows =
-          ([], [], StreamEnd ∷ [], tt, refl, refl, refl);
+      parts = CloseStream ∷ [];
+      follows = ([], [], StreamEnd ∷ [], tt, refl, refl, refl);
       starts = λ ahead. tt;
       some = λ e. cc;
       quiet = (tt, tt);
@@ -108,10 +104,8 @@ outside state.ImplicitDocumentStart i =
 outside state.DocumentStart i =
     record {
       kinds = StreamEnd ∷ [];
-      parts =
-          CloseStream ∷ [];
-      follows =
-          ([], [], StreamEnd ∷ [], tt, refl, refl, refl);
+      parts = CloseStream ∷ [];
+      follows = ([], [], StreamEnd ∷ [], tt, refl, refl, refl);
       starts = λ ahead b. tt;
       some = λ e. cc;
       quiet = (tt, tt);
@@ -119,12 +113,9 @@ outside state.DocumentStart i =
 outside state.DocumentEnd i =
     record {
       kinds = StreamEnd ∷ [];
-      parts =
-          CloseDocument ∷ CloseStream ∷ [];
-      follows =
-          ([], ([], [], StreamEnd ∷ [], tt, inl (refl, refl), refl), refl);
-      starts =
-          λ ahead. tt;
+      parts = CloseDocument ∷ CloseStream ∷ [];
+      follows = ([], ([], [], StreamEnd ∷ [], tt, inl (refl, refl), refl), refl);
+      starts = λ ahead. tt;
       some = λ e. cc;
       quiet = (tt, (tt, tt));
     }
@@ -168,8 +159,7 @@ inside : (s other : State) (ss : List State) → IsInsideDocument s → Completi
 inside state.DocumentContent o ss i c =
     record {
       kinds = c.kinds;
-      parts =
-          leaf ∷ c.parts;
+      parts = leaf ∷ c.parts;
       follows =
           put (IsOptionalOf InBlock) (FollowsStates o ss) [] (leaf ∷ []) c.kinds c.parts (
             forest.left_out,
@@ -184,21 +174,18 @@ inside state.DocumentContent o ss i c =
 inside state.BlockNode o ss i c =
     record {
       kinds = scalar_token Plain [] ∷ c.kinds;
-      parts =
-          leaf ∷ c.parts;
+      parts = leaf ∷ c.parts;
       follows =
           put (IsNodeOf InBlock) (FollowsStates o ss) (scalar_token Plain [] ∷ []) (leaf ∷ []) c.kinds c.parts
           (forest.left_out, ([], scalar_token Plain [] ∷ [], refl, inl refl, refl), refl) c.follows;
-      starts =
-          λ ahead. tt;
+      starts = λ ahead. tt;
       some = λ e. cc;
       quiet = (refl, c.quiet);
     }
 inside state.BlockSequenceEntry o ss i c =
     record {
       kinds = BlockEnd ∷ c.kinds;
-      parts =
-          CloseSequence ∷ c.parts;
+      parts = CloseSequence ∷ c.parts;
       follows =
           collection_ends BlockEntries (FollowsStates o ss) (BlockEnd ∷ []) CloseSequence c.kinds c.parts
           (NoNode, refl, refl)
@@ -210,8 +197,7 @@ inside state.BlockSequenceEntry o ss i c =
 inside state.IndentlessSequenceEntry o ss i c =
     record {
       kinds = BlockEntry ∷ c.kinds;
-      parts =
-          leaf ∷ CloseSequence ∷ c.parts;
+      parts = leaf ∷ CloseSequence ∷ c.parts;
       follows =
           one_entry (Then (Exactly [] (CloseSequence ∷ [])) (FollowsStates o ss)) c.kinds
           (leaf ∷ CloseSequence ∷ c.parts)
@@ -219,44 +205,37 @@ inside state.IndentlessSequenceEntry o ss i c =
           (forest.left_out, inl (refl, refl), refl)
           (collection_ends BlockEntries (FollowsStates o ss) [] CloseSequence c.kinds c.parts (NoNode, refl, refl)
           c.follows));
-      starts =
-          λ ahead b. tt;
+      starts = λ ahead b. tt;
       some = λ e. cc;
       quiet = (refl, (tt, c.quiet));
     }
 inside state.BlockMappingKey o ss i c =
     record {
       kinds = BlockEnd ∷ c.kinds;
-      parts =
-          CloseMapping ∷ c.parts;
-      follows =
-          block_pairs_end (FollowsStates o ss) c.kinds c.parts c.follows;
-      starts =
-          λ ahead b. absurd b;
+      parts = CloseMapping ∷ c.parts;
+      follows = block_pairs_end (FollowsStates o ss) c.kinds c.parts c.follows;
+      starts = λ ahead b. absurd b;
       some = λ e. cc;
       quiet = (tt, c.quiet);
     }
 inside state.BlockMappingValue o ss i c =
     record {
       kinds = Value ∷ BlockEnd ∷ c.kinds;
-      parts =
-          leaf ∷ CloseMapping ∷ c.parts;
+      parts = leaf ∷ CloseMapping ∷ c.parts;
       follows =
           inl (marked_value InBlockMapping (InBlockPairs (FollowsStates o ss)) (BlockEnd ∷ c.kinds)
           (leaf ∷ CloseMapping ∷
           c.parts)
           (put (IsOptionalOf InBlockMapping) (InBlockPairs (FollowsStates o ss)) [] (leaf ∷ []) _ _
           (forest.left_out, inl (refl, refl), refl) (block_pairs_end (FollowsStates o ss) c.kinds c.parts c.follows)));
-      starts =
-          λ ahead b. tt;
+      starts = λ ahead b. tt;
       some = λ e. cc;
       quiet = (refl, (tt, c.quiet));
     }
 inside state.FlowSequenceFirstEntry o ss i c =
     record {
       kinds = FlowSequenceEnd ∷ c.kinds;
-      parts =
-          CloseSequence ∷ c.parts;
+      parts = CloseSequence ∷ c.parts;
       follows =
           collection_ends FirstEntries (FollowsStates o ss) (FlowSequenceEnd ∷ []) CloseSequence c.kinds c.parts
           (NoNode, refl, refl)
@@ -268,10 +247,8 @@ inside state.FlowSequenceFirstEntry o ss i c =
 inside state.FlowSequenceEntry o ss i c =
     record {
       kinds = FlowSequenceEnd ∷ c.kinds;
-      parts =
-          CloseSequence ∷ c.parts;
-      follows =
-          entries_end (FollowsStates o ss) c.kinds c.parts c.follows;
+      parts = CloseSequence ∷ c.parts;
+      follows = entries_end (FollowsStates o ss) c.kinds c.parts c.follows;
       starts = λ ahead. tt;
       some = λ e. cc;
       quiet = (tt, c.quiet);
@@ -279,44 +256,35 @@ inside state.FlowSequenceEntry o ss i c =
 inside state.FlowSequenceEntryMappingKey o ss i c =
     record {
       kinds = FlowSequenceEnd ∷ c.kinds;
-      parts =
-          leaf ∷ leaf ∷ CloseMapping ∷ CloseSequence ∷ c.parts;
+      parts = leaf ∷ leaf ∷ CloseMapping ∷ CloseSequence ∷ c.parts;
       follows =
           maybe (AtPairValue (FollowsStates o ss)) _ _ (pair_value (FollowsStates o ss) c.kinds c.parts c.follows);
-      starts =
-          λ ahead. tt;
+      starts = λ ahead. tt;
       some = λ e. cc;
       quiet = (refl, (refl, (tt, (tt, c.quiet))));
     }
 inside state.FlowSequenceEntryMappingValue o ss i c =
     record {
       kinds = FlowSequenceEnd ∷ c.kinds;
-      parts =
-          leaf ∷ CloseMapping ∷ CloseSequence ∷ c.parts;
-      follows =
-          pair_value (FollowsStates o ss) c.kinds c.parts c.follows;
-      starts =
-          λ ahead. tt;
+      parts = leaf ∷ CloseMapping ∷ CloseSequence ∷ c.parts;
+      follows = pair_value (FollowsStates o ss) c.kinds c.parts c.follows;
+      starts = λ ahead. tt;
       some = λ e. cc;
       quiet = (refl, (tt, (tt, c.quiet)));
     }
 inside (state.FlowSequenceEntryMappingEnd place) o ss i c =
     record {
       kinds = FlowSequenceEnd ∷ c.kinds;
-      parts =
-          CloseMapping ∷ CloseSequence ∷ c.parts;
-      follows =
-          pair_ends (FollowsStates o ss) c.kinds c.parts c.follows;
-      starts =
-          λ ahead. tt;
+      parts = CloseMapping ∷ CloseSequence ∷ c.parts;
+      follows = pair_ends (FollowsStates o ss) c.kinds c.parts c.follows;
+      starts = λ ahead. tt;
       some = λ e. cc;
       quiet = (tt, (tt, c.quiet));
     }
 inside state.FlowMappingFirstKey o ss i c =
     record {
       kinds = FlowMappingEnd ∷ c.kinds;
-      parts =
-          CloseMapping ∷ c.parts;
+      parts = CloseMapping ∷ c.parts;
       follows =
           collection_ends FirstPairs (FollowsStates o ss) (FlowMappingEnd ∷ []) CloseMapping c.kinds c.parts
           (NoPair, refl, refl)
@@ -328,10 +296,8 @@ inside state.FlowMappingFirstKey o ss i c =
 inside state.FlowMappingKey o ss i c =
     record {
       kinds = FlowMappingEnd ∷ c.kinds;
-      parts =
-          CloseMapping ∷ c.parts;
-      follows =
-          pairs_end (FollowsStates o ss) c.kinds c.parts c.follows;
+      parts = CloseMapping ∷ c.parts;
+      follows = pairs_end (FollowsStates o ss) c.kinds c.parts c.follows;
       starts = λ ahead. tt;
       some = λ e. cc;
       quiet = (tt, c.quiet);
@@ -339,27 +305,22 @@ inside state.FlowMappingKey o ss i c =
 inside state.FlowMappingValue o ss i c =
     record {
       kinds = Value ∷ FlowMappingEnd ∷ c.kinds;
-      parts =
-          leaf ∷ CloseMapping ∷ c.parts;
+      parts = leaf ∷ CloseMapping ∷ c.parts;
       follows =
           any_value InFlow (InMapping (FollowsStates o ss)) _ _
           (marked_value InFlow (InMapping (FollowsStates o ss)) (FlowMappingEnd ∷ c.kinds)
           (leaf ∷ CloseMapping ∷ c.parts)
           (maybe (InMapping (FollowsStates o ss)) _ _ (pairs_end (FollowsStates o ss) c.kinds c.parts c.follows)));
-      starts =
-          λ ahead b. tt;
+      starts = λ ahead b. tt;
       some = λ e. cc;
       quiet = (refl, (tt, c.quiet));
     }
 inside state.FlowMappingEmptyValue o ss i c =
     record {
       kinds = FlowMappingEnd ∷ c.kinds;
-      parts =
-          leaf ∷ CloseMapping ∷ c.parts;
-      follows =
-          skip (InMapping (FollowsStates o ss)) _ _ (pairs_end (FollowsStates o ss) c.kinds c.parts c.follows);
-      starts =
-          λ ahead. tt;
+      parts = leaf ∷ CloseMapping ∷ c.parts;
+      follows = skip (InMapping (FollowsStates o ss)) _ _ (pairs_end (FollowsStates o ss) c.kinds c.parts c.follows);
+      starts = λ ahead. tt;
       some = λ e. cc;
       quiet = (refl, (tt, c.quiet));
     }

@@ -149,13 +149,10 @@ module _ {R : Type 0} (receives : R → Happening × Span → Result (Unit {0}) 
 
   pub begins : (multi : Bool) (c : EventCursor) (r : R) → c.kept ≡ None → Going multi c r r c
   begins multi c r none = record {
-    sent =
-        [];
+    sent = [];
     part = refl;
-    passed =
-        record { events = refl; fault = refl; remembered = record { inside = refl; finished = refl } };
-    sends =
-        refl;
+    passed = record { events = refl; fault = refl; remembered = record { inside = refl; finished = refl } };
+    sends = refl;
     leaves = refl;
     kept = none;
   }

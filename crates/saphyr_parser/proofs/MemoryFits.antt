@@ -210,8 +210,7 @@ fits_after false keep front e (OpenDocument x ds) more m h l = record {
 fits_after true keep front e CloseDocument more m h l =
     record {
       keeps = h.keeps;
-      count =
-          h.count;
+      count = h.count;
       prefixes = λ handle. kept_meaning keep e.keep handle front e.prefixes h.keeps (h.prefixes handle);
     }
 fits_after true keep front e (Reference name) more m h l =

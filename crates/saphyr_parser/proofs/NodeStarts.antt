@@ -68,8 +68,7 @@ property_head c (Some a) (Some g) front content t (inl h) z e =
 property_head c (Some a) (Some g) front content t (inr h) z e =
     record {
       first = tag_token g;
-      others =
-          anchor_token a ∷ content;
+      others = anchor_token a ∷ content;
       is = e ∙ ap (λ l. l ++ content) h;
       starts = tag_starts c g;
     }

@@ -36,8 +36,7 @@ pub behind_own : {next : List Piece} (t : Piece) (used : List Piece) (what : Hap
 behind_own t used what span b h =
     record {
       front = t ∷ h.front;
-      own =
-          h.own;
+      own = h.own;
       are = ap (λ (l : List Piece). t ∷ l) h.are;
       passed = (b, h.passed);
       is_of = h.is_of;

@@ -34,10 +34,8 @@ placeless_tokens r = record { pieces = map placeless_piece r.pieces; refusal = N
 -- the machine's tokens, and what is expected, without their places, and without the refusal that ends the tokens
 abbrev pub placeless : Machine → Machine
 placeless m = record m {
-  tokens =
-      placeless_tokens m.tokens;
-  state =
-      placeless_state m.state;
+  tokens = placeless_tokens m.tokens;
+  state = placeless_state m.state;
   states = map placeless_state m.states;
 }
 

@@ -23,8 +23,7 @@ use Rattle.saphyr_parser.proofs.Told.Telling.{SpansByKinds, Memory, at, tells}
 abbrev pub noted : Option (List ℕ) → Memory → Memory
 noted None e = e
 noted (Some name) e = record {
-  anchors =
-      with_anchor (encode_utf8_all name) e.anchors;
+  anchors = with_anchor (encode_utf8_all name) e.anchors;
   prefixes = e.prefixes;
   keep = e.keep;
 }
@@ -39,8 +38,7 @@ declaring (Reserved _ ∷ others) names = declaring others names
 
 abbrev pub opening : List Directive → Memory → Memory
 opening directives e = record {
-  anchors =
-      without_ids e.anchors;
+  anchors = without_ids e.anchors;
   prefixes = declaring directives e.prefixes;
   keep = e.keep;
 }

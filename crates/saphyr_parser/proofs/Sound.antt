@@ -251,18 +251,14 @@ from_start tokens keep a l h =
       f,
       record {
         read = h.read;
-        unread =
-            h.unread;
+        unread = h.unread;
         are_read = h.are_read;
-        expected =
-            h.expected;
+        expected = h.expected;
         yielded = yielded;
-        missing =
-            h.missing;
+        missing = h.missing;
         are_events = sym same
             ∙ subst (λ (ps : List Part). events_in (at_first keep) ps ≡ Some (happenings_of a ++ h.missing)) are h.told;
-        places =
-            h.places;
+        places = h.places;
         all_read = h.all_read;
         all_expected = h.all_expected;
         all_given = h.all_given;

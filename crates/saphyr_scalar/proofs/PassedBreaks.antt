@@ -83,10 +83,8 @@ feed_here m c cs r e b p =
 pub stop_here : (m : Marker) (c : ℕ) (cs : List ℕ) (b : Bool) → is_break c ≡ false
     → PassesBreak m (c ∷ cs) (record { rest = c ∷ cs; mark = m; blank_so_far = b })
 stop_here m c cs b e = record {
-  here =
-      passing.nothing m (c ∷ cs);
-  behind_return =
-      λ f k q. absurd (let g : is_break c ≡ true = ap is_break (eqb-true c 10 f) in cc);
+  here = passing.nothing m (c ∷ cs);
+  behind_return = λ f k q. absurd (let g : is_break c ≡ true = ap is_break (eqb-true c 10 f) in cc);
 }
 
 pub end_here : (m : Marker) (b : Bool) → PassesBreak m [] (record { rest = []; mark = m; blank_so_far = b })

@@ -28,8 +28,7 @@ stays s t e = let P : Cursor → Type 0 =
 
 pub ahead_ahead : (s t u : Cursor) → Ahead s t → Ahead t u → Ahead s u
 ahead_ahead s t u a b = record {
-  later =
-      omega (arith, a.later, b.later);
+  later = omega (arith, a.later, b.later);
   counted = omega (arith, a.counted, b.counted);
 }
 

@@ -85,10 +85,8 @@ with_opening_agrees o (p ∷ hs) ws (suc n) h =
 
 put_behind : (hs : List Place) (t : Piece) (q p : Queue) → Behind hs q p → Behind hs (with_piece t q) (with_piece t p)
 put_behind hs t q p b = record {
-  places =
-      ap (λ xs. xs ++ bare_place t ∷ []) b.places ∙ append_assoc hs p.places (bare_place t ∷ []);
-  none =
-      b.none;
+  places = ap (λ xs. xs ++ bare_place t ∷ []) b.places ∙ append_assoc hs p.places (bare_place t ∷ []);
+  none = b.none;
   handed = b.handed;
 }
 

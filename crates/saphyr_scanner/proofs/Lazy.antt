@@ -148,10 +148,8 @@ next_goes s p ps hs n g h =
     record {
       core = refl;
       queue = record {
-        places =
-            g.queue.places ∙ sym (append_assoc hs (p ∷ []) ps);
-        none =
-            g.queue.none;
+        places = g.queue.places ∙ sym (append_assoc hs (p ∷ []) ps);
+        none = g.queue.none;
         handed = omega (arith, handed, len);
       };
       above = subst (λ m. Above m s.core) (sym len) no_key;
@@ -194,8 +192,7 @@ ended_gives laws limit d free hs ws k b =
     let e : k + length ws ≡ length d.queue.places = omega (arith, places, l, handed) in
     record {
       left = ws;
-      places =
-          b.places;
+      places = b.places;
       tokens = λ n h. all_out laws limit n d.core free h ws k
           ∙ ap (λ i. onto (flat ws) (rest limit (holding d.core [] i))) e;
     }

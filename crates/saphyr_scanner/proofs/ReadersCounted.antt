@@ -85,8 +85,7 @@ block_counted s t span a b e c =
     let i : span.end.index ≡ t.mark.index = ap (λ (m : Marker). m.index) e in
     record {
       ahead = record { later = omega (arith, a, b, i); counted = c };
-      begins =
-          a;
+      begins = a;
       inside = b;
       ends = omega (arith, i);
     }

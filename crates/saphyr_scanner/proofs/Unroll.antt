@@ -103,8 +103,7 @@ filled_in laws limit (suc n) s t a k e =
         let is : s ≡ t = cc in
         record {
           same = ap (rest limit) is;
-          ready =
-              subst (λ x. needs_token x ≡ false) is needs;
+          ready = subst (λ x. needs_token x ≡ false) is needs;
           settles = subst IsSettled is k;
         }
 

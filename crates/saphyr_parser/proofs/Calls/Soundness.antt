@@ -113,8 +113,7 @@ failing None None m i s f new (refuses, left) sound =
     subst IsSound (sym left)
     (record {
       ahead = tt;
-      finished =
-          none_read s None None None (given_fault f) m new.machine i i s s (not_over f m refuses) sound.finished;
+      finished = none_read s None None None (given_fault f) m new.machine i i s s (not_over f m refuses) sound.finished;
     })
 
 pub sound_fails : (f : Fault) (old new : EventCursor) → FailsWith f old new → IsSound old → IsSound new
@@ -141,8 +140,7 @@ ahead_sound (Some e) None m i s new (moved, left) sound =
     subst IsSound (sym left)
     (record {
       ahead = closes m _ moved;
-      finished =
-          none_read s None (Some e) None None m new.machine i i s s (goes_on m _ moved) sound.finished;
+      finished = none_read s None (Some e) None None m new.machine i i s s (goes_on m _ moved) sound.finished;
     })
 ahead_sound None (Some k) m i s new (fresh, ends, left) sound =
     subst IsSound (sym left)
@@ -177,11 +175,9 @@ peeks old new r s looks shows =
     let stays = looks_stays old new looks in
     record {
       looks = looks;
-      shows =
-          shows;
+      shows = shows;
       stays = stays.0;
-      head =
-          shows_head r old new looks shows;
+      head = shows_head r old new looks shows;
       same = stays.1;
       over = ends_stream new (sound_looks old new looks s);
     }

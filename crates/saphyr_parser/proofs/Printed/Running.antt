@@ -19,8 +19,7 @@ use Rattle.saphyr_parser.proofs.Printed.Dumping.{lines-append}
 -- everything was taken, and then the writer may have failed to pass it on
 takes_all : (a b c : Option (List ℕ)) (bytes : List ℕ) → Appends a b bytes → Keeps b c → TakesBeginning a c bytes
 takes_all a b c bytes p q = record {
-  front =
-      bytes;
+  front = bytes;
   back = [];
   split = sym (append-nil bytes);
   taken = Appends-kept a b c bytes p q;
@@ -31,10 +30,8 @@ part : (a left : Answer) (old mid new : Option (List ℕ)) → Prints a left old
 part a left old mid new p q =
     record {
       front = printed_lines p.printed;
-      back =
-          printed_lines left.events;
-      split =
-          ap printed_lines p.split ∙ lines-append p.printed left.events;
+      back = printed_lines left.events;
+      split = ap printed_lines p.split ∙ lines-append p.printed left.events;
       taken = Appends-kept old mid new _ p.taken q;
     }
 
@@ -68,8 +65,7 @@ up_to_fault fault.OutOfMemory a left old mid new p q =
     let before = p.0.1 in (
       lost,
       record {
-        printed =
-            before.printed;
+        printed = before.printed;
         split = before.split;
         fault = before.fault;
         taken = Appends-kept old mid new _ before.taken q;

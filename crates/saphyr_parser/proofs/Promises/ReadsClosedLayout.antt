@@ -66,11 +66,9 @@ with_first c cs x xs others false feed e f less same n =
     let p = less (cc) in
     record {
       front = c ∷ p.front;
-      behind =
-          p.behind;
+      behind = p.behind;
       are_all = ap (λ vs. c ∷ vs) p.are_all;
-      is_front =
-          normalized_other c p.front e ∙ (let own = p.is_front in cc);
+      is_front = normalized_other c p.front e ∙ (let own = p.is_front in cc);
       is_behind = p.is_behind;
     }
 with_first c cs x xs others true true e f less same n =

@@ -96,8 +96,7 @@ explicit_head : (d : Document) (t rest : List Kind) → d.directives ≡ [] → 
 explicit_head d t rest e h =
     record {
       first = DocumentStart;
-      others =
-          h.0 ++ rest;
+      others = h.0 ++ rest;
       is = ap (λ l. l ++ rest)
           (h.4 ∙ ap (λ (ds : List Directive). map directive_token ds ++ DocumentStart ∷ h.0) e);
       fits = tt;
@@ -129,15 +128,13 @@ behind_head ds t h = by h.0 h.3 h.4 h.5
         next_start ds h.2 g.1 in
         record {
           first = n.first;
-          others =
-              n.others;
+          others = n.others;
           is = e ∙ ap (λ l. l ++ h.2) g.0 ∙ n.is;
           fits = next_ends n.first n.fits;
         }
     by [] m (inr g) e = record { first = DocumentEnd; others = g.0 ++ h.2; is = e ∙ ap (λ l. l ++ h.2) g.2; fits = tt }
     by (k ∷ ks) m g e = record {
-      first =
-          ByteOrderMark;
+      first = ByteOrderMark;
       others = ks ++ (h.1 ++ h.2);
       is = e ∙ ap (λ j. j ∷ (ks ++ (h.1 ++ h.2))) m.0;
       fits = tt;

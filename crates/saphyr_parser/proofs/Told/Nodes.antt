@@ -97,8 +97,7 @@ tag_is_token (Verbatim uri) =
 tag_is_token (Shorthand handle suffix) =
     record {
       handle = handle_bytes handle;
-      suffix =
-          encode_utf8_all suffix;
+      suffix = encode_utf8_all suffix;
       token = refl;
       stands = shorthand_stands handle suffix;
     }
@@ -163,22 +162,18 @@ unfolding node node_content next_content node_behind_anchor node_behind_tag
 node_comes f d x ss e None None front k ks found h c r =
     record {
       properties = no_node_properties (f ks).start;
-      has =
-          record { anchor_is = refl; tag_is = refl };
-      goes =
-          ap (λ l. next_node d (at f (l ++ k ∷ ks) x ss e)) h ∙ content_alone k d _ _ c;
+      has = record { anchor_is = refl; tag_is = refl };
+      goes = ap (λ l. next_node d (at f (l ++ k ∷ ks) x ss e)) h ∙ content_alone k d _ _ c;
     }
 node_comes f d x ss e (Some name) None front k ks found h c r =
     record {
       properties = record {
-        start =
-            (f (k ∷ ks)).start;
+        start = (f (k ∷ ks)).start;
         behind = (f (k ∷ ks)).end;
         anchor = next_id e.anchors;
         tag = None;
       };
-      has =
-          record { anchor_is = refl; tag_is = refl };
+      has = record { anchor_is = refl; tag_is = refl };
       goes =
           ap (λ l. next_node d (at f (l ++ k ∷ ks) x ss e)) h
           ∙ content_behind_anchor k (next_id e.anchors) (f (k ∷ ks)) d _ _ c;

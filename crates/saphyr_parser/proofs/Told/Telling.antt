@@ -34,10 +34,8 @@ pub record Memory : Type 0 where
 
 abbrev pub at : SpansByKinds → List Kind → State → List State → Memory → Machine
 at f ks s ss e = record {
-  tokens =
-      record { pieces = dressed f ks; refusal = None };
-  state =
-      s;
+  tokens = record { pieces = dressed f ks; refusal = None };
+  state = s;
   states = ss;
   anchors = e.anchors;
   prefixes = e.prefixes;

@@ -125,17 +125,13 @@ entry_at_turned BlockEntry sp ts r x s ss e w a =
 entry_at_turned k sp ts r x s ss e w a =
     record {
       used = [];
-      part =
-          CloseSequence;
+      part = CloseSequence;
       taken = refl;
-      tells =
-          refl;
+      tells = refl;
       remembers = refl;
-      few =
-          omega arith;
+      few = omega arith;
       places = whole [] _ _ refl;
-      alive =
-          a;
+      alive = a;
       makes = λ ks ps f b. (
         collection_ends BlockEntries (FollowsStates s ss) [] CloseSequence ks ps (NoNode, refl, refl) f,
         λ c.
@@ -231,11 +227,9 @@ keyed R ks ps h = by h.goes_on
     by (inl v) = with_value R ks ps
         (record {
           front = h.front;
-          back =
-              h.back;
+          back = h.back;
           first = h.first;
-          second =
-              h.second;
+          second = h.second;
           begins = h.begins;
           goes_on = v;
           kinds_are = h.kinds_are;
@@ -270,8 +264,7 @@ key_at_turned : (k : Kind) (sp : Span) (ts : List Piece) (r : Option Refusal) (x
     (e : Memory) → AreWellFormed (record { span = sp; kind = k } ∷ ts) → IsAlive s ss
     → Turned (Then (IsOptionalOf InBlockMapping) (AtBlockValue (FollowsStates s ss))) e (record {
       span = sp;
-      kind =
-          k;
+      kind = k;
     } ∷ ts)
     (block_key_node_at k (record { span = sp; kind = k }) (machine ts r x (s ∷ ss) e))
 key_at_turned Key sp ts r x s ss e w a =
@@ -321,8 +314,7 @@ value_at_turned : (k : Kind) (sp span : Span) (ts : List Piece) (r : Option Refu
     (e : Memory) → AreWellFormed (record { span = sp; kind = k } ∷ ts) → IsAlive s ss
     → Turned (Then (IsOptionalOf InBlockMapping) (InBlockPairs (FollowsStates s ss))) e (record {
       span = sp;
-      kind =
-          k;
+      kind = k;
     } ∷ ts)
     (block_value_node_at k span (record { span = sp; kind = k }) (machine ts r x (s ∷ ss) e))
 value_at_turned Key sp span ts r x s ss e w a =

@@ -78,8 +78,7 @@ pub leaf_goes : (p : forest.Properties) (q : NodeProperties) (front own : List P
     → Goes (Then (IsNodeOf c) (FollowsStates s ss)) e (front ++ (own ++ ts))
     (record {
       what = Scalar (encode_utf8_all value) style q.anchor q.tag;
-      span =
-          span;
+      span = span;
       machine = machine ts r s ss (noted p.anchor e);
     })
 leaf_goes p q front own style value span c ts r s ss e h i a o = record {
@@ -92,13 +91,10 @@ leaf_goes p q front own style value span c ts r s ss e h i a o = record {
   places = o;
   alive = a;
   makes = λ ks ps f st. record {
-    front =
-        kinds (front ++ own);
-    back =
-        ks;
+    front = kinds (front ++ own);
+    back = ks;
     first = Leaf p style value ∷ [];
-    second =
-        ps;
+    second = ps;
     begins = (forest.Scalar p style value, (kinds front, kinds own, h.are, i, kinds_append front own), refl);
     goes_on = f;
     kinds_are = refl;
@@ -129,10 +125,8 @@ alone_turned t front p q c ts r x s ss e h a = by (has_property q) refl
     by : (b : Bool) → has_property q ≡ b
         → Turned (NodeThen c s ss) e (front ++ t ∷ ts)
         (if b then Ok (record {
-          what =
-              Scalar [] Plain q.anchor q.tag;
-          span =
-              record { start = q.start; end = q.behind };
+          what = Scalar [] Plain q.anchor q.tag;
+          span = record { start = q.start; end = q.behind };
           machine = machine (t ∷ ts) r s ss (noted p.anchor e);
         }) else Err
         (record { text = fault.NodeContentExpected; mark = t.span.start }))
@@ -157,8 +151,7 @@ pub flow_sequence_goes : (t : Piece) (p : forest.Properties) (q : NodeProperties
     → Goes (Then (IsNodeOf c) (FollowsStates s ss)) e (front ++ t ∷ ts)
     (record {
       what = SequenceStart q.anchor q.tag;
-      span =
-          span;
+      span = span;
       machine = machine ts r state.FlowSequenceFirstEntry (s ∷ ss) (noted p.anchor e);
     })
 flow_sequence_goes t p q front span c ts r s ss e k h a o = record {
@@ -195,8 +188,7 @@ pub flow_mapping_goes : (t : Piece) (p : forest.Properties) (q : NodeProperties)
     → Goes (Then (IsNodeOf c) (FollowsStates s ss)) e (front ++ t ∷ ts)
     (record {
       what = MappingStart q.anchor q.tag;
-      span =
-          span;
+      span = span;
       machine = machine ts r state.FlowMappingFirstKey (s ∷ ss) (noted p.anchor e);
     })
 flow_mapping_goes t p q front span c ts r s ss e k h a o = record {
@@ -233,8 +225,7 @@ pub block_sequence_goes : (t : Piece) (p : forest.Properties) (q : NodePropertie
     → Goes (Then (IsNodeOf c) (FollowsStates s ss)) e (front ++ t ∷ ts)
     (record {
       what = SequenceStart q.anchor q.tag;
-      span =
-          span;
+      span = span;
       machine = machine ts r state.BlockSequenceEntry (s ∷ ss) (noted p.anchor e);
     })
 block_sequence_goes t p q front span c ts r s ss e k b h a o = record {
@@ -272,8 +263,7 @@ pub block_mapping_goes : (t : Piece) (p : forest.Properties) (q : NodeProperties
     → Goes (Then (IsNodeOf c) (FollowsStates s ss)) e (front ++ t ∷ ts)
     (record {
       what = MappingStart q.anchor q.tag;
-      span =
-          span;
+      span = span;
       machine = machine ts r state.BlockMappingKey (s ∷ ss) (noted p.anchor e);
     })
 block_mapping_goes t p q front span c ts r s ss e k b h a o = record {

@@ -80,8 +80,7 @@ nothing_passed : (t : Piece) (ts : List Piece) (d : Declared) (m : Machine)
 nothing_passed t ts d m =
     record {
       directives = [];
-      used =
-          [];
+      used = [];
       rest = ts;
       are = refl;
       kinds_are = refl;

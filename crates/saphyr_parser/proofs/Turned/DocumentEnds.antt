@@ -89,11 +89,9 @@ one_more_mark : (t : Piece) (ts : List Piece) (m : Machine) (r : Result (Piece �
 one_more_mark t ts m (Ok x) k h =
     record {
       marks = t ∷ h.marks;
-      rest =
-          h.rest;
+      rest = h.rest;
       are = ap (λ (l : List Piece). t ∷ l) h.are;
-      are_marks =
-          (mark_is t.kind k, h.are_marks);
+      are_marks = (mark_is t.kind k, h.are_marks);
       no_mark = h.no_mark;
       leaves = h.leaves;
     }
@@ -213,27 +211,20 @@ end_at_turned tokens.DocumentEnd sp n ts r x e h =
     (sym h.leaves)
     (record {
       used = h.marks ++ record { span = sp; kind = tokens.DocumentEnd } ∷ [];
-      part =
-          CloseDocument;
+      part = CloseDocument;
       taken = h.are
           ∙ taken_one h.marks (record { span = sp; kind = tokens.DocumentEnd }) h.rest;
-      tells =
-          refl;
+      tells = refl;
       remembers = refl;
-      few =
-          omega arith;
+      few = omega arith;
       places = record {
-        front =
-            h.marks ++ record { span = sp; kind = tokens.DocumentEnd } ∷ [];
-        own =
-            [];
+        front = h.marks ++ record { span = sp; kind = tokens.DocumentEnd } ∷ [];
+        own = [];
         are = sym (append-nil (h.marks ++ record { span = sp; kind = tokens.DocumentEnd } ∷ []));
-        passed =
-            passed_with h.marks (record { span = sp; kind = tokens.DocumentEnd }) h.are_marks tt;
+        passed = passed_with h.marks (record { span = sp; kind = tokens.DocumentEnd }) h.are_marks tt;
         is_of = refl;
       };
-      alive =
-          tt;
+      alive = tt;
       makes = λ ks ps f b. with_end h.marks (record { span = sp; kind = tokens.DocumentEnd }) ks ps refl
           h.are_marks f;
     })
@@ -246,17 +237,13 @@ end_at_turned k sp n ts r x e h =
     (document_end_at k (record { span = sp; kind = k }) (without_prefixes m))) (sym h.leaves)
     (record {
       used = h.marks;
-      part =
-          CloseDocument;
+      part = CloseDocument;
       taken = h.are;
-      tells =
-          refl;
+      tells = refl;
       remembers = refl;
-      few =
-          omega arith;
+      few = omega arith;
       places = record {
-        front =
-            h.marks;
+        front = h.marks;
         own = [];
         are = sym (append-nil h.marks);
         passed = are_passed h.marks h.are_marks;

@@ -55,11 +55,9 @@ behind_moves t F G e k (Ok x) b i (inl h) = inl (behind t F G e k (Ok x) b i h)
 behind_moves t F G e k (Ok x) b i (inr h) =
     inr (record {
       part = h.part;
-      is_over =
-          h.is_over;
+      is_over = h.is_over;
       tells = h.tells;
-      few =
-          (let l = h.few in omega (arith, l));
+      few = (let l = h.few in omega (arith, l));
       places = behind_own t k x.what x.span b h.places;
       makes = i _ _ h.makes;
     })
@@ -167,14 +165,11 @@ explicit_at_turned tokens.DocumentStart sp n ts r x e h =
       remembers = refl;
       few = omega arith;
       places = record {
-        front =
-            h.used;
+        front = h.used;
         own = record { span = sp; kind = tokens.DocumentStart } ∷ [];
-        are =
-            refl;
+        are = refl;
         passed = are_passed h.used h.directives h.kinds_are;
-        is_of =
-            (record { span = sp; kind = tokens.DocumentStart }, refl, refl, refl);
+        is_of = (record { span = sp; kind = tokens.DocumentStart }, refl, refl, refl);
       };
       alive = (tt, tt);
       makes = λ ks ps f b. explicit_makes ts h.directives h.used h.rest
@@ -211,17 +206,13 @@ stream_at_turned : (k : Kind) (sp : Span) (ts : List Piece) (r : Option Refusal)
 stream_at_turned tokens.StreamStart sp ts r x e =
     record {
       used = record { span = sp; kind = tokens.StreamStart } ∷ [];
-      part =
-          OpenStream;
+      part = OpenStream;
       taken = refl;
-      tells =
-          refl;
+      tells = refl;
       remembers = refl;
-      few =
-          omega arith;
+      few = omega arith;
       places = passed_one (record { span = sp; kind = tokens.StreamStart }) _ _ tt refl;
-      alive =
-          tt;
+      alive = tt;
       makes = λ ks ps f b. (stream_makes ks ps f, tt);
     }
 stream_at_turned _ sp ts r x e = tt
@@ -263,16 +254,12 @@ unfolding bare_document
 bare_turned t us r x e =
     record {
       used = [];
-      part =
-          OpenDocument false [];
-      taken =
-          refl;
+      part = OpenDocument false [];
+      taken = refl;
       tells = refl;
-      remembers =
-          refl;
+      remembers = refl;
       few = omega arith;
-      places =
-          whole [] _ _ refl;
+      places = whole [] _ _ refl;
       alive = (tt, tt);
       makes = λ ks ps f b. (bare_makes ks ps f, tt);
     }
@@ -286,14 +273,11 @@ stream_over F t us x e n k w o f = record {
   tells = ap (λ v. let y : Option events.Happening = Some v in y) (sym w);
   few = omega arith;
   places = record {
-    front =
-        t ∷ [];
+    front = t ∷ [];
     own = [];
     are = ap (λ (l : List Piece). t ∷ l) n;
-    passed =
-        (subst BelongsToNone (sym k) tt, tt);
-    is_of =
-        subst (λ (v : events.Happening). IsOf v x.span [] []) (sym w) refl;
+    passed = (subst BelongsToNone (sym k) tt, tt);
+    is_of = subst (λ (v : events.Happening). IsOf v x.span [] []) (sym w) refl;
   };
   makes = subst (λ (l : List Kind). F l (CloseStream ∷ []))
       (sym (ap (λ (l : List Piece). t.kind ∷ kinds l) n ∙ ap (λ (l : Kind). l ∷ []) k)) f;

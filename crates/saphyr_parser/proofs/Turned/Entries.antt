@@ -39,13 +39,10 @@ pub skipped : (F : List Kind → List Part → Type 0) (t : Piece) (sp : Span) (
 skipped F t sp ts r x s st e a go =
     record {
       used = [];
-      part =
-          Leaf forest.no_properties Plain [];
-      taken =
-          refl;
+      part = Leaf forest.no_properties Plain [];
+      taken = refl;
       tells = refl;
-      remembers =
-          refl;
+      remembers = refl;
       few = omega arith;
       places = whole [] _ _ (inr (inr (refl, refl, refl, refl, refl)));
       alive = a;
@@ -103,14 +100,11 @@ pub ends : (F : List Kind → List Part → Type 0) (t : Piece) (what : Happenin
 ends F t what closing sp ts r x s ss e tells same none b o a go =
     record {
       used = t ∷ [];
-      part =
-          closing;
+      part = closing;
       taken = refl;
-      tells =
-          tells;
+      tells = tells;
       remembers = sym same;
-      few =
-          omega (arith, none);
+      few = omega (arith, none);
       places = passed_one t what sp b o;
       alive = a;
       makes = λ ks ps f c. go ks ps f;

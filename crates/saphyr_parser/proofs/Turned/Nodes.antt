@@ -70,8 +70,7 @@ indentless_goes : (t : Piece) (p : forest.Properties) (q : NodeProperties) (fron
     → Goes (Then (IsNodeOf InBlockMapping) (FollowsStates s ss)) e (front ++ t ∷ ts)
     (record {
       what = SequenceStart q.anchor q.tag;
-      span =
-          span;
+      span = span;
       machine = machine (t ∷ ts) r state.IndentlessSequenceEntry (s ∷ ss) (noted p.anchor e);
     })
 indentless_goes t p q front span ts r s ss e k i h a o = record {
@@ -216,10 +215,8 @@ anchor_front : (text : List ℕ) (t : Piece) (e : Memory) → t.kind ≡ tokens.
 anchor_front text t e k =
     record {
       are = ap (λ (l : Kind). l ∷ []) k;
-      has =
-          record { anchor_is = refl; tag_is = refl };
-      enough =
-          omega arith;
+      has = record { anchor_is = refl; tag_is = refl };
+      enough = omega arith;
       shape = (inl (subst IsAnchorKind (sym k) tt), refl, refl);
     }
 
@@ -232,12 +229,9 @@ tag_is : (e : Memory) (g : Tag) (v : ResolvedTag) (t : Piece) → t.kind ≡ tag
     → Fronted e (record { anchor = None; tag = Some g })
     (record { start = t.span.start; behind = t.span.end; anchor = 0; tag = Some v }) (t ∷ [])
 tag_is e g v t k h = record {
-  are =
-      ap (λ (l : Kind). l ∷ []) k;
-  has =
-      record { anchor_is = refl; tag_is = ap (option_map (λ v. let o : Option ResolvedTag = Some v in o)) h };
-  enough =
-      omega arith;
+  are = ap (λ (l : Kind). l ∷ []) k;
+  has = record { anchor_is = refl; tag_is = ap (option_map (λ v. let o : Option ResolvedTag = Some v in o)) h };
+  enough = omega arith;
   shape = (inr (subst IsTagKind (sym k) (tag_token_is g)), refl, refl);
 }
 
@@ -250,19 +244,15 @@ both_front text g v t u e (inl k) h =
     record {
       are = inl (ap (λ (l : Kind). l ∷ u.kind ∷ []) k.0
           ∙ ap (λ (l : Kind). tokens.Anchor (encode_utf8_all text) ∷ l ∷ []) k.1);
-      has =
-          record { anchor_is = refl; tag_is = ap (option_map (λ v. let o : Option ResolvedTag = Some v in o)) h };
-      enough =
-          omega arith;
+      has = record { anchor_is = refl; tag_is = ap (option_map (λ v. let o : Option ResolvedTag = Some v in o)) h };
+      enough = omega arith;
       shape = (inl (subst IsAnchorKind (sym k.0) tt, subst IsTagKind (sym k.1) (tag_token_is g)), refl, refl);
     }
 both_front text g v t u e (inr k) h =
     record {
       are = inr (ap (λ (l : Kind). l ∷ u.kind ∷ []) k.0 ∙ ap (λ (l : Kind). tag_token g ∷ l ∷ []) k.1);
-      has =
-          record { anchor_is = refl; tag_is = ap (option_map (λ v. let o : Option ResolvedTag = Some v in o)) h };
-      enough =
-          omega arith;
+      has = record { anchor_is = refl; tag_is = ap (option_map (λ v. let o : Option ResolvedTag = Some v in o)) h };
+      enough = omega arith;
       shape = (inr (subst IsTagKind (sym k.0) (tag_token_is g), subst IsAnchorKind (sym k.1) tt), refl, refl);
     }
 
@@ -373,8 +363,7 @@ node_at_turned k sp c ts r x s ss e wk w z a =
     content_turned k sp [] forest.no_properties (no_node_properties sp.start) c ts r x s ss e wk z
     (record {
       are = refl;
-      has =
-          record { anchor_is = refl; tag_is = refl };
+      has = record { anchor_is = refl; tag_is = refl };
       enough = omega arith;
       shape = (refl, refl);
     }) refl a

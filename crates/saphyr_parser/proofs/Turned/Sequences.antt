@@ -129,13 +129,10 @@ entry_turned FlowSequenceEnd sp ts r x s ss e w a =
 entry_turned Key sp ts r x s ss e w a =
     record {
       used = record { span = sp; kind = Key } ∷ [];
-      part =
-          OpenMapping forest.no_properties;
-      taken =
-          refl;
+      part = OpenMapping forest.no_properties;
+      taken = refl;
       tells = refl;
-      remembers =
-          refl;
+      remembers = refl;
       few = omega arith;
       places =
           whole (record { span = sp; kind = Key } ∷ []) _ _ (
@@ -252,17 +249,13 @@ unfolding flow_sequence_entry_mapping_end
 pair_end_turned place ts r x s ss e a =
     record {
       used = [];
-      part =
-          CloseMapping;
+      part = CloseMapping;
       taken = refl;
-      tells =
-          refl;
+      tells = refl;
       remembers = refl;
-      few =
-          omega arith;
+      few = omega arith;
       places = whole [] _ _ refl;
-      alive =
-          (tt, a);
+      alive = (tt, a);
       makes = λ ks ps f b. put (Exactly [] (CloseMapping ∷ [])) (InSequence (FollowsStates s ss)) []
           (CloseMapping ∷ []) ks ps (refl, refl) f;
     }

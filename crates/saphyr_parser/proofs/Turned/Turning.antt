@@ -16,10 +16,8 @@ use Rattle.saphyr_parser.proofs.Turned.Following.{Then, Exactly, FollowsStates, 
 
 abbrev pub machine : List Piece → Option Refusal → State → List State → Memory → Machine
 machine ts r s ss e = record {
-  tokens =
-      record { pieces = ts; refusal = r };
-  state =
-      s;
+  tokens = record { pieces = ts; refusal = r };
+  state = s;
   states = ss;
   anchors = e.anchors;
   prefixes = e.prefixes;
@@ -52,14 +50,11 @@ pub weaker : (F G : List Kind → List Part → Type 0) (e : Memory) (k : List P
 weaker F G e k (Ok x) i h =
     record {
       used = h.used;
-      part =
-          h.part;
+      part = h.part;
       taken = h.taken;
-      tells =
-          h.tells;
+      tells = h.tells;
       remembers = h.remembers;
-      few =
-          h.few;
+      few = h.few;
       places = h.places;
       alive = h.alive;
       makes = λ ks ps f s. i _ _ (h.makes ks ps f s);
@@ -73,16 +68,12 @@ pub behind : (t : Piece) (F G : List Kind → List Part → Type 0) (e : Memory)
 behind t F G e k (Ok x) b i h =
     record {
       used = t ∷ h.used;
-      part =
-          h.part;
+      part = h.part;
       taken = ap (λ (l : List Piece). t ∷ l) h.taken;
-      tells =
-          h.tells;
+      tells = h.tells;
       remembers = h.remembers;
-      few =
-          (let l = h.few in omega (arith, l));
-      places =
-          behind_own t h.used x.what x.span b h.places;
+      few = (let l = h.few in omega (arith, l));
+      places = behind_own t h.used x.what x.span b h.places;
       alive = h.alive;
       makes = λ ks ps f s. i _ _ (h.makes ks ps f s);
     }
@@ -131,8 +122,7 @@ replace A B D u w ks ps join h = record {
 pub put : (A R : List Kind → List Part → Type 0) (u : List Kind) (w : List Part) (ks : List Kind) (ps : List Part)
     → A u w → R ks ps → Then A R (u ++ ks) (w ++ ps)
 put A R u w ks ps a r = record {
-  front =
-      u;
+  front = u;
   back = ks;
   first = w;
   second = ps;

@@ -116,8 +116,7 @@ module _ (w : Walk) where
   pub behind : {c d : ℕ} {k : Kind} {t : Piece} (m : Machine) → is_end k ≡ false → c ≤ 10 + d → Taken w d k t m
       → Of w t.span.end c m
   behind {c} {d} {k} {t} m e l a = record {
-    pieces =
-        w.less _ _ _ _ _ (omega (arith, l)) (w.behind _ _ _ t _ (ap is_end (sym a.0) ∙ e) a.1.pieces);
+    pieces = w.less _ _ _ _ _ (omega (arith, l)) (w.behind _ _ _ t _ (ap is_end (sym a.0) ∙ e) a.1.pieces);
     places = a.1.places;
   }
 
@@ -132,8 +131,7 @@ module _ (w : Walk) where
       → HoldsBetween w (with_state s m)
   entered {low} s m p a = record {
     place = p;
-    places =
-        a.places;
+    places = a.places;
     rests = w.rests low s _ _ _ (w.less low _ _ _ _
         (let l = weight_before_is_less s m.tokens.pieces in omega (arith, l)) a.pieces);
   }
@@ -142,10 +140,8 @@ module _ (w : Walk) where
       → HoldsBetween w (pop_from ss m)
   pops {low} [] m a = record { place = tt; places = tt; rests = w.rests low state.End _ _ _ a.pieces }
   pops {low} (s ∷ ss) m a = record {
-    place =
-        a.places.0;
-    places =
-        a.places.1;
+    place = a.places.0;
+    places = a.places.1;
     rests = w.rests low s _ _ _ (w.less low _ _ _ _
         (let l = weight_before_is_less s m.tokens.pieces in omega (arith, l)) a.pieces);
   }
@@ -158,8 +154,7 @@ module _ (w : Walk) where
       → HoldsBetween w (with_state state.End m)
   over {d} {t} m a = record {
     place = tt;
-    places =
-        a.1.places;
+    places = a.1.places;
     rests = w.over _ _ _ _ t _ (ap is_end (sym a.0)) (omega arith) a.1.pieces;
   }
 

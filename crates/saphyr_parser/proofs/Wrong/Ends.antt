@@ -109,8 +109,7 @@ parts_close keep front (p ∷ ps) es i e =
     let c = parts_close keep (p ∷ front) ps w.1 i.1 w.3 in
     record {
       front = w.0 ∷ c.front;
-      are =
-          w.4 ∙ ap (λ l. w.0 ∷ l) c.are;
+      are = w.4 ∙ ap (λ l. w.0 ∷ l) c.are;
       none = (event_no_end keep front p w.0 i.0 w.2, c.none);
     }
 

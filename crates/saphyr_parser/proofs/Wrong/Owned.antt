@@ -65,11 +65,9 @@ scalar_owned text value how span own c s h =
     let R : Kind → Type 0 = λ k. IsToken st.indent k c.1.span st.here st.behind in
     record {
       own = c.1.span;
-      indent =
-          st.indent;
+      indent = st.indent;
       here = st.here;
-      behind =
-          st.behind;
+      behind = st.behind;
       reached = st.reached;
       is = subst R c.3 st.is;
       end = sym (content_end c.0 c.1 span (subst Q c.4 s));

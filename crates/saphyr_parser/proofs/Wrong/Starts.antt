@@ -90,8 +90,7 @@ pub free_start_refused : HaveTokens [] free_start nested → ⊥
 free_start_refused h = by (all_started [] free_start nested h).1.1.1.1.1.0
   where
     by : EndsAt (record {
-      start =
-          record { index = 0; line = 1; col = 0 };
+      start = record { index = 0; line = 1; col = 0 };
       end = record { index = 0; line = 1; col = 0 };
     }) (nested ++ []) → ⊥
     by (inl (o, e)) = absurd o

@@ -144,8 +144,7 @@ marker_in_quotes =
 -- the events of the empty text, the first with a line and a column that are no place's
 abbrev pub wrong_line : Answer
 wrong_line = record {
-  events =
-      (events.StreamStart, span_of (marker_at 0 9 9) (marker_at 0 9 9)) ∷ (events.StreamEnd, origin) ∷ [];
+  events = (events.StreamStart, span_of (marker_at 0 9 9) (marker_at 0 9 9)) ∷ (events.StreamEnd, origin) ∷ [];
   fault = None;
 }
 

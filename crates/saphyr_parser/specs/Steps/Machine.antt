@@ -129,8 +129,7 @@ left_out_event t s span m = told_event empty_scalar span (with_state s (put_back
 -- at the start of a stream
 abbrev pub fresh_machine : Remaining → Machine
 fresh_machine r = record {
-  tokens =
-      r;
+  tokens = r;
   state = state.StreamStart;
   states = [];
   anchors = no_anchors;

@@ -66,9 +66,8 @@ node_content_at tokens.BlockSequenceStart p c t m =
 node_content_at tokens.BlockMappingStart p c t m =
     if allows_block c then mapping_opening state.BlockMappingKey p t m else node_without_content p t m
 node_content_at tokens.BlockEntry p c t m =
-    if allows_indentless c then sequence_opening state.IndentlessSequenceEntry p t (put_back t m) else
-    node_without_content p t
-    m
+    if allows_indentless c then sequence_opening state.IndentlessSequenceEntry p t (put_back t m)
+    else node_without_content p t m
 node_content_at _ p c t m = node_without_content p t m
 
 unfoldable pub node_content : NodeProperties → NodeContext → Piece → Machine → Result Told Refusal

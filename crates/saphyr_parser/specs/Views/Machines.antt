@@ -18,10 +18,8 @@ with_token_ahead (Some t) r = before (piece t) r
 
 abbrev pub machine_of : {T : Type 0} → declared.Machine T → Machine
 machine_of m = record {
-  tokens =
-      with_token_ahead m.token m.scanner;
-  state =
-      m.state;
+  tokens = with_token_ahead m.token m.scanner;
+  state = m.state;
   states = reverse m.states.items;
   anchors = m.anchors;
   prefixes = m.prefixes;

@@ -7,10 +7,8 @@ use Rattle.saphyr_parser.specs.Views.Kept.{kept_of}
 
 abbrev pub cursor : {T : Type 0} → EventReader T → EventCursor
 cursor r = record {
-  current =
-      option_map event_of r.current;
-  kept =
-      option_map kept_of r.kept;
+  current = option_map event_of r.current;
+  kept = option_map kept_of r.kept;
   machine = machine_of r.machine;
   inside = r.inside;
   finished = r.finished;

@@ -215,8 +215,7 @@ header_of n c d x s first t v e1 e2 e3 rest l tab =
     let e = end_read s.mark v d x rest l tab in
     record {
       behind = e.end;
-      told =
-          header_on s first (n, t) (c, v) e.end e1 e2 e3 e.read;
+      told = header_on s first (n, t) (c, v) e.end e1 e2 e3 e.read;
       left = e.rest;
       at_start = e.col;
       begun = e.blank;

@@ -120,8 +120,7 @@ alone_read st c i u v k l z =
       taken = w.1;
       indented = subst (HasLines i) (sym w.2) (l.shape [] (rw nothing (lines_spaces i v.mark.col l.within)));
       ends = record {
-        no_space =
-            l.space;
+        no_space = l.space;
         no_break = l.clear;
         no_content = no_start i v.mark.col v.rest (z_is_none _ z);
       };
@@ -255,8 +254,7 @@ values_of_lines st indent s t text span e =
     let b = behind_place st indent s.mark w.0.0 w.0.1 (text, span, t) (header_place s w.0 w.1) w.2 in
     record {
       header = w.0.0;
-      behind =
-          w.0.1;
+      behind = w.0.1;
       lines = b.lines;
       first = w.1;
       taken = b.taken;

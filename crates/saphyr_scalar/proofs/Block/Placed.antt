@@ -148,8 +148,7 @@ leading_placed style indent c limit s h x e p z =
     by_test (is_z (slice_index x.1.rest 0)) _ _ (Given (PlacedAt s))
     (λ f. record {
       passes = whole;
-      end =
-          refl;
+      end = refl;
       behind = s.rest;
       start = passing.nothing s.mark s.rest;
       inside = whole;

@@ -55,8 +55,7 @@ goes_nowhere s = record { passes = passing.nothing s.mark s.rest; line = refl }
 
 goes_goes : (s t u : Cursor) → Goes s t → Goes t u → Goes s u
 goes_goes s t u a b = record {
-  passes =
-      passed_passed s.mark s.rest t.mark t.rest u.mark u.rest a.passes b.passes;
+  passes = passed_passed s.mark s.rest t.mark t.rest u.mark u.rest a.passes b.passes;
   line = b.line ∙ a.line;
 }
 
@@ -161,8 +160,7 @@ pub record EndsHeaderLine (s t : Cursor) : Type 0 where
 
 goes_ends : (s t u : Cursor) → Goes s t → EndsHeaderLine t u → EndsHeaderLine s u
 goes_ends s t u a b = record {
-  passes =
-      passed_passed s.mark s.rest t.mark t.rest u.mark u.rest a.passes b.passes;
+  passes = passed_passed s.mark s.rest t.mark t.rest u.mark u.rest a.passes b.passes;
   line = by b.line;
 }
   where

@@ -135,8 +135,7 @@ stop_content st c i more b m xs within cut clear =
       taken = [];
       split = refl;
       ends = record {
-        no_space =
-            past i m.col (slice_index xs 0) within;
+        no_space = past i m.col (slice_index xs 0) within;
         no_break = clear;
         no_content = no_start i m.col xs cut;
       };

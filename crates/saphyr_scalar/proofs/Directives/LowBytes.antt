@@ -23,25 +23,21 @@ begins_high c h =
     by_test {A = Unit {0}} (nat_lt c 0x800) tt tt (λ _. BeginsHigh c)
     (λ e. record {
       first = 192 + c / 64;
-      others =
-          (128 + c % 64) ∷ [];
+      others = (128 + c % 64) ∷ [];
       is = rw (le-ltb c 0x80 h, e) refl;
       high = omega arith;
     })
     (λ e. by_test {A = Unit {0}} (nat_lt c 0x1_0000) tt tt (λ _. BeginsHigh c)
     (λ f. record {
       first = 224 + c / 4096;
-      others =
-          (128 + c / 64 % 64) ∷ (128 + c % 64) ∷ [];
+      others = (128 + c / 64 % 64) ∷ (128 + c % 64) ∷ [];
       is = rw (le-ltb c 0x80 h, e, f) refl;
       high = omega arith;
     })
     (λ f. record {
       first = 240 + c / 262144;
-      others =
-          (128 + c / 4096 % 64) ∷ (128 + c / 64 % 64) ∷ (128 + c % 64) ∷ [];
-      is =
-          rw (le-ltb c 0x80 h, e, f) refl;
+      others = (128 + c / 4096 % 64) ∷ (128 + c / 64 % 64) ∷ (128 + c % 64) ∷ [];
+      is = rw (le-ltb c 0x80 h, e, f) refl;
       high = omega arith;
     }))
 

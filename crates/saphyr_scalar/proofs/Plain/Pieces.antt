@@ -74,8 +74,7 @@ says_not f b s t e =
     let pair : ◌≡◌ {A = Bool × Cursor} (false, s) (b, t) = cc in
     record {
       same = sym (ap (λ (x : Bool × Cursor). x.1) pair);
-      goes =
-          λ h. let no : b ≡ false = sym (ap (λ (x : Bool × Cursor). x.0) pair) in absurd (cc);
+      goes = λ h. let no : b ≡ false = sym (ap (λ (x : Bool × Cursor). x.0) pair) in absurd (cc);
     }
 
 says_it : (f b : Bool) (s t : Cursor) → answer (is_in_word f s.rest) s ≡ answer b t → KeepsWord f b s t

@@ -110,19 +110,14 @@ plain_reads f i s t text end comment is = by_start (word_starts f s) refl is
 
     from_word : WordReads s.mark s.rest x → IsPlainReading s text end t
     from_word r = record {
-      piece =
-          r.first ∷ r.others;
-      white =
-          r.white;
+      piece = r.first ∷ r.others;
+      white = r.white;
       is = r.is;
-      spelled =
-          r.spelled;
+      spelled = r.spelled;
       front = r.closes.front;
-      last =
-          r.closes.last;
+      last = r.closes.last;
       closes = r.closes.is;
-      is_ink =
-          r.closes.ink;
+      is_ink = r.closes.ink;
       follows = r.follows;
       value = r.value;
       ends = r.ends;

@@ -147,16 +147,14 @@ white_character c cs h = by_blank (is_blank c) refl
     by_blank true e = blank_cases c e Goal
         (record {
           no_nul = λ e. omega arith;
-          no_mark =
-              λ e. omega arith;
+          no_mark = λ e. omega arith;
           no_comment = λ e. omega arith;
           no_colon = λ e. omega arith;
           no_marker = refl;
         })
         (record {
           no_nul = λ e. omega arith;
-          no_mark =
-              λ e. omega arith;
+          no_mark = λ e. omega arith;
           no_comment = λ e. omega arith;
           no_colon = λ e. omega arith;
           no_marker = refl;
@@ -164,16 +162,14 @@ white_character c cs h = by_blank (is_blank c) refl
     by_blank false e = break_cases c (other (is_blank c) (is_break c) e h) Goal
         (record {
           no_nul = λ e. omega arith;
-          no_mark =
-              λ e. omega arith;
+          no_mark = λ e. omega arith;
           no_comment = λ e. omega arith;
           no_colon = λ e. omega arith;
           no_marker = refl;
         })
         (record {
           no_nul = λ e. omega arith;
-          no_mark =
-              λ e. omega arith;
+          no_mark = λ e. omega arith;
           no_comment = λ e. omega arith;
           no_colon = λ e. omega arith;
           no_marker = refl;

@@ -74,10 +74,8 @@ front_of f (c ∷ cs) h =
     let here : word_len f (c ∷ cs) ≡ suc (word_len f cs) = rw h (omega arith) in
     record {
       first = c;
-      others =
-          take (word_len f cs) cs;
-      is =
-          ap (λ n. take n (c ∷ cs)) here;
+      others = take (word_len f cs) cs;
+      is = ap (λ n. take n (c ∷ cs)) here;
       ink = subst (λ n. AreInk (take n (c ∷ cs))) here (word_ink f (c ∷ cs));
     }
 

@@ -21,8 +21,7 @@ pub line_indented : (indent : ℕ) (m : Marker) (t : List ℕ) → m.col ≡ 0 �
 line_indented indent m t zero_col h =
     record {
       marker = λ _. h.no_marker;
-      far =
-          subst (λ (k : ℕ). (indent ≤ k) ⊎ IsTrue (is_break (slice_index (drop (space_count t) t) 0))) sum h.indented;
+      far = subst (λ (k : ℕ). (indent ≤ k) ⊎ IsTrue (is_break (slice_index (drop (space_count t) t) 0))) sum h.indented;
     }
   where
     sum : space_count t ≡ m.col + space_count t

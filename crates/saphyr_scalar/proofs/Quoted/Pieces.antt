@@ -74,11 +74,9 @@ both_piece (d ∷ cs) p x b h =
     record {
       piece = 13 ∷ 10 ∷ p;
       begins = record {
-        first =
-            13;
+        first = 13;
         others = 10 ∷ p;
-        some =
-            refl;
+        some = refl;
         cut = ap (λ (n : ℕ). 13 ∷ n ∷ cs) is ∙ ap (λ (t : List ℕ). 13 ∷ 10 ∷ t) b.cut;
       };
       norm = refl;
@@ -129,16 +127,14 @@ begin_more c p t x e = record { first = c; others = p; some = refl; cut = ap (λ
 
 mark_piece : (q : Quote) (x : List ℕ) → TextPiece q (flow.mark q ∷ x) [] x
 mark_piece Single x = record {
-  piece =
-      39 ∷ [];
+  piece = 39 ∷ [];
   begins = begin_more 39 [] x x refl;
   inside = [];
   spells = refl;
   norm = refl;
 }
 mark_piece Double x = record {
-  piece =
-      34 ∷ [];
+  piece = 34 ∷ [];
   begins = begin_more 34 [] x x refl;
   inside = [];
   spells = refl;

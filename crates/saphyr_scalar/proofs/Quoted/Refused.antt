@@ -178,8 +178,7 @@ inside_refused q indent s gap zero m (c ∷ cs) p =
     let is : IsQuotedInk c = record {
       blank = no_blank;
       break = no_break;
-      nul =
-          (gap_ended indent start gap here text ended).nul;
+      nul = (gap_ended indent start gap here text ended).nul;
     } in
     front_refused P text _
     (by_test (is_literal q c) _ _ (Refused P) (λ _. front_refused P (encode_utf8 c) _ (others no_gap no_break))

@@ -81,12 +81,9 @@ blank_step n q indent start (on_line bytes) m c cs b s h le known g =
     (sym (one_blank q indent start bytes m c cs h) ∙ g) in
     record {
       items = Blank c ∷ r.items;
-      is =
-          blank_spelled q c cs r.items s.rest h r.is;
-      bytes =
-          sym (blank_bytes bytes c r.items) ∙ r.bytes;
-      passed =
-          character m c cs s.mark s.rest (blank_no_break c h) r.passed;
+      is = blank_spelled q c cs r.items s.rest h r.is;
+      bytes = sym (blank_bytes bytes c r.items) ∙ r.bytes;
+      passed = character m c cs s.mark s.rest (blank_no_break c h) r.passed;
       clear = λ o _. blank_clear c cs h;
     }
 blank_step n q indent start (over_lines escaped k) m c cs b s h le known g =
@@ -98,13 +95,10 @@ blank_step n q indent start (over_lines escaped k) m c cs b s h le known g =
     let r = known (over_lines escaped k) (along m 1) cs b s le e in
     record {
       items = Blank c ∷ r.items;
-      is =
-          blank_spelled q c cs r.items s.rest h r.is;
-      bytes =
-          r.bytes;
+      is = blank_spelled q c cs r.items s.rest h r.is;
+      bytes = r.bytes;
       passed = character m c cs s.mark s.rest (blank_no_break c h) r.passed;
-      clear =
-          λ _ _. blank_clear c cs h;
+      clear = λ _ _. blank_clear c cs h;
     })
     (sym (line_blank q indent start escaped k m c cs h) ∙ g)
 
@@ -125,11 +119,8 @@ break_step n q indent start gap m c cs b s h le known g =
     let r = known (break_in gap) there.mark there.rest b s (omega (arith, behind_break_shorter c cs)) (sym on ∙ g) in
     record {
       items = Break ∷ r.items;
-      is =
-          quotes.broken q (c ∷ cs) r.items s.rest h (r.clear (break_over gap) refl) r.is;
-      bytes =
-          sym (break_bytes gap r.items) ∙ r.bytes;
-      passed =
-          line_break m (c ∷ cs) s.mark s.rest h r.passed;
+      is = quotes.broken q (c ∷ cs) r.items s.rest h (r.clear (break_over gap) refl) r.is;
+      bytes = sym (break_bytes gap r.items) ∙ r.bytes;
+      passed = line_break m (c ∷ cs) s.mark s.rest h r.passed;
       clear = λ _ _. break_clear c cs h;
     }

@@ -54,10 +54,8 @@ gap_ended indent start (over_lines escaped n) s text =
     (λ none. by_test (is_z (slice_index s.rest 0)) _ _ (LinesEnded escaped n s text) (λ _ e. no_error_is_ok _ text e)
     (λ nul. by_test (is_left indent s.mark) _ _ (LinesEnded escaped n s text) (λ _ e. no_error_is_ok _ text e)
     (λ _ e. record {
-      bytes =
-          given_is (encode_utf8_all (folded_break escaped n)) text e;
-      clear =
-          λ _ first. sym (ap (λ k. (k == 0) && is_document_indicator s.rest) first) ∙ none;
+      bytes = given_is (encode_utf8_all (folded_break escaped n)) text e;
+      clear = λ _ first. sym (ap (λ k. (k == 0) && is_document_indicator s.rest) first) ∙ none;
       nul = nul;
     })))
 
@@ -78,11 +76,9 @@ content_step n q indent start gap m c cs b s blank break le known g =
     known (behind_no_gap q indent start m c cs blank break ended.nul ∙ f.1) in
     record {
       items = w.items;
-      is =
-          w.is;
+      is = w.is;
       bytes = sym (w.bytes gap) ∙ ap (λ x. x ++ f.0) (sym ended.bytes) ∙ f.2;
-      passed =
-          w.passed;
+      passed = w.passed;
       clear = ended.clear;
     }
 

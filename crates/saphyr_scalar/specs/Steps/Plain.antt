@@ -44,8 +44,7 @@ unfoldable pub content_behind_tab : Marker → Bool → Cursor → Result Cursor
 content_behind_tab start tabbed s =
     if tabbed && is_bom (slice_index s.rest 0) then refuse fault.MisplacedByteOrderMark s.mark
     else if tabbed && not ((slice_index s.rest 0 == number_sign) || is_z (slice_index s.rest 0)) then
-    refuse fault.TabInsidePlain
-    start
+    refuse fault.TabInsidePlain start
     else Ok s
 
 -- the gap up to what stands on the line that is reached
@@ -148,8 +147,7 @@ unfoldable mutual
   word_behind_gap in_flow indent start end g left [] = scalar_end in_flow end g
   word_behind_gap in_flow indent start end g zero (c ∷ cs) = next_word_starts in_flow indent g.behind >>= λ b.
       if b.0 then with_text (g.text ++ encode_utf8 c) (word in_flow indent start (along g.behind.mark 1) cs)
-      else scalar_end
-      in_flow end g
+      else scalar_end in_flow end g
   word_behind_gap in_flow indent start end g (suc left) (c ∷ cs) = word_behind_gap in_flow indent start end g left cs
 
   -- in a word that began before m

@@ -73,8 +73,7 @@ abbrev pub pass_byte_order_mark : Cursor → Cursor
 pass_byte_order_mark s =
     record {
       rest = drop 1 s.rest;
-      mark =
-          record { index = s.mark.index + 1; line = s.mark.line; col = s.mark.col };
+      mark = record { index = s.mark.index + 1; line = s.mark.line; col = s.mark.col };
       blank_so_far = s.blank_so_far;
     }
 

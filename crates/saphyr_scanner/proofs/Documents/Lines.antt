@@ -36,19 +36,14 @@ whole_line m rest o h =
     let c = moved_count m rest (10 ∷ o) in
     record {
       rest = rest;
-      more =
-          10 ∷ o;
+      more = 10 ∷ o;
       is = refl;
-      line =
-          h;
+      line = h;
       break = inr refl;
-      mark =
-          next_line (moved m rest) 1;
-      behind =
-          λ column. refl;
+      mark = next_line (moved m rest) 1;
+      behind = λ column. refl;
       count = further (moved m rest).index (length o) c;
-      place =
-          inl refl;
+      place = inl refl;
       opens = inl refl;
       lined = λ h. one_lined (moved m rest) 10 (moved_lined m rest h);
     }
@@ -58,18 +53,14 @@ whole_line m rest o h =
 
 ends_with_last_line : (m : Marker) (rest : List ℕ) → IsLineRest rest → EndsWithLine m (rest ++ []) []
 ends_with_last_line m rest h = record {
-  rest =
-      rest;
+  rest = rest;
   more = [];
   is = refl;
-  line =
-      h;
+  line = h;
   break = inl refl;
-  mark =
-      moved m rest;
+  mark = moved m rest;
   behind = λ column. refl;
-  count =
-      moved_count m rest [];
+  count = moved_count m rest [];
   place = inr refl;
   opens = inr refl;
   lined = λ h. moved_lined m rest h;

@@ -88,8 +88,7 @@ passes_noted (Some comment) s k a ad m y here (inr h) =
     rw (none_goes_on comment (core_at false (cursor_at y m g.still_blank) context.Block k [] b ad) h) refl in
     record {
       blank = g.still_blank;
-      allowed =
-          b;
+      allowed = b;
       is = ap (λ r. r >>= λ (p : GapEnd). check_comment (behind_gap c p)) there ∙ goes;
     }
 

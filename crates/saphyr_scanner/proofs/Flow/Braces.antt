@@ -95,8 +95,7 @@ no_other_pairs_pass {around} room m p o (inl e) fits now low before text =
     now.places (moved m t) (125 ∷ o)) (sym e)
     (record {
       tokens = [];
-      are =
-          inl refl;
+      are = inl refl;
       passes = passes_nothing around (moment_in context.FlowMapping now) m (125 ∷ o) (ended around.indent m (125 ∷ o))
           fits.right there (fresh_in_flow context.FlowMapping (125 ∷ o) now.allowed now.cursor refl) near;
     })
@@ -105,8 +104,7 @@ no_other_pairs_pass {around} room m p o (inr comma) fits now low before text =
     (begins_with 125 o (125 ∷ o) refl (end_ink 125 (inr (inr refl)))) now before text in
     record {
       tokens = tokens.FlowEntry ∷ [];
-      are =
-          inr refl;
+      are = inr refl;
       passes = knowing c (ended around.indent (moved m p) (125 ∷ o))
           (less_behind around.indent c.adjacent (moved m p) [] (125 ∷ o) c.knows.2);
     }
@@ -148,8 +146,7 @@ other_pairs_pass {around} room key value pairs K V O m p o (comma, pair, others,
     context.FlowMapping now.outer now.places z behind_all) place
     (record {
       tokens = ((tokens.FlowEntry ∷ []) ++ n.tokens) ++ r.tokens;
-      are =
-          (n.tokens, r.tokens, n.are, r.are, refl);
+      are = (n.tokens, r.tokens, n.are, r.are, refl);
       passes = all;
     })
 
@@ -173,8 +170,7 @@ no_pairs_pass {around} room m p o e fits now no_candidate fresh low before text 
     (moved m t) (125 ∷ o)) (sym e)
     (record {
       tokens = [];
-      are =
-          refl;
+      are = refl;
       passes = passes_nothing around (moment_in context.FlowMapping now) m (125 ∷ o) (ended around.indent m (125 ∷ o))
           fits.right there (fresh_in_flow context.FlowMapping (125 ∷ o) now.allowed now.cursor refl)
           (less_behind around.indent now.adjacent m [] (125 ∷ o) before);
@@ -203,8 +199,6 @@ pairs_pass {around} room key value pairs K V O m p o (pair, others, i, h, e) fit
     now.outer now.places z behind_all) place
     (record {
       tokens = n.tokens ++ r.tokens;
-      are =
-          (n.tokens, r.tokens, n.are, r.are, refl);
-      passes =
-          join q r.passes (ended around.indent end behind_all) r.passes.knows;
+      are = (n.tokens, r.tokens, n.are, r.are, refl);
+      passes = join q r.passes (ended around.indent end behind_all) r.passes.knows;
     })

@@ -45,8 +45,7 @@ pub mark_begins : (m : Marker) (c : ℕ) (o : List ℕ) → IsTokenMark c → Is
 mark_begins m c o h clear =
     record {
       nul = h.nul;
-      byte_order_mark =
-          h.ink.byte_order_mark;
+      byte_order_mark = h.ink.byte_order_mark;
       directive = h.directive;
       marker = clear_here m c [] o clear;
     }

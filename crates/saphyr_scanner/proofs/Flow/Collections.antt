@@ -51,8 +51,7 @@ ends_inside indent x m o flow h right =
     (le_next indent m.col right) h.ink in
     record {
       found = p.found;
-      there =
-          p.there;
+      there = p.there;
       is = p.is;
       lands = p.lands;
       fresh = fresh_in_flow x o false p.there flow;

@@ -152,8 +152,7 @@ behind_none begins m c = refl
 pub colon_is_mark : IsTokenMark 58
 colon_is_mark = record {
   ink = record { blank = refl; break = refl; comment = refl; byte_order_mark = refl };
-  nul =
-      refl;
+  nul = refl;
   directive = refl;
   feed = refl;
 }

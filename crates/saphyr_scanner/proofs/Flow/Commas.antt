@@ -68,8 +68,7 @@ removes around d o m b context.MarkedFlowPair k ls a ad e = refl
 comma_is_mark : IsTokenMark 44
 comma_is_mark = record {
   ink = record { blank = refl; break = refl; comment = refl; byte_order_mark = refl };
-  nul =
-      refl;
+  nul = refl;
   directive = refl;
   feed = refl;
 }

@@ -71,10 +71,8 @@ pair_text_passes {around} room key value K V m t o fits ends (inl (none, h)) now
     before refl low text in
     record {
       tokens = n.tokens;
-      are =
-          inr (inr (inr (none, n.are)));
-      passes =
-          knowing n.passes (ended around.indent (moved m t) o) (n.passes.knows.low refl);
+      are = inr (inr (inr (none, n.are)));
+      passes = knowing n.passes (ended around.indent (moved m t) o) (n.passes.knows.low refl);
     }
 pair_text_passes room key value K V m t o fits ends (inr (inl h)) now no_candidate fresh low before text =
     told_so (λ ts (ks, vs, are, others, is).
@@ -143,8 +141,7 @@ item_behind : {around : Around} {start : Bool → State} {Is : List Kind → Typ
 item_behind m w o parts t =
     record {
       inside = t.inside;
-      flows =
-          t.flows;
+      flows = t.flows;
       back = t.back;
       tokens = t.tokens;
       are = t.are;
@@ -234,14 +231,11 @@ single_text_passes {around} room key value K V m t o fits ends (inr (inr h)) now
     h now low before text in
     record {
       inside = context.ExplicitFlowPair;
-      flows =
-          refl;
+      flows = refl;
       back = refl;
-      tokens =
-          p.tokens;
+      tokens = p.tokens;
       are = inr (refl, subst (MarkedTokens key value) (sym (append-nil p.tokens)) p.are);
-      passes =
-          p.passes;
+      passes = p.passes;
     }
 
 -- a pair in brackets, with the separation behind it
@@ -258,14 +252,11 @@ single_passes room key value K V m t c cs fits ends (inl h) now no_candidate fre
     before text in
     record {
       inside = context.ExplicitFlowPair;
-      flows =
-          refl;
+      flows = refl;
       back = refl;
-      tokens =
-          p.tokens;
+      tokens = p.tokens;
       are = inr (refl, subst (MarkedTokens key value) (sym (append-nil p.tokens)) p.are);
-      passes =
-          p.passes;
+      passes = p.passes;
     }
 single_passes {around} room key value K V m t c cs fits ends (inr (piece, separation, h, parts, e)) now
     no_candidate fresh low before text =

@@ -80,8 +80,7 @@ blanks_past column (c ∷ cs) h m low =
     let same : moved m (c ∷ cs) ≡ moved (along m 1) cs = rw (no_feed c h.0) refl in
     record {
       right = subst (λ (k : Marker). column ≤ k.col) (sym same) on.right;
-      is =
-          λ y. rw (right_tab column m c low, h.0, no_feed c h.0) (on.is y);
+      is = λ y. rw (right_tab column m c low, h.0, no_feed c h.0) (on.is y);
     }
 
 pub spaces_are_blank : (n : ℕ) → AreIn is_blank (spaces n)

@@ -71,10 +71,8 @@ bare_collection_passes around p none Is b are m w inside o fits parts parted now
     let r = brackets_pass around Is b are m w inside o fits parts parted now low calm before text run.0 run.1 in
     record {
       properties = [];
-      are_properties =
-          subst (λ (q : Properties). grammar.YieldProperties q []) (sym none) refl;
-      inside =
-          r.inside;
+      are_properties = subst (λ (q : Properties). grammar.YieldProperties q []) (sym none) refl;
+      inside = r.inside;
       are = r.are;
       passes = r.passes;
     }
@@ -131,8 +129,7 @@ collection_behind_properties around p P Is b are m t v w inside o fits h some ga
     } in
     record {
       properties = pp.tokens;
-      are_properties =
-          pp.are;
+      are_properties = pp.are;
       inside = r.inside;
       are = r.are;
       passes = subst (λ (e : Marker). PassesPiece around start (bracketed around.indent now.context kept e o)

@@ -103,10 +103,8 @@ past_count column m t =
     by_steps column (λ m t r. r.0.index + length r.1 ≡ m.index + length t)
     (record {
       stays = λ m t e. refl;
-      onward =
-          λ m c cs r p. further (r.0.index + length r.1) m.index (length cs) p;
-      line =
-          λ m c cs r p. further (r.0.index + length r.1) m.index (length cs) p;
+      onward = λ m c cs r p. further (r.0.index + length r.1) m.index (length cs) p;
+      line = λ m c cs r p. further (r.0.index + length r.1) m.index (length cs) p;
     }) m t
   where
     further : (n i l : ℕ) → n ≡ i + 1 + l → n ≡ i + suc l
@@ -115,10 +113,8 @@ past_count column m t =
 -- what is left is no longer
 no_longer : (column : ℕ) → GapCases column (λ m t r. length r.1 ≤ length t)
 no_longer column = record {
-  stays =
-      λ m t e. omega arith;
-  onward =
-      λ m c cs r p. further (length r.1) (length cs) p;
+  stays = λ m t e. omega arith;
+  onward = λ m c cs r p. further (length r.1) (length cs) p;
   line = λ m c cs r p. further (length r.1) (length cs) p;
 }
   where

@@ -148,8 +148,7 @@ gap_kind column m blank broke c cs true p q r t e f g on line sign =
     let still : past column m (c ∷ cs) ≡ (m, c ∷ cs) = rw t refl in
     record {
       still_blank = blank;
-      now_broke =
-          broke;
+      now_broke = broke;
       is = λ h. absurd (clash (is_blank c) (stop_blank column m c cs t)
           (ap (λ (z : Marker × List ℕ). is_blank (slice_index z.1 0)) (sym still) ∙ h));
     }

@@ -27,8 +27,7 @@ begins_with c cs t e h = record { first = c; others = cs; is = e; ink = h }
 -- whatever stands behind
 pub ink_front : (a t o : List ℕ) → t ≡ a ++ o → BeginsInk a → BeginsInk t
 ink_front a t o e b = record {
-  first =
-      b.first;
+  first = b.first;
   others = b.others ++ o;
   is = e ∙ ap (λ (x : List ℕ). x ++ o) b.is;
   ink = b.ink;
@@ -78,8 +77,7 @@ word_ink : (in_flow : Bool) (c : ℕ) → IsTrue (is_word_ink in_flow c) → c �
 word_ink in_flow c h n =
     record {
       blank = blank in_flow c h;
-      break =
-          break in_flow c h;
+      break = break in_flow c h;
       comment = sign c n;
       byte_order_mark = bom in_flow c h;
     }

@@ -117,8 +117,7 @@ comma_behind around y z flows back m comma o (separation, parts, e) fits b now b
     let parted : IsParted around.indent (separation ++ o) =
     record {
       separation = separation;
-      first =
-          b.first;
+      first = b.first;
       others = b.others;
       is = ap (λ (t : List ℕ). separation ++ t) b.is;
       parts = parts;

@@ -98,17 +98,13 @@ pub closes_unnoted : {around : Around} {start : Bool → State} {known : Known} 
     → p.adjacent ≤ (past around.indent m o).0.index → {k : Option Candidate} {first : Marker} {t : List ℕ}
     → Since k first t p.key → Closes around start k first t ps m o ts
 closes_unnoted p low late = record {
-  there =
-      p.there;
+  there = p.there;
   key = p.key;
-  allowed =
-      p.allowed;
+  allowed = p.allowed;
   adjacent = p.adjacent;
-  comment =
-      None;
+  comment = None;
   new = p.new;
-  leads =
-      p.leads;
+  leads = p.leads;
   right = p.right;
   fits = p.fits;
   are = p.are;
@@ -144,14 +140,11 @@ pub knowing : {around : Around} {start : Bool → State} {known : Known} {x : Co
 knowing p other h =
     record {
       there = p.there;
-      key =
-          p.key;
+      key = p.key;
       allowed = p.allowed;
-      adjacent =
-          p.adjacent;
+      adjacent = p.adjacent;
       new = p.new;
-      leads =
-          p.leads;
+      leads = p.leads;
       right = p.right;
       fits = p.fits;
       fresh = p.fresh;
@@ -168,11 +161,9 @@ pub step_passes : {around : Around} {start : Bool → State} (next : FlowMoment)
 step_passes next new m o ts known c right fits fresh are knows =
     record {
       there = next.cursor;
-      key =
-          c.key;
+      key = c.key;
       allowed = next.allowed;
-      adjacent =
-          next.adjacent;
+      adjacent = next.adjacent;
       new = new;
       leads = c.leads;
       right = right;
@@ -189,15 +180,12 @@ pub passes_nothing : (around : Around) (now : FlowMoment) (m : Marker) (o : List
 passes_nothing around now m o known right text fresh knows =
     record {
       there = now.cursor;
-      key =
-          now.key;
+      key = now.key;
       allowed = now.allowed;
-      adjacent =
-          now.adjacent;
+      adjacent = now.adjacent;
       new = [];
       leads = rw append-nil (runs_to_itself around _);
-      right =
-          right;
+      right = right;
       fits = text;
       fresh = fresh;
       are = refl;

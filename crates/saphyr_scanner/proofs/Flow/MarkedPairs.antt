@@ -45,8 +45,7 @@ mark_behind around y z c m separation o fits (some, parts, tabs) first others is
     let parted : IsParted around.indent (separation ++ o) =
     record {
       separation = separation;
-      first =
-          first;
+      first = first;
       others = others;
       is = ap (λ (t : List ℕ). separation ++ t) is;
       parts = parts;
@@ -109,10 +108,8 @@ inside_passes {around} room key value K V y z c m t o fits ends (inl (none, h)) 
     let n = K m t o (inl h) fits (entry_behind around.indent key o ends) (moment_in z now) before c.inside low text in
     record {
       tokens = n.tokens;
-      are =
-          inr (none, (n.tokens, inr n.are, refl));
-      passes =
-          knowing n.passes (ended around.indent (moved m t) o) (n.passes.knows.low c.inside);
+      are = inr (none, (n.tokens, inr n.are, refl));
+      passes = knowing n.passes (ended around.indent (moved m t) o) (n.passes.knows.low c.inside);
     }
 inside_passes {around} room key value K V y z c m t o fits ends (inr (inl h)) now no_candidate none_allowed
     low before text =
@@ -171,8 +168,7 @@ explicit_passes {around} room key value K V y z c m t o fits ends (separation, p
     (sym (moved_append m (63 ∷ separation) pair) ∙ ap (moved m) (sym is))
     (record {
       tokens = tokens.Key ∷ q.tokens;
-      are =
-          q.are;
+      are = q.are;
       passes = join p q.passes (ended around.indent (moved (moved m (63 ∷ separation)) pair) o) q.passes.knows;
     })
 

@@ -107,24 +107,20 @@ begins_alias second n c = refl
 
 pub anchor_first : (name : List ℕ) → Begins (38 ∷ name)
 anchor_first name = record {
-  first =
-      38;
+  first = 38;
   others = name;
   is = refl;
-  ink =
-      record { blank = refl; break = refl; comment = refl; byte_order_mark = refl };
+  ink = record { blank = refl; break = refl; comment = refl; byte_order_mark = refl };
   nul = refl;
   directive = refl;
 }
 
 pub alias_first : (name : List ℕ) → Begins (42 ∷ name)
 alias_first name = record {
-  first =
-      42;
+  first = 42;
   others = name;
   is = refl;
-  ink =
-      record { blank = refl; break = refl; comment = refl; byte_order_mark = refl };
+  ink = record { blank = refl; break = refl; comment = refl; byte_order_mark = refl };
   nul = refl;
   directive = refl;
 }
@@ -186,8 +182,7 @@ tag_passes reads around tag t o m h fits now ends text =
       first = 33;
       others = f.0;
       is = f.1;
-      ink =
-          record { blank = refl; break = refl; comment = refl; byte_order_mark = refl };
+      ink = record { blank = refl; break = refl; comment = refl; byte_order_mark = refl };
       nul = refl;
       directive = refl;
     } in

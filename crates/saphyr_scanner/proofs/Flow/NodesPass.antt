@@ -24,11 +24,9 @@ behind_parted : (indent : ℕ) (node : Node) (o : List ℕ) → IsBehindNode ind
 behind_parted indent node o h =
     record {
       separation = h.separation;
-      first =
-          h.first;
+      first = h.first;
       others = h.others;
-      is =
-          h.is;
+      is = h.is;
       parts = h.parts;
       ink = (ends_node_ink node h.separation h.others h.first h.ends).0;
     }

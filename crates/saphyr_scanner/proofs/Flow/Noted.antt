@@ -52,8 +52,7 @@ unfolding fetch_within
 noted_comes around start comment next to deepens going is low calm =
     record {
       key = key_left context.Block next.key next.cursor.mark;
-      leads =
-          record { run = λ d. one d };
+      leads = record { run = λ d. one d };
       kept = left_or_none context.Block next.key next.cursor.mark;
     }
   where

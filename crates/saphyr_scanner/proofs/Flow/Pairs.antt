@@ -67,8 +67,7 @@ value_behind {around} {start} {ls} {ps} {ts} room value V y flows m rest o fits 
     → PassesPiece around start (no_key m) y ls ps (moved m t) o ts) (sym e) (λ k. k) p in
     record {
       tokens = ts;
-      are =
-          ([], inl (none, refl), sym (append-nil ts));
+      are = ([], inl (none, refl), sym (append-nil ts));
       passes =
           knowing q (ended around.indent (moved m rest) o) (less_behind around.indent q.adjacent m rest o q.knows.2);
     }
@@ -85,10 +84,8 @@ value_behind {around} {start} {ls} {ps} {ts} room value V y flows m rest o fits 
     (sym (moved_append m separation node) ∙ ap (moved m) (sym e))
     (record {
       tokens = ts ++ n.tokens;
-      are =
-          (n.tokens, inr n.are, refl);
-      passes =
-          join q n.passes (ended around.indent (moved (moved m separation) node) o) (n.passes.knows.low flows);
+      are = (n.tokens, inr n.are, refl);
+      passes = join q n.passes (ended around.indent (moved (moved m separation) node) o) (n.passes.knows.low flows);
     })
 
 -- a colon and what stands behind it
@@ -105,8 +102,7 @@ pub is_colon_text : (indent room : ℕ) (adjacent : Bool) (value : Node) (colon 
 is_colon_text indent room adjacent value colon o ends (inl (none, e)) =
     record {
       rest = [];
-      is =
-          e;
+      is = e;
       parted = entry_parted indent o ends;
       ends = inr (entry_ends_colon indent o ends);
       value_text = inl (none, refl);
@@ -142,8 +138,7 @@ key_followed : (indent room : ℕ) (key value : Node) (separation rest o : List 
 key_followed indent room key value separation rest o parts apart ends =
     record {
       separation = separation;
-      first =
-          58;
+      first = 58;
       others = rest ++ o;
       is = refl;
       parts = parts;
@@ -213,10 +208,8 @@ key_passes {around} room key value K V y flows m t o fits ends (node, separation
     told_at (moved (moved here (58 ∷ [])) rest) (moved m t) (whole_moved m t node separation rest is)
     (record {
       tokens = v.tokens;
-      are =
-          (n.tokens, v.are.0, n.are, v.are.1, v.are.2 ∙ value_regrouped (key_kinds (begins_pair y)) n.tokens v.are.0);
-      passes =
-          v.passes;
+      are = (n.tokens, v.are.0, n.are, v.are.1, v.are.2 ∙ value_regrouped (key_kinds (begins_pair y)) n.tokens v.are.0);
+      passes = v.passes;
     })
 
 -- ## A value without a key
@@ -244,10 +237,8 @@ alone_passes {around} room key value V y flows m t o fits ends (none, c) now no_
     told_at (moved (moved m (58 ∷ [])) rest) (moved m t) (ap (moved m) (sym x.is))
     (record {
       tokens = v.tokens;
-      are =
-          (v.are.0, v.are.1, v.are.2 ∙ append_assoc (alone_kinds (begins_pair y)) (tokens.Value ∷ []) v.are.0);
-      passes =
-          v.passes;
+      are = (v.are.0, v.are.1, v.are.2 ∙ append_assoc (alone_kinds (begins_pair y)) (tokens.Value ∷ []) v.are.0);
+      passes = v.passes;
     })
   where
     by_end : (c : ℕ) → IsTrue false ⊎ IsTrue (ends_colon c) → (m.index ≡ now.adjacent) ⊎ IsTrue (ends_colon c)
@@ -323,8 +314,7 @@ marked_key_passes {around} room key value K V y flows no_pair m t o fits ends
     told_at (moved (moved here (58 ∷ [])) rest) (moved m t) (whole_moved m t node separation rest is)
     (record {
       tokens = v.tokens;
-      are =
-          (n.tokens, v.are.0, n.are, v.are.1, v.are.2 ∙ regrouped_alone (begins_pair y) n.tokens v.are.0 no_pair);
+      are = (n.tokens, v.are.0, n.are, v.are.1, v.are.2 ∙ regrouped_alone (begins_pair y) n.tokens v.are.0 no_pair);
       passes = v.passes;
     })
   where

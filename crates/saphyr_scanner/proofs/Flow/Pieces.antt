@@ -20,10 +20,8 @@ pub fits_front : {around : Around} (m : Marker) (a b o : List ℕ) → FitsAroun
 fits_front {around} m a b o h =
     record {
       clear = clear_front m a b o h.clear;
-      below =
-          subst (λ (t : List ℕ). m.index + length t ≤ around.limit) (append_assoc a b o) h.below;
-      right =
-          h.right;
+      below = subst (λ (t : List ℕ). m.index + length t ≤ around.limit) (append_assoc a b o) h.below;
+      right = h.right;
       calm = h.calm;
     }
 
@@ -65,8 +63,7 @@ pub entry_behind : (indent : ℕ) (node : Node) (o : List ℕ) → IsBehindEntry
 entry_behind indent node o h =
     record {
       separation = h.separation;
-      first =
-          h.first;
+      first = h.first;
       others = h.others;
       is = h.is;
       parts = h.parts;
@@ -85,8 +82,7 @@ pub entry_parted : (indent : ℕ) (o : List ℕ) → IsBehindEntry indent o → 
 entry_parted indent o h =
     record {
       separation = h.separation;
-      first =
-          h.first;
+      first = h.first;
       others = h.others;
       is = h.is;
       parts = h.parts;
@@ -104,8 +100,7 @@ pub ink_parted : (indent : ℕ) (w t o : List ℕ) → IsSeparation indent w →
 ink_parted indent w t o parts b =
     record {
       separation = w;
-      first =
-          b.first;
+      first = b.first;
       others = b.others ++ o;
       is = ap (λ (x : List ℕ). w ++ (x ++ o)) b.is;
       parts = parts;

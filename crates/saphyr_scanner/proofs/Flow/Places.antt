@@ -94,16 +94,13 @@ back_unmarked m (c ∷ cs) b o h =
 -- A piece of two parts is clear where both are.
 pub clear_front : (m : Marker) (a b o : List ℕ) → IsClear m (a ++ b) o → IsClear m a (b ++ o)
 clear_front m a b o h = record {
-  no_return =
-      front_in (λ c. not (c == carriage_return)) a b h.no_return;
-  no_marker =
-      front_unmarked (m.col == 0) a b o h.no_marker;
+  no_return = front_in (λ c. not (c == carriage_return)) a b h.no_return;
+  no_marker = front_unmarked (m.col == 0) a b o h.no_marker;
 }
 
 pub clear_back : (m : Marker) (a b o : List ℕ) → IsClear m (a ++ b) o → IsClear (moved m a) b o
 clear_back m a b o h = record {
-  no_return =
-      back_in (λ c. not (c == carriage_return)) a b h.no_return;
+  no_return = back_in (λ c. not (c == carriage_return)) a b h.no_return;
   no_marker = back_unmarked m a b o h.no_marker;
 }
 

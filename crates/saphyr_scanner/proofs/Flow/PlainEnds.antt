@@ -127,8 +127,7 @@ pub ends_in_flow : (column : ℕ) (node : Node) (m : Marker) (o : List ℕ) → 
 ends_in_flow column node m o apart h right =
     record {
       stops = stops (reaches column m o inked);
-      apart =
-          ends_no_sign node (slice_index o 0) (behind_node_first column node o h);
+      apart = ends_no_sign node (slice_index o 0) (behind_node_first column node o h);
       tabs = tabs_behind column m m false o inked;
     }
   where
@@ -156,8 +155,7 @@ pub ends_at_root : (column : ℕ) (m : Marker) (o : List ℕ) → IsBehindRoot c
 ends_at_root column m o h right =
     record {
       stops = stops (reaches column m o inked) (h.lands right);
-      apart =
-          other (slice_index o 0) (root_first column m o h);
+      apart = other (slice_index o 0) (root_first column m o h);
       tabs = tabs_behind column m m false o inked;
     }
   where

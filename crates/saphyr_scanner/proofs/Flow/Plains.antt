@@ -72,10 +72,8 @@ word_begins f indent t o (word, others, (is_word, begins, no_dash, no_mark, no_c
     by_word (c ∷ d ∷ ds) some ink sign b dash mark colon e =
         record {
           first = c;
-          others =
-              d ∷ (ds ++ others);
-          is =
-              e;
+          others = d ∷ (ds ++ others);
+          is = e;
           begins = b;
           ink = ink.0;
           no_comment = sign;
@@ -136,10 +134,8 @@ token_begins f t o b =
       is = b.is;
       ink = record {
         blank = no_blank b.first ink.blank_or_breakz;
-        break =
-            ink_no_break b.first ink.blank_or_breakz;
-        comment =
-            ne_eqb b.first 35 b.no_comment;
+        break = ink_no_break b.first ink.blank_or_breakz;
+        comment = ne_eqb b.first 35 b.no_comment;
         byte_order_mark = ink.byte_order_mark;
       };
       nul = no_nul b.first ink.blank_or_breakz;

@@ -53,15 +53,13 @@ one_property x kept ad p =
     knowing p (behind_properties x kept ad)
     (record {
       properties = record {
-        piece =
-            p.knows.piece;
+        piece = p.knows.piece;
         others = [];
         is = p.knows.is;
         keeps = p.knows.keeps;
         closed = p.knows.tells.0;
       };
-      since =
-          p.knows.since;
+      since = p.knows.since;
       still = p.knows.tells.1;
     })
 
@@ -233,8 +231,7 @@ alias_closes reads around name m p o h fits behind now before text =
     let q = alias_token_passes reads around name p o m h ends fits (root_moment now) text in
     record {
       tokens = alias_token name ∷ [];
-      are =
-          refl;
+      are = refl;
       closes = closes_unnoted q (subst (λ (n : ℕ). n ≤ (past around.indent (moved m p) o).0.index) (sym q.knows.tells.1)
           (behind_low around.indent now.adjacent m p o first)) q.knows.since;
     }

@@ -35,10 +35,8 @@ use Rattle.saphyr_scanner.proofs.Queues.{token_place}
 
 question : IsTokenMark 63
 question = record {
-  ink =
-      record { blank = refl; break = refl; comment = refl; byte_order_mark = refl };
-  nul =
-      refl;
+  ink = record { blank = refl; break = refl; comment = refl; byte_order_mark = refl };
+  nul = refl;
   directive = refl;
   feed = refl;
 }

@@ -44,8 +44,7 @@ breaks m (c ∷ cs) o clear h =
     subst (λ (y : ℕ). IsClear m (y ∷ cs) o → Breaks m (y ∷ cs) o) (sym (is_feed c h clear.no_return.0))
     (λ k. record {
       there = next_line m 1;
-      start =
-          refl;
+      start = refl;
       clear = clear_back m (10 ∷ []) cs o k;
       same = refl;
       first = refl;
@@ -116,8 +115,7 @@ line_fits low indent below m u o c cs is start clear line =
     (clear_here m c cs o (subst (λ (y : List ℕ). IsClear m y o) is clear)) in
     record {
       no_marker = subst (λ (y : List ℕ). IsFalse (is_document_indicator (y ++ o))) (sym is) unmarked;
-      indented =
-          by_line line.indented;
+      indented = by_line line.indented;
     }
   where
     by_line : (indent ≤ space_count u) ⊎ IsTrue (is_break (slice_index (drop (space_count u) u) 0))

@@ -174,22 +174,18 @@ pub quote_first : (quote : Quote) (inside : List ℕ) → Begins (mark quote ∷
 quote_first Single inside =
     record {
       first = 39;
-      others =
-          inside;
+      others = inside;
       is = refl;
-      ink =
-          record { blank = refl; break = refl; comment = refl; byte_order_mark = refl };
+      ink = record { blank = refl; break = refl; comment = refl; byte_order_mark = refl };
       nul = refl;
       directive = refl;
     }
 quote_first Double inside =
     record {
       first = 34;
-      others =
-          inside;
+      others = inside;
       is = refl;
-      ink =
-          record { blank = refl; break = refl; comment = refl; byte_order_mark = refl };
+      ink = record { blank = refl; break = refl; comment = refl; byte_order_mark = refl };
       nul = refl;
       directive = refl;
     }

@@ -114,8 +114,7 @@ bare_scalar_passes reads around p style value t o m e h fits behind now low flow
       passes = knowing q (after_node around.indent now.context (key_behind now m) (Scalar p style value) (moved m t) o)
           (record {
             piece = q.knows.piece;
-            others =
-                [];
+            others = [];
             is = q.knows.is;
             keeps = q.knows.keeps;
             near = λ e. q.knows.near;

@@ -35,16 +35,14 @@ line_stops comment more (inl e) =
 line_stops comment more (inr e) =
     record {
       mark = ap is_bom e;
-      blank =
-          λ _. ap is_blank e;
+      blank = λ _. ap is_blank e;
       sign = λ _. ap (λ (c : ℕ). c == 35) e;
       word = λ _. ap is_yaml_non_break e;
     }
 
 pub ink_stops : (c : ℕ) (cs : List ℕ) → IsInk c → StopsLine [] (c ∷ cs)
 ink_stops c cs h = record {
-  mark =
-      h.byte_order_mark;
+  mark = h.byte_order_mark;
   blank = λ _. h.blank;
   sign = λ _. h.comment;
   word = λ n. absurd (n refl);
@@ -114,8 +112,7 @@ line_separated s blanks comment more is are k h =
     let there : Cursor = record {
       rest = more;
       mark = along s.mark (length (blanks ++ comment));
-      blank_so_far =
-          s.blank_so_far;
+      blank_so_far = s.blank_so_far;
     } in
     let place : pass_blanks n s ≡ there = rw (left, count) refl in
     ap (behind_separation Yes s.rest) place

@@ -70,8 +70,7 @@ spaces_end_at_ink column c cs ink m blank space n e =
     refl in
     record {
       still_blank = blank;
-      some =
-          space;
+      some = space;
       is = here ∙ ap (λ (k : Marker). spaces_end k blank space (c ∷ cs)) same;
       has = λ h. h;
     }
@@ -184,8 +183,7 @@ comment_end column c cs ink m blank space n p = by_word (is_yaml_non_break c) re
         rw (e, ink.break, r) refl in
         record {
           still_blank = blank;
-          some =
-              space;
+          some = space;
           is = here ∙ ap (λ (k : Marker). spaces_end k blank space (c ∷ cs)) same;
           has = λ h. h;
         }

@@ -230,9 +230,7 @@ plain_gap f indent m t h e =
     let g = word_gap indent m t h in
     record {
       some = g.some;
-      white =
-          g.white;
+      white = g.white;
       tabs = g.tabs;
-      indented =
-          inr (subst (λ (k : Marker). (has_line_end t ≡ false) ⊎ (indent ≤ k.col)) (sym e) g.indented);
+      indented = inr (subst (λ (k : Marker). (has_line_end t ≡ false) ⊎ (indent ≤ k.col)) (sym e) g.indented);
     }

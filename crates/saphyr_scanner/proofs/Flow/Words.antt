@@ -58,11 +58,9 @@ lone_dash c f second h = by_flow f h
 -- a word stands before anything
 pub word_before : (f : Bool) (w y : List ℕ) → IsWordIn f w → IsWordBefore f w y
 word_before f w y h = record {
-  some =
-      h.some;
+  some = h.some;
   ink = ink_before f w y h.ink;
-  no_comment =
-      h.no_comment;
+  no_comment = h.no_comment;
   no_lone_dash = by_word w h.some h.ink h.no_lone_dash;
 }
   where

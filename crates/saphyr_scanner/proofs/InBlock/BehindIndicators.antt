@@ -173,8 +173,7 @@ ink_so w t b h = subst (λ (x : List ℕ). IsBehindIndicator (w ++ x)) (sym b.is
 
 pub further_ink : (t o : List ℕ) → BeginsInk t → BeginsInk (t ++ o)
 further_ink t o b = record {
-  first =
-      b.first;
+  first = b.first;
   others = b.others ++ o;
   is = ap (λ (x : List ℕ). x ++ o) b.is;
   ink = b.ink;

@@ -51,8 +51,7 @@ last_rest tail = tail ++ line_feed ∷ []
 
 last_rest_is : (tail : List ℕ) → IsLineRest tail → IsMarkerRest (last_rest tail)
 last_rest_is tail h = record {
-  first =
-      rest_first tail (10 ∷ []) h (inr refl);
+  first = rest_first tail (10 ∷ []) h (inr refl);
   fed = record { front = tail; is = refl };
 }
 
@@ -254,8 +253,7 @@ placed leaves marker forest t front tail h (inr (inr (others, rest, filler, befo
       filler_is,
       record {
         front = others;
-        is =
-            e ∙ ap (λ (x : List ℕ). x ++ line) is ∙ mark_text others rest filler line;
+        is = e ∙ ap (λ (x : List ℕ). x ++ line) is ∙ mark_text others rest filler line;
         line = before_line others before;
       },
     )
@@ -378,9 +376,7 @@ closed_scans readers reads blocks limit low marker forest text more same layout 
     (normalized more) clean ends layout (omega (arith, less, long, short)) in
     record {
       earlier = h.earlier;
-      more =
-          h.more;
+      more = h.more;
       yields = h.yields;
-      begins =
-          same.kinds ∙ ap (λ (x : List ℕ). map (λ (t : Piece). t.kind) (scan limit x).pieces) apart ∙ h.begins;
+      begins = same.kinds ∙ ap (λ (x : List ℕ). map (λ (t : Piece). t.kind) (scan limit x).pieces) apart ∙ h.begins;
     }

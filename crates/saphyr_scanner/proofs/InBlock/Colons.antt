@@ -124,8 +124,7 @@ some_indent i col e = grind (arith, nat_tests)
 -- behind a `:` of its own
 abbrev behind_value : Marker → List ℕ → ℕ → Moment
 behind_value n o ad = record {
-  cursor =
-      cursor_at o n false;
+  cursor = cursor_at o n false;
   key = None;
   allowed = true;
   adjacent = ad;
@@ -191,8 +190,7 @@ block_opening further = if further then opening.BlockMappingAndKey else opening.
 -- behind the colon of a key
 abbrev colon_moment : Marker → List ℕ → ℕ → Moment
 colon_moment n o ad = record {
-  cursor =
-      cursor_at o n false;
+  cursor = cursor_at o n false;
   key = None;
   allowed = false;
   adjacent = ad;

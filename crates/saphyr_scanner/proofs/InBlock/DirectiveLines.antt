@@ -137,8 +137,7 @@ pub directive_line : (d : Directive) (t : List ℕ) → IsDirective d t → Dire
 directive_line (Version major minor) t (directive, tail, is, tail_is, e) =
     record {
       others = codes "YAML" ++ ((is.0 ++ (is.1 ++ (46 ∷ is.2))) ++ tail);
-      is =
-          e ∙ ap (λ (x : List ℕ). x ++ tail) is.6;
+      is = e ∙ ap (λ (x : List ℕ). x ++ tail) is.6;
       line =
           subst IsOneLine (sym e) (both_lines directive tail (version_line major minor directive is)
           (tail_line tail tail_is));
@@ -146,8 +145,7 @@ directive_line (Version major minor) t (directive, tail, is, tail_is, e) =
 directive_line (TagPrefix handle prefix) t (written, directive, tail, handle_is, is, tail_is, e) =
     record {
       others = codes "TAG" ++ ((is.0 ++ (written ++ (is.1 ++ is.2))) ++ tail);
-      is =
-          e ∙ ap (λ (x : List ℕ). x ++ tail) is.7;
+      is = e ∙ ap (λ (x : List ℕ). x ++ tail) is.7;
       line =
           subst IsOneLine (sym e)
           (both_lines directive tail (tag_line written prefix directive is) (tail_line tail tail_is));

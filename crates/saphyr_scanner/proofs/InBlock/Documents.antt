@@ -146,8 +146,7 @@ reads_front {limit = limit} {start = start} readers d free directives y ts (inl 
     let t = directives ++ (45 ∷ 45 ∷ 45 ∷ y) in
     record {
       free = true;
-      opened =
-          false;
+      opened = false;
       stands = reads_directives readers d.directives directives (45 ∷ 45 ∷ 45 ∷ y) ts are
           (unopened (subst (λ (b : Bool). StandsInStream limit start b (Lined b t) t ts) is_free v));
     }

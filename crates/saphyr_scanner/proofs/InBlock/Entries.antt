@@ -138,13 +138,10 @@ dash_is_no_marker (c ∷ cs) h = by_dash (c == 45) refl
 
 dash_begins : (m : Marker) (o : List ℕ) → is_blank_or_breakz (slice_index o 0) ≡ true → BeginsToken m (45 ∷ o)
 dash_begins m o h = record {
-  stop =
-      (refl, refl, refl);
-  nul =
-      refl;
+  stop = (refl, refl, refl);
+  nul = refl;
   byte_order_mark = refl;
-  directive =
-      and_false (m.col == 0);
+  directive = and_false (m.col == 0);
   marker = rw (dash_is_no_marker o h, and_false (m.col == 0)) refl;
 }
 
@@ -182,8 +179,7 @@ abbrev behind_dash : List ℕ → Marker → Bool → ℕ → Moment
 behind_dash more n deeper ad =
     record {
       cursor = cursor_at more n false;
-      key =
-          None;
+      key = None;
       allowed = true;
       adjacent = ad;
       deeper = deeper;

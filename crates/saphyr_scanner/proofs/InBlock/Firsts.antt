@@ -27,8 +27,7 @@ pub record HasToken (t : List ℕ) : Type 0 where
 
 ink_token : (w t u : List ℕ) → IsSkipped w → BeginsInk t → u ≡ w ++ t → HasToken u
 ink_token w t u h b e = record {
-  white =
-      w;
+  white = w;
   skipped = h;
   first = b.first;
   others = b.others;
@@ -38,27 +37,21 @@ ink_token w t u h b e = record {
 
 pub token_front : (t o : List ℕ) → HasToken t → HasToken (t ++ o)
 token_front t o h = record {
-  white =
-      h.white;
+  white = h.white;
   skipped = h.skipped;
-  first =
-      h.first;
+  first = h.first;
   others = h.others ++ o;
-  ink =
-      h.ink;
+  ink = h.ink;
   is = ap (λ (x : List ℕ). x ++ o) h.is ∙ append_assoc h.white (h.first ∷ h.others) o;
 }
 
 token_behind : (w t : List ℕ) → IsSkipped w → HasToken t → HasToken (w ++ t)
 token_behind w t k h = record {
-  white =
-      w ++ h.white;
+  white = w ++ h.white;
   skipped = skipped_append w h.white k h.skipped;
-  first =
-      h.first;
+  first = h.first;
   others = h.others;
-  ink =
-      h.ink;
+  ink = h.ink;
   is = ap (λ (x : List ℕ). w ++ x) h.is ∙ sym (append_assoc w h.white (h.first ∷ h.others));
 }
 

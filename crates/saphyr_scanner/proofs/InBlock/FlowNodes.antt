@@ -205,10 +205,8 @@ reads_flow reads limit short node place f same m t o (gap, text, end, gap_is, no
     let inside : flow.FitsAround around at text rest =
     record {
       clear = fits_text.clear;
-      below =
-          fits_text.below;
-      right =
-          subst (λ (i : ℕ). i ≤ at.col) (sym same) (gap_reaches place m gap gap_is before.placed);
+      below = fits_text.below;
+      right = subst (λ (i : ℕ). i ≤ at.col) (sym same) (gap_reaches place m gap gap_is before.placed);
       calm = refl;
     } in
     let q = past 0 (moved m t) o in
@@ -227,8 +225,7 @@ reads_flow reads limit short node place f same m t o (gap, text, end, gap_is, no
       key = c.key;
       allowed = c.allowed;
       adjacent = c.adjacent;
-      deeper =
-          ran.deeper;
+      deeper = ran.deeper;
       required = false;
       comment = c.comment;
     } in

@@ -23,8 +23,7 @@ pub record EndsFed (o : List ℕ) : Type 0 where
 
 pub fed_front : (a b : List ℕ) → EndsFed b → EndsFed (a ++ b)
 fed_front a b h = record {
-  front =
-      a ++ h.front;
+  front = a ++ h.front;
   is = ap (λ (x : List ℕ). a ++ x) h.is ∙ sym (append_assoc a h.front (10 ∷ []));
 }
 

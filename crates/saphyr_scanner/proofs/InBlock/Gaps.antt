@@ -53,24 +53,20 @@ gap_kind least m blank broke tab c cs true q r e f g on line sign =
 gap_kind least m blank broke tab c cs false true r e f g on line sign =
     record {
       still_blank = line.still_blank;
-      is =
-          rw (no_left m c, e, f, or-true broke) line.is;
+      is = rw (no_left m c, e, f, or-true broke) line.is;
       stop = rw (no_left m c, e, f) line.stop;
     }
 gap_kind least m blank broke tab c cs false false true e f g on line sign =
     record {
       still_blank = sign.still_blank;
-      is =
-          rw (no_left m c, e, f, g) sign.is;
+      is = rw (no_left m c, e, f, g) sign.is;
       stop = rw (no_left m c, e, f, g) sign.stop;
     }
 gap_kind least m blank broke tab c cs false false false e f g on line sign =
     record {
       still_blank = blank;
-      is =
-          rw (no_left m c, e, f, g, or-false broke) refl;
-      stop =
-          rw (no_left m c, e, f, g) (or_false_left (is_blank c) ((c == 13) && (slice_index cs 0 == 10)) e, f, g);
+      is = rw (no_left m c, e, f, g, or-false broke) refl;
+      stop = rw (no_left m c, e, f, g) (or_false_left (is_blank c) ((c == 13) && (slice_index cs 0 == 10)) e, f, g);
     }
 
 gap_over_comment : (least : ℕ) (m : Marker) (blank broke tab : Bool) (c : ℕ) (cs : List ℕ)
@@ -87,8 +83,7 @@ gap_over_comment least m blank broke tab c cs false false true e f g word on lin
 gap_over_comment least m blank broke tab c cs false false false e f g word on line =
     record {
       still_blank = blank;
-      is =
-          rw (e, f, g, or-false broke) refl;
+      is = rw (e, f, g, or-false broke) refl;
       stop = rw (e, f, g) (no_blank c e g, g, no_sign c e);
     }
   where
@@ -150,8 +145,7 @@ pub record PassesTo (least : ℕ) (s : Cursor) (m : Marker) (y : List ℕ) : Typ
   pub blank : Bool
   pub is : whole_gap least s
       ≡ Ok (let p : GapEnd = record {
-        cursor =
-            record { rest = y; mark = m; blank_so_far = blank };
+        cursor = record { rest = y; mark = m; blank_so_far = blank };
         broke = crosses s.rest;
       } in p)
 

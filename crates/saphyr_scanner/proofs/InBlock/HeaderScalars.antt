@@ -100,8 +100,7 @@ header_begins : (style : BlockStyle) (m : Marker) (o : List ℕ) → BeginsToken
 header_begins block_style.Literal m o =
     record {
       stop = (refl, refl, refl);
-      nul =
-          refl;
+      nul = refl;
       byte_order_mark = refl;
       directive = and_false (m.col == 0);
       marker = and_false (m.col == 0);
@@ -109,8 +108,7 @@ header_begins block_style.Literal m o =
 header_begins block_style.Folded m o =
     record {
       stop = (refl, refl, refl);
-      nul =
-          refl;
+      nul = refl;
       byte_order_mark = refl;
       directive = and_false (m.col == 0);
       marker = and_false (m.col == 0);

@@ -62,8 +62,7 @@ reads_key reads limit node f m t o n far h line apart short white fits start ts 
       key = Some k;
       allowed = false;
       adjacent = a.adjacent;
-      deeper =
-          a.deeper;
+      deeper = a.deeper;
       required = is_required around (deeper_at around v.deeper m) m;
       comment = None;
     } in

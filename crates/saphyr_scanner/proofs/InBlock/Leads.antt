@@ -42,8 +42,7 @@ plain_lead {limit} {start} {ts} p place f m w y none h b opens v =
     (sym (append-nil ts)) p_at in
     record {
       tokens = [];
-      are =
-          subst (λ (q : Properties). grammar.YieldProperties q []) (sym none) refl;
+      are = subst (λ (q : Properties). grammar.YieldProperties q []) (sym none) refl;
       at = all.0;
       allowed = all.1;
     }

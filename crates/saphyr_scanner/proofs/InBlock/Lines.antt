@@ -103,8 +103,7 @@ pub fits_front : {limit : ℕ} (m : Marker) (a b o : List ℕ) → FitsOnLines l
 fits_front {limit} m a b o h =
     record {
       clear = clear_front m a b o h.clear;
-      below =
-          subst (λ (t : List ℕ). m.index + length t ≤ limit) (append_assoc a b o) h.below;
+      below = subst (λ (t : List ℕ). m.index + length t ≤ limit) (append_assoc a b o) h.below;
       lined = h.lined;
     }
 

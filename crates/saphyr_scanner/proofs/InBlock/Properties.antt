@@ -102,15 +102,13 @@ properties_passed reads f None None t h m o low clean white fits v late = absurd
 properties_passed reads {ts = ts} f (Some name) None t h m o low clean white fits v late =
     record {
       tokens = anchor_token name ∷ [];
-      are =
-          refl;
+      are = refl;
       read = anchor_reads reads f name t h m ts o low clean white fits v late;
     }
 properties_passed reads {ts = ts} f None (Some tag) t h m o low clean white fits v late =
     record {
       tokens = tag_token tag ∷ [];
-      are =
-          refl;
+      are = refl;
       read = tag_reads reads f tag t h m ts o low clean white fits v late;
     }
 properties_passed reads {limit} {start} {ts} f (Some name) (Some tag) t (a, b, w, h, k, spaced, order) m o low clean
@@ -240,8 +238,7 @@ reads_properties reads limit short p place f same m front t w y spaced h next_li
     let here : PropertiesRead limit start p f q y ts =
     record {
       tokens = r.tokens;
-      are =
-          r.are;
+      are = r.are;
       at = z.0;
       none = late_key_left z.0.key n q z.1 later z.0.near;
       allowed = z.2;

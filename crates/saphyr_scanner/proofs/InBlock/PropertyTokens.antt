@@ -165,10 +165,8 @@ anchor_step reads f m name o blank key a ad deeper i low h ends =
 
 anchor_begins : (m : Marker) (o : List ℕ) → BeginsToken m (38 ∷ o)
 anchor_begins m o = record {
-  stop =
-      (refl, refl, refl);
-  nul =
-      refl;
+  stop = (refl, refl, refl);
+  nul = refl;
   byte_order_mark = refl;
   directive = and_false (m.col == 0);
   marker = and_false (m.col == 0);
@@ -210,10 +208,8 @@ tag_step reads f m t handle suffix o blank key a ad deeper i low h ends =
 
 tag_begins : (m : Marker) (o : List ℕ) → BeginsToken m (33 ∷ o)
 tag_begins m o = record {
-  stop =
-      (refl, refl, refl);
-  nul =
-      refl;
+  stop = (refl, refl, refl);
+  nul = refl;
   byte_order_mark = refl;
   directive = and_false (m.col == 0);
   marker = and_false (m.col == 0);

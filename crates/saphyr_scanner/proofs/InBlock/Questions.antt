@@ -59,10 +59,8 @@ reach m (c ∷ cs) h clean = spaces_reach m false c cs (no_tab_first c cs h clea
 
 mark_begins : (m : Marker) (o : List ℕ) → BeginsToken m (63 ∷ o)
 mark_begins m o = record {
-  stop =
-      (refl, refl, refl);
-  nul =
-      refl;
+  stop = (refl, refl, refl);
+  nul = refl;
   byte_order_mark = refl;
   directive = and_false (m.col == 0);
   marker = and_false (m.col == 0);
@@ -70,10 +68,8 @@ mark_begins m o = record {
 
 pub colon_begins : (m : Marker) (o : List ℕ) → BeginsToken m (58 ∷ o)
 colon_begins m o = record {
-  stop =
-      (refl, refl, refl);
-  nul =
-      refl;
+  stop = (refl, refl, refl);
+  nul = refl;
   byte_order_mark = refl;
   directive = and_false (m.col == 0);
   marker = and_false (m.col == 0);

@@ -213,16 +213,14 @@ pub sign_ink : (style : Style) (value : List ℕ) (indent : ℕ) (t o : List ℕ
 sign_ink Literal value indent t o (others, h, e) =
     record {
       first = 124;
-      others =
-          others;
+      others = others;
       is = e;
       ink = record { blank = refl; break = refl; comment = refl; byte_order_mark = refl };
     }
 sign_ink Folded value indent t o (others, h, e) =
     record {
       first = 62;
-      others =
-          others;
+      others = others;
       is = e;
       ink = record { blank = refl; break = refl; comment = refl; byte_order_mark = refl };
     }

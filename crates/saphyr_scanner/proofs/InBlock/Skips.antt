@@ -256,8 +256,7 @@ spaces_over_break : (m : Marker) (blank space : Bool) (c : ℕ) (cs : List ℕ)
 spaces_over_break m blank space c cs e f white p =
     record {
       still_blank = p.still_blank;
-      some =
-          p.some;
+      some = p.some;
       is = rw (no_left m c, e, f, white) p.is;
       has = λ _. p.has refl;
     }
@@ -299,8 +298,7 @@ skips_in_word m blank space c cs e p = record {
   still_blank = p.still_blank;
   some = p.some;
   is = rw e p.is;
-  has =
-      p.has;
+  has = p.has;
 }
 
 behind_return : (m : Marker) (blank space : Bool) (c : ℕ) (cs : List ℕ) → is_yaml_non_break c ≡ false

@@ -53,8 +53,7 @@ abbrev pub moment_with : Bool → Marker → List ℕ → Bool → Option Candid
 moment_with required m y blank key allowed adjacent deeper =
     record {
       cursor = cursor_at y m blank;
-      key =
-          key;
+      key = key;
       allowed = allowed;
       adjacent = adjacent;
       deeper = deeper;

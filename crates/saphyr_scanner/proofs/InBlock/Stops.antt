@@ -68,8 +68,7 @@ documents_stop leaves ds free t h = by_token (documents_token leaves ds free t h
     by_token : ((ds ≡ []) × IsLastFiller t) ⊎ HasToken t → StopsUnmarked t
     by_token (inl k) = record { at = []; stops = last_stops t k.1; unmarked = λ o e. cc }
     by_token (inr k) = record {
-      at =
-          k.first ∷ k.others;
+      at = k.first ∷ k.others;
       stops = token_stops t k;
       unmarked = λ o e. no_ink k.first k.ink (cc);
     }

@@ -52,8 +52,7 @@ reads_prefix {limit = limit} {start = start} prefix others ts (inr (filler, is, 
     let first = subst (λ (x : List ℕ). StandsInStream limit start true (Lined true x) x ts) text v in
     record {
       marks = tokens.ByteOrderMark ∷ [];
-      are =
-          (inr refl, tt);
+      are = (inr refl, tt);
       stands = reads_mark others (passes_filler filler (65279 ∷ others) is first);
     }
 
@@ -69,11 +68,9 @@ reads_behind ds go o ts (inl h) clean v =
     let f = go false o ts h clean v in
     record {
       last = f.last;
-      leads =
-          f.leads;
+      leads = f.leads;
       over = f.over;
-      others =
-          f.others;
+      others = f.others;
       told = ([], [], f.others, tt, inl (refl, f.told), refl);
       are = f.are;
     }
@@ -119,13 +116,10 @@ reads_documents {limit = limit} {start = start} readers leaves (d ∷ ds) free t
     (back_in _ document others left) n.stands in
     record {
       last = f.last;
-      leads =
-          f.leads;
+      leads = f.leads;
       over = f.over;
-      others =
-          n.tokens ++ f.others;
-      told =
-          (n.tokens, f.others, n.are, f.told, refl);
+      others = n.tokens ++ f.others;
+      told = (n.tokens, f.others, n.are, f.told, refl);
       are = f.are ∙ append_assoc ts n.tokens f.others;
     }
 

@@ -252,8 +252,7 @@ closes_behind w r more rest found ds go o ts (inl h) clean v line =
     let c = go false o ts h clean v line in
     record {
       earlier = c.earlier;
-      told =
-          ([], [], c.earlier ++ marker_token _ ∷ tokens.StreamEnd ∷ [], tt, inl (refl, c.told), refl);
+      told = ([], [], c.earlier ++ marker_token _ ∷ tokens.StreamEnd ∷ [], tt, inl (refl, c.told), refl);
       handed = c.handed;
     }
 closes_behind {limit = limit} {start = start} {marker = marker} w r more rest found ds go o ts

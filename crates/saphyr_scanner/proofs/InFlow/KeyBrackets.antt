@@ -62,10 +62,8 @@ brackets_key reads around same start Is b are p k qs front w inside n r e ad (in
     (λ i z. let c = collection_along around same start Is b are k qs w inside n r e ad parts parted i low z (run e i) in
     record {
       properties = [];
-      are_properties =
-          subst (λ (q : Properties). grammar.YieldProperties q []) (sym none) refl;
-      inside =
-          c.inside;
+      are_properties = subst (λ (q : Properties). grammar.YieldProperties q []) (sym none) refl;
+      inside = c.inside;
       are = c.are;
       along = c.along;
     }) text ready
@@ -87,8 +85,7 @@ brackets_key reads around same start Is b are p k qs front w inside n r e ad (in
     is)
     (record {
       properties = f.tokens;
-      are_properties =
-          f.are;
+      are_properties = f.are;
       inside = c.inside;
       are = c.are;
       along = along_joins f.along c.along;
@@ -133,11 +130,9 @@ sequence_key reads around same start p nodes k qs t n r e ad
     (record inner { outer = level_of context.Block j ∷ [] }) no_candidate fresh (room_inside left room) on at in
     record {
       inside = z.inside;
-      flows =
-          z.flows;
+      flows = z.flows;
       closes = ends_square (calmed around) z.inside z.flows;
-      tokens =
-          z.tokens;
+      tokens = z.tokens;
       are = z.are;
       passes = z.passes;
     } in
@@ -177,11 +172,9 @@ mapping_key_reads reads around same start p pairs k qs t n r e ad
     (record inner { outer = level_of context.Block j ∷ [] }) no_candidate fresh (room_inside left room) on at in
     record {
       inside = context.FlowMapping;
-      flows =
-          refl;
+      flows = refl;
       closes = ends_curly (calmed around);
-      tokens =
-          z.tokens;
+      tokens = z.tokens;
       are = subst (grammar.YieldFlowPairs pairs) (sym (append-nil z.tokens)) z.are;
       passes = z.passes;
     } in

@@ -38,8 +38,7 @@ use Rattle.saphyr_scanner.proofs.Levels.{level_of}
 -- inside a key's brackets nothing is required at block level
 abbrev pub calmed : Around → Around
 calmed around = record {
-  limit =
-      around.limit;
+  limit = around.limit;
   indent = around.indent;
   outers = around.outers;
   pending = false;

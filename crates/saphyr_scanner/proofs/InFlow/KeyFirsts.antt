@@ -143,11 +143,9 @@ begins_so t u e h = subst Begins (sym e) h
 
 begins_front : (a t : List ℕ) → Begins a → Begins (a ++ t)
 begins_front a t b = record {
-  first =
-      b.first;
+  first = b.first;
   others = b.others ++ t;
-  is =
-      ap (λ (x : List ℕ). x ++ t) b.is;
+  is = ap (λ (x : List ℕ). x ++ t) b.is;
   ink = b.ink;
   nul = b.nul;
   directive = b.directive;
@@ -167,8 +165,7 @@ pub bracket_begins : (b : Brackets) → AreBrackets b → (t : List ℕ) → Beg
 bracket_begins b are t =
     record {
       first = b.opening;
-      others =
-          t;
+      others = t;
       is = refl;
       ink = are.opening_mark.ink;
       nul = are.opening_mark.nul;

@@ -151,11 +151,9 @@ is_required around d m = not d && (around.indent == m.col + 1)
 -- the same where a key begins at m
 abbrev pub keyed : Around → Bool → Marker → Around
 keyed around d m = record {
-  limit =
-      around.limit;
+  limit = around.limit;
   indent = around.indent;
-  outers =
-      around.outers;
+  outers = around.outers;
   pending = is_required around d m;
   required = is_required around d m;
 }

@@ -107,10 +107,8 @@ content_key reads around start p style value k qs front content n r e ad (inl (n
     → Ready around start k ((f ++ content) ++ colon_text n r) e ad qs
     → KeyAlong around start (Scalar p style value) k qs (colon_after e (f ++ content) n) (58 ∷ r)) (sym is)
     (λ i z. record {
-      tokens =
-          scalar_token style value ∷ [];
-      are =
-          bare_are p style value grammar.InBlockMapping none;
+      tokens = scalar_token style value ∷ [];
+      are = bare_are p style value grammar.InBlockMapping none;
       along = g.along start k qs e ad i low z;
     }) text ready
 content_key reads around start p style value k qs front content n r e ad (inr (t, v, h, some, gap, is)) g text low
@@ -128,8 +126,7 @@ content_key reads around start p style value k qs front content n r e ad (inr (t
     (colon_after_parts e front t v content n is)
     (record {
       tokens = f.tokens ++ scalar_token style value ∷ [];
-      are =
-          full_are p style value f.tokens grammar.InBlockMapping f.are;
+      are = full_are p style value f.tokens grammar.InBlockMapping f.are;
       along = along_joins f.along c;
     })
 

@@ -238,11 +238,9 @@ quotes_along reads around start k qs quote value t n r e ad h text ready =
     let g : PassesGap around shut context.Block (Some k) [] false ad m (58 ∷ r) =
     record {
       blank = shut.blank_so_far;
-      allowed =
-          false;
+      allowed = false;
       is = λ d. gap_to_colon around d shut k ad m r ends.rest ends.mark;
-      same =
-          λ _. refl;
+      same = λ _. refl;
       fresh = λ _ e. absurd (clash (crosses (58 ∷ r)) (ap crosses (sym ends.rest) ∙ e) refl);
     } in
     let first : slice_index (t ++ o) 0 ≡ mark quote = ap (λ (y : List ℕ). slice_index (y ++ o) 0) h.5 in
@@ -334,8 +332,7 @@ plain_key_reads reads around style value content r plain is h white =
     (subst (λ (v : List ℕ). ContentReads around Plain v content 0 r) (sym is)
     (record {
       begins = token_begins false content (58 ∷ r) (key_begins false around.indent content r h);
-      along =
-          λ start k qs e ad text low ready. key_along start k qs content e ad h text low ready;
+      along = λ start k qs e ad text low ready. key_along start k qs content e ad h text low ready;
     }))
   where
     key_along : (start : State) (k : Candidate) (qs : List Place) (t : List ℕ) (e : Marker) (ad : ℕ)

@@ -306,12 +306,10 @@ tag_begins tag t h =
     let f = tag_first t g.handle g.suffix g.is in
     record {
       first = 33;
-      others =
-          f.0;
+      others = f.0;
       is = f.1;
       ink = record { blank = refl; break = refl; comment = refl; byte_order_mark = refl };
-      nul =
-          refl;
+      nul = refl;
       directive = refl;
     }
 
@@ -333,16 +331,14 @@ properties_along reads around start k qs None None t b behind w y e ad h ends te
 properties_along reads around start k qs (Some name) None t b behind w y e ad h ends text is are low r =
     record {
       tokens = anchor_token name ∷ [];
-      are =
-          refl;
+      are = refl;
       along = anchor_along reads around start k qs name t b behind w y e ad h
           (tag_ends_name false (b ++ behind) ends) text is are low r;
     }
 properties_along reads around start k qs None (Some tag) t b behind w y e ad h ends text is are low r =
     record {
       tokens = tag_token tag ∷ [];
-      are =
-          refl;
+      are = refl;
       along = tag_along reads around start k qs tag t b behind w y e ad h ends text is are low r;
     }
 properties_along reads around start k qs (Some name) (Some tag) t b behind w y e ad (a, s, c, h, g, spaced, inl t_is)

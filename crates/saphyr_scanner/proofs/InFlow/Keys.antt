@@ -98,10 +98,8 @@ key_read reads around calm node m p n r h line apart short white right clear bel
     let text : InKey inner here m (p ++ spaces n) (58 ∷ r) =
     record {
       line = refl;
-      index =
-          nearer m.index (length (p ++ spaces n)) short;
-      on_line =
-          both_on_line p (spaces n) line (spaces_on_line n);
+      index = nearer m.index (length (p ++ spaces n)) short;
+      on_line = both_on_line p (spaces n) line (spaces_on_line n);
       low = right;
       clear = clear;
       below = below;

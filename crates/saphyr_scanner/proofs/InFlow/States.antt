@@ -131,8 +131,7 @@ pub chains : {around : Around} {c b a : Bool → State} → RunsTo around b a �
 chains f g = record {
   run = λ d. let r = f.run d in let q =
       g.run r.deeper in record {
-        deeper =
-            q.deeper;
+        deeper = q.deeper;
         flat = λ e h. q.flat e (r.flat e h);
         leads = leads_on r.leads q.leads;
       };

@@ -64,10 +64,8 @@ tabbed r m k ls a ad h =
         let c = core_at false (cursor_at r m false) context.FlowMapping k ls a ad in
         record {
           there = p.there;
-          is =
-              rw e (ap (λ q. (q >>= λ (d : SkipTabs × Cursor). Ok (d.0, with_cursor d.1 c)) >>= refuse_lone_tab) p.is);
-          rest =
-              p.rest;
+          is = rw e (ap (λ q. (q >>= λ (d : SkipTabs × Cursor). Ok (d.0, with_cursor d.1 c)) >>= refuse_lone_tab) p.is);
+          rest = p.rest;
           count = p.count;
         }
     by_tab p false e = record { there = cursor_at r m false; is = rw e refl; rest = refl; count = refl }

@@ -71,26 +71,19 @@ first_begins c (inl e) =
     subst BeginsNothingElse (sym e)
     (record {
       blank = refl;
-      break =
-          refl;
+      break = refl;
       nul = refl;
-      byte_order_mark =
-          refl;
+      byte_order_mark = refl;
       comment = refl;
-      directive =
-          refl;
+      directive = refl;
       anchor = refl;
-      alias =
-          refl;
+      alias = refl;
       tag = refl;
-      literal =
-          refl;
+      literal = refl;
       folded = refl;
-      single_quote =
-          refl;
+      single_quote = refl;
       key = refl;
-      value =
-          refl;
+      value = refl;
       dot = refl;
       comma = refl;
       sequence_end = refl;
@@ -102,26 +95,19 @@ first_begins c (inr (inl e)) =
     subst BeginsNothingElse (sym e)
     (record {
       blank = refl;
-      break =
-          refl;
+      break = refl;
       nul = refl;
-      byte_order_mark =
-          refl;
+      byte_order_mark = refl;
       comment = refl;
-      directive =
-          refl;
+      directive = refl;
       anchor = refl;
-      alias =
-          refl;
+      alias = refl;
       tag = refl;
-      literal =
-          refl;
+      literal = refl;
       folded = refl;
-      single_quote =
-          refl;
+      single_quote = refl;
       key = refl;
-      value =
-          refl;
+      value = refl;
       dot = refl;
       comma = refl;
       sequence_end = refl;
@@ -133,26 +119,19 @@ first_begins c (inr (inr (inl e))) =
     subst BeginsNothingElse (sym e)
     (record {
       blank = refl;
-      break =
-          refl;
+      break = refl;
       nul = refl;
-      byte_order_mark =
-          refl;
+      byte_order_mark = refl;
       comment = refl;
-      directive =
-          refl;
+      directive = refl;
       anchor = refl;
-      alias =
-          refl;
+      alias = refl;
       tag = refl;
-      literal =
-          refl;
+      literal = refl;
       folded = refl;
-      single_quote =
-          refl;
+      single_quote = refl;
       key = refl;
-      value =
-          refl;
+      value = refl;
       dot = refl;
       comma = refl;
       sequence_end = refl;
@@ -164,26 +143,19 @@ first_begins c (inr (inr (inr (inl e)))) =
     subst BeginsNothingElse (sym e)
     (record {
       blank = refl;
-      break =
-          refl;
+      break = refl;
       nul = refl;
-      byte_order_mark =
-          refl;
+      byte_order_mark = refl;
       comment = refl;
-      directive =
-          refl;
+      directive = refl;
       anchor = refl;
-      alias =
-          refl;
+      alias = refl;
       tag = refl;
-      literal =
-          refl;
+      literal = refl;
       folded = refl;
-      single_quote =
-          refl;
+      single_quote = refl;
       key = refl;
-      value =
-          refl;
+      value = refl;
       dot = refl;
       comma = refl;
       sequence_end = refl;
@@ -196,26 +168,19 @@ first_begins c (inr (inr (inr (inr (inr (inl e)))))) =
     subst BeginsNothingElse (sym e)
     (record {
       blank = refl;
-      break =
-          refl;
+      break = refl;
       nul = refl;
-      byte_order_mark =
-          refl;
+      byte_order_mark = refl;
       comment = refl;
-      directive =
-          refl;
+      directive = refl;
       anchor = refl;
-      alias =
-          refl;
+      alias = refl;
       tag = refl;
-      literal =
-          refl;
+      literal = refl;
       folded = refl;
-      single_quote =
-          refl;
+      single_quote = refl;
       key = refl;
-      value =
-          refl;
+      value = refl;
       dot = refl;
       comma = refl;
       sequence_end = refl;
@@ -227,26 +192,19 @@ first_begins c (inr (inr (inr (inr (inr (inr (inl e))))))) =
     subst BeginsNothingElse (sym e)
     (record {
       blank = refl;
-      break =
-          refl;
+      break = refl;
       nul = refl;
-      byte_order_mark =
-          refl;
+      byte_order_mark = refl;
       comment = refl;
-      directive =
-          refl;
+      directive = refl;
       anchor = refl;
-      alias =
-          refl;
+      alias = refl;
       tag = refl;
-      literal =
-          refl;
+      literal = refl;
       folded = refl;
-      single_quote =
-          refl;
+      single_quote = refl;
       key = refl;
-      value =
-          refl;
+      value = refl;
       dot = refl;
       comma = refl;
       sequence_end = refl;
@@ -258,26 +216,19 @@ first_begins c (inr (inr (inr (inr (inr (inr (inr e))))))) =
     subst BeginsNothingElse (sym e)
     (record {
       blank = refl;
-      break =
-          refl;
+      break = refl;
       nul = refl;
-      byte_order_mark =
-          refl;
+      byte_order_mark = refl;
       comment = refl;
-      directive =
-          refl;
+      directive = refl;
       anchor = refl;
-      alias =
-          refl;
+      alias = refl;
       tag = refl;
-      literal =
-          refl;
+      literal = refl;
       folded = refl;
-      single_quote =
-          refl;
+      single_quote = refl;
       key = refl;
-      value =
-          refl;
+      value = refl;
       dot = refl;
       comma = refl;
       sequence_end = refl;

@@ -29,8 +29,7 @@ kind_is_first c (inr (inr (inr (inr e)))) = inr (inr (inr (inr (inr (inr (inr e)
 
 abbrev pub word_value : (t : List ℕ) → BeginsWord t → BeginsValue t
 word_value t b = record {
-  first =
-      b.first;
+  first = b.first;
   others = b.others;
   is = b.is;
   is_first = kind_is_first b.first b.kind;
@@ -52,8 +51,7 @@ pub mapping_begins_value : (others : List ℕ) → BeginsValue (123 ∷ others)
 mapping_begins_value others =
     record {
       first = 123;
-      others =
-          others;
+      others = others;
       is = refl;
       is_first = inr (inr (inl refl));
       dash = λ e. absurd (omega arith);
@@ -94,8 +92,7 @@ pub record IsDigitBehind (c : ℕ) : Type 0 where
 
 pub digit_behind : (c : ℕ) → IsDigit c → IsDigitBehind c
 digit_behind c h = record {
-  blank_or_breakz =
-      no_end c h;
+  blank_or_breakz = no_end c h;
   flow = no_flow c h;
   dash = other_than_digit c 45 h (inl (omega arith));
 }

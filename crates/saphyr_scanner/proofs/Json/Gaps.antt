@@ -174,11 +174,9 @@ line_first (c ∷ w) (white, others) = by_kind white (line_first w others)
   where
     more : IsBlank c → LineFirst w → LineFirst (c ∷ w)
     more h f = record {
-      blanks =
-          c ∷ f.blanks;
+      blanks = c ∷ f.blanks;
       others = f.others;
-      are_blank =
-          (h, f.are_blank);
+      are_blank = (h, f.are_blank);
       are_white = f.are_white;
       is = ap (λ (x : List ℕ). c ∷ x) f.is;
       break = f.break;
@@ -186,8 +184,7 @@ line_first (c ∷ w) (white, others) = by_kind white (line_first w others)
 
     here : is_break c ≡ true → LineFirst (c ∷ w)
     here e = record {
-      blanks =
-          [];
+      blanks = [];
       others = c ∷ w;
       are_blank = tt;
       are_white = (white, others);

@@ -47,8 +47,7 @@ leads_to_end limit n below s k a ad ps count text =
     low in
     record {
       after = state_at true there context.Block came.key [] false ad (ps ++ stream_end_place v.mark ∷ []);
-      mark =
-          v.mark;
+      mark = v.mark;
       leads = came.leads;
       over = refl;
       handed = refl;

@@ -47,11 +47,9 @@ pub once : {limit n : ℕ} {start : State} {x : Context} {ls : List Level} {k : 
 once fresh a ad s ps new o ts c fits count are allows =
     record {
       there = s;
-      key =
-          c.key;
+      key = c.key;
       allowed = a;
-      adjacent =
-          ad;
+      adjacent = ad;
       new = new;
       leads = c.leads;
       fits = fits;

@@ -46,15 +46,12 @@ pub passes_none : (limit n : ℕ) (s : Cursor) (x : Context) (k : Option Candida
 passes_none limit n s x k ls a ad ps o count text =
     record {
       there = s;
-      key =
-          k;
+      key = k;
       allowed = a;
-      adjacent =
-          ad;
+      adjacent = ad;
       new = [];
       leads = rw append-nil stay;
-      fits =
-          text;
+      fits = text;
       count = count;
       are = refl;
       allows = λ e. absurd (false≢true e);

@@ -86,8 +86,7 @@ pub record BeginsWord (t : List ℕ) : Type 0 where
 
 begins_with_digit : (t : List ℕ) → BeginsWithDigit t → BeginsWord t
 begins_with_digit t h = record {
-  first =
-      h.0;
+  first = h.0;
   others = h.1;
   is = h.2;
   kind = inr (inl h.3);
@@ -106,8 +105,7 @@ number_begins t h = by_minus h.4
     by_minus : (h.0 ≡ []) ⊎ (h.0 ≡ codes "-") → BeginsWord t
     by_minus (inl e) = subst BeginsWord (sym (h.8 ∙ ap (λ y. y ++ rest) e)) (begins_with_digit rest digit)
     by_minus (inr e) = record {
-      first =
-          45;
+      first = 45;
       others = rest;
       is = h.8 ∙ ap (λ y. y ++ rest) e;
       kind = inl refl;
@@ -116,8 +114,7 @@ number_begins t h = by_minus h.4
 
 pub word_begins : (t : List ℕ) → IsWord t → BeginsWord t
 word_begins t (inl e) = record {
-  first =
-      116;
+  first = 116;
   others = codes "rue";
   is = e;
   kind = inr (inr (inl refl));
@@ -126,8 +123,7 @@ word_begins t (inl e) = record {
 word_begins t (inr (inl e)) =
     record {
       first = 102;
-      others =
-          codes "alse";
+      others = codes "alse";
       is = e;
       kind = inr (inr (inr (inl refl)));
       dash = λ n. absurd (omega arith);
@@ -135,8 +131,7 @@ word_begins t (inr (inl e)) =
 word_begins t (inr (inr (inl e))) =
     record {
       first = 110;
-      others =
-          codes "ull";
+      others = codes "ull";
       is = e;
       kind = inr (inr (inr (inr refl)));
       dash = λ n. absurd (omega arith);

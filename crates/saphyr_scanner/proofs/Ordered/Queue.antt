@@ -65,10 +65,8 @@ pub record GrowsInOrder (s t : State) : Type 0 where
 
 pub grows_grows : (s t u : State) → GrowsInOrder s t → GrowsInOrder t u → GrowsInOrder s u
 grows_grows s t u a b = record {
-  ahead =
-      ahead_ahead s.core.cursor t.core.cursor u.core.cursor a.ahead b.ahead;
-  ordered =
-      λ low h. b.ordered low (a.ordered low h);
+  ahead = ahead_ahead s.core.cursor t.core.cursor u.core.cursor a.ahead b.ahead;
+  ordered = λ low h. b.ordered low (a.ordered low h);
 }
 
 -- the queue stays as it is

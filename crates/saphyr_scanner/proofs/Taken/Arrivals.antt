@@ -70,8 +70,7 @@ dropped_near columns from q c h l =
     (λ _. by_test c.required _ _ (Given (Near columns from q)) (λ _. tt)
     (λ _. record {
       taken = forgotten_taken columns from c q h;
-      live =
-          forgotten_live c q l;
+      live = forgotten_live c q l;
       near = and_false (in_block c);
     }))
 
@@ -151,7 +150,6 @@ arrived text small columns from s l h k = by (pass_gap s.core >>= drop_far_key) 
         record {
           taken = unroll_taken columns from (Some d.cursor.mark.col) d.cursor.mark
               (record { core = d; queue = s.queue }) (inl refl) n.taken;
-          live =
-              unrolled_keys text small columns from s.queue d l n;
+          live = unrolled_keys text small columns from s.queue d l n;
         }
     by (Err e) n = tt

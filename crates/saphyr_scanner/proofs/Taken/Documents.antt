@@ -82,21 +82,17 @@ pub record Marking (stands : List ℕ → Bool) (text : List ℕ) (kind : Kind) 
 
 pub start_marking : Marking is_document_start (codes "---") tokens.DocumentStart
 start_marking = record {
-  quiet =
-      refl;
+  quiet = refl;
   is = λ i p s t h. h;
-  three =
-      λ xs e. three_at 45 xs refl (and_parts (next_3_are xs 45 45 45) (is_blank_or_breakz (slice_index xs 3)) e).0;
+  three = λ xs e. three_at 45 xs refl (and_parts (next_3_are xs 45 45 45) (is_blank_or_breakz (slice_index xs 3)) e).0;
   count = refl;
 }
 
 pub end_marking : Marking is_document_end (codes "...") tokens.DocumentEnd
 end_marking = record {
-  quiet =
-      refl;
+  quiet = refl;
   is = λ i p s t h. h;
-  three =
-      λ xs e. three_at 46 xs refl (and_parts (next_3_are xs 46 46 46) (is_blank_or_breakz (slice_index xs 3)) e).0;
+  three = λ xs e. three_at 46 xs refl (and_parts (next_3_are xs 46 46 46) (is_blank_or_breakz (slice_index xs 3)) e).0;
   count = refl;
 }
 

@@ -115,14 +115,11 @@ key_weaken a b q block i None h x = tt
 key_weaken a b q block i (Some k) h x =
     record {
       front = x.front;
-      back =
-          x.back;
+      back = x.back;
       token = x.token;
-      places =
-          x.places;
+      places = x.places;
       at = x.at;
-      below =
-          omega (arith, x.below);
+      below = omega (arith, x.below);
       marked = x.marked;
       begins = x.begins;
       quiet = x.quiet;

@@ -38,8 +38,7 @@ LaterThan s t = Later s.mark s.rest t.mark t.rest
 
 pub later_here : (m : Marker) (t : List ℕ) → Later m t m t
 later_here m t = record {
-  index =
-      omega arith;
+  index = omega arith;
   counted = refl;
   lines = λ h. (omega arith, h);
   slow = omega arith;
@@ -64,11 +63,9 @@ later_later m t n u k v a b = record {
 -- so many characters of a line
 pub along_later : (m : Marker) (n : ℕ) (t u : List ℕ) → length t ≡ n + length u → Later m t (along m n) u
 along_later m n t u l = record {
-  index =
-      omega arith;
+  index = omega arith;
   counted = omega (arith, l);
-  lines =
-      λ h. (omega arith, h);
+  lines = λ h. (omega arith, h);
   slow = omega arith;
   columns = λ h i k. omega arith;
 }
@@ -78,10 +75,8 @@ line_later : (m : Marker) (n : ℕ) (t u : List ℕ) → 1 ≤ n → length t �
 line_later m n t u k l =
     record {
       index = omega arith;
-      counted =
-          omega (arith, l);
-      lines =
-          λ h. (omega arith, omega arith);
+      counted = omega (arith, l);
+      lines = λ h. (omega arith, omega arith);
       slow = omega arith;
       columns = λ h i j. absurd (omega arith);
     }
@@ -161,8 +156,7 @@ mark_later span s t h =
     subst (λ (n : Marker). Later s.mark s.rest n t.rest) (sym h.goes_on)
     (record {
       index = omega arith;
-      counted =
-          omega (arith, k);
+      counted = omega (arith, k);
       lines = λ h. (omega arith, h);
       slow = omega arith;
       columns = λ h i k. omega arith;

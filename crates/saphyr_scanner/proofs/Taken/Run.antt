@@ -98,11 +98,9 @@ one_left text columns from c p ps n l h e =
       ready = record {
         taken = record {
           last = h.taken.last;
-          tokens =
-              r.back;
+          tokens = r.back;
           apart = h.taken.apart;
-          stack =
-              subst (λ cs. Stack cs c.indent c.outer_indents) (open_append ts (flat ps) columns) h.taken.stack;
+          stack = subst (λ cs. Stack cs c.indent c.outer_indents) (open_append ts (flat ps) columns) h.taken.stack;
         };
         live = λ f nz.
             let free = not_held c.ended _ f e in
@@ -188,10 +186,8 @@ run_follows laws text small limit (suc fuel) columns from s l f h m =
 start_read : (text : List ℕ) → Read [] (start_cursor text) (start text)
 start_read text = record {
   fetched = record {
-    taken =
-        record { last = start_cursor text; tokens = refl; apart = taken.nothing _ _; stack = (refl, refl) };
-    live =
-        λ _. inl (λ nz. ((λ _. refl), tt, tt));
+    taken = record { last = start_cursor text; tokens = refl; apart = taken.nothing _ _; stack = (refl, refl) };
+    live = λ _. inl (λ nz. ((λ _. refl), tt, tt));
   };
   over = λ e. absurd (cc);
 }

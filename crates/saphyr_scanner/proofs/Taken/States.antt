@@ -159,8 +159,7 @@ block_fetched laws text small columns from q style c d l s h b bd f x e =
     let is : IsBlockScalarToken style d.indent x.0 x.1 d.cursor x.2 =
     record {
       begins = first;
-      reading =
-          laws.block_text style d.indent d.cursor x.2 x.0 x.1 first e;
+      reading = laws.block_text style d.indent d.cursor x.2 x.0 x.1 first e;
       passes = p.passes;
       end = p.end;
     } in

@@ -62,8 +62,7 @@ token_from_to a b kind = record { span = record { start = at_column a; end = at_
 
 abbrev pub brackets_end : Piece
 brackets_end = record {
-  span =
-      record { start = next_line (at_column 2) 0; end = next_line (at_column 2) 0 };
+  span = record { start = next_line (at_column 2) 0; end = next_line (at_column 2) 0 };
   kind = tokens.StreamEnd;
 }
 

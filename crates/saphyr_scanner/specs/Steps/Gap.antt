@@ -67,8 +67,7 @@ pub record SpacesEnd : Type 0 where
 abbrev pub spaces_end : Marker → Bool → Bool → List ℕ → SpacesEnd
 spaces_end m blank found text = record {
   cursor = record { rest = text; mark = m; blank_so_far = blank };
-  space =
-      found;
+  space = found;
 }
 
 abbrev mutual

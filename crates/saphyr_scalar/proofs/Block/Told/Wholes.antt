@@ -52,10 +52,8 @@ starts_none i col xs = parts (col == i) (is_yaml_non_break (slice_index xs 0)) (
 
 ends_told : (i : ℕ) (t : Cursor) → step.EndsLines i t → IsBehindLines i t
 ends_told i t e = record {
-  no_space =
-      λ s. reaches (slice_index t.rest 0) s e.no_space;
-  no_break =
-      e.no_break;
+  no_space = λ s. reaches (slice_index t.rest 0) s e.no_space;
+  no_break = e.no_break;
   no_content = starts_none i t.mark.col t.rest e.no_content;
 }
   where
@@ -83,8 +81,7 @@ leading_told style indent start c limit x y =
     (λ _ e. subst (LinesTold start x) (same_gift _ y e)
     (record {
       inside = between_inside style i _ x.0.count x.1.blank_so_far x.1.mark x.1.rest;
-      passes =
-          (between_passes style i _ x.0.count x.1.blank_so_far x.1.mark x.1.rest).here;
+      passes = (between_passes style i _ x.0.count x.1.blank_so_far x.1.mark x.1.rest).here;
       begins = inr (refl, some);
     })))
 
@@ -189,19 +186,14 @@ behind_header_line style indent s h first u y e p col blank is =
     elim told.begins [
       | inl a ↦ record {
         i = i;
-        own =
-            own;
+        own = own;
         indented = indented;
-        inside =
-            inside;
+        inside = inside;
         before = [];
-        behind =
-            s.rest;
+        behind = s.rest;
         split = refl;
-        starts =
-            subst (λ (m : Marker). IsPassed s.mark s.rest m s.rest) (sym a) (passing.nothing s.mark s.rest);
-        goes_on =
-            subst (λ (m : Marker). IsPassed m s.rest y.2.mark y.2.rest) (sym a) all;
+        starts = subst (λ (m : Marker). IsPassed s.mark s.rest m s.rest) (sym a) (passing.nothing s.mark s.rest);
+        goes_on = subst (λ (m : Marker). IsPassed m s.rest y.2.mark y.2.rest) (sym a) all;
         no_content = inl refl;
       }
       | inr a ↦

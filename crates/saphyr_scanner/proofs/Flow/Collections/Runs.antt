@@ -31,10 +31,8 @@ use Rattle.saphyr_scanner.proofs.Steps.Choice.{begins_sequence, begins_mapping}
 
 abbrev pub square : Brackets
 square = record {
-  context =
-      context.FlowSequence;
-  opening =
-      91;
+  context = context.FlowSequence;
+  opening = 91;
   closing = 93;
   opens = tokens.FlowSequenceStart;
   closes = tokens.FlowSequenceEnd;
@@ -42,8 +40,7 @@ square = record {
 
 abbrev pub curly : Brackets
 curly = record {
-  context =
-      context.FlowMapping;
+  context = context.FlowMapping;
   opening = 123;
   closing = 125;
   opens = tokens.FlowMappingStart;
@@ -54,18 +51,14 @@ pub are_square : AreBrackets square
 are_square = record {
   flows = refl;
   opening_mark = record {
-    ink =
-        record { blank = refl; break = refl; comment = refl; byte_order_mark = refl };
-    nul =
-        refl;
+    ink = record { blank = refl; break = refl; comment = refl; byte_order_mark = refl };
+    nul = refl;
     directive = refl;
     feed = refl;
   };
   closing_mark = record {
-    ink =
-        record { blank = refl; break = refl; comment = refl; byte_order_mark = refl };
-    nul =
-        refl;
+    ink = record { blank = refl; break = refl; comment = refl; byte_order_mark = refl };
+    nul = refl;
     directive = refl;
     feed = refl;
   };
@@ -76,18 +69,14 @@ pub are_curly : AreBrackets curly
 are_curly = record {
   flows = refl;
   opening_mark = record {
-    ink =
-        record { blank = refl; break = refl; comment = refl; byte_order_mark = refl };
-    nul =
-        refl;
+    ink = record { blank = refl; break = refl; comment = refl; byte_order_mark = refl };
+    nul = refl;
     directive = refl;
     feed = refl;
   };
   closing_mark = record {
-    ink =
-        record { blank = refl; break = refl; comment = refl; byte_order_mark = refl };
-    nul =
-        refl;
+    ink = record { blank = refl; break = refl; comment = refl; byte_order_mark = refl };
+    nul = refl;
     directive = refl;
     feed = refl;
   };
@@ -124,8 +113,7 @@ pub parted_by : (indent : ℕ) (w t : List ℕ) → IsSeparation indent w → Be
 parted_by indent w t parts b =
     record {
       separation = w;
-      first =
-          b.first;
+      first = b.first;
       others = b.others;
       is = ap (λ (x : List ℕ). w ++ x) b.is;
       parts = parts;
@@ -164,8 +152,7 @@ sequence_run {around} reads room p nodes in_flow items m t o (left, opening, ins
     no_candidate fresh (omega (arith, r, low)) on at in
     record {
       inside = i.inside;
-      flows =
-          i.flows;
+      flows = i.flows;
       closes = ends_square around i.inside i.flows;
       tokens = i.tokens;
       are = i.are;
@@ -196,11 +183,9 @@ mapping_run {around} reads room p pairs in_flow members m t o (left, opening, in
     no_candidate fresh (omega (arith, r, low)) on at in
     record {
       inside = context.FlowMapping;
-      flows =
-          refl;
+      flows = refl;
       closes = ends_curly around;
-      tokens =
-          i.tokens;
+      tokens = i.tokens;
       are = subst (grammar.YieldFlowPairs pairs) (sym (append-nil i.tokens)) i.are;
       passes = i.passes;
     } in

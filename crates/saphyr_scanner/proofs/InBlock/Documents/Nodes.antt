@@ -72,14 +72,12 @@ pub bare_clear : (m : Marker) (t others : List ℕ) → AtLine (t ++ others) m �
 bare_clear m t others (inl e) clean h ends =
     record {
       no_return = clean;
-      no_marker =
-          ap (λ (b : Bool). marks_line b t others) (eq-eqb m.col 0 e) ∙ node_marks true t others ends ∙ h;
+      no_marker = ap (λ (b : Bool). marks_line b t others) (eq-eqb m.col 0 e) ∙ node_marks true t others ends ∙ h;
     }
 bare_clear m t others (inr e) clean h ends =
     record {
       no_return = clean;
-      no_marker =
-          ap (λ (x : List ℕ). marks_line (m.col == 0) x others) (none_here t others e);
+      no_marker = ap (λ (x : List ℕ). marks_line (m.col == 0) x others) (none_here t others e);
     }
 
 -- the text behind a `---`
@@ -88,8 +86,7 @@ pub explicit_clear : (m : Marker) (t others : List ℕ) → OffLine m → HasNoR
 explicit_clear m t others e clean h ends =
     record {
       no_return = clean;
-      no_marker =
-          ap (λ (b : Bool). marks_line b t others) e ∙ node_marks false t others ends ∙ h;
+      no_marker = ap (λ (b : Bool). marks_line b t others) e ∙ node_marks false t others ends ∙ h;
     }
 
 -- ## The node of a document

@@ -15,8 +15,7 @@ returns-in-Ok-new c =
       promises = subst P c.in-Ok.ensures.cases.0
           (record {
             decided = made.decided;
-            json =
-                made.json;
+            json = made.json;
             layout = made.layout;
             closed = made.closed;
             spans = made.spans;
