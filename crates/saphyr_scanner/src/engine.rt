@@ -20,7 +20,7 @@ ghost use Rattle.saphyr_scanner.specs.Steps.Passing as passing;
 ghost use Rattle.saphyr_scanner.specs.Steps.State as spec_state;
 
 use crate::gap::skip_gap;
-use crate::queue::{Opening, Queue};
+use crate::queue::{Indicator, Queue};
 use crate::token::{Token, TokenType};
 pub(crate) use level::{Candidate, Context, Level};
 use saphyr_input::input::{Input, SkipTabs};
@@ -76,6 +76,7 @@ impl<T: Input> Engine<T> {
     ghost use Rattle.std.specs.Prelude.{Err, false};
     ghost use Rattle.saphyr_scalar.specs.Views.Reader.{Moves};
     ghost use Rattle.saphyr_scanner.specs.Views.Engine.{state, CarriesBy, answer_of};
+    ghost use Rattle.saphyr_scanner.specs.Views.Places.{indicator_kind};
     ghost use Rattle.saphyr_scanner.specs.Views.Tokens.{kind_of};
     ghost use Rattle.saphyr_scalar.specs.declared.scalar.fault.Stop.TheVariants.{Refused};
 
@@ -151,6 +152,41 @@ impl<T: Input> Engine<T> {
         let span = Span::new(start, end);
         self.queue
             .put(self.alloc, Token { span, kind }, &mut self.reader.spare)
+    }
+
+    // Puts an indicator from one place to another into the queue.
+    #[inline(always)]
+    fn put_indicator(
+        &mut self,
+        start: Marker,
+        end: Marker,
+        indicator: Indicator,
+    ) -> Result<(), AllocError>
+        ensures { OnOk result (state self.new ≡ spec_state.with_action
+            (spec.from_to start end (indicator_kind indicator)) (state self.old)) }
+    {
+        let span = Span::new(start, end);
+        self.queue.put_indicator(self.alloc, span, indicator)
+    }
+
+    // Puts an indicator for which no characters stand into the queue.
+    #[inline(always)]
+    fn put_empty_indicator(&mut self, mark: Marker, indicator: Indicator) -> Result<(), AllocError>
+        ensures { OnOk result (state self.new ≡ spec_state.with_action
+            (spec.at_mark mark (indicator_kind indicator)) (state self.old)) }
+    {
+        self.put_indicator(mark, mark, indicator)
+    }
+
+    // Puts an indicator that ends here into the queue.
+    #[inline(always)]
+    fn put_indicator_from(&mut self, start: Marker, indicator: Indicator) -> Result<(), AllocError>
+        ensures { OnOk result (state self.new ≡ spec_state.with_action
+            (spec.up_to_here start (indicator_kind indicator) (state self.old).core)
+            (state self.old)) }
+    {
+        let end = self.reader.mark();
+        self.put_indicator(start, end, indicator)
     }
 
     // Puts a token without characters into the queue.
