@@ -14,7 +14,8 @@ mod property;
 mod scalar;
 mod value;
 
-ghost use Rattle.std.specs.Prelude.{◌≡◌, ◌<◌, ◌≤◌, ◌^◌, length, Ok, OnOk};
+ghost use Rattle.std.specs.Prelude.{◌≡◌, ◌<◌, ◌≤◌, ◌^◌, length, string_bytes, Ok, OnOk};
+ghost use Rattle.saphyr_scanner.specs.Grammar.Tokens as tokens;
 ghost use Rattle.saphyr_scanner.specs.Steps.Core as spec;
 ghost use Rattle.saphyr_scanner.specs.Steps.Passing as passing;
 ghost use Rattle.saphyr_scanner.specs.Steps.State as spec_state;
@@ -24,7 +25,7 @@ use crate::queue::{Indicator, Queue};
 use crate::token::{Token, TokenType};
 pub(crate) use level::{Candidate, Context, Level};
 use saphyr_input::input::{Input, SkipTabs};
-use saphyr_scalar::{FaultText, Marker, Reader, Refusal, Span, Stop};
+use saphyr_scalar::{FaultText, Marker, Reader, Refusal, ScalarStyle, Span, Stop};
 use std::alloc::{AllocError, Global};
 
 /// What a scanner holds: the rest of the text, the tokens that were read and not handed out, and
@@ -152,6 +153,23 @@ impl<T: Input> Engine<T> {
         let span = Span::new(start, end);
         self.queue
             .put(self.alloc, Token { span, kind }, &mut self.reader.spare)
+    }
+
+    // Puts a scalar from one place to another into the queue.
+    #[inline(always)]
+    fn put_scalar(
+        &mut self,
+        start: Marker,
+        end: Marker,
+        style: ScalarStyle,
+        text: String,
+    ) -> Result<(), AllocError>
+        ensures { OnOk result (state self.new ≡ spec_state.with_action
+            (spec.from_to start end (tokens.Scalar style (string_bytes text))) (state self.old)) }
+    {
+        let span = Span::new(start, end);
+        self.queue
+            .put_scalar(self.alloc, span, style, text, &mut self.reader.spare)
     }
 
     // Puts an indicator from one place to another into the queue.

@@ -67,7 +67,7 @@ impl<T: Input> Engine<T> {
             let end = self.reader.mark();
             self.check_comment()?;
             self.adjacent = self.reader.mark().index;
-            self.put(start, end, TokenType::Scalar(style, text))?;
+            self.put_scalar(start, end, style, text)?;
             return Ok(());
         }
         self.separate()?;
@@ -77,7 +77,7 @@ impl<T: Input> Engine<T> {
         let end = self.reader.mark();
         self.pass_gap()?;
         self.adjacent = self.reader.mark().index;
-        self.put(start, end, TokenType::Scalar(style, text))?;
+        self.put_scalar(start, end, style, text)?;
         Ok(())
     }
 
