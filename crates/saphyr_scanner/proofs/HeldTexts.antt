@@ -70,6 +70,16 @@ place_put old new ps p t g h is =
       map_push new ps p ∙ (λ i. stay.1 i ++ is.1 i ∷ []),
     )
 
+-- the same where no text comes with it
+pub place_added : (bytes : List ℕ) (ps : List Place) (p : Place) (t : Piece)
+    → All (HasHeldText bytes) ps → IsBarePlaceOf bytes t p
+    → All (HasHeldText bytes) (ps ++ p ∷ [])
+    × (map (place bytes) (ps ++ p ∷ []) ≡ map (place bytes) ps ++ bare_place t ∷ [])
+place_added bytes ps p t h is = (
+  All-push (HasHeldText bytes) ps p h is.0,
+  map_push bytes ps p ∙ (λ i. map (place bytes) ps ++ is.1 i ∷ []),
+)
+
 pub no_places : (old new : List ℕ) (ps : List Place) → length ps ≡ 0 → map (place new) ps ≡ map (place old) ps
 no_places old new [] h = refl
 no_places old new (p ∷ ps) h = absurd (omega (arith, h))

@@ -30,6 +30,7 @@ pub mod HeldTexts
 pub mod LineTexts
 pub mod Reached
 pub mod PlainBehind
+pub mod QuotedEnds
 pub mod GapPlaces
 pub mod Told
 pub mod Steps

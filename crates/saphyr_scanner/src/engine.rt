@@ -14,17 +14,18 @@ mod property;
 mod scalar;
 mod value;
 
-ghost use Rattle.std.specs.Prelude.{◌≡◌, ◌<◌, ◌≤◌, ◌^◌, length, Ok, OnOk};
+ghost use Rattle.std.specs.Prelude.{◌≡◌, ◌<◌, ◌≤◌, ◌^◌, length, string_bytes, Ok, OnOk};
+ghost use Rattle.saphyr_scanner.specs.Grammar.Tokens as tokens;
 ghost use Rattle.saphyr_scanner.specs.Steps.Core as spec;
 ghost use Rattle.saphyr_scanner.specs.Steps.Passing as passing;
 ghost use Rattle.saphyr_scanner.specs.Steps.State as spec_state;
 
 use crate::gap::skip_gap;
-use crate::queue::{Opening, Queue};
+use crate::queue::{Indicator, Queue};
 use crate::token::{Token, TokenType};
 pub(crate) use level::{Candidate, Context, Level};
 use saphyr_input::input::{Input, SkipTabs};
-use saphyr_scalar::{FaultText, Marker, Reader, Refusal, Span, Stop};
+use saphyr_scalar::{FaultText, Marker, Reader, Refusal, ScalarStyle, Span, Stop};
 use std::alloc::{AllocError, Global};
 
 /// What a scanner holds: the rest of the text, the tokens that were read and not handed out, and
@@ -76,6 +77,7 @@ impl<T: Input> Engine<T> {
     ghost use Rattle.std.specs.Prelude.{Err, false};
     ghost use Rattle.saphyr_scalar.specs.Views.Reader.{Moves};
     ghost use Rattle.saphyr_scanner.specs.Views.Engine.{state, CarriesBy, answer_of};
+    ghost use Rattle.saphyr_scanner.specs.Views.Places.{indicator_kind};
     ghost use Rattle.saphyr_scanner.specs.Views.Tokens.{kind_of};
     ghost use Rattle.saphyr_scalar.specs.declared.scalar.fault.Stop.TheVariants.{Refused};
 
@@ -151,6 +153,58 @@ impl<T: Input> Engine<T> {
         let span = Span::new(start, end);
         self.queue
             .put(self.alloc, Token { span, kind }, &mut self.reader.spare)
+    }
+
+    // Puts a scalar from one place to another into the queue.
+    #[inline(always)]
+    fn put_scalar(
+        &mut self,
+        start: Marker,
+        end: Marker,
+        style: ScalarStyle,
+        text: String,
+    ) -> Result<(), AllocError>
+        ensures { OnOk result (state self.new ≡ spec_state.with_action
+            (spec.from_to start end (tokens.Scalar style (string_bytes text))) (state self.old)) }
+    {
+        let span = Span::new(start, end);
+        self.queue
+            .put_scalar(self.alloc, span, style, text, &mut self.reader.spare)
+    }
+
+    // Puts an indicator from one place to another into the queue.
+    #[inline(always)]
+    fn put_indicator(
+        &mut self,
+        start: Marker,
+        end: Marker,
+        indicator: Indicator,
+    ) -> Result<(), AllocError>
+        ensures { OnOk result (state self.new ≡ spec_state.with_action
+            (spec.from_to start end (indicator_kind indicator)) (state self.old)) }
+    {
+        let span = Span::new(start, end);
+        self.queue.put_indicator(self.alloc, span, indicator)
+    }
+
+    // Puts an indicator for which no characters stand into the queue.
+    #[inline(always)]
+    fn put_empty_indicator(&mut self, mark: Marker, indicator: Indicator) -> Result<(), AllocError>
+        ensures { OnOk result (state self.new ≡ spec_state.with_action
+            (spec.at_mark mark (indicator_kind indicator)) (state self.old)) }
+    {
+        self.put_indicator(mark, mark, indicator)
+    }
+
+    // Puts an indicator that ends here into the queue.
+    #[inline(always)]
+    fn put_indicator_from(&mut self, start: Marker, indicator: Indicator) -> Result<(), AllocError>
+        ensures { OnOk result (state self.new ≡ spec_state.with_action
+            (spec.up_to_here start (indicator_kind indicator) (state self.old).core)
+            (state self.old)) }
+    {
+        let end = self.reader.mark();
+        self.put_indicator(start, end, indicator)
     }
 
     // Puts a token without characters into the queue.

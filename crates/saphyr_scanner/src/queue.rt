@@ -7,13 +7,15 @@ mod place;
 mod slot;
 mod texts;
 
-ghost use Rattle.std.specs.Prelude.{◌≡◌, false, Ok, OnOk, length};
+ghost use Rattle.std.specs.Prelude.{◌≡◌, false, Ok, OnOk, length, string_bytes};
+ghost use Rattle.saphyr_scanner.specs.Grammar.Tokens as tokens;
 ghost use Rattle.saphyr_scanner.specs.Steps.Queue as spec;
 
 use crate::queue::held::Held;
+pub(crate) use crate::queue::place::Indicator;
 use crate::queue::slot::Slot;
-use crate::token::Token;
-use saphyr_scalar::{Spare, Stop};
+use crate::token::{Token, TokenType};
+use saphyr_scalar::{ScalarStyle, Span, Spare, Stop};
 use std::alloc::{AllocError, Global};
 
 /// What stands in front of a token: nothing, or the tokens that make it a key.
@@ -47,6 +49,7 @@ pub(crate) struct Queue {
 impl Queue {
     ghost use Rattle.saphyr_scalar.specs.Views.Reader.{Moves};
     ghost use Rattle.saphyr_scanner.specs.Views.Tokens.{piece};
+    ghost use Rattle.saphyr_scanner.specs.Views.Places.{indicator_kind};
     ghost use Rattle.saphyr_scanner.specs.Views.Queue.{queue, TakesOffBy};
     ghost use Rattle.std.specs.Prelude.{◌<◌};
 
@@ -123,6 +126,93 @@ impl Queue {
         // For speed the span stays where it is: most of it isn't kept.
         let kind = token.kind;
         self.held.put(alloc, &token.span, kind, spare)
+    }
+
+    /// Puts a scalar at the end. For speed it is apart from `put`: here the kind isn't told apart from others.
+    #[inline(always)]
+    #[tactic(auto, using(crate::proofs::Places::behind_slots))]
+    pub(crate) fn put_scalar(
+        &mut self,
+        alloc: Global,
+        span: Span,
+        style: ScalarStyle,
+        text: String,
+        spare: &mut Spare,
+    ) -> Result<(), AllocError>
+        ensures { OnOk result (queue self.new ≡ spec.with_piece
+            (record { span = span; kind = tokens.Scalar style (string_bytes text) })
+            (queue self.old)) }
+    {
+        if self.second.is_full || !self.held.is_empty() {
+            return self.put_scalar_behind(alloc, &span, style, text, spare);
+        }
+        let kind = TokenType::Scalar(style, text);
+        let token = Token { span, kind };
+        if self.first.is_full {
+            self.second.put(token);
+        } else {
+            self.first.put(token);
+        }
+        Ok(())
+    }
+
+    // The same behind tokens that are held.
+    #[inline(never)]
+    #[tactic(auto, using(crate::proofs::Places::behind_slots))]
+    fn put_scalar_behind(
+        &mut self,
+        alloc: Global,
+        span: &Span,
+        style: ScalarStyle,
+        text: String,
+        spare: &mut Spare,
+    ) -> Result<(), AllocError>
+        ensures { OnOk result (queue self.new ≡ spec.with_piece
+            (record { span = span.now; kind = tokens.Scalar style (string_bytes text) })
+            (queue self.old)) }
+    {
+        self.held
+            .put(alloc, span, TokenType::Scalar(style, text), spare)
+    }
+
+    /// Puts an indicator at the end.
+    #[inline(always)]
+    #[tactic(auto, using(crate::proofs::Places::behind_slots))]
+    pub(crate) fn put_indicator(
+        &mut self,
+        alloc: Global,
+        span: Span,
+        indicator: Indicator,
+    ) -> Result<(), AllocError>
+        ensures { OnOk result (queue self.new ≡ spec.with_piece
+            (record { span = span; kind = indicator_kind indicator }) (queue self.old)) }
+    {
+        if self.second.is_full || !self.held.is_empty() {
+            return self.put_indicator_behind(alloc, &span, indicator);
+        }
+        let kind = indicator.kind();
+        let token = Token { span, kind };
+        if self.first.is_full {
+            self.second.put(token);
+        } else {
+            self.first.put(token);
+        }
+        Ok(())
+    }
+
+    // The same behind tokens that are held.
+    #[inline(never)]
+    #[tactic(auto, using(crate::proofs::Places::behind_slots))]
+    fn put_indicator_behind(
+        &mut self,
+        alloc: Global,
+        span: &Span,
+        indicator: Indicator,
+    ) -> Result<(), AllocError>
+        ensures { OnOk result (queue self.new ≡ spec.with_piece
+            (record { span = span.now; kind = indicator_kind indicator }) (queue self.old)) }
+    {
+        self.held.put_indicator(alloc, span, indicator)
     }
 
     /// Tells what stands in front of the token at a place.

@@ -7,7 +7,7 @@ ghost use Rattle.saphyr_scanner.specs.Steps.State as spec_state;
 
 use crate::engine::Engine;
 use crate::gap::skip_spaces;
-use crate::token::TokenType;
+use crate::queue::Indicator;
 use saphyr_input::char_traits::{is_blank_or_breakz, is_break, is_flow};
 use saphyr_input::input::{Input, SkipTabs};
 use saphyr_scalar::{FaultText, Stop};
@@ -73,7 +73,7 @@ impl<T: Input> Engine<T> {
         }
         let start = self.reader.mark();
         if self.is_further(start.col) {
-            self.put_empty(start, TokenType::BlockSequenceStart)?;
+            self.put_empty_indicator(start, Indicator::BlockSequenceStart)?;
         }
         self.reader.skip_non_blank();
         self.roll(start.col)?;
@@ -81,7 +81,7 @@ impl<T: Input> Engine<T> {
         self.remove_key()?;
         self.key_allowed = true;
         let end = self.reader.mark();
-        self.put_empty(end, TokenType::BlockEntry)?;
+        self.put_empty_indicator(end, Indicator::BlockEntry)?;
         Ok(())
     }
 
@@ -96,7 +96,7 @@ impl<T: Input> Engine<T> {
         }
         let start = self.reader.mark();
         if self.is_further(start.col) {
-            self.put_empty(start, TokenType::BlockMappingStart)?;
+            self.put_empty_indicator(start, Indicator::BlockMappingStart)?;
         }
         self.roll(start.col)?;
         self.level.context = self.level.context.behind_question();
@@ -109,7 +109,7 @@ impl<T: Input> Engine<T> {
         if self.reader.look() == '\t' {
             return Err(self.refuse_here(FaultText::TabNotAllowed));
         }
-        self.put_from(start, TokenType::Key)?;
+        self.put_indicator_from(start, Indicator::Key)?;
         Ok(())
     }
 }

@@ -18,6 +18,7 @@ ghost use Rattle.saphyr_scanner.specs.Steps.Scalar as scalar;
 
 use crate::engine::{Context, Engine};
 use crate::law::takes_characters_off;
+use crate::queue::Indicator;
 use crate::token::{Token, TokenType};
 use saphyr_input::char_traits::{is_blank_or_breakz, is_bom, is_flow, is_z};
 use saphyr_input::input::Input;
@@ -106,8 +107,8 @@ impl<T: Input> Engine<T> {
         ensures { MovesBy (fetch.state_behind_content c next) self.old result self.new }
     {
         match c {
-            '[' => self.fetch_flow_start(Context::FlowSequence, TokenType::FlowSequenceStart)?,
-            '{' => self.fetch_flow_start(Context::FlowMapping, TokenType::FlowMappingStart)?,
+            '[' => self.fetch_flow_start(Context::FlowSequence, Indicator::SequenceStart)?,
+            '{' => self.fetch_flow_start(Context::FlowMapping, Indicator::MappingStart)?,
             ']' => self.fetch_sequence_end()?,
             '}' => self.fetch_mapping_end()?,
             ',' => self.fetch_flow_entry()?,

@@ -5,7 +5,7 @@ ghost use Rattle.saphyr_scanner.specs.Steps.Flow as flow;
 ghost use Rattle.saphyr_scanner.specs.Steps.State as spec_state;
 
 use crate::engine::{Context, Engine, Level};
-use crate::token::TokenType;
+use crate::queue::Indicator;
 use saphyr_input::input::Input;
 use saphyr_scalar::{FaultText, Stop};
 
@@ -15,7 +15,7 @@ const MOST_OPEN: usize = 255;
 impl<T: Input> Engine<T> {
     ghost use Rattle.saphyr_scanner.specs.Views.Engine.{state, ActsBy, CarriesBy};
     ghost use Rattle.saphyr_scanner.specs.Steps.Queue.{next};
-    ghost use Rattle.saphyr_scanner.specs.Views.Tokens.{kind_of};
+    ghost use Rattle.saphyr_scanner.specs.Views.Places.{indicator_kind};
 
     // A flow collection is open.
     #[inline(always)]
@@ -50,10 +50,14 @@ impl<T: Input> Engine<T> {
     // `[` or `{`.
     #[inline(always)]
     #[tactic(auto, unfolding(crate::specs::Steps::Flow::opening_steps, crate::specs::Steps::Flow::open_collection))]
-    pub(super) fn fetch_flow_start(&mut self, context: Context, kind: TokenType) -> Result<(), Stop>
+    pub(super) fn fetch_flow_start(
+        &mut self,
+        context: Context,
+        indicator: Indicator,
+    ) -> Result<(), Stop>
         requires { 0 < length (state self.old).core.cursor.rest }
-        ensures { ActsBy (flow.opening_steps context (kind_of kind) (next (state self.old).queue))
-            self.old result self.new }
+        ensures { ActsBy (flow.opening_steps context (indicator_kind indicator)
+            (next (state self.old).queue)) self.old result self.new }
     {
         self.save_key()?;
         self.go_deeper();
@@ -64,16 +68,17 @@ impl<T: Input> Engine<T> {
         let start = self.reader.mark();
         self.reader.skip_non_blank();
         self.separate()?;
-        self.put_from(start, kind)?;
+        self.put_indicator_from(start, indicator)?;
         Ok(())
     }
 
     // The innermost flow collection ends with the bracket that stands here.
     #[inline(always)]
     #[tactic(auto, unfolding(crate::specs::Steps::Flow::close_collection))]
-    fn close_collection(&mut self, kind: TokenType) -> Result<(), Stop>
+    fn close_collection(&mut self, indicator: Indicator) -> Result<(), Stop>
         requires { 0 < length (state self.old).core.cursor.rest }
-        ensures { ActsBy (flow.close_collection false (kind_of kind)) self.old result self.new }
+        ensures { ActsBy (flow.close_collection false (indicator_kind indicator))
+            self.old result self.new }
     {
         let start = self.reader.mark();
         self.leave();
@@ -82,7 +87,7 @@ impl<T: Input> Engine<T> {
         if !self.in_block() {
             self.adjacent = self.reader.mark().index;
         }
-        self.put_from(start, kind)?;
+        self.put_indicator_from(start, indicator)?;
         Ok(())
     }
 
@@ -98,9 +103,9 @@ impl<T: Input> Engine<T> {
         }
         if self.level.context.ends_pair() {
             let end = self.reader.mark();
-            self.put_empty(end, TokenType::FlowMappingEnd)?;
+            self.put_empty_indicator(end, Indicator::MappingEnd)?;
         }
-        self.close_collection(TokenType::FlowSequenceEnd)?;
+        self.close_collection(Indicator::SequenceEnd)?;
         Ok(())
     }
 
@@ -114,7 +119,7 @@ impl<T: Input> Engine<T> {
         if self.in_block() {
             return Err(self.refuse_here(FaultText::MisplacedBracket));
         }
-        self.close_collection(TokenType::FlowMappingEnd)?;
+        self.close_collection(Indicator::MappingEnd)?;
         Ok(())
     }
 
@@ -129,12 +134,12 @@ impl<T: Input> Engine<T> {
         self.key_allowed = true;
         let start = self.reader.mark();
         if self.level.context.ends_pair() {
-            self.put_empty(start, TokenType::FlowMappingEnd)?;
+            self.put_empty_indicator(start, Indicator::MappingEnd)?;
         }
         self.level.context = self.level.context.behind_entry();
         self.reader.skip_non_blank();
         self.separate()?;
-        self.put_from(start, TokenType::FlowEntry)?;
+        self.put_indicator_from(start, Indicator::Entry)?;
         Ok(())
     }
 }

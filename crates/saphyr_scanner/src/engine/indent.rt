@@ -6,7 +6,7 @@ ghost use Rattle.saphyr_scanner.specs.Steps.Unrolling as unrolling;
 ghost use Rattle.saphyr_scanner.specs.Steps.State as spec_state;
 
 use crate::engine::Engine;
-use crate::token::TokenType;
+use crate::queue::Indicator;
 use saphyr_input::input::Input;
 use saphyr_scalar::{Marker, Stop};
 
@@ -64,7 +64,7 @@ impl<T: Input> Engine<T> {
     fn end_block(&mut self, mark: Marker) -> Result<(), Stop>
         ensures { MovesBy (λ s. Ok (unrolling.end_block mark s)) self.old result self.new }
     {
-        self.put_empty(mark, TokenType::BlockEnd)?;
+        self.put_empty_indicator(mark, Indicator::BlockEnd)?;
         self.indent = match self.outer_indents.pop() {
             Some(indent) => indent,
             None => 0,

@@ -1,7 +1,15 @@
 //! Scalars of all styles, and what may stand behind a quoted one (YAML 1.2.2, 7.3 and 8.1).
 
-ghost use Rattle.std.specs.Prelude.{◌≡◌, Ok, ◌<◌, length, slice_index, string_bytes};
-ghost use Rattle.saphyr_input.specs.Indicators.{apostrophe, quotation_mark};
+ghost use Rattle.std.specs.Prelude.{◌≡◌, ℕ, Ok, ◌<◌, ◌==◌, ◌||◌, IsTrue, true, false, length, slice_index, string_bytes};
+ghost use Rattle.saphyr_input.specs.Indicators.{
+  apostrophe,
+  colon,
+  comma,
+  quotation_mark,
+  right_brace,
+  right_bracket,
+};
+ghost use Rattle.saphyr_scanner.specs.Steps.Core as spec;
 ghost use Rattle.saphyr_scanner.specs.Steps.Scalar as scalar;
 
 use crate::engine::Engine;
@@ -30,6 +38,18 @@ impl<T: Input> Engine<T> {
         }
     }
 
+    // Whether an indicator that may stand behind a quoted scalar inside flow stands here.
+    #[inline(always)]
+    fn ends_at_indicator(&mut self) -> bool
+        ensures flow { IsTrue result → spec.in_block (state self.old).core ≡ false }
+        ensures sign { (c : ℕ) → c ≡ slice_index (state self.old).core.cursor.rest 0 → IsTrue result
+            → ((c == colon) || (c == comma) || (c == right_bracket) || (c == right_brace)) ≡ true }
+        ensures same { state self.new ≡ state self.old }
+    {
+        let c = self.reader.look();
+        !self.in_block() && (c == ':' || c == ',' || c == ']' || c == '}')
+    }
+
     // What stands behind a quoted scalar.
     #[inline(always)]
     #[tactic(auto, unfolding(crate::specs::Steps::Scalar::behind_quotes))]
@@ -42,6 +62,14 @@ impl<T: Input> Engine<T> {
         ensures { ActsBy (scalar.behind_quotes start style (string_bytes text))
             self.old result self.new }
     {
+        if self.ends_at_indicator() {
+            // For speed one look tells all: nothing stands between the two.
+            let end = self.reader.mark();
+            self.check_comment()?;
+            self.adjacent = self.reader.mark().index;
+            self.put_scalar(start, end, style, text)?;
+            return Ok(());
+        }
         self.separate()?;
         if !self.goes_on_behind_quotes(start) {
             return Err(self.refuse_here(FaultText::ContentAfterQuotes));
@@ -49,7 +77,7 @@ impl<T: Input> Engine<T> {
         let end = self.reader.mark();
         self.pass_gap()?;
         self.adjacent = self.reader.mark().index;
-        self.put(start, end, TokenType::Scalar(style, text))?;
+        self.put_scalar(start, end, style, text)?;
         Ok(())
     }
 

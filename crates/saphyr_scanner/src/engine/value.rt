@@ -5,8 +5,7 @@ ghost use Rattle.std.specs.Prelude.{◌≡◌, Ok, ◌+◌, ◌<◌, ◌^◌, le
 ghost use Rattle.saphyr_scanner.specs.Steps.Value as value;
 
 use crate::engine::{Candidate, Engine};
-use crate::queue::Opening;
-use crate::token::TokenType;
+use crate::queue::{Indicator, Opening};
 use saphyr_input::char_traits::is_alpha;
 use saphyr_input::input::Input;
 use saphyr_scalar::{FaultText, Marker, Stop};
@@ -78,7 +77,7 @@ impl<T: Input> Engine<T> {
         self.go_deeper();
         self.forget_key();
         self.key_allowed = false;
-        self.put_empty(start, TokenType::Value)?;
+        self.put_empty_indicator(start, Indicator::Value)?;
         Ok(())
     }
 
@@ -89,18 +88,18 @@ impl<T: Input> Engine<T> {
         ensures { ActsBy (value.value_alone begins_pair start) self.old result self.new }
     {
         if begins_pair {
-            self.put_empty(start, TokenType::FlowMappingStart)?;
+            self.put_empty_indicator(start, Indicator::MappingStart)?;
         }
         if self.in_block() && !self.key_allowed {
             return Err(Self::refuse(FaultText::ValueNotAllowed, start));
         }
         if self.is_further(start.col) {
-            self.put_empty(start, TokenType::BlockMappingStart)?;
+            self.put_empty_indicator(start, Indicator::BlockMappingStart)?;
         }
         self.roll(start.col)?;
         self.go_deeper();
         self.key_allowed = self.in_block();
-        self.put_empty(start, TokenType::Value)?;
+        self.put_empty_indicator(start, Indicator::Value)?;
         Ok(())
     }
 }

@@ -3,10 +3,10 @@
 ghost use Rattle.std.specs.Prelude.{◌≡◌, ◌<◌, ◌^◌, ◌+◌, [], ◌∷◌, ◌++◌, length, IfOk, Ok, OnOk};
 ghost use Rattle.std.specs.List.{All};
 ghost use Rattle.saphyr_scanner.specs.Steps.Queue as spec;
-ghost use Rattle.saphyr_scanner.specs.Views.Places.{HasHeldText};
+ghost use Rattle.saphyr_scanner.specs.Views.Places.{HasHeldText, indicator_kind};
 
 use crate::queue::Opening;
-use crate::queue::place::Place;
+use crate::queue::place::{Indicator, Place};
 use crate::queue::texts::Texts;
 use crate::token::{Token, TokenType};
 use saphyr_scalar::{Span, Spare, Stop};
@@ -76,6 +76,24 @@ impl Held {
         self.clear_texts();
         self.places.reserve(1)?;
         let place = Place::new(alloc, span, kind, &mut self.texts, spare)?;
+        self.places.push_back_reserved(place);
+        Ok(())
+    }
+
+    /// Puts an indicator at the end.
+    #[inline(always)]
+    pub(super) fn put_indicator(
+        &mut self,
+        alloc: Global,
+        span: &Span,
+        indicator: Indicator,
+    ) -> Result<(), AllocError>
+        ensures { OnOk result (held_places self.new ≡ held_places self.old
+            ++ spec.bare_place (record { span = span.now; kind = indicator_kind indicator }) ∷ []) }
+    {
+        self.clear_texts();
+        self.places.reserve(1)?;
+        let place = Place::of_indicator(alloc, span, indicator)?;
         self.places.push_back_reserved(place);
         Ok(())
     }

@@ -25,7 +25,7 @@ use std::alloc::{AllocError, Global};
 
 /// What the tokens of collections are, which have no text.
 #[derive(Clone, Copy, Debug, PartialEq, Eq)]
-pub(super) enum Indicator {
+pub(crate) enum Indicator {
     SequenceStart,
     SequenceEnd,
     MappingStart,
@@ -41,7 +41,7 @@ pub(super) enum Indicator {
 
 impl Indicator {
     #[inline(always)]
-    fn kind(self) -> TokenType
+    pub(super) fn kind(self) -> TokenType
         ensures { kind_of result ≡ indicator_kind self }
     {
         match self {
@@ -129,6 +129,22 @@ impl Place {
             TokenType::BlockEntry => Indicator::BlockEntry,
             TokenType::BlockEnd => Indicator::BlockEnd,
             kind => return Place::of_text(alloc, start, length, kind, texts, spare),
+        };
+        Ok(Place::Bare(Opening::Nothing, indicator, length, start))
+    }
+
+    /// The same of an indicator. On one line it has its place without its kind being made and told apart again.
+    #[inline(always)]
+    pub(super) fn of_indicator(
+        alloc: Global,
+        span: &Span,
+        indicator: Indicator,
+    ) -> Result<Place, AllocError>
+        ensures { IfOk result (λ p. (bytes : List ℕ) → IsBarePlaceOf bytes
+            (record { span = span.now; kind = indicator_kind indicator }) p) }
+    {
+        let Some((start, length)) = near(span) else {
+            return Ok(Place::whole(alloc, span, indicator.kind())?);
         };
         Ok(Place::Bare(Opening::Nothing, indicator, length, start))
     }
