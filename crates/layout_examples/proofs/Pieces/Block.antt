@@ -54,8 +54,8 @@ nothing e h = record { holds = inl (refl, h, e.holds) }
 pub record Lead (p : Properties) (place : Position) (least m : ℕ) (t : List ℕ) : Type 0 where
   pub holds : IsLead p place least m t
 
-pub at_start : {least : ℕ} → Lead no_properties AtStart least 0 []
-at_start = record { holds = inr (refl, refl) }
+pub lead_at_start : {least : ℕ} → Lead no_properties AtStart least 0 []
+lead_at_start = record { holds = inr (refl, refl) }
 
 pub behind_dash : {least m : ℕ} → Lead no_properties (BehindDash m) least (m + 2) (codes " ")
 behind_dash = record { holds = inr (refl, (1, omega arith, omega arith, refl)) }

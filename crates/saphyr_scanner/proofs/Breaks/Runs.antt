@@ -131,15 +131,15 @@ runs_same text laws readers limit short (suc n) (suc m) c x q r a b t e =
         let Q : Core → Type 0 = λ d. P d in
         (subst Q (sym h.1) (λ z. go h.0 h.2 z)) k
 
-at_start : Indexes
-at_start = record { at = 0; key = 0; outer = []; adjacent = 0; comment = 0 }
+start_indexes : Indexes
+start_indexes = record { at = 0; key = 0; outer = []; adjacent = 0; comment = 0 }
 
 pub scans_same : (text : List ℕ) → Laws text → Readers → (limit : ℕ) → length text ≤ limit
     → HaveSameKinds (scan limit text) (scan limit (normalized text))
-unfolding at_start remaining
+unfolding start_indexes remaining
 scans_same text laws readers limit short =
     let s : State = start text in
-    let t : Twin text s.core at_start = record {
+    let t : Twin text s.core start_indexes = record {
       ahead = record { even = even_here 1 0 0; counted = refl; counted_too = refl; here = refl; there = refl };
       key = tt;
       outer = tt;
@@ -147,7 +147,7 @@ scans_same text laws readers limit short =
       adjacent = even_here 1 0 0;
     } in
     remaining_after_same text (without_far_key s) (without_far_key (start (normalized text))) _ _
-    (settled_same text s.core at_start s.queue s.queue t (record { places = tt; handed = refl }))
+    (settled_same text s.core start_indexes s.queue s.queue t (record { places = tt; handed = refl }))
     (λ u v i j h. of_cores text (λ c d. HaveSameKinds (run (suc (size c)) limit (holding c u.queue))
     (run (suc (size d)) limit (holding d v.queue))) u.core v.core h.0
     (λ y z. runs_same text laws readers limit short (suc (size u.core))

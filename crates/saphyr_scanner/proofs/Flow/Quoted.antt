@@ -66,8 +66,8 @@ text_first _ _ _ _ (escaped e c t items x h r) = (backslash, e ∷ t, refl)
 text_first _ _ _ _ (numbered e c ds t items x h r) = (backslash, e ∷ (ds ++ t), refl)
 text_first _ _ _ _ (escaped_break t items x h r) = (backslash, t, refl)
 
-at_start : (n : ℕ) (b : Bool) → n ≡ 0 → ((n == 0) && b) ≡ false → b ≡ false
-at_start n b e h = subst (λ (k : ℕ). ((k == 0) && b) ≡ false) e h
+unmarked_at_start : (n : ℕ) (b : Bool) → n ≡ 0 → ((n == 0) && b) ≡ false → b ≡ false
+unmarked_at_start n b e h = subst (λ (k : ℕ). ((k == 0) && b) ≡ false) e h
 
 -- more text behind a line takes none of its spaces away
 more_spaces : (u o : List ℕ) → space_count u ≤ space_count (u ++ o)
@@ -111,7 +111,7 @@ line_fits : (low indent : ℕ) → low ≤ indent → (m : Marker) (u o : List �
     → IsClear m u o → IsLine indent u → IsLine low (u ++ o)
 line_fits low indent below m u o c cs is start clear line =
     let unmarked : IsFalse (is_document_indicator (c ∷ (cs ++ o))) =
-    at_start m.col (is_document_indicator (c ∷ (cs ++ o))) start
+    unmarked_at_start m.col (is_document_indicator (c ∷ (cs ++ o))) start
     (clear_here m c cs o (subst (λ (y : List ℕ). IsClear m y o) is clear)) in
     record {
       no_marker = subst (λ (y : List ℕ). IsFalse (is_document_indicator (y ++ o))) (sym is) unmarked;
