@@ -1,5 +1,5 @@
 -- What parsers hand out, as lines of cases, in UTF-8.
-use Rattle.std.specs.Prelude.{◌≡◌, ℕ, ◌<◌, Bool, true, false, List, [], ◌∷◌, ◌++◌, ◌==◌, if◌then◌else◌, length, drop}
+use Rattle.std.specs.Prelude.{◌≡◌, ℕ, Bool, true, false, List, [], ◌∷◌, ◌++◌, ◌==◌, if◌then◌else◌, drop}
 use Rattle.std.specs.Prelude.{Option, Some, None, option_map, Result, Ok, Err, OnOk, String, string_bytes, codes, encode_utf8}
 use Rattle.std.specs.Prelude.{◌+◌, ◌-◌, ◌⊎◌}
 use Rattle.std.specs.Result.{result_copied}

@@ -2,19 +2,14 @@
 use Rattle.std.proofs.Common.{◌≡◌, ℕ, ◌<◌, List, [], ◌∷◌, ◌++◌, length, refl, sym, ap, ◌∙◌, subst, Option, Some, None, Err, Ok, append_assoc, append-nil, arith, length-append, Bool, false, is_some, Result, Bor}
 use Rattle.std.specs.Prelude.{IfOk, option_map}
 use Rattle.case_files.specs.declared.difference.Difference.{Difference}
-use Rattle.std.specs.Io.KnownBytes.{Appends}
-use Rattle.saphyr_scalar.specs.declared.scalar.position.Span.{Span}
 use Rattle.saphyr_parser.specs.declared.parser.fault.Fault.{Fault}
 use Rattle.saphyr_parser.specs.declared.parser.fault.Fault.TheVariants as fault
 use Rattle.saphyr_parser.specs.declared.printing.fault.DumpFault.TheVariants as dump
-use Rattle.saphyr_parser.specs.Events.{Happening}
-use Rattle.saphyr_parser.specs.Answer.{Answer, Ending, Refused}
-use Rattle.saphyr_parser.specs.Cursor.{count}
-use Rattle.saphyr_parser.specs.Printed.{printed_line, printed_lines}
+use Rattle.saphyr_parser.specs.Answer.{Answer}
+use Rattle.saphyr_parser.specs.Printed.{printed_lines}
 use Rattle.saphyr_parser.specs.Dumps.{Cuts, Dumps}
 use Rattle.saphyr_parser.proofs.Printed.Dumping.{lines-append}
 use Rattle.case_files.specs.Lines.{line_of_fault}
-use Rattle.case_files.specs.Listings.{IsBefore}
 use Rattle.event_cases.specs.Dumped.{BeginsDump, IsDump, IsDumpUpTo, IsWritten}
 
 -- all of a text was taken

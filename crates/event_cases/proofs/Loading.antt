@@ -9,11 +9,12 @@ use Rattle.saphyr_parser.specs.Events as events
 use Rattle.saphyr_parser.specs.Events.{Happening}
 use Rattle.saphyr_parser.specs.Answer.{Answer, Ending, empty_answer, fault_alone}
 use Rattle.saphyr_parser.specs.declared.parser.event.Event.{Event}
-use Rattle.saphyr_parser.specs.Cursor.{EventCursor, HandsOutNext, Kept, IsKept, count, inside_behind, keeping_tags, to_come, with_event_ahead, answer_behind}
+use Rattle.saphyr_parser.specs.Cursor.{EventCursor, HandsOutNext, Kept, IsKept, count, inside_behind, to_come, with_event_ahead, answer_behind}
 use Rattle.saphyr_parser.specs.Calls.{EndsTheStream}
-use Rattle.saphyr_parser.specs.Loading.{Portion, is_last, with_event, portion, portion_to_send, inside_over, Keeps, Tells, Sends, SendsOne, Stopped, Lost, Finished, Loads}
+use Rattle.saphyr_parser.specs.Loading.{Portion, is_last, portion, portion_to_send, inside_over, Keeps, Tells, Sends, SendsOne, Stopped, Lost, Finished, Loads}
+use Rattle.saphyr_parser.proofs.Loading.{behind_first}
 use Rattle.case_files.specs.Lines.{Comparing, IsNext, PassesLine, event_line, line_of_fault, want_line}
-use Rattle.case_files.specs.Listings.{AreLinesOf, EndsInWant, IsBefore, ListAll, lines_of_answer, lines_of_events}
+use Rattle.case_files.specs.Listings.{AreLinesOf, ListAll, lines_of_answer, lines_of_events}
 use Rattle.case_files.proofs.Listings.{hands_less, lists_before, lists_more}
 use Rattle.event_cases.specs.Handed.{ListAllButOne, StandsBetween}
 
@@ -67,9 +68,6 @@ record RestOf (es : List (Happening × Span)) (f : Option Ending) (p : Portion) 
   split : es ≡ p.sent ++ rest
   fewer : one_if p.fault ≤ one_if f
   some : 0 < count (record { events = es; fault = f }) → 0 < count (record { events = p.sent; fault = p.fault })
-
-abbrev behind_first : Bool → Happening × Span → Portion → Portion
-behind_first last e p = if last then (record { sent = e ∷ []; fault = None }) else with_event e p
 
 rest_behind : (last : Bool) (e : Happening × Span) (es : List (Happening × Span)) (f : Option Ending) (p : Portion)
     → RestOf es f p → RestOf (e ∷ es) f (behind_first last e p)

@@ -1,5 +1,5 @@
 -- What is so of a case in which no difference is found.
-use Rattle.std.specs.Prelude.{◌≡◌, ℕ, ◌<◌, Bool, true, List, Option, Some, String, codes, drop, length, nat_eq, slice_get, string_bytes, take}
+use Rattle.std.specs.Prelude.{◌≡◌, ℕ, ◌<◌, Bool, true, List, Some, String, codes, drop, length, nat_eq, slice_get, string_bytes, take}
 use Rattle.std.specs.List.{starts_with}
 use Rattle.std.specs.declared.alloc.Global.{Global}
 use Rattle.case_files.specs.declared.case.Case.{Case}

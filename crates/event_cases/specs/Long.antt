@@ -1,5 +1,5 @@
 -- Long and deep texts, and what `dump` writes of them.
-use Rattle.std.specs.Prelude.{◌≡◌, ℕ, zero, suc, List, [], ◌++◌, Option, Some, None, codes}
+use Rattle.std.specs.Prelude.{ℕ, zero, suc, List, [], ◌++◌, Option, Some, None, codes}
 use Rattle.std.specs.Str.{chars}
 use Rattle.saphyr_scanner.specs.Steps.Remaining.{scan}
 use Rattle.saphyr_parser.specs.Limits.{most_characters}

@@ -1,5 +1,5 @@
 -- More tokens behind those of a machine change nothing of what a step gives.
-use Rattle.std.proofs.Common.{◌≡◌, ◌≢◌, List, [], ◌∷◌, ◌++◌, Option, Result, Ok, Err, refl, ap, ◌∙◌, ◌⊎◌, inl, inr}
+use Rattle.std.proofs.Common.{◌≡◌, ◌≢◌, List, [], ◌∷◌, ◌++◌, Option, Result, Ok, Err, refl, sym, ap, subst, ◌∙◌, ◌⊎◌, inl, inr}
 use Rattle.saphyr_scalar.specs.declared.scalar.fault.Refusal.{Refusal}
 use Rattle.saphyr_scanner.specs.Grammar.Tokens as tokens
 use Rattle.saphyr_scanner.specs.Grammar.Tokens.{Kind}
@@ -11,8 +11,7 @@ use Rattle.saphyr_parser.specs.Steps.Machine.{Machine, Told, ending_refusal, wit
 use Rattle.saphyr_parser.specs.Steps.Documents.{unpassed_token, implicit_start, explicit_start}
 use Rattle.saphyr_parser.specs.Steps.Expected.{event_step_at}
 use Rattle.saphyr_parser.specs.More.{with_more}
-use Rattle.saphyr_parser.proofs.Beside.Machines as beside
-use Rattle.saphyr_parser.proofs.Beside.Machines.{Beside, Behind, Left, With, TellsAlike}
+use Rattle.saphyr_parser.proofs.Beside.Machines.{Awaits, Beside, Behind, Left, With, TellsAlike}
 use Rattle.saphyr_parser.proofs.Beside.Documents.{IsBetweenDocuments, PassedAll, steps_beside}
 use Rattle.saphyr_parser.proofs.Beside.Maps.{becomes, tells_so, stay, still_expected, leaves}
 
@@ -39,11 +38,6 @@ IsLastOr w B ts _ = B
 abbrev pub End : More → List Piece → Type 0
 End z [] = z.Early
 End z (t ∷ ts) = IsLastOr z.marker (End z ts) ts t.kind
-
--- what is expected behind the marker
-abbrev pub Awaits : DocumentMarker → Machine → Type 0
-Awaits w m = ((w ≡ Ends) × (m.state ≡ state.ImplicitDocumentStart))
-    ⊎ ((w ≡ Starts) × (m.state ≡ state.DocumentContent) × ((ss : List State) × (m.states ≡ state.DocumentEnd ∷ ss)))
 
 -- the marker's token is still to be read, or it was the last that was read
 abbrev pub IsLeft : More → Machine → Type 0
@@ -110,16 +104,12 @@ becomes_longer z o T m n near e =
     becomes (with_longer z o) T (λ p. p) (more z m.tokens) m.keep_tags m n (λ p q i. i) near e near.setting
     ∙ stay (more z m.tokens) m.keep_tags m
 
-awaits : (z : More) (d : DocumentMarker) (m : Machine) → z.marker ≡ d → beside.Awaits d m → Awaits z.marker m
-awaits z Starts m e a = inr (e, a.0, a.1)
-awaits z Ends m e a = inl (e, a)
-
 longer_left : (z : More) (o : Option Refusal) (m n : Machine) → Left (with_longer z o) m n
     → IsLeft z m × (m.tokens.refusal ≡ o) × (n ≡ longer z m)
 longer_left z o m n (inl near) =
     (inl near.tokens.0, near.tokens.1, becomes_longer z o _ m n near near.tokens.2)
 longer_left z o m n (inr (d, over, a)) = (
-  inr (over.tokens.0.1, awaits z d m over.tokens.0.0 a),
+  inr (over.tokens.0.1, subst (λ d. Awaits d m) (sym over.tokens.0.0) a),
   over.tokens.1,
   becomes_longer z o _ m n over over.tokens.2,
 )

@@ -8,7 +8,7 @@ use Rattle.saphyr_parser.specs.declared.parser.receiver.Refused.{Refused}
 use Rattle.saphyr_parser.specs.Events as events
 use Rattle.saphyr_parser.specs.Events.{Happening}
 use Rattle.saphyr_parser.specs.Answer as answer
-use Rattle.saphyr_parser.specs.Answer.{Ending, with_first_event}
+use Rattle.saphyr_parser.specs.Answer.{Ending}
 use Rattle.saphyr_parser.specs.Cursor.{EventCursor, Kept, IsKept, count, event_of, finished_behind, inside_behind, to_come}
 use Rattle.saphyr_parser.specs.Calls.{Advances, AdvancesOver, Looks}
 

@@ -16,10 +16,10 @@ use Rattle.scalar_values.proofs.Items.{one_item}
 use Rattle.std.proofs.lemmas.Bool.{cond-false}
 use Rattle.saphyr_input.proofs.Basics.Numbers.{equal_by_test}
 
--- a name is not a break
-not_a_break : (name c : ℕ) → short_escape name ≡ Some c → (name == line_feed) ≡ false
+-- the name of a short escape is not a break
+pub short_escape_no_feed : (name c : ℕ) → short_escape name ≡ Some c → (name == line_feed) ≡ false
 unfolding short_escape
-not_a_break name c h = at (name == line_feed) refl
+short_escape_no_feed name c h = at (name == line_feed) refl
   where
     at : (b : Bool) → (name == line_feed) ≡ b → b ≡ false
     at true e = let none : short_escape line_feed ≡ Some c =
@@ -58,7 +58,7 @@ escape_first : (item : Item) (text back : List ℕ) → IsEscape item text
     → escape (text ++ back) ≡ Some (item, length text)
 escape_first (Escaped c) text back (inl (name, h, e)) =
     subst (λ (t : List ℕ). escape (t ++ back) ≡ Some (Escaped c, length t)) (sym e)
-    (cond-false (name == line_feed) (Some (EscapedBreak, 1)) _ (not_a_break name c h)
+    (cond-false (name == line_feed) (Some (EscapedBreak, 1)) _ (short_escape_no_feed name c h)
     ∙ ap (λ (o : Option ℕ). escape_named o (option_and_then (long_escape back) (digit_count name))) h)
 escape_first (Escaped c) text back (inr (name, digits, count, value, e)) =
     let is_long = long_name name (length digits) count in

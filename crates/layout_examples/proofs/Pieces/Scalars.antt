@@ -11,7 +11,7 @@ use Rattle.saphyr_input.specs.Classes.{is_blank, is_anchor_char, is_tag_char, is
 use Rattle.saphyr_scalar.specs.Spelling.Plain.{is_word_ink, IsWordIn}
 use Rattle.saphyr_scalar.specs.Spelling.Quoted.{stands_for_itself, IsText, closed, itself}
 use Rattle.saphyr_scalar.specs.Spelling.QuotedLines.{LinesFit}
-use Rattle.saphyr_scalar.specs.Spelling.Tag.{IsAnchorName, IsDecoded}
+use Rattle.saphyr_scalar.specs.Spelling.Tag.{IsAnchorName}
 use Rattle.saphyr_scalar.specs.Spelling.Spaces.{AreMany}
 use Rattle.saphyr_scanner.specs.Grammar.Forest.{Style, Plain, SingleQuoted, DoubleQuoted, Handle, Tag, NonSpecific}
 use Rattle.saphyr_scanner.specs.Grammar.Forest.{Verbatim, Shorthand, Properties, no_properties, Node, Alias, Scalar}

@@ -18,8 +18,9 @@ use Rattle.saphyr_parser.specs.Cursor.{at_start, keeping_tags, to_come}
 use Rattle.saphyr_parser.specs.Exactly.{GivesExactly, answer_of_tokens}
 use Rattle.saphyr_parser.specs.More.{marker_token}
 use Rattle.saphyr_parser.proofs.Unroll.{unroll, over}
-use Rattle.saphyr_parser.proofs.Longer.{More, longer, IsLastOr, End, Awaits}
+use Rattle.saphyr_parser.proofs.Longer.{More, longer, IsLastOr, End}
 use Rattle.saphyr_parser.proofs.Beside.Documents.{IsBetweenDocuments}
+use Rattle.saphyr_parser.proofs.Beside.Machines.{Awaits}
 use Rattle.saphyr_parser.proofs.Promises.CommonBeginnings.{or_last, IsStopped, GoesOn, goes_on}
 use Rattle.saphyr_parser.proofs.Happenings.{happenings_of}
 
@@ -70,12 +71,12 @@ ended_by w us e = record { Early = ⊥; marker = w; pieces = us; refusal = e }
 
 told_behind : (w : DocumentMarker) (s : Span) (k : Machine) → Awaits w k ⊎ ((w ≡ Ends) × IsBetweenDocuments k.state)
     → happenings_of (remaining_answer (alone s k)) ≡ events_behind_marker w
-told_behind w s k (inl (inl a)) = rw a.0 (ap happenings_of (start_is_told s k (subst IsBetweenDocuments (sym a.1) tt)))
-told_behind w s k (inl (inr a)) =
-    let ss : List State = a.2.0 in
-    let same : k ≡ in_document ss k = ap (λ v. record k { state = v }) a.1
-    ∙ ap (λ v. record k { state = state.DocumentContent; states = v }) a.2.1 in
-    rw a.0 (ap happenings_of (ap (λ v. remaining_answer (alone s v)) same ∙ content_told s ss k))
+told_behind Ends s k (inl a) = ap happenings_of (start_is_told s k (subst IsBetweenDocuments (sym a) tt))
+told_behind Starts s k (inl a) =
+    let ss : List State = a.1.0 in
+    let same : k ≡ in_document ss k = ap (λ v. record k { state = v }) a.0
+    ∙ ap (λ v. record k { state = state.DocumentContent; states = v }) a.1.1 in
+    ap happenings_of (ap (λ v. remaining_answer (alone s v)) same ∙ content_told s ss k)
 told_behind w s k (inr a) = rw a.0 (ap happenings_of (start_is_told s k a.1))
 
 told_stopped :

@@ -15,8 +15,9 @@ use Rattle.saphyr_parser.specs.Steps.Expected.{event_step, event_step_at}
 use Rattle.saphyr_parser.specs.Answer.{Answer, with_first_event, answer_of_step, fault_alone, ending_of, remaining_answer, machine_size}
 use Rattle.saphyr_parser.specs.More.{with_more, BeginsAs}
 use Rattle.saphyr_parser.proofs.Unroll.{unroll, over, shrinks_at}
-use Rattle.saphyr_parser.proofs.Longer.{More, longer, IsLastOr, End, Awaits, IsLeft, AgreesOrEndsEarly, PassesAll, steps_agree}
+use Rattle.saphyr_parser.proofs.Longer.{More, longer, IsLastOr, End, IsLeft, AgreesOrEndsEarly, PassesAll, steps_agree}
 use Rattle.saphyr_parser.proofs.Beside.Documents.{IsBetweenDocuments}
+use Rattle.saphyr_parser.proofs.Beside.Machines.{Awaits}
 
 -- ## One step
 
@@ -115,16 +116,13 @@ none_taken : (ts : List Piece) (m : Machine) (go : Piece × Machine → Result T
     → (taken_token_from ts m >>= go) ≡ Err (ending_refusal m.tokens.refusal)
 none_taken ts m go e = rw e refl
 
-awaits_at :
-    (w : DocumentMarker) (s : State) (m : Machine) → m.tokens.pieces ≡ []
-    → ((w ≡ Ends) × (s ≡ state.ImplicitDocumentStart))
-    ⊎ ((w ≡ Starts) × (s ≡ state.DocumentContent) × ((ss : List State) × (m.states ≡ state.DocumentEnd ∷ ss)))
-    → event_step_at s m ≡ Err (ending_refusal m.tokens.refusal)
+-- what waits for a token behind the marker gets none
+none_awaited : (w : DocumentMarker) (m : Machine) → m.tokens.pieces ≡ [] → Awaits w m
+    → event_step_at m.state m ≡ Err (ending_refusal m.tokens.refusal)
 unfolding implicit_start unpassed_token document_content
-awaits_at w state.ImplicitDocumentStart m e a = passed_from m.tokens.pieces m _ e
-awaits_at w state.DocumentContent m e a = none_taken m.tokens.pieces m _ e
-awaits_at w _ m e (inl a) = let y = a.1 in absurd (cc)
-awaits_at w _ m e (inr a) = let y = a.1 in absurd (cc)
+none_awaited Starts m e a =
+    ap (λ s. event_step_at s m) a.0 ∙ none_taken m.tokens.pieces m _ e
+none_awaited Ends m e a = ap (λ s. event_step_at s m) a ∙ passed_from m.tokens.pieces m _ e
 
 -- a step, and what comes behind it
 first_step :
@@ -165,7 +163,7 @@ first_step z m next i = by (ended m.state) i
         (agreed h (steps_agree z m.state m h e))
     by (inr h) (inr k) =
         as_before z r _ (fault_alone (ending_of (ending_refusal r))) _ _
-        (unroll m h ∙ ap (λ q. answer_of_step q remaining_answer) (awaits_at z.marker m.state m k.0 k.1)) refl
+        (unroll m h ∙ ap (λ q. answer_of_step q remaining_answer) (none_awaited z.marker m k.0 k.1)) refl
         (inr (refl, (m, inr (k.0, inl k.1), refl)))
 
 runs : (n : ℕ) (z : More) (m : Machine) → machine_size m < n → IsLeft z m

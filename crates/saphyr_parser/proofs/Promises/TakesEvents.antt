@@ -1,5 +1,5 @@
 -- The promise on every text: the events of tokens that are taken from a text are taken from it.
-use Rattle.std.proofs.Common.{◌≡◌, ℕ, ◌+◌, ◌*◌, ◌<◌, ◌≤◌, ◌^◌, Bool, List, [], ◌∷◌, ◌++◌, length, Option, Some, refl, sym, subst, inl, inr, arith}
+use Rattle.std.proofs.Common.{◌≡◌, ℕ, ◌+◌, ◌*◌, ◌<◌, ◌≤◌, ◌^◌, List, [], ◌∷◌, ◌++◌, length, Option, Some, refl, sym, subst, inl, inr, arith}
 use Rattle.saphyr_scalar.specs.declared.scalar.position.Marker.{Marker}
 use Rattle.saphyr_scalar.specs.declared.scalar.fault.Refusal.{Refusal}
 use Rattle.saphyr_scalar.specs.Views.Cursor as scalar
@@ -10,7 +10,7 @@ use Rattle.saphyr_scanner.specs.Steps.Remaining.{scan}
 use Rattle.saphyr_scanner.specs.Ends.{HasNoEnd, EndsWithStream}
 use Rattle.saphyr_scanner.specs.TokensTaken.{IsPlaceOf, IsEndOf, AreTakenFrom}
 use Rattle.saphyr_scanner.specs.AtPlaces.{AreAtPlaces}
-use Rattle.saphyr_parser.specs.Cursor.{EventCursor, at_start, keeping_tags, to_come}
+use Rattle.saphyr_parser.specs.Cursor.{EventCursor, at_start}
 use Rattle.saphyr_parser.specs.Promises.{TakesEvents}
 use Rattle.saphyr_parser.proofs.Refusing.{IsRefusedAt, IsLastOr, AreEnded, refused_at}
 use Rattle.saphyr_parser.proofs.Sound.{begins}

@@ -6,7 +6,7 @@ use Rattle.saphyr_scalar.specs.declared.scalar.position.Span.{Span}
 use Rattle.saphyr_scanner.specs.Examples.TakenTexts.{marker_at}
 use Rattle.saphyr_parser.specs.Answer.{Answer}
 use Rattle.saphyr_parser.specs.Events as events
-use Rattle.saphyr_parser.specs.Events.{Happening, ResolvedTag}
+use Rattle.saphyr_parser.specs.Events.{Happening}
 
 abbrev pub anchored : List ℕ → Properties
 anchored name = record { anchor = Some name; tag = None }

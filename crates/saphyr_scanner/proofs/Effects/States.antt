@@ -5,7 +5,6 @@ use Rattle.saphyr_scalar.specs.declared.scalar.position.Marker.{Marker}
 use Rattle.saphyr_scalar.specs.declared.scalar.fault.Refusal.{Refusal}
 use Rattle.saphyr_scalar.specs.Views.Cursor.{Cursor}
 use Rattle.saphyr_scanner.specs.Grammar.Tokens as tokens
-use Rattle.saphyr_scanner.specs.Grammar.Tokens.{Kind}
 use Rattle.saphyr_scanner.specs.Steps.Queue.{empty_piece}
 use Rattle.saphyr_scanner.specs.Steps.Core.{Core, StepResult, at_mark, in_block}
 use Rattle.saphyr_scanner.specs.Steps.State.{State, on_core, with_core, with_action, after_step}

@@ -28,7 +28,7 @@ use Rattle.saphyr_scanner.specs.TokensTaken.{IsPassedOver, LiesOnLine, IsFlowInd
 use Rattle.saphyr_scanner.specs.TokensTaken.{IsSpan}
 use Rattle.saphyr_scanner.specs.TokensTaken.{past_mark, may_begin_plain, begins_text, IsToken, open_behind}
 use Rattle.saphyr_scanner.specs.TokensTaken.{least_column_in}
-use Rattle.saphyr_scanner.specs.TokensTaken.{AreTokens, IsPlaceOf, AreTakenFrom}
+use Rattle.saphyr_scanner.specs.TokensTaken.{AreTokens, AreTakenFrom}
 use Rattle.saphyr_scanner.specs.Examples.TakenTexts.{marker_at}
 
 abbrev pub cursor_here : List ℕ → Marker → Cursor

@@ -1,10 +1,11 @@
 -- A quoted scalar ends right of a column that its lines reach.
-use Rattle.std.proofs.Common.{◌≡◌, ℕ, suc, ◌+◌, ◌≤◌, Bool, true, false, List, [], ◌∷◌, ◌++◌, length, drop, slice_index, refl, sym, ap, ◌∙◌, arith, subst, IsTrue, ◌⊎◌, inl, inr}
-use Rattle.std.specs.Prelude.{◌&&◌, ◌==◌, not, Some, None}
+use Rattle.std.proofs.Common.{◌≡◌, ℕ, suc, ◌+◌, ◌≤◌, Bool, true, false, List, [], ◌∷◌, ◌++◌, drop, slice_index, refl, sym, ap, ◌∙◌, arith, subst, IsTrue, ◌⊎◌, inl, inr}
+use Rattle.std.specs.Prelude.{◌&&◌, ◌==◌, not, None}
 use Rattle.std.proofs.lemmas.Bool.{false≢true}
 use Rattle.std.proofs.lemmas.Bool.Decides.{nat_tests}
 use Rattle.saphyr_input.specs.Classes.{is_break, is_hex, is_breakz, space, line_feed, carriage_return}
-use Rattle.scalar_values.specs.Escapes.{digit_count, short_escape}
+use Rattle.scalar_values.specs.Escapes.{digit_count}
+use Rattle.scalar_values.proofs.ItemsRead.{short_escape_no_feed}
 use Rattle.saphyr_scalar.specs.declared.scalar.position.Marker.{Marker}
 use Rattle.scalar_values.specs.declared.folding.Item.{Item}
 use Rattle.scalar_values.specs.declared.flow.Quote.{Quote}
@@ -72,20 +73,6 @@ line_reaches column m t e h = by_line h.indented
     by_line : (column ≤ space_count t) ⊎ IsTrue (is_break (slice_index (drop (space_count t) t) 0)) → Reaches column m t
     by_line (inl k) = inl (let n = space_count t in omega (arith, e, k))
     by_line (inr k) = inr k
-
-no_feed_simple : (e c : ℕ) → short_escape e ≡ Some c → (e == line_feed) ≡ false
-unfolding short_escape
-no_feed_simple e c h = by_test (e == line_feed) refl
-  where
-    feed : (e : ℕ) → (e == line_feed) ≡ true → e ≡ 10
-    feed e h = grind (arith, nat_tests)
-
-    none : short_escape 10 ≡ Some c → ⊥
-    none k = cc
-
-    by_test : (b : Bool) → (e == line_feed) ≡ b → (e == line_feed) ≡ false
-    by_test true k = absurd (none (subst (λ (z : ℕ). short_escape z ≡ Some c) (feed e k) h))
-    by_test false k = k
 
 no_feed_letter : (e : ℕ) (ds : List ℕ) (c : ℕ) → IsNumber e c ds → (e == line_feed) ≡ false
 no_feed_letter e ds c h = by_test (e == line_feed) refl
@@ -155,7 +142,7 @@ text_right column _ _ _ _ (two_quotes t items x r) fit e m reach clean =
     clean.1.1
 text_right column _ _ _ _ (escaped d c t items x h r) fit e m reach clean =
     let here = from_ink column m backslash (d ∷ t) refl refl reach in
-    let same : moved m (backslash ∷ d ∷ t) ≡ moved (along (along m 1) 1) t = rw (no_feed_simple d c h) refl in
+    let same : moved m (backslash ∷ d ∷ t) ≡ moved (along (along m 1) 1) t = rw (short_escape_no_feed d c h) refl in
     subst (λ (k : Marker). column ≤ k.col) (sym same)
     (text_right column Double t items x r fit e (along (along m 1) 1)
     (right_reaches column (along (along m 1) 1) t (le_next column (m.col + 1) (le_next column m.col here)))
