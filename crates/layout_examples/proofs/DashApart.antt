@@ -1,6 +1,7 @@
 -- A lone `-` with a blank before its colon is no key: `- : a` is an entry of a sequence.
 use Rattle.std.proofs.Common.{◌≡◌, ℕ, ◌==◌, Bool, List, [], ◌++◌, ◌⊎◌, inl, inr, refl, sym, ◌∙◌, ap, arith, codes}
 use Rattle.std.proofs.Common.{subst}
+use Rattle.saphyr_input.specs.Indicators.{hyphen}
 use Rattle.saphyr_scalar.specs.Spelling.Tag.{AreIn}
 use Rattle.saphyr_scanner.specs.Grammar.Forest.{Style, Plain, SingleQuoted, DoubleQuoted, Literal, Folded, Properties}
 use Rattle.saphyr_scanner.specs.Grammar.Forest.{Node, Alias, Scalar, Seq, Map}
@@ -19,7 +20,7 @@ dashes t is = subst (AreIn is_dash) is (refl, tt)
 dash_is_no_mark : (t : List ℕ) → codes "-" ≡ t → Begins IsPropertyMark t → ⊥
 dash_is_no_mark t is (c, cs, m, e) = other c m (heads 45 c [] cs (is ∙ e))
   where
-    other : (c : ℕ) → IsPropertyMark c → c ≡ 45 → ⊥
+    other : (c : ℕ) → IsPropertyMark c → c ≡ hyphen → ⊥
     other c (inl e) f = omega arith
     other c (inr e) f = omega arith
 

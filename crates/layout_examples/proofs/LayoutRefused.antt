@@ -2,6 +2,7 @@
 -- sequence.
 use Rattle.std.proofs.Common.{◌≡◌, ◌≢◌, ℕ, ◌⊎◌, Bool, true, false, List, [], ◌∷◌, ◌++◌, Option, Some, None, inl, inr}
 use Rattle.std.proofs.Common.{refl, arith, codes, ap, IsTrue}
+use Rattle.saphyr_input.specs.Indicators.{comma, left_bracket}
 use Rattle.saphyr_input.specs.Classes.{is_blank}
 use Rattle.saphyr_scalar.specs.Steps.BlockRead.{spaces}
 use Rattle.saphyr_scalar.specs.Spelling.Tag.{AreIn}
@@ -53,11 +54,11 @@ properties (Some name) (Some x) t (front, between, written, a, b, s, inl e) =
 properties (Some name) (Some x) t (front, between, written, a, b, s, inr e) =
     front_of IsPropertyMark written (between ++ front) t (tag x written b) e
 
-mark_is_no_comma : (c : ℕ) → IsPropertyMark c → c ≢ 44
+mark_is_no_comma : (c : ℕ) → IsPropertyMark c → c ≢ comma
 mark_is_no_comma c (inl e) f = omega arith
 mark_is_no_comma c (inr e) f = omega arith
 
-no_bracket : (c : ℕ) → IsPropertyMark c → c ≢ 91
+no_bracket : (c : ℕ) → IsPropertyMark c → c ≢ left_bracket
 no_bracket c (inl e) f = omega arith
 no_bracket c (inr e) f = omega arith
 
@@ -77,7 +78,7 @@ mark_has_no_comma t (inr h) = inr (mark_has_no_comma_in t h)
 
 -- ## Scalars and nodes
 
-comma_is_no_plain : (c : ℕ) → c ≡ 44 → IsTrue (begins_plain c) → ⊥
+comma_is_no_plain : (c : ℕ) → c ≡ comma → IsTrue (begins_plain c) → ⊥
 comma_is_no_plain c e h = let f : begins_plain c ≡ false = ap (λ x. begins_plain x) e in cc
 
 first_word : (in_flow : Bool) (w : List ℕ) → IsFirstWord in_flow w → NoComma w
@@ -116,7 +117,7 @@ plain_key (Scalar p style v) in_flow indent t (front, content, q, b, h, d, e) =
     no_comma_behind front content t (mark_has_no_comma front (before p indent front b))
     (plain_key_word in_flow indent content h) e
 
-opening : (p : Properties) (c indent : ℕ) (t : List ℕ) → c ≢ 44 → IsOpening p (c ∷ []) indent t → NoComma t
+opening : (p : Properties) (c indent : ℕ) (t : List ℕ) → c ≢ comma → IsOpening p (c ∷ []) indent t → NoComma t
 opening p c indent t n (front, separation, b, s, e) =
     no_comma_behind front (c ∷ separation) t (mark_has_no_comma front (before p indent front b))
     (c, separation, n, refl) e
@@ -172,7 +173,7 @@ no_entry_begins_with_a_comma room (MoreNodes x xs) indent t (item, others, inr h
 
 -- ## Separation
 
-blank_is_no_comma : (c : ℕ) → IsTrue (is_blank c) → c ≢ 44
+blank_is_no_comma : (c : ℕ) → IsTrue (is_blank c) → c ≢ comma
 blank_is_no_comma c h e = let f : is_blank c ≡ false = ap (λ x. is_blank x) e in cc
 
 blanks_begin : (t : List ℕ) → AreIn is_blank t → (t ≡ []) ⊎ NoComma t
@@ -221,7 +222,7 @@ inside_is_no_comma a b (inr (c, cs, n, e)) g d =
 
 bracket_and_comma_refused : (front separation inside : List ℕ) (indent : ℕ) → (front ≡ []) ⊎ Begins IsPropertyMark front
     → IsSeparation indent separation → (inside ≡ []) ⊎ NoComma inside
-    → codes "[,]" ≡ (front ++ (91 ∷ separation)) ++ (inside ++ codes "]") → ⊥
+    → codes "[,]" ≡ (front ++ (left_bracket ∷ separation)) ++ (inside ++ codes "]") → ⊥
 bracket_and_comma_refused front separation inside indent (inl e) s h d =
     let x : codes "[,]" ≡ 91 ∷ (separation ++ (inside ++ codes "]")) = rw (d, e) refl in
     inside_is_no_comma separation inside (separation_begins indent separation s) h (ap (λ t. behind_first t) x)
@@ -229,8 +230,9 @@ bracket_and_comma_refused front separation inside indent (inr (c, cs, m, e)) s h
     let x : codes "[,]" ≡ c ∷ ((cs ++ (91 ∷ separation)) ++ (inside ++ codes "]")) = rw (d, e) refl in
     no_bracket c m (heads 91 c (codes ",]") ((cs ++ (91 ∷ separation)) ++ (inside ++ codes "]")) x)
 
-joins : (o front separation inside : List ℕ) → o ≡ front ++ (91 ∷ separation) → codes "[,]" ≡ o ++ (inside ++ codes "]")
-    → codes "[,]" ≡ (front ++ (91 ∷ separation)) ++ (inside ++ codes "]")
+joins : (o front separation inside : List ℕ) → o ≡ front ++ (left_bracket ∷ separation)
+    → codes "[,]" ≡ o ++ (inside ++ codes "]")
+    → codes "[,]" ≡ (front ++ (left_bracket ∷ separation)) ++ (inside ++ codes "]")
 joins o front separation inside e d = rw (d, e) refl
 
 pub comma_alone : (room : ℕ) (p : Properties) (nodes : Nodes) → IsFlowNode room (Seq p nodes) false 0 (codes "[,]") → ⊥
@@ -242,7 +244,7 @@ comma_alone room p nodes (left, o, inside, r, (front, separation, b, s, e), i, d
 pub comma_first : (room : ℕ) (nodes : Nodes) (indent : ℕ) (t : List ℕ) → AreItems room nodes indent (codes "," ++ t) → ⊥
 comma_first room nodes indent t h = no_comma_first t (no_entry_begins_with_a_comma room nodes indent (44 ∷ t) h)
   where
-    no_comma_first : (t : List ℕ) → ((44 ∷ t) ≡ []) ⊎ NoComma (44 ∷ t) → ⊥
+    no_comma_first : (t : List ℕ) → ((comma ∷ t) ≡ []) ⊎ NoComma (comma ∷ t) → ⊥
     no_comma_first t (inl e) = cc
     no_comma_first t (inr (c, cs, n, e)) = n (heads 44 c t cs e)
 

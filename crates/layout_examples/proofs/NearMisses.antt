@@ -1,7 +1,7 @@
 -- Near misses of the layout grammar: what stands where another character must.
 use Rattle.std.proofs.Common.{◌≡◌, ◌≢◌, ℕ, zero, suc, ◌⊎◌, Bool, true, false, ◌==◌, not, List, [], ◌∷◌, ◌++◌, IsTrue}
 use Rattle.std.proofs.Common.{inl, inr, refl, sym, ◌∙◌, arith, codes, ap}
-use Rattle.saphyr_input.specs.Classes.{is_blank, line_feed}
+use Rattle.saphyr_input.specs.Classes.{is_blank, line_feed, space}
 use Rattle.scalar_values.specs.declared.block.Chomping.{Chomping}
 use Rattle.saphyr_scalar.specs.Steps.BlockRead.{spaces}
 use Rattle.scalar_values.specs.Block.{Line}
@@ -21,6 +21,7 @@ use Rattle.saphyr_scanner.specs.Grammar.BlockNodes.{AreOtherEntries}
 use Rattle.saphyr_input.specs.Places.{is_document_indicator}
 use Rattle.std.proofs.Math.Bool.{or-true}
 use Rattle.std.specs.Prelude.{◌||◌}
+use Rattle.saphyr_input.specs.Indicators.{colon, hyphen, number_sign, vertical_bar, plus_sign}
 use Rattle.saphyr_scanner.proofs.InBlock.TabsAhead.{last_none}
 
 -- ## Plain scalars
@@ -60,7 +61,7 @@ indicator_first in_flow indent (first, others, h, m, e) = no_indicator in_flow f
 
 -- ## Block scalars: behind the header's digit stands no other
 
-header_ends_with_break : (c : ℕ) (rest d x : List ℕ) → is_blank c ≡ false → c ≢ 10 → block.IsHeaderEnd d x
+header_ends_with_break : (c : ℕ) (rest d x : List ℕ) → is_blank c ≡ false → c ≢ line_feed → block.IsHeaderEnd d x
     → d ≡ c ∷ rest → ⊥
 header_ends_with_break c rest _ x b n (no_comment [] _ h) e = n (sym (heads c 10 rest x (sym e)))
 header_ends_with_break c rest _ x b n (no_comment (blank ∷ blanks) _ (h, hs)) e =
@@ -68,7 +69,8 @@ header_ends_with_break c rest _ x b n (no_comment (blank ∷ blanks) _ (h, hs)) 
 header_ends_with_break c rest _ x b n (comment blank blanks text _ (h, hs) g) e =
     let f : is_blank blank ≡ is_blank c = ap (λ v. is_blank v) (heads c blank rest _ (sym e)) in cc
 
-chomped_end : (c : ℕ) (rest b d x : List ℕ) (k : Chomping) → is_blank c ≡ false → c ≢ 10 → c ≢ 45 → c ≢ 43
+chomped_end : (c : ℕ) (rest b d x : List ℕ) (k : Chomping) → is_blank c ≡ false → c ≢ line_feed → c ≢ hyphen
+    → c ≢ plus_sign
     → IsChomping k b d → block.IsHeaderEnd d x → b ≡ c ∷ rest → ⊥
 chomped_end c rest _ d x _ l n p q (strip _) h e = p (sym (heads c 45 rest d (sym e)))
 chomped_end c rest _ d x _ l n p q (clip _) h e = header_ends_with_break c rest d x l n h e
@@ -93,7 +95,7 @@ indicated_last rest _ b d x n _ (strip _) i h e = let f : 49 ≡ 45 = heads 45 4
 indicated_last rest _ b d x n _ (clip _) i h e = end_indicated n rest b d x i h e
 indicated_last rest _ b d x n _ (keep _) i h e = let f : 49 ≡ 43 = heads 43 49 b (50 ∷ rest) e in omega (arith, f)
 
-header_digits : (n : ℕ) (k : Chomping) (x t rest : List ℕ) → IsHeader n k x t → t ≡ 124 ∷ 49 ∷ 50 ∷ rest → ⊥
+header_digits : (n : ℕ) (k : Chomping) (x t rest : List ℕ) → IsHeader n k x t → t ≡ vertical_bar ∷ 49 ∷ 50 ∷ rest → ⊥
 header_digits n k x _ rest (digit_first mark a b d i c h) e =
     indicated_end n rest a b d x k i c h (tails mark 124 a (49 ∷ 50 ∷ rest) e)
 header_digits n k x _ rest (chomping_first mark a b d c i h) e =
@@ -110,7 +112,7 @@ line_rest t ([], words, are, inl e, d) = inl (rw (d, e) refl)
 line_rest t ([], words, are, inr (n, h), d) = absurd (n refl)
 line_rest t (b ∷ bs, words, are, h, d) = inr (b, bs ++ words, are.0, rw d refl)
 
-no_blank_sign : (c : ℕ) → IsTrue (is_blank c) → c ≡ 35 → ⊥
+no_blank_sign : (c : ℕ) → IsTrue (is_blank c) → c ≡ number_sign → ⊥
 no_blank_sign c b g = absurd (let e : is_blank 35 ≡ true = ap is_blank (sym g) ∙ b in cc)
 
 no_hash : (rest behind : List ℕ) → (rest ≡ []) ⊎ Begins (λ c. IsTrue (is_blank c)) rest → codes "#x\n" ≡ rest ++ behind
@@ -138,7 +140,7 @@ indentation m t (front, h, e) = behind_filler t front (spaces m) h e
 abbrev is_no_blank_and_no_colon : ℕ → Bool
 is_no_blank_and_no_colon c = not (c == line_feed)
 
-no_tab : (m : ℕ) (front others : List ℕ) → front ≡ spaces m → codes "\t- b" ≡ front ++ (45 ∷ others) → ⊥
+no_tab : (m : ℕ) (front others : List ℕ) → front ≡ spaces m → codes "\t- b" ≡ front ++ (hyphen ∷ others) → ⊥
 no_tab zero front others e d =
     let f : codes "\t- b" ≡ 45 ∷ others = rw e at d in let g : 45 ≡ 9 = heads 9 45 (codes "- b") others f in omega
     (arith, g)
@@ -147,7 +149,7 @@ no_tab (suc m) front others e d =
     let g : 32 ≡ 9 = heads 9 32 (codes "- b") (spaces m ++ (45 ∷ others)) f in omega (arith, g)
 
 -- on one line no filler stands
-on_one_line : (m : ℕ) (front others : List ℕ) → IsEntryIndentation m front → codes "\t- b" ≡ front ++ (45 ∷ others)
+on_one_line : (m : ℕ) (front others : List ℕ) → IsEntryIndentation m front → codes "\t- b" ≡ front ++ (hyphen ∷ others)
     → front ≡ spaces m
 on_one_line m front others (filling, h, e) d =
     let clean = before_in is_no_blank_and_no_colon (codes "\t- b") front (45 ∷ others) d
@@ -213,8 +215,8 @@ entry_left room (MoreNodes node nodes) m behind (front, entry, others, i, h, g, 
     no_left m front (45 ∷ (entry ++ others)) (indentation (suc m) front i) e
 
 -- behind a key on its line stand spaces and the colon
-before_colon : (c : ℕ) (rest between value : List ℕ) → c ≢ 32 → c ≢ 58 → AreSpaces 0 between
-    → c ∷ rest ≡ between ++ (58 ∷ value) → ⊥
+before_colon : (c : ℕ) (rest between value : List ℕ) → c ≢ space → c ≢ colon → AreSpaces 0 between
+    → c ∷ rest ≡ between ++ (colon ∷ value) → ⊥
 before_colon c rest between value x y (zero, l, f) e =
     let g : c ∷ rest ≡ 58 ∷ value = rw f at e in y (sym (heads c 58 rest value g))
 before_colon c rest between value x y (suc n, l, f) e =
@@ -222,7 +224,7 @@ before_colon c rest between value x y (suc n, l, f) e =
     (sym (heads c 32 rest (spaces n ++ (58 ∷ value)) g))
 
 no_key_over_lines : (node between value : List ℕ) → IsOnLine node → AreSpaces 0 between
-    → codes "a\nb: c" ≡ node ++ (between ++ (58 ∷ value)) → ⊥
+    → codes "a\nb: c" ≡ node ++ (between ++ (colon ∷ value)) → ⊥
 no_key_over_lines [] between value l s e =
     before_colon 97 (codes "\nb: c") between value (λ y. omega arith) (λ y. omega arith) s e
 no_key_over_lines (c ∷ []) between value l s e =

@@ -1,7 +1,8 @@
 -- The line `---` stands for nothing but one document whose node is left out.
 use Rattle.std.proofs.Common.{◌≡◌, ◌≢◌, ℕ, zero, suc, ◌⊎◌, Bool, true, false, ◌==◌, List, [], ◌∷◌, ◌++◌, inl, inr, refl}
 use Rattle.std.proofs.Common.{◌∙◌, arith, codes, ap, subst, IsFalse}
-use Rattle.saphyr_input.specs.Classes.{byte_order_mark}
+use Rattle.saphyr_input.specs.Indicators.{hyphen, percent_sign}
+use Rattle.saphyr_input.specs.Classes.{byte_order_mark, line_feed}
 use Rattle.saphyr_scalar.specs.Steps.BlockRead.{spaces}
 use Rattle.saphyr_scalar.specs.Spelling.Plain.{is_word_ink}
 use Rattle.saphyr_scalar.specs.Spelling.Tag.{AreIn}
@@ -142,13 +143,14 @@ bare_front (a ∷ b ∷ c ∷ cs) behind e n =
     absurd (marked a b c cs behind (heads 45 a (codes "--\n") (b ∷ (c ∷ (cs ++ behind))) e)
     (heads 45 b (codes "-\n") (c ∷ (cs ++ behind)) g) (heads 45 c (codes "\n") (cs ++ behind) i) j n)
   where
-    three : (cs behind : List ℕ) → codes "\n" ≡ cs ++ behind → IsFalse (has_marker true (45 ∷ 45 ∷ 45 ∷ cs)) → ⊥
+    three : (cs behind : List ℕ) → codes "\n" ≡ cs ++ behind → IsFalse (has_marker true (hyphen ∷ hyphen ∷ hyphen ∷ cs))
+        → ⊥
     three [] behind e n = cc
     three (c ∷ cs) behind e n =
         let f : c ≡ 10 = heads 10 c [] (cs ++ behind) e in let g : has_marker true (45 ∷ 45 ∷ 45 ∷ 10 ∷ cs) ≡ false =
         subst (λ (x : ℕ). has_marker true (45 ∷ 45 ∷ 45 ∷ x ∷ cs) ≡ false) f n in cc
 
-    marked : (a b c : ℕ) (cs behind : List ℕ) → a ≡ 45 → b ≡ 45 → c ≡ 45 → codes "\n" ≡ cs ++ behind
+    marked : (a b c : ℕ) (cs behind : List ℕ) → a ≡ hyphen → b ≡ hyphen → c ≡ hyphen → codes "\n" ≡ cs ++ behind
         → IsFalse (has_marker true (a ∷ b ∷ c ∷ cs)) → ⊥
     marked a b c cs behind e f g h n =
         three cs behind h (let m : has_marker true (45 ∷ 45 ∷ 45 ∷ cs) ≡ has_marker true (a ∷ b ∷ c ∷ cs) =
@@ -170,7 +172,7 @@ feeds_are_no_word in_flow (c ∷ cs) (h, b, x, y, z) (i, is) =
     let e : c ≡ 10 = is_that c i in let f : is_word_ink in_flow c ≡ false =
     ap (λ v. is_word_ink in_flow v) e in let g : is_word_ink in_flow c ≡ true = h.ink.0 in cc
   where
-    is_that : (c : ℕ) → (c == 10) ≡ true → c ≡ 10
+    is_that : (c : ℕ) → (c == line_feed) ≡ true → c ≡ line_feed
     is_that c h = grind arith
 
 no_content : (style : Style) (value : List ℕ) (in_flow : Bool) (indent : ℕ) (t : List ℕ)
@@ -188,7 +190,7 @@ no_flow_scalar p style value in_flow indent t (inl (e, f, h)) i = no_first_mark 
 no_flow_scalar p style value in_flow indent t (inr (before, content, b, c, e)) i =
     no_content style value in_flow indent content c (behind_in (is 10) t before content e i)
 
-no_opening : (p : Properties) (c indent : ℕ) (t : List ℕ) → (c == 10) ≡ false → IsOpening p (c ∷ []) indent t
+no_opening : (p : Properties) (c indent : ℕ) (t : List ℕ) → (c == line_feed) ≡ false → IsOpening p (c ∷ []) indent t
     → IsAll 10 t → ⊥
 no_opening p c indent t n (before, separation, b, s, e) h = lacks (is 10) c t before separation n e h
 
@@ -230,7 +232,7 @@ is_left_out room (Map p pairs) t behind (inr (m, lead, entries, l, h, e)) i =
 -- ## The document's line
 
 -- directives begin with a percent sign
-percent : (d : Directive) (t : List ℕ) → IsDirective d t → Begins (λ c. c ≡ 37) t
+percent : (d : Directive) (t : List ℕ) → IsDirective d t → Begins (λ c. c ≡ percent_sign) t
 percent (Version major minor) t (directive, tail, (gap, high, low, g, h, l, e), r, f) =
     front_of (λ c. c ≡ 37) directive tail t (37, codes "YAML" ++ (gap ++ (high ++ (codes "." ++ low))), refl, e) f
 percent (TagPrefix handle prefix) t (written, directive, tail, h, (first, second, back, a, b, c, d, e), r, f) =
@@ -238,7 +240,7 @@ percent (TagPrefix handle prefix) t (written, directive, tail, h, (first, second
 percent (Reserved name) t (more, a, b, c, d, e, f, g) = (37, name ++ more, refl, g)
 
 directives_begin : (ds : List Directive) (t : List ℕ) → AreDirectives ds t
-    → ((ds ≡ []) × (t ≡ [])) ⊎ Begins (λ c. c ≡ 37) t
+    → ((ds ≡ []) × (t ≡ [])) ⊎ Begins (λ c. c ≡ percent_sign) t
 directives_begin [] t e = inl (refl, e)
 directives_begin (d ∷ ds) t (directive, filling, more, h, f, o, e) =
     inr (front_of (λ c. c ≡ 37) directive (codes "\n" ++ (filling ++ more)) t (percent d directive h) e)
@@ -252,7 +254,7 @@ behind_dashes t directives node others d e f =
     (tails 45 45 (codes "-\n") (codes "-" ++ (node ++ others))
     (tails 45 45 (codes "--\n") (codes "--" ++ (node ++ others)) g))
 
-no_percent : (t directives others more : List ℕ) → Begins (λ c. c ≡ 37) directives → t ≡ directives ++ more
+no_percent : (t directives others more : List ℕ) → Begins (λ c. c ≡ percent_sign) directives → t ≡ directives ++ more
     → codes "---\n" ≡ t ++ others → ⊥
 no_percent t directives others more (c, cs, m, d) e f =
     let g : codes "---\n" ≡ c ∷ ((cs ++ more) ++ others) = rw (e, d) at f in
@@ -298,7 +300,8 @@ explicit_one :
 explicit_one room d ds t others (directives, node, x, c, dirs, m, n, e) b f =
     by_directives (directives_begin d.directives directives dirs)
   where
-    by_directives : ((d.directives ≡ []) × (directives ≡ [])) ⊎ Begins (λ c. c ≡ 37) directives → d ∷ ds ≡ only ∷ []
+    by_directives : ((d.directives ≡ []) × (directives ≡ [])) ⊎ Begins (λ c. c ≡ percent_sign) directives
+        → d ∷ ds ≡ only ∷ []
     by_directives (inr h) = absurd (no_percent t directives others (codes "---" ++ node) h e f)
     by_directives (inl (g, h)) =
         let i = line_feeds node others (behind_dashes t directives node others h e f) in

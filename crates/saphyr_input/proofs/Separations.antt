@@ -3,6 +3,7 @@ use Rattle.std.proofs.Common.{◌≡◌, ℕ, ◌+◌, ◌<◌, ◌^◌, Bool, t
 use Rattle.std.specs.List.{prefix_len, list_any}
 use Rattle.std.proofs.lemmas.List.Sums.{prefix_len-le-length}
 use Rattle.std.proofs.lemmas.Bool.Decides.{nat_tests}
+use Rattle.saphyr_input.specs.Indicators.{number_sign}
 use Rattle.saphyr_input.specs.Classes as class
 use Rattle.saphyr_input.specs.Separation as separation
 use Rattle.saphyr_input.specs.declared.input.SkipTabs.{SkipTabs}
@@ -19,7 +20,7 @@ module _ (tabs : SkipTabs) (start now : List ℕ) (n c loaded : ℕ)
   told = rw (← ended, ← runs.ran.left, ← runs.read) refl
 
   -- a comment behind the white space
-  pub with_comment : (m : ℕ) → (n ≡ 0 → ⊥) → c ≡ 35 → m ≡ prefix_len class.is_yaml_non_break now
+  pub with_comment : (m : ℕ) → (n ≡ 0 → ⊥) → c ≡ number_sign → m ≡ prefix_len class.is_yaml_non_break now
       → n + m ≡ separation.separation_len tabs start
   with_comment m some hash e =
       let many : nat_eq n 0 ≡ false = grind (arith, nat_tests) in
@@ -27,7 +28,7 @@ module _ (tabs : SkipTabs) (start now : List ℕ) (n c loaded : ℕ)
       rw (told, many, is, e) refl
 
   -- no comment behind the white space
-  pub without_comment : (c ≡ 35 → ⊥) → n ≡ separation.separation_len tabs start
+  pub without_comment : (c ≡ number_sign → ⊥) → n ≡ separation.separation_len tabs start
   without_comment none =
       let other : nat_eq c 35 ≡ false = grind (arith, nat_tests) in
       rw (told, other) (none_added n)

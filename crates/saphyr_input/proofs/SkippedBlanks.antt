@@ -6,6 +6,7 @@ use Rattle.std.specs.Str.{chars}
 use Rattle.std.proofs.lemmas.Bool.Decides.{nat_tests}
 use Rattle.std.proofs.lemmas.List.{length-drop}
 use Rattle.std.proofs.lemmas.List.Sums.{prefix_len-le-length}
+use Rattle.saphyr_input.specs.Classes.{space, tab}
 use Rattle.saphyr_input.specs.Fronts.{IsAsciiClass}
 use Rattle.saphyr_input.specs.Fronts as spec
 use Rattle.saphyr_input.specs.Separation as separation
@@ -36,8 +37,8 @@ pub record SkippedBlanks (t : SkipTabs) (bs : List ℕ) (n : ℕ) (tabs spaces :
 
 pub blanks_are : (t : SkipTabs) (b : Bool) (bs : List ℕ) (n : ℕ) (tabs spaces : Bool) → IsUtf8 bs
     → ((c : ℕ) → spec.is_passed_blank b c ≡ separation.is_skipped t c)
-    → n ≡ prefix_len (spec.is_passed_blank b) bs → tabs ≡ list_any (λ c. c == 9) (take n bs)
-    → spaces ≡ list_any (λ c. c == 32) (take n bs) → SkippedBlanks t bs n tabs spaces
+    → n ≡ prefix_len (spec.is_passed_blank b) bs → tabs ≡ list_any (λ c. c == tab) (take n bs)
+    → spaces ≡ list_any (λ c. c == space) (take n bs) → SkippedBlanks t bs n tabs spaces
 blanks_are t b bs n tabs spaces u same e f g =
     let run : AsciiRun (separation.is_skipped t) bs n = ascii_class_run (separation.is_skipped t)
     (spec.is_passed_blank b) bs

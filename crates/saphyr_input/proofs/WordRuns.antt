@@ -6,6 +6,7 @@ use Rattle.std.specs.Str.{chars}
 use Rattle.std.proofs.lemmas.Bool.Decides.{nat_tests}
 use Rattle.std.proofs.lemmas.List.{drop-drop}
 use Rattle.std.proofs.lemmas.List.Sums.{prefix_len-le-length, prefix_len_passes}
+use Rattle.saphyr_input.specs.Classes.{space}
 use Rattle.saphyr_input.specs.Fronts.{IsAsciiClass, StandsFor}
 use Rattle.saphyr_input.specs.Places.{words_len, spaces_within, TransfersRun, TransfersWords}
 use Rattle.saphyr_input.proofs.Ascii.{PastAscii, past_ascii, ascii_class_run, first_stands, at_drop}
@@ -44,7 +45,7 @@ words_on p q (c ∷ cs) =
 
 -- and go on behind a single space
 pub words_over_space : (p q : Set) (cs : List ℕ) → q (slice_index cs 0) ≡ true
-    → words_len p q (32 ∷ cs) ≡ 1 + words_len p q cs
+    → words_len p q (space ∷ cs) ≡ 1 + words_len p q cs
 unfolding words_len
 words_over_space p q cs h = rw h (either (p 32))
   where
@@ -82,15 +83,15 @@ pub record SpaceFirst (p q : Set) (bs : List ℕ) : Type 0 where
   pub past : PastAscii bs 1
   pub words : words_len p q (chars bs) ≡ 1 + words_len p q (chars (drop 1 bs))
 
-one_byte : (bs : List ℕ) → get_or bs 0 0 ≡ 32 → (k : ℕ) → k < 1 → get_or bs k 0 < 128
+one_byte : (bs : List ℕ) → get_or bs 0 0 ≡ space → (k : ℕ) → k < 1 → get_or bs k 0 < 128
 one_byte bs e zero l = omega (arith, e)
 one_byte bs e (suc k) l = absurd (omega (arith, l))
 
-first_taken : (bs : List ℕ) → 1 ≤ length bs → get_or bs 0 0 ≡ 32 → take 1 bs ≡ 32 ∷ []
+first_taken : (bs : List ℕ) → 1 ≤ length bs → get_or bs 0 0 ≡ space → take 1 bs ≡ space ∷ []
 first_taken [] l e = absurd (omega (arith, l))
 first_taken (b ∷ bs) l e = ap (λ x. x ∷ []) e
 
-pub space_first : (p q : Set) (bs : List ℕ) → IsUtf8 bs → 1 < length bs → get_or bs 0 0 ≡ 32
+pub space_first : (p q : Set) (bs : List ℕ) → IsUtf8 bs → 1 < length bs → get_or bs 0 0 ≡ space
     → ((c : ℕ) → StandsFor (get_or bs 1 0) c → q c ≡ true) → SpaceFirst p q bs
 space_first p q bs u l e leads =
     let s = past_ascii bs 1 u (omega (arith, l)) (one_byte bs e) in

@@ -2,6 +2,7 @@
 use Rattle.std.proofs.Common.{◌≡◌, ℕ, Bool, false, List, [], ◌∷◌, slice_index, Ok, refl, sym, ap, ◌∙◌}
 use Rattle.std.specs.Prelude.{◌+◌, ◌==◌, nat_lt}
 use Rattle.std.specs.List.{prefix_len}
+use Rattle.saphyr_input.specs.Indicators.{number_sign}
 use Rattle.saphyr_input.specs.Classes.{is_bom}
 use Rattle.saphyr_input.specs.Separation.{blank_len, is_skipped}
 use Rattle.saphyr_input.specs.declared.input.SkipTabs.{SkipTabs}
@@ -20,7 +21,7 @@ none_passed s = ap (λ m. let t : Cursor = record { rest = s.rest; mark = m; bla
     (along_none s.mark)
 
 pub nothing_separates : (tabs : SkipTabs) (s t : Cursor) (c : ℕ) → c ≡ slice_index s.rest 0 → t ≡ s
-    → is_skipped tabs c ≡ false → (c == 35) ≡ false → is_bom c ≡ false
+    → is_skipped tabs c ≡ false → (c == number_sign) ≡ false → is_bom c ≡ false
     → separation tabs s ≡ Ok (Result false false, t)
 unfolding separation behind_separation
 nothing_separates tabs s t c first same skipped comment mark =

@@ -5,7 +5,7 @@ use Rattle.std.proofs.lemmas.Bool.{false≢true, eqb-true}
 use Rattle.std.proofs.lemmas.Bool.Decides.{nat_tests}
 use Rattle.std.proofs.lemmas.List.{length-drop}
 use Rattle.saphyr_input.proofs.Basics.Lists.{shows_character}
-use Rattle.saphyr_input.specs.Classes.{is_break}
+use Rattle.saphyr_input.specs.Classes.{is_break, carriage_return, line_feed}
 use Rattle.saphyr_scalar.specs.declared.scalar.position.Marker.{Marker}
 use Rattle.saphyr_scalar.specs.Spelling.LineBreaks.{ends_line}
 use Rattle.saphyr_scalar.specs.Steps.Block.{is_cr_lf, inside_break}
@@ -18,8 +18,8 @@ use Rattle.saphyr_input.proofs.Basics.Booleans.{and_true_left, and_true_right}
 -- what is passed from here on, and from a CR on that stands before, where an LF stands first
 pub record PassesBreak (m : Marker) (t : List ℕ) (r : Cursor) : Type 0 where
   pub here : IsPassed m t r.mark r.rest
-  pub behind_return : (slice_index t 0 == 10) ≡ true → (k : Marker) → next_line m 1 ≡ next_line k 2
-      → IsPassed k (13 ∷ t) r.mark r.rest
+  pub behind_return : (slice_index t 0 == line_feed) ≡ true → (k : Marker) → next_line m 1 ≡ next_line k 2
+      → IsPassed k (carriage_return ∷ t) r.mark r.rest
 
 -- the place behind one character, which may end its line
 abbrev pub behind_one : Marker → ℕ → List ℕ → Marker
@@ -73,7 +73,8 @@ feed_here m c cs r e b p =
       behind_return = λ f k q. fed k (eqb-true c 10 f) q;
     }
   where
-    fed : (k : Marker) → c ≡ 10 → next_line m 1 ≡ next_line k 2 → IsPassed k (13 ∷ c ∷ cs) r.mark r.rest
+    fed : (k : Marker) → c ≡ line_feed → next_line m 1 ≡ next_line k 2
+        → IsPassed k (carriage_return ∷ c ∷ cs) r.mark r.rest
     fed k f q =
         let there : IsPassed (next_line k 2) cs r.mark r.rest = subst (λ (j : Marker). IsPassed j cs r.mark r.rest) q
         p in

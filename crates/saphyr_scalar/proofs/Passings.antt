@@ -2,6 +2,7 @@
 use Rattle.std.proofs.Common.{◌≡◌, ℕ, suc, ◌<◌, ◌≤◌, Bool, true, false, List, [], ◌∷◌, ◌++◌, length, length-drop, drop, slice_index, refl, sym, ap, ◌∙◌, arith, subst, nat_eq, IsTrue, inl, inr, ◌⊎◌}
 use Rattle.std.specs.Prelude.{◌==◌}
 use Rattle.std.proofs.lemmas.Bool.Decides.{nat_tests}
+use Rattle.saphyr_input.specs.Indicators.{backslash}
 use Rattle.saphyr_input.specs.Classes.{is_break, is_hex}
 use Rattle.saphyr_input.specs.Places.{next_2_are}
 use Rattle.saphyr_scalar.specs.Spelling.Tag.{AreIn}
@@ -13,7 +14,7 @@ use Rattle.saphyr_scalar.proofs.Moving.{along_more, along_none}
 use Rattle.saphyr_input.proofs.Basics.Booleans.{clash, by_test, either}
 
 pub letter_passed : (m : Marker) (e : ℕ) (t : List ℕ) (n : Marker) (x : List ℕ) → is_break e ≡ false
-    → IsPassed (along m 2) t n x → IsPassed m (92 ∷ e ∷ t) n x
+    → IsPassed (along m 2) t n x → IsPassed m (backslash ∷ e ∷ t) n x
 letter_passed m e t n x h p =
     character m 92 (e ∷ t) n x refl
     (character (along m 1) e t n x h (subst (λ (k : Marker). IsPassed k t n x) (sym (along_more m 1 1 2 refl)) p))

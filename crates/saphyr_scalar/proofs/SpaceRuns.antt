@@ -5,6 +5,7 @@ use Rattle.std.specs.Prelude.{◌==◌, nat_lt, Option, Some, None}
 use Rattle.std.specs.List.{prefix_len}
 use Rattle.std.proofs.lemmas.Bool.Decides.{nat_tests}
 use Rattle.std.proofs.lemmas.List.Sums.{prefix_len-le-length}
+use Rattle.saphyr_input.specs.Classes.{space}
 use Rattle.saphyr_input.specs.Places.{spaces_within}
 use Rattle.saphyr_input.proofs.WordRuns.{run_ends}
 use Rattle.saphyr_scalar.specs.declared.scalar.position.Marker.{Marker}
@@ -33,7 +34,7 @@ spaces_shorter most s u e = rw (ap (λ (x : Cursor). x.rest) e, length-drop) (om
 -- where a space goes without notice, for so many spaces.
 over_run : {X : Type 0} (read : Marker → List ℕ → X) (fits : Marker → ℕ → Type 0)
     → ((m : Marker) (n : ℕ) → fits m (suc n) → fits (along m 1) n)
-    → ((m : Marker) (n : ℕ) (cs : List ℕ) → fits m (suc n) → read (along m 1) cs ≡ read m (32 ∷ cs))
+    → ((m : Marker) (n : ℕ) (cs : List ℕ) → fits m (suc n) → read (along m 1) cs ≡ read m (space ∷ cs))
     → (m : Marker) (n : ℕ) (xs : List ℕ) → fits m n → n ≤ prefix_len is_space xs
     → read (along m n) (drop n xs) ≡ read m xs
 over_run read fits next one m zero xs f l = ap (λ x. read x xs) (along_none m)
@@ -57,7 +58,7 @@ few most xs = omega arith
 -- behind a plain scalar's word
 
 lines_space : (i : ℕ) (a : Marker) (t : Bool) (f : List ℕ) (m : Marker) (cs : List ℕ)
-    → lines i a t f (along m 1) cs ≡ lines i a t f m (32 ∷ cs)
+    → lines i a t f (along m 1) cs ≡ lines i a t f m (space ∷ cs)
 lines_space i a true f m cs = sym (lines_blank i a true f m 32 cs refl)
 lines_space i a false f m cs = sym (lines_blank i a false f m 32 cs refl)
 

@@ -2,6 +2,7 @@
 use Rattle.std.proofs.Common.{◌≡◌, ℕ, ◌+◌, ◌≤◌, ◌<◌, inl, inr, Bool, true, List, [], ◌∷◌, ◌++◌, length, drop, Ok, ap, ◌∙◌, arith}
 use Rattle.std.specs.Prelude.{◌&&◌, slice_index, not, ◌==◌, nat_lt, nat_le, max, Option, Some, None, unwrap_or, codes}
 use Rattle.std.proofs.lemmas.List.{length-append}
+use Rattle.saphyr_input.specs.Indicators.{exclamation_mark, percent_sign}
 use Rattle.saphyr_input.specs.Classes.{is_bom, is_blank, is_break, is_breakz, is_z, is_digit, is_yaml_non_break, tab}
 use Rattle.saphyr_input.specs.Separation.{separation_len, is_bare_comment}
 use Rattle.saphyr_input.specs.declared.input.SkipTabs.{SkipTabs}
@@ -205,7 +206,7 @@ tag_some t handle suffix (inl alone) = some_behind_first 33 t [] alone.0
 tag_some t handle suffix (inr (inl verbatim)) = some_behind_first 33 t (60 ∷ (verbatim.0 ++ codes ">")) verbatim.3
 tag_some t handle suffix (inr (inr short)) = handle_some handle short.0 t short.1 short.4
 
-pub tag_takes : (in_flow : Bool) (s t : Cursor) (handle suffix : List ℕ) → slice_index s.rest 0 ≡ 33
+pub tag_takes : (in_flow : Bool) (s t : Cursor) (handle suffix : List ℕ) → slice_index s.rest 0 ≡ exclamation_mark
     → tag in_flow s ≡ Ok (handle, suffix, t) → length t.rest < length s.rest
 tag_takes in_flow s t handle suffix opening e =
     let spelled = spells_tag in_flow s t handle suffix opening e in
@@ -219,7 +220,7 @@ directive_some (version major minor) t is = some_behind_first 37 t _ is.6
 directive_some (tag_prefix handle prefix) t is = some_behind_first 37 t _ is.2.7
 directive_some (reserved name) t is = some_behind_first 37 t _ is.1.7
 
-pub directive_takes : (s t : Cursor) (d : ReadDirective) (end : Marker) → slice_index s.rest 0 ≡ 37
+pub directive_takes : (s t : Cursor) (d : ReadDirective) (end : Marker) → slice_index s.rest 0 ≡ percent_sign
     → directive s ≡ Ok (d, end, t) → length t.rest < length s.rest
 directive_takes s t d end opening e =
     let spelled = spells_directive s t d end opening e in

@@ -1,7 +1,8 @@
 -- How texts begin, and sets that all characters of a text are in.
 use Rattle.std.proofs.Common.{◌≡◌, ◌≢◌, ℕ, ◌⊎◌, Bool, true, false, List, [], ◌∷◌, ◌++◌, inl, inr, refl, sym, ◌∙◌, codes, ap, subst, slice_index, IsTrue, append_assoc}
 use Rattle.std.specs.Prelude.{◌==◌, not}
-use Rattle.saphyr_input.specs.Classes.{is_blank}
+use Rattle.saphyr_input.specs.Indicators.{number_sign}
+use Rattle.saphyr_input.specs.Classes.{is_blank, line_feed}
 use Rattle.saphyr_input.proofs.Basics.Booleans.{clash}
 use Rattle.saphyr_scalar.specs.Spelling.Tag.{AreIn}
 use Rattle.saphyr_scalar.specs.Spelling.Spaces.{joined_pieces, AreEach, IsFillerText, IsFillerLine, IsFiller}
@@ -52,7 +53,8 @@ lacks set c t a b n e h = let f : set c ≡ true = (behind_in set t a (c ∷ b) 
 abbrev pub IsFirst : ℕ → Type 0
 IsFirst c = IsTrue (is_blank c) ⊎ ((c ≡ 35) ⊎ (c ≡ 10))
 
-pub no_first : (d c : ℕ) (rest cs : List ℕ) → is_blank d ≡ false → d ≢ 35 → d ≢ 10 → IsFirst c → d ∷ rest ≡ c ∷ cs
+pub no_first : (d c : ℕ) (rest cs : List ℕ) → is_blank d ≡ false → d ≢ number_sign → d ≢ line_feed → IsFirst c
+    → d ∷ rest ≡ c ∷ cs
     → ⊥
 no_first d c rest cs x y z (inl e) f = absurd (clash (is_blank d) (ap is_blank (sym (heads d c rest cs f)) ∙ e) x)
 no_first d c rest cs x y z (inr (inl e)) f = y (sym (heads d c rest cs f) ∙ e)
@@ -91,7 +93,7 @@ behind_filler t a b h d = split t a b d (filler a h)
     split t a b d (inr h) = inr (front_of IsFirst a b t h d)
 
 -- filler without a line feed is nothing
-pub no_feed_no_filler : (t : List ℕ) → AreIn (λ c. not (c == 10)) t → IsFiller t → t ≡ []
+pub no_feed_no_filler : (t : List ℕ) → AreIn (λ c. not (c == line_feed)) t → IsFiller t → t ≡ []
 no_feed_no_filler t h ([], each, e) = e
 no_feed_no_filler t h (piece ∷ pieces, (line, each), e) =
     absurd (lacks (λ c. not (c == 10)) 10 t line.0 (joined_pieces pieces) refl

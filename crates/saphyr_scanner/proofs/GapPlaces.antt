@@ -1,7 +1,7 @@
 -- What stands between two tokens is refused at a place of it.
 use Rattle.std.proofs.Common.{◌≡◌, ℕ, Bool, true, false, List, [], ◌∷◌, Result, Ok, Err, refl, sym, ap, subst, inl, inr}
 use Rattle.std.specs.Prelude.{◌&&◌, ◌||◌, ◌==◌, not, slice_index}
-use Rattle.saphyr_input.specs.Classes.{is_bom, is_blank, is_break, is_yaml_non_break, is_z}
+use Rattle.saphyr_input.specs.Classes.{is_bom, is_blank, is_break, is_yaml_non_break, is_z, carriage_return, line_feed}
 use Rattle.saphyr_scalar.specs.declared.scalar.position.Marker.{Marker}
 use Rattle.saphyr_scalar.specs.declared.scalar.fault.Refusal.{Refusal}
 use Rattle.saphyr_scalar.specs.Views.Cursor.{along, next_line}
@@ -33,8 +33,8 @@ stop_refused m blank broke tabbed t =
 record Places (l : ℕ) (t : List ℕ) (m : Marker) (blank broke tabbed : Bool) : Type 0 where
   between : Refused m t (end_of_gap l m blank broke tabbed t)
   inside : Refused m t (end_of_gap_in_comment l m blank broke tabbed t)
-  behind_return : (slice_index t 0 == 10) ≡ true → (k : Marker) → m ≡ along k 1
-      → Refused k (13 ∷ t) (end_of_gap l m blank broke tabbed t)
+  behind_return : (slice_index t 0 == line_feed) ≡ true → (k : Marker) → m ≡ along k 1
+      → Refused k (carriage_return ∷ t) (end_of_gap l m blank broke tabbed t)
 
 all_places : (l : ℕ) (t : List ℕ) (m : Marker) (blank broke tabbed : Bool) → Places l t m blank broke tabbed
 all_places l [] m blank broke tabbed =
@@ -84,9 +84,9 @@ all_places l (c ∷ cs) m blank broke tabbed =
       behind_return = λ e k q. fed c (eqb-true c 10 e) k q (all_places l cs (next_line m 1) true true false).between;
     }
   where
-    fed : (d : ℕ) → d ≡ 10 → (k : Marker) → m ≡ along k 1
+    fed : (d : ℕ) → d ≡ line_feed → (k : Marker) → m ≡ along k 1
         → Refused (next_line m 1) cs (end_of_gap l (next_line m 1) true true false cs)
-        → Refused k (13 ∷ d ∷ cs) (end_of_gap l m blank broke tabbed (d ∷ cs))
+        → Refused k (carriage_return ∷ d ∷ cs) (end_of_gap l m blank broke tabbed (d ∷ cs))
     fed d e k q h =
         subst (λ x. Refused k (13 ∷ x ∷ cs) (end_of_gap l m blank broke tabbed (x ∷ cs))) (sym e)
         (refused_map k (13 ∷ 10 ∷ cs) (next_line m 1) cs (end_of_gap l (next_line m 1) true true false cs)

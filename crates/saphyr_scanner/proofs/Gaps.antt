@@ -3,6 +3,7 @@ use Rattle.std.proofs.Common.{◌≡◌, ℕ, ◌+◌, ◌≤◌, Bool, true, fa
 use Rattle.std.specs.Prelude.{◌==◌, ◌||◌, nat_lt}
 use Rattle.std.specs.List.{prefix_len}
 use Rattle.std.proofs.lemmas.Bool.Decides.{nat_tests}
+use Rattle.saphyr_input.specs.Indicators.{number_sign}
 use Rattle.saphyr_input.specs.Classes.{is_blank, is_break, is_bom, is_yaml_non_break}
 use Rattle.saphyr_input.specs.Separation.{blank_len, found_blanks}
 use Rattle.saphyr_input.specs.declared.input.SkipTabs.TheVariants.{Yes}
@@ -62,11 +63,11 @@ behind_sign l (c ∷ cs) m blank broke tabbed =
         (drop (prefix_len is_yaml_non_break (c ∷ cs)) (c ∷ cs)) = rw e refl in
         none ∙ ap (λ (k : Marker). end_of_gap l k blank broke tabbed (c ∷ cs)) (sym (along_none m)) ∙ last
 
-on_comment : (l : ℕ) (broke tabbed : Bool) (s : Cursor) → get_or s.rest 0 0 ≡ 35
+on_comment : (l : ℕ) (broke tabbed : Bool) (s : Cursor) → get_or s.rest 0 0 ≡ number_sign
     → gap_at l broke tabbed (pass_comment s) ≡ gap_at l broke tabbed s
 on_comment l broke tabbed s h = go s.rest h
   where
-    go : (t : List ℕ) → get_or t 0 0 ≡ 35
+    go : (t : List ℕ) → get_or t 0 0 ≡ number_sign
         → end_of_gap l (along s.mark (prefix_len is_yaml_non_break t)) s.blank_so_far broke tabbed
         (drop (prefix_len is_yaml_non_break t) t) ≡ end_of_gap l s.mark s.blank_so_far broke tabbed t
     go [] e = absurd (omega arith)
@@ -76,7 +77,7 @@ on_comment l broke tabbed s h = go s.rest h
 
 -- the comment that is read is passed
 pub comment_passed : (l : ℕ) (broke tabbed : Bool) (before read after : Cursor) (all : Result GapEnd Refusal) (c : ℕ)
-    → c ≡ get_or before.rest 0 0 → read ≡ before → after ≡ pass_comment read → c ≡ 35
+    → c ≡ get_or before.rest 0 0 → read ≡ before → after ≡ pass_comment read → c ≡ number_sign
     → gap_at l broke tabbed before ≡ all → gap_at l broke tabbed after ≡ all
 comment_passed l broke tabbed before read after all c first same passed sign known =
     rw (passed, same) (on_comment l broke tabbed before (sym first ∙ sign) ∙ known)
@@ -150,12 +151,13 @@ behind_line_sign (c ∷ cs) m blank space =
         none ∙ ap (λ (k : Marker). end_of_spaces k blank space (c ∷ cs)) (sym (along_none m)) ∙ last
 
 pub line_comment_passed : (space : Bool) (before read after : Cursor) (all : SpacesEnd) (c : ℕ)
-    → c ≡ get_or before.rest 0 0 → read ≡ before → after ≡ pass_comment read → c ≡ 35 → spaces_at space before ≡ all
+    → c ≡ get_or before.rest 0 0 → read ≡ before → after ≡ pass_comment read → c ≡ number_sign
+    → spaces_at space before ≡ all
     → spaces_at space after ≡ all
 line_comment_passed space before read after all c first same passed sign known =
     rw (passed, same) (go before.rest (sym first ∙ sign) ∙ known)
   where
-    go : (t : List ℕ) → get_or t 0 0 ≡ 35
+    go : (t : List ℕ) → get_or t 0 0 ≡ number_sign
         → end_of_spaces (along before.mark (prefix_len is_yaml_non_break t)) before.blank_so_far space
         (drop (prefix_len is_yaml_non_break t) t) ≡ end_of_spaces before.mark before.blank_so_far space t
     go [] e = absurd (omega arith)
@@ -164,7 +166,7 @@ line_comment_passed space before read after all c first same passed sign known =
         ∙ spaces_further before.mark before.blank_so_far space (prefix_len is_yaml_non_break cs) 35 cs))
 
 gap_of_nothing : (least : ℕ) (m : Marker) (blank : Bool) (text : List ℕ) → is_blank (slice_index text 0) ≡ false
-    → is_break (slice_index text 0) ≡ false → (slice_index text 0 == 35) ≡ false
+    → is_break (slice_index text 0) ≡ false → (slice_index text 0 == number_sign) ≡ false
     → end_of_gap least m blank false false text
     ≡ Ok (record { cursor = record { rest = text; mark = m; blank_so_far = blank }; broke = false })
 unfolding stop
@@ -176,7 +178,7 @@ gap_of_nothing least m blank (c ∷ cs) a b e =
 
 -- where a token stands right here, nothing is passed
 pub nothing_passed : (least : ℕ) (s t : Cursor) (c : ℕ) → c ≡ slice_index s.rest 0 → t ≡ s → is_blank c ≡ false
-    → is_break c ≡ false → (c == 35) ≡ false → whole_gap least s ≡ Ok (record { cursor = t; broke = false })
+    → is_break c ≡ false → (c == number_sign) ≡ false → whole_gap least s ≡ Ok (record { cursor = t; broke = false })
 nothing_passed least s t c e same a b d =
     gap_of_nothing least s.mark s.blank_so_far s.rest (rw (sym e) a) (rw (sym e) b) (rw (sym e) d)
     ∙ ap (λ (u : Cursor). Ok (record { cursor = u; broke = false })) (sym same)
@@ -193,7 +195,7 @@ pub no_tab_indentation : (m : Marker) (blank : Bool) (c : ℕ) → (is_tab_inden
 no_tab_indentation m blank c = grind (arith, nat_tests)
 
 -- behind blanks stands neither a comment nor a byte order mark
-pub separated : (text : List ℕ) (t : Cursor) → (slice_index text 0 == 35) ≡ false
+pub separated : (text : List ℕ) (t : Cursor) → (slice_index text 0 == number_sign) ≡ false
     → is_bom (slice_index t.rest 0) ≡ false → behind_separation Yes text t ≡ Ok (found_blanks Yes text, t)
 unfolding behind_separation
 separated text t sign mark = rw (mark, sign, and_false (nat_lt 0 t.mark.col), and_false (blank_len Yes text == 0)) refl

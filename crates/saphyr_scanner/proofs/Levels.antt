@@ -10,6 +10,7 @@ use Rattle.saphyr_scanner.specs.declared.engine.level.Level as declared
 use Rattle.saphyr_scanner.specs.Steps.Level.{Candidate, Level, holds}
 use Rattle.saphyr_scanner.specs.Views.Engine.{level}
 use Rattle.saphyr_scanner.specs.Steps.Fetch.{any_holds}
+use Rattle.saphyr_scanner.specs.Grammar.Layout.{most_open}
 use Rattle.saphyr_input.proofs.Basics.Booleans.{or_assoc}
 use Rattle.std.proofs.Math.Bool.{or-false}
 
@@ -90,5 +91,5 @@ abbrev pub level_of : Context → Option Candidate → Level
 level_of x k = record { context = x; key = k }
 
 -- one more may be opened
-pub not_full : (n : ℕ) → n < 255 → nat_le 255 n ≡ false
+pub not_full : (n : ℕ) → n < most_open → nat_le most_open n ≡ false
 not_full n h = grind (arith, nat_tests)

@@ -18,6 +18,7 @@ use Rattle.saphyr_scalar.proofs.Properties.TagsSpelled.{cut_at}
 use Rattle.saphyr_scanner.specs.TokensTaken as taken
 use Rattle.saphyr_scanner.specs.TokensTaken.{IsPassedOver, AreApart, LiesOnLine}
 use Rattle.std.proofs.lemmas.Bool.{eqb-true}
+use Rattle.saphyr_input.specs.Indicators.{number_sign}
 use Rattle.saphyr_input.proofs.Basics.Booleans.{by_test}
 use Rattle.saphyr_scalar.proofs.Given.{Given}
 use Rattle.saphyr_input.proofs.Basics.Lists.{run_ends}
@@ -53,7 +54,8 @@ empty_tail m t = record {
 }
 
 comment_apart : (m : Marker) (words t : List ℕ) → AreIn is_yaml_non_break words
-    → is_yaml_non_break (slice_index t 0) ≡ false → IsPassedOver m (35 ∷ (words ++ t)) (along m (1 + length words)) t
+    → is_yaml_non_break (slice_index t 0) ≡ false
+    → IsPassedOver m (number_sign ∷ (words ++ t)) (along m (1 + length words)) t
 comment_apart m words t are e =
     taken.comment m words t (along m (1 + length words)) t are e (taken.nothing (along m (1 + length words)) t)
 
@@ -142,7 +144,8 @@ with_comment m xs e =
     (λ _. tail_from m xs 0 (inl refl) (λ w. absurd (let z : [] ≡ 35 ∷ w.0 = w.3 in cc)) refl)
   where
     one_more : (ys : List ℕ)
-        → take (1 + prefix_len is_yaml_non_break ys) (35 ∷ ys) ≡ 35 ∷ take (prefix_len is_yaml_non_break ys) ys
+        → take (1 + prefix_len is_yaml_non_break ys) (number_sign ∷ ys)
+        ≡ number_sign ∷ take (prefix_len is_yaml_non_break ys) ys
     one_more ys = let one : 1 + prefix_len is_yaml_non_break ys ≡ suc (prefix_len is_yaml_non_break ys) =
         omega arith in rw one refl
 

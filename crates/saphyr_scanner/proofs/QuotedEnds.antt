@@ -3,7 +3,7 @@ use Rattle.std.proofs.Common.{◌≡◌, ℕ, Bool, true, false, List, [], ◌�
 use Rattle.std.specs.Prelude.{◌==◌, ◌||◌}
 use Rattle.std.proofs.lemmas.Bool.Decides.{nat_tests}
 use Rattle.saphyr_input.specs.Classes.{is_blank, is_bom, is_break, is_breakz}
-use Rattle.saphyr_input.specs.Indicators.{colon, comma, right_brace, right_bracket}
+use Rattle.saphyr_input.specs.Indicators.{colon, comma, right_brace, right_bracket, number_sign}
 use Rattle.saphyr_input.specs.Separation.{is_skipped}
 use Rattle.saphyr_input.specs.declared.input.SkipTabs.TheVariants as tabs
 use Rattle.saphyr_scalar.specs.declared.scalar.position.Marker.{Marker}
@@ -26,7 +26,7 @@ is_no_blank x e = grind (arith, nat_tests)
 is_no_break : (x : ℕ) → is_entry_end x ≡ true → is_break x ≡ false
 is_no_break x e = grind (arith, nat_tests)
 
-is_no_sign : (x : ℕ) → is_entry_end x ≡ true → (x == 35) ≡ false
+is_no_sign : (x : ℕ) → is_entry_end x ≡ true → (x == number_sign) ≡ false
 is_no_sign x e = grind (arith, nat_tests)
 
 is_no_bom : (x : ℕ) → is_entry_end x ≡ true → is_bom x ≡ false

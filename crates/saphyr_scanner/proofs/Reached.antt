@@ -1,7 +1,7 @@
 -- What is passed leads from a place to a later one.
 use Rattle.std.proofs.Common.{◌≡◌, ℕ, ◌+◌, ◌⊎◌, Bool, true, false, List, [], ◌∷◌, ◌++◌, length, drop, refl, sym, ◌∙◌, arith, subst, inl, inr}
 use Rattle.std.specs.Prelude.{◌&&◌, ◌||◌, ◌==◌, not, slice_index}
-use Rattle.saphyr_input.specs.Classes.{is_break, is_blank, is_yaml_non_break}
+use Rattle.saphyr_input.specs.Classes.{is_break, is_blank, is_yaml_non_break, carriage_return, line_feed}
 use Rattle.saphyr_scalar.specs.declared.scalar.position.Marker.{Marker}
 use Rattle.saphyr_scalar.specs.Views.Cursor.{along, next_line}
 use Rattle.saphyr_scalar.specs.Passing as passing
@@ -78,14 +78,14 @@ Uncut (c ∷ []) u = (is_break c ≡ false) ⊎ (is_break (slice_index u 0) ≡ 
 Uncut (c ∷ d ∷ cs) u = Uncut (d ∷ cs) u
 
 pub single : (m : Marker) (c : ℕ) (t : List ℕ) (n : Marker) (u : List ℕ) → is_break c ≡ true
-    → ((c == 13) && (slice_index t 0 == 10)) ≡ false → IsReached (next_line m 1) t n u
+    → ((c == carriage_return) && (slice_index t 0 == line_feed)) ≡ false → IsReached (next_line m 1) t n u
     → IsReached m (c ∷ t) n u
 single m c t n u b e p =
     let one : break_len (c ∷ t) ≡ 1 = rw e refl in
     taken.line_break m (c ∷ t) n u b (subst (λ l. IsReached (next_line m l) (drop l (c ∷ t)) n u) (sym one) p)
 
 pub double : (m : Marker) (t : List ℕ) (n : Marker) (u : List ℕ) → IsReached (next_line (along m 1) 1) t n u
-    → IsReached m (13 ∷ 10 ∷ t) n u
+    → IsReached m (carriage_return ∷ line_feed ∷ t) n u
 double m t n u p =
     let i : m.index + 1 + 1 ≡ m.index + 2 = omega arith in
     let same : next_line (along m 1) 1 ≡ next_line m 2 = rw i refl in
@@ -134,7 +134,7 @@ piece_reached m (c ∷ d ∷ cs) u h =
     less [] k = tt
     less (x ∷ xs) k = k
 
-    two : (x y : ℕ) → x ≡ 13 → y ≡ 10
+    two : (x y : ℕ) → x ≡ carriage_return → y ≡ line_feed
         → IsReached (next_line (along m 1) 1) (cs ++ u) (end_of_text (next_line (along m 1) 1) cs) u
         → IsReached m (x ∷ y ∷ (cs ++ u)) (end_of_text (along m 1) (y ∷ cs)) u
     two x y e f p =

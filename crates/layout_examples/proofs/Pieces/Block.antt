@@ -2,6 +2,8 @@
 use Rattle.std.proofs.Common.{ℕ, suc, ◌+◌, ◌≤◌, false, not, ◌==◌, List, [], ◌∷◌, ◌++◌, length, inl, inr, refl, arith}
 use Rattle.std.proofs.Common.{codes, IsTrue, IsFalse}
 use Rattle.std.specs.List.{list_all}
+use Rattle.saphyr_input.specs.Indicators.{colon, hyphen, question_mark}
+use Rattle.saphyr_input.specs.Classes.{line_feed}
 use Rattle.saphyr_scalar.specs.Steps.BlockRead.{spaces}
 use Rattle.saphyr_scanner.specs.Grammar.Forest.{Properties, no_properties, Node, Alias, Scalar, Seq, Map, Nodes, NoNode}
 use Rattle.saphyr_scanner.specs.Grammar.Forest.{MoreNodes, Pairs, NoPair, MorePairs, left_out}
@@ -37,7 +39,7 @@ flow {room} {node} {place} {gap} {t} {end} {behind} g h e = record {
 
 -- a word of one letter behind an indicator, up to the end of its line
 pub line : {c room : ℕ} {place : Position} {behind : List ℕ} → IsLetter c
-    → BlockText room (plain_node (c ∷ [])) place (32 ∷ c ∷ 10 ∷ []) behind
+    → BlockText room (plain_node (c ∷ [])) place (32 ∷ c ∷ line_feed ∷ []) behind
 line l = flow space (word l) feed
 
 -- the same at the text's end
@@ -107,13 +109,13 @@ sequence {m = m} {lead = lead} {t} l h = record { holds = inr (m, lead, t, l.hol
 
 pub dash : {room m : ℕ} {node : Node} {nodes : Nodes} {entry others behind : List ℕ}
     → BlockText room node (BehindDash m) entry (others ++ behind) → MoreEntries room nodes m others behind
-    → Entries room (MoreNodes node nodes) m (45 ∷ (entry ++ others)) behind
+    → Entries room (MoreNodes node nodes) m (hyphen ∷ (entry ++ others)) behind
 dash {entry = entry} {others} h g = record { holds = (entry, others, h.holds, g.holds, refl) }
 
 -- a further entry behind filler
 pub next_dash : {room m : ℕ} {node : Node} {nodes : Nodes} {lines entry others behind : List ℕ} → Filler lines
     → BlockText room node (BehindDash m) entry (others ++ behind) → MoreEntries room nodes m others behind
-    → MoreEntries room (MoreNodes node nodes) m ((lines ++ spaces m) ++ (45 ∷ (entry ++ others))) behind
+    → MoreEntries room (MoreNodes node nodes) m ((lines ++ spaces m) ++ (hyphen ∷ (entry ++ others))) behind
 next_dash {m = m} {lines = lines} {entry} {others} f h g = record {
   holds = (lines ++ spaces m, entry, others, (lines, f.holds, refl), h.holds, g.holds, refl);
 }
@@ -126,7 +128,7 @@ no_dash = record { holds = refl }
 -- a key on one line, with spaces before its colon or none
 pub record KeyOnLine (room : ℕ) (key : Node) (m : ℕ) (t between : List ℕ) : Type 0 where
   pub text : KeyText room key false (suc m) t between
-  pub on_line : IsTrue (list_all (λ c. not (c == 10)) t)
+  pub on_line : IsTrue (list_all (λ c. not (c == line_feed)) t)
   pub short : length (t ++ between) ≤ 1024
 
 pub letter_key : {c room m : ℕ} {between : List ℕ} → IsLetter c → length (c ∷ between) ≤ 1024
@@ -167,7 +169,7 @@ no_pair = record { holds = refl }
 -- a key, its colon right behind it, and a value
 pub pair_by_colon : {room m : ℕ} {key value : Node} {t v behind : List ℕ} → KeyOnLine room key m t []
     → BlockText room value (BehindKey m) v behind → IsTrue (not (needs_separation key))
-    → BlockPair room key value m (t ++ (58 ∷ v)) behind
+    → BlockPair room key value m (t ++ (colon ∷ v)) behind
 pair_by_colon {t = t} {v} k h n = record {
   holds = inl (
     t,
@@ -185,7 +187,7 @@ pair_by_colon {t = t} {v} k h n = record {
 
 -- the same with a space before the colon
 pub colon_apart : {room m : ℕ} {key value : Node} {t v behind : List ℕ} → KeyOnLine room key m t (codes " ")
-    → BlockText room value (BehindKey m) v behind → BlockPair room key value m (t ++ (32 ∷ 58 ∷ v)) behind
+    → BlockText room value (BehindKey m) v behind → BlockPair room key value m (t ++ (32 ∷ colon ∷ v)) behind
 colon_apart {t = t} {v} k h = record {
   holds = inl (
     t,
@@ -204,11 +206,11 @@ colon_apart {t = t} {v} k h = record {
 -- one letter, its colon, and a value
 pub letter : {c room m : ℕ} {value : Node} {v behind : List ℕ} → IsLetter c
     → BlockText room value (BehindKey m) v behind
-    → BlockPair room (plain_node (c ∷ [])) value m (c ∷ 58 ∷ v) behind
+    → BlockPair room (plain_node (c ∷ [])) value m (c ∷ colon ∷ v) behind
 letter l h = pair_by_colon (letter_key l (omega arith)) h refl
 
 pub asked : {room m : ℕ} {key : Node} {t behind : List ℕ} → BlockText room key (BehindMark m) t behind
-    → IsBehindQuestion t behind → BlockPair room key left_out m (63 ∷ t) behind
+    → IsBehindQuestion t behind → BlockPair room key left_out m (question_mark ∷ t) behind
 asked {t = t} h q = record { holds = inr (inl (t, refl, q, h.holds, refl)) }
 
 -- a `?` and a key, and behind filler a `:` and a value
@@ -216,7 +218,7 @@ pub asked_pair : {room m : ℕ} {key value : Node} {t lines v behind : List ℕ}
     → BlockText room key (BehindMark m) t ((lines ++ (spaces m ++ codes ":")) ++ (v ++ behind)) → Filler lines
     → BlockText room value (BehindMark m) v behind
     → IsBehindQuestion t ((lines ++ (spaces m ++ codes ":")) ++ (v ++ behind))
-    → BlockPair room key value m (63 ∷ (t ++ ((lines ++ (spaces m ++ codes ":")) ++ v))) behind
+    → BlockPair room key value m (question_mark ∷ (t ++ ((lines ++ (spaces m ++ codes ":")) ++ v))) behind
 asked_pair {m = m} {t = t} {lines} {v} k f h q = record {
   holds = inr (inr (t, lines ++ (spaces m ++ codes ":"), v, q, k.holds, (lines, f.holds, refl), h.holds, refl));
 }

@@ -2,7 +2,8 @@
 use Rattle.std.proofs.Common.{◌≡◌, ◌≢◌, ℕ, zero, suc, ◌<◌, ◌≤◌, Bool, true, false, List, [], ◌∷◌, ◌++◌, slice_index}
 use Rattle.std.proofs.Common.{inl, inr, refl, sym, arith, codes, ap, subst}
 use Rattle.std.proofs.lemmas.List.{append_assoc}
-use Rattle.saphyr_input.specs.Classes.{is_one_of, is_z}
+use Rattle.saphyr_input.specs.Indicators.{greater_than, vertical_bar}
+use Rattle.saphyr_input.specs.Classes.{is_one_of, is_z, line_feed, tab}
 use Rattle.scalar_values.specs.declared.block.BlockStyle.TheVariants as block
 use Rattle.scalar_values.specs.declared.block.Chomping.{Chomping}
 use Rattle.scalar_values.specs.declared.block.Chomping.TheVariants.{Clip}
@@ -38,9 +39,10 @@ ends i n others less none z = record {
 -- a literal scalar behind an indicator and a space
 pub literal_scalar : {room : ℕ} {place : Position} {value others behind : List ℕ} (i n : ℕ) (chomping : Chomping)
     (lines : List Line) (t body : List ℕ)
-    → (s : IsBlockScalar (indent_at place) i n chomping lines ((124 ∷ t) ++ behind) body others) → s.behind ≡ behind
+    → (s : IsBlockScalar (indent_at place) i n chomping lines ((vertical_bar ∷ t) ++ behind) body others)
+    → s.behind ≡ behind
     → IsBehindScalar (indent_at place) i behind → value ≡ lines_value block.Literal chomping true lines
-    → BlockText room (Scalar no_properties Literal value) place (32 ∷ 124 ∷ t) behind
+    → BlockText room (Scalar no_properties Literal value) place (32 ∷ vertical_bar ∷ t) behind
 literal_scalar {place = place} {others = others} i n chomping lines t body s e b v = record {
   holds = inr (inr (
     codes " ",
@@ -55,9 +57,10 @@ literal_scalar {place = place} {others = others} i n chomping lines t body s e b
 
 pub folded_scalar : {room : ℕ} {place : Position} {p : Properties} {value front others behind : List ℕ} (i n : ℕ)
     (chomping : Chomping) (lines : List Line) (t body : List ℕ) → Front p front
-    → (s : IsBlockScalar (indent_at place) i n chomping lines ((62 ∷ t) ++ behind) body others) → s.behind ≡ behind
+    → (s : IsBlockScalar (indent_at place) i n chomping lines ((greater_than ∷ t) ++ behind) body others)
+    → s.behind ≡ behind
     → IsBehindScalar (indent_at place) i behind → value ≡ lines_value block.Folded chomping true lines
-    → BlockText room (Scalar p Folded value) place ((32 ∷ front) ++ (32 ∷ 62 ∷ t)) behind
+    → BlockText room (Scalar p Folded value) place ((32 ∷ front) ++ (32 ∷ greater_than ∷ t)) behind
 folded_scalar {place = place} {front = front} {others = others} i n chomping lines t body h s e b v = record {
   holds = inr (inr (
     codes " ",
@@ -95,6 +98,6 @@ literal_a {room} {place} i n others least less none z b =
     × (s.behind ≡ spaces n ++ others)) same (scalar, refl) in
     literal_scalar i n Clip (Content (codes "a") ∷ []) (10 ∷ (spaces i ++ codes "a\n")) body there.0 there.1 b refl
   where
-    no_tab : (i : ℕ) → slice_index (spaces i ++ (97 ∷ 10 ∷ (spaces n ++ others))) 0 ≢ 9
+    no_tab : (i : ℕ) → slice_index (spaces i ++ (97 ∷ line_feed ∷ (spaces n ++ others))) 0 ≢ tab
     no_tab zero e = omega arith
     no_tab (suc j) e = omega arith

@@ -3,6 +3,8 @@ use Rattle.std.proofs.Common.{◌≡◌, ◌≢◌, ℕ, suc, Bool, true, false,
 use Rattle.std.proofs.Common.{◌⊎◌, codes, ap, IsTrue}
 use Rattle.std.specs.List.{list_all}
 use Rattle.std.proofs.lemmas.List.{append-nil}
+use Rattle.saphyr_input.specs.Indicators.{colon, left_brace, left_bracket, question_mark, number_sign}
+use Rattle.saphyr_input.specs.Classes.{line_feed, space}
 use Rattle.scalar_values.specs.Flow.{plain_value}
 use Rattle.saphyr_scalar.specs.Spelling.Plain.{is_word_ink}
 use Rattle.saphyr_scanner.specs.Grammar.Forest.{no_properties, Node, Seq, Map, Nodes, NoNode, MoreNodes, Pairs, NoPair}
@@ -30,7 +32,7 @@ pub plain_key : {room indent : ℕ} {in_flow : Bool} {t : List ℕ} → IsPlainK
     → KeyText room (plain_node t) in_flow indent t []
 plain_key {t = t} h e = record { holds = inr (([], t, refl, inl (refl, refl), h, e, refl), refl) }
 
-plain_begins_no_comment : (c : ℕ) → IsTrue (begins_plain c) → c ≢ 35
+plain_begins_no_comment : (c : ℕ) → IsTrue (begins_plain c) → c ≢ number_sign
 plain_begins_no_comment c h e = let f : begins_plain c ≡ false = ap (λ x. begins_plain x) e in cc
 
 -- a word that may be or end with an indicator
@@ -51,13 +53,13 @@ colon_alone = record { holds = inl (refl, refl) }
 
 pub value_behind_colon : {adjacent : Bool} {room indent : ℕ} {value : Node} {t : List ℕ}
     → FlowText room value true indent t
-    → Value adjacent room value indent (58 ∷ 32 ∷ t)
+    → Value adjacent room value indent (colon ∷ space ∷ t)
 value_behind_colon {indent = indent} {t = t} h = record {
   holds = inr (codes " ", t, (blank {indent = indent}).holds, inl (λ e. cc), h.holds, refl);
 }
 
 pub colon_at_once : {room indent : ℕ} {value : Node} {t : List ℕ} → FlowText room value true indent t
-    → Value true room value indent (58 ∷ t)
+    → Value true room value indent (colon ∷ t)
 colon_at_once {indent = indent} {t = t} h = record {
   holds = inr ([], t, (tight {indent = indent}).holds, inr refl, h.holds, refl);
 }
@@ -92,7 +94,7 @@ pair_asked h = record { holds = inr (inr h.holds) }
 
 explicit_pair : {room indent : ℕ} {key value : Node} {t : List ℕ} → BehindQuestion room key value indent t
     → IsExplicitPair key value (IsFlowNode room key true indent) (IsFlowNode room value true indent) indent
-    (63 ∷ 32 ∷ t)
+    (question_mark ∷ space ∷ t)
 explicit_pair {indent = indent} {t = t} h =
     (codes " ", t, ((λ e. cc), (blank {indent = indent}).holds, refl), h.holds, refl)
 
@@ -118,7 +120,7 @@ pair_node key value = Map no_properties (MorePairs key value NoPair)
 
 pub pair_item : {room indent : ℕ} {key value : Node} {t v : List ℕ} → KeyText room key true indent t []
     → Value (allows_adjacent key []) room value indent v → IsTrue (not (needs_separation key))
-    → IsTrue (list_all (λ c. not (c == 10)) t) → Item room (pair_node key value) indent (t ++ v)
+    → IsTrue (list_all (λ c. not (c == line_feed)) t) → Item room (pair_node key value) indent (t ++ v)
 pair_item {indent = indent} {t = t} {v} k h s n = record {
   holds = inr (
     refl,
@@ -133,7 +135,7 @@ value_item {indent = indent} {t = t} h =
     record { holds = inr (refl, inr (before_nothing _ indent t (inr (inl (refl, h.holds))))) }
 
 pub asked_item : {room indent : ℕ} {key value : Node} {t : List ℕ} → BehindQuestion room key value indent t
-    → Item room (pair_node key value) indent (63 ∷ 32 ∷ t)
+    → Item room (pair_node key value) indent (question_mark ∷ space ∷ t)
 asked_item {indent = indent} {t = t} h =
     record { holds = inr (refl, inr (before_nothing _ indent (63 ∷ 32 ∷ t) (inr (inr (explicit_pair h))))) }
 
@@ -173,7 +175,7 @@ comma {gap = gap} {t} {others} g h m = record {
 
 pub brackets : {room indent : ℕ} {nodes : Nodes} {in_flow : Bool} {gap t : List ℕ} → Apart indent gap
     → Items room nodes indent t
-    → FlowText (suc room) (Seq no_properties nodes) in_flow indent ((91 ∷ gap) ++ (t ++ codes "]"))
+    → FlowText (suc room) (Seq no_properties nodes) in_flow indent ((left_bracket ∷ gap) ++ (t ++ codes "]"))
 brackets {room} {gap = gap} {t} g h = record {
   holds = (room, 91 ∷ gap, t, refl, ([], gap, inl (refl, refl), g.holds, refl), h.holds, refl);
 }
@@ -201,7 +203,7 @@ pub value_pair : {room indent : ℕ} {value : Node} {t : List ℕ} → Value fal
 value_pair h = pair_text (inr (inr (inl (refl, h.holds))))
 
 pub asked_pair : {room indent : ℕ} {key value : Node} {t : List ℕ} → BehindQuestion room key value indent t
-    → FlowPair room key value indent (63 ∷ 32 ∷ t)
+    → FlowPair room key value indent (question_mark ∷ space ∷ t)
 asked_pair h = pair_text (inr (inr (inr (explicit_pair h))))
 
 pub record FlowPairs (room : ℕ) (pairs : Pairs) (indent : ℕ) (t : List ℕ) : Type 0 where
@@ -222,13 +224,13 @@ no_pair_behind = record { holds = inl refl }
 
 pub comma_pair : {room indent : ℕ} {key value : Node} {more : Pairs} {t others : List ℕ}
     → FlowPair room key value indent t → MoreFlowPairs room more indent others
-    → MoreFlowPairs room (MorePairs key value more) indent (44 ∷ 32 ∷ (t ++ others))
+    → MoreFlowPairs room (MorePairs key value more) indent (44 ∷ space ∷ (t ++ others))
 comma_pair {indent = indent} {t = t} {others} h m = record {
   holds = (codes ", ", t, others, (codes " ", (blank {indent = indent}).holds, refl), h.holds, m.holds, refl);
 }
 
 pub braces : {room indent : ℕ} {more : Pairs} {in_flow : Bool} {t : List ℕ} → FlowPairs room more indent t
-    → FlowText (suc room) (Map no_properties more) in_flow indent (123 ∷ (t ++ codes "}"))
+    → FlowText (suc room) (Map no_properties more) in_flow indent (left_brace ∷ (t ++ codes "}"))
 braces {room} {indent} {t = t} h = record {
   holds = (room, codes "{", t, refl, ([], [], inl (refl, refl), (tight {indent = indent}).holds, refl), h.holds, refl);
 }

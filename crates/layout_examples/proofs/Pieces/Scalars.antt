@@ -7,7 +7,8 @@ use Rattle.scalar_values.specs.declared.flow.Quote.TheVariants.{Single, Double}
 use Rattle.scalar_values.specs.Folding.{folded}
 use Rattle.scalar_values.specs.Flow.{raw_item, plain_value}
 use Rattle.std.proofs.lemmas.List.{append-nil}
-use Rattle.saphyr_input.specs.Classes.{is_blank, is_anchor_char, is_tag_char, is_uri_char}
+use Rattle.saphyr_input.specs.Indicators.{apostrophe, quotation_mark}
+use Rattle.saphyr_input.specs.Classes.{is_blank, is_anchor_char, is_tag_char, is_uri_char, line_feed}
 use Rattle.saphyr_scalar.specs.Spelling.Plain.{is_word_ink, IsWordIn}
 use Rattle.saphyr_scalar.specs.Spelling.Quoted.{stands_for_itself, IsText, closed, itself}
 use Rattle.saphyr_scalar.specs.Spelling.QuotedLines.{LinesFit}
@@ -95,7 +96,7 @@ pub record IsLetter (c : ℕ) : Type 0 where
   pub inside : IsTrue (is_word_ink true c)
   pub outside : IsTrue (is_word_ink false c)
   pub begins : IsTrue (begins_plain c)
-  pub on_line : IsTrue (not (c == 10))
+  pub on_line : IsTrue (not (c == line_feed))
   pub above : 65 ≤ c
   pub value : c ∷ [] ≡ plain_value (c ∷ [])
 
@@ -151,13 +152,15 @@ word l = scalar (plain l)
 
 -- one character in quotes
 pub double_quoted : {indent : ℕ} {in_flow : Bool} (c : ℕ) → IsTrue (stands_for_itself Double c)
-    → c ∷ [] ≡ folded (raw_item c ∷ []) → ScalarText DoubleQuoted (c ∷ []) in_flow indent (34 ∷ c ∷ 34 ∷ [])
+    → c ∷ [] ≡ folded (raw_item c ∷ [])
+    → ScalarText DoubleQuoted (c ∷ []) in_flow indent (quotation_mark ∷ c ∷ quotation_mark ∷ [])
 double_quoted c h e = record {
   holds = (c ∷ 34 ∷ [], raw_item c ∷ [], itself Double c (34 ∷ []) [] [] h (closed Double [] refl), tt, e, refl);
 }
 
 pub single_quoted : {indent : ℕ} {in_flow : Bool} (c : ℕ) → IsTrue (stands_for_itself Single c)
-    → c ∷ [] ≡ folded (raw_item c ∷ []) → ScalarText SingleQuoted (c ∷ []) in_flow indent (39 ∷ c ∷ 39 ∷ [])
+    → c ∷ [] ≡ folded (raw_item c ∷ [])
+    → ScalarText SingleQuoted (c ∷ []) in_flow indent (apostrophe ∷ c ∷ apostrophe ∷ [])
 single_quoted c h e = record {
   holds = (c ∷ 39 ∷ [], raw_item c ∷ [], itself Single c (39 ∷ []) [] [] h (closed Single [] refl), tt, e, refl);
 }
@@ -213,10 +216,10 @@ words {c} {in_flow = in_flow} {others = others} l w e =
 -- a text behind its opening quote
 pub single_quoted_lines : {indent : ℕ} {in_flow : Bool} {value : List ℕ} {items : List Item} (inside : List ℕ)
     (s : IsText Single inside items []) → LinesFit indent Single inside items [] s → value ≡ folded items
-    → ScalarText SingleQuoted value in_flow indent (39 ∷ inside)
+    → ScalarText SingleQuoted value in_flow indent (apostrophe ∷ inside)
 single_quoted_lines {items = items} inside s f e = record { holds = (inside, items, s, f, e, refl) }
 
 pub double_quoted_lines : {indent : ℕ} {in_flow : Bool} {value : List ℕ} {items : List Item} (inside : List ℕ)
     (s : IsText Double inside items []) → LinesFit indent Double inside items [] s → value ≡ folded items
-    → ScalarText DoubleQuoted value in_flow indent (34 ∷ inside)
+    → ScalarText DoubleQuoted value in_flow indent (quotation_mark ∷ inside)
 double_quoted_lines {items = items} inside s f e = record { holds = (inside, items, s, f, e, refl) }

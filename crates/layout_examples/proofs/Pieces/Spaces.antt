@@ -3,6 +3,7 @@ use Rattle.std.proofs.Common.{◌≡◌, ℕ, ◌≤◌, Bool, List, [], ◌∷�
 use Rattle.std.proofs.Common.{IsTrue}
 use Rattle.std.specs.List.{list_all}
 use Rattle.std.proofs.lemmas.List.{append-nil, append_assoc}
+use Rattle.saphyr_input.specs.Indicators.{number_sign}
 use Rattle.saphyr_input.proofs.Basics.Booleans.{and_true_left, and_true_right}
 use Rattle.saphyr_input.specs.Classes.{is_blank, is_yaml_non_break}
 use Rattle.saphyr_scalar.specs.Steps.BlockRead.{spaces}
@@ -25,7 +26,7 @@ blanks t h = record { holds = (t, [], each is_blank t h, inl refl, sym (append-n
 
 -- a blank, further ones, and a comment with these words
 pub comment : (blank : ℕ) (more words : List ℕ) → IsTrue (list_all is_blank (blank ∷ more))
-    → IsTrue (list_all is_yaml_non_break words) → Rest (blank ∷ (more ++ (35 ∷ words)))
+    → IsTrue (list_all is_yaml_non_break words) → Rest (blank ∷ (more ++ (number_sign ∷ words)))
 comment blank more words h g = record {
   holds = (
     blank ∷ more,
@@ -62,7 +63,7 @@ pub blank_line : (t : List ℕ) → IsTrue (list_all is_blank t) → FillerLine 
 blank_line t h = record { holds = (t, [], each is_blank t h, inl refl, sym (append-nil t)) }
 
 pub comment_line : (front words : List ℕ) → IsTrue (list_all is_blank front)
-    → IsTrue (list_all is_yaml_non_break words) → FillerLine (front ++ (35 ∷ words))
+    → IsTrue (list_all is_yaml_non_break words) → FillerLine (front ++ (number_sign ∷ words))
 comment_line front words h g = record {
   holds = (front, 35 ∷ words, each is_blank front h, inr (words, each is_yaml_non_break words g, refl), refl);
 }

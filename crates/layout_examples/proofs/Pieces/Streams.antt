@@ -3,8 +3,9 @@ use Rattle.std.proofs.Common.{◌≡◌, ◌≢◌, ℕ, ◌+◌, ◌-◌, Bool,
 use Rattle.std.proofs.Common.{sym, arith, codes, ap, ◌&&◌, IsTrue, IsFalse}
 use Rattle.std.proofs.lemmas.List.{append-nil}
 use Rattle.std.proofs.lemmas.Bool.{false≢true}
+use Rattle.saphyr_input.specs.Indicators.{exclamation_mark, full_stop, percent_sign}
 use Rattle.saphyr_input.specs.Breaks.{normalized}
-use Rattle.saphyr_input.specs.Classes.{byte_order_mark, is_digit, is_tag_char, is_uri_char}
+use Rattle.saphyr_input.specs.Classes.{byte_order_mark, is_digit, is_tag_char, is_uri_char, space}
 use Rattle.saphyr_scalar.specs.Spelling.Tag.{IsHandleText, IsPrefix}
 use Rattle.saphyr_scalar.specs.Spelling.Directive.{AreSomeBlanks, IsVersionNumber, IsLineTail}
 use Rattle.saphyr_scanner.specs.Grammar.Forest.{Handle, Directive, Version, TagPrefix, Reserved, AreCompatible, bare}
@@ -138,7 +139,7 @@ number d h = ((λ e. cc), omega arith, (h, tt), from_zero (d - 48))
 
 -- two digits
 pub version : (major minor : ℕ) → IsTrue (is_digit major) → IsTrue (is_digit minor)
-    → DirectiveText (Version (major - 48) (minor - 48)) (codes "%YAML " ++ (major ∷ 46 ∷ minor ∷ []))
+    → DirectiveText (Version (major - 48) (minor - 48)) (codes "%YAML " ++ (major ∷ full_stop ∷ minor ∷ []))
 version major minor h g = record {
   holds = (
     codes "%YAML " ++ (major ∷ 46 ∷ minor ∷ []),
@@ -150,7 +151,8 @@ version major minor h g = record {
 }
 
 pub tag_prefix : {h : Handle} {prefix : List ℕ} (handle written : List ℕ) → IsHandle h handle → IsHandleText handle
-    → IsPrefix prefix written → DirectiveText (TagPrefix h prefix) ((codes "%TAG " ++ (handle ++ (32 ∷ written))) ++ [])
+    → IsPrefix prefix written
+    → DirectiveText (TagPrefix h prefix) ((codes "%TAG " ++ (handle ++ (space ∷ written))) ++ [])
 tag_prefix handle written h t p = record {
   holds = (
     handle,
@@ -164,10 +166,13 @@ tag_prefix handle written h t p = record {
 }
 
 -- a prefix of one character, and behind it no more or one of those of a uri
-pub prefix_of_one : (c : ℕ) → IsTrue (is_tag_char c || (c == 33)) → c ≢ 37 → IsPrefix (c ∷ []) (c ∷ [])
+pub prefix_of_one : (c : ℕ) → IsTrue (is_tag_char c || (c == exclamation_mark)) → c ≢ percent_sign
+    → IsPrefix (c ∷ []) (c ∷ [])
 prefix_of_one c h n = (c ∷ [], [], inl (h, n, refl), refl, refl)
 
-pub prefix_of_two : (c d : ℕ) → IsTrue (is_tag_char c || (c == 33)) → c ≢ 37 → IsTrue (is_uri_char d) → d ≢ 37
+pub prefix_of_two : (c d : ℕ) → IsTrue (is_tag_char c || (c == exclamation_mark)) → c ≢ percent_sign
+    → IsTrue (is_uri_char d)
+    → d ≢ percent_sign
     → IsPrefix (c ∷ d ∷ []) (c ∷ d ∷ [])
 prefix_of_two c d h n g m = (c ∷ [], d ∷ [], inl (h, n, refl), decodes_itself is_uri_char d g m, refl)
 

@@ -1,4 +1,6 @@
 use Rattle.std.proofs.Common.{◌∷◌, [], inl, inr, refl, arith, codes}
+use Rattle.saphyr_input.specs.Indicators.{apostrophe}
+use Rattle.saphyr_input.specs.Classes.{space}
 use Rattle.scalar_values.specs.declared.folding.Item.TheVariants.{Blank, Raw, Break}
 use Rattle.scalar_values.specs.declared.flow.Quote.TheVariants.{Single, Double}
 use Rattle.saphyr_scalar.specs.Spelling.QuotedLines.{IsLine}
@@ -113,12 +115,12 @@ returns-clause-plain_tabs c =
     refl refl
 
 its : IsText Single (codes "it''s\n\n so'")
-    (Raw 105 ∷ Raw 116 ∷ Raw 39 ∷ Raw 115 ∷ Break ∷ Break ∷ Blank 32 ∷ Raw 115 ∷ Raw 111 ∷ []) []
+    (Raw 105 ∷ Raw 116 ∷ Raw apostrophe ∷ Raw 115 ∷ Break ∷ Break ∷ Blank space ∷ Raw 115 ∷ Raw 111 ∷ []) []
 its = itself _ 105 _ _ _ refl (itself _ 116 _ _ _ refl (two_quotes _ _ _ (itself _ 115 _ _ _ refl
     (broken _ _ _ _ refl (broken _ _ _ _ refl (itself _ 32 _ _ _ refl (itself _ 115 _ _ _ refl
     (itself _ 111 _ _ _ refl (closed _ _ refl)))))))))
 
-a_and_b : IsText Double (codes "a\n b\"") (Raw 97 ∷ Break ∷ Blank 32 ∷ Raw 98 ∷ []) []
+a_and_b : IsText Double (codes "a\n b\"") (Raw 97 ∷ Break ∷ Blank space ∷ Raw 98 ∷ []) []
 a_and_b = itself _ 97 _ _ _ refl (broken _ _ _ _ refl (itself _ 32 _ _ _ refl (itself _ 98 _ _ _ refl
     (closed _ _ refl))))
 

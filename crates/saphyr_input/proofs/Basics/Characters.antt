@@ -2,8 +2,9 @@
 use Rattle.std.proofs.Common.{◌≡◌, ℕ, Bool, true, false, not, List, ◌∷◌, nat_eq, refl, ap, arith, subst, IsTrue}
 use Rattle.std.specs.Prelude.{◌&&◌, ◌==◌}
 use Rattle.std.proofs.lemmas.Bool.Decides.{nat_tests}
+use Rattle.saphyr_input.specs.Indicators.{full_stop, hyphen}
 use Rattle.saphyr_input.specs.Breaks.{normalized}
-use Rattle.saphyr_input.specs.Classes.{line_feed, is_z, is_break, is_breakz, is_blank, is_yaml_non_break}
+use Rattle.saphyr_input.specs.Classes.{line_feed, is_z, is_break, is_breakz, is_blank, is_yaml_non_break, carriage_return}
 use Rattle.saphyr_input.specs.Places.{is_document_indicator}
 use Rattle.saphyr_input.proofs.Basics.Booleans.{either}
 
@@ -45,13 +46,13 @@ no_break_no_feed c h = grind (arith, nat_tests)
 pub breakz_no_non_break : (c : ℕ) → is_breakz c ≡ true → is_yaml_non_break c ≡ false
 breakz_no_non_break c h = rw h refl
 
-pub no_return : (c : ℕ) → is_break c ≡ false → (c == 13) ≡ false
+pub no_return : (c : ℕ) → is_break c ≡ false → (c == carriage_return) ≡ false
 no_return c h = grind (arith, nat_tests)
 
-pub no_return_and : (c : ℕ) (b : Bool) → is_break c ≡ false → ((c == 13) && b) ≡ false
+pub no_return_and : (c : ℕ) (b : Bool) → is_break c ≡ false → ((c == carriage_return) && b) ≡ false
 no_return_and c b h = ap (λ (p : Bool). p && b) (no_return c h)
 
-pub return_breaks : (c : ℕ) (b : Bool) → ((c == 13) && b) ≡ true → is_break c ≡ true
+pub return_breaks : (c : ℕ) (b : Bool) → ((c == carriage_return) && b) ≡ true → is_break c ≡ true
 return_breaks c true h = grind (arith, nat_tests)
 return_breaks c false h = absurd (none (c == 13) h)
   where
@@ -60,9 +61,9 @@ return_breaks c false h = absurd (none (c == 13) h)
     none false e = cc
 
 -- a line that begins with neither dash nor dot has no document marker there
-pub no_marker_at : (c : ℕ) (cs : List ℕ) → (c == 45) ≡ false → (c == 46) ≡ false
+pub no_marker_at : (c : ℕ) (cs : List ℕ) → (c == hyphen) ≡ false → (c == full_stop) ≡ false
     → is_document_indicator (c ∷ cs) ≡ false
 no_marker_at c cs dash dot = rw (dash, dot) refl
 
-pub normalized_other : (c : ℕ) (cs : List ℕ) → (c == 13) ≡ false → normalized (c ∷ cs) ≡ c ∷ normalized cs
+pub normalized_other : (c : ℕ) (cs : List ℕ) → (c == carriage_return) ≡ false → normalized (c ∷ cs) ≡ c ∷ normalized cs
 normalized_other c cs h = rw h refl

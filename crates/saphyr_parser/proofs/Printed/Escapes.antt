@@ -3,6 +3,7 @@ use Rattle.std.proofs.Common.{◌≡◌, ℕ, ◌+◌, ◌-◌, ◌<◌, List, [
 use Rattle.std.proofs.lemmas.List.{take_more, take_more_set, take_rest}
 use Rattle.std.proofs.lemmas.Grind.{take-set_at}
 use Rattle.std.specs.Io.KnownBytes.{Appends}
+use Rattle.saphyr_input.specs.Indicators.{backslash}
 use Rattle.saphyr_parser.specs.Printed.{printed_byte, printed_bytes}
 use Rattle.saphyr_parser.specs.Written.{TakesSome, TakesUpTo}
 use Rattle.saphyr_parser.proofs.Printed.Written.{takes_less, takes_piece, loses_piece}
@@ -60,7 +61,8 @@ gathers_plain room text filled read r l e p =
     ∙ ap (λ k. printed_bytes (take read text) ++ k) (sym e) ∙ sym (next_escape text read l)
 
 pub gathers_letter : (room text : List ℕ) (filled read letter : ℕ) → filled + 1 < length room → read < length text
-    → printed_byte (slice_index text read) ≡ 92 ∷ (letter ∷ []) → take filled room ≡ printed_bytes (take read text)
+    → printed_byte (slice_index text read) ≡ backslash ∷ (letter ∷ [])
+    → take filled room ≡ printed_bytes (take read text)
     → take (filled + 2) (set (set room filled 92) (filled + 1) letter) ≡ printed_bytes (take (read + 1) text)
 gathers_letter room text filled read letter r l e p =
     let inner : filled + 1 < length (set room filled 92) = rw (length-set room filled 92) r in

@@ -3,6 +3,7 @@ use Rattle.std.proofs.Common.{◌≡◌, ℕ, ◌+◌, ◌-◌, ◌<◌, ◌≤�
 use Rattle.std.proofs.Math.Seq.{take-append_seam}
 use Rattle.std.proofs.lemmas.List.{length-append, length-drop, take_more_set}
 use Rattle.std.proofs.lemmas.Slice.{take-put_mid}
+use Rattle.saphyr_input.specs.Classes.{line_feed}
 use borrow.Rule.Slice.PartMut.{put_mid, post_of}
 
 -- there is room for one more byte
@@ -21,7 +22,7 @@ room_behind front text rest k e l =
 line_of : (front text rest : List ℕ) (k : ℕ) → k ≡ length text → length text < length rest
     → take (length front + length text + 1)
     (set (put_mid (length front) k (front ++ rest) text) (length front + length text) 10)
-    ≡ front ++ (text ++ (10 ∷ []))
+    ≡ front ++ (text ++ (line_feed ∷ []))
 line_of front text rest k e l =
     let within : length front ≤ length (front ++ rest) = (let whole = length-append front rest in omega arith) in
     take_more_set (put_mid (length front) k (front ++ rest) text) (length front + length text) 10
@@ -37,7 +38,7 @@ pub line_filled : (front text one two zeros : List ℕ) → one ≡ front → tw
     → take (length front + length text + 1)
     (set (put_mid (length front) (length front + length text - length front) (one ++ drop (length front) zeros) two)
     (length front + length text) 10)
-    ≡ front ++ (text ++ (10 ∷ []))
+    ≡ front ++ (text ++ (line_feed ∷ []))
 line_filled front text one two zeros e h l =
     let others = drop (length front) zeros in
     let left : length text < length (drop (length front) zeros) =

@@ -2,6 +2,7 @@
 use Rattle.std.specs.Prelude.{◌==◌, slice_index}
 use Rattle.std.proofs.Common.{◌≡◌, ℕ, ◌+◌, ◌*◌, ◌^◌, ◌<◌, ◌≤◌, Bool, true, false, List, [], ◌∷◌, ◌++◌, map, length, Some, None, refl, sym, ap, ◌∙◌, subst, arith}
 use Rattle.std.proofs.lemmas.List.{length-append, length-map}
+use Rattle.saphyr_input.specs.Classes.{carriage_return, line_feed}
 use Rattle.saphyr_input.specs.Breaks.{normalized}
 use Rattle.saphyr_scalar.specs.Spelling.Spaces.{IsLineRest}
 use Rattle.saphyr_scanner.specs.Grammar.ClosedTexts.{HandsOut}
@@ -36,28 +37,28 @@ record WholeParts (text xs others : List ℕ) : Type 0 where
   is_front : normalized front ≡ xs
   is_behind : normalized behind ≡ others
 
-before_feed : (c : ℕ) (cs : List ℕ) → (c == 13) ≡ true → (slice_index cs 0 == 10) ≡ true
+before_feed : (c : ℕ) (cs : List ℕ) → (c == carriage_return) ≡ true → (slice_index cs 0 == line_feed) ≡ true
     → normalized (c ∷ cs) ≡ normalized cs
 before_feed c cs e f = rw (e, f) refl
 
-lone_return : (c : ℕ) (cs : List ℕ) → (c == 13) ≡ true → (slice_index cs 0 == 10) ≡ false
-    → normalized (c ∷ cs) ≡ 10 ∷ normalized cs
+lone_return : (c : ℕ) (cs : List ℕ) → (c == carriage_return) ≡ true → (slice_index cs 0 == line_feed) ≡ false
+    → normalized (c ∷ cs) ≡ line_feed ∷ normalized cs
 lone_return c cs e f = rw (e, f) refl
 
 -- a beginning that isn't empty begins as the whole does
 feed_first : (x : ℕ) (xs front behind cs : List ℕ) → cs ≡ front ++ behind → normalized front ≡ x ∷ xs
-    → (slice_index cs 0 == 10) ≡ true → (slice_index front 0 == 10) ≡ true
+    → (slice_index cs 0 == line_feed) ≡ true → (slice_index front 0 == line_feed) ≡ true
 feed_first x xs [] behind cs e n f = absurd (cc)
 feed_first x xs (d ∷ ds) behind cs e n f = subst (λ (vs : List ℕ). (slice_index vs 0 == 10) ≡ true) e f
 
-front_begins_no_feed : (front behind cs : List ℕ) → cs ≡ front ++ behind → (slice_index cs 0 == 10) ≡ false
-    → (slice_index front 0 == 10) ≡ false
+front_begins_no_feed : (front behind cs : List ℕ) → cs ≡ front ++ behind → (slice_index cs 0 == line_feed) ≡ false
+    → (slice_index front 0 == line_feed) ≡ false
 front_begins_no_feed [] behind cs e f = refl
 front_begins_no_feed (d ∷ ds) behind cs e f = subst (λ (vs : List ℕ). (slice_index vs 0 == 10) ≡ false) e f
 
 with_first :
-    (c : ℕ) (cs : List ℕ) (x : ℕ) (xs others : List ℕ) (return feed : Bool) → (c == 13) ≡ return
-    → (slice_index cs 0 == 10) ≡ feed
+    (c : ℕ) (cs : List ℕ) (x : ℕ) (xs others : List ℕ) (return feed : Bool) → (c == carriage_return) ≡ return
+    → (slice_index cs 0 == line_feed) ≡ feed
     → (normalized cs ≡ xs ++ others → WholeParts cs xs others)
     → (normalized cs ≡ x ∷ xs ++ others → WholeParts cs (x ∷ xs) others) → normalized (c ∷ cs) ≡ x ∷ xs ++ others
     → WholeParts (c ∷ cs) (x ∷ xs) others

@@ -5,6 +5,7 @@ use Rattle.saphyr_scanner.specs.Grammar.Json.{IsJson}
 use Rattle.saphyr_scanner.specs.Grammar.JsonTokens.{json_tokens}
 use Rattle.saphyr_scanner.specs.Steps.Remaining.{Scans, scan}
 use Rattle.saphyr_scanner.specs.Views.Tokens.{Remaining}
+use Rattle.saphyr_scanner.specs.Grammar.Layout.{most_open}
 use Rattle.saphyr_parser.specs.Events.{Happening}
 use Rattle.saphyr_parser.specs.ForestEvents.{events}
 use Rattle.saphyr_parser.specs.Cursor.{EventCursor, at_start, keeping_tags, to_come}
@@ -13,7 +14,7 @@ use Rattle.saphyr_parser.specs.Promises.{ReadsJson}
 
 -- each text of JSON gives the tokens of its forest
 abbrev pub ScansJson : Type 0
-ScansJson = (limit : ℕ) (forest : Forest) (text : List ℕ) → IsJson forest text → open_in_forest forest ≤ 255
+ScansJson = (limit : ℕ) (forest : Forest) (text : List ℕ) → IsJson forest text → open_in_forest forest ≤ most_open
     → length text ≤ limit → Scans (json_tokens forest) (scan limit text)
 
 -- these tokens give its events

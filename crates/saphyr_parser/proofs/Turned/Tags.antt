@@ -8,6 +8,7 @@ use Rattle.std.proofs.Common.{eq-eqb}
 use Rattle.std.proofs.Math.Seq.{get_or-append_seam}
 use Rattle.std.proofs.lemmas.Bool.{le-leb}
 use Rattle.std.proofs.lemmas.Slice.Eq.{bytes_eq-Decides}
+use Rattle.saphyr_input.specs.Indicators.{exclamation_mark}
 use Rattle.saphyr_scalar.specs.declared.scalar.position.Marker.{Marker}
 use Rattle.saphyr_scalar.specs.declared.scalar.fault.Refusal.{Refusal}
 use Rattle.saphyr_scalar.specs.declared.scalar.fault.FaultText.TheVariants as fault
@@ -30,7 +31,7 @@ pub record ResolvesTo (names : Names (List ℕ)) (handle suffix : List ℕ) (v :
 
 -- ## Handles `!word!`
 
-named_test : (b : List ℕ) → is_named_handle (33 ∷ (b ++ 33 ∷ [])) ≡ true
+named_test : (b : List ℕ) → is_named_handle (exclamation_mark ∷ (b ++ exclamation_mark ∷ [])) ≡ true
 named_test b =
     let h : List ℕ = 33 ∷ (b ++ 33 ∷ []) in
     let l : length h - 1 ≡ length (33 ∷ b) = let a = length-append b (33 ∷ []) in omega (arith, a) in

@@ -1,5 +1,6 @@
 -- A quoted scalar that goes on over a document marker is not taken.
 use Rattle.std.proofs.Common.{◌≡◌, ◌⊎◌, ℕ, Bool, true, false, List, [], ◌∷◌, ◌++◌, drop, slice_index, refl, sym, ap, ◌∙◌, arith, inl, inr, codes}
+use Rattle.saphyr_input.specs.Indicators.{apostrophe, quotation_mark}
 use Rattle.saphyr_input.specs.Classes.{is_break}
 use Rattle.saphyr_input.specs.Places.{is_document_indicator}
 use Rattle.scalar_values.specs.declared.folding.Item.{Item}
@@ -18,14 +19,14 @@ use Rattle.saphyr_parser.specs.EventsTaken.{AreTaken}
 use Rattle.saphyr_parser.specs.Examples.WrongAnswers as wrong
 use Rattle.saphyr_parser.proofs.Wrong.Owned.{OwnScalar, owned}
 
-mark_is : (q : Quote) (c : ℕ) → mark q ≡ c → (c ≡ 39) ⊎ (c ≡ 34)
+mark_is : (q : Quote) (c : ℕ) → mark q ≡ c → (c ≡ apostrophe) ⊎ (c ≡ quotation_mark)
 mark_is Single c e = inl (sym e)
 mark_is Double c e = inr (sym e)
 
-neither_quote : (q : Quote) (c : ℕ) → mark q ≡ c → (c ≡ 39 → ⊥) → (c ≡ 34 → ⊥) → ⊥
+neither_quote : (q : Quote) (c : ℕ) → mark q ≡ c → (c ≡ apostrophe → ⊥) → (c ≡ quotation_mark → ⊥) → ⊥
 neither_quote q c e a b = by (mark_is q c e)
   where
-    by : (c ≡ 39) ⊎ (c ≡ 34) → ⊥
+    by : (c ≡ apostrophe) ⊎ (c ≡ quotation_mark) → ⊥
     by (inl k) = a k
     by (inr k) = b k
 
@@ -72,7 +73,7 @@ before_marker _ _ _ _ (numbered f c ds t items x h r) m e = let z : 97 ≡ 92 = 
 before_marker _ _ _ _ (escaped_break t items x h r) m e = let z : 97 ≡ 92 = heads 92 97 _ _ e in omega (arith, z)
 
 -- the scalar begins at one of the two quotes
-either_quote : (front inside : List ℕ) → codes "\"a\n--- b\"" ≡ front ++ 34 ∷ inside
+either_quote : (front inside : List ℕ) → codes "\"a\n--- b\"" ≡ front ++ quotation_mark ∷ inside
     → (inside ≡ codes "a\n--- b\"") ⊎ (inside ≡ [])
 either_quote [] inside e = inl (sym (tails 34 34 (codes "a\n--- b\"") inside e))
 either_quote (f ∷ front) inside e =

@@ -1,12 +1,13 @@
 -- Wrong answers, each with what refuses it.
 use Rattle.std.proofs.Common.{◌≡◌, ◌⊎◌, ℕ, Bool, true, false, List, [], ◌∷◌, ◌++◌, length, refl, sym, ap, ◌∙◌, arith, inl, inr, codes}
 use Rattle.std.specs.Prelude.{slice_index}
+use Rattle.saphyr_input.specs.Indicators.{vertical_bar}
 use Rattle.saphyr_scalar.specs.declared.scalar.position.Marker.{Marker}
 use Rattle.saphyr_scalar.specs.declared.scalar.position.Span.{Span}
 use Rattle.saphyr_scalar.specs.declared.scalar.style.ScalarStyle.TheVariants.{Plain, Literal}
 use Rattle.scalar_values.specs.declared.block.BlockStyle.TheVariants as block_style
 use Rattle.saphyr_scalar.specs.Reading.BlockText.{AreInside}
-use Rattle.saphyr_input.specs.Classes.{is_break}
+use Rattle.saphyr_input.specs.Classes.{is_break, line_feed, space}
 use Rattle.saphyr_scalar.specs.Views.Cursor.{start_cursor}
 use Rattle.saphyr_scanner.specs.Examples.TakenTexts.{marker_at}
 use Rattle.saphyr_scanner.specs.TokensTaken as taken
@@ -25,7 +26,8 @@ use Rattle.saphyr_parser.proofs.Wrong.Owned.{OwnScalar, owned}
 
 -- ## Plain scalars that begin with a blank
 
-white_refused : (text value : List ℕ) (span : Span) → (32 ∷ value ≡ []) ⊎ OwnScalar text (32 ∷ value) Plain span → ⊥
+white_refused : (text value : List ℕ) (span : Span) → (space ∷ value ≡ []) ⊎ OwnScalar text (space ∷ value) Plain span
+    → ⊥
 white_refused text value span (inl e) = cc
 white_refused text value span (inr h) = let k = plain_value_ink (32 ∷ value) h.own h.here h.behind h.is in cc
 
@@ -40,9 +42,10 @@ break_first_is_not_taken keep t = white_refused (codes "a:\n b") (codes "b") _
 -- ## Block scalars over a marker, or over a NUL
 
 -- all lines behind `|` are the scalar's
-literal_lines : (before body value : List ℕ) (span : Span) → OwnScalar (before ++ (124 ∷ 10 ∷ body)) value Literal span
-    → has_character 124 before ≡ false → has_character 124 (10 ∷ body) ≡ false
-    → span.end.index ≡ length (before ++ (124 ∷ 10 ∷ body))
+literal_lines : (before body value : List ℕ) (span : Span)
+    → OwnScalar (before ++ (vertical_bar ∷ line_feed ∷ body)) value Literal span
+    → has_character 124 before ≡ false → has_character 124 (line_feed ∷ body) ≡ false
+    → span.end.index ≡ length (before ++ (vertical_bar ∷ line_feed ∷ body))
     → AreInside true body []
 literal_lines before body value span o b a e =
     let text = before ++ (124 ∷ 10 ∷ body) in

@@ -4,7 +4,8 @@ use Rattle.std.specs.Prelude.{◌&&◌, not, Option, Some, None, unwrap_or}
 use Rattle.std.specs.List.{prefix_len}
 use Rattle.std.proofs.lemmas.Bool.Decides.{nat_tests}
 use Rattle.std.proofs.Math.Seq.{drop-append_seam, drop-append-add}
-use Rattle.saphyr_input.specs.Classes.{is_blank, is_break, is_breakz, is_bom, is_digit, is_yaml_non_break}
+use Rattle.saphyr_input.specs.Indicators.{hyphen, plus_sign}
+use Rattle.saphyr_input.specs.Classes.{is_blank, is_break, is_breakz, is_bom, is_digit, is_yaml_non_break, line_feed}
 use Rattle.saphyr_input.specs.Places.{next_2_are}
 use Rattle.saphyr_input.specs.Separation.{blank_len, comment_len, separation_len, is_bare_comment, found_blanks}
 use Rattle.saphyr_input.specs.declared.input.SkipTabs.{SkipTabs}
@@ -21,7 +22,7 @@ use Rattle.saphyr_input.proofs.Basics.Booleans.{and_false, clash, by_test, eithe
 use Rattle.saphyr_input.proofs.Basics.Numbers.{one_and}
 
 -- what is left behind white space
-behind_read : (text : List ℕ) (v : Cursor) (x : List ℕ) → v.rest ≡ 10 ∷ x → is_bare_comment Yes text ≡ false
+behind_read : (text : List ℕ) (v : Cursor) (x : List ℕ) → v.rest ≡ line_feed ∷ x → is_bare_comment Yes text ≡ false
     → behind_separation Yes text v ≡ Ok (found_blanks Yes text, v)
 unfolding behind_separation
 behind_read text v x e bare =
@@ -31,7 +32,7 @@ behind_read text v x e bare =
     by_test (nat_lt 0 v.mark.col && is_bom (slice_index v.rest 0)) _ _ Goal (λ h. clash _ h no)
     (λ _. by_test (is_bare_comment Yes text) _ _ Goal (λ h. clash _ h bare) (λ _. refl))
 
-feed_passed : (v : Cursor) (x : List ℕ) → v.rest ≡ 10 ∷ x → pass_break v ≡ pass_line 1 v
+feed_passed : (v : Cursor) (x : List ℕ) → v.rest ≡ line_feed ∷ x → pass_break v ≡ pass_line 1 v
 feed_passed v x e =
     let no : next_2_are v.rest 13 10 ≡ false = ap (λ (xs : List ℕ). next_2_are xs 13 10) e in
     let yes : is_break (slice_index v.rest 0) ≡ true = ap (λ (xs : List ℕ). is_break (slice_index xs 0)) e in
@@ -39,7 +40,7 @@ feed_passed v x e =
     by_test (next_2_are v.rest 13 10) _ _ Goal (λ h. clash _ h no)
     (λ _. by_test (is_break (slice_index v.rest 0)) _ _ Goal (λ _. refl) (λ h. clash _ yes h))
 
-break_read : (start : Marker) (v : Cursor) (x : List ℕ) → v.rest ≡ 10 ∷ x → slice_index x 0 ≢ 9
+break_read : (start : Marker) (v : Cursor) (x : List ℕ) → v.rest ≡ line_feed ∷ x → slice_index x 0 ≢ 9
     → header_break start v ≡ Ok (pass_line 1 v)
 unfolding header_break
 break_read start v x e tab =
@@ -62,7 +63,7 @@ pub record Ended (start : Marker) (s : Cursor) (x : List ℕ) : Type 0 where
   pub col : end.mark.col ≡ 0
   pub blank : end.blank_so_far ≡ true
 
-header_end_at : (start : Marker) (s : Cursor) (x : List ℕ) → drop (separation_len Yes s.rest) s.rest ≡ 10 ∷ x
+header_end_at : (start : Marker) (s : Cursor) (x : List ℕ) → drop (separation_len Yes s.rest) s.rest ≡ line_feed ∷ x
     → is_bare_comment Yes s.rest ≡ false → slice_index x 0 ≢ 9 → Ended start s x
 unfolding header_end separation
 header_end_at start s x e bare tab =
@@ -83,7 +84,7 @@ blanks_len [] (c ∷ cs) h k = rw k refl
 blanks_len (b ∷ bs) t h k = let more = blanks_len bs t h.1 k in rw (h.0, more) (omega arith)
 
 text_len : (text x : List ℕ) → AreIn is_yaml_non_break text
-    → prefix_len is_yaml_non_break (text ++ (10 ∷ x)) ≡ length text
+    → prefix_len is_yaml_non_break (text ++ (line_feed ∷ x)) ≡ length text
 text_len [] x h = refl
 text_len (c ∷ cs) x h = let more = text_len cs x h.1 in rw (h.0, more) (omega arith)
 
@@ -132,14 +133,14 @@ chomping_none s x e a b =
     by_test (nat_eq (slice_index s.rest 0) 43) _ _ Goal (λ h. clash _ h no)
     (λ _. by_test (nat_eq (slice_index s.rest 0) 45) _ _ Goal (λ h. clash _ h nor) (λ _. refl))
 
-pub chomping_keep : (s : Cursor) → slice_index s.rest 0 ≡ 43 → chomping s ≡ (Some Keep, pass 1 s)
+pub chomping_keep : (s : Cursor) → slice_index s.rest 0 ≡ plus_sign → chomping s ≡ (Some Keep, pass 1 s)
 unfolding chomping
 chomping_keep s e =
     let yes : nat_eq (slice_index s.rest 0) 43 ≡ true = ap (λ y. nat_eq y 43) e in
     let Goal : Option Chomping × Cursor → Type 0 = λ r. r ≡ (Some Keep, pass 1 s) in
     by_test (nat_eq (slice_index s.rest 0) 43) _ _ Goal (λ _. refl) (λ h. clash _ yes h)
 
-pub chomping_strip : (s : Cursor) → slice_index s.rest 0 ≡ 45 → chomping s ≡ (Some Strip, pass 1 s)
+pub chomping_strip : (s : Cursor) → slice_index s.rest 0 ≡ hyphen → chomping s ≡ (Some Strip, pass 1 s)
 unfolding chomping
 chomping_strip s e =
     let no : nat_eq (slice_index s.rest 0) 43 ≡ false = ap (λ y. nat_eq y 43) e in

@@ -2,6 +2,7 @@
 use Rattle.std.proofs.Common.{◌≡◌, ℕ, true, false, refl}
 use Rattle.std.specs.Prelude.{◌==◌, nat_lt, Option, Some, None}
 use Rattle.std.proofs.lemmas.Bool.{eqb-true}
+use Rattle.saphyr_input.specs.Classes.{space}
 use Rattle.saphyr_input.proofs.Basics.Booleans.{and_true_left}
 use Rattle.saphyr_scalar.specs.Steps.Block.{is_indentation}
 
@@ -9,6 +10,6 @@ pub nul_no_indentation : (limit : Option ℕ) (col : ℕ) → is_indentation lim
 nul_no_indentation None col = refl
 nul_no_indentation (Some limit) col = refl
 
-pub indentation_is_space : (limit : Option ℕ) (col c : ℕ) → is_indentation limit col c ≡ true → c ≡ 32
+pub indentation_is_space : (limit : Option ℕ) (col c : ℕ) → is_indentation limit col c ≡ true → c ≡ space
 indentation_is_space None col c e = eqb-true c 32 e
 indentation_is_space (Some limit) col c e = eqb-true c 32 (and_true_left (c == 32) (nat_lt col limit) e)

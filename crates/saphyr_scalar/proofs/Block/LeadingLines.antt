@@ -3,7 +3,7 @@
 use Rattle.std.proofs.Common.{◌≡◌, ◌≢◌, ℕ, zero, suc, ◌+◌, ◌<◌, ◌≤◌, Bool, true, false, List, [], ◌∷◌, ◌++◌, slice_index, refl, sym, ap, ◌∙◌, arith, subst, nat_eq, nat_lt}
 use Rattle.std.specs.Prelude.{max, Option, Some, None}
 use Rattle.std.proofs.lemmas.Bool.Decides.{nat_tests}
-use Rattle.saphyr_input.specs.Classes.{is_blank, is_yaml_non_break}
+use Rattle.saphyr_input.specs.Classes.{is_blank, is_yaml_non_break, line_feed, space}
 use Rattle.scalar_values.specs.declared.block.BlockStyle.{BlockStyle}
 use Rattle.saphyr_scalar.specs.declared.scalar.position.Marker.{Marker}
 use Rattle.saphyr_scalar.specs.declared.scalar.block.lines.EmptyLines.{EmptyLines}
@@ -31,7 +31,7 @@ IsLimit i given (Some limit) = limit ≡ i
 
 e_space : (limit : Option ℕ) (lines : EmptyLines) (b : Bool) (m : Marker) (t : List ℕ)
     → is_indentation limit m.col 32 ≡ true
-    → pass_empty_lines limit lines b m (32 ∷ t) ≡ pass_empty_lines limit lines b (along m 1) t
+    → pass_empty_lines limit lines b m (space ∷ t) ≡ pass_empty_lines limit lines b (along m 1) t
 unfolding pass_empty_lines
 e_space None lines b m t h = refl
 e_space (Some limit) lines b m t h = rw h refl
@@ -51,13 +51,14 @@ e_spaces i given limit lines b (suc j) m t l h =
     ∙ ap (λ x. pass_empty_lines limit lines b x t) (along_more m 1 j (suc j) (omega arith))
 
 e_feed : (limit : Option ℕ) (lines : EmptyLines) (b : Bool) (m : Marker) (t : List ℕ)
-    → pass_empty_lines limit lines b m (10 ∷ t) ≡ pass_empty_lines limit (with_empty_line lines m.col) true
+    → pass_empty_lines limit lines b m (line_feed ∷ t) ≡ pass_empty_lines limit (with_empty_line lines m.col) true
     (next_line m 1) t
 unfolding pass_empty_lines
 e_feed None lines b m t = refl
 e_feed (Some limit) lines b m t = refl
 
-limit_stops : (i : ℕ) (given : Bool) (limit : Option ℕ) (col c : ℕ) → IsLimit i given limit → (given ≡ false → c ≢ 32)
+limit_stops : (i : ℕ) (given : Bool) (limit : Option ℕ) (col c : ℕ) → IsLimit i given limit
+    → (given ≡ false → c ≢ space)
     → col ≡ i → is_indentation limit col c ≡ false
 limit_stops i given None col c l h e = ne_eqb c 32 (h l)
 limit_stops i given (Some limit) col c l h e =
@@ -82,7 +83,7 @@ pub record Led (st : BlockStyle) (c : Chomping) (i n : ℕ) (others : List ℕ) 
   pub whole : (e : ℕ) → contents st ls ++ reading.chomped c true (empty_at_end e ls) ≡ line_feeds d ++ later
 
 led_at : (st : BlockStyle) (c : Chomping) (i n : ℕ) (given : Bool) (limit : Option ℕ) (before : EmptyLines) (b : Bool)
-    (m : Marker) (x : ℕ) (cs t others : List ℕ) (ls : List Line) → IsLimit i given limit → (given ≡ false → x ≢ 32)
+    (m : Marker) (x : ℕ) (cs t others : List ℕ) (ls : List Line) → IsLimit i given limit → (given ≡ false → x ≢ space)
     → m.col ≡ i → before.widest ≤ i
     → is_yaml_non_break x ≡ true → ((k : ℕ) → Left n others (between st i None k b m (x ∷ t)))
     → ((k : ℕ) → Value c i (between st i None k b m (x ∷ t)) ≡ line_feeds k ++ FirstValue st c (x ∷ cs) ls)

@@ -3,7 +3,7 @@ use Rattle.std.proofs.Common.{◌≡◌, ℕ, zero, suc, ◌+◌, ◌<◌, ◌�
 use Rattle.std.specs.Prelude.{◌==◌, encode_utf8, Option, Some, None}
 use Rattle.std.proofs.lemmas.Bool.Decides.{nat_tests}
 use Rattle.std.proofs.lemmas.List.{append-nil}
-use Rattle.saphyr_input.specs.Classes.{is_break}
+use Rattle.saphyr_input.specs.Classes.{is_break, carriage_return, line_feed}
 use Rattle.saphyr_scalar.specs.declared.scalar.position.Marker.{Marker}
 use Rattle.saphyr_scalar.specs.declared.scalar.block.lines.EmptyLines.{EmptyLines}
 use Rattle.saphyr_scalar.specs.Views.Cursor.{Cursor, along, next_line, pass_break}
@@ -56,9 +56,9 @@ stops limit lines s h k = stopped limit lines s.blank_so_far s.mark s.rest h k
 
 -- what stands behind a CR, which an LF may follow
 pub behind_cr : (m : Marker) (b : Bool) (cs : List ℕ) (P : Cursor → Type 0)
-    → ((ds : List ℕ) → cs ≡ 10 ∷ ds → P (line_cursor true (next_line m 2) ds))
-    → ((slice_index cs 0 == 10) ≡ false → P (line_cursor true (next_line m 1) cs))
-    → P (pass_break (line_cursor b m (13 ∷ cs)))
+    → ((ds : List ℕ) → cs ≡ line_feed ∷ ds → P (line_cursor true (next_line m 2) ds))
+    → ((slice_index cs 0 == line_feed) ≡ false → P (line_cursor true (next_line m 1) cs))
+    → P (pass_break (line_cursor b m (carriage_return ∷ cs)))
 behind_cr m b [] P two one = one refl
 behind_cr m b (d ∷ ds) P two one =
     by_test (d == 10) (line_cursor true (next_line m 2) ds) (line_cursor true (next_line m 1) (d ∷ ds)) P
@@ -70,19 +70,20 @@ Taken limit lines b m xs s = pass_empty_lines limit lines b m xs ≡ pass_empty_
     (with_empty_line lines m.col) s
 
 at_lf : (limit : Option ℕ) (lines : EmptyLines) (b : Bool) (m : Marker) (cs : List ℕ)
-    → Taken limit lines b m (10 ∷ cs) (line_cursor true (next_line m 1) cs)
+    → Taken limit lines b m (line_feed ∷ cs) (line_cursor true (next_line m 1) cs)
 unfolding pass_empty_lines
 at_lf None lines b m cs = refl
 at_lf (Some limit) lines b m cs = refl
 
-at_cr : (limit : Option ℕ) (lines : EmptyLines) (b : Bool) (m : Marker) (cs : List ℕ) → (slice_index cs 0 == 10) ≡ false
-    → Taken limit lines b m (13 ∷ cs) (line_cursor true (next_line m 1) cs)
+at_cr : (limit : Option ℕ) (lines : EmptyLines) (b : Bool) (m : Marker) (cs : List ℕ)
+    → (slice_index cs 0 == line_feed) ≡ false
+    → Taken limit lines b m (carriage_return ∷ cs) (line_cursor true (next_line m 1) cs)
 unfolding pass_empty_lines
 at_cr None lines b m cs h = rw h refl
 at_cr (Some limit) lines b m cs h = rw h refl
 
 at_cr_lf : (limit : Option ℕ) (lines : EmptyLines) (b : Bool) (m : Marker) (ds : List ℕ)
-    → Taken limit lines b m (13 ∷ 10 ∷ ds) (line_cursor true (next_line m 2) ds)
+    → Taken limit lines b m (carriage_return ∷ line_feed ∷ ds) (line_cursor true (next_line m 2) ds)
 unfolding pass_empty_lines
 at_cr_lf None lines b m ds = ap (λ x. pass_empty_lines None (with_empty_line lines m.col) true x ds) (inside_same m)
 at_cr_lf (Some limit) lines b m ds = ap (λ x. pass_empty_lines (Some limit) (with_empty_line lines m.col) true x ds)

@@ -3,7 +3,7 @@ use Rattle.std.proofs.Common.{◌≡◌, ℕ, ◌+◌, ◌<◌, ◌≤◌, Bool,
 use Rattle.std.specs.Prelude.{◌&&◌, max, Option, Some}
 use Rattle.std.proofs.lemmas.Bool.Decides.{nat_tests}
 use Rattle.std.proofs.lemmas.List.{append-nil}
-use Rattle.saphyr_input.specs.Classes.{is_blank}
+use Rattle.saphyr_input.specs.Classes.{is_blank, line_feed}
 use Rattle.scalar_values.specs.declared.block.BlockStyle.{BlockStyle}
 use Rattle.saphyr_scalar.specs.declared.scalar.position.Marker.{Marker}
 use Rattle.saphyr_scalar.specs.Views.Cursor.{Cursor, along, next_line}
@@ -55,9 +55,9 @@ behind_value st c i more k b m n x others col h =
     (not_unfinished i n (line_cursor b (along m n) others) at h.finished) ∙ ended_tail c k
 
 pub content_value : (st : BlockStyle) (c : Chomping) (i : ℕ) (ab : Option Bool) (k : ℕ) (b : Bool) (m : Marker) (x : ℕ)
-    (cs t later : List ℕ) → m.col ≡ i → IsContent i x cs (10 ∷ t)
+    (cs t later : List ℕ) → m.col ≡ i → IsContent i x cs (line_feed ∷ t)
     → ((p : Marker) → p.col ≡ 0 → Value c i (between st i (Some (is_blank x)) 0 true p t) ≡ later)
-    → Value c i (between st i ab k b m (x ∷ (cs ++ (10 ∷ t))))
+    → Value c i (between st i ab k b m (x ∷ (cs ++ (line_feed ∷ t))))
     ≡ break_before st ab k (is_blank x) ++ ((x ∷ cs) ++ later)
 content_value st c i ab k b m x cs t later col h after =
     let p = along m (length (x ∷ cs)) in

@@ -3,7 +3,7 @@ use Rattle.std.proofs.Common.{◌≡◌, ◌≢◌, ℕ, zero, suc, ◌+◌, ◌
 use Rattle.std.specs.Prelude.{◌&&◌, not, Option, Some, is_some, ◌⊎◌}
 use Rattle.std.proofs.lemmas.Bool.Decides.{nat_tests}
 use Rattle.std.proofs.lemmas.List.{append-nil}
-use Rattle.saphyr_input.specs.Classes.{is_blank, is_break, is_yaml_non_break}
+use Rattle.saphyr_input.specs.Classes.{is_blank, is_break, is_yaml_non_break, line_feed, carriage_return}
 use Rattle.saphyr_input.specs.Places.{is_document_indicator}
 use Rattle.scalar_values.specs.declared.block.BlockStyle.{BlockStyle}
 use Rattle.saphyr_scalar.specs.Spelling.Tag.{AreIn}
@@ -35,7 +35,7 @@ spaces_on st i ab k b (suc j) m t h =
     ∙ ap (λ x. between st i ab k b x t) (along_more m 1 j (suc j) (omega arith))
 
 pub feed_on : (st : BlockStyle) (i : ℕ) (ab : Option Bool) (k : ℕ) (b : Bool) (m : Marker) (t : List ℕ)
-    → between st i ab k b m (10 ∷ t) ≡ between st i ab (k + 1) true (next_line m 1) t
+    → between st i ab k b m (line_feed ∷ t) ≡ between st i ab (k + 1) true (next_line m 1) t
 unfolding between
 feed_on st i ab k b m t = refl
 
@@ -50,7 +50,7 @@ content_on st i more b m (c ∷ cs) t h =
     (along_more m 1 (length cs) (length (c ∷ cs)) (omega arith))
 
 pub line_feed_on : (st : BlockStyle) (i : ℕ) (more b : Bool) (m : Marker) (t : List ℕ)
-    → line st i more b m (10 ∷ t) ≡ between st i (Some more) 0 true (next_line m 1) t
+    → line st i more b m (line_feed ∷ t) ≡ between st i (Some more) 0 true (next_line m 1) t
 unfolding line
 line_feed_on st i more b m t = refl
 
@@ -99,7 +99,7 @@ none_starts i n xs h = by_column (nat_eq n i) refl
     by_column true e = by_end (h (grind (arith, nat_tests)))
     by_column false e = refl
 
-no_break_at : (x : ℕ) → x ≢ 10 → x ≢ 13 → is_break x ≡ false
+no_break_at : (x : ℕ) → x ≢ line_feed → x ≢ carriage_return → is_break x ≡ false
 no_break_at x a d = rw (ne_eqb x 10 a, ne_eqb x 13 d) refl
 
 pub behind_same : (st : BlockStyle) (i : ℕ) (ab : Option Bool) (k : ℕ) (b : Bool) (m : Marker) (n : ℕ)
@@ -137,9 +137,9 @@ begun_on st i ab k b m c cs t col h =
     ∙ ap (lines_behind_text (break_before st ab k (is_blank c))) (content_on st i (is_blank c) b m (c ∷ cs) t h.all)
 
 pub content_left : (st : BlockStyle) (i n : ℕ) (ab : Option Bool) (k : ℕ) (b : Bool) (m : Marker) (c : ℕ)
-    (cs t others : List ℕ) → m.col ≡ i → IsContent i c cs (10 ∷ t)
+    (cs t others : List ℕ) → m.col ≡ i → IsContent i c cs (line_feed ∷ t)
     → ((more : Bool) (p : Marker) → p.col ≡ 0 → Left n others (between st i (Some more) 0 true p t))
-    → Left n others (between st i ab k b m (c ∷ (cs ++ (10 ∷ t))))
+    → Left n others (between st i ab k b m (c ∷ (cs ++ (line_feed ∷ t))))
 content_left st i n ab k b m c cs t others col h after =
     let p = along m (length (c ∷ cs)) in
     let same = begun_on st i ab k b m c cs (10 ∷ t) col h

@@ -3,7 +3,7 @@ use Rattle.std.proofs.Common.{◌≡◌, ℕ, suc, ◌+◌, ◌-◌, ◌≤◌, 
 use Rattle.std.specs.Prelude.{◌&&◌, ◌==◌, not, Option, Some, None, ◌⊎◌}
 use Rattle.std.proofs.lemmas.Bool.Decides.{nat_tests}
 use Rattle.saphyr_input.specs.Breaks.{normalized}
-use Rattle.saphyr_input.specs.Classes.{is_break, is_breakz, is_bom, is_digit, is_z, tab}
+use Rattle.saphyr_input.specs.Classes.{is_break, is_breakz, is_bom, is_digit, is_z, tab, space}
 use Rattle.scalar_values.specs.declared.block.Chomping.{Chomping}
 use Rattle.saphyr_scalar.specs.declared.scalar.position.Marker.{Marker}
 use Rattle.saphyr_scalar.specs.declared.scalar.fault.Refusal.{Refusal}
@@ -55,7 +55,7 @@ lead_stop lines b m xs = record {
   wider = omega arith;
 }
 
-lead_space : (j x : ℕ) (before : EmptyLines) (cs : List ℕ) (r : EmptyLines × Cursor) → x ≡ 32
+lead_space : (j x : ℕ) (before : EmptyLines) (cs : List ℕ) (r : EmptyLines × Cursor) → x ≡ space
     → Leading (j + 1) before cs r → Leading j before (x ∷ cs) r
 lead_space j x before cs r e l = record {
   front = 32 ∷ l.front;

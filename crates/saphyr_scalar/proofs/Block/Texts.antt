@@ -6,7 +6,7 @@ use Rattle.std.specs.List.{list_all}
 use Rattle.std.proofs.lemmas.Bool.Decides.{nat_tests}
 use Rattle.std.proofs.lemmas.List.{length-replicate}
 use Rattle.saphyr_input.specs.Breaks.{normalized}
-use Rattle.saphyr_input.specs.Classes.{is_break, space}
+use Rattle.saphyr_input.specs.Classes.{is_break, space, line_feed}
 use Rattle.scalar_values.specs.declared.block.BlockStyle.{BlockStyle}
 use Rattle.scalar_values.specs.declared.block.Chomping.{Chomping}
 use Rattle.scalar_values.specs.declared.block.Ending.{Ending}
@@ -19,7 +19,7 @@ use Rattle.saphyr_input.proofs.Basics.Booleans.{or_false_left, or_false_right}
 use Rattle.saphyr_scalar.proofs.Quoted.Inside.{break_cases}
 use Rattle.std.proofs.lemmas.Bool.{and_parts}
 
-pub spaces_more : (n : ℕ) (xs : List ℕ) → spaces (n + 1) ++ xs ≡ spaces n ++ (32 ∷ xs)
+pub spaces_more : (n : ℕ) (xs : List ℕ) → spaces (n + 1) ++ xs ≡ spaces n ++ (space ∷ xs)
 spaces_more zero xs = refl
 spaces_more (suc n) xs = let e : suc n + 1 ≡ suc (n + 1) = omega arith in rw e (ap (λ ys. 32 ∷ ys) (spaces_more n xs))
 
@@ -27,11 +27,11 @@ spaces_more (suc n) xs = let e : suc n + 1 ≡ suc (n + 1) = omega arith in rw e
 abbrev pub IsUnbroken : List ℕ → Type 0
 IsUnbroken text = has_break text ≡ false
 
-pub parts_plain : (c : ℕ) (cs : List ℕ) → IsUnbroken (c ∷ cs) → ((c == 10) ≡ false) × IsUnbroken cs
+pub parts_plain : (c : ℕ) (cs : List ℕ) → IsUnbroken (c ∷ cs) → ((c == line_feed) ≡ false) × IsUnbroken cs
 parts_plain c cs h =
     (or_false_left (nat_eq c 10) (has_break cs) h, or_false_right (nat_eq c 10) (has_break cs) h)
 
-pub plain_first : (c : ℕ) (cs : List ℕ) → (c == 10) ≡ false → IsUnbroken cs → IsUnbroken (c ∷ cs)
+pub plain_first : (c : ℕ) (cs : List ℕ) → (c == line_feed) ≡ false → IsUnbroken cs → IsUnbroken (c ∷ cs)
 plain_first c cs h k = rw (h, k) refl
 
 pub plain_both : (xs ys : List ℕ) → IsUnbroken xs → IsUnbroken ys → IsUnbroken (xs ++ ys)
@@ -44,9 +44,9 @@ plain_spaces (suc n) = plain_spaces n
 
 -- the first line of a text and the lines behind its break
 pub record FirstLine (line others : List ℕ) : Type 0 where
-  pub ended : ended_lines (line ++ 10 ∷ others) ≡ line ∷ ended_lines others
-  pub last : last_line (line ++ 10 ∷ others) ≡ last_line others
-  pub more : has_break (line ++ 10 ∷ others) ≡ true
+  pub ended : ended_lines (line ++ line_feed ∷ others) ≡ line ∷ ended_lines others
+  pub last : last_line (line ++ line_feed ∷ others) ≡ last_line others
+  pub more : has_break (line ++ line_feed ∷ others) ≡ true
 
 pub first_line : (line others : List ℕ) → IsUnbroken line → FirstLine line others
 first_line [] others h = record { ended = refl; last = refl; more = refl }
@@ -102,13 +102,13 @@ normal_half c cs (t ∷ ts) rest h e clear =
     let same : (t == 10) ≡ true = ap (λ (x : List ℕ). slice_index x 0 == 10) (sym e) ∙ both.1 in
     rw (both.0, same) refl
 
-not_feed : (cs taken rest : List ℕ) → (slice_index cs 0 == 10) ≡ false → cs ≡ taken ++ rest
-    → (slice_index taken 0 == 10) ≡ false
+not_feed : (cs taken rest : List ℕ) → (slice_index cs 0 == line_feed) ≡ false → cs ≡ taken ++ rest
+    → (slice_index taken 0 == line_feed) ≡ false
 not_feed cs [] rest h e = refl
 not_feed cs (t ∷ ts) rest h e = ap (λ (x : List ℕ). slice_index x 0 == 10) (sym e) ∙ h
 
 pub normalized_break : (c : ℕ) (cs taken rest : List ℕ) → is_cr_lf c cs ≡ false → is_break c ≡ true → cs ≡ taken ++ rest
-    → normalized (c ∷ taken) ≡ 10 ∷ normalized taken
+    → normalized (c ∷ taken) ≡ line_feed ∷ normalized taken
 normalized_break c cs taken rest half h e =
     break_cases c h (λ x. is_cr_lf x cs ≡ false → normalized (x ∷ taken) ≡ 10 ∷ normalized taken)
     (λ _. refl)
@@ -137,13 +137,13 @@ value_behind st c i above k text ending = value_of_lines st c i above k (ended_l
 -- an empty line more
 pub value_empty : (st : BlockStyle) (c : Chomping) (i : ℕ) (above : List ℕ) (k j : ℕ) (text : List ℕ) (ending : Ending)
     → j ≤ i
-    → value_behind st c i above k (spaces j ++ 10 ∷ text) ending ≡ value_behind st c i above (k + 1) text ending
+    → value_behind st c i above k (spaces j ++ line_feed ∷ text) ending ≡ value_behind st c i above (k + 1) text ending
 value_empty st c i above k j text ending h =
     let f = first_line (spaces j) text (plain_spaces j) in
     rw (f.ended, f.last, line_spaces i j h, add-one k) refl
 
 -- the lines of such texts
-pub lines_break : (i j : ℕ) (text : List ℕ) → j ≤ i → HasLines i text → HasLines i (spaces j ++ 10 ∷ text)
+pub lines_break : (i j : ℕ) (text : List ℕ) → j ≤ i → HasLines i text → HasLines i (spaces j ++ line_feed ∷ text)
 lines_break i j text within h =
     let f = first_line (spaces j) text (plain_spaces j) in
     record { ended = rw f.ended (inl (empty_spaces i j within), h.ended); last = rw f.last h.last }
@@ -159,7 +159,7 @@ lines_cut i content plain =
     record { ended = rw only.0 tt; last = rw only.1 (inr (content, refl)) }
 
 pub lines_broken : (i : ℕ) (content others : List ℕ) → IsUnbroken content → HasLines i others
-    → HasLines i (spaces i ++ (content ++ 10 ∷ others))
+    → HasLines i (spaces i ++ (content ++ line_feed ∷ others))
 lines_broken i content others plain h =
     let f = first_line (spaces i ++ content) others (plain_both (spaces i) content (plain_spaces i) plain) in
     let whole : (spaces i ++ content) ++ 10 ∷ others ≡ spaces i ++ (content ++ 10 ∷ others) =

@@ -6,7 +6,7 @@ use Rattle.std.proofs.lemmas.Bool.Decides.{nat_tests}
 use Rattle.std.proofs.lemmas.List.{append-nil}
 use Rattle.std.proofs.lemmas.List.Sums.{prefix_len-le-length}
 use Rattle.std.proofs.lemmas.Str.{encodes-append}
-use Rattle.saphyr_input.specs.Classes.{is_blank, is_break, is_yaml_non_break}
+use Rattle.saphyr_input.specs.Classes.{is_blank, is_break, is_yaml_non_break, carriage_return, line_feed}
 use Rattle.scalar_values.specs.declared.block.BlockStyle.{BlockStyle}
 use Rattle.scalar_values.specs.declared.block.Chomping.{Chomping}
 use Rattle.saphyr_scalar.specs.declared.scalar.position.Marker.{Marker}
@@ -210,17 +210,17 @@ abbrev Breaks : BlockStyle → ℕ → Bool → Bool → Marker → List ℕ →
 Breaks st i more b m xs t = line st i more b m xs ≡ between_at st i (Some more) 0 t
 
 line_lf : (st : BlockStyle) (i : ℕ) (more b : Bool) (m : Marker) (cs : List ℕ)
-    → Breaks st i more b m (10 ∷ cs) (line_cursor true (next_line m 1) cs)
+    → Breaks st i more b m (line_feed ∷ cs) (line_cursor true (next_line m 1) cs)
 unfolding line
 line_lf st i more b m cs = refl
 
-line_cr : (st : BlockStyle) (i : ℕ) (more b : Bool) (m : Marker) (cs : List ℕ) → (slice_index cs 0 == 10) ≡ false
-    → Breaks st i more b m (13 ∷ cs) (line_cursor true (next_line m 1) cs)
+line_cr : (st : BlockStyle) (i : ℕ) (more b : Bool) (m : Marker) (cs : List ℕ) → (slice_index cs 0 == line_feed) ≡ false
+    → Breaks st i more b m (carriage_return ∷ cs) (line_cursor true (next_line m 1) cs)
 unfolding line
 line_cr st i more b m cs h = rw h refl
 
 line_cr_lf : (st : BlockStyle) (i : ℕ) (more b : Bool) (m : Marker) (ds : List ℕ)
-    → Breaks st i more b m (13 ∷ 10 ∷ ds) (line_cursor true (next_line m 2) ds)
+    → Breaks st i more b m (carriage_return ∷ line_feed ∷ ds) (line_cursor true (next_line m 2) ds)
 unfolding line
 line_cr_lf st i more b m ds = ap (λ x. between st i (Some more) 0 true x ds) (inside_same m)
 

@@ -5,7 +5,7 @@ use Rattle.std.proofs.Common.{inl, inr}
 use Rattle.std.proofs.lemmas.Bool.Decides.{nat_tests}
 use Rattle.std.proofs.lemmas.List.{append-nil, length-replicate}
 use Rattle.saphyr_input.specs.Breaks.{normalized}
-use Rattle.saphyr_input.specs.Classes.{is_break, is_blank, is_z, is_yaml_non_break}
+use Rattle.saphyr_input.specs.Classes.{is_break, is_blank, is_z, is_yaml_non_break, line_feed, space}
 use Rattle.scalar_values.specs.declared.block.BlockStyle.{BlockStyle}
 use Rattle.scalar_values.specs.declared.block.BlockStyle.TheVariants.{Literal, Folded}
 use Rattle.scalar_values.specs.declared.block.Chomping.{Chomping}
@@ -148,7 +148,7 @@ stop_content st c i more b m xs within cut clear =
       );
     }
 
-space_text : (j x : ℕ) (taken : List ℕ) → x ≡ 32
+space_text : (j x : ℕ) (taken : List ℕ) → x ≡ space
     → spaces (j + 1) ++ normalized taken ≡ spaces j ++ normalized (x ∷ taken)
 space_text j x taken e =
     spaces_more j (normalized taken)
@@ -156,7 +156,8 @@ space_text j x taken e =
     (ap (λ y. y ∷ normalized taken) (sym e) ∙ sym (normalized_other x taken (ap (λ y. nat_eq y 13) e)))
 
 -- a space of a line's indentation more
-space_more : (st : BlockStyle) (c : Chomping) (i : ℕ) (more : Bool) (k j x : ℕ) (cs : List ℕ) (r : LinesRead) → x ≡ 32
+space_more : (st : BlockStyle) (c : Chomping) (i : ℕ) (more : Bool) (k j x : ℕ) (cs : List ℕ) (r : LinesRead)
+    → x ≡ space
     → BetweenRead st c i more k (j + 1) cs r → BetweenRead st c i more k j (x ∷ cs) r
 space_more st c i more k j x cs r e b = record {
   taken = x ∷ b.taken;
@@ -257,7 +258,7 @@ value_cut st c i above k content e plain some =
 
 value_broken : (st : BlockStyle) (c : Chomping) (i : ℕ) (above : List ℕ) (k : ℕ) (content others : List ℕ) (e : Ending)
     → IsUnbroken content → 0 < length content
-    → value_behind st c i above k (spaces i ++ (content ++ 10 ∷ others)) e
+    → value_behind st c i above k (spaces i ++ (content ++ line_feed ∷ others)) e
     ≡ break_between st above k content ++ (content ++ value_behind st c i content 0 others e)
 value_broken st c i above k content others e plain some =
     let f = first_line (spaces i ++ content) others (plain_both (spaces i) content (plain_spaces i) plain) in
@@ -322,7 +323,7 @@ begun_line st c i more k col x cs r s l =
 no_space_at : (i col : ℕ) → is_indentation (Some i) col 0 ≡ false
 no_space_at i col = refl
 
-indentation_is_space : (i col x : ℕ) → is_indentation (Some i) col x ≡ true → (x ≡ 32) × (col + 1 ≤ i)
+indentation_is_space : (i col x : ℕ) → is_indentation (Some i) col x ≡ true → (x ≡ space) × (col + 1 ≤ i)
 indentation_is_space i col x h =
     let both = and_parts (nat_eq x 32) (nat_lt col i) h in
     (grind (arith, nat_tests), grind (arith, nat_tests))

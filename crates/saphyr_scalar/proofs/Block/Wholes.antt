@@ -5,7 +5,7 @@ use Rattle.std.proofs.Common.{inl, inr}
 use Rattle.std.proofs.lemmas.Bool.Decides.{nat_tests}
 use Rattle.std.proofs.lemmas.List.{append-nil, length-replicate}
 use Rattle.saphyr_input.specs.Breaks.{normalized}
-use Rattle.saphyr_input.specs.Classes.{is_break, is_blank, is_z, is_yaml_non_break}
+use Rattle.saphyr_input.specs.Classes.{is_break, is_blank, is_z, is_yaml_non_break, line_feed}
 use Rattle.scalar_values.specs.declared.block.BlockStyle.{BlockStyle}
 use Rattle.scalar_values.specs.declared.block.Chomping.{Chomping}
 use Rattle.scalar_values.specs.declared.block.Chomping.TheVariants.{Strip, Clip, Keep}
@@ -159,8 +159,8 @@ cut_lines i x plain =
     (ap (map (line_of i)) only.0, only.1)
 
 broken_lines : (i : ℕ) (x others : List ℕ) → IsUnbroken x → 0 < length x
-    → (lines_of i (spaces i ++ (x ++ 10 ∷ others)) ≡ Content x ∷ lines_of i others)
-    × (last_line (spaces i ++ (x ++ 10 ∷ others)) ≡ last_line others)
+    → (lines_of i (spaces i ++ (x ++ line_feed ∷ others)) ≡ Content x ∷ lines_of i others)
+    × (last_line (spaces i ++ (x ++ line_feed ∷ others)) ≡ last_line others)
 broken_lines i x others plain some =
     let f = first_line (spaces i ++ x) others (plain_both (spaces i) x (plain_spaces i) plain) in
     let whole : spaces i ++ (x ++ 10 ∷ others) ≡ (spaces i ++ x) ++ 10 ∷ others =

@@ -2,6 +2,7 @@
 use Rattle.std.proofs.Common.{◌≡◌, ℕ, zero, suc, ◌-◌, ◌<◌, Bool, true, false, List, [], ◌++◌, length, drop, slice_index, refl, sym, ap, ◌∙◌, subst, Result, encode_utf8, encode_utf8_all}
 use Rattle.std.specs.Prelude.{◌&&◌, ◌||◌, ◌==◌}
 use Rattle.std.specs.List.{prefix_len}
+use Rattle.saphyr_input.specs.Indicators.{less_than, percent_sign}
 use Rattle.saphyr_input.specs.Classes.{is_break, is_hex, is_flow, is_alpha, is_blank_or_breakz, is_anchor_char, is_uri_char, is_tag_char}
 use Rattle.saphyr_scalar.specs.declared.scalar.position.Marker.{Marker}
 use Rattle.saphyr_scalar.specs.declared.scalar.fault.Refusal.{Refusal}
@@ -72,7 +73,7 @@ two_hex r = is_hex (slice_index r 0) && hex_first (drop 1 r)
 two_hex_alike : (r q : List ℕ) → Normal r q → two_hex r ≡ two_hex q
 two_hex_alike r q n = behind_first is_hex refl refl hex_first (λ r q n. first_in is_hex refl n) n
 
-shows_is : (r : List ℕ) → shows_byte r ≡ ((slice_index r 0 == 37) && two_hex (drop 1 r))
+shows_is : (r : List ℕ) → shows_byte r ≡ ((slice_index r 0 == percent_sign) && two_hex (drop 1 r))
 shows_is r =
     all_three (slice_index r 0 == 37) (is_hex (slice_index r 1)) (is_hex (slice_index r 2))
     ∙ rw (second_is r, third_is r) refl
@@ -208,7 +209,7 @@ verbatim_end_alike text m n x y e =
     by_first (λ c. c == 62) refl e.1 (GiveAlike (AreTagsAlike text))
     (λ h. (refl, e.0, one_passed (no_break_in (λ c. c == 62) refl refl x.1.rest h) e.1)) (λ _. refl)
 
-verbatim_alike : (text : List ℕ) (s t : Cursor) → NoBreak s.rest → (slice_index s.rest 1 == 60) ≡ true
+verbatim_alike : (text : List ℕ) (s t : Cursor) → NoBreak s.rest → (slice_index s.rest 1 == less_than) ≡ true
     → AreAlike text s t → GiveAlike (AreTagsAlike text) (verbatim_tag s) (verbatim_tag t)
 unfolding verbatim_tag
 verbatim_alike text s t h second e =

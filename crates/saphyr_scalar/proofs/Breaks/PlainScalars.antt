@@ -1,6 +1,7 @@
 -- Plain scalars are read alike.
 use Rattle.std.proofs.Common.{◌≡◌, ℕ, zero, suc, ◌<◌, Bool, true, false, List, [], ◌∷◌, ◌++◌, length, drop, slice_index, refl, sym, ap, ◌∙◌, arith, subst, cond, encode_utf8}
 use Rattle.std.specs.Prelude.{◌&&◌, ◌||◌, ◌==◌, not, nat_lt}
+use Rattle.saphyr_input.specs.Indicators.{hyphen}
 use Rattle.saphyr_input.specs.Classes.{is_break, is_blank, is_blank_or_breakz, is_z, is_bom, is_flow, tab}
 use Rattle.saphyr_input.specs.Places.{is_document_indicator, is_blank_or_break}
 use Rattle.saphyr_scalar.specs.declared.scalar.position.Marker.{Marker}
@@ -30,8 +31,8 @@ in_word_alike f (return h n) = refl
 in_word_alike f (pair n) = refl
 
 dash_alike : (f : Bool) {r q : List ℕ} → Normal r q
-    → (f && (slice_index r 0 == 45) && is_flow (slice_index r 1)) ≡
-    (f && (slice_index q 0 == 45) && is_flow (slice_index q 1))
+    → (f && (slice_index r 0 == hyphen) && is_flow (slice_index r 1)) ≡
+    (f && (slice_index q 0 == hyphen) && is_flow (slice_index q 1))
 dash_alike f {r = r} {q = q} n =
     all_three f (slice_index r 0 == 45) (is_flow (slice_index r 1))
     ∙ ap (λ c. f && ((slice_index r 0 == 45) && is_flow c)) (sym (second_is r))

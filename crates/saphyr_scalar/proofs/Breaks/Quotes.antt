@@ -22,6 +22,7 @@ use Rattle.saphyr_scalar.proofs.Breaks.Separations.{by_first, PartsAlike, first_
 use Rattle.saphyr_scalar.proofs.Breaks.Names.{NoBreak, no_break_in, one_passed, front_alike}
 use Rattle.saphyr_input.proofs.Basics.Booleans.{and_true_left, and_true_right, by_test}
 use Rattle.std.proofs.lemmas.Bool.{not-true}
+use Rattle.saphyr_input.specs.Indicators.{backslash}
 use Rattle.saphyr_input.proofs.Basics.Lists.{second_is}
 use Rattle.saphyr_input.proofs.Basics.Characters.{no_return}
 
@@ -88,8 +89,8 @@ two_quotes_alike {r = r} {q = q} n =
     ∙ ap (λ c. (slice_index q 0 == 39) && (c == 39)) (second_is q)
 
 slash_alike : {r q : List ℕ} → Normal r q
-    → ((slice_index r 0 == 92) && not (is_break (slice_index r 1))) ≡
-    ((slice_index q 0 == 92) && not (is_break (slice_index q 1)))
+    → ((slice_index r 0 == backslash) && not (is_break (slice_index r 1))) ≡
+    ((slice_index q 0 == backslash) && not (is_break (slice_index q 1)))
 slash_alike {r = r} {q = q} n =
     ap (λ c. (slice_index r 0 == 92) && not (is_break c)) (sym (second_is r))
     ∙ behind_first (λ c. c == 92) refl refl (λ r. not (is_break (slice_index r 0)))

@@ -5,7 +5,7 @@ use Rattle.std.specs.List.{prefix_len}
 use Rattle.std.proofs.lemmas.List.{drop-drop}
 use Rattle.std.proofs.lemmas.Bool.Decides.{nat_tests}
 use Rattle.saphyr_input.specs.Breaks.{normalized}
-use Rattle.saphyr_input.specs.Classes.{is_break}
+use Rattle.saphyr_input.specs.Classes.{is_break, carriage_return, line_feed}
 use Rattle.saphyr_scalar.specs.declared.scalar.position.Marker.{Marker}
 use Rattle.saphyr_scalar.specs.Views.Cursor.{Cursor, along, next_line}
 use Rattle.saphyr_scalar.specs.Steps.Block.{line_cursor}
@@ -19,11 +19,12 @@ use Rattle.saphyr_input.proofs.Basics.Characters.{no_return}
 pub data Normal : List ℕ → List ℕ → Type 0 where
   nothing : Normal [] []
   character : (c : ℕ) {r q : List ℕ} → is_break c ≡ false → Normal r q → Normal (c ∷ r) (c ∷ q)
-  feed : {r q : List ℕ} → Normal r q → Normal (10 ∷ r) (10 ∷ q)
-  return : {r q : List ℕ} → (slice_index r 0 == 10) ≡ false → Normal r q → Normal (13 ∷ r) (10 ∷ q)
-  pair : {r q : List ℕ} → Normal r q → Normal (13 ∷ 10 ∷ r) (10 ∷ q)
+  feed : {r q : List ℕ} → Normal r q → Normal (line_feed ∷ r) (line_feed ∷ q)
+  return : {r q : List ℕ} → (slice_index r 0 == line_feed) ≡ false → Normal r q
+      → Normal (carriage_return ∷ r) (line_feed ∷ q)
+  pair : {r q : List ℕ} → Normal r q → Normal (carriage_return ∷ line_feed ∷ r) (line_feed ∷ q)
 
-pub no_feed : (c : ℕ) → is_break c ≡ false → (c == 10) ≡ false
+pub no_feed : (c : ℕ) → is_break c ≡ false → (c == line_feed) ≡ false
 no_feed c h = grind (arith, nat_tests)
 
 pub normalized_is : {r q : List ℕ} → Normal r q → normalized r ≡ q
@@ -35,11 +36,11 @@ normalized_is (pair n) = rw (normalized_is n) refl
 
 -- behind a CR
 at_return : (cs : List ℕ) → Normal cs (normalized cs) → Normal (drop 1 cs) (normalized (drop 1 cs))
-    → Normal (13 ∷ cs) (normalized (13 ∷ cs))
+    → Normal (carriage_return ∷ cs) (normalized (carriage_return ∷ cs))
 at_return [] here behind = return refl here
 at_return (d ∷ ds) here behind = by (d == 10) refl
   where
-    by : (b : Bool) → (d == 10) ≡ b → Normal (13 ∷ d ∷ ds) (normalized (13 ∷ d ∷ ds))
+    by : (b : Bool) → (d == line_feed) ≡ b → Normal (carriage_return ∷ d ∷ ds) (normalized (carriage_return ∷ d ∷ ds))
     by true e =
         let ten : 10 ≡ d = grind (arith, nat_tests) in
         subst (λ x. Normal (13 ∷ x ∷ ds) (normalized (13 ∷ x ∷ ds))) ten (pair behind)
@@ -50,7 +51,7 @@ normal_behind_character : (c : ℕ) (cs : List ℕ) → Normal cs (normalized cs
     → Normal (c ∷ cs) (normalized (c ∷ cs))
 normal_behind_character c cs here behind = by (c == 13) (c == 10) refl refl
   where
-    by : (a b : Bool) → (c == 13) ≡ a → (c == 10) ≡ b → Normal (c ∷ cs) (normalized (c ∷ cs))
+    by : (a b : Bool) → (c == carriage_return) ≡ a → (c == line_feed) ≡ b → Normal (c ∷ cs) (normalized (c ∷ cs))
     by true b e f =
         let is : 13 ≡ c = grind (arith, nat_tests) in
         subst (λ x. Normal (x ∷ cs) (normalized (x ∷ cs))) is (at_return cs here behind)
@@ -168,7 +169,8 @@ moved_down {m = m} {n = n} a b p = places_moved a b (next_line m a) (next_line n
 
 -- over CR LF, by a place between the two
 pub over_pair : {text r q : List ℕ} (m n k : Marker) → k.index ≡ m.index + 1 → k.line ≡ m.line
-    → Places text (13 ∷ 10 ∷ r) (10 ∷ q) m n → Places text r q (next_line k 1) (next_line n 1)
+    → Places text (carriage_return ∷ line_feed ∷ r) (line_feed ∷ q) m n
+    → Places text r q (next_line k 1) (next_line n 1)
 over_pair m n k at_feed on_line p =
     let two : k.index + 1 ≡ m.index + 2 = omega arith in
     places_moved 2 1 (next_line k 1) (next_line n 1) p two refl (rw (on_line, p.line) refl) refl

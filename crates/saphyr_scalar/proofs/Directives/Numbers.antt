@@ -4,6 +4,7 @@ use Rattle.std.specs.Prelude.{◌||◌, ◌==◌, nat_lt}
 use Rattle.std.proofs.Math.Nat.{pow-le-pow_right}
 use Rattle.std.proofs.lemmas.Grind.{pow_more}
 use Rattle.std.proofs.lemmas.Bool.Decides.{nat_tests}
+use Rattle.saphyr_input.specs.Indicators.{exclamation_mark}
 use Rattle.saphyr_input.specs.Classes.{is_digit, is_tag_char}
 use Rattle.saphyr_scalar.specs.declared.scalar.position.Marker.{Marker}
 use Rattle.saphyr_scalar.specs.Views.Cursor.{Cursor, along, pass}
@@ -41,6 +42,7 @@ digit_on start n v c s t u read h few passed same =
     rw (one, read, same, passed) (sym (digit_first start n v s.mark s.rest digit few))
 
 -- a place that shows a character that a prefix may begin with is a character
-pub prefix_left : (xs : List ℕ) → ((slice_index xs 0 == 33) || is_tag_char (slice_index xs 0)) ≡ true → 0 < length xs
+pub prefix_left : (xs : List ℕ) → ((slice_index xs 0 == exclamation_mark) || is_tag_char (slice_index xs 0)) ≡ true
+    → 0 < length xs
 prefix_left [] h = absurd (cc)
 prefix_left (c ∷ cs) h = omega arith

@@ -2,6 +2,7 @@
 -- behind it.
 use Rattle.std.proofs.Common.{◌≡◌, ℕ, suc, ◌+◌, ◌-◌, ◌*◌, List, [], ◌∷◌, ◌++◌, length, length-append, append_assoc, arith, drop, slice_index, Ok, refl, sym, ap, ◌∙◌, subst, nat_lt, codes, encode_utf8, encode_utf8_all}
 use Rattle.std.specs.Prelude.{◌||◌, ◌&&◌, ◌==◌, bytes_eq}
+use Rattle.saphyr_input.specs.Indicators.{percent_sign}
 use Rattle.saphyr_input.specs.Classes.{is_alpha, is_blank_or_breakz, is_bom, is_breakz, is_digit, is_tag_char, is_yaml_non_space}
 use Rattle.saphyr_input.specs.Separation.{separation_len, is_bare_comment}
 use Rattle.saphyr_input.specs.declared.input.SkipTabs.{SkipTabs}
@@ -109,7 +110,7 @@ end_refused s t p =
 
 -- the place behind what a directive says
 value_passed : (m : Marker) (ys : List ℕ) (x : List ℕ × Cursor) (d : ReadDirective × Cursor)
-    → name (mid_line (along m 1) ys) ≡ Ok x → value m x ≡ Ok d → IsPassed m (37 ∷ ys) d.1.mark d.1.rest
+    → name (mid_line (along m 1) ys) ≡ Ok x → value m x ≡ Ok d → IsPassed m (percent_sign ∷ ys) d.1.mark d.1.rest
 value_passed m ys x d h k =
     let n = name_spelled (along m 1) ys x.0 x.1 h in
     let here : Marker = along (along m 1) (length n.word) in
@@ -127,7 +128,7 @@ value_passed m ys x d h k =
     (no_breaks_passed m t d.1.rest (directive_no_break d.0 t is.is)))
 
 directive_refused_at : (m : Marker) (ys : List ℕ)
-    → Refused (IsRefusedInside (mid_line m (37 ∷ ys))) (directive (mid_line m (37 ∷ ys)))
+    → Refused (IsRefusedInside (mid_line m (percent_sign ∷ ys))) (directive (mid_line m (percent_sign ∷ ys)))
 unfolding directive
 directive_refused_at m ys =
     let s : Cursor = mid_line m (37 ∷ ys) in
@@ -140,7 +141,7 @@ directive_refused_at m ys =
     (refused_more (λ e. e.mark ≡ m) P (value m x) (value_refused m x) (inside_start s))
     (λ d k. refused_bind P (line_end m d.1) _ (end_refused s d.1 (value_passed m ys x d h k)) (λ t _. tt)))
 
-pub directive_refused : (s : Cursor) → slice_index s.rest 0 ≡ 37 → Refused (IsRefusedInside s) (directive s)
+pub directive_refused : (s : Cursor) → slice_index s.rest 0 ≡ percent_sign → Refused (IsRefusedInside s) (directive s)
 unfolding directive
 directive_refused s begins =
     let more : s.rest ≡ 37 ∷ drop 1 s.rest = cut_at 37 s.rest refl begins in

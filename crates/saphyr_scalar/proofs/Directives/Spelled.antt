@@ -1,5 +1,6 @@
 -- What is read as a directive is spelled so, on its whole line.
 use Rattle.std.proofs.Common.{◌≡◌, ℕ, ◌+◌, true, List, ◌∷◌, ◌++◌, length, length-append, append_assoc, drop, slice_index, Ok, refl, sym, ap, ◌∙◌, arith, subst, encode_utf8_all}
+use Rattle.saphyr_input.specs.Indicators.{percent_sign}
 use Rattle.saphyr_input.specs.Classes.{is_breakz}
 use Rattle.saphyr_scalar.specs.declared.scalar.position.Marker.{Marker}
 use Rattle.saphyr_scalar.specs.Views.Cursor.{Cursor, ◌>>=◌, along, pass_break}
@@ -26,7 +27,7 @@ OfLine m xs r = Spelled m xs r.0 r.1 r.2
 
 line_spells : (m : Marker) (ys text : List ℕ) (a b : Cursor) (d : ReadDirective) (u : Cursor)
     → (n : NameOf (along m 1) ys text a) → ValueOf d (along (along m 1) (length n.word)) n.word a.rest b
-    → TailOf b.mark b.rest u → Spelled m (37 ∷ ys) d b.mark u
+    → TailOf b.mark b.rest u → Spelled m (percent_sign ∷ ys) d b.mark u
 line_spells m ys text a b d u n is tail =
     let t = 37 ∷ (n.word ++ is.more) in
     let end : b.mark ≡ along m (length t) =
@@ -52,7 +53,7 @@ pub at_self : (b : Cursor) (k : Marker) (r : List ℕ) → b ≡ mid_line k r �
 at_self b k r e = ap (λ (y : Cursor). mid_line y.mark y.rest) e ∙ sym e
 
 directive_spelled : (m : Marker) (ys : List ℕ) (d : ReadDirective) (end : Marker) (u : Cursor)
-    → directive (mid_line m (37 ∷ ys)) ≡ Ok (d, end, u) → Spelled m (37 ∷ ys) d end u
+    → directive (mid_line m (percent_sign ∷ ys)) ≡ Ok (d, end, u) → Spelled m (percent_sign ∷ ys) d end u
 unfolding directive
 directive_spelled m ys d end u h =
     let one = bind_ok (name (mid_line (along m 1) ys))
@@ -76,7 +77,7 @@ directive_spelled m ys d end u h =
     (ok_same {A = ReadDirective × Marker × Cursor} (two.given.0, b.mark, three.given) (d, end, u) three.next)
     (line_spells m ys one.given.0 a b two.given.0 three.given n is (line_spelled m b.mark b.rest three.given line))
 
-pub spells_directive : (s u : Cursor) (d : ReadDirective) (end : Marker) → slice_index s.rest 0 ≡ 37
+pub spells_directive : (s u : Cursor) (d : ReadDirective) (end : Marker) → slice_index s.rest 0 ≡ percent_sign
     → directive s ≡ Ok (d, end, u)
     → (t : List ℕ) × (tail : List ℕ) × (x : List ℕ) × (s.rest ≡ t ++ (tail ++ x)) × IsReadDirective d t
     × IsLineTail tail × (is_breakz (slice_index x 0) ≡ true) × (end ≡ along s.mark (length t))

@@ -1,6 +1,7 @@
 -- Each spelled tag directive is read.
 use Rattle.std.proofs.Common.{◌≡◌, ℕ, ◌+◌, Bool, true, false, List, [], ◌∷◌, ◌++◌, length, length-append, append_assoc, slice_index, nat_eq, Result, Ok, refl, sym, ap, ◌∙◌, arith, encode_utf8_all, inl, inr}
 use Rattle.std.specs.Prelude.{◌||◌, ◌==◌, codes, encode_utf8}
+use Rattle.saphyr_input.specs.Indicators.{exclamation_mark}
 use Rattle.saphyr_input.specs.Classes.{is_alpha, is_tag_char, is_uri_char, is_blank, is_blank_or_breakz}
 use Rattle.saphyr_scalar.specs.declared.scalar.position.Marker.{Marker}
 use Rattle.saphyr_scalar.specs.declared.scalar.fault.Refusal.{Refusal}
@@ -42,7 +43,7 @@ handle_read start m h y (inr (w, are, named)) ends =
 abbrev pub begins_prefix : ℕ → Bool
 begins_prefix c = (c == 33) || is_tag_char c
 
-prefix_first : (c : ℕ) (t y : List ℕ) → IsCharacter (λ x. is_tag_char x || (x == 33)) c t
+prefix_first : (c : ℕ) (t y : List ℕ) → IsCharacter (λ x. is_tag_char x || (x == exclamation_mark)) c t
     → begins_prefix (slice_index (t ++ y) 0) ≡ true
 prefix_first c t y (inl (in_set, plain, e)) = rw e (or_true_swap (is_tag_char c) (nat_eq c 33) in_set)
 prefix_first c t y (inr (scalar, escaped)) = rw (escape_first c t y scalar escaped) refl

@@ -4,6 +4,7 @@ use Rattle.std.specs.Prelude.{◌||◌, ◌==◌, codes, encode_utf8}
 use Rattle.std.specs.List.{prefix_len}
 use Rattle.std.proofs.lemmas.Bool.{eqb-true}
 use Rattle.std.proofs.lemmas.List.{take-append-drop}
+use Rattle.saphyr_input.specs.Indicators.{exclamation_mark}
 use Rattle.saphyr_input.specs.Classes.{is_alpha, is_tag_char, is_blank, is_blank_or_breakz}
 use Rattle.saphyr_scalar.specs.declared.scalar.position.Marker.{Marker}
 use Rattle.saphyr_scalar.specs.declared.scalar.fault.FaultText.TheVariants as fault
@@ -31,7 +32,7 @@ pub record HandleOf (m : Marker) (xs text : List ℕ) (u : Cursor) : Type 0 wher
   pub handle : List ℕ
   pub is : IsHandleText handle
   pub bytes : encode_utf8_all handle ≡ text
-  pub begins : slice_index xs 0 ≡ 33
+  pub begins : slice_index xs 0 ≡ exclamation_mark
   pub rest : xs ≡ handle ++ u.rest
   pub place : u ≡ mid_line (along m (length handle)) u.rest
 
@@ -40,7 +41,7 @@ OfHandle m xs x = HandleOf m xs x.0 x.1
 
 word_spelled : (start m : Marker) (ys text : List ℕ) (u : Cursor)
     → handle_behind_word start (with_run is_alpha [] (mid_line (along m 1) ys)) ≡ Ok (text, u)
-    → HandleOf m (33 ∷ ys) text u
+    → HandleOf m (exclamation_mark ∷ ys) text u
 unfolding handle_behind_word
 word_spelled start m ys text u =
     let n = prefix_len is_alpha ys in

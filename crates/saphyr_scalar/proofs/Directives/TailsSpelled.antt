@@ -5,6 +5,7 @@ use Rattle.std.specs.List.{prefix_len}
 use Rattle.std.proofs.lemmas.Bool.{eqb-true}
 use Rattle.std.proofs.lemmas.Bool.Decides.{nat_tests}
 use Rattle.std.proofs.lemmas.List.{take-append-drop}
+use Rattle.saphyr_input.specs.Indicators.{number_sign}
 use Rattle.saphyr_input.specs.Classes.{is_blank, is_breakz, is_bom, is_yaml_non_break}
 use Rattle.saphyr_input.specs.Separation.{separation_len, blank_len, comment_len, is_bare_comment, found_blanks}
 use Rattle.saphyr_input.specs.declared.input.SkipTabs.{SkipTabs}
@@ -32,7 +33,8 @@ pub record TailOf (m : Marker) (xs : List ℕ) (u : Cursor) : Type 0 where
   pub ends : is_breakz (slice_index behind 0) ≡ true
   pub place : u ≡ pass_break (mid_line (along m (length tail)) behind)
 
-comment_at : (blanks ws : List ℕ) → blanks ≢ [] → Tail blanks (take (1 + prefix_len is_yaml_non_break ws) (35 ∷ ws))
+comment_at : (blanks ws : List ℕ) → blanks ≢ []
+    → Tail blanks (take (1 + prefix_len is_yaml_non_break ws) (number_sign ∷ ws))
 comment_at blanks ws some =
     let q = prefix_len is_yaml_non_break ws in
     let one : 1 + q ≡ suc q = omega arith in

@@ -6,6 +6,7 @@ use Rattle.std.proofs.Math.Utf8.{encode}
 use Rattle.std.proofs.lemmas.Bool.{false≢true}
 use Rattle.std.proofs.lemmas.List.{take-append-drop}
 use Rattle.std.proofs.lemmas.Slice.Eq.{bytes_eq-Decides}
+use Rattle.saphyr_input.specs.Indicators.{percent_sign}
 use Rattle.saphyr_input.specs.Classes.{is_blank, is_breakz, is_blank_or_breakz, is_yaml_non_break, is_yaml_non_space}
 use Rattle.saphyr_input.proofs.Runs.{run_stops}
 use Rattle.saphyr_scalar.specs.declared.scalar.position.Marker.{Marker}
@@ -28,7 +29,7 @@ pub record ValueOf (d : ReadDirective) (k : Marker) (w zs : List ℕ) (u : Curso
   pub more : List ℕ
   pub text : zs ≡ more ++ u.rest
   pub place : u ≡ mid_line (along k (length more)) u.rest
-  pub is : IsReadDirective d (37 ∷ (w ++ more))
+  pub is : IsReadDirective d (percent_sign ∷ (w ++ more))
 
 version_value : (d : ReadDirective) (k : Marker) (zs : List ℕ) (u : Cursor) → VersionOf d k zs u
     → ValueOf d k (codes "YAML") zs u

@@ -2,6 +2,7 @@
 use Rattle.std.proofs.Common.{◌≡◌, ℕ, suc, ◌+◌, ◌-◌, ◌*◌, ◌<◌, ◌≤◌, true, false, List, [], ◌∷◌, ◌++◌, length, add-zero, slice_index, nat_eq, Result, Ok, refl, ap, ◌∙◌, arith}
 use Rattle.std.proofs.lemmas.Bool.{lt-ltb}
 use Rattle.std.proofs.lemmas.Bool.Decides.{nat_tests}
+use Rattle.saphyr_input.specs.Indicators.{full_stop}
 use Rattle.saphyr_input.specs.Classes.{is_digit, is_blank}
 use Rattle.saphyr_scalar.specs.declared.scalar.position.Marker.{Marker}
 use Rattle.saphyr_scalar.specs.declared.scalar.fault.Refusal.{Refusal}
@@ -56,7 +57,7 @@ then_minor major r = r >>= λ y. Ok (version major y.0, y.1)
 
 pub version_read : (start m : Marker) (major minor : ℕ) (gap high low y : List ℕ) → AreSomeBlanks gap
     → IsVersionNumber major high → IsVersionNumber minor low → is_digit (slice_index y 0) ≡ false
-    → version_directive start (mid_line m (gap ++ (high ++ (46 ∷ (low ++ y)))))
+    → version_directive start (mid_line m (gap ++ (high ++ (full_stop ∷ (low ++ y)))))
     ≡ Ok (version major minor, mid_line (along m (length gap + length high + 1 + length low)) y)
 unfolding version_directive behind_major
 version_read start m major minor gap high low y blanks first second ends =

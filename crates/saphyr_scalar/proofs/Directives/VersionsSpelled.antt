@@ -4,6 +4,7 @@ use Rattle.std.specs.List.{prefix_len}
 use Rattle.std.proofs.lemmas.Bool.{false≢true, eqb-true}
 use Rattle.std.proofs.lemmas.Bool.Decides.{nat_tests}
 use Rattle.std.proofs.lemmas.List.{take-append-drop}
+use Rattle.saphyr_input.specs.Indicators.{full_stop}
 use Rattle.saphyr_input.specs.Classes.{is_digit, is_blank, is_blank_or_breakz}
 use Rattle.saphyr_scalar.specs.declared.scalar.position.Marker.{Marker}
 use Rattle.saphyr_scalar.specs.declared.scalar.fault.FaultText.TheVariants as fault
@@ -103,7 +104,7 @@ pub record VersionOf (d : ReadDirective) (m : Marker) (xs : List ℕ) (u : Curso
   pub blanks : AreSomeBlanks gap
   pub first : IsVersionNumber major high
   pub second : IsVersionNumber minor low
-  pub text : xs ≡ gap ++ (high ++ (46 ∷ (low ++ u.rest)))
+  pub text : xs ≡ gap ++ (high ++ (full_stop ∷ (low ++ u.rest)))
   pub place : u ≡ mid_line (along m (length gap + length high + 1 + length low)) u.rest
 
 pub version_spelled : (start m : Marker) (xs : List ℕ) (d : ReadDirective) (u : Cursor)

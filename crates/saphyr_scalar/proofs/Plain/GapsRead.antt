@@ -5,7 +5,7 @@ use Rattle.std.specs.List.{prefix_len}
 use Rattle.std.proofs.lemmas.Bool.Decides.{nat_tests}
 use Rattle.std.proofs.lemmas.List.{append-nil, take-append-drop, length-take-le}
 use Rattle.std.proofs.lemmas.Str.{encode_ascii}
-use Rattle.saphyr_input.specs.Classes.{is_blank, is_break, tab, line_feed}
+use Rattle.saphyr_input.specs.Classes.{is_blank, is_break, tab, line_feed, carriage_return}
 use Rattle.saphyr_input.specs.Places.{is_blank_or_break}
 use Rattle.saphyr_scalar.specs.Spelling.Tag.{AreIn}
 use Rattle.saphyr_scalar.specs.declared.scalar.position.Marker.{Marker}
@@ -50,7 +50,7 @@ more_run c cs rest m end k white none r =
       place = ap (λ (b : Bool). end_of_text (if b then next_line m 1 else along m 1) r.white) (sym same) ∙ r.place;
     }
 
-other_no_feed : (c : ℕ) → is_blank_or_break c ≡ false → (c == 10) ≡ false
+other_no_feed : (c : ℕ) → is_blank_or_break c ≡ false → (c == line_feed) ≡ false
 other_no_feed = ink_no_feed
 
 -- the lines behind a word's line
@@ -67,7 +67,7 @@ reached_run a t f m xs g stop e =
     subst (λ (h : PlainGap). LinesRun xs m f h) (sym (may_stand_same a t f (line_front m xs) g e))
     (record { breaks = 0; stop = stop; run = no_run xs m; text = sym (append-nil f) })
 
-more_text : (b : Bool) (k : ℕ) (f text : List ℕ) → text ≡ (if b then f ++ 10 ∷ [] else f) ++ line_feeds k
+more_text : (b : Bool) (k : ℕ) (f text : List ℕ) → text ≡ (if b then f ++ line_feed ∷ [] else f) ++ line_feeds k
     → text ≡ f ++ line_feeds (if b then suc k else k)
 more_text true k f text e = e ∙ append_assoc f (10 ∷ []) (line_feeds k)
 more_text false k f text e = e
@@ -105,10 +105,10 @@ break_run s rest end k h none = at_first s.rest h
     Goal : List ℕ → Type 0
     Goal xs = Run (pass_break (from xs)).rest rest (pass_break (from xs)).mark end k → Run xs rest s.mark end (suc k)
 
-    feed : (cs : List ℕ) → Goal (10 ∷ cs)
+    feed : (cs : List ℕ) → Goal (line_feed ∷ cs)
     feed cs r = more_run 10 cs rest s.mark end k refl none r
 
-    return : (cs : List ℕ) → (slice_index cs 0 == 10) ≡ false → Goal (13 ∷ cs)
+    return : (cs : List ℕ) → (slice_index cs 0 == line_feed) ≡ false → Goal (carriage_return ∷ cs)
     return cs e =
         let Begins : Bool → Type 0 = λ b. Run cs rest (cond b (next_line s.mark 1) (along s.mark 1)) end k → Run
         (13 ∷ cs) rest s.mark end (cond b (suc k) k) in
@@ -116,7 +116,7 @@ break_run s rest end k h none = at_first s.rest h
         let one : Begins true = subst Begins line (more_run 13 cs rest s.mark end k refl none) in
         rw e one
 
-    two : (cs : List ℕ) → Goal (13 ∷ 10 ∷ cs)
+    two : (cs : List ℕ) → Goal (carriage_return ∷ line_feed ∷ cs)
     two cs r =
         let index : s.mark.index + 1 + 1 ≡ s.mark.index + 2 = omega arith in
         let moved : Run cs rest (next_line (along s.mark 1) 1) end k =
@@ -124,11 +124,11 @@ break_run s rest end k h none = at_first s.rest h
         more_run 13 (10 ∷ cs) rest s.mark end (suc k) refl none
         (more_run 10 cs rest (along s.mark 1) end k refl none moved)
 
-    either_one : (d : ℕ) (ds : List ℕ) (b : Bool) → (d == 10) ≡ b → Goal (13 ∷ d ∷ ds)
+    either_one : (d : ℕ) (ds : List ℕ) (b : Bool) → (d == line_feed) ≡ b → Goal (carriage_return ∷ d ∷ ds)
     either_one d ds true e = let is : 10 ≡ d = grind (arith, nat_tests) in subst (λ x. Goal (13 ∷ x ∷ ds)) is (two ds)
     either_one d ds false e = return (d ∷ ds) e
 
-    return_on : (cs : List ℕ) → Goal (13 ∷ cs)
+    return_on : (cs : List ℕ) → Goal (carriage_return ∷ cs)
     return_on [] = return [] refl
     return_on (d ∷ ds) = either_one d ds (d == 10) refl
 
@@ -219,7 +219,7 @@ blanks_read xs m other =
       reads = λ c cs ink. folded_blanks v c cs blank ink;
     }
   where
-    not_feed : (c : ℕ) → is_break c ≡ false → (c == 10) ≡ false
+    not_feed : (c : ℕ) → is_break c ≡ false → (c == line_feed) ≡ false
     not_feed c h = first_of (c == 10) (c == 13) h
       where
         first_of : (a b : Bool) → (a || b) ≡ false → a ≡ false

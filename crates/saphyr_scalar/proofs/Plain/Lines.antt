@@ -2,7 +2,7 @@
 use Rattle.std.proofs.Common.{◌≡◌, ℕ, ◌+◌, ◌<◌, Bool, true, false, List, [], ◌∷◌, ◌++◌, length, drop, length-drop, slice_index, Result, Ok, Err, refl, sym, ap, ◌∙◌, arith, subst}
 use Rattle.std.specs.Prelude.{◌||◌, ◌&&◌, ◌==◌, nat_lt}
 use Rattle.std.proofs.lemmas.Bool.Decides.{nat_tests}
-use Rattle.saphyr_input.specs.Classes.{is_blank, is_break, tab}
+use Rattle.saphyr_input.specs.Classes.{is_blank, is_break, tab, carriage_return, line_feed}
 use Rattle.saphyr_input.specs.Places.{is_blank_or_break, next_2_are}
 use Rattle.saphyr_scalar.specs.declared.scalar.position.Marker.{Marker}
 use Rattle.saphyr_scalar.specs.declared.scalar.fault.Refusal.{Refusal}
@@ -28,23 +28,23 @@ lines_blank i a t f m c cs h =
     blank_cases c h (λ x. lines i a t f m (x ∷ cs) ≡ lines i a (tabbed_by i t m x) f (along m 1) cs) refl refl
 
 lines_feed : (i : ℕ) (a : Marker) (t : Bool) (f : List ℕ) (m : Marker) (cs : List ℕ)
-    → lines i a t f m (10 ∷ cs) ≡ lines i a false (f ++ 10 ∷ []) (next_line m 1) cs
+    → lines i a t f m (line_feed ∷ cs) ≡ lines i a false (f ++ line_feed ∷ []) (next_line m 1) cs
 unfolding lines
 lines_feed i a t f m cs = refl
 
 lines_return : (i : ℕ) (a : Marker) (t : Bool) (f : List ℕ) (m : Marker) (cs : List ℕ)
-    → (slice_index cs 0 == 10) ≡ false
-    → lines i a t f m (13 ∷ cs) ≡ lines i a false (f ++ 10 ∷ []) (next_line m 1) cs
+    → (slice_index cs 0 == line_feed) ≡ false
+    → lines i a t f m (carriage_return ∷ cs) ≡ lines i a false (f ++ line_feed ∷ []) (next_line m 1) cs
 unfolding lines
 lines_return i a t f m cs h = rw h refl
 
 lines_first_of_two : (i : ℕ) (a : Marker) (t : Bool) (f : List ℕ) (m : Marker) (cs : List ℕ)
-    → lines i a t f m (13 ∷ 10 ∷ cs) ≡ lines i a false f (along m 1) (10 ∷ cs)
+    → lines i a t f m (carriage_return ∷ line_feed ∷ cs) ≡ lines i a false f (along m 1) (line_feed ∷ cs)
 unfolding lines
 lines_first_of_two i a t f m cs = refl
 
 lines_two : (i : ℕ) (a : Marker) (t : Bool) (f : List ℕ) (m : Marker) (cs : List ℕ)
-    → lines i a t f m (13 ∷ 10 ∷ cs) ≡ lines i a false (f ++ 10 ∷ []) (next_line m 2) cs
+    → lines i a t f m (carriage_return ∷ line_feed ∷ cs) ≡ lines i a false (f ++ line_feed ∷ []) (next_line m 2) cs
 lines_two i a t f m cs =
     let two : m.index + 1 + 1 ≡ m.index + 2 = omega arith in
     lines_first_of_two i a t f m cs ∙ lines_feed i a false f (along m 1) cs
@@ -55,14 +55,14 @@ abbrev Behind : ℕ → Marker → Bool → List ℕ → Cursor → Type 0
 Behind i a t f s = lines i a t f s.mark s.rest ≡ lines i a false (f ++ 10 ∷ []) (pass_break s).mark (pass_break s).rest
 
 return_on : (i : ℕ) (a : Marker) (t : Bool) (f : List ℕ) (m : Marker) (cs : List ℕ) (b : Bool)
-    → Behind i a t f (record { rest = 13 ∷ cs; mark = m; blank_so_far = b })
+    → Behind i a t f (record { rest = carriage_return ∷ cs; mark = m; blank_so_far = b })
 return_on i a t f m [] b = lines_return i a t f m [] refl
 return_on i a t f m (d ∷ ds) b = test (d == 10) refl
   where
     Goal : ℕ → Type 0
     Goal x = Behind i a t f (record { rest = 13 ∷ x ∷ ds; mark = m; blank_so_far = b })
 
-    test : (e : Bool) → (d == 10) ≡ e → Goal d
+    test : (e : Bool) → (d == line_feed) ≡ e → Goal d
     test true h = let is : 10 ≡ d = grind (arith, nat_tests) in subst Goal is (lines_two i a t f m ds)
     test false h = rw h (lines_return i a t f m (d ∷ ds) h)
 

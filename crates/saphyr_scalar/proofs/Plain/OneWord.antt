@@ -18,6 +18,7 @@ use Rattle.saphyr_scalar.proofs.Plain.Pieces.{no_text, text_twice, word_on, word
 use Rattle.std.proofs.lemmas.Bool.{ne_eqb, false≢true}
 use Rattle.saphyr_input.proofs.Basics.Booleans.{and_false, by_test}
 use Rattle.std.proofs.Math.Bool.{or-true}
+use Rattle.saphyr_input.specs.Indicators.{hyphen, number_sign, full_stop}
 use Rattle.saphyr_input.proofs.Basics.Characters.{no_marker_at}
 use Rattle.saphyr_scalar.proofs.Given.{cursor_at}
 
@@ -58,11 +59,11 @@ word_read f i a m (c ∷ w) x h =
     ∙ ap (λ y. with_text (encode_utf8_all (c ∷ w)) (word f i a y x))
     (along_more m 1 (length w) (suc (length w)) (omega arith))
 
-comment_starts_not : (f : Bool) (s : Cursor) → slice_index s.rest 0 ≡ 35 → word_starts f s ≡ Ok (false, s)
+comment_starts_not : (f : Bool) (s : Cursor) → slice_index s.rest 0 ≡ number_sign → word_starts f s ≡ Ok (false, s)
 unfolding word_starts
 comment_starts_not f s e = rw e refl
 
-not_dashes : (c : ℕ) (cs : List ℕ) → (c == 45) ≡ false → is_document_indicator (45 ∷ c ∷ cs) ≡ false
+not_dashes : (c : ℕ) (cs : List ℕ) → (c == hyphen) ≡ false → is_document_indicator (hyphen ∷ c ∷ cs) ≡ false
 not_dashes c cs h = rw h refl
 
 none_of : (f d : Bool) → (f && false && d) ≡ false
@@ -75,8 +76,9 @@ last_of true false = refl
 last_of false d = refl
 
 -- a word starts where no comment, document marker or lone dash does
-starts_at : (f : Bool) (s : Cursor) → (slice_index s.rest 0 == 35) ≡ false → is_document_indicator s.rest ≡ false
-    → (f && (slice_index s.rest 0 == 45) && is_flow (slice_index s.rest 1)) ≡ false
+starts_at : (f : Bool) (s : Cursor) → (slice_index s.rest 0 == number_sign) ≡ false
+    → is_document_indicator s.rest ≡ false
+    → (f && (slice_index s.rest 0 == hyphen) && is_flow (slice_index s.rest 1)) ≡ false
     → is_in_word f s.rest ≡ true → word_starts f s ≡ Ok (true, s)
 unfolding word_starts
 starts_at f s hash marker lone goes =
@@ -87,13 +89,14 @@ starts_at f s hash marker lone goes =
 safe_no_flow : (c : ℕ) → IsTrue (is_plain_safe c) → is_flow c ≡ false
 safe_no_flow c h = (by_four (is_blank_or_breakz c) (c == 58) (is_bom c) (is_flow c) h).3
 
-first_starts : (f : Bool) (m : Marker) (b : Bool) (c : ℕ) (cs x : List ℕ) → AreIn is_plain_safe (c ∷ cs) → (c ≢ 35)
-    → (c ≢ 46)
-    → (c ≡ 45 → (second : ℕ) × (more : List ℕ) × (cs ≡ second ∷ more) × (second ≢ 45))
+first_starts : (f : Bool) (m : Marker) (b : Bool) (c : ℕ) (cs x : List ℕ) → AreIn is_plain_safe (c ∷ cs)
+    → (c ≢ number_sign)
+    → (c ≢ full_stop)
+    → (c ≡ hyphen → (second : ℕ) × (more : List ℕ) × (cs ≡ second ∷ more) × (second ≢ hyphen))
     → word_starts f (cursor_at (c ∷ (cs ++ x)) m b) ≡ Ok (true, cursor_at (c ∷ (cs ++ x)) m b)
 first_starts f m b c cs x safe hash dot dash = test (c == 45) (λ is. dashed (is_dash c is)) (λ other. plain_one other)
   where
-    is_dash : (c : ℕ) → (c == 45) ≡ true → 45 ≡ c
+    is_dash : (c : ℕ) → (c == hyphen) ≡ true → 45 ≡ c
     is_dash c h = grind (arith, nat_tests)
 
     test : {X : Type 0} (b : Bool) → (b ≡ true → X) → (b ≡ false → X) → X
@@ -103,7 +106,7 @@ first_starts f m b c cs x safe hash dot dash = test (c == 45) (λ is. dashed (is
     Goal : ℕ → List ℕ → Type 0
     Goal y ys = word_starts f (cursor_at (y ∷ (ys ++ x)) m b) ≡ Ok (true, cursor_at (y ∷ (ys ++ x)) m b)
 
-    plain_one : (c == 45) ≡ false → Goal c cs
+    plain_one : (c == hyphen) ≡ false → Goal c cs
     plain_one other = starts_at f (cursor_at (c ∷ (cs ++ x)) m b) (ne_eqb c 35 hash)
         (no_marker_at c (cs ++ x) other (ne_eqb c 46 dot)) (rw other (none_of f _)) (safe_in_word f c (cs ++ x) safe.0)
 
@@ -120,7 +123,8 @@ first_starts f m b c cs x safe hash dot dash = test (c == 45) (λ is. dashed (is
 
 -- behind the word
 
-comment_stops : (f : Bool) (i : ℕ) (s : Cursor) → slice_index s.rest 0 ≡ 35 → next_word_starts f i s ≡ Ok (false, s)
+comment_stops : (f : Bool) (i : ℕ) (s : Cursor) → slice_index s.rest 0 ≡ number_sign
+    → next_word_starts f i s ≡ Ok (false, s)
 unfolding next_word_starts
 comment_stops f i s h = by_test (s.blank_so_far && not f && nat_lt s.mark.col i) _ _ (λ r. r ≡ Ok (false, s))
     (λ _. refl) (λ _. comment_starts_not f s h)
@@ -200,7 +204,7 @@ plain_word_read f i s w x is h ends =
     ∙ ap (λ y. Ok (y, e, comment_of f (is_tabbed i x) behind, behind)) (append-nil (encode_utf8_all w))
 
 -- what a scalar that nothing encloses may end before
-pub ends_at_root : (f : Bool) (end : Marker) (xs : List ℕ) → slice_index xs 0 ≢ 35
+pub ends_at_root : (f : Bool) (end : Marker) (xs : List ℕ) → slice_index xs 0 ≢ number_sign
     → is_in_word f (drop (prefix_len is_blank_or_break xs) xs) ≡ false → EndsPlain f 0 end xs
 ends_at_root f end xs apart stops =
     record {

@@ -4,6 +4,7 @@ use Rattle.std.specs.Prelude.{◌||◌, ◌&&◌, ◌==◌, not, nat_lt, encode_
 use Rattle.std.specs.Result.{IsErrAnd}
 use Rattle.std.proofs.lemmas.Bool.Decides.{nat_tests}
 use Rattle.std.proofs.lemmas.List.{append-nil}
+use Rattle.saphyr_input.specs.Indicators.{hyphen}
 use Rattle.saphyr_input.specs.Classes.{is_flow}
 use Rattle.saphyr_input.specs.Places.{is_document_indicator}
 use Rattle.saphyr_scalar.specs.declared.scalar.position.Marker.{Marker}
@@ -34,7 +35,7 @@ not_in_word f = refl
 -- whether a word starts
 
 -- a dash is a character of a word
-dash_in_word : (f : Bool) (xs : List ℕ) → slice_index xs 0 ≡ 45 → is_in_word f xs ≡ true
+dash_in_word : (f : Bool) (xs : List ℕ) → slice_index xs 0 ≡ hyphen → is_in_word f xs ≡ true
 unfolding is_in_word
 dash_in_word true xs h = rw h refl
 dash_in_word false xs h = rw h refl

@@ -3,7 +3,7 @@ use Rattle.std.proofs.Common.{◌≡◌, ℕ, zero, suc, Bool, true, false, List
 use Rattle.std.specs.Prelude.{◌||◌, ◌&&◌, ◌==◌, not, if◌then◌else◌}
 use Rattle.std.proofs.lemmas.List.{map-append}
 use Rattle.saphyr_input.specs.Breaks.{normalized, normal_break}
-use Rattle.saphyr_input.specs.Classes.{is_blank, is_break}
+use Rattle.saphyr_input.specs.Classes.{is_blank, is_break, line_feed}
 use Rattle.saphyr_input.specs.Places.{is_blank_or_break}
 use Rattle.scalar_values.specs.declared.folding.Item.{Item}
 use Rattle.scalar_values.specs.declared.folding.Item.TheVariants.{Blank, Raw}
@@ -41,7 +41,7 @@ three_false true b d h = absurd (cc)
 three_false false true d h = absurd (cc)
 three_false false false true h = absurd (cc)
 
-pub ink_no_feed : (c : ℕ) → Ink c → (c == 10) ≡ false
+pub ink_no_feed : (c : ℕ) → Ink c → (c == line_feed) ≡ false
 ink_no_feed c h = (three_false (is_blank c) (c == 10) (c == 13) h).1
 
 items_ink : (c : ℕ) (cs : List ℕ) → Ink c → items_of (c ∷ cs) ≡ Raw c ∷ items_of cs
@@ -59,7 +59,7 @@ pub folded_word : (w y : List ℕ) → AreInk w → folded (items_of (w ++ y)) �
 folded_word [] y h = refl
 folded_word (c ∷ w) y h = ap folded (items_ink c (w ++ y) h.0) ∙ ap (λ (l : List ℕ). c ∷ l) (folded_word w y h.1)
 
-first_same : (v y : List ℕ) → NoFeed y → (slice_index (v ++ y) 0 == 10) ≡ (slice_index v 0 == 10)
+first_same : (v y : List ℕ) → NoFeed y → (slice_index (v ++ y) 0 == line_feed) ≡ (slice_index v 0 == line_feed)
 first_same [] y h = h
 first_same (c ∷ v) y h = refl
 
@@ -115,7 +115,7 @@ are_breaks (c ∷ v) h = by_white (is_blank c) refl (are_breaks v h.1)
     one_blank zero x l b = b
     one_blank (suc n) x l b = (Blank x ∷ b.0, b.1, b.2, b.3, ap (λ (l : List Item). Blank x ∷ l) b.4)
 
-    at_return : (b : Bool) → (slice_index v 0 == 10) ≡ b → AreBreaks (line_count v) (items_of v) → Goal 13
+    at_return : (b : Bool) → (slice_index v 0 == line_feed) ≡ b → AreBreaks (line_count v) (items_of v) → Goal 13
     at_return true e rest = rw e rest
     at_return false e rest = rw e ([], items_of v, tt, rest, refl)
 

@@ -5,6 +5,7 @@ use Rattle.std.specs.List.{prefix_len}
 use Rattle.std.proofs.lemmas.Bool.Decides.{nat_tests}
 use Rattle.std.proofs.lemmas.List.{append-nil, drop-drop}
 use Rattle.std.proofs.lemmas.Bool.{not-true}
+use Rattle.saphyr_input.specs.Indicators.{hyphen, number_sign}
 use Rattle.saphyr_input.specs.Classes.{is_blank, is_break, is_bom, is_flow, is_blank_or_breakz}
 use Rattle.saphyr_input.specs.Places.{is_document_indicator, words_len, TransfersWords}
 use Rattle.saphyr_input.proofs.WordRuns.{words_within}
@@ -47,8 +48,8 @@ set_content f c h = content_of c (second (c == 58) (is_blank_or_breakz c) (is_bo
 -- a word that begins behind a space
 record LeadsWord (f : Bool) (cs : List ℕ) : Type 0 where
   set : in_plain f (slice_index cs 0) ≡ true
-  hash : (slice_index cs 0 == 35) ≡ false
-  dash : (slice_index cs 0 == 45) ≡ false
+  hash : (slice_index cs 0 == number_sign) ≡ false
+  dash : (slice_index cs 0 == hyphen) ≡ false
 
 leads : (f : Bool) (cs : List ℕ) → leads_plain f (slice_index cs 0) ≡ true → LeadsWord f cs
 leads f cs h =

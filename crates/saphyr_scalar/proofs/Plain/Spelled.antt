@@ -16,6 +16,7 @@ use Rattle.saphyr_scalar.proofs.Quoted.Inside.{break_cases}
 use Rattle.saphyr_scalar.proofs.Plain.Words.{word_left}
 use Rattle.saphyr_scalar.proofs.Plain.Runs.{Ink, AreInk, NoFeed, same_ends}
 use Rattle.std.proofs.lemmas.Bool.{false≢true}
+use Rattle.saphyr_input.specs.Indicators.{number_sign}
 use Rattle.saphyr_input.proofs.Basics.Booleans.{by_test}
 use Rattle.saphyr_input.proofs.Basics.Characters.{blank_cases}
 
@@ -65,7 +66,7 @@ ink_line c cs h = let no : is_break c ≡ false = second_of (is_blank c) (is_bre
 
 -- one character more of a word
 one_spelled : (f : Bool) (m : Marker) (apart : Bool) (c : ℕ) (cs behind all : List ℕ) → cs ++ behind ≡ all
-    → WordCharacter f c all → (IsTrue apart → c ≢ 35) → (m.col ≡ 0 → IsFalse (is_document_indicator (c ∷ all)))
+    → WordCharacter f c all → (IsTrue apart → c ≢ number_sign) → (m.col ≡ 0 → IsFalse (is_document_indicator (c ∷ all)))
     → IsSpelledPlain (along m 1) false cs behind → IsSpelledPlain m apart (c ∷ cs) behind
 one_spelled f m apart c cs behind all is w comment marker more = (
   w.no_nul,
@@ -105,7 +106,7 @@ word_tail f m (c ∷ cs) y behind some =
 
 -- where a word may begin
 pub record Begins (m : Marker) (xs : List ℕ) : Type 0 where
-  pub comment : slice_index xs 0 ≢ 35
+  pub comment : slice_index xs 0 ≢ number_sign
   pub marker : m.col ≡ 0 → IsFalse (is_document_indicator xs)
 
 pub word_spelled : (f : Bool) (m : Marker) (xs y behind : List ℕ) → is_in_word f xs ≡ true → Begins m xs
@@ -129,7 +130,7 @@ word_spelled f m (c ∷ cs) y behind goes b =
 record WhiteCharacter (c : ℕ) (cs : List ℕ) : Type 0 where
   no_nul : c ≢ 0
   no_mark : c ≢ 65279
-  no_comment : c ≢ 35
+  no_comment : c ≢ number_sign
   no_colon : c ≢ 58
   no_marker : IsFalse (is_document_indicator (c ∷ cs))
 
@@ -235,7 +236,7 @@ other_answer s t e = let pair : ◌≡◌ {A = Bool × Cursor} (false, s) (true,
     cc in absurd (false≢true (ap (λ (x : Bool × Cursor). x.0) pair))
 
 begins_here : (s : Cursor)
-    → ((slice_index s.rest 0 == 35) || ((s.mark.col == 0) && is_document_indicator s.rest)) ≡ false
+    → ((slice_index s.rest 0 == number_sign) || ((s.mark.col == 0) && is_document_indicator s.rest)) ≡ false
     → Begins s.mark s.rest
 begins_here s h = record {
   comment = λ e. let is : (slice_index s.rest 0 == 35) ≡ true = grind (arith, nat_tests) in first_not _ _ h is;

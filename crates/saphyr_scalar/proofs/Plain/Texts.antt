@@ -23,12 +23,13 @@ use Rattle.saphyr_scalar.proofs.Plain.Sound.{plain_reads}
 use Rattle.saphyr_input.proofs.Basics.Lists.{some_length}
 use Rattle.saphyr_input.proofs.Basics.Booleans.{none_of_three, or_assoc}
 use Rattle.std.proofs.Math.Bool.{or-false}
+use Rattle.saphyr_input.specs.Indicators.{colon, hyphen, number_sign}
 use Rattle.saphyr_scalar.proofs.Given.{cursor_at}
 
 -- words
 
 one_in_word : (f : Bool) (c : ℕ) (cs : List ℕ) → IsTrue (is_word_ink f c)
-    → (c ≡ 58 → IsTrue (is_word_ink f (slice_index cs 0))) → is_in_word f (c ∷ cs) ≡ true
+    → (c ≡ colon → IsTrue (is_word_ink f (slice_index cs 0))) → is_in_word f (c ∷ cs) ≡ true
 unfolding is_in_word
 one_in_word f c cs h next = test (c == 58) refl
   where
@@ -38,9 +39,9 @@ one_in_word f c cs h next = test (c == 58) refl
     parts : (is_blank_or_breakz c ≡ false) × (is_bom c ≡ false) × ((f && is_flow c) ≡ false)
     parts = none_of_three (is_blank_or_breakz c) (is_bom c) (f && is_flow c) h
 
-    test : (b : Bool) → (c == 58) ≡ b
+    test : (b : Bool) → (c == colon) ≡ b
         → (not (is_blank_or_breakz c)
-        && (if c == 58 then not (is_blank_or_breakz d || (f && is_flow d)) else not (is_bom c || (f && is_flow c))))
+        && (if c == colon then not (is_blank_or_breakz d || (f && is_flow d)) else not (is_bom c || (f && is_flow c))))
         ≡ true
     test true e =
         let is : c ≡ 58 = grind (arith, nat_tests) in
@@ -72,9 +73,9 @@ read_word f i a m (c ∷ w) y h =
 
 -- where a word starts
 
-starts_so : (f : Bool) (s : Cursor) → (slice_index s.rest 0 == 35) ≡ false
+starts_so : (f : Bool) (s : Cursor) → (slice_index s.rest 0 == number_sign) ≡ false
     → ((s.mark.col == 0) && is_document_indicator s.rest) ≡ false
-    → (f && (slice_index s.rest 0 == 45) && is_flow (slice_index s.rest 1)) ≡ false
+    → (f && (slice_index s.rest 0 == hyphen) && is_flow (slice_index s.rest 1)) ≡ false
     → is_in_word f s.rest ≡ true → word_starts f s ≡ Ok (true, s)
 unfolding word_starts
 starts_so f s hash marker lone goes =
@@ -106,7 +107,7 @@ word_begins f m b w y h marker =
     let hash : (slice_index (w ++ y) 0 == 35) ≡ false = differs (slice_index (w ++ y) 0) other in
     starts_so f s hash (no_marker_by_test m (w ++ y) marker) h.no_lone_dash (first_in f w y h)
   where
-    differs : (c : ℕ) → (c ≢ 35) → (c == 35) ≡ false
+    differs : (c : ℕ) → (c ≢ number_sign) → (c == number_sign) ≡ false
     differs c h = grind (arith, nat_tests)
 
 -- gaps

@@ -3,7 +3,7 @@ use Rattle.std.proofs.Common.{◌≡◌, ℕ, suc, ◌+◌, Bool, true, false, L
 use Rattle.std.specs.Prelude.{◌||◌, ◌&&◌, ◌==◌, nat_lt, if◌then◌else◌}
 use Rattle.std.specs.List.{prefix_len}
 use Rattle.std.proofs.lemmas.Bool.Decides.{nat_tests}
-use Rattle.saphyr_input.specs.Classes.{is_blank, is_break, is_bom, is_z, tab, line_feed}
+use Rattle.saphyr_input.specs.Classes.{is_blank, is_break, is_bom, is_z, tab, line_feed, carriage_return}
 use Rattle.saphyr_input.specs.Places.{is_blank_or_break}
 use Rattle.saphyr_scalar.specs.declared.scalar.position.Marker.{Marker}
 use Rattle.saphyr_scalar.specs.declared.scalar.fault.Refusal.{Refusal}
@@ -16,6 +16,7 @@ use Rattle.saphyr_scalar.proofs.Quoted.Inside.{break_cases}
 use Rattle.std.proofs.Math.Bool.{or-true}
 use Rattle.saphyr_input.proofs.Basics.Numbers.{none_below_zero}
 use Rattle.std.proofs.lemmas.Bool.{or_from}
+use Rattle.saphyr_input.specs.Indicators.{number_sign}
 use Rattle.saphyr_input.proofs.Basics.Lists.{run_ends}
 use Rattle.saphyr_input.proofs.Basics.Booleans.{by_test}
 use Rattle.saphyr_input.proofs.Basics.Characters.{blank_no_break}
@@ -30,7 +31,7 @@ pub record LeavesGap (r : Result PlainGap Refusal) (t : Bool) (s : Cursor) : Typ
 abbrev pub MayStand : Bool → List ℕ → Type 0
 MayStand t xs = (t ≡ false) ⊎ (stands_behind_tab xs ≡ true)
 
-no_byte_order_mark : (c : ℕ) → ((c == 35) || is_z c) ≡ true → is_bom c ≡ false
+no_byte_order_mark : (c : ℕ) → ((c == number_sign) || is_z c) ≡ true → is_bom c ≡ false
 no_byte_order_mark c h = grind (arith, nat_tests)
 
 is_reached : (a : Marker) (t : Bool) (f : List ℕ) (s : Cursor) → MayStand t s.rest
@@ -193,13 +194,14 @@ AtBreak xs m b =
     (past_white m b xs ≡ past_white t.mark true t.rest)
     × ((i k : ℕ) → reaches_tabbed i k false xs ≡ reaches_tabbed i t.mark.col false t.rest)
 
-feed_at : (cs : List ℕ) (m : Marker) (b : Bool) → AtBreak (10 ∷ cs) m b
+feed_at : (cs : List ℕ) (m : Marker) (b : Bool) → AtBreak (line_feed ∷ cs) m b
 feed_at cs m b = (ap (λ x. past_white (next_line m 1) x cs) (or-true b), λ i k. refl)
 
-return_at : (cs : List ℕ) (m : Marker) (b : Bool) → (slice_index cs 0 == 10) ≡ false → AtBreak (13 ∷ cs) m b
+return_at : (cs : List ℕ) (m : Marker) (b : Bool) → (slice_index cs 0 == line_feed) ≡ false
+    → AtBreak (carriage_return ∷ cs) m b
 return_at cs m b h = rw h (ap (λ x. past_white (next_line m 1) x cs) (or-true b), λ i k. refl)
 
-two_at : (cs : List ℕ) (m : Marker) (b : Bool) → AtBreak (13 ∷ 10 ∷ cs) m b
+two_at : (cs : List ℕ) (m : Marker) (b : Bool) → AtBreak (carriage_return ∷ line_feed ∷ cs) m b
 two_at cs m b =
     let two : m.index + 1 + 1 ≡ m.index + 2 = omega arith in (
       ap (λ x. past_white (next_line (along m 1) 1) (x || true) cs) (or-true b)
@@ -207,11 +209,11 @@ two_at cs m b =
       λ i k. refl,
     )
 
-return_or_two : (cs : List ℕ) (m : Marker) (b : Bool) → AtBreak (13 ∷ cs) m b
+return_or_two : (cs : List ℕ) (m : Marker) (b : Bool) → AtBreak (carriage_return ∷ cs) m b
 return_or_two [] m b = return_at [] m b refl
 return_or_two (d ∷ ds) m b = test (d == 10) refl
   where
-    test : (e : Bool) → (d == 10) ≡ e → AtBreak (13 ∷ d ∷ ds) m b
+    test : (e : Bool) → (d == line_feed) ≡ e → AtBreak (carriage_return ∷ d ∷ ds) m b
     test true h = let is : 10 ≡ d =
         grind (arith, nat_tests) in subst (λ x. AtBreak (13 ∷ x ∷ ds) m b) is (two_at ds m b)
     test false h = return_at (d ∷ ds) m b h

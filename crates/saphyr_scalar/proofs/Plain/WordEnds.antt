@@ -4,6 +4,7 @@ use Rattle.std.specs.Prelude.{◌==◌, not, None}
 use Rattle.std.specs.List.{prefix_len}
 use Rattle.std.proofs.lemmas.Bool.{or_parts}
 use Rattle.std.proofs.lemmas.Bool.Decides.{nat_tests}
+use Rattle.saphyr_input.specs.Indicators.{number_sign}
 use Rattle.saphyr_input.specs.Classes.{is_blank, is_break}
 use Rattle.saphyr_input.specs.Places.{is_blank_or_break}
 use Rattle.saphyr_input.proofs.Basics.Booleans.{by_test, and_false}
@@ -38,7 +39,7 @@ gap_before_ink i a s line ink =
     let none : prefix_len is_blank s.rest ≡ 0 = no_run is_blank s.rest two.0 in
     rw (none, none_passed s line, two.1) refl
 
-hash_in_word : (f : Bool) (xs : List ℕ) → slice_index xs 0 ≡ 35 → is_in_word f xs ≡ true
+hash_in_word : (f : Bool) (xs : List ℕ) → slice_index xs 0 ≡ number_sign → is_in_word f xs ≡ true
 unfolding is_in_word
 hash_in_word true xs h = rw h refl
 hash_in_word false xs h = rw h refl

@@ -4,6 +4,7 @@ use Rattle.std.specs.Prelude.{◌&&◌, ◌==◌, not, encode_utf8}
 use Rattle.std.specs.List.{prefix_len}
 use Rattle.std.proofs.lemmas.Bool.Decides.{nat_tests}
 use Rattle.std.proofs.lemmas.Bool.{not-true}
+use Rattle.saphyr_input.specs.Indicators.{percent_sign}
 use Rattle.saphyr_input.specs.Places.{TransfersRun}
 use Rattle.saphyr_input.proofs.WordRuns.{run_ends}
 use Rattle.saphyr_scalar.specs.declared.scalar.position.Marker.{Marker}
@@ -67,7 +68,7 @@ no_bare_nul Suffix = refl
 
 -- behind the run stands an escape or no character of the set
 pub bare_stops : (set : UriSet) (text grown : List ℕ) (n : ℕ) (xs left : List ℕ)
-    → TransfersRun (is_bare set) n xs left text grown → (slice_index left 0 ≡ 37 → ⊥)
+    → TransfersRun (is_bare set) n xs left text grown → (slice_index left 0 ≡ percent_sign → ⊥)
     → is_in_set set (slice_index left 0) ≡ false
 bare_stops set text grown n xs left t other =
     second (slice_index left 0 == 37) (is_in_set set (slice_index left 0)) no_escape stops
@@ -75,7 +76,7 @@ bare_stops set text grown n xs left t other =
     stops : is_bare set (slice_index left 0) ≡ false
     stops = rw (t.transfers.taken, t.count) (run_ends (is_bare set) xs (no_bare_nul set))
 
-    no_escape : (slice_index left 0 == 37) ≡ false
+    no_escape : (slice_index left 0 == percent_sign) ≡ false
     no_escape = grind (arith, nat_tests)
 
     second : (a b : Bool) → a ≡ false → (not a && b) ≡ false → b ≡ false
@@ -83,11 +84,11 @@ bare_stops set text grown n xs left t other =
     second false b is h = h
 
 -- an escape stands for a character of the set
-pub escape_in_set : (set : UriSet) (c : ℕ) → c ≡ 37 → is_in_set set c ≡ true
+pub escape_in_set : (set : UriSet) (c : ℕ) → c ≡ percent_sign → is_in_set set c ≡ true
 escape_in_set Uri c e = rw e refl
 escape_in_set Suffix c e = rw e refl
 
-pub escape_is_character : (start : Marker) (s : Cursor) → slice_index s.rest 0 ≡ 37
+pub escape_is_character : (start : Marker) (s : Cursor) → slice_index s.rest 0 ≡ percent_sign
     → uri_character start s ≡ percent_escape start s
 unfolding uri_character
 escape_is_character start s h = rw h refl

@@ -3,6 +3,7 @@ use Rattle.std.proofs.Common.{◌≡◌, ℕ, zero, suc, ◌+◌, ◌-◌, ◌*�
 use Rattle.std.specs.Prelude.{◌||◌, ◌&&◌, nat_le}
 use Rattle.std.proofs.lemmas.Bool.{false≢true}
 use Rattle.std.proofs.lemmas.Bool.Decides.{nat_tests}
+use Rattle.saphyr_input.specs.Indicators.{percent_sign}
 use Rattle.saphyr_input.specs.Classes.{is_hex, IsHex, is_digit, is_from, hex_value}
 use Rattle.saphyr_scalar.specs.declared.scalar.position.Marker.{Marker}
 use Rattle.saphyr_scalar.specs.declared.scalar.fault.FaultText.TheVariants as fault
@@ -34,13 +35,13 @@ pub record ByteOf (b : ℕ) (m : Marker) (xs : List ℕ) (u : Cursor) : Type 0 w
   pub is_high : is_hex high ≡ true
   pub is_low : is_hex low ≡ true
   pub value : b ≡ hex_value high * 16 + hex_value low
-  pub text : xs ≡ 37 ∷ high ∷ low ∷ u.rest
+  pub text : xs ≡ percent_sign ∷ high ∷ low ∷ u.rest
   pub place : u ≡ mid_line (along m 3) u.rest
 
 no_hex : (b : Bool) (c : ℕ) (P : Type 0) → is_hex c ≡ false → (b && is_hex c) ≡ true → P
 no_hex b c P fails h = let k : false ≡ true = sym fails ∙ and_true_right b (is_hex c) h in absurd (false≢true k)
 
-byte_shown : (xs : List ℕ) → shows_byte xs ≡ true → xs ≡ 37 ∷ slice_index xs 1 ∷ slice_index xs 2 ∷ drop 3 xs
+byte_shown : (xs : List ℕ) → shows_byte xs ≡ true → xs ≡ percent_sign ∷ slice_index xs 1 ∷ slice_index xs 2 ∷ drop 3 xs
 byte_shown [] h = absurd (cc)
 byte_shown (x ∷ []) h = no_hex _ 0 _ refl h
 byte_shown (x ∷ y ∷ []) h = no_hex _ 0 _ refl h
@@ -107,7 +108,7 @@ trailing_byte_spelled start m v xs w u h =
     }
 
 pub escape_of_byte : (b : ℕ) (m : Marker) (xs : List ℕ) (u : Cursor) (is : ByteOf b m xs u)
-    → IsByteEscape b (37 ∷ is.high ∷ is.low ∷ [])
+    → IsByteEscape b (percent_sign ∷ is.high ∷ is.low ∷ [])
 escape_of_byte b m xs u is = (is.high, is.low, hex_is is.high is.is_high, hex_is is.low is.is_low, is.value, refl)
 
 pub trailing_spelled : (start m : Marker) (n v : ℕ) (xs : List ℕ) (w : ℕ) (u : Cursor)

@@ -3,6 +3,7 @@ use Rattle.std.proofs.Common.{◌≡◌, ℕ, suc, ◌+◌, ◌-◌, ◌*◌, Bo
 use Rattle.std.specs.Prelude.{encode_utf8}
 use Rattle.std.proofs.Common.{inl, inr}
 use Rattle.std.proofs.lemmas.Bool.Decides.{nat_tests}
+use Rattle.saphyr_input.specs.Indicators.{percent_sign}
 use Rattle.saphyr_input.specs.Classes.{is_hex, IsHex}
 use Rattle.scalar_values.specs.Escapes.{IsScalarValue}
 use Rattle.saphyr_scalar.specs.declared.scalar.position.Marker.{Marker}
@@ -96,11 +97,11 @@ escape_read start m c t y scalar h =
     escape_bytes_read start m c (bytes_of c scalar) t y (escape_parts c (bytes_of c scalar) t h)
 
 escape_begins : (c : ℕ) (b : Bytes c) (t y : List ℕ) → AreByteEscapes (b.first ∷ b.others) t
-    → slice_index (t ++ y) 0 ≡ 37
+    → slice_index (t ++ y) 0 ≡ percent_sign
 escape_begins c b t y (percent_escape, more, (high, low, is_high, is_low, value, text), are_more, e) = rw (e, text) refl
 
 pub escape_first : (c : ℕ) (t y : List ℕ) → IsScalarValue c → AreByteEscapes (encode_utf8 c) t
-    → slice_index (t ++ y) 0 ≡ 37
+    → slice_index (t ++ y) 0 ≡ percent_sign
 escape_first c t y scalar h = escape_begins c (bytes_of c scalar) t y (escape_parts c (bytes_of c scalar) t h)
 
 -- a character, or its escape, is read

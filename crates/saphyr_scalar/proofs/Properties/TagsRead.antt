@@ -6,6 +6,7 @@ use Rattle.std.proofs.Math.Utf8.{encode}
 use Rattle.std.proofs.lemmas.Bool.Decides.{nat_tests}
 use Rattle.std.proofs.lemmas.Bool.{false≢true, false_from_ne_true}
 use Rattle.std.proofs.lemmas.Str.{encodes-append, length-le-encodes}
+use Rattle.saphyr_input.specs.Indicators.{exclamation_mark, greater_than, less_than}
 use Rattle.saphyr_input.specs.Classes.{is_alpha, is_tag_char, is_uri_char, is_blank, is_break, is_z, is_breakz, is_blank_or_breakz, is_flow, is_one_of}
 use Rattle.saphyr_input.proofs.Runs.{run_stops}
 use Rattle.saphyr_scalar.specs.declared.scalar.position.Marker.{Marker}
@@ -151,7 +152,7 @@ suffix_first (c ∷ v) t x (character, more, is, others, e) stop =
     let whole : t ++ x ≡ character ++ (more ++ x) = ap (λ u. u ++ x) e ∙ append_assoc character more x in
     rw whole (other_than is_tag_char 60 _ refl (character_first Suffix c character (more ++ x) is))
 
-word_first : (w y : List ℕ) → AreIn is_alpha w → nat_eq (slice_index (w ++ (33 ∷ y)) 0) 60 ≡ false
+word_first : (w y : List ℕ) → AreIn is_alpha w → nat_eq (slice_index (w ++ (exclamation_mark ∷ y)) 0) 60 ≡ false
 word_first [] y are = refl
 word_first (c ∷ w) y (is, are) = other_than is_alpha 60 c refl is
 
@@ -163,7 +164,7 @@ primary_given v s = Ok (primary_tag (v, s))
 
 -- a suffix behind `!`
 primary_read : (m : Marker) (v back x : List ℕ) → IsDecoded is_tag_char v back → StopsTag (slice_index x 0)
-    → shorthand_tag (mid_line m (33 ∷ (back ++ x))) ≡ Ok
+    → shorthand_tag (mid_line m (exclamation_mark ∷ (back ++ x))) ≡ Ok
     (primary_tag (encode_utf8_all v, mid_line (along m (1 + length back)) x))
 unfolding shorthand_tag tag_behind_word
 primary_read m v back x is stop = rw (no_second_mark v back x is stop)
@@ -195,7 +196,7 @@ named_of_some start word v s some = rw (some_bytes v some) refl
 
 behind_named : (start m : Marker) (word v back x : List ℕ) → v ≢ [] → IsDecoded is_tag_char v back
     → StopsTag (slice_index x 0)
-    → tag_behind_word start (word, mid_line m (33 ∷ (back ++ x)))
+    → tag_behind_word start (word, mid_line m (exclamation_mark ∷ (back ++ x)))
     ≡ Ok (handle_of word, encode_utf8_all v, mid_line (along m (1 + length back)) x)
 unfolding tag_behind_word named_tail
 behind_named start m word v back x some is stop =
@@ -207,7 +208,7 @@ behind_named start m word v back x some is stop =
 -- a suffix behind `!!` or `!word!`
 named_read : (m : Marker) (w v back x : List ℕ) → AreIn is_alpha w → v ≢ [] → IsDecoded is_tag_char v back
     → StopsTag (slice_index x 0)
-    → shorthand_tag (mid_line m (33 ∷ (w ++ (33 ∷ (back ++ x)))))
+    → shorthand_tag (mid_line m (exclamation_mark ∷ (w ++ (exclamation_mark ∷ (back ++ x)))))
     ≡ Ok (handle_of (encode_utf8_all w), encode_utf8_all v, mid_line (along m (2 + length w + length back)) x)
 unfolding shorthand_tag
 named_read m w v back x are some is stop =
@@ -234,14 +235,14 @@ abbrev then_end : Bool → Marker → Result TagRead Refusal → Result TagRead 
 then_end in_flow start r = r >>= λ p. tag_end in_flow start p
 
 shorthand_read : (in_flow : Bool) (m k : Marker) (ys handle suffix x : List ℕ) → nat_eq (slice_index ys 0) 60 ≡ false
-    → EndsTag in_flow x → shorthand_tag (mid_line m (33 ∷ ys)) ≡ Ok (handle, suffix, mid_line k x)
-    → tag in_flow (mid_line m (33 ∷ ys)) ≡ Ok (handle, suffix, mid_line k x)
+    → EndsTag in_flow x → shorthand_tag (mid_line m (exclamation_mark ∷ ys)) ≡ Ok (handle, suffix, mid_line k x)
+    → tag in_flow (mid_line m (exclamation_mark ∷ ys)) ≡ Ok (handle, suffix, mid_line k x)
 unfolding tag
 shorthand_read in_flow m k ys handle suffix x no_uri ends read =
     rw no_uri (ap (then_end in_flow m) read ∙ tag_ends in_flow m k handle suffix x ends)
 
 uri_ends : (start m : Marker) (suffix x : List ℕ)
-    → verbatim_end start (suffix, mid_line m (62 ∷ x)) ≡ Ok ([], suffix, mid_line (along m 1) x)
+    → verbatim_end start (suffix, mid_line m (greater_than ∷ x)) ≡ Ok ([], suffix, mid_line (along m 1) x)
 unfolding verbatim_end
 uri_ends start m suffix x = refl
 
@@ -249,7 +250,7 @@ abbrev then_uri_end : Marker → Result (List ℕ × Cursor) Refusal → Result 
 then_uri_end start r = r >>= λ x. verbatim_end start x
 
 verbatim_read : (in_flow : Bool) (m : Marker) (v inside x : List ℕ) → IsDecoded is_uri_char v inside → EndsTag in_flow x
-    → tag in_flow (mid_line m (33 ∷ 60 ∷ (inside ++ (62 ∷ x))))
+    → tag in_flow (mid_line m (exclamation_mark ∷ less_than ∷ (inside ++ (greater_than ∷ x))))
     ≡ Ok ([], encode_utf8_all v, mid_line (along m (3 + length inside)) x)
 unfolding tag verbatim_tag
 verbatim_read in_flow m v inside x is ends =

@@ -5,6 +5,7 @@ use Rattle.std.specs.List.{prefix_len}
 use Rattle.std.proofs.lemmas.Bool.{false≢true, eqb-true}
 use Rattle.std.proofs.lemmas.List.{take-append-drop, length-take-le}
 use Rattle.std.proofs.lemmas.List.Sums.{prefix_len-le-length}
+use Rattle.saphyr_input.specs.Indicators.{exclamation_mark, greater_than, less_than}
 use Rattle.saphyr_input.specs.Classes.{is_alpha, is_blank_or_breakz, is_flow}
 use Rattle.saphyr_scalar.specs.declared.scalar.position.Marker.{Marker}
 use Rattle.saphyr_scalar.specs.declared.scalar.fault.FaultText.TheVariants as fault
@@ -38,7 +39,7 @@ cut_at n [] some h = let k : false ≡ true = sym some ∙ ap (λ i. nat_eq i 0)
 cut_at n (c ∷ cs) some h = ap (λ i. i ∷ cs) h
 
 verbatim_at : (m : Marker) (xs text : List ℕ) (k : Cursor) → DecodedOf Uri (along m 2) xs text k
-    → slice_index k.rest 0 ≡ 62 → TagOf m (33 ∷ 60 ∷ xs) [] text (pass 1 k)
+    → slice_index k.rest 0 ≡ greater_than → TagOf m (exclamation_mark ∷ less_than ∷ xs) [] text (pass 1 k)
 verbatim_at m xs text k is ends =
     let written = codes "!<" ++ (is.piece ++ codes ">") in
     let more : k.rest ≡ 62 ∷ drop 1 k.rest = cut_at 62 k.rest refl ends in
@@ -58,7 +59,7 @@ verbatim_at m xs text k is ends =
 
 verbatim_ended : (start : Marker) (text front back : List ℕ) (k u : Cursor)
     → verbatim_end start (text, k) ≡ Ok (front, back, u)
-    → (slice_index k.rest 0 ≡ 62) × (let p : TagRead = ([], text, pass 1 k) in p ≡ (front, back, u))
+    → (slice_index k.rest 0 ≡ greater_than) × (let p : TagRead = ([], text, pass 1 k) in p ≡ (front, back, u))
 unfolding verbatim_end
 verbatim_ended start text front back k u h =
     let is = cond_ok {A = TagRead} (nat_eq (slice_index k.rest 0) 62) ([], text, pass 1 k) (front, back, u)
@@ -69,7 +70,8 @@ abbrev Of : Marker → List ℕ → TagRead → Type 0
 Of m xs p = TagOf m xs p.0 p.1 p.2
 
 verbatim_spelled : (m : Marker) (xs front back : List ℕ) (u : Cursor)
-    → verbatim_tag (mid_line m (33 ∷ 60 ∷ xs)) ≡ Ok (front, back, u) → TagOf m (33 ∷ 60 ∷ xs) front back u
+    → verbatim_tag (mid_line m (exclamation_mark ∷ less_than ∷ xs)) ≡ Ok (front, back, u)
+    → TagOf m (exclamation_mark ∷ less_than ∷ xs) front back u
 unfolding verbatim_tag
 verbatim_spelled m xs front back u h =
     let one = bind_ok (decoded_characters Uri m 0 (along m 2) xs) (λ (x : List ℕ × Cursor). verbatim_end m x)
@@ -92,7 +94,7 @@ none_text text = nat_eq (length text) 0
 
 -- `!` alone
 non_specific_at : (m : Marker) (xs text : List ℕ) (k : Cursor) → DecodedOf Suffix (along m 1) xs text k
-    → none_text text ≡ true → TagOf m (33 ∷ xs) [] (codes "!") k
+    → none_text text ≡ true → TagOf m (exclamation_mark ∷ xs) [] (codes "!") k
 non_specific_at m xs text k is none =
     let value : is.value ≡ [] = none_value is.value (ap none_text is.bytes ∙ none) in
     let piece : is.piece ≡ [] = subst (λ v. IsDecoded (is_in_set Suffix) v is.piece) value is.is in
@@ -109,7 +111,7 @@ non_specific_at m xs text k is none =
 
 -- `!` and a suffix
 primary_at : (m : Marker) (xs text : List ℕ) (k : Cursor) → DecodedOf Suffix (along m 1) xs text k
-    → none_text text ≡ false → TagOf m (33 ∷ xs) (codes "!") text k
+    → none_text text ≡ false → TagOf m (exclamation_mark ∷ xs) (codes "!") text k
 primary_at m xs text k is some =
     let written = codes "!" ++ is.piece in
     record {
@@ -124,7 +126,7 @@ primary_at m xs text k is some =
     }
 
 primary_spelled : (m : Marker) (xs text : List ℕ) (k : Cursor) → DecodedOf Suffix (along m 1) xs text k
-    → Of m (33 ∷ xs) (primary_tag (text, k))
+    → Of m (exclamation_mark ∷ xs) (primary_tag (text, k))
 unfolding primary_tag
 primary_spelled m xs text k is =
     by_test {A = TagRead} (none_text text) ([], codes "!", k) (codes "!", text, k) (Of m (33 ∷ xs))
@@ -133,7 +135,7 @@ primary_spelled m xs text k is =
 -- a handle of a word, and a suffix
 named_at : (m : Marker) (n : ℕ) (w xs text : List ℕ) (k : Cursor) → length w ≡ n → AreIn is_alpha w
     → DecodedOf Suffix (along (along (along m 1) n) 1) xs text k → none_text text ≡ false
-    → TagOf m (33 ∷ (w ++ (33 ∷ xs))) (handle_of (encode_utf8_all w)) text k
+    → TagOf m (exclamation_mark ∷ (w ++ (exclamation_mark ∷ xs))) (handle_of (encode_utf8_all w)) text k
 named_at m n w xs text k len are is some =
     let handle = codes "!" ++ (w ++ codes "!") in
     let written = handle ++ is.piece in
@@ -162,7 +164,7 @@ named_ended start word text front back k u h =
 
 named_spelled : (m : Marker) (n : ℕ) (w xs front back : List ℕ) (u : Cursor) → length w ≡ n → AreIn is_alpha w
     → named_tail m (encode_utf8_all w) (mid_line (along (along (along m 1) n) 1) xs) ≡ Ok (front, back, u)
-    → TagOf m (33 ∷ (w ++ (33 ∷ xs))) front back u
+    → TagOf m (exclamation_mark ∷ (w ++ (exclamation_mark ∷ xs))) front back u
 unfolding named_tail
 named_spelled m n w xs front back u len are h =
     let there = along (along (along m 1) n) 1 in
@@ -175,7 +177,8 @@ named_spelled m n w xs front back u len are h =
     (decoded_spelled Suffix m there xs one.given.0 one.given.1 one.first) ended.0)
 
 shorthand_spelled : (m : Marker) (xs front back : List ℕ) (u : Cursor)
-    → shorthand_tag (mid_line m (33 ∷ xs)) ≡ Ok (front, back, u) → TagOf m (33 ∷ xs) front back u
+    → shorthand_tag (mid_line m (exclamation_mark ∷ xs)) ≡ Ok (front, back, u)
+    → TagOf m (exclamation_mark ∷ xs) front back u
 unfolding shorthand_tag tag_behind_word
 shorthand_spelled m xs front back u =
     let n = prefix_len is_alpha xs in
@@ -213,7 +216,8 @@ abbrev Read : Bool → Marker → List ℕ → List ℕ → List ℕ → Cursor 
 Read in_flow m xs front back u = TagOf m xs front back u × EndsTag in_flow u.rest
 
 tag_spelled : (in_flow : Bool) (m : Marker) (xs front back : List ℕ) (u : Cursor)
-    → tag in_flow (mid_line m (33 ∷ xs)) ≡ Ok (front, back, u) → Read in_flow m (33 ∷ xs) front back u
+    → tag in_flow (mid_line m (exclamation_mark ∷ xs)) ≡ Ok (front, back, u)
+    → Read in_flow m (exclamation_mark ∷ xs) front back u
 unfolding tag
 tag_spelled in_flow m xs front back u h =
     let s = mid_line m (33 ∷ xs) in
@@ -231,7 +235,7 @@ tag_spelled in_flow m xs front back u h =
     (λ _ v. shorthand_spelled m xs p.0 p.1 p.2 v) one.first in
     (subst (Of m (33 ∷ xs)) ended.1 is, ended.0)
 
-pub spells_tag : (in_flow : Bool) (s u : Cursor) (front back : List ℕ) → slice_index s.rest 0 ≡ 33
+pub spells_tag : (in_flow : Bool) (s u : Cursor) (front back : List ℕ) → slice_index s.rest 0 ≡ exclamation_mark
     → tag in_flow s ≡ Ok (front, back, u)
     → (t : List ℕ) × (handle : List ℕ) × (suffix : List ℕ) × (s.rest ≡ t ++ u.rest) × IsTagText t handle suffix
     × EndsTag in_flow u.rest × (u ≡ mid_line (along s.mark (length t)) u.rest) × (encode_utf8_all handle ≡ front)

@@ -4,6 +4,7 @@ use Rattle.std.proofs.lemmas.Bool.Decides.{nat_tests}
 use Rattle.std.specs.Prelude.{Option, Some, None, unwrap_or}
 use Rattle.std.proofs.Math.Nat.{pow-le-pow_right}
 use Rattle.std.proofs.lemmas.Grind.{pow_more}
+use Rattle.saphyr_input.specs.Indicators.{backslash}
 use Rattle.saphyr_input.specs.Classes.{is_hex, hex_value}
 use Rattle.scalar_values.specs.Escapes.{digit_count, is_scalar_value, short_escape}
 use Rattle.saphyr_scalar.specs.declared.scalar.position.Marker.{Marker}
@@ -64,12 +65,12 @@ unfolding short_escape
 no_nul_escape c e = absurd (cc)
 
 -- an escape of one letter has its letter
-pub letter_left : (xs : List ℕ) (c : ℕ) → slice_index xs 0 ≡ 92 → short_escape (slice_index xs 1) ≡ Some c
+pub letter_left : (xs : List ℕ) (c : ℕ) → slice_index xs 0 ≡ backslash → short_escape (slice_index xs 1) ≡ Some c
     → 2 ≤ length xs
 letter_left xs c slash e = two_left xs (λ z. absurd (omega arith)) (λ z. no_nul_escape c (rw z at e))
 
 -- an escape of digits has its letter
-pub digits_left : (xs : List ℕ) (n : ℕ) → slice_index xs 0 ≡ 92 → digit_count (slice_index xs 1) ≡ Some n
+pub digits_left : (xs : List ℕ) (n : ℕ) → slice_index xs 0 ≡ backslash → digit_count (slice_index xs 1) ≡ Some n
     → 2 ≤ length xs
 digits_left xs n slash e = two_left xs (λ z. absurd (omega arith)) (λ z. no_nul_digits n (rw z at e))
 

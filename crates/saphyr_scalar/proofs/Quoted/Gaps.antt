@@ -18,6 +18,7 @@ use Rattle.saphyr_scalar.proofs.NoBreaks.{mark_no_nul}
 use Rattle.saphyr_scalar.proofs.Quoted.Inside.{front_twice, passed_over, behind_no_gap, IsQuotedInk, at_break, at_end, flushed, Moved, moved_stops, SameRun, moved_of}
 use Rattle.saphyr_scalar.proofs.Quoted.Parts.{blanks_moved}
 use Rattle.std.proofs.lemmas.Bool.{eqb-true}
+use Rattle.saphyr_input.specs.Indicators.{apostrophe, backslash}
 use Rattle.saphyr_input.proofs.Basics.Booleans.{and_true_left}
 use Rattle.saphyr_scalar.specs.Steps.Quoted.{is_literal, is_escaped_break, is_closing, ends_word, with_front, mid_line, special, on_line, over_lines, no_gap, escaped_gap, break_len, inner_text, inner_text_at}
 
@@ -32,7 +33,7 @@ by_break_len s h = by_tests (next_2_are s.rest 13 10) (is_break (slice_index s.r
 
 -- a backslash before a break
 pub at_escaped_break : (indent : ℕ) (start m : Marker) (cs : List ℕ) → is_break (slice_index cs 0) ≡ true
-    → inner_text Double indent start no_gap 0 m (92 ∷ cs)
+    → inner_text Double indent start no_gap 0 m (backslash ∷ cs)
     ≡ inner_text Double indent start (escaped_gap Double (slice_index (drop (break_len cs) cs) 0)) 0
     (next_line (along m 1) (break_len cs)) (drop (break_len cs) cs)
 unfolding is_literal special
@@ -45,7 +46,7 @@ at_escaped_break indent start m cs h =
 abbrev pub behind_escaped : Cursor → Cursor
 behind_escaped s = pass_break (pass 1 s)
 
-escaped_break_at : (indent : ℕ) (start : Marker) (s : Cursor) (cs : List ℕ) → s.rest ≡ 92 ∷ cs
+escaped_break_at : (indent : ℕ) (start : Marker) (s : Cursor) (cs : List ℕ) → s.rest ≡ backslash ∷ cs
     → is_break (slice_index cs 0) ≡ true
     → inner_text_at Double indent start no_gap s
     ≡ inner_text_at Double indent start (escaped_gap Double (slice_index (behind_escaped s).rest 0)) (behind_escaped s)
@@ -62,7 +63,7 @@ escaped_break_at indent start s cs cut h =
 
 record Escaped (xs : List ℕ) : Type 0 where
   cs : List ℕ
-  cut : xs ≡ 92 ∷ cs
+  cut : xs ≡ backslash ∷ cs
   breaks : is_break (slice_index cs 0) ≡ true
 
 escaped_of : (xs : List ℕ) → IsTrue (is_escaped_break Double xs) → Escaped xs
@@ -76,7 +77,7 @@ escaped_of (c ∷ cs) h =
     both true false h = absurd (cc)
     both false b h = absurd (cc)
 
-    number : (c : ℕ) → nat_eq c 92 ≡ true → c ≡ 92
+    number : (c : ℕ) → nat_eq c 92 ≡ true → c ≡ backslash
     number c h = grind (arith, nat_tests)
 
 escaped_break_on : (q : Quote) (indent : ℕ) (start : Marker) (s : Cursor) → IsTrue (is_escaped_break q s.rest)
@@ -171,8 +172,9 @@ closing_quote : (q : Quote) (xs : List ℕ) → IsTrue (ends_word q xs) → slic
 closing_quote Double xs h e = rw e refl
 closing_quote Single xs h e = by_rest (slice_index xs 0) (slice_index xs 1 == 39) h e
   where
-    by_rest : (c : ℕ) (d : Bool) → IsTrue (is_blank_or_breakz c || ((c == 39) && not d) || false) → c ≡ 39
-        → IsTrue ((c == 39) && not d)
+    by_rest : (c : ℕ) (d : Bool) → IsTrue (is_blank_or_breakz c || ((c == apostrophe) && not d) || false)
+        → c ≡ apostrophe
+        → IsTrue ((c == apostrophe) && not d)
     by_rest c true h e = let h = rw e at h in absurd (cc)
     by_rest c false h e = rw e refl
 

@@ -1,7 +1,7 @@
 -- Blanks and breaks of a quoted scalar are read, and so is each character that stands for itself.
 use Rattle.std.proofs.Common.{◌≡◌, ℕ, Bool, true, false, List, ◌∷◌, ◌++◌, drop, slice_index, refl, sym, ap, ◌∙◌, arith, subst, IsTrue}
 use Rattle.std.specs.Prelude.{◌&&◌, ◌==◌, encode_utf8}
-use Rattle.saphyr_input.specs.Classes.{is_blank, is_break}
+use Rattle.saphyr_input.specs.Classes.{is_blank, is_break, tab}
 use Rattle.saphyr_scalar.specs.declared.scalar.position.Marker.{Marker}
 use Rattle.scalar_values.specs.declared.folding.Item.{Item}
 use Rattle.scalar_values.specs.declared.folding.Item.TheVariants.{Blank, Raw, Break}
@@ -23,7 +23,7 @@ use Rattle.saphyr_scalar.proofs.Quoted.IndentedLines.{Indented, GapFits, line_in
 use Rattle.saphyr_scalar.proofs.Quoted.WordsRead.{Read, with_gap, itself_of, literal_read}
 
 line_blank : (q : Quote) (indent : ℕ) (start : Marker) (escaped : Bool) (k : ℕ) (m : Marker) (c : ℕ) (cs : List ℕ)
-    → is_blank c ≡ true → ((c == 9) && is_left indent m) ≡ false
+    → is_blank c ≡ true → ((c == tab) && is_left indent m) ≡ false
     → inner_text q indent start (over_lines escaped k) 0 m (c ∷ cs)
     ≡ inner_text q indent start (over_lines escaped k) 0 (along m 1) cs
 unfolding inner_text blank_in
@@ -31,7 +31,7 @@ line_blank q indent start escaped k m c cs h fits = rw (h, fits) refl
 
 -- a blank at the start of a line leaves it indented
 record BlankFits (indent : ℕ) (m : Marker) (c : ℕ) (t : List ℕ) : Type 0 where
-  test : ((c == 9) && is_left indent m) ≡ false
+  test : ((c == tab) && is_left indent m) ≡ false
   behind : Indented indent (along m 1) t
 
 blank_fits : (indent : ℕ) (m : Marker) (c : ℕ) (t : List ℕ) → is_blank c ≡ true → Indented indent m (c ∷ t)

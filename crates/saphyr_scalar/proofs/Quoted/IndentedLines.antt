@@ -1,7 +1,7 @@
 -- Where a gap over lines stands within a line's white space, what stands behind it is indented.
 use Rattle.std.proofs.Common.{◌≡◌, ℕ, suc, ◌+◌, ◌≤◌, true, false, List, ◌∷◌, drop, slice_index, refl, arith, subst, IsTrue, inl, inr, ◌⊎◌}
 use Rattle.std.specs.Prelude.{◌==◌}
-use Rattle.saphyr_input.specs.Classes.{is_break}
+use Rattle.saphyr_input.specs.Classes.{is_break, tab}
 use Rattle.saphyr_input.specs.Places.{is_document_indicator}
 use Rattle.saphyr_scalar.specs.declared.scalar.position.Marker.{Marker}
 use Rattle.saphyr_scalar.specs.Views.Cursor.{along}
@@ -56,7 +56,7 @@ right_of indent m c t space break h = by_case h.far
     by_case (inr b) = let is : is_break c ≡ true =
         subst (λ (n : ℕ). is_break (slice_index (drop n (c ∷ t)) 0) ≡ true) none b in absurd (cc)
 
-pub behind_tab : (indent : ℕ) (m : Marker) (t : List ℕ) → Indented indent m (9 ∷ t) → Indented indent (along m 1) t
+pub behind_tab : (indent : ℕ) (m : Marker) (t : List ℕ) → Indented indent m (tab ∷ t) → Indented indent (along m 1) t
 behind_tab indent m t h =
     let right = right_of indent m 9 t refl refl h in
     record { marker = λ e. absurd (omega arith); far = inl (omega arith) }

@@ -20,6 +20,7 @@ use Rattle.saphyr_scalar.specs.Steps.Quoted.{TextRead, is_literal, with_front, m
 use Rattle.saphyr_input.proofs.Basics.Lists.{run_ends}
 use Rattle.saphyr_input.proofs.Basics.Booleans.{neither_parts, by_test, either}
 use Rattle.std.proofs.lemmas.Bool.{or_parts}
+use Rattle.saphyr_input.specs.Indicators.{backslash}
 
 pub front_twice : (a b : List ℕ) (read : TextRead) → with_front a (with_front b read) ≡ with_front (a ++ b) read
 front_twice a b (Ok x) = rw append_assoc refl
@@ -185,7 +186,7 @@ at_break q indent start gap s h = passes s.mark s.rest h
 
 -- What the calls that read a part leave.
 
-pub slash_left : (xs : List ℕ) → slice_index xs 0 ≡ 92 → 0 < length xs
+pub slash_left : (xs : List ℕ) → slice_index xs 0 ≡ backslash → 0 < length xs
 slash_left [] h = absurd (cc)
 slash_left (c ∷ cs) h = omega arith
 

@@ -14,6 +14,7 @@ use Rattle.saphyr_scalar.proofs.Quoted.Escapes.{escape_place}
 use Rattle.saphyr_scalar.proofs.Quoted.Inside.{front_twice, passed_over, behind_no_gap, run_blanks, Moved, slash_left}
 use Rattle.saphyr_scalar.specs.Steps.Quoted.{is_literal, ends_word, hex_digit_count, escape_by_number, escape_of, escaped_character, with_front, mid_line, special, on_line, no_gap, inner_text, inner_text_at}
 use Rattle.std.proofs.lemmas.Bool.{eqb-true}
+use Rattle.saphyr_input.specs.Indicators.{apostrophe, backslash}
 use Rattle.saphyr_input.proofs.Basics.Booleans.{clash, and_true_left, and_true_right, and_false, by_test}
 
 -- A run that was put behind a text.
@@ -35,8 +36,8 @@ bind_twice (Err e) f g = refl
 
 -- an escape and what is read behind it
 pub at_escape : (indent : ℕ) (start m : Marker) (cs : List ℕ) → is_break (slice_index cs 0) ≡ false
-    → inner_text Double indent start no_gap 0 m (92 ∷ cs)
-    ≡ (escaped_character start (mid_line m (92 ∷ cs)) >>= λ e. with_front (encode_utf8 e.0)
+    → inner_text Double indent start no_gap 0 m (backslash ∷ cs)
+    ≡ (escaped_character start (mid_line m (backslash ∷ cs)) >>= λ e. with_front (encode_utf8 e.0)
     (inner_text_at Double indent start no_gap e.1))
 unfolding is_literal special
 at_escape indent start m cs h =
@@ -54,7 +55,7 @@ at_escape indent start m cs h =
     two_more n = omega arith
 
 pub at_two_quotes : (indent : ℕ) (start m : Marker) (cs : List ℕ)
-    → inner_text Single indent start no_gap 0 m (39 ∷ 39 ∷ cs)
+    → inner_text Single indent start no_gap 0 m (apostrophe ∷ apostrophe ∷ cs)
     ≡ with_front (encode_utf8 39) (inner_text Single indent start no_gap 0 (along m 2) cs)
 unfolding is_literal special inner_text
 at_two_quotes indent start m cs = behind_no_gap Single indent start m 39 (39 ∷ cs) refl refl refl
@@ -62,14 +63,14 @@ at_two_quotes indent start m cs = behind_no_gap Single indent start m 39 (39 ∷
 -- where an escape stands, and what follows it is no break
 pub record StartsEscape (xs : List ℕ) : Type 0 where
   pub cs : List ℕ
-  pub cut : xs ≡ 92 ∷ cs
+  pub cut : xs ≡ backslash ∷ cs
   pub goes : is_break (slice_index cs 0) ≡ false
 
 record AreTwoQuotes (xs : List ℕ) : Type 0 where
   pub cs : List ℕ
-  pub cut : xs ≡ 39 ∷ 39 ∷ cs
+  pub cut : xs ≡ apostrophe ∷ apostrophe ∷ cs
 
-escape_of_test : (xs : List ℕ) → ((slice_index xs 0 == 92) && not (is_break (slice_index xs 1))) ≡ true
+escape_of_test : (xs : List ℕ) → ((slice_index xs 0 == backslash) && not (is_break (slice_index xs 1))) ≡ true
     → StartsEscape xs
 escape_of_test [] h = absurd (cc)
 escape_of_test (c ∷ cs) h =
@@ -148,7 +149,7 @@ two_quotes_read : (indent : ℕ) (start : Marker) (s : Cursor) → AreTwoQuotes 
     → ReadsSpecial Single indent start s (Ok (Some 39, pass 2 s))
 two_quotes_read indent start s is = cut s.rest is.cut
   where
-    cut : (xs : List ℕ) → xs ≡ 39 ∷ 39 ∷ is.cs
+    cut : (xs : List ℕ) → xs ≡ apostrophe ∷ apostrophe ∷ is.cs
         → (inner_text Single indent start no_gap 0 s.mark xs
         ≡ with_front (encode_utf8 39) (inner_text Single indent start no_gap 0 (along s.mark 2) (drop 2 xs)))
         × (length (drop 2 xs) < length xs)

@@ -2,7 +2,7 @@
 use Rattle.std.proofs.Common.{◌≡◌, ℕ, ◌+◌, ◌*◌, Bool, true, false, List, [], ◌∷◌, ◌++◌, length, drop, slice_index, Some, None, refl, sym, ap, ◌∙◌, arith, subst, encode_utf8_all, nat_eq, IsTrue, cond, append_assoc, inl, inr}
 use Rattle.std.specs.Prelude.{◌||◌, ◌&&◌, ◌==◌, not, option_map, IsFalse}
 use Rattle.std.proofs.lemmas.Bool.Decides.{nat_tests}
-use Rattle.saphyr_input.specs.Classes.{is_break, is_hex, hex_value}
+use Rattle.saphyr_input.specs.Classes.{is_break, is_hex, hex_value, carriage_return, line_feed}
 use Rattle.saphyr_input.specs.Breaks.{normalized}
 use Rattle.scalar_values.specs.declared.folding.Item.{Item}
 use Rattle.scalar_values.specs.declared.folding.Item.TheVariants.{Raw, Escaped, Break, EscapedBreak}
@@ -49,16 +49,17 @@ begin_same p xs x b = ap (λ (t : List ℕ). slice_index t 0) b.some
 record BreakPiece (t p x : List ℕ) : Type 0 where
   piece : List ℕ
   begins : Begins piece t x
-  norm : normalized piece ≡ 10 ∷ normalized p
+  norm : normalized piece ≡ line_feed ∷ normalized p
 
-feed_piece : (cs p x : List ℕ) → Begins p cs x → BreakPiece (10 ∷ cs) p x
+feed_piece : (cs p x : List ℕ) → Begins p cs x → BreakPiece (line_feed ∷ cs) p x
 feed_piece cs p x b = record {
   piece = 10 ∷ p;
   begins = record { first = 10; others = p; some = refl; cut = ap (λ (t : List ℕ). 10 ∷ t) b.cut };
   norm = refl;
 }
 
-return_piece : (cs p x : List ℕ) → (slice_index cs 0 == 10) ≡ false → Begins p cs x → BreakPiece (13 ∷ cs) p x
+return_piece : (cs p x : List ℕ) → (slice_index cs 0 == line_feed) ≡ false → Begins p cs x
+    → BreakPiece (carriage_return ∷ cs) p x
 return_piece cs p x h b =
     let other : (slice_index p 0 == 10) ≡ false = ap (λ c. c == 10) (begin_same p cs x b) ∙ h in
     record {
@@ -67,7 +68,8 @@ return_piece cs p x h b =
       norm = rw other refl;
     }
 
-both_piece : (cs p x : List ℕ) → Begins p (drop 1 cs) x → (slice_index cs 0 == 10) ≡ true → BreakPiece (13 ∷ cs) p x
+both_piece : (cs p x : List ℕ) → Begins p (drop 1 cs) x → (slice_index cs 0 == line_feed) ≡ true
+    → BreakPiece (carriage_return ∷ cs) p x
 both_piece [] p x b h = absurd (cc)
 both_piece (d ∷ cs) p x b h =
     let is : d ≡ 10 = number d h in
@@ -82,7 +84,7 @@ both_piece (d ∷ cs) p x b h =
       norm = refl;
     }
   where
-    number : (d : ℕ) → nat_eq d 10 ≡ true → d ≡ 10
+    number : (d : ℕ) → nat_eq d 10 ≡ true → d ≡ line_feed
     number d h = grind (arith, nat_tests)
 
 break_piece : (t p x : List ℕ) → is_break (slice_index t 0) ≡ true → Begins p (drop (break_len t) t) x
@@ -92,8 +94,9 @@ break_piece (c ∷ cs) p x h =
     break_cases c h (λ k. Begins p (drop (break_len (k ∷ cs)) (k ∷ cs)) x → BreakPiece (k ∷ cs) p x)
     (λ b. feed_piece cs p x b) (λ b. returns (slice_index cs 0 == 10) refl b)
   where
-    returns : (two : Bool) → (slice_index cs 0 == 10) ≡ two → Begins p (drop (cond two 2 1) (13 ∷ cs)) x
-        → BreakPiece (13 ∷ cs) p x
+    returns : (two : Bool) → (slice_index cs 0 == line_feed) ≡ two
+        → Begins p (drop (cond two 2 1) (carriage_return ∷ cs)) x
+        → BreakPiece (carriage_return ∷ cs) p x
     returns true is b = both_piece cs p x b is
     returns false is b = return_piece cs p x is b
 
@@ -142,13 +145,14 @@ mark_piece Double x = record {
 }
 
 record Itself (q : Quote) (c : ℕ) : Type 0 where
-  no_return : (c == 13) ≡ false
+  no_return : (c == carriage_return) ≡ false
   plain : IsFalse (flow.is_special q c)
 
 itself_of : (q : Quote) (c : ℕ) → IsTrue (quotes.stands_for_itself q c) → Itself q c
 itself_of q c h = by_tests (c == 10) (c == 13) (c == 0) (flow.is_special q c) refl refl h
   where
-    by_tests : (a b z d : Bool) → (c == 13) ≡ b → flow.is_special q c ≡ d → (not ((a || b) || z) && not d) ≡ true
+    by_tests : (a b z d : Bool) → (c == carriage_return) ≡ b → flow.is_special q c ≡ d
+        → (not ((a || b) || z) && not d) ≡ true
         → Itself q c
     by_tests false false false false r s h = record { no_return = r; plain = s }
     by_tests true b z d r s h = absurd (cc)
@@ -156,37 +160,37 @@ itself_of q c h = by_tests (c == 10) (c == 13) (c == 0) (flow.is_special q c) re
     by_tests false false true d r s h = absurd (cc)
     by_tests false false false true r s h = absurd (cc)
 
-no_return_simple : (e c : ℕ) → short_escape e ≡ Some c → (e == 13) ≡ false
+no_return_simple : (e c : ℕ) → short_escape e ≡ Some c → (e == carriage_return) ≡ false
 unfolding short_escape
 no_return_simple e c h = by_test (e == 13) refl
   where
-    number : (e : ℕ) → nat_eq e 13 ≡ true → e ≡ 13
+    number : (e : ℕ) → nat_eq e 13 ≡ true → e ≡ carriage_return
     number e h = grind (arith, nat_tests)
 
-    none : (e : ℕ) → e ≡ 13 → short_escape e ≡ None
+    none : (e : ℕ) → e ≡ carriage_return → short_escape e ≡ None
     none e is = rw is refl
 
-    by_test : (b : Bool) → (e == 13) ≡ b → b ≡ false
+    by_test : (b : Bool) → (e == carriage_return) ≡ b → b ≡ false
     by_test true is = let n = none e (number e is) in absurd (cc)
     by_test false is = refl
 
-no_return_count : (e n : ℕ) → digit_count e ≡ Some n → (e == 13) ≡ false
+no_return_count : (e n : ℕ) → digit_count e ≡ Some n → (e == carriage_return) ≡ false
 no_return_count e n is = by_test (e == 13) refl
   where
-    number : (e : ℕ) → nat_eq e 13 ≡ true → e ≡ 13
+    number : (e : ℕ) → nat_eq e 13 ≡ true → e ≡ carriage_return
     number e h = grind (arith, nat_tests)
 
-    by_test : (b : Bool) → (e == 13) ≡ b → b ≡ false
+    by_test : (b : Bool) → (e == carriage_return) ≡ b → b ≡ false
     by_test true h = let none : digit_count e ≡ None = ap digit_count (number e h) in absurd (cc)
     by_test false h = refl
 
-no_return_hex : (d : ℕ) → IsTrue (is_hex d) → (d == 13) ≡ false
+no_return_hex : (d : ℕ) → IsTrue (is_hex d) → (d == carriage_return) ≡ false
 no_return_hex d h = by_test (d == 13) refl
   where
-    number : (e : ℕ) → nat_eq e 13 ≡ true → e ≡ 13
+    number : (e : ℕ) → nat_eq e 13 ≡ true → e ≡ carriage_return
     number e h = grind (arith, nat_tests)
 
-    by_test : (b : Bool) → (d == 13) ≡ b → b ≡ false
+    by_test : (b : Bool) → (d == carriage_return) ≡ b → b ≡ false
     by_test true is = let no : is_hex d ≡ false = ap is_hex (number d is) in absurd (cc)
     by_test false is = refl
 

@@ -25,6 +25,7 @@ use Rattle.saphyr_scalar.proofs.Quoted.SpelledWords.{special_of}
 use Rattle.saphyr_scalar.proofs.Quoted.SpelledLines.{gap_ended}
 use Rattle.saphyr_input.proofs.Basics.Booleans.{and_true_left, and_true_right, by_test}
 use Rattle.std.proofs.lemmas.Bool.{eqb-true}
+use Rattle.saphyr_input.specs.Indicators.{apostrophe}
 use Rattle.saphyr_input.proofs.Basics.Characters.{blank_no_break}
 use Rattle.saphyr_scalar.proofs.NoBreaks.{mark_no_break, mark_no_nul}
 
@@ -82,7 +83,7 @@ SpecialTold q start m c cs (Ok (None, t)) =
     (c == flow.mark q) ≡ false → (is_break c ≡ false) × (is_break (slice_index cs 0) ≡ true)
 SpecialTold q start m c cs (Err e) = e.mark ≡ start
 
-two_passed : (m : Marker) (c : ℕ) (cs : List ℕ) → is_break c ≡ false → (slice_index cs 0 == 39) ≡ true
+two_passed : (m : Marker) (c : ℕ) (cs : List ℕ) → is_break c ≡ false → (slice_index cs 0 == apostrophe) ≡ true
     → IsPassed m (c ∷ cs) (along m 2) (drop 1 cs)
 two_passed m c [] e f = absurd (cc)
 two_passed m c (d ∷ ds) e f =

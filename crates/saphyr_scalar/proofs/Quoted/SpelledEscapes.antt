@@ -1,6 +1,7 @@
 -- What is read as an escape is spelled so.
 use Rattle.std.proofs.Common.{◌≡◌, ℕ, zero, suc, ◌+◌, ◌*◌, ◌≤◌, true, List, [], ◌∷◌, ◌++◌, length, length-append, drop, slice_index, Result, Ok, Err, refl, sym, ap, ◌∙◌, arith, subst, IsTrue}
 use Rattle.std.specs.Prelude.{Option, Some, None}
+use Rattle.saphyr_input.specs.Indicators.{backslash}
 use Rattle.saphyr_input.specs.Classes.{is_hex, hex_value}
 use Rattle.scalar_values.specs.Escapes.{digit_count, is_scalar_value, short_escape}
 use Rattle.saphyr_scalar.specs.Spelling.Tag.{AreIn}
@@ -94,9 +95,9 @@ digits_spelled start (suc n) v t w s e =
 -- an escape that was read, behind its backslash
 pub record Escape (m : Marker) (e : ℕ) (xs : List ℕ) (c : ℕ) (s : Cursor) : Type 0 where
   pub grows : (items : List Item) (x : List ℕ) → quotes.IsCleanText Double s.rest items x
-      → quotes.IsCleanText Double (92 ∷ e ∷ xs) (Escaped c ∷ items) x
+      → quotes.IsCleanText Double (backslash ∷ e ∷ xs) (Escaped c ∷ items) x
   pub shorter : length s.rest ≤ length xs
-  pub passes : (n : Marker) (u : List ℕ) → IsPassed s.mark s.rest n u → IsPassed m (92 ∷ e ∷ xs) n u
+  pub passes : (n : Marker) (u : List ℕ) → IsPassed s.mark s.rest n u → IsPassed m (backslash ∷ e ∷ xs) n u
 
 pub then_gave : (r : Result (ℕ × Cursor) Refusal) (f : ℕ × Cursor → Result (ℕ × Cursor) Refusal) (c : ℕ) (s : Cursor)
     → Gave (r >>= f) c s → (w : ℕ) × (u : Cursor) × Gave r w u × Gave (f (w, u)) c s
@@ -122,7 +123,7 @@ scalar_gave start w c u s =
     (λ h g. (h, gave_first w c u s g, gave_second w c u s g)) (λ _ g. nothing _ c s g)
 
 number_spelled : (start m : Marker) (e : ℕ) (xs : List ℕ) (c : ℕ) (s : Cursor) (o : Option ℕ) → digit_count e ≡ o
-    → Gave (escape_by_number start o (mid_line m (92 ∷ e ∷ xs))) c s → Escape m e xs c s
+    → Gave (escape_by_number start o (mid_line m (backslash ∷ e ∷ xs))) c s → Escape m e xs c s
 unfolding escape_by_number
 number_spelled start m e xs c s None asked g = nothing _ c s g
 number_spelled start m e xs c s (Some n) asked g =
@@ -148,7 +149,7 @@ number_spelled start m e xs c s (Some n) asked g =
     }
 
 of_spelled : (start m : Marker) (e : ℕ) (xs : List ℕ) (c : ℕ) (s : Cursor) (o : Option ℕ) → short_escape e ≡ o
-    → Gave (escape_of start o e (mid_line m (92 ∷ e ∷ xs))) c s → Escape m e xs c s
+    → Gave (escape_of start o e (mid_line m (backslash ∷ e ∷ xs))) c s → Escape m e xs c s
 unfolding escape_of
 of_spelled start m e xs c s (Some k) is g =
     let same : k ≡ c = gave_first k c (pass 2 (mid_line m (92 ∷ e ∷ xs))) s g in
@@ -166,10 +167,11 @@ of_spelled start m e xs c s (Some k) is g =
 of_spelled start m e xs c s None is g = number_spelled start m e xs c s (digit_count e) refl g
 
 pub escape_spelled : (start m : Marker) (e : ℕ) (xs : List ℕ) (c : ℕ) (s : Cursor)
-    → Gave (escaped_character start (mid_line m (92 ∷ e ∷ xs))) c s → Escape m e xs c s
+    → Gave (escaped_character start (mid_line m (backslash ∷ e ∷ xs))) c s → Escape m e xs c s
 unfolding escaped_character
 escape_spelled start m e xs c s g = of_spelled start m e xs c s (short_escape e) refl g
 
-pub no_escape : (start m : Marker) (c : ℕ) (s : Cursor) → Gave (escaped_character start (mid_line m (92 ∷ []))) c s → ⊥
+pub no_escape : (start m : Marker) (c : ℕ) (s : Cursor)
+    → Gave (escaped_character start (mid_line m (backslash ∷ []))) c s → ⊥
 unfolding escaped_character escape_of escape_by_number short_escape
 no_escape start m c s g = absurd (nothing _ c s g)

@@ -18,6 +18,7 @@ use Rattle.saphyr_scalar.proofs.Quoted.Parts.{at_escape, at_two_quotes}
 use Rattle.saphyr_scalar.proofs.Quoted.Gaps.{at_escaped_break, at_closing}
 use Rattle.saphyr_scalar.proofs.Quoted.SpelledEscapes.{GaveText, text_first, text_second, then_text, front_gave, escape_spelled, no_escape}
 use Rattle.std.proofs.lemmas.Bool.{eqb-true}
+use Rattle.saphyr_input.specs.Indicators.{apostrophe, backslash, quotation_mark}
 use Rattle.saphyr_input.proofs.Basics.Booleans.{either, or_false_left}
 use Rattle.saphyr_input.proofs.Basics.Lists.{drop_shorter}
 use Rattle.saphyr_scalar.proofs.NoBreaks.{mark_no_break}
@@ -81,7 +82,7 @@ cases true at_true at_false = at_true refl
 cases false at_true at_false = at_false refl
 
 two_passed : (m : Marker) (cs : List ℕ) (n : Marker) (u : List ℕ) → IsPassed (along m 2) cs n u
-    → IsPassed m (39 ∷ 39 ∷ cs) n u
+    → IsPassed m (apostrophe ∷ apostrophe ∷ cs) n u
 two_passed m cs n u p =
     character m 39 (39 ∷ cs) n u refl
     (character (along m 1) 39 cs n u refl
@@ -90,7 +91,7 @@ two_passed m cs n u p =
 -- two single quotes, or the closing one
 quote_word : (n : ℕ) (indent : ℕ) (start m : Marker) (cs y : List ℕ) (s : Cursor) → length cs ≤ n
     → Known n Single indent start
-    → GaveText (inner_text Single indent start no_gap 0 m (39 ∷ cs)) y s → Word Single m (39 ∷ cs) y s
+    → GaveText (inner_text Single indent start no_gap 0 m (apostrophe ∷ cs)) y s → Word Single m (apostrophe ∷ cs) y s
 quote_word n indent start m [] y s le known g = closed_word Single indent start m [] y s refl g
 quote_word n indent start m (d ∷ cs) y s le known g = cases (d == 39)
     (λ h. let is : 39 ≡ d = sym (eqb-true d 39 h) in
@@ -98,7 +99,8 @@ quote_word n indent start m (d ∷ cs) y s le known g = cases (d == 39)
     (second (ap (λ x. inner_text Single indent start no_gap 0 m (39 ∷ x ∷ cs)) is ∙ g)))
     (λ h. closed_word Single indent start m (d ∷ cs) y s (rw h refl) g)
   where
-    second : GaveText (inner_text Single indent start no_gap 0 m (39 ∷ 39 ∷ cs)) y s → Word Single m (39 ∷ 39 ∷ cs) y s
+    second : GaveText (inner_text Single indent start no_gap 0 m (apostrophe ∷ apostrophe ∷ cs)) y s
+        → Word Single m (apostrophe ∷ apostrophe ∷ cs) y s
     second g =
         let f = front_gave (encode_utf8 39) (inner_text Single indent start no_gap 0 (along m 2) cs) y s
         (sym (at_two_quotes indent start m cs) ∙ g) in
@@ -133,8 +135,8 @@ line_word n indent start m (c ∷ cs) y s le known g = cases (c == 34)
     line_of true h = absurd (cc)
     line_of false h = refl
 
-    closes : GaveText (inner_text Double indent start no_gap 0 m (34 ∷ cs)) y s
-        → Spelled Double (over_lines true 0) m (34 ∷ cs) y s
+    closes : GaveText (inner_text Double indent start no_gap 0 m (quotation_mark ∷ cs)) y s
+        → Spelled Double (over_lines true 0) m (quotation_mark ∷ cs) y s
     closes g =
         let done = sym (at_closing Double indent start m cs refl) ∙ g in
         let left : cs ≡ s.rest = ap (λ (u : Cursor). u.rest) (text_second [] y (mid_line (along m 1) cs) s done) in
@@ -151,7 +153,7 @@ line_word n indent start m (c ∷ cs) y s le known g = cases (c == 34)
 -- an escape, or an escaped break
 backslash_word : (n : ℕ) (indent : ℕ) (start m : Marker) (cs y : List ℕ) (s : Cursor) → length cs ≤ n
     → Known n Double indent start
-    → GaveText (inner_text Double indent start no_gap 0 m (92 ∷ cs)) y s → Word Double m (92 ∷ cs) y s
+    → GaveText (inner_text Double indent start no_gap 0 m (backslash ∷ cs)) y s → Word Double m (backslash ∷ cs) y s
 backslash_word n indent start m [] y s le known g =
     let t = then_text (escaped_character start (mid_line m (92 ∷ []))) _ y s
     (sym (at_escape indent start m [] refl) ∙ g) in

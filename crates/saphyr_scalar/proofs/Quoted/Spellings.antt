@@ -1,6 +1,7 @@
 -- A double quoted scalar that is spelled on one line is read, without a fault, and gives its characters.
 use Rattle.std.proofs.Common.{◌≡◌, ℕ, suc, append_assoc, ◌+◌, Bool, true, false, List, [], ◌∷◌, ◌++◌, length, drop, Ok, refl, sym, ap, ◌∙◌, arith, encode_utf8_all, IsTrue}
 use Rattle.std.specs.Prelude.{◌||◌, ◌&&◌, ◌==◌, not, encode_utf8, Option, Some, None}
+use Rattle.saphyr_input.specs.Indicators.{backslash, quotation_mark}
 use Rattle.saphyr_input.specs.Classes.{is_blank, is_break, is_breakz, is_hex}
 use Rattle.scalar_values.specs.Escapes.{digit_count, short_escape}
 use Rattle.saphyr_scalar.specs.Spelling.Tag.{AreIn}
@@ -75,12 +76,13 @@ no_letter e n (Some c) is h = let none = simple_no_digits e c is in absurd (cc)
 no_letter e n None is h = refl
 
 pub letter_read : (start m : Marker) (e c : ℕ) (t : List ℕ) → short_escape e ≡ Some c
-    → escaped_character start (mid_line m (92 ∷ e ∷ t)) ≡ Ok (c, mid_line (along m 2) t)
+    → escaped_character start (mid_line m (backslash ∷ e ∷ t)) ≡ Ok (c, mid_line (along m 2) t)
 unfolding escaped_character escape_of
 letter_read start m e c t h = rw h refl
 
 pub number_read : (start m : Marker) (e c : ℕ) (ds t : List ℕ) → spelling.IsNumber e c ds
-    → escaped_character start (mid_line m (92 ∷ e ∷ (ds ++ t))) ≡ Ok (c, mid_line (along (along m 2) (length ds)) t)
+    → escaped_character start (mid_line m (backslash ∷ e ∷ (ds ++ t)))
+    ≡ Ok (c, mid_line (along (along m 2) (length ds)) t)
 unfolding escaped_character escape_of escape_by_number character
 number_read start m e c ds t h =
     let none : short_escape e ≡ None = no_letter e (length ds) (short_escape e) refl h.count in
@@ -98,14 +100,15 @@ quote_content : IsQuotedInk 34
 quote_content = record { blank = refl; break = refl; nul = refl }
 
 closed_reads : (indent : ℕ) (start : Marker) (b : List ℕ) (m : Marker) (x : List ℕ)
-    → ReadsInside indent start b m (34 ∷ x) [] x 1
+    → ReadsInside indent start b m (quotation_mark ∷ x) [] x 1
 closed_reads indent start b m x =
     flushed Double indent start b m 34 x quote_content ∙ ap (with_front b) (at_closing Double indent start m x refl)
 
 -- an escape, and what is read behind it
 escape_reads : (indent : ℕ) (start : Marker) (b : List ℕ) (m : Marker) (e c : ℕ) (t v x rest : List ℕ) (k n : ℕ)
-    → is_break e ≡ false → escaped_character start (mid_line m (92 ∷ e ∷ t)) ≡ Ok (c, mid_line (along m k) rest)
-    → ReadsInside indent start [] (along m k) rest v x n → ReadsInside indent start b m (92 ∷ e ∷ t) (c ∷ v) x (k + n)
+    → is_break e ≡ false → escaped_character start (mid_line m (backslash ∷ e ∷ t)) ≡ Ok (c, mid_line (along m k) rest)
+    → ReadsInside indent start [] (along m k) rest v x n
+    → ReadsInside indent start b m (backslash ∷ e ∷ t) (c ∷ v) x (k + n)
 escape_reads indent start b m e c t v x rest k n no_break h r =
     flushed Double indent start b m 92 (e ∷ t) escape_content
     ∙ ap (with_front b)

@@ -2,6 +2,7 @@
 use Rattle.std.proofs.Common.{◌≡◌, ℕ, ◌≤◌, Bool, true, false, List, [], ◌∷◌, ◌++◌, drop, slice_index, Ok, refl, sym, ap, ◌∙◌, arith, subst, nat_eq, nat_lt, IsTrue, cond}
 use Rattle.std.specs.Prelude.{◌||◌, ◌&&◌, ◌==◌, not, encode_utf8}
 use Rattle.std.proofs.lemmas.Bool.Decides.{nat_tests}
+use Rattle.saphyr_input.specs.Indicators.{apostrophe, backslash, quotation_mark}
 use Rattle.saphyr_input.specs.Classes.{is_blank, is_break, is_breakz}
 use Rattle.saphyr_input.specs.Places.{is_document_indicator}
 use Rattle.saphyr_scalar.specs.declared.scalar.position.Marker.{Marker}
@@ -138,7 +139,7 @@ literal_read q indent start m c t items x content h r = record {
 
 pub two_quotes_read : (indent : ℕ) (start m : Marker) (t : List ℕ) (items : List Item) (x : List ℕ)
     → Read Single indent start no_gap (along m 2) t items x
-    → WordRead Single indent start m (39 ∷ 39 ∷ t) (Raw 39 ∷ items) x
+    → WordRead Single indent start m (apostrophe ∷ apostrophe ∷ t) (Raw apostrophe ∷ items) x
 two_quotes_read indent start m t items x r = record {
   first = 39;
   others = 39 ∷ t;
@@ -155,9 +156,9 @@ two_quotes_read indent start m t items x r = record {
 
 -- an escape, and what is read behind it
 pub escape_read : (indent : ℕ) (start m : Marker) (e c : ℕ) (t : List ℕ) (items : List Item) (x rest : List ℕ) (k : ℕ)
-    → is_break e ≡ false → escaped_character start (mid_line m (92 ∷ e ∷ t)) ≡ Ok (c, mid_line (along m k) rest)
-    → (r : Read Double indent start no_gap (along m k) rest items x) → IsPassed m (92 ∷ e ∷ t) r.mark x
-    → WordRead Double indent start m (92 ∷ e ∷ t) (Escaped c ∷ items) x
+    → is_break e ≡ false → escaped_character start (mid_line m (backslash ∷ e ∷ t)) ≡ Ok (c, mid_line (along m k) rest)
+    → (r : Read Double indent start no_gap (along m k) rest items x) → IsPassed m (backslash ∷ e ∷ t) r.mark x
+    → WordRead Double indent start m (backslash ∷ e ∷ t) (Escaped c ∷ items) x
 escape_read indent start m e c t items x rest k no_break h r passed = record {
   first = 92;
   others = e ∷ t;
@@ -179,7 +180,7 @@ pub escaped_break_read : (indent : ℕ) (start m : Marker) (t : List ℕ) (items
     → inner_text Double indent start (escaped_gap Double (slice_index (drop (break_len t) t) 0)) 0
     (next_line (along m 1) (break_len t)) (drop (break_len t) t)
     ≡ Ok (gap_bytes (over_lines true 0) items, mid_line r.mark x)
-    → WordRead Double indent start m (92 ∷ t) (EscapedBreak ∷ items) x
+    → WordRead Double indent start m (backslash ∷ t) (EscapedBreak ∷ items) x
 escaped_break_read indent start m t items x h r same = record {
   first = 92;
   others = t;
@@ -202,9 +203,10 @@ same_at_quote indent start m (c ∷ cs) fits = by_test (c == 34) refl
     number : (c : ℕ) → nat_eq c 34 ≡ true → 34 ≡ c
     number c h = grind (arith, nat_tests)
 
-    quote : Indented indent m (34 ∷ cs)
-        → inner_text Double indent start no_gap 0 m (34 ∷ cs) ≡ inner_text Double indent start (over_lines true 0) 0 m
-        (34 ∷ cs)
+    quote : Indented indent m (quotation_mark ∷ cs)
+        → inner_text Double indent start no_gap 0 m (quotation_mark ∷ cs)
+        ≡ inner_text Double indent start (over_lines true 0) 0 m
+        (quotation_mark ∷ cs)
     quote fits =
         at_closing Double indent start m cs refl
         ∙ sym (quoted_behind_gap Double indent start (over_lines true 0) m 34 cs refl refl
@@ -213,7 +215,7 @@ same_at_quote indent start m (c ∷ cs) fits = by_test (c == 34) refl
         ∙ ap (with_front []) (sym (behind_no_gap Double indent start m 34 cs refl refl refl)
         ∙ at_closing Double indent start m cs refl))
 
-    by_test : (b : Bool) → (c == 34) ≡ b
+    by_test : (b : Bool) → (c == quotation_mark) ≡ b
         → inner_text Double indent start (cond b no_gap (over_lines true 0)) 0 m (c ∷ cs)
         ≡ inner_text Double indent start (over_lines true 0) 0 m (c ∷ cs)
     by_test true h = subst (λ (k : ℕ). Indented indent m (k ∷ cs)

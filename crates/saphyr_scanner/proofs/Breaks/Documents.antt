@@ -3,7 +3,7 @@ use Rattle.std.proofs.Common.{◌≡◌, ℕ, ◌+◌, Bool, true, false, List, 
 use Rattle.std.specs.Prelude.{◌&&◌, ◌||◌, ◌==◌, not, slice_index, nat_lt}
 use Rattle.saphyr_scalar.proofs.Moving.{along_more}
 use Rattle.saphyr_input.specs.Breaks.{normalized}
-use Rattle.saphyr_input.specs.Classes.{is_breakz}
+use Rattle.saphyr_input.specs.Classes.{is_breakz, carriage_return}
 use Rattle.saphyr_input.specs.Places.{is_document_start, is_document_end}
 use Rattle.saphyr_input.specs.declared.input.SkipTabs.{SkipTabs}
 use Rattle.saphyr_scalar.specs.declared.scalar.position.Marker.{Marker}
@@ -99,7 +99,7 @@ abbrev Three : List ℕ → Type 0
 Three (a ∷ b ∷ c ∷ t) = ((a == 13) ≡ false) × ((b == 13) ≡ false) × ((c == 13) ≡ false)
 Three _ = ⊥
 
-three_of : (x : ℕ) → (x == 13) ≡ false → (0 == x) ≡ false → (t : List ℕ) → (slice_index t 0 == x) ≡ true
+three_of : (x : ℕ) → (x == carriage_return) ≡ false → (0 == x) ≡ false → (t : List ℕ) → (slice_index t 0 == x) ≡ true
     → (slice_index t 1 == x) ≡ true → (slice_index t 2 == x) ≡ true → Three t
 three_of x k z [] e f g = absurd (cc)
 three_of x k z (a ∷ []) e f g = absurd (cc)
@@ -108,7 +108,7 @@ three_of x k z (a ∷ b ∷ c ∷ t) e f g =
     let none : (y : ℕ) → (y == x) ≡ true → (y == 13) ≡ false = λ y h. ap (λ n. n == 13) (eqb-true y x h) ∙ k in
     (none a e, none b f, none c g)
 
-three_marks : (x : ℕ) → (x == 13) ≡ false → (0 == x) ≡ false → (t : List ℕ) (b : Bool)
+three_marks : (x : ℕ) → (x == carriage_return) ≡ false → (0 == x) ≡ false → (t : List ℕ) (b : Bool)
     → ((slice_index t 0 == x) && (slice_index t 1 == x) && (slice_index t 2 == x) && b) ≡ true → Three t
 three_marks x k z t b e =
     let p = and_parts ((slice_index t 0 == x) && (slice_index t 1 == x) && (slice_index t 2 == x)) b e in

@@ -29,12 +29,14 @@ use Rattle.saphyr_scanner.proofs.Breaks.States.{SameQueues, same_act, same_next,
 use Rattle.saphyr_scanner.proofs.Breaks.Steps.{both_choose}
 use Rattle.saphyr_input.proofs.Basics.Characters.{no_return}
 use Rattle.std.proofs.lemmas.Bool.{and_parts, le-leb, eqb-true}
+use Rattle.saphyr_input.specs.Indicators.{left_brace, left_bracket}
 
 -- ## What begins at a place
 
 step_same : (text : List ℕ) (first second other n : ℕ) (c : Core) (x : Indexes) → Laws text → Twin text c x
     → Inked c.cursor.rest → slice_index c.cursor.rest 0 ≡ first → is_blank_or_breakz other ≡ is_blank_or_breakz second
-    → is_flow other ≡ is_flow second → ((other == 91) || (other == 123)) ≡ ((second == 91) || (second == 123))
+    → is_flow other ≡ is_flow second
+    → ((other == left_bracket) || (other == left_brace)) ≡ ((second == left_bracket) || (second == left_brace))
     → GiveAlike (SameSteps text) (step first second n c) (step first other n (near_core x c))
 step_same text first second other n c x laws t ink f blank is_flow_too opens =
     let beside : is_value_adjacent other (near_core x c) ≡ is_value_adjacent second c =

@@ -33,6 +33,7 @@ use Rattle.saphyr_scanner.proofs.Breaks.Places.{near, Ahead, Low}
 use Rattle.saphyr_input.proofs.Basics.Booleans.{by_test}
 use Rattle.saphyr_scalar.proofs.Given.{given_of}
 use Rattle.std.proofs.lemmas.Bool.{and_parts, eqb-true}
+use Rattle.saphyr_input.specs.Indicators.{exclamation_mark, percent_sign}
 
 -- on one line the index grows as the column does
 abbrev pub OnOneLine : Marker → Marker → Type 0
@@ -139,9 +140,9 @@ pub record Forwards : Type 0 where
   pub block_scalar : (style : BlockStyle) (indent : ℕ) (s : Cursor) (x : List ℕ × Span × Cursor)
       → slice_index s.rest 0 ≡ block_indicator style → blocks.block_scalar style indent s ≡ Ok x → Forward s x.2
   pub name : (s : Cursor) (x : List ℕ × Cursor) → 0 < length s.rest → anchors.anchor s ≡ Ok x → Forward s x.1
-  pub tag : (in_flow : Bool) (s : Cursor) (x : List ℕ × List ℕ × Cursor) → slice_index s.rest 0 ≡ 33
+  pub tag : (in_flow : Bool) (s : Cursor) (x : List ℕ × List ℕ × Cursor) → slice_index s.rest 0 ≡ exclamation_mark
       → tags.tag in_flow s ≡ Ok x → Forward s x.2
-  pub directive : (s : Cursor) (x : ReadDirective × Marker × Cursor) → slice_index s.rest 0 ≡ 37
+  pub directive : (s : Cursor) (x : ReadDirective × Marker × Cursor) → slice_index s.rest 0 ≡ percent_sign
       → directives.directive s ≡ Ok x → Forward s x.2
 
 -- a text of the line was read

@@ -2,7 +2,7 @@
 use Rattle.std.proofs.Common.{◌≡◌, ℕ, ◌+◌, ◌≤◌, Bool, true, false, List, [], ◌∷◌, length, Result, refl, sym, ap, ◌∙◌, arith}
 use Rattle.std.specs.Prelude.{◌==◌, ◌^◌, ◌&&◌, ◌||◌, not, slice_index}
 use Rattle.saphyr_input.specs.Breaks.{normalized}
-use Rattle.saphyr_input.specs.Classes.{is_blank, is_bom, is_break, is_yaml_non_break, is_z}
+use Rattle.saphyr_input.specs.Classes.{is_blank, is_bom, is_break, is_yaml_non_break, is_z, carriage_return, line_feed}
 use Rattle.saphyr_scalar.specs.declared.scalar.position.Marker.{Marker}
 use Rattle.saphyr_scalar.specs.declared.scalar.fault.Refusal.{Refusal}
 use Rattle.saphyr_scalar.specs.Views.Cursor.{Cursor, along, next_line}
@@ -50,8 +50,9 @@ record Gaps (text : List ℕ) (least : ℕ) (t n : List ℕ) (m : Marker) (i : �
   inside : GiveAlike (PassesAlike text (cursor_at t m blank) i) (end_of_gap_in_comment least m blank broke tabbed t)
       (end_of_gap_in_comment least (reindexed i m) blank broke tabbed n)
 
-not_cut : (c : ℕ) (t n : List ℕ) → (c == 13) ≡ false
-    → ((c == 13) && (slice_index n 0 == 10)) ≡ ((c == 13) && (slice_index t 0 == 10))
+not_cut : (c : ℕ) (t n : List ℕ) → (c == carriage_return) ≡ false
+    → ((c == carriage_return) && (slice_index n 0 == line_feed))
+    ≡ ((c == carriage_return) && (slice_index t 0 == line_feed))
 not_cut c t n e = rw e refl
 
 all_gaps : (text : List ℕ) (least : ℕ) (t n : List ℕ) → Normal t n → (m : Marker) (i : ℕ) (blank broke tabbed : Bool)

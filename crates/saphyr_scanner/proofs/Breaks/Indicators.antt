@@ -18,6 +18,7 @@ use Rattle.saphyr_scanner.specs.Steps.Flow as flow
 use Rattle.saphyr_scanner.specs.Steps.Gap as gaps
 use Rattle.saphyr_scanner.specs.Steps.Passing.{pass_on, with_cursor}
 use Rattle.saphyr_scanner.specs.Steps.Value as value
+use Rattle.saphyr_scanner.specs.Grammar.Layout.{most_open}
 use Rattle.saphyr_scalar.specs.Alike.{GiveAlike}
 use Rattle.saphyr_scanner.proofs.Breaks.Cores.{Indexes, near_core, near_key, near_levels, first, others, LevelsEven, Cores, Twin, Laws, Still, Inked, of_cores, of_still, core_then, still_then, same_length, save_still, remove_still, roll_still, forgotten, separate_then, pass_then, still_pass_then, still_inked, pass_twin, pass_near, pass_ahead, twin_low, twin_stands, twin_moves, going_to, here_adjacent}
 use Rattle.saphyr_scanner.proofs.Breaks.Gaps.{spaces_alike}
@@ -26,6 +27,7 @@ use Rattle.saphyr_scanner.proofs.Breaks.Places.{reindexed, near, even_index, ahe
 use Rattle.saphyr_scanner.proofs.Breaks.States.{SameActions, SameSteps}
 use Rattle.saphyr_scanner.proofs.Breaks.Steps.{choose, both_choose, both_so}
 use Rattle.std.proofs.lemmas.Bool.{eqb-true}
+use Rattle.saphyr_input.specs.Indicators.{hyphen, left_brace, left_bracket}
 
 -- ## Flow collections
 
@@ -34,9 +36,9 @@ open_same : (text : List ℕ) (k : Context) (kind : Kind) (c : Core) (x : Indexe
     → GiveAlike (SameSteps text) (flow.open_collection k kind c) (flow.open_collection k kind (near_core x c))
 unfolding flow.open_collection
 open_same text k kind c x laws t ink =
-    both_choose (SameSteps text) (nat_le 255 (length c.outer))
-    (nat_le 255 (length (near_levels x.outer c.outer))) _ _ _ _
-    (ap (λ n. nat_le 255 n) (same_length x.outer c.outer)) (λ _. refl)
+    both_choose (SameSteps text) (nat_le most_open (length c.outer))
+    (nat_le most_open (length (near_levels x.outer c.outer))) _ _ _ _
+    (ap (λ n. nat_le most_open n) (same_length x.outer c.outer)) (λ _. refl)
     (λ _. pass_then text (SameSteps text) (flow.enter k c) (record x { key = 0; outer = x.key ∷ x.outer }) _ _ laws
     (record { ahead = t.ahead; key = tt; outer = (t.key, t.outer); line = t.line; adjacent = t.adjacent }) ink
     (λ s d y u. ((y, refl, u), (refl, tt))))
@@ -185,7 +187,8 @@ adjacent_same text c x t =
     even_index t.line c.adjacent x.adjacent c.cursor.mark.line c.cursor.mark.index x.at t.adjacent
 
 pub flow_value_same : (text : List ℕ) (second other : ℕ) (c : Core) (x : Indexes) → Laws text → Twin text c x
-    → Inked c.cursor.rest → ((other == 91) || (other == 123)) ≡ ((second == 91) || (second == 123))
+    → Inked c.cursor.rest
+    → ((other == left_bracket) || (other == left_brace)) ≡ ((second == left_bracket) || (second == left_brace))
     → GiveAlike (SameSteps text) (flow_value_steps second c) (flow_value_steps other (near_core x c))
 unfolding flow_value_steps
 flow_value_same text second other c x laws t ink e =
@@ -199,9 +202,9 @@ flow_value_same text second other c x laws t ink e =
 dash_next : (c : Core) (x : Indexes) → block.is_dash_next (near_core x c) ≡ block.is_dash_next c
 dash_next c x = by c.cursor.rest (slice_index c.cursor.rest 0 == 45) refl
   where
-    by : (t : List ℕ) (b : Bool) → (slice_index t 0 == 45) ≡ b
-        → ((slice_index (normalized t) 0 == 45) && is_blank_or_breakz (slice_index (normalized t) 1)) ≡
-        ((slice_index t 0 == 45) && is_blank_or_breakz (slice_index t 1))
+    by : (t : List ℕ) (b : Bool) → (slice_index t 0 == hyphen) ≡ b
+        → ((slice_index (normalized t) 0 == hyphen) && is_blank_or_breakz (slice_index (normalized t) 1)) ≡
+        ((slice_index t 0 == hyphen) && is_blank_or_breakz (slice_index t 1))
     by t true e =
         ap (λ b. b && is_blank_or_breakz (slice_index (normalized t) 1)) (first_is (λ y. y == 45) refl t)
         ∙ ap (λ b. (slice_index t 0 == 45) && b)

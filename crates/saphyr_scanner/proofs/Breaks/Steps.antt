@@ -1,6 +1,7 @@
 -- A character and a break passed in a text and in its normalized text.
 use Rattle.std.proofs.Common.{◌≡◌, ℕ, ◌+◌, ◌≤◌, Bool, true, false, List, ◌∷◌, length, drop, Result, Ok, Err, refl, sym, ap, ◌∙◌, arith, cond}
 use Rattle.std.specs.Prelude.{◌==◌, ◌-◌, ◌^◌, min}
+use Rattle.saphyr_input.specs.Classes.{carriage_return, line_feed}
 use Rattle.saphyr_input.specs.Breaks.{normalized}
 use Rattle.saphyr_scalar.specs.declared.scalar.position.Marker.{Marker}
 use Rattle.saphyr_scalar.specs.declared.scalar.fault.Refusal.{Refusal}
@@ -39,7 +40,8 @@ next_lower : (l : ℕ) → l ≤ 2 ^ 63 → min (l + 1) (2 ^ 64 - 1) ≡ l + 1
 next_lower l h = omega (arith, h)
 
 -- a character that is no break, on its line
-pub character_ahead : (text : List ℕ) (c : ℕ) (t : List ℕ) (m : Marker) (i : ℕ) (b d : Bool) → (c == 13) ≡ false
+pub character_ahead : (text : List ℕ) (c : ℕ) (t : List ℕ) (m : Marker) (i : ℕ) (b d : Bool)
+    → (c == carriage_return) ≡ false
     → Stand text (cursor_at (c ∷ t) m b) i
     → Ahead text (cursor_at (c ∷ t) m b) i (cursor_at t (along m 1) d) (i + 1)
 character_ahead text c t m i b d e x =
@@ -77,8 +79,9 @@ line_ahead text s t m i j k c b d e one l is h low x =
 
 -- CR before LF
 pub two_ahead : (text t : List ℕ) (m : Marker) (i : ℕ) (b d : Bool) → m.line ≤ 2 ^ 63
-    → Stand text (cursor_at (13 ∷ 10 ∷ t) m b) i
-    → Ahead text (cursor_at (13 ∷ 10 ∷ t) m b) i (cursor_at t (line_from m (m.index + 1 + 1)) d) (i + 1)
+    → Stand text (cursor_at (carriage_return ∷ line_feed ∷ t) m b) i
+    → Ahead text (cursor_at (carriage_return ∷ line_feed ∷ t) m b) i (cursor_at t (line_from m (m.index + 1 + 1)) d)
+    (i + 1)
 two_ahead text t m i b d low x =
     line_ahead text (13 ∷ 10 ∷ t) t m i (m.index + 1 + 1) 2 10 b d (omega arith) (omega arith) (omega arith) refl
     (one_less (m.index + 1) 10 text t (one_less m.index 13 text (10 ∷ t) x.here)) low x

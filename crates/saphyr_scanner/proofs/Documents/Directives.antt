@@ -27,12 +27,14 @@ use Rattle.saphyr_scanner.proofs.InBlock.Lines.{one_lined}
 use Rattle.saphyr_scanner.proofs.Documents.Markers.{piece_of, at_line}
 use Rattle.saphyr_scalar.proofs.Given.{cursor_at}
 use Rattle.std.proofs.lemmas.Bool.{eq-eqb, false≢true}
+use Rattle.saphyr_input.specs.Indicators.{percent_sign}
+use Rattle.saphyr_input.specs.Classes.{line_feed}
 use Rattle.saphyr_scanner.proofs.Root.{state_at}
 
 directive_here : (m e : Marker) (blank : Bool) (r : List ℕ) (d : directives.ReadDirective) (u : Cursor)
     (k : Option Candidate) (a : Bool) (ad : ℕ) (ps : List Place) → m.col ≡ 0
-    → directives.directive (cursor_at (37 ∷ r) m blank) ≡ Ok (d, e, u)
-    → fetch_here (state_at false (cursor_at (37 ∷ r) m blank) context.Block k [] a ad ps)
+    → directives.directive (cursor_at (percent_sign ∷ r) m blank) ≡ Ok (d, e, u)
+    → fetch_here (state_at false (cursor_at (percent_sign ∷ r) m blank) context.Block k [] a ad ps)
     ≡ Ok (state_at false u context.Block None [] false ad (ps ++ bare_place (piece_of m e (directive_kind d)) ∷ []))
 unfolding fetch_here document.state_behind_directive end_content remove_key unroll read_directive
 directive_here m e blank r d u k a ad ps col is = rw (eq-eqb m.col 0 col, is) refl
@@ -44,14 +46,14 @@ record ReadsAs (d : forest.Directive) (t : List ℕ) : Type 0 where
   said : directives.ReadDirective
   end : Marker → Marker
   kind : directive_kind said ≡ directive_token d
-  first : slice_index t 0 ≡ 37
+  first : slice_index t 0 ≡ percent_sign
   reads : (m : Marker) (blank : Bool) (o : List ℕ)
-      → directives.directive (cursor_at (t ++ (10 ∷ o)) m blank)
+      → directives.directive (cursor_at (t ++ (line_feed ∷ o)) m blank)
       ≡ Ok (said, end m, cursor_at o (next_line (along m (length t)) 1) true)
 
 reads_text : ReaderPromises → (d : forest.Directive) (said : directives.ReadDirective) (t tail : List ℕ)
     → directive_kind said ≡ directive_token d → IsDirectiveText said t → IsLineTail tail
-    → slice_index (t ++ tail) 0 ≡ 37 → ReadsAs d (t ++ tail)
+    → slice_index (t ++ tail) 0 ≡ percent_sign → ReadsAs d (t ++ tail)
 reads_text readers d said t tail kind is tail_is first =
     record {
       said = said;
@@ -93,15 +95,15 @@ reads_as readers (Reserved name) t is =
 
 -- ## Directive lines
 
-percent_sign_begins : (t : List ℕ) → slice_index t 0 ≡ 37 → (r : List ℕ) × (t ≡ 37 ∷ r)
+percent_sign_begins : (t : List ℕ) → slice_index t 0 ≡ percent_sign → (r : List ℕ) × (t ≡ percent_sign ∷ r)
 percent_sign_begins [] h = absurd (cc)
 percent_sign_begins (c ∷ cs) h = (cs, ap (λ (x : ℕ). x ∷ cs) h)
 
-line_count : (m : Marker) (t o : List ℕ) (limit : ℕ) → m.index + length (t ++ (10 ∷ o)) ≤ limit
+line_count : (m : Marker) (t o : List ℕ) (limit : ℕ) → m.index + length (t ++ (line_feed ∷ o)) ≤ limit
     → m.index + length t + 1 + length o ≤ limit
 line_count m t o limit h = let l = length-append t (10 ∷ o) in omega (arith, h, l)
 
-not_none : (t : List ℕ) (o : List ℕ) → slice_index t 0 ≡ 37 → t ++ (10 ∷ o) ≡ [] → ⊥
+not_none : (t : List ℕ) (o : List ℕ) → slice_index t 0 ≡ percent_sign → t ++ (line_feed ∷ o) ≡ [] → ⊥
 not_none [] o h e = cc
 not_none (c ∷ cs) o h e = cc
 
@@ -112,7 +114,7 @@ index_behind_next : (i n : ℕ) → i ≤ i + n + 1
 index_behind_next i n = omega arith
 
 reads_directive : {limit : ℕ} {start : State} {ts : List Kind} (d : forest.Directive) (t o : List ℕ) → ReadsAs d t
-    → StandsInStream limit start true (Lined false (t ++ (10 ∷ o))) (t ++ (10 ∷ o)) ts
+    → StandsInStream limit start true (Lined false (t ++ (line_feed ∷ o))) (t ++ (line_feed ∷ o)) ts
     → StandsInStream limit start true (Lined false o) o (ts ++ directive_token d ∷ [])
 reads_directive {limit = limit} {start = start} {ts = ts} d t o h v =
     let col = at_line (t ++ (10 ∷ o)) v.mark v.line.0 (not_none t o h.first) in
@@ -133,7 +135,7 @@ reads_directive {limit = limit} {start = start} {ts = ts} d t o h v =
     (one_lined (along v.mark (length t)) 10 (wider v.mark.line v.mark.index (length t) v.lined)))
 
 lines_text : (directive filler more y : List ℕ)
-    → (directive ++ (10 ∷ (filler ++ more))) ++ y ≡ directive ++ (10 ∷ (filler ++ (more ++ y)))
+    → (directive ++ (line_feed ∷ (filler ++ more))) ++ y ≡ directive ++ (line_feed ∷ (filler ++ (more ++ y)))
 lines_text directive filler more y = simp append_assoc
 
 -- directive lines, and what stands behind them

@@ -1,7 +1,7 @@
 -- Ends of lines, filler and the gaps before a document's node.
 use Rattle.std.proofs.Common.{◌≡◌, ℕ, suc, ◌+◌, ◌≤◌, Bool, true, List, [], ◌∷◌, ◌++◌, length, slice_index, inl, inr, refl, sym, ap, ◌∙◌, arith, subst, append_assoc, ◌⊎◌}
 use Rattle.std.proofs.lemmas.Bool.Decides.{nat_tests}
-use Rattle.saphyr_input.specs.Classes.{is_blank, is_blank_or_breakz, is_breakz}
+use Rattle.saphyr_input.specs.Classes.{is_blank, is_blank_or_breakz, is_breakz, line_feed}
 use Rattle.saphyr_scalar.specs.declared.scalar.position.Marker.{Marker}
 use Rattle.saphyr_scalar.specs.Views.Cursor.{next_line}
 use Rattle.saphyr_scalar.specs.Spelling.Spaces.{joined_pieces, AreEach, IsCommentBehind, IsFillerLine, IsFiller, IsLineRest, IsEol}
@@ -31,7 +31,7 @@ pub record EndsWithLine (m : Marker) (t o : List ℕ) : Type 0 where
   pub opens : (crosses more ≡ true) ⊎ (o ≡ [])
   pub lined : IsLined m → IsLined mark
 
-whole_line : (m : Marker) (rest o : List ℕ) → IsLineRest rest → EndsWithLine m (rest ++ (10 ∷ o)) o
+whole_line : (m : Marker) (rest o : List ℕ) → IsLineRest rest → EndsWithLine m (rest ++ (line_feed ∷ o)) o
 whole_line m rest o h =
     let c = moved_count m rest (10 ∷ o) in
     record {

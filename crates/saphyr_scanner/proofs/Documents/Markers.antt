@@ -34,6 +34,7 @@ use Rattle.saphyr_scanner.proofs.InBlock.Follows.{comes_to_end}
 use Rattle.saphyr_scalar.proofs.Given.{cursor_at}
 use Rattle.std.proofs.Math.Bool.{or-false, or-true}
 use Rattle.std.proofs.lemmas.Bool.{eq-eqb}
+use Rattle.saphyr_input.specs.Indicators.{full_stop, hyphen}
 use Rattle.saphyr_input.proofs.Basics.Lists.{cons_not_empty}
 use Rattle.saphyr_scanner.proofs.Queues.{place_kinds, place_kinds_append}
 use Rattle.saphyr_scanner.proofs.Root.{core_at, state_at, fetches_stream_end, stream_end_place}
@@ -57,7 +58,7 @@ along_lined m n h = omega (arith, h)
 
 pub start_here : (m : Marker) (blank : Bool) (r : List ℕ) (k : Option Candidate) (a : Bool) (ad : ℕ) (ps : List Place)
     → m.col ≡ 0 → is_blank_or_breakz (slice_index r 0) ≡ true
-    → fetch_here (state_at false (cursor_at (45 ∷ 45 ∷ 45 ∷ r) m blank) context.Block k [] a ad ps)
+    → fetch_here (state_at false (cursor_at (hyphen ∷ hyphen ∷ hyphen ∷ r) m blank) context.Block k [] a ad ps)
     ≡ Ok (state_at false (cursor_at r (along m 3) false) context.Block None [] false ad
     (ps ++ bare_place (piece_of m (along m 3) tokens.DocumentStart) ∷ []))
 unfolding fetch_here state_behind_marker end_content remove_key unroll
@@ -69,17 +70,17 @@ off_line n = grind (arith, nat_tests)
 index_behind : (i n : ℕ) → i ≤ i + n
 index_behind i n = omega arith
 
-pub start_count : (m : Marker) (r : List ℕ) (limit : ℕ) → m.index + length (45 ∷ 45 ∷ 45 ∷ r) ≤ limit
+pub start_count : (m : Marker) (r : List ℕ) (limit : ℕ) → m.index + length (hyphen ∷ hyphen ∷ hyphen ∷ r) ≤ limit
     → m.index + 3 + length r ≤ limit
 start_count m r limit h = omega (arith, h)
 
 -- `---` and `...` end a document
 pub start_ends : (r : List ℕ) → is_blank_or_breakz (slice_index r 0) ≡ true
-    → IsTrue (is_document_indicator (45 ∷ 45 ∷ 45 ∷ r))
+    → IsTrue (is_document_indicator (hyphen ∷ hyphen ∷ hyphen ∷ r))
 start_ends r h = rw h refl
 
 pub reads_start : {limit : ℕ} {start : State} {free opened : Bool} {ts : List Kind} (r : List ℕ)
-    → StandsInStream limit start free (Lined opened (45 ∷ 45 ∷ 45 ∷ r)) (45 ∷ 45 ∷ 45 ∷ r) ts
+    → StandsInStream limit start free (Lined opened (hyphen ∷ hyphen ∷ hyphen ∷ r)) (hyphen ∷ hyphen ∷ hyphen ∷ r) ts
     → is_blank_or_breakz (slice_index r 0) ≡ true
     → StandsInStream limit start true (BehindStart r) r (ts ++ tokens.DocumentStart ∷ [])
 reads_start {limit = limit} r v h =
@@ -126,7 +127,7 @@ pub end_here : (m n : Marker) (blank : Bool) (r more : List ℕ) (found : SkipTa
     (ad : ℕ) (ps : List Place) → m.col ≡ 0 → is_blank_or_breakz (slice_index r 0) ≡ true
     → separation Yes (cursor_at r (along m 3) false) ≡ Ok (found, cursor_at more n false)
     → is_breakz (slice_index more 0) ≡ true
-    → fetch_here (state_at false (cursor_at (46 ∷ 46 ∷ 46 ∷ r) m blank) context.Block k [] a ad ps)
+    → fetch_here (state_at false (cursor_at (full_stop ∷ full_stop ∷ full_stop ∷ r) m blank) context.Block k [] a ad ps)
     ≡ Ok (state_at false (cursor_at more n false) context.Block None [] false ad
     (ps ++ bare_place (piece_of m (along m 3) tokens.DocumentEnd) ∷ []))
 unfolding fetch_here state_behind_document_end state_behind_marker end_content remove_key unroll end_line
@@ -141,10 +142,11 @@ end_here m n blank r more found k a ad ps col first is h =
     (ap (λ q. on_core_with (q >>= λ (x : SkipTabs × Cursor). Ok (x.0, with_cursor x.1 c)) t >>= end_line) is ∙ line)
 
 pub end_ends : (r : List ℕ) → is_blank_or_breakz (slice_index r 0) ≡ true
-    → IsTrue (is_document_indicator (46 ∷ 46 ∷ 46 ∷ r))
+    → IsTrue (is_document_indicator (full_stop ∷ full_stop ∷ full_stop ∷ r))
 end_ends r h = rw h refl
 
-pub end_count : (m n : Marker) (r o : List ℕ) (limit : ℕ) → m.index + length (46 ∷ 46 ∷ 46 ∷ r) ≤ limit
+pub end_count : (m n : Marker) (r o : List ℕ) (limit : ℕ)
+    → m.index + length (full_stop ∷ full_stop ∷ full_stop ∷ r) ≤ limit
     → n.index + length o ≡ m.index + 3 + length r → n.index + length o ≤ limit
 end_count m n r o limit h e = omega (arith, h, e)
 
@@ -152,7 +154,8 @@ end_further : (m n : Marker) (end o : List ℕ) → n.index + length o ≡ m.ind
 end_further m n end o e = let all = length-append end o in omega (arith, e, all)
 
 pub reads_end : {limit : ℕ} {start : State} {free opened : Bool} {ts : List Kind} (end o : List ℕ)
-    → StandsInStream limit start free (Lined opened (46 ∷ 46 ∷ 46 ∷ (end ++ o))) (46 ∷ 46 ∷ 46 ∷ (end ++ o)) ts
+    → StandsInStream limit start free (Lined opened (full_stop ∷ full_stop ∷ full_stop ∷ (end ++ o)))
+    (full_stop ∷ full_stop ∷ full_stop ∷ (end ++ o)) ts
     → IsEol end o
     → StandsInStream limit start true (Lined true o) o (ts ++ tokens.DocumentEnd ∷ [])
 reads_end {limit = limit} end o v h =

@@ -29,6 +29,7 @@ use Rattle.saphyr_scanner.proofs.Taken.Separated.{spaces_apart}
 use Rattle.saphyr_input.proofs.Basics.Booleans.{by_test}
 use Rattle.saphyr_input.proofs.Basics.Lists.{second_is}
 use Rattle.std.proofs.lemmas.Bool.{not-false}
+use Rattle.saphyr_input.specs.Indicators.{hyphen, question_mark}
 
 reaches_on : (s t u : Cursor) → Reaches s t → AreApart t u → Reaches s u
 reaches_on s t u a p = reaches_reaches s t u a (apart_reached t.mark t.rest u.mark u.rest p)
@@ -57,7 +58,7 @@ dash_walked b s c a =
     (λ _. ((ap (λ (l : Level). record { context = l.context; key = None }) g.0.0, g.0.1, g.0.2), g.1)))
 
 -- from c, which stands before the `-`
-dash : (c d : Core) → slice_index c.cursor.rest 0 ≡ 45 → is_blank_or_breakz (slice_index c.cursor.rest 1) ≡ true
+dash : (c d : Core) → slice_index c.cursor.rest 0 ≡ hyphen → is_blank_or_breakz (slice_index c.cursor.rest 1) ≡ true
     → Same c d → OnLine (pass 1 c.cursor) d.cursor
     → Does None 1 1 c d (at_mark d.cursor.mark tokens.BlockEntry ∷ [])
 dash c d first second s o =
@@ -70,7 +71,7 @@ dash c d first second s o =
     (λ t. (t, ap is_blank_or_breakz (second_is c.cursor.rest) ∙ second, o.on_line, refl))))
     (further (with_cursor u c) d s (taken.nothing u.mark u.rest))
 
-next_entry_does : (c : Core) → in_block c ≡ true → slice_index c.cursor.rest 0 ≡ 45
+next_entry_does : (c : Core) → in_block c ≡ true → slice_index c.cursor.rest 0 ≡ hyphen
     → is_blank_or_breakz (slice_index c.cursor.rest 1) ≡ true
     → Walked (Premises c) (Doing None c) c.cursor (block.next_entry c)
 unfolding block.next_entry
@@ -95,7 +96,7 @@ next_entry_does c e first second =
     (lesser c (forget_key c) (record { block = refl; key = inr refl }) refl (λ n. n) (taken.nothing s.mark s.rest))
     (dash (forget_key c) (record d { key_allowed = true }) first second g.0 g.1))))
 
-pub block_entry_does : (c : Core) → slice_index c.cursor.rest 0 ≡ 45
+pub block_entry_does : (c : Core) → slice_index c.cursor.rest 0 ≡ hyphen
     → is_blank_or_breakz (slice_index c.cursor.rest 1) ≡ true
     → Walked (Premises c) (Doing None c) c.cursor (block.block_entry_steps c)
 unfolding block.block_entry_steps
@@ -126,7 +127,8 @@ question_walked A c a =
     (λ _. by_test (slice_index t.cursor.rest 0 == 9) _ _ P (λ _ _. there) (λ _. ((refl, refl, λ n. n), p))))
 
 -- from c, which stands before the `?`
-question : (c d : Core) → slice_index c.cursor.rest 0 ≡ 63 → is_blank_or_breakz (slice_index c.cursor.rest 1) ≡ true
+question : (c d : Core) → slice_index c.cursor.rest 0 ≡ question_mark
+    → is_blank_or_breakz (slice_index c.cursor.rest 1) ≡ true
     → Same c d → AreApart (pass 1 c.cursor) d.cursor
     → Does None 1 1 c d (up_to_here c.cursor.mark tokens.Key d ∷ [])
 question c d first second s a =
@@ -145,7 +147,8 @@ question_block context.FlowSequence = refl
 question_block context.FlowPair = refl
 question_block _ = refl
 
-pub key_does : (c : Core) → slice_index c.cursor.rest 0 ≡ 63 → is_blank_or_breakz (slice_index c.cursor.rest 1) ≡ true
+pub key_does : (c : Core) → slice_index c.cursor.rest 0 ≡ question_mark
+    → is_blank_or_breakz (slice_index c.cursor.rest 1) ≡ true
     → Walked (Premises c) (Doing None c) c.cursor (block.key_steps c)
 unfolding block.key_steps block.begin_key
 key_does c first second =

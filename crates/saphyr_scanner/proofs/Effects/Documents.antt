@@ -43,6 +43,7 @@ use Rattle.saphyr_input.proofs.Basics.Characters.{breakz_no_non_break}
 use Rattle.saphyr_scalar.proofs.Given.{Given}
 use Rattle.std.proofs.lemmas.Bool.{eqb-true, and_parts}
 use Rattle.std.proofs.lemmas.Bool.Decides.{nat_tests}
+use Rattle.saphyr_input.specs.Indicators.{percent_sign}
 
 -- from s to t, at the same place, the content of a document ends
 record Content (s t : State) : Type 0 where
@@ -231,7 +232,7 @@ directive_is_no_end (directives.tag_prefix handle prefix) = λ i. absurd (cc)
 directive_is_no_end (directives.reserved name) = λ i. absurd (cc)
 
 directive_reading : (c : Core) (x : ReadDirective × Marker × Cursor) → c.cursor.mark.col ≡ 0
-    → slice_index c.cursor.rest 0 ≡ 37 → directives.directive c.cursor ≡ Ok x
+    → slice_index c.cursor.rest 0 ≡ percent_sign → directives.directive c.cursor ≡ Ok x
     → Reading 1 c (record { span = record { start = c.cursor.mark; end = x.1 }; kind = document.directive_kind x.0 })
     x.2
 directive_reading c x col f e = record {
@@ -268,7 +269,7 @@ directive_reading c x col f e = record {
       );
 }
 
-pub directive_walked : (s : State) → s.core.cursor.mark.col ≡ 0 → slice_index s.core.cursor.rest 0 ≡ 37
+pub directive_walked : (s : State) → s.core.cursor.mark.col ≡ 0 → slice_index s.core.cursor.rest 0 ≡ percent_sign
     → Walked (Premises s.core) (Documented s) s.core.cursor (document.state_behind_directive s)
 unfolding document.state_behind_directive document.read_directive
 directive_walked s col f =
@@ -283,7 +284,7 @@ directive_walked s col f =
     (laws.0.directive t.core.cursor e first q)))))
   where
     by : (t : State) → Content s t → (r : Result (ReadDirective × Marker × Cursor) Refusal)
-        → t.core.cursor.mark.col ≡ 0 → slice_index t.core.cursor.rest 0 ≡ 37
+        → t.core.cursor.mark.col ≡ 0 → slice_index t.core.cursor.rest 0 ≡ percent_sign
         → Walked (Premises s.core) (λ (x : ReadDirective × Marker × Cursor). directives.directive t.core.cursor ≡ Ok x)
         s.core.cursor r
         → Walked (Premises s.core) (Documented s) s.core.cursor

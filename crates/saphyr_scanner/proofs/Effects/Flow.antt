@@ -1,6 +1,7 @@
 -- What each step of flow collections does.
 use Rattle.std.proofs.Common.{◌≡◌, ℕ, ◌<◌, Bool, true, false, [], ◌∷◌, length, Some, None, refl, sym, ap, arith, subst, inl, inr, IsTrue}
 use Rattle.std.specs.Prelude.{◌&&◌, ◌==◌, slice_index, nat_le}
+use Rattle.saphyr_input.specs.Indicators.{comma}
 use Rattle.saphyr_input.specs.Classes.{is_break}
 use Rattle.saphyr_scalar.specs.declared.scalar.position.Marker.{Marker}
 use Rattle.saphyr_scalar.specs.declared.scalar.position.Span.{Span}
@@ -17,6 +18,7 @@ use Rattle.saphyr_scanner.specs.Steps.Passing.{separate, pass_on, with_cursor}
 use Rattle.saphyr_scanner.specs.Steps.Flow as flow
 use Rattle.saphyr_scanner.specs.TokensTaken as taken
 use Rattle.saphyr_scanner.specs.TokensTaken.{IsToken, IsFlowIndicator, begins_text}
+use Rattle.saphyr_scanner.specs.Grammar.Layout.{most_open}
 use Rattle.saphyr_scanner.proofs.Added.Queue.{IsNoEnd}
 use Rattle.saphyr_scanner.proofs.Effects.Moves.{Does, and_then, Same, same, same_same, lesser, further, enter_does, leave_does}
 use Rattle.saphyr_scanner.proofs.Effects.Puts.{Reading, empty_reading, IndicatorStands, passes, indicated, quiet, saving, saved}
@@ -96,7 +98,7 @@ start_does i kind x b starts flows n c f =
     let P = Walked (Premises c) (Doing (Some n) c) c.cursor in
     saving n c (λ d. P (flow.open_collection x kind (go_deeper d))) (λ l r s.
     let d : Core = go_deeper (record c { level = l; required = r }) in
-    by_test (nat_le 255 (length d.outer)) _ _ P (λ _ _. at_here c.cursor)
+    by_test (nat_le most_open (length d.outer)) _ _ P (λ _ _. at_here c.cursor)
     (λ _. walked_then (Premises c) _ (Doing (Some n) c) c.cursor (separate (pass_on 1 (flow.enter x d))) _
     (separate_walked c c.cursor (pass_on 1 (flow.enter x d)) (λ _. passes i c.cursor (stands i kind c.cursor b f)))
     (λ e g.
@@ -158,7 +160,7 @@ entry_block : (x : Context) → is_block (behind_entry x) ≡ is_block x
 entry_block context.Block = refl
 entry_block _ = refl
 
-pub entry_does : (c : Core) → slice_index c.cursor.rest 0 ≡ 44
+pub entry_does : (c : Core) → slice_index c.cursor.rest 0 ≡ comma
     → Walked (Premises c) (Doing None c) c.cursor (flow.flow_entry_steps c)
 unfolding flow.flow_entry_steps flow.next_flow_entry remove_key
 entry_does c first =

@@ -1,6 +1,7 @@
 -- What each step of anchors, aliases and tags does, by the laws of the readers.
 use Rattle.std.proofs.Common.{◌≡◌, ℕ, ◌+◌, ◌<◌, true, List, ◌∷◌, ◌++◌, length, Some, refl, sym, ap, ◌∙◌, arith, subst, inl, inr}
 use Rattle.std.specs.Prelude.{slice_index, not}
+use Rattle.saphyr_input.specs.Indicators.{exclamation_mark}
 use Rattle.saphyr_scalar.specs.declared.scalar.position.Span.{Span}
 use Rattle.saphyr_scalar.specs.Spelling.Tag.{IsHandleText, IsTagText}
 use Rattle.saphyr_scalar.specs.Steps.Anchor as anchors
@@ -59,12 +60,13 @@ an_anchor = record {
 }
 
 -- a tag begins with `!`
-tag_begins : (text behind handle suffix : List ℕ) → IsTagText text handle suffix → slice_index (text ++ behind) 0 ≡ 33
+tag_begins : (text behind handle suffix : List ℕ) → IsTagText text handle suffix
+    → slice_index (text ++ behind) 0 ≡ exclamation_mark
 tag_begins text behind handle suffix (inl h) = ap (λ t. slice_index (t ++ behind) 0) h.0
 tag_begins text behind handle suffix (inr (inl h)) = ap (λ t. slice_index (t ++ behind) 0) h.3
 tag_begins text behind handle suffix (inr (inr h)) = ap (λ t. slice_index (t ++ behind) 0) h.4 ∙ by h.1
   where
-    by : IsHandleText handle → slice_index ((handle ++ h.0) ++ behind) 0 ≡ 33
+    by : IsHandleText handle → slice_index ((handle ++ h.0) ++ behind) 0 ≡ exclamation_mark
     by (inl e) = ap (λ t. slice_index ((t ++ h.0) ++ behind) 0) e
     by (inr e) = ap (λ t. slice_index ((t ++ h.0) ++ behind) 0) e.2
 
@@ -94,7 +96,7 @@ name_does token_of x named n c some f =
     named.is c.indent y.0 span here y.1
     (w.1, w.3, sym w.6, record { is = subst P first w.2; start = refl; end = refl; goes_on = goes }, w.4)))))
 
-pub tag_does : (n : ℕ) (c : Core) → slice_index c.cursor.rest 0 ≡ 33
+pub tag_does : (n : ℕ) (c : Core) → slice_index c.cursor.rest 0 ≡ exclamation_mark
     → Walked (Premises c) (Doing (Some n) c) c.cursor (property.tag_steps n c)
 unfolding property.tag_steps property.read_tag
 tag_does n c first =

@@ -2,6 +2,7 @@
 -- where it refuses, from a text that begins with its indicator.
 use Rattle.std.proofs.Common.{◌≡◌, ℕ, ◌+◌, ◌≤◌, ◌<◌, ◌⊎◌, Bool, true, false, List, ◌∷◌, ◌++◌, length, Ok, Err}
 use Rattle.std.specs.Prelude.{slice_index, Option, encode_utf8_all}
+use Rattle.saphyr_input.specs.Indicators.{apostrophe, exclamation_mark, percent_sign, quotation_mark}
 use Rattle.saphyr_input.specs.Classes.{is_anchor_char, is_z, is_break, is_breakz}
 use Rattle.saphyr_input.specs.Places.{is_blank_or_break}
 use Rattle.saphyr_input.specs.declared.input.SkipTabs.{SkipTabs}
@@ -54,16 +55,16 @@ pub record ReadsSpan (s : Cursor) (span : Span) (t : Cursor) : Type 0 where
 pub record ReaderEnds : Type 0 where
   pub plain : (in_flow : Bool) (indent : ℕ) (s t : Cursor) (text : List ℕ) (end : Marker) (comment : Option Marker)
       → words.plain in_flow indent s ≡ Ok (text, end, comment, t) → ReadsUpTo s end t
-  pub double_quoted : (indent : ℕ) (s t : Cursor) (text : List ℕ) → slice_index s.rest 0 ≡ 34
+  pub double_quoted : (indent : ℕ) (s t : Cursor) (text : List ℕ) → slice_index s.rest 0 ≡ quotation_mark
       → quoted.double_quoted indent s ≡ Ok (text, t) → Ahead s t
-  pub single_quoted : (indent : ℕ) (s t : Cursor) (text : List ℕ) → slice_index s.rest 0 ≡ 39
+  pub single_quoted : (indent : ℕ) (s t : Cursor) (text : List ℕ) → slice_index s.rest 0 ≡ apostrophe
       → quoted.single_quoted indent s ≡ Ok (text, t) → Ahead s t
   pub block_scalar : (style : BlockStyle) (indent : ℕ) (s t : Cursor) (text : List ℕ) (span : Span) → 0 < length s.rest
       → blocks.block_scalar style indent s ≡ Ok (text, span, t) → ReadsSpan s span t
   pub name : (s t : Cursor) (text : List ℕ) → 0 < length s.rest → anchors.anchor s ≡ Ok (text, t) → Ahead s t
-  pub tag : (in_flow : Bool) (s t : Cursor) (handle suffix : List ℕ) → slice_index s.rest 0 ≡ 33
+  pub tag : (in_flow : Bool) (s t : Cursor) (handle suffix : List ℕ) → slice_index s.rest 0 ≡ exclamation_mark
       → tags.tag in_flow s ≡ Ok (handle, suffix, t) → Ahead s t
-  pub directive : (s t : Cursor) (d : ReadDirective) (end : Marker) → slice_index s.rest 0 ≡ 37
+  pub directive : (s t : Cursor) (d : ReadDirective) (end : Marker) → slice_index s.rest 0 ≡ percent_sign
       → directives.directive s ≡ Ok (d, end, t) → ReadsUpTo s end t
 
 -- ## What it reads, and where it refuses
@@ -94,12 +95,12 @@ pub record TextLaws : Type 0 where
       → (indicator : ℕ) × (name : List ℕ) × (s.rest ≡ indicator ∷ (name ++ t.rest)) × IsAnchorName name
       × (is_anchor_char (slice_index t.rest 0) ≡ false) × (t ≡ mid_line (along s.mark (1 + length name)) t.rest)
       × (encode_utf8_all name ≡ text)
-  pub tag : (in_flow : Bool) (s u : Cursor) (front back : List ℕ) → slice_index s.rest 0 ≡ 33
+  pub tag : (in_flow : Bool) (s u : Cursor) (front back : List ℕ) → slice_index s.rest 0 ≡ exclamation_mark
       → tags.tag in_flow s ≡ Ok (front, back, u)
       → (t : List ℕ) × (handle : List ℕ) × (suffix : List ℕ) × (s.rest ≡ t ++ u.rest) × IsTagText t handle suffix
       × EndsTag in_flow u.rest × (u ≡ mid_line (along s.mark (length t)) u.rest) × (encode_utf8_all handle ≡ front)
       × (encode_utf8_all suffix ≡ back)
-  pub directive : (s u : Cursor) (d : ReadDirective) (end : Marker) → slice_index s.rest 0 ≡ 37
+  pub directive : (s u : Cursor) (d : ReadDirective) (end : Marker) → slice_index s.rest 0 ≡ percent_sign
       → directives.directive s ≡ Ok (d, end, u)
       → (t : List ℕ) × (tail : List ℕ) × (x : List ℕ) × (s.rest ≡ t ++ (tail ++ x)) × IsReadDirective d t
       × IsLineTail tail × (is_breakz (slice_index x 0) ≡ true) × (end ≡ along s.mark (length t))
@@ -110,7 +111,7 @@ pub record RefusalLaws : Type 0 where
   pub name : (s : Cursor) (e : Refusal) → anchors.anchor s ≡ Err e → e.mark ≡ s.mark
   pub tag : (in_flow : Bool) (s : Cursor) (e : Refusal) → tags.tag in_flow s ≡ Err e → e.mark ≡ s.mark
   pub separation : (tabs : SkipTabs) (s : Cursor) (e : Refusal) → separation tabs s ≡ Err e → IsRefusedInside s e
-  pub directive : (s : Cursor) (e : Refusal) → slice_index s.rest 0 ≡ 37 → directives.directive s ≡ Err e
+  pub directive : (s : Cursor) (e : Refusal) → slice_index s.rest 0 ≡ percent_sign → directives.directive s ≡ Err e
       → IsRefusedInside s e
   pub quotes : (quote : Quote) (indent : ℕ) (s : Cursor) (e : Refusal) → slice_index s.rest 0 ≡ mark quote
       → quoted.quoted quote indent s ≡ Err e → IsRefusedInside s e

@@ -39,6 +39,7 @@ use Rattle.saphyr_scanner.proofs.Taken.Places.{Reaches, reaches_reaches, at_here
 use Rattle.saphyr_scanner.proofs.Taken.Separated.{apart_apart}
 use Rattle.saphyr_scanner.proofs.Taken.States.{block_fetched}
 use Rattle.std.proofs.lemmas.Bool.{or_parts, ne_eqb, eqb-true}
+use Rattle.saphyr_input.specs.Indicators.{ampersand, apostrophe, asterisk, at_sign, exclamation_mark, grave_accent, left_brace, left_bracket, number_sign, percent_sign, quotation_mark, right_brace, right_bracket}
 use Rattle.saphyr_input.proofs.Basics.Booleans.{by_test}
 use Rattle.saphyr_scalar.proofs.Given.{given_of}
 
@@ -133,7 +134,7 @@ quotes_do quote style quoting n c first l r s =
     })))
     (λ _ laws. at_reach here u (reach laws))))
 
-pub double_quoted_does : (n : ℕ) (c : Core) → slice_index c.cursor.rest 0 ≡ 34
+pub double_quoted_does : (n : ℕ) (c : Core) → slice_index c.cursor.rest 0 ≡ quotation_mark
     → Walked (Premises c) (Doing (Some n) c) c.cursor (scalar.double_quoted_steps n c)
 unfolding scalar.double_quoted_steps scalar.read_double_quoted
 double_quoted_does n c first =
@@ -141,7 +142,7 @@ double_quoted_does n c first =
     (scalar.read_double_quoted (scalar.disallow_key d)))
     (λ l r s. quotes_do Double DoubleQuoted double_quoting n c first l r s)
 
-pub single_quoted_does : (n : ℕ) (c : Core) → slice_index c.cursor.rest 0 ≡ 39
+pub single_quoted_does : (n : ℕ) (c : Core) → slice_index c.cursor.rest 0 ≡ apostrophe
     → Walked (Premises c) (Doing (Some n) c) c.cursor (scalar.single_quoted_steps n c)
 unfolding scalar.single_quoted_steps scalar.read_single_quoted
 single_quoted_does n c first =
@@ -155,14 +156,14 @@ single_quoted_does n c first =
 plain_begins : (c : ℕ) → IsTrue (may_begin_plain c) → IsFalse (is_blank_or_break c) → IsTrue (begins_text c)
 plain_begins c h ink = by (c == 35) refl
   where
-    by : (b : Bool) → (c == 35) ≡ b → IsTrue (begins_text c)
+    by : (b : Bool) → (c == number_sign) ≡ b → IsTrue (begins_text c)
     by false e = rw (ink, e) refl
     by true e = absurd (let same : c ≡ 35 =
         eqb-true c 35 e in let no : may_begin_plain c ≡ false = ap may_begin_plain same in cc)
 
 -- what a plain scalar begins with, but for `#`
 pub record PlainStart (s : Cursor) : Type 0 where
-  pub other : (slice_index s.rest 0 ≢ 35) → IsTrue (may_begin_plain (slice_index s.rest 0))
+  pub other : (slice_index s.rest 0 ≢ number_sign) → IsTrue (may_begin_plain (slice_index s.rest 0))
   pub no_indicator : IsTrue (is_one_of (codes "-?:") (slice_index s.rest 0))
       → IsFalse (is_blank_or_breakz (slice_index s.rest 1))
 
@@ -174,19 +175,22 @@ spelled_start : (m : Marker) (p behind : List ℕ) → IsSpelledPlain m true p b
 spelled_start m [] behind h = tt
 spelled_start m (c ∷ cs) behind h = h.2 refl
 
-no_sign : (s t : Cursor) (text : List ℕ) (end : Marker) → IsPlainReading s text end t → slice_index s.rest 0 ≢ 35
+no_sign : (s t : Cursor) (text : List ℕ) (end : Marker) → IsPlainReading s text end t
+    → slice_index s.rest 0 ≢ number_sign
 no_sign s t text end r = by r.piece r.front r.closes r.is (spelled_start s.mark r.piece (r.white ++ t.rest) r.spelled)
   where
     by : (p front : List ℕ) → p ≡ front ++ r.last ∷ [] → s.rest ≡ p ++ (r.white ++ t.rest) → NoSign p
-        → slice_index s.rest 0 ≢ 35
+        → slice_index s.rest 0 ≢ number_sign
     by [] [] e is n k = absurd (cc)
     by [] (x ∷ xs) e is n k = absurd (cc)
     by (c ∷ cs) front e is n k = n (sym (ap (λ l. slice_index l 0) is) ∙ k)
 
-no_indicator_begins_plain : (x : ℕ) → (x == 44) ≡ false → (x == 91) ≡ false → (x == 93) ≡ false → (x == 123) ≡ false
-    → (x == 125) ≡ false
-    → (x == 35) ≡ false → (x == 38) ≡ false → (x == 42) ≡ false → (x == 33) ≡ false → (x == 39) ≡ false
-    → (x == 34) ≡ false → (x == 37) ≡ false → (x == 64) ≡ false → (x == 96) ≡ false
+no_indicator_begins_plain : (x : ℕ) → (x == 44) ≡ false → (x == left_bracket) ≡ false → (x == right_bracket) ≡ false
+    → (x == left_brace) ≡ false
+    → (x == right_brace) ≡ false
+    → (x == number_sign) ≡ false → (x == ampersand) ≡ false → (x == asterisk) ≡ false → (x == exclamation_mark) ≡ false
+    → (x == apostrophe) ≡ false
+    → (x == quotation_mark) ≡ false → (x == percent_sign) ≡ false → (x == at_sign) ≡ false → (x == grave_accent) ≡ false
     → may_begin_plain x ≡ true
 no_indicator_begins_plain x a b c d e f g h i j k l m n = rw (a, b, c, d, e, f, g, h, i, j, k, l, m, n) refl
 

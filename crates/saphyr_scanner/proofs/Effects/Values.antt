@@ -1,6 +1,7 @@
 -- What a colon does.
 use Rattle.std.proofs.Common.{◌≡◌, ℕ, ◌+◌, Bool, true, false, List, [], ◌∷◌, ◌++◌, Option, Some, None, refl, sym, ap, ◌∙◌, arith, inl, inr}
 use Rattle.std.specs.Prelude.{◌&&◌, ◌||◌, ◌==◌, slice_index, not, nat_lt, if◌then◌else◌}
+use Rattle.saphyr_input.specs.Indicators.{colon}
 use Rattle.saphyr_input.specs.Classes.{is_alpha}
 use Rattle.saphyr_input.specs.Separation.{has_valid_yaml_ws}
 use Rattle.saphyr_scalar.specs.Views.Cursor.{Cursor, pass}
@@ -78,7 +79,7 @@ key_same c d o s e = ap (λ (l : Level). l.key) (sym s.0) ∙ e
 -- ## The colon
 
 -- from e, which stands before the colon
-colon_does : (e d : Core) (u : Cursor) → slice_index e.cursor.rest 0 ≡ 58 → AreApart (pass 1 e.cursor) u
+colon_does : (e d : Core) (u : Cursor) → slice_index e.cursor.rest 0 ≡ colon → AreApart (pass 1 e.cursor) u
     → Same e d → d.cursor ≡ u → Does None 1 1 e d (at_mark e.cursor.mark tokens.Value ∷ [])
 colon_does e d u first a s there =
     let later = apart_later (pass 1 e.cursor).mark (pass 1 e.cursor).rest u.mark u.rest a in
@@ -88,7 +89,7 @@ colon_does e d u first a s there =
     (omega arith) (omega arith) (omega (arith, later.index)) (λ t. (t, refl, refl))))
     (still (with_cursor u e) d s there)
 
-key_does : (b c d : Core) (k : Candidate) (begins : Bool) → slice_index c.cursor.rest 0 ≡ 58 → Behind c d
+key_does : (b c d : Core) (k : Candidate) (begins : Bool) → slice_index c.cursor.rest 0 ≡ colon → Behind c d
     → (begins ≡ true → in_block d ≡ false) → d.level.key ≡ Some k
     → Walked (Premises b) (Doing None c) c.cursor (value.value_of_key k begins c.cursor.mark d)
 unfolding value.value_of_key
@@ -120,7 +121,7 @@ key_does b c d k begins first g flows is =
 
 -- ## Without a key
 
-alone_does : (b c d : Core) (begins : Bool) → slice_index c.cursor.rest 0 ≡ 58 → Behind c d → d.level.key ≡ None
+alone_does : (b c d : Core) (begins : Bool) → slice_index c.cursor.rest 0 ≡ colon → Behind c d → d.level.key ≡ None
     → Walked (Premises b) (Doing None c) c.cursor (value.value_alone begins c.cursor.mark d)
 unfolding value.value_alone value.opening_actions
 alone_does b c d begins first g none =
@@ -151,7 +152,7 @@ alone_does b c d begins first g none =
     (λ _. at_most (omega arith) value))
 
 either_does : (b c d : Core) (o : Option Candidate) (begins : Bool) → d.level.key ≡ o
-    → slice_index c.cursor.rest 0 ≡ 58 → Behind c d → (begins ≡ true → in_block d ≡ false)
+    → slice_index c.cursor.rest 0 ≡ colon → Behind c d → (begins ≡ true → in_block d ≡ false)
     → Walked (Premises b) (Doing None c) c.cursor (value.behind_key o begins c.cursor.mark d)
 unfolding value.behind_key
 either_does b c d (Some k) begins e first g flows = key_does b c d k begins first g flows e
@@ -167,7 +168,7 @@ pair_flows context.FlowPair e = refl
 pair_flows context.Block e = absurd (cc)
 pair_flows _ e = refl
 
-pub value_does : (c : Core) → slice_index c.cursor.rest 0 ≡ 58
+pub value_does : (c : Core) → slice_index c.cursor.rest 0 ≡ colon
     → Walked (Premises c) (Doing None c) c.cursor (value.value_steps c)
 unfolding value.value_steps
 value_does c first =
@@ -183,7 +184,7 @@ value_does c first =
     (either_does c v d d.level.key begins refl first g
     (λ e. ap (λ (l : Level). is_block l.context) g.0.0 ∙ pair_flows c.level.context e)))
 
-pub flow_value_does : (second : ℕ) (c : Core) → slice_index c.cursor.rest 0 ≡ 58
+pub flow_value_does : (second : ℕ) (c : Core) → slice_index c.cursor.rest 0 ≡ colon
     → Walked (Premises c) (Doing None c) c.cursor (fetching.flow_value_steps second c)
 unfolding fetching.flow_value_steps
 flow_value_does second c first =

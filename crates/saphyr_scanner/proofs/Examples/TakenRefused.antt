@@ -2,6 +2,7 @@
 use Rattle.std.proofs.Common.{◌≡◌, ◌≢◌, ℕ, false, List, [], ◌∷◌, ◌++◌, refl, sym, ◌∙◌, arith, codes, ap, slice_index}
 use Rattle.std.proofs.Common.{IsFalse}
 use Rattle.std.specs.Prelude.{encode_utf8_all}
+use Rattle.saphyr_input.specs.Indicators.{number_sign}
 use lib.Utf8.{encode}
 use Rattle.saphyr_input.specs.Classes.{is_blank, is_break}
 use Rattle.saphyr_input.specs.Breaks.{normalized}
@@ -16,7 +17,7 @@ use Rattle.saphyr_scanner.specs.Examples.TakenTexts.{marker_at}
 
 still :
     (m : Marker) (t : List ℕ) (n : Marker) (u : List ℕ) → IsPassedOver m t n u → IsFalse (is_blank (slice_index t 0))
-    → IsFalse (is_break (slice_index t 0)) → slice_index t 0 ≢ 35
+    → IsFalse (is_break (slice_index t 0)) → slice_index t 0 ≢ number_sign
     → (n ≡ m) × (u ≡ t)
 still m t _ _ (nothing _ _) x y z = (refl, refl)
 still m _ n u (blank _ c t _ _ h s) x y z = cc
@@ -25,7 +26,7 @@ still m _ n u (comment _ words t _ _ h g s) x y z = absurd (z refl)
 
 refusal_stays :
     (m : Marker) (t : List ℕ) (n : Marker) (u : List ℕ) (c : ℕ) (cs : List ℕ) → IsPassedOver m t n u → t ≡ c ∷ cs
-    → is_blank c ≡ false → is_break c ≡ false → c ≢ 35
+    → is_blank c ≡ false → is_break c ≡ false → c ≢ number_sign
     → (n ≡ m) × (u ≡ c ∷ cs)
 refusal_stays m t n u c cs s e x y z =
     let f : slice_index t 0 ≡ c = ap (λ v. slice_index v 0) e in

@@ -1,5 +1,6 @@
 -- The tokens of small texts with directives and marks, and of one that is refused, are taken from them.
 use Rattle.std.proofs.Common.{◌≢◌, ℕ, Bool, ◌∷◌, IsTrue, [], refl, inl, inr, arith, codes}
+use Rattle.saphyr_input.specs.Indicators.{percent_sign}
 use lib.Utf8.{encode}
 use Rattle.saphyr_input.specs.Classes.{is_tag_char, is_uri_char}
 use Rattle.saphyr_scalar.specs.Spelling.Tag.{IsDecoded, IsHandleText, IsPrefix, IsTagText}
@@ -14,7 +15,7 @@ use Rattle.saphyr_scanner.proofs.Examples.TokenTexts.{document_start_taken, docu
 use Rattle.saphyr_scanner.proofs.Examples.TokenTexts.{tag_directive_taken, tag_taken, letter_v}
 
 -- one character that stands for itself
-pub decodes_itself : (set : ℕ → Bool) (c : ℕ) → IsTrue (set c) → c ≢ 37 → IsDecoded set (c ∷ []) (c ∷ [])
+pub decodes_itself : (set : ℕ → Bool) (c : ℕ) → IsTrue (set c) → c ≢ percent_sign → IsDecoded set (c ∷ []) (c ∷ [])
 decodes_itself set c h n = (c ∷ [], [], inl (h, n, refl), refl, refl)
 
 handle_e : IsHandleText (codes "!e!")

@@ -2,8 +2,9 @@
 use Rattle.std.proofs.Common.{◌≡◌, ℕ, ◌<◌, ◌≤◌, Bool, true, false, List, [], ◌∷◌, ◌++◌, length, slice_index, None}
 use Rattle.std.proofs.Common.{inl, inr, refl, sym, arith, codes, ap, IsTrue, IsFalse}
 use Rattle.std.specs.Prelude.{encode_utf8_all}
+use Rattle.saphyr_input.specs.Indicators.{ampersand, apostrophe, asterisk, colon, comma, hyphen, left_brace, left_bracket, quotation_mark, right_brace, right_bracket}
 use Rattle.saphyr_input.specs.Breaks.{normalized}
-use Rattle.saphyr_input.specs.Classes.{is_break, is_breakz, is_anchor_char, is_one_of}
+use Rattle.saphyr_input.specs.Classes.{is_break, is_breakz, is_anchor_char, is_one_of, line_feed, space}
 use Rattle.saphyr_input.specs.Places.{is_blank_or_break, is_document_indicator, is_document_start, is_document_end}
 use Rattle.scalar_values.specs.declared.flow.Quote.{Quote}
 use Rattle.scalar_values.specs.declared.flow.Quote.TheVariants.{Single, Double}
@@ -64,12 +65,12 @@ here h r = behind (taken.nothing _ _) h r
 
 pub behind_blank : {columns t w u : List ℕ} {p : Piece} {ps : List Piece} {m b n : Marker}
     → TokenText (least_column_in columns) p.kind p.span (along m 1) t b w
-    → Tokens (open_behind p.kind p.span.start.col columns) ps b w n u → Tokens columns (p ∷ ps) m (32 ∷ t) n u
+    → Tokens (open_behind p.kind p.span.start.col columns) ps b w n u → Tokens columns (p ∷ ps) m (space ∷ t) n u
 behind_blank h r = behind (taken.blank _ _ _ _ _ refl (taken.nothing _ _)) h r
 
 pub behind_feed : {columns t w u : List ℕ} {p : Piece} {ps : List Piece} {m b n : Marker}
     → TokenText (least_column_in columns) p.kind p.span (next_line m 1) t b w
-    → Tokens (open_behind p.kind p.span.start.col columns) ps b w n u → Tokens columns (p ∷ ps) m (10 ∷ t) n u
+    → Tokens (open_behind p.kind p.span.start.col columns) ps b w n u → Tokens columns (p ∷ ps) m (line_feed ∷ t) n u
 behind_feed h r = behind (taken.line_break _ _ _ _ refl (taken.nothing _ _)) h r
 
 -- all of a text
@@ -119,7 +120,7 @@ pub record Tail (t : List ℕ) (n : ℕ) : Type 0 where
 pub no_tail : {t : List ℕ} → Tail t 0
 no_tail {t} = record { holds = ([], t, ([], [], tt, inl refl, refl), refl, refl) }
 
-pub blank : {t : List ℕ} → Tail (32 ∷ t) 1
+pub blank : {t : List ℕ} → Tail (space ∷ t) 1
 blank {t} = record { holds = (codes " ", t, (codes " ", [], (refl, tt), inl refl, refl), refl, refl) }
 
 pub comment_c : {t : List ℕ} → Tail (codes " # c" ++ t) 4
@@ -141,32 +142,33 @@ indicator_taken : (c n : ℕ) (m : Marker) (t : List ℕ) → Tail t n
 indicator_taken c n m t h = ((refl, refl), refl, lies (along m 1) h)
 
 pub open_bracket_taken : {indent n : ℕ} {m : Marker} {t : List ℕ} → Tail t n
-    → TokenText indent tokens.FlowSequenceStart (span_from_to m (along (along m 1) n)) m (91 ∷ t) (along m 1) t
+    → TokenText indent tokens.FlowSequenceStart (span_from_to m (along (along m 1) n)) m (left_bracket ∷ t) (along m 1)
+    t
 open_bracket_taken {n = n} {m} {t} h = record { holds = indicator_taken 91 n m t h }
 
 pub close_bracket_taken : {indent n : ℕ} {m : Marker} {t : List ℕ} → Tail t n
-    → TokenText indent tokens.FlowSequenceEnd (span_from_to m (along (along m 1) n)) m (93 ∷ t) (along m 1) t
+    → TokenText indent tokens.FlowSequenceEnd (span_from_to m (along (along m 1) n)) m (right_bracket ∷ t) (along m 1) t
 close_bracket_taken {n = n} {m} {t} h = record { holds = indicator_taken 93 n m t h }
 
 pub open_brace_taken : {indent n : ℕ} {m : Marker} {t : List ℕ} → Tail t n
-    → TokenText indent tokens.FlowMappingStart (span_from_to m (along (along m 1) n)) m (123 ∷ t) (along m 1) t
+    → TokenText indent tokens.FlowMappingStart (span_from_to m (along (along m 1) n)) m (left_brace ∷ t) (along m 1) t
 open_brace_taken {n = n} {m} {t} h = record { holds = inl (indicator_taken 123 n m t h) }
 
 pub close_brace_taken : {indent n : ℕ} {m : Marker} {t : List ℕ} → Tail t n
-    → TokenText indent tokens.FlowMappingEnd (span_from_to m (along (along m 1) n)) m (125 ∷ t) (along m 1) t
+    → TokenText indent tokens.FlowMappingEnd (span_from_to m (along (along m 1) n)) m (right_brace ∷ t) (along m 1) t
 close_brace_taken {n = n} {m} {t} h = record { holds = inl (indicator_taken 125 n m t h) }
 
 pub comma_taken : {indent n : ℕ} {m : Marker} {t : List ℕ} → Tail t n
-    → TokenText indent tokens.FlowEntry (span_from_to m (along (along m 1) n)) m (44 ∷ t) (along m 1) t
+    → TokenText indent tokens.FlowEntry (span_from_to m (along (along m 1) n)) m (comma ∷ t) (along m 1) t
 comma_taken {n = n} {m} {t} h = record { holds = indicator_taken 44 n m t h }
 
 -- a `-` and a blank
 pub dash_taken : {indent : ℕ} {m : Marker} {t : List ℕ} → TokenText indent tokens.BlockEntry
-    (span_from_to (along (along m 1) 1) (along (along m 1) 1)) m (45 ∷ 32 ∷ t) (along m 1) (32 ∷ t)
+    (span_from_to (along (along m 1) 1) (along (along m 1) 1)) m (hyphen ∷ space ∷ t) (along m 1) (space ∷ t)
 dash_taken {m = m} = record { holds = ((refl, refl), refl, lies (along m 1) blank, refl) }
 
 pub colon_taken : {indent : ℕ} {m : Marker} {others : List ℕ}
-    → TokenText indent tokens.Value (span_from_to m m) m (58 ∷ others) (along m 1) others
+    → TokenText indent tokens.Value (span_from_to m m) m (colon ∷ others) (along m 1) others
 colon_taken = record { holds = ((refl, refl), refl, refl) }
 
 -- ## Names, of one character
@@ -180,12 +182,12 @@ name_taken indicator c bytes m t h e n =
 
 pub anchor_taken : {indent : ℕ} {m : Marker} {bytes t : List ℕ} (c : ℕ) → IsTrue (is_anchor_char c)
     → bytes ≡ encode_utf8_all (c ∷ []) → IsFalse (is_anchor_char (slice_index t 0))
-    → TokenText indent (tokens.Anchor bytes) (span_from_to m (along m 2)) m (38 ∷ c ∷ t) (along m 2) t
+    → TokenText indent (tokens.Anchor bytes) (span_from_to m (along m 2)) m (ampersand ∷ c ∷ t) (along m 2) t
 anchor_taken {m = m} {bytes} {t} c h e n = record { holds = name_taken 38 c bytes m t h e n }
 
 pub alias_taken : {indent : ℕ} {m : Marker} {bytes t : List ℕ} (c : ℕ) → IsTrue (is_anchor_char c)
     → bytes ≡ encode_utf8_all (c ∷ []) → IsFalse (is_anchor_char (slice_index t 0))
-    → TokenText indent (tokens.Alias bytes) (span_from_to m (along m 2)) m (42 ∷ c ∷ t) (along m 2) t
+    → TokenText indent (tokens.Alias bytes) (span_from_to m (along m 2)) m (asterisk ∷ c ∷ t) (along m 2) t
 alias_taken {m = m} {bytes} {t} c h e n = record { holds = name_taken 42 c bytes m t h e n }
 
 -- ## Scalars
@@ -212,9 +214,10 @@ in_quotes_taken quote c n bytes m t h s b q d e = (
 )
 
 pub single_quoted_taken : {indent n : ℕ} {bytes t : List ℕ} {m : Marker} (c : ℕ) → Tail t n
-    → IsTrue (stands_for_itself Single c) → IsFalse (is_break c) → IsTrue (is_closing Single (39 ∷ t))
+    → IsTrue (stands_for_itself Single c) → IsFalse (is_break c) → IsTrue (is_closing Single (apostrophe ∷ t))
     → bytes ≡ encode_utf8_all (folded (raw_item c ∷ []))
-    → TokenText indent (tokens.Scalar SingleQuoted bytes) (span_from_to m (along (third m) n)) m (39 ∷ c ∷ 39 ∷ t)
+    → TokenText indent (tokens.Scalar SingleQuoted bytes) (span_from_to m (along (third m) n)) m
+    (apostrophe ∷ c ∷ apostrophe ∷ t)
     (third m)
     t
 single_quoted_taken {n = n} {bytes} {t} {m} c h s b d e =
@@ -222,7 +225,8 @@ single_quoted_taken {n = n} {bytes} {t} {m} c h s b d e =
 
 pub double_quoted_taken : {indent n : ℕ} {bytes t : List ℕ} {m : Marker} (c : ℕ) → Tail t n
     → IsTrue (stands_for_itself Double c) → IsFalse (is_break c) → bytes ≡ encode_utf8_all (folded (raw_item c ∷ []))
-    → TokenText indent (tokens.Scalar DoubleQuoted bytes) (span_from_to m (along (third m) n)) m (34 ∷ c ∷ 34 ∷ t)
+    → TokenText indent (tokens.Scalar DoubleQuoted bytes) (span_from_to m (along (third m) n)) m
+    (quotation_mark ∷ c ∷ quotation_mark ∷ t)
     (third m)
     t
 double_quoted_taken {n = n} {bytes} {t} {m} c h s b e =
@@ -293,7 +297,7 @@ pub char : {m n : Marker} {c : ℕ} {t u : List ℕ} → IsFalse (is_break c) �
     → IsPassed m (c ∷ t) n u
 char h p = passing.character _ _ _ _ _ h p
 
-pub feed : {m n : Marker} {t u : List ℕ} → IsPassed (next_line m 1) t n u → IsPassed m (10 ∷ t) n u
+pub feed : {m n : Marker} {t u : List ℕ} → IsPassed (next_line m 1) t n u → IsPassed m (line_feed ∷ t) n u
 feed p = passing.line_break _ _ _ _ refl p
 
 -- ## Tokens that are their spans

@@ -2,6 +2,7 @@
 use Rattle.std.proofs.Common.{◌≡◌, ◌⊎◌, ℕ, ◌+◌, ◌≤◌, Bool, true, false, List, length, slice_index, Ok, refl, ap, ◌∙◌, arith}
 use Rattle.std.proofs.Math.Nat.{zero-add}
 use Rattle.std.specs.Prelude.{◌||◌, ◌&&◌, ◌==◌, Option, Some, None}
+use Rattle.saphyr_input.specs.Indicators.{percent_sign}
 use Rattle.saphyr_input.specs.Classes.{is_blank, is_bom, is_z}
 use Rattle.saphyr_input.specs.Places.{is_document_indicator, is_document_start, is_document_end}
 use Rattle.saphyr_scalar.specs.declared.scalar.position.Marker.{Marker}
@@ -101,7 +102,7 @@ arrives around now m y text inked right calm =
 pub record BeginsToken (m : Marker) (t : List ℕ) : Type 0 where
   pub nul : is_z (slice_index t 0) ≡ false
   pub byte_order_mark : is_bom (slice_index t 0) ≡ false
-  pub directive : (slice_index t 0 == 37) ≡ false
+  pub directive : (slice_index t 0 == percent_sign) ≡ false
   pub marker : ((m.col == 0) && is_document_indicator t) ≡ false
 
 pub begins_here : (around : Around) (d : Bool) (now : FlowMoment) → BeginsToken now.cursor.mark now.cursor.rest

@@ -1,12 +1,14 @@
 -- The pairs of braces inside flow, one behind the other.
 use Rattle.std.proofs.Common.{◌≡◌, ℕ, ◌+◌, ◌<◌, ◌≤◌, true, List, [], ◌∷◌, ◌++◌, length, refl, sym, ap, ◌∙◌, subst, append_assoc, inl, inr}
 use Rattle.std.specs.Prelude.{None}
+use Rattle.saphyr_input.specs.Indicators.{right_brace}
 use Rattle.saphyr_scalar.specs.declared.scalar.position.Marker.{Marker}
 use Rattle.saphyr_scanner.specs.declared.engine.level.Context.TheVariants as context
 use Rattle.saphyr_scanner.specs.Grammar.Tokens as tokens
 use Rattle.saphyr_scanner.specs.Grammar.TokenGrammar as grammar
 use Rattle.saphyr_scanner.specs.Grammar.Forest.{Node, Pairs, NoPair, MorePairs}
 use Rattle.saphyr_scanner.specs.Grammar.FlowNodes.{IsPairText, IsPair, IsFlowNode, AreFlowPairs, AreOtherFlowPairs}
+use Rattle.saphyr_scanner.specs.Grammar.Layout.{most_open}
 use Rattle.saphyr_scanner.proofs.InFlow.States.{Around, state_at, FlowMoment, moment_in}
 use Rattle.saphyr_scanner.proofs.Flow.States.{FitsAround, moved, past, ended, PassesNode, after, StandsBefore}
 use Rattle.saphyr_scanner.proofs.Flow.Places.{moved_append}
@@ -23,7 +25,7 @@ use Rattle.saphyr_scanner.proofs.Flow.Items.{BeginsEnd, comma_first, last_first,
 -- ## What stands first
 
 others_first : (indent room : ℕ) (pairs : Pairs) (p o : List ℕ) → AreOtherFlowPairs room pairs indent p
-    → BeginsEnd (p ++ (125 ∷ o))
+    → BeginsEnd (p ++ (right_brace ∷ o))
 others_first indent room NoPair p o h = last_first indent p 125 o (inr (inr refl)) h
 others_first indent room (MorePairs key value pairs) p o (comma, pair, others, c, i, h, e) =
     subst (λ (t : List ℕ). BeginsEnd (t ++ (125 ∷ o))) (sym e) (comma_first indent comma (pair ++ others) (125 ∷ o) c)
@@ -49,7 +51,7 @@ pair_ink indent room key value t (inr (piece, separation, h, parts, e)) =
 
 -- what is inside braces, up to the closing one
 pub pairs_ink : (indent room : ℕ) (pairs : Pairs) (p o : List ℕ) → AreFlowPairs room pairs indent p
-    → BeginsInk (p ++ (125 ∷ o))
+    → BeginsInk (p ++ (right_brace ∷ o))
 pairs_ink indent room NoPair p o e =
     begins_with 125 o (p ++ (125 ∷ o)) (ap (λ (t : List ℕ). t ++ (125 ∷ o)) e) (end_ink 125 (inr (inr refl)))
 pairs_ink indent room (MorePairs key value pairs) p o (pair, others, i, h, e) =
@@ -62,7 +64,7 @@ pairs_ink indent room (MorePairs key value pairs) p o (pair, others, i, h, e) =
 one_passes : {around : Around} (room : ℕ) (key value : Node) → PassesNode around room key → PassesNode around room value
     → (m : Marker) (t o : List ℕ) → FitsAround around m t o → BeginsEnd o
     → IsPairIn around.indent room key value t → (now : FlowMoment) → now.key ≡ None → now.allowed ≡ true
-    → room + length now.outer ≤ 255 → now.adjacent < m.index → StandsBefore around now m (t ++ o)
+    → room + length now.outer ≤ most_open → now.adjacent < m.index → StandsBefore around now m (t ++ o)
     → TellsPiece around (state_at around (moment_in context.FlowMapping now)) (PairInBraces key value)
     context.FlowMapping now.outer now.places (moved m t) o
 one_passes {around} room key value K V m t o fits b h now no_candidate fresh low before text =
@@ -79,7 +81,7 @@ abbrev pub PassesOtherPairs : Around → ℕ → Pairs → Type 0
 PassesOtherPairs around room pairs =
     (m : Marker) (p o : List ℕ) → AreOtherFlowPairs room pairs around.indent p → FitsAround around m p (125 ∷ o)
     → (now : FlowMoment)
-    → room + length now.outer ≤ 255 → now.adjacent ≤ (past around.indent m (p ++ (125 ∷ o))).0.index
+    → room + length now.outer ≤ most_open → now.adjacent ≤ (past around.indent m (p ++ (125 ∷ o))).0.index
     → StandsBefore around now m (p ++ (125 ∷ o))
     → TellsPiece around (state_at around (moment_in context.FlowMapping now)) (grammar.YieldOtherFlowPairs pairs)
     context.FlowMapping now.outer now.places (moved m p) (125 ∷ o)
@@ -155,7 +157,8 @@ other_pairs_pass {around} room key value pairs K V O m p o (comma, pair, others,
 abbrev pub PassesPairs : Around → ℕ → Pairs → Type 0
 PassesPairs around room pairs =
     (m : Marker) (p o : List ℕ) → AreFlowPairs room pairs around.indent p → FitsAround around m p (125 ∷ o)
-    → (now : FlowMoment) → now.key ≡ None → now.allowed ≡ true → room + length now.outer ≤ 255 → now.adjacent < m.index
+    → (now : FlowMoment) → now.key ≡ None → now.allowed ≡ true → room + length now.outer ≤ most_open
+    → now.adjacent < m.index
     → StandsBefore around now m (p ++ (125 ∷ o))
     → TellsPiece around (state_at around (moment_in context.FlowMapping now)) (grammar.YieldFlowPairs pairs)
     context.FlowMapping now.outer now.places (moved m p) (125 ∷ o)

@@ -2,6 +2,7 @@
 use Rattle.std.proofs.Common.{◌≡◌, ◌⊎◌, ℕ, ◌<◌, ◌≤◌, Bool, true, false, List, [], ◌∷◌, ◌++◌, length, slice_index, Result, Ok, Err, refl, sym, ap, ◌∙◌, arith, subst, append_assoc, cond, IsTrue}
 use Rattle.std.specs.Prelude.{◌&&◌, ◌==◌, Option, None}
 use Rattle.std.specs.List.{list_all}
+use Rattle.saphyr_input.specs.Indicators.{percent_sign}
 use Rattle.saphyr_input.specs.Classes.{is_blank, is_z, line_feed}
 use Rattle.saphyr_input.specs.declared.input.SkipTabs.{SkipTabs}
 use Rattle.saphyr_input.specs.declared.input.SkipTabs.TheVariants.{Yes}
@@ -20,6 +21,7 @@ use Rattle.saphyr_scanner.specs.Steps.Level.{Candidate, Level, is_block}
 use Rattle.saphyr_scanner.specs.Steps.Flow as flow
 use Rattle.saphyr_scanner.specs.Steps.Flow.{close_collection, behind_pair}
 use Rattle.saphyr_scanner.specs.Steps.Fetch.{step}
+use Rattle.saphyr_scanner.specs.Grammar.Layout.{most_open}
 use Rattle.saphyr_scanner.proofs.InFlow.States.{Around, core_at, state_at, Calm, placed_right, opening_steps_open, open_collection_gives, close_collection_gives, deepened, bracket_deepens, as_before, FlowMoment, moment, moment_with}
 use Rattle.saphyr_scanner.proofs.Flow.States.{IsFresh, Since, moved, past, IsClear, IsInk, IsParted, Known, fresh_key, PassesPiece, FitsAround, StandsBefore, key_behind}
 use Rattle.saphyr_scanner.proofs.Flow.Places.{moved_index, right_one, clear_here}
@@ -38,7 +40,7 @@ use Rattle.saphyr_scanner.proofs.Levels.{saved, level_of}
 pub record IsTokenMark (c : ℕ) : Type 0 where
   pub ink : IsInk c
   pub nul : is_z c ≡ false
-  pub directive : (c == 37) ≡ false
+  pub directive : (c == percent_sign) ≡ false
   pub feed : (c == line_feed) ≡ false
 
 pub mark_begins : (m : Marker) (c : ℕ) (o : List ℕ) → IsTokenMark c → IsClear m (c ∷ []) o → BeginsToken m (c ∷ o)
@@ -70,7 +72,7 @@ saved_so x a b n m k j h e = let s = h e in ap (λ (q : Bool). saved q n m j) s.
 pub open_passes : (around : Around) (y : Context) → is_block y ≡ false → (kind : Kind) (ch : ℕ) → IsTokenMark ch
     → ((second i : ℕ) (c : Core) → step ch second i c ≡ flow.opening_steps y kind i c)
     → (m : Marker) (o : List ℕ) → FitsAround around m (ch ∷ []) o → IsParted around.indent o
-    → (now : FlowMoment) → length now.outer < 255 → Calm around now.context → now.adjacent ≤ m.index
+    → (now : FlowMoment) → length now.outer < most_open → Calm around now.context → now.adjacent ≤ m.index
     → StandsBefore around now m (ch ∷ o) → (j : Option Candidate) × (is_block now.context ≡ false → j ≡ key_behind now
     m)
     × PassesPiece around (state_at around now) (opened_collection (moved m (ch ∷ []))) y (level_of now.context j

@@ -3,6 +3,7 @@ pub mod Runs
 use Rattle.std.proofs.Common.{◌≡◌, ℕ, ◌<◌, ◌≤◌, Bool, true, false, List, [], ◌∷◌, ◌++◌, length, Ok, sym, ap, ◌∙◌, subst, append_assoc, IsTrue}
 use Rattle.std.specs.Prelude.{Option, None}
 use Rattle.std.specs.List.{list_all}
+use Rattle.saphyr_input.specs.Indicators.{colon}
 use Rattle.saphyr_input.specs.Classes.{is_blank}
 use Rattle.saphyr_input.specs.declared.input.SkipTabs.{SkipTabs}
 use Rattle.saphyr_input.specs.declared.input.SkipTabs.TheVariants.{Yes}
@@ -20,6 +21,7 @@ use Rattle.saphyr_scanner.specs.Steps.Flow as flow
 use Rattle.saphyr_scanner.specs.Steps.Flow.{close_collection}
 use Rattle.saphyr_scanner.specs.Steps.State.{State}
 use Rattle.saphyr_scanner.specs.Steps.Fetch.{step}
+use Rattle.saphyr_scanner.specs.Grammar.Layout.{most_open}
 use Rattle.saphyr_scanner.proofs.InFlow.States.{Around, core_at, state_at, Calm, FlowMoment}
 use Rattle.saphyr_scanner.proofs.Flow.States.{crosses, IsFresh, Since, KeptKey, keeping, moved, past, IsParted, IsBehindRoot, Known, PassesPiece, FitsAround, ended, StandsBefore, after}
 use Rattle.saphyr_scanner.proofs.Flow.Places.{moved_append}
@@ -106,7 +108,7 @@ pub record IsBracketed (indent : ℕ) (x : Context) (kept : KeptKey) (m : Marker
   pub is : new ≡ bare_place piece ∷ others
   pub keeps : is_block x ≡ false → key ≡ kept.kept
   pub since : Since kept.before kept.from kept.over key
-  pub near : is_block x ≡ false → (w more : List ℕ) → o ≡ w ++ (58 ∷ more) → IsSeparation indent w
+  pub near : is_block x ≡ false → (w more : List ℕ) → o ≡ w ++ (colon ∷ more) → IsSeparation indent w
       → IsTrue (list_all is_blank w) → adjacent ≡ (moved m w).index
   pub low : adjacent ≤ (past indent m o).0.index
 
@@ -148,7 +150,7 @@ pub brackets_pass : (around : Around) (Is : List Kind → Type 0) (b : Brackets)
     → (m : Marker) (w inside o : List ℕ) → FitsAround around m (bracket_text b w inside) o
     → IsSeparation around.indent w
     → IsParted around.indent (w ++ (inside ++ (b.closing ∷ o)))
-    → (now : FlowMoment) → length now.outer < 255 → Calm around now.context → now.adjacent ≤ m.index
+    → (now : FlowMoment) → length now.outer < most_open → Calm around now.context → now.adjacent ≤ m.index
     → StandsBefore around now m (bracket_text b w inside ++ o)
     → (around.indent ≤ (moved (moved m (b.opening ∷ w)) inside).col
     → EndsAt around.indent now.context (moved (moved m (b.opening ∷ w)) inside) o)

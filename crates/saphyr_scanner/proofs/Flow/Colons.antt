@@ -3,7 +3,7 @@ use Rattle.std.proofs.Common.{◌≡◌, ℕ, ◌≤◌, Bool, true, false, List
 use Rattle.std.proofs.Math.Nat.{sub-zero}
 use Rattle.std.specs.Prelude.{if◌then◌else◌, ◌||◌, ◌==◌, not, nat_lt, Option, Some, None}
 use Rattle.std.proofs.lemmas.Bool.Decides.{nat_tests}
-use Rattle.saphyr_input.specs.Classes.{is_blank_or_breakz, is_flow}
+use Rattle.saphyr_input.specs.Classes.{is_blank_or_breakz, is_flow, tab}
 use Rattle.saphyr_input.specs.declared.input.SkipTabs.{SkipTabs}
 use Rattle.saphyr_scalar.specs.declared.scalar.position.Marker.{Marker}
 use Rattle.saphyr_scalar.specs.Views.Cursor.{Cursor, ◌>>=◌, along}
@@ -28,18 +28,20 @@ use Rattle.saphyr_scanner.proofs.Flow.Brackets.{IsTokenMark}
 use Rattle.saphyr_input.proofs.Basics.Booleans.{by_test, and_false}
 use Rattle.saphyr_scalar.proofs.Given.{cursor_at}
 use Rattle.std.proofs.lemmas.Bool.{or_right, eq-eqb, true≢false}
+use Rattle.saphyr_input.specs.Indicators.{colon, left_brace, left_bracket}
 use Rattle.saphyr_scanner.proofs.Queues.{place_kinds, place_kinds_append, queue_of, with_opening_seam}
 
 -- ## A colon is an indicator
 
 is_flow_or_blank : (c : ℕ) → IsTrue (ends_colon c) → is_blank_or_breakz c ≡ false
-    → (is_flow c ≡ true) × (((c == 91) || (c == 123)) ≡ false)
+    → (is_flow c ≡ true) × (((c == left_bracket) || (c == left_brace)) ≡ false)
 is_flow_or_blank c h e = (flow_one c h e, other c h e)
   where
     flow_one : (c : ℕ) → IsTrue (ends_colon c) → is_blank_or_breakz c ≡ false → is_flow c ≡ true
     flow_one c h e = grind (arith, nat_tests)
 
-    other : (c : ℕ) → IsTrue (ends_colon c) → is_blank_or_breakz c ≡ false → ((c == 91) || (c == 123)) ≡ false
+    other : (c : ℕ) → IsTrue (ends_colon c) → is_blank_or_breakz c ≡ false
+        → ((c == left_bracket) || (c == left_brace)) ≡ false
     other c h e = grind (arith, nat_tests)
 
 -- where a colon may stand at once, or before what ends it
@@ -78,7 +80,7 @@ pub tabbed : (around : Around) (o : List ℕ) (m : Marker) (y : Context) (k : Op
 unfolding check_tab
 tabbed around o m y k ls a ad flows parted right = by_tab (slice_index o 0 == 9) refl
   where
-    by_tab : (b : Bool) → (slice_index o 0 == 9) ≡ b → Tabbed around o m y k ls a ad
+    by_tab : (b : Bool) → (slice_index o 0 == tab) ≡ b → Tabbed around o m y k ls a ad
     by_tab true e =
         let p = separates around.indent (cursor_at o m false) parted.separation parted.first parted.others parted.is
         parted.parts right parted.ink in
@@ -129,7 +131,7 @@ colon_flows context.MarkedFlowPair e = refl
 pub fetches : (around : Around) (d : Bool) (o : List ℕ) (m : Marker) (b : Bool) (y : Context) (k : Option Candidate)
     (ls : List Level) (a : Bool) (ad : ℕ) → is_block y ≡ false
     → (p : Tabbed around o (along m 1) (behind_colon y) k ls a ad)
-    → value.value_steps (core_at around d (cursor_at (58 ∷ o) m b) y k ls a ad)
+    → value.value_steps (core_at around d (cursor_at (colon ∷ o) m b) y k ls a ad)
     ≡ behind_key k (begins_pair y) m (core_at around d p.there (behind_colon y) k ls a ad)
 unfolding value.value_steps
 fetches around d o m b y k ls a ad flows p =

@@ -25,6 +25,7 @@ use Rattle.saphyr_scanner.proofs.Flow.Brackets.{IsTokenMark, mark_begins, mark_m
 use Rattle.saphyr_scalar.proofs.Given.{cursor_at}
 use Rattle.saphyr_input.proofs.Basics.Numbers.{le_next}
 use Rattle.std.proofs.lemmas.Bool.{true≢false}
+use Rattle.saphyr_input.specs.Indicators.{comma}
 use Rattle.saphyr_scanner.proofs.Steps.Choice.{comma_begins}
 
 in_flow : (y : Context) → is_block y ≡ false → is_block (behind_entry y) ≡ false
@@ -39,7 +40,7 @@ next_entry_gives : (around : Around) (d : Bool) (o : List ℕ) (m : Marker) (b :
     (k : Option Candidate)
     (ls : List Level) (a : Bool) (ad : ℕ) → is_block y ≡ false → (found : SkipTabs) (there : Cursor)
     → separation Yes (cursor_at o (along m 1) false) ≡ Ok (found, there)
-    → next_flow_entry (core_at around d (cursor_at (44 ∷ o) m b) y k ls a ad)
+    → next_flow_entry (core_at around d (cursor_at (comma ∷ o) m b) y k ls a ad)
     ≡ completed_step (behind_pair (ends_pair y) m (from_to m there.mark tokens.FlowEntry))
     (core_at around d there (behind_entry y) k ls true ad)
 unfolding next_flow_entry
@@ -55,8 +56,8 @@ next_entry_gives around d o m b y k ls a ad flows found there is =
 
 removes : (around : Around) (d : Bool) (o : List ℕ) (m : Marker) (b : Bool) (y : Context) (k : Option Candidate)
     (ls : List Level) (a : Bool) (ad : ℕ) → is_block y ≡ false
-    → flow.flow_entry_steps (core_at around d (cursor_at (44 ∷ o) m b) y k ls a ad)
-    ≡ next_flow_entry (core_at around d (cursor_at (44 ∷ o) m b) y None ls a ad)
+    → flow.flow_entry_steps (core_at around d (cursor_at (comma ∷ o) m b) y k ls a ad)
+    ≡ next_flow_entry (core_at around d (cursor_at (comma ∷ o) m b) y None ls a ad)
 unfolding flow.flow_entry_steps remove_key
 removes around d o m b context.Block k ls a ad e = absurd (true≢false e)
 removes around d o m b context.FlowSequence k ls a ad e = refl
@@ -75,10 +76,11 @@ comma_is_mark = record {
 
 -- A comma ends a pair that has no bracket of its own, and behind it a key may begin.
 pub comma_passes : (around : Around) (y : Context) → is_block y ≡ false → (m : Marker) (o : List ℕ)
-    → FitsAround around m (44 ∷ []) o → IsParted around.indent o → (now : FlowMoment) → now.adjacent ≤ m.index
-    → StandsBefore around now m (44 ∷ o)
-    → PassesPiece around (state_at around (moment_in y now)) (fresh_key (moved m (44 ∷ []))) (behind_entry y) now.outer
-    now.places (moved m (44 ∷ [])) o (pending (ends_pair y) ++ tokens.FlowEntry ∷ [])
+    → FitsAround around m (comma ∷ []) o → IsParted around.indent o → (now : FlowMoment) → now.adjacent ≤ m.index
+    → StandsBefore around now m (comma ∷ o)
+    → PassesPiece around (state_at around (moment_in y now)) (fresh_key (moved m (comma ∷ []))) (behind_entry y)
+    now.outer
+    now.places (moved m (comma ∷ [])) o (pending (ends_pair y) ++ tokens.FlowEntry ∷ [])
 comma_passes around y flows m o fits parted now before text =
     let v = arrives around (moment_in y now) m (44 ∷ o) (text ∙ past_ink around.indent m 44 o comma_is_mark.ink) refl
     fits.right fits.calm in

@@ -4,6 +4,7 @@ use Rattle.std.specs.Prelude.{◌==◌, Option}
 use Rattle.std.proofs.lemmas.Bool.Decides.{nat_tests}
 use Rattle.saphyr_input.specs.Classes.{is_blank, is_blank_or_breakz}
 use Rattle.std.proofs.lemmas.Bool.{false≢true}
+use Rattle.saphyr_input.specs.Indicators.{apostrophe, colon}
 use Rattle.saphyr_scalar.specs.declared.scalar.position.Marker.{Marker}
 use Rattle.scalar_values.specs.declared.flow.Quote.{Quote}
 use Rattle.scalar_values.specs.declared.flow.Quote.TheVariants.{Single, Double}
@@ -36,7 +37,7 @@ pub record IsBehindContent (indent : ℕ) (x : Context) (kept : Option Candidate
   pub piece : Piece
   pub is : new ≡ bare_place piece ∷ []
   pub keeps : is_block x ≡ false → key ≡ kept
-  pub near : (separation more : List ℕ) → o ≡ separation ++ (58 ∷ more) → IsSeparation indent separation
+  pub near : (separation more : List ℕ) → o ≡ separation ++ (colon ∷ more) → IsSeparation indent separation
       → IsTrue (allows_adjacent node separation) → adjacent ≡ (moved m separation).index
   pub low : adjacent ≤ (past indent m o).0.index
 
@@ -53,10 +54,10 @@ PassesContent around node style value t o m =
 
 -- ## Quotes
 
-white_apart : (c : ℕ) → IsTrue (is_blank_or_breakz c) → (c == 39) ≡ false
+white_apart : (c : ℕ) → IsTrue (is_blank_or_breakz c) → (c == apostrophe) ≡ false
 white_apart c h = grind (arith, nat_tests)
 
-node_apart : (node : Node) (c : ℕ) → EndsHere node c → (c == 39) ≡ false
+node_apart : (node : Node) (c : ℕ) → EndsHere node c → (c == apostrophe) ≡ false
 node_apart node c (inl h) = white_apart c h
 node_apart node c (inr (inl e)) = rw e refl
 node_apart node c (inr (inr (inl e))) = rw e refl
@@ -64,7 +65,7 @@ node_apart node c (inr (inr (inr (inl e)))) = rw e refl
 node_apart node c (inr (inr (inr (inr h)))) = rw h.0 refl
 
 -- the place of the next token, where that is a colon
-colon_place : (indent : ℕ) (m : Marker) (o separation more : List ℕ) → o ≡ separation ++ (58 ∷ more)
+colon_place : (indent : ℕ) (m : Marker) (o separation more : List ℕ) → o ≡ separation ++ (colon ∷ more)
     → IsSeparation indent separation → indent ≤ m.col → (past indent m o).0.index ≡ (moved m separation).index
 colon_place indent m o separation more is parts right =
     let lands = ap (past indent m) is ∙ separation_past indent m separation (58 ∷ more) parts right
@@ -141,9 +142,9 @@ plains_pass reads around p value t o m h fits behind now flow low text =
 
 -- a key before its colon
 pub key_content_passes : ReaderPromises → (around : Around) (p : Properties) (value t r : List ℕ) (m : Marker)
-    → value ≡ plain_value t → IsPlainKey true around.indent t → FitsAround around m t (58 ∷ r)
-    → IsBehindNode around.indent (Scalar p Plain value) (58 ∷ r)
-    → PassesContent around (Scalar p Plain value) Plain value t (58 ∷ r) m
+    → value ≡ plain_value t → IsPlainKey true around.indent t → FitsAround around m t (colon ∷ r)
+    → IsBehindNode around.indent (Scalar p Plain value) (colon ∷ r)
+    → PassesContent around (Scalar p Plain value) Plain value t (colon ∷ r) m
 key_content_passes reads around p value t r m stands h fits behind now flow low text =
     let node = Scalar p Plain value in
     let right = key_right true around.indent m t r h fits.clear fits.right in

@@ -1,6 +1,7 @@
 -- The entries of braces and of brackets inside flow.
 use Rattle.std.proofs.Common.{◌≡◌, ℕ, ◌+◌, ◌<◌, ◌≤◌, Bool, true, false, List, [], ◌∷◌, ◌++◌, length, refl, sym, ap, ◌∙◌, subst, append_assoc, append-nil, ◌⊎◌, inl, inr}
 use Rattle.std.specs.Prelude.{None}
+use Rattle.saphyr_input.specs.Indicators.{comma, right_brace, right_bracket}
 use Rattle.saphyr_input.specs.Classes.{is_blank}
 use Rattle.saphyr_scalar.specs.declared.scalar.position.Marker.{Marker}
 use Rattle.saphyr_scalar.specs.Views.Cursor.{along}
@@ -16,6 +17,7 @@ use Rattle.saphyr_scanner.specs.Steps.Level.{Level, is_block, behind_entry, ends
 use Rattle.saphyr_scanner.specs.Steps.State.{State}
 use Rattle.saphyr_scanner.specs.Grammar.Forest.{no_properties, Node, Map, NoPair, MorePairs}
 use Rattle.saphyr_scanner.specs.Grammar.FlowNodes.{IsOnLine, IsKeyAndValue, IsBeforeSeparation, IsPairText, IsPair, IsSinglePairText, IsSinglePair, IsFlowNode}
+use Rattle.saphyr_scanner.specs.Grammar.Layout.{most_open}
 use Rattle.saphyr_scanner.proofs.InFlow.States.{Around, state_at, FlowMoment, moment_in}
 use Rattle.saphyr_scanner.proofs.Flow.States.{FitsAround, moved, past, PassesPiece, ended, PassesNode, StandsBefore}
 use Rattle.saphyr_scanner.proofs.Flow.Places.{moved_append, moved_along}
@@ -63,7 +65,7 @@ pair_text_passes : {around : Around} (room : ℕ) (key value : Node) → PassesN
     → IsBehindEntry around.indent o
     → IsPairText key value (IsFlowNode room key true around.indent) (IsFlowNode room value true around.indent)
     around.indent t → (now : FlowMoment) → now.key ≡ None → now.allowed ≡ true
-    → room + length now.outer ≤ 255 → now.adjacent < m.index → StandsBefore around now m (t ++ o)
+    → room + length now.outer ≤ most_open → now.adjacent < m.index → StandsBefore around now m (t ++ o)
     → TellsPiece around (state_at around (moment_in context.FlowMapping now)) (PairInBraces key value)
     context.FlowMapping now.outer now.places (moved m t) o
 pair_text_passes {around} room key value K V m t o fits ends (inl (none, h)) now no_candidate fresh low before text =
@@ -93,10 +95,10 @@ pair_text_passes room key value K V m t o fits ends (inr (inr (inr h))) now no_c
 -- a pair in braces, with the separation behind it
 pub pair_passes : {around : Around} (room : ℕ) (key value : Node) → PassesNode around room key
     → PassesNode around room value → (m : Marker) (t : List ℕ) (c : ℕ) (cs : List ℕ) → FitsAround around m t (c ∷ cs)
-    → (c ≡ 44) ⊎ ((c ≡ 93) ⊎ (c ≡ 125))
+    → (c ≡ comma) ⊎ ((c ≡ right_bracket) ⊎ (c ≡ right_brace))
     → IsPair key value (IsFlowNode room key true around.indent) (IsFlowNode room value true around.indent) around.indent
     t → (now : FlowMoment) → now.key ≡ None → now.allowed ≡ true
-    → room + length now.outer ≤ 255 → now.adjacent < m.index → StandsBefore around now m (t ++ (c ∷ cs))
+    → room + length now.outer ≤ most_open → now.adjacent < m.index → StandsBefore around now m (t ++ (c ∷ cs))
     → TellsPiece around (state_at around (moment_in context.FlowMapping now)) (PairInBraces key value)
     context.FlowMapping now.outer now.places (moved m t) (c ∷ cs)
 pair_passes room key value K V m t c cs fits ends (inl h) now no_candidate fresh low before text =
@@ -151,8 +153,9 @@ item_behind m w o parts t =
 -- a node, with the separation behind it
 pub node_item_passes : {around : Around} (room : ℕ) (node : Node) → PassesNode around room node
     → (m : Marker) (t : List ℕ) (c : ℕ) (cs : List ℕ) → FitsAround around m t (c ∷ cs)
-    → (c ≡ 44) ⊎ ((c ≡ 93) ⊎ (c ≡ 125)) → IsBeforeSeparation (IsFlowNode room node true around.indent) around.indent t
-    → (now : FlowMoment) → room + length now.outer ≤ 255 → now.adjacent < m.index
+    → (c ≡ comma) ⊎ ((c ≡ right_bracket) ⊎ (c ≡ right_brace))
+    → IsBeforeSeparation (IsFlowNode room node true around.indent) around.indent t
+    → (now : FlowMoment) → room + length now.outer ≤ most_open → now.adjacent < m.index
     → StandsBefore around now m (t ++ (c ∷ cs))
     → ItemPasses around (state_at around (moment_in context.FlowSequence now)) (IsEntry node) now.outer now.places
     (moved m t) (c ∷ cs)
@@ -201,7 +204,7 @@ single_text_passes : {around : Around} (room : ℕ) (key value : Node) → Passe
     → IsBehindEntry around.indent o
     → IsSinglePairText key value (IsFlowNode room key true around.indent) (IsFlowNode room value true around.indent)
     around.indent t → (now : FlowMoment) → now.key ≡ None → now.allowed ≡ true
-    → room + length now.outer ≤ 255 → now.adjacent < m.index → StandsBefore around now m (t ++ o)
+    → room + length now.outer ≤ most_open → now.adjacent < m.index → StandsBefore around now m (t ++ o)
     → ItemPasses around (state_at around (moment_in context.FlowSequence now)) (IsEntry (single key value)) now.outer
     now.places (moved m t) o
 single_text_passes {around} room key value K V m t o fits ends (inl (node, blanks, colon, h, line, are, apart, c, e))
@@ -241,10 +244,10 @@ single_text_passes {around} room key value K V m t o fits ends (inr (inr h)) now
 -- a pair in brackets, with the separation behind it
 pub single_passes : {around : Around} (room : ℕ) (key value : Node) → PassesNode around room key
     → PassesNode around room value → (m : Marker) (t : List ℕ) (c : ℕ) (cs : List ℕ) → FitsAround around m t (c ∷ cs)
-    → (c ≡ 44) ⊎ ((c ≡ 93) ⊎ (c ≡ 125))
+    → (c ≡ comma) ⊎ ((c ≡ right_bracket) ⊎ (c ≡ right_brace))
     → IsSinglePair key value (IsFlowNode room key true around.indent) (IsFlowNode room value true around.indent)
     around.indent t → (now : FlowMoment) → now.key ≡ None → now.allowed ≡ true
-    → room + length now.outer ≤ 255 → now.adjacent < m.index → StandsBefore around now m (t ++ (c ∷ cs))
+    → room + length now.outer ≤ most_open → now.adjacent < m.index → StandsBefore around now m (t ++ (c ∷ cs))
     → ItemPasses around (state_at around (moment_in context.FlowSequence now)) (IsEntry (single key value)) now.outer
     now.places (moved m t) (c ∷ cs)
 single_passes room key value K V m t c cs fits ends (inl h) now no_candidate fresh low before text =

@@ -2,7 +2,7 @@
 use Rattle.std.proofs.Common.{◌≡◌, ℕ, zero, suc, ◌+◌, ◌≤◌, Bool, true, false, List, [], ◌∷◌, ◌++◌, slice_index, refl, sym, ap, ◌∙◌, arith, subst, append_assoc, append-nil, ◌⊎◌, inl, inr}
 use Rattle.std.specs.Prelude.{◌||◌, ◌&&◌, ◌==◌, nat_lt}
 use Rattle.std.proofs.lemmas.Bool.Decides.{nat_tests}
-use Rattle.saphyr_input.specs.Classes.{is_blank, is_break, is_yaml_non_break, line_feed}
+use Rattle.saphyr_input.specs.Classes.{is_blank, is_break, is_yaml_non_break, line_feed, carriage_return}
 use Rattle.saphyr_scalar.specs.declared.scalar.position.Marker.{Marker}
 use Rattle.saphyr_scalar.specs.Views.Cursor.{Cursor, along, next_line}
 use Rattle.saphyr_scalar.specs.Spelling.Plain.{past_white}
@@ -201,7 +201,7 @@ filler_text_past column m t more (front, comment, are, k, is) ends =
 
 line_past : (column : ℕ) (t w : List ℕ)
     → ((m : Marker) (more : List ℕ) → EndsLine more → past column m (t ++ more) ≡ past column (moved m t) more)
-    → w ≡ t ++ (10 ∷ []) → IsPast column w
+    → w ≡ t ++ (line_feed ∷ []) → IsPast column w
 line_past column t w h is =
     subst (IsPast column) (sym is)
     (λ m y. ap (past column m) (append_assoc t (10 ∷ []) y) ∙ h m (10 ∷ y) (inr refl)
@@ -226,7 +226,8 @@ last_filler_past column m t h =
 -- the first line of separation, with its break
 first_line : (column : ℕ) (blanks comment : List ℕ) → AreIn is_blank blanks → IsCommentBehind blanks comment
     → (m : Marker) → column ≤ m.col → (y : List ℕ)
-    → past column m ((blanks ++ comment) ++ (10 ∷ y)) ≡ past column (moved m ((blanks ++ comment) ++ (10 ∷ []))) y
+    → past column m ((blanks ++ comment) ++ (line_feed ∷ y))
+    ≡ past column (moved m ((blanks ++ comment) ++ (line_feed ∷ []))) y
 first_line column blanks comment h k m low y =
     front_past column m (blanks ++ comment) blanks comment (10 ∷ y) (blanks_past column blanks h m low).is
     (behind_is blanks comment k) refl (inr refl)
@@ -279,7 +280,8 @@ WhitePast column m b t =
     → past column (past_white m b t).mark (past_white m b t).rest ≡ past column m t
 
 white_kind : (column : ℕ) (m : Marker) (b : Bool) (c : ℕ) (cs : List ℕ) (tab blank return break : Bool)
-    → stops_tab column m c cs ≡ tab → is_blank c ≡ blank → ((c == 13) && (slice_index cs 0 == 10)) ≡ return
+    → stops_tab column m c cs ≡ tab → is_blank c ≡ blank
+    → ((c == carriage_return) && (slice_index cs 0 == line_feed)) ≡ return
     → is_break c ≡ break → WhitePast column (along m 1) (b || break) cs
     → WhitePast column (next_line m 1) (b || break) cs → WhitePast column m b (c ∷ cs)
 white_kind column m b c cs true q r break t e f g on line h =

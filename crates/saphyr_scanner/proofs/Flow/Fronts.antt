@@ -2,7 +2,7 @@
 use Rattle.std.proofs.Common.{◌≡◌, ◌≢◌, ℕ, ◌<◌, ◌≤◌, Bool, true, List, [], ◌∷◌, ◌++◌, length, refl, sym, ap, ◌∙◌, arith, subst, append_assoc, IsTrue, ◌⊎◌, inl, inr}
 use Rattle.std.specs.Prelude.{◌||◌, ◌&&◌, not}
 use Rattle.std.proofs.lemmas.Bool.Decides.{nat_tests}
-use Rattle.saphyr_input.specs.Classes.{is_blank, is_blank_or_breakz, is_flow}
+use Rattle.saphyr_input.specs.Classes.{is_blank, is_blank_or_breakz, is_flow, line_feed}
 use Rattle.saphyr_scalar.specs.declared.scalar.position.Marker.{Marker}
 use Rattle.saphyr_scalar.specs.Spelling.Tag.{EndsTag}
 use Rattle.saphyr_scalar.specs.Spelling.Spaces.{IsSeparation}
@@ -13,6 +13,7 @@ use Rattle.saphyr_scanner.specs.Steps.Queue.{Place}
 use Rattle.saphyr_scanner.specs.Steps.Level.{Level, is_block}
 use Rattle.saphyr_scanner.specs.Grammar.Forest.{Properties, no_properties}
 use Rattle.saphyr_scanner.specs.Grammar.FlowNodes.{IsProperties, IsBeforeContent}
+use Rattle.saphyr_scanner.specs.Grammar.Layout.{most_open}
 use Rattle.saphyr_scanner.proofs.InFlow.States.{Around, state_at, Calm, FlowMoment}
 use Rattle.saphyr_scanner.proofs.Flow.States.{Since, keeping, moved, past, IsParted, PassesPiece, FitsAround, ReaderPromises, after, StandsBefore}
 use Rattle.saphyr_scanner.proofs.Flow.Places.{moved_append, moved_index}
@@ -43,7 +44,7 @@ separation_ends_tag indent in_flow w y parts some =
     blank : (c : ℕ) → is_blank c ≡ true → is_blank_or_breakz c ≡ true
     blank c h = grind (arith, nat_tests)
 
-    by_first : (c : ℕ) → (is_blank c ≡ true) ⊎ (c ≡ 10) → IsTrue (is_blank_or_breakz c || (in_flow && is_flow c))
+    by_first : (c : ℕ) → (is_blank c ≡ true) ⊎ (c ≡ line_feed) → IsTrue (is_blank_or_breakz c || (in_flow && is_flow c))
     by_first c (inl h) = rw (blank c h) refl
     by_first c (inr e) = rw e refl
 
@@ -64,7 +65,7 @@ bare_collection_passes : (around : Around) (p : Properties) → p ≡ no_propert
     → AreBrackets b → (m : Marker) (w inside o : List ℕ)
     → FitsAround around m (bracket_text b w inside) o → IsSeparation around.indent w
     → IsParted around.indent (w ++ (inside ++ (b.closing ∷ o)))
-    → (now : FlowMoment) → length now.outer < 255 → Calm around now.context → now.adjacent ≤ m.index
+    → (now : FlowMoment) → length now.outer < most_open → Calm around now.context → now.adjacent ≤ m.index
     → StandsBefore around now m (bracket_text b w inside ++ o) → Inside around Is b now.context now.outer m w inside o
     → CollectionPasses around now Is b p m (bracket_text b w inside) o
 bare_collection_passes around p none Is b are m w inside o fits parts parted now low calm before text run =
@@ -84,7 +85,7 @@ collection_behind_properties : (around : Around) (p : Properties) → ReaderProm
     → FitsAround around m ((t ++ v) ++ bracket_text b w inside) o
     → IsProperties p t → v ≢ [] → IsSeparation around.indent v → IsSeparation around.indent w
     → IsParted around.indent (w ++ (inside ++ (b.closing ∷ o)))
-    → (now : FlowMoment) → length now.outer < 255 → Calm around now.context → now.adjacent ≤ m.index
+    → (now : FlowMoment) → length now.outer < most_open → Calm around now.context → now.adjacent ≤ m.index
     → StandsBefore around now m (((t ++ v) ++ bracket_text b w inside) ++ o)
     → Inside around Is b now.context now.outer (moved m (t ++ v)) w inside o
     → CollectionPasses around now Is b p m ((t ++ v) ++ bracket_text b w inside) o
@@ -143,7 +144,7 @@ pub collection_passes : (around : Around) (p : Properties) → ReaderPromises �
     → FitsAround around m (front ++ bracket_text b w inside) o
     → IsBeforeContent p around.indent front → IsSeparation around.indent w
     → IsParted around.indent (w ++ (inside ++ (b.closing ∷ o)))
-    → (now : FlowMoment) → length now.outer < 255 → Calm around now.context → now.adjacent ≤ m.index
+    → (now : FlowMoment) → length now.outer < most_open → Calm around now.context → now.adjacent ≤ m.index
     → StandsBefore around now m ((front ++ bracket_text b w inside) ++ o)
     → Inside around Is b now.context now.outer (moved m front) w inside o
     → CollectionPasses around now Is b p m (front ++ bracket_text b w inside) o

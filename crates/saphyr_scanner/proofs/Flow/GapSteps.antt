@@ -2,7 +2,8 @@
 use Rattle.std.proofs.Common.{◌≡◌, ℕ, suc, ◌+◌, ◌<◌, ◌≤◌, Bool, true, false, List, [], ◌∷◌, length, slice_index, refl, sym, ap, ◌∙◌, arith, subst}
 use Rattle.std.specs.Prelude.{◌||◌, ◌&&◌, ◌==◌, nat_lt}
 use Rattle.std.proofs.lemmas.Bool.Decides.{nat_tests}
-use Rattle.saphyr_input.specs.Classes.{is_blank, is_break, is_yaml_non_break}
+use Rattle.saphyr_input.specs.Indicators.{number_sign}
+use Rattle.saphyr_input.specs.Classes.{is_blank, is_break, is_yaml_non_break, carriage_return, line_feed, tab}
 use Rattle.saphyr_scalar.specs.declared.scalar.position.Marker.{Marker}
 use Rattle.saphyr_scalar.specs.Views.Cursor.{along, next_line}
 use Rattle.saphyr_scanner.proofs.Flow.States.{moved, is_left_tab, past, past_comment, IsInk}
@@ -20,7 +21,8 @@ pub record GapCases (column : ℕ) (P : Marker → List ℕ → Marker × List �
 
 step_kind : (column : ℕ) (P : Marker → List ℕ → Marker × List ℕ → Type 0) → GapCases column P
     → (m : Marker) (c : ℕ) (cs : List ℕ) (is_tab is_white is_line is_sign : Bool) → stops_tab column m c cs ≡ is_tab
-    → (is_blank c || ((c == 13) && (slice_index cs 0 == 10))) ≡ is_white → is_break c ≡ is_line → (c == 35) ≡ is_sign
+    → (is_blank c || ((c == carriage_return) && (slice_index cs 0 == line_feed))) ≡ is_white → is_break c ≡ is_line
+    → (c == number_sign) ≡ is_sign
     → P (along m 1) cs (past column (along m 1) cs) → P (next_line m 1) cs (past column (next_line m 1) cs)
     → P (along m 1) cs (past_comment column (along m 1) cs) → P m (c ∷ cs) (past column m (c ∷ cs))
 step_kind column P steps m c cs true p q r t e f g on line sign =
@@ -39,7 +41,7 @@ step_kind column P steps m c cs false false false false t e f g on line sign =
 pub no_left : (column : ℕ) (m : Marker) (c : ℕ) → is_blank c ≡ false → is_left_tab column m c ≡ false
 no_left column m c h = ap (λ (b : Bool). b && nat_lt m.col column) (no_tab c h)
   where
-    no_tab : (c : ℕ) → is_blank c ≡ false → (c == 9) ≡ false
+    no_tab : (c : ℕ) → is_blank c ≡ false → (c == tab) ≡ false
     no_tab c h = grind (arith, nat_tests)
 
 -- a character that ends a comment and no line
@@ -51,15 +53,16 @@ ends_comment column m c cs e f =
     no_blank : (c : ℕ) → is_yaml_non_break c ≡ false → is_break c ≡ false → is_blank c ≡ false
     no_blank c e f = grind (arith, nat_tests)
 
-    no_return : (c : ℕ) → is_break c ≡ false → (c == 13) ≡ false
+    no_return : (c : ℕ) → is_break c ≡ false → (c == carriage_return) ≡ false
     no_return c f = grind (arith, nat_tests)
 
-    no_sign : (c : ℕ) → is_yaml_non_break c ≡ false → (c == 35) ≡ false
+    no_sign : (c : ℕ) → is_yaml_non_break c ≡ false → (c == number_sign) ≡ false
     no_sign c e = grind (arith, nat_tests)
 
 comment_step : (column : ℕ) (P : Marker → List ℕ → Marker × List ℕ → Type 0) → GapCases column P
     → (m : Marker) (c : ℕ) (cs : List ℕ) (is_word is_return is_line : Bool)
-    → is_yaml_non_break c ≡ is_word → ((c == 13) && (slice_index cs 0 == 10)) ≡ is_return → is_break c ≡ is_line
+    → is_yaml_non_break c ≡ is_word → ((c == carriage_return) && (slice_index cs 0 == line_feed)) ≡ is_return
+    → is_break c ≡ is_line
     → P (along m 1) cs (past_comment column (along m 1) cs) → P (along m 1) cs (past column (along m 1) cs)
     → P (next_line m 1) cs (past column (next_line m 1) cs)
     → P m (c ∷ cs) (past_comment column m (c ∷ cs))

@@ -2,13 +2,14 @@
 use Rattle.std.proofs.Common.{◌≡◌, ℕ, ◌≤◌, Bool, true, false, List, [], ◌∷◌, slice_index, refl, sym, ap, ◌∙◌, arith, subst}
 use Rattle.std.specs.Prelude.{◌||◌, ◌&&◌, ◌==◌, not, nat_lt}
 use Rattle.std.proofs.lemmas.Bool.Decides.{nat_tests}
-use Rattle.saphyr_input.specs.Classes.{is_blank, is_break, is_yaml_non_break}
+use Rattle.saphyr_input.specs.Classes.{is_blank, is_break, is_yaml_non_break, carriage_return, line_feed}
 use Rattle.saphyr_scalar.specs.declared.scalar.position.Marker.{Marker}
 use Rattle.saphyr_scalar.specs.Views.Cursor.{along, next_line}
 use Rattle.saphyr_scanner.specs.Steps.Gap.{stop, is_tab_indentation, end_of_gap, end_of_gap_in_comment}
 use Rattle.saphyr_scanner.proofs.Flow.States.{is_left_tab, past, past_comment, is_filler_rest, is_comment_rest}
 use Rattle.saphyr_input.proofs.Basics.Booleans.{clash, and_true_left, and_true_right}
 use Rattle.std.proofs.lemmas.Bool.{or_parts}
+use Rattle.saphyr_input.specs.Indicators.{number_sign}
 
 -- ## The gap before a token is what is behind it
 
@@ -63,34 +64,36 @@ stop_blank column m c cs h = tab_blank column m c (and_true_left (is_left_tab co
 
 -- ## The rest of a line without a token
 
-feed_rest : (cs : List ℕ) → (slice_index cs 0 == 10) ≡ true → is_filler_rest cs ≡ true
+feed_rest : (cs : List ℕ) → (slice_index cs 0 == line_feed) ≡ true → is_filler_rest cs ≡ true
 feed_rest [] e = refl
 feed_rest (c ∷ cs) e = subst (λ (z : ℕ). is_filler_rest (z ∷ cs) ≡ true) (sym (feed c e)) refl
   where
-    feed : (c : ℕ) → (c == 10) ≡ true → c ≡ 10
+    feed : (c : ℕ) → (c == line_feed) ≡ true → c ≡ line_feed
     feed c e = grind (arith, nat_tests)
 
 -- behind a blank, or CR before LF
-pub rest_on : (c : ℕ) (cs : List ℕ) → (is_blank c || ((c == 13) && (slice_index cs 0 == 10))) ≡ true
+pub rest_on : (c : ℕ) (cs : List ℕ) → (is_blank c || ((c == carriage_return) && (slice_index cs 0 == line_feed))) ≡ true
     → is_filler_rest (c ∷ cs) ≡ true → is_filler_rest cs ≡ true
 rest_on c cs e h = by_blank (is_blank c) refl e
   where
-    by_blank : (b : Bool) → is_blank c ≡ b → (b || ((c == 13) && (slice_index cs 0 == 10))) ≡ true
+    by_blank : (b : Bool) → is_blank c ≡ b → (b || ((c == carriage_return) && (slice_index cs 0 == line_feed))) ≡ true
         → is_filler_rest cs ≡ true
     by_blank true f k = let same : is_filler_rest (c ∷ cs) ≡ is_filler_rest cs = rw f refl in sym same ∙ h
     by_blank false f k = feed_rest cs (and_true_right (c == 13) (slice_index cs 0 == 10) k)
 
 -- behind the sign of a comment
-pub rest_sign : (c : ℕ) (cs : List ℕ) → (is_blank c || ((c == 13) && (slice_index cs 0 == 10))) ≡ false
-    → is_break c ≡ false → (c == 35) ≡ true → is_filler_rest (c ∷ cs) ≡ true → is_comment_rest cs ≡ true
+pub rest_sign : (c : ℕ) (cs : List ℕ)
+    → (is_blank c || ((c == carriage_return) && (slice_index cs 0 == line_feed))) ≡ false
+    → is_break c ≡ false → (c == number_sign) ≡ true → is_filler_rest (c ∷ cs) ≡ true → is_comment_rest cs ≡ true
 rest_sign c cs e f g h =
     let same : is_filler_rest (c ∷ cs) ≡ is_comment_rest cs =
     rw ((or_parts (is_blank c) ((c == 13) && (slice_index cs 0 == 10)) e).0, f, g) refl in
     sym same ∙ h
 
 -- none is the rest that begins with a token
-pub no_rest : (c : ℕ) (cs : List ℕ) → (is_blank c || ((c == 13) && (slice_index cs 0 == 10))) ≡ false
-    → is_break c ≡ false → (c == 35) ≡ false → is_filler_rest (c ∷ cs) ≡ false
+pub no_rest : (c : ℕ) (cs : List ℕ)
+    → (is_blank c || ((c == carriage_return) && (slice_index cs 0 == line_feed))) ≡ false
+    → is_break c ≡ false → (c == number_sign) ≡ false → is_filler_rest (c ∷ cs) ≡ false
 no_rest c cs e f g = rw ((or_parts (is_blank c) ((c == 13) && (slice_index cs 0 == 10)) e).0, f, g) refl
 
 -- behind a character of a comment, and where one ends
@@ -98,7 +101,8 @@ pub word_rest : (c : ℕ) (cs : List ℕ) → is_yaml_non_break c ≡ true → i
     → is_comment_rest cs ≡ true
 word_rest c cs e h = let same : is_comment_rest (c ∷ cs) ≡ is_comment_rest cs = rw e refl in sym same ∙ h
 
-pub return_rest : (c : ℕ) (cs : List ℕ) → ((c == 13) && (slice_index cs 0 == 10)) ≡ true → is_filler_rest cs ≡ true
+pub return_rest : (c : ℕ) (cs : List ℕ) → ((c == carriage_return) && (slice_index cs 0 == line_feed)) ≡ true
+    → is_filler_rest cs ≡ true
 return_rest c cs e = feed_rest cs (and_true_right (c == 13) (slice_index cs 0 == 10) e)
 
 pub no_comment_rest : (c : ℕ) (cs : List ℕ) → is_yaml_non_break c ≡ false → is_break c ≡ false
@@ -112,7 +116,8 @@ no_tab_before b e = absurd (cc)
 -- a tab that ends nothing stands on such a rest, or right of a lower column
 pub tab_rest : (column low : ℕ) (m : Marker) (blank : Bool) (c : ℕ) (cs : List ℕ) (tab : Bool)
     → stops_tab column m c cs ≡ false → low ≤ column
-    → (is_blank c || ((c == 13) && (slice_index cs 0 == 10))) ≡ true → (tab ≡ true → is_filler_rest (c ∷ cs) ≡ true)
+    → (is_blank c || ((c == carriage_return) && (slice_index cs 0 == line_feed))) ≡ true
+    → (tab ≡ true → is_filler_rest (c ∷ cs) ≡ true)
     → (is_tab_indentation low m blank c || tab) ≡ true → is_filler_rest cs ≡ true
 tab_rest column low m blank c cs true t under e h k = rest_on c cs e (h refl)
 tab_rest column low m blank c cs false t under e h k = by_left (is_left_tab column m c) refl t
@@ -141,7 +146,8 @@ stop_plain m blank broke false rest t e h = refl
 
 gap_kind : (column : ℕ) (m : Marker) (blank broke : Bool) (c : ℕ) (cs : List ℕ) (is_tab is_white is_line is_sign : Bool)
     → stops_tab column m c cs ≡ is_tab
-    → (is_blank c || ((c == 13) && (slice_index cs 0 == 10))) ≡ is_white → is_break c ≡ is_line → (c == 35) ≡ is_sign
+    → (is_blank c || ((c == carriage_return) && (slice_index cs 0 == line_feed))) ≡ is_white → is_break c ≡ is_line
+    → (c == number_sign) ≡ is_sign
     → GapPast column (along m 1) blank broke cs → GapPast column (next_line m 1) true true cs
     → CommentPast column (along m 1) blank broke cs → GapPast column m blank broke (c ∷ cs)
 gap_kind column m blank broke c cs true p q r t e f g on line sign =
@@ -188,7 +194,8 @@ gap_kind column m blank broke c cs false false false false t e f g on line sign 
     }
 
 gap_in_comment : (column : ℕ) (m : Marker) (blank broke : Bool) (c : ℕ) (cs : List ℕ) (is_word is_return is_line : Bool)
-    → is_yaml_non_break c ≡ is_word → ((c == 13) && (slice_index cs 0 == 10)) ≡ is_return → is_break c ≡ is_line
+    → is_yaml_non_break c ≡ is_word → ((c == carriage_return) && (slice_index cs 0 == line_feed)) ≡ is_return
+    → is_break c ≡ is_line
     → CommentPast column (along m 1) blank broke cs → GapPast column (along m 1) blank broke cs
     → GapPast column (next_line m 1) true true cs → CommentPast column m blank broke (c ∷ cs)
 gap_in_comment column m blank broke c cs true q r e f g word on line =

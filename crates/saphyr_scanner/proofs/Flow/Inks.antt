@@ -2,6 +2,7 @@
 use Rattle.std.proofs.Common.{◌≡◌, ◌≢◌, ℕ, Bool, true, false, List, [], ◌∷◌, ◌++◌, refl, sym, ap, ◌∙◌, arith, subst, append_assoc, IsTrue, inl, inr, codes}
 use Rattle.std.specs.Prelude.{◌==◌, slice_index, Option, Some, None}
 use Rattle.std.proofs.lemmas.Bool.Decides.{nat_tests}
+use Rattle.saphyr_input.specs.Indicators.{number_sign}
 use Rattle.saphyr_input.specs.Classes.{is_blank, is_break, is_bom}
 use Rattle.scalar_values.specs.declared.flow.Quote.{Quote}
 use Rattle.scalar_values.specs.declared.flow.Quote.TheVariants.{Single, Double}
@@ -73,7 +74,7 @@ front_ink indent p front t o (inr (properties, separation, h, some, parts, e)) i
 
 -- ## Scalars
 
-word_ink : (in_flow : Bool) (c : ℕ) → IsTrue (is_word_ink in_flow c) → c ≢ 35 → IsInk c
+word_ink : (in_flow : Bool) (c : ℕ) → IsTrue (is_word_ink in_flow c) → c ≢ number_sign → IsInk c
 word_ink in_flow c h n =
     record {
       blank = blank in_flow c h;
@@ -94,7 +95,7 @@ word_ink in_flow c h n =
     bom true c h = grind (arith, nat_tests)
     bom false c h = grind (arith, nat_tests)
 
-    sign : (c : ℕ) → c ≢ 35 → (c == 35) ≡ false
+    sign : (c : ℕ) → c ≢ number_sign → (c == number_sign) ≡ false
     sign c n = grind (arith, nat_tests)
 
 words_ink : (in_flow : Bool) (w : List ℕ) → IsWordIn in_flow w → BeginsInk w
@@ -117,7 +118,7 @@ pub plain_key_ink : (in_flow : Bool) (indent : ℕ) (t : List ℕ) → IsPlainKe
 plain_key_ink in_flow indent t (inl ((some, ink, no_comment), begins)) =
     by_word t some ink no_comment
   where
-    by_word : (w : List ℕ) → w ≢ [] → AreIn (is_word_ink in_flow) w → slice_index w 0 ≢ 35 → BeginsInk w
+    by_word : (w : List ℕ) → w ≢ [] → AreIn (is_word_ink in_flow) w → slice_index w 0 ≢ number_sign → BeginsInk w
     by_word [] some ink no_comment = absurd (some refl)
     by_word (c ∷ cs) some ink no_comment = begins_with c cs (c ∷ cs) refl (word_ink in_flow c ink.0 no_comment)
 plain_key_ink in_flow indent t (inr (plain, gap, word, h, gapped, last, e)) =

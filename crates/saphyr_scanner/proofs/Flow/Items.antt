@@ -1,6 +1,7 @@
 -- The entries of brackets inside flow, one behind the other.
 use Rattle.std.proofs.Common.{◌≡◌, ℕ, ◌+◌, ◌<◌, ◌≤◌, Bool, true, false, List, [], ◌∷◌, ◌++◌, length, refl, sym, ap, ◌∙◌, subst, append_assoc, append-nil, ◌⊎◌, inl, inr}
 use Rattle.std.specs.Prelude.{None}
+use Rattle.saphyr_input.specs.Indicators.{question_mark, right_bracket}
 use Rattle.saphyr_scalar.specs.declared.scalar.position.Marker.{Marker}
 use Rattle.saphyr_scanner.specs.declared.engine.level.Context.{Context}
 use Rattle.saphyr_scanner.specs.declared.engine.level.Context.TheVariants as context
@@ -12,6 +13,7 @@ use Rattle.saphyr_scanner.specs.Steps.Level.{Level, is_block, behind_entry, ends
 use Rattle.saphyr_scanner.specs.Steps.State.{State}
 use Rattle.saphyr_scanner.specs.Grammar.Forest.{Properties, Node, Alias, Scalar, Seq, Map, Nodes, NoNode, MoreNodes, NoPair, MorePairs}
 use Rattle.saphyr_scanner.specs.Grammar.FlowNodes.{IsBeforeSeparation, IsSinglePairText, IsSinglePair, IsComma, IsLastComma, IsFlowNode, AreItems, AreOtherItems, IsPairItem}
+use Rattle.saphyr_scanner.specs.Grammar.Layout.{most_open}
 use Rattle.saphyr_scanner.proofs.InFlow.States.{Around, state_at, FlowMoment, moment_in}
 use Rattle.saphyr_scanner.proofs.Flow.States.{FitsAround, moved, past, IsParted, PassesPiece, fresh_key, ended, PassesNode, after, StandsBefore}
 use Rattle.saphyr_scanner.proofs.Flow.Places.{moved_append}
@@ -49,12 +51,12 @@ last_first indent p ch o ends (inr (separation, parts, e)) =
     record { first = 44; others = separation ++ (ch ∷ o); is = ap (λ (x : List ℕ). x ++ (ch ∷ o)) e; ends = inl refl }
 
 others_first : (indent room : ℕ) (nodes : Nodes) (p o : List ℕ) → AreOtherItems room nodes indent p
-    → BeginsEnd (p ++ (93 ∷ o))
+    → BeginsEnd (p ++ (right_bracket ∷ o))
 others_first indent room NoNode p o h = last_first indent p 93 o (inr (inl refl)) h
 others_first indent room (MoreNodes node nodes) p o (comma, item, others, c, i, h, e) =
     subst (λ (t : List ℕ). BeginsEnd (t ++ (93 ∷ o))) (sym e) (comma_first indent comma (item ++ others) (93 ∷ o) c)
 
-pub question_ink : (t others : List ℕ) → t ≡ 63 ∷ others → BeginsInk t
+pub question_ink : (t others : List ℕ) → t ≡ question_mark ∷ others → BeginsInk t
 question_ink t others e =
     begins_with 63 others t e (record { blank = refl; break = refl; comment = refl; byte_order_mark = refl })
 
@@ -95,7 +97,7 @@ item_ink indent room node t (inr h) = pair_item_ink indent room node t h
 
 -- what is inside brackets, up to the closing one
 pub items_ink : (indent room : ℕ) (nodes : Nodes) (p o : List ℕ) → AreItems room nodes indent p
-    → BeginsInk (p ++ (93 ∷ o))
+    → BeginsInk (p ++ (right_bracket ∷ o))
 items_ink indent room NoNode p o e =
     begins_with 93 o (p ++ (93 ∷ o)) (ap (λ (t : List ℕ). t ++ (93 ∷ o)) e) (end_ink 93 (inr (inl refl)))
 items_ink indent room (MoreNodes node nodes) p o (item, others, i, h, e) =
@@ -146,7 +148,7 @@ abbrev pub PassesPairItem : Around → ℕ → Node → Type 0
 PassesPairItem around room node =
     (m : Marker) (t : List ℕ) (c : ℕ) (cs : List ℕ) → FitsAround around m t (c ∷ cs) → EndsEntry c
     → IsPairItem room node around.indent t → (now : FlowMoment) → now.key ≡ None → now.allowed ≡ true
-    → room + length now.outer ≤ 255 → now.adjacent < m.index → StandsBefore around now m (t ++ (c ∷ cs))
+    → room + length now.outer ≤ most_open → now.adjacent < m.index → StandsBefore around now m (t ++ (c ∷ cs))
     → ItemPasses around (state_at around (moment_in context.FlowSequence now)) (IsEntry node) now.outer now.places
     (moved m t) (c ∷ cs)
 
@@ -161,7 +163,7 @@ pair_item_passes {around} room p key value K V m t c cs fits ends h now no_candi
 item_passes : {around : Around} (room : ℕ) (node : Node) → PassesNode around room node → PassesPairItem around room node
     → (m : Marker) (t o : List ℕ) → FitsAround around m t o → BeginsEnd o → IsItem around.indent room node t
     → (now : FlowMoment) → now.key ≡ None → now.allowed ≡ true
-    → room + length now.outer ≤ 255 → now.adjacent < m.index → StandsBefore around now m (t ++ o)
+    → room + length now.outer ≤ most_open → now.adjacent < m.index → StandsBefore around now m (t ++ o)
     → ItemPasses around (state_at around (moment_in context.FlowSequence now)) (IsEntry node) now.outer now.places
     (moved m t) o
 item_passes {around} room node N P m t o fits b h now no_candidate fresh low before text =
@@ -198,7 +200,8 @@ PassesOtherItems around room nodes =
     (m : Marker) (p o : List ℕ) → AreOtherItems room nodes around.indent p → FitsAround around m p (93 ∷ o)
     → (x : Context)
     → is_block x ≡ false → behind_entry x ≡ context.FlowSequence
-    → (now : FlowMoment) → room + length now.outer ≤ 255 → now.adjacent ≤ (past around.indent m (p ++ (93 ∷ o))).0.index
+    → (now : FlowMoment) → room + length now.outer ≤ most_open
+    → now.adjacent ≤ (past around.indent m (p ++ (93 ∷ o))).0.index
     → StandsBefore around now m (p ++ (93 ∷ o))
     → OthersPass around (state_at around (moment_in x now)) x nodes now.outer now.places (moved m p) (93 ∷ o)
 
@@ -296,7 +299,8 @@ others_pass {around} room node nodes N P O m p o (comma, item, others, c, i, h, 
 abbrev pub PassesItems : Around → ℕ → Nodes → Type 0
 PassesItems around room nodes =
     (m : Marker) (p o : List ℕ) → AreItems room nodes around.indent p → FitsAround around m p (93 ∷ o)
-    → (now : FlowMoment) → now.key ≡ None → now.allowed ≡ true → room + length now.outer ≤ 255 → now.adjacent < m.index
+    → (now : FlowMoment) → now.key ≡ None → now.allowed ≡ true → room + length now.outer ≤ most_open
+    → now.adjacent < m.index
     → StandsBefore around now m (p ++ (93 ∷ o))
     → ItemPasses around (state_at around (moment_in context.FlowSequence now)) (grammar.YieldFlowEntries nodes)
     now.outer now.places (moved m p) (93 ∷ o)

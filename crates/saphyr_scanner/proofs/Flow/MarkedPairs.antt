@@ -1,6 +1,7 @@
 -- Pairs that a `?` begins, inside flow.
 use Rattle.std.proofs.Common.{◌≡◌, ℕ, ◌+◌, ◌<◌, ◌≤◌, Bool, true, false, List, [], ◌∷◌, ◌++◌, length, refl, sym, ap, ◌∙◌, arith, subst, append_assoc, ◌⊎◌, inl, inr}
 use Rattle.std.specs.Prelude.{None}
+use Rattle.saphyr_input.specs.Indicators.{comma, question_mark, right_brace, right_bracket}
 use Rattle.saphyr_scalar.specs.declared.scalar.position.Marker.{Marker}
 use Rattle.saphyr_scanner.specs.declared.engine.level.Context.{Context}
 use Rattle.saphyr_scanner.specs.Grammar.Tokens as tokens
@@ -9,6 +10,7 @@ use Rattle.saphyr_scanner.specs.Grammar.TokenGrammar as grammar
 use Rattle.saphyr_scanner.specs.Steps.Level.{is_block, behind_question, begins_pair, behind_colon}
 use Rattle.saphyr_scanner.specs.Grammar.Forest.{Node, left_out}
 use Rattle.saphyr_scanner.specs.Grammar.FlowNodes.{IsColonAndValue, IsKeyAndValue, IsValueAlone, IsBehindMark, IsExplicitPair, IsLoneMark, IsFlowNode}
+use Rattle.saphyr_scanner.specs.Grammar.Layout.{most_open}
 use Rattle.saphyr_scanner.proofs.InFlow.States.{Around, state_at, FlowMoment, moment_in}
 use Rattle.saphyr_scanner.proofs.Flow.States.{FitsAround, moved, past, IsInk, IsParted, PassesPiece, no_key, ended, PassesNode, after, StandsBefore}
 use Rattle.saphyr_scanner.proofs.Flow.Places.{moved_append}
@@ -36,11 +38,13 @@ pub record IsMarked (y z : Context) : Type 0 where
 
 -- the `?` and the separation behind it
 mark_behind : (around : Around) (y z : Context) → IsMarked y z → (m : Marker) (separation o : List ℕ)
-    → FitsAround around m (63 ∷ separation) o → IsBehindMark around.indent separation → (first : ℕ) (others : List ℕ)
+    → FitsAround around m (question_mark ∷ separation) o → IsBehindMark around.indent separation
+    → (first : ℕ) (others : List ℕ)
     → o ≡ first ∷ others → IsInk first → (now : FlowMoment) → now.adjacent ≤ m.index
-    → StandsBefore around now m (63 ∷ (separation ++ o))
-    → PassesPiece around (state_at around (moment_in y now)) (no_key (moved m (63 ∷ separation))) z now.outer now.places
-    (moved m (63 ∷ separation)) o (tokens.Key ∷ [])
+    → StandsBefore around now m (question_mark ∷ (separation ++ o))
+    → PassesPiece around (state_at around (moment_in y now)) (no_key (moved m (question_mark ∷ separation))) z now.outer
+    now.places
+    (moved m (question_mark ∷ separation)) o (tokens.Key ∷ [])
 mark_behind around y z c m separation o fits (some, parts, tabs) first others is ink now before text =
     let parted : IsParted around.indent (separation ++ o) =
     record {
@@ -100,7 +104,7 @@ inside_passes : {around : Around} (room : ℕ) (key value : Node) → PassesNode
     → FitsAround around m t o
     → IsBehindEntry around.indent o → Inside around.indent room key value t
     → (now : FlowMoment) → now.key ≡ None → now.allowed ≡ false
-    → room + length now.outer ≤ 255 → now.adjacent < m.index → StandsBefore around now m (t ++ o)
+    → room + length now.outer ≤ most_open → now.adjacent < m.index → StandsBefore around now m (t ++ o)
     → TellsPiece around (state_at around (moment_in z now)) (InsideTokens key value) z now.outer now.places (moved m t)
     o
 inside_passes {around} room key value K V y z c m t o fits ends (inl (none, h)) now no_candidate none_allowed
@@ -150,7 +154,8 @@ pub explicit_passes : {around : Around} (room : ℕ) (key value : Node) → Pass
     → FitsAround around m t o → IsBehindEntry around.indent o
     → IsExplicitPair key value (IsFlowNode room key true around.indent) (IsFlowNode room value true around.indent)
     around.indent t
-    → (now : FlowMoment) → room + length now.outer ≤ 255 → now.adjacent < m.index → StandsBefore around now m (t ++ o)
+    → (now : FlowMoment) → room + length now.outer ≤ most_open → now.adjacent < m.index
+    → StandsBefore around now m (t ++ o)
     → TellsPiece around (state_at around (moment_in y now)) (MarkedTokens key value) z now.outer now.places (moved m t)
     o
 explicit_passes {around} room key value K V y z c m t o fits ends (separation, pair, mark, h, e) now low before text =
@@ -178,7 +183,7 @@ upto a b c h k = omega (arith, h, k)
 -- a `?` alone
 pub lone_passes : {around : Around} (key value : Node) (y z : Context) → IsMarked y z
     → (m : Marker) (t : List ℕ) (c : ℕ) (cs : List ℕ) → FitsAround around m t (c ∷ cs)
-    → (c ≡ 44) ⊎ ((c ≡ 93) ⊎ (c ≡ 125))
+    → (c ≡ comma) ⊎ ((c ≡ right_bracket) ⊎ (c ≡ right_brace))
     → IsLoneMark key value around.indent t → (now : FlowMoment) → now.adjacent < m.index
     → StandsBefore around now m (t ++ (c ∷ cs))
     → TellsPiece around (state_at around (moment_in y now)) (MarkedTokens key value) z now.outer now.places (moved m t)

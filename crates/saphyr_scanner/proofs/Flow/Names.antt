@@ -1,6 +1,7 @@
 -- The anchors, aliases and tags of a text in flow style are passed.
 use Rattle.std.proofs.Common.{◌≡◌, ℕ, ◌+◌, ◌≤◌, Bool, false, List, [], ◌∷◌, ◌++◌, length, slice_index, refl, sym, ap, ◌∙◌, arith, subst, encode_utf8_all}
 use Rattle.std.specs.Prelude.{◌==◌, not, Option}
+use Rattle.saphyr_input.specs.Indicators.{ampersand, asterisk}
 use Rattle.saphyr_input.specs.Classes.{is_break, is_anchor_char, line_feed}
 use Rattle.saphyr_scalar.specs.declared.scalar.position.Marker.{Marker}
 use Rattle.saphyr_scalar.specs.Views.Cursor.{Cursor, ◌>>=◌, along}
@@ -105,7 +106,7 @@ pub begins_alias : (second n : ℕ) (c : Core) → step 42 second n c ≡ proper
 unfolding step
 begins_alias second n c = refl
 
-pub anchor_first : (name : List ℕ) → Begins (38 ∷ name)
+pub anchor_first : (name : List ℕ) → Begins (ampersand ∷ name)
 anchor_first name = record {
   first = 38;
   others = name;
@@ -115,7 +116,7 @@ anchor_first name = record {
   directive = refl;
 }
 
-pub alias_first : (name : List ℕ) → Begins (42 ∷ name)
+pub alias_first : (name : List ℕ) → Begins (asterisk ∷ name)
 alias_first name = record {
   first = 42;
   others = name;

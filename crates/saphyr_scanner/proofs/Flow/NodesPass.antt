@@ -5,6 +5,7 @@ use Rattle.saphyr_scanner.specs.Grammar.Tokens as tokens
 use Rattle.saphyr_scanner.specs.Steps.Level.{is_block}
 use Rattle.saphyr_scanner.specs.Grammar.Forest.{Style, Properties, Node, Alias, Scalar, Seq, Map, Nodes, NoNode, MoreNodes, Pairs, NoPair, MorePairs}
 use Rattle.saphyr_scanner.specs.Grammar.FlowNodes.{IsFlowNode}
+use Rattle.saphyr_scanner.specs.Grammar.Layout.{most_open}
 use Rattle.saphyr_scanner.proofs.InFlow.States.{Around, FlowMoment, root_moment}
 use Rattle.saphyr_scanner.proofs.Flow.States.{moved, past, FitsAround, IsParted, IsBehindNode, ReaderPromises, after_node, NodePasses, PassesNode, ClosesNode, ClosesNodes, StandsBefore, key_behind}
 use Rattle.saphyr_scanner.proofs.Flow.GapSteps.{past_ink}
@@ -39,7 +40,7 @@ abbrev PassesWhole : Around → ℕ → Node → Type 0
 PassesWhole around room node =
     (m : Marker) (p o : List ℕ) → IsFlowNode room node true around.indent p → FitsAround around m p o
     → IsBehindNode around.indent node o
-    → (now : FlowMoment) → now.adjacent < m.index → is_block now.context ≡ false → room + length now.outer ≤ 255
+    → (now : FlowMoment) → now.adjacent < m.index → is_block now.context ≡ false → room + length now.outer ≤ most_open
     → StandsBefore around now m (p ++ o) → NodePasses around now node m p o
 
 sequence_passes : {around : Around} → ReaderPromises → (room : ℕ) (p : Properties) (nodes : Nodes)
@@ -90,14 +91,15 @@ at_ink indent m t o ad b h =
     subst (λ (q : Marker × List ℕ). ad ≤ q.0.index)
     (ap (λ (x : List ℕ). past indent m (x ++ o)) b.is ∙ past_ink indent m b.first (b.others ++ o) b.ink) h
 
-all_room : 255 + 0 ≤ 255
+all_room : most_open + 0 ≤ most_open
 all_room = omega arith
 
 sequence_closes : {around : Around} → ReaderPromises → (p : Properties) (nodes : Nodes)
     → ((left : ℕ) → PassesItems around left nodes) → around.required ≡ false → ClosesNode around (Seq p nodes)
 sequence_closes {around} reads p nodes items none_required m t o h fits behind now before text =
-    let low = at_ink around.indent m t o now.adjacent (node_ink around.indent 255 (Seq p nodes) false t h) before in
-    let c = sequence_run reads 255 p nodes false items m t o h fits (root_moment now)
+    let low =
+    at_ink around.indent m t o now.adjacent (node_ink around.indent most_open (Seq p nodes) false t h) before in
+    let c = sequence_run reads most_open p nodes false items m t o h fits (root_moment now)
     (λ e right. ends_root around.indent e (moved m t) o behind right) all_room
     (calm_at_root around fits.calm none_required) low text in
     record {
@@ -116,8 +118,9 @@ sequence_closes {around} reads p nodes items none_required m t o h fits behind n
 mapping_closes : {around : Around} → ReaderPromises → (p : Properties) (pairs : Pairs)
     → ((left : ℕ) → PassesPairs around left pairs) → around.required ≡ false → ClosesNode around (Map p pairs)
 mapping_closes {around} reads p pairs members none_required m t o h fits behind now before text =
-    let low = at_ink around.indent m t o now.adjacent (node_ink around.indent 255 (Map p pairs) false t h) before in
-    let c = mapping_run reads 255 p pairs false members m t o h fits (root_moment now)
+    let low =
+    at_ink around.indent m t o now.adjacent (node_ink around.indent most_open (Map p pairs) false t h) before in
+    let c = mapping_run reads most_open p pairs false members m t o h fits (root_moment now)
     (λ e right. ends_root around.indent e (moved m t) o behind right) all_room
     (calm_at_root around fits.calm none_required) low text in
     record {
@@ -137,7 +140,7 @@ mapping_closes {around} reads p pairs members none_required m t o h fits behind 
 abbrev KeyPasses : Around → ℕ → Properties → Style → List ℕ → Marker → List ℕ → List ℕ → Type 0
 KeyPasses around room p style value m t o =
     FitsAround around m t o → IsBehindNode around.indent (Scalar p style value) o
-    → (now : FlowMoment) → now.adjacent < m.index → is_block now.context ≡ false → room + length now.outer ≤ 255
+    → (now : FlowMoment) → now.adjacent < m.index → is_block now.context ≡ false → room + length now.outer ≤ most_open
     → StandsBefore around now m (t ++ o) → NodePasses around now (Scalar p style value) m t o
 
 -- ## All nodes

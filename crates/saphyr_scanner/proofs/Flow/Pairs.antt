@@ -12,6 +12,7 @@ use Rattle.saphyr_scanner.specs.Steps.Level.{Level, is_block, begins_pair, behin
 use Rattle.saphyr_scanner.specs.Steps.State.{State}
 use Rattle.saphyr_scanner.specs.Grammar.Forest.{Node, left_out}
 use Rattle.saphyr_scanner.specs.Grammar.FlowNodes.{allows_adjacent, IsColonAndValue, IsBeforeColon, IsKeyAndValue, IsValueAlone, IsFlowNode, IsKeyText}
+use Rattle.saphyr_scanner.specs.Grammar.Layout.{most_open}
 use Rattle.saphyr_scanner.proofs.InFlow.States.{Around, state_at, FlowMoment, moment_in}
 use Rattle.saphyr_scanner.proofs.Flow.States.{moved, past, FitsAround, IsInk, IsParted, ends_colon, IsBehindNode, Known, PassesPiece, no_key, ended, after_node, IsAfterNode, IsNodeOrKey, PassesNode, after, StandsBefore, key_behind}
 use Rattle.saphyr_scanner.proofs.Flow.Places.{moved_append, right_one}
@@ -58,7 +59,7 @@ IsValueText indent room value rest =
 pub value_behind : {around : Around} {start : Bool → State} {ls : List Level} {ps : List Place} {ts : List Kind}
     (room : ℕ) (value : Node) → PassesNode around room value → (y : Context) → is_block y ≡ false
     → (m : Marker) (rest o : List ℕ)
-    → FitsAround around m rest o → IsBehindEntry around.indent o → room + length ls ≤ 255
+    → FitsAround around m rest o → IsBehindEntry around.indent o → room + length ls ≤ most_open
     → IsValueText around.indent room value rest → PassesPiece around start (no_key m) y ls ps m (rest ++ o) ts
     → TellsPiece around start (λ t. (vs : List Kind) × ValueTokens value vs × (t ≡ ts ++ vs)) y ls ps (moved m rest) o
 value_behind {around} {start} {ls} {ps} {ts} room value V y flows m rest o fits ends low (inl (none, e)) p =
@@ -169,7 +170,7 @@ pub key_passes : {around : Around} (room : ℕ) (key value : Node) → PassesNod
     → (h : IsKeyAndValue key value (IsFlowNode room key true around.indent) (IsFlowNode room value true around.indent)
     around.indent t) → (begins_pair y ≡ true → m.line ≡ (moved (moved m h.0) h.1).line)
     → (now : FlowMoment) → now.allowed ≡ true
-    → room + length now.outer ≤ 255 → now.adjacent < m.index → StandsBefore around now m (t ++ o)
+    → room + length now.outer ≤ most_open → now.adjacent < m.index → StandsBefore around now m (t ++ o)
     → TellsPiece around (state_at around (moment_in y now)) (PairTokens (key_kinds (begins_pair y)) key value)
     (behind_colon y) now.outer now.places (moved m t) o
 key_passes {around} room key value K V y flows m t o fits ends (node, separation, colon, h, parts, apart, c, e) line now
@@ -221,7 +222,7 @@ pub alone_passes : {around : Around} (room : ℕ) (key value : Node) → PassesN
     → is_block y ≡ false → (m : Marker) (t o : List ℕ) → FitsAround around m t o → IsBehindEntry around.indent o
     → IsValueAlone key value (IsFlowNode room value true around.indent) around.indent t
     → (now : FlowMoment) → now.key ≡ None
-    → room + length now.outer ≤ 255 → now.adjacent < m.index → StandsBefore around now m (t ++ o)
+    → room + length now.outer ≤ most_open → now.adjacent < m.index → StandsBefore around now m (t ++ o)
     → TellsPiece around (state_at around (moment_in y now)) (AloneTokens (alone_kinds (begins_pair y)) value)
     (behind_colon y) now.outer now.places (moved m t) o
 alone_passes {around} room key value V y flows m t o fits ends (none, c) now no_candidate low before text =
@@ -263,7 +264,7 @@ pub marked_key_passes : {around : Around} (room : ℕ) (key value : Node) → Pa
     → (m : Marker) (t o : List ℕ) → FitsAround around m t o → IsBehindEntry around.indent o
     → IsKeyAndValue key value (IsFlowNode room key true around.indent) (IsFlowNode room value true around.indent)
     around.indent t → (now : FlowMoment) → now.key ≡ None → now.allowed ≡ false
-    → room + length now.outer ≤ 255 → now.adjacent < m.index → StandsBefore around now m (t ++ o)
+    → room + length now.outer ≤ most_open → now.adjacent < m.index → StandsBefore around now m (t ++ o)
     → TellsPiece around (state_at around (moment_in y now)) (PairTokens [] key value) (behind_colon y) now.outer
     now.places
     (moved m t) o

@@ -2,7 +2,8 @@
 use Rattle.std.proofs.Common.{◌≡◌, ◌≢◌, ℕ, ◌+◌, ◌≤◌, true, List, [], ◌∷◌, ◌++◌, length, slice_index, refl, sym, ap, arith, subst, append_assoc, IsTrue, ◌⊎◌, inl, inr}
 use Rattle.std.specs.Prelude.{◌||◌, ◌==◌}
 use Rattle.std.proofs.lemmas.Bool.Decides.{nat_tests}
-use Rattle.saphyr_input.specs.Classes.{is_blank, is_blank_or_breakz}
+use Rattle.saphyr_input.specs.Indicators.{colon, comma, right_brace, right_bracket}
+use Rattle.saphyr_input.specs.Classes.{is_blank, is_blank_or_breakz, line_feed}
 use Rattle.saphyr_scalar.specs.declared.scalar.position.Marker.{Marker}
 use Rattle.saphyr_scalar.specs.Spelling.Spaces.{IsSeparation}
 use Rattle.saphyr_scanner.specs.Grammar.Forest.{Node}
@@ -50,9 +51,9 @@ pub record IsBehindEntry (indent : ℕ) (o : List ℕ) : Type 0 where
   pub others : List ℕ
   pub is : o ≡ separation ++ (first ∷ others)
   pub parts : IsSeparation indent separation
-  pub ends : (first ≡ 44) ⊎ ((first ≡ 93) ⊎ (first ≡ 125))
+  pub ends : (first ≡ comma) ⊎ ((first ≡ right_bracket) ⊎ (first ≡ right_brace))
 
-pub end_ink : (c : ℕ) → (c ≡ 44) ⊎ ((c ≡ 93) ⊎ (c ≡ 125)) → IsInk c
+pub end_ink : (c : ℕ) → (c ≡ comma) ⊎ ((c ≡ right_bracket) ⊎ (c ≡ right_brace)) → IsInk c
 end_ink c (inl e) = subst IsInk (sym e) (record { blank = refl; break = refl; comment = refl; byte_order_mark = refl })
 end_ink c (inr (inl e)) =
     subst IsInk (sym e) (record { blank = refl; break = refl; comment = refl; byte_order_mark = refl })
@@ -70,9 +71,9 @@ entry_behind indent node o h =
       ends = by_end h.ends;
     }
   where
-    by_end : (h.first ≡ 44) ⊎ ((h.first ≡ 93) ⊎ (h.first ≡ 125))
-        → (h.first ≡ 44) ⊎ ((h.first ≡ 93)
-        ⊎ ((h.first ≡ 125) ⊎ ((h.first ≡ 58) × IsBeforeColon node h.separation
+    by_end : (h.first ≡ comma) ⊎ ((h.first ≡ right_bracket) ⊎ (h.first ≡ right_brace))
+        → (h.first ≡ comma) ⊎ ((h.first ≡ right_bracket)
+        ⊎ ((h.first ≡ right_brace) ⊎ ((h.first ≡ colon) × IsBeforeColon node h.separation
         × (IsTrue (allows_adjacent node h.separation) ⊎ IsTrue (ends_colon (slice_index h.others 0))))))
     by_end (inl e) = inl e
     by_end (inr (inl e)) = inr (inl e)
@@ -90,7 +91,8 @@ entry_parted indent o h =
     }
 
 -- more separation before what ends an entry
-pub wider_entry : (indent : ℕ) (w c_others : List ℕ) (c : ℕ) → IsSeparation indent w → (c ≡ 44) ⊎ ((c ≡ 93) ⊎ (c ≡ 125))
+pub wider_entry : (indent : ℕ) (w c_others : List ℕ) (c : ℕ) → IsSeparation indent w
+    → (c ≡ comma) ⊎ ((c ≡ right_bracket) ⊎ (c ≡ right_brace))
     → IsBehindEntry indent (w ++ (c ∷ c_others))
 wider_entry indent w others c parts ends =
     record { separation = w; first = c; others = others; is = refl; parts = parts; ends = ends }
@@ -107,10 +109,11 @@ ink_parted indent w t o parts b =
       ink = b.ink;
     }
 
-white_ends : (c : ℕ) → (is_blank c ≡ true) ⊎ (c ≡ 10) → IsTrue (ends_colon c)
+white_ends : (c : ℕ) → (is_blank c ≡ true) ⊎ (c ≡ line_feed) → IsTrue (ends_colon c)
 white_ends c (inl h) = blank c h
   where
-    blank : (c : ℕ) → is_blank c ≡ true → (is_blank_or_breakz c || (c == 44) || (c == 93) || (c == 125)) ≡ true
+    blank : (c : ℕ) → is_blank c ≡ true
+        → (is_blank_or_breakz c || (c == comma) || (c == right_bracket) || (c == right_brace)) ≡ true
     blank c h = grind (arith, nat_tests)
 white_ends c (inr e) = subst (λ (z : ℕ). IsTrue (ends_colon z)) (sym e) refl
 
@@ -126,7 +129,7 @@ pub entry_ends_colon : (indent : ℕ) (o : List ℕ) → IsBehindEntry indent o 
 entry_ends_colon indent o h =
     subst (λ (t : List ℕ). IsTrue (ends_colon (slice_index t 0))) (sym h.is) (by_separation h.separation h.parts)
   where
-    end : (c : ℕ) → (c ≡ 44) ⊎ ((c ≡ 93) ⊎ (c ≡ 125)) → IsTrue (ends_colon c)
+    end : (c : ℕ) → (c ≡ comma) ⊎ ((c ≡ right_bracket) ⊎ (c ≡ right_brace)) → IsTrue (ends_colon c)
     end c (inl e) = subst (λ (z : ℕ). IsTrue (ends_colon z)) (sym e) refl
     end c (inr (inl e)) = subst (λ (z : ℕ). IsTrue (ends_colon z)) (sym e) refl
     end c (inr (inr e)) = subst (λ (z : ℕ). IsTrue (ends_colon z)) (sym e) refl

@@ -3,7 +3,8 @@ use Rattle.std.proofs.Common.{◌≡◌, ◌≢◌, ℕ, ◌<◌, ◌≤◌, Boo
 use Rattle.std.specs.Prelude.{◌||◌, ◌&&◌, ◌==◌, if◌then◌else◌}
 use Rattle.std.proofs.lemmas.Bool.{false≢true}
 use Rattle.std.proofs.lemmas.Bool.Decides.{nat_tests}
-use Rattle.saphyr_input.specs.Classes.{is_blank, is_break, is_blank_or_breakz, is_flow}
+use Rattle.saphyr_input.specs.Indicators.{colon, comma, number_sign, right_brace, right_bracket}
+use Rattle.saphyr_input.specs.Classes.{is_blank, is_break, is_blank_or_breakz, is_flow, carriage_return}
 use Rattle.saphyr_input.specs.Places.{is_blank_or_break, is_document_indicator}
 use Rattle.saphyr_scalar.specs.declared.scalar.position.Marker.{Marker}
 use Rattle.saphyr_scalar.specs.Views.Cursor.{Cursor, along, next_line}
@@ -50,13 +51,13 @@ reaches column m o inked =
     no_break : (c : ℕ) → is_blank_or_break c ≡ false → is_break c ≡ false
     no_break c h = grind (arith, nat_tests)
 
-    no_return : (c : ℕ) → is_blank_or_break c ≡ false → (c == 13) ≡ false
+    no_return : (c : ℕ) → is_blank_or_break c ≡ false → (c == carriage_return) ≡ false
     no_return c h = grind (arith, nat_tests)
 
-    sign : (c : ℕ) → (c == 35) ≡ true → c ≡ 35
+    sign : (c : ℕ) → (c == number_sign) ≡ true → c ≡ number_sign
     sign c e = grind (arith, nat_tests)
 
-    by_sign : (n : Marker) (c : ℕ) (cs : List ℕ) (is : Bool) → (c == 35) ≡ is → is_blank_or_break c ≡ false
+    by_sign : (n : Marker) (c : ℕ) (cs : List ℕ) (is : Bool) → (c == number_sign) ≡ is → is_blank_or_break c ≡ false
         → past column n (c ∷ cs) ≡ past column m o → Reaches column m o n (c ∷ cs)
     by_sign n c cs true e h k = inr (inl (sign c e))
     by_sign n c cs false e h k =
@@ -78,7 +79,7 @@ no_word f t e = rw e refl
 colon_ends : (c : ℕ) → IsTrue (ends_colon c) → (is_blank_or_breakz c || (true && is_flow c)) ≡ true
 colon_ends c h = by_blank (is_blank_or_breakz c) refl h
   where
-    flow : (c : ℕ) → ((c == 44) || (c == 93) || (c == 125)) ≡ true → is_flow c ≡ true
+    flow : (c : ℕ) → ((c == comma) || (c == right_bracket) || (c == right_brace)) ≡ true → is_flow c ≡ true
     flow c e = grind (arith, nat_tests)
 
     parts : (b p q r : Bool) → b ≡ false → (b || p || q || r) ≡ true → (p || q || r) ≡ true
@@ -86,12 +87,12 @@ colon_ends c h = by_blank (is_blank_or_breakz c) refl h
     parts false p q r e k = k
 
     by_blank : (b : Bool) → is_blank_or_breakz c ≡ b
-        → (is_blank_or_breakz c || (c == 44) || (c == 93) || (c == 125)) ≡ true
+        → (is_blank_or_breakz c || (c == comma) || (c == right_bracket) || (c == right_brace)) ≡ true
         → (is_blank_or_breakz c || (true && is_flow c)) ≡ true
     by_blank true e k = rw e refl
     by_blank false e k = rw e (flow c (parts (is_blank_or_breakz c) (c == 44) (c == 93) (c == 125) e k))
 
-colon_stops : (others : List ℕ) → IsTrue (ends_colon (slice_index others 0)) → is_in_word true (58 ∷ others) ≡ false
+colon_stops : (others : List ℕ) → IsTrue (ends_colon (slice_index others 0)) → is_in_word true (colon ∷ others) ≡ false
 unfolding is_in_word
 colon_stops others h = rw (colon_ends (slice_index others 0) h) refl
 
@@ -112,7 +113,7 @@ word_stops node w c others apart (inr (inr (inr (e, before, inr ends)))) =
 
 -- ## Ends
 
-ends_no_sign : (node : Node) (c : ℕ) → EndsHere node c → c ≢ 35
+ends_no_sign : (node : Node) (c : ℕ) → EndsHere node c → c ≢ number_sign
 ends_no_sign node c h e = absurd (by_end (subst (EndsHere node) e h))
   where
     by_end : EndsHere node 35 → ⊥
@@ -162,7 +163,7 @@ ends_at_root column m o h right =
     inked : is_blank (slice_index (past column m o).1 0) ≡ false
     inked = lands_on_ink column (past column m o).0 (past column m o).1 (h.lands right)
 
-    other : (c : ℕ) → IsTrue (is_blank_or_breakz c) → c ≢ 35
+    other : (c : ℕ) → IsTrue (is_blank_or_breakz c) → c ≢ number_sign
     other c k e = absurd (false≢true (subst (λ (d : ℕ). IsTrue (is_blank_or_breakz d)) e k))
 
     low : (a b c : ℕ) → a ≤ b → b < c → c ≤ a → ⊥

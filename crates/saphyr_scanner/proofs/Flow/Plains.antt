@@ -36,6 +36,7 @@ use Rattle.saphyr_scanner.proofs.InBlock.Crossings.{white_crosses}
 use Rattle.saphyr_input.proofs.Basics.Booleans.{other_than, and_false}
 use Rattle.saphyr_scalar.proofs.Given.{cursor_at}
 use Rattle.std.proofs.lemmas.Bool.{ne_eqb, eqb-true}
+use Rattle.saphyr_input.specs.Indicators.{hyphen, question_mark, number_sign}
 use Rattle.saphyr_scanner.proofs.Queues.{token_place}
 use Rattle.saphyr_scanner.proofs.Levels.{saved}
 
@@ -48,8 +49,8 @@ pub record BeginsWord (f : Bool) (t o : List ℕ) : Type 0 where
   pub is : t ≡ first ∷ others
   pub begins : IsTrue (begins_plain first)
   pub ink : IsTrue (is_word_ink f first)
-  pub no_comment : first ≢ 35
-  pub further : (first ≡ 45) ⊎ ((first ≡ 63) ⊎ (first ≡ 58))
+  pub no_comment : first ≢ number_sign
+  pub further : (first ≡ hyphen) ⊎ ((first ≡ question_mark) ⊎ (first ≡ 58))
       → IsTrue (is_word_ink f (slice_index (others ++ o) 0))
 
 pub word_begins : (f : Bool) (indent : ℕ) (t o : List ℕ) → IsPlain f indent t → BeginsWord f t o
@@ -59,13 +60,14 @@ word_begins f indent t o (word, others, (is_word, begins, no_dash, no_mark, no_c
     lone : (c d : ℕ) → c ≡ d → (c ∷ []) ≢ (d ∷ []) → ⊥
     lone c d e other = other (ap (λ (z : ℕ). z ∷ []) e)
 
-    by_word : (w : List ℕ) → w ≢ [] → AreWordInk f w → slice_index w 0 ≢ 35 → IsTrue (begins_plain (slice_index w 0))
-        → w ≢ 45 ∷ [] → w ≢ 63 ∷ [] → w ≢ 58 ∷ [] → t ≡ w ++ others → BeginsWord f t o
+    by_word : (w : List ℕ) → w ≢ [] → AreWordInk f w → slice_index w 0 ≢ number_sign
+        → IsTrue (begins_plain (slice_index w 0))
+        → w ≢ hyphen ∷ [] → w ≢ question_mark ∷ [] → w ≢ 58 ∷ [] → t ≡ w ++ others → BeginsWord f t o
     by_word [] some ink sign b dash mark colon e = absurd (some refl)
     by_word (c ∷ []) some ink sign b dash mark colon e =
         record { first = c; others = others; is = e; begins = b; ink = ink.0; no_comment = sign; further = alone }
       where
-        alone : (c ≡ 45) ⊎ ((c ≡ 63) ⊎ (c ≡ 58)) → IsTrue (is_word_ink f (slice_index (others ++ o) 0))
+        alone : (c ≡ hyphen) ⊎ ((c ≡ question_mark) ⊎ (c ≡ 58)) → IsTrue (is_word_ink f (slice_index (others ++ o) 0))
         alone (inl k) = absurd (lone c 45 k dash)
         alone (inr (inl k)) = absurd (lone c 63 k mark)
         alone (inr (inr k)) = absurd (lone c 58 k colon)
@@ -84,7 +86,7 @@ word_begins f indent t o (word, others, (is_word, begins, no_dash, no_mark, no_c
 pub key_begins : (f : Bool) (indent : ℕ) (t r : List ℕ) → IsPlainKey f indent t → BeginsWord f t (58 ∷ r)
 key_begins f indent t r (inl ((some, ink, sign), begins)) = by_word t some ink sign begins
   where
-    by_word : (w : List ℕ) → w ≢ [] → AreIn (is_word_ink f) w → slice_index w 0 ≢ 35
+    by_word : (w : List ℕ) → w ≢ [] → AreIn (is_word_ink f) w → slice_index w 0 ≢ number_sign
         → IsTrue (begins_plain (slice_index w 0)) → BeginsWord f w (58 ∷ r)
     by_word [] some ink sign b = absurd (some refl)
     by_word (c ∷ []) some ink sign b = record {
@@ -167,7 +169,8 @@ value_test false first second i ad h (inr low) = by_first (first == 58) refl
     by_first false e = rw e refl
 
 pub plain_begins : (first second n : ℕ) (c : Core) → IsTrue (begins_plain first)
-    → ((first == 45) && is_blank_or_breakz second) ≡ false → ((first == 63) && is_blank_or_breakz second) ≡ false
+    → ((first == hyphen) && is_blank_or_breakz second) ≡ false
+    → ((first == question_mark) && is_blank_or_breakz second) ≡ false
     → ((first == 58) && is_blank_or_breakz second) ≡ false
     → ((first == 58) && is_value_adjacent second c) ≡ false → step first second n c ≡ scalar.plain_steps n c
 unfolding step
@@ -255,7 +258,8 @@ plain_dispatches around d s n t o x w k ls a ad low =
     (lone_test f first 58 second (λ e. at_second (inr (inr e))))
     (value_test (is_block x) first second s.mark.index ad (λ e. at_second (inr (inr e))) low)
   where
-    second_ink : (f : Bool) (t o : List ℕ) (w : BeginsWord f t o) → (w.first ≡ 45) ⊎ ((w.first ≡ 63) ⊎ (w.first ≡ 58))
+    second_ink : (f : Bool) (t o : List ℕ) (w : BeginsWord f t o)
+        → (w.first ≡ hyphen) ⊎ ((w.first ≡ question_mark) ⊎ (w.first ≡ 58))
         → IsTrue (is_word_ink f (slice_index (t ++ o) 1))
     second_ink f t o w e =
         subst (λ (y : List ℕ). IsTrue (is_word_ink f (slice_index (y ++ o) 1))) (sym w.is) (w.further e)

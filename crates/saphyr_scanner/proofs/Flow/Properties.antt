@@ -16,6 +16,7 @@ use Rattle.saphyr_scanner.specs.Grammar.Forest.{Tag, Alias}
 use Rattle.saphyr_scanner.specs.Grammar.TagSpelling.{IsTag}
 use Rattle.saphyr_scanner.specs.Grammar.FlowNodes as layout
 use Rattle.saphyr_scanner.specs.Grammar.FlowNodes.{IsAnchor}
+use Rattle.saphyr_scanner.specs.Grammar.Layout.{most_open}
 use Rattle.saphyr_scanner.proofs.InFlow.States.{Around, state_at, FlowMoment, root_moment}
 use Rattle.saphyr_scanner.proofs.Flow.States.{Since, KeptKey, keeping, moved, past, IsBehindNode, IsBehindRoot, ReaderPromises, Known, PassesPiece, FitsAround, IsAfterNode, IsAfterProperties, NodePasses, RootCloses, after, StandsBefore, key_behind}
 use Rattle.saphyr_scanner.proofs.Flow.Places.{moved_append}
@@ -199,7 +200,7 @@ properties_read reads around (Some name) (Some tag) m t o (anchor, between, writ
 pub alias_passes : ReaderPromises → (around : Around) (room : ℕ) (name : List ℕ) (m : Marker) (p o : List ℕ)
     → layout.IsFlowNode room (Alias name) true around.indent p → FitsAround around m p o
     → IsBehindNode around.indent (Alias name) o
-    → (now : FlowMoment) → now.adjacent < m.index → is_block now.context ≡ false → room + length now.outer ≤ 255
+    → (now : FlowMoment) → now.adjacent < m.index → is_block now.context ≡ false → room + length now.outer ≤ most_open
     → StandsBefore around now m (p ++ o) → NodePasses around now (Alias name) m p o
 alias_passes reads around room name m p o h fits behind now before flow small text =
     let ends = tag_ends_name true o (node_ends_tag around.indent (Alias name) o refl behind) in
@@ -221,12 +222,13 @@ alias_passes reads around room name m p o h fits behind now before flow small te
     }
 
 pub alias_closes : ReaderPromises → (around : Around) (name : List ℕ) (m : Marker) (p o : List ℕ)
-    → layout.IsFlowNode 255 (Alias name) false around.indent p → FitsAround around m p o
+    → layout.IsFlowNode most_open (Alias name) false around.indent p → FitsAround around m p o
     → IsBehindRoot around.indent (moved m p) o
     → (now : FlowMoment) → now.adjacent ≤ (past around.indent m (p ++ o)).0.index → StandsBefore around now m (p ++ o)
     → RootCloses around now (Alias name) m p o
 alias_closes reads around name m p o h fits behind now before text =
-    let first = start_low around.indent now.adjacent m p o (node_ink around.indent 255 (Alias name) false p h) before in
+    let first = start_low around.indent now.adjacent m p o (node_ink around.indent most_open (Alias name) false p h)
+    before in
     let ends = tag_ends_name true o (white_ends_tag true o (root_first around.indent (moved m p) o behind)) in
     let q = alias_token_passes reads around name p o m h ends fits (root_moment now) text in
     record {

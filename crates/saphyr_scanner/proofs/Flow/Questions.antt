@@ -2,7 +2,7 @@
 use Rattle.std.proofs.Common.{◌≡◌, ◌≢◌, ℕ, ◌≤◌, Bool, true, false, List, [], ◌∷◌, ◌++◌, length, slice_index, Ok, refl, sym, ap, ◌∙◌, arith, ◌⊎◌, inl, inr}
 use Rattle.std.specs.Prelude.{Option, None}
 use Rattle.std.proofs.lemmas.Bool.Decides.{nat_tests}
-use Rattle.saphyr_input.specs.Classes.{is_blank, is_blank_or_breakz}
+use Rattle.saphyr_input.specs.Classes.{is_blank, is_blank_or_breakz, line_feed}
 use Rattle.saphyr_scalar.specs.declared.scalar.position.Marker.{Marker}
 use Rattle.saphyr_scalar.specs.Views.Cursor.{Cursor, ◌>>=◌, along}
 use Rattle.saphyr_scalar.specs.Spelling.Spaces.{IsSeparation}
@@ -31,6 +31,7 @@ use Rattle.saphyr_scalar.proofs.Given.{cursor_at}
 use Rattle.saphyr_input.proofs.Basics.Numbers.{le_next}
 use Rattle.saphyr_input.proofs.Basics.Characters.{ink_no_tab}
 use Rattle.std.proofs.lemmas.Bool.{true≢false}
+use Rattle.saphyr_input.specs.Indicators.{question_mark}
 use Rattle.saphyr_scanner.proofs.Queues.{token_place}
 
 question : IsTokenMark 63
@@ -50,7 +51,7 @@ white_first indent w y parts some =
     blank : (c : ℕ) → is_blank c ≡ true → is_blank_or_breakz c ≡ true
     blank c h = grind (arith, nat_tests)
 
-    by_first : (c : ℕ) → (is_blank c ≡ true) ⊎ (c ≡ 10) → is_blank_or_breakz c ≡ true
+    by_first : (c : ℕ) → (is_blank c ≡ true) ⊎ (c ≡ line_feed) → is_blank_or_breakz c ≡ true
     by_first c (inl h) = blank c h
     by_first c (inr e) = ap is_blank_or_breakz e
 
@@ -74,7 +75,7 @@ begins_key around d s context.MarkedFlowPair k ls a ad e = refl
 passes_mark : (around : Around) (d : Bool) (o : List ℕ) (m : Marker) (b : Bool) (y : Context) (ls : List Level) (ad : ℕ)
     (n : Marker) (blank : Bool) (c : ℕ) (cs : List ℕ) → IsInk c
     → end_of_spaces (along m 1) false false o ≡ spaces_end n blank true (c ∷ cs)
-    → pass_question (core_at around d (cursor_at (63 ∷ o) m b) y None ls false ad)
+    → pass_question (core_at around d (cursor_at (question_mark ∷ o) m b) y None ls false ad)
     ≡ Ok (core_at around d (cursor_at (c ∷ cs) n blank) y None ls false ad)
 unfolding behind_mark
 passes_mark around d o m b y ls ad n blank c cs ink is =
@@ -103,11 +104,12 @@ key_of around d s context.MarkedFlowPair k ls a ad e = refl
 
 -- A `?` before separation without a tab: the key behind it is not kept.
 pub mark_passes : (around : Around) (y : Context) → is_block y ≡ false → (m : Marker) (o : List ℕ)
-    → FitsAround around m (63 ∷ []) o
+    → FitsAround around m (question_mark ∷ []) o
     → (parted : IsParted around.indent o) → parted.separation ≢ [] → has_tab_outside false parted.separation ≡ false
-    → (now : FlowMoment) → now.adjacent ≤ m.index → StandsBefore around now m (63 ∷ o)
-    → PassesPiece around (state_at around (moment_in y now)) (no_key (moved m (63 ∷ []))) (behind_question y) now.outer
-    now.places (moved m (63 ∷ [])) o (tokens.Key ∷ [])
+    → (now : FlowMoment) → now.adjacent ≤ m.index → StandsBefore around now m (question_mark ∷ o)
+    → PassesPiece around (state_at around (moment_in y now)) (no_key (moved m (question_mark ∷ []))) (behind_question y)
+    now.outer
+    now.places (moved m (question_mark ∷ [])) o (tokens.Key ∷ [])
 mark_passes around y flows m o fits parted some tabs now before text =
     let v = arrives around (moment_in y now) m (63 ∷ o) (text ∙ past_ink around.indent m 63 o question.ink) refl
     fits.right fits.calm in

@@ -27,7 +27,7 @@ use Rattle.saphyr_input.proofs.Basics.Booleans.{by_test}
 
 -- ## Breaks
 
-is_feed : (c : ℕ) → IsTrue (is_break c) → IsTrue (not (c == carriage_return)) → c ≡ 10
+is_feed : (c : ℕ) → IsTrue (is_break c) → IsTrue (not (c == carriage_return)) → c ≡ line_feed
 is_feed c h k = grind (arith, nat_tests)
 
 -- a break first, in a piece without CR
@@ -188,7 +188,7 @@ extends low indent below _ _ _ _ (escaped_break t items x h r) fit o m clear end
 
 -- ## The place behind a text
 
-feed : (c : ℕ) → (c == line_feed) ≡ true → c ≡ 10
+feed : (c : ℕ) → (c == line_feed) ≡ true → c ≡ line_feed
 feed c e = grind (arith, nat_tests)
 
 no_feed_no_break : (c : ℕ) → (c == line_feed) ≡ false → IsTrue (not (c == carriage_return)) → IsFalse (is_break c)

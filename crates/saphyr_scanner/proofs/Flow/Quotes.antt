@@ -33,6 +33,7 @@ use Rattle.saphyr_scanner.proofs.Flow.Tokens.{Begins, adjacent_at, token_passes,
 use Rattle.saphyr_scanner.proofs.Flow.Quoted.{quoted_read, quoted_right}
 use Rattle.saphyr_scanner.proofs.InBlock.Crossings.{line_rest_crosses}
 use Rattle.std.proofs.lemmas.Bool.{or_left}
+use Rattle.saphyr_input.specs.Indicators.{apostrophe}
 use Rattle.saphyr_scalar.proofs.Given.{cursor_at}
 use Rattle.saphyr_input.proofs.Basics.Booleans.{clash}
 use Rattle.saphyr_scanner.proofs.Levels.{saved}
@@ -146,7 +147,8 @@ style_of_quote Single = SingleQuoted
 style_of_quote Double = DoubleQuoted
 
 pub quoted_step : ReaderPromises → (around : Around) (d : Bool) (quote : Quote) (n : ℕ) (m : Marker) (b : Bool)
-    (value t o : List ℕ) → IsQuoted quote around.indent value t → IsClear m t o → (slice_index o 0 == 39) ≡ false
+    (value t o : List ℕ) → IsQuoted quote around.indent value t → IsClear m t o
+    → (slice_index o 0 == apostrophe) ≡ false
     → (x : Context) (k : Option Candidate) (ls : List Level) (a : Bool) (ad : ℕ) (c : ℕ) → c ≡ mark quote
     → Placed around x a m
     → step c (slice_index (t ++ o) 1) n (core_at around d (cursor_at (t ++ o) m b) x k ls a ad)
@@ -192,7 +194,7 @@ quote_first Double inside =
 
 pub quoted_passes : ReaderPromises → (around : Around) (quote : Quote) (value t o : List ℕ) (m : Marker)
     → IsQuoted quote around.indent value t → FitsAround around m t o
-    → (slice_index o 0 == 39) ≡ false
+    → (slice_index o 0 == apostrophe) ≡ false
     → (now : FlowMoment) → EndsQuotes around m (mid_line (moved m t) o) now.context → StandsBefore around now m (t ++ o)
     → PassesToken around (adjacent_at (past around.indent (moved m t) o).0.index) now m t o
     (scalar_token (style_of_quote quote) value)

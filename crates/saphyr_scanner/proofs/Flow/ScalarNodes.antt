@@ -2,6 +2,7 @@
 use Rattle.std.proofs.Common.{◌≡◌, ◌≢◌, ℕ, ◌+◌, ◌<◌, ◌≤◌, Bool, true, false, List, [], ◌∷◌, ◌++◌, length, refl, sym, ap, ◌∙◌, arith, subst, append_assoc, append-nil, inl, inr}
 use Rattle.std.specs.Prelude.{not, Option, Some, None}
 use Rattle.std.proofs.lemmas.Bool.{false≢true}
+use Rattle.saphyr_input.specs.Indicators.{colon}
 use Rattle.saphyr_scalar.specs.declared.scalar.position.Marker.{Marker}
 use Rattle.saphyr_scalar.specs.Spelling.Tag.{EndsTag}
 use Rattle.saphyr_scalar.specs.Spelling.Spaces.{IsSeparation}
@@ -14,6 +15,7 @@ use Rattle.saphyr_scanner.specs.Grammar.Forest.{Style, Plain, Tag, Properties, n
 use Rattle.saphyr_scanner.specs.Grammar.FlowNodes as layout
 use Rattle.saphyr_scanner.specs.Grammar.FlowNodes.{IsProperties, IsBeforeContent, IsScalarNode, IsPlainKeyNode}
 use Rattle.saphyr_scanner.specs.Grammar.FlowScalars.{IsFlowScalar}
+use Rattle.saphyr_scanner.specs.Grammar.Layout.{most_open}
 use Rattle.saphyr_scanner.proofs.InFlow.States.{Around, state_at, FlowMoment, root_moment}
 use Rattle.saphyr_scanner.proofs.Flow.States.{moved, past, IsBehindNode, IsBehindRoot, ReaderPromises, PassesPiece, FitsAround, Closes, after_node, NodePasses, RootCloses, after, StandsBefore, key_behind}
 use Rattle.saphyr_scanner.proofs.Flow.Places.{moved_append, moved_index}
@@ -262,7 +264,7 @@ scalar_node reads around p style value t o m (inr (front, content, before, g, is
 -- a key before its colon
 pub key_node_passes : ReaderPromises → (around : Around) (p : Properties) (style : Style) (value t r : List ℕ)
     (m : Marker)
-    → IsPlainKeyNode (Scalar p style value) true around.indent t → ScalarPasses around p style value t (58 ∷ r) m
+    → IsPlainKeyNode (Scalar p style value) true around.indent t → ScalarPasses around p style value t (colon ∷ r) m
 key_node_passes reads around p style value t r m (front, content, plain, before, g, stands, is) =
     subst (λ (q : Style). ScalarPasses around p q value t (58 ∷ r) m) (sym plain)
     (subst (λ (y : List ℕ). ScalarPasses around p Plain value y (58 ∷ r) m) (sym is)
@@ -273,7 +275,7 @@ pub scalar_passes : ReaderPromises
     → (around : Around) (room : ℕ) (p : Properties) (style : Style) (value : List ℕ) (m : Marker) (t o : List ℕ)
     → layout.IsFlowNode room (Scalar p style value) true around.indent t → FitsAround around m t o
     → IsBehindNode around.indent (Scalar p style value) o
-    → (now : FlowMoment) → now.adjacent < m.index → is_block now.context ≡ false → room + length now.outer ≤ 255
+    → (now : FlowMoment) → now.adjacent < m.index → is_block now.context ≡ false → room + length now.outer ≤ most_open
     → StandsBefore around now m (t ++ o) → NodePasses around now (Scalar p style value) m t o
 scalar_passes reads around room p style value m t o h fits behind now low flow small text =
     scalar_node reads around p style value t o m h fits behind now low flow text
@@ -314,11 +316,12 @@ scalar_root reads around p style value t o m (inr (front, content, before, g, is
 
 pub scalar_closes : ReaderPromises
     → (around : Around) (p : Properties) (style : Style) (value : List ℕ) (m : Marker) (t o : List ℕ)
-    → layout.IsFlowNode 255 (Scalar p style value) false around.indent t → FitsAround around m t o
+    → layout.IsFlowNode most_open (Scalar p style value) false around.indent t → FitsAround around m t o
     → IsBehindRoot around.indent (moved m t) o
     → (now : FlowMoment) → now.adjacent ≤ (past around.indent m (t ++ o)).0.index → StandsBefore around now m (t ++ o)
     → RootCloses around now (Scalar p style value) m t o
 scalar_closes reads around p style value m t o h fits behind now before text =
     scalar_root reads around p style value t o m h fits behind now
-    (start_low around.indent now.adjacent m t o (node_ink around.indent 255 (Scalar p style value) false t h) before)
+    (start_low around.indent now.adjacent m t o (node_ink around.indent most_open (Scalar p style value) false t h)
+    before)
     text

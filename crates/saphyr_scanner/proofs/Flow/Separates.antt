@@ -5,6 +5,7 @@ use Rattle.std.specs.List.{prefix_len}
 use Rattle.std.proofs.Math.Seq.{drop-append_seam}
 use Rattle.std.proofs.lemmas.Bool.Decides.{nat_tests}
 use Rattle.std.proofs.lemmas.List.{length-append}
+use Rattle.saphyr_input.specs.Indicators.{number_sign}
 use Rattle.saphyr_input.specs.Classes.{is_blank, is_break, is_bom, is_yaml_non_break, line_feed}
 use Rattle.saphyr_input.specs.Separation.{comment_len, separation_len, found_blanks}
 use Rattle.saphyr_input.specs.declared.input.SkipTabs.{SkipTabs}
@@ -26,7 +27,7 @@ use Rattle.saphyr_scanner.proofs.Gaps.{separated}
 pub record StopsLine (comment more : List ℕ) : Type 0 where
   pub mark : is_bom (slice_index more 0) ≡ false
   pub blank : comment ≡ [] → is_blank (slice_index more 0) ≡ false
-  pub sign : comment ≡ [] → (slice_index more 0 == 35) ≡ false
+  pub sign : comment ≡ [] → (slice_index more 0 == number_sign) ≡ false
   pub word : comment ≢ [] → is_yaml_non_break (slice_index more 0) ≡ false
 
 pub line_stops : (comment more : List ℕ) → EndsLine more → StopsLine comment more
@@ -58,14 +59,14 @@ comment_counts blanks comment more (inr (some, (words, are, is))) h =
     subst (λ (c : List ℕ). comment_len (c ++ more) ≡ length c) (sym is) (counted words run)
   where
     counted : (words : List ℕ) → prefix_len is_yaml_non_break (words ++ more) ≡ length words
-        → comment_len (35 ∷ (words ++ more)) ≡ length (35 ∷ words)
+        → comment_len (number_sign ∷ (words ++ more)) ≡ length (number_sign ∷ words)
     counted words run = omega (arith, run)
 
-blank_no_sign : (c : ℕ) → is_blank c ≡ true → (c == 35) ≡ false
+blank_no_sign : (c : ℕ) → is_blank c ≡ true → (c == number_sign) ≡ false
 blank_no_sign c h = grind (arith, nat_tests)
 
 starts_white : (blanks comment more : List ℕ) → AreIn is_blank blanks → IsCommentBehind blanks comment
-    → StopsLine comment more → (slice_index (blanks ++ (comment ++ more)) 0 == 35) ≡ false
+    → StopsLine comment more → (slice_index (blanks ++ (comment ++ more)) 0 == number_sign) ≡ false
 starts_white (c ∷ cs) comment more are k h = blank_no_sign c are.0
 starts_white [] comment more are (inl e) h = ap (λ (t : List ℕ). slice_index (t ++ more) 0 == 35) e ∙ h.sign e
 starts_white [] comment more are (inr k) h = absurd (k.0 refl)
@@ -195,11 +196,11 @@ separates_rest s rest more is (front, comment, blank, k, e) ends =
           (r.0, record { rest = more; mark = moved s.mark t; blank_so_far = s.blank_so_far }) in u)) (sym e),
     )
 
-no_blank_feed : (a b : List ℕ) → AreIn is_blank (a ++ (10 ∷ b)) → ⊥
+no_blank_feed : (a b : List ℕ) → AreIn is_blank (a ++ (line_feed ∷ b)) → ⊥
 no_blank_feed a b h = absurd (let k : false ≡ true = (back_in is_blank a (10 ∷ b) h).0 in cc)
 
 over_lines : (column : ℕ) (s : Cursor) (w blanks comment more : List ℕ) (c : ℕ) (cs : List ℕ)
-    → s.rest ≡ blanks ++ (comment ++ (10 ∷ more)) → w ++ (c ∷ cs) ≡ blanks ++ (comment ++ (10 ∷ more))
+    → s.rest ≡ blanks ++ (comment ++ (line_feed ∷ more)) → w ++ (c ∷ cs) ≡ blanks ++ (comment ++ (line_feed ∷ more))
     → ¬ (AreIn is_blank w)
     → AreIn is_blank blanks → IsCommentBehind blanks comment → column ≤ s.mark.col → Separates column s w (c ∷ cs)
 over_lines column s w blanks comment more c cs is text wide are k low =

@@ -3,7 +3,7 @@ use Rattle.std.proofs.Common.{◌≡◌, ◌≢◌, ℕ, ◌≤◌, Bool, true, 
 use Rattle.std.specs.Prelude.{◌||◌, ◌&&◌, ◌==◌, not, nat_lt}
 use Rattle.std.proofs.lemmas.Bool.Decides.{nat_tests}
 use Rattle.std.proofs.lemmas.List.{length-append}
-use Rattle.saphyr_input.specs.Classes.{is_blank, is_break, is_yaml_non_break, tab}
+use Rattle.saphyr_input.specs.Classes.{is_blank, is_break, is_yaml_non_break, tab, carriage_return, line_feed}
 use Rattle.saphyr_scalar.specs.declared.scalar.position.Marker.{Marker}
 use Rattle.saphyr_scalar.specs.Views.Cursor.{along, next_line}
 use Rattle.saphyr_scalar.specs.Steps.BlockRead.{spaces as spaces_of}
@@ -15,6 +15,7 @@ use Rattle.saphyr_scanner.proofs.Flow.States.{moved, is_left_tab, past, past_com
 use Rattle.saphyr_scanner.proofs.Flow.GapSteps.{past_ink, comment_shorter}
 use Rattle.saphyr_scanner.proofs.Flow.Fillers.{separation_past}
 use Rattle.std.proofs.lemmas.Bool.{or_parts}
+use Rattle.saphyr_input.specs.Indicators.{number_sign}
 use Rattle.saphyr_input.proofs.Basics.Characters.{ink_no_space, non_break_no_break, no_return_and, return_breaks}
 
 -- ## Spaces, breaks and comments without a tab are what is passed between two tokens
@@ -33,16 +34,17 @@ record Comment (m : Marker) (blank space : Bool) (w y : List ℕ) (n : Marker) :
   has : space ≡ true → some ≡ true
 
 -- what is outside comments behind a character
-outside : (d : ℕ) (ds : List ℕ) (sign : Bool) → (d == 35) ≡ sign → has_tab_outside false (d ∷ ds) ≡ false
+outside : (d : ℕ) (ds : List ℕ) (sign : Bool) → (d == number_sign) ≡ sign → has_tab_outside false (d ∷ ds) ≡ false
     → has_tab_outside sign ds ≡ false
 outside d ds sign e h = ap (λ (b : Bool). has_tab_outside b ds) (sym e)
     ∙ (or_parts (d == tab) (has_tab_outside (d == 35) ds) h).1
 
-pub white_no_sign : (d : ℕ) (r : Bool) → (is_blank d || ((d == 13) && r)) ≡ true → (d == 35) ≡ false
+pub white_no_sign : (d : ℕ) (r : Bool) → (is_blank d || ((d == carriage_return) && r)) ≡ true
+    → (d == number_sign) ≡ false
 white_no_sign d true h = grind (arith, nat_tests)
 white_no_sign d false h = grind (arith, nat_tests)
 
-pub break_no_sign : (d : ℕ) → is_break d ≡ true → (d == 35) ≡ false
+pub break_no_sign : (d : ℕ) → is_break d ≡ true → (d == number_sign) ≡ false
 break_no_sign d h = grind (arith, nat_tests)
 
 no_tab : (column : ℕ) (m : Marker) (c : ℕ) → (c == tab) ≡ false → is_left_tab column m c ≡ false
@@ -77,8 +79,9 @@ spaces_end_at_ink column c cs ink m blank space n e =
 
 spaces_kind : (column : ℕ) (d : ℕ) (ds y : List ℕ) (m : Marker) (blank space : Bool) (n : Marker)
     → has_tab_outside false (d ∷ ds) ≡ false → (is_white is_line is_sign : Bool)
-    → (is_blank d || ((d == 13) && (slice_index (ds ++ y) 0 == 10))) ≡ is_white → is_break d ≡ is_line
-    → (d == 35) ≡ is_sign → past column m (d ∷ (ds ++ y)) ≡ (n, y)
+    → (is_blank d || ((d == carriage_return) && (slice_index (ds ++ y) 0 == line_feed))) ≡ is_white
+    → is_break d ≡ is_line
+    → (d == number_sign) ≡ is_sign → past column m (d ∷ (ds ++ y)) ≡ (n, y)
     → (has_tab_outside false ds ≡ false → past column (along m 1) (ds ++ y) ≡ (n, y)
     → Spaces (along m 1) blank true ds y n)
     → (has_tab_outside false ds ≡ false → past column (next_line m 1) (ds ++ y) ≡ (n, y)
@@ -128,7 +131,8 @@ behind_break d ds e h = ap (λ (b : Bool). has_tab_outside (not b) ds) (sym e) �
 
 spaces_in_comment : (column : ℕ) (d : ℕ) (ds y : List ℕ) (m : Marker) (blank space : Bool) (n : Marker)
     → (is_word is_return is_line : Bool)
-    → is_yaml_non_break d ≡ is_word → ((d == 13) && (slice_index (ds ++ y) 0 == 10)) ≡ is_return → is_break d ≡ is_line
+    → is_yaml_non_break d ≡ is_word → ((d == carriage_return) && (slice_index (ds ++ y) 0 == line_feed)) ≡ is_return
+    → is_break d ≡ is_line
     → past_comment column m (d ∷ (ds ++ y)) ≡ (n, y)
     → has_tab_outside true (d ∷ ds) ≡ false
     → (has_tab_outside true ds ≡ false → past_comment column (along m 1) (ds ++ y) ≡ (n, y)
@@ -218,7 +222,7 @@ pub record BeginsWhite (w : List ℕ) : Type 0 where
   pub first : ℕ
   pub others : List ℕ
   pub is : w ≡ first ∷ others
-  pub white : (is_blank first ≡ true) ⊎ (first ≡ 10)
+  pub white : (is_blank first ≡ true) ⊎ (first ≡ line_feed)
 
 pub separation_begins : (column : ℕ) (w : List ℕ) → IsSeparation column w → w ≢ [] → BeginsWhite w
 separation_begins column w (lines, blanks, (pieces, each, lines_are), are, e) some = by_lines pieces each lines_are
@@ -228,7 +232,7 @@ separation_begins column w (lines, blanks, (pieces, each, lines_are), are, e) so
     of_blanks (c ∷ cs) k same = record { first = c; others = cs; is = same; white = inl k.0 }
 
     of_line : (front comment more : List ℕ) → AreIn is_blank front → IsCommentBehind front comment
-        → w ≡ front ++ (comment ++ (10 ∷ more)) → BeginsWhite w
+        → w ≡ front ++ (comment ++ (line_feed ∷ more)) → BeginsWhite w
     of_line [] comment more k (inl none) same =
         record { first = 10; others = more; is = same ∙ ap (λ (t : List ℕ). t ++ (10 ∷ more)) none; white = inr refl }
     of_line [] comment more k (inr behind) same = absurd (behind.0 refl)
@@ -274,7 +278,7 @@ spaces_passed column m blank w c cs parts low some tabs ink =
               ∙ ap (λ (q : Bool). spaces_end (moved m w) g.still_blank q (c ∷ cs)) (g.has refl);
         }
 
-    by_first : (d : ℕ) (ds : List ℕ) → w ≡ d ∷ ds → (is_blank d ≡ true) ⊎ (d ≡ 10)
+    by_first : (d : ℕ) (ds : List ℕ) → w ≡ d ∷ ds → (is_blank d ≡ true) ⊎ (d ≡ line_feed)
         → past column m (w ++ (c ∷ cs)) ≡ (moved m w, c ∷ cs) → has_tab_outside false w ≡ false
         → PassesSpaces m blank w (c ∷ cs)
     by_first d ds same (inl h) p t =

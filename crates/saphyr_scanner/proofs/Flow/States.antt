@@ -2,6 +2,7 @@
 -- collections are open.
 use Rattle.std.proofs.Common.{◌≡◌, ℕ, ◌+◌, ◌<◌, ◌≤◌, Bool, true, false, List, [], ◌∷◌, ◌++◌, length, slice_index, IsTrue, ◌⊎◌, Ok, encode_utf8_all}
 use Rattle.std.specs.Prelude.{◌||◌, ◌&&◌, ◌==◌, not, nat_lt, Option, Some, None, if◌then◌else◌}
+use Rattle.saphyr_input.specs.Indicators.{colon, number_sign}
 use Rattle.saphyr_input.specs.Breaks.{normalized}
 use Rattle.saphyr_input.specs.Classes.{is_blank, is_break, is_breakz, is_blank_or_breakz, is_yaml_non_break, is_anchor_char, is_bom, line_feed, carriage_return}
 use Rattle.saphyr_input.specs.Places.{is_document_indicator}
@@ -37,6 +38,7 @@ use Rattle.saphyr_scanner.specs.Steps.Level.{Candidate, Level, is_block}
 use Rattle.saphyr_scanner.specs.Steps.State.{State}
 use Rattle.saphyr_scanner.specs.Grammar.Forest.{Node}
 use Rattle.saphyr_scanner.specs.Grammar.FlowNodes.{IsPlainKeyNode, IsBeforeColon, allows_adjacent, IsFlowNode}
+use Rattle.saphyr_scanner.specs.Grammar.Layout.{most_open}
 use Rattle.saphyr_scanner.proofs.InFlow.States.{Around, FlowMoment, moment, state_at, RunsTo, root_moment}
 use Rattle.saphyr_scanner.proofs.Queues.{place_kinds}
 use Rattle.saphyr_scanner.proofs.Levels.{saved}
@@ -125,7 +127,7 @@ pub record IsClear (m : Marker) (piece behind : List ℕ) : Type 0 where
 pub record IsInk (c : ℕ) : Type 0 where
   pub blank : is_blank c ≡ false
   pub break : is_break c ≡ false
-  pub comment : (c == 35) ≡ false
+  pub comment : (c == number_sign) ≡ false
   pub byte_order_mark : is_bom c ≡ false
 
 -- separation, and a character behind it that begins a token
@@ -328,7 +330,7 @@ pub record IsAfterNode (indent : ℕ) (x : Context) (kept : Option Candidate) (n
   pub others : List Place
   pub is : new ≡ bare_place piece ∷ others
   pub keeps : is_block x ≡ false → key ≡ kept
-  pub near : is_block x ≡ false → (separation more : List ℕ) → o ≡ separation ++ (58 ∷ more)
+  pub near : is_block x ≡ false → (separation more : List ℕ) → o ≡ separation ++ (colon ∷ more)
       → IsSeparation indent separation → IsTrue (allows_adjacent node separation)
       → adjacent ≡ (moved m separation).index
   pub low : is_block x ≡ false → adjacent ≤ (past indent m o).0.index
@@ -371,13 +373,13 @@ abbrev pub PassesNode : Around → ℕ → Node → Type 0
 PassesNode around room node =
     (m : Marker) (p o : List ℕ) → IsNodeOrKey room node around.indent p o → FitsAround around m p o
     → IsBehindNode around.indent node o
-    → (now : FlowMoment) → now.adjacent < m.index → is_block now.context ≡ false → room + length now.outer ≤ 255
+    → (now : FlowMoment) → now.adjacent < m.index → is_block now.context ≡ false → room + length now.outer ≤ most_open
     → StandsBefore around now m (p ++ o) → NodePasses around now node m p o
 
 -- A node at block level is passed.
 abbrev pub ClosesNode : Around → Node → Type 0
 ClosesNode around node =
-    (m : Marker) (p o : List ℕ) → IsFlowNode 255 node false around.indent p → FitsAround around m p o
+    (m : Marker) (p o : List ℕ) → IsFlowNode most_open node false around.indent p → FitsAround around m p o
     → IsBehindRoot around.indent (moved m p) o
     → (now : FlowMoment) → now.adjacent ≤ (past around.indent m (p ++ o)).0.index → StandsBefore around now m (p ++ o)
     → RootCloses around now node m p o

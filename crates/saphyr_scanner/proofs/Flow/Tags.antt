@@ -1,5 +1,6 @@
 -- The tags of a text in flow style are tags as they are read.
 use Rattle.std.proofs.Common.{◌≡◌, ℕ, List, [], ◌∷◌, ◌++◌, refl, ap, ◌∙◌, IsTrue, inl, inr, encode_utf8_all}
+use Rattle.saphyr_input.specs.Indicators.{exclamation_mark}
 use lib.Utf8.{encode}
 use Rattle.saphyr_input.specs.Classes.{is_alpha}
 use Rattle.saphyr_scalar.specs.Spelling.Tag.{AreIn, IsHandleText, IsTagText}
@@ -26,7 +27,7 @@ pub record IsReadTag (tag : Tag) (t : List ℕ) : Type 0 where
   pub is : IsTagText t handle suffix
   pub token : tokens.Tag (encode_utf8_all handle) (encode_utf8_all suffix) ≡ tag_token tag
 
-mark_encoded : tokens.Tag [] (encode_utf8_all (33 ∷ [])) ≡ tag_token NonSpecific
+mark_encoded : tokens.Tag [] (encode_utf8_all (exclamation_mark ∷ [])) ≡ tag_token NonSpecific
 unfolding encode
 mark_encoded = refl
 
@@ -42,12 +43,13 @@ tag_read (Shorthand handle suffix) t h =
       token = ap (λ (front : List ℕ). tokens.Tag (encode_utf8_all front) (encode_utf8_all suffix)) r.1;
     }
 
-handle_first : (t back : List ℕ) → IsHandleText t → (others : List ℕ) × (t ++ back ≡ 33 ∷ others)
+handle_first : (t back : List ℕ) → IsHandleText t → (others : List ℕ) × (t ++ back ≡ exclamation_mark ∷ others)
 handle_first t back (inl h) = (back, ap (λ (y : List ℕ). y ++ back) h)
 handle_first t back (inr h) = ((h.0 ++ 33 ∷ []) ++ back, ap (λ (y : List ℕ). y ++ back) h.2)
 
 -- a tag begins with `!`
-pub tag_first : (t handle suffix : List ℕ) → IsTagText t handle suffix → (others : List ℕ) × (t ≡ 33 ∷ others)
+pub tag_first : (t handle suffix : List ℕ) → IsTagText t handle suffix
+    → (others : List ℕ) × (t ≡ exclamation_mark ∷ others)
 tag_first t handle suffix (inl h) = ([], h.0)
 tag_first t handle suffix (inr (inl h)) = (60 ∷ (h.0 ++ 62 ∷ []), h.3)
 tag_first t handle suffix (inr (inr h)) = let f = handle_first handle h.0 h.1 in (f.0, h.4 ∙ f.1)

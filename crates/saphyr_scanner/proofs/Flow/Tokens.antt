@@ -1,6 +1,7 @@
 -- A token of a text in flow style is passed in one step.
 use Rattle.std.proofs.Common.{◌≡◌, ◌⊎◌, inl, inr, ℕ, ◌≤◌, Bool, true, false, List, [], ◌∷◌, ◌++◌, length, slice_index, refl, sym, ap, ◌∙◌, arith, subst}
 use Rattle.std.specs.Prelude.{◌==◌, Option, None}
+use Rattle.saphyr_input.specs.Indicators.{percent_sign}
 use Rattle.saphyr_input.specs.Classes.{is_blank, is_z}
 use Rattle.saphyr_scalar.specs.declared.scalar.position.Marker.{Marker}
 use Rattle.saphyr_scalar.specs.Views.Cursor.{Cursor}
@@ -27,7 +28,7 @@ pub record Begins (p : List ℕ) : Type 0 where
   pub is : p ≡ first ∷ others
   pub ink : IsInk first
   pub nul : is_z first ≡ false
-  pub directive : (first == 37) ≡ false
+  pub directive : (first == percent_sign) ≡ false
 
 pub begins_past : (column : ℕ) (m : Marker) (p o : List ℕ) → Begins p → past column m (p ++ o) ≡ (m, p ++ o)
 begins_past column m p o b =

@@ -29,6 +29,7 @@ use Rattle.saphyr_scanner.proofs.Flow.Colons.{colon_reads_value, tabbed, opened_
 use Rattle.saphyr_scalar.proofs.Given.{cursor_at}
 use Rattle.saphyr_input.proofs.Basics.Numbers.{le_next}
 use Rattle.std.proofs.lemmas.Bool.{true≢false}
+use Rattle.saphyr_input.specs.Indicators.{colon}
 use Rattle.saphyr_scanner.proofs.Queues.{place_kinds, queue_of}
 
 -- the key that a token at a place of the text and of the queue may be
@@ -38,14 +39,14 @@ key_at m ps = record { mark = m; place = length ps }
 -- The colon behind a key that begins at `first` and ends at e, and separation w.
 pub colon_passes : (around : Around) (y : Context) → is_block y ≡ false
     → (first e : Marker) (node : Node) (w o : List ℕ) → IsSeparation around.indent w
-    → FitsAround around (moved e w) (58 ∷ []) o → IsParted around.indent o
+    → FitsAround around (moved e w) (colon ∷ []) o → IsParted around.indent o
     → IsTrue (allows_adjacent node w) ⊎ IsTrue (ends_colon (slice_index o 0))
     → (begins_pair y ≡ true → first.line ≡ (moved e w).line)
     → (start : Bool → State) (ls : List Level) (ps : List Place) (ts : List Kind)
-    → PassesPiece around start (after_node around.indent y (Some (key_at first ps)) node e (w ++ (58 ∷ o))) y ls ps e
-    (w ++ (58 ∷ o)) ts
-    → PassesPiece around start (no_key (moved (moved e w) (58 ∷ []))) (behind_colon y) ls ps
-    (moved (moved e w) (58 ∷ [])) o
+    → PassesPiece around start (after_node around.indent y (Some (key_at first ps)) node e (w ++ (colon ∷ o))) y ls ps e
+    (w ++ (colon ∷ o)) ts
+    → PassesPiece around start (no_key (moved (moved e w) (colon ∷ []))) (behind_colon y) ls ps
+    (moved (moved e w) (colon ∷ [])) o
     (key_kinds (begins_pair y) ++ (ts ++ tokens.Value ∷ []))
 colon_passes around y flows first e node w o parts fits parted ends same_line start ls ps ts p =
     let m = moved e w in
@@ -134,11 +135,11 @@ alone_told false m = refl
 
 -- A colon where no key is kept: a key that is left out, or that a `?` began.
 pub value_passes : (around : Around) (y : Context) → is_block y ≡ false → (m : Marker) (o : List ℕ)
-    → FitsAround around m (58 ∷ []) o → IsParted around.indent o → (now : FlowMoment) → now.key ≡ None
+    → FitsAround around m (colon ∷ []) o → IsParted around.indent o → (now : FlowMoment) → now.key ≡ None
     → (m.index ≡ now.adjacent) ⊎ IsTrue (ends_colon (slice_index o 0)) → now.adjacent ≤ m.index
-    → StandsBefore around now m (58 ∷ o)
-    → PassesPiece around (state_at around (moment_in y now)) (no_key (moved m (58 ∷ []))) (behind_colon y) now.outer
-    now.places (moved m (58 ∷ [])) o (alone_kinds (begins_pair y) ++ tokens.Value ∷ [])
+    → StandsBefore around now m (colon ∷ o)
+    → PassesPiece around (state_at around (moment_in y now)) (no_key (moved m (colon ∷ []))) (behind_colon y) now.outer
+    now.places (moved m (colon ∷ [])) o (alone_kinds (begins_pair y) ++ tokens.Value ∷ [])
 value_passes around y flows m o fits parted now none ends before text =
     let v = arrives around (moment_in y now) m (58 ∷ o) (text ∙ past_ink around.indent m 58 o colon_is_mark.ink) refl
     fits.right fits.calm in

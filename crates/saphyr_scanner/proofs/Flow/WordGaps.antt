@@ -149,7 +149,7 @@ prefix_fits indent t y (front, blanks, (n, low, spaced), are, is) fits =
         (sym (ap (λ (i : ℕ). i + n) e ∙ none n)) h
 
 feed_fits : (indent n : ℕ) (y : List ℕ) → IsFalse (reaches_tabbed indent 0 false y)
-    → IsFalse (reaches_tabbed indent n false (10 ∷ y))
+    → IsFalse (reaches_tabbed indent n false (line_feed ∷ y))
 feed_fits indent n y h = h
 
 line_fits : (indent : ℕ) (t y : List ℕ) → IsEmptyLine indent t → IsFalse (reaches_tabbed indent 0 false y)

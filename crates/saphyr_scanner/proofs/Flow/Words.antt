@@ -2,6 +2,7 @@
 use Rattle.std.proofs.Common.{◌≡◌, ◌≢◌, ℕ, ◌≤◌, Bool, true, false, List, [], ◌∷◌, ◌++◌, length, slice_index, refl, sym, ap, ◌∙◌, arith, subst, append_assoc, append-nil, IsTrue, IsFalse, inl, inr}
 use Rattle.std.specs.Prelude.{◌&&◌, ◌==◌}
 use Rattle.std.proofs.lemmas.Bool.Decides.{nat_tests}
+use Rattle.saphyr_input.specs.Indicators.{colon, hyphen}
 use Rattle.saphyr_input.specs.Classes.{is_break, is_blank_or_breakz, is_bom, is_flow}
 use Rattle.saphyr_input.specs.Places.{is_document_indicator}
 use Rattle.saphyr_scalar.specs.declared.scalar.position.Marker.{Marker}
@@ -48,10 +49,10 @@ ink_before f (c ∷ cs) y h = (h.0, λ e. next cs (h.1 e) h.2, ink_before f cs y
     next [] some k = absurd (some refl)
     next (d ∷ ds) some k = k.0
 
-lone_dash : (c : ℕ) (f second : Bool) → (f ≡ true → second ≡ false) → (f && (c == 45) && second) ≡ false
+lone_dash : (c : ℕ) (f second : Bool) → (f ≡ true → second ≡ false) → (f && (c == hyphen) && second) ≡ false
 lone_dash c f second h = by_flow f h
   where
-    by_flow : (g : Bool) → (g ≡ true → second ≡ false) → (g && (c == 45) && second) ≡ false
+    by_flow : (g : Bool) → (g ≡ true → second ≡ false) → (g && (c == hyphen) && second) ≡ false
     by_flow false h = refl
     by_flow true h = rw (h refl) (and_false (c == 45))
 
@@ -64,19 +65,20 @@ word_before f w y h = record {
   no_lone_dash = by_word w h.some h.ink h.no_lone_dash;
 }
   where
-    dash : (c : ℕ) → (c == 45) ≡ true → c ≡ 45
+    dash : (c : ℕ) → (c == hyphen) ≡ true → c ≡ hyphen
     dash c e = grind (arith, nat_tests)
 
-    by_first : (c : ℕ) (b : Bool) → (f ≡ true → (c ∷ []) ≢ 45 ∷ []) → (f && (c == 45) && b) ≡ false
+    by_first : (c : ℕ) (b : Bool) → (f ≡ true → (c ∷ []) ≢ hyphen ∷ []) → (f && (c == hyphen) && b) ≡ false
     by_first c b other = by_test f (c == 45) refl other
       where
-        by_test : (g : Bool) (q : Bool) → (c == 45) ≡ q → (g ≡ true → (c ∷ []) ≢ 45 ∷ []) → (g && q && b) ≡ false
+        by_test : (g : Bool) (q : Bool) → (c == hyphen) ≡ q → (g ≡ true → (c ∷ []) ≢ hyphen ∷ [])
+            → (g && q && b) ≡ false
         by_test false q e k = refl
         by_test true false e k = refl
         by_test true true e k = absurd (k refl (ap (λ (z : ℕ). z ∷ []) (dash c e)))
 
-    by_word : (w : List ℕ) → w ≢ [] → AreWordInk f w → (f ≡ true → w ≢ 45 ∷ [])
-        → (f && (slice_index (w ++ y) 0 == 45) && is_flow (slice_index (w ++ y) 1)) ≡ false
+    by_word : (w : List ℕ) → w ≢ [] → AreWordInk f w → (f ≡ true → w ≢ hyphen ∷ [])
+        → (f && (slice_index (w ++ y) 0 == hyphen) && is_flow (slice_index (w ++ y) 1)) ≡ false
     by_word [] some ink other = absurd (some refl)
     by_word (c ∷ []) some ink other = by_first c (is_flow (slice_index y 0)) other
     by_word (c ∷ d ∷ ds) some ink other =
@@ -88,20 +90,20 @@ colon_is_ink true = refl
 colon_is_ink false = refl
 
 -- a key's last word stands before the key's colon
-pub last_before : (f : Bool) (w r : List ℕ) → IsLastWord f w → IsWordBefore f w (58 ∷ r)
+pub last_before : (f : Bool) (w r : List ℕ) → IsLastWord f w → IsWordBefore f w (colon ∷ r)
 last_before f w r (some, ink, no_comment) =
     record { some = some; ink = inks w ink; no_comment = no_comment; no_lone_dash = by_word w some ink }
   where
-    next : (cs : List ℕ) → AreIn (is_word_ink f) cs → IsTrue (is_word_ink f (slice_index (cs ++ (58 ∷ r)) 0))
+    next : (cs : List ℕ) → AreIn (is_word_ink f) cs → IsTrue (is_word_ink f (slice_index (cs ++ (colon ∷ r)) 0))
     next [] k = colon_is_ink f
     next (d ∷ ds) k = k.0
 
-    inks : (cs : List ℕ) → AreIn (is_word_ink f) cs → AreInkBefore f cs (58 ∷ r)
+    inks : (cs : List ℕ) → AreIn (is_word_ink f) cs → AreInkBefore f cs (colon ∷ r)
     inks [] k = tt
     inks (c ∷ cs) k = (k.0, λ _. next cs k.1, inks cs k.1)
 
     by_word : (w : List ℕ) → w ≢ [] → AreIn (is_word_ink f) w
-        → (f && (slice_index (w ++ (58 ∷ r)) 0 == 45) && is_flow (slice_index (w ++ (58 ∷ r)) 1)) ≡ false
+        → (f && (slice_index (w ++ (colon ∷ r)) 0 == hyphen) && is_flow (slice_index (w ++ (colon ∷ r)) 1)) ≡ false
     by_word [] some ink = absurd (some refl)
     by_word (c ∷ []) some ink = lone_dash c f false (λ _. refl)
     by_word (c ∷ d ∷ ds) some ink =
@@ -193,7 +195,7 @@ nothing_further f indent m o = record { words = []; is = refl; further = tt; rig
 
 -- a gap and a key's last word
 last_further : (f : Bool) (indent : ℕ) (gap word r : List ℕ) → IsWordGap indent gap → IsLastWord f word → (m : Marker)
-    → IsClear m (gap ++ word) (58 ∷ r) → IsFurther f indent m (gap ++ word) (58 ∷ r)
+    → IsClear m (gap ++ word) (colon ∷ r) → IsFurther f indent m (gap ++ word) (colon ∷ r)
 last_further f indent gap word r gapped is_word m clear =
     let text : gap ++ word ≡ gap ++ (word ++ []) = ap (λ (t : List ℕ). gap ++ t) (sym (append-nil word)) in
     subst (λ (t : List ℕ). IsFurther f indent m t (58 ∷ r)) (sym text)
@@ -238,8 +240,8 @@ plain_words f indent m t o (first, others, is_first, (pieces, each, joins), is) 
     (further_words f indent pieces each [] o (λ n _. nothing_further f indent n o))
 
 -- those of a key before its colon
-key_words : (f : Bool) (indent : ℕ) (m : Marker) (t r : List ℕ) → IsPlainKey f indent t → IsClear m t (58 ∷ r)
-    → HasWords f indent m t (58 ∷ r)
+key_words : (f : Bool) (indent : ℕ) (m : Marker) (t r : List ℕ) → IsPlainKey f indent t → IsClear m t (colon ∷ r)
+    → HasWords f indent m t (colon ∷ r)
 key_words f indent m t r (inl (word, begins)) clear =
     has_words f indent m t (58 ∷ r) t [] (sym (append-nil t)) (last_before f t r word) clear
     (λ n _. nothing_further f indent n (58 ∷ r))
@@ -267,8 +269,8 @@ pub plain_text : (f : Bool) (indent : ℕ) (m : Marker) (t o : List ℕ) → IsP
     → EndsPlain f indent (moved m t) o → IsPlainText f indent m t o
 plain_text f indent m t o h clear ends = text_of f indent m t o (plain_words f indent m t o h clear) clear ends
 
-pub key_text : (f : Bool) (indent : ℕ) (m : Marker) (t r : List ℕ) → IsPlainKey f indent t → IsClear m t (58 ∷ r)
-    → EndsPlain f indent (moved m t) (58 ∷ r) → IsPlainText f indent m t (58 ∷ r)
+pub key_text : (f : Bool) (indent : ℕ) (m : Marker) (t r : List ℕ) → IsPlainKey f indent t → IsClear m t (colon ∷ r)
+    → EndsPlain f indent (moved m t) (colon ∷ r) → IsPlainText f indent m t (colon ∷ r)
 key_text f indent m t r h clear ends = text_of f indent m t (58 ∷ r) (key_words f indent m t r h clear) clear ends
 
 right_of : (f : Bool) (indent : ℕ) (m : Marker) (t o : List ℕ) → HasWords f indent m t o → indent ≤ m.col
@@ -287,6 +289,6 @@ pub plain_right : (f : Bool) (indent : ℕ) (m : Marker) (t o : List ℕ) → Is
     → indent ≤ m.col → indent ≤ (moved m t).col
 plain_right f indent m t o h clear low = right_of f indent m t o (plain_words f indent m t o h clear) low
 
-pub key_right : (f : Bool) (indent : ℕ) (m : Marker) (t r : List ℕ) → IsPlainKey f indent t → IsClear m t (58 ∷ r)
+pub key_right : (f : Bool) (indent : ℕ) (m : Marker) (t r : List ℕ) → IsPlainKey f indent t → IsClear m t (colon ∷ r)
     → indent ≤ m.col → indent ≤ (moved m t).col
 key_right f indent m t r h clear low = right_of f indent m t (58 ∷ r) (key_words f indent m t r h clear) low

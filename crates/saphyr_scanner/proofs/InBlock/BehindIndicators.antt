@@ -1,7 +1,7 @@
 -- What stands behind an indicator, and behind the indicator of a node at block level.
 use Rattle.std.proofs.Common.{◌≡◌, ℕ, zero, suc, ◌≤◌, Bool, true, false, List, [], ◌∷◌, ◌++◌, length, slice_index, refl, sym, ap, ◌∙◌, arith, subst, append_assoc, append-nil, ◌⊎◌, inl, inr, IsFalse}
 use Rattle.std.specs.Prelude.{◌||◌}
-use Rattle.saphyr_input.specs.Classes.{is_blank, is_blank_or_breakz}
+use Rattle.saphyr_input.specs.Classes.{is_blank, is_blank_or_breakz, line_feed}
 use Rattle.saphyr_scalar.specs.declared.scalar.position.Marker.{Marker}
 use Rattle.saphyr_scalar.specs.Steps.BlockRead.{spaces}
 use Rattle.saphyr_scalar.specs.Views.Cursor.{along, next_line}
@@ -10,6 +10,7 @@ use Rattle.saphyr_scalar.specs.Spelling.Spaces.{AreSpaces, IsComment, IsCommentB
 use Rattle.saphyr_scanner.specs.Grammar.Forest.{Properties, Node, Alias, Scalar, Seq, Map, Nodes, NoNode, MoreNodes, Pairs, NoPair, MorePairs}
 use Rattle.saphyr_scanner.specs.Grammar.FlowNodes.{IsKeyText, IsFlowNode}
 use Rattle.saphyr_scanner.specs.Grammar.BlockNodes.{Position, BehindDash, BehindMark, BehindKey, BehindMarker, AtStart, is_start, indent_at, sequence_indent_at, IsGapAt, AreSpacesAt, IsCollectionFront, IsLead, IsFlowInBlock, IsBlockPair, IsBlockNode, AreEntries, ArePairs}
+use Rattle.saphyr_scanner.specs.Grammar.Layout.{most_open}
 use Rattle.saphyr_scanner.proofs.Flow.States.{IsInk, moved, past}
 use Rattle.saphyr_scanner.proofs.Documents.Lines.{rest_first}
 use Rattle.saphyr_scanner.proofs.Flow.Fillers.{spaces_are_blank, blanks_past, behind_is, front_past}
@@ -37,7 +38,7 @@ white_spaces zero more h = absurd (omega (arith, h))
 white_spaces (suc n) more h = inl refl
 
 white_line : (blanks comment o : List ℕ) → AreIn is_blank blanks → IsCommentBehind blanks comment
-    → BeginsWhite (blanks ++ (comment ++ (10 ∷ o)))
+    → BeginsWhite (blanks ++ (comment ++ (line_feed ∷ o)))
 white_line (b ∷ bs) comment o are k = inl are.0
 white_line [] comment o are (inr k) = absurd (k.0 refl)
 white_line [] comment o are (inl e) = subst (λ (x : List ℕ). BeginsWhite (x ++ (10 ∷ o))) (sym e) (inr refl)
@@ -77,7 +78,7 @@ token_behind n c cs some ink = record {
 }
 
 -- the rest of a line, and its break
-pub line_behind : (rest o : List ℕ) → IsLineRest rest → IsClean o → IsBehindIndicator (rest ++ (10 ∷ o))
+pub line_behind : (rest o : List ℕ) → IsLineRest rest → IsClean o → IsBehindIndicator (rest ++ (line_feed ∷ o))
 line_behind rest o (blanks, comment, are, k, e) clean =
     let c = behind_is blanks comment k in
     let text : rest ++ (10 ∷ o) ≡ blanks ++ (comment ++ (10 ∷ o)) =
@@ -185,18 +186,18 @@ dash_ink = record { blank = refl; break = refl; comment = refl; byte_order_mark 
 pub question_ink : IsInk 63
 question_ink = record { blank = refl; break = refl; comment = refl; byte_order_mark = refl }
 
-pub entries_ink : (nodes : Nodes) (m : ℕ) (t o : List ℕ) → AreEntries 255 nodes m t o → BeginsInk t
+pub entries_ink : (nodes : Nodes) (m : ℕ) (t o : List ℕ) → AreEntries most_open nodes m t o → BeginsInk t
 entries_ink NoNode m t o h = absurd h
 entries_ink (MoreNodes node nodes) m t o (entry, others, h, k, e) =
     record { first = 45; others = entry ++ others; is = e; ink = dash_ink }
 
 key_text_ink : {limit : ℕ} → ReadsLeaves limit → (key : Node) (m : ℕ) (t between : List ℕ)
-    → IsKeyText (IsFlowNode 255 key false (suc m)) key false (suc m) t between → BeginsInk t
-key_text_ink leaves key m t between (inl h) = leaves.flow_ink key 255 (suc m) false t h
+    → IsKeyText (IsFlowNode most_open key false (suc m)) key false (suc m) t between → BeginsInk t
+key_text_ink leaves key m t between (inl h) = leaves.flow_ink key most_open (suc m) false t h
 key_text_ink leaves key m t between (inr (h, none)) = leaves.key_ink key (suc m) t h
 
 pub pair_ink : {limit : ℕ} → ReadsLeaves limit → (key value : Node) (m : ℕ) (t o : List ℕ)
-    → IsBlockPair 255 key value (IsBlockNode 255 key) (IsBlockNode 255 value) m t o → BeginsInk t
+    → IsBlockPair most_open key value (IsBlockNode most_open key) (IsBlockNode most_open value) m t o → BeginsInk t
 pair_ink leaves key value m t o (inl (node, between, v, node_is, line, spaced, before, short, h, e)) =
     let b = further_ink node (between ++ (58 ∷ v)) (key_text_ink leaves key m node between node_is) in
     record { first = b.first; others = b.others; is = e ∙ b.is; ink = b.ink }
@@ -205,7 +206,8 @@ pair_ink leaves key value m t o (inr (inl (node, out, some, h, e))) =
 pair_ink leaves key value m t o (inr (inr (node, colon, v, some, h, mark, k, e))) =
     record { first = 63; others = node ++ (colon ++ v); is = e; ink = question_ink }
 
-pub pairs_ink : {limit : ℕ} → ReadsLeaves limit → (pairs : Pairs) (m : ℕ) (t o : List ℕ) → ArePairs 255 pairs m t o
+pub pairs_ink : {limit : ℕ} → ReadsLeaves limit → (pairs : Pairs) (m : ℕ) (t o : List ℕ)
+    → ArePairs most_open pairs m t o
     → BeginsInk t
 pairs_ink leaves NoPair m t o h = absurd h
 pairs_ink leaves (MorePairs key value pairs) m t o (pair, others, h, k, e) =
@@ -250,18 +252,18 @@ lead_behind p AtStart least m lead t out (inr h) b = absurd (clash true refl out
 
 flow_behind : {limit : ℕ} → ReadsLeaves limit → (node : Node) (place : Position) (t o : List ℕ)
     → IsFalse (is_start place)
-    → IsFlowInBlock 255 node place t o → IsBehindIndicator (t ++ o)
+    → IsFlowInBlock most_open node place t o → IsBehindIndicator (t ++ o)
 flow_behind leaves node place t o out (gap, text, end, gap_is, is, end_is, e) =
     let whole : t ++ o ≡ gap ++ ((text ++ end) ++ o) = ap (λ (x : List ℕ). x ++ o) e
     ∙ append_assoc gap (text ++ end) o in
     let b = further_ink (text ++ end) o
-    (further_ink text end (leaves.flow_ink node 255 (indent_at place) false text is)) in
+    (further_ink text end (leaves.flow_ink node most_open (indent_at place) false text is)) in
     subst IsBehindIndicator (sym whole)
     (ink_so gap ((text ++ end) ++ o) b (λ c cs ink. gap_behind place gap c cs out gap_is ink))
 
 -- what stands behind the indicator of a node that isn't at a document's start
 pub node_behind : {limit : ℕ} → ReadsLeaves limit → (node : Node) (place : Position) (t o : List ℕ)
-    → IsFalse (is_start place) → IsBlockNode 255 node place t o → IsClean o → IsBehindIndicator (t ++ o)
+    → IsFalse (is_start place) → IsBlockNode most_open node place t o → IsClean o → IsBehindIndicator (t ++ o)
 node_behind leaves (Alias name) place t o out h clean = flow_behind leaves (Alias name) place t o out h
 node_behind leaves (Scalar p style value) place t o out (inl h) clean = eol_behind t o h.2 clean
 node_behind leaves (Scalar p style value) place t o out (inr (inl h)) clean =

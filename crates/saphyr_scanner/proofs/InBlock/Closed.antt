@@ -2,6 +2,7 @@
 -- marker's own come first.
 use Rattle.std.proofs.Common.{◌≡◌, ℕ, ◌≤◌, ◌<◌, ◌^◌, true, false, List, [], ◌∷◌, ◌++◌, length, slice_index, refl, sym, ap, ◌∙◌, subst, append_assoc, append-nil, ◌⊎◌, inl, inr, arith}
 use Rattle.std.specs.Prelude.{map, ◌==◌}
+use Rattle.saphyr_input.specs.Indicators.{full_stop}
 use Rattle.saphyr_input.specs.Breaks.{normalized}
 use Rattle.saphyr_input.specs.Classes.{is_blank_or_breakz, line_feed}
 use Rattle.saphyr_scalar.specs.Spelling.Spaces.{IsEol, IsFiller, IsLastFiller, IsLineRest}
@@ -229,8 +230,8 @@ before_line front (inl e) = ap (opens_line true) e
 before_line front (inr (others, e)) = ap (opens_line true) e ∙ feed_opens true others
 
 mark_text : (others rest filler line : List ℕ)
-    → (others ++ (46 ∷ 46 ∷ 46 ∷ (rest ++ 10 ∷ (filler ++ 65279 ∷ [])))) ++ line
-    ≡ others ++ (46 ∷ 46 ∷ 46 ∷ mark_rest (rest ++ 10 ∷ []) filler line)
+    → (others ++ (full_stop ∷ full_stop ∷ full_stop ∷ (rest ++ line_feed ∷ (filler ++ 65279 ∷ [])))) ++ line
+    ≡ others ++ (full_stop ∷ full_stop ∷ full_stop ∷ mark_rest (rest ++ line_feed ∷ []) filler line)
 mark_text others rest filler line = simp append_assoc
 
 -- behind no byte order mark

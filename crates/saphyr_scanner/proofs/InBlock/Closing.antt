@@ -22,6 +22,7 @@ use Rattle.saphyr_scanner.proofs.InBlock.Follows.{goes_alike, arrives_at, stays_
 use Rattle.saphyr_input.proofs.Basics.Numbers.{zero_below_next}
 use Rattle.saphyr_input.proofs.Basics.Booleans.{and_false}
 use Rattle.std.proofs.lemmas.Bool.{ltb-true, eq-eqb}
+use Rattle.saphyr_input.specs.Indicators.{full_stop, hyphen, percent_sign}
 use Rattle.saphyr_scanner.proofs.Queues.{place_kinds, place_kinds_append}
 
 -- the token that ends a collection
@@ -61,30 +62,30 @@ at_line_start m e = rw e refl
 record IsMarkerSign (c : ℕ) : Type 0 where
   nul : is_z c ≡ false
   byte_order_mark : is_bom c ≡ false
-  directive : (c == 37) ≡ false
+  directive : (c == percent_sign) ≡ false
 
-dash_sign : (c : ℕ) → (c == 45) ≡ true → IsMarkerSign c
+dash_sign : (c : ℕ) → (c == hyphen) ≡ true → IsMarkerSign c
 dash_sign c h = record { nul = nul c h; byte_order_mark = mark c h; directive = directive c h }
   where
-    nul : (c : ℕ) → (c == 45) ≡ true → is_z c ≡ false
+    nul : (c : ℕ) → (c == hyphen) ≡ true → is_z c ≡ false
     nul c h = grind (arith, nat_tests)
 
-    mark : (c : ℕ) → (c == 45) ≡ true → is_bom c ≡ false
+    mark : (c : ℕ) → (c == hyphen) ≡ true → is_bom c ≡ false
     mark c h = grind (arith, nat_tests)
 
-    directive : (c : ℕ) → (c == 45) ≡ true → (c == 37) ≡ false
+    directive : (c : ℕ) → (c == hyphen) ≡ true → (c == percent_sign) ≡ false
     directive c h = grind (arith, nat_tests)
 
-dot_sign : (c : ℕ) → (c == 46) ≡ true → IsMarkerSign c
+dot_sign : (c : ℕ) → (c == full_stop) ≡ true → IsMarkerSign c
 dot_sign c h = record { nul = nul c h; byte_order_mark = mark c h; directive = directive c h }
   where
-    nul : (c : ℕ) → (c == 46) ≡ true → is_z c ≡ false
+    nul : (c : ℕ) → (c == full_stop) ≡ true → is_z c ≡ false
     nul c h = grind (arith, nat_tests)
 
-    mark : (c : ℕ) → (c == 46) ≡ true → is_bom c ≡ false
+    mark : (c : ℕ) → (c == full_stop) ≡ true → is_bom c ≡ false
     mark c h = grind (arith, nat_tests)
 
-    directive : (c : ℕ) → (c == 46) ≡ true → (c == 37) ≡ false
+    directive : (c : ℕ) → (c == full_stop) ≡ true → (c == percent_sign) ≡ false
     directive c h = grind (arith, nat_tests)
 
 first_of : (a b c d : Bool) → ((a && b && c) && d) ≡ true → a ≡ true

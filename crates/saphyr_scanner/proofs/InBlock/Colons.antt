@@ -3,7 +3,7 @@ use Rattle.std.proofs.Common.{◌≡◌, ℕ, zero, suc, ◌+◌, ◌<◌, ◌�
 use Rattle.std.specs.Prelude.{◌||◌, ◌==◌, not, nat_le, nat_lt, Option, Some, None, if◌then◌else◌}
 use Rattle.std.proofs.lemmas.Bool.Decides.{nat_tests}
 use Rattle.std.proofs.lemmas.List.{length-append}
-use Rattle.saphyr_input.specs.Classes.{is_alpha, is_blank}
+use Rattle.saphyr_input.specs.Classes.{is_alpha, is_blank, tab}
 use Rattle.saphyr_scalar.specs.declared.scalar.position.Marker.{Marker}
 use Rattle.saphyr_input.specs.Separation.{found_blanks, has_valid_yaml_ws}
 use Rattle.saphyr_input.specs.declared.input.SkipTabs.{SkipTabs}
@@ -34,6 +34,7 @@ use Rattle.saphyr_scalar.proofs.Given.{cursor_at}
 use Rattle.saphyr_input.proofs.Basics.Numbers.{le_next, zero_below_next, next_not_within}
 use Rattle.saphyr_input.proofs.Basics.Booleans.{and_false}
 use Rattle.std.proofs.Math.Bool.{or-true}
+use Rattle.saphyr_input.specs.Indicators.{colon, hyphen}
 use Rattle.saphyr_scanner.proofs.InBlock.Questions.{colon_begins, key_kinds}
 use Rattle.saphyr_scanner.proofs.Queues.{place_kinds, place_kinds_append, queue_of}
 
@@ -52,18 +53,18 @@ record PassesColon (o : List ℕ) (h : IsBehindIndicator o) (m : Marker) : Type 
 
 -- where the line ends, no word stands
 no_word_at_line_end : (more : List ℕ) → EndsLine more
-    → ((slice_index more 0 == 45) || is_alpha (slice_index more 0)) ≡ false
+    → ((slice_index more 0 == hyphen) || is_alpha (slice_index more 0)) ≡ false
 no_word_at_line_end more (inl e) = ap (λ (t : List ℕ). (slice_index t 0 == 45) || is_alpha (slice_index t 0)) e
 no_word_at_line_end more (inr e) = ap (λ (c : ℕ). (c == 45) || is_alpha c) e
 
 no_space_first : (o : List ℕ) (n : ℕ) (xs : List ℕ) → o ≡ spaces n ++ xs → is_blank (slice_index xs 0) ≡ false
-    → (slice_index o 0 == 9) ≡ false
+    → (slice_index o 0 == tab) ≡ false
 no_space_first o zero xs e h = ap (λ (t : List ℕ). slice_index t 0 == 9) e ∙ no_tab xs h
   where
-    none : (c : ℕ) → is_blank c ≡ false → (c == 9) ≡ false
+    none : (c : ℕ) → is_blank c ≡ false → (c == tab) ≡ false
     none c h = grind (arith, nat_tests)
 
-    no_tab : (xs : List ℕ) → is_blank (slice_index xs 0) ≡ false → (slice_index xs 0 == 9) ≡ false
+    no_tab : (xs : List ℕ) → is_blank (slice_index xs 0) ≡ false → (slice_index xs 0 == tab) ≡ false
     no_tab xs h = none (slice_index xs 0) h
 no_space_first o (suc n) xs e h = ap (λ (t : List ℕ). slice_index t 0 == 9) e
 
@@ -75,7 +76,8 @@ passes_colon o h m = by_tab (slice_index o 0 == 9) refl h.tabs
     size = ap length (h.is ∙ sym (append_assoc h.blanks h.comment h.more))
         ∙ length-append (h.blanks ++ h.comment) h.more
 
-    ended : (slice_index o 0 == 9) ≡ true → EndsLine h.more → (f : Frame) (n : Moment) → n.cursor ≡ cursor_at o m false
+    ended : (slice_index o 0 == tab) ≡ true → EndsLine h.more → (f : Frame) (n : Moment)
+        → n.cursor ≡ cursor_at o m false
         → value.check_tab (core_of f n) ≡ Ok (core_of f (record n { cursor = cursor_at h.more (front_end h m) false }))
     ended e ends f n at =
         let there = cursor_at h.more (front_end h m) false in
@@ -87,7 +89,7 @@ passes_colon o h m = by_tab (slice_index o 0 == 9) refl h.tabs
         rw first (ap (λ r. (r >>= λ (x : SkipTabs × Cursor). Ok (x.0, with_cursor x.1 (core_of f n)))
         >>= value.refuse_lone_tab) sep ∙ word)
 
-    stays : (slice_index o 0 == 9) ≡ false → PassesColon o h m
+    stays : (slice_index o 0 == tab) ≡ false → PassesColon o h m
     stays e = record {
       mark = m;
       rest = o;
@@ -99,7 +101,7 @@ passes_colon o h m = by_tab (slice_index o 0 == 9) refl h.tabs
       clean = λ least. h.clean_all least m;
     }
 
-    by_tab : (b : Bool) → (slice_index o 0 == 9) ≡ b → EndsLine h.more ⊎ ((n : ℕ) × (h.blanks ≡ spaces n))
+    by_tab : (b : Bool) → (slice_index o 0 == tab) ≡ b → EndsLine h.more ⊎ ((n : ℕ) × (h.blanks ≡ spaces n))
         → PassesColon o h m
     by_tab false e tabs = stays e
     by_tab true e (inl ends) = record {
@@ -135,7 +137,7 @@ behind_value n o ad = record {
 
 value_step : (f : Frame) (m : Marker) (o : List ℕ) (h : IsBehindIndicator o) (p : PassesColon o h (along m 1))
     (blank : Bool) (ad : ℕ) (deeper : Bool) → f.indent ≡ m.col + 1 → (i : ℕ)
-    → step 58 (slice_index o 0) i (core_of f (moment_at m (58 ∷ o) blank None true ad deeper))
+    → step 58 (slice_index o 0) i (core_of f (moment_at m (colon ∷ o) blank None true ad deeper))
     ≡ completed_step (at_mark m tokens.Value ∷ []) (core_of f (behind_value p.mark p.rest ad))
 unfolding step value.value_steps value.behind_key value.value_alone value.opening_actions
 value_step f m o h p blank ad deeper same i =
@@ -150,7 +152,7 @@ value_step f m o h p blank ad deeper same i =
 -- the `:` of a value is read, in a mapping that is open
 pub reads_value : {limit : ℕ} {start : State} {ts : List Kind} (f : Frame) (m : Marker) (o : List ℕ)
     → f.indent ≡ m.col + 1 → IsBehindIndicator o
-    → m.index + length (58 ∷ o) ≤ limit → (v : At limit start f m (58 ∷ o) ts) → v.key ≡ None → v.allowed ≡ true
+    → m.index + length (colon ∷ o) ≤ limit → (v : At limit start f m (colon ∷ o) ts) → v.key ≡ None → v.allowed ≡ true
     → Before limit start (layout.BehindMark m.col) f (along m 1) o (ts ++ tokens.Value ∷ [])
 unfolding state_behind_content
 reads_value {limit} {start} {ts} f m o same h count v none allowed =
@@ -203,7 +205,7 @@ colon_step : (f : Frame) (r : Bool) (k : Candidate) (m : Marker) (o : List ℕ) 
     (p : PassesColon o h (along m 1)) (blank a : Bool) (ad : ℕ) (deeper further : Bool)
     → nat_le f.indent k.mark.col ≡ further
     → f.indent ≤ k.mark.col + 1 → nat_lt 0 f.indent ≡ true ⊎ (further ≡ true) → (i : ℕ)
-    → step 58 (slice_index o 0) i (core_of f (moment_with r m (58 ∷ o) blank (Some k) a ad deeper))
+    → step 58 (slice_index o 0) i (core_of f (moment_with r m (colon ∷ o) blank (Some k) a ad deeper))
     ≡ completed_step (Open k.place (block_opening further) ∷ at_mark m tokens.Value ∷ [])
     (core_of (frame_behind further k.mark.col f) (colon_moment p.mark p.rest ad))
 unfolding step value.value_steps value.behind_key value.value_of_key
@@ -250,9 +252,9 @@ pub reads_colon : {limit : ℕ} {start : State} (f : Frame) (n : Moment) (ps oth
     → f.indent ≤ k.col + 1 → GoesOnAs limit start (state_of f n (ps ++ new)) → new ≡ bare_place key ∷ others
     → place_kinds ps ≡ ts
     → place_kinds new ≡ us → n.key ≡ Some (record { mark = k; place = length ps }) → n.comment ≡ None
-    → past 0 n.cursor.mark n.cursor.rest ≡ (m, 58 ∷ o) → IsUntabbed (least_column (core_of f n)) n.cursor
+    → past 0 n.cursor.mark n.cursor.rest ≡ (m, colon ∷ o) → IsUntabbed (least_column (core_of f n)) n.cursor
     → is_too_far n.key m ≡ false → k.col ≤ m.col → IsBehindIndicator o
-    → m.index + length (58 ∷ o) ≤ limit → n.adjacent ≤ m.index
+    → m.index + length (colon ∷ o) ≤ limit → n.adjacent ≤ m.index
     → Before limit start (layout.BehindKey k.col) (frame_behind further k.col f) (along m 1) o
     (ts ++ (key_kinds further ++ (us ++ tokens.Value ∷ [])))
 unfolding fetch state_behind_content

@@ -1,7 +1,8 @@
 -- Whether a break is ahead, before what is passed and behind it.
 use Rattle.std.proofs.Common.{◌≡◌, ℕ, Bool, true, false, List, [], ◌∷◌, ◌++◌, slice_index, refl, sym, ap, ◌∙◌, append_assoc, inl, inr}
 use Rattle.std.specs.Prelude.{◌||◌, if◌then◌else◌}
-use Rattle.saphyr_input.specs.Classes.{is_blank, is_break}
+use Rattle.saphyr_input.specs.Indicators.{colon}
+use Rattle.saphyr_input.specs.Classes.{is_blank, is_break, line_feed}
 use Rattle.saphyr_input.specs.Places.{is_blank_or_break}
 use Rattle.saphyr_scalar.specs.declared.scalar.position.Marker.{Marker}
 use Rattle.saphyr_scalar.specs.Steps.BlockRead.{spaces}
@@ -22,7 +23,7 @@ pub fresh_in_flow : (x : Context) (o : List ℕ) (allowed : Bool) (there : Curso
 fresh_in_flow x o allowed there flow b e = absurd (clash (is_block x) b flow)
 
 -- no break stands among spaces before a character that is passed in no gap
-pub spaces_uncrossed : (n : ℕ) (r : List ℕ) → crosses (spaces n ++ (58 ∷ r)) ≡ false
+pub spaces_uncrossed : (n : ℕ) (r : List ℕ) → crosses (spaces n ++ (colon ∷ r)) ≡ false
 spaces_uncrossed n r = blanks_cross (spaces n) (58 ∷ r) (spaces_are_blank n)
 
 -- a break behind separation is one behind what stands before it
@@ -44,7 +45,7 @@ separation_crosses indent w o (lines, blanks, (pieces, each, lines_are), are, e)
         ∙ simp append_assoc in
         ap crosses text ∙ rest_crosses first comment more first_are (behind_is first comment k)
 
-feed_crosses : (t : List ℕ) → slice_index t 0 ≡ 10 → crosses t ≡ true
+feed_crosses : (t : List ℕ) → slice_index t 0 ≡ line_feed → crosses t ≡ true
 feed_crosses [] e = absurd (cc)
 feed_crosses (c ∷ cs) e = rw e refl
 
@@ -59,7 +60,7 @@ line_rest_crosses rest more (blanks, comment, are, k, is) (inl none) e =
     (ap crosses text ∙ last_crosses blanks comment are (behind_is blanks comment k)))
 
 -- a break stands at the end of a line
-pub content_crosses : (rest o : List ℕ) → IsLineRest rest → crosses (rest ++ (10 ∷ o)) ≡ true
+pub content_crosses : (rest o : List ℕ) → IsLineRest rest → crosses (rest ++ (line_feed ∷ o)) ≡ true
 content_crosses rest o (blanks, comment, are, k, is) =
     ap crosses (ap (λ (t : List ℕ). t ++ (10 ∷ o)) is ∙ append_assoc blanks comment (10 ∷ o))
     ∙ rest_crosses blanks comment o are (behind_is blanks comment k)

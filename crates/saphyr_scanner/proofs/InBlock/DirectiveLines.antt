@@ -3,6 +3,7 @@ use Rattle.std.proofs.Common.{◌≡◌, ℕ, Bool, List, [], ◌∷◌, ◌++�
 use Rattle.std.proofs.lemmas.Bool.Decides.{nat_tests}
 use Rattle.std.specs.Prelude.{◌||◌, ◌==◌, not}
 use Rattle.std.specs.Char.{encode_utf8}
+use Rattle.saphyr_input.specs.Indicators.{exclamation_mark, percent_sign}
 use Rattle.saphyr_input.specs.Classes.{line_feed, is_blank, is_digit, is_alpha, is_tag_char, is_uri_char, is_yaml_non_break, is_yaml_non_space, IsHex}
 use Rattle.saphyr_scalar.specs.Spelling.Directive.{IsVersionDirective, IsTagDirective, IsReservedDirective, IsLineTail}
 use Rattle.saphyr_scalar.specs.Spelling.Tag.{AreIn, IsHandleText, IsPrefix, AreByteEscapes, IsCharacter, IsDecoded}
@@ -62,7 +63,7 @@ prefix_line (c ∷ cs) t (first, more, is, others, e) =
     (character_line (λ x. is_tag_char x || (x == 33)) tag_line c first is)
     (decoded_line is_uri_char uri_line cs more others))
   where
-    tag_line : (c : ℕ) → IsTrue (is_tag_char c || (c == 33)) → IsTrue (not (c == line_feed))
+    tag_line : (c : ℕ) → IsTrue (is_tag_char c || (c == exclamation_mark)) → IsTrue (not (c == line_feed))
     tag_line c h = grind (arith, nat_tests)
 
 handle_line : (t : List ℕ) → IsHandleText t → IsOneLine t
@@ -130,7 +131,7 @@ reserved_line name t (more, some, no_version, no_tag, name_is, more_is, parts, e
 -- a directive with the rest of its line
 pub record DirectiveLine (t : List ℕ) : Type 0 where
   pub others : List ℕ
-  pub is : t ≡ 37 ∷ others
+  pub is : t ≡ percent_sign ∷ others
   pub line : IsOneLine t
 
 pub directive_line : (d : Directive) (t : List ℕ) → IsDirective d t → DirectiveLine t
@@ -152,7 +153,7 @@ directive_line (TagPrefix handle prefix) t (written, directive, tail, handle_is,
     }
 directive_line (Reserved name) t h = record { others = name ++ h.0; is = h.7; line = reserved_line name t h }
 
-feed_unmarked : IsUnmarked (10 ∷ [])
+feed_unmarked : IsUnmarked (line_feed ∷ [])
 feed_unmarked = skipped_unmarked (10 ∷ []) (one_break [] nothing)
 
 pub directives_unmarked : (ds : List Directive) (t : List ℕ) → AreDirectives ds t → IsUnmarked t

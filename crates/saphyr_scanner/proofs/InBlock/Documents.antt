@@ -3,6 +3,7 @@ pub mod Ends
 pub mod Nodes
 use Rattle.std.proofs.Common.{◌≡◌, ℕ, Bool, true, false, List, [], ◌∷◌, ◌++◌, refl, sym, ap, ◌∙◌, subst, append_assoc, append-nil, ◌⊎◌, inl, inr, IsTrue}
 use Rattle.std.specs.Prelude.{map, ◌||◌}
+use Rattle.saphyr_input.specs.Indicators.{hyphen}
 use Rattle.saphyr_scalar.specs.declared.scalar.position.Marker.{Marker}
 use Rattle.saphyr_scanner.specs.Steps.State.{State}
 use Rattle.saphyr_scanner.specs.Grammar.Tokens as tokens
@@ -44,20 +45,20 @@ node_some : {limit : ℕ} → ReadsLeaves limit → (node : Node) (t o : List �
     → t ≡ []
     → ⊥
 node_some leaves (Alias name) t o (gap, text, end, gap_is, is, end_is, e) none =
-    none_inside gap text end (leaves.flow_ink (Alias name) 255 0 false text is) (sym e ∙ none)
+    none_inside gap text end (leaves.flow_ink (Alias name) most_open 0 false text is) (sym e ∙ none)
 node_some leaves (Scalar p style value) t o (inl h) none = absurd (let k : true ≡ false = h.1 in cc)
 node_some leaves (Scalar p style value) t o (inr (inl (gap, text, end, gap_is, is, end_is, e))) none =
-    none_inside gap text end (leaves.flow_ink (Scalar p style value) 255 0 false text is) (sym e ∙ none)
+    none_inside gap text end (leaves.flow_ink (Scalar p style value) most_open 0 false text is) (sym e ∙ none)
 node_some leaves (Scalar p style value) t o (inr (inr (gap, front, scalar, gap_is, front_is, h, e))) none =
     none_inside gap (front ++ scalar) [] (leaves.block_ink p style value 0 front scalar o front_is h)
     (ap (λ (x : List ℕ). gap ++ x) (append-nil (front ++ scalar)) ∙ sym e ∙ none)
 node_some leaves (Seq p nodes) t o (inl (gap, text, end, gap_is, is, end_is, e)) none =
-    none_inside gap text end (leaves.flow_ink (Seq p nodes) 255 0 false text is) (sym e ∙ none)
+    none_inside gap text end (leaves.flow_ink (Seq p nodes) most_open 0 false text is) (sym e ∙ none)
 node_some leaves (Seq p nodes) t o (inr (m, lead, entries, lead_is, h, e)) none =
     none_inside lead entries [] (entries_ink nodes m entries o h)
     (ap (λ (x : List ℕ). lead ++ x) (append-nil entries) ∙ sym e ∙ none)
 node_some leaves (Map p pairs) t o (inl (gap, text, end, gap_is, is, end_is, e)) none =
-    none_inside gap text end (leaves.flow_ink (Map p pairs) 255 0 false text is) (sym e ∙ none)
+    none_inside gap text end (leaves.flow_ink (Map p pairs) most_open 0 false text is) (sym e ∙ none)
 node_some leaves (Map p pairs) t o (inr (m, lead, entries, lead_is, h, e)) none =
     none_inside lead entries [] (pairs_ink leaves pairs m entries o h)
     (ap (λ (x : List ℕ). lead ++ x) (append-nil entries) ∙ sym e ∙ none)
@@ -104,7 +105,8 @@ reads_explicit : {limit : ℕ} {start : State} {now opened : Bool} → ReadsLeav
     → d.explicit ≡ true → AreCompatible d.directives
     → has_marker false t ≡ false → IsBlockNode most_open d.node BehindMarker t others
     → ((m : Marker) → AtLine others m → Lands m others) → IsPlainBehind others → HasNoReturn t
-    → StandsInStream limit start now (Lined opened (45 ∷ 45 ∷ 45 ∷ (t ++ others))) (45 ∷ 45 ∷ 45 ∷ (t ++ others))
+    → StandsInStream limit start now (Lined opened (hyphen ∷ hyphen ∷ hyphen ∷ (t ++ others)))
+    (hyphen ∷ hyphen ∷ hyphen ∷ (t ++ others))
     (ts ++ map directive_token d.directives) → DocumentStands limit start d free others ts
 reads_explicit {limit = limit} {start = start} leaves d free t others ts may explicit compatible unmarked is lands plain
     clean v =
@@ -118,10 +120,12 @@ reads_explicit {limit = limit} {start = start} leaves d free t others ts may exp
     }
 
 pub text_of_document : (directives node others : List ℕ)
-    → (directives ++ (45 ∷ 45 ∷ 45 ∷ node)) ++ others ≡ directives ++ (45 ∷ 45 ∷ 45 ∷ (node ++ others))
+    → (directives ++ (hyphen ∷ hyphen ∷ hyphen ∷ node)) ++ others
+    ≡ directives ++ (hyphen ∷ hyphen ∷ hyphen ∷ (node ++ others))
 text_of_document directives node others = simp append_assoc
 
-clean_node : (directives node : List ℕ) → HasNoReturn (directives ++ (45 ∷ 45 ∷ 45 ∷ node)) → HasNoReturn node
+clean_node : (directives node : List ℕ) → HasNoReturn (directives ++ (hyphen ∷ hyphen ∷ hyphen ∷ node))
+    → HasNoReturn node
 clean_node directives node h = back_in _ (45 ∷ 45 ∷ 45 ∷ []) node (back_in _ directives (45 ∷ 45 ∷ 45 ∷ node) h)
 
 -- where directives may stand, no key is asked for
@@ -133,13 +137,15 @@ unopened {o = o} v = passes_over v (Lined false o) v.mark o refl v.count (v.line
 pub record MarkerStands (limit : ℕ) (start : State) (d : Document) (y : List ℕ) (ts : List Kind) : Type 0 where
   pub free : Bool
   pub opened : Bool
-  pub stands : StandsInStream limit start free (Lined opened (45 ∷ 45 ∷ 45 ∷ y)) (45 ∷ 45 ∷ 45 ∷ y)
+  pub stands : StandsInStream limit start free (Lined opened (hyphen ∷ hyphen ∷ hyphen ∷ y))
+      (hyphen ∷ hyphen ∷ hyphen ∷ y)
       (ts ++ map directive_token d.directives)
 
 pub reads_front : {limit : ℕ} {start : State} → ReaderPromises
     → (d : Document) (free : Bool) (directives y : List ℕ) (ts : List Kind) → IsTrue free ⊎ (d.directives ≡ [])
     → AreDirectives d.directives directives
-    → StandsInStream limit start free (Lined free (directives ++ (45 ∷ 45 ∷ 45 ∷ y))) (directives ++ (45 ∷ 45 ∷ 45 ∷ y))
+    → StandsInStream limit start free (Lined free (directives ++ (hyphen ∷ hyphen ∷ hyphen ∷ y)))
+    (directives ++ (hyphen ∷ hyphen ∷ hyphen ∷ y))
     ts
     → MarkerStands limit start d y ts
 reads_front {limit = limit} {start = start} readers d free directives y ts (inl is_free) are v =

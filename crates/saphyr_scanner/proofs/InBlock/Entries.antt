@@ -4,7 +4,8 @@ use Rattle.std.specs.Prelude.{◌||◌, ◌&&◌, ◌==◌, nat_le, nat_lt, take
 use Rattle.std.specs.List.{prefix_len, list_any}
 use Rattle.std.proofs.lemmas.Bool.Decides.{nat_tests}
 use Rattle.std.proofs.lemmas.List.{length-append}
-use Rattle.saphyr_input.specs.Classes.{is_blank, is_break, is_flow, is_blank_or_breakz}
+use Rattle.saphyr_input.specs.Indicators.{hyphen}
+use Rattle.saphyr_input.specs.Classes.{is_blank, is_break, is_flow, is_blank_or_breakz, tab}
 use Rattle.saphyr_input.specs.Places.{is_document_indicator}
 use Rattle.saphyr_input.specs.Separation.{found_blanks, found_tabs}
 use Rattle.saphyr_input.specs.declared.input.SkipTabs.{SkipTabs}
@@ -68,7 +69,7 @@ front_end h m = along m (length (h.blanks ++ h.comment))
 
 -- where spaces stand alone no tab is found
 spaces_alone : (n : ℕ) (xs : List ℕ) → is_blank (slice_index xs 0) ≡ false
-    → list_any (λ c. c == 9) (take (prefix_len is_blank (spaces n ++ xs)) (spaces n ++ xs)) ≡ false
+    → list_any (λ c. c == tab) (take (prefix_len is_blank (spaces n ++ xs)) (spaces n ++ xs)) ≡ false
 spaces_alone zero [] h = refl
 spaces_alone zero (c ∷ cs) h = rw h refl
 spaces_alone (suc n) xs h =
@@ -86,19 +87,20 @@ no_tabs o h n e =
     ap (λ (t : List ℕ). list_any (λ c. c == 9) (take (prefix_len is_blank t) t)) text
     ∙ spaces_alone n (h.comment ++ h.more) (blank_stops h.blanks h.comment h.more h.parts h.stops)
 
-no_dash : (more : List ℕ) (b : Bool) → EndsLine more → ((slice_index more 0 == 45) && b) ≡ false
+no_dash : (more : List ℕ) (b : Bool) → EndsLine more → ((slice_index more 0 == hyphen) && b) ≡ false
 no_dash more b (inl e) = ap (λ (t : List ℕ). (slice_index t 0 == 45) && b) e
 no_dash more b (inr e) = ap (λ (c : ℕ). (c == 45) && b) e
 
 -- tabs and the `-` of a compact sequence don't stand together
 tabs_and_dash : (o : List ℕ) (h : IsBehindIndicator o)
-    → (found_tabs (found_blanks Yes o) && ((slice_index h.more 0 == 45) && is_blank_or_breakz (slice_index h.more 1)))
+    → (found_tabs (found_blanks Yes o) &&
+    ((slice_index h.more 0 == hyphen) && is_blank_or_breakz (slice_index h.more 1)))
     ≡ false
 tabs_and_dash o h = by_tabs h.tabs
   where
     by_tabs : EndsLine h.more ⊎ ((n : ℕ) × (h.blanks ≡ spaces n))
         → (found_tabs (found_blanks Yes o)
-        && ((slice_index h.more 0 == 45) && is_blank_or_breakz (slice_index h.more 1))) ≡ false
+        && ((slice_index h.more 0 == hyphen) && is_blank_or_breakz (slice_index h.more 1))) ≡ false
     by_tabs (inl ends) = rw (no_dash h.more (is_blank_or_breakz (slice_index h.more 1)) ends)
         (and_false (found_tabs (found_blanks Yes o)))
     by_tabs (inr k) = rw (no_tabs o h k.0 k.1) refl
@@ -122,21 +124,22 @@ steps_on f g m y v begins far n qs is none low =
 
 -- ## `-`
 
-dash_is_no_marker : (o : List ℕ) → is_blank_or_breakz (slice_index o 0) ≡ true → is_document_indicator (45 ∷ o) ≡ false
+dash_is_no_marker : (o : List ℕ) → is_blank_or_breakz (slice_index o 0) ≡ true
+    → is_document_indicator (hyphen ∷ o) ≡ false
 dash_is_no_marker [] h = refl
 dash_is_no_marker (c ∷ cs) h = by_dash (c == 45) refl
   where
-    dash : (c : ℕ) → (c == 45) ≡ true → is_blank_or_breakz c ≡ true → ⊥
+    dash : (c : ℕ) → (c == hyphen) ≡ true → is_blank_or_breakz c ≡ true → ⊥
     dash c e h = absurd (let k : false ≡ true = sym (no c e) ∙ h in cc)
       where
-        no : (c : ℕ) → (c == 45) ≡ true → is_blank_or_breakz c ≡ false
+        no : (c : ℕ) → (c == hyphen) ≡ true → is_blank_or_breakz c ≡ false
         no c e = grind (arith, nat_tests)
 
-    by_dash : (b : Bool) → (c == 45) ≡ b → is_document_indicator (45 ∷ c ∷ cs) ≡ false
+    by_dash : (b : Bool) → (c == hyphen) ≡ b → is_document_indicator (hyphen ∷ c ∷ cs) ≡ false
     by_dash true e = absurd (dash c e h)
     by_dash false e = rw e refl
 
-dash_begins : (m : Marker) (o : List ℕ) → is_blank_or_breakz (slice_index o 0) ≡ true → BeginsToken m (45 ∷ o)
+dash_begins : (m : Marker) (o : List ℕ) → is_blank_or_breakz (slice_index o 0) ≡ true → BeginsToken m (hyphen ∷ o)
 dash_begins m o h = record {
   stop = (refl, refl, refl);
   nul = refl;
@@ -190,9 +193,9 @@ behind_dash more n deeper ad =
 dash_enters : (f : Frame) (m : Marker) (o : List ℕ) (blank : Bool) (key : Option Candidate) (ad : ℕ)
     (deeper further : Bool)
     → nat_le f.indent m.col ≡ further
-    → (d : Bool) × (roll m.col (pass_on 1 (core_of f (moment_at m (45 ∷ o) blank key true ad deeper)))
+    → (d : Bool) × (roll m.col (pass_on 1 (core_of f (moment_at m (hyphen ∷ o) blank key true ad deeper)))
     ≡ core_of (frame_behind further m.col f)
-    (record (moment_at m (45 ∷ o) blank key true ad d) { cursor = cursor_at o (along m 1) false }))
+    (record (moment_at m (hyphen ∷ o) blank key true ad d) { cursor = cursor_at o (along m 1) false }))
 dash_enters f m o blank key ad deeper true e = (false, rw e refl)
 dash_enters f m o blank key ad deeper false e = (deeper, rw e refl)
 
@@ -203,7 +206,7 @@ forgets g n free = rw free refl
 
 dash_step : (f : Frame) (m : Marker) (o : List ℕ) (h : IsBehindIndicator o) (blank : Bool) (key : Option Candidate)
     (ad : ℕ) (deeper further : Bool) → nat_le f.indent m.col ≡ further → (i : ℕ)
-    → (d : Bool) × (step 45 (slice_index o 0) i (core_of f (moment_at m (45 ∷ o) blank key true ad deeper))
+    → (d : Bool) × (step 45 (slice_index o 0) i (core_of f (moment_at m (hyphen ∷ o) blank key true ad deeper))
     ≡ completed_step (behind_start further m tokens.BlockSequenceStart
     (at_mark (front_end h (along m 1)) tokens.BlockEntry))
     (core_of (frame_behind further m.col f) (behind_dash h.more (front_end h (along m 1)) d ad)))
@@ -293,7 +296,7 @@ before_next {limit} {start} {ts} place g n qs m o leads are none free quiet low 
 -- `-` is read, which begins a sequence or goes on with one
 pub reads_dash : {limit : ℕ} {start : State} {ts : List Kind} (f : Frame) (m : Marker) (o : List ℕ) (further : Bool)
     → nat_le f.indent m.col ≡ further → f.indent ≤ m.col + 1 → IsBehindIndicator o
-    → m.index + length (45 ∷ o) ≤ limit → (v : At limit start f m (45 ∷ o) ts) → v.allowed ≡ true
+    → m.index + length (hyphen ∷ o) ≤ limit → (v : At limit start f m (hyphen ∷ o) ts) → v.allowed ≡ true
     → Before limit start (layout.BehindDash m.col) (frame_behind further m.col f) (along m 1) o
     (ts ++ dash_kinds further)
 unfolding state_behind_content

@@ -86,14 +86,14 @@ lead_token p AtStart least m lead t u (inr (none, e)) b is =
     ink_token (spaces m) t u (spaces_skipped m) b (is ∙ ap (λ (x : List ℕ). x ++ t) e)
 
 flow_token : {limit : ℕ} → ReadsLeaves limit → (node : Node) (place : Position) (t o : List ℕ)
-    → IsFlowInBlock 255 node place t o → HasToken t
+    → IsFlowInBlock most_open node place t o → HasToken t
 flow_token leaves node place t o (gap, text, end, gap_is, is, end_is, e) =
     ink_token gap (text ++ end) t (gap_skipped place gap gap_is)
-    (further_ink text end (leaves.flow_ink node 255 (indent_at place) false text is)) e
+    (further_ink text end (leaves.flow_ink node most_open (indent_at place) false text is)) e
 
 -- a node is left out, or has a token
 pub node_token : {limit : ℕ} → ReadsLeaves limit → (node : Node) (place : Position) (t o : List ℕ)
-    → IsBlockNode 255 node place t o → IsLeftOut node place t o ⊎ HasToken t
+    → IsBlockNode most_open node place t o → IsLeftOut node place t o ⊎ HasToken t
 node_token leaves (Alias name) place t o h = inr (flow_token leaves (Alias name) place t o h)
 node_token leaves (Scalar p style value) place t o (inl h) = inl h
 node_token leaves (Scalar p style value) place t o (inr (inl h)) =

@@ -3,7 +3,7 @@ use Rattle.std.proofs.Common.{◌≡◌, ℕ, ◌+◌, ◌^◌, ◌<◌, ◌≤�
 use Rattle.std.specs.Prelude.{◌-◌, ◌||◌, ◌&&◌, ◌==◌, not, nat_le, nat_lt, Option, Some, None, if◌then◌else◌}
 use Rattle.std.proofs.lemmas.Bool.Decides.{nat_tests}
 use Rattle.std.proofs.lemmas.List.{length-append}
-use Rattle.saphyr_input.specs.Classes.{is_z}
+use Rattle.saphyr_input.specs.Classes.{is_z, line_feed}
 use Rattle.saphyr_input.specs.Places.{can_be_plain, is_document_indicator}
 use Rattle.saphyr_scalar.specs.declared.scalar.position.Marker.{Marker}
 use Rattle.saphyr_scalar.specs.Spelling.Spaces.{IsEol}
@@ -16,6 +16,7 @@ use Rattle.saphyr_scanner.specs.Grammar.FlowNodes.{IsFlowNode}
 use Rattle.saphyr_scanner.specs.Steps.Passing.{goes_on_behind}
 use Rattle.saphyr_scanner.specs.Grammar.TokenGrammar as grammar
 use Rattle.saphyr_scanner.specs.Grammar.Tokens.{Kind}
+use Rattle.saphyr_scanner.specs.Grammar.Layout.{most_open}
 use Rattle.saphyr_scanner.proofs.InFlow.States.{moment, least_low}
 use Rattle.saphyr_scanner.proofs.Flow.States as flow
 use Rattle.saphyr_scanner.proofs.Flow.States.{moved, past, crosses, EndsDocument, IsLeft, IsBehindRoot, Since, ReaderPromises}
@@ -105,8 +106,8 @@ far_left k m h = rw (too_far k m h) refl
 
 -- behind a break at the end of a text and what is passed then stands a later line
 later_end : (limit : ℕ) → limit < 2 ^ 63 → (m : Marker) (a b rest o : List ℕ) → IsLined m
-    → m.index + length ((a ++ (b ++ (rest ++ (10 ∷ [])))) ++ o) ≤ limit
-    → (moved m a).line < (past 0 (moved m (a ++ (b ++ (rest ++ (10 ∷ []))))) o).0.line
+    → m.index + length ((a ++ (b ++ (rest ++ (line_feed ∷ [])))) ++ o) ≤ limit
+    → (moved m a).line < (past 0 (moved m (a ++ (b ++ (rest ++ (line_feed ∷ []))))) o).0.line
 later_end limit short m a b rest o lined below =
     let p = moved m a in
     let w = (b ++ rest) ++ (10 ∷ []) in
@@ -183,7 +184,7 @@ behind_root f n end o h q is stop left =
     by_text m (c ∷ cs) stop (inr k) = inr (record { left = k; first = c; others = cs; is = refl; blank = stop.0 })
 
 pub reads_flow : ReaderPromises → (limit : ℕ) → limit < 2 ^ 63 → (node : Node)
-    → ReadsAt limit node (IsFlowInBlock 255 node)
+    → ReadsAt limit node (IsFlowInBlock most_open node)
 reads_flow reads limit short node place f same m t o (gap, text, end, gap_is, node_is, end_is, e) fits behind start ts
     before =
     let around = around_of limit f in
@@ -194,9 +195,10 @@ reads_flow reads limit short node place f same m t o (gap, text, end, gap_is, no
     ∙ ap (λ (x : List ℕ). gap ++ x) (append_assoc text end o) in
     let place_is : moved m t ≡ moved n end = ap (moved m) e ∙ moved_append m gap (text ++ end)
     ∙ moved_append at text end in
-    let is : IsFlowNode 255 node false f.indent text = subst (λ (i : ℕ). IsFlowNode 255 node false i text) (sym same)
+    let is : IsFlowNode most_open node false f.indent text = subst (λ (i : ℕ). IsFlowNode most_open node false i text)
+    (sym same)
     node_is in
-    let ink = node_ink f.indent 255 node false text is in
+    let ink = node_ink f.indent most_open node false text is in
     let l = lands_behind f m gap (text ++ rest) gap_is (further_ink text rest ink)
     (subst (λ (x : List ℕ). Before limit start place f m x ts) whole before) in
     let v = l.0 in

@@ -22,6 +22,7 @@ use Rattle.saphyr_scalar.proofs.Given.{cursor_at}
 use Rattle.saphyr_input.proofs.Basics.Booleans.{and_or_false}
 use Rattle.std.proofs.Math.Bool.{and-true}
 use Rattle.std.proofs.lemmas.Bool.{le-leb}
+use Rattle.saphyr_input.specs.Indicators.{percent_sign}
 use Rattle.saphyr_scanner.proofs.Queues.{queue_of}
 
 -- ## Going on
@@ -178,7 +179,7 @@ pub record BeginsToken (m : Marker) (y : List ℕ) : Type 0 where
   pub stop : IsStop y
   pub nul : is_z (slice_index y 0) ≡ false
   pub byte_order_mark : is_bom (slice_index y 0) ≡ false
-  pub directive : ((m.col == 0) && (slice_index y 0 == 37)) ≡ false
+  pub directive : ((m.col == 0) && (slice_index y 0 == percent_sign)) ≡ false
   pub marker : ((m.col == 0) && is_document_indicator y) ≡ false
 
 far_enough : (i col : ℕ) (deeper : Bool) → i ≤ col + 1

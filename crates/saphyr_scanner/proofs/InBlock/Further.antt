@@ -61,11 +61,12 @@ question_further more node o ends h (some, clear) = (
 abbrev GoesOn : List ℕ → (Position → List ℕ → List ℕ → Type 0) → Type 0
 GoesOn more Is = (place : Position) (t o : List ℕ) → IsTokenAhead more o → Is place t o → Is place t (o ++ more)
 
-pair_further : (more : List ℕ) {limit : ℕ} → ReadsLeaves limit → (key value : Node) → GoesOn more (IsBlockNode 255 key)
-    → GoesOn more (IsBlockNode 255 value)
+pair_further : (more : List ℕ) {limit : ℕ} → ReadsLeaves limit → (key value : Node)
+    → GoesOn more (IsBlockNode most_open key)
+    → GoesOn more (IsBlockNode most_open value)
     → (m : ℕ) (t o : List ℕ) → IsTokenAhead more o
-    → IsBlockPair 255 key value (IsBlockNode 255 key) (IsBlockNode 255 value) m t o
-    → IsBlockPair 255 key value (IsBlockNode 255 key) (IsBlockNode 255 value) m t (o ++ more)
+    → IsBlockPair most_open key value (IsBlockNode most_open key) (IsBlockNode most_open value) m t o
+    → IsBlockPair most_open key value (IsBlockNode most_open key) (IsBlockNode most_open value) m t (o ++ more)
 pair_further more leaves key value K V m t o ahead
     (inl (node, between, v, node_is, line, spaced, before, short, h, e)) =
     inl (node, between, v, node_is, line, spaced, before, short, V (BehindKey m) v o ahead h, e)
@@ -90,7 +91,7 @@ pair_further more leaves key value K V m t o ahead (inr (inr (node, colon, v, so
       v,
       subst (IsBehindQuestion node) text
           (question_further more node y (node_ends leaves key (BehindMark m) node y h) ahead_y some),
-      subst (IsBlockNode 255 key (BehindMark m) node) text (K (BehindMark m) node y ahead_y h),
+      subst (IsBlockNode most_open key (BehindMark m) node) text (K (BehindMark m) node y ahead_y h),
       mark,
       V
           (BehindMark m) v o ahead k,
@@ -99,12 +100,13 @@ pair_further more leaves key value K V m t o ahead (inr (inr (node, colon, v, so
 
 mutual
   pub node_further : (more : List ℕ) {limit : ℕ} → ReadsLeaves limit → (node : Node) (place : Position) (t o : List ℕ)
-      → IsTokenAhead more o → IsBlockNode 255 node place t o → IsBlockNode 255 node place t (o ++ more)
-  node_further more leaves (Alias name) place t o ahead h = flow_further more 255 (Alias name) place t o ahead.fed h
+      → IsTokenAhead more o → IsBlockNode most_open node place t o → IsBlockNode most_open node place t (o ++ more)
+  node_further more leaves (Alias name) place t o ahead h = flow_further more most_open (Alias name) place t o ahead.fed
+  h
   node_further more leaves (Scalar p style value) place t o ahead (inl (none, start, end)) =
       inl (none, start, eol_further more t o ahead.fed end)
   node_further more leaves (Scalar p style value) place t o ahead (inr (inl h)) =
-      inr (inl (flow_further more 255 (Scalar p style value) place t o ahead.fed h))
+      inr (inl (flow_further more most_open (Scalar p style value) place t o ahead.fed h))
   node_further more leaves (Scalar p style value) place t o ahead
       (inr (inr (gap, front, scalar, gap_is, front_is, h, e))) =
       inr (inr (
@@ -117,21 +119,21 @@ mutual
         e,
       ))
   node_further more leaves (Seq p nodes) place t o ahead (inl h) =
-      inl (flow_further more 255 (Seq p nodes) place t o ahead.fed h)
+      inl (flow_further more most_open (Seq p nodes) place t o ahead.fed h)
   node_further more leaves (Seq p nodes) place t o ahead (inr (m, lead, entries, lead_is, h, e)) =
       inr (m, lead, entries, lead_is, entries_further more leaves nodes m entries o ahead h, e)
   node_further more leaves (Map p pairs) place t o ahead (inl h) =
-      inl (flow_further more 255 (Map p pairs) place t o ahead.fed h)
+      inl (flow_further more most_open (Map p pairs) place t o ahead.fed h)
   node_further more leaves (Map p pairs) place t o ahead (inr (m, lead, entries, lead_is, h, e)) =
       inr (m, lead, entries, lead_is, pairs_further more leaves pairs m entries o ahead h, e)
 
   entries_further : (more : List ℕ) {limit : ℕ} → ReadsLeaves limit → (nodes : Nodes) (m : ℕ) (t o : List ℕ)
-      → IsTokenAhead more o → AreEntries 255 nodes m t o → AreEntries 255 nodes m t (o ++ more)
+      → IsTokenAhead more o → AreEntries most_open nodes m t o → AreEntries most_open nodes m t (o ++ more)
   entries_further more leaves NoNode m t o ahead h = absurd h
   entries_further more leaves (MoreNodes node nodes) m t o ahead (entry, others, h, k, e) = (
     entry,
     others,
-    subst (IsBlockNode 255 node (BehindDash m) entry) (append_assoc others o more)
+    subst (IsBlockNode most_open node (BehindDash m) entry) (append_assoc others o more)
         (node_further more leaves node (BehindDash m) entry (others ++ o)
         (ahead_front more others o (other_entries_end leaves nodes m others o k) ahead) h),
     other_entries_further more leaves nodes m others o ahead k,
@@ -139,14 +141,14 @@ mutual
   )
 
   other_entries_further : (more : List ℕ) {limit : ℕ} → ReadsLeaves limit → (nodes : Nodes) (m : ℕ) (t o : List ℕ)
-      → IsTokenAhead more o → AreOtherEntries 255 nodes m t o → AreOtherEntries 255 nodes m t (o ++ more)
+      → IsTokenAhead more o → AreOtherEntries most_open nodes m t o → AreOtherEntries most_open nodes m t (o ++ more)
   other_entries_further more leaves NoNode m t o ahead h = h
   other_entries_further more leaves (MoreNodes node nodes) m t o ahead (front, entry, others, front_is, h, k, e) = (
     front,
     entry,
     others,
     front_is,
-    subst (IsBlockNode 255 node (BehindDash m) entry) (append_assoc others o more)
+    subst (IsBlockNode most_open node (BehindDash m) entry) (append_assoc others o more)
         (node_further more leaves node (BehindDash m) entry (others ++ o)
         (ahead_front more others o (other_entries_end leaves nodes m others o k) ahead) h),
     other_entries_further more leaves nodes m others o ahead k,
@@ -154,12 +156,12 @@ mutual
   )
 
   pairs_further : (more : List ℕ) {limit : ℕ} → ReadsLeaves limit → (pairs : Pairs) (m : ℕ) (t o : List ℕ)
-      → IsTokenAhead more o → ArePairs 255 pairs m t o → ArePairs 255 pairs m t (o ++ more)
+      → IsTokenAhead more o → ArePairs most_open pairs m t o → ArePairs most_open pairs m t (o ++ more)
   pairs_further more leaves NoPair m t o ahead h = absurd h
   pairs_further more leaves (MorePairs key value pairs) m t o ahead (pair, others, h, k, e) = (
     pair,
     others,
-    subst (IsBlockPair 255 key value (IsBlockNode 255 key) (IsBlockNode 255 value) m pair)
+    subst (IsBlockPair most_open key value (IsBlockNode most_open key) (IsBlockNode most_open value) m pair)
         (append_assoc others o more)
         (pair_further more leaves key value (λ place u z f l. node_further more leaves key place u z f l)
         (λ place u z f l. node_further more leaves value place u z f l) m pair (others ++ o)
@@ -170,14 +172,14 @@ mutual
   )
 
   other_pairs_further : (more : List ℕ) {limit : ℕ} → ReadsLeaves limit → (pairs : Pairs) (m : ℕ) (t o : List ℕ)
-      → IsTokenAhead more o → AreOtherPairs 255 pairs m t o → AreOtherPairs 255 pairs m t (o ++ more)
+      → IsTokenAhead more o → AreOtherPairs most_open pairs m t o → AreOtherPairs most_open pairs m t (o ++ more)
   other_pairs_further more leaves NoPair m t o ahead h = h
   other_pairs_further more leaves (MorePairs key value pairs) m t o ahead (front, pair, others, front_is, h, k, e) = (
     front,
     pair,
     others,
     front_is,
-    subst (IsBlockPair 255 key value (IsBlockNode 255 key) (IsBlockNode 255 value) m pair)
+    subst (IsBlockPair most_open key value (IsBlockNode most_open key) (IsBlockNode most_open value) m pair)
         (append_assoc others o more)
         (pair_further more leaves key value (λ place u z f l. node_further more leaves key place u z f l)
         (λ place u z f l. node_further more leaves value place u z f l) m pair (others ++ o)

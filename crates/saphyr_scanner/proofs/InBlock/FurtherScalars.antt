@@ -1,6 +1,6 @@
 -- A block scalar stands where more text follows as well, if what stands behind it ends with a break and has a token.
 use Rattle.std.proofs.Common.{◌≡◌, ℕ, zero, suc, Bool, true, false, List, [], ◌∷◌, ◌++◌, slice_index, refl, sym, ap, ◌∙◌, subst, append_assoc, ◌⊎◌, inl, inr, IsTrue}
-use Rattle.saphyr_input.specs.Classes.{is_z, is_yaml_non_break}
+use Rattle.saphyr_input.specs.Classes.{is_z, is_yaml_non_break, line_feed}
 use Rattle.saphyr_input.specs.Places.{is_document_indicator}
 use Rattle.saphyr_scalar.specs.Steps.BlockRead.{spaces}
 use Rattle.scalar_values.specs.Block.{Line}
@@ -19,7 +19,7 @@ use Rattle.saphyr_input.proofs.Basics.Booleans.{clash}
 
 pub record EndsFed (o : List ℕ) : Type 0 where
   pub front : List ℕ
-  pub is : o ≡ front ++ (10 ∷ [])
+  pub is : o ≡ front ++ (line_feed ∷ [])
 
 pub fed_front : (a b : List ℕ) → EndsFed b → EndsFed (a ++ b)
 fed_front a b h = record {
@@ -30,7 +30,7 @@ fed_front a b h = record {
 pub none_fed : (o : List ℕ) → EndsFed o → o ≡ [] → ⊥
 none_fed o h e = some h.front (sym h.is ∙ e)
   where
-    some : (front : List ℕ) → front ++ (10 ∷ []) ≡ [] → ⊥
+    some : (front : List ℕ) → front ++ (line_feed ∷ []) ≡ [] → ⊥
     some [] e = cc
     some (c ∷ cs) e = cc
 
@@ -38,7 +38,8 @@ none_fed o h e = some h.front (sym h.is ∙ e)
 same_first : (o more : List ℕ) → EndsFed o → slice_index (o ++ more) 0 ≡ slice_index o 0
 same_first o more h = subst (λ (x : List ℕ). slice_index (x ++ more) 0 ≡ slice_index x 0) (sym h.is) (by_front h.front)
   where
-    by_front : (front : List ℕ) → slice_index ((front ++ (10 ∷ [])) ++ more) 0 ≡ slice_index (front ++ (10 ∷ [])) 0
+    by_front : (front : List ℕ)
+        → slice_index ((front ++ (line_feed ∷ [])) ++ more) 0 ≡ slice_index (front ++ (line_feed ∷ [])) 0
     by_front [] = refl
     by_front (c ∷ cs) = refl
 
@@ -47,12 +48,13 @@ same_marker o more h = subst (λ (x : List ℕ). is_document_indicator (x ++ mor
     (by_front h.front)
   where
     by_front : (front : List ℕ)
-        → is_document_indicator ((front ++ (10 ∷ [])) ++ more) ≡ is_document_indicator (front ++ (10 ∷ []))
+        → is_document_indicator ((front ++ (line_feed ∷ [])) ++ more)
+        ≡ is_document_indicator (front ++ (line_feed ∷ []))
     by_front [] = refl
     by_front (c ∷ cs) = fed_marker c cs more
 
 -- behind spaces
-fed_back : (n : ℕ) (o front : List ℕ) → spaces n ++ o ≡ front ++ (10 ∷ []) → EndsFed o
+fed_back : (n : ℕ) (o front : List ℕ) → spaces n ++ o ≡ front ++ (line_feed ∷ []) → EndsFed o
 fed_back zero o front e = record { front = front; is = e }
 fed_back (suc n) o [] e = absurd (cc)
 fed_back (suc n) o (c ∷ cs) e = fed_back n o cs (cc)
@@ -61,7 +63,7 @@ fed_back (suc n) o (c ∷ cs) e = fed_back n o cs (cc)
 pub fed_behind : (a : List ℕ) (c : ℕ) (cs : List ℕ) → EndsFed (a ++ (c ∷ cs)) → EndsFed (c ∷ cs)
 fed_behind a c cs h = by_front a h.front h.is
   where
-    by_front : (a front : List ℕ) → a ++ (c ∷ cs) ≡ front ++ (10 ∷ []) → EndsFed (c ∷ cs)
+    by_front : (a front : List ℕ) → a ++ (c ∷ cs) ≡ front ++ (line_feed ∷ []) → EndsFed (c ∷ cs)
     by_front [] front e = record { front = front; is = e }
     by_front (b ∷ bs) [] e = absurd (none_inside bs (cc))
       where
@@ -103,19 +105,20 @@ header_further more (chomping_first mark a b d c i e) =
     (line_end_further more e)
 
 marker_before_feed : (c : ℕ) (cs t more : List ℕ)
-    → is_document_indicator (c ∷ (cs ++ (10 ∷ (t ++ more)))) ≡ is_document_indicator (c ∷ (cs ++ (10 ∷ t)))
+    → is_document_indicator (c ∷ (cs ++ (line_feed ∷ (t ++ more))))
+    ≡ is_document_indicator (c ∷ (cs ++ (line_feed ∷ t)))
 marker_before_feed c cs t more =
     ap (λ (x : List ℕ). is_document_indicator (c ∷ x)) (sym (append_assoc cs (10 ∷ []) (t ++ more)))
     ∙ fed_marker c cs (t ++ more) ∙ sym (fed_marker c cs t)
     ∙ ap (λ (x : List ℕ). is_document_indicator (c ∷ x)) (append_assoc cs (10 ∷ []) t)
 
-content_further : (more : List ℕ) (i c : ℕ) (cs t : List ℕ) → IsContent i c cs (10 ∷ t)
-    → IsContent i c cs (10 ∷ (t ++ more))
+content_further : (more : List ℕ) (i c : ℕ) (cs t : List ℕ) → IsContent i c cs (line_feed ∷ t)
+    → IsContent i c cs (line_feed ∷ (t ++ more))
 content_further more i c cs t h =
     record { all = h.all; no_marker = λ e. marker_before_feed c cs t more ∙ h.no_marker e }
 
 content_text : (i c : ℕ) (cs t more : List ℕ)
-    → (spaces i ++ (c ∷ (cs ++ (10 ∷ t)))) ++ more ≡ spaces i ++ (c ∷ (cs ++ (10 ∷ (t ++ more))))
+    → (spaces i ++ (c ∷ (cs ++ (line_feed ∷ t)))) ++ more ≡ spaces i ++ (c ∷ (cs ++ (line_feed ∷ (t ++ more))))
 content_text i c cs t more =
     append_assoc (spaces i) (c ∷ (cs ++ (10 ∷ t))) more
     ∙ ap (λ (x : List ℕ). spaces i ++ (c ∷ x)) (append_assoc cs (10 ∷ t) more)

@@ -3,7 +3,7 @@
 use Rattle.std.proofs.Common.{◌≡◌, ℕ, Bool, true, false, List, [], ◌∷◌, slice_index, refl, sym, ap, ◌∙◌, arith, Result, Ok, Err}
 use Rattle.std.specs.Prelude.{◌||◌, ◌&&◌, ◌==◌, not, nat_lt, if◌then◌else◌}
 use Rattle.std.proofs.lemmas.Bool.Decides.{nat_tests}
-use Rattle.saphyr_input.specs.Classes.{is_blank, is_break, is_bom, is_z, is_yaml_non_break}
+use Rattle.saphyr_input.specs.Classes.{is_blank, is_break, is_bom, is_z, is_yaml_non_break, carriage_return, line_feed}
 use Rattle.saphyr_scalar.specs.declared.scalar.position.Marker.{Marker}
 use Rattle.saphyr_scalar.specs.Views.Cursor.{Cursor, along, next_line, refuse}
 use Rattle.saphyr_scalar.specs.declared.scalar.fault.Refusal.{Refusal}
@@ -14,6 +14,7 @@ use Rattle.saphyr_scanner.proofs.InBlock.States.{IsStop, tabbed, tabbed_comment,
 use Rattle.saphyr_input.proofs.Basics.Characters.{no_return_and}
 use Rattle.saphyr_input.proofs.Basics.Booleans.{or_false_left}
 use Rattle.std.proofs.Math.Bool.{or-false, or-true}
+use Rattle.saphyr_input.specs.Indicators.{number_sign}
 use Rattle.saphyr_scanner.proofs.Flow.Gaps.{stop_ends}
 use Rattle.saphyr_scanner.proofs.Gaps.{stop_here}
 
@@ -44,7 +45,8 @@ no_left m c = ap (λ (b : Bool). (c == 9) && b) (no_less m.col) ∙ none (c == 9
     none false = refl
 
 gap_kind : (least : ℕ) (m : Marker) (blank broke tab : Bool) (c : ℕ) (cs : List ℕ) (is_white is_line is_sign : Bool)
-    → (is_blank c || ((c == 13) && (slice_index cs 0 == 10))) ≡ is_white → is_break c ≡ is_line → (c == 35) ≡ is_sign
+    → (is_blank c || ((c == carriage_return) && (slice_index cs 0 == line_feed))) ≡ is_white → is_break c ≡ is_line
+    → (c == number_sign) ≡ is_sign
     → GapStops least (along m 1) blank broke (is_tab_indentation least m blank c || tab) cs
     → GapStops least (next_line m 1) true true false cs
     → StopsComment least (along m 1) blank broke tab cs → GapStops least m blank broke tab (c ∷ cs)
@@ -71,7 +73,8 @@ gap_kind least m blank broke tab c cs false false false e f g on line sign =
 
 gap_over_comment : (least : ℕ) (m : Marker) (blank broke tab : Bool) (c : ℕ) (cs : List ℕ)
     (is_word is_return is_line : Bool)
-    → is_yaml_non_break c ≡ is_word → ((c == 13) && (slice_index cs 0 == 10)) ≡ is_return → is_break c ≡ is_line
+    → is_yaml_non_break c ≡ is_word → ((c == carriage_return) && (slice_index cs 0 == line_feed)) ≡ is_return
+    → is_break c ≡ is_line
     → StopsComment least (along m 1) blank broke tab cs → GapStops least (along m 1) blank broke tab cs
     → GapStops least (next_line m 1) true true false cs → StopsComment least m blank broke tab (c ∷ cs)
 gap_over_comment least m blank broke tab c cs true q r e f g word on line =
@@ -90,7 +93,7 @@ gap_over_comment least m blank broke tab c cs false false false e f g word on li
     no_blank : (c : ℕ) → is_yaml_non_break c ≡ false → is_break c ≡ false → is_blank c ≡ false
     no_blank c e f = grind (arith, nat_tests)
 
-    no_sign : (c : ℕ) → is_yaml_non_break c ≡ false → (c == 35) ≡ false
+    no_sign : (c : ℕ) → is_yaml_non_break c ≡ false → (c == number_sign) ≡ false
     no_sign c e = grind (arith, nat_tests)
 
 mutual

@@ -2,6 +2,7 @@
 use Rattle.std.proofs.Common.{◌≡◌, ℕ, ◌+◌, ◌≤◌, Bool, true, false, List, [], ◌∷◌, ◌++◌, length, slice_index, Ok, refl, ap, ◌∙◌, arith, inr}
 use Rattle.std.proofs.lemmas.List.{length-append}
 use Rattle.std.specs.Prelude.{Option, None}
+use Rattle.saphyr_input.specs.Indicators.{full_stop, hyphen}
 use Rattle.saphyr_input.specs.Classes.{is_blank_or_breakz}
 use Rattle.saphyr_scalar.specs.declared.scalar.position.Marker.{Marker}
 use Rattle.saphyr_scalar.specs.Views.Cursor.{Cursor, along}
@@ -69,7 +70,7 @@ front_low : (i l limit : ℕ) → i + l ≤ limit → i ≤ limit
 front_low i l limit h = omega (arith, h)
 
 pub hands_start : {limit : ℕ} {start : State} {free opened : Bool} {ts : List Kind} (r : List ℕ)
-    → StandsInStream limit start free (Lined opened (45 ∷ 45 ∷ 45 ∷ r)) (45 ∷ 45 ∷ 45 ∷ r) ts
+    → StandsInStream limit start free (Lined opened (hyphen ∷ hyphen ∷ hyphen ∷ r)) (hyphen ∷ hyphen ∷ hyphen ∷ r) ts
     → is_blank_or_breakz (slice_index r 0) ≡ true
     → Handed limit start (ts ++ tokens.DocumentStart ∷ [])
 hands_start {limit = limit} r v h =
@@ -80,7 +81,8 @@ hands_start {limit = limit} r v h =
     (front_low (v.mark.index + 3) (length r) limit (start_count v.mark r limit v.count))
 
 pub hands_end : {limit : ℕ} {start : State} {free opened : Bool} {ts : List Kind} (end o : List ℕ)
-    → StandsInStream limit start free (Lined opened (46 ∷ 46 ∷ 46 ∷ (end ++ o))) (46 ∷ 46 ∷ 46 ∷ (end ++ o)) ts
+    → StandsInStream limit start free (Lined opened (full_stop ∷ full_stop ∷ full_stop ∷ (end ++ o)))
+    (full_stop ∷ full_stop ∷ full_stop ∷ (end ++ o)) ts
     → IsEol end o
     → Handed limit start (ts ++ tokens.DocumentEnd ∷ [])
 hands_end {limit = limit} end o v h =

@@ -11,6 +11,7 @@ use Rattle.saphyr_scanner.proofs.Flow.States.{marks_line}
 use Rattle.saphyr_scanner.proofs.Flow.Fillers.{behind_is}
 use Rattle.saphyr_scanner.proofs.InBlock.Skips.{IsSkipped, nothing, one_space, one_break, one_rest, filler_skipped}
 use Rattle.std.proofs.lemmas.Bool.{or_parts, or_from, and_right}
+use Rattle.saphyr_input.specs.Indicators.{full_stop, hyphen}
 use Rattle.saphyr_input.proofs.Basics.Characters.{non_break_no_feed, no_marker_at}
 
 -- ## Starts of lines
@@ -20,7 +21,7 @@ abbrev pub opens_line : Bool → List ℕ → Bool
 opens_line at_start [] = at_start
 opens_line at_start (c ∷ cs) = opens_line (c == line_feed) cs
 
-pub feed_opens : (at_start : Bool) (t : List ℕ) → opens_line at_start (t ++ (10 ∷ [])) ≡ true
+pub feed_opens : (at_start : Bool) (t : List ℕ) → opens_line at_start (t ++ (line_feed ∷ [])) ≡ true
 feed_opens at_start [] = refl
 feed_opens at_start (c ∷ cs) = feed_opens (c == line_feed) cs
 
@@ -48,7 +49,7 @@ pub both_unmarked : (a b : List ℕ) → IsUnmarked a → IsUnmarked b → IsUnm
 both_unmarked a b h k at_start o = join_unmarked at_start a b o (h at_start (b ++ o)) k
 
 -- behind a character with which no marker begins
-first_unmarked : (c : ℕ) (cs o : List ℕ) → (c == 45) ≡ false → (c == 46) ≡ false
+first_unmarked : (c : ℕ) (cs o : List ℕ) → (c == hyphen) ≡ false → (c == full_stop) ≡ false
     → marks_line (c == line_feed) cs o ≡ false → (at_start : Bool) → marks_line at_start (c ∷ cs) o ≡ false
 first_unmarked c cs o e f h at_start =
     or_from (at_start && is_document_indicator (c ∷ (cs ++ o))) (marks_line (c == line_feed) cs o)
@@ -66,7 +67,7 @@ words_unmarked [] o h = refl
 words_unmarked (c ∷ cs) o h = ap (λ (b : Bool). marks_line b cs o) (feed_by_test c h.0) ∙ words_unmarked cs o h.1
 
 -- a line, or its beginning, whose first character begins no marker
-pub line_unmarked : (c : ℕ) (cs : List ℕ) → (c == 45) ≡ false → (c == 46) ≡ false
+pub line_unmarked : (c : ℕ) (cs : List ℕ) → (c == hyphen) ≡ false → (c == full_stop) ≡ false
     → AreIn (λ c. not (c == line_feed)) (c ∷ cs) → IsUnmarked (c ∷ cs)
 line_unmarked c cs e f h at_start o = first_unmarked c cs o e f (words_unmarked (c ∷ cs) o h) at_start
 
@@ -87,10 +88,10 @@ blanks_unmarked [] h at_start o = refl
 blanks_unmarked (c ∷ cs) h at_start o =
     first_unmarked c cs o (no_dash c h.0) (no_dot c h.0) (blanks_unmarked cs h.1 (c == line_feed) o) at_start
   where
-    no_dash : (c : ℕ) → IsTrue (is_blank c) → (c == 45) ≡ false
+    no_dash : (c : ℕ) → IsTrue (is_blank c) → (c == hyphen) ≡ false
     no_dash c h = grind (arith, nat_tests)
 
-    no_dot : (c : ℕ) → IsTrue (is_blank c) → (c == 46) ≡ false
+    no_dot : (c : ℕ) → IsTrue (is_blank c) → (c == full_stop) ≡ false
     no_dot c h = grind (arith, nat_tests)
 
 pub skipped_unmarked : (w : List ℕ) → IsSkipped w → IsUnmarked w

@@ -74,8 +74,8 @@ past_line m t =
     next l i n r h low k = omega (arith, h, low, k)
 
 -- behind a break stands a later line
-pub later_line : (m : Marker) (a b : List ℕ) → IsLined m → m.index + length (a ++ (10 ∷ b)) < 2 ^ 63
-    → m.line < (moved m (a ++ (10 ∷ b))).line
+pub later_line : (m : Marker) (a b : List ℕ) → IsLined m → m.index + length (a ++ (line_feed ∷ b)) < 2 ^ 63
+    → m.line < (moved m (a ++ (line_feed ∷ b))).line
 later_line m a b h low =
     let p = moved m a in
     let count = moved_index m a in

@@ -8,6 +8,7 @@ use Rattle.saphyr_scanner.specs.Steps.State.{State}
 use Rattle.saphyr_scanner.specs.Grammar.Tokens.{Kind}
 use Rattle.saphyr_scanner.specs.Grammar.Forest.{Node, Pairs, NoPair, MorePairs}
 use Rattle.saphyr_scanner.specs.Grammar.BlockNodes.{IsBlockPair, IsBlockNode, ArePairs, AreOtherPairs}
+use Rattle.saphyr_scanner.specs.Grammar.Layout.{most_open}
 use Rattle.saphyr_scanner.proofs.Flow.States.{IsClear, moved, past}
 use Rattle.saphyr_scanner.proofs.Flow.Places.{moved_append, clear_here}
 use Rattle.saphyr_scanner.proofs.InBlock.Lines.{FitsOnLines, fits_front, fits_back, fits_so}
@@ -26,7 +27,7 @@ pair_text : (front pair others o : List ℕ) → (front ++ (pair ++ others)) ++ 
 pair_text front pair others o = simp append_assoc
 
 pub other_pairs_behind : {limit : ℕ} → ReadsLeaves limit → (pairs : Pairs) (column : ℕ) (m : Marker) (t o : List ℕ)
-    → AreOtherPairs 255 pairs column t o → StartsLine m (t ++ o) → EndsNodeAt (suc column) (moved m t) o
+    → AreOtherPairs most_open pairs column t o → StartsLine m (t ++ o) → EndsNodeAt (suc column) (moved m t) o
     → EndsNodeAt (suc column) m (t ++ o)
 other_pairs_behind leaves NoPair column m t o h starts behind =
     subst (λ (x : List ℕ). EndsNodeAt (suc column) (moved m x) o → EndsNodeAt (suc column) m (x ++ o)) (sym h) (λ k. k)
@@ -44,7 +45,8 @@ other_pairs_behind leaves (MorePairs key value pairs) column m t o (front, pair,
 -- what is shown of the pairs behind the first
 abbrev pub ReadsOtherPairs : ℕ → Pairs → Type 0
 ReadsOtherPairs limit pairs =
-    (g : Frame) (column : ℕ) → g.indent ≡ column + 1 → (m : Marker) (t o : List ℕ) → AreOtherPairs 255 pairs column t o
+    (g : Frame) (column : ℕ) → g.indent ≡ column + 1 → (m : Marker) (t o : List ℕ)
+    → AreOtherPairs most_open pairs column t o
     → FitsOnLines limit m t o → EndsNodeAt (suc column) (moved m t) o → StartsLine m (t ++ o)
     → (start : State) (ts : List Kind) → Arrived limit start g m (t ++ o) ts
     → PairsRead limit start pairs g (moved m t) o ts
@@ -79,7 +81,7 @@ list_end : (ts us vs : List Kind) → ((ts ++ []) ++ us) ++ vs ≡ ts ++ (us ++ 
 list_end ts us vs = simp (append_assoc, append-nil)
 
 pub more_pairs : {limit : ℕ} → ReadsLeaves limit → (key value : Node) (pairs : Pairs)
-    → ReadsAt limit key (IsBlockNode 255 key) → ReadsAt limit value (IsBlockNode 255 value)
+    → ReadsAt limit key (IsBlockNode most_open key) → ReadsAt limit value (IsBlockNode most_open value)
     → ReadsOtherPairs limit pairs
     → ReadsOtherPairs limit (MorePairs key value pairs)
 more_pairs {limit} leaves key value pairs K V more g column same m t o (front, pair, others, front_is, h, k, e) fits
@@ -97,7 +99,8 @@ more_pairs {limit} leaves key value pairs K V more g column same m t o (front, p
     ∙ reaches m front bz.first bz.others (indentation_skipped column front front_is) bz.ink
     ∙ ap (λ (x : List ℕ). let q : Marker × List ℕ = (n, x) in q) (sym bz.is) in
     let at_pair = subst (ArrivedAt limit start g ts) there v in
-    let is_pair = subst (λ (c : ℕ). IsBlockPair 255 key value (IsBlockNode 255 key) (IsBlockNode 255 value) c pair z)
+    let is_pair = subst (λ (c : ℕ). IsBlockPair most_open key value (IsBlockNode most_open key)
+    (IsBlockNode most_open value) c pair z)
     (sym col) h in
     let whole = fits_so m t (front ++ (pair ++ others)) o e fits in
     let fits_pairs = fits_back m front (pair ++ others) o whole in
@@ -126,17 +129,18 @@ more_pairs {limit} leaves key value pairs K V more g column same m t o (front, p
     }
   where
     ends : (key value : Node) (c : ℕ) (pair z : List ℕ)
-        → IsBlockPair 255 key value (IsBlockNode 255 key) (IsBlockNode 255 value) c pair z → EndsWithLine pair z
+        → IsBlockPair most_open key value (IsBlockNode most_open key) (IsBlockNode most_open value) c pair z
+        → EndsWithLine pair z
     ends key value c pair z h =
         pair_ends key value (λ place u y i. node_ends leaves key place u y i)
         (λ place u y i. node_ends leaves value place u y i) c pair z h
 
 -- from the first pair on
 pub reads_pairs : {limit : ℕ} → ReadsLeaves limit → (key value : Node) (pairs : Pairs)
-    → ReadsAt limit key (IsBlockNode 255 key) → ReadsAt limit value (IsBlockNode 255 value)
+    → ReadsAt limit key (IsBlockNode most_open key) → ReadsAt limit value (IsBlockNode most_open value)
     → ReadsOtherPairs limit pairs
     → (f : Frame) (n : Marker) (further : Bool) → nat_le f.indent n.col ≡ further → f.indent ≤ n.col + 1
-    → (t o : List ℕ) → ArePairs 255 (MorePairs key value pairs) n.col t o → FitsOnLines limit n t o
+    → (t o : List ℕ) → ArePairs most_open (MorePairs key value pairs) n.col t o → FitsOnLines limit n t o
     → EndsNodeAt (suc n.col) (moved n t) o
     → (start : State) (ts : List Kind) (v : At limit start f n (t ++ o) ts) → v.allowed ≡ true
     → PairsRead limit start (MorePairs key value pairs) (frame_behind further n.col f) (moved n t) o

@@ -16,24 +16,25 @@ lost_third true true z = refl
 lost_third true false z = refl
 lost_third false b z = refl
 
-feed_second : (c : ℕ) (t : List ℕ) → is_document_indicator (c ∷ 10 ∷ t) ≡ false
+feed_second : (c : ℕ) (t : List ℕ) → is_document_indicator (c ∷ line_feed ∷ t) ≡ false
 feed_second c t = or_from (is_document_start (c ∷ 10 ∷ t)) (is_document_end (c ∷ 10 ∷ t)) (lost_second (c == 45) _ _)
     (lost_second (c == 46) _ _)
 
-feed_third : (c d : ℕ) (t : List ℕ) → is_document_indicator (c ∷ d ∷ 10 ∷ t) ≡ false
+feed_third : (c d : ℕ) (t : List ℕ) → is_document_indicator (c ∷ d ∷ line_feed ∷ t) ≡ false
 feed_third c d t = or_from (is_document_start (c ∷ d ∷ 10 ∷ t)) (is_document_end (c ∷ d ∷ 10 ∷ t))
     (lost_third (c == 45) (d == 45) _) (lost_third (c == 46) (d == 46) _)
 
 -- a document marker ends before a line feed
 pub fed_marker : (c : ℕ) (cs behind : List ℕ)
-    → is_document_indicator (c ∷ ((cs ++ (10 ∷ [])) ++ behind)) ≡ is_document_indicator (c ∷ (cs ++ (10 ∷ [])))
+    → is_document_indicator (c ∷ ((cs ++ (line_feed ∷ [])) ++ behind))
+    ≡ is_document_indicator (c ∷ (cs ++ (line_feed ∷ [])))
 fed_marker c [] behind = feed_second c behind ∙ sym (feed_second c [])
 fed_marker c (d ∷ []) behind = feed_third c d behind ∙ sym (feed_third c d [])
 fed_marker c (d ∷ e ∷ []) behind = refl
 fed_marker c (d ∷ e ∷ f ∷ more) behind = refl
 
 pub fed_marks : (at_start : Bool) (t behind : List ℕ)
-    → marks_line at_start (t ++ (10 ∷ [])) behind ≡ has_marker at_start (t ++ (10 ∷ []))
+    → marks_line at_start (t ++ (line_feed ∷ [])) behind ≡ has_marker at_start (t ++ (line_feed ∷ []))
 fed_marks at_start [] behind = refl
 fed_marks at_start (c ∷ cs) behind =
     ap (λ (b : Bool). (at_start && b) || marks_line (c == line_feed) (cs ++ (10 ∷ [])) behind) (fed_marker c cs behind)

@@ -10,6 +10,7 @@ use Rattle.saphyr_scanner.specs.Grammar.Tokens.{Kind}
 use Rattle.saphyr_scanner.specs.Grammar.TokenGrammar as grammar
 use Rattle.saphyr_scanner.specs.Grammar.Forest.{Properties, Node, Alias, Scalar, Seq, Map, Nodes, NoNode, MoreNodes, Pairs, NoPair, MorePairs}
 use Rattle.saphyr_scanner.specs.Grammar.BlockNodes.{Position, BehindDash, BehindMark, BehindKey, BehindMarker, AtStart, indent_at, sequence_indent_at, IsLead, IsLeftOut, IsFlowInBlock, IsBlockNode, AreEntries, ArePairs}
+use Rattle.saphyr_scanner.specs.Grammar.Layout.{most_open}
 use Rattle.saphyr_scanner.proofs.Flow.States.{moved, past}
 use Rattle.saphyr_scanner.proofs.Flow.Places.{moved_append}
 use Rattle.saphyr_scanner.proofs.InBlock.Lines.{FitsOnLines, fits_front, fits_back, fits_so}
@@ -120,10 +121,10 @@ collection_closes {limit} {start} {ts} f column q low left v =
 abbrev IsBlockSequence : Properties → Nodes → Position → List ℕ → List ℕ → Type 0
 IsBlockSequence p nodes place t o =
     (m : ℕ) × (lead entries : List ℕ) × IsLead p place (sequence_indent_at place) m lead
-    × AreEntries 255 nodes m entries o × (t ≡ lead ++ entries)
+    × AreEntries most_open nodes m entries o × (t ≡ lead ++ entries)
 
 reads_sequence : {limit : ℕ} → ReadsLeaves limit → (p : Properties) (node : Node) (nodes : Nodes)
-    → ReadsAt limit node (IsBlockNode 255 node) → ReadsOthers limit nodes
+    → ReadsAt limit node (IsBlockNode most_open node) → ReadsOthers limit nodes
     → ReadsAt limit (Seq p (MoreNodes node nodes)) (IsBlockSequence p (MoreNodes node nodes))
 reads_sequence {limit} leaves p node nodes reads more place f same m t o (column, lead, entries, lead_is, h, e) fits
     behind start ts v = by_column (nat_le f.indent n.col) refl
@@ -169,7 +170,7 @@ reads_sequence {limit} leaves p node nodes reads more place f same m t o (column
         (fits_front m lead entries o whole) start ts
         (subst (λ (x : List ℕ). Before limit start place f m x ts) text v) in
         let r = reads_entries leaves node nodes reads more f n true k far entries o
-        (subst (λ (c : ℕ). AreEntries 255 (MoreNodes node nodes) c entries o) (sym col) h)
+        (subst (λ (c : ℕ). AreEntries most_open (MoreNodes node nodes) c entries o) (sym col) h)
         (fits_back m lead entries o whole)
         (behind_wider f.indent (suc n.col) (moved n entries) o wide behind_o) start (ts ++ l.tokens) l.at l.allowed in
         let c = collection_closes f n.col (past 0 (moved n entries) o) (leb-true f.indent n.col k) behind_o.left
@@ -195,7 +196,7 @@ reads_sequence {limit} leaves p node nodes reads more place f same m t o (column
         (fits_front m lead entries o whole) start ts
         (subst (λ (x : List ℕ). Before limit start place f m x ts) text v) in
         let r = reads_entries leaves node nodes reads more f n false k far entries o
-        (subst (λ (c : ℕ). AreEntries 255 (MoreNodes node nodes) c entries o) (sym col) h)
+        (subst (λ (c : ℕ). AreEntries most_open (MoreNodes node nodes) c entries o) (sym col) h)
         (fits_back m lead entries o whole)
         (behind_wider f.indent (suc n.col) (moved n entries) o wide behind_o) start (ts ++ l.tokens) l.at l.allowed in
         record {
@@ -215,11 +216,11 @@ reads_sequence {limit} leaves p node nodes reads more place f same m t o (column
 
 abbrev IsBlockMapping : Properties → Pairs → Position → List ℕ → List ℕ → Type 0
 IsBlockMapping p pairs place t o =
-    (m : ℕ) × (lead entries : List ℕ) × IsLead p place (indent_at place) m lead × ArePairs 255 pairs m entries o
+    (m : ℕ) × (lead entries : List ℕ) × IsLead p place (indent_at place) m lead × ArePairs most_open pairs m entries o
     × (t ≡ lead ++ entries)
 
 reads_mapping : {limit : ℕ} → ReadsLeaves limit → (p : Properties) (key value : Node) (pairs : Pairs)
-    → ReadsAt limit key (IsBlockNode 255 key) → ReadsAt limit value (IsBlockNode 255 value)
+    → ReadsAt limit key (IsBlockNode most_open key) → ReadsAt limit value (IsBlockNode most_open value)
     → ReadsOtherPairs limit pairs
     → ReadsAt limit (Map p (MorePairs key value pairs)) (IsBlockMapping p (MorePairs key value pairs))
 reads_mapping {limit} leaves p key value pairs K V more place f same m t o (column, lead, entries, lead_is, h, e) fits
@@ -237,7 +238,7 @@ reads_mapping {limit} leaves p key value pairs K V more place f same m t o (colu
     (fits_front m lead entries o whole) start ts
     (subst (λ (x : List ℕ). Before limit start place f m x ts) text v) in
     let r = reads_pairs leaves key value pairs K V more f n true (yes f.indent n.col low) (one f.indent n.col low)
-    entries o (subst (λ (c : ℕ). ArePairs 255 (MorePairs key value pairs) c entries o) (sym col) h)
+    entries o (subst (λ (c : ℕ). ArePairs most_open (MorePairs key value pairs) c entries o) (sym col) h)
     (fits_back m lead entries o whole)
     (behind_wider f.indent (suc n.col) (moved n entries) o (two f.indent n.col low) behind_o) start (ts ++ l.tokens)
     l.at l.allowed in
@@ -283,25 +284,26 @@ no_mapping : (limit : ℕ) (p : Properties) → ReadsAt limit (Map p NoPair) (Is
 no_mapping limit p place f same m t o (column, lead, entries, lead_is, h, e) fits behind start ts v = absurd h
 
 mutual
-  pub reads_node : {limit : ℕ} → ReadsLeaves limit → (node : Node) → ReadsAt limit node (IsBlockNode 255 node)
+  pub reads_node : {limit : ℕ} → ReadsLeaves limit → (node : Node) → ReadsAt limit node (IsBlockNode most_open node)
   reads_node leaves (Alias name) = leaves.flow (Alias name)
   reads_node {limit} leaves (Scalar p style value) =
       reads_either limit (Scalar p style value) (IsLeftOut (Scalar p style value)) _
       (reads_left_out limit (Scalar p style value))
-      (reads_either limit (Scalar p style value) (IsFlowInBlock 255 (Scalar p style value)) _
+      (reads_either limit (Scalar p style value) (IsFlowInBlock most_open (Scalar p style value)) _
       (leaves.flow (Scalar p style value)) (leaves.block_scalar p style value))
   reads_node {limit} leaves (Seq p NoNode) =
-      reads_either limit (Seq p NoNode) (IsFlowInBlock 255 (Seq p NoNode)) (IsBlockSequence p NoNode)
+      reads_either limit (Seq p NoNode) (IsFlowInBlock most_open (Seq p NoNode)) (IsBlockSequence p NoNode)
       (leaves.flow (Seq p NoNode)) (no_sequence limit p)
   reads_node {limit} leaves (Seq p (MoreNodes node nodes)) =
-      reads_either limit (Seq p (MoreNodes node nodes)) (IsFlowInBlock 255 (Seq p (MoreNodes node nodes)))
+      reads_either limit (Seq p (MoreNodes node nodes)) (IsFlowInBlock most_open (Seq p (MoreNodes node nodes)))
       (IsBlockSequence p (MoreNodes node nodes)) (leaves.flow (Seq p (MoreNodes node nodes)))
       (reads_sequence leaves p node nodes (reads_node leaves node) (reads_others leaves nodes))
   reads_node {limit} leaves (Map p NoPair) =
-      reads_either limit (Map p NoPair) (IsFlowInBlock 255 (Map p NoPair)) (IsBlockMapping p NoPair)
+      reads_either limit (Map p NoPair) (IsFlowInBlock most_open (Map p NoPair)) (IsBlockMapping p NoPair)
       (leaves.flow (Map p NoPair)) (no_mapping limit p)
   reads_node {limit} leaves (Map p (MorePairs key value pairs)) =
-      reads_either limit (Map p (MorePairs key value pairs)) (IsFlowInBlock 255 (Map p (MorePairs key value pairs)))
+      reads_either limit (Map p (MorePairs key value pairs))
+      (IsFlowInBlock most_open (Map p (MorePairs key value pairs)))
       (IsBlockMapping p (MorePairs key value pairs)) (leaves.flow (Map p (MorePairs key value pairs)))
       (reads_mapping leaves p key value pairs (reads_node leaves key) (reads_node leaves value)
       (reads_other_pairs leaves pairs))

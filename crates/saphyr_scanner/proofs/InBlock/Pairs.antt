@@ -12,6 +12,7 @@ use Rattle.saphyr_scanner.specs.Grammar.TokenGrammar as grammar
 use Rattle.saphyr_scanner.specs.Grammar.Forest.{Node}
 use Rattle.saphyr_scanner.specs.Grammar.FlowNodes.{IsOnLine, IsBeforeColon, IsKeyText, IsFlowNode}
 use Rattle.saphyr_scanner.specs.Grammar.BlockNodes.{BehindMark, BehindKey, IsEntryIndentation, IsImplicitPair, IsKeyAlone, IsMarkedPair, IsBlockPair, IsBlockNode}
+use Rattle.saphyr_scanner.specs.Grammar.Layout.{most_open}
 use Rattle.saphyr_scanner.proofs.Flow.States.{IsInk, moved, past}
 use Rattle.saphyr_scanner.proofs.Flow.Places.{moved_append, moved_along}
 use Rattle.saphyr_scanner.proofs.InBlock.Lines.{FitsOnLines, fits_front, fits_back, fits_so}
@@ -62,8 +63,9 @@ implicit_list : (further : Bool) (ts us vs : List Kind)
 implicit_list true ts us vs = simp append_assoc
 implicit_list false ts us vs = simp (append_assoc, append-nil)
 
-reads_implicit : {limit : ℕ} → ReadsLeaves limit → (key value : Node) → ReadsAt limit value (IsBlockNode 255 value)
-    → ReadsPair limit key value (IsImplicitPair 255 key (IsBlockNode 255 value))
+reads_implicit : {limit : ℕ} → ReadsLeaves limit → (key value : Node)
+    → ReadsAt limit value (IsBlockNode most_open value)
+    → ReadsPair limit key value (IsImplicitPair most_open key (IsBlockNode most_open value))
 reads_implicit {limit} leaves key value V f n further e far t z
     (node, between, v, node_is, line, (k, least, spaced), before, short, h, is) fits behind start ts at_key allowed =
     let g = frame_behind further n.col f in
@@ -79,7 +81,7 @@ reads_implicit {limit} leaves key value V f n further e far t z
     let ahead = node_behind leaves value (BehindKey n.col) v z refl h behind_v.clean in
     let p = subst (λ (y : List ℕ). (w : At limit start f n y ts) × (w.allowed ≡ true)) text (at_key, allowed) in
     let r = leaves.key key f n node (v ++ z) k far
-    (subst (IsKeyText (IsFlowNode 255 key false (suc n.col)) key false (suc n.col) node) spaced node_is) line
+    (subst (IsKeyText (IsFlowNode most_open key false (suc n.col)) key false (suc n.col) node) spaced node_is) line
     (subst (IsBeforeColon key) spaced before) (subst (λ (x : List ℕ). length (node ++ x) ≤ 1024) spaced short)
     ahead.first
     (fits_front n (node ++ spaces k) (58 ∷ v) z whole) start ts p.0 p.1 in
@@ -130,8 +132,8 @@ alone_list : (further : Bool) (ts us : List Kind)
 alone_list true ts us = simp append_assoc
 alone_list false ts us = simp (append_assoc, append-nil)
 
-reads_alone : {limit : ℕ} → ReadsLeaves limit → (key value : Node) → ReadsAt limit key (IsBlockNode 255 key)
-    → ReadsPair limit key value (IsKeyAlone value (IsBlockNode 255 key))
+reads_alone : {limit : ℕ} → ReadsLeaves limit → (key value : Node) → ReadsAt limit key (IsBlockNode most_open key)
+    → ReadsPair limit key value (IsKeyAlone value (IsBlockNode most_open key))
 reads_alone {limit} leaves key value K f n further e far t z (node, out, some, h, is) fits behind start ts at_mark
     allowed =
     let g = frame_behind further n.col f in
@@ -175,9 +177,9 @@ marked_list : (further : Bool) (ts us vs : List Kind)
 marked_list true ts us vs = simp append_assoc
 marked_list false ts us vs = simp (append_assoc, append-nil)
 
-reads_marked : {limit : ℕ} → ReadsLeaves limit → (key value : Node) → ReadsAt limit key (IsBlockNode 255 key)
-    → ReadsAt limit value (IsBlockNode 255 value)
-    → ReadsPair limit key value (IsMarkedPair (IsBlockNode 255 key) (IsBlockNode 255 value))
+reads_marked : {limit : ℕ} → ReadsLeaves limit → (key value : Node) → ReadsAt limit key (IsBlockNode most_open key)
+    → ReadsAt limit value (IsBlockNode most_open value)
+    → ReadsPair limit key value (IsMarkedPair (IsBlockNode most_open key) (IsBlockNode most_open value))
 reads_marked {limit} leaves key value K V f n further e far t z
     (node, colon, v, some, h, (filler, filler_is, colon_is), j, is) fits behind start ts at_mark allowed =
     let g = frame_behind further n.col f in
@@ -247,9 +249,10 @@ reads_marked {limit} leaves key value K V f n further e far t z
           (subst (Arrived limit start g (moved (along c 1) v) z) (marked_list further ts r.tokens s.tokens) s.arrived);
     }
 
-pub reads_pair : {limit : ℕ} → ReadsLeaves limit → (key value : Node) → ReadsAt limit key (IsBlockNode 255 key)
-    → ReadsAt limit value (IsBlockNode 255 value)
-    → ReadsPair limit key value (IsBlockPair 255 key value (IsBlockNode 255 key) (IsBlockNode 255 value))
+pub reads_pair : {limit : ℕ} → ReadsLeaves limit → (key value : Node) → ReadsAt limit key (IsBlockNode most_open key)
+    → ReadsAt limit value (IsBlockNode most_open value)
+    → ReadsPair limit key value
+    (IsBlockPair most_open key value (IsBlockNode most_open key) (IsBlockNode most_open value))
 reads_pair leaves key value K V f n further e far t z (inl h) fits behind start ts v allowed =
     reads_implicit leaves key value V f n further e far t z h fits behind start ts v allowed
 reads_pair leaves key value K V f n further e far t z (inr (inl h)) fits behind start ts v allowed =

@@ -3,7 +3,7 @@
 use Rattle.std.proofs.Common.{◌≡◌, ℕ, zero, suc, ◌^◌, ◌<◌, ◌≤◌, true, false, List, [], ◌∷◌, ◌++◌, length, slice_index, refl, sym, ap, ◌∙◌, arith, subst, append_assoc, IsTrue, ◌⊎◌, inl, inr}
 use Rattle.std.specs.Prelude.{option_map, Option, Some, None}
 use Rattle.std.proofs.lemmas.List.{length-append}
-use Rattle.saphyr_input.specs.Classes.{is_blank_or_breakz}
+use Rattle.saphyr_input.specs.Classes.{is_blank_or_breakz, line_feed}
 use Rattle.saphyr_scalar.specs.declared.scalar.position.Marker.{Marker}
 use Rattle.saphyr_scalar.specs.Steps.BlockRead.{spaces}
 use Rattle.saphyr_scalar.specs.Spelling.Spaces.{AreSpaces, IsLineRest}
@@ -184,9 +184,9 @@ record LinesBehind (w y : List ℕ) : Type 0 where
   crossed : crosses (w ++ y) ≡ true
   rest : List ℕ
   more : List ℕ
-  is : w ≡ rest ++ (10 ∷ more)
+  is : w ≡ rest ++ (line_feed ∷ more)
 
-line_first : (end o rest : List ℕ) → IsLineRest rest → end ≡ rest ++ (10 ∷ [])
+line_first : (end o rest : List ℕ) → IsLineRest rest → end ≡ rest ++ (line_feed ∷ [])
     → IsTrue (is_blank_or_breakz (slice_index (end ++ o) 0))
 line_first end o rest h e =
     ap (λ (x : List ℕ). is_blank_or_breakz (slice_index x 0))

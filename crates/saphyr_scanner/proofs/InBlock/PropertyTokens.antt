@@ -38,6 +38,7 @@ use Rattle.saphyr_scalar.proofs.Given.{cursor_at}
 use Rattle.saphyr_input.proofs.Basics.Booleans.{and_false}
 use Rattle.std.proofs.Math.Bool.{or-false}
 use Rattle.std.proofs.lemmas.Bool.{le-leb}
+use Rattle.saphyr_input.specs.Indicators.{ampersand, exclamation_mark}
 use Rattle.saphyr_scanner.proofs.Queues.{place_kinds_append, queue_of}
 use Rattle.saphyr_scanner.proofs.Levels.{saved}
 
@@ -148,9 +149,9 @@ fits_index m t o h = let below =
 anchor_step : ReaderPromises → (f : Frame) (m : Marker) (name o : List ℕ) (blank : Bool) (key : Option Candidate)
     (a : Bool)
     (ad : ℕ) (deeper : Bool) (i : ℕ) → f.indent ≤ m.col → IsAnchorName name → is_anchor_char (slice_index o 0) ≡ false
-    → property.anchor_steps i (core_of f (moment_at m (38 ∷ (name ++ o)) blank key a ad deeper))
-    ≡ completed_step (from_to m (moved m (38 ∷ name)) (anchor_token name) ∷ [])
-    (core_of f (moment_at (moved m (38 ∷ name)) o false (saved a i m key) false ad deeper))
+    → property.anchor_steps i (core_of f (moment_at m (ampersand ∷ (name ++ o)) blank key a ad deeper))
+    ≡ completed_step (from_to m (moved m (ampersand ∷ name)) (anchor_token name) ∷ [])
+    (core_of f (moment_at (moved m (ampersand ∷ name)) o false (saved a i m key) false ad deeper))
 unfolding property.name_steps property.read_name
 anchor_step reads f m name o blank key a ad deeper i low h ends =
     let y = 38 ∷ (name ++ o) in
@@ -163,7 +164,7 @@ anchor_step reads f m name o blank key a ad deeper i low h ends =
     ∙ ap (λ (end : Marker). token (encode_utf8_all name, mid_line end o))
     (ap (along m) one ∙ sym (unbroken_along m (38 ∷ name) (refl, name_no_break name h)))
 
-anchor_begins : (m : Marker) (o : List ℕ) → BeginsToken m (38 ∷ o)
+anchor_begins : (m : Marker) (o : List ℕ) → BeginsToken m (ampersand ∷ o)
 anchor_begins m o = record {
   stop = (refl, refl, refl);
   nul = refl;
@@ -177,7 +178,7 @@ pub anchor_reads : ReaderPromises → {limit : ℕ} {start : State} (f : Frame) 
 anchor_reads reads {limit} {start} f name t (h, e) =
     subst (λ (x : List ℕ). TokenReads limit start f (anchor_token name) x) (sym e) by_name
   where
-    by_name : TokenReads limit start f (anchor_token name) (38 ∷ name)
+    by_name : TokenReads limit start f (anchor_token name) (ampersand ∷ name)
     by_name m ts o low clean first fits v late =
         let bounds = fits_index m (38 ∷ name) o fits in
         let ends = tag_ends_name false o (white_ends_tag false o first) in
@@ -206,7 +207,7 @@ tag_step reads f m t handle suffix o blank key a ad deeper i low h ends =
     ∙ ap (λ (end : Marker). token (encode_utf8_all handle, encode_utf8_all suffix, mid_line end o))
     (sym (unbroken_along m t (tag_no_break t handle suffix h)))
 
-tag_begins : (m : Marker) (o : List ℕ) → BeginsToken m (33 ∷ o)
+tag_begins : (m : Marker) (o : List ℕ) → BeginsToken m (exclamation_mark ∷ o)
 tag_begins m o = record {
   stop = (refl, refl, refl);
   nul = refl;

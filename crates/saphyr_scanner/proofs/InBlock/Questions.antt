@@ -2,7 +2,7 @@
 use Rattle.std.proofs.Common.{◌≡◌, ℕ, suc, ◌+◌, ◌≤◌, Bool, true, false, List, [], ◌∷◌, ◌++◌, length, slice_index, refl, sym, ap, ◌∙◌, arith, append_assoc, IsTrue, Ok, ◌⊎◌, inl, inr}
 use Rattle.std.specs.Prelude.{◌||◌, ◌==◌, nat_le, Option, None, if◌then◌else◌}
 use Rattle.std.proofs.lemmas.Bool.Decides.{nat_tests}
-use Rattle.saphyr_input.specs.Classes.{is_blank, is_blank_or_breakz}
+use Rattle.saphyr_input.specs.Classes.{is_blank, is_blank_or_breakz, line_feed, tab}
 use Rattle.saphyr_scalar.specs.declared.scalar.position.Marker.{Marker}
 use Rattle.saphyr_scalar.specs.Views.Cursor.{◌>>=◌, along}
 use Rattle.saphyr_scanner.specs.declared.engine.level.Context.TheVariants as context
@@ -29,6 +29,7 @@ use Rattle.saphyr_input.proofs.Basics.Numbers.{le_next}
 use Rattle.saphyr_input.proofs.Basics.Booleans.{and_false}
 use Rattle.std.proofs.Math.Bool.{or-true}
 use Rattle.std.proofs.lemmas.Bool.{or_parts}
+use Rattle.saphyr_input.specs.Indicators.{colon, question_mark}
 use Rattle.saphyr_scanner.proofs.Queues.{place_kinds, place_kinds_append, queue_of}
 
 -- ## `?`
@@ -42,13 +43,14 @@ white_first (c ∷ cs) (inl e) = blank_apart c e
 white_first (c ∷ cs) (inr e) = rw e refl
 
 -- a space or a break
-no_tab_first : (c : ℕ) (cs : List ℕ) → IsTrue (is_blank c) ⊎ (c ≡ 10) → has_tab (c ∷ cs) ≡ false → (c ≡ 32) ⊎ (c ≡ 10)
+no_tab_first : (c : ℕ) (cs : List ℕ) → IsTrue (is_blank c) ⊎ (c ≡ line_feed) → has_tab (c ∷ cs) ≡ false
+    → (c ≡ 32) ⊎ (c ≡ line_feed)
 no_tab_first c cs (inl e) clean = inl (space c e (or_parts (c == 9) (has_tab cs) (sym whole ∙ clean)).0)
   where
-    whole : has_tab (c ∷ cs) ≡ ((c == 9) || has_tab cs)
+    whole : has_tab (c ∷ cs) ≡ ((c == tab) || has_tab cs)
     whole = rw e refl
 
-    space : (c : ℕ) → is_blank c ≡ true → (c == 9) ≡ false → c ≡ 32
+    space : (c : ℕ) → is_blank c ≡ true → (c == tab) ≡ false → c ≡ 32
     space c e f = grind (arith, nat_tests)
 no_tab_first c cs (inr e) clean = inr e
 
@@ -57,7 +59,7 @@ reach : (m : Marker) (o : List ℕ) → BeginsWhite o → has_tab o ≡ false
 reach m [] h clean = absurd h
 reach m (c ∷ cs) h clean = spaces_reach m false c cs (no_tab_first c cs h clean) clean
 
-mark_begins : (m : Marker) (o : List ℕ) → BeginsToken m (63 ∷ o)
+mark_begins : (m : Marker) (o : List ℕ) → BeginsToken m (question_mark ∷ o)
 mark_begins m o = record {
   stop = (refl, refl, refl);
   nul = refl;
@@ -66,7 +68,7 @@ mark_begins m o = record {
   marker = and_false (m.col == 0);
 }
 
-pub colon_begins : (m : Marker) (o : List ℕ) → BeginsToken m (58 ∷ o)
+pub colon_begins : (m : Marker) (o : List ℕ) → BeginsToken m (colon ∷ o)
 colon_begins m o = record {
   stop = (refl, refl, refl);
   nul = refl;
@@ -75,11 +77,11 @@ colon_begins m o = record {
   marker = and_false (m.col == 0);
 }
 
-no_tab_here : (y : List ℕ) → IsStop y → (slice_index y 0 == 9) ≡ false
+no_tab_here : (y : List ℕ) → IsStop y → (slice_index y 0 == tab) ≡ false
 no_tab_here [] h = refl
 no_tab_here (c ∷ cs) h = no_tab c h.0
   where
-    no_tab : (c : ℕ) → is_blank c ≡ false → (c == 9) ≡ false
+    no_tab : (c : ℕ) → is_blank c ≡ false → (c == tab) ≡ false
     no_tab c h = grind (arith, nat_tests)
 
 mark_enters : (f : Frame) (m : Marker) (y : List ℕ) (blank : Bool) (key : Option Candidate) (ad : ℕ)
@@ -99,7 +101,7 @@ question_moment n y blank ad deeper = moment_at n y blank None true ad deeper
 
 passes_mark : (g : Frame) (m : Marker) (o : List ℕ) (blank : Bool) (ad : ℕ) (deeper : Bool) → BeginsWhite o
     → has_tab o ≡ false
-    → (b : Bool) × (block.pass_question (core_of g (moment_at m (63 ∷ o) blank None true ad deeper))
+    → (b : Bool) × (block.pass_question (core_of g (moment_at m (question_mark ∷ o) blank None true ad deeper))
     ≡ Ok (core_of g (question_moment (past 0 (along m 1) o).0 (past 0 (along m 1) o).1 b ad deeper)))
 unfolding block.behind_mark
 passes_mark g m o blank ad deeper h clean =
@@ -114,7 +116,8 @@ passes_mark g m o blank ad deeper h clean =
 
 question_step : (f : Frame) (m : Marker) (o : List ℕ) (blank : Bool) (key : Option Candidate) (ad : ℕ)
     (deeper further : Bool) → nat_le f.indent m.col ≡ further → BeginsWhite o → has_tab o ≡ false → (i : ℕ)
-    → (b : Bool) × (d : Bool) × (step 63 (slice_index o 0) i (core_of f (moment_at m (63 ∷ o) blank key true ad deeper))
+    → (b : Bool) × (d : Bool)
+    × (step 63 (slice_index o 0) i (core_of f (moment_at m (question_mark ∷ o) blank key true ad deeper))
     ≡ completed_step (behind_start further m tokens.BlockMappingStart (from_to m (past 0 (along m 1) o).0 tokens.Key))
     (core_of (frame_behind further m.col f)
     (question_moment (past 0 (along m 1) o).0 (past 0 (along m 1) o).1 b ad d)))
@@ -176,7 +179,7 @@ shifted i l limit h = omega (arith, h)
 -- `?` is read, which begins a mapping or goes on with one
 pub reads_question : {limit : ℕ} {start : State} {ts : List Kind} (f : Frame) (m : Marker) (o : List ℕ) (further : Bool)
     → nat_le f.indent m.col ≡ further → f.indent ≤ m.col + 1 → BeginsWhite o → has_tab o ≡ false
-    → m.index + length (63 ∷ o) ≤ limit → (v : At limit start f m (63 ∷ o) ts) → v.allowed ≡ true
+    → m.index + length (question_mark ∷ o) ≤ limit → (v : At limit start f m (question_mark ∷ o) ts) → v.allowed ≡ true
     → Before limit start (layout.BehindMark m.col) (frame_behind further m.col f) (along m 1) o
     (ts ++ key_kinds further)
 unfolding state_behind_content

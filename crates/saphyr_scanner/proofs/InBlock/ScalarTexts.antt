@@ -2,7 +2,7 @@
 use Rattle.std.proofs.Common.{◌≡◌, ℕ, zero, suc, ◌+◌, ◌^◌, ◌<◌, Bool, false, List, [], ◌∷◌, ◌++◌, length, slice_index, refl, sym, ap, ◌∙◌, arith, subst, append_assoc, append-nil, Ok, encode_utf8_all, ◌⊎◌, inl, inr}
 use Rattle.std.specs.Prelude.{◌==◌, not}
 use Rattle.std.proofs.lemmas.List.{length-append, append_cancel_right}
-use Rattle.saphyr_input.specs.Classes.{is_break, carriage_return}
+use Rattle.saphyr_input.specs.Classes.{is_break, carriage_return, line_feed}
 use Rattle.scalar_values.specs.declared.block.BlockStyle.{BlockStyle}
 use Rattle.scalar_values.specs.declared.block.BlockStyle.TheVariants as block_style
 use Rattle.scalar_values.specs.declared.block.Chomping.{Chomping}
@@ -50,20 +50,20 @@ chomping_splits _ _ _ (spelling.strip x) = (45 ∷ [], refl)
 chomping_splits _ _ _ (spelling.clip x) = ([], refl)
 chomping_splits _ _ _ (spelling.keep x) = (43 ∷ [], refl)
 
-end_splits : (d x : List ℕ) → spelling.IsHeaderEnd d x → (w : List ℕ) × (d ≡ w ++ (10 ∷ x))
+end_splits : (d x : List ℕ) → spelling.IsHeaderEnd d x → (w : List ℕ) × (d ≡ w ++ (line_feed ∷ x))
 end_splits _ _ (spelling.no_comment blanks x are) = (blanks, refl)
 end_splits _ _ (spelling.comment blank blanks text x are words) =
     ((blank ∷ blanks) ++ (35 ∷ text), sym (append_assoc (blank ∷ blanks) (35 ∷ text) (10 ∷ x)))
 
-in_parts : (mark : ℕ) (a b d x u v w : List ℕ) → a ≡ u ++ b → b ≡ v ++ d → d ≡ w ++ (10 ∷ x)
-    → mark ∷ a ≡ (mark ∷ (u ++ (v ++ w))) ++ (10 ∷ x)
+in_parts : (mark : ℕ) (a b d x u v w : List ℕ) → a ≡ u ++ b → b ≡ v ++ d → d ≡ w ++ (line_feed ∷ x)
+    → mark ∷ a ≡ (mark ∷ (u ++ (v ++ w))) ++ (line_feed ∷ x)
 in_parts mark a b d x u v w e f g =
     ap (λ (y : List ℕ). mark ∷ y)
     (e ∙ ap (λ (y : List ℕ). u ++ y) (f ∙ ap (λ (y : List ℕ). v ++ y) g ∙ sym (append_assoc v w (10 ∷ x)))
     ∙ sym (append_assoc u (v ++ w) (10 ∷ x)))
 
 header_splits : (n : ℕ) (chomping : Chomping) (x t : List ℕ) → IsHeader n chomping x t
-    → (w : List ℕ) × (t ≡ w ++ (10 ∷ x))
+    → (w : List ℕ) × (t ≡ w ++ (line_feed ∷ x))
 header_splits n chomping x _ (spelling.digit_first mark a b d h k e) =
     let u = indicator_splits n a b h in let v = chomping_splits chomping b d k in let w = end_splits d x e in
     (mark ∷ (u.0 ++ (v.0 ++ w.0)), in_parts mark a b d x u.0 v.0 w.0 u.1 v.1 w.1)
@@ -150,7 +150,7 @@ record Ended (t behind : List ℕ) : Type 0 where
   is : t ≡ front ++ behind
   ends : (front ≡ []) ⊎ EndsWithLine front behind
 
-line_then : (a b o : List ℕ) → (b ≡ []) ⊎ EndsWithLine b o → EndsWithLine (a ++ (10 ∷ b)) o
+line_then : (a b o : List ℕ) → (b ≡ []) ⊎ EndsWithLine b o → EndsWithLine (a ++ (line_feed ∷ b)) o
 line_then a b o (inl e) =
     inl (λ m. ap (λ (n : Marker). n.col) (moved_append m a (10 ∷ b))
     ∙ ap (λ (y : List ℕ). (moved (next_line (moved m a) 1) y).col) e)
@@ -158,14 +158,14 @@ line_then a b o (inr (inl h)) =
     inl (λ m. ap (λ (n : Marker). n.col) (moved_append m a (10 ∷ b)) ∙ h (next_line (moved m a) 1))
 line_then a b o (inr (inr e)) = inr e
 
-ended_behind_line : (a t o : List ℕ) → Ended t o → Ended (a ++ (10 ∷ t)) o
+ended_behind_line : (a t o : List ℕ) → Ended t o → Ended (a ++ (line_feed ∷ t)) o
 ended_behind_line a t o p = record {
   front = a ++ (10 ∷ p.front);
   is = ap (λ (y : List ℕ). a ++ (10 ∷ y)) p.is ∙ sym (append_assoc a (10 ∷ p.front) o);
   ends = inr (line_then a p.front o p.ends);
 }
 
-content_line : (i c : ℕ) (cs t o : List ℕ) → Ended t o → Ended (spaces i ++ (c ∷ (cs ++ (10 ∷ t)))) o
+content_line : (i c : ℕ) (cs t o : List ℕ) → Ended t o → Ended (spaces i ++ (c ∷ (cs ++ (line_feed ∷ t)))) o
 content_line i c cs t o p =
     subst (λ (y : List ℕ). Ended y o) (append_assoc (spaces i) (c ∷ cs) (10 ∷ t))
     (ended_behind_line (spaces i ++ (c ∷ cs)) t o p)

@@ -2,6 +2,7 @@
 use Rattle.std.proofs.Common.{◌≡◌, ℕ, suc, ◌+◌, ◌≤◌, Bool, true, false, List, [], ◌∷◌, ◌++◌, slice_index, refl, sym, ap, ◌∙◌, arith, subst, append_assoc, append-nil, ◌⊎◌, inl, inr, IsTrue}
 use Rattle.std.specs.Prelude.{◌==◌, nat_le, None, if◌then◌else◌}
 use Rattle.std.proofs.lemmas.Bool.Decides.{nat_tests}
+use Rattle.saphyr_input.specs.Indicators.{hyphen}
 use Rattle.saphyr_input.specs.Classes.{is_blank_or_breakz}
 use Rattle.saphyr_input.specs.Places.{is_document_indicator}
 use Rattle.saphyr_scalar.specs.declared.scalar.position.Marker.{Marker}
@@ -11,6 +12,7 @@ use Rattle.saphyr_scanner.specs.Grammar.Tokens as tokens
 use Rattle.saphyr_scanner.specs.Grammar.Tokens.{Kind}
 use Rattle.saphyr_scanner.specs.Grammar.Forest.{Node, Nodes, NoNode, MoreNodes}
 use Rattle.saphyr_scanner.specs.Grammar.BlockNodes.{BehindDash, IsBlockNode, AreOtherEntries, AreEntries}
+use Rattle.saphyr_scanner.specs.Grammar.Layout.{most_open}
 use Rattle.saphyr_scanner.proofs.Flow.States.{moved, past}
 use Rattle.saphyr_scanner.proofs.Flow.Places.{moved_append}
 use Rattle.saphyr_scanner.proofs.InBlock.Lines.{FitsOnLines, fits_front, fits_back, fits_so}
@@ -28,7 +30,7 @@ pub not_empty : (m : Marker) (t o : List ℕ) (c : ℕ) (cs : List ℕ) → (m.c
 not_empty m t o c cs (inl h) e = h
 not_empty m t o c cs (inr h) e = absurd (let k : [] ≡ c ∷ cs = sym h ∙ e in cc)
 
-front_first : (front rest : List ℕ) → (c : ℕ) × (cs : List ℕ) × (front ++ (45 ∷ rest) ≡ c ∷ cs)
+front_first : (front rest : List ℕ) → (c : ℕ) × (cs : List ℕ) × (front ++ (hyphen ∷ rest) ≡ c ∷ cs)
 front_first [] rest = (45, rest, refl)
 front_first (c ∷ cs) rest = (c, cs ++ (45 ∷ rest), refl)
 
@@ -41,11 +43,12 @@ starts_behind m t o (inl h) = inl (h m)
 starts_behind m t o (inr h) = inr h
 
 entry_text : (front entry others o : List ℕ)
-    → (front ++ (45 ∷ (entry ++ others))) ++ o ≡ front ++ (45 ∷ (entry ++ (others ++ o)))
+    → (front ++ (hyphen ∷ (entry ++ others))) ++ o ≡ front ++ (hyphen ∷ (entry ++ (others ++ o)))
 entry_text front entry others o =
     append_assoc front (45 ∷ (entry ++ others)) o ∙ ap (λ (x : List ℕ). front ++ (45 ∷ x)) (append_assoc entry others o)
 
-pub others_behind : (nodes : Nodes) (column : ℕ) (m : Marker) (t o : List ℕ) → AreOtherEntries 255 nodes column t o
+pub others_behind : (nodes : Nodes) (column : ℕ) (m : Marker) (t o : List ℕ)
+    → AreOtherEntries most_open nodes column t o
     → StartsLine m (t ++ o) → EndsNodeAt (suc column) (moved m t) o → EndsNodeAt (suc column) m (t ++ o)
 others_behind NoNode column m t o h starts behind =
     subst (λ (x : List ℕ). EndsNodeAt (suc column) (moved m x) o → EndsNodeAt (suc column) m (x ++ o)) (sym h) (λ k. k)
@@ -72,11 +75,12 @@ pub suc_is : (n : ℕ) → n + 1 ≡ suc n
 suc_is n = omega arith
 
 -- from its `-` on, which may begin the sequence
-pub reads_entry : {limit : ℕ} → ReadsLeaves limit → (node : Node) → ReadsAt limit node (IsBlockNode 255 node)
+pub reads_entry : {limit : ℕ} → ReadsLeaves limit → (node : Node) → ReadsAt limit node (IsBlockNode most_open node)
     → (f : Frame) (n : Marker) (further : Bool) → nat_le f.indent n.col ≡ further → f.indent ≤ n.col + 1
-    → (entry z : List ℕ) → IsBlockNode 255 node (BehindDash n.col) entry z → FitsOnLines limit n (45 ∷ entry) z
+    → (entry z : List ℕ) → IsBlockNode most_open node (BehindDash n.col) entry z
+    → FitsOnLines limit n (hyphen ∷ entry) z
     → EndsNodeAt (suc n.col) (moved (along n 1) entry) z
-    → (start : State) (ts : List Kind) (v : At limit start f n (45 ∷ (entry ++ z)) ts) → v.allowed ≡ true
+    → (start : State) (ts : List Kind) (v : At limit start f n (hyphen ∷ (entry ++ z)) ts) → v.allowed ≡ true
     → NodeRead limit start node (BehindDash n.col) (frame_behind further n.col f) (moved (along n 1) entry) z
     (ts ++ dash_kinds further)
 reads_entry {limit} leaves node reads f n further e far entry z is fits behind start ts v allowed =
@@ -91,25 +95,25 @@ reads_entry {limit} leaves node reads f n further e far entry z is fits behind s
 -- ## Entries
 
 marker_none : (rest : List ℕ) → is_blank_or_breakz (slice_index rest 0) ≡ true → (m : Marker)
-    → EndsDocument m (45 ∷ rest) → ⊥
+    → EndsDocument m (hyphen ∷ rest) → ⊥
 marker_none rest h m (inl e) = cc
 marker_none rest h m (inr k) = by_first rest h k.1
   where
-    dash : (c : ℕ) → (c == 45) ≡ true → is_blank_or_breakz c ≡ true → ⊥
+    dash : (c : ℕ) → (c == hyphen) ≡ true → is_blank_or_breakz c ≡ true → ⊥
     dash c e h = absurd (let k : false ≡ true = sym (no c e) ∙ h in cc)
       where
-        no : (c : ℕ) → (c == 45) ≡ true → is_blank_or_breakz c ≡ false
+        no : (c : ℕ) → (c == hyphen) ≡ true → is_blank_or_breakz c ≡ false
         no c e = grind (arith, nat_tests)
 
-    by_dash : (c : ℕ) (cs : List ℕ) (b : Bool) → (c == 45) ≡ b → is_blank_or_breakz c ≡ true
-        → IsTrue (is_document_indicator (45 ∷ c ∷ cs)) → ⊥
+    by_dash : (c : ℕ) (cs : List ℕ) (b : Bool) → (c == hyphen) ≡ b → is_blank_or_breakz c ≡ true
+        → IsTrue (is_document_indicator (hyphen ∷ c ∷ cs)) → ⊥
     by_dash c cs true e h k = dash c e h
     by_dash c cs false e h k =
         absurd (let no : is_document_indicator (45 ∷ c ∷ cs) ≡ false =
         rw e refl in let j : false ≡ true = sym no ∙ k in cc)
 
     by_first : (rest : List ℕ) → is_blank_or_breakz (slice_index rest 0) ≡ true
-        → IsTrue (is_document_indicator (45 ∷ rest)) → ⊥
+        → IsTrue (is_document_indicator (hyphen ∷ rest)) → ⊥
     by_first [] h k = cc
     by_first (c ∷ cs) h k = by_dash c cs (c == 45) refl h k
 
@@ -126,7 +130,7 @@ goes_on {n = n} {y = y} out v = by_next v.next
 abbrev pub ReadsOthers : ℕ → Nodes → Type 0
 ReadsOthers limit nodes =
     (g : Frame) (column : ℕ) → g.indent ≡ column + 1 → (m : Marker) (t o : List ℕ)
-    → AreOtherEntries 255 nodes column t o → FitsOnLines limit m t o → EndsNodeAt (suc column) (moved m t) o
+    → AreOtherEntries most_open nodes column t o → FitsOnLines limit m t o → EndsNodeAt (suc column) (moved m t) o
     → StartsLine m (t ++ o)
     → (start : State) (ts : List Kind) → Arrived limit start g m (t ++ o) ts
     → EntriesRead limit start nodes g (moved m t) o ts
@@ -145,7 +149,7 @@ grown : (ts us : List Kind) (entry : List Kind) (k : Kind) → ((ts ++ k ∷ [])
 grown ts us entry k = simp append_assoc
 
 pub more_others : {limit : ℕ} → ReadsLeaves limit → (node : Node) (nodes : Nodes)
-    → ReadsAt limit node (IsBlockNode 255 node)
+    → ReadsAt limit node (IsBlockNode most_open node)
     → ReadsOthers limit nodes → ReadsOthers limit (MoreNodes node nodes)
 more_others {limit} leaves node nodes reads more g column same m t o (front, entry, others, front_is, h, k, e) fits
     behind starts start ts v =
@@ -159,8 +163,8 @@ more_others {limit} leaves node nodes reads more g column same m t o (front, ent
     let there : past 0 m (t ++ o) ≡ (n, 45 ∷ (entry ++ z)) = ap (past 0 m) text
     ∙ reaches m front 45 (entry ++ z) (indentation_skipped column front front_is) dash_ink in
     let at_dash = subst (ArrivedAt limit start g ts) there v in
-    let is_node : IsBlockNode 255 node (BehindDash n.col) entry z =
-    subst (λ (c : ℕ). IsBlockNode 255 node (BehindDash c) entry z) (sym col) h in
+    let is_node : IsBlockNode most_open node (BehindDash n.col) entry z =
+    subst (λ (c : ℕ). IsBlockNode most_open node (BehindDash c) entry z) (sym col) h in
     let whole = fits_so m t (front ++ ((45 ∷ entry) ++ others)) o e fits in
     let fits_entry = fits_back m front ((45 ∷ entry) ++ others) o whole in
     let last = moved (along n 1) entry in
@@ -203,9 +207,11 @@ kinds_of_first_entry false ts us entry = simp (append_assoc, append-nil)
 
 -- from the first entry on
 pub reads_entries : {limit : ℕ} → ReadsLeaves limit → (node : Node) (nodes : Nodes)
-    → ReadsAt limit node (IsBlockNode 255 node) → ReadsOthers limit nodes → (f : Frame) (n : Marker) (further : Bool)
+    → ReadsAt limit node (IsBlockNode most_open node) → ReadsOthers limit nodes
+    → (f : Frame) (n : Marker) (further : Bool)
     → nat_le f.indent n.col ≡ further
-    → f.indent ≤ n.col + 1 → (t o : List ℕ) → AreEntries 255 (MoreNodes node nodes) n.col t o → FitsOnLines limit n t o
+    → f.indent ≤ n.col + 1 → (t o : List ℕ) → AreEntries most_open (MoreNodes node nodes) n.col t o
+    → FitsOnLines limit n t o
     → EndsNodeAt (suc n.col) (moved n t) o
     → (start : State) (ts : List Kind) (v : At limit start f n (t ++ o) ts) → v.allowed ≡ true
     → EntriesRead limit start (MoreNodes node nodes) (frame_behind further n.col f) (moved n t) o

@@ -2,7 +2,7 @@
 use Rattle.std.proofs.Common.{◌≡◌, ℕ, zero, suc, Bool, true, false, List, [], ◌∷◌, ◌++◌, slice_index, refl, sym, ap, ◌∙◌, arith, subst, append_assoc, append-nil, ◌⊎◌, inl, inr}
 use Rattle.std.specs.Prelude.{◌||◌, ◌&&◌, ◌==◌, if◌then◌else◌}
 use Rattle.std.proofs.lemmas.Bool.Decides.{nat_tests}
-use Rattle.saphyr_input.specs.Classes.{is_blank, is_break, is_yaml_non_break}
+use Rattle.saphyr_input.specs.Classes.{is_blank, is_break, is_yaml_non_break, carriage_return, line_feed}
 use Rattle.saphyr_scalar.specs.declared.scalar.position.Marker.{Marker}
 use Rattle.saphyr_scalar.specs.Steps.BlockRead.{spaces}
 use Rattle.saphyr_scalar.specs.Views.Cursor.{along, next_line}
@@ -17,6 +17,7 @@ use Rattle.saphyr_scanner.proofs.Flow.Fillers.{blanks_past, front_past, behind_i
 use Rattle.saphyr_scanner.proofs.InBlock.Gaps.{no_left}
 use Rattle.saphyr_scanner.proofs.InBlock.States.{tabbed, tabbed_comment, crosses, crosses_comment}
 use Rattle.std.proofs.lemmas.Bool.{or_parts}
+use Rattle.saphyr_input.specs.Indicators.{number_sign}
 use Rattle.saphyr_input.proofs.Basics.Characters.{ink_no_tab}
 
 -- ## The text between two tokens
@@ -24,13 +25,13 @@ use Rattle.saphyr_input.proofs.Basics.Characters.{ink_no_tab}
 pub data IsSkipped : List ℕ → Type 0 where
   nothing : IsSkipped []
   one_space : (w : List ℕ) → IsSkipped w → IsSkipped (32 ∷ w)
-  one_break : (w : List ℕ) → IsSkipped w → IsSkipped (10 ∷ w)
+  one_break : (w : List ℕ) → IsSkipped w → IsSkipped (line_feed ∷ w)
   one_rest : (blanks comment w : List ℕ) → AreIn is_blank blanks → (comment ≡ []) ⊎ IsComment comment → IsSkipped w
-      → IsSkipped (blanks ++ (comment ++ (10 ∷ w)))
+      → IsSkipped (blanks ++ (comment ++ (line_feed ∷ w)))
 
 -- the rest of a line, its break, and what stands behind it
 rest_text : (blanks comment w y : List ℕ)
-    → (blanks ++ (comment ++ (10 ∷ w))) ++ y ≡ blanks ++ (comment ++ (10 ∷ (w ++ y)))
+    → (blanks ++ (comment ++ (line_feed ∷ w))) ++ y ≡ blanks ++ (comment ++ (line_feed ∷ (w ++ y)))
 rest_text blanks comment w y = simp append_assoc
 
 pub skipped_append : (a b : List ℕ) → IsSkipped a → IsSkipped b → IsSkipped (a ++ b)
@@ -45,7 +46,7 @@ pub spaces_skipped : (n : ℕ) → IsSkipped (spaces n)
 spaces_skipped zero = nothing
 spaces_skipped (suc n) = one_space (spaces n) (spaces_skipped n)
 
-pub rest_skipped : (t w : List ℕ) → IsLineRest t → IsSkipped w → IsSkipped (t ++ (10 ∷ w))
+pub rest_skipped : (t w : List ℕ) → IsLineRest t → IsSkipped w → IsSkipped (t ++ (line_feed ∷ w))
 rest_skipped t w (blanks, c, are, k, is) h =
     let text : t ++ (10 ∷ w) ≡ blanks ++ (c ++ (10 ∷ w)) = ap (λ (x : List ℕ). x ++ (10 ∷ w)) is
     ∙ append_assoc blanks c (10 ∷ w) in
@@ -101,7 +102,7 @@ unfolding has_line spaces_skipped
 spaces_no_line zero = refl
 spaces_no_line (suc n) = spaces_no_line n
 
-pub words_cross : (words y : List ℕ) → AreIn is_yaml_non_break words → crosses_comment (words ++ (10 ∷ y)) ≡ true
+pub words_cross : (words y : List ℕ) → AreIn is_yaml_non_break words → crosses_comment (words ++ (line_feed ∷ y)) ≡ true
 words_cross [] y h = refl
 words_cross (c ∷ cs) y h = rw h.0 (words_cross cs y h.1)
 
@@ -109,14 +110,15 @@ pub blanks_cross : (w o : List ℕ) → AreIn is_blank w → crosses (w ++ o) �
 blanks_cross [] o h = refl
 blanks_cross (c ∷ cs) o h = rw h.0 (blanks_cross cs o h.1)
 
-pub comment_crosses : (comment o : List ℕ) → (comment ≡ []) ⊎ IsComment comment → crosses (comment ++ (10 ∷ o)) ≡ true
+pub comment_crosses : (comment o : List ℕ) → (comment ≡ []) ⊎ IsComment comment
+    → crosses (comment ++ (line_feed ∷ o)) ≡ true
 comment_crosses comment o (inl e) = ap (λ (x : List ℕ). crosses (x ++ (10 ∷ o))) e
 comment_crosses comment o (inr (words, are, is)) =
     ap (λ (x : List ℕ). crosses (x ++ (10 ∷ o))) is ∙ words_cross words o are
 
 -- behind the rest of a line, before its break
 pub rest_crosses : (blanks comment o : List ℕ) → AreIn is_blank blanks → (comment ≡ []) ⊎ IsComment comment
-    → crosses (blanks ++ (comment ++ (10 ∷ o))) ≡ true
+    → crosses (blanks ++ (comment ++ (line_feed ∷ o))) ≡ true
 rest_crosses blanks comment o are k = blanks_cross blanks (comment ++ (10 ∷ o)) are ∙ comment_crosses comment o k
 
 pub skipped_crosses : (w y : List ℕ) (h : IsSkipped w) → crosses (w ++ y) ≡ (has_line w h || crosses y)
@@ -154,14 +156,14 @@ IsClean y = (least : ℕ) (m : Marker) (blank : Bool) → tabbed least m blank f
 
 words_clean : (least : ℕ) (words y : List ℕ) → AreIn is_yaml_non_break words
     → ((m : Marker) → tabbed least m true false y ≡ false) → (m : Marker) (blank tab : Bool)
-    → tabbed_comment least m blank tab (words ++ (10 ∷ y)) ≡ false
+    → tabbed_comment least m blank tab (words ++ (line_feed ∷ y)) ≡ false
 words_clean least [] y h k m blank tab = k (next_line m 1)
 words_clean least (c ∷ cs) y h k m blank tab = rw h.0 (words_clean least cs y h.1 k (along m 1) blank tab)
 
 -- the tabs on a line that ends are no matter
 comment_line_clean : (least : ℕ) (comment y : List ℕ) → (comment ≡ []) ⊎ IsComment comment
     → ((m : Marker) → tabbed least m true false y ≡ false) → (m : Marker) (blank tab : Bool)
-    → tabbed least m blank tab (comment ++ (10 ∷ y)) ≡ false
+    → tabbed least m blank tab (comment ++ (line_feed ∷ y)) ≡ false
 comment_line_clean least comment y (inl e) k m blank tab =
     ap (λ (x : List ℕ). tabbed least m blank tab (x ++ (10 ∷ y))) e ∙ k (next_line m 1)
 comment_line_clean least comment y (inr (words, are, is)) k m blank tab =
@@ -170,7 +172,7 @@ comment_line_clean least comment y (inr (words, are, is)) k m blank tab =
 
 rest_clean : (least : ℕ) (blanks comment y : List ℕ) → AreIn is_blank blanks → (comment ≡ []) ⊎ IsComment comment
     → ((m : Marker) → tabbed least m true false y ≡ false)
-    → (m : Marker) (blank tab : Bool) → tabbed least m blank tab (blanks ++ (comment ++ (10 ∷ y))) ≡ false
+    → (m : Marker) (blank tab : Bool) → tabbed least m blank tab (blanks ++ (comment ++ (line_feed ∷ y))) ≡ false
 rest_clean least [] comment y are c k m blank tab = comment_line_clean least comment y c k m blank tab
 rest_clean least (b ∷ bs) comment y are c k m blank tab =
     rw are.0 (rest_clean least bs comment y are.1 c k (along m 1) blank (is_tab_indentation least m blank b || tab))
@@ -243,15 +245,16 @@ white_is c r h = ap (λ (b : Bool). b || r) (space_alone c h)
 
 -- the same, where a character is known
 on_white : (m : Marker) (blank space : Bool) (c : ℕ) (cs : List ℕ)
-    → (is_blank c || ((c == 13) && (slice_index cs 0 == 10))) ≡ true
-    → ((c == 32) || ((c == 13) && (slice_index cs 0 == 10))) ≡ true
+    → (is_blank c || ((c == carriage_return) && (slice_index cs 0 == line_feed))) ≡ true
+    → ((c == 32) || ((c == carriage_return) && (slice_index cs 0 == line_feed))) ≡ true
     → Spaces (along m 1) blank true cs → Spaces m blank space (c ∷ cs)
 on_white m blank space c cs e white p =
     record { still_blank = p.still_blank; some = p.some; is = rw (no_left m c, e, white) p.is; has = λ _. p.has refl }
 
 spaces_over_break : (m : Marker) (blank space : Bool) (c : ℕ) (cs : List ℕ)
-    → (is_blank c || ((c == 13) && (slice_index cs 0 == 10))) ≡ false → is_break c ≡ true
-    → ((c == 32) || ((c == 13) && (slice_index cs 0 == 10))) ≡ false → Spaces (next_line m 1) true true cs
+    → (is_blank c || ((c == carriage_return) && (slice_index cs 0 == line_feed))) ≡ false → is_break c ≡ true
+    → ((c == 32) || ((c == carriage_return) && (slice_index cs 0 == line_feed))) ≡ false
+    → Spaces (next_line m 1) true true cs
     → Spaces m blank space (c ∷ cs)
 spaces_over_break m blank space c cs e f white p =
     record {
@@ -262,8 +265,10 @@ spaces_over_break m blank space c cs e f white p =
     }
 
 on_sign : (m : Marker) (blank space : Bool) (c : ℕ) (cs : List ℕ)
-    → (is_blank c || ((c == 13) && (slice_index cs 0 == 10))) ≡ false → is_break c ≡ false → (c == 35) ≡ true
-    → ((c == 32) || ((c == 13) && (slice_index cs 0 == 10))) ≡ false → SpacesBehind (along m 1) blank space cs
+    → (is_blank c || ((c == carriage_return) && (slice_index cs 0 == line_feed))) ≡ false → is_break c ≡ false
+    → (c == number_sign) ≡ true
+    → ((c == 32) || ((c == carriage_return) && (slice_index cs 0 == line_feed))) ≡ false
+    → SpacesBehind (along m 1) blank space cs
     → Spaces m blank space (c ∷ cs)
 on_sign m blank space c cs e f g white p =
     record { still_blank = p.still_blank; some = p.some; is = rw (no_left m c, e, f, g, white) p.is; has = p.has }
@@ -272,7 +277,8 @@ no_white : (c : ℕ) (r : Bool) → (is_blank c || r) ≡ false → ((c == 32) |
 no_white c r e = sym (white_is c r (ink_no_tab c (or_parts (is_blank c) r e).0)) ∙ e
 
 spaces_kind : (m : Marker) (blank space : Bool) (c : ℕ) (cs : List ℕ) (is_white is_line is_sign : Bool)
-    → (is_blank c || ((c == 13) && (slice_index cs 0 == 10))) ≡ is_white → is_break c ≡ is_line → (c == 35) ≡ is_sign
+    → (is_blank c || ((c == carriage_return) && (slice_index cs 0 == line_feed))) ≡ is_white → is_break c ≡ is_line
+    → (c == number_sign) ≡ is_sign
     → has_tab (c ∷ cs) ≡ false
     → (has_tab cs ≡ false → Spaces (along m 1) blank true cs)
     → (has_tab cs ≡ false → Spaces (next_line m 1) true true cs)
@@ -302,19 +308,20 @@ skips_in_word m blank space c cs e p = record {
 }
 
 behind_return : (m : Marker) (blank space : Bool) (c : ℕ) (cs : List ℕ) → is_yaml_non_break c ≡ false
-    → ((c == 13) && (slice_index cs 0 == 10)) ≡ true → Spaces (along m 1) blank true cs
+    → ((c == carriage_return) && (slice_index cs 0 == line_feed)) ≡ true → Spaces (along m 1) blank true cs
     → SpacesBehind m blank space (c ∷ cs)
 behind_return m blank space c cs e f p =
     record { still_blank = p.still_blank; some = p.some; is = rw (e, f) p.is; has = λ _. p.has refl }
 
 skips_behind_line : (m : Marker) (blank space : Bool) (c : ℕ) (cs : List ℕ) → is_yaml_non_break c ≡ false
-    → ((c == 13) && (slice_index cs 0 == 10)) ≡ false → is_break c ≡ true
+    → ((c == carriage_return) && (slice_index cs 0 == line_feed)) ≡ false → is_break c ≡ true
     → Spaces (next_line m 1) true true cs → SpacesBehind m blank space (c ∷ cs)
 skips_behind_line m blank space c cs e f g p =
     record { still_blank = p.still_blank; some = p.some; is = rw (e, f, g) p.is; has = λ _. p.has refl }
 
 behind_kind : (m : Marker) (blank space : Bool) (c : ℕ) (cs : List ℕ) (is_word is_return is_line : Bool)
-    → is_yaml_non_break c ≡ is_word → ((c == 13) && (slice_index cs 0 == 10)) ≡ is_return → is_break c ≡ is_line
+    → is_yaml_non_break c ≡ is_word → ((c == carriage_return) && (slice_index cs 0 == line_feed)) ≡ is_return
+    → is_break c ≡ is_line
     → comment_has_tab (c ∷ cs) ≡ false
     → (comment_has_tab cs ≡ false → SpacesBehind (along m 1) blank space cs)
     → (has_tab cs ≡ false → Spaces (along m 1) blank true cs)
@@ -349,7 +356,8 @@ mutual
       (λ k. spaces_are (next_line m 1) true true cs k)
 
 -- what a `?` passes: something, up to the next token
-pub spaces_reach : (m : Marker) (blank : Bool) (c : ℕ) (t : List ℕ) → (c ≡ 32) ⊎ (c ≡ 10) → has_tab (c ∷ t) ≡ false
+pub spaces_reach : (m : Marker) (blank : Bool) (c : ℕ) (t : List ℕ) → (c ≡ 32) ⊎ (c ≡ line_feed)
+    → has_tab (c ∷ t) ≡ false
     → (b : Bool) × (gap.end_of_spaces m blank false (c ∷ t) ≡ gap.spaces_end (past 0 m (c ∷ t)).0 b true
     (past 0 m (c ∷ t)).1)
 spaces_reach m blank c t (inl e) clean =

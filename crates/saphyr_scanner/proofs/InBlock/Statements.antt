@@ -1,6 +1,7 @@
 -- What is shown of nodes and collections at block level.
 use Rattle.std.proofs.Common.{◌≡◌, ℕ, suc, ◌+◌, ◌≤◌, Bool, true, false, List, [], ◌∷◌, ◌++◌, length, slice_index, IsFalse, ◌⊎◌, inl, inr}
 use Rattle.std.specs.Prelude.{Some, None}
+use Rattle.saphyr_input.specs.Indicators.{colon}
 use Rattle.saphyr_input.specs.Classes.{is_blank_or_breakz}
 use Rattle.saphyr_scalar.specs.declared.scalar.position.Marker.{Marker}
 use Rattle.saphyr_scalar.specs.Steps.BlockRead.{spaces}
@@ -15,6 +16,7 @@ use Rattle.saphyr_scanner.specs.Grammar.TokenGrammar as grammar
 use Rattle.saphyr_scanner.specs.Grammar.Forest.{Style, Properties, Node, Scalar, Nodes, Pairs, left_out}
 use Rattle.saphyr_scanner.specs.Grammar.FlowNodes.{IsFlowNode, IsOnLine, IsPlainKeyNode, IsKeyText, IsBeforeColon, IsProperties}
 use Rattle.saphyr_scanner.specs.Grammar.BlockNodes.{Position, BehindMark, BehindKey, is_start, indent_at, AreSpacesAt, IsFlowInBlock, IsStyled, IsScalarFront, IsScalarInBlock, BehindDash, BehindMarker, AtStart}
+use Rattle.saphyr_scanner.specs.Grammar.Layout.{most_open}
 use Rattle.saphyr_scanner.proofs.Flow.States.{moved, past}
 use Rattle.saphyr_scanner.proofs.Flow.Inks.{BeginsInk}
 use Rattle.saphyr_scanner.proofs.InBlock.Lines.{FitsOnLines}
@@ -94,7 +96,7 @@ pub record KeyRead (limit : ℕ) (start : State) (node : Node) (f : Frame) (k m 
   pub node_are : grammar.YieldsNode node grammar.InBlockMapping tokens
   pub candidate : moment.key ≡ Some (record { mark = k; place = length places })
   pub quiet : moment.comment ≡ None
-  pub lands : past 0 moment.cursor.mark moment.cursor.rest ≡ (m, 58 ∷ o)
+  pub lands : past 0 moment.cursor.mark moment.cursor.rest ≡ (m, colon ∷ o)
   pub untabbed : IsUntabbed (least_column (core_of f moment)) moment.cursor
   pub near : is_too_far moment.key m ≡ false
   pub low : moment.adjacent ≤ m.index
@@ -103,7 +105,7 @@ pub record KeyRead (limit : ℕ) (start : State) (node : Node) (f : Frame) (k m 
 abbrev pub ReadsKey : ℕ → Node → Type 0
 ReadsKey limit node =
     (f : Frame) (m : Marker) (t o : List ℕ) (n : ℕ) → f.indent ≤ m.col + 1
-    → IsKeyText (IsFlowNode 255 node false (suc m.col)) node false (suc m.col) t (spaces n) → IsOnLine t
+    → IsKeyText (IsFlowNode most_open node false (suc m.col)) node false (suc m.col) t (spaces n) → IsOnLine t
     → IsBeforeColon node (spaces n) → length (t ++ spaces n) ≤ 1024
     → is_blank_or_breakz (slice_index o 0) ≡ true → FitsOnLines limit m (t ++ spaces n) (58 ∷ o)
     → (start : State) (ts : List Kind) → (v : At limit start f m (t ++ (spaces n ++ (58 ∷ o))) ts) → v.allowed ≡ true
@@ -133,7 +135,7 @@ ReadsProperties limit =
 
 -- What is shown of the leaves, from which collections follow.
 pub record ReadsLeaves (limit : ℕ) : Type 0 where
-  pub flow : (node : Node) → ReadsAt limit node (IsFlowInBlock 255 node)
+  pub flow : (node : Node) → ReadsAt limit node (IsFlowInBlock most_open node)
   pub block_scalar : (p : Properties) (style : Style) (value : List ℕ)
       → ReadsAt limit (Scalar p style value) (IsScalarInBlock p style value)
   pub key : (node : Node) → ReadsKey limit node

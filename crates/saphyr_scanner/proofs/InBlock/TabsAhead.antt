@@ -3,13 +3,14 @@
 use Rattle.std.proofs.Common.{◌≡◌, ℕ, ◌+◌, ◌≤◌, Bool, true, false, List, [], ◌∷◌, ◌++◌, slice_index, refl, sym, ap, ◌∙◌, arith, append_assoc, IsTrue, ◌⊎◌, inl, inr}
 use Rattle.std.specs.Prelude.{◌||◌, ◌&&◌, ◌==◌, not, if◌then◌else◌}
 use Rattle.std.proofs.lemmas.Bool.Decides.{nat_tests}
-use Rattle.saphyr_input.specs.Classes.{is_blank, is_break, is_yaml_non_break, line_feed}
+use Rattle.saphyr_input.specs.Classes.{is_blank, is_break, is_yaml_non_break, line_feed, carriage_return, space, tab}
 use Rattle.saphyr_scalar.specs.declared.scalar.position.Marker.{Marker}
 use Rattle.saphyr_scanner.specs.Grammar.BlockNodes.{has_tab_ahead}
 use Rattle.saphyr_scanner.proofs.Flow.States.{moved, IsInk}
 use Rattle.saphyr_scanner.proofs.Flow.Places.{behind_character}
 use Rattle.saphyr_scanner.proofs.InBlock.Skips.{has_tab, comment_has_tab}
 use Rattle.std.proofs.lemmas.Bool.{or_parts}
+use Rattle.saphyr_input.specs.Indicators.{number_sign}
 use Rattle.saphyr_scanner.proofs.Flow.Spaces.{white_no_sign, break_no_sign}
 use Rattle.saphyr_scalar.specs.Spelling.Spaces.{IsFiller, AreEach, joined_pieces, IsComment, IsFillerLine, IsLastFiller}
 use Rattle.saphyr_scanner.proofs.Documents.Lines.{filler_line}
@@ -24,19 +25,20 @@ and_then : (a b : Bool) → a ≡ true → (a && b) ≡ false → b ≡ false
 and_then true b e h = h
 and_then false b e h = absurd (cc)
 
-white_leads : (c : ℕ) (b : Bool) → (is_blank c || ((c == 13) && b)) ≡ true → (c == 9) ≡ false → leads_on c ≡ true
+white_leads : (c : ℕ) (b : Bool) → (is_blank c || ((c == carriage_return) && b)) ≡ true → (c == tab) ≡ false
+    → leads_on c ≡ true
 white_leads c true e f = grind (arith, nat_tests)
 white_leads c false e f = grind (arith, nat_tests)
 
 break_leads : (c : ℕ) → is_break c ≡ true → leads_on c ≡ true
 break_leads c e = grind (arith, nat_tests)
 
-sign_leads : (c : ℕ) → (c == 35) ≡ true → leads_on c ≡ true
+sign_leads : (c : ℕ) → (c == number_sign) ≡ true → leads_on c ≡ true
 sign_leads c e = grind (arith, nat_tests)
 
 ahead_kind : (c : ℕ) (cs : List ℕ) (is_white is_line is_sign : Bool)
-    → (is_blank c || ((c == 13) && (slice_index cs 0 == 10))) ≡ is_white → is_break c ≡ is_line
-    → (c == 35) ≡ is_sign
+    → (is_blank c || ((c == carriage_return) && (slice_index cs 0 == line_feed))) ≡ is_white → is_break c ≡ is_line
+    → (c == number_sign) ≡ is_sign
     → has_tab_ahead false (c ∷ cs) ≡ false → (has_tab_ahead false cs ≡ false → has_tab cs ≡ false)
     → (has_tab_ahead true cs ≡ false → comment_has_tab cs ≡ false)
     → has_tab (c ∷ cs) ≡ false
@@ -57,7 +59,7 @@ ahead_kind c cs false false true e f g h on sign =
 ahead_kind c cs false false false e f g h on sign = rw (e, f, g) refl
 
 tabs_ahead_of_comment : (c : ℕ) (cs : List ℕ) (is_word is_return is_line : Bool) → is_yaml_non_break c ≡ is_word
-    → ((c == 13) && (slice_index cs 0 == 10)) ≡ is_return → is_break c ≡ is_line
+    → ((c == carriage_return) && (slice_index cs 0 == line_feed)) ≡ is_return → is_break c ≡ is_line
     → has_tab_ahead true (c ∷ cs) ≡ false
     → (has_tab_ahead true cs ≡ false → comment_has_tab cs ≡ false)
     → (has_tab_ahead false cs ≡ false → has_tab cs ≡ false)
@@ -70,7 +72,7 @@ tabs_ahead_of_comment c cs true q r e f g h word on =
 tabs_ahead_of_comment c cs false true r e f g h word on =
     rw (e, f) (on (ap (λ (b : Bool). has_tab_ahead (not b) cs) (sym (returns c (slice_index cs 0 == 10) f)) ∙ h))
   where
-    returns : (c : ℕ) (b : Bool) → ((c == 13) && b) ≡ true → is_break c ≡ true
+    returns : (c : ℕ) (b : Bool) → ((c == carriage_return) && b) ≡ true → is_break c ≡ true
     returns c true e = grind (arith, nat_tests)
     returns c false e = grind (arith, nat_tests)
 tabs_ahead_of_comment c cs false false true e f g h word on =
@@ -104,7 +106,7 @@ column_behind_character m c e = rw e (some m.col)
     some : (n : ℕ) → 1 ≤ n + 1
     some n = omega arith
 
-sign_no_feed : (c : ℕ) → (c == 35) ≡ true → (c == line_feed) ≡ false
+sign_no_feed : (c : ℕ) → (c == number_sign) ≡ true → (c == line_feed) ≡ false
 sign_no_feed c e = grind (arith, nat_tests)
 
 unbroken_no_feed : (c : ℕ) → not (is_break c) ≡ true → (c == line_feed) ≡ false
@@ -148,10 +150,10 @@ tells_filler t o more h k =
 pub tells_token : (c : ℕ) (cs more : List ℕ) → IsInk c → TellsTabs more (c ∷ cs)
 tells_token c cs more ink = rw (no_tab c ink.blank, no_space c ink.blank, ink.break, ink.comment) refl
   where
-    no_tab : (c : ℕ) → is_blank c ≡ false → (c == 9) ≡ false
+    no_tab : (c : ℕ) → is_blank c ≡ false → (c == tab) ≡ false
     no_tab c h = grind (arith, nat_tests)
 
-    no_space : (c : ℕ) → is_blank c ≡ false → (c == 32) ≡ false
+    no_space : (c : ℕ) → is_blank c ≡ false → (c == space) ≡ false
     no_space c h = grind (arith, nat_tests)
 
 -- ## Whether a token stands ahead
@@ -186,15 +188,15 @@ token_filler t o h k =
 pub token_here : (c : ℕ) (cs : List ℕ) → IsInk c → has_token false (c ∷ cs) ≡ true
 token_here c cs ink = rw (no_tab c ink.blank, no_space c ink.blank, ink.break, ink.comment) refl
   where
-    no_tab : (c : ℕ) → is_blank c ≡ false → (c == 9) ≡ false
+    no_tab : (c : ℕ) → is_blank c ≡ false → (c == tab) ≡ false
     no_tab c h = grind (arith, nat_tests)
 
-    no_space : (c : ℕ) → is_blank c ≡ false → (c == 32) ≡ false
+    no_space : (c : ℕ) → is_blank c ≡ false → (c == space) ≡ false
     no_space c h = grind (arith, nat_tests)
 
 -- none stands in filler
 words_none : (words o : List ℕ) → AreIn is_yaml_non_break words → has_token false o ≡ false
-    → has_token true (words ++ (10 ∷ o)) ≡ false
+    → has_token true (words ++ (line_feed ∷ o)) ≡ false
 words_none [] o h k = k
 words_none (c ∷ cs) o h k =
     ap (λ (b : Bool). has_token (not b) (cs ++ (10 ∷ o))) (no_break c h.0) ∙ words_none cs o h.1 k
@@ -213,10 +215,10 @@ blanks_none : (w o : List ℕ) → AreIn is_blank w → has_token false o ≡ fa
 blanks_none [] o h k = k
 blanks_none (c ∷ cs) o h k = rw (leads c h.0, no_sign c h.0) (blanks_none cs o h.1 k)
   where
-    leads : (c : ℕ) → IsTrue (is_blank c) → ((c == 9) || leads_on c) ≡ true
+    leads : (c : ℕ) → IsTrue (is_blank c) → ((c == tab) || leads_on c) ≡ true
     leads c h = grind (arith, nat_tests)
 
-    no_sign : (c : ℕ) → IsTrue (is_blank c) → (c == 35) ≡ false
+    no_sign : (c : ℕ) → IsTrue (is_blank c) → (c == number_sign) ≡ false
     no_sign c h = grind (arith, nat_tests)
 
 line_none : (t o : List ℕ) → IsFillerLine t → has_token false o ≡ false → has_token false (t ++ o) ≡ false
@@ -225,7 +227,7 @@ line_none t o (text, (front, comment, are, k, is_text), is) h =
     ap (λ (x : List ℕ). x ++ o) (is ∙ ap (λ (x : List ℕ). x ++ (10 ∷ [])) is_text) ∙ simp append_assoc in
     ap (has_token false) whole ∙ blanks_none front (comment ++ (10 ∷ o)) are (by_comment k)
   where
-    by_comment : (comment ≡ []) ⊎ IsComment comment → has_token false (comment ++ (10 ∷ o)) ≡ false
+    by_comment : (comment ≡ []) ⊎ IsComment comment → has_token false (comment ++ (line_feed ∷ o)) ≡ false
     by_comment (inl e) = ap (λ (x : List ℕ). has_token false (x ++ (10 ∷ o))) e ∙ h
     by_comment (inr (words, are_words, e)) =
         ap (λ (x : List ℕ). has_token false (x ++ (10 ∷ o))) e ∙ words_none words o are_words h

@@ -9,6 +9,7 @@ use Rattle.saphyr_scalar.specs.Spelling.Tag.{AreIn}
 use Rattle.saphyr_scalar.specs.Spelling.Spaces.{IsEol}
 use Rattle.saphyr_scanner.specs.Grammar.Forest.{Node, Alias, Scalar, Seq, Map, Nodes, NoNode, MoreNodes, Pairs, NoPair, MorePairs}
 use Rattle.saphyr_scanner.specs.Grammar.BlockNodes.{Position, indent_at, IsLeftOut, IsFlowInBlock, IsBlockPair, IsEntryIndentation, IsBlockNode, AreEntries, AreOtherEntries, ArePairs, AreOtherPairs}
+use Rattle.saphyr_scanner.specs.Grammar.Layout.{most_open}
 use Rattle.saphyr_scanner.proofs.Flow.States.{IsInk, moved, past}
 use Rattle.saphyr_scanner.proofs.Flow.Places.{moved_append, moved_along}
 use Rattle.saphyr_scanner.proofs.Documents.Lines.{filler_line}
@@ -45,9 +46,10 @@ flow_ends room node place t o (gap, text, end, gap_is, is, end_is, e) =
     ends_so t (gap ++ (text ++ end)) o e (ends_back gap (text ++ end) o (ends_back text end o (eol_ends end o end_is)))
 
 pub pair_ends : (key value : Node)
-    → ((place : Position) (t o : List ℕ) → IsBlockNode 255 key place t o → EndsWithLine t o)
-    → ((place : Position) (t o : List ℕ) → IsBlockNode 255 value place t o → EndsWithLine t o)
-    → (m : ℕ) (t o : List ℕ) → IsBlockPair 255 key value (IsBlockNode 255 key) (IsBlockNode 255 value) m t o
+    → ((place : Position) (t o : List ℕ) → IsBlockNode most_open key place t o → EndsWithLine t o)
+    → ((place : Position) (t o : List ℕ) → IsBlockNode most_open value place t o → EndsWithLine t o)
+    → (m : ℕ) (t o : List ℕ)
+    → IsBlockPair most_open key value (IsBlockNode most_open key) (IsBlockNode most_open value) m t o
     → EndsWithLine t o
 pair_ends key value K V m t o (inl (node, between, v, node_is, line, spaced, before, short, h, e)) =
     ends_so t (node ++ (between ++ ((58 ∷ []) ++ v))) o e
@@ -60,23 +62,24 @@ pair_ends key value K V m t o (inr (inr (node, colon, v, some, h, mark, k, e))) 
 
 mutual
   pub node_ends : {limit : ℕ} → ReadsLeaves limit → (node : Node) (place : Position) (t o : List ℕ)
-      → IsBlockNode 255 node place t o → EndsWithLine t o
-  node_ends leaves (Alias name) place t o h = flow_ends 255 (Alias name) place t o h
+      → IsBlockNode most_open node place t o → EndsWithLine t o
+  node_ends leaves (Alias name) place t o h = flow_ends most_open (Alias name) place t o h
   node_ends leaves (Scalar p style value) place t o (inl h) = left_out_ends (Scalar p style value) place t o h
-  node_ends leaves (Scalar p style value) place t o (inr (inl h)) = flow_ends 255 (Scalar p style value) place t o h
+  node_ends leaves (Scalar p style value) place t o (inr (inl h)) = flow_ends most_open (Scalar p style value) place t o
+  h
   node_ends leaves (Scalar p style value) place t o (inr (inr (gap, front, scalar, gap_is, front_is, h, e))) =
       ends_so t (gap ++ (front ++ scalar)) o e
       (ends_back gap (front ++ scalar) o
       (ends_back front scalar o (leaves.scalar_ends style value (indent_at place) scalar o h)))
-  node_ends leaves (Seq p nodes) place t o (inl h) = flow_ends 255 (Seq p nodes) place t o h
+  node_ends leaves (Seq p nodes) place t o (inl h) = flow_ends most_open (Seq p nodes) place t o h
   node_ends leaves (Seq p nodes) place t o (inr (m, lead, entries, lead_is, h, e)) =
       ends_so t (lead ++ entries) o e (ends_back lead entries o (entries_end leaves nodes m entries o h))
-  node_ends leaves (Map p pairs) place t o (inl h) = flow_ends 255 (Map p pairs) place t o h
+  node_ends leaves (Map p pairs) place t o (inl h) = flow_ends most_open (Map p pairs) place t o h
   node_ends leaves (Map p pairs) place t o (inr (m, lead, entries, lead_is, h, e)) =
       ends_so t (lead ++ entries) o e (ends_back lead entries o (pairs_end leaves pairs m entries o h))
 
   pub entries_end : {limit : ℕ} → ReadsLeaves limit → (nodes : Nodes) (m : ℕ) (t o : List ℕ)
-      → AreEntries 255 nodes m t o
+      → AreEntries most_open nodes m t o
       → EndsWithLine t o
   entries_end leaves NoNode m t o h = absurd h
   entries_end leaves (MoreNodes node nodes) m t o (entry, others, h, k, e) =
@@ -86,7 +89,7 @@ mutual
       (node_ends leaves node _ entry (others ++ o) h)))
 
   pub other_entries_end : {limit : ℕ} → ReadsLeaves limit → (nodes : Nodes) (m : ℕ) (t o : List ℕ)
-      → AreOtherEntries 255 nodes m t o → (t ≡ []) ⊎ EndsWithLine t o
+      → AreOtherEntries most_open nodes m t o → (t ≡ []) ⊎ EndsWithLine t o
   other_entries_end leaves NoNode m t o h = inl h
   other_entries_end leaves (MoreNodes node nodes) m t o (front, entry, others, front_is, h, k, e) =
       inr (ends_so t (front ++ ((45 ∷ []) ++ (entry ++ others))) o e (ends_back front (45 ∷ (entry ++ others)) o
@@ -94,7 +97,8 @@ mutual
       (last_ends entry others o (other_entries_end leaves nodes m others o k)
       (node_ends leaves node _ entry (others ++ o) h)))))
 
-  pub pairs_end : {limit : ℕ} → ReadsLeaves limit → (pairs : Pairs) (m : ℕ) (t o : List ℕ) → ArePairs 255 pairs m t o
+  pub pairs_end : {limit : ℕ} → ReadsLeaves limit → (pairs : Pairs) (m : ℕ) (t o : List ℕ)
+      → ArePairs most_open pairs m t o
       → EndsWithLine t o
   pairs_end leaves NoPair m t o h = absurd h
   pairs_end leaves (MorePairs key value pairs) m t o (pair, others, h, k, e) =
@@ -104,7 +108,7 @@ mutual
       (λ place u z k. node_ends leaves value place u z k) m pair (others ++ o) h))
 
   pub other_pairs_end : {limit : ℕ} → ReadsLeaves limit → (pairs : Pairs) (m : ℕ) (t o : List ℕ)
-      → AreOtherPairs 255 pairs m t o → (t ≡ []) ⊎ EndsWithLine t o
+      → AreOtherPairs most_open pairs m t o → (t ≡ []) ⊎ EndsWithLine t o
   other_pairs_end leaves NoPair m t o h = inl h
   other_pairs_end leaves (MorePairs key value pairs) m t o (front, pair, others, front_is, h, k, e) =
       inr (ends_so t (front ++ (pair ++ others)) o e

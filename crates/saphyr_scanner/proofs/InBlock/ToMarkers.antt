@@ -1,6 +1,7 @@
 -- The documents of a text are read up to a document marker at a line's start, whatever text follows theirs.
 use Rattle.std.proofs.Common.{◌≡◌, ℕ, Bool, true, false, List, [], ◌∷◌, ◌++◌, slice_index, IsTrue, refl, sym, ap, ◌∙◌, subst, append_assoc, ◌⊎◌, inl, inr}
 use Rattle.std.specs.Prelude.{map, ◌==◌}
+use Rattle.saphyr_input.specs.Indicators.{full_stop, hyphen}
 use Rattle.saphyr_input.specs.Classes.{is_blank_or_breakz, line_feed}
 use Rattle.saphyr_input.specs.Places.{is_document_indicator}
 use Rattle.saphyr_scalar.specs.Spelling.Spaces.{IsLastFiller, IsEol}
@@ -69,7 +70,7 @@ marker_is_indicator : (w : DocumentMarker) (r : List ℕ) → IsMarkerRest r
 marker_is_indicator Starts r h = start_ends r h.first
 marker_is_indicator Ends r h = end_ends r h.first
 
-dash_or_dot : (cs ds : List ℕ) → 45 ∷ cs ≡ 46 ∷ ds → ⊥
+dash_or_dot : (cs ds : List ℕ) → hyphen ∷ cs ≡ full_stop ∷ ds → ⊥
 dash_or_dot cs ds e = let k : true ≡ false = ap (λ (x : List ℕ). slice_index x 0 == 45) e in cc
 
 -- What is to be shown where the marker is that of a document, or one behind a document. Its rest is r, and `more`
@@ -109,8 +110,9 @@ marked_fed w r t h l = subst EndsFed (sym l.is)
 pub passes_suffix : {limit : ℕ} {start : State} {marker : DocumentMarker} (ds : Forest)
     (end prefix others more : List ℕ) (ts : List Kind) → IsEol end (prefix ++ others) → IsDocumentPrefix prefix
     → EndsFed (prefix ++ others)
-    → StandsInStream limit start false (Lined false (46 ∷ 46 ∷ 46 ∷ (end ++ (prefix ++ (others ++ more)))))
-    (46 ∷ 46 ∷ 46 ∷ (end ++ (prefix ++ (others ++ more)))) ts
+    → StandsInStream limit start false
+    (Lined false (full_stop ∷ full_stop ∷ full_stop ∷ (end ++ (prefix ++ (others ++ more)))))
+    (full_stop ∷ full_stop ∷ full_stop ∷ (end ++ (prefix ++ (others ++ more)))) ts
     → ((us : List Kind) → StandsInStream limit start true (Lined true (others ++ more)) (others ++ more) us
     → Closes limit start marker (grammar.YieldDocuments ds true) us)
     → Closes limit start marker (grammar.YieldsBehindDocument (grammar.YieldDocuments ds)) ts
@@ -181,7 +183,7 @@ closes_beyond readers leaves w r more rest d ds free document others ts is behin
 
 -- behind the first dash of a document's marker
 not_dashes : (node others : List ℕ) → marks_line false node others ≡ false
-    → marks_line false (45 ∷ 45 ∷ node) others ≡ false
+    → marks_line false (hyphen ∷ hyphen ∷ node) others ≡ false
 not_dashes node others h = h
 
 closes_document : {limit : ℕ} {start : State} {marker : DocumentMarker} → ReaderPromises → ReadsLeaves limit
@@ -212,7 +214,7 @@ closes_document {limit = limit} {start = start} {marker = marker} readers leaves
     by_front l.front l.is l.line
   where
     at_marker : (w : DocumentMarker) → Found limit start marker more w r
-        → 45 ∷ 45 ∷ 45 ∷ (node ++ others) ≡ marker_text w ++ r
+        → hyphen ∷ hyphen ∷ hyphen ∷ (node ++ others) ≡ marker_text w ++ r
         → Closes limit start marker (grammar.YieldDocuments (d ∷ ds) free) ts
     at_marker Ends found same = absurd (dash_or_dot (45 ∷ 45 ∷ (node ++ others)) (46 ∷ 46 ∷ r) same)
     at_marker Starts found same =
@@ -225,7 +227,7 @@ closes_document {limit = limit} {start = start} {marker = marker} readers leaves
         (subst (λ (x : List ℕ). StandsInStream limit start free (Lined free x) x ts) text v) in
         found d ds free f.free f.opened node others ts may explicit compatible is behind left f.stands
 
-    by_front : (front : List ℕ) → 45 ∷ 45 ∷ 45 ∷ (node ++ others) ≡ front ++ (marker_text w ++ r)
+    by_front : (front : List ℕ) → hyphen ∷ hyphen ∷ hyphen ∷ (node ++ others) ≡ front ++ (marker_text w ++ r)
         → opens_line true front ≡ true → Closes limit start marker (grammar.YieldDocuments (d ∷ ds) free) ts
     by_front [] same opens = at_marker w found same
     by_front (c ∷ cs) same opens =
@@ -269,9 +271,10 @@ closes_behind {limit = limit} {start = start} {marker = marker} w r more rest fo
     by_front (back_in _ suffix others (subst HasNoReturn is clean)) first l.front l.is l.line
   where
     at_marker : HasNoReturn others → (w : DocumentMarker) → Found limit start marker more w r
-        → StandsInStream limit start false (Lined false (46 ∷ 46 ∷ 46 ∷ ((end ++ (prefix ++ others)) ++ more)))
-        (46 ∷ 46 ∷ 46 ∷ ((end ++ (prefix ++ others)) ++ more)) ts
-        → 46 ∷ 46 ∷ 46 ∷ (end ++ (prefix ++ others)) ≡ marker_text w ++ r
+        → StandsInStream limit start false
+        (Lined false (full_stop ∷ full_stop ∷ full_stop ∷ ((end ++ (prefix ++ others)) ++ more)))
+        (full_stop ∷ full_stop ∷ full_stop ∷ ((end ++ (prefix ++ others)) ++ more)) ts
+        → full_stop ∷ full_stop ∷ full_stop ∷ (end ++ (prefix ++ others)) ≡ marker_text w ++ r
         → Closes limit start marker (grammar.YieldsBehindDocument (grammar.YieldDocuments ds)) ts
     at_marker left Starts found first same =
         absurd (dash_or_dot (45 ∷ 45 ∷ r) (46 ∷ 46 ∷ (end ++ (prefix ++ others))) (sym same))
@@ -282,9 +285,11 @@ closes_behind {limit = limit} {start = start} {marker = marker} w r more rest fo
         (46 ∷ 46 ∷ 46 ∷ (x ++ more)) ts) text first)
 
     by_front : HasNoReturn others
-        → StandsInStream limit start false (Lined false (46 ∷ 46 ∷ 46 ∷ ((end ++ (prefix ++ others)) ++ more)))
-        (46 ∷ 46 ∷ 46 ∷ ((end ++ (prefix ++ others)) ++ more)) ts
-        → (front : List ℕ) → 46 ∷ 46 ∷ 46 ∷ (end ++ (prefix ++ others)) ≡ front ++ (marker_text w ++ r)
+        → StandsInStream limit start false
+        (Lined false (full_stop ∷ full_stop ∷ full_stop ∷ ((end ++ (prefix ++ others)) ++ more)))
+        (full_stop ∷ full_stop ∷ full_stop ∷ ((end ++ (prefix ++ others)) ++ more)) ts
+        → (front : List ℕ) → full_stop ∷ full_stop ∷ full_stop ∷ (end ++ (prefix ++ others))
+        ≡ front ++ (marker_text w ++ r)
         → opens_line true front ≡ true
         → Closes limit start marker (grammar.YieldsBehindDocument (grammar.YieldDocuments ds)) ts
     by_front left first [] same opens = at_marker left w found first same

@@ -2,7 +2,7 @@
 -- the column.
 use Rattle.std.proofs.Common.{◌≡◌, ℕ, ◌≤◌, Bool, true, false, List, [], ◌∷◌, slice_index, refl, sym, ◌∙◌, subst}
 use Rattle.std.specs.Prelude.{◌||◌, ◌&&◌, ◌==◌, not, nat_lt}
-use Rattle.saphyr_input.specs.Classes.{is_blank, is_break, is_yaml_non_break}
+use Rattle.saphyr_input.specs.Classes.{is_blank, is_break, is_yaml_non_break, carriage_return, line_feed}
 use Rattle.saphyr_scalar.specs.declared.scalar.position.Marker.{Marker}
 use Rattle.saphyr_scalar.specs.Views.Cursor.{along, next_line}
 use Rattle.saphyr_scanner.proofs.Flow.States.{is_left_tab, is_filler_rest, is_comment_rest, past, past_comment}
@@ -14,20 +14,22 @@ use Rattle.std.proofs.lemmas.Bool.{or_parts}
 use Rattle.saphyr_input.proofs.Basics.Booleans.{clash, and_true_left, and_true_right}
 use Rattle.saphyr_input.proofs.Basics.Characters.{no_return_and, return_breaks}
 use Rattle.std.proofs.Math.Bool.{or-true}
+use Rattle.saphyr_input.specs.Indicators.{number_sign}
 use Rattle.saphyr_scanner.specs.Steps.Gap.{is_tab_indentation}
 
 -- ## No tab on the line of a token
 
 -- a tab is kept up to a token of its line
 kept_kind : (least : ℕ) (m : Marker) (blank : Bool) (c : ℕ) (cs : List ℕ) (is_white is_line is_sign : Bool)
-    → (is_blank c || ((c == 13) && (slice_index cs 0 == 10))) ≡ is_white → is_break c ≡ is_line → (c == 35) ≡ is_sign
+    → (is_blank c || ((c == carriage_return) && (slice_index cs 0 == line_feed))) ≡ is_white → is_break c ≡ is_line
+    → (c == number_sign) ≡ is_sign
     → is_filler_rest (c ∷ cs) ≡ false → (is_filler_rest cs ≡ false → tabbed least (along m 1) blank true cs ≡ true)
     → (is_comment_rest cs ≡ false → tabbed_comment least (along m 1) blank true cs ≡ true)
     → tabbed least m blank true (c ∷ cs) ≡ true
 kept_kind least m blank c cs true q r e f g h on sign =
     rw (e, or-true (is_tab_indentation least m blank c)) (on (by_blank (is_blank c) refl e))
   where
-    by_blank : (b : Bool) → is_blank c ≡ b → (b || ((c == 13) && (slice_index cs 0 == 10))) ≡ true
+    by_blank : (b : Bool) → is_blank c ≡ b → (b || ((c == carriage_return) && (slice_index cs 0 == line_feed))) ≡ true
         → is_filler_rest cs ≡ false
     by_blank true k w = let same : is_filler_rest (c ∷ cs) ≡ is_filler_rest cs = rw k refl in sym same ∙ h
     by_blank false k w =
@@ -89,7 +91,8 @@ left_told column m tab c cs t =
 
 past_kind : (column : ℕ) (m : Marker) (tab : Bool) (c : ℕ) (cs : List ℕ) (is_tab is_white is_line is_sign : Bool)
     → stops_tab column m c cs ≡ is_tab
-    → (is_blank c || ((c == 13) && (slice_index cs 0 == 10))) ≡ is_white → is_break c ≡ is_line → (c == 35) ≡ is_sign
+    → (is_blank c || ((c == carriage_return) && (slice_index cs 0 == line_feed))) ≡ is_white → is_break c ≡ is_line
+    → (c == number_sign) ≡ is_sign
     → tabbed column m true tab (c ∷ cs) ≡ false
     → (tabbed column (along m 1) true (is_tab_indentation column m true c || tab) cs ≡ false
     → past column (along m 1) cs ≡ past 0 (along m 1) cs)
@@ -113,7 +116,8 @@ past_kind column m tab c cs false false false false t e f g none on line sign =
     rw (t, no_left m c, e, f, g) refl
 
 untabbed_over_comment : (column : ℕ) (m : Marker) (tab : Bool) (c : ℕ) (cs : List ℕ) (is_word is_return is_line : Bool)
-    → is_yaml_non_break c ≡ is_word → ((c == 13) && (slice_index cs 0 == 10)) ≡ is_return → is_break c ≡ is_line
+    → is_yaml_non_break c ≡ is_word → ((c == carriage_return) && (slice_index cs 0 == line_feed)) ≡ is_return
+    → is_break c ≡ is_line
     → tabbed_comment column m true tab (c ∷ cs) ≡ false
     → (tabbed_comment column (along m 1) true tab cs ≡ false
     → past_comment column (along m 1) cs ≡ past_comment 0 (along m 1) cs)
@@ -177,9 +181,11 @@ no_tab_here true rest e h = absurd (clash rest (h refl) e)
 no_tab_here false rest e h = refl
 
 settles_kind : (i : ℕ) (m : Marker) (c : ℕ) (cs : List ℕ) (is_tab is_white is_line is_sign : Bool)
-    → stops_tab i m c cs ≡ is_tab → (is_blank c || ((c == 13) && (slice_index cs 0 == 10))) ≡ is_white
+    → stops_tab i m c cs ≡ is_tab
+    → (is_blank c || ((c == carriage_return) && (slice_index cs 0 == line_feed))) ≡ is_white
     → is_break c ≡ is_line
-    → (c == 35) ≡ is_sign → Settles i (along m 1) cs → Settles i (next_line m 1) cs → CommentSettles i (along m 1) cs
+    → (c == number_sign) ≡ is_sign → Settles i (along m 1) cs → Settles i (next_line m 1) cs
+    → CommentSettles i (along m 1) cs
     → Settles i m (c ∷ cs)
 settles_kind i m c cs true p q r t e f g on line sign h =
     let still : past i m (c ∷ cs) ≡ (m, c ∷ cs) = rw t refl in
@@ -212,7 +218,8 @@ settles_kind i m c cs false false false false t e f g on line sign h = (
 )
 
 comment_settles_kind : (i : ℕ) (m : Marker) (c : ℕ) (cs : List ℕ) (is_word is_return is_line : Bool)
-    → is_yaml_non_break c ≡ is_word → ((c == 13) && (slice_index cs 0 == 10)) ≡ is_return → is_break c ≡ is_line
+    → is_yaml_non_break c ≡ is_word → ((c == carriage_return) && (slice_index cs 0 == line_feed)) ≡ is_return
+    → is_break c ≡ is_line
     → CommentSettles i (along m 1) cs → Settles i (along m 1) cs → Settles i (next_line m 1) cs
     → CommentSettles i m (c ∷ cs)
 comment_settles_kind i m c cs true q r e f g word on line h =

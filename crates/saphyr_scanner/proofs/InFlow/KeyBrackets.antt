@@ -1,5 +1,6 @@
 -- A flow collection on one line at block level is read as a key.
 use Rattle.std.proofs.Common.{◌≡◌, ℕ, suc, ◌+◌, ◌≤◌, false, List, [], ◌∷◌, ◌++◌, length, refl, sym, ap, ◌∙◌, arith, subst, append_assoc, append-nil, inl, inr}
+use Rattle.saphyr_input.specs.Indicators.{colon}
 use Rattle.saphyr_scalar.specs.declared.scalar.position.Marker.{Marker}
 use Rattle.saphyr_scalar.specs.Steps.BlockRead.{spaces}
 use Rattle.saphyr_scalar.specs.Spelling.Spaces.{IsSeparation}
@@ -12,6 +13,7 @@ use Rattle.saphyr_scanner.specs.Steps.Level.{Candidate}
 use Rattle.saphyr_scanner.specs.Steps.State.{State}
 use Rattle.saphyr_scanner.specs.Grammar.Forest.{Properties, Seq, Map, Nodes, Pairs}
 use Rattle.saphyr_scanner.specs.Grammar.FlowNodes.{IsBeforeContent, IsFlowNode}
+use Rattle.saphyr_scanner.specs.Grammar.Layout.{most_open}
 use Rattle.saphyr_scanner.proofs.InFlow.States.{Around}
 use Rattle.saphyr_scanner.proofs.InFlow.KeyLines.{Ready}
 use Rattle.saphyr_scanner.proofs.InFlow.KeyTokens.{InKey, in_back, in_right, in_so, Along, along_joins, along_ready}
@@ -49,10 +51,10 @@ brackets_key : ReaderPromises → (around : Around) → around.pending ≡ aroun
     → (p : Properties) (k : Candidate) (qs : List Place) (front w inside : List ℕ) (n : ℕ)
     (r : List ℕ) (e : Marker) (ad : ℕ) → IsBeforeContent p around.indent front → IsSeparation around.indent w
     → IsParted around.indent (w ++ (inside ++ (b.closing ∷ colon_text n r)))
-    → InKey around k e ((front ++ bracket_text b w inside) ++ spaces n) (58 ∷ r) → ad ≤ e.index
+    → InKey around k e ((front ++ bracket_text b w inside) ++ spaces n) (colon ∷ r) → ad ≤ e.index
     → Ready around start k ((front ++ bracket_text b w inside) ++ colon_text n r) e ad qs
     → RunsAt around Is b k w inside n r
-    → FrontedBrackets around start Is b p k qs (colon_after e (front ++ bracket_text b w inside) n) (58 ∷ r)
+    → FrontedBrackets around start Is b p k qs (colon_after e (front ++ bracket_text b w inside) n) (colon ∷ r)
 brackets_key reads around same start Is b are p k qs front w inside n r e ad (inl (none, is)) parts parted text low
     ready run =
     let body = bracket_text b w inside in
@@ -93,7 +95,7 @@ brackets_key reads around same start Is b are p k qs front w inside n r e ad (in
 
 -- a piece inside a key's brackets
 inside_fits : (around : Around) (k : Candidate) (e : Marker) (c : ℕ) (w inside : List ℕ) (d n : ℕ) (r : List ℕ)
-    → InKey around k e (((c ∷ w) ++ (inside ++ (d ∷ []))) ++ spaces n) (58 ∷ r)
+    → InKey around k e (((c ∷ w) ++ (inside ++ (d ∷ []))) ++ spaces n) (colon ∷ r)
     → FitsAround (calmed around) (moved e (c ∷ w)) inside (d ∷ colon_text n r)
 inside_fits around k e c w inside d n r text =
     let tail = inside ++ ((d ∷ []) ++ spaces n) in
@@ -110,15 +112,16 @@ inside_fits around k e c w inside d n r text =
       calm = refl;
     }
 
-room_inside : (left : ℕ) → 255 ≡ suc left → left + 1 ≤ 255
+room_inside : (left : ℕ) → most_open ≡ suc left → left + 1 ≤ most_open
 room_inside left e = omega (arith, e)
 
 pub sequence_key : ReaderPromises → (around : Around) → around.pending ≡ around.required
     → (start : State) (p : Properties) (nodes : Nodes) (k : Candidate) (qs : List Place) (t : List ℕ) (n : ℕ)
     (r : List ℕ) (e : Marker) (ad : ℕ)
-    → IsFlowNode 255 (Seq p nodes) false around.indent t → InKey around k e (t ++ spaces n) (58 ∷ r) → ad ≤ e.index
+    → IsFlowNode most_open (Seq p nodes) false around.indent t → InKey around k e (t ++ spaces n) (colon ∷ r)
+    → ad ≤ e.index
     → Ready around start k (t ++ colon_text n r) e ad qs
-    → KeyAlong around start (Seq p nodes) k qs (colon_after e t n) (58 ∷ r)
+    → KeyAlong around start (Seq p nodes) k qs (colon_after e t n) (colon ∷ r)
 sequence_key reads around same start p nodes k qs t n r e ad
     (left, opening, inside, room, (front, w, f, parts, o), h, is) text low ready =
     let body = bracket_text square w inside in
@@ -158,9 +161,10 @@ sequence_key reads around same start p nodes k qs t n r e ad
 pub mapping_key_reads : ReaderPromises → (around : Around) → around.pending ≡ around.required
     → (start : State) (p : Properties) (pairs : Pairs) (k : Candidate) (qs : List Place) (t : List ℕ) (n : ℕ)
     (r : List ℕ) (e : Marker) (ad : ℕ)
-    → IsFlowNode 255 (Map p pairs) false around.indent t → InKey around k e (t ++ spaces n) (58 ∷ r) → ad ≤ e.index
+    → IsFlowNode most_open (Map p pairs) false around.indent t → InKey around k e (t ++ spaces n) (colon ∷ r)
+    → ad ≤ e.index
     → Ready around start k (t ++ colon_text n r) e ad qs
-    → KeyAlong around start (Map p pairs) k qs (colon_after e t n) (58 ∷ r)
+    → KeyAlong around start (Map p pairs) k qs (colon_after e t n) (colon ∷ r)
 mapping_key_reads reads around same start p pairs k qs t n r e ad
     (left, opening, inside, room, (front, w, f, parts, o), h, is) text low ready =
     let body = bracket_text curly w inside in

@@ -15,6 +15,7 @@ use Rattle.saphyr_scanner.specs.Steps.Level.{Candidate, Level, is_block, ends_pa
 use Rattle.saphyr_scanner.specs.Steps.Flow.{close_collection}
 use Rattle.saphyr_scanner.specs.Steps.State.{State, on_core, after_step}
 use Rattle.saphyr_scanner.specs.Steps.Fetch.{step, state_behind_content, fetch_here, fetch, check_limit, fetch_within}
+use Rattle.saphyr_scanner.specs.Grammar.Layout.{most_open}
 use Rattle.saphyr_scanner.proofs.Leads.{LeadsTo, stay, onward, leads_on}
 use Rattle.saphyr_scanner.proofs.InFlow.States.{Around, core_at, state_at, drops_far_key, left_in_flow, behind_key, opening_steps_open, open_collection_gives, close_collection_gives, deepened, moment}
 use Rattle.saphyr_scanner.proofs.InFlow.ScalarsOnLine.{separation_of_blanks}
@@ -32,6 +33,7 @@ use Rattle.saphyr_scanner.proofs.Flow.Collections.{Brackets, AreBrackets, bracke
 use Rattle.saphyr_scalar.proofs.Given.{cursor_at}
 use Rattle.saphyr_input.proofs.Basics.Numbers.{le_next}
 use Rattle.std.proofs.lemmas.Bool.{le-leb}
+use Rattle.saphyr_input.specs.Indicators.{colon}
 use Rattle.saphyr_scanner.proofs.Queues.{token_place, place_kinds, place_kinds_append, queue_of}
 use Rattle.saphyr_scanner.proofs.Levels.{level_of}
 
@@ -61,7 +63,7 @@ record Opened (around : Around) (start : State) (b : Brackets) (k : Candidate) (
       (state_at (calmed around) (moment there b.context None (level_of context.Block (Some k) ∷ []) true ad
       (qs ++ token_place e there.mark b.opens ∷ [])) deeper) start
 
-none_open : 0 < 255
+none_open : 0 < most_open
 none_open = omega arith
 
 bracket_opens : (around : Around) → around.pending ≡ around.required → (start : State) (b : Brackets) → AreBrackets b
@@ -104,7 +106,7 @@ bracket_opens around same start b are k qs e o ad parted right below r =
 record Closed (around : Around) (start : State) (k : Candidate) (qs : List Place) (ends : Bool) (kind : Kind)
     (at_end m : Marker) (r : List ℕ) (ad : ℕ) (deeper : Bool) : Type 0 where
   there : Cursor
-  rest : there.rest ≡ 58 ∷ r
+  rest : there.rest ≡ colon ∷ r
   mark : there.mark ≡ m
   leads : LeadsTo around.limit
       (state_at around
@@ -116,7 +118,7 @@ bracket_closes : (around : Around) → around.pending ≡ around.required → (b
     → step b.closing second i (core_at (calmed around) d s inside k ms a ad)
     ≡ close_collection (ends_pair inside) b.closes (core_at (calmed around) d s inside k ms a ad))
     → (k : Candidate) (j : Option Candidate) (a : Bool) (ad : ℕ) (qs : List Place) (s : Cursor) (d : Bool) (e : Marker)
-    (n : ℕ) (r : List ℕ) → InKey around k e ((b.closing ∷ []) ++ spaces n) (58 ∷ r) → around.indent ≤ e.col
+    (n : ℕ) (r : List ℕ) → InKey around k e ((b.closing ∷ []) ++ spaces n) (colon ∷ r) → around.indent ≤ e.col
     → past around.indent s.mark s.rest ≡ past around.indent e (b.closing ∷ colon_text n r)
     → Closed around (state_at (calmed around) (moment s inside j (level_of context.Block (Some k) ∷ []) a ad qs) d) k qs
     (ends_pair inside) b.closes e (moved (along e 1) (spaces n)) r ad d
@@ -187,10 +189,10 @@ pub collection_along : (around : Around) → around.pending ≡ around.required
     → (start : State) (Is : List Kind → Type 0) (b : Brackets) → AreBrackets b
     → (k : Candidate) (qs : List Place) (w inside : List ℕ) (n : ℕ) (r : List ℕ) (e : Marker)
     (ad : ℕ) → IsSeparation around.indent w → IsParted around.indent (w ++ (inside ++ (b.closing ∷ colon_text n r)))
-    → InKey around k e (bracket_text b w inside ++ spaces n) (58 ∷ r) → ad ≤ e.index
+    → InKey around k e (bracket_text b w inside ++ spaces n) (colon ∷ r) → ad ≤ e.index
     → Ready around start k (bracket_text b w inside ++ colon_text n r) e ad qs
     → RunsInside (calmed around) Is b context.Block [] (moved e (b.opening ∷ w)) inside (colon_text n r)
-    → CollectionAlong around start Is b k qs (colon_after e (bracket_text b w inside) n) (58 ∷ r)
+    → CollectionAlong around start Is b k qs (colon_after e (bracket_text b w inside) n) (colon ∷ r)
 collection_along around same start Is b are k qs w inside n r e ad parts parted text low ready run =
     let o = colon_text n r in
     let close = b.closing ∷ [] in

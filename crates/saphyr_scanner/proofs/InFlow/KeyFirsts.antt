@@ -1,6 +1,7 @@
 -- A key on one line at block level begins a token, which keeps the key's place.
 use Rattle.std.proofs.Common.{◌≡◌, ℕ, Bool, true, false, List, [], ◌∷◌, ◌++◌, refl, sym, ap, ◌∙◌, subst, append_assoc, inl, inr}
 use Rattle.std.specs.Prelude.{Option, Some, None}
+use Rattle.saphyr_input.specs.Indicators.{colon}
 use Rattle.saphyr_scalar.specs.Views.Cursor.{Cursor}
 use Rattle.saphyr_scanner.specs.declared.engine.level.Context.{Context}
 use Rattle.saphyr_scanner.specs.declared.engine.level.Context.TheVariants as context
@@ -201,7 +202,7 @@ scalar_first around p style value t o (inr (front, content, before, g, e)) =
     })
 
 pub plain_key_first : (around : Around) (node : Node) (t r : List ℕ) → IsPlainKeyNode node false around.indent t
-    → FirstOf around t (58 ∷ r)
+    → FirstOf around t (colon ∷ r)
 plain_key_first around (Alias name) t r h = absurd h
 plain_key_first around (Seq p nodes) t r h = absurd h
 plain_key_first around (Map p pairs) t r h = absurd h

@@ -1,6 +1,7 @@
 -- An alias and a scalar on one line at block level are read as keys, with the properties before them.
 use Rattle.std.proofs.Common.{◌≡◌, ◌≢◌, ℕ, zero, suc, ◌≤◌, true, false, List, [], ◌∷◌, ◌++◌, slice_index, refl, sym, ap, ◌∙◌, subst, append_assoc, IsTrue, ◌⊎◌, inl, inr}
 use Rattle.std.proofs.lemmas.Bool.{false≢true}
+use Rattle.saphyr_input.specs.Indicators.{colon}
 use Rattle.saphyr_input.specs.Classes.{is_blank_or_breakz}
 use Rattle.saphyr_scalar.specs.declared.scalar.position.Marker.{Marker}
 use Rattle.saphyr_scalar.specs.Steps.BlockRead.{spaces}
@@ -42,8 +43,8 @@ some_space (suc n) r h = refl
 pub alias_key : ReaderPromises → (around : Around) (start : State) (name : List ℕ) (k : Candidate) (qs : List Place)
     (p : List ℕ)
     (n : ℕ) (r : List ℕ) (e : Marker) (ad : ℕ) → layout.IsAlias name p → IsBeforeColon (Alias name) (spaces n)
-    → InKey around k e (p ++ spaces n) (58 ∷ r) → ad ≤ e.index → Ready around start k (p ++ colon_text n r) e ad qs
-    → KeyAlong around start (Alias name) k qs (colon_after e p n) (58 ∷ r)
+    → InKey around k e (p ++ spaces n) (colon ∷ r) → ad ≤ e.index → Ready around start k (p ++ colon_text n r) e ad qs
+    → KeyAlong around start (Alias name) k qs (colon_after e p n) (colon ∷ r)
 alias_key reads around start name k qs p n r e ad h apart text low ready =
     record {
       tokens = alias_token name ∷ [];
@@ -55,8 +56,8 @@ alias_key reads around start name k qs p n r e ad h apart text low ready =
 empty_key : ReaderPromises → (around : Around) (start : State) (p : Properties) (k : Candidate) (qs : List Place)
     (t : List ℕ)
     (n : ℕ) (r : List ℕ) (e : Marker) (ad : ℕ) → IsProperties p t → IsBeforeColon (Scalar p Plain []) (spaces n)
-    → InKey around k e (t ++ spaces n) (58 ∷ r) → ad ≤ e.index → Ready around start k (t ++ colon_text n r) e ad qs
-    → KeyAlong around start (Scalar p Plain []) k qs (colon_after e t n) (58 ∷ r)
+    → InKey around k e (t ++ spaces n) (colon ∷ r) → ad ≤ e.index → Ready around start k (t ++ colon_text n r) e ad qs
+    → KeyAlong around start (Scalar p Plain []) k qs (colon_after e t n) (colon ∷ r)
 empty_key reads around start p k qs t n r e ad h apart text low ready =
     let a = properties_along reads around start k qs p.anchor p.tag t (spaces n) (58 ∷ r) (spaces n) (58 ∷ r) e ad h
     (some_space n r apart) text refl (spaces_are_blank n) low ready in
@@ -99,9 +100,9 @@ colon_after_parts e front t v c n is =
 content_key : ReaderPromises → (around : Around) (start : State) (p : Properties) (style : Style) (value : List ℕ)
     (k : Candidate) (qs : List Place) (front content : List ℕ) (n : ℕ) (r : List ℕ) (e : Marker) (ad : ℕ)
     → IsBeforeContent p around.indent front → ContentReads around style value content n r
-    → InKey around k e ((front ++ content) ++ spaces n) (58 ∷ r) → ad ≤ e.index
+    → InKey around k e ((front ++ content) ++ spaces n) (colon ∷ r) → ad ≤ e.index
     → Ready around start k ((front ++ content) ++ colon_text n r) e ad qs
-    → KeyAlong around start (Scalar p style value) k qs (colon_after e (front ++ content) n) (58 ∷ r)
+    → KeyAlong around start (Scalar p style value) k qs (colon_after e (front ++ content) n) (colon ∷ r)
 content_key reads around start p style value k qs front content n r e ad (inl (none, is)) g text low ready =
     subst (λ (f : List ℕ). InKey around k e ((f ++ content) ++ spaces n) (58 ∷ r)
     → Ready around start k ((f ++ content) ++ colon_text n r) e ad qs
@@ -133,9 +134,9 @@ content_key reads around start p style value k qs front content n r e ad (inr (t
 pub scalar_key : ReaderPromises → (around : Around) (start : State) (p : Properties) (style : Style) (value : List ℕ)
     (k : Candidate) (qs : List Place) (t : List ℕ) (n : ℕ) (r : List ℕ) (e : Marker) (ad : ℕ)
     → IsScalarNode p style value false around.indent t → IsBeforeColon (Scalar p style value) (spaces n)
-    → is_blank_or_breakz (slice_index r 0) ≡ true → InKey around k e (t ++ spaces n) (58 ∷ r) → ad ≤ e.index
+    → is_blank_or_breakz (slice_index r 0) ≡ true → InKey around k e (t ++ spaces n) (colon ∷ r) → ad ≤ e.index
     → Ready around start k (t ++ colon_text n r) e ad qs
-    → KeyAlong around start (Scalar p style value) k qs (colon_after e t n) (58 ∷ r)
+    → KeyAlong around start (Scalar p style value) k qs (colon_after e t n) (colon ∷ r)
 scalar_key reads around start p style value k qs t n r e ad (inl (plain, empty, h)) apart white text low ready =
     subst (λ (q : Style). IsBeforeColon (Scalar p q value) (spaces n)
     → KeyAlong around start (Scalar p q value) k qs (colon_after e t n) (58 ∷ r)) (sym plain)
@@ -154,8 +155,8 @@ scalar_key reads around start p style value k qs t n r e ad (inr (front, content
 pub plain_key : ReaderPromises → (around : Around) (start : State) (node : Node) (k : Candidate) (qs : List Place)
     (t r : List ℕ)
     (e : Marker) (ad : ℕ) → IsPlainKeyNode node false around.indent t → is_blank_or_breakz (slice_index r 0) ≡ true
-    → InKey around k e (t ++ []) (58 ∷ r) → ad ≤ e.index → Ready around start k (t ++ (58 ∷ r)) e ad qs
-    → KeyAlong around start node k qs (moved e t) (58 ∷ r)
+    → InKey around k e (t ++ []) (colon ∷ r) → ad ≤ e.index → Ready around start k (t ++ (colon ∷ r)) e ad qs
+    → KeyAlong around start node k qs (moved e t) (colon ∷ r)
 plain_key reads around start (Alias name) k qs t r e ad h white text low ready = absurd h
 plain_key reads around start (Seq p nodes) k qs t r e ad h white text low ready = absurd h
 plain_key reads around start (Map p pairs) k qs t r e ad h white text low ready = absurd h

@@ -40,6 +40,7 @@ use Rattle.saphyr_scanner.proofs.Flow.Words.{plain_text, key_text}
 use Rattle.saphyr_scanner.proofs.Flow.Tokens.{Begins}
 use Rattle.saphyr_scalar.proofs.Given.{cursor_at}
 use Rattle.std.proofs.lemmas.Bool.{eq-eqb}
+use Rattle.saphyr_input.specs.Indicators.{apostrophe, colon, number_sign}
 use Rattle.saphyr_input.proofs.Basics.Booleans.{clash}
 use Rattle.saphyr_scanner.proofs.Gaps.{stop_here}
 
@@ -51,25 +52,25 @@ abbrev pub colon_text : ℕ → List ℕ → List ℕ
 colon_text n r = spaces n ++ (58 ∷ r)
 
 pub colon_lands : (column : ℕ) (m : Marker) (n : ℕ) (r : List ℕ)
-    → past column m (colon_text n r) ≡ (moved m (spaces n), 58 ∷ r)
+    → past column m (colon_text n r) ≡ (moved m (spaces n), colon ∷ r)
 colon_lands column m n r = spaces_past column n m (58 ∷ r) ∙ past_ink column (moved m (spaces n)) 58 r colon_ink
 
 -- ## Plain scalars
 
 white_spaces : (m : Marker) (n : ℕ) (r : List ℕ)
-    → past_white m false (colon_text n r) ≡ cursor_at (58 ∷ r) (moved m (spaces n)) false
+    → past_white m false (colon_text n r) ≡ cursor_at (colon ∷ r) (moved m (spaces n)) false
 white_spaces m zero r = refl
 white_spaces m (suc n) r = white_spaces (along m 1) n r
 
-colon_stops : (r : List ℕ) → is_blank_or_breakz (slice_index r 0) ≡ true → is_in_word false (58 ∷ r) ≡ false
+colon_stops : (r : List ℕ) → is_blank_or_breakz (slice_index r 0) ≡ true → is_in_word false (colon ∷ r) ≡ false
 unfolding is_in_word
 colon_stops r h = rw h refl
 
-no_comment : (t : Bool) (m : Marker) (r : List ℕ) → comment_of false t (cursor_at (58 ∷ r) m false) ≡ None
+no_comment : (t : Bool) (m : Marker) (r : List ℕ) → comment_of false t (cursor_at (colon ∷ r) m false) ≡ None
 unfolding comment_of
 no_comment t m r = refl
 
-spaces_apart : (n : ℕ) (r : List ℕ) → slice_index (colon_text n r) 0 ≢ 35
+spaces_apart : (n : ℕ) (r : List ℕ) → slice_index (colon_text n r) 0 ≢ number_sign
 spaces_apart zero r e = absurd (omega (arith, e))
 spaces_apart (suc n) r e = absurd (omega (arith, e))
 
@@ -100,9 +101,9 @@ colon_after e t n = moved (moved e t) (spaces n)
 text_along : ReaderPromises → (around : Around) (start : State) (k : Candidate) (qs : List Place) (c : ℕ) (cs : List ℕ)
     (n : ℕ)
     (r : List ℕ) (e : Marker) (ad : ℕ) → BeginsWord false (c ∷ cs) (colon_text n r)
-    → IsPlainText false around.indent e (c ∷ cs) (colon_text n r) → InKey around k e ((c ∷ cs) ++ spaces n) (58 ∷ r)
+    → IsPlainText false around.indent e (c ∷ cs) (colon_text n r) → InKey around k e ((c ∷ cs) ++ spaces n) (colon ∷ r)
     → ad ≤ e.index → Ready around start k ((c ∷ cs) ++ colon_text n r) e ad qs
-    → Along around start k qs (colon_after e (c ∷ cs) n) (58 ∷ r) (scalar_token Plain (plain_value (c ∷ cs)) ∷ [])
+    → Along around start k qs (colon_after e (c ∷ cs) n) (colon ∷ r) (scalar_token Plain (plain_value (c ∷ cs)) ∷ [])
 text_along reads around start k qs c cs n r e ad begins plain text low ready =
     let t = c ∷ cs in
     let o = colon_text n r in
@@ -142,9 +143,9 @@ text_along reads around start k qs c cs n r e ad begins plain text low ready =
 pub plain_along : ReaderPromises → (around : Around) (start : State) (k : Candidate) (qs : List Place) (c : ℕ)
     (cs : List ℕ)
     (n : ℕ) (r : List ℕ) (e : Marker) (ad : ℕ) → IsPlain false around.indent (c ∷ cs)
-    → is_blank_or_breakz (slice_index r 0) ≡ true → InKey around k e ((c ∷ cs) ++ spaces n) (58 ∷ r) → ad ≤ e.index
+    → is_blank_or_breakz (slice_index r 0) ≡ true → InKey around k e ((c ∷ cs) ++ spaces n) (colon ∷ r) → ad ≤ e.index
     → Ready around start k ((c ∷ cs) ++ colon_text n r) e ad qs
-    → Along around start k qs (colon_after e (c ∷ cs) n) (58 ∷ r) (scalar_token Plain (plain_value (c ∷ cs)) ∷ [])
+    → Along around start k qs (colon_after e (c ∷ cs) n) (colon ∷ r) (scalar_token Plain (plain_value (c ∷ cs)) ∷ [])
 plain_along reads around start k qs c cs n r e ad h white text low ready =
     let clear = clear_front e (c ∷ cs) (spaces n) (58 ∷ r) text.clear in
     text_along reads around start k qs c cs n r e ad (word_begins false around.indent (c ∷ cs) (colon_text n r) h)
@@ -155,9 +156,9 @@ plain_along reads around start k qs c cs n r e ad h white text low ready =
 pub plain_key_along : ReaderPromises
     → (around : Around) (start : State) (k : Candidate) (qs : List Place) (c : ℕ) (cs r : List ℕ) (e : Marker) (ad : ℕ)
     → IsPlainKey false around.indent (c ∷ cs)
-    → is_blank_or_breakz (slice_index r 0) ≡ true → InKey around k e ((c ∷ cs) ++ []) (58 ∷ r) → ad ≤ e.index
-    → Ready around start k ((c ∷ cs) ++ (58 ∷ r)) e ad qs
-    → Along around start k qs (moved e (c ∷ cs)) (58 ∷ r) (scalar_token Plain (plain_value (c ∷ cs)) ∷ [])
+    → is_blank_or_breakz (slice_index r 0) ≡ true → InKey around k e ((c ∷ cs) ++ []) (colon ∷ r) → ad ≤ e.index
+    → Ready around start k ((c ∷ cs) ++ (colon ∷ r)) e ad qs
+    → Along around start k qs (moved e (c ∷ cs)) (colon ∷ r) (scalar_token Plain (plain_value (c ∷ cs)) ∷ [])
 plain_key_along reads around start k qs c cs r e ad h white text low ready =
     let clear = clear_front e (c ∷ cs) [] (58 ∷ r) text.clear in
     text_along reads around start k qs c cs 0 r e ad (key_begins false around.indent (c ∷ cs) r h)
@@ -167,16 +168,16 @@ plain_key_along reads around start k qs c cs r e ad h white text low ready =
 -- ## Quoted scalars
 
 goes_before_colon : (around : Around) (d : Bool) (start : Marker) (s : Cursor) (r : List ℕ) (k : Option Candidate)
-    (ls : List Level) (a : Bool) (ad : ℕ) → s.rest ≡ 58 ∷ r → start.line ≡ s.mark.line
+    (ls : List Level) (a : Bool) (ad : ℕ) → s.rest ≡ colon ∷ r → start.line ≡ s.mark.line
     → goes_on_behind_quotes start (core_at around d s context.Block k ls a ad) ≡ true
 unfolding goes_on_behind_quotes
 goes_before_colon around d start s r k ls a ad is e = rw (is, eq-eqb start.line s.mark.line e) refl
 
 -- the colon is reached
 gap_to_colon : (around : Around) (d : Bool) (s : Cursor) (k : Candidate) (ad : ℕ) (m : Marker) (r : List ℕ)
-    → s.rest ≡ 58 ∷ r → s.mark ≡ m
+    → s.rest ≡ colon ∷ r → s.mark ≡ m
     → pass_gap (core_at around d s context.Block (Some k) [] false ad)
-    ≡ Ok (core_at around d (cursor_at (58 ∷ r) m s.blank_so_far) context.Block (Some k) [] false ad)
+    ≡ Ok (core_at around d (cursor_at (colon ∷ r) m s.blank_so_far) context.Block (Some k) [] false ad)
 unfolding pass_gap check_comment
 gap_to_colon around d s k ad m r is at_colon =
     let low = least around.indent d in
@@ -189,7 +190,7 @@ gap_to_colon around d s k ad m r is at_colon =
 -- what stands behind the closing quote, and the colon
 record KeyQuotes (around : Around) (start : Marker) (m : Marker) (n : ℕ) (r : List ℕ) : Type 0 where
   ends : EndsQuotes around start (mid_line m (colon_text n r)) context.Block
-  rest : ends.there.rest ≡ 58 ∷ r
+  rest : ends.there.rest ≡ colon ∷ r
   mark : ends.there.mark ≡ moved m (spaces n)
 
 key_quotes : (around : Around) (start m : Marker) (n : ℕ) (r : List ℕ) → around.indent ≤ m.col
@@ -213,15 +214,15 @@ key_quotes around start m n r right line =
       mark = near.1;
     }
 
-no_quote : (n : ℕ) (r : List ℕ) → (slice_index (colon_text n r) 0 == 39) ≡ false
+no_quote : (n : ℕ) (r : List ℕ) → (slice_index (colon_text n r) 0 == apostrophe) ≡ false
 no_quote zero r = refl
 no_quote (suc n) r = refl
 
 pub quotes_along : ReaderPromises
     → (around : Around) (start : State) (k : Candidate) (qs : List Place) (quote : Quote) (value t : List ℕ) (n : ℕ)
     (r : List ℕ) (e : Marker) (ad : ℕ) → IsQuoted quote around.indent value t
-    → InKey around k e (t ++ spaces n) (58 ∷ r) → Ready around start k (t ++ colon_text n r) e ad qs
-    → Along around start k qs (colon_after e t n) (58 ∷ r) (scalar_token (style_of_quote quote) value ∷ [])
+    → InKey around k e (t ++ spaces n) (colon ∷ r) → Ready around start k (t ++ colon_text n r) e ad qs
+    → Along around start k qs (colon_after e t n) (colon ∷ r) (scalar_token (style_of_quote quote) value ∷ [])
 quotes_along reads around start k qs quote value t n r e ad h text ready =
     let o = colon_text n r in
     let clear = clear_front e t (spaces n) (58 ∷ r) text.clear in
@@ -281,9 +282,9 @@ some_first in_flow indent t h = let w = word_begins in_flow indent t [] h in (w.
 pub content_along : ReaderPromises
     → (around : Around) (start : State) (k : Candidate) (qs : List Place) (style : Style) (value t : List ℕ) (n : ℕ)
     (r : List ℕ) (e : Marker) (ad : ℕ) → IsFlowScalar style value false around.indent t
-    → is_blank_or_breakz (slice_index r 0) ≡ true → InKey around k e (t ++ spaces n) (58 ∷ r) → ad ≤ e.index
+    → is_blank_or_breakz (slice_index r 0) ≡ true → InKey around k e (t ++ spaces n) (colon ∷ r) → ad ≤ e.index
     → Ready around start k (t ++ colon_text n r) e ad qs
-    → Along around start k qs (colon_after e t n) (58 ∷ r) (scalar_token style value ∷ [])
+    → Along around start k qs (colon_after e t n) (colon ∷ r) (scalar_token style value ∷ [])
 content_along reads around start k qs Plain value t n r e ad h white text low ready =
     let f = some_first false around.indent t h.0 in
     subst (λ (v : List ℕ). Along around start k qs (colon_after e t n) (58 ∷ r) (scalar_token Plain v ∷ [])) (sym h.1)
@@ -302,9 +303,9 @@ content_along reads around start k qs Folded value t n r e ad h white text low r
 pub record ContentReads (around : Around) (style : Style) (value content : List ℕ) (n : ℕ) (r : List ℕ) : Type 0 where
   pub begins : Begins content
   pub along : (start : State) (k : Candidate) (qs : List Place) (e : Marker) (ad : ℕ)
-      → InKey around k e (content ++ spaces n) (58 ∷ r) → ad ≤ e.index
+      → InKey around k e (content ++ spaces n) (colon ∷ r) → ad ≤ e.index
       → Ready around start k (content ++ colon_text n r) e ad qs
-      → Along around start k qs (colon_after e content n) (58 ∷ r) (scalar_token style value ∷ [])
+      → Along around start k qs (colon_after e content n) (colon ∷ r) (scalar_token style value ∷ [])
 
 pub scalar_begins : (indent : ℕ) (style : Style) (value t : List ℕ) → IsFlowScalar style value false indent t → Begins t
 scalar_begins indent Plain value t h = token_begins false t [] (word_begins false indent t [] h.0)
@@ -336,9 +337,9 @@ plain_key_reads reads around style value content r plain is h white =
     }))
   where
     key_along : (start : State) (k : Candidate) (qs : List Place) (t : List ℕ) (e : Marker) (ad : ℕ)
-        → IsPlainKey false around.indent t → InKey around k e (t ++ []) (58 ∷ r) → ad ≤ e.index
-        → Ready around start k (t ++ (58 ∷ r)) e ad qs
-        → Along around start k qs (moved e t) (58 ∷ r) (scalar_token Plain (plain_value t) ∷ [])
+        → IsPlainKey false around.indent t → InKey around k e (t ++ []) (colon ∷ r) → ad ≤ e.index
+        → Ready around start k (t ++ (colon ∷ r)) e ad qs
+        → Along around start k qs (moved e t) (colon ∷ r) (scalar_token Plain (plain_value t) ∷ [])
     key_along start k qs [] e ad h text low ready =
         absurd (let b = key_begins false around.indent [] r h in none b.first b.others b.is)
       where

@@ -1,6 +1,7 @@
 -- A node in flow style on one line at block level is read as a key.
 use Rattle.std.proofs.Common.{◌≡◌, ℕ, zero, suc, ◌+◌, ◌≤◌, Bool, true, false, List, [], ◌∷◌, ◌++◌, length, slice_index, refl, sym, ap, arith, subst, inl, inr}
 use Rattle.std.specs.Prelude.{Option}
+use Rattle.saphyr_input.specs.Indicators.{colon}
 use Rattle.saphyr_input.specs.Classes.{is_blank_or_breakz}
 use Rattle.saphyr_scalar.specs.declared.scalar.position.Marker.{Marker}
 use Rattle.saphyr_scalar.specs.Steps.BlockRead.{spaces}
@@ -10,6 +11,7 @@ use Rattle.saphyr_scanner.specs.Steps.Level.{Candidate}
 use Rattle.saphyr_scanner.specs.Steps.State.{State}
 use Rattle.saphyr_scanner.specs.Grammar.Forest.{Node, Alias, Scalar, Seq, Map}
 use Rattle.saphyr_scanner.specs.Grammar.FlowNodes.{IsOnLine, IsKeyText, IsBeforeColon, IsFlowNode}
+use Rattle.saphyr_scanner.specs.Grammar.Layout.{most_open}
 use Rattle.saphyr_scanner.proofs.InFlow.States.{Around, state_at, moment}
 use Rattle.saphyr_scanner.proofs.InFlow.OnLine.{key_text_lowers}
 use Rattle.saphyr_scanner.proofs.InFlow.KeyLines.{Ready, Fresh, keyed, deeper_at, first_ready}
@@ -29,9 +31,10 @@ use Rattle.saphyr_scanner.proofs.InFlow.KeyBrackets.{sequence_key, mapping_key_r
 key_along : ReaderPromises → (around : Around) → around.pending ≡ around.required
     → (start : State) (node : Node) (k : Candidate) (qs : List Place) (t : List ℕ) (n : ℕ) (r : List ℕ) (e : Marker)
     (ad : ℕ)
-    → IsFlowNode 255 node false around.indent t → IsBeforeColon node (spaces n)
-    → is_blank_or_breakz (slice_index r 0) ≡ true → InKey around k e (t ++ spaces n) (58 ∷ r) → ad ≤ e.index
-    → Ready around start k (t ++ colon_text n r) e ad qs → KeyAlong around start node k qs (colon_after e t n) (58 ∷ r)
+    → IsFlowNode most_open node false around.indent t → IsBeforeColon node (spaces n)
+    → is_blank_or_breakz (slice_index r 0) ≡ true → InKey around k e (t ++ spaces n) (colon ∷ r) → ad ≤ e.index
+    → Ready around start k (t ++ colon_text n r) e ad qs
+    → KeyAlong around start node k qs (colon_after e t n) (colon ∷ r)
 key_along reads around same start (Alias name) k qs t n r e ad h apart white text low ready =
     alias_key reads around start name k qs t n r e ad h apart text low ready
 key_along reads around same start (Scalar p style value) k qs t n r e ad h apart white text low ready =
@@ -49,10 +52,11 @@ no_spaces (suc n) e = absurd (cc)
 text_along : ReaderPromises → (around : Around) → around.pending ≡ around.required
     → (start : State) (node : Node) (k : Candidate) (qs : List Place) (t : List ℕ) (n : ℕ) (r : List ℕ) (e : Marker)
     (ad : ℕ)
-    → IsKeyText (IsFlowNode 255 node false around.indent) node false around.indent t (spaces n)
+    → IsKeyText (IsFlowNode most_open node false around.indent) node false around.indent t (spaces n)
     → IsBeforeColon node (spaces n) → is_blank_or_breakz (slice_index r 0) ≡ true
-    → InKey around k e (t ++ spaces n) (58 ∷ r) → ad ≤ e.index
-    → Ready around start k (t ++ colon_text n r) e ad qs → KeyAlong around start node k qs (colon_after e t n) (58 ∷ r)
+    → InKey around k e (t ++ spaces n) (colon ∷ r) → ad ≤ e.index
+    → Ready around start k (t ++ colon_text n r) e ad qs
+    → KeyAlong around start node k qs (colon_after e t n) (colon ∷ r)
 text_along reads around same start node k qs t n r e ad (inl h) apart white text low ready =
     key_along reads around same start node k qs t n r e ad h apart white text low ready
 text_along reads around same start node k qs t n r e ad (inr (h, none)) apart white text low ready =
@@ -61,9 +65,9 @@ text_along reads around same start node k qs t n r e ad (inr (h, none)) apart wh
     (λ i z. plain_key reads around start node k qs t r e ad h white i low z) text ready
 
 text_first : (around : Around) (node : Node) (t s r : List ℕ)
-    → IsKeyText (IsFlowNode 255 node false around.indent) node false around.indent t s
-    → FirstOf around t (s ++ (58 ∷ r))
-text_first around node t s r (inl h) = key_node_first around 255 node t (s ++ (58 ∷ r)) h
+    → IsKeyText (IsFlowNode most_open node false around.indent) node false around.indent t s
+    → FirstOf around t (s ++ (colon ∷ r))
+text_first around node t s r (inl h) = key_node_first around most_open node t (s ++ (58 ∷ r)) h
 text_first around node t s r (inr (h, none)) =
     subst (λ (x : List ℕ). FirstOf around t (x ++ (58 ∷ r))) (sym none) (plain_key_first around node t r h)
 
@@ -79,18 +83,18 @@ both_on_line (c ∷ cs) b h k = (h.0, both_on_line cs b h.1 k)
 -- where that is the column of the innermost collection.
 pub key_read : ReaderPromises → (around : Around) → around.pending ≡ false
     → (node : Node) (m : Marker) (p : List ℕ) (n : ℕ) (r : List ℕ)
-    → IsKeyText (IsFlowNode 255 node false (suc m.col)) node false (suc m.col) p (spaces n) → IsOnLine p
+    → IsKeyText (IsFlowNode most_open node false (suc m.col)) node false (suc m.col) p (spaces n) → IsOnLine p
     → IsBeforeColon node (spaces n)
     → length (p ++ spaces n) ≤ 1024 → is_blank_or_breakz (slice_index r 0) ≡ true → around.indent ≤ m.col + 1
-    → IsClear m (p ++ spaces n) (58 ∷ r) → m.index + length ((p ++ spaces n) ++ (58 ∷ r)) ≤ around.limit
+    → IsClear m (p ++ spaces n) (colon ∷ r) → m.index + length ((p ++ spaces n) ++ (colon ∷ r)) ≤ around.limit
     → (d blank : Bool) (k : Option Candidate) (ad : ℕ) (ps : List Place) → ad ≤ m.index
     → KeyAlong (keyed around (deeper_at around d m) m)
     (state_at around (moment (cursor_at (p ++ colon_text n r) m blank) context.Block k [] true ad ps) d) node
-    (record { mark = m; place = length ps }) ps (colon_after m p n) (58 ∷ r)
+    (record { mark = m; place = length ps }) ps (colon_after m p n) (colon ∷ r)
 key_read reads around calm node m p n r h line apart short white right clear below d blank k ad ps low =
     let inner = keyed around (deeper_at around d m) m in
     let here : Candidate = record { mark = m; place = length ps } in
-    let lowered = key_text_lowers (suc m.col) around.indent (lower m.col right) 255 node p (spaces n) line h in
+    let lowered = key_text_lowers (suc m.col) around.indent (lower m.col right) most_open node p (spaces n) line h in
     let f = text_first around node p (spaces n) r lowered in
     let o = colon_text n r in
     let front : p ++ o ≡ f.begins.first ∷ (f.begins.others ++ o) = ap (λ (t : List ℕ). t ++ o) f.begins.is in

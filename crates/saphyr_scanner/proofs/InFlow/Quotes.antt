@@ -40,7 +40,7 @@ from_ink column m c t e f (inr h) =
 right_reaches : (column : ℕ) (m : Marker) (t : List ℕ) → column ≤ m.col → Reaches column m t
 right_reaches column m t h = inl (let n = space_count t in omega (arith, h))
 
-on_space : (column : ℕ) (m : Marker) (t : List ℕ) → Reaches column m (32 ∷ t) → Reaches column (along m 1) t
+on_space : (column : ℕ) (m : Marker) (t : List ℕ) → Reaches column m (space ∷ t) → Reaches column (along m 1) t
 on_space column m t (inl h) = inl (further (space_count t) h)
   where
     further : (n : ℕ) → column ≤ m.col + (1 + n) → column ≤ m.col + 1 + n
@@ -60,11 +60,11 @@ itself_ink q c h = parts (is_breakz c) refl h
     parts false e k = none c e
 
 feed_first : (t : List ℕ) → IsTrue (is_break (slice_index t 0)) → AreIn (λ c. not (c == carriage_return)) t
-    → (cs : List ℕ) × (t ≡ 10 ∷ cs)
+    → (cs : List ℕ) × (t ≡ line_feed ∷ cs)
 feed_first [] h k = absurd (false≢true h)
 feed_first (c ∷ cs) h k = (cs, ap (λ (z : ℕ). z ∷ cs) (is_feed c h k.0))
   where
-    is_feed : (c : ℕ) → IsTrue (is_break c) → IsTrue (not (c == carriage_return)) → c ≡ 10
+    is_feed : (c : ℕ) → IsTrue (is_break c) → IsTrue (not (c == carriage_return)) → c ≡ line_feed
     is_feed c h k = grind (arith, nat_tests)
 
 line_reaches : (column : ℕ) (m : Marker) (t : List ℕ) → m.col ≡ 0 → IsLine column t → Reaches column m t
@@ -77,7 +77,7 @@ line_reaches column m t e h = by_line h.indented
 no_feed_letter : (e : ℕ) (ds : List ℕ) (c : ℕ) → IsNumber e c ds → (e == line_feed) ≡ false
 no_feed_letter e ds c h = by_test (e == line_feed) refl
   where
-    feed : (e : ℕ) → (e == line_feed) ≡ true → e ≡ 10
+    feed : (e : ℕ) → (e == line_feed) ≡ true → e ≡ line_feed
     feed e h = grind (arith, nat_tests)
 
     by_test : (b : Bool) → (e == line_feed) ≡ b → (e == line_feed) ≡ false
@@ -100,7 +100,7 @@ mark_ink : (q : Quote) → ((mark q == space) ≡ false) × (is_break (mark q) �
 mark_ink Single = (refl, refl)
 mark_ink Double = (refl, refl)
 
-over_feed : (m : Marker) (t : List ℕ) → (cs : List ℕ) × (t ≡ 10 ∷ cs) → AreIn (λ c. not (c == carriage_return)) t
+over_feed : (m : Marker) (t : List ℕ) → (cs : List ℕ) × (t ≡ line_feed ∷ cs) → AreIn (λ c. not (c == carriage_return)) t
     → (moved m t ≡ moved (next_line m 1) (drop (break_len t) t))
     × AreIn (λ c. not (c == carriage_return)) (drop (break_len t) t)
 over_feed m t (cs, is) clean =
@@ -123,7 +123,7 @@ text_right column _ _ _ _ (itself q c t items x h r) fit e m reach clean =
     subst (λ (k : Marker). column ≤ k.col) (sym same)
     (text_right column q t items x r fit e (along m 1) (by_space (c == space) refl) clean.1)
   where
-    is_space : (c : ℕ) → (c == space) ≡ true → c ≡ 32
+    is_space : (c : ℕ) → (c == space) ≡ true → c ≡ space
     is_space c e = grind (arith, nat_tests)
 
     by_space : (b : Bool) → (c == space) ≡ b → Reaches column (along m 1) t

@@ -28,7 +28,7 @@ back_on_line a b t e h = back_in (λ c. not (c == line_feed)) a b (subst IsOnLin
 pub blanks_on_line : (indent : ℕ) (w : List ℕ) → IsSeparation indent w → IsOnLine w → AreIn is_blank w
 blanks_on_line indent w (lines, blanks, (pieces, each, lines_are), are, e) h = by_lines pieces each lines_are
   where
-    no_feed : (a b : List ℕ) → IsOnLine (a ++ (10 ∷ b)) → ⊥
+    no_feed : (a b : List ℕ) → IsOnLine (a ++ (line_feed ∷ b)) → ⊥
     no_feed a b k = absurd (let f : false ≡ true = (back_in (λ c. not (c == line_feed)) a (10 ∷ b) k).0 in cc)
 
     by_lines : (pieces : List (List ℕ)) → AreEach (IsSeparationLine indent) pieces → lines ≡ joined_pieces pieces

@@ -18,6 +18,7 @@ use Rattle.saphyr_scanner.specs.Steps.Flow.{open_collection, close_collection, a
 use Rattle.saphyr_scanner.specs.Steps.State.{State, on_core}
 use Rattle.saphyr_scanner.specs.Steps.Unrolling.{end_blocks, unroll}
 use Rattle.saphyr_scanner.specs.Steps.Fetch.{fetch, check_limit, fetch_within}
+use Rattle.saphyr_scanner.specs.Grammar.Layout.{most_open}
 use Rattle.saphyr_scanner.proofs.Leads.{LeadsTo, stay, onward, leads_on}
 use Rattle.saphyr_scalar.proofs.Given.{cursor_at}
 use Rattle.std.proofs.lemmas.Bool.{le-leb}
@@ -352,7 +353,7 @@ still_required around x y e calm = by_context (is_block x) refl
 pub open_collection_gives : (y : Context) (kind : Kind) (ch : ℕ) (r : List ℕ) (m : Marker) (b : Bool) (around : Around)
     (d : Bool)
     (x : Context) (k : Option Candidate) (ls : List Level) (a : Bool) (ad : ℕ) (found : SkipTabs) (there : Cursor)
-    → separation Yes (cursor_at r (along m 1) false) ≡ Ok (found, there) → length ls < 255 → is_block y ≡ false
+    → separation Yes (cursor_at r (along m 1) false) ≡ Ok (found, there) → length ls < most_open → is_block y ≡ false
     → Calm around x
     → open_collection y kind (core_at around d (cursor_at (ch ∷ r) m b) x k ls a ad)
     ≡ completed_step (from_to m there.mark kind ∷ []) (core_at around d there y None (level_of x k ∷ ls) true ad)

@@ -3,7 +3,8 @@ use Rattle.std.proofs.Common.{◌≡◌, ℕ, ◌+◌, ◌≤◌, Bool, true, fa
 use Rattle.std.specs.Prelude.{◌||◌, ◌&&◌, ◌==◌, not, nat_lt, if◌then◌else◌}
 use Rattle.std.specs.List.{prefix_len}
 use Rattle.std.proofs.lemmas.Bool.Decides.{nat_tests}
-use Rattle.saphyr_input.specs.Classes.{is_blank, is_break}
+use Rattle.saphyr_input.specs.Indicators.{full_stop, hyphen, number_sign}
+use Rattle.saphyr_input.specs.Classes.{is_blank, is_break, carriage_return, line_feed}
 use Rattle.saphyr_input.specs.Places.{is_blank_or_break, is_document_indicator}
 use Rattle.saphyr_scalar.specs.declared.scalar.position.Marker.{Marker}
 use Rattle.saphyr_scalar.specs.Views.Cursor.{Cursor, along, next_line}
@@ -22,17 +23,18 @@ use Rattle.saphyr_input.proofs.Basics.Booleans.{and_true_right, clash}
 starts_marker : (y : List ℕ) → IsTrue (is_document_indicator y) → is_blank (slice_index y 0) ≡ false
 starts_marker y h = by_first (slice_index y 0 == 45) (slice_index y 0 == 46) refl refl
   where
-    dash : (c : ℕ) → (c == 45) ≡ true → is_blank c ≡ false
+    dash : (c : ℕ) → (c == hyphen) ≡ true → is_blank c ≡ false
     dash c e = grind (arith, nat_tests)
 
-    dot : (c : ℕ) → (c == 46) ≡ true → is_blank c ≡ false
+    dot : (c : ℕ) → (c == full_stop) ≡ true → is_blank c ≡ false
     dot c e = grind (arith, nat_tests)
 
-    neither : (p q : Bool) → slice_index y 0 == 45 ≡ p → slice_index y 0 == 46 ≡ q → p ≡ false → q ≡ false
+    neither : (p q : Bool) → slice_index y 0 == hyphen ≡ p → slice_index y 0 == full_stop ≡ q → p ≡ false → q ≡ false
         → is_document_indicator y ≡ false
     neither p q e f g h = rw (e ∙ g, f ∙ h) refl
 
-    by_first : (p q : Bool) → slice_index y 0 == 45 ≡ p → slice_index y 0 == 46 ≡ q → is_blank (slice_index y 0) ≡ false
+    by_first : (p q : Bool) → slice_index y 0 == hyphen ≡ p → slice_index y 0 == full_stop ≡ q
+        → is_blank (slice_index y 0) ≡ false
     by_first true q e f = dash (slice_index y 0) e
     by_first false true e f = dot (slice_index y 0) f
     by_first false false e f = absurd (clash (is_document_indicator y) h (neither false false e f refl refl))
@@ -57,39 +59,45 @@ record White (c : ℕ) (cs : List ℕ) : Type 0 where
   white : is_blank_or_break c ≡ true
   line : ends_line c cs ≡ false
 
-white_passes : (c : ℕ) (cs : List ℕ) → (is_blank c || ((c == 13) && (slice_index cs 0 == 10))) ≡ true → White c cs
+white_passes : (c : ℕ) (cs : List ℕ)
+    → (is_blank c || ((c == carriage_return) && (slice_index cs 0 == line_feed))) ≡ true → White c cs
 white_passes c cs h = by_blank (is_blank c) ((c == 13) && (slice_index cs 0 == 10)) refl refl h
   where
-    by_blank : (p q : Bool) → is_blank c ≡ p → ((c == 13) && (slice_index cs 0 == 10)) ≡ q → (p || q) ≡ true
+    by_blank : (p q : Bool) → is_blank c ≡ p → ((c == carriage_return) && (slice_index cs 0 == line_feed)) ≡ q
+        → (p || q) ≡ true
         → White c cs
     by_blank true q e f k = record { white = rw e refl; line = rw (blank_no_break c e) refl }
     by_blank false true e f k =
         let b = return_breaks c (slice_index cs 0 == 10) f in record { white = rw (e, b) refl; line = rw (b, f) refl }
     by_blank false false e f k = absurd (cc)
 
-line_break_white : (c : ℕ) (cs : List ℕ) → (is_blank c || ((c == 13) && (slice_index cs 0 == 10))) ≡ false → is_break c
+line_break_white : (c : ℕ) (cs : List ℕ)
+    → (is_blank c || ((c == carriage_return) && (slice_index cs 0 == line_feed))) ≡ false → is_break c
     ≡ true
     → (is_blank_or_break c ≡ true) × (ends_line c cs ≡ true)
 line_break_white c cs h e = by_return (is_blank c) ((c == 13) && (slice_index cs 0 == 10)) refl refl h
   where
-    by_return : (p q : Bool) → is_blank c ≡ p → ((c == 13) && (slice_index cs 0 == 10)) ≡ q → (p || q) ≡ false
+    by_return : (p q : Bool) → is_blank c ≡ p → ((c == carriage_return) && (slice_index cs 0 == line_feed)) ≡ q
+        → (p || q) ≡ false
         → (is_blank_or_break c ≡ true) × (ends_line c cs ≡ true)
     by_return true q f g k = absurd (cc)
     by_return false true f g k = absurd (cc)
     by_return false false f g k = (rw (f, e) refl, rw (e, g) refl)
 
-other_white : (c : ℕ) (cs : List ℕ) → (is_blank c || ((c == 13) && (slice_index cs 0 == 10))) ≡ false
+other_white : (c : ℕ) (cs : List ℕ)
+    → (is_blank c || ((c == carriage_return) && (slice_index cs 0 == line_feed))) ≡ false
     → is_break c ≡ false → is_blank_or_break c ≡ false
 other_white c cs h e = by_blank (is_blank c) refl h
   where
-    by_blank : (p : Bool) → is_blank c ≡ p → (p || ((c == 13) && (slice_index cs 0 == 10))) ≡ false
+    by_blank : (p : Bool) → is_blank c ≡ p → (p || ((c == carriage_return) && (slice_index cs 0 == line_feed))) ≡ false
         → is_blank_or_break c ≡ false
     by_blank true f k = absurd (cc)
     by_blank false f k = rw (f, e) refl
 
 -- the flag behind a blank or a break stands for a tab that ends nothing
 flag_rest : (column : ℕ) (m : Marker) (c : ℕ) (cs : List ℕ) (tab : Bool) → stops_tab column m c cs ≡ false
-    → (is_blank c || ((c == 13) && (slice_index cs 0 == 10))) ≡ true → (tab ≡ true → is_filler_rest (c ∷ cs) ≡ true)
+    → (is_blank c || ((c == carriage_return) && (slice_index cs 0 == line_feed))) ≡ true
+    → (tab ≡ true → is_filler_rest (c ∷ cs) ≡ true)
     → flag_on column m.col tab c ≡ true → is_filler_rest cs ≡ true
 flag_rest column m c cs tab t e h k =
     tab_rest column column m true c cs tab t (omega arith) e h
@@ -111,8 +119,9 @@ no_flag column m c tab e = rw (no_blank c e) refl
     no_blank c e = grind (arith, nat_tests)
 
 tab_kind : (column : ℕ) (m : Marker) (tab : Bool) (c : ℕ) (cs : List ℕ) (is_tab is_white is_line is_sign : Bool)
-    → stops_tab column m c cs ≡ is_tab → (is_blank c || ((c == 13) && (slice_index cs 0 == 10))) ≡ is_white
-    → is_break c ≡ is_line → (c == 35) ≡ is_sign → Tabs column (along m 1) (flag_on column m.col tab c) cs
+    → stops_tab column m c cs ≡ is_tab
+    → (is_blank c || ((c == carriage_return) && (slice_index cs 0 == line_feed))) ≡ is_white
+    → is_break c ≡ is_line → (c == number_sign) ≡ is_sign → Tabs column (along m 1) (flag_on column m.col tab c) cs
     → Tabs column (next_line m 1) false cs → Tabs column m tab (c ∷ cs)
 tab_kind column m tab c cs true q r s t e f g on line h bare n b =
     let still : past column m (c ∷ cs) ≡ (m, c ∷ cs) = rw t refl in
@@ -175,10 +184,10 @@ any_column : (column a b : ℕ) (t : List ℕ) → is_blank (slice_index t 0) �
 any_column column a b [] h = refl
 any_column column a b (c ∷ cs) h = by_white (is_blank_or_break c) refl
   where
-    feed : (c : ℕ) → (c == 10) ≡ true → c ≡ 10
+    feed : (c : ℕ) → (c == line_feed) ≡ true → c ≡ line_feed
     feed c e = grind (arith, nat_tests)
 
-    at_feed : (x y : ℕ) (cs : List ℕ) → (slice_index cs 0 == 10) ≡ true
+    at_feed : (x y : ℕ) (cs : List ℕ) → (slice_index cs 0 == line_feed) ≡ true
         → reaches_tabbed column x false cs ≡ reaches_tabbed column y false cs
     at_feed x y [] e = refl
     at_feed x y (d ∷ ds) e =

@@ -1,6 +1,7 @@
 -- The brackets, commas and colons of JSON are read.
 use Rattle.std.proofs.Common.{◌≡◌, ℕ, ◌+◌, ◌<◌, ◌≤◌, Bool, true, false, List, [], ◌∷◌, ◌++◌, length, slice_index, Ok, refl, sym, ap, ◌∙◌, arith, subst, cond}
 use Rattle.std.specs.Prelude.{Option, None}
+use Rattle.saphyr_input.specs.Indicators.{comma}
 use Rattle.saphyr_input.specs.declared.input.SkipTabs.{SkipTabs}
 use Rattle.saphyr_input.specs.declared.input.SkipTabs.TheVariants.{Yes}
 use Rattle.saphyr_scalar.specs.declared.scalar.position.Marker.{Marker}
@@ -16,6 +17,7 @@ use Rattle.saphyr_scanner.specs.Steps.Passing.{with_cursor}
 use Rattle.saphyr_scanner.specs.Steps.Flow as flow
 use Rattle.saphyr_scanner.specs.Steps.Flow.{open_collection, close_collection, next_flow_entry, allow_adjacent, behind_pair}
 use Rattle.saphyr_scanner.specs.Steps.Fetch.{step}
+use Rattle.saphyr_scanner.specs.Grammar.Layout.{most_open}
 use Rattle.saphyr_scanner.proofs.Json.States.{skip, IsClean, total, arrives, IsContentStart, one}
 use Rattle.saphyr_scanner.proofs.Json.Marks.{PassesJson, once, Separates, separates, saves_key, goes_deeper}
 use Rattle.saphyr_scalar.proofs.Given.{cursor_at}
@@ -37,7 +39,7 @@ starts y kind n s x k ls a ad =
 
 pub opens : (y : Context) (kind : Kind) (ch : ℕ) (r : List ℕ) (m : Marker) (b : Bool) (x : Context)
     (k : Option Candidate) (ls : List Level) (a : Bool) (ad : ℕ) (found : SkipTabs) (there : Cursor)
-    → separation Yes (cursor_at r (along m 1) false) ≡ Ok (found, there) → length ls < 255
+    → separation Yes (cursor_at r (along m 1) false) ≡ Ok (found, there) → length ls < most_open
     → open_collection y kind (core_at false (cursor_at (ch ∷ r) m b) x k ls a ad)
     ≡ completed_step (from_to m there.mark kind ∷ []) (core_at false there y None (level_of x k ∷ ls) true ad)
 unfolding open_collection
@@ -61,7 +63,7 @@ pub open_passes : (limit n : ℕ) → n ≤ limit → (y : Context) (kind : Kind
     → IsClean (ch ∷ r)
     → ((second i : ℕ) (c : Core) → step ch second i c ≡ flow.opening_steps y kind i c)
     → (s : Cursor) (x : Context) (k : Option Candidate) (ls : List Level) (a : Bool) (ad : ℕ) (ps : List Place)
-    → total s ≡ n → skip s.rest ≡ ch ∷ r → skip r ≡ skip o → IsClean (skip o) → length ls < 255
+    → total s ≡ n → skip s.rest ≡ ch ∷ r → skip r ≡ skip o → IsClean (skip o) → length ls < most_open
     → (j : Option Candidate)
     × PassesJson limit n (state_at false s x k ls a ad ps) true y (level_of x j ∷ ls) ps o (kind ∷ [])
 open_passes limit n below y kind ch r o content clean begins s x k ls a ad ps count text follows clean_behind low =
@@ -132,7 +134,7 @@ collection false = context.FlowMapping
 
 parts : (is_sequence : Bool) (r : List ℕ) (m : Marker) (b : Bool) (k : Option Candidate) (ls : List Level) (a : Bool)
     (ad : ℕ) (p : Separates (cursor_at r (along m 1) false))
-    → flow.flow_entry_steps (core_at false (cursor_at (44 ∷ r) m b) (collection is_sequence) k ls a ad)
+    → flow.flow_entry_steps (core_at false (cursor_at (comma ∷ r) m b) (collection is_sequence) k ls a ad)
     ≡ completed_step (from_to m p.there.mark tokens.FlowEntry ∷ [])
     (core_at false p.there (collection is_sequence) None ls true ad)
 unfolding flow.flow_entry_steps remove_key next_flow_entry
@@ -147,7 +149,7 @@ parts false r m b k ls a ad p =
 
 pub comma_passes : (limit n : ℕ) → n ≤ limit → (is_sequence : Bool) (r o : List ℕ)
     → (s : Cursor) (k : Option Candidate) (ls : List Level) (a : Bool) (ad : ℕ) (ps : List Place) → total s ≡ n
-    → skip s.rest ≡ 44 ∷ r → skip r ≡ skip o → IsClean (skip o)
+    → skip s.rest ≡ comma ∷ r → skip r ≡ skip o → IsClean (skip o)
     → PassesJson limit n (state_at false s (collection is_sequence) k ls a ad ps) true (collection is_sequence) ls ps o
     (tokens.FlowEntry ∷ [])
 comma_passes limit n below is_sequence r o s k ls a ad ps count text follows clean_behind =

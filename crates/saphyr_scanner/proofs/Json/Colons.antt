@@ -2,7 +2,7 @@
 use Rattle.std.proofs.Common.{◌≡◌, ℕ, ◌+◌, ◌-◌, ◌≤◌, Bool, true, false, List, [], ◌∷◌, ◌++◌, length, slice_index, Ok, refl, sym, ap, ◌∙◌, arith, subst, append_assoc}
 use Rattle.std.proofs.Math.Nat.{sub-zero}
 use Rattle.std.specs.Prelude.{◌==◌, Option, Some, None}
-use Rattle.saphyr_input.specs.Classes.{is_blank_or_breakz, is_flow}
+use Rattle.saphyr_input.specs.Classes.{is_blank_or_breakz, is_flow, tab}
 use Rattle.saphyr_input.specs.declared.input.SkipTabs.{SkipTabs}
 use Rattle.saphyr_scalar.specs.declared.scalar.position.Marker.{Marker}
 use Rattle.saphyr_scalar.specs.Views.Cursor.{Cursor, ◌>>=◌, along}
@@ -59,7 +59,7 @@ tabbed r m k ls a ad h =
     let c = core_at false (cursor_at r m false) context.FlowMapping k ls a ad in
     by_tab p (slice_index r 0 == 9) refl
   where
-    by_tab : Separates (cursor_at r m false) → (b : Bool) → (slice_index r 0 == 9) ≡ b → Tabbed r m k ls a ad
+    by_tab : Separates (cursor_at r m false) → (b : Bool) → (slice_index r 0 == tab) ≡ b → Tabbed r m k ls a ad
     by_tab p true e =
         let c = core_at false (cursor_at r m false) context.FlowMapping k ls a ad in
         record {

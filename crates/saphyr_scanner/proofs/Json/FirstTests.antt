@@ -2,6 +2,7 @@
 use Rattle.std.proofs.Common.{◌≡◌, ℕ, ◌<◌, false, refl, sym, arith, subst, ◌⊎◌, inl, inr}
 use Rattle.std.specs.Prelude.{◌==◌}
 use Rattle.std.proofs.lemmas.Bool.Decides.{nat_tests}
+use Rattle.saphyr_input.specs.Indicators.{ampersand, apostrophe, asterisk, colon, exclamation_mark, full_stop, grave_accent, greater_than, number_sign, percent_sign, question_mark, right_brace, right_bracket, vertical_bar}
 use Rattle.saphyr_input.specs.Classes.{IsDigit, is_z, is_blank, is_break, is_bom}
 
 -- `"`, `[`, `{`, `-`, a digit, or the first letter of `true`, `false` or `null`
@@ -14,22 +15,22 @@ pub record BeginsNothingElse (c : ℕ) : Type 0 where
   pub break : is_break c ≡ false
   pub nul : is_z c ≡ false
   pub byte_order_mark : is_bom c ≡ false
-  pub comment : (c == 35) ≡ false
-  pub directive : (c == 37) ≡ false
-  pub anchor : (c == 38) ≡ false
-  pub alias : (c == 42) ≡ false
-  pub tag : (c == 33) ≡ false
-  pub literal : (c == 124) ≡ false
-  pub folded : (c == 62) ≡ false
-  pub single_quote : (c == 39) ≡ false
-  pub key : (c == 63) ≡ false
-  pub value : (c == 58) ≡ false
-  pub dot : (c == 46) ≡ false
+  pub comment : (c == number_sign) ≡ false
+  pub directive : (c == percent_sign) ≡ false
+  pub anchor : (c == ampersand) ≡ false
+  pub alias : (c == asterisk) ≡ false
+  pub tag : (c == exclamation_mark) ≡ false
+  pub literal : (c == vertical_bar) ≡ false
+  pub folded : (c == greater_than) ≡ false
+  pub single_quote : (c == apostrophe) ≡ false
+  pub key : (c == question_mark) ≡ false
+  pub value : (c == colon) ≡ false
+  pub dot : (c == full_stop) ≡ false
   pub comma : (c == 44) ≡ false
-  pub sequence_end : (c == 93) ≡ false
-  pub mapping_end : (c == 125) ≡ false
+  pub sequence_end : (c == right_bracket) ≡ false
+  pub mapping_end : (c == right_brace) ≡ false
   pub at_sign : (c == 64) ≡ false
-  pub backquote : (c == 96) ≡ false
+  pub backquote : (c == grave_accent) ≡ false
 
 pub other_than_digit : (c n : ℕ) → IsDigit c → (n < 48) ⊎ (57 < n) → (c == n) ≡ false
 other_than_digit c n h k = grind (arith, nat_tests)

@@ -2,6 +2,7 @@
 use Rattle.std.proofs.Common.{◌≡◌, ℕ, Bool, true, false, List, [], ◌∷◌, ◌++◌, slice_index, refl, sym, ap, ◌∙◌, arith, subst, append_assoc, ◌⊎◌, inl, inr}
 use Rattle.std.specs.Prelude.{◌==◌}
 use Rattle.std.proofs.lemmas.Bool.Decides.{nat_tests}
+use Rattle.saphyr_input.specs.Indicators.{hyphen, left_brace, left_bracket}
 use Rattle.saphyr_input.specs.Classes.{IsDigit, is_blank_or_breakz, is_flow}
 use Rattle.saphyr_input.specs.Places.{is_document_indicator}
 use Rattle.saphyr_scanner.specs.Grammar.Forest.{Node, Alias, Scalar, Seq, Map, Plain, SingleQuoted, DoubleQuoted, Literal, Folded}
@@ -18,9 +19,9 @@ pub record BeginsValue (t : List ℕ) : Type 0 where
   pub others : List ℕ
   pub is : t ≡ first ∷ others
   pub is_first : IsFirst first
-  pub dash : first ≡ 45 → BeginsWithDigit others
+  pub dash : first ≡ hyphen → BeginsWithDigit others
 
-pub kind_is_first : (c : ℕ) → (c ≡ 45) ⊎ IsDigit c ⊎ (c ≡ 116) ⊎ (c ≡ 102) ⊎ (c ≡ 110) → IsFirst c
+pub kind_is_first : (c : ℕ) → (c ≡ hyphen) ⊎ IsDigit c ⊎ (c ≡ 116) ⊎ (c ≡ 102) ⊎ (c ≡ 110) → IsFirst c
 kind_is_first c (inl e) = inr (inr (inr (inl e)))
 kind_is_first c (inr (inl h)) = inr (inr (inr (inr (inl h))))
 kind_is_first c (inr (inr (inl e))) = inr (inr (inr (inr (inr (inl e)))))
@@ -43,11 +44,11 @@ pub string_begins_value : (value t : List ℕ) → IsString value t → BeginsVa
 string_begins_value value t h =
     record { first = 34; others = h.0 ++ 34 ∷ []; is = h.2; is_first = inl refl; dash = λ e. absurd (omega arith) }
 
-pub sequence_begins_value : (others : List ℕ) → BeginsValue (91 ∷ others)
+pub sequence_begins_value : (others : List ℕ) → BeginsValue (left_bracket ∷ others)
 sequence_begins_value others =
     record { first = 91; others = others; is = refl; is_first = inr (inl refl); dash = λ e. absurd (omega arith) }
 
-pub mapping_begins_value : (others : List ℕ) → BeginsValue (123 ∷ others)
+pub mapping_begins_value : (others : List ℕ) → BeginsValue (left_brace ∷ others)
 mapping_begins_value others =
     record {
       first = 123;
@@ -88,7 +89,7 @@ value_begins (Map p pairs) t h = bracket_begins 123 h.0 (h.1 ++ h.2) t mapping_b
 pub record IsDigitBehind (c : ℕ) : Type 0 where
   pub blank_or_breakz : is_blank_or_breakz c ≡ false
   pub flow : is_flow c ≡ false
-  pub dash : (c == 45) ≡ false
+  pub dash : (c == hyphen) ≡ false
 
 pub digit_behind : (c : ℕ) → IsDigit c → IsDigitBehind c
 digit_behind c h = record {
@@ -104,7 +105,8 @@ digit_behind c h = record {
     no_flow c h = grind (arith, nat_tests)
 
 -- behind a dash with which a value begins stands a digit
-pub digit_second : (t follow : List ℕ) (h : BeginsValue t) → h.first ≡ 45 → IsDigitBehind (slice_index (t ++ follow) 1)
+pub digit_second : (t follow : List ℕ) (h : BeginsValue t) → h.first ≡ hyphen
+    → IsDigitBehind (slice_index (t ++ follow) 1)
 digit_second t follow h e =
     let d = h.dash e in
     subst (λ (x : List ℕ). IsDigitBehind (slice_index (x ++ follow) 1))
@@ -116,13 +118,13 @@ no_marker t follow h =
     let b = first_begins h.first h.is_first in
     subst (λ (x : List ℕ). is_document_indicator (x ++ follow) ≡ false) (sym h.is) (by_dash (h.first == 45) refl)
   where
-    is_dash : (c : ℕ) → (c == 45) ≡ true → c ≡ 45
+    is_dash : (c : ℕ) → (c == hyphen) ≡ true → c ≡ hyphen
     is_dash c e = grind (arith, nat_tests)
 
-    dashed : (d : ℕ) (cs : List ℕ) → (d == 45) ≡ false → is_document_indicator (45 ∷ d ∷ cs) ≡ false
+    dashed : (d : ℕ) (cs : List ℕ) → (d == hyphen) ≡ false → is_document_indicator (hyphen ∷ d ∷ cs) ≡ false
     dashed d cs e = rw e refl
 
-    by_dash : (is : Bool) → (h.first == 45) ≡ is → is_document_indicator (h.first ∷ (h.others ++ follow)) ≡ false
+    by_dash : (is : Bool) → (h.first == hyphen) ≡ is → is_document_indicator (h.first ∷ (h.others ++ follow)) ≡ false
     by_dash true e =
         let first = is_dash h.first e in
         let d = h.dash first in

@@ -4,7 +4,7 @@ use Rattle.std.specs.Prelude.{◌||◌, ◌==◌}
 use Rattle.std.specs.List.{list_any, prefix_len}
 use Rattle.std.proofs.lemmas.Bool.Decides.{nat_tests}
 use Rattle.std.proofs.lemmas.List.{length-append}
-use Rattle.saphyr_input.specs.Classes.{IsBlank, is_blank, is_break, is_bom}
+use Rattle.saphyr_input.specs.Classes.{IsBlank, is_blank, is_break, is_bom, carriage_return, line_feed}
 use Rattle.saphyr_input.specs.Separation.{separation_len, comment_len, found_blanks}
 use Rattle.saphyr_input.specs.declared.input.SkipTabs.TheVariants.{Yes}
 use Rattle.saphyr_scalar.specs.declared.scalar.position.Marker.{Marker}
@@ -15,6 +15,7 @@ use Rattle.saphyr_scanner.specs.Grammar.Json.{IsWhite, IsWhiteSpace}
 use Rattle.saphyr_scalar.proofs.Moving.{along_none}
 use Rattle.saphyr_input.proofs.Basics.Characters.{no_return}
 use Rattle.std.proofs.Math.Bool.{or-false, or-true}
+use Rattle.saphyr_input.specs.Indicators.{number_sign}
 use Rattle.saphyr_scanner.proofs.Gaps.{no_tab_indentation, separated}
 
 -- what ends the white space: the text's end, or a character that begins no blank, break or comment
@@ -83,16 +84,17 @@ break_case m blank broke c w follow one e p =
     broken h = cc
 
 -- CR before LF
-return_case : (m : Marker) (blank broke : Bool) (w follow : List ℕ) → (slice_index (w ++ follow) 0 == 10) ≡ true
+return_case : (m : Marker) (blank broke : Bool) (w follow : List ℕ) → (slice_index (w ++ follow) 0 == line_feed) ≡ true
     → contains_break w ≡ true → PassesJsonGap (along m 1) blank broke w follow
-    → PassesJsonGap m blank broke (13 ∷ w) follow
+    → PassesJsonGap m blank broke (carriage_return ∷ w) follow
 return_case m blank broke w follow e broken p =
     gap_behind_character m (along m 1) blank broke blank broke 13 w follow (rw e refl) (rw broken refl)
     (rw broken refl) refl
     (λ h. absurd (cc)) (λ h. (omega arith, h)) p
 
 -- a line feed that stands first is the white space's own
-has_feed : (w follow : List ℕ) → StopsGap follow → (slice_index (w ++ follow) 0 == 10) ≡ true → contains_break w ≡ true
+has_feed : (w follow : List ℕ) → StopsGap follow → (slice_index (w ++ follow) 0 == line_feed) ≡ true
+    → contains_break w ≡ true
 has_feed [] [] h e = absurd (cc)
 has_feed [] (c ∷ cs) h e = absurd (clash (c == 10) (c == 13) e h.1)
   where
@@ -117,8 +119,9 @@ white_passed (c ∷ w) follow m blank broke (white, others) h =
     by_kind white (white_passed w follow (along m 1) blank broke others h)
     (white_passed w follow (next_line m 1) true true others h)
   where
-    at_return : (b : Bool) → (slice_index (w ++ follow) 0 == 10) ≡ b → PassesJsonGap (along m 1) blank broke w follow
-        → PassesJsonGap (next_line m 1) true true w follow → PassesJsonGap m blank broke (13 ∷ w) follow
+    at_return : (b : Bool) → (slice_index (w ++ follow) 0 == line_feed) ≡ b
+        → PassesJsonGap (along m 1) blank broke w follow
+        → PassesJsonGap (next_line m 1) true true w follow → PassesJsonGap m blank broke (carriage_return ∷ w) follow
     at_return true e p q = return_case m blank broke w follow e (has_feed w follow h e) p
     at_return false e p q = break_case m blank broke 13 w follow (rw e refl) refl q
 
@@ -204,7 +207,7 @@ break_stops_blanks c cs h = (no_blank c h, no_sign c h, no_mark c h)
     no_blank : (c : ℕ) → is_break c ≡ true → is_blank c ≡ false
     no_blank c h = grind (arith, nat_tests)
 
-    no_sign : (c : ℕ) → is_break c ≡ true → (c == 35) ≡ false
+    no_sign : (c : ℕ) → is_break c ≡ true → (c == number_sign) ≡ false
     no_sign c h = grind (arith, nat_tests)
 
     no_mark : (c : ℕ) → is_break c ≡ true → is_bom c ≡ false
@@ -249,12 +252,12 @@ separation_counts w y blanks h =
     by_some : (n : ℕ) → cond (n == 0) 0 (n + 0) ≡ n
     by_some n = grind (arith, nat_tests)
 
-first_no_sign : (w y : List ℕ) → AreAll IsBlank w → StopsBlanks y → (slice_index (w ++ y) 0 == 35) ≡ false
+first_no_sign : (w y : List ℕ) → AreAll IsBlank w → StopsBlanks y → (slice_index (w ++ y) 0 == number_sign) ≡ false
 first_no_sign [] [] blanks h = refl
 first_no_sign [] (c ∷ cs) blanks h = h.1
 first_no_sign (c ∷ w) y blanks h = no_sign c blanks.0
   where
-    no_sign : (c : ℕ) → IsBlank c → (c == 35) ≡ false
+    no_sign : (c : ℕ) → IsBlank c → (c == number_sign) ≡ false
     no_sign c h = grind (arith, nat_tests)
 
 -- Blanks on a line are passed as separation.

@@ -15,6 +15,7 @@ use Rattle.saphyr_scanner.specs.Steps.Queue.{Place}
 use Rattle.saphyr_scanner.specs.Steps.Level.{Candidate}
 use Rattle.saphyr_scanner.specs.Steps.State.{State, start}
 use Rattle.saphyr_scanner.specs.Steps.Fetch.{fetch, fetch_here}
+use Rattle.saphyr_scanner.specs.Grammar.Layout.{most_open}
 use Rattle.saphyr_scanner.proofs.Leads.{LeadsTo, flat, leads_on}
 use Rattle.saphyr_scanner.proofs.Json.Strings.{ReadsDoubleQuoted, CountsDoubleQuoted}
 use Rattle.saphyr_scanner.proofs.Json.ReadWords.{ReadsPlainWords}
@@ -62,7 +63,7 @@ kinds_of_stream new m ts e = ap (λ (x : List Kind). tokens.StreamStart ∷ x)
 
 -- Each text of JSON is taken up to its end, where the queue holds the tokens of its forest.
 pub json_leads : ReadsPlainWords words.plain → ReadsDoubleQuoted reader → CountsDoubleQuoted reader
-    → (limit : ℕ) (forest : Forest) (text : List ℕ) → IsJson forest text → open_in_forest forest ≤ 255
+    → (limit : ℕ) (forest : Forest) (text : List ℕ) → IsJson forest text → open_in_forest forest ≤ most_open
     → length text ≤ limit
     → (d : State) × LeadsTo limit d (start text) × (d.core.ended ≡ true) × (d.queue.handed ≡ 0)
     × (map (λ (t : Piece). t.kind) (flat d.queue.places) ≡ json_tokens forest)

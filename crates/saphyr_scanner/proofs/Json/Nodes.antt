@@ -16,6 +16,7 @@ use Rattle.saphyr_scanner.specs.Steps.Flow as flow
 use Rattle.saphyr_scanner.specs.Steps.Flow.{close_collection}
 use Rattle.saphyr_scanner.specs.Steps.Fetch.{step}
 use Rattle.saphyr_scanner.specs.Grammar.Json.{IsStructural, IsMemberName, IsValue, AreElements, AreOtherElements, AreMembers, AreOtherMembers}
+use Rattle.saphyr_scanner.specs.Grammar.Layout.{most_open}
 use Rattle.saphyr_scanner.proofs.Leads.{stay}
 use Rattle.saphyr_scanner.proofs.Json.Words.{IsBehindValue}
 use Rattle.saphyr_scanner.proofs.Json.Strings.{ReadsDoubleQuoted, CountsDoubleQuoted}
@@ -28,6 +29,7 @@ use Rattle.saphyr_scanner.proofs.Json.Quotes.{reader, string_passes}
 use Rattle.saphyr_scanner.proofs.Json.Plains.{word_passes}
 use Rattle.saphyr_scanner.proofs.Json.Pieces.{around, behind_clean, quotes_followed, closing_behind, others_behind, other_members_behind, value_clean, elements_clean, name_clean, members_clean}
 use Rattle.std.proofs.lemmas.Bool.{false≢true}
+use Rattle.saphyr_input.specs.Indicators.{left_brace, left_bracket, right_brace, right_bracket}
 use Rattle.saphyr_scanner.proofs.Levels.{level_of}
 use Rattle.saphyr_scanner.proofs.Root.{core_at, state_at}
 use Rattle.saphyr_scanner.proofs.Steps.Choice.{begins_sequence, begins_mapping}
@@ -80,7 +82,8 @@ retold : {limit n : ℕ} {start : State} {fresh : Bool} {x : Context} {ls : List
 retold {limit = limit} {n = n} {start = start} {fresh = fresh} {x = x} {ls = ls} {ps = ps} {o = o} ts us e p =
     subst (PassesJson limit n start fresh x ls ps o) e p
 
-content_of : (c : ℕ) (r : List ℕ) → (c ≡ 91) ⊎ (c ≡ 93) ⊎ (c ≡ 123) ⊎ (c ≡ 125) → IsContentStart (c ∷ r)
+content_of : (c : ℕ) (r : List ℕ) → (c ≡ left_bracket) ⊎ (c ≡ right_bracket) ⊎ (c ≡ left_brace) ⊎ (c ≡ right_brace)
+    → IsContentStart (c ∷ r)
 content_of c r (inl e) =
     subst (λ (z : ℕ). IsContentStart (z ∷ r)) (sym e)
     (record { nul = refl; byte_order_mark = refl; directive = refl; document_start = refl; document_end = refl })
@@ -137,7 +140,7 @@ mutual
   pub node_passes : {limit n : ℕ} → Premises limit n → (node : Node) (p o : List ℕ) → IsValue node p
       → (s : Cursor) (x : Context) (k : Option Candidate) (ls : List Level) (a : Bool) (ad : ℕ) (ps : List Place)
       → total s ≡ n → skip s.rest ≡ skip (p ++ o) → IsBehindValue (not (is_block x)) (skip o)
-      → open_collections node + length ls ≤ 255
+      → open_collections node + length ls ≤ most_open
       → PassesJson limit n (state_at false s x k ls a ad ps) false x ls ps o (node_tokens node)
   node_passes {limit} {n} q (Scalar _ Plain v) p o h s x k ls a ad ps count text ends deep =
       word_passes q.reads_words limit n q.below v o h.1 s x k ls a ad ps count (rw h.2 at text) ends
@@ -187,7 +190,7 @@ mutual
   elements_pass : {limit n : ℕ} → Premises limit n → (nodes : Nodes) (p o : List ℕ) → AreElements nodes p
       → (s : Cursor) (k : Option Candidate) (ls : List Level) (a : Bool) (ad : ℕ) (ps : List Place) → total s ≡ n
       → skip s.rest ≡ skip (p ++ o) → IsBehindValue true (skip o)
-      → open_in_nodes nodes + length ls ≤ 255
+      → open_in_nodes nodes + length ls ≤ most_open
       → PassesJson limit n (state_at false s context.FlowSequence k ls a ad ps) false context.FlowSequence ls ps o
       (entry_tokens nodes)
   elements_pass {limit} {n} q NoNode p o h s k ls a ad ps count text ends deep =
@@ -202,7 +205,7 @@ mutual
   others_pass : {limit n : ℕ} → Premises limit n → (nodes : Nodes) (p o : List ℕ) → AreOtherElements nodes p
       → (s : Cursor) (k : Option Candidate) (ls : List Level) (a : Bool) (ad : ℕ) (ps : List Place) → total s ≡ n
       → skip s.rest ≡ skip (p ++ o) → IsBehindValue true (skip o)
-      → open_in_nodes nodes + length ls ≤ 255
+      → open_in_nodes nodes + length ls ≤ most_open
       → PassesJson limit n (state_at false s context.FlowSequence k ls a ad ps) false context.FlowSequence ls ps o
       (other_entry_tokens nodes)
   others_pass {limit} {n} q NoNode p o h s k ls a ad ps count text ends deep =
@@ -221,7 +224,7 @@ mutual
   members_pass : {limit n : ℕ} → Premises limit n → (pairs : Pairs) (p o : List ℕ) → AreMembers pairs p
       → (s : Cursor) (k : Option Candidate) (ls : List Level) (a : Bool) (ad : ℕ) (ps : List Place) → a ≡ true
       → total s ≡ n → skip s.rest ≡ skip (p ++ o) → IsBehindValue true (skip o)
-      → open_in_pairs pairs + length ls ≤ 255
+      → open_in_pairs pairs + length ls ≤ most_open
       → PassesJson limit n (state_at false s context.FlowMapping k ls a ad ps) false context.FlowMapping ls ps o
       (pair_tokens pairs)
   members_pass {limit} {n} q NoPair p o h s k ls a ad ps fresh count text ends deep =
@@ -241,7 +244,7 @@ mutual
   other_members_pass : {limit n : ℕ} → Premises limit n → (pairs : Pairs) (p o : List ℕ) → AreOtherMembers pairs p
       → (s : Cursor) (k : Option Candidate) (ls : List Level) (a : Bool) (ad : ℕ) (ps : List Place) → total s ≡ n
       → skip s.rest ≡ skip (p ++ o) → IsBehindValue true (skip o)
-      → open_in_pairs pairs + length ls ≤ 255
+      → open_in_pairs pairs + length ls ≤ most_open
       → PassesJson limit n (state_at false s context.FlowMapping k ls a ad ps) false context.FlowMapping ls ps o
       (other_pair_tokens pairs)
   other_members_pass {limit} {n} q NoPair p o h s k ls a ad ps count text ends deep =

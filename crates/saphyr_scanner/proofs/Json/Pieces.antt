@@ -1,6 +1,7 @@
 -- The first characters of pieces of JSON, behind their white space.
 use Rattle.std.proofs.Common.{◌≡◌, ℕ, Bool, true, false, List, [], ◌∷◌, ◌++◌, refl, sym, ap, ◌∙◌, subst, append_assoc, ◌⊎◌, inl, inr}
 use Rattle.std.specs.Prelude.{not}
+use Rattle.saphyr_input.specs.Indicators.{comma, right_brace, right_bracket}
 use Rattle.saphyr_input.specs.Classes.{is_blank, is_break}
 use Rattle.saphyr_scanner.specs.Grammar.Forest.{Node, Alias, Scalar, Seq, Map, Plain, SingleQuoted, DoubleQuoted, Literal, Folded, Nodes, NoNode, MoreNodes, Pairs, NoPair, MorePairs}
 use Rattle.saphyr_scanner.specs.Grammar.Json.{IsStructural, IsString, IsMemberName, IsValue, AreElements, AreOtherElements, AreMembers, AreOtherMembers}
@@ -29,7 +30,7 @@ pub behind_clean : (b : Bool) (y : List ℕ) → IsBehindValue b y → IsClean y
 behind_clean b [] h = tt
 behind_clean b (c ∷ cs) h = by_mark h.1
   where
-    by_mark : (c ≡ 44) ⊎ (c ≡ 93) ⊎ (c ≡ 125) → IsClean (c ∷ cs)
+    by_mark : (c ≡ comma) ⊎ (c ≡ right_bracket) ⊎ (c ≡ right_brace) → IsClean (c ∷ cs)
     by_mark (inl e) = subst (λ (z : ℕ). IsClean (z ∷ cs)) (sym e) (refl, refl)
     by_mark (inr (inl e)) = subst (λ (z : ℕ). IsClean (z ∷ cs)) (sym e) (refl, refl)
     by_mark (inr (inr e)) = subst (λ (z : ℕ). IsClean (z ∷ cs)) (sym e) (refl, refl)
@@ -42,7 +43,8 @@ quotes_followed true (c ∷ cs) h = absurd (none h.0)
     none e = cc
 quotes_followed false (c ∷ cs) h = (refl, inr h.1)
 
-pub closing_behind : (c : ℕ) (t o : List ℕ) → (c ≡ 93) ⊎ (c ≡ 125) → Begins c t o → IsBehindValue true (skip (t ++ o))
+pub closing_behind : (c : ℕ) (t o : List ℕ) → (c ≡ right_bracket) ⊎ (c ≡ right_brace) → Begins c t o
+    → IsBehindValue true (skip (t ++ o))
 closing_behind c t o kind h = subst (IsBehindValue true) (sym h.1) (refl, inr kind)
 
 comma_behind : (t o : List ℕ) → Begins 44 t o → IsBehindValue true (skip (t ++ o))

@@ -28,6 +28,7 @@ use Rattle.saphyr_scanner.proofs.Json.Marks.{PassesJson, once, saves_key}
 use Rattle.saphyr_scanner.proofs.Json.Brackets.{low_index}
 use Rattle.saphyr_scalar.proofs.Given.{cursor_at}
 use Rattle.std.proofs.lemmas.Bool.{or_parts}
+use Rattle.saphyr_input.specs.Indicators.{hyphen, left_brace, left_bracket, quotation_mark}
 use Rattle.saphyr_input.proofs.Basics.Numbers.{none_below_zero}
 use Rattle.saphyr_input.proofs.Basics.Booleans.{and_false}
 use Rattle.saphyr_scanner.proofs.Queues.{token_place}
@@ -75,10 +76,10 @@ word_step reads n m b t o y h w white behind x k ls a ad ends =
 -- the tests of a word's first two characters
 record BeginsPlain (first second : ℕ) : Type 0 where
   nothing_else : BeginsNothingElse first
-  sequence : (first == 91) ≡ false
-  mapping : (first == 123) ≡ false
-  double_quote : (first == 34) ≡ false
-  dash : ((first == 45) && is_blank_or_breakz second) ≡ false
+  sequence : (first == left_bracket) ≡ false
+  mapping : (first == left_brace) ≡ false
+  double_quote : (first == quotation_mark) ≡ false
+  dash : ((first == hyphen) && is_blank_or_breakz second) ≡ false
 
 plain_begins : (first second n : ℕ) (c : Core) → BeginsPlain first second
     → step first second n c ≡ scalar.plain_steps n c
@@ -119,18 +120,18 @@ word_first t o b =
   where
     by_kind : (n : ℕ) → (45 == n) ≡ false → (116 == n) ≡ false → (102 == n) ≡ false → (110 == n) ≡ false
         → (n < 48) ⊎ (57 < n)
-        → (c : ℕ) → (c ≡ 45) ⊎ IsDigit c ⊎ (c ≡ 116) ⊎ (c ≡ 102) ⊎ (c ≡ 110) → (c == n) ≡ false
+        → (c : ℕ) → (c ≡ hyphen) ⊎ IsDigit c ⊎ (c ≡ 116) ⊎ (c ≡ 102) ⊎ (c ≡ 110) → (c == n) ≡ false
     by_kind n d t f l out c (inl e) = ap (λ (z : ℕ). z == n) e ∙ d
     by_kind n d t f l out c (inr (inl h)) = other_than_digit c n h out
     by_kind n d t f l out c (inr (inr (inl e))) = ap (λ (z : ℕ). z == n) e ∙ t
     by_kind n d t f l out c (inr (inr (inr (inl e)))) = ap (λ (z : ℕ). z == n) e ∙ f
     by_kind n d t f l out c (inr (inr (inr (inr e)))) = ap (λ (z : ℕ). z == n) e ∙ l
 
-    is_dash : (c : ℕ) → (c == 45) ≡ true → c ≡ 45
+    is_dash : (c : ℕ) → (c == hyphen) ≡ true → c ≡ hyphen
     is_dash c e = grind (arith, nat_tests)
 
-    by_dash : (is : Bool) → (b.first == 45) ≡ is
-        → ((b.first == 45) && is_blank_or_breakz (slice_index (t ++ o) 1)) ≡ false
+    by_dash : (is : Bool) → (b.first == hyphen) ≡ is
+        → ((b.first == hyphen) && is_blank_or_breakz (slice_index (t ++ o) 1)) ≡ false
     by_dash true e = rw e ((digit_second t o (word_value t b) (is_dash b.first e)).blank_or_breakz)
     by_dash false e = rw e refl
 

@@ -27,6 +27,7 @@ use Rattle.saphyr_scanner.proofs.Json.Brackets.{low_index}
 use Rattle.saphyr_scanner.proofs.Json.Colons.{Strung}
 use Rattle.saphyr_scalar.proofs.Given.{cursor_at}
 use Rattle.std.proofs.lemmas.Bool.{or_left}
+use Rattle.saphyr_input.specs.Indicators.{colon, comma, quotation_mark, right_brace, right_bracket}
 use Rattle.saphyr_scanner.proofs.Queues.{token_place}
 use Rattle.saphyr_scanner.proofs.Levels.{saved}
 use Rattle.saphyr_scanner.proofs.Root.{core_at, state_at}
@@ -38,9 +39,9 @@ abbrev pub reader : Cursor → Result (List ℕ × Cursor) Refusal
 reader = quoted.double_quoted 0
 
 string_step : ReadsDoubleQuoted reader → CountsDoubleQuoted reader → (n : ℕ) (m : Marker) (b : Bool) (p o r v : List ℕ)
-    → 34 ∷ r ≡ p ++ o → IsString v p
+    → quotation_mark ∷ r ≡ p ++ o → IsString v p
     → (x : Context) (k : Option Candidate) (ls : List Level) (a : Bool) (ad : ℕ)
-    → scalar.double_quoted_steps n (core_at false (cursor_at (34 ∷ r) m b) x k ls a ad)
+    → scalar.double_quoted_steps n (core_at false (cursor_at (quotation_mark ∷ r) m b) x k ls a ad)
     ≡ behind_quotes m DoubleQuoted (encode_utf8_all v)
     (core_at false (mid_line (along m (length p)) o) x (saved a n m k) ls false ad)
 unfolding scalar.double_quoted_steps read_double_quoted
@@ -62,7 +63,7 @@ clean_behind : (b : Bool) (y : List ℕ) → IsBehindQuotes b y → IsClean y
 clean_behind b [] h = tt
 clean_behind b (c ∷ cs) h = by_mark h.1
   where
-    by_mark : (c ≡ 58) ⊎ (c ≡ 44) ⊎ (c ≡ 93) ⊎ (c ≡ 125) → IsClean (c ∷ cs)
+    by_mark : (c ≡ colon) ⊎ (c ≡ comma) ⊎ (c ≡ right_bracket) ⊎ (c ≡ right_brace) → IsClean (c ∷ cs)
     by_mark (inl e) = subst (λ (z : ℕ). IsClean (z ∷ cs)) (sym e) (refl, refl)
     by_mark (inr (inl e)) = subst (λ (z : ℕ). IsClean (z ∷ cs)) (sym e) (refl, refl)
     by_mark (inr (inr (inl e))) = subst (λ (z : ℕ). IsClean (z ∷ cs)) (sym e) (refl, refl)
@@ -82,7 +83,7 @@ entry_ends true q [] h = refl
 entry_ends false q [] h = refl
 entry_ends b q (c ∷ cs) h = rw h.0 (by_mark h.1)
   where
-    by_mark : (c ≡ 58) ⊎ (c ≡ 44) ⊎ (c ≡ 93) ⊎ (c ≡ 125) → ends_entry false q c ≡ true
+    by_mark : (c ≡ colon) ⊎ (c ≡ comma) ⊎ (c ≡ right_bracket) ⊎ (c ≡ right_brace) → ends_entry false q c ≡ true
     by_mark (inl e) = rw e refl
     by_mark (inr (inl e)) = rw e refl
     by_mark (inr (inr (inl e))) = rw e refl

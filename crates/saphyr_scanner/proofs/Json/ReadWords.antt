@@ -2,7 +2,7 @@
 use Rattle.std.proofs.Common.{◌≡◌, ◌≢◌, ℕ, ◌+◌, ◌^◌, ◌<◌, ◌≤◌, Bool, true, false, List, [], ◌∷◌, ◌++◌, length, slice_index, refl, sym, ap, ◌∙◌, arith, subst, ◌⊎◌, inl, inr, Ok, Option, Some, None, cond, encode_utf8_all}
 use Rattle.std.specs.Prelude.{◌||◌, ◌&&◌, ◌==◌, not}
 use Rattle.std.proofs.lemmas.Bool.Decides.{nat_tests}
-use Rattle.saphyr_input.specs.Classes.{is_break}
+use Rattle.saphyr_input.specs.Classes.{is_break, carriage_return, line_feed}
 use Rattle.saphyr_input.specs.Places.{is_blank_or_break}
 use Rattle.saphyr_scalar.specs.declared.scalar.position.Marker.{Marker}
 use Rattle.saphyr_scalar.specs.Views.Cursor.{Cursor, along, next_line}
@@ -14,6 +14,7 @@ use Rattle.saphyr_scanner.proofs.Json.Gaps.{StopsGap, contains_break, along_more
 use Rattle.saphyr_scalar.proofs.Moving.{along_none}
 use Rattle.saphyr_input.proofs.Basics.Booleans.{or_assoc}
 use Rattle.std.proofs.Math.Bool.{or-false}
+use Rattle.saphyr_input.specs.Indicators.{comma, number_sign, right_brace, right_bracket}
 use Rattle.saphyr_scalar.proofs.Plain.White.{untabbed_root}
 
 -- what stands behind a value ends the white space before it
@@ -21,7 +22,7 @@ behind_stops_gap : (in_flow : Bool) (y : List ℕ) → IsBehindValue in_flow y �
 behind_stops_gap in_flow [] h = tt
 behind_stops_gap in_flow (c ∷ cs) h = by_mark h.1
   where
-    by_mark : (c ≡ 44) ⊎ (c ≡ 93) ⊎ (c ≡ 125) → StopsGap (c ∷ cs)
+    by_mark : (c ≡ comma) ⊎ (c ≡ right_bracket) ⊎ (c ≡ right_brace) → StopsGap (c ∷ cs)
     by_mark (inl e) = subst (λ (x : ℕ). StopsGap (x ∷ cs)) (sym e) (refl, refl, refl)
     by_mark (inr (inl e)) = subst (λ (x : ℕ). StopsGap (x ∷ cs)) (sym e) (refl, refl, refl)
     by_mark (inr (inr e)) = subst (λ (x : ℕ). StopsGap (x ∷ cs)) (sym e) (refl, refl, refl)
@@ -78,8 +79,8 @@ break_line_case m blank c w follow e one p =
     broken h = cc
 
 -- CR before LF
-return_line_case : (m : Marker) (blank : Bool) (w follow : List ℕ) → (slice_index (w ++ follow) 0 == 10) ≡ true
-    → PassesLines (along m 1) (blank || true) w follow → PassesLines m blank (13 ∷ w) follow
+return_line_case : (m : Marker) (blank : Bool) (w follow : List ℕ) → (slice_index (w ++ follow) 0 == line_feed) ≡ true
+    → PassesLines (along m 1) (blank || true) w follow → PassesLines m blank (carriage_return ∷ w) follow
 return_line_case m blank w follow e p =
     line_further m (along m 1) blank 13 w follow (rw e refl) refl (λ h. absurd (cc)) (λ h. (omega arith, h)) p
 
@@ -98,8 +99,8 @@ lines_passed [] follow m blank white h =
 lines_passed (c ∷ w) follow m blank (white, others) h =
     by_kind white (λ (k : Marker) (b : Bool). lines_passed w follow k b others h)
   where
-    at_return : (b : Bool) → (slice_index (w ++ follow) 0 == 10) ≡ b
-        → ((k : Marker) (b : Bool) → PassesLines k b w follow) → PassesLines m blank (13 ∷ w) follow
+    at_return : (b : Bool) → (slice_index (w ++ follow) 0 == line_feed) ≡ b
+        → ((k : Marker) (b : Bool) → PassesLines k b w follow) → PassesLines m blank (carriage_return ∷ w) follow
     at_return true e p = return_line_case m blank w follow e (p (along m 1) (blank || true))
     at_return false e p = break_line_case m blank 13 w follow refl (rw e refl) (p (next_line m 1) (blank || true))
 
@@ -117,15 +118,15 @@ lines_passed (c ∷ w) follow m blank (white, others) h =
         (at_return (slice_index (w ++ follow) 0 == 10) refl p)
 
 -- no comment stands right behind a word
-first_no_comment : (w y : List ℕ) → IsWhiteSpace w → StopsGap y → slice_index (w ++ y) 0 ≢ 35
+first_no_comment : (w y : List ℕ) → IsWhiteSpace w → StopsGap y → slice_index (w ++ y) 0 ≢ number_sign
 first_no_comment [] [] white h = λ e. absurd (omega arith)
 first_no_comment [] (c ∷ cs) white h = other c h.2
   where
-    other : (c : ℕ) → (c == 35) ≡ false → c ≢ 35
+    other : (c : ℕ) → (c == number_sign) ≡ false → c ≢ number_sign
     other c e = grind (arith, nat_tests)
 first_no_comment (c ∷ w) y white h = other c white.0
   where
-    other : (c : ℕ) → IsWhite c → c ≢ 35
+    other : (c : ℕ) → IsWhite c → c ≢ number_sign
     other c k = grind arith
 
 -- Behind a word of JSON the text goes on as it may behind a plain scalar, over any lines.
@@ -144,7 +145,7 @@ no_comment_of : (in_flow t : Bool) (s : Cursor) → StopsGap s.rest → comment_
 unfolding comment_of
 no_comment_of in_flow t s h = rw (no_sign s.rest h) (none (not in_flow) (t || not s.blank_so_far))
   where
-    no_sign : (y : List ℕ) → StopsGap y → (slice_index y 0 == 35) ≡ false
+    no_sign : (y : List ℕ) → StopsGap y → (slice_index y 0 == number_sign) ≡ false
     no_sign [] h = refl
     no_sign (c ∷ cs) h = h.2
 

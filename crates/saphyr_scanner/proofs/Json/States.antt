@@ -22,6 +22,7 @@ use Rattle.saphyr_input.proofs.Basics.Booleans.{by_test, and_false}
 use Rattle.saphyr_scalar.proofs.Given.{cursor_at}
 use Rattle.saphyr_input.proofs.Basics.Numbers.{none_below_zero}
 use Rattle.std.proofs.lemmas.Bool.{or_right}
+use Rattle.saphyr_input.specs.Indicators.{percent_sign}
 use Rattle.saphyr_scanner.proofs.Queues.{queue_of}
 use Rattle.saphyr_scanner.proofs.Gaps.{stop_here}
 use Rattle.saphyr_scanner.proofs.Root.{core_at, state_at, drops_key, none_unrolls, ComesTo, comes}
@@ -160,7 +161,7 @@ arrives s x k ls a ad ps y text h =
 pub record IsContentStart (t : List ℕ) : Type 0 where
   pub nul : is_z (slice_index t 0) ≡ false
   pub byte_order_mark : is_bom (slice_index t 0) ≡ false
-  pub directive : (slice_index t 0 == 37) ≡ false
+  pub directive : (slice_index t 0 == percent_sign) ≡ false
   pub document_start : is_document_start t ≡ false
   pub document_end : is_document_end t ≡ false
 

@@ -3,6 +3,7 @@ use Rattle.std.proofs.Common.{◌≡◌, ℕ, ◌+◌, ◌*◌, ◌<◌, ◌≤�
 use Rattle.std.specs.Prelude.{Some}
 use Rattle.std.proofs.lemmas.Bool.Decides.{nat_tests}
 use Rattle.std.proofs.lemmas.List.{length-append}
+use Rattle.saphyr_input.specs.Indicators.{quotation_mark}
 use Rattle.saphyr_input.specs.Classes.{IsHex, is_hex, hex_value}
 use Rattle.scalar_values.specs.Escapes.{is_scalar_value, short_escape}
 use Rattle.saphyr_scalar.specs.declared.scalar.fault.Refusal.{Refusal}
@@ -64,7 +65,7 @@ one_spelled c others text t x (inr (inr h)) rest =
     (numbered 117 c h.0 t others x (code_fits c h.0 h.1 h.2) rest)
 
 -- the inside of a string, up to its closing quote
-pub inside_spelled : (value t x : List ℕ) → AreSpellings value t → IsInside (t ++ (34 ∷ x)) value x
+pub inside_spelled : (value t x : List ℕ) → AreSpellings value t → IsInside (t ++ (quotation_mark ∷ x)) value x
 inside_spelled [] t x h = subst (λ (y : List ℕ). IsInside (y ++ (34 ∷ x)) [] x) (sym h) (closed x)
 inside_spelled (c ∷ others) t x h =
     let rest = inside_spelled others h.1 x h.3 in

@@ -2,6 +2,7 @@
 use Rattle.std.proofs.Common.{◌≡◌, ◌≢◌, ℕ, Bool, true, false, List, [], ◌∷◌, ◌++◌, refl, sym, ap, ◌∙◌, arith, subst, IsTrue, ◌⊎◌, inl, inr, codes}
 use Rattle.std.specs.Prelude.{◌||◌, ◌&&◌, ◌==◌, not}
 use Rattle.std.proofs.lemmas.Bool.Decides.{nat_tests}
+use Rattle.saphyr_input.specs.Indicators.{comma, hyphen, right_brace, right_bracket, full_stop, number_sign}
 use Rattle.saphyr_input.specs.Classes.{IsDigit, is_blank, is_break, is_blank_or_breakz, is_flow}
 use Rattle.saphyr_scalar.specs.Spelling.Tag.{AreIn}
 use Rattle.saphyr_scalar.specs.Steps.Plain.{is_in_word}
@@ -81,8 +82,8 @@ pub record BeginsWord (t : List ℕ) : Type 0 where
   pub first : ℕ
   pub others : List ℕ
   pub is : t ≡ first ∷ others
-  pub kind : (first ≡ 45) ⊎ IsDigit first ⊎ (first ≡ 116) ⊎ (first ≡ 102) ⊎ (first ≡ 110)
-  pub dash : first ≡ 45 → BeginsWithDigit others
+  pub kind : (first ≡ hyphen) ⊎ IsDigit first ⊎ (first ≡ 116) ⊎ (first ≡ 102) ⊎ (first ≡ 110)
+  pub dash : first ≡ hyphen → BeginsWithDigit others
 
 begins_with_digit : (t : List ℕ) → BeginsWithDigit t → BeginsWord t
 begins_with_digit t h = record {
@@ -152,10 +153,10 @@ word_is_plain t h =
       dash = λ e. let d = b.dash e in (d.0, d.1, d.2, (λ is. absurd (omega (arith, d.3))));
     }
   where
-    no_comment : (c : ℕ) → (c ≡ 45) ⊎ IsDigit c ⊎ (c ≡ 116) ⊎ (c ≡ 102) ⊎ (c ≡ 110) → c ≢ 35
+    no_comment : (c : ℕ) → (c ≡ hyphen) ⊎ IsDigit c ⊎ (c ≡ 116) ⊎ (c ≡ 102) ⊎ (c ≡ 110) → c ≢ number_sign
     no_comment c k = grind arith
 
-    no_dot : (c : ℕ) → (c ≡ 45) ⊎ IsDigit c ⊎ (c ≡ 116) ⊎ (c ≡ 102) ⊎ (c ≡ 110) → c ≢ 46
+    no_dot : (c : ℕ) → (c ≡ hyphen) ⊎ IsDigit c ⊎ (c ≡ 116) ⊎ (c ≡ 102) ⊎ (c ≡ 110) → c ≢ full_stop
     no_dot c k = grind arith
 
 -- ## What stands behind a word
@@ -172,7 +173,7 @@ pub record IsValueEnd (c : ℕ) : Type 0 where
   pub flow : is_flow c ≡ true
   pub colon : (c == 58) ≡ false
 
-mark_behind : (c : ℕ) → (c ≡ 44) ⊎ (c ≡ 93) ⊎ (c ≡ 125) → IsValueEnd c
+mark_behind : (c : ℕ) → (c ≡ comma) ⊎ (c ≡ right_bracket) ⊎ (c ≡ right_brace) → IsValueEnd c
 mark_behind c (inl e) = subst IsValueEnd (sym e) (record { blank = refl; break = refl; flow = refl; colon = refl })
 mark_behind c (inr (inl e)) = subst IsValueEnd (sym e)
     (record { blank = refl; break = refl; flow = refl; colon = refl })

@@ -17,50 +17,52 @@ use Rattle.saphyr_scanner.specs.Steps.Property as property
 use Rattle.saphyr_scanner.specs.Steps.Scalar as scalar
 use Rattle.saphyr_scanner.specs.Steps.Value as value
 use Rattle.std.proofs.lemmas.Bool.{eqb-true, and_parts}
+use Rattle.saphyr_input.specs.Indicators.{ampersand, apostrophe, asterisk, at_sign, exclamation_mark, grave_accent, greater_than, hyphen, left_brace, left_bracket, percent_sign, question_mark, quotation_mark, right_brace, right_bracket, vertical_bar}
 
 -- no indicator stands here
 pub record NoIndicator (first second : ℕ) (c : Core) : Type 0 where
-  pub sequence : (first == 91) ≡ false
-  pub mapping : (first == 123) ≡ false
-  pub sequence_end : (first == 93) ≡ false
-  pub mapping_end : (first == 125) ≡ false
+  pub sequence : (first == left_bracket) ≡ false
+  pub mapping : (first == left_brace) ≡ false
+  pub sequence_end : (first == right_bracket) ≡ false
+  pub mapping_end : (first == right_brace) ≡ false
   pub comma : (first == 44) ≡ false
-  pub dash : ((first == 45) && is_blank_or_breakz second) ≡ false
-  pub question : ((first == 63) && is_blank_or_breakz second) ≡ false
+  pub dash : ((first == hyphen) && is_blank_or_breakz second) ≡ false
+  pub question : ((first == question_mark) && is_blank_or_breakz second) ≡ false
   pub colon : ((first == 58) && is_blank_or_breakz second) ≡ false
   pub beside : ((first == 58) && is_value_adjacent second c) ≡ false
-  pub double : (first == 34) ≡ false
-  pub single : (first == 39) ≡ false
-  pub alias : (first == 42) ≡ false
-  pub anchor : (first == 38) ≡ false
-  pub tag : (first == 33) ≡ false
-  pub literal : ((first == 124) && in_block c) ≡ false
-  pub folded : ((first == 62) && in_block c) ≡ false
-  pub reserved : ((first == 37) || (first == 64) || (first == 96)) ≡ false
+  pub double : (first == quotation_mark) ≡ false
+  pub single : (first == apostrophe) ≡ false
+  pub alias : (first == asterisk) ≡ false
+  pub anchor : (first == ampersand) ≡ false
+  pub tag : (first == exclamation_mark) ≡ false
+  pub literal : ((first == vertical_bar) && in_block c) ≡ false
+  pub folded : ((first == greater_than) && in_block c) ≡ false
+  pub reserved : ((first == percent_sign) || (first == at_sign) || (first == grave_accent)) ≡ false
 
 -- what is to be shown of each
 pub record Cases (P : StepResult → StepResult → Type 0) (first second other n : ℕ) (c d : Core) : Type 0 where
-  pub sequence : first ≡ 91
+  pub sequence : first ≡ left_bracket
       → P (flow.opening_steps context.FlowSequence tokens.FlowSequenceStart n c)
       (flow.opening_steps context.FlowSequence tokens.FlowSequenceStart n d)
-  pub mapping : first ≡ 123
+  pub mapping : first ≡ left_brace
       → P (flow.opening_steps context.FlowMapping tokens.FlowMappingStart n c)
       (flow.opening_steps context.FlowMapping tokens.FlowMappingStart n d)
-  pub sequence_end : first ≡ 93 → P (flow.sequence_end_steps c) (flow.sequence_end_steps d)
-  pub mapping_end : first ≡ 125 → P (flow.mapping_end_steps c) (flow.mapping_end_steps d)
+  pub sequence_end : first ≡ right_bracket → P (flow.sequence_end_steps c) (flow.sequence_end_steps d)
+  pub mapping_end : first ≡ right_brace → P (flow.mapping_end_steps c) (flow.mapping_end_steps d)
   pub comma : first ≡ 44 → P (flow.flow_entry_steps c) (flow.flow_entry_steps d)
-  pub dash : first ≡ 45 → is_blank_or_breakz second ≡ true → P (block.block_entry_steps c) (block.block_entry_steps d)
-  pub question : first ≡ 63 → is_blank_or_breakz second ≡ true → P (block.key_steps c) (block.key_steps d)
+  pub dash : first ≡ hyphen → is_blank_or_breakz second ≡ true
+      → P (block.block_entry_steps c) (block.block_entry_steps d)
+  pub question : first ≡ question_mark → is_blank_or_breakz second ≡ true → P (block.key_steps c) (block.key_steps d)
   pub colon : first ≡ 58 → is_blank_or_breakz second ≡ true → P (value.value_steps c) (value.value_steps d)
   pub beside : first ≡ 58 → is_value_adjacent second c ≡ true → P (flow_value_steps second c) (flow_value_steps other d)
-  pub double : first ≡ 34 → P (scalar.double_quoted_steps n c) (scalar.double_quoted_steps n d)
-  pub single : first ≡ 39 → P (scalar.single_quoted_steps n c) (scalar.single_quoted_steps n d)
-  pub alias : first ≡ 42 → P (property.alias_steps n c) (property.alias_steps n d)
-  pub anchor : first ≡ 38 → P (property.anchor_steps n c) (property.anchor_steps n d)
-  pub tag : first ≡ 33 → P (property.tag_steps n c) (property.tag_steps n d)
-  pub literal : first ≡ 124 → in_block c ≡ true
+  pub double : first ≡ quotation_mark → P (scalar.double_quoted_steps n c) (scalar.double_quoted_steps n d)
+  pub single : first ≡ apostrophe → P (scalar.single_quoted_steps n c) (scalar.single_quoted_steps n d)
+  pub alias : first ≡ asterisk → P (property.alias_steps n c) (property.alias_steps n d)
+  pub anchor : first ≡ ampersand → P (property.anchor_steps n c) (property.anchor_steps n d)
+  pub tag : first ≡ exclamation_mark → P (property.tag_steps n c) (property.tag_steps n d)
+  pub literal : first ≡ vertical_bar → in_block c ≡ true
       → P (scalar.block_scalar_steps block_style.Literal n c) (scalar.block_scalar_steps block_style.Literal n d)
-  pub folded : first ≡ 62 → in_block c ≡ true
+  pub folded : first ≡ greater_than → in_block c ≡ true
       → P (scalar.block_scalar_steps block_style.Folded n c) (scalar.block_scalar_steps block_style.Folded n d)
   pub reserved :
       P (refuse (fault.UnexpectedCharacter first) c.cursor.mark)

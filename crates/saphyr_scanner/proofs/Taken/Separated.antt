@@ -1,7 +1,7 @@
 -- What is passed between two tokens is separation.
 use Rattle.std.proofs.Common.{◌≡◌, ℕ, ◌+◌, Bool, true, false, List, [], ◌∷◌, ◌++◌, length, drop, Result, Ok, Err, IsTrue, IsFalse, refl, sym, ap, ◌∙◌, arith, subst, inl, inr}
 use Rattle.std.specs.Prelude.{◌&&◌, ◌||◌, ◌==◌, slice_index, not}
-use Rattle.saphyr_input.specs.Classes.{is_bom, is_blank, is_break, is_yaml_non_break, is_z}
+use Rattle.saphyr_input.specs.Classes.{is_bom, is_blank, is_break, is_yaml_non_break, is_z, carriage_return, line_feed}
 use Rattle.saphyr_scalar.specs.declared.scalar.position.Marker.{Marker}
 use Rattle.saphyr_scalar.specs.declared.scalar.fault.Refusal.{Refusal}
 use Rattle.saphyr_scalar.specs.Views.Cursor.{Cursor, along, next_line}
@@ -12,6 +12,7 @@ use Rattle.saphyr_scanner.specs.Steps.Gap.{end_of_gap, end_of_gap_in_comment, st
 use Rattle.saphyr_scanner.specs.TokensTaken as taken
 use Rattle.saphyr_scanner.specs.TokensTaken.{IsPassedOver, AreApart}
 use Rattle.std.proofs.lemmas.Bool.{eqb-true, and_parts, or_cases}
+use Rattle.saphyr_input.specs.Indicators.{number_sign}
 use Rattle.saphyr_input.proofs.Basics.Booleans.{by_test, or_false_right}
 use Rattle.saphyr_scalar.proofs.Given.{Given}
 
@@ -65,7 +66,8 @@ comment_more m c t n u e w =
           (along_more m 1 (length w.words) (length (c ∷ w.words)) (omega arith)) w.goes_on;
     }
 
-comment_whole : (m : Marker) (c : ℕ) (t : List ℕ) (n : Marker) (u : List ℕ) → c ≡ 35 → Comment (along m 1) t n u
+comment_whole : (m : Marker) (c : ℕ) (t : List ℕ) (n : Marker) (u : List ℕ) → c ≡ number_sign
+    → Comment (along m 1) t n u
     → IsPassedOver m (c ∷ t) n u
 comment_whole m c t n u e w =
     let p = taken.comment m w.words w.behind n u w.are w.ends
@@ -75,14 +77,15 @@ comment_whole m c t n u e w =
 
 -- a break that is no CR before LF
 single_break : (m : Marker) (c : ℕ) (t : List ℕ) (n : Marker) (u : List ℕ) → is_break c ≡ true
-    → ((c == 13) && (slice_index t 0 == 10)) ≡ false → IsPassedOver (next_line m 1) t n u → IsPassedOver m (c ∷ t) n u
+    → ((c == carriage_return) && (slice_index t 0 == line_feed)) ≡ false → IsPassedOver (next_line m 1) t n u
+    → IsPassedOver m (c ∷ t) n u
 single_break m c t n u b e p =
     let one : break_len (c ∷ t) ≡ 1 = rw e refl in
     taken.line_break m (c ∷ t) n u b (subst (λ l. IsPassedOver (next_line m l) (drop l (c ∷ t)) n u) (sym one) p)
 
 -- CR LF, whose CR was passed
 crlf_break : (k : Marker) (t : List ℕ) (n : Marker) (u : List ℕ) → IsPassedOver (next_line (along k 1) 1) t n u
-    → IsPassedOver k (13 ∷ 10 ∷ t) n u
+    → IsPassedOver k (carriage_return ∷ line_feed ∷ t) n u
 crlf_break k t n u p =
     let i : k.index + 1 + 1 ≡ k.index + 2 = omega arith in
     let same : next_line (along k 1) 1 ≡ next_line k 2 = rw i refl in
@@ -101,8 +104,9 @@ record Gaps (l : ℕ) (t : List ℕ) (m : Marker) (blank broke tabbed : Bool) : 
   between : Given (λ (p : GapEnd). To p.cursor.mark p.cursor.rest m t) (end_of_gap l m blank broke tabbed t)
   inside : Given (λ (p : GapEnd). Comment m t p.cursor.mark p.cursor.rest)
       (end_of_gap_in_comment l m blank broke tabbed t)
-  behind_return : (slice_index t 0 == 10) ≡ true → (k : Marker) → m ≡ along k 1
-      → Given (λ (p : GapEnd). To p.cursor.mark p.cursor.rest k (13 ∷ t)) (end_of_gap l m blank broke tabbed t)
+  behind_return : (slice_index t 0 == line_feed) ≡ true → (k : Marker) → m ≡ along k 1
+      → Given (λ (p : GapEnd). To p.cursor.mark p.cursor.rest k (carriage_return ∷ t))
+      (end_of_gap l m blank broke tabbed t)
 
 all_gaps : (l : ℕ) (t : List ℕ) (m : Marker) (blank broke tabbed : Bool) → Gaps l t m blank broke tabbed
 all_gaps l [] m blank broke tabbed =
@@ -159,10 +163,11 @@ all_gaps l (c ∷ cs) m blank broke tabbed =
       behind_return = λ e k q. fed c (eqb-true c 10 e) k q (all_gaps l cs (next_line m 1) true true false).between;
     }
   where
-    fed : (d : ℕ) → d ≡ 10 → (k : Marker) → m ≡ along k 1
+    fed : (d : ℕ) → d ≡ line_feed → (k : Marker) → m ≡ along k 1
         → Given (λ (p : GapEnd). To p.cursor.mark p.cursor.rest (next_line m 1) cs)
         (end_of_gap l (next_line m 1) true true false cs)
-        → Given (λ (p : GapEnd). To p.cursor.mark p.cursor.rest k (13 ∷ d ∷ cs)) (end_of_gap l m blank broke tabbed
+        → Given (λ (p : GapEnd). To p.cursor.mark p.cursor.rest k (carriage_return ∷ d ∷ cs))
+        (end_of_gap l m blank broke tabbed
         (d ∷ cs))
     fed d e k q h =
         subst (λ x. Given (λ (p : GapEnd). To p.cursor.mark p.cursor.rest k (13 ∷ x ∷ cs))
@@ -181,8 +186,9 @@ record Spacing (t : List ℕ) (m : Marker) (blank space : Bool) : Type 0 where
   between : To (end_of_spaces m blank space t).cursor.mark (end_of_spaces m blank space t).cursor.rest m t
   inside : Comment m t (end_of_spaces_in_comment m blank space t).cursor.mark
       (end_of_spaces_in_comment m blank space t).cursor.rest
-  behind_return : (slice_index t 0 == 10) ≡ true → (k : Marker) → m ≡ along k 1
-      → To (end_of_spaces m blank space t).cursor.mark (end_of_spaces m blank space t).cursor.rest k (13 ∷ t)
+  behind_return : (slice_index t 0 == line_feed) ≡ true → (k : Marker) → m ≡ along k 1
+      → To (end_of_spaces m blank space t).cursor.mark (end_of_spaces m blank space t).cursor.rest k
+      (carriage_return ∷ t)
 
 all_spaces : (t : List ℕ) (m : Marker) (blank space : Bool) → Spacing t m blank space
 all_spaces [] m blank space =
@@ -225,12 +231,12 @@ all_spaces (c ∷ cs) m blank space =
       behind_return = λ e k q. fed c (eqb-true c 10 e) k q (all_spaces cs (next_line m 1) true true).between;
     }
   where
-    fed : (d : ℕ) → d ≡ 10 → (k : Marker) → m ≡ along k 1
+    fed : (d : ℕ) → d ≡ line_feed → (k : Marker) → m ≡ along k 1
         → To (end_of_spaces (next_line m 1) true true cs).cursor.mark
         (end_of_spaces (next_line m 1) true true cs).cursor.rest
         (next_line m 1) cs → To (end_of_spaces m blank space (d ∷ cs)).cursor.mark
         (end_of_spaces m blank space (d ∷ cs)).cursor.rest
-        k (13 ∷ d ∷ cs)
+        k (carriage_return ∷ d ∷ cs)
     fed d e k q h =
         let r = end_of_spaces (next_line m 1) true true cs in
         subst (λ x. To (end_of_spaces m blank space (x ∷ cs)).cursor.mark

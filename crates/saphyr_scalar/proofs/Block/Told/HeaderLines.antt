@@ -2,7 +2,7 @@
 use Rattle.std.proofs.Common.{◌≡◌, ◌≢◌, ℕ, zero, suc, ◌+◌, ◌-◌, ◌≤◌, ◌<◌, Bool, true, false, List, [], ◌∷◌, ◌++◌, length, drop, slice_index, Ok, refl, sym, ap, ◌∙◌, arith, subst, inl, inr, append_assoc}
 use Rattle.std.specs.Prelude.{◌&&◌, ◌||◌, ◌==◌, not, nat_lt, Option, Some, None, unwrap_or, codes}
 use Rattle.std.proofs.lemmas.Bool.Decides.{nat_tests}
-use Rattle.saphyr_input.specs.Classes.{is_bom, is_break, is_breakz, is_digit, is_z, tab}
+use Rattle.saphyr_input.specs.Classes.{is_bom, is_break, is_breakz, is_digit, is_z, tab, line_feed}
 use Rattle.saphyr_input.specs.Places.{next_2_are}
 use Rattle.saphyr_input.specs.Separation.{separation_len, is_bare_comment, found_blanks}
 use Rattle.saphyr_input.specs.declared.input.SkipTabs.{SkipTabs}
@@ -102,7 +102,7 @@ two_broken (c ∷ d ∷ ds) h =
     let second : d ≡ 10 = eqb-true d 10 (and_true_right (c == 13) (d == 10) h) in
     ap (λ x. x ∷ d ∷ ds) first ∙ ap (λ x. 13 ∷ x ∷ ds) second
 
-feed_by_test : (x : ℕ) → (x == 10) ≡ false → x ≢ 10
+feed_by_test : (x : ℕ) → (x == line_feed) ≡ false → x ≢ line_feed
 feed_by_test x e h = absurd (grind (arith, nat_tests))
 
 one_broken : (xs : List ℕ) → next_2_are xs 13 10 ≡ false → is_break (slice_index xs 0) ≡ true

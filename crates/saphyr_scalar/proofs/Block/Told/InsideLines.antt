@@ -2,7 +2,7 @@
 use Rattle.std.proofs.Common.{◌≡◌, ◌⊎◌, ℕ, ◌+◌, Bool, true, false, List, [], ◌∷◌, ◌++◌, slice_index, refl, sym, ap, arith, subst, inl, inr}
 use Rattle.std.specs.Prelude.{◌||◌, ◌&&◌, ◌==◌, not, Option, Some, IsTrue, IsFalse}
 use Rattle.std.proofs.lemmas.Bool.Decides.{nat_tests}
-use Rattle.saphyr_input.specs.Classes.{is_blank, is_break, is_yaml_non_break}
+use Rattle.saphyr_input.specs.Classes.{is_blank, is_break, is_yaml_non_break, line_feed, space}
 use Rattle.saphyr_input.specs.Places.{is_document_indicator}
 use Rattle.scalar_values.specs.declared.block.BlockStyle.{BlockStyle}
 use Rattle.saphyr_scalar.specs.declared.scalar.block.lines.EmptyLines.{EmptyLines}
@@ -20,14 +20,15 @@ use Rattle.saphyr_scalar.proofs.Block.Indentations.{indentation_is_space}
 pub record Within (A : Type 0) (xs rest : List ℕ) : Type 0 where
   pub taken : List ℕ
   pub is : xs ≡ taken ++ rest
-  pub inside : (starts : Bool) → (IsTrue starts → A ⊎ (slice_index xs 0 ≡ 10)) → AreInside starts taken rest
+  pub inside : (starts : Bool) → (IsTrue starts → A ⊎ (slice_index xs 0 ≡ line_feed)) → AreInside starts taken rest
 
 pub within_nothing : (A : Type 0) (xs : List ℕ) → Within A xs xs
 within_nothing A xs = record { taken = []; is = refl; inside = λ starts h. tt }
 
 -- one character more
 within_more : (A B : Type 0) (c : ℕ) (cs rest : List ℕ) → IsTrue (is_break c || is_yaml_non_break c)
-    → (A ⊎ (c ≡ 10) → IsFalse (is_document_indicator (c ∷ cs))) → (IsTrue (is_break c) → B ⊎ (slice_index cs 0 ≡ 10))
+    → (A ⊎ (c ≡ line_feed) → IsFalse (is_document_indicator (c ∷ cs)))
+    → (IsTrue (is_break c) → B ⊎ (slice_index cs 0 ≡ line_feed))
     → Within B cs rest → Within A (c ∷ cs) rest
 within_more A B c cs rest h none next w = record {
   taken = c ∷ w.taken;
@@ -50,12 +51,12 @@ non_break_stands : (c : ℕ) → is_yaml_non_break c ≡ true → IsTrue (is_bre
 non_break_stands c e = let P : Bool → Type 0 =
     λ k. (k || is_yaml_non_break c) ≡ true in subst P (sym (non_break_no_break c e)) e
 
-feed_is_none : (c : ℕ) → is_yaml_non_break c ≡ true → c ≡ 10 → ⊥
+feed_is_none : (c : ℕ) → is_yaml_non_break c ≡ true → c ≡ line_feed → ⊥
 feed_is_none c e f = let k : is_yaml_non_break c ≡ false = ap is_yaml_non_break f in cc
 
 -- ## Steps
 
-a_space : (A B : Type 0) (c : ℕ) (cs rest : List ℕ) → c ≡ 32 → Within B cs rest → Within A (c ∷ cs) rest
+a_space : (A B : Type 0) (c : ℕ) (cs rest : List ℕ) → c ≡ space → Within B cs rest → Within A (c ∷ cs) rest
 a_space A B c cs rest e w =
     let P : ℕ → Type 0 = λ x. Within A (x ∷ cs) rest in
     subst P (sym e) (within_more A B 32 cs rest refl (λ _. refl) (λ k. absurd (cc)) w)
@@ -98,7 +99,7 @@ content_more A c cs rest e none w =
     within_more A ⊥ c cs rest (non_break_stands c e) (λ (k : A ⊎ (c ≡ 10)). by k)
     (λ k. absurd (let f = non_break_no_break c e in cc)) w
   where
-    by : A ⊎ (c ≡ 10) → IsFalse (is_document_indicator (c ∷ cs))
+    by : A ⊎ (c ≡ line_feed) → IsFalse (is_document_indicator (c ∷ cs))
     by (inl a) = none a
     by (inr f) = absurd (feed_is_none c e f)
 

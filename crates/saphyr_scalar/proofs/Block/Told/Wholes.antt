@@ -4,7 +4,7 @@ use Rattle.std.specs.Prelude.{◌||◌, ◌&&◌, ◌==◌, not, max, map, Optio
 use Rattle.std.proofs.lemmas.Bool.Decides.{nat_tests}
 use Rattle.std.proofs.lemmas.List.{append-nil, append_cancel_right}
 use Rattle.saphyr_input.specs.Breaks.{normalized}
-use Rattle.saphyr_input.specs.Classes.{is_break, is_yaml_non_break, is_z}
+use Rattle.saphyr_input.specs.Classes.{is_break, is_yaml_non_break, is_z, line_feed, space}
 use Rattle.saphyr_input.specs.Places.{is_document_indicator}
 use Rattle.scalar_values.specs.declared.block.BlockStyle.{BlockStyle}
 use Rattle.scalar_values.specs.declared.block.Chomping.{Chomping}
@@ -57,7 +57,7 @@ ends_told i t e = record {
   no_content = starts_none i t.mark.col t.rest e.no_content;
 }
   where
-    reaches : (c : ℕ) → c ≡ 32 → ((c == 32) && nat_lt t.mark.col i) ≡ false → i ≤ t.mark.col
+    reaches : (c : ℕ) → c ≡ space → ((c == space) && nat_lt t.mark.col i) ≡ false → i ≤ t.mark.col
     reaches c s h = grind (arith, nat_tests)
 
 -- ## Where the lines end, and where the span begins
@@ -118,7 +118,7 @@ empty_told i u v k l =
 
 -- the lines that are taken off are told once
 same_lines : (A : Type 0) (xs rest lines : List ℕ) → xs ≡ lines ++ rest → (starts : Bool)
-    → (IsTrue starts → A ⊎ (slice_index xs 0 ≡ 10)) → Within A xs rest → AreInside starts lines rest
+    → (IsTrue starts → A ⊎ (slice_index xs 0 ≡ line_feed)) → Within A xs rest → AreInside starts lines rest
 same_lines A xs rest lines e starts h w =
     let same : w.taken ≡ lines = append_cancel_right w.taken lines rest (sym w.is ∙ e) in
     subst (λ t. AreInside starts t rest) same (w.inside starts h)

@@ -4,7 +4,7 @@ use Rattle.std.specs.Prelude.{◌==◌, max, None, unwrap_or, IsTrue}
 use Rattle.std.proofs.lemmas.Bool.Decides.{nat_tests}
 use Rattle.std.proofs.lemmas.List.{append-nil, length-replicate}
 use Rattle.saphyr_input.specs.Breaks.{normalized}
-use Rattle.saphyr_input.specs.Classes.{is_break, is_z}
+use Rattle.saphyr_input.specs.Classes.{is_break, is_z, line_feed, space}
 use Rattle.saphyr_scalar.specs.declared.scalar.block.lines.EmptyLines.{EmptyLines}
 use Rattle.saphyr_scalar.specs.declared.scalar.position.Marker.{Marker}
 use Rattle.saphyr_scalar.specs.Steps.Block.{line_cursor, is_cr_lf, inside_break, with_column, with_empty_line, pass_empty_lines, pass_empty_lines_at, no_lines, given_indentation}
@@ -20,7 +20,8 @@ lone j =
     let only = only_line (spaces j) (plain_spaces j) in
     rw (append-nil (spaces j), only.0, only.1, length-replicate) (omega arith)
 
-one_line_more : (j : ℕ) (text : List ℕ) → widest (all_lines (spaces j ++ 10 ∷ text)) ≡ max j (widest (all_lines text))
+one_line_more : (j : ℕ) (text : List ℕ)
+    → widest (all_lines (spaces j ++ line_feed ∷ text)) ≡ max j (widest (all_lines text))
 one_line_more j text =
     let f = first_line (spaces j) text (plain_spaces j) in
     rw (f.ended, f.last, length-replicate) refl
@@ -38,7 +39,7 @@ width_stop : (before : EmptyLines) (b : Bool) (m : Marker) (xs : List ℕ) → i
 width_stop before b m xs h =
     record { leading = []; is = refl; are = tt; stops = h; width = ap (max before.widest) (sym (lone m.col)) }
 
-width_space : (j x : ℕ) (before : EmptyLines) (cs : List ℕ) (r : EmptyLines × Cursor) → x ≡ 32
+width_space : (j x : ℕ) (before : EmptyLines) (cs : List ℕ) (r : EmptyLines × Cursor) → x ≡ space
     → Width (j + 1) before cs r → Width j before (x ∷ cs) r
 width_space j x before cs r e w = record {
   leading = 32 ∷ w.leading;

@@ -14,6 +14,7 @@ use Rattle.saphyr_scanner.specs.Steps.Flow.{close_collection}
 use Rattle.saphyr_scanner.specs.Steps.Fetch.{step}
 use Rattle.saphyr_scanner.specs.Grammar.Forest.{Properties, Seq, Map, Nodes, Pairs}
 use Rattle.saphyr_scanner.specs.Grammar.FlowNodes.{IsFlowNode}
+use Rattle.saphyr_scanner.specs.Grammar.Layout.{most_open}
 use Rattle.saphyr_scanner.proofs.InFlow.States.{Around, core_at, Calm, FlowMoment}
 use Rattle.saphyr_scanner.proofs.Flow.States.{moved, past, FitsAround, IsParted, ReaderPromises, StandsBefore}
 use Rattle.saphyr_scanner.proofs.Flow.Places.{moved_append}
@@ -137,7 +138,8 @@ inner_fits {around} m front opening inside closing o right fits =
 pub sequence_run : {around : Around} → ReaderPromises → (room : ℕ) (p : Properties) (nodes : Nodes) (in_flow : Bool)
     → ((left : ℕ) → PassesItems around left nodes) → (m : Marker) (t o : List ℕ)
     → IsFlowNode room (Seq p nodes) in_flow around.indent t → FitsAround around m t o → (now : FlowMoment)
-    → ((e : Marker) → around.indent ≤ e.col → EndsAt around.indent now.context e o) → room + length now.outer ≤ 255
+    → ((e : Marker) → around.indent ≤ e.col → EndsAt around.indent now.context e o)
+    → room + length now.outer ≤ most_open
     → Calm around now.context → now.adjacent ≤ m.index → StandsBefore around now m (t ++ o)
     → CollectionPasses around now (grammar.YieldFlowEntries nodes) square p m t o
 sequence_run {around} reads room p nodes in_flow items m t o (left, opening, inside, r, (front, w, f, parts, e), h, is)
@@ -168,7 +170,8 @@ sequence_run {around} reads room p nodes in_flow items m t o (left, opening, ins
 pub mapping_run : {around : Around} → ReaderPromises → (room : ℕ) (p : Properties) (pairs : Pairs) (in_flow : Bool)
     → ((left : ℕ) → PassesPairs around left pairs) → (m : Marker) (t o : List ℕ)
     → IsFlowNode room (Map p pairs) in_flow around.indent t → FitsAround around m t o → (now : FlowMoment)
-    → ((e : Marker) → around.indent ≤ e.col → EndsAt around.indent now.context e o) → room + length now.outer ≤ 255
+    → ((e : Marker) → around.indent ≤ e.col → EndsAt around.indent now.context e o)
+    → room + length now.outer ≤ most_open
     → Calm around now.context → now.adjacent ≤ m.index → StandsBefore around now m (t ++ o)
     → CollectionPasses around now (grammar.YieldFlowPairs pairs) curly p m t o
 mapping_run {around} reads room p pairs in_flow members m t o (left, opening, inside, r, (front, w, f, parts, e), h, is)

@@ -20,6 +20,7 @@ use Rattle.saphyr_scanner.proofs.InBlock.Statements.{ReadsLeaves}
 use Rattle.saphyr_scanner.proofs.InBlock.Texts.{ink_clean, reaches}
 use Rattle.saphyr_scanner.proofs.InBlock.BehindIndicators.{node_behind}
 use Rattle.std.proofs.lemmas.Bool.{false≢true}
+use Rattle.saphyr_input.specs.Indicators.{full_stop, hyphen}
 
 -- the documents of a text of the layout grammar
 abbrev pub AreBlockDocuments : Forest → Bool → List ℕ → Type 0
@@ -69,7 +70,8 @@ dot_ink = record { blank = refl; break = refl; comment = refl; byte_order_mark =
 
 -- a `...` line before what stands behind it
 pub suffix_text : (filler end prefix others : List ℕ)
-    → (filler ++ (46 ∷ 46 ∷ 46 ∷ (end ++ prefix))) ++ others ≡ filler ++ (46 ∷ 46 ∷ 46 ∷ (end ++ (prefix ++ others)))
+    → (filler ++ (full_stop ∷ full_stop ∷ full_stop ∷ (end ++ prefix))) ++ others
+    ≡ filler ++ (full_stop ∷ full_stop ∷ full_stop ∷ (end ++ (prefix ++ others)))
 suffix_text filler end prefix others = simp append_assoc
 
 pub plain_behind : (ds : Forest) (o : List ℕ) → layout.IsBehindDocument (AreBlockDocuments ds) o → IsPlainBehind o
@@ -86,8 +88,9 @@ plain_behind (d ∷ ds) o (inl (
   e,
 )) =
     let empty = no_directives d directives none directives_are in
-    let begins : document ≡ 45 ∷ 45 ∷ 45 ∷ node = text ∙ ap (λ (x : List ℕ). x ++ (45 ∷ 45 ∷ 45 ∷ node)) empty in
-    plain_marked filler 45 (45 ∷ 45 ∷ (node ++ others)) o filler_is
+    let begins : document ≡ hyphen ∷ hyphen ∷ hyphen ∷ node = text
+    ∙ ap (λ (x : List ℕ). x ++ (hyphen ∷ hyphen ∷ hyphen ∷ node)) empty in
+    plain_marked filler 45 (hyphen ∷ hyphen ∷ (node ++ others)) o filler_is
     (e ∙ ap (λ (x : List ℕ). filler ++ (x ++ others)) begins) dash_ink
 plain_behind ds o (inr (suffix, others, (filler, end, prefix, filler_is, end_is, prefix_is, text), behind, e)) =
     let whole : o ≡ filler ++ (46 ∷ 46 ∷ 46 ∷ (end ++ (prefix ++ others))) =

@@ -2,7 +2,7 @@
 use Rattle.std.proofs.Common.{◌≡◌, ℕ, ◌+◌, ◌≤◌, Bool, true, false, List, [], ◌∷◌, ◌++◌, length, slice_index, refl, sym, ap, ◌∙◌, arith, subst, inl, inr}
 use Rattle.std.specs.Prelude.{◌||◌, ◌&&◌, ◌==◌, nat_le, Option, None}
 use Rattle.std.proofs.lemmas.Bool.Decides.{nat_tests}
-use Rattle.saphyr_input.specs.Classes.{is_blank, is_break, is_yaml_non_break, line_feed}
+use Rattle.saphyr_input.specs.Classes.{is_blank, is_break, is_yaml_non_break, line_feed, carriage_return}
 use Rattle.saphyr_input.specs.Places.{is_document_start}
 use Rattle.saphyr_scalar.specs.declared.scalar.position.Marker.{Marker}
 use Rattle.saphyr_scalar.specs.Views.Cursor.{◌>>=◌, along, next_line}
@@ -32,6 +32,7 @@ use Rattle.saphyr_scanner.proofs.InBlock.Sequences.{StartsLine, starts_behind}
 use Rattle.saphyr_scanner.proofs.InBlock.Nodes.{reads_node}
 use Rattle.saphyr_scalar.proofs.Given.{cursor_at}
 use Rattle.std.proofs.lemmas.Bool.{eq-eqb}
+use Rattle.saphyr_input.specs.Indicators.{number_sign}
 use Rattle.saphyr_scanner.proofs.InBlock.Documents.Ends.{HasNoReturn, Lands, IsPlainBehind}
 use Rattle.saphyr_scanner.proofs.Gaps.{no_tab_indentation}
 
@@ -39,14 +40,14 @@ use Rattle.saphyr_scanner.proofs.Gaps.{no_tab_indentation}
 
 -- a text behind which a line starts ends with a break
 feed_last : (m : Marker) (c : ℕ) (cs : List ℕ) → (moved m (c ∷ cs)).col ≡ 0
-    → (front : List ℕ) × (c ∷ cs ≡ front ++ (10 ∷ []))
+    → (front : List ℕ) × (c ∷ cs ≡ front ++ (line_feed ∷ []))
 feed_last m c [] e = by_feed (c == line_feed) refl e
   where
-    feed : (c : ℕ) → (c == line_feed) ≡ true → c ≡ 10
+    feed : (c : ℕ) → (c == line_feed) ≡ true → c ≡ line_feed
     feed c e = grind (arith, nat_tests)
 
     by_feed : (b : Bool) → (c == line_feed) ≡ b → (moved m (c ∷ [])).col ≡ 0
-        → (front : List ℕ) × (c ∷ [] ≡ front ++ (10 ∷ []))
+        → (front : List ℕ) × (c ∷ [] ≡ front ++ (line_feed ∷ []))
     by_feed true k e = ([], ap (λ (x : ℕ). x ∷ []) (feed c k))
     by_feed false k e = absurd
         (let place : moved m (c ∷ []) ≡ along m 1 =
@@ -132,7 +133,8 @@ flat m y blank key a ad deeper ps stop near ends =
     arrived deeper ∙ flat_here m y blank key a ad (deeper && nat_le 0 m.col) ps ends ∙ sym (arrived false)
 
 untabbed_kind : (m : Marker) (blank : Bool) (c : ℕ) (cs : List ℕ) (is_white is_line is_sign : Bool)
-    → (is_blank c || ((c == 13) && (slice_index cs 0 == 10))) ≡ is_white → is_break c ≡ is_line → (c == 35) ≡ is_sign
+    → (is_blank c || ((c == carriage_return) && (slice_index cs 0 == line_feed))) ≡ is_white → is_break c ≡ is_line
+    → (c == number_sign) ≡ is_sign
     → tabbed 0 (along m 1) blank false cs ≡ false → tabbed 0 (next_line m 1) true false cs ≡ false
     → tabbed_comment 0 (along m 1) blank false cs ≡ false → tabbed 0 m blank false (c ∷ cs) ≡ false
 untabbed_kind m blank c cs true q r e f g on line sign =
@@ -142,7 +144,8 @@ untabbed_kind m blank c cs false false true e f g on line sign = rw (e, f, g) si
 untabbed_kind m blank c cs false false false e f g on line sign = rw (e, f, g) refl
 
 tabbed_over_comment : (m : Marker) (blank : Bool) (c : ℕ) (cs : List ℕ) (is_word is_return is_line : Bool)
-    → is_yaml_non_break c ≡ is_word → ((c == 13) && (slice_index cs 0 == 10)) ≡ is_return → is_break c ≡ is_line
+    → is_yaml_non_break c ≡ is_word → ((c == carriage_return) && (slice_index cs 0 == line_feed)) ≡ is_return
+    → is_break c ≡ is_line
     → tabbed_comment 0 (along m 1) blank false cs ≡ false → tabbed 0 (along m 1) blank false cs ≡ false
     → tabbed 0 (next_line m 1) true false cs ≡ false → tabbed_comment 0 m blank false (c ∷ cs) ≡ false
 tabbed_over_comment m blank c cs true q r e f g word on line = rw e word
