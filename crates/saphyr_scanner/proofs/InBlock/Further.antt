@@ -101,8 +101,8 @@ pair_further more leaves key value K V m t o ahead (inr (inr (node, colon, v, so
 mutual
   pub node_further : (more : List ℕ) {limit : ℕ} → ReadsLeaves limit → (node : Node) (place : Position) (t o : List ℕ)
       → IsTokenAhead more o → IsBlockNode most_open node place t o → IsBlockNode most_open node place t (o ++ more)
-  node_further more leaves (Alias name) place t o ahead h = flow_further more most_open (Alias name) place t o ahead.fed
-  h
+  node_further more leaves (Alias name) place t o ahead h =
+      flow_further more most_open (Alias name) place t o ahead.fed h
   node_further more leaves (Scalar p style value) place t o ahead (inl (none, start, end)) =
       inl (none, start, eol_further more t o ahead.fed end)
   node_further more leaves (Scalar p style value) place t o ahead (inr (inl h)) =

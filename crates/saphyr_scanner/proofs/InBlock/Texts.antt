@@ -65,8 +65,8 @@ mutual
       → IsBlockNode most_open node place t o → EndsWithLine t o
   node_ends leaves (Alias name) place t o h = flow_ends most_open (Alias name) place t o h
   node_ends leaves (Scalar p style value) place t o (inl h) = left_out_ends (Scalar p style value) place t o h
-  node_ends leaves (Scalar p style value) place t o (inr (inl h)) = flow_ends most_open (Scalar p style value) place t o
-  h
+  node_ends leaves (Scalar p style value) place t o (inr (inl h)) =
+      flow_ends most_open (Scalar p style value) place t o h
   node_ends leaves (Scalar p style value) place t o (inr (inr (gap, front, scalar, gap_is, front_is, h, e))) =
       ends_so t (gap ++ (front ++ scalar)) o e
       (ends_back gap (front ++ scalar) o
