@@ -1,7 +1,6 @@
 use Rattle.std.proofs.Common.{◌≡◌, ℕ, ◌+◌, ◌<◌, [], ◌∷◌, Option, Some, None, refl, arith}
 use Rattle.std.specs.Prelude.{⊤, ◌==◌, if◌then◌else◌}
 use Rattle.std.proofs.Props.{props}
-use Rattle.saphyr_input.specs.Indicators.{left_bracket}
 use Rattle.saphyr_input.specs.Listed.{Lists, IsCallable}
 use Rattle.parser_tests.specs.declared.loading.Stutter.{Stutter}
 use Rattle.parser_tests.proofs.loading.cut_short.Goals as goal
@@ -38,7 +37,7 @@ lists_one s e = (
       (let few : s.place < 7 = omega arith in let h = step.1 few in omega arith),
 )
 
-lists_two : (s : Stutter) → s.place ≡ 3 → Lists (λ _. ⊤) gives s (left_bracket ∷ (49 ∷ []))
+lists_two : (s : Stutter) → s.place ≡ 3 → Lists (λ _. ⊤) gives s (91 ∷ (49 ∷ []))
 lists_two s e = (
   callable s,
   (
