@@ -1,4 +1,4 @@
-use Rattle.std.proofs.Common.{◌≡◌, subst}
+use Rattle.std.proofs.Common.{◌≡◌, ◌∙◌, subst}
 use Rattle.std.specs.Result.{OnOk}
 use Rattle.saphyr_parser.specs.Answer.{empty_answer}
 use Rattle.saphyr_parser.specs.Cursor.{to_come}
