@@ -1,9 +1,9 @@
 -- A list of all that is to come, when one item more is handed out.
 use Rattle.std.proofs.Common.{suc, ◌+◌, is_some, if◌then◌else◌, ◌≡◌, ℕ, ◌<◌, List, [], ◌∷◌, ◌++◌, map, drop, length, refl, sym, ap, ◌∙◌, subst, Option, Some, None, Result, Ok, Err, String, Global, string_bytes, inl, inr, arith}
 use Rattle.saphyr_scalar.specs.declared.scalar.position.Span.{Span}
-use Rattle.saphyr_parser.specs.declared.parser.event.Event.{Event}
-use Rattle.saphyr_parser.specs.declared.parser.fault.Fault.{Fault}
-use Rattle.saphyr_parser.specs.declared.parser.fault.Fault.TheVariants as fault
+use Rattle.saphyr_parser.specs.Types.Event.{Event}
+use Rattle.saphyr_parser.specs.Types.Fault.{Fault}
+use Rattle.saphyr_parser.specs.Types.Fault.TheVariants as fault
 use Rattle.saphyr_parser.specs.Events.{Happening}
 use Rattle.saphyr_parser.specs.Answer.{Answer, OutOfMemory, empty_answer, fault_alone, with_first_event}
 use Rattle.saphyr_parser.specs.Cursor.{HandsOutNext, Refuses, Stays, count, event_of}

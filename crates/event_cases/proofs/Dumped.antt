@@ -2,8 +2,8 @@
 use Rattle.std.proofs.Common.{◌≡◌, ℕ, ◌<◌, List, [], ◌∷◌, ◌++◌, length, refl, sym, ap, ◌∙◌, subst, Option, Some, None, Err, Ok, append_assoc, append-nil, arith, length-append, Bool, false, is_some, Result, Bor}
 use Rattle.std.specs.Prelude.{IfOk, option_map}
 use Rattle.case_files.specs.declared.difference.Difference.{Difference}
-use Rattle.saphyr_parser.specs.declared.parser.fault.Fault.{Fault}
-use Rattle.saphyr_parser.specs.declared.parser.fault.Fault.TheVariants as fault
+use Rattle.saphyr_parser.specs.Types.Fault.{Fault}
+use Rattle.saphyr_parser.specs.Types.Fault.TheVariants as fault
 use Rattle.saphyr_parser.specs.declared.printing.fault.DumpFault.TheVariants as dump
 use Rattle.saphyr_parser.specs.Answer.{Answer}
 use Rattle.saphyr_parser.specs.Printed.{printed_lines}

@@ -2,17 +2,17 @@
 use Rattle.std.proofs.Common.{◌≡◌, ℕ, ◌<◌, ◌≤◌, Bool, true, false, is_some, if◌then◌else◌, List, [], ◌∷◌, ◌++◌, map, drop, length, refl, sym, ap, ◌∙◌, subst, Option, Some, None, Result, Ok, Err, String, Global, string_bytes, inl, inr, ◌⊎◌, append_assoc, append-nil, arith, length-append}
 use Rattle.std.specs.Result.{OnOk}
 use Rattle.saphyr_scalar.specs.declared.scalar.position.Span.{Span}
-use Rattle.saphyr_parser.specs.declared.parser.fault.Fault.{Fault}
-use Rattle.saphyr_parser.specs.declared.parser.fault.Fault.TheVariants as fault
-use Rattle.saphyr_parser.specs.declared.parser.receiver.Refused.{Refused}
+use Rattle.saphyr_parser.specs.Types.Fault.{Fault}
+use Rattle.saphyr_parser.specs.Types.Fault.TheVariants as fault
+use Rattle.saphyr_parser.specs.Types.Refused.{Refused}
 use Rattle.saphyr_parser.specs.Events as events
 use Rattle.saphyr_parser.specs.Events.{Happening}
 use Rattle.saphyr_parser.specs.Answer.{Answer, Ending, empty_answer, fault_alone}
-use Rattle.saphyr_parser.specs.declared.parser.event.Event.{Event}
+use Rattle.saphyr_parser.specs.Types.Event.{Event}
 use Rattle.saphyr_parser.specs.Cursor.{EventCursor, HandsOutNext, Kept, IsKept, count, inside_behind, to_come, with_event_ahead, answer_behind}
 use Rattle.saphyr_parser.specs.Calls.{EndsTheStream}
 use Rattle.saphyr_parser.specs.Loading.{Portion, is_last, portion, portion_to_send, inside_over, Keeps, Tells, Sends, SendsOne, Stopped, Lost, Finished, Loads}
-use Rattle.saphyr_parser.proofs.Loading.{behind_first}
+use Rattle.saphyr_machine.proofs.HandedOver.{behind_first}
 use Rattle.case_files.specs.Lines.{Comparing, IsNext, PassesLine, event_line, line_of_fault, want_line}
 use Rattle.case_files.specs.Listings.{AreLinesOf, ListAll, lines_of_answer, lines_of_events}
 use Rattle.case_files.proofs.Listings.{hands_less, lists_before, lists_more}

@@ -1,6 +1,6 @@
 -- What the loader's answers say of a text.
 use Rattle.std.proofs.Common.{Result, Ok, Err, Vec, Global, inl, inr, string_bytes}
-use Rattle.saphyr_parser.specs.declared.parser.fault.Fault.TheVariants as parse
+use Rattle.saphyr_parser.specs.Types.Fault.TheVariants as parse
 use Rattle.saphyr_parser.specs.Answer.{Answer}
 use Rattle.yaml_tree.specs.declared.document.Document.{Document}
 use Rattle.yaml_tree.specs.declared.fault.TreeFault.{TreeFault}

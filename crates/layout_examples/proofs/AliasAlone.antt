@@ -4,14 +4,14 @@ use Rattle.std.proofs.Common.{◌∙◌, arith, codes, ap, subst, append_assoc, 
 use Rattle.saphyr_input.specs.Classes.{is_one_of, is_blank, is_anchor_char}
 use Rattle.saphyr_scalar.specs.Steps.BlockRead.{spaces}
 use Rattle.saphyr_scalar.specs.Spelling.Tag.{AreIn}
-use Rattle.saphyr_scalar.specs.Spelling.Spaces.{joined_pieces, AreEach, IsSeparationLine, IsSeparation}
+use Rattle.scalar_laws.specs.Spelling.Spaces.{joined_pieces, AreEach, IsSeparationLine, IsSeparation}
+use Rattle.scalar_laws.proofs.Beginnings.{heads, tails, behind_in, before_in, lacks}
 use Rattle.saphyr_scanner.specs.Grammar.Forest.{Style, Plain, SingleQuoted, DoubleQuoted, Literal, Folded, Properties}
 use Rattle.saphyr_scanner.specs.Grammar.Forest.{Node, Alias, Scalar, Seq, Map, Tag, NonSpecific, Verbatim, Shorthand}
 use Rattle.saphyr_scanner.specs.Grammar.Forest.{Handle, Primary, Secondary, Named}
-use Rattle.saphyr_scanner.specs.Grammar.TagSpelling.{IsHandle, IsTag}
-use Rattle.saphyr_scanner.specs.Grammar.FlowScalars.{begins_plain, IsFirstWord, IsFlowScalar}
-use Rattle.saphyr_scanner.specs.Grammar.FlowNodes.{AreProperties, IsScalarNode, IsOpening, IsFlowNode}
-use Rattle.saphyr_scanner.proofs.Beginnings.{heads, tails, behind_in, before_in, lacks}
+use Rattle.layout_laws.specs.Grammar.TagSpelling.{IsHandle, IsTag}
+use Rattle.layout_laws.specs.Grammar.FlowScalars.{begins_plain, IsFirstWord, IsFlowScalar}
+use Rattle.layout_laws.specs.Grammar.FlowNodes.{AreProperties, IsScalarNode, IsOpening, IsFlowNode}
 
 -- the characters of the text
 abbrev is_here : ℕ → Bool

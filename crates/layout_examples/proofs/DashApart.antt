@@ -3,11 +3,11 @@ use Rattle.std.proofs.Common.{◌≡◌, ℕ, ◌==◌, Bool, List, [], ◌++◌
 use Rattle.std.proofs.Common.{subst}
 use Rattle.saphyr_input.specs.Indicators.{hyphen}
 use Rattle.saphyr_scalar.specs.Spelling.Tag.{AreIn}
+use Rattle.scalar_laws.proofs.Beginnings.{heads, Begins, front_of, before_in, lacks}
 use Rattle.saphyr_scanner.specs.Grammar.Forest.{Style, Plain, SingleQuoted, DoubleQuoted, Literal, Folded, Properties}
 use Rattle.saphyr_scanner.specs.Grammar.Forest.{Node, Alias, Scalar, Seq, Map}
-use Rattle.saphyr_scanner.specs.Grammar.FlowScalars.{IsPlain, IsFlowScalar}
-use Rattle.saphyr_scanner.specs.Grammar.FlowNodes.{IsScalarNode, IsFlowNode, IsKeyText}
-use Rattle.saphyr_scanner.proofs.Beginnings.{heads, Begins, front_of, before_in, lacks}
+use Rattle.layout_laws.specs.Grammar.FlowScalars.{IsPlain, IsFlowScalar}
+use Rattle.layout_laws.specs.Grammar.FlowNodes.{IsScalarNode, IsFlowNode, IsKeyText}
 use Rattle.layout_examples.proofs.LayoutRefused.{IsPropertyMark, properties, before}
 use Rattle.layout_examples.proofs.NearMisses.{lone_dash}
 

@@ -3,7 +3,7 @@ use Rattle.std.proofs.Common.{ℕ, [], ◌∷◌, refl, codes}
 use Rattle.saphyr_scanner.specs.Examples.Forests.{plain_node}
 use Rattle.saphyr_scanner.specs.Grammar.Forest.{no_properties, Seq, Map, NoNode, MoreNodes, NoPair, MorePairs, left_out}
 use Rattle.saphyr_scanner.specs.Grammar.Forest.{bare}
-use Rattle.saphyr_scanner.specs.Grammar.Layout.{IsLayoutText}
+use Rattle.layout_laws.specs.Grammar.Layout.{IsLayoutText}
 use Rattle.layout_examples.proofs.Pieces.Spaces.{no_filler, filler, comment_line, text_end}
 use Rattle.layout_examples.proofs.Pieces.Scalars.{letter_a, letter_b, letter_c}
 use Rattle.layout_examples.proofs.Pieces.Block.{line, nothing, lead_at_start, behind_dash, sequence, dash, next_dash}

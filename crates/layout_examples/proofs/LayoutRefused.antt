@@ -6,19 +6,19 @@ use Rattle.saphyr_input.specs.Indicators.{comma, left_bracket}
 use Rattle.saphyr_input.specs.Classes.{is_blank}
 use Rattle.saphyr_scalar.specs.Steps.BlockRead.{spaces}
 use Rattle.saphyr_scalar.specs.Spelling.Tag.{AreIn}
-use Rattle.saphyr_scalar.specs.Spelling.Spaces.{AreEach, joined_pieces, IsSeparationLine, IsSeparation}
+use Rattle.scalar_laws.specs.Spelling.Spaces.{AreEach, joined_pieces, IsSeparationLine, IsSeparation}
+use Rattle.scalar_laws.proofs.Beginnings.{behind_first, heads, Begins, front_of}
 use Rattle.saphyr_scanner.specs.Grammar.Forest.{Style, Plain, SingleQuoted, DoubleQuoted, Literal, Folded, Handle}
 use Rattle.saphyr_scanner.specs.Grammar.Forest.{Primary, Secondary, Named, Tag, NonSpecific, Verbatim, Shorthand}
 use Rattle.saphyr_scanner.specs.Grammar.Forest.{Properties, Node, Alias, Scalar, Seq, Map, Nodes, NoNode, MoreNodes}
 use Rattle.saphyr_scanner.specs.Grammar.Forest.{NoPair, MorePairs, Document, Version, AreCompatible}
-use Rattle.saphyr_scanner.specs.Grammar.TagSpelling.{IsHandle, IsTag}
-use Rattle.saphyr_scanner.specs.Grammar.FlowScalars.{begins_plain, IsFirstWord, IsPlain, IsPlainKey, IsFlowScalar}
-use Rattle.saphyr_scanner.specs.Grammar.FlowNodes.{IsAnchor, AreProperties, IsBeforeContent, IsScalarNode}
-use Rattle.saphyr_scanner.specs.Grammar.FlowNodes.{IsPlainKeyNode, IsColonAndValue, IsSinglePairText, IsSinglePair}
-use Rattle.saphyr_scanner.specs.Grammar.FlowNodes.{IsOpening, IsBeforeColon, IsFlowNode, AreItems, IsPairItem}
-use Rattle.saphyr_scanner.specs.Grammar.BlockNodes.{IsBlockNode}
-use Rattle.saphyr_scanner.specs.Grammar.Layout.{IsBareDocument}
-use Rattle.saphyr_scanner.proofs.Beginnings.{behind_first, heads, Begins, front_of}
+use Rattle.layout_laws.specs.Grammar.TagSpelling.{IsHandle, IsTag}
+use Rattle.layout_laws.specs.Grammar.FlowScalars.{begins_plain, IsFirstWord, IsPlain, IsPlainKey, IsFlowScalar}
+use Rattle.layout_laws.specs.Grammar.FlowNodes.{IsAnchor, AreProperties, IsBeforeContent, IsScalarNode}
+use Rattle.layout_laws.specs.Grammar.FlowNodes.{IsPlainKeyNode, IsColonAndValue, IsSinglePairText, IsSinglePair}
+use Rattle.layout_laws.specs.Grammar.FlowNodes.{IsOpening, IsBeforeColon, IsFlowNode, AreItems, IsPairItem}
+use Rattle.layout_laws.specs.Grammar.BlockNodes.{IsBlockNode}
+use Rattle.layout_laws.specs.Grammar.Layout.{IsBareDocument}
 
 abbrev NoComma : List ℕ → Type 0
 NoComma t = Begins (λ c. c ≢ 44) t

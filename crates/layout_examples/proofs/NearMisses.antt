@@ -5,24 +5,24 @@ use Rattle.saphyr_input.specs.Classes.{is_blank, line_feed, space}
 use Rattle.scalar_values.specs.declared.block.Chomping.{Chomping}
 use Rattle.saphyr_scalar.specs.Steps.BlockRead.{spaces}
 use Rattle.scalar_values.specs.Block.{Line}
-use Rattle.saphyr_scalar.specs.Spelling.Block.{IsIndicator, no_digit, digit, IsChomping, strip, clip, keep, no_comment}
-use Rattle.saphyr_scalar.specs.Spelling.Block.{comment, IsHeader, digit_first, chomping_first, IsBlockScalar}
-use Rattle.saphyr_scalar.specs.Spelling.Block as block
-use Rattle.saphyr_scalar.specs.Spelling.Plain.{is_word_ink}
-use Rattle.saphyr_scalar.specs.Spelling.Spaces.{AreSpaces, IsLineRest, IsEol}
+use Rattle.scalar_laws.specs.Spelling.Block.{IsIndicator, no_digit, digit, IsChomping, strip, clip, keep, no_comment}
+use Rattle.scalar_laws.specs.Spelling.Block.{comment, IsHeader, digit_first, chomping_first, IsBlockScalar}
+use Rattle.scalar_laws.specs.Spelling.Block as block
+use Rattle.scalar_laws.specs.Spelling.Plain.{is_word_ink}
+use Rattle.scalar_laws.specs.Spelling.Spaces.{AreSpaces, IsLineRest, IsEol}
+use Rattle.scalar_laws.proofs.Beginnings.{no_feed_no_filler, heads, tails, Begins, behind_in, before_in, lacks}
+use Rattle.scalar_laws.proofs.Beginnings.{IsFirst, no_first, behind_filler}
 use Rattle.saphyr_scanner.specs.Grammar.Forest.{Properties, Node, Seq, Nodes, NoNode, MoreNodes}
-use Rattle.saphyr_scanner.specs.Grammar.FlowScalars.{begins_plain, IsFirstWord, IsPlain}
-use Rattle.saphyr_scanner.specs.Grammar.FlowNodes.{IsOnLine, IsFlowNode}
-use Rattle.saphyr_scanner.proofs.Beginnings.{no_feed_no_filler, heads, tails, Begins, behind_in, before_in, lacks}
-use Rattle.saphyr_scanner.proofs.Beginnings.{IsFirst, no_first, behind_filler}
-use Rattle.saphyr_scanner.specs.Grammar.BlockNodes.{BehindKey, IsBehindScalar, IsLead, IsEntryIndentation}
-use Rattle.saphyr_scanner.specs.Grammar.BlockNodes.{has_tab_ahead, IsImplicitPair, IsKeyAlone, IsBlockNode}
-use Rattle.saphyr_scanner.specs.Grammar.BlockNodes.{AreOtherEntries}
+use Rattle.layout_laws.specs.Grammar.FlowScalars.{begins_plain, IsFirstWord, IsPlain}
+use Rattle.layout_laws.specs.Grammar.FlowNodes.{IsOnLine, IsFlowNode}
+use Rattle.layout_laws.specs.Grammar.BlockNodes.{BehindKey, IsBehindScalar, IsLead, IsEntryIndentation}
+use Rattle.layout_laws.specs.Grammar.BlockNodes.{has_tab_ahead, IsImplicitPair, IsKeyAlone, IsBlockNode}
+use Rattle.layout_laws.specs.Grammar.BlockNodes.{AreOtherEntries}
 use Rattle.saphyr_input.specs.Places.{is_document_indicator}
 use Rattle.std.proofs.Math.Bool.{or-true}
 use Rattle.std.specs.Prelude.{◌||◌}
 use Rattle.saphyr_input.specs.Indicators.{colon, hyphen, number_sign, vertical_bar, plus_sign}
-use Rattle.saphyr_scanner.proofs.InBlock.TabsAhead.{last_none}
+use Rattle.layout_laws.proofs.InBlock.TabsAhead.{last_none}
 
 -- ## Plain scalars
 

@@ -4,22 +4,22 @@ use Rattle.std.proofs.Common.{◌∙◌, arith, codes, ap, subst, IsFalse}
 use Rattle.saphyr_input.specs.Indicators.{hyphen, percent_sign}
 use Rattle.saphyr_input.specs.Classes.{byte_order_mark, line_feed}
 use Rattle.saphyr_scalar.specs.Steps.BlockRead.{spaces}
-use Rattle.saphyr_scalar.specs.Spelling.Plain.{is_word_ink}
 use Rattle.saphyr_scalar.specs.Spelling.Tag.{AreIn}
-use Rattle.saphyr_scalar.specs.Spelling.Spaces.{IsFiller, IsFillerText, IsEol}
+use Rattle.scalar_laws.specs.Spelling.Plain.{is_word_ink}
+use Rattle.scalar_laws.specs.Spelling.Spaces.{IsFiller, IsFillerText, IsEol}
+use Rattle.scalar_laws.proofs.Beginnings.{heads, tails, Begins, front_of, behind_in, before_in, lacks, IsFirst}
+use Rattle.scalar_laws.proofs.Beginnings.{no_first, filler_text, behind_filler}
 use Rattle.saphyr_scanner.specs.Grammar.Forest.{Style, Plain, SingleQuoted, DoubleQuoted, Literal, Folded, Properties}
 use Rattle.saphyr_scanner.specs.Grammar.Forest.{Node, Alias, Scalar, Seq, Map, Nodes, NoNode, MoreNodes, Pairs, NoPair}
 use Rattle.saphyr_scanner.specs.Grammar.Forest.{MorePairs, left_out, Directive, Version, TagPrefix, Reserved, Document}
 use Rattle.saphyr_scanner.specs.Grammar.Forest.{Forest}
-use Rattle.saphyr_scanner.specs.Grammar.FlowScalars.{IsFirstWord, IsFlowScalar}
-use Rattle.saphyr_scanner.specs.Grammar.FlowNodes.{IsScalarNode, IsOpening, IsFlowNode}
-use Rattle.saphyr_scanner.specs.Grammar.BlockNodes.{Position, BehindDash, AtStart, BehindMarker, IsLead, IsFlowInBlock}
-use Rattle.saphyr_scanner.specs.Grammar.BlockNodes.{IsStyled, IsScalarInBlock, IsBlockNode, AreEntries, ArePairs}
-use Rattle.saphyr_scanner.specs.Grammar.Layout.{IsDirective, AreDirectives, has_marker, IsExplicitDocument, IsDocument}
-use Rattle.saphyr_scanner.specs.Grammar.Layout.{IsBehindDocument, AreDocuments, IsLayoutText}
-use Rattle.saphyr_scanner.proofs.Beginnings.{heads, tails, Begins, front_of, behind_in, before_in, lacks, IsFirst}
-use Rattle.saphyr_scanner.proofs.Beginnings.{no_first, filler_text, behind_filler}
-use Rattle.saphyr_scanner.proofs.Examples.MarkerAlone.{only}
+use Rattle.layout_laws.specs.Grammar.FlowScalars.{IsFirstWord, IsFlowScalar}
+use Rattle.layout_laws.specs.Grammar.FlowNodes.{IsScalarNode, IsOpening, IsFlowNode}
+use Rattle.layout_laws.specs.Grammar.BlockNodes.{Position, BehindDash, AtStart, BehindMarker, IsLead, IsFlowInBlock}
+use Rattle.layout_laws.specs.Grammar.BlockNodes.{IsStyled, IsScalarInBlock, IsBlockNode, AreEntries, ArePairs}
+use Rattle.layout_laws.specs.Grammar.Layout.{IsDirective, AreDirectives, has_marker, IsExplicitDocument, IsDocument}
+use Rattle.layout_laws.specs.Grammar.Layout.{IsBehindDocument, AreDocuments, IsLayoutText}
+use Rattle.layout_laws.proofs.Examples.MarkerAlone.{only}
 use Rattle.layout_examples.proofs.LayoutRefused.{properties, IsPropertyMark}
 
 abbrev is : ℕ → ℕ → Bool

@@ -6,14 +6,15 @@
 ghost use Rattle.std.specs.Prelude.{codes, ◌≡◌, ◌∷◌, ◌++◌, [], ℕ, suc, Bool, true, false, List, Some, None};
 ghost use Rattle.scalar_values.specs.declared.block.Chomping.{Chomping};
 ghost use Rattle.scalar_values.specs.Block.{Line};
-ghost use Rattle.saphyr_scalar.specs.Spelling.Block.{IsBlockScalar};
-ghost use Rattle.saphyr_scalar.specs.Spelling.Spaces.{IsEol};
+ghost use Rattle.scalar_laws.specs.Spelling.Block.{IsBlockScalar};
+ghost use Rattle.scalar_laws.specs.Spelling.Spaces.{IsEol};
 ghost use Rattle.saphyr_scanner.specs.Examples.Forests.{plain_node, double_quoted_node};
 ghost use Rattle.saphyr_scanner.specs.Grammar.Forest.{Plain, SingleQuoted, DoubleQuoted, Literal, Folded, Primary, Secondary, Named, Verbatim, Shorthand, NonSpecific, no_properties, Alias, Scalar, Seq, Map, NoNode, MoreNodes, NoPair, MorePairs, left_out, Version, TagPrefix, Reserved, bare, Document, Forest, Node, Nodes, Properties, AreCompatible};
-ghost use Rattle.saphyr_scanner.specs.Grammar.BlockNodes.{AreOtherEntries, BehindKey, IsBehindScalar, IsBlockNode, IsImplicitPair, IsKeyAlone, IsLead};
-ghost use Rattle.saphyr_scanner.specs.Grammar.FlowNodes.{AreItems, IsBeforeColon, IsFlowNode, IsKeyText};
-ghost use Rattle.saphyr_scanner.specs.Grammar.FlowScalars.{IsFirstWord, IsPlain};
-ghost use Rattle.saphyr_scanner.specs.Grammar.Layout.{IsBareDocument, IsLayoutText, most_open};
+ghost use Rattle.saphyr_scanner.specs.Limits.{most_open};
+ghost use Rattle.layout_laws.specs.Grammar.BlockNodes.{AreOtherEntries, BehindKey, IsBehindScalar, IsBlockNode, IsImplicitPair, IsKeyAlone, IsLead};
+ghost use Rattle.layout_laws.specs.Grammar.FlowNodes.{AreItems, IsBeforeColon, IsFlowNode, IsKeyText};
+ghost use Rattle.layout_laws.specs.Grammar.FlowScalars.{IsFirstWord, IsPlain};
+ghost use Rattle.layout_laws.specs.Grammar.Layout.{IsBareDocument, IsLayoutText};
 
 /// Texts in flow style, each with the forest that it stands for: collections, pairs, properties, and
 /// scalars on several lines.

@@ -1,9 +1,9 @@
 -- Where nothing is left, and where want of memory is, by what a parser shows and gives.
 use Rattle.std.proofs.Common.{◌≡◌, Bool, false, is_some, map, List, [], String, Global, string_bytes, sym, ap, ◌∙◌, Option, Some, None, Result, Ok, Err, Bor, inl, inr}
 use Rattle.saphyr_scalar.specs.declared.scalar.position.Span.{Span}
-use Rattle.saphyr_parser.specs.declared.parser.event.Event.{Event}
-use Rattle.saphyr_parser.specs.declared.parser.fault.Fault.{Fault}
-use Rattle.saphyr_parser.specs.declared.parser.fault.Fault.TheVariants as fault
+use Rattle.saphyr_parser.specs.Types.Event.{Event}
+use Rattle.saphyr_parser.specs.Types.Fault.{Fault}
+use Rattle.saphyr_parser.specs.Types.Fault.TheVariants as fault
 use Rattle.saphyr_parser.specs.Answer.{Answer, Ending, OutOfMemory, empty_answer, fault_alone}
 use Rattle.saphyr_parser.specs.Cursor.{HandsOutNext, Shows, Stays}
 use Rattle.case_files.specs.Listings.{ListAll, lines_of_answer}

@@ -5,6 +5,7 @@ use Rattle.std.specs.List.{prefix_len}
 use Rattle.std.proofs.lemmas.List.{drop-drop, get_or-drop, append-nil}
 use Rattle.std.proofs.Math.Seq.{take-suc}
 use Rattle.std.proofs.lemmas.Str.{encodes-append}
+use Rattle.saphyr_input.specs.Places.{TransfersRun}
 
 -- n characters of the run of p at the start were taken off, and `now` is left
 pub record Ran (p : ℕ → Bool) (start now : List ℕ) (n : ℕ) : Type 0 where
@@ -69,6 +70,11 @@ runs_more p start now after n c d loaded more z h r e read ready =
     let here : p (get_or now 0 0) ≡ true = rw (← r.read) h in
     record { ran = ran_more p start now after n z here e r.ran; read = read; ready = ready; countable = r.countable }
 
+-- a character that fails ends the loop
+pub runs_all : (p : ℕ → Bool) (start now : List ℕ) (n c loaded : ℕ) → p c ≡ false → TakesRun p start now n c loaded
+    → n ≡ prefix_len p start
+runs_all p start now n c loaded h r = ran_all p start now n (rw (← r.read) h) r.ran
+
 pub runs_text : (p : ℕ → Bool) (start now text grown pushed : List ℕ) (n c loaded : ℕ) → p 0 ≡ false → p c ≡ true
     → TakesRun p start now n c loaded
     → grown ≡ text ++ encode_utf8_all (take n start) → pushed ≡ grown ++ encode_utf8 c
@@ -77,3 +83,10 @@ runs_text p start now text grown pushed n c loaded z h r e f =
     let here : p (get_or now 0 0) ≡ true = rw (← r.read) h in
     let same : pushed ≡ grown ++ encode_utf8 (get_or now 0 0) = rw (← r.read) f in
     text_more p start now text grown pushed n z here r.ran e same
+
+-- where the loop ends, the run was moved to the text
+pub transfers_all : (p : ℕ → Bool) (start now text grown : List ℕ) (n c loaded : ℕ) → p c ≡ false
+    → TakesRun p start now n c loaded → grown ≡ text ++ encode_utf8_all (take n start)
+    → TransfersRun p n start now text grown
+transfers_all p start now text grown n c loaded h r e =
+    record { count = runs_all p start now n c loaded h r; transfers = record { taken = r.ran.left; appended = e } }

@@ -1,19 +1,40 @@
 -- How long white space and its comment are, told at the end of the white space.
-use Rattle.std.proofs.Common.{◌≡◌, ℕ, ◌+◌, ◌<◌, ◌^◌, Bool, true, false, List, take, refl, cond, arith, nat_eq}
+use Rattle.std.proofs.Common.{◌≡◌, ℕ, ◌+◌, ◌<◌, ◌^◌, Bool, true, false, List, length, take, get_or, refl, sym, ap, ◌∙◌, cond, arith, nat_eq, ◌||◌, add-zero}
 use Rattle.std.specs.List.{prefix_len, list_any}
+use Rattle.std.proofs.lemmas.List.{get_or-drop}
+use Rattle.std.proofs.lemmas.List.Folds.{list_any_more}
 use Rattle.std.proofs.lemmas.List.Sums.{prefix_len-le-length}
 use Rattle.std.proofs.lemmas.Bool.Decides.{nat_tests}
 use Rattle.saphyr_input.specs.Indicators.{number_sign}
 use Rattle.saphyr_input.specs.Classes as class
 use Rattle.saphyr_input.specs.Separation as separation
 use Rattle.saphyr_input.specs.declared.input.SkipTabs.{SkipTabs}
-use Rattle.saphyr_input.proofs.Runs.{TakesRun, ran_all}
+use Rattle.saphyr_input.specs.declared.input.SkipTabs.TheVariants.{Yes, No, Result}
+use Rattle.saphyr_input.proofs.Runs.{TakesRun, goes, runs_all}
+
+-- nothing skips NUL
+pub skips_no_nul : (tabs : SkipTabs) → separation.is_skipped tabs 0 ≡ false
+skips_no_nul Yes = refl
+skips_no_nul No = refl
+skips_no_nul (Result _ _) = refl
+
+-- whether one was met, with one character more
+pub met_more : (p test : ℕ → Bool) (start now : List ℕ) (n c loaded : ℕ) (met : Bool) → p 0 ≡ false → p c ≡ true
+    → TakesRun p start now n c loaded → met ≡ list_any test (take n start)
+    → (met || test c) ≡ list_any test (take (n + 1) start)
+met_more p test start now n c loaded met z h r e =
+    let here : p (get_or now 0 0) ≡ true = rw (← r.read) h in
+    let one = goes p now z here in
+    let lt : n < length start = omega (arith, one.total, r.ran.total) in
+    let same : c ≡ get_or start n 0 = r.read ∙ ap (λ (xs : List ℕ). get_or xs 0 0) r.ran.left
+    ∙ get_or-drop n start 0 0 ∙ ap (λ (i : ℕ). get_or start i 0) (add-zero n) in
+    rw (e, same) (sym (list_any_more test start n 0 lt))
 
 module _ (tabs : SkipTabs) (start now : List ℕ) (n c loaded : ℕ)
     (runs : TakesRun (separation.is_skipped tabs) start now n c loaded)
     (stops : separation.is_skipped tabs c ≡ false) where
   ended : n ≡ separation.blank_len tabs start
-  ended = ran_all (separation.is_skipped tabs) start now n (rw (← runs.read) stops) runs.ran
+  ended = runs_all (separation.is_skipped tabs) start now n c loaded stops runs
 
   told : separation.separation_len tabs start
       ≡ cond (nat_eq n 0) 0 (n + cond (nat_eq c 35) (prefix_len class.is_yaml_non_break now) 0)

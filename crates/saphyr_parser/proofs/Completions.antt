@@ -5,11 +5,11 @@ use Rattle.saphyr_scanner.specs.Grammar.Forest as forest
 use Rattle.saphyr_scanner.specs.Grammar.Forest.{NoNode, NoPair}
 use Rattle.saphyr_scanner.specs.Grammar.Tokens.{Kind, StreamStart, StreamEnd, BlockEnd, BlockEntry, FlowSequenceEnd, FlowMappingEnd, Value, scalar_token}
 use Rattle.saphyr_scanner.specs.Grammar.TokenGrammar.{InFlow, InBlock, InBlockMapping}
-use Rattle.saphyr_parser.specs.declared.parser.state.State.{State}
-use Rattle.saphyr_parser.specs.declared.parser.state.State.TheVariants as state
+use Rattle.saphyr_machine.specs.declared.state.State.{State}
+use Rattle.saphyr_machine.specs.declared.state.State.TheVariants as state
 use Rattle.saphyr_parser.specs.Anchors.{one_more_anchor, anchor_of, anchors}
 use Rattle.saphyr_parser.specs.Preorder.{Part, OpenStream, CloseStream, CloseDocument, Leaf, CloseSequence, CloseMapping}
-use Rattle.saphyr_parser.specs.Events.{Happening}
+use Rattle.saphyr_machine.specs.Events.{Happening}
 use Rattle.saphyr_parser.specs.ForestEvents.{first_and_others}
 use Rattle.saphyr_parser.proofs.Told.Telling.{Memory}
 use Rattle.saphyr_parser.proofs.Remembering.{after, event_in, events_in}

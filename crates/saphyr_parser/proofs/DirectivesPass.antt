@@ -7,9 +7,9 @@ use Rattle.saphyr_scalar.specs.declared.scalar.fault.FaultText.TheVariants as fa
 use Rattle.saphyr_scanner.specs.Grammar.Forest.{handle_bytes, Directive, Version, TagPrefix, Reserved, GoesWith, GoesWithAll, AreCompatible}
 use Rattle.saphyr_scanner.specs.Grammar.Tokens.{Kind, DocumentStart, directive_token}
 use Rattle.saphyr_scanner.specs.Grammar.TokenGrammar.{AreMarks, AreEndsAndMarks}
-use Rattle.saphyr_parser.specs.declared.parser.state.State.{State}
-use Rattle.saphyr_parser.specs.Steps.Machine.{◌>>=◌, Machine, with_meaning, is_listed, with_name}
-use Rattle.saphyr_parser.specs.Steps.Documents.{is_mark, is_end_or_mark, unpassed_token_from, unpassed_token, Declared, none_declared, directives_from, directives}
+use Rattle.saphyr_machine.specs.declared.state.State.{State}
+use Rattle.saphyr_machine.specs.Steps.Machine.{◌>>=◌, Machine, with_meaning, is_listed, with_name}
+use Rattle.saphyr_machine.specs.Steps.Documents.{is_mark, is_end_or_mark, unpassed_token_from, unpassed_token, Declared, none_declared, directives_from, directives}
 use Rattle.saphyr_parser.proofs.Told.Telling.{SpansByKinds, Memory, dressed, at}
 use Rattle.saphyr_parser.proofs.Remembering.{declaring}
 use Rattle.saphyr_parser.proofs.NameLaws.{still_unlisted}

@@ -1,10 +1,3 @@
-pub mod Names
-pub mod Stacks
-pub mod Passing
-pub mod Walk
-pub mod Sizes
-pub mod Unroll
-pub mod Turns
 pub mod Promises
 pub mod Told
 pub mod Remembering
@@ -19,8 +12,6 @@ pub mod Latest
 pub mod Printed
 pub mod Calls
 pub mod Settings
-pub mod Loading
-pub mod Copies
 pub mod Turned
 pub mod OwnTokens
 pub mod Completions

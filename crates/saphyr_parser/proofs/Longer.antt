@@ -4,12 +4,12 @@ use Rattle.saphyr_scalar.specs.declared.scalar.fault.Refusal.{Refusal}
 use Rattle.saphyr_scanner.specs.Grammar.Tokens as tokens
 use Rattle.saphyr_scanner.specs.Grammar.Tokens.{Kind}
 use Rattle.saphyr_scanner.specs.Views.Tokens.{Piece, Remaining}
-use Rattle.saphyr_parser.specs.declared.parser.state.State.{State}
-use Rattle.saphyr_parser.specs.declared.parser.state.State.TheVariants as state
+use Rattle.saphyr_machine.specs.declared.state.State.{State}
+use Rattle.saphyr_machine.specs.declared.state.State.TheVariants as state
 use Rattle.saphyr_parser.specs.Premises.{DocumentMarker, Starts, Ends}
-use Rattle.saphyr_parser.specs.Steps.Machine.{Machine, Told, ending_refusal, with_pieces}
-use Rattle.saphyr_parser.specs.Steps.Documents.{unpassed_token, implicit_start, explicit_start}
-use Rattle.saphyr_parser.specs.Steps.Expected.{event_step_at}
+use Rattle.saphyr_machine.specs.Steps.Machine.{Machine, Told, ending_refusal, with_pieces}
+use Rattle.saphyr_machine.specs.Steps.Documents.{unpassed_token, implicit_start, explicit_start}
+use Rattle.saphyr_machine.specs.Steps.Expected.{event_step_at}
 use Rattle.saphyr_parser.specs.More.{with_more}
 use Rattle.saphyr_parser.proofs.Beside.Machines.{Awaits, Beside, Behind, Left, With, TellsAlike}
 use Rattle.saphyr_parser.proofs.Beside.Documents.{IsBetweenDocuments, PassedAll, steps_beside}

@@ -6,13 +6,13 @@ use Rattle.std.specs.Str.{bytes_eq}
 use Rattle.std.proofs.lemmas.Slice.Eq.{bytes_eq-Decides}
 use Rattle.saphyr_scanner.specs.Grammar.Forest.{Handle, handle_bytes, Tag, NonSpecific, Verbatim, Shorthand, Properties, Directive, Version, TagPrefix, Reserved, GoesWithAll, AreCompatible}
 use Rattle.saphyr_parser.specs.Preorder.{Part, OpenStream, CloseStream, OpenDocument, CloseDocument, Reference, Leaf, OpenSequence, CloseSequence, OpenMapping, CloseMapping, opens_document, directives_of}
-use Rattle.saphyr_parser.specs.Events.{Happening, ResolvedTag, Alias, Scalar, SequenceStart, MappingStart}
+use Rattle.saphyr_machine.specs.Events.{Happening, ResolvedTag, Alias, Scalar, SequenceStart, MappingStart}
 use Rattle.saphyr_parser.specs.Anchors.{anchor_of, one_more_anchor, anchors, is_named, latest_id}
 use Rattle.saphyr_parser.specs.Anchors as part
 use Rattle.saphyr_parser.specs.TagResolution.{prefix_in, prefix_declared_for, default_prefix}
 use Rattle.saphyr_parser.specs.TagResolution as tag
 use Rattle.saphyr_parser.specs.ForestEvents.{first_and_others, event_of_part, events_behind}
-use Rattle.saphyr_parser.specs.Steps.Machine.{Names, meaning, with_meaning, next_id}
+use Rattle.saphyr_machine.specs.Steps.Machine.{Names, meaning, with_meaning, next_id}
 use Rattle.saphyr_parser.proofs.Told.Telling.{Memory}
 use Rattle.saphyr_parser.proofs.Remembering.{noted, declaring, after, own_id_in, resolve, resolve_any, with_properties, event_in, events_in}
 use Rattle.saphyr_parser.proofs.NameLaws.{different, given_meaning}

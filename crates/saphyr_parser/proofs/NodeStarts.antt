@@ -9,15 +9,15 @@ use Rattle.saphyr_scanner.specs.Grammar.Tokens.{Kind, alias_token, anchor_token,
 use Rattle.saphyr_scanner.specs.Grammar.TokenGrammar as grammar
 use Rattle.saphyr_scanner.specs.Grammar.TokenGrammar.{InFlow, InBlock, InBlockMapping, AllowsBlock, IsInBlockMapping, AreBoth, YieldsOptional, YieldsNode}
 use Rattle.saphyr_scanner.specs.Views.Tokens.{Piece}
-use Rattle.saphyr_parser.specs.declared.parser.context.NodeContext.{NodeContext}
-use Rattle.saphyr_parser.specs.declared.parser.context.NodeContext.TheVariants.{Flow, Block, BlockMapping}
-use Rattle.saphyr_parser.specs.declared.parser.state.State.{State}
-use Rattle.saphyr_parser.specs.declared.parser.state.State.TheVariants.{End}
+use Rattle.saphyr_machine.specs.declared.context.NodeContext.{NodeContext}
+use Rattle.saphyr_machine.specs.declared.context.NodeContext.TheVariants.{Flow, Block, BlockMapping}
+use Rattle.saphyr_machine.specs.declared.state.State.{State}
+use Rattle.saphyr_machine.specs.declared.state.State.TheVariants.{End}
 use Rattle.saphyr_parser.specs.Preorder.{Part, Leaf, node_parts}
-use Rattle.saphyr_parser.specs.Steps.Machine.{Machine, told_event, empty_scalar}
-use Rattle.saphyr_parser.specs.Steps.Nodes as steps
-use Rattle.saphyr_parser.specs.Steps.Nodes.{node_without_content, node_content_at}
-use Rattle.saphyr_parser.specs.Steps.Expected.{event_step}
+use Rattle.saphyr_machine.specs.Steps.Machine.{Machine, told_event, empty_scalar}
+use Rattle.saphyr_machine.specs.Steps.Nodes as steps
+use Rattle.saphyr_machine.specs.Steps.Nodes.{node_without_content, node_content_at}
+use Rattle.saphyr_machine.specs.Steps.Expected.{event_step}
 use Rattle.saphyr_parser.proofs.Told.Telling.{SpansByKinds, Memory, at}
 use Rattle.saphyr_parser.proofs.Remembering.{after_node, SaysParts, TellsParts, plainly}
 use Rattle.saphyr_parser.proofs.Told.Nodes.{next_node, IsContentKind}

@@ -5,8 +5,8 @@ use Rattle.saphyr_scalar.specs.declared.scalar.position.Span.{Span}
 use Rattle.saphyr_scalar.specs.declared.scalar.style.ScalarStyle.TheVariants.{Plain}
 use Rattle.saphyr_scanner.specs.Grammar.Tokens.{Kind, BlockEntry}
 use Rattle.saphyr_scanner.specs.Views.Tokens.{Piece}
-use Rattle.saphyr_parser.specs.Events.{Happening, Scalar}
-use Rattle.saphyr_parser.specs.Steps.Nodes.{NodeProperties}
+use Rattle.saphyr_machine.specs.Events.{Happening, Scalar}
+use Rattle.saphyr_machine.specs.Steps.Nodes.{NodeProperties}
 use Rattle.saphyr_parser.specs.EventsTaken.{BelongsToNone, IsAnchorKind, IsTagKind, ArePropertyTokens, SpansAll, AreContentTokens, BeginsEntries, IsOf, HaveTokens}
 use Rattle.saphyr_parser.specs.EventsTaken as taking
 

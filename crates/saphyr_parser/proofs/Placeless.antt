@@ -6,10 +6,10 @@ use Rattle.saphyr_scalar.specs.declared.scalar.fault.Refusal.{Refusal}
 use Rattle.saphyr_scanner.specs.Grammar.Tokens as tokens
 use Rattle.saphyr_scanner.specs.Grammar.Tokens.{Kind}
 use Rattle.saphyr_scanner.specs.Views.Tokens.{Piece, Remaining}
-use Rattle.saphyr_parser.specs.declared.parser.state.State.{State}
-use Rattle.saphyr_parser.specs.declared.parser.state.State.TheVariants as state
-use Rattle.saphyr_parser.specs.Steps.Machine.{Machine, Told}
-use Rattle.saphyr_parser.specs.Steps.Expected.{event_step_at}
+use Rattle.saphyr_machine.specs.declared.state.State.{State}
+use Rattle.saphyr_machine.specs.declared.state.State.TheVariants as state
+use Rattle.saphyr_machine.specs.Steps.Machine.{Machine, Told}
+use Rattle.saphyr_machine.specs.Steps.Expected.{event_step_at}
 use Rattle.saphyr_parser.proofs.Beside.Machines.{Beside, Behind, Left, TellsAlike}
 use Rattle.saphyr_parser.proofs.Beside.Documents.{steps_beside, IsBetweenDocuments, PassedAll}
 use Rattle.saphyr_parser.proofs.Beside.Maps.{placed, expected, puts, becomes, tells_so}

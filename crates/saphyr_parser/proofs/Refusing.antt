@@ -9,13 +9,13 @@ use Rattle.saphyr_scanner.specs.Views.Tokens.{Piece, Remaining}
 use Rattle.saphyr_scanner.specs.AtPlaces.{AreAtPlaces}
 use Rattle.saphyr_scanner.specs.TokensTaken as taken
 use Rattle.saphyr_scanner.specs.TokensTaken.{IsPlaceOf}
-use Rattle.saphyr_parser.specs.declared.parser.state.State.TheVariants as state
-use Rattle.saphyr_parser.specs.Steps.Machine.{Machine, ending_refusal}
-use Rattle.saphyr_parser.specs.Answer.{Ending, remaining_answer, machine_size}
-use Rattle.saphyr_parser.specs.Cursor.{at_start, keeping_tags, to_come}
+use Rattle.saphyr_machine.specs.declared.state.State.TheVariants as state
+use Rattle.saphyr_machine.specs.Steps.Machine.{Machine, ending_refusal}
+use Rattle.saphyr_machine.specs.Answer.{Ending, remaining_answer, machine_size}
+use Rattle.saphyr_machine.specs.Cursor.{at_start, keeping_tags, to_come}
 use Rattle.saphyr_parser.specs.EventsTaken.{HasPlaceIn}
-use Rattle.saphyr_parser.proofs.Walk.Steps.{is_end, Walk}
-use Rattle.saphyr_parser.proofs.Walk.All.{Resumes, IsFailed, runs}
+use Rattle.saphyr_machine.proofs.Walk.Steps.{is_end, Walk}
+use Rattle.saphyr_machine.proofs.Walk.All.{Resumes, IsFailed, runs}
 
 -- a refusal with such a place
 abbrev pub IsRefusedAt : (Marker → Type 0) → Option Refusal → Type 0

@@ -6,16 +6,16 @@ use Rattle.saphyr_scalar.specs.declared.scalar.fault.Refusal.{Refusal}
 use Rattle.saphyr_scanner.specs.Grammar.Tokens as tokens
 use Rattle.saphyr_scanner.specs.Grammar.Tokens.{Kind}
 use Rattle.saphyr_scanner.specs.Views.Tokens.{Piece, Remaining}
-use Rattle.saphyr_parser.specs.declared.parser.state.State.{State}
-use Rattle.saphyr_parser.specs.declared.parser.state.State.TheVariants as state
-use Rattle.saphyr_parser.specs.Events as events
-use Rattle.saphyr_parser.specs.Events.{Happening}
-use Rattle.saphyr_parser.specs.Steps.Machine.{◌>>=◌, Machine, Told, ending_refusal}
-use Rattle.saphyr_parser.specs.Steps.Documents as document
-use Rattle.saphyr_parser.specs.Steps.Expected.{event_step, event_step_at}
-use Rattle.saphyr_parser.specs.Cursor.{EventCursor, Kept, keeping_tags}
-use Rattle.saphyr_parser.specs.Calls.{Advances}
-use Rattle.saphyr_parser.specs.Steps.Settings.{with_keep_tags, with_setting}
+use Rattle.saphyr_machine.specs.declared.state.State.{State}
+use Rattle.saphyr_machine.specs.declared.state.State.TheVariants as state
+use Rattle.saphyr_machine.specs.Events as events
+use Rattle.saphyr_machine.specs.Events.{Happening}
+use Rattle.saphyr_machine.specs.Steps.Machine.{◌>>=◌, Machine, Told, ending_refusal}
+use Rattle.saphyr_machine.specs.Steps.Documents as document
+use Rattle.saphyr_machine.specs.Steps.Expected.{event_step, event_step_at}
+use Rattle.saphyr_machine.specs.Cursor.{EventCursor, Kept, keeping_tags}
+use Rattle.saphyr_machine.specs.Calls.{Advances}
+use Rattle.saphyr_parser.specs.Settings.{with_keep_tags, with_setting}
 use Rattle.saphyr_parser.proofs.Beside.Machines.{Beside, Behind, Left, TellsAlike}
 use Rattle.saphyr_parser.proofs.Beside.Documents.{IsBetweenDocuments, PassedAll, steps_beside}
 use Rattle.saphyr_parser.proofs.Beside.Maps.{becomes, tells_so, stay, still_expected, leaves}

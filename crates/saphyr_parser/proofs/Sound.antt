@@ -8,23 +8,23 @@ use Rattle.saphyr_scanner.specs.Grammar.Forest.{Forest}
 use Rattle.saphyr_scanner.specs.Grammar.Tokens.{Kind}
 use Rattle.saphyr_scanner.specs.Views.Tokens.{Piece, Remaining}
 use Rattle.saphyr_scanner.specs.Grammar.TokenGrammar.{Yields}
-use Rattle.saphyr_parser.specs.declared.parser.state.State.{State}
-use Rattle.saphyr_parser.specs.declared.parser.state.State.TheVariants as state
+use Rattle.saphyr_machine.specs.declared.state.State.{State}
+use Rattle.saphyr_machine.specs.declared.state.State.TheVariants as state
 use Rattle.saphyr_parser.specs.Anchors.{one_more_anchor, anchor_of, anchors}
 use Rattle.saphyr_parser.specs.Preorder.{Part, parts}
-use Rattle.saphyr_parser.specs.Events.{Happening}
+use Rattle.saphyr_machine.specs.Events.{Happening}
 use Rattle.saphyr_parser.specs.ForestEvents.{first_and_others, events}
 use Rattle.saphyr_parser.specs.Exactly.{kinds}
-use Rattle.saphyr_parser.specs.Steps.Machine.{Machine, Told}
-use Rattle.saphyr_parser.specs.Steps.Expected.{event_step, event_step_at}
-use Rattle.saphyr_parser.specs.Answer.{Answer, empty_answer, with_first_event, ending_of, fault_alone, answer_of_step, remaining_answer, machine_size}
-use Rattle.saphyr_parser.specs.Cursor.{at_start, keeping_tags, to_come}
+use Rattle.saphyr_machine.specs.Steps.Machine.{Machine, Told}
+use Rattle.saphyr_machine.specs.Steps.Expected.{event_step, event_step_at}
+use Rattle.saphyr_machine.specs.Answer.{Answer, empty_answer, with_first_event, ending_of, fault_alone, answer_of_step, remaining_answer, machine_size}
+use Rattle.saphyr_machine.specs.Cursor.{at_start, keeping_tags, to_come}
 use Rattle.saphyr_parser.specs.WellFormed.{AreWellFormed}
 use Rattle.saphyr_parser.proofs.Told.Telling.{Memory}
 use Rattle.saphyr_parser.proofs.Remembering.{after, event_in, events_in}
 use Rattle.saphyr_parser.proofs.MemoryFits.{Within, same_events}
 use Rattle.saphyr_parser.proofs.Promises.Forests.{documents_within, all_compatible, at_first, fits_start}
-use Rattle.saphyr_parser.proofs.Unroll.{unroll, over, shrinks_at}
+use Rattle.saphyr_machine.proofs.Unroll.{unroll, over, shrinks_at}
 use Rattle.saphyr_parser.proofs.Turned.Following.{IsAlive, IsOutside, IsInsideDocument}
 use Rattle.saphyr_parser.proofs.Turned.Turning.{machine, memory, Goes, Turned, weaker, kinds_append}
 use Rattle.saphyr_parser.proofs.Turned.Entries.{Wanted}

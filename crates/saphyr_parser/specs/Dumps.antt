@@ -2,13 +2,13 @@
 use Rattle.std.specs.Prelude.{◌≡◌, ℕ, ◌<◌, length, List, ◌∷◌, ◌++◌, Option, Some, None, Result, Ok, Err, string_bytes}
 use Rattle.std.specs.Io.KnownBytes.{Appends}
 use Rattle.saphyr_scalar.specs.declared.scalar.position.Span.{Span}
-use Rattle.saphyr_parser.specs.declared.parser.fault.Fault.TheVariants as fault
+use Rattle.saphyr_machine.specs.declared.fault.Fault.TheVariants as fault
 use Rattle.saphyr_parser.specs.declared.printing.fault.DumpFault.{DumpFault}
 use Rattle.saphyr_parser.specs.declared.printing.fault.DumpFault.TheVariants as dump
-use Rattle.saphyr_parser.specs.Events.{Happening}
-use Rattle.saphyr_parser.specs.Answer.{Answer, Refused, empty_answer}
-use Rattle.saphyr_parser.specs.Cursor.{EventCursor, count, to_come}
-use Rattle.saphyr_parser.specs.Calls.{Advances, AdvancesOver, FailsWith, IsOver}
+use Rattle.saphyr_machine.specs.Events.{Happening}
+use Rattle.saphyr_machine.specs.Answer.{Answer, Refused, empty_answer}
+use Rattle.saphyr_machine.specs.Cursor.{EventCursor, count, to_come}
+use Rattle.saphyr_machine.specs.Calls.{Advances, AdvancesOver, FailsWith, IsOver}
 use Rattle.saphyr_parser.specs.Printed.{printed_line, printed_lines}
 use Rattle.saphyr_parser.specs.Written.{TakesSome}
 

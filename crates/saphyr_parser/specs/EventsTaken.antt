@@ -11,9 +11,9 @@ use Rattle.saphyr_scanner.specs.Grammar.Tokens.{Kind}
 use Rattle.saphyr_scanner.specs.Views.Tokens.{Piece, Remaining}
 use Rattle.saphyr_scanner.specs.Grammar.TokenGrammar.{Yields}
 use Rattle.saphyr_scanner.specs.TokensTaken.{IsPlaceOf, AreTakenFrom}
-use Rattle.saphyr_parser.specs.Events.{Happening, DocumentStart, Alias, Scalar, SequenceStart, MappingStart}
+use Rattle.saphyr_machine.specs.Events.{Happening, DocumentStart, Alias, Scalar, SequenceStart, MappingStart}
 use Rattle.saphyr_parser.specs.ForestEvents.{events}
-use Rattle.saphyr_parser.specs.Answer.{Ending, Refused, Answer}
+use Rattle.saphyr_machine.specs.Answer.{Ending, Refused, Answer}
 use Rattle.saphyr_parser.specs.Exactly.{kinds}
 
 -- ## The spans of events

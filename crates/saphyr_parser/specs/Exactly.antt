@@ -3,9 +3,9 @@ use Rattle.std.specs.Prelude.{◌≡◌, Bool, List, map, None, is_some}
 use Rattle.saphyr_scalar.specs.declared.scalar.position.Span.{Span}
 use Rattle.saphyr_scanner.specs.Grammar.Tokens.{Kind}
 use Rattle.saphyr_scanner.specs.Views.Tokens.{Piece}
-use Rattle.saphyr_parser.specs.Events.{Happening}
-use Rattle.saphyr_parser.specs.Steps.Machine.{fresh_machine}
-use Rattle.saphyr_parser.specs.Answer.{Answer, remaining_answer}
+use Rattle.saphyr_machine.specs.Events.{Happening}
+use Rattle.saphyr_machine.specs.Steps.Machine.{fresh_machine}
+use Rattle.saphyr_machine.specs.Answer.{Answer, remaining_answer}
 
 -- these events, whatever their spans, and no fault
 abbrev pub GivesExactly : List Happening → Answer → Type 0

@@ -2,11 +2,11 @@
 use Rattle.std.specs.Prelude.{◌≡◌, ◌⊎◌, List, ◌++◌, Option, Some}
 use Rattle.saphyr_scalar.specs.declared.scalar.position.Span.{Span}
 use Rattle.saphyr_scalar.specs.declared.scalar.fault.Refusal.{Refusal}
-pub use Rattle.saphyr_scanner.specs.Grammar.ClosedTexts.{marker_token}
 use Rattle.saphyr_scanner.specs.Views.Tokens.{Piece}
-use Rattle.saphyr_parser.specs.Events.{Happening}
-use Rattle.saphyr_parser.specs.Steps.Machine.{Machine}
-use Rattle.saphyr_parser.specs.Answer.{Answer, ending_of}
+use Rattle.saphyr_machine.specs.Events.{Happening}
+use Rattle.saphyr_machine.specs.Steps.Machine.{Machine}
+use Rattle.saphyr_machine.specs.Answer.{Answer, ending_of}
+pub use Rattle.layout_laws.specs.Grammar.ClosedTexts.{marker_token}
 
 -- more tokens stand behind those of the machine, and the refusal ends them all
 abbrev pub with_more : List Piece → Option Refusal → Machine → Machine

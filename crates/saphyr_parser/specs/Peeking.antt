@@ -5,11 +5,11 @@ use Rattle.std.specs.Io.BufRead.{Rests}
 use mir.Syntax.{named}
 use Rattle.saphyr_scalar.specs.declared.scalar.position.Span.{Span}
 use Rattle.saphyr_input.specs.declared.input.Input.{Ghosts}
-use Rattle.saphyr_parser.specs.declared.parser.event.Event.{Event}
-use Rattle.saphyr_parser.specs.declared.parser.fault.Fault.{Fault}
-use Rattle.saphyr_parser.specs.contracts.parser.cursor.Parser.{the_row}
-use Rattle.saphyr_parser.specs.Cursor.{EventCursor}
-use Rattle.saphyr_parser.specs.Calls.{Peeks}
+use Rattle.saphyr_machine.specs.declared.event.Event.{Event}
+use Rattle.saphyr_machine.specs.declared.fault.Fault.{Fault}
+use Rattle.saphyr_parser.specs.contracts.cursor.Parser.{the_row}
+use Rattle.saphyr_machine.specs.Cursor.{EventCursor}
+use Rattle.saphyr_machine.specs.Calls.{Peeks}
 
 -- The parser lends what comes next, and is then as `Peeks` says. S is its input's type.
 abbrev pub LendsNext : (S : RattleType) (g : Ghosts S.Denot) → MutBor EventCursor

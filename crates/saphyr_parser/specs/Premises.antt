@@ -3,12 +3,12 @@ use Rattle.std.specs.Prelude.{◌≡◌, ◌≤◌, ℕ, Bool, true, List, [], �
 use Rattle.saphyr_input.specs.Breaks.{normalized}
 use Rattle.saphyr_scalar.specs.declared.scalar.position.Span.{Span}
 use Rattle.saphyr_scanner.specs.Grammar.Forest.{Forest}
-pub use Rattle.saphyr_scanner.specs.Grammar.ClosedTexts.{DocumentMarker, Starts, Ends, EndsWithMarker}
-use Rattle.saphyr_parser.specs.Events.{Happening, StreamEnd, DocumentStart, DocumentEnd}
-use Rattle.saphyr_parser.specs.Steps.Machine.{empty_scalar}
+pub use Rattle.layout_laws.specs.Grammar.ClosedTexts.{DocumentMarker, Starts, Ends, EndsWithMarker}
+use Rattle.saphyr_machine.specs.Events.{Happening, StreamEnd, DocumentStart, DocumentEnd}
+use Rattle.saphyr_machine.specs.Steps.Machine.{empty_scalar}
 use Rattle.saphyr_parser.specs.ForestEvents.{events}
-use Rattle.saphyr_parser.specs.Answer.{Answer}
-use Rattle.saphyr_parser.specs.Cursor.{EventCursor, keeping_tags, to_come}
+use Rattle.saphyr_machine.specs.Answer.{Answer}
+use Rattle.saphyr_machine.specs.Cursor.{EventCursor, keeping_tags, to_come}
 use Rattle.saphyr_parser.specs.Exactly.{GivesExactly}
 
 -- A relation of forests and texts, such as a grammar. How many flow collections may be open at once is a part of it.

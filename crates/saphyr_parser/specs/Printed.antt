@@ -5,7 +5,7 @@ use Rattle.saphyr_input.specs.Classes.{carriage_return, line_feed, tab}
 use Rattle.saphyr_input.specs.Indicators.{backslash}
 use Rattle.saphyr_scalar.specs.declared.scalar.position.Span.{Span}
 use Rattle.saphyr_scanner.specs.Grammar.Forest.{Style, Plain, SingleQuoted, DoubleQuoted, Literal, Folded}
-use Rattle.saphyr_parser.specs.Events.{ResolvedTag, Happening, Nothing, StreamStart, StreamEnd, DocumentStart, DocumentEnd, Alias, Scalar, SequenceStart, SequenceEnd, MappingStart, MappingEnd}
+use Rattle.saphyr_machine.specs.Events.{ResolvedTag, Happening, Nothing, StreamStart, StreamEnd, DocumentStart, DocumentEnd, Alias, Scalar, SequenceStart, SequenceEnd, MappingStart, MappingEnd}
 
 -- A byte of a scalar's text: a backslash, LF, CR, a backspace and a tab are escaped, and all else stands as it is.
 abbrev pub printed_byte : ℕ → List ℕ

@@ -1,11 +1,12 @@
 -- The promises of `Parser::new`: on all texts, and on those of JSON and of the layout grammar. Each is of a text and of
 -- a parser at its start. The proof of each stands under its name in `proofs/Promises`.
 use Rattle.std.specs.Prelude.{◌≤◌, ℕ, Bool, List}
-use Rattle.saphyr_scalar.specs.Spelling.Spaces.{IsLineRest}
+use Rattle.scalar_laws.specs.Spelling.Spaces.{IsLineRest}
 use Rattle.saphyr_scanner.specs.Grammar.Forest.{Forest, open_in_forest}
-use Rattle.saphyr_scanner.specs.Grammar.Json.{IsJson}
-use Rattle.saphyr_scanner.specs.Grammar.Layout.{most_open, IsLayoutText}
-use Rattle.saphyr_parser.specs.Cursor.{EventCursor, keeping_tags, to_come}
+use Rattle.saphyr_machine.specs.Cursor.{EventCursor, keeping_tags, to_come}
+use Rattle.saphyr_scanner.specs.Limits.{most_open}
+use Rattle.json_laws.specs.Grammar.Json.{IsJson}
+use Rattle.layout_laws.specs.Grammar.Layout.{IsLayoutText}
 use Rattle.saphyr_parser.specs.EventsTaken.{AreTaken}
 use Rattle.saphyr_parser.specs.Premises.{ReadsEach, ReadsClosed}
 use Rattle.saphyr_parser.specs.SpansWithin.{HasSpansIn}

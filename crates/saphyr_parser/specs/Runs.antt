@@ -7,14 +7,14 @@ use Rattle.saphyr_scalar.specs.declared.scalar.position.Marker.{Marker}
 use Rattle.saphyr_scalar.specs.Faults.{error_text}
 use Rattle.saphyr_scanner.specs.Steps.Remaining.{scan}
 use Rattle.saphyr_parser.specs.Limits.{most_characters}
-use Rattle.saphyr_parser.specs.declared.parser.fault.Fault.{Fault}
-use Rattle.saphyr_parser.specs.declared.parser.fault.Fault.TheVariants as fault
+use Rattle.saphyr_machine.specs.declared.fault.Fault.{Fault}
+use Rattle.saphyr_machine.specs.declared.fault.Fault.TheVariants as fault
 use Rattle.saphyr_parser.specs.declared.printing.fault.DumpFault.{DumpFault}
 use Rattle.saphyr_parser.specs.declared.printing.fault.DumpFault.TheVariants as dump
 use Rattle.saphyr_parser.specs.declared.printing.run.RunFault.{RunFault}
 use Rattle.saphyr_parser.specs.declared.printing.run.RunFault.TheVariants as run
-use Rattle.saphyr_parser.specs.Answer.{Answer, Refused}
-use Rattle.saphyr_parser.specs.Cursor.{at_start, to_come, count}
+use Rattle.saphyr_machine.specs.Answer.{Answer, Refused}
+use Rattle.saphyr_machine.specs.Cursor.{at_start, to_come, count}
 use Rattle.saphyr_parser.specs.Printed.{printed_lines}
 use Rattle.saphyr_parser.specs.Dumps.{Prints, Dumps}
 

@@ -4,7 +4,7 @@ use Rattle.std.specs.Prelude.{ℕ, Bool, if◌then◌else◌, List, [], ◌∷�
 use Rattle.std.specs.Option.{option_or}
 use Rattle.std.specs.Str.{bytes_eq}
 use Rattle.saphyr_scanner.specs.Grammar.Forest.{Handle, Primary, Secondary, Named, handle_bytes, Tag, NonSpecific, Verbatim, Shorthand, Directive, Version, TagPrefix, Reserved}
-use Rattle.saphyr_parser.specs.Events.{ResolvedTag}
+use Rattle.saphyr_machine.specs.Events.{ResolvedTag}
 use Rattle.saphyr_parser.specs.Preorder.{Part, opens_document, directives_of}
 
 -- the prefix that a document's directives declare for a handle

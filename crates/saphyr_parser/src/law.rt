@@ -8,37 +8,38 @@ ghost use Rattle.saphyr_parser.specs.Examples.Forests as examples;
 ghost use Rattle.saphyr_parser.specs.ForestEvents.{events};
 ghost use Rattle.saphyr_scanner.specs.Examples.Forests.{json_forest};
 ghost use Rattle.saphyr_scanner.specs.Grammar.Forest.{Forest};
-ghost use Rattle.saphyr_scanner.specs.Grammar.Json.{IsJson};
-ghost use Rattle.saphyr_scanner.specs.Grammar.JsonTokens.{json_tokens};
+ghost use Rattle.json_laws.specs.Grammar.Json.{IsJson};
+ghost use Rattle.json_laws.specs.Grammar.JsonTokens.{json_tokens};
 ghost use Rattle.saphyr_input.specs.Breaks.{normalized};
 ghost use Rattle.saphyr_scanner.specs.Steps.Remaining.{scan};
 ghost use Rattle.saphyr_scanner.specs.Views.Tokens.{Piece, Remaining};
 ghost use Rattle.saphyr_scanner.specs.SpansInOrder.{AreInOrder};
-ghost use Rattle.saphyr_parser.specs.Cursor.{EventCursor, at_start, keeping_tags, to_come};
-ghost use Rattle.saphyr_parser.specs.Loading.{portion_to_send};
+ghost use Rattle.saphyr_machine.specs.Cursor.{EventCursor, at_start, keeping_tags, to_come};
+ghost use Rattle.saphyr_machine.specs.Loading.{portion_to_send};
 ghost use Rattle.saphyr_scanner.specs.Grammar.TokenGrammar.{Yields};
 ghost use Rattle.saphyr_scanner.specs.Grammar.Tokens.{Kind};
 ghost use Rattle.saphyr_scanner.specs.Grammar.Tokens as tokens;
-ghost use Rattle.saphyr_scanner.specs.Examples.TakenTexts.{marker_at, piece_from_to};
+ghost use Rattle.taken_laws.specs.Examples.TakenTexts.{marker_at, piece_from_to};
 ghost use Rattle.saphyr_parser.specs.Exactly.{GivesExactly, TellTheSame, kinds, answer_of_tokens};
-ghost use Rattle.saphyr_parser.specs.Events.{Alias, DocumentEnd, Happening};
+ghost use Rattle.saphyr_machine.specs.Events.{Alias, DocumentEnd, Happening};
 ghost use Rattle.saphyr_parser.specs.EventsTaken.{AreTaken, BeginsSomeForest, HasPlaceIn, IsOf};
 ghost use Rattle.saphyr_parser.specs.Premises.{DocumentMarker, GivesFirst, HasOneMeaning, IsClosed, MeanTheSame, ReadsClosed, ReadsEach, events_behind_marker};
 ghost use Rattle.saphyr_parser.specs.Promises.{IsShallowJson, KeepsSpans, ReadsClosedLayout, ReadsLayout, TakesEvents};
 ghost use Rattle.saphyr_scalar.specs.declared.scalar.position.Span.{Span};
-ghost use Rattle.saphyr_scalar.specs.Spelling.Spaces.{IsLineRest};
-ghost use Rattle.saphyr_scanner.specs.Grammar.Layout.{IsLayoutText, most_open};
+ghost use Rattle.saphyr_scalar.specs.declared.scalar.fault.Refusal.{Refusal};
+ghost use Rattle.scalar_laws.specs.Spelling.Spaces.{IsLineRest};
+ghost use Rattle.saphyr_scanner.specs.Limits.{most_open};
 ghost use Rattle.saphyr_scanner.specs.AtPlaces.{AreAtPlaces};
 ghost use Rattle.saphyr_scanner.specs.Ends.{EndsWithStream};
-ghost use Rattle.saphyr_scalar.specs.declared.scalar.fault.Refusal.{Refusal};
 ghost use Rattle.saphyr_scanner.specs.TokensTaken.{AreTakenFrom, IsPlaceOf};
+ghost use Rattle.layout_laws.specs.Grammar.Layout.{IsLayoutText};
 ghost use Rattle.saphyr_parser.specs.WellFormed.{AreWellFormed};
-ghost use Rattle.saphyr_parser.specs.Steps.Machine.{Machine, Told, ending_refusal};
-ghost use Rattle.saphyr_parser.specs.Steps.Expected.{event_step};
-ghost use Rattle.saphyr_parser.specs.Answer.{with_first_event, remaining_answer};
-ghost use Rattle.saphyr_parser.specs.Calls.{Advances};
-ghost use Rattle.saphyr_parser.specs.Steps.Settings.{with_keep_tags, with_setting};
-ghost use Rattle.saphyr_parser.specs.declared.parser.state.State.TheVariants.{DocumentEnd as AtDocumentEnd};
+ghost use Rattle.saphyr_machine.specs.Steps.Machine.{Machine, Told, ending_refusal};
+ghost use Rattle.saphyr_machine.specs.Steps.Expected.{event_step};
+ghost use Rattle.saphyr_machine.specs.Answer.{with_first_event, remaining_answer};
+ghost use Rattle.saphyr_machine.specs.Calls.{Advances};
+ghost use Rattle.saphyr_parser.specs.Settings.{with_keep_tags, with_setting};
+ghost use Rattle.saphyr_machine.specs.declared.state.State.TheVariants.{DocumentEnd as AtDocumentEnd};
 ghost use Rattle.saphyr_parser.specs.More.{BeginsAs, marker_token, with_more};
 
 mod calling;
@@ -46,9 +47,9 @@ mod comparing;
 
 pub use calling::{hands_out_what_was_peeked, loads_the_end_again};
 pub use comparing::{hashes_alike, orders_styles, orders_tags, reads_inputs_alike, starts_at_zero};
-use saphyr_scanner::law::{
-    bounds_tokens, scans_breaks_alike, scans_each_json, scans_each_layout_text,
-};
+use json_laws::scans_each_json;
+use layout_laws::{scans_breaks_alike, scans_each_layout_text};
+use saphyr_scanner::law::bounds_tokens;
 
 /// A node comes in preorder, between the events of its document and of the stream.
 pub fn tells_nodes_in_preorder()
@@ -114,7 +115,7 @@ pub fn gives_json()
         → tokens.refusal ≡ None → events forest keep ≡ Some told
         → GivesExactly told (to_come (keeping_tags keep (at_start tokens))) }
 {
-    saphyr_scanner::law::tells_json_tokens();
+    json_laws::tells_json_tokens();
 }
 
 /// Where the spans of tokens stand one behind the other at places of a text, each event's span has its start at

@@ -1,13 +1,14 @@
 //! A parser of YAML into events.
 #![tactic(auto)]
 
+mod cursor;
 pub mod law;
-mod parser;
 mod printing;
 pub mod taken_law;
 
-pub use parser::{Event, EventReceiver, Fault, Parser, Refused, SpannedEventReceiver, Tag};
+pub use cursor::Parser;
 pub use printing::{DumpFault, dump, run_dump};
 pub use saphyr_input::law::lists_characters;
 pub use saphyr_input::{BufferedInput, CloneInput, FaithfulClone, Input, StrInput, input};
+pub use saphyr_machine::{Event, EventReceiver, Fault, Refused, SpannedEventReceiver, Tag};
 pub use saphyr_scalar::{Marker, ScalarStyle, ScanError, Span};

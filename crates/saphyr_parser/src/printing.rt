@@ -1,6 +1,6 @@
 //! The events of a text as lines, one for each, in the notation of the YAML test suites.
-ghost use Rattle.saphyr_parser.specs.Cursor.{to_come};
-ghost use Rattle.saphyr_parser.specs.Calls.{EndsTheStream};
+ghost use Rattle.saphyr_machine.specs.Cursor.{to_come};
+ghost use Rattle.saphyr_machine.specs.Calls.{EndsTheStream};
 ghost use Rattle.saphyr_parser.specs.Dumps.{Dumps, Leaves};
 
 mod fault;
@@ -8,11 +8,12 @@ mod line;
 mod run;
 mod writing;
 
-use crate::parser::{Event, Fault, Parser, Progress, no_event};
+use crate::cursor::Parser;
 pub use fault::DumpFault;
 use line::write_line;
 pub use run::run_dump;
 use saphyr_input::input::Input;
+use saphyr_machine::{Event, Fault, Progress, no_event};
 use saphyr_scalar::Span;
 use std::io::Write;
 

@@ -2,8 +2,8 @@
 ghost use Rattle.std.specs.Prelude.{[], Bool, List, codes, ℕ};
 ghost use Rattle.std.specs.List.{All};
 ghost use Rattle.saphyr_scalar.specs.declared.scalar.position.Span.{Span};
-ghost use Rattle.saphyr_parser.specs.Answer.{Answer};
-ghost use Rattle.saphyr_parser.specs.Events.{Happening};
+ghost use Rattle.saphyr_machine.specs.Answer.{Answer};
+ghost use Rattle.saphyr_machine.specs.Events.{Happening};
 ghost use Rattle.saphyr_parser.specs.EventsTaken.{AreTaken, HaveTokens};
 ghost use Rattle.saphyr_parser.specs.SpansWithin.{HasSpansIn};
 ghost use Rattle.saphyr_parser.specs.Examples.WrongAnswers as wrong;

@@ -4,8 +4,8 @@ use Rattle.std.specs.Borrow.{Bor}
 use Rattle.std.specs.Str.{chars}
 use Rattle.saphyr_scalar.specs.declared.scalar.position.Span.{Span}
 use Rattle.saphyr_parser.specs.Limits.{most_characters}
-use Rattle.saphyr_parser.specs.declared.parser.event.Event.{Event}
-use Rattle.saphyr_parser.specs.declared.parser.fault.Fault.{Fault}
+use Rattle.saphyr_parser.specs.Types.Event.{Event}
+use Rattle.saphyr_parser.specs.Types.Fault.{Fault}
 use Rattle.saphyr_scanner.specs.Steps.Remaining.{scan}
 use Rattle.saphyr_parser.specs.Calls.{EndsTheStream, GivesNext, Peeks}
 use Rattle.saphyr_parser.specs.Cursor.{EventCursor, HandsOutNext, at_start, keeping_tags, to_come}

@@ -1,9 +1,9 @@
 -- Events and faults that tell the same, wherever their texts stand.
 use Rattle.std.specs.Prelude.{◌≡◌, Option, Some, None, Result, Ok, Err, string_bytes}
 use Rattle.saphyr_scalar.specs.declared.scalar.position.Span.{Span}
-use Rattle.saphyr_parser.specs.declared.parser.event.Event.{Event}
-use Rattle.saphyr_parser.specs.declared.parser.fault.Fault.{Fault}
-use Rattle.saphyr_parser.specs.declared.parser.fault.Fault.TheVariants as fault
+use Rattle.saphyr_parser.specs.Types.Event.{Event}
+use Rattle.saphyr_parser.specs.Types.Fault.{Fault}
+use Rattle.saphyr_parser.specs.Types.Fault.TheVariants as fault
 use Rattle.saphyr_parser.specs.Cursor.{event_of}
 
 abbrev pub IsSameFault : Fault → Fault → Type 0

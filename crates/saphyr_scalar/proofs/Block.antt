@@ -1,11 +1,7 @@
 -- Block scalars: each spelled one is read, and what is read has the value of its lines.
-pub mod Complete
-pub mod Headers
 pub mod Indentations
 pub mod Law
-pub mod LeadingLines
 pub mod Lines
-pub mod Places
 pub mod Reads
 pub mod Texts
 pub mod Turns
@@ -14,6 +10,5 @@ pub mod Wholes
 pub mod Counted
 pub mod PlacedHeaders
 pub mod Placed
-pub mod PlacedValues
 pub mod Refused
 pub mod Told

@@ -6,7 +6,6 @@ pub mod TagPrefixesRead
 pub mod TailsRead
 pub mod Read
 pub mod LowBytes
-pub mod ReservedRead
 pub mod NamesSpelled
 pub mod VersionsSpelled
 pub mod TagPrefixesSpelled

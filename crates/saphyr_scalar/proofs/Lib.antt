@@ -1,10 +1,10 @@
 pub mod Properties
 pub mod Directives
-pub mod Breaks
 pub mod ByteSets
 pub mod Block
 pub mod Quoted
 pub mod EscapeEnds
+pub mod Choices
 pub mod Given
 pub mod Lengths
 pub mod Taking

@@ -3,13 +3,10 @@ pub mod Refused
 pub mod Gaps
 pub mod Lines
 pub mod Runs
-pub mod White
-pub mod OneWord
 pub mod Pieces
 pub mod SingleSpaces
 pub mod Words
 pub mod Spelled
-pub mod Texts
 pub mod GapsRead
 pub mod WordsRead
 pub mod WordEnds

@@ -1,16 +1,11 @@
 -- Quoted scalars and their escapes: each spelled one is read, and what is read is spelled so.
 pub mod Escapes
-pub mod Counted
 pub mod Refused
 pub mod Gaps
 pub mod GapBytes
-pub mod GapsRead
-pub mod IndentedLines
 pub mod Lines
-pub mod OnLine
 pub mod Parts
 pub mod Pieces
-pub mod Reads
 pub mod Inside
 pub mod SpelledEscapes
 pub mod SpelledGaps
@@ -19,4 +14,3 @@ pub mod SpelledWords
 pub mod Spellings
 pub mod Clean
 pub mod Words
-pub mod WordsRead

@@ -2,7 +2,6 @@ pub mod Spelling
 pub mod Reading
 pub mod Steps
 pub mod Views
-pub mod Alike
 pub mod Faults
 pub mod Passing
 pub mod RefusedInside

@@ -24,7 +24,7 @@ use Rattle.saphyr_scanner.proofs.Taken.Separated.{given_map}
 use Rattle.saphyr_scanner.proofs.Effects.Steps as effects
 use Rattle.saphyr_scanner.proofs.Effects.Fetch.{some_character_left, step_effect, arrival_goes}
 use Rattle.saphyr_scalar.proofs.Given.{Given, given_bind}
-use Rattle.saphyr_scalar.proofs.Breaks.Results.{both_by}
+use Rattle.saphyr_scalar.proofs.Choices.{both_by}
 
 -- the first queue holds these places, and in the second they were handed out
 pub record Behind (hs : List Place) (q p : Queue) : Type 0 where

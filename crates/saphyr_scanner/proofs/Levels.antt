@@ -10,7 +10,7 @@ use Rattle.saphyr_scanner.specs.declared.engine.level.Level as declared
 use Rattle.saphyr_scanner.specs.Steps.Level.{Candidate, Level, holds}
 use Rattle.saphyr_scanner.specs.Views.Engine.{level}
 use Rattle.saphyr_scanner.specs.Steps.Fetch.{any_holds}
-use Rattle.saphyr_scanner.specs.Grammar.Layout.{most_open}
+use Rattle.saphyr_scanner.specs.Limits.{most_open}
 use Rattle.saphyr_input.proofs.Basics.Booleans.{or_assoc}
 use Rattle.std.proofs.Math.Bool.{or-false}
 

@@ -1,5 +1,3 @@
-pub mod AllTokens
-pub mod InBlock
 pub mod Places
 pub mod Queues
 pub mod Turns
@@ -14,12 +12,6 @@ pub mod HandedOut
 pub mod Lazy
 pub mod Levels
 pub mod Stacks
-pub mod Examples
-pub mod Json
-pub mod InFlow
-pub mod Flow
-pub mod Beginnings
-pub mod Documents
 pub mod Counted
 pub mod Ordered
 pub mod LineTails
@@ -34,5 +26,3 @@ pub mod QuotedEnds
 pub mod GapPlaces
 pub mod Told
 pub mod Steps
-pub mod Breaks
-pub mod Wrong

@@ -26,7 +26,7 @@ use Rattle.saphyr_scalar.specs.Steps.Quoted.{mid_line}
 use Rattle.saphyr_scalar.specs.Spelling.Quoted.{IsQuotedText}
 use Rattle.saphyr_scalar.specs.Steps.Tag as tags
 use Rattle.saphyr_scalar.specs.Spelling.Tag.{IsAnchorName, IsTagText, EndsTag}
-use Rattle.saphyr_scalar.proofs.Plain.Texts.{passed_index}
+use Rattle.saphyr_scalar.proofs.Plain.Runs.{passed_index}
 use Rattle.saphyr_scanner.proofs.Counted.{Ahead, ahead_ahead, text_passed, passed_over, pass_break_counted}
 use Rattle.saphyr_scanner.proofs.Effects.Readers.{ReadsUpTo, ReadsSpan, ReaderEnds}
 

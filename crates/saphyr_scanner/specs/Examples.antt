@@ -1,3 +1,2 @@
 -- Small texts, with their forests and tokens.
 pub mod Forests
-pub mod TakenTexts

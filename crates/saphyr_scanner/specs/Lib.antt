@@ -1,8 +1,8 @@
 pub mod Grammar
 pub mod Examples
 pub mod Views
+pub mod Limits
 pub mod Steps
-pub mod SameKinds
 pub mod TakenOff
 pub mod TokensTaken
 pub mod SpansInOrder

@@ -6,7 +6,6 @@ mod gap;
 pub mod law;
 mod queue;
 mod scanner;
-pub mod taken_law;
 mod token;
 
 pub use scanner::Scanner;

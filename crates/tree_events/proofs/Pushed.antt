@@ -2,9 +2,9 @@
 use Rattle.std.proofs.Common.{◌≡◌, ℕ, List, [], ◌∷◌, ◌++◌, map, Option, option_map, Vec, Global, ap, ◌∙◌}
 use Rattle.std.specs.List.{flat_map}
 use Rattle.std.proofs.lemmas.List.{append_assoc, map-append}
-use Rattle.saphyr_parser.specs.declared.parser.tag.Tag.{Tag}
-use Rattle.saphyr_parser.specs.declared.parser.event.Event.{Event}
-use Rattle.saphyr_parser.specs.declared.parser.event.Event.TheVariants as event
+use Rattle.saphyr_parser.specs.Types.Tag.{Tag}
+use Rattle.saphyr_parser.specs.Types.Event.{Event}
+use Rattle.saphyr_parser.specs.Types.Event.TheVariants as event
 use Rattle.saphyr_parser.specs.Events.{Happening}
 use Rattle.saphyr_parser.specs.Views.Events.{happening, resolved_tag}
 use Rattle.yaml_tree.specs.declared.node.Node.{Node, Seq, Map}

@@ -1,7 +1,7 @@
 -- Copies of trees have their events.
 use Rattle.std.proofs.Common.{◌≡◌, ℕ, Option, option_map, Vec, Global, sym, ap, ◌∙◌}
 use Rattle.std.specs.List.{flat_map}
-use Rattle.saphyr_parser.specs.declared.parser.tag.Tag.{Tag}
+use Rattle.saphyr_parser.specs.Types.Tag.{Tag}
 use Rattle.saphyr_parser.specs.Views.Events.{resolved_tag}
 use Rattle.yaml_tree.specs.declared.node.Node.{Node, Seq, Map}
 use Rattle.yaml_tree.specs.Unloading.{node_events, pair_events}

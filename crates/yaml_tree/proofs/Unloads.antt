@@ -2,7 +2,7 @@
 use Rattle.std.proofs.Common.{◌≡◌, ℕ, List, [], ◌∷◌, ◌++◌, map, Option, None, option_map, Vec, Global, sym, ap, ◌∙◌, append-nil, rules}
 use Rattle.std.specs.List.{flat_map}
 use Rattle.std.proofs.lemmas.List.Folds.{flat_map-map}
-use Rattle.saphyr_parser.specs.declared.parser.tag.Tag.{Tag}
+use Rattle.saphyr_parser.specs.Types.Tag.{Tag}
 use Rattle.saphyr_parser.specs.Events.{Happening, SequenceStart, SequenceEnd, MappingStart, MappingEnd}
 use Rattle.saphyr_parser.specs.Views.Events.{resolved_tag}
 use Rattle.yaml_tree.specs.declared.node.Node.{Node, Seq, Map, the_lemmas}

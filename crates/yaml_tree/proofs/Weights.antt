@@ -5,7 +5,7 @@ use Rattle.std.proofs.lemmas.List.{get_or_default}
 use Rattle.std.specs.Vec.{with_item}
 use Rattle.std.proofs.lemmas.List.Sums.{sum_by-set, sum_by-append, sum_by-cons, get_or-le-sum_by}
 use Rattle.saphyr_scalar.specs.declared.scalar.style.ScalarStyle.{ScalarStyle}
-use Rattle.saphyr_parser.specs.declared.parser.tag.Tag.{Tag}
+use Rattle.saphyr_parser.specs.Types.Tag.{Tag}
 use Rattle.yaml_tree.specs.declared.node.Node.{Node, Alias, Scalar, Seq, Map, the_lemmas, fold-Node, fold_out-Node}
 use Rattle.yaml_tree.specs.declared.node.Node.TheOpen.{Node-F}
 use Rattle.yaml_tree.specs.Weight.{node_weight, weight_step, pair_weight, IsBare, turns}

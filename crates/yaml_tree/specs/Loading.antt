@@ -2,7 +2,7 @@
 use Rattle.std.specs.Prelude.{◌≡◌, ◌⊎◌, ◌<◌, Bool, true, false, List, [], ◌∷◌, ◌++◌, map, Option, Some, None, Result, Ok, Err, Vec, string_bytes}
 use Rattle.std.specs.Global.{Global}
 use Rattle.saphyr_scalar.specs.declared.scalar.position.Span.{Span}
-use Rattle.saphyr_parser.specs.declared.parser.fault.Fault.TheVariants as parse
+use Rattle.saphyr_parser.specs.Types.Fault.TheVariants as parse
 use Rattle.saphyr_parser.specs.Events.{Happening, StreamStart}
 use Rattle.saphyr_parser.specs.Answer.{Ending, Answer, Refused, empty_answer}
 use Rattle.saphyr_parser.specs.Cursor.{count, Stays}

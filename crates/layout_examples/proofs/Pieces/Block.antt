@@ -7,12 +7,12 @@ use Rattle.saphyr_input.specs.Classes.{line_feed}
 use Rattle.saphyr_scalar.specs.Steps.BlockRead.{spaces}
 use Rattle.saphyr_scanner.specs.Grammar.Forest.{Properties, no_properties, Node, Alias, Scalar, Seq, Map, Nodes, NoNode}
 use Rattle.saphyr_scanner.specs.Grammar.Forest.{MoreNodes, Pairs, NoPair, MorePairs, left_out}
-use Rattle.saphyr_scanner.specs.Grammar.FlowNodes.{needs_separation}
-use Rattle.saphyr_scanner.specs.Grammar.BlockNodes.{Position, BehindDash, BehindMark, BehindKey, AtStart, indent_at}
-use Rattle.saphyr_scanner.specs.Grammar.BlockNodes.{sequence_indent_at, is_start, IsLead, IsFlowInBlock}
-use Rattle.saphyr_scanner.specs.Grammar.BlockNodes.{IsBehindQuestion, IsBlockPair, IsBlockNode, AreEntries}
-use Rattle.saphyr_scanner.specs.Grammar.BlockNodes.{AreOtherEntries, ArePairs, AreOtherPairs, IsCollectionFront}
 use Rattle.saphyr_scanner.specs.Examples.Forests.{plain_node}
+use Rattle.layout_laws.specs.Grammar.FlowNodes.{needs_separation}
+use Rattle.layout_laws.specs.Grammar.BlockNodes.{Position, BehindDash, BehindMark, BehindKey, AtStart, indent_at}
+use Rattle.layout_laws.specs.Grammar.BlockNodes.{sequence_indent_at, is_start, IsLead, IsFlowInBlock}
+use Rattle.layout_laws.specs.Grammar.BlockNodes.{IsBehindQuestion, IsBlockPair, IsBlockNode, AreEntries}
+use Rattle.layout_laws.specs.Grammar.BlockNodes.{AreOtherEntries, ArePairs, AreOtherPairs, IsCollectionFront}
 use Rattle.layout_examples.proofs.Pieces.Spaces.{each, Rest, Filler, End, feed, text_end, Gap, space}
 use Rattle.layout_examples.proofs.Pieces.Scalars.{Front, FlowText, IsLetter, word}
 use Rattle.layout_examples.proofs.Pieces.Flow.{KeyText, node_key}

@@ -9,10 +9,10 @@ use Rattle.scalar_values.specs.declared.block.Chomping.{Chomping}
 use Rattle.scalar_values.specs.declared.block.Chomping.TheVariants.{Clip}
 use Rattle.scalar_values.specs.Block.{Line, Content, lines_value}
 use Rattle.saphyr_scalar.specs.Steps.BlockRead.{spaces}
-use Rattle.saphyr_scalar.specs.Spelling.Block.{no_digit, clip, no_comment, IsBehind, digit_first, first, no_lines}
-use Rattle.saphyr_scalar.specs.Spelling.Block.{found, IsBlockScalar}
+use Rattle.scalar_laws.specs.Spelling.Block.{no_digit, clip, no_comment, IsBehind, digit_first, first, no_lines}
+use Rattle.scalar_laws.specs.Spelling.Block.{found, IsBlockScalar}
 use Rattle.saphyr_scanner.specs.Grammar.Forest.{Properties, no_properties, Literal, Folded, Scalar}
-use Rattle.saphyr_scanner.specs.Grammar.BlockNodes.{Position, indent_at, IsBehindScalar}
+use Rattle.layout_laws.specs.Grammar.BlockNodes.{Position, indent_at, IsBehindScalar}
 use Rattle.layout_examples.proofs.Pieces.Spaces.{space}
 use Rattle.layout_examples.proofs.Pieces.Scalars.{Front}
 use Rattle.layout_examples.proofs.Pieces.Block.{BlockText}

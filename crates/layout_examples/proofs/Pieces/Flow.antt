@@ -6,15 +6,15 @@ use Rattle.std.proofs.lemmas.List.{append-nil}
 use Rattle.saphyr_input.specs.Indicators.{colon, left_brace, left_bracket, question_mark, number_sign}
 use Rattle.saphyr_input.specs.Classes.{line_feed, space}
 use Rattle.scalar_values.specs.Flow.{plain_value}
-use Rattle.saphyr_scalar.specs.Spelling.Plain.{is_word_ink}
+use Rattle.scalar_laws.specs.Spelling.Plain.{is_word_ink}
 use Rattle.saphyr_scanner.specs.Grammar.Forest.{no_properties, Node, Seq, Map, Nodes, NoNode, MoreNodes, Pairs, NoPair}
 use Rattle.saphyr_scanner.specs.Grammar.Forest.{MorePairs, left_out}
-use Rattle.saphyr_scanner.specs.Grammar.FlowScalars.{begins_plain, IsPlainKey}
-use Rattle.saphyr_scanner.specs.Grammar.FlowNodes.{needs_separation, allows_adjacent, IsColonAndValue, IsBeforeColon}
-use Rattle.saphyr_scanner.specs.Grammar.FlowNodes.{IsKeyText, IsKeyAndValue, IsExplicitPair, IsPair, IsPairText}
-use Rattle.saphyr_scanner.specs.Grammar.FlowNodes.{IsBeforeSeparation, IsPairItem, IsFlowNode, AreItems, AreOtherItems}
-use Rattle.saphyr_scanner.specs.Grammar.FlowNodes.{AreFlowPairs, AreOtherFlowPairs, IsValueAlone}
 use Rattle.saphyr_scanner.specs.Examples.Forests.{plain_node}
+use Rattle.layout_laws.specs.Grammar.FlowScalars.{begins_plain, IsPlainKey}
+use Rattle.layout_laws.specs.Grammar.FlowNodes.{needs_separation, allows_adjacent, IsColonAndValue, IsBeforeColon}
+use Rattle.layout_laws.specs.Grammar.FlowNodes.{IsKeyText, IsKeyAndValue, IsExplicitPair, IsPair, IsPairText}
+use Rattle.layout_laws.specs.Grammar.FlowNodes.{IsBeforeSeparation, IsPairItem, IsFlowNode, AreItems, AreOtherItems}
+use Rattle.layout_laws.specs.Grammar.FlowNodes.{AreFlowPairs, AreOtherFlowPairs, IsValueAlone}
 use Rattle.layout_examples.proofs.Pieces.Spaces.{each, Apart, tight, blank}
 use Rattle.layout_examples.proofs.Pieces.Scalars.{FlowText}
 

@@ -9,19 +9,19 @@ use Rattle.scalar_values.specs.Flow.{raw_item, plain_value}
 use Rattle.std.proofs.lemmas.List.{append-nil}
 use Rattle.saphyr_input.specs.Indicators.{apostrophe, quotation_mark}
 use Rattle.saphyr_input.specs.Classes.{is_blank, is_anchor_char, is_tag_char, is_uri_char, line_feed}
-use Rattle.saphyr_scalar.specs.Spelling.Plain.{is_word_ink, IsWordIn}
 use Rattle.saphyr_scalar.specs.Spelling.Quoted.{stands_for_itself, IsText, closed, itself}
-use Rattle.saphyr_scalar.specs.Spelling.QuotedLines.{LinesFit}
 use Rattle.saphyr_scalar.specs.Spelling.Tag.{IsAnchorName}
-use Rattle.saphyr_scalar.specs.Spelling.Spaces.{AreMany}
+use Rattle.scalar_laws.specs.Spelling.Plain.{is_word_ink, IsWordIn}
+use Rattle.scalar_laws.specs.Spelling.QuotedLines.{LinesFit}
+use Rattle.scalar_laws.specs.Spelling.Spaces.{AreMany}
+use Rattle.scalar_laws.proofs.Beginnings.{decodes_itself}
 use Rattle.saphyr_scanner.specs.Grammar.Forest.{Style, Plain, SingleQuoted, DoubleQuoted, Handle, Tag, NonSpecific}
 use Rattle.saphyr_scanner.specs.Grammar.Forest.{Verbatim, Shorthand, Properties, no_properties, Node, Alias, Scalar}
-use Rattle.saphyr_scanner.specs.Grammar.TagSpelling.{IsHandle, IsTag}
-use Rattle.saphyr_scanner.specs.Grammar.FlowScalars.{begins_plain, IsFirstWord, IsLinePrefix, IsWordGap, IsFurtherWord}
-use Rattle.saphyr_scanner.specs.Grammar.FlowScalars.{IsPlain, IsFlowScalar}
-use Rattle.saphyr_scanner.specs.Grammar.FlowNodes.{IsProperties, IsFlowNode}
 use Rattle.saphyr_scanner.specs.Examples.Forests.{plain_node}
-use Rattle.saphyr_scanner.proofs.Examples.TakenStreams.{decodes_itself}
+use Rattle.layout_laws.specs.Grammar.TagSpelling.{IsHandle, IsTag}
+use Rattle.layout_laws.specs.Grammar.FlowScalars.{begins_plain, IsFirstWord, IsLinePrefix, IsWordGap, IsFurtherWord}
+use Rattle.layout_laws.specs.Grammar.FlowScalars.{IsPlain, IsFlowScalar}
+use Rattle.layout_laws.specs.Grammar.FlowNodes.{IsProperties, IsFlowNode}
 use Rattle.layout_examples.proofs.Pieces.Spaces.{each, Apart}
 
 -- a node in flow style

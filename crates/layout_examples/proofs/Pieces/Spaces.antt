@@ -8,8 +8,8 @@ use Rattle.saphyr_input.proofs.Basics.Booleans.{and_true_left, and_true_right}
 use Rattle.saphyr_input.specs.Classes.{is_blank, is_yaml_non_break}
 use Rattle.saphyr_scalar.specs.Steps.BlockRead.{spaces}
 use Rattle.saphyr_scalar.specs.Spelling.Tag.{AreIn}
-use Rattle.saphyr_scalar.specs.Spelling.Spaces.{IsLineRest, IsEol, IsFillerText, IsFiller, IsLastFiller, IsSeparation}
-use Rattle.saphyr_scanner.specs.Grammar.BlockNodes.{Position, AtStart, indent_at, IsGapAt}
+use Rattle.scalar_laws.specs.Spelling.Spaces.{IsLineRest, IsEol, IsFillerText, IsFiller, IsLastFiller, IsSeparation}
+use Rattle.layout_laws.specs.Grammar.BlockNodes.{Position, AtStart, indent_at, IsGapAt}
 
 pub each : (set : ℕ → Bool) (t : List ℕ) → IsTrue (list_all set t) → AreIn set t
 each set [] h = tt

@@ -8,13 +8,13 @@ use Rattle.saphyr_input.specs.Breaks.{normalized}
 use Rattle.saphyr_input.specs.Classes.{byte_order_mark, is_digit, is_tag_char, is_uri_char, space}
 use Rattle.saphyr_scalar.specs.Spelling.Tag.{IsHandleText, IsPrefix}
 use Rattle.saphyr_scalar.specs.Spelling.Directive.{AreSomeBlanks, IsVersionNumber, IsLineTail}
+use Rattle.scalar_laws.proofs.Beginnings.{decodes_itself}
 use Rattle.saphyr_scanner.specs.Grammar.Forest.{Handle, Directive, Version, TagPrefix, Reserved, AreCompatible, bare}
 use Rattle.saphyr_scanner.specs.Grammar.Forest.{Node, Document, Forest}
-use Rattle.saphyr_scanner.specs.Grammar.BlockNodes.{AtStart, BehindMarker, IsBlockNode}
-use Rattle.saphyr_scanner.specs.Grammar.Layout.{IsDirective, AreDirectives, IsDocument, IsDocumentPrefix}
-use Rattle.saphyr_scanner.specs.Grammar.Layout.{IsBehindDocument, AreDocuments, has_marker, IsLayout, IsLayoutText}
-use Rattle.saphyr_scanner.specs.Grammar.TagSpelling.{IsHandle}
-use Rattle.saphyr_scanner.proofs.Examples.TakenStreams.{decodes_itself}
+use Rattle.layout_laws.specs.Grammar.BlockNodes.{AtStart, BehindMarker, IsBlockNode}
+use Rattle.layout_laws.specs.Grammar.Layout.{IsDirective, AreDirectives, IsDocument, IsDocumentPrefix}
+use Rattle.layout_laws.specs.Grammar.Layout.{IsBehindDocument, AreDocuments, has_marker, IsLayout, IsLayoutText}
+use Rattle.layout_laws.specs.Grammar.TagSpelling.{IsHandle}
 use Rattle.layout_examples.proofs.Pieces.Spaces.{Filler, no_filler, LastFiller, no_more, End}
 use Rattle.layout_examples.proofs.Pieces.Block.{BlockText}
 

@@ -2,10 +2,10 @@ use Rattle.std.proofs.Common.{◌∷◌, [], true, false, not, inl, inr, refl, a
 use Rattle.std.proofs.lemmas.Bool.{false≢true}
 use Rattle.scalar_values.specs.declared.block.Chomping.TheVariants.{Strip}
 use Rattle.scalar_values.specs.Block.{Empty, Content}
-use Rattle.saphyr_scalar.specs.Spelling.Block.{digit, strip, no_comment, comment, no_lines, empty, content, first}
-use Rattle.saphyr_scalar.specs.Spelling.Block.{digit_first, chomping_first, given}
-use Rattle.saphyr_scalar.specs.Spelling.Spaces.{IsLastFiller}
-use Rattle.saphyr_scanner.specs.Grammar.Layout.{most_open}
+use Rattle.scalar_laws.specs.Spelling.Block.{digit, strip, no_comment, comment, no_lines, empty, content, first}
+use Rattle.scalar_laws.specs.Spelling.Block.{digit_first, chomping_first, given}
+use Rattle.scalar_laws.specs.Spelling.Spaces.{IsLastFiller}
+use Rattle.saphyr_scanner.specs.Limits.{most_open}
 use Rattle.layout_examples.proofs.Pieces.Spaces.{feed, text_end, feed_behind, end_behind, blanks, blank_line}
 use Rattle.layout_examples.proofs.Pieces.Spaces.{comment_line, no_filler, filler, last_filler_line, tight, lines_apart, space}
 use Rattle.layout_examples.proofs.Pieces.Spaces.{lines_down}

@@ -3,9 +3,9 @@ use Rattle.saphyr_input.specs.Indicators.{apostrophe}
 use Rattle.saphyr_input.specs.Classes.{space}
 use Rattle.scalar_values.specs.declared.folding.Item.TheVariants.{Blank, Raw, Break}
 use Rattle.scalar_values.specs.declared.flow.Quote.TheVariants.{Single, Double}
-use Rattle.saphyr_scalar.specs.Spelling.QuotedLines.{IsLine}
 use Rattle.saphyr_scalar.specs.Spelling.Quoted.{IsText, closed, itself, broken, two_quotes}
-use Rattle.saphyr_scanner.specs.Grammar.Layout.{most_open}
+use Rattle.scalar_laws.specs.Spelling.QuotedLines.{IsLine}
+use Rattle.saphyr_scanner.specs.Limits.{most_open}
 use Rattle.layout_examples.proofs.Pieces.Spaces.{no_filler, comment, blanks, apart, tight, blank, lines_apart, no_gap}
 use Rattle.layout_examples.proofs.Pieces.Spaces.{text_end, feed_behind}
 use Rattle.layout_examples.proofs.Pieces.Scalars.{anchor_x_before, anchor_x_behind, alias_x, tag_t, verbatim_u, tagged}

@@ -3,8 +3,8 @@ use Rattle.std.proofs.lemmas.Bool.{false≢true}
 use lib.Utf8.{encode}
 use Rattle.scalar_values.specs.declared.block.Chomping.TheVariants.{Keep}
 use Rattle.scalar_values.specs.Block.{Empty, Content}
-use Rattle.saphyr_scalar.specs.Spelling.Block.{no_digit, keep, no_comment, no_lines, empty, first, digit_first, found}
-use Rattle.saphyr_scanner.specs.Grammar.Layout.{most_open}
+use Rattle.scalar_laws.specs.Spelling.Block.{no_digit, keep, no_comment, no_lines, empty, first, digit_first, found}
+use Rattle.saphyr_scanner.specs.Limits.{most_open}
 use Rattle.layout_examples.proofs.Pieces.Spaces.{feed, text_end, feed_behind, blanks, comment, blank_line, comment_line}
 use Rattle.layout_examples.proofs.Pieces.Spaces.{no_filler, filler, last_filler_line, tight, lines_apart, no_gap, space}
 use Rattle.layout_examples.proofs.Pieces.Spaces.{lines_down}

@@ -1,4 +1,4 @@
-use Rattle.saphyr_scanner.proofs.Examples.MarkerAlone.{stands_for_one}
+use Rattle.layout_laws.proofs.Examples.MarkerAlone.{stands_for_one}
 use Rattle.layout_examples.proofs.OneForest.{one_forest}
 use Rattle.layout_examples.proofs.has_one_forest.Goals as goal
 

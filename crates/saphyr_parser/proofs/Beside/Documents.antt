@@ -6,16 +6,16 @@ use Rattle.saphyr_scalar.specs.declared.scalar.fault.Refusal.{Refusal}
 use Rattle.saphyr_scanner.specs.Grammar.Tokens as tokens
 use Rattle.saphyr_scanner.specs.Grammar.Tokens.{Kind}
 use Rattle.saphyr_scanner.specs.Views.Tokens.{Piece, Remaining}
-use Rattle.saphyr_parser.specs.declared.parser.context.NodeContext.TheVariants.{Block}
-use Rattle.saphyr_parser.specs.declared.parser.state.State.{State}
-use Rattle.saphyr_parser.specs.declared.parser.state.State.TheVariants as state
+use Rattle.saphyr_machine.specs.declared.context.NodeContext.TheVariants.{Block}
+use Rattle.saphyr_machine.specs.declared.state.State.{State}
+use Rattle.saphyr_machine.specs.declared.state.State.TheVariants as state
 use Rattle.saphyr_parser.specs.Premises.{DocumentMarker, Starts, Ends}
-use Rattle.saphyr_parser.specs.Steps.Machine.{◌>>=◌, Machine, Told, with_pieces, put_back, push, with_state, without_ids}
-use Rattle.saphyr_parser.specs.Steps.Documents as document
-use Rattle.saphyr_parser.specs.Steps.Documents.{unpassed_token_from, unpassed_token, is_mark, is_end_or_mark, none_declared, directives, without_anchors, without_prefixes}
-use Rattle.saphyr_parser.specs.Steps.Nodes.{node}
-use Rattle.saphyr_parser.specs.Steps.Block.{block_node}
-use Rattle.saphyr_parser.specs.Steps.Expected.{event_step_at}
+use Rattle.saphyr_machine.specs.Steps.Machine.{◌>>=◌, Machine, Told, with_pieces, put_back, push, with_state, without_ids}
+use Rattle.saphyr_machine.specs.Steps.Documents as document
+use Rattle.saphyr_machine.specs.Steps.Documents.{unpassed_token_from, unpassed_token, is_mark, is_end_or_mark, none_declared, directives, without_anchors, without_prefixes}
+use Rattle.saphyr_machine.specs.Steps.Nodes.{node}
+use Rattle.saphyr_machine.specs.Steps.Block.{block_node}
+use Rattle.saphyr_machine.specs.Steps.Expected.{event_step_at}
 use Rattle.saphyr_parser.proofs.Beside.Machines.{Beside, Expected, With, Near, GivesAlike, Awaits, Left, Alike, TellsAlike, Both, AtBoth, ahead, changed, taken, refuses, enters, tells, tells_end, enters_told}
 use Rattle.saphyr_parser.proofs.Beside.Nodes.{node_beside}
 use Rattle.saphyr_parser.proofs.Beside.Collections as steps

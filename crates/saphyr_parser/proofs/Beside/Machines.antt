@@ -8,12 +8,12 @@ use Rattle.saphyr_scalar.specs.declared.scalar.fault.FaultText.{FaultText}
 use Rattle.saphyr_scanner.specs.Grammar.Tokens as tokens
 use Rattle.saphyr_scanner.specs.Grammar.Tokens.{Kind}
 use Rattle.saphyr_scanner.specs.Views.Tokens.{Piece, Remaining}
-use Rattle.saphyr_parser.specs.declared.parser.state.State.{State}
-use Rattle.saphyr_parser.specs.declared.parser.state.State.TheVariants as state
-use Rattle.saphyr_parser.specs.Events.{Happening}
+use Rattle.saphyr_machine.specs.declared.state.State.{State}
+use Rattle.saphyr_machine.specs.declared.state.State.TheVariants as state
+use Rattle.saphyr_machine.specs.Events.{Happening}
 use Rattle.saphyr_parser.specs.Premises.{DocumentMarker, Starts, Ends}
-use Rattle.saphyr_parser.specs.Steps.Machine.{◌>>=◌, Machine, Told, told_event, refusal_at, ending_refusal, with_pieces, taken_token, taken_token_from, put_back, pop, pop_from, with_state, push, with_anchor}
-use Rattle.saphyr_parser.specs.Steps.Nodes.{register}
+use Rattle.saphyr_machine.specs.Steps.Machine.{◌>>=◌, Machine, Told, told_event, refusal_at, ending_refusal, with_pieces, taken_token, taken_token_from, put_back, pop, pop_from, with_state, push, with_anchor}
+use Rattle.saphyr_machine.specs.Steps.Nodes.{register}
 
 -- ## What is alike
 

@@ -9,12 +9,12 @@ use Rattle.saphyr_scalar.specs.declared.scalar.fault.FaultText.TheVariants as fa
 use Rattle.saphyr_scanner.specs.Grammar.Tokens as tokens
 use Rattle.saphyr_scanner.specs.Grammar.Tokens.{Kind}
 use Rattle.saphyr_scanner.specs.Views.Tokens.{Piece}
-use Rattle.saphyr_parser.specs.declared.parser.context.NodeContext.{NodeContext}
-use Rattle.saphyr_parser.specs.Events.{ResolvedTag}
-use Rattle.saphyr_parser.specs.Steps.Machine.{◌>>=◌, Anchors, Names, meaning, Machine, Told, put_back, with_anchor, next_id}
-use Rattle.saphyr_parser.specs.Steps.Tags.{undeclared_prefix, declared_prefix_or, declared_prefix, resolved_tag_at, is_named_handle}
-use Rattle.saphyr_parser.specs.Steps.Contexts.{allows_block, allows_indentless}
-use Rattle.saphyr_parser.specs.Steps.Nodes.{NodeProperties, register, has_property, node_without_content, node_content_at, node_content, next_content, alias_of, alias_node, node_behind_anchor_at, node_behind_anchor, node_behind_tag_at, node_behind_tag, node_at, node}
+use Rattle.saphyr_machine.specs.declared.context.NodeContext.{NodeContext}
+use Rattle.saphyr_machine.specs.Events.{ResolvedTag}
+use Rattle.saphyr_machine.specs.Steps.Machine.{◌>>=◌, Anchors, Names, meaning, Machine, Told, put_back, with_anchor, next_id}
+use Rattle.saphyr_machine.specs.Steps.Tags.{undeclared_prefix, declared_prefix_or, declared_prefix, resolved_tag_at, is_named_handle}
+use Rattle.saphyr_machine.specs.Steps.Contexts.{allows_block, allows_indentless}
+use Rattle.saphyr_machine.specs.Steps.Nodes.{NodeProperties, register, has_property, node_without_content, node_content_at, node_content, next_content, alias_of, alias_node, node_behind_anchor_at, node_behind_anchor, node_behind_tag_at, node_behind_tag, node_at, node}
 use Rattle.saphyr_parser.proofs.Beside.Machines.{Beside, SpansAlike, Near, Held, GivesAlike, Alike, TellsAlike, Both, AtBoth, either, of_kind, taken, refuses, registers, tells_end, enters_told}
 
 -- ## Tags

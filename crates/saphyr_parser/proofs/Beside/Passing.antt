@@ -7,8 +7,8 @@ use Rattle.saphyr_scanner.specs.Grammar.Tokens as tokens
 use Rattle.saphyr_scanner.specs.Grammar.Tokens.{Kind}
 use Rattle.saphyr_scanner.specs.Views.Tokens.{Piece, Remaining}
 use Rattle.saphyr_parser.specs.Premises.{Ends}
-use Rattle.saphyr_parser.specs.Steps.Machine.{◌>>=◌, Machine, with_pieces, with_meaning, is_listed}
-use Rattle.saphyr_parser.specs.Steps.Documents.{unpassed_token_from, is_mark, is_end_or_mark, Declared, is_directive, directive_at, directives_from}
+use Rattle.saphyr_machine.specs.Steps.Machine.{◌>>=◌, Machine, with_pieces, with_meaning, is_listed}
+use Rattle.saphyr_machine.specs.Steps.Documents.{unpassed_token_from, is_mark, is_end_or_mark, Declared, is_directive, directive_at, directives_from}
 use Rattle.saphyr_parser.proofs.Beside.Machines.{Beside, Behind, SpansAlike, With, Ahead, Held, GivesAlike, AtBoth, goes_on, either, of_kind, over, Head, head, holds_head, changed}
 
 -- ## Tokens that are passed

@@ -1,13 +1,13 @@
 -- What holds of each parser behind a call of `load`.
 use Rattle.std.proofs.Common.{◌≡◌, Bool, true, false, Option, Some, None, Result, Ok, Err, refl, sym, subst}
 use Rattle.saphyr_scalar.specs.declared.scalar.position.Span.{Span}
-use Rattle.saphyr_parser.specs.declared.parser.fault.Fault.{Fault}
-use Rattle.saphyr_parser.specs.declared.parser.fault.Fault.TheVariants as faults
-use Rattle.saphyr_parser.specs.declared.parser.receiver.Refused.{Refused}
-use Rattle.saphyr_parser.specs.Events.{Happening}
-use Rattle.saphyr_parser.specs.Cursor.{EventCursor, IsKept, Kept}
-use Rattle.saphyr_parser.specs.Calls.{IsSound}
-use Rattle.saphyr_parser.specs.Loading.{Loads, MeetsBehind, Portion}
+use Rattle.saphyr_machine.specs.declared.fault.Fault.{Fault}
+use Rattle.saphyr_machine.specs.declared.fault.Fault.TheVariants as faults
+use Rattle.saphyr_machine.specs.declared.receiver.Refused.{Refused}
+use Rattle.saphyr_machine.specs.Events.{Happening}
+use Rattle.saphyr_machine.specs.Cursor.{EventCursor, IsKept, Kept}
+use Rattle.saphyr_machine.specs.Calls.{IsSound}
+use Rattle.saphyr_machine.specs.Loading.{Loads, MeetsBehind, Portion}
 use Rattle.saphyr_parser.proofs.Calls.Soundness.{sound_looks, sound_over}
 
 met : (es : _) (old new : EventCursor) → MeetsBehind es old new → IsSound old → IsSound new

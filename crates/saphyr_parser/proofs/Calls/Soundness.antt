@@ -2,20 +2,20 @@
 use Rattle.std.proofs.Common.{◌≡◌, Bool, List, [], ◌∷◌, Option, Some, None, Result, Ok, Err, refl, sym, ap, subst, arith}
 use Rattle.std.specs.Borrow.{Bor}
 use Rattle.saphyr_scalar.specs.declared.scalar.position.Span.{Span}
-use Rattle.saphyr_parser.specs.declared.parser.event.Event.{Event}
-use Rattle.saphyr_parser.specs.declared.parser.fault.Fault.{Fault}
-use Rattle.saphyr_parser.specs.declared.parser.fault.Fault.TheVariants as fault
-use Rattle.saphyr_parser.specs.declared.parser.state.State.{State}
-use Rattle.saphyr_parser.specs.declared.parser.state.State.TheVariants as state
-use Rattle.saphyr_parser.specs.Events.{Happening, StreamEnd}
-use Rattle.saphyr_parser.specs.Steps.Machine.{Machine}
-use Rattle.saphyr_parser.specs.Answer as answer
-use Rattle.saphyr_parser.specs.Answer.{Answer, Ending, empty_answer, remaining_answer}
-use Rattle.saphyr_parser.specs.Cursor.{EventCursor, Kept, Refuses, event_of, finished_behind}
-use Rattle.saphyr_parser.specs.Calls.{Advances, AdvancesOver, EndsTheStream, Ends, FailsWith, GivesNext, HasFinished, IsShown, IsSound, LeavesEnd, Looks, Peeks, ReadsAhead, given_fault}
-use Rattle.saphyr_parser.proofs.Unroll.{over}
-use Rattle.saphyr_parser.proofs.Calls.Handing.{goes_on}
-use Rattle.saphyr_parser.proofs.Calls.Looking.{looks_stays, shows_head}
+use Rattle.saphyr_machine.specs.declared.event.Event.{Event}
+use Rattle.saphyr_machine.specs.declared.fault.Fault.{Fault}
+use Rattle.saphyr_machine.specs.declared.fault.Fault.TheVariants as fault
+use Rattle.saphyr_machine.specs.declared.state.State.{State}
+use Rattle.saphyr_machine.specs.declared.state.State.TheVariants as state
+use Rattle.saphyr_machine.specs.Events.{Happening, StreamEnd}
+use Rattle.saphyr_machine.specs.Steps.Machine.{Machine}
+use Rattle.saphyr_machine.specs.Answer as answer
+use Rattle.saphyr_machine.specs.Answer.{Answer, Ending, empty_answer, remaining_answer}
+use Rattle.saphyr_machine.specs.Cursor.{EventCursor, Kept, Refuses, event_of, finished_behind}
+use Rattle.saphyr_machine.specs.Calls.{Advances, AdvancesOver, EndsTheStream, Ends, FailsWith, GivesNext, HasFinished, IsShown, IsSound, LeavesEnd, Looks, Peeks, ReadsAhead, given_fault}
+use Rattle.saphyr_machine.proofs.Unroll.{over}
+use Rattle.saphyr_machine.proofs.Calls.Handing.{goes_on}
+use Rattle.saphyr_machine.proofs.Calls.Looking.{looks_stays, shows_head}
 use Rattle.saphyr_parser.proofs.Calls.StreamEnds.{closes}
 
 -- ## Behind an event

@@ -6,21 +6,21 @@ use Rattle.saphyr_scalar.specs.declared.scalar.fault.Refusal.{Refusal}
 use Rattle.saphyr_scanner.specs.Grammar.Tokens as tokens
 use Rattle.saphyr_scanner.specs.Grammar.Tokens.{Kind}
 use Rattle.saphyr_scanner.specs.Views.Tokens.{Piece}
-use Rattle.saphyr_parser.specs.declared.parser.context.NodeContext.{NodeContext}
-use Rattle.saphyr_parser.specs.declared.parser.context.NodeContext.TheVariants.{Flow, Block, BlockMapping}
-use Rattle.saphyr_parser.specs.declared.parser.state.State.{State}
-use Rattle.saphyr_parser.specs.declared.parser.state.State.TheVariants as state
-use Rattle.saphyr_parser.specs.Events.{ResolvedTag}
-use Rattle.saphyr_parser.specs.Steps.Machine.{◌>>=◌, Machine, Told, meaning, taken_token}
-use Rattle.saphyr_parser.specs.Steps.Tags.{resolved_tag_at}
-use Rattle.saphyr_parser.specs.Steps.Nodes.{NodeProperties, no_node_properties, has_property, node_without_content, node_content, node_content_at, next_content, alias_node, alias_of, register, node_behind_anchor, node_behind_anchor_at, node_behind_tag, node_behind_tag_at, node, node_at}
-use Rattle.saphyr_parser.specs.Steps.Contexts.{allows_block, allows_indentless}
-use Rattle.saphyr_parser.specs.Steps.Block as block
-use Rattle.saphyr_parser.specs.Steps.Flow as flow
-use Rattle.saphyr_parser.specs.Steps.Documents as document
-use Rattle.saphyr_parser.specs.Steps.Block.{block_node}
-use Rattle.saphyr_parser.specs.Steps.Expected.{event_step, event_step_at}
-use Rattle.saphyr_parser.specs.Calls.{LeavesEnd}
+use Rattle.saphyr_machine.specs.declared.context.NodeContext.{NodeContext}
+use Rattle.saphyr_machine.specs.declared.context.NodeContext.TheVariants.{Flow, Block, BlockMapping}
+use Rattle.saphyr_machine.specs.declared.state.State.{State}
+use Rattle.saphyr_machine.specs.declared.state.State.TheVariants as state
+use Rattle.saphyr_machine.specs.Events.{ResolvedTag}
+use Rattle.saphyr_machine.specs.Steps.Machine.{◌>>=◌, Machine, Told, meaning, taken_token}
+use Rattle.saphyr_machine.specs.Steps.Tags.{resolved_tag_at}
+use Rattle.saphyr_machine.specs.Steps.Nodes.{NodeProperties, no_node_properties, has_property, node_without_content, node_content, node_content_at, next_content, alias_node, alias_of, register, node_behind_anchor, node_behind_anchor_at, node_behind_tag, node_behind_tag_at, node, node_at}
+use Rattle.saphyr_machine.specs.Steps.Contexts.{allows_block, allows_indentless}
+use Rattle.saphyr_machine.specs.Steps.Block as block
+use Rattle.saphyr_machine.specs.Steps.Flow as flow
+use Rattle.saphyr_machine.specs.Steps.Documents as document
+use Rattle.saphyr_machine.specs.Steps.Block.{block_node}
+use Rattle.saphyr_machine.specs.Steps.Expected.{event_step, event_step_at}
+use Rattle.saphyr_machine.specs.Calls.{LeavesEnd}
 
 -- where a step tells the end of the stream, it leaves the machine at its end
 abbrev pub Closes : Result Told Refusal → Type 0

@@ -2,16 +2,17 @@
 -- too.
 use Rattle.std.specs.Prelude.{codes}
 use Rattle.std.proofs.Common.{◌≡◌, ℕ, Bool, true, false, List, [], ◌∷◌, Some, refl, inl, inr, arith}
-use Rattle.saphyr_scalar.specs.Spelling.Spaces.{IsEol, IsFiller, IsLastFiller, IsLineRest}
-use Rattle.saphyr_scanner.specs.Grammar.Layout.{most_open, IsDocument, IsDocumentSuffix, AreDocuments, IsLayoutText}
+use Rattle.scalar_laws.specs.Spelling.Spaces.{IsEol, IsFiller, IsLastFiller, IsLineRest}
+use Rattle.saphyr_scanner.specs.Limits.{most_open}
 use Rattle.saphyr_scanner.specs.Grammar.Forest.{left_out}
-use Rattle.saphyr_scanner.specs.Grammar.BlockNodes.{IsBlockNode}
-use Rattle.saphyr_scanner.proofs.Examples.MarkerAlone.{stands_for_one}
-use Rattle.saphyr_parser.specs.Events as events
-use Rattle.saphyr_parser.specs.Steps.Machine.{empty_scalar}
+use Rattle.saphyr_machine.specs.Events as events
+use Rattle.saphyr_machine.specs.Steps.Machine.{empty_scalar}
+use Rattle.layout_laws.specs.Grammar.Layout.{IsDocument, IsDocumentSuffix, AreDocuments, IsLayoutText}
+use Rattle.layout_laws.specs.Grammar.BlockNodes.{IsBlockNode}
+use Rattle.layout_laws.proofs.Examples.MarkerAlone.{stands_for_one}
 use Rattle.saphyr_parser.specs.ForestEvents.{events}
 use Rattle.saphyr_parser.specs.Examples.Forests as examples
-use Rattle.saphyr_parser.specs.Cursor.{EventCursor, keeping_tags, to_come}
+use Rattle.saphyr_machine.specs.Cursor.{EventCursor, keeping_tags, to_come}
 use Rattle.saphyr_parser.specs.Exactly.{GivesExactly}
 use Rattle.saphyr_parser.specs.Premises.{IsClosed, IsPromised, Starts, GivesFirst}
 use Rattle.saphyr_parser.specs.Promises.{ReadsLayout, ReadsClosedLayout}

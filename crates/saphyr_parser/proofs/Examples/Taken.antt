@@ -6,15 +6,15 @@ use Rattle.saphyr_scanner.specs.Grammar.Tokens as tokens
 use Rattle.saphyr_scanner.specs.Views.Tokens.{Piece}
 use Rattle.saphyr_scanner.specs.TokensTaken as taken
 use Rattle.saphyr_scanner.specs.TokensTaken.{AreTakenFrom, AreApart}
-use Rattle.saphyr_parser.specs.Events as events
-use Rattle.saphyr_parser.specs.Events.{Happening}
-use Rattle.saphyr_parser.specs.Steps.Machine.{empty_scalar}
+use Rattle.saphyr_machine.specs.Events as events
+use Rattle.saphyr_machine.specs.Events.{Happening}
+use Rattle.saphyr_machine.specs.Steps.Machine.{empty_scalar}
 use Rattle.saphyr_parser.specs.ForestEvents.{events}
 use Rattle.saphyr_parser.specs.Examples.Forests as examples
 use Rattle.saphyr_parser.specs.EventsTaken as taking
 use Rattle.saphyr_parser.specs.EventsTaken.{AreTaken, HaveTokens}
 use Rattle.saphyr_parser.specs.Premises.{IsClosed, IsPromised, Starts, events_behind_marker, ReadsEach, ReadsClosed}
-use Rattle.saphyr_parser.specs.Cursor.{EventCursor}
+use Rattle.saphyr_machine.specs.Cursor.{EventCursor}
 
 -- ## The empty text
 

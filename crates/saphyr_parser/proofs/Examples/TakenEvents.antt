@@ -6,11 +6,11 @@ use Rattle.saphyr_scanner.specs.Grammar.Tokens as tokens
 use Rattle.saphyr_scanner.specs.Views.Tokens.{Piece}
 use Rattle.saphyr_scanner.specs.Grammar.Forest.{Plain}
 use Rattle.saphyr_scanner.specs.Grammar.TokenGrammar.{Yields}
-use Rattle.saphyr_scanner.specs.Examples.TakenTexts as texts
-use Rattle.saphyr_scanner.specs.Examples.TakenTexts.{marker_at}
-use Rattle.saphyr_scanner.proofs.AllTokens.{bare_yields}
-use Rattle.saphyr_scanner.proofs.Examples.TakenLines.{takes_block_alias}
-use Rattle.saphyr_parser.specs.Events as events
+use Rattle.json_laws.proofs.AllTokens.{bare_yields}
+use Rattle.taken_laws.specs.Examples.TakenTexts as texts
+use Rattle.taken_laws.specs.Examples.TakenTexts.{marker_at}
+use Rattle.taken_laws.proofs.Examples.TakenLines.{takes_block_alias}
+use Rattle.saphyr_machine.specs.Events as events
 use Rattle.saphyr_parser.specs.Exactly.{kinds}
 use Rattle.saphyr_parser.specs.Examples.Forests as examples
 use Rattle.saphyr_parser.specs.EventsTaken as taking

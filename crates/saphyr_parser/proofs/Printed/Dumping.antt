@@ -3,17 +3,17 @@ use Rattle.std.proofs.Common.{◌≡◌, ℕ, List, [], ◌∷◌, ◌++◌, Opt
 use Rattle.std.specs.Io.KnownBytes.{Appends}
 use Rattle.std.proofs.KnownBytes.{Appends-trans, Appends-nil}
 use Rattle.saphyr_scalar.specs.declared.scalar.position.Span.{Span}
-use Rattle.saphyr_parser.specs.declared.parser.fault.Fault.{Fault}
-use Rattle.saphyr_parser.specs.declared.parser.fault.Fault.TheVariants as fault
+use Rattle.saphyr_machine.specs.declared.fault.Fault.{Fault}
+use Rattle.saphyr_machine.specs.declared.fault.Fault.TheVariants as fault
 use Rattle.saphyr_parser.specs.declared.printing.fault.DumpFault.TheVariants as dump
-use Rattle.saphyr_parser.specs.Events.{Happening}
-use Rattle.saphyr_parser.specs.Answer.{Answer, empty_answer}
-use Rattle.saphyr_parser.specs.Cursor.{EventCursor, Refuses, to_come}
-use Rattle.saphyr_parser.specs.Calls.{Advances, AdvancesOver, FailsWith, IsOver}
+use Rattle.saphyr_machine.specs.Events.{Happening}
+use Rattle.saphyr_machine.specs.Answer.{Answer, empty_answer}
+use Rattle.saphyr_machine.specs.Cursor.{EventCursor, Refuses, to_come}
+use Rattle.saphyr_machine.specs.Calls.{Advances, AdvancesOver, FailsWith, IsOver}
 use Rattle.saphyr_parser.specs.Written.{TakesSome}
 use Rattle.saphyr_parser.specs.Printed.{printed_line, printed_lines}
 use Rattle.saphyr_parser.specs.Dumps.{Prints, Cuts, Dumps, PrintsUpTo, CutsAt, Leaves}
-use Rattle.saphyr_parser.proofs.Calls.Handing.{advances, fails, nothing_left, over_more, over_splits}
+use Rattle.saphyr_machine.proofs.Calls.Handing.{advances, fails, nothing_left, over_more, over_splits}
 
 pub lines-append : (es fs : List (Happening × Span)) → printed_lines (es ++ fs) ≡ printed_lines es ++ printed_lines fs
 lines-append [] fs = refl

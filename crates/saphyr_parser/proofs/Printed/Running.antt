@@ -2,13 +2,13 @@
 use Rattle.std.proofs.Common.{ℕ, List, [], ◌++◌, Option, Result, Ok, Err, sym, ap, ◌∙◌, append-nil, append_assoc}
 use Rattle.std.specs.Io.KnownBytes.{Appends, Keeps}
 use Rattle.std.proofs.KnownBytes.{Appends-kept}
-use Rattle.saphyr_parser.specs.declared.parser.fault.Fault.{Fault}
-use Rattle.saphyr_parser.specs.declared.parser.fault.Fault.TheVariants as fault
+use Rattle.saphyr_machine.specs.declared.fault.Fault.{Fault}
+use Rattle.saphyr_machine.specs.declared.fault.Fault.TheVariants as fault
 use Rattle.saphyr_parser.specs.declared.printing.fault.DumpFault.{DumpFault}
 use Rattle.saphyr_parser.specs.declared.printing.fault.DumpFault.TheVariants as dump
 use Rattle.saphyr_parser.specs.declared.printing.run.RunFault.{RunFault}
 use Rattle.saphyr_parser.specs.declared.printing.run.RunFault.TheVariants as run
-use Rattle.saphyr_parser.specs.Answer.{Answer}
+use Rattle.saphyr_machine.specs.Answer.{Answer}
 use Rattle.saphyr_parser.specs.Printed.{printed_lines}
 use Rattle.saphyr_parser.specs.Dumps.{Prints, Cuts, Dumps}
 use Rattle.saphyr_parser.specs.Runs.{TakesBeginning, PrintsText, DumpsText, Becomes}

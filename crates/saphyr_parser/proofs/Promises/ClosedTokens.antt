@@ -5,19 +5,19 @@ use Rattle.saphyr_scalar.specs.declared.scalar.position.Span.{Span}
 use Rattle.saphyr_scalar.specs.declared.scalar.fault.Refusal.{Refusal}
 use Rattle.saphyr_scanner.specs.Grammar.Tokens as tokens
 use Rattle.saphyr_scanner.specs.Views.Tokens.{Piece}
-use Rattle.saphyr_parser.specs.declared.parser.state.State.{State}
-use Rattle.saphyr_parser.specs.declared.parser.state.State.TheVariants as state
-use Rattle.saphyr_parser.specs.Events as events
-use Rattle.saphyr_parser.specs.Events.{Happening}
+use Rattle.saphyr_machine.specs.declared.state.State.{State}
+use Rattle.saphyr_machine.specs.declared.state.State.TheVariants as state
+use Rattle.saphyr_machine.specs.Events as events
+use Rattle.saphyr_machine.specs.Events.{Happening}
 use Rattle.saphyr_parser.specs.Premises.{DocumentMarker, Starts, Ends, events_behind_marker, GivesFirst}
-use Rattle.saphyr_parser.specs.Steps.Machine.{Machine, fresh_machine, told_event, empty_scalar, with_state, with_pieces}
-use Rattle.saphyr_parser.specs.Steps.Documents.{unpassed_token, implicit_start, explicit_start, document_content, document_end, token_behind_document, without_prefixes}
-use Rattle.saphyr_parser.specs.Steps.Expected.{event_step, event_step_at}
-use Rattle.saphyr_parser.specs.Answer.{Answer, with_first_event, answer_of_step, remaining_answer}
-use Rattle.saphyr_parser.specs.Cursor.{at_start, keeping_tags, to_come}
+use Rattle.saphyr_machine.specs.Steps.Machine.{Machine, fresh_machine, told_event, empty_scalar, with_state, with_pieces}
+use Rattle.saphyr_machine.specs.Steps.Documents.{unpassed_token, implicit_start, explicit_start, document_content, document_end, token_behind_document, without_prefixes}
+use Rattle.saphyr_machine.specs.Steps.Expected.{event_step, event_step_at}
+use Rattle.saphyr_machine.specs.Answer.{Answer, with_first_event, answer_of_step, remaining_answer}
+use Rattle.saphyr_machine.specs.Cursor.{at_start, keeping_tags, to_come}
 use Rattle.saphyr_parser.specs.Exactly.{GivesExactly, answer_of_tokens}
 use Rattle.saphyr_parser.specs.More.{marker_token}
-use Rattle.saphyr_parser.proofs.Unroll.{unroll, over}
+use Rattle.saphyr_machine.proofs.Unroll.{unroll, over}
 use Rattle.saphyr_parser.proofs.Longer.{More, longer, IsLastOr, End}
 use Rattle.saphyr_parser.proofs.Beside.Documents.{IsBetweenDocuments}
 use Rattle.saphyr_parser.proofs.Beside.Machines.{Awaits}

@@ -9,10 +9,10 @@ use Rattle.saphyr_scanner.specs.Grammar.TokenGrammar.{YieldsDocument, AreEndsAnd
 use Rattle.saphyr_scanner.specs.Views.Tokens.{Piece, Remaining}
 use Rattle.saphyr_parser.specs.Anchors.{anchors}
 use Rattle.saphyr_parser.specs.Preorder.{Part, CloseDocument, CloseSequence, CloseMapping, node_parts, entry_parts, pair_parts, document_parts, parts}
-use Rattle.saphyr_parser.specs.Events.{Happening}
+use Rattle.saphyr_machine.specs.Events.{Happening}
 use Rattle.saphyr_parser.specs.ForestEvents.{events}
-use Rattle.saphyr_parser.specs.Steps.Machine.{no_anchors}
-use Rattle.saphyr_parser.specs.Cursor.{at_start, keeping_tags, to_come}
+use Rattle.saphyr_machine.specs.Steps.Machine.{no_anchors}
+use Rattle.saphyr_machine.specs.Cursor.{at_start, keeping_tags, to_come}
 use Rattle.saphyr_parser.specs.Exactly.{GivesExactly, kinds, answer_of_tokens}
 use Rattle.saphyr_parser.proofs.Told.Telling.{SpansByKinds, Memory, dressed, dress}
 use Rattle.saphyr_parser.proofs.Remembering.{events_in}

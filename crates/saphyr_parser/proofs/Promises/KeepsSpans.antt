@@ -7,13 +7,13 @@ use Rattle.saphyr_scanner.specs.SpansInOrder.{AreInOrder}
 use Rattle.saphyr_scanner.specs.AtPlaces.{AreAtPlaces}
 use Rattle.saphyr_scanner.specs.TokensTaken as taken
 use Rattle.saphyr_scanner.specs.TokensTaken.{IsPlaceOf}
-use Rattle.saphyr_parser.specs.Steps.Machine.{Machine}
-use Rattle.saphyr_parser.specs.Answer.{remaining_answer, machine_size}
-use Rattle.saphyr_parser.specs.Cursor.{EventCursor, at_start, keeping_tags}
+use Rattle.saphyr_machine.specs.Steps.Machine.{Machine}
+use Rattle.saphyr_machine.specs.Answer.{remaining_answer, machine_size}
+use Rattle.saphyr_machine.specs.Cursor.{EventCursor, at_start, keeping_tags}
 use Rattle.saphyr_parser.specs.Promises.{KeepsSpans}
 use Rattle.saphyr_parser.specs.SpansWithin.{IsIn}
-use Rattle.saphyr_parser.proofs.Walk.Steps.{Walk}
-use Rattle.saphyr_parser.proofs.Walk.All.{Resumes, runs}
+use Rattle.saphyr_machine.proofs.Walk.Steps.{Walk}
+use Rattle.saphyr_machine.proofs.Walk.All.{Resumes, runs}
 
 lower_pieces : (n low high : ℕ) (ps : List Piece) → low ≤ high → AreInOrder n high ps → AreInOrder n low ps
 lower_pieces n low high [] l h = omega (arith, l, h)

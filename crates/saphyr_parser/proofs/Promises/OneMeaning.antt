@@ -1,6 +1,6 @@
 -- A text that a parser reads has one meaning: the parser's one list is the events of each of its forests.
 use Rattle.std.proofs.Common.{◌≤◌, ℕ, List, length, sym, ◌∙◌}
-use Rattle.saphyr_parser.specs.Cursor.{EventCursor}
+use Rattle.saphyr_machine.specs.Cursor.{EventCursor}
 use Rattle.saphyr_parser.specs.Premises.{Grammar, MeanTheSame, ReadsEach}
 
 pub mean_the_same :

@@ -4,20 +4,21 @@ use Rattle.std.proofs.Common.{◌≡◌, ℕ, ◌+◌, ◌*◌, ◌^◌, ◌<◌
 use Rattle.std.proofs.lemmas.List.{length-append, length-map}
 use Rattle.saphyr_input.specs.Classes.{carriage_return, line_feed}
 use Rattle.saphyr_input.specs.Breaks.{normalized}
-use Rattle.saphyr_scalar.specs.Spelling.Spaces.{IsLineRest}
-use Rattle.saphyr_scanner.specs.Grammar.ClosedTexts.{HandsOut}
+use Rattle.scalar_laws.specs.Spelling.Spaces.{IsLineRest}
 use Rattle.saphyr_scanner.specs.Grammar.Forest.{Forest}
-use Rattle.saphyr_scanner.specs.Grammar.Layout.{most_open, IsLayout, IsLayoutText}
+use Rattle.saphyr_scanner.specs.Limits.{most_open}
 use Rattle.saphyr_scanner.specs.Steps.Remaining.{scan}
 use Rattle.saphyr_scanner.specs.Views.Tokens.{Piece}
 use Rattle.saphyr_scanner.specs.Grammar.TokenGrammar.{Yields}
 use Rattle.saphyr_scanner.specs.Grammar.Tokens as tokens
 use Rattle.saphyr_scanner.specs.Grammar.Tokens.{Kind}
+use Rattle.layout_laws.specs.Grammar.ClosedTexts.{HandsOut}
+use Rattle.layout_laws.specs.Grammar.Layout.{IsLayout, IsLayoutText}
 use Rattle.saphyr_parser.specs.Anchors.{anchors}
 use Rattle.saphyr_parser.specs.Preorder.{parts}
-use Rattle.saphyr_parser.specs.Events.{Happening}
+use Rattle.saphyr_machine.specs.Events.{Happening}
 use Rattle.saphyr_parser.specs.ForestEvents.{events}
-use Rattle.saphyr_parser.specs.Cursor.{EventCursor, at_start, keeping_tags, to_come}
+use Rattle.saphyr_machine.specs.Cursor.{EventCursor, at_start, keeping_tags, to_come}
 use Rattle.saphyr_parser.specs.Exactly.{kinds}
 use Rattle.saphyr_parser.specs.More.{marker_token}
 use Rattle.saphyr_parser.specs.Promises.{ReadsClosedLayout}

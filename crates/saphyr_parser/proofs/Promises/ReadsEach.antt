@@ -8,7 +8,7 @@ use Rattle.saphyr_scanner.specs.Grammar.TokenGrammar.{Yields}
 use Rattle.saphyr_scanner.specs.Grammar.Tokens.{Kind}
 use Rattle.saphyr_parser.specs.Anchors.{anchors}
 use Rattle.saphyr_parser.specs.Preorder.{parts}
-use Rattle.saphyr_parser.specs.Cursor.{EventCursor, at_start, keeping_tags, to_come}
+use Rattle.saphyr_machine.specs.Cursor.{EventCursor, at_start, keeping_tags, to_come}
 use Rattle.saphyr_parser.specs.Exactly.{GivesExactly, kinds}
 use Rattle.saphyr_parser.specs.Premises.{Grammar, ReadsEach}
 use Rattle.saphyr_parser.proofs.AnchorCount.{forest_count}

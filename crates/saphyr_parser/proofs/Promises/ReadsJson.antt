@@ -1,14 +1,14 @@
 -- The promise on texts of JSON: a parser that stands at the start of one's tokens gives exactly its forest's events.
 use Rattle.std.proofs.Common.{◌≡◌, ◌≤◌, ℕ, Bool, List, length, Some, None, sym, subst}
 use Rattle.saphyr_scanner.specs.Grammar.Forest.{Forest, open_in_forest}
-use Rattle.saphyr_scanner.specs.Grammar.Json.{IsJson}
-use Rattle.saphyr_scanner.specs.Grammar.JsonTokens.{json_tokens}
 use Rattle.saphyr_scanner.specs.Steps.Remaining.{Scans, scan}
 use Rattle.saphyr_scanner.specs.Views.Tokens.{Remaining}
-use Rattle.saphyr_scanner.specs.Grammar.Layout.{most_open}
-use Rattle.saphyr_parser.specs.Events.{Happening}
+use Rattle.saphyr_machine.specs.Events.{Happening}
+use Rattle.saphyr_scanner.specs.Limits.{most_open}
+use Rattle.json_laws.specs.Grammar.Json.{IsJson}
+use Rattle.json_laws.specs.Grammar.JsonTokens.{json_tokens}
 use Rattle.saphyr_parser.specs.ForestEvents.{events}
-use Rattle.saphyr_parser.specs.Cursor.{EventCursor, at_start, keeping_tags, to_come}
+use Rattle.saphyr_machine.specs.Cursor.{EventCursor, at_start, keeping_tags, to_come}
 use Rattle.saphyr_parser.specs.Exactly.{GivesExactly, kinds}
 use Rattle.saphyr_parser.specs.Promises.{ReadsJson}
 

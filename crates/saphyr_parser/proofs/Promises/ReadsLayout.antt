@@ -2,11 +2,12 @@
 -- forest's events.
 use Rattle.std.proofs.Common.{◌≡◌, ◌+◌, ◌*◌, ◌≤◌, ◌<◌, ◌^◌, ℕ, List, length, arith}
 use Rattle.saphyr_scanner.specs.Grammar.Forest.{Forest}
-use Rattle.saphyr_scanner.specs.Grammar.Layout.{IsLayoutText, most_open}
+use Rattle.saphyr_scanner.specs.Limits.{most_open}
 use Rattle.saphyr_scanner.specs.Grammar.TokenGrammar.{Yields}
 use Rattle.saphyr_scanner.specs.Grammar.Tokens.{Kind}
 use Rattle.saphyr_scanner.specs.Steps.Remaining.{Scans, scan}
-use Rattle.saphyr_parser.specs.Cursor.{EventCursor, at_start}
+use Rattle.saphyr_machine.specs.Cursor.{EventCursor, at_start}
+use Rattle.layout_laws.specs.Grammar.Layout.{IsLayoutText}
 use Rattle.saphyr_parser.specs.Promises.{ReadsLayout}
 use Rattle.saphyr_parser.proofs.Promises.ReadsEach.{reads_each}
 

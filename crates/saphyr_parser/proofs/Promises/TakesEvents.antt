@@ -10,7 +10,7 @@ use Rattle.saphyr_scanner.specs.Steps.Remaining.{scan}
 use Rattle.saphyr_scanner.specs.Ends.{HasNoEnd, EndsWithStream}
 use Rattle.saphyr_scanner.specs.TokensTaken.{IsPlaceOf, IsEndOf, AreTakenFrom}
 use Rattle.saphyr_scanner.specs.AtPlaces.{AreAtPlaces}
-use Rattle.saphyr_parser.specs.Cursor.{EventCursor, at_start}
+use Rattle.saphyr_machine.specs.Cursor.{EventCursor, at_start}
 use Rattle.saphyr_parser.specs.Promises.{TakesEvents}
 use Rattle.saphyr_parser.proofs.Refusing.{IsRefusedAt, IsLastOr, AreEnded, refused_at}
 use Rattle.saphyr_parser.proofs.Sound.{begins}

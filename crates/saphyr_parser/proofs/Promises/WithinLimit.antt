@@ -1,7 +1,7 @@
 -- A text within the limit is read as a whole, though no more items than a bound are taken.
 use Rattle.std.proofs.Common.{◌≡◌, ℕ, ◌≤◌, List, take, subst, arith}
 use Rattle.std.proofs.lemmas.List.{take_all}
-use Rattle.saphyr_parser.specs.Cursor.{EventCursor}
+use Rattle.saphyr_machine.specs.Cursor.{EventCursor}
 use Rattle.saphyr_parser.specs.Premises.{Grammar, ReadsEach}
 use Rattle.saphyr_parser.specs.Promises.{ReadsClosedLayout}
 

@@ -4,13 +4,13 @@ use Rattle.saphyr_scanner.specs.Grammar.Forest.{Node}
 use Rattle.saphyr_scanner.specs.Grammar.Forest as forest
 use Rattle.saphyr_scanner.specs.Grammar.Tokens.{Kind, BlockEntry, BlockEnd, Key, Value}
 use Rattle.saphyr_scanner.specs.Grammar.TokenGrammar.{InBlock, InBlockMapping, YieldsOptional, YieldsMarkedKey, YieldsMarkedValue, YieldsBlockPair, BeginsWithValue, YieldsNode}
-use Rattle.saphyr_parser.specs.declared.parser.context.NodeContext.TheVariants.{Block, BlockMapping}
-use Rattle.saphyr_parser.specs.declared.parser.state.State.{State}
-use Rattle.saphyr_parser.specs.declared.parser.state.State.TheVariants as state
+use Rattle.saphyr_machine.specs.declared.context.NodeContext.TheVariants.{Block, BlockMapping}
+use Rattle.saphyr_machine.specs.declared.state.State.{State}
+use Rattle.saphyr_machine.specs.declared.state.State.TheVariants as state
 use Rattle.saphyr_parser.specs.Preorder.{Part, node_parts}
-use Rattle.saphyr_parser.specs.Steps.Machine.{told_event, empty_scalar}
-use Rattle.saphyr_parser.specs.Steps.Block.{block_sequence_entry, block_sequence_node, indentless_sequence_entry, indentless_sequence_node, block_mapping_key, block_key_node, block_mapping_value, block_value_node}
-use Rattle.saphyr_parser.specs.Steps.Expected.{event_step}
+use Rattle.saphyr_machine.specs.Steps.Machine.{told_event, empty_scalar}
+use Rattle.saphyr_machine.specs.Steps.Block.{block_sequence_entry, block_sequence_node, indentless_sequence_entry, indentless_sequence_node, block_mapping_key, block_key_node, block_mapping_value, block_value_node}
+use Rattle.saphyr_machine.specs.Steps.Expected.{event_step}
 use Rattle.saphyr_parser.proofs.Told.Telling.{SpansByKinds, Memory, at}
 use Rattle.saphyr_parser.proofs.Remembering.{after_node, TellsParts}
 use Rattle.saphyr_parser.proofs.Told.Nodes.{next_node}

@@ -5,11 +5,11 @@ use Rattle.saphyr_scanner.specs.Grammar.Forest as forest
 use Rattle.saphyr_scanner.specs.Grammar.Tokens.{Kind, BlockSequenceStart, BlockMappingStart, BlockEnd, FlowSequenceStart, FlowSequenceEnd, FlowMappingStart, FlowMappingEnd, BlockEntry, FlowEntry, Key, Value}
 use Rattle.saphyr_scanner.specs.Grammar.TokenGrammar as grammar
 use Rattle.saphyr_scanner.specs.Grammar.TokenGrammar.{InFlow, InBlock, InBlockMapping, BeginsWithValue, YieldsNode, YieldFlowEntries, YieldOtherFlowEntries, YieldFlowPairs, YieldOtherFlowPairs, YieldBlockEntries, YieldBlockPairs}
-use Rattle.saphyr_parser.specs.declared.parser.state.State.{State}
-use Rattle.saphyr_parser.specs.declared.parser.state.State.TheVariants as state
+use Rattle.saphyr_machine.specs.declared.state.State.{State}
+use Rattle.saphyr_machine.specs.declared.state.State.TheVariants as state
 use Rattle.saphyr_parser.specs.Preorder.{Part, OpenSequence, CloseSequence, OpenMapping, CloseMapping, entry_parts, pair_parts}
-use Rattle.saphyr_parser.specs.Events.{SequenceStart, MappingStart}
-use Rattle.saphyr_parser.specs.Steps.Nodes.{span_up_to}
+use Rattle.saphyr_machine.specs.Events.{SequenceStart, MappingStart}
+use Rattle.saphyr_machine.specs.Steps.Nodes.{span_up_to}
 use Rattle.saphyr_parser.proofs.Told.Telling.{SpansByKinds, Memory, at}
 use Rattle.saphyr_parser.proofs.Remembering.{noted, after_nodes, after_pairs, TellsParts}
 use Rattle.saphyr_parser.proofs.Told.Nodes.{next_node, node_opens}

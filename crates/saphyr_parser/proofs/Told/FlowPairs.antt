@@ -6,14 +6,14 @@ use Rattle.saphyr_scanner.specs.Grammar.Forest as forest
 use Rattle.saphyr_scanner.specs.Grammar.Tokens.{Kind, FlowMappingEnd, FlowEntry, Key, Value}
 use Rattle.saphyr_scanner.specs.Grammar.TokenGrammar.{InFlow, YieldsOptional, YieldsMarkedKey, YieldsMarkedValue, YieldsFlowPair, YieldsNode}
 use Rattle.saphyr_scanner.specs.Views.Tokens.{Piece}
-use Rattle.saphyr_parser.specs.declared.parser.context.NodeContext.TheVariants.{Flow}
-use Rattle.saphyr_parser.specs.declared.parser.state.State.{State}
-use Rattle.saphyr_parser.specs.declared.parser.state.State.TheVariants as state
+use Rattle.saphyr_machine.specs.declared.context.NodeContext.TheVariants.{Flow}
+use Rattle.saphyr_machine.specs.declared.state.State.{State}
+use Rattle.saphyr_machine.specs.declared.state.State.TheVariants as state
 use Rattle.saphyr_parser.specs.Preorder.{Part, node_parts}
-use Rattle.saphyr_parser.specs.Steps.Machine.{Machine, told_event, empty_scalar}
-use Rattle.saphyr_parser.specs.Steps.Nodes.{node_inside}
-use Rattle.saphyr_parser.specs.Steps.Flow.{flow_mapping_pair_at, flow_key_node, flow_mapping_value, flow_value_node, flow_mapping_empty_value}
-use Rattle.saphyr_parser.specs.Steps.Expected.{event_step}
+use Rattle.saphyr_machine.specs.Steps.Machine.{Machine, told_event, empty_scalar}
+use Rattle.saphyr_machine.specs.Steps.Nodes.{node_inside}
+use Rattle.saphyr_machine.specs.Steps.Flow.{flow_mapping_pair_at, flow_key_node, flow_mapping_value, flow_value_node, flow_mapping_empty_value}
+use Rattle.saphyr_machine.specs.Steps.Expected.{event_step}
 use Rattle.saphyr_parser.proofs.Told.Telling.{SpansByKinds, Memory, at}
 use Rattle.saphyr_parser.proofs.Remembering.{after_node, SaysParts, TellsParts}
 use Rattle.saphyr_parser.proofs.Told.Nodes.{next_node}

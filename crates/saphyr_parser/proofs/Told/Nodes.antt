@@ -13,16 +13,16 @@ use Rattle.saphyr_scanner.specs.Grammar.Tokens as tokens
 use Rattle.saphyr_scanner.specs.Grammar.Tokens.{Kind, anchor_token, tag_token}
 use Rattle.saphyr_scanner.specs.Grammar.TokenGrammar.{AreBoth, YieldProperties}
 use Rattle.saphyr_scanner.specs.Views.Tokens.{Piece}
-use Rattle.saphyr_parser.specs.declared.parser.context.NodeContext.{NodeContext}
-use Rattle.saphyr_parser.specs.declared.parser.state.State.{State}
-use Rattle.saphyr_parser.specs.declared.parser.state.State.TheVariants as state
+use Rattle.saphyr_machine.specs.declared.context.NodeContext.{NodeContext}
+use Rattle.saphyr_machine.specs.declared.state.State.{State}
+use Rattle.saphyr_machine.specs.declared.state.State.TheVariants as state
 use Rattle.saphyr_parser.specs.Preorder.{Part}
-use Rattle.saphyr_parser.specs.Events.{Happening, ResolvedTag}
-use Rattle.saphyr_parser.specs.Steps.Machine.{◌>>=◌, Names, meaning, next_id, Machine, Told, told_event, taken_token}
-use Rattle.saphyr_parser.specs.Steps.Tags.{declared_prefix, resolved_tag_at, declared_prefix_or, undeclared_prefix}
+use Rattle.saphyr_machine.specs.Events.{Happening, ResolvedTag}
+use Rattle.saphyr_machine.specs.Steps.Machine.{◌>>=◌, Names, meaning, next_id, Machine, Told, told_event, taken_token}
+use Rattle.saphyr_machine.specs.Steps.Tags.{declared_prefix, resolved_tag_at, declared_prefix_or, undeclared_prefix}
 use Rattle.saphyr_parser.specs.TagResolution.{default_prefix}
-use Rattle.saphyr_parser.specs.Steps.Nodes.{NodeProperties, no_node_properties, node_content_at, node_content, next_content, node_behind_anchor_at, node_behind_anchor, node_behind_tag_at, node_behind_tag, node_at, node}
-use Rattle.saphyr_parser.specs.Steps.Expected.{event_step}
+use Rattle.saphyr_machine.specs.Steps.Nodes.{NodeProperties, no_node_properties, node_content_at, node_content, next_content, node_behind_anchor_at, node_behind_anchor, node_behind_tag_at, node_behind_tag, node_at, node}
+use Rattle.saphyr_machine.specs.Steps.Expected.{event_step}
 use Rattle.saphyr_parser.proofs.Told.Telling.{SpansByKinds, Memory, at}
 use Rattle.saphyr_parser.proofs.Remembering.{noted, after, own_id_in, resolve, resolve_any, with_properties, event_in, SaysParts, says}
 

@@ -11,9 +11,9 @@ use Rattle.saphyr_scanner.specs.Grammar.TokenGrammar as grammar
 use Rattle.saphyr_scanner.specs.Grammar.TokenGrammar.{YieldsNode}
 use Rattle.saphyr_scanner.specs.Views.Tokens.{Piece}
 use Rattle.saphyr_parser.specs.Preorder.{Reference, Leaf}
-use Rattle.saphyr_parser.specs.Events.{Happening, ResolvedTag, Alias, Scalar}
-use Rattle.saphyr_parser.specs.Steps.Machine.{Machine, told_event, pop, put_back, meaning, next_id}
-use Rattle.saphyr_parser.specs.Steps.Nodes.{NodeProperties, has_property, span_up_to, node_without_content, alias_of, alias_node, node}
+use Rattle.saphyr_machine.specs.Events.{Happening, ResolvedTag, Alias, Scalar}
+use Rattle.saphyr_machine.specs.Steps.Machine.{Machine, told_event, pop, put_back, meaning, next_id}
+use Rattle.saphyr_machine.specs.Steps.Nodes.{NodeProperties, has_property, span_up_to, node_without_content, alias_of, alias_node, node}
 use Rattle.saphyr_parser.proofs.Told.Telling.{Memory, at}
 use Rattle.saphyr_parser.proofs.Remembering.{noted, resolve, says}
 use Rattle.saphyr_parser.proofs.Told.Nodes.{next_node, Has, node_opens}

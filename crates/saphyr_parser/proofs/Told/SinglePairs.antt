@@ -6,15 +6,15 @@ use Rattle.saphyr_scanner.specs.Grammar.Forest as forest
 use Rattle.saphyr_scanner.specs.Grammar.Tokens.{Kind, FlowSequenceEnd, FlowEntry, Key, Value}
 use Rattle.saphyr_scanner.specs.Grammar.TokenGrammar.{InFlow, YieldsMarkedKey, YieldsSinglePair, YieldsNode}
 use Rattle.saphyr_scanner.specs.Views.Tokens.{Piece}
-use Rattle.saphyr_parser.specs.declared.parser.context.NodeContext.TheVariants.{Flow}
-use Rattle.saphyr_parser.specs.declared.parser.state.State.{State}
-use Rattle.saphyr_parser.specs.declared.parser.state.State.TheVariants as state
+use Rattle.saphyr_machine.specs.declared.context.NodeContext.TheVariants.{Flow}
+use Rattle.saphyr_machine.specs.declared.state.State.{State}
+use Rattle.saphyr_machine.specs.declared.state.State.TheVariants as state
 use Rattle.saphyr_parser.specs.Preorder.{Part, OpenMapping, CloseMapping, node_parts}
-use Rattle.saphyr_parser.specs.Events.{MappingStart, MappingEnd}
-use Rattle.saphyr_parser.specs.Steps.Machine.{Machine, told_event, empty_scalar}
-use Rattle.saphyr_parser.specs.Steps.Nodes.{node_inside}
-use Rattle.saphyr_parser.specs.Steps.Flow.{flow_sequence_first_entry_at, flow_sequence_entry_mapping_key, flow_sequence_entry_mapping_value, flow_sequence_entry_mapping_node, flow_sequence_entry_mapping_end}
-use Rattle.saphyr_parser.specs.Steps.Expected.{event_step}
+use Rattle.saphyr_machine.specs.Events.{MappingStart, MappingEnd}
+use Rattle.saphyr_machine.specs.Steps.Machine.{Machine, told_event, empty_scalar}
+use Rattle.saphyr_machine.specs.Steps.Nodes.{node_inside}
+use Rattle.saphyr_machine.specs.Steps.Flow.{flow_sequence_first_entry_at, flow_sequence_entry_mapping_key, flow_sequence_entry_mapping_value, flow_sequence_entry_mapping_node, flow_sequence_entry_mapping_end}
+use Rattle.saphyr_machine.specs.Steps.Expected.{event_step}
 use Rattle.saphyr_parser.proofs.Told.Telling.{SpansByKinds, Memory, at}
 use Rattle.saphyr_parser.proofs.Remembering.{after_node, SaysParts, TellsParts, plainly}
 use Rattle.saphyr_parser.proofs.Told.Nodes.{next_node}

@@ -6,12 +6,12 @@ use Rattle.saphyr_scanner.specs.Grammar.Forest.{Directive, Document, Forest}
 use Rattle.saphyr_scanner.specs.Grammar.Tokens.{Kind, StreamStart, StreamEnd, DocumentStart, DocumentEnd, ByteOrderMark, directive_token}
 use Rattle.saphyr_scanner.specs.Grammar.TokenGrammar.{YieldsBareDocument, YieldsExplicitDocument, YieldsDocument, AreMarks, AreEndsAndMarks, YieldsBehindDocument, YieldDocuments, Yields}
 use Rattle.saphyr_scanner.specs.Views.Tokens.{Piece}
-use Rattle.saphyr_parser.specs.declared.parser.state.State.TheVariants as state
+use Rattle.saphyr_machine.specs.declared.state.State.TheVariants as state
 use Rattle.saphyr_parser.specs.Preorder.{Part, OpenStream, CloseStream, OpenDocument, CloseDocument, node_parts, document_parts, parts}
-use Rattle.saphyr_parser.specs.Events as events
-use Rattle.saphyr_parser.specs.Steps.Machine.{◌>>=◌, Machine}
-use Rattle.saphyr_parser.specs.Steps.Documents.{is_mark, stream_start, token_behind_marks_at, token_behind_marks, token_behind_document, document_end_at, document_end, without_prefixes}
-use Rattle.saphyr_parser.specs.Steps.Expected.{event_step}
+use Rattle.saphyr_machine.specs.Events as events
+use Rattle.saphyr_machine.specs.Steps.Machine.{◌>>=◌, Machine}
+use Rattle.saphyr_machine.specs.Steps.Documents.{is_mark, stream_start, token_behind_marks_at, token_behind_marks, token_behind_document, document_end_at, document_end, without_prefixes}
+use Rattle.saphyr_machine.specs.Steps.Expected.{event_step}
 use Rattle.saphyr_parser.proofs.Told.Telling.{SpansByKinds, Memory, at}
 use Rattle.saphyr_parser.proofs.Remembering.{closing, TellsParts, plainly}
 use Rattle.saphyr_parser.proofs.Told.Collections.{Next}

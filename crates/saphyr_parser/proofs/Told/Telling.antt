@@ -7,14 +7,14 @@ use Rattle.saphyr_scalar.specs.declared.scalar.position.Span.{Span}
 use Rattle.saphyr_scalar.specs.declared.scalar.fault.Refusal.{Refusal}
 use Rattle.saphyr_scanner.specs.Grammar.Tokens.{Kind}
 use Rattle.saphyr_scanner.specs.Views.Tokens.{Piece}
-use Rattle.saphyr_parser.specs.declared.parser.state.State.{State}
-use Rattle.saphyr_parser.specs.declared.parser.state.State.TheVariants.{End}
-use Rattle.saphyr_parser.specs.Events.{Happening}
-use Rattle.saphyr_parser.specs.Steps.Machine.{Names, Anchors, Machine, Told}
-use Rattle.saphyr_parser.specs.Steps.Expected.{event_step}
-use Rattle.saphyr_parser.specs.Answer.{with_first_event, answer_of_step, remaining_answer}
+use Rattle.saphyr_machine.specs.declared.state.State.{State}
+use Rattle.saphyr_machine.specs.declared.state.State.TheVariants.{End}
+use Rattle.saphyr_machine.specs.Events.{Happening}
+use Rattle.saphyr_machine.specs.Steps.Machine.{Names, Anchors, Machine, Told}
+use Rattle.saphyr_machine.specs.Steps.Expected.{event_step}
+use Rattle.saphyr_machine.specs.Answer.{with_first_event, answer_of_step, remaining_answer}
 use Rattle.saphyr_parser.specs.Exactly.{GivesExactly, kinds}
-use Rattle.saphyr_parser.proofs.Unroll.{unroll, over}
+use Rattle.saphyr_machine.proofs.Unroll.{unroll, over}
 
 -- ## Tokens by their kinds
 

@@ -9,13 +9,13 @@ use Rattle.saphyr_scanner.specs.Grammar.Forest as forest
 use Rattle.saphyr_scanner.specs.Grammar.Tokens.{Kind, BlockEnd, BlockEntry, Key, Value}
 use Rattle.saphyr_scanner.specs.Views.Tokens.{Piece}
 use Rattle.saphyr_scanner.specs.Grammar.TokenGrammar.{InBlock, InBlockMapping, BeginsWithValue, YieldsNode, YieldsMarkedPair}
-use Rattle.saphyr_parser.specs.declared.parser.context.NodeContext.TheVariants.{Block, BlockMapping}
-use Rattle.saphyr_parser.specs.declared.parser.state.State.{State}
-use Rattle.saphyr_parser.specs.declared.parser.state.State.TheVariants as state
+use Rattle.saphyr_machine.specs.declared.context.NodeContext.TheVariants.{Block, BlockMapping}
+use Rattle.saphyr_machine.specs.declared.state.State.{State}
+use Rattle.saphyr_machine.specs.declared.state.State.TheVariants as state
 use Rattle.saphyr_parser.specs.Preorder.{Part, Leaf, CloseSequence, CloseMapping, node_parts, pair_parts}
-use Rattle.saphyr_parser.specs.Events.{SequenceEnd, MappingEnd}
+use Rattle.saphyr_machine.specs.Events.{SequenceEnd, MappingEnd}
 use Rattle.saphyr_parser.specs.Exactly.{kinds}
-use Rattle.saphyr_parser.specs.Steps.Block.{block_sequence_node_at, block_sequence_node, block_sequence_entry_at, block_sequence_entry, indentless_sequence_node_at, indentless_sequence_node, indentless_sequence_entry_at, indentless_sequence_entry, block_key_node_at, block_key_node, block_mapping_key_at, block_mapping_key, block_value_node_at, block_value_node, block_mapping_value_at, block_mapping_value}
+use Rattle.saphyr_machine.specs.Steps.Block.{block_sequence_node_at, block_sequence_node, block_sequence_entry_at, block_sequence_entry, indentless_sequence_node_at, indentless_sequence_node, indentless_sequence_entry_at, indentless_sequence_entry, block_key_node_at, block_key_node, block_mapping_key_at, block_mapping_key, block_value_node_at, block_value_node, block_mapping_value_at, block_mapping_value}
 use Rattle.saphyr_parser.specs.WellFormed.{AreWellFormed}
 use Rattle.saphyr_parser.proofs.Told.Telling.{Memory}
 use Rattle.saphyr_parser.proofs.Turned.Following.{Claim, Then, Exactly, IsOptionalOf, IsSkipped, IsValueOf, BlockEntries, BlockPairs, InBlockPairs, AtBlockValue, FollowsStates, IsAlive}

@@ -14,15 +14,15 @@ use Rattle.saphyr_scanner.specs.Grammar.Tokens.{Kind}
 use Rattle.saphyr_scanner.specs.Views.Tokens.{Piece}
 use Rattle.saphyr_scanner.specs.Grammar.TokenGrammar as grammar
 use Rattle.saphyr_scanner.specs.Grammar.TokenGrammar.{InFlow, InBlock, InBlockMapping, YieldProperties, YieldsScalar, YieldsBlockPair, YieldBlockPairs}
-use Rattle.saphyr_parser.specs.declared.parser.context.NodeContext.{NodeContext}
-use Rattle.saphyr_parser.specs.declared.parser.context.NodeContext.TheVariants.{Flow, Block, BlockMapping}
-use Rattle.saphyr_parser.specs.declared.parser.state.State.{State}
-use Rattle.saphyr_parser.specs.declared.parser.state.State.TheVariants as state
+use Rattle.saphyr_machine.specs.declared.context.NodeContext.{NodeContext}
+use Rattle.saphyr_machine.specs.declared.context.NodeContext.TheVariants.{Flow, Block, BlockMapping}
+use Rattle.saphyr_machine.specs.declared.state.State.{State}
+use Rattle.saphyr_machine.specs.declared.state.State.TheVariants as state
 use Rattle.saphyr_parser.specs.Anchors.{one_more_anchor}
 use Rattle.saphyr_parser.specs.Preorder.{Part, Leaf, OpenSequence, CloseSequence, OpenMapping, CloseMapping}
-use Rattle.saphyr_parser.specs.Events.{Happening, ResolvedTag, Scalar, SequenceStart, MappingStart}
+use Rattle.saphyr_machine.specs.Events.{Happening, ResolvedTag, Scalar, SequenceStart, MappingStart}
 use Rattle.saphyr_parser.specs.Exactly.{kinds}
-use Rattle.saphyr_parser.specs.Steps.Nodes.{NodeProperties, has_property, node_without_content}
+use Rattle.saphyr_machine.specs.Steps.Nodes.{NodeProperties, has_property, node_without_content}
 use Rattle.saphyr_parser.proofs.Told.Telling.{Memory}
 use Rattle.saphyr_parser.proofs.Remembering.{noted, own_id_in, with_properties}
 use Rattle.saphyr_parser.proofs.Told.Nodes.{Has}

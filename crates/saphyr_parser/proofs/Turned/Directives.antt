@@ -15,8 +15,8 @@ use Rattle.saphyr_scanner.specs.Grammar.Tokens as tokens
 use Rattle.saphyr_scanner.specs.Grammar.Tokens.{Kind, directive_token}
 use Rattle.saphyr_scanner.specs.Views.Tokens.{Piece}
 use Rattle.saphyr_parser.specs.Exactly.{kinds}
-use Rattle.saphyr_parser.specs.Steps.Machine.{◌>>=◌, Machine, with_meaning, is_listed, with_name, with_pieces}
-use Rattle.saphyr_parser.specs.Steps.Documents.{Declared, is_directive, with_handle, directive_at, directives_from}
+use Rattle.saphyr_machine.specs.Steps.Machine.{◌>>=◌, Machine, with_meaning, is_listed, with_name, with_pieces}
+use Rattle.saphyr_machine.specs.Steps.Documents.{Declared, is_directive, with_handle, directive_at, directives_from}
 use Rattle.saphyr_parser.specs.WellFormed.{IsWellFormed, AreWellFormed}
 use Rattle.saphyr_parser.proofs.Remembering.{declaring}
 use Rattle.saphyr_parser.proofs.NameLaws.{listed_test}

@@ -11,14 +11,14 @@ use Rattle.saphyr_scanner.specs.Grammar.Tokens as tokens
 use Rattle.saphyr_scanner.specs.Grammar.Tokens.{Kind, directive_token}
 use Rattle.saphyr_scanner.specs.Views.Tokens.{Piece}
 use Rattle.saphyr_scanner.specs.Grammar.TokenGrammar.{InBlock, AreMarks, AreEndsAndMarks, YieldDocuments}
-use Rattle.saphyr_parser.specs.declared.parser.context.NodeContext.TheVariants.{Block}
-use Rattle.saphyr_parser.specs.declared.parser.state.State.{State}
-use Rattle.saphyr_parser.specs.declared.parser.state.State.TheVariants as state
+use Rattle.saphyr_machine.specs.declared.context.NodeContext.TheVariants.{Block}
+use Rattle.saphyr_machine.specs.declared.state.State.{State}
+use Rattle.saphyr_machine.specs.declared.state.State.TheVariants as state
 use Rattle.saphyr_parser.specs.Preorder.{Part, CloseDocument}
 use Rattle.saphyr_parser.specs.Exactly.{kinds}
-use Rattle.saphyr_parser.specs.Steps.Machine.{◌>>=◌, Machine, with_pieces}
-use Rattle.saphyr_parser.specs.Steps.Block.{block_node}
-use Rattle.saphyr_parser.specs.Steps.Documents.{is_mark, unpassed_token_from, unpassed_token, no_content, document_content_at, document_content, token_behind_marks_at, token_behind_marks, token_behind_document_at, token_behind_document, without_prefixes, document_end_at, document_end}
+use Rattle.saphyr_machine.specs.Steps.Machine.{◌>>=◌, Machine, with_pieces}
+use Rattle.saphyr_machine.specs.Steps.Block.{block_node}
+use Rattle.saphyr_machine.specs.Steps.Documents.{is_mark, unpassed_token_from, unpassed_token, no_content, document_content_at, document_content, token_behind_marks_at, token_behind_marks, token_behind_document_at, token_behind_document, without_prefixes, document_end_at, document_end}
 use Rattle.saphyr_parser.specs.WellFormed.{AreWellFormed}
 use Rattle.saphyr_parser.proofs.Told.Telling.{Memory}
 use Rattle.saphyr_parser.proofs.Turned.Following.{Then, IsNodeOf, IsOptionalOf, AreExplicit, Outside, FollowsStates, IsAlive, IsFree, BeginsFreely}

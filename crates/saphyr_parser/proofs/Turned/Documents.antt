@@ -11,14 +11,14 @@ use Rattle.saphyr_scanner.specs.Grammar.Tokens as tokens
 use Rattle.saphyr_scanner.specs.Grammar.Tokens.{Kind, directive_token}
 use Rattle.saphyr_scanner.specs.Views.Tokens.{Piece}
 use Rattle.saphyr_scanner.specs.Grammar.TokenGrammar.{InBlock, YieldDocuments}
-use Rattle.saphyr_parser.specs.declared.parser.state.State.{State}
-use Rattle.saphyr_parser.specs.declared.parser.state.State.TheVariants as state
+use Rattle.saphyr_machine.specs.declared.state.State.{State}
+use Rattle.saphyr_machine.specs.declared.state.State.TheVariants as state
 use Rattle.saphyr_parser.specs.Anchors.{anchors}
 use Rattle.saphyr_parser.specs.Preorder.{Part, OpenStream, CloseStream, OpenDocument, node_parts, document_parts}
-use Rattle.saphyr_parser.specs.Events as events
+use Rattle.saphyr_machine.specs.Events as events
 use Rattle.saphyr_parser.specs.Exactly.{kinds}
-use Rattle.saphyr_parser.specs.Steps.Machine.{◌>>=◌, Machine, Told, with_pieces}
-use Rattle.saphyr_parser.specs.Steps.Documents.{is_end_or_mark, unpassed_token_from, unpassed_token, none_declared, directives, stream_start_at, stream_start, explicit_document_at, explicit_document, bare_document, implicit_start_at, implicit_start, explicit_start_at, explicit_start}
+use Rattle.saphyr_machine.specs.Steps.Machine.{◌>>=◌, Machine, Told, with_pieces}
+use Rattle.saphyr_machine.specs.Steps.Documents.{is_end_or_mark, unpassed_token_from, unpassed_token, none_declared, directives, stream_start_at, stream_start, explicit_document_at, explicit_document, bare_document, implicit_start_at, implicit_start, explicit_start_at, explicit_start}
 use Rattle.saphyr_parser.specs.WellFormed.{AreWellFormed}
 use Rattle.saphyr_parser.proofs.Told.Telling.{Memory}
 use Rattle.saphyr_parser.proofs.Remembering.{event_in}

@@ -9,14 +9,14 @@ use Rattle.saphyr_scanner.specs.Grammar.Forest as forest
 use Rattle.saphyr_scanner.specs.Grammar.Tokens.{Kind, Value}
 use Rattle.saphyr_scanner.specs.Views.Tokens.{Piece}
 use Rattle.saphyr_scanner.specs.Grammar.TokenGrammar as grammar
-use Rattle.saphyr_parser.specs.declared.parser.context.NodeContext.{NodeContext}
-use Rattle.saphyr_parser.specs.declared.parser.state.State.{State}
+use Rattle.saphyr_machine.specs.declared.context.NodeContext.{NodeContext}
+use Rattle.saphyr_machine.specs.declared.state.State.{State}
 use Rattle.saphyr_parser.specs.Anchors.{anchors}
 use Rattle.saphyr_parser.specs.Preorder.{Part, Leaf, node_parts}
 use Rattle.saphyr_parser.specs.Exactly.{kinds}
-use Rattle.saphyr_parser.specs.Events.{Happening}
-use Rattle.saphyr_parser.specs.Steps.Machine.{told_event, left_out_event, pop}
-use Rattle.saphyr_parser.specs.Steps.Nodes.{node_inside}
+use Rattle.saphyr_machine.specs.Events.{Happening}
+use Rattle.saphyr_machine.specs.Steps.Machine.{told_event, left_out_event, pop}
+use Rattle.saphyr_machine.specs.Steps.Nodes.{node_inside}
 use Rattle.saphyr_parser.specs.WellFormed.{AreWellFormed}
 use Rattle.saphyr_parser.proofs.Told.Telling.{Memory}
 use Rattle.saphyr_parser.proofs.Remembering.{after, event_in}

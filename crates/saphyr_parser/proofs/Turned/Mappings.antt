@@ -8,13 +8,13 @@ use Rattle.saphyr_scanner.specs.Grammar.Forest as forest
 use Rattle.saphyr_scanner.specs.Grammar.Tokens.{Kind, FlowMappingEnd, FlowEntry, Key, Value}
 use Rattle.saphyr_scanner.specs.Views.Tokens.{Piece}
 use Rattle.saphyr_scanner.specs.Grammar.TokenGrammar.{InFlow, BeginsWithValue, YieldsNode, YieldsFlowPair, YieldFlowPairs, YieldOtherFlowPairs}
-use Rattle.saphyr_parser.specs.declared.parser.context.NodeContext.TheVariants.{Flow}
-use Rattle.saphyr_parser.specs.declared.parser.state.State.{State}
-use Rattle.saphyr_parser.specs.declared.parser.state.State.TheVariants as state
+use Rattle.saphyr_machine.specs.declared.context.NodeContext.TheVariants.{Flow}
+use Rattle.saphyr_machine.specs.declared.state.State.{State}
+use Rattle.saphyr_machine.specs.declared.state.State.TheVariants as state
 use Rattle.saphyr_parser.specs.Preorder.{Part, Leaf, CloseMapping, node_parts, pair_parts}
-use Rattle.saphyr_parser.specs.Events.{MappingEnd}
+use Rattle.saphyr_machine.specs.Events.{MappingEnd}
 use Rattle.saphyr_parser.specs.Exactly.{kinds}
-use Rattle.saphyr_parser.specs.Steps.Flow.{flow_key_node_at, flow_key_node, flow_mapping_pair_at, flow_mapping_first_key, flow_mapping_pair_behind_comma, flow_mapping_key_at, flow_mapping_key, flow_value_node_at, flow_value_node, flow_mapping_value_at, flow_mapping_value, flow_mapping_empty_value}
+use Rattle.saphyr_machine.specs.Steps.Flow.{flow_key_node_at, flow_key_node, flow_mapping_pair_at, flow_mapping_first_key, flow_mapping_pair_behind_comma, flow_mapping_key_at, flow_mapping_key, flow_value_node_at, flow_value_node, flow_mapping_value_at, flow_mapping_value, flow_mapping_empty_value}
 use Rattle.saphyr_parser.specs.WellFormed.{AreWellFormed}
 use Rattle.saphyr_parser.proofs.Told.Telling.{Memory}
 use Rattle.saphyr_parser.proofs.Turned.Following.{Claim, Then, Exactly, IsNodeOf, IsOptionalOf, IsSkipped, IsAnyValueOf, FirstPairs, OtherPairs, InMapping, FollowsStates, IsAlive}

@@ -9,12 +9,12 @@ use Rattle.saphyr_scanner.specs.Grammar.Forest as forest
 use Rattle.saphyr_scanner.specs.Grammar.Tokens.{Kind, FlowSequenceEnd, FlowEntry, Key, Value}
 use Rattle.saphyr_scanner.specs.Views.Tokens.{Piece}
 use Rattle.saphyr_scanner.specs.Grammar.TokenGrammar.{InFlow, YieldsNode, YieldsPairEntry, YieldsSinglePair, YieldFlowEntries, YieldOtherFlowEntries}
-use Rattle.saphyr_parser.specs.declared.parser.context.NodeContext.TheVariants.{Flow}
-use Rattle.saphyr_parser.specs.declared.parser.state.State.{State}
-use Rattle.saphyr_parser.specs.declared.parser.state.State.TheVariants as state
+use Rattle.saphyr_machine.specs.declared.context.NodeContext.TheVariants.{Flow}
+use Rattle.saphyr_machine.specs.declared.state.State.{State}
+use Rattle.saphyr_machine.specs.declared.state.State.TheVariants as state
 use Rattle.saphyr_parser.specs.Preorder.{Part, CloseSequence, OpenMapping, CloseMapping, node_parts}
-use Rattle.saphyr_parser.specs.Events.{SequenceEnd}
-use Rattle.saphyr_parser.specs.Steps.Flow.{flow_sequence_first_entry_at, flow_sequence_first_entry, flow_sequence_entry_at, flow_sequence_entry, flow_sequence_entry_mapping_key_at, flow_sequence_entry_mapping_key, flow_sequence_entry_mapping_node_at, flow_sequence_entry_mapping_node, flow_sequence_entry_mapping_value_at, flow_sequence_entry_mapping_value, flow_sequence_entry_mapping_end}
+use Rattle.saphyr_machine.specs.Events.{SequenceEnd}
+use Rattle.saphyr_machine.specs.Steps.Flow.{flow_sequence_first_entry_at, flow_sequence_first_entry, flow_sequence_entry_at, flow_sequence_entry, flow_sequence_entry_mapping_key_at, flow_sequence_entry_mapping_key, flow_sequence_entry_mapping_node_at, flow_sequence_entry_mapping_node, flow_sequence_entry_mapping_value_at, flow_sequence_entry_mapping_value, flow_sequence_entry_mapping_end}
 use Rattle.saphyr_parser.specs.WellFormed.{AreWellFormed}
 use Rattle.saphyr_parser.proofs.Told.Telling.{Memory}
 use Rattle.saphyr_parser.proofs.Turned.Following.{Claim, Then, Exactly, IsNodeOf, IsOptionalOf, IsAnyValueOf, FirstEntries, OtherEntries, InSequence, AtPairEnd, AtPairValue, FollowsStates, IsAlive}

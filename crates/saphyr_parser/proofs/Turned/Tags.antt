@@ -16,9 +16,9 @@ use Rattle.saphyr_scalar.proofs.Properties.TagsRead as scalar
 use Rattle.saphyr_scanner.specs.Grammar.Forest.{Handle, Primary, Secondary, Named, handle_bytes, Tag, NonSpecific, Verbatim, Shorthand}
 use Rattle.saphyr_scanner.specs.Grammar.Tokens as tokens
 use Rattle.saphyr_scanner.specs.Grammar.Tokens.{tag_token}
-use Rattle.saphyr_parser.specs.Events.{ResolvedTag}
-use Rattle.saphyr_parser.specs.Steps.Machine.{◌>>=◌, Names, meaning}
-use Rattle.saphyr_parser.specs.Steps.Tags.{is_named_handle, undeclared_prefix, declared_prefix_or, declared_prefix, resolved_tag_at}
+use Rattle.saphyr_machine.specs.Events.{ResolvedTag}
+use Rattle.saphyr_machine.specs.Steps.Machine.{◌>>=◌, Names, meaning}
+use Rattle.saphyr_machine.specs.Steps.Tags.{is_named_handle, undeclared_prefix, declared_prefix_or, declared_prefix, resolved_tag_at}
 use Rattle.saphyr_parser.specs.TagResolution.{default_prefix}
 use Rattle.saphyr_parser.proofs.Told.Nodes.{handle_is_some, has_handle}
 use Rattle.saphyr_parser.proofs.Remembering.{resolve}

@@ -5,11 +5,11 @@ use Rattle.std.proofs.Common.{◌≡◌, ◌≤◌, List, [], ◌∷◌, ◌++�
 use Rattle.saphyr_scalar.specs.declared.scalar.fault.Refusal.{Refusal}
 use Rattle.saphyr_scanner.specs.Grammar.Tokens.{Kind}
 use Rattle.saphyr_scanner.specs.Views.Tokens.{Piece}
-use Rattle.saphyr_parser.specs.declared.parser.state.State.{State}
+use Rattle.saphyr_machine.specs.declared.state.State.{State}
 use Rattle.saphyr_parser.specs.Anchors.{anchors}
 use Rattle.saphyr_parser.specs.Preorder.{Part}
 use Rattle.saphyr_parser.specs.Exactly.{kinds}
-use Rattle.saphyr_parser.specs.Steps.Machine.{Machine, Told}
+use Rattle.saphyr_machine.specs.Steps.Machine.{Machine, Told}
 use Rattle.saphyr_parser.proofs.Told.Telling.{Memory}
 use Rattle.saphyr_parser.proofs.Remembering.{after, event_in}
 use Rattle.saphyr_parser.proofs.Turned.Following.{Then, Exactly, FollowsStates, IsAlive, Starts}

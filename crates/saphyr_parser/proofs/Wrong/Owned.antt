@@ -12,10 +12,10 @@ use Rattle.saphyr_scanner.specs.Grammar.Tokens.{Kind}
 use Rattle.saphyr_scanner.specs.Views.Tokens.{Piece}
 use Rattle.saphyr_scanner.specs.TokensTaken.{IsToken, IsScalarToken}
 use Rattle.saphyr_scanner.proofs.Taken.Places.{Reaches}
-use Rattle.saphyr_scanner.proofs.Wrong.PlainValues.{plain_value_ink}
-use Rattle.saphyr_scanner.proofs.Wrong.Standing.{StandsReached, AllStand, tokens_stand, front_stands}
-use Rattle.saphyr_parser.specs.Answer.{Answer}
-use Rattle.saphyr_parser.specs.Events.{Happening, Scalar}
+use Rattle.taken_laws.proofs.Wrong.PlainValues.{plain_value_ink}
+use Rattle.taken_laws.proofs.Wrong.Standing.{StandsReached, AllStand, tokens_stand, front_stands}
+use Rattle.saphyr_machine.specs.Answer.{Answer}
+use Rattle.saphyr_machine.specs.Events.{Happening, Scalar}
 use Rattle.saphyr_parser.specs.EventsTaken as taking
 use Rattle.saphyr_parser.specs.EventsTaken.{SpansAll, AreContentTokens, IsOf, HaveTokens, AreTaken}
 use Rattle.saphyr_parser.specs.Examples.WrongAnswers.{BeginsWithInk}

@@ -12,9 +12,9 @@ use Rattle.scalar_values.specs.Flow.{mark}
 use Rattle.saphyr_scalar.specs.Steps.Quoted.{break_len}
 use Rattle.saphyr_scalar.specs.Spelling.QuotedMarkers.{HasNoMarker}
 use Rattle.saphyr_scalar.specs.Spelling.Quoted.{IsText, closed, itself, broken, two_quotes, escaped, numbered, escaped_break, stands_for_itself}
-use Rattle.saphyr_scanner.specs.Examples.TakenTexts.{marker_at}
-use Rattle.saphyr_scanner.proofs.Beginnings.{heads, tails}
-use Rattle.saphyr_scanner.proofs.Wrong.Standing.{reached_behind, one_place}
+use Rattle.scalar_laws.proofs.Beginnings.{heads, tails}
+use Rattle.taken_laws.specs.Examples.TakenTexts.{marker_at}
+use Rattle.taken_laws.proofs.Wrong.Standing.{reached_behind, one_place}
 use Rattle.saphyr_parser.specs.EventsTaken.{AreTaken}
 use Rattle.saphyr_parser.specs.Examples.WrongAnswers as wrong
 use Rattle.saphyr_parser.proofs.Wrong.Owned.{OwnScalar, owned}

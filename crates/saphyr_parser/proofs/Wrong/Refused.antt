@@ -9,14 +9,14 @@ use Rattle.scalar_values.specs.declared.block.BlockStyle.TheVariants as block_st
 use Rattle.saphyr_scalar.specs.Reading.BlockText.{AreInside}
 use Rattle.saphyr_input.specs.Classes.{is_break, line_feed, space}
 use Rattle.saphyr_scalar.specs.Views.Cursor.{start_cursor}
-use Rattle.saphyr_scanner.specs.Examples.TakenTexts.{marker_at}
 use Rattle.saphyr_scanner.specs.TokensTaken as taken
 use Rattle.saphyr_scanner.specs.TokensTaken.{IsReached, IsPlaceOf}
 use Rattle.saphyr_scanner.proofs.Reached.{reached_counted}
-use Rattle.saphyr_scanner.proofs.Wrong.BlockLines.{all_inside}
-use Rattle.saphyr_scanner.proofs.Wrong.PlainValues.{plain_value_ink}
-use Rattle.saphyr_scanner.proofs.Wrong.Standing.{reached_behind, one_place, has_character}
-use Rattle.saphyr_parser.specs.Events as events
+use Rattle.saphyr_machine.specs.Events as events
+use Rattle.taken_laws.specs.Examples.TakenTexts.{marker_at}
+use Rattle.taken_laws.proofs.Wrong.BlockLines.{all_inside}
+use Rattle.taken_laws.proofs.Wrong.PlainValues.{plain_value_ink}
+use Rattle.taken_laws.proofs.Wrong.Standing.{reached_behind, one_place, has_character}
 use Rattle.saphyr_parser.specs.EventsTaken.{AreTaken}
 use Rattle.saphyr_parser.specs.SpansWithin.{HasSpansIn}
 use Rattle.saphyr_parser.specs.Examples.WrongAnswers as wrong

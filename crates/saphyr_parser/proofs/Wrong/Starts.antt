@@ -4,7 +4,7 @@ use Rattle.saphyr_scalar.specs.declared.scalar.position.Span.{Span}
 use Rattle.saphyr_scanner.specs.Grammar.Tokens as tokens
 use Rattle.saphyr_scanner.specs.Grammar.Tokens.{Kind}
 use Rattle.saphyr_scanner.specs.Views.Tokens.{Piece}
-use Rattle.saphyr_parser.specs.Events.{Happening, SequenceStart}
+use Rattle.saphyr_machine.specs.Events.{Happening, SequenceStart}
 use Rattle.saphyr_parser.specs.EventsTaken as taking
 use Rattle.saphyr_parser.specs.EventsTaken.{SpansAll, AreContentTokens, BeginsEntries, IsOf, HaveTokens}
 use Rattle.saphyr_parser.specs.Examples.WrongAnswers.{nested, free_start}

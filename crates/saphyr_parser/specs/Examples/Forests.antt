@@ -3,10 +3,10 @@ use Rattle.std.specs.Prelude.{◌≡◌, ℕ, true, false, List, [], ◌∷◌, 
 use Rattle.saphyr_scanner.specs.Grammar.Forest.{Plain, DoubleQuoted, Properties, no_properties, Tag, Primary, Named, Shorthand, Node, Alias, Scalar, Seq, NoNode, MoreNodes, Directive, TagPrefix, Document, bare, left_out, Forest}
 use Rattle.saphyr_scalar.specs.declared.scalar.position.Marker.{Marker}
 use Rattle.saphyr_scalar.specs.declared.scalar.position.Span.{Span}
-use Rattle.saphyr_scanner.specs.Examples.TakenTexts.{marker_at}
-use Rattle.saphyr_parser.specs.Answer.{Answer}
-use Rattle.saphyr_parser.specs.Events as events
-use Rattle.saphyr_parser.specs.Events.{Happening}
+use Rattle.taken_laws.specs.Examples.TakenTexts.{marker_at}
+use Rattle.saphyr_machine.specs.Answer.{Answer}
+use Rattle.saphyr_machine.specs.Events as events
+use Rattle.saphyr_machine.specs.Events.{Happening}
 
 abbrev pub anchored : List ℕ → Properties
 anchored name = record { anchor = Some name; tag = None }

@@ -6,11 +6,11 @@ use Rattle.saphyr_scalar.specs.declared.scalar.position.Marker.{Marker}
 use Rattle.saphyr_scalar.specs.declared.scalar.position.Span.{Span}
 use Rattle.saphyr_scanner.specs.Grammar.Forest.{Plain, DoubleQuoted, Literal}
 use Rattle.saphyr_scanner.specs.Views.Tokens.{Piece}
-use Rattle.saphyr_scanner.specs.Examples.TakenTexts.{marker_at, piece_from_to, empty_at}
 use Rattle.saphyr_scanner.specs.Grammar.Tokens as tokens
-use Rattle.saphyr_parser.specs.Events as events
-use Rattle.saphyr_parser.specs.Events.{Happening}
-use Rattle.saphyr_parser.specs.Answer.{Answer, Ending, Refused}
+use Rattle.saphyr_machine.specs.Events as events
+use Rattle.saphyr_machine.specs.Events.{Happening}
+use Rattle.saphyr_machine.specs.Answer.{Answer, Ending, Refused}
+use Rattle.taken_laws.specs.Examples.TakenTexts.{marker_at, piece_from_to, empty_at}
 use Rattle.saphyr_parser.specs.Examples.Forests.{plain_event}
 
 -- ## What is true of each answer

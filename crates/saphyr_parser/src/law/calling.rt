@@ -1,13 +1,14 @@
 //! Callers of a parser, whose contracts follow from those of its calls alone.
 ghost use Rattle.std.specs.Prelude.{◌≡◌, ◌↔◌, None, IfSome, IsTrue};
 ghost use Rattle.saphyr_scalar.specs.declared.scalar.position.Span.{Span as PlaceSpan};
-ghost use Rattle.saphyr_parser.specs.Calls.{GivesNext};
-ghost use Rattle.saphyr_parser.specs.Views.Events.{happening};
-ghost use Rattle.saphyr_parser.specs.Events.{StreamEnd};
-ghost use Rattle.saphyr_parser.specs.Loading.{SendsOne};
+ghost use Rattle.saphyr_machine.specs.Calls.{GivesNext};
+ghost use Rattle.saphyr_machine.specs.Views.Events.{happening};
+ghost use Rattle.saphyr_machine.specs.Events.{StreamEnd};
+ghost use Rattle.saphyr_machine.specs.Loading.{SendsOne};
 
-use crate::parser::{Event, Fault, Parser, SpannedEventReceiver};
+use crate::cursor::Parser;
 use saphyr_input::input::Input;
+use saphyr_machine::{Event, Fault, SpannedEventReceiver};
 use saphyr_scalar::Span;
 
 fn ends_the_stream(event: Event<'_>) -> bool

@@ -3,13 +3,14 @@ ghost use Rattle.std.specs.Prelude.{◌≡◌, ◌↔◌, Bool};
 ghost use Rattle.std.specs.Cmp.Lexicographic.{slice_cmp};
 ghost use Rattle.std.specs.Ordering.{nat_cmp, ordering_then};
 ghost use Rattle.std.specs.declared.cmp.Ordering.TheVariants.{Equal};
-ghost use Rattle.saphyr_parser.specs.Cursor.{keeping_tags, to_come};
-ghost use Rattle.saphyr_parser.specs.Views.Events.{resolved_tag};
-ghost use Rattle.saphyr_parser.specs.declared.parser.tag.Tag.{Tag as DeclaredTag};
+ghost use Rattle.saphyr_machine.specs.Cursor.{keeping_tags, to_come};
+ghost use Rattle.saphyr_machine.specs.Views.Events.{resolved_tag};
+ghost use Rattle.saphyr_machine.specs.declared.tag.Tag.{Tag as DeclaredTag};
 ghost use Rattle.saphyr_scanner.specs.Grammar.Forest.{Style};
 
-use crate::parser::{Parser, Tag};
+use crate::cursor::Parser;
 use saphyr_input::input::Input;
+use saphyr_machine::Tag;
 use saphyr_scalar::{Marker, ScalarStyle, Span};
 use std::alloc::Global;
 use std::cmp::Ordering;

@@ -2,8 +2,8 @@
 
 ghost use Rattle.std.specs.Prelude.{◌≡◌};
 
-use crate::parser::Fault;
 use crate::printing::writing::Unwritten;
+use saphyr_machine::Fault;
 use thiserror::Error;
 
 /// Why the lines of the events were not all written.

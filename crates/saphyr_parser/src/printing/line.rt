@@ -2,12 +2,12 @@
 
 ghost use Rattle.std.specs.Prelude.{◌≡◌, ◌+◌, ◌<◌, ◌++◌, codes, length, option_map};
 ghost use Rattle.std.specs.Fmt.{decimal};
-ghost use Rattle.saphyr_parser.specs.Views.Events.{happening, resolved_tag};
+ghost use Rattle.saphyr_machine.specs.Views.Events.{happening, resolved_tag};
 ghost use Rattle.saphyr_parser.specs.Written.{Takes};
 ghost use Rattle.saphyr_parser.specs.Printed as printed;
 
-use crate::parser::{Event, Tag};
 use crate::printing::writing::{Unwritten, is_plain, write_all, write_escaped, write_number};
+use saphyr_machine::{Event, Tag};
 use saphyr_scalar::ScalarStyle;
 use std::io::Write;
 

@@ -7,10 +7,11 @@ ghost use Rattle.saphyr_scalar.specs.Faults.{error_text};
 ghost use Rattle.saphyr_parser.specs.Written.{Takes};
 ghost use Rattle.saphyr_parser.specs.Runs as spec;
 
-use crate::parser::{Fault, Parser};
+use crate::cursor::Parser;
 use crate::printing::dump;
 use crate::printing::fault::DumpFault;
 use crate::printing::writing::{Unwritten, write_all, write_number};
+use saphyr_machine::Fault;
 use saphyr_scalar::{Marker, ScanError};
 use std::alloc::Global;
 use std::io::{Read, Write};

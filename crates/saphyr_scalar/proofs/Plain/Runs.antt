@@ -1,5 +1,5 @@
 -- What stands between the words of a plain scalar, and what it is read as.
-use Rattle.std.proofs.Common.{◌≡◌, ℕ, zero, suc, Bool, true, false, List, [], ◌∷◌, ◌++◌, length, map, slice_index, refl, sym, ap, ◌∙◌, arith, subst, IsTrue, append_assoc}
+use Rattle.std.proofs.Common.{◌≡◌, ℕ, zero, suc, ◌+◌, Bool, true, false, List, [], ◌∷◌, ◌++◌, length, map, slice_index, refl, sym, ap, ◌∙◌, arith, subst, IsTrue, append_assoc, cond}
 use Rattle.std.specs.Prelude.{◌||◌, ◌&&◌, ◌==◌, not, if◌then◌else◌}
 use Rattle.std.proofs.lemmas.List.{map-append}
 use Rattle.saphyr_input.specs.Breaks.{normalized, normal_break}
@@ -158,3 +158,14 @@ folded_blanks (b ∷ v) c cs h ink =
     ap folded (items_blank b (v ++ (c ∷ cs)) h.0)
     ∙ ap (λ (t : Bool). (if t then [] else b ∷ []) ++ folded (items_of (v ++ (c ∷ cs)))) (no_break_next v c cs h.1 ink)
     ∙ ap (λ (l : List ℕ). b ∷ l) (folded_blanks v c cs h.1 ink)
+
+-- the index counts the characters
+pub passed_index : (m : Marker) (xs : List ℕ) → (end_of_text m xs).index ≡ m.index + length xs
+passed_index m [] = omega arith
+passed_index m (c ∷ cs) =
+    let more = passed_index (if ends_line c cs then next_line m 1 else along m 1) cs in
+    omega (arith, more, one_further (ends_line c cs) m)
+  where
+    one_further : (e : Bool) (m : Marker) → (cond e (next_line m 1) (along m 1)).index ≡ m.index + 1
+    one_further true m = refl
+    one_further false m = refl

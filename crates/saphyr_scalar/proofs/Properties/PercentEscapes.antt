@@ -178,6 +178,11 @@ escape_passed_over set start (suc k) m (c ∷ cs) =
     escape_passed_over set start k (along m 1) cs
     ∙ ap (λ x. decoded_characters set start 0 x (drop k cs)) (along_more m 1 k (suc k) (omega arith))
 
+-- what holds of the characters of a URI and of those of a suffix
+pub by_set : (P : UriSet → Type 0) → P Uri → P Suffix → (set : UriSet) → P set
+by_set P uri suffix Uri = uri
+by_set P uri suffix Suffix = suffix
+
 no_nul : (set : UriSet) → is_in_set set 0 ≡ true → ⊥
 no_nul Uri h = absurd (cc)
 no_nul Suffix h = absurd (cc)

@@ -50,6 +50,10 @@ unfoldable pub last_chomping : Option Chomping → Cursor → Chomping × Cursor
 last_chomping (Some first) s = (first, s)
 last_chomping None s = (unwrap_or (chomping s).0 Clip, (chomping s).1)
 
+-- a header, under a name that crates above may use
+abbrev pub BlockHeaderRead : Type 0
+BlockHeaderRead = BlockHeader
+
 unfoldable pub header_behind : Marker → ℕ → Chomping × Cursor → Result (BlockHeader × Cursor) Refusal
 header_behind start n x = header_end start x.1 >>= λ s. Ok (record { chomping = x.0; indicator = n }, s)
 
@@ -79,6 +83,10 @@ is_cr_lf c cs = (c == carriage_return) && (slice_index cs 0 == line_feed)
 -- between the two characters of a break
 abbrev pub inside_break : Marker → Marker
 inside_break m = record { index = m.index + 1; line = m.line; col = m.col }
+
+-- how many empty lines there are and the widest of them, under a name that crates above may use
+abbrev pub EmptyLinesRead : Type 0
+EmptyLinesRead = EmptyLines
 
 -- empty lines, and behind them a line's spaces up to a column, where the widest of all is kept
 abbrev pub with_column : EmptyLines → ℕ → EmptyLines

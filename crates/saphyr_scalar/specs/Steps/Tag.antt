@@ -13,6 +13,10 @@ use Rattle.saphyr_scalar.specs.Views.Cursor.{Cursor, ◌>>=◌, refuse, along, p
 use Rattle.scalar_values.specs.Escapes.{is_scalar_value}
 use Rattle.saphyr_scalar.specs.Steps.Quoted.{with_front, with_run, mid_line}
 
+-- a set of characters, under a name that crates above may use
+abbrev pub CharacterSet : Type 0
+CharacterSet = UriSet
+
 -- the characters of a uri, or of a tag's suffix
 abbrev pub is_in_set : UriSet → ℕ → Bool
 is_in_set Uri c = is_uri_char c

@@ -14,7 +14,7 @@ use crate::scalar::block::lines::EmptyLines;
 use crate::scalar::fault::{FaultText, Refusal, Stop};
 use crate::scalar::position::Span;
 use crate::scalar::reader::Reader;
-pub use law::{reads_block_texts, reads_each_block_scalar, reads_values_of_lines};
+pub use law::reads_block_texts;
 use saphyr_input::char_traits::is_z;
 use saphyr_input::input::Input;
 use scalar_values::{BlockStyle, Chomping};

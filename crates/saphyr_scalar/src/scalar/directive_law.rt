@@ -1,40 +1,13 @@
-//! Laws: what the reader of directives promises in the standard's words, both ways: what is spelled so is read,
-//! and what is read is spelled so (YAML 1.2.2, 6.8).
+//! Laws: what the reader of directives promises in the standard's words: what is read is spelled so (YAML 1.2.2, 6.8).
 
-ghost use Rattle.std.specs.Prelude.{◌≡◌, ℕ, ◌+◌, true, List, ◌++◌, length, Ok, encode_utf8_all, slice_index};
+ghost use Rattle.std.specs.Prelude.{◌≡◌, ℕ, ◌+◌, true, List, ◌++◌, length, Ok, slice_index};
 ghost use Rattle.saphyr_input.specs.Indicators.{percent_sign};
 ghost use Rattle.saphyr_input.specs.Classes.{is_breakz};
 ghost use Rattle.saphyr_scalar.specs.Views.Cursor.{Cursor, along, pass_break};
-ghost use Rattle.saphyr_scalar.specs.Steps.Directive.{ReadDirective, reserved, directive};
-ghost use Rattle.saphyr_scalar.specs.Spelling.Directive.{IsDirectiveText, IsReservedDirective, IsReadDirective, IsLineTail};
+ghost use Rattle.saphyr_scalar.specs.Steps.Directive.{ReadDirective, directive};
+ghost use Rattle.saphyr_scalar.specs.Spelling.Directive.{IsReadDirective, IsLineTail};
 ghost use Rattle.saphyr_scalar.specs.Steps.Quoted.{mid_line};
 ghost use Rattle.saphyr_scalar.specs.declared.scalar.position.Marker.{Marker};
-
-/// Where a version directive or a tag directive is spelled, and behind it blanks, a comment and a
-/// break, NUL or the end, it is read, without a fault, to the end of its line.
-pub fn reads_each_directive()
-    ensures { (s : Cursor) (d : ReadDirective) (t tail x : List ℕ) → s.rest ≡ t ++ (tail ++ x)
-        → IsDirectiveText d t → IsLineTail tail → is_breakz (slice_index x 0) ≡ true
-        → directive s ≡ Ok (
-          d,
-          along s.mark (length t),
-          pass_break
-              (mid_line (along s.mark (length t + length tail)) x),
-        ) }
-{}
-
-/// Where a reserved directive is spelled, and behind its parameters a break, NUL or the end, its
-/// name is read, without a fault, and its parameters are passed.
-pub fn reads_each_reserved_directive()
-    ensures { (s : Cursor) (name t x : List ℕ) → s.rest ≡ t ++ x → IsReservedDirective name t
-        → is_breakz (slice_index x 0) ≡ true
-        → directive s ≡ Ok (
-          reserved (encode_utf8_all name),
-          along s.mark (length t),
-          pass_break
-              (mid_line (along s.mark (length t)) x),
-        ) }
-{}
 
 /// What is read as a directive is spelled so, and what is left stands behind its line.
 pub fn spells_each_directive()

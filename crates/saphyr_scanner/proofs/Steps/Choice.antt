@@ -6,7 +6,7 @@ use Rattle.saphyr_input.specs.Classes.{is_blank_or_breakz}
 use Rattle.scalar_values.specs.declared.block.BlockStyle.TheVariants as block_style
 use Rattle.saphyr_scalar.specs.declared.scalar.fault.FaultText.TheVariants as fault
 use Rattle.saphyr_scalar.specs.Views.Cursor.{refuse}
-use Rattle.saphyr_scalar.proofs.Breaks.Results.{both_by}
+use Rattle.saphyr_scalar.proofs.Choices.{both_by}
 use Rattle.saphyr_scanner.specs.declared.engine.level.Context.TheVariants as context
 use Rattle.saphyr_scanner.specs.Grammar.Tokens as tokens
 use Rattle.saphyr_scanner.specs.Steps.Block as block

@@ -1,7 +1,7 @@
 use Rattle.std.proofs.Common.{◌≡◌, ◌<◌, false, Result, Err, ap, subst, sym, ◌∙◌, drop, []}
 use Rattle.std.proofs.lemmas.Result.{on_ok_weaker}
-use Rattle.saphyr_parser.specs.declared.parser.fault.Fault.{Fault}
-use Rattle.saphyr_parser.specs.declared.parser.fault.Fault.TheVariants.{Receiver}
+use Rattle.saphyr_parser.specs.Types.Fault.{Fault}
+use Rattle.saphyr_parser.specs.Types.Fault.TheVariants.{Receiver}
 use Rattle.saphyr_parser.specs.Answer.{empty_answer}
 use Rattle.saphyr_parser.specs.Cursor.{EventCursor, count, to_come}
 use Rattle.case_files.specs.Lines.{Comparing, IsNext, line_of_fault}

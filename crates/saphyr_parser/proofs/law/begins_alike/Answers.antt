@@ -1,4 +1,4 @@
-use Rattle.saphyr_parser.specs.Cursor.{at_start, keeping_tags}
+use Rattle.saphyr_machine.specs.Cursor.{at_start, keeping_tags}
 use Rattle.saphyr_parser.proofs.Promises.CommonBeginnings.{same_step, begins_as}
 use Rattle.saphyr_parser.proofs.law.begins_alike.Goals as goal
 

@@ -1,7 +1,7 @@
 use Rattle.std.proofs.Common.{◌<◌, ◌^◌, ℕ, List, arith, sym, subst}
 use Rattle.saphyr_scanner.specs.Grammar.Forest.{Forest}
-use Rattle.saphyr_scanner.specs.Grammar.Json.{IsJson}
 use Rattle.saphyr_scanner.specs.Grammar.TokenGrammar.{Yields}
+use Rattle.json_laws.specs.Grammar.Json.{IsJson}
 use Rattle.saphyr_parser.specs.Anchors.{anchors}
 use Rattle.saphyr_parser.specs.Preorder.{parts}
 use Rattle.saphyr_parser.proofs.Promises.Forests.{each_gives, each_parsed}

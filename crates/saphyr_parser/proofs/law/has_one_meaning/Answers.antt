@@ -1,8 +1,9 @@
 use Rattle.std.proofs.Common.{refl, arith}
-use Rattle.saphyr_scanner.specs.Grammar.Layout.{IsLayoutText, most_open}
+use Rattle.saphyr_scanner.specs.Limits.{most_open}
 use Rattle.saphyr_scanner.specs.Steps.Remaining.{scan}
+use Rattle.layout_laws.specs.Grammar.Layout.{IsLayoutText}
 use Rattle.saphyr_parser.specs.Promises.{IsShallowJson}
-use Rattle.saphyr_parser.specs.Cursor.{at_start}
+use Rattle.saphyr_machine.specs.Cursor.{at_start}
 use Rattle.saphyr_parser.proofs.Promises.OneMeaning.{mean_the_same}
 use Rattle.saphyr_parser.proofs.Promises.ReadsJson.{reads_each_json}
 use Rattle.saphyr_parser.proofs.Promises.ReadsLayout.{reads_layout}

@@ -1,5 +1,5 @@
-use Rattle.saphyr_parser.specs.Cursor.{to_come}
-use Rattle.saphyr_parser.proofs.Loading.{part_all}
+use Rattle.saphyr_machine.specs.Cursor.{to_come}
+use Rattle.saphyr_machine.proofs.HandedOver.{part_all}
 use Rattle.saphyr_parser.proofs.law.loads_all_events.Goals as goal
 
 pub returns : goal.returns

@@ -1,5 +1,5 @@
-use Rattle.saphyr_parser.specs.Cursor.{keeping_tags}
-use Rattle.saphyr_parser.proofs.Calls.Handing.{advances}
+use Rattle.saphyr_machine.specs.Cursor.{keeping_tags}
+use Rattle.saphyr_machine.proofs.Calls.Handing.{advances}
 use Rattle.saphyr_parser.proofs.Settings.{sets, sets_behind}
 use Rattle.saphyr_parser.proofs.law.sets_at_document_ends.Goals as goal
 

@@ -1,7 +1,7 @@
 use Rattle.std.proofs.Common.{◌≡◌, Err, rules}
 use Rattle.saphyr_parser.specs.declared.printing.fault.DumpFault.TheVariants.{Write}
-use Rattle.saphyr_parser.specs.Cursor.{event_of}
-use Rattle.saphyr_parser.proofs.Calls.Handing.{advances_less}
+use Rattle.saphyr_machine.specs.Cursor.{event_of}
+use Rattle.saphyr_machine.proofs.Calls.Handing.{advances_less}
 use Rattle.saphyr_parser.proofs.Printed.Dumping.{cuts_line, leaves_all, leaves_cut, prints_all, prints_more, prints_up_to_fault}
 use Rattle.saphyr_parser.proofs.printing.dump_each.Goals as goal
 

@@ -1,4 +1,4 @@
-use Rattle.saphyr_parser.specs.Cursor.{to_come, count}
+use Rattle.saphyr_machine.specs.Cursor.{to_come, count}
 use Rattle.saphyr_parser.specs.Dumps.{PrintsUpTo}
 use Rattle.saphyr_parser.proofs.printing.dump_each.Given as goal
 

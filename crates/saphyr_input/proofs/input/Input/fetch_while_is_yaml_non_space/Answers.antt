@@ -1,6 +1,6 @@
-use Rattle.std.proofs.Common.{◌≡◌, true, refl, ◌∙◌, sym, arith}
+use Rattle.std.proofs.Common.{◌≡◌, true, false, refl, ◌∙◌, sym, arith}
 use Rattle.saphyr_input.specs.Classes as class
-use Rattle.saphyr_input.proofs.Runs.{runs_more, runs_text}
+use Rattle.saphyr_input.proofs.Runs.{runs_more, runs_text, transfers_all}
 use Rattle.saphyr_input.proofs.input.Input.fetch_while_is_yaml_non_space.Goals as goal
 
 pub loop-c-preserved : goal.loop-c-preserved
@@ -14,3 +14,8 @@ loop-c-preserved g c =
       text = runs_text class.is_yaml_non_space _ _ _ _ _ _ _ _ refl passes c.loop-c.invariant.runs
           c.loop-c.invariant.text c.in_ok-push.ensures.bytes;
     }
+
+pub returns-clause-ok : goal.returns-clause-ok
+returns-clause-ok g c =
+    let stops : class.is_yaml_non_space c.loop-c.c ≡ false = sym c.is_yaml_non_space.ensures.test ∙ c.loop-c-test.false in
+    transfers_all class.is_yaml_non_space _ _ _ _ _ _ _ stops c.loop-c.invariant.runs c.loop-c.invariant.text

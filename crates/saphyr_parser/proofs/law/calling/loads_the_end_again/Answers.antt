@@ -1,8 +1,8 @@
 use Rattle.std.proofs.Common.{◌≡◌, ◌∙◌, ap}
-use Rattle.saphyr_parser.specs.Cursor.{event_of, finished_behind}
-use Rattle.saphyr_parser.specs.Views.Events.{happening}
-use Rattle.saphyr_parser.specs.Events.{Happening, StreamEnd}
-use Rattle.saphyr_parser.proofs.Calls.Handing.{keeps, remembers}
+use Rattle.saphyr_machine.specs.Cursor.{event_of, finished_behind}
+use Rattle.saphyr_machine.specs.Views.Events.{happening}
+use Rattle.saphyr_machine.specs.Events.{Happening, StreamEnd}
+use Rattle.saphyr_machine.proofs.Calls.Handing.{keeps, remembers}
 use Rattle.saphyr_parser.proofs.law.calling.loads_the_end_again.Goals as goal
 
 pub returns-then-last : goal.returns-then-last

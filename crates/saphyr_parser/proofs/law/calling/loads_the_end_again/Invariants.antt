@@ -1,5 +1,5 @@
 use Rattle.std.proofs.Common.{◌≡◌, None}
-use Rattle.saphyr_parser.specs.Cursor.{count, to_come}
+use Rattle.saphyr_machine.specs.Cursor.{count, to_come}
 use Rattle.saphyr_parser.proofs.law.calling.loads_the_end_again.Given as goal
 
 abbrev pub invariant-loop-event : goal.invariant-loop-event

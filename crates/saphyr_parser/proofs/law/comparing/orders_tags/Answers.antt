@@ -7,8 +7,8 @@ use Rattle.std.specs.Cmp.Lexicographic.{slice_cmp}
 use Rattle.std.specs.Ordering.{nat_cmp, ordering_then}
 use Rattle.std.specs.declared.cmp.Ordering.{Ordering}
 use Rattle.std.specs.declared.cmp.Ordering.TheVariants.{Equal, Greater, Less}
-use Rattle.saphyr_parser.specs.Events.{ResolvedTag}
-use Rattle.saphyr_parser.specs.Views.Events.{resolved_tag}
+use Rattle.saphyr_machine.specs.Events.{ResolvedTag}
+use Rattle.saphyr_machine.specs.Views.Events.{resolved_tag}
 use Rattle.saphyr_parser.proofs.law.comparing.orders_tags.Goals as goal
 
 itself : (xs : List ℕ) → slice_cmp nat_cmp xs xs ≡ Equal

@@ -1,0 +1,193 @@
+-- Each word of JSON is a plain word.
+use Rattle.std.proofs.Common.{◌≡◌, ◌≢◌, ℕ, Bool, true, false, List, [], ◌∷◌, ◌++◌, refl, sym, ap, ◌∙◌, arith, subst, IsTrue, ◌⊎◌, inl, inr, codes}
+use Rattle.std.specs.Prelude.{◌||◌, ◌&&◌, ◌==◌, not}
+use Rattle.std.proofs.lemmas.Bool.Decides.{nat_tests}
+use Rattle.saphyr_input.specs.Indicators.{comma, hyphen, right_brace, right_bracket, full_stop, number_sign}
+use Rattle.saphyr_input.specs.Classes.{IsDigit, is_blank, is_break, is_blank_or_breakz, is_flow}
+use Rattle.saphyr_scalar.specs.Spelling.Tag.{AreIn}
+use Rattle.saphyr_scalar.specs.Steps.Plain.{is_in_word}
+use Rattle.scalar_laws.specs.Spelling.Plain.{is_plain_safe, IsPlainWord}
+use Rattle.saphyr_scanner.specs.Grammar.Characters.{AreAll}
+use Rattle.json_laws.specs.Grammar.Json.{IsInteger, IsFraction, IsExponent, IsJsonNumber, IsWord}
+
+-- ## A word's characters
+
+digit_safe : (c : ℕ) → IsDigit c → IsTrue (is_plain_safe c)
+digit_safe c h = grind (arith, nat_tests)
+
+safe_append : (a b : List ℕ) → AreIn is_plain_safe a → AreIn is_plain_safe b → AreIn is_plain_safe (a ++ b)
+safe_append [] b s t = t
+safe_append (c ∷ a) b s t = (s.0, safe_append a b s.1 t)
+
+digits_safe : (t : List ℕ) → AreAll IsDigit t → AreIn is_plain_safe t
+digits_safe [] h = tt
+digits_safe (c ∷ t) h = (digit_safe c h.0, digits_safe t h.1)
+
+minus_safe : (t : List ℕ) → (t ≡ []) ⊎ (t ≡ codes "-") → AreIn is_plain_safe t
+minus_safe t (inl e) = subst (AreIn is_plain_safe) (sym e) tt
+minus_safe t (inr e) = subst (AreIn is_plain_safe) (sym e) (refl, tt)
+
+integer_safe : (t : List ℕ) → IsInteger t → AreIn is_plain_safe t
+integer_safe t (inl e) = subst (AreIn is_plain_safe) (sym e) (refl, tt)
+integer_safe t (inr h) =
+    subst (AreIn is_plain_safe) (sym h.4) (digit_safe h.0 (omega (arith, h.2), omega (arith, h.2)), digits_safe h.1 h.3)
+
+fraction_safe : (t : List ℕ) → (t ≡ []) ⊎ IsFraction t → AreIn is_plain_safe t
+fraction_safe t (inl e) = subst (AreIn is_plain_safe) (sym e) tt
+fraction_safe t (inr h) = subst (AreIn is_plain_safe) (sym h.2) (refl, digits_safe h.0 h.1.1)
+
+letter_safe : (t : List ℕ) → (t ≡ codes "e") ⊎ (t ≡ codes "E") → AreIn is_plain_safe t
+letter_safe t (inl e) = subst (AreIn is_plain_safe) (sym e) (refl, tt)
+letter_safe t (inr e) = subst (AreIn is_plain_safe) (sym e) (refl, tt)
+
+sign_safe : (t : List ℕ) → (t ≡ []) ⊎ (t ≡ codes "+") ⊎ (t ≡ codes "-") → AreIn is_plain_safe t
+sign_safe t (inl e) = subst (AreIn is_plain_safe) (sym e) tt
+sign_safe t (inr (inl e)) = subst (AreIn is_plain_safe) (sym e) (refl, tt)
+sign_safe t (inr (inr e)) = subst (AreIn is_plain_safe) (sym e) (refl, tt)
+
+exponent_safe : (t : List ℕ) → (t ≡ []) ⊎ IsExponent t → AreIn is_plain_safe t
+exponent_safe t (inl e) = subst (AreIn is_plain_safe) (sym e) tt
+exponent_safe t (inr h) =
+    subst (AreIn is_plain_safe) (sym h.6) (safe_append h.0 (h.1 ++ h.2) (letter_safe h.0 h.3)
+    (safe_append h.1 h.2 (sign_safe h.1 h.4) (digits_safe h.2 h.5.1)))
+
+number_safe : (t : List ℕ) → IsJsonNumber t → AreIn is_plain_safe t
+number_safe t h =
+    subst (AreIn is_plain_safe) (sym h.8)
+    (safe_append h.0 (h.1 ++ (h.2 ++ h.3)) (minus_safe h.0 h.4)
+    (safe_append h.1 (h.2 ++ h.3) (integer_safe h.1 h.5)
+    (safe_append h.2 h.3 (fraction_safe h.2 h.6) (exponent_safe h.3 h.7))))
+
+-- each character of a word goes on with a plain scalar, whatever follows it
+pub word_safe : (t : List ℕ) → IsWord t → AreIn is_plain_safe t
+word_safe t (inl e) = subst (AreIn is_plain_safe) (sym e) (refl, (refl, (refl, (refl, tt))))
+word_safe t (inr (inl e)) = subst (AreIn is_plain_safe) (sym e) (refl, (refl, (refl, (refl, (refl, tt)))))
+word_safe t (inr (inr (inl e))) = subst (AreIn is_plain_safe) (sym e) (refl, (refl, (refl, (refl, tt))))
+word_safe t (inr (inr (inr h))) = number_safe t h
+
+-- ## A word's first character
+
+abbrev pub BeginsWithDigit : List ℕ → Type 0
+BeginsWithDigit t = (first : ℕ) × (others : List ℕ) × (t ≡ first ∷ others) × IsDigit first
+
+integer_begins : (t : List ℕ) → IsInteger t → BeginsWithDigit t
+integer_begins t (inl e) = (48, [], e, (omega arith, omega arith))
+integer_begins t (inr h) = (h.0, h.1, h.4, (omega (arith, h.2), omega (arith, h.2)))
+
+digit_more : (t x : List ℕ) → BeginsWithDigit t → BeginsWithDigit (t ++ x)
+digit_more t x h = (h.0, h.1 ++ x, ap (λ y. y ++ x) h.2, h.3)
+
+-- a word begins with a character other than `#`, `-` and `.`, or with a dash before a digit
+pub record BeginsWord (t : List ℕ) : Type 0 where
+  pub first : ℕ
+  pub others : List ℕ
+  pub is : t ≡ first ∷ others
+  pub kind : (first ≡ hyphen) ⊎ IsDigit first ⊎ (first ≡ 116) ⊎ (first ≡ 102) ⊎ (first ≡ 110)
+  pub dash : first ≡ hyphen → BeginsWithDigit others
+
+begins_with_digit : (t : List ℕ) → BeginsWithDigit t → BeginsWord t
+begins_with_digit t h = record {
+  first = h.0;
+  others = h.1;
+  is = h.2;
+  kind = inr (inl h.3);
+  dash = λ e. absurd (omega (arith, h.3));
+}
+
+number_begins : (t : List ℕ) → IsJsonNumber t → BeginsWord t
+number_begins t h = by_minus h.4
+  where
+    rest : List ℕ
+    rest = h.1 ++ (h.2 ++ h.3)
+
+    digit : BeginsWithDigit rest
+    digit = digit_more h.1 (h.2 ++ h.3) (integer_begins h.1 h.5)
+
+    by_minus : (h.0 ≡ []) ⊎ (h.0 ≡ codes "-") → BeginsWord t
+    by_minus (inl e) = subst BeginsWord (sym (h.8 ∙ ap (λ y. y ++ rest) e)) (begins_with_digit rest digit)
+    by_minus (inr e) = record {
+      first = 45;
+      others = rest;
+      is = h.8 ∙ ap (λ y. y ++ rest) e;
+      kind = inl refl;
+      dash = λ _. digit;
+    }
+
+pub word_begins : (t : List ℕ) → IsWord t → BeginsWord t
+word_begins t (inl e) = record {
+  first = 116;
+  others = codes "rue";
+  is = e;
+  kind = inr (inr (inl refl));
+  dash = λ n. absurd (omega arith);
+}
+word_begins t (inr (inl e)) =
+    record {
+      first = 102;
+      others = codes "alse";
+      is = e;
+      kind = inr (inr (inr (inl refl)));
+      dash = λ n. absurd (omega arith);
+    }
+word_begins t (inr (inr (inl e))) =
+    record {
+      first = 110;
+      others = codes "ull";
+      is = e;
+      kind = inr (inr (inr (inr refl)));
+      dash = λ n. absurd (omega arith);
+    }
+word_begins t (inr (inr (inr h))) = number_begins t h
+
+-- Each word of JSON is a plain word.
+pub word_is_plain : (t : List ℕ) → IsWord t → IsPlainWord t
+word_is_plain t h =
+    let b = word_begins t h in
+    record {
+      first = b.first;
+      others = b.others;
+      is = b.is;
+      safe = word_safe t h;
+      no_comment = no_comment b.first b.kind;
+      no_dot = no_dot b.first b.kind;
+      dash = λ e. let d = b.dash e in (d.0, d.1, d.2, (λ is. absurd (omega (arith, d.3))));
+    }
+  where
+    no_comment : (c : ℕ) → (c ≡ hyphen) ⊎ IsDigit c ⊎ (c ≡ 116) ⊎ (c ≡ 102) ⊎ (c ≡ 110) → c ≢ number_sign
+    no_comment c k = grind arith
+
+    no_dot : (c : ℕ) → (c ≡ hyphen) ⊎ IsDigit c ⊎ (c ≡ 116) ⊎ (c ≡ 102) ⊎ (c ≡ 110) → c ≢ full_stop
+    no_dot c k = grind arith
+
+-- ## What stands behind a word
+
+-- What stands behind a value and the white space behind that: in flow `,`, `]` or `}`, else the text's end.
+abbrev pub IsBehindValue : Bool → List ℕ → Type 0
+IsBehindValue in_flow [] = Unit {0}
+IsBehindValue in_flow (c ∷ cs) = (in_flow ≡ true) × ((c ≡ 44) ⊎ (c ≡ 93) ⊎ (c ≡ 125))
+
+-- a mark behind a value is no blank or break, and no plain scalar goes on with it in flow
+pub record IsValueEnd (c : ℕ) : Type 0 where
+  pub blank : is_blank c ≡ false
+  pub break : is_break c ≡ false
+  pub flow : is_flow c ≡ true
+  pub colon : (c == 58) ≡ false
+
+mark_behind : (c : ℕ) → (c ≡ comma) ⊎ (c ≡ right_bracket) ⊎ (c ≡ right_brace) → IsValueEnd c
+mark_behind c (inl e) = subst IsValueEnd (sym e) (record { blank = refl; break = refl; flow = refl; colon = refl })
+mark_behind c (inr (inl e)) = subst IsValueEnd (sym e)
+    (record { blank = refl; break = refl; flow = refl; colon = refl })
+mark_behind c (inr (inr e)) = subst IsValueEnd (sym e)
+    (record { blank = refl; break = refl; flow = refl; colon = refl })
+
+neither : (a b : Bool) → (a && not (b || true)) ≡ false
+neither true true = refl
+neither true false = refl
+neither false b = refl
+
+-- no plain scalar goes on behind a value
+pub behind_value_stops : (in_flow : Bool) (y : List ℕ) → IsBehindValue in_flow y → is_in_word in_flow y ≡ false
+unfolding is_in_word
+behind_value_stops in_flow [] h = refl
+behind_value_stops in_flow (c ∷ cs) h =
+    let m = mark_behind c h.1 in rw (h.0, m.colon, m.flow) (neither (not (is_blank_or_breakz c)) (c == 65279))

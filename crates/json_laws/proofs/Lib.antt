@@ -1,0 +1,3 @@
+pub mod AllTokens
+pub mod Examples
+pub mod Json

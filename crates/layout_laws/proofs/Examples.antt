@@ -1,0 +1,3 @@
+-- Examples of what the definitions say.
+pub mod Tags
+pub mod MarkerAlone

@@ -1,0 +1,178 @@
+-- The scanner takes a text of the layout grammar and makes tokens of its forest.
+use Rattle.std.proofs.Common.{◌≡◌, ℕ, ◌≤◌, Bool, true, false, List, [], ◌∷◌, ◌++◌, length, inl, inr, refl, sym, ap, ◌∙◌, arith, subst, append_assoc, append-nil}
+use Rattle.std.specs.Prelude.{None, ◌==◌, not}
+use Rattle.saphyr_input.specs.Classes.{carriage_return}
+use Rattle.saphyr_scalar.specs.Views.Cursor.{start_cursor}
+use Rattle.saphyr_scalar.specs.Spelling.Tag.{AreIn}
+use Rattle.saphyr_scanner.specs.Grammar.Forest.{Forest}
+use Rattle.saphyr_scanner.specs.Limits.{most_open}
+use Rattle.saphyr_scanner.specs.Grammar.Tokens as tokens
+use Rattle.saphyr_scanner.specs.Grammar.Tokens.{Kind}
+use Rattle.saphyr_scanner.specs.Grammar.TokenGrammar as grammar
+use Rattle.saphyr_scanner.specs.Grammar.TokenGrammar.{AreEndsAndMarks, Yields}
+use Rattle.saphyr_scanner.specs.Steps.State.{State, start}
+use Rattle.saphyr_scanner.proofs.Leads.{LeadsTo}
+use Rattle.layout_laws.specs.Grammar.Layout as layout
+use Rattle.layout_laws.specs.Grammar.Layout.{IsDocumentPrefix, IsLayout}
+use Rattle.layout_laws.proofs.Flow.States.{moved, ReaderPromises}
+use Rattle.layout_laws.proofs.Flow.Fillers.{last_filler_past}
+use Rattle.layout_laws.proofs.Documents.Lines.{passes_filler}
+use Rattle.layout_laws.proofs.Documents.Stands.{Lined, StandsInStream}
+use Rattle.layout_laws.proofs.Documents.Markers.{reads_mark, reads_end, FinishesStream, reads_stream_end}
+use Rattle.layout_laws.proofs.InBlock.States.{crosses}
+use Rattle.layout_laws.proofs.InBlock.Follows.{follows_itself}
+use Rattle.layout_laws.proofs.InBlock.Statements.{ReadsLeaves}
+use Rattle.layout_laws.proofs.InBlock.Documents.Ends.{plain_behind, AreBlockDocuments, HasNoReturn, suffix_text, lands_behind}
+use Rattle.layout_laws.proofs.InBlock.Documents.{reads_document}
+use Rattle.std.proofs.Math.Bool.{or-true}
+use Rattle.scalar_laws.proofs.Beginnings.{front_in, back_in}
+use Rattle.saphyr_scanner.proofs.Queues.{place_kinds}
+use Rattle.saphyr_scanner.proofs.Root.{stream_start_place, fetches_stream_start}
+
+-- ## Between documents
+
+-- The scanner has read what may stand before a document.
+pub record PrefixStands (limit : ℕ) (start : State) (others : List ℕ) (ts : List Kind) : Type 0 where
+  pub marks : List Kind
+  pub are : AreEndsAndMarks marks
+  pub stands : StandsInStream limit start true (Lined true others) others (ts ++ marks)
+
+pub reads_prefix : {limit : ℕ} {start : State} (prefix others : List ℕ) (ts : List Kind) → IsDocumentPrefix prefix
+    → StandsInStream limit start true (Lined true (prefix ++ others)) (prefix ++ others) ts
+    → PrefixStands limit start others ts
+reads_prefix {limit = limit} {start = start} prefix others ts (inl e) v =
+    record {
+      marks = [];
+      are = tt;
+      stands = subst (StandsInStream limit start true (Lined true others) others) (sym (append-nil ts))
+          (subst (λ (x : List ℕ). StandsInStream limit start true (Lined true (x ++ others)) (x ++ others) ts) e v);
+    }
+reads_prefix {limit = limit} {start = start} prefix others ts (inr (filler, is, e)) v =
+    let text : prefix ++ others ≡ filler ++ (65279 ∷ others) = ap (λ (x : List ℕ). x ++ others) e
+    ∙ append_assoc filler (65279 ∷ []) others in
+    let first = subst (λ (x : List ℕ). StandsInStream limit start true (Lined true x) x ts) text v in
+    record {
+      marks = tokens.ByteOrderMark ∷ [];
+      are = (inr refl, tt);
+      stands = reads_mark others (passes_filler filler (65279 ∷ others) is first);
+    }
+
+-- what stands behind a document is read, where documents are
+reads_behind : {limit : ℕ} {start : State} (ds : Forest)
+    → ((free : Bool) (t : List ℕ) (ts : List Kind) → AreBlockDocuments ds free t → HasNoReturn t
+    → StandsInStream limit start free (Lined free t) t ts
+    → FinishesStream limit start (grammar.YieldDocuments ds free) ts)
+    → (o : List ℕ) (ts : List Kind) → layout.IsBehindDocument (AreBlockDocuments ds) o → HasNoReturn o
+    → StandsInStream limit start false (Lined false o) o ts
+    → FinishesStream limit start (grammar.YieldsBehindDocument (grammar.YieldDocuments ds)) ts
+reads_behind ds go o ts (inl h) clean v =
+    let f = go false o ts h clean v in
+    record {
+      last = f.last;
+      leads = f.leads;
+      over = f.over;
+      others = f.others;
+      told = ([], [], f.others, tt, inl (refl, f.told), refl);
+      are = f.are;
+    }
+reads_behind {limit = limit} {start = start} ds go o ts
+    (inr (suffix, others, (filler, end, prefix, filler_is, end_is, prefix_is, e), h, is)) clean v =
+    let text : o ≡ filler ++ (46 ∷ 46 ∷ 46 ∷ (end ++ (prefix ++ others))) =
+    is ∙ ap (λ (x : List ℕ). x ++ others) e ∙ suffix_text filler end prefix others in
+    let first = passes_filler filler (46 ∷ 46 ∷ 46 ∷ (end ++ (prefix ++ others))) filler_is
+    (subst (λ (x : List ℕ). StandsInStream limit start false (Lined false x) x ts) text v) in
+    let p = reads_prefix prefix others (ts ++ tokens.DocumentEnd ∷ []) prefix_is
+    (reads_end end (prefix ++ others) first end_is) in
+    let f = go true others ((ts ++ tokens.DocumentEnd ∷ []) ++ p.marks) h
+    (back_in _ suffix others (subst HasNoReturn is clean)) p.stands in
+    record {
+      last = f.last;
+      leads = f.leads;
+      over = f.over;
+      others = tokens.DocumentEnd ∷ (p.marks ++ f.others);
+      told = ([], tokens.DocumentEnd ∷ p.marks, f.others, tt, inr (p.marks, p.are, refl, f.told), refl);
+      are = f.are ∙ behind_list ts p.marks f.others tokens.DocumentEnd;
+    }
+  where
+    behind_list : (ts marks us : List Kind) (k : Kind) → ((ts ++ k ∷ []) ++ marks) ++ us ≡ ts ++ (k ∷ (marks ++ us))
+    behind_list ts marks us k = simp append_assoc
+
+-- ## Documents
+
+reads_documents : {limit : ℕ} {start : State} → ReaderPromises → ReadsLeaves limit
+    → (forest : Forest) (free : Bool) (t : List ℕ) (ts : List Kind) → AreBlockDocuments forest free t → HasNoReturn t
+    → StandsInStream limit start free (Lined free t) t ts
+    → FinishesStream limit start (grammar.YieldDocuments forest free) ts
+reads_documents readers leaves [] free t ts h clean v =
+    let f = reads_stream_end v (moved v.mark t) (last_filler_past 0 v.mark t h) in
+    record { last = f.last; leads = f.leads; over = f.over; others = f.others; told = f.told; are = f.are }
+reads_documents {limit = limit} {start = start} readers leaves (d ∷ ds) free t ts
+    (filler, document, others, filler_is, is, behind, e) clean v =
+    let first = passes_filler filler (document ++ others) filler_is
+    (subst (λ (x : List ℕ). StandsInStream limit start free (Lined free x) x ts) e v) in
+    let left = back_in _ filler (document ++ others) (subst HasNoReturn e clean) in
+    let n = reads_document readers leaves d free document others ts is (lands_behind leaves ds others behind)
+    (plain_behind ds others behind) (front_in _ document others left) first in
+    let f = reads_behind ds (reads_documents readers leaves ds) others (ts ++ n.tokens) behind
+    (back_in _ document others left) n.stands in
+    record {
+      last = f.last;
+      leads = f.leads;
+      over = f.over;
+      others = n.tokens ++ f.others;
+      told = (n.tokens, f.others, n.are, f.told, refl);
+      are = f.are ∙ append_assoc ts n.tokens f.others;
+    }
+
+pub begins : (limit : ℕ) (text : List ℕ) → length text ≤ limit
+    → StandsInStream limit (start text) true (Lined true text) text (tokens.StreamStart ∷ [])
+begins limit text h =
+    let first = fetches_stream_start limit text in
+    record {
+      there = start_cursor text;
+      key = first.key;
+      allowed = true;
+      adjacent = 0;
+      comment = None;
+      places = stream_start_place ∷ [];
+      mark = record { index = 0; line = 1; col = 0 };
+      follows = follows_itself first.leads;
+      none = λ _. first.none refl;
+      fits = refl;
+      line = (inl refl, λ _. inl (or-true (crosses text)));
+      count = omega (arith, h);
+      are = refl;
+      quiet = λ _. refl;
+      low = omega arith;
+      lined = omega arith;
+    }
+
+-- From the start of a text of the layout grammar the scanner comes to its end, and holds tokens of its forest.
+pub layout_leads : ReaderPromises → (limit : ℕ) → ReadsLeaves limit → (forest : Forest) (text : List ℕ)
+    → AreIn (λ c. not (c == carriage_return)) text → IsLayout most_open forest text → length text ≤ limit
+    → (d : State) × LeadsTo limit d (start text) × (d.core.ended ≡ true)
+    × ((tokens : List Kind) × Yields forest tokens × (place_kinds d.queue.places ≡ tokens))
+layout_leads readers limit leaves forest text clean (mark, others, inl none, documents, e) short =
+    let same : text ≡ others = e ∙ ap (λ (x : List ℕ). x ++ others) none in
+    let f = reads_documents readers leaves forest true others (tokens.StreamStart ∷ []) documents
+    (subst HasNoReturn same clean)
+    (subst (λ (x : List ℕ). StandsInStream limit (start text) true (Lined true x) x (tokens.StreamStart ∷ [])) same
+    (begins limit text short)) in
+    (f.last, f.leads, f.over, (tokens.StreamStart ∷ f.others, ([], f.others, tt, f.told, refl), f.are))
+layout_leads readers limit leaves forest text clean (mark, others, inr one, documents, e) short =
+    let same : text ≡ 65279 ∷ others = e ∙ ap (λ (x : List ℕ). x ++ others) one in
+    let first = reads_mark others
+    (subst (λ (x : List ℕ). StandsInStream limit (start text) true (Lined true x) x (tokens.StreamStart ∷ [])) same
+    (begins limit text short)) in
+    let f = reads_documents readers leaves forest true others (tokens.StreamStart ∷ tokens.ByteOrderMark ∷ []) documents
+    (subst HasNoReturn same clean).1 first in (
+      f.last,
+      f.leads,
+      f.over,
+      (
+        tokens.StreamStart ∷ tokens.ByteOrderMark
+            ∷ f.others,
+        (tokens.ByteOrderMark ∷ [], f.others, (inr refl, tt), f.told, refl),
+        f.are,
+      ),
+    )

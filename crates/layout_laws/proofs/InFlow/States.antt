@@ -1,0 +1,396 @@
+-- States of a scanner that reads a node in flow style, whatever block collections are open around it.
+use Rattle.std.proofs.Common.{◌≡◌, ◌⊎◌, inl, inr, ℕ, ◌+◌, ◌<◌, ◌≤◌, Bool, true, false, List, [], ◌∷◌, ◌++◌, length, Ok, refl, sym, ap, ◌∙◌, arith, cond, subst}
+use Rattle.std.specs.Prelude.{◌-◌, ◌||◌, ◌&&◌, ◌==◌, not, nat_lt, nat_le, Option, Some, None, if◌then◌else◌}
+use Rattle.std.proofs.lemmas.Bool.Decides.{nat_tests}
+use Rattle.saphyr_input.specs.declared.input.SkipTabs.{SkipTabs}
+use Rattle.saphyr_input.specs.declared.input.SkipTabs.TheVariants.{Yes}
+use Rattle.saphyr_scalar.specs.declared.scalar.position.Marker.{Marker}
+use Rattle.saphyr_scalar.specs.Views.Cursor.{Cursor, ◌>>=◌, along, separation}
+use Rattle.saphyr_scanner.specs.declared.engine.level.Context.{Context}
+use Rattle.saphyr_scanner.specs.declared.engine.level.Context.TheVariants as context
+use Rattle.saphyr_scanner.specs.Grammar.Tokens.{Kind}
+use Rattle.saphyr_scanner.specs.Steps.Queue.{Place}
+use Rattle.saphyr_scanner.specs.Steps.Core.{Core, is_too_far, drop_far_key, save_key, go_deeper, from_to, up_to_here, completed_step}
+use Rattle.saphyr_scanner.specs.Steps.Level.{Candidate, Level, is_block}
+use Rattle.saphyr_scanner.specs.Steps.Passing.{with_cursor}
+use Rattle.saphyr_scanner.specs.Steps.Flow as flow
+use Rattle.saphyr_scanner.specs.Steps.Flow.{open_collection, close_collection, allow_adjacent, behind_pair}
+use Rattle.saphyr_scanner.specs.Steps.State.{State, on_core}
+use Rattle.saphyr_scanner.specs.Steps.Unrolling.{end_blocks, unroll}
+use Rattle.saphyr_scanner.specs.Steps.Fetch.{fetch, check_limit, fetch_within}
+use Rattle.saphyr_scanner.specs.Limits.{most_open}
+use Rattle.saphyr_scanner.proofs.Leads.{LeadsTo, stay, onward, leads_on}
+use Rattle.saphyr_scalar.proofs.Given.{cursor_at}
+use Rattle.std.proofs.lemmas.Bool.{le-leb}
+use Rattle.saphyr_scanner.proofs.Levels.{saved, level_of, not_full}
+use Rattle.saphyr_scanner.proofs.Queues.{queue_of}
+
+-- ## What stays as it is
+
+-- How long the text may be, which block collections are open around the nodes that are read, and whether a key is
+-- required at block level, and inside the nodes. `indent` is the first column to the right of the innermost collection,
+-- and 0 where there is none.
+pub record Around : Type 0 where
+  pub limit : ℕ
+  pub indent : ℕ
+  pub outers : List ℕ
+  pub pending : Bool
+  pub required : Bool
+
+-- no block collection is open
+abbrev pub alone : ℕ → Around
+alone limit = record { limit = limit; indent = 0; outers = []; pending = false; required = false }
+
+-- ## States
+
+abbrev pub required_at : Around → Context → Bool
+required_at around x = if is_block x then around.pending else around.required
+
+abbrev pub core_at : Around → Bool → Cursor → Context → Option Candidate → List Level → Bool → ℕ → Core
+core_at around d s x k ls a ad =
+    record {
+      cursor = s;
+      level = record { context = x; key = k };
+      outer = ls;
+      required = required_at around x;
+      key_allowed = a;
+      adjacent = ad;
+      indent = around.indent;
+      deeper = d;
+      outer_indents = around.outers;
+      comment = None;
+      started = true;
+      ended = false;
+    }
+
+-- What a step changes: the text that is left and where it stands, the level with the key that is kept at it, the levels
+-- around it, whether a key may begin, where a colon may stand at once, and the places in the queue.
+pub record FlowMoment : Type 0 where
+  pub cursor : Cursor
+  pub context : Context
+  pub key : Option Candidate
+  pub outer : List Level
+  pub allowed : Bool
+  pub adjacent : ℕ
+  pub places : List Place
+
+-- a moment by its parts
+abbrev pub moment : Cursor → Context → Option Candidate → List Level → Bool → ℕ → List Place → FlowMoment
+moment s x k ls a ad ps =
+    record { cursor = s; context = x; key = k; outer = ls; allowed = a; adjacent = ad; places = ps }
+
+-- the same in another context
+abbrev pub moment_in : Context → FlowMoment → FlowMoment
+moment_in x now = record now { context = x }
+
+-- the same outside flow
+abbrev pub root_moment : FlowMoment → FlowMoment
+root_moment now = record now { context = context.Block; outer = [] }
+
+-- the same with further places
+abbrev pub moment_with : List Place → FlowMoment → FlowMoment
+moment_with new now = record now { places = now.places ++ new }
+
+-- The state at a moment, and whether content has to stand one column further right, which comes last: it is so behind a
+-- bracket, and not behind a plain scalar, and nothing that is read depends on it. So runs are told for both.
+abbrev pub state_at : Around → FlowMoment → Bool → State
+state_at around now d = record {
+  core = core_at around d now.cursor now.context now.key now.outer now.allowed now.adjacent;
+  queue = queue_of now.places;
+}
+
+-- the column that content has to reach
+abbrev pub least : ℕ → Bool → ℕ
+least indent d = if d then indent else indent - 1
+
+pub least_low : (indent : ℕ) (d : Bool) → least indent d ≤ indent
+least_low indent true = omega arith
+least_low indent false = lower indent
+  where
+    lower : (n : ℕ) → n - 1 ≤ n
+    lower n = grind (arith, nat_tests)
+
+pub not_left : (indent col : ℕ) (d : Bool) → indent ≤ col → nat_lt col (least indent d) ≡ false
+not_left indent col d h = let low = least_low indent d in further col (least indent d) (omega (arith, low, h))
+  where
+    further : (a b : ℕ) → b ≤ a → nat_lt a b ≡ false
+    further a b h = grind (arith, nat_tests)
+
+-- A state from which the scanner comes to another. Where no block collection is open nothing gets deeper.
+pub record Run (around : Around) (d : Bool) (to : Bool → State) (start : State) : Type 0 where
+  pub deeper : Bool
+  pub flat : around.indent ≡ 0 → d ≡ false → deeper ≡ false
+  pub leads : LeadsTo around.limit (to deeper) start
+
+pub record RunsTo (around : Around) (to start : Bool → State) : Type 0 where
+  pub run : (d : Bool) → Run around d to (start d)
+
+pub runs_to_itself : (around : Around) (s : Bool → State) → RunsTo around s s
+runs_to_itself around s = record { run = λ d. record { deeper = d; flat = λ _ e. e; leads = stay } }
+
+pub chains : {around : Around} {c b a : Bool → State} → RunsTo around b a → RunsTo around c b → RunsTo around c a
+chains f g = record {
+  run = λ d. let r = f.run d in let q =
+      g.run r.deeper in record {
+        deeper = q.deeper;
+        flat = λ e h. q.flat e (r.flat e h);
+        leads = leads_on r.leads q.leads;
+      };
+}
+
+-- ## A key outside flow may be forgotten
+
+-- the key that is left
+abbrev pub key_left : Context → Option Candidate → Marker → Option Candidate
+key_left x k m = if is_block x && is_too_far k m then None else k
+
+pub drops_far_key : (around : Around) (d : Bool) (s : Cursor) (x : Context) (k : Option Candidate) (ls : List Level)
+    (a : Bool) (ad : ℕ) → around.pending ≡ false
+    → drop_far_key (core_at around d s x k ls a ad) ≡ Ok (core_at around d s x (key_left x k s.mark) ls a ad)
+unfolding drop_far_key
+drops_far_key around d s context.Block k ls a ad calm = by_distance (is_too_far k s.mark) refl
+  where
+    by_distance : (far : Bool) → is_too_far k s.mark ≡ far
+        → drop_far_key (core_at around d s context.Block k ls a ad)
+        ≡ Ok (core_at around d s context.Block (key_left context.Block k s.mark) ls a ad)
+    by_distance true h = rw (h, calm) refl
+    by_distance false h = rw h refl
+drops_far_key around d s context.FlowSequence k ls a ad calm = refl
+drops_far_key around d s context.FlowMapping k ls a ad calm = refl
+drops_far_key around d s context.FlowPair k ls a ad calm = refl
+drops_far_key around d s context.ExplicitFlowPair k ls a ad calm = refl
+drops_far_key around d s context.MarkedFlowPair k ls a ad calm = refl
+
+pub left_or_none : (x : Context) (k : Option Candidate) (m : Marker) → (key_left x k m ≡ None) ⊎ (key_left x k m ≡ k)
+left_or_none x k m = by_distance (is_block x && is_too_far k m) refl
+  where
+    by_distance : (b : Bool) → (is_block x && is_too_far k m) ≡ b → (key_left x k m ≡ None) ⊎ (key_left x k m ≡ k)
+    by_distance true e = inl (rw e refl)
+    by_distance false e = inr (rw e refl)
+
+pub left_in_flow : (x : Context) (k : Option Candidate) (m : Marker) → is_block x ≡ false → key_left x k m ≡ k
+left_in_flow x k m e = rw e refl
+
+-- ## No block collection ends right of its indentation
+
+no_right : (indent col : ℕ) → indent ≤ col → nat_lt col (indent - 1) ≡ false
+no_right indent col h = not_left indent col false h
+
+pub no_ends : (col : ℕ) (m : Marker) (is : List ℕ) (s : State) → nat_lt col (s.core.indent - 1) ≡ false
+    → end_blocks (Some col) m is s ≡ s
+no_ends col m [] s h = rw h refl
+no_ends col m (i ∷ is) s h = rw h refl
+
+pub none_unrolls : (around : Around) (col : ℕ) (m : Marker) (s : Cursor) (x : Context) (k : Option Candidate)
+    (ls : List Level) (a : Bool) (ad : ℕ) (ps : List Place) (d : Bool) → around.indent ≤ col
+    → unroll (Some col) m (state_at around (moment s x k ls a ad ps) d) ≡ state_at around (moment s x k ls a ad ps) d
+unfolding unroll
+none_unrolls around col m s context.Block k ls a ad ps d h =
+    let same : (d && nat_le around.indent col) ≡ d = still d (nat_le around.indent col) (reaches around.indent col h) in
+    rw same (no_ends col m around.outers (state_at around (moment s context.Block k ls a ad ps) d)
+    (no_right around.indent col h))
+  where
+    reaches : (a b : ℕ) → a ≤ b → nat_le a b ≡ true
+    reaches a b h = grind (arith, nat_tests)
+
+    still : (a b : Bool) → b ≡ true → (a && b) ≡ a
+    still true b e = e
+    still false b e = refl
+none_unrolls around col m s context.FlowSequence k ls a ad ps d h = refl
+none_unrolls around col m s context.FlowMapping k ls a ad ps d h = refl
+none_unrolls around col m s context.FlowPair k ls a ad ps d h = refl
+none_unrolls around col m s context.ExplicitFlowPair k ls a ad ps d h = refl
+none_unrolls around col m s context.MarkedFlowPair k ls a ad ps d h = refl
+
+-- ## Steps
+
+-- whether content has to stand further right behind a step, by whether it had to before it
+pub record Deepens (around : Around) (to : Bool → Bool) : Type 0 where
+  pub flat : around.indent ≡ 0 → to false ≡ false
+
+pub as_before : (around : Around) → Deepens around (λ d. d)
+as_before around = record { flat = λ _. refl }
+
+pub none_deeper : (around : Around) → Deepens around (λ d. false)
+none_deeper around = record { flat = λ _. refl }
+
+-- behind a bracket
+abbrev pub deepened : Around → Context → Bool → Bool
+deepened around x d = (is_block x && nat_lt 0 around.indent) || d
+
+pub bracket_deepens : (around : Around) (x : Context) → Deepens around (deepened around x)
+bracket_deepens around x = record { flat = λ e. rw e (none_further (is_block x)) }
+  where
+    none_further : (b : Bool) → ((b && nat_lt 0 0) || false) ≡ false
+    none_further true = refl
+    none_further false = refl
+
+-- from a state the scanner comes to another, but for the key outside flow
+pub record ComesAround (around : Around) (start : Bool → State) (next : FlowMoment) : Type 0 where
+  pub key : Option Candidate
+  pub leads : RunsTo around (state_at around (record next { key = key })) start
+  pub same : is_block next.context ≡ false → key ≡ next.key
+  pub kept : (key ≡ None) ⊎ (key ≡ next.key)
+
+-- where a step gives this, it leads there
+pub comes : (around : Around) (start : Bool → State) (next : FlowMoment) (to : Bool → Bool) → Deepens around to
+    → ((d : Bool) → (start d).core.ended ≡ false)
+    → ((d : Bool) → fetch (start d) ≡ Ok (state_at around next (to d))) → next.cursor.mark.index ≤ around.limit
+    → around.pending ≡ false → ComesAround around start next
+unfolding fetch_within
+comes around start next to deepens going is low calm =
+    let left = key_left next.context next.key next.cursor.mark in
+    record {
+      key = left;
+      leads = record { run = λ d. one d };
+      same = left_in_flow next.context next.key next.cursor.mark;
+      kept = left_or_none next.context next.key next.cursor.mark;
+    }
+  where
+    flatly : (d : Bool) → around.indent ≡ 0 → d ≡ false → to d ≡ false
+    flatly true e h = absurd (cc)
+    flatly false e h = deepens.flat e
+
+    there : FlowMoment
+    there = record next { key = key_left next.context next.key next.cursor.mark }
+
+    one : (d : Bool) → Run around d (state_at around there) (start d)
+    one d =
+        let st = state_at around next (to d) in
+        let fits : check_limit around.limit st ≡ Ok st = rw (le-leb next.cursor.mark.index around.limit low) refl in
+        record {
+          deeper = to d;
+          flat = flatly d;
+          leads = onward (start d) st (state_at around there (to d)) (going d)
+              (ap (λ r. r >>= check_limit around.limit) (is d) ∙ fits) (ap (λ r. on_core r (queue_of next.places))
+              (drops_far_key around (to d) next.cursor next.context next.key next.outer next.allowed next.adjacent
+              calm)) stay;
+        }
+
+-- ## Keys and brackets
+
+pub off_column : (indent col : ℕ) (d : Bool) → indent ≤ col → (not d && (indent == col + 1)) ≡ false
+off_column indent col true h = refl
+off_column indent col false h = grind (arith, nat_tests)
+
+-- What is known where a token begins: it stands right of the block collections, and at block level no key is required,
+-- or it is no first token of a key, and stands on a key's line.
+pub data Placed (around : Around) (x : Context) (a : Bool) (m : Marker) : Type 0 where
+  inside : is_block x ≡ false → around.indent ≤ m.col → Placed around x a m
+  right : around.pending ≡ false → around.indent ≤ m.col → Placed around x a m
+  behind_key : is_block x ≡ true → a ≡ false → Placed around x a m
+
+pub placed_right : {around : Around} {m : Marker} (x : Context) (a : Bool) → around.pending ≡ false
+    → around.indent ≤ m.col → Placed around x a m
+placed_right x a calm h = right calm h
+
+saves_in_flow : (n : ℕ) (around : Around) (d : Bool) (s : Cursor) (x : Context) (k : Option Candidate) (ls : List Level)
+    (a : Bool) (ad : ℕ) → is_block x ≡ false
+    → save_key n (core_at around d s x k ls a ad) ≡ core_at around d s x (saved a n s.mark k) ls a ad
+saves_in_flow n around d s x k ls false ad e = refl
+saves_in_flow n around d s context.Block k ls true ad e = absurd (cc)
+saves_in_flow n around d s context.FlowSequence k ls true ad e = refl
+saves_in_flow n around d s context.FlowMapping k ls true ad e = refl
+saves_in_flow n around d s context.FlowPair k ls true ad e = refl
+saves_in_flow n around d s context.ExplicitFlowPair k ls true ad e = refl
+saves_in_flow n around d s context.MarkedFlowPair k ls true ad e = refl
+
+saves_right : (n : ℕ) (around : Around) (d : Bool) (s : Cursor) (x : Context) (k : Option Candidate) (ls : List Level)
+    (a : Bool) (ad : ℕ) → around.pending ≡ false → around.indent ≤ s.mark.col
+    → save_key n (core_at around d s x k ls a ad) ≡ core_at around d s x (saved a n s.mark k) ls a ad
+saves_right n around d s x k ls false ad e h = refl
+saves_right n around d s context.Block k ls true ad e h = rw (off_column around.indent s.mark.col d h, e) refl
+saves_right n around d s context.FlowSequence k ls true ad e h = refl
+saves_right n around d s context.FlowMapping k ls true ad e h = refl
+saves_right n around d s context.FlowPair k ls true ad e h = refl
+saves_right n around d s context.ExplicitFlowPair k ls true ad e h = refl
+saves_right n around d s context.MarkedFlowPair k ls true ad e h = refl
+
+pub saves_key : (n : ℕ) (around : Around) (d : Bool) (s : Cursor) (x : Context) (k : Option Candidate) (ls : List Level)
+    (a : Bool) (ad : ℕ) → Placed around x a s.mark
+    → save_key n (core_at around d s x k ls a ad) ≡ core_at around d s x (saved a n s.mark k) ls a ad
+saves_key n around d s x k ls a ad (inside e h) = saves_in_flow n around d s x k ls a ad e
+saves_key n around d s x k ls a ad (right e h) = saves_right n around d s x k ls a ad e h
+saves_key n around d s x k ls a ad (behind_key b e) =
+    subst (λ (q : Bool). save_key n (core_at around d s x k ls q ad)
+    ≡ core_at around d s x (saved q n s.mark k) ls q ad) (sym e) refl
+
+-- a plain scalar inside flow is right of the block collections
+pub plain_placed : (around : Around) (x : Context) (a : Bool) (m : Marker) → Placed around x a m
+    → (not (is_block x) && nat_lt m.col around.indent) ≡ false
+plain_placed around x a m (inside e h) = further (not (is_block x)) (not_left around.indent m.col true h)
+  where
+    further : (p : Bool) → nat_lt m.col around.indent ≡ false → (p && nat_lt m.col around.indent) ≡ false
+    further true e = e
+    further false e = refl
+plain_placed around x a m (right e h) = further (not (is_block x)) (not_left around.indent m.col true h)
+  where
+    further : (p : Bool) → nat_lt m.col around.indent ≡ false → (p && nat_lt m.col around.indent) ≡ false
+    further true e = e
+    further false e = refl
+plain_placed around x a m (behind_key b e) = rw b refl
+
+pub opening_steps_open : (y : Context) (kind : Kind) (n : ℕ) (around : Around) (d : Bool) (s : Cursor) (x : Context)
+    (k : Option Candidate) (ls : List Level) (a : Bool) (ad : ℕ) → Placed around x a s.mark
+    → flow.opening_steps y kind n (core_at around d s x k ls a ad)
+    ≡ open_collection y kind (core_at around (deepened around x d) s x (saved a n s.mark k) ls a ad)
+unfolding flow.opening_steps
+opening_steps_open y kind n around d s x k ls a ad h =
+    ap (λ (c : Core). open_collection y kind (go_deeper c)) (saves_key n around d s x k ls a ad h)
+
+-- what is required around a collection is so inside it
+abbrev pub Calm : Around → Context → Type 0
+Calm around x = is_block x ≡ true → around.pending ≡ around.required
+
+still_required : (around : Around) (x y : Context) → is_block y ≡ false → Calm around x
+    → required_at around x ≡ required_at around y
+still_required around x y e calm = by_context (is_block x) refl
+  where
+    by_context : (b : Bool) → is_block x ≡ b → required_at around x ≡ required_at around y
+    by_context true h = rw (h, e) (calm h)
+    by_context false h = rw (h, e) refl
+
+pub open_collection_gives : (y : Context) (kind : Kind) (ch : ℕ) (r : List ℕ) (m : Marker) (b : Bool) (around : Around)
+    (d : Bool)
+    (x : Context) (k : Option Candidate) (ls : List Level) (a : Bool) (ad : ℕ) (found : SkipTabs) (there : Cursor)
+    → separation Yes (cursor_at r (along m 1) false) ≡ Ok (found, there) → length ls < most_open → is_block y ≡ false
+    → Calm around x
+    → open_collection y kind (core_at around d (cursor_at (ch ∷ r) m b) x k ls a ad)
+    ≡ completed_step (from_to m there.mark kind ∷ []) (core_at around d there y None (level_of x k ∷ ls) true ad)
+unfolding open_collection
+open_collection_gives y kind ch r m b around d x k ls a ad found there is low flows calm =
+    let c : Core = record (core_at around d (cursor_at r (along m 1) false) y None (level_of x k ∷ ls) true ad)
+    { required = required_at around x } in
+    rw (not_full (length ls) low)
+    (ap (λ q. (q >>= λ (e : SkipTabs × Cursor). Ok (e.0, with_cursor e.1 c)) >>= λ (e : SkipTabs × Core). completed_step
+    (up_to_here m kind e.1 ∷ []) e.1) is
+    ∙ ap (λ (q : Bool). completed_step (from_to m there.mark kind ∷ [])
+    (record (core_at around d there y None (level_of x k ∷ ls) true ad) { required = q }))
+    (still_required around x y flows calm))
+
+adjacent_by : (b : Bool) (around : Around) (d : Bool) (s : Cursor) (x : Context) (k : Option Candidate)
+    (ls : List Level) (ad : ℕ)
+    → cond b (core_at around d s x k ls false ad) (core_at around d s x k ls false s.mark.index)
+    ≡ core_at around d s x k ls false (cond b ad s.mark.index)
+adjacent_by true around d s x k ls ad = refl
+adjacent_by false around d s x k ls ad = refl
+
+pub close_collection_gives : (ends : Bool) (kind : Kind) (ch : ℕ) (r : List ℕ) (m : Marker) (b : Bool) (around : Around)
+    (d : Bool)
+    (y : Context) (k j : Option Candidate) (x : Context) (ls : List Level) (a : Bool) (ad : ℕ) (found : SkipTabs)
+    (there : Cursor) → separation Yes (cursor_at r (along m 1) false) ≡ Ok (found, there) → is_block y ≡ false
+    → Calm around x
+    → close_collection ends kind (core_at around d (cursor_at (ch ∷ r) m b) y k (level_of x j ∷ ls) a ad)
+    ≡ completed_step (behind_pair ends m (from_to m there.mark kind))
+    (core_at around d there x j ls false (cond (is_block x) ad there.mark.index))
+unfolding close_collection
+close_collection_gives ends kind ch r m b around d y k j x ls a ad found there is flows calm =
+    let was = required_at around y in
+    let c : Core = record (core_at around d (cursor_at r (along m 1) false) x j ls false ad) { required = was } in
+    ap (λ q. (q >>= λ (e : SkipTabs × Cursor). Ok (e.0, with_cursor e.1 c)) >>= λ (e : SkipTabs × Core). completed_step
+    (behind_pair ends m (up_to_here m kind e.1)) (allow_adjacent e.1)) is
+    ∙ ap (λ (q : Bool). completed_step (behind_pair ends m (from_to m there.mark kind))
+    (allow_adjacent (record (core_at around d there x j ls false ad) { required = q })))
+    (sym (still_required around x y flows calm))
+    ∙ ap (completed_step (behind_pair ends m (from_to m there.mark kind)))
+    (adjacent_by (is_block x) around d there x j ls ad)

@@ -1,0 +1,6 @@
+pub mod InBlock
+pub mod Examples
+pub mod InFlow
+pub mod Flow
+pub mod Documents
+pub mod Breaks

@@ -1,0 +1,3 @@
+-- What calls hand out.
+pub mod Handing
+pub mod Looking

@@ -1,0 +1,10 @@
+pub mod Names
+pub mod Stacks
+pub mod Passing
+pub mod Walk
+pub mod Sizes
+pub mod Unroll
+pub mod Turns
+pub mod Calls
+pub mod HandedOver
+pub mod Copies

@@ -1,0 +1,144 @@
+-- Maps from texts, as lists of names.
+use Rattle.std.proofs.Common.{◌≡◌, arith, ℕ, length, List, [], ◌∷◌, Option, Some, None, refl, sym, ap, ◌∙◌, cond, Bool, true, false, ◌||◌}
+use Rattle.std.specs.Prelude.{map, String, string_bytes, string_cmp, option_map, is_some}
+use Rattle.std.specs.BTreeMap.{BTreeMap, get_by, insert_entry, is_at}
+use Rattle.std.specs.BTreeSet.{BTreeSet, contains_by, insert_key}
+use Rattle.std.specs.List.{list_any}
+use Rattle.std.specs.Cmp.Lexicographic.{slice_cmp}
+use Rattle.std.specs.Map.{lookup, keys_of}
+use Rattle.std.specs.Ordering.{nat_cmp, match_ordering}
+use Rattle.std.specs.declared.cmp.Ordering.{Ordering}
+use Rattle.std.specs.declared.cmp.Ordering.TheVariants.{Less, Equal, Greater}
+use Rattle.saphyr_machine.specs.Steps.Machine.{Names, meaning, with_meaning, is_listed, with_name}
+use Rattle.saphyr_machine.specs.Names.{ids_of, texts_of, names_of}
+
+abbrev pub seen : {A X Z : Type 0} → (X → Z) → List (String A × X) → Names Z
+seen {A} {X} {Z} f es = map (λ (e : String A × X). (string_bytes e.0, f e.1)) es
+
+chosen : {A X Z : Type 0} (f : X → Z) (o : Ordering) (a b c : List (String A × X))
+    → seen f (match_ordering o a b c) ≡ match_ordering o (seen f a) (seen f b) (seen f c)
+chosen f Less a b c = refl
+chosen f Equal a b c = refl
+chosen f Greater a b c = refl
+
+inserted : {A X Z : Type 0} (f : X → Z) (es : List (String A × X)) (k : String A) (v : X)
+    → seen f (insert_entry string_cmp es k v) ≡ insert_entry (slice_cmp nat_cmp) (seen f es) (string_bytes k) (f v)
+inserted f [] k v = refl
+inserted {A} {X} {Z} f (e ∷ es) k v =
+    chosen f (string_cmp k e.0) ((k, v) ∷ e ∷ es) ((e.0, v) ∷ es) (e ∷ insert_entry string_cmp es k v)
+    ∙ ap (λ (r : Names Z). match_ordering (slice_cmp nat_cmp (string_bytes k) (string_bytes e.0))
+    ((string_bytes k, f v) ∷ seen f (e ∷ es)) ((string_bytes e.0, f v) ∷ seen f es) ((string_bytes e.0, f e.1) ∷ r))
+    (inserted f es k v)
+
+split : {X Z : Type 0} (f : X → Z) (b : Bool) (x : X) (o : Option X)
+    → option_map f (cond b (Some x) o) ≡ cond b (Some (f x)) (option_map f o)
+split f true x o = refl
+split f false x o = refl
+
+found_by_bytes : {A X Z : Type 0} (f : X → Z) (name : List ℕ) (es : List (String A × X))
+    → option_map f (lookup (is_at (λ (k : String A). slice_cmp nat_cmp name (string_bytes k))) es)
+    ≡ meaning name (seen f es)
+found_by_bytes f name [] = refl
+found_by_bytes {A} {X} {Z} f name (e ∷ es) =
+    let here : Bool = is_at (slice_cmp nat_cmp name) (string_bytes e.0) in
+    split f here e.1 (lookup (is_at (λ (k : String A). slice_cmp nat_cmp name (string_bytes k))) es)
+    ∙ ap (λ (o : Option Z). cond here (Some (f e.1)) o) (found_by_bytes f name es)
+
+kept : {X : Type 0} (o : Option X) → option_map (λ x. x) o ≡ o
+kept None = refl
+kept (Some x) = refl
+
+pub ids_given : {A : Type 0} (m n : BTreeMap (String A) ℕ) (name : String A) (id : ℕ)
+    → n.entries ≡ insert_entry string_cmp m.entries name id → ids_of n ≡ with_meaning (string_bytes name) id (ids_of m)
+ids_given m n name id e = rw e (inserted (λ (x : ℕ). x) m.entries name id)
+
+pub ids_meaning : {A : Type 0} (m : BTreeMap (String A) ℕ) (name : List ℕ)
+    → get_by (λ (k : String A). slice_cmp nat_cmp name (string_bytes k)) m ≡ meaning name (ids_of m)
+ids_meaning m name = sym (kept _) ∙ found_by_bytes (λ (x : ℕ). x) name m.entries
+
+pub texts_given : {A : Type 0} (m n : BTreeMap (String A) (String A)) (handle prefix : String A)
+    → n.entries ≡ insert_entry string_cmp m.entries handle prefix
+    → texts_of n ≡ with_meaning (string_bytes handle) (string_bytes prefix) (texts_of m)
+texts_given m n handle prefix e = rw e (inserted string_bytes m.entries handle prefix)
+
+pub texts_meaning : {A : Type 0} (m : BTreeMap (String A) (String A)) (handle : List ℕ)
+    → option_map string_bytes (get_by (λ (k : String A). slice_cmp nat_cmp handle (string_bytes k)) m)
+    ≡ meaning handle (texts_of m)
+texts_meaning m handle = found_by_bytes string_bytes handle m.entries
+
+pub texts_empty : {A : Type 0} (m : BTreeMap (String A) (String A)) → length m.entries ≡ 0 → texts_of m ≡ []
+texts_empty m e = none m.entries e
+  where
+    none : {A : Type 0} (es : List (String A × String A)) → length es ≡ 0 → seen string_bytes es ≡ []
+    none [] e = refl
+    none (x ∷ es) e = absurd (omega (arith, e))
+
+names_with : {Z : Type 0} (o : Ordering) (a b c : Names Z)
+    → keys_of (match_ordering o a b c) ≡ match_ordering o (keys_of a) (keys_of b) (keys_of c)
+names_with Less a b c = refl
+names_with Equal a b c = refl
+names_with Greater a b c = refl
+
+-- a name that is given a meaning is listed among the names
+pub given_names : {Z : Type 0} (name : List ℕ) (z : Z) (names : Names Z)
+    → keys_of (with_meaning name z names) ≡ with_name name (keys_of names)
+given_names name z [] = refl
+given_names {Z} name z (e ∷ es) =
+    names_with (slice_cmp nat_cmp name e.0) ((name, z) ∷ e ∷ es) ((e.0, z) ∷ es) (e ∷ with_meaning name z es)
+    ∙ ap (λ (r : List (List ℕ)). match_ordering (slice_cmp nat_cmp name e.0) (name ∷ e.0 ∷ keys_of es)
+    (e.0 ∷ keys_of es) (e.0 ∷ r)) (given_names name z es)
+
+-- a name that has a meaning is listed among the names
+pub has_meaning : {Z : Type 0} (name : List ℕ) (names : Names Z)
+    → is_some (meaning name names) ≡ is_listed name (keys_of names)
+has_meaning name [] = refl
+has_meaning {Z} name (e ∷ es) =
+    some (is_at (slice_cmp nat_cmp name) e.0) e.1 (meaning name es)
+    ∙ ap (λ (b : Bool). is_at (slice_cmp nat_cmp name) e.0 || b) (has_meaning name es)
+  where
+    some : {Z : Type 0} (b : Bool) (z : Z) (o : Option Z) → is_some (cond b (Some z) o) ≡ b || is_some o
+    some true z o = refl
+    some false z o = refl
+
+pub texts_listed : {A : Type 0} (m : BTreeMap (String A) (String A)) (handle : List ℕ)
+    → is_some (get_by (λ (k : String A). slice_cmp nat_cmp handle (string_bytes k)) m)
+    ≡ is_listed handle (keys_of (texts_of m))
+texts_listed m handle =
+    still_some string_bytes _ ∙ ap (λ (o : Option (List ℕ)). is_some o) (texts_meaning m handle)
+    ∙ has_meaning handle (texts_of m)
+  where
+    still_some : {X Z : Type 0} (f : X → Z) (o : Option X) → is_some o ≡ is_some (option_map f o)
+    still_some f None = refl
+    still_some f (Some x) = refl
+
+-- ## Sets
+
+abbrev texts : {A : Type 0} → List (String A) → List (List ℕ)
+texts {A} ks = map (λ (k : String A). string_bytes k) ks
+
+among : {A : Type 0} (o : Ordering) (a b c : List (String A))
+    → texts (match_ordering o a b c) ≡ match_ordering o (texts a) (texts b) (texts c)
+among Less a b c = refl
+among Equal a b c = refl
+among Greater a b c = refl
+
+added : {A : Type 0} (ks : List (String A)) (k : String A)
+    → texts (insert_key string_cmp ks k) ≡ with_name (string_bytes k) (texts ks)
+added [] k = refl
+added (x ∷ ks) k =
+    among (string_cmp k x) (k ∷ x ∷ ks) (x ∷ ks) (x ∷ insert_key string_cmp ks k)
+    ∙ ap (λ (r : List (List ℕ)). match_ordering (slice_cmp nat_cmp (string_bytes k) (string_bytes x))
+    (string_bytes k ∷ texts (x ∷ ks)) (texts (x ∷ ks)) (string_bytes x ∷ r)) (added ks k)
+
+has : {A : Type 0} (ks : List (String A)) (name : List ℕ)
+    → list_any (is_at (λ (k : String A). slice_cmp nat_cmp name (string_bytes k))) ks ≡ is_listed name (texts ks)
+has [] name = refl
+has (x ∷ ks) name = ap (λ b. is_at (slice_cmp nat_cmp name) (string_bytes x) || b) (has ks name)
+
+pub names_listed : {A : Type 0} (s n : BTreeSet (String A)) (name : String A)
+    → n.keys ≡ insert_key string_cmp s.keys name → names_of n ≡ with_name (string_bytes name) (names_of s)
+names_listed s n name e = rw e (added s.keys name)
+
+pub name_listed : {A : Type 0} (s : BTreeSet (String A)) (name : List ℕ)
+    → contains_by (λ (k : String A). slice_cmp nat_cmp name (string_bytes k)) s ≡ is_listed name (names_of s)
+name_listed s name = has s.keys name

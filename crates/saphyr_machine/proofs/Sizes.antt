@@ -1,0 +1,51 @@
+-- Each step leaves less to do, so that all steps end.
+use Rattle.std.proofs.Common.{◌≡◌, ◌≢◌, ℕ, ◌+◌, ◌*◌, ◌≤◌, List, [], ◌∷◌, length, Ok, arith, subst}
+use Rattle.saphyr_scalar.specs.declared.scalar.position.Marker.{Marker}
+use Rattle.saphyr_machine.specs.declared.state.State.{State}
+use Rattle.saphyr_machine.specs.declared.state.State.TheVariants as state
+use Rattle.saphyr_machine.specs.Steps.Machine.{Machine, Told}
+use Rattle.saphyr_machine.specs.Steps.Expected.{event_step}
+use Rattle.saphyr_machine.specs.Answer.{machine_size}
+use Rattle.saphyr_machine.proofs.Walk.Steps.{Walk, HasPlace, HavePlaces, StepGives}
+use Rattle.saphyr_machine.proofs.Walk.All.{steps_at}
+
+-- no more than n is left to do
+abbrev measured : ℕ → Walk
+measured n = record {
+  Spans = λ a b. Unit {0};
+  Ahead = λ low d r ts. 10 * length ts + d ≤ n + 10;
+  Rests = λ s d r ts. 10 * length ts + d ≤ n + 10;
+  Fails = λ f. Unit {0};
+  joined = λ a b c s t. tt;
+  first = λ a b s. tt;
+  last = λ a b s. tt;
+  fails = λ text a s. tt;
+  nothing = λ low d r a. tt;
+  own = λ low d r t ts a. (tt, tt);
+  from_start = λ low d r t ts a. a;
+  behind = λ low d r t ts e a. omega (arith, a);
+  less = λ low c d r ts l a. omega (arith, l, a);
+  rests = λ low s d r ts a. a;
+  over = λ low d c r t ts e l a. omega (arith, l, a);
+}
+
+any_place : (s : State) → HasPlace (λ a b. Unit {0}) s
+any_place (state.FlowSequenceEntryMappingEnd place) = tt
+any_place _ = tt
+
+any_places : (ss : List State) → HavePlaces (λ a b. Unit {0}) ss
+any_places [] = tt
+any_places (s ∷ ss) = (any_place s, any_places ss)
+
+size_left : (n : ℕ) (x : Told) → StepGives (measured n) (Ok x) → machine_size x.machine ≤ n
+size_left n x g = let l : 10 * length x.machine.tokens.pieces + _ ≤ n + 10 = g.1.rests in omega (arith, l)
+
+pub step_leaves : (n : ℕ) (m : Machine) (x : Told) → m.state ≢ state.End → machine_size m ≤ n + 1 → event_step m ≡ Ok x
+    → machine_size x.machine ≤ n
+unfolding event_step
+step_leaves n m x alive l e =
+    let place : Marker = record { index = 0; line = 0; col = 0 } in
+    size_left n x
+    (subst (StepGives (measured n)) e
+    (steps_at (measured n) {low = place} m.state m alive (any_place m.state)
+    (record { pieces = omega (arith, l); places = any_places m.states })))

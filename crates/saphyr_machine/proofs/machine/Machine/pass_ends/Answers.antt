@@ -1,0 +1,23 @@
+use Rattle.std.proofs.Common.{rules}
+use Rattle.saphyr_scanner.specs.Views.Tokens.{piece}
+use Rattle.saphyr_machine.specs.Steps.Documents.{is_end_or_mark}
+use Rattle.saphyr_machine.specs.Views.Machines.{machine_of}
+use Rattle.saphyr_machine.proofs.Passing.{passes_on, stops_at, fails_at}
+use Rattle.saphyr_machine.proofs.machine.Machine.pass_ends.Goals as goal
+
+pub returns-in_err-token-clause-taken : goal.returns-in_err-token-clause-taken
+returns-in_err-token-clause-taken g c =
+    let failed = fails_at is_end_or_mark (machine_of c.args.self.now) (machine_of c.loop-token.self)
+    c.in_err-token.field-0.0 c.loop-token.invariant c.in_err-token.ensures.taken in search rules
+
+pub returns-then-not-is_end_or_mark-clause-taken : goal.returns-then-not-is_end_or_mark-clause-taken
+returns-then-not-is_end_or_mark-clause-taken g c =
+    stops_at is_end_or_mark (machine_of c.args.self.now) (machine_of c.loop-token.self) (machine_of c.take.new.self)
+    (piece c.in_ok-token.token) _ c.loop-token.invariant c.in_ok-token.ensures.taken c.is_end_or_mark.ensures
+    c.if-not-is_end_or_mark.true
+
+pub loop-token-preserved : goal.loop-token-preserved
+loop-token-preserved g c =
+    passes_on is_end_or_mark (machine_of c.args.self.now) (machine_of c.loop-token.self) (machine_of c.take.new.self)
+    (piece c.in_ok-token.token) _ c.loop-token.invariant c.in_ok-token.ensures.taken c.is_end_or_mark.ensures
+    c.if-not-is_end_or_mark.false

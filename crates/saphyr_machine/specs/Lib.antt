@@ -1,0 +1,9 @@
+pub mod Events
+pub mod Names
+pub mod Views
+pub mod Steps
+pub mod Answer
+pub mod Faults
+pub mod Cursor
+pub mod Calls
+pub mod Loading

@@ -1,0 +1,14 @@
+-- Maps from texts, as lists of names.
+use Rattle.std.specs.Prelude.{ℕ, List, map, String, string_bytes}
+use Rattle.std.specs.BTreeMap.{BTreeMap}
+use Rattle.std.specs.BTreeSet.{BTreeSet}
+use Rattle.saphyr_machine.specs.Steps.Machine.{Names}
+
+abbrev pub ids_of : {A : Type 0} → BTreeMap (String A) ℕ → Names ℕ
+ids_of {A} m = map (λ (e : String A × ℕ). (string_bytes e.0, e.1)) m.entries
+
+abbrev pub texts_of : {A : Type 0} → BTreeMap (String A) (String A) → Names (List ℕ)
+texts_of {A} m = map (λ (e : String A × String A). (string_bytes e.0, string_bytes e.1)) m.entries
+
+abbrev pub names_of : {A : Type 0} → BTreeSet (String A) → List (List ℕ)
+names_of {A} s = map (λ (k : String A). string_bytes k) s.keys

@@ -1,0 +1,45 @@
+-- What contracts see of a machine and of events.
+use Rattle.std.specs.Prelude.{Option, Some, None, reverse, Result}
+use Rattle.saphyr_scalar.specs.declared.scalar.fault.Refusal.{Refusal}
+use Rattle.saphyr_scalar.specs.declared.scalar.fault.Stop.{Stop}
+use Rattle.saphyr_scalar.specs.declared.scalar.position.Span.{Span}
+use Rattle.saphyr_scalar.specs.Views.Reader.{Moves}
+use Rattle.saphyr_scanner.specs.declared.token.Token.{Token}
+use Rattle.saphyr_scanner.specs.Views.Tokens.{Remaining, Piece, piece, before}
+use Rattle.saphyr_machine.specs.declared.event.Event.{Event}
+use Rattle.saphyr_machine.specs.declared.machine.Machine as declared
+pub use Rattle.saphyr_machine.specs.Views.Events.{happening, resolved_tag}
+use Rattle.saphyr_machine.specs.Steps.Machine.{Machine, Told}
+
+-- the tokens still to be read, of which one may be read already
+abbrev pub with_token_ahead : Option Token → Remaining → Remaining
+with_token_ahead None r = r
+with_token_ahead (Some t) r = before (piece t) r
+
+abbrev pub machine_of : {T : Type 0} → declared.Machine T → Machine
+machine_of m = record {
+  tokens = with_token_ahead m.token m.scanner;
+  state = m.state;
+  states = reverse m.states.items;
+  anchors = m.anchors;
+  prefixes = m.prefixes;
+  keep_tags = m.keep_tags;
+}
+
+-- an event with its span, and the machine that it leaves
+abbrev pub told_event_of : Machine → Event × Span → Told
+told_event_of m e = record { what = happening e.0; span = e.1; machine = m }
+
+-- The token that a call returned, and the machine that it left, are what the function gives, unless memory ran out.
+abbrev pub TakesBy
+    : {T : Type 0}
+    → (Machine → Result (Piece × Machine) Refusal) → declared.Machine T → Result Token Stop → declared.Machine T
+    → Type 0
+TakesBy f old result new = Moves (λ t. (piece t, machine_of new)) result (f (machine_of old))
+
+-- What a call returned, and the event and the machine that it left, are what the function gives, unless memory ran out.
+abbrev pub TellsBy
+    : {T : Type 0}
+    → (Machine → Result Told Refusal) → declared.Machine T → Result Unit Stop → Event × Span
+    → declared.Machine T → Type 0
+TellsBy f old result next new = Moves (λ _. told_event_of (machine_of new) next) result (f (machine_of old))

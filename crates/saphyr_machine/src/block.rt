@@ -1,0 +1,202 @@
+//! The states inside block collections (YAML 1.2.2, 8.2).
+
+ghost use Rattle.saphyr_machine.specs.Steps.Block as spec;
+
+use crate::context::NodeContext;
+use crate::event::Event;
+use crate::machine::{Machine, refuse};
+use crate::state::State;
+use saphyr_input::input::Input;
+use saphyr_scalar::{FaultText, Span, Stop};
+use saphyr_scanner::TokenType;
+
+impl<T: Input> Machine<T> {
+    ghost use Rattle.saphyr_machine.specs.Views.Machines.{TellsBy};
+
+    // A node that begins with the next token.
+    #[inline(always)]
+    #[tactic(auto, unfolding(crate::specs::Steps::Block::block_node))]
+    pub(super) fn block_node<'input>(
+        &mut self,
+        next: &mut (Event<'input>, Span),
+    ) -> Result<(), Stop>
+        ensures { TellsBy spec.block_node self.old result next.new self.new }
+    {
+        let token = self.take()?;
+        self.node(NodeContext::Block, token, next)?;
+        Ok(())
+    }
+
+    // An entry of a block sequence, or its end.
+    #[tactic(auto, unfolding(crate::specs::Steps::Block::block_sequence_entry))]
+    pub(super) fn block_sequence_entry<'input>(
+        &mut self,
+        next: &mut (Event<'input>, Span),
+    ) -> Result<(), Stop>
+        ensures { TellsBy spec.block_sequence_entry self.old result next.new self.new }
+    {
+        let token = self.take()?;
+        match token.kind {
+            TokenType::BlockEnd => {
+                self.pop();
+                next.0.write_over(Event::SequenceEnd);
+                next.1 = token.span;
+            }
+            TokenType::BlockEntry => self.block_sequence_node(token.span, next)?,
+            _ => return Err(refuse(FaultText::SequenceEntryExpected, token.span.start)),
+        }
+        Ok(())
+    }
+
+    // The node behind a `-`.
+    #[inline(always)]
+    #[tactic(auto, unfolding(crate::specs::Steps::Block::block_sequence_node))]
+    fn block_sequence_node<'input>(
+        &mut self,
+        dash: Span,
+        next: &mut (Event<'input>, Span),
+    ) -> Result<(), Stop>
+        ensures { TellsBy (spec.block_sequence_node dash) self.old result next.new self.new }
+    {
+        let token = self.take()?;
+        match token.kind {
+            TokenType::BlockEntry | TokenType::BlockEnd => {
+                self.left_out(token, State::BlockSequenceEntry, dash, next)?
+            }
+            _ => self.inside(State::BlockSequenceEntry, NodeContext::Block, token, next)?,
+        }
+        Ok(())
+    }
+
+    // An entry of a sequence at the column of the mapping around it, or its end.
+    #[tactic(auto, unfolding(crate::specs::Steps::Block::indentless_sequence_entry))]
+    pub(super) fn indentless_sequence_entry<'input>(
+        &mut self,
+        next: &mut (Event<'input>, Span),
+    ) -> Result<(), Stop>
+        ensures { TellsBy spec.indentless_sequence_entry self.old result next.new self.new }
+    {
+        let token = self.take()?;
+        match token.kind {
+            TokenType::BlockEntry => self.indentless_sequence_node(token.span, next)?,
+            _ => {
+                let span = token.span;
+                self.put_back(token);
+                self.pop();
+                next.0.write_over(Event::SequenceEnd);
+                next.1 = span;
+            }
+        }
+        Ok(())
+    }
+
+    #[tactic(auto, unfolding(crate::specs::Steps::Block::indentless_sequence_node))]
+    fn indentless_sequence_node<'input>(
+        &mut self,
+        dash: Span,
+        next: &mut (Event<'input>, Span),
+    ) -> Result<(), Stop>
+        ensures { TellsBy (spec.indentless_sequence_node dash) self.old result next.new self.new }
+    {
+        let token = self.take()?;
+        match token.kind {
+            TokenType::BlockEntry | TokenType::Key | TokenType::Value | TokenType::BlockEnd => {
+                self.left_out(token, State::IndentlessSequenceEntry, dash, next)?
+            }
+            _ => self.inside(
+                State::IndentlessSequenceEntry,
+                NodeContext::Block,
+                token,
+                next,
+            )?,
+        }
+        Ok(())
+    }
+
+    // A key of a block mapping, or its end.
+    #[tactic(auto, unfolding(crate::specs::Steps::Block::block_mapping_key))]
+    pub(super) fn block_mapping_key<'input>(
+        &mut self,
+        next: &mut (Event<'input>, Span),
+    ) -> Result<(), Stop>
+        ensures { TellsBy spec.block_mapping_key self.old result next.new self.new }
+    {
+        let token = self.take()?;
+        match token.kind {
+            TokenType::Key => self.block_key_node(next)?,
+            TokenType::Value => {
+                let span = token.span;
+                self.left_out(token, State::BlockMappingValue, span, next)?
+            }
+            TokenType::BlockEnd => {
+                self.pop();
+                next.0.write_over(Event::MappingEnd);
+                next.1 = token.span;
+            }
+            _ => return Err(refuse(FaultText::BlockMappingKeyExpected, token.span.start)),
+        }
+        Ok(())
+    }
+
+    // The node behind a key's token.
+    #[tactic(auto, unfolding(crate::specs::Steps::Block::block_key_node))]
+    fn block_key_node<'input>(&mut self, next: &mut (Event<'input>, Span)) -> Result<(), Stop>
+        ensures { TellsBy spec.block_key_node self.old result next.new self.new }
+    {
+        let token = self.take()?;
+        match token.kind {
+            TokenType::Key | TokenType::Value | TokenType::BlockEnd => {
+                let span = token.span;
+                self.left_out(token, State::BlockMappingValue, span, next)?
+            }
+            _ => self.inside(
+                State::BlockMappingValue,
+                NodeContext::BlockMapping,
+                token,
+                next,
+            )?,
+        }
+        Ok(())
+    }
+
+    // The value of a pair of a block mapping.
+    #[tactic(auto, unfolding(crate::specs::Steps::Block::block_mapping_value))]
+    pub(super) fn block_mapping_value<'input>(
+        &mut self,
+        next: &mut (Event<'input>, Span),
+    ) -> Result<(), Stop>
+        ensures { TellsBy spec.block_mapping_value self.old result next.new self.new }
+    {
+        let token = self.take()?;
+        let span = token.span;
+        match token.kind {
+            TokenType::Value => self.block_value_node(span, next)?,
+            _ => self.left_out(token, State::BlockMappingKey, span, next)?,
+        }
+        Ok(())
+    }
+
+    // The node behind a value's token.
+    #[tactic(auto, unfolding(crate::specs::Steps::Block::block_value_node))]
+    fn block_value_node<'input>(
+        &mut self,
+        colon: Span,
+        next: &mut (Event<'input>, Span),
+    ) -> Result<(), Stop>
+        ensures { TellsBy (spec.block_value_node colon) self.old result next.new self.new }
+    {
+        let token = self.take()?;
+        match token.kind {
+            TokenType::Key | TokenType::Value | TokenType::BlockEnd => {
+                self.left_out(token, State::BlockMappingKey, colon, next)?
+            }
+            _ => self.inside(
+                State::BlockMappingKey,
+                NodeContext::BlockMapping,
+                token,
+                next,
+            )?,
+        }
+        Ok(())
+    }
+}

@@ -1,0 +1,114 @@
+//! Events: the serialization of a text's nodes, step by step (YAML 1.2.2, 3.2.2).
+
+ghost use Rattle.std.specs.Prelude.{◌≡◌, false, IfOk, option_map};
+ghost use Rattle.saphyr_machine.specs.Views.Events.{happening, resolved_tag, has_tag};
+
+use crate::tag::Tag;
+use saphyr_scalar::ScalarStyle;
+use std::alloc::AllocError;
+use std::borrow::CowStr;
+use std::mem::{forget, replace};
+
+/// A step through a text: the stream, its documents, and their nodes in preorder.
+///
+/// The number of a node is the id of its anchor, 0 where it has none.
+#[derive(Debug, PartialEq, Eq, Drop)]
+pub enum Event<'input> {
+    /// No event, which a parser never gives.
+    Nothing,
+    /// The first event of a text.
+    StreamStart,
+    /// The last event of a text.
+    StreamEnd,
+    /// A document begins, with a `---` where this is true.
+    DocumentStart(bool),
+    /// A document ends.
+    DocumentEnd,
+    /// A node that stands for the one with this anchor id.
+    Alias(usize),
+    /// A scalar: its text, how it is written, its anchor id and its tag.
+    Scalar(CowStr<'input>, ScalarStyle, usize, Option<Tag>),
+    /// A sequence begins: its anchor id and its tag.
+    SequenceStart(usize, Option<Tag>),
+    /// The innermost sequence ends.
+    SequenceEnd,
+    /// A mapping begins: its anchor id and its tag. Its entries are keys and values in turn.
+    MappingStart(usize, Option<Tag>),
+    /// The innermost mapping ends.
+    MappingEnd,
+}
+
+impl<'input> Event<'input> {
+    ghost use Rattle.saphyr_machine.specs.declared.event.Event.TheVariants.{Nothing};
+
+    /// An equal event, unless memory runs out.
+    pub fn try_clone(&self) -> Result<Event<'input>, AllocError>
+        ensures { IfOk result (λ event. happening event ≡ happening self.now) }
+    {
+        Ok(match self {
+            Event::Nothing => Event::Nothing,
+            Event::StreamStart => Event::StreamStart,
+            Event::StreamEnd => Event::StreamEnd,
+            Event::DocumentStart(explicit) => Event::DocumentStart(*explicit),
+            Event::DocumentEnd => Event::DocumentEnd,
+            Event::Alias(id) => Event::Alias(*id),
+            Event::Scalar(text, style, id, tag) => {
+                Event::Scalar(text.clone()?, *style, *id, try_clone_any(tag)?)
+            }
+            Event::SequenceStart(id, tag) => Event::SequenceStart(*id, try_clone_any(tag)?),
+            Event::SequenceEnd => Event::SequenceEnd,
+            Event::MappingStart(id, tag) => Event::MappingStart(*id, try_clone_any(tag)?),
+            Event::MappingEnd => Event::MappingEnd,
+        })
+    }
+
+    // Whether it has a tag, which holds memory.
+    #[inline(always)]
+    fn is_tagged(&self) -> bool
+        ensures { result ≡ has_tag self.now }
+    {
+        match self {
+            Event::Scalar(_, _, _, tag) => tag.is_some(),
+            Event::SequenceStart(_, tag) | Event::MappingStart(_, tag) => tag.is_some(),
+            _ => false,
+        }
+    }
+
+    // Lets go of an event that holds no memory: of what it may hold, the tag is asked for, and its text was
+    // taken out before. For speed no code for its drop stands here, which would read all of the event.
+    #[inline(always)]
+    fn let_go(self)
+        requires { has_tag self ≡ false }
+    {
+        forget(self);
+    }
+
+    // Drops what it holds.
+    #[inline(never)]
+    fn clear(&mut self)
+        ensures { self.new ≡ Nothing }
+    {
+        *self = Event::Nothing;
+    }
+
+    // Writes an event into this place, whose text was taken out. For speed nothing but a tag is looked for.
+    #[inline(always)]
+    pub(super) fn write_over(&mut self, event: Event<'input>)
+        ensures { self.new ≡ event.entry }
+    {
+        if self.is_tagged() {
+            self.clear();
+        }
+        replace(self, event).let_go();
+    }
+}
+
+/// An equal tag, where there is one.
+fn try_clone_any(tag: &Option<Tag>) -> Result<Option<Tag>, AllocError>
+    ensures { IfOk result (λ copy. option_map resolved_tag copy ≡ option_map resolved_tag tag.now) }
+{
+    Ok(match tag {
+        Some(tag) => Some(tag.try_clone()?),
+        None => None,
+    })
+}

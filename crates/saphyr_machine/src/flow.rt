@@ -1,0 +1,302 @@
+//! The states inside flow collections (YAML 1.2.2, 7.4).
+
+ghost use Rattle.std.specs.Prelude.{◌≡◌, None};
+ghost use Rattle.saphyr_machine.specs.Steps.Flow as spec;
+
+use crate::context::NodeContext;
+use crate::event::Event;
+use crate::machine::{Machine, refuse};
+use crate::state::State;
+use saphyr_input::input::Input;
+use saphyr_scalar::{FaultText, Marker, Span, Stop};
+use saphyr_scanner::{Token, TokenType};
+
+impl<T: Input> Machine<T> {
+    ghost use Rattle.saphyr_scanner.specs.Views.Tokens.{piece};
+    ghost use Rattle.saphyr_machine.specs.Views.Machines.{TellsBy};
+
+    // The first entry of a flow sequence, or the one behind a comma, or the end of the sequence.
+    #[inline(always)]
+    #[tactic(auto, unfolding(crate::specs::Steps::Flow::flow_sequence_first_entry))]
+    pub(super) fn flow_sequence_first_entry<'input>(
+        &mut self,
+        next: &mut (Event<'input>, Span),
+    ) -> Result<(), Stop>
+        ensures { TellsBy spec.flow_sequence_first_entry self.old result next.new self.new }
+    {
+        let token = self.take()?;
+        match token.kind {
+            TokenType::FlowSequenceEnd => {
+                self.pop();
+                next.0.write_over(Event::SequenceEnd);
+                next.1 = token.span;
+            }
+            TokenType::Key => {
+                self.state = State::FlowSequenceEntryMappingKey;
+                next.0.write_over(Event::MappingStart(0, None));
+                next.1 = token.span;
+            }
+            _ => self.inside(State::FlowSequenceEntry, NodeContext::Flow, token, next)?,
+        }
+        Ok(())
+    }
+
+    // The comma before an entry of a flow sequence, with the entry, or the end of the sequence.
+    #[inline(always)]
+    #[tactic(auto, unfolding(crate::specs::Steps::Flow::flow_sequence_entry))]
+    pub(super) fn flow_sequence_entry<'input>(
+        &mut self,
+        next: &mut (Event<'input>, Span),
+    ) -> Result<(), Stop>
+        ensures { TellsBy spec.flow_sequence_entry self.old result next.new self.new }
+    {
+        let token = self.take()?;
+        match token.kind {
+            TokenType::FlowSequenceEnd => {
+                self.pop();
+                next.0.write_over(Event::SequenceEnd);
+                next.1 = token.span;
+            }
+            TokenType::FlowEntry => self.flow_sequence_first_entry(next)?,
+            _ => return Err(refuse(FaultText::FlowSequenceEndExpected, token.span.start)),
+        }
+        Ok(())
+    }
+
+    // The key of a pair of a flow sequence, behind its `?`. One that is left out leaves what follows it.
+    #[tactic(auto, unfolding(crate::specs::Steps::Flow::flow_sequence_entry_mapping_key))]
+    pub(super) fn flow_sequence_entry_mapping_key<'input>(
+        &mut self,
+        next: &mut (Event<'input>, Span),
+    ) -> Result<(), Stop>
+        ensures { TellsBy spec.flow_sequence_entry_mapping_key self.old result next.new self.new }
+    {
+        let token = self.take()?;
+        match token.kind {
+            TokenType::Value | TokenType::FlowEntry | TokenType::FlowSequenceEnd => {
+                let span = token.span;
+                self.left_out(token, State::FlowSequenceEntryMappingValue, span, next)?
+            }
+            _ => self.inside(
+                State::FlowSequenceEntryMappingValue,
+                NodeContext::Flow,
+                token,
+                next,
+            )?,
+        }
+        Ok(())
+    }
+
+    // The value of a pair of a flow sequence.
+    #[tactic(auto, unfolding(crate::specs::Steps::Flow::flow_sequence_entry_mapping_value))]
+    pub(super) fn flow_sequence_entry_mapping_value<'input>(
+        &mut self,
+        next: &mut (Event<'input>, Span),
+    ) -> Result<(), Stop>
+        ensures { TellsBy spec.flow_sequence_entry_mapping_value self.old result next.new self.new }
+    {
+        let token = self.take()?;
+        match token.kind {
+            TokenType::Value => self.flow_sequence_entry_mapping_node(next)?,
+            _ => {
+                let span = token.span;
+                self.left_out(
+                    token,
+                    State::FlowSequenceEntryMappingEnd(span.end),
+                    span,
+                    next,
+                )?
+            }
+        }
+        Ok(())
+    }
+
+    // The node behind the colon of a pair of a flow sequence. The pair's end has its place behind the
+    // node's first token.
+    #[tactic(auto, unfolding(crate::specs::Steps::Flow::flow_sequence_entry_mapping_node))]
+    fn flow_sequence_entry_mapping_node<'input>(
+        &mut self,
+        next: &mut (Event<'input>, Span),
+    ) -> Result<(), Stop>
+        ensures { TellsBy spec.flow_sequence_entry_mapping_node self.old result next.new self.new }
+    {
+        let token = self.take()?;
+        let span = token.span;
+        let state = State::FlowSequenceEntryMappingEnd(span.end);
+        match token.kind {
+            TokenType::FlowEntry | TokenType::FlowSequenceEnd => self.left_out(
+                token, state, span, next,
+            )?,
+            _ => self.inside(state, NodeContext::Flow, token, next)?,
+        }
+        Ok(())
+    }
+
+    // The end of a pair of a flow sequence.
+    #[tactic(auto, unfolding(crate::specs::Steps::Flow::flow_sequence_entry_mapping_end))]
+    pub(super) fn flow_sequence_entry_mapping_end<'input>(
+        &mut self,
+        place: Marker,
+        next: &mut (Event<'input>, Span),
+    ) -> Result<(), Stop>
+        ensures { TellsBy (spec.flow_sequence_entry_mapping_end place) self.old result next.new
+            self.new }
+    {
+        self.state = State::FlowSequenceEntry;
+        let span = Span {
+            start: place,
+            end: place,
+        };
+        next.0.write_over(Event::MappingEnd);
+        next.1 = span;
+        Ok(())
+    }
+
+    // The first pair of a flow mapping, or its end.
+    #[tactic(auto, unfolding(crate::specs::Steps::Flow::flow_mapping_first_key))]
+    pub(super) fn flow_mapping_first_key<'input>(
+        &mut self,
+        next: &mut (Event<'input>, Span),
+    ) -> Result<(), Stop>
+        ensures { TellsBy spec.flow_mapping_first_key self.old result next.new self.new }
+    {
+        let token = self.take()?;
+        let span = token.span;
+        self.flow_mapping_pair(span, token, next)?;
+        Ok(())
+    }
+
+    // The comma before a pair of a flow mapping, with its key, or the end of the mapping.
+    #[inline(always)]
+    #[tactic(auto, unfolding(crate::specs::Steps::Flow::flow_mapping_key))]
+    pub(super) fn flow_mapping_key<'input>(
+        &mut self,
+        next: &mut (Event<'input>, Span),
+    ) -> Result<(), Stop>
+        ensures { TellsBy spec.flow_mapping_key self.old result next.new self.new }
+    {
+        let token = self.take()?;
+        match token.kind {
+            TokenType::FlowMappingEnd => {
+                self.pop();
+                next.0.write_over(Event::MappingEnd);
+                next.1 = token.span;
+            }
+            TokenType::FlowEntry => self.flow_mapping_pair_behind_comma(token.span, next)?,
+            _ => return Err(refuse(FaultText::FlowMappingEndExpected, token.span.start)),
+        }
+        Ok(())
+    }
+
+    #[inline(always)]
+    #[tactic(auto, unfolding(crate::specs::Steps::Flow::flow_mapping_pair_behind_comma))]
+    fn flow_mapping_pair_behind_comma<'input>(
+        &mut self,
+        comma: Span,
+        next: &mut (Event<'input>, Span),
+    ) -> Result<(), Stop>
+        ensures { TellsBy (spec.flow_mapping_pair_behind_comma comma) self.old result next.new
+            self.new }
+    {
+        let token = self.take()?;
+        self.flow_mapping_pair(comma, token, next)?;
+        Ok(())
+    }
+
+    // A pair begins with the token, or the mapping ends there, and its end has the span.
+    #[inline(always)]
+    fn flow_mapping_pair<'input>(
+        &mut self,
+        end: Span,
+        token: Token,
+        next: &mut (Event<'input>, Span),
+    ) -> Result<(), Stop>
+        requires { self.old.token ≡ None }
+        ensures { TellsBy (spec.flow_mapping_pair_at (piece token).kind end (piece token))
+            self.old result next.new self.new }
+    {
+        match token.kind {
+            TokenType::Key => self.flow_key_node(next)?,
+            TokenType::Value => {
+                let span = token.span;
+                self.left_out(token, State::FlowMappingValue, span, next)?
+            }
+            TokenType::FlowMappingEnd => {
+                self.pop();
+                next.0.write_over(Event::MappingEnd);
+                next.1 = end;
+            }
+            _ => self.inside(State::FlowMappingEmptyValue, NodeContext::Flow, token, next)?,
+        }
+        Ok(())
+    }
+
+    // The node behind a key's token.
+    #[inline(always)]
+    #[tactic(auto, unfolding(crate::specs::Steps::Flow::flow_key_node))]
+    fn flow_key_node<'input>(&mut self, next: &mut (Event<'input>, Span)) -> Result<(), Stop>
+        ensures { TellsBy spec.flow_key_node self.old result next.new self.new }
+    {
+        let token = self.take()?;
+        match token.kind {
+            TokenType::Value | TokenType::FlowEntry | TokenType::FlowMappingEnd => {
+                let span = token.span;
+                self.left_out(token, State::FlowMappingValue, span, next)?
+            }
+            _ => self.inside(State::FlowMappingValue, NodeContext::Flow, token, next)?,
+        }
+        Ok(())
+    }
+
+    // The value of a pair of a flow mapping.
+    #[inline(always)]
+    #[tactic(auto, unfolding(crate::specs::Steps::Flow::flow_mapping_value))]
+    pub(super) fn flow_mapping_value<'input>(
+        &mut self,
+        next: &mut (Event<'input>, Span),
+    ) -> Result<(), Stop>
+        ensures { TellsBy spec.flow_mapping_value self.old result next.new self.new }
+    {
+        let token = self.take()?;
+        let span = token.span;
+        match token.kind {
+            TokenType::Value => self.flow_value_node(span, next)?,
+            _ => self.left_out(token, State::FlowMappingKey, span, next)?,
+        }
+        Ok(())
+    }
+
+    // The node behind a value's token.
+    #[inline(always)]
+    #[tactic(auto, unfolding(crate::specs::Steps::Flow::flow_value_node))]
+    fn flow_value_node<'input>(
+        &mut self,
+        colon: Span,
+        next: &mut (Event<'input>, Span),
+    ) -> Result<(), Stop>
+        ensures { TellsBy (spec.flow_value_node colon) self.old result next.new self.new }
+    {
+        let token = self.take()?;
+        match token.kind {
+            TokenType::FlowEntry | TokenType::FlowMappingEnd => {
+                self.left_out(token, State::FlowMappingKey, colon, next)?
+            }
+            _ => self.inside(State::FlowMappingKey, NodeContext::Flow, token, next)?,
+        }
+        Ok(())
+    }
+
+    // The value of a pair that has a key alone.
+    #[tactic(auto, unfolding(crate::specs::Steps::Flow::flow_mapping_empty_value))]
+    pub(super) fn flow_mapping_empty_value<'input>(
+        &mut self,
+        next: &mut (Event<'input>, Span),
+    ) -> Result<(), Stop>
+        ensures { TellsBy spec.flow_mapping_empty_value self.old result next.new self.new }
+    {
+        let token = self.take()?;
+        let span = token.span;
+        self.left_out(token, State::FlowMappingKey, span, next)?;
+        Ok(())
+    }
+}

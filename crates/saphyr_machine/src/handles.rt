@@ -1,0 +1,52 @@
+//! The handles that a document's directives have declared, since none may be declared twice (YAML 1.2.2, 6.8.2).
+
+ghost use Rattle.std.specs.Prelude.{◌≡◌, Bool, ℕ, List, not, Ok, string_bytes};
+ghost use Rattle.saphyr_machine.specs.Steps.Machine as spec;
+
+use saphyr_scalar::Stop;
+use std::alloc::Global;
+use std::collections::BTreeSet;
+use std::marker::Model;
+
+/// The handles that the directives of a document declare.
+#[derive(Drop)]
+pub struct Handles {
+    declared: BTreeSet<String>,
+}
+
+impl Model for Handles {
+    ghost use Rattle.std.specs.Prelude.{ℕ, List};
+    ghost use Rattle.saphyr_machine.specs.Names.{names_of};
+
+    ghost Value = { List (List ℕ) };
+
+    ghost view = { λ h. names_of h.declared };
+}
+
+impl Handles {
+    ghost use Rattle.std.specs.Prelude.{[]};
+    ghost use Rattle.saphyr_scalar.specs.Views.Reader.{Moves};
+
+    pub fn new(alloc: Global) -> Handles
+        ensures { result ≡ [] }
+    {
+        Handles {
+            declared: BTreeSet::new(alloc),
+        }
+    }
+
+    pub fn contains(&self, handle: &str) -> bool
+        ensures { result ≡ spec.is_listed handle.now self.now }
+    {
+        self.declared.contains(handle)
+    }
+
+    #[tactic(auto, using(crate::proofs::Names::names_listed))]
+    pub fn insert(&mut self, handle: String) -> Result<(), Stop>
+        ensures { Moves (λ _. self.new) result
+            (Ok (spec.with_name (string_bytes handle) self.old)) }
+    {
+        self.declared.insert(handle)?;
+        Ok(())
+    }
+}

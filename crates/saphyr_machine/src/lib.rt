@@ -1,0 +1,32 @@
+//! The inner machine of `saphyr_parser`: it turns tokens into events, and reads at most one event ahead. Only
+//! `saphyr_parser` is to use it, whose `Parser` is what whoever wants events takes.
+#![tactic(auto)]
+
+mod anchors;
+mod block;
+mod cloning;
+mod context;
+mod document;
+mod event;
+mod fault;
+mod flow;
+mod handles;
+mod kept;
+mod loading;
+mod machine;
+mod node;
+mod prefixes;
+mod progress;
+mod reader;
+mod receiver;
+mod state;
+mod step;
+mod tag;
+mod tags;
+
+pub use event::Event;
+pub use fault::Fault;
+pub use progress::Progress;
+pub use reader::{EventReader, no_event};
+pub use receiver::{EventReceiver, Refused, SpannedEventReceiver};
+pub use tag::Tag;

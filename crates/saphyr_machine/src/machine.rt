@@ -1,0 +1,181 @@
+//! The machine that turns tokens into events: what it holds, and the moves that its states share. The states are
+//! read in `document`, `block` and `flow`, the nodes there in `node`, and `step` chooses among them.
+
+ghost use Rattle.std.specs.Prelude.{◌≡◌, None};
+ghost use Rattle.saphyr_machine.specs.Steps.Machine as spec;
+
+use crate::anchors::Anchors;
+use crate::event::Event;
+use crate::prefixes::Prefixes;
+use crate::state::State;
+use saphyr_input::input::Input;
+use saphyr_scalar::{FaultText, Marker, Refusal, ScalarStyle, Span, Stop};
+use saphyr_scanner::{Scanner, Token};
+use std::alloc::Global;
+use std::borrow::CowStr;
+
+/// What turns tokens into events.
+///
+/// Its steps are inlined into one another, and write the event into a place that they are given, since
+/// tokens and events are large to move.
+#[derive(Drop)]
+pub struct Machine<T: Input> {
+    // What gives the tokens.
+    pub(super) scanner: Scanner<T>,
+    // A token that was taken and put back, which comes before those of the scanner.
+    pub(super) token: Option<Token>,
+    // What is expected next.
+    pub(super) state: State,
+    // What is expected behind each node that is open, the innermost last: the document's end and the sequence's
+    // next entry behind `[a, {`.
+    pub(super) states: Vec<State>,
+    // The anchors of the document, which its aliases name.
+    pub(super) anchors: Anchors,
+    // What the directives of the document declare, and of those before where `keep_tags` is set.
+    pub(super) prefixes: Prefixes,
+    // Whether prefixes hold for later documents too.
+    pub(super) keep_tags: bool,
+    // Where the memory of events comes from.
+    pub(super) alloc: Global,
+}
+
+// A refusal at a place.
+pub(super) fn refuse(text: FaultText, mark: Marker) -> Stop
+    ensures { result ≡ Stop.Refused (record { text = text; mark = mark }) }
+{
+    Stop::Refused(Refusal { text, mark })
+}
+
+impl<T: Input> Machine<T> {
+    ghost use Rattle.std.specs.Prelude.{IfOk, IfNone, IfSome, Ok};
+    ghost use Rattle.saphyr_scalar.specs.Views.Reader.{Moves};
+    ghost use Rattle.saphyr_scanner.specs.Views.Tokens.{piece};
+    ghost use Rattle.saphyr_machine.specs.Views.Machines.{machine_of, happening, TellsBy, TakesBy};
+
+    // A machine that has read nothing.
+    pub(super) fn new(alloc: Global, scanner: Scanner<T>) -> Self
+        ensures { machine_of result ≡ spec.fresh_machine scanner }
+    {
+        Machine {
+            scanner,
+            token: None,
+            state: State::StreamStart,
+            states: Vec::new(alloc),
+            anchors: Anchors::new(alloc),
+            prefixes: Prefixes::new(alloc),
+            keep_tags: false,
+            alloc,
+        }
+    }
+
+    // Takes the token that was put back, if one was.
+    #[inline(always)]
+    fn take_back(&mut self) -> Option<Token>
+        ensures taken { IfSome result (λ t. spec.taken_token (machine_of self.old)
+            ≡ Ok (piece t, machine_of self.new)) }
+        ensures room { self.new.token ≡ None }
+        ensures same { IfNone result (self.new ≡ self.old) }
+    {
+        // Most often none was, and a test costs less than a move.
+        if self.token.is_none() {
+            return None;
+        }
+        self.token.take()
+    }
+
+    // Takes the next token, and writes it into `token`.
+    #[inline(always)]
+    fn take_into(&mut self, token: &mut Token) -> Result<(), Stop>
+        ensures taken { Moves (λ _. (piece token.new, machine_of self.new)) result
+            (spec.taken_token (machine_of self.old)) }
+        ensures room { IfOk result (λ _. self.new.token ≡ None) }
+    {
+        if let Some(next) = self.take_back() {
+            *token = next;
+            return Ok(());
+        }
+        if self.scanner.next_token_into(token)? {
+            return Ok(());
+        }
+        Err(refuse(FaultText::DocumentStartExpected, Marker::new(0, 0, 0)))
+    }
+
+    // Takes the next token.
+    #[inline(always)]
+    pub(super) fn take(&mut self) -> Result<Token, Stop>
+        ensures taken { TakesBy spec.taken_token self.old result self.new }
+        ensures room { IfOk result (λ t. self.new.token ≡ None) }
+    {
+        let mut token = Token::at_start();
+        self.take_into(&mut token)?;
+        Ok(token)
+    }
+
+    // Leaves the token to be read again.
+    #[inline(always)]
+    pub(super) fn put_back(&mut self, token: Token)
+        requires { self.old.token ≡ None }
+        ensures { machine_of self.new ≡ spec.put_back (piece token) (machine_of self.old) }
+    {
+        self.token = Some(token);
+    }
+
+    // Goes back to what is expected behind the node that has ended.
+    #[inline(always)]
+    #[tactic(auto, using(crate::proofs::Stacks::top_off))]
+    pub(super) fn pop(&mut self)
+        ensures moved { machine_of self.new ≡ spec.pop (machine_of self.old) }
+        ensures room { self.new.token ≡ self.old.token }
+    {
+        self.state = match self.states.pop() {
+            Some(state) => state,
+            None => State::End,
+        };
+    }
+
+    // What is expected behind the node that begins.
+    #[inline(always)]
+    #[tactic(auto, using(crate::proofs::Stacks::top_on))]
+    pub(super) fn push(&mut self, state: State) -> Result<(), Stop>
+        ensures moved { Moves (λ _. machine_of self.new) result
+            (Ok (spec.push state (machine_of self.old))) }
+        ensures room { self.new.token ≡ self.old.token }
+    {
+        self.states.reserve(1)?;
+        self.states.push_reserved(state);
+        Ok(())
+    }
+
+    // The event of a node that is left out.
+    #[inline(always)]
+    pub(super) fn empty_scalar<'input>(&self) -> Event<'input>
+        ensures { happening result ≡ spec.empty_scalar }
+    {
+        Event::Scalar(
+            CowStr::Owned(String::new(self.alloc)),
+            ScalarStyle::Plain,
+            0,
+            None,
+        )
+    }
+
+    // A node is left out before the token.
+    #[inline(always)]
+    pub(super) fn left_out<'input>(
+        &mut self,
+        token: Token,
+        state: State,
+        span: Span,
+        next: &mut (Event<'input>, Span),
+    ) -> Result<(), Stop>
+        requires { self.old.token ≡ None }
+        ensures { TellsBy (spec.left_out_event (piece token) state span)
+            self.old result next.new self.new }
+    {
+        self.put_back(token);
+        self.state = state;
+        next.0.write_over(self.empty_scalar());
+        next.1 = span;
+        Ok(())
+    }
+}

@@ -1,0 +1,366 @@
+//! The event with which a node begins: an alias, or properties and the content behind them
+//! (YAML 1.2.2, 6.9, 7.1, 7.5 and 8.2.3).
+
+ghost use Rattle.std.specs.Prelude.{◌≡◌, None, string_bytes};
+ghost use Rattle.saphyr_machine.specs.Steps.Nodes as spec;
+
+use crate::context::NodeContext;
+use crate::event::Event;
+use crate::machine::{Machine, refuse};
+use crate::state::State;
+use crate::tag::Tag;
+use saphyr_input::input::Input;
+use saphyr_scalar::scalar::TagParts;
+use saphyr_scalar::{FaultText, Marker, ScalarStyle, Span, Stop};
+use saphyr_scanner::{Token, TokenType};
+use std::borrow::CowStr;
+
+// What stands before the content of a node.
+#[derive(Drop)]
+pub struct Properties {
+    start: Marker,
+    behind: Marker,
+    // The id of the anchor, 0 for none.
+    anchor: usize,
+    tag: Option<Tag>,
+}
+
+impl Properties {
+    ghost use Rattle.saphyr_machine.specs.Views.Nodes.{properties};
+
+    #[inline(always)]
+    fn has_any(&self) -> bool
+        ensures { result ≡ spec.has_property (properties self.now) }
+    {
+        self.anchor > 0 || self.tag.is_some()
+    }
+
+    // From the properties up to a place.
+    #[inline(always)]
+    fn up_to(&self, place: Marker) -> Span
+        ensures { result ≡ spec.span_up_to (properties self.now) place }
+    {
+        Span {
+            start: self.start,
+            end: place,
+        }
+    }
+}
+
+impl<T: Input> Machine<T> {
+    ghost use Rattle.saphyr_scanner.specs.Views.Tokens.{piece};
+    ghost use Rattle.saphyr_machine.specs.Views.Machines.{machine_of, told_event_of, TellsBy};
+    ghost use Rattle.saphyr_machine.specs.Views.Nodes.{properties as seen};
+
+    // Properties alone stand for an empty scalar.
+    fn without_content<'input>(
+        &mut self,
+        properties: Properties,
+        token: Token,
+        next: &mut (Event<'input>, Span),
+    ) -> Result<(), Stop>
+        requires { self.old.token ≡ None }
+        ensures { TellsBy (spec.node_without_content (seen properties) (piece token))
+            self.old result next.new self.new }
+    {
+        if !properties.has_any() {
+            return Err(refuse(FaultText::NodeContentExpected, token.span.start));
+        }
+        self.put_back(token);
+        self.pop();
+        let span = properties.up_to(properties.behind);
+        let text = CowStr::Owned(String::new(self.alloc));
+        let Properties { anchor, tag, .. } = properties;
+        *next = (Event::Scalar(text, ScalarStyle::Plain, anchor, tag), span);
+        Ok(())
+    }
+
+    #[inline(always)]
+    fn open_sequence<'input>(
+        &mut self,
+        state: State,
+        properties: Properties,
+        place: Marker,
+        next: &mut (Event<'input>, Span),
+    )
+        ensures { told_event_of (machine_of self.new) next.new
+            ≡ spec.opened_sequence state (seen properties) place (machine_of self.old) }
+    {
+        self.state = state;
+        let span = properties.up_to(place);
+        let Properties { anchor, tag, .. } = properties;
+        *next = (Event::SequenceStart(anchor, tag), span);
+    }
+
+    #[inline(always)]
+    fn open_mapping<'input>(
+        &mut self,
+        state: State,
+        properties: Properties,
+        place: Marker,
+        next: &mut (Event<'input>, Span),
+    )
+        ensures { told_event_of (machine_of self.new) next.new
+            ≡ spec.opened_mapping state (seen properties) place (machine_of self.old) }
+    {
+        self.state = state;
+        let span = properties.up_to(place);
+        let Properties { anchor, tag, .. } = properties;
+        *next = (Event::MappingStart(anchor, tag), span);
+    }
+
+    // The content of a node begins with the token.
+    #[inline(always)]
+    #[tactic(auto, unfolding(crate::specs::Steps::Nodes::node_content))]
+    fn content<'input>(
+        &mut self,
+        properties: Properties,
+        context: NodeContext,
+        token: Token,
+        next: &mut (Event<'input>, Span),
+    ) -> Result<(), Stop>
+        requires { self.old.token ≡ None }
+        ensures { TellsBy (spec.node_content (seen properties) context (piece token))
+            self.old result next.new self.new }
+    {
+        let Token { span, kind } = token;
+        match kind {
+            TokenType::Scalar(style, text) => {
+                self.pop();
+                let span = properties.up_to(span.end);
+                let Properties { anchor, tag, .. } = properties;
+                *next = (Event::Scalar(CowStr::Owned(text), style, anchor, tag), span);
+                Ok(())
+            }
+            TokenType::FlowSequenceStart => {
+                self.open_sequence(State::FlowSequenceFirstEntry, properties, span.end, next);
+                Ok(())
+            }
+            TokenType::FlowMappingStart => {
+                self.open_mapping(State::FlowMappingFirstKey, properties, span.end, next);
+                Ok(())
+            }
+            TokenType::BlockSequenceStart if context.allows_block() => {
+                self.open_sequence(State::BlockSequenceEntry, properties, span.end, next);
+                Ok(())
+            }
+            TokenType::BlockMappingStart if context.allows_block() => {
+                self.open_mapping(State::BlockMappingKey, properties, span.end, next);
+                Ok(())
+            }
+            TokenType::BlockEntry if context.allows_indentless() => {
+                self.put_back(Token { span, kind });
+                self.open_sequence(State::IndentlessSequenceEntry, properties, span.end, next);
+                Ok(())
+            }
+            kind => self.without_content(properties, Token { span, kind }, next),
+        }
+    }
+
+    // The content of a node behind its properties.
+    #[tactic(auto, unfolding(crate::specs::Steps::Nodes::next_content))]
+    fn next_content<'input>(
+        &mut self,
+        properties: Properties,
+        context: NodeContext,
+        next: &mut (Event<'input>, Span),
+    ) -> Result<(), Stop>
+        ensures { TellsBy (spec.next_content (seen properties) context)
+            self.old result next.new self.new }
+    {
+        let token = self.take()?;
+        self.content(properties, context, token, next)
+    }
+
+    #[tactic(auto, unfolding(crate::specs::Steps::Nodes::alias_node))]
+    fn alias<'input>(
+        &mut self,
+        name: &str,
+        span: Span,
+        next: &mut (Event<'input>, Span),
+    ) -> Result<(), Stop>
+        ensures { TellsBy (spec.alias_node name.now span) self.old result next.new self.new }
+    {
+        match self.anchors.id_of(name) {
+            Some(id) => {
+                self.pop();
+                *next = (Event::Alias(id), span);
+                Ok(())
+            }
+            None => Err(refuse(FaultText::UnknownAnchor, span.start)),
+        }
+    }
+
+    // A node that begins with an anchor.
+    #[tactic(auto, unfolding(crate::specs::Steps::Nodes::node_behind_anchor))]
+    fn behind_anchor<'input>(
+        &mut self,
+        name: String,
+        anchor: Span,
+        context: NodeContext,
+        next: &mut (Event<'input>, Span),
+    ) -> Result<(), Stop>
+        ensures { TellsBy (spec.node_behind_anchor (string_bytes name) anchor context)
+            self.old result next.new self.new }
+    {
+        let id = self.anchors.register(name)?;
+        let Token { span, kind } = self.take()?;
+        let mut properties = Properties {
+            start: anchor.start,
+            behind: anchor.end,
+            anchor: id,
+            tag: None,
+        };
+        match kind {
+            TokenType::Tag(tag) => {
+                properties.tag = Some(self.resolve(Box::into_inner(tag), anchor.start)?);
+                properties.behind = span.end;
+                self.next_content(properties, context, next)
+            }
+            kind => self.content(properties, context, Token { span, kind }, next),
+        }
+    }
+
+    // A node that begins with a tag.
+    #[tactic(auto, unfolding(crate::specs::Steps::Nodes::node_behind_tag))]
+    fn behind_tag<'input>(
+        &mut self,
+        tag: TagParts,
+        place: Span,
+        context: NodeContext,
+        next: &mut (Event<'input>, Span),
+    ) -> Result<(), Stop>
+        ensures { TellsBy
+            (spec.node_behind_tag (string_bytes tag.handle) (string_bytes tag.suffix) place context)
+            self.old result next.new self.new }
+    {
+        let tag = self.resolve(tag, place.start)?;
+        let Token { span, kind } = self.take()?;
+        let mut properties = Properties {
+            start: place.start,
+            behind: place.end,
+            anchor: 0,
+            tag: Some(tag),
+        };
+        match kind {
+            TokenType::Anchor(name) => {
+                properties.anchor = self.anchors.register(name)?;
+                properties.behind = span.end;
+                self.next_content(properties, context, next)
+            }
+            kind => self.content(properties, context, Token { span, kind }, next),
+        }
+    }
+
+    // A node that begins with an alias, an anchor or a tag, or that isn't there. It is kept apart, since it is rare.
+    #[inline(never)]
+    #[tactic(auto, unfolding(crate::specs::Steps::Nodes::node))]
+    fn rare_node<'input>(
+        &mut self,
+        context: NodeContext,
+        token: Token,
+        next: &mut (Event<'input>, Span),
+    ) -> Result<(), Stop>
+        requires { self.old.token ≡ None }
+        ensures { TellsBy (spec.node context (piece token)) self.old result next.new self.new }
+    {
+        let Token { span, kind } = token;
+        match kind {
+            TokenType::Alias(name) => self.alias(name.as_str(), span, next),
+            TokenType::Anchor(name) => self.behind_anchor(name, span, context, next),
+            TokenType::Tag(tag) => self.behind_tag(Box::into_inner(tag), span, context, next),
+            kind => {
+                let properties = Properties {
+                    start: span.start,
+                    behind: span.start,
+                    anchor: 0,
+                    tag: None,
+                };
+                self.content(properties, context, Token { span, kind }, next)
+            }
+        }
+    }
+
+    // A node begins with the token. As most nodes have no properties, what is read of those by `content` is read
+    // here, and no `Properties` are made for it.
+    #[inline(always)]
+    #[tactic(auto, unfolding(crate::specs::Steps::Nodes::node, crate::specs::Steps::Nodes::node_content))]
+    pub(super) fn node<'input>(
+        &mut self,
+        context: NodeContext,
+        token: Token,
+        next: &mut (Event<'input>, Span),
+    ) -> Result<(), Stop>
+        requires { self.old.token ≡ None }
+        ensures { TellsBy (spec.node context (piece token)) self.old result next.new self.new }
+    {
+        let Token { span, kind } = token;
+        match kind {
+            TokenType::Scalar(style, text) => {
+                self.pop();
+                next.0
+                    .write_over(Event::Scalar(CowStr::Owned(text), style, 0, None));
+                next.1 = span;
+            }
+            TokenType::FlowSequenceStart => {
+                self.state = State::FlowSequenceFirstEntry;
+                next.0.write_over(Event::SequenceStart(0, None));
+                next.1 = span;
+            }
+            TokenType::FlowMappingStart => {
+                self.state = State::FlowMappingFirstKey;
+                next.0.write_over(Event::MappingStart(0, None));
+                next.1 = span;
+            }
+            TokenType::BlockSequenceStart if context.allows_block() => {
+                self.state = State::BlockSequenceEntry;
+                next.0.write_over(Event::SequenceStart(0, None));
+                next.1 = span;
+            }
+            TokenType::BlockMappingStart if context.allows_block() => {
+                self.state = State::BlockMappingKey;
+                next.0.write_over(Event::MappingStart(0, None));
+                next.1 = span;
+            }
+            TokenType::BlockEntry if context.allows_indentless() => {
+                self.put_back(Token { span, kind });
+                self.state = State::IndentlessSequenceEntry;
+                next.0.write_over(Event::SequenceStart(0, None));
+                next.1 = span;
+            }
+            kind => self.rare_node(context, Token { span, kind }, next)?,
+        }
+        Ok(())
+    }
+
+    // A node inside a collection, which goes on in the state behind it. Behind a scalar without properties it
+    // does so at once: its state need not be kept for later.
+    #[inline(always)]
+    #[tactic(auto, unfolding(crate::specs::Steps::Nodes::node, crate::specs::Steps::Nodes::node_content))]
+    pub(super) fn inside<'input>(
+        &mut self,
+        state: State,
+        context: NodeContext,
+        token: Token,
+        next: &mut (Event<'input>, Span),
+    ) -> Result<(), Stop>
+        requires { self.old.token ≡ None }
+        ensures { TellsBy (spec.node_inside state context (piece token))
+            self.old result next.new self.new }
+    {
+        let Token { span, kind } = token;
+        match kind {
+            TokenType::Scalar(style, text) => {
+                self.state = state;
+                next.0
+                    .write_over(Event::Scalar(CowStr::Owned(text), style, 0, None));
+                next.1 = span;
+            }
+            kind => {
+                self.push(state)?;
+                self.node(context, Token { span, kind }, next)?;
+            }
+        }
+        Ok(())
+    }
+}

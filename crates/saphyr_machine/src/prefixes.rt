@@ -1,0 +1,91 @@
+//! What the handles of tags stand for, by `%TAG` directives (YAML 1.2.2, 6.8.2).
+
+ghost use Rattle.std.specs.Prelude.{◌≡◌, [], Ok, string_bytes, option_map};
+ghost use Rattle.saphyr_machine.specs.Steps.Machine as spec;
+
+use saphyr_scalar::Stop;
+use std::alloc::{AllocError, Global};
+use std::collections::BTreeMap;
+use std::marker::Model;
+
+/// The prefixes that are declared for the handles of tags.
+#[derive(Drop)]
+pub struct Prefixes {
+    declared: BTreeMap<String, String>,
+}
+
+impl Model for Prefixes {
+    ghost use Rattle.std.specs.Prelude.{ℕ, List};
+    ghost use Rattle.saphyr_machine.specs.Steps.Machine.{Names};
+    ghost use Rattle.saphyr_machine.specs.Names.{texts_of};
+
+    ghost Value = { Names (List ℕ) };
+
+    ghost view = { λ p. texts_of p.declared };
+}
+
+impl Prefixes {
+    ghost use Rattle.std.specs.Prelude.{IfOk, IsTrue};
+    ghost use Rattle.std.specs.Map.{keys_of};
+    ghost use Rattle.saphyr_scalar.specs.Views.Reader.{Moves};
+
+    pub fn new(alloc: Global) -> Prefixes
+        ensures { result ≡ [] }
+    {
+        Prefixes {
+            declared: BTreeMap::new(alloc),
+        }
+    }
+
+    pub fn forget(&mut self)
+        ensures { self.new ≡ [] }
+    {
+        self.declared.clear();
+    }
+
+    pub fn is_empty(&self) -> bool
+        ensures { IsTrue result → self.now ≡ [] }
+    {
+        self.declared.is_empty()
+    }
+
+    /// Whether a prefix is declared for the handle.
+    pub fn contains(&self, handle: &str) -> bool
+        ensures { result ≡ spec.is_listed handle.now (keys_of self.now) }
+    {
+        self.declared.contains_key(handle)
+    }
+
+    #[tactic(auto, using(crate::proofs::Names::texts_given))]
+    /// Declares the prefix for the handle, in place of one that it may have.
+    pub fn declare(&mut self, handle: String, prefix: String) -> Result<(), Stop>
+        ensures { Moves (λ _. self.new) result
+            (Ok (spec.with_meaning (string_bytes handle) (string_bytes prefix) self.old)) }
+    {
+        // Copies, since both were read into more room than they take, and a text may declare a million of them.
+        self.declared.insert(handle.clone()?, prefix.clone()?)?;
+        Ok(())
+    }
+
+    #[tactic(auto, using(crate::proofs::Names::texts_meaning))]
+    /// A copy of the prefix that is declared for the handle.
+    pub fn prefix_of(&self, handle: &str) -> Result<Option<String>, AllocError>
+        ensures { IfOk result (λ prefix. option_map string_bytes prefix
+            ≡ spec.meaning handle.now self.now) }
+    {
+        match self.declared.get(handle) {
+            Some(prefix) => Ok(Some(prefix.clone()?)),
+            None => Ok(None),
+        }
+    }
+
+    #[tactic(auto, using(crate::proofs::Copies::texts_copied))]
+    /// The same prefixes for the same handles.
+    pub fn try_clone(&self) -> Result<Prefixes, AllocError>
+        ensures { IfOk result (λ copy. copy ≡ self.now) }
+    {
+        Ok(Prefixes {
+            declared: self.declared.clone()?,
+        })
+    }
+}

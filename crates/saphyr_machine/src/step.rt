@@ -1,0 +1,126 @@
+//! One step of the machine: its next event, by the state that it is in, or the fault that stands in its place.
+
+ghost use Rattle.std.specs.Prelude.{◌≡◌, ◌≢◌, ◌↔◌, IsTrue, false};
+ghost use Rattle.saphyr_machine.specs.Steps.Expected as spec;
+
+use crate::event::Event;
+use crate::fault::Fault;
+use crate::machine::Machine;
+use crate::progress::Progress;
+use crate::state::State;
+use saphyr_input::input::Input;
+use saphyr_scalar::{Span, Stop};
+use std::borrow::CowStr;
+use std::mem::replace;
+
+impl<T: Input> Machine<T> {
+    ghost use Rattle.saphyr_machine.specs.Views.Machines.{machine_of, TellsBy};
+    ghost use Rattle.saphyr_machine.specs.Calls.{Reads, item_at};
+    ghost use Rattle.saphyr_machine.specs.Cursor.{item_in};
+    ghost use Rattle.saphyr_machine.specs.Faults.{IsFaultOf, is_foreign};
+    ghost use Rattle.saphyr_machine.specs.declared.state.State.TheVariants.{End};
+
+    // Whether the end of the stream was reached.
+    pub(super) fn is_done(&self) -> bool
+        ensures { IsTrue result ↔ ((machine_of self.now).state ≡ End) }
+    {
+        self.state == State::End
+    }
+
+    // Reads the next event into its place, if there is one.
+    #[inline(always)]
+    #[tactic(auto, using(crate::proofs::Turns::refused))]
+    pub(super) fn read<'input>(
+        &mut self,
+        next: &mut (Event<'input>, Span),
+    ) -> Option<Result<(), Fault>>
+        ensures reads { Reads (item_in next.new result) (machine_of self.old)
+            (machine_of self.new) }
+        ensures own { is_foreign result ≡ false }
+    {
+        let mut fault = Fault::OutOfMemory;
+        match self.advance(next, &mut fault) {
+            Progress::Event => Some(Ok(())),
+            Progress::Fault => Some(Err(fault)),
+            Progress::Over => None,
+        }
+    }
+
+    // The fault in place of an event.
+    #[inline(never)]
+    fn fail(&self, stop: Stop, fault: &mut Fault)
+        ensures { IsFaultOf stop fault.new }
+    {
+        *fault = Fault::new(self.alloc, stop);
+    }
+
+    // Gives the text of the event that is written over back, for the memory of the next one.
+    #[inline(always)]
+    fn give_back<'input>(&mut self, place: &mut Event<'input>)
+        ensures { machine_of self.new ≡ machine_of self.old }
+    {
+        if let Event::Scalar(CowStr::Owned(text), _, _, _) = place {
+            self.scanner
+                .give_back(replace(text, String::new(self.alloc)));
+        }
+    }
+
+    // Reads the next event or fault into its place, if there is one.
+    #[inline(always)]
+    #[tactic(auto, using(crate::proofs::Turns::refused))]
+    pub(super) fn advance<'input>(
+        &mut self,
+        next: &mut (Event<'input>, Span),
+        fault: &mut Fault,
+    ) -> Progress
+        ensures reads { Reads (item_at next.new fault.new result) (machine_of self.old)
+            (machine_of self.new) }
+        ensures own { is_foreign (item_at next.new fault.new result) ≡ false }
+    {
+        if self.is_done() {
+            return Progress::Over;
+        }
+        self.give_back(&mut next.0);
+        match self.event(next) {
+            Ok(()) => Progress::Event,
+            Err(stop) => {
+                self.fail(stop, fault);
+                Progress::Fault
+            }
+        }
+    }
+
+    // The next event, which is written into its place.
+    #[inline(never)]
+    #[tactic(auto, unfolding(crate::specs::Steps::Expected::event_step))]
+    pub(super) fn event<'input>(&mut self, next: &mut (Event<'input>, Span)) -> Result<(), Stop>
+        requires { (machine_of self.old).state ≢ End }
+        ensures { TellsBy spec.event_step self.old result next.new self.new }
+    {
+        match self.state {
+            State::StreamStart => self.stream_start(next)?,
+            State::ImplicitDocumentStart => self.implicit_document_start(next)?,
+            State::DocumentStart => self.document_start(next)?,
+            State::DocumentContent => self.document_content(next)?,
+            State::DocumentEnd => self.document_end(next)?,
+            State::BlockNode => self.block_node(next)?,
+            State::BlockSequenceEntry => self.block_sequence_entry(next)?,
+            State::IndentlessSequenceEntry => self.indentless_sequence_entry(next)?,
+            State::BlockMappingKey => self.block_mapping_key(next)?,
+            State::BlockMappingValue => self.block_mapping_value(next)?,
+            State::FlowSequenceFirstEntry => self.flow_sequence_first_entry(next)?,
+            State::FlowSequenceEntry => self.flow_sequence_entry(next)?,
+            State::FlowSequenceEntryMappingKey => self.flow_sequence_entry_mapping_key(next)?,
+            State::FlowSequenceEntryMappingValue => self.flow_sequence_entry_mapping_value(next)?,
+            State::FlowSequenceEntryMappingEnd(place) => {
+                self.flow_sequence_entry_mapping_end(place, next)?
+            }
+            State::FlowMappingFirstKey => self.flow_mapping_first_key(next)?,
+            State::FlowMappingKey => self.flow_mapping_key(next)?,
+            State::FlowMappingValue => self.flow_mapping_value(next)?,
+            State::FlowMappingEmptyValue => self.flow_mapping_empty_value(next)?,
+            State::End => unreachable!(),
+        }
+        Ok(())
+    }
+}

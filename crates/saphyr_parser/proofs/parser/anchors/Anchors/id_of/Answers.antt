@@ -1,8 +1,0 @@
-use Rattle.std.proofs.Common.{◌∙◌, ap}
-use Rattle.saphyr_parser.specs.Steps.Machine.{Anchors, meaning}
-use Rattle.saphyr_parser.proofs.Names.{ids_meaning}
-use Rattle.saphyr_parser.proofs.parser.anchors.Anchors.id_of.Goals as goal
-
-pub returns : goal.returns
-returns c = c.copied.ensures ∙ c.get.ensures.value ∙ ids_meaning c.self.inside.ids c.args.name.now
-    ∙ ap (λ (a : Anchors). meaning c.args.name.now a.ids) c.self.view_is

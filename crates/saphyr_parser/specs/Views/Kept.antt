@@ -1,6 +1,0 @@
--- What contracts see of a fault that is kept.
-use Rattle.saphyr_parser.specs.declared.parser.kept.Kept as code
-use Rattle.saphyr_parser.specs.Cursor.{Kept, ending_of_fault}
-
-abbrev pub kept_of : code.Kept → Kept
-kept_of k = record { fault = ending_of_fault k.fault; given = k.given }

@@ -1,8 +1,0 @@
-use Rattle.saphyr_scalar.proofs.Breaks.Readers.{begins_alike, reads_alike}
-use Rattle.saphyr_scalar.proofs.scalar.break_law.reads_breaks_alike.Goals as goal
-
-pub returns-clause-begins : goal.returns-clause-begins
-returns-clause-begins c = begins_alike
-
-pub returns-clause-reads : goal.returns-clause-reads
-returns-clause-reads c = reads_alike

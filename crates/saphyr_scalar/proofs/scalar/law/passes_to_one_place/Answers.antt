@@ -1,5 +1,0 @@
-use Rattle.saphyr_scalar.proofs.Passings.{one_place}
-use Rattle.saphyr_scalar.proofs.scalar.law.passes_to_one_place.Goals as goal
-
-pub returns : goal.returns
-returns c = one_place

@@ -1,5 +1,0 @@
-use Rattle.saphyr_scalar.proofs.Properties.TagsRead.{reads_tag}
-use Rattle.saphyr_scalar.proofs.scalar.property_law.reads_each_tag.Goals as goal
-
-pub returns : goal.returns
-returns c = reads_tag

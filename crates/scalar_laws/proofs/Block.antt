@@ -1,0 +1,6 @@
+-- Block scalars: each spelled one is read.
+pub mod Complete
+pub mod Headers
+pub mod LeadingLines
+pub mod PlacedValues
+pub mod Places

@@ -1,0 +1,302 @@
+-- Where the header of a block scalar stands, it is taken off.
+use Rattle.std.proofs.Common.{◌≡◌, ◌≢◌, ℕ, suc, ◌+◌, ◌-◌, ◌≤◌, true, false, List, [], ◌∷◌, ◌++◌, length, drop, slice_index, Result, Ok, refl, ap, ◌∙◌, arith, subst, add-zero, nat_eq, nat_lt}
+use Rattle.std.specs.Prelude.{◌&&◌, not, Option, Some, None, unwrap_or}
+use Rattle.std.specs.List.{prefix_len}
+use Rattle.std.proofs.lemmas.Bool.Decides.{nat_tests}
+use Rattle.std.proofs.Math.Seq.{drop-append_seam, drop-append-add}
+use Rattle.saphyr_input.specs.Indicators.{hyphen, plus_sign}
+use Rattle.saphyr_input.specs.Classes.{is_blank, is_break, is_breakz, is_bom, is_digit, is_yaml_non_break, line_feed}
+use Rattle.saphyr_input.specs.Places.{next_2_are}
+use Rattle.saphyr_input.specs.Separation.{blank_len, comment_len, separation_len, is_bare_comment, found_blanks}
+use Rattle.saphyr_input.specs.declared.input.SkipTabs.{SkipTabs}
+use Rattle.saphyr_input.specs.declared.input.SkipTabs.TheVariants.{Yes}
+use Rattle.scalar_values.specs.declared.block.Chomping.{Chomping}
+use Rattle.scalar_values.specs.declared.block.Chomping.TheVariants.{Strip, Clip, Keep}
+use Rattle.saphyr_scalar.specs.Spelling.Tag.{AreIn}
+use Rattle.saphyr_scalar.specs.declared.scalar.position.Marker.{Marker}
+use Rattle.saphyr_scalar.specs.declared.scalar.fault.Refusal.{Refusal}
+use Rattle.saphyr_scalar.specs.Views.Cursor.{Cursor, ◌>>=◌, pass, pass_blanks, pass_line, pass_break, separation, behind_separation}
+use Rattle.saphyr_scalar.specs.Steps.Block.{chomping, indicator, header_break, header_end, last_chomping, header_behind, header}
+use Rattle.scalar_laws.specs.Spelling.Block.{IsIndicator, no_digit, digit, IsChomping, strip, clip, keep, IsHeaderEnd, no_comment, comment, IsHeader, digit_first, chomping_first}
+use Rattle.saphyr_input.proofs.Basics.Booleans.{and_false, clash, by_test, either}
+use Rattle.saphyr_input.proofs.Basics.Numbers.{one_and}
+
+-- what is left behind white space
+behind_read : (text : List ℕ) (v : Cursor) (x : List ℕ) → v.rest ≡ line_feed ∷ x → is_bare_comment Yes text ≡ false
+    → behind_separation Yes text v ≡ Ok (found_blanks Yes text, v)
+unfolding behind_separation
+behind_read text v x e bare =
+    let no : (nat_lt 0 v.mark.col && is_bom (slice_index v.rest 0)) ≡ false =
+    ap (λ (xs : List ℕ). nat_lt 0 v.mark.col && is_bom (slice_index xs 0)) e ∙ and_false (nat_lt 0 v.mark.col) in
+    let Goal : Result (SkipTabs × Cursor) Refusal → Type 0 = λ r. r ≡ Ok (found_blanks Yes text, v) in
+    by_test (nat_lt 0 v.mark.col && is_bom (slice_index v.rest 0)) _ _ Goal (λ h. clash _ h no)
+    (λ _. by_test (is_bare_comment Yes text) _ _ Goal (λ h. clash _ h bare) (λ _. refl))
+
+feed_passed : (v : Cursor) (x : List ℕ) → v.rest ≡ line_feed ∷ x → pass_break v ≡ pass_line 1 v
+feed_passed v x e =
+    let no : next_2_are v.rest 13 10 ≡ false = ap (λ (xs : List ℕ). next_2_are xs 13 10) e in
+    let yes : is_break (slice_index v.rest 0) ≡ true = ap (λ (xs : List ℕ). is_break (slice_index xs 0)) e in
+    let Goal : Cursor → Type 0 = λ s. s ≡ pass_line 1 v in
+    by_test (next_2_are v.rest 13 10) _ _ Goal (λ h. clash _ h no)
+    (λ _. by_test (is_break (slice_index v.rest 0)) _ _ Goal (λ _. refl) (λ h. clash _ yes h))
+
+break_read : (start : Marker) (v : Cursor) (x : List ℕ) → v.rest ≡ line_feed ∷ x → slice_index x 0 ≢ 9
+    → header_break start v ≡ Ok (pass_line 1 v)
+unfolding header_break
+break_read start v x e tab =
+    let yes : not (is_breakz (slice_index v.rest 0)) ≡ false = ap (λ (xs : List ℕ). not (is_breakz (slice_index xs 0)))
+    e in
+    let passed = feed_passed v x e in
+    let left : (pass_break v).rest ≡ x = ap (λ (s : Cursor). s.rest) passed ∙ ap (drop 1) e in
+    let none : nat_eq (slice_index x 0) 9 ≡ false = grind (arith, nat_tests) in
+    let no : nat_eq (slice_index (pass_break v).rest 0) 9 ≡ false =
+    ap (λ (xs : List ℕ). nat_eq (slice_index xs 0) 9) left ∙ none in
+    let Goal : Result Cursor Refusal → Type 0 = λ r. r ≡ Ok (pass_line 1 v) in
+    by_test (not (is_breakz (slice_index v.rest 0))) _ _ Goal (λ h. clash _ h yes)
+    (λ _. by_test (nat_eq (slice_index (pass_break v).rest 0) 9) _ _ Goal (λ h. clash _ h no) (λ _. ap Ok passed))
+
+-- the end of a header's line was taken off
+pub record Ended (start : Marker) (s : Cursor) (x : List ℕ) : Type 0 where
+  pub end : Cursor
+  pub read : header_end start s ≡ Ok end
+  pub rest : end.rest ≡ x
+  pub col : end.mark.col ≡ 0
+  pub blank : end.blank_so_far ≡ true
+
+header_end_at : (start : Marker) (s : Cursor) (x : List ℕ) → drop (separation_len Yes s.rest) s.rest ≡ line_feed ∷ x
+    → is_bare_comment Yes s.rest ≡ false → slice_index x 0 ≢ 9 → Ended start s x
+unfolding header_end separation
+header_end_at start s x e bare tab =
+    let v = pass_blanks (separation_len Yes s.rest) s in
+    record {
+      end = pass_line 1 v;
+      read = ap (λ (r : Result (SkipTabs × Cursor) Refusal). r >>= λ y. header_break start y.1)
+          (behind_read s.rest v x e bare) ∙ break_read start v x e tab;
+      rest = ap (drop 1) e;
+      col = refl;
+      blank = refl;
+    }
+
+blanks_len : (blanks t : List ℕ) → AreIn is_blank blanks → is_blank (slice_index t 0) ≡ false
+    → prefix_len is_blank (blanks ++ t) ≡ length blanks
+blanks_len [] [] h k = refl
+blanks_len [] (c ∷ cs) h k = rw k refl
+blanks_len (b ∷ bs) t h k = let more = blanks_len bs t h.1 k in rw (h.0, more) (omega arith)
+
+text_len : (text x : List ℕ) → AreIn is_yaml_non_break text
+    → prefix_len is_yaml_non_break (text ++ (line_feed ∷ x)) ≡ length text
+text_len [] x h = refl
+text_len (c ∷ cs) x h = let more = text_len cs x h.1 in rw (h.0, more) (omega arith)
+
+told_sep : (d : List ℕ) (n : ℕ) → blank_len Yes d ≡ n → nat_eq n 0 ≡ false
+    → separation_len Yes d ≡ n + comment_len (drop n d)
+told_sep d n len some = rw (len, some) refl
+
+no_bare : (d : List ℕ) (n : ℕ) → blank_len Yes d ≡ n → nat_eq n 0 ≡ false → is_bare_comment Yes d ≡ false
+no_bare d n len some = rw (len, some) refl
+
+pub end_read : (start : Marker) (s : Cursor) (d x : List ℕ) → s.rest ≡ d → IsHeaderEnd d x → slice_index x 0 ≢ 9
+    → Ended start s x
+end_read start s _ x e (no_comment [] y h) tab =
+    header_end_at start s y (ap (λ (xs : List ℕ). drop (separation_len Yes xs) xs) e) (ap (is_bare_comment Yes) e) tab
+end_read start s _ x e (no_comment (b ∷ bs) y h) tab =
+    let d = (b ∷ bs) ++ (10 ∷ y) in
+    let n = length (b ∷ bs) in
+    let len : blank_len Yes d ≡ n = blanks_len (b ∷ bs) (10 ∷ y) h refl in
+    let some : nat_eq n 0 ≡ false = grind (arith, nat_tests) in
+    let behind : drop n d ≡ 10 ∷ y = drop-append_seam (b ∷ bs) (10 ∷ y) in
+    let sep : separation_len Yes d ≡ n = told_sep d n len some ∙ ap (λ xs. n + comment_len xs) behind ∙ add-zero n in
+    header_end_at start s y (ap (λ (xs : List ℕ). drop (separation_len Yes xs) xs) e ∙ ap (λ k. drop k d) sep ∙ behind)
+    (ap (is_bare_comment Yes) e ∙ no_bare d n len some) tab
+end_read start s _ x e (comment b bs text y h k) tab =
+    let t = 35 ∷ (text ++ (10 ∷ y)) in
+    let d = (b ∷ bs) ++ t in
+    let n = length (b ∷ bs) in
+    let len : blank_len Yes d ≡ n = blanks_len (b ∷ bs) t h refl in
+    let some : nat_eq n 0 ≡ false = grind (arith, nat_tests) in
+    let behind : drop n d ≡ t = drop-append_seam (b ∷ bs) t in
+    let own : comment_len t ≡ suc (length text) = ap (λ i. 1 + i) (text_len text y k) ∙ one_and (length text) in
+    let sep : separation_len Yes d ≡ n + suc (length text) = told_sep d n len some
+    ∙ ap (λ xs. n + comment_len xs) behind ∙ ap (λ i. n + i) own in
+    header_end_at start s y (ap (λ (xs : List ℕ). drop (separation_len Yes xs) xs) e ∙ ap (λ i. drop i d) sep
+    ∙ drop-append-add (b ∷ bs) t (suc (length text)) ∙ drop-append_seam text (10 ∷ y))
+    (ap (is_bare_comment Yes) e ∙ no_bare d n len some) tab
+
+-- the indicators
+pub chomping_none : (s : Cursor) (x : ℕ) → slice_index s.rest 0 ≡ x → nat_eq x 43 ≡ false → nat_eq x 45 ≡ false
+    → chomping s ≡ (None, s)
+unfolding chomping
+chomping_none s x e a b =
+    let no : nat_eq (slice_index s.rest 0) 43 ≡ false = ap (λ y. nat_eq y 43) e ∙ a in
+    let nor : nat_eq (slice_index s.rest 0) 45 ≡ false = ap (λ y. nat_eq y 45) e ∙ b in
+    let Goal : Option Chomping × Cursor → Type 0 = λ r. r ≡ (None, s) in
+    by_test (nat_eq (slice_index s.rest 0) 43) _ _ Goal (λ h. clash _ h no)
+    (λ _. by_test (nat_eq (slice_index s.rest 0) 45) _ _ Goal (λ h. clash _ h nor) (λ _. refl))
+
+pub chomping_keep : (s : Cursor) → slice_index s.rest 0 ≡ plus_sign → chomping s ≡ (Some Keep, pass 1 s)
+unfolding chomping
+chomping_keep s e =
+    let yes : nat_eq (slice_index s.rest 0) 43 ≡ true = ap (λ y. nat_eq y 43) e in
+    let Goal : Option Chomping × Cursor → Type 0 = λ r. r ≡ (Some Keep, pass 1 s) in
+    by_test (nat_eq (slice_index s.rest 0) 43) _ _ Goal (λ _. refl) (λ h. clash _ yes h)
+
+pub chomping_strip : (s : Cursor) → slice_index s.rest 0 ≡ hyphen → chomping s ≡ (Some Strip, pass 1 s)
+unfolding chomping
+chomping_strip s e =
+    let no : nat_eq (slice_index s.rest 0) 43 ≡ false = ap (λ y. nat_eq y 43) e in
+    let yes : nat_eq (slice_index s.rest 0) 45 ≡ true = ap (λ y. nat_eq y 45) e in
+    let Goal : Option Chomping × Cursor → Type 0 = λ r. r ≡ (Some Strip, pass 1 s) in
+    by_test (nat_eq (slice_index s.rest 0) 43) _ _ Goal (λ h. clash _ h no)
+    (λ _. by_test (nat_eq (slice_index s.rest 0) 45) _ _ Goal (λ _. refl) (λ h. clash _ yes h))
+
+pub indicator_none : (start : Marker) (s : Cursor) (x : ℕ) → slice_index s.rest 0 ≡ x → is_digit x ≡ false
+    → indicator start s ≡ Ok (0, s)
+unfolding indicator
+indicator_none start s x e h =
+    let no : not (is_digit (slice_index s.rest 0)) ≡ true = ap (λ y. not (is_digit y)) e ∙ ap not h in
+    let Goal : Result (ℕ × Cursor) Refusal → Type 0 = λ r. r ≡ Ok (0, s) in
+    by_test (not (is_digit (slice_index s.rest 0))) _ _ Goal (λ _. refl) (λ k. clash _ no k)
+
+pub indicator_digit : (start : Marker) (s : Cursor) (d : ℕ) → slice_index s.rest 0 ≡ 48 + d → 1 ≤ d → d ≤ 9
+    → indicator start s ≡ Ok (d, pass 1 s)
+unfolding indicator
+indicator_digit start s d e low high =
+    let is : is_digit (48 + d) ≡ true = grind (arith, nat_tests) in
+    let other : nat_eq (48 + d) 48 ≡ false = grind (arith, nat_tests) in
+    let yes : not (is_digit (slice_index s.rest 0)) ≡ false = ap (λ y. not (is_digit y)) e ∙ ap not is in
+    let no : nat_eq (slice_index s.rest 0) 48 ≡ false = ap (λ y. nat_eq y 48) e ∙ other in
+    let value : slice_index s.rest 0 - 48 ≡ d = omega arith in
+    let Goal : Result (ℕ × Cursor) Refusal → Type 0 = λ r. r ≡ Ok (d, pass 1 s) in
+    by_test (not (is_digit (slice_index s.rest 0))) _ _ Goal (λ h. clash _ h yes)
+    (λ _. by_test (nat_eq (slice_index s.rest 0) 48) _ _ Goal (λ h. clash _ h no)
+    (λ _. ap (λ v. Ok (v, pass 1 s)) value))
+
+-- a header's line ends with no indicator
+pub record NoMark (x : ℕ) : Type 0 where
+  pub keep : nat_eq x 43 ≡ false
+  pub strip : nat_eq x 45 ≡ false
+  pub digit : is_digit x ≡ false
+
+blank_no_mark : (x : ℕ) → is_blank x ≡ true → NoMark x
+blank_no_mark x h =
+    either (nat_eq x 32) (nat_eq x 9) (NoMark x) h
+    (λ is. let e : 32 ≡ x = grind (arith, nat_tests) in
+    subst NoMark e (record { keep = refl; strip = refl; digit = refl }))
+    (λ is. let e : 9 ≡ x = grind (arith, nat_tests) in
+    subst NoMark e (record { keep = refl; strip = refl; digit = refl }))
+
+pub end_no_mark : (d x : List ℕ) → IsHeaderEnd d x → NoMark (slice_index d 0)
+end_no_mark _ x (no_comment [] y h) = record { keep = refl; strip = refl; digit = refl }
+end_no_mark _ x (no_comment (b ∷ bs) y h) = blank_no_mark b h.0
+end_no_mark _ x (comment b bs text y h k) = blank_no_mark b h.0
+
+pub digit_no_mark : (d : ℕ) → 1 ≤ d → d ≤ 9 → (nat_eq (48 + d) 43 ≡ false) × (nat_eq (48 + d) 45 ≡ false)
+digit_no_mark d low high = (grind (arith, nat_tests), grind (arith, nat_tests))
+
+-- a header was taken off
+pub record HeaderRead (n : ℕ) (c : Chomping) (x : List ℕ) (s : Cursor) : Type 0 where
+  pub behind : Cursor
+  pub told : header s ≡ Ok (record { chomping = c; indicator = n }, behind)
+  pub left : behind.rest ≡ x
+  pub at_start : behind.mark.col ≡ 0
+  pub begun : behind.blank_so_far ≡ true
+
+header_on : (s : Cursor) (first : Option Chomping × Cursor) (k : ℕ × Cursor) (l : Chomping × Cursor) (u : Cursor)
+    → chomping (pass 1 s) ≡ first → indicator s.mark first.1 ≡ Ok k → last_chomping first.0 k.1 ≡ l
+    → header_end s.mark l.1 ≡ Ok u
+    → header s ≡ Ok (record { chomping = l.0; indicator = k.0 }, u)
+unfolding header header_behind
+header_on s first k l u e1 e2 e3 e4 = rw (e1, e2, e3, e4) refl
+
+header_of : (n : ℕ) (c : Chomping) (d x : List ℕ) (s : Cursor) (first : Option Chomping × Cursor) (t v : Cursor)
+    → chomping (pass 1 s) ≡ first → indicator s.mark first.1 ≡ Ok (n, t) → last_chomping first.0 t ≡ (c, v) → v.rest ≡ d
+    → IsHeaderEnd d x → slice_index x 0 ≢ 9
+    → HeaderRead n c x s
+header_of n c d x s first t v e1 e2 e3 rest l tab =
+    let e = end_read s.mark v d x rest l tab in
+    record {
+      behind = e.end;
+      told = header_on s first (n, t) (c, v) e.end e1 e2 e3 e.read;
+      left = e.rest;
+      at_start = e.col;
+      begun = e.blank;
+    }
+
+last_chosen : (c : Chomping) (s : Cursor) → last_chomping (Some c) s ≡ (c, s)
+unfolding last_chomping
+last_chosen c s = refl
+
+last_looked : (s t : Cursor) (o : Option Chomping) → chomping s ≡ (o, t) → last_chomping None s ≡ (unwrap_or o Clip, t)
+unfolding last_chomping
+last_looked s t o e = ap (λ (y : Option Chomping × Cursor). (unwrap_or y.0 Clip, y.1)) e
+
+front : (s : Cursor) (c : ℕ) (cs : List ℕ) → s.rest ≡ c ∷ cs → slice_index s.rest 0 ≡ c
+front s c cs e = ap (λ (xs : List ℕ). slice_index xs 0) e
+
+first_of_text : (s : Cursor) (a : List ℕ) → s.rest ≡ a → slice_index s.rest 0 ≡ slice_index a 0
+first_of_text s a e = ap (λ (xs : List ℕ). slice_index xs 0) e
+
+-- behind a chomping indicator
+some_first : (n : ℕ) (c : Chomping) (b d x : List ℕ) (s v : Cursor) → chomping (pass 1 s) ≡ (Some c, v) → v.rest ≡ b
+    → IsIndicator n b d → IsHeaderEnd d x → slice_index x 0 ≢ 9 → HeaderRead n c x s
+some_first _ c _ d x s v e rest (no_digit y) l tab =
+    let none = end_no_mark y x l in
+    header_of 0 c y x s (Some c, v) v v e
+    (indicator_none s.mark v (slice_index y 0) (first_of_text v y rest) none.digit) (last_chosen c v) rest l tab
+some_first _ c _ d x s v e rest (digit k y low high) l tab =
+    header_of k c y x s (Some c, v) (pass 1 v) (pass 1 v) e
+    (indicator_digit s.mark v k (front v (48 + k) y rest) low high) (last_chosen c (pass 1 v)) (ap (drop 1) rest) l
+    tab
+
+-- behind the indentation indicator, where no chomping indicator stood before it
+last_read : (n : ℕ) (c : Chomping) (b d x : List ℕ) (s t : Cursor) → chomping (pass 1 s) ≡ (None, pass 1 s)
+    → indicator s.mark (pass 1 s) ≡ Ok (n, t) → t.rest ≡ b → IsChomping c b d → IsHeaderEnd d x → slice_index x 0 ≢ 9
+    → HeaderRead n c x s
+last_read n _ _ d x s t e i rest (strip y) l tab =
+    header_of n Strip y x s (None, pass 1 s) t (pass 1 t) e i
+    (last_looked t (pass 1 t) (Some Strip) (chomping_strip t (front t 45 y rest))) (ap (drop 1) rest) l tab
+last_read n _ _ d x s t e i rest (keep y) l tab =
+    header_of n Keep y x s (None, pass 1 s) t (pass 1 t) e i
+    (last_looked t (pass 1 t) (Some Keep) (chomping_keep t (front t 43 y rest))) (ap (drop 1) rest) l tab
+last_read n _ _ d x s t e i rest (clip y) l tab =
+    let none = end_no_mark y x l in
+    header_of n Clip y x s (None, pass 1 s) t t e i
+    (last_looked t t None (chomping_none t (slice_index y 0) (first_of_text t y rest) none.keep none.strip)) rest l
+    tab
+
+digit_read : (k : ℕ) (c : Chomping) (y d x : List ℕ) (s : Cursor) → (pass 1 s).rest ≡ (48 + k) ∷ y → 1 ≤ k → k ≤ 9
+    → IsChomping c y d → IsHeaderEnd d x → slice_index x 0 ≢ 9 → HeaderRead k c x s
+digit_read k c y d x s rest low high ch l tab =
+    let first = front (pass 1 s) (48 + k) y rest in
+    let no = digit_no_mark k low high in
+    last_read k c y d x s (pass 1 (pass 1 s)) (chomping_none (pass 1 s) (48 + k) first no.0 no.1)
+    (indicator_digit s.mark (pass 1 s) k first low high) (ap (drop 1) rest) ch l tab
+
+clip_read : (n : ℕ) (a d x : List ℕ) (s : Cursor) → (pass 1 s).rest ≡ a → IsIndicator n a d → IsHeaderEnd d x
+    → slice_index x 0 ≢ 9 → HeaderRead n Clip x s
+clip_read _ _ d x s rest (no_digit y) l tab =
+    let none = end_no_mark y x l in
+    let first = first_of_text (pass 1 s) y rest in
+    last_read 0 Clip y y x s (pass 1 s) (chomping_none (pass 1 s) (slice_index y 0) first none.keep none.strip)
+    (indicator_none s.mark (pass 1 s) (slice_index y 0) first none.digit) rest (clip y) l tab
+clip_read _ _ d x s rest (digit k y low high) l tab = digit_read k Clip y y x s rest low high (clip y) l tab
+
+chomping_read : (n : ℕ) (c : Chomping) (a b d x : List ℕ) (s : Cursor) → (pass 1 s).rest ≡ a → IsChomping c a b
+    → IsIndicator n b d → IsHeaderEnd d x → slice_index x 0 ≢ 9 → HeaderRead n c x s
+chomping_read n _ _ b d x s rest (strip y) i l tab =
+    some_first n Strip y d x s (pass 1 (pass 1 s)) (chomping_strip (pass 1 s) (front (pass 1 s) 45 y rest))
+    (ap (drop 1) rest) i l tab
+chomping_read n _ _ b d x s rest (keep y) i l tab =
+    some_first n Keep y d x s (pass 1 (pass 1 s)) (chomping_keep (pass 1 s) (front (pass 1 s) 43 y rest))
+    (ap (drop 1) rest) i l tab
+chomping_read n _ _ b d x s rest (clip y) i l tab = clip_read n y d x s rest i l tab
+
+first_read : (n : ℕ) (c : Chomping) (a b d x : List ℕ) (s : Cursor) → (pass 1 s).rest ≡ a → IsIndicator n a b
+    → IsChomping c b d → IsHeaderEnd d x → slice_index x 0 ≢ 9 → HeaderRead n c x s
+first_read _ c _ b d x s rest (no_digit y) ch l tab = chomping_read 0 c y d d x s rest ch (no_digit d) l tab
+first_read _ c _ b d x s rest (digit k y low high) ch l tab = digit_read k c y d x s rest low high ch l tab
+
+pub header_read : (n : ℕ) (c : Chomping) (x t : List ℕ) (s : Cursor) → s.rest ≡ t → IsHeader n c x t
+    → slice_index x 0 ≢ 9 → HeaderRead n c x s
+header_read n c x _ s e (digit_first mark a b d i ch l) tab = first_read n c a b d x s (ap (drop 1) e) i ch l tab
+header_read n c x _ s e (chomping_first mark a b d ch i l) tab = chomping_read n c a b d x s (ap (drop 1) e) ch i l tab

@@ -1,0 +1,28 @@
+-- All that is read of a text is read of its normalized text.
+use Rattle.std.proofs.Common.{ℕ, List, refl}
+use Rattle.saphyr_input.specs.Breaks.{normalized}
+use Rattle.saphyr_scalar.specs.Views.Cursor.{Cursor, start_cursor}
+use Rattle.scalar_laws.specs.Alike.{AreAlike, ReadsAlike}
+use Rattle.scalar_laws.proofs.Breaks.Separations.{separation_alike, break_alike, comment_alike, mark_alike}
+use Rattle.scalar_laws.proofs.Breaks.Names.{anchor_alike, tag_alike}
+use Rattle.scalar_laws.proofs.Breaks.Directives.{directive_alike}
+use Rattle.scalar_laws.proofs.Breaks.Blocks.{block_alike}
+use Rattle.scalar_laws.proofs.Breaks.Quotes.{quoted_alike}
+use Rattle.scalar_laws.proofs.Breaks.PlainScalars.{plain_alike}
+
+pub begins_alike : (text : List ℕ) → AreAlike text (start_cursor text) (start_cursor (normalized text))
+begins_alike text = record { line = refl; col = refl; rest = refl; blank = refl; here = refl; there = refl }
+
+pub reads_alike : (text : List ℕ) (s t : Cursor) → AreAlike text s t → ReadsAlike text s t
+reads_alike text s t e = record {
+  separation = λ tabs. separation_alike tabs e;
+  line_break = break_alike e;
+  comment = comment_alike e;
+  plain = λ in_flow indent. plain_alike in_flow indent e;
+  byte_order_mark = λ h. mark_alike h e;
+  quoted = λ quote indent h. quoted_alike quote indent h e;
+  block_scalar = λ style indent h. block_alike style indent h e;
+  tag = λ in_flow h. tag_alike in_flow h e;
+  anchor = λ h. anchor_alike h e;
+  directive = λ h. directive_alike h e;
+}

@@ -1,0 +1,2 @@
+-- Directives: each reserved one is read.
+pub mod ReservedRead

@@ -1,0 +1,303 @@
+-- The blanks and breaks behind a plain scalar's last word.
+use Rattle.std.proofs.Common.{◌≡◌, ℕ, suc, ◌+◌, Bool, true, false, List, [], ◌∷◌, ◌++◌, drop, slice_index, Result, Ok, refl, sym, ap, ◌∙◌, arith, subst, ◌⊎◌, inl, inr, cond}
+use Rattle.std.specs.Prelude.{◌||◌, ◌&&◌, ◌==◌, nat_lt, if◌then◌else◌}
+use Rattle.std.specs.List.{prefix_len}
+use Rattle.std.proofs.lemmas.Bool.Decides.{nat_tests}
+use Rattle.saphyr_input.specs.Classes.{is_blank, is_break, is_bom, is_z, tab, line_feed, carriage_return}
+use Rattle.saphyr_input.specs.Places.{is_blank_or_break}
+use Rattle.saphyr_scalar.specs.declared.scalar.position.Marker.{Marker}
+use Rattle.saphyr_scalar.specs.declared.scalar.fault.Refusal.{Refusal}
+use Rattle.saphyr_scalar.specs.Views.Cursor.{Cursor, ◌>>=◌, along, next_line, pass_break}
+use Rattle.saphyr_scalar.specs.Steps.Quoted.{mid_line}
+use Rattle.saphyr_scalar.specs.Steps.Plain.{PlainGap, ends_line, content_behind_tab, reached_gap, line_front, lines, folded_gap, gap_from, gap, seen_gap}
+use Rattle.saphyr_scalar.proofs.Moving.{along_none, along_more}
+use Rattle.saphyr_scalar.proofs.Quoted.Inside.{break_cases}
+use Rattle.scalar_laws.specs.Spelling.Plain.{behind_blanks, past_white, reaches_tabbed, is_tabbed, stands_behind_tab}
+use Rattle.std.proofs.Math.Bool.{or-true}
+use Rattle.saphyr_input.proofs.Basics.Numbers.{none_below_zero}
+use Rattle.std.proofs.lemmas.Bool.{or_from}
+use Rattle.saphyr_input.specs.Indicators.{number_sign}
+use Rattle.saphyr_input.proofs.Basics.Lists.{run_ends}
+use Rattle.saphyr_input.proofs.Basics.Booleans.{by_test}
+use Rattle.saphyr_input.proofs.Basics.Characters.{blank_no_break}
+use Rattle.saphyr_scalar.proofs.Given.{cursor_at}
+
+-- what a gap leaves
+pub record LeavesGap (r : Result PlainGap Refusal) (t : Bool) (s : Cursor) : Type 0 where
+  pub text : List ℕ
+  pub is : r ≡ Ok (seen_gap t text s)
+
+-- what may be reached, where a tab stands in its indentation or none
+abbrev pub MayStand : Bool → List ℕ → Type 0
+MayStand t xs = (t ≡ false) ⊎ (stands_behind_tab xs ≡ true)
+
+no_byte_order_mark : (c : ℕ) → ((c == number_sign) || is_z c) ≡ true → is_bom c ≡ false
+no_byte_order_mark c h = grind (arith, nat_tests)
+
+is_reached : (a : Marker) (t : Bool) (f : List ℕ) (s : Cursor) → MayStand t s.rest
+    → reached_gap a t f s ≡ Ok (seen_gap t f s)
+unfolding content_behind_tab
+is_reached a false f s h = refl
+is_reached a true f s (inl e) = absurd (cc)
+is_reached a true f s (inr e) = rw (no_byte_order_mark (slice_index s.rest 0) e, e) refl
+
+-- the flag behind a blank or a break
+abbrev pub flag_on : ℕ → ℕ → Bool → ℕ → Bool
+flag_on i k t c = is_blank c && (t || ((c == tab) && nat_lt k i))
+
+pub tabbed_on : (i k : ℕ) (t : Bool) (c : ℕ) (cs : List ℕ) → is_blank_or_break c ≡ true
+    → reaches_tabbed i k t (c ∷ cs) ≡ reaches_tabbed i (if ends_line c cs then 0 else k + 1) (flag_on i k t c) cs
+tabbed_on i k t c cs white = rw white refl
+
+pub tabbed_stop : (i k : ℕ) (t : Bool) (xs : List ℕ) → is_blank_or_break (slice_index xs 0) ≡ false
+    → reaches_tabbed i k t xs ≡ t
+tabbed_stop i k t [] h = refl
+tabbed_stop i k t (c ∷ cs) h = rw h refl
+
+-- nothing stands left of the first column
+off : (a b : Bool) → (a && (false || (b && false))) ≡ false
+off true true = refl
+off true false = refl
+off false b = refl
+
+root_kind : (k c : ℕ) (cs : List ℕ) (white : Bool) → is_blank_or_break c ≡ white
+    → ((n : ℕ) → reaches_tabbed 0 n false cs ≡ false) → reaches_tabbed 0 k false (c ∷ cs) ≡ false
+root_kind k c cs true e on =
+    tabbed_on 0 k false c cs e
+    ∙ ap (λ (b : Bool). reaches_tabbed 0 (if ends_line c cs then 0 else k + 1)
+    (is_blank c && (false || ((c == tab) && b))) cs) (none_below_zero k)
+    ∙ ap (λ (b : Bool). reaches_tabbed 0 (if ends_line c cs then 0 else k + 1) b cs) (off (is_blank c) (c == tab))
+    ∙ on (if ends_line c cs then 0 else k + 1)
+root_kind k c cs false e on = tabbed_stop 0 k false (c ∷ cs) e
+
+root_untabbed : (k : ℕ) (xs : List ℕ) → reaches_tabbed 0 k false xs ≡ false
+root_untabbed k [] = refl
+root_untabbed k (c ∷ cs) = root_kind k c cs (is_blank_or_break c) refl (λ n. root_untabbed n cs)
+
+-- where nothing encloses a scalar no tab stands in its indentation
+pub untabbed_root : (xs : List ℕ) → is_tabbed 0 xs ≡ false
+untabbed_root xs = root_untabbed 0 (behind_blanks xs)
+
+step_col : (b : Bool) (m : Marker) → (cond b 0 (m.col + 1)) ≡ (cond b (next_line m 1) (along m 1)).col
+step_col true m = refl
+step_col false m = refl
+
+line_past : (i : ℕ) (a : Marker) (t : Bool) (f : List ℕ) (m : Marker) (c : ℕ) (cs : List ℕ)
+    → is_blank_or_break c ≡ true
+    → lines i a t f m (c ∷ cs)
+    ≡ lines i a (flag_on i m.col t c) (if ends_line c cs then f ++ line_feed ∷ [] else f)
+    (if ends_line c cs then next_line m 1 else along m 1) cs
+unfolding lines
+line_past i a t f m c cs white = rw white refl
+
+line_ends_with_ink : (i : ℕ) (a : Marker) (t : Bool) (f : List ℕ) (m : Marker) (c : ℕ) (cs : List ℕ)
+    → is_blank_or_break c ≡ false → MayStand t (c ∷ cs)
+    → lines i a t f m (c ∷ cs) ≡ Ok (seen_gap t f (line_front m (c ∷ cs)))
+unfolding lines
+line_ends_with_ink i a t f m c cs other h = rw other (is_reached a t f (line_front m (c ∷ cs)) h)
+
+lines_at_end : (i : ℕ) (a : Marker) (t : Bool) (f : List ℕ) (m : Marker)
+    → lines i a t f m [] ≡ Ok (seen_gap t f (line_front m []))
+unfolding lines
+lines_at_end i a t f m = is_reached a t f (line_front m []) (inr refl)
+
+pub past_on : (m : Marker) (b : Bool) (c : ℕ) (cs : List ℕ) → is_blank_or_break c ≡ true
+    → past_white m b (c ∷ cs) ≡ past_white (if ends_line c cs then next_line m 1 else along m 1) (b || is_break c) cs
+past_on m b c cs white = rw white refl
+
+pub past_stop : (m : Marker) (b : Bool) (xs : List ℕ) → is_blank_or_break (slice_index xs 0) ≡ false
+    → past_white m b xs ≡ record { rest = xs; mark = m; blank_so_far = b }
+past_stop m b [] h = refl
+past_stop m b (c ∷ cs) h = rw h refl
+
+leaves_on : (r q : Result PlainGap Refusal) (p t : Bool) (s u : Cursor) → r ≡ q → p ≡ t → s ≡ u → LeavesGap q t u
+    → LeavesGap r p s
+leaves_on r q p t s u e same place l =
+    record {
+      text = l.text;
+      is = e ∙ l.is ∙ ap (λ x. Ok (seen_gap t l.text x)) (sym place) ∙ ap (λ x. Ok (seen_gap x l.text s)) (sym same);
+    }
+
+pub lines_past : (i : ℕ) (a : Marker) (t : Bool) (f : List ℕ) (m : Marker) (xs : List ℕ)
+    → MayStand (reaches_tabbed i m.col t xs) (past_white m true xs).rest
+    → LeavesGap (lines i a t f m xs) (reaches_tabbed i m.col t xs) (past_white m true xs)
+lines_past i a t f m [] h = record { text = f; is = lines_at_end i a t f m }
+lines_past i a t f m (c ∷ cs) h = by_case (is_blank_or_break c) refl
+    (λ k. lines_past i a (flag_on i m.col t c) (if ends_line c cs then f ++ line_feed ∷ [] else f) on cs k)
+  where
+    on : Marker
+    on = if ends_line c cs then next_line m 1 else along m 1
+
+    Goal : Type 0
+    Goal = LeavesGap (lines i a t f m (c ∷ cs)) (reaches_tabbed i m.col t (c ∷ cs)) (past_white m true (c ∷ cs))
+
+    Rest : Type 0
+    Rest = MayStand (reaches_tabbed i on.col (flag_on i m.col t c) cs) (past_white on true cs).rest
+        → LeavesGap (lines i a (flag_on i m.col t c) (if ends_line c cs then f ++ line_feed ∷ [] else f) on cs)
+        (reaches_tabbed i on.col (flag_on i m.col t c) cs) (past_white on true cs)
+
+    by_case : (b : Bool) → is_blank_or_break c ≡ b → Rest → Goal
+    by_case true white rest =
+        let flag : reaches_tabbed i m.col t (c ∷ cs) ≡ reaches_tabbed i on.col (flag_on i m.col t c) cs =
+        tabbed_on i m.col t c cs white
+        ∙ ap (λ (k : ℕ). reaches_tabbed i k (flag_on i m.col t c) cs) (step_col (ends_line c cs) m) in
+        let place = past_on m true c cs white in
+        leaves_on _ _ _ _ _ _ (line_past i a t f m c cs white) flag place
+        (rest (subst (λ (b : Bool). MayStand b (past_white on true cs).rest) flag
+        (subst (λ (s : Cursor). MayStand (reaches_tabbed i m.col t (c ∷ cs)) s.rest) place h)))
+    by_case false other rest =
+        let flag = tabbed_stop i m.col t (c ∷ cs) other in
+        let place = past_stop m true (c ∷ cs) other in
+        leaves_on _ _ _ _ _ _ refl flag place (record {
+          text = f;
+          is = line_ends_with_ink i a t f m c cs other
+              (subst (λ (b : Bool). MayStand b (c ∷ cs)) flag
+              (subst (λ (s : Cursor). MayStand (reaches_tabbed i m.col t (c ∷ cs)) s.rest) place h));
+        })
+
+-- blanks are passed
+pub past_blanks : (m : Marker) (b : Bool) (xs : List ℕ)
+    → past_white m b xs ≡ past_white (along m (prefix_len is_blank xs)) b (behind_blanks xs)
+past_blanks m b [] = ap (λ x. past_white x b []) (sym (along_none m))
+past_blanks m b (c ∷ cs) = by_case (is_blank c) refl (past_blanks (along m 1) b cs)
+  where
+    n : ℕ
+    n = prefix_len is_blank cs
+
+    Goal : Type 0
+    Goal = past_white m b (c ∷ cs) ≡ past_white (along m (prefix_len is_blank (c ∷ cs))) b (behind_blanks (c ∷ cs))
+
+    or_false : (x : Bool) → (x || false) ≡ x
+    or_false true = refl
+    or_false false = refl
+
+    blank_on : is_blank c ≡ true → past_white m b (c ∷ cs) ≡ past_white (along m 1) b cs
+    blank_on h =
+        let no = blank_no_break c h in
+        let white : is_blank_or_break c ≡ true = rw h refl in
+        past_on m b c cs white ∙ rw no (ap (λ x. past_white (along m 1) x cs) (or_false b))
+
+    by_case : (t : Bool) → is_blank c ≡ t → past_white (along m 1) b cs ≡ past_white (along (along m 1) n) b (drop n cs)
+        → Goal
+    by_case true h rest =
+        let one : prefix_len is_blank (c ∷ cs) ≡ suc n = rw h (omega arith) in
+        subst (λ k. past_white m b (c ∷ cs) ≡ past_white (along m k) b (drop k (c ∷ cs))) (sym one)
+        (blank_on h ∙ rest ∙ ap (λ x. past_white x b (drop n cs)) (along_more m 1 n (suc n) (omega arith)))
+    by_case false h rest =
+        let none : prefix_len is_blank (c ∷ cs) ≡ 0 = rw h refl in
+        subst (λ k. past_white m b (c ∷ cs) ≡ past_white (along m k) b (drop k (c ∷ cs))) (sym none)
+        (ap (λ x. past_white x b (c ∷ cs)) (sym (along_none m)))
+
+abbrev AtBreak : List ℕ → Marker → Bool → Type 0
+AtBreak xs m b =
+    let t = pass_break (cursor_at xs m b) in
+    (past_white m b xs ≡ past_white t.mark true t.rest)
+    × ((i k : ℕ) → reaches_tabbed i k false xs ≡ reaches_tabbed i t.mark.col false t.rest)
+
+feed_at : (cs : List ℕ) (m : Marker) (b : Bool) → AtBreak (line_feed ∷ cs) m b
+feed_at cs m b = (ap (λ x. past_white (next_line m 1) x cs) (or-true b), λ i k. refl)
+
+return_at : (cs : List ℕ) (m : Marker) (b : Bool) → (slice_index cs 0 == line_feed) ≡ false
+    → AtBreak (carriage_return ∷ cs) m b
+return_at cs m b h = rw h (ap (λ x. past_white (next_line m 1) x cs) (or-true b), λ i k. refl)
+
+two_at : (cs : List ℕ) (m : Marker) (b : Bool) → AtBreak (carriage_return ∷ line_feed ∷ cs) m b
+two_at cs m b =
+    let two : m.index + 1 + 1 ≡ m.index + 2 = omega arith in (
+      ap (λ x. past_white (next_line (along m 1) 1) (x || true) cs) (or-true b)
+          ∙ ap (λ n. past_white (record (next_line m 2) { index = n }) true cs) two,
+      λ i k. refl,
+    )
+
+return_or_two : (cs : List ℕ) (m : Marker) (b : Bool) → AtBreak (carriage_return ∷ cs) m b
+return_or_two [] m b = return_at [] m b refl
+return_or_two (d ∷ ds) m b = test (d == 10) refl
+  where
+    test : (e : Bool) → (d == line_feed) ≡ e → AtBreak (carriage_return ∷ d ∷ ds) m b
+    test true h = let is : 10 ≡ d =
+        grind (arith, nat_tests) in subst (λ x. AtBreak (13 ∷ x ∷ ds) m b) is (two_at ds m b)
+    test false h = return_at (d ∷ ds) m b h
+
+at_break : (xs : List ℕ) (m : Marker) (b : Bool) → is_break (slice_index xs 0) ≡ true → AtBreak xs m b
+at_break [] m b h = absurd (cc)
+at_break (c ∷ cs) m b h = break_cases c h (λ x. AtBreak (x ∷ cs) m b) (feed_at cs m b) (return_or_two cs m b)
+
+-- what a gap leaves
+same_fold : (r : Result PlainGap Refusal) (t : Bool) (s : Cursor) → LeavesGap r t s
+    → LeavesGap (r >>= λ g. Ok (folded_gap g)) t s
+same_fold r t s l =
+    record { text = (folded_gap (seen_gap t l.text s)).text; is = ap (λ x. x >>= λ g. Ok (folded_gap g)) l.is }
+
+from_past : (i : ℕ) (a : Marker) (blanks : List ℕ) (m : Marker) (xs : List ℕ) → is_blank (slice_index xs 0) ≡ false
+    → MayStand (reaches_tabbed i 0 false xs) (past_white m false xs).rest
+    → LeavesGap (gap_from i a blanks (mid_line m xs)) (reaches_tabbed i 0 false xs) (past_white m false xs)
+unfolding gap_from
+from_past i a blanks m xs clean h =
+    by_test (is_break (slice_index xs 0)) _ _
+    (λ (r : Result PlainGap Refusal). LeavesGap r (reaches_tabbed i 0 false xs) (past_white m false xs))
+    (λ e.
+    let t = pass_break (mid_line m xs) in
+    let here = at_break xs m false e in
+    leaves_on _ _ _ _ _ _ refl (here.1 i 0) here.0 (same_fold _ _ _ (lines_past i a false [] t.mark t.rest
+    (subst (λ (b : Bool). MayStand b (past_white t.mark true t.rest).rest) (here.1 i 0)
+    (subst (λ (s : Cursor). MayStand (reaches_tabbed i 0 false xs) s.rest) here.0 h)))))
+    (λ e.
+    let other = or_from (is_blank (slice_index xs 0)) (is_break (slice_index xs 0)) clean e in
+    leaves_on _ _ _ _ _ _ refl (tabbed_stop i 0 false xs other) (past_stop m false xs other)
+    (record { text = blanks; is = refl }))
+
+pub gap_past : (i : ℕ) (a : Marker) (m : Marker) (xs : List ℕ)
+    → MayStand (is_tabbed i xs) (past_white m false xs).rest
+    → LeavesGap (gap i a (mid_line m xs)) (is_tabbed i xs) (past_white m false xs)
+unfolding gap
+gap_past i a m xs h =
+    leaves_on _ _ _ _ _ _ refl refl (past_blanks m false xs)
+    (from_past i a _ (along m (prefix_len is_blank xs)) (behind_blanks xs) (run_ends is_blank xs refl)
+    (subst (λ (s : Cursor). MayStand (is_tabbed i xs) s.rest) (past_blanks m false xs) h))
+
+-- how much is passed
+pub past_rest : (m : Marker) (b : Bool) (xs : List ℕ)
+    → (past_white m b xs).rest ≡ drop (prefix_len is_blank_or_break xs) xs
+past_rest m b [] = refl
+past_rest m b (c ∷ cs) =
+    by_case (is_blank_or_break c) refl
+    (past_rest (if ends_line c cs then next_line m 1 else along m 1) (b || is_break c) cs)
+  where
+    Rest : Type 0
+    Rest = (past_white (if ends_line c cs then next_line m 1 else along m 1) (b || is_break c) cs).rest
+        ≡ drop (prefix_len is_blank_or_break cs) cs
+
+    by_case : (t : Bool) → is_blank_or_break c ≡ t → Rest
+        → (past_white m b (c ∷ cs)).rest ≡ drop (prefix_len is_blank_or_break (c ∷ cs)) (c ∷ cs)
+    by_case true white rest =
+        let one : prefix_len is_blank_or_break (c ∷ cs) ≡ suc (prefix_len is_blank_or_break cs) =
+        rw white (omega arith) in
+        ap (λ (s : Cursor). s.rest) (past_on m b c cs white) ∙ rest ∙ ap (λ n. drop n (c ∷ cs)) (sym one)
+    by_case false other rest =
+        let none : prefix_len is_blank_or_break (c ∷ cs) ≡ 0 = rw other refl in
+        ap (λ (s : Cursor). s.rest) (past_stop m b (c ∷ cs) other) ∙ ap (λ n. drop n (c ∷ cs)) (sym none)
+
+one_further : (e : Bool) (m : Marker) → (cond e (next_line m 1) (along m 1)).index ≡ m.index + 1
+one_further true m = refl
+one_further false m = refl
+
+pub past_index : (m : Marker) (b : Bool) (xs : List ℕ)
+    → (past_white m b xs).mark.index ≡ m.index + prefix_len is_blank_or_break xs
+past_index m b [] = omega arith
+past_index m b (c ∷ cs) =
+    by_case (is_blank_or_break c) refl
+    (past_index (if ends_line c cs then next_line m 1 else along m 1) (b || is_break c) cs)
+  where
+    Rest : Type 0
+    Rest = (past_white (if ends_line c cs then next_line m 1 else along m 1) (b || is_break c) cs).mark.index
+        ≡ (if ends_line c cs then next_line m 1 else along m 1).index + prefix_len is_blank_or_break cs
+
+    by_case : (t : Bool) → is_blank_or_break c ≡ t → Rest
+        → (past_white m b (c ∷ cs)).mark.index ≡ m.index + prefix_len is_blank_or_break (c ∷ cs)
+    by_case true white rest =
+        let one : prefix_len is_blank_or_break (c ∷ cs) ≡ 1 + prefix_len is_blank_or_break cs = rw white refl in
+        let on = ap (λ (s : Cursor). s.mark.index) (past_on m b c cs white) in
+        omega (arith, on, rest, one, one_further (ends_line c cs) m)
+    by_case false other rest =
+        let none : prefix_len is_blank_or_break (c ∷ cs) ≡ 0 = rw other refl in
+        omega (arith, none, ap (λ (s : Cursor). s.mark.index) (past_stop m b (c ∷ cs) other))

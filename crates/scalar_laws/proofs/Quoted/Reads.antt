@@ -1,0 +1,97 @@
+-- A quoted scalar whose lines are indented as they should be is read, without a fault, and gives the reading of its
+-- items.
+use Rattle.std.proofs.Common.{◌≡◌, ℕ, ◌+◌, true, List, [], ◌∷◌, ◌++◌, length, drop, Ok, refl, sym, ap, ◌∙◌, subst, encode_utf8_all}
+use Rattle.saphyr_scalar.specs.declared.scalar.position.Marker.{Marker}
+use Rattle.scalar_values.specs.declared.folding.Item.{Item}
+use Rattle.scalar_values.specs.declared.folding.Item.TheVariants.{Blank, Raw, Escaped, Break, EscapedBreak}
+use Rattle.scalar_values.specs.declared.flow.Quote.{Quote}
+use Rattle.scalar_values.specs.declared.flow.Quote.TheVariants.{Single, Double}
+use Rattle.saphyr_scalar.specs.Views.Cursor.{Cursor, along, next_line}
+use Rattle.scalar_values.specs.Flow as flow
+use Rattle.scalar_values.specs.Folding.{folded}
+use Rattle.saphyr_scalar.specs.Passing.{IsPassed, character}
+use Rattle.saphyr_scalar.specs.Steps.Quoted.{mid_line, over_lines, no_gap, break_len, escaped_character, inner_text, quoted}
+use Rattle.saphyr_scalar.specs.Spelling.Quoted as quotes
+use Rattle.saphyr_scalar.proofs.Moving.{along_more}
+use Rattle.saphyr_scalar.proofs.Passings.{letter_passed, digits_passed}
+use Rattle.saphyr_scalar.proofs.Quoted.Spellings.{letter_read, number_read, no_break_simple, no_break_digits}
+use Rattle.saphyr_scalar.proofs.Quoted.GapBytes.{no_gap_bytes}
+use Rattle.saphyr_scalar.proofs.Given.{text_given_at}
+use Rattle.scalar_laws.specs.Spelling.QuotedLines.{AreOnLine, LinesFit}
+use Rattle.scalar_laws.proofs.Quoted.IndentedLines.{line_indented}
+use Rattle.scalar_laws.proofs.Quoted.WordsRead.{with_gap, mark_content, closed_read, two_quotes_read, escape_read, escaped_break_read, same_at_quote}
+use Rattle.scalar_laws.proofs.Quoted.GapsRead.{ReadsBehindBlank, itself_read, broken_read}
+
+inside_read : (indent : ℕ) (start : Marker) (q : Quote) (t : List ℕ) (items : List Item) (x : List ℕ)
+    (r : quotes.IsText q t items x) → LinesFit indent q t items x r → (m : Marker)
+    → ReadsBehindBlank q indent start m t items x
+inside_read indent start _ _ _ _ (quotes.closed q x h) fit m =
+    λ gap fits. with_gap q indent start gap m (flow.mark q ∷ x) [] x fits (closed_read q indent start m x h)
+inside_read indent start _ _ _ _ (quotes.itself q c t items x h r) fit m =
+    λ gap fits. itself_read q indent start gap m c t items x h fits
+    (inside_read indent start q t items x r fit (along m 1))
+inside_read indent start _ _ _ _ (quotes.broken q t items x h r) fit m = λ gap fits.
+    broken_read q indent start gap m t items x h fit.0
+    (inside_read indent start q (drop (break_len t) t) items x r fit.1 (next_line m (break_len t)))
+inside_read indent start _ _ _ _ (quotes.two_quotes t items x r) fit m = λ gap fits.
+    with_gap Single indent start gap m (39 ∷ 39 ∷ t) (Raw 39 ∷ items) x fits
+    (two_quotes_read indent start m t items x
+    (inside_read indent start Single t items x r fit (along m 2) no_gap tt))
+inside_read indent start _ _ _ _ (quotes.escaped e c t items x h r) fit m = λ gap fits.
+    let b = inside_read indent start Double t items x r fit (along m 2) no_gap tt in
+    with_gap Double indent start gap m (92 ∷ e ∷ t) (Escaped c ∷ items) x fits
+    (escape_read indent start m e c t items x t 2 (no_break_simple e c h) (letter_read start m e c t h) b
+    (letter_passed m e t b.mark x (no_break_simple e c h) b.passed))
+inside_read indent start _ _ _ _ (quotes.numbered e c ds t items x h r) fit m = λ gap fits.
+    let k = 2 + length ds in
+    let b = inside_read indent start Double t items x r fit (along m k) no_gap tt in
+    let place : escaped_character start (mid_line m (92 ∷ e ∷ (ds ++ t))) ≡ Ok (c, mid_line (along m k) t) =
+    number_read start m e c ds t h ∙ ap (λ y. Ok (c, mid_line y t)) (along_more m 2 (length ds) k refl) in
+    let passed : IsPassed m (92 ∷ e ∷ (ds ++ t)) b.mark x =
+    letter_passed m e (ds ++ t) b.mark x (no_break_digits e (length ds) h.count)
+    (digits_passed (along m 2) ds t b.mark x h.hex
+    (subst (λ (n : Marker). IsPassed n t b.mark x) (sym (along_more m 2 (length ds) k refl)) b.passed)) in
+    with_gap Double indent start gap m (92 ∷ e ∷ (ds ++ t)) (Escaped c ∷ items) x fits
+    (escape_read indent start m e c (ds ++ t) items x t k (no_break_digits e (length ds) h.count) place b passed)
+inside_read indent start _ _ _ _ (quotes.escaped_break t items x h r) fit m = λ gap fits.
+    let place = next_line (along m 1) (break_len t) in
+    let line = line_indented indent place (drop (break_len t) t) refl fit.0 in
+    let b = inside_read indent start Double (drop (break_len t) t) items x r fit.1 place (over_lines true 0) line in
+    with_gap Double indent start gap m (92 ∷ t) (EscapedBreak ∷ items) x fits
+    (escaped_break_read indent start m t items x h b
+    (same_at_quote indent start place (drop (break_len t) t) line ∙ b.is))
+
+-- A quoted scalar that is spelled so is read, and the places behind its characters are passed one after another.
+pub quoted_read : (q : Quote) (indent : ℕ) (s : Cursor) (items : List Item) (x : List ℕ)
+    (is : quotes.IsQuotedText q s.rest items x) → LinesFit indent q is.0 items x is.2
+    → (m : Marker) × IsPassed s.mark s.rest m x × (quoted q indent s ≡ Ok
+    (encode_utf8_all (folded items), mid_line m x))
+unfolding quoted
+quoted_read q indent s items x is fit =
+    let (inside_text, cut, text) = is in
+    let b = inside_read indent s.mark q inside_text items x text fit (along s.mark 1) no_gap tt in (
+      b.mark,
+      subst (λ (t : List ℕ). IsPassed s.mark t b.mark x) (sym cut)
+          (character s.mark (flow.mark q) inside_text b.mark x (mark_content q).break b.passed),
+      ap (λ t. inner_text q indent s.mark no_gap 0 (along s.mark 1) (drop 1 t)) cut ∙ b.is
+          ∙ ap (λ y. text_given_at y b.mark x) (no_gap_bytes items),
+    )
+
+pub on_line_behind : (i : Item) (items : List Item) → AreOnLine (i ∷ items) → AreOnLine items
+on_line_behind (Blank c) items h = h
+on_line_behind (Raw c) items h = h
+on_line_behind (Escaped c) items h = h
+on_line_behind Break items h = absurd h
+on_line_behind EscapedBreak items h = absurd h
+
+-- a scalar on one line has no later line
+pub line_fits : (indent : ℕ) (q : Quote) (t : List ℕ) (items : List Item) (x : List ℕ) (r : quotes.IsText q t items x)
+    → AreOnLine items → LinesFit indent q t items x r
+line_fits indent _ _ _ _ (quotes.closed q x h) on = tt
+line_fits indent _ _ _ _ (quotes.itself q c t items x h r) on =
+    line_fits indent q t items x r (on_line_behind (flow.raw_item c) items on)
+line_fits indent _ _ _ _ (quotes.broken q t items x h r) on = absurd on
+line_fits indent _ _ _ _ (quotes.two_quotes t items x r) on = line_fits indent Single t items x r on
+line_fits indent _ _ _ _ (quotes.escaped e c t items x h r) on = line_fits indent Double t items x r on
+line_fits indent _ _ _ _ (quotes.numbered e c ds t items x h r) on = line_fits indent Double t items x r on
+line_fits indent _ _ _ _ (quotes.escaped_break t items x h r) on = absurd on

@@ -1,0 +1,225 @@
+-- The words of a quoted scalar are read behind each gap that fits, and so is its closing quote.
+use Rattle.std.proofs.Common.{◌≡◌, ℕ, ◌≤◌, Bool, true, false, List, [], ◌∷◌, ◌++◌, drop, slice_index, Ok, refl, sym, ap, ◌∙◌, arith, subst, nat_eq, nat_lt, IsTrue, cond}
+use Rattle.std.specs.Prelude.{◌||◌, ◌&&◌, ◌==◌, not, encode_utf8}
+use Rattle.std.proofs.lemmas.Bool.Decides.{nat_tests}
+use Rattle.saphyr_input.specs.Indicators.{apostrophe, backslash, quotation_mark}
+use Rattle.saphyr_input.specs.Classes.{is_blank, is_break, is_breakz}
+use Rattle.saphyr_input.specs.Places.{is_document_indicator}
+use Rattle.saphyr_scalar.specs.declared.scalar.position.Marker.{Marker}
+use Rattle.scalar_values.specs.declared.folding.Item.{Item}
+use Rattle.scalar_values.specs.declared.folding.Item.TheVariants.{Raw, Escaped, EscapedBreak}
+use Rattle.scalar_values.specs.declared.flow.Quote.{Quote}
+use Rattle.scalar_values.specs.declared.flow.Quote.TheVariants.{Single, Double}
+use Rattle.saphyr_scalar.specs.Views.Cursor.{◌>>=◌, along, next_line}
+use Rattle.scalar_values.specs.Flow as flow
+use Rattle.saphyr_scalar.specs.Passing.{IsPassed, nothing, character, line_break}
+use Rattle.saphyr_scalar.specs.Steps.Quoted.{is_literal, with_front, mid_line, QuotedGap, on_line, over_lines, no_gap, is_left, quoted_line, end_gap, escaped_gap, break_len, is_closing, escaped_character, inner_text, inner_text_at}
+use Rattle.saphyr_scalar.specs.Spelling.Quoted as quotes
+use Rattle.saphyr_scalar.proofs.Moving.{along_more}
+use Rattle.saphyr_scalar.proofs.Quoted.Inside.{quoted_behind_gap, behind_no_gap, word_from, IsQuotedInk, content_of, stands}
+use Rattle.saphyr_scalar.proofs.Quoted.Parts.{at_escape, at_two_quotes}
+use Rattle.saphyr_scalar.proofs.Quoted.Gaps.{at_escaped_break, at_closing}
+use Rattle.saphyr_scalar.proofs.Quoted.Spellings.{escape_content}
+use Rattle.saphyr_scalar.proofs.Quoted.GapBytes.{gap_bytes, gap_front, closed_bytes, raw_bytes, escaped_bytes, escaped_break_bytes}
+use Rattle.saphyr_input.proofs.Basics.Characters.{ink_no_space}
+use Rattle.saphyr_scalar.proofs.Given.{text_given_at}
+use Rattle.scalar_laws.proofs.Quoted.IndentedLines.{Indented, GapFits, right_of}
+
+-- What was read of a spelled text.
+pub record Read (q : Quote) (indent : ℕ) (start : Marker) (gap : QuotedGap) (m : Marker) (t : List ℕ)
+    (items : List Item)
+    (x : List ℕ) : Type 0 where
+  pub mark : Marker
+  pub passed : IsPassed m t mark x
+  pub is : inner_text q indent start gap 0 m t ≡ Ok (gap_bytes gap items, mid_line mark x)
+
+-- a word, or the closing quote
+pub record WordRead (q : Quote) (indent : ℕ) (start m : Marker) (t : List ℕ) (items : List Item) (x : List ℕ)
+    : Type 0 where
+  pub first : ℕ
+  pub others : List ℕ
+  pub cut : t ≡ first ∷ others
+  pub content : IsQuotedInk first
+  pub text : List ℕ
+  pub mark : Marker
+  pub passed : IsPassed m t mark x
+  pub is : inner_text q indent start no_gap 0 m t ≡ Ok (text, mid_line mark x)
+  pub bytes : (gap : QuotedGap) → gap_front gap ++ text ≡ gap_bytes gap items
+
+ends_gap : (indent : ℕ) (start : Marker) (gap : QuotedGap) (m : Marker) (c : ℕ) (cs : List ℕ) → IsQuotedInk c
+    → GapFits indent gap m (c ∷ cs) → end_gap indent start gap (mid_line m (c ∷ cs)) ≡ Ok (gap_front gap)
+unfolding end_gap quoted_line
+ends_gap indent start (on_line bytes) m c cs is fits = rw is.nul refl
+ends_gap indent start (over_lines escaped n) m c cs is fits =
+    let right = right_of indent m c cs (ink_no_space c is.blank) is.break fits in
+    let left : is_left indent m ≡ false = not_left m.col right in
+    let marker : ((m.col == 0) && is_document_indicator (c ∷ cs)) ≡ false = no_marker (m.col == 0) refl in
+    rw (marker, is.nul, left) refl
+  where
+    not_left : (col : ℕ) → indent ≤ col → nat_lt col indent ≡ false
+    not_left col h = grind (arith, nat_tests)
+
+    zero_is : (col : ℕ) → nat_eq col 0 ≡ true → col ≡ 0
+    zero_is col h = grind (arith, nat_tests)
+
+    no_marker : (b : Bool) → (m.col == 0) ≡ b → (b && is_document_indicator (c ∷ cs)) ≡ false
+    no_marker true h = fits.marker (zero_is m.col h)
+    no_marker false h = refl
+
+pub with_gap : (q : Quote) (indent : ℕ) (start : Marker) (gap : QuotedGap) (m : Marker) (t : List ℕ) (items : List Item)
+    (x : List ℕ) → GapFits indent gap m t → WordRead q indent start m t items x → Read q indent start gap m t items x
+with_gap q indent start gap m t items x fits w =
+    let c = w.first in
+    let cs = w.others in
+    let fits_here : GapFits indent gap m (c ∷ cs) = subst (λ (l : List ℕ). GapFits indent gap m l) w.cut fits in
+    let word : inner_text q indent start no_gap 0 m (c ∷ cs) ≡ text_given_at w.text w.mark x =
+    ap (inner_text q indent start no_gap 0 m) (sym w.cut) ∙ w.is in
+    record {
+      mark = w.mark;
+      passed = w.passed;
+      is = ap (inner_text q indent start gap 0 m) w.cut
+          ∙ quoted_behind_gap q indent start gap m c cs w.content.blank w.content.break
+          ∙ ap (λ r. r >>= λ text. with_front text (word_from q indent start m c cs))
+          (ends_gap indent start gap m c cs w.content fits_here)
+          ∙ ap (with_front (gap_front gap))
+          (sym (behind_no_gap q indent start m c cs w.content.blank w.content.break w.content.nul) ∙ word)
+          ∙ ap (λ b. text_given_at b w.mark x) (w.bytes gap);
+    }
+
+pub mark_content : (q : Quote) → IsQuotedInk (flow.mark q)
+mark_content Single = record { blank = refl; break = refl; nul = refl }
+mark_content Double = record { blank = refl; break = refl; nul = refl }
+
+pub closed_read : (q : Quote) (indent : ℕ) (start m : Marker) (x : List ℕ) → IsTrue (is_closing q (flow.mark q ∷ x))
+    → WordRead q indent start m (flow.mark q ∷ x) [] x
+closed_read q indent start m x h = record {
+  first = flow.mark q;
+  others = x;
+  cut = refl;
+  content = mark_content q;
+  text = [];
+  mark = along m 1;
+  passed = character m (flow.mark q) x (along m 1) x (mark_content q).break (nothing (along m 1) x);
+  is = at_closing q indent start m x h;
+  bytes = closed_bytes;
+}
+
+pub record Itself (q : Quote) (c : ℕ) : Type 0 where
+  pub content : is_blank c ≡ false → IsQuotedInk c
+  pub literal : is_blank c ≡ false → is_literal q c ≡ true
+
+pub itself_of : (q : Quote) (c : ℕ) → IsTrue (quotes.stands_for_itself q c) → Itself q c
+unfolding is_literal
+itself_of q c h = record {
+  content = λ b. content_of c (by_cases (is_blank c) (is_breakz c) (flow.is_special q c) h b).0;
+  literal = λ b. (by_cases (is_blank c) (is_breakz c) (flow.is_special q c) h b).1;
+}
+  where
+    by_cases : (a b d : Bool) → (not b && not d) ≡ true → a ≡ false
+        → ((a || b) ≡ false) × ((not (a || b) && not d) ≡ true)
+    by_cases true b d h other = absurd (cc)
+    by_cases false false false h other = (refl, refl)
+    by_cases false true d h other = absurd (cc)
+    by_cases false false true h other = absurd (cc)
+
+pub literal_read : (q : Quote) (indent : ℕ) (start m : Marker) (c : ℕ) (t : List ℕ) (items : List Item) (x : List ℕ)
+    → IsQuotedInk c → is_literal q c ≡ true → Read q indent start no_gap (along m 1) t items x
+    → WordRead q indent start m (c ∷ t) (Raw c ∷ items) x
+literal_read q indent start m c t items x content h r = record {
+  first = c;
+  others = t;
+  cut = refl;
+  content = content;
+  text = encode_utf8 c ++ gap_bytes no_gap items;
+  mark = r.mark;
+  passed = character m c t r.mark x content.break r.passed;
+  is = stands q indent start m c t h ∙ ap (with_front (encode_utf8 c)) r.is;
+  bytes = λ gap. raw_bytes gap c items;
+}
+
+pub two_quotes_read : (indent : ℕ) (start m : Marker) (t : List ℕ) (items : List Item) (x : List ℕ)
+    → Read Single indent start no_gap (along m 2) t items x
+    → WordRead Single indent start m (apostrophe ∷ apostrophe ∷ t) (Raw apostrophe ∷ items) x
+two_quotes_read indent start m t items x r = record {
+  first = 39;
+  others = 39 ∷ t;
+  cut = refl;
+  content = mark_content Single;
+  text = encode_utf8 39 ++ gap_bytes no_gap items;
+  mark = r.mark;
+  passed = character m 39 (39 ∷ t) r.mark x refl
+      (character (along m 1) 39 t r.mark x refl
+      (subst (λ (k : Marker). IsPassed k t r.mark x) (sym (along_more m 1 1 2 refl)) r.passed));
+  is = at_two_quotes indent start m t ∙ ap (with_front (encode_utf8 39)) r.is;
+  bytes = λ gap. raw_bytes gap 39 items;
+}
+
+-- an escape, and what is read behind it
+pub escape_read : (indent : ℕ) (start m : Marker) (e c : ℕ) (t : List ℕ) (items : List Item) (x rest : List ℕ) (k : ℕ)
+    → is_break e ≡ false → escaped_character start (mid_line m (backslash ∷ e ∷ t)) ≡ Ok (c, mid_line (along m k) rest)
+    → (r : Read Double indent start no_gap (along m k) rest items x) → IsPassed m (backslash ∷ e ∷ t) r.mark x
+    → WordRead Double indent start m (backslash ∷ e ∷ t) (Escaped c ∷ items) x
+escape_read indent start m e c t items x rest k no_break h r passed = record {
+  first = 92;
+  others = e ∷ t;
+  cut = refl;
+  content = escape_content;
+  text = encode_utf8 c ++ gap_bytes no_gap items;
+  mark = r.mark;
+  passed = passed;
+  is = at_escape indent start m (e ∷ t) no_break
+      ∙ ap (λ y. y >>= λ z. with_front (encode_utf8 z.0) (inner_text_at Double indent start no_gap z.1)) h
+      ∙ ap (with_front (encode_utf8 c)) r.is;
+  bytes = λ gap. escaped_bytes gap c items;
+}
+
+pub escaped_break_read : (indent : ℕ) (start m : Marker) (t : List ℕ) (items : List Item) (x : List ℕ)
+    → is_break (slice_index t 0) ≡ true
+    → (r : Read Double indent start (over_lines true 0) (next_line (along m 1) (break_len t)) (drop (break_len t) t)
+    items x)
+    → inner_text Double indent start (escaped_gap Double (slice_index (drop (break_len t) t) 0)) 0
+    (next_line (along m 1) (break_len t)) (drop (break_len t) t)
+    ≡ Ok (gap_bytes (over_lines true 0) items, mid_line r.mark x)
+    → WordRead Double indent start m (backslash ∷ t) (EscapedBreak ∷ items) x
+escaped_break_read indent start m t items x h r same = record {
+  first = 92;
+  others = t;
+  cut = refl;
+  content = escape_content;
+  text = gap_bytes (over_lines true 0) items;
+  mark = r.mark;
+  passed = character m 92 t r.mark x refl (line_break (along m 1) t r.mark x h r.passed);
+  is = at_escaped_break indent start m t h ∙ same;
+  bytes = λ gap. escaped_break_bytes gap items;
+}
+
+-- right behind an escaped break the closing quote is read as elsewhere on its line
+pub same_at_quote : (indent : ℕ) (start m : Marker) (t : List ℕ) → Indented indent m t
+    → inner_text Double indent start (escaped_gap Double (slice_index t 0)) 0 m t
+    ≡ inner_text Double indent start (over_lines true 0) 0 m t
+same_at_quote indent start m [] fits = refl
+same_at_quote indent start m (c ∷ cs) fits = by_test (c == 34) refl
+  where
+    number : (c : ℕ) → nat_eq c 34 ≡ true → 34 ≡ c
+    number c h = grind (arith, nat_tests)
+
+    quote : Indented indent m (quotation_mark ∷ cs)
+        → inner_text Double indent start no_gap 0 m (quotation_mark ∷ cs)
+        ≡ inner_text Double indent start (over_lines true 0) 0 m
+        (quotation_mark ∷ cs)
+    quote fits =
+        at_closing Double indent start m cs refl
+        ∙ sym (quoted_behind_gap Double indent start (over_lines true 0) m 34 cs refl refl
+        ∙ ap (λ r. r >>= λ text. with_front text (word_from Double indent start m 34 cs))
+        (ends_gap indent start (over_lines true 0) m 34 cs (mark_content Double) fits)
+        ∙ ap (with_front []) (sym (behind_no_gap Double indent start m 34 cs refl refl refl)
+        ∙ at_closing Double indent start m cs refl))
+
+    by_test : (b : Bool) → (c == quotation_mark) ≡ b
+        → inner_text Double indent start (cond b no_gap (over_lines true 0)) 0 m (c ∷ cs)
+        ≡ inner_text Double indent start (over_lines true 0) 0 m (c ∷ cs)
+    by_test true h = subst (λ (k : ℕ). Indented indent m (k ∷ cs)
+        → inner_text Double indent start no_gap 0 m (k ∷ cs) ≡ inner_text Double indent start (over_lines true 0) 0 m
+        (k ∷ cs))
+        (number c h) quote fits
+    by_test false h = refl

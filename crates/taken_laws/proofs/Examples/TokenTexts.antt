@@ -1,0 +1,341 @@
+-- Tokens of small texts, a piece for each: what stands before a token, and the token with what stands behind it.
+use Rattle.std.proofs.Common.{◌≡◌, ℕ, ◌<◌, ◌≤◌, Bool, true, false, List, [], ◌∷◌, ◌++◌, length, slice_index, None}
+use Rattle.std.proofs.Common.{inl, inr, refl, sym, arith, codes, ap, IsTrue, IsFalse}
+use Rattle.std.specs.Prelude.{encode_utf8_all}
+use Rattle.saphyr_input.specs.Indicators.{ampersand, apostrophe, asterisk, colon, comma, hyphen, left_brace, left_bracket, quotation_mark, right_brace, right_bracket}
+use Rattle.saphyr_input.specs.Breaks.{normalized}
+use Rattle.saphyr_input.specs.Classes.{is_break, is_breakz, is_anchor_char, is_one_of, line_feed, space}
+use Rattle.saphyr_input.specs.Places.{is_blank_or_break, is_document_indicator, is_document_start, is_document_end}
+use Rattle.scalar_values.specs.declared.flow.Quote.{Quote}
+use Rattle.scalar_values.specs.declared.flow.Quote.TheVariants.{Single, Double}
+use Rattle.scalar_values.specs.Flow.{mark, raw_item, plain_value}
+use Rattle.scalar_values.specs.Folding.{folded}
+use Rattle.saphyr_scalar.specs.declared.scalar.position.Marker.{Marker}
+use Rattle.saphyr_scalar.specs.declared.scalar.position.Span.{Span}
+use Rattle.saphyr_scalar.specs.Views.Cursor.{Cursor, along, next_line}
+use Rattle.saphyr_scalar.specs.Passing as passing
+use Rattle.saphyr_scalar.specs.Passing.{IsPassed}
+use Rattle.saphyr_scalar.specs.Reading.Plain.{ends_piece, end_of_text}
+use Rattle.saphyr_scalar.specs.Spelling.Tag.{IsTagText}
+use Rattle.saphyr_scalar.specs.Spelling.Directive.{IsLineTail, IsReadTagDirective}
+use Rattle.saphyr_scalar.specs.Spelling.Quoted.{stands_for_itself, closed, itself}
+use Rattle.saphyr_scalar.specs.Spelling.ClosingQuote.{is_closing}
+use Rattle.saphyr_scanner.specs.Grammar.Forest.{Plain, SingleQuoted, DoubleQuoted}
+use Rattle.saphyr_scanner.specs.Grammar.Tokens as tokens
+use Rattle.saphyr_scanner.specs.Grammar.Tokens.{Kind}
+use Rattle.saphyr_scanner.specs.Views.Tokens.{Piece}
+use Rattle.saphyr_scanner.specs.TokensTaken as taken
+use Rattle.saphyr_scanner.specs.TokensTaken.{IsPassedOver, LiesOnLine, IsFlowIndicator, IsNameToken, IsQuotedToken}
+use Rattle.saphyr_scanner.specs.TokensTaken.{IsSpan}
+use Rattle.saphyr_scanner.specs.TokensTaken.{past_mark, may_begin_plain, begins_text, IsToken, open_behind}
+use Rattle.saphyr_scanner.specs.TokensTaken.{least_column_in}
+use Rattle.saphyr_scanner.specs.TokensTaken.{AreTokens, AreTakenFrom}
+use Rattle.taken_laws.specs.Examples.TakenTexts.{marker_at}
+
+abbrev pub cursor_here : List ℕ → Marker → Cursor
+cursor_here rest m = record { rest = rest; mark = m; blank_so_far = true }
+
+abbrev pub span_from_to : Marker → Marker → Span
+span_from_to start end = record { start = start; end = end }
+
+-- ## Tokens in a row
+
+-- from m, where t stands, to n, where u stands
+pub record Tokens (columns : List ℕ) (ps : List Piece) (m : Marker) (t : List ℕ) (n : Marker) (u : List ℕ) :
+    Type 0 where
+  pub holds : AreTokens columns ps (cursor_here t m) (cursor_here u n)
+
+pub record TokenText (least : ℕ) (kind : Kind) (span : Span) (m : Marker) (t : List ℕ) (n : Marker) (u : List ℕ) :
+    Type 0 where
+  pub holds : IsToken least kind span (cursor_here t m) (cursor_here u n)
+
+pub no_token : {columns : List ℕ} {m : Marker} {t : List ℕ} → Tokens columns [] m t m t
+no_token = record { holds = refl }
+
+-- behind what is passed over
+pub behind : {columns t v w u : List ℕ} {p : Piece} {ps : List Piece} {m a b n : Marker} → IsPassedOver m t a v
+    → TokenText (least_column_in columns) p.kind p.span a v b w
+    → Tokens (open_behind p.kind p.span.start.col columns) ps b w n u → Tokens columns (p ∷ ps) m t n u
+behind {v = v} {w} {a = a} {b} o h r = record { holds = (cursor_here v a, cursor_here w b, o, h.holds, r.holds) }
+
+pub here : {columns t w u : List ℕ} {p : Piece} {ps : List Piece} {m b n : Marker}
+    → TokenText (least_column_in columns) p.kind p.span m t b w
+    → Tokens (open_behind p.kind p.span.start.col columns) ps b w n u → Tokens columns (p ∷ ps) m t n u
+here h r = behind (taken.nothing _ _) h r
+
+pub behind_blank : {columns t w u : List ℕ} {p : Piece} {ps : List Piece} {m b n : Marker}
+    → TokenText (least_column_in columns) p.kind p.span (along m 1) t b w
+    → Tokens (open_behind p.kind p.span.start.col columns) ps b w n u → Tokens columns (p ∷ ps) m (space ∷ t) n u
+behind_blank h r = behind (taken.blank _ _ _ _ _ refl (taken.nothing _ _)) h r
+
+pub behind_feed : {columns t w u : List ℕ} {p : Piece} {ps : List Piece} {m b n : Marker}
+    → TokenText (least_column_in columns) p.kind p.span (next_line m 1) t b w
+    → Tokens (open_behind p.kind p.span.start.col columns) ps b w n u → Tokens columns (p ∷ ps) m (line_feed ∷ t) n u
+behind_feed h r = behind (taken.line_break _ _ _ _ refl (taken.nothing _ _)) h r
+
+-- all of a text
+pub whole : {pieces : List Piece} {text : List ℕ} {n : Marker} → Tokens [] pieces (marker_at 0 1 0) text n []
+    → AreTakenFrom text (record { pieces = pieces; refusal = None })
+whole {n = n} h = (cursor_here [] n, h.holds, refl)
+
+-- ## Tokens without a text
+
+pub stream_start_taken : {indent : ℕ} {m : Marker} {t : List ℕ}
+    → TokenText indent tokens.StreamStart (span_from_to m m) m t m t
+stream_start_taken = record { holds = (refl, inl refl, refl) }
+
+pub stream_end_taken : {indent : ℕ} {m : Marker} → TokenText indent tokens.StreamEnd (span_from_to m m) m [] m []
+stream_end_taken = record { holds = (refl, (refl, inl refl, refl)) }
+
+-- behind a last line that no break ends
+pub stream_end_behind_taken : {indent : ℕ} {m : Marker}
+    → TokenText indent tokens.StreamEnd (span_from_to (next_line m 0) (next_line m 0)) m [] m []
+stream_end_behind_taken = record { holds = (refl, (refl, inr (refl, refl), refl)) }
+
+pub sequence_start_taken : {indent : ℕ} {m : Marker} {t : List ℕ} → IsTrue (begins_text (slice_index t 0))
+    → TokenText indent tokens.BlockSequenceStart (span_from_to m m) m t m t
+sequence_start_taken b = record { holds = (refl, refl, refl, b) }
+
+pub mapping_start_taken : {indent : ℕ} {m : Marker} {t : List ℕ} → IsTrue (begins_text (slice_index t 0))
+    → TokenText indent tokens.BlockMappingStart (span_from_to m m) m t m t
+mapping_start_taken b = record { holds = (refl, refl, refl, b) }
+
+pub block_end_taken : {indent : ℕ} {m : Marker} {t : List ℕ}
+    → TokenText indent tokens.BlockEnd (span_from_to m m) m t m t
+block_end_taken = record { holds = (refl, inl refl, refl) }
+
+pub block_end_behind_taken : {indent : ℕ} {m : Marker}
+    → TokenText indent tokens.BlockEnd (span_from_to (next_line m 0) (next_line m 0)) m [] m []
+block_end_behind_taken = record { holds = (refl, inr (refl, refl), refl) }
+
+pub key_taken : {indent : ℕ} {m : Marker} {t : List ℕ} → TokenText indent tokens.Key (span_from_to m m) m t m t
+key_taken = record { holds = inr (refl, inl refl, refl) }
+
+-- ## Indicators
+
+-- n characters of blanks and a comment stand first
+pub record Tail (t : List ℕ) (n : ℕ) : Type 0 where
+  pub holds : (tail behind : List ℕ) × IsLineTail tail × (t ≡ tail ++ behind) × (length tail ≡ n)
+
+pub no_tail : {t : List ℕ} → Tail t 0
+no_tail {t} = record { holds = ([], t, ([], [], tt, inl refl, refl), refl, refl) }
+
+pub blank : {t : List ℕ} → Tail (space ∷ t) 1
+blank {t} = record { holds = (codes " ", t, (codes " ", [], (refl, tt), inl refl, refl), refl, refl) }
+
+pub comment_c : {t : List ℕ} → Tail (codes " # c" ++ t) 4
+comment_c {t} = record {
+  holds = (
+    codes " # c",
+    t,
+    (codes " ", codes "# c", (refl, tt), inr (codes " c", (λ e. cc), (refl, (refl, tt)), refl), refl),
+    refl,
+    refl,
+  );
+}
+
+lies : {t : List ℕ} {n : ℕ} (m : Marker) → Tail t n → LiesOnLine (cursor_here t m) (along m n)
+lies m h = let (tail, behind, is, e, l) = h.holds in (tail, behind, is, e, ap (λ k. along m k) (sym l))
+
+indicator_taken : (c n : ℕ) (m : Marker) (t : List ℕ) → Tail t n
+    → IsFlowIndicator c (span_from_to m (along (along m 1) n)) (cursor_here (c ∷ t) m) (cursor_here t (along m 1))
+indicator_taken c n m t h = ((refl, refl), refl, lies (along m 1) h)
+
+pub open_bracket_taken : {indent n : ℕ} {m : Marker} {t : List ℕ} → Tail t n
+    → TokenText indent tokens.FlowSequenceStart (span_from_to m (along (along m 1) n)) m (left_bracket ∷ t) (along m 1)
+    t
+open_bracket_taken {n = n} {m} {t} h = record { holds = indicator_taken 91 n m t h }
+
+pub close_bracket_taken : {indent n : ℕ} {m : Marker} {t : List ℕ} → Tail t n
+    → TokenText indent tokens.FlowSequenceEnd (span_from_to m (along (along m 1) n)) m (right_bracket ∷ t) (along m 1) t
+close_bracket_taken {n = n} {m} {t} h = record { holds = indicator_taken 93 n m t h }
+
+pub open_brace_taken : {indent n : ℕ} {m : Marker} {t : List ℕ} → Tail t n
+    → TokenText indent tokens.FlowMappingStart (span_from_to m (along (along m 1) n)) m (left_brace ∷ t) (along m 1) t
+open_brace_taken {n = n} {m} {t} h = record { holds = inl (indicator_taken 123 n m t h) }
+
+pub close_brace_taken : {indent n : ℕ} {m : Marker} {t : List ℕ} → Tail t n
+    → TokenText indent tokens.FlowMappingEnd (span_from_to m (along (along m 1) n)) m (right_brace ∷ t) (along m 1) t
+close_brace_taken {n = n} {m} {t} h = record { holds = inl (indicator_taken 125 n m t h) }
+
+pub comma_taken : {indent n : ℕ} {m : Marker} {t : List ℕ} → Tail t n
+    → TokenText indent tokens.FlowEntry (span_from_to m (along (along m 1) n)) m (comma ∷ t) (along m 1) t
+comma_taken {n = n} {m} {t} h = record { holds = indicator_taken 44 n m t h }
+
+-- a `-` and a blank
+pub dash_taken : {indent : ℕ} {m : Marker} {t : List ℕ} → TokenText indent tokens.BlockEntry
+    (span_from_to (along (along m 1) 1) (along (along m 1) 1)) m (hyphen ∷ space ∷ t) (along m 1) (space ∷ t)
+dash_taken {m = m} = record { holds = ((refl, refl), refl, lies (along m 1) blank, refl) }
+
+pub colon_taken : {indent : ℕ} {m : Marker} {others : List ℕ}
+    → TokenText indent tokens.Value (span_from_to m m) m (colon ∷ others) (along m 1) others
+colon_taken = record { holds = ((refl, refl), refl, refl) }
+
+-- ## Names, of one character
+
+name_taken : (indicator c : ℕ) (bytes : List ℕ) (m : Marker) (t : List ℕ) → IsTrue (is_anchor_char c)
+    → bytes ≡ encode_utf8_all (c ∷ []) → IsFalse (is_anchor_char (slice_index t 0))
+    → IsNameToken indicator bytes (span_from_to m (along m 2)) (cursor_here (indicator ∷ c ∷ t) m)
+    (cursor_here t (along m 2))
+name_taken indicator c bytes m t h e n =
+    (c ∷ [], ((λ f. cc), (h, tt)), e, record { is = refl; start = refl; end = refl; goes_on = refl }, n)
+
+pub anchor_taken : {indent : ℕ} {m : Marker} {bytes t : List ℕ} (c : ℕ) → IsTrue (is_anchor_char c)
+    → bytes ≡ encode_utf8_all (c ∷ []) → IsFalse (is_anchor_char (slice_index t 0))
+    → TokenText indent (tokens.Anchor bytes) (span_from_to m (along m 2)) m (ampersand ∷ c ∷ t) (along m 2) t
+anchor_taken {m = m} {bytes} {t} c h e n = record { holds = name_taken 38 c bytes m t h e n }
+
+pub alias_taken : {indent : ℕ} {m : Marker} {bytes t : List ℕ} (c : ℕ) → IsTrue (is_anchor_char c)
+    → bytes ≡ encode_utf8_all (c ∷ []) → IsFalse (is_anchor_char (slice_index t 0))
+    → TokenText indent (tokens.Alias bytes) (span_from_to m (along m 2)) m (asterisk ∷ c ∷ t) (along m 2) t
+alias_taken {m = m} {bytes} {t} c h e n = record { holds = name_taken 42 c bytes m t h e n }
+
+-- ## Scalars
+
+-- behind three characters
+abbrev pub third : Marker → Marker
+third m = along (along (along m 1) 1) 1
+
+-- one character in quotes
+in_quotes_taken : (quote : Quote) (c n : ℕ) (bytes : List ℕ) (m : Marker) (t : List ℕ) → Tail t n
+    → IsTrue (stands_for_itself quote c) → IsFalse (is_break c) → IsFalse (is_break (mark quote))
+    → IsTrue (is_closing quote (mark quote ∷ t)) → bytes ≡ encode_utf8_all (folded (raw_item c ∷ []))
+    → IsQuotedToken quote bytes (span_from_to m (along (third m) n)) (cursor_here (mark quote ∷ c ∷ mark quote ∷ t) m)
+    (cursor_here t (third m))
+in_quotes_taken quote c n bytes m t h s b q d e = (
+  raw_item c ∷ [],
+  (c ∷ mark quote ∷ t, refl, itself quote c (mark quote ∷ t) [] t s (closed quote t d)),
+  e,
+  passing.character _ _ _ _ _ q (passing.character _ _ _ _ _ b
+      (passing.character _ _ _ _ _ q (passing.nothing _ _))),
+  refl,
+  lies (third m) h,
+  tt,
+)
+
+pub single_quoted_taken : {indent n : ℕ} {bytes t : List ℕ} {m : Marker} (c : ℕ) → Tail t n
+    → IsTrue (stands_for_itself Single c) → IsFalse (is_break c) → IsTrue (is_closing Single (apostrophe ∷ t))
+    → bytes ≡ encode_utf8_all (folded (raw_item c ∷ []))
+    → TokenText indent (tokens.Scalar SingleQuoted bytes) (span_from_to m (along (third m) n)) m
+    (apostrophe ∷ c ∷ apostrophe ∷ t)
+    (third m)
+    t
+single_quoted_taken {n = n} {bytes} {t} {m} c h s b d e =
+    record { holds = in_quotes_taken Single c n bytes m t h s b refl d e }
+
+pub double_quoted_taken : {indent n : ℕ} {bytes t : List ℕ} {m : Marker} (c : ℕ) → Tail t n
+    → IsTrue (stands_for_itself Double c) → IsFalse (is_break c) → bytes ≡ encode_utf8_all (folded (raw_item c ∷ []))
+    → TokenText indent (tokens.Scalar DoubleQuoted bytes) (span_from_to m (along (third m) n)) m
+    (quotation_mark ∷ c ∷ quotation_mark ∷ t)
+    (third m)
+    t
+double_quoted_taken {n = n} {bytes} {t} {m} c h s b e =
+    record { holds = in_quotes_taken Double c n bytes m t h s b refl refl e }
+
+-- a character that may stand alone as a plain scalar
+pub record IsLetter (c : ℕ) : Type 0 where
+  pub begins : IsTrue (may_begin_plain c)
+  pub is_ink : IsFalse (is_blank_or_break c)
+  pub no_indicator : IsFalse (is_one_of (codes "-?:") c)
+  pub above : 65 ≤ c
+  pub below : c < 128
+
+pub letter_a : IsLetter 97
+letter_a = record { begins = refl; is_ink = refl; no_indicator = refl; above = omega arith; below = omega arith }
+
+pub letter_b : IsLetter 98
+letter_b = record { begins = refl; is_ink = refl; no_indicator = refl; above = omega arith; below = omega arith }
+
+pub letter_c : IsLetter 99
+letter_c = record { begins = refl; is_ink = refl; no_indicator = refl; above = omega arith; below = omega arith }
+
+pub letter_v : IsLetter 118
+letter_v = record { begins = refl; is_ink = refl; no_indicator = refl; above = omega arith; below = omega arith }
+
+absent : (a : Bool) → a ≡ false → IsTrue a → (P : Type 0) → P
+absent a e h P = absurd (let f : false ≡ true = rw e at h in cc)
+
+pub plain_taken : {indent c : ℕ} {m : Marker} {bytes t : List ℕ} → IsLetter c → IsFalse (is_document_indicator (c ∷ t))
+    → IsTrue (ends_piece (slice_index t 0)) → encode_utf8_all (plain_value (normalized (c ∷ []))) ≡ bytes
+    → end_of_text m (c ∷ []) ≡ along m 1
+    → TokenText indent (tokens.Scalar Plain bytes) (span_from_to m (along m 1)) m (c ∷ t) (along m 1) t
+plain_taken {c = c} {t = t} l d f v e = record {
+  holds = record {
+    start = refl;
+    begins = l.begins;
+    is_ink = l.is_ink;
+    no_indicator = λ x. absent (is_one_of (codes "-?:") c) l.no_indicator x _;
+    reading = record {
+      piece = c ∷ [];
+      white = [];
+      is = refl;
+      spelled = (
+        (λ x. omega (arith, l.above)),
+        (λ x. omega (arith, l.below)),
+        (λ x y. omega (arith, l.above)),
+        (λ x. absurd (let z : ⊥ = omega (arith, l.above) in z)),
+        (λ x. d),
+        tt,
+      );
+      front = [];
+      last = c;
+      closes = refl;
+      is_ink = l.is_ink;
+      follows = f;
+      value = v;
+      ends = e;
+      are_white = tt;
+      behind = refl;
+    };
+    uncut = inl refl;
+  };
+}
+
+-- ## What is passed
+
+pub char : {m n : Marker} {c : ℕ} {t u : List ℕ} → IsFalse (is_break c) → IsPassed (along m 1) t n u
+    → IsPassed m (c ∷ t) n u
+char h p = passing.character _ _ _ _ _ h p
+
+pub feed : {m n : Marker} {t u : List ℕ} → IsPassed (next_line m 1) t n u → IsPassed m (line_feed ∷ t) n u
+feed p = passing.line_break _ _ _ _ refl p
+
+-- ## Tokens that are their spans
+
+pub span_on_line : {text u : List ℕ} {m : Marker}
+    → IsSpan (span_from_to m (along m (length text))) text (cursor_here (text ++ u) m)
+    (cursor_here u (along m (length text)))
+span_on_line = record { is = refl; start = refl; end = refl; goes_on = refl }
+
+pub document_start_taken : {indent : ℕ} {m : Marker} {t : List ℕ} → m.col ≡ 0
+    → IsTrue (is_document_start (codes "---" ++ t))
+    → TokenText indent tokens.DocumentStart (span_from_to m (along m 3)) m (codes "---" ++ t) (along m 3) t
+document_start_taken c h = record { holds = (c, h, span_on_line) }
+
+pub document_end_taken : {indent : ℕ} {m : Marker} {t : List ℕ} → m.col ≡ 0
+    → IsTrue (is_document_end (codes "..." ++ t))
+    → TokenText indent tokens.DocumentEnd (span_from_to m (along m 3)) m (codes "..." ++ t) (along m 3) t
+document_end_taken c h = record { holds = (c, h, span_on_line) }
+
+pub byte_order_mark_taken : {indent : ℕ} {m : Marker} {t : List ℕ} → m.col ≡ 0
+    → TokenText indent tokens.ByteOrderMark (span_from_to m (past_mark m)) m (0xFEFF ∷ t) (past_mark m) t
+byte_order_mark_taken c = record {
+  holds = record { is = refl; at_start = c; start = refl; end = refl; goes_on = refl };
+}
+
+-- a handle and a prefix, with nothing behind them on their line
+pub tag_directive_taken : {indent : ℕ} {m : Marker} {front back t : List ℕ} (handle prefix text : List ℕ)
+    → IsReadTagDirective handle prefix text → front ≡ encode_utf8_all handle → back ≡ encode_utf8_all prefix → m.col ≡ 0
+    → IsTrue (is_breakz (slice_index t 0))
+    → TokenText indent (tokens.TagDirective front back) (span_from_to m (along m (length text))) m (text ++ t)
+    (along m (length text)) t
+tag_directive_taken {t = t} handle prefix text h e f c b = record {
+  holds = (text, [], t, c, (handle, prefix, h, e, f), span_on_line, ([], [], tt, inl refl, refl), refl, b);
+}
+
+pub tag_taken : {indent : ℕ} {m : Marker} {front back t : List ℕ} (text handle suffix : List ℕ)
+    → IsTagText text handle suffix
+    → front ≡ encode_utf8_all handle → back ≡ encode_utf8_all suffix
+    → TokenText indent (tokens.Tag front back) (span_from_to m (along m (length text))) m (text ++ t)
+    (along m (length text)) t
+tag_taken text handle suffix h e f = record { holds = (text, handle, suffix, h, e, f, span_on_line) }

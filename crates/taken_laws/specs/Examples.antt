@@ -1,0 +1,2 @@
+-- Small texts, with their tokens and places.
+pub mod TakenTexts

@@ -1,0 +1,58 @@
+//! Small texts and the tokens that are taken from them, and those that are not.
+//!
+//! The functions are laws: they do nothing, and their clauses are what is proved.
+#![tactic(auto)]
+
+ghost use Rattle.std.specs.Prelude.{◌≡◌, List, codes, [], ℕ, false, slice_index};
+ghost use Rattle.saphyr_input.specs.Places.{is_blank_or_break};
+ghost use Rattle.saphyr_scalar.specs.Views.Cursor.{Cursor};
+ghost use Rattle.saphyr_scalar.specs.declared.scalar.position.Span.{Span};
+ghost use Rattle.saphyr_scanner.specs.Examples.Forests.{brackets_tokens};
+ghost use Rattle.saphyr_scanner.specs.TokensTaken.{AreTakenFrom, IsPlaceOf, IsPlainToken};
+ghost use Rattle.taken_laws.specs.Examples.TakenTexts as texts;
+
+/// The tokens of `[]`, with their places, are taken from it.
+pub fn takes_tokens()
+    ensures { AreTakenFrom (codes "[]") brackets_tokens }
+{}
+
+/// The tokens of texts in flow style, as a scanner gives them: a mapping with quoted scalars and a
+/// comment, and a sequence with an anchor and its alias.
+pub fn takes_flow()
+    ensures mapping { AreTakenFrom (codes "{'a': \"b\" # c\n}") texts.flow_mapping }
+    ensures alias { AreTakenFrom (codes "[&x a, *x]") texts.alias }
+{}
+
+/// The tokens of texts in block style: a sequence of mappings, a literal scalar, a folded one whose
+/// header gives its indentation, and a sequence with an anchor and its alias.
+pub fn takes_block()
+    ensures mappings { AreTakenFrom (codes "- a: b\n- c:\n") texts.block_mappings }
+    ensures alias { AreTakenFrom (codes "- &a b\n- *a") texts.block_alias }
+    ensures literal { AreTakenFrom (codes "--- |\n a\n") texts.literal }
+    ensures indentation { AreTakenFrom (codes "a: >1-\n  b\n c\n") texts.indentation }
+{}
+
+/// The tokens of streams: a directive with a tag, a byte order mark with the end of a document, and a
+/// text that is refused at its second colon.
+pub fn takes_streams()
+    ensures tag { AreTakenFrom (codes "%TAG !e! t:\n--- !e!u v\n") texts.tag_tokens }
+    ensures byte_order_mark { AreTakenFrom (codes "\u{feff}a\n...\n") texts.byte_order_mark_tokens }
+    ensures refusal { AreTakenFrom (codes "a: b: c") texts.refusal }
+{}
+
+/// What is not taken: `[a]` without the token of its `a`, `a` with the value `b`, `[]` with a bracket
+/// whose span starts behind it, and a block mapping that starts before the blank of its line, from which
+/// an indentation that is given would be counted. No place of a text stands behind its end.
+pub fn takes_no_others()
+    ensures dropped_word { ¬ AreTakenFrom (codes "[a]") texts.dropped_word }
+    ensures other_value { ¬ AreTakenFrom (codes "a") texts.other_value }
+    ensures other_start { ¬ AreTakenFrom (codes "[]") texts.other_start }
+    ensures other_indentation { ¬ AreTakenFrom (codes " a: |1\n   b") texts.other_indentation }
+    ensures place_behind { ¬ IsPlaceOf (codes "a") (texts.marker_at 2 1 2) }
+{}
+
+/// The value of a plain scalar begins with no blank and no break.
+pub fn begins_values_with_ink()
+    ensures { (value : List ℕ) (span : Span) (s t : Cursor) → IsPlainToken value span s t
+        → is_blank_or_break (slice_index value 0) ≡ false }
+{}
