@@ -2,138 +2,152 @@
 
 use crate::ListInput;
 use saphyr_input::input::{Input, SkipTabs};
-use std::alloc::{AllocError, Global};
 use std::process::Abort;
-use std::test::Fail;
 
-// The characters of a text.
-fn characters(alloc: Global, text: &str) -> Result<Vec<char>, AllocError> {
-    text.chars().collect(alloc)
+// Stops the test unless this holds, and names the text that it holds of.
+fn expect(rt: &impl Abort, holds: bool, text: &str) {
+    assert!(rt; holds, "{text:?}");
 }
 
-// Exactly the characters of a text remain.
-fn assert_remains(rt: &impl Abort, mut input: ListInput, text: &str) {
+// Whether exactly the characters of a text remain.
+fn remains(mut input: ListInput, text: &str) -> bool {
     for c in text.chars() {
         input.lookahead(1);
-        assert_eq!(rt; input.peek_opt(), Some(c), "in {text:?}");
+        if input.peek_opt() != Some(c) {
+            return false;
+        }
         input.skip();
     }
     input.lookahead(1);
-    assert_eq!(rt; input.peek_opt(), None, "behind {text:?}");
+    input.peek_opt().is_none()
 }
 
 #[test]
-fn looks_past_the_end(rt: HostRuntime) -> Result<(), Fail> {
-    let two = characters(rt.alloc(), "ab")?;
-    let mut input = ListInput::new(two.as_slice());
-    assert!(rt; input.buf_is_empty());
+fn looks_past_the_end(rt: HostRuntime) {
+    let mut input = ListInput::new(&['a', 'b']);
+    expect(&rt, input.buf_is_empty(), "ab");
     input.lookahead(3);
-    assert_eq!(rt; input.buflen(), 3);
-    assert!(rt; input.next_3_are('a', 'b', '\0'));
-    assert!(rt; input.next_2_are('a', 'b'));
-    assert!(rt; input.nth_char_is(2, '\0'));
+    expect(&rt, input.buflen() == 3, "ab");
+    expect(&rt, input.next_3_are('a', 'b', '\0'), "ab");
+    expect(&rt, input.next_2_are('a', 'b'), "ab");
+    expect(&rt, input.nth_char_is(2, '\0'), "ab");
     let mut empty = ListInput::new(&[]);
     empty.lookahead(2);
-    assert!(rt; empty.next_2_are('\0', '\0'));
-    assert!(rt; empty.next_is_z());
-    assert_eq!(rt; empty.peek_opt(), None);
-    assert_eq!(rt; empty.look_ch(), '\0');
-    Ok(())
+    expect(&rt, empty.next_2_are('\0', '\0'), "");
+    expect(&rt, empty.next_is_z(), "");
+    expect(&rt, empty.peek_opt().is_none(), "");
+    expect(&rt, empty.look_ch() == '\0', "");
 }
 
 #[test]
-fn takes_characters_raw(rt: HostRuntime) -> Result<(), Fail> {
-    let text = characters(rt.alloc(), "é\n")?;
-    let mut input = ListInput::new(text.as_slice());
-    assert_eq!(rt; input.raw_read_non_breakz_ch(), Some('é'));
-    assert!(rt; input.buf_is_empty());
-    assert_eq!(rt; input.raw_read_non_breakz_ch(), None);
-    assert_eq!(rt; input.look_ch(), '\n');
-    Ok(())
+fn takes_characters_raw(rt: HostRuntime) {
+    let mut input = ListInput::new(&['é', '\n']);
+    expect(&rt, input.raw_read_non_breakz_ch() == Some('é'), "é\n");
+    expect(&rt, input.buf_is_empty(), "\n");
+    expect(&rt, input.raw_read_non_breakz_ch().is_none(), "\n");
+    expect(&rt, input.look_ch() == '\n', "\n");
+}
+
+// What is skipped of a text: how many characters, what was met, and what remains.
+type Skipped<'a> = (usize, Result<SkipTabs, &'a str>, &'a str);
+
+fn skips(text: &[char], tabs: SkipTabs, (count, found, rest): Skipped) -> bool {
+    let mut input = ListInput::new(text);
+    let (taken, met) = match tabs {
+        SkipTabs::Yes => input.skip_ws_to_eol(SkipTabs::Yes),
+        _ => input.skip_ws_to_eol(SkipTabs::No),
+    };
+    taken == count && met == found && remains(input, rest)
 }
 
 #[test]
-fn skips_white_space_and_comments(rt: HostRuntime) -> Result<(), Fail> {
+fn skips_white_space_and_comments(rt: HostRuntime) {
     let bare = "comments must be separated from other tokens by whitespace";
-    let cases: [(&str, SkipTabs, usize, Result<SkipTabs, &str>, &str); 4] = [
-        (
-            "\t # x\n",
-            SkipTabs::Yes,
-            5,
-            Ok(SkipTabs::Result(true, true)),
-            "\n",
-        ),
-        (
-            " #\u{FEFF}",
-            SkipTabs::No,
-            2,
-            Ok(SkipTabs::Result(false, true)),
-            "\u{FEFF}",
-        ),
-        ("#x", SkipTabs::Yes, 0, Err(bare), "#x"),
-        (
-            " \tx",
-            SkipTabs::No,
-            1,
-            Ok(SkipTabs::Result(false, true)),
-            "\tx",
-        ),
-    ];
-    for (text, tabs, count, found, rest) in cases {
-        let text = characters(rt.alloc(), text)?;
-        let mut input = ListInput::new(text.as_slice());
-        let taken = match tabs {
-            SkipTabs::Yes => input.skip_ws_to_eol(SkipTabs::Yes),
-            _ => input.skip_ws_to_eol(SkipTabs::No),
-        };
-        assert_eq!(rt; taken.0, count, "before {rest:?}");
-        assert_eq!(rt; taken.1, found, "before {rest:?}");
-        assert_remains(&rt, input, rest);
-    }
-    Ok(())
+    let both = (5, Ok(SkipTabs::Result(true, true)), "\n");
+    expect(
+        &rt,
+        skips(&['\t', ' ', '#', ' ', 'x', '\n'], SkipTabs::Yes, both),
+        "\t # x\n",
+    );
+    let mark = (2, Ok(SkipTabs::Result(false, true)), "\u{FEFF}");
+    expect(
+        &rt,
+        skips(&[' ', '#', '\u{FEFF}'], SkipTabs::No, mark),
+        " #\u{FEFF}",
+    );
+    let refused = (0, Err(bare), "#x");
+    expect(&rt, skips(&['#', 'x'], SkipTabs::Yes, refused), "#x");
+    let tab = (1, Ok(SkipTabs::Result(false, true)), "\tx");
+    expect(&rt, skips(&[' ', '\t', 'x'], SkipTabs::No, tab), " \tx");
+}
+
+// How many characters are a word, blanks, letters, and the rest of a line.
+type Counts = (usize, usize, usize, usize);
+
+// Whether so many are taken in turn, the word and the letters into a text.
+fn takes(text: &[char], out: &mut String, (word, blanks, letters, line): Counts) -> bool {
+    let mut input = ListInput::new(text);
+    matches!(input.fetch_while_is_yaml_non_space(out), Ok(n) if n == word)
+        && input.skip_while_blank() == blanks
+        && matches!(input.fetch_while_is_alpha(out), Ok(n) if n == letters)
+        && input.skip_while_non_breakz() == line
 }
 
 #[test]
-fn takes_runs(rt: HostRuntime) -> Result<(), Fail> {
-    let alloc = rt.alloc();
-    let mut out = String::new(alloc);
-    let text = characters(alloc, "éa b")?;
-    let mut input = ListInput::new(text.as_slice());
-    assert_eq!(rt; input.fetch_while_is_yaml_non_space(&mut out)?, 2);
-    assert_eq!(rt; input.skip_while_blank(), 1);
-    assert_eq!(rt; input.fetch_while_is_alpha(&mut out)?, 1);
-    assert_eq!(rt; input.skip_while_non_breakz(), 0);
-    assert_eq!(rt; out.as_str(), "éab");
-    Ok(())
+fn takes_runs(rt: HostRuntime) {
+    let mut out = String::new(rt.alloc());
+    expect(
+        &rt,
+        takes(&['é', 'a', ' ', 'b'], &mut out, (2, 1, 1, 0)),
+        "éa b",
+    );
+    expect(&rt, out.as_str() == "éab", "éab");
+}
+
+// Whether it is told of a text that it begins with a marker, of a start or an end.
+fn tells_marker(text: &[char], start: bool, end: bool) -> bool {
+    let mut input = ListInput::new(text);
+    input.lookahead(4);
+    input.next_is_document_start() == start
+        && input.next_is_document_end() == end
+        && input.next_is_document_indicator() == (start || end)
 }
 
 #[test]
-fn tells_markers_from_words(rt: HostRuntime) -> Result<(), Fail> {
-    for (text, start, end) in [
-        ("---é", false, false),
-        ("---\n", true, false),
-        ("...", false, true),
-    ] {
-        let text = characters(rt.alloc(), text)?;
-        let mut input = ListInput::new(text.as_slice());
-        input.lookahead(4);
-        assert_eq!(rt; input.next_is_document_start(), start);
-        assert_eq!(rt; input.next_is_document_end(), end);
-        assert_eq!(rt; input.next_is_document_indicator(), start || end);
-    }
-    Ok(())
+fn tells_markers_from_words(rt: HostRuntime) {
+    expect(
+        &rt,
+        tells_marker(&['-', '-', '-', 'é'], false, false),
+        "---é",
+    );
+    expect(
+        &rt,
+        tells_marker(&['-', '-', '-', '\n'], true, false),
+        "---\n",
+    );
+    expect(&rt, tells_marker(&['.', '.', '.'], false, true), "...");
 }
 
 #[test]
-fn tells_classes(rt: HostRuntime) -> Result<(), Fail> {
-    let text = characters(rt.alloc(), ": ,")?;
-    let mut input = ListInput::new(text.as_slice());
+fn tells_classes(rt: HostRuntime) {
+    let mut input = ListInput::new(&[':', ' ', ',']);
     input.lookahead(2);
-    assert!(rt; !input.next_can_be_plain_scalar(false));
-    assert!(rt; input.next_char_is(':'));
-    assert!(rt; !(input.next_is_blank() || input.next_is_break() || input.next_is_breakz()));
-    assert!(rt; !(input.next_is_digit() || input.next_is_alpha() || input.next_is_flow()));
+    expect(&rt, !input.next_can_be_plain_scalar(false), ": ,");
+    expect(&rt, input.next_char_is(':'), ": ,");
+    expect(
+        &rt,
+        !(input.next_is_blank() || input.next_is_break() || input.next_is_breakz()),
+        ": ,",
+    );
+    expect(
+        &rt,
+        !(input.next_is_digit() || input.next_is_alpha() || input.next_is_flow()),
+        ": ,",
+    );
     input.skip();
-    assert!(rt; input.next_is_blank_or_break() && input.next_is_blank_or_breakz());
-    Ok(())
+    expect(
+        &rt,
+        input.next_is_blank_or_break() && input.next_is_blank_or_breakz(),
+        " ,",
+    );
 }

@@ -1,6 +1,7 @@
-//! Texts with each limit on their characters.
-use crate::events::{Item, items_left};
-use saphyr_parser::{Fault, Parser, StrInput};
+//! Texts with limits on their characters.
+use crate::telling::lines_left;
+use list_input::ListInput;
+use saphyr_parser::{BufferedInput, Input, Parser, StrInput, lists_characters};
 use std::alloc::{AllocError, Global};
 use std::test::Fail;
 
@@ -102,36 +103,79 @@ const TEXTS: &[&str] = &[
     "a:\t b",
 ];
 
-// Whether a fault says that the text is too long.
-fn is_too_long(item: &Item<'_>) -> bool {
-    match item {
-        Err(Fault::Scan(error)) => error.info() == "text longer than 4294967295 characters",
-        _ => false,
+// The lines before the one that says that the text is too long, where it is the last. No page states its place.
+fn before_too_long(lines: &str) -> Option<&str> {
+    let (before, place) = lines.split_once("! text longer than 4294967295 characters at ")?;
+    if place.lines().count() == 1 {
+        Some(before)
+    } else {
+        None
     }
 }
 
-// A parser gives the items, or a beginning of them and then that the text is too long.
-fn gives_beginning(parser: Parser<'_, StrInput<'_>>, items: &[Item<'_>]) -> bool {
-    let mut expected = items.iter();
-    let mut is_ended = false;
-    for item in parser {
-        if is_ended {
-            return false;
-        }
-        is_ended = is_too_long(&item);
-        if !is_ended && expected.next() != Some(&item) {
-            return false;
-        }
+const THREE_CHARACTERS: &str = "> +STR @ 0,1,0 0,1,0
+> +DOC @ 0,1,0 3,1,3
+> =VAL :abc @ 0,1,0 3,1,3
+> -DOC @ 3,2,0 3,2,0
+> -STR @ 3,2,0 3,2,0
+";
+
+// The lines of a text with a limit on its characters.
+fn lines_within(alloc: Global, text: &str, limit: usize) -> Result<String, AllocError> {
+    lines_left(alloc, Parser::with_limit(alloc, StrInput::new(text), limit))
+}
+
+// The same from an iterator.
+fn lines_of_iter_within(alloc: Global, text: &str, limit: usize) -> Result<String, AllocError> {
+    let iter = text.chars();
+    lists_characters(&iter);
+    let input = BufferedInput::new(alloc, iter)?;
+    lines_left(alloc, Parser::with_limit(alloc, input, limit))
+}
+
+// The same from a list of characters.
+fn lines_of_list_within(alloc: Global, text: &str, limit: usize) -> Result<String, AllocError> {
+    let characters: Vec<char> = text.chars().collect(alloc)?;
+    let input = ListInput::new(characters.as_slice());
+    lines_left(alloc, Parser::with_limit(alloc, input, limit))
+}
+
+// These are the lines of `abc`.
+fn is_whole(lines: &str) -> bool {
+    lines == THREE_CHARACTERS
+}
+
+// These are the start of the stream, and that the text is too long.
+fn is_refused(lines: &str) -> bool {
+    before_too_long(lines) == Some("> +STR @ 0,1,0 0,1,0\n")
+}
+
+#[test]
+fn refuses_a_text_past_the_limit(rt: HostRuntime) -> Result<(), Fail> {
+    let alloc = rt.alloc();
+    assert!(rt; is_whole(lines_within(alloc, "abc", 3)?.as_str()));
+    assert!(rt; is_whole(lines_of_iter_within(alloc, "abc", 3)?.as_str()));
+    assert!(rt; is_whole(lines_of_list_within(alloc, "abc", 3)?.as_str()));
+    assert!(rt; is_refused(lines_within(alloc, "abcd", 3)?.as_str()));
+    assert!(rt; is_refused(lines_of_iter_within(alloc, "abcd", 3)?.as_str()));
+    assert!(rt; is_refused(lines_of_list_within(alloc, "abcd", 3)?.as_str()));
+    Ok(())
+}
+
+// The lines are all lines of the text, or a beginning of them and then that the text is too long.
+fn is_beginning(lines: &str, all: &str) -> bool {
+    match before_too_long(lines) {
+        Some(before) => all.starts_with(before),
+        None => lines == all,
     }
-    is_ended || expected.next() == None
 }
 
 // With each limit up to its length a text gives what it gives without, or a beginning of that.
 fn gives_beginnings(alloc: Global, text: &str) -> Result<bool, AllocError> {
-    let items = items_left(alloc, Parser::new_from_str(alloc, text))?;
+    let all = lines_left(alloc, Parser::new_from_str(alloc, text))?;
     for limit in 0..text.len() {
-        let parser = Parser::with_limit(alloc, StrInput::new(text), limit);
-        if !gives_beginning(parser, items.as_slice()) {
+        let lines = lines_within(alloc, text, limit)?;
+        if !is_beginning(lines.as_str(), all.as_str()) {
             return Ok(false);
         }
     }

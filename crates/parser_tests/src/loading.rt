@@ -1,86 +1,10 @@
 //! What `load` hands over and where it stops: at a document's end, at a fault, and where the receiver refuses.
 
-use saphyr_parser::{
-    BufferedInput, Event, EventReceiver, Fault, Marker, Parser, Refused, Span, SpannedEventReceiver,
-};
+use crate::telling::Call::{Load, LoadAll, LoadPlaceless, LoadRefused, Next, Peek};
+use crate::telling::{expect, expect_of};
+use saphyr_parser::{BufferedInput, Parser};
 use std::alloc::{AllocError, Global};
 use std::test::Fail;
-
-// Stores so many events, and then refuses one. The next is stored again.
-#[derive(Drop)]
-struct Stored<'input> {
-    events: Vec<(Event<'input>, Span)>,
-    before_refusal: usize,
-}
-
-impl<'input> Stored<'input> {
-    fn new(alloc: Global, before_refusal: usize) -> Self {
-        Stored {
-            events: Vec::new(alloc),
-            before_refusal,
-        }
-    }
-}
-
-impl<'input> SpannedEventReceiver<'input> for Stored<'input> {
-    ghost use Rattle.std.specs.Prelude.{⊤};
-
-    ghost receives = { λ _ _ _ _. ⊤ };
-
-    fn on_event(&mut self, ev: Event<'input>, span: Span) -> Result<(), Refused> {
-        if self.before_refusal == 0 {
-            self.before_refusal = usize::MAX;
-            return Err(Refused);
-        }
-        self.before_refusal -= 1;
-        match self.events.push((ev, span)) {
-            Ok(()) => Ok(()),
-            Err(_) => Err(Refused),
-        }
-    }
-}
-
-// The short name of each event.
-#[derive(Drop)]
-struct Outline {
-    text: String,
-}
-
-impl Outline {
-    fn new(alloc: Global) -> Self {
-        Outline {
-            text: String::new(alloc),
-        }
-    }
-
-    // What was told since the last call.
-    fn take(&mut self, alloc: Global) -> String {
-        std::mem::replace(&mut self.text, String::new(alloc))
-    }
-}
-
-impl<'input> EventReceiver<'input> for Outline {
-    ghost use Rattle.std.specs.Prelude.{⊤};
-
-    ghost takes = { λ _ _ _ _. ⊤ };
-
-    fn on_event(&mut self, ev: Event<'input>) -> Result<(), Refused> {
-        let name = match ev {
-            Event::Nothing => "?",
-            Event::StreamStart => "+STR ",
-            Event::StreamEnd => "-STR ",
-            Event::DocumentStart(_) => "+DOC ",
-            Event::DocumentEnd => "-DOC ",
-            Event::Alias(_) => "=ALI ",
-            Event::Scalar(_, _, _, _) => "=VAL ",
-            Event::SequenceStart(_, _) => "+SEQ ",
-            Event::SequenceEnd => "-SEQ ",
-            Event::MappingStart(_, _) => "+MAP ",
-            Event::MappingEnd => "-MAP ",
-        };
-        self.text.push_str(name).map_err(|_| Refused)
-    }
-}
 
 // Gives `a`, then `None`, then `b`. From the fourth place on `[`, `1`, then `None`, then `]`.
 #[derive(Drop)]
@@ -122,124 +46,149 @@ fn cut_short<'a>(alloc: Global) -> Result<Parser<'a, BufferedInput<Stutter>>, Al
     Parser::new_from_iter(alloc, Stutter { place: 3 })
 }
 
-// The printed fault.
-fn printed(alloc: Global, answer: Result<(), Fault>) -> Result<String, AllocError> {
-    match answer {
-        Ok(()) => String::from_str(alloc, "no fault"),
-        Err(fault) => fault.to_string(alloc),
-    }
-}
+const TWO_DOCUMENTS: &str = "> +STR @ 0,1,0 0,1,0
+> +DOC @ 0,1,0 1,1,1
+> =VAL :a @ 0,1,0 1,1,1
+> -DOC @ 2,2,0 5,2,3
+loaded
+> +DOC --- @ 2,2,0 5,2,3
+> =VAL :b @ 6,3,0 7,3,1
+> -DOC @ 8,4,0 8,4,0
+loaded
+> -STR @ 8,4,0 8,4,0
+loaded
+> -STR @ 8,4,0 8,4,0
+loaded
+nothing
+";
 
 #[test]
 fn loads_a_document_at_a_time(rt: HostRuntime) -> Result<(), Fail> {
-    let mut parser = Parser::new_from_str(rt.alloc(), "a\n---\nb\n");
-    let mut told = Outline::new(rt.alloc());
-    for line in ["+STR +DOC =VAL -DOC ", "+DOC =VAL -DOC ", "-STR ", "-STR "] {
-        assert!(rt; parser.load(&mut told, false).is_ok(), "{line:?}");
-        assert_eq!(rt; told.take(rt.alloc()).as_str(), line);
-    }
-    assert!(rt; parser.next_event() == None);
+    let calls = &[Load, Load, Load, Load, Next];
+    expect(&rt, rt.alloc(), "a\n---\nb\n", calls, TWO_DOCUMENTS)?;
     Ok(())
 }
+
+const COLLECTIONS: &str = "> +STR @ 0,1,0 0,1,0
+> +DOC @ 0,1,0 1,1,1
+> +MAP @ 0,1,0 1,1,1
+> =VAL \"a @ 1,1,1 4,1,4
+> +SEQ @ 5,1,5 6,1,6
+> =VAL :1 @ 6,1,6 7,1,7
+> =VAL :true @ 8,1,8 12,1,12
+> -SEQ @ 12,1,12 13,1,13
+> -MAP @ 13,1,13 14,1,14
+> -DOC @ 14,2,0 14,2,0
+> -STR @ 14,2,0 14,2,0
+loaded
+> -STR @ 14,2,0 14,2,0
+loaded
+nothing
+";
 
 #[test]
 fn loads_all_with_their_spans(rt: HostRuntime) -> Result<(), Fail> {
-    let text = "{\"a\":[1,true]}";
-    let mut parser = Parser::new_from_str(rt.alloc(), text);
-    let mut stored = Stored::new(rt.alloc(), 100);
-    assert!(rt; parser.load(&mut stored, true).is_ok());
-    let mut other = Parser::new_from_str(rt.alloc(), text);
-    assert_eq!(rt; stored.events.len(), 11);
-    for event in &stored.events {
-        assert!(rt; other.peek() == Some(Ok(event)));
-        assert!(rt; other.next_event().is_some());
-    }
-    assert!(rt; other.next_event() == None);
-    assert!(rt; parser.load(&mut stored, false).is_ok());
-    assert!(rt; stored.events.get(11) == stored.events.get(10));
+    let calls = &[LoadAll, Load, Next];
+    expect(&rt, rt.alloc(), "{\"a\":[1,true]}", calls, COLLECTIONS)?;
     Ok(())
 }
+
+const UP_TO_NONE: &str = "> +STR @ 0,1,0 0,1,0
+> +DOC @ 0,1,0 1,1,1
+> =VAL :a @ 0,1,0 1,1,1
+> -DOC @ 1,2,0 1,2,0
+> -STR @ 1,2,0 1,2,0
+loaded
+";
 
 #[test]
 fn loads_an_iterator_up_to_its_first_none(rt: HostRuntime) -> Result<(), Fail> {
-    let mut parser = stuttering(rt.alloc())?;
-    let mut stored = Stored::new(rt.alloc(), 100);
-    assert!(rt; parser.load(&mut stored, true).is_ok());
-    assert_eq!(rt; stored.events.len(), 5);
-    let scalar = stored.events.get(2);
-    assert!(rt;
-        matches!(scalar, Some((Event::Scalar(text, _, 0, None), _)) if text.as_str() == "a")
-    );
+    let alloc = rt.alloc();
+    expect_of(&rt, alloc, stuttering(alloc)?, &[LoadAll], UP_TO_NONE)?;
     Ok(())
 }
+
+const ENDS_INSIDE: &str = "> +STR @ 0,1,0 0,1,0
+> +DOC @ 0,1,0 1,1,1
+> +SEQ @ 0,1,0 1,1,1
+> =VAL :1 @ 1,1,1 2,1,2
+! while parsing a flow sequence, expected ',' or ']' at byte 2 line 2 column 1
+! while parsing a flow sequence, expected ',' or ']' at byte 2 line 2 column 1
+";
 
 #[test]
 fn refuses_an_iterator_that_ends_inside_a_sequence(rt: HostRuntime) -> Result<(), Fail> {
-    let mut parser = cut_short(rt.alloc())?;
-    let mut told = Outline::new(rt.alloc());
-    let answer = parser.load(&mut told, true);
-    assert_eq!(rt; told.text.as_str(), "+STR +DOC +SEQ =VAL ");
-    assert_eq!(rt;
-        printed(rt.alloc(), answer)?.as_str(),
-        "while parsing a flow sequence, expected ',' or ']' at byte 2 line 2 column 1"
-    );
+    let alloc = rt.alloc();
+    expect_of(&rt, alloc, cut_short(alloc)?, &[LoadAll], ENDS_INSIDE)?;
     Ok(())
 }
+
+const PEEKED: &str = "> +STR @ 0,1,0 0,1,0
+> +STR @ 0,1,0 0,1,0
+> -STR @ 0,1,0 0,1,0
+loaded
+";
 
 #[test]
 fn loads_a_peeked_event(rt: HostRuntime) -> Result<(), Fail> {
-    let mut parser = Parser::new_from_str(rt.alloc(), "");
-    let start = Span::empty(Marker::new(0, 1, 0));
-    assert!(rt; parser.peek() == Some(Ok(&(Event::StreamStart, start))));
-    let mut told = Outline::new(rt.alloc());
-    assert!(rt; parser.load(&mut told, true).is_ok());
-    assert_eq!(rt; told.text.as_str(), "+STR -STR ");
+    let alloc = rt.alloc();
+    expect(&rt, alloc, "", &[Peek, LoadAll], PEEKED)?;
+    expect(&rt, alloc, "", &[Peek, LoadPlaceless], PEEKED)?;
     Ok(())
 }
 
+const REFUSED: &str = "> +STR @ 0,1,0 0,1,0
+> +DOC @ 0,1,0 1,1,1
+! the receiver refused an event
+! load was called inside a document
+> =VAL \"a @ 1,1,1 4,1,4
+> +SEQ @ 5,1,5 6,1,6
+> =VAL :1 @ 6,1,6 7,1,7
+> =VAL :true @ 8,1,8 12,1,12
+> -SEQ @ 12,1,12 13,1,13
+> -MAP @ 13,1,13 14,1,14
+> -DOC @ 14,2,0 14,2,0
+> -STR @ 14,2,0 14,2,0
+";
+
 #[test]
 fn stands_behind_a_refused_event(rt: HostRuntime) -> Result<(), Fail> {
-    let mut parser = Parser::new_from_str(rt.alloc(), "{\"a\":[1,true]}");
-    let mut stored = Stored::new(rt.alloc(), 2);
-    assert!(rt; parser.load(&mut stored, true) == Err(Fault::Receiver));
-    assert!(rt; parser.load(&mut stored, true) == Err(Fault::InsideDocument));
-    assert_eq!(rt; stored.events.len(), 2);
-    assert!(rt;
-        matches!(
-            parser.next_event(),
-            Some(Ok((Event::Scalar(_, _, 0, None), _)))
-        )
-    );
+    let calls = &[LoadRefused(2), LoadAll];
+    expect(&rt, rt.alloc(), "{\"a\":[1,true]}", calls, REFUSED)?;
     Ok(())
 }
+
+const ANSWERED: &str = "> +STR @ 0,1,0 0,1,0
+> +DOC @ 16,3,0 26,4,3
+> =VAL :scalar key @ 16,3,0 26,4,3
+! mapping values are not allowed in this context at byte 26 line 4 column 4
+! mapping values are not allowed in this context at byte 26 line 4 column 4
+! mapping values are not allowed in this context at byte 26 line 4 column 4
+nothing
+! mapping values are not allowed in this context at byte 26 line 4 column 4
+nothing
+nothing
+";
 
 #[test]
 fn answers_a_fault_again(rt: HostRuntime) -> Result<(), Fail> {
     let text = "\n# syntax error\nscalar\nkey: [1, 2]]\nkey1:a2\n";
-    let fault = "mapping values are not allowed in this context at byte 26 line 4 column 4";
-    let mut parser = Parser::new_from_str(rt.alloc(), text);
-    let mut told = Outline::new(rt.alloc());
-    for line in ["+STR +DOC =VAL ", "", ""] {
-        let answer = parser.load(&mut told, false);
-        assert_eq!(rt; printed(rt.alloc(), answer)?.as_str(), fault);
-        assert_eq!(rt; told.take(rt.alloc()).as_str(), line);
-        if line.is_empty() {
-            assert!(rt; matches!(parser.next_event(), Some(Err(Fault::Scan(_))) | None));
-            assert!(rt; parser.next_event() == None);
-        }
-    }
+    let calls = &[Load, Load, Next, Next, Load, Next, Next];
+    expect(&rt, rt.alloc(), text, calls, ANSWERED)?;
     Ok(())
 }
 
+const LATER: &str = "> +STR @ 0,1,0 0,1,0
+> +DOC @ 0,1,0 2,1,2
+> =VAL &1 :x @ 0,1,0 4,1,4
+> -DOC @ 5,2,0 8,2,3
+> +DOC --- @ 5,2,0 8,2,3
+! while parsing node, found unknown anchor at byte 9 line 2 column 5
+! while parsing node, found unknown anchor at byte 9 line 2 column 5
+";
+
 #[test]
 fn loads_up_to_a_fault_in_a_later_document(rt: HostRuntime) -> Result<(), Fail> {
-    let mut parser = Parser::new_from_str(rt.alloc(), "&a x\n--- *a");
-    let mut told = Outline::new(rt.alloc());
-    let answer = parser.load(&mut told, true);
-    assert_eq!(rt; told.text.as_str(), "+STR +DOC =VAL -DOC +DOC ");
-    assert_eq!(rt;
-        printed(rt.alloc(), answer)?.as_str(),
-        "while parsing node, found unknown anchor at byte 9 line 2 column 5"
-    );
+    expect(&rt, rt.alloc(), "&a x\n--- *a", &[LoadAll], LATER)?;
     Ok(())
 }

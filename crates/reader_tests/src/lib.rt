@@ -5,6 +5,8 @@
 #![tactic(auto)]
 
 #[cfg(test)]
+mod helpers;
+#[cfg(test)]
 mod input;
 #[cfg(test)]
 mod scalar;

@@ -1,118 +1,101 @@
 //! Small texts: where the stream ends, which faults there are and where, and what stands in front of a key.
 
+use crate::helpers::{Place, expect, is_refused, is_text, marker};
 use saphyr_input::StrInput;
-use saphyr_scalar::{FaultText, Marker, Refusal, Span, Stop};
-use saphyr_scanner::{Scanner, Token, TokenType};
+use saphyr_scalar::{FaultText, Span};
+use saphyr_scanner::Scanner;
 use std::alloc::Global;
-use std::test::Fail;
 
-// The text is one token of the stream's start, and then ends so.
-fn next_after_start<'a>(
-    alloc: Global,
-    text: &'a str,
-    limit: usize,
-) -> (Scanner<StrInput<'a>>, bool) {
-    let mut scanner = Scanner::new(alloc, StrInput::new(text), limit);
-    let first = match scanner.next_token() {
-        Ok(Some(token)) => token.kind == TokenType::StreamStart,
-        _ => false,
-    };
-    (scanner, first)
-}
-
-#[test]
-fn ends_the_stream(rt: HostRuntime) -> Result<(), Fail> {
-    let cases = [
-        ("", Marker::new(0, 1, 0)),
-        ("# c", Marker::new(3, 2, 0)),
-        (" \t# c\r\n\n", Marker::new(8, 3, 0)),
-    ];
-    for (text, end) in cases {
-        let (mut scanner, started) = next_after_start(rt.alloc(), text, 100);
-        assert!(rt; started);
-        let last = scanner.next_token();
-        let expected = Token {
-            span: Span::empty(end),
-            kind: TokenType::StreamEnd,
-        };
-        assert!(rt; last == Ok(Some(expected)), "{text:?}");
-        assert!(rt; scanner.next_token() == Ok(None), "{text:?}");
+// The place of the next token, where it is printed so.
+fn next(alloc: Global, scanner: &mut Scanner<StrInput>, kind: &str) -> Option<Span> {
+    match scanner.next_token() {
+        Ok(Some(token)) if is_text(format!(in alloc; "{:?}", token.kind), kind) => Some(token.span),
+        _ => None,
     }
-    Ok(())
+}
+
+fn is_done(scanner: &mut Scanner<StrInput>) -> bool {
+    matches!(scanner.next_token(), Ok(None))
+}
+
+// Whether a text is no more than the stream's start and its end, there.
+fn ends_the_stream(alloc: Global, text: &str, end: Place) -> bool {
+    let mut scanner = Scanner::new(alloc, StrInput::new(text), 100);
+    next(alloc, &mut scanner, "StreamStart").is_some()
+        && next(alloc, &mut scanner, "StreamEnd") == Some(Span::empty(marker(end)))
+        && is_done(&mut scanner)
+}
+
+// Whether a text of at most so many characters is refused behind the stream's start.
+fn refuses(alloc: Global, (text, limit): (&str, usize), fault: FaultText, place: Place) -> bool {
+    let mut scanner = Scanner::new(alloc, StrInput::new(text), limit);
+    next(alloc, &mut scanner, "StreamStart").is_some()
+        && is_refused(scanner.next_token(), fault, place)
 }
 
 #[test]
-fn refuses(rt: HostRuntime) -> Result<(), Fail> {
-    let cases = [
-        (
-            "\0",
-            100,
-            FaultText::UnprintableCharacter,
-            Marker::new(0, 1, 0),
-        ),
+fn ends_streams(rt: HostRuntime) {
+    for (text, end) in [
+        ("", (0, 1, 0)),
+        ("# c", (3, 2, 0)),
+        (" \t# c\r\n\n", (8, 3, 0)),
+    ] {
+        expect(&rt, ends_the_stream(rt.alloc(), text, end), text);
+    }
+}
+
+#[test]
+fn refuses_texts(rt: HostRuntime) {
+    for (text, limit, fault, place) in [
+        ("\0", 100, FaultText::UnprintableCharacter, (0, 1, 0)),
         (
             " \u{FEFF}",
             100,
             FaultText::MisplacedByteOrderMark,
-            Marker::new(1, 1, 1),
+            (1, 1, 1),
         ),
-        ("# abc", 4, FaultText::TextTooLong, Marker::new(5, 1, 5)),
-        (
-            "\n]",
-            100,
-            FaultText::MisplacedBracket,
-            Marker::new(1, 2, 0),
-        ),
+        ("# abc", 4, FaultText::TextTooLong, (5, 1, 5)),
+        ("\n]", 100, FaultText::MisplacedBracket, (1, 2, 0)),
         (
             "# c\n @",
             100,
             FaultText::UnexpectedCharacter('@'),
-            Marker::new(5, 2, 1),
+            (5, 2, 1),
         ),
-    ];
-    for (text, limit, fault, mark) in cases {
-        let (mut scanner, started) = next_after_start(rt.alloc(), text, limit);
-        assert!(rt; started);
-        let expected = Refusal { text: fault, mark };
-        assert!(rt;
-            scanner.next_token() == Err(Stop::Refused(expected)),
-            "{text:?}"
-        );
+    ] {
+        expect(&rt, refuses(rt.alloc(), (text, limit), fault, place), text);
     }
-    Ok(())
 }
 
-// The kinds of a text's tokens, up to a fault.
-fn kinds_are(alloc: Global, text: &str, kinds: &[TokenType]) -> bool {
+// Whether a text's tokens are printed so.
+fn has_tokens(alloc: Global, text: &str, kinds: &[&str]) -> bool {
     let mut scanner = Scanner::new(alloc, StrInput::new(text), 1000);
     for kind in kinds {
-        match scanner.next_token() {
-            Ok(Some(token)) if token.kind == *kind => {}
-            _ => return false,
+        if next(alloc, &mut scanner, kind).is_none() {
+            return false;
         }
     }
-    scanner.next_token() == Ok(None)
+    is_done(&mut scanner)
 }
 
 #[test]
-fn puts_a_key_before_its_token(rt: HostRuntime) -> Result<(), Fail> {
-    let alloc = rt.alloc();
-    let block = [
-        TokenType::StreamStart,
-        TokenType::BlockMappingStart,
-        TokenType::Key,
-        TokenType::Alias(String::from_str(alloc, "a")?),
-        TokenType::Value,
-        TokenType::FlowSequenceStart,
-        TokenType::FlowMappingStart,
-        TokenType::Key,
-        TokenType::Alias(String::from_str(alloc, "b")?),
-        TokenType::Value,
-        TokenType::FlowMappingEnd,
-        TokenType::FlowSequenceEnd,
-        TokenType::BlockEnd,
-        TokenType::StreamEnd,
+fn puts_a_key_before_its_token(rt: HostRuntime) {
+    let text = "*a : [*b : ]";
+    let kinds = [
+        "StreamStart",
+        "BlockMappingStart",
+        "Key",
+        "Alias(\"a\")",
+        "Value",
+        "FlowSequenceStart",
+        "FlowMappingStart",
+        "Key",
+        "Alias(\"b\")",
+        "Value",
+        "FlowMappingEnd",
+        "FlowSequenceEnd",
+        "BlockEnd",
+        "StreamEnd",
     ];
-    assert!(rt; kinds_are(alloc, "*a : [*b : ]", &block));
-    Ok(())
+    expect(&rt, has_tokens(rt.alloc(), text, &kinds), text);
 }

@@ -3,13 +3,13 @@
 ghost use Rattle.std.specs.Prelude.{◌≡◌, ◌+◌, ◌<◌, ◌≤◌, ◌==◌, None, Some, [], ◌∷◌, take, if◌then◌else◌, IfOk};
 ghost use Rattle.std.specs.Str.{chars};
 
+use crate::helpers::{expect, remains};
 use saphyr_input::BufferedInput;
 use saphyr_input::input::Input;
 use saphyr_input::law::lists_characters;
 use std::alloc::{AllocError, Global};
 use std::cell::Cell;
 use std::str::Chars;
-use std::test::*;
 
 fn characters_of<'a>(alloc: Global, text: &'a str) -> Result<BufferedInput<Chars<'a>>, AllocError>
     ensures rest { IfOk result (λ input. ⟦<BufferedInput<Chars<'a>> as Input>⟧.rest input
@@ -69,93 +69,85 @@ fn stuttering<'a>(
 }
 
 #[test]
-fn reads_a_long_text(rt: HostRuntime) -> Result<(), Fail> {
+fn reads_a_long_text(rt: HostRuntime) -> Result<(), AllocError> {
     let text = "né: a text of more than sixteen characters\n- and 日本\0!";
+    let input = characters_of(rt.alloc(), text)?;
+    expect(&rt, remains(input, text), text);
+    Ok(())
+}
+
+#[test]
+fn looks_ahead_and_past_the_end(rt: HostRuntime) -> Result<(), AllocError> {
+    let text = "abé\ncd";
     let mut input = characters_of(rt.alloc(), text)?;
-    for expected in text.chars() {
-        assert_eq!(rt; input.look_ch(), expected);
-        assert_eq!(rt; input.peek_opt(), Some(expected));
-        input.skip();
-    }
-    assert_eq!(rt; input.look_ch(), '\0');
-    assert_eq!(rt; input.peek_opt(), None);
-    Ok(())
-}
-
-#[test]
-fn looks_ahead_and_past_the_end(rt: HostRuntime) -> Result<(), Fail> {
-    let mut input = characters_of(rt.alloc(), "abé\ncd")?;
-    assert_eq!(rt; input.raw_read_ch(), 'a');
-    assert_eq!(rt; input.raw_read_ch(), 'b');
-    assert_eq!(rt; input.raw_read_non_breakz_ch(), Some('é'));
+    expect(&rt, input.raw_read_ch() == 'a', text);
+    expect(&rt, input.raw_read_ch() == 'b', text);
+    expect(&rt, input.raw_read_non_breakz_ch() == Some('é'), text);
     input.lookahead(5);
-    assert_eq!(rt; input.buflen(), 5);
-    assert_eq!(rt; input.peek(), '\n');
-    assert_eq!(rt; input.peek_nth(2), 'd');
-    assert_eq!(rt; input.peek_nth(3), '\0');
+    expect(&rt, input.buflen() == 5, text);
+    expect(&rt, input.peek() == '\n', text);
+    expect(&rt, input.peek_nth(2) == 'd', text);
+    expect(&rt, input.peek_nth(3) == '\0', text);
     input.skip_n(2);
-    assert_eq!(rt; input.peek_opt(), Some('d'));
+    expect(&rt, input.peek_opt() == Some('d'), text);
     input.skip_n(3);
-    assert_eq!(rt; input.look_ch(), '\0');
+    expect(&rt, input.look_ch() == '\0', text);
     Ok(())
 }
 
+// Whether a reading up to a break takes nothing off, so that this comes next.
+fn keeps(alloc: Global, text: &str, next: Option<char>) -> Result<bool, AllocError> {
+    let mut input = characters_of(alloc, text)?;
+    let read = input.raw_read_non_breakz_ch();
+    input.lookahead(1);
+    Ok(read.is_none() && input.peek_opt() == next)
+}
+
 #[test]
-fn keeps_a_break(rt: HostRuntime) -> Result<(), Fail> {
+fn keeps_a_break(rt: HostRuntime) -> Result<(), AllocError> {
     for (text, kept) in [
         ("\n-", Some('\n')),
         ("\0-", Some('\0')),
         ("\u{FEFF}-", Some('\u{FEFF}')),
         ("", None),
     ] {
-        let mut input = characters_of(rt.alloc(), text)?;
-        assert_eq!(rt; input.raw_read_non_breakz_ch(), None);
-        input.lookahead(1);
-        assert_eq!(rt; input.peek_opt(), kept);
+        expect(&rt, keeps(rt.alloc(), text, kept)?, text);
     }
     Ok(())
 }
 
 #[test]
-fn stops_at_the_first_none(rt: HostRuntime) -> Result<(), Fail> {
+fn stops_at_the_first_none(rt: HostRuntime) -> Result<(), AllocError> {
     let calls = Cell::new(0);
     let mut input = stuttering(rt.alloc(), &calls)?;
-    assert_eq!(rt; input.look_ch(), 'a');
-    assert_eq!(rt; calls.get(), 1);
+    expect(&rt, input.look_ch() == 'a' && calls.get() == 1, "a");
     input.skip();
     for _ in 0..3 {
-        assert_eq!(rt; input.look_ch(), '\0');
+        expect(&rt, input.look_ch() == '\0', "behind a");
         input.skip();
     }
-    assert_eq!(rt; calls.get(), 2, "no call after the first None");
+    expect(&rt, calls.get() == 2, "no call after the first None");
     Ok(())
 }
 
 #[test]
-fn clones_in_mid_text(rt: HostRuntime) -> Result<(), Fail> {
+fn clones_in_mid_text(rt: HostRuntime) -> Result<(), AllocError> {
     let mut input = characters_of(rt.alloc(), "one two three four five")?;
     input.lookahead(6);
     input.skip_n(4);
-    let mut copy = input.clone()?;
-    assert_eq!(rt; copy.buflen(), input.buflen());
-    for expected in "two three four five".chars() {
-        assert_eq!(rt; copy.look_ch(), expected);
-        copy.skip();
-    }
-    assert_eq!(rt; copy.look_ch(), '\0');
-    for expected in "two three four five".chars() {
-        assert_eq!(rt; input.look_ch(), expected);
-        input.skip();
-    }
-    assert_eq!(rt; input.look_ch(), '\0');
+    let copy = input.clone()?;
+    let rest = "two three four five";
+    expect(&rt, copy.buflen() == input.buflen(), rest);
+    expect(&rt, remains(copy, rest), rest);
+    expect(&rt, remains(input, rest), rest);
     Ok(())
 }
 
 #[test]
-fn stops_at_the_limit(rt: HostRuntime) -> Result<(), Fail> {
+fn stops_at_the_limit(rt: HostRuntime) -> Result<(), AllocError> {
     let mut input = first_characters_of(rt.alloc(), "abcdef", 3)?;
     input.lookahead(4);
-    assert_eq!(rt; input.peek_nth(2), 'c');
-    assert_eq!(rt; input.peek_nth(3), '\0');
+    expect(&rt, input.peek_nth(2) == 'c', "abc");
+    expect(&rt, input.peek_nth(3) == '\0', "abc");
     Ok(())
 }

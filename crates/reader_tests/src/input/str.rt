@@ -2,10 +2,10 @@
 
 ghost use Rattle.std.specs.Prelude.{◌≡◌};
 
+use crate::helpers::{expect, remains};
 use saphyr_input::StrInput;
 use saphyr_input::input::{Input, SkipTabs};
-use std::process::Abort;
-use std::test::Fail;
+use std::alloc::AllocError;
 
 // The text with four places loaded.
 fn four_loaded<'a>(text: &'a str) -> StrInput<'a>
@@ -16,100 +16,100 @@ fn four_loaded<'a>(text: &'a str) -> StrInput<'a>
     input
 }
 
-// Just these characters remain.
-fn assert_rest(rt: &impl Abort, mut input: StrInput<'_>, rest: &str) {
-    for c in rest.chars() {
-        input.lookahead(1);
-        assert_eq!(rt; input.peek_opt(), Some(c), "before the end of {rest:?}");
-        input.skip();
-    }
-    input.lookahead(1);
-    assert_eq!(rt; input.peek_opt(), None, "behind {rest:?}");
+// Whether the characters of a text up to a space are so many and go behind another text, and these remain.
+fn fetches_word(out: &mut String, text: &str, count: usize, rest: &str) -> bool {
+    let mut input = StrInput::new(text);
+    let fetched = input.fetch_while_is_yaml_non_space(out);
+    matches!(fetched, Ok(n) if n == count) && remains(input, rest)
+}
+
+// The same of the letters, digits, `_` and `-` that a text begins with.
+fn fetches_letters(out: &mut String, text: &str, count: usize, rest: &str) -> bool {
+    let mut input = StrInput::new(text);
+    let fetched = input.fetch_while_is_alpha(out);
+    matches!(fetched, Ok(n) if n == count) && remains(input, rest)
 }
 
 #[test]
-fn counts_and_appends_characters(rt: HostRuntime) -> Result<(), Fail> {
+fn counts_and_appends_characters(rt: HostRuntime) -> Result<(), AllocError> {
     let mut out = String::from_str(rt.alloc(), "<")?;
-    let mut input = StrInput::new("éa b");
-    assert_eq!(rt; input.fetch_while_is_yaml_non_space(&mut out)?, 2);
-    assert_rest(&rt, input, " b");
-    let mut input = StrInput::new("a_1-é");
-    assert_eq!(rt; input.fetch_while_is_alpha(&mut out)?, 4);
-    assert_rest(&rt, input, "é");
-    assert_eq!(rt; out.as_str(), "<éaa_1-");
+    expect(&rt, fetches_word(&mut out, "éa b", 2, " b"), "éa b");
+    expect(&rt, fetches_letters(&mut out, "a_1-é", 4, "é"), "a_1-é");
+    expect(&rt, out.as_str() == "<éaa_1-", "<éaa_1-");
     Ok(())
+}
+
+// What is skipped of a text: how many characters, what was met, and what remains.
+type Skipped<'a> = (usize, Result<SkipTabs, &'a str>, &'a str);
+
+fn skips(text: &str, tabs: SkipTabs, (count, answer, rest): Skipped) -> bool {
+    let mut input = StrInput::new(text);
+    let (skipped, met) = match tabs {
+        SkipTabs::Yes => input.skip_ws_to_eol(SkipTabs::Yes),
+        _ => input.skip_ws_to_eol(SkipTabs::No),
+    };
+    skipped == count && met == answer && remains(input, rest)
 }
 
 #[test]
 fn skips_white_space_and_comments(rt: HostRuntime) {
     let refusal = "comments must be separated from other tokens by whitespace";
-    let cases = [
-        (
-            SkipTabs::Yes,
-            "\t # x\n",
-            5,
-            Ok(SkipTabs::Result(true, true)),
-            "\n",
-        ),
-        (
-            SkipTabs::No,
-            " #\u{FEFF}",
-            2,
-            Ok(SkipTabs::Result(false, true)),
-            "\u{FEFF}",
-        ),
-        (SkipTabs::Yes, "#x", 0, Err(refusal), "#x"),
-    ];
-    for (skip_tabs, text, count, answer, rest) in cases {
-        let mut input = StrInput::new(text);
-        let (skipped, met) = input.skip_ws_to_eol(skip_tabs);
-        assert_eq!(rt; skipped, count, "at {text:?}");
-        assert_eq!(rt; met, answer, "at {text:?}");
-        assert_rest(&rt, input, rest);
-    }
+    let both = (5, Ok(SkipTabs::Result(true, true)), "\n");
+    expect(&rt, skips("\t # x\n", SkipTabs::Yes, both), "\t # x\n");
+    let space = (2, Ok(SkipTabs::Result(false, true)), "\u{FEFF}");
+    expect(&rt, skips(" #\u{FEFF}", SkipTabs::No, space), " #\u{FEFF}");
+    let bare = (0, Err(refusal), "#x");
+    expect(&rt, skips("#x", SkipTabs::Yes, bare), "#x");
 }
 
 #[test]
 fn reads_nul_past_the_end(rt: HostRuntime) {
-    assert!(rt; four_loaded("ab").next_3_are('a', 'b', '\0'));
-    assert!(rt; four_loaded("").next_2_are('\0', '\0'));
-    assert_eq!(rt; four_loaded("é").peek_nth(1), '\0');
-    assert_eq!(rt; four_loaded("").peek(), '\0');
-    assert!(rt; four_loaded("").next_is_z());
-    assert!(rt; four_loaded("").next_is_breakz());
-    assert!(rt; four_loaded("").next_is_blank_or_breakz());
+    expect(&rt, four_loaded("ab").next_3_are('a', 'b', '\0'), "ab");
+    expect(&rt, four_loaded("").next_2_are('\0', '\0'), "");
+    expect(&rt, four_loaded("é").peek_nth(1) == '\0', "é");
+    expect(&rt, four_loaded("").peek() == '\0', "");
+    expect(&rt, four_loaded("").next_is_z(), "");
+    expect(&rt, four_loaded("").next_is_breakz(), "");
+    expect(&rt, four_loaded("").next_is_blank_or_breakz(), "");
 }
 
 #[test]
 fn tells_what_comes_next(rt: HostRuntime) {
-    assert!(rt; !four_loaded("---é").next_is_document_indicator());
-    assert!(rt; four_loaded("--- a").next_is_document_indicator());
-    assert!(rt; four_loaded("---").next_is_document_start());
-    assert!(rt; four_loaded("...\n").next_is_document_end());
-    assert!(rt; four_loaded("é").next_char_is('é'));
-    assert!(rt; four_loaded("éa").nth_char_is(1, 'a'));
-    assert!(rt; four_loaded("a:").next_can_be_plain_scalar(true));
-    assert!(rt; four_loaded("\n").next_is_blank_or_break());
-    assert!(rt; four_loaded("\t").next_is_blank());
-    assert!(rt; four_loaded("\r").next_is_break());
-    assert!(rt; four_loaded("]").next_is_flow());
-    assert!(rt; four_loaded("7").next_is_digit());
-    assert!(rt; four_loaded("_").next_is_alpha());
+    expect(
+        &rt,
+        !four_loaded("---é").next_is_document_indicator(),
+        "---é",
+    );
+    expect(
+        &rt,
+        four_loaded("--- a").next_is_document_indicator(),
+        "--- a",
+    );
+    expect(&rt, four_loaded("---").next_is_document_start(), "---");
+    expect(&rt, four_loaded("...\n").next_is_document_end(), "...\n");
+    expect(&rt, four_loaded("é").next_char_is('é'), "é");
+    expect(&rt, four_loaded("éa").nth_char_is(1, 'a'), "éa");
+    expect(&rt, four_loaded("a:").next_can_be_plain_scalar(true), "a:");
+    expect(&rt, four_loaded("\n").next_is_blank_or_break(), "\n");
+    expect(&rt, four_loaded("\t").next_is_blank(), "\t");
+    expect(&rt, four_loaded("\r").next_is_break(), "\r");
+    expect(&rt, four_loaded("]").next_is_flow(), "]");
+    expect(&rt, four_loaded("7").next_is_digit(), "7");
+    expect(&rt, four_loaded("_").next_is_alpha(), "_");
 }
 
 #[test]
 fn takes_characters_off(rt: HostRuntime) {
-    let mut input = StrInput::new("éa-  #é\nx");
-    assert!(rt; input.buf_is_empty());
-    assert_eq!(rt; input.bufmaxlen(), 128);
-    assert_eq!(rt; input.raw_read_ch(), 'é');
-    assert_eq!(rt; input.raw_read_non_breakz_ch(), Some('a'));
-    assert_eq!(rt; input.look_ch(), '-');
-    assert_eq!(rt; input.buflen(), 1);
+    let text = "éa-  #é\nx";
+    let mut input = StrInput::new(text);
+    expect(&rt, input.buf_is_empty() && input.bufmaxlen() == 128, text);
+    expect(&rt, input.raw_read_ch() == 'é', text);
+    expect(&rt, input.raw_read_non_breakz_ch() == Some('a'), text);
+    expect(&rt, input.look_ch() == '-' && input.buflen() == 1, text);
     input.skip();
-    assert_eq!(rt; input.skip_while_blank(), 2);
-    assert_eq!(rt; input.skip_while_non_breakz(), 2);
+    expect(&rt, input.skip_while_blank() == 2, "  #é\nx");
+    expect(&rt, input.skip_while_non_breakz() == 2, "#é\nx");
     input.lookahead(2);
     input.skip_n(2);
-    assert_rest(&rt, input, "");
+    expect(&rt, remains(input, ""), text);
 }

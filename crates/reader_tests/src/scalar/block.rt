@@ -2,15 +2,12 @@
 
 mod found;
 
+use crate::helpers::{Place, expect, is_refused, marker};
 use saphyr_input::StrInput;
-use saphyr_scalar::{BlockScalar, FaultText, Marker, Reader, Refusal, Span, Stop};
+use saphyr_scalar::{BlockScalar, FaultText, Reader, Span, Stop};
 use scalar_values::BlockStyle;
-use std::alloc::{AllocError, Global};
+use std::alloc::Global;
 use std::process::Abort;
-use std::test::Fail;
-
-// An index, a line and a column.
-type Place = (usize, usize, usize);
 
 // A text, how many characters stand before the scalar, and the first column right of the enclosing
 // collection; what it reads as, and where it begins and ends.
@@ -19,64 +16,52 @@ type Read<'a> = (&'a str, usize, usize, &'a str, Place, Place);
 // The same of a scalar that is refused, and the fault and its place.
 type Refused<'a> = (&'a str, usize, usize, FaultText, Place);
 
-fn marker(place: Place) -> Marker {
-    Marker::new(place.0, place.1, place.2)
-}
-
-#[tactic(auto, using(saphyr_input::proofs::Basics::Lists::some_left))]
-fn read(
-    alloc: Global,
-    text: &str,
-    before: usize,
-    indent: usize,
-) -> Result<Result<BlockScalar, Refusal>, AllocError> {
+// A reader behind so many characters of a text.
+fn reader_behind(before: usize, text: &str) -> Reader<StrInput<'_>> {
     let mut reader = Reader::new(StrInput::new(text));
     for _ in 0..before {
         if reader.look() != '\0' {
             reader.skip_non_blank();
         }
     }
-    let style = if reader.look() == '|' {
-        BlockStyle::Literal
-    } else {
-        BlockStyle::Folded
+    reader
+}
+
+// The block scalar behind so many characters of a text. Where none begins it is as if memory ran out.
+fn read(alloc: Global, text: &str, before: usize, indent: usize) -> Result<BlockScalar, Stop> {
+    let mut reader = reader_behind(before, text);
+    let style = match reader.look() {
+        '|' => BlockStyle::Literal,
+        '>' => BlockStyle::Folded,
+        _ => return Err(Stop::OutOfMemory),
     };
-    if reader.look() == '\0' {
-        return Err(AllocError);
-    }
-    match reader.read_block_scalar(alloc, style, indent) {
-        Ok(scalar) => Ok(Ok(scalar)),
-        Err(Stop::Refused(refusal)) => Ok(Err(refusal)),
-        Err(Stop::OutOfMemory) => Err(AllocError),
+    reader.read_block_scalar(alloc, style, indent)
+}
+
+fn is_read(alloc: Global, (text, before, indent, value, start, end): Read) -> bool {
+    match read(alloc, text, before, indent) {
+        Ok(scalar) => {
+            scalar.text.as_str() == value && scalar.span == Span::new(marker(start), marker(end))
+        }
+        Err(_) => false,
     }
 }
 
-fn expect_read(rt: &impl Abort, alloc: Global, rows: &[Read]) -> Result<(), Fail> {
-    for (text, before, indent, value, start, end) in rows {
-        let expected = BlockScalar {
-            text: String::from_str(alloc, value)?,
-            span: Span::new(marker(*start), marker(*end)),
-        };
-        let found = read(alloc, text, *before, *indent)?;
-        assert!(rt; found == Ok(expected), "{text:?}");
+fn expect_read(rt: &impl Abort, alloc: Global, rows: &[Read]) {
+    for row in rows {
+        expect(rt, is_read(alloc, *row), row.0);
     }
-    Ok(())
 }
 
-fn expect_refused(rt: &impl Abort, alloc: Global, rows: &[Refused]) -> Result<(), Fail> {
-    for (text, before, indent, fault, place) in rows {
-        let expected = Refusal {
-            text: *fault,
-            mark: marker(*place),
-        };
-        let found = read(alloc, text, *before, *indent)?;
-        assert!(rt; found == Err(expected), "{text:?}");
+fn expect_refused(rt: &impl Abort, alloc: Global, rows: &[Refused]) {
+    for &(text, before, indent, fault, place) in rows {
+        let read = read(alloc, text, before, indent);
+        expect(rt, is_refused(read, fault, place), text);
     }
-    Ok(())
 }
 
 #[test]
-fn reads_scalars(rt: HostRuntime) -> Result<(), Fail> {
+fn reads_scalars(rt: HostRuntime) {
     let rows = [
         ("|-\n a\n\n", 0, 0, "a", (4, 2, 1), (7, 4, 0)),
         ("|+\n a\n\n", 0, 0, "a\n\n", (4, 2, 1), (7, 4, 0)),
@@ -114,11 +99,11 @@ fn reads_scalars(rt: HostRuntime) -> Result<(), Fail> {
         ("--- |\na\n---\nb\n", 4, 0, "a\n", (6, 2, 0), (8, 3, 0)),
         ("foo: |\n  bar", 5, 1, "bar\n", (9, 2, 2), (12, 2, 5)),
     ];
-    expect_read(&rt, rt.alloc(), &rows)
+    expect_read(&rt, rt.alloc(), &rows);
 }
 
 #[test]
-fn reads_headers_breaks_and_ends(rt: HostRuntime) -> Result<(), Fail> {
+fn reads_headers_breaks_and_ends(rt: HostRuntime) {
     let rows = [
         ("|2-  # c\n   a\n\n", 0, 0, " a", (11, 2, 2), (15, 4, 0)),
         (">+2\t\n  a\n", 0, 0, "a\n", (7, 2, 2), (9, 3, 0)),
@@ -150,11 +135,11 @@ fn reads_headers_breaks_and_ends(rt: HostRuntime) -> Result<(), Fail> {
         ("|+\n a\n\n ", 0, 0, "a\n\n\n", (4, 2, 1), (8, 4, 1)),
         (">+\n\n  \n  a\n", 0, 0, "\n\na\n", (9, 4, 2), (11, 5, 0)),
     ];
-    expect_read(&rt, rt.alloc(), &rows)
+    expect_read(&rt, rt.alloc(), &rows);
 }
 
 #[test]
-fn refuses(rt: HostRuntime) -> Result<(), Fail> {
+fn refuses(rt: HostRuntime) {
     let rows = [
         (
             "|\n   \n a",
@@ -202,5 +187,5 @@ fn refuses(rt: HostRuntime) -> Result<(), Fail> {
             (2, 1, 2),
         ),
     ];
-    expect_refused(&rt, rt.alloc(), &rows)
+    expect_refused(&rt, rt.alloc(), &rows);
 }

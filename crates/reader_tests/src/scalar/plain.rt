@@ -1,51 +1,57 @@
 //! Plain scalars of one line and of several, the comments that end them, and their faults.
 
+use crate::helpers::{Place, expect, is_refused, marker};
 use saphyr_input::StrInput;
-use saphyr_scalar::{FaultText, Marker, PlainScalar, Reader, Refusal, Stop};
+use saphyr_scalar::{FaultText, PlainScalar, Reader, Stop};
 use std::alloc::Global;
-use std::process::Abort;
-use std::test::Fail;
 
 const IN_FLOW: bool = true;
 
 const IN_BLOCK: bool = false;
 
-// The scalar at the start of a text: its value, where it ends, and where what stands behind it begins.
-fn expect(
-    rt: &impl Abort,
-    alloc: Global,
-    (in_flow, indent, text): (bool, usize, &str),
-    (value, end, behind): (&str, Marker, Marker),
-    comment: Option<Marker>,
-) -> Result<(), Fail> {
-    let mut reader = Reader::new(StrInput::new(text));
-    let read = reader.read_plain(alloc, in_flow, indent);
-    let wanted = PlainScalar {
-        text: String::from_str(alloc, value)?,
-        end,
-        comment,
-    };
-    assert_eq!(rt; read, Ok(wanted), "{text:?}");
-    assert_eq!(rt; reader.mark(), behind, "{text:?}");
-    assert_eq!(rt; reader.blank_so_far(), behind.line != end.line, "{text:?}");
-    Ok(())
+// Whether a text stands in flow, the least column of its further lines, and the text.
+type Read<'a> = (bool, usize, &'a str);
+
+fn is_scalar(
+    read: Result<PlainScalar, Stop>,
+    value: &str,
+    end: Place,
+    comment: Option<Place>,
+) -> bool {
+    match read {
+        Ok(scalar) => {
+            scalar.text.as_str() == value
+                && scalar.end == marker(end)
+                && scalar.comment == comment.map(marker)
+        }
+        Err(_) => false,
+    }
 }
 
-fn expect_refusal(
-    rt: &impl Abort,
+// Whether a text begins with a scalar of this value, which ends there, and where what stands behind it begins.
+fn reads(
     alloc: Global,
-    (in_flow, indent, text): (bool, usize, &str),
-    fault: FaultText,
-    mark: Marker,
-) {
+    (in_flow, indent, text): Read,
+    (value, end, behind): (&str, Place, Place),
+    comment: Option<Place>,
+) -> bool {
     let mut reader = Reader::new(StrInput::new(text));
-    let read = reader.read_plain(alloc, in_flow, indent);
-    let refusal = Refusal { text: fault, mark };
-    assert_eq!(rt; read, Err(Stop::Refused(refusal)), "{text:?}");
+    is_scalar(
+        reader.read_plain(alloc, in_flow, indent),
+        value,
+        end,
+        comment,
+    ) && reader.mark() == marker(behind)
+        && reader.blank_so_far() == (behind.1 != end.1)
+}
+
+fn refuses(alloc: Global, (in_flow, indent, text): Read, fault: FaultText, place: Place) -> bool {
+    let mut reader = Reader::new(StrInput::new(text));
+    is_refused(reader.read_plain(alloc, in_flow, indent), fault, place)
 }
 
 #[test]
-fn scalars_of_one_line(rt: HostRuntime) -> Result<(), Fail> {
+fn scalars_of_one_line(rt: HostRuntime) {
     for (place, value, end, behind) in [
         ((IN_BLOCK, 1, "b c\t d : e"), "b c\t d", 6, 7),
         ((IN_FLOW, 0, "a:b, c]"), "a:b", 3, 3),
@@ -58,15 +64,18 @@ fn scalars_of_one_line(rt: HostRuntime) -> Result<(), Fail> {
         ((IN_BLOCK, 0, "a \u{FEFF}"), "a", 1, 2),
         ((IN_BLOCK, 2, "é"), "é", 1, 1),
     ] {
-        let end = Marker::new(end, 1, end);
-        let behind = Marker::new(behind, 1, behind);
-        expect(&rt, rt.alloc(), place, (value, end, behind), None)?;
+        let end = (end, 1, end);
+        let behind = (behind, 1, behind);
+        expect(
+            &rt,
+            reads(rt.alloc(), place, (value, end, behind), None),
+            place.2,
+        );
     }
-    Ok(())
 }
 
 #[test]
-fn scalars_of_several_lines(rt: HostRuntime) -> Result<(), Fail> {
+fn scalars_of_several_lines(rt: HostRuntime) {
     for (place, value, end, behind) in [
         (
             (IN_BLOCK, 0, "scalar\nkey: [1, 2]]"),
@@ -98,15 +107,16 @@ fn scalars_of_several_lines(rt: HostRuntime) -> Result<(), Fail> {
         ((IN_BLOCK, 1, "b\n\t"), "b", (1, 1, 1), (3, 2, 1)),
         ((IN_BLOCK, 0, "b\n"), "b", (1, 1, 1), (2, 2, 0)),
     ] {
-        let end = Marker::new(end.0, end.1, end.2);
-        let behind = Marker::new(behind.0, behind.1, behind.2);
-        expect(&rt, rt.alloc(), place, (value, end, behind), None)?;
+        expect(
+            &rt,
+            reads(rt.alloc(), place, (value, end, behind), None),
+            place.2,
+        );
     }
-    Ok(())
 }
 
 #[test]
-fn comments_end_scalars(rt: HostRuntime) -> Result<(), Fail> {
+fn comments_end_scalars(rt: HostRuntime) {
     for (place, behind, interrupts) in [
         ((IN_BLOCK, 1, "b # c\n d"), (2, 1, 2), true),
         ((IN_FLOW, 1, "b # c\n d"), (2, 1, 2), false),
@@ -117,16 +127,17 @@ fn comments_end_scalars(rt: HostRuntime) -> Result<(), Fail> {
         ((IN_BLOCK, 1, "b\n \t# c\n d"), (4, 2, 2), false),
         ((IN_BLOCK, 0, "b\n\t# c\nd"), (3, 2, 1), false),
     ] {
-        let end = Marker::new(1, 1, 1);
-        let behind = Marker::new(behind.0, behind.1, behind.2);
         let comment = if interrupts { Some(behind) } else { None };
-        expect(&rt, rt.alloc(), place, ("b", end, behind), comment)?;
+        expect(
+            &rt,
+            reads(rt.alloc(), place, ("b", (1, 1, 1), behind), comment),
+            place.2,
+        );
     }
-    Ok(())
 }
 
 #[test]
-fn refusals(rt: HostRuntime) -> Result<(), Fail> {
+fn refusals(rt: HostRuntime) {
     for (place, fault, mark) in [
         (
             (IN_FLOW, 0, "a -, b]"),
@@ -156,8 +167,6 @@ fn refusals(rt: HostRuntime) -> Result<(), Fail> {
         ),
         ((IN_BLOCK, 0, ": a"), FaultText::PlainEnd, (0, 1, 0)),
     ] {
-        let mark = Marker::new(mark.0, mark.1, mark.2);
-        expect_refusal(&rt, rt.alloc(), place, fault, mark);
+        expect(&rt, refuses(rt.alloc(), place, fault, mark), place.2);
     }
-    Ok(())
 }

@@ -1,17 +1,18 @@
 //! What no clause says: the printed texts, against the lists that they were taken from.
-use saphyr_scalar::{FaultText, Marker, Refusal, ScalarStyle, ScanError, Span};
-use std::alloc::Global;
-use std::process::Abort;
-use std::test::Fail;
 
-fn expect_text(rt: &impl Abort, alloc: Global, fault: FaultText, text: &str) -> Result<(), Fail> {
-    let printed = format!(in alloc; "{fault}")?;
-    assert_eq!(rt; printed.as_str(), text);
-    Ok(())
+use crate::helpers::{expect, is_text};
+use saphyr_scalar::{FaultText, Marker, Refusal, ScalarStyle, ScanError, Span};
+use std::alloc::{AllocError, Global};
+use std::process::Abort;
+
+fn expect_texts(rt: &impl Abort, alloc: Global, faults: &[(FaultText, &str)]) {
+    for (fault, text) in faults {
+        expect(rt, is_text(format!(in alloc; "{fault}"), text), text);
+    }
 }
 
 #[test]
-fn prints_the_faults_of_characters_and_structure(rt: HostRuntime) -> Result<(), Fail> {
+fn prints_the_faults_of_characters_and_structure(rt: HostRuntime) {
     let faults = [
         (
             FaultText::UnprintableCharacter,
@@ -50,14 +51,11 @@ fn prints_the_faults_of_characters_and_structure(rt: HostRuntime) -> Result<(), 
         ),
         (FaultText::WhitespaceExpected, "expected whitespace"),
     ];
-    for (fault, text) in faults {
-        expect_text(&rt, rt.alloc(), fault, text)?;
-    }
-    Ok(())
+    expect_texts(&rt, rt.alloc(), &faults);
 }
 
 #[test]
-fn prints_the_faults_of_directives_and_tags(rt: HostRuntime) -> Result<(), Fail> {
+fn prints_the_faults_of_directives_and_tags(rt: HostRuntime) {
     let faults = [
         (
             FaultText::DirectiveEndExpected,
@@ -132,14 +130,11 @@ fn prints_the_faults_of_directives_and_tags(rt: HostRuntime) -> Result<(), Fail>
             "while scanning an anchor or alias, did not find expected alphabetic or numeric character",
         ),
     ];
-    for (fault, text) in faults {
-        expect_text(&rt, rt.alloc(), fault, text)?;
-    }
-    Ok(())
+    expect_texts(&rt, rt.alloc(), &faults);
 }
 
 #[test]
-fn prints_the_faults_of_flow_and_block(rt: HostRuntime) -> Result<(), Fail> {
+fn prints_the_faults_of_flow_and_block(rt: HostRuntime) {
     let faults = [
         (FaultText::MisplacedBracket, "misplaced bracket"),
         (FaultText::RecursionLimit, "recursion limit exceeded"),
@@ -180,14 +175,11 @@ fn prints_the_faults_of_flow_and_block(rt: HostRuntime) -> Result<(), Fail> {
             "while scanning a quoted scalar, found unexpected document indicator",
         ),
     ];
-    for (fault, text) in faults {
-        expect_text(&rt, rt.alloc(), fault, text)?;
-    }
-    Ok(())
+    expect_texts(&rt, rt.alloc(), &faults);
 }
 
 #[test]
-fn prints_the_faults_of_scalars(rt: HostRuntime) -> Result<(), Fail> {
+fn prints_the_faults_of_scalars(rt: HostRuntime) {
     let faults = [
         (
             FaultText::EndInsideQuotes,
@@ -235,14 +227,11 @@ fn prints_the_faults_of_scalars(rt: HostRuntime) -> Result<(), Fail> {
             "mapping keys are not allowed in this context",
         ),
     ];
-    for (fault, text) in faults {
-        expect_text(&rt, rt.alloc(), fault, text)?;
-    }
-    Ok(())
+    expect_texts(&rt, rt.alloc(), &faults);
 }
 
 #[test]
-fn prints_the_faults_of_keys_and_values(rt: HostRuntime) -> Result<(), Fail> {
+fn prints_the_faults_of_keys_and_values(rt: HostRuntime) {
     let faults = [
         (FaultText::TabNotAllowed, "tabs disallowed in this context"),
         (
@@ -274,14 +263,11 @@ fn prints_the_faults_of_keys_and_values(rt: HostRuntime) -> Result<(), Fail> {
             "the TAG directive must only be given at most once per handle in the same document",
         ),
     ];
-    for (fault, text) in faults {
-        expect_text(&rt, rt.alloc(), fault, text)?;
-    }
-    Ok(())
+    expect_texts(&rt, rt.alloc(), &faults);
 }
 
 #[test]
-fn prints_the_faults_of_documents_and_nodes(rt: HostRuntime) -> Result<(), Fail> {
+fn prints_the_faults_of_documents_and_nodes(rt: HostRuntime) {
     let faults = [
         (
             FaultText::DocumentStartExpected,
@@ -321,48 +307,58 @@ fn prints_the_faults_of_documents_and_nodes(rt: HostRuntime) -> Result<(), Fail>
             "text longer than 4294967295 characters",
         ),
     ];
-    for (fault, text) in faults {
-        expect_text(&rt, rt.alloc(), fault, text)?;
+    expect_texts(&rt, rt.alloc(), &faults);
+}
+
+// Whether an error at this place is printed so.
+fn prints(alloc: Global, mark: Marker, text: &str) -> bool {
+    match ScanError::new_str(alloc, mark, "x") {
+        Ok(error) => is_text(format!(in alloc; "{error}"), text),
+        Err(_) => false,
     }
-    Ok(())
-}
-
-fn expect_error(rt: &impl Abort, alloc: Global, mark: Marker, text: &str) -> Result<(), Fail> {
-    let error = ScanError::new_str(alloc, mark, "x")?;
-    let printed = format!(in alloc; "{error}")?;
-    assert_eq!(rt; printed.as_str(), text);
-    Ok(())
 }
 
 #[test]
-fn prints_an_error(rt: HostRuntime) -> Result<(), Fail> {
-    expect_error(
-        &rt,
-        rt.alloc(),
-        Marker::new(3, 1, 3),
-        "x at byte 3 line 1 column 4",
-    )?;
-    expect_error(
-        &rt,
-        rt.alloc(),
-        Marker::new(0, 1, usize::MAX),
-        "x at byte 0 line 1 column 18446744073709551616",
-    )
+fn prints_an_error(rt: HostRuntime) {
+    for (mark, text) in [
+        (Marker::new(3, 1, 3), "x at byte 3 line 1 column 4"),
+        (
+            Marker::new(0, 1, usize::MAX),
+            "x at byte 0 line 1 column 18446744073709551616",
+        ),
+    ] {
+        expect(&rt, prints(rt.alloc(), mark, text), text);
+    }
+}
+
+// Whether the error has this text, stands there, and has a copy that is the same.
+fn is_error(made: Result<ScanError, AllocError>, info: &str, mark: Marker) -> bool {
+    match made {
+        Ok(error) => error.info() == info && *error.marker() == mark && is_copied(&error),
+        Err(_) => false,
+    }
+}
+
+fn is_copied(error: &ScanError) -> bool {
+    match error.try_clone() {
+        Ok(copy) => copy == *error,
+        Err(_) => false,
+    }
 }
 
 #[test]
-fn makes_an_error_of_a_refusal(rt: HostRuntime) -> Result<(), Fail> {
+fn makes_an_error_of_a_refusal(rt: HostRuntime) {
     let mark = Marker::new(7, 2, 4);
     let refusal = Refusal {
         text: FaultText::MisplacedBracket,
         mark,
     };
-    let error = ScanError::from_refusal(rt.alloc(), refusal)?;
-    assert_eq!(rt; error.info(), "misplaced bracket");
-    assert_eq!(rt; *error.marker(), mark);
-    let copy = error.try_clone()?;
-    assert!(rt; copy == error);
-    Ok(())
+    let error = ScanError::from_refusal(rt.alloc(), refusal);
+    expect(
+        &rt,
+        is_error(error, "misplaced bracket", mark),
+        "misplaced bracket",
+    );
 }
 
 #[test]

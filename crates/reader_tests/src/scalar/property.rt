@@ -1,44 +1,42 @@
 //! Tags, anchors and aliases, their ends and their faults.
 
+use crate::helpers::{behind_blanks, expect, is_refused, marker};
 use saphyr_input::StrInput;
-use saphyr_input::input::SkipTabs;
-use saphyr_scalar::{FaultText, Marker, Reader, Refusal, Stop, TagParts};
+use saphyr_scalar::{FaultText, Reader, Stop, TagParts};
 use std::alloc::Global;
-use std::test::Fail;
 
-// A reader behind the blanks with which a text begins.
-fn behind_blanks(text: &str) -> Reader<StrInput<'_>> {
-    let mut reader = Reader::new(StrInput::new(text));
-    let _ = reader.skip_ws_to_eol(SkipTabs::Yes);
-    reader
-}
-
-// The tag behind the blanks of a text, and the place behind it. There is none without a `!`.
-fn read_tag(alloc: Global, text: &str, in_flow: bool) -> Option<(Result<TagParts, Stop>, Marker)> {
-    let mut reader = behind_blanks(text);
-    if reader.look() != '!' {
-        return None;
+// The tag that a reader stands in front of. Where there is no `!` it is as if memory ran out.
+fn read_tag(alloc: Global, reader: &mut Reader<StrInput>, in_flow: bool) -> Result<TagParts, Stop> {
+    if reader.look() == '!' {
+        reader.read_tag(alloc, in_flow)
+    } else {
+        Err(Stop::OutOfMemory)
     }
-    let tag = reader.read_tag(alloc, in_flow);
-    Some((tag, reader.mark()))
 }
 
-fn is_tag(
-    read: &Option<(Result<TagParts, Stop>, Marker)>,
-    handle: &str,
-    suffix: &str,
-    end: Marker,
+// Whether a tag is read of these parts, and ends so far in its line.
+fn reads_tag(
+    alloc: Global,
+    text: &str,
+    in_flow: bool,
+    (handle, suffix, end): (&str, &str, usize),
 ) -> bool {
-    match read {
-        Some((Ok(tag), mark)) => {
-            tag.handle.as_str() == handle && tag.suffix.as_str() == suffix && *mark == end
-        }
-        _ => false,
-    }
+    let mut reader = behind_blanks(text);
+    let is_read = match read_tag(alloc, &mut reader, in_flow) {
+        Ok(tag) => tag.handle.as_str() == handle && tag.suffix.as_str() == suffix,
+        Err(_) => false,
+    };
+    is_read && reader.mark() == marker((end, 1, end))
+}
+
+// Whether a tag in a block is refused for this fault so far in its line.
+fn refuses_tag(alloc: Global, text: &str, fault: FaultText, place: usize) -> bool {
+    let read = read_tag(alloc, &mut behind_blanks(text), false);
+    is_refused(read, fault, (place, 1, place))
 }
 
 #[test]
-fn reads_tags(rt: HostRuntime) -> Result<(), Fail> {
+fn reads_tags(rt: HostRuntime) {
     let cases = [
         ("!!str a", "!!", "str", 5),
         ("! a", "", "!", 1),
@@ -61,17 +59,13 @@ fn reads_tags(rt: HostRuntime) -> Result<(), Fail> {
         ("  !a", "!", "a", 4),
     ];
     for (text, handle, suffix, end) in cases {
-        let read = read_tag(rt.alloc(), text, false);
-        assert!(rt;
-            is_tag(&read, handle, suffix, Marker::new(end, 1, end)),
-            "{text:?}"
-        );
+        let parts = (handle, suffix, end);
+        expect(&rt, reads_tag(rt.alloc(), text, false, parts), text);
     }
-    Ok(())
 }
 
 #[test]
-fn flow_indicators_end_tags_in_flow(rt: HostRuntime) -> Result<(), Fail> {
+fn flow_indicators_end_tags_in_flow(rt: HostRuntime) {
     let cases = [
         ("!a,b", "!", "a", 2),
         ("!!x]", "!!", "x", 3),
@@ -79,84 +73,69 @@ fn flow_indicators_end_tags_in_flow(rt: HostRuntime) -> Result<(), Fail> {
         ("!<a>[", "", "a", 4),
     ];
     for (text, handle, suffix, end) in cases {
-        let read = read_tag(rt.alloc(), text, true);
-        assert!(rt;
-            is_tag(&read, handle, suffix, Marker::new(end, 1, end)),
-            "{text:?}"
-        );
-        let read = read_tag(rt.alloc(), text, false);
-        let expected = Stop::Refused(Refusal {
-            text: FaultText::TagEndExpected,
-            mark: Marker::new(0, 1, 0),
-        });
-        assert!(rt;
-            matches!(&read, Some((Err(stop), _)) if *stop == expected),
-            "{text:?}"
-        );
+        let parts = (handle, suffix, end);
+        expect(&rt, reads_tag(rt.alloc(), text, true, parts), text);
+        let holds = refuses_tag(rt.alloc(), text, FaultText::TagEndExpected, 0);
+        expect(&rt, holds, text);
     }
-    Ok(())
 }
 
 #[test]
-fn refuses_tags_at_their_start(rt: HostRuntime) -> Result<(), Fail> {
+fn refuses_tags_at_their_start(rt: HostRuntime) {
     let cases = [
-        ("!<a b>", FaultText::VerbatimTagEndExpected),
-        ("!<a", FaultText::VerbatimTagEndExpected),
-        ("!! x", FaultText::TagSuffixExpected),
-        ("!e!", FaultText::TagSuffixExpected),
-        ("!%C3 x", FaultText::TagEscape),
-        ("!%4 x", FaultText::TagEscape),
-        ("!%G0 x", FaultText::TagEscape),
-        ("!<%>", FaultText::TagEscape),
-        ("!%E2%82", FaultText::TagEscape),
-        ("!%80 x", FaultText::TagEscapeLeadingByte),
-        ("!%BF%80 x", FaultText::TagEscapeLeadingByte),
-        ("!%F8%80%80%80%80 x", FaultText::TagEscapeLeadingByte),
-        ("!%C3%41 x", FaultText::TagEscapeTrailingByte),
-        ("!%E2%82%C0 x", FaultText::TagEscapeTrailingByte),
-        ("!%C0%80 x", FaultText::TagEscapeCodePoint),
-        ("!%C1%BF x", FaultText::TagEscapeCodePoint),
-        ("!%E0%9F%BF x", FaultText::TagEscapeCodePoint),
-        ("!%F0%8F%BF%BF x", FaultText::TagEscapeCodePoint),
-        ("!%ED%A0%80 x", FaultText::TagEscapeCodePoint),
-        ("!%ED%BF%BF x", FaultText::TagEscapeCodePoint),
-        ("!%F4%90%80%80 x", FaultText::TagEscapeCodePoint),
-        ("!%F7%BF%BF%BF x", FaultText::TagEscapeCodePoint),
-        ("!a!b!c", FaultText::TagEndExpected),
-        ("!a\"b", FaultText::TagEndExpected),
-        ("!a\u{FEFF}", FaultText::TagEndExpected),
-        ("!é", FaultText::TagEndExpected),
-        ("!<a>b", FaultText::TagEndExpected),
+        ("\t !<a b>", FaultText::VerbatimTagEndExpected),
+        ("\t !<a", FaultText::VerbatimTagEndExpected),
+        ("\t !! x", FaultText::TagSuffixExpected),
+        ("\t !e!", FaultText::TagSuffixExpected),
+        ("\t !%C3 x", FaultText::TagEscape),
+        ("\t !%4 x", FaultText::TagEscape),
+        ("\t !%G0 x", FaultText::TagEscape),
+        ("\t !<%>", FaultText::TagEscape),
+        ("\t !%E2%82", FaultText::TagEscape),
+        ("\t !%80 x", FaultText::TagEscapeLeadingByte),
+        ("\t !%BF%80 x", FaultText::TagEscapeLeadingByte),
+        ("\t !%F8%80%80%80%80 x", FaultText::TagEscapeLeadingByte),
+        ("\t !%C3%41 x", FaultText::TagEscapeTrailingByte),
+        ("\t !%E2%82%C0 x", FaultText::TagEscapeTrailingByte),
+        ("\t !%C0%80 x", FaultText::TagEscapeCodePoint),
+        ("\t !%C1%BF x", FaultText::TagEscapeCodePoint),
+        ("\t !%E0%9F%BF x", FaultText::TagEscapeCodePoint),
+        ("\t !%F0%8F%BF%BF x", FaultText::TagEscapeCodePoint),
+        ("\t !%ED%A0%80 x", FaultText::TagEscapeCodePoint),
+        ("\t !%ED%BF%BF x", FaultText::TagEscapeCodePoint),
+        ("\t !%F4%90%80%80 x", FaultText::TagEscapeCodePoint),
+        ("\t !%F7%BF%BF%BF x", FaultText::TagEscapeCodePoint),
+        ("\t !a!b!c", FaultText::TagEndExpected),
+        ("\t !a\"b", FaultText::TagEndExpected),
+        ("\t !a\u{FEFF}", FaultText::TagEndExpected),
+        ("\t !é", FaultText::TagEndExpected),
+        ("\t !<a>b", FaultText::TagEndExpected),
     ];
     for (text, fault) in cases {
-        let mut shifted = String::from_str(rt.alloc(), "\t ")?;
-        shifted.push_str(text)?;
-        let read = read_tag(rt.alloc(), shifted.as_str(), false);
-        let expected = Stop::Refused(Refusal {
-            text: fault,
-            mark: Marker::new(2, 1, 2),
-        });
-        assert!(rt;
-            matches!(&read, Some((Err(stop), _)) if *stop == expected),
-            "{text:?}"
-        );
+        expect(&rt, refuses_tag(rt.alloc(), text, fault, 2), text);
     }
-    Ok(())
 }
 
-// The name behind the indicator with which a text begins behind its blanks, and the place behind it.
-fn read_anchor(alloc: Global, text: &str) -> Option<(Result<String, Stop>, Marker)> {
-    let mut reader = behind_blanks(text);
-    let c = reader.look();
-    if c == '&' || c == '*' {
-        let name = reader.read_anchor(alloc);
-        return Some((name, reader.mark()));
+// The name behind the indicator that a reader stands in front of. Without one it is as if memory ran out.
+fn read_anchor(alloc: Global, reader: &mut Reader<StrInput>) -> Result<String, Stop> {
+    match reader.look() {
+        '&' | '*' => reader.read_anchor(alloc),
+        _ => Err(Stop::OutOfMemory),
     }
-    None
+}
+
+// Whether this name is read, and ends so far in its line.
+fn reads_anchor(alloc: Global, text: &str, name: &str, end: usize) -> bool {
+    let mut reader = behind_blanks(text);
+    let is_read = match read_anchor(alloc, &mut reader) {
+        Ok(read) => read.as_str() == name,
+        Err(_) => false,
+    };
+    is_read && reader.mark() == marker((end, 1, end))
 }
 
 #[test]
-fn reads_anchors_and_aliases(rt: HostRuntime) -> Result<(), Fail> {
+fn reads_anchors_and_aliases(rt: HostRuntime) {
     let cases = [
         ("&a x", "a", 2),
         ("*a", "a", 2),
@@ -171,28 +150,18 @@ fn reads_anchors_and_aliases(rt: HostRuntime) -> Result<(), Fail> {
         ("  &ab\r", "ab", 5),
     ];
     for (text, name, end) in cases {
-        let read = read_anchor(rt.alloc(), text);
-        let same = match &read {
-            Some((Ok(given), mark)) => given.as_str() == name && *mark == Marker::new(end, 1, end),
-            _ => false,
-        };
-        assert!(rt; same, "{text:?}");
+        expect(&rt, reads_anchor(rt.alloc(), text, name, end), text);
     }
-    Ok(())
 }
 
 #[test]
-fn refuses_names_without_characters_at_the_indicator(rt: HostRuntime) -> Result<(), Fail> {
+fn refuses_names_without_characters_at_the_indicator(rt: HostRuntime) {
     for text in [" & a", " *", " &]", " *,", " &\n", " *\u{FEFF}a"] {
-        let read = read_anchor(rt.alloc(), text);
-        let expected = Stop::Refused(Refusal {
-            text: FaultText::AnchorNameExpected,
-            mark: Marker::new(1, 1, 1),
-        });
-        assert!(rt;
-            matches!(&read, Some((Err(stop), _)) if *stop == expected),
-            "{text:?}"
+        let read = read_anchor(rt.alloc(), &mut behind_blanks(text));
+        expect(
+            &rt,
+            is_refused(read, FaultText::AnchorNameExpected, (1, 1, 1)),
+            text,
         );
     }
-    Ok(())
 }

@@ -1,56 +1,42 @@
 //! Quoted scalars, their ends and their faults.
+
+use crate::helpers::{Place, expect, is_refused, marker};
 use saphyr_input::StrInput;
-use saphyr_scalar::{FaultText, Marker, Reader, Refusal, Stop};
+use saphyr_scalar::{FaultText, Reader, Stop};
 use std::alloc::Global;
-use std::process::Abort;
-use std::test::Fail;
 
-// What is read of the quoted scalar that a text begins with, and the place behind it.
-fn read(alloc: Global, text: &str, indent: usize) -> Result<(String, Marker), Stop> {
-    let mut reader = Reader::new(StrInput::new(text));
-    let value = match reader.look() {
-        '"' => reader.read_double_quoted(alloc, indent)?,
-        '\'' => reader.read_single_quoted(alloc, indent)?,
-        _ => {
-            return Err(Stop::Refused(Refusal {
-                text: FaultText::NodeContentExpected,
-                mark: reader.mark(),
-            }));
-        }
-    };
-    Ok((value, reader.mark()))
-}
+const START: Place = (0, 1, 0);
 
-fn expect_value(
-    rt: &impl Abort,
-    alloc: Global,
-    text: &str,
-    indent: usize,
-    value: &str,
-) -> Result<(), Fail> {
-    match read(alloc, text, indent) {
-        Ok((read, _)) => assert_eq!(rt; read.as_str(), value, "{text:?}"),
-        Err(stop) => assert_eq!(rt; Err::<(), Stop>(stop), Ok(()), "{text:?}"),
+// The quoted scalar that a reader stands in front of. Without a quote it is as if memory ran out.
+fn read(alloc: Global, reader: &mut Reader<StrInput>, indent: usize) -> Result<String, Stop> {
+    match reader.look() {
+        '"' => reader.read_double_quoted(alloc, indent),
+        '\'' => reader.read_single_quoted(alloc, indent),
+        _ => Err(Stop::OutOfMemory),
     }
-    Ok(())
 }
 
-fn expect_fault(
-    rt: &impl Abort,
-    alloc: Global,
-    text: &str,
-    indent: usize,
-    fault: FaultText,
-    mark: Marker,
-) -> Result<(), Fail> {
-    let refusal = Refusal { text: fault, mark };
-    let read = read(alloc, text, indent);
-    assert_eq!(rt; read, Err(Stop::Refused(refusal)), "{text:?}");
-    Ok(())
+// Whether a text begins with a scalar of this value.
+fn reads(alloc: Global, text: &str, indent: usize, value: &str) -> bool {
+    match read(alloc, &mut Reader::new(StrInput::new(text)), indent) {
+        Ok(read) => read.as_str() == value,
+        Err(_) => false,
+    }
+}
+
+// Whether a text begins with a scalar that ends there.
+fn ends(alloc: Global, text: &str, end: Place) -> bool {
+    let mut reader = Reader::new(StrInput::new(text));
+    read(alloc, &mut reader, 0).is_ok() && reader.mark() == marker(end)
+}
+
+fn refuses(alloc: Global, text: &str, indent: usize, fault: FaultText, place: Place) -> bool {
+    let read = read(alloc, &mut Reader::new(StrInput::new(text)), indent);
+    is_refused(read, fault, place)
 }
 
 #[test]
-fn reads_lines_of_double_quoted_scalars(rt: HostRuntime) -> Result<(), Fail> {
+fn reads_lines_of_double_quoted_scalars(rt: HostRuntime) {
     for (text, value) in [
         ("\"a \\\n  b\n\n c\"", "a b\nc"),
         ("\"a\r\nb\"", "a b"),
@@ -72,13 +58,12 @@ fn reads_lines_of_double_quoted_scalars(rt: HostRuntime) -> Result<(), Fail> {
         ("\"a'b''c # d: e\"", "a'b''c # d: e"),
         ("\"\\x41\\u00e9\\U0001F600\\n\"", "Aé😀\n"),
     ] {
-        expect_value(&rt, rt.alloc(), text, 0, value)?;
+        expect(&rt, reads(rt.alloc(), text, 0, value), text);
     }
-    Ok(())
 }
 
 #[test]
-fn reads_single_quoted_scalars(rt: HostRuntime) -> Result<(), Fail> {
+fn reads_single_quoted_scalars(rt: HostRuntime) {
     for (text, value) in [
         ("'it''s'", "it's"),
         ("''", ""),
@@ -91,32 +76,26 @@ fn reads_single_quoted_scalars(rt: HostRuntime) -> Result<(), Fail> {
         ("'a ''\n ''b'", "a ' 'b"),
         ("'a' 'b'", "a"),
     ] {
-        expect_value(&rt, rt.alloc(), text, 0, value)?;
+        expect(&rt, reads(rt.alloc(), text, 0, value), text);
     }
-    Ok(())
 }
 
 #[test]
-fn ends_right_behind_the_closing_quote(rt: HostRuntime) -> Result<(), Fail> {
+fn ends_right_behind_the_closing_quote(rt: HostRuntime) {
     for (text, end) in [
-        ("\"a \\\n  b\n\n c\"", Marker::new(13, 4, 3)),
-        ("\"a\r\nb\" c", Marker::new(6, 2, 2)),
-        ("\"\u{FEFF}\"", Marker::new(3, 1, 3)),
-        ("\"a\n\u{FEFF}b\"", Marker::new(6, 2, 3)),
-        ("'it''s' # c", Marker::new(7, 1, 7)),
-        ("'a\n\n'", Marker::new(5, 3, 1)),
+        ("\"a \\\n  b\n\n c\"", (13, 4, 3)),
+        ("\"a\r\nb\" c", (6, 2, 2)),
+        ("\"\u{FEFF}\"", (3, 1, 3)),
+        ("\"a\n\u{FEFF}b\"", (6, 2, 3)),
+        ("'it''s' # c", (7, 1, 7)),
+        ("'a\n\n'", (5, 3, 1)),
     ] {
-        match read(rt.alloc(), text, 0) {
-            Ok((_, mark)) => assert_eq!(rt; mark, end, "{text:?}"),
-            Err(stop) => assert_eq!(rt; Err::<(), Stop>(stop), Ok(()), "{text:?}"),
-        }
+        expect(&rt, ends(rt.alloc(), text, end), text);
     }
-    Ok(())
 }
 
 #[test]
-fn refuses_ends_and_markers_inside_quotes(rt: HostRuntime) -> Result<(), Fail> {
-    let start = Marker::new(0, 1, 0);
+fn refuses_ends_inside_quotes(rt: HostRuntime) {
     for text in [
         "\"",
         "\"a",
@@ -130,8 +109,13 @@ fn refuses_ends_and_markers_inside_quotes(rt: HostRuntime) -> Result<(), Fail> {
         "'a''",
         "'a\n",
     ] {
-        expect_fault(&rt, rt.alloc(), text, 3, FaultText::EndInsideQuotes, start)?;
+        let holds = refuses(rt.alloc(), text, 3, FaultText::EndInsideQuotes, START);
+        expect(&rt, holds, text);
     }
+}
+
+#[test]
+fn refuses_markers_inside_quotes(rt: HostRuntime) {
     for text in [
         "\"a\n---\nb\"",
         "\"a\n... b\"",
@@ -139,51 +123,41 @@ fn refuses_ends_and_markers_inside_quotes(rt: HostRuntime) -> Result<(), Fail> {
         "\"a\\\n---\0\"",
         "'a\r---\tb'",
     ] {
-        expect_fault(
-            &rt,
+        let holds = refuses(
             rt.alloc(),
             text,
             0,
             FaultText::DocumentIndicatorInsideQuotes,
-            start,
-        )?;
+            START,
+        );
+        expect(&rt, holds, text);
     }
-    Ok(())
 }
 
 #[test]
-fn refuses_lines_left_of_the_indentation(rt: HostRuntime) -> Result<(), Fail> {
-    let start = Marker::new(0, 1, 0);
-    for (text, indent) in [
-        ("\"a\nb\"", 1),
-        ("\"a\n b\"", 2),
-        ("\"a\n\"", 1),
-        ("\"a\\\n \"", 2),
-        ("'a\n\n b'", 2),
-    ] {
-        expect_fault(
-            &rt,
-            rt.alloc(),
-            text,
-            indent,
-            FaultText::QuotedIndentation,
-            start,
-        )?;
-    }
-    for (text, indent, tab) in [
-        ("\"a\n\tb\"", 1, Marker::new(3, 2, 0)),
-        ("\"a\n \t\n   b\"", 2, Marker::new(4, 2, 1)),
-        ("'a\n\n\tb'", 1, Marker::new(4, 3, 0)),
-    ] {
-        expect_fault(
-            &rt,
-            rt.alloc(),
-            text,
-            indent,
+fn refuses_lines_left_of_the_indentation(rt: HostRuntime) {
+    for (text, indent, fault, place) in [
+        ("\"a\nb\"", 1, FaultText::QuotedIndentation, START),
+        ("\"a\n b\"", 2, FaultText::QuotedIndentation, START),
+        ("\"a\n\"", 1, FaultText::QuotedIndentation, START),
+        ("\"a\\\n \"", 2, FaultText::QuotedIndentation, START),
+        ("'a\n\n b'", 2, FaultText::QuotedIndentation, START),
+        ("\"a\n\tb\"", 1, FaultText::TabAsIndentation, (3, 2, 0)),
+        (
+            "\"a\n \t\n   b\"",
+            2,
             FaultText::TabAsIndentation,
-            tab,
-        )?;
+            (4, 2, 1),
+        ),
+        ("'a\n\n\tb'", 1, FaultText::TabAsIndentation, (4, 3, 0)),
+    ] {
+        let holds = refuses(rt.alloc(), text, indent, fault, place);
+        expect(&rt, holds, text);
     }
+}
+
+#[test]
+fn reads_lines_right_of_the_indentation(rt: HostRuntime) {
     for (text, indent, value) in [
         ("\"a\nb\"", 0, "a b"),
         ("\"a\n b\"", 1, "a b"),
@@ -192,14 +166,12 @@ fn refuses_lines_left_of_the_indentation(rt: HostRuntime) -> Result<(), Fail> {
         ("\"a\\\n\"", 8, "a"),
         ("\"a\tb\"", 8, "a\tb"),
     ] {
-        expect_value(&rt, rt.alloc(), text, indent, value)?;
+        expect(&rt, reads(rt.alloc(), text, indent, value), text);
     }
-    Ok(())
 }
 
 #[test]
-fn refuses_escapes_that_are_none(rt: HostRuntime) -> Result<(), Fail> {
-    let start = Marker::new(0, 1, 0);
+fn refuses_escapes_that_are_none(rt: HostRuntime) {
     for (text, fault) in [
         ("\"a\n\\q\"", FaultText::UnknownEscape),
         ("\"\\", FaultText::UnknownEscape),
@@ -208,7 +180,7 @@ fn refuses_escapes_that_are_none(rt: HostRuntime) -> Result<(), Fail> {
         ("\"\\ud83d\\ude00\"", FaultText::EscapedCodePoint),
         ("\"\\U00110000\"", FaultText::EscapedCodePoint),
     ] {
-        expect_fault(&rt, rt.alloc(), text, 0, fault, start)?;
+        let holds = refuses(rt.alloc(), text, 0, fault, START);
+        expect(&rt, holds, text);
     }
-    Ok(())
 }

@@ -1,25 +1,25 @@
 //! Line breaks, folding, and the values of scalars in each style.
 
+use crate::helpers::{expect, is_text};
 use scalar_values::{
     BlockStyle, Chomping, Ending, Item, block_value, double_quoted_value, folded, normalized,
     plain_value, single_quoted_value,
 };
-use std::alloc::AllocError;
+use std::alloc::{AllocError, Global};
 
 #[test]
-fn breaks_are_normalized(rt: HostRuntime) -> Result<(), AllocError> {
+fn breaks_are_normalized(rt: HostRuntime) {
     for (text, want) in [
         ("a\r\nb\rc\n\r", "a\nb\nc\n\n"),
         ("\r\r\n", "\n\n"),
         ("é", "é"),
     ] {
-        assert_eq!(rt; normalized(rt.alloc(), text)?.as_str(), want, "{text:?}");
+        expect(&rt, is_text(normalized(rt.alloc(), text), want), text);
     }
-    Ok(())
 }
 
 #[test]
-fn items_are_folded(rt: HostRuntime) -> Result<(), AllocError> {
+fn items_are_folded(rt: HostRuntime) {
     let items = [
         Item::Blank(' '),
         Item::Raw('a'),
@@ -35,12 +35,12 @@ fn items_are_folded(rt: HostRuntime) -> Result<(), AllocError> {
         Item::Break,
         Item::EscapedBreak,
     ];
-    assert_eq!(rt; folded(rt.alloc(), &items)?.as_str(), " a   \nb ");
-    Ok(())
+    let text = " a   \nb ";
+    expect(&rt, is_text(folded(rt.alloc(), &items), text), text);
 }
 
 #[test]
-fn plain_scalars(rt: HostRuntime) -> Result<(), AllocError> {
+fn plain_scalars(rt: HostRuntime) {
     for (piece, want) in [
         ("a\n\nb", "a\nb"),
         ("1 2", "1 2"),
@@ -48,13 +48,20 @@ fn plain_scalars(rt: HostRuntime) -> Result<(), AllocError> {
         ("a \t\r\n  b", "a b"),
         ("a\n\n \n\nb\\n", "a\n\n\nb\\n"),
     ] {
-        assert_eq!(rt; plain_value(rt.alloc(), piece)?.as_str(), want, "{piece:?}");
+        expect(&rt, is_text(plain_value(rt.alloc(), piece), want), piece);
     }
-    Ok(())
+}
+
+// Whether a piece has this value, or none.
+fn is_value(read: Result<Option<String>, AllocError>, want: Option<&str>) -> bool {
+    match read {
+        Ok(value) => value.as_deref() == want,
+        Err(_) => false,
+    }
 }
 
 #[test]
-fn single_quoted_scalars(rt: HostRuntime) -> Result<(), AllocError> {
+fn single_quoted_scalars(rt: HostRuntime) {
     for (piece, want) in [
         ("'it''s'", Some("it's")),
         ("''", Some("")),
@@ -67,14 +74,16 @@ fn single_quoted_scalars(rt: HostRuntime) -> Result<(), AllocError> {
         ("\"a\"", None),
         ("", None),
     ] {
-        let value = single_quoted_value(rt.alloc(), piece)?;
-        assert_eq!(rt; value.as_deref(), want, "{piece:?}");
+        expect(
+            &rt,
+            is_value(single_quoted_value(rt.alloc(), piece), want),
+            piece,
+        );
     }
-    Ok(())
 }
 
 #[test]
-fn double_quoted_scalars(rt: HostRuntime) -> Result<(), AllocError> {
+fn double_quoted_scalars(rt: HostRuntime) {
     for (piece, want) in [
         ("\"a \\\n  b\n\n c\"", Some("a b\nc")),
         ("\"a\\\n\n\n b\\ \n\"", Some("a\n\nb  ")),
@@ -99,14 +108,16 @@ fn double_quoted_scalars(rt: HostRuntime) -> Result<(), AllocError> {
         ("\"a", None),
         ("\"", None),
     ] {
-        let value = double_quoted_value(rt.alloc(), piece)?;
-        assert_eq!(rt; value.as_deref(), want, "{piece:?}");
+        expect(
+            &rt,
+            is_value(double_quoted_value(rt.alloc(), piece), want),
+            piece,
+        );
     }
-    Ok(())
 }
 
 #[test]
-fn folded_block_scalars(rt: HostRuntime) -> Result<(), AllocError> {
+fn folded_block_scalars(rt: HostRuntime) {
     for (text, want) in [
         (" a\n b\n\n  c\n d\n", "a b\n\n c\nd\n"),
         (" a\n  b\n c\n", "a\n b\nc\n"),
@@ -120,14 +131,25 @@ fn folded_block_scalars(rt: HostRuntime) -> Result<(), AllocError> {
             1,
             text,
             Ending::AtEnd,
-        )?;
-        assert_eq!(rt; value.as_str(), want, "{text:?}");
+        );
+        expect(&rt, is_text(value, want), text);
     }
-    Ok(())
+}
+
+// Whether the lines of a text, indented by so much, read so with their last breaks stripped, clipped or kept.
+fn is_literal(
+    alloc: Global,
+    (indentation, text): (usize, &str),
+    chomping: Chomping,
+    want: &str,
+) -> bool {
+    let style = BlockStyle::Literal;
+    let value = block_value(alloc, style, chomping, indentation, text, Ending::AtEnd);
+    is_text(value, want)
 }
 
 #[test]
-fn literal_block_scalars(rt: HostRuntime) -> Result<(), AllocError> {
+fn literal_block_scalars(rt: HostRuntime) {
     for (indentation, text, stripped, clipped, kept) in [
         (1, " a\n ", "a", "a\n", "a\n\n"),
         (1, " a\n\n", "a", "a\n", "a\n\n"),
@@ -142,27 +164,27 @@ fn literal_block_scalars(rt: HostRuntime) -> Result<(), AllocError> {
         (1, " ", "", "", "\n"),
         (1, "\n ", "", "", "\n"),
     ] {
-        for (chomping, want) in [
-            (Chomping::Strip, stripped),
-            (Chomping::Clip, clipped),
-            (Chomping::Keep, kept),
-        ] {
-            let value = block_value(
-                rt.alloc(),
-                BlockStyle::Literal,
-                chomping,
-                indentation,
-                text,
-                Ending::AtEnd,
-            )?;
-            assert_eq!(rt; value.as_str(), want, "{chomping:?} {text:?}");
-        }
+        let lines = (indentation, text);
+        expect(
+            &rt,
+            is_literal(rt.alloc(), lines, Chomping::Strip, stripped),
+            text,
+        );
+        expect(
+            &rt,
+            is_literal(rt.alloc(), lines, Chomping::Clip, clipped),
+            text,
+        );
+        expect(
+            &rt,
+            is_literal(rt.alloc(), lines, Chomping::Keep, kept),
+            text,
+        );
     }
-    Ok(())
 }
 
 #[test]
-fn block_scalars_cut_by_a_mark(rt: HostRuntime) -> Result<(), AllocError> {
+fn block_scalars_cut_by_a_mark(rt: HostRuntime) {
     for (chomping, text, want) in [
         (Chomping::Strip, " a", "a"),
         (Chomping::Clip, " a", "a"),
@@ -170,15 +192,8 @@ fn block_scalars_cut_by_a_mark(rt: HostRuntime) -> Result<(), AllocError> {
         (Chomping::Keep, " a\n ", "a\n"),
         (Chomping::Keep, " ", ""),
     ] {
-        let value = block_value(
-            rt.alloc(),
-            BlockStyle::Literal,
-            chomping,
-            1,
-            text,
-            Ending::AtMark,
-        )?;
-        assert_eq!(rt; value.as_str(), want, "{chomping:?} {text:?}");
+        let style = BlockStyle::Literal;
+        let value = block_value(rt.alloc(), style, chomping, 1, text, Ending::AtMark);
+        expect(&rt, is_text(value, want), text);
     }
-    Ok(())
 }

@@ -2,10 +2,9 @@
 
 use crate::scalar::block::{expect_read, expect_refused};
 use saphyr_scalar::FaultText;
-use std::test::Fail;
 
 #[test]
-fn reads_found_texts(rt: HostRuntime) -> Result<(), Fail> {
+fn reads_found_texts(rt: HostRuntime) {
     let rows = [
         ("|\n   ", 0, 0, "", (0, 1, 0), (5, 2, 3)),
         ("|-\n! ", 0, 0, "! ", (3, 2, 0), (5, 2, 2)),
@@ -139,11 +138,11 @@ fn reads_found_texts(rt: HostRuntime) -> Result<(), Fail> {
             (27, 7, 1),
         ),
     ];
-    expect_read(&rt, rt.alloc(), &rows)
+    expect_read(&rt, rt.alloc(), &rows);
 }
 
 #[test]
-fn refuses_found_texts(rt: HostRuntime) -> Result<(), Fail> {
+fn refuses_found_texts(rt: HostRuntime) {
     let rows = [
         (
             "|@",
@@ -202,5 +201,5 @@ fn refuses_found_texts(rt: HostRuntime) -> Result<(), Fail> {
             (11, 5, 1),
         ),
     ];
-    expect_refused(&rt, rt.alloc(), &rows)
+    expect_refused(&rt, rt.alloc(), &rows);
 }

@@ -1,0 +1,54 @@
+//! What the tests share. A small function reads, compares and lets go, so that no test holds what owns memory.
+
+use saphyr_input::StrInput;
+use saphyr_input::input::{Input, SkipTabs};
+use saphyr_scalar::{FaultText, Marker, Reader, Stop};
+use std::alloc::AllocError;
+use std::process::Abort;
+
+/// An index, a line and a column.
+pub(crate) type Place = (usize, usize, usize);
+
+/// The marker of a place.
+pub(crate) fn marker((index, line, col): Place) -> Marker {
+    Marker::new(index, line, col)
+}
+
+/// Stops the test unless this holds, and names the text that it holds of.
+pub(crate) fn expect(rt: &impl Abort, holds: bool, text: &str) {
+    assert!(rt; holds, "{text:?}");
+}
+
+/// Whether a text was made, and is this one.
+pub(crate) fn is_text(made: Result<String, AllocError>, text: &str) -> bool {
+    match made {
+        Ok(made) => made.as_str() == text,
+        Err(_) => false,
+    }
+}
+
+/// Whether a text is refused for this fault at this place.
+pub(crate) fn is_refused<T: Drop>(read: Result<T, Stop>, fault: FaultText, place: Place) -> bool {
+    match read {
+        Err(Stop::Refused(refusal)) => refusal.text == fault && refusal.mark == marker(place),
+        _ => false,
+    }
+}
+
+/// Whether just these characters remain of an input.
+pub(crate) fn remains<T: Input + Drop>(mut input: T, rest: &str) -> bool {
+    for c in rest.chars() {
+        if input.look_ch() != c || input.peek_opt() != Some(c) {
+            return false;
+        }
+        input.skip();
+    }
+    input.look_ch() == '\0' && input.peek_opt().is_none()
+}
+
+/// A reader behind the blanks with which a text begins.
+pub(crate) fn behind_blanks(text: &str) -> Reader<StrInput<'_>> {
+    let mut reader = Reader::new(StrInput::new(text));
+    let _ = reader.skip_ws_to_eol(SkipTabs::Yes);
+    reader
+}
