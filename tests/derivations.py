@@ -7,8 +7,8 @@ Makes COUNT texts (50,000) from the seeds SEED (1), SEED + 1 and so on, and comp
 or `rt run` in crates/dump_events left it in out/, with the events of their forests. The shortest that differ are shown.
 
 A method of `Derivation` is a production, and makes a text and the node for which that stands, as the definitions in the
-specs/ of saphyr_scanner and saphyr_scalar relate them. They speak of what stands behind a piece, so texts are made from
-their ends. A node is its parts in the order of their events, which come from these parts alone.
+specs/ of layout_laws, scalar_laws and saphyr_scalar relate them. They speak of what stands behind a piece, so texts
+are made from their ends. A node is its parts in the order of their events, which come from these parts alone.
 """
 import collections
 import os

@@ -1,0 +1,969 @@
+#!/usr/bin/env python3
+"""How many answers a text has: all lists of events without a fault that are taken from it and are not the parser's.
+
+    tests/answers.py [--length N] [--random COUNT] [--longest N] [--seed SEED] [--alphabet CHARACTERS] [--most N]
+    tests/answers.py [--most N] TEXT..
+    tests/answers.py --cases [--longest N] [FILE..]
+
+The definitions say when a list of events is taken from a text (`AreTaken`), and many lists may be. This searches them
+all, for each TEXT, or for all texts of up to N characters (3) of an alphabet and COUNT random ones (0) of up to
+`--longest` (12). Texts that the parser refuses are left out. What it answers is what the program prints, as `rt ci` or
+`rt run` in crates/dump_events left it in out/, or another that `--program` names.
+
+A method of `Search` is a definition: given a place, it yields each way in which tokens from there on meet it, with what
+they tell, the place behind them, and the open conditions that they break. `OPEN` names these: what no definition asks.
+An answer that isn't the parser's is counted under the fewest conditions that it breaks; one that breaks more than N (1)
+isn't searched. `-` stands for an answer that breaks none: a class without a name, which wants a condition. A definition
+that comes to ask a condition takes its name out of `OPEN`, and what breaks it is no answer any more.
+
+With `--cases` what the files of event_cases store, or FILEs like them, is held against the definitions, for texts of up
+to 700 characters: each answer without a fault has to be taken from its text by tokens that break no condition. One that
+a fault ends has to begin so, but for `WAIVED`: the parser may tell a value before it finds that a key's colon is
+missing, and end a single pair by a brace before a bracket is one too many. (An alias may name any anchor there, and a
+tag is compared up to its prefix.)
+
+What it doesn't tell: other lists that end in a fault; spans, of which each list has many; texts whose answers break
+several conditions at once; and answers with more than `--bare` (2) starts and keys without a text at one place. Today's
+definitions let any number of these through, and there are at most two where no condition is broken.
+"""
+import argparse
+import collections
+import functools
+import itertools
+import os
+import random
+import re
+import subprocess
+import sys
+import threading
+
+TOP = os.path.dirname(os.path.dirname(os.path.abspath(__file__)))
+PROGRAM, DATA = TOP + "/crates/dump_events/out/dump_events", TOP + "/crates/event_cases/data/"
+ALPHABET = "a:-?#[]{},&!*|>\"' \n"
+PIECES = ["a", "a ", "a: ", ": ", ":\n", "- ", "-\n", "? ", "\n ", "\n  ", "\n- ", "\n: ", "\n? ", "\na: ", "&a ",
+          "&a\n", "!a ", "*a ", "|\n", ">\n", "--- ", "\n...\n", " #", "[a", "{a", ", ", "a\n", '"a"', "'a'", "%TAG ",
+          "%a\n"]
+END, MARK, BLANK, BREAK, FLOW = "\0", "\ufeff", " \t", "\n\r", ",[]{}"
+WHITE, BREAKZ, BLANK_OR_BREAKZ = BLANK + BREAK, BREAK + END, BLANK + BREAK + END
+WORD = "0123456789abcdefghijklmnopqrstuvwxyzABCDEFGHIJKLMNOPQRSTUVWXYZ-"
+URI = WORD + "#;/?:@&=+$,_.!~*'()[]%"
+SUFFIX, HEX = "".join(c for c in URI if c not in FLOW + "!"), "0123456789abcdefABCDEF"
+ESCAPES = dict(zip('0abt\tnvfre "/\\N_LP', "\0\a\b\t\t\n\v\f\r\x1b \"/\\\x85\xa0\u2028\u2029"))
+DIGITS = {"x": 2, "u": 4, "U": 8}
+SHOWN = {"\\": "\\\\", "\n": "\\n", "\r": "\\r", "\b": "\\b", "\t": "\\t"}
+STYLES = {"plain": ":", "'": "'", '"': '"', "|": "|", ">": ">"}
+IN_FLOW, IN_BLOCK, IN_BLOCK_MAPPING, AS_BLOCK_KEY = "in flow", "in block", "in a block mapping", "as a block key"
+ROOT = -1
+
+# What stands at a place: white space and comments, a name, percent escapes, a handle, the parts of directives, and of a
+# block scalar its header and the lines of spaces before its content.
+APART = re.compile(r"(?:[ \t\n\r]|#[^\0\n\r\ufeff]*)*")
+NAME = re.compile(r"[^\0 \t\n\r\ufeff,\[\]{}]+")
+BYTES = re.compile("(?:%[0-9a-fA-F]{2})+")
+NAMED_HANDLE = re.compile("![0-9A-Za-z_-]*!")
+BLANKS = re.compile(r"[ \t]*")
+LINE_TAIL = re.compile(r"[ \t]*(?:(?<=[ \t])#[^\0\n\r\ufeff]*)?(?=[\0\n\r]|\Z)")
+VERSION = re.compile(r"%YAML[ \t]+[0-9]{1,9}\.[0-9]{1,9}")
+TAG = re.compile(r"%TAG[ \t]+")
+RESERVED = re.compile(r"%([^\0 \t\n\r\ufeff]+)(?:[ \t][^\0\n\r\ufeff]*)?")
+HEADER = re.compile(r"[|>]([1-9]?)([-+]?)([1-9]?)[ \t]*(?:(?<=[ \t])#[^\0\n\r\ufeff]*)?(\r\n|\r|\n)?")
+LEADING = re.compile(r"[ \n\r]*")
+
+# What no definition asks, with a smallest text and an answer of it that is taken for the want of this alone.
+OPEN = {
+    "whole line": ("a block scalar ends behind a whole line, or before a NUL or a mark (8.1)", "|\na ", "=VAL |a"),
+    "longest handle": ("a tag directive's handle is the longest (6.8.2)",
+                       "%TAG !!a\n--- !b", "+DOC --- / =VAL <!ab> : / -DOC"),
+    "end of a tag": ("behind a tag stands a blank, a break, NUL, the end, or inside flow a flow indicator (6.9.1)",
+                     "!a", "=VAL <!> :a"),
+    "plain in flow": ("inside flow a plain scalar has no flow indicator, nor a colon before one (7.3.3)",
+                      "[:]", "+SEQ / =VAL :: / -SEQ"),
+    "plain in block": ("outside flow no plain scalar begins with `|` or `>` (7.3.3)", "|", "=VAL :|"),
+    "block scalar in flow": ("no block scalar stands inside flow (7.4)", "[|1\n]", "+SEQ / =VAL | / -SEQ"),
+    "own braces": ("a flow mapping has both braces, or is a single pair of a flow sequence and has neither (7.4.2)",
+                   "[]", "+SEQ / +MAP / -MAP / -SEQ"),
+    "own line": ("behind a block collection's properties a line ends (8.2.3)",
+                 "! :", "+MAP <!> / =VAL : / =VAL : / -MAP"),
+    "some entry": ("a block collection has an entry (8.2)", "-", "+SEQ / +SEQ / -SEQ / -SEQ"),
+    "entry's column": ("entries of a block collection stand at its column (8.2)",
+                       ": :", "+MAP / =VAL : / =VAL : / =VAL : / =VAL : / -MAP"),
+    "inside": ("a node in a block collection stands right of its column (8.2)",
+               ":\n:", "+MAP / =VAL : / +MAP / =VAL : / =VAL : / -MAP / -MAP"),
+    "later lines": ("outside flow a scalar's later lines stand right of the innermost collection's column (6.1)",
+                    "- a\n-", "+SEQ / =VAL :a - / -SEQ"),
+    "colon apart": ("behind a colon stands white space or the end, or in flow an indicator, or before it a key that"
+                    " ends with a quote or a bracket (7.4.2, 8.2.2)", ":a", "+MAP / =VAL : / =VAL :a / -MAP"),
+    "key with a colon": ("a key without a `?` has a colon (7.4.2, 8.2.2)", "", "+MAP / =VAL : / =VAL : / -MAP"),
+    "some key": ("such a key has a text (7.4, 8.2.2)",
+                 "?\n:", "+MAP / =VAL : / =VAL : / =VAL : / =VAL : / -MAP"),
+    "flow key": ("such a key is no block collection (7.4, 8.2.2)",
+                 "- :", "+MAP / +SEQ / =VAL : / -SEQ / =VAL : / -MAP"),
+    "key on a line": ("such a key of a block mapping or a single pair stands on one line with its colon (7.4, 8.2.2)",
+                      "!\n:", "+MAP / =VAL <!> : / =VAL : / -MAP"),
+    "short key": ("such a key of a block mapping and its blanks have at most 1,024 characters (8.2.2)",
+                  "a" * 1025 + ":", f"+MAP / =VAL :{'a' * 1025} / =VAL : / -MAP"),
+    "colon's column": ("in a block mapping the colon of a `?` stands at the mapping's column (8.2.2)",
+                       "? :", "+MAP / =VAL : / =VAL : / -MAP"),
+}
+WAIVED = "key with a colon", "own braces"
+BITS = {name: 1 << number for number, name in enumerate(OPEN)}
+REFUSED = (1 << 64) - 1
+
+# A place: its index and column; whether the last token that has a text is a quoted scalar or the end of a flow
+# collection; how many starts and keys without a text stand there; and how many events were told before, where they are
+# known (`Search.known`).
+Place = collections.namedtuple("Place", "index col ends_json bare told")
+Leaf = collections.namedtuple("Leaf", "name anchor tag style value")
+Opening = collections.namedtuple("Opening", "name anchor tag")
+Reference = collections.namedtuple("Reference", "name anchor_name")
+Document = collections.namedtuple("Document", "name explicit prefixes")
+Bracket = collections.namedtuple("Bracket", "name")
+
+
+@functools.lru_cache(None)
+def count_of(broken):
+    return bin(broken).count("1")
+
+
+def way(yields):
+    """A definition whose ways are found once for each place, each with the fewest open conditions that it breaks."""
+    @functools.wraps(yields)
+    def found(self, *given):
+        key = yields, given
+        if key not in self.known_ways:
+            least = {}
+            for told, behind, broken in yields(self, *given):
+                if self.may(broken):
+                    others = least.get((told, behind))
+                    if others is None:
+                        least[told, behind] = [broken]
+                    elif not any(it & broken == it for it in others):
+                        others[:] = [it for it in others if it & broken != broken] + [broken]
+            self.known_ways[key] = [(*it, broken) for it, others in least.items() for broken in others]
+        return self.known_ways[key]
+    return found
+
+
+# ## scalar_values: Folding.antt, Flow.antt, Lines.antt and Block.antt
+def folded(items):
+    """Items are pairs of a kind ("blank", "raw", "escaped", "break" or "escaped break") and a character."""
+    text, at_start = "", False
+    for number, (kind, c) in enumerate(items):
+        run = itertools.takewhile(lambda it: it[0] in ("blank", "break"), items[number + 1:])
+        empty_lines = sum(it[0] == "break" for it in run)
+        if kind == "blank":
+            text += "" if at_start or empty_lines else c
+        elif kind == "break":
+            text += "" if at_start else "\n" * empty_lines or " "
+        else:
+            text += "\n" * empty_lines if kind == "escaped break" else c
+        at_start = kind in ("break", "escaped break") or at_start and kind == "blank"
+    return text
+
+
+def raw_item(c):
+    return ("break" if c == "\n" else "blank" if c in BLANK else "raw"), c
+
+
+def plain_value(text):
+    return folded([raw_item(c) for c in text])
+
+
+def normalized(text):
+    return text.replace("\r\n", "\n").replace("\r", "\n")
+
+
+def is_empty_line(indentation, line):
+    return len(line) <= indentation and not line.strip(" ")
+
+
+def is_read_line(indentation, line):
+    """An empty line, or content behind the indentation (IsReadLine)."""
+    return is_empty_line(indentation, line) or len(line) - len(line.lstrip(" ")) >= indentation
+
+
+def line_of(indentation, line):
+    """The content of a line, or None of an empty one."""
+    return None if is_empty_line(indentation, line) else line[indentation:]
+
+
+def contents(style, lines):
+    text, above, empty_lines = "", None, 0
+    for line in lines:
+        if line is None:
+            empty_lines += 1
+            continue
+        folds = style == ">" and above and above[:1] not in BLANK and line[:1] not in BLANK
+        between = "\n" * empty_lines or " " if folds else "\n" * (empty_lines + 1)
+        text += "\n" * empty_lines if above is None else between
+        text, above, empty_lines = text + line, line, 0
+    return text, empty_lines
+
+
+def lines_value(style, chomping, is_broken, lines):
+    if not any(line is not None for line in lines):
+        return "\n" * len(lines) if chomping == "+" else ""
+    text, empty_lines = contents(style, lines)
+    return text + "\n" * (is_broken and chomping != "-") + "\n" * (empty_lines if chomping == "+" else 0)
+
+
+def block_value(style, chomping, indentation, text, is_at_end):
+    *ended, last = text.split("\n")
+    lines, counts = [line_of(indentation, line) for line in ended], True
+    if is_empty_line(indentation, last):
+        has_content = any(line is not None for line in lines)
+        counts = is_at_end and last != "" and (len(last) == indentation if has_content else not lines)
+    is_broken = is_empty_line(indentation, last) or is_at_end
+    return lines_value(style, chomping, is_broken, lines + [line_of(indentation, last)] * counts)
+
+
+class Search:
+    """The answers of a text, or with the events `known`, whether these are one."""
+
+    def __init__(self, text, most, bare, known=None, waived=()):
+        self.text, self.most, self.most_bare, self.known, self.waived = text, most, bare, known, waived
+        self.known_ways, self.furthest = {}, 0
+        self.line_starts, self.behind_white = [0], []
+        for index in range(len(text)):
+            self.line_starts.append(index + 1 if self.ends_line(index) else self.line_starts[-1])
+        for index in range(len(text) + 1):
+            self.behind_white.append(APART.match(text, index).end())
+
+    def at(self, index):
+        return self.text[index] if index < len(self.text) else END
+
+    def unless(self, name, holds):
+        """What a way breaks that should meet a condition."""
+        return 0 if holds or name in self.waived else BITS.get(name, REFUSED)
+
+    def tell(self, place, part):
+        """The part as what is told, if it may be told at a place."""
+        if self.known is None:
+            return [((part,), place)]
+        if place.told == len(self.known) or not is_line_of(self.known[place.told], part):
+            return []
+        self.furthest = max(self.furthest, place.told + 1)
+        return [((), place._replace(told=place.told + 1))]
+
+    def may(self, broken):
+        """Whether a way may break so much."""
+        return count_of(broken) <= self.most
+
+    # ## saphyr_input: Places.antt, and saphyr_scalar: Spelling/LineBreaks.antt, Passing.antt
+    def is_document_indicator(self, index):
+        return self.text[index:index + 3] in ("---", "...") and self.at(index + 3) in BLANK_OR_BREAKZ
+
+    def ends_line(self, index):
+        return self.at(index) in BREAK and self.text[index:index + 2] != "\r\n"
+
+    def passed(self, place, index):
+        """The place at an index behind (IsPassed, end_of_text)."""
+        start = self.line_starts[index]
+        col = index - start if start > place.index else place.col + index - place.index
+        return Place(index, col, place.ends_json, place.bare, place.told)
+
+    def along(self, place, count, ends_json=False):
+        """The place behind so many characters of a token on its line."""
+        return Place(place.index + count, place.col + count, ends_json, 0, place.told)
+
+    def behind(self, place, index, ends_json=False):
+        """The place behind a token that may go over several lines."""
+        place = self.passed(place, index)
+        return Place(index, place.col, ends_json, 0, place.told)
+
+    def has_break(self, place, other):
+        return any(c in BREAK for c in self.text[place.index:other.index])
+
+    # ## TokensTaken.antt. Each token stands where the next text does: those that have none may as well stand there, and
+    # the white space that a plain scalar's reading takes may as well be passed here.
+    def apart(self, place):
+        """The place behind blanks, breaks and comments (AreApart)."""
+        return self.passed(place, self.behind_white[place.index])
+
+    def without_text(self, place):
+        """The same place behind a start or a key that has no text (HasNoText, IsBlockStart)."""
+        more = Place(place.index, place.col, place.ends_json, place.bare + 1, place.told)
+        return [more] if place.bare < self.most_bare else []
+
+    def stands(self, place, c):
+        """The place behind a character that stands at a place (TakesCharacter)."""
+        return [self.along(place, 1, c in "]}")] if self.at(place.index) == c else []
+
+    def marker(self, place, text):
+        is_marker = self.text.startswith(text, place.index) and self.is_document_indicator(place.index)
+        return [self.along(place, 3)] if place.col == 0 and is_marker else []
+
+    def name_tokens(self, place, indicator):
+        name = NAME.match(self.text, place.index + 1)
+        if self.at(place.index) == indicator and name:
+            yield name[0], self.along(place, 1 + len(name[0]))
+
+    def is_dash(self, place):
+        return self.at(place.index) == "-" and self.at(place.index + 1) in BLANK_OR_BREAKZ
+
+    def key_tokens(self, place):
+        """Whether a `?` begins a key, and the place behind that (IsQuestionMark, HasNoText)."""
+        if self.at(place.index) == "?" and self.at(place.index + 1) in BLANK_OR_BREAKZ:
+            yield True, self.along(place, 1)
+        yield from ((False, t) for t in self.without_text(place))
+
+    def value_tokens(self, place, context):
+        """The place behind a colon (IsColon)."""
+        following, in_flow = self.at(place.index + 1), context == IN_FLOW
+        ends = following in BLANK_OR_BREAKZ or in_flow and (following in FLOW or place.ends_json)
+        for behind in self.stands(place, ":"):
+            yield behind, self.unless("colon apart", ends)
+
+    # ## Spelling/Tag.antt
+    def decoded(self, index, among):
+        """Each beginning of a text of characters and percent escapes, and the index behind it (IsDecoded)."""
+        value = ""
+        yield value, index
+        while True:
+            escapes = BYTES.match(self.text, index)
+            if escapes:
+                read = bytes.fromhex(escapes[0].replace("%", ""))
+                count = 1 + (read[0] >= 0xc0) + (read[0] >= 0xe0) + (read[0] >= 0xf0)
+                try:
+                    value += read[:count].decode()
+                except UnicodeDecodeError:
+                    return
+                index += 3 * count
+            elif self.at(index) in among.replace("%", ""):
+                value += self.at(index)
+                index += 1
+            else:
+                return
+            yield value, index
+
+    def handles(self, index):
+        """Each handle at an index (IsHandleText)."""
+        named = NAMED_HANDLE.match(self.text, index)
+        return (["!"] if self.at(index) == "!" else []) + ([named[0]] if named else [])
+
+    def tag_texts(self, index):
+        """Each tag at an index: its handle, its suffix and the index behind it (IsTagText)."""
+        if self.at(index) == "!":
+            yield "", "!", index + 1
+        if self.text.startswith("!<", index):
+            yield from (("", uri, end + 1) for uri, end in self.decoded(index + 2, URI) if self.at(end) == ">")
+        for handle in self.handles(index):
+            suffixes = self.decoded(index + len(handle), SUFFIX)
+            yield from ((handle, suffix, end) for suffix, end in suffixes if suffix)
+
+    def tag_tokens(self, place, context):
+        for handle, suffix, end in self.tag_texts(place.index):
+            ends = self.at(end) in BLANK_OR_BREAKZ or context == IN_FLOW and self.at(end) in FLOW
+            yield (handle, suffix), self.along(place, end - place.index), self.unless("end of a tag", ends)
+
+    # ## Spelling/Directive.antt
+    def ends_directive(self, index):
+        """Whether only a line's tail stands behind a directive (IsLineTail)."""
+        return bool(LINE_TAIL.match(self.text, index))
+
+    def directive_texts(self, index):
+        """Each directive at an index (IsReadDirective): what it is, its prefix, the index behind it, what it breaks."""
+        version = VERSION.match(self.text, index)
+        if version:
+            yield "version", "", version.end(), 0
+        front = TAG.match(self.text, index)
+        for handle in self.handles(front.end()) if front else []:
+            follows = self.at(front.end() + len(handle))
+            broken = self.unless("longest handle", handle != "!" or follows not in WORD + "_!")
+            blanks = BLANKS.match(self.text, front.end() + len(handle))
+            starts = [it for it in self.decoded(blanks.end(), SUFFIX + "!") if len(it[0]) == 1]
+            for first, middle in starts:
+                for others, end in self.decoded(middle, URI):
+                    yield handle, first + others, end, broken
+        reserved = RESERVED.match(self.text, index)
+        if reserved and reserved[1] not in ("YAML", "TAG"):
+            yield "reserved", "", reserved.end(), 0
+
+    def directive_tokens(self, place):
+        if place.col == 0 and self.at(place.index) == "%":
+            for handle, prefix, end, broken in self.directive_texts(place.index):
+                if self.ends_directive(end):
+                    yield (handle, prefix), self.along(place, end - place.index), broken
+
+    # ## Reading/Plain.antt
+    def plain_tokens(self, place, context, column):
+        """Each plain scalar at a place (IsPlainToken): its value, the place behind it, and what it breaks."""
+        first, there, is_apart = self.at(place.index), place, True
+        if first in ",[]{}#&*!'\"%@`" + WHITE or first in "-?:" and self.at(place.index + 1) in BLANK_OR_BREAKZ:
+            return
+        while there.index < len(self.text):
+            c, following = self.text[there.index], self.at(there.index + 1)
+            if c in END + MARK or c == "#" and is_apart or c == ":" and following in BLANK_OR_BREAKZ \
+                    or there.col == 0 and self.is_document_indicator(there.index):
+                return
+            there, is_apart = self.behind(there, there.index + 1), c in WHITE
+            if not is_apart and following in BLANK_OR_BREAKZ + MARK + ":" + FLOW:
+                piece = self.text[place.index:there.index]
+                broken = self.plain_breaks(piece, context, following) | self.lines_break(place, there, context, column)
+                yield plain_value(normalized(piece)), there, broken
+
+    def plain_breaks(self, piece, context, following):
+        if context != IN_FLOW:
+            return self.unless("plain in block", piece[0] not in "|>")
+        fits = not set(piece) & set(FLOW) and not (piece[-1] == ":" and following in FLOW)
+        return self.unless("plain in flow", fits)
+
+    def lines_break(self, place, behind, context, column):
+        """What the later lines of a flow scalar outside flow break."""
+        lines = re.split("\r\n|[\r\n]", self.text[place.index:behind.index])[1:]
+        fit = all(len(line) - len(line.lstrip(BLANK)) > column for line in lines if line.strip(BLANK))
+        return self.unless("later lines", context == IN_FLOW or fit)
+
+    # ## Spelling/Quoted.antt and Spelling/QuotedMarkers.antt
+    def break_len(self, index):
+        return 1 + (self.text[index:index + 2] == "\r\n")
+
+    def escape(self, index):
+        """The item that a backslash begins, and how many characters it has, or None."""
+        name = self.at(index + 1)
+        if name in DIGITS:
+            digits = self.text[index + 2:index + 2 + DIGITS[name]]
+            number = int(digits, 16) if len(digits) == DIGITS[name] and set(digits) <= set(HEX) else -1
+            is_character = 0 <= number < 0xd800 or 0xdfff < number <= 0x10ffff
+            return (("escaped", chr(number)), 2 + len(digits)) if is_character else None
+        if name in BREAK:
+            return ("escaped break", name), 1 + self.break_len(index + 1)
+        return (("escaped", ESCAPES[name]), 2) if name in ESCAPES else None
+
+    def quoted_item(self, quote, index):
+        """The item between quotes at an index, and how many characters it has, or None (IsText)."""
+        c = self.at(index)
+        if c == "\\" and quote == '"':
+            return self.escape(index)
+        if c in BREAK:
+            return ("break", c), self.break_len(index)
+        return None if c == END else (raw_item(c), 1 + (c == quote))
+
+    def quoted_tokens(self, place, context, column):
+        """The quoted scalar at a place (IsQuotedToken)."""
+        quote, index, items = self.at(place.index), place.index + 1, []
+        while index < len(self.text):
+            if self.at(index) == quote and not (quote == "'" and self.at(index + 1) == "'"):
+                behind = self.behind(place, index + 1, ends_json=True)
+                yield quote, folded(items), behind, self.lines_break(place, behind, context, column)
+                return
+            found = self.quoted_item(quote, index)
+            if not found:
+                return
+            items.append(found[0])
+            index += found[1]
+            if found[0][0] in ("break", "escaped break") and self.is_document_indicator(index):
+                return
+
+    # ## Reading/BlockText.antt
+    def header(self, index):
+        """The digit and the chomping indicator of a block scalar's header, and the index behind its line."""
+        parts = HEADER.match(self.text, index)
+        if not parts or parts[1] and parts[3] or parts[3] and not parts[2]:
+            return None
+        ends = self.at(parts.end()) != "\t" if parts[4] else self.at(parts.end()) == END
+        return (int(parts[1] or parts[3] or 0), parts[2], parts.end()) if ends else None
+
+    def indentation(self, column, digit, index):
+        """How far the lines from an index on are indented (IsIndentationFrom); `indent` there is `column` + 1."""
+        if digit:
+            return min(max(column, 0) + digit, 2 ** 64 - 1)
+        leading = LEADING.match(self.text, index)
+        return max(max(len(line) for line in normalized(leading[0]).split("\n")), column + 1)
+
+    def is_behind_lines(self, indentation, t):
+        """Whether no more lines follow (IsBehindLines)."""
+        c = self.at(t.index)
+        is_content = c not in BREAKZ + MARK and not (indentation == 0 and self.is_document_indicator(t.index))
+        return not (c == " " and t.col < indentation) and c not in BREAK and not (t.col == indentation and is_content)
+
+    def block_scalar_tokens(self, place, context, column):
+        """Each block scalar at a place (IsBlockScalarToken)."""
+        style, header = self.at(place.index), self.header(place.index)
+        if not header:
+            return
+        digit, chomping, start = header
+        indentation, is_start = self.indentation(column, digit, start), True
+        for end in range(start, len(self.text) + 1):
+            t, lines = self.behind(place, end), normalized(self.text[start:end]).split("\n")
+            fit = all(is_read_line(indentation, line) for line in lines)
+            if fit and self.text[end - 1:end + 1] != "\r\n" and self.is_behind_lines(indentation, t):
+                value = block_value(style, chomping, indentation, "\n".join(lines), self.at(end) == END)
+                is_whole = t.col <= indentation or self.at(end) in BREAKZ + MARK
+                broken = self.unless("block scalar in flow", context != IN_FLOW) | self.unless("whole line", is_whole)
+                yield style, value, t, broken
+            if self.at(end) in END + MARK or is_start and self.is_document_indicator(end):
+                return
+            is_start = self.at(end) in BREAK
+
+    def scalar_tokens(self, place, context, column):
+        if self.at(place.index) in "'\"":
+            yield from self.quoted_tokens(place, context, column)
+        if self.at(place.index) in "|>":
+            yield from self.block_scalar_tokens(place, context, column)
+        yield from (("plain", *it) for it in self.plain_tokens(place, context, column))
+
+    # ## Grammar/TokenGrammar.antt. `column` is that of the innermost open block collection. A context says where a node
+    # stands.
+    @way
+    def properties(self, place, context):
+        """No property, an anchor, a tag or both (YieldProperties)."""
+        yield (None, None), place, 0
+        here = self.apart(place)
+        for anchor, t in self.name_tokens(here, "&"):
+            yield (anchor, None), t, 0
+            yield from (((anchor, tag), u, broken) for tag, u, broken in self.tag_tokens(self.apart(t), context))
+        for tag, t, broken in self.tag_tokens(here, context):
+            yield (None, tag), t, broken
+            yield from (((anchor, tag), u, broken) for anchor, u in self.name_tokens(self.apart(t), "&"))
+
+    def left_out(self, place):
+        return [(told, t, 0) for told, t in self.tell(place, Leaf("=VAL", None, None, "plain", ""))]
+
+    @way
+    def optional(self, place, context, column):
+        yield from self.left_out(place)
+        yield from self.node(place, context, column)
+
+    @way
+    def node(self, place, context, column):
+        """A node (YieldsNode)."""
+        here = self.apart(place)
+        inside = self.unless("inside", context in (IN_FLOW, AS_BLOCK_KEY) or here.col > column)
+        for name, t in self.name_tokens(here, "*") if self.may(inside) else []:
+            yield from ((told, u, inside) for told, u in self.tell(t, Reference("=ALI", name)))
+        for (anchor, tag), t, broken in self.properties(place, context):
+            content, has_property = self.apart(t), (anchor, tag) != (None, None)
+            if self.may(inside | broken):
+                ways = self.flow_content(t, context, column, anchor, tag)
+                yield from ((told, u, inside | broken | more) for told, u, more in ways)
+            broken |= self.unless("own line", not has_property or self.has_break(t, content))
+            if context != IN_FLOW and self.may(broken):
+                ways = self.block_collection(content, context, column, anchor, tag)
+                yield from ((told, u, broken | more) for told, u, more in ways)
+
+    def flow_content(self, place, context, column, anchor, tag):
+        """What no block collection is: a scalar, which may be left out behind a property, or a flow collection."""
+        content = self.apart(place)
+        for style, value, t, broken in self.scalar_tokens(content, context, column):
+            part = Leaf("=VAL", anchor, tag, style, value)
+            yield from ((told, u, broken) for told, u in (self.tell(t, part) if self.may(broken) else []))
+        if (anchor, tag) != (None, None):
+            yield from ((told, t, 0) for told, t in self.tell(place, Leaf("=VAL", anchor, tag, "plain", "")))
+        for name, collection in (("+SEQ", self.flow_sequence), ("+MAP", self.flow_mapping)):
+            if name == "+MAP" or self.at(content.index) == "[":
+                for told, t in self.tell(content, Opening(name, anchor, tag)):
+                    yield from ((told + others, u, broken) for others, u, broken in collection(t, column))
+
+    def closed(self, told, place, broken, name):
+        ends = self.tell(place, Bracket(name)) if self.may(broken) else []
+        return ((told + end, t, broken) for end, t in ends)
+
+    @way
+    def flow_sequence(self, place, column):
+        for t in self.stands(place, "["):
+            for told, u, broken in self.flow_entries(t, column, self.flow_entry):
+                for v in self.stands(self.apart(u), "]"):
+                    yield from self.closed(told, v, broken, "-SEQ")
+
+    @way
+    def flow_mapping(self, place, column):
+        """In braces, of which today's definitions let each be left out."""
+        lacks = self.unless("own braces", False)
+        starts = [(t, 0) for t in self.stands(place, "{")]
+        starts += [(t, lacks) for t in self.without_text(place) if self.may(lacks)]
+        for t, lacks_start in starts:
+            for told, u, broken in self.flow_entries(t, column, self.flow_pair):
+                end = self.apart(u)
+                ends = [(v, 0) for v in self.stands(end, "}")] + [(end, lacks)] * self.may(lacks)
+                for v, lacks_end in ends:
+                    yield from self.closed(told, v, broken | lacks_start | lacks_end, "-MAP")
+
+    def flow_entries(self, place, column, entry):
+        """Entries and the commas behind them (YieldFlowEntries, YieldFlowPairs)."""
+        yield (), place, 0
+        for told, t, broken in entry(place, column):
+            for others, u, more in self.other_flow_entries(t, column, entry.__name__):
+                yield told + others, u, broken | more
+
+    @way
+    def other_flow_entries(self, place, column, name):
+        """A comma or none, or a comma and more entries (YieldOtherFlowEntries, YieldOtherFlowPairs)."""
+        yield (), place, 0
+        for t in self.stands(self.apart(place), ","):
+            yield (), t, 0
+            for told, u, broken in getattr(self, name)(t, column):
+                for others, v, more in self.other_flow_entries(u, column, name):
+                    yield told + others, v, broken | more
+
+    @way
+    def flow_entry(self, place, column):
+        """A node, or a mapping of a single pair, behind a start and before an end without a text or without these."""
+        yield from self.node(place, IN_FLOW, column)
+        here = self.apart(place)
+        for told, t in self.tell(here, Opening("+MAP", None, None)):
+            for others, u, broken in self.single_pair(t, column):
+                yield from self.closed(told + others, u, broken, "-MAP")
+
+    @way
+    def single_pair(self, place, column):
+        """A pair as an entry of brackets (YieldsSinglePair; YieldsFlowPair between a start and an end without text)."""
+        yield from self.marked_pair(place, IN_FLOW, column, True)
+        yield from self.key_alone(place, IN_FLOW, column)
+        for t in self.without_text(place):
+            yield from self.value_alone(t, IN_FLOW, column)
+
+    @way
+    def flow_pair(self, place, column):
+        """An entry of braces (YieldsFlowPair)."""
+        yield from self.marked_pair(place, IN_FLOW, column, False)
+        yield from self.key_alone(place, IN_FLOW, column)
+        yield from self.value_alone(place, IN_FLOW, column)
+        for told, t, broken in self.node(place, IN_FLOW, column):
+            yield from ((told + others, u, broken) for others, u, _ in self.left_out(t))
+
+    @way
+    def value_alone(self, place, context, column):
+        """A key that is left out, and its value."""
+        for told, t, _ in self.left_out(place):
+            for others, u, broken in self.marked_value(t, context, column):
+                yield told + others, u, broken
+
+    @way
+    def marked_value(self, place, context, column):
+        """A colon and a node (YieldsMarkedValue)."""
+        for t, broken in self.value_tokens(self.apart(place), context):
+            for told, u, more in self.optional(t, context, column) if self.may(broken) else []:
+                yield told, u, broken | more
+
+    @way
+    def key_alone(self, place, context, column):
+        """A key without a value (YieldsMarkedKey)."""
+        for has_mark, t in self.key_tokens(self.apart(place)):
+            lacks = self.unless("key with a colon", has_mark)
+            for told, u, broken in self.optional(t, self.key_context(has_mark, context), column):
+                for others, v, _ in self.left_out(u) if self.may(lacks | broken) else []:
+                    yield told + others, v, lacks | broken
+
+    @way
+    def marked_pair(self, place, context, column, is_single):
+        """A key and its value (YieldsMarkedPair)."""
+        start = self.apart(place)
+        for has_mark, t in self.key_tokens(start):
+            for told, u, broken in self.optional(t, self.key_context(has_mark, context), column):
+                colon = self.apart(u)
+                broken |= self.key_breaks(has_mark, start, colon, context, column, is_single)
+                broken |= self.unless("some key", has_mark or u.index > t.index)
+                for others, v, more in self.marked_value(u, context, column) if self.may(broken) else []:
+                    yield told + others, v, broken | more
+
+    def key_context(self, has_mark, context):
+        """Where a key stands: a block mapping's that no `?` begins stands at the mapping's column."""
+        return context if has_mark or context == IN_FLOW else AS_BLOCK_KEY
+
+    def key_breaks(self, has_mark, start, colon, context, column, is_single):
+        in_block = context != IN_FLOW
+        if has_mark:
+            return self.unless("colon's column", not in_block or colon.col == column)
+        on_line = not (in_block or is_single) or not self.has_break(start, colon)
+        is_short = not in_block or colon.index - start.index <= 1024
+        return self.unless("key on a line", on_line) | self.unless("short key", is_short)
+
+    def block_collection(self, place, context, column, anchor, tag):
+        """A block sequence or mapping, from its start on (YieldsSequence, YieldsMapping)."""
+        key = self.unless("flow key", context != AS_BLOCK_KEY)
+        right = self.unless("inside", place.col > column) | key
+        for t in self.without_text(place) if self.may(right) else []:
+            for name in ("SEQ", "MAP"):
+                for told, u in self.tell(t, Opening("+" + name, anchor, tag)):
+                    ways = self.block_entries(u, place.col) if name == "SEQ" else self.block_pairs(u, place.col, False)
+                    for others, v, broken in ways:
+                        broken |= right | self.unless("some entry", v != u)
+                        yield from self.closed(told + others, v, broken, "-" + name)
+        if context in (IN_BLOCK_MAPPING, AS_BLOCK_KEY) and self.is_dash(place) and self.may(key):
+            for told, t in self.tell(place, Opening("+SEQ", anchor, tag)):
+                for others, u, broken in self.block_entries(t, column):
+                    if u != t:
+                        yield from self.closed(told + others, u, key | broken, "-SEQ")
+
+    @way
+    def block_entries(self, place, column):
+        """The entries of a block sequence (YieldBlockEntries)."""
+        yield (), place, 0
+        dash = self.apart(place)
+        at_column = self.unless("entry's column", dash.col == column)
+        for t in self.stands(dash, "-") if self.is_dash(dash) and self.may(at_column) else []:
+            for told, u, broken in self.optional(t, IN_BLOCK, column):
+                for others, v, more in self.block_entries(u, column):
+                    yield told + others, v, at_column | broken | more
+
+    @way
+    def block_pairs(self, place, column, is_behind_key):
+        """The entries of a block mapping (YieldBlockPairs). Behind a key without a value none begins with a colon."""
+        yield (), place, 0
+        here = self.apart(place)
+        at_column = self.unless("entry's column", here.col == column)
+        if not self.may(at_column):
+            return
+        pairs = [(it, False) for it in self.marked_pair(here, IN_BLOCK_MAPPING, column, False)]
+        pairs += [(it, False) for it in self.value_alone(here, IN_BLOCK_MAPPING, column) if not is_behind_key]
+        pairs += [(it, True) for it in self.key_alone(here, IN_BLOCK_MAPPING, column)]
+        for (told, t, broken), is_key in pairs:
+            for others, u, more in self.block_pairs(t, column, is_key):
+                yield told + others, u, at_column | broken | more
+
+    # ## Documents and streams
+    @way
+    def document(self, place, is_free):
+        """A document (YieldsDocument)."""
+        if is_free:
+            for told, t in self.tell(place, Document("+DOC", False, ())):
+                for others, u, broken in self.node(t, IN_BLOCK, ROOT):
+                    yield from self.closed(told + others, u, broken, "-DOC")
+        for directives, t, broken in self.directives(place) if is_free else [((), place, 0)]:
+            if len({handle for handle, _ in directives}) == len(directives):
+                for u in self.marker(self.apart(t), "---"):
+                    yield from self.explicit_document(u, directives, broken)
+
+    def explicit_document(self, place, directives, broken):
+        for told, t in self.tell(place, Document("+DOC", True, directives)):
+            for others, u, more in self.optional(t, IN_BLOCK, ROOT):
+                yield from self.closed(told + others, u, broken | more, "-DOC")
+
+    @way
+    def directives(self, place):
+        """Directives, of which those that are reserved are left out."""
+        yield (), place, 0
+        for directive, t, broken in self.directive_tokens(self.apart(place)):
+            for others, u, more in self.directives(t):
+                yield (directive,) * (directive[0] != "reserved") + others, u, broken | more
+
+    def marks(self, place, has_ends):
+        """The place behind byte order marks, and if need be ends of documents (AreMarks, AreEndsAndMarks)."""
+        here = self.apart(place)
+        if self.at(here.index) == MARK and here.col == 0:
+            return self.marks(here._replace(index=here.index + 1, ends_json=False, bare=0), has_ends)
+        ends = self.marker(here, "...") if has_ends else []
+        return self.marks(ends[0], True) if ends else here
+
+    @way
+    def documents(self, place, is_free):
+        """Documents up to the end (YieldDocuments, YieldsBehindDocument)."""
+        if self.apart(place).index == len(self.text):
+            yield from self.closed((), place, 0, "-STR")
+        for told, t, broken in self.document(place, is_free):
+            behind = self.marks(t, False)
+            ends = self.marker(behind, "...")
+            for others, u, more in self.documents(self.marks(ends[0], True) if ends else behind, bool(ends)):
+                yield told + others, u, broken | more
+
+    def answers(self):
+        """The parts of each answer, and the fewest conditions that it breaks (Yields, AreTakenFrom)."""
+        start = Place(0, 0, False, 0, 0)
+        for told, t in self.tell(start, Bracket("+STR")):
+            for others, _, broken in self.documents(self.marks(t, True), True):
+                yield told + others, broken
+
+
+    def reached(self):
+        """How many of the known events begin an answer, as far as this breaks no condition by then."""
+        collections.deque(self.answers(), maxlen=0)
+        return self.furthest
+
+
+# ## saphyr_parser: ForestEvents.antt, Anchors.antt, TagResolution.antt and Printed.antt
+def printed(value):
+    return "".join(SHOWN.get(c, c) for c in value)
+
+
+def events(parts):
+    """The printed events of the parts of a forest, or None where an alias or a handle stands for nothing."""
+    lines, count, latest, prefixes = [], 0, {}, {}
+    for part in parts:
+        line = part.name
+        if isinstance(part, Document):
+            latest, prefixes = {}, {"": "", "!": "!", "!!": "tag:yaml.org,2002:", **dict(part.prefixes)}
+            line += " ---" * part.explicit
+        elif isinstance(part, Reference):
+            if part.anchor_name not in latest:
+                return None
+            line += f" *{latest[part.anchor_name]}"
+        elif isinstance(part, (Leaf, Opening)):
+            if part.anchor is not None:
+                count += 1
+                latest[part.anchor] = count
+                line += f" &{count}"
+            if part.tag and part.tag[0] not in prefixes:
+                return None
+            line += f" <{prefixes[part.tag[0]]}{part.tag[1]}>" if part.tag else ""
+            line += f" {STYLES[part.style]}{printed(part.value)}" if isinstance(part, Leaf) else ""
+        lines.append(line)
+    return tuple(lines)
+
+
+def is_line_of(line, part):
+    """Whether a printed event may be that of a part, whatever came before."""
+    if isinstance(part, Document):
+        return line == part.name + " ---" * part.explicit
+    if isinstance(part, Reference):
+        return line.startswith("=ALI *")
+    if isinstance(part, Bracket):
+        return line == part.name
+    shown = line[len(part.name):]
+    front = r" &\d+" if part.anchor is not None else ""
+    front += f" <.*?{re.escape(printed(part.tag[1]))}>" if part.tag else ""
+    back = re.escape(f" {STYLES[part.style]}{printed(part.value)}") if isinstance(part, Leaf) else ""
+    return line.startswith(part.name) and bool(re.fullmatch(front + back, shown, re.DOTALL))
+
+
+# ## The parser's own answers
+def answer_of(program, text):
+    """What the program prints of a text, or None where it refuses it."""
+    ran = subprocess.run([program], input=text.encode(), capture_output=True)
+    return None if ran.returncode else ran.stdout.decode()
+
+
+def names_of(broken):
+    return " and ".join(name for name, bit in BITS.items() if broken & bit) or "-"
+
+
+class Count:
+    """What was found: of each class its answers, its texts, and a smallest text with an answer."""
+
+    def __init__(self):
+        self.texts, self.read, self.several, self.not_taken = 0, 0, 0, []
+        self.found, self.having, self.smallest = collections.Counter(), collections.Counter(), {}
+
+    def add(self, text, own, most, bare):
+        self.texts += 1
+        if own is None:
+            return
+        self.read += 1
+        taken, others = False, {}
+        for parts, broken in Search(text, most, bare).answers():
+            answer = events(parts)
+            if answer is None:
+                continue
+            if own == "".join(("+DOC" if line[:4] == "+DOC" else line) + "\n" for line in answer):
+                taken = taken or not broken
+            else:
+                others.setdefault(answer, set()).add(broken)
+        if not taken:
+            self.not_taken.append(text)
+        self.several += bool(others)
+        classes = collections.defaultdict(list)
+        for answer, breaks in others.items():
+            least = min(count_of(it) for it in breaks)
+            for broken in breaks:
+                if bin(broken).count("1") == least:
+                    classes[names_of(broken)].append(answer)
+        for name, answers in classes.items():
+            self.found[name] += len(answers)
+            self.having[name] += 1
+            if name not in self.smallest or len(text) < len(self.smallest[name][0]):
+                self.smallest[name] = text, min(answers, key=len)
+
+    def show(self):
+        for name, number in sorted(self.having.items(), key=lambda it: (it[0] != "-", -it[1])):
+            text, answer = self.smallest[name]
+            print(f"{number:9,} texts, {self.found[name]:9,} answers  {name}")
+            print(f"{'':21}{text!r} as {' / '.join(answer[1:-1])}")
+        for text in self.not_taken[:20]:
+            print(f"the parser's answer breaks a condition, or is not taken: {text!r}")
+        print(f"{self.texts:,} texts, of which the parser reads {self.read:,}: {self.several:,} have other answers, "
+              f"and of {len(self.not_taken):,} its own is not taken")
+
+
+def texts_of(words):
+    alphabet, drawn = words.alphabet, random.Random(words.seed)
+    for length in range(words.length + 1):
+        yield from map("".join, itertools.product(alphabet, repeat=length))
+    pieces = [it for it in PIECES if set(it) <= set(alphabet)] + list(alphabet)
+    for number in range(words.random):
+        text, length = "", drawn.randrange(words.length + 1, (words.longest or 12) + 1)
+        while len(text) < length:
+            text += drawn.choice(pieces if number % 2 else alphabet)
+        yield text[:length]
+
+
+# ## The stored answers
+def unescaped(text):
+    names = {"n": "\n", "r": "\r", "t": "\t", "\\": "\\"}
+    return re.sub(r"\\(?:u\{([0-9a-fA-F]+)\}|(.))", lambda it: chr(int(it[1], 16)) if it[1] else names[it[2]], text)
+
+
+def cases_of(path):
+    """The name, the text and the events of each case, and whether a fault ends them."""
+    for case in open(path, encoding="utf-8", newline="\n").read().split("\n= "):
+        name, *lines = case.split("\n")
+        text = next(line[2:] for line in lines if line[:2] == "< ")
+        told = [unescaped(line[2:].rsplit(" @ ", 1)[0]) for line in lines if line[:2] == "> "]
+        yield name.removeprefix("= "), unescaped(text), told, any(line[:2] == "! " for line in lines)
+
+
+def check_cases(words):
+    wrong, count = collections.defaultdict(list), collections.Counter()
+    for path in words.texts or sorted(DATA + name for name in os.listdir(DATA)):
+        for name, text, told, is_cut in cases_of(path):
+            if len(text) > (words.longest or 700):
+                continue
+            count[is_cut] += 1
+            if is_cut and Search(text, 0, words.bare, told, WAIVED).reached() < len(told):
+                wrong["a beginning"].append((len(text), name, text))
+            elif not is_cut and not any(Search(text, 0, words.bare, told).answers()):
+                breaks = [broken for _, broken in Search(text, words.most, words.bare, told).answers()]
+                wrong[names_of(min(breaks)) if breaks else "not taken"].append((len(text), name, text))
+    for name, cases in sorted(wrong.items()):
+        print(f"{len(cases):9,}  {name}")
+        for _, case, text in sorted(cases)[:5]:
+            print(f"{'':11}{case}: {text!r}")
+    print(f"{count[False]:,} stored answers without a fault, and {count[True]:,} beginnings: "
+          f"{sum(map(len, wrong.values())):,} break a condition")
+    return 1 if wrong else 0
+
+
+def check_open(words):
+    """Whether each open condition is one: its text has its answer, by tokens that break this alone."""
+    wrong = []
+    for name, (_, text, answer) in OPEN.items():
+        known = ["+STR", *(answer if "DOC" in answer else f"+DOC / {answer} / -DOC").split(" / "), "-STR"]
+        breaks = [broken for parts, broken in Search(text, 1, words.bare).answers() if events(parts) == tuple(known)]
+        if BITS[name] not in breaks:
+            wrong.append(f"{name} lets no answer {answer!r} of {text!r} through, but {[names_of(it) for it in breaks]}")
+    print(*wrong, sep="\n", end="\n" * bool(wrong))
+    return bool(wrong)
+
+
+def main():
+    words = argparse.ArgumentParser()
+    for name, number in dict(length=3, random=0, longest=0, seed=1, most=1, bare=2).items():
+        words.add_argument("--" + name, type=int, default=number)
+    words.add_argument("--alphabet", default=ALPHABET)
+    words.add_argument("--program", default=PROGRAM)
+    words.add_argument("--cases", action="store_true")
+    words.add_argument("texts", nargs="*")
+    words = words.parse_args()
+    if check_open(words):
+        return 1
+    if words.cases:
+        return check_cases(words)
+    if not os.path.isfile(words.program):
+        sys.exit(f"{words.program} is not built: run rt ci at the top of the repository, or rt run in the crate")
+    count = Count()
+    for text in words.texts or texts_of(words):
+        own = answer_of(words.program, text)
+        count.add(text, own, words.most, words.bare)
+        if words.texts:
+            print(own or "refused")
+    count.show()
+    return 1 if count.not_taken else 0
+
+
+if __name__ == "__main__":
+    sys.setrecursionlimit(1000000)
+    threading.stack_size(512 << 20)
+    status = []
+    thread = threading.Thread(target=lambda: status.append(main()))
+    thread.start()
+    thread.join()
+    sys.exit(status[0] if status else 2)
