@@ -11,6 +11,7 @@ use Rattle.saphyr_machine.specs.declared.state.State.{State}
 use Rattle.saphyr_machine.specs.declared.state.State.TheVariants as state
 use Rattle.saphyr_machine.specs.Events as events
 use Rattle.saphyr_machine.specs.Events.{Happening}
+use Rattle.saphyr_machine.specs.Faults.{is_own}
 use Rattle.saphyr_machine.specs.Views.Machines.{happening}
 use Rattle.saphyr_machine.specs.Steps.Machine.{Machine, told_event}
 use Rattle.saphyr_machine.specs.Steps.Expected.{event_step}
@@ -135,11 +136,11 @@ abbrev pub IsGivenOrNone : Option Kept → Type 0
 IsGivenOrNone None = Unit {0}
 IsGivenOrNone (Some k) = k.given ≡ true
 
--- what is shown of an event that was read ahead, or of a fault that wasn't handed out
+-- what is shown of an event that was read ahead, or of a fault that reading gave and that wasn't handed out
 abbrev pub IsShown : Option (Result (Bor (Event × Span)) (Bor Fault)) → EventCursor → Type 0
 IsShown None c = (c.current ≡ None) × IsGivenOrNone c.kept
 IsShown (Some (Ok e)) c = c.current ≡ Some (event_of e.now)
-IsShown (Some (Err f)) c = (c.current ≡ None)
+IsShown (Some (Err f)) c = (c.current ≡ None) × (is_own f.now ≡ true)
     × (c.kept ≡ Some (record { fault = ending_of_fault f.now; given = false }))
 
 -- What `peek` shows, and the parser that it leaves.

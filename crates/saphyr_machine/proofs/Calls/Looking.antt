@@ -115,7 +115,7 @@ pub shows_head : (r : Option (Result (Bor (Event × Span)) (Bor Fault))) (old ne
     → IsShown r new → Shows r (to_come new)
 shows_head None old new h (gone, told) = looked old new h gone ∙ shown_fault new.kept told
 shows_head (Some (Ok e)) old new h is = (answer_behind new.kept new.machine, event_first new (event_of e.now) is)
-shows_head (Some (Err f)) old new h (gone, is) = fault_first new (ending_of_fault f.now) gone is
+shows_head (Some (Err f)) old new h (gone, own, is) = fault_first new (ending_of_fault f.now) gone is
 
 -- ## What was read ahead is handed out
 
