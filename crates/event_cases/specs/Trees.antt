@@ -7,7 +7,7 @@ use Rattle.saphyr_parser.specs.Answer.{Answer, Refused}
 use Rattle.yaml_tree.specs.declared.document.Document.{Document}
 use Rattle.yaml_tree.specs.declared.fault.TreeFault.{TreeFault}
 use Rattle.yaml_tree.specs.declared.fault.TreeFault.TheVariants as fault
-use Rattle.yaml_tree.specs.Loading.{happenings}
+use Rattle.saphyr_parser.specs.Nesting.{happenings}
 use Rattle.yaml_tree.specs.Unloading.{unload}
 
 -- No fault ends the events, and they are those of these documents.

@@ -8,6 +8,8 @@ pub use Rattle.saphyr_machine.specs.Cursor
 pub use Rattle.saphyr_machine.specs.Calls
 pub use Rattle.saphyr_machine.specs.Loading
 pub mod Types
+pub mod Words
+pub mod StyleOrder
 pub mod Exactly
 pub mod Limits
 pub mod Peeking
@@ -21,6 +23,7 @@ pub mod Written
 pub mod Dumps
 pub mod Runs
 pub mod EventsTaken
+pub mod Nesting
 pub mod Premises
 pub mod SpansWithin
 pub mod Promises

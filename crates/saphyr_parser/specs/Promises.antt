@@ -9,15 +9,16 @@ use Rattle.json_laws.specs.Grammar.Json.{IsJson}
 use Rattle.layout_laws.specs.Grammar.Layout.{IsLayoutText}
 use Rattle.saphyr_parser.specs.EventsTaken.{AreTaken}
 use Rattle.saphyr_parser.specs.Premises.{ReadsEach, ReadsClosed}
-use Rattle.saphyr_parser.specs.SpansWithin.{HasSpansIn}
+use Rattle.saphyr_parser.specs.SpansWithin.{HasSpansIn, IsLater}
 
 -- of every text: what comes is taken from it, whether prefixes of tags are kept or not
 abbrev pub TakesEvents : List ℕ → EventCursor → Type 0
 TakesEvents text parser = (keep : Bool) → AreTaken keep text (to_come (keeping_tags keep parser))
 
--- of every text: the spans of what comes lie in it, whether prefixes of tags are kept or not
+-- of every text: the spans of what comes lie in it, whatever is called and whenever it is set whether prefixes of tags
+-- are kept
 abbrev pub KeepsSpans : List ℕ → EventCursor → Type 0
-KeepsSpans text parser = (keep : Bool) → HasSpansIn text (to_come (keeping_tags keep parser))
+KeepsSpans text parser = (later : EventCursor) → IsLater parser later → HasSpansIn text (to_come later)
 
 -- a text of JSON with at most so many collections open at once, all of which are in flow style
 abbrev pub IsShallowJson : ℕ → Forest → List ℕ → Type 0

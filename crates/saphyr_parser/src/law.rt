@@ -2,6 +2,7 @@
 //! whoever proves more about parsers.
 ghost use Rattle.std.specs.Prelude.{Bool, List, [], ◌∷◌, ◌++◌, codes, false, true, ℕ, ◌≡◌, ◌≢◌, ◌<◌, ◌≤◌, ◌^◌, length, None, Ok, Option, Some};
 ghost use Rattle.saphyr_parser.specs.Limits.{most_characters};
+ghost use Rattle.saphyr_parser.specs.Nesting.{nest_before_stream, nest_behind_all, nest_behind_stream};
 ghost use Rattle.saphyr_parser.specs.Anchors.{IsLatest, anchors, latest_id};
 ghost use Rattle.saphyr_parser.specs.Preorder.{Part, parts};
 ghost use Rattle.saphyr_parser.specs.Examples.Forests as examples;
@@ -45,7 +46,7 @@ ghost use Rattle.saphyr_parser.specs.More.{BeginsAs, marker_token, with_more};
 mod calling;
 mod comparing;
 
-pub use calling::{hands_out_what_was_peeked, loads_the_end_again};
+pub use calling::{hands_out_what_was_peeked, keeps_no_prefixes_at_first, loads_the_end_again};
 pub use comparing::{hashes_alike, orders_styles, orders_tags, reads_inputs_alike, starts_at_zero};
 use json_laws::scans_each_json;
 use layout_laws::{scans_breaks_alike, scans_each_layout_text};
@@ -54,6 +55,13 @@ use saphyr_scanner::law::bounds_tokens;
 /// A node comes in preorder, between the events of its document and of the stream.
 pub fn tells_nodes_in_preorder()
     ensures { events json_forest false ≡ Some examples.json_events }
+{}
+
+/// The events of each forest nest, from before the stream to behind it.
+pub fn nests_each_forest()
+    ensures { (forest : Forest) (keep : Bool) (told : List Happening)
+        → events forest keep ≡ Some told
+        → nest_behind_all told nest_before_stream ≡ Some nest_behind_stream }
 {}
 
 /// An alias has the latest anchor of its name before it, a collection's own included, but none of an

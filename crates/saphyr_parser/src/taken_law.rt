@@ -5,6 +5,7 @@ ghost use Rattle.saphyr_scalar.specs.declared.scalar.position.Span.{Span};
 ghost use Rattle.saphyr_machine.specs.Answer.{Answer};
 ghost use Rattle.saphyr_machine.specs.Events.{Happening};
 ghost use Rattle.saphyr_parser.specs.EventsTaken.{AreTaken, HaveTokens};
+ghost use Rattle.saphyr_parser.specs.Nesting.{IsAtStart, IsNested};
 ghost use Rattle.saphyr_parser.specs.SpansWithin.{HasSpansIn};
 ghost use Rattle.saphyr_parser.specs.Examples.WrongAnswers as wrong;
 ghost use Rattle.saphyr_parser.specs.Examples.WrongAnswers.{BeginsWithInk, EndsWithStreamEnd};
@@ -13,6 +14,16 @@ ghost use Rattle.saphyr_parser.specs.Examples.WrongAnswers.{BeginsWithInk, EndsW
 pub fn ends_with_stream_end()
     ensures { (keep : Bool) (text : List ℕ) (a : Answer) → AreTaken keep text a
         → EndsWithStreamEnd a }
+{}
+
+/// The events of each answer that is taken from a text, as those of a new parser are, nest: each end belongs to what
+/// has begun last, and each key has its value. They begin with the stream's start, and are complete where no fault
+/// ends them.
+pub fn nests_events()
+    ensures nests { (keep : Bool) (text : List ℕ) (a : Answer) → AreTaken keep text a
+        → IsNested a }
+    ensures starts { (keep : Bool) (text : List ℕ) (a : Answer) → AreTaken keep text a
+        → IsAtStart a }
 {}
 
 /// The value of no plain scalar begins with a blank or a break.

@@ -4,7 +4,7 @@ ghost use Rattle.saphyr_parser.specs.Events as events;
 ghost use Rattle.saphyr_parser.specs.Views.Events.{happening};
 ghost use Rattle.yaml_tree.specs.Unloading.{node_events};
 ghost use Rattle.yaml_tree.specs.OpenSeen.{open_events, place_of};
-ghost use Rattle.yaml_tree.specs.Nesting.{nest_before_stream, place_behind_node, with_next_place, nest_inside};
+ghost use Rattle.saphyr_parser.specs.Nesting.{nest_before_stream, place_behind_node, with_next_place, nest_inside};
 
 use crate::document::Document;
 use crate::fault::TreeFault;

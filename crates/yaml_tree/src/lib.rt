@@ -13,7 +13,7 @@ mod tally;
 
 pub use document::Document;
 pub use fault::TreeFault;
-pub use law::nests_each_forest;
+pub use law::loads_new_parsers;
 pub use loading::load_documents;
 pub use node::Node;
 pub use tally::Limits;

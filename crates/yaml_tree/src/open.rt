@@ -2,7 +2,7 @@
 ghost use Rattle.std.specs.Prelude.{◌≡◌, [], ◌∷◌};
 ghost use Rattle.saphyr_parser.specs.Events.{StreamStart, StreamEnd, DocumentEnd, SequenceEnd, MappingEnd};
 ghost use Rattle.yaml_tree.specs.Unloading.{node_events, document_events};
-ghost use Rattle.yaml_tree.specs.Nesting as nesting;
+ghost use Rattle.saphyr_parser.specs.Nesting as nesting;
 
 use crate::document::Document;
 use crate::fault::TreeFault;

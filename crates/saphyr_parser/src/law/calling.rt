@@ -1,15 +1,22 @@
 //! Callers of a parser, whose contracts follow from those of its calls alone.
-ghost use Rattle.std.specs.Prelude.{◌≡◌, ◌↔◌, None, IfSome, IsTrue};
+ghost use Rattle.std.specs.Prelude.{◌≡◌, ◌↔◌, None, IfSome, IsTrue, false};
 ghost use Rattle.saphyr_scalar.specs.declared.scalar.position.Span.{Span as PlaceSpan};
 ghost use Rattle.saphyr_machine.specs.Calls.{GivesNext};
+ghost use Rattle.saphyr_machine.specs.Cursor.{at_start, keeping_tags};
 ghost use Rattle.saphyr_machine.specs.Views.Events.{happening};
 ghost use Rattle.saphyr_machine.specs.Events.{StreamEnd};
 ghost use Rattle.saphyr_machine.specs.Loading.{SendsOne};
+ghost use Rattle.saphyr_scanner.specs.Views.Tokens.{Remaining};
 
 use crate::cursor::Parser;
 use saphyr_input::input::Input;
 use saphyr_machine::{Event, Fault, SpannedEventReceiver};
 use saphyr_scalar::Span;
+
+/// A new parser keeps no prefixes of tags, so `keep_tags(false)` changes nothing.
+pub fn keeps_no_prefixes_at_first()
+    ensures { (r : Remaining) → keeping_tags false (at_start r) ≡ at_start r }
+{}
 
 fn ends_the_stream(event: Event<'_>) -> bool
     ensures { IsTrue result ↔ happening event.entry ≡ StreamEnd }

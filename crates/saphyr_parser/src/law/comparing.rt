@@ -6,6 +6,7 @@ ghost use Rattle.std.specs.declared.cmp.Ordering.TheVariants.{Equal};
 ghost use Rattle.saphyr_machine.specs.Cursor.{keeping_tags, to_come};
 ghost use Rattle.saphyr_machine.specs.Views.Events.{resolved_tag};
 ghost use Rattle.saphyr_machine.specs.declared.tag.Tag.{Tag as DeclaredTag};
+ghost use Rattle.saphyr_parser.specs.StyleOrder.{style_rank};
 ghost use Rattle.saphyr_scanner.specs.Grammar.Forest.{Style};
 
 use crate::cursor::Parser;
@@ -42,9 +43,11 @@ pub fn orders_tags(one: &Tag, other: &Tag) -> Ordering
     one.cmp(other)
 }
 
-/// Styles compare as equal exactly where they are equal.
+/// Styles are ordered as they are declared: plain, single quoted, double quoted, literal, folded. They compare as
+/// equal exactly where they are equal.
 pub fn orders_styles(one: ScalarStyle, other: ScalarStyle) -> Ordering
-    ensures { result ≡ Equal ↔ one ≡ other }
+    ensures order { result ≡ nat_cmp (style_rank one) (style_rank other) }
+    ensures equal { result ≡ Equal ↔ one ≡ other }
 {
     one.cmp(&other)
 }

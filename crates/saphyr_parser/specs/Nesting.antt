@@ -1,7 +1,9 @@
 -- How events nest (YAML 1.2.2, 3.2.1): a stream has documents, a document has one node, a mapping has keys and values
 -- in turn, and each end belongs to what has begun last.
-use Rattle.std.specs.Prelude.{List, [], ◌∷◌, Option, Some, None, option_map, option_and_then}
-use Rattle.saphyr_parser.specs.Events.{Happening, Nothing, StreamStart, StreamEnd, DocumentStart, DocumentEnd, Alias, Scalar, SequenceStart, SequenceEnd, MappingStart, MappingEnd}
+use Rattle.std.specs.Prelude.{◌≡◌, List, [], ◌∷◌, map, Option, Some, None, option_map, option_and_then}
+use Rattle.saphyr_scalar.specs.declared.scalar.position.Span.{Span}
+use Rattle.saphyr_machine.specs.Answer.{Ending, Answer}
+use Rattle.saphyr_machine.specs.Events.{Happening, Nothing, StreamStart, StreamEnd, DocumentStart, DocumentEnd, Alias, Scalar, SequenceStart, SequenceEnd, MappingStart, MappingEnd}
 
 -- what stands around a place
 pub data NestPlace : Type 0 where
@@ -92,3 +94,31 @@ nest_behind_event MappingEnd n = end_mapping n n.innermost
 abbrev pub nest_behind_all : List Happening → Nest → Option Nest
 nest_behind_all [] n = Some n
 nest_behind_all (h ∷ hs) n = option_and_then (nest_behind_all hs) (nest_behind_event h n)
+
+-- ## What a parser gives
+
+-- events without their spans
+abbrev pub happenings : List (Happening × Span) → List Happening
+happenings events = map (λ (e : Happening × Span). e.0) events
+
+abbrev pub IsStreamStart : Happening → Type 0
+IsStreamStart StreamStart = Unit {0}
+IsStreamStart _ = ⊥
+
+abbrev pub BeginsStream : List (Happening × Span) → Option Ending → Type 0
+BeginsStream (e ∷ events) fault = IsStreamStart e.0
+BeginsStream [] (Some f) = Unit {0}
+BeginsStream [] None = ⊥
+
+-- nothing was handed out: the stream's start comes next, or a fault
+abbrev pub IsAtStart : Answer → Type 0
+IsAtStart a = BeginsStream a.events a.fault
+
+abbrev pub IsWhole : Option Ending → Option Nest → Type 0
+IsWhole fault None = ⊥
+IsWhole None (Some nest) = nest ≡ nest_behind_stream
+IsWhole (Some f) (Some nest) = Unit {0}
+
+-- the events nest, and are complete where no fault ends them
+abbrev pub IsNested : Answer → Type 0
+IsNested a = IsWhole a.fault (nest_behind_all (happenings a.events) nest_before_stream)

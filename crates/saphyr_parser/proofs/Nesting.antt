@@ -1,21 +1,34 @@
--- The events of a forest nest.
-use Rattle.std.proofs.Common.{◌≡◌, Bool, List, [], ◌∷◌, ◌++◌, Option, Some, None, option_map, option_and_then, refl, sym, ap, subst, ◌∙◌, append_assoc, inl, inr, Err}
+-- The events of a forest nest, and so do those that are taken from a text.
+use Rattle.std.proofs.Common.{◌≡◌, Bool, List, [], ◌∷◌, ◌++◌, Option, Some, None, option_map, option_and_then, refl, sym, ap, subst, ◌∙◌, append_assoc, ℕ}
 use Rattle.saphyr_scanner.specs.Grammar.Forest.{Node, Alias, Scalar, Seq, Map, Nodes, NoNode, MoreNodes, Pairs, NoPair, MorePairs, Forest}
 use Rattle.saphyr_scalar.specs.declared.scalar.position.Span.{Span}
 use Rattle.saphyr_parser.specs.Preorder as parts
 use Rattle.saphyr_parser.specs.Preorder.{Part, node_parts, entry_parts, pair_parts, document_parts}
-use Rattle.saphyr_parser.specs.Events as events
-use Rattle.saphyr_parser.specs.Events.{Happening}
+use Rattle.saphyr_machine.specs.Events as events
+use Rattle.saphyr_machine.specs.Events.{Happening}
 use Rattle.saphyr_parser.specs.ForestEvents.{event_of_part, first_and_others, events_behind}
 use Rattle.saphyr_parser.specs.ForestEvents as forests
-use Rattle.saphyr_parser.specs.Answer.{Ending, Answer}
-use Rattle.saphyr_parser.specs.EventsTaken.{IsAllUnless}
-use Rattle.yaml_tree.specs.declared.fault.TreeFault.TheVariants as fault
-use Rattle.yaml_tree.specs.declared.tally.Limits.{Limits}
-use Rattle.yaml_tree.specs.Nesting.{NestPlace, InStream, BeforeRoot, BehindRoot, InSequence, BeforeKey, BeforeValue, Nest, nest_before_stream, nest_behind_stream, place_behind_node, with_next_place, nest_inside, nest_behind_event, nest_behind_all}
-use Rattle.yaml_tree.specs.Loading.{happenings, IsWhole, IsNested, IsStreamStart, BeginsStream, IsAtStart, LoadsDocuments}
-use Rattle.yaml_tree.specs.Forests.{IsOfForest}
-use Rattle.yaml_tree.proofs.Taking.{nest_behind_all-append}
+use Rattle.saphyr_machine.specs.Answer.{Ending, Answer}
+use Rattle.saphyr_parser.specs.EventsTaken.{IsCut, AreTaken}
+use Rattle.saphyr_parser.specs.Nesting.{NestPlace, InStream, BeforeRoot, BehindRoot, InSequence, BeforeKey, BeforeValue, Nest, nest_before_stream, nest_behind_stream, place_behind_node, with_next_place, nest_inside, nest_behind_event, nest_behind_all, happenings, IsWhole, IsNested, IsStreamStart, BeginsStream, IsAtStart}
+
+-- ## Longer lists
+
+option_and_then-twice : {A B C : Type 0} (f : B → Option C) (g : A → Option B) (o : Option A)
+    → option_and_then (λ x. option_and_then f (g x)) o ≡ option_and_then f (option_and_then g o)
+option_and_then-twice f g None = refl
+option_and_then-twice f g (Some x) = refl
+
+and_then_along : {A B : Type 0} (f g : A → Option B) (o : Option A) → ((x : A) → f x ≡ g x)
+    → option_and_then f o ≡ option_and_then g o
+and_then_along f g None h = refl
+and_then_along f g (Some x) h = h x
+
+pub nest_behind_all-append : (xs ys : List Happening) (n : Nest)
+    → nest_behind_all (xs ++ ys) n ≡ option_and_then (nest_behind_all ys) (nest_behind_all xs n)
+nest_behind_all-append [] ys n = refl
+nest_behind_all-append (x ∷ xs) ys n = and_then_along _ _ (nest_behind_event x n) (λ m. nest_behind_all-append xs ys m)
+    ∙ option_and_then-twice (nest_behind_all ys) (nest_behind_all xs) (nest_behind_event x n)
 
 -- ## Steps
 
@@ -180,7 +193,7 @@ forest_nests forest keep es p =
 
 -- ## Beginnings
 
-whole_at_end : (ending : Option Ending) (o : Option Nest) (missing : List Happening) → IsAllUnless ending missing
+whole_at_end : (ending : Option Ending) (o : Option Nest) (missing : List Happening) → IsCut ending missing
     → option_and_then (nest_behind_all missing) o ≡ Some nest_behind_stream → IsWhole ending o
 whole_at_end ending None missing h e = absurd (cc)
 whole_at_end (Some f) (Some n) missing h e = tt
@@ -189,31 +202,27 @@ whole_at_end None (Some n) missing h e =
     let found : Some n ≡ Some nest_behind_stream = sym same ∙ e in
     cc
 
-pub nests : (forest : Forest) (keep : Bool) (a : Answer) → IsOfForest forest keep a → IsNested a
-nests forest keep a h = whole_at_end a.fault (nest_behind_all (happenings a.events) nest_before_stream) h.missing
-    h.all_given
-    (sym (nest_behind_all-append (happenings a.events) h.missing nest_before_stream)
-    ∙ forest_nests forest keep (happenings a.events ++ h.missing) h.are_events)
+pub nests : (keep : Bool) (text : List ℕ) (a : Answer) → AreTaken keep text a → IsNested a
+nests keep text a (forest, t) =
+    let b = t.begins in
+    whole_at_end a.fault (nest_behind_all (happenings a.events) nest_before_stream) b.missing b.all_given
+    (sym (nest_behind_all-append (happenings a.events) b.missing nest_before_stream)
+    ∙ forest_nests forest keep (happenings a.events ++ b.missing) b.are_events)
 
 -- ## Starts
 
 begins_stream : (es : List (Happening × Span)) (ending : Option Ending) (missing : List Happening) (h : Happening)
-    (others : List Happening) → IsAllUnless ending missing
+    (others : List Happening) → IsCut ending missing
     → happenings es ++ missing ≡ h ∷ others → events.StreamStart ≡ h → BeginsStream es ending
 begins_stream (e ∷ es) ending missing h others k p q = let same : events.StreamStart ≡ e.0 = cc in
     subst IsStreamStart same tt
 begins_stream [] (Some f) missing h others k p q = tt
 begins_stream [] None missing h others k p q = let none : [] ≡ h ∷ others = sym k ∙ p in absurd (cc)
 
-pub starts : (forest : Forest) (keep : Bool) (a : Answer) → IsOfForest forest keep a → IsAtStart a
-starts forest keep a h =
-    let b = first_and_others_begins (Some events.StreamStart)
+pub starts : (keep : Bool) (text : List ℕ) (a : Answer) → AreTaken keep text a → IsAtStart a
+starts keep text a (forest, t) =
+    let all = first_and_others_begins (Some events.StreamStart)
     (events_behind keep (parts.OpenStream ∷ []) (document_parts forest))
-    (happenings a.events ++ h.missing) h.are_events in
-    let first : events.StreamStart ≡ b.first = cc b.is in
-    begins_stream a.events a.fault h.missing b.first b.others h.all_given b.joined first
-
-pub never_late : (forest : Forest) (keep : Bool) (limits : Limits) (all left : Answer) → IsOfForest forest keep all
-    → LoadsDocuments limits (Err fault.NotFresh) all left → ⊥
-never_late forest keep limits all left h (inl late) = late.0 (starts forest keep all h)
-never_late forest keep limits all left h (inr ill) = ill (nests forest keep all h)
+    (happenings a.events ++ t.begins.missing) t.begins.are_events in
+    let first : events.StreamStart ≡ all.first = cc all.is in
+    begins_stream a.events a.fault t.begins.missing all.first all.others t.begins.all_given all.joined first
