@@ -2,5 +2,5 @@ pub mod Weights
 pub mod Unloads
 pub mod Taking
 pub mod Loads
-pub mod Forests
+pub mod Leaving
 pub mod Copies

@@ -13,12 +13,12 @@ use Rattle.yaml_tree.specs.declared.fault.TreeFault.TheVariants as fault
 use Rattle.yaml_tree.specs.declared.tally.Limits.{Limits}
 use Rattle.yaml_tree.specs.declared.document.Document.{Document}
 use Rattle.yaml_tree.specs.declared.loading.Loader.{Loader}
-use Rattle.yaml_tree.specs.Nesting.{Nest, nest_before_stream, nest_behind_stream, nest_behind_all}
+use Rattle.saphyr_parser.specs.Nesting.{Nest, nest_before_stream, nest_behind_stream, nest_behind_all, happenings, IsAtStart, IsWhole, IsNested}
 use Rattle.yaml_tree.specs.Counting.{no_nodes, StayWithin}
 use Rattle.yaml_tree.specs.BuilderSeen.{Finishes}
 use Rattle.yaml_tree.specs.LoaderSeen.{HasTaken, Forbids}
-use Rattle.yaml_tree.specs.Loading.{happenings, IsWhole, IsNested, Stops, FailsToLoad, LoadsDocuments, HasRead, TakesAll}
-use Rattle.yaml_tree.proofs.Taking.{nest_behind_all-append}
+use Rattle.yaml_tree.specs.Loading.{Stops, FailsToLoad, LoadsDocuments, HasRead, TakesAll}
+use Rattle.saphyr_parser.proofs.Nesting.{nest_behind_all-append}
 
 -- ## Event after event
 
@@ -127,21 +127,22 @@ whole_is_complete f o n e g w =
     subst (λ (x : Option Nest). IsWhole None x) g (subst (λ (x : Option Ending). IsWhole x o) e w)
 
 pub loads_all : (limits : Limits) (all left : Answer) (l : Loader) (r : Result (Vec Document Global) TreeFault)
-    → TakesAll limits (Ok tt) all left l → Finishes r l.builder → LoadsDocuments limits r all left
-loads_all limits all left l (Ok documents) t f = (f.0 ∙ t.0.written, t.1, t.0.within, t.2)
-loads_all limits all left l (Err fault.NotFresh) t f = inr (λ w. f (whole_is_complete all.fault _ _ t.1 t.0.nested w))
-loads_all limits all left l (Err fault.OutOfMemory) t f = absurd f
-loads_all limits all left l (Err (fault.Parse g)) t f = absurd f
-loads_all limits all left l (Err (fault.TooManyNodes at most)) t f = absurd f
-loads_all limits all left l (Err (fault.TooDeep at most)) t f = absurd f
+    → IsAtStart all → TakesAll limits (Ok tt) all left l → Finishes r l.builder → LoadsDocuments limits r all left
+loads_all limits all left l (Ok documents) b t f = (f.0 ∙ t.0.written, t.1, t.0.within, t.2)
+loads_all limits all left l (Err fault.NotFresh) b t f =
+    inr (b, λ w. f (whole_is_complete all.fault _ _ t.1 t.0.nested w))
+loads_all limits all left l (Err fault.OutOfMemory) b t f = absurd f
+loads_all limits all left l (Err (fault.Parse g)) b t f = absurd f
+loads_all limits all left l (Err (fault.TooManyNodes at most)) b t f = absurd f
+loads_all limits all left l (Err (fault.TooDeep at most)) b t f = absurd f
 
-pub loads_none : (limits : Limits) (all left : Answer) (f : TreeFault) → FailsToLoad limits f all left
+pub loads_none : (limits : Limits) (all left : Answer) (f : TreeFault) → IsAtStart all → FailsToLoad limits f all left
     → LoadsDocuments limits (Err f) all left
-loads_none limits all left fault.NotFresh h = inr h
-loads_none limits all left fault.OutOfMemory h = h
-loads_none limits all left (fault.Parse g) h = h
-loads_none limits all left (fault.TooManyNodes at most) h = h
-loads_none limits all left (fault.TooDeep at most) h = h
+loads_none limits all left fault.NotFresh b h = inr (b, h)
+loads_none limits all left fault.OutOfMemory b h = h
+loads_none limits all left (fault.Parse g) b h = h
+loads_none limits all left (fault.TooManyNodes at most) b h = h
+loads_none limits all left (fault.TooDeep at most) b h = h
 
 -- ## Want of memory before the first event
 
@@ -168,7 +169,7 @@ runs_out limits all left (Err (fault.Parse parse.OutOfMemory)) h l =
 runs_out limits all left (Err (fault.Parse parse.Receiver)) h l = l
 runs_out limits all left (Err (fault.Parse parse.InsideDocument)) h l = l
 runs_out limits all left (Err fault.NotFresh) h (inl late) = absurd (late.0 tt)
-runs_out limits all left (Err fault.NotFresh) h (inr ill) = absurd (ill tt)
+runs_out limits all left (Err fault.NotFresh) h (inr ill) = absurd (ill.1 tt)
 runs_out limits all left (Err fault.OutOfMemory) h l = absurd (never_stops _ _ _ l)
 runs_out limits all left (Err (fault.TooManyNodes at most)) h l = absurd (never_stops _ _ _ l)
 runs_out limits all left (Err (fault.TooDeep at most)) h l = absurd (never_stops _ _ _ l)

@@ -7,29 +7,14 @@ use Rattle.yaml_tree.specs.declared.fault.TreeFault.TheVariants as fault
 use Rattle.yaml_tree.specs.declared.tally.Limits.{Limits}
 use Rattle.yaml_tree.specs.declared.tally.Tally.{Tally}
 use Rattle.yaml_tree.specs.declared.loading.Loader.{Loader}
-use Rattle.yaml_tree.specs.Nesting.{Nest, nest_behind_event, nest_behind_all, nest_before_stream}
+use Rattle.saphyr_parser.specs.Nesting.{Nest, nest_behind_event, nest_behind_all, nest_before_stream}
 use Rattle.yaml_tree.specs.Counting.{Counts, counts_behind, counts_behind_all, no_nodes, StayWithin, Fits}
 use Rattle.yaml_tree.specs.TallySeen.{counts_of, Exceeds, Tallies}
 use Rattle.yaml_tree.specs.BuilderSeen.{nest_of, Grows}
 use Rattle.yaml_tree.specs.LoaderSeen.{HasTaken, Forbids, TakesLast}
+use Rattle.saphyr_parser.proofs.Nesting.{nest_behind_all-append}
 
 -- ## Longer lists
-
-option_and_then-twice : {A B C : Type 0} (f : B → Option C) (g : A → Option B) (o : Option A)
-    → option_and_then (λ x. option_and_then f (g x)) o ≡ option_and_then f (option_and_then g o)
-option_and_then-twice f g None = refl
-option_and_then-twice f g (Some x) = refl
-
-and_then_along : {A B : Type 0} (f g : A → Option B) (o : Option A) → ((x : A) → f x ≡ g x)
-    → option_and_then f o ≡ option_and_then g o
-and_then_along f g None h = refl
-and_then_along f g (Some x) h = h x
-
-pub nest_behind_all-append : (xs ys : List Happening) (n : Nest)
-    → nest_behind_all (xs ++ ys) n ≡ option_and_then (nest_behind_all ys) (nest_behind_all xs n)
-nest_behind_all-append [] ys n = refl
-nest_behind_all-append (x ∷ xs) ys n = and_then_along _ _ (nest_behind_event x n) (λ m. nest_behind_all-append xs ys m)
-    ∙ option_and_then-twice (nest_behind_all ys) (nest_behind_all xs) (nest_behind_event x n)
 
 pub counts_behind_all-append : (xs ys : List Happening) (c : Counts)
     → counts_behind_all (xs ++ ys) c ≡ counts_behind_all ys (counts_behind_all xs c)

@@ -10,7 +10,7 @@ use Rattle.yaml_tree.specs.declared.builder.Builder.{Builder}
 use Rattle.yaml_tree.specs.declared.document.Document.{Document}
 use Rattle.yaml_tree.specs.Unloading.{unload}
 use Rattle.yaml_tree.specs.OpenSeen.{open_events, place_of}
-use Rattle.yaml_tree.specs.Nesting.{Nest, nest_around, nest_behind_stream, nest_behind_event}
+use Rattle.saphyr_parser.specs.Nesting.{Nest, nest_around, nest_behind_stream, nest_behind_event}
 
 -- the events so far
 abbrev pub builder_events : Builder → List Happening

@@ -1,10 +1,9 @@
 pub mod Weight
 pub mod Unloading
-pub mod Nesting
 pub mod Counting
 pub mod OpenSeen
 pub mod BuilderSeen
 pub mod TallySeen
 pub mod LoaderSeen
 pub mod Loading
-pub mod Forests
+pub mod Leaving

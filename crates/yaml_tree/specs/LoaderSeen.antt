@@ -8,7 +8,7 @@ use Rattle.yaml_tree.specs.declared.tally.Limits.{Limits}
 use Rattle.yaml_tree.specs.declared.loading.Loader.{Loader}
 use Rattle.yaml_tree.specs.BuilderSeen.{builder_events, nest_of}
 use Rattle.yaml_tree.specs.TallySeen.{counts_of, Exceeds}
-use Rattle.yaml_tree.specs.Nesting.{nest_before_stream, nest_behind_all}
+use Rattle.saphyr_parser.specs.Nesting.{nest_before_stream, nest_behind_all}
 use Rattle.yaml_tree.specs.Counting.{no_nodes, counts_behind_all, Fits, StayWithin}
 
 -- the loader has taken exactly these events

@@ -1,10 +1,10 @@
 -- What loading documents answers, and what it leaves.
-use Rattle.std.specs.Prelude.{◌≡◌, ◌⊎◌, ◌<◌, Bool, true, false, List, [], ◌∷◌, ◌++◌, map, Option, Some, None, Result, Ok, Err, Vec, string_bytes}
+use Rattle.std.specs.Prelude.{◌≡◌, ◌⊎◌, ◌<◌, Bool, true, false, List, [], ◌∷◌, ◌++◌, Some, None, Result, Ok, Err, Vec, string_bytes}
 use Rattle.std.specs.Global.{Global}
 use Rattle.saphyr_scalar.specs.declared.scalar.position.Span.{Span}
 use Rattle.saphyr_parser.specs.Types.Fault.TheVariants as parse
-use Rattle.saphyr_parser.specs.Events.{Happening, StreamStart}
-use Rattle.saphyr_parser.specs.Answer.{Ending, Answer, Refused, empty_answer}
+use Rattle.saphyr_parser.specs.Events.{Happening}
+use Rattle.saphyr_parser.specs.Answer.{Answer, Refused, empty_answer}
 use Rattle.saphyr_parser.specs.Cursor.{count, Stays}
 use Rattle.yaml_tree.specs.declared.fault.TreeFault.{TreeFault}
 use Rattle.yaml_tree.specs.declared.fault.TreeFault.TheVariants as fault
@@ -12,37 +12,9 @@ use Rattle.yaml_tree.specs.declared.tally.Limits.{Limits}
 use Rattle.yaml_tree.specs.declared.document.Document.{Document}
 use Rattle.yaml_tree.specs.declared.loading.Loader.{Loader}
 use Rattle.yaml_tree.specs.Unloading.{unload}
-use Rattle.yaml_tree.specs.Nesting.{Nest, nest_before_stream, nest_behind_stream, nest_behind_all}
+use Rattle.saphyr_parser.specs.Nesting.{happenings, IsAtStart, IsNested}
 use Rattle.yaml_tree.specs.Counting.{no_nodes, StayWithin}
 use Rattle.yaml_tree.specs.LoaderSeen.{HasTaken, Forbids}
-
--- events without their spans
-abbrev pub happenings : List (Happening × Span) → List Happening
-happenings events = map (λ (e : Happening × Span). e.0) events
-
--- ## Lists of events
-
-abbrev pub IsStreamStart : Happening → Type 0
-IsStreamStart StreamStart = Unit {0}
-IsStreamStart _ = ⊥
-
-abbrev pub BeginsStream : List (Happening × Span) → Option Ending → Type 0
-BeginsStream (e ∷ events) fault = IsStreamStart e.0
-BeginsStream [] (Some f) = Unit {0}
-BeginsStream [] None = ⊥
-
--- nothing was handed out: the stream's start comes next, or a fault
-abbrev pub IsAtStart : Answer → Type 0
-IsAtStart a = BeginsStream a.events a.fault
-
-abbrev pub IsWhole : Option Ending → Option Nest → Type 0
-IsWhole fault None = ⊥
-IsWhole None (Some nest) = nest ≡ nest_behind_stream
-IsWhole (Some f) (Some nest) = Unit {0}
-
--- the events nest, and are complete where no fault ends them
-abbrev pub IsNested : Answer → Type 0
-IsNested a = IsWhole a.fault (nest_behind_all (happenings a.events) nest_before_stream)
 
 -- ## Answers
 
@@ -84,7 +56,8 @@ IsLate all left = (IsAtStart all → ⊥) × (left ≡ all)
 abbrev pub LoadsDocuments : Limits → Result (Vec Document Global) TreeFault → Answer → Answer → Type 0
 LoadsDocuments limits (Ok documents) all left = (unload documents.items ≡ happenings all.events) × (all.fault ≡ None)
     × StayWithin limits (happenings all.events) no_nodes × (left ≡ empty_answer)
-LoadsDocuments limits (Err fault.NotFresh) all left = IsLate all left ⊎ FailsToLoad limits fault.NotFresh all left
+LoadsDocuments limits (Err fault.NotFresh) all left =
+    IsLate all left ⊎ (IsAtStart all × FailsToLoad limits fault.NotFresh all left)
 LoadsDocuments limits (Err f) all left = FailsToLoad limits f all left
 
 -- ## Steps of a call

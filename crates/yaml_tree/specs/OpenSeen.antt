@@ -11,7 +11,7 @@ use Rattle.yaml_tree.specs.declared.document.Document.{Document}
 use Rattle.yaml_tree.specs.declared.open.Open.{Open}
 use Rattle.yaml_tree.specs.declared.open.Open.TheVariants as variants
 use Rattle.yaml_tree.specs.Unloading.{node_events, pair_events, document_events, unload}
-use Rattle.yaml_tree.specs.Nesting.{NestPlace, BeforeStream, InStream, BehindStream, BeforeRoot, BehindRoot, InSequence, BeforeKey, BeforeValue}
+use Rattle.saphyr_parser.specs.Nesting.{NestPlace, BeforeStream, InStream, BehindStream, BeforeRoot, BehindRoot, InSequence, BeforeKey, BeforeValue}
 
 abbrev pub any_events : Option Node → List Happening
 any_events None = []

@@ -3,7 +3,9 @@ ghost use Rattle.std.specs.Prelude.{◌≡◌, List, [], ◌∷◌, ◌++◌};
 ghost use Rattle.saphyr_parser.specs.Events.{Happening};
 ghost use Rattle.saphyr_parser.specs.Views.Events.{happening};
 ghost use Rattle.saphyr_parser.specs.Cursor.{to_come};
+ghost use Rattle.saphyr_parser.specs.Calls.{Looks};
 ghost use Rattle.yaml_tree.specs.Loading.{LoadsDocuments, TakesAll, BeginsSo};
+ghost use Rattle.yaml_tree.specs.Leaving.{Leaves, LeavesFrom};
 
 use crate::builder::Builder;
 use crate::document::Document;
@@ -22,7 +24,8 @@ pub fn load_documents<'input, T: Input>(
     parser: &mut Parser<'input, T>,
     limits: Limits,
 ) -> Result<Vec<Document>, TreeFault>
-    ensures { LoadsDocuments limits result (to_come parser.old) (to_come parser.new) }
+    ensures loads { LoadsDocuments limits result (to_come parser.old) (to_come parser.new) }
+    ensures leaves { Leaves result parser.old parser.new }
 {
     if !is_at_start(parser) {
         return Err(TreeFault::NotFresh);
@@ -34,7 +37,8 @@ pub fn load_documents<'input, T: Input>(
 
 // Whether the stream's start comes next, or a fault.
 fn is_at_start<'input, T: Input>(parser: &mut Parser<'input, T>) -> bool
-    ensures { BeginsSo result (to_come parser.old) (to_come parser.new) }
+    ensures begins { BeginsSo result (to_come parser.old) (to_come parser.new) }
+    ensures looks { Looks parser.old parser.new }
 {
     match parser.peek() {
         Some(Ok((Event::StreamStart, _))) => true,
@@ -67,8 +71,10 @@ impl Loader {
         &mut self,
         parser: &mut Parser<'input, T>,
     ) -> Result<(), TreeFault>
-        ensures { (limits : Limits) → HasTaken limits [] self.old
+        ensures takes { (limits : Limits) → HasTaken limits [] self.old
             → TakesAll limits result (to_come parser.old) (to_come parser.new) self.new }
+        ensures leaves { (limits : Limits) → HasTaken limits [] self.old
+            → LeavesFrom result parser.old parser.new }
     {
         while let Some(read) = parser.next_event() {
             match read {
