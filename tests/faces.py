@@ -46,16 +46,25 @@ def libraries():
 
 def make_library(kit):
     """Compiles the library over those that `rt ci` left, in a minute or two, which `rt lib` would prove again."""
-    sys.path.insert(0, f"{kit}/bin")
-    import rtlib  # the module of the kit's command `rt`
-
-    crate = rtlib.Crate(CRATE, ROOT, {})
     os.makedirs(f"{CRATE}/out", exist_ok=True)
-    with open(os.devnull, "w", encoding="utf-8") as crate.out:
-        proved = all(os.path.isdir(below.rlib) for below in crate.below())
-        if proved and not crate.compile(["--jobs", "2"], "out/libsaphyr_parser_c.a"):
-            return
-    call(["rt", "lib"], CRATE)
+    words = [f"{kit}/bin/rattle", "build", *library_words(kit), "-o", "out/libsaphyr_parser_c.a"]
+    if subprocess.run(words, cwd=CRATE, capture_output=True).returncode:
+        call(["rt", "lib"], CRATE)
+
+
+def library_words(kit):
+    """How the compiler `rattle` is told what the library stands on: the crates of crates.txt, and the kit's."""
+    with open(f"{ROOT}/crates.txt", encoding="utf-8") as it:
+        lines = [line.partition(":") for line in it]
+    named = {before.split()[0]: behind.split() for before, _, behind in lines if before.strip()}
+    own = {name: f"{ROOT}/crates/{name}/out/rlib" for name in named}
+    words = ["--crate-name", "saphyr_parser_c", "--crate-type", "staticlib", "src/lib.rt"]
+    for name in ["std", *named["saphyr_parser_c"]]:
+        words += ["--extern", f"{name}={own.get(name, f'{kit}/rlibs')}/{name}.rlib"]
+    for folder in (f"{kit}/rlibs", *filter(os.path.isdir, own.values())):
+        words += ["-L", f"dependency={folder}"]
+    words += ["--antt-project", f"{kit}/rattle/logic/antt-project.json", "--logic-built", f"{kit}/logic_built"]
+    return [*words, "--links", "saphyr_parser_c=", "--toolchain", f"{kit}/toolchain", "--backend", "llvm"]
 
 
 def built(folder, compiler):
