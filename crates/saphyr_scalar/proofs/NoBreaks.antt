@@ -8,8 +8,7 @@ use Rattle.saphyr_scalar.specs.Views.Cursor.{along}
 use Rattle.scalar_values.specs.declared.flow.Quote.{Quote}
 use Rattle.scalar_values.specs.declared.flow.Quote.TheVariants.{Single, Double}
 use Rattle.scalar_values.specs.Flow as flow
-use Rattle.saphyr_scalar.specs.Steps.Directive.{ReadDirective, version, tag_prefix, reserved}
-use Rattle.saphyr_scalar.specs.Spelling.Directive.{IsReadDirective}
+use Rattle.saphyr_scalar.specs.Spelling.Directive.{ReadDirective, version, tag_prefix, reserved, IsReadDirective}
 use Rattle.saphyr_scalar.specs.Passing.{IsPassed, nothing, character}
 use Rattle.saphyr_scalar.specs.Spelling.Tag.{AreIn, IsByteEscape, AreByteEscapes, IsCharacter, IsDecoded, IsHandleText, IsPrefix}
 use Rattle.saphyr_scalar.proofs.Moving.{along_none, along_more}
@@ -105,7 +104,7 @@ directive_no_break (version major minor) t (gap, high, low, blanks, first, secon
       ),
     )
 directive_no_break (tag_prefix handle prefix) t
-    (h, p, (first, second, written, before, between, is_handle, is_prefix, text), _, _) =
+    (h, p, (first, second, written, before, between, is_handle, whole, is_prefix, text), _, _) =
     let last : NoBreaks (second ++ written) = no_breaks_both second written
     (no_breaks_in is_blank refl refl second between) (prefix_no_break p written is_prefix) in
     let parts : NoBreaks (h ++ (second ++ written)) = no_breaks_both h (second ++ written) (handle_no_break h is_handle)

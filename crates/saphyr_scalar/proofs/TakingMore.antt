@@ -19,8 +19,8 @@ use Rattle.saphyr_scalar.specs.Steps.Block.{chomping, indicator, header_break, h
 use Rattle.saphyr_scalar.specs.Steps.Anchor.{anchor}
 use Rattle.saphyr_scalar.specs.Steps.Tag.{tag}
 use Rattle.saphyr_scalar.specs.Spelling.Tag.{IsHandleText, IsTagText}
-use Rattle.saphyr_scalar.specs.Steps.Directive.{ReadDirective, version, tag_prefix, reserved, directive}
-use Rattle.saphyr_scalar.specs.Spelling.Directive.{IsReadDirective}
+use Rattle.saphyr_scalar.specs.Steps.Directive.{directive}
+use Rattle.saphyr_scalar.specs.Spelling.Directive.{ReadDirective, version, tag_prefix, reserved, IsReadDirective}
 use Rattle.saphyr_scalar.proofs.Properties.AnchorsRead.{spells_anchor}
 use Rattle.saphyr_scalar.proofs.Properties.TagsSpelled.{spells_tag}
 use Rattle.saphyr_scalar.proofs.Directives.Spelled.{spells_directive}
@@ -217,7 +217,7 @@ tag_takes in_flow s t handle suffix opening e =
 
 directive_some : (d : ReadDirective) (t : List ℕ) → IsReadDirective d t → 0 < length t
 directive_some (version major minor) t is = some_behind_first 37 t _ is.6
-directive_some (tag_prefix handle prefix) t is = some_behind_first 37 t _ is.2.7
+directive_some (tag_prefix handle prefix) t is = some_behind_first 37 t _ is.2.8
 directive_some (reserved name) t is = some_behind_first 37 t _ is.1.7
 
 pub directive_takes : (s t : Cursor) (d : ReadDirective) (end : Marker) → slice_index s.rest 0 ≡ percent_sign

@@ -14,8 +14,7 @@ use Rattle.saphyr_scalar.specs.Steps.Anchor as anchors
 use Rattle.saphyr_scalar.specs.Steps.Block as blocks
 use Rattle.saphyr_scalar.specs.Views.Cursor.{Cursor, along, pass_break}
 use Rattle.saphyr_scalar.specs.Steps.Directive as directives
-use Rattle.saphyr_scalar.specs.Steps.Directive.{ReadDirective}
-use Rattle.saphyr_scalar.specs.Spelling.Directive.{IsReadDirective, IsLineTail}
+use Rattle.saphyr_scalar.specs.Spelling.Directive.{ReadDirective, IsReadDirective, IsLineTail}
 use Rattle.scalar_values.specs.Flow.{mark}
 use Rattle.scalar_values.specs.Folding.{folded}
 use Rattle.saphyr_scalar.specs.Passing.{IsPassed}

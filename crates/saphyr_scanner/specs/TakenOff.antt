@@ -8,7 +8,7 @@ use Rattle.saphyr_scalar.specs.Views.Cursor.{Cursor}
 use Rattle.saphyr_scalar.specs.Steps.Anchor as anchors
 use Rattle.saphyr_scalar.specs.Steps.Block as blocks
 use Rattle.saphyr_scalar.specs.Steps.Directive as directives
-use Rattle.saphyr_scalar.specs.Steps.Directive.{ReadDirective}
+use Rattle.saphyr_scalar.specs.Spelling.Directive.{ReadDirective}
 use Rattle.saphyr_scalar.specs.Steps.Plain as words
 use Rattle.saphyr_scalar.specs.Steps.Quoted as quoted
 use Rattle.saphyr_scalar.specs.Steps.Tag as tags

@@ -15,7 +15,8 @@ use Rattle.saphyr_scalar.specs.Steps.Plain.{plain}
 use Rattle.saphyr_scalar.specs.Steps.Block.{block_scalar}
 use Rattle.saphyr_scalar.specs.Steps.Tag.{tag}
 use Rattle.saphyr_scalar.specs.Steps.Anchor.{anchor}
-use Rattle.saphyr_scalar.specs.Steps.Directive.{ReadDirective, directive}
+use Rattle.saphyr_scalar.specs.Steps.Directive.{directive}
+use Rattle.saphyr_scalar.specs.Spelling.Directive.{ReadDirective}
 
 -- A place of the text and one of the normalized text: on the same line, in the same column, and what stands behind the
 -- first is, normalized, what stands behind the second.

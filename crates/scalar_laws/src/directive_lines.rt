@@ -3,8 +3,8 @@
 ghost use Rattle.std.specs.Prelude.{◌≡◌, ℕ, ◌+◌, true, List, ◌++◌, length, Ok, encode_utf8_all, slice_index};
 ghost use Rattle.saphyr_input.specs.Classes.{is_breakz};
 ghost use Rattle.saphyr_scalar.specs.Views.Cursor.{Cursor, along, pass_break};
-ghost use Rattle.saphyr_scalar.specs.Steps.Directive.{ReadDirective, reserved, directive};
-ghost use Rattle.saphyr_scalar.specs.Spelling.Directive.{IsDirectiveText, IsReservedDirective, IsLineTail};
+ghost use Rattle.saphyr_scalar.specs.Steps.Directive.{directive};
+ghost use Rattle.saphyr_scalar.specs.Spelling.Directive.{ReadDirective, reserved, IsDirectiveText, IsReservedDirective, IsLineTail};
 ghost use Rattle.saphyr_scalar.specs.Steps.Quoted.{mid_line};
 
 /// Where a version directive or a tag directive is spelled, and behind it blanks, a comment and a

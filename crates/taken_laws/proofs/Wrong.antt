@@ -1,5 +1,7 @@
 -- Why wrong tokens are not taken from a text.
 pub mod BlockLines
+pub mod CutLines
 pub mod PlainValues
 pub mod Places
+pub mod ShortHandles
 pub mod Standing

@@ -51,6 +51,14 @@ pub fn takes_no_others()
     ensures place_behind { ¬ IsPlaceOf (codes "a") (texts.marker_at 2 1 2) }
 {}
 
+/// What is read is as long as it can be: a line of a literal scalar goes up to its break, and what follows its `a` in
+/// ` a#b` is no comment, neither in a document nor in a mapping; and of `%TAG !e!t:x` the handle is not `!`.
+pub fn takes_no_shorter()
+    ensures cut_line { ¬ AreTakenFrom (codes "--- |\n a#b\n") texts.cut_line }
+    ensures cut_value { ¬ AreTakenFrom (codes ": |\n a#b\n") texts.cut_value }
+    ensures short_handle { ¬ AreTakenFrom (codes "%TAG !e!t:x\n--- !u v\n") texts.short_handle }
+{}
+
 /// The value of a plain scalar begins with no blank and no break.
 pub fn begins_values_with_ink()
     ensures { (value : List ℕ) (span : Span) (s t : Cursor) → IsPlainToken value span s t

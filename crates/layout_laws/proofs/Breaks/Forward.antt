@@ -15,7 +15,7 @@ use Rattle.saphyr_scalar.specs.Steps.Anchor as anchors
 use Rattle.saphyr_scalar.specs.Steps.Block as blocks
 use Rattle.saphyr_scalar.specs.Views.Cursor.{Cursor, along, next_line, pass_break, separation}
 use Rattle.saphyr_scalar.specs.Steps.Directive as directives
-use Rattle.saphyr_scalar.specs.Steps.Directive.{ReadDirective}
+use Rattle.saphyr_scalar.specs.Spelling.Directive.{ReadDirective}
 use Rattle.scalar_values.specs.Flow.{mark}
 use Rattle.saphyr_scalar.specs.Passing as passing
 use Rattle.saphyr_scalar.specs.Passing.{IsPassed}

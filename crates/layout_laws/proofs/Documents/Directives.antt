@@ -5,7 +5,7 @@ use Rattle.std.proofs.lemmas.List.{length-append}
 use Rattle.saphyr_scalar.specs.declared.scalar.position.Marker.{Marker}
 use Rattle.saphyr_scalar.specs.Views.Cursor.{Cursor, along, next_line}
 use Rattle.saphyr_scalar.specs.Steps.Directive as directives
-use Rattle.saphyr_scalar.specs.Spelling.Directive.{IsDirectiveText, IsLineTail}
+use Rattle.saphyr_scalar.specs.Spelling.Directive.{ReadDirective, version, tag_prefix, reserved, IsDirectiveText, IsLineTail}
 use Rattle.saphyr_scanner.specs.declared.engine.level.Context.TheVariants as context
 use Rattle.saphyr_scanner.specs.Grammar.Forest as forest
 use Rattle.saphyr_scanner.specs.Grammar.Forest.{Version, TagPrefix, Reserved}
@@ -31,7 +31,7 @@ use Rattle.saphyr_input.specs.Indicators.{percent_sign}
 use Rattle.saphyr_input.specs.Classes.{line_feed}
 use Rattle.saphyr_scanner.proofs.Root.{state_at}
 
-directive_here : (m e : Marker) (blank : Bool) (r : List ℕ) (d : directives.ReadDirective) (u : Cursor)
+directive_here : (m e : Marker) (blank : Bool) (r : List ℕ) (d : ReadDirective) (u : Cursor)
     (k : Option Candidate) (a : Bool) (ad : ℕ) (ps : List Place) → m.col ≡ 0
     → directives.directive (cursor_at (percent_sign ∷ r) m blank) ≡ Ok (d, e, u)
     → fetch_here (state_at false (cursor_at (percent_sign ∷ r) m blank) context.Block k [] a ad ps)
@@ -43,7 +43,7 @@ directive_here m e blank r d u k a ad ps col is = rw (eq-eqb m.col 0 col, is) re
 
 -- A directive is read where its line's break and o stand behind it.
 record ReadsAs (d : forest.Directive) (t : List ℕ) : Type 0 where
-  said : directives.ReadDirective
+  said : ReadDirective
   end : Marker → Marker
   kind : directive_kind said ≡ directive_token d
   first : slice_index t 0 ≡ percent_sign
@@ -51,7 +51,7 @@ record ReadsAs (d : forest.Directive) (t : List ℕ) : Type 0 where
       → directives.directive (cursor_at (t ++ (line_feed ∷ o)) m blank)
       ≡ Ok (said, end m, cursor_at o (next_line (along m (length t)) 1) true)
 
-reads_text : ReaderPromises → (d : forest.Directive) (said : directives.ReadDirective) (t tail : List ℕ)
+reads_text : ReaderPromises → (d : forest.Directive) (said : ReadDirective) (t tail : List ℕ)
     → directive_kind said ≡ directive_token d → IsDirectiveText said t → IsLineTail tail
     → slice_index (t ++ tail) 0 ≡ percent_sign → ReadsAs d (t ++ tail)
 reads_text readers d said t tail kind is tail_is first =
@@ -62,7 +62,7 @@ reads_text readers d said t tail kind is tail_is first =
       first = first;
       reads = λ m blank o. readers.directive (cursor_at ((t ++ tail) ++ (10 ∷ o)) m blank) said t tail (10 ∷ o)
           (append_assoc t tail (10 ∷ o)) is tail_is refl
-          ∙ ap (λ (n : ℕ). Ok (let x : directives.ReadDirective × Marker × Cursor =
+          ∙ ap (λ (n : ℕ). Ok (let x : ReadDirective × Marker × Cursor =
           (said, along m (length t), cursor_at o (next_line (along m n) 1) true) in x))
           (sym (length-append t tail));
     }
@@ -75,18 +75,18 @@ handle_is (forest.Named word) t h = h.2
 reads_as : ReaderPromises → (d : forest.Directive) (t : List ℕ) → IsDirective d t → ReadsAs d t
 reads_as readers (Version major minor) t (text, tail, is, tail_is, e) =
     subst (ReadsAs (Version major minor)) (sym e)
-    (reads_text readers (Version major minor) (directives.version major minor) text tail refl is tail_is
+    (reads_text readers (Version major minor) (version major minor) text tail refl is tail_is
     (ap (λ (x : List ℕ). slice_index (x ++ tail) 0) is.6))
 reads_as readers (TagPrefix handle prefix) t (written, text, tail, handle_of, is, tail_is, e) =
     subst (ReadsAs (TagPrefix handle prefix)) (sym e)
     (reads_text readers (TagPrefix handle prefix)
-    (directives.tag_prefix (encode_utf8_all written) (encode_utf8_all prefix)) text tail
-    (ap (λ (x : List ℕ). directive_kind (directives.tag_prefix (encode_utf8_all x) (encode_utf8_all prefix)))
+    (tag_prefix (encode_utf8_all written) (encode_utf8_all prefix)) text tail
+    (ap (λ (x : List ℕ). directive_kind (tag_prefix (encode_utf8_all x) (encode_utf8_all prefix)))
     (handle_is handle written handle_of)) (written, prefix, is, refl, refl) tail_is
     (ap (λ (x : List ℕ). slice_index (x ++ tail) 0) is.7))
 reads_as readers (Reserved name) t is =
     record {
-      said = directives.reserved (encode_utf8_all name);
+      said = reserved (encode_utf8_all name);
       end = λ m. along m (length t);
       kind = refl;
       first = ap (λ (x : List ℕ). slice_index x 0) is.7;

@@ -13,7 +13,7 @@ use Rattle.saphyr_input.specs.declared.input.SkipTabs.TheVariants.{Yes}
 use Rattle.saphyr_scalar.specs.declared.scalar.position.Marker.{Marker}
 use Rattle.saphyr_scalar.specs.Views.Cursor.{Cursor, along, pass_blanks, separation, behind_separation}
 use Rattle.saphyr_scalar.specs.Spelling.Tag.{AreIn}
-use Rattle.saphyr_scalar.specs.Steps.BlockRead.{spaces}
+use Rattle.saphyr_scalar.specs.Reading.BlockLines.{spaces}
 use Rattle.saphyr_scalar.proofs.Runs.{run_len}
 use Rattle.scalar_laws.specs.Spelling.Spaces.{joined_pieces, AreEach, IsComment, IsCommentBehind, IsSeparationLine, IsSeparation, IsLineRest}
 use Rattle.layout_laws.proofs.Flow.States.{moved, past, IsInk}

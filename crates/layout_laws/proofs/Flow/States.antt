@@ -22,8 +22,8 @@ use Rattle.scalar_values.specs.Flow.{plain_value}
 use Rattle.scalar_values.specs.Folding.{folded}
 use Rattle.saphyr_scalar.specs.Passing.{IsPassed}
 use Rattle.saphyr_scalar.specs.Steps.Directive as directives
-use Rattle.saphyr_scalar.specs.Steps.Directive.{ReadDirective}
-use Rattle.saphyr_scalar.specs.Spelling.Directive.{IsDirectiveText, IsReservedDirective, IsLineTail}
+use Rattle.saphyr_scalar.specs.Spelling.Directive as spelling
+use Rattle.saphyr_scalar.specs.Spelling.Directive.{ReadDirective, IsDirectiveText, IsReservedDirective, IsLineTail}
 use Rattle.scalar_values.specs.declared.folding.Item.{Item}
 use Rattle.scalar_values.specs.declared.flow.Quote.{Quote}
 use Rattle.saphyr_scalar.specs.Spelling.Tag.{AreIn, IsAnchorName, IsTagText, EndsTag}
@@ -222,7 +222,7 @@ pub record ReaderPromises : Type 0 where
       → is_breakz (slice_index x 0) ≡ true
       → directives.directive s
       ≡ Ok (
-        directives.reserved (encode_utf8_all name),
+        spelling.reserved (encode_utf8_all name),
         along s.mark (length t),
         pass_break
             (mid_line (along s.mark (length t)) x),

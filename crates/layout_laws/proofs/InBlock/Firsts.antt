@@ -1,6 +1,6 @@
 -- The first tokens of nodes and of documents.
 use Rattle.std.proofs.Common.{◌≡◌, ℕ, Bool, true, false, List, [], ◌∷◌, ◌++◌, refl, sym, ap, ◌∙◌, subst, append_assoc, ◌⊎◌, inl, inr}
-use Rattle.saphyr_scalar.specs.Steps.BlockRead.{spaces}
+use Rattle.saphyr_scalar.specs.Reading.BlockLines.{spaces}
 use Rattle.scalar_laws.specs.Spelling.Spaces.{IsLastFiller}
 use Rattle.saphyr_scanner.specs.Grammar.Forest.{Properties, Directive, Node, Alias, Scalar, Seq, Map, Document, Forest}
 use Rattle.saphyr_scanner.specs.Limits.{most_open}

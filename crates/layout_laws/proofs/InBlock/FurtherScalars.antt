@@ -2,7 +2,7 @@
 use Rattle.std.proofs.Common.{◌≡◌, ℕ, zero, suc, Bool, true, false, List, [], ◌∷◌, ◌++◌, slice_index, refl, sym, ap, ◌∙◌, subst, append_assoc, ◌⊎◌, inl, inr, IsTrue}
 use Rattle.saphyr_input.specs.Classes.{is_z, is_yaml_non_break, line_feed}
 use Rattle.saphyr_input.specs.Places.{is_document_indicator}
-use Rattle.saphyr_scalar.specs.Steps.BlockRead.{spaces}
+use Rattle.saphyr_scalar.specs.Reading.BlockLines.{spaces}
 use Rattle.scalar_values.specs.Block.{Line}
 use Rattle.scalar_laws.specs.Spelling.Block as spelling
 use Rattle.scalar_laws.specs.Spelling.Block.{IsIndicator, no_digit, digit, IsChomping, strip, clip, keep, no_comment, comment, IsContent, AreLines, no_lines, empty, content, last, IsBody, leading, first, first_and_last, IsHeader, digit_first, chomping_first, IsBehind, IsBlockScalar}

@@ -8,7 +8,7 @@ use Rattle.scalar_values.specs.declared.block.BlockStyle.{BlockStyle}
 use Rattle.scalar_values.specs.declared.block.BlockStyle.TheVariants as block_style
 use Rattle.saphyr_scalar.specs.declared.scalar.position.Marker.{Marker}
 use Rattle.saphyr_scalar.specs.declared.scalar.position.Span.{Span}
-use Rattle.saphyr_scalar.specs.Steps.BlockRead.{spaces}
+use Rattle.saphyr_scalar.specs.Reading.BlockLines.{spaces}
 use Rattle.saphyr_scalar.specs.Steps.Block as blocks
 use Rattle.saphyr_scalar.specs.Views.Cursor.{Cursor, ◌>>=◌}
 use Rattle.saphyr_scanner.specs.Steps.Core.{Core, completed_step, from_to, is_too_far, drop_far_key, least_column, save_key}

@@ -8,7 +8,7 @@ use Rattle.scalar_values.specs.declared.block.BlockStyle.TheVariants as block_st
 use Rattle.scalar_values.specs.declared.block.Chomping.{Chomping}
 use Rattle.saphyr_scalar.specs.declared.scalar.position.Marker.{Marker}
 use Rattle.saphyr_scalar.specs.declared.scalar.position.Span.{Span}
-use Rattle.saphyr_scalar.specs.Steps.BlockRead.{spaces}
+use Rattle.saphyr_scalar.specs.Reading.BlockLines.{spaces}
 use Rattle.scalar_values.specs.Block.{Line}
 use Rattle.saphyr_scalar.specs.Steps.Block.{block_scalar}
 use Rattle.saphyr_scalar.specs.Views.Cursor.{Cursor, next_line}

@@ -2,7 +2,7 @@
 use Rattle.std.proofs.Common.{◌≡◌, ℕ, suc, ◌+◌, ◌≤◌, false, List, [], ◌∷◌, ◌++◌, length, refl, sym, ap, ◌∙◌, arith, subst, append_assoc, append-nil, inl, inr}
 use Rattle.saphyr_input.specs.Indicators.{colon}
 use Rattle.saphyr_scalar.specs.declared.scalar.position.Marker.{Marker}
-use Rattle.saphyr_scalar.specs.Steps.BlockRead.{spaces}
+use Rattle.saphyr_scalar.specs.Reading.BlockLines.{spaces}
 use Rattle.scalar_laws.specs.Spelling.Spaces.{IsSeparation}
 use Rattle.saphyr_scanner.specs.declared.engine.level.Context.TheVariants as context
 use Rattle.saphyr_scanner.specs.Grammar.Tokens as tokens

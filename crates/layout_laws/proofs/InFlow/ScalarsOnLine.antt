@@ -5,7 +5,7 @@ use Rattle.saphyr_input.specs.Classes.{is_blank, is_break, line_feed}
 use Rattle.scalar_values.specs.declared.folding.Item.{Item}
 use Rattle.scalar_values.specs.declared.flow.Quote.{Quote}
 use Rattle.scalar_values.specs.declared.flow.Quote.TheVariants.{Single, Double}
-use Rattle.saphyr_scalar.specs.Steps.BlockRead.{spaces}
+use Rattle.saphyr_scalar.specs.Reading.BlockLines.{spaces}
 use Rattle.saphyr_scalar.specs.Steps.Quoted.{break_len}
 use Rattle.saphyr_scalar.specs.Spelling.Quoted.{IsText, closed, itself, broken, two_quotes, escaped, numbered, escaped_break}
 use Rattle.saphyr_scalar.specs.Spelling.Tag.{AreIn}

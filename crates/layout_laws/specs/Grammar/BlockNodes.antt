@@ -9,7 +9,7 @@ use Rattle.scalar_values.specs.declared.block.BlockStyle.{BlockStyle}
 use Rattle.scalar_values.specs.declared.block.BlockStyle.TheVariants as block
 use Rattle.scalar_values.specs.declared.block.Chomping.{Chomping}
 use Rattle.scalar_values.specs.Block.{Line, lines_value}
-use Rattle.saphyr_scalar.specs.Steps.BlockRead.{spaces}
+use Rattle.saphyr_scalar.specs.Reading.BlockLines.{spaces}
 use Rattle.scalar_laws.specs.Spelling.Block.{IsBlockScalar}
 use Rattle.scalar_laws.specs.Spelling.Spaces.{AreSpaces, IsLineEnd, IsEol, IsFiller, IsLastFiller, IsGap}
 use Rattle.saphyr_scanner.specs.Grammar.Forest.{Style, Literal, Folded, Properties, no_properties, Node, Alias, Scalar, Seq, Map, Nodes, NoNode, MoreNodes, Pairs, NoPair, MorePairs, left_out}

@@ -1,7 +1,6 @@
 -- What is read as a block scalar is the value of its lines.
-use Rattle.std.proofs.Common.{◌≡◌, ℕ, ◌≤◌, true, false, List, [], ◌∷◌, ◌++◌, slice_index, Ok, refl, sym, ap, ◌∙◌, arith, subst, nat_lt, nat_le, map, encode_utf8_all}
+use Rattle.std.proofs.Common.{◌≡◌, ℕ, ◌≤◌, true, false, List, [], ◌∷◌, ◌++◌, slice_index, Ok, refl, sym, ap, ◌∙◌, arith, subst, nat_lt, nat_le, map, encode_utf8_all, inl, inr}
 use Rattle.std.specs.Prelude.{◌&&◌, max, Option, Some, None, unwrap_or}
-use Rattle.std.proofs.Common.{inl, inr}
 use Rattle.std.proofs.lemmas.List.{append-nil}
 use Rattle.saphyr_input.specs.Breaks.{normalized}
 use Rattle.saphyr_input.specs.Classes.{is_break, is_z, is_yaml_non_break}
@@ -16,7 +15,8 @@ use Rattle.saphyr_scalar.specs.declared.scalar.block.lines.EmptyLines.{EmptyLine
 use Rattle.saphyr_scalar.specs.Views.Cursor.{Cursor, along, next_line}
 use Rattle.scalar_values.specs.Block.{lines_of, line_of, block_value}
 use Rattle.scalar_values.specs.Lines.{last_line}
-use Rattle.saphyr_scalar.specs.Steps.BlockRead.{ending, indentation_of, IsRead, HasLines, EndsLines}
+use Rattle.saphyr_scalar.specs.Steps.BlockRead.{indentation_of, IsRead, EndsLines}
+use Rattle.saphyr_scalar.specs.Reading.BlockLines.{ending, HasLines}
 use Rattle.saphyr_scalar.specs.Steps.Block.{is_indentation, is_cr_lf, inside_break, with_empty_line, with_column, pass_empty_lines, pass_empty_lines_at, between_at, tail, tail_alone, is_unfinished, chomped_lines, content, behind_leading_lines, behind_header, block_scalar, header, no_lines, given_indentation}
 use Rattle.saphyr_scalar.proofs.Block.Lines.{stops}
 use Rattle.saphyr_scalar.proofs.Block.Turns.{stopped, no_start}
@@ -123,6 +123,7 @@ alone_read st c i u v k l z =
         no_space = l.space;
         no_break = l.clear;
         no_content = no_start i v.mark.col v.rest (z_is_none _ z);
+        whole_line = λ _. z_is_none _ z;
       };
       value =
           ap encode_utf8_all
@@ -179,6 +180,7 @@ cut_header st c i u z blank =
         no_space = ap (is_indentation (Some i) u.mark.col) first ∙ nul_no_indentation (Some i) u.mark.col;
         no_break = ap is_break first;
         no_content = no_start i u.mark.col u.rest (z_is_none _ z);
+        whole_line = λ _. z_is_none _ z;
       };
       value = ap encode_utf8_all
           (nothing_alone c u blank ∙ sym (ap (block_value st c i []) ends ∙ nothing_read st c i));

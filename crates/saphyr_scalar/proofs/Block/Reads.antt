@@ -18,7 +18,7 @@ use Rattle.scalar_values.specs.Block.{Empty, lines_of}
 use Rattle.scalar_values.specs.Lines.{last_line}
 use Rattle.saphyr_scalar.specs.Steps.Block.{line_cursor, is_indentation, is_cr_lf, inside_break, with_column, with_empty_line, pass_empty_lines, header, header_break, header_end, header_behind, chomping, last_chomping, indicator}
 use Rattle.saphyr_scalar.proofs.Block.Texts.{spaces, spaces_more, plain_spaces, first_line, line_spaces, normal_half, normalized_break, lines_break}
-use Rattle.saphyr_scalar.specs.Steps.BlockRead.{HasLines}
+use Rattle.saphyr_scalar.specs.Reading.BlockLines.{HasLines}
 use Rattle.saphyr_scalar.proofs.Block.Wholes.{empties}
 use Rattle.std.proofs.lemmas.Bool.{not-false, and_parts}
 use Rattle.saphyr_input.proofs.Basics.Booleans.{by_test}

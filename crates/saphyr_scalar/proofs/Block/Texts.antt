@@ -1,6 +1,5 @@
 -- The text of a block scalar, told by its lines.
-use Rattle.std.proofs.Common.{inl, inr, append_assoc, subst}
-use Rattle.std.proofs.Common.{◌≡◌, ℕ, zero, suc, ◌+◌, ◌<◌, ◌≤◌, Bool, true, false, List, [], ◌∷◌, ◌++◌, length, length-append, drop, slice_index, refl, sym, ap, ◌∙◌, arith, add-one, nat_eq, nat_le, map}
+use Rattle.std.proofs.Common.{inl, inr, append_assoc, subst, ◌≡◌, ℕ, zero, suc, ◌+◌, ◌<◌, ◌≤◌, Bool, true, false, List, [], ◌∷◌, ◌++◌, length, length-append, drop, slice_index, refl, sym, ap, ◌∙◌, arith, add-one, nat_eq, nat_le, map}
 use Rattle.std.specs.Prelude.{◌&&◌, ◌==◌, not, if◌then◌else◌}
 use Rattle.std.specs.List.{list_all}
 use Rattle.std.proofs.lemmas.Bool.Decides.{nat_tests}
@@ -11,8 +10,8 @@ use Rattle.scalar_values.specs.declared.block.BlockStyle.{BlockStyle}
 use Rattle.scalar_values.specs.declared.block.Chomping.{Chomping}
 use Rattle.scalar_values.specs.declared.block.Ending.{Ending}
 use Rattle.scalar_values.specs.Block.{Line, Empty, Content, is_empty_line, line_of, contents_behind, empty_at_end, chomped, is_at_end, is_broken}
-pub use Rattle.saphyr_scalar.specs.Steps.BlockRead.{spaces}
-use Rattle.saphyr_scalar.specs.Steps.BlockRead.{HasLines}
+pub use Rattle.saphyr_scalar.specs.Reading.BlockLines.{spaces}
+use Rattle.saphyr_scalar.specs.Reading.BlockLines.{HasLines}
 use Rattle.scalar_values.specs.Lines.{ended_lines, last_line, has_break}
 use Rattle.saphyr_scalar.specs.Steps.Block.{is_cr_lf}
 use Rattle.saphyr_input.proofs.Basics.Booleans.{or_false_left, or_false_right}

@@ -1,7 +1,6 @@
 -- The value of a block scalar's lines, as they are read.
-use Rattle.std.proofs.Common.{◌≡◌, ℕ, ◌+◌, ◌<◌, ◌≤◌, Bool, true, false, List, [], ◌∷◌, ◌++◌, length, slice_index, refl, sym, ap, ◌∙◌, arith, subst, append_assoc, nat_eq, nat_le, nat_lt}
+use Rattle.std.proofs.Common.{◌≡◌, ℕ, ◌+◌, ◌<◌, ◌≤◌, Bool, true, false, List, [], ◌∷◌, ◌++◌, length, slice_index, refl, sym, ap, ◌∙◌, arith, subst, append_assoc, nat_eq, nat_le, nat_lt, inl, inr}
 use Rattle.std.specs.Prelude.{◌&&◌, not, max, if◌then◌else◌, Some, ◌⊎◌}
-use Rattle.std.proofs.Common.{inl, inr}
 use Rattle.std.proofs.lemmas.Bool.Decides.{nat_tests}
 use Rattle.std.proofs.lemmas.List.{append-nil, length-replicate}
 use Rattle.saphyr_input.specs.Breaks.{normalized}
@@ -16,7 +15,8 @@ use Rattle.saphyr_scalar.specs.declared.scalar.position.Marker.{Marker}
 use Rattle.saphyr_scalar.specs.Views.Cursor.{Cursor, along, next_line}
 use Rattle.scalar_values.specs.Block as reading
 use Rattle.scalar_values.specs.Block.{Line, Empty, is_more_indented, break_between, contents_behind, empty_at_end, is_at_end}
-use Rattle.saphyr_scalar.specs.Steps.BlockRead.{ending, HasLines, EndsLines}
+use Rattle.saphyr_scalar.specs.Steps.BlockRead.{EndsLines}
+use Rattle.saphyr_scalar.specs.Reading.BlockLines.{ending, HasLines}
 use Rattle.saphyr_scalar.specs.Steps.Block.{line_cursor, is_indentation, is_cr_lf, inside_break, line_starts, break_before, LinesRead, lines_behind_text, lines_ended, between, line, tail, is_unfinished}
 use Rattle.saphyr_scalar.proofs.Block.Lines.{no_break}
 use Rattle.saphyr_scalar.proofs.Block.Turns.{Starts, starts, no_start}
@@ -138,6 +138,7 @@ stop_content st c i more b m xs within cut clear =
         no_space = past i m.col (slice_index xs 0) within;
         no_break = clear;
         no_content = no_start i m.col xs cut;
+        whole_line = λ _. cut;
       };
       content = [];
       plain = refl;
@@ -335,7 +336,12 @@ mutual
       (xs : List ℕ) → m.col ≤ i → BetweenRead st c i more k m.col xs (between st i (Some more) k b m xs)
   between_read st c i more k b m [] within =
       stop_spaces st c i more k b m [] within
-      (record { no_space = no_space_at i m.col; no_break = refl; no_content = no_start i m.col [] refl })
+      (record {
+        no_space = no_space_at i m.col;
+        no_break = refl;
+        no_content = no_start i m.col [] refl;
+        whole_line = λ _. refl;
+      })
   between_read st c i more k b m (x ∷ cs) within =
       by_test (is_indentation (Some i) m.col x) _ _ (BetweenRead st c i more k m.col (x ∷ cs))
       (λ h. space_more st c i more k m.col x cs _ (indentation_is_space i m.col x h).0
@@ -349,7 +355,12 @@ mutual
       (λ h. begun_line st c i more k m.col x cs _ (starts i m.col (x ∷ cs) h)
       (line_read st c i (is_blank x) b (along m 1) cs (begun_right i m.col (starts i m.col (x ∷ cs) h).column)))
       (λ h3. stop_spaces st c i more k b m (x ∷ cs) within
-      (record { no_space = h0; no_break = h2; no_content = h3 })))))
+      (record {
+        no_space = h0;
+        no_break = h2;
+        no_content = h3;
+        whole_line = λ right. absurd (omega (arith, right, within));
+      })))))
 
   pub line_read : (st : BlockStyle) (c : Chomping) (i : ℕ) (more b : Bool) (m : Marker) (xs : List ℕ) → i < m.col
       → LineRead st c i more xs (line st i more b m xs)

@@ -1,7 +1,6 @@
 -- The value of a block scalar's lines, from the first on.
-use Rattle.std.proofs.Common.{◌≡◌, ℕ, zero, suc, ◌+◌, ◌<◌, ◌≤◌, Bool, true, false, List, [], ◌∷◌, ◌++◌, length, slice_index, refl, sym, ap, ◌∙◌, arith, subst, append_assoc, nat_eq, nat_lt, map}
+use Rattle.std.proofs.Common.{◌≡◌, ℕ, zero, suc, ◌+◌, ◌<◌, ◌≤◌, Bool, true, false, List, [], ◌∷◌, ◌++◌, length, slice_index, refl, sym, ap, ◌∙◌, arith, subst, append_assoc, nat_eq, nat_lt, map, inl, inr}
 use Rattle.std.specs.Prelude.{◌&&◌, ◌==◌, not, replicate, if◌then◌else◌, Some, None}
-use Rattle.std.proofs.Common.{inl, inr}
 use Rattle.std.proofs.lemmas.Bool.Decides.{nat_tests}
 use Rattle.std.proofs.lemmas.List.{append-nil, length-replicate}
 use Rattle.saphyr_input.specs.Breaks.{normalized}
@@ -17,7 +16,8 @@ use Rattle.scalar_values.specs.Folding.{line_feeds}
 use Rattle.scalar_values.specs.Block as reading
 use Rattle.scalar_values.specs.Block.{Line, Empty, Content, line_of, lines_of, contents, contents_behind, has_content, empty_at_end, is_at_end, is_counted, is_broken, lines_value, block_value}
 use Rattle.scalar_values.specs.Lines.{last_line}
-use Rattle.saphyr_scalar.specs.Steps.BlockRead.{ending, HasLines, EndsLines}
+use Rattle.saphyr_scalar.specs.Steps.BlockRead.{EndsLines}
+use Rattle.saphyr_scalar.specs.Reading.BlockLines.{ending, HasLines}
 use Rattle.saphyr_scalar.specs.Steps.Block.{line_cursor, is_indentation, line_starts, LinesRead, lines_behind_text, lines_ended, between, line, tail, tail_alone, is_unfinished}
 use Rattle.saphyr_scalar.proofs.Block.Turns.{starts, line_begins, line_on, no_line_at}
 use Rattle.saphyr_scalar.proofs.Block.Texts.{spaces, IsUnbroken, plain_first, plain_both, plain_spaces, first_line, only_line, empty_spaces, full_content, line_content, content_of, is_counted_behind, value_behind, lines_spaces, lines_cut, lines_broken}
@@ -264,4 +264,9 @@ first_read st c i k b m (x ∷ cs) within space clear some =
     (begin_first st c i k x cs _ s.content (line_read st c i (is_blank x) b (along m 1) cs right))))
     (λ h. subst (λ r. FirstRead st c i k m.col (x ∷ cs) r) (sym (no_line_at st i None k b m (x ∷ cs) space clear h))
     (first_without_content st c i k b m (x ∷ cs) within
-    (record { no_space = space; no_break = clear; no_content = h }) some))
+    (record {
+      no_space = space;
+      no_break = clear;
+      no_content = h;
+      whole_line = λ right. absurd (omega (arith, right, within));
+    }) some))

@@ -6,7 +6,8 @@ use Rattle.saphyr_input.specs.Classes.{is_digit, is_uri_char, is_blank, is_break
 use Rattle.saphyr_scalar.specs.declared.scalar.position.Marker.{Marker}
 use Rattle.saphyr_scalar.specs.declared.scalar.fault.Refusal.{Refusal}
 use Rattle.saphyr_scalar.specs.Views.Cursor.{Cursor, along, pass_blanks}
-use Rattle.saphyr_scalar.specs.Steps.Directive.{ReadDirective, pass_all_blanks}
+use Rattle.saphyr_scalar.specs.Steps.Directive.{pass_all_blanks}
+use Rattle.saphyr_scalar.specs.Spelling.Directive.{ReadDirective}
 use Rattle.saphyr_scalar.specs.Steps.Quoted.{mid_line}
 use Rattle.saphyr_scalar.specs.Spelling.Tag.{AreIn}
 use Rattle.saphyr_scalar.proofs.Runs.{run_len}

@@ -7,8 +7,8 @@ use Rattle.saphyr_input.specs.Classes.{is_blank, is_breakz, is_blank_or_breakz, 
 use Rattle.saphyr_scalar.specs.declared.scalar.position.Marker.{Marker}
 use Rattle.saphyr_scalar.specs.declared.scalar.fault.Refusal.{Refusal}
 use Rattle.saphyr_scalar.specs.Views.Cursor.{Cursor, along, pass, pass_break}
-use Rattle.saphyr_scalar.specs.Steps.Directive.{ReadDirective, version, tag_prefix, reserved, directive_name_of, name, version_directive, handle, prefix, tag_directive, value, line_end, directive}
-use Rattle.saphyr_scalar.specs.Spelling.Directive.{IsVersionDirective, IsTagDirective, IsDirectiveText, IsLineTail}
+use Rattle.saphyr_scalar.specs.Steps.Directive.{directive_name_of, name, version_directive, handle, prefix, tag_directive, value, line_end, directive}
+use Rattle.saphyr_scalar.specs.Spelling.Directive.{ReadDirective, version, tag_prefix, reserved, IsVersionDirective, IsTagDirective, IsDirectiveText, IsLineTail}
 use Rattle.saphyr_scalar.specs.Steps.Quoted.{mid_line}
 use Rattle.saphyr_scalar.specs.Spelling.Tag.{AreIn}
 use Rattle.saphyr_scalar.proofs.Moving.{along_more}

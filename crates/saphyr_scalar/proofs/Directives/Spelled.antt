@@ -4,8 +4,8 @@ use Rattle.saphyr_input.specs.Indicators.{percent_sign}
 use Rattle.saphyr_input.specs.Classes.{is_breakz}
 use Rattle.saphyr_scalar.specs.declared.scalar.position.Marker.{Marker}
 use Rattle.saphyr_scalar.specs.Views.Cursor.{Cursor, ◌>>=◌, along, pass_break}
-use Rattle.saphyr_scalar.specs.Steps.Directive.{ReadDirective, name, value, line_end, directive}
-use Rattle.saphyr_scalar.specs.Spelling.Directive.{IsReadDirective, IsLineTail}
+use Rattle.saphyr_scalar.specs.Steps.Directive.{name, value, line_end, directive}
+use Rattle.saphyr_scalar.specs.Spelling.Directive.{ReadDirective, IsReadDirective, IsLineTail}
 use Rattle.saphyr_scalar.specs.Steps.Quoted.{mid_line}
 use Rattle.saphyr_scalar.proofs.Moving.{along_more}
 use Rattle.saphyr_scalar.proofs.Properties.TagsSpelled.{cut_at}

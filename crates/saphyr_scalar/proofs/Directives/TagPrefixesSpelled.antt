@@ -11,8 +11,8 @@ use Rattle.saphyr_scalar.specs.declared.scalar.fault.FaultText.TheVariants as fa
 use Rattle.saphyr_scalar.specs.declared.scalar.fault.Refusal.{Refusal}
 use Rattle.saphyr_scalar.specs.declared.scalar.tag.UriSet.TheVariants.{Uri}
 use Rattle.saphyr_scalar.specs.Views.Cursor.{Cursor, ◌>>=◌, along}
-use Rattle.saphyr_scalar.specs.Steps.Directive.{ReadDirective, tag_prefix, pass_all_blanks, handle_behind_word, handle, prefix, behind_prefix, tag_directive}
-use Rattle.saphyr_scalar.specs.Spelling.Directive.{AreSomeBlanks}
+use Rattle.saphyr_scalar.specs.Steps.Directive.{pass_all_blanks, handle_behind_word, handle, prefix, behind_prefix, tag_directive}
+use Rattle.saphyr_scalar.specs.Spelling.Directive.{ReadDirective, tag_prefix, AreSomeBlanks, IsWholeHandle}
 use Rattle.saphyr_scalar.specs.Steps.Quoted.{with_front, with_run, mid_line}
 use Rattle.saphyr_scalar.specs.Steps.Tag.{uri_character, decoded_characters, decoded_at, handle_of}
 use Rattle.saphyr_scalar.specs.Spelling.Tag.{AreIn, IsHandleText, IsPrefix}
@@ -25,6 +25,7 @@ use Rattle.saphyr_scalar.proofs.Directives.TagPrefixesRead.{begins_prefix}
 use Rattle.saphyr_scalar.proofs.Steps.{bind_ok, Chosen, ok_same, cond_ok, cond_then}
 use Rattle.saphyr_scalar.proofs.Places.{along_three, along_four}
 use Rattle.saphyr_input.proofs.Basics.Booleans.{or_true_swap, other_than, by_test}
+use Rattle.saphyr_input.proofs.Basics.Lists.{run_ends}
 use Rattle.saphyr_scalar.proofs.Directives.NamesSpelled.{run_count}
 use Rattle.saphyr_scalar.proofs.Directives.VersionsSpelled.{gap_some}
 
@@ -32,12 +33,18 @@ pub record HandleOf (m : Marker) (xs text : List ℕ) (u : Cursor) : Type 0 wher
   pub handle : List ℕ
   pub is : IsHandleText handle
   pub bytes : encode_utf8_all handle ≡ text
+  pub whole : IsWholeHandle handle u.rest
   pub begins : slice_index xs 0 ≡ exclamation_mark
   pub rest : xs ≡ handle ++ u.rest
   pub place : u ≡ mid_line (along m (length handle)) u.rest
 
 abbrev OfHandle : Marker → List ℕ → List ℕ × Cursor → Type 0
 OfHandle m xs x = HandleOf m xs x.0 x.1
+
+both_fail : (a b : Bool) → a ≡ false → b ≡ false → (a || b) ≡ false
+both_fail false false p q = refl
+both_fail true b p q = absurd (cc)
+both_fail false true p q = absurd (cc)
 
 word_spelled : (start m : Marker) (ys text : List ℕ) (u : Cursor)
     → handle_behind_word start (with_run is_alpha [] (mid_line (along m 1) ys)) ≡ Ok (text, u)
@@ -62,12 +69,15 @@ word_spelled start m ys text u =
       handle = handle;
       is = inr (w, run_is_in is_alpha ys, refl);
       bytes = sym (bytes_of_handle w);
+      whole = λ alone. absurd (let none : w ++ codes "!" ≡ [] = cc in
+          let e : length (w ++ codes "!") ≡ 0 = ap (λ (v : List ℕ). length v) none in
+          omega (arith, length-append w (codes "!"), e));
       begins = refl;
       rest = ap (λ r. 33 ∷ r) (sym (take-append-drop n ys) ∙ ap (λ r. w ++ r) more
           ∙ sym (append_assoc w (codes "!") (drop 1 left)));
       place = ap (λ j. mid_line j (drop 1 left)) (along_three m 1 n 1 (length handle) len);
     }))
-    (λ _ h.
+    (λ mark h.
     let is = cond_ok {A = List ℕ × Cursor} (nat_eq (length bytes) 0) (codes "!", mid_line k left) (text, u)
     (record { text = fault.TagDirectiveHandleEndExpected; mark = start }) h in
     let none : w ≡ [] = none_value w is.test in
@@ -76,6 +86,8 @@ word_spelled start m ys text u =
       handle = codes "!";
       is = inl refl;
       bytes = mark_bytes;
+      whole = λ _. both_fail (is_alpha (slice_index left 0)) (nat_eq (slice_index left 0) 33)
+          (run_ends is_alpha ys refl) mark;
       begins = refl;
       rest = ap (λ r. 33 ∷ r) (sym (take-append-drop n ys) ∙ ap (λ v. v ++ left) none);
       place = ap (λ j. mid_line j left) (along_more m 1 n 1 count);
@@ -144,6 +156,7 @@ pub record TagOf (d : ReadDirective) (m : Marker) (xs : List ℕ) (u : Cursor) :
   pub says : tag_prefix (encode_utf8_all handle) (encode_utf8_all value) ≡ d
   pub before : AreSomeBlanks first
   pub is_handle : IsHandleText handle
+  pub whole : IsWholeHandle handle (second ++ written)
   pub between : AreIn is_blank second
   pub is_prefix : IsPrefix value written
   pub text : xs ≡ first ++ (handle ++ (second ++ (written ++ u.rest)))
@@ -159,6 +172,12 @@ prefix_ended start h text d k u e =
 
 no_mark_first : (c : ℕ) → is_blank_or_breakz c ≡ true → nat_eq c 33 ≡ false
 no_mark_first c h = other_than is_blank_or_breakz 33 c refl h
+
+-- the first character of a text, or none, is no character of the set
+first_of : (set : ℕ → Bool) (xs more : List ℕ) → set 0 ≡ false → set (slice_index (xs ++ more) 0) ≡ false
+    → set (slice_index xs 0) ≡ false
+first_of set [] more none h = none
+first_of set (c ∷ cs) more none h = h
 
 pub tag_spelled : (start m : Marker) (xs : List ℕ) (d : ReadDirective) (u : Cursor)
     → is_blank_or_breakz (slice_index xs 0) ≡ true → tag_directive start (mid_line m xs) ≡ Ok (d, u) → TagOf d m xs u
@@ -184,6 +203,8 @@ tag_spelled start m xs d u begins h =
     let says : tag_prefix one.given.0 two.given.0 ≡ d = ap (λ (x : ReadDirective × Cursor). x.0) ended.same in
     let total : length first + length a.handle + length second + length b.written
     ≡ n + length a.handle + o + length b.written = omega (arith, run_count is_blank xs, run_count is_blank ys) in
+    let parted : ys ≡ (second ++ b.written) ++ u.rest =
+    sym (take-append-drop o ys) ∙ ap (λ r. second ++ r) b.rest ∙ sym (append_assoc second b.written u.rest) in
     record {
       first = first;
       handle = a.handle;
@@ -198,6 +219,8 @@ tag_spelled start m xs d u begins h =
         run_is_in is_blank xs,
       );
       is_handle = a.is;
+      whole = λ alone. first_of (λ c. is_alpha c || nat_eq c 33) (second ++ b.written) u.rest refl
+          (subst (λ r. (is_alpha (slice_index r 0) || nat_eq (slice_index r 0) 33) ≡ false) parted (a.whole alone));
       between = run_is_in is_blank ys;
       is_prefix = b.is;
       text = sym (take-append-drop n xs)

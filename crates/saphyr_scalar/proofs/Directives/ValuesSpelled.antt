@@ -12,8 +12,8 @@ use Rattle.saphyr_input.proofs.Runs.{run_stops}
 use Rattle.saphyr_scalar.specs.declared.scalar.position.Marker.{Marker}
 use Rattle.saphyr_scalar.specs.declared.scalar.fault.Refusal.{Refusal}
 use Rattle.saphyr_scalar.specs.Views.Cursor.{Cursor, along, pass_comment}
-use Rattle.saphyr_scalar.specs.Steps.Directive.{ReadDirective, version, tag_prefix, reserved, version_directive, tag_directive, value}
-use Rattle.saphyr_scalar.specs.Spelling.Directive.{IsReadDirective}
+use Rattle.saphyr_scalar.specs.Steps.Directive.{version_directive, tag_directive, value}
+use Rattle.saphyr_scalar.specs.Spelling.Directive.{ReadDirective, version, tag_prefix, reserved, IsReadDirective}
 use Rattle.saphyr_scalar.specs.Steps.Quoted.{mid_line}
 use Rattle.saphyr_scalar.specs.Spelling.Tag.{AreIn}
 use Rattle.saphyr_scalar.proofs.Runs.{run_is_in}
@@ -63,7 +63,7 @@ tag_value d k zs u is =
     (37 ∷ (codes "TAG" ++ more)) = (
       is.handle,
       is.value,
-      (is.first, is.second, is.written, is.before, is.between, is.is_handle, is.is_prefix, refl),
+      (is.first, is.second, is.written, is.before, is.between, is.is_handle, is.whole, is.is_prefix, refl),
       refl,
       refl,
     ) in

@@ -1,5 +1,5 @@
 -- Which piece of a text is a block scalar, and what it stands for (YAML 1.2.2, 8.1), whatever its breaks are.
-use Rattle.std.specs.Prelude.{◌≡◌, ◌≢◌, ℕ, zero, suc, ◌+◌, ◌-◌, ◌^◌, ◌≤◌, min, max, Bool, true, ◌||◌, ◌==◌, ◌⊎◌, List, [], ◌∷◌, ◌++◌, map, length, slice_index, IsTrue, IsFalse, codes, encode_utf8_all}
+use Rattle.std.specs.Prelude.{◌≡◌, ◌≢◌, ℕ, zero, suc, ◌+◌, ◌-◌, ◌^◌, ◌<◌, ◌≤◌, min, max, Bool, true, ◌||◌, ◌==◌, ◌⊎◌, List, [], ◌∷◌, ◌++◌, map, length, slice_index, IsTrue, IsFalse, codes, encode_utf8_all}
 use Rattle.saphyr_input.specs.Breaks.{normalized}
 use Rattle.saphyr_input.specs.Classes.{is_break, is_yaml_non_break, is_z, line_feed, space, tab}
 use Rattle.saphyr_input.specs.Places.{is_document_indicator}
@@ -8,7 +8,7 @@ use Rattle.scalar_values.specs.declared.block.Chomping.{Chomping}
 use Rattle.scalar_values.specs.declared.block.Chomping.TheVariants.{Strip, Clip, Keep}
 use Rattle.saphyr_scalar.specs.declared.scalar.position.Marker.{Marker}
 use Rattle.saphyr_scalar.specs.Views.Cursor.{Cursor}
-use Rattle.saphyr_scalar.specs.Steps.BlockRead.{ending, HasLines}
+use Rattle.saphyr_scalar.specs.Reading.BlockLines.{ending, HasLines}
 use Rattle.scalar_values.specs.Block.{has_content, line_of, block_value}
 use Rattle.saphyr_scalar.specs.Spelling.Directive.{IsLineTail}
 use Rattle.scalar_values.specs.Lines.{ended_lines, last_line}
@@ -94,6 +94,7 @@ pub record IsBehindLines (i : ℕ) (t : Cursor) : Type 0 where
   pub no_break : IsFalse (is_break (slice_index t.rest 0))
   pub no_content : t.mark.col ≡ i
       → IsFalse (is_yaml_non_break (slice_index t.rest 0)) ⊎ ((i ≡ 0) × IsTrue (is_document_indicator t.rest))
+  pub whole_line : i < t.mark.col → IsFalse (is_yaml_non_break (slice_index t.rest 0))
 
 -- ## The scalar
 

@@ -1,8 +1,14 @@
 -- How directives are spelled (YAML 1.2.2, 6.8), and what may stand behind one on its line.
-use Rattle.std.specs.Prelude.{◌≡◌, ◌≢◌, ℕ, ◌+◌, ◌-◌, ◌*◌, ◌≤◌, ◌⊎◌, List, [], ◌∷◌, ◌++◌, length, slice_index, IsTrue, codes, encode_utf8_all}
-use Rattle.saphyr_input.specs.Classes.{is_blank, is_digit, is_yaml_non_space, is_yaml_non_break}
-use Rattle.saphyr_scalar.specs.Steps.Directive.{ReadDirective, version, tag_prefix, reserved}
+use Rattle.std.specs.Prelude.{◌≡◌, ◌≢◌, ℕ, ◌+◌, ◌-◌, ◌*◌, ◌≤◌, ◌||◌, ◌==◌, ◌⊎◌, List, [], ◌∷◌, ◌++◌, length, slice_index, IsTrue, IsFalse, codes, encode_utf8_all}
+use Rattle.saphyr_input.specs.Classes.{is_alpha, is_blank, is_digit, is_yaml_non_space, is_yaml_non_break}
+use Rattle.saphyr_input.specs.Indicators.{exclamation_mark}
 use Rattle.saphyr_scalar.specs.Spelling.Tag.{AreIn, IsHandleText, IsPrefix}
+
+-- what a directive says: its texts as their bytes
+pub data ReadDirective : Type 0 where
+  version : ℕ → ℕ → ReadDirective
+  tag_prefix : List ℕ → List ℕ → ReadDirective
+  reserved : List ℕ → ReadDirective
 
 -- spaces and tabs, at least one
 abbrev pub AreSomeBlanks : List ℕ → Type 0
@@ -30,11 +36,18 @@ IsTagDirective handle prefix t =
     × IsPrefix prefix written
     × (t ≡ codes "%TAG" ++ (first ++ (handle ++ (second ++ written))))
 
--- A tag directive as it is read: no blank has to stand between a handle that ends with `!` and its prefix.
+-- 6.8.2.1: A handle goes on as far as it can. So it is not `!` alone before a text that begins with a word's character,
+-- or with another `!`.
+abbrev pub IsWholeHandle : List ℕ → List ℕ → Type 0
+IsWholeHandle handle behind =
+    handle ≡ codes "!" → IsFalse (is_alpha (slice_index behind 0) || (slice_index behind 0 == exclamation_mark))
+
+-- A tag directive as it is read: no blank has to stand between a handle and its prefix.
 abbrev pub IsReadTagDirective : List ℕ → List ℕ → List ℕ → Type 0
 IsReadTagDirective handle prefix t =
     (first second written : List ℕ) × AreSomeBlanks first × AreIn is_blank second × IsHandleText handle
-    × IsPrefix prefix written × (t ≡ codes "%TAG" ++ (first ++ (handle ++ (second ++ written))))
+    × IsWholeHandle handle (second ++ written) × IsPrefix prefix written
+    × (t ≡ codes "%TAG" ++ (first ++ (handle ++ (second ++ written))))
 
 -- what a directive says, and the directive as it is written: a version directive, or a tag directive
 abbrev pub IsDirectiveText : ReadDirective → List ℕ → Type 0

@@ -1,18 +1,13 @@
 -- What is read of a block scalar is the value of its lines (YAML 1.2.2, 8.1).
-use Rattle.std.specs.Prelude.{◌≡◌, ℕ, max, true, false, List, [], ◌∷◌, ◌++◌, slice_index, replicate, ◌⊎◌, Some, unwrap_or, Ok, if◌then◌else◌, encode_utf8_all}
+use Rattle.std.specs.Prelude.{◌≡◌, ◌<◌, ℕ, max, false, List, ◌++◌, slice_index, Some, unwrap_or, Ok, encode_utf8_all}
 use Rattle.saphyr_input.specs.Breaks.{normalized}
-use Rattle.saphyr_input.specs.Classes.{is_break, is_z, space}
+use Rattle.saphyr_input.specs.Classes.{is_break, is_yaml_non_break}
 use Rattle.scalar_values.specs.declared.block.BlockStyle.{BlockStyle}
-use Rattle.scalar_values.specs.declared.block.Ending.{Ending}
-use Rattle.scalar_values.specs.declared.block.Ending.TheVariants.{AtEnd, AtMark}
 use Rattle.saphyr_scalar.specs.declared.scalar.block.header.BlockHeader.{BlockHeader}
 use Rattle.saphyr_scalar.specs.Views.Cursor.{Cursor}
-use Rattle.scalar_values.specs.Block.{is_empty_line, block_value, ended_lines, last_line}
+use Rattle.scalar_values.specs.Block.{block_value}
+use Rattle.saphyr_scalar.specs.Reading.BlockLines.{ending, HasLines}
 use Rattle.saphyr_scalar.specs.Steps.Block as block
-
--- what ends the lines before a place
-abbrev pub ending : Cursor → Ending
-ending s = if is_z (slice_index s.rest 0) then AtEnd else AtMark
 
 -- 8.1.1.1: the indentation, from the text behind the header's line
 abbrev pub indentation_of : ℕ → BlockHeader → Cursor → ℕ
@@ -20,28 +15,12 @@ indentation_of indent h s =
     unwrap_or (block.given_indentation indent h.indicator)
     (max (block.pass_empty_lines_at (block.given_indentation indent h.indicator) block.no_lines s).0.widest indent)
 
--- spaces alone
-abbrev pub spaces : ℕ → List ℕ
-spaces n = replicate n space
-
--- a line of a scalar: an empty one, or content behind the indentation
-abbrev pub IsReadLine : ℕ → List ℕ → Type 0
-IsReadLine i line = (is_empty_line i line ≡ true) ⊎ ((text : List ℕ) × (line ≡ spaces i ++ text))
-
-abbrev pub AreReadLines : ℕ → List (List ℕ) → Type 0
-AreReadLines i [] = Unit {0}
-AreReadLines i (line ∷ lines) = IsReadLine i line × AreReadLines i lines
-
--- a text of such lines; the last one may lack a break
-pub record HasLines (i : ℕ) (text : List ℕ) : Type 0 where
-  pub ended : AreReadLines i (ended_lines text)
-  pub last : IsReadLine i (last_line text)
-
 -- no more of a scalar's lines: neither indentation, nor a break, nor content
 pub record EndsLines (i : ℕ) (s : Cursor) : Type 0 where
   pub no_space : block.is_indentation (Some i) s.mark.col (slice_index s.rest 0) ≡ false
   pub no_break : is_break (slice_index s.rest 0) ≡ false
   pub no_content : block.line_starts i s.mark.col s.rest ≡ false
+  pub whole_line : i < s.mark.col → is_yaml_non_break (slice_index s.rest 0) ≡ false
 
 -- From s a scalar with this text was read, and t stands behind it: behind the header come the lines, and the
 -- indentation of the line that ends them.

@@ -13,13 +13,8 @@ use Rattle.saphyr_scalar.specs.declared.scalar.directive.DirectiveLine.{Directiv
 use Rattle.saphyr_scalar.specs.declared.scalar.tag.UriSet.TheVariants.{Uri}
 use Rattle.saphyr_scalar.specs.Views.Cursor.{Cursor, ◌>>=◌, refuse, along, pass, pass_blanks, pass_break, pass_comment, separation}
 use Rattle.saphyr_scalar.specs.Steps.Quoted.{with_front, with_run, mid_line}
+use Rattle.saphyr_scalar.specs.Spelling.Directive.{ReadDirective, version, tag_prefix, reserved}
 use Rattle.saphyr_scalar.specs.Steps.Tag.{uri_character, decoded_at, handle_of}
-
--- what a directive says: its texts as their bytes
-pub data ReadDirective : Type 0 where
-  version : ℕ → ℕ → ReadDirective
-  tag_prefix : List ℕ → List ℕ → ReadDirective
-  reserved : List ℕ → ReadDirective
 
 abbrev pub directive_of : declared.Directive → ReadDirective
 directive_of (variant.Version major minor) = version major minor

@@ -4,8 +4,8 @@ ghost use Rattle.std.specs.Prelude.{◌≡◌, ℕ, ◌+◌, true, List, ◌++�
 ghost use Rattle.saphyr_input.specs.Indicators.{percent_sign};
 ghost use Rattle.saphyr_input.specs.Classes.{is_breakz};
 ghost use Rattle.saphyr_scalar.specs.Views.Cursor.{Cursor, along, pass_break};
-ghost use Rattle.saphyr_scalar.specs.Steps.Directive.{ReadDirective, directive};
-ghost use Rattle.saphyr_scalar.specs.Spelling.Directive.{IsReadDirective, IsLineTail};
+ghost use Rattle.saphyr_scalar.specs.Steps.Directive.{directive};
+ghost use Rattle.saphyr_scalar.specs.Spelling.Directive.{ReadDirective, IsReadDirective, IsLineTail};
 ghost use Rattle.saphyr_scalar.specs.Steps.Quoted.{mid_line};
 ghost use Rattle.saphyr_scalar.specs.declared.scalar.position.Marker.{Marker};
 

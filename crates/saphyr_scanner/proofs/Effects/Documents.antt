@@ -8,7 +8,7 @@ use Rattle.saphyr_scalar.specs.declared.scalar.position.Marker.{Marker}
 use Rattle.saphyr_scalar.specs.declared.scalar.fault.Refusal.{Refusal}
 use Rattle.saphyr_scalar.specs.Views.Cursor.{Cursor, ◌>>=◌, along, pass, pass_break}
 use Rattle.saphyr_scalar.specs.Steps.Directive as directives
-use Rattle.saphyr_scalar.specs.Steps.Directive.{ReadDirective}
+use Rattle.saphyr_scalar.specs.Spelling.Directive.{ReadDirective, version, tag_prefix, reserved}
 use Rattle.saphyr_scalar.specs.Steps.Quoted.{mid_line}
 use Rattle.saphyr_scalar.proofs.Moving.{along_more}
 use Rattle.saphyr_scalar.proofs.Properties.TagsSpelled.{cut_at}
@@ -26,8 +26,7 @@ use Rattle.saphyr_scanner.proofs.Blocks.{unrolled_cursor, unrolled_comment}
 use Rattle.saphyr_scanner.proofs.Counted.{stays, text_passed}
 use Rattle.saphyr_scanner.proofs.Effects.Moves.{Does, and_then, NoComment, Same, still, further}
 use Rattle.saphyr_scanner.proofs.Effects.Puts.{Reading, quiet}
-use Rattle.saphyr_scanner.proofs.Effects.Walked.{Premises, Walked, walked_then, at_most, Doing, unsaved_step, at_reach}
-use Rattle.saphyr_scanner.proofs.Effects.Walked.{at_inside, read_walked, separate_walked}
+use Rattle.saphyr_scanner.proofs.Effects.Walked.{Premises, Walked, walked_then, at_most, Doing, unsaved_step, at_reach, at_inside, read_walked, separate_walked}
 use Rattle.saphyr_scanner.proofs.Effects.Readers.{TextLaws}
 use Rattle.saphyr_scanner.proofs.Effects.States.{FetchesTokens, advances_advances, on_core_fetches, after_step_fetches, unroll_advances}
 use Rattle.saphyr_scanner.proofs.Effects.Steps.{begins_none, begins_forgotten}
@@ -227,9 +226,9 @@ mark_walked s e =
 -- ## Directives
 
 directive_is_no_end : (d : ReadDirective) → IsNoEnd (document.directive_kind d)
-directive_is_no_end (directives.version major minor) = λ i. absurd (cc)
-directive_is_no_end (directives.tag_prefix handle prefix) = λ i. absurd (cc)
-directive_is_no_end (directives.reserved name) = λ i. absurd (cc)
+directive_is_no_end (version major minor) = λ i. absurd (cc)
+directive_is_no_end (tag_prefix handle prefix) = λ i. absurd (cc)
+directive_is_no_end (reserved name) = λ i. absurd (cc)
 
 directive_reading : (c : Core) (x : ReadDirective × Marker × Cursor) → c.cursor.mark.col ≡ 0
     → slice_index c.cursor.rest 0 ≡ percent_sign → directives.directive c.cursor ≡ Ok x

@@ -18,7 +18,7 @@ use Rattle.saphyr_scalar.specs.Passing.{IsPassed}
 use Rattle.saphyr_scalar.specs.Reading.BlockText.{IsBlockText}
 use Rattle.saphyr_scalar.specs.Reading.Plain.{IsPlainReading}
 use Rattle.saphyr_scalar.specs.RefusedInside.{IsRefusedInside}
-use Rattle.saphyr_scalar.specs.Spelling.Directive.{IsReadDirective, IsLineTail}
+use Rattle.saphyr_scalar.specs.Spelling.Directive.{IsReadDirective, IsLineTail, ReadDirective}
 use Rattle.saphyr_scalar.specs.Spelling.Quoted.{IsQuotedText}
 use Rattle.saphyr_scalar.specs.Spelling.QuotedMarkers.{HasNoMarker}
 use Rattle.saphyr_scalar.specs.Spelling.Tag.{IsAnchorName, IsTagText, EndsTag}
@@ -26,7 +26,6 @@ use Rattle.saphyr_scalar.specs.Steps.Anchor as anchors
 use Rattle.saphyr_scalar.specs.Steps.Block as blocks
 use Rattle.saphyr_scalar.specs.Views.Cursor.{Cursor, along, pass_break, separation}
 use Rattle.saphyr_scalar.specs.Steps.Directive as directives
-use Rattle.saphyr_scalar.specs.Steps.Directive.{ReadDirective}
 use Rattle.saphyr_scalar.specs.Steps.Plain as words
 use Rattle.saphyr_scalar.specs.Steps.Quoted as quoted
 use Rattle.saphyr_scalar.specs.Steps.Quoted.{mid_line}

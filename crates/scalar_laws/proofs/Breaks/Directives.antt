@@ -8,7 +8,8 @@ use Rattle.saphyr_scalar.specs.declared.scalar.position.Marker.{Marker}
 use Rattle.saphyr_scalar.specs.Views.Cursor.{Cursor, along, pass}
 use Rattle.saphyr_scalar.specs.Steps.Quoted.{mid_line}
 use Rattle.saphyr_scalar.specs.Steps.Tag.{handle_of}
-use Rattle.saphyr_scalar.specs.Steps.Directive.{reserved, pass_all_blanks, directive_name_of, name, number_end, number_from, number, behind_major, version_directive, handle_behind_word, handle, prefix, behind_prefix, tag_directive, value, line_end, directive}
+use Rattle.saphyr_scalar.specs.Steps.Directive.{pass_all_blanks, directive_name_of, name, number_end, number_from, number, behind_major, version_directive, handle_behind_word, handle, prefix, behind_prefix, tag_directive, value, line_end, directive}
+use Rattle.saphyr_scalar.specs.Spelling.Directive.{reserved}
 use Rattle.saphyr_scalar.proofs.Choices.{both_by}
 use Rattle.scalar_laws.specs.Alike.{AreAlike, GiveAlike, AreSame, AreDirectivesAlike}
 use Rattle.scalar_laws.proofs.Breaks.Sides.{Normal, nothing, character, feed, return, pair, run_same, Places, moved_along, marks_alike, alike, normal_of, places_of}

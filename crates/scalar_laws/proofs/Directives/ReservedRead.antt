@@ -6,8 +6,8 @@ use Rattle.std.proofs.lemmas.Bool.{or_left, or_right}
 use Rattle.saphyr_input.specs.Classes.{is_blank, is_breakz, is_blank_or_breakz, is_yaml_non_break}
 use Rattle.saphyr_scalar.specs.declared.scalar.position.Marker.{Marker}
 use Rattle.saphyr_scalar.specs.Views.Cursor.{Cursor, along, pass_break, pass_comment}
-use Rattle.saphyr_scalar.specs.Steps.Directive.{reserved, name, value, directive}
-use Rattle.saphyr_scalar.specs.Spelling.Directive.{IsReservedDirective}
+use Rattle.saphyr_scalar.specs.Steps.Directive.{name, value, directive}
+use Rattle.saphyr_scalar.specs.Spelling.Directive.{reserved, IsReservedDirective}
 use Rattle.saphyr_scalar.specs.Steps.Quoted.{mid_line}
 use Rattle.saphyr_scalar.specs.Spelling.Tag.{AreIn}
 use Rattle.saphyr_scalar.proofs.Runs.{run_len}

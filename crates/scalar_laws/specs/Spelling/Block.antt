@@ -11,7 +11,7 @@ use Rattle.saphyr_scalar.specs.Spelling.Tag.{AreIn}
 use Rattle.saphyr_scalar.specs.declared.scalar.position.Span.{Span}
 use Rattle.saphyr_scalar.specs.Views.Cursor.{Cursor}
 use Rattle.scalar_values.specs.Block.{Line, Empty, Content, lines_value}
-use Rattle.saphyr_scalar.specs.Steps.BlockRead.{spaces}
+use Rattle.saphyr_scalar.specs.Reading.BlockLines.{spaces}
 use Rattle.saphyr_scalar.specs.Steps.Block.{block_scalar}
 
 -- 8.1.1.1: a digit from 1 to 9, or none, which is told as 0

@@ -2,7 +2,7 @@
 -- `indent` is the first column to the right of the enclosing block collection, and 0 at the root.
 use Rattle.std.specs.Prelude.{◌≡◌, ◌≢◌, ℕ, ◌≤◌, ◌⊎◌, List, [], ◌∷◌, ◌++◌, codes}
 use Rattle.saphyr_input.specs.Classes.{is_blank, is_yaml_non_break}
-use Rattle.saphyr_scalar.specs.Steps.BlockRead.{spaces}
+use Rattle.saphyr_scalar.specs.Reading.BlockLines.{spaces}
 use Rattle.saphyr_scalar.specs.Spelling.Tag.{AreIn}
 
 -- ## Any number of pieces

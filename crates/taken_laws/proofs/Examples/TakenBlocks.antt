@@ -43,7 +43,12 @@ takes_literal =
           indented = (codes " ", codes "a\n", refl, (refl, tt), refl, refl);
           shaped = record { ended = (inr (codes "a", refl), tt); last = inl refl };
           inside = (refl, (λ e. refl), (refl, (λ e. refl), (refl, (λ e. refl), tt)));
-          ends = record { no_space = λ e. omega arith; no_break = refl; no_content = λ e. inl refl };
+          ends = record {
+            no_space = λ e. omega arith;
+            no_break = refl;
+            no_content = λ e. inl refl;
+            whole_line = λ e. refl;
+          };
           value = refl;
           before = codes "|\n ";
           behind = codes "a\n";
@@ -81,7 +86,12 @@ takes_indentation =
           indented = refl;
           shaped = record { ended = (inr (codes " b", refl), (inr (codes "c", refl), tt)); last = inl refl };
           inside = (refl, (λ e. refl), (refl, (λ e. refl), (refl, (λ e. refl), (refl, (λ e. refl), inside_c))));
-          ends = record { no_space = λ e. omega arith; no_break = refl; no_content = λ e. inl refl };
+          ends = record {
+            no_space = λ e. omega arith;
+            no_break = refl;
+            no_content = λ e. inl refl;
+            whole_line = λ e. refl;
+          };
           value = refl;
           before = codes ">1-\n ";
           behind = codes " b\n c\n";

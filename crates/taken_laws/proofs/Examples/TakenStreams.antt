@@ -23,7 +23,8 @@ prefix_t =
     (codes "t", codes ":", inl (refl, (λ e. omega arith), refl), colon_taken, refl)
 
 directive_e : IsReadTagDirective (codes "!e!") (codes "t:") (codes "%TAG !e! t:")
-directive_e = (codes " ", codes " ", codes "t:", ((λ e. cc), (refl, tt)), (refl, tt), handle_e, prefix_t, refl)
+directive_e =
+    (codes " ", codes " ", codes "t:", ((λ e. cc), (refl, tt)), (refl, tt), handle_e, (λ e. refl), prefix_t, refl)
 
 tag_e : IsTagText (codes "!e!u") (codes "!e!") (codes "u")
 tag_e = inr (inr (codes "u", handle_e, (λ e. cc), decodes_itself is_tag_char 117 refl (λ e. omega arith), refl))

@@ -231,3 +231,46 @@ other_indentation =
           [];
       refusal = None;
     }
+
+-- ## Near misses that are too short: of `--- |` LF ` a#b` and of `: |` LF ` a#b` the value `a` with a comment behind it, and
+-- of `%TAG !e!t:x` LF `--- !u v` the handle `!` with the prefix `e!t:x`
+
+abbrev pub cut_line : Remaining
+cut_line =
+    record {
+      pieces =
+          empty_at (marker_at 0 1 0) tokens.StreamStart ∷
+          piece_from_to (marker_at 0 1 0) (marker_at 3 1 3) tokens.DocumentStart ∷
+          piece_from_to (marker_at 7 2 1) (marker_at 8 2 2) (tokens.Scalar Literal (codes "a")) ∷
+          empty_at (marker_at 11 3 0) tokens.StreamEnd ∷
+          [];
+      refusal = None;
+    }
+
+abbrev pub cut_value : Remaining
+cut_value =
+    record {
+      pieces =
+          empty_at (marker_at 0 1 0) tokens.StreamStart ∷
+          empty_at (marker_at 0 1 0) tokens.BlockMappingStart ∷
+          empty_at (marker_at 0 1 0) tokens.Value ∷
+          piece_from_to (marker_at 5 2 1) (marker_at 6 2 2) (tokens.Scalar Literal (codes "a")) ∷
+          empty_at (marker_at 9 3 0) tokens.BlockEnd ∷
+          empty_at (marker_at 9 3 0) tokens.StreamEnd ∷
+          [];
+      refusal = None;
+    }
+
+abbrev pub short_handle : Remaining
+short_handle =
+    record {
+      pieces =
+          empty_at (marker_at 0 1 0) tokens.StreamStart ∷
+          piece_from_to (marker_at 0 1 0) (marker_at 11 1 11) (tokens.TagDirective (codes "!") (codes "e!t:x")) ∷
+          piece_from_to (marker_at 12 2 0) (marker_at 15 2 3) tokens.DocumentStart ∷
+          piece_from_to (marker_at 16 2 4) (marker_at 18 2 6) (tokens.Tag (codes "!") (codes "u")) ∷
+          piece_from_to (marker_at 19 2 7) (marker_at 20 2 8) (tokens.Scalar Plain (codes "v")) ∷
+          empty_at (marker_at 21 3 0) tokens.StreamEnd ∷
+          [];
+      refusal = None;
+    }

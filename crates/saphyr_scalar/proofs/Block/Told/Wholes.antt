@@ -55,6 +55,7 @@ ends_told i t e = record {
   no_space = λ s. reaches (slice_index t.rest 0) s e.no_space;
   no_break = e.no_break;
   no_content = starts_none i t.mark.col t.rest e.no_content;
+  whole_line = e.whole_line;
 }
   where
     reaches : (c : ℕ) → c ≡ space → ((c == space) && nat_lt t.mark.col i) ≡ false → i ≤ t.mark.col
