@@ -2,7 +2,7 @@
 use Rattle.std.proofs.Common.{◌≡◌, ◌≢◌, ℕ, Bool, false, List, [], ◌∷◌, ◌++◌, Option, Some, None, inl, inr, refl, sym}
 use Rattle.std.proofs.Common.{◌∙◌, arith, codes, ap, subst, append_assoc, append-nil}
 use Rattle.saphyr_input.specs.Classes.{is_one_of, is_blank, is_anchor_char}
-use Rattle.saphyr_scalar.specs.Steps.BlockRead.{spaces}
+use Rattle.saphyr_scalar.specs.Reading.BlockLines.{spaces}
 use Rattle.saphyr_scalar.specs.Spelling.Tag.{AreIn}
 use Rattle.scalar_laws.specs.Spelling.Spaces.{joined_pieces, AreEach, IsSeparationLine, IsSeparation}
 use Rattle.scalar_laws.proofs.Beginnings.{heads, tails, behind_in, before_in, lacks}

@@ -4,7 +4,7 @@ use Rattle.std.proofs.Common.{◌≡◌, ◌≢◌, ℕ, ◌⊎◌, Bool, true, 
 use Rattle.std.proofs.Common.{refl, arith, codes, ap, IsTrue}
 use Rattle.saphyr_input.specs.Indicators.{comma, left_bracket}
 use Rattle.saphyr_input.specs.Classes.{is_blank}
-use Rattle.saphyr_scalar.specs.Steps.BlockRead.{spaces}
+use Rattle.saphyr_scalar.specs.Reading.BlockLines.{spaces}
 use Rattle.saphyr_scalar.specs.Spelling.Tag.{AreIn}
 use Rattle.scalar_laws.specs.Spelling.Spaces.{AreEach, joined_pieces, IsSeparationLine, IsSeparation}
 use Rattle.scalar_laws.proofs.Beginnings.{behind_first, heads, Begins, front_of}

@@ -3,7 +3,7 @@ use Rattle.std.proofs.Common.{◌≡◌, ◌≢◌, ℕ, zero, suc, ◌⊎◌, B
 use Rattle.std.proofs.Common.{inl, inr, refl, sym, ◌∙◌, arith, codes, ap}
 use Rattle.saphyr_input.specs.Classes.{is_blank, line_feed, space}
 use Rattle.scalar_values.specs.declared.block.Chomping.{Chomping}
-use Rattle.saphyr_scalar.specs.Steps.BlockRead.{spaces}
+use Rattle.saphyr_scalar.specs.Reading.BlockLines.{spaces}
 use Rattle.scalar_values.specs.Block.{Line}
 use Rattle.scalar_laws.specs.Spelling.Block.{IsIndicator, no_digit, digit, IsChomping, strip, clip, keep, no_comment}
 use Rattle.scalar_laws.specs.Spelling.Block.{comment, IsHeader, digit_first, chomping_first, IsBlockScalar}

@@ -3,7 +3,7 @@ use Rattle.std.proofs.Common.{◌≡◌, ◌≢◌, ℕ, zero, suc, ◌⊎◌, B
 use Rattle.std.proofs.Common.{◌∙◌, arith, codes, ap, subst, IsFalse}
 use Rattle.saphyr_input.specs.Indicators.{hyphen, percent_sign}
 use Rattle.saphyr_input.specs.Classes.{byte_order_mark, line_feed}
-use Rattle.saphyr_scalar.specs.Steps.BlockRead.{spaces}
+use Rattle.saphyr_scalar.specs.Reading.BlockLines.{spaces}
 use Rattle.saphyr_scalar.specs.Spelling.Tag.{AreIn}
 use Rattle.scalar_laws.specs.Spelling.Plain.{is_word_ink}
 use Rattle.scalar_laws.specs.Spelling.Spaces.{IsFiller, IsFillerText, IsEol}

@@ -4,7 +4,7 @@ use Rattle.std.proofs.Common.{codes, IsTrue, IsFalse}
 use Rattle.std.specs.List.{list_all}
 use Rattle.saphyr_input.specs.Indicators.{colon, hyphen, question_mark}
 use Rattle.saphyr_input.specs.Classes.{line_feed}
-use Rattle.saphyr_scalar.specs.Steps.BlockRead.{spaces}
+use Rattle.saphyr_scalar.specs.Reading.BlockLines.{spaces}
 use Rattle.saphyr_scanner.specs.Grammar.Forest.{Properties, no_properties, Node, Alias, Scalar, Seq, Map, Nodes, NoNode}
 use Rattle.saphyr_scanner.specs.Grammar.Forest.{MoreNodes, Pairs, NoPair, MorePairs, left_out}
 use Rattle.saphyr_scanner.specs.Examples.Forests.{plain_node}

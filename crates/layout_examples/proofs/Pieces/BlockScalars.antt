@@ -8,7 +8,7 @@ use Rattle.scalar_values.specs.declared.block.BlockStyle.TheVariants as block
 use Rattle.scalar_values.specs.declared.block.Chomping.{Chomping}
 use Rattle.scalar_values.specs.declared.block.Chomping.TheVariants.{Clip}
 use Rattle.scalar_values.specs.Block.{Line, Content, lines_value}
-use Rattle.saphyr_scalar.specs.Steps.BlockRead.{spaces}
+use Rattle.saphyr_scalar.specs.Reading.BlockLines.{spaces}
 use Rattle.scalar_laws.specs.Spelling.Block.{no_digit, clip, no_comment, IsBehind, digit_first, first, no_lines}
 use Rattle.scalar_laws.specs.Spelling.Block.{found, IsBlockScalar}
 use Rattle.saphyr_scanner.specs.Grammar.Forest.{Properties, no_properties, Literal, Folded, Scalar}

@@ -6,7 +6,7 @@ use Rattle.std.proofs.lemmas.List.{append-nil, append_assoc}
 use Rattle.saphyr_input.specs.Indicators.{number_sign}
 use Rattle.saphyr_input.proofs.Basics.Booleans.{and_true_left, and_true_right}
 use Rattle.saphyr_input.specs.Classes.{is_blank, is_yaml_non_break}
-use Rattle.saphyr_scalar.specs.Steps.BlockRead.{spaces}
+use Rattle.saphyr_scalar.specs.Reading.BlockLines.{spaces}
 use Rattle.saphyr_scalar.specs.Spelling.Tag.{AreIn}
 use Rattle.scalar_laws.specs.Spelling.Spaces.{IsLineRest, IsEol, IsFillerText, IsFiller, IsLastFiller, IsSeparation}
 use Rattle.layout_laws.specs.Grammar.BlockNodes.{Position, AtStart, indent_at, IsGapAt}
