@@ -71,9 +71,6 @@ LEADING = re.compile(r"[ \n\r]*")
 
 # What no definition asks, with a smallest text and an answer of it that is taken for the want of this alone.
 OPEN = {
-    "whole line": ("a block scalar ends behind a whole line, or before a NUL or a mark (8.1)", "|\na ", "=VAL |a"),
-    "longest handle": ("a tag directive's handle is the longest (6.8.2)",
-                       "%TAG !!a\n--- !b", "+DOC --- / =VAL <!ab> : / -DOC"),
     "end of a tag": ("behind a tag stands a blank, a break, NUL, the end, or inside flow a flow indicator (6.9.1)",
                      "!a", "=VAL <!> :a"),
     "plain in flow": ("inside flow a plain scalar has no flow indicator, nor a colon before one (7.3.3)",
@@ -362,28 +359,29 @@ class Search:
         return bool(LINE_TAIL.match(self.text, index))
 
     def directive_texts(self, index):
-        """Each directive at an index (IsReadDirective): what it is, its prefix, the index behind it, what it breaks."""
+        """Each directive at an index (IsReadDirective): what it is, its prefix, the index behind it."""
         version = VERSION.match(self.text, index)
         if version:
-            yield "version", "", version.end(), 0
+            yield "version", "", version.end()
         front = TAG.match(self.text, index)
         for handle in self.handles(front.end()) if front else []:
             follows = self.at(front.end() + len(handle))
-            broken = self.unless("longest handle", handle != "!" or follows not in WORD + "_!")
+            if handle == "!" and follows in WORD + "_!":
+                continue
             blanks = BLANKS.match(self.text, front.end() + len(handle))
             starts = [it for it in self.decoded(blanks.end(), SUFFIX + "!") if len(it[0]) == 1]
             for first, middle in starts:
                 for others, end in self.decoded(middle, URI):
-                    yield handle, first + others, end, broken
+                    yield handle, first + others, end
         reserved = RESERVED.match(self.text, index)
         if reserved and reserved[1] not in ("YAML", "TAG"):
-            yield "reserved", "", reserved.end(), 0
+            yield "reserved", "", reserved.end()
 
     def directive_tokens(self, place):
         if place.col == 0 and self.at(place.index) == "%":
-            for handle, prefix, end, broken in self.directive_texts(place.index):
+            for handle, prefix, end in self.directive_texts(place.index):
                 if self.ends_directive(end):
-                    yield (handle, prefix), self.along(place, end - place.index), broken
+                    yield (handle, prefix), self.along(place, end - place.index), 0
 
     # ## Reading/Plain.antt
     def plain_tokens(self, place, context, column):
@@ -474,8 +472,10 @@ class Search:
     def is_behind_lines(self, indentation, t):
         """Whether no more lines follow (IsBehindLines)."""
         c = self.at(t.index)
-        is_content = c not in BREAKZ + MARK and not (indentation == 0 and self.is_document_indicator(t.index))
-        return not (c == " " and t.col < indentation) and c not in BREAK and not (t.col == indentation and is_content)
+        if t.col < indentation:
+            return c != " " and c not in BREAK
+        is_marker = t.col == indentation == 0 and self.is_document_indicator(t.index)
+        return c in END + MARK or is_marker
 
     def block_scalar_tokens(self, place, context, column):
         """Each block scalar at a place (IsBlockScalarToken)."""
@@ -489,9 +489,7 @@ class Search:
             fit = all(is_read_line(indentation, line) for line in lines)
             if fit and self.text[end - 1:end + 1] != "\r\n" and self.is_behind_lines(indentation, t):
                 value = block_value(style, chomping, indentation, "\n".join(lines), self.at(end) == END)
-                is_whole = t.col <= indentation or self.at(end) in BREAKZ + MARK
-                broken = self.unless("block scalar in flow", context != IN_FLOW) | self.unless("whole line", is_whole)
-                yield style, value, t, broken
+                yield style, value, t, self.unless("block scalar in flow", context != IN_FLOW)
             if self.at(end) in END + MARK or is_start and self.is_document_indicator(end):
                 return
             is_start = self.at(end) in BREAK
