@@ -141,7 +141,8 @@ typedef struct saphyr_event {
     size_t anchor;
     /* Where it begins. Of a fault, where it is. */
     saphyr_marker start;
-    /* Where it ends: the place behind its last character. Of a fault, the same place again. */
+    /* Where its span ends, which goes on over the blanks and the comment behind a quoted scalar or a bracket:
+       docs/SPANS.md of the repository says of each event what its span covers. Of a fault, the start again. */
     saphyr_marker end;
     /* The text of a scalar, as it is meant: unfolded and unescaped. Of a fault, why the text is refused. */
     saphyr_text value;

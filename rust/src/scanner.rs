@@ -52,7 +52,7 @@ impl Marker {
     }
 }
 
-/// A piece of a text, from one place up to another.
+/// A piece of a text, from one place up to another. `docs/SPANS.md` of the repository says what each event's covers.
 #[derive(Clone, Copy, Debug, Default, PartialEq, Eq)]
 pub struct Span {
     /// Where it begins.

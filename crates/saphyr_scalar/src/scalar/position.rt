@@ -76,11 +76,12 @@ impl Marker {
     }
 }
 
-/// From one place of a text to another.
+/// From one place of a text to another. An event's span may go on over a comment behind a scalar:
+/// `docs/SPANS.md` has what each event's span covers.
 #[derive(Clone, Copy, Debug, PartialEq, Eq, Default)]
 pub struct Span {
     pub start: Marker,
-    /// The place behind the last character.
+    /// The place behind the last character that is covered.
     pub end: Marker,
 }
 
