@@ -1,7 +1,7 @@
 -- Which tokens are taken from a text: up to the last token the text is the spellings of the tokens in order, parted by
 -- blanks, breaks and comments alone (YAML 1.2.2, chapters 5 to 9). Nothing else is passed over.
 -- A place is a cursor, of which what stands there and its line and column count here.
-use Rattle.std.specs.Prelude.{◌≡◌, ℕ, ◌+◌, ◌≤◌, Bool, not, ◌&&◌, ◌==◌, ◌⊎◌, List, [], ◌∷◌, ◌++◌, length, drop, slice_index, Option, Some, None, IsTrue, IsFalse, codes, encode_utf8_all}
+use Rattle.std.specs.Prelude.{◌≡◌, ℕ, ◌+◌, ◌-◌, ◌≤◌, Bool, false, not, nat_lt, if◌then◌else◌, ◌&&◌, ◌==◌, ◌⊎◌, List, [], ◌∷◌, ◌++◌, length, drop, slice_index, Option, Some, None, IsTrue, IsFalse, codes, encode_utf8_all}
 use Rattle.saphyr_input.specs.Classes.{is_blank, is_break, is_breakz, is_blank_or_breakz, is_yaml_non_break, is_anchor_char, is_one_of, byte_order_mark}
 use Rattle.saphyr_input.specs.Places.{is_document_start, is_document_end, is_blank_or_break}
 use Rattle.saphyr_input.specs.Indicators.{ampersand, asterisk, colon, comma, greater_than, hyphen, left_brace, left_bracket, number_sign, question_mark, right_brace, right_bracket, vertical_bar}
@@ -23,7 +23,7 @@ use Rattle.saphyr_scalar.specs.Spelling.QuotedMarkers.{HasNoMarker}
 use Rattle.saphyr_scalar.specs.Spelling.Quoted.{IsQuotedText}
 use Rattle.saphyr_scalar.specs.Reading.Plain.{IsPlainReading}
 use Rattle.saphyr_scalar.specs.Reading.BlockText.{IsBlockText}
-use Rattle.saphyr_scalar.specs.Spelling.Tag.{AreIn, IsAnchorName, IsTagText}
+use Rattle.saphyr_scalar.specs.Spelling.Tag.{AreIn, IsAnchorName, IsTagText, EndsTag}
 use Rattle.saphyr_scalar.specs.Spelling.Directive.{ReadDirective, version, tag_prefix, reserved, IsReadDirective, IsLineTail}
 use Rattle.saphyr_scanner.specs.Grammar.Tokens as tokens
 use Rattle.saphyr_scanner.specs.Grammar.Tokens.{Kind}
@@ -117,11 +117,12 @@ IsNameToken indicator bytes span s t =
     (name : List ℕ) × IsAnchorName name × (bytes ≡ encode_utf8_all name) × IsSpan span (indicator ∷ name) s t
     × IsFalse (is_anchor_char (slice_index t.rest 0))
 
--- 6.9.1. A verbatim tag's uri may be empty.
-abbrev pub IsTagToken : List ℕ → List ℕ → Span → Cursor → Cursor → Type 0
-IsTagToken front back span s t =
+-- 6.9, 6.9.1: a tag, behind which stands a blank, a break, NUL, the end, or inside flow a flow indicator. A verbatim
+-- tag's uri may be empty.
+abbrev pub IsTagToken : Bool → List ℕ → List ℕ → Span → Cursor → Cursor → Type 0
+IsTagToken in_flow front back span s t =
     (text handle suffix : List ℕ) × IsTagText text handle suffix × (front ≡ encode_utf8_all handle)
-    × (back ≡ encode_utf8_all suffix) × IsSpan span text s t
+    × (back ≡ encode_utf8_all suffix) × IsSpan span text s t × EndsTag in_flow t.rest
 
 -- 6.8: a directive at the start of a line, on which nothing else stands but a comment
 abbrev pub IsDirectiveToken : ReadDirective → Span → Cursor → Cursor → Type 0
@@ -169,15 +170,22 @@ IsQuotedToken quote value span s t =
 abbrev pub may_begin_plain : ℕ → Bool
 may_begin_plain c = not (is_one_of (codes ",[]{}#&*!'\"%@`") c)
 
--- The span is the piece that is read. It begins with neither a blank nor a break, and with `-`, `?` or `:` only where
--- no blank, break or NUL follows. Where blanks and breaks behind it are passed no break stands behind those, so that
--- none of two characters is cut.
-pub record IsPlainToken (value : List ℕ) (span : Span) (s t : Cursor) : Type 0 where
+-- Where a token stands: whether inside brackets, and the first column right of the innermost open block collection, 0 at
+-- the root.
+pub record Surroundings : Type 0 where
+  pub in_flow : Bool
+  pub indent : ℕ
+
+-- The span is the piece that is read. It begins with neither a blank nor a break, with `-`, `?` or `:` only where no
+-- blank, break or NUL follows, and with `|` or `>`, which begin a block scalar outside flow, only inside flow. Where
+-- blanks and breaks behind it are passed no break stands behind those, so that none of two characters is cut.
+pub record IsPlainToken (in_flow : Bool) (value : List ℕ) (span : Span) (s t : Cursor) : Type 0 where
   pub start : span.start ≡ s.mark
   pub begins : IsTrue (may_begin_plain (slice_index s.rest 0))
   pub is_ink : IsFalse (is_blank_or_break (slice_index s.rest 0))
   pub no_indicator : IsTrue (is_one_of (codes "-?:") (slice_index s.rest 0))
       → IsFalse (is_blank_or_breakz (slice_index s.rest 1))
+  pub no_block_scalar : in_flow ≡ false → IsFalse (is_one_of (codes "|>") (slice_index s.rest 0))
   pub reading : IsPlainReading s value span.end t
   pub uncut : (reading.white ≡ []) ⊎ IsFalse (is_break (slice_index t.rest 0))
 
@@ -195,62 +203,91 @@ pub record IsBlockScalarToken (style : BlockStyle) (indent : ℕ) (value : List 
   pub passes : IsPassed s.mark s.rest t.mark t.rest
   pub end : span.end ≡ t.mark
 
-abbrev pub IsScalarToken : ScalarStyle → ℕ → List ℕ → Span → Cursor → Cursor → Type 0
-IsScalarToken style.Plain indent value span s t = IsPlainToken value span s t
-IsScalarToken style.SingleQuoted indent value span s t = IsQuotedToken Single value span s t
-IsScalarToken style.DoubleQuoted indent value span s t = IsQuotedToken Double value span s t
-IsScalarToken style.Literal indent value span s t = IsBlockScalarToken block_style.Literal indent value span s t
-IsScalarToken style.Folded indent value span s t = IsBlockScalarToken block_style.Folded indent value span s t
+abbrev pub IsScalarToken : ScalarStyle → Surroundings → List ℕ → Span → Cursor → Cursor → Type 0
+IsScalarToken style.Plain at value span s t = IsPlainToken at.in_flow value span s t
+IsScalarToken style.SingleQuoted at value span s t = IsQuotedToken Single value span s t
+IsScalarToken style.DoubleQuoted at value span s t = IsQuotedToken Double value span s t
+IsScalarToken style.Literal at value span s t =
+    (at.in_flow ≡ false) × IsBlockScalarToken block_style.Literal at.indent value span s t
+IsScalarToken style.Folded at value span s t =
+    (at.in_flow ≡ false) × IsBlockScalarToken block_style.Folded at.indent value span s t
 
 -- ## Tokens
 
--- A token from s to t. `indent` is the first column right of the innermost open block collection, 0 at the root.
-abbrev pub IsToken : ℕ → Kind → Span → Cursor → Cursor → Type 0
-IsToken indent tokens.StreamStart span s t = HasNoText span s t
-IsToken indent tokens.StreamEnd span s t = (s.rest ≡ []) × HasNoText span s t
-IsToken indent (tokens.VersionDirective major minor) span s t = IsDirectiveToken (version major minor) span s t
-IsToken indent (tokens.TagDirective handle prefix) span s t = IsDirectiveToken (tag_prefix handle prefix) span s t
-IsToken indent (tokens.ReservedDirective name) span s t = IsDirectiveToken (reserved name) span s t
-IsToken indent tokens.DocumentStart span s t = IsMarker is_document_start (codes "---") span s t
-IsToken indent tokens.DocumentEnd span s t = IsMarker is_document_end (codes "...") span s t
-IsToken indent tokens.ByteOrderMark span s t = IsMark span s t
-IsToken indent tokens.BlockSequenceStart span s t = IsBlockStart span s t
-IsToken indent tokens.BlockMappingStart span s t = IsBlockStart span s t
-IsToken indent tokens.BlockEnd span s t = HasNoText span s t
-IsToken indent tokens.FlowSequenceStart span s t = IsFlowIndicator left_bracket span s t
-IsToken indent tokens.FlowSequenceEnd span s t = IsFlowIndicator right_bracket span s t
-IsToken indent tokens.FlowMappingStart span s t = IsFlowIndicator left_brace span s t ⊎ HasNoText span s t
-IsToken indent tokens.FlowMappingEnd span s t = IsFlowIndicator right_brace span s t ⊎ HasNoText span s t
-IsToken indent tokens.BlockEntry span s t = IsDash span s t
-IsToken indent tokens.FlowEntry span s t = IsFlowIndicator comma span s t
-IsToken indent tokens.Key span s t = IsQuestionMark span s t ⊎ HasNoText span s t
-IsToken indent tokens.Value span s t = IsColon span s t
-IsToken indent (tokens.Alias name) span s t = IsNameToken asterisk name span s t
-IsToken indent (tokens.Anchor name) span s t = IsNameToken ampersand name span s t
-IsToken indent (tokens.Tag handle suffix) span s t = IsTagToken handle suffix span s t
-IsToken indent (tokens.Scalar style value) span s t = IsScalarToken style indent value span s t
+-- a token from s to t
+abbrev pub IsToken : Surroundings → Kind → Span → Cursor → Cursor → Type 0
+IsToken at tokens.StreamStart span s t = HasNoText span s t
+IsToken at tokens.StreamEnd span s t = (s.rest ≡ []) × HasNoText span s t
+IsToken at (tokens.VersionDirective major minor) span s t = IsDirectiveToken (version major minor) span s t
+IsToken at (tokens.TagDirective handle prefix) span s t = IsDirectiveToken (tag_prefix handle prefix) span s t
+IsToken at (tokens.ReservedDirective name) span s t = IsDirectiveToken (reserved name) span s t
+IsToken at tokens.DocumentStart span s t = IsMarker is_document_start (codes "---") span s t
+IsToken at tokens.DocumentEnd span s t = IsMarker is_document_end (codes "...") span s t
+IsToken at tokens.ByteOrderMark span s t = IsMark span s t
+IsToken at tokens.BlockSequenceStart span s t = IsBlockStart span s t
+IsToken at tokens.BlockMappingStart span s t = IsBlockStart span s t
+IsToken at tokens.BlockEnd span s t = HasNoText span s t
+IsToken at tokens.FlowSequenceStart span s t = IsFlowIndicator left_bracket span s t
+IsToken at tokens.FlowSequenceEnd span s t = IsFlowIndicator right_bracket span s t
+IsToken at tokens.FlowMappingStart span s t = IsFlowIndicator left_brace span s t ⊎ HasNoText span s t
+IsToken at tokens.FlowMappingEnd span s t = IsFlowIndicator right_brace span s t ⊎ HasNoText span s t
+IsToken at tokens.BlockEntry span s t = IsDash span s t
+IsToken at tokens.FlowEntry span s t = IsFlowIndicator comma span s t
+IsToken at tokens.Key span s t = IsQuestionMark span s t ⊎ HasNoText span s t
+IsToken at tokens.Value span s t = IsColon span s t
+IsToken at (tokens.Alias name) span s t = IsNameToken asterisk name span s t
+IsToken at (tokens.Anchor name) span s t = IsNameToken ampersand name span s t
+IsToken at (tokens.Tag handle suffix) span s t = IsTagToken at.in_flow handle suffix span s t
+IsToken at (tokens.Scalar style value) span s t = IsScalarToken style at value span s t
 
--- the columns of the open block collections behind a token, the innermost first
+-- What is open where a token stands: the columns of the block collections, the innermost first, and how many brackets and
+-- braces.
+pub record Collections : Type 0 where
+  pub columns : List ℕ
+  pub brackets : ℕ
+
+abbrev pub no_collections : Collections
+no_collections = record { columns = []; brackets = 0 }
+
 abbrev pub without_innermost : List ℕ → List ℕ
 without_innermost [] = []
 without_innermost (column ∷ columns) = columns
 
-abbrev pub open_behind : Kind → ℕ → List ℕ → List ℕ
-open_behind tokens.BlockSequenceStart column columns = column ∷ columns
-open_behind tokens.BlockMappingStart column columns = column ∷ columns
-open_behind tokens.BlockEnd column columns = without_innermost columns
-open_behind _ column columns = columns
+abbrev pub with_columns : List ℕ → Collections → Collections
+with_columns columns opened = record { columns = columns; brackets = opened.brackets }
+
+abbrev pub with_brackets : ℕ → Collections → Collections
+with_brackets n opened = record { columns = opened.columns; brackets = n }
+
+abbrev pub has_text : Span → Bool
+has_text span = nat_lt span.start.index span.end.index
+
+-- What is open behind a token. The start and the end of a single pair have no text, and open and close no bracket.
+abbrev pub open_behind : Kind → Span → Collections → Collections
+open_behind tokens.BlockSequenceStart span opened = with_columns (span.start.col ∷ opened.columns) opened
+open_behind tokens.BlockMappingStart span opened = with_columns (span.start.col ∷ opened.columns) opened
+open_behind tokens.BlockEnd span opened = with_columns (without_innermost opened.columns) opened
+open_behind tokens.FlowSequenceStart span opened = with_brackets (opened.brackets + 1) opened
+open_behind tokens.FlowSequenceEnd span opened = with_brackets (opened.brackets - 1) opened
+open_behind tokens.FlowMappingStart span opened =
+    if has_text span then with_brackets (opened.brackets + 1) opened else opened
+open_behind tokens.FlowMappingEnd span opened =
+    if has_text span then with_brackets (opened.brackets - 1) opened else opened
+open_behind _ span opened = opened
 
 abbrev pub least_column_in : List ℕ → ℕ
 least_column_in [] = 0
 least_column_in (column ∷ columns) = column + 1
 
--- tokens from one place to another, where block collections are open at these columns
-abbrev pub AreTokens : List ℕ → List Piece → Cursor → Cursor → Type 0
-AreTokens columns [] s u = u ≡ s
-AreTokens columns (p ∷ ps) s u =
-    (here behind : Cursor) × AreApart s here × IsToken (least_column_in columns) p.kind p.span here behind
-    × AreTokens (open_behind p.kind p.span.start.col columns) ps behind u
+abbrev pub surroundings_in : Collections → Surroundings
+surroundings_in opened = record { in_flow = nat_lt 0 opened.brackets; indent = least_column_in opened.columns }
+
+-- tokens from one place to another, the first of which stands where these collections are open
+abbrev pub AreTokens : Collections → List Piece → Cursor → Cursor → Type 0
+AreTokens opened [] s u = u ≡ s
+AreTokens opened (p ∷ ps) s u =
+    (here behind : Cursor) × AreApart s here × IsToken (surroundings_in opened) p.kind p.span here behind
+    × AreTokens (open_behind p.kind p.span opened) ps behind u
 
 -- the whole text, or a beginning and a refusal with its place in the text
 abbrev pub IsEndOf : List ℕ → Option Refusal → Cursor → Type 0
@@ -259,4 +296,4 @@ IsEndOf text (Some e) u = IsPlaceOf text e.mark
 
 -- the tokens, and the refusal if one ends them, are taken from the text
 abbrev pub AreTakenFrom : List ℕ → Remaining → Type 0
-AreTakenFrom text r = (end : Cursor) × AreTokens [] r.pieces (start_cursor text) end × IsEndOf text r.refusal end
+AreTakenFrom text r = (end : Cursor) × AreTokens no_collections r.pieces (start_cursor text) end × IsEndOf text r.refusal end

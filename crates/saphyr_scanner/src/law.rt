@@ -11,7 +11,7 @@ ghost use Rattle.saphyr_scanner.specs.AtPlaces.{AreAtPlaces};
 ghost use Rattle.saphyr_scanner.specs.Ends.{EndsWithStream};
 ghost use Rattle.saphyr_scanner.specs.Steps.Gap as gaps;
 ghost use Rattle.saphyr_scanner.specs.TakenOff.{Readers};
-ghost use Rattle.saphyr_scanner.specs.TokensTaken.{AreApart, AreTakenFrom, AreTokens, LiesOnLine, IsPlaceOf};
+ghost use Rattle.saphyr_scanner.specs.TokensTaken.{AreApart, AreTakenFrom, AreTokens, LiesOnLine, IsPlaceOf, no_collections};
 ghost use Rattle.saphyr_scanner.specs.Views.Tokens.{Piece};
 
 use saphyr_scalar::scalar::{
@@ -106,7 +106,7 @@ pub fn begins_at_places()
 /// Tokens that are taken from a text begin and end at places of it.
 pub fn places_taken_tokens()
     ensures { (text : List ℕ) (pieces : List Piece) (end : Cursor)
-        → AreTokens [] pieces (start_cursor text) end → AreAtPlaces text pieces }
+        → AreTokens no_collections pieces (start_cursor text) end → AreAtPlaces text pieces }
 {}
 
 /// A refusal that ends the tokens of a text stands at a place of it.

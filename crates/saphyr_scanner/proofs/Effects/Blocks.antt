@@ -65,7 +65,7 @@ dash c d first second s o =
     let u = d.cursor in
     let later = apart_later (pass 1 c.cursor).mark (pass 1 c.cursor).rest u.mark u.rest o.apart in
     and_then (λ n. n)
-    (quiet 1 c (empty_piece u.mark tokens.BlockEntry) u refl (λ i. absurd (cc))
+    (quiet 1 c (empty_piece u.mark tokens.BlockEntry) u refl (λ x. refl) (λ i. absurd (cc))
     (indicated 45 c u (empty_piece u.mark tokens.BlockEntry) (record { some = refl; unbroken = refl; is = first })
     o.apart (omega (arith, later.index)) (omega arith) (omega arith)
     (λ t. (t, ap is_blank_or_breakz (second_is c.cursor.rest) ∙ second, o.on_line, refl))))
@@ -136,7 +136,7 @@ question c d first second s a =
     let later = apart_later (pass 1 c.cursor).mark (pass 1 c.cursor).rest u.mark u.rest a in
     let t : Piece = record { span = record { start = c.cursor.mark; end = u.mark }; kind = tokens.Key } in
     and_then (λ n. n)
-    (quiet 1 c t u refl (λ i. absurd (cc))
+    (quiet 1 c t u refl (λ x. refl) (λ i. absurd (cc))
     (indicated 63 c u t (record { some = refl; unbroken = refl; is = first }) a (omega arith)
     (omega (arith, later.index)) (omega arith)
     (λ k. inl (k, ap is_blank_or_breakz (second_is c.cursor.rest) ∙ second, refl, (u.rest, a)))))

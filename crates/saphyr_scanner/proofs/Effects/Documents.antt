@@ -5,6 +5,7 @@ use Rattle.saphyr_input.specs.Classes.{is_bom, is_break, is_breakz, is_blank_or_
 use Rattle.saphyr_input.specs.Places.{is_document_end, next_3_are}
 use Rattle.saphyr_input.specs.declared.input.SkipTabs.{SkipTabs}
 use Rattle.saphyr_scalar.specs.declared.scalar.position.Marker.{Marker}
+use Rattle.saphyr_scalar.specs.declared.scalar.position.Span.{Span}
 use Rattle.saphyr_scalar.specs.declared.scalar.fault.Refusal.{Refusal}
 use Rattle.saphyr_scalar.specs.Views.Cursor.{Cursor, ◌>>=◌, along, pass, pass_break}
 use Rattle.saphyr_scalar.specs.Steps.Directive as directives
@@ -20,19 +21,21 @@ use Rattle.saphyr_scanner.specs.Steps.State.{State, on_core, on_core_with, after
 use Rattle.saphyr_scanner.specs.Steps.Unrolling.{unroll}
 use Rattle.saphyr_scanner.specs.Steps.Document as document
 use Rattle.saphyr_scanner.specs.TokensTaken as taken
-use Rattle.saphyr_scanner.specs.TokensTaken.{AreApart, IsPassedOver, IsReached, IsToken}
+use Rattle.saphyr_scanner.specs.TokensTaken.{Collections, AreApart, IsPassedOver, IsReached, IsToken}
 use Rattle.saphyr_scanner.proofs.Added.Queue.{IsNoEnd}
 use Rattle.saphyr_scanner.proofs.Blocks.{unrolled_cursor, unrolled_comment}
 use Rattle.saphyr_scanner.proofs.Counted.{stays, text_passed}
 use Rattle.saphyr_scanner.proofs.Effects.Moves.{Does, and_then, NoComment, Same, still, further}
-use Rattle.saphyr_scanner.proofs.Effects.Puts.{Reading, quiet}
-use Rattle.saphyr_scanner.proofs.Effects.Walked.{Premises, Walked, walked_then, at_most, Doing, unsaved_step, at_reach, at_inside, read_walked, separate_walked}
+use Rattle.saphyr_scanner.proofs.Effects.Puts.{Reading, surroundings, quiet}
+use Rattle.saphyr_scanner.proofs.Effects.Walked.{Premises, Walked, walked_then, at_most, Doing, unsaved_step, at_reach}
+use Rattle.saphyr_scanner.proofs.Effects.Walked.{at_inside, read_walked, separate_walked}
 use Rattle.saphyr_scanner.proofs.Effects.Readers.{TextLaws}
 use Rattle.saphyr_scanner.proofs.Effects.States.{FetchesTokens, advances_advances, on_core_fetches, after_step_fetches, unroll_advances}
 use Rattle.saphyr_scanner.proofs.Effects.Steps.{begins_none, begins_forgotten}
 use Rattle.saphyr_scanner.proofs.LineTails.{OnLine, tail_apart}
 use Rattle.saphyr_scanner.proofs.Reached.{along_reached, apart_reached}
-use Rattle.saphyr_scanner.proofs.Taken.Documents.{HoldsState, forgotten_unrolled, three_at, Marking, end_marking, break_apart, directive_is_token, quiet_directive}
+use Rattle.saphyr_scanner.proofs.Taken.Documents.{HoldsState, forgotten_unrolled, three_at, Marking, end_marking, break_apart, directive_is_token, directive_keeps, quiet_directive}
+use Rattle.saphyr_scanner.proofs.Taken.Cores.{KeepsBrackets}
 use Rattle.saphyr_scanner.proofs.Taken.Later.{apart_later}
 use Rattle.saphyr_scanner.proofs.Taken.Parts.{is_quiet}
 use Rattle.saphyr_scanner.proofs.Taken.Places.{Reaches, reaches_reaches, At, at_here}
@@ -49,7 +52,7 @@ record Content (s t : State) : Type 0 where
   advances : FetchesTokens 0 s t
   cursor : t.core.cursor ≡ s.core.cursor
   comment : NoComment s.core t.core
-  holds : (columns : List ℕ) (from : Cursor) → HoldsState columns from s → HoldsState columns from t
+  holds : (opened : Collections) (from : Cursor) → HoldsState opened from s → HoldsState opened from t
 
 content_walked : (s : State) → Walked (Premises s.core) (Content s) s.core.cursor (document.end_content s)
 unfolding document.end_content remove_key
@@ -65,13 +68,13 @@ content_walked s =
           (stays u.core.cursor u.core.cursor refl, begins_forgotten 0 u.core u.core (begins_none u.core)));
       cursor = there;
       comment = λ n. unrolled_comment None s.core.cursor.mark s ∙ n;
-      holds = λ columns from h. forgotten_unrolled columns from s h;
+      holds = λ opened from h. forgotten_unrolled opened from s h;
     })
 
 -- from s to t a token is put, which is taken from the text
 pub record Documented (s t : State) : Type 0 where
   pub advances : FetchesTokens 1 s t
-  pub holds : TextLaws → (columns : List ℕ) (from : Cursor) → HoldsState columns from s → HoldsState columns from t
+  pub holds : TextLaws → (opened : Collections) (from : Cursor) → HoldsState opened from s → HoldsState opened from t
   pub comment : NoComment s.core t.core
 
 -- behind the content, a step that saves no key
@@ -80,20 +83,22 @@ documented : (s t : State) (x : Step) → Content s t → NoComment t.core x.cor
 documented s t x c m d = record {
   advances = advances_advances 0 1 s t _ c.advances
       (after_step_fetches _ t (Ok x) (unsaved_step (Unit {0}) 0 t.core t.core.cursor (Ok x) d).effect);
-  holds = λ laws columns from h. d.holds laws columns from t.queue tt (c.holds columns from h);
+  holds = λ laws opened from h. d.holds laws opened from t.queue tt (c.holds opened from h);
   comment = λ n. m (c.comment n);
 }
 
 -- the token of a text that stands here
 spelled : (c d : Core) (kind : Kind) (text : List ℕ) → c.cursor.rest ≡ text ++ d.cursor.rest
-    → d.cursor.mark.index ≡ c.cursor.mark.index + length text → 0 < length text → is_quiet kind ≡ true → IsNoEnd kind
-    → Same c d → IsToken c.indent kind (record { start = c.cursor.mark; end = d.cursor.mark }) c.cursor d.cursor
+    → d.cursor.mark.index ≡ c.cursor.mark.index + length text → 0 < length text → is_quiet kind ≡ true
+    → ((span : Span) → KeepsBrackets (record { span = span; kind = kind })) → IsNoEnd kind
+    → Same c d → IsToken (surroundings c) kind (record { start = c.cursor.mark; end = d.cursor.mark }) c.cursor d.cursor
     → Does None 1 5 c d (up_to_here c.cursor.mark kind d ∷ [])
-spelled c d kind text is i some q e s token =
+spelled c d kind text is i some q b e s token =
     let u = d.cursor in
     let a = text_passed c.cursor u text is i in
     at_most (omega arith) (and_then (λ n. n)
-    (quiet 1 c (record { span = record { start = c.cursor.mark; end = u.mark }; kind = kind }) u q e
+    (quiet 1 c (record { span = record { start = c.cursor.mark; end = u.mark }; kind = kind }) u q
+    (b (record { start = c.cursor.mark; end = u.mark })) e
     (record {
       less = λ _. omega (arith, a.counted, i, some);
       span = λ _. record { ahead = a; begins = omega arith; inside = a.later; ends = omega arith };
@@ -125,8 +130,8 @@ marker_walked stands text kind marking no_end s col e =
     ) in (
       documented s t (record { core = d; actions = up_to_here t.core.cursor.mark kind d ∷ [] }) c (λ n. n)
           (spelled t.core d kind text three (let k = marking.count in omega (arith, k))
-          (let k = marking.count in omega (arith, k)) marking.quiet no_end (refl, refl, λ n. n)
-          (marking.is t.core.indent _ t.core.cursor d.cursor token)),
+          (let k = marking.count in omega (arith, k)) marking.quiet marking.keeps no_end (refl, refl, λ n. n)
+          (marking.is (surroundings t.core) _ t.core.cursor d.cursor token)),
       ap (pass 3) c.cursor,
     ))
 
@@ -182,7 +187,7 @@ end_marker_walked s col e =
                 record { later = later.index; counted = later.counted },
                 (f.started, f.ended, (let w = f.few in omega (arith, w)), λ i k. (f.keeps i tt k).0),
               ));
-          holds = λ laws columns from k. f.holds laws columns from t.queue tt (d.holds laws columns from k);
+          holds = λ laws opened from k. f.holds laws opened from t.queue tt (d.holds laws opened from k);
           comment = λ n. h.0.2 (d.comment n);
         })
         (λ _ _. at_reach s.core.cursor u (reaches_reaches s.core.cursor c u a (apart_reached c.mark c.rest u.mark u.rest
@@ -210,7 +215,7 @@ mark_walked s e =
     let P : Cursor → Type 0 = λ u. Does None 1 5 t.core d (up_to_here u.mark tokens.ByteOrderMark d ∷ []) in
     documented s t (record { core = d; actions = up_to_here here.mark tokens.ByteOrderMark d ∷ [] }) c (λ n. n)
     (subst P c.cursor (spelled t.core d tokens.ByteOrderMark (byte_order_mark ∷ []) is (omega arith) (omega arith) refl
-    (λ i. absurd (cc)) (refl, refl, λ n. n)
+    (λ p y. refl) (λ i. absurd (cc)) (refl, refl, λ n. n)
     (record { is = is; at_start = col; start = refl; end = refl; goes_on = refl })))))
   where
     no_column : (n : ℕ) (b : Bool) → (nat_lt 0 n || b) ≡ false → n ≡ 0
@@ -252,7 +257,7 @@ directive_reading c x col f e = record {
       (along_more s.mark (length text) (length tail) (length text + length tail) refl) first in
       let P : Cursor → Type 0 = λ u. AreApart mid u in (
         mid,
-        directive_is_token x.0 c.indent (record { start = s.mark; end = x.1 }) s mid (
+        directive_is_token x.0 (surroundings c) (record { start = s.mark; end = x.1 }) s mid (
           text,
           tail,
           behind,
@@ -295,7 +300,8 @@ directive_walked s col f =
         documented s t (record { core = d; actions = from_to t.core.cursor.mark x.1 kind ∷ [] }) c (λ n. n)
         (at_most (omega arith) (and_then (λ n. n)
         (quiet 1 t.core (record { span = record { start = t.core.cursor.mark; end = x.1 }; kind = kind }) x.2
-        (quiet_directive x.0) (directive_is_no_end x.0) (directive_reading t.core x col first e))
+        (quiet_directive x.0) (directive_keeps x.0 (record { start = t.core.cursor.mark; end = x.1 }))
+        (directive_is_no_end x.0) (directive_reading t.core x col first e))
         (still (with_cursor x.2 t.core) d (refl, refl, λ n. n) refl)))
     by t c (Err e) col first h = h
 
@@ -306,8 +312,8 @@ pub documents_advance : (s : State) (r : Result State Refusal) → Walked (Premi
 documents_advance s (Ok t) h = h.advances
 documents_advance s (Err e) h = tt
 
-pub documents_hold : TextLaws → (columns : List ℕ) (from : Cursor) (s : State) (r : Result State Refusal)
-    → HoldsState columns from s → Walked (Premises s.core) (Documented s) s.core.cursor r
-    → Given (HoldsState columns from) r
-documents_hold laws columns from s (Ok t) k h = h.holds laws columns from k
-documents_hold laws columns from s (Err e) k h = tt
+pub documents_hold : TextLaws → (opened : Collections) (from : Cursor) (s : State) (r : Result State Refusal)
+    → HoldsState opened from s → Walked (Premises s.core) (Documented s) s.core.cursor r
+    → Given (HoldsState opened from) r
+documents_hold laws opened from s (Ok t) k h = h.holds laws opened from k
+documents_hold laws opened from s (Err e) k h = tt

@@ -26,7 +26,7 @@ use Rattle.saphyr_scanner.proofs.Effects.Readers.{Readers, ReaderEnds}
 use Rattle.saphyr_scanner.proofs.Effects.Steps.{EffectAt, Goes, goes_none, gap_goes, drop_goes}
 use Rattle.saphyr_scanner.proofs.Effects.Walked.{Premises, Walked, walked_given, Doing, Stepped, walked_step}
 use Rattle.saphyr_scanner.proofs.Effects.Walked.{unsaved_step}
-use Rattle.saphyr_scanner.proofs.Effects.Flow.{open_sequence, open_mapping, close_sequence, close_mapping, sequence_starts, mapping_starts, start_does, end_does, entry_does}
+use Rattle.saphyr_scanner.proofs.Effects.Flow.{open_sequence, open_mapping, close_sequence, close_mapping, sequence_starts, mapping_starts, sequence_opens, mapping_opens, sequence_closes, mapping_closes, start_does, end_does, entry_does}
 use Rattle.saphyr_scanner.proofs.Effects.Values.{value_does, flow_value_does}
 use Rattle.saphyr_scanner.proofs.Effects.Blocks.{block_entry_does, key_does}
 use Rattle.saphyr_scanner.proofs.Effects.Scalars.{plain_start, double_quoted_does, single_quoted_does, plain_does, block_does}
@@ -51,13 +51,13 @@ step_does first second n c h f g =
     → Walked (Premises c) (Stepped n c) c.cursor r =
     λ r w. unsaved_step (Premises c) n c c.cursor r w in
     cases (Walked (Premises c) (Stepped n c) c.cursor) first second n c (record {
-      sequence = λ e. does _ (start_does 91 tokens.FlowSequenceStart context.FlowSequence open_sequence sequence_starts
+      sequence = λ e. does _ (start_does 91 tokens.FlowSequenceStart context.FlowSequence open_sequence sequence_starts sequence_opens
           refl n c (f ∙ e));
-      mapping = λ e. does _ (start_does 123 tokens.FlowMappingStart context.FlowMapping open_mapping mapping_starts refl
+      mapping = λ e. does _ (start_does 123 tokens.FlowMappingStart context.FlowMapping open_mapping mapping_starts mapping_opens refl
           n c (f ∙ e));
-      sequence_end = λ e. still _ (end_does 93 tokens.FlowSequenceEnd close_sequence (ends_pair c.level.context) c
+      sequence_end = λ e. still _ (end_does 93 tokens.FlowSequenceEnd close_sequence sequence_closes (ends_pair c.level.context) c
           (f ∙ e));
-      mapping_end = λ e. still _ (end_does 125 tokens.FlowMappingEnd close_mapping false c (f ∙ e));
+      mapping_end = λ e. still _ (end_does 125 tokens.FlowMappingEnd close_mapping mapping_closes false c (f ∙ e));
       comma = λ e. still _ (entry_does c (f ∙ e));
       dash = λ e b. still _ (block_entry_does c (f ∙ e) (ap is_blank_or_breakz g ∙ b));
       question = λ e b. still _ (key_does c (f ∙ e) (ap is_blank_or_breakz g ∙ b));

@@ -1,5 +1,5 @@
 -- What each step of flow collections does.
-use Rattle.std.proofs.Common.{◌≡◌, ℕ, ◌<◌, Bool, true, false, [], ◌∷◌, length, Some, None, refl, sym, ap, arith, subst, inl, inr, IsTrue}
+use Rattle.std.proofs.Common.{◌≡◌, ℕ, ◌+◌, ◌-◌, ◌<◌, Bool, true, false, [], ◌∷◌, length, Some, None, refl, sym, ap, arith, subst, inl, inr, IsTrue}
 use Rattle.std.specs.Prelude.{◌&&◌, ◌==◌, slice_index, nat_le}
 use Rattle.saphyr_input.specs.Indicators.{comma}
 use Rattle.saphyr_input.specs.Classes.{is_break}
@@ -12,23 +12,24 @@ use Rattle.saphyr_scanner.specs.Grammar.Tokens as tokens
 use Rattle.saphyr_scanner.specs.Grammar.Tokens.{Kind}
 use Rattle.saphyr_scanner.specs.Views.Tokens.{Piece}
 use Rattle.saphyr_scanner.specs.Steps.Queue.{empty_piece}
-use Rattle.saphyr_scanner.specs.Steps.Core.{Core, in_block, forget_key, remove_key, go_deeper, up_to_here, with_context, completed_step}
+use Rattle.saphyr_scanner.specs.Steps.Core.{Core, Put, in_block, forget_key, remove_key, go_deeper, up_to_here, with_context, completed_step}
 use Rattle.saphyr_scanner.specs.Steps.Level.{is_block, ends_pair, behind_entry}
 use Rattle.saphyr_scanner.specs.Steps.Passing.{separate, pass_on, with_cursor}
 use Rattle.saphyr_scanner.specs.Steps.Flow as flow
 use Rattle.saphyr_scanner.specs.TokensTaken as taken
-use Rattle.saphyr_scanner.specs.TokensTaken.{IsToken, IsFlowIndicator, begins_text}
+use Rattle.saphyr_scanner.specs.TokensTaken.{Collections, Surroundings, open_behind, has_text, IsToken, IsFlowIndicator, begins_text}
 use Rattle.saphyr_scanner.specs.Limits.{most_open}
 use Rattle.saphyr_scanner.proofs.Added.Queue.{IsNoEnd}
-use Rattle.saphyr_scanner.proofs.Effects.Moves.{Does, and_then, Same, same, same_same, lesser, further, enter_does, leave_does}
-use Rattle.saphyr_scanner.proofs.Effects.Puts.{Reading, empty_reading, IndicatorStands, passes, indicated, quiet, saving, saved}
-use Rattle.saphyr_scanner.proofs.Effects.Walked.{Premises, Walked, walked_then, walked_map, at_most, Doing}
+use Rattle.saphyr_scanner.proofs.Effects.Moves.{Does, NoComment, and_then, Same, same, same_same, lesser, further, leaving}
+use Rattle.saphyr_scanner.proofs.Effects.Puts.{Reading, surroundings, empty_reading, IndicatorStands, passes, indicated, quiet, saving, entered, left}
+use Rattle.saphyr_scanner.proofs.Effects.Walked.{Premises, Walked, walked_then, at_most, Doing}
 use Rattle.saphyr_scanner.proofs.Effects.Walked.{separate_walked}
 use Rattle.saphyr_scanner.proofs.LineTails.{OnLine}
 use Rattle.saphyr_scanner.proofs.Taken.Later.{apart_later}
-use Rattle.saphyr_scanner.proofs.Taken.Parts.{is_quiet, Begins}
-use Rattle.saphyr_scanner.proofs.Taken.Places.{at_here}
+use Rattle.saphyr_scanner.proofs.Taken.Parts.{is_quiet, Begins, pair_ends}
+use Rattle.saphyr_scanner.proofs.Taken.Places.{Reaches, at_here}
 use Rattle.saphyr_input.proofs.Basics.Booleans.{by_test}
+use Rattle.std.proofs.lemmas.Bool.{lt-ltb}
 
 -- a bracket or a comma
 pub record Bracket (x : ℕ) (kind : Kind) : Type 0 where
@@ -36,7 +37,27 @@ pub record Bracket (x : ℕ) (kind : Kind) : Type 0 where
   pub unbroken : is_break x ≡ false
   pub quiet : is_quiet kind ≡ true
   pub no_end : IsNoEnd kind
-  pub is : (i : ℕ) (span : Span) (s t : Cursor) → IsFlowIndicator x span s t → IsToken i kind span s t
+  pub is : (i : Surroundings) (span : Span) (s t : Cursor) → IsFlowIndicator x span s t → IsToken i kind span s t
+
+-- how many brackets are open behind one of more than no characters
+abbrev pub Counts : (ℕ → ℕ) → Kind → Type 0
+Counts count kind = (span : Span) → span.start.index < span.end.index → (opened : Collections)
+    → (open_behind kind span opened).brackets ≡ count opened.brackets
+
+has_some : (span : Span) → span.start.index < span.end.index → has_text span ≡ true
+has_some span l = lt-ltb span.start.index span.end.index l
+
+pub sequence_opens : Counts (λ n. n + 1) tokens.FlowSequenceStart
+sequence_opens span l opened = refl
+
+pub mapping_opens : Counts (λ n. n + 1) tokens.FlowMappingStart
+mapping_opens span l opened = rw (has_some span l) refl
+
+pub sequence_closes : Counts (λ n. n - 1) tokens.FlowSequenceEnd
+sequence_closes span l opened = refl
+
+pub mapping_closes : Counts (λ n. n - 1) tokens.FlowMappingEnd
+mapping_closes span l opened = rw (has_some span l) refl
 
 abbrev pub BeginsPiece : Kind → Type 0
 BeginsPiece kind = (span : Span) → span.start.index < span.end.index → Begins (record { span = span; kind = kind })
@@ -85,16 +106,16 @@ bracket_read x kind c u b f o =
     let later = apart_later (pass 1 c.cursor).mark (pass 1 c.cursor).rest u.mark u.rest o.apart in
     indicated x c u (bracket_piece kind c u) (stands x kind c.cursor b f) o.apart (omega arith)
     (omega (arith, later.index)) (omega arith)
-    (λ t. b.is c.indent (record { start = c.cursor.mark; end = u.mark }) c.cursor (pass 1 c.cursor)
+    (λ t. b.is (surroundings c) (record { start = c.cursor.mark; end = u.mark }) c.cursor (pass 1 c.cursor)
     (t, refl, o.on_line))
 
 -- ## `[` and `{`
 
-pub start_does : (i : ℕ) (kind : Kind) (x : Context) → Bracket i kind → BeginsPiece kind → is_block x ≡ false → (n : ℕ)
-    (c : Core) → slice_index c.cursor.rest 0 ≡ i
+pub start_does : (i : ℕ) (kind : Kind) (x : Context) → Bracket i kind → BeginsPiece kind → Counts (λ n. n + 1) kind
+    → is_block x ≡ false → (n : ℕ) (c : Core) → slice_index c.cursor.rest 0 ≡ i
     → Walked (Premises c) (Doing (Some n) c) c.cursor (flow.opening_steps x kind n c)
 unfolding flow.opening_steps flow.open_collection
-start_does i kind x b starts flows n c f =
+start_does i kind x b starts counts flows n c f =
     let P = Walked (Premises c) (Doing (Some n) c) c.cursor in
     saving n c (λ d. P (flow.open_collection x kind (go_deeper d))) (λ l r s.
     let d : Core = go_deeper (record c { level = l; required = r }) in
@@ -105,35 +126,45 @@ start_does i kind x b starts flows n c f =
     let u : Cursor = e.1.cursor in
     let later = apart_later (pass 1 c.cursor).mark (pass 1 c.cursor).rest u.mark u.rest g.1.apart in
     let behind : Core = record c { cursor = u; level = l; required = r } in
+    let span : Span = record { start = c.cursor.mark; end = u.mark } in
+    let some : c.cursor.mark.index < u.mark.index = omega (arith, later.index) in
     and_then (λ n. n)
-    (saved n c behind (bracket_piece kind c u) s refl (λ m. inl m) b.quiet b.no_end
-    (starts (record { start = c.cursor.mark; end = u.mark }) (omega (arith, later.index))) refl
-    (bracket_read i kind c u b f g.1))
-    (and_then (λ n. n) (enter_does x behind flows)
-    (further (flow.enter x behind) e.1 g.0 (taken.nothing u.mark u.rest))))))
+    (entered n x c behind (bracket_piece kind c u) flows s refl (λ n. n) b.quiet (counts span some) b.no_end
+    (starts span some) refl (bracket_read i kind c u b f g.1))
+    (further (flow.enter x behind) e.1 g.0 (taken.nothing u.mark u.rest)))))
 
 -- ## The end of a collection or an entry
 
--- behind a bracket or a comma, and before it the end of a pair
-bracket_walked : (x : ℕ) (kind : Kind) → Bracket x kind → (b c : Core) (ends : Bool) → slice_index c.cursor.rest 0 ≡ x
+-- behind a bracket or a comma, which leaves d behind c, and before it the end of a pair
+bracket_walked : (x : ℕ) (kind : Kind) → Bracket x kind → (c d : Core) (ends : Bool) → slice_index c.cursor.rest 0 ≡ x
+    → d.cursor ≡ c.cursor → NoComment c d
+    → ((u : Cursor) → c.cursor.mark.index < u.mark.index → Reading 1 c (bracket_piece kind c u) u
+    → Does None 1 1 c (with_cursor u d) (Put (bracket_piece kind c u) ∷ []))
     → (f : Core → Core) → ((e : Core) → Same e (f e) × ((f e).cursor ≡ e.cursor))
-    → Walked (Premises b) (Doing None c) c.cursor
-    (separate (pass_on 1 c) >>= λ e. completed_step
+    → Walked (Premises c) (Doing None c) c.cursor
+    (separate (pass_on 1 d) >>= λ e. completed_step
     (flow.behind_pair ends c.cursor.mark (up_to_here c.cursor.mark kind e.1))
     (f e.1))
-bracket_walked x kind bracket b c ends first f alike =
-    walked_then (Premises b) _ (Doing None c) c.cursor (separate (pass_on 1 c)) _
-    (separate_walked b c.cursor (pass_on 1 c) (λ _. passes x c.cursor (stands x kind c.cursor bracket first))) (λ e g.
+bracket_walked x kind bracket c d ends first there silent put f alike =
+    let on : (pass_on 1 d).cursor ≡ pass 1 c.cursor = ap (pass 1) there in
+    let R : Cursor → Type 0 = λ v. Reaches c.cursor v in
+    walked_then (Premises c) _ (Doing None c) c.cursor (separate (pass_on 1 d)) _
+    (separate_walked c c.cursor (pass_on 1 d)
+    (λ _. subst R (sym on) (passes x c.cursor (stands x kind c.cursor bracket first)))) (λ e g.
     let u : Cursor = e.1.cursor in
     let k = alike e.1 in
     let P : Cursor → Type 0 = λ v. taken.AreApart u v in
-    let token : Does None 1 1 c (f e.1) (up_to_here c.cursor.mark kind e.1 ∷ []) = and_then (λ n. n)
-    (quiet 1 c (bracket_piece kind c u) u bracket.quiet bracket.no_end (bracket_read x kind c u bracket first g.1))
-    (further (with_cursor u c) (f e.1) (same_same c e.1 (f e.1) g.0 k.0)
+    let Q : Cursor → Type 0 = λ v. OnLine v u in
+    let o : OnLine (pass 1 c.cursor) u = subst Q on g.1 in
+    let later = apart_later (pass 1 c.cursor).mark (pass 1 c.cursor).rest u.mark u.rest o.apart in
+    let token : Does None 1 1 c (f e.1) (up_to_here c.cursor.mark kind e.1 ∷ []) = and_then silent
+    (put u (omega (arith, later.index)) (bracket_read x kind c u bracket first o))
+    (further (with_cursor u d) (f e.1) (same_same (with_cursor u d) e.1 (f e.1) g.0 k.0)
     (subst P (sym k.1) (taken.nothing u.mark u.rest))) in
     by_test ends _ _ (λ actions. Does None 1 5 c (f e.1) actions)
     (λ _. at_most (omega arith) (and_then (λ n. n)
-    (quiet 0 c (empty_piece c.cursor.mark tokens.FlowMappingEnd) c.cursor refl (λ i. absurd (cc))
+    (quiet 0 c (empty_piece c.cursor.mark tokens.FlowMappingEnd) c.cursor refl
+    (λ y. ap (λ (z : Collections). z.brackets) (pair_ends c.cursor.mark y)) (λ i. absurd (cc))
     (empty_reading c tokens.FlowMappingEnd (inr (refl, inl refl, refl)))) token))
     (λ _. at_most (omega arith) token))
 
@@ -142,19 +173,20 @@ adjacent_same c =
     by_test (in_block c) _ _ (λ (d : Core). Same c d × (d.cursor ≡ c.cursor)) (λ _. (same c, refl))
     (λ _. ((refl, refl, λ n. n), refl))
 
-pub end_does : (i : ℕ) (kind : Kind) → Bracket i kind → (ends : Bool) (c : Core) → slice_index c.cursor.rest 0 ≡ i
+pub end_does : (i : ℕ) (kind : Kind) → Bracket i kind → Counts (λ n. n - 1) kind → (ends : Bool) (c : Core)
+    → slice_index c.cursor.rest 0 ≡ i
     → Walked (Premises c) (Doing None c) c.cursor (flow.closing_steps ends kind c)
 unfolding flow.closing_steps flow.close_collection
-end_does i kind b ends c first =
+end_does i kind b counts ends c first =
     by_test (in_block c) _ _ (Walked (Premises c) (Doing None c) c.cursor) (λ _ _. at_here c.cursor)
-    (λ _. leave_does c
+    (λ _. leaving c
     (λ d. Walked (Premises c) (Doing None c) c.cursor
     (separate (pass_on 1 d) >>= λ e. completed_step
     (flow.behind_pair ends c.cursor.mark (up_to_here c.cursor.mark kind e.1)) (flow.allow_adjacent e.1)))
     (λ l ls m.
-    let d : Core = record c { level = l; outer = ls; key_allowed = false } in
-    walked_map (Premises c) (Doing None d) (Doing None c) c.cursor _ (λ x k. and_then (λ n. n) m k)
-    (bracket_walked i kind b c d ends first flow.allow_adjacent adjacent_same)))
+    bracket_walked i kind b c (record c { level = l; outer = ls; key_allowed = false }) ends first refl (λ n. n)
+    (λ u some r. left c l ls (bracket_piece kind c u) u m b.quiet
+    (counts (record { start = c.cursor.mark; end = u.mark }) some) b.no_end r) flow.allow_adjacent adjacent_same))
 
 entry_block : (x : Context) → is_block (behind_entry x) ≡ is_block x
 entry_block context.Block = refl
@@ -167,9 +199,8 @@ entry_does c first =
     let d : Core = with_context (behind_entry c.level.context) (record (forget_key c) { key_allowed = true }) in
     by_test (in_block c && c.required) _ _
     (λ r. Walked (Premises c) (Doing None c) c.cursor (r >>= flow.next_flow_entry)) (λ _ _. at_here c.cursor)
-    (λ _. walked_map (Premises c) (Doing None d) (Doing None c) c.cursor _
-    (λ x k. and_then (λ n. n)
-    (lesser c d (record { block = entry_block c.level.context; key = inr refl }) refl (λ n. n)
-    (taken.nothing c.cursor.mark c.cursor.rest)) k)
-    (bracket_walked 44 tokens.FlowEntry comma_is_bracket c d (ends_pair c.level.context) first (λ e. e)
-    (λ e. (same e, refl))))
+    (λ _. bracket_walked 44 tokens.FlowEntry comma_is_bracket c d (ends_pair c.level.context) first refl (λ n. n)
+    (λ u some r. and_then (λ n. n)
+    (quiet 1 c (bracket_piece tokens.FlowEntry c u) u refl (λ y. refl) (λ i. absurd (cc)) r)
+    (lesser (with_cursor u c) (with_cursor u d) (record { block = entry_block c.level.context; key = inr refl }) refl
+    (λ n. n) (taken.nothing u.mark u.rest))) (λ e. e) (λ e. (same e, refl)))

@@ -1,7 +1,7 @@
 -- What a step does, in one statement, and the moves of which each step is put together. From the statement follow what
 -- is taken off the text, the order of the tokens, how many they are, what may be a key, and that each is a token of the
 -- text.
-use Rattle.std.proofs.Common.{◌≡◌, ℕ, ◌+◌, ◌≤◌, ◌⊎◌, Bool, true, false, List, [], ◌∷◌, ◌++◌, length, Option, Some, None}
+use Rattle.std.proofs.Common.{◌≡◌, ℕ, ◌+◌, ◌-◌, ◌≤◌, ◌⊎◌, Bool, true, false, List, [], ◌∷◌, ◌++◌, length, Option, Some, None}
 use Rattle.std.proofs.Common.{refl, sym, ap, ◌∙◌, arith, subst, inl, inr}
 use Rattle.saphyr_scalar.specs.Views.Cursor.{Cursor}
 use Rattle.saphyr_scanner.specs.declared.engine.level.Context.{Context}
@@ -11,7 +11,7 @@ use Rattle.saphyr_scanner.specs.Steps.Level.{Candidate, Level, is_block, at_root
 use Rattle.saphyr_scanner.specs.Steps.Core.{in_block}
 use Rattle.saphyr_scanner.specs.Steps.Flow as flow
 use Rattle.saphyr_scanner.specs.TokensTaken as taken
-use Rattle.saphyr_scanner.specs.TokensTaken.{AreApart}
+use Rattle.saphyr_scanner.specs.TokensTaken.{Collections, AreApart}
 use Rattle.saphyr_scanner.proofs.Added.Queue.{PutsGoOn, added, at_most_one, open_blocks}
 use Rattle.saphyr_scanner.proofs.Counted.{Ahead, ahead_ahead}
 use Rattle.saphyr_scanner.proofs.Effects.Readers.{Readers, ReaderEnds, TextLaws}
@@ -45,9 +45,9 @@ pub record Does (n : Option ℕ) (k w : ℕ) (c d : Core) (actions : List Action
   pub goes_on : PutsGoOn actions
   pub few : added actions + open_blocks d ≤ open_blocks c + w
   pub keeps : (h : ℕ) → IsBeforePlace h n → Above h c → Above h d × ActionsAbove h actions
-  pub holds : TextLaws → (columns : List ℕ) (from : Cursor) (q : Queue) → IsNextPlace n c q
-      → HoldsTaken columns from c q
-      → HoldsTaken columns from d (perform actions q)
+  pub holds : TextLaws → (opened : Collections) (from : Cursor) (q : Queue) → IsNextPlace n c q
+      → HoldsTaken opened from c q
+      → HoldsTaken opened from d (perform actions q)
   pub noted : c.comment ≡ None → IsNoted d.comment d.cursor
 
 -- ## One behind another
@@ -104,10 +104,10 @@ and_then {n} {k} {l} {v} {w} {c} {d} {e} {front} {back} m a b = record {
   keeps = λ h i x.
       let p = a.keeps h i x in
       let q = b.keeps h tt p.0 in (q.0, above_append h front back p.1 q.1);
-  holds = λ laws columns from q i h.
-      let P : Queue → Type 0 = λ r. HoldsTaken columns from e r in
+  holds = λ laws opened from q i h.
+      let P : Queue → Type 0 = λ r. HoldsTaken opened from e r in
       subst P (sym (perform_append front back q))
-      (b.holds laws columns from (perform front q) tt (a.holds laws columns from q i h));
+      (b.holds laws opened from (perform front q) tt (a.holds laws opened from q i h));
   noted = λ f. b.noted (m f);
 }
 
@@ -169,8 +169,8 @@ lesser c d l a m p =
             ),
             tt,
           );
-      holds = λ _ columns from q _ h.
-          holds_lesser columns from c d q l (ap (λ (x : Around). x.outer) a) (ap (λ (x : Around). x.indent) a)
+      holds = λ _ opened from q _ h.
+          holds_lesser opened from c d q l (ap (λ (x : Around). x.outer) a) (ap (λ (x : Around). x.indent) a)
           (ap (λ (x : Around). x.outer_indents) a) p h;
       noted = λ f. inl (m f);
     }
@@ -187,60 +187,25 @@ still c d s e =
     further c d s (let P : Cursor → Type 0 = λ u. AreApart c.cursor u in subst P (sym e)
     (taken.nothing c.cursor.mark c.cursor.rest))
 
--- the level is another, and the text doesn't go on
-level_changes : (c d : Core) → d.cursor ≡ c.cursor → d.started ≡ c.started → d.ended ≡ c.ended
-    → open_blocks d ≡ open_blocks c → NoComment c d → ((h : ℕ) → Above h c → Above h d)
-    → ((columns : List ℕ) (from : Cursor) (q : Queue) → HoldsTaken columns from c q → HoldsTaken columns from d q)
-    → Does None 0 0 c d []
-level_changes c d e s t b m above holds =
-    let l = ap (λ (u : Cursor). length u.rest) e in
-    let i = ap (λ (u : Cursor). u.mark.index) e in
-    record {
-      less = λ _. omega (arith, l);
-      ahead = λ _. record { later = omega (arith, i); counted = omega (arith, i, l) };
-      puts = λ _. omega (arith, i);
-      started = s;
-      ended = t;
-      goes_on = tt;
-      few = omega (arith, b);
-      keeps = λ h _ x. (above h x, tt);
-      holds = λ _ columns from q _ h. holds columns from q h;
-      noted = λ f. inl (m f);
-    }
-
--- a flow collection is entered
-pub enter_does : (x : Context) (c : Core) → is_block x ≡ false → Does None 0 0 c (flow.enter x c) []
-enter_does x c e =
-    level_changes c (flow.enter x c) refl refl refl refl (λ n. n) (λ h a. (tt, a))
-    (λ columns from q h. record {
-      taken = taken_further columns from c (flow.enter x c) q (taken.nothing c.cursor.mark c.cursor.rest) refl refl
-          h.taken;
-      keys = ((λ f. absurd (cc)), tt, h.keys);
-    })
-
 -- a flow collection is left for the level around it
-pub leave_does : (c : Core) (P : Core → Type 0)
-    → ((l : Level) (ls : List Level) → Does None 0 0 c (record c { level = l; outer = ls; key_allowed = false }) []
-    → P (record c { level = l; outer = ls; key_allowed = false })) → P (flow.leave c)
-leave_does c P f =
-    by c.outer (λ h a. a) (λ q k. keys_weaken (lower (next q) c.level.key) (next q) q c.indent c.outer
-    (below_key (next q) q (is_block c.level.context) c.indent c.level.key k.1) k.2)
-  where
-    taken_there : (l : Level) (ls : List Level) (columns : List ℕ) (from : Cursor) (q : Queue) → Taken columns from c q
-        → Taken columns from (record c { level = l; outer = ls; key_allowed = false }) q
-    taken_there l ls columns from q h =
-        taken_further columns from c (record c { level = l; outer = ls; key_allowed = false }) q
-        (taken.nothing c.cursor.mark c.cursor.rest) refl refl h
+pub record Left (c : Core) (l : Level) (ls : List Level) : Type 0 where
+  pub above : (h : ℕ) → LevelsAbove h c.outer → KeyAbove h l.key × LevelsAbove h ls
+  pub keys : (q : Queue) → Keys (next q) q c.indent (c.level ∷ c.outer) → Keys (next q) q c.indent (l ∷ ls)
+  pub fewer : length ls ≡ length c.outer - 1
 
+pub leaving : (c : Core) (P : Core → Type 0)
+    → ((l : Level) (ls : List Level) → Left c l ls → P (record c { level = l; outer = ls; key_allowed = false }))
+    → P (flow.leave c)
+leaving c P f =
+    by c.outer (λ h a. a) (λ q k. keys_weaken (lower (next q) c.level.key) (next q) q c.indent c.outer
+    (below_key (next q) q (is_block c.level.context) c.indent c.level.key k.1) k.2) refl
+  where
     by : (ls : List Level) → ((h : ℕ) → LevelsAbove h c.outer → LevelsAbove h ls)
         → ((q : Queue) → Keys (next q) q c.indent (c.level ∷ c.outer) → Keys (next q) q c.indent ls)
-        → P (flow.leave_to ls c)
-    by [] above keys =
-        f at_root [] (level_changes c _ refl refl refl refl (λ n. n) (λ h a. (tt, tt))
-        (λ columns from q h. record {
-          taken = taken_there at_root [] columns from q h.taken;
-          keys = ((λ _. refl), tt, tt);
-        }))
-    by (l ∷ ls) above keys =
-        f l ls (level_changes c _ refl refl refl refl (λ n. n) (λ h a. above h a.1)
-        (λ columns from q h. record { taken = taken_there l ls columns from q h.taken; keys = keys q h.keys }))
+        → length c.outer ≡ length ls → P (flow.leave_to ls c)
+    by [] above keys n = f at_root [] (record {
+      above = λ h a. (tt, tt);
+      keys = λ q k. (refl, tt, tt);
+      fewer = omega (arith, n);
+    })
+    by (l ∷ ls) above keys n = f l ls (record { above = above; keys = keys; fewer = omega (arith, n) })

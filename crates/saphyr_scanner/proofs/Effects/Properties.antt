@@ -1,9 +1,9 @@
 -- What each step of anchors, aliases and tags does, by the laws of the readers.
-use Rattle.std.proofs.Common.{◌≡◌, ℕ, ◌+◌, ◌<◌, true, List, ◌∷◌, ◌++◌, length, Some, refl, sym, ap, ◌∙◌, arith, subst, inl, inr}
+use Rattle.std.proofs.Common.{◌≡◌, ℕ, ◌+◌, ◌<◌, Bool, true, List, ◌∷◌, ◌++◌, length, Some, refl, sym, ap, ◌∙◌, arith, subst, inl, inr}
 use Rattle.std.specs.Prelude.{slice_index, not}
 use Rattle.saphyr_input.specs.Indicators.{exclamation_mark}
 use Rattle.saphyr_scalar.specs.declared.scalar.position.Span.{Span}
-use Rattle.saphyr_scalar.specs.Spelling.Tag.{IsHandleText, IsTagText}
+use Rattle.saphyr_scalar.specs.Spelling.Tag.{IsHandleText, IsTagText, EndsTag}
 use Rattle.saphyr_scalar.specs.Steps.Anchor as anchors
 use Rattle.saphyr_scalar.specs.Steps.Tag as tags
 use Rattle.saphyr_scalar.specs.Views.Cursor.{Cursor, along}
@@ -14,19 +14,20 @@ use Rattle.saphyr_scanner.specs.Steps.Passing.{with_cursor}
 use Rattle.saphyr_scanner.specs.Steps.Property as property
 use Rattle.saphyr_scanner.specs.Steps.Scalar as scalar
 use Rattle.saphyr_scanner.specs.TokensTaken as taken
-use Rattle.saphyr_scanner.specs.TokensTaken.{IsToken, begins_text}
+use Rattle.saphyr_scanner.specs.TokensTaken.{Surroundings, IsToken, begins_text}
 use Rattle.saphyr_scanner.proofs.Added.Queue.{IsNoEnd}
 use Rattle.saphyr_scanner.proofs.Counted.{Ahead}
-use Rattle.saphyr_scanner.proofs.Effects.Puts.{saving, saved, Reading}
+use Rattle.saphyr_scanner.proofs.Effects.Puts.{saving, saved, same_flow, surroundings, Reading}
 use Rattle.saphyr_scanner.proofs.Effects.Walked.{Premises, Walked, walked_then, Doing, read_walked}
 use Rattle.saphyr_scanner.proofs.Effects.Scalars.{Starts}
 use Rattle.saphyr_scanner.proofs.Effects.Readers.{Readers, ReaderEnds, Less, TextLaws}
+use Rattle.saphyr_scanner.proofs.Taken.Cores.{KeepsBrackets}
 use Rattle.saphyr_scanner.proofs.Taken.Parts.{is_quiet}
 use Rattle.saphyr_scanner.proofs.Taken.Places.{here_at}
 
 -- a reader that takes a text off, and ends its token there
 token_read : (c : Core) (kind : Kind) (u : Cursor) → (Readers → Less u c.cursor) → (ReaderEnds → Ahead c.cursor u)
-    → (TextLaws → IsToken c.indent kind (record { start = c.cursor.mark; end = u.mark }) c.cursor u)
+    → (TextLaws → IsToken (surroundings c) kind (record { start = c.cursor.mark; end = u.mark }) c.cursor u)
     → Reading 1 c (record { span = record { start = c.cursor.mark; end = u.mark }; kind = kind }) u
 token_read c kind u less ahead is = record {
   less = λ laws. let z = less laws in omega (arith, z);
@@ -38,15 +39,17 @@ token_read c kind u less ahead is = record {
 pub record Named (token_of : List ℕ → Kind) (x : ℕ) : Type 0 where
   pub no_end : (name : List ℕ) → IsNoEnd (token_of name)
   pub quiet : (name : List ℕ) → is_quiet (token_of name) ≡ true
-  pub is : (i : ℕ) (name : List ℕ) (span : Span) (s t : Cursor) → taken.IsNameToken x name span s t
+  pub keeps : (name : List ℕ) (span : Span) → KeepsBrackets (record { span = span; kind = token_of name })
+  pub is : (i : Surroundings) (name : List ℕ) (span : Span) (s t : Cursor) → taken.IsNameToken x name span s t
       → IsToken i (token_of name) span s t
-  pub of : (i : ℕ) (name : List ℕ) (span : Span) (s t : Cursor) → IsToken i (token_of name) span s t
+  pub of : (i : Surroundings) (name : List ℕ) (span : Span) (s t : Cursor) → IsToken i (token_of name) span s t
       → Starts span s
 
 pub an_alias : Named tokens.Alias 42
 an_alias = record {
   no_end = λ n i. absurd (cc);
   quiet = λ n. refl;
+  keeps = λ n p x. refl;
   is = λ i n p s t h. h;
   of = λ i n p s t h. (h.3.start, ap (λ l. begins_text (slice_index l 0)) h.3.is);
 }
@@ -55,6 +58,7 @@ pub an_anchor : Named tokens.Anchor 38
 an_anchor = record {
   no_end = λ n i. absurd (cc);
   quiet = λ n. refl;
+  keeps = λ n p x. refl;
   is = λ i n p s t h. h;
   of = λ i n p s t h. (h.3.start, ap (λ l. begins_text (slice_index l 0)) h.3.is);
 }
@@ -85,7 +89,7 @@ name_does token_of x named n c some f =
     let span : Span = record { start = here.mark; end = y.1.mark } in
     let kind : Kind = token_of y.0 in
     saved n c (with_cursor y.1 d) (record { span = span; kind = kind }) s refl (λ m. inl m) (named.quiet y.0)
-    (named.no_end y.0) (λ i. named.of i y.0 span) refl
+    (named.keeps y.0 span) (named.no_end y.0) (λ i. named.of i y.0 span) refl
     (token_read c kind y.1 (λ laws. laws.name here y.1 y.0 some e) (λ laws. laws.name here y.1 y.0 some e) (λ laws.
     let w = laws.name here y.1 y.0 some e in
     let first : w.0 ≡ x = sym (ap (λ t. slice_index t 0) w.2) ∙ f in
@@ -93,7 +97,7 @@ name_does token_of x named n c some f =
     let m : 1 + length w.1 ≡ length (x ∷ w.1) = omega arith in
     let goes : y.1.mark ≡ along here.mark (length (x ∷ w.1)) =
     ap (λ (u : Cursor). u.mark) w.5 ∙ ap (λ k. along here.mark k) m in
-    named.is c.indent y.0 span here y.1
+    named.is (surroundings c) y.0 span here y.1
     (w.1, w.3, sym w.6, record { is = subst P first w.2; start = refl; end = refl; goes_on = goes }, w.4)))))
 
 pub tag_does : (n : ℕ) (c : Core) → slice_index c.cursor.rest 0 ≡ exclamation_mark
@@ -109,14 +113,15 @@ tag_does n c first =
     (read_walked (Premises c) here (tags.tag f here) (λ e q laws. here_at here e.mark (laws.0.tag f here e q))) (λ y e.
     let span : Span = record { start = here.mark; end = y.2.mark } in
     saved n c (with_cursor y.2 d) (record { span = span; kind = tokens.Tag y.0 y.1 }) s refl (λ m. inl m) refl
-    (λ i. absurd (cc))
+    (λ x. refl) (λ i. absurd (cc))
     (λ i a b k. (
       k.6.start,
       ap (λ t. begins_text (slice_index t 0)) k.6.is ∙ ap begins_text (tag_begins k.0 b.rest k.1 k.2 k.3),
     )) refl
     (token_read c (tokens.Tag y.0 y.1) y.2 (λ laws. laws.tag f here y.2 y.0 y.1 first e)
     (λ laws. laws.tag f here y.2 y.0 y.1 first e) (λ laws.
-    let w = laws.tag f here y.2 y.0 y.1 first e in (
+    let w = laws.tag f here y.2 y.0 y.1 first e in
+    let E : Bool → Type 0 = λ g. EndsTag g y.2.rest in (
       w.0,
       w.1,
       w.2,
@@ -124,4 +129,5 @@ tag_does n c first =
       sym w.7,
       sym w.8,
       record { is = w.3; start = refl; end = refl; goes_on = ap (λ (u : Cursor). u.mark) w.6 },
+      subst E (same_flow n c l s) w.5,
     )))))

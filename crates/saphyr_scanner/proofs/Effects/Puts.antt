@@ -1,45 +1,51 @@
 -- The moves that put a token, save a key, or turn a candidate into a key.
 use Rattle.std.proofs.Common.{◌≡◌, ℕ, ◌+◌, ◌≤◌, ◌⊎◌, Bool, true, false, List, [], ◌∷◌, length, Option, Some, None}
-use Rattle.std.proofs.Common.{refl, sym, ap, arith, subst, inl, inr, IsTrue}
-use Rattle.std.specs.Prelude.{◌==◌, slice_index}
+use Rattle.std.proofs.Common.{refl, sym, ap, ◌∙◌, arith, subst, inl, inr, IsTrue}
+use Rattle.std.specs.Prelude.{◌-◌, ◌==◌, slice_index, not}
 use Rattle.saphyr_input.specs.Classes.{is_break}
 use Rattle.saphyr_scalar.specs.declared.scalar.position.Span.{Span}
 use Rattle.saphyr_scalar.specs.Views.Cursor.{Cursor, pass}
+use Rattle.saphyr_scanner.specs.declared.engine.level.Context.{Context}
 use Rattle.saphyr_scanner.specs.declared.queue.Opening.{Opening}
 use Rattle.saphyr_scanner.specs.declared.queue.Opening.TheVariants as opening
 use Rattle.saphyr_scanner.specs.Grammar.Tokens.{Kind}
 use Rattle.saphyr_scanner.specs.Views.Tokens.{Piece}
-use Rattle.saphyr_scanner.specs.Steps.Queue.{Queue, with_piece, with_opening, empty_piece}
+use Rattle.saphyr_scanner.specs.Steps.Queue.{Queue, next, with_piece, with_opening, empty_piece}
 use Rattle.saphyr_scanner.specs.Steps.Core.{Core, Put, Open, at_mark}
-use Rattle.saphyr_scanner.specs.Steps.Level.{Candidate, Level}
+use Rattle.saphyr_scanner.specs.Steps.Level.{Candidate, Level, is_block}
 use Rattle.saphyr_scanner.specs.Steps.Core.{in_block, save_key, forget_key, enter_block}
+use Rattle.saphyr_scanner.specs.Steps.Flow as flow
 use Rattle.saphyr_scanner.specs.Steps.Passing.{with_cursor}
 use Rattle.saphyr_scanner.specs.TokensTaken as taken
-use Rattle.saphyr_scanner.specs.TokensTaken.{AreApart, IsToken, TakesCharacter, IsBlockStart, begins_text, open_behind}
+use Rattle.saphyr_scanner.specs.TokensTaken.{Collections, Surroundings, AreApart, IsToken, TakesCharacter, IsBlockStart, begins_text, open_behind}
 use Rattle.saphyr_scanner.proofs.Added.Queue.{IsNoEnd, at_most_one, one_at_most, open_blocks}
 use Rattle.saphyr_scanner.proofs.Effects.Readers.{Readers, ReaderEnds, ReadsSpan, TextLaws}
-use Rattle.saphyr_scanner.proofs.Effects.Moves.{Around, Does, IsBeforePlace, IsNextPlace, NoComment, around}
+use Rattle.saphyr_scanner.proofs.Effects.Moves.{Around, Does, IsBeforePlace, IsNextPlace, Left, NoComment, around}
 use Rattle.saphyr_scanner.proofs.PlainBehind.{IsNoted}
 use Rattle.saphyr_scanner.proofs.Taken.Candidates.{KeyAbove, LevelsAbove, Above}
-use Rattle.saphyr_scanner.proofs.Taken.Cores.{HoldsTaken, outermost, quiet_opens, quiet_put, loud_put}
+use Rattle.saphyr_scanner.proofs.Taken.Cores.{HoldsTaken, KeepsBrackets, outermost, holds_put, next_put, quiet_opens, quiet_put, loud_put}
 use Rattle.saphyr_scanner.proofs.Taken.Cores.{saved_keys, open_quiet, open_loud, indicator_is_passed}
-use Rattle.saphyr_scanner.proofs.Taken.Held.{Stack, taken_put}
+use Rattle.saphyr_scanner.proofs.Taken.Held.{Stands, keys_put, keys_weaken}
 use Rattle.saphyr_scanner.proofs.Taken.Later.{apart_later}
-use Rattle.saphyr_scanner.proofs.Taken.Parts.{is_quiet, Begins, opens_block}
+use Rattle.saphyr_scanner.proofs.Taken.Parts.{is_quiet, Begins, opens_block, with_column}
 use Rattle.saphyr_scanner.proofs.Taken.Places.{Reaches, character_reached}
 use Rattle.saphyr_input.proofs.Basics.Booleans.{by_test}
 
 -- ## A token is put
 
+-- where the next token of a scanner stands
+abbrev pub surroundings : Core → Surroundings
+surroundings c = record { in_flow = not (in_block c); indent = c.indent }
+
 -- a token from the place of c to u, where k characters at least are taken off
 pub record Reading (k : ℕ) (c : Core) (t : Piece) (u : Cursor) : Type 0 where
   pub less : Readers → length u.rest + k ≤ length c.cursor.rest
   pub span : ReaderEnds → ReadsSpan c.cursor t.span u
-  pub token : TextLaws → (behind : Cursor) × IsToken c.indent t.kind t.span c.cursor behind × AreApart behind u
+  pub token : TextLaws → (behind : Cursor) × IsToken (surroundings c) t.kind t.span c.cursor behind × AreApart behind u
 
 -- a token without characters
 pub empty_reading : (c : Core) (kind : Kind)
-    → IsToken c.indent kind (record { start = c.cursor.mark; end = c.cursor.mark }) c.cursor c.cursor
+    → IsToken (surroundings c) kind (record { start = c.cursor.mark; end = c.cursor.mark }) c.cursor c.cursor
     → Reading 0 c (empty_piece c.cursor.mark kind) c.cursor
 empty_reading c kind is = record {
   less = λ _. omega arith;
@@ -65,7 +71,7 @@ passes x s h = character_reached x s (pass 1 s) h.unbroken (indicator_is_passed 
 pub indicated : (x : ℕ) (c : Core) (u : Cursor) (t : Piece) → IndicatorStands x c.cursor → AreApart (pass 1 c.cursor) u
     → c.cursor.mark.index ≤ t.span.start.index → t.span.start.index ≤ t.span.end.index
     → t.span.end.index ≤ u.mark.index
-    → (TakesCharacter x c.cursor (pass 1 c.cursor) → IsToken c.indent t.kind t.span c.cursor (pass 1 c.cursor))
+    → (TakesCharacter x c.cursor (pass 1 c.cursor) → IsToken (surroundings c) t.kind t.span c.cursor (pass 1 c.cursor))
     → Reading 1 c t u
 indicated x c u t stands apart begins inside ends is =
     let takes = indicator_is_passed x c.cursor stands.some stands.is in
@@ -86,8 +92,8 @@ putting : (n : Option ℕ) (k v : ℕ) (c d : Core) (t : Piece) → Reading k c 
     → d.started ≡ c.started → d.ended ≡ c.ended → (c.comment ≡ None → IsNoted d.comment d.cursor)
     → open_blocks d ≤ open_blocks c + v
     → ((h : ℕ) → IsBeforePlace h n → Above h c → Above h d)
-    → (TextLaws → (columns : List ℕ) (from : Cursor) (q : Queue) → IsNextPlace n c q → HoldsTaken columns from c q
-    → HoldsTaken columns from d (with_piece t q)) → Does n k (1 + v) c d (Put t ∷ [])
+    → (TextLaws → (opened : Collections) (from : Cursor) (q : Queue) → IsNextPlace n c q → HoldsTaken opened from c q
+    → HoldsTaken opened from d (with_piece t q)) → Does n k (1 + v) c d (Put t ∷ [])
 putting n k v c d t r e s f m few above holds = record {
   less = r.less;
   ahead = λ laws. (r.span laws).ahead;
@@ -102,31 +108,32 @@ putting n k v c d t r e s f m few above holds = record {
 }
 
 -- one that doesn't change which block collections are open
-pub quiet : (k : ℕ) (c : Core) (t : Piece) (u : Cursor) → is_quiet t.kind ≡ true → IsNoEnd t.kind → Reading k c t u
-    → Does None k 1 c (with_cursor u c) (Put t ∷ [])
-quiet k c t u q e r =
+pub quiet : (k : ℕ) (c : Core) (t : Piece) (u : Cursor) → is_quiet t.kind ≡ true → KeepsBrackets t → IsNoEnd t.kind
+    → Reading k c t u → Does None k 1 c (with_cursor u c) (Put t ∷ [])
+quiet k c t u q b e r =
     putting None k 0 c (with_cursor u c) t r e refl refl (λ m. inl m) (omega arith) (λ h _ a. a)
-    (λ laws columns from p _ h.
+    (λ laws opened from p _ h.
     let w = r.token laws in
-    quiet_put columns from c (with_cursor u c) p t c.cursor w.0 q (taken.nothing c.cursor.mark c.cursor.rest) w.1 w.2
+    quiet_put opened from c (with_cursor u c) p t c.cursor w.0 q b (taken.nothing c.cursor.mark c.cursor.rest) w.1 w.2
     (record { level = refl; outer = refl; indent = refl; outer_indents = refl }) h)
 
 -- a block collection begins, where no token may be a key any more
 pub block_begins : (c : Core) (kind : Kind) → IsNoEnd kind
-    → ((i : ℕ) (span : Span) (s t : Cursor) → IsBlockStart span s t → IsToken i kind span s t)
-    → ((column : ℕ) (columns : List ℕ) → open_behind kind column columns ≡ column ∷ columns)
+    → ((i : Surroundings) (span : Span) (s t : Cursor) → IsBlockStart span s t → IsToken i kind span s t)
+    → ((span : Span) (opened : Collections) → open_behind kind span opened ≡ with_column span.start.col opened)
     → in_block c ≡ true → IsTrue (begins_text (slice_index c.cursor.rest 0))
     → Does None 0 3 c (forget_key (enter_block c.cursor.mark.col c)) (at_mark c.cursor.mark kind ∷ [])
 block_begins c kind e is opens b first =
     let d : Core = forget_key (enter_block c.cursor.mark.col c) in
     let none : AreApart c.cursor c.cursor = taken.nothing c.cursor.mark c.cursor.rest in
-    let token = is c.indent (record { start = c.cursor.mark; end = c.cursor.mark }) c.cursor c.cursor
+    let token = is (surroundings c) (record { start = c.cursor.mark; end = c.cursor.mark }) c.cursor c.cursor
     (refl, refl, refl, first) in
     putting None 0 2 c d (empty_piece c.cursor.mark kind) (empty_reading c kind token) e refl refl (λ m. inl m)
-    (let y = one_at_most (c.cursor.mark.col + 1) in omega (arith, y)) (λ h _ a. (tt, a.1)) (λ _ columns from q _ h.
-    loud_put columns from c d q (empty_piece c.cursor.mark kind) c.cursor c.cursor none token none
-    (λ cs k. subst (λ l. Stack l d.indent d.outer_indents) (sym (opens c.cursor.mark.col cs)) (refl, k)) refl
-    (outermost columns from c q h b) h)
+    (let y = one_at_most (c.cursor.mark.col + 1) in omega (arith, y)) (λ h _ a. (tt, a.1)) (λ _ opened from q _ h.
+    loud_put opened from c d q (empty_piece c.cursor.mark kind) c.cursor c.cursor none token none
+    (λ x k. subst (λ (l : Collections). Stands l d)
+    (sym (opens (record { start = c.cursor.mark; end = c.cursor.mark }) x))
+    ((refl, k.0), k.1)) refl (outermost opened from c q h b) b h)
 
 -- ## A key is saved
 
@@ -139,15 +146,23 @@ pub saving : (n : ℕ) (c : Core) (P : Core → Type 0)
     → ((l : Level) (r : Bool) → IsSaved n c l → P (record c { level = l; required = r })) → P (save_key n c)
 saving n c P f = by_test c.key_allowed _ _ P (λ _. f _ _ (inr refl)) (λ _. f c.level c.required (inl refl))
 
+-- the level is as much inside flow
+pub same_block : (n : ℕ) (c : Core) (l : Level) → IsSaved n c l → is_block l.context ≡ in_block c
+same_block n c l (inl e) = ap (λ (x : Level). is_block x.context) e
+same_block n c l (inr e) = ap (λ (x : Level). is_block x.context) e
+
+pub same_flow : (n : ℕ) (c : Core) (l : Level) → IsSaved n c l → not (is_block l.context) ≡ not (in_block c)
+same_flow n c l s = ap not (same_block n c l s)
+
 pub saved_above : (h n : ℕ) (c : Core) (l : Level) → IsSaved n c l → h ≤ n → KeyAbove h c.level.key → KeyAbove h l.key
 saved_above h n c l (inl e) i a = let P : Level → Type 0 = λ x. KeyAbove h x.key in subst P (sym e) a
 saved_above h n c l (inr e) i a = let P : Level → Type 0 = λ x. KeyAbove h x.key in subst P (sym e) i
 
 -- the token that may be a key
 pub saved : (n : ℕ) (c d : Core) (t : Piece) → IsSaved n c d.level → around d ≡ around c
-    → (c.comment ≡ None → IsNoted d.comment d.cursor) → is_quiet t.kind ≡ true → IsNoEnd t.kind → Begins t
-    → t.span.start ≡ c.cursor.mark → Reading 1 c t d.cursor → Does (Some n) 1 5 c d (Put t ∷ [])
-saved n c d t s a m q e begins start h =
+    → (c.comment ≡ None → IsNoted d.comment d.cursor) → is_quiet t.kind ≡ true → KeepsBrackets t → IsNoEnd t.kind
+    → Begins t → t.span.start ≡ c.cursor.mark → Reading 1 c t d.cursor → Does (Some n) 1 5 c d (Put t ∷ [])
+saved n c d t s a m q b e begins start h =
     let outer = ap (λ (x : Around). x.outer) a in
     let indent = ap (λ (x : Around). x.indent) a in
     let indents = ap (λ (x : Around). x.outer_indents) a in
@@ -155,17 +170,75 @@ saved n c d t s a m q e begins start h =
     ap (λ (x : Around). at_most_one x.indent + length x.outer_indents) a in
     putting (Some n) 1 4 c d t h e (ap (λ (x : Around). x.started) a) (ap (λ (x : Around). x.ended) a) m
     (omega (arith, blocks))
-    (λ i b x. let P : List Level → Type 0 = λ ls. LevelsAbove i ls in
-    (saved_above i n c d.level s b x.0, subst P (sym outer) x.1))
-    (λ laws columns from p i k.
+    (λ i l x. let P : List Level → Type 0 = λ ls. LevelsAbove i ls in
+    (saved_above i n c d.level s l x.0, subst P (sym outer) x.1))
+    (λ laws opened from p i k.
     let w = h.token laws in
     let Q : ℕ → Type 0 = λ j. IsSaved j c d.level in
     record {
-      taken = taken_put columns from c d p t c.cursor w.0 (taken.nothing c.cursor.mark c.cursor.rest) w.1 w.2
-          (quiet_opens t c d q indent indents) k.taken;
+      taken = holds_put opened from c d p t c.cursor w.0 (taken.nothing c.cursor.mark c.cursor.rest) w.1 w.2
+          (quiet_opens t c d q indent indents (λ x z. b x ∙ z ∙ sym (ap length outer))) k;
       keys = saved_keys c p t (with_cursor c.cursor d) q begins start i.1
           (record { level = subst Q i.0 s; cursor = refl; outer = outer; indent = indent; outer_indents = indents })
           k.keys;
+    })
+
+-- ## A bracket
+
+-- the token that opens a flow collection, and may be a key
+pub entered : (n : ℕ) (x : Context) (c d : Core) (t : Piece) → is_block x ≡ false → IsSaved n c d.level
+    → around d ≡ around c → (c.comment ≡ None → d.comment ≡ None) → is_quiet t.kind ≡ true
+    → ((opened : Collections) → (open_behind t.kind t.span opened).brackets ≡ opened.brackets + 1)
+    → IsNoEnd t.kind → Begins t → t.span.start ≡ c.cursor.mark → Reading 1 c t d.cursor
+    → Does (Some n) 1 5 c (flow.enter x d) (Put t ∷ [])
+entered n x c d t flows s a m q b e begins start h =
+    let r : Core = flow.enter x d in
+    let outer = ap (λ (x : Around). x.outer) a in
+    let indent = ap (λ (x : Around). x.indent) a in
+    let indents = ap (λ (x : Around). x.outer_indents) a in
+    let blocks : open_blocks r ≡ open_blocks c =
+    ap (λ (x : Around). at_most_one x.indent + length x.outer_indents) a in
+    putting (Some n) 1 4 c r t
+    (record { less = h.less; span = h.span; token = h.token }) e (ap (λ (x : Around). x.started) a)
+    (ap (λ (x : Around). x.ended) a) (λ f. inl (m f)) (omega (arith, blocks))
+    (λ i l y. let P : List Level → Type 0 = λ ls. LevelsAbove i ls in
+    (tt, (saved_above i n c d.level s l y.0, subst P (sym outer) y.1)))
+    (λ laws opened from p i k.
+    let w = h.token laws in
+    let Q : ℕ → Type 0 = λ j. IsSaved j c d.level in
+    record {
+      taken = holds_put opened from c r p t c.cursor w.0 (taken.nothing c.cursor.mark c.cursor.rest) w.1 w.2
+          (quiet_opens t c r q indent indents (λ y z. b y ∙ (let l = ap length outer in omega (arith, z, l)))) k;
+      keys = (
+        flows,
+        tt,
+        saved_keys c p t (with_cursor c.cursor d) q begins start i.1
+            (record {
+              level = subst Q i.0 s;
+              cursor = refl;
+              outer = outer;
+              indent = indent;
+              outer_indents = indents;
+            }) k.keys,
+      );
+    })
+
+-- the token that closes a flow collection, which is left for the level around it
+pub left : (c : Core) (l : Level) (ls : List Level) (t : Piece) (u : Cursor) → Left c l ls → is_quiet t.kind ≡ true
+    → ((opened : Collections) → (open_behind t.kind t.span opened).brackets ≡ opened.brackets - 1)
+    → IsNoEnd t.kind → Reading 1 c t u
+    → Does None 1 1 c (record c { cursor = u; level = l; outer = ls; key_allowed = false }) (Put t ∷ [])
+left c l ls t u z q b e h =
+    let d : Core = record c { cursor = u; level = l; outer = ls; key_allowed = false } in
+    putting None 1 0 c d t h e refl refl (λ m. inl m) (omega arith) (λ i _ a. z.above i a.1)
+    (λ laws opened from p _ k.
+    let w = h.token laws in
+    let n = next_put t p in
+    record {
+      taken = holds_put opened from c d p t c.cursor w.0 (taken.nothing c.cursor.mark c.cursor.rest) w.1 w.2
+          (quiet_opens t c d q refl refl (λ y v. b y ∙ ap (λ i. i - 1) v ∙ sym z.fewer)) k;
+      keys = keys_weaken (next p) (next (with_piece t p)) (with_piece t p) c.indent (l ∷ ls) (omega (arith, n))
+          (keys_put (next p) p c.indent (l ∷ ls) t q (z.keys p k.keys));
     })
 
 -- ## A candidate turns out to be a key
@@ -173,8 +246,8 @@ saved n c d t s a m q e begins start h =
 opens : (v : ℕ) (c d : Core) (k : Candidate) (o : Opening) → d.cursor ≡ c.cursor → c.level.key ≡ Some k
     → d.level.key ≡ None → d.outer ≡ c.outer → d.started ≡ c.started → d.ended ≡ c.ended → NoComment c d
     → open_blocks d ≤ open_blocks c + v
-    → ((columns : List ℕ) (from : Cursor) (q : Queue) → HoldsTaken columns from c q
-    → HoldsTaken columns from d (with_opening k.place o q)) → Does None 0 (2 + v) c d (Open k.place o ∷ [])
+    → ((opened : Collections) (from : Cursor) (q : Queue) → HoldsTaken opened from c q
+    → HoldsTaken opened from d (with_opening k.place o q)) → Does None 0 (2 + v) c d (Open k.place o ∷ [])
 opens v c d k o e key none outer s f m few holds =
     let l = ap (λ (u : Cursor). length u.rest) e in
     let i = ap (λ (u : Cursor). u.mark.index) e in
@@ -190,7 +263,7 @@ opens v c d k o e key none outer s f m few holds =
           let P : Option Candidate → Type 0 = λ y. KeyAbove h y in
           let Q : List Level → Type 0 = λ ls. LevelsAbove h ls in
           ((subst P (sym none) tt, subst Q (sym outer) x.1), (subst P key x.0, tt));
-      holds = λ _ columns from q _ h. holds columns from q h;
+      holds = λ _ opened from q _ h. holds opened from q h;
       noted = λ g. inl (m g);
     }
 
@@ -199,7 +272,7 @@ pub key_opens : (c : Core) (k : Candidate) (o : Opening) → opens_block o ≡ f
     → Does None 0 2 c (forget_key c) (Open k.place o ∷ [])
 key_opens c k o e is =
     opens 0 c (forget_key c) k o refl is refl refl refl refl (λ n. n) (omega arith)
-    (λ columns from q h. open_quiet columns from c q k o e is h)
+    (λ opened from q h. open_quiet opened from c q k o e is h)
 
 -- a block mapping and a key
 pub mapping_opens : (c : Core) (k : Candidate) → in_block c ≡ true → c.level.key ≡ Some k
@@ -207,4 +280,4 @@ pub mapping_opens : (c : Core) (k : Candidate) → in_block c ≡ true → c.lev
 mapping_opens c k b is =
     opens 2 c (forget_key (enter_block k.mark.col c)) k opening.BlockMappingAndKey refl is refl refl refl refl (λ n. n)
     (let y = one_at_most (k.mark.col + 1) in omega (arith, y))
-    (λ columns from q h. open_loud columns from c q k b is h)
+    (λ opened from q h. open_loud opened from c q k b is h)

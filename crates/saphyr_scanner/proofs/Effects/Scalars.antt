@@ -24,9 +24,9 @@ use Rattle.saphyr_scanner.specs.Steps.Level.{Level, is_block}
 use Rattle.saphyr_scanner.specs.Steps.Passing.{separate, pass_gap, with_cursor}
 use Rattle.saphyr_scanner.specs.Steps.Scalar as scalar
 use Rattle.saphyr_scanner.specs.TokensTaken as taken
-use Rattle.saphyr_scanner.specs.TokensTaken.{IsToken, IsQuotedToken, may_begin_plain, begins_text}
+use Rattle.saphyr_scanner.specs.TokensTaken.{Collections, Surroundings, IsToken, IsQuotedToken, may_begin_plain, begins_text}
 use Rattle.saphyr_scanner.proofs.Counted.{Ahead}
-use Rattle.saphyr_scanner.proofs.Effects.Puts.{IsSaved, saving, saved_above, saved}
+use Rattle.saphyr_scanner.proofs.Effects.Puts.{IsSaved, saving, saved_above, saved, same_block, surroundings}
 use Rattle.saphyr_scanner.proofs.Effects.Walked.{Premises, Walked, walked_then, Doing, Stepped, at_inside, read_walked}
 use Rattle.saphyr_scanner.proofs.Effects.Walked.{at_reach, separate_walked, gap_walked}
 use Rattle.saphyr_scanner.proofs.Effects.Readers.{Readers, ReaderEnds, Less}
@@ -52,9 +52,9 @@ Starts span s = (span.start ≡ s.mark) × IsTrue (begins_text (slice_index s.re
 -- the style of a quote, and what the reader takes off
 record Quoting (quote : Quote) (style : ScalarStyle) : Type 0 where
   quiet : (value : List ℕ) → is_quiet (tokens.Scalar style value) ≡ true
-  is : (i : ℕ) (value : List ℕ) (span : Span) (s t : Cursor) → IsQuotedToken quote value span s t
+  is : (i : Surroundings) (value : List ℕ) (span : Span) (s t : Cursor) → IsQuotedToken quote value span s t
       → IsToken i (tokens.Scalar style value) span s t
-  of : (i : ℕ) (value : List ℕ) (span : Span) (s t : Cursor) → IsToken i (tokens.Scalar style value) span s t
+  of : (i : Surroundings) (value : List ℕ) (span : Span) (s t : Cursor) → IsToken i (tokens.Scalar style value) span s t
       → Starts span s
   less : Readers → (indent : ℕ) (s t : Cursor) (text : List ℕ) → slice_index s.rest 0 ≡ mark quote
       → quoted.quoted quote indent s ≡ Ok (text, t) → Less t s
@@ -112,7 +112,7 @@ quotes_do quote style quoting n c first l r s =
     let a = apart_later x.1.mark x.1.rest u.mark u.rest g.1.apart in
     let b = apart_later u.mark u.rest v.mark v.rest k.1 in
     saved n c (scalar.adjacent_here f) t (subst (λ m. IsSaved n c m) (sym (k.0.0 ∙ g.0.0)) s) (k.0.1 ∙ g.0.1)
-    (λ m. inl (k.0.2 (g.0.2 m))) (quoting.quiet x.0) (λ i. absurd (cc)) (λ i. quoting.of i x.0 t.span) refl
+    (λ m. inl (k.0.2 (g.0.2 m))) (quoting.quiet x.0) (λ z. refl) (λ i. absurd (cc)) (λ i. quoting.of i x.0 t.span) refl
     (record {
       less = λ laws. let z = quoting.less laws low here x.1 x.0 first e in
           omega (arith, z, a.index, a.counted, b.index, b.counted);
@@ -128,7 +128,7 @@ quotes_do quote style quoting n c first l r s =
           };
       token = λ laws. let w = laws.quotes quote low here x.1 x.0 first e in (
         x.1,
-        quoting.is c.indent x.0 t.span here x.1 (w.0, w.1, sym w.2, w.3, refl, g.1.on_line, w.4),
+        quoting.is (surroundings c) x.0 t.span here x.1 (w.0, w.1, sym w.2, w.3, refl, g.1.on_line, w.4),
         apart_apart x.1.mark x.1.rest u.mark u.rest v.mark v.rest g.1.apart k.1,
       );
     })))
@@ -162,10 +162,11 @@ plain_begins c h ink = by (c == 35) refl
         eqb-true c 35 e in let no : may_begin_plain c ≡ false = ap may_begin_plain same in cc)
 
 -- what a plain scalar begins with, but for `#`
-pub record PlainStart (s : Cursor) : Type 0 where
+pub record PlainStart (in_flow : Bool) (s : Cursor) : Type 0 where
   pub other : (slice_index s.rest 0 ≢ number_sign) → IsTrue (may_begin_plain (slice_index s.rest 0))
   pub no_indicator : IsTrue (is_one_of (codes "-?:") (slice_index s.rest 0))
       → IsFalse (is_blank_or_breakz (slice_index s.rest 1))
+  pub no_block_scalar : in_flow ≡ false → IsFalse (is_one_of (codes "|>") (slice_index s.rest 0))
 
 abbrev NoSign : List ℕ → Type 0
 NoSign [] = Unit {0}
@@ -202,9 +203,15 @@ no_second true false true z e f g h = absurd (cc)
 no_second true false false true e f g h = absurd (cc)
 no_second true false false false e f g h = absurd (cc)
 
+no_literal : (b x y : Bool) → (x && b) ≡ false → (y && b) ≡ false → not b ≡ false → (x || (y || false)) ≡ false
+no_literal false x y e f g = absurd (cc)
+no_literal true true y e f g = absurd (cc)
+no_literal true false true e f g = absurd (cc)
+no_literal true false false e f g = refl
+
 -- where no indicator stands a plain scalar may begin
 pub plain_start : (first second : ℕ) (c : Core) → slice_index c.cursor.rest 0 ≡ first
-    → slice_index c.cursor.rest 1 ≡ second → NoIndicator first second c → PlainStart c.cursor
+    → slice_index c.cursor.rest 1 ≡ second → NoIndicator first second c → PlainStart (not (in_block c)) c.cursor
 plain_start first second c f g n =
     let w = or_parts ((first == 37) || (first == 64)) (first == 96) n.reserved in
     let v = or_parts (first == 37) (first == 64) w.0 in
@@ -215,9 +222,11 @@ plain_start first second c f g n =
       no_indicator = λ s. ap is_blank_or_breakz g
           ∙ no_second (is_blank_or_breakz second) (first == 45) (first == 63) (first == 58) n.dash n.question n.colon
           (ap (λ x. is_one_of (codes "-?:") x) (sym f) ∙ s);
+      no_block_scalar = λ b. ap (λ x. is_one_of (codes "|>") x) f
+          ∙ no_literal (in_block c) (first == 124) (first == 62) n.literal n.folded b;
     }
 
-pub plain_does : (n : ℕ) (c : Core) → PlainStart c.cursor
+pub plain_does : (n : ℕ) (c : Core) → PlainStart (not (in_block c)) c.cursor
     → Walked (Premises c) (Doing (Some n) c) c.cursor (scalar.plain_steps n c)
 unfolding scalar.plain_steps scalar.read_plain
 plain_does n c starts =
@@ -233,7 +242,7 @@ plain_does n c starts =
     (λ e q laws. at_inside here e (laws.0.plain f c.indent here e q))) (λ x e.
     let ends = given_of EndsUnbroken (words.plain f c.indent here) x (plain_ends f c.indent here) e in
     let t : Piece = record { span = record { start = here.mark; end = x.1 }; kind = tokens.Scalar Plain x.0 } in
-    saved n c (scalar.behind_plain x.2 x.3 d) t s refl (λ _. ends.0) refl (λ i. absurd (cc))
+    saved n c (scalar.behind_plain x.2 x.3 d) t s refl (λ _. ends.0) refl (λ z. refl) (λ i. absurd (cc))
     (λ i a b k. (k.start, plain_begins (slice_index a.rest 0) k.begins k.is_ink)) refl
     (record {
       less = λ laws. let z = laws.plain f c.indent here x.3 x.0 x.1 x.2 e in omega (arith, z);
@@ -246,6 +255,7 @@ plain_does n c starts =
           begins = starts.other (no_sign here x.3 x.0 x.1 z);
           is_ink = laws.ink f c.indent here x.3 x.0 x.1 x.2 e;
           no_indicator = starts.no_indicator;
+          no_block_scalar = starts.no_block_scalar;
           reading = z;
           uncut = inr ends.1;
         },
@@ -285,14 +295,10 @@ block_does style n c b some f =
         few = omega arith;
         keeps = λ h a. ((saved_above h n c l s a.0 a.1.0, a.1.1), tt);
       };
-      fetched = λ laws text small columns from q later g deep k.
+      fetched = λ laws text small opened from q later g deep k.
           let Q : ℕ → Type 0 = λ j. IsSaved j c l in
-          block_fetched laws text small columns from q style c d later
+          block_fetched laws text small opened from q style c d later
           (record { level = subst Q g s; cursor = refl; outer = refl; indent = refl; outer_indents = refl }) k b
-          (still l s) f x e;
+          (same_block n c l s ∙ b) f x e;
       noted = λ m. inl m;
     }))
-  where
-    still : (l : Level) → IsSaved n c l → is_block l.context ≡ true
-    still l (inl e) = ap (λ (x : Level). is_block x.context) e ∙ b
-    still l (inr e) = ap (λ (x : Level). is_block x.context) e ∙ b

@@ -17,7 +17,7 @@ use Rattle.saphyr_scanner.specs.Steps.Passing.{separate, pass_on, with_cursor}
 use Rattle.saphyr_scanner.specs.Steps.Value as value
 use Rattle.saphyr_scanner.specs.Steps.Fetch as fetching
 use Rattle.saphyr_scanner.specs.TokensTaken as taken
-use Rattle.saphyr_scanner.specs.TokensTaken.{AreApart}
+use Rattle.saphyr_scanner.specs.TokensTaken.{AreApart, Collections}
 use Rattle.saphyr_scanner.proofs.Effects.Moves.{Does, and_then, Around, Same, same, lesser, still}
 use Rattle.saphyr_scanner.proofs.Effects.Puts.{empty_reading, IndicatorStands, passes, indicated, quiet, block_begins, key_opens}
 use Rattle.saphyr_scanner.proofs.Effects.Puts.{mapping_opens}
@@ -26,7 +26,7 @@ use Rattle.saphyr_scanner.proofs.Effects.Walked.{separate_walked}
 use Rattle.saphyr_scanner.proofs.Reached.{apart_reached}
 use Rattle.saphyr_scanner.proofs.Taken.Cores.{by_bool, further_block}
 use Rattle.saphyr_scanner.proofs.Taken.Later.{apart_later}
-use Rattle.saphyr_scanner.proofs.Taken.Parts.{opens_block}
+use Rattle.saphyr_scanner.proofs.Taken.Parts.{opens_block, pair_starts}
 use Rattle.saphyr_scanner.proofs.Taken.Places.{Reaches, reaches_reaches, at_here}
 use Rattle.saphyr_input.proofs.Basics.Booleans.{by_test}
 
@@ -84,7 +84,7 @@ colon_does : (e d : Core) (u : Cursor) → slice_index e.cursor.rest 0 ≡ colon
 colon_does e d u first a s there =
     let later = apart_later (pass 1 e.cursor).mark (pass 1 e.cursor).rest u.mark u.rest a in
     and_then (λ n. n)
-    (quiet 1 e (empty_piece e.cursor.mark tokens.Value) u refl (λ i. absurd (cc))
+    (quiet 1 e (empty_piece e.cursor.mark tokens.Value) u refl (λ x. refl) (λ i. absurd (cc))
     (indicated 58 e u (empty_piece e.cursor.mark tokens.Value) (record { some = refl; unbroken = refl; is = first }) a
     (omega arith) (omega arith) (omega (arith, later.index)) (λ t. (t, refl, refl))))
     (still (with_cursor u e) d s there)
@@ -147,7 +147,8 @@ alone_does b c d begins first g none =
     (λ f. Does None 1 5 c (Into (is_further column d))
     ((if f then at_mark s.mark tokens.FlowMappingStart ∷ [] else []) ++ Starts (is_further column d)))
     (λ _. and_then (λ n. n)
-    (quiet 0 c (empty_piece s.mark tokens.FlowMappingStart) s refl (λ i. absurd (cc))
+    (quiet 0 c (empty_piece s.mark tokens.FlowMappingStart) s refl
+    (λ x. ap (λ (y : Collections). y.brackets) (pair_starts s.mark x)) (λ i. absurd (cc))
     (empty_reading c tokens.FlowMappingStart (inr (refl, inl refl, refl)))) value)
     (λ _. at_most (omega arith) value))
 

@@ -12,7 +12,7 @@ use Rattle.saphyr_scanner.specs.Steps.Core.{Core, Action, Step, StepResult, perf
 use Rattle.saphyr_scanner.specs.Steps.Gap as gaps
 use Rattle.saphyr_scanner.specs.Steps.Passing.{separate, with_cursor, pass_gap, check_comment, goes_on_behind}
 use Rattle.saphyr_scanner.specs.Steps.Passing.{behind_gap, check_comment_of}
-use Rattle.saphyr_scanner.specs.TokensTaken.{AreApart}
+use Rattle.saphyr_scanner.specs.TokensTaken.{Collections, AreApart}
 use Rattle.saphyr_scanner.proofs.Effects.Readers.{TextLaws, RefusalLaws}
 use Rattle.saphyr_scanner.proofs.Effects.Steps.{EffectAt}
 use Rattle.saphyr_scanner.proofs.Effects.Moves.{Does, IsBeforePlace, IsNextPlace, Same, same}
@@ -66,7 +66,7 @@ does_weaker {m} {n} {k} {v} {w} {c} {d} {actions} l before there a = record {
   goes_on = a.goes_on;
   few = let f = a.few in omega (arith, f, l);
   keeps = λ h i. a.keeps h (before h i);
-  holds = λ laws columns from q i. a.holds laws columns from q (there q i);
+  holds = λ laws opened from q i. a.holds laws opened from q (there q i);
   noted = a.noted;
 }
 
@@ -84,9 +84,9 @@ Doing n c x = Does n 1 5 c x.core x.actions
 -- where the text goes on.
 pub record Stepped (n : ℕ) (c : Core) (x : Step) : Type 0 where
   pub effect : EffectAt n c x
-  pub fetched : TextLaws → (text : List ℕ) → length text < 2 ^ 63 → (columns : List ℕ) (from : Cursor) (q : Queue)
+  pub fetched : TextLaws → (text : List ℕ) → length text < 2 ^ 63 → (opened : Collections) (from : Cursor) (q : Queue)
       → LaterThan (start_cursor text) from → n ≡ next q → (in_block c ≡ true → c.indent ≤ c.cursor.mark.col + 1)
-      → HoldsTaken columns from c q → FetchedStep columns from q x
+      → HoldsTaken opened from c q → FetchedStep opened from q x
   pub noted : c.comment ≡ None → IsNoted x.core.comment x.core.cursor
 
 pub walked_step : (A : Type 0) (n : ℕ) (c : Core) (s : Cursor) (r : StepResult) → Walked A (Doing (Some n) c) s r
@@ -102,8 +102,8 @@ walked_step A n c s r h = walked_map A (Doing (Some n) c) (Stepped n c) s r (λ 
     few = d.few;
     keeps = λ i a. d.keeps i a.0 a.1;
   };
-  fetched = λ laws text small columns from q l e deep k.
-      holds_fetched columns from x.core (perform x.actions q) (d.holds laws columns from q (e, deep) k);
+  fetched = λ laws text small opened from q l e deep k.
+      holds_fetched opened from x.core (perform x.actions q) (d.holds laws opened from q (e, deep) k);
   noted = d.noted;
 }) h
 

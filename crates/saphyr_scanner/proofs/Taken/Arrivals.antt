@@ -13,11 +13,11 @@ use Rattle.saphyr_scanner.specs.Steps.State.{State, on_core, with_core}
 use Rattle.saphyr_scanner.specs.Steps.Unrolling.{unroll, end_blocks, is_right_of, go_less_deep}
 use Rattle.saphyr_scanner.specs.Steps.Fetch.{arrive}
 use Rattle.saphyr_scanner.specs.TokensTaken as taken
-use Rattle.saphyr_scanner.specs.TokensTaken.{AreApart, IsPassedOver}
+use Rattle.saphyr_scanner.specs.TokensTaken.{Collections, AreApart, IsPassedOver}
 use Rattle.saphyr_scanner.proofs.Blocks.{none_ends, unrolled_cursor}
 use Rattle.saphyr_scanner.proofs.Taken.Later.{top, LaterThan, later_later}
 use Rattle.saphyr_scanner.proofs.Taken.Held.{Taken, taken_further, Keys}
-use Rattle.saphyr_scanner.proofs.Taken.Cores.{Alike, keys_of, keys_lesser, no_keys, behind_gap_of}
+use Rattle.saphyr_scanner.proofs.Taken.Cores.{Alike, keys_of, keys_lesser, no_keys, outermost_level, behind_gap_of}
 use Rattle.saphyr_scanner.proofs.Taken.Cores.{key_known}
 use Rattle.saphyr_scanner.proofs.Taken.States.{line_small, taken_later, key_stands, Live, TakenState, unroll_taken, blocks_levels}
 use Rattle.saphyr_input.proofs.Basics.Booleans.{by_test, and_false}
@@ -47,8 +47,8 @@ further_live c d q a p h nz = by (is_z (slice_index c.cursor.rest 0)) refl
 abbrev IsNear : Core → Type 0
 IsNear c = (in_block c && is_too_far c.level.key c.cursor.mark) ≡ false
 
-record Near (columns : List ℕ) (from : Cursor) (q : Queue) (c : Core) : Type 0 where
-  taken : Taken columns from c q
+record Near (opened : Collections) (from : Cursor) (q : Queue) (c : Core) : Type 0 where
+  taken : Taken opened from c q
   live : Live c q
   near : IsNear c
 
@@ -57,28 +57,28 @@ forgotten_live c q h nz =
     keys_lesser (next q) q c.indent c.level (forget_key c).level c.outer (record { block = refl; key = inr refl })
     (h nz)
 
-pub forgotten_taken : (columns : List ℕ) (from : Cursor) (c : Core) (q : Queue) → Taken columns from c q
-    → Taken columns from (forget_key c) q
-forgotten_taken columns from c q h = taken_further columns from c (forget_key c) q (taken.nothing _ _) refl refl h
+pub forgotten_taken : (opened : Collections) (from : Cursor) (c : Core) (q : Queue) → Taken opened from c q
+    → Taken opened from (forget_key c) q
+forgotten_taken opened from c q h = taken_further opened from c (forget_key c) q (taken.nothing _ _) refl refl refl h
 
-dropped_near : (columns : List ℕ) (from : Cursor) (q : Queue) (c : Core) → Taken columns from c q → Live c q
-    → Given (Near columns from q) (drop_far_key c)
+dropped_near : (opened : Collections) (from : Cursor) (q : Queue) (c : Core) → Taken opened from c q → Live c q
+    → Given (Near opened from q) (drop_far_key c)
 unfolding drop_far_key
-dropped_near columns from q c h l =
-    by_test (not (in_block c && is_too_far c.level.key c.cursor.mark)) _ _ (Given (Near columns from q))
+dropped_near opened from q c h l =
+    by_test (not (in_block c && is_too_far c.level.key c.cursor.mark)) _ _ (Given (Near opened from q))
     (λ e. record { taken = h; live = l; near = not-true (in_block c && is_too_far c.level.key c.cursor.mark) e })
-    (λ _. by_test c.required _ _ (Given (Near columns from q)) (λ _. tt)
+    (λ _. by_test c.required _ _ (Given (Near opened from q)) (λ _. tt)
     (λ _. record {
-      taken = forgotten_taken columns from c q h;
+      taken = forgotten_taken opened from c q h;
       live = forgotten_live c q l;
       near = and_false (in_block c);
     }))
 
-gapped : (columns : List ℕ) (from : Cursor) (q : Queue) (c : Core) → Taken columns from c q → Live c q
-    → Given (Near columns from q) (pass_gap c >>= drop_far_key)
-gapped columns from q c h l =
-    behind_gap_of (Near columns from q) c drop_far_key
-    (λ d a p. dropped_near columns from q d (taken_further columns from c d q p a.indent a.outer_indents h)
+gapped : (opened : Collections) (from : Cursor) (q : Queue) (c : Core) → Taken opened from c q → Live c q
+    → Given (Near opened from q) (pass_gap c >>= drop_far_key)
+gapped opened from q c h l =
+    behind_gap_of (Near opened from q) c drop_far_key
+    (λ d a p. dropped_near opened from q d (taken_further opened from c d q p a.indent a.outer_indents (ap length a.outer) h)
     (further_live c d q a p l))
 
 line_near : (k : Candidate) (m : Marker) → is_too_far (Some k) m ≡ false → m.line ≤ k.mark.line
@@ -89,11 +89,11 @@ line_near k m e = ltb-false k.mark.line m.line (first (nat_lt k.mark.line m.line
     first true x f = absurd (cc)
 
 -- where a key is a candidate no block collection ends
-unrolled_keys : (text : List ℕ) → length text < 2 ^ 63 → (columns : List ℕ) (from : Cursor) (q : Queue) (c : Core)
-    → LaterThan (start_cursor text) from → Near columns from q c → let t =
+unrolled_keys : (text : List ℕ) → length text < 2 ^ 63 → (opened : Collections) (from : Cursor) (q : Queue) (c : Core)
+    → LaterThan (start_cursor text) from → Near opened from q c → let t =
     unroll (Some c.cursor.mark.col) c.cursor.mark (record { core = c; queue = q }) in Live t.core t.queue
 unfolding unroll
-unrolled_keys text small columns from q c l h nz =
+unrolled_keys text small opened from q c l h nz =
     let m = c.cursor.mark in
     let s : State = record { core = c; queue = q } in
     let P : State → Type 0 = λ t. Keys (next t.queue) t.queue t.core.indent (t.core.level ∷ t.core.outer) in
@@ -113,16 +113,17 @@ unrolled_keys text small columns from q c l h nz =
         let v = blocks_levels (Some c.cursor.mark.col) c.cursor.mark c.outer_indents
         (with_core (go_less_deep (Some c.cursor.mark.col) c) (record { core = c; queue = q })) in
         no_keys (next t.queue) t.queue t.core.indent t.core.level t.core.outer (ap (λ (y : Level). y.key) v.level ∙ i)
-        (v.outer ∙ keys.0 e)
+        (v.outer ∙ outermost_level (next q) q c.indent c.level c.outer keys e)
+        (ap (λ (y : Level). is_block y.context) v.level ∙ e)
     by (Some k) i e keys =
         let m = c.cursor.mark in
         let s : State = with_core (go_less_deep (Some m.col) c) (record { core = c; queue = q }) in
         let known = key_known (next q) q (is_block c.level.context) c.indent c.level.key k c.outer i keys.1 keys.2 in
         let from_small : from.mark.line ≤ top = (l.lines (omega arith)).1 in
-        let stands = key_stands columns from c q (next q) (is_block c.level.context) c.indent k from_small h.taken
+        let stands = key_stands opened from c q (next q) (is_block c.level.context) c.indent k from_small h.taken
         known.0 in
         let here = later_later (start_cursor text).mark text from.mark from.rest c.cursor.mark c.cursor.rest l
-        (taken_later columns from c q h.taken) in
+        (taken_later opened from c q h.taken) in
         let far : is_too_far (Some k) m ≡ false = ap (λ o. is_too_far o m) (sym i)
         ∙ sym (ap (λ b. b && is_too_far c.level.key m) e) ∙ h.near in
         let column : k.mark.col ≤ m.col = stands.later.columns stands.small (line_small text c.cursor small here)
@@ -133,23 +134,23 @@ unrolled_keys text small columns from q c l h nz =
         let Q : State → Type 0 = λ t. Keys (next t.queue) t.queue t.core.indent (t.core.level ∷ t.core.outer) in
         subst Q (sym (none_ends (Some m.col) m c.outer_indents s not_right)) keys
 
-pub record Arrived (columns : List ℕ) (from : Cursor) (t : State) : Type 0 where
-  pub taken : TakenState columns from t
+pub record Arrived (opened : Collections) (from : Cursor) (t : State) : Type 0 where
+  pub taken : TakenState opened from t
   pub live : Live t.core t.queue
 
-pub arrived : (text : List ℕ) → length text < 2 ^ 63 → (columns : List ℕ) (from : Cursor) (s : State)
-    → LaterThan (start_cursor text) from → TakenState columns from s → Live s.core s.queue
-    → Given (Arrived columns from) (arrive s)
+pub arrived : (text : List ℕ) → length text < 2 ^ 63 → (opened : Collections) (from : Cursor) (s : State)
+    → LaterThan (start_cursor text) from → TakenState opened from s → Live s.core s.queue
+    → Given (Arrived opened from) (arrive s)
 unfolding arrive
-arrived text small columns from s l h k = by (pass_gap s.core >>= drop_far_key) (gapped columns from s.queue s.core h k)
+arrived text small opened from s l h k = by (pass_gap s.core >>= drop_far_key) (gapped opened from s.queue s.core h k)
   where
-    by : (r : Result Core Refusal) → Given (Near columns from s.queue) r
-        → Given (Arrived columns from)
+    by : (r : Result Core Refusal) → Given (Near opened from s.queue) r
+        → Given (Arrived opened from)
         (on_core r s.queue >>= λ t. Ok (unroll (Some t.core.cursor.mark.col) t.core.cursor.mark t))
     by (Ok d) n =
         record {
-          taken = unroll_taken columns from (Some d.cursor.mark.col) d.cursor.mark
+          taken = unroll_taken opened from (Some d.cursor.mark.col) d.cursor.mark
               (record { core = d; queue = s.queue }) (inl refl) n.taken;
-          live = unrolled_keys text small columns from s.queue d l n;
+          live = unrolled_keys text small opened from s.queue d l n;
         }
     by (Err e) n = tt

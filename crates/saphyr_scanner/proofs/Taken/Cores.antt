@@ -1,6 +1,6 @@
 -- What is held stays so where the core of a scanner changes, and where a token comes.
 use Rattle.std.proofs.Common.{◌≡◌, ℕ, zero, suc, ◌+◌, ◌-◌, ◌≤◌, ◌⊎◌, Bool, true, false, List, [], ◌∷◌, length, Option, Some, None, Result, Ok, Err, refl, sym, ap, ◌∙◌, arith, subst, inl, inr, length-append}
-use Rattle.std.specs.Prelude.{◌&&◌, ◌==◌, slice_index, nat_le}
+use Rattle.std.specs.Prelude.{◌&&◌, ◌==◌, slice_index, not, nat_le, nat_lt}
 use Rattle.saphyr_scalar.specs.declared.scalar.position.Marker.{Marker}
 use Rattle.saphyr_scalar.specs.declared.scalar.fault.Refusal.{Refusal}
 use Rattle.saphyr_scalar.specs.Views.Cursor.{Cursor, ◌>>=◌, pass}
@@ -9,20 +9,21 @@ use Rattle.saphyr_scanner.specs.declared.queue.Opening.{Opening}
 use Rattle.saphyr_scanner.specs.declared.queue.Opening.TheVariants as opening
 use Rattle.saphyr_scanner.specs.Views.Tokens.{Piece}
 use Rattle.saphyr_scanner.specs.Steps.Gap as gaps
-use Rattle.saphyr_scanner.specs.Steps.Queue.{Place, Queue, bare_place, with_piece, places_with_opening, with_opening, next}
+use Rattle.saphyr_scanner.specs.Steps.Queue.{Place, Queue, is_empty_list, bare_place, with_piece, places_with_opening, with_opening, next}
 use Rattle.saphyr_scanner.specs.Steps.Core.{Core, in_block, forget_key, least_column, is_further, enter_block}
 use Rattle.saphyr_scanner.specs.Steps.Level.{Candidate, Level, is_block}
 use Rattle.saphyr_scanner.specs.Steps.Passing.{pass_gap, check_comment, goes_on_behind, behind_gap, check_comment_of}
 use Rattle.saphyr_scanner.specs.TokensTaken as taken
-use Rattle.saphyr_scanner.specs.TokensTaken.{AreApart, IsToken, TakesCharacter}
+use Rattle.saphyr_scanner.specs.TokensTaken.{Collections, AreApart, IsToken, TakesCharacter, open_behind}
 use Rattle.saphyr_scanner.proofs.Taken.Separated.{gap_apart}
 use Rattle.saphyr_scanner.proofs.Taken.Parts.{is_quiet, quiet_open, Begins, opens_block, column_of}
-use Rattle.saphyr_scanner.proofs.Taken.Held.{Stack, Taken, taken_further, Opens, taken_put, taken_open, Key, KeyOf, lower, Keys, keys_weaken, keys_put, keys_open, below_key}
+use Rattle.saphyr_scanner.proofs.Taken.Held.{Stack, Stands, Taken, taken_further, Opens, taken_put, taken_open, Key, KeyOf, lower, Keys, keys_weaken, keys_put, keys_open, below_key}
 use Rattle.saphyr_input.proofs.Basics.Booleans.{by_test}
+use Rattle.std.proofs.lemmas.Bool.{lt-ltb}
 use Rattle.saphyr_scalar.proofs.Given.{Given}
 
-pub record HoldsTaken (columns : List ℕ) (from : Cursor) (c : Core) (q : Queue) : Type 0 where
-  pub taken : Taken columns from c q
+pub record HoldsTaken (opened : Collections) (from : Cursor) (c : Core) (q : Queue) : Type 0 where
+  pub taken : Taken opened from c q
   pub keys : Keys (next q) q c.indent (c.level ∷ c.outer)
 
 -- a truth value, by its cases
@@ -68,60 +69,96 @@ keys_lesser b q i l m ls e h = by e.key
         subst P (sym f) (subst Q (sym e.block) h.1, h.2)
 
     by : (m.key ≡ l.key) ⊎ (m.key ≡ None) → Keys b q i (m ∷ ls)
-    by (inl f) = let x = same m.key f in ((λ g. h.0 (sym e.block ∙ g)), x.0, x.1)
-    by (inr f) = let x = none m.key f in ((λ g. h.0 (sym e.block ∙ g)), x.0, x.1)
+    by (inl f) = let x = same m.key f in (e.block ∙ h.0, x.0, x.1)
+    by (inr f) = let x = none m.key f in (e.block ∙ h.0, x.0, x.1)
 
-pub holds_lesser : (columns : List ℕ) (from : Cursor) (c d : Core) (q : Queue) → Lesser c.level d.level
+pub holds_lesser : (opened : Collections) (from : Cursor) (c d : Core) (q : Queue) → Lesser c.level d.level
     → d.outer ≡ c.outer → d.indent ≡ c.indent → d.outer_indents ≡ c.outer_indents → AreApart c.cursor d.cursor
-    → HoldsTaken columns from c q → HoldsTaken columns from d q
-holds_lesser columns from c d q l o i s p h = record {
-  taken = taken_further columns from c d q p i s h.taken;
+    → HoldsTaken opened from c q → HoldsTaken opened from d q
+holds_lesser opened from c d q l o i s p h = record {
+  taken = taken_further opened from c d q p i s (ap length o) h.taken;
   keys = keys_of (next q) q c.indent d.indent d.level d.level c.outer d.outer i refl o
       (keys_lesser (next q) q c.indent c.level d.level c.outer l h.keys);
 }
 
-pub holds_forgotten : (columns : List ℕ) (from : Cursor) (c : Core) (q : Queue) → HoldsTaken columns from c q
-    → HoldsTaken columns from (forget_key c) q
-holds_forgotten columns from c q h =
-    holds_lesser columns from c (forget_key c) q (record { block = refl; key = inr refl }) refl refl refl
+pub holds_forgotten : (opened : Collections) (from : Cursor) (c : Core) (q : Queue) → HoldsTaken opened from c q
+    → HoldsTaken opened from (forget_key c) q
+holds_forgotten opened from c q h =
+    holds_lesser opened from c (forget_key c) q (record { block = refl; key = inr refl }) refl refl refl
     (taken.nothing _ _) h
 
 -- outside flow nothing encloses the level
-pub outermost : (columns : List ℕ) (from : Cursor) (c : Core) (q : Queue) → HoldsTaken columns from c q
-    → in_block c ≡ true
-    → c.outer ≡ []
-outermost columns from c q h e = h.keys.0 e
+none_outer : (ls : List Level) → is_empty_list ls ≡ true → ls ≡ []
+none_outer [] e = refl
+none_outer (l ∷ ls) e = absurd (cc)
+
+pub outermost_level : (b : ℕ) (q : Queue) (i : ℕ) (l : Level) (ls : List Level) → Keys b q i (l ∷ ls)
+    → is_block l.context ≡ true → ls ≡ []
+outermost_level b q i l ls h e = none_outer ls (sym h.0 ∙ e)
+
+pub outermost : (opened : Collections) (from : Cursor) (c : Core) (q : Queue) → HoldsTaken opened from c q
+    → in_block c ≡ true → c.outer ≡ []
+outermost opened from c q h e = outermost_level (next q) q c.indent c.level c.outer h.keys e
+
+-- inside flow a level encloses the innermost, as many as brackets are open
+open_outside : (ls : List Level) → nat_lt 0 (length ls) ≡ not (is_empty_list ls)
+open_outside [] = refl
+open_outside (l ∷ ls) = lt-ltb 0 (length (l ∷ ls)) (omega arith)
+
+pub open_in_flow : (opened : Collections) (from : Cursor) (c : Core) (q : Queue) → HoldsTaken opened from c q
+    → nat_lt 0 (length c.outer) ≡ not (in_block c)
+open_in_flow opened from c q h = open_outside c.outer ∙ ap not (sym h.keys.0)
 
 -- where no key is a candidate at all
-pub no_keys : (b : ℕ) (q : Queue) (i : ℕ) (l : Level) (ls : List Level) → l.key ≡ None → ls ≡ [] → Keys b q i (l ∷ ls)
-no_keys b q i l ls k o =
+pub no_keys : (b : ℕ) (q : Queue) (i : ℕ) (l : Level) (ls : List Level) → l.key ≡ None → ls ≡ []
+    → is_block l.context ≡ true → Keys b q i (l ∷ ls)
+no_keys b q i l ls k o e =
     let P : List Level → Type 0 = λ x. Keys b q i (l ∷ x) in
     let Q : Option Candidate → Type 0 = λ x. KeyOf b q (is_block l.context) i x in
-    subst P (sym o) ((λ e. refl), subst Q (sym k) tt, tt)
+    subst P (sym o) (e, subst Q (sym k) tt, tt)
 
 -- ## A token comes
 
 abbrev pub Same : Core → Core → Type 0
 Same c d = (d.indent ≡ c.indent) × (d.outer_indents ≡ c.outer_indents)
 
+-- a token that opens and closes no bracket
+abbrev pub KeepsBrackets : Piece → Type 0
+KeepsBrackets t = (opened : Collections) → (open_behind t.kind t.span opened).brackets ≡ opened.brackets
+
 pub quiet_opens : (t : Piece) (c d : Core) → is_quiet t.kind ≡ true → d.indent ≡ c.indent
-    → d.outer_indents ≡ c.outer_indents → Opens t c d
-quiet_opens t c d e i o columns h =
-    let P : ℕ → Type 0 = λ x. Stack columns x d.outer_indents in
-    let Q : List ℕ → Type 0 = λ x. Stack columns c.indent x in
-    subst (λ l. Stack l d.indent d.outer_indents) (sym (quiet_open t.kind t.span.start.col columns e))
-    (subst P (sym i) (subst Q (sym o) h))
+    → d.outer_indents ≡ c.outer_indents
+    → ((opened : Collections) → opened.brackets ≡ length c.outer
+    → (open_behind t.kind t.span opened).brackets ≡ length d.outer) → Opens t c d
+quiet_opens t c d e i o n opened h =
+    let P : ℕ → Type 0 = λ x. Stack opened.columns x d.outer_indents in
+    let Q : List ℕ → Type 0 = λ x. Stack opened.columns c.indent x in (
+      subst (λ l. Stack l d.indent d.outer_indents) (sym (quiet_open t.kind t.span opened e))
+          (subst P (sym i) (subst Q (sym o) h.0)),
+      n opened h.1,
+    )
 
 pub next_put : (t : Piece) (q : Queue) → next (with_piece t q) ≡ next q + 1
 next_put t q = let l = length-append q.places (bare_place t ∷ []) in omega (arith, l)
 
+-- a token is put behind the others
+pub holds_put : (opened : Collections) (from : Cursor) (c d : Core) (q : Queue) (t : Piece) (here behind : Cursor)
+    → AreApart c.cursor here
+    → IsToken (record { in_flow = not (in_block c); indent = c.indent }) t.kind t.span here behind
+    → AreApart behind d.cursor → Opens t c d → HoldsTaken opened from c q → Taken opened from d (with_piece t q)
+holds_put opened from c d q t here behind a is b o h =
+    let P : Bool → Type 0 = λ f. IsToken (record { in_flow = f; indent = c.indent }) t.kind t.span here behind in
+    taken_put opened from c d q t here behind a (subst P (sym (open_in_flow opened from c q h)) is) b o h.taken
+
 -- a quiet token from here to behind, and separation to the place that is reached
-pub quiet_put : (columns : List ℕ) (from : Cursor) (c d : Core) (q : Queue) (t : Piece) (here behind : Cursor)
-    → is_quiet t.kind ≡ true → AreApart c.cursor here → IsToken c.indent t.kind t.span here behind
+pub quiet_put : (opened : Collections) (from : Cursor) (c d : Core) (q : Queue) (t : Piece) (here behind : Cursor)
+    → is_quiet t.kind ≡ true → KeepsBrackets t → AreApart c.cursor here
+    → IsToken (record { in_flow = not (in_block c); indent = c.indent }) t.kind t.span here behind
     → AreApart behind d.cursor
-    → Alike c d → HoldsTaken columns from c q → HoldsTaken columns from d (with_piece t q)
-quiet_put columns from c d q t here behind e a is b l h = record {
-  taken = taken_put columns from c d q t here behind a is b (quiet_opens t c d e l.indent l.outer_indents) h.taken;
+    → Alike c d → HoldsTaken opened from c q → HoldsTaken opened from d (with_piece t q)
+quiet_put opened from c d q t here behind e f a is b l h = record {
+  taken = holds_put opened from c d q t here behind a is b
+      (quiet_opens t c d e l.indent l.outer_indents (λ x n. f x ∙ n ∙ sym (ap length l.outer))) h;
   keys =
       let k = keys_put (next q) q c.indent (c.level ∷ c.outer) t e h.keys in
       let n = next_put t q in
@@ -131,12 +168,14 @@ quiet_put columns from c d q t here behind e a is b l h = record {
 }
 
 -- any token, behind which no key is a candidate
-pub loud_put : (columns : List ℕ) (from : Cursor) (c d : Core) (q : Queue) (t : Piece) (here behind : Cursor)
-    → AreApart c.cursor here → IsToken c.indent t.kind t.span here behind → AreApart behind d.cursor → Opens t c d
-    → d.level.key ≡ None → d.outer ≡ [] → HoldsTaken columns from c q → HoldsTaken columns from d (with_piece t q)
-loud_put columns from c d q t here behind a is b o k n h = record {
-  taken = taken_put columns from c d q t here behind a is b o h.taken;
-  keys = no_keys (next (with_piece t q)) (with_piece t q) d.indent d.level d.outer k n;
+pub loud_put : (opened : Collections) (from : Cursor) (c d : Core) (q : Queue) (t : Piece) (here behind : Cursor)
+    → AreApart c.cursor here
+    → IsToken (record { in_flow = not (in_block c); indent = c.indent }) t.kind t.span here behind
+    → AreApart behind d.cursor → Opens t c d → d.level.key ≡ None → d.outer ≡ [] → in_block d ≡ true
+    → HoldsTaken opened from c q → HoldsTaken opened from d (with_piece t q)
+loud_put opened from c d q t here behind a is b o k n f h = record {
+  taken = holds_put opened from c d q t here behind a is b o h;
+  keys = no_keys (next (with_piece t q)) (with_piece t q) d.indent d.level d.outer k n f;
 }
 
 -- ## A key is saved
@@ -156,10 +195,11 @@ pub apart_same : (s t : Cursor) → t ≡ s → AreApart s t
 apart_same s t e = let P : Cursor → Type 0 = λ u. AreApart s u in subst P (sym e) (taken.nothing s.mark s.rest)
 
 -- what the new token is put behind, where a key was saved
-pub saved_taken : (columns : List ℕ) (from : Cursor) (n : ℕ) (c d : Core) (q : Queue) → Saved n c d
-    → Taken columns from c q → Taken columns from d q
-saved_taken columns from n c d q s h =
-    taken_further columns from c d q (apart_same c.cursor d.cursor s.cursor) s.indent s.outer_indents h
+pub saved_taken : (opened : Collections) (from : Cursor) (n : ℕ) (c d : Core) (q : Queue) → Saved n c d
+    → Taken opened from c q → Taken opened from d q
+saved_taken opened from n c d q s h =
+    taken_further opened from c d q (apart_same c.cursor d.cursor s.cursor) s.indent s.outer_indents (ap length s.outer)
+    h
 
 -- the token that may be a key
 pub saved_keys : (c : Core) (q : Queue) (t : Piece) (d : Core) → is_quiet t.kind ≡ true → Begins t
@@ -213,10 +253,10 @@ with_opening_length (suc n) o (p ∷ ps) = ap suc (with_opening_length n o ps)
 next_open : (n : ℕ) (o : Opening) (q : Queue) → next (with_opening n o q) ≡ next q
 next_open n o q = ap (λ l. q.handed + l) (with_opening_length (n - q.handed) o q.places)
 
-quiet_column : (o : Opening) (column : ℕ) (columns : List ℕ) → opens_block o ≡ false
-    → column_of o column columns ≡ columns
-quiet_column opening.BlockMappingAndKey column columns e = absurd (cc)
-quiet_column _ column columns e = refl
+quiet_column : (o : Opening) (column : ℕ) (opened : Collections) → opens_block o ≡ false
+    → column_of o column opened ≡ opened
+quiet_column opening.BlockMappingAndKey column opened e = absurd (cc)
+quiet_column _ column opened e = refl
 
 pub key_known : (b : ℕ) (q : Queue) (block : Bool) (i : ℕ) (o : Option Candidate) (k : Candidate) (ls : List Level)
     → o ≡ Some k → KeyOf b q block i o → Keys (lower b o) q i ls → Key b q block i k × Keys k.place q i ls
@@ -226,17 +266,17 @@ key_known b q block i o k ls e x y =
     (subst P e x, subst Q e y)
 
 -- a key alone, or in flow with its mapping
-pub open_quiet : (columns : List ℕ) (from : Cursor) (c : Core) (q : Queue) (k : Candidate) (o : Opening)
-    → opens_block o ≡ false → c.level.key ≡ Some k → HoldsTaken columns from c q
-    → HoldsTaken columns from (forget_key c) (with_opening k.place o q)
-open_quiet columns from c q k o e is h =
+pub open_quiet : (opened : Collections) (from : Cursor) (c : Core) (q : Queue) (k : Candidate) (o : Opening)
+    → opens_block o ≡ false → c.level.key ≡ Some k → HoldsTaken opened from c q
+    → HoldsTaken opened from (forget_key c) (with_opening k.place o q)
+open_quiet opened from c q k o e is h =
     let known = key_known (next q) q (is_block c.level.context) c.indent c.level.key k c.outer is h.keys.1 h.keys.2 in
     let key = known.0 in
     let n = next_open k.place o q in
     let r = with_opening k.place o q in
     record {
-      taken = taken_open columns from c (forget_key c) q (next q) (is_block c.level.context) k o key (λ f. absurd (cc))
-          (taken.nothing _ _) (λ l s. subst (λ j. Stack j c.indent c.outer_indents)
+      taken = taken_open opened from c (forget_key c) q (next q) (is_block c.level.context) k o key (λ f. absurd (cc))
+          (taken.nothing _ _) (λ l s. subst (λ (j : Collections). Stands j c)
           (sym (quiet_column o k.mark.col l e)) s) h.taken;
       keys = (
         h.keys.0,
@@ -247,18 +287,18 @@ open_quiet columns from c q k o e is h =
     }
 
 -- a block mapping and a key
-pub open_loud : (columns : List ℕ) (from : Cursor) (c : Core) (q : Queue) (k : Candidate) → in_block c ≡ true
-    → c.level.key ≡ Some k → HoldsTaken columns from c q
-    → HoldsTaken columns from (forget_key (enter_block k.mark.col c))
+pub open_loud : (opened : Collections) (from : Cursor) (c : Core) (q : Queue) (k : Candidate) → in_block c ≡ true
+    → c.level.key ≡ Some k → HoldsTaken opened from c q
+    → HoldsTaken opened from (forget_key (enter_block k.mark.col c))
     (with_opening k.place opening.BlockMappingAndKey q)
-open_loud columns from c q k e is h =
+open_loud opened from c q k e is h =
     let known = key_known (next q) q (is_block c.level.context) c.indent c.level.key k c.outer is h.keys.1 h.keys.2 in
     let d : Core = forget_key (enter_block k.mark.col c) in
     let r = with_opening k.place opening.BlockMappingAndKey q in
     record {
-      taken = taken_open columns from c d q (next q) (is_block c.level.context) k opening.BlockMappingAndKey known.0
-          (λ f. e) (taken.nothing _ _) (λ l s. (refl, s)) h.taken;
-      keys = no_keys (next r) r d.indent d.level d.outer refl (outermost columns from c q h e);
+      taken = taken_open opened from c d q (next q) (is_block c.level.context) k opening.BlockMappingAndKey known.0
+          (λ f. e) (taken.nothing _ _) (λ l s. ((refl, s.0), s.1)) h.taken;
+      keys = no_keys (next r) r d.indent d.level d.outer refl (outermost opened from c q h e) e;
     }
 
 pub further_block : (column : ℕ) (c : Core) → is_further column c ≡ true → in_block c ≡ true

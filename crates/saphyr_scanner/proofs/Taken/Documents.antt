@@ -13,46 +13,48 @@ use Rattle.saphyr_scanner.specs.Grammar.Tokens as tokens
 use Rattle.saphyr_scanner.specs.Grammar.Tokens.{Kind}
 use Rattle.saphyr_scanner.specs.Steps.Queue.{next, empty_piece}
 use Rattle.saphyr_scanner.specs.Steps.Core.{in_block, forget_key}
+use Rattle.saphyr_scanner.specs.Steps.Level.{Level, is_block}
 use Rattle.saphyr_scanner.specs.Steps.State.{State, with_core}
 use Rattle.saphyr_scanner.specs.Steps.Unrolling.{unroll, end_blocks, go_less_deep}
 use Rattle.saphyr_scanner.specs.Steps.Document as document
 use Rattle.saphyr_scanner.specs.TokensTaken as taken
-use Rattle.saphyr_scanner.specs.TokensTaken.{AreApart, IsPassedOver, IsToken, IsPlaceOrEnd}
+use Rattle.saphyr_scanner.specs.TokensTaken.{Collections, Surroundings, AreApart, IsPassedOver, IsToken, IsPlaceOrEnd}
 use Rattle.saphyr_scanner.proofs.Blocks.{unrolled_cursor}
 use Rattle.saphyr_scanner.proofs.Taken.Parts.{is_quiet}
 use Rattle.saphyr_scanner.proofs.Taken.Held.{taken_further, taken_put}
-use Rattle.saphyr_scanner.proofs.Taken.Cores.{HoldsTaken, holds_forgotten, no_keys}
+use Rattle.saphyr_scanner.proofs.Taken.Cores.{HoldsTaken, KeepsBrackets, holds_forgotten, no_keys, outermost}
 use Rattle.saphyr_scanner.proofs.Taken.States.{Fetched, TakenState, unroll_taken, blocks_levels}
 use Rattle.std.proofs.lemmas.Bool.{eqb-true, and_parts}
 use Rattle.saphyr_input.proofs.Basics.Booleans.{by_test}
 use Rattle.saphyr_scalar.proofs.Given.{Given}
 
-abbrev pub HoldsState : List ℕ → Cursor → State → Type 0
-HoldsState columns from s = HoldsTaken columns from s.core s.queue
+abbrev pub HoldsState : Collections → Cursor → State → Type 0
+HoldsState opened from s = HoldsTaken opened from s.core s.queue
 
 -- all block collections end, and no key is left
-pub forgotten_unrolled : (columns : List ℕ) (from : Cursor) (s : State) → HoldsState columns from s
-    → HoldsTaken columns from (forget_key (unroll None s.core.cursor.mark s).core)
+pub forgotten_unrolled : (opened : Collections) (from : Cursor) (s : State) → HoldsState opened from s
+    → HoldsTaken opened from (forget_key (unroll None s.core.cursor.mark s).core)
     (unroll None s.core.cursor.mark s).queue
 unfolding unroll
-forgotten_unrolled columns from s h =
+forgotten_unrolled opened from s h =
     let m = s.core.cursor.mark in
-    let P : State → Type 0 = λ t. TakenState columns from t → HoldsTaken columns from (forget_key t.core) t.queue in
+    let P : State → Type 0 = λ t. TakenState opened from t → HoldsTaken opened from (forget_key t.core) t.queue in
     by_test (in_block s.core) (end_blocks None m s.core.outer_indents (with_core (go_less_deep None s.core) s)) s P
     (λ e k.
     let t : State = end_blocks None m s.core.outer_indents (with_core (go_less_deep None s.core) s) in
     let l = blocks_levels None m s.core.outer_indents (with_core (go_less_deep None s.core) s) in
     record {
-      taken = taken_further columns from t.core (forget_key t.core) t.queue (taken.nothing _ _) refl refl k;
+      taken = taken_further opened from t.core (forget_key t.core) t.queue (taken.nothing _ _) refl refl refl k;
       keys = no_keys (next t.queue) t.queue t.core.indent (forget_key t.core).level t.core.outer refl
-          (l.outer ∙ h.keys.0 e);
+          (l.outer ∙ outermost opened from s.core s.queue h e)
+          (ap (λ (y : Level). is_block y.context) l.level ∙ e);
     })
-    (λ _ k. holds_forgotten columns from s.core s.queue h)
-    (unrolled columns from s h)
+    (λ _ k. holds_forgotten opened from s.core s.queue h)
+    (unrolled opened from s h)
   where
-    unrolled : (columns : List ℕ) (from : Cursor) (s : State) → HoldsState columns from s
-        → TakenState columns from (unroll None s.core.cursor.mark s)
-    unrolled columns from s h = unroll_taken columns from None s.core.cursor.mark s (inl refl) h.taken
+    unrolled : (opened : Collections) (from : Cursor) (s : State) → HoldsState opened from s
+        → TakenState opened from (unroll None s.core.cursor.mark s)
+    unrolled opened from s h = unroll_taken opened from None s.core.cursor.mark s (inl refl) h.taken
 
 -- ## Markers
 
@@ -76,13 +78,15 @@ three_at x xs z e =
 -- a document marker's token
 pub record Marking (stands : List ℕ → Bool) (text : List ℕ) (kind : Kind) : Type 0 where
   pub quiet : is_quiet kind ≡ true
-  pub is : (i : ℕ) (span : Span) (s t : Cursor) → taken.IsMarker stands text span s t → IsToken i kind span s t
+  pub keeps : (span : Span) → KeepsBrackets (record { span = span; kind = kind })
+  pub is : (i : Surroundings) (span : Span) (s t : Cursor) → taken.IsMarker stands text span s t → IsToken i kind span s t
   pub three : (xs : List ℕ) → stands xs ≡ true → xs ≡ text ++ drop 3 xs
   pub count : length text ≡ 3
 
 pub start_marking : Marking is_document_start (codes "---") tokens.DocumentStart
 start_marking = record {
   quiet = refl;
+  keeps = λ span opened. refl;
   is = λ i p s t h. h;
   three = λ xs e. three_at 45 xs refl (and_parts (next_3_are xs 45 45 45) (is_blank_or_breakz (slice_index xs 3)) e).0;
   count = refl;
@@ -91,6 +95,7 @@ start_marking = record {
 pub end_marking : Marking is_document_end (codes "...") tokens.DocumentEnd
 end_marking = record {
   quiet = refl;
+  keeps = λ span opened. refl;
   is = λ i p s t h. h;
   three = λ xs e. three_at 46 xs refl (and_parts (next_3_are xs 46 46 46) (is_blank_or_breakz (slice_index xs 3)) e).0;
   count = refl;
@@ -114,7 +119,7 @@ break_apart s =
     (taken.nothing _ _)))
     (λ c. taken.nothing s.mark s.rest))
 
-pub directive_is_token : (d : ReadDirective) (i : ℕ) (span : Span) (s t : Cursor) → taken.IsDirectiveToken d span s t
+pub directive_is_token : (d : ReadDirective) (i : Surroundings) (span : Span) (s t : Cursor) → taken.IsDirectiveToken d span s t
     → IsToken i (document.directive_kind d) span s t
 directive_is_token (version major minor) i span s t h = h
 directive_is_token (tag_prefix handle prefix) i span s t h = h
@@ -125,6 +130,12 @@ quiet_directive (version major minor) = refl
 quiet_directive (tag_prefix handle prefix) = refl
 quiet_directive (reserved name) = refl
 
+pub directive_keeps : (d : ReadDirective) (span : Span)
+    → KeepsBrackets (record { span = span; kind = document.directive_kind d })
+directive_keeps (version major minor) span opened = refl
+directive_keeps (tag_prefix handle prefix) span opened = refl
+directive_keeps (reserved name) span opened = refl
+
 -- ## The end of the stream
 
 pub end_place : (s : Cursor) → s.rest ≡ [] → IsPlaceOrEnd s (document.end_mark s.mark)
@@ -134,11 +145,11 @@ pub no_length : (xs : List ℕ) → (length xs == 0) ≡ true → xs ≡ []
 no_length [] e = refl
 no_length (c ∷ cs) e = absurd (let h : length (c ∷ cs) ≡ 0 = eqb-true (length (c ∷ cs)) 0 e in omega (arith, h))
 
-pub end_fetched : (columns : List ℕ) (from : Cursor) (s : State) → TakenState columns from s
-    → Given (λ (t : State). Fetched columns from t.core t.queue) (document.state_behind_end s)
+pub end_fetched : (opened : Collections) (from : Cursor) (s : State) → TakenState opened from s
+    → Given (λ (t : State). Fetched opened from t.core t.queue) (document.state_behind_end s)
 unfolding document.state_behind_end document.end_at
-end_fetched columns from s h =
-    let P : State → Type 0 = λ t. Fetched columns from t.core t.queue in
+end_fetched opened from s h =
+    let P : State → Type 0 = λ t. Fetched opened from t.core t.queue in
     let m : Marker = document.end_mark s.core.cursor.mark in
     let t : State = unroll None m s in
     by_test (length s.core.cursor.rest == 0) _ _ (Given P)
@@ -151,9 +162,9 @@ end_fetched columns from s h =
     let left : t.core.cursor.rest ≡ [] = ap (λ (c : Cursor). c.rest) same ∙ empty in
     by_test s.core.required _ _ (Given P) (λ _. tt)
     (λ _. record {
-      taken = taken_put columns from t.core (document.core_at_end t.core) t.queue (empty_piece m tokens.StreamEnd)
+      taken = taken_put opened from t.core (document.core_at_end t.core) t.queue (empty_piece m tokens.StreamEnd)
           t.core.cursor t.core.cursor (taken.nothing _ _) (left, (refl, there, refl)) (taken.nothing _ _) (λ cs k. k)
-          (unroll_taken columns from None m s place h);
+          (unroll_taken opened from None m s place h);
       live = λ f. absurd (cc);
     }))
     (λ _. tt)

@@ -15,7 +15,7 @@ use Rattle.saphyr_scanner.specs.Steps.Unrolling.{unroll}
 use Rattle.saphyr_scanner.specs.Steps.Document as document
 use Rattle.saphyr_scanner.specs.Steps.Fetch.{step, state_behind_content, fetch_here, arrive, fetch, begin, check_limit, fetch_within, without_far_key}
 use Rattle.saphyr_scanner.specs.TokensTaken as taken
-use Rattle.saphyr_scanner.specs.TokensTaken.{AreTokens}
+use Rattle.saphyr_scanner.specs.TokensTaken.{Collections, AreTokens}
 use Rattle.saphyr_scanner.proofs.Effects.Readers.{TextLaws}
 use Rattle.saphyr_scanner.proofs.Leads.{flat}
 use Rattle.saphyr_scanner.proofs.Effects.States.{FetchesTokens, after_step_fetches}
@@ -36,75 +36,75 @@ use Rattle.saphyr_scanner.proofs.Taken.Arrivals.{forgotten_live, forgotten_taken
 
 -- ## The end of the stream is the last token
 
-abbrev pub OverAt : List ℕ → Cursor → Queue → Type 0
-OverAt columns from q = (u : Cursor) → AreTokens columns (flat q.places) from u → u.rest ≡ []
+abbrev pub OverAt : Collections → Cursor → Queue → Type 0
+OverAt opened from q = (u : Cursor) → AreTokens opened (flat q.places) from u → u.rest ≡ []
 
-over_put : (columns : List ℕ) (from : Cursor) (m : Marker) (q : Queue)
-    → OverAt columns from (with_piece (empty_piece m tokens.StreamEnd) q)
-over_put columns from m q u h =
-    let P : List Piece → Type 0 = λ l. AreTokens columns l from u in
-    let r = tokens_part columns (flat q.places) (empty_piece m tokens.StreamEnd ∷ []) from u
+over_put : (opened : Collections) (from : Cursor) (m : Marker) (q : Queue)
+    → OverAt opened from (with_piece (empty_piece m tokens.StreamEnd) q)
+over_put opened from m q u h =
+    let P : List Piece → Type 0 = λ l. AreTokens opened l from u in
+    let r = tokens_part opened (flat q.places) (empty_piece m tokens.StreamEnd ∷ []) from u
     (subst P (flat_append q.places (bare_place (empty_piece m tokens.StreamEnd) ∷ [])) h) in
     ap (λ (c : Cursor). c.rest) (r.back.4 ∙ r.back.3.1.2) ∙ r.back.3.0
 
-end_over : (columns : List ℕ) (from : Cursor) (s : State)
-    → Given (λ (t : State). OverAt columns from t.queue) (document.state_behind_end s)
+end_over : (opened : Collections) (from : Cursor) (s : State)
+    → Given (λ (t : State). OverAt opened from t.queue) (document.state_behind_end s)
 unfolding document.state_behind_end document.end_at
-end_over columns from s =
-    let P : State → Type 0 = λ t. OverAt columns from t.queue in
+end_over opened from s =
+    let P : State → Type 0 = λ t. OverAt opened from t.queue in
     let m : Marker = document.end_mark s.core.cursor.mark in
     by_test (length s.core.cursor.rest == 0) _ _ (Given P)
-    (λ _. by_test s.core.required _ _ (Given P) (λ _. tt) (λ _. over_put columns from m (unroll None m s).queue))
+    (λ _. by_test s.core.required _ _ (Given P) (λ _. tt) (λ _. over_put opened from m (unroll None m s).queue))
     (λ _. tt)
 
 -- ## A token is fetched
 
-pub record Read (columns : List ℕ) (from : Cursor) (t : State) : Type 0 where
-  pub fetched : Fetched columns from t.core t.queue
-  pub over : t.core.ended ≡ true → OverAt columns from t.queue
+pub record Read (opened : Collections) (from : Cursor) (t : State) : Type 0 where
+  pub fetched : Fetched opened from t.core t.queue
+  pub over : t.core.ended ≡ true → OverAt opened from t.queue
 
-both_given : (columns : List ℕ) (from : Cursor) (s : State) (r : Result State Refusal) → s.core.ended ≡ false
-    → Given (λ (t : State). Fetched columns from t.core t.queue) r → Given (FetchesTokens 1 s) r
-    → Given (Read columns from) r
-both_given columns from s (Ok t) going a b =
+both_given : (opened : Collections) (from : Cursor) (s : State) (r : Result State Refusal) → s.core.ended ≡ false
+    → Given (λ (t : State). Fetched opened from t.core t.queue) r → Given (FetchesTokens 1 s) r
+    → Given (Read opened from) r
+both_given opened from s (Ok t) going a b =
     record { fetched = a; over = λ e. absurd (let f : t.core.ended ≡ false = b.ended ∙ going in cc) }
-both_given columns from s (Err e) going a b = tt
+both_given opened from s (Err e) going a b = tt
 
-end_given : (columns : List ℕ) (from : Cursor) (r : Result State Refusal)
-    → Given (λ (t : State). Fetched columns from t.core t.queue) r
-    → Given (λ (t : State). OverAt columns from t.queue) r → Given (Read columns from) r
-end_given columns from (Ok t) a b = record { fetched = a; over = λ _. b }
-end_given columns from (Err e) a b = tt
+end_given : (opened : Collections) (from : Cursor) (r : Result State Refusal)
+    → Given (λ (t : State). Fetched opened from t.core t.queue) r
+    → Given (λ (t : State). OverAt opened from t.queue) r → Given (Read opened from) r
+end_given opened from (Ok t) a b = record { fetched = a; over = λ _. b }
+end_given opened from (Err e) a b = tt
 
-held : (columns : List ℕ) (from : Cursor) (r : Result State Refusal) → Given (HoldsState columns from) r
-    → Given (λ (t : State). Fetched columns from t.core t.queue) r
-held columns from (Ok t) h = holds_fetched columns from t.core t.queue h
-held columns from (Err e) h = tt
+held : (opened : Collections) (from : Cursor) (r : Result State Refusal) → Given (HoldsState opened from) r
+    → Given (λ (t : State). Fetched opened from t.core t.queue) r
+held opened from (Ok t) h = holds_fetched opened from t.core t.queue h
+held opened from (Err e) h = tt
 
-after_step_fetched : (columns : List ℕ) (from : Cursor) (q : Queue) (r : StepResult)
-    → Given (FetchedStep columns from q) r
-    → Given (λ (t : State). Fetched columns from t.core t.queue) (after_step r q)
-after_step_fetched columns from q (Ok x) h = h
-after_step_fetched columns from q (Err e) h = tt
+after_step_fetched : (opened : Collections) (from : Cursor) (q : Queue) (r : StepResult)
+    → Given (FetchedStep opened from q) r
+    → Given (λ (t : State). Fetched opened from t.core t.queue) (after_step r q)
+after_step_fetched opened from q (Ok x) h = h
+after_step_fetched opened from q (Err e) h = tt
 
 deep_of : (deeper : Bool) (i col : ℕ) → nat_lt col (cond deeper i (i - 1)) ≡ false → i ≤ col + 1
 deep_of true i col e = let h = ltb-false col i e in omega (arith, h)
 deep_of false i col e = let h = ltb-false col (i - 1) e in omega (arith, h)
 
-here_read : TextLaws → (text : List ℕ) → length text < 2 ^ 63 → (columns : List ℕ) (from : Cursor) (s : State)
-    → LaterThan (start_cursor text) from → s.core.ended ≡ false → Arrived columns from s
-    → Given (Read columns from) (fetch_here s)
+here_read : TextLaws → (text : List ℕ) → length text < 2 ^ 63 → (opened : Collections) (from : Cursor) (s : State)
+    → LaterThan (start_cursor text) from → s.core.ended ≡ false → Arrived opened from s
+    → Given (Read opened from) (fetch_here s)
 unfolding fetch_here state_behind_content
-here_read laws text small columns from s l going a =
+here_read laws text small opened from s l going a =
     let t = s.core.cursor.rest in
-    let P = Given (Read columns from) in
+    let P = Given (Read opened from) in
     by_test (is_z (slice_index t 0)) _ _ P
-    (λ _. end_given columns from (document.state_behind_end s) (end_fetched columns from s a.taken)
-    (end_over columns from s))
+    (λ _. end_given opened from (document.state_behind_end s) (end_fetched opened from s a.taken)
+    (end_over opened from s))
     (λ z. let some : 0 < length t = some_character_left t z in
-    let h : HoldsState columns from s = record { taken = a.taken; keys = a.live z } in
+    let h : HoldsState opened from s = record { taken = a.taken; keys = a.live z } in
     let behind : (r : Result State Refusal) → Walked (Premises s.core) (Documented s) s.core.cursor r → P r =
-    λ r w. both_given columns from s r going (held columns from r (documents_hold laws columns from s r h w))
+    λ r w. both_given opened from s r going (held opened from r (documents_hold laws opened from s r h w))
     (documents_advance s r w) in
     by_test (is_bom (slice_index t 0)) _ _ P
     (λ e. behind (document.state_behind_byte_order_mark s) (mark_walked s e))
@@ -122,62 +122,63 @@ here_read laws text small columns from s l going a =
     behind (document.state_behind_document_end s) (end_marker_walked s (eqb-true s.core.cursor.mark.col 0 w.0) w.1))
     (λ _. by_test (nat_lt s.core.cursor.mark.col (least_column s.core)) _ _ P (λ _. tt)
     (λ e. let r = step (slice_index t 0) (slice_index t 1) (next s.queue) s.core in
-    both_given columns from s (after_step r s.queue) going
-    (after_step_fetched columns from s.queue r
-    (walked_given (Premises s.core) (Stepped (next s.queue) s.core) (FetchedStep columns from s.queue) s.core.cursor r
-    (λ x k. k.fetched laws text small columns from s.queue l refl
+    both_given opened from s (after_step r s.queue) going
+    (after_step_fetched opened from s.queue r
+    (walked_given (Premises s.core) (Stepped (next s.queue) s.core) (FetchedStep opened from s.queue) s.core.cursor r
+    (λ x k. k.fetched laws text small opened from s.queue l refl
     (λ _. deep_of s.core.deeper s.core.indent s.core.cursor.mark.col e) h)
     (step_does (slice_index t 0) (slice_index t 1) (next s.queue) s.core some refl refl)))
     (after_step_fetches _ s r (step_effect (slice_index t 0) (slice_index t 1) (next s.queue) s.core some refl
     refl))))))))
 
-begin_live : (columns : List ℕ) (from : Cursor) (s : State) → TakenState columns from s → Live s.core s.queue
+begin_live : (opened : Collections) (from : Cursor) (s : State) → TakenState opened from s → Live s.core s.queue
     → Live (record s.core { started = true }) (with_piece (empty_piece s.core.cursor.mark tokens.StreamStart) s.queue)
-begin_live columns from s h l nz =
-    (quiet_put columns from s.core (record s.core { started = true }) s.queue
-    (empty_piece s.core.cursor.mark tokens.StreamStart) s.core.cursor s.core.cursor refl (taken.nothing _ _)
+begin_live opened from s h l nz =
+    (quiet_put opened from s.core (record s.core { started = true }) s.queue
+    (empty_piece s.core.cursor.mark tokens.StreamStart) s.core.cursor s.core.cursor refl (λ x. refl)
+    (taken.nothing _ _)
     (refl, inl refl, refl) (taken.nothing _ _)
     (record { level = refl; outer = refl; indent = refl; outer_indents = refl })
     (record { taken = h; keys = l nz })).keys
 
-begin_read : (columns : List ℕ) (from : Cursor) (s : State) → s.core.ended ≡ false → TakenState columns from s
-    → Live s.core s.queue → Read columns from (begin s)
-begin_read columns from s going h l = record {
+begin_read : (opened : Collections) (from : Cursor) (s : State) → s.core.ended ≡ false → TakenState opened from s
+    → Live s.core s.queue → Read opened from (begin s)
+begin_read opened from s going h l = record {
   fetched = record {
-    taken = taken_put columns from s.core (record s.core { started = true }) s.queue
+    taken = taken_put opened from s.core (record s.core { started = true }) s.queue
         (empty_piece s.core.cursor.mark tokens.StreamStart) s.core.cursor s.core.cursor (taken.nothing _ _)
         (refl, inl refl, refl) (taken.nothing _ _) (λ cs k. k) h;
-    live = λ _. inl (begin_live columns from s h l);
+    live = λ _. inl (begin_live opened from s h l);
   };
   over = λ e. absurd (let f : s.core.ended ≡ true = e in cc);
 }
 
 pub fetch_read : TextLaws → (text : List ℕ) → length text < 2 ^ 63
-    → (columns : List ℕ) (from : Cursor) (s : State) → LaterThan (start_cursor text) from → s.core.ended ≡ false
-    → TakenState columns from s → Live s.core s.queue → Given (Read columns from) (fetch s)
+    → (opened : Collections) (from : Cursor) (s : State) → LaterThan (start_cursor text) from → s.core.ended ≡ false
+    → TakenState opened from s → Live s.core s.queue → Given (Read opened from) (fetch s)
 unfolding fetch
-fetch_read laws text small columns from s l going h k =
-    by_test s.core.started _ _ (Given (Read columns from))
-    (λ _. given_bind (Read columns from) (arrive s) fetch_here (λ t e.
-    let a = given_of (Arrived columns from) (arrive s) t (arrived text small columns from s l h k) e in
+fetch_read laws text small opened from s l going h k =
+    by_test s.core.started _ _ (Given (Read opened from))
+    (λ _. given_bind (Read opened from) (arrive s) fetch_here (λ t e.
+    let a = given_of (Arrived opened from) (arrive s) t (arrived text small opened from s l h k) e in
     let kept = given_of (FetchesTokens 0 s) (arrive s) t (arrive_advances s) e in
-    here_read laws text small columns from t l (kept.ended ∙ going) a))
-    (λ _. begin_read columns from s going h k)
+    here_read laws text small opened from t l (kept.ended ∙ going) a))
+    (λ _. begin_read opened from s going h k)
 
 -- ## Where a candidate that is too far is dropped
 
-pub record Ready (columns : List ℕ) (from : Cursor) (t : State) : Type 0 where
-  pub taken : TakenState columns from t
+pub record Ready (opened : Collections) (from : Cursor) (t : State) : Type 0 where
+  pub taken : TakenState opened from t
   pub live : t.core.ended ≡ false → Live t.core t.queue
-  pub over : t.core.ended ≡ true → OverAt columns from t.queue
+  pub over : t.core.ended ≡ true → OverAt opened from t.queue
 
-pub settled_ready : (columns : List ℕ) (from : Cursor) (s : State) → Read columns from s
-    → Given (Ready columns from) (without_far_key s)
+pub settled_ready : (opened : Collections) (from : Cursor) (s : State) → Read opened from s
+    → Given (Ready opened from) (without_far_key s)
 unfolding drop_far_key
-settled_ready columns from s h =
+settled_ready opened from s h =
     let c = s.core in
     by_test (not (in_block c && is_too_far c.level.key c.cursor.mark)) _ _
-    (λ r. Given (Ready columns from) (on_core r s.queue))
+    (λ r. Given (Ready opened from) (on_core r s.queue))
     (λ e. record {
       taken = h.fetched.taken;
       live = λ g. elim (h.fetched.live g) [
@@ -187,28 +188,29 @@ settled_ready columns from s h =
       ];
       over = h.over;
     })
-    (λ _. by_test c.required _ _ (λ r. Given (Ready columns from) (on_core r s.queue)) (λ _. tt)
+    (λ _. by_test c.required _ _ (λ r. Given (Ready opened from) (on_core r s.queue)) (λ _. tt)
     (λ _. record {
-      taken = forgotten_taken columns from c s.queue h.fetched.taken;
+      taken = forgotten_taken opened from c s.queue h.fetched.taken;
       live = λ g. elim (h.fetched.live g) [
         | inl k ↦ forgotten_live c s.queue k
         | inr w ↦
-            (λ nz. no_keys (next s.queue) s.queue c.indent (forget_key c).level c.outer refl w.1)
+            (λ nz. no_keys (next s.queue) s.queue c.indent (forget_key c).level c.outer refl w.1
+            (and_parts (in_block c) (is_too_far c.level.key c.cursor.mark) w.0).0)
       ];
       over = h.over;
     }))
 
 pub read_ready : TextLaws → (text : List ℕ) → length text < 2 ^ 63
-    → (limit : ℕ) (columns : List ℕ) (from : Cursor) (s : State) → LaterThan (start_cursor text) from
+    → (limit : ℕ) (opened : Collections) (from : Cursor) (s : State) → LaterThan (start_cursor text) from
     → s.core.ended ≡ false
-    → Ready columns from s → Given (Ready columns from) (fetch_within limit s >>= without_far_key)
+    → Ready opened from s → Given (Ready opened from) (fetch_within limit s >>= without_far_key)
 unfolding fetch_within
-read_ready laws text small limit columns from s l going h =
-    by (fetch s) (fetch_read laws text small columns from s l going h.taken (h.live going))
+read_ready laws text small limit opened from s l going h =
+    by (fetch s) (fetch_read laws text small opened from s l going h.taken (h.live going))
   where
-    by : (r : Result State Refusal) → Given (Read columns from) r
-        → Given (Ready columns from) ((r >>= check_limit limit) >>= without_far_key)
+    by : (r : Result State Refusal) → Given (Read opened from) r
+        → Given (Ready opened from) ((r >>= check_limit limit) >>= without_far_key)
     by (Ok t) k = by_test (nat_le t.core.cursor.mark.index limit) _ _
-        (λ r. Given (Ready columns from) (r >>= without_far_key))
-        (λ _. settled_ready columns from t k) (λ _. tt)
+        (λ r. Given (Ready opened from) (r >>= without_far_key))
+        (λ _. settled_ready opened from t k) (λ _. tt)
     by (Err e) k = tt

@@ -1,21 +1,22 @@
 -- What is known of the tokens that a scanner holds: they are taken from the text, and each candidate for a key is one
 -- of them.
 use Rattle.std.proofs.Common.{◌≡◌, ℕ, zero, suc, ◌+◌, ◌-◌, ◌≤◌, ◌<◌, Bool, true, false, List, [], ◌∷◌, ◌++◌, length, Option, Some, None, refl, sym, ap, ◌∙◌, arith, subst, append_assoc}
+use Rattle.std.specs.Prelude.{nat_lt}
 use Rattle.saphyr_scalar.specs.declared.scalar.position.Marker.{Marker}
 use Rattle.saphyr_scalar.specs.Views.Cursor.{Cursor}
 use Rattle.saphyr_scanner.specs.declared.queue.Opening.{Opening}
 use Rattle.saphyr_scanner.specs.declared.queue.Opening.TheVariants as opening
 use Rattle.saphyr_scanner.specs.Views.Tokens.{Piece}
-use Rattle.saphyr_scanner.specs.Steps.Queue.{Place, Queue, bare_place, places_with_opening, with_piece, with_opening}
+use Rattle.saphyr_scanner.specs.Steps.Queue.{Place, Queue, is_empty_list, bare_place, places_with_opening, with_piece, with_opening}
 use Rattle.saphyr_scanner.specs.Steps.Core.{Core}
 use Rattle.saphyr_scanner.specs.Steps.Level.{Candidate, Level, is_block}
-use Rattle.saphyr_scanner.specs.TokensTaken.{AreApart, IsToken, AreTokens, open_behind, least_column_in}
+use Rattle.saphyr_scanner.specs.TokensTaken.{Collections, Surroundings, AreApart, IsToken, AreTokens, open_behind, least_column_in, surroundings_in}
 use Rattle.saphyr_scanner.proofs.Leads.{flat, place_pieces}
 use Rattle.saphyr_scanner.proofs.Taken.Separated.{apart_apart}
 use Rattle.saphyr_scanner.proofs.Taken.Parts.{open_all, open_append, tokens_append, is_quiet, AreQuiet, quiet_append, with_opening_there, with_opening_behind, Begins, opens_block, column_of, place_tokens, place_open}
 use Rattle.saphyr_scanner.proofs.Queues.{flat_append, place_with_front}
 
--- ## The open block collections
+-- ## The open collections
 
 -- the first columns to the right of the open block collections, and 0 behind them
 abbrev pub Stack : List ℕ → ℕ → List ℕ → Type 0
@@ -28,55 +29,73 @@ stack_indent [] i is h = sym h.0
 stack_indent (column ∷ columns) i [] h = absurd h
 stack_indent (column ∷ columns) i (j ∷ is) h = sym h.0
 
+-- what is open where the scanner stands
+abbrev pub Stands : Collections → Core → Type 0
+Stands opened c = Stack opened.columns c.indent c.outer_indents × (opened.brackets ≡ length c.outer)
+
+-- where the next token of a scanner stands
+abbrev pub surroundings_of : Core → Surroundings
+surroundings_of c = record { in_flow = nat_lt 0 (length c.outer); indent = c.indent }
+
+stands_in : (opened : Collections) (c : Core) → Stands opened c → surroundings_in opened ≡ surroundings_of c
+stands_in opened c h =
+    let S : ℕ → ℕ → Surroundings = λ n i. record { in_flow = nat_lt 0 n; indent = i } in
+    ap (λ i. S opened.brackets i) (stack_indent opened.columns c.indent c.outer_indents h.0)
+    ∙ ap (λ n. S n c.indent) h.1
+
+-- as many of each are open
+pub stands_same : (opened : Collections) (c d : Core) → d.indent ≡ c.indent → d.outer_indents ≡ c.outer_indents
+    → length d.outer ≡ length c.outer → Stands opened c → Stands opened d
+stands_same opened c d i o n h =
+    let P : ℕ → Type 0 = λ j. Stack opened.columns j d.outer_indents in
+    let Q : List ℕ → Type 0 = λ js. Stack opened.columns c.indent js in
+    (subst P (sym i) (subst Q (sym o) h.0), h.1 ∙ sym n)
+
 -- ## The tokens
 
-pub record Taken (columns : List ℕ) (from : Cursor) (c : Core) (q : Queue) : Type 0 where
+pub record Taken (opened : Collections) (from : Cursor) (c : Core) (q : Queue) : Type 0 where
   pub last : Cursor
-  pub tokens : AreTokens columns (flat q.places) from last
+  pub tokens : AreTokens opened (flat q.places) from last
   pub apart : AreApart last c.cursor
-  pub stack : Stack (open_all (flat q.places) columns) c.indent c.outer_indents
+  pub stands : Stands (open_all (flat q.places) opened) c
 
 -- the text goes on behind separation
-pub taken_further : (columns : List ℕ) (from : Cursor) (c d : Core) (q : Queue) → AreApart c.cursor d.cursor
-    → d.indent ≡ c.indent → d.outer_indents ≡ c.outer_indents → Taken columns from c q → Taken columns from d q
-taken_further columns from c d q a i o h = record {
+pub taken_further : (opened : Collections) (from : Cursor) (c d : Core) (q : Queue) → AreApart c.cursor d.cursor
+    → d.indent ≡ c.indent → d.outer_indents ≡ c.outer_indents → length d.outer ≡ length c.outer
+    → Taken opened from c q → Taken opened from d q
+taken_further opened from c d q a i o n h = record {
   last = h.last;
   tokens = h.tokens;
   apart = apart_apart h.last.mark h.last.rest c.cursor.mark c.cursor.rest d.cursor.mark d.cursor.rest h.apart a;
-  stack =
-      let P : ℕ → Type 0 = λ j. Stack (open_all (flat q.places) columns) j d.outer_indents in
-      let Q : List ℕ → Type 0 = λ js. Stack (open_all (flat q.places) columns) c.indent js in
-      subst P (sym i) (subst Q (sym o) h.stack);
+  stands = stands_same (open_all (flat q.places) opened) c d i o n h.stands;
 }
 
 flat_put : (t : Piece) (q : Queue) → flat (with_piece t q).places ≡ flat q.places ++ t ∷ []
 flat_put t q = flat_append q.places (bare_place t ∷ [])
 
--- how the open block collections change with a token
+-- how the open collections change with a token
 abbrev pub Opens : Piece → Core → Core → Type 0
-Opens t c d = (columns : List ℕ) → Stack columns c.indent c.outer_indents
-    → Stack (open_behind t.kind t.span.start.col columns) d.indent d.outer_indents
+Opens t c d = (opened : Collections) → Stands opened c → Stands (open_behind t.kind t.span opened) d
 
 -- a token is put behind the others
-pub taken_put : (columns : List ℕ) (from : Cursor) (c d : Core) (q : Queue) (t : Piece) (here behind : Cursor)
-    → AreApart c.cursor here → IsToken c.indent t.kind t.span here behind → AreApart behind d.cursor → Opens t c d
-    → Taken columns from c q → Taken columns from d (with_piece t q)
-taken_put columns from c d q t here behind a is b o h =
-    let open_now = open_all (flat q.places) columns in
-    let i : least_column_in open_now ≡ c.indent = stack_indent open_now c.indent c.outer_indents h.stack in
+pub taken_put : (opened : Collections) (from : Cursor) (c d : Core) (q : Queue) (t : Piece) (here behind : Cursor)
+    → AreApart c.cursor here → IsToken (surroundings_of c) t.kind t.span here behind → AreApart behind d.cursor
+    → Opens t c d → Taken opened from c q → Taken opened from d (with_piece t q)
+taken_put opened from c d q t here behind a is b o h =
+    let open_now = open_all (flat q.places) opened in
+    let i : surroundings_in open_now ≡ surroundings_of c = stands_in open_now c h.stands in
     let apart = apart_apart h.last.mark h.last.rest c.cursor.mark c.cursor.rest here.mark here.rest h.apart a in
     let one : AreTokens open_now (t ∷ []) h.last behind =
-    (here, behind, apart, subst (λ j. IsToken j t.kind t.span here behind) (sym i) is, refl) in
-    let all = tokens_append columns (flat q.places) (t ∷ []) from h.last behind h.tokens one in
+    (here, behind, apart, subst (λ (j : Surroundings). IsToken j t.kind t.span here behind) (sym i) is, refl) in
+    let all = tokens_append opened (flat q.places) (t ∷ []) from h.last behind h.tokens one in
     let same : flat q.places ++ t ∷ [] ≡ flat (with_piece t q).places = sym (flat_put t q) in
-    let places_with_opening : open_all (flat (with_piece t q).places) columns
-    ≡ open_behind t.kind t.span.start.col open_now =
-    ap (λ l. open_all l columns) (flat_put t q) ∙ open_append (flat q.places) (t ∷ []) columns in
+    let open_then : open_all (flat (with_piece t q).places) opened ≡ open_behind t.kind t.span open_now =
+    ap (λ l. open_all l opened) (flat_put t q) ∙ open_append (flat q.places) (t ∷ []) opened in
     record {
       last = behind;
-      tokens = subst (λ l. AreTokens columns l from behind) same all;
+      tokens = subst (λ l. AreTokens opened l from behind) same all;
       apart = b;
-      stack = subst (λ l. Stack l d.indent d.outer_indents) (sym places_with_opening) (o open_now h.stack);
+      stands = subst (λ (x : Collections). Stands x d) (sym open_then) (o open_now h.stands);
     }
 
 -- ## Candidates
@@ -103,10 +122,14 @@ abbrev pub lower : ℕ → Option Candidate → ℕ
 lower b None = b
 lower b (Some k) = k.place
 
--- Candidates further out stand further in front, and only the outermost level is no flow collection.
+-- the outermost level alone is no flow collection
+abbrev pub IsNested : Level → List Level → Type 0
+IsNested l ls = is_block l.context ≡ is_empty_list ls
+
+-- candidates further out stand further in front
 abbrev pub Keys : ℕ → Queue → ℕ → List Level → Type 0
 Keys b q i [] = Unit {0}
-Keys b q i (l ∷ ls) = (is_block l.context ≡ true → ls ≡ []) × KeyOf b q (is_block l.context) i l.key
+Keys b q i (l ∷ ls) = IsNested l ls × KeyOf b q (is_block l.context) i l.key
     × Keys (lower b l.key) q i ls
 
 key_weaken : (a b : ℕ) (q : Queue) (block : Bool) (i : ℕ) (k : Option Candidate) → a ≤ b → KeyOf a q block i k
@@ -228,30 +251,29 @@ keys_open b n q i (l ∷ ls) o e h x =
     )
 
 -- the tokens, where a candidate turns out to be a key
-pub taken_open : (columns : List ℕ) (from : Cursor) (c d : Core) (q : Queue) (b : ℕ) (block : Bool) (k : Candidate)
+pub taken_open : (opened : Collections) (from : Cursor) (c d : Core) (q : Queue) (b : ℕ) (block : Bool) (k : Candidate)
     (o : Opening) → Key b q block c.indent k → (opens_block o ≡ true → block ≡ true) → AreApart c.cursor d.cursor
-    → ((open_now : List ℕ) → Stack open_now c.indent c.outer_indents
-    → Stack (column_of o k.mark.col open_now) d.indent d.outer_indents) → Taken columns from c q
-    → Taken columns from d (with_opening k.place o q)
-taken_open columns from c d q b block k o x e a s h =
+    → ((open_now : Collections) → Stands open_now c → Stands (column_of o k.mark.col open_now) d) → Taken opened from c q
+    → Taken opened from d (with_opening k.place o q)
+taken_open opened from c d q b block k o x e a s h =
     let n : k.place - q.handed ≡ length x.front = omega (arith, x.at) in
     let now : (with_opening k.place o q).places ≡ x.front ++ place_with_front o x.token ∷ x.back =
     ap (λ j. places_with_opening j o q.places) n ∙ ap (places_with_opening (length x.front) o) x.places
     ∙ with_opening_there o x.front (bare_place x.token) x.back in
     let quiet : opens_block o ≡ true → AreQuiet (x.token ∷ flat x.back) = λ f. x.quiet (e f) in
-    let P : List Place → Type 0 = λ l. AreTokens columns (flat l) from h.last in
-    let Q : List Place → Type 0 = λ l. Stack (open_all (flat l) columns) d.indent d.outer_indents in
-    let S : List Place → Type 0 = λ l. Stack (open_all (flat l) columns) c.indent c.outer_indents in
-    let all = place_tokens columns o x.front x.token x.back from h.last x.begins quiet (subst P x.places h.tokens) in
-    let opened_now = s (open_all (flat (x.front ++ bare_place x.token ∷ x.back)) columns) (subst S x.places h.stack) in
+    let P : List Place → Type 0 = λ l. AreTokens opened (flat l) from h.last in
+    let Q : List Place → Type 0 = λ l. Stands (open_all (flat l) opened) d in
+    let S : List Place → Type 0 = λ l. Stands (open_all (flat l) opened) c in
+    let all = place_tokens opened o x.front x.token x.back from h.last x.begins quiet (subst P x.places h.tokens) in
+    let stands_now = s (open_all (flat (x.front ++ bare_place x.token ∷ x.back)) opened) (subst S x.places h.stands) in
     let column : x.token.span.start.col ≡ k.mark.col = ap (λ (m : Marker). m.col) x.marked in
-    let is : open_all (flat (x.front ++ place_with_front o x.token ∷ x.back)) columns
-    ≡ column_of o k.mark.col (open_all (flat (x.front ++ bare_place x.token ∷ x.back)) columns) =
-    place_open columns o x.front x.token x.back quiet
-    ∙ ap (λ j. column_of o j (open_all (flat (x.front ++ bare_place x.token ∷ x.back)) columns)) column in
+    let is : open_all (flat (x.front ++ place_with_front o x.token ∷ x.back)) opened
+    ≡ column_of o k.mark.col (open_all (flat (x.front ++ bare_place x.token ∷ x.back)) opened) =
+    place_open opened o x.front x.token x.back quiet
+    ∙ ap (λ j. column_of o j (open_all (flat (x.front ++ bare_place x.token ∷ x.back)) opened)) column in
     record {
       last = h.last;
       tokens = subst P (sym now) all;
       apart = apart_apart h.last.mark h.last.rest c.cursor.mark c.cursor.rest d.cursor.mark d.cursor.rest h.apart a;
-      stack = subst Q (sym now) (subst (λ l. Stack l d.indent d.outer_indents) (sym is) opened_now);
+      stands = subst Q (sym now) (subst (λ (l : Collections). Stands l d) (sym is) stands_now);
     }

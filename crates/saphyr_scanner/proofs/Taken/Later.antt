@@ -18,7 +18,7 @@ use Rattle.saphyr_scanner.specs.Grammar.Tokens as tokens
 use Rattle.saphyr_scanner.specs.Grammar.Tokens.{Kind}
 use Rattle.saphyr_scanner.specs.Views.Tokens.{Piece}
 use Rattle.saphyr_scanner.specs.TokensTaken as taken
-use Rattle.saphyr_scanner.specs.TokensTaken.{IsPassedOver, HasNoText, IsSpan, IsMark, TakesCharacter, IsToken, AreTokens, open_behind}
+use Rattle.saphyr_scanner.specs.TokensTaken.{Collections, Surroundings, IsPassedOver, HasNoText, IsSpan, IsMark, TakesCharacter, IsToken, AreTokens, open_behind}
 use Rattle.saphyr_input.proofs.Basics.Lists.{shows_character}
 use Rattle.saphyr_input.proofs.Basics.Booleans.{by_test}
 
@@ -162,7 +162,7 @@ mark_later span s t h =
       columns = λ h i k. omega arith;
     })
 
-pub token_later : (i : ℕ) (kind : Kind) (span : Span) (s t : Cursor) → IsToken i kind span s t → LaterThan s t
+pub token_later : (i : Surroundings) (kind : Kind) (span : Span) (s t : Cursor) → IsToken i kind span s t → LaterThan s t
 token_later i tokens.StreamStart span s t h = nothing_later span s t h
 token_later i tokens.StreamEnd span s t h = nothing_later span s t h.1
 token_later i (tokens.VersionDirective major minor) span s t h = span_later span h.0 s t h.5
@@ -191,15 +191,15 @@ token_later i (tokens.Tag handle suffix) span s t h = span_later span h.0 s t h.
 token_later i (tokens.Scalar style.Plain value) span s t h = plain_later s t value span.end h.reading
 token_later i (tokens.Scalar style.SingleQuoted value) span s t h = passed_later s.mark s.rest t.mark t.rest h.3
 token_later i (tokens.Scalar style.DoubleQuoted value) span s t h = passed_later s.mark s.rest t.mark t.rest h.3
-token_later i (tokens.Scalar style.Literal value) span s t h = passed_later s.mark s.rest t.mark t.rest h.passes
-token_later i (tokens.Scalar style.Folded value) span s t h = passed_later s.mark s.rest t.mark t.rest h.passes
+token_later i (tokens.Scalar style.Literal value) span s t h = passed_later s.mark s.rest t.mark t.rest h.1.passes
+token_later i (tokens.Scalar style.Folded value) span s t h = passed_later s.mark s.rest t.mark t.rest h.1.passes
 
-pub tokens_later : (columns : List ℕ) (ps : List Piece) (s u : Cursor) → AreTokens columns ps s u → LaterThan s u
-tokens_later columns [] s u h =
+pub tokens_later : (opened : Collections) (ps : List Piece) (s u : Cursor) → AreTokens opened ps s u → LaterThan s u
+tokens_later opened [] s u h =
     let P : Cursor → Type 0 = λ v. LaterThan s v in subst P (sym h) (later_here s.mark s.rest)
-tokens_later columns (p ∷ ps) s u h =
+tokens_later opened (p ∷ ps) s u h =
     let a = apart_later s.mark s.rest h.0.mark h.0.rest h.2 in
-    let b = token_later (taken.least_column_in columns) p.kind p.span h.0 h.1 h.3 in
-    let c = tokens_later (open_behind p.kind p.span.start.col columns) ps h.1 u h.4 in
+    let b = token_later (taken.surroundings_in opened) p.kind p.span h.0 h.1 h.3 in
+    let c = tokens_later (open_behind p.kind p.span opened) ps h.1 u h.4 in
     later_later s.mark s.rest h.0.mark h.0.rest u.mark u.rest a
     (later_later h.0.mark h.0.rest h.1.mark h.1.rest u.mark u.rest b c)

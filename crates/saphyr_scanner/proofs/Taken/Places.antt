@@ -14,7 +14,7 @@ use Rattle.saphyr_scanner.specs.Grammar.Tokens.{Kind}
 use Rattle.saphyr_scanner.specs.Views.Tokens.{Piece}
 use Rattle.saphyr_scanner.specs.AtPlaces.{AreAtPlaces}
 use Rattle.saphyr_scanner.specs.TokensTaken as taken
-use Rattle.saphyr_scanner.specs.TokensTaken.{IsReached, IsPlaceOrEnd, IsPlaceOf, HasNoText, IsSpan, IsMark, TakesCharacter, LiesOnLine, IsToken, AreTokens, open_behind, least_column_in}
+use Rattle.saphyr_scanner.specs.TokensTaken.{Collections, Surroundings, surroundings_in, IsReached, IsPlaceOrEnd, IsPlaceOf, HasNoText, IsSpan, IsMark, TakesCharacter, LiesOnLine, IsToken, AreTokens, open_behind}
 use Rattle.saphyr_scanner.proofs.LineTexts.{name_no_break, tag_no_break, tail_no_break}
 use Rattle.saphyr_scanner.proofs.Reached.{reached_reached, reached_counted, along_reached, apart_reached, passed_reached, piece_reached, Uncut, uncut_ink, uncut_behind}
 use Rattle.saphyr_input.proofs.Basics.Booleans.{or_false_right}
@@ -91,7 +91,7 @@ plain_reached s t text end r e =
     whole (inl f) = let P : List ℕ → Type 0 = λ l. Uncut l t.rest in subst P (sym f) tt
     whole (inr f) = uncut_behind r.white t.rest f
 
-pub token_reached : (i : ℕ) (kind : Kind) (span : Span) (s t : Cursor) → IsToken i kind span s t → Reaches s t
+pub token_reached : (i : Surroundings) (kind : Kind) (span : Span) (s t : Cursor) → IsToken i kind span s t → Reaches s t
 token_reached i tokens.StreamStart span s t h = nothing_reached span s t h
 token_reached i tokens.StreamEnd span s t h = nothing_reached span s t h.1
 token_reached i (tokens.VersionDirective major minor) span s t h =
@@ -123,16 +123,16 @@ token_reached i (tokens.Tag handle suffix) span s t h = span_reached span h.0 s 
 token_reached i (tokens.Scalar style.Plain value) span s t h = plain_reached s t value span.end h.reading h.uncut
 token_reached i (tokens.Scalar style.SingleQuoted value) span s t h = passed_reached s.mark s.rest t.mark t.rest h.3
 token_reached i (tokens.Scalar style.DoubleQuoted value) span s t h = passed_reached s.mark s.rest t.mark t.rest h.3
-token_reached i (tokens.Scalar style.Literal value) span s t h = passed_reached s.mark s.rest t.mark t.rest h.passes
-token_reached i (tokens.Scalar style.Folded value) span s t h = passed_reached s.mark s.rest t.mark t.rest h.passes
+token_reached i (tokens.Scalar style.Literal value) span s t h = passed_reached s.mark s.rest t.mark t.rest h.1.passes
+token_reached i (tokens.Scalar style.Folded value) span s t h = passed_reached s.mark s.rest t.mark t.rest h.1.passes
 
-pub tokens_reached : (columns : List ℕ) (ps : List Piece) (s u : Cursor) → AreTokens columns ps s u → Reaches s u
-tokens_reached columns [] s u h =
+pub tokens_reached : (opened : Collections) (ps : List Piece) (s u : Cursor) → AreTokens opened ps s u → Reaches s u
+tokens_reached opened [] s u h =
     let P : Cursor → Type 0 = λ v. Reaches s v in subst P (sym h) (taken.nothing s.mark s.rest)
-tokens_reached columns (p ∷ ps) s u h =
+tokens_reached opened (p ∷ ps) s u h =
     let a = apart_reached s.mark s.rest h.0.mark h.0.rest h.2 in
-    let b = token_reached (least_column_in columns) p.kind p.span h.0 h.1 h.3 in
-    let c = tokens_reached (open_behind p.kind p.span.start.col columns) ps h.1 u h.4 in
+    let b = token_reached (surroundings_in opened) p.kind p.span h.0 h.1 h.3 in
+    let c = tokens_reached (open_behind p.kind p.span opened) ps h.1 u h.4 in
     reaches_reaches s h.0 u a (reaches_reaches h.0 h.1 u b c)
 
 -- ## Their starts
@@ -149,7 +149,7 @@ line_at s m h =
     at_reached s m h.1 (subst (λ (n : Marker). IsReached s.mark s.rest n h.1) (sym h.4)
     (subst (λ l. IsReached s.mark l (along s.mark (length h.0)) h.1) (sym h.3) p))
 
-pub token_at : (i : ℕ) (kind : Kind) (span : Span) (s t : Cursor) → IsToken i kind span s t → At s span.start
+pub token_at : (i : Surroundings) (kind : Kind) (span : Span) (s t : Cursor) → IsToken i kind span s t → At s span.start
 token_at i tokens.StreamStart span s t h = nothing_at span s t h
 token_at i tokens.StreamEnd span s t h = nothing_at span s t h.1
 token_at i (tokens.VersionDirective major minor) span s t h = here_at s span.start h.5.start
@@ -180,9 +180,11 @@ token_at i (tokens.Scalar style.Plain value) span s t h = here_at s span.start h
 token_at i (tokens.Scalar style.SingleQuoted value) span s t h = here_at s span.start h.4
 token_at i (tokens.Scalar style.DoubleQuoted value) span s t h = here_at s span.start h.4
 token_at i (tokens.Scalar style.Literal value) span s t h =
-    at_reached s span.start h.reading.behind (passed_reached s.mark s.rest span.start h.reading.behind h.reading.starts)
+    at_reached s span.start h.1.reading.behind
+    (passed_reached s.mark s.rest span.start h.1.reading.behind h.1.reading.starts)
 token_at i (tokens.Scalar style.Folded value) span s t h =
-    at_reached s span.start h.reading.behind (passed_reached s.mark s.rest span.start h.reading.behind h.reading.starts)
+    at_reached s span.start h.1.reading.behind
+    (passed_reached s.mark s.rest span.start h.1.reading.behind h.1.reading.starts)
 
 -- ## Their ends
 
@@ -209,7 +211,7 @@ plain_to s t text end r =
 line_to : (s t : Cursor) (m : Marker) → Reaches s t → LiesOnLine t m → At s m
 line_to s t m r o = at_further s t m r (line_at t m o)
 
-pub token_to : (i : ℕ) (kind : Kind) (span : Span) (s t : Cursor) → IsToken i kind span s t → At s span.end
+pub token_to : (i : Surroundings) (kind : Kind) (span : Span) (s t : Cursor) → IsToken i kind span s t → At s span.end
 token_to i tokens.StreamStart span s t h = same_end s span h.0 (token_at i tokens.StreamStart span s t h)
 token_to i tokens.StreamEnd span s t h = same_end s span h.1.0 (token_at i tokens.StreamEnd span s t h)
 token_to i (tokens.VersionDirective major minor) span s t h =
@@ -254,19 +256,19 @@ token_to i (tokens.Scalar style.SingleQuoted value) span s t h =
 token_to i (tokens.Scalar style.DoubleQuoted value) span s t h =
     line_to s t span.end (passed_reached s.mark s.rest t.mark t.rest h.3) h.5
 token_to i (tokens.Scalar style.Literal value) span s t h =
-    at_behind s t span.end (passed_reached s.mark s.rest t.mark t.rest h.passes) h.end
+    at_behind s t span.end (passed_reached s.mark s.rest t.mark t.rest h.1.passes) h.1.end
 token_to i (tokens.Scalar style.Folded value) span s t h =
-    at_behind s t span.end (passed_reached s.mark s.rest t.mark t.rest h.passes) h.end
+    at_behind s t span.end (passed_reached s.mark s.rest t.mark t.rest h.1.passes) h.1.end
 
-pub tokens_at : (text columns : List ℕ) (ps : List Piece) (s u : Cursor) → Reaches (start_cursor text) s
-    → AreTokens columns ps s u → AreAtPlaces text ps
-tokens_at text columns [] s u r h = tt
-tokens_at text columns (p ∷ ps) s u r h =
-    let i = least_column_in columns in
+pub tokens_at : (text : List ℕ) (opened : Collections) (ps : List Piece) (s u : Cursor) → Reaches (start_cursor text) s
+    → AreTokens opened ps s u → AreAtPlaces text ps
+tokens_at text opened [] s u r h = tt
+tokens_at text opened (p ∷ ps) s u r h =
+    let i = surroundings_in opened in
     let a = reaches_reaches (start_cursor text) s h.0 r (apart_reached s.mark s.rest h.0.mark h.0.rest h.2) in
     let b = reaches_reaches (start_cursor text) h.0 h.1 a (token_reached i p.kind p.span h.0 h.1 h.3) in
     let first = place_of text p.span.start
     (at_further (start_cursor text) h.0 p.span.start a (token_at i p.kind p.span h.0 h.1 h.3)) in
     let last = place_of text p.span.end
     (at_further (start_cursor text) h.0 p.span.end a (token_to i p.kind p.span h.0 h.1 h.3)) in
-    ((first, last), tokens_at text (open_behind p.kind p.span.start.col columns) ps h.1 u b h.4)
+    ((first, last), tokens_at text (open_behind p.kind p.span opened) ps h.1 u b h.4)

@@ -13,14 +13,14 @@ use Rattle.saphyr_scanner.specs.Steps.State.{State, start}
 use Rattle.saphyr_scanner.specs.Steps.Fetch.{size, without_far_key, needs_token, fetch_within, any_holds}
 use Rattle.saphyr_scanner.specs.Steps.Remaining.{before_place, hand_out, remaining_after, run, remaining, scan}
 use Rattle.saphyr_scanner.specs.TokensTaken as taken
-use Rattle.saphyr_scanner.specs.TokensTaken.{IsPlaceOf, AreTokens, IsEndOf, AreTakenFrom}
+use Rattle.saphyr_scanner.specs.TokensTaken.{Collections, no_collections, IsPlaceOf, AreTokens, IsEndOf, AreTakenFrom}
 use Rattle.saphyr_scanner.proofs.Effects.Fetch.{Fetched, read_fetched}
 use Rattle.saphyr_scanner.proofs.Filling.{going}
 use Rattle.saphyr_scanner.proofs.Leads.{flat, place_pieces}
 use Rattle.saphyr_scanner.proofs.Effects.Readers.{Readers, TextLaws, RefusalLaws}
 use Rattle.saphyr_scanner.proofs.Taken.Later.{LaterThan, later_here, later_later, tokens_later}
 use Rattle.saphyr_scanner.proofs.Taken.Parts.{open_all, open_append, tokens_append, tokens_part}
-use Rattle.saphyr_scanner.proofs.Taken.Held.{Stack, Key, KeyOf, lower, Keys, keys_weaken}
+use Rattle.saphyr_scanner.proofs.Taken.Held.{Stands, Key, KeyOf, lower, Keys, keys_weaken}
 use Rattle.saphyr_scanner.proofs.Taken.Fetch.{Read, Ready, settled_ready, read_ready}
 use Rattle.saphyr_scanner.proofs.Taken.Places.{Reaches, reaches_reaches, place_of, tokens_reached}
 use Rattle.saphyr_scanner.proofs.Told.Documents.{NotedState}
@@ -72,22 +72,22 @@ abbrev From : List ℕ → Cursor → Type 0
 From text u = LaterThan (start_cursor text) u × Reaches (start_cursor text) u
 
 -- what is left where a place was handed out
-record Left (text : List ℕ) (columns : List ℕ) (from : Cursor) (c : Core) (p : Place) (ps : List Place) (n : ℕ) : Type
+record Left (text : List ℕ) (opened : Collections) (from : Cursor) (c : Core) (p : Place) (ps : List Place) (n : ℕ) : Type
     0 where
   between : Cursor
-  tokens : AreTokens columns (place_pieces p.opening p.piece) from between
+  tokens : AreTokens opened (place_pieces p.opening p.piece) from between
   later : From text between
-  ready : Ready (open_all (place_pieces p.opening p.piece) columns) between (holding c ps (n + 1))
+  ready : Ready (open_all (place_pieces p.opening p.piece) opened) between (holding c ps (n + 1))
 
-one_left : (text : List ℕ) (columns : List ℕ) (from : Cursor) (c : Core) (p : Place) (ps : List Place) (n : ℕ)
-    → From text from → Ready columns from (holding c (p ∷ ps) n)
-    → needs_token (holding c (p ∷ ps) n) ≡ false → Left text columns from c p ps n
-one_left text columns from c p ps n l h e =
+one_left : (text : List ℕ) (opened : Collections) (from : Cursor) (c : Core) (p : Place) (ps : List Place) (n : ℕ)
+    → From text from → Ready opened from (holding c (p ∷ ps) n)
+    → needs_token (holding c (p ∷ ps) n) ≡ false → Left text opened from c p ps n
+one_left text opened from c p ps n l h e =
     let ts = place_pieces p.opening p.piece in
-    let r = tokens_part columns ts (flat ps) from h.taken.last h.taken.tokens in
+    let r = tokens_part opened ts (flat ps) from h.taken.last h.taken.tokens in
     let count : n + length (p ∷ ps) ≡ n + 1 + length ps = omega arith in
-    let further = tokens_later columns ts from r.between r.front in
-    let reached = tokens_reached columns ts from r.between r.front in
+    let further = tokens_later opened ts from r.between r.front in
+    let reached = tokens_reached opened ts from r.between r.front in
     record {
       between = r.between;
       tokens = r.front;
@@ -100,58 +100,58 @@ one_left text columns from c p ps n l h e =
           last = h.taken.last;
           tokens = r.back;
           apart = h.taken.apart;
-          stack = subst (λ cs. Stack cs c.indent c.outer_indents) (open_append ts (flat ps) columns) h.taken.stack;
+          stands = subst (λ (x : Collections). Stands x c) (open_append ts (flat ps) opened) h.taken.stands;
         };
         live = λ f nz.
             let free = not_held c.ended _ f e in
             let k = keys_handed (n + length (p ∷ ps)) n p ps c.indent (c.level ∷ c.outer) free (h.live f nz) in
             keys_weaken (n + length (p ∷ ps)) (n + 1 + length ps) (record { places = ps; handed = n + 1 }) c.indent
             (c.level ∷ c.outer) (omega arith) k;
-        over = λ f u w. h.over f u (tokens_append columns ts (flat ps) from r.between u r.front w);
+        over = λ f u w. h.over f u (tokens_append opened ts (flat ps) from r.between u r.front w);
       };
     }
 
 -- ## What comes
 
-abbrev FollowsTaken : List ℕ → List ℕ → Cursor → Remaining → Type 0
-FollowsTaken text columns from r =
-    (end : Cursor) × AreTokens columns r.pieces from end × (r.refusal ≡ None → end.rest ≡ [])
+abbrev FollowsTaken : List ℕ → Collections → Cursor → Remaining → Type 0
+FollowsTaken text opened from r =
+    (end : Cursor) × AreTokens opened r.pieces from end × (r.refusal ≡ None → end.rest ≡ [])
     × ((e : Refusal) → r.refusal ≡ Some e → IsPlaceOf text e.mark)
 
-place_follows : (text columns : List ℕ) (from between : Cursor) (o : Opening) (t : Piece) (r : Remaining)
-    → AreTokens columns (place_pieces o t) from between
-    → FollowsTaken text (open_all (place_pieces o t) columns) between r
-    → FollowsTaken text columns from (before_place o t r)
-place_follows text columns from between o t r h k =
-    by o (tokens_append columns (place_pieces o t) r.pieces from between k.0 h k.1)
+place_follows : (text : List ℕ) (opened : Collections) (from between : Cursor) (o : Opening) (t : Piece) (r : Remaining)
+    → AreTokens opened (place_pieces o t) from between
+    → FollowsTaken text (open_all (place_pieces o t) opened) between r
+    → FollowsTaken text opened from (before_place o t r)
+place_follows text opened from between o t r h k =
+    by o (tokens_append opened (place_pieces o t) r.pieces from between k.0 h k.1)
   where
-    by : (w : Opening) → AreTokens columns (place_pieces w t ++ r.pieces) from k.0
-        → FollowsTaken text columns from (before_place w t r)
+    by : (w : Opening) → AreTokens opened (place_pieces w t ++ r.pieces) from k.0
+        → FollowsTaken text opened from (before_place w t r)
     by opening.Nothing x = (k.0, x, k.2, k.3)
     by opening.Key x = (k.0, x, k.2, k.3)
     by opening.BlockMappingAndKey x = (k.0, x, k.2, k.3)
     by opening.FlowMappingAndKey x = (k.0, x, k.2, k.3)
 
 handed_follow : (text : List ℕ) (go : State → Remaining) (c : Core)
-    → ((columns : List ℕ) (from : Cursor) (n : ℕ) (ps : List Place) → From text from → (c.ended ≡ true → ps ≡ [])
-    → Ready columns from (holding c ps n) → FollowsTaken text columns from (go (holding c ps n)))
-    → (columns : List ℕ) (from : Cursor) (n : ℕ) (ps : List Place) → From text from
-    → Ready columns from (holding c ps n) → FollowsTaken text columns from (hand_out ps go (holding c ps n))
-handed_follow text go c others columns from n [] l h = others columns from n [] l (λ _. refl) h
-handed_follow text go c others columns from n (p ∷ ps) l h =
-    by_test (needs_token (holding c (p ∷ ps) n)) _ _ (FollowsTaken text columns from)
-    (λ e. others columns from n (p ∷ ps) l (λ f. absurd (let g = going c.ended _ e in cc)) h)
+    → ((opened : Collections) (from : Cursor) (n : ℕ) (ps : List Place) → From text from → (c.ended ≡ true → ps ≡ [])
+    → Ready opened from (holding c ps n) → FollowsTaken text opened from (go (holding c ps n)))
+    → (opened : Collections) (from : Cursor) (n : ℕ) (ps : List Place) → From text from
+    → Ready opened from (holding c ps n) → FollowsTaken text opened from (hand_out ps go (holding c ps n))
+handed_follow text go c others opened from n [] l h = others opened from n [] l (λ _. refl) h
+handed_follow text go c others opened from n (p ∷ ps) l h =
+    by_test (needs_token (holding c (p ∷ ps) n)) _ _ (FollowsTaken text opened from)
+    (λ e. others opened from n (p ∷ ps) l (λ f. absurd (let g = going c.ended _ e in cc)) h)
     (λ e.
-    let w = one_left text columns from c p ps n l h e in
-    place_follows text columns from w.between p.opening p.piece _ w.tokens
-    (handed_follow text go c others (open_all (place_pieces p.opening p.piece) columns) w.between (n + 1) ps w.later
+    let w = one_left text opened from c p ps n l h e in
+    place_follows text opened from w.between p.opening p.piece _ w.tokens
+    (handed_follow text go c others (open_all (place_pieces p.opening p.piece) opened) w.between (n + 1) ps w.later
     w.ready))
 
-delivers_taken : (text columns : List ℕ) (from : Cursor) (r : Result State Refusal) (go : State → Remaining)
-    → ((t : State) → r ≡ Ok t → FollowsTaken text columns from (go t))
-    → ((e : Refusal) → r ≡ Err e → IsPlaceOf text e.mark) → FollowsTaken text columns from (remaining_after r go)
-delivers_taken text columns from (Ok t) go h k = h t refl
-delivers_taken text columns from (Err e) go h k =
+delivers_taken : (text : List ℕ) (opened : Collections) (from : Cursor) (r : Result State Refusal) (go : State → Remaining)
+    → ((t : State) → r ≡ Ok t → FollowsTaken text opened from (go t))
+    → ((e : Refusal) → r ≡ Err e → IsPlaceOf text e.mark) → FollowsTaken text opened from (remaining_after r go)
+delivers_taken text opened from (Ok t) go h k = h t refl
+delivers_taken text opened from (Err e) go h k =
     (from, refl, (λ i. absurd (cc)), (λ f i. k f (let same : e ≡ f = cc in ap (λ (x : Refusal). Err x) same)))
 
 -- the laws of the readers
@@ -161,11 +161,11 @@ pub record AllLaws : Type 0 where
   pub refusals : RefusalLaws
 
 run_follows : AllLaws → (text : List ℕ) → length text < 2 ^ 63
-    → (limit fuel : ℕ) (columns : List ℕ) (from : Cursor) (s : State) → From text from → size s.core < fuel
-    → Ready columns from s
-    → NotedState s → FollowsTaken text columns from (run fuel limit s)
-run_follows laws text small limit zero columns from s l f h m = absurd (omega (arith, f))
-run_follows laws text small limit (suc fuel) columns from s l f h m =
+    → (limit fuel : ℕ) (opened : Collections) (from : Cursor) (s : State) → From text from → size s.core < fuel
+    → Ready opened from s
+    → NotedState s → FollowsTaken text opened from (run fuel limit s)
+run_follows laws text small limit zero opened from s l f h m = absurd (omega (arith, f))
+run_follows laws text small limit (suc fuel) opened from s l f h m =
     handed_follow text _ s.core
     (λ cs u n ps k over w.
     let t : State = holding s.core ps n in
@@ -181,29 +181,29 @@ run_follows laws text small limit (suc fuel) columns from s l f h m =
     (given_of (Ready cs u) r v (read_ready laws.texts text small limit cs u t k.0 e w) q)
     (told_ok NotedState (start_cursor text) r v told q))
     (λ g q. place_of text g.mark (told_err NotedState (start_cursor text) r g told q))))
-    columns from s.queue.handed s.queue.places l h
+    opened from s.queue.handed s.queue.places l h
 
-start_read : (text : List ℕ) → Read [] (start_cursor text) (start text)
+start_read : (text : List ℕ) → Read no_collections (start_cursor text) (start text)
 start_read text = record {
   fetched = record {
-    taken = record { last = start_cursor text; tokens = refl; apart = taken.nothing _ _; stack = (refl, refl) };
-    live = λ _. inl (λ nz. ((λ _. refl), tt, tt));
+    taken = record { last = start_cursor text; tokens = refl; apart = taken.nothing _ _; stands = ((refl, refl), refl) };
+    live = λ _. inl (λ nz. (refl, tt, tt));
   };
   over = λ e. absurd (cc);
 }
 
 scan_follows : AllLaws → (limit : ℕ) (text : List ℕ) → length text < 2 ^ 63
-    → FollowsTaken text [] (start_cursor text) (scan limit text)
+    → FollowsTaken text no_collections (start_cursor text) (scan limit text)
 unfolding remaining
 scan_follows laws limit text small =
     let s : State = start text in
     let here : Reaches (start_cursor text) (start_cursor text) = taken.nothing _ _ in
     let told = settled_told text s here (inl refl) in
-    delivers_taken text [] (start_cursor text) (without_far_key s) (λ t. run (suc (size t.core)) limit t)
-    (λ t e. run_follows laws text small limit (suc (size t.core)) [] (start_cursor text) t
+    delivers_taken text no_collections (start_cursor text) (without_far_key s) (λ t. run (suc (size t.core)) limit t)
+    (λ t e. run_follows laws text small limit (suc (size t.core)) no_collections (start_cursor text) t
     (later_here (start_cursor text).mark text, here) (omega arith)
-    (given_of (Ready [] (start_cursor text)) (without_far_key s) t
-    (settled_ready [] (start_cursor text) s (start_read text)) e)
+    (given_of (Ready no_collections (start_cursor text)) (without_far_key s) t
+    (settled_ready no_collections (start_cursor text) s (start_read text)) e)
     (told_ok NotedState (start_cursor text) (without_far_key s) t told e))
     (λ g q. place_of text g.mark (told_err NotedState (start_cursor text) (without_far_key s) g told q))
 

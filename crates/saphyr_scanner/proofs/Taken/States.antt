@@ -1,6 +1,6 @@
 -- What is known between tokens: behind a block scalar a candidate is too far in front to be a key.
 use Rattle.std.proofs.Common.{◌≡◌, ℕ, ◌^◌, ◌≤◌, ◌<◌, ◌⊎◌, Bool, true, false, List, [], ◌∷◌, length, Option, Ok, Some, None, refl, sym, ap, ◌∙◌, arith, subst, inl, inr}
-use Rattle.std.specs.Prelude.{◌&&◌, slice_index}
+use Rattle.std.specs.Prelude.{◌&&◌, slice_index, nat_lt}
 use Rattle.saphyr_input.specs.Classes.{is_z}
 use Rattle.scalar_values.specs.declared.block.BlockStyle.{BlockStyle}
 use Rattle.scalar_values.specs.declared.block.BlockStyle.TheVariants as block_style
@@ -18,13 +18,13 @@ use Rattle.saphyr_scanner.specs.Steps.Scalar as scalar
 use Rattle.saphyr_scanner.specs.Steps.State.{State, with_core}
 use Rattle.saphyr_scanner.specs.Steps.Unrolling.{unroll, end_blocks, end_block, is_right_of, with_outer_indent, go_less_deep}
 use Rattle.saphyr_scanner.specs.TokensTaken as taken
-use Rattle.saphyr_scanner.specs.TokensTaken.{AreTokens, IsToken, IsBlockScalarToken, IsPlaceOrEnd}
+use Rattle.saphyr_scanner.specs.TokensTaken.{Collections, AreTokens, IsToken, IsBlockScalarToken, IsPlaceOrEnd}
 use Rattle.saphyr_scanner.proofs.Blocks.{block_cursor, go_less_deep_cursor}
 use Rattle.saphyr_scanner.proofs.Leads.{flat}
 use Rattle.saphyr_scanner.proofs.Taken.Later.{top, Later, LaterThan, later_later, apart_later, token_later, tokens_later}
 use Rattle.saphyr_scanner.proofs.Taken.Parts.{tokens_part}
 use Rattle.saphyr_scanner.proofs.Taken.Held.{Stack, Taken, taken_further, taken_put, Key, Keys}
-use Rattle.saphyr_scanner.proofs.Taken.Cores.{HoldsTaken, Saved, no_keys}
+use Rattle.saphyr_scanner.proofs.Taken.Cores.{HoldsTaken, Saved, no_keys, outermost}
 use Rattle.saphyr_scanner.proofs.Taken.Cores.{saved_taken, first_at, apart_same}
 use Rattle.saphyr_scanner.proofs.Taken.Cores.{key_known}
 use Rattle.saphyr_scanner.proofs.Effects.Readers.{TextLaws}
@@ -45,25 +45,25 @@ pub record CandidateStands (k : Candidate) (c : Core) : Type 0 where
   pub small : k.mark.line ≤ top
   pub later : Later k.mark text c.cursor.mark c.cursor.rest
 
-pub taken_later : (columns : List ℕ) (from : Cursor) (c : Core) (q : Queue) → Taken columns from c q
+pub taken_later : (opened : Collections) (from : Cursor) (c : Core) (q : Queue) → Taken opened from c q
     → LaterThan from c.cursor
-taken_later columns from c q h =
+taken_later opened from c q h =
     later_later from.mark from.rest h.last.mark h.last.rest c.cursor.mark c.cursor.rest
-    (tokens_later columns (flat q.places) from h.last h.tokens)
+    (tokens_later opened (flat q.places) from h.last h.tokens)
     (apart_later h.last.mark h.last.rest c.cursor.mark c.cursor.rest h.apart)
 
-pub key_stands : (columns : List ℕ) (from : Cursor) (c : Core) (q : Queue) (b : ℕ) (block : Bool) (i : ℕ)
-    (k : Candidate) → from.mark.line ≤ top → Taken columns from c q → Key b q block i k → CandidateStands k c
-key_stands columns from c q b block i k l h x =
-    let P : List Place → Type 0 = λ ps. AreTokens columns (flat ps) from h.last in
-    let Q : List Piece → Type 0 = λ ps. AreTokens columns ps from h.last in
-    let r = tokens_part columns (flat x.front) (x.token ∷ flat x.back) from h.last
+pub key_stands : (opened : Collections) (from : Cursor) (c : Core) (q : Queue) (b : ℕ) (block : Bool) (i : ℕ)
+    (k : Candidate) → from.mark.line ≤ top → Taken opened from c q → Key b q block i k → CandidateStands k c
+key_stands opened from c q b block i k l h x =
+    let P : List Place → Type 0 = λ ps. AreTokens opened (flat ps) from h.last in
+    let Q : List Piece → Type 0 = λ ps. AreTokens opened ps from h.last in
+    let r = tokens_part opened (flat x.front) (x.token ∷ flat x.back) from h.last
     (subst Q (flat_append x.front (bare_place x.token ∷ x.back)) (subst P x.places h.tokens)) in
     let here = r.back.0 in
     let behind = r.back.1 in
     let same : here.mark ≡ k.mark = sym (x.begins _ here behind r.back.3).0 ∙ x.marked in
     let first = later_later from.mark from.rest r.between.mark r.between.rest here.mark here.rest
-    (tokens_later columns (flat x.front) from r.between r.front)
+    (tokens_later opened (flat x.front) from r.between r.front)
     (apart_later r.between.mark r.between.rest here.mark here.rest r.back.2) in
     let one = token_later _ x.token.kind x.token.span here behind r.back.3 in
     let others = tokens_later _ (flat x.back) behind h.last r.back.4 in
@@ -83,23 +83,24 @@ Live c q = is_z (slice_index c.cursor.rest 0) ≡ false → Keys (next q) q c.in
 abbrev pub IsFar : Core → Type 0
 IsFar c = ((in_block c && is_too_far c.level.key c.cursor.mark) ≡ true) × (c.outer ≡ [])
 
-pub record Fetched (columns : List ℕ) (from : Cursor) (c : Core) (q : Queue) : Type 0 where
-  pub taken : Taken columns from c q
+pub record Fetched (opened : Collections) (from : Cursor) (c : Core) (q : Queue) : Type 0 where
+  pub taken : Taken opened from c q
   pub live : c.ended ≡ false → Live c q ⊎ IsFar c
 
-pub holds_fetched : (columns : List ℕ) (from : Cursor) (c : Core) (q : Queue) → HoldsTaken columns from c q
-    → Fetched columns from c q
-holds_fetched columns from c q h = record { taken = h.taken; live = λ e. inl (λ f. h.keys) }
+pub holds_fetched : (opened : Collections) (from : Cursor) (c : Core) (q : Queue) → HoldsTaken opened from c q
+    → Fetched opened from c q
+holds_fetched opened from c q h = record { taken = h.taken; live = λ e. inl (λ f. h.keys) }
 
-abbrev pub FetchedStep : List ℕ → Cursor → Queue → Step → Type 0
-FetchedStep columns from q x = Fetched columns from x.core (perform x.actions q)
+abbrev pub FetchedStep : Collections → Cursor → Queue → Step → Type 0
+FetchedStep opened from q x = Fetched opened from x.core (perform x.actions q)
 
 -- ## Block scalars
 
 block_token : (style : BlockStyle) (i : ℕ) (value : List ℕ) (span : Span) (s t : Cursor)
-    → IsBlockScalarToken style i value span s t → IsToken i (tokens.Scalar (scalar.style_of style) value) span s t
-block_token block_style.Literal i value span s t h = h
-block_token block_style.Folded i value span s t h = h
+    → IsBlockScalarToken style i value span s t
+    → IsToken (record { in_flow = false; indent = i }) (tokens.Scalar (scalar.style_of style) value) span s t
+block_token block_style.Literal i value span s t h = (refl, h)
+block_token block_style.Folded i value span s t h = (refl, h)
 
 pub too_far : (k : Candidate) (m : Marker) → k.mark.line < m.line → is_too_far (Some k) m ≡ true
 too_far k m h = let e = lt-ltb k.mark.line m.line h in rw e refl
@@ -109,9 +110,9 @@ far_of : (c : Core) (o : Option Candidate) → c.level.key ≡ o → in_block c 
 far_of c o e b k f l = rw b (ap (λ x. is_too_far x c.cursor.mark) (e ∙ f) ∙ too_far k c.cursor.mark l)
 
 -- a saved key stands here or before
-key_line : (columns : List ℕ) (from : Cursor) (q : Queue) (c d : Core) → from.mark.line ≤ top → Saved (next q) c d
-    → HoldsTaken columns from c q → (k : Candidate) → d.level.key ≡ Some k → k.mark.line ≤ d.cursor.mark.line
-key_line columns from q c d l s h k i = by s.level
+key_line : (opened : Collections) (from : Cursor) (q : Queue) (c d : Core) → from.mark.line ≤ top → Saved (next q) c d
+    → HoldsTaken opened from c q → (k : Candidate) → d.level.key ≡ Some k → k.mark.line ≤ d.cursor.mark.line
+key_line opened from q c d l s h k i = by s.level
   where
     same : d.cursor.mark.line ≡ c.cursor.mark.line
     same = ap (λ (y : Cursor). y.mark.line) s.cursor
@@ -120,7 +121,7 @@ key_line columns from q c d l s h k i = by s.level
     old o e f =
         let known = key_known (next q) q (is_block c.level.context) c.indent c.level.key k c.outer (e ∙ f) h.keys.1
         h.keys.2 in
-        let stands = key_stands columns from c q (next q) (is_block c.level.context) c.indent k l h.taken known.0 in
+        let stands = key_stands opened from c q (next q) (is_block c.level.context) c.indent k l h.taken known.0 in
         let lines = stands.later.lines stands.small in
         let u = same in
         omega (arith, lines.0, u)
@@ -138,16 +139,16 @@ key_line columns from q c d l s h k i = by s.level
         omega (arith, n, u)
 
 pub block_fetched : TextLaws → (text : List ℕ) → length text < 2 ^ 63
-    → (columns : List ℕ) (from : Cursor) (q : Queue) (style : BlockStyle) (c d : Core)
+    → (opened : Collections) (from : Cursor) (q : Queue) (style : BlockStyle) (c d : Core)
     → LaterThan (start_cursor text) from
-    → Saved (next q) c d → HoldsTaken columns from c q → in_block c ≡ true → in_block d ≡ true
+    → Saved (next q) c d → HoldsTaken opened from c q → in_block c ≡ true → in_block d ≡ true
     → slice_index c.cursor.rest 0 ≡ taken.block_indicator style → (x : List ℕ × Span × Cursor)
     → blocks.block_scalar style d.indent d.cursor ≡ Ok x
-    → Fetched columns from (with_cursor x.2 d) (with_piece (record {
+    → Fetched opened from (with_cursor x.2 d) (with_piece (record {
       span = record { start = x.1.start; end = x.1.end };
       kind = tokens.Scalar (scalar.style_of style) x.0;
     }) q)
-block_fetched laws text small columns from q style c d l s h b bd f x e =
+block_fetched laws text small opened from q style c d l s h b bd f x e =
     let first : slice_index d.cursor.rest 0 ≡ taken.block_indicator style =
     first_at (taken.block_indicator style) c.cursor d.cursor s.cursor f in
     let p = laws.block_place style d.indent d.cursor x.2 x.0 x.1 first e in
@@ -163,81 +164,35 @@ block_fetched laws text small columns from q style c d l s h b bd f x e =
       passes = p.passes;
       end = p.end;
     } in
-    let held = saved_taken columns from (next q) c d q s h.taken in
+    let held = saved_taken opened from (next q) c d q s h.taken in
     let e2 : Core = with_cursor x.2 d in
     let from_small : from.mark.line ≤ top = (l.lines (omega arith)).1 in
     let l2 : from.mark.line ≤ top = from_small in
     let r = later_later (start_cursor text).mark text from.mark from.rest d.cursor.mark d.cursor.rest l
-    (taken_later columns from d q held) in
-    let none : c.outer ≡ [] = h.keys.0 b in
+    (taken_later opened from d q held) in
+    let none : c.outer ≡ [] = outermost opened from c q h b in
     let by : (o : Option Candidate) → d.level.key ≡ o → d.cursor.mark.line < x.2.mark.line
     → (Live e2 (with_piece piece q)) ⊎ (IsFar e2) =
     λ o g less. elim o as (λ y. d.level.key ≡ y → (Live e2 (with_piece piece q)) ⊎ (IsFar e2)) [
       | None ↦ λ i. inl (λ nz. no_keys (next (with_piece piece q)) (with_piece piece q) d.indent d.level d.outer i
-          (s.outer ∙ none))
+          (s.outer ∙ none) bd)
       | Some k ↦ λ i. inr (
         far_of e2 (Some k) i bd k refl
-            (let w = key_line columns from q c d l2 s h k i in omega (arith, w, less)),
+            (let w = key_line opened from q c d l2 s h k i in omega (arith, w, less)),
         s.outer ∙ none,
       )
     ] g in
+    let There : List Level → Type 0 = λ ls. IsToken (record { in_flow = nat_lt 0 (length ls); indent = d.indent })
+    (tokens.Scalar (scalar.style_of style) x.0) x.1 d.cursor x.2 in
     record {
-      taken = taken_put columns from d e2 q piece d.cursor x.2 (taken.nothing _ _)
-          (block_token style d.indent x.0 x.1 d.cursor x.2 is) (taken.nothing _ _) (λ cs k. k) held;
+      taken = taken_put opened from d e2 q piece d.cursor x.2 (taken.nothing _ _)
+          (subst There (sym (s.outer ∙ none)) (block_token style d.indent x.0 x.1 d.cursor x.2 is))
+          (taken.nothing _ _) (λ cs k. k) held;
       live = λ _. elim (p.line (line_small text d.cursor small r))
           [ inl less ↦ by d.level.key refl less | inr z ↦ inl (λ nz. absurd (cc)) ];
     }
 
 -- ## Block collections end
-
-outer_indent_stack : (is columns : List ℕ) (c : Core) → Stack columns c.indent is
-    → Stack (taken.without_innermost columns) (with_outer_indent is c).indent (with_outer_indent is c).outer_indents
-outer_indent_stack [] [] c h = (refl, refl)
-outer_indent_stack [] (column ∷ columns) c h = absurd h
-outer_indent_stack (j ∷ is) [] c h = absurd (let e = h.1 in cc)
-outer_indent_stack (j ∷ is) (column ∷ columns) c h = h.1
-
-abbrev pub TakenState : List ℕ → Cursor → State → Type 0
-TakenState columns from s = Taken columns from s.core s.queue
-
-place_same : (s t : Cursor) (m : Marker) → t ≡ s → IsPlaceOrEnd s m → IsPlaceOrEnd t m
-place_same s t m e p = let P : Cursor → Type 0 = λ u. IsPlaceOrEnd u m in subst P (sym e) p
-
-block_taken : (columns : List ℕ) (from : Cursor) (m : Marker) (s : State) → IsPlaceOrEnd s.core.cursor m
-    → TakenState columns from s → TakenState columns from (end_block m s)
-block_taken columns from m s p h =
-    taken_put columns from s.core (end_block m s).core s.queue (empty_piece m tokens.BlockEnd) s.core.cursor
-    s.core.cursor (taken.nothing _ _) (refl, p, refl)
-    (apart_same s.core.cursor (end_block m s).core.cursor (block_cursor m s))
-    (λ cs k. outer_indent_stack s.core.outer_indents cs s.core k) h
-
-blocks_taken : (columns : List ℕ) (from : Cursor) (column : Option ℕ) (m : Marker) (is : List ℕ) (s : State)
-    → IsPlaceOrEnd s.core.cursor m → TakenState columns from s → TakenState columns from (end_blocks column m is s)
-blocks_taken columns from column m [] s p h =
-    by_test (is_right_of column s.core.indent) _ _ (TakenState columns from) (λ _. block_taken columns from m s p h)
-    (λ _. h)
-blocks_taken columns from column m (i ∷ is) s p h =
-    by_test (is_right_of column s.core.indent) _ _ (TakenState columns from)
-    (λ _. blocks_taken columns from column m is (end_block m s)
-    (place_same s.core.cursor (end_block m s).core.cursor m (block_cursor m s) p)
-    (block_taken columns from m s p h)) (λ _. h)
-
-go_less_deep_taken : (columns : List ℕ) (from : Cursor) (column : Option ℕ) (s : State) → TakenState columns from s
-    → TakenState columns from (with_core (go_less_deep column s.core) s)
-go_less_deep_taken columns from None s h =
-    taken_further columns from s.core (go_less_deep None s.core) s.queue (taken.nothing _ _) refl refl h
-go_less_deep_taken columns from (Some column) s h =
-    taken_further columns from s.core (go_less_deep (Some column) s.core) s.queue (taken.nothing _ _) refl refl h
-
-pub unroll_taken : (columns : List ℕ) (from : Cursor) (column : Option ℕ) (m : Marker) (s : State)
-    → IsPlaceOrEnd s.core.cursor m → TakenState columns from s → TakenState columns from (unroll column m s)
-unfolding unroll
-unroll_taken columns from column m s p h =
-    let t : State = with_core (go_less_deep column s.core) s in
-    by_test (in_block s.core) _ _ (TakenState columns from)
-    (λ _. blocks_taken columns from column m s.core.outer_indents t
-    (place_same s.core.cursor t.core.cursor m (go_less_deep_cursor column s.core) p)
-    (go_less_deep_taken columns from column s h)) (λ _. h)
 
 -- the levels stay
 pub record Levels (c d : Core) : Type 0 where
@@ -247,6 +202,58 @@ pub record Levels (c d : Core) : Type 0 where
 outer_indent_levels : (is : List ℕ) (c : Core) → Levels c (with_outer_indent is c)
 outer_indent_levels [] c = record { level = refl; outer = refl }
 outer_indent_levels (i ∷ is) c = record { level = refl; outer = refl }
+
+outer_indent_stack : (is columns : List ℕ) (c : Core) → Stack columns c.indent is
+    → Stack (taken.without_innermost columns) (with_outer_indent is c).indent (with_outer_indent is c).outer_indents
+outer_indent_stack [] [] c h = (refl, refl)
+outer_indent_stack [] (column ∷ columns) c h = absurd h
+outer_indent_stack (j ∷ is) [] c h = absurd (let e = h.1 in cc)
+outer_indent_stack (j ∷ is) (column ∷ columns) c h = h.1
+
+abbrev pub TakenState : Collections → Cursor → State → Type 0
+TakenState opened from s = Taken opened from s.core s.queue
+
+place_same : (s t : Cursor) (m : Marker) → t ≡ s → IsPlaceOrEnd s m → IsPlaceOrEnd t m
+place_same s t m e p = let P : Cursor → Type 0 = λ u. IsPlaceOrEnd u m in subst P (sym e) p
+
+block_taken : (opened : Collections) (from : Cursor) (m : Marker) (s : State) → IsPlaceOrEnd s.core.cursor m
+    → TakenState opened from s → TakenState opened from (end_block m s)
+block_taken opened from m s p h =
+    taken_put opened from s.core (end_block m s).core s.queue (empty_piece m tokens.BlockEnd) s.core.cursor
+    s.core.cursor (taken.nothing _ _) (refl, p, refl)
+    (apart_same s.core.cursor (end_block m s).core.cursor (block_cursor m s))
+    (λ x k. (
+      outer_indent_stack s.core.outer_indents x.columns s.core k.0,
+      k.1 ∙ sym (ap length (outer_indent_levels s.core.outer_indents s.core).outer),
+    )) h
+
+blocks_taken : (opened : Collections) (from : Cursor) (column : Option ℕ) (m : Marker) (is : List ℕ) (s : State)
+    → IsPlaceOrEnd s.core.cursor m → TakenState opened from s → TakenState opened from (end_blocks column m is s)
+blocks_taken opened from column m [] s p h =
+    by_test (is_right_of column s.core.indent) _ _ (TakenState opened from) (λ _. block_taken opened from m s p h)
+    (λ _. h)
+blocks_taken opened from column m (i ∷ is) s p h =
+    by_test (is_right_of column s.core.indent) _ _ (TakenState opened from)
+    (λ _. blocks_taken opened from column m is (end_block m s)
+    (place_same s.core.cursor (end_block m s).core.cursor m (block_cursor m s) p)
+    (block_taken opened from m s p h)) (λ _. h)
+
+go_less_deep_taken : (opened : Collections) (from : Cursor) (column : Option ℕ) (s : State) → TakenState opened from s
+    → TakenState opened from (with_core (go_less_deep column s.core) s)
+go_less_deep_taken opened from None s h =
+    taken_further opened from s.core (go_less_deep None s.core) s.queue (taken.nothing _ _) refl refl refl h
+go_less_deep_taken opened from (Some column) s h =
+    taken_further opened from s.core (go_less_deep (Some column) s.core) s.queue (taken.nothing _ _) refl refl refl h
+
+pub unroll_taken : (opened : Collections) (from : Cursor) (column : Option ℕ) (m : Marker) (s : State)
+    → IsPlaceOrEnd s.core.cursor m → TakenState opened from s → TakenState opened from (unroll column m s)
+unfolding unroll
+unroll_taken opened from column m s p h =
+    let t : State = with_core (go_less_deep column s.core) s in
+    by_test (in_block s.core) _ _ (TakenState opened from)
+    (λ _. blocks_taken opened from column m s.core.outer_indents t
+    (place_same s.core.cursor t.core.cursor m (go_less_deep_cursor column s.core) p)
+    (go_less_deep_taken opened from column s h)) (λ _. h)
 
 levels_levels : (c d e : Core) → Levels c d → Levels d e → Levels c e
 levels_levels c d e a b = record { level = b.level ∙ a.level; outer = b.outer ∙ a.outer }
