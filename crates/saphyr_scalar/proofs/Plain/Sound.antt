@@ -28,10 +28,10 @@ same_reading x y e = cc
 
 abbrev Hypothesis : ℕ → Bool → ℕ → Marker → Type 0
 Hypothesis n f i a = (m : Marker) (xs : List ℕ) → length xs ≤ n → is_in_word f xs ≡ true → Begins m xs → (x : Read)
-    → word f i a m xs ≡ Ok x → WordReads m xs x
+    → word f i a m xs ≡ Ok x → WordReads f m xs x
 
 word_turn : (n : ℕ) (f : Bool) (i : ℕ) (a m : Marker) (xs : List ℕ) → Hypothesis n f i a → length xs ≤ suc n
-    → is_in_word f xs ≡ true → Begins m xs → (x : Read) → word f i a m xs ≡ Ok x → WordReads m xs x
+    → is_in_word f xs ≡ true → Begins m xs → (x : Read) → word f i a m xs ≡ Ok x → WordReads f m xs x
 word_turn n f i a m xs hyp short goes begins x is =
     by_gap (gap i a (mid_line end left)) refl
     (sym (all_word f i a m xs ∙ ap (with_text text) (word_over f i a end left (word_stops f xs))) ∙ is)
@@ -49,13 +49,13 @@ word_turn n f i a m xs hyp short goes begins x is =
     text = encode_utf8_all (take k xs)
 
     Goal : Type 0
-    Goal = WordReads m xs x
+    Goal = WordReads f m xs x
 
     by_rest : (g : PlainGap) → GapReads left end g → length g.behind.rest ≤ n → is_in_word f g.behind.rest ≡ true
         → Begins g.behind.mark g.behind.rest → (r : PlainScalarRead) → word f i a g.behind.mark g.behind.rest ≡ r
         → with_text text (with_text g.text r) ≡ Ok x → Goal
     by_rest g reads less on starts (Ok y) eq e =
-        subst (WordReads m xs) (same_reading _ x e)
+        subst (WordReads f m xs) (same_reading _ x e)
         (word_more f m xs g y goes begins (front_of f xs goes) reads
         (hyp g.behind.mark g.behind.rest less on starts y eq))
     by_rest g reads less on starts (Err r) eq e = absurd (no_reading r x e)
@@ -64,7 +64,7 @@ word_turn n f i a m xs hyp short goes begins x is =
         → next_word_starts f i g.behind ≡ Ok (b, u)
         → with_text text (if b then with_text g.text (word f i a u.mark u.rest) else scalar_end f end g) ≡ Ok x → Goal
     by_goes g eq false u q e =
-        subst (WordReads m xs) (same_reading _ x e)
+        subst (WordReads f m xs) (same_reading _ x e)
         (last_word f m xs g goes begins (front_of f xs goes) (gap_reads i a left end g eq))
     by_goes g eq true u q e =
         let says = goes_says f i true g.behind u q in
@@ -101,19 +101,20 @@ word_reads (suc n) f i a m xs short goes begins x is =
 -- the scalar
 
 pub plain_reads : (f : Bool) (i : ℕ) (s t : Cursor) (text : List ℕ) (end : Marker) (comment : Option Marker)
-    → plain f i s ≡ Ok (text, end, comment, t) → IsPlainReading s text end t
+    → plain f i s ≡ Ok (text, end, comment, t) → IsPlainReading f s text end t
 unfolding plain
 plain_reads f i s t text end comment is = by_start (word_starts f s) refl is
   where
     x : Read
     x = (text, end, comment, t)
 
-    from_word : WordReads s.mark s.rest x → IsPlainReading s text end t
+    from_word : WordReads f s.mark s.rest x → IsPlainReading f s text end t
     from_word r = record {
       piece = r.first ∷ r.others;
       white = r.white;
       is = r.is;
       spelled = r.spelled;
+      safe = r.safe;
       front = r.closes.front;
       last = r.closes.last;
       closes = r.closes.is;
@@ -127,7 +128,7 @@ plain_reads f i s t text end comment is = by_start (word_starts f s) refl is
 
     by_first : (b : Bool) (u : Cursor) → word_starts f s ≡ Ok (b, u)
         → (if b then word f i s.mark u.mark u.rest else refuse fault.PlainEnd s.mark) ≡ Ok x
-        → IsPlainReading s text end t
+        → IsPlainReading f s text end t
     by_first false u q e = absurd (no_reading _ x e)
     by_first true u q e =
         let says = starts_says f true s u q in
@@ -136,7 +137,7 @@ plain_reads f i s t text end comment is = by_start (word_starts f s) refl is
 
     by_start : (r : Result (Bool × Cursor) Refusal) → word_starts f s ≡ r
         → (r >>= λ b. if b.0 then word f i s.mark b.1.mark b.1.rest else refuse fault.PlainEnd s.mark) ≡ Ok x
-        → IsPlainReading s text end t
+        → IsPlainReading f s text end t
     by_start (Ok b) q e = by_first b.0 b.1 q e
     by_start (Err r) q e = absurd (no_reading r x e)
 

@@ -3,20 +3,20 @@ use Rattle.std.proofs.Common.{◌≡◌, ◌≢◌, ℕ, suc, ◌+◌, ◌<◌, 
 use Rattle.std.specs.Prelude.{◌||◌, ◌&&◌, ◌==◌, not, nat_lt, if◌then◌else◌, IsFalse}
 use Rattle.std.proofs.lemmas.Bool.Decides.{nat_tests}
 use Rattle.std.proofs.lemmas.List.{take-append-drop}
-use Rattle.saphyr_input.specs.Classes.{is_blank, is_break, is_z, is_bom, is_flow, is_blank_or_breakz}
+use Rattle.saphyr_input.specs.Classes.{is_blank, is_break, is_z, is_bom, is_flow, is_blank_or_breakz, byte_order_mark}
 use Rattle.saphyr_input.specs.Places.{is_blank_or_break, is_document_indicator, can_be_plain}
 use Rattle.saphyr_scalar.specs.Spelling.Tag.{AreIn}
 use Rattle.saphyr_scalar.specs.declared.scalar.position.Marker.{Marker}
 use Rattle.saphyr_scalar.specs.declared.scalar.fault.Refusal.{Refusal}
 use Rattle.saphyr_scalar.specs.Views.Cursor.{Cursor, along, next_line}
 use Rattle.saphyr_scalar.specs.Steps.Plain.{is_in_word, word_len, word_starts, next_word_starts, ends_line}
-use Rattle.saphyr_scalar.specs.Reading.Plain.{end_of_text, IsSpelledPlain, ends_piece}
+use Rattle.saphyr_scalar.specs.Reading.Plain.{end_of_text, IsSpelledPlain, IsSafeInFlow, ends_piece}
 use Rattle.saphyr_scalar.proofs.Moving.{along_none, along_more}
 use Rattle.saphyr_scalar.proofs.Quoted.Inside.{break_cases}
 use Rattle.saphyr_scalar.proofs.Plain.Words.{word_left}
 use Rattle.saphyr_scalar.proofs.Plain.Runs.{Ink, AreInk, NoFeed, same_ends}
-use Rattle.std.proofs.lemmas.Bool.{false≢true}
-use Rattle.saphyr_input.specs.Indicators.{number_sign}
+use Rattle.std.proofs.lemmas.Bool.{false≢true, eqb-true}
+use Rattle.saphyr_input.specs.Indicators.{colon, number_sign}
 use Rattle.saphyr_input.proofs.Basics.Booleans.{by_test}
 use Rattle.saphyr_input.proofs.Basics.Characters.{blank_cases}
 
@@ -176,6 +176,18 @@ white_character c cs h = by_blank (is_blank c) refl
           no_marker = refl;
         })
 
+-- no blank or break is a flow indicator
+white_no_flow : (c : ℕ) → IsTrue (is_blank_or_break c) → is_flow c ≡ false
+white_no_flow c h = by_blank (is_blank c) refl
+  where
+    other : (a b : Bool) → a ≡ false → (a || b) ≡ true → b ≡ true
+    other false b e x = x
+    other true b e x = absurd (cc)
+
+    by_blank : (b : Bool) → is_blank c ≡ b → is_flow c ≡ false
+    by_blank true e = blank_cases c e (λ x. is_flow x ≡ false) refl refl
+    by_blank false e = break_cases c (other (is_blank c) (is_break c) e h) (λ x. is_flow x ≡ false) refl refl
+
 spelled_apart_or_not : (m : Marker) (apart : Bool) (cs behind : List ℕ) → IsSpelledPlain m true cs behind
     → IsSpelledPlain m apart cs behind
 spelled_apart_or_not m apart [] behind h = tt
@@ -199,6 +211,60 @@ white_spelled m apart (c ∷ v) next behind are none h =
           (white_spelled (if ends_line c v then next_line m 1 else along m 1) (is_blank_or_break c) v next behind are.1
           none h),
     )
+
+-- inside flow
+
+flow_character : (c : ℕ) (cs : List ℕ) → is_in_word true (c ∷ cs) ≡ true
+    → IsFalse (is_flow c) × (c ≡ colon → IsFalse (is_flow (slice_index cs 0)))
+unfolding is_in_word
+flow_character c cs h = (
+  by_colon (c == colon) refl,
+  λ e. next (is_blank_or_breakz (slice_index cs 0)) (is_flow (slice_index cs 0))
+      (subst (λ x. (not (is_blank_or_breakz x) && can_be_plain true (x ∷ cs)) ≡ true) e h),
+)
+  where
+    next : (a b : Bool) → (true && not (a || (true && b))) ≡ true → b ≡ false
+    next false false x = refl
+    next false true x = absurd (cc)
+    next true b x = absurd (cc)
+
+    by_colon : (b : Bool) → (c == colon) ≡ b → is_flow c ≡ false
+    by_colon true e = ap is_flow (eqb-true c colon e)
+    by_colon false e = none (not (is_blank_or_breakz c)) (c == colon) _ (c == byte_order_mark) (is_flow c) e h
+      where
+        none : (w x y z f : Bool) → x ≡ false → (w && (if x then y else not (z || (true && f)))) ≡ true → f ≡ false
+        none true false y false false g k = refl
+        none true false y false true g k = absurd (cc)
+        none true false y true f g k = absurd (cc)
+        none true true y z f g k = absurd (cc)
+        none false x y z f g k = absurd (cc)
+
+pub word_safe : (xs y behind : List ℕ) → drop (word_len true xs) xs ≡ y ++ behind → IsSafeInFlow y behind
+    → IsSafeInFlow (take (word_len true xs) xs ++ y) behind
+word_safe [] y behind = λ e h. h
+word_safe (c ∷ cs) y behind =
+    by_test (is_in_word true (c ∷ cs)) (1 + word_len true cs) 0
+    (λ n. drop n (c ∷ cs) ≡ y ++ behind → IsSafeInFlow y behind → IsSafeInFlow (take n (c ∷ cs) ++ y) behind)
+    (λ goes.
+    let n = word_len true cs in
+    let one : 1 + n ≡ suc n = omega arith in
+    let Goal : ℕ → Type 0 = λ k. drop k (c ∷ cs) ≡ y ++ behind → IsSafeInFlow y behind
+    → IsSafeInFlow (take k (c ∷ cs) ++ y) behind in
+    let next : Goal (suc n) = λ e h.
+    let w = flow_character c cs goes in (
+      w.0,
+      λ k. subst (λ (l : List ℕ). IsFalse (is_flow (slice_index l 0))) (sym (taken_and_left cs y behind n e)) (w.1 k),
+      word_safe cs y behind e h,
+    ) in
+    subst Goal (sym one) next)
+    (λ _ e h. h)
+
+pub white_safe : (v next behind : List ℕ) → AreIn is_blank_or_break v → IsSafeInFlow next behind
+    → IsSafeInFlow (v ++ next) behind
+white_safe [] next behind are h = h
+white_safe (c ∷ v) next behind are h =
+    let w = white_character c (v ++ next) are.0 in
+    (white_no_flow c are.0, λ e. absurd (w.no_colon e), white_safe v next behind are.1 h)
 
 -- what stands behind a word
 pub word_follows : (f : Bool) (xs : List ℕ) → is_in_word f xs ≡ false → IsTrue (ends_piece (slice_index xs 0))

@@ -10,10 +10,10 @@ use Rattle.saphyr_scalar.specs.declared.scalar.position.Marker.{Marker}
 use Rattle.saphyr_scalar.specs.Views.Cursor.{Cursor, along}
 use Rattle.scalar_values.specs.Folding.{folded}
 use Rattle.saphyr_scalar.specs.Steps.Plain.{is_in_word, word_len, comment_of, PlainGap}
-use Rattle.saphyr_scalar.specs.Reading.Plain.{end_of_text, IsSpelledPlain, ends_piece}
+use Rattle.saphyr_scalar.specs.Reading.Plain.{end_of_text, IsSpelledPlain, IsSafeInFlow, ends_piece}
 use Rattle.saphyr_scalar.proofs.Plain.Words.{word_left}
 use Rattle.saphyr_scalar.proofs.Plain.Pieces.{word_stops}
-use Rattle.saphyr_scalar.proofs.Plain.Spelled.{Begins, Closes, word_spelled, white_spelled, word_follows, word_closes}
+use Rattle.saphyr_scalar.proofs.Plain.Spelled.{Begins, Closes, word_spelled, white_spelled, word_safe, white_safe, word_follows, word_closes}
 use Rattle.saphyr_scalar.proofs.Plain.Runs.{Ink, AreInk, items_of, ink_no_feed, folded_word, passed_append, passed_word}
 use Rattle.saphyr_input.proofs.Basics.Booleans.{by_test}
 use Rattle.saphyr_scalar.proofs.Plain.GapsRead.{GapReads}
@@ -47,13 +47,14 @@ abbrev pub Read : Type 0
 Read = List ℕ × Marker × Option Marker × Cursor
 
 -- what is read from a word on
-pub record WordReads (m : Marker) (xs : List ℕ) (x : Read) : Type 0 where
+pub record WordReads (f : Bool) (m : Marker) (xs : List ℕ) (x : Read) : Type 0 where
   pub first : ℕ
   pub others : List ℕ
   pub ink : Ink first
   pub white : List ℕ
   pub is : xs ≡ (first ∷ others) ++ (white ++ x.3.rest)
   pub spelled : IsSpelledPlain m true (first ∷ others) (white ++ x.3.rest)
+  pub safe : f ≡ true → IsSafeInFlow (first ∷ others) (white ++ x.3.rest)
   pub closes : Closes (first ∷ others)
   pub follows : IsTrue (ends_piece (slice_index (white ++ x.3.rest) 0))
   pub value : encode_utf8_all (folded (items_of (first ∷ others))) ≡ x.0
@@ -79,10 +80,15 @@ front_of f (c ∷ cs) h =
       ink = subst (λ n. AreInk (take n (c ∷ cs))) here (word_ink f (c ∷ cs));
     }
 
+safe_word : (f : Bool) (xs y behind : List ℕ) → f ≡ true → drop (word_len f xs) xs ≡ y ++ behind
+    → IsSafeInFlow y behind → IsSafeInFlow (take (word_len f xs) xs ++ y) behind
+safe_word true xs y behind e = word_safe xs y behind
+safe_word false xs y behind e = absurd (cc)
+
 -- the last word
 pub last_word : (f : Bool) (m : Marker) (xs : List ℕ) (g : PlainGap) → is_in_word f xs ≡ true → Begins m xs → Front f xs
     → (let n = word_len f xs in GapReads (drop n xs) (along m n) g)
-    → WordReads m xs (
+    → WordReads f m xs (
       encode_utf8_all (take (word_len f xs) xs)
           ++ [],
       along m (word_len f xs),
@@ -101,6 +107,8 @@ last_word f m xs g goes begins w r =
           ∙ ap (λ (l : List ℕ). (w.first ∷ w.others) ++ l) r.is;
       spelled = subst (λ (l : List ℕ). IsSpelledPlain m true l (r.white ++ g.behind.rest))
           (append-nil (take n xs) ∙ w.is) (word_spelled f m xs [] (r.white ++ g.behind.rest) goes begins r.is tt);
+      safe = λ e. subst (λ (l : List ℕ). IsSafeInFlow l (r.white ++ g.behind.rest)) (append-nil (take n xs) ∙ w.is)
+          (safe_word f xs [] (r.white ++ g.behind.rest) e r.is tt);
       closes = word_closes w.first w.others w.ink;
       follows = subst (λ (l : List ℕ). IsTrue (ends_piece (slice_index l 0))) r.is
           (word_follows f (drop n xs) (word_stops f xs));
@@ -117,8 +125,8 @@ last_word f m xs g goes begins w r =
 -- a word, a gap and what is read behind it
 pub word_more : (f : Bool) (m : Marker) (xs : List ℕ) (g : PlainGap) (x : Read) → is_in_word f xs ≡ true → Begins m xs
     → Front f xs
-    → (let n = word_len f xs in GapReads (drop n xs) (along m n) g) → WordReads g.behind.mark g.behind.rest x
-    → WordReads m xs (encode_utf8_all (take (word_len f xs) xs) ++ (g.text ++ x.0), x.1, x.2, x.3)
+    → (let n = word_len f xs in GapReads (drop n xs) (along m n) g) → WordReads f g.behind.mark g.behind.rest x
+    → WordReads f m xs (encode_utf8_all (take (word_len f xs) xs) ++ (g.text ++ x.0), x.1, x.2, x.3)
 word_more f m xs g x goes begins w r b =
     let n = word_len f xs in
     let word = w.first ∷ w.others in
@@ -142,6 +150,8 @@ word_more f m xs g x goes begins w r b =
       white = b.white;
       spelled = subst (λ (l : List ℕ). IsSpelledPlain m true (l ++ (r.white ++ next)) rest) w.is
           (word_spelled f m xs (r.white ++ next) rest goes begins left behind);
+      safe = λ e. subst (λ (l : List ℕ). IsSafeInFlow (l ++ (r.white ++ next)) rest) w.is
+          (safe_word f xs (r.white ++ next) rest e left (white_safe r.white next rest r.are (b.safe e)));
       closes = record {
         front = word ++ (r.white ++ b.closes.front);
         last = b.closes.last;

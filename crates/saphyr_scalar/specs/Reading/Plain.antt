@@ -26,17 +26,24 @@ IsSpelledPlain m apart (c ∷ cs) behind =
     × (m.col ≡ 0 → IsFalse (is_document_indicator (c ∷ (cs ++ behind))))
     × IsSpelledPlain (if ends_line c (cs ++ behind) then next_line m 1 else along m 1) (is_blank_or_break c) cs behind
 
+-- 7.3.3: inside flow a piece has no flow indicator, and no colon before one. `behind` stands behind it.
+abbrev pub IsSafeInFlow : List ℕ → List ℕ → Type 0
+IsSafeInFlow [] behind = Unit {0}
+IsSafeInFlow (c ∷ cs) behind =
+    IsFalse (is_flow c) × (c ≡ colon → IsFalse (is_flow (slice_index (cs ++ behind) 0))) × IsSafeInFlow cs behind
+
 -- what may stand behind a plain scalar: a blank, a break, NUL, a byte order mark, a colon, a flow indicator or the end
 abbrev pub ends_piece : ℕ → Bool
 ends_piece c = is_blank_or_breakz c || is_bom c || (c == colon) || is_flow c
 
 -- The text is the reading of a piece at the place s that ends at `end`, and t is the place behind the blanks and breaks
 -- that follow it.
-pub record IsPlainReading (s : Cursor) (text : List ℕ) (end : Marker) (t : Cursor) : Type 0 where
+pub record IsPlainReading (in_flow : Bool) (s : Cursor) (text : List ℕ) (end : Marker) (t : Cursor) : Type 0 where
   pub piece : List ℕ
   pub white : List ℕ
   pub is : s.rest ≡ piece ++ (white ++ t.rest)
   pub spelled : IsSpelledPlain s.mark true piece (white ++ t.rest)
+  pub safe : in_flow ≡ true → IsSafeInFlow piece (white ++ t.rest)
   pub front : List ℕ
   pub last : ℕ
   pub closes : piece ≡ front ++ last ∷ []

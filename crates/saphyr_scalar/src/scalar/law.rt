@@ -49,7 +49,7 @@ pub fn keeps_markers_out_of_quotes()
 pub fn reads_plain_values()
     ensures { (in_flow : Bool) (indent : ℕ) (s t : Cursor) (text : List ℕ) (end : Marker)
         (comment : Option Marker) → plain in_flow indent s ≡ Ok (text, end, comment, t)
-        → IsPlainReading s text end t }
+        → IsPlainReading in_flow s text end t }
 {}
 
 /// A plain scalar begins with a character that is neither a blank nor a break.
