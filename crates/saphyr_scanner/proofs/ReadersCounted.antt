@@ -31,8 +31,9 @@ use Rattle.saphyr_scanner.proofs.Effects.Readers.{ReadsUpTo, ReadsSpan, ReaderEn
 
 -- ## Plain scalars
 
-plain_counted : (s t : Cursor) (text : List ℕ) (end : Marker) → IsPlainReading s text end t → ReadsUpTo s end t
-plain_counted s t text end r =
+plain_counted : (f : Bool) (s t : Cursor) (text : List ℕ) (end : Marker) → IsPlainReading f s text end t
+    → ReadsUpTo s end t
+plain_counted f s t text end r =
     let a = passed_index s.mark r.piece in
     let b = passed_index end r.white in
     let i : (end_of_text s.mark r.piece).index ≡ end.index = ap (λ (m : Marker). m.index) r.ends in
@@ -94,7 +95,7 @@ block_counted s t span a b e c =
 
 -- the laws as they are called
 pub reader_ends : ((in_flow : Bool) (indent : ℕ) (s t : Cursor) (text : List ℕ) (end : Marker) (comment : Option Marker)
-    → words.plain in_flow indent s ≡ Ok (text, end, comment, t) → IsPlainReading s text end t)
+    → words.plain in_flow indent s ≡ Ok (text, end, comment, t) → IsPlainReading in_flow s text end t)
     → ((quote : Quote) (indent : ℕ) (s t : Cursor) (text : List ℕ) → slice_index s.rest 0 ≡ mark quote
     → quoted.quoted quote indent s ≡ Ok (text, t)
     → (items : List Item) × IsQuotedText quote s.rest items t.rest × (encode_utf8_all (folded items) ≡ text)
@@ -119,7 +120,7 @@ pub reader_ends : ((in_flow : Bool) (indent : ℕ) (s t : Cursor) (text : List �
     × (u ≡ pass_break (mid_line (along s.mark (length t + length tail)) x)))
     → ReaderEnds
 reader_ends plain quotes block name tag directive = record {
-  plain = λ f i s t text end comment e. plain_counted s t text end (plain f i s t text end comment e);
+  plain = λ f i s t text end comment e. plain_counted f s t text end (plain f i s t text end comment e);
   double_quoted = λ i s t text first e. passed_over s t (quotes Double i s t text first e).3;
   single_quoted = λ i s t text first e. passed_over s t (quotes Single i s t text first e).3;
   block_scalar = λ style i s t text span some e. let x =

@@ -152,9 +152,11 @@ IsQuestionMark span s t =
     TakesCharacter question_mark s t × IsTrue (is_blank_or_breakz (slice_index t.rest 0)) × (span.start ≡ s.mark)
     × ((behind : List ℕ) × IsPassedOver t.mark t.rest span.end behind)
 
--- 7.4.2, 8.2.2: `:`, before which the span stands, empty
-abbrev pub IsColon : Span → Cursor → Cursor → Type 0
-IsColon span s t = TakesCharacter colon s t × (span.start ≡ s.mark) × (span.end ≡ s.mark)
+-- 7.4.2, 8.2.2: `:`, before which the span stands, empty. Outside flow a blank, a break, NUL or the end follows.
+abbrev pub IsColon : Bool → Span → Cursor → Cursor → Type 0
+IsColon in_flow span s t =
+    TakesCharacter colon s t × (in_flow ≡ false → IsTrue (is_blank_or_breakz (slice_index t.rest 0)))
+    × (span.start ≡ s.mark) × (span.end ≡ s.mark)
 
 -- ## Scalars (7.3, 8.1)
 
@@ -186,7 +188,7 @@ pub record IsPlainToken (in_flow : Bool) (value : List ℕ) (span : Span) (s t :
   pub no_indicator : IsTrue (is_one_of (codes "-?:") (slice_index s.rest 0))
       → IsFalse (is_blank_or_breakz (slice_index s.rest 1))
   pub no_block_scalar : in_flow ≡ false → IsFalse (is_one_of (codes "|>") (slice_index s.rest 0))
-  pub reading : IsPlainReading s value span.end t
+  pub reading : IsPlainReading in_flow s value span.end t
   pub uncut : (reading.white ≡ []) ⊎ IsFalse (is_break (slice_index t.rest 0))
 
 abbrev pub block_indicator : BlockStyle → ℕ
@@ -234,7 +236,7 @@ IsToken at tokens.FlowMappingEnd span s t = IsFlowIndicator right_brace span s t
 IsToken at tokens.BlockEntry span s t = IsDash span s t
 IsToken at tokens.FlowEntry span s t = IsFlowIndicator comma span s t
 IsToken at tokens.Key span s t = IsQuestionMark span s t ⊎ HasNoText span s t
-IsToken at tokens.Value span s t = IsColon span s t
+IsToken at tokens.Value span s t = IsColon at.in_flow span s t
 IsToken at (tokens.Alias name) span s t = IsNameToken asterisk name span s t
 IsToken at (tokens.Anchor name) span s t = IsNameToken ampersand name span s t
 IsToken at (tokens.Tag handle suffix) span s t = IsTagToken at.in_flow handle suffix span s t

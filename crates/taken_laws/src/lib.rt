@@ -3,7 +3,7 @@
 //! The functions are laws: they do nothing, and their clauses are what is proved.
 #![tactic(auto)]
 
-ghost use Rattle.std.specs.Prelude.{◌≡◌, List, codes, [], ℕ, false, slice_index};
+ghost use Rattle.std.specs.Prelude.{◌≡◌, Bool, List, codes, [], ℕ, false, slice_index};
 ghost use Rattle.saphyr_input.specs.Places.{is_blank_or_break};
 ghost use Rattle.saphyr_scalar.specs.Views.Cursor.{Cursor};
 ghost use Rattle.saphyr_scalar.specs.declared.scalar.position.Span.{Span};
@@ -61,6 +61,7 @@ pub fn takes_no_shorter()
 
 /// The value of a plain scalar begins with no blank and no break.
 pub fn begins_values_with_ink()
-    ensures { (value : List ℕ) (span : Span) (s t : Cursor) → IsPlainToken value span s t
+    ensures { (in_flow : Bool) (value : List ℕ) (span : Span) (s t : Cursor)
+        → IsPlainToken in_flow value span s t
         → is_blank_or_break (slice_index value 0) ≡ false }
 {}

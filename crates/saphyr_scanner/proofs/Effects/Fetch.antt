@@ -1,6 +1,6 @@
 -- What is done where a token is fetched, in one statement.
 use Rattle.std.proofs.Common.{◌≡◌, ℕ, ◌+◌, ◌≤◌, ◌<◌, Bool, true, false, List, [], ◌∷◌, ◌++◌, length, Result, Ok, Err, refl, sym, ap, ◌∙◌, arith, cond, subst}
-use Rattle.std.specs.Prelude.{codes, ◌&&◌, slice_index, ◌==◌, nat_lt, nat_le, Some, None}
+use Rattle.std.specs.Prelude.{codes, ◌&&◌, slice_index, not, ◌==◌, nat_lt, nat_le, Some, None}
 use Rattle.saphyr_input.specs.Classes.{is_bom, is_z, is_blank_or_breakz}
 use Rattle.saphyr_input.specs.Places.{is_document_start, is_document_end}
 use Rattle.saphyr_scalar.specs.declared.scalar.position.Marker.{Marker}
@@ -12,7 +12,7 @@ use Rattle.saphyr_scanner.specs.Grammar.Tokens as tokens
 use Rattle.saphyr_scanner.specs.Views.Tokens.{Piece}
 use Rattle.saphyr_scanner.specs.Steps.Queue.{Place, empty_piece, bare_place, next}
 use Rattle.saphyr_scanner.specs.Steps.Level.{ends_pair}
-use Rattle.saphyr_scanner.specs.Steps.Core.{Core, StepResult, least_column, drop_far_key}
+use Rattle.saphyr_scanner.specs.Steps.Core.{Core, StepResult, least_column, drop_far_key, in_block}
 use Rattle.saphyr_scanner.specs.Steps.Passing.{pass_gap}
 use Rattle.saphyr_scanner.specs.Steps.State.{State, on_core}
 use Rattle.saphyr_scanner.specs.Steps.Unrolling.{unroll}
@@ -51,18 +51,19 @@ step_does first second n c h f g =
     → Walked (Premises c) (Stepped n c) c.cursor r =
     λ r w. unsaved_step (Premises c) n c c.cursor r w in
     cases (Walked (Premises c) (Stepped n c) c.cursor) first second n c (record {
-      sequence = λ e. does _ (start_does 91 tokens.FlowSequenceStart context.FlowSequence open_sequence sequence_starts sequence_opens
+      sequence = λ e. does _ (start_does 91 tokens.FlowSequenceStart context.FlowSequence open_sequence sequence_starts
+          sequence_opens refl n c (f ∙ e));
+      mapping = λ e. does _ (start_does 123 tokens.FlowMappingStart context.FlowMapping open_mapping mapping_starts mapping_opens
           refl n c (f ∙ e));
-      mapping = λ e. does _ (start_does 123 tokens.FlowMappingStart context.FlowMapping open_mapping mapping_starts mapping_opens refl
-          n c (f ∙ e));
-      sequence_end = λ e. still _ (end_does 93 tokens.FlowSequenceEnd close_sequence sequence_closes (ends_pair c.level.context) c
-          (f ∙ e));
+      sequence_end = λ e. still _ (end_does 93 tokens.FlowSequenceEnd close_sequence sequence_closes
+          (ends_pair c.level.context) c (f ∙ e));
       mapping_end = λ e. still _ (end_does 125 tokens.FlowMappingEnd close_mapping mapping_closes false c (f ∙ e));
       comma = λ e. still _ (entry_does c (f ∙ e));
       dash = λ e b. still _ (block_entry_does c (f ∙ e) (ap is_blank_or_breakz g ∙ b));
       question = λ e b. still _ (key_does c (f ∙ e) (ap is_blank_or_breakz g ∙ b));
-      colon = λ e _. still _ (value_does c (f ∙ e));
-      beside = λ e _. still _ (flow_value_does second c (f ∙ e));
+      colon = λ e b. still _ (value_does c (f ∙ e) (λ _. ap is_blank_or_breakz g ∙ b));
+      beside = λ e b. still _ (flow_value_does second c (f ∙ e) (λ i. absurd
+          (let w = (and_parts (not (in_block c)) _ b).0 in cc)));
       double = λ e. does _ (double_quoted_does n c (f ∙ e));
       single = λ e. does _ (single_quoted_does n c (f ∙ e));
       alias = λ e. does _ (name_does tokens.Alias 42 an_alias n c h (f ∙ e));

@@ -77,7 +77,7 @@ pub record BlockPlace (s : Cursor) (span : Span) (t : Cursor) : Type 0 where
 -- what the laws of the readers say
 pub record TextLaws : Type 0 where
   pub plain : (in_flow : Bool) (indent : ℕ) (s t : Cursor) (text : List ℕ) (end : Marker) (comment : Option Marker)
-      → words.plain in_flow indent s ≡ Ok (text, end, comment, t) → IsPlainReading s text end t
+      → words.plain in_flow indent s ≡ Ok (text, end, comment, t) → IsPlainReading in_flow s text end t
   pub quotes : (quote : Quote) (indent : ℕ) (s t : Cursor) (text : List ℕ) → slice_index s.rest 0 ≡ mark quote
       → quoted.quoted quote indent s ≡ Ok (text, t)
       → (items : List Item) × (is : IsQuotedText quote s.rest items t.rest) × (encode_utf8_all (folded items) ≡ text)

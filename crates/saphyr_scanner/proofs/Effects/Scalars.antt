@@ -26,7 +26,7 @@ use Rattle.saphyr_scanner.specs.Steps.Scalar as scalar
 use Rattle.saphyr_scanner.specs.TokensTaken as taken
 use Rattle.saphyr_scanner.specs.TokensTaken.{Collections, Surroundings, IsToken, IsQuotedToken, may_begin_plain, begins_text}
 use Rattle.saphyr_scanner.proofs.Counted.{Ahead}
-use Rattle.saphyr_scanner.proofs.Effects.Puts.{IsSaved, saving, saved_above, saved, same_block, surroundings}
+use Rattle.saphyr_scanner.proofs.Effects.Puts.{IsSaved, saving, saved_above, saved, same_block, same_flow, surroundings}
 use Rattle.saphyr_scanner.proofs.Effects.Walked.{Premises, Walked, walked_then, Doing, Stepped, at_inside, read_walked}
 use Rattle.saphyr_scanner.proofs.Effects.Walked.{at_reach, separate_walked, gap_walked}
 use Rattle.saphyr_scanner.proofs.Effects.Readers.{Readers, ReaderEnds, Less}
@@ -176,9 +176,9 @@ spelled_start : (m : Marker) (p behind : List ℕ) → IsSpelledPlain m true p b
 spelled_start m [] behind h = tt
 spelled_start m (c ∷ cs) behind h = h.2 refl
 
-no_sign : (s t : Cursor) (text : List ℕ) (end : Marker) → IsPlainReading s text end t
+no_sign : (f : Bool) (s t : Cursor) (text : List ℕ) (end : Marker) → IsPlainReading f s text end t
     → slice_index s.rest 0 ≢ number_sign
-no_sign s t text end r = by r.piece r.front r.closes r.is (spelled_start s.mark r.piece (r.white ++ t.rest) r.spelled)
+no_sign f s t text end r = by r.piece r.front r.closes r.is (spelled_start s.mark r.piece (r.white ++ t.rest) r.spelled)
   where
     by : (p front : List ℕ) → p ≡ front ++ r.last ∷ [] → s.rest ≡ p ++ (r.white ++ t.rest) → NoSign p
         → slice_index s.rest 0 ≢ number_sign
@@ -252,11 +252,11 @@ plain_does n c starts =
         x.3,
         record {
           start = refl;
-          begins = starts.other (no_sign here x.3 x.0 x.1 z);
+          begins = starts.other (no_sign f here x.3 x.0 x.1 z);
           is_ink = laws.ink f c.indent here x.3 x.0 x.1 x.2 e;
           no_indicator = starts.no_indicator;
           no_block_scalar = starts.no_block_scalar;
-          reading = z;
+          reading = subst (λ g. IsPlainReading g here x.0 x.1 x.3) (same_flow n c l s) z;
           uncut = inr ends.1;
         },
         taken.nothing x.3.mark x.3.rest,

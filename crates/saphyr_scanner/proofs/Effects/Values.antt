@@ -2,7 +2,7 @@
 use Rattle.std.proofs.Common.{◌≡◌, ℕ, ◌+◌, Bool, true, false, List, [], ◌∷◌, ◌++◌, Option, Some, None, refl, sym, ap, ◌∙◌, arith, inl, inr}
 use Rattle.std.specs.Prelude.{◌&&◌, ◌||◌, ◌==◌, slice_index, not, nat_lt, if◌then◌else◌}
 use Rattle.saphyr_input.specs.Indicators.{colon}
-use Rattle.saphyr_input.specs.Classes.{is_alpha}
+use Rattle.saphyr_input.specs.Classes.{is_alpha, is_blank_or_breakz}
 use Rattle.saphyr_input.specs.Separation.{has_valid_yaml_ws}
 use Rattle.saphyr_scalar.specs.Views.Cursor.{Cursor, pass}
 use Rattle.saphyr_scanner.specs.declared.engine.level.Context.{Context}
@@ -29,6 +29,8 @@ use Rattle.saphyr_scanner.proofs.Taken.Later.{apart_later}
 use Rattle.saphyr_scanner.proofs.Taken.Parts.{opens_block, pair_starts}
 use Rattle.saphyr_scanner.proofs.Taken.Places.{Reaches, reaches_reaches, at_here}
 use Rattle.saphyr_input.proofs.Basics.Booleans.{by_test}
+use Rattle.saphyr_input.proofs.Basics.Lists.{second_is}
+use Rattle.std.proofs.lemmas.Bool.{not-false}
 
 -- behind the colon, where what is known stays
 abbrev Behind : Core → Core → Type 0
@@ -78,22 +80,32 @@ key_same c d o s e = ap (λ (l : Level). l.key) (sym s.0) ∙ e
 
 -- ## The colon
 
+-- outside flow a blank, a break, NUL or the end follows the colon
+abbrev pub IsParted : Core → Type 0
+IsParted c = in_block c ≡ true → is_blank_or_breakz (slice_index c.cursor.rest 1) ≡ true
+
 -- from e, which stands before the colon
-colon_does : (e d : Core) (u : Cursor) → slice_index e.cursor.rest 0 ≡ colon → AreApart (pass 1 e.cursor) u
+colon_does : (e d : Core) (u : Cursor) → slice_index e.cursor.rest 0 ≡ colon → IsParted e → AreApart (pass 1 e.cursor) u
     → Same e d → d.cursor ≡ u → Does None 1 1 e d (at_mark e.cursor.mark tokens.Value ∷ [])
-colon_does e d u first a s there =
+colon_does e d u first parted a s there =
     let later = apart_later (pass 1 e.cursor).mark (pass 1 e.cursor).rest u.mark u.rest a in
     and_then (λ n. n)
     (quiet 1 e (empty_piece e.cursor.mark tokens.Value) u refl (λ x. refl) (λ i. absurd (cc))
     (indicated 58 e u (empty_piece e.cursor.mark tokens.Value) (record { some = refl; unbroken = refl; is = first }) a
-    (omega arith) (omega arith) (omega (arith, later.index)) (λ t. (t, refl, refl))))
+    (omega arith) (omega arith) (omega (arith, later.index)) (λ t. (
+      t,
+      λ f. ap is_blank_or_breakz (second_is e.cursor.rest) ∙ parted (not-false (in_block e) f),
+      refl,
+      refl,
+    ))))
     (still (with_cursor u e) d s there)
 
-key_does : (b c d : Core) (k : Candidate) (begins : Bool) → slice_index c.cursor.rest 0 ≡ colon → Behind c d
+key_does : (b c d : Core) (k : Candidate) (begins : Bool) → slice_index c.cursor.rest 0 ≡ colon → IsParted c
+    → Behind c d
     → (begins ≡ true → in_block d ≡ false) → d.level.key ≡ Some k
     → Walked (Premises b) (Doing None c) c.cursor (value.value_of_key k begins c.cursor.mark d)
 unfolding value.value_of_key
-key_does b c d k begins first g flows is =
+key_does b c d k begins first parted g flows is =
     let s = c.cursor in
     let u = d.cursor in
     let known = key_same c d (Some k) g.0 is in
@@ -103,7 +115,7 @@ key_does b c d k begins first g flows is =
     let alone : (o : Opening) → opens_block o ≡ false
     → Does None 1 5 c (Into false) (Open k.place o ∷ at_mark s.mark tokens.Value ∷ []) =
     λ o e. at_most (omega arith) (and_then (λ n. n) (key_opens c k o e known)
-    (colon_does (forget_key c) (Into false) u first g.1 (same_forgotten c d g.0) refl)) in
+    (colon_does (forget_key c) (Into false) u first parted g.1 (same_forgotten c d g.0) refl)) in
     by_test (begins && nat_lt k.mark.line s.mark.line) _ _ (Walked (Premises b) (Doing None c) s) (λ _ _. at_here s)
     (λ _. by_bool (is_further k.mark.col d)
     (λ f. Does None 1 5 c (Into f) (Open k.place (if begins then opening.FlowMappingAndKey else if f then
@@ -113,7 +125,7 @@ key_does b c d k begins first g flows is =
     (λ o. Does None 1 5 c (Into true) (Open k.place o ∷ at_mark s.mark tokens.Value ∷ []))
     (λ e. absurd (let no = flows e in cc))
     (λ _. and_then (λ n. n) (mapping_opens c k (block_same c d g.0 inside) known)
-    (colon_does (forget_key (enter_block k.mark.col c)) (Into true) u first g.1
+    (colon_does (forget_key (enter_block k.mark.col c)) (Into true) u first parted g.1
     (same_forgotten (enter_block k.mark.col c) (enter_block k.mark.col d) (same_blocks k.mark.col c d g.0)) refl)))
     (λ _. by_test begins opening.FlowMappingAndKey opening.Key
     (λ o. Does None 1 5 c (Into false) (Open k.place o ∷ at_mark s.mark tokens.Value ∷ []))
@@ -121,10 +133,11 @@ key_does b c d k begins first g flows is =
 
 -- ## Without a key
 
-alone_does : (b c d : Core) (begins : Bool) → slice_index c.cursor.rest 0 ≡ colon → Behind c d → d.level.key ≡ None
+alone_does : (b c d : Core) (begins : Bool) → slice_index c.cursor.rest 0 ≡ colon → IsParted c → Behind c d
+    → d.level.key ≡ None
     → Walked (Premises b) (Doing None c) c.cursor (value.value_alone begins c.cursor.mark d)
 unfolding value.value_alone value.opening_actions
-alone_does b c d begins first g none =
+alone_does b c d begins first parted g none =
     let s = c.cursor in
     let u = d.cursor in
     let column = s.mark.col in
@@ -139,9 +152,9 @@ alone_does b c d begins first g none =
     and_then (λ n. n)
     (block_begins c tokens.BlockMappingStart (λ i. absurd (cc)) (λ i p v t h. h) (λ x y. refl)
     (block_same c d g.0 (further_block column d f)) (ap taken.begins_text first))
-    (colon_does (forget_key (enter_block column c)) (Into true) u first g.1
+    (colon_does (forget_key (enter_block column c)) (Into true) u first parted g.1
     (no_key d.level none ∙ ap (λ (l : Level). record { context = l.context; key = None }) g.0.0, r.1, r.2) refl))
-    (λ _. at_most (omega arith) (colon_does c (Into false) u first g.1 g.0 refl)) in
+    (λ _. at_most (omega arith) (colon_does c (Into false) u first parted g.1 g.0 refl)) in
     by_test (in_block d && not d.key_allowed) _ _ (Walked (Premises b) (Doing None c) s) (λ _ _. at_here s)
     (λ _. by_bool begins
     (λ f. Does None 1 5 c (Into (is_further column d))
@@ -153,11 +166,11 @@ alone_does b c d begins first g none =
     (λ _. at_most (omega arith) value))
 
 either_does : (b c d : Core) (o : Option Candidate) (begins : Bool) → d.level.key ≡ o
-    → slice_index c.cursor.rest 0 ≡ colon → Behind c d → (begins ≡ true → in_block d ≡ false)
+    → slice_index c.cursor.rest 0 ≡ colon → IsParted c → Behind c d → (begins ≡ true → in_block d ≡ false)
     → Walked (Premises b) (Doing None c) c.cursor (value.behind_key o begins c.cursor.mark d)
 unfolding value.behind_key
-either_does b c d (Some k) begins e first g flows = key_does b c d k begins first g flows e
-either_does b c d None begins e first g flows = alone_does b c d begins first g e
+either_does b c d (Some k) begins e first parted g flows = key_does b c d k begins first parted g flows e
+either_does b c d None begins e first parted g flows = alone_does b c d begins first parted g e
 
 colon_block : (x : Context) → is_block (behind_colon x) ≡ is_block x
 colon_block context.FlowSequence = refl
@@ -169,10 +182,10 @@ pair_flows context.FlowPair e = refl
 pair_flows context.Block e = absurd (cc)
 pair_flows _ e = refl
 
-pub value_does : (c : Core) → slice_index c.cursor.rest 0 ≡ colon
+pub value_does : (c : Core) → slice_index c.cursor.rest 0 ≡ colon → IsParted c
     → Walked (Premises c) (Doing None c) c.cursor (value.value_steps c)
 unfolding value.value_steps
-value_does c first =
+value_does c first parted =
     let v : Core = with_context (behind_colon c.level.context) c in
     let begins = begins_pair c.level.context in
     let stands : IndicatorStands 58 c.cursor = record { some = refl; unbroken = refl; is = first } in
@@ -182,12 +195,12 @@ value_does c first =
     (λ x k. and_then (λ n. n)
     (lesser c v (record { block = colon_block c.level.context; key = inl refl }) refl (λ n. n)
     (taken.nothing c.cursor.mark c.cursor.rest)) k)
-    (either_does c v d d.level.key begins refl first g
+    (either_does c v d d.level.key begins refl first (λ e. parted (sym (colon_block c.level.context) ∙ e)) g
     (λ e. ap (λ (l : Level). is_block l.context) g.0.0 ∙ pair_flows c.level.context e)))
 
-pub flow_value_does : (second : ℕ) (c : Core) → slice_index c.cursor.rest 0 ≡ colon
+pub flow_value_does : (second : ℕ) (c : Core) → slice_index c.cursor.rest 0 ≡ colon → IsParted c
     → Walked (Premises c) (Doing None c) c.cursor (fetching.flow_value_steps second c)
 unfolding fetching.flow_value_steps
-flow_value_does second c first =
+flow_value_does second c first parted =
     by_test (not (c.cursor.mark.index == c.adjacent) && ((second == 91) || (second == 123))) _ _
-    (Walked (Premises c) (Doing None c) c.cursor) (λ _ _. at_here c.cursor) (λ _. value_does c first)
+    (Walked (Premises c) (Doing None c) c.cursor) (λ _ _. at_here c.cursor) (λ _. value_does c first parted)

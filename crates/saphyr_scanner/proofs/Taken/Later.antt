@@ -1,5 +1,5 @@
 -- What tokens are taken of a text moves the place on: its lines count up, and no more than its characters do.
-use Rattle.std.proofs.Common.{◌≡◌, ℕ, ◌+◌, ◌≤◌, ◌<◌, true, List, [], ◌∷◌, ◌++◌, length, drop, refl, sym, ap, arith, subst, inl, inr}
+use Rattle.std.proofs.Common.{◌≡◌, ℕ, Bool, ◌+◌, ◌≤◌, ◌<◌, true, List, [], ◌∷◌, ◌++◌, length, drop, refl, sym, ap, arith, subst, inl, inr}
 use Rattle.std.specs.Prelude.{slice_index}
 use Rattle.std.proofs.lemmas.List.{length-append, length-drop}
 use Rattle.saphyr_input.specs.Classes.{is_break}
@@ -124,8 +124,9 @@ piece_later m (c ∷ cs) u =
     (λ _. later_later m (c ∷ (cs ++ u)) (along m 1) (cs ++ u) (end_of_text (along m 1) cs) u
     (along_later m 1 (c ∷ (cs ++ u)) (cs ++ u) (omega arith)) (piece_later (along m 1) cs u))
 
-pub plain_later : (s t : Cursor) (text : List ℕ) (end : Marker) → IsPlainReading s text end t → LaterThan s t
-plain_later s t text end r =
+pub plain_later : (f : Bool) (s t : Cursor) (text : List ℕ) (end : Marker) → IsPlainReading f s text end t
+    → LaterThan s t
+plain_later f s t text end r =
     let a = piece_later s.mark r.piece (r.white ++ t.rest) in
     let b = piece_later end r.white t.rest in
     let P : Marker → Type 0 = λ k. Later s.mark (r.piece ++ (r.white ++ t.rest)) k (r.white ++ t.rest) in
@@ -188,7 +189,7 @@ token_later i tokens.Value span s t h = character_later 58 s t h.0
 token_later i (tokens.Alias name) span s t h = span_later span _ s t h.3
 token_later i (tokens.Anchor name) span s t h = span_later span _ s t h.3
 token_later i (tokens.Tag handle suffix) span s t h = span_later span h.0 s t h.6
-token_later i (tokens.Scalar style.Plain value) span s t h = plain_later s t value span.end h.reading
+token_later i (tokens.Scalar style.Plain value) span s t h = plain_later i.in_flow s t value span.end h.reading
 token_later i (tokens.Scalar style.SingleQuoted value) span s t h = passed_later s.mark s.rest t.mark t.rest h.3
 token_later i (tokens.Scalar style.DoubleQuoted value) span s t h = passed_later s.mark s.rest t.mark t.rest h.3
 token_later i (tokens.Scalar style.Literal value) span s t h = passed_later s.mark s.rest t.mark t.rest h.1.passes

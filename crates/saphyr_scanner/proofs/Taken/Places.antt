@@ -1,5 +1,5 @@
 -- Each token of a text begins and ends at a place of it.
-use Rattle.std.proofs.Common.{◌≡◌, ℕ, ◌≤◌, ◌⊎◌, true, false, List, [], ◌∷◌, ◌++◌, length, IsFalse, refl, sym, ap, arith, subst, inl, inr}
+use Rattle.std.proofs.Common.{◌≡◌, ℕ, Bool, ◌≤◌, ◌⊎◌, true, false, List, [], ◌∷◌, ◌++◌, length, IsFalse, refl, sym, ap, arith, subst, inl, inr}
 use Rattle.std.specs.Prelude.{slice_index}
 use Rattle.saphyr_input.specs.Classes.{is_break, is_blank}
 use Rattle.saphyr_scalar.specs.declared.scalar.position.Marker.{Marker}
@@ -73,9 +73,9 @@ mark_reached span s t h =
     (taken.mark s.mark t.rest (taken.past_mark s.mark) t.rest h.at_start
     (taken.nothing (taken.past_mark s.mark) t.rest)))
 
-pub plain_reached : (s t : Cursor) (text : List ℕ) (end : Marker) (r : IsPlainReading s text end t)
+pub plain_reached : (f : Bool) (s t : Cursor) (text : List ℕ) (end : Marker) (r : IsPlainReading f s text end t)
     → ((r.white ≡ []) ⊎ IsFalse (is_break (slice_index t.rest 0))) → Reaches s t
-plain_reached s t text end r e =
+plain_reached f s t text end r e =
     let w = r.white ++ t.rest in
     let ink : is_break r.last ≡ false = or_false_right (is_blank r.last) (is_break r.last) r.is_ink in
     let P : List ℕ → Type 0 = λ p. IsReached s.mark (p ++ w) (end_of_text s.mark p) w in
@@ -120,7 +120,7 @@ token_reached i tokens.Value span s t h = character_reached 58 s t refl h.0
 token_reached i (tokens.Alias name) span s t h = span_reached span (42 ∷ h.0) s t (refl, name_no_break h.0 h.1) h.3
 token_reached i (tokens.Anchor name) span s t h = span_reached span (38 ∷ h.0) s t (refl, name_no_break h.0 h.1) h.3
 token_reached i (tokens.Tag handle suffix) span s t h = span_reached span h.0 s t (tag_no_break h.0 h.1 h.2 h.3) h.6
-token_reached i (tokens.Scalar style.Plain value) span s t h = plain_reached s t value span.end h.reading h.uncut
+token_reached i (tokens.Scalar style.Plain value) span s t h = plain_reached i.in_flow s t value span.end h.reading h.uncut
 token_reached i (tokens.Scalar style.SingleQuoted value) span s t h = passed_reached s.mark s.rest t.mark t.rest h.3
 token_reached i (tokens.Scalar style.DoubleQuoted value) span s t h = passed_reached s.mark s.rest t.mark t.rest h.3
 token_reached i (tokens.Scalar style.Literal value) span s t h = passed_reached s.mark s.rest t.mark t.rest h.1.passes
@@ -172,7 +172,7 @@ token_at i tokens.BlockEntry span s t h =
 token_at i tokens.FlowEntry span s t h = here_at s span.start h.1
 token_at i tokens.Key span s t (inl h) = here_at s span.start h.2
 token_at i tokens.Key span s t (inr h) = nothing_at span s t h
-token_at i tokens.Value span s t h = here_at s span.start h.1
+token_at i tokens.Value span s t h = here_at s span.start h.2
 token_at i (tokens.Alias name) span s t h = here_at s span.start h.3.start
 token_at i (tokens.Anchor name) span s t h = here_at s span.start h.3.start
 token_at i (tokens.Tag handle suffix) span s t h = here_at s span.start h.6.start
@@ -196,8 +196,8 @@ same_end : (s : Cursor) (span : Span) → span.end ≡ span.start → At s span.
 same_end s span e a = subst (At s) (sym e) a
 
 -- a plain scalar's span ends before the blanks and breaks behind it
-plain_to : (s t : Cursor) (text : List ℕ) (end : Marker) → IsPlainReading s text end t → At s end
-plain_to s t text end r =
+plain_to : (f : Bool) (s t : Cursor) (text : List ℕ) (end : Marker) → IsPlainReading f s text end t → At s end
+plain_to f s t text end r =
     let w = r.white ++ t.rest in
     let ink : is_break r.last ≡ false = or_false_right (is_blank r.last) (is_break r.last) r.is_ink in
     let P : List ℕ → Type 0 = λ p. IsReached s.mark (p ++ w) (end_of_text s.mark p) w in
@@ -243,14 +243,14 @@ token_to i tokens.Key span s t (inl h) =
     at_further s t span.end (character_reached 63 s t refl h.0)
     (at_reached t span.end h.3.0 (apart_reached t.mark t.rest span.end h.3.0 h.3.1))
 token_to i tokens.Key span s t (inr h) = same_end s span h.0 (nothing_at span s t h)
-token_to i tokens.Value span s t h = here_at s span.end h.2
+token_to i tokens.Value span s t h = here_at s span.end h.3
 token_to i (tokens.Alias name) span s t h =
     at_behind s t span.end (token_reached i (tokens.Alias name) span s t h) h.3.end
 token_to i (tokens.Anchor name) span s t h =
     at_behind s t span.end (token_reached i (tokens.Anchor name) span s t h) h.3.end
 token_to i (tokens.Tag handle suffix) span s t h =
     at_behind s t span.end (token_reached i (tokens.Tag handle suffix) span s t h) h.6.end
-token_to i (tokens.Scalar style.Plain value) span s t h = plain_to s t value span.end h.reading
+token_to i (tokens.Scalar style.Plain value) span s t h = plain_to i.in_flow s t value span.end h.reading
 token_to i (tokens.Scalar style.SingleQuoted value) span s t h =
     line_to s t span.end (passed_reached s.mark s.rest t.mark t.rest h.3) h.5
 token_to i (tokens.Scalar style.DoubleQuoted value) span s t h =

@@ -1,5 +1,5 @@
 -- The tokens of small texts with block scalars are taken from them.
-use Rattle.std.proofs.Common.{ℕ, true, List, ◌∷◌, ◌++◌, [], refl, inl, inr, arith, codes}
+use Rattle.std.proofs.Common.{ℕ, true, false, List, ◌∷◌, ◌++◌, [], refl, inl, inr, arith, codes}
 use lib.Utf8.{encode}
 use Rattle.scalar_values.specs.declared.block.Chomping.TheVariants.{Strip, Clip}
 use Rattle.saphyr_scalar.specs.Passing as passing
@@ -27,39 +27,37 @@ header n chomping behind mark indicators h e = (mark, indicators, [], codes "\n"
 pub takes_literal : AreTakenFrom (codes "--- |\n a\n") texts.literal
 unfolding encode
 takes_literal =
-    let scalar : TokenText 0 (tokens.Scalar Literal (codes "a\n")) (span_from_to (marker_at 7 2 1) (marker_at 9 3 0))
+    let scalar : TokenText (record { in_flow = false; indent = 0 }) (tokens.Scalar Literal (codes "a\n")) (span_from_to (marker_at 7 2 1) (marker_at 9 3 0))
     (marker_at 4 1 4) (codes "|\n a\n") (marker_at 9 3 0) [] =
     record {
-      holds = record {
-        begins = refl;
-        reading = record {
-          digit = 0;
-          chomping = Clip;
-          first = codes "|\n";
-          lines = codes " a\n";
-          is = refl;
-          begins = header 0 Clip (codes " a\n") 124 [] (omega arith, inl refl) (inl (inl refl, (λ e. omega arith)));
-          indentation = 1;
-          indented = (codes " ", codes "a\n", refl, (refl, tt), refl, refl);
-          shaped = record { ended = (inr (codes "a", refl), tt); last = inl refl };
-          inside = (refl, (λ e. refl), (refl, (λ e. refl), (refl, (λ e. refl), tt)));
-          ends = record {
-            no_space = λ e. omega arith;
-            no_break = refl;
-            no_content = λ e. inl refl;
-            whole_line = λ e. refl;
+      holds = (
+        refl,
+        record {
+          begins = refl;
+          reading = record {
+            digit = 0;
+            chomping = Clip;
+            first = codes "|\n";
+            lines = codes " a\n";
+            is = refl;
+            begins = header 0 Clip (codes " a\n") 124 [] (omega arith, inl refl) (inl (inl refl, (λ e. omega arith)));
+            indentation = 1;
+            indented = (codes " ", codes "a\n", refl, (refl, tt), refl, refl);
+            shaped = record { ended = (inr (codes "a", refl), tt); last = inl refl };
+            inside = (refl, (λ e. refl), (refl, (λ e. refl), (refl, (λ e. refl), tt)));
+            ends = record { no_space = λ e. omega arith; no_break = refl; no_content = λ e. inl refl; whole_line = λ e. refl };
+            value = refl;
+            before = codes "|\n ";
+            behind = codes "a\n";
+            split = refl;
+            starts = char refl (feed (char refl (passing.nothing _ _)));
+            goes_on = char refl (feed (passing.nothing _ _));
+            no_content = inr (codes " ", refl, refl);
           };
-          value = refl;
-          before = codes "|\n ";
-          behind = codes "a\n";
-          split = refl;
-          starts = char refl (feed (char refl (passing.nothing _ _)));
-          goes_on = char refl (feed (passing.nothing _ _));
-          no_content = inr (codes " ", refl, refl);
-        };
-        passes = char refl (feed (char refl (char refl (feed (passing.nothing _ _)))));
-        end = refl;
-      };
+          passes = char refl (feed (char refl (char refl (feed (passing.nothing _ _)))));
+          end = refl;
+        },
+      );
     } in
     whole (here stream_start_taken (here (document_start_taken refl refl)
     (behind_blank scalar (here stream_end_taken no_token))))
@@ -69,42 +67,40 @@ unfolding encode
 takes_indentation =
     let inside_c : AreInside true (codes " c\n") [] =
     (refl, (λ e. refl), (refl, (λ e. refl), (refl, (λ e. refl), tt))) in
-    let scalar : TokenText 1 (tokens.Scalar Folded (codes " b\nc")) (span_from_to (marker_at 8 2 1) (marker_at 14 4 0))
+    let scalar : TokenText (record { in_flow = false; indent = 1 }) (tokens.Scalar Folded (codes " b\nc")) (span_from_to (marker_at 8 2 1) (marker_at 14 4 0))
     (marker_at 3 1 3) (codes ">1-\n  b\n c\n") (marker_at 14 4 0) [] =
     record {
-      holds = record {
-        begins = refl;
-        reading = record {
-          digit = 1;
-          chomping = Strip;
-          first = codes ">1-\n";
-          lines = codes "  b\n c\n";
-          is = refl;
-          begins = header 1 Strip (codes "  b\n c\n") 62 (codes "1-") (omega arith, inl refl)
-              (inl (inl refl, (λ e. omega arith)));
-          indentation = 1;
-          indented = refl;
-          shaped = record { ended = (inr (codes " b", refl), (inr (codes "c", refl), tt)); last = inl refl };
-          inside = (refl, (λ e. refl), (refl, (λ e. refl), (refl, (λ e. refl), (refl, (λ e. refl), inside_c))));
-          ends = record {
-            no_space = λ e. omega arith;
-            no_break = refl;
-            no_content = λ e. inl refl;
-            whole_line = λ e. refl;
+      holds = (
+        refl,
+        record {
+          begins = refl;
+          reading = record {
+            digit = 1;
+            chomping = Strip;
+            first = codes ">1-\n";
+            lines = codes "  b\n c\n";
+            is = refl;
+            begins = header 1 Strip (codes "  b\n c\n") 62 (codes "1-") (omega arith, inl refl)
+                (inl (inl refl, (λ e. omega arith)));
+            indentation = 1;
+            indented = refl;
+            shaped = record { ended = (inr (codes " b", refl), (inr (codes "c", refl), tt)); last = inl refl };
+            inside = (refl, (λ e. refl), (refl, (λ e. refl), (refl, (λ e. refl), (refl, (λ e. refl), inside_c))));
+            ends = record { no_space = λ e. omega arith; no_break = refl; no_content = λ e. inl refl; whole_line = λ e. refl };
+            value = refl;
+            before = codes ">1-\n ";
+            behind = codes " b\n c\n";
+            split = refl;
+            starts = char refl (char refl (char refl (feed (char refl (passing.nothing _ _)))));
+            goes_on = char refl (char refl (feed (char refl (char refl (feed (passing.nothing _ _))))));
+            no_content = inr (codes " ", refl, refl);
           };
-          value = refl;
-          before = codes ">1-\n ";
-          behind = codes " b\n c\n";
-          split = refl;
-          starts = char refl (char refl (char refl (feed (char refl (passing.nothing _ _)))));
-          goes_on = char refl (char refl (feed (char refl (char refl (feed (passing.nothing _ _))))));
-          no_content = inr (codes " ", refl, refl);
-        };
-        passes = char refl (char refl (char refl (feed (char refl (char refl (char refl
-            (feed (char refl (char refl (feed (passing.nothing _ _)))))))))));
-        end = refl;
-      };
+          passes = char refl (char refl (char refl (feed (char refl (char refl (char refl
+              (feed (char refl (char refl (feed (passing.nothing _ _)))))))))));
+          end = refl;
+        },
+      );
     } in
     whole (here stream_start_taken (here (mapping_start_taken refl)
-    (here key_taken (here (plain_taken letter_a refl refl refl refl) (here colon_taken
+    (here key_taken (here (plain_taken letter_a refl refl refl refl) (here (colon_taken refl)
     (behind_blank scalar (here block_end_taken (here stream_end_taken no_token))))))))

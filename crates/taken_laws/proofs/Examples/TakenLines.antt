@@ -23,7 +23,7 @@ takes_block_mappings =
     whole (here stream_start_taken (here (sequence_start_taken refl)
     (here dash_taken (behind_blank (mapping_start_taken refl) (here key_taken
     (here (plain_taken letter_a refl refl refl refl)
-    (here colon_taken (behind_blank (plain_taken letter_b refl refl refl refl)
+    (here (colon_taken refl) (behind_blank (plain_taken letter_b refl refl refl refl)
     (behind_feed block_end_taken (here dash_taken (behind_blank (mapping_start_taken refl) (here key_taken
-    (here (plain_taken letter_c refl refl refl refl) (here colon_taken
+    (here (plain_taken letter_c refl refl refl refl) (here (colon_taken refl)
     (behind_feed block_end_taken (here block_end_taken (here stream_end_taken no_token)))))))))))))))))

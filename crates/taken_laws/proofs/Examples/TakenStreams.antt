@@ -6,7 +6,7 @@ use Rattle.saphyr_scalar.specs.Spelling.Tag.{IsHandleText, IsPrefix, IsTagText}
 use Rattle.saphyr_scalar.specs.Spelling.Directive.{IsReadTagDirective}
 use Rattle.scalar_laws.proofs.Beginnings.{decodes_itself}
 use Rattle.saphyr_scanner.specs.TokensTaken as taken
-use Rattle.saphyr_scanner.specs.TokensTaken.{AreTakenFrom}
+use Rattle.saphyr_scanner.specs.TokensTaken.{AreTakenFrom, no_collections}
 use Rattle.taken_laws.specs.Examples.TakenTexts as texts
 use Rattle.taken_laws.specs.Examples.TakenTexts.{marker_at}
 use Rattle.taken_laws.proofs.Examples.TokenTexts.{cursor_here, Tokens, no_token, here, behind_blank, behind_feed, whole}
@@ -19,8 +19,8 @@ handle_e = inr (codes "e", (refl, tt), refl)
 
 prefix_t : IsPrefix (codes "t:") (codes "t:")
 prefix_t =
-    let colon_taken = decodes_itself is_uri_char 58 refl (λ e. omega arith) in
-    (codes "t", codes ":", inl (refl, (λ e. omega arith), refl), colon_taken, refl)
+    let spelled = decodes_itself is_uri_char 58 refl (λ e. omega arith) in
+    (codes "t", codes ":", inl (refl, (λ e. omega arith), refl), spelled, refl)
 
 directive_e : IsReadTagDirective (codes "!e!") (codes "t:") (codes "%TAG !e! t:")
 directive_e =
@@ -34,7 +34,7 @@ unfolding encode
 takes_tag =
     whole (here stream_start_taken (here (tag_directive_taken (codes "!e!") (codes "t:") _ directive_e refl refl refl
     refl)
-    (behind_feed (document_start_taken refl refl) (behind_blank (tag_taken _ (codes "!e!") (codes "u") tag_e refl refl)
+    (behind_feed (document_start_taken refl refl) (behind_blank (tag_taken _ (codes "!e!") (codes "u") tag_e refl refl refl)
     (behind_blank (plain_taken letter_v refl refl refl refl) (behind_feed stream_end_taken no_token))))))
 
 pub takes_byte_order_mark : AreTakenFrom (codes "\u{feff}a\n...\n") texts.byte_order_mark_tokens
@@ -46,10 +46,10 @@ takes_byte_order_mark =
 pub takes_refusal : AreTakenFrom (codes "a: b: c") texts.refusal
 unfolding encode
 takes_refusal =
-    let h : Tokens [] texts.refusal.pieces (marker_at 0 1 0) (codes "a: b: c") (marker_at 4 1 4) (codes ": c") =
+    let h : Tokens no_collections texts.refusal.pieces (marker_at 0 1 0) (codes "a: b: c") (marker_at 4 1 4) (codes ": c") =
     here stream_start_taken (here (mapping_start_taken refl)
     (here key_taken (here (plain_taken letter_a refl refl refl refl)
-    (here colon_taken (behind_blank (plain_taken letter_b refl refl refl refl) no_token))))) in
+    (here (colon_taken refl) (behind_blank (plain_taken letter_b refl refl refl refl) no_token))))) in
     let end = cursor_here (codes ": c") (marker_at 4 1 4) in (
       end,
       h.holds,

@@ -13,7 +13,7 @@ pub takes_flow_mapping : AreTakenFrom (codes "{'a': \"b\" # c\n}") texts.flow_ma
 unfolding encode
 takes_flow_mapping =
     whole (here stream_start_taken (here (open_brace_taken no_tail) (here key_taken
-    (here (single_quoted_taken 97 no_tail refl refl refl refl) (here colon_taken
+    (here (single_quoted_taken 97 no_tail refl refl refl refl) (here (colon_taken refl)
     (behind_blank (double_quoted_taken 98 comment_c refl refl refl)
     (behind (taken.blank _ _ _ _ _ refl (taken.comment _ (codes " c") (codes "\n}") _ _ (refl, (refl, tt)) refl
     (taken.line_break _ _ _ _ refl (taken.nothing _ _)))) (close_brace_taken no_tail)

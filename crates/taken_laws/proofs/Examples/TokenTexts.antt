@@ -4,7 +4,7 @@ use Rattle.std.proofs.Common.{inl, inr, refl, sym, arith, codes, ap, IsTrue, IsF
 use Rattle.std.specs.Prelude.{encode_utf8_all}
 use Rattle.saphyr_input.specs.Indicators.{ampersand, apostrophe, asterisk, colon, comma, hyphen, left_brace, left_bracket, quotation_mark, right_brace, right_bracket}
 use Rattle.saphyr_input.specs.Breaks.{normalized}
-use Rattle.saphyr_input.specs.Classes.{is_break, is_breakz, is_anchor_char, is_one_of, line_feed, space}
+use Rattle.saphyr_input.specs.Classes.{is_break, is_breakz, is_blank_or_breakz, is_anchor_char, is_flow, is_one_of, line_feed, space}
 use Rattle.saphyr_input.specs.Places.{is_blank_or_break, is_document_indicator, is_document_start, is_document_end}
 use Rattle.scalar_values.specs.declared.flow.Quote.{Quote}
 use Rattle.scalar_values.specs.declared.flow.Quote.TheVariants.{Single, Double}
@@ -16,7 +16,7 @@ use Rattle.saphyr_scalar.specs.Views.Cursor.{Cursor, along, next_line}
 use Rattle.saphyr_scalar.specs.Passing as passing
 use Rattle.saphyr_scalar.specs.Passing.{IsPassed}
 use Rattle.saphyr_scalar.specs.Reading.Plain.{ends_piece, end_of_text}
-use Rattle.saphyr_scalar.specs.Spelling.Tag.{IsTagText}
+use Rattle.saphyr_scalar.specs.Spelling.Tag.{IsTagText, EndsTag}
 use Rattle.saphyr_scalar.specs.Spelling.Directive.{IsLineTail, IsReadTagDirective}
 use Rattle.saphyr_scalar.specs.Spelling.Quoted.{stands_for_itself, closed, itself}
 use Rattle.saphyr_scalar.specs.Spelling.ClosingQuote.{is_closing}
@@ -28,7 +28,7 @@ use Rattle.saphyr_scanner.specs.TokensTaken as taken
 use Rattle.saphyr_scanner.specs.TokensTaken.{IsPassedOver, LiesOnLine, IsFlowIndicator, IsNameToken, IsQuotedToken}
 use Rattle.saphyr_scanner.specs.TokensTaken.{IsSpan}
 use Rattle.saphyr_scanner.specs.TokensTaken.{past_mark, may_begin_plain, begins_text, IsToken, open_behind}
-use Rattle.saphyr_scanner.specs.TokensTaken.{least_column_in}
+use Rattle.saphyr_scanner.specs.TokensTaken.{Collections, Surroundings, no_collections, surroundings_in}
 use Rattle.saphyr_scanner.specs.TokensTaken.{AreTokens, AreTakenFrom}
 use Rattle.taken_laws.specs.Examples.TakenTexts.{marker_at}
 
@@ -41,74 +41,74 @@ span_from_to start end = record { start = start; end = end }
 -- ## Tokens in a row
 
 -- from m, where t stands, to n, where u stands
-pub record Tokens (columns : List ℕ) (ps : List Piece) (m : Marker) (t : List ℕ) (n : Marker) (u : List ℕ) :
+pub record Tokens (opened : Collections) (ps : List Piece) (m : Marker) (t : List ℕ) (n : Marker) (u : List ℕ) :
     Type 0 where
-  pub holds : AreTokens columns ps (cursor_here t m) (cursor_here u n)
+  pub holds : AreTokens opened ps (cursor_here t m) (cursor_here u n)
 
-pub record TokenText (least : ℕ) (kind : Kind) (span : Span) (m : Marker) (t : List ℕ) (n : Marker) (u : List ℕ) :
+pub record TokenText (at : Surroundings) (kind : Kind) (span : Span) (m : Marker) (t : List ℕ) (n : Marker) (u : List ℕ) :
     Type 0 where
-  pub holds : IsToken least kind span (cursor_here t m) (cursor_here u n)
+  pub holds : IsToken at kind span (cursor_here t m) (cursor_here u n)
 
-pub no_token : {columns : List ℕ} {m : Marker} {t : List ℕ} → Tokens columns [] m t m t
+pub no_token : {opened : Collections} {m : Marker} {t : List ℕ} → Tokens opened [] m t m t
 no_token = record { holds = refl }
 
 -- behind what is passed over
-pub behind : {columns t v w u : List ℕ} {p : Piece} {ps : List Piece} {m a b n : Marker} → IsPassedOver m t a v
-    → TokenText (least_column_in columns) p.kind p.span a v b w
-    → Tokens (open_behind p.kind p.span.start.col columns) ps b w n u → Tokens columns (p ∷ ps) m t n u
+pub behind : {opened : Collections} {t v w u : List ℕ} {p : Piece} {ps : List Piece} {m a b n : Marker} → IsPassedOver m t a v
+    → TokenText (surroundings_in opened) p.kind p.span a v b w
+    → Tokens (open_behind p.kind p.span opened) ps b w n u → Tokens opened (p ∷ ps) m t n u
 behind {v = v} {w} {a = a} {b} o h r = record { holds = (cursor_here v a, cursor_here w b, o, h.holds, r.holds) }
 
-pub here : {columns t w u : List ℕ} {p : Piece} {ps : List Piece} {m b n : Marker}
-    → TokenText (least_column_in columns) p.kind p.span m t b w
-    → Tokens (open_behind p.kind p.span.start.col columns) ps b w n u → Tokens columns (p ∷ ps) m t n u
+pub here : {opened : Collections} {t w u : List ℕ} {p : Piece} {ps : List Piece} {m b n : Marker}
+    → TokenText (surroundings_in opened) p.kind p.span m t b w
+    → Tokens (open_behind p.kind p.span opened) ps b w n u → Tokens opened (p ∷ ps) m t n u
 here h r = behind (taken.nothing _ _) h r
 
-pub behind_blank : {columns t w u : List ℕ} {p : Piece} {ps : List Piece} {m b n : Marker}
-    → TokenText (least_column_in columns) p.kind p.span (along m 1) t b w
-    → Tokens (open_behind p.kind p.span.start.col columns) ps b w n u → Tokens columns (p ∷ ps) m (space ∷ t) n u
+pub behind_blank : {opened : Collections} {t w u : List ℕ} {p : Piece} {ps : List Piece} {m b n : Marker}
+    → TokenText (surroundings_in opened) p.kind p.span (along m 1) t b w
+    → Tokens (open_behind p.kind p.span opened) ps b w n u → Tokens opened (p ∷ ps) m (space ∷ t) n u
 behind_blank h r = behind (taken.blank _ _ _ _ _ refl (taken.nothing _ _)) h r
 
-pub behind_feed : {columns t w u : List ℕ} {p : Piece} {ps : List Piece} {m b n : Marker}
-    → TokenText (least_column_in columns) p.kind p.span (next_line m 1) t b w
-    → Tokens (open_behind p.kind p.span.start.col columns) ps b w n u → Tokens columns (p ∷ ps) m (line_feed ∷ t) n u
+pub behind_feed : {opened : Collections} {t w u : List ℕ} {p : Piece} {ps : List Piece} {m b n : Marker}
+    → TokenText (surroundings_in opened) p.kind p.span (next_line m 1) t b w
+    → Tokens (open_behind p.kind p.span opened) ps b w n u → Tokens opened (p ∷ ps) m (line_feed ∷ t) n u
 behind_feed h r = behind (taken.line_break _ _ _ _ refl (taken.nothing _ _)) h r
 
 -- all of a text
-pub whole : {pieces : List Piece} {text : List ℕ} {n : Marker} → Tokens [] pieces (marker_at 0 1 0) text n []
+pub whole : {pieces : List Piece} {text : List ℕ} {n : Marker} → Tokens no_collections pieces (marker_at 0 1 0) text n []
     → AreTakenFrom text (record { pieces = pieces; refusal = None })
 whole {n = n} h = (cursor_here [] n, h.holds, refl)
 
 -- ## Tokens without a text
 
-pub stream_start_taken : {indent : ℕ} {m : Marker} {t : List ℕ}
-    → TokenText indent tokens.StreamStart (span_from_to m m) m t m t
+pub stream_start_taken : {at : Surroundings} {m : Marker} {t : List ℕ}
+    → TokenText at tokens.StreamStart (span_from_to m m) m t m t
 stream_start_taken = record { holds = (refl, inl refl, refl) }
 
-pub stream_end_taken : {indent : ℕ} {m : Marker} → TokenText indent tokens.StreamEnd (span_from_to m m) m [] m []
+pub stream_end_taken : {at : Surroundings} {m : Marker} → TokenText at tokens.StreamEnd (span_from_to m m) m [] m []
 stream_end_taken = record { holds = (refl, (refl, inl refl, refl)) }
 
 -- behind a last line that no break ends
-pub stream_end_behind_taken : {indent : ℕ} {m : Marker}
-    → TokenText indent tokens.StreamEnd (span_from_to (next_line m 0) (next_line m 0)) m [] m []
+pub stream_end_behind_taken : {at : Surroundings} {m : Marker}
+    → TokenText at tokens.StreamEnd (span_from_to (next_line m 0) (next_line m 0)) m [] m []
 stream_end_behind_taken = record { holds = (refl, (refl, inr (refl, refl), refl)) }
 
-pub sequence_start_taken : {indent : ℕ} {m : Marker} {t : List ℕ} → IsTrue (begins_text (slice_index t 0))
-    → TokenText indent tokens.BlockSequenceStart (span_from_to m m) m t m t
+pub sequence_start_taken : {at : Surroundings} {m : Marker} {t : List ℕ} → IsTrue (begins_text (slice_index t 0))
+    → TokenText at tokens.BlockSequenceStart (span_from_to m m) m t m t
 sequence_start_taken b = record { holds = (refl, refl, refl, b) }
 
-pub mapping_start_taken : {indent : ℕ} {m : Marker} {t : List ℕ} → IsTrue (begins_text (slice_index t 0))
-    → TokenText indent tokens.BlockMappingStart (span_from_to m m) m t m t
+pub mapping_start_taken : {at : Surroundings} {m : Marker} {t : List ℕ} → IsTrue (begins_text (slice_index t 0))
+    → TokenText at tokens.BlockMappingStart (span_from_to m m) m t m t
 mapping_start_taken b = record { holds = (refl, refl, refl, b) }
 
-pub block_end_taken : {indent : ℕ} {m : Marker} {t : List ℕ}
-    → TokenText indent tokens.BlockEnd (span_from_to m m) m t m t
+pub block_end_taken : {at : Surroundings} {m : Marker} {t : List ℕ}
+    → TokenText at tokens.BlockEnd (span_from_to m m) m t m t
 block_end_taken = record { holds = (refl, inl refl, refl) }
 
-pub block_end_behind_taken : {indent : ℕ} {m : Marker}
-    → TokenText indent tokens.BlockEnd (span_from_to (next_line m 0) (next_line m 0)) m [] m []
+pub block_end_behind_taken : {at : Surroundings} {m : Marker}
+    → TokenText at tokens.BlockEnd (span_from_to (next_line m 0) (next_line m 0)) m [] m []
 block_end_behind_taken = record { holds = (refl, inr (refl, refl), refl) }
 
-pub key_taken : {indent : ℕ} {m : Marker} {t : List ℕ} → TokenText indent tokens.Key (span_from_to m m) m t m t
+pub key_taken : {at : Surroundings} {m : Marker} {t : List ℕ} → TokenText at tokens.Key (span_from_to m m) m t m t
 key_taken = record { holds = inr (refl, inl refl, refl) }
 
 -- ## Indicators
@@ -141,35 +141,36 @@ indicator_taken : (c n : ℕ) (m : Marker) (t : List ℕ) → Tail t n
     → IsFlowIndicator c (span_from_to m (along (along m 1) n)) (cursor_here (c ∷ t) m) (cursor_here t (along m 1))
 indicator_taken c n m t h = ((refl, refl), refl, lies (along m 1) h)
 
-pub open_bracket_taken : {indent n : ℕ} {m : Marker} {t : List ℕ} → Tail t n
-    → TokenText indent tokens.FlowSequenceStart (span_from_to m (along (along m 1) n)) m (left_bracket ∷ t) (along m 1)
+pub open_bracket_taken : {at : Surroundings} {n : ℕ} {m : Marker} {t : List ℕ} → Tail t n
+    → TokenText at tokens.FlowSequenceStart (span_from_to m (along (along m 1) n)) m (left_bracket ∷ t) (along m 1)
     t
 open_bracket_taken {n = n} {m} {t} h = record { holds = indicator_taken 91 n m t h }
 
-pub close_bracket_taken : {indent n : ℕ} {m : Marker} {t : List ℕ} → Tail t n
-    → TokenText indent tokens.FlowSequenceEnd (span_from_to m (along (along m 1) n)) m (right_bracket ∷ t) (along m 1) t
+pub close_bracket_taken : {at : Surroundings} {n : ℕ} {m : Marker} {t : List ℕ} → Tail t n
+    → TokenText at tokens.FlowSequenceEnd (span_from_to m (along (along m 1) n)) m (right_bracket ∷ t) (along m 1) t
 close_bracket_taken {n = n} {m} {t} h = record { holds = indicator_taken 93 n m t h }
 
-pub open_brace_taken : {indent n : ℕ} {m : Marker} {t : List ℕ} → Tail t n
-    → TokenText indent tokens.FlowMappingStart (span_from_to m (along (along m 1) n)) m (left_brace ∷ t) (along m 1) t
+pub open_brace_taken : {at : Surroundings} {n : ℕ} {m : Marker} {t : List ℕ} → Tail t n
+    → TokenText at tokens.FlowMappingStart (span_from_to m (along (along m 1) n)) m (left_brace ∷ t) (along m 1) t
 open_brace_taken {n = n} {m} {t} h = record { holds = inl (indicator_taken 123 n m t h) }
 
-pub close_brace_taken : {indent n : ℕ} {m : Marker} {t : List ℕ} → Tail t n
-    → TokenText indent tokens.FlowMappingEnd (span_from_to m (along (along m 1) n)) m (right_brace ∷ t) (along m 1) t
+pub close_brace_taken : {at : Surroundings} {n : ℕ} {m : Marker} {t : List ℕ} → Tail t n
+    → TokenText at tokens.FlowMappingEnd (span_from_to m (along (along m 1) n)) m (right_brace ∷ t) (along m 1) t
 close_brace_taken {n = n} {m} {t} h = record { holds = inl (indicator_taken 125 n m t h) }
 
-pub comma_taken : {indent n : ℕ} {m : Marker} {t : List ℕ} → Tail t n
-    → TokenText indent tokens.FlowEntry (span_from_to m (along (along m 1) n)) m (comma ∷ t) (along m 1) t
+pub comma_taken : {at : Surroundings} {n : ℕ} {m : Marker} {t : List ℕ} → Tail t n
+    → TokenText at tokens.FlowEntry (span_from_to m (along (along m 1) n)) m (comma ∷ t) (along m 1) t
 comma_taken {n = n} {m} {t} h = record { holds = indicator_taken 44 n m t h }
 
 -- a `-` and a blank
-pub dash_taken : {indent : ℕ} {m : Marker} {t : List ℕ} → TokenText indent tokens.BlockEntry
+pub dash_taken : {at : Surroundings} {m : Marker} {t : List ℕ} → TokenText at tokens.BlockEntry
     (span_from_to (along (along m 1) 1) (along (along m 1) 1)) m (hyphen ∷ space ∷ t) (along m 1) (space ∷ t)
 dash_taken {m = m} = record { holds = ((refl, refl), refl, lies (along m 1) blank, refl) }
 
-pub colon_taken : {indent : ℕ} {m : Marker} {others : List ℕ}
-    → TokenText indent tokens.Value (span_from_to m m) m (colon ∷ others) (along m 1) others
-colon_taken = record { holds = ((refl, refl), refl, refl) }
+-- a colon before a blank, a break, NUL or the end
+pub colon_taken : {at : Surroundings} {m : Marker} {others : List ℕ} → IsTrue (is_blank_or_breakz (slice_index others 0))
+    → TokenText at tokens.Value (span_from_to m m) m (colon ∷ others) (along m 1) others
+colon_taken b = record { holds = ((refl, refl), (λ _. b), refl, refl) }
 
 -- ## Names, of one character
 
@@ -180,14 +181,14 @@ name_taken : (indicator c : ℕ) (bytes : List ℕ) (m : Marker) (t : List ℕ) 
 name_taken indicator c bytes m t h e n =
     (c ∷ [], ((λ f. cc), (h, tt)), e, record { is = refl; start = refl; end = refl; goes_on = refl }, n)
 
-pub anchor_taken : {indent : ℕ} {m : Marker} {bytes t : List ℕ} (c : ℕ) → IsTrue (is_anchor_char c)
+pub anchor_taken : {at : Surroundings} {m : Marker} {bytes t : List ℕ} (c : ℕ) → IsTrue (is_anchor_char c)
     → bytes ≡ encode_utf8_all (c ∷ []) → IsFalse (is_anchor_char (slice_index t 0))
-    → TokenText indent (tokens.Anchor bytes) (span_from_to m (along m 2)) m (ampersand ∷ c ∷ t) (along m 2) t
+    → TokenText at (tokens.Anchor bytes) (span_from_to m (along m 2)) m (ampersand ∷ c ∷ t) (along m 2) t
 anchor_taken {m = m} {bytes} {t} c h e n = record { holds = name_taken 38 c bytes m t h e n }
 
-pub alias_taken : {indent : ℕ} {m : Marker} {bytes t : List ℕ} (c : ℕ) → IsTrue (is_anchor_char c)
+pub alias_taken : {at : Surroundings} {m : Marker} {bytes t : List ℕ} (c : ℕ) → IsTrue (is_anchor_char c)
     → bytes ≡ encode_utf8_all (c ∷ []) → IsFalse (is_anchor_char (slice_index t 0))
-    → TokenText indent (tokens.Alias bytes) (span_from_to m (along m 2)) m (asterisk ∷ c ∷ t) (along m 2) t
+    → TokenText at (tokens.Alias bytes) (span_from_to m (along m 2)) m (asterisk ∷ c ∷ t) (along m 2) t
 alias_taken {m = m} {bytes} {t} c h e n = record { holds = name_taken 42 c bytes m t h e n }
 
 -- ## Scalars
@@ -213,19 +214,19 @@ in_quotes_taken quote c n bytes m t h s b q d e = (
   tt,
 )
 
-pub single_quoted_taken : {indent n : ℕ} {bytes t : List ℕ} {m : Marker} (c : ℕ) → Tail t n
+pub single_quoted_taken : {at : Surroundings} {n : ℕ} {bytes t : List ℕ} {m : Marker} (c : ℕ) → Tail t n
     → IsTrue (stands_for_itself Single c) → IsFalse (is_break c) → IsTrue (is_closing Single (apostrophe ∷ t))
     → bytes ≡ encode_utf8_all (folded (raw_item c ∷ []))
-    → TokenText indent (tokens.Scalar SingleQuoted bytes) (span_from_to m (along (third m) n)) m
+    → TokenText at (tokens.Scalar SingleQuoted bytes) (span_from_to m (along (third m) n)) m
     (apostrophe ∷ c ∷ apostrophe ∷ t)
     (third m)
     t
 single_quoted_taken {n = n} {bytes} {t} {m} c h s b d e =
     record { holds = in_quotes_taken Single c n bytes m t h s b refl d e }
 
-pub double_quoted_taken : {indent n : ℕ} {bytes t : List ℕ} {m : Marker} (c : ℕ) → Tail t n
+pub double_quoted_taken : {at : Surroundings} {n : ℕ} {bytes t : List ℕ} {m : Marker} (c : ℕ) → Tail t n
     → IsTrue (stands_for_itself Double c) → IsFalse (is_break c) → bytes ≡ encode_utf8_all (folded (raw_item c ∷ []))
-    → TokenText indent (tokens.Scalar DoubleQuoted bytes) (span_from_to m (along (third m) n)) m
+    → TokenText at (tokens.Scalar DoubleQuoted bytes) (span_from_to m (along (third m) n)) m
     (quotation_mark ∷ c ∷ quotation_mark ∷ t)
     (third m)
     t
@@ -237,34 +238,37 @@ pub record IsLetter (c : ℕ) : Type 0 where
   pub begins : IsTrue (may_begin_plain c)
   pub is_ink : IsFalse (is_blank_or_break c)
   pub no_indicator : IsFalse (is_one_of (codes "-?:") c)
+  pub no_block_scalar : IsFalse (is_one_of (codes "|>") c)
+  pub no_flow : IsFalse (is_flow c)
   pub above : 65 ≤ c
   pub below : c < 128
 
 pub letter_a : IsLetter 97
-letter_a = record { begins = refl; is_ink = refl; no_indicator = refl; above = omega arith; below = omega arith }
+letter_a = record { begins = refl; is_ink = refl; no_indicator = refl; no_block_scalar = refl; no_flow = refl; above = omega arith; below = omega arith }
 
 pub letter_b : IsLetter 98
-letter_b = record { begins = refl; is_ink = refl; no_indicator = refl; above = omega arith; below = omega arith }
+letter_b = record { begins = refl; is_ink = refl; no_indicator = refl; no_block_scalar = refl; no_flow = refl; above = omega arith; below = omega arith }
 
 pub letter_c : IsLetter 99
-letter_c = record { begins = refl; is_ink = refl; no_indicator = refl; above = omega arith; below = omega arith }
+letter_c = record { begins = refl; is_ink = refl; no_indicator = refl; no_block_scalar = refl; no_flow = refl; above = omega arith; below = omega arith }
 
 pub letter_v : IsLetter 118
-letter_v = record { begins = refl; is_ink = refl; no_indicator = refl; above = omega arith; below = omega arith }
+letter_v = record { begins = refl; is_ink = refl; no_indicator = refl; no_block_scalar = refl; no_flow = refl; above = omega arith; below = omega arith }
 
 absent : (a : Bool) → a ≡ false → IsTrue a → (P : Type 0) → P
 absent a e h P = absurd (let f : false ≡ true = rw e at h in cc)
 
-pub plain_taken : {indent c : ℕ} {m : Marker} {bytes t : List ℕ} → IsLetter c → IsFalse (is_document_indicator (c ∷ t))
+pub plain_taken : {at : Surroundings} {c : ℕ} {m : Marker} {bytes t : List ℕ} → IsLetter c → IsFalse (is_document_indicator (c ∷ t))
     → IsTrue (ends_piece (slice_index t 0)) → encode_utf8_all (plain_value (normalized (c ∷ []))) ≡ bytes
     → end_of_text m (c ∷ []) ≡ along m 1
-    → TokenText indent (tokens.Scalar Plain bytes) (span_from_to m (along m 1)) m (c ∷ t) (along m 1) t
+    → TokenText at (tokens.Scalar Plain bytes) (span_from_to m (along m 1)) m (c ∷ t) (along m 1) t
 plain_taken {c = c} {t = t} l d f v e = record {
   holds = record {
     start = refl;
     begins = l.begins;
     is_ink = l.is_ink;
     no_indicator = λ x. absent (is_one_of (codes "-?:") c) l.no_indicator x _;
+    no_block_scalar = λ _. l.no_block_scalar;
     reading = record {
       piece = c ∷ [];
       white = [];
@@ -277,6 +281,7 @@ plain_taken {c = c} {t = t} l d f v e = record {
         (λ x. d),
         tt,
       );
+      safe = λ _. (l.no_flow, (λ x. absurd (let z : ⊥ = omega (arith, l.above) in z)), tt);
       front = [];
       last = c;
       closes = refl;
@@ -307,35 +312,34 @@ pub span_on_line : {text u : List ℕ} {m : Marker}
     (cursor_here u (along m (length text)))
 span_on_line = record { is = refl; start = refl; end = refl; goes_on = refl }
 
-pub document_start_taken : {indent : ℕ} {m : Marker} {t : List ℕ} → m.col ≡ 0
+pub document_start_taken : {at : Surroundings} {m : Marker} {t : List ℕ} → m.col ≡ 0
     → IsTrue (is_document_start (codes "---" ++ t))
-    → TokenText indent tokens.DocumentStart (span_from_to m (along m 3)) m (codes "---" ++ t) (along m 3) t
+    → TokenText at tokens.DocumentStart (span_from_to m (along m 3)) m (codes "---" ++ t) (along m 3) t
 document_start_taken c h = record { holds = (c, h, span_on_line) }
 
-pub document_end_taken : {indent : ℕ} {m : Marker} {t : List ℕ} → m.col ≡ 0
+pub document_end_taken : {at : Surroundings} {m : Marker} {t : List ℕ} → m.col ≡ 0
     → IsTrue (is_document_end (codes "..." ++ t))
-    → TokenText indent tokens.DocumentEnd (span_from_to m (along m 3)) m (codes "..." ++ t) (along m 3) t
+    → TokenText at tokens.DocumentEnd (span_from_to m (along m 3)) m (codes "..." ++ t) (along m 3) t
 document_end_taken c h = record { holds = (c, h, span_on_line) }
 
-pub byte_order_mark_taken : {indent : ℕ} {m : Marker} {t : List ℕ} → m.col ≡ 0
-    → TokenText indent tokens.ByteOrderMark (span_from_to m (past_mark m)) m (0xFEFF ∷ t) (past_mark m) t
+pub byte_order_mark_taken : {at : Surroundings} {m : Marker} {t : List ℕ} → m.col ≡ 0
+    → TokenText at tokens.ByteOrderMark (span_from_to m (past_mark m)) m (0xFEFF ∷ t) (past_mark m) t
 byte_order_mark_taken c = record {
   holds = record { is = refl; at_start = c; start = refl; end = refl; goes_on = refl };
 }
 
 -- a handle and a prefix, with nothing behind them on their line
-pub tag_directive_taken : {indent : ℕ} {m : Marker} {front back t : List ℕ} (handle prefix text : List ℕ)
+pub tag_directive_taken : {at : Surroundings} {m : Marker} {front back t : List ℕ} (handle prefix text : List ℕ)
     → IsReadTagDirective handle prefix text → front ≡ encode_utf8_all handle → back ≡ encode_utf8_all prefix → m.col ≡ 0
     → IsTrue (is_breakz (slice_index t 0))
-    → TokenText indent (tokens.TagDirective front back) (span_from_to m (along m (length text))) m (text ++ t)
+    → TokenText at (tokens.TagDirective front back) (span_from_to m (along m (length text))) m (text ++ t)
     (along m (length text)) t
 tag_directive_taken {t = t} handle prefix text h e f c b = record {
   holds = (text, [], t, c, (handle, prefix, h, e, f), span_on_line, ([], [], tt, inl refl, refl), refl, b);
 }
 
-pub tag_taken : {indent : ℕ} {m : Marker} {front back t : List ℕ} (text handle suffix : List ℕ)
-    → IsTagText text handle suffix
-    → front ≡ encode_utf8_all handle → back ≡ encode_utf8_all suffix
-    → TokenText indent (tokens.Tag front back) (span_from_to m (along m (length text))) m (text ++ t)
+pub tag_taken : {at : Surroundings} {m : Marker} {front back t : List ℕ} (text handle suffix : List ℕ)
+    → IsTagText text handle suffix → front ≡ encode_utf8_all handle → back ≡ encode_utf8_all suffix
+    → EndsTag at.in_flow t → TokenText at (tokens.Tag front back) (span_from_to m (along m (length text))) m (text ++ t)
     (along m (length text)) t
-tag_taken text handle suffix h e f = record { holds = (text, handle, suffix, h, e, f, span_on_line) }
+tag_taken text handle suffix h e f n = record { holds = (text, handle, suffix, h, e, f, span_on_line, n) }

@@ -9,43 +9,43 @@ use Rattle.saphyr_scalar.specs.Steps.Quoted.{break_len}
 use Rattle.saphyr_input.specs.Classes.{byte_order_mark}
 use Rattle.saphyr_scanner.specs.Views.Tokens.{Piece}
 use Rattle.saphyr_scanner.specs.TokensTaken as taken
-use Rattle.saphyr_scanner.specs.TokensTaken.{IsReached, IsToken, AreTokens, open_behind, least_column_in}
+use Rattle.saphyr_scanner.specs.TokensTaken.{Collections, no_collections, surroundings_in, IsReached, IsToken, AreTokens, open_behind}
 use Rattle.saphyr_scanner.proofs.Reached.{reached_counted, apart_reached}
 use Rattle.saphyr_scanner.proofs.Taken.Places.{Reaches, reaches_reaches, token_reached}
 use Rattle.std.proofs.lemmas.Bool.{eq-eqb}
 
--- the token stands at a place that is reached from the text's start
-pub record StandsReached (text : List ℕ) (p : Piece) : Type 0 where
-  pub indent : ℕ
+-- the token stands at a place that is reached from the text's start, where these collections are open
+pub record StandsReached (text : List ℕ) (opened : Collections) (p : Piece) : Type 0 where
   pub here : Cursor
   pub behind : Cursor
   pub reached : Reaches (start_cursor text) here
-  pub is : IsToken indent p.kind p.span here behind
+  pub left : Reaches (start_cursor text) behind
+  pub is : IsToken (surroundings_in opened) p.kind p.span here behind
 
-abbrev pub AllStand : List ℕ → List Piece → Type 0
-AllStand text [] = Unit {0}
-AllStand text (p ∷ ps) = StandsReached text p × AllStand text ps
+abbrev pub AllStand : List ℕ → Collections → List Piece → Type 0
+AllStand text opened [] = Unit {0}
+AllStand text opened (p ∷ ps) = StandsReached text opened p × AllStand text (open_behind p.kind p.span opened) ps
 
-tokens_stand_from : (text columns : List ℕ) (ps : List Piece) (s u : Cursor) → Reaches (start_cursor text) s
-    → AreTokens columns ps s u → AllStand text ps
-tokens_stand_from text columns [] s u r h = tt
-tokens_stand_from text columns (p ∷ ps) s u r h =
-    let i = least_column_in columns in
+tokens_stand_from : (text : List ℕ) (opened : Collections) (ps : List Piece) (s u : Cursor)
+    → Reaches (start_cursor text) s → AreTokens opened ps s u → AllStand text opened ps
+tokens_stand_from text opened [] s u r h = tt
+tokens_stand_from text opened (p ∷ ps) s u r h =
+    let i = surroundings_in opened in
     let a = reaches_reaches (start_cursor text) s h.0 r (apart_reached s.mark s.rest h.0.mark h.0.rest h.2) in
     let b = reaches_reaches (start_cursor text) h.0 h.1 a (token_reached i p.kind p.span h.0 h.1 h.3) in (
-      record { indent = i; here = h.0; behind = h.1; reached = a; is = h.3 },
-      tokens_stand_from text
-          (open_behind p.kind p.span.start.col columns) ps h.1 u b h.4,
+      record { here = h.0; behind = h.1; reached = a; left = b; is = h.3 },
+      tokens_stand_from text (open_behind p.kind p.span opened) ps h.1 u b h.4,
     )
 
-pub tokens_stand : (text : List ℕ) (ps : List Piece) (u : Cursor) → AreTokens [] ps (start_cursor text) u
-    → AllStand text ps
-tokens_stand text ps u h = tokens_stand_from text [] ps (start_cursor text) u
+pub tokens_stand : (text : List ℕ) (ps : List Piece) (u : Cursor) → AreTokens no_collections ps (start_cursor text) u
+    → AllStand text no_collections ps
+tokens_stand text ps u h = tokens_stand_from text no_collections ps (start_cursor text) u
     (taken.nothing (start_cursor text).mark text) h
 
-pub front_stands : (text : List ℕ) (ps qs : List Piece) → AllStand text (ps ++ qs) → AllStand text ps
-front_stands text [] qs h = tt
-front_stands text (p ∷ ps) qs h = (h.0, front_stands text ps qs h.1)
+pub front_stands : (text : List ℕ) (opened : Collections) (ps qs : List Piece) → AllStand text opened (ps ++ qs)
+    → AllStand text opened ps
+front_stands text opened [] qs h = tt
+front_stands text opened (p ∷ ps) qs h = (h.0, front_stands text (open_behind p.kind p.span opened) ps qs h.1)
 
 -- ## What stands at a place is an end of the text
 
@@ -73,6 +73,19 @@ at_origin text u r e =
     by : (front : List ℕ) → text ≡ front ++ u.rest → length front ≡ 0 → u.rest ≡ text
     by [] h l = sym h
     by (c ∷ cs) h l = absurd (omega (arith, l))
+
+-- at an index stands what is behind so many characters
+pub at_index : (text : List ℕ) (u : Cursor) (n : ℕ) → Reaches (start_cursor text) u → u.mark.index ≡ n
+    → u.rest ≡ drop n text
+at_index text u n r e =
+    let b = reached_behind _ text u.mark u.rest r in
+    let count = reached_counted (start_cursor text).mark text u.mark u.rest r in
+    sym (ap (drop n) b.1
+    ∙ by b.0 n (let l = length-append b.0 u.rest in let k = ap length b.1 in omega (arith, l, k, count, e)))
+  where
+    by : (front : List ℕ) (n : ℕ) → n ≡ length front → drop n (front ++ u.rest) ≡ u.rest
+    by [] n l = ap (λ k. drop k u.rest) l
+    by (c ∷ cs) n l = ap (λ k. drop k (c ∷ (cs ++ u.rest))) l ∙ by cs (length cs) refl
 
 -- ## A character that stands once in a text
 
