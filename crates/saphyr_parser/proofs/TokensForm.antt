@@ -12,7 +12,7 @@ use Rattle.saphyr_scanner.specs.Grammar.Forest.{Handle, Primary, Named, handle_t
 use Rattle.saphyr_scanner.specs.Grammar.Tokens as tokens
 use Rattle.saphyr_scanner.specs.Grammar.Tokens.{Kind, tag_token}
 use Rattle.saphyr_scanner.specs.Views.Tokens.{Piece}
-use Rattle.saphyr_scanner.specs.TokensTaken.{IsScalarToken, IsToken, open_behind, least_column_in, AreTokens}
+use Rattle.saphyr_scanner.specs.TokensTaken.{Collections, Surroundings, surroundings_in, IsScalarToken, IsToken, open_behind, AreTokens}
 use Rattle.saphyr_parser.proofs.Refusing.{IsLastOr, AreEnded}
 use Rattle.saphyr_parser.specs.WellFormed.{IsEncoded, IsWellFormed, MayStandBefore, AreWellFormed}
 use Rattle.saphyr_scalar.proofs.Properties.TagsRead.{mark_bytes}
@@ -49,25 +49,25 @@ tag_of text handle suffix front back (inr (inr s)) e f =
 
 -- ## Tokens
 
-scalar_form : (k : ScalarStyle) (indent : ℕ) (value : List ℕ) (span : Span) (s t : Cursor)
-    → IsScalarToken k indent value span s t → IsEncoded value
-scalar_form style.Plain indent value span s t i = (_, sym i.reading.value)
-scalar_form style.SingleQuoted indent value span s t i = (_, i.2)
-scalar_form style.DoubleQuoted indent value span s t i = (_, i.2)
-scalar_form style.Literal indent value span s t i = (_, i.reading.value)
-scalar_form style.Folded indent value span s t i = (_, i.reading.value)
+scalar_form : (k : ScalarStyle) (at : Surroundings) (value : List ℕ) (span : Span) (s t : Cursor)
+    → IsScalarToken k at value span s t → IsEncoded value
+scalar_form style.Plain at value span s t i = (_, sym i.reading.value)
+scalar_form style.SingleQuoted at value span s t i = (_, i.2)
+scalar_form style.DoubleQuoted at value span s t i = (_, i.2)
+scalar_form style.Literal at value span s t i = (_, i.1.reading.value)
+scalar_form style.Folded at value span s t i = (_, i.1.reading.value)
 
-token_form : (k : Kind) (indent : ℕ) (span : Span) (s t : Cursor) → IsToken indent k span s t → IsWellFormed k
-token_form (tokens.Alias name) indent span s t i = (i.0, i.2)
-token_form (tokens.Anchor name) indent span s t i = (i.0, i.2)
-token_form (tokens.Tag front back) indent span s t i = tag_of i.0 i.1 i.2 front back i.3 i.4 i.5
-token_form (tokens.Scalar k value) indent span s t i = scalar_form k indent value span s t i
-token_form (tokens.TagDirective handle prefix) indent span s t i =
+token_form : (k : Kind) (at : Surroundings) (span : Span) (s t : Cursor) → IsToken at k span s t → IsWellFormed k
+token_form (tokens.Alias name) at span s t i = (i.0, i.2)
+token_form (tokens.Anchor name) at span s t i = (i.0, i.2)
+token_form (tokens.Tag front back) at span s t i = tag_of i.0 i.1 i.2 front back i.3 i.4 i.5
+token_form (tokens.Scalar k value) at span s t i = scalar_form k at value span s t i
+token_form (tokens.TagDirective handle prefix) at span s t i =
     let d = i.4 in
     let h : (h : Handle) × (handle ≡ handle_bytes h) = with_bytes d.0 handle d.3 d.2.5 in
     (h.0, h.1, (d.1, d.4))
-token_form (tokens.ReservedDirective name) indent span s t i = let d = i.4 in (d.0, d.2)
-token_form _ indent span s t i = tt
+token_form (tokens.ReservedDirective name) at span s t i = let d = i.4 in (d.0, d.2)
+token_form _ at span s t i = tt
 
 -- behind the end of the stream no token stands
 may_stand : (A : Type 0) (k : Kind) (ts : List Piece) → IsLastOr A ts k → MayStandBefore k ts
@@ -81,13 +81,13 @@ ended_behind P r tokens.StreamEnd ts h = inl h
 ended_behind P r _ ts h = inr h
 
 -- tokens that are taken from a text and that the end of the stream or a refusal ends are well formed
-pub tokens_form : (P : Marker → Type 0) (r : Option Refusal) (columns : List ℕ) (ps : List Piece) (s u : Cursor)
-    → AreTokens columns ps s u → (ps ≡ []) ⊎ AreEnded P r ps → AreWellFormed ps
-tokens_form P r columns [] s u a l = tt
-tokens_form P r columns (p ∷ ps) s u a (inl e) = absurd (cc)
-tokens_form P r columns (p ∷ ps) s u a (inr l) = (
-  token_form p.kind (least_column_in columns) p.span a.0 a.1 a.3,
+pub tokens_form : (P : Marker → Type 0) (r : Option Refusal) (opened : Collections) (ps : List Piece) (s u : Cursor)
+    → AreTokens opened ps s u → (ps ≡ []) ⊎ AreEnded P r ps → AreWellFormed ps
+tokens_form P r opened [] s u a l = tt
+tokens_form P r opened (p ∷ ps) s u a (inl e) = absurd (cc)
+tokens_form P r opened (p ∷ ps) s u a (inr l) = (
+  token_form p.kind (surroundings_in opened) p.span a.0 a.1 a.3,
   may_stand (AreEnded P r ps) p.kind ps l,
   tokens_form P
-      r (open_behind p.kind p.span.start.col columns) ps a.1 u a.4 (ended_behind P r p.kind ps l),
+      r (open_behind p.kind p.span opened) ps a.1 u a.4 (ended_behind P r p.kind ps l),
 )

@@ -42,12 +42,20 @@ pub fn takes_streams()
 
 /// What is not taken: `[a]` without the token of its `a`, `a` with the value `b`, `[]` with a bracket
 /// whose span starts behind it, and a block mapping that starts before the blank of its line, from which
-/// an indentation that is given would be counted. No place of a text stands behind its end.
+/// an indentation that is given would be counted. Nor is a tag that ends before a letter or a `#`, a
+/// colon outside brackets before a letter, a plain scalar with a comma inside brackets, one that begins
+/// with `|` outside, or a literal inside brackets. No place of a text stands behind its end.
 pub fn takes_no_others()
     ensures dropped_word { ¬ AreTakenFrom (codes "[a]") texts.dropped_word }
     ensures other_value { ¬ AreTakenFrom (codes "a") texts.other_value }
     ensures other_start { ¬ AreTakenFrom (codes "[]") texts.other_start }
     ensures other_indentation { ¬ AreTakenFrom (codes " a: |1\n   b") texts.other_indentation }
+    ensures short_tag { ¬ AreTakenFrom (codes ": !a\n") texts.short_tag }
+    ensures tag_before_comment { ¬ AreTakenFrom (codes ": !a#b\n") texts.tag_before_comment }
+    ensures short_key { ¬ AreTakenFrom (codes "a:b") texts.short_key }
+    ensures one_entry { ¬ AreTakenFrom (codes ": [a, b]\n") texts.one_entry }
+    ensures literal_as_plain { ¬ AreTakenFrom (codes ": |\n a\n") texts.literal_as_plain }
+    ensures literal_in_list { ¬ AreTakenFrom (codes "[|1\n]\n") texts.literal_in_list }
     ensures place_behind { ¬ IsPlaceOf (codes "a") (texts.marker_at 2 1 2) }
 {}
 

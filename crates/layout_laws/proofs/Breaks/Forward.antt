@@ -80,9 +80,10 @@ forward_along s t n e l = record {
   level = subst (λ (m : Marker). OnOneLine s.mark m) (sym e) (λ h k g. omega arith);
 }
 
-pub forward_plain : (s t : Cursor) (text : List ℕ) (end : Marker) → IsPlainReading s text end t → Forward s t
-forward_plain s t text end r = record {
-  later = plain_later s t text end r;
+pub forward_plain : (f : Bool) (s t : Cursor) (text : List ℕ) (end : Marker) → IsPlainReading f s text end t
+    → Forward s t
+forward_plain f s t text end r = record {
+  later = plain_later f s t text end r;
   level =
       let P : Marker → Type 0 = λ m. OnOneLine s.mark m in
       let Q : Marker → Type 0 = λ m. OnOneLine end m in

@@ -23,7 +23,7 @@ at_one m n t = let one : 1 + n ≡ suc n = omega arith in rw one refl
 pub returns : goal.returns
 returns c limit text small short =
     let forward : Forwards = record {
-      plain = λ in_flow indent s x e. forward_plain s x.3 x.0 x.1
+      plain = λ in_flow indent s x e. forward_plain in_flow s x.3 x.0 x.1
           (c.reads_plain_values.ensures in_flow indent s x.3 x.0 x.1 x.2 e);
       quoted = λ quote indent s x f e. forward_passed s x.1
           (c.spells_each_quoted.ensures quote indent s x.1 x.0 f e).3;

@@ -10,7 +10,7 @@ use Rattle.saphyr_scalar.specs.Views.Cursor.{Cursor, start_cursor}
 use Rattle.saphyr_scanner.specs.Grammar.Tokens as tokens
 use Rattle.saphyr_scanner.specs.Grammar.Tokens.{Kind}
 use Rattle.saphyr_scanner.specs.Views.Tokens.{Piece}
-use Rattle.saphyr_scanner.specs.TokensTaken.{IsToken, IsScalarToken}
+use Rattle.saphyr_scanner.specs.TokensTaken.{Collections, Surroundings, no_collections, surroundings_in, open_behind, IsToken, IsScalarToken}
 use Rattle.saphyr_scanner.proofs.Taken.Places.{Reaches}
 use Rattle.taken_laws.proofs.Wrong.PlainValues.{plain_value_ink}
 use Rattle.taken_laws.proofs.Wrong.Standing.{StandsReached, AllStand, tokens_stand, front_stands}
@@ -23,11 +23,11 @@ use Rattle.saphyr_parser.specs.Examples.WrongAnswers.{BeginsWithInk}
 -- the token of a scalar, which ends where the event does
 pub record OwnScalar (text value : List ℕ) (how : ScalarStyle) (span : Span) : Type 0 where
   pub own : Span
-  pub indent : ℕ
+  pub at : Surroundings
   pub here : Cursor
   pub behind : Cursor
   pub reached : Reaches (start_cursor text) here
-  pub is : IsScalarToken how indent value own here behind
+  pub is : IsScalarToken how at value own here behind
   pub end : own.end ≡ span.end
 
 abbrev pub Owned : List ℕ → Happening → Span → Type 0
@@ -46,26 +46,28 @@ content_end (p ∷ q ∷ []) own span h = ap (λ (x : Span). x.end) h
 content_end (p ∷ q ∷ r ∷ []) own span h = absurd h
 content_end (p ∷ q ∷ r ∷ x ∷ xs) own span h = absurd h
 
-pub last_stands : (text : List ℕ) (front : List Piece) (own : Piece) → AllStand text (front ++ own ∷ [])
-    → StandsReached text own
-last_stands text [] own h = h.0
-last_stands text (p ∷ front) own h = last_stands text front own h.1
+pub last_stands : (text : List ℕ) (opened : Collections) (front : List Piece) (own : Piece)
+    → AllStand text opened (front ++ own ∷ []) → (there : Collections) × StandsReached text there own
+last_stands text opened [] own h = (opened, h.0)
+last_stands text opened (p ∷ front) own h = last_stands text (open_behind p.kind p.span opened) front own h.1
 
-pub rest_stands : (text : List ℕ) (ps qs : List Piece) → AllStand text (ps ++ qs) → AllStand text qs
-rest_stands text [] qs h = h
-rest_stands text (p ∷ ps) qs h = rest_stands text ps qs h.1
+pub rest_stands : (text : List ℕ) (opened : Collections) (ps qs : List Piece) → AllStand text opened (ps ++ qs)
+    → (there : Collections) × AllStand text there qs
+rest_stands text opened [] qs h = (opened, h)
+rest_stands text opened (p ∷ ps) qs h = rest_stands text (open_behind p.kind p.span opened) ps qs h.1
 
-scalar_owned : (text value : List ℕ) (how : ScalarStyle) (span : Span) (own : List Piece)
-    → AreContentTokens (tokens.Scalar how value) own → SpansAll own span → AllStand text own
+scalar_owned : (text value : List ℕ) (how : ScalarStyle) (span : Span) (opened : Collections) (own : List Piece)
+    → AreContentTokens (tokens.Scalar how value) own → SpansAll own span → AllStand text opened own
     → OwnScalar text value how span
-scalar_owned text value how span own c s h =
-    let P : List Piece → Type 0 = λ l. AllStand text l in
+scalar_owned text value how span opened own c s h =
+    let P : List Piece → Type 0 = λ l. AllStand text opened l in
     let Q : List Piece → Type 0 = λ l. SpansAll l span in
-    let st = last_stands text c.0 c.1 (subst P c.4 h) in
-    let R : Kind → Type 0 = λ k. IsToken st.indent k c.1.span st.here st.behind in
+    let last = last_stands text opened c.0 c.1 (subst P c.4 h) in
+    let st = last.1 in
+    let R : Kind → Type 0 = λ k. IsToken (surroundings_in last.0) k c.1.span st.here st.behind in
     record {
       own = c.1.span;
-      indent = st.indent;
+      at = surroundings_in last.0;
       here = st.here;
       behind = st.behind;
       reached = st.reached;
@@ -73,37 +75,38 @@ scalar_owned text value how span own c s h =
       end = sym (content_end c.0 c.1 span (subst Q c.4 s));
     }
 
-event_owned : (text : List ℕ) (what : Happening) (span : Span) (own others : List Piece) → IsOf what span own others
-    → AllStand text own → Owned text what span
-event_owned text (Scalar value how id tag) span own others (inl h) s =
-    inr (scalar_owned text value how span own h.0 h.1 s)
-event_owned text (Scalar value how id tag) span own others (inr (inl h)) s = inl h.0
-event_owned text (Scalar value how id tag) span own others (inr (inr h)) s = inl h.0
-event_owned text _ span own others h s = tt
+event_owned : (text : List ℕ) (what : Happening) (span : Span) (opened : Collections) (own others : List Piece)
+    → IsOf what span own others → AllStand text opened own → Owned text what span
+event_owned text (Scalar value how id tag) span opened own others (inl h) s =
+    inr (scalar_owned text value how span opened own h.0 h.1 s)
+event_owned text (Scalar value how id tag) span opened own others (inr (inl h)) s = inl h.0
+event_owned text (Scalar value how id tag) span opened own others (inr (inr h)) s = inl h.0
+event_owned text _ span opened own others h s = tt
 
-all_owned : (text : List ℕ) (unread : List Piece) (es : List (Happening × Span)) (ts : List Piece)
-    → HaveTokens unread es ts → AllStand text ts → AllOwned text es
-all_owned text unread _ _ (taking.nothing ts) s = tt
-all_owned text unread _ _ (taking.passed es t ts b h) s = all_owned text unread es ts h s.1
-all_owned text unread _ _ (taking.event what span es own ts i h) s = (
-  event_owned text what span own (ts ++ unread) i (front_stands text own ts s),
-  all_owned text unread es ts h
-      (rest_stands text own ts s),
-)
+all_owned : (text : List ℕ) (unread : List Piece) (es : List (Happening × Span)) (opened : Collections)
+    (ts : List Piece) → HaveTokens unread es ts → AllStand text opened ts → AllOwned text es
+all_owned text unread _ opened _ (taking.nothing ts) s = tt
+all_owned text unread _ opened _ (taking.passed es t ts b h) s = all_owned text unread es _ ts h s.1
+all_owned text unread _ opened _ (taking.event what span es own ts i h) s =
+    let rest = rest_stands text opened own ts s in (
+      event_owned text what span opened own (ts ++ unread) i (front_stands text opened own ts s),
+      all_owned text unread es rest.0 ts h rest.1,
+    )
 
 pub owned : (keep : Bool) (text : List ℕ) (a : Answer) → AreTaken keep text a → AllOwned text a.events
 owned keep text a t =
     let r = t.1 in
     let stand = tokens_stand text r.tokens.pieces r.taken.0 r.taken.1 in
-    let P : List Piece → Type 0 = λ l. AllStand text l in
+    let P : List Piece → Type 0 = λ l. AllStand text no_collections l in
     let b = r.begins in
-    all_owned text b.unread a.events b.read b.places (front_stands text b.read b.unread (subst P b.are_read stand))
+    all_owned text b.unread a.events no_collections b.read b.places
+    (front_stands text no_collections b.read b.unread (subst P b.are_read stand))
 
 -- ## Plain scalars
 
 event_ink : (text : List ℕ) (what : Happening) (span : Span) → Owned text what span → BeginsWithInk what
 event_ink text (Scalar value style.Plain id tag) span (inl e) = ap (λ v. is_blank_or_break (slice_index v 0)) e
-event_ink text (Scalar value style.Plain id tag) span (inr o) = plain_value_ink value o.own o.here o.behind o.is
+event_ink text (Scalar value style.Plain id tag) span (inr o) = plain_value_ink o.at.in_flow value o.own o.here o.behind o.is
 event_ink text _ span o = tt
 
 all_ink : (text : List ℕ) (es : List (Happening × Span)) → AllOwned text es

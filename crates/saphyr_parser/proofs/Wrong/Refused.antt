@@ -29,7 +29,7 @@ use Rattle.saphyr_parser.proofs.Wrong.Owned.{OwnScalar, owned}
 white_refused : (text value : List ℕ) (span : Span) → (space ∷ value ≡ []) ⊎ OwnScalar text (space ∷ value) Plain span
     → ⊥
 white_refused text value span (inl e) = cc
-white_refused text value span (inr h) = let k = plain_value_ink (32 ∷ value) h.own h.here h.behind h.is in cc
+white_refused text value span (inr h) = let k = plain_value_ink h.at.in_flow (32 ∷ value) h.own h.here h.behind h.is in cc
 
 pub blank_first_is_not_taken : (keep : Bool) → AreTaken keep (codes "- a") wrong.blank_first → ⊥
 blank_first_is_not_taken keep t = white_refused (codes "- a") (codes "a") _
@@ -51,8 +51,8 @@ literal_lines before body value span o b a e =
     let text = before ++ (124 ∷ 10 ∷ body) in
     let r = reached_behind (start_cursor text).mark text o.here.mark o.here.rest o.reached in
     let count = reached_counted (start_cursor text).mark text o.here.mark o.here.rest o.reached in
-    let rest = one_place 124 before (10 ∷ body) r.0 o.here.rest r.1 o.is.begins (λ z. omega arith) b a in
-    all_inside block_style.Literal o.indent value o.own o.here o.behind 124 body o.is rest
+    let rest = one_place 124 before (10 ∷ body) r.0 o.here.rest r.1 o.is.1.begins (λ z. omega arith) b a in
+    all_inside block_style.Literal o.at.indent value o.own o.here o.behind 124 body o.is.1 rest
     (let k = ap (λ (m : Marker). m.index) o.end in omega (arith, count, e, k))
 
 marker_refused : AreInside true (codes "a\n---\nb\n") [] → ⊥

@@ -80,9 +80,9 @@ cut_refused before indent value span s t none reached h index column =
 pub cut_line_refused : AreTakenFrom (codes "--- |\n a#b\n") texts.cut_line → ⊥
 cut_line_refused (end, tokens, fin) =
     let own = (tokens_stand (codes "--- |\n a#b\n") texts.cut_line.pieces end tokens).1.1.0 in
-    cut_refused (codes "--- ") own.indent (codes "a") _ own.here own.behind refl own.reached own.is refl refl
+    cut_refused (codes "--- ") _ (codes "a") _ own.here own.behind refl own.reached own.is.1 refl refl
 
 pub cut_value_refused : AreTakenFrom (codes ": |\n a#b\n") texts.cut_value → ⊥
 cut_value_refused (end, tokens, fin) =
     let own = (tokens_stand (codes ": |\n a#b\n") texts.cut_value.pieces end tokens).1.1.1.0 in
-    cut_refused (codes ": ") own.indent (codes "a") _ own.here own.behind refl own.reached own.is refl refl
+    cut_refused (codes ": ") _ (codes "a") _ own.here own.behind refl own.reached own.is.1 refl refl

@@ -274,3 +274,97 @@ short_handle =
           [];
       refusal = None;
     }
+
+-- ## Near misses of what may follow: `: !a` LF as the tag `!` with the scalar `a`, `: !a#b` LF as a tag with a comment,
+-- and `a:b` as a pair
+
+abbrev pub short_tag : Remaining
+short_tag =
+    record {
+      pieces =
+          empty_at (marker_at 0 1 0) tokens.StreamStart ∷
+          empty_at (marker_at 0 1 0) tokens.BlockMappingStart ∷
+          empty_at (marker_at 0 1 0) tokens.Value ∷
+          piece_from_to (marker_at 2 1 2) (marker_at 3 1 3) (tokens.Tag [] (codes "!")) ∷
+          piece_from_to (marker_at 3 1 3) (marker_at 4 1 4) (tokens.Scalar Plain (codes "a")) ∷
+          empty_at (marker_at 5 2 0) tokens.BlockEnd ∷
+          empty_at (marker_at 5 2 0) tokens.StreamEnd ∷
+          [];
+      refusal = None;
+    }
+
+abbrev pub tag_before_comment : Remaining
+tag_before_comment =
+    record {
+      pieces =
+          empty_at (marker_at 0 1 0) tokens.StreamStart ∷
+          empty_at (marker_at 0 1 0) tokens.BlockMappingStart ∷
+          empty_at (marker_at 0 1 0) tokens.Value ∷
+          piece_from_to (marker_at 2 1 2) (marker_at 4 1 4) (tokens.Tag (codes "!") (codes "a")) ∷
+          empty_at (marker_at 7 2 0) tokens.BlockEnd ∷
+          empty_at (marker_at 7 2 0) tokens.StreamEnd ∷
+          [];
+      refusal = None;
+    }
+
+abbrev pub short_key : Remaining
+short_key =
+    record {
+      pieces =
+          empty_at (marker_at 0 1 0) tokens.StreamStart ∷
+          empty_at (marker_at 0 1 0) tokens.BlockMappingStart ∷
+          empty_at (marker_at 0 1 0) tokens.Key ∷
+          piece_from_to (marker_at 0 1 0) (marker_at 1 1 1) (tokens.Scalar Plain (codes "a")) ∷
+          empty_at (marker_at 1 1 1) tokens.Value ∷
+          piece_from_to (marker_at 2 1 2) (marker_at 3 1 3) (tokens.Scalar Plain (codes "b")) ∷
+          empty_at (marker_at 3 2 0) tokens.BlockEnd ∷
+          empty_at (marker_at 3 2 0) tokens.StreamEnd ∷
+          [];
+      refusal = None;
+    }
+
+-- ## Near misses of what stands inside brackets and outside: `: [a, b]` LF with one entry, `: |` LF ` a` LF as a plain
+-- scalar, and `[|1` LF `]` LF with an empty literal
+
+abbrev pub one_entry : Remaining
+one_entry =
+    record {
+      pieces =
+          empty_at (marker_at 0 1 0) tokens.StreamStart ∷
+          empty_at (marker_at 0 1 0) tokens.BlockMappingStart ∷
+          empty_at (marker_at 0 1 0) tokens.Value ∷
+          piece_from_to (marker_at 2 1 2) (marker_at 3 1 3) tokens.FlowSequenceStart ∷
+          piece_from_to (marker_at 3 1 3) (marker_at 7 1 7) (tokens.Scalar Plain (codes "a, b")) ∷
+          piece_from_to (marker_at 7 1 7) (marker_at 8 1 8) tokens.FlowSequenceEnd ∷
+          empty_at (marker_at 9 2 0) tokens.BlockEnd ∷
+          empty_at (marker_at 9 2 0) tokens.StreamEnd ∷
+          [];
+      refusal = None;
+    }
+
+abbrev pub literal_as_plain : Remaining
+literal_as_plain =
+    record {
+      pieces =
+          empty_at (marker_at 0 1 0) tokens.StreamStart ∷
+          empty_at (marker_at 0 1 0) tokens.BlockMappingStart ∷
+          empty_at (marker_at 0 1 0) tokens.Value ∷
+          piece_from_to (marker_at 2 1 2) (marker_at 6 2 2) (tokens.Scalar Plain (codes "| a")) ∷
+          empty_at (marker_at 7 3 0) tokens.BlockEnd ∷
+          empty_at (marker_at 7 3 0) tokens.StreamEnd ∷
+          [];
+      refusal = None;
+    }
+
+abbrev pub literal_in_list : Remaining
+literal_in_list =
+    record {
+      pieces =
+          empty_at (marker_at 0 1 0) tokens.StreamStart ∷
+          piece_from_to (marker_at 0 1 0) (marker_at 1 1 1) tokens.FlowSequenceStart ∷
+          empty_at (marker_at 4 2 0) (tokens.Scalar Literal []) ∷
+          piece_from_to (marker_at 4 2 0) (marker_at 5 2 1) tokens.FlowSequenceEnd ∷
+          empty_at (marker_at 6 3 0) tokens.StreamEnd ∷
+          [];
+      refusal = None;
+    }
