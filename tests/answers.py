@@ -71,12 +71,6 @@ LEADING = re.compile(r"[ \n\r]*")
 
 # What no definition asks, with a smallest text and an answer of it that is taken for the want of this alone.
 OPEN = {
-    "end of a tag": ("behind a tag stands a blank, a break, NUL, the end, or inside flow a flow indicator (6.9.1)",
-                     "!a", "=VAL <!> :a"),
-    "plain in flow": ("inside flow a plain scalar has no flow indicator, nor a colon before one (7.3.3)",
-                      "[:]", "+SEQ / =VAL :: / -SEQ"),
-    "plain in block": ("outside flow no plain scalar begins with `|` or `>` (7.3.3)", "|", "=VAL :|"),
-    "block scalar in flow": ("no block scalar stands inside flow (7.4)", "[|1\n]", "+SEQ / =VAL | / -SEQ"),
     "own braces": ("a flow mapping has both braces, or is a single pair of a flow sequence and has neither (7.4.2)",
                    "[]", "+SEQ / +MAP / -MAP / -SEQ"),
     "own line": ("behind a block collection's properties a line ends (8.2.3)",
@@ -88,8 +82,8 @@ OPEN = {
                ":\n:", "+MAP / =VAL : / +MAP / =VAL : / =VAL : / -MAP / -MAP"),
     "later lines": ("outside flow a scalar's later lines stand right of the innermost collection's column (6.1)",
                     "- a\n-", "+SEQ / =VAL :a - / -SEQ"),
-    "colon apart": ("behind a colon stands white space or the end, or in flow an indicator, or before it a key that"
-                    " ends with a quote or a bracket (7.4.2, 8.2.2)", ":a", "+MAP / =VAL : / =VAL :a / -MAP"),
+    "colon apart": ("inside flow white space, an indicator or the end stands behind a colon, or before it a key that ends"
+                    " with a quote or a bracket (7.4.2)", "[:a]", "+SEQ / +MAP / =VAL : / =VAL :a / -MAP / -SEQ"),
     "key with a colon": ("a key without a `?` has a colon (7.4.2, 8.2.2)", "", "+MAP / =VAL : / =VAL : / -MAP"),
     "some key": ("such a key has a text (7.4, 8.2.2)",
                  "?\n:", "+MAP / =VAL : / =VAL : / =VAL : / =VAL : / -MAP"),
@@ -308,7 +302,7 @@ class Search:
         """The place behind a colon (IsColon)."""
         following, in_flow = self.at(place.index + 1), context == IN_FLOW
         ends = following in BLANK_OR_BREAKZ or in_flow and (following in FLOW or place.ends_json)
-        for behind in self.stands(place, ":"):
+        for behind in self.stands(place, ":") if ends or in_flow else []:
             yield behind, self.unless("colon apart", ends)
 
     # ## Spelling/Tag.antt
@@ -350,8 +344,8 @@ class Search:
 
     def tag_tokens(self, place, context):
         for handle, suffix, end in self.tag_texts(place.index):
-            ends = self.at(end) in BLANK_OR_BREAKZ or context == IN_FLOW and self.at(end) in FLOW
-            yield (handle, suffix), self.along(place, end - place.index), self.unless("end of a tag", ends)
+            if self.at(end) in BLANK_OR_BREAKZ or context == IN_FLOW and self.at(end) in FLOW:
+                yield (handle, suffix), self.along(place, end - place.index)
 
     # ## Spelling/Directive.antt
     def ends_directive(self, index):
@@ -397,14 +391,14 @@ class Search:
             there, is_apart = self.behind(there, there.index + 1), c in WHITE
             if not is_apart and following in BLANK_OR_BREAKZ + MARK + ":" + FLOW:
                 piece = self.text[place.index:there.index]
-                broken = self.plain_breaks(piece, context, following) | self.lines_break(place, there, context, column)
-                yield plain_value(normalized(piece)), there, broken
+                if self.may_stand(piece, context, following):
+                    yield plain_value(normalized(piece)), there, self.lines_break(place, there, context, column)
 
-    def plain_breaks(self, piece, context, following):
+    def may_stand(self, piece, context, following):
+        """Whether a piece has no indicator that ends it inside flow (IsSafeInFlow), or begins none outside."""
         if context != IN_FLOW:
-            return self.unless("plain in block", piece[0] not in "|>")
-        fits = not set(piece) & set(FLOW) and not (piece[-1] == ":" and following in FLOW)
-        return self.unless("plain in flow", fits)
+            return piece[0] not in "|>"
+        return not set(piece) & set(FLOW) and not (piece[-1] == ":" and following in FLOW)
 
     def lines_break(self, place, behind, context, column):
         """What the later lines of a flow scalar outside flow break."""
@@ -480,7 +474,7 @@ class Search:
     def block_scalar_tokens(self, place, context, column):
         """Each block scalar at a place (IsBlockScalarToken)."""
         style, header = self.at(place.index), self.header(place.index)
-        if not header:
+        if not header or context == IN_FLOW:
             return
         digit, chomping, start = header
         indentation, is_start = self.indentation(column, digit, start), True
@@ -489,7 +483,7 @@ class Search:
             fit = all(is_read_line(indentation, line) for line in lines)
             if fit and self.text[end - 1:end + 1] != "\r\n" and self.is_behind_lines(indentation, t):
                 value = block_value(style, chomping, indentation, "\n".join(lines), self.at(end) == END)
-                yield style, value, t, self.unless("block scalar in flow", context != IN_FLOW)
+                yield style, value, t, 0
             if self.at(end) in END + MARK or is_start and self.is_document_indicator(end):
                 return
             is_start = self.at(end) in BREAK
@@ -510,10 +504,10 @@ class Search:
         here = self.apart(place)
         for anchor, t in self.name_tokens(here, "&"):
             yield (anchor, None), t, 0
-            yield from (((anchor, tag), u, broken) for tag, u, broken in self.tag_tokens(self.apart(t), context))
-        for tag, t, broken in self.tag_tokens(here, context):
-            yield (None, tag), t, broken
-            yield from (((anchor, tag), u, broken) for anchor, u in self.name_tokens(self.apart(t), "&"))
+            yield from (((anchor, tag), u, 0) for tag, u in self.tag_tokens(self.apart(t), context))
+        for tag, t in self.tag_tokens(here, context):
+            yield (None, tag), t, 0
+            yield from (((anchor, tag), u, 0) for anchor, u in self.name_tokens(self.apart(t), "&"))
 
     def left_out(self, place):
         return [(told, t, 0) for told, t in self.tell(place, Leaf("=VAL", None, None, "plain", ""))]
