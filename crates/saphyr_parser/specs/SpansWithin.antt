@@ -17,8 +17,8 @@ IsIn text span = (span.start.index ≤ span.end.index) × IsPlaceOf text span.st
 abbrev pub HasSpansIn : List ℕ → Answer → Type 0
 HasSpansIn text a = All (λ (e : Happening × Span). IsIn text e.1) a.events
 
--- From a parser to what calls make of it: an event or a fault is handed out, or read ahead, and prefixes of tags are kept
--- from then on or not, in any order.
+-- From a parser to what calls make of it: an event or a fault is handed out, or read ahead, and prefixes of tags are
+-- kept from then on or not, in any order.
 pub data IsLater (start : EventCursor) : EventCursor → Type 0 where
   itself : IsLater start start
   advanced : (e : Happening × Span) (c d : EventCursor) → IsLater start c → Advances e c d → IsLater start d

@@ -15,7 +15,7 @@ use Rattle.yaml_tree.specs.declared.builder.Builder.{Builder}
 use Rattle.yaml_tree.specs.BuilderSeen.{Finishes}
 use Rattle.saphyr_parser.specs.Nesting.{IsAtStart}
 use Rattle.yaml_tree.specs.LoaderSeen.{Forbids}
-use Rattle.yaml_tree.specs.Leaving.{HasHandedOut, LeavesFrom, LeavesLooked, Leaves}
+use Rattle.yaml_tree.specs.Leaving.{HasHandedOut, LeavesFrom, LeavesLooked, LeavesParser}
 
 pub hands_none : (c : EventCursor) → HasHandedOut c c
 hands_none c = record { handed = []; over = refl }
@@ -43,7 +43,7 @@ leaves_at X (fault.TooManyNodes at most) limits events place a b w h = h
 leaves_at X (fault.TooDeep at most) limits events place a b w h = h
 
 pub leaves_looked : (X Y : Type 0) (f : TreeFault) (old looked new : EventCursor) → Looks old looked
-    → IsAtStart (to_come looked) → LeavesFrom {X = X} (Err f) looked new → Leaves {X = Y} (Err f) old new
+    → IsAtStart (to_come looked) → LeavesFrom {X = X} (Err f) looked new → LeavesParser {X = Y} (Err f) old new
 leaves_looked X Y (fault.Parse f) old looked new l s h = record { looked = looked; looks = l; leaves = h }
 leaves_looked X Y fault.NotFresh old looked new l s h = record { looked = looked; looks = l; leaves = inr (s, h) }
 leaves_looked X Y fault.OutOfMemory old looked new l s h = record { looked = looked; looks = l; leaves = h }
@@ -53,7 +53,7 @@ leaves_looked X Y (fault.TooDeep at most) old looked new l s h = record { looked
 -- all events were taken, and the documents are finished
 pub leaves_behind : (r : Result (Vec Document Global) TreeFault) (b : Builder) (old looked new : EventCursor)
     → Looks old looked → IsAtStart (to_come looked) → LeavesFrom {X = Unit {0}} (Ok tt) looked new → Finishes r b
-    → Leaves r old new
+    → LeavesParser r old new
 leaves_behind (Ok documents) b old looked new l s h f = record { looked = looked; looks = l; leaves = h }
 leaves_behind (Err fault.NotFresh) b old looked new l s h f =
     record { looked = looked; looks = l; leaves = inr (s, record { handed = (to_come looked).events; over = h.0 }) }

@@ -28,7 +28,7 @@ LeavesLooked (Err fault.NotFresh) looked new =
 LeavesLooked r looked new = LeavesFrom r looked new
 
 -- The parser that a call leaves.
-pub record Leaves {X : Type 0} (result : Result X TreeFault) (old new : EventCursor) : Type 0 where
+pub record LeavesParser {X : Type 0} (result : Result X TreeFault) (old new : EventCursor) : Type 0 where
   pub looked : EventCursor
   pub looks : Looks old looked
   pub leaves : LeavesLooked result looked new

@@ -5,7 +5,7 @@ ghost use Rattle.saphyr_parser.specs.Views.Events.{happening};
 ghost use Rattle.saphyr_parser.specs.Cursor.{to_come};
 ghost use Rattle.saphyr_parser.specs.Calls.{Looks};
 ghost use Rattle.yaml_tree.specs.Loading.{LoadsDocuments, TakesAll, BeginsSo};
-ghost use Rattle.yaml_tree.specs.Leaving.{Leaves, LeavesFrom};
+ghost use Rattle.yaml_tree.specs.Leaving.{LeavesParser, LeavesFrom};
 
 use crate::builder::Builder;
 use crate::document::Document;
@@ -25,7 +25,7 @@ pub fn load_documents<'input, T: Input>(
     limits: Limits,
 ) -> Result<Vec<Document>, TreeFault>
     ensures loads { LoadsDocuments limits result (to_come parser.old) (to_come parser.new) }
-    ensures leaves { Leaves result parser.old parser.new }
+    ensures leaves { LeavesParser result parser.old parser.new }
 {
     if !is_at_start(parser) {
         return Err(TreeFault::NotFresh);

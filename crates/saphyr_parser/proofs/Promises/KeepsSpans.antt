@@ -93,7 +93,10 @@ reads text (Some e) (Some k) c d kept read h = absurd read
 reads text (Some e) None c d kept (moved, left) h =
     let step = stepped text c.machine d.machine e moved (h.between kept) in
     subst (Stands text) (sym left)
-    (record { ahead = λ f g. (let same : e ≡ f = cc in subst (λ (x : Happening × Span). IsIn text x.1) same step.0); between = λ g. step.1 })
+    (record {
+      ahead = λ f g. (let same : e ≡ f = cc in subst (λ (x : Happening × Span). IsIn text x.1) same step.0);
+      between = λ g. step.1;
+    })
 reads text None (Some k) c d kept (untold, ends, left) h =
     subst (Stands text) (sym left) (record { ahead = λ e g. h.ahead e g; between = λ g. absurd (cc) })
 reads text None None c d kept (over, left) h = subst (Stands text) (sym left) h

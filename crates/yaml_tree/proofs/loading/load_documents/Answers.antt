@@ -19,8 +19,8 @@ pub returns-in_err-take_all-clause-leaves : goal.returns-in_err-take_all-clause-
 returns-in_err-take_all-clause-leaves g c =
     let fault = c.in_err-take_all.field-0.0 in
     let answer : c.from_residual.result ≡ Err fault = search rules in
-    rw answer (leaves_looked (Unit {0}) _ fault _ _ _ c.if-not-is_at_start.ensures.looks c.if-not-is_at_start.ensures.begins.1
-    (c.in_err-take_all.ensures.leaves c.args.limits c.new-loader.ensures))
+    rw answer (leaves_looked (Unit {0}) _ fault _ _ _ c.if-not-is_at_start.ensures.looks
+    c.if-not-is_at_start.ensures.begins.1 (c.in_err-take_all.ensures.leaves c.args.limits c.new-loader.ensures))
 
 pub returns-clause-loads : goal.returns-clause-loads
 returns-clause-loads g c =
