@@ -172,8 +172,8 @@ IsQuotedToken quote value span s t =
 abbrev pub may_begin_plain : ℕ → Bool
 may_begin_plain c = not (is_one_of (codes ",[]{}#&*!'\"%@`") c)
 
--- Where a token stands: whether inside brackets, and the first column right of the innermost open block collection, 0 at
--- the root.
+-- Where a token stands: whether inside brackets, and the first column right of the innermost open block collection, 0
+-- at the root.
 pub record Surroundings : Type 0 where
   pub in_flow : Bool
   pub indent : ℕ
@@ -242,8 +242,8 @@ IsToken at (tokens.Anchor name) span s t = IsNameToken ampersand name span s t
 IsToken at (tokens.Tag handle suffix) span s t = IsTagToken at.in_flow handle suffix span s t
 IsToken at (tokens.Scalar style value) span s t = IsScalarToken style at value span s t
 
--- What is open where a token stands: the columns of the block collections, the innermost first, and how many brackets and
--- braces.
+-- What is open where a token stands: the columns of the block collections, the innermost first, and how many brackets
+-- and braces.
 pub record Collections : Type 0 where
   pub columns : List ℕ
   pub brackets : ℕ
@@ -298,4 +298,5 @@ IsEndOf text (Some e) u = IsPlaceOf text e.mark
 
 -- the tokens, and the refusal if one ends them, are taken from the text
 abbrev pub AreTakenFrom : List ℕ → Remaining → Type 0
-AreTakenFrom text r = (end : Cursor) × AreTokens no_collections r.pieces (start_cursor text) end × IsEndOf text r.refusal end
+AreTakenFrom text r =
+    (end : Cursor) × AreTokens no_collections r.pieces (start_cursor text) end × IsEndOf text r.refusal end

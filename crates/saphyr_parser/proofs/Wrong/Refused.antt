@@ -29,7 +29,8 @@ use Rattle.saphyr_parser.proofs.Wrong.Owned.{OwnScalar, owned}
 white_refused : (text value : List ℕ) (span : Span) → (space ∷ value ≡ []) ⊎ OwnScalar text (space ∷ value) Plain span
     → ⊥
 white_refused text value span (inl e) = cc
-white_refused text value span (inr h) = let k = plain_value_ink h.at.in_flow (32 ∷ value) h.own h.here h.behind h.is in cc
+white_refused text value span (inr h) =
+    let k = plain_value_ink h.at.in_flow (32 ∷ value) h.own h.here h.behind h.is in cc
 
 pub blank_first_is_not_taken : (keep : Bool) → AreTaken keep (codes "- a") wrong.blank_first → ⊥
 blank_first_is_not_taken keep t = white_refused (codes "- a") (codes "a") _

@@ -26,7 +26,7 @@ use Rattle.saphyr_scanner.proofs.Added.Queue.{IsNoEnd}
 use Rattle.saphyr_scanner.proofs.Blocks.{unrolled_cursor, unrolled_comment}
 use Rattle.saphyr_scanner.proofs.Counted.{stays, text_passed}
 use Rattle.saphyr_scanner.proofs.Effects.Moves.{Does, and_then, NoComment, Same, still, further}
-use Rattle.saphyr_scanner.proofs.Effects.Puts.{Reading, surroundings, quiet}
+use Rattle.saphyr_scanner.proofs.Effects.Puts.{Reading, quiet}
 use Rattle.saphyr_scanner.proofs.Effects.Walked.{Premises, Walked, walked_then, at_most, Doing, unsaved_step, at_reach}
 use Rattle.saphyr_scanner.proofs.Effects.Walked.{at_inside, read_walked, separate_walked}
 use Rattle.saphyr_scanner.proofs.Effects.Readers.{TextLaws}
@@ -35,7 +35,7 @@ use Rattle.saphyr_scanner.proofs.Effects.Steps.{begins_none, begins_forgotten}
 use Rattle.saphyr_scanner.proofs.LineTails.{OnLine, tail_apart}
 use Rattle.saphyr_scanner.proofs.Reached.{along_reached, apart_reached}
 use Rattle.saphyr_scanner.proofs.Taken.Documents.{HoldsState, forgotten_unrolled, three_at, Marking, end_marking, break_apart, directive_is_token, directive_keeps, quiet_directive}
-use Rattle.saphyr_scanner.proofs.Taken.Cores.{KeepsBrackets}
+use Rattle.saphyr_scanner.proofs.Taken.Cores.{KeepsBrackets, surroundings}
 use Rattle.saphyr_scanner.proofs.Taken.Later.{apart_later}
 use Rattle.saphyr_scanner.proofs.Taken.Parts.{is_quiet}
 use Rattle.saphyr_scanner.proofs.Taken.Places.{Reaches, reaches_reaches, At, at_here}

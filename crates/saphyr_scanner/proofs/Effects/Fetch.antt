@@ -53,8 +53,8 @@ step_does first second n c h f g =
     cases (Walked (Premises c) (Stepped n c) c.cursor) first second n c (record {
       sequence = λ e. does _ (start_does 91 tokens.FlowSequenceStart context.FlowSequence open_sequence sequence_starts
           sequence_opens refl n c (f ∙ e));
-      mapping = λ e. does _ (start_does 123 tokens.FlowMappingStart context.FlowMapping open_mapping mapping_starts mapping_opens
-          refl n c (f ∙ e));
+      mapping = λ e. does _ (start_does 123 tokens.FlowMappingStart context.FlowMapping open_mapping mapping_starts
+          mapping_opens refl n c (f ∙ e));
       sequence_end = λ e. still _ (end_does 93 tokens.FlowSequenceEnd close_sequence sequence_closes
           (ends_pair c.level.context) c (f ∙ e));
       mapping_end = λ e. still _ (end_does 125 tokens.FlowMappingEnd close_mapping mapping_closes false c (f ∙ e));

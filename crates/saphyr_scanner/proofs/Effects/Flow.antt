@@ -21,10 +21,11 @@ use Rattle.saphyr_scanner.specs.TokensTaken.{Collections, Surroundings, open_beh
 use Rattle.saphyr_scanner.specs.Limits.{most_open}
 use Rattle.saphyr_scanner.proofs.Added.Queue.{IsNoEnd}
 use Rattle.saphyr_scanner.proofs.Effects.Moves.{Does, NoComment, and_then, Same, same, same_same, lesser, further, leaving}
-use Rattle.saphyr_scanner.proofs.Effects.Puts.{Reading, surroundings, empty_reading, IndicatorStands, passes, indicated, quiet, saving, entered, left}
+use Rattle.saphyr_scanner.proofs.Effects.Puts.{Reading, empty_reading, IndicatorStands, passes, indicated, quiet, saving, entered, left}
 use Rattle.saphyr_scanner.proofs.Effects.Walked.{Premises, Walked, walked_then, at_most, Doing}
 use Rattle.saphyr_scanner.proofs.Effects.Walked.{separate_walked}
 use Rattle.saphyr_scanner.proofs.LineTails.{OnLine}
+use Rattle.saphyr_scanner.proofs.Taken.Cores.{surroundings}
 use Rattle.saphyr_scanner.proofs.Taken.Later.{apart_later}
 use Rattle.saphyr_scanner.proofs.Taken.Parts.{is_quiet, Begins, pair_ends}
 use Rattle.saphyr_scanner.proofs.Taken.Places.{Reaches, at_here}

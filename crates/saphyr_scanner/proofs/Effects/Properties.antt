@@ -17,11 +17,11 @@ use Rattle.saphyr_scanner.specs.TokensTaken as taken
 use Rattle.saphyr_scanner.specs.TokensTaken.{Surroundings, IsToken, begins_text}
 use Rattle.saphyr_scanner.proofs.Added.Queue.{IsNoEnd}
 use Rattle.saphyr_scanner.proofs.Counted.{Ahead}
-use Rattle.saphyr_scanner.proofs.Effects.Puts.{saving, saved, same_flow, surroundings, Reading}
+use Rattle.saphyr_scanner.proofs.Effects.Puts.{saving, saved, same_flow, Reading}
 use Rattle.saphyr_scanner.proofs.Effects.Walked.{Premises, Walked, walked_then, Doing, read_walked}
 use Rattle.saphyr_scanner.proofs.Effects.Scalars.{Starts}
 use Rattle.saphyr_scanner.proofs.Effects.Readers.{Readers, ReaderEnds, Less, TextLaws}
-use Rattle.saphyr_scanner.proofs.Taken.Cores.{KeepsBrackets}
+use Rattle.saphyr_scanner.proofs.Taken.Cores.{KeepsBrackets, surroundings}
 use Rattle.saphyr_scanner.proofs.Taken.Parts.{is_quiet}
 use Rattle.saphyr_scanner.proofs.Taken.Places.{here_at}
 

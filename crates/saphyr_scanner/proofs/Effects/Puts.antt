@@ -23,7 +23,7 @@ use Rattle.saphyr_scanner.proofs.Effects.Readers.{Readers, ReaderEnds, ReadsSpan
 use Rattle.saphyr_scanner.proofs.Effects.Moves.{Around, Does, IsBeforePlace, IsNextPlace, Left, NoComment, around}
 use Rattle.saphyr_scanner.proofs.PlainBehind.{IsNoted}
 use Rattle.saphyr_scanner.proofs.Taken.Candidates.{KeyAbove, LevelsAbove, Above}
-use Rattle.saphyr_scanner.proofs.Taken.Cores.{HoldsTaken, KeepsBrackets, outermost, holds_put, next_put, quiet_opens, quiet_put, loud_put}
+use Rattle.saphyr_scanner.proofs.Taken.Cores.{HoldsTaken, KeepsBrackets, surroundings, outermost, holds_put, next_put, quiet_opens, quiet_put, loud_put}
 use Rattle.saphyr_scanner.proofs.Taken.Cores.{saved_keys, open_quiet, open_loud, indicator_is_passed}
 use Rattle.saphyr_scanner.proofs.Taken.Held.{Stands, keys_put, keys_weaken}
 use Rattle.saphyr_scanner.proofs.Taken.Later.{apart_later}
@@ -32,10 +32,6 @@ use Rattle.saphyr_scanner.proofs.Taken.Places.{Reaches, character_reached}
 use Rattle.saphyr_input.proofs.Basics.Booleans.{by_test}
 
 -- ## A token is put
-
--- where the next token of a scanner stands
-abbrev pub surroundings : Core → Surroundings
-surroundings c = record { in_flow = not (in_block c); indent = c.indent }
 
 -- a token from the place of c to u, where k characters at least are taken off
 pub record Reading (k : ℕ) (c : Core) (t : Piece) (u : Cursor) : Type 0 where
@@ -198,9 +194,8 @@ entered n x c d t flows s a m q b e begins start h =
     let indents = ap (λ (x : Around). x.outer_indents) a in
     let blocks : open_blocks r ≡ open_blocks c =
     ap (λ (x : Around). at_most_one x.indent + length x.outer_indents) a in
-    putting (Some n) 1 4 c r t
-    (record { less = h.less; span = h.span; token = h.token }) e (ap (λ (x : Around). x.started) a)
-    (ap (λ (x : Around). x.ended) a) (λ f. inl (m f)) (omega (arith, blocks))
+    putting (Some n) 1 4 c r t h e (ap (λ (x : Around). x.started) a) (ap (λ (x : Around). x.ended) a)
+    (λ f. inl (m f)) (omega (arith, blocks))
     (λ i l y. let P : List Level → Type 0 = λ ls. LevelsAbove i ls in
     (tt, (saved_above i n c d.level s l y.0, subst P (sym outer) y.1)))
     (λ laws opened from p i k.

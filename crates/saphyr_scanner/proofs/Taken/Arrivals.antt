@@ -78,7 +78,8 @@ gapped : (opened : Collections) (from : Cursor) (q : Queue) (c : Core) → Taken
     → Given (Near opened from q) (pass_gap c >>= drop_far_key)
 gapped opened from q c h l =
     behind_gap_of (Near opened from q) c drop_far_key
-    (λ d a p. dropped_near opened from q d (taken_further opened from c d q p a.indent a.outer_indents (ap length a.outer) h)
+    (λ d a p. dropped_near opened from q d
+    (taken_further opened from c d q p a.indent a.outer_indents (ap length a.outer) h)
     (further_live c d q a p l))
 
 line_near : (k : Candidate) (m : Marker) → is_too_far (Some k) m ≡ false → m.line ≤ k.mark.line

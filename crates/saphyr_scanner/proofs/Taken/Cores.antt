@@ -14,7 +14,7 @@ use Rattle.saphyr_scanner.specs.Steps.Core.{Core, in_block, forget_key, least_co
 use Rattle.saphyr_scanner.specs.Steps.Level.{Candidate, Level, is_block}
 use Rattle.saphyr_scanner.specs.Steps.Passing.{pass_gap, check_comment, goes_on_behind, behind_gap, check_comment_of}
 use Rattle.saphyr_scanner.specs.TokensTaken as taken
-use Rattle.saphyr_scanner.specs.TokensTaken.{Collections, AreApart, IsToken, TakesCharacter, open_behind}
+use Rattle.saphyr_scanner.specs.TokensTaken.{Collections, Surroundings, AreApart, IsToken, TakesCharacter, open_behind}
 use Rattle.saphyr_scanner.proofs.Taken.Separated.{gap_apart}
 use Rattle.saphyr_scanner.proofs.Taken.Parts.{is_quiet, quiet_open, Begins, opens_block, column_of}
 use Rattle.saphyr_scanner.proofs.Taken.Held.{Stack, Stands, Taken, taken_further, Opens, taken_put, taken_open, Key, KeyOf, lower, Keys, keys_weaken, keys_put, keys_open, below_key}
@@ -141,10 +141,13 @@ quiet_opens t c d e i o n opened h =
 pub next_put : (t : Piece) (q : Queue) → next (with_piece t q) ≡ next q + 1
 next_put t q = let l = length-append q.places (bare_place t ∷ []) in omega (arith, l)
 
+-- where the next token of a scanner stands
+abbrev pub surroundings : Core → Surroundings
+surroundings c = record { in_flow = not (in_block c); indent = c.indent }
+
 -- a token is put behind the others
 pub holds_put : (opened : Collections) (from : Cursor) (c d : Core) (q : Queue) (t : Piece) (here behind : Cursor)
-    → AreApart c.cursor here
-    → IsToken (record { in_flow = not (in_block c); indent = c.indent }) t.kind t.span here behind
+    → AreApart c.cursor here → IsToken (surroundings c) t.kind t.span here behind
     → AreApart behind d.cursor → Opens t c d → HoldsTaken opened from c q → Taken opened from d (with_piece t q)
 holds_put opened from c d q t here behind a is b o h =
     let P : Bool → Type 0 = λ f. IsToken (record { in_flow = f; indent = c.indent }) t.kind t.span here behind in
@@ -153,8 +156,7 @@ holds_put opened from c d q t here behind a is b o h =
 -- a quiet token from here to behind, and separation to the place that is reached
 pub quiet_put : (opened : Collections) (from : Cursor) (c d : Core) (q : Queue) (t : Piece) (here behind : Cursor)
     → is_quiet t.kind ≡ true → KeepsBrackets t → AreApart c.cursor here
-    → IsToken (record { in_flow = not (in_block c); indent = c.indent }) t.kind t.span here behind
-    → AreApart behind d.cursor
+    → IsToken (surroundings c) t.kind t.span here behind → AreApart behind d.cursor
     → Alike c d → HoldsTaken opened from c q → HoldsTaken opened from d (with_piece t q)
 quiet_put opened from c d q t here behind e f a is b l h = record {
   taken = holds_put opened from c d q t here behind a is b
@@ -169,8 +171,7 @@ quiet_put opened from c d q t here behind e f a is b l h = record {
 
 -- any token, behind which no key is a candidate
 pub loud_put : (opened : Collections) (from : Cursor) (c d : Core) (q : Queue) (t : Piece) (here behind : Cursor)
-    → AreApart c.cursor here
-    → IsToken (record { in_flow = not (in_block c); indent = c.indent }) t.kind t.span here behind
+    → AreApart c.cursor here → IsToken (surroundings c) t.kind t.span here behind
     → AreApart behind d.cursor → Opens t c d → d.level.key ≡ None → d.outer ≡ [] → in_block d ≡ true
     → HoldsTaken opened from c q → HoldsTaken opened from d (with_piece t q)
 loud_put opened from c d q t here behind a is b o k n f h = record {

@@ -79,7 +79,8 @@ three_at x xs z e =
 pub record Marking (stands : List ℕ → Bool) (text : List ℕ) (kind : Kind) : Type 0 where
   pub quiet : is_quiet kind ≡ true
   pub keeps : (span : Span) → KeepsBrackets (record { span = span; kind = kind })
-  pub is : (i : Surroundings) (span : Span) (s t : Cursor) → taken.IsMarker stands text span s t → IsToken i kind span s t
+  pub is : (i : Surroundings) (span : Span) (s t : Cursor) → taken.IsMarker stands text span s t
+      → IsToken i kind span s t
   pub three : (xs : List ℕ) → stands xs ≡ true → xs ≡ text ++ drop 3 xs
   pub count : length text ≡ 3
 
@@ -119,8 +120,8 @@ break_apart s =
     (taken.nothing _ _)))
     (λ c. taken.nothing s.mark s.rest))
 
-pub directive_is_token : (d : ReadDirective) (i : Surroundings) (span : Span) (s t : Cursor) → taken.IsDirectiveToken d span s t
-    → IsToken i (document.directive_kind d) span s t
+pub directive_is_token : (d : ReadDirective) (i : Surroundings) (span : Span) (s t : Cursor)
+    → taken.IsDirectiveToken d span s t → IsToken i (document.directive_kind d) span s t
 directive_is_token (version major minor) i span s t h = h
 directive_is_token (tag_prefix handle prefix) i span s t h = h
 directive_is_token (reserved name) i span s t h = h

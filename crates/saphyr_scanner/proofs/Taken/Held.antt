@@ -253,8 +253,8 @@ keys_open b n q i (l ∷ ls) o e h x =
 -- the tokens, where a candidate turns out to be a key
 pub taken_open : (opened : Collections) (from : Cursor) (c d : Core) (q : Queue) (b : ℕ) (block : Bool) (k : Candidate)
     (o : Opening) → Key b q block c.indent k → (opens_block o ≡ true → block ≡ true) → AreApart c.cursor d.cursor
-    → ((open_now : Collections) → Stands open_now c → Stands (column_of o k.mark.col open_now) d) → Taken opened from c q
-    → Taken opened from d (with_opening k.place o q)
+    → ((open_now : Collections) → Stands open_now c → Stands (column_of o k.mark.col open_now) d)
+    → Taken opened from c q → Taken opened from d (with_opening k.place o q)
 taken_open opened from c d q b block k o x e a s h =
     let n : k.place - q.handed ≡ length x.front = omega (arith, x.at) in
     let now : (with_opening k.place o q).places ≡ x.front ++ place_with_front o x.token ∷ x.back =

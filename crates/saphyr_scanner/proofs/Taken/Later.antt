@@ -163,7 +163,8 @@ mark_later span s t h =
       columns = λ h i k. omega arith;
     })
 
-pub token_later : (i : Surroundings) (kind : Kind) (span : Span) (s t : Cursor) → IsToken i kind span s t → LaterThan s t
+pub token_later : (i : Surroundings) (kind : Kind) (span : Span) (s t : Cursor) → IsToken i kind span s t
+    → LaterThan s t
 token_later i tokens.StreamStart span s t h = nothing_later span s t h
 token_later i tokens.StreamEnd span s t h = nothing_later span s t h.1
 token_later i (tokens.VersionDirective major minor) span s t h = span_later span h.0 s t h.5

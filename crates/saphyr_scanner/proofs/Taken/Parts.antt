@@ -62,7 +62,8 @@ abbrev pub with_column : ℕ → Collections → Collections
 with_column column opened = with_columns (column ∷ opened.columns) opened
 
 pub quiet_token : (f : Bool) (i j : ℕ) (kind : Kind) (span : Span) (s t : Cursor) → is_quiet kind ≡ true
-    → IsToken (record { in_flow = f; indent = i }) kind span s t → IsToken (record { in_flow = f; indent = j }) kind span s t
+    → IsToken (record { in_flow = f; indent = i }) kind span s t
+    → IsToken (record { in_flow = f; indent = j }) kind span s t
 quiet_token f i j (tokens.Scalar style.Literal value) span s t q h = absurd (cc)
 quiet_token f i j (tokens.Scalar style.Folded value) span s t q h = absurd (cc)
 quiet_token f i j (tokens.Scalar style.Plain value) span s t q h = h
@@ -206,8 +207,8 @@ opening_open opened opening.FlowMappingAndKey t back q =
 opening_open opened opening.BlockMappingAndKey t back q = quiet_all t.span.start.col (t ∷ back) opened (q refl)
 
 -- a token in the queue, in front of which nothing stands, is opened
-pub place_tokens : (opened : Collections) (o : Opening) (front : List Place) (t : Piece) (back : List Place) (s u : Cursor)
-    → Begins t → (opens_block o ≡ true → AreQuiet (t ∷ flat back))
+pub place_tokens : (opened : Collections) (o : Opening) (front : List Place) (t : Piece) (back : List Place)
+    (s u : Cursor) → Begins t → (opens_block o ≡ true → AreQuiet (t ∷ flat back))
     → AreTokens opened (flat (front ++ bare_place t ∷ back)) s u
     → AreTokens opened (flat (front ++ place_with_front o t ∷ back)) s u
 place_tokens opened o front t back s u b q h =

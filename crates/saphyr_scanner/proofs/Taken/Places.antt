@@ -91,7 +91,8 @@ plain_reached f s t text end r e =
     whole (inl f) = let P : List ℕ → Type 0 = λ l. Uncut l t.rest in subst P (sym f) tt
     whole (inr f) = uncut_behind r.white t.rest f
 
-pub token_reached : (i : Surroundings) (kind : Kind) (span : Span) (s t : Cursor) → IsToken i kind span s t → Reaches s t
+pub token_reached : (i : Surroundings) (kind : Kind) (span : Span) (s t : Cursor) → IsToken i kind span s t
+    → Reaches s t
 token_reached i tokens.StreamStart span s t h = nothing_reached span s t h
 token_reached i tokens.StreamEnd span s t h = nothing_reached span s t h.1
 token_reached i (tokens.VersionDirective major minor) span s t h =
@@ -120,7 +121,8 @@ token_reached i tokens.Value span s t h = character_reached 58 s t refl h.0
 token_reached i (tokens.Alias name) span s t h = span_reached span (42 ∷ h.0) s t (refl, name_no_break h.0 h.1) h.3
 token_reached i (tokens.Anchor name) span s t h = span_reached span (38 ∷ h.0) s t (refl, name_no_break h.0 h.1) h.3
 token_reached i (tokens.Tag handle suffix) span s t h = span_reached span h.0 s t (tag_no_break h.0 h.1 h.2 h.3) h.6
-token_reached i (tokens.Scalar style.Plain value) span s t h = plain_reached i.in_flow s t value span.end h.reading h.uncut
+token_reached i (tokens.Scalar style.Plain value) span s t h =
+    plain_reached i.in_flow s t value span.end h.reading h.uncut
 token_reached i (tokens.Scalar style.SingleQuoted value) span s t h = passed_reached s.mark s.rest t.mark t.rest h.3
 token_reached i (tokens.Scalar style.DoubleQuoted value) span s t h = passed_reached s.mark s.rest t.mark t.rest h.3
 token_reached i (tokens.Scalar style.Literal value) span s t h = passed_reached s.mark s.rest t.mark t.rest h.1.passes

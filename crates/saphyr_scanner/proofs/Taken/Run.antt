@@ -72,8 +72,8 @@ abbrev From : List ℕ → Cursor → Type 0
 From text u = LaterThan (start_cursor text) u × Reaches (start_cursor text) u
 
 -- what is left where a place was handed out
-record Left (text : List ℕ) (opened : Collections) (from : Cursor) (c : Core) (p : Place) (ps : List Place) (n : ℕ) : Type
-    0 where
+record Left (text : List ℕ) (opened : Collections) (from : Cursor) (c : Core) (p : Place) (ps : List Place) (n : ℕ) :
+    Type 0 where
   between : Cursor
   tokens : AreTokens opened (place_pieces p.opening p.piece) from between
   later : From text between
@@ -147,8 +147,8 @@ handed_follow text go c others opened from n (p ∷ ps) l h =
     (handed_follow text go c others (open_all (place_pieces p.opening p.piece) opened) w.between (n + 1) ps w.later
     w.ready))
 
-delivers_taken : (text : List ℕ) (opened : Collections) (from : Cursor) (r : Result State Refusal) (go : State → Remaining)
-    → ((t : State) → r ≡ Ok t → FollowsTaken text opened from (go t))
+delivers_taken : (text : List ℕ) (opened : Collections) (from : Cursor) (r : Result State Refusal)
+    (go : State → Remaining) → ((t : State) → r ≡ Ok t → FollowsTaken text opened from (go t))
     → ((e : Refusal) → r ≡ Err e → IsPlaceOf text e.mark) → FollowsTaken text opened from (remaining_after r go)
 delivers_taken text opened from (Ok t) go h k = h t refl
 delivers_taken text opened from (Err e) go h k =
@@ -186,7 +186,8 @@ run_follows laws text small limit (suc fuel) opened from s l f h m =
 start_read : (text : List ℕ) → Read no_collections (start_cursor text) (start text)
 start_read text = record {
   fetched = record {
-    taken = record { last = start_cursor text; tokens = refl; apart = taken.nothing _ _; stands = ((refl, refl), refl) };
+    taken =
+        record { last = start_cursor text; tokens = refl; apart = taken.nothing _ _; stands = ((refl, refl), refl) };
     live = λ _. inl (λ nz. (refl, tt, tt));
   };
   over = λ e. absurd (cc);

@@ -34,7 +34,8 @@ unfolding encode
 takes_tag =
     whole (here stream_start_taken (here (tag_directive_taken (codes "!e!") (codes "t:") _ directive_e refl refl refl
     refl)
-    (behind_feed (document_start_taken refl refl) (behind_blank (tag_taken _ (codes "!e!") (codes "u") tag_e refl refl refl)
+    (behind_feed (document_start_taken refl refl)
+    (behind_blank (tag_taken _ (codes "!e!") (codes "u") tag_e refl refl refl)
     (behind_blank (plain_taken letter_v refl refl refl refl) (behind_feed stream_end_taken no_token))))))
 
 pub takes_byte_order_mark : AreTakenFrom (codes "\u{feff}a\n...\n") texts.byte_order_mark_tokens
@@ -46,7 +47,8 @@ takes_byte_order_mark =
 pub takes_refusal : AreTakenFrom (codes "a: b: c") texts.refusal
 unfolding encode
 takes_refusal =
-    let h : Tokens no_collections texts.refusal.pieces (marker_at 0 1 0) (codes "a: b: c") (marker_at 4 1 4) (codes ": c") =
+    let h : Tokens no_collections texts.refusal.pieces (marker_at 0 1 0) (codes "a: b: c") (marker_at 4 1 4)
+    (codes ": c") =
     here stream_start_taken (here (mapping_start_taken refl)
     (here key_taken (here (plain_taken letter_a refl refl refl refl)
     (here (colon_taken refl) (behind_blank (plain_taken letter_b refl refl refl refl) no_token))))) in

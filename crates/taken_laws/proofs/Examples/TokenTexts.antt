@@ -45,15 +45,16 @@ pub record Tokens (opened : Collections) (ps : List Piece) (m : Marker) (t : Lis
     Type 0 where
   pub holds : AreTokens opened ps (cursor_here t m) (cursor_here u n)
 
-pub record TokenText (at : Surroundings) (kind : Kind) (span : Span) (m : Marker) (t : List ℕ) (n : Marker) (u : List ℕ) :
-    Type 0 where
+pub record TokenText (at : Surroundings) (kind : Kind) (span : Span) (m : Marker) (t : List ℕ) (n : Marker)
+    (u : List ℕ) : Type 0 where
   pub holds : IsToken at kind span (cursor_here t m) (cursor_here u n)
 
 pub no_token : {opened : Collections} {m : Marker} {t : List ℕ} → Tokens opened [] m t m t
 no_token = record { holds = refl }
 
 -- behind what is passed over
-pub behind : {opened : Collections} {t v w u : List ℕ} {p : Piece} {ps : List Piece} {m a b n : Marker} → IsPassedOver m t a v
+pub behind : {opened : Collections} {t v w u : List ℕ} {p : Piece} {ps : List Piece} {m a b n : Marker}
+    → IsPassedOver m t a v
     → TokenText (surroundings_in opened) p.kind p.span a v b w
     → Tokens (open_behind p.kind p.span opened) ps b w n u → Tokens opened (p ∷ ps) m t n u
 behind {v = v} {w} {a = a} {b} o h r = record { holds = (cursor_here v a, cursor_here w b, o, h.holds, r.holds) }
@@ -74,7 +75,8 @@ pub behind_feed : {opened : Collections} {t w u : List ℕ} {p : Piece} {ps : Li
 behind_feed h r = behind (taken.line_break _ _ _ _ refl (taken.nothing _ _)) h r
 
 -- all of a text
-pub whole : {pieces : List Piece} {text : List ℕ} {n : Marker} → Tokens no_collections pieces (marker_at 0 1 0) text n []
+pub whole : {pieces : List Piece} {text : List ℕ} {n : Marker}
+    → Tokens no_collections pieces (marker_at 0 1 0) text n []
     → AreTakenFrom text (record { pieces = pieces; refusal = None })
 whole {n = n} h = (cursor_here [] n, h.holds, refl)
 
@@ -168,7 +170,8 @@ pub dash_taken : {at : Surroundings} {m : Marker} {t : List ℕ} → TokenText a
 dash_taken {m = m} = record { holds = ((refl, refl), refl, lies (along m 1) blank, refl) }
 
 -- a colon before a blank, a break, NUL or the end
-pub colon_taken : {at : Surroundings} {m : Marker} {others : List ℕ} → IsTrue (is_blank_or_breakz (slice_index others 0))
+pub colon_taken : {at : Surroundings} {m : Marker} {others : List ℕ}
+    → IsTrue (is_blank_or_breakz (slice_index others 0))
     → TokenText at tokens.Value (span_from_to m m) m (colon ∷ others) (along m 1) others
 colon_taken b = record { holds = ((refl, refl), (λ _. b), refl, refl) }
 
@@ -244,21 +247,54 @@ pub record IsLetter (c : ℕ) : Type 0 where
   pub below : c < 128
 
 pub letter_a : IsLetter 97
-letter_a = record { begins = refl; is_ink = refl; no_indicator = refl; no_block_scalar = refl; no_flow = refl; above = omega arith; below = omega arith }
+letter_a = record {
+  begins = refl;
+  is_ink = refl;
+  no_indicator = refl;
+  no_block_scalar = refl;
+  no_flow = refl;
+  above = omega arith;
+  below = omega arith;
+}
 
 pub letter_b : IsLetter 98
-letter_b = record { begins = refl; is_ink = refl; no_indicator = refl; no_block_scalar = refl; no_flow = refl; above = omega arith; below = omega arith }
+letter_b = record {
+  begins = refl;
+  is_ink = refl;
+  no_indicator = refl;
+  no_block_scalar = refl;
+  no_flow = refl;
+  above = omega arith;
+  below = omega arith;
+}
 
 pub letter_c : IsLetter 99
-letter_c = record { begins = refl; is_ink = refl; no_indicator = refl; no_block_scalar = refl; no_flow = refl; above = omega arith; below = omega arith }
+letter_c = record {
+  begins = refl;
+  is_ink = refl;
+  no_indicator = refl;
+  no_block_scalar = refl;
+  no_flow = refl;
+  above = omega arith;
+  below = omega arith;
+}
 
 pub letter_v : IsLetter 118
-letter_v = record { begins = refl; is_ink = refl; no_indicator = refl; no_block_scalar = refl; no_flow = refl; above = omega arith; below = omega arith }
+letter_v = record {
+  begins = refl;
+  is_ink = refl;
+  no_indicator = refl;
+  no_block_scalar = refl;
+  no_flow = refl;
+  above = omega arith;
+  below = omega arith;
+}
 
 absent : (a : Bool) → a ≡ false → IsTrue a → (P : Type 0) → P
 absent a e h P = absurd (let f : false ≡ true = rw e at h in cc)
 
-pub plain_taken : {at : Surroundings} {c : ℕ} {m : Marker} {bytes t : List ℕ} → IsLetter c → IsFalse (is_document_indicator (c ∷ t))
+pub plain_taken : {at : Surroundings} {c : ℕ} {m : Marker} {bytes t : List ℕ} → IsLetter c
+    → IsFalse (is_document_indicator (c ∷ t))
     → IsTrue (ends_piece (slice_index t 0)) → encode_utf8_all (plain_value (normalized (c ∷ []))) ≡ bytes
     → end_of_text m (c ∷ []) ≡ along m 1
     → TokenText at (tokens.Scalar Plain bytes) (span_from_to m (along m 1)) m (c ∷ t) (along m 1) t
