@@ -41,8 +41,12 @@
 extern "C" {
 #endif
 
-/* The version of this header: 1,000,000 for each major and 1,000 for each minor one, and the patch's number. */
+/* The version of these declarations, which saphyr_version answers: 1,000,000 for each major and 1,000 for each minor
+   one, and the patch's number. The shared library's name ends with it. */
 #define SAPHYR_VERSION 1000u
+
+/* The release that this header came with. Before the `+` is the version of the Rust crate whose events these are. */
+#define SAPHYR_PARSER_VERSION "0.3.3+rattle.1"
 
 /* What a call answers. Below 0 it could not do what was asked. */
 enum saphyr_status {
