@@ -1,47 +1,81 @@
-//! Tells Cargo where the proved library lies, and the small one of the kit that it calls for memory.
+//! Tells Cargo where the proved library lies.
 //!
-//! Both are looked for in the folder that `SAPHYR_PARSER_LIB` names. Where it isn't set, the library is the one that
-//! `rt lib` left in the repository, and the kit's that beside the command `rt`.
+//! It is looked for in the folder that `SAPHYR_PARSER_LIB` names; where that isn't set, where `rt lib` left it in the
+//! repository, and in the release that this crate is a part of. A release has it as one archive. In the repository it
+//! is two: the library, and the small one of the kit that it calls for memory, which lies beside the command `rt`.
+//!
+//! Without the library there is a warning, so that what needs no linking works: `cargo check`, `clippy` and `doc`.
 
 use std::env;
+use std::fs::read_link;
+use std::os::unix::process::parent_id;
 use std::path::{Path, PathBuf};
-use std::process::exit;
 
 const VARIABLE: &str = "SAPHYR_PARSER_LIB";
-const LIBRARY: &str = "libsaphyr_parser_c.a";
+const RELEASED: &str = "libsaphyr_parser.a";
+const BUILT: &str = "libsaphyr_parser_c.a";
 const OF_THE_KIT: &str = "liblibc_c.a";
 
 fn main() {
     println!("cargo:rerun-if-env-changed={VARIABLE}");
     println!("cargo:rerun-if-env-changed=PATH");
-    let named = env::var_os(VARIABLE).map(PathBuf::from);
-    let built = Path::new(env!("CARGO_MANIFEST_DIR")).join("../crates/saphyr_parser_c/out");
-    let folder = named.unwrap_or(built);
-    link(&folder, LIBRARY);
-    if folder.join(OF_THE_KIT).is_file() {
-        link(&folder, OF_THE_KIT);
-    } else if let Some(kit) = folder_of_the_kit() {
-        link(&kit, OF_THE_KIT);
-    } else {
-        stop(&format!(
-            "{OF_THE_KIT} is not in {}, nor in a kit on the PATH",
-            folder.display()
-        ));
+    let folders = folders();
+    if let Some(archives) = folders.iter().find_map(|it| archives_of(it)) {
+        archives.iter().for_each(|it| link(it));
+        return;
+    }
+    let tried: Vec<String> = folders.iter().map(|it| it.display().to_string()).collect();
+    println!(
+        "cargo:warning=the proved library, {RELEASED}, or {BUILT} with {OF_THE_KIT} of the kit, is not in {}. \
+         Nothing can be linked without it: set {VARIABLE} to the folder `lib` of a release, or run `rt lib` in \
+         crates/saphyr_parser_c of the repository",
+        tried.join(" nor in ")
+    );
+    // The compiler says that it can't find this library. Cargo runs this program again, until the file is there.
+    println!("cargo:rustc-link-lib=static=saphyr_parser");
+    println!("cargo:rerun-if-changed={RELEASED}");
+}
+
+/// Where the library is looked for.
+fn folders() -> Vec<PathBuf> {
+    let package = Path::new(env!("CARGO_MANIFEST_DIR"));
+    match env::var_os(VARIABLE).filter(|it| !it.is_empty()) {
+        Some(named) => vec![where_cargo_runs().join(named)],
+        None => vec![
+            package.join("../crates/saphyr_parser_c/out"),
+            package.join("../../../lib"),
+        ],
     }
 }
 
-/// Has the program linked with the library of that name in the folder.
-fn link(folder: &Path, file: &str) {
-    let path = folder.join(file);
-    if !path.is_file() {
-        stop(&format!("{} is not there", path.display()));
+/// The folder in which Cargo was called. This program runs in that of the package.
+fn where_cargo_runs() -> PathBuf {
+    read_link(format!("/proc/{}/cwd", parent_id())).unwrap_or_default()
+}
+
+/// The archives that make up the library, where the folder has it.
+fn archives_of(folder: &Path) -> Option<Vec<PathBuf>> {
+    let (released, built) = (folder.join(RELEASED), folder.join(BUILT));
+    if released.is_file() {
+        return Some(vec![released]);
     }
-    println!("cargo:rerun-if-changed={}", path.display());
+    let of_the_kit = [Some(folder.to_owned()), folder_of_the_kit()]
+        .into_iter()
+        .flatten()
+        .map(|it| it.join(OF_THE_KIT))
+        .find(|it| it.is_file())?;
+    built.is_file().then(|| vec![built, of_the_kit])
+}
+
+/// Has the program linked with an archive.
+fn link(archive: &Path) {
+    let (Some(folder), Some(file)) = (archive.parent(), archive.file_stem()) else {
+        return;
+    };
+    let file = file.to_string_lossy();
+    println!("cargo:rerun-if-changed={}", archive.display());
     println!("cargo:rustc-link-search=native={}", folder.display());
-    println!(
-        "cargo:rustc-link-lib=static={}",
-        &file["lib".len()..file.len() - ".a".len()]
-    );
+    println!("cargo:rustc-link-lib=static={}", &file["lib".len()..]);
 }
 
 /// The folder `c` of the kit whose command `rt` is on the path.
@@ -50,16 +84,5 @@ fn folder_of_the_kit() -> Option<PathBuf> {
     let rt = env::split_paths(&path)
         .map(|it| it.join("rt"))
         .find(|it| it.is_file())?;
-    let folder = rt.canonicalize().ok()?.parent()?.join("../c");
-    folder.join(OF_THE_KIT).is_file().then_some(folder)
-}
-
-/// Ends the build, and says what to do.
-fn stop(said: &str) -> ! {
-    eprintln!("{said}.");
-    eprintln!("Build the library with `rt lib` in crates/saphyr_parser_c of its repository, or set {VARIABLE}");
-    eprintln!(
-        "to a folder with {LIBRARY} and {OF_THE_KIT} (which is in the folder `c` of the kit)."
-    );
-    exit(1)
+    Some(rt.canonicalize().ok()?.parent()?.join("../c"))
 }
