@@ -1,6 +1,6 @@
 -- Events without their spans.
-use Rattle.std.specs.Prelude.{ℕ, Bool, List, Option}
-use Rattle.saphyr_scanner.specs.Grammar.Forest.{Style}
+use Rattle.std.specs.Prelude.{ℕ, Bool, List, [], Option, None}
+use Rattle.saphyr_scanner.specs.Grammar.Forest.{Style, Plain}
 
 -- a tag with its prefix in place of the handle, both in UTF-8
 pub record ResolvedTag : Type 0 where
@@ -21,3 +21,7 @@ pub data Happening : Type 0 where
   SequenceEnd : Happening
   MappingStart : ℕ → Option ResolvedTag → Happening
   MappingEnd : Happening
+
+-- a node that is left out
+abbrev pub empty_scalar : Happening
+empty_scalar = Scalar [] Plain 0 None

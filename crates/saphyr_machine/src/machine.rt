@@ -2,6 +2,7 @@
 //! read in `document`, `block` and `flow`, the nodes there in `node`, and `step` chooses among them.
 
 ghost use Rattle.std.specs.Prelude.{◌≡◌, None};
+ghost use Rattle.saphyr_machine.specs.Events.{empty_scalar};
 ghost use Rattle.saphyr_machine.specs.Steps.Machine as spec;
 
 use crate::anchors::Anchors;
@@ -149,7 +150,7 @@ impl<T: Input> Machine<T> {
     // The event of a node that is left out.
     #[inline(always)]
     pub(super) fn empty_scalar<'input>(&self) -> Event<'input>
-        ensures { happening result ≡ spec.empty_scalar }
+        ensures { happening result ≡ empty_scalar }
     {
         Event::Scalar(
             CowStr::Owned(String::new(self.alloc)),

@@ -14,7 +14,8 @@ use Rattle.saphyr_machine.specs.declared.context.NodeContext.TheVariants.{Flow, 
 use Rattle.saphyr_machine.specs.declared.state.State.{State}
 use Rattle.saphyr_machine.specs.declared.state.State.TheVariants.{End}
 use Rattle.saphyr_parser.specs.Preorder.{Part, Leaf, node_parts}
-use Rattle.saphyr_machine.specs.Steps.Machine.{Machine, told_event, empty_scalar}
+use Rattle.saphyr_machine.specs.Steps.Machine.{Machine, told_event}
+use Rattle.saphyr_machine.specs.Events.{empty_scalar}
 use Rattle.saphyr_machine.specs.Steps.Nodes as steps
 use Rattle.saphyr_machine.specs.Steps.Nodes.{node_without_content, node_content_at}
 use Rattle.saphyr_machine.specs.Steps.Expected.{event_step}

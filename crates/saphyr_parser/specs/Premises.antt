@@ -4,8 +4,7 @@ use Rattle.saphyr_input.specs.Breaks.{normalized}
 use Rattle.saphyr_scalar.specs.declared.scalar.position.Span.{Span}
 use Rattle.saphyr_scanner.specs.Grammar.Forest.{Forest}
 pub use Rattle.layout_laws.specs.Grammar.ClosedTexts.{DocumentMarker, Starts, Ends, EndsWithMarker}
-use Rattle.saphyr_machine.specs.Events.{Happening, StreamEnd, DocumentStart, DocumentEnd}
-use Rattle.saphyr_machine.specs.Steps.Machine.{empty_scalar}
+use Rattle.saphyr_machine.specs.Events.{Happening, StreamEnd, DocumentStart, DocumentEnd, empty_scalar}
 use Rattle.saphyr_parser.specs.ForestEvents.{events}
 use Rattle.saphyr_machine.specs.Answer.{Answer}
 use Rattle.saphyr_machine.specs.Cursor.{EventCursor, keeping_tags, to_come}

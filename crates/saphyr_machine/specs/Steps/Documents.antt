@@ -9,7 +9,8 @@ use Rattle.saphyr_scanner.specs.Views.Tokens.{Piece}
 use Rattle.saphyr_machine.specs.declared.context.NodeContext.TheVariants.{Block}
 use Rattle.saphyr_machine.specs.declared.state.State.TheVariants as state
 use Rattle.saphyr_machine.specs.Events as events
-use Rattle.saphyr_machine.specs.Steps.Machine.{◌>>=◌, Machine, Told, told_event, refusal_at, ending_refusal, taken_token, with_pieces, put_back, pop, with_state, push, empty_scalar, without_ids, with_meaning, is_listed, with_name}
+use Rattle.saphyr_machine.specs.Steps.Machine.{◌>>=◌, Machine, Told, told_event, refusal_at, ending_refusal, taken_token, with_pieces, put_back, pop, with_state, push, without_ids, with_meaning, is_listed, with_name}
+use Rattle.saphyr_machine.specs.Events.{empty_scalar}
 use Rattle.saphyr_machine.specs.Steps.Nodes.{node}
 
 -- ## Tokens that are passed

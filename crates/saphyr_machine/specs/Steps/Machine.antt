@@ -7,14 +7,13 @@ use Rattle.std.specs.Cmp.Lexicographic.{slice_cmp}
 use Rattle.std.specs.Map.{lookup}
 use Rattle.std.specs.Ordering.{nat_cmp}
 use Rattle.saphyr_scalar.specs.declared.scalar.position.Span.{Span}
-use Rattle.saphyr_scalar.specs.declared.scalar.style.ScalarStyle.TheVariants.{Plain}
 use Rattle.saphyr_scalar.specs.declared.scalar.fault.Refusal.{Refusal}
 use Rattle.saphyr_scalar.specs.declared.scalar.fault.FaultText.{FaultText}
 use Rattle.saphyr_scalar.specs.declared.scalar.fault.FaultText.TheVariants as fault
 use Rattle.saphyr_scanner.specs.Views.Tokens.{Piece, Remaining, before}
 use Rattle.saphyr_machine.specs.declared.state.State.{State}
 use Rattle.saphyr_machine.specs.declared.state.State.TheVariants as state
-use Rattle.saphyr_machine.specs.Events.{Happening, Scalar}
+use Rattle.saphyr_machine.specs.Events.{Happening, empty_scalar}
 
 -- a step, if the one before it gave something
 infixl 10 ◌>>=◌
@@ -117,10 +116,6 @@ with_state s m = record m { state = s }
 
 abbrev pub push : State → Machine → Machine
 push s m = record m { states = s ∷ m.states }
-
--- a node that is left out
-abbrev pub empty_scalar : Happening
-empty_scalar = Scalar [] Plain 0 None
 
 -- a node is left out before the token
 abbrev pub left_out_event : Piece → State → Span → Machine → Result Told Refusal

@@ -6,7 +6,7 @@ use Rattle.scalar_laws.specs.Spelling.Spaces.{IsEol, IsFiller, IsLastFiller, IsL
 use Rattle.saphyr_scanner.specs.Limits.{most_open}
 use Rattle.saphyr_scanner.specs.Grammar.Forest.{left_out}
 use Rattle.saphyr_machine.specs.Events as events
-use Rattle.saphyr_machine.specs.Steps.Machine.{empty_scalar}
+use Rattle.saphyr_machine.specs.Events.{empty_scalar}
 use Rattle.layout_laws.specs.Grammar.Layout.{IsDocument, IsDocumentSuffix, AreDocuments, IsLayoutText}
 use Rattle.layout_laws.specs.Grammar.BlockNodes.{IsBlockNode}
 use Rattle.layout_laws.proofs.Examples.MarkerAlone.{stands_for_one}

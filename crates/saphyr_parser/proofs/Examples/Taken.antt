@@ -7,8 +7,7 @@ use Rattle.saphyr_scanner.specs.Views.Tokens.{Piece}
 use Rattle.saphyr_scanner.specs.TokensTaken as taken
 use Rattle.saphyr_scanner.specs.TokensTaken.{AreTakenFrom, AreApart}
 use Rattle.saphyr_machine.specs.Events as events
-use Rattle.saphyr_machine.specs.Events.{Happening}
-use Rattle.saphyr_machine.specs.Steps.Machine.{empty_scalar}
+use Rattle.saphyr_machine.specs.Events.{Happening, empty_scalar}
 use Rattle.saphyr_parser.specs.ForestEvents.{events}
 use Rattle.saphyr_parser.specs.Examples.Forests as examples
 use Rattle.saphyr_parser.specs.EventsTaken as taking

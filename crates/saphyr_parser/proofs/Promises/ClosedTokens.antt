@@ -8,9 +8,9 @@ use Rattle.saphyr_scanner.specs.Views.Tokens.{Piece}
 use Rattle.saphyr_machine.specs.declared.state.State.{State}
 use Rattle.saphyr_machine.specs.declared.state.State.TheVariants as state
 use Rattle.saphyr_machine.specs.Events as events
-use Rattle.saphyr_machine.specs.Events.{Happening}
+use Rattle.saphyr_machine.specs.Events.{Happening, empty_scalar}
 use Rattle.saphyr_parser.specs.Premises.{DocumentMarker, Starts, Ends, events_behind_marker, GivesFirst}
-use Rattle.saphyr_machine.specs.Steps.Machine.{Machine, fresh_machine, told_event, empty_scalar, with_state, with_pieces}
+use Rattle.saphyr_machine.specs.Steps.Machine.{Machine, fresh_machine, told_event, with_state, with_pieces}
 use Rattle.saphyr_machine.specs.Steps.Documents.{unpassed_token, implicit_start, explicit_start, document_content, document_end, token_behind_document, without_prefixes}
 use Rattle.saphyr_machine.specs.Steps.Expected.{event_step, event_step_at}
 use Rattle.saphyr_machine.specs.Answer.{Answer, with_first_event, answer_of_step, remaining_answer}

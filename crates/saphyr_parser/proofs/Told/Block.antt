@@ -8,7 +8,8 @@ use Rattle.saphyr_machine.specs.declared.context.NodeContext.TheVariants.{Block,
 use Rattle.saphyr_machine.specs.declared.state.State.{State}
 use Rattle.saphyr_machine.specs.declared.state.State.TheVariants as state
 use Rattle.saphyr_parser.specs.Preorder.{Part, node_parts}
-use Rattle.saphyr_machine.specs.Steps.Machine.{told_event, empty_scalar}
+use Rattle.saphyr_machine.specs.Steps.Machine.{told_event}
+use Rattle.saphyr_machine.specs.Events.{empty_scalar}
 use Rattle.saphyr_machine.specs.Steps.Block.{block_sequence_entry, block_sequence_node, indentless_sequence_entry, indentless_sequence_node, block_mapping_key, block_key_node, block_mapping_value, block_value_node}
 use Rattle.saphyr_machine.specs.Steps.Expected.{event_step}
 use Rattle.saphyr_parser.proofs.Told.Telling.{SpansByKinds, Memory, at}

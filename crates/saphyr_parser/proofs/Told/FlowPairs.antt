@@ -10,7 +10,8 @@ use Rattle.saphyr_machine.specs.declared.context.NodeContext.TheVariants.{Flow}
 use Rattle.saphyr_machine.specs.declared.state.State.{State}
 use Rattle.saphyr_machine.specs.declared.state.State.TheVariants as state
 use Rattle.saphyr_parser.specs.Preorder.{Part, node_parts}
-use Rattle.saphyr_machine.specs.Steps.Machine.{Machine, told_event, empty_scalar}
+use Rattle.saphyr_machine.specs.Steps.Machine.{Machine, told_event}
+use Rattle.saphyr_machine.specs.Events.{empty_scalar}
 use Rattle.saphyr_machine.specs.Steps.Nodes.{node_inside}
 use Rattle.saphyr_machine.specs.Steps.Flow.{flow_mapping_pair_at, flow_key_node, flow_mapping_value, flow_value_node, flow_mapping_empty_value}
 use Rattle.saphyr_machine.specs.Steps.Expected.{event_step}

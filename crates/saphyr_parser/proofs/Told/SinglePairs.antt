@@ -10,8 +10,8 @@ use Rattle.saphyr_machine.specs.declared.context.NodeContext.TheVariants.{Flow}
 use Rattle.saphyr_machine.specs.declared.state.State.{State}
 use Rattle.saphyr_machine.specs.declared.state.State.TheVariants as state
 use Rattle.saphyr_parser.specs.Preorder.{Part, OpenMapping, CloseMapping, node_parts}
-use Rattle.saphyr_machine.specs.Events.{MappingStart, MappingEnd}
-use Rattle.saphyr_machine.specs.Steps.Machine.{Machine, told_event, empty_scalar}
+use Rattle.saphyr_machine.specs.Events.{MappingStart, MappingEnd, empty_scalar}
+use Rattle.saphyr_machine.specs.Steps.Machine.{Machine, told_event}
 use Rattle.saphyr_machine.specs.Steps.Nodes.{node_inside}
 use Rattle.saphyr_machine.specs.Steps.Flow.{flow_sequence_first_entry_at, flow_sequence_entry_mapping_key, flow_sequence_entry_mapping_value, flow_sequence_entry_mapping_node, flow_sequence_entry_mapping_end}
 use Rattle.saphyr_machine.specs.Steps.Expected.{event_step}
