@@ -47,7 +47,8 @@ def libraries():
 def make_library(kit):
     """Compiles the library over those that `rt ci` left, in a minute or two, which `rt lib` would prove again."""
     os.makedirs(f"{CRATE}/out", exist_ok=True)
-    words = [f"{kit}/bin/rattle", "build", *library_words(kit), "-o", "out/libsaphyr_parser_c.a"]
+    words = [f"{kit}/bin/rattle", "build", *library_words(kit), "--incremental", "out/incremental"]
+    words += ["-o", "out/libsaphyr_parser_c.a"]
     if subprocess.run(words, cwd=CRATE, capture_output=True).returncode:
         call(["rt", "lib"], CRATE)
 
