@@ -4,7 +4,6 @@
 use Rattle.std.proofs.Common.{◌≡◌, ℕ, ◌+◌, ◌-◌, ◌≤◌, ◌⊎◌, Bool, true, false, List, [], ◌∷◌, ◌++◌, length, Option, Some, None}
 use Rattle.std.proofs.Common.{refl, sym, ap, ◌∙◌, arith, subst, inl, inr}
 use Rattle.saphyr_scalar.specs.Views.Cursor.{Cursor}
-use Rattle.saphyr_scanner.specs.declared.engine.level.Context.{Context}
 use Rattle.saphyr_scanner.specs.Steps.Queue.{Queue, next}
 use Rattle.saphyr_scanner.specs.Steps.Core.{Core, Action, Put, Open, act, perform}
 use Rattle.saphyr_scanner.specs.Steps.Level.{Candidate, Level, is_block, at_root}
@@ -19,7 +18,7 @@ use Rattle.saphyr_scanner.proofs.Ordered.Queue.{PutsInOrder}
 use Rattle.saphyr_scanner.proofs.PlainBehind.{IsNoted}
 use Rattle.saphyr_scanner.proofs.Taken.Candidates.{KeyAbove, LevelsAbove, Above, ActionsAbove}
 use Rattle.saphyr_scanner.proofs.Taken.Cores.{HoldsTaken, Lesser, holds_lesser}
-use Rattle.saphyr_scanner.proofs.Taken.Held.{Taken, taken_further, lower, Keys, keys_weaken}
+use Rattle.saphyr_scanner.proofs.Taken.Held.{lower, Keys, keys_weaken}
 use Rattle.saphyr_scanner.proofs.Taken.Held.{below_key}
 use Rattle.saphyr_scanner.proofs.Taken.Later.{apart_later}
 

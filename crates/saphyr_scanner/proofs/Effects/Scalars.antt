@@ -20,11 +20,11 @@ use Rattle.saphyr_scalar.specs.Views.Cursor.{Cursor, ◌>>=◌}
 use Rattle.saphyr_scanner.specs.Grammar.Tokens as tokens
 use Rattle.saphyr_scanner.specs.Views.Tokens.{Piece}
 use Rattle.saphyr_scanner.specs.Steps.Core.{Core, in_block, least_column}
-use Rattle.saphyr_scanner.specs.Steps.Level.{Level, is_block}
+use Rattle.saphyr_scanner.specs.Steps.Level.{Level}
 use Rattle.saphyr_scanner.specs.Steps.Passing.{separate, pass_gap, with_cursor}
 use Rattle.saphyr_scanner.specs.Steps.Scalar as scalar
 use Rattle.saphyr_scanner.specs.TokensTaken as taken
-use Rattle.saphyr_scanner.specs.TokensTaken.{Collections, Surroundings, IsToken, IsQuotedToken, may_begin_plain, begins_text}
+use Rattle.saphyr_scanner.specs.TokensTaken.{Surroundings, IsToken, IsQuotedToken, may_begin_plain, begins_text}
 use Rattle.saphyr_scanner.proofs.Counted.{Ahead}
 use Rattle.saphyr_scanner.proofs.Effects.Puts.{IsSaved, saving, saved_above, saved, same_block, same_flow}
 use Rattle.saphyr_scanner.proofs.Effects.Walked.{Premises, Walked, walked_then, Doing, Stepped, at_inside, read_walked}
