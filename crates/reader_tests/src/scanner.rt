@@ -35,18 +35,19 @@ fn refuses(alloc: Global, (text, limit): (&str, usize), fault: FaultText, place:
 
 #[test]
 fn ends_streams(rt: HostRuntime) {
-    for (text, end) in [
+    const ROWS: &[(&str, Place)] = &[
         ("", (0, 1, 0)),
         ("# c", (3, 2, 0)),
         (" \t# c\r\n\n", (8, 3, 0)),
-    ] {
+    ];
+    for &(text, end) in ROWS {
         expect(&rt, ends_the_stream(rt.alloc(), text, end), text);
     }
 }
 
 #[test]
 fn refuses_texts(rt: HostRuntime) {
-    for (text, limit, fault, place) in [
+    const ROWS: &[(&str, usize, FaultText, Place)] = &[
         ("\0", 100, FaultText::UnprintableCharacter, (0, 1, 0)),
         (
             " \u{FEFF}",
@@ -62,7 +63,8 @@ fn refuses_texts(rt: HostRuntime) {
             FaultText::UnexpectedCharacter('@'),
             (5, 2, 1),
         ),
-    ] {
+    ];
+    for &(text, limit, fault, place) in ROWS {
         expect(&rt, refuses(rt.alloc(), (text, limit), fault, place), text);
     }
 }
@@ -80,8 +82,7 @@ fn has_tokens(alloc: Global, text: &str, kinds: &[&str]) -> bool {
 
 #[test]
 fn puts_a_key_before_its_token(rt: HostRuntime) {
-    let text = "*a : [*b : ]";
-    let kinds = [
+    const KINDS: &[&str] = &[
         "StreamStart",
         "BlockMappingStart",
         "Key",
@@ -97,5 +98,6 @@ fn puts_a_key_before_its_token(rt: HostRuntime) {
         "BlockEnd",
         "StreamEnd",
     ];
-    expect(&rt, has_tokens(rt.alloc(), text, &kinds), text);
+    let text = "*a : [*b : ]";
+    expect(&rt, has_tokens(rt.alloc(), text, KINDS), text);
 }

@@ -105,12 +105,13 @@ fn keeps(alloc: Global, text: &str, next: Option<char>) -> Result<bool, AllocErr
 
 #[test]
 fn keeps_a_break(rt: HostRuntime) -> Result<(), AllocError> {
-    for (text, kept) in [
+    const ROWS: &[(&str, Option<char>)] = &[
         ("\n-", Some('\n')),
         ("\0-", Some('\0')),
         ("\u{FEFF}-", Some('\u{FEFF}')),
         ("", None),
-    ] {
+    ];
+    for &(text, kept) in ROWS {
         expect(&rt, keeps(rt.alloc(), text, kept)?, text);
     }
     Ok(())

@@ -62,7 +62,7 @@ fn expect_refused(rt: &impl Abort, alloc: Global, rows: &[Refused]) {
 
 #[test]
 fn reads_scalars(rt: HostRuntime) {
-    let rows = [
+    const ROWS: &[Read] = &[
         ("|-\n a\n\n", 0, 0, "a", (4, 2, 1), (7, 4, 0)),
         ("|+\n a\n\n", 0, 0, "a\n\n", (4, 2, 1), (7, 4, 0)),
         ("|2\n   a\n", 0, 0, " a\n", (5, 2, 2), (8, 3, 0)),
@@ -99,12 +99,12 @@ fn reads_scalars(rt: HostRuntime) {
         ("--- |\na\n---\nb\n", 4, 0, "a\n", (6, 2, 0), (8, 3, 0)),
         ("foo: |\n  bar", 5, 1, "bar\n", (9, 2, 2), (12, 2, 5)),
     ];
-    expect_read(&rt, rt.alloc(), &rows);
+    expect_read(&rt, rt.alloc(), ROWS);
 }
 
 #[test]
 fn reads_headers_breaks_and_ends(rt: HostRuntime) {
-    let rows = [
+    const ROWS: &[Read] = &[
         ("|2-  # c\n   a\n\n", 0, 0, " a", (11, 2, 2), (15, 4, 0)),
         (">+2\t\n  a\n", 0, 0, "a\n", (7, 2, 2), (9, 3, 0)),
         ("|+", 0, 0, "", (0, 1, 0), (2, 1, 2)),
@@ -135,12 +135,12 @@ fn reads_headers_breaks_and_ends(rt: HostRuntime) {
         ("|+\n a\n\n ", 0, 0, "a\n\n\n", (4, 2, 1), (8, 4, 1)),
         (">+\n\n  \n  a\n", 0, 0, "\n\na\n", (9, 4, 2), (11, 5, 0)),
     ];
-    expect_read(&rt, rt.alloc(), &rows);
+    expect_read(&rt, rt.alloc(), ROWS);
 }
 
 #[test]
 fn refuses(rt: HostRuntime) {
-    let rows = [
+    const ROWS: &[Refused] = &[
         (
             "|\n   \n a",
             0,
@@ -187,5 +187,5 @@ fn refuses(rt: HostRuntime) {
             (2, 1, 2),
         ),
     ];
-    expect_refused(&rt, rt.alloc(), &rows);
+    expect_refused(&rt, rt.alloc(), ROWS);
 }

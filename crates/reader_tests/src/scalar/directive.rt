@@ -47,7 +47,7 @@ fn reads(alloc: Global, text: &str, said: Said, end: usize, behind: Place) -> bo
 
 #[test]
 fn reads_versions(rt: HostRuntime) {
-    let cases = [
+    const ROWS: &[(&str, u32, u32, usize, Place)] = &[
         ("%YAML 1.2\n---", 1, 2, 9, (10, 2, 0)),
         ("%YAML 1.2", 1, 2, 9, (9, 1, 9)),
         ("%YAML \t10.03 # c\r\n#", 10, 3, 12, (18, 2, 0)),
@@ -60,7 +60,7 @@ fn reads_versions(rt: HostRuntime) {
         ),
         ("%YAML 1.2\0\n", 1, 2, 9, (9, 1, 9)),
     ];
-    for (text, major, minor, end, behind) in cases {
+    for &(text, major, minor, end, behind) in ROWS {
         let said = Said::Version(major, minor);
         expect(&rt, reads(rt.alloc(), text, said, end, behind), text);
     }
@@ -68,7 +68,7 @@ fn reads_versions(rt: HostRuntime) {
 
 #[test]
 fn reads_tag_prefixes(rt: HostRuntime) {
-    let cases = [
+    const ROWS: &[(&str, &str, &str, usize, Place)] = &[
         (
             "%TAG !prefix! tag:example.com,2011:\n--- !prefix!A",
             "!prefix!",
@@ -94,7 +94,7 @@ fn reads_tag_prefixes(rt: HostRuntime) {
         ("%TAG !e!tag:x#c\r\n", "!e!", "tag:x#c", 15, (17, 2, 0)),
         ("%TAG ! %2C,[\n", "!", ",,[", 12, (13, 2, 0)),
     ];
-    for (text, handle, prefix, end, behind) in cases {
+    for &(text, handle, prefix, end, behind) in ROWS {
         let said = Said::TagPrefix(handle, prefix);
         expect(&rt, reads(rt.alloc(), text, said, end, behind), text);
     }
@@ -102,13 +102,13 @@ fn reads_tag_prefixes(rt: HostRuntime) {
 
 #[test]
 fn passes_reserved_directives(rt: HostRuntime) {
-    let cases = [
+    const ROWS: &[(&str, &str, usize, Place)] = &[
         ("%FOO bar # baz\n", "FOO", 14, (15, 2, 0)),
         ("%YAML1.2\n", "YAML1.2", 8, (9, 2, 0)),
         ("%TAGS\t", "TAGS", 6, (6, 1, 6)),
         ("%yaml#1,[%é\r\n", "yaml#1,[%é", 11, (13, 2, 0)),
     ];
-    for (text, name, end, behind) in cases {
+    for &(text, name, end, behind) in ROWS {
         let said = Said::Reserved(name);
         expect(&rt, reads(rt.alloc(), text, said, end, behind), text);
     }
@@ -116,7 +116,7 @@ fn passes_reserved_directives(rt: HostRuntime) {
 
 #[test]
 fn refuses(rt: HostRuntime) {
-    let cases = [
+    const ROWS: &[(&str, FaultText, usize)] = &[
         (" \t% x", FaultText::DirectiveNameExpected, 3),
         (" \t%", FaultText::DirectiveNameExpected, 3),
         (" \t%\u{FEFF}a", FaultText::DirectiveNameExpected, 3),
@@ -160,7 +160,7 @@ fn refuses(rt: HostRuntime) {
         (" \t%TAG ! a\u{FEFF}", FaultText::TagDirectiveEndExpected, 2),
         (" \t%TAG ! tag:x y", FaultText::DirectiveEndExpected, 2),
     ];
-    for (text, fault, place) in cases {
+    for &(text, fault, place) in ROWS {
         let read = read(rt.alloc(), &mut behind_blanks(text));
         expect(&rt, is_refused(read, fault, (place, 1, place)), text);
     }

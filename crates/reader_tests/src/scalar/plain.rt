@@ -52,7 +52,7 @@ fn refuses(alloc: Global, (in_flow, indent, text): Read, fault: FaultText, place
 
 #[test]
 fn scalars_of_one_line(rt: HostRuntime) {
-    for (place, value, end, behind) in [
+    const ROWS: &[(Read, &str, usize, usize)] = &[
         ((IN_BLOCK, 1, "b c\t d : e"), "b c\t d", 6, 7),
         ((IN_FLOW, 0, "a:b, c]"), "a:b", 3, 3),
         ((IN_BLOCK, 0, "a:b, c]"), "a:b, c]", 7, 7),
@@ -63,7 +63,8 @@ fn scalars_of_one_line(rt: HostRuntime) {
         ((IN_BLOCK, 0, "a\0b"), "a", 1, 1),
         ((IN_BLOCK, 0, "a \u{FEFF}"), "a", 1, 2),
         ((IN_BLOCK, 2, "é"), "é", 1, 1),
-    ] {
+    ];
+    for &(place, value, end, behind) in ROWS {
         let end = (end, 1, end);
         let behind = (behind, 1, behind);
         expect(
@@ -76,7 +77,7 @@ fn scalars_of_one_line(rt: HostRuntime) {
 
 #[test]
 fn scalars_of_several_lines(rt: HostRuntime) {
-    for (place, value, end, behind) in [
+    const ROWS: &[(Read, &str, Place, Place)] = &[
         (
             (IN_BLOCK, 0, "scalar\nkey: [1, 2]]"),
             "scalar key",
@@ -106,7 +107,8 @@ fn scalars_of_several_lines(rt: HostRuntime) {
         ((IN_BLOCK, 1, "b\n \t"), "b", (1, 1, 1), (4, 2, 2)),
         ((IN_BLOCK, 1, "b\n\t"), "b", (1, 1, 1), (3, 2, 1)),
         ((IN_BLOCK, 0, "b\n"), "b", (1, 1, 1), (2, 2, 0)),
-    ] {
+    ];
+    for &(place, value, end, behind) in ROWS {
         expect(
             &rt,
             reads(rt.alloc(), place, (value, end, behind), None),
@@ -117,7 +119,7 @@ fn scalars_of_several_lines(rt: HostRuntime) {
 
 #[test]
 fn comments_end_scalars(rt: HostRuntime) {
-    for (place, behind, interrupts) in [
+    const ROWS: &[(Read, Place, bool)] = &[
         ((IN_BLOCK, 1, "b # c\n d"), (2, 1, 2), true),
         ((IN_FLOW, 1, "b # c\n d"), (2, 1, 2), false),
         ((IN_BLOCK, 1, "b\n # c\n d"), (3, 2, 1), false),
@@ -126,7 +128,8 @@ fn comments_end_scalars(rt: HostRuntime) {
         ((IN_FLOW, 1, "b\n\t# c\n d"), (3, 2, 1), false),
         ((IN_BLOCK, 1, "b\n \t# c\n d"), (4, 2, 2), false),
         ((IN_BLOCK, 0, "b\n\t# c\nd"), (3, 2, 1), false),
-    ] {
+    ];
+    for &(place, behind, interrupts) in ROWS {
         let comment = if interrupts { Some(behind) } else { None };
         expect(
             &rt,
@@ -138,7 +141,7 @@ fn comments_end_scalars(rt: HostRuntime) {
 
 #[test]
 fn refusals(rt: HostRuntime) {
-    for (place, fault, mark) in [
+    const ROWS: &[(Read, FaultText, Place)] = &[
         (
             (IN_FLOW, 0, "a -, b]"),
             FaultText::PlainDashBeforeFlow,
@@ -166,7 +169,8 @@ fn refusals(rt: HostRuntime) {
             (3, 2, 1),
         ),
         ((IN_BLOCK, 0, ": a"), FaultText::PlainEnd, (0, 1, 0)),
-    ] {
+    ];
+    for &(place, fault, mark) in ROWS {
         expect(&rt, refuses(rt.alloc(), place, fault, mark), place.2);
     }
 }

@@ -1,6 +1,6 @@
 //! What no clause says: the printed texts, against the lists that they were taken from.
 
-use crate::helpers::{expect, is_text};
+use crate::helpers::{Place, expect, is_text, marker};
 use saphyr_scalar::{FaultText, Marker, Refusal, ScalarStyle, ScanError, Span};
 use std::alloc::{AllocError, Global};
 use std::process::Abort;
@@ -13,7 +13,7 @@ fn expect_texts(rt: &impl Abort, alloc: Global, faults: &[(FaultText, &str)]) {
 
 #[test]
 fn prints_the_faults_of_characters_and_structure(rt: HostRuntime) {
-    let faults = [
+    const FAULTS: &[(FaultText, &str)] = &[
         (
             FaultText::UnprintableCharacter,
             "found unprintable character",
@@ -51,12 +51,12 @@ fn prints_the_faults_of_characters_and_structure(rt: HostRuntime) {
         ),
         (FaultText::WhitespaceExpected, "expected whitespace"),
     ];
-    expect_texts(&rt, rt.alloc(), &faults);
+    expect_texts(&rt, rt.alloc(), FAULTS);
 }
 
 #[test]
 fn prints_the_faults_of_directives_and_tags(rt: HostRuntime) {
-    let faults = [
+    const FAULTS: &[(FaultText, &str)] = &[
         (
             FaultText::DirectiveEndExpected,
             "while scanning a directive, did not find expected comment or line break",
@@ -130,12 +130,12 @@ fn prints_the_faults_of_directives_and_tags(rt: HostRuntime) {
             "while scanning an anchor or alias, did not find expected alphabetic or numeric character",
         ),
     ];
-    expect_texts(&rt, rt.alloc(), &faults);
+    expect_texts(&rt, rt.alloc(), FAULTS);
 }
 
 #[test]
 fn prints_the_faults_of_flow_and_block(rt: HostRuntime) {
-    let faults = [
+    const FAULTS: &[(FaultText, &str)] = &[
         (FaultText::MisplacedBracket, "misplaced bracket"),
         (FaultText::RecursionLimit, "recursion limit exceeded"),
         (
@@ -175,12 +175,12 @@ fn prints_the_faults_of_flow_and_block(rt: HostRuntime) {
             "while scanning a quoted scalar, found unexpected document indicator",
         ),
     ];
-    expect_texts(&rt, rt.alloc(), &faults);
+    expect_texts(&rt, rt.alloc(), FAULTS);
 }
 
 #[test]
 fn prints_the_faults_of_scalars(rt: HostRuntime) {
-    let faults = [
+    const FAULTS: &[(FaultText, &str)] = &[
         (
             FaultText::EndInsideQuotes,
             "while scanning a quoted scalar, found unexpected end of stream",
@@ -227,12 +227,12 @@ fn prints_the_faults_of_scalars(rt: HostRuntime) {
             "mapping keys are not allowed in this context",
         ),
     ];
-    expect_texts(&rt, rt.alloc(), &faults);
+    expect_texts(&rt, rt.alloc(), FAULTS);
 }
 
 #[test]
 fn prints_the_faults_of_keys_and_values(rt: HostRuntime) {
-    let faults = [
+    const FAULTS: &[(FaultText, &str)] = &[
         (FaultText::TabNotAllowed, "tabs disallowed in this context"),
         (
             FaultText::ColonBeforeFlow,
@@ -263,12 +263,12 @@ fn prints_the_faults_of_keys_and_values(rt: HostRuntime) {
             "the TAG directive must only be given at most once per handle in the same document",
         ),
     ];
-    expect_texts(&rt, rt.alloc(), &faults);
+    expect_texts(&rt, rt.alloc(), FAULTS);
 }
 
 #[test]
 fn prints_the_faults_of_documents_and_nodes(rt: HostRuntime) {
-    let faults = [
+    const FAULTS: &[(FaultText, &str)] = &[
         (
             FaultText::DocumentStartExpected,
             "did not find expected <document start>",
@@ -307,7 +307,7 @@ fn prints_the_faults_of_documents_and_nodes(rt: HostRuntime) {
             "text longer than 4294967295 characters",
         ),
     ];
-    expect_texts(&rt, rt.alloc(), &faults);
+    expect_texts(&rt, rt.alloc(), FAULTS);
 }
 
 // Whether an error at this place is printed so.
@@ -320,14 +320,15 @@ fn prints(alloc: Global, mark: Marker, text: &str) -> bool {
 
 #[test]
 fn prints_an_error(rt: HostRuntime) {
-    for (mark, text) in [
-        (Marker::new(3, 1, 3), "x at byte 3 line 1 column 4"),
+    const ROWS: &[(Place, &str)] = &[
+        ((3, 1, 3), "x at byte 3 line 1 column 4"),
         (
-            Marker::new(0, 1, usize::MAX),
+            (0, 1, usize::MAX),
             "x at byte 0 line 1 column 18446744073709551616",
         ),
-    ] {
-        expect(&rt, prints(rt.alloc(), mark, text), text);
+    ];
+    for &(place, text) in ROWS {
+        expect(&rt, prints(rt.alloc(), marker(place), text), text);
     }
 }
 
@@ -376,14 +377,14 @@ fn measures_spans(rt: HostRuntime) {
 
 #[test]
 fn orders_the_styles(rt: HostRuntime) {
-    let styles = [
+    const STYLES: &[ScalarStyle] = &[
         ScalarStyle::Plain,
         ScalarStyle::SingleQuoted,
         ScalarStyle::DoubleQuoted,
         ScalarStyle::Literal,
         ScalarStyle::Folded,
     ];
-    for pair in styles.windows(2) {
+    for pair in STYLES.windows(2) {
         assert_eq!(rt; pair.len(), 2);
         assert!(rt; pair[0] < pair[1]);
     }

@@ -37,7 +37,7 @@ fn refuses_tag(alloc: Global, text: &str, fault: FaultText, place: usize) -> boo
 
 #[test]
 fn reads_tags(rt: HostRuntime) {
-    let cases = [
+    const ROWS: &[(&str, &str, &str, usize)] = &[
         ("!!str a", "!!", "str", 5),
         ("! a", "", "!", 1),
         ("!", "", "!", 1),
@@ -58,7 +58,7 @@ fn reads_tags(rt: HostRuntime) {
         ("!a%21%2521", "!", "a!%21", 10),
         ("  !a", "!", "a", 4),
     ];
-    for (text, handle, suffix, end) in cases {
+    for &(text, handle, suffix, end) in ROWS {
         let parts = (handle, suffix, end);
         expect(&rt, reads_tag(rt.alloc(), text, false, parts), text);
     }
@@ -66,13 +66,13 @@ fn reads_tags(rt: HostRuntime) {
 
 #[test]
 fn flow_indicators_end_tags_in_flow(rt: HostRuntime) {
-    let cases = [
+    const ROWS: &[(&str, &str, &str, usize)] = &[
         ("!a,b", "!", "a", 2),
         ("!!x]", "!!", "x", 3),
         ("!}", "", "!", 1),
         ("!<a>[", "", "a", 4),
     ];
-    for (text, handle, suffix, end) in cases {
+    for &(text, handle, suffix, end) in ROWS {
         let parts = (handle, suffix, end);
         expect(&rt, reads_tag(rt.alloc(), text, true, parts), text);
         let holds = refuses_tag(rt.alloc(), text, FaultText::TagEndExpected, 0);
@@ -82,7 +82,7 @@ fn flow_indicators_end_tags_in_flow(rt: HostRuntime) {
 
 #[test]
 fn refuses_tags_at_their_start(rt: HostRuntime) {
-    let cases = [
+    const ROWS: &[(&str, FaultText)] = &[
         ("\t !<a b>", FaultText::VerbatimTagEndExpected),
         ("\t !<a", FaultText::VerbatimTagEndExpected),
         ("\t !! x", FaultText::TagSuffixExpected),
@@ -111,7 +111,7 @@ fn refuses_tags_at_their_start(rt: HostRuntime) {
         ("\t !é", FaultText::TagEndExpected),
         ("\t !<a>b", FaultText::TagEndExpected),
     ];
-    for (text, fault) in cases {
+    for &(text, fault) in ROWS {
         expect(&rt, refuses_tag(rt.alloc(), text, fault, 2), text);
     }
 }
@@ -136,7 +136,7 @@ fn reads_anchor(alloc: Global, text: &str, name: &str, end: usize) -> bool {
 
 #[test]
 fn reads_anchors_and_aliases(rt: HostRuntime) {
-    let cases = [
+    const ROWS: &[(&str, &str, usize)] = &[
         ("&a x", "a", 2),
         ("*a", "a", 2),
         ("*a:b ", "a:b", 4),
@@ -149,14 +149,15 @@ fn reads_anchors_and_aliases(rt: HostRuntime) {
         ("&a\0", "a", 2),
         ("  &ab\r", "ab", 5),
     ];
-    for (text, name, end) in cases {
+    for &(text, name, end) in ROWS {
         expect(&rt, reads_anchor(rt.alloc(), text, name, end), text);
     }
 }
 
 #[test]
 fn refuses_names_without_characters_at_the_indicator(rt: HostRuntime) {
-    for text in [" & a", " *", " &]", " *,", " &\n", " *\u{FEFF}a"] {
+    const ROWS: &[&str] = &[" & a", " *", " &]", " *,", " &\n", " *\u{FEFF}a"];
+    for &text in ROWS {
         let read = read_anchor(rt.alloc(), &mut behind_blanks(text));
         expect(
             &rt,

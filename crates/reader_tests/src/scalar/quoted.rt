@@ -37,7 +37,7 @@ fn refuses(alloc: Global, text: &str, indent: usize, fault: FaultText, place: Pl
 
 #[test]
 fn reads_lines_of_double_quoted_scalars(rt: HostRuntime) {
-    for (text, value) in [
+    const ROWS: &[(&str, &str)] = &[
         ("\"a \\\n  b\n\n c\"", "a b\nc"),
         ("\"a\r\nb\"", "a b"),
         ("\"a\r\rb\"", "a\nb"),
@@ -57,14 +57,15 @@ fn reads_lines_of_double_quoted_scalars(rt: HostRuntime) {
         ("\"a\n --- b\"", "a --- b"),
         ("\"a'b''c # d: e\"", "a'b''c # d: e"),
         ("\"\\x41\\u00e9\\U0001F600\\n\"", "Aé😀\n"),
-    ] {
+    ];
+    for &(text, value) in ROWS {
         expect(&rt, reads(rt.alloc(), text, 0, value), text);
     }
 }
 
 #[test]
 fn reads_single_quoted_scalars(rt: HostRuntime) {
-    for (text, value) in [
+    const ROWS: &[(&str, &str)] = &[
         ("'it''s'", "it's"),
         ("''", ""),
         ("''''", "'"),
@@ -75,28 +76,30 @@ fn reads_single_quoted_scalars(rt: HostRuntime) {
         ("' a \n\n b '", " a\nb "),
         ("'a ''\n ''b'", "a ' 'b"),
         ("'a' 'b'", "a"),
-    ] {
+    ];
+    for &(text, value) in ROWS {
         expect(&rt, reads(rt.alloc(), text, 0, value), text);
     }
 }
 
 #[test]
 fn ends_right_behind_the_closing_quote(rt: HostRuntime) {
-    for (text, end) in [
+    const ROWS: &[(&str, Place)] = &[
         ("\"a \\\n  b\n\n c\"", (13, 4, 3)),
         ("\"a\r\nb\" c", (6, 2, 2)),
         ("\"\u{FEFF}\"", (3, 1, 3)),
         ("\"a\n\u{FEFF}b\"", (6, 2, 3)),
         ("'it''s' # c", (7, 1, 7)),
         ("'a\n\n'", (5, 3, 1)),
-    ] {
+    ];
+    for &(text, end) in ROWS {
         expect(&rt, ends(rt.alloc(), text, end), text);
     }
 }
 
 #[test]
 fn refuses_ends_inside_quotes(rt: HostRuntime) {
-    for text in [
+    const ROWS: &[&str] = &[
         "\"",
         "\"a",
         "\"a ",
@@ -108,7 +111,8 @@ fn refuses_ends_inside_quotes(rt: HostRuntime) {
         "'",
         "'a''",
         "'a\n",
-    ] {
+    ];
+    for &text in ROWS {
         let holds = refuses(rt.alloc(), text, 3, FaultText::EndInsideQuotes, START);
         expect(&rt, holds, text);
     }
@@ -116,13 +120,14 @@ fn refuses_ends_inside_quotes(rt: HostRuntime) {
 
 #[test]
 fn refuses_markers_inside_quotes(rt: HostRuntime) {
-    for text in [
+    const ROWS: &[&str] = &[
         "\"a\n---\nb\"",
         "\"a\n... b\"",
         "\"a\n\n...",
         "\"a\\\n---\0\"",
         "'a\r---\tb'",
-    ] {
+    ];
+    for &text in ROWS {
         let holds = refuses(
             rt.alloc(),
             text,
@@ -136,7 +141,7 @@ fn refuses_markers_inside_quotes(rt: HostRuntime) {
 
 #[test]
 fn refuses_lines_left_of_the_indentation(rt: HostRuntime) {
-    for (text, indent, fault, place) in [
+    const ROWS: &[(&str, usize, FaultText, Place)] = &[
         ("\"a\nb\"", 1, FaultText::QuotedIndentation, START),
         ("\"a\n b\"", 2, FaultText::QuotedIndentation, START),
         ("\"a\n\"", 1, FaultText::QuotedIndentation, START),
@@ -150,7 +155,8 @@ fn refuses_lines_left_of_the_indentation(rt: HostRuntime) {
             (4, 2, 1),
         ),
         ("'a\n\n\tb'", 1, FaultText::TabAsIndentation, (4, 3, 0)),
-    ] {
+    ];
+    for &(text, indent, fault, place) in ROWS {
         let holds = refuses(rt.alloc(), text, indent, fault, place);
         expect(&rt, holds, text);
     }
@@ -158,28 +164,30 @@ fn refuses_lines_left_of_the_indentation(rt: HostRuntime) {
 
 #[test]
 fn reads_lines_right_of_the_indentation(rt: HostRuntime) {
-    for (text, indent, value) in [
+    const ROWS: &[(&str, usize, &str)] = &[
         ("\"a\nb\"", 0, "a b"),
         ("\"a\n b\"", 1, "a b"),
         ("\"a\n \tb\"", 1, "a b"),
         ("\"a\n\n  b\"", 2, "a\nb"),
         ("\"a\\\n\"", 8, "a"),
         ("\"a\tb\"", 8, "a\tb"),
-    ] {
+    ];
+    for &(text, indent, value) in ROWS {
         expect(&rt, reads(rt.alloc(), text, indent, value), text);
     }
 }
 
 #[test]
 fn refuses_escapes_that_are_none(rt: HostRuntime) {
-    for (text, fault) in [
+    const ROWS: &[(&str, FaultText)] = &[
         ("\"a\n\\q\"", FaultText::UnknownEscape),
         ("\"\\", FaultText::UnknownEscape),
         ("\"\\x1g\"", FaultText::HexadecimalDigitExpected),
         ("\"\\u12\"", FaultText::HexadecimalDigitExpected),
         ("\"\\ud83d\\ude00\"", FaultText::EscapedCodePoint),
         ("\"\\U00110000\"", FaultText::EscapedCodePoint),
-    ] {
+    ];
+    for &(text, fault) in ROWS {
         let holds = refuses(rt.alloc(), text, 0, fault, START);
         expect(&rt, holds, text);
     }

@@ -9,18 +9,19 @@ use std::alloc::{AllocError, Global};
 
 #[test]
 fn breaks_are_normalized(rt: HostRuntime) {
-    for (text, want) in [
+    const ROWS: &[(&str, &str)] = &[
         ("a\r\nb\rc\n\r", "a\nb\nc\n\n"),
         ("\r\r\n", "\n\n"),
         ("é", "é"),
-    ] {
+    ];
+    for &(text, want) in ROWS {
         expect(&rt, is_text(normalized(rt.alloc(), text), want), text);
     }
 }
 
 #[test]
 fn items_are_folded(rt: HostRuntime) {
-    let items = [
+    const ITEMS: &[Item] = &[
         Item::Blank(' '),
         Item::Raw('a'),
         Item::Blank('\t'),
@@ -36,18 +37,19 @@ fn items_are_folded(rt: HostRuntime) {
         Item::EscapedBreak,
     ];
     let text = " a   \nb ";
-    expect(&rt, is_text(folded(rt.alloc(), &items), text), text);
+    expect(&rt, is_text(folded(rt.alloc(), ITEMS), text), text);
 }
 
 #[test]
 fn plain_scalars(rt: HostRuntime) {
-    for (piece, want) in [
+    const ROWS: &[(&str, &str)] = &[
         ("a\n\nb", "a\nb"),
         ("1 2", "1 2"),
         ("scalar\nkey", "scalar key"),
         ("a \t\r\n  b", "a b"),
         ("a\n\n \n\nb\\n", "a\n\n\nb\\n"),
-    ] {
+    ];
+    for &(piece, want) in ROWS {
         expect(&rt, is_text(plain_value(rt.alloc(), piece), want), piece);
     }
 }
@@ -62,7 +64,7 @@ fn is_value(read: Result<Option<String>, AllocError>, want: Option<&str>) -> boo
 
 #[test]
 fn single_quoted_scalars(rt: HostRuntime) {
-    for (piece, want) in [
+    const ROWS: &[(&str, Option<&str>)] = &[
         ("'it''s'", Some("it's")),
         ("''", Some("")),
         ("''''", Some("'")),
@@ -73,7 +75,8 @@ fn single_quoted_scalars(rt: HostRuntime) {
         ("a'", None),
         ("\"a\"", None),
         ("", None),
-    ] {
+    ];
+    for &(piece, want) in ROWS {
         expect(
             &rt,
             is_value(single_quoted_value(rt.alloc(), piece), want),
@@ -84,7 +87,7 @@ fn single_quoted_scalars(rt: HostRuntime) {
 
 #[test]
 fn double_quoted_scalars(rt: HostRuntime) {
-    for (piece, want) in [
+    const ROWS: &[(&str, Option<&str>)] = &[
         ("\"a \\\n  b\n\n c\"", Some("a b\nc")),
         ("\"a\\\n\n\n b\\ \n\"", Some("a\n\nb  ")),
         (
@@ -107,7 +110,8 @@ fn double_quoted_scalars(rt: HostRuntime) {
         ("\"a\\\"", None),
         ("\"a", None),
         ("\"", None),
-    ] {
+    ];
+    for &(piece, want) in ROWS {
         expect(
             &rt,
             is_value(double_quoted_value(rt.alloc(), piece), want),
@@ -118,12 +122,13 @@ fn double_quoted_scalars(rt: HostRuntime) {
 
 #[test]
 fn folded_block_scalars(rt: HostRuntime) {
-    for (text, want) in [
+    const ROWS: &[(&str, &str)] = &[
         (" a\n b\n\n  c\n d\n", "a b\n\n c\nd\n"),
         (" a\n  b\n c\n", "a\n b\nc\n"),
         ("\n a\n\n\n b", "\na\n\nb\n"),
         (" a\n\n \tb\n\n c\n", "a\n\n\tb\n\nc\n"),
-    ] {
+    ];
+    for &(text, want) in ROWS {
         let value = block_value(
             rt.alloc(),
             BlockStyle::Folded,
@@ -150,7 +155,7 @@ fn is_literal(
 
 #[test]
 fn literal_block_scalars(rt: HostRuntime) {
-    for (indentation, text, stripped, clipped, kept) in [
+    const ROWS: &[(usize, &str, &str, &str, &str)] = &[
         (1, " a\n ", "a", "a\n", "a\n\n"),
         (1, " a\n\n", "a", "a\n", "a\n\n"),
         (1, "\n a\r\n\r b\r", "\na\n\nb", "\na\n\nb\n", "\na\n\nb\n"),
@@ -163,7 +168,8 @@ fn literal_block_scalars(rt: HostRuntime) {
         (0, "\n", "", "", "\n"),
         (1, " ", "", "", "\n"),
         (1, "\n ", "", "", "\n"),
-    ] {
+    ];
+    for &(indentation, text, stripped, clipped, kept) in ROWS {
         let lines = (indentation, text);
         expect(
             &rt,
@@ -185,13 +191,14 @@ fn literal_block_scalars(rt: HostRuntime) {
 
 #[test]
 fn block_scalars_cut_by_a_mark(rt: HostRuntime) {
-    for (chomping, text, want) in [
+    const ROWS: &[(Chomping, &str, &str)] = &[
         (Chomping::Strip, " a", "a"),
         (Chomping::Clip, " a", "a"),
         (Chomping::Keep, " a", "a"),
         (Chomping::Keep, " a\n ", "a\n"),
         (Chomping::Keep, " ", ""),
-    ] {
+    ];
+    for &(chomping, text, want) in ROWS {
         let style = BlockStyle::Literal;
         let value = block_value(rt.alloc(), style, chomping, 1, text, Ending::AtMark);
         expect(&rt, is_text(value, want), text);

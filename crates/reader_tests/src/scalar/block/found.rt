@@ -1,11 +1,11 @@
 //! Block scalars of texts that a search has found.
 
-use crate::scalar::block::{expect_read, expect_refused};
+use crate::scalar::block::{Read, Refused, expect_read, expect_refused};
 use saphyr_scalar::FaultText;
 
 #[test]
 fn reads_found_texts(rt: HostRuntime) {
-    let rows = [
+    const ROWS: &[Read] = &[
         ("|\n   ", 0, 0, "", (0, 1, 0), (5, 2, 3)),
         ("|-\n! ", 0, 0, "! ", (3, 2, 0), (5, 2, 2)),
         (">-\n   \u{E9}\n", 0, 0, "\u{E9}", (6, 2, 3), (8, 3, 0)),
@@ -138,12 +138,12 @@ fn reads_found_texts(rt: HostRuntime) {
             (27, 7, 1),
         ),
     ];
-    expect_read(&rt, rt.alloc(), &rows);
+    expect_read(&rt, rt.alloc(), ROWS);
 }
 
 #[test]
 fn refuses_found_texts(rt: HostRuntime) {
-    let rows = [
+    const ROWS: &[Refused] = &[
         (
             "|@",
             0,
@@ -201,5 +201,5 @@ fn refuses_found_texts(rt: HostRuntime) {
             (11, 5, 1),
         ),
     ];
-    expect_refused(&rt, rt.alloc(), &rows);
+    expect_refused(&rt, rt.alloc(), ROWS);
 }
