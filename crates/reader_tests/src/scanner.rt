@@ -2,19 +2,29 @@
 
 use crate::helpers::{Place, expect, is_refused, is_text, marker};
 use saphyr_input::StrInput;
+use saphyr_input::input::Input;
 use saphyr_scalar::{FaultText, Span};
-use saphyr_scanner::Scanner;
+use saphyr_scanner::{Scanner, Token};
 use std::alloc::Global;
 
+// The place of a token that is printed so.
+fn place_of(alloc: Global, token: &Token, kind: &str) -> Option<Span> {
+    if is_text(format!(in alloc; "{:?}", token.kind), kind) {
+        Some(token.span)
+    } else {
+        None
+    }
+}
+
 // The place of the next token, where it is printed so.
-fn next(alloc: Global, scanner: &mut Scanner<StrInput>, kind: &str) -> Option<Span> {
+fn next<T: Input>(alloc: Global, scanner: &mut Scanner<T>, kind: &str) -> Option<Span> {
     match scanner.next_token() {
-        Ok(Some(token)) if is_text(format!(in alloc; "{:?}", token.kind), kind) => Some(token.span),
+        Ok(Some(token)) => place_of(alloc, &token, kind),
         _ => None,
     }
 }
 
-fn is_done(scanner: &mut Scanner<StrInput>) -> bool {
+fn is_done<T: Input>(scanner: &mut Scanner<T>) -> bool {
     matches!(scanner.next_token(), Ok(None))
 }
 
@@ -69,15 +79,14 @@ fn refuses_texts(rt: HostRuntime) {
     }
 }
 
-// Whether a text's tokens are printed so.
-fn has_tokens(alloc: Global, text: &str, kinds: &[&str]) -> bool {
-    let mut scanner = Scanner::new(alloc, StrInput::new(text), 1000);
+// Whether the tokens to come are printed so.
+fn has_tokens<T: Input>(alloc: Global, scanner: &mut Scanner<T>, kinds: &[&str]) -> bool {
     for kind in kinds {
-        if next(alloc, &mut scanner, kind).is_none() {
+        if next(alloc, scanner, kind).is_none() {
             return false;
         }
     }
-    is_done(&mut scanner)
+    is_done(scanner)
 }
 
 #[test]
@@ -99,5 +108,6 @@ fn puts_a_key_before_its_token(rt: HostRuntime) {
         "StreamEnd",
     ];
     let text = "*a : [*b : ]";
-    expect(&rt, has_tokens(rt.alloc(), text, KINDS), text);
+    let mut scanner = Scanner::new(rt.alloc(), StrInput::new(text), 1000);
+    expect(&rt, has_tokens(rt.alloc(), &mut scanner, KINDS), text);
 }

@@ -16,16 +16,19 @@ fn four_loaded<'a>(text: &'a str) -> StrInput<'a>
     input
 }
 
-// Whether the characters of a text up to a space are so many and go behind another text, and these remain.
-fn fetches_word(out: &mut String, text: &str, count: usize, rest: &str) -> bool {
-    let mut input = StrInput::new(text);
+// Whether the characters of an input up to a space are so many and go behind a text, and these remain.
+fn fetches_word<T: Input + Drop>(out: &mut String, mut input: T, count: usize, rest: &str) -> bool {
     let fetched = input.fetch_while_is_yaml_non_space(out);
     matches!(fetched, Ok(n) if n == count) && remains(input, rest)
 }
 
-// The same of the letters, digits, `_` and `-` that a text begins with.
-fn fetches_letters(out: &mut String, text: &str, count: usize, rest: &str) -> bool {
-    let mut input = StrInput::new(text);
+// The same of the letters, digits, `_` and `-` that an input begins with.
+fn fetches_letters<T: Input + Drop>(
+    out: &mut String,
+    mut input: T,
+    count: usize,
+    rest: &str,
+) -> bool {
     let fetched = input.fetch_while_is_alpha(out);
     matches!(fetched, Ok(n) if n == count) && remains(input, rest)
 }
@@ -33,17 +36,18 @@ fn fetches_letters(out: &mut String, text: &str, count: usize, rest: &str) -> bo
 #[test]
 fn counts_and_appends_characters(rt: HostRuntime) -> Result<(), AllocError> {
     let mut out = String::from_str(rt.alloc(), "<")?;
-    expect(&rt, fetches_word(&mut out, "éa b", 2, " b"), "éa b");
-    expect(&rt, fetches_letters(&mut out, "a_1-é", 4, "é"), "a_1-é");
+    let word = StrInput::new("éa b");
+    expect(&rt, fetches_word(&mut out, word, 2, " b"), "éa b");
+    let letters = StrInput::new("a_1-é");
+    expect(&rt, fetches_letters(&mut out, letters, 4, "é"), "a_1-é");
     expect(&rt, out.as_str() == "<éaa_1-", "<éaa_1-");
     Ok(())
 }
 
-// What is skipped of a text: how many characters, what was met, and what remains.
+// What is skipped of an input: how many characters, what was met, and what remains.
 type Skipped<'a> = (usize, Result<SkipTabs, &'a str>, &'a str);
 
-fn skips(text: &str, tabs: SkipTabs, (count, answer, rest): Skipped) -> bool {
-    let mut input = StrInput::new(text);
+fn skips<T: Input + Drop>(mut input: T, tabs: SkipTabs, (count, answer, rest): Skipped) -> bool {
     let (skipped, met) = match tabs {
         SkipTabs::Yes => input.skip_ws_to_eol(SkipTabs::Yes),
         _ => input.skip_ws_to_eol(SkipTabs::No),
@@ -55,11 +59,19 @@ fn skips(text: &str, tabs: SkipTabs, (count, answer, rest): Skipped) -> bool {
 fn skips_white_space_and_comments(rt: HostRuntime) {
     let refusal = "comments must be separated from other tokens by whitespace";
     let both = (5, Ok(SkipTabs::Result(true, true)), "\n");
-    expect(&rt, skips("\t # x\n", SkipTabs::Yes, both), "\t # x\n");
+    expect(
+        &rt,
+        skips(StrInput::new("\t # x\n"), SkipTabs::Yes, both),
+        "\t # x\n",
+    );
     let space = (2, Ok(SkipTabs::Result(false, true)), "\u{FEFF}");
-    expect(&rt, skips(" #\u{FEFF}", SkipTabs::No, space), " #\u{FEFF}");
+    expect(
+        &rt,
+        skips(StrInput::new(" #\u{FEFF}"), SkipTabs::No, space),
+        " #\u{FEFF}",
+    );
     let bare = (0, Err(refusal), "#x");
-    expect(&rt, skips("#x", SkipTabs::Yes, bare), "#x");
+    expect(&rt, skips(StrInput::new("#x"), SkipTabs::Yes, bare), "#x");
 }
 
 #[test]

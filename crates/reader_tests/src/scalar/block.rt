@@ -4,6 +4,7 @@ mod found;
 
 use crate::helpers::{Place, expect, is_refused, marker};
 use saphyr_input::StrInput;
+use saphyr_input::input::Input;
 use saphyr_scalar::{BlockScalar, FaultText, Reader, Span, Stop};
 use scalar_values::BlockStyle;
 use std::alloc::Global;
@@ -16,26 +17,34 @@ type Read<'a> = (&'a str, usize, usize, &'a str, Place, Place);
 // The same of a scalar that is refused, and the fault and its place.
 type Refused<'a> = (&'a str, usize, usize, FaultText, Place);
 
-// A reader behind so many characters of a text.
-fn reader_behind(before: usize, text: &str) -> Reader<StrInput<'_>> {
-    let mut reader = Reader::new(StrInput::new(text));
-    for _ in 0..before {
+// Takes so many characters off.
+fn pass<T: Input>(reader: &mut Reader<T>, count: usize) {
+    for _ in 0..count {
         if reader.look() != '\0' {
             reader.skip_non_blank();
         }
     }
-    reader
 }
 
-// The block scalar behind so many characters of a text. Where none begins it is as if memory ran out.
-fn read(alloc: Global, text: &str, before: usize, indent: usize) -> Result<BlockScalar, Stop> {
-    let mut reader = reader_behind(before, text);
+// The block scalar that a reader stands in front of. Where none begins it is as if memory ran out.
+fn read_here<T: Input>(
+    alloc: Global,
+    reader: &mut Reader<T>,
+    indent: usize,
+) -> Result<BlockScalar, Stop> {
     let style = match reader.look() {
         '|' => BlockStyle::Literal,
         '>' => BlockStyle::Folded,
         _ => return Err(Stop::OutOfMemory),
     };
     reader.read_block_scalar(alloc, style, indent)
+}
+
+// The block scalar behind so many characters of a text.
+fn read(alloc: Global, text: &str, before: usize, indent: usize) -> Result<BlockScalar, Stop> {
+    let mut reader = Reader::new(StrInput::new(text));
+    pass(&mut reader, before);
+    read_here(alloc, &mut reader, indent)
 }
 
 fn is_read(alloc: Global, (text, before, indent, value, start, end): Read) -> bool {

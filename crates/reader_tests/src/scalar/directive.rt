@@ -1,7 +1,7 @@
 //! Directives, the places behind them, and their faults.
 
 use crate::helpers::{Place, behind_blanks, expect, is_refused, marker};
-use saphyr_input::StrInput;
+use saphyr_input::input::Input;
 use saphyr_scalar::{Directive, DirectiveLine, FaultText, Reader, Stop};
 use std::alloc::Global;
 
@@ -27,7 +27,7 @@ fn says(directive: &Directive, said: Said) -> bool {
 }
 
 // The directive that a reader stands in front of. Where there is no `%` it is as if memory ran out.
-fn read(alloc: Global, reader: &mut Reader<StrInput>) -> Result<DirectiveLine, Stop> {
+fn read<T: Input>(alloc: Global, reader: &mut Reader<T>) -> Result<DirectiveLine, Stop> {
     if reader.look() == '%' {
         reader.read_directive(alloc)
     } else {

@@ -2,7 +2,7 @@
 
 use crate::helpers::{Place, expect, is_refused, marker};
 use saphyr_input::StrInput;
-use saphyr_scalar::{FaultText, PlainScalar, Reader, Stop};
+use saphyr_scalar::{FaultText, Marker, PlainScalar, Reader, Stop};
 use std::alloc::Global;
 
 const IN_FLOW: bool = true;
@@ -12,18 +12,18 @@ const IN_BLOCK: bool = false;
 // Whether a text stands in flow, the least column of its further lines, and the text.
 type Read<'a> = (bool, usize, &'a str);
 
-fn is_scalar(
+fn is_scalar(scalar: &PlainScalar, value: &str, end: Place, comment: Option<Marker>) -> bool {
+    scalar.text.as_str() == value && scalar.end == marker(end) && scalar.comment == comment
+}
+
+fn reads_scalar(
     read: Result<PlainScalar, Stop>,
     value: &str,
     end: Place,
-    comment: Option<Place>,
+    comment: Option<Marker>,
 ) -> bool {
     match read {
-        Ok(scalar) => {
-            scalar.text.as_str() == value
-                && scalar.end == marker(end)
-                && scalar.comment == comment.map(marker)
-        }
+        Ok(scalar) => is_scalar(&scalar, value, end, comment),
         Err(_) => false,
     }
 }
@@ -33,16 +33,16 @@ fn reads(
     alloc: Global,
     (in_flow, indent, text): Read,
     (value, end, behind): (&str, Place, Place),
-    comment: Option<Place>,
+    comment: Option<Marker>,
 ) -> bool {
     let mut reader = Reader::new(StrInput::new(text));
-    is_scalar(
+    let is_read = reads_scalar(
         reader.read_plain(alloc, in_flow, indent),
         value,
         end,
         comment,
-    ) && reader.mark() == marker(behind)
-        && reader.blank_so_far() == (behind.1 != end.1)
+    );
+    is_read && reader.mark() == marker(behind) && reader.blank_so_far() == (behind.1 != end.1)
 }
 
 fn refuses(alloc: Global, (in_flow, indent, text): Read, fault: FaultText, place: Place) -> bool {
@@ -130,7 +130,11 @@ fn comments_end_scalars(rt: HostRuntime) {
         ((IN_BLOCK, 0, "b\n\t# c\nd"), (3, 2, 1), false),
     ];
     for &(place, behind, interrupts) in ROWS {
-        let comment = if interrupts { Some(behind) } else { None };
+        let comment = if interrupts {
+            Some(marker(behind))
+        } else {
+            None
+        };
         expect(
             &rt,
             reads(rt.alloc(), place, ("b", (1, 1, 1), behind), comment),

@@ -1,12 +1,16 @@
 //! Tags, anchors and aliases, their ends and their faults.
 
 use crate::helpers::{behind_blanks, expect, is_refused, marker};
-use saphyr_input::StrInput;
+use saphyr_input::input::Input;
 use saphyr_scalar::{FaultText, Reader, Stop, TagParts};
 use std::alloc::Global;
 
 // The tag that a reader stands in front of. Where there is no `!` it is as if memory ran out.
-fn read_tag(alloc: Global, reader: &mut Reader<StrInput>, in_flow: bool) -> Result<TagParts, Stop> {
+fn read_tag<T: Input>(
+    alloc: Global,
+    reader: &mut Reader<T>,
+    in_flow: bool,
+) -> Result<TagParts, Stop> {
     if reader.look() == '!' {
         reader.read_tag(alloc, in_flow)
     } else {
@@ -117,7 +121,7 @@ fn refuses_tags_at_their_start(rt: HostRuntime) {
 }
 
 // The name behind the indicator that a reader stands in front of. Without one it is as if memory ran out.
-fn read_anchor(alloc: Global, reader: &mut Reader<StrInput>) -> Result<String, Stop> {
+fn read_anchor<T: Input>(alloc: Global, reader: &mut Reader<T>) -> Result<String, Stop> {
     match reader.look() {
         '&' | '*' => reader.read_anchor(alloc),
         _ => Err(Stop::OutOfMemory),

@@ -2,13 +2,14 @@
 
 use crate::helpers::{Place, expect, is_refused, marker};
 use saphyr_input::StrInput;
+use saphyr_input::input::Input;
 use saphyr_scalar::{FaultText, Reader, Stop};
 use std::alloc::Global;
 
 const START: Place = (0, 1, 0);
 
 // The quoted scalar that a reader stands in front of. Without a quote it is as if memory ran out.
-fn read(alloc: Global, reader: &mut Reader<StrInput>, indent: usize) -> Result<String, Stop> {
+fn read<T: Input>(alloc: Global, reader: &mut Reader<T>, indent: usize) -> Result<String, Stop> {
     match reader.look() {
         '"' => reader.read_double_quoted(alloc, indent),
         '\'' => reader.read_single_quoted(alloc, indent),
