@@ -62,13 +62,19 @@ widest (line ∷ lines) = max (length line) (widest lines)
 abbrev pub is_space_or_break : ℕ → Bool
 is_space_or_break c = (c == space) || is_break c
 
+-- what begins at a column isn't left of the widest line, unless it is left of the indentation that is asked
+abbrev pub AreNotWider : ℕ → ℕ → ℕ → Type 0
+AreNotWider indent column i = (i ≤ column) ⊎ (column < indent)
+
 -- Where no digit gives it, the indentation is told by the lines of spaces up to the first other character, with which
 -- the content begins: it is that of the widest of them, and at least `indent`, the first column to the right of the
--- enclosing block collection.
+-- enclosing block collection. None is wider than the line of the content, which has none where that character stands left
+-- of `indent`, or where a NUL or the end is.
 abbrev pub IsFound : ℕ → List ℕ → ℕ → Type 0
 IsFound indent behind i =
     (leading : List ℕ) × (others : List ℕ) × (behind ≡ leading ++ others) × AreIn is_space_or_break leading
     × IsFalse (is_space_or_break (slice_index others 0)) × (i ≡ max (widest (all_lines (normalized leading))) indent)
+    × (IsTrue (is_z (slice_index others 0)) ⊎ AreNotWider indent (length (last_line (normalized leading))) i)
 
 -- A digit counts from the column of that collection, up to the last number of 64 bits.
 abbrev pub IsIndentationFrom : ℕ → ℕ → List ℕ → ℕ → Type 0

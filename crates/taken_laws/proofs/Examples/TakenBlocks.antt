@@ -42,7 +42,7 @@ takes_literal =
             is = refl;
             begins = header 0 Clip (codes " a\n") 124 [] (omega arith, inl refl) (inl (inl refl, (λ e. omega arith)));
             indentation = 1;
-            indented = (codes " ", codes "a\n", refl, (refl, tt), refl, refl);
+            indented = (codes " ", codes "a\n", refl, (refl, tt), refl, refl, inr (inl (omega arith)));
             shaped = record { ended = (inr (codes "a", refl), tt); last = inl refl };
             inside = (refl, (λ e. refl), (refl, (λ e. refl), (refl, (λ e. refl), tt)));
             ends = record { no_space = λ e. omega arith; no_break = refl; no_content = λ e. inl refl; whole_line = λ e. refl };

@@ -16,7 +16,7 @@ use Rattle.saphyr_scalar.specs.Steps.BlockRead as step
 use Rattle.saphyr_scalar.specs.Steps.BlockRead.{indentation_of}
 use Rattle.scalar_values.specs.Block.{Line, Empty, has_content, line_of, lines_of}
 use Rattle.saphyr_scalar.specs.Steps.Block.{line_starts, pass_empty_lines_at, no_lines, given_indentation, with_column, chomped_lines, content, behind_leading_lines, behind_header, block_scalar, header}
-use Rattle.saphyr_scalar.specs.Reading.BlockText.{AreInside, HasNoContent, IsIndentationFrom, IsBehindLines, IsBlockText, IsHeaderLine}
+use Rattle.saphyr_scalar.specs.Reading.BlockText.{AreInside, AreNotWider, HasNoContent, IsIndentationFrom, IsBehindLines, IsBlockText, IsHeaderLine}
 use Rattle.saphyr_scalar.specs.Views.Cursor.{Cursor}
 use Rattle.scalar_values.specs.Lines.{ended_lines, last_line}
 use Rattle.saphyr_scalar.specs.Passing as passing
@@ -26,7 +26,7 @@ use Rattle.saphyr_scalar.proofs.Block.Reads.{header_place, then_gave, gave, refu
 use Rattle.saphyr_scalar.proofs.Block.Texts.{spaces, plain_spaces, only_line, line_spaces}
 use Rattle.saphyr_scalar.proofs.Block.Told.HeaderLines.{header_line}
 use Rattle.saphyr_scalar.proofs.Block.Told.InsideLines.{Within, within_nothing, empty_inside, between_inside}
-use Rattle.saphyr_scalar.proofs.Block.Told.Widths.{indentation_told, indentation_at_end}
+use Rattle.saphyr_scalar.proofs.Block.Told.Widths.{Fits, indentation_told, indentation_at_end}
 use Rattle.saphyr_scalar.proofs.Block.Wholes.{empties}
 use Rattle.saphyr_scalar.proofs.Block.Placed.{empty_passes, between_passes}
 use Rattle.saphyr_scalar.proofs.Block.PlacedHeaders.{passed_passed, one_passed, EndsHeaderLine, header_ends}
@@ -85,6 +85,28 @@ leading_told style indent start c limit x y =
       passes = (between_passes style i _ x.0.count x.1.blank_so_far x.1.mark x.1.rest).here;
       begins = inr (refl, some);
     })))
+
+not_wider : (indent column i : ℕ) → (nat_lt column i && nat_le indent column) ≡ false → AreNotWider indent column i
+not_wider indent column i = by (nat_lt column i) (nat_le indent column) refl refl
+  where
+    by : (a b : Bool) → nat_lt column i ≡ a → nat_le indent column ≡ b → (a && b) ≡ false → AreNotWider indent column i
+    by false b e f h = inl (grind (arith, nat_tests))
+    by true false e f h = inr (grind (arith, nat_tests))
+    by true true e f h = absurd (cc)
+
+-- what is read has no line of spaces that is too wide
+fit_told : (style : BlockStyle) (indent : ℕ) (start : Marker) (c : Chomping) (limit : Option ℕ)
+    (x : EmptyLines × Cursor) (y : Read) → behind_leading_lines style indent start c limit x ≡ Ok y
+    → Fits indent x.1.mark.col (unwrap_or limit (max x.0.widest indent)) x.1.rest
+unfolding behind_leading_lines content chomped_lines
+fit_told style indent start c limit x y =
+    let i = unwrap_or limit (max x.0.widest indent) in
+    by_test (is_z (slice_index x.1.rest 0)) _ _ (λ r. r ≡ gave y → Fits indent x.1.mark.col i x.1.rest)
+    (λ z _. inl z)
+    (λ _. by_test (nat_lt x.1.mark.col i && nat_le indent x.1.mark.col) _ _
+    (λ r. r ≡ gave y → Fits indent x.1.mark.col i x.1.rest)
+    (λ _ e. refused_gave _ y e)
+    (λ fits _. inr (not_wider indent x.1.mark.col i fits)))
 
 -- ## No content before the span
 
@@ -180,7 +202,8 @@ behind_header_line style indent s h first u y e p col blank is =
     let told = leading_told style indent s.mark h.chomping limit x y is in
     let within = empty_inside limit no_lines u.blank_so_far u.mark u.rest y.2.rest told.inside in
     let inside = same_lines (u.mark.col ≡ 0) u.rest y.2.rest own.lines own.taken true (λ _. inl col) within in
-    let indented = indentation_told indent h.indicator u col in
+    let fits = fit_told style indent s.mark h.chomping limit x y is in
+    let indented = indentation_told indent h.indicator u col fits in
     let passes = (empty_passes limit no_lines u.blank_so_far u.mark u.rest).here in
     let whole = passed_passed s.mark s.rest u.mark u.rest x.1.mark x.1.rest p passes in
     let all = passed_passed s.mark s.rest x.1.mark x.1.rest y.2.mark y.2.rest whole told.passes in

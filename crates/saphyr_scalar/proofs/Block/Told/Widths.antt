@@ -1,5 +1,5 @@
 -- The indentation of a block scalar is that of its widest line of spaces, or what its indicator gives.
-use Rattle.std.proofs.Common.{◌≡◌, ℕ, zero, suc, ◌+◌, Bool, true, false, List, [], ◌∷◌, ◌++◌, slice_index, refl, sym, ap, ◌∙◌, arith}
+use Rattle.std.proofs.Common.{◌≡◌, ◌⊎◌, ℕ, zero, suc, ◌+◌, Bool, true, false, List, [], ◌∷◌, ◌++◌, length, slice_index, refl, sym, ap, ◌∙◌, arith, subst, inl}
 use Rattle.std.specs.Prelude.{◌==◌, max, None, unwrap_or, IsTrue}
 use Rattle.std.proofs.lemmas.Bool.Decides.{nat_tests}
 use Rattle.std.proofs.lemmas.List.{append-nil, length-replicate}
@@ -8,7 +8,8 @@ use Rattle.saphyr_input.specs.Classes.{is_break, is_z, line_feed, space}
 use Rattle.saphyr_scalar.specs.declared.scalar.block.lines.EmptyLines.{EmptyLines}
 use Rattle.saphyr_scalar.specs.declared.scalar.position.Marker.{Marker}
 use Rattle.saphyr_scalar.specs.Steps.Block.{line_cursor, is_cr_lf, inside_break, with_column, with_empty_line, pass_empty_lines, pass_empty_lines_at, no_lines, given_indentation}
-use Rattle.saphyr_scalar.specs.Reading.BlockText.{all_lines, widest, is_space_or_break, IsIndentationFrom}
+use Rattle.scalar_values.specs.Lines.{last_line}
+use Rattle.saphyr_scalar.specs.Reading.BlockText.{all_lines, widest, is_space_or_break, AreNotWider, IsIndentationFrom}
 use Rattle.saphyr_scalar.specs.Views.Cursor.{Cursor, along, next_line}
 use Rattle.saphyr_scalar.specs.Spelling.Tag.{AreIn}
 use Rattle.saphyr_scalar.proofs.Block.Texts.{spaces, spaces_more, plain_spaces, first_line, only_line, normal_half, normalized_break}
@@ -19,6 +20,12 @@ lone : (j : ℕ) → widest (all_lines (spaces j ++ [])) ≡ j
 lone j =
     let only = only_line (spaces j) (plain_spaces j) in
     rw (append-nil (spaces j), only.0, only.1, length-replicate) (omega arith)
+
+lone_column : (j : ℕ) → length (last_line (spaces j ++ [])) ≡ j
+lone_column j = rw (append-nil (spaces j), (only_line (spaces j) (plain_spaces j)).1, length-replicate) refl
+
+column_behind : (j : ℕ) (text : List ℕ) → length (last_line (spaces j ++ line_feed ∷ text)) ≡ length (last_line text)
+column_behind j text = ap (λ (v : List ℕ). length v) (first_line (spaces j) text (plain_spaces j)).last
 
 one_line_more : (j : ℕ) (text : List ℕ)
     → widest (all_lines (spaces j ++ line_feed ∷ text)) ≡ max j (widest (all_lines text))
@@ -33,11 +40,19 @@ record Width (j : ℕ) (before : EmptyLines) (xs : List ℕ) (r : EmptyLines × 
   are : AreIn is_space_or_break leading
   stops : is_space_or_break (slice_index r.1.rest 0) ≡ false
   width : r.0.widest ≡ max before.widest (widest (all_lines (spaces j ++ normalized leading)))
+  column : r.1.mark.col ≡ length (last_line (spaces j ++ normalized leading))
 
 width_stop : (before : EmptyLines) (b : Bool) (m : Marker) (xs : List ℕ) → is_space_or_break (slice_index xs 0) ≡ false
     → Width m.col before xs (with_column before m.col, line_cursor b m xs)
 width_stop before b m xs h =
-    record { leading = []; is = refl; are = tt; stops = h; width = ap (max before.widest) (sym (lone m.col)) }
+    record {
+      leading = [];
+      is = refl;
+      are = tt;
+      stops = h;
+      width = ap (max before.widest) (sym (lone m.col));
+      column = sym (lone_column m.col);
+    }
 
 width_space : (j x : ℕ) (before : EmptyLines) (cs : List ℕ) (r : EmptyLines × Cursor) → x ≡ space
     → Width (j + 1) before cs r → Width j before (x ∷ cs) r
@@ -47,6 +62,7 @@ width_space j x before cs r e w = record {
   are = (refl, w.are);
   stops = w.stops;
   width = w.width ∙ ap (λ t. max before.widest (widest (all_lines t))) (spaces_more j (normalized w.leading));
+  column = w.column ∙ ap (λ t. length (last_line t)) (spaces_more j (normalized w.leading));
 }
 
 width_half : (j x : ℕ) (before : EmptyLines) (cs : List ℕ) (r : EmptyLines × Cursor) → is_cr_lf x cs ≡ true
@@ -57,6 +73,8 @@ width_half j x before cs r e b w = record {
   are = (broken, w.are);
   stops = w.stops;
   width = w.width ∙ ap (λ t. max before.widest (widest (all_lines (spaces j ++ t))))
+      (sym (normal_half x cs w.leading r.1.rest e w.is (or_false_right _ _ w.stops)));
+  column = w.column ∙ ap (λ t. length (last_line (spaces j ++ t)))
       (sym (normal_half x cs w.leading r.1.rest e w.is (or_false_right _ _ w.stops)));
 }
   where
@@ -77,6 +95,9 @@ width_break j x before cs r e b w = record {
       ∙ one_line_more j (normalized w.leading) in
       let own : r.0.widest ≡ max (max before.widest j) others = w.width in
       rw told (omega (arith, own));
+  column = w.column
+      ∙ sym (ap (λ t. length (last_line (spaces j ++ t))) (normalized_break x cs w.leading r.1.rest e b w.is)
+      ∙ column_behind j (normalized w.leading));
 }
   where
     broken : IsTrue (is_space_or_break x)
@@ -98,22 +119,42 @@ widths before b m (x ∷ cs) =
     (λ h. width_break m.col x before cs _ h1 h (widths (with_empty_line before m.col) true (next_line m 1) cs))
     (λ h2. width_stop before b m (x ∷ cs) (rw (h0, h2) refl))))
 
+-- no line of spaces is wider than what begins behind them
+abbrev pub Fits : ℕ → ℕ → ℕ → List ℕ → Type 0
+Fits indent column i others = IsTrue (is_z (slice_index others 0)) ⊎ AreNotWider indent column i
+
+abbrev pub IsFit : ℕ → ℕ → Cursor → Type 0
+IsFit indent n u =
+    let limit = given_indentation indent n in
+    let x = pass_empty_lines_at limit no_lines u in
+    Fits indent x.1.mark.col (unwrap_or limit (max x.0.widest indent)) x.1.rest
+
 -- at the start of a line
-pub indentation_told : (indent n : ℕ) (u : Cursor) → u.mark.col ≡ 0
+pub indentation_told : (indent n : ℕ) (u : Cursor) → u.mark.col ≡ 0 → IsFit indent n u
     → IsIndentationFrom indent n u.rest
     (unwrap_or (given_indentation indent n)
     (max (pass_empty_lines_at (given_indentation indent n) no_lines u).0.widest indent))
 unfolding given_indentation
-indentation_told indent zero u col =
+indentation_told indent zero u col fit =
     let w = widths no_lines u.blank_so_far u.mark u.rest in
     let reach : (pass_empty_lines_at None no_lines u).0.widest ≡ widest (all_lines (normalized w.leading)) =
     w.width ∙ ap (λ j. max 0 (widest (all_lines (spaces j ++ normalized w.leading)))) col ∙ omega arith in
-    (w.leading, (pass_empty_lines_at None no_lines u).1.rest, w.is, w.are, w.stops, ap (λ k. max k indent) reach)
-indentation_told indent (suc n) u col = let some : (suc n == 0) ≡ false = grind (arith, nat_tests) in rw some refl
+    let column : (pass_empty_lines_at None no_lines u).1.mark.col ≡ length (last_line (normalized w.leading)) =
+    w.column ∙ ap (λ j. length (last_line (spaces j ++ normalized w.leading))) col in (
+      w.leading,
+      (pass_empty_lines_at None no_lines u).1.rest,
+      w.is,
+      w.are,
+      w.stops,
+      ap (λ k. max k indent) reach,
+      subst (λ k. Fits indent k (max (pass_empty_lines_at None no_lines u).0.widest indent)
+          (pass_empty_lines_at None no_lines u).1.rest) column fit,
+    )
+indentation_told indent (suc n) u col fit = let some : (suc n == 0) ≡ false = grind (arith, nat_tests) in rw some refl
 
 -- before a NUL or the end
 pub indentation_at_end : (indent n : ℕ) (xs : List ℕ) → is_z (slice_index xs 0) ≡ true
     → (i : ℕ) × IsIndentationFrom indent n xs i
 indentation_at_end indent zero xs z =
-    (indent, ([], xs, refl, tt, ap is_space_or_break (eqb-true (slice_index xs 0) 0 z), omega arith))
+    (indent, ([], xs, refl, tt, ap is_space_or_break (eqb-true (slice_index xs 0) 0 z), omega arith, inl z))
 indentation_at_end indent (suc n) xs z = (_, refl)
