@@ -457,11 +457,15 @@ class Search:
         return (int(parts[1] or parts[3] or 0), parts[2], parts.end()) if ends else None
 
     def indentation(self, column, digit, index):
-        """How far the lines from an index on are indented (IsIndentationFrom); `indent` there is `column` + 1."""
+        """How far the lines from an index on are indented, if they may stand (IsIndentationFrom); `indent` there is
+        `column` + 1."""
         if digit:
             return min(max(column, 0) + digit, 2 ** 64 - 1)
         leading = LEADING.match(self.text, index)
-        return max(max(len(line) for line in normalized(leading[0]).split("\n")), column + 1)
+        *spaces, own = map(len, normalized(leading[0]).split("\n"))
+        widest = max(*spaces, own, column + 1)
+        is_narrower = self.at(leading.end()) not in END and column < own < widest
+        return None if is_narrower else widest
 
     def is_behind_lines(self, indentation, t):
         """Whether no more lines follow (IsBehindLines)."""
@@ -478,6 +482,8 @@ class Search:
             return
         digit, chomping, start = header
         indentation, is_start = self.indentation(column, digit, start), True
+        if indentation is None:
+            return
         for end in range(start, len(self.text) + 1):
             t, lines = self.behind(place, end), normalized(self.text[start:end]).split("\n")
             fit = all(is_read_line(indentation, line) for line in lines)
