@@ -1,5 +1,6 @@
 -- A list of all that is to come, when `load` has handed over a part of it.
-use Rattle.std.proofs.Common.{◌≡◌, ℕ, ◌<◌, ◌≤◌, Bool, true, false, is_some, if◌then◌else◌, List, [], ◌∷◌, ◌++◌, map, drop, length, refl, sym, ap, ◌∙◌, subst, Option, Some, None, Result, Ok, Err, String, Global, string_bytes, inl, inr, ◌⊎◌, append_assoc, append-nil, arith, length-append}
+use Rattle.std.proofs.Common.{◌≡◌, ℕ, ◌<◌, ◌≤◌, Bool, true, false, is_ok, is_some, if◌then◌else◌, List, [], ◌∷◌, ◌++◌, map, drop, length, refl, sym, ap, ◌∙◌, subst, Option, Some, None, Result, Ok, Err, String, Global, string_bytes, inl, inr, ◌⊎◌, append_assoc, append-nil, arith, length-append}
+use Rattle.std.specs.Prelude.{IfOk}
 use Rattle.std.specs.Result.{OnOk}
 use Rattle.saphyr_scalar.specs.declared.scalar.position.Span.{Span}
 use Rattle.saphyr_parser.specs.Types.Fault.{Fault}
@@ -13,10 +14,11 @@ use Rattle.saphyr_parser.specs.Cursor.{EventCursor, HandsOutNext, Kept, IsKept, 
 use Rattle.saphyr_parser.specs.Calls.{EndsTheStream}
 use Rattle.saphyr_parser.specs.Loading.{Portion, is_last, portion, portion_to_send, inside_over, Keeps, Tells, Sends, SendsOne, Stopped, Lost, Finished, Loads}
 use Rattle.saphyr_machine.proofs.HandedOver.{behind_first}
-use Rattle.case_files.specs.Lines.{Comparing, IsNext, PassesLine, event_line, line_of_fault, want_line}
+use Rattle.case_files.specs.Lines.{Comes, Comparing, IsNext, PassesLine, event_line, line_of_fault, want_line}
 use Rattle.case_files.specs.Listings.{AreLinesOf, ListAll, lines_of_answer, lines_of_events}
 use Rattle.case_files.proofs.Listings.{hands_less, lists_before, lists_more}
-use Rattle.event_cases.specs.Handed.{ListAllButOne, StandsBetween}
+use Rattle.case_files.specs.declared.difference.Difference.{Difference}
+use Rattle.event_cases.specs.Handed.{HasMore, ListAllButOne, LoadsOn, StandsBetween, TakesAnswer}
 
 -- ## Lines
 
@@ -287,15 +289,67 @@ anyway (Err e) h = tt
 
 -- ## Whether something is left
 
-pub some_given : (item : Option (Result (Event × Span) Fault)) (old new : Answer) → true ≡ is_some item
-    → HandsOutNext item old new → 0 < count old
-some_given None old new is hands = absurd (cc)
-some_given (Some x) old new is hands = omega (arith, hands_less x old new hands)
-
-pub none_given : (item : Option (Result (Event × Span) Fault)) (old new : Answer) → false ≡ is_some item
-    → HandsOutNext item old new → old ≡ empty_answer
-none_given None old new is hands = hands.0
-none_given (Some x) old new is hands = absurd (cc)
+pub has_more : (item : Option (Result (Event × Span) Fault)) (more : Bool) (old new : Answer) → more ≡ is_some item
+    → HandsOutNext item old new → HasMore more old
+has_more None more old new is hands = subst (λ b. HasMore b old) (sym is) hands.0
+has_more (Some x) more old new is hands =
+    subst (λ b. HasMore b old) (sym is) (omega (arith, hands_less x old new hands))
 
 pub lists_none : (lines : List (String Global)) (all : Answer) → lines ≡ [] → all ≡ empty_answer → ListAll lines all
 lists_none lines all empty over = inl (ap (λ l. map string_bytes l) empty ∙ ap lines_of_answer (sym over))
+
+-- ## A document after the other
+
+abbrev pub Taken : Result Bool Difference → Result (Unit {0}) Fault → Comparing → Comparing → Type 0
+Taken result r sent last = IfOk result (λ more. TakesAnswer r more sent last)
+
+pub documents_less : (result : Result Bool Difference) (r : Result (Unit {0}) Fault) (old new : EventCursor)
+    (first sent last : Comparing) → Taken result r sent last
+    → (IsKept old.kept → Tells r old.kept × (sent ≡ first) × (new ≡ old))
+    → (old.kept ≡ None → (span : Span) → old.finished ≡ Some span
+    → SendsOne takes r (events.StreamEnd, span) first sent × (new ≡ old))
+    → (old.kept ≡ None → old.finished ≡ None → old.inside ≡ true
+    → (r ≡ Err fault.InsideDocument) × (sent ≡ first) × (new ≡ old))
+    → (old.kept ≡ None → old.finished ≡ None → old.inside ≡ false
+    → Loads takes r (portion_to_send false old) old first sent new)
+    → EndsTheStream new → 0 < count (to_come old)
+    → IfOk result (λ more. more ≡ true → count (to_come new) < count (to_come old))
+documents_less (Err d) r old new first sent last taken ended at_end within between over some = tt
+documents_less (Ok more) (Ok u) old new first sent last taken ended at_end within between over some = λ on.
+    load_some old.kept old.finished old.inside u false old new first sent refl refl refl ended at_end within between
+    over some
+documents_less (Ok more) (Err f) old new first sent last taken ended at_end within between over some = λ on.
+    let off = taken.0 in absurd (cc)
+
+pub documents_on : (result : Result Bool Difference) (r : Result (Unit {0}) Fault) (old new : EventCursor)
+    (first sent last : Comparing) → Taken result r sent last → StandsBetween old
+    → Loads takes r (portion_to_send false old) old first sent new → EndsTheStream new
+    → IfOk result (λ more. LoadsOn more first last old new)
+documents_on (Err d) r old new first sent last taken here loads over = tt
+documents_on (Ok more) (Ok u) old new first sent last taken here loads over =
+    subst (λ b. LoadsOn b first last old new) (sym taken.0) (
+      (λ some. stands_behind old new first sent here.inside loads over some),
+      λ all. lists_finished false old new first sent loads (subst (λ l. ListAll l (to_come new)) taken.1 all),
+    )
+documents_on (Ok more) (Err f) old new first sent last taken here loads over =
+    subst (λ b. LoadsOn b first last old new) (sym taken.0) (λ ends.
+    lists_failed false f old new first sent loads taken.1 taken.2 (sym taken.3 ∙ ends))
+
+-- What is handed out is passed.
+pub lists_passed : (item : Option (Result (Event × Span) Fault)) (old new : Answer) (lines left : List (String Global))
+    (result : Result (Unit {0}) Difference) → HandsOutNext item old new → OnOk result (Comes item lines)
+    → left ≡ (if is_ok result then drop 1 lines else lines) → OnOk result (ListAll left new → ListAll lines old)
+lists_passed item old new lines left (Ok u) hands comes is =
+    λ rest. lists_more item old new lines left hands comes is rest
+lists_passed item old new lines left (Err d) hands comes is = tt
+
+-- The receiver refused the event behind the lines, and has passed them.
+pub refused_ends : (result : Result (Unit {0}) Difference) (multi : Bool) (old new : EventCursor)
+    (first last : Comparing) (before : List (String Global))
+    → Stopped takes (portion_to_send multi old) old first last new → first.left ≡ before → OnOk result (last.left ≡ [])
+    → OnOk result (last.differs ≡ false)
+    → OnOk result ((others : List (String Global)) → ListAll others (to_come new)
+    → ListAllButOne before others (to_come old))
+refused_ends (Ok u) multi old new first last before stopped begins ends same = λ others all.
+    refuses_one multi old new first last before others stopped begins ends same all
+refused_ends (Err d) multi old new first last before stopped begins ends same = tt

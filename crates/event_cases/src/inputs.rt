@@ -1,14 +1,22 @@
-//! A text through three inputs.
-ghost use Rattle.std.specs.Prelude.{OnOk};
+//! A text through three inputs, and a case through one.
+ghost use Rattle.std.specs.Prelude.{◌≡◌, OnOk, string_bytes};
 ghost use Rattle.std.specs.Str.{chars};
 ghost use Rattle.saphyr_scanner.specs.Steps.Remaining.{scan};
 ghost use Rattle.saphyr_parser.specs.Limits.{most_characters};
-ghost use Rattle.saphyr_parser.specs.Cursor.{at_start};
+ghost use Rattle.saphyr_parser.specs.Cursor.{at_start, keeping_tags};
 
-use case_files::Difference;
+use case_files::{Case, Difference};
 use list_input::ListInput;
-use saphyr_parser::{CloneInput, Parser, lists_characters};
+use saphyr_parser::{CloneInput, Parser, StrInput, lists_characters};
 use std::alloc::Global;
+
+/// A parser of the text of a case, from a string.
+pub fn parser_of<'a>(alloc: Global, case: &'a Case) -> Parser<'a, StrInput<'a>>
+    ensures { result ≡ keeping_tags case.now.keeps_tags
+        (at_start (scan most_characters (chars (string_bytes case.now.text)))) }
+{
+    Parser::new_from_str(alloc, case.text.as_str()).keep_tags(case.keeps_tags)
+}
 
 /// What is compared of a parser, over any input.
 pub trait Comparison {

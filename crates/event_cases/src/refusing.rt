@@ -1,12 +1,16 @@
 //! What is left where a receiver refuses an event.
-ghost use Rattle.std.specs.Prelude.{◌≡◌, OnOk, drop, string_bytes};
+ghost use Rattle.std.specs.Prelude.{◌≡◌, Err, List, OnOk, String, drop, string_bytes, true};
+ghost use Rattle.std.specs.declared.alloc.Global.{Global as Heap};
+ghost use Rattle.saphyr_parser.specs.Types.Fault.TheVariants.{Receiver};
 ghost use Rattle.saphyr_parser.specs.Cursor.{to_come};
+ghost use Rattle.case_files.specs.Listings.{ListAll};
 ghost use Rattle.event_cases.specs.Agreement.{RefusalAgrees, RefusalsAgree, is_event_line};
 ghost use Rattle.event_cases.specs.Handed.{ListAllButOne, StandsBetween};
 
-use crate::ways::is_left;
+use crate::inputs::parser_of;
+use crate::ways::is_left_to_clone;
 use case_files::{Case, ComparingReceiver, Difference};
-use saphyr_parser::{CloneInput, Fault, Parser};
+use saphyr_parser::{CloneInput, Fault, Input, Parser};
 use std::alloc::Global;
 
 /// Refuses each event of a text in turn.
@@ -30,9 +34,9 @@ fn refuse_at(alloc: Global, case: &Case, place: usize) -> Result<(), Difference>
     if !is_event(line) {
         return Ok(());
     }
-    let parser = Parser::new_from_str(alloc, case.text.as_str()).keep_tags(case.keeps_tags);
+    let mut parser = parser_of(alloc, case);
     let (before, behind) = lines.split_at(place);
-    let refused = refuse_between(alloc, parser, before, behind);
+    let refused = refuse_between(alloc, &mut parser, before, behind);
     refused.map_err(|it| it.within(alloc, line.as_str()))?;
     Ok(())
 }
@@ -46,23 +50,42 @@ fn is_event(line: &String) -> bool
 // Where the first of the lines behind is refused, those before it have come, and the others are left.
 fn refuse_between<T: CloneInput>(
     alloc: Global,
-    mut parser: Parser<'_, T>,
+    parser: &mut Parser<'_, T>,
     before: &[String],
     behind: &[String],
 ) -> Result<(), Difference>
-    ensures { StandsBetween parser.entry → OnOk result
-        (ListAllButOne before.now (drop 1 behind.now) (to_come parser.entry)) }
+    ensures { StandsBetween parser.old → OnOk result
+        (ListAllButOne before.now (drop 1 behind.now) (to_come parser.old)) }
 {
-    let mut receiver = ComparingReceiver::refusing(alloc, before, before.len());
-    match parser.load(&mut receiver, true) {
-        Err(Fault::Receiver) => receiver.check_end()?,
-        _ => return Err(Difference::new(alloc, "`load` doesn't answer the refusal")),
-    }
-    is_left(alloc, parser.try_clone()?, without_first(behind))?;
+    refuse_behind(alloc, parser, before)?;
+    is_left_to_clone(alloc, parser, without_first(behind))?;
     if behind.len() == 1 {
         return ends_again(alloc, parser, behind);
     }
     Ok(())
+}
+
+// `load` hands over these lines and answers that the next event is refused.
+fn refuse_behind<T: Input>(
+    alloc: Global,
+    parser: &mut Parser<'_, T>,
+    before: &[String],
+) -> Result<(), Difference>
+    ensures { StandsBetween parser.old → OnOk result ((others : List (String Heap))
+        → ListAll others (to_come parser.new)
+        → ListAllButOne before.now others (to_come parser.old)) }
+{
+    let mut receiver = ComparingReceiver::refusing(alloc, before, before.len());
+    if is_refused(&parser.load(&mut receiver, true)) {
+        return receiver.check_end();
+    }
+    Err(Difference::new(alloc, "`load` doesn't answer the refusal"))
+}
+
+fn is_refused(answer: &Result<(), Fault>) -> bool
+    ensures { result ≡ true → answer.now ≡ Err Receiver }
+{
+    matches!(answer, Err(Fault::Receiver))
 }
 
 fn without_first(lines: &[String]) -> &[String]
@@ -72,9 +95,9 @@ fn without_first(lines: &[String]) -> &[String]
 }
 
 // `load` hands over the end of the stream, which was refused before, and nothing else.
-fn ends_again<T: CloneInput>(
+fn ends_again<T: Input>(
     alloc: Global,
-    mut parser: Parser<'_, T>,
+    parser: &mut Parser<'_, T>,
     end: &[String],
 ) -> Result<(), Difference> {
     let mut receiver = ComparingReceiver::new(alloc, end);

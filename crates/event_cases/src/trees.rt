@@ -5,9 +5,10 @@ ghost use Rattle.case_files.specs.Listings.{ListAll};
 ghost use Rattle.event_cases.specs.Agreement.{TreesAgree};
 ghost use Rattle.event_cases.specs.Trees.{HasTrees, IsTold};
 
-use crate::ways::is_left;
+use crate::inputs::parser_of;
+use crate::ways::{is_left, is_left_to_clone};
 use case_files::{Case, Difference};
-use saphyr_parser::{CloneInput, Event, Fault, Input, Parser, Span};
+use saphyr_parser::{CloneInput, Event, Fault, Input, Parser, ScanError, Span};
 use std::alloc::{AllocError, Global};
 use tree_events::events_of;
 use yaml_tree::{Document, Limits, TreeFault, load_documents};
@@ -23,111 +24,150 @@ const WIDE: Limits = Limits {
 pub fn compare(alloc: Global, case: &Case) -> Result<(), Difference>
     ensures { OnOk result (TreesAgree case.now) }
 {
-    let parser = Parser::new_from_str(alloc, case.text.as_str()).keep_tags(case.keeps_tags);
-    compare_trees(alloc, parser, case.lines.as_slice())
+    compare_trees(alloc, &parser_of(alloc, case), case.lines.as_slice())
 }
 
 fn compare_trees<T: CloneInput>(
     alloc: Global,
-    parser: Parser<'_, T>,
+    parser: &Parser<'_, T>,
     lines: &[String],
 ) -> Result<(), Difference>
     ensures { OnOk result
-        (ListAll lines.now (to_come parser.entry) × HasTrees (to_come parser.entry)) }
+        (ListAll lines.now (to_come parser.now) × HasTrees (to_come parser.now)) }
 {
-    is_left(alloc, parser.try_clone()?, lines)?;
+    is_left_to_clone(alloc, parser, lines)?;
     let given = Given::new(alloc, parser.try_clone()?)?;
+    load_given(alloc, parser, lines, &given)
+}
+
+fn load_given<T: CloneInput>(
+    alloc: Global,
+    parser: &Parser<'_, T>,
+    lines: &[String],
+    given: &Given<'_>,
+) -> Result<(), Difference>
+    ensures { OnOk result (HasTrees (to_come parser.now)) }
+{
+    load_all(alloc, &mut parser.try_clone()?, given, WIDE)?;
+    load_near(alloc, parser, lines, given)?;
+    load_again(alloc, parser)?;
+    load_late(alloc, parser, lines, given)
+}
+
+// Within limits as wide as the text needs, of one less and of nothing.
+fn load_near<T: CloneInput>(
+    alloc: Global,
+    parser: &Parser<'_, T>,
+    lines: &[String],
+    given: &Given<'_>,
+) -> Result<(), Difference> {
     let needed = given.needed();
-    load_all(alloc, parser.try_clone()?, &given, WIDE)?;
     for nodes in [0, needed.nodes.saturating_sub(1), needed.nodes] {
         for depth in [0, needed.depth.saturating_sub(1), needed.depth] {
             let limits = Limits { nodes, depth };
-            let loaded = load_within(alloc, parser.try_clone()?, lines, &given, limits);
-            if let Err(difference) = loaded {
-                let place = format!(in alloc; "{nodes} nodes, {depth} open collections")?;
-                return Err(difference.within(alloc, place.as_str()));
-            }
+            let loaded = load_within(alloc, parser, lines, given, limits);
+            loaded.map_err(|it| within_limits(alloc, it, limits))?;
         }
     }
-    load_again(alloc, parser.try_clone()?)?;
-    load_late(alloc, parser, lines, &given)
+    Ok(())
+}
+
+// The difference, with the limits within which it was found.
+fn within_limits(alloc: Global, difference: Difference, limits: Limits) -> Difference {
+    let Limits { nodes, depth } = limits;
+    match format!(in alloc; "{nodes} nodes, {depth} open collections") {
+        Ok(place) => difference.within(alloc, place.as_str()),
+        Err(error) => Difference::OutOfMemory(error),
+    }
 }
 
 // The answer within limits, and what is left behind it.
 fn load_within<T: CloneInput>(
     alloc: Global,
-    mut parser: Parser<'_, T>,
+    parser: &Parser<'_, T>,
     lines: &[String],
     given: &Given<'_>,
     limits: Limits,
 ) -> Result<(), Difference> {
+    let mut parser = parser.try_clone()?;
     match given.first_beyond(limits) {
         Some((place, wanted)) => {
-            let answer = load_documents(alloc, &mut parser, limits);
-            is_refused(alloc, &answer, &wanted)?;
-            is_left(alloc, parser, lines.get(place..).unwrap_or(&[]))
+            is_refused(alloc, &mut parser, limits, &wanted)?;
+            is_left(alloc, &mut parser, lines.get(place..).unwrap_or(&[]))
         }
-        None => load_all(alloc, parser, given, limits),
+        None => load_all(alloc, &mut parser, given, limits),
     }
 }
 
 // All documents, or the fault of the text, and nothing is left.
 #[tactic(auto, using(crate::proofs::TreesTold::has_trees))]
-fn load_all<T: CloneInput>(
+fn load_all<T: Input + Drop>(
     alloc: Global,
-    mut parser: Parser<'_, T>,
+    parser: &mut Parser<'_, T>,
     given: &Given<'_>,
     limits: Limits,
 ) -> Result<(), Difference>
-    ensures { OnOk result (HasTrees (to_come parser.entry)) }
+    ensures { OnOk result (HasTrees (to_come parser.old)) }
 {
-    let answer = load_documents(alloc, &mut parser, limits);
+    let answer = load_documents(alloc, parser, limits);
     given.is_loaded(alloc, answer)?;
     is_left(alloc, parser, &[])
 }
 
 // A parser that has ended is not new.
-fn load_again<T: CloneInput>(alloc: Global, mut parser: Parser<'_, T>) -> Result<(), Difference> {
-    let _first = load_documents(alloc, &mut parser, WIDE);
-    let answer = load_documents(alloc, &mut parser, WIDE);
-    is_refused(alloc, &answer, &TreeFault::NotFresh)?;
-    is_left(alloc, parser, &[])
+fn load_again<T: CloneInput>(alloc: Global, parser: &Parser<'_, T>) -> Result<(), Difference> {
+    let mut parser = parser.try_clone()?;
+    let _ = load_documents(alloc, &mut parser, WIDE);
+    is_late(alloc, &mut parser, &[])
 }
 
 // Behind the first event nothing is passed, unless a fault comes next.
 fn load_late<T: CloneInput>(
     alloc: Global,
-    mut parser: Parser<'_, T>,
+    parser: &Parser<'_, T>,
     lines: &[String],
     given: &Given<'_>,
 ) -> Result<(), Difference> {
-    let _first = parser.next_event();
-    let answer = load_documents(alloc, &mut parser, WIDE);
+    let mut parser = parser.try_clone()?;
+    let _ = parser.next_event();
     if given.events.len() == 1 {
-        given.is_loaded(alloc, answer)?;
-        return is_left(alloc, parser, &[]);
+        return load_all(alloc, &mut parser, given, WIDE);
     }
-    is_refused(alloc, &answer, &TreeFault::NotFresh)?;
-    is_left(alloc, parser, lines.get(1..).unwrap_or(&[]))
+    is_late(alloc, &mut parser, lines.get(1..).unwrap_or(&[]))
 }
 
-// The answer is this fault.
-fn is_refused(
+// The parser is not new, and what it has left are the lines.
+fn is_late<T: Input + Drop>(
     alloc: Global,
-    answer: &Result<Vec<Document>, TreeFault>,
+    parser: &mut Parser<'_, T>,
+    lines: &[String],
+) -> Result<(), Difference> {
+    is_refused(alloc, parser, WIDE, &TreeFault::NotFresh)?;
+    is_left(alloc, parser, lines)
+}
+
+// Within these limits this fault is answered.
+fn is_refused<T: Input>(
+    alloc: Global,
+    parser: &mut Parser<'_, T>,
+    limits: Limits,
     wanted: &TreeFault,
 ) -> Result<(), Difference> {
-    match answer {
-        Err(fault) if *fault == *wanted => Ok(()),
-        Err(fault) => {
-            let text = format!(in alloc; "{fault} in place of {wanted}")?;
-            Err(Difference::Found(text))
-        }
+    match load_documents(alloc, parser, limits) {
+        Err(fault) => is_fault(alloc, &fault, wanted),
         Ok(_) => {
             let text = format!(in alloc; "documents in place of {wanted}")?;
             Err(Difference::Found(text))
         }
     }
+}
+
+fn is_fault(alloc: Global, fault: &TreeFault, wanted: &TreeFault) -> Result<(), Difference> {
+    if *fault == *wanted {
+        return Ok(());
+    }
+    let text = format!(in alloc; "{fault} in place of {wanted}")?;
+    Err(Difference::Found(text))
 }
 
 // What a parser gives.
@@ -187,34 +227,64 @@ impl<'a> Given<'a> {
     ) -> Result<(), Difference>
         ensures { OnOk result (IsTold answer) }
     {
-        match (answer, &self.fault) {
-            (Ok(documents), None) => self.are_all(alloc, documents.as_slice()),
-            (Ok(_), Some(_)) => Err(Difference::new(alloc, "documents in place of a fault")),
-            (Err(TreeFault::Parse(Fault::Scan(error))), Some(Fault::Scan(wanted)))
-                if error == *wanted => { Ok(()) }
-            (Err(fault), _) => Err(Difference::Found(format!(in alloc; "{fault}")?)),
+        match answer {
+            Ok(documents) => self.has_loaded(alloc, documents.as_slice()),
+            Err(TreeFault::Parse(Fault::Scan(error))) => self.is_ended(alloc, &error),
+            Err(fault) => Err(Difference::Found(format!(in alloc; "{fault}")?)),
         }
     }
 
-    // The documents have these events, and so have their copies.
+    // A fault of the text ends the events, and it is this one.
+    fn is_ended(&self, alloc: Global, error: &ScanError) -> Result<(), Difference> {
+        match &self.fault {
+            Some(Fault::Scan(wanted)) if *error == *wanted => Ok(()),
+            _ => Err(Difference::Found(format!(in alloc; "{error}")?)),
+        }
+    }
+
+    // No fault ends the events, and the documents have them.
+    fn has_loaded(&self, alloc: Global, documents: &[Document]) -> Result<(), Difference> {
+        if self.fault.is_some() {
+            return Err(Difference::new(alloc, "documents in place of a fault"));
+        }
+        self.are_all(alloc, documents)?;
+        have_copies(alloc, documents)
+    }
+
+    // The documents have these events.
     fn are_all(&self, alloc: Global, documents: &[Document]) -> Result<(), Difference> {
         let events = events_of(alloc, documents)?;
         if events.len() != self.events.len() {
             return Err(Difference::new(alloc, "more or fewer events"));
         }
         for (event, (wanted, _)) in events.iter().zip(&self.events) {
-            if *event != *wanted {
-                let text = format!(in alloc; "{event:?} in place of {wanted:?}")?;
-                return Err(Difference::Found(text));
-            }
-        }
-        for document in documents {
-            if document.try_clone()? != *document {
-                return Err(Difference::new(alloc, "a copy differs"));
-            }
+            is_event(alloc, event, wanted)?;
         }
         Ok(())
     }
+}
+
+fn is_event(alloc: Global, event: &Event<'_>, wanted: &Event<'_>) -> Result<(), Difference> {
+    if *event == *wanted {
+        return Ok(());
+    }
+    let text = format!(in alloc; "{event:?} in place of {wanted:?}")?;
+    Err(Difference::Found(text))
+}
+
+// The documents have copies that equal them.
+fn have_copies(alloc: Global, documents: &[Document]) -> Result<(), Difference> {
+    for document in documents {
+        if !has_copy(document)? {
+            return Err(Difference::new(alloc, "a copy differs"));
+        }
+    }
+    Ok(())
+}
+
+fn has_copy(document: &Document) -> Result<bool, AllocError> {
+    let copy = document.try_clone()?;
+    Ok(copy == *document)
 }
 
 const NOTHING: Limits = Limits { nodes: 0, depth: 0 };

@@ -6,6 +6,7 @@ ghost use Rattle.case_files.specs.Listings.{fault_line_of, case_answer};
 ghost use Rattle.event_cases.specs.Agreement.{DumpAgrees};
 ghost use Rattle.event_cases.specs.Dumped.{IsWritten};
 
+use crate::inputs::parser_of;
 use case_files::{Case, Difference, KeepingWriter, Manner, printed, push_item};
 use saphyr_parser::{DumpFault, Fault, Input, Parser, dump};
 use std::alloc::Global;
@@ -64,8 +65,13 @@ fn write_case(alloc: Global, case: &Case, text: &str, manner: Manner) -> Result<
     ensures { IfOk result (λ has_failed.
         IsWritten has_failed (fault_line_of case.now.lines.items) text.now (case_answer case.now)) }
 {
-    let parser = Parser::new_from_str(alloc, case.text.as_str()).keep_tags(case.keeps_tags);
-    is_dumped(alloc, parser, text, case.fault_line(), manner)
+    is_dumped(
+        alloc,
+        parser_of(alloc, case),
+        text,
+        case.fault_line(),
+        manner,
+    )
 }
 
 /// `dump` writes the text up to where the writer fails, and answers that, or the fault. Whether the writer

@@ -1,13 +1,12 @@
-use Rattle.std.proofs.Common.{◌<◌}
 use Rattle.saphyr_parser.specs.Cursor.{count, to_come}
 use Rattle.case_files.specs.Listings.{ListAll}
-use Rattle.event_cases.specs.Handed.{StandsBetween}
-use Rattle.event_cases.proofs.ways.by_load.Given as goal
+use Rattle.event_cases.specs.Handed.{MayLoad, StandsBetween}
+use Rattle.event_cases.proofs.ways.load_each.Given as goal
 
--- While something is left the parser stands between documents, and what is left is all but the lines that have come.
+-- What is left is all but the lines that have come.
 abbrev pub invariant-loop-receiver : goal.invariant-loop-receiver
 invariant-loop-receiver g l = StandsBetween l.fn.parser → record {
-  between : 0 < count (to_come l.parser) → StandsBetween l.parser;
+  between : MayLoad l.parser;
   lists : ListAll l.receiver.left (to_come l.parser) → ListAll l.lines (to_come l.fn.parser);
 }
 
