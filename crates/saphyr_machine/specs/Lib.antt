@@ -7,3 +7,4 @@ pub mod Faults
 pub mod Cursor
 pub mod Calls
 pub mod Loading
+pub mod EventParts

@@ -56,8 +56,8 @@ impl<T: CloneInput> Machine<T> {
     fn try_clone(&self) -> Result<Self, AllocError>
         ensures { IfOk result (λ copy. machine_of copy ≡ machine_of self.now) }
     {
+        // The scanner comes last, so that no copy of one is dropped here, which is dear to prove.
         Ok(Machine {
-            scanner: self.scanner.try_clone()?,
             token: copy_token(&self.token)?,
             state: self.state,
             states: Vec::from_slice(self.alloc, &self.states)?,
@@ -65,6 +65,7 @@ impl<T: CloneInput> Machine<T> {
             prefixes: self.prefixes.try_clone()?,
             keep_tags: self.keep_tags,
             alloc: self.alloc,
+            scanner: self.scanner.try_clone()?,
         })
     }
 }
@@ -76,12 +77,13 @@ impl<'input, T: CloneInput> EventReader<'input, T> {
     pub fn try_clone(&self) -> Result<Self, AllocError>
         ensures { IfOk result (λ copy. cursor copy ≡ cursor self.now) }
     {
+        // The machine comes last, as the scanner above.
         Ok(EventReader {
-            machine: self.machine.try_clone()?,
             current: copy_event(&self.current)?,
             kept: copy_kept(&self.kept)?,
             inside: self.inside,
             finished: self.finished,
+            machine: self.machine.try_clone()?,
         })
     }
 }

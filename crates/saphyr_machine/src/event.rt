@@ -1,6 +1,7 @@
 //! Events: the serialization of a text's nodes, step by step (YAML 1.2.2, 3.2.2).
 
 ghost use Rattle.std.specs.Prelude.{◌≡◌, false, IfOk, option_map};
+ghost use Rattle.saphyr_machine.specs.EventParts as parts;
 ghost use Rattle.saphyr_machine.specs.Views.Events.{happening, resolved_tag, has_tag};
 
 use crate::tag::Tag;
@@ -60,6 +61,54 @@ impl<'input> Event<'input> {
             Event::MappingStart(id, tag) => Event::MappingStart(*id, try_clone_any(tag)?),
             Event::MappingEnd => Event::MappingEnd,
         })
+    }
+
+    /// The tag of a node that has one.
+    pub fn tag(&self) -> Option<&Tag>
+        ensures { option_map (λ tag. resolved_tag tag.now) result
+            ≡ parts.node_tag (happening self.now) }
+    {
+        match self {
+            Event::Scalar(_, _, _, tag) => tag.as_ref(),
+            Event::SequenceStart(_, tag) | Event::MappingStart(_, tag) => tag.as_ref(),
+            _ => None,
+        }
+    }
+
+    /// The id of a node's own anchor. An alias has none: its number is that of another node's.
+    pub fn anchor_id(&self) -> Option<usize>
+        ensures { result ≡ parts.node_anchor (happening self.now) }
+    {
+        match self {
+            Event::Scalar(_, _, 0, _) | Event::SequenceStart(0, _) | Event::MappingStart(0, _) =>
+                None,
+            Event::Scalar(_, _, id, _) => Some(*id),
+            Event::SequenceStart(id, _) | Event::MappingStart(id, _) => Some(*id),
+            _ => None,
+        }
+    }
+
+    /// Whether the stream, a document, a sequence or a mapping begins.
+    pub fn is_start(&self) -> bool
+        ensures { result ≡ parts.begins_part (happening self.now) }
+    {
+        matches!(
+            self,
+            Event::StreamStart
+                | Event::DocumentStart(_)
+                | Event::SequenceStart(..)
+                | Event::MappingStart(..)
+        )
+    }
+
+    /// Whether one of these ends.
+    pub fn is_end(&self) -> bool
+        ensures { result ≡ parts.ends_part (happening self.now) }
+    {
+        matches!(
+            self,
+            Event::StreamEnd | Event::DocumentEnd | Event::SequenceEnd | Event::MappingEnd
+        )
     }
 
     // Whether it has a tag, which holds memory.

@@ -4,10 +4,28 @@ ghost use Rattle.saphyr_machine.specs.Views.Events.{happening};
 
 use crate::event::Event;
 use saphyr_scalar::Span;
+use std::alloc::{AllocError, AllocFailed};
 
 /// A receiver's answer that it takes no more events.
 #[derive(Clone, Copy, Debug, PartialEq, Eq)]
 pub struct Refused;
+
+/// A receiver that stores events refuses one for want of memory by `?`, as in `self.events.push(event)?`.
+impl From<AllocError> for Refused {
+    ghost from_gives = { λ _ _. Unit {0} };
+
+    fn from(_e: AllocError) -> Refused {
+        Refused
+    }
+}
+
+impl<X: Drop> From<AllocFailed<X>> for Refused {
+    ghost from_gives = { λ _ _. Unit {0} };
+
+    fn from(_e: AllocFailed<X>) -> Refused {
+        Refused
+    }
+}
 
 /// What takes events, one after the other.
 pub trait EventReceiver<'input> {

@@ -30,9 +30,16 @@ impl<T: Input> Machine<T> {
         if handle.is_empty() {
             return Ok(handle);
         }
-        if let Some(prefix) = self.prefixes.prefix_of(handle.as_str())? {
-            return Ok(prefix);
+        match self.prefixes.prefix_of(handle.as_str())? {
+            Some(prefix) => Ok(prefix),
+            None => self.undeclared_prefix(handle, place),
         }
+    }
+
+    // The prefix of a handle that no directive declares.
+    fn undeclared_prefix(&self, handle: String, place: Marker) -> Result<String, Stop>
+        ensures { Moves string_bytes result (spec.undeclared_prefix (string_bytes handle) place) }
+    {
         if handle.as_str() == "!!" {
             return Ok(String::from_str(self.alloc, "tag:yaml.org,2002:")?);
         }

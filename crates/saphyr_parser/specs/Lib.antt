@@ -1,4 +1,5 @@
 pub use Rattle.saphyr_machine.specs.Events
+pub use Rattle.saphyr_machine.specs.EventParts
 pub use Rattle.saphyr_machine.specs.Names
 pub use Rattle.saphyr_machine.specs.Views
 pub use Rattle.saphyr_machine.specs.Steps
