@@ -71,28 +71,16 @@ LEADING = re.compile(r"[ \n\r]*")
 
 # What no definition asks, with a smallest text and an answer of it that is taken for the want of this alone.
 OPEN = {
-    "own braces": ("a flow mapping has both braces, or is a single pair of a flow sequence and has neither (7.4.2)",
-                   "[]", "+SEQ / +MAP / -MAP / -SEQ"),
     "own line": ("behind a block collection's properties a line ends (8.2.3)",
                  "! :", "+MAP <!> / =VAL : / =VAL : / -MAP"),
-    "some entry": ("a block collection has an entry (8.2)", "-", "+SEQ / +SEQ / -SEQ / -SEQ"),
-    "entry's column": ("entries of a block collection stand at its column (8.2)",
+    "entry's column": ("a block mapping's entry without a key begins at its column (8.2.2)",
                        ": :", "+MAP / =VAL : / =VAL : / =VAL : / =VAL : / -MAP"),
-    "inside": ("a node in a block collection stands right of its column (8.2)",
-               ":\n:", "+MAP / =VAL : / +MAP / =VAL : / =VAL : / -MAP / -MAP"),
     "later lines": ("outside flow a scalar's later lines stand right of the innermost collection's column (6.1)",
                     "- a\n-", "+SEQ / =VAL :a - / -SEQ"),
     "colon apart": ("inside flow white space, an indicator or the end stands behind a colon, or before it a key that ends"
                     " with a quote or a bracket (7.4.2)", "[:a]", "+SEQ / +MAP / =VAL : / =VAL :a / -MAP / -SEQ"),
-    "key with a colon": ("a key without a `?` has a colon (7.4.2, 8.2.2)", "", "+MAP / =VAL : / =VAL : / -MAP"),
-    "some key": ("such a key has a text (7.4, 8.2.2)",
+    "some key": ("a key without a `?` has a text (7.4, 8.2.2)",
                  "?\n:", "+MAP / =VAL : / =VAL : / =VAL : / =VAL : / -MAP"),
-    "flow key": ("such a key is no block collection (7.4, 8.2.2)",
-                 "- :", "+MAP / +SEQ / =VAL : / -SEQ / =VAL : / -MAP"),
-    "key on a line": ("such a key of a block mapping or a single pair stands on one line with its colon (7.4, 8.2.2)",
-                      "!\n:", "+MAP / =VAL <!> : / =VAL : / -MAP"),
-    "short key": ("such a key of a block mapping and its blanks have at most 1,024 characters (8.2.2)",
-                  "a" * 1025 + ":", f"+MAP / =VAL :{'a' * 1025} / =VAL : / -MAP"),
     "colon's column": ("in a block mapping the colon of a `?` stands at the mapping's column (8.2.2)",
                        "? :", "+MAP / =VAL : / =VAL : / -MAP"),
 }
@@ -292,8 +280,10 @@ class Search:
     def is_dash(self, place):
         return self.at(place.index) == "-" and self.at(place.index + 1) in BLANK_OR_BREAKZ
 
-    def key_tokens(self, place):
-        """Whether a `?` begins a key, and the place behind that (IsQuestionMark, HasNoText)."""
+    def key_tokens(self, place, context, column):
+        """Whether a `?` begins a key, and the place behind that (IsQuestionMark, IsKeyStart)."""
+        if context != IN_FLOW and place.col != column:
+            return
         if self.at(place.index) == "?" and self.at(place.index + 1) in BLANK_OR_BREAKZ:
             yield True, self.along(place, 1)
         yield from ((False, t) for t in self.without_text(place))
@@ -527,14 +517,13 @@ class Search:
     def node(self, place, context, column):
         """A node (YieldsNode)."""
         here = self.apart(place)
-        inside = self.unless("inside", context in (IN_FLOW, AS_BLOCK_KEY) or here.col > column)
-        for name, t in self.name_tokens(here, "*") if self.may(inside) else []:
-            yield from ((told, u, inside) for told, u in self.tell(t, Reference("=ALI", name)))
+        for name, t in self.name_tokens(here, "*"):
+            yield from ((told, u, 0) for told, u in self.tell(t, Reference("=ALI", name)))
         for (anchor, tag), t, broken in self.properties(place, context):
             content, has_property = self.apart(t), (anchor, tag) != (None, None)
-            if self.may(inside | broken):
+            if self.may(broken):
                 ways = self.flow_content(t, context, column, anchor, tag)
-                yield from ((told, u, inside | broken | more) for told, u, more in ways)
+                yield from ((told, u, broken | more) for told, u, more in ways)
             broken |= self.unless("own line", not has_property or self.has_break(t, content))
             if context != IN_FLOW and self.may(broken):
                 ways = self.block_collection(content, context, column, anchor, tag)
@@ -566,7 +555,7 @@ class Search:
 
     @way
     def flow_mapping(self, place, column):
-        """In braces, of which today's definitions let each be left out."""
+        """In braces (AreInPlace)."""
         lacks = self.unless("own braces", False)
         starts = [(t, 0) for t in self.stands(place, "{")]
         starts += [(t, lacks) for t in self.without_text(place) if self.may(lacks)]
@@ -596,7 +585,7 @@ class Search:
 
     @way
     def flow_entry(self, place, column):
-        """A node, or a mapping of a single pair, behind a start and before an end without a text or without these."""
+        """A node, or a mapping of a single pair. That has a start and an end without a text, but for a `?` in it."""
         yield from self.node(place, IN_FLOW, column)
         here = self.apart(place)
         for told, t in self.tell(here, Opening("+MAP", None, None)):
@@ -637,7 +626,7 @@ class Search:
     @way
     def key_alone(self, place, context, column):
         """A key without a value (YieldsMarkedKey)."""
-        for has_mark, t in self.key_tokens(self.apart(place)):
+        for has_mark, t in self.key_tokens(self.apart(place), context, column):
             lacks = self.unless("key with a colon", has_mark)
             for told, u, broken in self.optional(t, self.key_context(has_mark, context), column):
                 for others, v, _ in self.left_out(u) if self.may(lacks | broken) else []:
@@ -647,7 +636,7 @@ class Search:
     def marked_pair(self, place, context, column, is_single):
         """A key and its value (YieldsMarkedPair)."""
         start = self.apart(place)
-        for has_mark, t in self.key_tokens(start):
+        for has_mark, t in self.key_tokens(start, context, column):
             for told, u, broken in self.optional(t, self.key_context(has_mark, context), column):
                 colon = self.apart(u)
                 broken |= self.key_breaks(has_mark, start, colon, context, column, is_single)
@@ -660,40 +649,44 @@ class Search:
         return context if has_mark or context == IN_FLOW else AS_BLOCK_KEY
 
     def key_breaks(self, has_mark, start, colon, context, column, is_single):
-        in_block = context != IN_FLOW
+        """What a key and its colon break (is_near)."""
+        in_block, is_on_line = context != IN_FLOW, not self.has_break(start, colon)
         if has_mark:
             return self.unless("colon's column", not in_block or colon.col == column)
-        on_line = not (in_block or is_single) or not self.has_break(start, colon)
-        is_short = not in_block or colon.index - start.index <= 1024
-        return self.unless("key on a line", on_line) | self.unless("short key", is_short)
+        is_near = is_on_line or not (in_block or is_single)
+        return self.unless("near key", is_near and (not in_block or colon.index - start.index <= 1024))
 
     def block_collection(self, place, context, column, anchor, tag):
         """A block sequence or mapping, from its start on (YieldsSequence, YieldsMapping)."""
         key = self.unless("flow key", context != AS_BLOCK_KEY)
-        right = self.unless("inside", place.col > column) | key
-        for t in self.without_text(place) if self.may(right) else []:
+        for t in self.without_text(place) if place.col > column and self.may(key) else []:
             for name in ("SEQ", "MAP"):
                 for told, u in self.tell(t, Opening("+" + name, anchor, tag)):
                     ways = self.block_entries(u, place.col) if name == "SEQ" else self.block_pairs(u, place.col, False)
                     for others, v, broken in ways:
-                        broken |= right | self.unless("some entry", v != u)
-                        yield from self.closed(told + others, v, broken, "-" + name)
+                        broken |= key | self.unless("some entry", v != u)
+                        ends = self.ends_block(self.apart(v), place.col)
+                        yield from self.closed(told + others, v, broken, "-" + name) if ends else []
         if context in (IN_BLOCK_MAPPING, AS_BLOCK_KEY) and self.is_dash(place) and self.may(key):
             for told, t in self.tell(place, Opening("+SEQ", anchor, tag)):
                 for others, u, broken in self.block_entries(t, column):
                     if u != t:
                         yield from self.closed(told + others, u, key | broken, "-SEQ")
 
+    def ends_block(self, here, column):
+        """Whether a block collection at a column may end before what stands here (IsBlockEnd)."""
+        no_content = self.is_document_indicator(here.index) or self.at(here.index) in "%" + MARK
+        return here.col < column or here.index == len(self.text) or here.col == 0 and no_content
+
     @way
     def block_entries(self, place, column):
-        """The entries of a block sequence (YieldBlockEntries)."""
+        """The entries of a block sequence at its column (YieldBlockEntries, IsDash)."""
         yield (), place, 0
         dash = self.apart(place)
-        at_column = self.unless("entry's column", dash.col == column)
-        for t in self.stands(dash, "-") if self.is_dash(dash) and self.may(at_column) else []:
+        for t in self.stands(dash, "-") if self.is_dash(dash) and dash.col == column else []:
             for told, u, broken in self.optional(t, IN_BLOCK, column):
                 for others, v, more in self.block_entries(u, column):
-                    yield told + others, v, at_column | broken | more
+                    yield told + others, v, broken | more
 
     @way
     def block_pairs(self, place, column, is_behind_key):

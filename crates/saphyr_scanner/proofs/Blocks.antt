@@ -19,7 +19,7 @@ outer_indent_cursor (i ∷ is) c = refl
 pub block_cursor : (m : Marker) (s : State) → (end_block m s).core.cursor ≡ s.core.cursor
 block_cursor m s = outer_indent_cursor s.core.outer_indents s.core
 
-blocks_cursor : (column : Option ℕ) (m : Marker) (is : List ℕ) (s : State)
+pub blocks_cursor : (column : Option ℕ) (m : Marker) (is : List ℕ) (s : State)
     → (end_blocks column m is s).core.cursor ≡ s.core.cursor
 blocks_cursor column m [] s =
     by_test (is_right_of column s.core.indent) _ _ (λ (t : State). t.core.cursor ≡ s.core.cursor)

@@ -21,13 +21,13 @@ along-along m a b =
     let k : m.col + a + b ≡ m.col + (a + b) = omega arith in
     rw (i, k) refl
 
-break_is_no_blank : (c : ℕ) → is_yaml_non_break c ≡ false → is_blank c ≡ false
+pub break_is_no_blank : (c : ℕ) → is_yaml_non_break c ≡ false → is_blank c ≡ false
 break_is_no_blank c e = grind (arith, nat_tests)
 
 no_tab : (c : ℕ) → is_yaml_non_break c ≡ false → nat_eq c 9 ≡ false
 no_tab c e = grind (arith, nat_tests)
 
-break_is_no_sign : (c : ℕ) → is_yaml_non_break c ≡ false → nat_eq c 35 ≡ false
+pub break_is_no_sign : (c : ℕ) → is_yaml_non_break c ≡ false → nat_eq c 35 ≡ false
 break_is_no_sign c e = grind (arith, nat_tests)
 
 one_further : (l : ℕ) (m : Marker) (blank broke tabbed : Bool) (n c : ℕ) (cs : List ℕ)

@@ -22,7 +22,8 @@ use Rattle.saphyr_scalar.specs.Steps.Directive as directives
 use Rattle.saphyr_scanner.proofs.Taken.Candidates.{Above, ActionsAbove, KeepsPlacesAbove}
 use Rattle.saphyr_scanner.proofs.Taken.Separated.{given_map}
 use Rattle.saphyr_scanner.proofs.Effects.Steps as effects
-use Rattle.saphyr_scanner.proofs.Effects.Fetch.{some_character_left, step_effect, arrival_goes}
+use Rattle.saphyr_scanner.proofs.Effects.Fetch.{some_character_left, deep_here, step_effect, arrival_goes}
+use Rattle.saphyr_scanner.proofs.Taken.Keys.{IsDeep}
 use Rattle.saphyr_scalar.proofs.Given.{Given, given_bind}
 use Rattle.saphyr_scalar.proofs.Choices.{both_by}
 
@@ -206,16 +207,17 @@ stream_agrees hs c q p b k =
 -- ## What begins at a place
 
 content_same : (hs : List Place) (first second : ℕ) (c : Core) (q p : Queue) → 0 < length c.cursor.rest
-    → slice_index c.cursor.rest 0 ≡ first → slice_index c.cursor.rest 1 ≡ second → Behind hs q p → Above (length hs) c
+    → slice_index c.cursor.rest 0 ≡ first → slice_index c.cursor.rest 1 ≡ second → IsDeep c → Behind hs q p
+    → Above (length hs) c
     → Same hs (state_behind_content first second (at c q)) (state_behind_content first second (at c p))
 unfolding state_behind_content
-content_same hs first second c q p some f g b k =
+content_same hs first second c q p some f g deep b k =
     let n : next q ≡ next p = same_next hs q p b in
     let places = ap length b.places in let l = length-append hs p.places in
     let before : length hs ≤ next q = omega (arith, places, l) in
     let told = after_step_agrees hs (step first second (next q) c) q p b
     (given_map _ _ (step first second (next q) c) (λ x e. e.keeps (length hs) (before, k))
-    (step_effect first second (next q) c some f g)) in
+    (step_effect first second (next q) c some f g deep)) in
     subst (λ (m : ℕ). Same hs (after_step (step first second (next q) c) q) (after_step (step first second m c) p)) n
     told
 
@@ -239,8 +241,9 @@ here_agrees hs c q p b k =
     (same_if hs ((c.cursor.mark.col == 0) && is_document_start t) _ _ _ _
     (marker_agrees hs tokens.DocumentStart c q p b k)
     (same_if hs ((c.cursor.mark.col == 0) && is_document_end t) _ _ _ _ (end_marker_agrees hs c q p b k)
-    (same_if hs (nat_lt c.cursor.mark.col (least_column c)) _ _ _ _ refl
-    (content_same hs (slice_index t 0) (slice_index t 1) c q p (some_character_left t z) refl refl b k))))))
+    (both_by (nat_lt c.cursor.mark.col (least_column c)) _ _ _ _ _ (Same hs) refl (λ _ _. refl)
+    (λ e _. content_same hs (slice_index t 0) (slice_index t 1) c q p (some_character_left t z) refl refl
+    (deep_here c e) b k))))))
 
 arrive_agrees : (hs : List Place) → AgreesBehind hs arrive
 unfolding arrive

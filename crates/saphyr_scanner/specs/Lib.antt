@@ -4,6 +4,7 @@ pub mod Views
 pub mod Limits
 pub mod Steps
 pub mod TakenOff
+pub mod TokensInPlace
 pub mod TokensTaken
 pub mod SpansInOrder
 pub mod Ends

@@ -1,10 +1,10 @@
 -- Which tokens are taken from a text: up to the last token the text is the spellings of the tokens in order, parted by
 -- blanks, breaks and comments alone (YAML 1.2.2, chapters 5 to 9). Nothing else is passed over.
 -- A place is a cursor, of which what stands there and its line and column count here.
-use Rattle.std.specs.Prelude.{◌≡◌, ℕ, ◌+◌, ◌-◌, ◌≤◌, Bool, false, not, nat_lt, if◌then◌else◌, ◌&&◌, ◌==◌, ◌⊎◌, List, [], ◌∷◌, ◌++◌, length, drop, slice_index, Option, Some, None, IsTrue, IsFalse, codes, encode_utf8_all}
+use Rattle.std.specs.Prelude.{◌≡◌, ℕ, ◌+◌, ◌-◌, ◌≤◌, ◌<◌, Bool, false, not, nat_lt, if◌then◌else◌, ◌&&◌, ◌==◌, ◌⊎◌, List, [], ◌∷◌, ◌++◌, length, drop, slice_index, Option, Some, None, IsTrue, IsFalse, codes, encode_utf8_all}
 use Rattle.saphyr_input.specs.Classes.{is_blank, is_break, is_breakz, is_blank_or_breakz, is_yaml_non_break, is_anchor_char, is_one_of, byte_order_mark}
-use Rattle.saphyr_input.specs.Places.{is_document_start, is_document_end, is_blank_or_break}
-use Rattle.saphyr_input.specs.Indicators.{ampersand, asterisk, colon, comma, greater_than, hyphen, left_brace, left_bracket, number_sign, question_mark, right_brace, right_bracket, vertical_bar}
+use Rattle.saphyr_input.specs.Places.{is_document_start, is_document_end, is_document_indicator, is_blank_or_break}
+use Rattle.saphyr_input.specs.Indicators.{ampersand, asterisk, colon, comma, greater_than, hyphen, left_brace, left_bracket, number_sign, percent_sign, question_mark, right_brace, right_bracket, vertical_bar}
 use Rattle.saphyr_scalar.specs.declared.scalar.position.Marker.{Marker}
 use Rattle.saphyr_scalar.specs.declared.scalar.position.Span.{Span}
 use Rattle.saphyr_scalar.specs.declared.scalar.fault.Refusal.{Refusal}
@@ -28,6 +28,7 @@ use Rattle.saphyr_scalar.specs.Spelling.Directive.{ReadDirective, version, tag_p
 use Rattle.saphyr_scanner.specs.Grammar.Tokens as tokens
 use Rattle.saphyr_scanner.specs.Grammar.Tokens.{Kind}
 use Rattle.saphyr_scanner.specs.Views.Tokens.{Piece, Remaining}
+use Rattle.saphyr_scanner.specs.TokensInPlace.{has_text, not_enclosed, AreInPlace}
 
 -- ## Places (5.4)
 
@@ -81,14 +82,39 @@ LiesOnLine s m = (tail behind : List ℕ) × IsLineTail tail × (s.rest ≡ tail
 abbrev pub HasNoText : Span → Cursor → Cursor → Type 0
 HasNoText span s t = (span.end ≡ span.start) × IsPlaceOrEnd s span.start × (t ≡ s)
 
--- The start of a block collection stands where the text of the next token begins that has one: neither a blank, a break
--- nor a comment stands there.
+-- 8.2: The start of a block collection stands right of the column of the collection around it, where the text of the next
+-- token begins that has one: neither a blank, a break nor a comment stands there.
 abbrev pub begins_text : ℕ → Bool
 begins_text c = not (is_blank_or_break c) && not (c == number_sign)
 
-abbrev pub IsBlockStart : Span → Cursor → Cursor → Type 0
-IsBlockStart span s t = (span.end ≡ span.start) × (span.start ≡ s.mark) × (t ≡ s)
-    × IsTrue (begins_text (slice_index s.rest 0))
+abbrev pub IsBlockStart : ℕ → Span → Cursor → Cursor → Type 0
+IsBlockStart indent span s t = (span.end ≡ span.start) × (span.start ≡ s.mark) × (t ≡ s)
+    × IsTrue (begins_text (slice_index s.rest 0)) × (indent ≤ s.mark.col)
+
+-- 8.2.1, 8.2.2: at the column of the innermost open block collection, right of which this column is the first
+abbrev pub IsAtColumn : ℕ → Marker → Type 0
+IsAtColumn indent m = indent ≡ m.col + 1
+
+-- 7.4, 8.2.2: the start of a key without a `?` stands where its text begins, outside flow at the column of its mapping
+abbrev pub IsKeyStart : Bool → ℕ → Span → Cursor → Cursor → Type 0
+IsKeyStart in_flow indent span s t = (span.end ≡ span.start) × (span.start ≡ s.mark) × (t ≡ s)
+    × IsTrue (begins_text (slice_index s.rest 0)) × (in_flow ≡ false → IsAtColumn indent s.mark)
+
+-- 9.1, 9.2: a document marker, a directive or a byte order mark, none of which is content at the start of a line
+abbrev pub BeginsNoContent : List ℕ → Type 0
+BeginsNoContent text =
+    IsTrue (is_document_indicator text) ⊎ (slice_index text 0 ≡ percent_sign) ⊎ (slice_index text 0 ≡ byte_order_mark)
+
+-- where the content of a document ends
+abbrev pub IsContentEnd : Cursor → Type 0
+IsContentEnd s = (s.rest ≡ []) ⊎ ((s.mark.col ≡ 0) × BeginsNoContent s.rest)
+
+-- 8.2: the end of the innermost block collection stands where the text goes on left of its column, or where the content
+-- ends. Before it neither a blank, a break nor a comment is left.
+abbrev pub IsBlockEnd : ℕ → Span → Cursor → Cursor → Type 0
+IsBlockEnd indent span s t =
+    HasNoText span s t × IsTrue (begins_text (slice_index s.rest 0))
+    × ((s.mark.col + 1 < indent) ⊎ ((0 < indent) × IsContentEnd s))
 
 -- ## Tokens that are their spans: markers, anchors, aliases, tags and directives
 
@@ -140,17 +166,20 @@ TakesCharacter c s t = (s.rest ≡ c ∷ t.rest) × (t.mark ≡ along s.mark 1)
 abbrev pub IsFlowIndicator : ℕ → Span → Cursor → Cursor → Type 0
 IsFlowIndicator c span s t = TakesCharacter c s t × (span.start ≡ s.mark) × LiesOnLine t span.end
 
--- 8.2.1: `-`, whose span is empty and stands behind the blanks and the comment that follow
-abbrev pub IsDash : Span → Cursor → Cursor → Type 0
-IsDash span s t =
+-- 8.2.1: `-` at the column of its collection, whose span is empty and stands behind the blanks and the comment that
+-- follow
+abbrev pub IsDash : ℕ → Span → Cursor → Cursor → Type 0
+IsDash indent span s t =
     TakesCharacter hyphen s t × IsTrue (is_blank_or_breakz (slice_index t.rest 0)) × LiesOnLine t span.start
-    × (span.end ≡ span.start)
+    × (span.end ≡ span.start) × IsAtColumn indent s.mark
 
--- 7.4.2, 8.2.2: `?`, whose span goes on over blanks, breaks and comments
-abbrev pub IsQuestionMark : Span → Cursor → Cursor → Type 0
-IsQuestionMark span s t =
+-- 7.4.2, 8.2.2: `?`, whose span goes on over blanks, breaks and comments. Outside flow it stands at the column of its
+-- mapping.
+abbrev pub IsQuestionMark : Bool → ℕ → Span → Cursor → Cursor → Type 0
+IsQuestionMark in_flow indent span s t =
     TakesCharacter question_mark s t × IsTrue (is_blank_or_breakz (slice_index t.rest 0)) × (span.start ≡ s.mark)
     × ((behind : List ℕ) × IsPassedOver t.mark t.rest span.end behind)
+    × (in_flow ≡ false → IsAtColumn indent s.mark)
 
 -- 7.4.2, 8.2.2: `:`, before which the span stands, empty. Outside flow a blank, a break, NUL or the end follows.
 abbrev pub IsColon : Bool → Span → Cursor → Cursor → Type 0
@@ -226,16 +255,16 @@ IsToken at (tokens.ReservedDirective name) span s t = IsDirectiveToken (reserved
 IsToken at tokens.DocumentStart span s t = IsMarker is_document_start (codes "---") span s t
 IsToken at tokens.DocumentEnd span s t = IsMarker is_document_end (codes "...") span s t
 IsToken at tokens.ByteOrderMark span s t = IsMark span s t
-IsToken at tokens.BlockSequenceStart span s t = IsBlockStart span s t
-IsToken at tokens.BlockMappingStart span s t = IsBlockStart span s t
-IsToken at tokens.BlockEnd span s t = HasNoText span s t
+IsToken at tokens.BlockSequenceStart span s t = IsBlockStart at.indent span s t
+IsToken at tokens.BlockMappingStart span s t = IsBlockStart at.indent span s t
+IsToken at tokens.BlockEnd span s t = IsBlockEnd at.indent span s t
 IsToken at tokens.FlowSequenceStart span s t = IsFlowIndicator left_bracket span s t
 IsToken at tokens.FlowSequenceEnd span s t = IsFlowIndicator right_bracket span s t
 IsToken at tokens.FlowMappingStart span s t = IsFlowIndicator left_brace span s t ⊎ HasNoText span s t
 IsToken at tokens.FlowMappingEnd span s t = IsFlowIndicator right_brace span s t ⊎ HasNoText span s t
-IsToken at tokens.BlockEntry span s t = IsDash span s t
+IsToken at tokens.BlockEntry span s t = IsDash at.indent span s t
 IsToken at tokens.FlowEntry span s t = IsFlowIndicator comma span s t
-IsToken at tokens.Key span s t = IsQuestionMark span s t ⊎ HasNoText span s t
+IsToken at tokens.Key span s t = IsQuestionMark at.in_flow at.indent span s t ⊎ IsKeyStart at.in_flow at.indent span s t
 IsToken at tokens.Value span s t = IsColon at.in_flow span s t
 IsToken at (tokens.Alias name) span s t = IsNameToken asterisk name span s t
 IsToken at (tokens.Anchor name) span s t = IsNameToken ampersand name span s t
@@ -260,9 +289,6 @@ with_columns columns opened = record { columns = columns; brackets = opened.brac
 
 abbrev pub with_brackets : ℕ → Collections → Collections
 with_brackets n opened = record { columns = opened.columns; brackets = n }
-
-abbrev pub has_text : Span → Bool
-has_text span = nat_lt span.start.index span.end.index
 
 -- What is open behind a token. The start and the end of a single pair have no text, and open and close no bracket.
 abbrev pub open_behind : Kind → Span → Collections → Collections
@@ -296,7 +322,8 @@ abbrev pub IsEndOf : List ℕ → Option Refusal → Cursor → Type 0
 IsEndOf text None u = u.rest ≡ []
 IsEndOf text (Some e) u = IsPlaceOf text e.mark
 
--- the tokens, and the refusal if one ends them, are taken from the text
+-- the tokens, and the refusal if one ends them, are taken from the text, and each token may stand where it does
 abbrev pub AreTakenFrom : List ℕ → Remaining → Type 0
 AreTakenFrom text r =
-    (end : Cursor) × AreTokens no_collections r.pieces (start_cursor text) end × IsEndOf text r.refusal end
+    (end : Cursor) × AreTokens no_collections r.pieces (start_cursor text) end × AreInPlace not_enclosed r.pieces
+    × IsEndOf text r.refusal end

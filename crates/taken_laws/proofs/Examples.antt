@@ -1,4 +1,5 @@
 -- Examples and near misses of what the definitions say.
+pub mod InPlace
 pub mod TokenTexts
 pub mod Taken
 pub mod TakenTexts

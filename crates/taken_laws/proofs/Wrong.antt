@@ -2,8 +2,10 @@
 pub mod BlockLines
 pub mod Brackets
 pub mod CutLines
+pub mod OutOfPlace
 pub mod Parted
 pub mod PlainValues
 pub mod Places
 pub mod ShortHandles
 pub mod Standing
+pub mod Columns

@@ -1,2 +1,4 @@
 -- Small texts, with their tokens and places.
 pub mod TakenTexts
+pub mod ColumnTexts
+pub mod OutOfPlace

@@ -9,7 +9,9 @@ ghost use Rattle.saphyr_scalar.specs.Views.Cursor.{Cursor};
 ghost use Rattle.saphyr_scalar.specs.declared.scalar.position.Span.{Span};
 ghost use Rattle.saphyr_scanner.specs.Examples.Forests.{brackets_tokens};
 ghost use Rattle.saphyr_scanner.specs.TokensTaken.{AreTakenFrom, IsPlaceOf, IsPlainToken};
+ghost use Rattle.taken_laws.specs.Examples.ColumnTexts as columns;
 ghost use Rattle.taken_laws.specs.Examples.TakenTexts as texts;
+ghost use Rattle.taken_laws.specs.Examples.OutOfPlace as places;
 
 /// The tokens of `[]`, with their places, are taken from it.
 pub fn takes_tokens()
@@ -65,6 +67,39 @@ pub fn takes_no_shorter()
     ensures cut_line { ¬ AreTakenFrom (codes "--- |\n a#b\n") texts.cut_line }
     ensures cut_value { ¬ AreTakenFrom (codes ": |\n a#b\n") texts.cut_value }
     ensures short_handle { ¬ AreTakenFrom (codes "%TAG !e!t:x\n--- !u v\n") texts.short_handle }
+{}
+
+/// Block collections follow columns: an entry of a sequence, and a key, stands at its column, neither right nor left of it; in `:` LF
+/// `:` no mapping is the first value, nor in `-` LF `- a` a sequence the first entry; and in `a:` LF ` b: c` LF ` d: e` the
+/// mapping of `b` ends neither before `d` nor before the blank there.
+pub fn takes_no_other_columns()
+    ensures further_entry { ¬ AreTakenFrom (codes "- a\n - b") columns.further_entry }
+    ensures entry_left { ¬ AreTakenFrom (codes " - a\n- b") columns.entry_left }
+    ensures further_key { ¬ AreTakenFrom (codes "? a\n ? b") columns.further_key }
+    ensures key_right { ¬ AreTakenFrom (codes "a: b\n c: d") columns.key_right }
+    ensures mapping_beside { ¬ AreTakenFrom (codes ":\n:") columns.mapping_beside }
+    ensures sequence_beside { ¬ AreTakenFrom (codes "-\n- a") columns.sequence_beside }
+    ensures ended_before_key { ¬ AreTakenFrom (codes "a:\n b: c\n d: e") columns.ended_before_key }
+    ensures ended_before_blank { ¬ AreTakenFrom (codes "a:\n b: c\n d: e")
+        columns.ended_before_blank }
+{}
+
+/// From no text are tokens taken of which one stands out of its place: a key without a `?` has its colon, in a block
+/// mapping and in a single pair of a flow sequence on its line, and in a block mapping at most 1,024 characters behind its
+/// start; a block collection has an entry; a mapping in brackets has both braces; and a single pair has neither, but its
+/// start, its colon and its end.
+pub fn takes_none_out_of_place()
+    ensures key_alone { (text : List ℕ) → ¬ AreTakenFrom text places.key_alone }
+    ensures key_on_two_lines { (text : List ℕ) → ¬ AreTakenFrom text places.key_on_two_lines }
+    ensures long_key { (text : List ℕ) → ¬ AreTakenFrom text places.long_key }
+    ensures no_entry { (text : List ℕ) → ¬ AreTakenFrom text places.no_entry }
+    ensures no_pair { (text : List ℕ) → ¬ AreTakenFrom text places.no_pair }
+    ensures no_braces { (text : List ℕ) → ¬ AreTakenFrom text places.no_braces }
+    ensures one_brace { (text : List ℕ) → ¬ AreTakenFrom text places.one_brace }
+    ensures pair_without_colon { (text : List ℕ) → ¬ AreTakenFrom text places.pair_without_colon }
+    ensures pair_without_end { (text : List ℕ) → ¬ AreTakenFrom text places.pair_without_end }
+    ensures pair_on_two_lines { (text : List ℕ) → ¬ AreTakenFrom text places.pair_on_two_lines }
+    ensures key_of_no_pair { (text : List ℕ) → ¬ AreTakenFrom text places.key_of_no_pair }
 {}
 
 /// The value of a plain scalar begins with no blank and no break.

@@ -45,7 +45,7 @@ pub takes : (text : List ℕ) (r : Remaining) → AreTakenFrom text r → AreAtP
     → length r.pieces < 2 ^ 64 → TakesEvents text (at_start r)
 takes text r t a e l keep =
     let ends : AreEnded (IsPlaceOf text) r.refusal r.pieces = ended (IsPlaceOf text) r e
-    (λ f is. subst (λ (o : Option Refusal). IsEndOf text o t.0) is t.2) in
+    (λ f is. subst (λ (o : Option Refusal). IsEndOf text o t.0) is t.3) in
     let formed = tokens_form (IsPlaceOf text) r.refusal no_collections r.pieces (scalar.start_cursor text) t.0 t.1
     (inr ends) in
     let begun = begins r keep formed l in

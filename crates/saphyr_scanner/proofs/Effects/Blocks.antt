@@ -1,6 +1,6 @@
 -- What each step of block collections does.
-use Rattle.std.proofs.Common.{◌≡◌, true, false, [], ◌∷◌, None, refl, ap, ◌∙◌, arith, inl, inr}
-use Rattle.std.specs.Prelude.{◌&&◌, ◌||◌, ◌==◌, slice_index, not, if◌then◌else◌}
+use Rattle.std.proofs.Common.{◌≡◌, ℕ, ◌+◌, ◌≤◌, Bool, true, false, List, [], ◌∷◌, None, refl, sym, ap, ◌∙◌, arith, inl, inr, IsTrue}
+use Rattle.std.specs.Prelude.{◌&&◌, ◌||◌, ◌==◌, slice_index, not, if◌then◌else◌, nat_le}
 use Rattle.saphyr_input.specs.Classes.{is_break, is_flow, is_blank_or_breakz}
 use Rattle.saphyr_input.specs.Separation.{found_tabs}
 use Rattle.saphyr_scalar.specs.Views.Cursor.{Cursor, ◌>>=◌, pass}
@@ -15,20 +15,25 @@ use Rattle.saphyr_scanner.specs.Steps.Level.{Level, is_block, behind_question}
 use Rattle.saphyr_scanner.specs.Steps.Passing.{separate, pass_on, with_cursor}
 use Rattle.saphyr_scanner.specs.Steps.Block as block
 use Rattle.saphyr_scanner.specs.TokensTaken as taken
-use Rattle.saphyr_scanner.specs.TokensTaken.{AreApart}
-use Rattle.saphyr_scanner.proofs.Effects.Moves.{Does, and_then, Same, lesser, further}
-use Rattle.saphyr_scanner.proofs.Effects.Puts.{passes, indicated, quiet, block_begins}
-use Rattle.saphyr_scanner.proofs.Effects.Walked.{Premises, Walked, walked_then, at_most, Doing, at_reach}
-use Rattle.saphyr_scanner.proofs.Effects.Walked.{separate_walked}
+use Rattle.saphyr_scanner.specs.TokensTaken.{AreApart, IsAtColumn}
+use Rattle.saphyr_scanner.specs.TokensInPlace as place
+use Rattle.saphyr_scanner.specs.TokensInPlace.{Enclosed, Begun, with_begun, turned_to, awaiting_colon, has_text, enclosures_behind, may_follow}
+use Rattle.saphyr_scanner.proofs.Effects.Moves.{DoesWithin, encloses, and_then, Same, lesser, further}
+use Rattle.saphyr_scanner.proofs.Effects.Puts.{passes, indicated, quiet_within, block_begins, loud}
+use Rattle.saphyr_scanner.proofs.Effects.Walked.{Premises, Walked, walked_then, at_most, Doing, at_reach, separate_walked}
 use Rattle.saphyr_scanner.proofs.LineTails.{OnLine}
 use Rattle.saphyr_scanner.proofs.Reached.{apart_reached}
-use Rattle.saphyr_scanner.proofs.Taken.Cores.{by_bool, further_block}
+use Rattle.saphyr_scanner.proofs.Taken.Keys.{IsDeep}
+use Rattle.saphyr_scanner.proofs.Taken.Cores.{by_bool, further_block, further_right}
+use Rattle.saphyr_scanner.proofs.Taken.Held.{enclosure_of, enclosed_by, enclosures_of}
+use Rattle.saphyr_scanner.proofs.Taken.InPlace.{free}
+use Rattle.saphyr_scanner.proofs.Effects.Flow.{has_some}
 use Rattle.saphyr_scanner.proofs.Taken.Later.{apart_later}
 use Rattle.saphyr_scanner.proofs.Taken.Places.{Reaches, reaches_reaches, at_here}
 use Rattle.saphyr_scanner.proofs.Taken.Separated.{spaces_apart}
 use Rattle.saphyr_input.proofs.Basics.Booleans.{by_test}
 use Rattle.saphyr_input.proofs.Basics.Lists.{second_is}
-use Rattle.std.proofs.lemmas.Bool.{not-false}
+use Rattle.std.proofs.lemmas.Bool.{not-false, leb-false}
 use Rattle.saphyr_input.specs.Indicators.{hyphen, question_mark}
 
 reaches_on : (s t u : Cursor) → Reaches s t → AreApart t u → Reaches s u
@@ -57,25 +62,35 @@ dash_walked b s c a =
     (λ _ _. at_reach s d.cursor (there d g.1))
     (λ _. ((ap (λ (l : Level). record { context = l.context; key = None }) g.0.0, g.0.1, g.0.2), g.1)))
 
--- from c, which stands before the `-`
-dash : (c d : Core) → slice_index c.cursor.rest 0 ≡ hyphen → is_blank_or_breakz (slice_index c.cursor.rest 1) ≡ true
-    → Same c d → OnLine (pass 1 c.cursor) d.cursor
-    → Does None 1 1 c d (at_mark d.cursor.mark tokens.BlockEntry ∷ [])
-dash c d first second s o =
+-- from c, which stands before the `-`, at the column of its collection, which may have begun
+dash : {A : Type 0} (g : Begun) (c d : Core) → slice_index c.cursor.rest 0 ≡ hyphen
+    → is_blank_or_breakz (slice_index c.cursor.rest 1) ≡ true → in_block c ≡ true → IsAtColumn c.indent c.cursor.mark
+    → Same (forget_key c) d → OnLine (pass 1 c.cursor) d.cursor → IsTrue (may_follow g tokens.BlockEntry)
+    → DoesWithin A (with_begun g (enclosures_of c)) (enclosures_of d) None 1 1 (forget_key c) d
+    (at_mark d.cursor.mark tokens.BlockEntry ∷ [])
+dash g c d first second b column s o follows =
+    let r : Core = forget_key c in
     let u = d.cursor in
     let later = apart_later (pass 1 c.cursor).mark (pass 1 c.cursor).rest u.mark u.rest o.apart in
     and_then (λ n. n)
-    (quiet 1 c (empty_piece u.mark tokens.BlockEntry) u refl (λ x. refl) (λ i. absurd (cc))
-    (indicated 45 c u (empty_piece u.mark tokens.BlockEntry) (record { some = refl; unbroken = refl; is = first })
+    (loud (with_begun g (enclosures_of c)) 1 r (empty_piece u.mark tokens.BlockEntry) u (λ x. refl) (rw follows refl)
+    (λ i. absurd (cc)) b refl
+    (indicated 45 r u (empty_piece u.mark tokens.BlockEntry) (record { some = refl; unbroken = refl; is = first })
     o.apart (omega (arith, later.index)) (omega arith) (omega arith)
-    (λ t. (t, ap is_blank_or_breakz (second_is c.cursor.rest) ∙ second, o.on_line, refl))))
-    (further (with_cursor u c) d s (taken.nothing u.mark u.rest))
+    (λ t. (t, ap is_blank_or_breakz (second_is c.cursor.rest) ∙ second, o.on_line, refl, column))))
+    (further (with_cursor u r) d s (taken.nothing u.mark u.rest))
 
-next_entry_does : (c : Core) → in_block c ≡ true → slice_index c.cursor.rest 0 ≡ hyphen
+-- where no block collection begins the innermost is at this column
+at_column : (i column : ℕ) (b : Bool) → b ≡ true → (b && nat_le i column) ≡ false → i ≤ column + 1
+    → i ≡ column + 1
+at_column i column true e f deep = let less = leb-false i column f in omega (arith, less, deep)
+at_column i column false e f deep = absurd (cc)
+
+next_entry_does : (c : Core) → in_block c ≡ true → IsDeep c → slice_index c.cursor.rest 0 ≡ hyphen
     → is_blank_or_breakz (slice_index c.cursor.rest 1) ≡ true
     → Walked (Premises c) (Doing None c) c.cursor (block.next_entry c)
 unfolding block.next_entry
-next_entry_does c e first second =
+next_entry_does c e deep first second =
     let s = c.cursor in
     let a = passes 45 s (record { some = refl; unbroken = refl; is = first }) in
     by_bool (is_further s.mark.col c)
@@ -83,28 +98,32 @@ next_entry_does c e first second =
     ((block.pass_dash (if b then enter_block s.mark.col (pass_on 1 c) else pass_on 1 c) >>= remove_key) >>= λ d.
     completed_step (block.behind_start b s.mark tokens.BlockSequenceStart (at_mark d.cursor.mark tokens.BlockEntry))
     (record d { key_allowed = true })))
-    (λ _. let r : Core = enter_block s.mark.col (pass_on 1 c) in
+    (λ f. let r : Core = enter_block s.mark.col (pass_on 1 c) in
     walked_then (Premises c) (Behind r) (Doing None c) s (block.pass_dash r >>= remove_key) _ (dash_walked c s r a)
     (λ d g. at_most (omega arith) (and_then (λ n. n)
-    (block_begins c tokens.BlockSequenceStart (λ i. absurd (cc)) (λ i p u t h. h) (λ x y. refl) e
-    (ap taken.begins_text first))
-    (dash (forget_key (enter_block s.mark.col c)) (record d { key_allowed = true }) first second g.0 g.1))))
-    (λ _. walked_then (Premises c) (Behind (pass_on 1 c)) (Doing None c) s
+    (block_begins (enclosure_of c.level.context) (enclosed_by c.outer) c tokens.BlockSequenceStart place.BlockSequence
+    (λ i. absurd (cc)) (λ i p u t h. h) (λ x y. refl) (λ p. refl) (λ p. refl) e
+    (further_right s.mark.col c f) (ap taken.begins_text first))
+    (dash place.BlockSequence (enter_block s.mark.col c) (record d { key_allowed = true }) first second e refl g.0 g.1
+    refl))))
+    (λ f. walked_then (Premises c) (Behind (pass_on 1 c)) (Doing None c) s
     (block.pass_dash (pass_on 1 c) >>= remove_key)
     _ (dash_walked c s (pass_on 1 c) a)
     (λ d g. at_most (omega arith) (and_then (λ n. n)
-    (lesser c (forget_key c) (record { block = refl; key = inr refl }) refl (λ n. n) (taken.nothing s.mark s.rest))
-    (dash (forget_key c) (record d { key_allowed = true }) first second g.0 g.1))))
+    (lesser (enclosures_of c) c (forget_key c) (record { block = refl; key = inr refl }) refl (λ n. n)
+    (taken.nothing s.mark s.rest))
+    (dash place.Nothing c (record d { key_allowed = true }) first second e
+    (at_column c.indent s.mark.col (in_block c) e f (deep e)) g.0 g.1 refl))))
 
-pub block_entry_does : (c : Core) → slice_index c.cursor.rest 0 ≡ hyphen
+pub block_entry_does : (c : Core) → IsDeep c → slice_index c.cursor.rest 0 ≡ hyphen
     → is_blank_or_breakz (slice_index c.cursor.rest 1) ≡ true
     → Walked (Premises c) (Doing None c) c.cursor (block.block_entry_steps c)
 unfolding block.block_entry_steps
-block_entry_does c first second =
+block_entry_does c deep first second =
     let P = Walked (Premises c) (Doing None c) c.cursor in
     by_test (not (in_block c)) _ _ P (λ _ _. at_here c.cursor)
     (λ e. by_test (not c.key_allowed) _ _ P (λ _ _. at_here c.cursor)
-    (λ _. next_entry_does c (not-false (in_block c) e) first second))
+    (λ _. next_entry_does c (not-false (in_block c) e) deep first second))
 
 -- ## `?`
 
@@ -126,32 +145,63 @@ question_walked A c a =
     (λ _. by_test (not t.space) _ _ P (λ _ _. there)
     (λ _. by_test (slice_index t.cursor.rest 0 == 9) _ _ P (λ _ _. there) (λ _. ((refl, refl, λ n. n), p))))
 
--- from c, which stands before the `?`
-question : (c d : Core) → slice_index c.cursor.rest 0 ≡ question_mark
+-- what encloses the tokens behind a `?`
+question_encloses : (x : Context) (outside : List Enclosed)
+    → free (enclosure_of (behind_question x)) outside
+    ≡ free (place.behind_question (enclosure_of x)) outside
+question_encloses context.FlowSequence outside = refl
+question_encloses context.FlowPair outside = refl
+question_encloses _ outside = refl
+
+-- From c, which stands before the `?`, outside flow at the column of its mapping, which may have begun. The context
+-- before was x.
+question : {A : Type 0} (g : Begun) (x : Context) (c d : Core) → c.level.context ≡ behind_question x
+    → c.level.key ≡ None → slice_index c.cursor.rest 0 ≡ question_mark
     → is_blank_or_breakz (slice_index c.cursor.rest 1) ≡ true
-    → Same c d → AreApart (pass 1 c.cursor) d.cursor
-    → Does None 1 1 c d (up_to_here c.cursor.mark tokens.Key d ∷ [])
-question c d first second s a =
+    → (in_block c ≡ true → IsAtColumn c.indent c.cursor.mark) → Same c d → AreApart (pass 1 c.cursor) d.cursor
+    → IsTrue (may_follow g tokens.Key)
+    → DoesWithin A (with_begun g (free (enclosure_of x) (enclosed_by c.outer))) (enclosures_of d) None 1 1 c d
+    (up_to_here c.cursor.mark tokens.Key d ∷ [])
+question g x c d turned none first second column s a follows =
     let u = d.cursor in
+    let within = with_begun g (free (enclosure_of x) (enclosed_by c.outer)) in
     let later = apart_later (pass 1 c.cursor).mark (pass 1 c.cursor).rest u.mark u.rest a in
     let t : Piece = record { span = record { start = c.cursor.mark; end = u.mark }; kind = tokens.Key } in
+    let some = has_some t.span (omega (arith, later.index)) in
+    let behind : enclosures_of c ≡ enclosures_behind tokens.Key t.span within =
+    ap (λ y. free (enclosure_of y) (enclosed_by c.outer)) turned ∙ question_encloses x (enclosed_by c.outer)
+    ∙ sym (marked (has_text t.span) some) in
     and_then (λ n. n)
-    (quiet 1 c t u refl (λ x. refl) (λ i. absurd (cc))
+    (encloses behind (quiet_within within 1 c t u refl (λ y. refl) (λ y. refl) (inl none)
+    (λ _. rw (follows, some) refl) (λ i. absurd (cc))
     (indicated 63 c u t (record { some = refl; unbroken = refl; is = first }) a (omega arith)
     (omega (arith, later.index)) (omega arith)
-    (λ k. inl (k, ap is_blank_or_breakz (second_is c.cursor.rest) ∙ second, refl, (u.rest, a)))))
+    (λ k. inl (
+      k,
+      ap is_blank_or_breakz (second_is c.cursor.rest) ∙ second,
+      refl,
+      (u.rest, a),
+      λ f. column (not-false (in_block c) f),
+    )))))
     (further (with_cursor u c) d s (taken.nothing u.mark u.rest))
+  where
+    marked : (b : Bool) → b ≡ true → (if b then turned_to (place.behind_question (enclosure_of x))
+        (free (enclosure_of x) (enclosed_by c.outer)) else awaiting_colon c.cursor.mark
+        (free (enclosure_of x) (enclosed_by c.outer)))
+        ≡ free (place.behind_question (enclosure_of x)) (enclosed_by c.outer)
+    marked true e = refl
+    marked false e = absurd (cc)
 
 question_block : (x : Context) → is_block (behind_question x) ≡ is_block x
 question_block context.FlowSequence = refl
 question_block context.FlowPair = refl
 question_block _ = refl
 
-pub key_does : (c : Core) → slice_index c.cursor.rest 0 ≡ question_mark
+pub key_does : (c : Core) → IsDeep c → slice_index c.cursor.rest 0 ≡ question_mark
     → is_blank_or_breakz (slice_index c.cursor.rest 1) ≡ true
     → Walked (Premises c) (Doing None c) c.cursor (block.key_steps c)
 unfolding block.key_steps block.begin_key
-key_does c first second =
+key_does c deep first second =
     let s = c.cursor in
     let x = behind_question c.level.context in
     let a = passes 63 s (record { some = refl; unbroken = refl; is = first }) in
@@ -164,15 +214,18 @@ key_does c first second =
     (λ f. let r : Core = with_context x (enter_block s.mark.col c) in
     walked_then (Premises c) (Asked r) (Doing None c) s _ _ (question_walked (Premises c) r a)
     (λ d g. at_most (omega arith) (and_then (λ n. n)
-    (block_begins c tokens.BlockMappingStart (λ i. absurd (cc)) (λ i p u t h. h) (λ j y. refl)
-    (further_block s.mark.col c f) (ap taken.begins_text first))
+    (block_begins (enclosure_of c.level.context) (enclosed_by c.outer) c tokens.BlockMappingStart place.BlockMapping
+    (λ i. absurd (cc)) (λ i p u t h. h) (λ j y. refl) (λ p. refl) (λ p. refl)
+    (further_block s.mark.col c f) (further_right s.mark.col c f) (ap taken.begins_text first))
     (and_then (λ n. n)
-    (lesser (forget_key (enter_block s.mark.col c)) (forget_key r)
+    (lesser (with_begun place.BlockMapping (enclosures_of c)) (forget_key (enter_block s.mark.col c)) (forget_key r)
     (record { block = question_block c.level.context; key = inr refl }) refl (λ n. n) (taken.nothing s.mark s.rest))
-    (question (forget_key r) d first second g.0 g.1)))))
-    (λ _. let r : Core = with_context x c in
+    (question place.BlockMapping c.level.context (forget_key r) d refl refl first second (λ _. refl) g.0 g.1 refl)))))
+    (λ f. let r : Core = with_context x c in
     walked_then (Premises c) (Asked r) (Doing None c) s _ _ (question_walked (Premises c) r a)
     (λ d g. at_most (omega arith) (and_then (λ n. n)
-    (lesser c (forget_key r) (record { block = question_block c.level.context; key = inr refl }) refl (λ n. n)
-    (taken.nothing s.mark s.rest))
-    (question (forget_key r) d first second g.0 g.1)))))
+    (lesser (enclosures_of c) c (forget_key r) (record { block = question_block c.level.context; key = inr refl }) refl
+    (λ n. n) (taken.nothing s.mark s.rest))
+    (question place.Nothing c.level.context (forget_key r) d refl refl first second
+    (λ e. let b = sym (question_block c.level.context) ∙ e in
+    at_column c.indent s.mark.col (in_block c) b f (deep b)) g.0 g.1 refl)))))

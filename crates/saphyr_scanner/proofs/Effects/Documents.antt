@@ -1,5 +1,5 @@
 -- What each step of documents does: markers, byte order marks and directives.
-use Rattle.std.proofs.Common.{◌≡◌, ℕ, ◌+◌, ◌<◌, Bool, true, false, List, [], ◌∷◌, ◌++◌, length, drop, None, Result, Ok, Err, refl, sym, ap, ◌∙◌, arith, subst}
+use Rattle.std.proofs.Common.{◌≡◌, ℕ, ◌+◌, ◌<◌, Bool, true, false, List, [], ◌∷◌, ◌++◌, length, drop, None, Result, Ok, Err, refl, sym, ap, ◌∙◌, arith, subst, inl, inr}
 use Rattle.std.specs.Prelude.{◌&&◌, ◌||◌, ◌==◌, slice_index, not, nat_lt, codes}
 use Rattle.saphyr_input.specs.Classes.{is_bom, is_break, is_breakz, is_blank_or_breakz, byte_order_mark}
 use Rattle.saphyr_input.specs.Places.{is_document_end, next_3_are}
@@ -21,13 +21,13 @@ use Rattle.saphyr_scanner.specs.Steps.State.{State, on_core, on_core_with, after
 use Rattle.saphyr_scanner.specs.Steps.Unrolling.{unroll}
 use Rattle.saphyr_scanner.specs.Steps.Document as document
 use Rattle.saphyr_scanner.specs.TokensTaken as taken
-use Rattle.saphyr_scanner.specs.TokensTaken.{Collections, AreApart, IsPassedOver, IsReached, IsToken}
+use Rattle.saphyr_scanner.specs.TokensTaken.{AreApart, IsPassedOver, IsReached, IsToken, Collections, IsContentEnd}
 use Rattle.saphyr_scanner.proofs.Added.Queue.{IsNoEnd}
 use Rattle.saphyr_scanner.proofs.Blocks.{unrolled_cursor, unrolled_comment}
 use Rattle.saphyr_scanner.proofs.Counted.{stays, text_passed}
 use Rattle.saphyr_scanner.proofs.Effects.Moves.{Does, and_then, NoComment, Same, still, further}
 use Rattle.saphyr_scanner.proofs.Effects.Puts.{Reading, quiet}
-use Rattle.saphyr_scanner.proofs.Effects.Walked.{Premises, Walked, walked_then, at_most, Doing, unsaved_step, at_reach}
+use Rattle.saphyr_scanner.proofs.Effects.Walked.{Premises, Walked, walked_then, at_most, resting, unsaved_step, at_reach}
 use Rattle.saphyr_scanner.proofs.Effects.Walked.{at_inside, read_walked, separate_walked}
 use Rattle.saphyr_scanner.proofs.Effects.Readers.{TextLaws}
 use Rattle.saphyr_scanner.proofs.Effects.States.{FetchesTokens, advances_advances, on_core_fetches, after_step_fetches, unroll_advances}
@@ -35,7 +35,9 @@ use Rattle.saphyr_scanner.proofs.Effects.Steps.{begins_none, begins_forgotten}
 use Rattle.saphyr_scanner.proofs.LineTails.{OnLine, tail_apart}
 use Rattle.saphyr_scanner.proofs.Reached.{along_reached, apart_reached}
 use Rattle.saphyr_scanner.proofs.Taken.Documents.{HoldsState, forgotten_unrolled, three_at, Marking, end_marking, break_apart, directive_is_token, directive_keeps, quiet_directive}
-use Rattle.saphyr_scanner.proofs.Taken.Cores.{KeepsBrackets, surroundings}
+use Rattle.saphyr_scanner.proofs.Taken.Cores.{surroundings}
+use Rattle.saphyr_scanner.proofs.Taken.Neutral.{Neutral, neutral}
+use Rattle.saphyr_scanner.proofs.Taken.Held.{Setting}
 use Rattle.saphyr_scanner.proofs.Taken.Later.{apart_later}
 use Rattle.saphyr_scanner.proofs.Taken.Parts.{is_quiet}
 use Rattle.saphyr_scanner.proofs.Taken.Places.{Reaches, reaches_reaches, At, at_here}
@@ -52,11 +54,13 @@ record Content (s t : State) : Type 0 where
   advances : FetchesTokens 0 s t
   cursor : t.core.cursor ≡ s.core.cursor
   comment : NoComment s.core t.core
-  holds : (opened : Collections) (from : Cursor) → HoldsState opened from s → HoldsState opened from t
+  no_key : t.core.level.key ≡ None
+  holds : (opened : Setting) (from : Cursor) → HoldsState opened from s → HoldsState opened from t
 
-content_walked : (s : State) → Walked (Premises s.core) (Content s) s.core.cursor (document.end_content s)
+content_walked : (s : State) → IsContentEnd s.core.cursor
+    → Walked (Premises s.core) (Content s) s.core.cursor (document.end_content s)
 unfolding document.end_content remove_key
-content_walked s =
+content_walked s end =
     let u : State = unroll None s.core.cursor.mark s in
     let there = unrolled_cursor None s.core.cursor.mark s in
     by_test (in_block u.core && u.core.required) _ _
@@ -68,37 +72,40 @@ content_walked s =
           (stays u.core.cursor u.core.cursor refl, begins_forgotten 0 u.core u.core (begins_none u.core)));
       cursor = there;
       comment = λ n. unrolled_comment None s.core.cursor.mark s ∙ n;
-      holds = λ opened from h. forgotten_unrolled opened from s h;
+      no_key = refl;
+      holds = λ opened from h. forgotten_unrolled opened from s end h;
     })
 
 -- from s to t a token is put, which is taken from the text
 pub record Documented (s t : State) : Type 0 where
   pub advances : FetchesTokens 1 s t
-  pub holds : TextLaws → (opened : Collections) (from : Cursor) → HoldsState opened from s → HoldsState opened from t
+  pub holds : TextLaws → (opened : Setting) (from : Cursor) → HoldsState opened from s → HoldsState opened from t
   pub comment : NoComment s.core t.core
 
 -- behind the content, a step that saves no key
-documented : (s t : State) (x : Step) → Content s t → NoComment t.core x.core → Doing None t.core x
+documented : (s t : State) (x : Step) → Content s t → NoComment t.core x.core
+    → Does (Unit {0}) None 1 5 t.core x.core x.actions
     → Documented s (record { core = x.core; queue = perform x.actions t.queue })
 documented s t x c m d = record {
   advances = advances_advances 0 1 s t _ c.advances
-      (after_step_fetches _ t (Ok x) (unsaved_step (Unit {0}) 0 t.core t.core.cursor (Ok x) d).effect);
-  holds = λ laws opened from h. d.holds laws opened from t.queue tt (c.holds opened from h);
+      (after_step_fetches _ t (Ok x) (unsaved_step (Unit {0}) 0 t.core t.core.cursor (Ok x) (resting d)).effect);
+  holds = λ laws opened from h. d.holds tt laws opened from t.queue tt (c.holds opened from h);
   comment = λ n. m (c.comment n);
 }
 
 -- the token of a text that stands here
-spelled : (c d : Core) (kind : Kind) (text : List ℕ) → c.cursor.rest ≡ text ++ d.cursor.rest
+spelled : {A : Type 0} (c d : Core) → c.level.key ≡ None → (kind : Kind) (text : List ℕ)
+    → c.cursor.rest ≡ text ++ d.cursor.rest
     → d.cursor.mark.index ≡ c.cursor.mark.index + length text → 0 < length text → is_quiet kind ≡ true
-    → ((span : Span) → KeepsBrackets (record { span = span; kind = kind })) → IsNoEnd kind
+    → ((span : Span) → Neutral (record { span = span; kind = kind })) → IsNoEnd kind
     → Same c d → IsToken (surroundings c) kind (record { start = c.cursor.mark; end = d.cursor.mark }) c.cursor d.cursor
-    → Does None 1 5 c d (up_to_here c.cursor.mark kind d ∷ [])
-spelled c d kind text is i some q b e s token =
+    → Does A None 1 5 c d (up_to_here c.cursor.mark kind d ∷ [])
+spelled c d none kind text is i some q b e s token =
     let u = d.cursor in
     let a = text_passed c.cursor u text is i in
     at_most (omega arith) (and_then (λ n. n)
     (quiet 1 c (record { span = record { start = c.cursor.mark; end = u.mark }; kind = kind }) u q
-    (b (record { start = c.cursor.mark; end = u.mark })) e
+    (b (record { start = c.cursor.mark; end = u.mark })) (inl none) e
     (record {
       less = λ _. omega (arith, a.counted, i, some);
       span = λ _. record { ahead = a; begins = omega arith; inside = a.later; ends = omega arith };
@@ -116,7 +123,7 @@ unfolding document.state_behind_marker
 marker_walked stands text kind marking no_end s col e =
     walked_then (Premises s.core) (Content s)
     (λ (t : State). Documented s t × (t.core.cursor ≡ pass 3 s.core.cursor)) s.core.cursor (document.end_content s) _
-    (content_walked s) (λ t c.
+    (content_walked s (inr (col, inl (marking.ends s.core.cursor.rest e)))) (λ t c.
     let d : Core = document.pass_marker t.core in
     let stand : stands t.core.cursor.rest ≡ true = ap (λ (u : Cursor). stands u.rest) c.cursor ∙ e in
     let three = marking.three t.core.cursor.rest stand in
@@ -129,7 +136,7 @@ marker_walked stands text kind marking no_end s col e =
       record { is = three; start = refl; end = refl; goes_on = goes },
     ) in (
       documented s t (record { core = d; actions = up_to_here t.core.cursor.mark kind d ∷ [] }) c (λ n. n)
-          (spelled t.core d kind text three (let k = marking.count in omega (arith, k))
+          (spelled t.core d c.no_key kind text three (let k = marking.count in omega (arith, k))
           (let k = marking.count in omega (arith, k)) marking.quiet marking.keeps no_end (refl, refl, λ n. n)
           (marking.is (surroundings t.core) _ t.core.cursor d.cursor token)),
       ap (pass 3) c.cursor,
@@ -179,7 +186,7 @@ end_marker_walked s col e =
         let c = t.core.cursor in
         let u = x.1.cursor in
         let later = apart_later c.mark c.rest u.mark u.rest h.1.apart in
-        let f = further t.core x.1 h.0 h.1.apart in
+        let f : Does (Unit {0}) None 0 0 t.core x.1 [] = further t.core x.1 h.0 h.1.apart in
         by_test (is_breakz (slice_index u.rest 0)) _ _ (Walked (Premises s.core) (Documented s) s.core.cursor)
         (λ _. record {
           advances = advances_advances 1 0 s t _ d.advances
@@ -187,7 +194,7 @@ end_marker_walked s col e =
                 record { later = later.index; counted = later.counted },
                 (f.started, f.ended, (let w = f.few in omega (arith, w)), λ i k. (f.keeps i tt k).0),
               ));
-          holds = λ laws opened from k. f.holds laws opened from t.queue tt (d.holds laws opened from k);
+          holds = λ laws opened from k. f.holds tt laws opened from t.queue tt (d.holds laws opened from k);
           comment = λ n. h.0.2 (d.comment n);
         })
         (λ _ _. at_reach s.core.cursor u (reaches_reaches s.core.cursor c u a (apart_reached c.mark c.rest u.mark u.rest
@@ -203,7 +210,9 @@ mark_walked s e =
     let here = s.core.cursor in
     by_test (nat_lt 0 here.mark.col || not (in_block s.core)) _ _ (Walked (Premises s.core) (Documented s) here)
     (λ _ _. at_here here)
-    (λ w. walked_then (Premises s.core) (Content s) (Documented s) here (document.end_content s) _ (content_walked s)
+    (λ w. let column = no_column here.mark.col (not (in_block s.core)) w in
+    walked_then (Premises s.core) (Content s) (Documented s) here (document.end_content s) _
+    (content_walked s (inr (column, inr (inr (eqb-true (slice_index here.rest 0) byte_order_mark e)))))
     (λ t c.
     let d : Core = document.pass_mark t.core in
     let first : slice_index t.core.cursor.rest 0 ≡ byte_order_mark =
@@ -211,11 +220,13 @@ mark_walked s e =
     ∙ eqb-true (slice_index here.rest 0) byte_order_mark e in
     let is = cut_at byte_order_mark t.core.cursor.rest refl first in
     let col : t.core.cursor.mark.col ≡ 0 = ap (λ (u : Cursor). u.mark.col) c.cursor
-    ∙ no_column here.mark.col (not (in_block s.core)) w in
-    let P : Cursor → Type 0 = λ u. Does None 1 5 t.core d (up_to_here u.mark tokens.ByteOrderMark d ∷ []) in
+    ∙ column in
+    let P : Cursor → Type 0 = λ u. Does (Unit {0}) None 1 5 t.core d
+    (up_to_here u.mark tokens.ByteOrderMark d ∷ []) in
     documented s t (record { core = d; actions = up_to_here here.mark tokens.ByteOrderMark d ∷ [] }) c (λ n. n)
-    (subst P c.cursor (spelled t.core d tokens.ByteOrderMark (byte_order_mark ∷ []) is (omega arith) (omega arith) refl
-    (λ p y. refl) (λ i. absurd (cc)) (refl, refl, λ n. n)
+    (subst P c.cursor (spelled t.core d c.no_key tokens.ByteOrderMark (byte_order_mark ∷ []) is (omega arith)
+    (omega arith) refl
+    (λ p. neutral _ p refl) (λ i. absurd (cc)) (refl, refl, λ n. n)
     (record { is = is; at_start = col; start = refl; end = refl; goes_on = refl })))))
   where
     no_column : (n : ℕ) (b : Bool) → (nat_lt 0 n || b) ≡ false → n ≡ 0
@@ -279,7 +290,8 @@ unfolding document.state_behind_directive document.read_directive
 directive_walked s col f =
     let A = Premises s.core in
     let here = s.core.cursor in
-    walked_then A (Content s) (Documented s) here (document.end_content s) _ (content_walked s) (λ t c.
+    walked_then A (Content s) (Documented s) here (document.end_content s) _
+    (content_walked s (inr (col, inr (inl f)))) (λ t c.
     let r = directives.directive t.core.cursor in
     let first = ap (λ (u : Cursor). slice_index u.rest 0) c.cursor ∙ f in
     let P : Cursor → Type 0 = λ u. (e : Refusal) → r ≡ Err e → A → At u e.mark in
@@ -301,6 +313,7 @@ directive_walked s col f =
         (at_most (omega arith) (and_then (λ n. n)
         (quiet 1 t.core (record { span = record { start = t.core.cursor.mark; end = x.1 }; kind = kind }) x.2
         (quiet_directive x.0) (directive_keeps x.0 (record { start = t.core.cursor.mark; end = x.1 }))
+        (inl c.no_key)
         (directive_is_no_end x.0) (directive_reading t.core x col first e))
         (still (with_cursor x.2 t.core) d (refl, refl, λ n. n) refl)))
     by t c (Err e) col first h = h
@@ -312,7 +325,7 @@ pub documents_advance : (s : State) (r : Result State Refusal) → Walked (Premi
 documents_advance s (Ok t) h = h.advances
 documents_advance s (Err e) h = tt
 
-pub documents_hold : TextLaws → (opened : Collections) (from : Cursor) (s : State) (r : Result State Refusal)
+pub documents_hold : TextLaws → (opened : Setting) (from : Cursor) (s : State) (r : Result State Refusal)
     → HoldsState opened from s → Walked (Premises s.core) (Documented s) s.core.cursor r
     → Given (HoldsState opened from) r
 documents_hold laws opened from s (Ok t) k h = h.holds laws opened from k

@@ -1,5 +1,5 @@
 -- What is done where a token is fetched, in one statement.
-use Rattle.std.proofs.Common.{◌≡◌, ℕ, ◌+◌, ◌≤◌, ◌<◌, Bool, true, false, List, [], ◌∷◌, ◌++◌, length, Result, Ok, Err, refl, sym, ap, ◌∙◌, arith, cond, subst}
+use Rattle.std.proofs.Common.{◌≡◌, ℕ, ◌+◌, ◌-◌, ◌≤◌, ◌<◌, Bool, true, false, List, [], ◌∷◌, ◌++◌, length, Result, Ok, Err, refl, sym, ap, ◌∙◌, arith, cond, subst}
 use Rattle.std.specs.Prelude.{codes, ◌&&◌, slice_index, not, ◌==◌, nat_lt, nat_le, Some, None}
 use Rattle.saphyr_input.specs.Classes.{is_bom, is_z, is_blank_or_breakz}
 use Rattle.saphyr_input.specs.Places.{is_document_start, is_document_end}
@@ -26,24 +26,34 @@ use Rattle.saphyr_scanner.proofs.Effects.Readers.{Readers, ReaderEnds}
 use Rattle.saphyr_scanner.proofs.Effects.Steps.{EffectAt, Goes, goes_none, gap_goes, drop_goes}
 use Rattle.saphyr_scanner.proofs.Effects.Walked.{Premises, Walked, walked_given, Doing, Stepped, walked_step}
 use Rattle.saphyr_scanner.proofs.Effects.Walked.{unsaved_step}
-use Rattle.saphyr_scanner.proofs.Effects.Flow.{open_sequence, open_mapping, close_sequence, close_mapping, sequence_starts, mapping_starts, sequence_opens, mapping_opens, sequence_closes, mapping_closes, start_does, end_does, entry_does}
+use Rattle.saphyr_scanner.proofs.Effects.Flow.{open_sequence, open_mapping, close_sequence, close_mapping, sequence_starts, mapping_starts, sequence_opens, mapping_opens, sequence_closes, mapping_closes, sequence_enters, mapping_enters, sequence_leaves, mapping_leaves, pair_may_end, sequence_may_close, mapping_may_close, start_does, end_does, entry_does}
 use Rattle.saphyr_scanner.proofs.Effects.Values.{value_does, flow_value_does}
 use Rattle.saphyr_scanner.proofs.Effects.Blocks.{block_entry_does, key_does}
 use Rattle.saphyr_scanner.proofs.Effects.Scalars.{plain_start, double_quoted_does, single_quoted_does, plain_does, block_does}
 use Rattle.saphyr_scanner.proofs.Effects.Properties.{an_alias, an_anchor, name_does, tag_does}
+use Rattle.saphyr_scanner.proofs.Taken.Keys.{IsDeep}
 use Rattle.saphyr_scanner.proofs.Taken.Places.{at_here}
 use Rattle.saphyr_scanner.proofs.Effects.States.{FetchesTokens, advances_advances, on_core_fetches, after_step_fetches, same_index, unroll_advances}
 use Rattle.saphyr_scanner.proofs.Effects.Documents.{start_walked, end_marker_walked, mark_walked, directive_walked, documents_advance}
 use Rattle.saphyr_scanner.proofs.Taken.Documents.{start_marking}
 use Rattle.saphyr_input.proofs.Basics.Booleans.{by_test}
 use Rattle.saphyr_scalar.proofs.Given.{Given, given_bind, given_of}
-use Rattle.std.proofs.lemmas.Bool.{and_parts, eqb-true}
+use Rattle.std.proofs.lemmas.Bool.{and_parts, ltb-false, eqb-true}
 
 -- ## What begins at a place
 
+deep_of : (deeper : Bool) (i col : ℕ) → nat_lt col (cond deeper i (i - 1)) ≡ false → i ≤ col + 1
+deep_of true i col e = let h = ltb-false col i e in omega (arith, h)
+deep_of false i col e = let h = ltb-false col (i - 1) e in omega (arith, h)
+
+-- no token stands where the line is not indented enough
+pub deep_here : (c : Core) → nat_lt c.cursor.mark.col (least_column c) ≡ false → IsDeep c
+deep_here c e _ = deep_of c.deeper c.indent c.cursor.mark.col e
+
 pub step_does : (first second n : ℕ) (c : Core) → 0 < length c.cursor.rest → slice_index c.cursor.rest 0 ≡ first
-    → slice_index c.cursor.rest 1 ≡ second → Walked (Premises c) (Stepped n c) c.cursor (step first second n c)
-step_does first second n c h f g =
+    → slice_index c.cursor.rest 1 ≡ second → IsDeep c
+    → Walked (Premises c) (Stepped n c) c.cursor (step first second n c)
+step_does first second n c h f g deep =
     let does : (r : StepResult) → Walked (Premises c) (Doing (Some n) c) c.cursor r
     → Walked (Premises c) (Stepped n c) c.cursor r =
     λ r w. walked_step (Premises c) n c c.cursor r w in
@@ -52,15 +62,16 @@ step_does first second n c h f g =
     λ r w. unsaved_step (Premises c) n c c.cursor r w in
     cases (Walked (Premises c) (Stepped n c) c.cursor) first second n c (record {
       sequence = λ e. does _ (start_does 91 tokens.FlowSequenceStart context.FlowSequence open_sequence sequence_starts
-          sequence_opens refl n c (f ∙ e));
+          sequence_opens sequence_enters refl n c (f ∙ e));
       mapping = λ e. does _ (start_does 123 tokens.FlowMappingStart context.FlowMapping open_mapping mapping_starts
-          mapping_opens refl n c (f ∙ e));
-      sequence_end = λ e. still _ (end_does 93 tokens.FlowSequenceEnd close_sequence sequence_closes
-          (ends_pair c.level.context) c (f ∙ e));
-      mapping_end = λ e. still _ (end_does 125 tokens.FlowMappingEnd close_mapping mapping_closes false c (f ∙ e));
+          mapping_opens mapping_enters refl n c (f ∙ e));
+      sequence_end = λ e. still _ (end_does 93 tokens.FlowSequenceEnd close_sequence sequence_closes sequence_leaves
+          (ends_pair c.level.context) c (pair_may_end c.level.context) (sequence_may_close c.level.context) (f ∙ e));
+      mapping_end = λ e. still _ (end_does 125 tokens.FlowMappingEnd close_mapping mapping_closes mapping_leaves false c
+          (λ no. absurd (cc)) (mapping_may_close c.level.context) (f ∙ e));
       comma = λ e. still _ (entry_does c (f ∙ e));
-      dash = λ e b. still _ (block_entry_does c (f ∙ e) (ap is_blank_or_breakz g ∙ b));
-      question = λ e b. still _ (key_does c (f ∙ e) (ap is_blank_or_breakz g ∙ b));
+      dash = λ e b. still _ (block_entry_does c deep (f ∙ e) (ap is_blank_or_breakz g ∙ b));
+      question = λ e b. still _ (key_does c deep (f ∙ e) (ap is_blank_or_breakz g ∙ b));
       colon = λ e b. still _ (value_does c (f ∙ e) (λ _. ap is_blank_or_breakz g ∙ b));
       beside = λ e b. still _ (flow_value_does second c (f ∙ e) (λ i. absurd
           (let w = (and_parts (not (in_block c)) _ b).0 in cc)));
@@ -76,10 +87,10 @@ step_does first second n c h f g =
     })
 
 pub step_effect : (first second n : ℕ) (c : Core) → 0 < length c.cursor.rest → slice_index c.cursor.rest 0 ≡ first
-    → slice_index c.cursor.rest 1 ≡ second → Given (EffectAt n c) (step first second n c)
-step_effect first second n c h f g =
+    → slice_index c.cursor.rest 1 ≡ second → IsDeep c → Given (EffectAt n c) (step first second n c)
+step_effect first second n c h f g deep =
     walked_given (Premises c) (Stepped n c) (EffectAt n c) c.cursor (step first second n c) (λ x k. k.effect)
-    (step_does first second n c h f g)
+    (step_does first second n c h f g deep)
 
 -- a place that shows no NUL is a character
 pub some_character_left : (t : List ℕ) → is_z (slice_index t 0) ≡ false → 0 < length t
@@ -181,8 +192,8 @@ here_fetched s going =
     (λ e. let w = and_parts (s.core.cursor.mark.col == 0) (is_document_end t) e in
     of_advances s _ going (documents_advance s _ (end_marker_walked s (eqb-true s.core.cursor.mark.col 0 w.0) w.1)))
     (λ _. by_test (nat_lt s.core.cursor.mark.col (least_column s.core)) _ _ P (λ _. tt)
-    (λ _. of_advances s _ going (after_step_fetches _ s (step (slice_index t 0) (slice_index t 1) (next s.queue) s.core)
-    (step_effect (slice_index t 0) (slice_index t 1) (next s.queue) s.core h refl refl))))))))
+    (λ e. of_advances s _ going (after_step_fetches _ s (step (slice_index t 0) (slice_index t 1) (next s.queue) s.core)
+    (step_effect (slice_index t 0) (slice_index t 1) (next s.queue) s.core h refl refl (deep_here s.core e)))))))))
 
 -- what stands before the next token is passed
 pub arrival_goes : (c : Core) → Given (Goes 0 c.cursor c) (pass_gap c >>= drop_far_key)

@@ -1,5 +1,5 @@
 -- What each step of flow collections does.
-use Rattle.std.proofs.Common.{◌≡◌, ℕ, ◌+◌, ◌-◌, ◌<◌, Bool, true, false, [], ◌∷◌, length, Some, None, refl, sym, ap, arith, subst, inl, inr, IsTrue}
+use Rattle.std.proofs.Common.{◌≡◌, ℕ, ◌+◌, ◌-◌, ◌<◌, Bool, true, false, List, [], ◌∷◌, length, suc, ◌∙◌, Some, None, refl, sym, ap, arith, subst, inl, inr, IsTrue}
 use Rattle.std.specs.Prelude.{◌&&◌, ◌==◌, slice_index, nat_le}
 use Rattle.saphyr_input.specs.Indicators.{comma}
 use Rattle.saphyr_input.specs.Classes.{is_break}
@@ -12,20 +12,25 @@ use Rattle.saphyr_scanner.specs.Grammar.Tokens as tokens
 use Rattle.saphyr_scanner.specs.Grammar.Tokens.{Kind}
 use Rattle.saphyr_scanner.specs.Views.Tokens.{Piece}
 use Rattle.saphyr_scanner.specs.Steps.Queue.{empty_piece}
-use Rattle.saphyr_scanner.specs.Steps.Core.{Core, Put, in_block, forget_key, remove_key, go_deeper, up_to_here, with_context, completed_step}
+use Rattle.saphyr_scanner.specs.Steps.Core.{Core, Put, in_block, forget_key, remove_key, go_deeper, at_mark, up_to_here, with_context, with_key, completed_step}
 use Rattle.saphyr_scanner.specs.Steps.Level.{is_block, ends_pair, behind_entry}
 use Rattle.saphyr_scanner.specs.Steps.Passing.{separate, pass_on, with_cursor}
 use Rattle.saphyr_scanner.specs.Steps.Flow as flow
 use Rattle.saphyr_scanner.specs.TokensTaken as taken
-use Rattle.saphyr_scanner.specs.TokensTaken.{Collections, Surroundings, open_behind, has_text, IsToken, IsFlowIndicator, begins_text}
+use Rattle.saphyr_scanner.specs.TokensTaken.{Collections, Surroundings, open_behind, IsToken, IsFlowIndicator, begins_text}
+use Rattle.saphyr_scanner.specs.TokensInPlace as place
+use Rattle.saphyr_scanner.specs.TokensInPlace.{Enclosure, Enclosed, Enclosures, has_text, enclosures_behind, may_end_pair, is_of_flow_node, fits}
 use Rattle.saphyr_scanner.specs.Limits.{most_open}
 use Rattle.saphyr_scanner.proofs.Added.Queue.{IsNoEnd}
-use Rattle.saphyr_scanner.proofs.Effects.Moves.{Does, NoComment, and_then, Same, same, same_same, lesser, further, leaving}
-use Rattle.saphyr_scanner.proofs.Effects.Puts.{Reading, empty_reading, IndicatorStands, passes, indicated, quiet, saving, entered, left}
+use Rattle.saphyr_scanner.proofs.Effects.Moves.{DoesWithin, Does, encloses, NoComment, and_then, Same, same, same_same, lesser, further, leaving}
+use Rattle.saphyr_scanner.proofs.Effects.Puts.{Reading, empty_reading, IndicatorStands, passes, indicated, quiet_within, saving, entered, left}
 use Rattle.saphyr_scanner.proofs.Effects.Walked.{Premises, Walked, walked_then, at_most, Doing}
 use Rattle.saphyr_scanner.proofs.Effects.Walked.{separate_walked}
 use Rattle.saphyr_scanner.proofs.LineTails.{OnLine}
-use Rattle.saphyr_scanner.proofs.Taken.Cores.{surroundings}
+use Rattle.saphyr_scanner.proofs.Taken.Cores.{by_bool, surroundings}
+use Rattle.saphyr_scanner.proofs.Taken.Keys.{IsArrival}
+use Rattle.saphyr_scanner.proofs.Taken.Held.{enclosure_of, enclosed_by, enclosures_of, FitsWithin}
+use Rattle.saphyr_scanner.proofs.Taken.InPlace.{deeper, no_text, free}
 use Rattle.saphyr_scanner.proofs.Taken.Later.{apart_later}
 use Rattle.saphyr_scanner.proofs.Taken.Parts.{is_quiet, Begins, pair_ends}
 use Rattle.saphyr_scanner.proofs.Taken.Places.{Reaches, at_here}
@@ -45,7 +50,7 @@ abbrev pub Counts : (ℕ → ℕ) → Kind → Type 0
 Counts count kind = (span : Span) → span.start.index < span.end.index → (opened : Collections)
     → (open_behind kind span opened).brackets ≡ count opened.brackets
 
-has_some : (span : Span) → span.start.index < span.end.index → has_text span ≡ true
+pub has_some : (span : Span) → span.start.index < span.end.index → has_text span ≡ true
 has_some span l = lt-ltb span.start.index span.end.index l
 
 pub sequence_opens : Counts (λ n. n + 1) tokens.FlowSequenceStart
@@ -59,6 +64,81 @@ sequence_closes span l opened = refl
 
 pub mapping_closes : Counts (λ n. n - 1) tokens.FlowMappingEnd
 mapping_closes span l opened = rw (has_some span l) refl
+
+-- what encloses the tokens behind one that opens
+pub record Enters (kind : Kind) (x : Context) (span : Span) : Type 0 where
+  pub encloses : (all : Enclosures) → enclosures_behind kind span all ≡ place.entered (enclosure_of x) all
+  pub depth : (d : ℕ) → deeper kind span d ≡ suc d
+  pub of_node : IsTrue (is_of_flow_node kind span)
+  pub fits : (e : Enclosure) → IsTrue (fits e kind span)
+
+abbrev pub EntersAll : Kind → Context → Type 0
+EntersAll kind x = (span : Span) → span.start.index < span.end.index → Enters kind x span
+
+pub sequence_enters : EntersAll tokens.FlowSequenceStart context.FlowSequence
+sequence_enters span l = record { encloses = λ all. refl; depth = λ d. refl; of_node = refl; fits = λ e. refl }
+
+pub mapping_enters : EntersAll tokens.FlowMappingStart context.FlowMapping
+mapping_enters span l =
+    let some = has_some span l in
+    record { encloses = λ all. rw some refl; depth = λ d. rw some refl; of_node = some; fits = λ e. rw some refl }
+
+-- what encloses the tokens behind one that closes
+pub record Leaves (kind : Kind) (span : Span) : Type 0 where
+  pub encloses : (all : Enclosures) → enclosures_behind kind span all ≡ place.left_for all.outer
+  pub depth : (d : ℕ) → deeper kind span (suc d) ≡ d
+
+abbrev pub LeavesAll : Kind → Type 0
+LeavesAll kind = (span : Span) → span.start.index < span.end.index → Leaves kind span
+
+pub sequence_leaves : LeavesAll tokens.FlowSequenceEnd
+sequence_leaves span l = record { encloses = λ all. refl; depth = λ d. omega arith }
+
+pub mapping_leaves : LeavesAll tokens.FlowMappingEnd
+mapping_leaves span l =
+    let some = has_some span l in
+    record { encloses = λ all. rw some refl; depth = λ d. rw some (omega arith) }
+
+-- a single pair may have ended before
+abbrev pub ended : Bool → Enclosures → Enclosures
+ended true all = place.turned_to place.Sequence all
+ended false all = all
+
+ended_outer : (ends : Bool) (all : Enclosures) → (ended ends all).outer ≡ all.outer
+ended_outer true all = refl
+ended_outer false all = refl
+
+-- a bracket that closes may stand behind the pair's end
+abbrev pub EndsPair : Bool → Context → Type 0
+EndsPair ends x = ends ≡ true → IsTrue (may_end_pair (enclosure_of x))
+
+abbrev pub MayClose : Kind → Bool → Context → Type 0
+MayClose kind ends x = (span : Span) → span.start.index < span.end.index → (outside : List Enclosed)
+    → is_block x ≡ false → FitsWithin (ended ends (free (enclosure_of x) outside)) (record { span = span; kind = kind })
+
+pub pair_may_end : (x : Context) → EndsPair (ends_pair x) x
+pair_may_end context.FlowPair e = refl
+pair_may_end context.MarkedFlowPair e = refl
+pair_may_end context.Block e = absurd (cc)
+pair_may_end context.FlowSequence e = absurd (cc)
+pair_may_end context.ExplicitFlowPair e = absurd (cc)
+pair_may_end context.FlowMapping e = absurd (cc)
+
+pub sequence_may_close : (x : Context) → MayClose tokens.FlowSequenceEnd (ends_pair x) x
+sequence_may_close context.Block span l outside e = absurd (cc)
+sequence_may_close context.FlowSequence span l outside e = refl
+sequence_may_close context.FlowPair span l outside e = refl
+sequence_may_close context.ExplicitFlowPair span l outside e = refl
+sequence_may_close context.MarkedFlowPair span l outside e = refl
+sequence_may_close context.FlowMapping span l outside e = refl
+
+pub mapping_may_close : (x : Context) → MayClose tokens.FlowMappingEnd false x
+mapping_may_close context.Block span l outside e = absurd (cc)
+mapping_may_close context.FlowSequence span l outside e = let some = has_some span l in rw some refl
+mapping_may_close context.FlowPair span l outside e = let some = has_some span l in rw some refl
+mapping_may_close context.ExplicitFlowPair span l outside e = let some = has_some span l in rw some refl
+mapping_may_close context.MarkedFlowPair span l outside e = let some = has_some span l in rw some refl
+mapping_may_close context.FlowMapping span l outside e = let some = has_some span l in rw some refl
 
 abbrev pub BeginsPiece : Kind → Type 0
 BeginsPiece kind = (span : Span) → span.start.index < span.end.index → Begins (record { span = span; kind = kind })
@@ -113,10 +193,10 @@ bracket_read x kind c u b f o =
 -- ## `[` and `{`
 
 pub start_does : (i : ℕ) (kind : Kind) (x : Context) → Bracket i kind → BeginsPiece kind → Counts (λ n. n + 1) kind
-    → is_block x ≡ false → (n : ℕ) (c : Core) → slice_index c.cursor.rest 0 ≡ i
+    → EntersAll kind x → is_block x ≡ false → (n : ℕ) (c : Core) → slice_index c.cursor.rest 0 ≡ i
     → Walked (Premises c) (Doing (Some n) c) c.cursor (flow.opening_steps x kind n c)
 unfolding flow.opening_steps flow.open_collection
-start_does i kind x b starts counts flows n c f =
+start_does i kind x b starts counts enters flows n c f =
     let P = Walked (Premises c) (Doing (Some n) c) c.cursor in
     saving n c (λ d. P (flow.open_collection x kind (go_deeper d))) (λ l r s.
     let d : Core = go_deeper (record c { level = l; required = r }) in
@@ -129,26 +209,29 @@ start_does i kind x b starts counts flows n c f =
     let behind : Core = record c { cursor = u; level = l; required = r } in
     let span : Span = record { start = c.cursor.mark; end = u.mark } in
     let some : c.cursor.mark.index < u.mark.index = omega (arith, later.index) in
+    let into = enters span some in
     and_then (λ n. n)
-    (entered n x c behind (bracket_piece kind c u) flows s refl (λ n. n) b.quiet (counts span some) b.no_end
-    (starts span some) refl (bracket_read i kind c u b f g.1))
+    (entered n x c behind (bracket_piece kind c u) flows s refl (λ n. n) b.quiet (counts span some)
+    into.encloses into.depth into.of_node into.fits b.no_end (starts span some) refl (bracket_read i kind c u b f g.1))
     (further (flow.enter x behind) e.1 g.0 (taken.nothing u.mark u.rest)))))
 
 -- ## The end of a collection or an entry
 
 -- behind a bracket or a comma, which leaves d behind c, and before it the end of a pair
 bracket_walked : (x : ℕ) (kind : Kind) → Bracket x kind → (c d : Core) (ends : Bool) → slice_index c.cursor.rest 0 ≡ x
-    → d.cursor ≡ c.cursor → NoComment c d
-    → ((u : Cursor) → c.cursor.mark.index < u.mark.index → Reading 1 c (bracket_piece kind c u) u
-    → Does None 1 1 c (with_cursor u d) (Put (bracket_piece kind c u) ∷ []))
+    → d.cursor ≡ c.cursor → NoComment c d → EndsPair ends c.level.context
+    → ((u : Cursor) → c.cursor.mark.index < u.mark.index → Reading 1 (with_key None c) (bracket_piece kind c u) u
+    → DoesWithin (IsArrival c) (ended ends (enclosures_of c)) (enclosures_of d) None 1 1 (with_key None c)
+    (with_cursor u d) (Put (bracket_piece kind c u) ∷ []))
     → (f : Core → Core) → ((e : Core) → Same e (f e) × ((f e).cursor ≡ e.cursor))
     → Walked (Premises c) (Doing None c) c.cursor
     (separate (pass_on 1 d) >>= λ e. completed_step
     (flow.behind_pair ends c.cursor.mark (up_to_here c.cursor.mark kind e.1))
     (f e.1))
-bracket_walked x kind bracket c d ends first there silent put f alike =
+bracket_walked x kind bracket c d ends first there silent may put f alike =
     let on : (pass_on 1 d).cursor ≡ pass 1 c.cursor = ap (pass 1) there in
     let R : Cursor → Type 0 = λ v. Reaches c.cursor v in
+    let b : Core = with_key None c in
     walked_then (Premises c) _ (Doing None c) c.cursor (separate (pass_on 1 d)) _
     (separate_walked c c.cursor (pass_on 1 d)
     (λ _. subst R (sym on) (passes x c.cursor (stands x kind c.cursor bracket first)))) (λ e g.
@@ -158,50 +241,104 @@ bracket_walked x kind bracket c d ends first there silent put f alike =
     let Q : Cursor → Type 0 = λ v. OnLine v u in
     let o : OnLine (pass 1 c.cursor) u = subst Q on g.1 in
     let later = apart_later (pass 1 c.cursor).mark (pass 1 c.cursor).rest u.mark u.rest o.apart in
-    let token : Does None 1 1 c (f e.1) (up_to_here c.cursor.mark kind e.1 ∷ []) = and_then silent
-    (put u (omega (arith, later.index)) (bracket_read x kind c u bracket first o))
+    let token : DoesWithin (IsArrival c) (ended ends (enclosures_of c)) (enclosures_of (f e.1)) None 1 1 b (f e.1)
+    (up_to_here c.cursor.mark kind e.1 ∷ []) = and_then silent
+    (put u (omega (arith, later.index)) (bracket_read x kind b u bracket first o))
     (further (with_cursor u d) (f e.1) (same_same (with_cursor u d) e.1 (f e.1) g.0 k.0)
     (subst P (sym k.1) (taken.nothing u.mark u.rest))) in
-    by_test ends _ _ (λ actions. Does None 1 5 c (f e.1) actions)
-    (λ _. at_most (omega arith) (and_then (λ n. n)
-    (quiet 0 c (empty_piece c.cursor.mark tokens.FlowMappingEnd) c.cursor refl
-    (λ y. ap (λ (z : Collections). z.brackets) (pair_ends c.cursor.mark y)) (λ i. absurd (cc))
-    (empty_reading c tokens.FlowMappingEnd (inr (refl, inl refl, refl)))) token))
-    (λ _. at_most (omega arith) token))
+    let forgets : Does (IsArrival c) None 0 0 c b [] =
+    lesser (enclosures_of c) c b (record { block = refl; key = inr refl }) refl (λ n. n)
+    (taken.nothing c.cursor.mark c.cursor.rest) in
+    by_bool ends
+    (λ b2. EndsPair b2 c.level.context → DoesWithin (IsArrival c) (ended b2 (enclosures_of c)) (enclosures_of (f e.1))
+    None 1 1 b (f e.1) (up_to_here c.cursor.mark kind e.1 ∷ [])
+    → Does (IsArrival c) None 1 5 c (f e.1)
+    (flow.behind_pair b2 c.cursor.mark (up_to_here c.cursor.mark kind e.1)))
+    (λ _ pair last. at_most (omega arith) (and_then (λ n. n) forgets (and_then (λ n. n)
+    (pair_end c (pair refl)) last)))
+    (λ _ _ last. at_most (omega arith) (and_then (λ n. n) forgets last)) may token)
+  where
+    pair_end : (c : Core) → IsTrue (may_end_pair (enclosure_of c.level.context))
+        → DoesWithin (IsArrival c) (enclosures_of c) (place.turned_to place.Sequence (enclosures_of c)) None 0 1
+        (with_key None c) (with_key None c) (at_mark c.cursor.mark tokens.FlowMappingEnd ∷ [])
+    pair_end c may =
+        let b : Core = with_key None c in
+        let t = empty_piece c.cursor.mark tokens.FlowMappingEnd in
+        let no = no_text c.cursor.mark.index in
+        encloses (rw no refl)
+        (quiet_within (enclosures_of c) 0 b t c.cursor refl
+        (λ y. ap (λ (z : Collections). z.brackets) (pair_ends c.cursor.mark y)) (λ d. rw no refl) (inl refl)
+        (λ _. rw no may) (λ i. absurd (cc))
+        (empty_reading b tokens.FlowMappingEnd (inr (refl, inl refl, refl))))
 
 adjacent_same : (c : Core) → Same c (flow.allow_adjacent c) × ((flow.allow_adjacent c).cursor ≡ c.cursor)
 adjacent_same c =
     by_test (in_block c) _ _ (λ (d : Core). Same c d × (d.cursor ≡ c.cursor)) (λ _. (same c, refl))
     (λ _. ((refl, refl, λ n. n), refl))
 
-pub end_does : (i : ℕ) (kind : Kind) → Bracket i kind → Counts (λ n. n - 1) kind → (ends : Bool) (c : Core)
+pub end_does : (i : ℕ) (kind : Kind) → Bracket i kind → Counts (λ n. n - 1) kind → LeavesAll kind
+    → (ends : Bool) (c : Core) → EndsPair ends c.level.context → MayClose kind ends c.level.context
     → slice_index c.cursor.rest 0 ≡ i
     → Walked (Premises c) (Doing None c) c.cursor (flow.closing_steps ends kind c)
 unfolding flow.closing_steps flow.close_collection
-end_does i kind b counts ends c first =
+end_does i kind b counts leaves ends c may close first =
     by_test (in_block c) _ _ (Walked (Premises c) (Doing None c) c.cursor) (λ _ _. at_here c.cursor)
-    (λ _. leaving c
+    (λ inside. leaving c
     (λ d. Walked (Premises c) (Doing None c) c.cursor
     (separate (pass_on 1 d) >>= λ e. completed_step
     (flow.behind_pair ends c.cursor.mark (up_to_here c.cursor.mark kind e.1)) (flow.allow_adjacent e.1)))
     (λ l ls m.
-    bracket_walked i kind b c (record c { level = l; outer = ls; key_allowed = false }) ends first refl (λ n. n)
-    (λ u some r. left c l ls (bracket_piece kind c u) u m b.quiet
-    (counts (record { start = c.cursor.mark; end = u.mark }) some) b.no_end r) flow.allow_adjacent adjacent_same))
+    bracket_walked i kind b c (record c { level = l; outer = ls; key_allowed = false }) ends first refl (λ n. n) may
+    (λ u some r.
+    let span : Span = record { start = c.cursor.mark; end = u.mark } in
+    let out = leaves span some in
+    let within = ended ends (enclosures_of c) in
+    encloses (m.encloses ∙ ap place.left_for (sym (ended_outer ends (enclosures_of c))) ∙ sym (out.encloses within))
+    (left within (with_key None c) l ls (bracket_piece kind c u) u
+    (record { above = m.above; keys = m.keys; fewer = m.fewer; encloses = m.encloses }) b.quiet
+    (counts span some) out.depth (close span some (enclosed_by c.outer) inside) b.no_end r))
+    flow.allow_adjacent adjacent_same))
 
 entry_block : (x : Context) → is_block (behind_entry x) ≡ is_block x
 entry_block context.Block = refl
 entry_block _ = refl
 
+-- behind a comma
+entry_encloses : (x : Context) (outside : List Enclosed) (span : Span)
+    → free (enclosure_of (behind_entry x)) outside
+    ≡ enclosures_behind tokens.FlowEntry span (ended (ends_pair x) (free (enclosure_of x) outside))
+entry_encloses context.Block outside span = refl
+entry_encloses context.FlowSequence outside span = refl
+entry_encloses context.FlowPair outside span = refl
+entry_encloses context.ExplicitFlowPair outside span = refl
+entry_encloses context.MarkedFlowPair outside span = refl
+entry_encloses context.FlowMapping outside span = refl
+
+entry_fits : (x : Context) (outside : List Enclosed) (span : Span)
+    → FitsWithin (ended (ends_pair x) (free (enclosure_of x) outside))
+    (record { span = span; kind = tokens.FlowEntry })
+entry_fits context.Block outside span = refl
+entry_fits context.FlowSequence outside span = refl
+entry_fits context.FlowPair outside span = refl
+entry_fits context.ExplicitFlowPair outside span = refl
+entry_fits context.MarkedFlowPair outside span = refl
+entry_fits context.FlowMapping outside span = refl
+
 pub entry_does : (c : Core) → slice_index c.cursor.rest 0 ≡ comma
     → Walked (Premises c) (Doing None c) c.cursor (flow.flow_entry_steps c)
 unfolding flow.flow_entry_steps flow.next_flow_entry remove_key
 entry_does c first =
-    let d : Core = with_context (behind_entry c.level.context) (record (forget_key c) { key_allowed = true }) in
+    let x = c.level.context in
+    let d : Core = with_context (behind_entry x) (record (forget_key c) { key_allowed = true }) in
+    let b : Core = with_key None c in
+    let within = ended (ends_pair x) (enclosures_of c) in
     by_test (in_block c && c.required) _ _
     (λ r. Walked (Premises c) (Doing None c) c.cursor (r >>= flow.next_flow_entry)) (λ _ _. at_here c.cursor)
-    (λ _. bracket_walked 44 tokens.FlowEntry comma_is_bracket c d (ends_pair c.level.context) first refl (λ n. n)
-    (λ u some r. and_then (λ n. n)
-    (quiet 1 c (bracket_piece tokens.FlowEntry c u) u refl (λ y. refl) (λ i. absurd (cc)) r)
-    (lesser (with_cursor u c) (with_cursor u d) (record { block = entry_block c.level.context; key = inr refl }) refl
-    (λ n. n) (taken.nothing u.mark u.rest))) (λ e. e) (λ e. (same e, refl)))
+    (λ _. bracket_walked 44 tokens.FlowEntry comma_is_bracket c d (ends_pair x) first refl (λ n. n) (pair_may_end x)
+    (λ u some r. encloses (entry_encloses x (enclosed_by c.outer) (bracket_piece tokens.FlowEntry c u).span)
+    (and_then (λ n. n)
+    (quiet_within within 1 b (bracket_piece tokens.FlowEntry c u) u refl (λ y. refl) (λ e. refl) (inl refl)
+    (λ _. entry_fits x (enclosed_by c.outer) (bracket_piece tokens.FlowEntry c u).span) (λ i. absurd (cc)) r)
+    (lesser (enclosures_behind tokens.FlowEntry (bracket_piece tokens.FlowEntry c u).span within) (with_cursor u b)
+    (with_cursor u d) (record { block = entry_block x; key = inr refl }) refl
+    (λ n. n) (taken.nothing u.mark u.rest)))) (λ e. e) (λ e. (same e, refl)))

@@ -10,16 +10,18 @@ use Rattle.saphyr_scanner.specs.Steps.Level.{Candidate, Level, is_block, at_root
 use Rattle.saphyr_scanner.specs.Steps.Core.{in_block}
 use Rattle.saphyr_scanner.specs.Steps.Flow as flow
 use Rattle.saphyr_scanner.specs.TokensTaken as taken
-use Rattle.saphyr_scanner.specs.TokensTaken.{Collections, AreApart}
+use Rattle.saphyr_scanner.specs.TokensTaken.{AreApart}
+use Rattle.saphyr_scanner.specs.TokensInPlace.{Enclosures, left_for}
 use Rattle.saphyr_scanner.proofs.Added.Queue.{PutsGoOn, added, at_most_one, open_blocks}
 use Rattle.saphyr_scanner.proofs.Counted.{Ahead, ahead_ahead}
 use Rattle.saphyr_scanner.proofs.Effects.Readers.{Readers, ReaderEnds, TextLaws}
 use Rattle.saphyr_scanner.proofs.Ordered.Queue.{PutsInOrder}
 use Rattle.saphyr_scanner.proofs.PlainBehind.{IsNoted}
 use Rattle.saphyr_scanner.proofs.Taken.Candidates.{KeyAbove, LevelsAbove, Above, ActionsAbove}
-use Rattle.saphyr_scanner.proofs.Taken.Cores.{HoldsTaken, Lesser, holds_lesser}
-use Rattle.saphyr_scanner.proofs.Taken.Held.{lower, Keys, keys_weaken}
-use Rattle.saphyr_scanner.proofs.Taken.Held.{below_key}
+use Rattle.saphyr_scanner.proofs.Taken.Cores.{HoldsWithin, same_enclosures, Lesser, holds_lesser}
+use Rattle.saphyr_scanner.proofs.Taken.Held.{enclosure_of, enclosed_by, enclosures_of, Setting}
+use Rattle.saphyr_scanner.proofs.Taken.Keys.{Keys}
+use Rattle.saphyr_scanner.proofs.Taken.InPlace.{free}
 use Rattle.saphyr_scanner.proofs.Taken.Later.{apart_later}
 
 -- ## The statement
@@ -34,8 +36,10 @@ IsBeforePlace h None = Unit {0}
 IsBeforePlace h (Some n) = h ≤ n
 
 -- From c to d these actions are done, by which a key may be saved for the place n: k characters at least are taken off,
--- and w tokens at most become due. What the readers take off and read is told by their laws.
-pub record Does (n : Option ℕ) (k w : ℕ) (c d : Core) (actions : List Action) : Type 0 where
+-- and w tokens at most become due. What the readers take off and read is told by their laws. What encloses the next
+-- token changes, and that the tokens are taken from the text may rest on a premise.
+pub record DoesWithin (A : Type 0) (within behind : Enclosures) (n : Option ℕ) (k w : ℕ) (c d : Core)
+    (actions : List Action) : Type 0 where
   pub less : Readers → length d.cursor.rest + k ≤ length c.cursor.rest
   pub ahead : ReaderEnds → Ahead c.cursor d.cursor
   pub puts : ReaderEnds → PutsInOrder d.cursor.mark.index c.cursor.mark.index actions
@@ -44,10 +48,19 @@ pub record Does (n : Option ℕ) (k w : ℕ) (c d : Core) (actions : List Action
   pub goes_on : PutsGoOn actions
   pub few : added actions + open_blocks d ≤ open_blocks c + w
   pub keeps : (h : ℕ) → IsBeforePlace h n → Above h c → Above h d × ActionsAbove h actions
-  pub holds : TextLaws → (opened : Collections) (from : Cursor) (q : Queue) → IsNextPlace n c q
-      → HoldsTaken opened from c q
-      → HoldsTaken opened from d (perform actions q)
+  pub holds : A → TextLaws → (opened : Setting) (from : Cursor) (q : Queue) → IsNextPlace n c q
+      → HoldsWithin within opened from c q
+      → HoldsWithin behind opened from d (perform actions q)
   pub noted : c.comment ≡ None → IsNoted d.comment d.cursor
+
+abbrev pub Does : Type 0 → Option ℕ → ℕ → ℕ → Core → Core → List Action → Type 0
+Does A n k w c d actions = DoesWithin A (enclosures_of c) (enclosures_of d) n k w c d actions
+
+-- the same encloses the next token
+pub encloses : {A : Type 0} {x y z : Enclosures} {n : Option ℕ} {k w : ℕ} {c d : Core} {actions : List Action} → z ≡ y
+    → DoesWithin A x y n k w c d actions → DoesWithin A x z n k w c d actions
+encloses {A} {x} {y} {z} {n} {k} {w} {c} {d} {actions} e a =
+    let P : Enclosures → Type 0 = λ v. DoesWithin A x v n k w c d actions in subst P (sym e) a
 
 -- ## One behind another
 
@@ -89,24 +102,25 @@ abbrev pub NoComment : Core → Core → Type 0
 NoComment c d = c.comment ≡ None → d.comment ≡ None
 
 -- one move and another behind it, where the first notes no comment
-pub and_then : {n : Option ℕ} {k l v w : ℕ} {c d e : Core} {front back : List Action} → NoComment c d
-    → Does n k v c d front → Does None l w d e back → Does n (k + l) (v + w) c e (front ++ back)
-and_then {n} {k} {l} {v} {w} {c} {d} {e} {front} {back} m a b = record {
-  less = λ laws. let x = a.less laws in let y = b.less laws in omega (arith, x, y);
+pub and_then : {A : Type 0} {x y z : Enclosures} {n : Option ℕ} {k l v w : ℕ} {c d e : Core}
+    {front back : List Action} → NoComment c d → DoesWithin A x y n k v c d front → DoesWithin A y z None l w d e back
+    → DoesWithin A x z n (k + l) (v + w) c e (front ++ back)
+and_then {A} {x} {y} {z} {n} {k} {l} {v} {w} {c} {d} {e} {front} {back} m a b = record {
+  less = λ laws. let i = a.less laws in let j = b.less laws in omega (arith, i, j);
   ahead = λ laws. ahead_ahead c.cursor d.cursor e.cursor (a.ahead laws) (b.ahead laws);
   puts = λ laws. puts_append e.cursor.mark.index d.cursor.mark.index c.cursor.mark.index front back (a.puts laws)
       (b.puts laws);
   started = b.started ∙ a.started;
   ended = b.ended ∙ a.ended;
   goes_on = goes_on_append front back a.goes_on b.goes_on;
-  few = let x = a.few in let y = b.few in let z = added_append front back in omega (arith, x, y, z);
-  keeps = λ h i x.
-      let p = a.keeps h i x in
+  few = let i = a.few in let j = b.few in let f = added_append front back in omega (arith, i, j, f);
+  keeps = λ h i s.
+      let p = a.keeps h i s in
       let q = b.keeps h tt p.0 in (q.0, above_append h front back p.1 q.1);
-  holds = λ laws opened from q i h.
-      let P : Queue → Type 0 = λ r. HoldsTaken opened from e r in
+  holds = λ premise laws opened from q i h.
+      let P : Queue → Type 0 = λ r. HoldsWithin z opened from e r in
       subst P (sym (perform_append front back q))
-      (b.holds laws opened from (perform front q) tt (a.holds laws opened from q i h));
+      (b.holds premise laws opened from (perform front q) tt (a.holds premise laws opened from q i h));
   noted = λ f. b.noted (m f);
 }
 
@@ -146,9 +160,9 @@ lesser_above h l m e a = by e.key
     by (inr f) = let P : Option Candidate → Type 0 = λ o. KeyAbove h o in subst P (sym f) tt
 
 -- separation is passed, and the key may be forgotten
-pub lesser : (c d : Core) → Lesser c.level d.level → around d ≡ around c → NoComment c d → AreApart c.cursor d.cursor
-    → Does None 0 0 c d []
-lesser c d l a m p =
+pub lesser : {A : Type 0} (within : Enclosures) (c d : Core) → Lesser c.level d.level → around d ≡ around c
+    → NoComment c d → AreApart c.cursor d.cursor → DoesWithin A within within None 0 0 c d []
+lesser within c d l a m p =
     let later = apart_later c.cursor.mark c.cursor.rest d.cursor.mark d.cursor.rest p in
     let blocks : open_blocks d ≡ open_blocks c =
     ap (λ (x : Around). at_most_one x.indent + length x.outer_indents) a in
@@ -168,43 +182,57 @@ lesser c d l a m p =
             ),
             tt,
           );
-      holds = λ _ opened from q _ h.
-          holds_lesser opened from c d q l (ap (λ (x : Around). x.outer) a) (ap (λ (x : Around). x.indent) a)
+      holds = λ _ _ opened from q _ h.
+          holds_lesser within opened from c d q l (ap (λ (x : Around). x.outer) a) (ap (λ (x : Around). x.indent) a)
           (ap (λ (x : Around). x.outer_indents) a) p h;
       noted = λ f. inl (m f);
     }
 
-pub further : (c d : Core) → Same c d → AreApart c.cursor d.cursor → Does None 0 0 c d []
-further c d s p =
-    lesser c d
+pub further_within : {A : Type 0} (within : Enclosures) (c d : Core) → Same c d → AreApart c.cursor d.cursor
+    → DoesWithin A within within None 0 0 c d []
+further_within within c d s p =
+    lesser within c d
     (record { block = ap (λ (l : Level). is_block l.context) s.0; key = inl (ap (λ (l : Level). l.key) s.0) }) s.1 s.2
     p
 
+pub same_around : (c d : Core) → Same c d → enclosures_of d ≡ enclosures_of c
+same_around c d s =
+    same_enclosures c d (ap (λ (l : Level). l.context) s.0) (ap (λ (x : Around). x.outer) s.1)
+
+pub further : {A : Type 0} (c d : Core) → Same c d → AreApart c.cursor d.cursor → Does A None 0 0 c d []
+further c d s p = encloses (same_around c d s) (further_within (enclosures_of c) c d s p)
+
 -- what is known stays, where the text doesn't go on
-pub still : (c d : Core) → Same c d → d.cursor ≡ c.cursor → Does None 0 0 c d []
-still c d s e =
-    further c d s (let P : Cursor → Type 0 = λ u. AreApart c.cursor u in subst P (sym e)
+pub still_within : {A : Type 0} (within : Enclosures) (c d : Core) → Same c d → d.cursor ≡ c.cursor
+    → DoesWithin A within within None 0 0 c d []
+still_within within c d s e =
+    further_within within c d s (let P : Cursor → Type 0 = λ u. AreApart c.cursor u in subst P (sym e)
     (taken.nothing c.cursor.mark c.cursor.rest))
+
+pub still : {A : Type 0} (c d : Core) → Same c d → d.cursor ≡ c.cursor → Does A None 0 0 c d []
+still c d s e = encloses (same_around c d s) (still_within (enclosures_of c) c d s e)
 
 -- a flow collection is left for the level around it
 pub record Left (c : Core) (l : Level) (ls : List Level) : Type 0 where
   pub above : (h : ℕ) → LevelsAbove h c.outer → KeyAbove h l.key × LevelsAbove h ls
-  pub keys : (q : Queue) → Keys (next q) q c.indent (c.level ∷ c.outer) → Keys (next q) q c.indent (l ∷ ls)
+  pub keys : (b : ℕ) (q : Queue) → Keys b q c.indent c.outer → Keys b q c.indent (l ∷ ls)
   pub fewer : length ls ≡ length c.outer - 1
+  pub encloses : free (enclosure_of l.context) (enclosed_by ls) ≡ left_for (enclosed_by c.outer)
 
 pub leaving : (c : Core) (P : Core → Type 0)
     → ((l : Level) (ls : List Level) → Left c l ls → P (record c { level = l; outer = ls; key_allowed = false }))
     → P (flow.leave c)
-leaving c P f =
-    by c.outer (λ h a. a) (λ q k. keys_weaken (lower (next q) c.level.key) (next q) q c.indent c.outer
-    (below_key (next q) q (is_block c.level.context) c.indent c.level.key k.1) k.2) refl
+leaving c P f = by c.outer (λ h a. a) (λ b q k. k) refl refl
   where
     by : (ls : List Level) → ((h : ℕ) → LevelsAbove h c.outer → LevelsAbove h ls)
-        → ((q : Queue) → Keys (next q) q c.indent (c.level ∷ c.outer) → Keys (next q) q c.indent ls)
-        → length c.outer ≡ length ls → P (flow.leave_to ls c)
-    by [] above keys n = f at_root [] (record {
+        → ((b : ℕ) (q : Queue) → Keys b q c.indent c.outer → Keys b q c.indent ls)
+        → length c.outer ≡ length ls → left_for (enclosed_by c.outer) ≡ left_for (enclosed_by ls)
+        → P (flow.leave_to ls c)
+    by [] above keys n e = f at_root [] (record {
       above = λ h a. (tt, tt);
-      keys = λ q k. (refl, tt, tt);
+      keys = λ b q k. (refl, tt, tt);
       fewer = omega (arith, n);
+      encloses = sym e;
     })
-    by (l ∷ ls) above keys n = f l ls (record { above = above; keys = keys; fewer = omega (arith, n) })
+    by (l ∷ ls) above keys n e =
+        f l ls (record { above = above; keys = keys; fewer = omega (arith, n); encloses = sym e })

@@ -1,5 +1,5 @@
 -- What each step of anchors, aliases and tags does, by the laws of the readers.
-use Rattle.std.proofs.Common.{◌≡◌, ℕ, ◌+◌, ◌<◌, Bool, true, List, ◌∷◌, ◌++◌, length, Some, refl, sym, ap, ◌∙◌, arith, subst, inl, inr}
+use Rattle.std.proofs.Common.{◌≡◌, ℕ, ◌+◌, ◌<◌, Bool, true, List, ◌∷◌, ◌++◌, length, Some, refl, sym, ap, ◌∙◌, arith, subst, inl, inr, IsTrue}
 use Rattle.std.specs.Prelude.{slice_index, not}
 use Rattle.saphyr_input.specs.Indicators.{exclamation_mark}
 use Rattle.saphyr_scalar.specs.declared.scalar.position.Span.{Span}
@@ -15,13 +15,15 @@ use Rattle.saphyr_scanner.specs.Steps.Property as property
 use Rattle.saphyr_scanner.specs.Steps.Scalar as scalar
 use Rattle.saphyr_scanner.specs.TokensTaken as taken
 use Rattle.saphyr_scanner.specs.TokensTaken.{Surroundings, IsToken, begins_text}
+use Rattle.saphyr_scanner.specs.TokensInPlace.{is_of_flow_node}
 use Rattle.saphyr_scanner.proofs.Added.Queue.{IsNoEnd}
 use Rattle.saphyr_scanner.proofs.Counted.{Ahead}
 use Rattle.saphyr_scanner.proofs.Effects.Puts.{saving, saved, same_flow, Reading}
 use Rattle.saphyr_scanner.proofs.Effects.Walked.{Premises, Walked, walked_then, Doing, read_walked}
 use Rattle.saphyr_scanner.proofs.Effects.Scalars.{Starts}
 use Rattle.saphyr_scanner.proofs.Effects.Readers.{Readers, ReaderEnds, Less, TextLaws}
-use Rattle.saphyr_scanner.proofs.Taken.Cores.{KeepsBrackets, surroundings}
+use Rattle.saphyr_scanner.proofs.Taken.Cores.{surroundings}
+use Rattle.saphyr_scanner.proofs.Taken.Neutral.{Neutral, neutral}
 use Rattle.saphyr_scanner.proofs.Taken.Parts.{is_quiet}
 use Rattle.saphyr_scanner.proofs.Taken.Places.{here_at}
 
@@ -39,7 +41,8 @@ token_read c kind u less ahead is = record {
 pub record Named (token_of : List ℕ → Kind) (x : ℕ) : Type 0 where
   pub no_end : (name : List ℕ) → IsNoEnd (token_of name)
   pub quiet : (name : List ℕ) → is_quiet (token_of name) ≡ true
-  pub keeps : (name : List ℕ) (span : Span) → KeepsBrackets (record { span = span; kind = token_of name })
+  pub keeps : (name : List ℕ) (span : Span) → Neutral (record { span = span; kind = token_of name })
+  pub of_node : (name : List ℕ) (span : Span) → IsTrue (is_of_flow_node (token_of name) span)
   pub is : (i : Surroundings) (name : List ℕ) (span : Span) (s t : Cursor) → taken.IsNameToken x name span s t
       → IsToken i (token_of name) span s t
   pub of : (i : Surroundings) (name : List ℕ) (span : Span) (s t : Cursor) → IsToken i (token_of name) span s t
@@ -49,7 +52,8 @@ pub an_alias : Named tokens.Alias 42
 an_alias = record {
   no_end = λ n i. absurd (cc);
   quiet = λ n. refl;
-  keeps = λ n p x. refl;
+  keeps = λ n p. neutral _ p refl;
+  of_node = λ n p. refl;
   is = λ i n p s t h. h;
   of = λ i n p s t h. (h.3.start, ap (λ l. begins_text (slice_index l 0)) h.3.is);
 }
@@ -58,7 +62,8 @@ pub an_anchor : Named tokens.Anchor 38
 an_anchor = record {
   no_end = λ n i. absurd (cc);
   quiet = λ n. refl;
-  keeps = λ n p x. refl;
+  keeps = λ n p. neutral _ p refl;
+  of_node = λ n p. refl;
   is = λ i n p s t h. h;
   of = λ i n p s t h. (h.3.start, ap (λ l. begins_text (slice_index l 0)) h.3.is);
 }
@@ -89,7 +94,7 @@ name_does token_of x named n c some f =
     let span : Span = record { start = here.mark; end = y.1.mark } in
     let kind : Kind = token_of y.0 in
     saved n c (with_cursor y.1 d) (record { span = span; kind = kind }) s refl (λ m. inl m) (named.quiet y.0)
-    (named.keeps y.0 span) (named.no_end y.0) (λ i. named.of i y.0 span) refl
+    (named.keeps y.0 span) (named.of_node y.0 span) (named.no_end y.0) (λ i. named.of i y.0 span) refl
     (token_read c kind y.1 (λ laws. laws.name here y.1 y.0 some e) (λ laws. laws.name here y.1 y.0 some e) (λ laws.
     let w = laws.name here y.1 y.0 some e in
     let first : w.0 ≡ x = sym (ap (λ t. slice_index t 0) w.2) ∙ f in
@@ -113,7 +118,7 @@ tag_does n c first =
     (read_walked (Premises c) here (tags.tag f here) (λ e q laws. here_at here e.mark (laws.0.tag f here e q))) (λ y e.
     let span : Span = record { start = here.mark; end = y.2.mark } in
     saved n c (with_cursor y.2 d) (record { span = span; kind = tokens.Tag y.0 y.1 }) s refl (λ m. inl m) refl
-    (λ x. refl) (λ i. absurd (cc))
+    (neutral _ span refl) refl (λ i. absurd (cc))
     (λ i a b k. (
       k.6.start,
       ap (λ t. begins_text (slice_index t 0)) k.6.is ∙ ap begins_text (tag_begins k.0 b.rest k.1 k.2 k.3),

@@ -1,7 +1,7 @@
 -- The moves that put a token, save a key, or turn a candidate into a key.
-use Rattle.std.proofs.Common.{◌≡◌, ℕ, ◌+◌, ◌≤◌, ◌⊎◌, Bool, true, false, List, [], ◌∷◌, length, Option, Some, None}
+use Rattle.std.proofs.Common.{◌<◌, ◌≡◌, ℕ, ◌+◌, ◌≤◌, ◌⊎◌, Bool, true, false, List, [], ◌∷◌, length, Option, Some, None}
 use Rattle.std.proofs.Common.{refl, sym, ap, ◌∙◌, arith, subst, inl, inr, IsTrue}
-use Rattle.std.specs.Prelude.{◌-◌, ◌==◌, slice_index, not}
+use Rattle.std.specs.Prelude.{◌-◌, ◌==◌, slice_index, not, suc}
 use Rattle.saphyr_input.specs.Classes.{is_break}
 use Rattle.saphyr_scalar.specs.declared.scalar.position.Span.{Span}
 use Rattle.saphyr_scalar.specs.Views.Cursor.{Cursor, pass}
@@ -20,12 +20,17 @@ use Rattle.saphyr_scanner.specs.TokensTaken as taken
 use Rattle.saphyr_scanner.specs.TokensTaken.{Collections, Surroundings, AreApart, IsToken, TakesCharacter, IsBlockStart, begins_text, open_behind}
 use Rattle.saphyr_scanner.proofs.Added.Queue.{IsNoEnd, at_most_one, one_at_most, open_blocks}
 use Rattle.saphyr_scanner.proofs.Effects.Readers.{Readers, ReaderEnds, ReadsSpan, TextLaws}
-use Rattle.saphyr_scanner.proofs.Effects.Moves.{Around, Does, IsBeforePlace, IsNextPlace, Left, NoComment, around}
+use Rattle.saphyr_scanner.proofs.Effects.Moves.{Around, DoesWithin, Does, encloses, IsBeforePlace, IsNextPlace, Left, NoComment, around}
 use Rattle.saphyr_scanner.proofs.PlainBehind.{IsNoted}
 use Rattle.saphyr_scanner.proofs.Taken.Candidates.{KeyAbove, LevelsAbove, Above}
-use Rattle.saphyr_scanner.proofs.Taken.Cores.{HoldsTaken, KeepsBrackets, surroundings, outermost, holds_put, next_put, quiet_opens, quiet_put, loud_put}
+use Rattle.saphyr_scanner.proofs.Taken.Cores.{HoldsWithin, same_enclosures, surroundings, outermost, holds_put, next_put, quiet_opens, quiet_put, loud_put}
+use Rattle.saphyr_scanner.proofs.Taken.Neutral.{KeepsBrackets, Neutral}
 use Rattle.saphyr_scanner.proofs.Taken.Cores.{saved_keys, open_quiet, open_loud, indicator_is_passed}
-use Rattle.saphyr_scanner.proofs.Taken.Held.{Stands, keys_put, keys_weaken}
+use Rattle.saphyr_scanner.proofs.Taken.Held.{Stands, enclosure_of, enclosed_by, enclosures_of, Setting, FitsWithin}
+use Rattle.saphyr_scanner.proofs.Taken.Keys.{KeepsDepth, IsFreeOr, keeps_depth, leads_in, leads_out, lower, below_key, keys_put, keys_weaken}
+use Rattle.saphyr_scanner.proofs.Taken.InPlace.{deeper, awaited, MayOpen, free}
+use Rattle.saphyr_scanner.specs.TokensInPlace as place
+use Rattle.saphyr_scanner.specs.TokensInPlace.{Enclosure, Enclosed, Begun, Enclosures, with_begun, enclosures_behind, may_begin_key, is_of_flow_node, fits}
 use Rattle.saphyr_scanner.proofs.Taken.Later.{apart_later}
 use Rattle.saphyr_scanner.proofs.Taken.Parts.{is_quiet, Begins, opens_block, with_column}
 use Rattle.saphyr_scanner.proofs.Taken.Places.{Reaches, character_reached}
@@ -84,13 +89,15 @@ indicated x c u t stands apart begins inside ends is =
       token = λ _. (pass 1 c.cursor, is takes, apart);
     }
 
-putting : (n : Option ℕ) (k v : ℕ) (c d : Core) (t : Piece) → Reading k c t d.cursor → IsNoEnd t.kind
+putting : {A : Type 0} (within behind : Enclosures) (n : Option ℕ) (k v : ℕ) (c d : Core) (t : Piece)
+    → Reading k c t d.cursor → IsNoEnd t.kind
     → d.started ≡ c.started → d.ended ≡ c.ended → (c.comment ≡ None → IsNoted d.comment d.cursor)
     → open_blocks d ≤ open_blocks c + v
     → ((h : ℕ) → IsBeforePlace h n → Above h c → Above h d)
-    → (TextLaws → (opened : Collections) (from : Cursor) (q : Queue) → IsNextPlace n c q → HoldsTaken opened from c q
-    → HoldsTaken opened from d (with_piece t q)) → Does n k (1 + v) c d (Put t ∷ [])
-putting n k v c d t r e s f m few above holds = record {
+    → (A → TextLaws → (opened : Setting) (from : Cursor) (q : Queue) → IsNextPlace n c q
+    → HoldsWithin within opened from c q → HoldsWithin behind opened from d (with_piece t q))
+    → DoesWithin A within behind n k (1 + v) c d (Put t ∷ [])
+putting within behind n k v c d t r e s f m few above holds = record {
   less = r.less;
   ahead = λ laws. (r.span laws).ahead;
   puts = λ laws. let w = r.span laws in (w.begins, w.inside, w.ends);
@@ -103,33 +110,68 @@ putting n k v c d t r e s f m few above holds = record {
   noted = m;
 }
 
--- one that doesn't change which block collections are open
-pub quiet : (k : ℕ) (c : Core) (t : Piece) (u : Cursor) → is_quiet t.kind ≡ true → KeepsBrackets t → IsNoEnd t.kind
-    → Reading k c t u → Does None k 1 c (with_cursor u c) (Put t ∷ [])
-quiet k c t u q b e r =
-    putting None k 0 c (with_cursor u c) t r e refl refl (λ m. inl m) (omega arith) (λ h _ a. a)
-    (λ laws opened from p _ h.
+-- one that doesn't change which block collections and brackets are open
+pub quiet_within : {A : Type 0} (within : Enclosures) (k : ℕ) (c : Core) (t : Piece) (u : Cursor)
+    → is_quiet t.kind ≡ true → KeepsBrackets t → KeepsDepth t → IsFreeOr t c.level.key → (A → FitsWithin within t)
+    → IsNoEnd t.kind → Reading k c t u
+    → DoesWithin A within (enclosures_behind t.kind t.span within) None k 1 c (with_cursor u c) (Put t ∷ [])
+quiet_within within k c t u q b depth own fit e r =
+    putting within (enclosures_behind t.kind t.span within) None k 0 c (with_cursor u c) t r e refl refl (λ m. inl m)
+    (omega arith) (λ h _ a. a)
+    (λ premise laws opened from p _ h.
     let w = r.token laws in
-    quiet_put opened from c (with_cursor u c) p t c.cursor w.0 q b (taken.nothing c.cursor.mark c.cursor.rest) w.1 w.2
+    quiet_put within opened from c (with_cursor u c) p t c.cursor w.0 q b depth own (fit premise)
+    (taken.nothing c.cursor.mark c.cursor.rest) w.1 w.2
     (record { level = refl; outer = refl; indent = refl; outer_indents = refl }) h)
 
+-- one that changes nothing
+pub quiet : {A : Type 0} (k : ℕ) (c : Core) (t : Piece) (u : Cursor) → is_quiet t.kind ≡ true → Neutral t
+    → IsFreeOr t c.level.key → IsNoEnd t.kind → Reading k c t u → Does A None k 1 c (with_cursor u c) (Put t ∷ [])
+quiet k c t u q b own e r =
+    encloses (sym (b.encloses (enclosure_of c.level.context) (enclosed_by c.outer)))
+    (quiet_within (enclosures_of c) k c t u q b.brackets b.depth own (λ _. b.fits (enclosure_of c.level.context)) e r)
+
 -- a block collection begins, where no token may be a key any more
-pub block_begins : (c : Core) (kind : Kind) → IsNoEnd kind
-    → ((i : Surroundings) (span : Span) (s t : Cursor) → IsBlockStart span s t → IsToken i kind span s t)
+pub block_begins : {A : Type 0} (e : Enclosure) (outside : List Enclosed) (c : Core) (kind : Kind) (g : Begun)
+    → IsNoEnd kind
+    → ((i : Surroundings) (span : Span) (s t : Cursor) → IsBlockStart i.indent span s t → IsToken i kind span s t)
     → ((span : Span) (opened : Collections) → open_behind kind span opened ≡ with_column span.start.col opened)
-    → in_block c ≡ true → IsTrue (begins_text (slice_index c.cursor.rest 0))
-    → Does None 0 3 c (forget_key (enter_block c.cursor.mark.col c)) (at_mark c.cursor.mark kind ∷ [])
-block_begins c kind e is opens b first =
+    → ((span : Span) → enclosures_behind kind span (free e outside) ≡ with_begun g (free e outside))
+    → ((span : Span) → IsTrue (fits e kind span))
+    → in_block c ≡ true → c.indent ≤ c.cursor.mark.col → IsTrue (begins_text (slice_index c.cursor.rest 0))
+    → DoesWithin A (free e outside) (with_begun g (free e outside)) None 0 3 c
+    (forget_key (enter_block c.cursor.mark.col c)) (at_mark c.cursor.mark kind ∷ [])
+block_begins e outside c kind g n is opens begins fit b right first =
     let d : Core = forget_key (enter_block c.cursor.mark.col c) in
+    let within = free e outside in
     let none : AreApart c.cursor c.cursor = taken.nothing c.cursor.mark c.cursor.rest in
+    let t = empty_piece c.cursor.mark kind in
     let token = is (surroundings c) (record { start = c.cursor.mark; end = c.cursor.mark }) c.cursor c.cursor
-    (refl, refl, refl, first) in
-    putting None 0 2 c d (empty_piece c.cursor.mark kind) (empty_reading c kind token) e refl refl (λ m. inl m)
-    (let y = one_at_most (c.cursor.mark.col + 1) in omega (arith, y)) (λ h _ a. (tt, a.1)) (λ _ opened from q _ h.
-    loud_put opened from c d q (empty_piece c.cursor.mark kind) c.cursor c.cursor none token none
+    (refl, refl, refl, first, right) in
+    encloses (sym (begins t.span))
+    (putting within (enclosures_behind kind t.span within) None 0 2 c d t (empty_reading c kind token) n refl refl
+    (λ m. inl m)
+    (let y = one_at_most (c.cursor.mark.col + 1) in omega (arith, y)) (λ h _ a. (tt, a.1)) (λ _ _ opened from q _ h.
+    loud_put within opened from c d q t c.cursor c.cursor
+    none token none
     (λ x k. subst (λ (l : Collections). Stands l d)
     (sym (opens (record { start = c.cursor.mark; end = c.cursor.mark }) x))
-    ((refl, k.0), k.1)) refl (outermost opened from c q h b) b h)
+    ((refl, k.0), k.1)) (fit t.span) refl (outermost within opened from c q h b) b h))
+
+-- outside flow a token that changes nothing that is open, where no token may be a key
+pub loud : {A : Type 0} (within : Enclosures) (k : ℕ) (c : Core) (t : Piece) (u : Cursor)
+    → ((opened : Collections) → open_behind t.kind t.span opened ≡ opened) → FitsWithin within t → IsNoEnd t.kind
+    → in_block c ≡ true → c.level.key ≡ None → Reading k c t u
+    → DoesWithin A within (enclosures_behind t.kind t.span within) None k 1 c (with_cursor u c) (Put t ∷ [])
+loud within k c t u same fit e b none r =
+    let d : Core = with_cursor u c in
+    putting within (enclosures_behind t.kind t.span within) None k 0 c d t r e refl refl (λ m. inl m) (omega arith)
+    (λ h _ a. a)
+    (λ _ laws opened from q _ h.
+    let w = r.token laws in
+    loud_put within opened from c d q t c.cursor w.0 (taken.nothing c.cursor.mark c.cursor.rest) w.1 w.2
+    (λ x k. subst (λ (l : Collections). Stands l d) (sym (same x)) k) fit none
+    (outermost within opened from c q h b) b h)
 
 -- ## A key is saved
 
@@ -154,60 +196,81 @@ pub saved_above : (h n : ℕ) (c : Core) (l : Level) → IsSaved n c l → h ≤
 saved_above h n c l (inl e) i a = let P : Level → Type 0 = λ x. KeyAbove h x.key in subst P (sym e) a
 saved_above h n c l (inr e) i a = let P : Level → Type 0 = λ x. KeyAbove h x.key in subst P (sym e) i
 
+pub saved_around : (n : ℕ) (c d : Core) → IsSaved n c d.level → around d ≡ around c
+    → enclosures_of d ≡ enclosures_of c
+saved_around n c d s a =
+    same_enclosures c d
+    (elim s [ inl e ↦ ap (λ (l : Level). l.context) e | inr e ↦ ap (λ (l : Level). l.context) e ])
+    (ap (λ (x : Around). x.outer) a)
+
 -- the token that may be a key
-pub saved : (n : ℕ) (c d : Core) (t : Piece) → IsSaved n c d.level → around d ≡ around c
-    → (c.comment ≡ None → IsNoted d.comment d.cursor) → is_quiet t.kind ≡ true → KeepsBrackets t → IsNoEnd t.kind
-    → Begins t → t.span.start ≡ c.cursor.mark → Reading 1 c t d.cursor → Does (Some n) 1 5 c d (Put t ∷ [])
-saved n c d t s a m q b e begins start h =
+pub saved : {A : Type 0} (n : ℕ) (c d : Core) (t : Piece) → IsSaved n c d.level → around d ≡ around c
+    → (c.comment ≡ None → IsNoted d.comment d.cursor) → is_quiet t.kind ≡ true → Neutral t
+    → IsTrue (is_of_flow_node t.kind t.span) → IsNoEnd t.kind
+    → Begins t → t.span.start ≡ c.cursor.mark → Reading 1 c t d.cursor → Does A (Some n) 1 5 c d (Put t ∷ [])
+saved n c d t s a m q b node e begins start h =
     let outer = ap (λ (x : Around). x.outer) a in
     let indent = ap (λ (x : Around). x.indent) a in
     let indents = ap (λ (x : Around). x.outer_indents) a in
     let blocks : open_blocks d ≡ open_blocks c =
     ap (λ (x : Around). at_most_one x.indent + length x.outer_indents) a in
-    putting (Some n) 1 4 c d t h e (ap (λ (x : Around). x.started) a) (ap (λ (x : Around). x.ended) a) m
+    let within = enclosures_of c in
+    encloses (saved_around n c d s a ∙ sym (b.encloses (enclosure_of c.level.context) (enclosed_by c.outer)))
+    (putting within (enclosures_behind t.kind t.span within) (Some n) 1 4 c d t h e
+    (ap (λ (x : Around). x.started) a) (ap (λ (x : Around). x.ended) a) m
     (omega (arith, blocks))
     (λ i l x. let P : List Level → Type 0 = λ ls. LevelsAbove i ls in
     (saved_above i n c d.level s l x.0, subst P (sym outer) x.1))
-    (λ laws opened from p i k.
+    (λ _ laws opened from p i k.
     let w = h.token laws in
     let Q : ℕ → Type 0 = λ j. IsSaved j c d.level in
     record {
-      taken = holds_put opened from c d p t c.cursor w.0 (taken.nothing c.cursor.mark c.cursor.rest) w.1 w.2
-          (quiet_opens t c d q indent indents (λ x z. b x ∙ z ∙ sym (ap length outer))) k;
-      keys = saved_keys c p t (with_cursor c.cursor d) q begins start i.1
+      taken = holds_put within opened from c d p t c.cursor w.0 (taken.nothing c.cursor.mark c.cursor.rest) w.1 w.2
+          (quiet_opens t c d q indent indents (λ x z. b.brackets x ∙ z ∙ sym (ap length outer)))
+          (b.fits (enclosure_of c.level.context)) k;
+      keys = saved_keys 0 c p t (with_cursor c.cursor d) q node (b.depth 0)
+          (keeps_depth t c.level c.outer (inr node) b.depth) begins start i.1
           (record { level = subst Q i.0 s; cursor = refl; outer = outer; indent = indent; outer_indents = indents })
           k.keys;
-    })
+    }))
 
 -- ## A bracket
 
 -- the token that opens a flow collection, and may be a key
-pub entered : (n : ℕ) (x : Context) (c d : Core) (t : Piece) → is_block x ≡ false → IsSaved n c d.level
+pub entered : {A : Type 0} (n : ℕ) (x : Context) (c d : Core) (t : Piece) → is_block x ≡ false → IsSaved n c d.level
     → around d ≡ around c → (c.comment ≡ None → d.comment ≡ None) → is_quiet t.kind ≡ true
     → ((opened : Collections) → (open_behind t.kind t.span opened).brackets ≡ opened.brackets + 1)
+    → ((all : Enclosures) → enclosures_behind t.kind t.span all ≡ place.entered (enclosure_of x) all)
+    → ((e : ℕ) → deeper t.kind t.span e ≡ suc e) → IsTrue (is_of_flow_node t.kind t.span)
+    → ((e : Enclosure) → IsTrue (fits e t.kind t.span))
     → IsNoEnd t.kind → Begins t → t.span.start ≡ c.cursor.mark → Reading 1 c t d.cursor
-    → Does (Some n) 1 5 c (flow.enter x d) (Put t ∷ [])
-entered n x c d t flows s a m q b e begins start h =
+    → Does A (Some n) 1 5 c (flow.enter x d) (Put t ∷ [])
+entered n x c d t flows s a m q b enters depth node fit e begins start h =
     let r : Core = flow.enter x d in
     let outer = ap (λ (x : Around). x.outer) a in
     let indent = ap (λ (x : Around). x.indent) a in
     let indents = ap (λ (x : Around). x.outer_indents) a in
     let blocks : open_blocks r ≡ open_blocks c =
     ap (λ (x : Around). at_most_one x.indent + length x.outer_indents) a in
-    putting (Some n) 1 4 c r t h e (ap (λ (x : Around). x.started) a) (ap (λ (x : Around). x.ended) a)
+    let within = enclosures_of c in
+    encloses (ap (place.entered (enclosure_of x)) (saved_around n c d s a) ∙ sym (enters within))
+    (putting within (enclosures_behind t.kind t.span within) (Some n) 1 4 c r t h e (ap (λ (x : Around). x.started) a)
+    (ap (λ (x : Around). x.ended) a)
     (λ f. inl (m f)) (omega (arith, blocks))
     (λ i l y. let P : List Level → Type 0 = λ ls. LevelsAbove i ls in
     (tt, (saved_above i n c d.level s l y.0, subst P (sym outer) y.1)))
-    (λ laws opened from p i k.
+    (λ _ laws opened from p i k.
     let w = h.token laws in
     let Q : ℕ → Type 0 = λ j. IsSaved j c d.level in
     record {
-      taken = holds_put opened from c r p t c.cursor w.0 (taken.nothing c.cursor.mark c.cursor.rest) w.1 w.2
-          (quiet_opens t c r q indent indents (λ y z. b y ∙ (let l = ap length outer in omega (arith, z, l)))) k;
+      taken = holds_put within opened from c r p t c.cursor w.0 (taken.nothing c.cursor.mark c.cursor.rest) w.1 w.2
+          (quiet_opens t c r q indent indents (λ y z. b y ∙ (let l = ap length outer in omega (arith, z, l))))
+          (fit (enclosure_of c.level.context)) k;
       keys = (
         flows,
         tt,
-        saved_keys c p t (with_cursor c.cursor d) q begins start i.1
+        saved_keys 1 c p t (with_cursor c.cursor d) q node (depth 0) (leads_in t (c.level ∷ c.outer) 0 node depth)
+            begins start i.1
             (record {
               level = subst Q i.0 s;
               cursor = refl;
@@ -216,34 +279,43 @@ entered n x c d t flows s a m q b e begins start h =
               outer_indents = indents;
             }) k.keys,
       );
-    })
+    }))
 
 -- the token that closes a flow collection, which is left for the level around it
-pub left : (c : Core) (l : Level) (ls : List Level) (t : Piece) (u : Cursor) → Left c l ls → is_quiet t.kind ≡ true
+pub left : {A : Type 0} (within : Enclosures) (c : Core) (l : Level) (ls : List Level) (t : Piece) (u : Cursor)
+    → Left c l ls → is_quiet t.kind ≡ true
     → ((opened : Collections) → (open_behind t.kind t.span opened).brackets ≡ opened.brackets - 1)
+    → ((e : ℕ) → deeper t.kind t.span (suc e) ≡ e) → FitsWithin within t
     → IsNoEnd t.kind → Reading 1 c t u
-    → Does None 1 1 c (record c { cursor = u; level = l; outer = ls; key_allowed = false }) (Put t ∷ [])
-left c l ls t u z q b e h =
+    → DoesWithin A within (enclosures_behind t.kind t.span within) None 1 1 c
+    (record c { cursor = u; level = l; outer = ls; key_allowed = false }) (Put t ∷ [])
+left within c l ls t u z q b depth fit e h =
     let d : Core = record c { cursor = u; level = l; outer = ls; key_allowed = false } in
-    putting None 1 0 c d t h e refl refl (λ m. inl m) (omega arith) (λ i _ a. z.above i a.1)
-    (λ laws opened from p _ k.
+    putting within (enclosures_behind t.kind t.span within) None 1 0 c d t h e refl refl (λ m. inl m) (omega arith)
+    (λ i _ a. z.above i a.1)
+    (λ _ laws opened from p _ k.
     let w = h.token laws in
     let n = next_put t p in
+    let r = with_piece t p in
+    let outers = keys_weaken 1 (lower (next p) c.level.key) (next r) p c.indent c.outer
+    (let j = below_key 0 (next p) p (is_block c.level.context) c.indent c.level.key k.keys.1 in omega (arith, n, j))
+    k.keys.2 in
     record {
-      taken = holds_put opened from c d p t c.cursor w.0 (taken.nothing c.cursor.mark c.cursor.rest) w.1 w.2
-          (quiet_opens t c d q refl refl (λ y v. b y ∙ ap (λ i. i - 1) v ∙ sym z.fewer)) k;
-      keys = keys_weaken (next p) (next (with_piece t p)) (with_piece t p) c.indent (l ∷ ls) (omega (arith, n))
-          (keys_put (next p) p c.indent (l ∷ ls) t q (z.keys p k.keys));
+      taken = holds_put within opened from c d p t c.cursor w.0 (taken.nothing c.cursor.mark c.cursor.rest) w.1 w.2
+          (quiet_opens t c d q refl refl (λ y v. b y ∙ ap (λ i. i - 1) v ∙ sym z.fewer)) fit k;
+      keys = z.keys (next r) r (keys_put 1 0 (next r) p c.indent c.outer t q (leads_out t c.outer 0 depth) outers);
     })
 
 -- ## A candidate turns out to be a key
 
-opens : (v : ℕ) (c d : Core) (k : Candidate) (o : Opening) → d.cursor ≡ c.cursor → c.level.key ≡ Some k
+opens : {A : Type 0} (within behind : Enclosures) (v : ℕ) (c d : Core) (k : Candidate) (o : Opening)
+    → d.cursor ≡ c.cursor → c.level.key ≡ Some k
     → d.level.key ≡ None → d.outer ≡ c.outer → d.started ≡ c.started → d.ended ≡ c.ended → NoComment c d
     → open_blocks d ≤ open_blocks c + v
-    → ((opened : Collections) (from : Cursor) (q : Queue) → HoldsTaken opened from c q
-    → HoldsTaken opened from d (with_opening k.place o q)) → Does None 0 (2 + v) c d (Open k.place o ∷ [])
-opens v c d k o e key none outer s f m few holds =
+    → ((opened : Setting) (from : Cursor) (q : Queue) → HoldsWithin within opened from c q
+    → HoldsWithin behind opened from d (with_opening k.place o q))
+    → DoesWithin A within behind None 0 (2 + v) c d (Open k.place o ∷ [])
+opens within behind v c d k o e key none outer s f m few holds =
     let l = ap (λ (u : Cursor). length u.rest) e in
     let i = ap (λ (u : Cursor). u.mark.index) e in
     record {
@@ -258,21 +330,27 @@ opens v c d k o e key none outer s f m few holds =
           let P : Option Candidate → Type 0 = λ y. KeyAbove h y in
           let Q : List Level → Type 0 = λ ls. LevelsAbove h ls in
           ((subst P (sym none) tt, subst Q (sym outer) x.1), (subst P key x.0, tt));
-      holds = λ _ opened from q _ h. holds opened from q h;
+      holds = λ _ _ opened from q _ h. holds opened from q h;
       noted = λ g. inl (m g);
     }
 
 -- a key alone, or in flow with its mapping
-pub key_opens : (c : Core) (k : Candidate) (o : Opening) → opens_block o ≡ false → c.level.key ≡ Some k
-    → Does None 0 2 c (forget_key c) (Open k.place o ∷ [])
-key_opens c k o e is =
-    opens 0 c (forget_key c) k o refl is refl refl refl refl (λ n. n) (omega arith)
-    (λ opened from q h. open_quiet opened from c q k o e is h)
+pub key_opens : {A : Type 0} (e : Enclosure) (outside : List Enclosed) (c : Core) (k : Candidate) (o : Opening)
+    → opens_block o ≡ false → MayOpen o e → (in_block c ≡ true → k.mark.col < c.indent) → c.level.key ≡ Some k
+    → DoesWithin A (free e outside) (awaited o k.mark (free e outside)) None 0 2 c (forget_key c)
+    (Open k.place o ∷ [])
+key_opens e outside c k o n m left is =
+    opens (free e outside) (awaited o k.mark (free e outside)) 0 c (forget_key c) k o refl is refl refl refl refl
+    (λ i. i) (omega arith)
+    (λ opened from q h. open_quiet e outside opened from c q k o n m left is h)
 
 -- a block mapping and a key
-pub mapping_opens : (c : Core) (k : Candidate) → in_block c ≡ true → c.level.key ≡ Some k
-    → Does None 0 4 c (forget_key (enter_block k.mark.col c)) (Open k.place opening.BlockMappingAndKey ∷ [])
-mapping_opens c k b is =
-    opens 2 c (forget_key (enter_block k.mark.col c)) k opening.BlockMappingAndKey refl is refl refl refl refl (λ n. n)
+pub mapping_opens : {A : Type 0} (e : Enclosure) (outside : List Enclosed) (c : Core) (k : Candidate)
+    → in_block c ≡ true → IsTrue (may_begin_key e) → c.indent ≤ k.mark.col → c.level.key ≡ Some k
+    → DoesWithin A (free e outside) (awaited opening.BlockMappingAndKey k.mark (free e outside)) None 0 4 c
+    (forget_key (enter_block k.mark.col c)) (Open k.place opening.BlockMappingAndKey ∷ [])
+mapping_opens e outside c k b may right is =
+    opens (free e outside) (awaited opening.BlockMappingAndKey k.mark (free e outside)) 2 c
+    (forget_key (enter_block k.mark.col c)) k opening.BlockMappingAndKey refl is refl refl refl refl (λ n. n)
     (let y = one_at_most (k.mark.col + 1) in omega (arith, y))
-    (λ opened from q h. open_loud opened from c q k b is h)
+    (λ opened from q h. open_loud e outside opened from c q k b may right is h)

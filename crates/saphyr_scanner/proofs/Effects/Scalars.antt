@@ -34,6 +34,7 @@ use Rattle.saphyr_scanner.proofs.PlainBehind.{EndsUnbroken, plain_ends}
 use Rattle.saphyr_scanner.proofs.Reached.{apart_reached, passed_reached}
 use Rattle.saphyr_scanner.proofs.Steps.Choice.{NoIndicator}
 use Rattle.saphyr_scanner.proofs.Taken.Cores.{surroundings}
+use Rattle.saphyr_scanner.proofs.Taken.Neutral.{neutral}
 use Rattle.saphyr_scanner.proofs.Taken.Later.{apart_later}
 use Rattle.saphyr_scanner.proofs.Taken.Parts.{is_quiet}
 use Rattle.saphyr_scanner.proofs.Taken.Places.{Reaches, reaches_reaches, at_here}
@@ -113,7 +114,8 @@ quotes_do quote style quoting n c first l r s =
     let a = apart_later x.1.mark x.1.rest u.mark u.rest g.1.apart in
     let b = apart_later u.mark u.rest v.mark v.rest k.1 in
     saved n c (scalar.adjacent_here f) t (subst (λ m. IsSaved n c m) (sym (k.0.0 ∙ g.0.0)) s) (k.0.1 ∙ g.0.1)
-    (λ m. inl (k.0.2 (g.0.2 m))) (quoting.quiet x.0) (λ z. refl) (λ i. absurd (cc)) (λ i. quoting.of i x.0 t.span) refl
+    (λ m. inl (k.0.2 (g.0.2 m))) (quoting.quiet x.0) (neutral _ t.span refl) refl (λ i. absurd (cc))
+    (λ i. quoting.of i x.0 t.span) refl
     (record {
       less = λ laws. let z = quoting.less laws low here x.1 x.0 first e in
           omega (arith, z, a.index, a.counted, b.index, b.counted);
@@ -243,7 +245,8 @@ plain_does n c starts =
     (λ e q laws. at_inside here e (laws.0.plain f c.indent here e q))) (λ x e.
     let ends = given_of EndsUnbroken (words.plain f c.indent here) x (plain_ends f c.indent here) e in
     let t : Piece = record { span = record { start = here.mark; end = x.1 }; kind = tokens.Scalar Plain x.0 } in
-    saved n c (scalar.behind_plain x.2 x.3 d) t s refl (λ _. ends.0) refl (λ z. refl) (λ i. absurd (cc))
+    saved n c (scalar.behind_plain x.2 x.3 d) t s refl (λ _. ends.0) refl (neutral _ t.span refl) refl
+    (λ i. absurd (cc))
     (λ i a b k. (k.start, plain_begins (slice_index a.rest 0) k.begins k.is_ink)) refl
     (record {
       less = λ laws. let z = laws.plain f c.indent here x.3 x.0 x.1 x.2 e in omega (arith, z);
@@ -296,7 +299,7 @@ block_does style n c b some f =
         few = omega arith;
         keeps = λ h a. ((saved_above h n c l s a.0 a.1.0, a.1.1), tt);
       };
-      fetched = λ laws text small opened from q later g deep k.
+      fetched = λ laws text small opened from q later g arrival k.
           let Q : ℕ → Type 0 = λ j. IsSaved j c l in
           block_fetched laws text small opened from q style c d later
           (record { level = subst Q g s; cursor = refl; outer = refl; indent = refl; outer_indents = refl }) k b

@@ -1,9 +1,10 @@
 -- What a colon does.
-use Rattle.std.proofs.Common.{◌≡◌, ℕ, ◌+◌, Bool, true, false, List, [], ◌∷◌, ◌++◌, Option, Some, None, refl, sym, ap, ◌∙◌, arith, inl, inr}
-use Rattle.std.specs.Prelude.{◌&&◌, ◌||◌, ◌==◌, slice_index, not, nat_lt, if◌then◌else◌}
+use Rattle.std.proofs.Common.{◌≡◌, ℕ, ◌+◌, Bool, true, false, List, [], ◌∷◌, ◌++◌, Option, Some, None, refl, sym, ap, ◌∙◌, arith, inl, inr, ◌≤◌, ◌<◌}
+use Rattle.std.specs.Prelude.{◌-◌, ◌&&◌, ◌||◌, ◌==◌, slice_index, not, nat_lt, nat_le, if◌then◌else◌, IsTrue}
 use Rattle.saphyr_input.specs.Indicators.{colon}
 use Rattle.saphyr_input.specs.Classes.{is_alpha, is_blank_or_breakz}
 use Rattle.saphyr_input.specs.Separation.{has_valid_yaml_ws}
+use Rattle.saphyr_scalar.specs.declared.scalar.position.Marker.{Marker}
 use Rattle.saphyr_scalar.specs.Views.Cursor.{Cursor, pass}
 use Rattle.saphyr_scanner.specs.declared.engine.level.Context.{Context}
 use Rattle.saphyr_scanner.specs.declared.engine.level.Context.TheVariants as context
@@ -11,26 +12,31 @@ use Rattle.saphyr_scanner.specs.declared.queue.Opening.{Opening}
 use Rattle.saphyr_scanner.specs.declared.queue.Opening.TheVariants as opening
 use Rattle.saphyr_scanner.specs.Grammar.Tokens as tokens
 use Rattle.saphyr_scanner.specs.Steps.Queue.{empty_piece}
-use Rattle.saphyr_scanner.specs.Steps.Core.{Core, Action, Open, at_mark, in_block, forget_key, go_deeper, is_further, enter_block, with_context}
+use Rattle.saphyr_scanner.specs.Steps.Core.{Core, Action, Step, Open, at_mark, in_block, is_too_far, forget_key, go_deeper, is_further, enter_block, with_context}
 use Rattle.saphyr_scanner.specs.Steps.Level.{Candidate, Level, is_block, begins_pair, behind_colon}
 use Rattle.saphyr_scanner.specs.Steps.Passing.{separate, pass_on, with_cursor}
 use Rattle.saphyr_scanner.specs.Steps.Value as value
 use Rattle.saphyr_scanner.specs.Steps.Fetch as fetching
 use Rattle.saphyr_scanner.specs.TokensTaken as taken
 use Rattle.saphyr_scanner.specs.TokensTaken.{AreApart, Collections}
-use Rattle.saphyr_scanner.proofs.Effects.Moves.{Does, and_then, Around, Same, same, lesser, still}
-use Rattle.saphyr_scanner.proofs.Effects.Puts.{empty_reading, IndicatorStands, passes, indicated, quiet, block_begins, key_opens}
+use Rattle.saphyr_scanner.specs.TokensInPlace as place
+use Rattle.saphyr_scanner.specs.TokensInPlace.{Enclosure, Enclosed, Enclosures, turned_to, awaiting_colon, behind_pair_colon, may_begin_pair, may_begin_key, with_begun, is_near}
+use Rattle.saphyr_scanner.proofs.Effects.Moves.{DoesWithin, encloses, and_then, Around, Same, same, same_around, lesser, still_within}
+use Rattle.saphyr_scanner.proofs.Effects.Puts.{empty_reading, IndicatorStands, passes, indicated, quiet_within, block_begins, key_opens}
 use Rattle.saphyr_scanner.proofs.Effects.Puts.{mapping_opens}
 use Rattle.saphyr_scanner.proofs.Effects.Walked.{Premises, Walked, walked_then, walked_map, at_most, Doing, at_reach}
 use Rattle.saphyr_scanner.proofs.Effects.Walked.{separate_walked}
 use Rattle.saphyr_scanner.proofs.Reached.{apart_reached}
-use Rattle.saphyr_scanner.proofs.Taken.Cores.{by_bool, further_block}
+use Rattle.saphyr_scanner.proofs.Taken.Cores.{by_bool, further_block, further_right, no_further}
+use Rattle.saphyr_scanner.proofs.Taken.Keys.{IsArrival}
+use Rattle.saphyr_scanner.proofs.Taken.Held.{enclosure_of, enclosed_by, enclosures_of, FitsWithin}
+use Rattle.saphyr_scanner.proofs.Taken.InPlace.{no_text, free}
 use Rattle.saphyr_scanner.proofs.Taken.Later.{apart_later}
-use Rattle.saphyr_scanner.proofs.Taken.Parts.{opens_block, pair_starts}
+use Rattle.saphyr_scanner.proofs.Taken.Parts.{pair_starts}
 use Rattle.saphyr_scanner.proofs.Taken.Places.{Reaches, reaches_reaches, at_here}
 use Rattle.saphyr_input.proofs.Basics.Booleans.{by_test}
 use Rattle.saphyr_input.proofs.Basics.Lists.{second_is}
-use Rattle.std.proofs.lemmas.Bool.{not-false}
+use Rattle.std.proofs.lemmas.Bool.{not-false, ltb-false, le-leb}
 
 -- behind the colon, where what is known stays
 abbrev Behind : Core → Core → Type 0
@@ -75,102 +81,242 @@ no_key l e = ap (λ k. let m : Level = record { context = l.context; key = k } i
 block_same : (c d : Core) → Same c d → in_block d ≡ true → in_block c ≡ true
 block_same c d s e = ap (λ (l : Level). is_block l.context) (sym s.0) ∙ e
 
+left_same : (column : ℕ) (c d : Core) → Same c d → is_further column d ≡ false → in_block c ≡ true
+    → column < c.indent
+left_same column c d s e b =
+    let i = ap (λ (x : Around). x.indent) s.1 in
+    let l = no_further column d e (ap (λ (x : Level). is_block x.context) s.0 ∙ b) in omega (arith, i, l)
+
+right_same : (column : ℕ) (c d : Core) → Same c d → is_further column d ≡ true → c.indent ≤ column
+right_same column c d s e =
+    let i = ap (λ (x : Around). x.indent) s.1 in let r = further_right column d e in omega (arith, i, r)
+
 key_same : (c d : Core) (o : Option Candidate) → Same c d → d.level.key ≡ o → c.level.key ≡ o
 key_same c d o s e = ap (λ (l : Level). l.key) (sym s.0) ∙ e
 
 -- ## The colon
 
+-- what encloses the tokens behind a colon
+abbrev behind_value : Enclosures → Enclosures
+behind_value all = turned_to (behind_pair_colon all.inner.enclosure) all
+
 -- outside flow a blank, a break, NUL or the end follows the colon
 abbrev pub IsParted : Core → Type 0
 IsParted c = in_block c ≡ true → is_blank_or_breakz (slice_index c.cursor.rest 1) ≡ true
 
--- from e, which stands before the colon
-colon_does : (e d : Core) (u : Cursor) → slice_index e.cursor.rest 0 ≡ colon → IsParted e → AreApart (pass 1 e.cursor) u
-    → Same e d → d.cursor ≡ u → Does None 1 1 e d (at_mark e.cursor.mark tokens.Value ∷ [])
-colon_does e d u first parted a s there =
+-- from e, which stands before the colon, where no key is a candidate
+colon_does : {A : Type 0} (within : Enclosures) (e d : Core) (u : Cursor) → slice_index e.cursor.rest 0 ≡ colon
+    → IsParted e → AreApart (pass 1 e.cursor) u → Same e d → d.cursor ≡ u → e.level.key ≡ None
+    → (A → FitsWithin within (empty_piece e.cursor.mark tokens.Value))
+    → DoesWithin A within (behind_value within) None 1 1 e d (at_mark e.cursor.mark tokens.Value ∷ [])
+colon_does within e d u first parted a s there none fit =
     let later = apart_later (pass 1 e.cursor).mark (pass 1 e.cursor).rest u.mark u.rest a in
+    let t = empty_piece e.cursor.mark tokens.Value in
     and_then (λ n. n)
-    (quiet 1 e (empty_piece e.cursor.mark tokens.Value) u refl (λ x. refl) (λ i. absurd (cc))
-    (indicated 58 e u (empty_piece e.cursor.mark tokens.Value) (record { some = refl; unbroken = refl; is = first }) a
+    (quiet_within within 1 e t u refl (λ x. refl) (λ x. refl) (inl none) fit (λ i. absurd (cc))
+    (indicated 58 e u t (record { some = refl; unbroken = refl; is = first }) a
     (omega arith) (omega arith) (omega (arith, later.index)) (λ t. (
       t,
       λ f. ap is_blank_or_breakz (second_is e.cursor.rest) ∙ parted (not-false (in_block e) f),
       refl,
       refl,
     ))))
-    (still (with_cursor u e) d s there)
+    (still_within (behind_value within) (with_cursor u e) d s there)
 
-key_does : (b c d : Core) (k : Candidate) (begins : Bool) → slice_index c.cursor.rest 0 ≡ colon → IsParted c
-    → Behind c d
-    → (begins ≡ true → in_block d ≡ false) → d.level.key ≡ Some k
-    → Walked (Premises b) (Doing None c) c.cursor (value.value_of_key k begins c.cursor.mark d)
+-- where a key is open the colon stands near it
+near_colon : (x : Context) (k : Candidate) (m : Marker) → (is_block x && is_too_far (Some k) m) ≡ false
+    → begins_pair x ≡ false → IsTrue (is_near (enclosure_of x) k.mark m)
+near_colon context.Block k m far e =
+    near (nat_lt k.mark.line m.line) (nat_lt 1024 (m.index - k.mark.index)) refl refl far
+  where
+    near : (a b : Bool) → nat_lt k.mark.line m.line ≡ a → nat_lt 1024 (m.index - k.mark.index) ≡ b
+        → (if a then true else b) ≡ false
+        → (nat_le m.line k.mark.line && nat_le m.index (k.mark.index + 1024)) ≡ true
+    near true b f g h = absurd (cc)
+    near false true f g h = absurd (cc)
+    near false false f g h =
+        let i = ltb-false k.mark.line m.line f in
+        let j = ltb-false 1024 (m.index - k.mark.index) g in
+        let line : nat_le m.line k.mark.line ≡ true = le-leb m.line k.mark.line i in
+        let index : nat_le m.index (k.mark.index + 1024) ≡ true =
+        le-leb m.index (k.mark.index + 1024) (omega (arith, j)) in
+        rw (line, index) refl
+near_colon context.FlowSequence k m far e = absurd (cc)
+near_colon context.FlowPair k m far e = absurd (cc)
+near_colon context.ExplicitFlowPair k m far e = refl
+near_colon context.MarkedFlowPair k m far e = refl
+near_colon context.FlowMapping k m far e = refl
+
+pair_near : (begins : Bool) (k m : Marker) → (begins && nat_lt k.line m.line) ≡ false → begins ≡ true
+    → IsTrue (nat_le m.line k.line)
+pair_near true k m e b = le-leb m.line k.line (ltb-false k.line m.line e)
+pair_near false k m e b = absurd (cc)
+
+-- what encloses the tokens behind the colon
+behind_alone : (x : Context) → begins_pair x ≡ false
+    → enclosure_of (behind_colon x) ≡ behind_pair_colon (enclosure_of x)
+behind_alone context.FlowSequence e = absurd (cc)
+behind_alone context.FlowPair e = absurd (cc)
+behind_alone context.Block e = refl
+behind_alone context.ExplicitFlowPair e = refl
+behind_alone context.MarkedFlowPair e = refl
+behind_alone context.FlowMapping e = refl
+
+behind_pair : (x : Context) → begins_pair x ≡ true → enclosure_of (behind_colon x) ≡ place.PairValue
+behind_pair context.FlowSequence e = refl
+behind_pair context.FlowPair e = refl
+behind_pair context.Block e = absurd (cc)
+behind_pair context.ExplicitFlowPair e = absurd (cc)
+behind_pair context.MarkedFlowPair e = absurd (cc)
+behind_pair context.FlowMapping e = absurd (cc)
+
+alone_may_begin : (x : Context) → begins_pair x ≡ false → IsTrue (may_begin_key (enclosure_of x))
+alone_may_begin context.FlowSequence e = absurd (cc)
+alone_may_begin context.FlowPair e = absurd (cc)
+alone_may_begin context.Block e = refl
+alone_may_begin context.ExplicitFlowPair e = refl
+alone_may_begin context.MarkedFlowPair e = refl
+alone_may_begin context.FlowMapping e = refl
+
+pair_may_begin : (x : Context) → begins_pair x ≡ true → IsTrue (may_begin_pair (enclosure_of x))
+pair_may_begin context.FlowSequence e = refl
+pair_may_begin context.FlowPair e = refl
+pair_may_begin context.Block e = absurd (cc)
+pair_may_begin context.ExplicitFlowPair e = absurd (cc)
+pair_may_begin context.MarkedFlowPair e = absurd (cc)
+pair_may_begin context.FlowMapping e = absurd (cc)
+
+-- What a colon does from c, where it turned the context to that behind the colon, and x enclosed the tokens before.
+abbrev Valued : Core → Context → Core → Step → Type 0
+Valued b x c y =
+    DoesWithin (IsArrival b) (free (enclosure_of x) (enclosed_by c.outer)) (enclosures_of y.core) None 1 5 c y.core
+    y.actions
+
+-- d is behind the colon
+record Turned (b : Core) (x : Context) (c d : Core) : Type 0 where
+  first : slice_index c.cursor.rest 0 ≡ colon
+  parted : IsParted c
+  behind : Behind c d
+  context : c.level.context ≡ behind_colon x
+  near : IsArrival b → (is_block x && is_too_far c.level.key c.cursor.mark) ≡ false
+  flows : begins_pair x ≡ true → in_block d ≡ false
+
+turned_encloses : (b : Core) (x : Context) (c d : Core) (e : Enclosure) → Turned b x c d
+    → enclosure_of (behind_colon x) ≡ e → enclosures_of d ≡ free e (enclosed_by c.outer)
+turned_encloses b x c d e t f =
+    same_around c d t.behind.0 ∙ ap (λ y. free (enclosure_of y) (enclosed_by c.outer)) t.context
+    ∙ ap (λ y. free y (enclosed_by c.outer)) f
+
+key_does : (b c d : Core) (x : Context) (k : Candidate) → Turned b x c d → d.level.key ≡ Some k
+    → Walked (Premises b) (Valued b x c) c.cursor (value.value_of_key k (begins_pair x) c.cursor.mark d)
 unfolding value.value_of_key
-key_does b c d k begins first parted g flows is =
+key_does b c d x k t is =
     let s = c.cursor in
     let u = d.cursor in
+    let g = t.behind in
+    let begins = begins_pair x in
+    let own = enclosure_of x in
+    let outside = enclosed_by c.outer in
     let known = key_same c d (Some k) g.0 is in
+    let near : begins ≡ false → IsArrival b → IsTrue (is_near own k.mark s.mark) =
+    λ e a. near_colon x k s.mark (ap (λ o. is_block x && is_too_far o s.mark) (sym known) ∙ t.near a) e in
     let Into : Bool → Core = λ f. record (forget_key (go_deeper (if f then enter_block k.mark.col d else d))) {
       key_allowed = false;
     } in
-    let alone : (o : Opening) → opens_block o ≡ false
-    → Does None 1 5 c (Into false) (Open k.place o ∷ at_mark s.mark tokens.Value ∷ []) =
-    λ o e. at_most (omega arith) (and_then (λ n. n) (key_opens c k o e known)
-    (colon_does (forget_key c) (Into false) u first parted g.1 (same_forgotten c d g.0) refl)) in
-    by_test (begins && nat_lt k.mark.line s.mark.line) _ _ (Walked (Premises b) (Doing None c) s) (λ _ _. at_here s)
-    (λ _. by_bool (is_further k.mark.col d)
-    (λ f. Does None 1 5 c (Into f) (Open k.place (if begins then opening.FlowMappingAndKey else if f then
-    opening.BlockMappingAndKey else opening.Key) ∷ at_mark s.mark tokens.Value ∷ []))
+    let From : Bool → Opening → Type 0 = λ f o. DoesWithin (IsArrival b) (free own outside) (enclosures_of (Into f))
+    None 1 5 c (Into f) (Open k.place o ∷ at_mark s.mark tokens.Value ∷ []) in
+    by_test (begins && nat_lt k.mark.line s.mark.line) _ _ (Walked (Premises b) (Valued b x c) s)
+    (λ _ _. at_here s)
+    (λ line. by_bool (is_further k.mark.col d)
+    (λ f. From f (if begins then opening.FlowMappingAndKey else if f then
+    opening.BlockMappingAndKey else opening.Key))
     (λ f. let inside = further_block k.mark.col d f in
-    by_test begins opening.FlowMappingAndKey opening.BlockMappingAndKey
-    (λ o. Does None 1 5 c (Into true) (Open k.place o ∷ at_mark s.mark tokens.Value ∷ []))
-    (λ e. absurd (let no = flows e in cc))
-    (λ _. and_then (λ n. n) (mapping_opens c k (block_same c d g.0 inside) known)
-    (colon_does (forget_key (enter_block k.mark.col c)) (Into true) u first parted g.1
-    (same_forgotten (enter_block k.mark.col c) (enter_block k.mark.col d) (same_blocks k.mark.col c d g.0)) refl)))
-    (λ _. by_test begins opening.FlowMappingAndKey opening.Key
-    (λ o. Does None 1 5 c (Into false) (Open k.place o ∷ at_mark s.mark tokens.Value ∷ []))
-    (λ _. alone opening.FlowMappingAndKey refl) (λ _. alone opening.Key refl)))
+    by_test begins opening.FlowMappingAndKey opening.BlockMappingAndKey (From true)
+    (λ e. absurd (let no = t.flows e in cc))
+    (λ e. encloses (turned_encloses b x c d (behind_pair_colon own) t (behind_alone x e))
+    (and_then (λ n. n) (mapping_opens own outside c k (block_same c d g.0 inside) (alone_may_begin x e)
+    (right_same k.mark.col c d g.0 f) known)
+    (colon_does (awaiting_colon k.mark (free own outside)) (forget_key (enter_block k.mark.col c)) (Into true) u t.first
+    t.parted g.1
+    (same_forgotten (enter_block k.mark.col c) (enter_block k.mark.col d) (same_blocks k.mark.col c d g.0)) refl refl
+    (near e)))))
+    (λ f. let left = left_same k.mark.col c d g.0 f in
+    by_test begins opening.FlowMappingAndKey opening.Key (From false)
+    (λ e. encloses (turned_encloses b x c d place.PairValue t (behind_pair x e))
+    (at_most (omega arith) (and_then (λ n. n)
+    (key_opens own outside c k opening.FlowMappingAndKey refl (pair_may_begin x e) left known)
+    (colon_does (awaiting_colon k.mark (free place.PairKey outside)) (forget_key c) (Into false) u t.first t.parted g.1
+    (same_forgotten c d g.0) refl refl (λ _. pair_near begins k.mark s.mark line e)))))
+    (λ e. encloses (turned_encloses b x c d (behind_pair_colon own) t (behind_alone x e))
+    (at_most (omega arith) (and_then (λ n. n)
+    (key_opens own outside c k opening.Key refl (alone_may_begin x e) left known)
+    (colon_does (awaiting_colon k.mark (free own outside)) (forget_key c) (Into false) u t.first t.parted g.1
+    (same_forgotten c d g.0) refl refl (near e)))))))
 
 -- ## Without a key
 
-alone_does : (b c d : Core) (begins : Bool) → slice_index c.cursor.rest 0 ≡ colon → IsParted c → Behind c d
-    → d.level.key ≡ None
-    → Walked (Premises b) (Doing None c) c.cursor (value.value_alone begins c.cursor.mark d)
+alone_does : (b c d : Core) (x : Context) → Turned b x c d → d.level.key ≡ None
+    → Walked (Premises b) (Valued b x c) c.cursor (value.value_alone (begins_pair x) c.cursor.mark d)
 unfolding value.value_alone value.opening_actions
-alone_does b c d begins first parted g none =
+alone_does b c d x t none =
     let s = c.cursor in
     let u = d.cursor in
+    let g = t.behind in
+    let begins = begins_pair x in
+    let own = enclosure_of x in
+    let outside = enclosed_by c.outer in
     let column = s.mark.col in
     let Into : Bool → Core = λ f. record (go_deeper (if f then enter_block column d else d)) {
       key_allowed = in_block d;
     } in
     let Starts : Bool → List Action = λ f. (if f then at_mark s.mark tokens.BlockMappingStart ∷ [] else [])
     ++ at_mark s.mark tokens.Value ∷ [] in
-    let value : Does None 1 4 c (Into (is_further column d)) (Starts (is_further column d)) =
-    by_bool (is_further column d) (λ f. Does None 1 4 c (Into f) (Starts f))
+    let further = is_further column d in
+    let free_key : c.level.key ≡ None = key_same c d None g.0 none in
+    let value : (e : Enclosure) → enclosure_of (behind_colon x) ≡ behind_pair_colon e
+    → DoesWithin (IsArrival b) (free e outside) (enclosures_of (Into further)) None 1 4 c (Into further)
+    (Starts further) = λ e same.
+    by_bool further
+    (λ f. DoesWithin (IsArrival b) (free e outside) (enclosures_of (Into f)) None 1 4 c (Into f) (Starts f))
     (λ f. let r = same_blocks column c d g.0 in
-    and_then (λ n. n)
-    (block_begins c tokens.BlockMappingStart (λ i. absurd (cc)) (λ i p v t h. h) (λ x y. refl)
-    (block_same c d g.0 (further_block column d f)) (ap taken.begins_text first))
-    (colon_does (forget_key (enter_block column c)) (Into true) u first parted g.1
-    (no_key d.level none ∙ ap (λ (l : Level). record { context = l.context; key = None }) g.0.0, r.1, r.2) refl))
-    (λ _. at_most (omega arith) (colon_does c (Into false) u first parted g.1 g.0 refl)) in
-    by_test (in_block d && not d.key_allowed) _ _ (Walked (Premises b) (Doing None c) s) (λ _ _. at_here s)
+    encloses (turned_encloses b x c d (behind_pair_colon e) t same)
+    (and_then (λ n. n)
+    (block_begins e outside c tokens.BlockMappingStart place.BlockMapping (λ i. absurd (cc)) (λ i p v t h. h)
+    (λ x y. refl) (λ p. refl) (λ p. refl)
+    (block_same c d g.0 (further_block column d f)) (right_same column c d g.0 f) (ap taken.begins_text t.first))
+    (colon_does (with_begun place.BlockMapping (free e outside)) (forget_key (enter_block column c)) (Into true) u
+    t.first t.parted g.1
+    (no_key d.level none ∙ ap (λ (l : Level). record { context = l.context; key = None }) g.0.0, r.1, r.2) refl refl
+    (λ _. refl))))
+    (λ _. encloses (turned_encloses b x c d (behind_pair_colon e) t same)
+    (at_most (omega arith)
+    (colon_does (free e outside) c (Into false) u t.first t.parted g.1 g.0 refl free_key (λ _. refl)))) in
+    by_test (in_block d && not d.key_allowed) _ _ (Walked (Premises b) (Valued b x c) s) (λ _ _. at_here s)
     (λ _. by_bool begins
-    (λ f. Does None 1 5 c (Into (is_further column d))
-    ((if f then at_mark s.mark tokens.FlowMappingStart ∷ [] else []) ++ Starts (is_further column d)))
-    (λ _. and_then (λ n. n)
-    (quiet 0 c (empty_piece s.mark tokens.FlowMappingStart) s refl
-    (λ x. ap (λ (y : Collections). y.brackets) (pair_starts s.mark x)) (λ i. absurd (cc))
-    (empty_reading c tokens.FlowMappingStart (inr (refl, inl refl, refl)))) value)
-    (λ _. at_most (omega arith) value))
+    (λ f. DoesWithin (IsArrival b) (free own outside) (enclosures_of (Into further)) None 1 5 c (Into further)
+    ((if f then at_mark s.mark tokens.FlowMappingStart ∷ [] else []) ++ Starts further))
+    (λ e. and_then (λ n. n)
+    (pair_begins own outside c free_key (pair_may_begin x e)) (value place.PairKey (behind_pair x e)))
+    (λ e. at_most (omega arith) (value own (behind_alone x e))))
+  where
+    pair_begins : (e : Enclosure) (outside : List Enclosed) (c : Core) → c.level.key ≡ None
+        → IsTrue (may_begin_pair e)
+        → DoesWithin (IsArrival b) (free e outside) (free place.PairKey outside) None 0 1 c c
+        (at_mark c.cursor.mark tokens.FlowMappingStart ∷ [])
+    pair_begins e outside c none may =
+        let t = empty_piece c.cursor.mark tokens.FlowMappingStart in
+        let no = no_text c.cursor.mark.index in
+        encloses (rw no refl)
+        (quiet_within (free e outside) 0 c t c.cursor refl
+        (λ x. ap (λ (y : Collections). y.brackets) (pair_starts c.cursor.mark x)) (λ x. rw no refl) (inl none)
+        (λ _. rw no may) (λ i. absurd (cc))
+        (empty_reading c tokens.FlowMappingStart (inr (refl, inl refl, refl))))
 
-either_does : (b c d : Core) (o : Option Candidate) (begins : Bool) → d.level.key ≡ o
-    → slice_index c.cursor.rest 0 ≡ colon → IsParted c → Behind c d → (begins ≡ true → in_block d ≡ false)
-    → Walked (Premises b) (Doing None c) c.cursor (value.behind_key o begins c.cursor.mark d)
+either_does : (b c d : Core) (x : Context) (o : Option Candidate) → d.level.key ≡ o → Turned b x c d
+    → Walked (Premises b) (Valued b x c) c.cursor (value.behind_key o (begins_pair x) c.cursor.mark d)
 unfolding value.behind_key
-either_does b c d (Some k) begins e first parted g flows = key_does b c d k begins first parted g flows e
-either_does b c d None begins e first parted g flows = alone_does b c d begins first parted g e
+either_does b c d x (Some k) e t = key_does b c d x k t e
+either_does b c d x None e t = alone_does b c d x t e
 
 colon_block : (x : Context) → is_block (behind_colon x) ≡ is_block x
 colon_block context.FlowSequence = refl
@@ -186,17 +332,23 @@ pub value_does : (c : Core) → slice_index c.cursor.rest 0 ≡ colon → IsPart
     → Walked (Premises c) (Doing None c) c.cursor (value.value_steps c)
 unfolding value.value_steps
 value_does c first parted =
-    let v : Core = with_context (behind_colon c.level.context) c in
-    let begins = begins_pair c.level.context in
+    let x = c.level.context in
+    let v : Core = with_context (behind_colon x) c in
     let stands : IndicatorStands 58 c.cursor = record { some = refl; unbroken = refl; is = first } in
     walked_then (Premises c) (Behind v) (Doing None c) c.cursor (value.check_tab (pass_on 1 v)) _
     (tab_walked c v (passes 58 c.cursor stands)) (λ d g.
-    walked_map (Premises c) (Doing None v) (Doing None c) c.cursor _
-    (λ x k. and_then (λ n. n)
-    (lesser c v (record { block = colon_block c.level.context; key = inl refl }) refl (λ n. n)
+    walked_map (Premises c) (Valued c x v) (Doing None c) c.cursor _
+    (λ y k. and_then (λ n. n)
+    (lesser (enclosures_of c) c v (record { block = colon_block x; key = inl refl }) refl (λ n. n)
     (taken.nothing c.cursor.mark c.cursor.rest)) k)
-    (either_does c v d d.level.key begins refl first (λ e. parted (sym (colon_block c.level.context) ∙ e)) g
-    (λ e. ap (λ (l : Level). is_block l.context) g.0.0 ∙ pair_flows c.level.context e)))
+    (either_does c v d x d.level.key refl (record {
+      first = first;
+      parted = λ e. parted (sym (colon_block x) ∙ e);
+      behind = g;
+      context = refl;
+      near = λ a. a.1;
+      flows = λ e. ap (λ (l : Level). is_block l.context) g.0.0 ∙ pair_flows x e;
+    })))
 
 pub flow_value_does : (second : ℕ) (c : Core) → slice_index c.cursor.rest 0 ≡ colon → IsParted c
     → Walked (Premises c) (Doing None c) c.cursor (fetching.flow_value_steps second c)

@@ -1,5 +1,5 @@
 -- What is known of each step, told with the place of its refusal: of what it passes, and of all that it does.
-use Rattle.std.proofs.Common.{◌≡◌, ℕ, ◌+◌, ◌^◌, ◌≤◌, ◌<◌, true, false, List, length, Option, Some, None, Result, Ok}
+use Rattle.std.proofs.Common.{◌≡◌, ℕ, ◌^◌, ◌≤◌, ◌<◌, false, List, length, Option, Some, None, Result, Ok}
 use Rattle.std.proofs.Common.{Err, refl, arith}
 use Rattle.saphyr_input.specs.declared.input.SkipTabs.{SkipTabs}
 use Rattle.saphyr_input.specs.declared.input.SkipTabs.TheVariants as tabs
@@ -8,19 +8,22 @@ use Rattle.saphyr_scalar.specs.declared.scalar.fault.Refusal.{Refusal}
 use Rattle.saphyr_scalar.specs.RefusedInside.{IsRefusedInside}
 use Rattle.saphyr_scalar.specs.Views.Cursor.{Cursor, start_cursor, ◌>>=◌, separation}
 use Rattle.saphyr_scanner.specs.Steps.Queue.{Queue, next}
-use Rattle.saphyr_scanner.specs.Steps.Core.{Core, Action, Step, StepResult, perform, in_block, least_column}
+use Rattle.saphyr_scanner.specs.Steps.Core.{Core, Action, Step, StepResult, perform, least_column}
 use Rattle.saphyr_scanner.specs.Steps.Gap as gaps
 use Rattle.saphyr_scanner.specs.Steps.Passing.{separate, with_cursor, pass_gap, check_comment, goes_on_behind}
 use Rattle.saphyr_scanner.specs.Steps.Passing.{behind_gap, check_comment_of}
-use Rattle.saphyr_scanner.specs.TokensTaken.{Collections, AreApart}
+use Rattle.saphyr_scanner.specs.TokensTaken.{AreApart}
+use Rattle.saphyr_scanner.specs.TokensInPlace.{Enclosures}
 use Rattle.saphyr_scanner.proofs.Effects.Readers.{TextLaws, RefusalLaws}
 use Rattle.saphyr_scanner.proofs.Effects.Steps.{EffectAt}
-use Rattle.saphyr_scanner.proofs.Effects.Moves.{Does, IsBeforePlace, IsNextPlace, Same, same}
+use Rattle.saphyr_scanner.proofs.Effects.Moves.{DoesWithin, Does, IsBeforePlace, IsNextPlace, Same, same}
 use Rattle.saphyr_scanner.proofs.GapPlaces.{Refused, gap_refused}
 use Rattle.saphyr_scanner.proofs.LineTails.{OnLine, separation_passes}
 use Rattle.saphyr_scanner.proofs.PlainBehind.{IsNoted}
 use Rattle.saphyr_scanner.proofs.Reached.{passed_reached}
 use Rattle.saphyr_scanner.proofs.Taken.Cores.{HoldsTaken}
+use Rattle.saphyr_scanner.proofs.Taken.Keys.{IsArrival}
+use Rattle.saphyr_scanner.proofs.Taken.Held.{Setting}
 use Rattle.saphyr_scanner.proofs.Taken.Later.{LaterThan}
 use Rattle.saphyr_scanner.proofs.Taken.Places.{Reaches, At, at_here, at_further, at_reached}
 use Rattle.saphyr_scanner.proofs.Taken.Separated.{gap_apart}
@@ -54,10 +57,11 @@ pub walked_given : {X : Type 0} → (A : Type 0) (P Q : X → Type 0) (s : Curso
 walked_given A P Q s (Ok x) go h = go x h
 walked_given A P Q s (Err e) go h = tt
 
-does_weaker : {m n : Option ℕ} {k v w : ℕ} {c d : Core} {actions : List Action} → v ≤ w
+pub does_weaker : {A B : Type 0} {x y : Enclosures} {m n : Option ℕ} {k v w : ℕ} {c d : Core} {actions : List Action}
+    → v ≤ w → (B → A)
     → ((h : ℕ) → IsBeforePlace h n → IsBeforePlace h m) → ((q : Queue) → IsNextPlace n c q → IsNextPlace m c q)
-    → Does m k v c d actions → Does n k w c d actions
-does_weaker {m} {n} {k} {v} {w} {c} {d} {actions} l before there a = record {
+    → DoesWithin A x y m k v c d actions → DoesWithin B x y n k w c d actions
+does_weaker {A} {B} {x} {y} {m} {n} {k} {v} {w} {c} {d} {actions} l premise before there a = record {
   less = a.less;
   ahead = a.ahead;
   puts = a.puts;
@@ -66,26 +70,31 @@ does_weaker {m} {n} {k} {v} {w} {c} {d} {actions} l before there a = record {
   goes_on = a.goes_on;
   few = let f = a.few in omega (arith, f, l);
   keeps = λ h i. a.keeps h (before h i);
-  holds = λ laws opened from q i. a.holds laws opened from q (there q i);
+  holds = λ p laws opened from q i. a.holds (premise p) laws opened from q (there q i);
   noted = a.noted;
 }
 
 -- at most so many become due
-pub at_most : {n : Option ℕ} {k v w : ℕ} {c d : Core} {actions : List Action} → v ≤ w → Does n k v c d actions
-    → Does n k w c d actions
-at_most l a = does_weaker l (λ h i. i) (λ q i. i) a
+pub at_most : {A : Type 0} {x y : Enclosures} {n : Option ℕ} {k v w : ℕ} {c d : Core} {actions : List Action} → v ≤ w
+    → DoesWithin A x y n k v c d actions → DoesWithin A x y n k w c d actions
+at_most l a = does_weaker l (λ p. p) (λ h i. i) (λ q i. i) a
+
+-- what rests on nothing
+pub resting : {A : Type 0} {n : Option ℕ} {k w : ℕ} {c d : Core} {actions : List Action}
+    → Does (Unit {0}) n k w c d actions → Does A n k w c d actions
+resting a = does_weaker (omega arith) (λ p. tt) (λ h i. i) (λ q i. i) a
 
 -- a character at least is taken off, and five tokens at most become due
 abbrev pub Doing : Option ℕ → Core → Step → Type 0
-Doing n c x = Does n 1 5 c x.core x.actions
+Doing n c x = Does (IsArrival c) n 1 5 c x.core x.actions
 
 -- What is known of each step, where its token has the place of this number: of the text taken off, the order and the
 -- count of its tokens, and the candidates; that its tokens are taken from the text; and that a comment it notes stands
 -- where the text goes on.
 pub record Stepped (n : ℕ) (c : Core) (x : Step) : Type 0 where
   pub effect : EffectAt n c x
-  pub fetched : TextLaws → (text : List ℕ) → length text < 2 ^ 63 → (opened : Collections) (from : Cursor) (q : Queue)
-      → LaterThan (start_cursor text) from → n ≡ next q → (in_block c ≡ true → c.indent ≤ c.cursor.mark.col + 1)
+  pub fetched : TextLaws → (text : List ℕ) → length text < 2 ^ 63 → (opened : Setting) (from : Cursor) (q : Queue)
+      → LaterThan (start_cursor text) from → n ≡ next q → IsArrival c
       → HoldsTaken opened from c q → FetchedStep opened from q x
   pub noted : c.comment ≡ None → IsNoted x.core.comment x.core.cursor
 
@@ -102,8 +111,8 @@ walked_step A n c s r h = walked_map A (Doing (Some n) c) (Stepped n c) s r (λ 
     few = d.few;
     keeps = λ i a. d.keeps i a.0 a.1;
   };
-  fetched = λ laws text small opened from q l e deep k.
-      holds_fetched opened from x.core (perform x.actions q) (d.holds laws opened from q (e, deep) k);
+  fetched = λ laws text small opened from q l e arrival k.
+      holds_fetched opened from x.core (perform x.actions q) (d.holds arrival laws opened from q (e, arrival.0) k);
   noted = d.noted;
 }) h
 
@@ -112,7 +121,7 @@ pub unsaved_step : (A : Type 0) (n : ℕ) (c : Core) (s : Cursor) (r : StepResul
     → Walked A (Stepped n c) s r
 unsaved_step A n c s r h =
     walked_step A n c s r (walked_map A (Doing None c) (Doing (Some n) c) s r
-    (λ x d. does_weaker (omega arith) (λ i b. tt) (λ q i. tt) d) h)
+    (λ x d. does_weaker (omega arith) (λ p. p) (λ i b. tt) (λ q i. tt) d) h)
 
 -- ## What is passed
 

@@ -1,28 +1,57 @@
 -- What is passed up to where the next token begins is separation, or the text's end.
-use Rattle.std.proofs.Common.{◌≡◌, ℕ, ◌+◌, ◌-◌, ◌^◌, ◌≤◌, ◌<◌, Bool, true, false, List, ◌∷◌, length, Option, Some, None, Result, Ok, Err, refl, sym, ap, ◌∙◌, arith, subst, inl, inr, cond}
+use Rattle.std.proofs.Common.{◌≡◌, ℕ, ◌+◌, ◌-◌, ◌^◌, ◌≤◌, ◌<◌, Bool, true, false, List, ◌∷◌, length, Option, Some, None, Result, Ok, Err, refl, sym, ap, ◌∙◌, arith, subst, inl, inr, cond, IsTrue}
 use Rattle.std.specs.Prelude.{◌&&◌, slice_index, not, nat_lt}
 use Rattle.saphyr_input.specs.Classes.{is_z, is_blank, is_break}
 use Rattle.saphyr_scalar.specs.declared.scalar.position.Marker.{Marker}
 use Rattle.saphyr_scalar.specs.declared.scalar.fault.Refusal.{Refusal}
 use Rattle.saphyr_scalar.specs.Views.Cursor.{Cursor, start_cursor, ◌>>=◌}
 use Rattle.saphyr_scanner.specs.Steps.Queue.{Queue, next}
-use Rattle.saphyr_scanner.specs.Steps.Core.{Core, in_block, is_too_far, forget_key, drop_far_key}
+use Rattle.saphyr_scanner.specs.Steps.Core.{Core, in_block, is_too_far, forget_key, drop_far_key, least_column}
 use Rattle.saphyr_scanner.specs.Steps.Level.{Candidate, Level, is_block}
-use Rattle.saphyr_scanner.specs.Steps.Passing.{pass_gap}
+use Rattle.saphyr_scanner.specs.Steps.Gap as gaps
+use Rattle.saphyr_scanner.specs.Steps.Passing.{pass_gap, check_comment, goes_on_behind, behind_gap, check_comment_of}
 use Rattle.saphyr_scanner.specs.Steps.State.{State, on_core, with_core}
 use Rattle.saphyr_scanner.specs.Steps.Unrolling.{unroll, end_blocks, is_right_of, go_less_deep}
 use Rattle.saphyr_scanner.specs.Steps.Fetch.{arrive}
 use Rattle.saphyr_scanner.specs.TokensTaken as taken
-use Rattle.saphyr_scanner.specs.TokensTaken.{Collections, AreApart, IsPassedOver}
-use Rattle.saphyr_scanner.proofs.Blocks.{none_ends, unrolled_cursor}
+use Rattle.saphyr_scanner.specs.TokensTaken.{AreApart, IsPassedOver, Collections, begins_text}
+use Rattle.saphyr_scanner.proofs.Blocks.{none_ends, unrolled_cursor, blocks_cursor, go_less_deep_cursor}
+use Rattle.saphyr_scanner.proofs.Taken.Separated.{gap_apart, BeginsText, gap_begins}
 use Rattle.saphyr_scanner.proofs.Taken.Later.{top, LaterThan, later_later}
-use Rattle.saphyr_scanner.proofs.Taken.Held.{Taken, taken_further, Keys}
-use Rattle.saphyr_scanner.proofs.Taken.Cores.{Alike, keys_of, keys_lesser, no_keys, outermost_level, behind_gap_of}
+use Rattle.saphyr_scanner.proofs.Taken.Held.{enclosures_of, Setting, Taken, taken_within, taken_further}
+use Rattle.saphyr_scanner.proofs.Taken.Keys.{Keys}
+use Rattle.saphyr_scanner.proofs.Taken.Cores.{Alike, alike_enclosures, keys_of, keys_lesser, no_keys, outermost_level}
+use Rattle.saphyr_scanner.proofs.Taken.Keys.{IsNear}
 use Rattle.saphyr_scanner.proofs.Taken.Cores.{key_known}
 use Rattle.saphyr_scanner.proofs.Taken.States.{line_small, taken_later, key_stands, Live, TakenState, unroll_taken, blocks_levels}
 use Rattle.saphyr_input.proofs.Basics.Booleans.{by_test, and_false}
 use Rattle.saphyr_scalar.proofs.Given.{Given}
 use Rattle.std.proofs.lemmas.Bool.{not-true, le-ltb, ltb-false, eqb-true}
+
+-- ## What is passed
+
+behind_gap_of : {X : Type 0} → (P : X → Type 0) (c : Core) (f : Core → Result X Refusal)
+    → ((d : Core) → Alike c d → AreApart c.cursor d.cursor → IsTrue (begins_text (slice_index d.cursor.rest 0))
+    → Given P (f d)) → Given P (pass_gap c >>= f)
+unfolding pass_gap check_comment
+behind_gap_of P c f go = by (gaps.whole_gap (least_column c) c.cursor)
+    (gap_apart (least_column c) false false c.cursor) (gap_begins (least_column c) false false c.cursor)
+  where
+    checked : (m : Option Marker) (d : Core) → Alike c d → AreApart c.cursor d.cursor
+        → IsTrue (begins_text (slice_index d.cursor.rest 0)) → Given P (check_comment_of m d >>= f)
+    checked None d a p b = go d a p b
+    checked (Some m) d a p b =
+        let e : Core = record d { comment = None } in
+        by_test (goes_on_behind m e) _ _ (λ r. Given P (r >>= f)) (λ _. tt)
+        (λ _. go e (record { level = a.level; outer = a.outer; indent = a.indent; outer_indents = a.outer_indents })
+        p b)
+
+    by : (r : Result gaps.GapEnd Refusal) → Given (λ (p : gaps.GapEnd). AreApart c.cursor p.cursor) r
+        → Given BeginsText r
+        → Given P ((r >>= λ g. check_comment_of (behind_gap c g).comment (behind_gap c g)) >>= f)
+    by (Ok g) h b = checked c.comment (behind_gap c g)
+        (record { level = refl; outer = refl; indent = refl; outer_indents = refl }) h b
+    by (Err e) h b = tt
 
 -- ## To where the next token begins
 
@@ -44,42 +73,49 @@ further_live c d q a p h nz = by (is_z (slice_index c.cursor.rest 0)) refl
         let f : is_z (slice_index d.cursor.rest 0) ≡ true = ap (λ l. is_z (slice_index l 0)) e ∙ z in cc)
     by false z = keys_of (next q) q c.indent d.indent c.level d.level c.outer d.outer a.indent a.level a.outer (h z)
 
-abbrev IsNear : Core → Type 0
-IsNear c = (in_block c && is_too_far c.level.key c.cursor.mark) ≡ false
-
-record Near (opened : Collections) (from : Cursor) (q : Queue) (c : Core) : Type 0 where
+record Near (opened : Setting) (from : Cursor) (q : Queue) (c : Core) : Type 0 where
   taken : Taken opened from c q
   live : Live c q
   near : IsNear c
+  begins : IsTrue (begins_text (slice_index c.cursor.rest 0))
 
 pub forgotten_live : (c : Core) (q : Queue) → Live c q → Live (forget_key c) q
 forgotten_live c q h nz =
     keys_lesser (next q) q c.indent c.level (forget_key c).level c.outer (record { block = refl; key = inr refl })
     (h nz)
 
-pub forgotten_taken : (opened : Collections) (from : Cursor) (c : Core) (q : Queue) → Taken opened from c q
+pub forgotten_taken : (opened : Setting) (from : Cursor) (c : Core) (q : Queue) → Taken opened from c q
     → Taken opened from (forget_key c) q
-forgotten_taken opened from c q h = taken_further opened from c (forget_key c) q (taken.nothing _ _) refl refl refl h
+forgotten_taken opened from c q h =
+    taken_further (enclosures_of c) opened from c (forget_key c) q (taken.nothing _ _) refl refl refl h
 
-dropped_near : (opened : Collections) (from : Cursor) (q : Queue) (c : Core) → Taken opened from c q → Live c q
+dropped_near : (opened : Setting) (from : Cursor) (q : Queue) (c : Core)
+    → IsTrue (begins_text (slice_index c.cursor.rest 0)) → Taken opened from c q → Live c q
     → Given (Near opened from q) (drop_far_key c)
 unfolding drop_far_key
-dropped_near opened from q c h l =
+dropped_near opened from q c b h l =
     by_test (not (in_block c && is_too_far c.level.key c.cursor.mark)) _ _ (Given (Near opened from q))
-    (λ e. record { taken = h; live = l; near = not-true (in_block c && is_too_far c.level.key c.cursor.mark) e })
+    (λ e. record {
+      taken = h;
+      live = l;
+      near = not-true (in_block c && is_too_far c.level.key c.cursor.mark) e;
+      begins = b;
+    })
     (λ _. by_test c.required _ _ (Given (Near opened from q)) (λ _. tt)
     (λ _. record {
       taken = forgotten_taken opened from c q h;
       live = forgotten_live c q l;
       near = and_false (in_block c);
+      begins = b;
     }))
 
-gapped : (opened : Collections) (from : Cursor) (q : Queue) (c : Core) → Taken opened from c q → Live c q
+gapped : (opened : Setting) (from : Cursor) (q : Queue) (c : Core) → Taken opened from c q → Live c q
     → Given (Near opened from q) (pass_gap c >>= drop_far_key)
 gapped opened from q c h l =
     behind_gap_of (Near opened from q) c drop_far_key
-    (λ d a p. dropped_near opened from q d
-    (taken_further opened from c d q p a.indent a.outer_indents (ap length a.outer) h)
+    (λ d a p b. dropped_near opened from q d b
+    (taken_within (enclosures_of c) (enclosures_of d) opened from d q (alike_enclosures c d a)
+    (taken_further (enclosures_of c) opened from c d q p a.indent a.outer_indents (ap length a.outer) h))
     (further_live c d q a p l))
 
 line_near : (k : Candidate) (m : Marker) → is_too_far (Some k) m ≡ false → m.line ≤ k.mark.line
@@ -90,7 +126,7 @@ line_near k m e = ltb-false k.mark.line m.line (first (nat_lt k.mark.line m.line
     first true x f = absurd (cc)
 
 -- where a key is a candidate no block collection ends
-unrolled_keys : (text : List ℕ) → length text < 2 ^ 63 → (opened : Collections) (from : Cursor) (q : Queue) (c : Core)
+unrolled_keys : (text : List ℕ) → length text < 2 ^ 63 → (opened : Setting) (from : Cursor) (q : Queue) (c : Core)
     → LaterThan (start_cursor text) from → Near opened from q c → let t =
     unroll (Some c.cursor.mark.col) c.cursor.mark (record { core = c; queue = q }) in Live t.core t.queue
 unfolding unroll
@@ -135,11 +171,28 @@ unrolled_keys text small opened from q c l h nz =
         let Q : State → Type 0 = λ t. Keys (next t.queue) t.queue t.core.indent (t.core.level ∷ t.core.outer) in
         subst Q (sym (none_ends (Some m.col) m c.outer_indents s not_right)) keys
 
-pub record Arrived (opened : Collections) (from : Cursor) (t : State) : Type 0 where
+pub record Arrived (opened : Setting) (from : Cursor) (t : State) : Type 0 where
   pub taken : TakenState opened from t
   pub live : Live t.core t.queue
+  pub near : IsNear t.core
 
-pub arrived : (text : List ℕ) → length text < 2 ^ 63 → (opened : Collections) (from : Cursor) (s : State)
+-- where block collections end the candidate and the place stay
+unrolled_near : (c : Core) (q : Queue) → IsNear c
+    → IsNear (unroll (Some c.cursor.mark.col) c.cursor.mark (record { core = c; queue = q })).core
+unfolding unroll
+unrolled_near c q h =
+    let m = c.cursor.mark in
+    let s : State = record { core = c; queue = q } in
+    let t : State = with_core (go_less_deep (Some m.col) c) s in
+    let v = blocks_levels (Some m.col) m c.outer_indents t in
+    let same : (end_blocks (Some m.col) m c.outer_indents t).core.cursor ≡ c.cursor =
+    blocks_cursor (Some m.col) m c.outer_indents t ∙ go_less_deep_cursor (Some m.col) c in
+    let F : Level → Cursor → Bool = λ l u. is_block l.context && is_too_far l.key u.mark in
+    by_test (in_block c) (end_blocks (Some m.col) m c.outer_indents t) s (λ (u : State). IsNear u.core)
+    (λ _. ap (λ l. F l (end_blocks (Some m.col) m c.outer_indents t).core.cursor) v.level
+    ∙ ap (F c.level) same ∙ h) (λ _. h)
+
+pub arrived : (text : List ℕ) → length text < 2 ^ 63 → (opened : Setting) (from : Cursor) (s : State)
     → LaterThan (start_cursor text) from → TakenState opened from s → Live s.core s.queue
     → Given (Arrived opened from) (arrive s)
 unfolding arrive
@@ -151,7 +204,8 @@ arrived text small opened from s l h k = by (pass_gap s.core >>= drop_far_key) (
     by (Ok d) n =
         record {
           taken = unroll_taken opened from (Some d.cursor.mark.col) d.cursor.mark
-              (record { core = d; queue = s.queue }) (inl refl) n.taken;
+              (record { core = d; queue = s.queue }) (inl refl, n.begins, refl) n.taken;
           live = unrolled_keys text small opened from s.queue d l n;
+          near = unrolled_near d s.queue n.near;
         }
     by (Err e) n = tt

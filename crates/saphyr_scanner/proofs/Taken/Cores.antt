@@ -1,30 +1,30 @@
 -- What is held stays so where the core of a scanner changes, and where a token comes.
-use Rattle.std.proofs.Common.{◌≡◌, ℕ, zero, suc, ◌+◌, ◌-◌, ◌≤◌, ◌⊎◌, Bool, true, false, List, [], ◌∷◌, length, Option, Some, None, Result, Ok, Err, refl, sym, ap, ◌∙◌, arith, subst, inl, inr, length-append}
+use Rattle.std.proofs.Common.{◌≡◌, ℕ, zero, suc, ◌+◌, ◌-◌, ◌≤◌, ◌<◌, ◌⊎◌, Bool, true, false, List, [], ◌∷◌, length, Option, Some, None, refl, sym, ap, ◌∙◌, arith, subst, inl, inr, length-append, IsTrue}
 use Rattle.std.specs.Prelude.{◌&&◌, ◌==◌, slice_index, not, nat_le, nat_lt}
-use Rattle.saphyr_scalar.specs.declared.scalar.position.Marker.{Marker}
-use Rattle.saphyr_scalar.specs.declared.scalar.fault.Refusal.{Refusal}
-use Rattle.saphyr_scalar.specs.Views.Cursor.{Cursor, ◌>>=◌, pass}
+use Rattle.saphyr_scalar.specs.Views.Cursor.{Cursor, pass}
 use Rattle.saphyr_scalar.proofs.Properties.TagsSpelled.{cut_at}
 use Rattle.saphyr_scanner.specs.declared.queue.Opening.{Opening}
 use Rattle.saphyr_scanner.specs.declared.queue.Opening.TheVariants as opening
 use Rattle.saphyr_scanner.specs.Views.Tokens.{Piece}
-use Rattle.saphyr_scanner.specs.Steps.Gap as gaps
 use Rattle.saphyr_scanner.specs.Steps.Queue.{Place, Queue, is_empty_list, bare_place, with_piece, places_with_opening, with_opening, next}
-use Rattle.saphyr_scanner.specs.Steps.Core.{Core, in_block, forget_key, least_column, is_further, enter_block}
+use Rattle.saphyr_scanner.specs.Steps.Core.{Core, in_block, forget_key, is_further, enter_block}
 use Rattle.saphyr_scanner.specs.Steps.Level.{Candidate, Level, is_block}
-use Rattle.saphyr_scanner.specs.Steps.Passing.{pass_gap, check_comment, goes_on_behind, behind_gap, check_comment_of}
 use Rattle.saphyr_scanner.specs.TokensTaken as taken
-use Rattle.saphyr_scanner.specs.TokensTaken.{Collections, Surroundings, AreApart, IsToken, TakesCharacter, open_behind}
-use Rattle.saphyr_scanner.proofs.Taken.Separated.{gap_apart}
+use Rattle.saphyr_scanner.specs.TokensTaken.{Collections, Surroundings, AreApart, IsToken, TakesCharacter, open_behind, begins_text}
+use Rattle.saphyr_scanner.specs.TokensInPlace.{Enclosure, Enclosed, Enclosures, enclosures_behind, may_begin_key, is_of_flow_node}
+use Rattle.saphyr_scanner.proofs.Taken.InPlace.{deeper, awaited, MayOpen, free}
 use Rattle.saphyr_scanner.proofs.Taken.Parts.{is_quiet, quiet_open, Begins, opens_block, column_of}
-use Rattle.saphyr_scanner.proofs.Taken.Held.{Stack, Stands, Taken, taken_further, Opens, taken_put, taken_open, Key, KeyOf, lower, Keys, keys_weaken, keys_put, keys_open, below_key}
-use Rattle.saphyr_input.proofs.Basics.Booleans.{by_test}
-use Rattle.std.proofs.lemmas.Bool.{lt-ltb}
-use Rattle.saphyr_scalar.proofs.Given.{Given}
+use Rattle.saphyr_scanner.proofs.Taken.Held.{Stack, Stands, enclosure_of, enclosed_by, enclosures_of, Setting, TakenWithin, Taken, taken_within, taken_further, Opens, FitsWithin, taken_put}
+use Rattle.saphyr_scanner.proofs.Taken.Neutral.{KeepsBrackets}
+use Rattle.saphyr_scanner.proofs.Taken.Keys.{taken_open, Key, KeyOf, lower, KeysFrom, Keys, keys_weaken, KeepsDepth, IsFreeOr, LeadsDeeper, keeps_depth, keys_put, keys_open, below_key}
+use Rattle.std.proofs.lemmas.Bool.{lt-ltb, leb-true, leb-false}
 
-pub record HoldsTaken (opened : Collections) (from : Cursor) (c : Core) (q : Queue) : Type 0 where
-  pub taken : Taken opened from c q
+pub record HoldsWithin (within : Enclosures) (opened : Setting) (from : Cursor) (c : Core) (q : Queue) : Type 0 where
+  pub taken : TakenWithin within opened from c q
   pub keys : Keys (next q) q c.indent (c.level ∷ c.outer)
+
+abbrev pub HoldsTaken : Setting → Cursor → Core → Queue → Type 0
+HoldsTaken opened from c q = HoldsWithin (enclosures_of c) opened from c q
 
 -- a truth value, by its cases
 pub by_bool : (b : Bool) (P : Bool → Type 0) → (b ≡ true → P true) → (b ≡ false → P false) → P b
@@ -39,6 +39,16 @@ pub record Alike (c d : Core) : Type 0 where
   pub outer : d.outer ≡ c.outer
   pub indent : d.indent ≡ c.indent
   pub outer_indents : d.outer_indents ≡ c.outer_indents
+
+-- the same encloses them
+pub same_enclosures : (c d : Core) → d.level.context ≡ c.level.context → d.outer ≡ c.outer
+    → enclosures_of d ≡ enclosures_of c
+same_enclosures c d l o =
+    ap (λ x. free (enclosure_of x) (enclosed_by d.outer)) l
+    ∙ ap (λ ls. free (enclosure_of c.level.context) (enclosed_by ls)) o
+
+pub alike_enclosures : (c d : Core) → Alike c d → enclosures_of d ≡ enclosures_of c
+alike_enclosures c d a = same_enclosures c d (ap (λ (l : Level). l.context) a.level) a.outer
 
 pub keys_of : (b : ℕ) (q : Queue) (i j : ℕ) (l m : Level) (ls ms : List Level) → j ≡ i → m ≡ l → ms ≡ ls
     → Keys b q i (l ∷ ls) → Keys b q j (m ∷ ms)
@@ -57,35 +67,40 @@ pub keys_lesser : (b : ℕ) (q : Queue) (i : ℕ) (l m : Level) (ls : List Level
     → Keys b q i (m ∷ ls)
 keys_lesser b q i l m ls e h = by e.key
   where
-    none : (k : Option Candidate) → k ≡ None → KeyOf b q (is_block m.context) i k × Keys (lower b k) q i ls
-    none k f =
-        let P : Option Candidate → Type 0 = λ x. KeyOf b q (is_block m.context) i x × Keys (lower b x) q i ls in
-        subst P (sym f) (tt, keys_weaken (lower b l.key) b q i ls (below_key b q (is_block l.context) i l.key h.1) h.2)
+    Known : Option Candidate → Type 0
+    Known k = KeyOf 0 b q (is_block m.context) i k × KeysFrom 1 (lower b k) q i ls
 
-    same : (k : Option Candidate) → k ≡ l.key → KeyOf b q (is_block m.context) i k × Keys (lower b k) q i ls
+    none : (k : Option Candidate) → k ≡ None → Known k
+    none k f = subst Known (sym f) (
+      tt,
+      keys_weaken 1 (lower b l.key) b q i ls (below_key 0 b q (is_block l.context) i l.key h.1) h.2,
+    )
+
+    same : (k : Option Candidate) → k ≡ l.key → Known k
     same k f =
-        let P : Option Candidate → Type 0 = λ x. KeyOf b q (is_block m.context) i x × Keys (lower b x) q i ls in
-        let Q : Bool → Type 0 = λ x. KeyOf b q x i l.key in
+        let P : Option Candidate → Type 0 = λ x. KeyOf 0 b q (is_block m.context) i x × KeysFrom 1 (lower b x) q i ls in
+        let Q : Bool → Type 0 = λ x. KeyOf 0 b q x i l.key in
         subst P (sym f) (subst Q (sym e.block) h.1, h.2)
 
     by : (m.key ≡ l.key) ⊎ (m.key ≡ None) → Keys b q i (m ∷ ls)
     by (inl f) = let x = same m.key f in (e.block ∙ h.0, x.0, x.1)
     by (inr f) = let x = none m.key f in (e.block ∙ h.0, x.0, x.1)
 
-pub holds_lesser : (opened : Collections) (from : Cursor) (c d : Core) (q : Queue) → Lesser c.level d.level
+pub holds_lesser : (within : Enclosures) (opened : Setting) (from : Cursor) (c d : Core) (q : Queue)
+    → Lesser c.level d.level
     → d.outer ≡ c.outer → d.indent ≡ c.indent → d.outer_indents ≡ c.outer_indents → AreApart c.cursor d.cursor
-    → HoldsTaken opened from c q → HoldsTaken opened from d q
-holds_lesser opened from c d q l o i s p h = record {
-  taken = taken_further opened from c d q p i s (ap length o) h.taken;
+    → HoldsWithin within opened from c q → HoldsWithin within opened from d q
+holds_lesser within opened from c d q l o i s p h = record {
+  taken = taken_further within opened from c d q p i s (ap length o) h.taken;
   keys = keys_of (next q) q c.indent d.indent d.level d.level c.outer d.outer i refl o
       (keys_lesser (next q) q c.indent c.level d.level c.outer l h.keys);
 }
 
-pub holds_forgotten : (opened : Collections) (from : Cursor) (c : Core) (q : Queue) → HoldsTaken opened from c q
+pub holds_forgotten : (opened : Setting) (from : Cursor) (c : Core) (q : Queue) → HoldsTaken opened from c q
     → HoldsTaken opened from (forget_key c) q
 holds_forgotten opened from c q h =
-    holds_lesser opened from c (forget_key c) q (record { block = refl; key = inr refl }) refl refl refl
-    (taken.nothing _ _) h
+    holds_lesser (enclosures_of c) opened from c (forget_key c) q (record { block = refl; key = inr refl }) refl refl
+    refl (taken.nothing _ _) h
 
 -- outside flow nothing encloses the level
 none_outer : (ls : List Level) → is_empty_list ls ≡ true → ls ≡ []
@@ -96,35 +111,31 @@ pub outermost_level : (b : ℕ) (q : Queue) (i : ℕ) (l : Level) (ls : List Lev
     → is_block l.context ≡ true → ls ≡ []
 outermost_level b q i l ls h e = none_outer ls (sym h.0 ∙ e)
 
-pub outermost : (opened : Collections) (from : Cursor) (c : Core) (q : Queue) → HoldsTaken opened from c q
-    → in_block c ≡ true → c.outer ≡ []
-outermost opened from c q h e = outermost_level (next q) q c.indent c.level c.outer h.keys e
+pub outermost : (within : Enclosures) (opened : Setting) (from : Cursor) (c : Core) (q : Queue)
+    → HoldsWithin within opened from c q → in_block c ≡ true → c.outer ≡ []
+outermost within opened from c q h e = outermost_level (next q) q c.indent c.level c.outer h.keys e
 
 -- inside flow a level encloses the innermost, as many as brackets are open
 open_outside : (ls : List Level) → nat_lt 0 (length ls) ≡ not (is_empty_list ls)
 open_outside [] = refl
 open_outside (l ∷ ls) = lt-ltb 0 (length (l ∷ ls)) (omega arith)
 
-pub open_in_flow : (opened : Collections) (from : Cursor) (c : Core) (q : Queue) → HoldsTaken opened from c q
-    → nat_lt 0 (length c.outer) ≡ not (in_block c)
-open_in_flow opened from c q h = open_outside c.outer ∙ ap not (sym h.keys.0)
+pub open_in_flow : (within : Enclosures) (opened : Setting) (from : Cursor) (c : Core) (q : Queue)
+    → HoldsWithin within opened from c q → nat_lt 0 (length c.outer) ≡ not (in_block c)
+open_in_flow within opened from c q h = open_outside c.outer ∙ ap not (sym h.keys.0)
 
 -- where no key is a candidate at all
 pub no_keys : (b : ℕ) (q : Queue) (i : ℕ) (l : Level) (ls : List Level) → l.key ≡ None → ls ≡ []
     → is_block l.context ≡ true → Keys b q i (l ∷ ls)
 no_keys b q i l ls k o e =
     let P : List Level → Type 0 = λ x. Keys b q i (l ∷ x) in
-    let Q : Option Candidate → Type 0 = λ x. KeyOf b q (is_block l.context) i x in
+    let Q : Option Candidate → Type 0 = λ x. KeyOf 0 b q (is_block l.context) i x in
     subst P (sym o) (e, subst Q (sym k) tt, tt)
 
 -- ## A token comes
 
 abbrev pub Same : Core → Core → Type 0
 Same c d = (d.indent ≡ c.indent) × (d.outer_indents ≡ c.outer_indents)
-
--- a token that opens and closes no bracket
-abbrev pub KeepsBrackets : Piece → Type 0
-KeepsBrackets t = (opened : Collections) → (open_behind t.kind t.span opened).brackets ≡ opened.brackets
 
 pub quiet_opens : (t : Piece) (c d : Core) → is_quiet t.kind ≡ true → d.indent ≡ c.indent
     → d.outer_indents ≡ c.outer_indents
@@ -146,36 +157,47 @@ abbrev pub surroundings : Core → Surroundings
 surroundings c = record { in_flow = not (in_block c); indent = c.indent }
 
 -- a token is put behind the others
-pub holds_put : (opened : Collections) (from : Cursor) (c d : Core) (q : Queue) (t : Piece) (here behind : Cursor)
+pub holds_put : (within : Enclosures) (opened : Setting) (from : Cursor) (c d : Core) (q : Queue) (t : Piece)
+    (here behind : Cursor)
     → AreApart c.cursor here → IsToken (surroundings c) t.kind t.span here behind
-    → AreApart behind d.cursor → Opens t c d → HoldsTaken opened from c q → Taken opened from d (with_piece t q)
-holds_put opened from c d q t here behind a is b o h =
-    let P : Bool → Type 0 = λ f. IsToken (record { in_flow = f; indent = c.indent }) t.kind t.span here behind in
-    taken_put opened from c d q t here behind a (subst P (sym (open_in_flow opened from c q h)) is) b o h.taken
+    → AreApart behind d.cursor → Opens t c d → FitsWithin within t → HoldsWithin within opened from c q
+    → TakenWithin (enclosures_behind t.kind t.span within) opened from d (with_piece t q)
+holds_put within opened from c d q t here behind a is b o f h =
+    let P : Bool → Type 0 = λ x. IsToken (record { in_flow = x; indent = c.indent }) t.kind t.span here behind in
+    taken_put within opened from c d q t here behind a (subst P (sym (open_in_flow within opened from c q h)) is) b o f
+    h.taken
 
 -- a quiet token from here to behind, and separation to the place that is reached
-pub quiet_put : (opened : Collections) (from : Cursor) (c d : Core) (q : Queue) (t : Piece) (here behind : Cursor)
-    → is_quiet t.kind ≡ true → KeepsBrackets t → AreApart c.cursor here
+pub quiet_put : (within : Enclosures) (opened : Setting) (from : Cursor) (c d : Core) (q : Queue) (t : Piece)
+    (here behind : Cursor)
+    → is_quiet t.kind ≡ true → KeepsBrackets t → KeepsDepth t → IsFreeOr t c.level.key → FitsWithin within t
+    → AreApart c.cursor here
     → IsToken (surroundings c) t.kind t.span here behind → AreApart behind d.cursor
-    → Alike c d → HoldsTaken opened from c q → HoldsTaken opened from d (with_piece t q)
-quiet_put opened from c d q t here behind e f a is b l h = record {
-  taken = holds_put opened from c d q t here behind a is b
-      (quiet_opens t c d e l.indent l.outer_indents (λ x n. f x ∙ n ∙ sym (ap length l.outer))) h;
+    → Alike c d → HoldsWithin within opened from c q
+    → HoldsWithin (enclosures_behind t.kind t.span within) opened from d (with_piece t q)
+quiet_put within opened from c d q t here behind e f depth own fit a is b l h = record {
+  taken = holds_put within opened from c d q t here behind a is b
+      (quiet_opens t c d e l.indent l.outer_indents (λ x n. f x ∙ n ∙ sym (ap length l.outer))) fit h;
   keys =
-      let k = keys_put (next q) q c.indent (c.level ∷ c.outer) t e h.keys in
+      let k = keys_put 0 0 (next q) q c.indent (c.level ∷ c.outer) t e (keeps_depth t c.level c.outer own depth)
+      h.keys in
       let n = next_put t q in
       keys_of (next (with_piece t q)) (with_piece t q) c.indent d.indent c.level d.level c.outer d.outer l.indent
       l.level l.outer
-      (keys_weaken (next q) (next (with_piece t q)) (with_piece t q) c.indent (c.level ∷ c.outer) (omega (arith, n)) k);
+      (keys_weaken 0 (next q) (next (with_piece t q)) (with_piece t q) c.indent (c.level ∷ c.outer) (omega (arith, n))
+      k);
 }
 
 -- any token, behind which no key is a candidate
-pub loud_put : (opened : Collections) (from : Cursor) (c d : Core) (q : Queue) (t : Piece) (here behind : Cursor)
+pub loud_put : (within : Enclosures) (opened : Setting) (from : Cursor) (c d : Core) (q : Queue) (t : Piece)
+    (here behind : Cursor)
     → AreApart c.cursor here → IsToken (surroundings c) t.kind t.span here behind
-    → AreApart behind d.cursor → Opens t c d → d.level.key ≡ None → d.outer ≡ [] → in_block d ≡ true
-    → HoldsTaken opened from c q → HoldsTaken opened from d (with_piece t q)
-loud_put opened from c d q t here behind a is b o k n f h = record {
-  taken = holds_put opened from c d q t here behind a is b o h;
+    → AreApart behind d.cursor → Opens t c d → FitsWithin within t → d.level.key ≡ None → d.outer ≡ []
+    → in_block d ≡ true
+    → HoldsWithin within opened from c q
+    → HoldsWithin (enclosures_behind t.kind t.span within) opened from d (with_piece t q)
+loud_put within opened from c d q t here behind a is b o fit k n f h = record {
+  taken = holds_put within opened from c d q t here behind a is b o fit h;
   keys = no_keys (next (with_piece t q)) (with_piece t q) d.indent d.level d.outer k n f;
 }
 
@@ -195,39 +217,54 @@ first_at x s t e f = ap (λ (u : Cursor). slice_index u.rest 0) e ∙ f
 pub apart_same : (s t : Cursor) → t ≡ s → AreApart s t
 apart_same s t e = let P : Cursor → Type 0 = λ u. AreApart s u in subst P (sym e) (taken.nothing s.mark s.rest)
 
+pub saved_enclosures : (n : ℕ) (c d : Core) → Saved n c d → enclosures_of d ≡ enclosures_of c
+saved_enclosures n c d s =
+    same_enclosures c d
+    (elim s.level
+    [ inl e ↦ ap (λ (l : Level). l.context) e | inr e ↦ ap (λ (l : Level). l.context) e ]) s.outer
+
 -- what the new token is put behind, where a key was saved
-pub saved_taken : (opened : Collections) (from : Cursor) (n : ℕ) (c d : Core) (q : Queue) → Saved n c d
+pub saved_taken : (opened : Setting) (from : Cursor) (n : ℕ) (c d : Core) (q : Queue) → Saved n c d
     → Taken opened from c q → Taken opened from d q
 saved_taken opened from n c d q s h =
-    taken_further opened from c d q (apart_same c.cursor d.cursor s.cursor) s.indent s.outer_indents (ap length s.outer)
-    h
+    taken_within (enclosures_of c) (enclosures_of d) opened from d q (saved_enclosures n c d s)
+    (taken_further (enclosures_of c) opened from c d q (apart_same c.cursor d.cursor s.cursor) s.indent s.outer_indents
+    (ap length s.outer) h)
 
--- the token that may be a key
-pub saved_keys : (c : Core) (q : Queue) (t : Piece) (d : Core) → is_quiet t.kind ≡ true → Begins t
+-- A token that may be a key: from its level to a depth, which its own level's candidate is told of.
+pub saved_keys : (e : ℕ) (c : Core) (q : Queue) (t : Piece) (d : Core) → is_quiet t.kind ≡ true
+    → IsTrue (is_of_flow_node t.kind t.span) → deeper t.kind t.span 0 ≡ e
+    → LeadsDeeper t (c.level ∷ c.outer) 0 e → Begins t
     → t.span.start ≡ c.cursor.mark → (in_block c ≡ true → c.indent ≤ c.cursor.mark.col + 1) → Saved (next q) c d
     → Keys (next q) q c.indent (c.level ∷ c.outer)
-    → Keys (next (with_piece t q)) (with_piece t q) d.indent (d.level ∷ d.outer)
-saved_keys c q t d e b m deep s h = by s.level
+    → KeysFrom e (next (with_piece t q)) (with_piece t q) d.indent (d.level ∷ d.outer)
+saved_keys e c q t d quiet node depth leads b m deep s h = by s.level
   where
     more : next (with_piece t q) ≡ next q + 1
     more = next_put t q
 
-    new : Level
-    new = record { context = c.level.context; key = Some (record { mark = c.cursor.mark; place = next q }) }
+    r : Queue
+    r = with_piece t q
+
+    of : (l : Level) → d.level ≡ l → KeysFrom e (next r) r c.indent (l ∷ c.outer)
+        → KeysFrom e (next r) r d.indent (d.level ∷ d.outer)
+    of l f k =
+        let P : ℕ → Type 0 = λ x. KeysFrom e (next r) r x (d.level ∷ d.outer) in
+        let Q : Level → Type 0 = λ x. KeysFrom e (next r) r c.indent (x ∷ d.outer) in
+        let R : List Level → Type 0 = λ x. KeysFrom e (next r) r c.indent (l ∷ x) in
+        subst P (sym s.indent) (subst Q (sym f) (subst R (sym s.outer) k))
 
     by : (d.level ≡ c.level)
         ⊎ (d.level ≡ record { context = c.level.context; key = Some (record { mark = c.cursor.mark; place = next q }) })
-        → Keys (next (with_piece t q)) (with_piece t q) d.indent (d.level ∷ d.outer)
+        → KeysFrom e (next r) r d.indent (d.level ∷ d.outer)
     by (inl f) =
-        keys_of (next (with_piece t q)) (with_piece t q) c.indent d.indent c.level d.level c.outer d.outer s.indent f
-        s.outer
-        (keys_weaken (next q) (next (with_piece t q)) (with_piece t q) c.indent (c.level ∷ c.outer)
-        (omega (arith, more))
-        (keys_put (next q) q c.indent (c.level ∷ c.outer) t e h))
+        of c.level f
+        (keys_weaken e (next q) (next r) r c.indent (c.level ∷ c.outer) (omega (arith, more))
+        (keys_put 0 e (next q) q c.indent (c.level ∷ c.outer) t quiet leads h))
     by (inr f) =
-        let outers = keys_weaken (lower (next q) c.level.key) (next q) q c.indent c.outer
-        (below_key (next q) q (is_block c.level.context) c.indent c.level.key h.1) h.2 in
-        let own : Key (next (with_piece t q)) (with_piece t q) (is_block c.level.context) c.indent
+        let outers = keys_weaken 1 (lower (next q) c.level.key) (next q) q c.indent c.outer
+        (below_key 0 (next q) q (is_block c.level.context) c.indent c.level.key h.1) h.2 in
+        let own : Key e (next r) r (is_block c.level.context) c.indent
         (record { mark = c.cursor.mark; place = next q }) = record {
           front = q.places;
           back = [];
@@ -237,12 +274,12 @@ saved_keys c q t d e b m deep s h = by s.level
           below = omega (arith, more);
           marked = m;
           begins = b;
-          quiet = λ _. (e, tt);
+          quiet = λ _. (quiet, tt);
           deep = deep;
+          inside = (node, depth);
         } in
-        keys_of (next (with_piece t q)) (with_piece t q) c.indent d.indent
-        (record { context = c.level.context; key = Some (record { mark = c.cursor.mark; place = next q }) }) d.level
-        c.outer d.outer s.indent f s.outer (h.0, own, keys_put (next q) q c.indent c.outer t e outers)
+        of (record { context = c.level.context; key = Some (record { mark = c.cursor.mark; place = next q }) }) f
+        (h.0, own, keys_put 1 (suc e) (next q) q c.indent c.outer t quiet leads.1 outers)
 
 -- ## A candidate turns out to be a key
 
@@ -260,46 +297,61 @@ quiet_column opening.BlockMappingAndKey column opened e = absurd (cc)
 quiet_column _ column opened e = refl
 
 pub key_known : (b : ℕ) (q : Queue) (block : Bool) (i : ℕ) (o : Option Candidate) (k : Candidate) (ls : List Level)
-    → o ≡ Some k → KeyOf b q block i o → Keys (lower b o) q i ls → Key b q block i k × Keys k.place q i ls
+    → o ≡ Some k → KeyOf 0 b q block i o → KeysFrom 1 (lower b o) q i ls
+    → Key 0 b q block i k × KeysFrom 1 k.place q i ls
 key_known b q block i o k ls e x y =
-    let P : Option Candidate → Type 0 = λ z. KeyOf b q block i z in
-    let Q : Option Candidate → Type 0 = λ z. Keys (lower b z) q i ls in
+    let P : Option Candidate → Type 0 = λ z. KeyOf 0 b q block i z in
+    let Q : Option Candidate → Type 0 = λ z. KeysFrom 1 (lower b z) q i ls in
     (subst P e x, subst Q e y)
 
+some_outer : (ls : List Level) → is_empty_list ls ≡ false → 0 < length ls
+some_outer [] e = absurd (cc)
+some_outer (l ∷ ls) e = omega arith
+
 -- a key alone, or in flow with its mapping
-pub open_quiet : (opened : Collections) (from : Cursor) (c : Core) (q : Queue) (k : Candidate) (o : Opening)
-    → opens_block o ≡ false → c.level.key ≡ Some k → HoldsTaken opened from c q
-    → HoldsTaken opened from (forget_key c) (with_opening k.place o q)
-open_quiet opened from c q k o e is h =
+pub open_quiet : (e : Enclosure) (outside : List Enclosed) (opened : Setting) (from : Cursor) (c : Core) (q : Queue)
+    (k : Candidate) (o : Opening)
+    → opens_block o ≡ false → MayOpen o e → (in_block c ≡ true → k.mark.col < c.indent) → c.level.key ≡ Some k
+    → HoldsWithin (free e outside) opened from c q
+    → HoldsWithin (awaited o k.mark (free e outside)) opened from (forget_key c) (with_opening k.place o q)
+open_quiet e outside opened from c q k o f m left is h =
     let known = key_known (next q) q (is_block c.level.context) c.indent c.level.key k c.outer is h.keys.1 h.keys.2 in
     let key = known.0 in
     let n = next_open k.place o q in
     let r = with_opening k.place o q in
     record {
-      taken = taken_open opened from c (forget_key c) q (next q) (is_block c.level.context) k o key (λ f. absurd (cc))
+      taken = taken_open e outside opened from c (forget_key c) q (next q) (is_block c.level.context) k o key
+          (λ g. absurd (cc)) (λ g. absurd (cc)) (λ _ g. left g)
+          (λ g. some_outer c.outer (sym h.keys.0 ∙ g)) m
           (taken.nothing _ _) (λ l s. subst (λ (j : Collections). Stands j c)
-          (sym (quiet_column o k.mark.col l e)) s) h.taken;
+          (sym (quiet_column o k.mark.col l f)) s) h.taken;
       keys = (
         h.keys.0,
         tt,
-        keys_weaken k.place (next r) r c.indent c.outer (omega (arith, n, key.below))
-            (keys_open k.place k.place q c.indent c.outer o e (omega arith) known.1),
+        keys_weaken 1 k.place (next r) r c.indent c.outer (omega (arith, n, key.below))
+            (keys_open 0 (next q) q (is_block c.level.context) c.indent k key 1 k.place c.indent c.outer o f
+            (omega arith) (omega arith) known.1),
       );
     }
 
 -- a block mapping and a key
-pub open_loud : (opened : Collections) (from : Cursor) (c : Core) (q : Queue) (k : Candidate) → in_block c ≡ true
-    → c.level.key ≡ Some k → HoldsTaken opened from c q
-    → HoldsTaken opened from (forget_key (enter_block k.mark.col c))
+pub open_loud : (e : Enclosure) (outside : List Enclosed) (opened : Setting) (from : Cursor) (c : Core) (q : Queue)
+    (k : Candidate) → in_block c ≡ true → IsTrue (may_begin_key e)
+    → c.indent ≤ k.mark.col → c.level.key ≡ Some k → HoldsWithin (free e outside) opened from c q
+    → HoldsWithin (awaited opening.BlockMappingAndKey k.mark (free e outside)) opened from
+    (forget_key (enter_block k.mark.col c))
     (with_opening k.place opening.BlockMappingAndKey q)
-open_loud opened from c q k e is h =
+open_loud e outside opened from c q k b may right is h =
     let known = key_known (next q) q (is_block c.level.context) c.indent c.level.key k c.outer is h.keys.1 h.keys.2 in
     let d : Core = forget_key (enter_block k.mark.col c) in
     let r = with_opening k.place opening.BlockMappingAndKey q in
     record {
-      taken = taken_open opened from c d q (next q) (is_block c.level.context) k opening.BlockMappingAndKey known.0
-          (λ f. e) (taken.nothing _ _) (λ l s. ((refl, s.0), s.1)) h.taken;
-      keys = no_keys (next r) r d.indent d.level d.outer refl (outermost opened from c q h e) e;
+      taken = taken_open e outside opened from c d q (next q) (is_block c.level.context) k opening.BlockMappingAndKey
+          known.0
+          (λ f. b) (λ f. right) (λ f. absurd (cc)) (λ f. absurd (cc)) may (taken.nothing _ _)
+          (λ l s. ((refl, s.0), s.1)) h.taken;
+      keys = no_keys (next r) r d.indent d.level d.outer refl
+          (outermost (free e outside) opened from c q h b) b;
     }
 
 pub further_block : (column : ℕ) (c : Core) → is_further column c ≡ true → in_block c ≡ true
@@ -309,28 +361,22 @@ further_block column c e = first (in_block c) (nat_le c.indent column) e
     first true b e = refl
     first false b e = absurd (cc)
 
--- ## What is passed
-
-pub behind_gap_of : {X : Type 0} → (P : X → Type 0) (c : Core) (f : Core → Result X Refusal)
-    → ((d : Core) → Alike c d → AreApart c.cursor d.cursor → Given P (f d)) → Given P (pass_gap c >>= f)
-unfolding pass_gap check_comment
-behind_gap_of P c f go = by (gaps.whole_gap (least_column c) c.cursor)
-    (gap_apart (least_column c) false false c.cursor)
+-- outside flow no block collection begins
+pub no_further : (column : ℕ) (c : Core) → is_further column c ≡ false → in_block c ≡ true → column < c.indent
+no_further column c e b = leb-false c.indent column (second (in_block c) (nat_le c.indent column) b e)
   where
-    checked : (m : Option Marker) (d : Core) → Alike c d → AreApart c.cursor d.cursor
-        → Given P (check_comment_of m d >>= f)
-    checked None d a p = go d a p
-    checked (Some m) d a p =
-        let e : Core = record d { comment = None } in
-        by_test (goes_on_behind m e) _ _ (λ r. Given P (r >>= f)) (λ _. tt)
-        (λ _. go e (record { level = a.level; outer = a.outer; indent = a.indent; outer_indents = a.outer_indents })
-        p)
+    second : (a b : Bool) → a ≡ true → (a && b) ≡ false → b ≡ false
+    second true b e f = f
+    second false b e f = absurd (cc)
 
-    by : (r : Result gaps.GapEnd Refusal) → Given (λ (p : gaps.GapEnd). AreApart c.cursor p.cursor) r
-        → Given P ((r >>= λ g. check_comment_of (behind_gap c g).comment (behind_gap c g)) >>= f)
-    by (Ok g) h = checked c.comment (behind_gap c g)
-        (record { level = refl; outer = refl; indent = refl; outer_indents = refl }) h
-    by (Err e) h = tt
+pub further_right : (column : ℕ) (c : Core) → is_further column c ≡ true → c.indent ≤ column
+further_right column c e = leb-true c.indent column (second (in_block c) (nat_le c.indent column) e)
+  where
+    second : (a b : Bool) → (a && b) ≡ true → b ≡ true
+    second true b e = e
+    second false b e = absurd (cc)
+
+-- ## What is passed
 
 -- an indicator is passed
 pub indicator_is_passed : (x : ℕ) (s : Cursor) → (x == 0) ≡ false → slice_index s.rest 0 ≡ x

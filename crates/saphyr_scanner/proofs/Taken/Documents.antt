@@ -1,9 +1,9 @@
 -- What is held behind a document's content and at the stream's end, and which texts are tokens of markers and
 -- directives.
-use Rattle.std.proofs.Common.{◌≡◌, ℕ, Bool, true, false, List, [], ◌∷◌, ◌++◌, length, drop, None, refl, sym, ap, ◌∙◌, arith, subst, inl, inr}
+use Rattle.std.proofs.Common.{◌≡◌, ℕ, Bool, true, false, List, [], ◌∷◌, ◌++◌, length, drop, None, refl, sym, ap, ◌∙◌, arith, subst, inl, inr, IsTrue}
 use Rattle.std.specs.Prelude.{◌&&◌, ◌==◌, slice_index, codes}
 use Rattle.saphyr_input.specs.Classes.{is_break, is_blank_or_breakz}
-use Rattle.saphyr_input.specs.Places.{is_document_start, is_document_end, next_2_are, next_3_are}
+use Rattle.saphyr_input.specs.Places.{is_document_start, is_document_end, is_document_indicator, next_2_are, next_3_are}
 use Rattle.saphyr_scalar.specs.declared.scalar.position.Marker.{Marker}
 use Rattle.saphyr_scalar.specs.declared.scalar.position.Span.{Span}
 use Rattle.saphyr_scalar.specs.Views.Cursor.{Cursor, next_line, pass_break}
@@ -18,25 +18,48 @@ use Rattle.saphyr_scanner.specs.Steps.State.{State, with_core}
 use Rattle.saphyr_scanner.specs.Steps.Unrolling.{unroll, end_blocks, go_less_deep}
 use Rattle.saphyr_scanner.specs.Steps.Document as document
 use Rattle.saphyr_scanner.specs.TokensTaken as taken
-use Rattle.saphyr_scanner.specs.TokensTaken.{Collections, Surroundings, AreApart, IsPassedOver, IsToken, IsPlaceOrEnd}
+use Rattle.saphyr_scanner.specs.TokensTaken.{Surroundings, AreApart, IsPassedOver, IsToken, IsPlaceOrEnd, Collections, begins_text, BeginsNoContent, IsContentEnd}
 use Rattle.saphyr_scanner.proofs.Blocks.{unrolled_cursor}
 use Rattle.saphyr_scanner.proofs.Taken.Parts.{is_quiet}
-use Rattle.saphyr_scanner.proofs.Taken.Held.{taken_further, taken_put}
-use Rattle.saphyr_scanner.proofs.Taken.Cores.{HoldsTaken, KeepsBrackets, holds_forgotten, no_keys, outermost}
-use Rattle.saphyr_scanner.proofs.Taken.States.{Fetched, TakenState, unroll_taken, blocks_levels}
-use Rattle.std.proofs.lemmas.Bool.{eqb-true, and_parts}
+use Rattle.saphyr_scanner.proofs.Taken.Held.{enclosures_of, Setting, taken_further, taken_put}
+use Rattle.saphyr_scanner.proofs.Taken.Cores.{HoldsTaken, holds_forgotten, no_keys, outermost}
+use Rattle.saphyr_scanner.proofs.Taken.Neutral.{Neutral, neutral}
+use Rattle.saphyr_scanner.proofs.Taken.States.{Fetched, TakenState, unroll_taken, blocks_levels, BlocksEnd}
+use Rattle.std.proofs.lemmas.Bool.{eqb-true, and_parts, or_cases}
+use Rattle.std.proofs.Math.Bool.{or-true}
 use Rattle.saphyr_input.proofs.Basics.Booleans.{by_test}
 use Rattle.saphyr_scalar.proofs.Given.{Given}
 
-abbrev pub HoldsState : Collections → Cursor → State → Type 0
+abbrev pub HoldsState : Setting → Cursor → State → Type 0
 HoldsState opened from s = HoldsTaken opened from s.core s.queue
 
+-- a text begins where no content does
+no_content_begins : (xs : List ℕ) → BeginsNoContent xs → IsTrue (begins_text (slice_index xs 0))
+no_content_begins xs (inl e) =
+    elim (or_cases (is_document_start xs) (is_document_end xs) e) [
+      | inl f ↦ marker 45 refl (and_parts (next_3_are xs 45 45 45) (is_blank_or_breakz (slice_index xs 3)) f).0
+      | inr f ↦ marker 46 refl (and_parts (next_3_are xs 46 46 46) (is_blank_or_breakz (slice_index xs 3)) f).0
+    ]
+  where
+    marker : (x : ℕ) → begins_text x ≡ true → next_3_are xs x x x ≡ true → begins_text (slice_index xs 0) ≡ true
+    marker x b f =
+        let two = and_parts ((slice_index xs 0 == x) && (slice_index xs 1 == x)) (slice_index xs 2 == x) f in
+        let one = and_parts (slice_index xs 0 == x) (slice_index xs 1 == x) two.0 in
+        ap begins_text (eqb-true (slice_index xs 0) x one.0) ∙ b
+no_content_begins xs (inr (inl e)) = ap begins_text e
+no_content_begins xs (inr (inr e)) = ap begins_text e
+
+pub content_ends : (s : Cursor) → IsContentEnd s → BlocksEnd None s.mark s
+content_ends s (inl e) = (inl refl, ap (λ l. begins_text (slice_index l 0)) e, inl e)
+content_ends s (inr e) = (inl refl, no_content_begins s.rest e.1, inr e)
+
 -- all block collections end, and no key is left
-pub forgotten_unrolled : (opened : Collections) (from : Cursor) (s : State) → HoldsState opened from s
+pub forgotten_unrolled : (opened : Setting) (from : Cursor) (s : State) → IsContentEnd s.core.cursor
+    → HoldsState opened from s
     → HoldsTaken opened from (forget_key (unroll None s.core.cursor.mark s).core)
     (unroll None s.core.cursor.mark s).queue
 unfolding unroll
-forgotten_unrolled opened from s h =
+forgotten_unrolled opened from s end h =
     let m = s.core.cursor.mark in
     let P : State → Type 0 = λ t. TakenState opened from t → HoldsTaken opened from (forget_key t.core) t.queue in
     by_test (in_block s.core) (end_blocks None m s.core.outer_indents (with_core (go_less_deep None s.core) s)) s P
@@ -44,17 +67,14 @@ forgotten_unrolled opened from s h =
     let t : State = end_blocks None m s.core.outer_indents (with_core (go_less_deep None s.core) s) in
     let l = blocks_levels None m s.core.outer_indents (with_core (go_less_deep None s.core) s) in
     record {
-      taken = taken_further opened from t.core (forget_key t.core) t.queue (taken.nothing _ _) refl refl refl k;
+      taken = taken_further (enclosures_of t.core) opened from t.core (forget_key t.core) t.queue (taken.nothing _ _)
+          refl refl refl k;
       keys = no_keys (next t.queue) t.queue t.core.indent (forget_key t.core).level t.core.outer refl
-          (l.outer ∙ outermost opened from s.core s.queue h e)
+          (l.outer ∙ outermost (enclosures_of s.core) opened from s.core s.queue h e)
           (ap (λ (y : Level). is_block y.context) l.level ∙ e);
     })
     (λ _ k. holds_forgotten opened from s.core s.queue h)
-    (unrolled opened from s h)
-  where
-    unrolled : (opened : Collections) (from : Cursor) (s : State) → HoldsState opened from s
-        → TakenState opened from (unroll None s.core.cursor.mark s)
-    unrolled opened from s h = unroll_taken opened from None s.core.cursor.mark s (inl refl) h.taken
+    (unroll_taken opened from None m s (content_ends s.core.cursor end) h.taken)
 
 -- ## Markers
 
@@ -78,27 +98,30 @@ three_at x xs z e =
 -- a document marker's token
 pub record Marking (stands : List ℕ → Bool) (text : List ℕ) (kind : Kind) : Type 0 where
   pub quiet : is_quiet kind ≡ true
-  pub keeps : (span : Span) → KeepsBrackets (record { span = span; kind = kind })
+  pub keeps : (span : Span) → Neutral (record { span = span; kind = kind })
   pub is : (i : Surroundings) (span : Span) (s t : Cursor) → taken.IsMarker stands text span s t
       → IsToken i kind span s t
   pub three : (xs : List ℕ) → stands xs ≡ true → xs ≡ text ++ drop 3 xs
+  pub ends : (xs : List ℕ) → stands xs ≡ true → is_document_indicator xs ≡ true
   pub count : length text ≡ 3
 
 pub start_marking : Marking is_document_start (codes "---") tokens.DocumentStart
 start_marking = record {
   quiet = refl;
-  keeps = λ span opened. refl;
+  keeps = λ span. neutral _ span refl;
   is = λ i p s t h. h;
   three = λ xs e. three_at 45 xs refl (and_parts (next_3_are xs 45 45 45) (is_blank_or_breakz (slice_index xs 3)) e).0;
+  ends = λ xs e. rw e refl;
   count = refl;
 }
 
 pub end_marking : Marking is_document_end (codes "...") tokens.DocumentEnd
 end_marking = record {
   quiet = refl;
-  keeps = λ span opened. refl;
+  keeps = λ span. neutral _ span refl;
   is = λ i p s t h. h;
   three = λ xs e. three_at 46 xs refl (and_parts (next_3_are xs 46 46 46) (is_blank_or_breakz (slice_index xs 3)) e).0;
+  ends = λ xs e. rw e (or-true (is_document_start xs));
   count = refl;
 }
 
@@ -132,10 +155,10 @@ quiet_directive (tag_prefix handle prefix) = refl
 quiet_directive (reserved name) = refl
 
 pub directive_keeps : (d : ReadDirective) (span : Span)
-    → KeepsBrackets (record { span = span; kind = document.directive_kind d })
-directive_keeps (version major minor) span opened = refl
-directive_keeps (tag_prefix handle prefix) span opened = refl
-directive_keeps (reserved name) span opened = refl
+    → Neutral (record { span = span; kind = document.directive_kind d })
+directive_keeps (version major minor) span = neutral _ span refl
+directive_keeps (tag_prefix handle prefix) span = neutral _ span refl
+directive_keeps (reserved name) span = neutral _ span refl
 
 -- ## The end of the stream
 
@@ -146,7 +169,7 @@ pub no_length : (xs : List ℕ) → (length xs == 0) ≡ true → xs ≡ []
 no_length [] e = refl
 no_length (c ∷ cs) e = absurd (let h : length (c ∷ cs) ≡ 0 = eqb-true (length (c ∷ cs)) 0 e in omega (arith, h))
 
-pub end_fetched : (opened : Collections) (from : Cursor) (s : State) → TakenState opened from s
+pub end_fetched : (opened : Setting) (from : Cursor) (s : State) → TakenState opened from s
     → Given (λ (t : State). Fetched opened from t.core t.queue) (document.state_behind_end s)
 unfolding document.state_behind_end document.end_at
 end_fetched opened from s h =
@@ -157,15 +180,17 @@ end_fetched opened from s h =
     (λ e.
     let empty = no_length s.core.cursor.rest e in
     let place = end_place s.core.cursor empty in
+    let first = ap (λ l. begins_text (slice_index l 0)) empty in
     let same : t.core.cursor ≡ s.core.cursor = unrolled_cursor None m s in
     let Q : Cursor → Type 0 = λ u. IsPlaceOrEnd u m in
     let there : IsPlaceOrEnd t.core.cursor m = subst Q (sym same) place in
     let left : t.core.cursor.rest ≡ [] = ap (λ (c : Cursor). c.rest) same ∙ empty in
     by_test s.core.required _ _ (Given P) (λ _. tt)
     (λ _. record {
-      taken = taken_put opened from t.core (document.core_at_end t.core) t.queue (empty_piece m tokens.StreamEnd)
+      taken = taken_put (enclosures_of t.core) opened from t.core (document.core_at_end t.core) t.queue
+          (empty_piece m tokens.StreamEnd)
           t.core.cursor t.core.cursor (taken.nothing _ _) (left, (refl, there, refl)) (taken.nothing _ _) (λ cs k. k)
-          (unroll_taken opened from None m s place h);
+          refl (unroll_taken opened from None m s (place, first, inl empty) h);
       live = λ f. absurd (cc);
     }))
     (λ _. tt)

@@ -1,5 +1,5 @@
 -- Each token that is fetched is taken from the text.
-use Rattle.std.proofs.Common.{◌≡◌, ℕ, ◌+◌, ◌-◌, ◌^◌, ◌≤◌, ◌<◌, Bool, true, false, List, [], ◌∷◌, length, None, Result, Ok, Err, refl, ap, ◌∙◌, arith, subst, inl, inr, cond}
+use Rattle.std.proofs.Common.{◌≡◌, ℕ, ◌^◌, ◌<◌, true, false, List, [], ◌∷◌, length, None, Result, Ok, Err, refl, ap, ◌∙◌, subst, inl, inr}
 use Rattle.std.specs.Prelude.{◌&&◌, ◌==◌, slice_index, not, nat_lt, nat_le, codes}
 use Rattle.saphyr_input.specs.Classes.{is_z, is_bom}
 use Rattle.saphyr_input.specs.Places.{is_document_start, is_document_end}
@@ -15,14 +15,14 @@ use Rattle.saphyr_scanner.specs.Steps.Unrolling.{unroll}
 use Rattle.saphyr_scanner.specs.Steps.Document as document
 use Rattle.saphyr_scanner.specs.Steps.Fetch.{step, state_behind_content, fetch_here, arrive, fetch, begin, check_limit, fetch_within, without_far_key}
 use Rattle.saphyr_scanner.specs.TokensTaken as taken
-use Rattle.saphyr_scanner.specs.TokensTaken.{Collections, AreTokens}
+use Rattle.saphyr_scanner.specs.TokensTaken.{AreTokens}
 use Rattle.saphyr_scanner.proofs.Effects.Readers.{TextLaws}
 use Rattle.saphyr_scanner.proofs.Leads.{flat}
 use Rattle.saphyr_scanner.proofs.Effects.States.{FetchesTokens, after_step_fetches}
-use Rattle.saphyr_scanner.proofs.Effects.Fetch.{some_character_left, step_does, step_effect, arrive_advances}
+use Rattle.saphyr_scanner.proofs.Effects.Fetch.{some_character_left, deep_here, step_does, step_effect, arrive_advances}
 use Rattle.saphyr_scanner.proofs.Taken.Later.{LaterThan}
 use Rattle.saphyr_scanner.proofs.Taken.Parts.{tokens_part}
-use Rattle.saphyr_scanner.proofs.Taken.Held.{taken_put}
+use Rattle.saphyr_scanner.proofs.Taken.Held.{enclosures_of, Setting, taken_put}
 use Rattle.saphyr_scanner.proofs.Taken.Cores.{no_keys, quiet_put}
 use Rattle.saphyr_scanner.proofs.Effects.Walked.{Premises, Walked, walked_given, Stepped}
 use Rattle.saphyr_scanner.proofs.Effects.Documents.{Documented, start_walked, end_marker_walked, mark_walked, directive_walked, documents_advance, documents_hold}
@@ -30,72 +30,78 @@ use Rattle.saphyr_scanner.proofs.Taken.States.{Live, Fetched, holds_fetched, Fet
 use Rattle.saphyr_scanner.proofs.Taken.Documents.{HoldsState, start_marking, end_fetched}
 use Rattle.saphyr_input.proofs.Basics.Booleans.{by_test}
 use Rattle.saphyr_scalar.proofs.Given.{Given, given_bind, given_of}
-use Rattle.std.proofs.lemmas.Bool.{and_parts, not-true, ltb-false, eqb-true}
+use Rattle.std.proofs.lemmas.Bool.{and_parts, not-true, eqb-true}
 use Rattle.saphyr_scanner.proofs.Queues.{flat_append}
 use Rattle.saphyr_scanner.proofs.Taken.Arrivals.{forgotten_live, forgotten_taken, Arrived, arrived}
 
 -- ## The end of the stream is the last token
 
-abbrev pub OverAt : Collections → Cursor → Queue → Type 0
-OverAt opened from q = (u : Cursor) → AreTokens opened (flat q.places) from u → u.rest ≡ []
+abbrev pub OverAt : Setting → Cursor → Queue → Type 0
+OverAt opened from q = (u : Cursor) → AreTokens opened.collections (flat q.places) from u → u.rest ≡ []
 
-over_put : (opened : Collections) (from : Cursor) (m : Marker) (q : Queue)
+over_put : (opened : Setting) (from : Cursor) (m : Marker) (q : Queue)
     → OverAt opened from (with_piece (empty_piece m tokens.StreamEnd) q)
 over_put opened from m q u h =
-    let P : List Piece → Type 0 = λ l. AreTokens opened l from u in
-    let r = tokens_part opened (flat q.places) (empty_piece m tokens.StreamEnd ∷ []) from u
+    let P : List Piece → Type 0 = λ l. AreTokens opened.collections l from u in
+    let r = tokens_part opened.collections (flat q.places) (empty_piece m tokens.StreamEnd ∷ []) from u
     (subst P (flat_append q.places (bare_place (empty_piece m tokens.StreamEnd) ∷ [])) h) in
     ap (λ (c : Cursor). c.rest) (r.back.4 ∙ r.back.3.1.2) ∙ r.back.3.0
 
-end_over : (opened : Collections) (from : Cursor) (s : State)
-    → Given (λ (t : State). OverAt opened from t.queue) (document.state_behind_end s)
+end_over : (opened : Setting) (from : Cursor) (s : State)
+    → Given (λ (t : State). OverAt opened from t.queue × (t.core.ended ≡ true)) (document.state_behind_end s)
 unfolding document.state_behind_end document.end_at
 end_over opened from s =
-    let P : State → Type 0 = λ t. OverAt opened from t.queue in
+    let P : State → Type 0 = λ t. OverAt opened from t.queue × (t.core.ended ≡ true) in
     let m : Marker = document.end_mark s.core.cursor.mark in
     by_test (length s.core.cursor.rest == 0) _ _ (Given P)
-    (λ _. by_test s.core.required _ _ (Given P) (λ _. tt) (λ _. over_put opened from m (unroll None m s).queue))
+    (λ _. by_test s.core.required _ _ (Given P) (λ _. tt) (λ _. (over_put opened from m (unroll None m s).queue, refl)))
     (λ _. tt)
 
 -- ## A token is fetched
 
-pub record Read (opened : Collections) (from : Cursor) (t : State) : Type 0 where
+-- no token may be a key before the first
+abbrev pub IsFresh : State → Type 0
+IsFresh t = t.core.ended ≡ false → t.core.started ≡ false → t.core.level.key ≡ None
+
+pub record Read (opened : Setting) (from : Cursor) (t : State) : Type 0 where
   pub fetched : Fetched opened from t.core t.queue
   pub over : t.core.ended ≡ true → OverAt opened from t.queue
+  pub fresh : IsFresh t
 
-both_given : (opened : Collections) (from : Cursor) (s : State) (r : Result State Refusal) → s.core.ended ≡ false
-    → Given (λ (t : State). Fetched opened from t.core t.queue) r → Given (FetchesTokens 1 s) r
-    → Given (Read opened from) r
-both_given opened from s (Ok t) going a b =
-    record { fetched = a; over = λ e. absurd (let f : t.core.ended ≡ false = b.ended ∙ going in cc) }
-both_given opened from s (Err e) going a b = tt
+both_given : (opened : Setting) (from : Cursor) (s : State) (r : Result State Refusal) → s.core.ended ≡ false
+    → s.core.started ≡ true → Given (λ (t : State). Fetched opened from t.core t.queue) r
+    → Given (FetchesTokens 1 s) r → Given (Read opened from) r
+both_given opened from s (Ok t) going begun a b =
+    record {
+      fetched = a;
+      over = λ e. absurd (let f : t.core.ended ≡ false = b.ended ∙ going in cc);
+      fresh = λ _ e. absurd (let f : t.core.started ≡ true = b.started ∙ begun in cc);
+    }
+both_given opened from s (Err e) going begun a b = tt
 
-end_given : (opened : Collections) (from : Cursor) (r : Result State Refusal)
+end_given : (opened : Setting) (from : Cursor) (r : Result State Refusal)
     → Given (λ (t : State). Fetched opened from t.core t.queue) r
-    → Given (λ (t : State). OverAt opened from t.queue) r → Given (Read opened from) r
-end_given opened from (Ok t) a b = record { fetched = a; over = λ _. b }
+    → Given (λ (t : State). OverAt opened from t.queue × (t.core.ended ≡ true)) r → Given (Read opened from) r
+end_given opened from (Ok t) a b =
+    record { fetched = a; over = λ _. b.0; fresh = λ e. absurd (let f : t.core.ended ≡ true = b.1 in cc) }
 end_given opened from (Err e) a b = tt
 
-held : (opened : Collections) (from : Cursor) (r : Result State Refusal) → Given (HoldsState opened from) r
+held : (opened : Setting) (from : Cursor) (r : Result State Refusal) → Given (HoldsState opened from) r
     → Given (λ (t : State). Fetched opened from t.core t.queue) r
 held opened from (Ok t) h = holds_fetched opened from t.core t.queue h
 held opened from (Err e) h = tt
 
-after_step_fetched : (opened : Collections) (from : Cursor) (q : Queue) (r : StepResult)
+after_step_fetched : (opened : Setting) (from : Cursor) (q : Queue) (r : StepResult)
     → Given (FetchedStep opened from q) r
     → Given (λ (t : State). Fetched opened from t.core t.queue) (after_step r q)
 after_step_fetched opened from q (Ok x) h = h
 after_step_fetched opened from q (Err e) h = tt
 
-deep_of : (deeper : Bool) (i col : ℕ) → nat_lt col (cond deeper i (i - 1)) ≡ false → i ≤ col + 1
-deep_of true i col e = let h = ltb-false col i e in omega (arith, h)
-deep_of false i col e = let h = ltb-false col (i - 1) e in omega (arith, h)
-
-here_read : TextLaws → (text : List ℕ) → length text < 2 ^ 63 → (opened : Collections) (from : Cursor) (s : State)
-    → LaterThan (start_cursor text) from → s.core.ended ≡ false → Arrived opened from s
+here_read : TextLaws → (text : List ℕ) → length text < 2 ^ 63 → (opened : Setting) (from : Cursor) (s : State)
+    → LaterThan (start_cursor text) from → s.core.ended ≡ false → s.core.started ≡ true → Arrived opened from s
     → Given (Read opened from) (fetch_here s)
 unfolding fetch_here state_behind_content
-here_read laws text small opened from s l going a =
+here_read laws text small opened from s l going begun a =
     let t = s.core.cursor.rest in
     let P = Given (Read opened from) in
     by_test (is_z (slice_index t 0)) _ _ P
@@ -104,7 +110,7 @@ here_read laws text small opened from s l going a =
     (λ z. let some : 0 < length t = some_character_left t z in
     let h : HoldsState opened from s = record { taken = a.taken; keys = a.live z } in
     let behind : (r : Result State Refusal) → Walked (Premises s.core) (Documented s) s.core.cursor r → P r =
-    λ r w. both_given opened from s r going (held opened from r (documents_hold laws opened from s r h w))
+    λ r w. both_given opened from s r going begun (held opened from r (documents_hold laws opened from s r h w))
     (documents_advance s r w) in
     by_test (is_bom (slice_index t 0)) _ _ P
     (λ e. behind (document.state_behind_byte_order_mark s) (mark_walked s e))
@@ -121,58 +127,62 @@ here_read laws text small opened from s l going a =
     (λ e. let w = and_parts (s.core.cursor.mark.col == 0) (is_document_end t) e in
     behind (document.state_behind_document_end s) (end_marker_walked s (eqb-true s.core.cursor.mark.col 0 w.0) w.1))
     (λ _. by_test (nat_lt s.core.cursor.mark.col (least_column s.core)) _ _ P (λ _. tt)
-    (λ e. let r = step (slice_index t 0) (slice_index t 1) (next s.queue) s.core in
-    both_given opened from s (after_step r s.queue) going
+    (λ e. let deep = deep_here s.core e in
+    let r = step (slice_index t 0) (slice_index t 1) (next s.queue) s.core in
+    both_given opened from s (after_step r s.queue) going begun
     (after_step_fetched opened from s.queue r
     (walked_given (Premises s.core) (Stepped (next s.queue) s.core) (FetchedStep opened from s.queue) s.core.cursor r
     (λ x k. k.fetched laws text small opened from s.queue l refl
-    (λ _. deep_of s.core.deeper s.core.indent s.core.cursor.mark.col e) h)
-    (step_does (slice_index t 0) (slice_index t 1) (next s.queue) s.core some refl refl)))
-    (after_step_fetches _ s r (step_effect (slice_index t 0) (slice_index t 1) (next s.queue) s.core some refl
-    refl))))))))
+    (deep, a.near) h)
+    (step_does (slice_index t 0) (slice_index t 1) (next s.queue) s.core some refl refl deep)))
+    (after_step_fetches _ s r (step_effect (slice_index t 0) (slice_index t 1) (next s.queue) s.core some refl refl
+    deep))))))))
 
-begin_live : (opened : Collections) (from : Cursor) (s : State) → TakenState opened from s → Live s.core s.queue
+begin_live : (opened : Setting) (from : Cursor) (s : State) → s.core.level.key ≡ None → TakenState opened from s
+    → Live s.core s.queue
     → Live (record s.core { started = true }) (with_piece (empty_piece s.core.cursor.mark tokens.StreamStart) s.queue)
-begin_live opened from s h l nz =
-    (quiet_put opened from s.core (record s.core { started = true }) s.queue
+begin_live opened from s none h l nz =
+    (quiet_put (enclosures_of s.core) opened from s.core (record s.core { started = true }) s.queue
     (empty_piece s.core.cursor.mark tokens.StreamStart) s.core.cursor s.core.cursor refl (λ x. refl)
-    (taken.nothing _ _)
+    (λ d. refl) (inl none) refl (taken.nothing _ _)
     (refl, inl refl, refl) (taken.nothing _ _)
     (record { level = refl; outer = refl; indent = refl; outer_indents = refl })
     (record { taken = h; keys = l nz })).keys
 
-begin_read : (opened : Collections) (from : Cursor) (s : State) → s.core.ended ≡ false → TakenState opened from s
-    → Live s.core s.queue → Read opened from (begin s)
-begin_read opened from s going h l = record {
+begin_read : (opened : Setting) (from : Cursor) (s : State) → s.core.ended ≡ false → s.core.level.key ≡ None
+    → TakenState opened from s → Live s.core s.queue → Read opened from (begin s)
+begin_read opened from s going none h l = record {
   fetched = record {
-    taken = taken_put opened from s.core (record s.core { started = true }) s.queue
+    taken = taken_put (enclosures_of s.core) opened from s.core (record s.core { started = true }) s.queue
         (empty_piece s.core.cursor.mark tokens.StreamStart) s.core.cursor s.core.cursor (taken.nothing _ _)
-        (refl, inl refl, refl) (taken.nothing _ _) (λ cs k. k) h;
-    live = λ _. inl (begin_live opened from s h l);
+        (refl, inl refl, refl) (taken.nothing _ _) (λ cs k. k) refl h;
+    live = λ _. inl (begin_live opened from s none h l);
   };
   over = λ e. absurd (let f : s.core.ended ≡ true = e in cc);
+  fresh = λ _ e. absurd (cc);
 }
 
 pub fetch_read : TextLaws → (text : List ℕ) → length text < 2 ^ 63
-    → (opened : Collections) (from : Cursor) (s : State) → LaterThan (start_cursor text) from → s.core.ended ≡ false
-    → TakenState opened from s → Live s.core s.queue → Given (Read opened from) (fetch s)
+    → (opened : Setting) (from : Cursor) (s : State) → LaterThan (start_cursor text) from → s.core.ended ≡ false
+    → IsFresh s → TakenState opened from s → Live s.core s.queue → Given (Read opened from) (fetch s)
 unfolding fetch
-fetch_read laws text small opened from s l going h k =
+fetch_read laws text small opened from s l going fresh h k =
     by_test s.core.started _ _ (Given (Read opened from))
-    (λ _. given_bind (Read opened from) (arrive s) fetch_here (λ t e.
+    (λ begun. given_bind (Read opened from) (arrive s) fetch_here (λ t e.
     let a = given_of (Arrived opened from) (arrive s) t (arrived text small opened from s l h k) e in
     let kept = given_of (FetchesTokens 0 s) (arrive s) t (arrive_advances s) e in
-    here_read laws text small opened from t l (kept.ended ∙ going) a))
-    (λ _. begin_read opened from s going h k)
+    here_read laws text small opened from t l (kept.ended ∙ going) (kept.started ∙ begun) a))
+    (λ first. begin_read opened from s going (fresh going first) h k)
 
 -- ## Where a candidate that is too far is dropped
 
-pub record Ready (opened : Collections) (from : Cursor) (t : State) : Type 0 where
+pub record Ready (opened : Setting) (from : Cursor) (t : State) : Type 0 where
   pub taken : TakenState opened from t
   pub live : t.core.ended ≡ false → Live t.core t.queue
   pub over : t.core.ended ≡ true → OverAt opened from t.queue
+  pub fresh : IsFresh t
 
-pub settled_ready : (opened : Collections) (from : Cursor) (s : State) → Read opened from s
+pub settled_ready : (opened : Setting) (from : Cursor) (s : State) → Read opened from s
     → Given (Ready opened from) (without_far_key s)
 unfolding drop_far_key
 settled_ready opened from s h =
@@ -187,6 +197,7 @@ settled_ready opened from s h =
             (let n = not-true (in_block c && is_too_far c.level.key c.cursor.mark) e in let y = w.0 in cc)
       ];
       over = h.over;
+      fresh = h.fresh;
     })
     (λ _. by_test c.required _ _ (λ r. Given (Ready opened from) (on_core r s.queue)) (λ _. tt)
     (λ _. record {
@@ -198,15 +209,16 @@ settled_ready opened from s h =
             (and_parts (in_block c) (is_too_far c.level.key c.cursor.mark) w.0).0)
       ];
       over = h.over;
+      fresh = λ _ _. refl;
     }))
 
 pub read_ready : TextLaws → (text : List ℕ) → length text < 2 ^ 63
-    → (limit : ℕ) (opened : Collections) (from : Cursor) (s : State) → LaterThan (start_cursor text) from
+    → (limit : ℕ) (opened : Setting) (from : Cursor) (s : State) → LaterThan (start_cursor text) from
     → s.core.ended ≡ false
     → Ready opened from s → Given (Ready opened from) (fetch_within limit s >>= without_far_key)
 unfolding fetch_within
 read_ready laws text small limit opened from s l going h =
-    by (fetch s) (fetch_read laws text small opened from s l going h.taken (h.live going))
+    by (fetch s) (fetch_read laws text small opened from s l going h.fresh h.taken (h.live going))
   where
     by : (r : Result State Refusal) → Given (Read opened from) r
         → Given (Ready opened from) ((r >>= check_limit limit) >>= without_far_key)

@@ -1,7 +1,7 @@
 -- Tokens that are taken from a text, one part behind the other.
-use Rattle.std.proofs.Common.{◌≡◌, ℕ, suc, ◌+◌, Bool, true, false, List, [], ◌∷◌, ◌++◌, length, refl, sym, ap, ◌∙◌, arith, subst, inl, inr, IsTrue}
-use Rattle.std.specs.Prelude.{◌-◌, slice_index, nat_lt, if◌then◌else◌}
-use Rattle.std.proofs.lemmas.Bool.Decides.{nat_tests}
+use Rattle.std.proofs.Common.{◌≡◌, ℕ, zero, suc, ◌+◌, ◌⊎◌, Bool, true, false, List, [], ◌∷◌, ◌++◌, length, refl, sym, ap, ◌∙◌, arith, subst, inl, inr, IsTrue, ◌≤◌}
+use Rattle.std.specs.Prelude.{◌-◌, slice_index, if◌then◌else◌, nat_lt}
+use Rattle.std.proofs.lemmas.Bool.{lt-ltb}
 use Rattle.saphyr_input.proofs.Basics.Booleans.{by_test}
 use Rattle.saphyr_scalar.specs.declared.scalar.position.Marker.{Marker}
 use Rattle.saphyr_scalar.specs.declared.scalar.position.Span.{Span}
@@ -14,9 +14,11 @@ use Rattle.saphyr_scanner.specs.Grammar.Tokens.{Kind}
 use Rattle.saphyr_scanner.specs.Views.Tokens.{Piece}
 use Rattle.saphyr_scanner.specs.Steps.Queue.{Place, bare_place, places_with_opening, empty_piece}
 use Rattle.saphyr_scanner.specs.TokensTaken as taken
-use Rattle.saphyr_scanner.specs.TokensTaken.{Collections, Surroundings, with_columns, with_brackets, has_text, surroundings_in, IsToken, AreTokens, begins_text, open_behind}
+use Rattle.saphyr_scanner.specs.TokensTaken.{Collections, Surroundings, with_columns, with_brackets, surroundings_in, IsToken, AreTokens, begins_text, open_behind, least_column_in, IsAtColumn}
+use Rattle.saphyr_scanner.specs.TokensInPlace.{has_text, is_of_flow_node}
 use Rattle.saphyr_scanner.proofs.Leads.{flat, place_pieces}
 use Rattle.saphyr_scanner.proofs.Queues.{flat_append, place_with_front}
+use Rattle.saphyr_scanner.proofs.Taken.InPlace.{no_text, deeper, AreInside, inside_first, inside_rest}
 
 -- what is open behind tokens
 abbrev pub open_all : List Piece → Collections → Collections
@@ -47,12 +49,13 @@ tokens_part opened (p ∷ ps) qs s u h =
     let r = tokens_part (open_behind p.kind p.span opened) ps qs h.1 u h.4 in
     record { between = r.between; front = (h.0, h.1, h.2, h.3, r.front); back = r.back }
 
--- ## Tokens that neither begin nor end a block collection, and are no block scalars
+-- ## Tokens that neither begin nor end a block collection nor an entry of a sequence, and are no block scalars
 
 abbrev pub is_quiet : Kind → Bool
 is_quiet tokens.BlockSequenceStart = false
 is_quiet tokens.BlockMappingStart = false
 is_quiet tokens.BlockEnd = false
+is_quiet tokens.BlockEntry = false
 is_quiet (tokens.Scalar style.Literal value) = false
 is_quiet (tokens.Scalar style.Folded value) = false
 is_quiet _ = true
@@ -61,15 +64,24 @@ is_quiet _ = true
 abbrev pub with_column : ℕ → Collections → Collections
 with_column column opened = with_columns (column ∷ opened.columns) opened
 
+-- in flow, or among the tokens of a node that may be a key, a quiet token is one whichever columns are open
 pub quiet_token : (f : Bool) (i j : ℕ) (kind : Kind) (span : Span) (s t : Cursor) → is_quiet kind ≡ true
+    → IsTrue (is_of_flow_node kind span) ⊎ (f ≡ true)
     → IsToken (record { in_flow = f; indent = i }) kind span s t
     → IsToken (record { in_flow = f; indent = j }) kind span s t
-quiet_token f i j (tokens.Scalar style.Literal value) span s t q h = absurd (cc)
-quiet_token f i j (tokens.Scalar style.Folded value) span s t q h = absurd (cc)
-quiet_token f i j (tokens.Scalar style.Plain value) span s t q h = h
-quiet_token f i j (tokens.Scalar style.SingleQuoted value) span s t q h = h
-quiet_token f i j (tokens.Scalar style.DoubleQuoted value) span s t q h = h
-quiet_token f i j _ span s t q h = h
+quiet_token f i j (tokens.Scalar style.Literal value) span s t q w h = absurd (cc)
+quiet_token f i j (tokens.Scalar style.Folded value) span s t q w h = absurd (cc)
+quiet_token f i j tokens.BlockSequenceStart span s t q w h = absurd (cc)
+quiet_token f i j tokens.BlockMappingStart span s t q w h = absurd (cc)
+quiet_token f i j tokens.BlockEntry span s t q w h = absurd (cc)
+quiet_token f i j tokens.BlockEnd span s t q w h = absurd (cc)
+quiet_token f i j (tokens.Scalar style.Plain value) span s t q w h = h
+quiet_token f i j (tokens.Scalar style.SingleQuoted value) span s t q w h = h
+quiet_token f i j (tokens.Scalar style.DoubleQuoted value) span s t q w h = h
+quiet_token f i j tokens.Key span s t q (inl n) h = absurd (let no : false ≡ true = n in cc)
+quiet_token f i j tokens.Key span s t q (inr e) (inr h) = inr (h.0, h.1, h.2, h.3, λ g. absurd (cc))
+quiet_token f i j tokens.Key span s t q (inr e) (inl h) = inl (h.0, h.1, h.2, h.3, λ g. absurd (cc))
+quiet_token f i j _ span s t q w h = h
 
 -- the columns stay behind a quiet token
 pub quiet_open : (kind : Kind) (span : Span) (opened : Collections) → is_quiet kind ≡ true
@@ -109,21 +121,84 @@ abbrev pub AreQuiet : List Piece → Type 0
 AreQuiet [] = Unit {0}
 AreQuiet (p ∷ ps) = (is_quiet p.kind ≡ true) × AreQuiet ps
 
+pub quiet_columns : (ps : List Piece) (opened : Collections) → AreQuiet ps
+    → (open_all ps opened).columns ≡ opened.columns
+quiet_columns [] opened q = refl
+quiet_columns (p ∷ ps) opened q =
+    quiet_columns ps (open_behind p.kind p.span opened) q.1 ∙ quiet_open p.kind p.span opened q.0
+
 pub quiet_append : (ps qs : List Piece) → AreQuiet ps → AreQuiet qs → AreQuiet (ps ++ qs)
 quiet_append [] qs a b = b
 quiet_append (p ∷ ps) qs a b = (a.0, quiet_append ps qs a.1 b)
 
-pub quiet_tokens : (column : ℕ) (opened : Collections) (ps : List Piece) (s u : Cursor) → AreQuiet ps
+-- with the depth the brackets change
+bracket_changes : (kind : Kind) (span : Span) (opened : Collections) (d : ℕ) → d ≤ opened.brackets
+    → (d ≡ 0 → IsTrue (is_of_flow_node kind span))
+    → (open_behind kind span opened).brackets + d ≡ opened.brackets + deeper kind span d
+bracket_changes tokens.FlowSequenceStart span opened d l w = omega arith
+bracket_changes tokens.FlowSequenceEnd span opened zero l w = absurd (let no : false ≡ true = w refl in cc)
+bracket_changes tokens.FlowSequenceEnd span opened (suc d) l w = omega (arith, l)
+bracket_changes tokens.FlowMappingStart span opened d l w = by (has_text span)
+  where
+    by : (b : Bool) → (if b then with_brackets (opened.brackets + 1) opened else opened).brackets + d
+        ≡ opened.brackets + (if b then suc d else d)
+    by true = omega arith
+    by false = refl
+bracket_changes tokens.FlowMappingEnd span opened zero l w = absurd (let no : false ≡ true = w refl in cc)
+bracket_changes tokens.FlowMappingEnd span opened (suc d) l w = by (has_text span)
+  where
+    by : (b : Bool) → (if b then with_brackets (opened.brackets - 1) opened else opened).brackets + suc d
+        ≡ opened.brackets + (if b then suc d - 1 else suc d)
+    by true = omega (arith, l)
+    by false = refl
+bracket_changes _ span opened d l w = refl
+
+-- brackets are open where tokens lead so deep
+brackets_deep : (kind : Kind) (span : Span) (opened : Collections) (d : ℕ) → d ≤ opened.brackets
+    → deeper kind span d ≤ (open_behind kind span opened).brackets
+brackets_deep tokens.FlowSequenceStart span opened d l = omega (arith, l)
+brackets_deep tokens.FlowSequenceEnd span opened d l = omega (arith, l)
+brackets_deep tokens.FlowMappingStart span opened d l = by (has_text span)
+  where
+    by : (b : Bool) → (if b then suc d else d)
+        ≤ (if b then with_brackets (opened.brackets + 1) opened else opened).brackets
+    by true = omega (arith, l)
+    by false = l
+brackets_deep tokens.FlowMappingEnd span opened d l = by (has_text span)
+  where
+    by : (b : Bool) → (if b then d - 1 else d)
+        ≤ (if b then with_brackets (opened.brackets - 1) opened else opened).brackets
+    by true = omega (arith, l)
+    by false = l
+brackets_deep _ span opened d l = l
+
+pub same_brackets : (ps : List Piece) (opened : Collections) (d e : ℕ) → d ≤ opened.brackets → AreInside d ps e
+    → (open_all ps opened).brackets + d ≡ opened.brackets + e
+same_brackets [] opened d e l x = ap (λ n. opened.brackets + n) x
+same_brackets (p ∷ ps) opened d e l x =
+    let one = bracket_changes p.kind p.span opened d l (inside_first d p ps e x) in
+    let others = same_brackets ps (open_behind p.kind p.span opened) (deeper p.kind p.span d) e
+    (brackets_deep p.kind p.span opened d l) (inside_rest d p ps e x) in
+    omega (arith, one, others)
+
+inside_in_flow : (d : ℕ) (p : Piece) (ps : List Piece) (e n : ℕ) → d ≤ n → AreInside d (p ∷ ps) e
+    → IsTrue (is_of_flow_node p.kind p.span) ⊎ (nat_lt 0 n ≡ true)
+inside_in_flow zero p ps e n l x = inl x.0
+inside_in_flow (suc d) p ps e n l x = inr (lt-ltb 0 n (omega (arith, l)))
+
+pub quiet_tokens : (column : ℕ) (opened : Collections) (ps : List Piece) (s u : Cursor) (d e : ℕ)
+    → d ≤ opened.brackets → AreInside d ps e → AreQuiet ps
     → AreTokens opened ps s u → AreTokens (with_column column opened) ps s u
-quiet_tokens column opened [] s u q h = h
-quiet_tokens column opened (p ∷ ps) s u q h = (
+quiet_tokens column opened [] s u d e l x q h = h
+quiet_tokens column opened (p ∷ ps) s u d e l x q h = (
   h.0,
   h.1,
   h.2,
   quiet_token (surroundings_in opened).in_flow (surroundings_in opened).indent (column + 1) p.kind p.span h.0 h.1 q.0
-      h.3,
+      (inside_in_flow d p ps e opened.brackets l x) h.3,
   subst (λ (x : Collections). AreTokens x ps h.1 u) (sym (quiet_column column p.kind p.span opened q.0))
-      (quiet_tokens column (open_behind p.kind p.span opened) ps h.1 u q.1 h.4),
+      (quiet_tokens column (open_behind p.kind p.span opened) ps h.1 u (deeper p.kind p.span d) e
+      (brackets_deep p.kind p.span opened d l) (inside_rest d p ps e x) q.1 h.4),
 )
 
 pub quiet_all : (column : ℕ) (ps : List Piece) (opened : Collections) → AreQuiet ps
@@ -134,9 +209,6 @@ quiet_all column (p ∷ ps) opened q =
     ∙ quiet_all column ps (open_behind p.kind p.span opened) q.1
 
 -- ## A single pair's start and end
-
-no_text : (n : ℕ) → nat_lt n n ≡ false
-no_text n = grind (arith, nat_tests)
 
 pub pair_starts : (m : Marker) (opened : Collections)
     → open_behind tokens.FlowMappingStart (record { start = m; end = m }) opened ≡ opened
@@ -176,26 +248,55 @@ column_of opening.BlockMappingAndKey column opened = with_column column opened
 column_of _ column opened = opened
 
 opening_tokens : (opened : Collections) (o : Opening) (t : Piece) (back : List Piece) (s u : Cursor) → Begins t
-    → (opens_block o ≡ true → AreQuiet (t ∷ back)) → AreTokens opened (t ∷ back) s u
+    → (opens_block o ≡ true → AreQuiet (t ∷ back))
+    → (opens_block o ≡ true → least_column_in opened.columns ≤ t.span.start.col) → AreInside 0 (t ∷ back) 0
+    → (opens_block o ≡ false → nat_lt 0 opened.brackets ≡ false
+    → IsAtColumn (least_column_in opened.columns) t.span.start) → AreTokens opened (t ∷ back) s u
     → AreTokens opened (place_pieces o t ++ back) s u
-opening_tokens opened opening.Nothing t back s u b q h = h
-opening_tokens opened opening.Key t back s u b q h =
-    (h.0, h.0, h.2, inr (refl, inl (b _ h.0 h.1 h.3).0, refl), (h.0, h.1, taken.nothing _ _, h.3, h.4))
-opening_tokens opened opening.FlowMappingAndKey t back s u b q h =
-    let place = (b _ h.0 h.1 h.3).0 in
+opening_tokens opened opening.Nothing t back s u b q r x c h = h
+opening_tokens opened opening.Key t back s u b q r x c h =
+    let place = b _ h.0 h.1 h.3 in
+    let At : Marker → Type 0 = λ m. IsAtColumn (least_column_in opened.columns) m in (
+      h.0,
+      h.0,
+      h.2,
+      inr (refl, place.0, refl, place.1, λ f. subst At place.0 (c refl f)),
+      (h.0, h.1, taken.nothing _ _, h.3, h.4),
+    )
+opening_tokens opened opening.FlowMappingAndKey t back s u b q r x c h =
+    let place = b _ h.0 h.1 h.3 in
+    let At : Marker → Type 0 = λ m. IsAtColumn (least_column_in opened.columns) m in
     let P : Collections → Type 0 = λ x. AreTokens x (empty_piece t.span.start tokens.Key ∷ t ∷ back) h.0 u in (
       h.0,
       h.0,
       h.2,
-      inr (refl, inl place, refl),
-      subst P (sym (pair_starts t.span.start opened))
-          (h.0, h.0, taken.nothing _ _, inr (refl, inl place, refl), (h.0, h.1, taken.nothing _ _, h.3, h.4)),
+      inr (refl, inl place.0, refl),
+      subst P (sym (pair_starts t.span.start opened)) (
+        h.0,
+        h.0,
+        taken.nothing _ _,
+        inr (refl, place.0, refl, place.1, λ f. subst At place.0 (c refl f)),
+        (h.0, h.1, taken.nothing _ _, h.3, h.4),
+      ),
     )
-opening_tokens opened opening.BlockMappingAndKey t back s u b q h =
+opening_tokens opened opening.BlockMappingAndKey t back s u b q r x c h =
     let place = b _ h.0 h.1 h.3 in
-    let k = quiet_tokens t.span.start.col opened (t ∷ back) h.0 u (q refl)
+    let k = quiet_tokens t.span.start.col opened (t ∷ back) h.0 u 0 0 (omega arith) x (q refl)
     (h.0, h.1, taken.nothing _ _, h.3, h.4) in
-    (h.0, h.0, h.2, (refl, place.0, refl, place.1), (h.0, h.0, taken.nothing _ _, inr (refl, inl place.0, refl), k))
+    let right : least_column_in opened.columns ≤ h.0.mark.col =
+    subst (λ (m : Marker). least_column_in opened.columns ≤ m.col) place.0 (r refl) in (
+      h.0,
+      h.0,
+      h.2,
+      (refl, place.0, refl, place.1, right),
+      (
+        h.0,
+        h.0,
+        taken.nothing _ _,
+        inr (refl, place.0, refl, place.1, λ _. ap (λ (m : Marker). m.col + 1) place.0),
+        k,
+      ),
+    )
 
 opening_open : (opened : Collections) (o : Opening) (t : Piece) (back : List Piece)
     → (opens_block o ≡ true → AreQuiet (t ∷ back))
@@ -209,13 +310,17 @@ opening_open opened opening.BlockMappingAndKey t back q = quiet_all t.span.start
 -- a token in the queue, in front of which nothing stands, is opened
 pub place_tokens : (opened : Collections) (o : Opening) (front : List Place) (t : Piece) (back : List Place)
     (s u : Cursor) → Begins t → (opens_block o ≡ true → AreQuiet (t ∷ flat back))
+    → (opens_block o ≡ true → least_column_in (open_all (flat front) opened).columns ≤ t.span.start.col)
+    → AreInside 0 (t ∷ flat back) 0
+    → (opens_block o ≡ false → nat_lt 0 (open_all (flat front) opened).brackets ≡ false
+    → IsAtColumn (least_column_in (open_all (flat front) opened).columns) t.span.start)
     → AreTokens opened (flat (front ++ bare_place t ∷ back)) s u
     → AreTokens opened (flat (front ++ place_with_front o t ∷ back)) s u
-place_tokens opened o front t back s u b q h =
+place_tokens opened o front t back s u b q c x at h =
     let P : List Piece → Type 0 = λ l. AreTokens opened l s u in
     let r = tokens_part opened (flat front) (t ∷ flat back) s u
     (subst P (flat_append front (bare_place t ∷ back)) h) in
-    let k = opening_tokens (open_all (flat front) opened) o t (flat back) r.between u b q r.back in
+    let k = opening_tokens (open_all (flat front) opened) o t (flat back) r.between u b q c x at r.back in
     subst P (sym (flat_append front (place_with_front o t ∷ back)))
     (tokens_append opened (flat front) (place_pieces o t ++ flat back) s r.between u r.front k)
 

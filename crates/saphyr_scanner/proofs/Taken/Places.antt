@@ -106,7 +106,7 @@ token_reached i tokens.DocumentEnd span s t h = span_reached span _ s t (refl, (
 token_reached i tokens.ByteOrderMark span s t h = mark_reached span s t h
 token_reached i tokens.BlockSequenceStart span s t h = nothing_reached span s t (h.0, inl h.1, h.2)
 token_reached i tokens.BlockMappingStart span s t h = nothing_reached span s t (h.0, inl h.1, h.2)
-token_reached i tokens.BlockEnd span s t h = nothing_reached span s t h
+token_reached i tokens.BlockEnd span s t h = nothing_reached span s t h.0
 token_reached i tokens.FlowSequenceStart span s t h = character_reached 91 s t refl h.0
 token_reached i tokens.FlowSequenceEnd span s t h = character_reached 93 s t refl h.0
 token_reached i tokens.FlowMappingStart span s t (inl h) = character_reached 123 s t refl h.0
@@ -116,7 +116,7 @@ token_reached i tokens.FlowMappingEnd span s t (inr h) = nothing_reached span s 
 token_reached i tokens.BlockEntry span s t h = character_reached 45 s t refl h.0
 token_reached i tokens.FlowEntry span s t h = character_reached 44 s t refl h.0
 token_reached i tokens.Key span s t (inl h) = character_reached 63 s t refl h.0
-token_reached i tokens.Key span s t (inr h) = nothing_reached span s t h
+token_reached i tokens.Key span s t (inr h) = nothing_reached span s t (h.0, inl h.1, h.2)
 token_reached i tokens.Value span s t h = character_reached 58 s t refl h.0
 token_reached i (tokens.Alias name) span s t h = span_reached span (42 ∷ h.0) s t (refl, name_no_break h.0 h.1) h.3
 token_reached i (tokens.Anchor name) span s t h = span_reached span (38 ∷ h.0) s t (refl, name_no_break h.0 h.1) h.3
@@ -162,7 +162,7 @@ token_at i tokens.DocumentEnd span s t h = here_at s span.start h.2.start
 token_at i tokens.ByteOrderMark span s t h = here_at s span.start h.start
 token_at i tokens.BlockSequenceStart span s t h = here_at s span.start h.1
 token_at i tokens.BlockMappingStart span s t h = here_at s span.start h.1
-token_at i tokens.BlockEnd span s t h = nothing_at span s t h
+token_at i tokens.BlockEnd span s t h = nothing_at span s t h.0
 token_at i tokens.FlowSequenceStart span s t h = here_at s span.start h.1
 token_at i tokens.FlowSequenceEnd span s t h = here_at s span.start h.1
 token_at i tokens.FlowMappingStart span s t (inl h) = here_at s span.start h.1
@@ -173,7 +173,7 @@ token_at i tokens.BlockEntry span s t h =
     at_further s t span.start (character_reached 45 s t refl h.0) (line_at t span.start h.2)
 token_at i tokens.FlowEntry span s t h = here_at s span.start h.1
 token_at i tokens.Key span s t (inl h) = here_at s span.start h.2
-token_at i tokens.Key span s t (inr h) = nothing_at span s t h
+token_at i tokens.Key span s t (inr h) = here_at s span.start h.1
 token_at i tokens.Value span s t h = here_at s span.start h.2
 token_at i (tokens.Alias name) span s t h = here_at s span.start h.3.start
 token_at i (tokens.Anchor name) span s t h = here_at s span.start h.3.start
@@ -230,7 +230,7 @@ token_to i tokens.ByteOrderMark span s t h =
     at_behind s t span.end (token_reached i tokens.ByteOrderMark span s t h) h.end
 token_to i tokens.BlockSequenceStart span s t h = same_end s span h.0 (token_at i tokens.BlockSequenceStart span s t h)
 token_to i tokens.BlockMappingStart span s t h = same_end s span h.0 (token_at i tokens.BlockMappingStart span s t h)
-token_to i tokens.BlockEnd span s t h = same_end s span h.0 (token_at i tokens.BlockEnd span s t h)
+token_to i tokens.BlockEnd span s t h = same_end s span h.0.0 (token_at i tokens.BlockEnd span s t h)
 token_to i tokens.FlowSequenceStart span s t h =
     line_to s t span.end (token_reached i tokens.FlowSequenceStart span s t h) h.2
 token_to i tokens.FlowSequenceEnd span s t h =
@@ -244,7 +244,7 @@ token_to i tokens.FlowEntry span s t h = line_to s t span.end (token_reached i t
 token_to i tokens.Key span s t (inl h) =
     at_further s t span.end (character_reached 63 s t refl h.0)
     (at_reached t span.end h.3.0 (apart_reached t.mark t.rest span.end h.3.0 h.3.1))
-token_to i tokens.Key span s t (inr h) = same_end s span h.0 (nothing_at span s t h)
+token_to i tokens.Key span s t (inr h) = same_end s span h.0 (here_at s span.start h.1)
 token_to i tokens.Value span s t h = here_at s span.end h.3
 token_to i (tokens.Alias name) span s t h =
     at_behind s t span.end (token_reached i (tokens.Alias name) span s t h) h.3.end

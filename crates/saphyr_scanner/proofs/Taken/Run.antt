@@ -19,8 +19,11 @@ use Rattle.saphyr_scanner.proofs.Filling.{going}
 use Rattle.saphyr_scanner.proofs.Leads.{flat, place_pieces}
 use Rattle.saphyr_scanner.proofs.Effects.Readers.{Readers, TextLaws, RefusalLaws}
 use Rattle.saphyr_scanner.proofs.Taken.Later.{LaterThan, later_here, later_later, tokens_later}
-use Rattle.saphyr_scanner.proofs.Taken.Parts.{open_all, open_append, tokens_append, tokens_part}
-use Rattle.saphyr_scanner.proofs.Taken.Held.{Stands, Key, KeyOf, lower, Keys, keys_weaken}
+use Rattle.saphyr_scanner.proofs.Taken.Parts.{open_append, tokens_append, tokens_part}
+use Rattle.saphyr_scanner.proofs.Taken.Held.{Stands, Setting, setting_behind}
+use Rattle.saphyr_scanner.proofs.Taken.Keys.{Key, KeyOf, lower, KeysFrom, keys_weaken}
+use Rattle.saphyr_scanner.proofs.Taken.InPlace.{behind_append, in_place_append, in_place_parts}
+use Rattle.saphyr_scanner.specs.TokensInPlace.{not_enclosed, AreInPlace}
 use Rattle.saphyr_scanner.proofs.Taken.Fetch.{Read, Ready, settled_ready, read_ready}
 use Rattle.saphyr_scanner.proofs.Taken.Places.{Reaches, reaches_reaches, place_of, tokens_reached}
 use Rattle.saphyr_scanner.proofs.Told.Documents.{NotedState}
@@ -32,14 +35,14 @@ use Rattle.saphyr_scanner.proofs.Queues.{holding}
 
 -- ## A place is handed out
 
-key_handed : (b n : ℕ) (p : Place) (ps : List Place) (block : Bool) (i : ℕ) (k : Option Candidate)
-    → is_place n k ≡ false → KeyOf b (record { places = p ∷ ps; handed = n }) block i k
-    → KeyOf b (record { places = ps; handed = n + 1 }) block i k
-key_handed b n p ps block i None e x = tt
-key_handed b n p ps block i (Some k) e x = by x.front x.places x.at
+key_handed : (d b n : ℕ) (p : Place) (ps : List Place) (block : Bool) (i : ℕ) (k : Option Candidate)
+    → is_place n k ≡ false → KeyOf d b (record { places = p ∷ ps; handed = n }) block i k
+    → KeyOf d b (record { places = ps; handed = n + 1 }) block i k
+key_handed d b n p ps block i None e x = tt
+key_handed d b n p ps block i (Some k) e x = by x.front x.places x.at
   where
     by : (front : List Place) → p ∷ ps ≡ front ++ bare_place x.token ∷ x.back → k.place ≡ n + length front
-        → Key b (record { places = ps; handed = n + 1 }) block i k
+        → Key d b (record { places = ps; handed = n + 1 }) block i k
     by [] f at =
         let same : k.place ≡ n = omega (arith, at) in
         absurd (let g : (k.place == n) ≡ true = ap (λ m. m == n) same ∙ eq-eqb n n refl in cc)
@@ -54,15 +57,19 @@ key_handed b n p ps block i (Some k) e x = by x.front x.places x.at
       begins = x.begins;
       quiet = x.quiet;
       deep = x.deep;
+      inside = x.inside;
     }
 
-keys_handed : (b n : ℕ) (p : Place) (ps : List Place) (i : ℕ) (ls : List Level) → any_holds n ls ≡ false
-    → Keys b (record { places = p ∷ ps; handed = n }) i ls
-    → Keys b (record { places = ps; handed = n + 1 }) i ls
-keys_handed b n p ps i [] e x = tt
-keys_handed b n p ps i (l ∷ ls) e x =
-    let f = or_parts (holds n l) (any_holds n ls) e in
-    (x.0, key_handed b n p ps (is_block l.context) i l.key f.0 x.1, keys_handed (lower b l.key) n p ps i ls f.1 x.2)
+keys_handed : (d b n : ℕ) (p : Place) (ps : List Place) (i : ℕ) (ls : List Level) → any_holds n ls ≡ false
+    → KeysFrom d b (record { places = p ∷ ps; handed = n }) i ls
+    → KeysFrom d b (record { places = ps; handed = n + 1 }) i ls
+keys_handed d b n p ps i [] e x = tt
+keys_handed d b n p ps i (l ∷ ls) e x =
+    let f = or_parts (holds n l) (any_holds n ls) e in (
+      x.0,
+      key_handed d b n p ps (is_block l.context) i l.key f.0 x.1,
+      keys_handed (suc d) (lower b l.key) n p ps i ls f.1 x.2,
+    )
 
 not_held : (ended held : Bool) → ended ≡ false → (not ended && held) ≡ false → held ≡ false
 not_held false h e f = f
@@ -72,25 +79,28 @@ abbrev From : List ℕ → Cursor → Type 0
 From text u = LaterThan (start_cursor text) u × Reaches (start_cursor text) u
 
 -- what is left where a place was handed out
-record Left (text : List ℕ) (opened : Collections) (from : Cursor) (c : Core) (p : Place) (ps : List Place) (n : ℕ) :
+record Left (text : List ℕ) (opened : Setting) (from : Cursor) (c : Core) (p : Place) (ps : List Place) (n : ℕ) :
     Type 0 where
   between : Cursor
-  tokens : AreTokens opened (place_pieces p.opening p.piece) from between
+  tokens : AreTokens opened.collections (place_pieces p.opening p.piece) from between
+  in_place : AreInPlace opened.enclosures (place_pieces p.opening p.piece)
   later : From text between
-  ready : Ready (open_all (place_pieces p.opening p.piece) opened) between (holding c ps (n + 1))
+  ready : Ready (setting_behind (place_pieces p.opening p.piece) opened) between (holding c ps (n + 1))
 
-one_left : (text : List ℕ) (opened : Collections) (from : Cursor) (c : Core) (p : Place) (ps : List Place) (n : ℕ)
+one_left : (text : List ℕ) (opened : Setting) (from : Cursor) (c : Core) (p : Place) (ps : List Place) (n : ℕ)
     → From text from → Ready opened from (holding c (p ∷ ps) n)
     → needs_token (holding c (p ∷ ps) n) ≡ false → Left text opened from c p ps n
 one_left text opened from c p ps n l h e =
     let ts = place_pieces p.opening p.piece in
-    let r = tokens_part opened ts (flat ps) from h.taken.last h.taken.tokens in
+    let r = tokens_part opened.collections ts (flat ps) from h.taken.last h.taken.tokens in
+    let w = in_place_parts ts (flat ps) opened.enclosures h.taken.in_place in
     let count : n + length (p ∷ ps) ≡ n + 1 + length ps = omega arith in
-    let further = tokens_later opened ts from r.between r.front in
-    let reached = tokens_reached opened ts from r.between r.front in
+    let further = tokens_later opened.collections ts from r.between r.front in
+    let reached = tokens_reached opened.collections ts from r.between r.front in
     record {
       between = r.between;
       tokens = r.front;
+      in_place = w.0;
       later = (
         later_later (start_cursor text).mark text from.mark from.rest r.between.mark r.between.rest l.0 further,
         reaches_reaches (start_cursor text) from r.between l.1 reached,
@@ -100,42 +110,47 @@ one_left text opened from c p ps n l h e =
           last = h.taken.last;
           tokens = r.back;
           apart = h.taken.apart;
-          stands = subst (λ (x : Collections). Stands x c) (open_append ts (flat ps) opened) h.taken.stands;
+          stands = subst (λ (x : Collections). Stands x c) (open_append ts (flat ps) opened.collections) h.taken.stands;
+          in_place = w.1;
+          encloses = sym (behind_append ts (flat ps) opened.enclosures) ∙ h.taken.encloses;
         };
         live = λ f nz.
             let free = not_held c.ended _ f e in
-            let k = keys_handed (n + length (p ∷ ps)) n p ps c.indent (c.level ∷ c.outer) free (h.live f nz) in
-            keys_weaken (n + length (p ∷ ps)) (n + 1 + length ps) (record { places = ps; handed = n + 1 }) c.indent
+            let k = keys_handed 0 (n + length (p ∷ ps)) n p ps c.indent (c.level ∷ c.outer) free (h.live f nz) in
+            keys_weaken 0 (n + length (p ∷ ps)) (n + 1 + length ps) (record { places = ps; handed = n + 1 }) c.indent
             (c.level ∷ c.outer) (omega arith) k;
-        over = λ f u w. h.over f u (tokens_append opened ts (flat ps) from r.between u r.front w);
+        over = λ f u v. h.over f u (tokens_append opened.collections ts (flat ps) from r.between u r.front v);
+        fresh = h.fresh;
       };
     }
 
 -- ## What comes
 
-abbrev FollowsTaken : List ℕ → Collections → Cursor → Remaining → Type 0
+abbrev FollowsTaken : List ℕ → Setting → Cursor → Remaining → Type 0
 FollowsTaken text opened from r =
-    (end : Cursor) × AreTokens opened r.pieces from end × (r.refusal ≡ None → end.rest ≡ [])
-    × ((e : Refusal) → r.refusal ≡ Some e → IsPlaceOf text e.mark)
+    (end : Cursor) × AreTokens opened.collections r.pieces from end × AreInPlace opened.enclosures r.pieces
+    × (r.refusal ≡ None → end.rest ≡ []) × ((e : Refusal) → r.refusal ≡ Some e → IsPlaceOf text e.mark)
 
-place_follows : (text : List ℕ) (opened : Collections) (from between : Cursor) (o : Opening) (t : Piece) (r : Remaining)
-    → AreTokens opened (place_pieces o t) from between
-    → FollowsTaken text (open_all (place_pieces o t) opened) between r
+place_follows : (text : List ℕ) (opened : Setting) (from between : Cursor) (o : Opening) (t : Piece) (r : Remaining)
+    → AreTokens opened.collections (place_pieces o t) from between → AreInPlace opened.enclosures (place_pieces o t)
+    → FollowsTaken text (setting_behind (place_pieces o t) opened) between r
     → FollowsTaken text opened from (before_place o t r)
-place_follows text opened from between o t r h k =
-    by o (tokens_append opened (place_pieces o t) r.pieces from between k.0 h k.1)
+place_follows text opened from between o t r h i k =
+    by o (tokens_append opened.collections (place_pieces o t) r.pieces from between k.0 h k.1)
+    (in_place_append (place_pieces o t) r.pieces opened.enclosures i k.2)
   where
-    by : (w : Opening) → AreTokens opened (place_pieces w t ++ r.pieces) from k.0
+    by : (w : Opening) → AreTokens opened.collections (place_pieces w t ++ r.pieces) from k.0
+        → AreInPlace opened.enclosures (place_pieces w t ++ r.pieces)
         → FollowsTaken text opened from (before_place w t r)
-    by opening.Nothing x = (k.0, x, k.2, k.3)
-    by opening.Key x = (k.0, x, k.2, k.3)
-    by opening.BlockMappingAndKey x = (k.0, x, k.2, k.3)
-    by opening.FlowMappingAndKey x = (k.0, x, k.2, k.3)
+    by opening.Nothing x y = (k.0, x, y, k.3, k.4)
+    by opening.Key x y = (k.0, x, y, k.3, k.4)
+    by opening.BlockMappingAndKey x y = (k.0, x, y, k.3, k.4)
+    by opening.FlowMappingAndKey x y = (k.0, x, y, k.3, k.4)
 
 handed_follow : (text : List ℕ) (go : State → Remaining) (c : Core)
-    → ((opened : Collections) (from : Cursor) (n : ℕ) (ps : List Place) → From text from → (c.ended ≡ true → ps ≡ [])
+    → ((opened : Setting) (from : Cursor) (n : ℕ) (ps : List Place) → From text from → (c.ended ≡ true → ps ≡ [])
     → Ready opened from (holding c ps n) → FollowsTaken text opened from (go (holding c ps n)))
-    → (opened : Collections) (from : Cursor) (n : ℕ) (ps : List Place) → From text from
+    → (opened : Setting) (from : Cursor) (n : ℕ) (ps : List Place) → From text from
     → Ready opened from (holding c ps n) → FollowsTaken text opened from (hand_out ps go (holding c ps n))
 handed_follow text go c others opened from n [] l h = others opened from n [] l (λ _. refl) h
 handed_follow text go c others opened from n (p ∷ ps) l h =
@@ -143,16 +158,16 @@ handed_follow text go c others opened from n (p ∷ ps) l h =
     (λ e. others opened from n (p ∷ ps) l (λ f. absurd (let g = going c.ended _ e in cc)) h)
     (λ e.
     let w = one_left text opened from c p ps n l h e in
-    place_follows text opened from w.between p.opening p.piece _ w.tokens
-    (handed_follow text go c others (open_all (place_pieces p.opening p.piece) opened) w.between (n + 1) ps w.later
+    place_follows text opened from w.between p.opening p.piece _ w.tokens w.in_place
+    (handed_follow text go c others (setting_behind (place_pieces p.opening p.piece) opened) w.between (n + 1) ps w.later
     w.ready))
 
-delivers_taken : (text : List ℕ) (opened : Collections) (from : Cursor) (r : Result State Refusal)
+delivers_taken : (text : List ℕ) (opened : Setting) (from : Cursor) (r : Result State Refusal)
     (go : State → Remaining) → ((t : State) → r ≡ Ok t → FollowsTaken text opened from (go t))
     → ((e : Refusal) → r ≡ Err e → IsPlaceOf text e.mark) → FollowsTaken text opened from (remaining_after r go)
 delivers_taken text opened from (Ok t) go h k = h t refl
 delivers_taken text opened from (Err e) go h k =
-    (from, refl, (λ i. absurd (cc)), (λ f i. k f (let same : e ≡ f = cc in ap (λ (x : Refusal). Err x) same)))
+    (from, refl, tt, (λ i. absurd (cc)), (λ f i. k f (let same : e ≡ f = cc in ap (λ (x : Refusal). Err x) same)))
 
 -- the laws of the readers
 pub record AllLaws : Type 0 where
@@ -161,7 +176,7 @@ pub record AllLaws : Type 0 where
   pub refusals : RefusalLaws
 
 run_follows : AllLaws → (text : List ℕ) → length text < 2 ^ 63
-    → (limit fuel : ℕ) (opened : Collections) (from : Cursor) (s : State) → From text from → size s.core < fuel
+    → (limit fuel : ℕ) (opened : Setting) (from : Cursor) (s : State) → From text from → size s.core < fuel
     → Ready opened from s
     → NotedState s → FollowsTaken text opened from (run fuel limit s)
 run_follows laws text small limit zero opened from s l f h m = absurd (omega (arith, f))
@@ -172,8 +187,8 @@ run_follows laws text small limit (suc fuel) opened from s l f h m =
     let r = fetch_within limit t >>= without_far_key in
     by_test t.core.ended _ _ (FollowsTaken text cs u)
     (λ e. let P : List Place → Type 0 =
-    λ qs. AreTokens cs (flat qs) u u in
-    (u, refl, (λ _. w.over e u (subst P (sym (over e)) refl)), (λ f i. absurd (cc))))
+    λ qs. AreTokens cs.collections (flat qs) u u in
+    (u, refl, tt, (λ _. w.over e u (subst P (sym (over e)) refl)), (λ f i. absurd (cc))))
     (λ e. let told = read_told laws.texts laws.refusals text small limit cs u t k.0 k.1 e w m in
     delivers_taken text cs u r (run fuel limit)
     (λ v q. let less = (given_of (Fetched t) r v (read_fetched limit t e) q).smaller laws.readers in
@@ -183,34 +198,46 @@ run_follows laws text small limit (suc fuel) opened from s l f h m =
     (λ g q. place_of text g.mark (told_err NotedState (start_cursor text) r g told q))))
     opened from s.queue.handed s.queue.places l h
 
-start_read : (text : List ℕ) → Read no_collections (start_cursor text) (start text)
+-- where a text begins
+abbrev outset : Setting
+outset = record { collections = no_collections; enclosures = not_enclosed }
+
+start_read : (text : List ℕ) → Read outset (start_cursor text) (start text)
 start_read text = record {
   fetched = record {
-    taken =
-        record { last = start_cursor text; tokens = refl; apart = taken.nothing _ _; stands = ((refl, refl), refl) };
+    taken = record {
+      last = start_cursor text;
+      tokens = refl;
+      apart = taken.nothing _ _;
+      stands = ((refl, refl), refl);
+      in_place = tt;
+      encloses = refl;
+    };
     live = λ _. inl (λ nz. (refl, tt, tt));
   };
   over = λ e. absurd (cc);
+  fresh = λ _ _. refl;
 }
 
 scan_follows : AllLaws → (limit : ℕ) (text : List ℕ) → length text < 2 ^ 63
-    → FollowsTaken text no_collections (start_cursor text) (scan limit text)
+    → FollowsTaken text outset (start_cursor text) (scan limit text)
 unfolding remaining
 scan_follows laws limit text small =
     let s : State = start text in
     let here : Reaches (start_cursor text) (start_cursor text) = taken.nothing _ _ in
     let told = settled_told text s here (inl refl) in
-    delivers_taken text no_collections (start_cursor text) (without_far_key s) (λ t. run (suc (size t.core)) limit t)
-    (λ t e. run_follows laws text small limit (suc (size t.core)) no_collections (start_cursor text) t
+    delivers_taken text outset (start_cursor text) (without_far_key s) (λ t. run (suc (size t.core)) limit t)
+    (λ t e. run_follows laws text small limit (suc (size t.core)) outset (start_cursor text) t
     (later_here (start_cursor text).mark text, here) (omega arith)
-    (given_of (Ready no_collections (start_cursor text)) (without_far_key s) t
-    (settled_ready no_collections (start_cursor text) s (start_read text)) e)
+    (given_of (Ready outset (start_cursor text)) (without_far_key s) t
+    (settled_ready outset (start_cursor text) s (start_read text)) e)
     (told_ok NotedState (start_cursor text) (without_far_key s) t told e))
     (λ g q. place_of text g.mark (told_err NotedState (start_cursor text) (without_far_key s) g told q))
 
 pub scan_taken : AllLaws → (limit : ℕ) (text : List ℕ) → length text < 2 ^ 63 → AreTakenFrom text (scan limit text)
 scan_taken laws limit text small =
-    let h = scan_follows laws limit text small in (h.0, h.1, by (scan limit text).refusal h.0 h.2 h.3)
+    let h = scan_follows laws limit text small in
+    (h.0, h.1, h.2, by (scan limit text).refusal h.0 h.3 h.4)
   where
     by : (o : Option Refusal) (end : Cursor) → (o ≡ None → end.rest ≡ [])
         → ((e : Refusal) → o ≡ Some e → IsPlaceOf text e.mark) → IsEndOf text o end

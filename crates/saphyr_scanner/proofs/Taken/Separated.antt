@@ -10,10 +10,11 @@ use Rattle.saphyr_scalar.specs.Spelling.Tag.{AreIn}
 use Rattle.saphyr_scalar.proofs.Moving.{along_none, along_more}
 use Rattle.saphyr_scanner.specs.Steps.Gap.{end_of_gap, end_of_gap_in_comment, stop, GapEnd, is_tab_indentation, SpacesEnd, end_of_spaces, end_of_spaces_in_comment}
 use Rattle.saphyr_scanner.specs.TokensTaken as taken
-use Rattle.saphyr_scanner.specs.TokensTaken.{IsPassedOver, AreApart}
+use Rattle.saphyr_scanner.specs.TokensTaken.{IsPassedOver, AreApart, begins_text}
 use Rattle.std.proofs.lemmas.Bool.{eqb-true, and_parts, or_cases}
 use Rattle.saphyr_input.specs.Indicators.{number_sign}
-use Rattle.saphyr_input.proofs.Basics.Booleans.{by_test, or_false_right}
+use Rattle.saphyr_input.proofs.Basics.Booleans.{by_test, or_false_left, or_false_right}
+use Rattle.saphyr_scanner.proofs.Gaps.{break_is_no_blank, break_is_no_sign}
 use Rattle.saphyr_scalar.proofs.Given.{Given}
 
 pub apart_apart : (m : Marker) (t : List ℕ) (n : Marker) (u : List ℕ) (k : Marker) (v : List ℕ) → IsPassedOver m t n u
@@ -179,6 +180,58 @@ all_gaps l (c ∷ cs) m blank broke tabbed =
 pub gap_apart : (l : ℕ) (broke tabbed : Bool) (s : Cursor)
     → Given (λ (p : GapEnd). AreApart s p.cursor) (end_of_gap l s.mark s.blank_so_far broke tabbed s.rest)
 gap_apart l broke tabbed s = (all_gaps l s.rest s.mark s.blank_so_far broke tabbed).between
+
+-- ## Where the text goes on behind separation a text begins
+
+abbrev pub BeginsText : GapEnd → Type 0
+BeginsText p = IsTrue (begins_text (slice_index p.cursor.rest 0))
+
+stop_begins : (m : Marker) (blank broke tabbed : Bool) (t : List ℕ) → IsTrue (begins_text (slice_index t 0))
+    → Given BeginsText (stop m blank broke tabbed t)
+unfolding stop
+stop_begins m blank broke tabbed t h =
+    by_test (tabbed && is_bom (slice_index t 0)) _ _ (Given BeginsText) (λ _. tt)
+    (λ _. by_test (tabbed && not (is_z (slice_index t 0))) _ _ (Given BeginsText) (λ _. tt) (λ _. h))
+
+ink_begins : (c : ℕ) → is_blank c ≡ false → is_break c ≡ false → (c == number_sign) ≡ false
+    → begins_text c ≡ true
+ink_begins c b k s = rw (b, k, s) refl
+
+unprintable_begins : (c : ℕ) → is_yaml_non_break c ≡ false → is_break c ≡ false → begins_text c ≡ true
+unprintable_begins c n k = ink_begins c (break_is_no_blank c n) k (break_is_no_sign c n)
+
+-- between tokens, and in a comment
+record Beginnings (l : ℕ) (t : List ℕ) (m : Marker) (blank broke tabbed : Bool) : Type 0 where
+  between : Given BeginsText (end_of_gap l m blank broke tabbed t)
+  inside : Given BeginsText (end_of_gap_in_comment l m blank broke tabbed t)
+
+all_begin : (l : ℕ) (t : List ℕ) (m : Marker) (blank broke tabbed : Bool) → Beginnings l t m blank broke tabbed
+all_begin l [] m blank broke tabbed =
+    record {
+      between = stop_begins m blank broke tabbed [] refl;
+      inside = stop_begins m blank broke tabbed [] refl;
+    }
+all_begin l (c ∷ cs) m blank broke tabbed =
+    let P = Given BeginsText in
+    record {
+      between =
+          by_test (is_blank c || ((c == 13) && (slice_index cs 0 == 10))) _ _ P
+          (λ _. (all_begin l cs (along m 1) blank broke (is_tab_indentation l m blank c || tabbed)).between)
+          (λ e. by_test (is_break c) _ _ P (λ _. (all_begin l cs (next_line m 1) true true false).between)
+          (λ k. by_test (c == 35) _ _ P (λ _. (all_begin l cs (along m 1) blank broke tabbed).inside)
+          (λ s. stop_begins m blank broke tabbed (c ∷ cs)
+          (ink_begins c (or_false_left (is_blank c) ((c == 13) && (slice_index cs 0 == 10)) e) k s))));
+      inside =
+          by_test (is_yaml_non_break c) _ _ P (λ _. (all_begin l cs (along m 1) blank broke tabbed).inside)
+          (λ n. by_test ((c == 13) && (slice_index cs 0 == 10)) _ _ P
+          (λ _. (all_begin l cs (along m 1) blank broke tabbed).between)
+          (λ _. by_test (is_break c) _ _ P (λ _. (all_begin l cs (next_line m 1) true true false).between)
+          (λ k. stop_begins m blank broke tabbed (c ∷ cs) (unprintable_begins c n k))));
+    }
+
+pub gap_begins : (l : ℕ) (broke tabbed : Bool) (s : Cursor)
+    → Given BeginsText (end_of_gap l s.mark s.blank_so_far broke tabbed s.rest)
+gap_begins l broke tabbed s = (all_begin l s.rest s.mark s.blank_so_far broke tabbed).between
 
 -- ## Behind `?`
 

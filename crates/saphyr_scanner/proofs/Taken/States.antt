@@ -1,6 +1,6 @@
 -- What is known between tokens: behind a block scalar a candidate is too far in front to be a key.
-use Rattle.std.proofs.Common.{◌≡◌, ℕ, ◌^◌, ◌≤◌, ◌<◌, ◌⊎◌, Bool, true, false, List, [], ◌∷◌, length, Option, Ok, Some, None, refl, sym, ap, ◌∙◌, arith, subst, inl, inr}
-use Rattle.std.specs.Prelude.{◌&&◌, slice_index, nat_lt}
+use Rattle.std.proofs.Common.{◌≡◌, ℕ, ◌^◌, ◌≤◌, ◌<◌, ◌⊎◌, Bool, true, false, List, [], ◌∷◌, length, Option, Ok, Some, None, refl, sym, ap, ◌∙◌, arith, subst, inl, inr, IsTrue}
+use Rattle.std.specs.Prelude.{◌-◌, ◌&&◌, slice_index, nat_lt}
 use Rattle.saphyr_input.specs.Classes.{is_z}
 use Rattle.scalar_values.specs.declared.block.BlockStyle.{BlockStyle}
 use Rattle.scalar_values.specs.declared.block.BlockStyle.TheVariants as block_style
@@ -18,18 +18,19 @@ use Rattle.saphyr_scanner.specs.Steps.Scalar as scalar
 use Rattle.saphyr_scanner.specs.Steps.State.{State, with_core}
 use Rattle.saphyr_scanner.specs.Steps.Unrolling.{unroll, end_blocks, end_block, is_right_of, with_outer_indent, go_less_deep}
 use Rattle.saphyr_scanner.specs.TokensTaken as taken
-use Rattle.saphyr_scanner.specs.TokensTaken.{Collections, AreTokens, IsToken, IsBlockScalarToken, IsPlaceOrEnd}
+use Rattle.saphyr_scanner.specs.TokensTaken.{AreTokens, IsToken, IsBlockScalarToken, IsPlaceOrEnd, Collections, begins_text, IsContentEnd, IsBlockEnd}
 use Rattle.saphyr_scanner.proofs.Blocks.{block_cursor, go_less_deep_cursor}
 use Rattle.saphyr_scanner.proofs.Leads.{flat}
 use Rattle.saphyr_scanner.proofs.Taken.Later.{top, Later, LaterThan, later_later, apart_later, token_later, tokens_later}
 use Rattle.saphyr_scanner.proofs.Taken.Parts.{tokens_part}
-use Rattle.saphyr_scanner.proofs.Taken.Held.{Stack, Taken, taken_further, taken_put, Key, Keys}
-use Rattle.saphyr_scanner.proofs.Taken.Cores.{HoldsTaken, Saved, no_keys, outermost}
+use Rattle.saphyr_scanner.proofs.Taken.Held.{Stack, enclosures_of, Setting, Taken, taken_within, taken_further, taken_put}
+use Rattle.saphyr_scanner.proofs.Taken.Keys.{Key, Keys}
+use Rattle.saphyr_scanner.proofs.Taken.Cores.{HoldsTaken, same_enclosures, Saved, no_keys, outermost}
 use Rattle.saphyr_scanner.proofs.Taken.Cores.{saved_taken, first_at, apart_same}
 use Rattle.saphyr_scanner.proofs.Taken.Cores.{key_known}
 use Rattle.saphyr_scanner.proofs.Effects.Readers.{TextLaws}
 use Rattle.saphyr_input.proofs.Basics.Booleans.{by_test}
-use Rattle.std.proofs.lemmas.Bool.{lt-ltb}
+use Rattle.std.proofs.lemmas.Bool.{lt-ltb, ltb-true}
 use Rattle.saphyr_scanner.proofs.Queues.{flat_append}
 
 -- ## Lines
@@ -45,25 +46,25 @@ pub record CandidateStands (k : Candidate) (c : Core) : Type 0 where
   pub small : k.mark.line ≤ top
   pub later : Later k.mark text c.cursor.mark c.cursor.rest
 
-pub taken_later : (opened : Collections) (from : Cursor) (c : Core) (q : Queue) → Taken opened from c q
+pub taken_later : (opened : Setting) (from : Cursor) (c : Core) (q : Queue) → Taken opened from c q
     → LaterThan from c.cursor
 taken_later opened from c q h =
     later_later from.mark from.rest h.last.mark h.last.rest c.cursor.mark c.cursor.rest
-    (tokens_later opened (flat q.places) from h.last h.tokens)
+    (tokens_later opened.collections (flat q.places) from h.last h.tokens)
     (apart_later h.last.mark h.last.rest c.cursor.mark c.cursor.rest h.apart)
 
-pub key_stands : (opened : Collections) (from : Cursor) (c : Core) (q : Queue) (b : ℕ) (block : Bool) (i : ℕ)
-    (k : Candidate) → from.mark.line ≤ top → Taken opened from c q → Key b q block i k → CandidateStands k c
+pub key_stands : (opened : Setting) (from : Cursor) (c : Core) (q : Queue) (b : ℕ) (block : Bool) (i : ℕ)
+    (k : Candidate) → from.mark.line ≤ top → Taken opened from c q → Key 0 b q block i k → CandidateStands k c
 key_stands opened from c q b block i k l h x =
-    let P : List Place → Type 0 = λ ps. AreTokens opened (flat ps) from h.last in
-    let Q : List Piece → Type 0 = λ ps. AreTokens opened ps from h.last in
-    let r = tokens_part opened (flat x.front) (x.token ∷ flat x.back) from h.last
+    let P : List Place → Type 0 = λ ps. AreTokens opened.collections (flat ps) from h.last in
+    let Q : List Piece → Type 0 = λ ps. AreTokens opened.collections ps from h.last in
+    let r = tokens_part opened.collections (flat x.front) (x.token ∷ flat x.back) from h.last
     (subst Q (flat_append x.front (bare_place x.token ∷ x.back)) (subst P x.places h.tokens)) in
     let here = r.back.0 in
     let behind = r.back.1 in
     let same : here.mark ≡ k.mark = sym (x.begins _ here behind r.back.3).0 ∙ x.marked in
     let first = later_later from.mark from.rest r.between.mark r.between.rest here.mark here.rest
-    (tokens_later opened (flat x.front) from r.between r.front)
+    (tokens_later opened.collections (flat x.front) from r.between r.front)
     (apart_later r.between.mark r.between.rest here.mark here.rest r.back.2) in
     let one = token_later _ x.token.kind x.token.span here behind r.back.3 in
     let others = tokens_later _ (flat x.back) behind h.last r.back.4 in
@@ -83,15 +84,15 @@ Live c q = is_z (slice_index c.cursor.rest 0) ≡ false → Keys (next q) q c.in
 abbrev pub IsFar : Core → Type 0
 IsFar c = ((in_block c && is_too_far c.level.key c.cursor.mark) ≡ true) × (c.outer ≡ [])
 
-pub record Fetched (opened : Collections) (from : Cursor) (c : Core) (q : Queue) : Type 0 where
+pub record Fetched (opened : Setting) (from : Cursor) (c : Core) (q : Queue) : Type 0 where
   pub taken : Taken opened from c q
   pub live : c.ended ≡ false → Live c q ⊎ IsFar c
 
-pub holds_fetched : (opened : Collections) (from : Cursor) (c : Core) (q : Queue) → HoldsTaken opened from c q
+pub holds_fetched : (opened : Setting) (from : Cursor) (c : Core) (q : Queue) → HoldsTaken opened from c q
     → Fetched opened from c q
 holds_fetched opened from c q h = record { taken = h.taken; live = λ e. inl (λ f. h.keys) }
 
-abbrev pub FetchedStep : Collections → Cursor → Queue → Step → Type 0
+abbrev pub FetchedStep : Setting → Cursor → Queue → Step → Type 0
 FetchedStep opened from q x = Fetched opened from x.core (perform x.actions q)
 
 -- ## Block scalars
@@ -110,7 +111,7 @@ far_of : (c : Core) (o : Option Candidate) → c.level.key ≡ o → in_block c 
 far_of c o e b k f l = rw b (ap (λ x. is_too_far x c.cursor.mark) (e ∙ f) ∙ too_far k c.cursor.mark l)
 
 -- a saved key stands here or before
-key_line : (opened : Collections) (from : Cursor) (q : Queue) (c d : Core) → from.mark.line ≤ top → Saved (next q) c d
+key_line : (opened : Setting) (from : Cursor) (q : Queue) (c d : Core) → from.mark.line ≤ top → Saved (next q) c d
     → HoldsTaken opened from c q → (k : Candidate) → d.level.key ≡ Some k → k.mark.line ≤ d.cursor.mark.line
 key_line opened from q c d l s h k i = by s.level
   where
@@ -139,7 +140,7 @@ key_line opened from q c d l s h k i = by s.level
         omega (arith, n, u)
 
 pub block_fetched : TextLaws → (text : List ℕ) → length text < 2 ^ 63
-    → (opened : Collections) (from : Cursor) (q : Queue) (style : BlockStyle) (c d : Core)
+    → (opened : Setting) (from : Cursor) (q : Queue) (style : BlockStyle) (c d : Core)
     → LaterThan (start_cursor text) from
     → Saved (next q) c d → HoldsTaken opened from c q → in_block c ≡ true → in_block d ≡ true
     → slice_index c.cursor.rest 0 ≡ taken.block_indicator style → (x : List ℕ × Span × Cursor)
@@ -170,7 +171,7 @@ block_fetched laws text small opened from q style c d l s h b bd f x e =
     let l2 : from.mark.line ≤ top = from_small in
     let r = later_later (start_cursor text).mark text from.mark from.rest d.cursor.mark d.cursor.rest l
     (taken_later opened from d q held) in
-    let none : c.outer ≡ [] = outermost opened from c q h b in
+    let none : c.outer ≡ [] = outermost (enclosures_of c) opened from c q h b in
     let by : (o : Option Candidate) → d.level.key ≡ o → d.cursor.mark.line < x.2.mark.line
     → (Live e2 (with_piece piece q)) ⊎ (IsFar e2) =
     λ o g less. elim o as (λ y. d.level.key ≡ y → (Live e2 (with_piece piece q)) ⊎ (IsFar e2)) [
@@ -185,9 +186,9 @@ block_fetched laws text small opened from q style c d l s h b bd f x e =
     let There : List Level → Type 0 = λ ls. IsToken (record { in_flow = nat_lt 0 (length ls); indent = d.indent })
     (tokens.Scalar (scalar.style_of style) x.0) x.1 d.cursor x.2 in
     record {
-      taken = taken_put opened from d e2 q piece d.cursor x.2 (taken.nothing _ _)
+      taken = taken_put (enclosures_of d) opened from d e2 q piece d.cursor x.2 (taken.nothing _ _)
           (subst There (sym (s.outer ∙ none)) (block_token style d.indent x.0 x.1 d.cursor x.2 is))
-          (taken.nothing _ _) (λ cs k. k) held;
+          (taken.nothing _ _) (λ cs k. k) refl held;
       live = λ _. elim (p.line (line_small text d.cursor small r))
           [ inl less ↦ by d.level.key refl less | inr z ↦ inl (λ nz. absurd (cc)) ];
     }
@@ -210,49 +211,71 @@ outer_indent_stack [] (column ∷ columns) c h = absurd h
 outer_indent_stack (j ∷ is) [] c h = absurd (let e = h.1 in cc)
 outer_indent_stack (j ∷ is) (column ∷ columns) c h = h.1
 
-abbrev pub TakenState : Collections → Cursor → State → Type 0
+abbrev pub TakenState : Setting → Cursor → State → Type 0
 TakenState opened from s = Taken opened from s.core s.queue
 
-place_same : (s t : Cursor) (m : Marker) → t ≡ s → IsPlaceOrEnd s m → IsPlaceOrEnd t m
-place_same s t m e p = let P : Cursor → Type 0 = λ u. IsPlaceOrEnd u m in subst P (sym e) p
+-- why block collections end here: what stands here is at the column that is given, or no content
+abbrev pub EndsBlocks : Option ℕ → Cursor → Type 0
+EndsBlocks None s = IsContentEnd s
+EndsBlocks (Some column) s = column ≡ s.mark.col
 
-block_taken : (opened : Collections) (from : Cursor) (m : Marker) (s : State) → IsPlaceOrEnd s.core.cursor m
-    → TakenState opened from s → TakenState opened from (end_block m s)
-block_taken opened from m s p h =
-    taken_put opened from s.core (end_block m s).core s.queue (empty_piece m tokens.BlockEnd) s.core.cursor
-    s.core.cursor (taken.nothing _ _) (refl, p, refl)
+-- at a place behind separation
+abbrev pub BlocksEnd : Option ℕ → Marker → Cursor → Type 0
+BlocksEnd column m s = IsPlaceOrEnd s m × IsTrue (begins_text (slice_index s.rest 0)) × EndsBlocks column s
+
+blocks_end_same : (column : Option ℕ) (m : Marker) (s t : Cursor) → t ≡ s → BlocksEnd column m s → BlocksEnd column m t
+blocks_end_same column m s t e p = let P : Cursor → Type 0 = λ u. BlocksEnd column m u in subst P (sym e) p
+
+block_end : (column : Option ℕ) (m : Marker) (i : ℕ) (s : Cursor) → is_right_of column i ≡ true
+    → BlocksEnd column m s → IsBlockEnd i (record { start = m; end = m }) s s
+block_end None m i s e (p, b, w) = ((refl, p, refl), b, inr (ltb-true 0 i e, w))
+block_end (Some column) m i s e (p, b, w) =
+    let l = ltb-true column (i - 1) e in ((refl, p, refl), b, inl (omega (arith, l, w)))
+
+block_taken : (opened : Setting) (from : Cursor) (column : Option ℕ) (m : Marker) (s : State)
+    → is_right_of column s.core.indent ≡ true → BlocksEnd column m s.core.cursor → TakenState opened from s
+    → TakenState opened from (end_block m s)
+block_taken opened from column m s e p h =
+    let levels = outer_indent_levels s.core.outer_indents s.core in
+    taken_within (enclosures_of s.core) (enclosures_of (end_block m s).core) opened from (end_block m s).core
+    (end_block m s).queue
+    (same_enclosures s.core (end_block m s).core (ap (λ (l : Level). l.context) levels.level) levels.outer)
+    (taken_put (enclosures_of s.core) opened from s.core (end_block m s).core s.queue (empty_piece m tokens.BlockEnd)
+    s.core.cursor s.core.cursor (taken.nothing _ _) (block_end column m s.core.indent s.core.cursor e p)
     (apart_same s.core.cursor (end_block m s).core.cursor (block_cursor m s))
     (λ x k. (
       outer_indent_stack s.core.outer_indents x.columns s.core k.0,
-      k.1 ∙ sym (ap length (outer_indent_levels s.core.outer_indents s.core).outer),
-    )) h
+      k.1 ∙ sym (ap length levels.outer),
+    )) refl h)
 
-blocks_taken : (opened : Collections) (from : Cursor) (column : Option ℕ) (m : Marker) (is : List ℕ) (s : State)
-    → IsPlaceOrEnd s.core.cursor m → TakenState opened from s → TakenState opened from (end_blocks column m is s)
+blocks_taken : (opened : Setting) (from : Cursor) (column : Option ℕ) (m : Marker) (is : List ℕ) (s : State)
+    → BlocksEnd column m s.core.cursor → TakenState opened from s → TakenState opened from (end_blocks column m is s)
 blocks_taken opened from column m [] s p h =
-    by_test (is_right_of column s.core.indent) _ _ (TakenState opened from) (λ _. block_taken opened from m s p h)
-    (λ _. h)
+    by_test (is_right_of column s.core.indent) _ _ (TakenState opened from)
+    (λ e. block_taken opened from column m s e p h) (λ _. h)
 blocks_taken opened from column m (i ∷ is) s p h =
     by_test (is_right_of column s.core.indent) _ _ (TakenState opened from)
-    (λ _. blocks_taken opened from column m is (end_block m s)
-    (place_same s.core.cursor (end_block m s).core.cursor m (block_cursor m s) p)
-    (block_taken opened from m s p h)) (λ _. h)
+    (λ e. blocks_taken opened from column m is (end_block m s)
+    (blocks_end_same column m s.core.cursor (end_block m s).core.cursor (block_cursor m s) p)
+    (block_taken opened from column m s e p h)) (λ _. h)
 
-go_less_deep_taken : (opened : Collections) (from : Cursor) (column : Option ℕ) (s : State) → TakenState opened from s
+go_less_deep_taken : (opened : Setting) (from : Cursor) (column : Option ℕ) (s : State) → TakenState opened from s
     → TakenState opened from (with_core (go_less_deep column s.core) s)
 go_less_deep_taken opened from None s h =
-    taken_further opened from s.core (go_less_deep None s.core) s.queue (taken.nothing _ _) refl refl refl h
+    taken_further (enclosures_of s.core) opened from s.core (go_less_deep None s.core) s.queue
+    (taken.nothing _ _) refl refl refl h
 go_less_deep_taken opened from (Some column) s h =
-    taken_further opened from s.core (go_less_deep (Some column) s.core) s.queue (taken.nothing _ _) refl refl refl h
+    taken_further (enclosures_of s.core) opened from s.core (go_less_deep (Some column) s.core) s.queue
+    (taken.nothing _ _) refl refl refl h
 
-pub unroll_taken : (opened : Collections) (from : Cursor) (column : Option ℕ) (m : Marker) (s : State)
-    → IsPlaceOrEnd s.core.cursor m → TakenState opened from s → TakenState opened from (unroll column m s)
+pub unroll_taken : (opened : Setting) (from : Cursor) (column : Option ℕ) (m : Marker) (s : State)
+    → BlocksEnd column m s.core.cursor → TakenState opened from s → TakenState opened from (unroll column m s)
 unfolding unroll
 unroll_taken opened from column m s p h =
     let t : State = with_core (go_less_deep column s.core) s in
     by_test (in_block s.core) _ _ (TakenState opened from)
     (λ _. blocks_taken opened from column m s.core.outer_indents t
-    (place_same s.core.cursor t.core.cursor m (go_less_deep_cursor column s.core) p)
+    (blocks_end_same column m s.core.cursor t.core.cursor (go_less_deep_cursor column s.core) p)
     (go_less_deep_taken opened from column s h)) (λ _. h)
 
 levels_levels : (c d e : Core) → Levels c d → Levels d e → Levels c e

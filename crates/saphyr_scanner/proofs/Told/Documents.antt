@@ -18,7 +18,7 @@ use Rattle.saphyr_scanner.specs.Steps.Unrolling.{unroll}
 use Rattle.saphyr_scanner.proofs.Blocks.{unrolled_cursor, unrolled_comment}
 use Rattle.saphyr_scanner.proofs.Effects.Documents.{Documented, start_walked, end_marker_walked, mark_walked, directive_walked}
 use Rattle.saphyr_scanner.proofs.Effects.Walked.{Premises, Walked}
-use Rattle.saphyr_scanner.proofs.Effects.Fetch.{some_character_left, step_does}
+use Rattle.saphyr_scanner.proofs.Effects.Fetch.{some_character_left, deep_here, step_does}
 use Rattle.saphyr_scanner.proofs.Taken.Documents.{start_marking, end_place, no_length}
 use Rattle.saphyr_scanner.proofs.Effects.Readers.{TextLaws, RefusalLaws}
 use Rattle.saphyr_scanner.proofs.Taken.Places.{at_here, at_further}
@@ -86,10 +86,11 @@ here_told texts laws s n =
     (λ _. by_test ((s.core.cursor.mark.col == 0) && is_document_end t) _ _ P
     (λ e. let w = at (is_document_end t) e in told _ (end_marker_walked s w.0 w.1))
     (λ _. by_test (nat_lt s.core.cursor.mark.col (least_column s.core)) _ _ P (λ _. at_here s.core.cursor)
-    (λ _. let r = step (slice_index t 0) (slice_index t 1) (next s.queue) s.core in
+    (λ e. let r = step (slice_index t 0) (slice_index t 1) (next s.queue) s.core in
     after_step_told s.core.cursor r s.queue
     (walked_told s.core (laws, texts, n) (next s.queue) r
-    (step_does (slice_index t 0) (slice_index t 1) (next s.queue) s.core (some_character_left t z) refl refl))))))))
+    (step_does (slice_index t 0) (slice_index t 1) (next s.queue) s.core (some_character_left t z) refl refl
+    (deep_here s.core e)))))))))
 
 -- ## To where it begins
 

@@ -4,14 +4,13 @@ use Rattle.std.specs.Prelude.{nat_le}
 use Rattle.saphyr_scalar.specs.declared.scalar.position.Marker.{Marker}
 use Rattle.saphyr_scalar.specs.declared.scalar.fault.Refusal.{Refusal}
 use Rattle.saphyr_scalar.specs.Views.Cursor.{Cursor, start_cursor, ◌>>=◌}
-use Rattle.saphyr_scanner.specs.TokensTaken.{Collections}
 use Rattle.saphyr_scanner.specs.Steps.Core.{Core, drop_far_key}
 use Rattle.saphyr_scanner.specs.Steps.Fetch.{fetch, fetch_within, check_limit, without_far_key}
 use Rattle.saphyr_scanner.specs.Steps.Queue.{Queue}
 use Rattle.saphyr_scanner.specs.Steps.State.{State}
 use Rattle.saphyr_scanner.proofs.Taken.Fetch.{Read, Ready, fetch_read}
 use Rattle.saphyr_scanner.proofs.Effects.Readers.{TextLaws, RefusalLaws}
-use Rattle.saphyr_scanner.proofs.Taken.Held.{Taken}
+use Rattle.saphyr_scanner.proofs.Taken.Held.{Setting, Taken}
 use Rattle.saphyr_scanner.proofs.Taken.Later.{LaterThan}
 use Rattle.saphyr_scanner.proofs.Leads.{flat}
 use Rattle.saphyr_scanner.proofs.PlainBehind.{IsNoted}
@@ -33,10 +32,10 @@ told_err P s (Ok y) e h q = absurd (cc)
 told_err P s (Err f) e h q = let same : f ≡ e = cc in let Q : Refusal → Type 0 = λ x. At s x.mark in subst Q same h
 
 -- the tokens that are held lead to where the text goes on
-pub taken_reached : (opened : Collections) (from : Cursor) (c : Core) (q : Queue) → Taken opened from c q
+pub taken_reached : (opened : Setting) (from : Cursor) (c : Core) (q : Queue) → Taken opened from c q
     → Reaches from c.cursor
 taken_reached opened from c q h =
-    reaches_reaches from h.last c.cursor (tokens_reached opened (flat q.places) from h.last h.tokens)
+    reaches_reaches from h.last c.cursor (tokens_reached opened.collections (flat q.places) from h.last h.tokens)
     (apart_reached h.last.mark h.last.rest c.cursor.mark c.cursor.rest h.apart)
 
 noted_still : (c d : Core) → Still c d → Noted c → Noted d
@@ -56,12 +55,12 @@ settled_told text t a n =
     by (Err e) h = at_further (start_cursor text) t.core.cursor e.mark a h
 
 pub read_told : TextLaws → RefusalLaws → (text : List ℕ) → length text < 2 ^ 63
-    → (limit : ℕ) (opened : Collections) (from : Cursor) (s : State) → LaterThan (start_cursor text) from
+    → (limit : ℕ) (opened : Setting) (from : Cursor) (s : State) → LaterThan (start_cursor text) from
     → Reaches (start_cursor text) from → s.core.ended ≡ false → Ready opened from s → NotedState s
     → HoldsOrRefuses NotedState (start_cursor text) (fetch_within limit s >>= without_far_key)
 unfolding fetch_within
 read_told laws refusals text small limit opened from s l a going h n =
-    by (fetch s) (fetch_read laws text small opened from s l going h.taken (h.live going))
+    by (fetch s) (fetch_read laws text small opened from s l going h.fresh h.taken (h.live going))
     (told_further NotedState (start_cursor text) s.core.cursor (fetch s)
     (reaches_reaches (start_cursor text) from s.core.cursor a (taken_reached opened from s.core s.queue h.taken))
     (fetch_told laws refusals s n))

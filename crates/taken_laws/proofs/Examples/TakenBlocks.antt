@@ -12,7 +12,7 @@ use Rattle.saphyr_scanner.specs.TokensTaken.{AreTakenFrom}
 use Rattle.taken_laws.specs.Examples.TakenTexts as texts
 use Rattle.taken_laws.specs.Examples.TakenTexts.{marker_at}
 use Rattle.taken_laws.proofs.Examples.TokenTexts.{span_from_to, TokenText, no_token, here, behind_blank, whole}
-use Rattle.taken_laws.proofs.Examples.TokenTexts.{stream_start_taken, stream_end_taken, mapping_start_taken, block_end_taken, key_taken, colon_taken}
+use Rattle.taken_laws.proofs.Examples.TokenTexts.{stream_start_taken, stream_end_taken, mapping_start_taken, last_block_end_taken, key_taken, colon_taken}
 use Rattle.taken_laws.proofs.Examples.TokenTexts.{plain_taken, document_start_taken, letter_a, char, feed}
 
 -- a header with nothing behind its indicators
@@ -45,7 +45,12 @@ takes_literal =
             indented = (codes " ", codes "a\n", refl, (refl, tt), refl, refl, inr (inl (omega arith)));
             shaped = record { ended = (inr (codes "a", refl), tt); last = inl refl };
             inside = (refl, (λ e. refl), (refl, (λ e. refl), (refl, (λ e. refl), tt)));
-            ends = record { no_space = λ e. omega arith; no_break = refl; no_content = λ e. inl refl; whole_line = λ e. refl };
+            ends = record {
+              no_space = λ e. omega arith;
+              no_break = refl;
+              no_content = λ e. inl refl;
+              whole_line = λ e. refl;
+            };
             value = refl;
             before = codes "|\n ";
             behind = codes "a\n";
@@ -59,7 +64,7 @@ takes_literal =
         },
       );
     } in
-    whole (here stream_start_taken (here (document_start_taken refl refl)
+    whole refl (here stream_start_taken (here (document_start_taken refl refl)
     (behind_blank scalar (here stream_end_taken no_token))))
 
 pub takes_indentation : AreTakenFrom (codes "a: >1-\n  b\n c\n") texts.indentation
@@ -87,7 +92,12 @@ takes_indentation =
             indented = refl;
             shaped = record { ended = (inr (codes " b", refl), (inr (codes "c", refl), tt)); last = inl refl };
             inside = (refl, (λ e. refl), (refl, (λ e. refl), (refl, (λ e. refl), (refl, (λ e. refl), inside_c))));
-            ends = record { no_space = λ e. omega arith; no_break = refl; no_content = λ e. inl refl; whole_line = λ e. refl };
+            ends = record {
+              no_space = λ e. omega arith;
+              no_break = refl;
+              no_content = λ e. inl refl;
+              whole_line = λ e. refl;
+            };
             value = refl;
             before = codes ">1-\n ";
             behind = codes " b\n c\n";
@@ -102,6 +112,6 @@ takes_indentation =
         },
       );
     } in
-    whole (here stream_start_taken (here (mapping_start_taken refl)
-    (here key_taken (here (plain_taken letter_a refl refl refl refl) (here (colon_taken refl)
-    (behind_blank scalar (here block_end_taken (here stream_end_taken no_token))))))))
+    whole refl (here stream_start_taken (here (mapping_start_taken refl (omega arith))
+    (here (key_taken refl (λ _. refl)) (here (plain_taken letter_a refl refl refl refl) (here (colon_taken refl)
+    (behind_blank scalar (here (last_block_end_taken (omega arith)) (here stream_end_taken no_token))))))))

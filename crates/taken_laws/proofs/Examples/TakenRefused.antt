@@ -45,6 +45,7 @@ dropped_word_refused (
     (x, y, is),
     (h, b, a, ((e, m), s, o), (i, d, f, ((g, n), r, q), rest)),
   ),
+  place,
   fin,
 ) =
     let first : here.rest ≡ codes "[a]"
@@ -73,7 +74,7 @@ no_value (c ∷ d ∷ cs) others front last e f g =
     let h : [] ≡ d ∷ (cs ++ others) = tails 97 c [] (d ∷ (cs ++ others)) e in cc
 
 pub other_value_refused : AreTakenFrom (codes "a") texts.other_value → ⊥
-other_value_refused (end, (here, behind, apart, (x, y, is), (h, b, a, scalar, rest)), fin) =
+other_value_refused (end, (here, behind, apart, (x, y, is), (h, b, a, scalar, rest)), place, fin) =
     let first : here.rest ≡ codes "a" = (refusal_stays _ _ _ _ 97 [] apart refl refl refl (λ v. omega arith)).1 in
     let second : h.rest ≡ codes "a" =
     (refusal_stays _ _ _ _ 97 [] a (ap (λ v. v.rest) is ∙ first) refl refl (λ v. omega arith)).1 in
@@ -83,7 +84,7 @@ other_value_refused (end, (here, behind, apart, (x, y, is), (h, b, a, scalar, re
 -- ## `[]` with a bracket whose span starts behind it
 
 pub other_start_refused : AreTakenFrom (codes "[]") texts.other_start → ⊥
-other_start_refused (end, (here, behind, apart, (x, y, is), (h, b, a, (c, start, o), rest)), fin) =
+other_start_refused (end, (here, behind, apart, (x, y, is), (h, b, a, (c, start, o), rest)), place, fin) =
     let first = refusal_stays _ _ _ _ 91 (codes "]") apart refl refl refl (λ v. omega arith) in
     let second = refusal_stays _ _ _ _ 91 (codes "]") a (ap (λ v. v.rest) is ∙ first.1) refl refl (λ v. omega arith) in
     let same : marker_at 1 1 1 ≡ marker_at 0 1 0 = start ∙ second.0 ∙ ap (λ v. v.mark) is ∙ first.0 in

@@ -10,6 +10,8 @@ use Rattle.saphyr_scanner.specs.TokensTaken.{AreTakenFrom, no_collections}
 use Rattle.taken_laws.specs.Examples.TakenTexts as texts
 use Rattle.taken_laws.specs.Examples.TakenTexts.{marker_at}
 use Rattle.taken_laws.proofs.Examples.TokenTexts.{cursor_here, Tokens, no_token, here, behind_blank, behind_feed, whole}
+use Rattle.taken_laws.proofs.Examples.InPlace.{in_place}
+use Rattle.saphyr_scanner.specs.TokensInPlace.{not_enclosed}
 use Rattle.taken_laws.proofs.Examples.TokenTexts.{stream_start_taken, stream_end_taken, mapping_start_taken, key_taken, colon_taken, plain_taken}
 use Rattle.taken_laws.proofs.Examples.TokenTexts.{document_start_taken, document_end_taken, byte_order_mark_taken, letter_a, letter_b}
 use Rattle.taken_laws.proofs.Examples.TokenTexts.{tag_directive_taken, tag_taken, letter_v}
@@ -32,8 +34,8 @@ tag_e = inr (inr (codes "u", handle_e, (λ e. cc), decodes_itself is_tag_char 11
 pub takes_tag : AreTakenFrom (codes "%TAG !e! t:\n--- !e!u v\n") texts.tag_tokens
 unfolding encode
 takes_tag =
-    whole (here stream_start_taken (here (tag_directive_taken (codes "!e!") (codes "t:") _ directive_e refl refl refl
-    refl)
+    whole refl (here stream_start_taken
+    (here (tag_directive_taken (codes "!e!") (codes "t:") _ directive_e refl refl refl refl)
     (behind_feed (document_start_taken refl refl)
     (behind_blank (tag_taken _ (codes "!e!") (codes "u") tag_e refl refl refl)
     (behind_blank (plain_taken letter_v refl refl refl refl) (behind_feed stream_end_taken no_token))))))
@@ -41,7 +43,8 @@ takes_tag =
 pub takes_byte_order_mark : AreTakenFrom (codes "\u{feff}a\n...\n") texts.byte_order_mark_tokens
 unfolding encode
 takes_byte_order_mark =
-    whole (here stream_start_taken (here (byte_order_mark_taken refl) (here (plain_taken letter_a refl refl refl refl)
+    whole refl (here stream_start_taken (here (byte_order_mark_taken refl)
+    (here (plain_taken letter_a refl refl refl refl)
     (behind_feed (document_end_taken refl refl) (behind_feed stream_end_taken no_token)))))
 
 pub takes_refusal : AreTakenFrom (codes "a: b: c") texts.refusal
@@ -49,12 +52,13 @@ unfolding encode
 takes_refusal =
     let h : Tokens no_collections texts.refusal.pieces (marker_at 0 1 0) (codes "a: b: c") (marker_at 4 1 4)
     (codes ": c") =
-    here stream_start_taken (here (mapping_start_taken refl)
-    (here key_taken (here (plain_taken letter_a refl refl refl refl)
+    here stream_start_taken (here (mapping_start_taken refl (omega arith))
+    (here (key_taken refl (λ _. refl)) (here (plain_taken letter_a refl refl refl refl)
     (here (colon_taken refl) (behind_blank (plain_taken letter_b refl refl refl refl) no_token))))) in
     let end = cursor_here (codes ": c") (marker_at 4 1 4) in (
       end,
       h.holds,
+      in_place not_enclosed texts.refusal.pieces refl,
       (
         end,
         taken.character _ _ _ _ _ refl (taken.character _ _ _ _ _ refl

@@ -12,7 +12,7 @@ use Rattle.taken_laws.proofs.Examples.TokenTexts.{single_quoted_taken, double_qu
 pub takes_flow_mapping : AreTakenFrom (codes "{'a': \"b\" # c\n}") texts.flow_mapping
 unfolding encode
 takes_flow_mapping =
-    whole (here stream_start_taken (here (open_brace_taken no_tail) (here key_taken
+    whole refl (here stream_start_taken (here (open_brace_taken no_tail) (here (key_taken refl (λ e. absurd (cc)))
     (here (single_quoted_taken 97 no_tail refl refl refl refl) (here (colon_taken refl)
     (behind_blank (double_quoted_taken 98 comment_c refl refl refl)
     (behind (taken.blank _ _ _ _ _ refl (taken.comment _ (codes " c") (codes "\n}") _ _ (refl, (refl, tt)) refl
@@ -22,7 +22,7 @@ takes_flow_mapping =
 pub takes_alias : AreTakenFrom (codes "[&x a, *x]") texts.alias
 unfolding encode
 takes_alias =
-    whole (here stream_start_taken (here (open_bracket_taken no_tail) (here (anchor_taken 120 refl refl refl)
+    whole refl (here stream_start_taken (here (open_bracket_taken no_tail) (here (anchor_taken 120 refl refl refl)
     (behind_blank (plain_taken letter_a refl refl refl refl) (here (comma_taken blank)
     (behind_blank (alias_taken 120 refl refl refl)
     (here (close_bracket_taken no_tail) (here stream_end_behind_taken no_token))))))))

@@ -1,5 +1,5 @@
 -- Tokens of small texts, a piece for each: what stands before a token, and the token with what stands behind it.
-use Rattle.std.proofs.Common.{◌≡◌, ℕ, ◌<◌, ◌≤◌, Bool, true, false, List, [], ◌∷◌, ◌++◌, length, slice_index, None}
+use Rattle.std.proofs.Common.{◌≡◌, ℕ, ◌+◌, ◌<◌, ◌≤◌, Bool, true, false, List, [], ◌∷◌, ◌++◌, length, slice_index, None}
 use Rattle.std.proofs.Common.{inl, inr, refl, sym, arith, codes, ap, IsTrue, IsFalse}
 use Rattle.std.specs.Prelude.{encode_utf8_all}
 use Rattle.saphyr_input.specs.Indicators.{ampersand, apostrophe, asterisk, colon, comma, hyphen, left_brace, left_bracket, quotation_mark, right_brace, right_bracket}
@@ -26,10 +26,12 @@ use Rattle.saphyr_scanner.specs.Grammar.Tokens.{Kind}
 use Rattle.saphyr_scanner.specs.Views.Tokens.{Piece}
 use Rattle.saphyr_scanner.specs.TokensTaken as taken
 use Rattle.saphyr_scanner.specs.TokensTaken.{IsPassedOver, LiesOnLine, IsFlowIndicator, IsNameToken, IsQuotedToken}
-use Rattle.saphyr_scanner.specs.TokensTaken.{IsSpan}
+use Rattle.saphyr_scanner.specs.TokensTaken.{IsSpan, IsAtColumn}
 use Rattle.saphyr_scanner.specs.TokensTaken.{past_mark, may_begin_plain, begins_text, IsToken, open_behind}
 use Rattle.saphyr_scanner.specs.TokensTaken.{Collections, Surroundings, no_collections, surroundings_in}
 use Rattle.saphyr_scanner.specs.TokensTaken.{AreTokens, AreTakenFrom}
+use Rattle.saphyr_scanner.specs.TokensInPlace.{not_enclosed}
+use Rattle.taken_laws.proofs.Examples.InPlace.{are_in_place, in_place}
 use Rattle.taken_laws.specs.Examples.TakenTexts.{marker_at}
 
 abbrev pub cursor_here : List ℕ → Marker → Cursor
@@ -75,10 +77,10 @@ pub behind_feed : {opened : Collections} {t w u : List ℕ} {p : Piece} {ps : Li
 behind_feed h r = behind (taken.line_break _ _ _ _ refl (taken.nothing _ _)) h r
 
 -- all of a text
-pub whole : {pieces : List Piece} {text : List ℕ} {n : Marker}
+pub whole : {pieces : List Piece} {text : List ℕ} {n : Marker} → are_in_place not_enclosed pieces ≡ true
     → Tokens no_collections pieces (marker_at 0 1 0) text n []
     → AreTakenFrom text (record { pieces = pieces; refusal = None })
-whole {n = n} h = (cursor_here [] n, h.holds, refl)
+whole {pieces} {n = n} e h = (cursor_here [] n, h.holds, in_place not_enclosed pieces e, refl)
 
 -- ## Tokens without a text
 
@@ -95,23 +97,30 @@ pub stream_end_behind_taken : {at : Surroundings} {m : Marker}
 stream_end_behind_taken = record { holds = (refl, (refl, inr (refl, refl), refl)) }
 
 pub sequence_start_taken : {at : Surroundings} {m : Marker} {t : List ℕ} → IsTrue (begins_text (slice_index t 0))
-    → TokenText at tokens.BlockSequenceStart (span_from_to m m) m t m t
-sequence_start_taken b = record { holds = (refl, refl, refl, b) }
+    → at.indent ≤ m.col → TokenText at tokens.BlockSequenceStart (span_from_to m m) m t m t
+sequence_start_taken b r = record { holds = (refl, refl, refl, b, r) }
 
 pub mapping_start_taken : {at : Surroundings} {m : Marker} {t : List ℕ} → IsTrue (begins_text (slice_index t 0))
-    → TokenText at tokens.BlockMappingStart (span_from_to m m) m t m t
-mapping_start_taken b = record { holds = (refl, refl, refl, b) }
+    → at.indent ≤ m.col → TokenText at tokens.BlockMappingStart (span_from_to m m) m t m t
+mapping_start_taken b r = record { holds = (refl, refl, refl, b, r) }
 
-pub block_end_taken : {at : Surroundings} {m : Marker} {t : List ℕ}
-    → TokenText at tokens.BlockEnd (span_from_to m m) m t m t
-block_end_taken = record { holds = (refl, inl refl, refl) }
+-- before what stands left of the collection
+pub block_end_taken : {at : Surroundings} {m : Marker} {t : List ℕ} → IsTrue (begins_text (slice_index t 0))
+    → m.col + 1 < at.indent → TokenText at tokens.BlockEnd (span_from_to m m) m t m t
+block_end_taken b l = record { holds = ((refl, inl refl, refl), b, inl l) }
 
-pub block_end_behind_taken : {at : Surroundings} {m : Marker}
+-- at the end of the text
+pub last_block_end_taken : {at : Surroundings} {m : Marker} → 0 < at.indent
+    → TokenText at tokens.BlockEnd (span_from_to m m) m [] m []
+last_block_end_taken l = record { holds = ((refl, inl refl, refl), refl, inr (l, inl refl)) }
+
+pub block_end_behind_taken : {at : Surroundings} {m : Marker} → 0 < at.indent
     → TokenText at tokens.BlockEnd (span_from_to (next_line m 0) (next_line m 0)) m [] m []
-block_end_behind_taken = record { holds = (refl, inr (refl, refl), refl) }
+block_end_behind_taken l = record { holds = ((refl, inr (refl, refl), refl), refl, inr (l, inl refl)) }
 
-pub key_taken : {at : Surroundings} {m : Marker} {t : List ℕ} → TokenText at tokens.Key (span_from_to m m) m t m t
-key_taken = record { holds = inr (refl, inl refl, refl) }
+pub key_taken : {at : Surroundings} {m : Marker} {t : List ℕ} → IsTrue (begins_text (slice_index t 0))
+    → (at.in_flow ≡ false → IsAtColumn at.indent m) → TokenText at tokens.Key (span_from_to m m) m t m t
+key_taken b c = record { holds = inr (refl, refl, refl, b, c) }
 
 -- ## Indicators
 
@@ -165,9 +174,10 @@ pub comma_taken : {at : Surroundings} {n : ℕ} {m : Marker} {t : List ℕ} → 
 comma_taken {n = n} {m} {t} h = record { holds = indicator_taken 44 n m t h }
 
 -- a `-` and a blank
-pub dash_taken : {at : Surroundings} {m : Marker} {t : List ℕ} → TokenText at tokens.BlockEntry
+pub dash_taken : {at : Surroundings} {m : Marker} {t : List ℕ} → IsAtColumn at.indent m
+    → TokenText at tokens.BlockEntry
     (span_from_to (along (along m 1) 1) (along (along m 1) 1)) m (hyphen ∷ space ∷ t) (along m 1) (space ∷ t)
-dash_taken {m = m} = record { holds = ((refl, refl), refl, lies (along m 1) blank, refl) }
+dash_taken {m = m} c = record { holds = ((refl, refl), refl, lies (along m 1) blank, refl, c) }
 
 -- a colon before a blank, a break, NUL or the end
 pub colon_taken : {at : Surroundings} {m : Marker} {others : List ℕ}

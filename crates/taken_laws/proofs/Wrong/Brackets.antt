@@ -11,7 +11,7 @@ use Rattle.saphyr_scanner.specs.TokensTaken.{AreTakenFrom}
 use Rattle.taken_laws.specs.Examples.TakenTexts as texts
 use Rattle.taken_laws.proofs.Wrong.Standing.{tokens_stand, at_index}
 
-comma_is_not_safe : (piece others : List ℕ) → codes "a, b]\n" ≡ piece ++ others → IsSafeInFlow piece others
+pub comma_is_not_safe : (piece others : List ℕ) → codes "a, b]\n" ≡ piece ++ others → IsSafeInFlow piece others
     → 2 ≤ length piece → ⊥
 comma_is_not_safe [] others e safe l = omega (arith, l)
 comma_is_not_safe (c ∷ []) others e safe l = omega (arith, l)
@@ -22,7 +22,7 @@ comma_is_not_safe (c ∷ d ∷ ds) others e safe l =
     cc
 
 pub one_entry_refused : AreTakenFrom (codes ": [a, b]\n") texts.one_entry → ⊥
-one_entry_refused (end, tokens, fin) =
+one_entry_refused (end, tokens, place, fin) =
     let stand = tokens_stand (codes ": [a, b]\n") texts.one_entry.pieces end tokens in
     let scalar = stand.1.1.1.1.0 in
     let start : 3 ≡ scalar.here.mark.index = ap (λ (m : Marker). m.index) scalar.is.start in
@@ -34,7 +34,7 @@ one_entry_refused (end, tokens, fin) =
     (omega (arith, start, count, ends))
 
 pub literal_as_plain_refused : AreTakenFrom (codes ": |\n a\n") texts.literal_as_plain → ⊥
-literal_as_plain_refused (end, tokens, fin) =
+literal_as_plain_refused (end, tokens, place, fin) =
     let stand = tokens_stand (codes ": |\n a\n") texts.literal_as_plain.pieces end tokens in
     let scalar = stand.1.1.1.0 in
     let start : 2 ≡ scalar.here.mark.index = ap (λ (m : Marker). m.index) scalar.is.start in
@@ -44,7 +44,7 @@ literal_as_plain_refused (end, tokens, fin) =
     cc
 
 pub literal_in_list_refused : AreTakenFrom (codes "[|1\n]\n") texts.literal_in_list → ⊥
-literal_in_list_refused (end, tokens, fin) =
+literal_in_list_refused (end, tokens, place, fin) =
     let stand = tokens_stand (codes "[|1\n]\n") texts.literal_in_list.pieces end tokens in
     let no : true ≡ false = stand.1.1.0.is.0 in
     cc

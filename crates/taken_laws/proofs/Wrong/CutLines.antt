@@ -50,7 +50,7 @@ one_space i (inl e) = absurd (let k : false ≡ true = and_true_right (nat_le 2 
 one_space i (inr (text, e)) = one_space_before i text e
 
 -- ` a#b` behind `|`: the scalar doesn't end before the `#`
-cut_refused : (before : List ℕ) (indent : ℕ) (value : List ℕ) (span : Span) (s t : Cursor)
+pub cut_refused : (before : List ℕ) (indent : ℕ) (value : List ℕ) (span : Span) (s t : Cursor)
     → has_character 124 before ≡ false → Reaches (start_cursor (before ++ codes "|\n a#b\n")) s
     → IsBlockScalarToken block_style.Literal indent value span s t → span.end.index ≡ length before + 4
     → span.end.col ≡ 2 → ⊥
@@ -78,11 +78,11 @@ cut_refused before indent value span s t none reached h index column =
     cc
 
 pub cut_line_refused : AreTakenFrom (codes "--- |\n a#b\n") texts.cut_line → ⊥
-cut_line_refused (end, tokens, fin) =
+cut_line_refused (end, tokens, place, fin) =
     let own = (tokens_stand (codes "--- |\n a#b\n") texts.cut_line.pieces end tokens).1.1.0 in
     cut_refused (codes "--- ") _ (codes "a") _ own.here own.behind refl own.reached own.is.1 refl refl
 
 pub cut_value_refused : AreTakenFrom (codes ": |\n a#b\n") texts.cut_value → ⊥
-cut_value_refused (end, tokens, fin) =
+cut_value_refused (end, tokens, place, fin) =
     let own = (tokens_stand (codes ": |\n a#b\n") texts.cut_value.pieces end tokens).1.1.1.0 in
     cut_refused (codes ": ") _ (codes "a") _ own.here own.behind refl own.reached own.is.1 refl refl

@@ -12,7 +12,7 @@ abbrev ends_tag : List ℕ → Bool
 ends_tag l = is_blank_or_breakz (slice_index l 0) || (false && is_flow (slice_index l 0))
 
 pub short_tag_refused : AreTakenFrom (codes ": !a\n") texts.short_tag → ⊥
-short_tag_refused (end, tokens, fin) =
+short_tag_refused (end, tokens, place, fin) =
     let stand = tokens_stand (codes ": !a\n") texts.short_tag.pieces end tokens in
     let tag = stand.1.1.1.0 in
     let index : tag.behind.mark.index ≡ 3 = sym (ap (λ (m : Marker). m.index) tag.is.6.end) in
@@ -21,7 +21,7 @@ short_tag_refused (end, tokens, fin) =
     cc
 
 pub tag_before_comment_refused : AreTakenFrom (codes ": !a#b\n") texts.tag_before_comment → ⊥
-tag_before_comment_refused (end, tokens, fin) =
+tag_before_comment_refused (end, tokens, place, fin) =
     let stand = tokens_stand (codes ": !a#b\n") texts.tag_before_comment.pieces end tokens in
     let tag = stand.1.1.1.0 in
     let index : tag.behind.mark.index ≡ 4 = sym (ap (λ (m : Marker). m.index) tag.is.6.end) in
@@ -30,7 +30,7 @@ tag_before_comment_refused (end, tokens, fin) =
     cc
 
 pub short_key_refused : AreTakenFrom (codes "a:b") texts.short_key → ⊥
-short_key_refused (end, tokens, fin) =
+short_key_refused (end, tokens, place, fin) =
     let stand = tokens_stand (codes "a:b") texts.short_key.pieces end tokens in
     let colon = stand.1.1.1.1.0 in
     let start : 1 ≡ colon.here.mark.index = ap (λ (m : Marker). m.index) colon.is.2 in

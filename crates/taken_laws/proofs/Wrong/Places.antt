@@ -6,7 +6,7 @@ use Rattle.taken_laws.specs.Examples.TakenTexts as texts
 use Rattle.taken_laws.proofs.Wrong.Standing.{tokens_stand, at_origin}
 
 pub other_indentation_refused : AreTakenFrom (codes " a: |1\n   b") texts.other_indentation → ⊥
-other_indentation_refused (end, tokens, fin) =
+other_indentation_refused (end, tokens, place, fin) =
     let stand = tokens_stand (codes " a: |1\n   b") texts.other_indentation.pieces end tokens in
     let start = stand.1.0 in
     let index : start.here.mark.index ≡ 0 = sym (ap (λ m. m.index) start.is.1) in

@@ -24,7 +24,7 @@ alone handle (inr (word, are, e)) told =
     omega (arith, n, length-append (encode_utf8_all word) (codes "!")))
 
 -- where one blank stands before a `!`, the blanks are that one
-one_blank : (blanks more others : List ℕ) → AreSomeBlanks blanks → blanks ++ more ≡ 32 ∷ 33 ∷ others
+pub one_blank : (blanks more others : List ℕ) → AreSomeBlanks blanks → blanks ++ more ≡ 32 ∷ 33 ∷ others
     → (length blanks ≡ 1) × (more ≡ 33 ∷ others)
 one_blank [] more others some e = absurd (some.0 refl)
 one_blank (b ∷ []) more others some e = (refl, tails b 32 more (33 ∷ others) e)
@@ -38,7 +38,7 @@ first_of c [] more others e some = absurd (omega (arith, some))
 first_of c (x ∷ xs) more others e some = sym (heads x c (xs ++ more) others e)
 
 -- the text from the handle on, behind `%TAG` and the blanks
-abbrev from_handle : List ℕ
+abbrev pub from_handle : List ℕ
 from_handle = codes "!e!t:x\n--- !u v\n"
 
 refused : (span : Span) (s t : Cursor) → Reaches (start_cursor (codes "%TAG !e!t:x\n--- !u v\n")) s
@@ -77,6 +77,6 @@ refused span s t reached start end (
     cc
 
 pub short_handle_refused : AreTakenFrom (codes "%TAG !e!t:x\n--- !u v\n") texts.short_handle → ⊥
-short_handle_refused (end, tokens, fin) =
+short_handle_refused (end, tokens, place, fin) =
     let own = (tokens_stand (codes "%TAG !e!t:x\n--- !u v\n") texts.short_handle.pieces end tokens).1.0 in
     refused _ own.here own.behind own.reached refl refl own.is

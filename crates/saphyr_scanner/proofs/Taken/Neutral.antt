@@ -1,0 +1,46 @@
+-- Tokens that change nothing of what encloses those behind.
+use Rattle.std.proofs.Common.{◌≡◌, Bool, true, false, List, refl, IsTrue}
+use Rattle.saphyr_scalar.specs.declared.scalar.position.Span.{Span}
+use Rattle.saphyr_scanner.specs.Grammar.Tokens as tokens
+use Rattle.saphyr_scanner.specs.Grammar.Tokens.{Kind}
+use Rattle.saphyr_scanner.specs.Views.Tokens.{Piece}
+use Rattle.saphyr_scanner.specs.TokensTaken.{Collections, open_behind}
+use Rattle.saphyr_scanner.specs.TokensInPlace.{Enclosure, Enclosed, enclosures_behind, fits}
+use Rattle.saphyr_scanner.proofs.Taken.InPlace.{free}
+use Rattle.saphyr_scanner.proofs.Taken.Keys.{KeepsDepth}
+
+-- a token that opens and closes no bracket
+abbrev pub KeepsBrackets : Piece → Type 0
+KeepsBrackets t = (opened : Collections) → (open_behind t.kind t.span opened).brackets ≡ opened.brackets
+
+-- A token that neither opens nor closes a bracket, a single pair or an implicit key, and may stand anywhere.
+pub record Neutral (t : Piece) : Type 0 where
+  pub brackets : KeepsBrackets t
+  pub depth : KeepsDepth t
+  pub encloses : (e : Enclosure) (outside : List Enclosed)
+      → enclosures_behind t.kind t.span (free e outside) ≡ free e outside
+  pub fits : (e : Enclosure) → IsTrue (fits e t.kind t.span)
+
+abbrev pub is_neutral : Kind → Bool
+is_neutral tokens.BlockSequenceStart = false
+is_neutral tokens.BlockMappingStart = false
+is_neutral tokens.FlowSequenceStart = false
+is_neutral tokens.FlowSequenceEnd = false
+is_neutral tokens.FlowMappingStart = false
+is_neutral tokens.FlowMappingEnd = false
+is_neutral tokens.FlowEntry = false
+is_neutral tokens.Key = false
+is_neutral tokens.Value = false
+is_neutral _ = true
+
+pub neutral : (kind : Kind) (span : Span) → is_neutral kind ≡ true → Neutral (record { span = span; kind = kind })
+neutral tokens.BlockSequenceStart span e = absurd (cc)
+neutral tokens.BlockMappingStart span e = absurd (cc)
+neutral tokens.FlowSequenceStart span e = absurd (cc)
+neutral tokens.FlowSequenceEnd span e = absurd (cc)
+neutral tokens.FlowMappingStart span e = absurd (cc)
+neutral tokens.FlowMappingEnd span e = absurd (cc)
+neutral tokens.FlowEntry span e = absurd (cc)
+neutral tokens.Key span e = absurd (cc)
+neutral tokens.Value span e = absurd (cc)
+neutral _ span e = record { brackets = λ x. refl; depth = λ d. refl; encloses = λ x y. refl; fits = λ x. refl }

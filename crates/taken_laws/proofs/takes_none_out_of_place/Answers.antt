@@ -1,0 +1,35 @@
+use Rattle.taken_laws.proofs.Wrong.OutOfPlace as wrong
+use Rattle.taken_laws.proofs.takes_none_out_of_place.Goals as goal
+
+pub returns-clause-key_alone : goal.returns-clause-key_alone
+returns-clause-key_alone c = wrong.key_alone_refused
+
+pub returns-clause-key_on_two_lines : goal.returns-clause-key_on_two_lines
+returns-clause-key_on_two_lines c = wrong.key_on_two_lines_refused
+
+pub returns-clause-long_key : goal.returns-clause-long_key
+returns-clause-long_key c = wrong.long_key_refused
+
+pub returns-clause-no_braces : goal.returns-clause-no_braces
+returns-clause-no_braces c = wrong.no_braces_refused
+
+pub returns-clause-one_brace : goal.returns-clause-one_brace
+returns-clause-one_brace c = wrong.one_brace_refused
+
+pub returns-clause-pair_without_colon : goal.returns-clause-pair_without_colon
+returns-clause-pair_without_colon c = wrong.pair_without_colon_refused
+
+pub returns-clause-pair_without_end : goal.returns-clause-pair_without_end
+returns-clause-pair_without_end c = wrong.pair_without_end_refused
+
+pub returns-clause-pair_on_two_lines : goal.returns-clause-pair_on_two_lines
+returns-clause-pair_on_two_lines c = wrong.pair_on_two_lines_refused
+
+pub returns-clause-no_entry : goal.returns-clause-no_entry
+returns-clause-no_entry c = wrong.no_entry_refused
+
+pub returns-clause-no_pair : goal.returns-clause-no_pair
+returns-clause-no_pair c = wrong.no_pair_refused
+
+pub returns-clause-key_of_no_pair : goal.returns-clause-key_of_no_pair
+returns-clause-key_of_no_pair c = wrong.key_of_no_pair_refused
