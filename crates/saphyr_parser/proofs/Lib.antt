@@ -9,6 +9,7 @@ pub mod AnchorCount
 pub mod Examples
 pub mod Happenings
 pub mod Latest
+pub mod Later
 pub mod Nesting
 pub mod Printed
 pub mod Calls

@@ -4,3 +4,8 @@ pub mod Ends
 pub mod Quotes
 pub mod Starts
 pub mod Refused
+pub mod Stretches
+pub mod Tags
+pub mod Brackets
+pub mod Prefixes
+pub mod Handles

@@ -45,10 +45,14 @@ ghost use Rattle.saphyr_parser.specs.More.{BeginsAs, marker_token, with_more};
 
 mod calling;
 mod comparing;
+mod later;
 
 pub use calling::{hands_out_what_was_peeked, keeps_no_prefixes_at_first, loads_the_end_again};
 pub use comparing::{hashes_alike, orders_styles, orders_tags, reads_inputs_alike, starts_at_zero};
 use json_laws::scans_each_json;
+pub use later::{
+    keeps_spans_later, keeps_spans_over_load, leaves_later_parsers, loads_later_parsers,
+};
 use layout_laws::{scans_breaks_alike, scans_each_layout_text};
 use saphyr_scanner::law::bounds_tokens;
 

@@ -48,6 +48,22 @@ pub fn takes_no_wrong_answers()
     ensures no_events { (keep : Bool) → ¬ AreTaken keep (codes "a") wrong.no_events }
 {}
 
+/// Nothing is cut, and nothing goes on too far: what follows `!` in `!a` is the tag's, `#b` is no comment in
+/// `!a#b` nor in a line ` a#b` of a block scalar, and the handle of `%TAG !e!t:x` is not `!`; `|` before ` a`
+/// begins no plain scalar, and `[a, b]` is not one entry.
+pub fn takes_no_other_answers()
+    ensures short_tag { (keep : Bool) → ¬ AreTaken keep (codes ": !a\n") wrong.short_tag }
+    ensures tag_before_comment { (keep : Bool) → ¬ AreTaken keep (codes ": !a#b\n")
+        wrong.tag_before_comment }
+    ensures cut_value { (keep : Bool) → ¬ AreTaken keep (codes ": |\n a#b\n") wrong.cut_value }
+    ensures cut_line { (keep : Bool) → ¬ AreTaken keep (codes "--- |\n a#b\n") wrong.cut_line }
+    ensures short_handle { (keep : Bool) → ¬ AreTaken keep (codes "%TAG !e!t:x\n--- !u v\n")
+        wrong.short_handle }
+    ensures literal_as_plain { (keep : Bool) → ¬ AreTaken keep (codes ": |\n a\n")
+        wrong.literal_as_plain }
+    ensures one_entry { (keep : Bool) → ¬ AreTaken keep (codes ": [a, b]\n") wrong.one_entry }
+{}
+
 /// In `a:` LF `- [x]` the bracket is the second sequence's: where the first start has it, the second one
 /// has no span. No event has a line and a column that are no place's.
 pub fn takes_no_wrong_spans()

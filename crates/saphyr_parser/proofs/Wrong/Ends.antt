@@ -94,7 +94,7 @@ record Closes (es : List Happening) : Type 0 where
   are : es ≡ front ++ events.StreamEnd ∷ []
   none : NoEnds front
 
-before_some : (o : Option Happening) (r : Option (List Happening)) (es : List Happening)
+pub before_some : (o : Option Happening) (r : Option (List Happening)) (es : List Happening)
     → first_and_others o r ≡ Some es
     → (w : Happening) × (rs : List Happening) × (o ≡ Some w) × (r ≡ Some rs) × (es ≡ w ∷ rs)
 before_some None r es e = absurd (cc)

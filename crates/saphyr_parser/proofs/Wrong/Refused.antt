@@ -1,5 +1,5 @@
 -- Wrong answers, each with what refuses it.
-use Rattle.std.proofs.Common.{◌≡◌, ◌⊎◌, ℕ, Bool, true, false, List, [], ◌∷◌, ◌++◌, length, refl, sym, ap, ◌∙◌, arith, inl, inr, codes}
+use Rattle.std.proofs.Common.{◌≡◌, ◌⊎◌, ℕ, ◌+◌, Bool, true, false, List, [], ◌∷◌, ◌++◌, length, refl, sym, ap, ◌∙◌, arith, inl, inr, codes}
 use Rattle.std.specs.Prelude.{slice_index}
 use Rattle.saphyr_input.specs.Indicators.{vertical_bar}
 use Rattle.saphyr_scalar.specs.declared.scalar.position.Marker.{Marker}
@@ -15,6 +15,7 @@ use Rattle.saphyr_scanner.proofs.Reached.{reached_counted}
 use Rattle.saphyr_machine.specs.Events as events
 use Rattle.taken_laws.specs.Examples.TakenTexts.{marker_at}
 use Rattle.taken_laws.proofs.Wrong.BlockLines.{all_inside}
+use Rattle.taken_laws.proofs.Wrong.CutLines.{cut_refused}
 use Rattle.taken_laws.proofs.Wrong.PlainValues.{plain_value_ink}
 use Rattle.taken_laws.proofs.Wrong.Standing.{reached_behind, one_place, has_character}
 use Rattle.saphyr_parser.specs.EventsTaken.{AreTaken}
@@ -118,3 +119,29 @@ no_place (s, reached, inr e, l) = let z : 9 ≡ 0 = ap (λ (m : Marker). m.col) 
 pub wrong_line_is_no_place : HasSpansIn [] wrong.wrong_line → ⊥
 wrong_line_is_no_place h = no_place (h 0 (events.StreamStart, record { start = marker_at 0 1 0; end = marker_at 0 1 0 })
     (omega arith)).1
+
+-- ## Block scalars that end inside a line
+
+-- the scalar's own token ends where its event does
+cut_scalar : (before : List ℕ) (span : Span) → OwnScalar (before ++ codes "|\n a#b\n") (codes "a") Literal span
+    → has_character 124 before ≡ false → span.end.index ≡ length before + 4 → span.end.col ≡ 2 → ⊥
+cut_scalar before span o none index column =
+    let at = ap (λ (m : Marker). m.index) o.end in
+    let col = ap (λ (m : Marker). m.col) o.end in
+    cut_refused before o.at.indent (codes "a") o.own o.here o.behind none o.reached o.is.1 (at ∙ index) (col ∙ column)
+
+pub cut_value_is_not_taken : (keep : Bool) → AreTaken keep (codes ": |\n a#b\n") wrong.cut_value → ⊥
+cut_value_is_not_taken keep t = by (owned keep (codes ": |\n a#b\n") wrong.cut_value t).1.1.1.1.0
+  where
+    by : (codes "a" ≡ []) ⊎ OwnScalar (codes ": |\n a#b\n") (codes "a") Literal
+        (record { start = marker_at 5 2 1; end = marker_at 6 2 2 }) → ⊥
+    by (inl e) = cc
+    by (inr o) = cut_scalar (codes ": ") (record { start = marker_at 5 2 1; end = marker_at 6 2 2 }) o refl refl refl
+
+pub cut_line_is_not_taken : (keep : Bool) → AreTaken keep (codes "--- |\n a#b\n") wrong.cut_line → ⊥
+cut_line_is_not_taken keep t = by (owned keep (codes "--- |\n a#b\n") wrong.cut_line t).1.1.0
+  where
+    by : (codes "a" ≡ []) ⊎ OwnScalar (codes "--- |\n a#b\n") (codes "a") Literal
+        (record { start = marker_at 7 2 1; end = marker_at 8 2 2 }) → ⊥
+    by (inl e) = cc
+    by (inr o) = cut_scalar (codes "--- ") (record { start = marker_at 7 2 1; end = marker_at 8 2 2 }) o refl refl refl

@@ -141,6 +141,115 @@ marker_in_quotes =
       fault = None;
     }
 
+-- ## Answers in which something is too short, or goes on too far
+
+-- the mapping `: v` of one line, with the value's event, and the place behind that line
+abbrev with_value : Happening × Span → Marker → Answer
+with_value value end =
+    record {
+      events =
+          (events.StreamStart, origin) ∷
+          (events.DocumentStart false, origin) ∷
+          (events.MappingStart 0 None, origin) ∷
+          (plain_event [], origin) ∷
+          value ∷
+          (events.MappingEnd, span_of end end) ∷
+          (events.DocumentEnd, span_of end end) ∷
+          (events.StreamEnd, span_of end end) ∷
+          [];
+      fault = None;
+    }
+
+-- `: !a` LF with the tag `!` before `a`
+abbrev pub scalar_with_short_tag : Happening
+scalar_with_short_tag = events.Scalar (codes "a") Plain 0 (Some (record { handle = []; suffix = codes "!" }))
+
+abbrev pub tag_and_a : Span
+tag_and_a = span_of (marker_at 2 1 2) (marker_at 4 1 4)
+
+abbrev pub short_tag : Answer
+short_tag = with_value (scalar_with_short_tag, tag_and_a) (marker_at 5 2 0)
+
+-- `: !a#b` LF with the tag `!a` alone, and a comment
+abbrev pub empty_with_tag : Happening
+empty_with_tag = events.Scalar [] Plain 0 (Some (record { handle = codes "!"; suffix = codes "a" }))
+
+abbrev pub tag_alone : Span
+tag_alone = span_of (marker_at 2 1 2) (marker_at 4 1 4)
+
+abbrev pub tag_before_comment : Answer
+tag_before_comment = with_value (empty_with_tag, tag_alone) (marker_at 7 2 0)
+
+-- `: |` LF ` a#b` LF with the value `a`, and a comment
+abbrev pub cut_value : Answer
+cut_value =
+    with_value (events.Scalar (codes "a") Literal 0 None, span_of (marker_at 5 2 1) (marker_at 6 2 2)) (marker_at 9 3 0)
+
+-- `--- |` LF ` a#b` LF so
+abbrev pub cut_line : Answer
+cut_line =
+    record {
+      events =
+          (events.StreamStart, origin) ∷
+          (events.DocumentStart true, span_of (marker_at 0 1 0) (marker_at 3 1 3)) ∷
+          (events.Scalar (codes "a") Literal 0 None, span_of (marker_at 7 2 1) (marker_at 8 2 2)) ∷
+          (events.DocumentEnd, span_of (marker_at 11 3 0) (marker_at 11 3 0)) ∷
+          (events.StreamEnd, span_of (marker_at 11 3 0) (marker_at 11 3 0)) ∷
+          [];
+      fault = None;
+    }
+
+-- `%TAG !e!t:x` LF `--- !u v` LF with the handle `!`, which stands for `e!t:x` then
+abbrev pub short_handle : Answer
+short_handle =
+    record {
+      events =
+          (events.StreamStart, origin) ∷
+          (events.DocumentStart true, span_of (marker_at 12 2 0) (marker_at 15 2 3)) ∷ (
+            events.Scalar (codes "v") Plain 0 (Some (record { handle = codes "e!t:x"; suffix = codes "u" })),
+            span_of
+                (marker_at 16 2 4) (marker_at 20 2 8),
+          ) ∷
+          (events.DocumentEnd, span_of (marker_at 21 3 0) (marker_at 21 3 0)) ∷
+          (events.StreamEnd, span_of (marker_at 21 3 0) (marker_at 21 3 0)) ∷
+          [];
+      fault = None;
+    }
+
+-- `: |` LF ` a` LF with the plain scalar `| a`
+abbrev pub bar_and_a : Span
+bar_and_a = span_of (marker_at 2 1 2) (marker_at 6 2 2)
+
+abbrev pub literal_as_plain : Answer
+literal_as_plain = with_value (plain_event (codes "| a"), bar_and_a) (marker_at 7 3 0)
+
+-- `: [a, b]` LF with the one entry `a, b`
+abbrev pub bracket : Span
+bracket = span_of (marker_at 2 1 2) (marker_at 3 1 3)
+
+abbrev pub both_entries : Span
+both_entries = span_of (marker_at 3 1 3) (marker_at 7 1 7)
+
+abbrev pub one_entry : Answer
+one_entry =
+    record {
+      events =
+          (events.StreamStart, origin) ∷
+          (events.DocumentStart false, origin) ∷
+          (events.MappingStart 0 None, origin) ∷
+          (plain_event [], origin) ∷
+          (events.SequenceStart 0 None, bracket) ∷
+          (plain_event (codes "a, b"), both_entries) ∷
+          (events.SequenceEnd, span_of (marker_at 7 1 7) (marker_at 8 1 8)) ∷
+          (events.MappingEnd, span_of (marker_at 9 2 0) (marker_at 9 2 0)) ∷
+          (events.DocumentEnd, span_of (marker_at 9 2 0) (marker_at 9 2 0)) ∷
+          (events.StreamEnd, span_of (marker_at 9 2 0) (marker_at 9 2 0)) ∷
+          [];
+      fault = None;
+    }
+
+-- ## A place that is none
+
 -- the events of the empty text, the first with a line and a column that are no place's
 abbrev pub wrong_line : Answer
 wrong_line = record {
