@@ -21,7 +21,8 @@ import tempfile
 from refused_memory import DATA, ROOT, cases_of, judge_lines, program, refuser, sweep, unescaped
 
 CRATE = f"{ROOT}/crates/saphyr_parser_c"
-PROGRAMS = ("cases", "dump_events", "misuse")
+PROGRAMS = ("cases", "dump_events", "misuse", "pieces")
+PIECES = (1, 2, 3, 4096)
 HOW = ["-std=c11", "-D_GNU_SOURCE", "-O2", "-Wall", "-Wextra", f"-I{CRATE}"]
 VALGRIND = ["valgrind", "-q", "--error-exitcode=99", "--leak-check=full", "--errors-for-leak-kinds=definite,indirect"]
 FAILED = []
@@ -70,7 +71,8 @@ def library_words(kit):
 
 def built(folder, compiler):
     """The C programs and the Rust example, by their names."""
-    call([compiler, "-std=c99", "-pedantic-errors", "-fsyntax-only", f"{CRATE}/saphyr_parser.h"], ROOT)
+    for header in (f"{CRATE}/saphyr_parser.h", f"{ROOT}/tests/faces/pieces.h"):
+        call([compiler, "-std=c99", "-pedantic-errors", "-fsyntax-only", f"-I{CRATE}", header], ROOT)
     made, to_link = {}, libraries()
     for name in PROGRAMS:
         made[name] = f"{folder}/{name}"
@@ -113,6 +115,17 @@ def check_lists(made, cases):
             fail(f"{case.name}, in C: {answer.decode()!r}")
 
 
+def check_pieces(made, count, cases):
+    """Each case through C in one process, in pieces of so many bytes."""
+    texts = b"".join(framed(case).split(b" ", 1)[1] for case in cases)
+    answers = subprocess.run([made["pieces"], str(count)], input=texts, capture_output=True).stdout.split(b"\xff")[:-1]
+    if len(answers) != len(cases):
+        fail(f"C in pieces of {count} stopped behind {len(answers)} of {len(cases)} cases")
+    for case, answer in zip(cases, answers):
+        if answer != listed(case):
+            fail(f"{case.name}, in C in pieces of {count}: {answer.decode()!r}")
+
+
 def check_lines(case):
     """What the program `dump_events` prints of a case are its lines."""
     ran = subprocess.run([program("dump_events")], input=case.text.encode(), capture_output=True, close_fds=False)
@@ -151,6 +164,7 @@ def look_for_leaks(made, cases):
     """Runs the programs under valgrind."""
     texts = [case for case in cases if case.name in ("worked 001", "worked 004", "worked 043")]
     runs = [("misuse", b""), ("cases", b"".join(map(framed, cases)))]
+    runs.append(("pieces", b"".join(framed(case).split(b" ", 1)[1] for case in cases if not case.keeps_tags)))
     runs += [(name, case.text.encode()) for name in ("dump_events", "rust") for case in texts]
     for name, text in runs:
         ran = subprocess.run([*VALGRIND, made[name]], input=text, capture_output=True)
@@ -171,6 +185,8 @@ def main():
     with tempfile.TemporaryDirectory() as folder, concurrent.futures.ThreadPoolExecutor(os.cpu_count()) as pool:
         made = built(folder, compiler)
         check_lists(made, cases)
+        cut = [case for case in cases if not case.keeps_tags]
+        list(pool.map(lambda count: check_pieces(made, count, cut), PIECES))
         list(pool.map(check_lines, (case for case in cases if not case.name.startswith("cut "))))
         cargo("test")
         said = subprocess.run([made["misuse"]], capture_output=True).stdout.decode()

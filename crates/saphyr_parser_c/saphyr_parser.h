@@ -43,10 +43,10 @@ extern "C" {
 
 /* The version of these declarations, which saphyr_version answers: 1,000,000 for each major and 1,000 for each minor
    one, and the patch's number. The shared library's name ends with it. */
-#define SAPHYR_VERSION 1000u
+#define SAPHYR_VERSION 2000u
 
 /* The release that this header came with. Before the `+` is the version of the Rust crate whose events these are. */
-#define SAPHYR_PARSER_VERSION "0.3.3+rattle.1"
+#define SAPHYR_PARSER_VERSION "0.3.3+rattle.2"
 
 /* What a call answers. Below 0 it could not do what was asked. */
 enum saphyr_status {
@@ -60,10 +60,13 @@ enum saphyr_status {
     SAPHYR_REFUSED = -1,
     /* Memory ran out. Where an event was asked for, none follows. */
     SAPHYR_NO_MEMORY = -2,
-    /* saphyr_new: the text is not UTF-8. */
+    /* saphyr_new: the text is not UTF-8. saphyr_valid_up_to says from which byte on. */
     SAPHYR_NOT_UTF8 = -3,
     /* The handle is empty: no parser was made in it, or it was freed. */
-    SAPHYR_NO_PARSER = -4
+    SAPHYR_NO_PARSER = -4,
+    /* saphyr_new: the text is not UTF-8, and begins with the byte order mark of UTF-16: FE FF, or FF FE without two
+       bytes of 0 behind, which make it that of UTF-32. */
+    SAPHYR_UTF16 = -5
 };
 
 /* What happens in the text. */
@@ -159,11 +162,18 @@ typedef struct saphyr_event {
 /*
  * Makes a parser of the `len` bytes at `text`, and puts it into `parser`. What `parser` held is freed, whatever
  * the answer. With `keep_tags` the prefixes of tags that a document declares hold for later documents too, as
- * they do not in YAML. A text of more than 4,294,967,295 characters is refused behind them.
+ * they do not in YAML. A text of more than 4,294,967,295 characters is refused behind them. Of a text that comes in
+ * pieces docs/FACES.md of the repository tells.
  *
- * Answers SAPHYR_OK; SAPHYR_NOT_UTF8 or SAPHYR_NO_MEMORY, and then `parser` is empty.
+ * Answers SAPHYR_OK; SAPHYR_NOT_UTF8, SAPHYR_UTF16 or SAPHYR_NO_MEMORY, and then `parser` is empty.
  */
 int32_t saphyr_new(const uint8_t *text, size_t len, bool keep_tags, saphyr_parser *parser);
+
+/*
+ * How many of the `len` bytes at `text` are UTF-8, from the front: `len` where all are, and else the index of the
+ * first byte that is none.
+ */
+size_t saphyr_valid_up_to(const uint8_t *text, size_t len);
 
 /*
  * Hands out the next event, and where a fault ends the events that fault, once. Behind the end of the stream

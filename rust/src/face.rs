@@ -6,6 +6,7 @@
 //! that the texts of an event are UTF-8, and may be read until the next call with the same parser. Here they are copied
 //! right behind the call that wrote them, so that none is left when the next one comes.
 
+use crate::encoding::NotUtf8;
 use crate::event::{Event, Tag};
 use crate::scanner::{Marker, ScalarStyle, ScanError, Span};
 use std::alloc::{handle_alloc_error, Layout};
@@ -16,7 +17,7 @@ use std::sync::Arc;
 use std::{slice, str};
 
 /// The version of the header that the declarations below follow.
-const VERSION: u32 = 1000;
+const VERSION: u32 = 2000;
 
 // The statuses. Those that no call of a live parser gives have no name here.
 const OK: i32 = 0;
@@ -24,6 +25,7 @@ const END: i32 = 0;
 const EVENT: i32 = 1;
 const REFUSED: i32 = -1;
 const NO_MEMORY: i32 = -2;
+const UTF16: i32 = -5;
 
 /// `saphyr_parser`: null, or a parser on the heap.
 #[repr(C)]
@@ -68,12 +70,26 @@ struct Record {
 
 extern "C" {
     fn saphyr_new(text: *const u8, len: usize, keep_tags: bool, parser: *mut Handle) -> i32;
+    fn saphyr_valid_up_to(text: *const u8, len: usize) -> usize;
     fn saphyr_next(parser: *mut Handle, event: *mut Record) -> i32;
-    fn saphyr_peek(parser: *mut Handle, event: *mut Record) -> i32;
     fn saphyr_keep_tags(parser: *mut Handle, keep_tags: bool) -> i32;
     fn saphyr_clone(parser: *mut Handle, copy: *mut Handle) -> i32;
     fn saphyr_free(parser: *mut Handle);
     fn saphyr_version() -> u32;
+}
+
+/// The text that bytes are in UTF-8, or that they are none.
+pub fn checked(bytes: &[u8]) -> Result<&str, NotUtf8> {
+    // SAFETY: the bytes may be read for their length.
+    let index = unsafe { saphyr_valid_up_to(bytes.as_ptr(), bytes.len()) };
+    if index == bytes.len() {
+        // SAFETY: the library says that so many bytes at the front are UTF-8.
+        return Ok(unsafe { str::from_utf8_unchecked(bytes) });
+    }
+    let mut handle = EMPTY;
+    // SAFETY: the bytes may be read for their length, and the handle is zeroed. No parser of these bytes is made.
+    let status = unsafe { saphyr_new(bytes.as_ptr(), bytes.len(), false, &mut handle) };
+    Err(NotUtf8::new(index, status == UTF16))
 }
 
 /// A text that stays where it is, whoever is moved: borrowed, or shared by a parser and its clones.
@@ -132,23 +148,6 @@ impl<'input> Face<'input> {
         let mut record = Record::zeroed();
         // SAFETY: the handle has a parser, which no other call uses, and the record is zeroed.
         let status = unsafe { saphyr_next(self.handle.get_mut(), &mut record) };
-        // SAFETY: the call was the last one with the parser, and wrote the record.
-        unsafe { item_of(status, &record) }
-    }
-
-    /// Passes the next item.
-    pub fn pass(&mut self) {
-        let mut record = Record::zeroed();
-        // SAFETY: the handle has a parser, which no other call uses, and the record is zeroed.
-        let status = unsafe { saphyr_next(self.handle.get_mut(), &mut record) };
-        expect(status, EVENT);
-    }
-
-    /// Shows the item that `next` will hand out.
-    pub fn peek(&mut self) -> Item {
-        let mut record = Record::zeroed();
-        // SAFETY: the handle has a parser, which no other call uses, and the record is zeroed.
-        let status = unsafe { saphyr_peek(self.handle.get_mut(), &mut record) };
         // SAFETY: the call was the last one with the parser, and wrote the record.
         unsafe { item_of(status, &record) }
     }

@@ -1,7 +1,7 @@
 //! Where the characters of a text come from.
 //!
-//! A parser reads all characters of its input before it gives the first event, so an input of one's own is asked for
-//! `lookahead`, `peek_opt` and `skip` alone. The other calls of the trait are there for those who call them.
+//! A parser reads its input one character at a time, so an input of one's own is asked for `lookahead(1)`, `peek_opt` and
+//! `skip` alone. The other calls of the trait are there for those who call them.
 
 pub(crate) mod buffered;
 pub(crate) mod str;
@@ -237,18 +237,6 @@ fn skip_while<T: Input + ?Sized>(
         passed += 1;
     }
     passed
-}
-
-/// All characters that an input has left.
-pub(crate) fn read_all<T: Input>(mut input: T) -> String {
-    let mut text = String::new();
-    input.lookahead(1);
-    while let Some(c) = input.peek_opt() {
-        text.push(c);
-        input.skip();
-        input.lookahead(1);
-    }
-    text
 }
 
 /// What [`Input::skip_ws_to_eol`] is asked about tabs, and what it answers.

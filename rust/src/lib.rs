@@ -28,13 +28,16 @@
 #![deny(unsafe_code)]
 
 mod char_traits;
+mod encoding;
 mod event;
 #[allow(unsafe_code)]
 mod face;
 pub mod input;
 mod parser;
+mod parts;
 mod scanner;
 
+pub use crate::encoding::NotUtf8;
 pub use crate::event::{Event, EventReceiver, SpannedEventReceiver, Tag};
 pub use crate::input::{str::StrInput, BufferedInput, Input};
 pub use crate::parser::Parser;

@@ -1,29 +1,25 @@
 //! The parser as its callers see it.
 
+use crate::encoding::NotUtf8;
 use crate::event::{Event, SpannedEventReceiver};
-use crate::face::{Face, Text};
-use crate::input::{buffered::BufferedInput, read_all, str::StrInput, Input};
+use crate::face::{checked, Face, Item, Text};
+use crate::input::{buffered::BufferedInput, str::StrInput, Input};
+use crate::parts::Parts;
 use crate::scanner::{ScanError, Span};
 use std::fmt;
-use std::sync::Arc;
 
 /// What a parser hands out: an event with its place, or the fault that ends the events.
 pub type ParseResult<'input> = Result<(Event<'input>, Span), ScanError>;
 
-/// Where the characters come from.
+/// Where the events come from. Before the first event nothing is read.
 #[derive(Clone)]
 enum Source<'input, T> {
+    /// A text in memory.
     Text(&'input str),
-    Input(T),
-}
-
-/// Up to the first event there is the source alone, so that nothing is read before.
-#[derive(Clone)]
-enum Stage<'input, T> {
-    Source(Source<'input, T>),
-    Reading(Face<'input>),
-    /// While the source is read. It stays where reading it panicked.
-    Nothing,
+    /// A parser of such a text.
+    Whole(Face<'input>),
+    /// An input, which is read as far as events need.
+    Parts(Parts<T>),
 }
 
 /// Where a parser stands among the documents of its text.
@@ -37,11 +33,12 @@ enum Stand {
 
 /// A parser of a text, which gives its events one after the other.
 ///
-/// `T` is the kind of input that the characters come from. They are all read before the first event is given.
+/// `T` is the kind of input that the characters come from. A text in memory is read as far as each event needs. Of an
+/// input the characters are read up to a line of `---` or `...` that ends the document, before its first event is given.
 pub struct Parser<'input, T: Input> {
-    stage: Stage<'input, T>,
+    source: Source<'input, T>,
     keep_tags: bool,
-    /// The event that was peeked, which the library still has to pass.
+    /// The event that was peeked.
     peeked: Option<(Event<'input>, Span)>,
     stand: Stand,
     /// The fault that ended the events, and whether it was handed out.
@@ -53,6 +50,14 @@ impl<'input> Parser<'input, StrInput<'input>> {
     #[must_use]
     pub fn new_from_str(value: &'input str) -> Self {
         Parser::over(Source::Text(value))
+    }
+
+    /// A parser of a text in UTF-8, as bytes.
+    ///
+    /// # Errors
+    /// That the bytes are not UTF-8, with the index of the first that is none.
+    pub fn new_from_bytes(bytes: &'input [u8]) -> Result<Self, NotUtf8> {
+        checked(bytes).map(Parser::new_from_str)
     }
 }
 
@@ -70,12 +75,12 @@ where
 impl<'input, T: Input> Parser<'input, T> {
     /// A parser of the characters of an input.
     pub fn new(src: T) -> Self {
-        Parser::over(Source::Input(src))
+        Parser::over(Source::Parts(Parts::new(src)))
     }
 
     fn over(source: Source<'input, T>) -> Self {
         Parser {
-            stage: Stage::Source(source),
+            source,
             keep_tags: false,
             peeked: None,
             stand: Stand::Between,
@@ -89,7 +94,7 @@ impl<'input, T: Input> Parser<'input, T> {
     #[must_use]
     pub fn keep_tags(mut self, value: bool) -> Self {
         self.keep_tags = value;
-        if let Stage::Reading(face) = &mut self.stage {
+        if let Source::Whole(face) = &mut self.source {
             face.keep_tags(value);
         }
         self
@@ -104,7 +109,7 @@ impl<'input, T: Input> Parser<'input, T> {
             return self.unsent_fault().map(Err);
         }
         if self.peeked.is_none() {
-            match self.face().peek()? {
+            match self.read()? {
                 Ok(item) => self.peeked = Some(item),
                 Err(fault) => {
                     self.fault = Some((fault, false));
@@ -178,11 +183,8 @@ impl<'input, T: Input> Parser<'input, T> {
             return None;
         }
         let item = match self.peeked.take() {
-            Some(item) => {
-                self.face().pass();
-                Ok(item)
-            }
-            None => self.face().next()?,
+            Some(item) => Ok(item),
+            None => self.read()?,
         };
         match &item {
             Ok((Event::DocumentStart(_), _)) => self.stand = Stand::Inside,
@@ -205,20 +207,15 @@ impl<'input, T: Input> Parser<'input, T> {
         }
     }
 
-    /// The library's parser. The first call reads the source.
-    fn face(&mut self) -> &mut Face<'input> {
-        if let Stage::Source(_) = self.stage {
-            if let Stage::Source(source) = std::mem::replace(&mut self.stage, Stage::Nothing) {
-                let text = match source {
-                    Source::Text(text) => Text::Borrowed(text),
-                    Source::Input(input) => Text::Shared(Arc::new(read_all(input))),
-                };
-                self.stage = Stage::Reading(Face::new(text, self.keep_tags));
-            }
+    /// Reads the next item.
+    fn read(&mut self) -> Item {
+        if let Source::Text(text) = self.source {
+            self.source = Source::Whole(Face::new(Text::Borrowed(text), self.keep_tags));
         }
-        match &mut self.stage {
-            Stage::Reading(face) => face,
-            _ => panic!("the input of this parser panicked before"),
+        match &mut self.source {
+            Source::Whole(face) => face.next(),
+            Source::Parts(parts) => parts.next(self.keep_tags),
+            Source::Text(_) => unreachable!("its parser was made"),
         }
     }
 }
@@ -235,7 +232,7 @@ impl<T: Input + Clone> Clone for Parser<'_, T> {
     /// A parser of its own at the same place. Before the first event, the input is cloned.
     fn clone(&self) -> Self {
         Parser {
-            stage: self.stage.clone(),
+            source: self.source.clone(),
             keep_tags: self.keep_tags,
             peeked: self.peeked.clone(),
             stand: self.stand,

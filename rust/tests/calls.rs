@@ -146,6 +146,28 @@ fn reads_nothing_before_the_first_event() {
     drop(parser);
 }
 
+#[test]
+fn refuses_bytes() {
+    let told = |bytes: &[u8]| {
+        let fault = Parser::new_from_bytes(bytes).expect_err("bytes that are not UTF-8");
+        (fault.index(), fault.is_utf16(), fault.to_string())
+    };
+    assert_eq!(
+        told(b"a\xff"),
+        (1, false, "the text is not UTF-8 from byte 1 on".into())
+    );
+    assert_eq!(
+        told(b"\xff\xfea\0"),
+        (0, true, "the text is UTF-16, and has to be UTF-8".into())
+    );
+    assert!(!told(b"\xff\xfe\0\0").1);
+    let marked: Vec<_> = Parser::new_from_bytes(b"\xef\xbb\xbfa").unwrap().collect();
+    assert_eq!(
+        marked,
+        Parser::new_from_str("\u{FEFF}a").collect::<Vec<_>>()
+    );
+}
+
 /// A parser that outlives the place where it was made, and one on another thread.
 #[test]
 fn moves() {

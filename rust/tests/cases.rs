@@ -256,9 +256,24 @@ fn compare<T: Input + Clone>(parser: Parser<'_, T>, case: &Case) {
     assert_eq!(all(parser), case.lines, "{}", case.name);
 }
 
+/// The characters of bytes that come in pieces, each as soon as all of it is there.
+fn in_pieces(bytes: &[u8], count: usize) -> impl Iterator<Item = char> + '_ {
+    let mut held = Vec::new();
+    bytes.chunks(count).flat_map(move |piece| {
+        held.extend_from_slice(piece);
+        let len = match std::str::from_utf8(&held) {
+            Ok(text) => text.len(),
+            Err(fault) => fault.valid_up_to(),
+        };
+        let whole = String::from_utf8(held.drain(..len).collect()).unwrap();
+        whole.chars().collect::<Vec<_>>()
+    })
+}
+
 fn compare_each_input(case: &Case) {
     let characters: Vec<char> = case.text.chars().collect();
     compare(Parser::new_from_str(&case.text), case);
+    compare(Parser::new_from_bytes(case.text.as_bytes()).unwrap(), case);
     compare(Parser::new_from_iter(case.text.chars()), case);
     compare(
         Parser::new(ListInput {
@@ -267,10 +282,14 @@ fn compare_each_input(case: &Case) {
         }),
         case,
     );
+    for count in [1, 2, 3, 4096] {
+        let parser = Parser::new_from_iter(in_pieces(case.text.as_bytes(), count));
+        let lines = all(parser.keep_tags(case.keeps_tags));
+        assert_eq!(lines, case.lines, "{}, in pieces", case.name);
+    }
 }
 
-#[test]
-fn reads_each_case() {
+fn all_cases() -> Vec<Case> {
     let mut files: Vec<_> = fs::read_dir(DATA)
         .unwrap()
         .map(|it| it.unwrap().path())
@@ -278,6 +297,38 @@ fn reads_each_case() {
     files.sort();
     let cases: Vec<Case> = files.iter().flat_map(|file| cases_of(file)).collect();
     assert!(cases.len() > 13_000);
+    cases
+}
+
+/// An iterator is read a document at a time, and a string as a whole: what stands in a text before a marker and behind
+/// it is that of any case.
+#[test]
+fn reads_documents_behind_one_another() {
+    let cases = all_cases();
+    let short: Vec<&Case> = cases.iter().filter(|it| it.text.len() < 1000).collect();
+    for pair in short.windows(2) {
+        for between in [
+            "\n---\n",
+            "\n--- ",
+            "---\t",
+            "\n...\n",
+            "... # c\r\n",
+            "\r...\r",
+            "\n...\n---\n",
+        ] {
+            let text = format!("{}{between}{}", pair[0].text, pair[1].text);
+            for keeps_tags in [false, true] {
+                let whole = Parser::new_from_str(&text).keep_tags(keeps_tags);
+                let parts = Parser::new_from_iter(text.chars()).keep_tags(keeps_tags);
+                assert_eq!(all(parts), all(whole), "{text:?}");
+            }
+        }
+    }
+}
+
+#[test]
+fn reads_each_case() {
+    let cases = all_cases();
     let is_wrong = |case: &&Case| catch_unwind(|| compare_each_input(case)).is_err();
     let of_part = |part: &[Case]| {
         part.iter()

@@ -28,6 +28,7 @@ static int dump(const uint8_t *text, size_t len) {
         putc('\n', stderr);
         break;
     case SAPHYR_NO_MEMORY: fputs("out of memory\n", stderr); break;
+    case SAPHYR_UTF16:
     case SAPHYR_NOT_UTF8: fputs("dump_events: the text is not UTF-8\n", stderr); break;
     }
     saphyr_free(&parser);

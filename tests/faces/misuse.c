@@ -61,6 +61,40 @@ static void refuses_bytes(void) {
     }
 }
 
+static void expect_valid_up_to(const char *bytes, size_t len, size_t wanted) {
+    expect((int32_t)saphyr_valid_up_to((const uint8_t *)bytes, len), (int32_t)wanted, "how many bytes are UTF-8");
+}
+
+static void tells_the_first_bad_byte(void) {
+    expect_valid_up_to("", 0, 0);
+    expect_valid_up_to("a: \xc3\xa9\n", 6, 6);
+    expect_valid_up_to("\xef\xbb\xbf" "a", 4, 4);
+    expect_valid_up_to("\xff", 1, 0);
+    expect_valid_up_to("a\x80", 2, 1);
+    expect_valid_up_to("\xc3\xa9\xc3", 3, 2);
+    expect_valid_up_to("a: \xe2\x82", 5, 3);
+    expect_valid_up_to("\xed\xa0\x80", 3, 0);
+}
+
+static void expect_encoding(const char *bytes, size_t len, int32_t wanted) {
+    saphyr_parser parser = {0};
+    expect(saphyr_new((const uint8_t *)bytes, len, false, &parser), wanted, "bytes in an encoding");
+    saphyr_free(&parser);
+}
+
+/* UTF-16 is told by its byte order mark. That of UTF-32 begins with the same two bytes. */
+static void tells_utf16(void) {
+    expect_encoding("\xff\xfe" "a\0", 4, SAPHYR_UTF16);
+    expect_encoding("\xfe\xff\0a", 4, SAPHYR_UTF16);
+    expect_encoding("\xff\xfe", 2, SAPHYR_UTF16);
+    expect_encoding("\xff\xfe\0", 3, SAPHYR_UTF16);
+    expect_encoding("\xff\xfe\0\0a\0\0\0", 8, SAPHYR_NOT_UTF8);
+    expect_encoding("\0\0\xfe\xff\0\0\0a", 8, SAPHYR_NOT_UTF8);
+    expect_encoding("\xff", 1, SAPHYR_NOT_UTF8);
+    expect_encoding("a\xff\xfe", 3, SAPHYR_NOT_UTF8);
+    expect_encoding("a\0", 2, SAPHYR_OK);
+}
+
 /* A parser over a live one, at each place of that. */
 static void replaces(void) {
     for (int taken = 0; taken < 9; taken++) {
@@ -172,6 +206,8 @@ int main(void) {
     expect((int32_t)saphyr_version(), (int32_t)SAPHYR_VERSION, "the version");
     frees_twice();
     refuses_bytes();
+    tells_the_first_bad_byte();
+    tells_utf16();
     replaces();
     writes_each_field();
     refuses_once();

@@ -32,7 +32,8 @@ IsMade text keep none = ⊥
 IsMade text keep (some inner) = IsOverText text keep inner
 
 abbrev pub MakesOrNot : ℤ → Type 0
-MakesOrNot code = (code ≡ pos 0) ⊎ ((code ≡ code_of status.NotUtf8) ⊎ (code ≡ code_of status.NoMemory))
+MakesOrNot code = (code ≡ pos 0) ⊎ ((code ≡ code_of status.NotUtf8)
+    ⊎ ((code ≡ code_of status.Utf16) ⊎ (code ≡ code_of status.NoMemory)))
 
 abbrev pub Nexts : Option Inner → ℤ → CEvent → Option Inner → Type 0
 Nexts none code c new = TellsNone code c new

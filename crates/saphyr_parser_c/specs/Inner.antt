@@ -14,6 +14,7 @@ use Rattle.saphyr_parser_c.specs.declared.inner.Inner.{Inner}
 use Rattle.saphyr_parser_c.specs.declared.shown.CEvent.{CEvent}
 use Rattle.saphyr_parser_c.specs.declared.status.Status.{Status}
 use Rattle.saphyr_parser_c.specs.declared.status.Status.TheVariants as status
+use Rattle.saphyr_parser_c.specs.Encoding.{BeginsAsUtf16}
 use Rattle.saphyr_parser_c.specs.Shown.{TellsC, TellsLent}
 
 -- What a parser at the start of a text promises: those of `Parser::new_from_str`.
@@ -35,7 +36,8 @@ pub record IsOverText (text : List ℕ) (keep : Bool) (inner : Inner) : Type 0 w
 
 -- why there is none
 abbrev pub RefusesText : List ℕ → Status → Type 0
-RefusesText text status.NotUtf8 = IsUtf8 text → ⊥
+RefusesText text status.NotUtf8 = (IsUtf8 text → ⊥) × (BeginsAsUtf16 text → ⊥)
+RefusesText text status.Utf16 = (IsUtf8 text → ⊥) × BeginsAsUtf16 text
 RefusesText text status.NoMemory = IsUtf8 text
 RefusesText text _ = ⊥
 

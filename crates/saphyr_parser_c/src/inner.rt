@@ -1,13 +1,27 @@
 //! A parser with the event that it gave last, whose texts C may read until the next call.
 
-ghost use Rattle.std.specs.Prelude.{◌≡◌, IfOk, MatchResult};
+ghost use Rattle.std.specs.Prelude.{◌≡◌, IfOk, IsUtf8, MatchResult};
+ghost use Rattle.saphyr_parser_c.specs.Inner.{RefusesText};
 
 use crate::answer::{tell, tell_lent};
+use crate::encoding::begins_as_utf16;
 use crate::shown::CEvent;
 use crate::status::Status;
 use saphyr_parser::{Event, Fault, Parser, Span, StrInput};
 use std::alloc::{AllocError, Global};
 use std::mem;
+
+// Why a text that isn't UTF-8 is refused.
+fn unreadable(text: &[u8]) -> Status
+    requires { IsUtf8 text.now → ⊥ }
+    ensures { RefusesText text.now result }
+{
+    if begins_as_utf16(text) {
+        Status::Utf16
+    } else {
+        Status::NotUtf8
+    }
+}
 
 /// A parser, and what it handed out last.
 #[derive(Drop)]
@@ -31,7 +45,7 @@ impl Inner {
             (λ b. spec.IsOverText text.now keep_tags b.value) (spec.RefusesText text.now) }
     {
         let Ok(text) = str::from_utf8(text) else {
-            return Err(Status::NotUtf8);
+            return Err(unreadable(text));
         };
         let parser = Parser::new_from_str(alloc, text).keep_tags(keep_tags);
         match Box::new(

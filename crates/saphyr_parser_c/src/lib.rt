@@ -4,9 +4,11 @@
 
 ghost use Rattle.std.specs.Prelude.{◌≡◌, ◌↔◌, IsUtf8, negsuc, pos};
 ghost use mathlib.Core.Option.{Option, none, some};
+ghost use Rattle.saphyr_parser_c.specs.Encoding.{BeginsAsUtf16, IsUtf8Front};
 ghost use Rattle.saphyr_parser_c.specs.Exports as spec;
 
 mod answer;
+mod encoding;
 mod handle;
 mod inner;
 mod parts;
@@ -14,6 +16,7 @@ mod shown;
 mod status;
 mod texts;
 
+use encoding::utf8_front;
 use handle::Handle;
 use inner::Inner;
 use parts::Parts;
@@ -53,7 +56,9 @@ pub extern "C" fn saphyr_new(
 ) -> i32
     ensures made { result ≡ pos 0 → spec.IsMade text.now keep_tags out.new.value }
     ensures empty { (result ≡ pos 0 → ⊥) → out.new.value ≡ none }
-    ensures not_utf8 { (result ≡ negsuc 2) ↔ (IsUtf8 text.now → ⊥) }
+    ensures not_utf8 { (result ≡ negsuc 2)
+        ↔ ((IsUtf8 text.now → ⊥) × (BeginsAsUtf16 text.now → ⊥)) }
+    ensures utf16 { (result ≡ negsuc 4) ↔ ((IsUtf8 text.now → ⊥) × BeginsAsUtf16 text.now) }
     ensures others { spec.MakesOrNot result }
 {
     match Inner::over(alloc, text, keep_tags) {
@@ -66,6 +71,14 @@ pub extern "C" fn saphyr_new(
             status.code()
         }
     }
+}
+
+/// How many bytes at the front of a text are UTF-8: where not all are, the place of the first that is none.
+#[unsafe(no_mangle)]
+pub extern "C" fn saphyr_valid_up_to(text: &'static [u8]) -> usize
+    ensures { IsUtf8Front text.now result }
+{
+    utf8_front(text)
 }
 
 /// Hands out the next event, and where a fault ends the events that fault, once.
@@ -158,7 +171,7 @@ pub extern "C" fn saphyr_free(alloc: Global, parser: &mut Handle)
 /// The version of the library, as the header counts it.
 #[unsafe(no_mangle)]
 pub extern "C" fn saphyr_version() -> u32
-    ensures { result ≡ 1000 }
+    ensures { result ≡ 2000 }
 {
-    1000
+    2000
 }

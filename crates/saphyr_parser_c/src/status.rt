@@ -20,6 +20,8 @@ pub enum Status {
     NotUtf8,
     /// The handle has no parser.
     NoParser,
+    /// The text is UTF-16.
+    Utf16,
 }
 
 impl Status {
@@ -35,6 +37,7 @@ impl Status {
             Status::NoMemory => -2,
             Status::NotUtf8 => -3,
             Status::NoParser => -4,
+            Status::Utf16 => -5,
         }
     }
 }
