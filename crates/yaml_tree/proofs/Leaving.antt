@@ -1,5 +1,5 @@
 -- Which parser loading leaves: event after event was handed out.
-use Rattle.std.proofs.Common.{◌≡◌, ◌++◌, List, [], ◌∷◌, Result, Ok, Err, Vec, Global, refl, sym, ap, subst, ◌∙◌, append-nil, inl, inr}
+use Rattle.std.proofs.Common.{◌≡◌, ◌++◌, List, [], ◌∷◌, Result, Ok, Err, Vec, Global, refl, sym, ap, subst, ◌∙◌, append-nil, inr}
 use Rattle.saphyr_scalar.specs.declared.scalar.position.Marker.{Marker}
 use Rattle.saphyr_scalar.specs.declared.scalar.position.Span.{Span}
 use Rattle.saphyr_parser.specs.Events.{Happening}
@@ -15,7 +15,7 @@ use Rattle.yaml_tree.specs.declared.builder.Builder.{Builder}
 use Rattle.yaml_tree.specs.BuilderSeen.{Finishes}
 use Rattle.saphyr_parser.specs.Nesting.{IsAtStart}
 use Rattle.yaml_tree.specs.LoaderSeen.{Forbids}
-use Rattle.yaml_tree.specs.Leaving.{HasHandedOut, LeavesFrom, LeavesLooked, LeavesParser}
+use Rattle.yaml_tree.specs.Leaving.{HasHandedOut, LeavesFrom, LeavesParser}
 
 pub hands_none : (c : EventCursor) → HasHandedOut c c
 hands_none c = record { handed = []; over = refl }

@@ -4,3 +4,10 @@ pub mod Taking
 pub mod Loads
 pub mod Leaving
 pub mod Copies
+pub mod Access
+pub mod NodeEvents
+pub mod Spanned
+pub mod SpansRead
+pub mod Balance
+pub mod Walks
+pub mod AnchorSearch

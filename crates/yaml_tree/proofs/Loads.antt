@@ -22,19 +22,19 @@ use Rattle.saphyr_parser.proofs.Nesting.{nest_behind_all-append}
 
 -- ## Event after event
 
-pub reads_none : (limits : Limits) (all : Answer) (l : Loader) → HasTaken limits [] l → HasRead limits all all l
+unfoldable pub reads_none : (limits : Limits) (all : Answer) (l : Loader) → HasTaken limits [] l → HasRead limits all all l
 reads_none limits all l h = record { taken = []; split = refl; fault = refl; loader = h }
 
-told_push : (es : List (Happening × Span)) (e : Happening × Span)
+pub told_push : (es : List (Happening × Span)) (e : Happening × Span)
     → happenings (es ++ e ∷ []) ≡ happenings es ++ e.0 ∷ []
 told_push es e = map-append (λ (d : Happening × Span). d.0) es (e ∷ [])
 
-split_more : (all a b : Answer) (es : List (Happening × Span)) (e : Happening × Span) → all.events ≡ es ++ a.events
+pub split_more : (all a b : Answer) (es : List (Happening × Span)) (e : Happening × Span) → all.events ≡ es ++ a.events
     → a ≡ with_first_event e b → all.events ≡ es ++ (e ∷ b.events)
 split_more all a b es e s h = s ∙ ap (λ (x : Answer). es ++ x.events) h
 
 -- the last event is taken too
-pub reads_more : (limits : Limits) (all a b : Answer) (e : Happening × Span) (old new : Loader)
+unfoldable pub reads_more : (limits : Limits) (all a b : Answer) (e : Happening × Span) (old new : Loader)
     (r : HasRead limits all a old) → a ≡ with_first_event e b → HasTaken limits (happenings r.taken ++ e.0 ∷ []) new
     → HasRead limits all b new
 reads_more limits all a b e old new r h t = record {

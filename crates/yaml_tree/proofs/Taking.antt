@@ -89,3 +89,11 @@ exceeds limits events h place old (fault.TooDeep at most) t c = exceeds_more
 exceeds limits events h place old (fault.Parse f) t c = absurd c
 exceeds limits events h place old fault.OutOfMemory t c = absurd c
 exceeds limits events h place old fault.NotFresh t c = absurd c
+
+-- an event within the limits is not taken for want of memory
+pub lacks_memory : (limits : Limits) (events : List Happening) (h : Happening) (place : Marker) (old : Loader)
+    (t : Tally) → HasTaken limits events old
+    → Tallies (Ok tt) (counts_behind h (counts_of old.tally)) place old.tally t
+    → Forbids fault.OutOfMemory limits (events ++ h ∷ []) place
+lacks_memory limits events h place old t k c = fits_along _ limits _ _ k.same_limits
+    (counted_more events h old.tally _ k.counted refl) c.2

@@ -7,3 +7,8 @@ pub mod TallySeen
 pub mod LoaderSeen
 pub mod Loading
 pub mod Leaving
+pub mod Accessing
+pub mod Spanning
+pub mod KeeperSeen
+pub mod Walking
+pub mod Anchoring

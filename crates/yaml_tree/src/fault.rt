@@ -1,6 +1,8 @@
 //! Why documents were not loaded.
+ghost use Rattle.std.specs.Prelude.{◌≡◌};
 
 use saphyr_parser::{Fault, Marker};
+use std::alloc::{AllocError, AllocFailed};
 use std::fmt;
 use thiserror::Error;
 
@@ -22,6 +24,36 @@ pub enum TreeFault {
     /// The parser's next event isn't the stream's start.
     #[error("the parser has handed out events")]
     NotFresh,
+}
+
+impl From<Fault> for TreeFault {
+    ghost use Rattle.yaml_tree.specs.declared.fault.TreeFault.TheVariants.{Parse};
+
+    ghost from_gives = { λ fault f. f ≡ Parse fault };
+
+    fn from(fault: Fault) -> TreeFault {
+        TreeFault::Parse(fault)
+    }
+}
+
+impl From<AllocError> for TreeFault {
+    ghost use Rattle.yaml_tree.specs.declared.fault.TreeFault.TheVariants.{OutOfMemory};
+
+    ghost from_gives = { λ _ f. f ≡ OutOfMemory };
+
+    fn from(_e: AllocError) -> TreeFault {
+        TreeFault::OutOfMemory
+    }
+}
+
+impl<X: Drop> From<AllocFailed<X>> for TreeFault {
+    ghost use Rattle.yaml_tree.specs.declared.fault.TreeFault.TheVariants.{OutOfMemory};
+
+    ghost from_gives = { λ _ f. f ≡ OutOfMemory };
+
+    fn from(_e: AllocFailed<X>) -> TreeFault {
+        TreeFault::OutOfMemory
+    }
 }
 
 // A place as faults print it.

@@ -1,6 +1,8 @@
 //! A loader of the documents of a YAML text, as trees, on the events of `saphyr_parser` (YAML 1.2.2, 3.1.2).
 #![tactic(auto)]
 
+mod accessors;
+mod anchors;
 mod builder;
 mod cloning;
 mod document;
@@ -9,11 +11,17 @@ mod law;
 mod loading;
 mod node;
 mod open;
+mod spanned_loading;
+mod spans;
 mod tally;
+mod walk;
 
 pub use document::Document;
 pub use fault::TreeFault;
 pub use law::loads_new_parsers;
 pub use loading::load_documents;
 pub use node::Node;
+pub use spanned_loading::load_documents_with_spans;
+pub use spans::{DocumentSpans, SpannedDocuments};
 pub use tally::Limits;
+pub use walk::{Visit, Walk};

@@ -36,7 +36,7 @@ pub fn load_documents<'input, T: Input>(
 }
 
 // Whether the stream's start comes next, or a fault.
-fn is_at_start<'input, T: Input>(parser: &mut Parser<'input, T>) -> bool
+pub(crate) fn is_at_start<'input, T: Input>(parser: &mut Parser<'input, T>) -> bool
     ensures begins { BeginsSo result (to_come parser.old) (to_come parser.new) }
     ensures looks { Looks parser.old parser.new }
 {
@@ -49,15 +49,15 @@ fn is_at_start<'input, T: Input>(parser: &mut Parser<'input, T>) -> bool
 
 // Trees that grow within limits.
 #[derive(Drop)]
-struct Loader {
-    tally: Tally,
-    builder: Builder,
+pub(crate) struct Loader {
+    pub(crate) tally: Tally,
+    pub(crate) builder: Builder,
 }
 
 impl Loader {
     ghost use Rattle.yaml_tree.specs.LoaderSeen.{HasTaken, TakesLast};
 
-    fn new(alloc: Global, limits: Limits) -> Loader
+    pub(crate) fn new(alloc: Global, limits: Limits) -> Loader
         ensures { HasTaken limits [] result }
     {
         Loader {

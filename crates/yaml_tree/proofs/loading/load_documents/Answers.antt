@@ -1,4 +1,4 @@
-use Rattle.std.proofs.Common.{◌≡◌, Ok, Err, rules}
+use Rattle.std.proofs.Common.{◌≡◌, Err, rules}
 use Rattle.saphyr_parser.specs.Cursor.{to_come}
 use Rattle.yaml_tree.proofs.Loads.{loads_all, loads_none, loads_behind}
 use Rattle.yaml_tree.proofs.Leaving.{leaves_behind, leaves_looked}

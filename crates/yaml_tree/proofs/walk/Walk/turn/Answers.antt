@@ -1,0 +1,68 @@
+use Rattle.std.proofs.Common.{◌∙◌, ap, sym}
+use Rattle.saphyr_parser.specs.Events.{SequenceEnd, MappingEnd}
+use Rattle.yaml_tree.specs.declared.walk.Walk.{Walk}
+use Rattle.yaml_tree.specs.declared.walk.Rest.TheVariants.{Items, Pairs, Value}
+use Rattle.yaml_tree.specs.Walking.{rest_events}
+use Rattle.yaml_tree.proofs.Walks.{turn_begins, turn_enters, turn_leaves, no_item, no_pair, next_item, next_key}
+use Rattle.yaml_tree.proofs.walk.Walk.turn.Goals as goal
+
+pub returns-in-None-split_first-clause-turns : goal.returns-in-None-split_first-clause-turns
+returns-in-None-split_first-clause-turns c =
+    let behind : Walk = record { root = c.take.new.self; levels = c.pop.new.self; spans = c.args.self.now.spans } in
+    turn_leaves c.args.self.now behind c.in-Some-Items.field-0 SequenceEnd
+    (sym c.take.ensures.value ∙ c.in_default.is) c.take.ensures.after c.in-Some-Items.ensures.items tt
+    (ap rest_events c.in-Some-Items.field-0-is
+    ∙ no_item c.in-Some-Items.all c.in-Some-Items.left c.in-None-split_first.ensures.cases)
+
+pub returns-in_ok-push-in-Some-split_first-clause-turns :
+    goal.returns-in_ok-push-in-Some-split_first-clause-turns
+returns-in_ok-push-in-Some-split_first-clause-turns c =
+    let all = c.in-Some-Items.all in
+    let left = c.in-Some-Items.left in
+    let others = c.in-Some-split_first.others in
+    let node = c.in-Some-split_first.node.now in
+    turn_enters c.enter-in-Some-split_first.result c.args.self.now c.enter-in-Some-split_first.new.self
+    c.pop.new.self.items c.push.new.self.items c.in-Some-Items.field-0 (Items all others) node
+    (sym c.take.ensures.value ∙ c.in_default.is) (c.enter-in-Some-split_first.ensures.root ∙ c.take.ensures.after)
+    c.in-Some-Items.ensures.items c.in_ok-push-in-Some-split_first.ensures.items
+    (ap rest_events c.in-Some-Items.field-0-is
+    ∙ next_item all left others node c.in-Some-split_first.ensures.cases.0) c.enter-in-Some-split_first.ensures.turns
+
+pub returns-in-None-split_first-2-clause-turns : goal.returns-in-None-split_first-2-clause-turns
+returns-in-None-split_first-2-clause-turns c =
+    let behind : Walk = record { root = c.take.new.self; levels = c.pop.new.self; spans = c.args.self.now.spans } in
+    turn_leaves c.args.self.now behind c.in-Some-Pairs.field-0 MappingEnd
+    (sym c.take.ensures.value ∙ c.in_default.is) c.take.ensures.after c.in-Some-Pairs.ensures.items tt
+    (ap rest_events c.in-Some-Pairs.field-0-is
+    ∙ no_pair c.in-Some-Pairs.all c.in-Some-Pairs.left c.in-None-split_first-2.ensures.cases)
+
+pub returns-in_ok-push-in-Some-split_first-2-clause-turns :
+    goal.returns-in_ok-push-in-Some-split_first-2-clause-turns
+returns-in_ok-push-in-Some-split_first-2-clause-turns c =
+    let all = c.in-Some-Pairs.all in
+    let left = c.in-Some-Pairs.left in
+    let others = c.in-Some-split_first-2.others in
+    let pair = c.in-Some-split_first-2.pair.now in
+    turn_enters c.enter-in-Some-split_first-2.result c.args.self.now c.enter-in-Some-split_first-2.new.self
+    c.pop.new.self.items c.push-in-Some-split_first-2.new.self.items c.in-Some-Pairs.field-0
+    (Value _ all others) pair.0 (sym c.take.ensures.value ∙ c.in_default.is)
+    (c.enter-in-Some-split_first-2.ensures.root ∙ c.take.ensures.after) c.in-Some-Pairs.ensures.items
+    c.in_ok-push-in-Some-split_first-2.ensures.items
+    (ap rest_events c.in-Some-Pairs.field-0-is
+    ∙ next_key all left others pair c.in-Some-split_first-2.ensures.cases.0)
+    c.enter-in-Some-split_first-2.ensures.turns
+
+pub returns-in_ok-push-in-Some-Value-clause-turns : goal.returns-in_ok-push-in-Some-Value-clause-turns
+returns-in_ok-push-in-Some-Value-clause-turns c =
+    let all = c.in-Some-Value.all in
+    let others = c.in-Some-Value.others in
+    let node = c.in-Some-Value.value.now in
+    turn_enters c.enter-in-Some-Value.result c.args.self.now c.enter-in-Some-Value.new.self
+    c.pop.new.self.items c.push-in-Some-Value.new.self.items c.in-Some-Value.field-0 (Pairs all others) node
+    (sym c.take.ensures.value ∙ c.in_default.is) (c.enter-in-Some-Value.ensures.root ∙ c.take.ensures.after)
+    c.in-Some-Value.ensures.items c.in_ok-push-in-Some-Value.ensures.items
+    (ap rest_events c.in-Some-Value.field-0-is) c.enter-in-Some-Value.ensures.turns
+
+pub returns-in-Some-clause-turns : goal.returns-in-Some-clause-turns
+returns-in-Some-clause-turns c = turn_begins c.enter.result c.args.self.now c.enter.new.self c.in-Some.root
+    (sym c.take.ensures.value ∙ c.in-Some.is) (c.enter.ensures.root ∙ c.take.ensures.after) c.enter.ensures.turns

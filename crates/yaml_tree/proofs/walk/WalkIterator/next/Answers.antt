@@ -1,0 +1,16 @@
+use Rattle.std.proofs.Common.{ap, arith, length}
+use Rattle.yaml_tree.proofs.Walks.{passes_end, ends_without_spans}
+use Rattle.yaml_tree.proofs.walk.WalkIterator.next.Goals as goal
+
+pub loop-span-preserved : goal.loop-span-preserved
+loop-span-preserved c =
+    let given = ap (λ r. r.now) c.in-Ok-Leave.ensures.spans in (
+      passes_end c.args.self.now c.loop-span.self c.turn.new.self c.in-Some.span.now c.in-Some.others.now
+          c.loop-span.invariant.0 (rw c.in-Ok-Leave.field-0-is at c.in-Ok-Leave.ensures.turns)
+          c.in-Some.ensures.cases.0 given,
+      omega (arith, ap length given, ap length c.in-Some.ensures.cases.0, c.loop-span.invariant.1),
+    )
+
+pub returns-clause-steps : goal.returns-clause-steps
+returns-clause-steps c = ends_without_spans c.args.self.now c.loop-span.self c.loop-span.invariant.0
+    c.in_default.ensures.cases

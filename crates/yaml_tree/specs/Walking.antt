@@ -1,0 +1,100 @@
+-- A walk through a tree: what it visits of the tree's events (YAML 1.2.2, 3.1), each with its span.
+use Rattle.std.specs.Prelude.{◌≡◌, ℕ, ◌+◌, List, [], ◌∷◌, ◌++◌, zip, Option, Some, None, Result, Ok, Err}
+use Rattle.std.specs.List.{flat_map}
+use Rattle.std.specs.Borrow.{Bor}
+use Rattle.std.specs.declared.alloc.AllocError.{AllocError}
+use Rattle.saphyr_scalar.specs.declared.scalar.position.Span.{Span}
+use Rattle.saphyr_parser.specs.Events.{Happening, SequenceStart, SequenceEnd, MappingStart, MappingEnd}
+use Rattle.yaml_tree.specs.declared.node.Node.{Node}
+use Rattle.yaml_tree.specs.declared.walk.Rest.{Rest}
+use Rattle.yaml_tree.specs.declared.walk.Rest.TheVariants.{Items, Pairs, Value}
+use Rattle.yaml_tree.specs.declared.walk.Turn.{Turn}
+use Rattle.yaml_tree.specs.declared.walk.Turn.TheVariants.{Enter, Leave, Over}
+use Rattle.yaml_tree.specs.declared.walk.Visit.{Visit}
+use Rattle.yaml_tree.specs.declared.walk.Walk.{Walk}
+use Rattle.yaml_tree.specs.Unloading.{node_events, pair_events}
+
+-- a collection ends
+abbrev pub IsCollectionEnd : Happening → Type 0
+IsCollectionEnd SequenceEnd = Unit {0}
+IsCollectionEnd MappingEnd = Unit {0}
+IsCollectionEnd _ = ⊥
+
+abbrev pub AreCollectionEnds : List (Happening × Span) → Type 0
+AreCollectionEnds [] = Unit {0}
+AreCollectionEnds (e ∷ es) = IsCollectionEnd e.0 × AreCollectionEnds es
+
+-- how many collections an event begins, and how many it ends
+abbrev pub opening : Happening → ℕ
+opening (SequenceStart id tag) = 1
+opening (MappingStart id tag) = 1
+opening _ = 0
+
+abbrev pub closing : Happening → ℕ
+closing SequenceEnd = 1
+closing MappingEnd = 1
+closing _ = 0
+
+abbrev pub openings : List Happening → ℕ
+openings [] = 0
+openings (h ∷ hs) = opening h + openings hs
+
+abbrev pub closings : List Happening → ℕ
+closings [] = 0
+closings (h ∷ hs) = closing h + closings hs
+
+-- The next of these events begins the node, whose events they begin with; and so many collections stand around it as
+-- end behind it and don't begin there.
+pub record BeginsNode (node : Node) (depth : ℕ) (events others : List Happening) : Type 0 where
+  pub start : Happening
+  pub next : events ≡ start ∷ others
+  pub behind : List Happening
+  pub own : events ≡ node_events node ++ behind
+  pub around : closings behind ≡ depth + openings behind
+
+-- ## What is to be visited
+
+abbrev pub rest_events : Rest → List Happening
+rest_events (Items all left) = flat_map node_events left.now ++ SequenceEnd ∷ []
+rest_events (Pairs all left) = flat_map pair_events left.now ++ MappingEnd ∷ []
+rest_events (Value value all left) = node_events value.now ++ (flat_map pair_events left.now ++ MappingEnd ∷ [])
+
+-- of the collections that are open, the outermost first
+abbrev pub frames_events : List Rest → List Happening
+frames_events [] = []
+frames_events (rest ∷ rests) = frames_events rests ++ rest_events rest
+
+abbrev pub root_events : Option (Bor Node) → List Happening
+root_events None = []
+root_events (Some root) = node_events root.now
+
+-- the events of all that a walk has still to visit
+abbrev pub to_visit : Walk → List Happening
+to_visit w = root_events w.root ++ frames_events w.levels.items
+
+-- the same with their spans, as far as there are any
+abbrev pub left_to_visit : Walk → List (Happening × Span)
+left_to_visit w = zip (to_visit w) w.spans.now
+
+-- ## Steps
+
+abbrev pub Turns : Turn → List Happening → List Happening → Type 0
+Turns (Enter node depth) old new = BeginsNode node.now depth old new
+Turns Leave old new = (h : Happening) × IsCollectionEnd h × (old ≡ h ∷ new)
+Turns Over old new = old ≡ []
+
+-- a node begins, behind which the events `old` come
+abbrev pub Enters : Turn → Node → List Happening → List Happening → ℕ → Type 0
+Enters (Enter entered depth) node old new around =
+    (entered.now ≡ node) × (depth ≡ around) × (start : Happening) × (node_events node ++ old ≡ start ∷ new)
+Enters _ node old new around = ⊥
+
+-- A visit of the next node: only ends of collections are passed before its event, whose span it has. Where no visit
+-- comes, no node is left; behind want of memory nothing more comes.
+abbrev pub Visits : Walk → Option (Result Visit AllocError) → Walk → Type 0
+Visits old None new = AreCollectionEnds (left_to_visit old)
+Visits old (Some (Err e)) new = new.spans.now ≡ []
+Visits old (Some (Ok visit)) new =
+    (passed : List (Happening × Span)) × (events : List Happening) × AreCollectionEnds passed
+    × BeginsNode visit.node.now visit.depth events (to_visit new)
+    × (left_to_visit old ≡ passed ++ zip events (visit.span ∷ new.spans.now))

@@ -1,0 +1,42 @@
+//! The node of an anchor (YAML 1.2.2, 3.2.2.2).
+ghost use Rattle.std.specs.Prelude.{◌≡◌, ◌↔◌, Some, IfOk, IsTrue};
+ghost use Rattle.yaml_tree.specs.Accessing.{anchor_of_node};
+ghost use Rattle.yaml_tree.specs.Anchoring.{FindsAnchor};
+
+use crate::document::Document;
+use crate::node::Node;
+use crate::walk::{Turn, Walk};
+use std::alloc::{AllocError, Global};
+
+impl Document {
+    /// The node with this anchor, for whoever follows an alias; where a tree that was not loaded has several, the
+    /// first in preorder. A text gives an id to one node alone.
+    ///
+    /// An alias may stand inside the node of its own anchor: a program that replaces aliases by their nodes has to
+    /// bound how often it does.
+    pub fn node_of_anchor(&self, alloc: Global, id: usize) -> Result<Option<&Node>, AllocError>
+        ensures { IfOk result (λ found. FindsAnchor id self.now.root found) }
+    {
+        let mut walk = Walk::new(alloc, &self.root, &[]);
+        'turns: loop {
+            match walk.turn()? {
+                Turn::Enter(node, _) => {
+                    if has_anchor(node, id) {
+                        return Ok(Some(node));
+                    }
+                }
+                Turn::Leave => {}
+                Turn::Over => return Ok(None),
+            }
+        }
+    }
+}
+
+fn has_anchor(node: &Node, id: usize) -> bool
+    ensures { IsTrue result ↔ anchor_of_node node.now ≡ Some id }
+{
+    match node.anchor() {
+        Some(own) => own == id,
+        None => false,
+    }
+}

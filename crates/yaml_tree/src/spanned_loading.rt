@@ -1,0 +1,110 @@
+//! Documents and the spans of their events (YAML 1.2.2, 3.1.2).
+ghost use Rattle.std.specs.Prelude.{◌≡◌, List, [], ◌∷◌, ◌++◌, map, IfOk, OnOk};
+ghost use Rattle.saphyr_parser.specs.Events.{Happening};
+ghost use Rattle.saphyr_parser.specs.Views.Events.{happening};
+ghost use Rattle.saphyr_parser.specs.Cursor.{to_come};
+ghost use Rattle.yaml_tree.specs.Spanning.{IsSpannedStream, all_spans, kept_behind, kept_behind_all};
+ghost use Rattle.yaml_tree.specs.KeeperSeen.{kept_spans, documents_of};
+ghost use Rattle.yaml_tree.specs.Loading.{LoadsDocuments, TakesAll};
+ghost use Rattle.yaml_tree.specs.Leaving.{LeavesParser, LeavesFrom};
+
+use crate::fault::TreeFault;
+use crate::loading::{Loader, is_at_start};
+use crate::spans::{SpanKeeper, SpannedDocuments};
+use crate::tally::Limits;
+use saphyr_parser::{Event, Input, Parser, Span};
+use std::alloc::Global;
+
+/// Loads all documents of a text as `load_documents` does, and keeps where each node stands.
+///
+/// The spans of a document are those of its events, so that it has two for each collection. They take 48 bytes
+/// each, and as much again for room to grow at most.
+pub fn load_documents_with_spans<'input, T: Input>(
+    alloc: Global,
+    parser: &mut Parser<'input, T>,
+    limits: Limits,
+) -> Result<SpannedDocuments, TreeFault>
+    ensures loads { LoadsDocuments limits (documents_of result)
+        (to_come parser.old) (to_come parser.new) }
+    ensures spans { IfOk result (λ spanned. IsSpannedStream spanned.documents.items
+        (map all_spans spanned.spans.items) (to_come parser.old).events) }
+    ensures leaves { LeavesParser result parser.old parser.new }
+{
+    if !is_at_start(parser) {
+        return Err(TreeFault::NotFresh);
+    }
+    let mut loader = SpannedLoader::new(alloc, limits);
+    loader.take_all(parser)?;
+    loader.finish()
+}
+
+// A loader, and the spans of what it has taken.
+#[derive(Drop)]
+struct SpannedLoader {
+    loader: Loader,
+    keeper: SpanKeeper,
+}
+
+impl SpannedLoader {
+    ghost use Rattle.yaml_tree.specs.LoaderSeen.{HasTaken, TakesLast};
+    ghost use Rattle.yaml_tree.specs.BuilderSeen.{Finishes};
+
+    fn new(alloc: Global, limits: Limits) -> SpannedLoader
+        ensures loader { HasTaken limits [] result.loader }
+        ensures ended { (kept_spans result.keeper).ended ≡ [] }
+        ensures nodes { (kept_spans result.keeper).nodes ≡ [] }
+    {
+        SpannedLoader {
+            loader: Loader::new(alloc, limits),
+            keeper: SpanKeeper::new(alloc),
+        }
+    }
+
+    // Takes all events that are still to come.
+    fn take_all<'input, T: Input>(
+        &mut self,
+        parser: &mut Parser<'input, T>,
+    ) -> Result<(), TreeFault>
+        ensures takes { (limits : Limits) → HasTaken limits [] self.old.loader
+            → TakesAll limits result (to_come parser.old) (to_come parser.new) self.new.loader }
+        ensures keeps { (limits : Limits) → HasTaken limits [] self.old.loader
+            → OnOk result (kept_spans self.new.keeper
+            ≡ kept_behind_all (to_come parser.old).events (kept_spans self.old.keeper)) }
+        ensures leaves { (limits : Limits) → HasTaken limits [] self.old.loader
+            → LeavesFrom result parser.old parser.new }
+    {
+        while let Some(read) = parser.next_event() {
+            match read {
+                Ok((event, span)) => self.take(event, span)?,
+                Err(fault) => return Err(TreeFault::Parse(fault)),
+            }
+        }
+        Ok(())
+    }
+
+    // Takes an event with its span. The limits are judged first.
+    fn take(&mut self, event: Event, span: Span) -> Result<(), TreeFault>
+        ensures takes { (limits : Limits) (events : List Happening)
+            → HasTaken limits events self.old.loader → TakesLast result limits
+            (events ++ happening event.entry ∷ []) span.start self.new.loader }
+        ensures keeps { OnOk result (kept_spans self.new.keeper
+            ≡ kept_behind (happening event.entry) span (kept_spans self.old.keeper)) }
+    {
+        self.loader.tally.count(&event, span.start)?;
+        self.keeper.keep(&event, span)?;
+        self.loader.builder.take(event)
+    }
+
+    // The documents of a stream that has ended.
+    fn finish(self) -> Result<SpannedDocuments, TreeFault>
+        ensures finishes { Finishes (documents_of result) self.loader.builder }
+        ensures spans { IfOk result (λ spanned. map all_spans spanned.spans.items
+            ≡ (kept_spans self.keeper).ended) }
+    {
+        let documents = self.loader.builder.finish()?;
+        Ok(SpannedDocuments {
+            documents,
+            spans: self.keeper.ended,
+        })
+    }
+}

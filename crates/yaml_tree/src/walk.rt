@@ -1,0 +1,142 @@
+//! The nodes of a tree one after the other, each before its parts, with the spans of their events (YAML 1.2.2, 3.1).
+ghost use Rattle.std.specs.Prelude.{◌≡◌, ◌∷◌, ◌++◌, length, OnOk, IfOk};
+ghost use Rattle.std.specs.Iterator.{at_most};
+ghost use Rattle.yaml_tree.specs.Unloading.{node_events};
+ghost use Rattle.yaml_tree.specs.Walking.{to_visit, frames_events, Enters, Turns, Visits};
+
+use crate::node::Node;
+use saphyr_parser::Span;
+use std::alloc::{AllocError, Global};
+
+/// A node that is visited: the span of its event, that of its start where it is a collection, and how many
+/// collections stand around it.
+#[derive(Clone, Copy)]
+pub struct Visit<'a> {
+    pub node: &'a Node,
+    pub span: Span,
+    pub depth: usize,
+}
+
+// What is still to be visited of a collection.
+#[derive(Clone, Copy)]
+enum Rest<'a> {
+    Items(&'a [Node], &'a [Node]),
+    Pairs(&'a [(Node, Node)], &'a [(Node, Node)]),
+    Value(&'a Node, &'a [(Node, Node)], &'a [(Node, Node)]),
+}
+
+// An event of a tree: a node begins, with so many collections around it; or a collection ends.
+pub(crate) enum Turn<'a> {
+    Enter(&'a Node, usize),
+    Leave,
+    Over,
+}
+
+/// A walk through a tree, from a node to each node inside, a node before its parts and a key before its value. It goes
+/// as far as its spans do. It needs memory as the tree is deep: where there is none a visit is `Err`, and nothing more
+/// comes behind it.
+#[derive(Drop)]
+pub struct Walk<'a> {
+    root: Option<&'a Node>,
+    levels: Vec<Rest<'a>>,
+    spans: &'a [Span],
+}
+
+impl<'a> Walk<'a> {
+    /// A walk through a tree, with the spans of its events.
+    pub fn new(alloc: Global, root: &'a Node, spans: &'a [Span]) -> Walk<'a>
+        ensures events { to_visit result ≡ node_events root.now }
+        ensures spans { result.spans.now ≡ spans.now }
+    {
+        Walk {
+            root: Some(root),
+            levels: Vec::new(alloc),
+            spans,
+        }
+    }
+
+    // The next event of the tree.
+    pub(crate) fn turn(&mut self) -> Result<Turn<'a>, AllocError>
+        ensures turns { IfOk result (λ turn. Turns turn (to_visit self.old) (to_visit self.new)) }
+        ensures spans { self.new.spans ≡ self.old.spans }
+    {
+        if let Some(root) = self.root.take() {
+            return self.enter(root);
+        }
+        match self.levels.pop() {
+            None => Ok(Turn::Over),
+            Some(Rest::Items(all, left)) => match left.split_first() {
+                None => Ok(Turn::Leave),
+                Some((node, others)) => {
+                    self.levels.push(Rest::Items(all, others))?;
+                    self.enter(node)
+                }
+            },
+            Some(Rest::Pairs(all, left)) => match left.split_first() {
+                None => Ok(Turn::Leave),
+                Some((pair, others)) => {
+                    self.levels.push(Rest::Value(&pair.1, all, others))?;
+                    self.enter(&pair.0)
+                }
+            },
+            Some(Rest::Value(value, all, others)) => {
+                self.levels.push(Rest::Pairs(all, others))?;
+                self.enter(value)
+            }
+        }
+    }
+
+    // A node begins.
+    fn enter(&mut self, node: &'a Node) -> Result<Turn<'a>, AllocError>
+        ensures turns { IfOk result (λ turn. Enters turn node.now (frames_events self.old.levels.items)
+            (frames_events self.new.levels.items) (length self.old.levels.items)) }
+        ensures root { self.new.root ≡ self.old.root }
+        ensures spans { self.new.spans ≡ self.old.spans }
+    {
+        let depth = self.levels.len();
+        match node {
+            Node::Alias(_) => Ok(Turn::Enter(node, depth)),
+            Node::Scalar(_, _, _, _) => Ok(Turn::Enter(node, depth)),
+            Node::Seq(_, _, nodes) => {
+                let all = nodes.as_slice();
+                self.levels.push(Rest::Items(all, all))?;
+                Ok(Turn::Enter(node, depth))
+            }
+            Node::Map(_, _, pairs) => {
+                let all = pairs.as_slice();
+                self.levels.push(Rest::Pairs(all, all))?;
+                Ok(Turn::Enter(node, depth))
+            }
+        }
+    }
+}
+
+impl<'a> Iterator for Walk<'a> {
+    type Item = Result<Visit<'a>, AllocError>;
+
+    ghost next_gives = { Visits };
+
+    ghost remaining = { λ w. at_most (length w.spans.now) };
+
+    fn next(&mut self) -> Option<Result<Visit<'a>, AllocError>> {
+        while let Some((span, others)) = self.spans.split_first() {
+            self.spans = others;
+            match self.turn() {
+                Ok(Turn::Enter(node, depth)) => {
+                    return Some(Ok(Visit {
+                        node,
+                        span: *span,
+                        depth,
+                    }));
+                }
+                Ok(Turn::Leave) => {}
+                Ok(Turn::Over) => return None,
+                Err(fault) => {
+                    self.spans = &[];
+                    return Some(Err(fault));
+                }
+            }
+        }
+        None
+    }
+}
