@@ -1,0 +1,49 @@
+-- How the characters of a line are shown, and how wide.
+use Rattle.std.specs.Prelude.{ℕ, Bool, false, not, ◌||◌, ◌==◌, ◌≡◌, if◌then◌else◌, List, [], ◌∷◌, length, unwrap_or, encode_utf8, encode_utf8_all, All, sum_by, codes, min}
+use Rattle.std.specs.List.{flat_map}
+use Rattle.std.specs.Int.{is_in_range}
+use Rattle.std.specs.Char.{is_control}
+use Rattle.std.specs.Char.Escape.{escape_default}
+use Rattle.unicode_width.specs.Width.{char_width}
+
+-- a control character, or one that moves others about unseen
+unfoldable pub is_hidden : ℕ → Bool
+is_hidden c = is_control c || is_in_range 0x200b 0x200f c || is_in_range 0x2028 0x202e c || is_in_range 0x2060 0x206f c
+    || (c == 0xfeff)
+
+-- how many columns a character takes: those of its escape, or those that a terminal gives it
+unfoldable pub columns_of : ℕ → ℕ
+columns_of c = if is_hidden c then length (escape_default c) else unwrap_or (char_width false c) 0
+
+abbrev pub columns : List ℕ → ℕ
+columns cs = sum_by columns_of cs
+
+abbrev pub is_break : ℕ → Bool
+is_break c = (c == 10) || (c == 13)
+
+abbrev pub HasNoBreak : List ℕ → Type 0
+HasNoBreak cs = All (λ c. is_break c ≡ false) cs
+
+-- whether a line goes on
+abbrev pub goes_on : List ℕ → Bool
+goes_on [] = false
+goes_on (c ∷ cs) = not (is_break c)
+
+-- the escape of a character, in UTF-8
+unfoldable pub escaped : ℕ → List ℕ
+escaped c = encode_utf8_all (escape_default c)
+
+-- a character as it is shown, in UTF-8
+abbrev pub visible_one : ℕ → List ℕ
+visible_one c = if is_hidden c then escaped c else encode_utf8 c
+
+abbrev pub visible : List ℕ → List ℕ
+visible cs = flat_map visible_one cs
+
+-- what stands in place of what is cut off
+abbrev pub cut : Bool → List ℕ
+cut is_cut = if is_cut then codes "..." else []
+
+-- a place behind the end is the end
+abbrev pub place_index : List ℕ → ℕ → ℕ
+place_index text index = min index (length text)

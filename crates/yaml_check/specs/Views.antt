@@ -1,0 +1,26 @@
+-- What is shown of a line round a place.
+use Rattle.std.specs.Prelude.{◌≡◌, ℕ, ◌+◌, ◌-◌, ◌≤◌, min, nat_lt, List, ◌++◌, length, drop, slice_range, replicate, codes}
+use Rattle.yaml_check.specs.declared.view.View.{View}
+use Rattle.yaml_check.specs.Shown.{columns, cut, goes_on, visible, HasNoBreak}
+
+-- the characters of a line that stand before a place in this column
+abbrev pub front_of : List ℕ → ℕ → ℕ → List ℕ
+front_of text at col = slice_range text (at - min col at) at
+
+-- What is shown round a place. Of what stands before it on its line the end is shown, and of what stands behind it the
+-- beginning, up to a break at most. In all that takes 200 columns at most, and the caret stands under the place.
+pub record IsView (text : List ℕ) (at col : ℕ) (v : View) : Type 0 where
+  pub left : List ℕ
+  pub front : front_of text at col ≡ left ++ v.front.now
+  pub cut_before : v.cut_before ≡ nat_lt 0 (length left)
+  pub right : List ℕ
+  pub back : drop at text ≡ v.back.now ++ right
+  pub line : HasNoBreak v.back.now
+  pub cut_behind : v.cut_behind ≡ goes_on right
+  pub caret : v.caret ≡ length (cut v.cut_before) + columns v.front.now
+  pub fits : v.caret + columns v.back.now + length (cut v.cut_behind) ≤ 200
+
+-- how it is shown, in UTF-8
+abbrev pub excerpt : View → List ℕ
+excerpt v = cut v.cut_before ++ (visible v.front.now ++ (visible v.back.now ++ (cut v.cut_behind
+    ++ (codes "\n" ++ (replicate v.caret 32 ++ codes "^\n")))))

@@ -1,0 +1,147 @@
+//! What people read of what was found: the place, the text, the line and a caret.
+ghost use Rattle.std.specs.Prelude.{◌≡◌, ◌++◌, [], IfOk, OnOk, string_bytes};
+ghost use Rattle.std.specs.Str.{chars};
+ghost use Rattle.yaml_check.specs.Texts.{error_line, place_text, warning_line};
+ghost use Rattle.yaml_check.specs.Reports.{IsReport, Tells, TellsFault, TellsWarnings};
+
+use crate::finding::{Finding, Findings, Warning};
+use crate::view::View;
+use saphyr_parser::{Marker, ScanError};
+use std::alloc::{AllocError, Global};
+
+/// What is printed of the findings in a text of this name: the warnings, and the fault behind them.
+pub fn report(alloc: Global, name: &str, text: &str, found: &Findings) -> Result<String, AllocError>
+    ensures { IfOk result (λ told. IsReport name.now (chars text.now) found.now
+        (string_bytes told)) }
+{
+    let text = characters(alloc, text)?;
+    let mut out = String::new(alloc);
+    tell_warnings(alloc, &mut out, name, &text, &found.warnings)?;
+    tell_fault(alloc, &mut out, name, &text, &found.fault)?;
+    Ok(out)
+}
+
+/// The characters of a text.
+fn characters(alloc: Global, text: &str) -> Result<Vec<char>, AllocError>
+    ensures { IfOk result (λ all. all.items ≡ chars text.now) }
+{
+    text.chars().collect(alloc)
+}
+
+/// Tells the warnings, one after the other.
+fn tell_warnings(
+    alloc: Global,
+    out: &mut String,
+    name: &str,
+    text: &[char],
+    warnings: &[Finding],
+) -> Result<(), AllocError>
+    ensures { OnOk result (TellsWarnings name.now text.now warnings.now (string_bytes out.old)
+        (string_bytes out.new)) }
+{
+    for finding in warnings {
+        tell_warning(alloc, out, name, text, *finding)?;
+    }
+    Ok(())
+}
+
+/// Tells one warning.
+fn tell_warning(
+    alloc: Global,
+    out: &mut String,
+    name: &str,
+    text: &[char],
+    finding: Finding,
+) -> Result<(), AllocError>
+    ensures { OnOk result (Tells name.now text.now finding.place (warning_line finding.warning)
+        (string_bytes out.old) (string_bytes out.new)) }
+{
+    let line = line_of_warning(alloc, finding.warning)?;
+    tell(out, name, text, finding.place, line.as_str())
+}
+
+/// Tells the fault, where there is one.
+fn tell_fault(
+    alloc: Global,
+    out: &mut String,
+    name: &str,
+    text: &[char],
+    fault: &Option<ScanError>,
+) -> Result<(), AllocError>
+    ensures { OnOk result (TellsFault name.now text.now fault.now (string_bytes out.old)
+        (string_bytes out.new)) }
+{
+    match fault {
+        Some(error) => {
+            let line = line_of_error(alloc, error.info.as_str())?;
+            tell(out, name, text, error.mark, line.as_str())
+        }
+        None => Ok(()),
+    }
+}
+
+/// What is said of a warning.
+fn line_of_warning(alloc: Global, warning: Warning) -> Result<String, AllocError>
+    ensures { IfOk result (λ line. string_bytes line ≡ warning_line warning) }
+{
+    format!(in alloc; "warning: {warning}\n")
+}
+
+/// What is said of a fault.
+fn line_of_error(alloc: Global, text: &str) -> Result<String, AllocError>
+    ensures { IfOk result (λ line. string_bytes line ≡ error_line text.now) }
+{
+    format!(in alloc; "error: {text}\n")
+}
+
+/// Tells one thing: its place in the text of this name, a line that says what it is, and the place in its line.
+fn tell(
+    out: &mut String,
+    name: &str,
+    text: &[char],
+    place: Marker,
+    line: &str,
+) -> Result<(), AllocError>
+    ensures { OnOk result (Tells name.now text.now place line.now (string_bytes out.old)
+        (string_bytes out.new)) }
+{
+    push_place(out, name, place)?;
+    out.push_str(line)?;
+    View::new(text, place).push_to(out)
+}
+
+/// Appends the name of a text and a place in it.
+fn push_place(out: &mut String, name: &str, place: Marker) -> Result<(), AllocError>
+    ensures { OnOk result (string_bytes out.new ≡ string_bytes out.old ++ place_text name.now place) }
+{
+    let line = place.line;
+    let column = place.col as u128 + 1;
+    write!(out, "{name}:{line}:{column}: ")
+}
+
+/// What is printed of bytes of this name that are not UTF-8, of which the text that stands in front is.
+pub(crate) fn report_not_utf8(
+    alloc: Global,
+    name: &str,
+    front: &str,
+) -> Result<String, AllocError> {
+    let line = line_of_error(alloc, "the text is not UTF-8 from here on")?;
+    let text = characters(alloc, front)?;
+    let mut out = String::new(alloc);
+    tell(&mut out, name, &text, place_behind(&text), line.as_str())?;
+    Ok(out)
+}
+
+/// The place behind a text. CR LF, CR and LF are one break each.
+fn place_behind(text: &[char]) -> Marker {
+    let mut line = 1usize;
+    let mut start = 0;
+    for (index, c) in text.iter().enumerate() {
+        let is_first_of_two = *c == '\r' && text.get(index + 1).copied() == Some('\n');
+        if (*c == '\n' || *c == '\r') && !is_first_of_two {
+            line = line.saturating_add(1);
+            start = index + 1;
+        }
+    }
+    Marker::new(text.len(), line, text.len().saturating_sub(start))
+}

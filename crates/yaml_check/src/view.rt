@@ -1,0 +1,211 @@
+//! The part of a line that is shown round a place: 200 columns at most, in which each character is visible.
+ghost use Rattle.std.specs.Prelude.{◌≡◌, ◌+◌, ◌-◌, ◌<◌, ◌≤◌, ◌++◌, true, false, length, nat_lt, take, drop, replicate, OnOk, string_bytes};
+ghost use Rattle.std.specs.Char.Escape.{escape_default};
+ghost use Rattle.yaml_check.specs.Shown as shown;
+
+use saphyr_parser::Marker;
+use std::alloc::AllocError;
+use unicode_width::UnicodeWidthChar;
+
+/// How many columns are shown at most, those that a cut takes included.
+const COLUMNS: usize = 200;
+/// How many of them stand before the place at most.
+const FRONT: usize = 120;
+/// What stands in place of what is cut off, on either side.
+const CUT: &str = "...";
+
+/// The characters of a line round a place.
+#[derive(Clone, Copy)]
+pub(crate) struct View<'a> {
+    front: &'a [char],
+    back: &'a [char],
+    cut_before: bool,
+    cut_behind: bool,
+    /// How many columns stand before the place.
+    caret: usize,
+}
+
+/// Whether a character is shown by an escape: a control character, or one that moves others about unseen.
+#[tactic(auto, unfolding(crate::specs::Shown::is_hidden))]
+fn is_hidden(c: char) -> bool
+    ensures { result ≡ shown.is_hidden c }
+{
+    c.is_control()
+        || ('\u{200b}' <= c && c <= '\u{200f}')
+        || ('\u{2028}' <= c && c <= '\u{202e}')
+        || ('\u{2060}' <= c && c <= '\u{206f}')
+        || c == '\u{feff}'
+}
+
+/// How many columns the escape of a character takes.
+fn escape_columns(c: char) -> usize
+    ensures { result ≡ length (escape_default c) }
+{
+    let mut count = 0;
+    for _part in c.escape_default() {
+        count += 1;
+    }
+    count
+}
+
+/// How many columns a character takes as it is shown.
+#[tactic(auto, unfolding(crate::specs::Shown::columns_of))]
+fn columns_of(c: char) -> usize
+    ensures { result ≡ shown.columns_of c }
+{
+    if is_hidden(c) {
+        escape_columns(c)
+    } else {
+        c.width().unwrap_or(0)
+    }
+}
+
+/// Whether a character breaks a line.
+fn is_break(c: char) -> bool
+    ensures { result ≡ shown.is_break c }
+{
+    c == '\n' || c == '\r'
+}
+
+/// Where the last of some characters begin that fit into so many columns, and how many columns they leave.
+fn last_that_fit(characters: &[char], most: usize) -> (usize, usize)
+    ensures within { result.0 ≤ length characters.now }
+    ensures left { result.1 + shown.columns (drop result.0 characters.now) ≡ most }
+{
+    let mut start = characters.len();
+    let mut left = most;
+    while start > 0 {
+        let wide = columns_of(characters[start - 1]);
+        if wide > left {
+            break;
+        }
+        left -= wide;
+        start -= 1;
+    }
+    (start, left)
+}
+
+/// Where what is shown of the characters before a place begins, and how many columns that takes.
+fn fit_front(line: &[char]) -> (usize, usize)
+    ensures within { result.0 ≤ length line.now }
+    ensures caret { result.1 ≡ length (shown.cut (nat_lt 0 result.0))
+        + shown.columns (drop result.0 line.now) }
+    ensures fits { result.1 ≤ 120 }
+{
+    let most = FRONT - CUT.len();
+    let (start, left) = last_that_fit(line, most);
+    if start == 0 {
+        return (start, most - left);
+    }
+    (start, most - left + CUT.len())
+}
+
+/// Whether a line goes on.
+fn goes_on(rest: &[char]) -> bool
+    ensures { result ≡ shown.goes_on rest.now }
+{
+    match rest.first() {
+        Some(c) => !is_break(*c),
+        None => false,
+    }
+}
+
+/// How many characters of a line fit into so many columns, up to its break.
+fn count_that_fit(characters: &[char], most: usize) -> usize
+    ensures within { result ≤ length characters.now }
+    ensures fits { shown.columns (take result characters.now) ≤ most }
+    ensures line { shown.HasNoBreak (take result characters.now) }
+{
+    let mut count = 0;
+    let mut left = most;
+    while count < characters.len() {
+        let c = characters[count];
+        let wide = columns_of(c);
+        if wide > left || is_break(c) {
+            break;
+        }
+        left -= wide;
+        count += 1;
+    }
+    count
+}
+
+/// Appends the escape of a character.
+#[tactic(auto, unfolding(crate::specs::Shown::escaped))]
+fn push_escape(out: &mut String, c: char) -> Result<(), AllocError>
+    ensures { OnOk result (string_bytes out.new ≡ string_bytes out.old ++ shown.escaped c) }
+{
+    for part in c.escape_default() {
+        out.push(part)?;
+    }
+    Ok(())
+}
+
+/// Appends characters as they are shown.
+fn push_visible(out: &mut String, characters: &[char]) -> Result<(), AllocError>
+    ensures { OnOk result (string_bytes out.new ≡ string_bytes out.old ++ shown.visible characters.now) }
+{
+    for c in characters {
+        if is_hidden(*c) {
+            push_escape(out, *c)?;
+        } else {
+            out.push(*c)?;
+        }
+    }
+    Ok(())
+}
+
+/// Appends so many spaces.
+fn push_spaces(out: &mut String, count: usize) -> Result<(), AllocError>
+    ensures { OnOk result (string_bytes out.new ≡ string_bytes out.old ++ replicate count 32) }
+{
+    for _space in 0..count {
+        out.push(' ')?;
+    }
+    Ok(())
+}
+
+impl<'a> View<'a> {
+    ghost use Rattle.yaml_check.specs.Views.{IsView, excerpt};
+
+    /// What is shown round a place of a text.
+    pub(crate) fn new(text: &'a [char], place: Marker) -> View<'a>
+        ensures { IsView text.now (shown.place_index text.now place.index) place.col result }
+    {
+        let at = place.index.min(text.len());
+        let line = &text[at - place.col.min(at)..at];
+        let (start, caret) = fit_front(line);
+        let rest = &text[at..];
+        let count = count_that_fit(rest, COLUMNS - CUT.len() - caret);
+        View {
+            front: &line[start..],
+            back: &rest[..count],
+            cut_before: start > 0,
+            cut_behind: goes_on(&rest[count..]),
+            caret,
+        }
+    }
+
+    /// Appends the line, and the caret under the place.
+    pub(crate) fn push_to(&self, out: &mut String) -> Result<(), AllocError>
+        ensures { OnOk result (string_bytes out.new ≡ string_bytes out.old ++ excerpt self.now) }
+    {
+        push_cut(out, self.cut_before)?;
+        push_visible(out, self.front)?;
+        push_visible(out, self.back)?;
+        push_cut(out, self.cut_behind)?;
+        out.push('\n')?;
+        push_spaces(out, self.caret)?;
+        out.push_str("^\n")
+    }
+}
+
+/// Appends what stands for what is cut off.
+fn push_cut(out: &mut String, is_cut: bool) -> Result<(), AllocError>
+    ensures { OnOk result (string_bytes out.new ≡ string_bytes out.old ++ shown.cut is_cut) }
+{
+    if is_cut {
+        out.push_str(CUT)?;
+    }
+    Ok(())
+}
