@@ -1,9 +1,6 @@
 //! What no clause says: that calls succeed, and which fault a text gets.
 use crate::telling::Call::{KeepTags, LoadPlaceless, Next, Peek};
 use crate::telling::{Call, expect};
-use saphyr_parser::{Event, Marker, ScalarStyle, ScanError, Tag};
-use std::alloc::{AllocError, Global};
-use std::borrow::CowStr;
 use std::test::Fail;
 
 // Texts without documents, and what is told of them by `AT_EACH_END`.
@@ -135,50 +132,5 @@ fn keeps_prefixes_from_an_end_that_is_not_yet_read(rt: HostRuntime) -> Result<()
     expect(&rt, alloc, PREFIXED, before_the_end, KEPT)?;
     let behind_a_peek = &[Next, Next, Next, Next, Next, Next, Peek, KeepTags];
     expect(&rt, alloc, PREFIXED, behind_a_peek, KEPT_LATE)?;
-    Ok(())
-}
-
-// A tag of these parts.
-fn tag(alloc: Global, handle: &str, suffix: &str) -> Result<Tag, AllocError> {
-    Ok(Tag {
-        handle: String::from_str(alloc, handle)?,
-        suffix: String::from_str(alloc, suffix)?,
-    })
-}
-
-// A tag of these parts has an equal copy.
-fn is_tag_copied(alloc: Global, handle: &str, suffix: &str) -> Result<bool, AllocError> {
-    let tag = tag(alloc, handle, suffix)?;
-    Ok(tag.try_clone()? == tag)
-}
-
-// A scalar with a tag of these parts has an equal copy.
-fn is_scalar_copied(alloc: Global, handle: &str, suffix: &str) -> Result<bool, AllocError> {
-    let tag = tag(alloc, handle, suffix)?;
-    let event = Event::Scalar(CowStr::Borrowed("x"), ScalarStyle::Plain, 0, Some(tag));
-    Ok(event.try_clone()? == event)
-}
-
-#[test]
-fn copies_tags_and_scalars(rt: HostRuntime) -> Result<(), Fail> {
-    let alloc = rt.alloc();
-    assert!(rt; is_tag_copied(alloc, "!", "foo")?);
-    assert!(rt; is_tag_copied(alloc, "tag:yaml.org,2002:", "str")?);
-    assert!(rt; is_scalar_copied(alloc, "!", "foo")?);
-    assert!(rt; is_scalar_copied(alloc, "tag:yaml.org,2002:", "str")?);
-    Ok(())
-}
-
-// An error at a place is equal to the one of a borrowed text, and to its copy.
-fn is_error_copied(alloc: Global, mark: Marker) -> Result<bool, AllocError> {
-    let error = ScanError::new(mark, String::from_str(alloc, "x")?);
-    let is_borrowed = ScanError::new_str(alloc, mark, "x")? == error;
-    Ok(is_borrowed && error.try_clone()? == error)
-}
-
-#[test]
-fn copies_errors(rt: HostRuntime) -> Result<(), Fail> {
-    assert!(rt; is_error_copied(rt.alloc(), Marker::new(3, 1, 3))?);
-    assert!(rt; is_error_copied(rt.alloc(), Marker::new(0, 1, usize::MAX))?);
     Ok(())
 }

@@ -7,12 +7,20 @@
 #![tactic(auto)]
 
 #[cfg(test)]
+mod copies;
+#[cfg(test)]
+mod dumping;
+#[cfg(test)]
 mod events;
+#[cfg(test)]
+mod helpers;
 #[cfg(test)]
 mod limits;
 #[cfg(test)]
 mod loading;
 #[cfg(test)]
-mod printing;
+mod running;
 #[cfg(test)]
 mod telling;
+#[cfg(test)]
+mod writer;

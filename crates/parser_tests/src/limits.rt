@@ -1,9 +1,9 @@
 //! Texts with limits on their characters.
+use crate::helpers::{expect_that, repeated};
 use crate::telling::lines_left;
 use list_input::ListInput;
 use saphyr_parser::{BufferedInput, Input, Parser, StrInput, lists_characters};
 use std::alloc::{AllocError, Global};
-use std::test::Fail;
 
 // Texts that show one thing each.
 const TEXTS: &[&str] = &[
@@ -140,26 +140,38 @@ fn lines_of_list_within(alloc: Global, text: &str, limit: usize) -> Result<Strin
     lines_left(alloc, Parser::with_limit(alloc, input, limit))
 }
 
-// These are the lines of `abc`.
-fn is_whole(lines: &str) -> bool {
-    lines == THREE_CHARACTERS
+// These are the lines, and behind them the text is too long or isn't.
+fn are_lines(made: &str, lines: &str, is_too_long: bool) -> bool {
+    match before_too_long(made) {
+        Some(before) => is_too_long && before == lines,
+        None => !is_too_long && made == lines,
+    }
 }
 
-// These are the start of the stream, and that the text is too long.
-fn is_refused(lines: &str) -> bool {
-    before_too_long(lines) == Some("> +STR @ 0,1,0 0,1,0\n")
+fn are_told(made: Result<String, AllocError>, lines: &str, is_too_long: bool) -> bool {
+    match made {
+        Ok(made) => are_lines(made.as_str(), lines, is_too_long),
+        Err(_) => false,
+    }
+}
+
+// Three characters of a text may be read, and each input gives these lines.
+fn are_told_by_each(alloc: Global, text: &str, lines: &str, is_too_long: bool) -> bool {
+    are_told(lines_within(alloc, text, 3), lines, is_too_long)
+        && are_told(lines_of_iter_within(alloc, text, 3), lines, is_too_long)
+        && are_told(lines_of_list_within(alloc, text, 3), lines, is_too_long)
 }
 
 #[test]
-fn refuses_a_text_past_the_limit(rt: HostRuntime) -> Result<(), Fail> {
+fn refuses_a_text_past_the_limit(rt: HostRuntime) {
     let alloc = rt.alloc();
-    assert!(rt; is_whole(lines_within(alloc, "abc", 3)?.as_str()));
-    assert!(rt; is_whole(lines_of_iter_within(alloc, "abc", 3)?.as_str()));
-    assert!(rt; is_whole(lines_of_list_within(alloc, "abc", 3)?.as_str()));
-    assert!(rt; is_refused(lines_within(alloc, "abcd", 3)?.as_str()));
-    assert!(rt; is_refused(lines_of_iter_within(alloc, "abcd", 3)?.as_str()));
-    assert!(rt; is_refused(lines_of_list_within(alloc, "abcd", 3)?.as_str()));
-    Ok(())
+    let start = "> +STR @ 0,1,0 0,1,0\n";
+    expect_that(
+        &rt,
+        are_told_by_each(alloc, "abc", THREE_CHARACTERS, false),
+        "abc",
+    );
+    expect_that(&rt, are_told_by_each(alloc, "abcd", start, true), "abcd");
 }
 
 // The lines are all lines of the text, or a beginning of them and then that the text is too long.
@@ -170,51 +182,62 @@ fn is_beginning(lines: &str, all: &str) -> bool {
     }
 }
 
-// With each limit up to its length a text gives what it gives without, or a beginning of that.
-fn gives_beginnings(alloc: Global, text: &str) -> Result<bool, AllocError> {
-    let all = lines_left(alloc, Parser::new_from_str(alloc, text))?;
+fn are_beginning(made: Result<String, AllocError>, all: &str) -> bool {
+    match made {
+        Ok(lines) => is_beginning(lines.as_str(), all),
+        Err(_) => false,
+    }
+}
+
+// With each limit up to its length a text gives all these lines, or a beginning of them.
+fn gives_beginnings_of(alloc: Global, text: &str, all: &str) -> bool {
     for limit in 0..text.len() {
-        let lines = lines_within(alloc, text, limit)?;
-        if !is_beginning(lines.as_str(), all.as_str()) {
-            return Ok(false);
+        if !are_beginning(lines_within(alloc, text, limit), all) {
+            return false;
         }
     }
-    Ok(true)
+    true
+}
+
+// With each limit up to its length a text gives what it gives without, or a beginning of that.
+fn gives_beginnings(alloc: Global, text: &str) -> bool {
+    match lines_left(alloc, Parser::new_from_str(alloc, text)) {
+        Ok(all) => gives_beginnings_of(alloc, text, all.as_str()),
+        Err(_) => false,
+    }
 }
 
 #[test]
-fn gives_a_beginning_up_to_each_limit(rt: HostRuntime) -> Result<(), Fail> {
-    for text in TEXTS {
-        assert!(rt; gives_beginnings(rt.alloc(), text)?, "{text:?}");
+fn gives_a_beginning_up_to_each_limit(rt: HostRuntime) {
+    for &text in TEXTS {
+        expect_that(&rt, gives_beginnings(rt.alloc(), text), text);
     }
-    Ok(())
 }
 
-// A text made of pieces, each so many times.
-fn repeated(alloc: Global, pieces: &[(&str, usize)]) -> Result<String, AllocError> {
-    let mut text = String::new(alloc);
-    for (piece, count) in pieces {
-        for _ in 0..*count {
-            text.push_str(piece)?;
-        }
+// The same of a text made of pieces.
+fn gives_beginnings_of_pieces(alloc: Global, pieces: &[(&str, usize)]) -> bool {
+    match repeated(alloc, pieces) {
+        Ok(text) => gives_beginnings(alloc, text.as_str()),
+        Err(_) => false,
     }
-    Ok(text)
 }
+
+// Long texts by what they show: their pieces, and how often each comes.
+const LONG: &[(&str, &[(&str, usize)])] = &[
+    ("as many brackets as may be open", &[("[", 255), ("]", 255)]),
+    ("one more", &[("[", 256)]),
+    ("the longest key", &[("a", 1024), (": b", 1)]),
+    ("one character more", &[("a", 1025), (": b", 1)]),
+    ("too many braces", &[("{a: ", 256)]),
+    (
+        "a long key in brackets",
+        &[("[", 1), ("a", 1100), ("]: b", 1)],
+    ),
+];
 
 #[test]
-fn gives_a_beginning_of_a_long_text(rt: HostRuntime) -> Result<(), Fail> {
-    let alloc = rt.alloc();
-    let texts = [
-        [("[", 255), ("]", 255), ("", 0)],
-        [("[", 256), ("", 0), ("", 0)],
-        [("a", 1024), (": b", 1), ("", 0)],
-        [("a", 1025), (": b", 1), ("", 0)],
-        [("{a: ", 256), ("", 0), ("", 0)],
-        [("[", 1), ("a", 1100), ("]: b", 1)],
-    ];
-    for pieces in texts {
-        let text = repeated(alloc, &pieces)?;
-        assert!(rt; gives_beginnings(alloc, text.as_str())?, "{text:?}");
+fn gives_a_beginning_of_a_long_text(rt: HostRuntime) {
+    for &(shown, pieces) in LONG {
+        expect_that(&rt, gives_beginnings_of_pieces(rt.alloc(), pieces), shown);
     }
-    Ok(())
 }

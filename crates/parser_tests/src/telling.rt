@@ -145,22 +145,34 @@ pub fn lines_left<T: Input + Drop>(
     Ok(lines)
 }
 
+// Adds the lines of what a parser tells at a call. That tags are kept is for who owns it.
+fn push_call<T: Input + Drop>(
+    lines: &mut String,
+    parser: &mut Parser<'_, T>,
+    call: Call,
+) -> Result<(), AllocError> {
+    match call {
+        Call::KeepTags => Ok(()),
+        Call::Next => push_next(lines, parser),
+        Call::Peek => push_line(lines, parser.peek()),
+        Call::Load => push_load(lines, parser, false, usize::MAX),
+        Call::LoadAll => push_load(lines, parser, true, usize::MAX),
+        Call::LoadPlaceless => push_placeless(lines, parser),
+        Call::LoadRefused(count) => push_load(lines, parser, true, count),
+    }
+}
+
 // Adds the lines of what a parser tells at each call, and then of what it has left.
 fn push_calls<T: Input + Drop>(
     lines: &mut String,
     mut parser: Parser<'_, T>,
     calls: &[Call],
 ) -> Result<(), AllocError> {
-    for call in calls {
-        match *call {
-            Call::KeepTags => parser = parser.keep_tags(true),
-            Call::Next => push_next(lines, &mut parser)?,
-            Call::Peek => push_line(lines, parser.peek())?,
-            Call::Load => push_load(lines, &mut parser, false, usize::MAX)?,
-            Call::LoadAll => push_load(lines, &mut parser, true, usize::MAX)?,
-            Call::LoadPlaceless => push_placeless(lines, &mut parser)?,
-            Call::LoadRefused(count) => push_load(lines, &mut parser, true, count)?,
+    for &call in calls {
+        if let Call::KeepTags = call {
+            parser = parser.keep_tags(true);
         }
+        push_call(lines, &mut parser, call)?;
     }
     push_left(lines, parser)
 }

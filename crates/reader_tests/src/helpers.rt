@@ -1,8 +1,7 @@
 //! What the tests share. A small function reads, compares and lets go, so that no test holds what owns memory.
 
-use saphyr_input::StrInput;
-use saphyr_input::input::{Input, SkipTabs};
-use saphyr_scalar::{FaultText, Marker, Reader, Stop};
+use saphyr_input::input::Input;
+use saphyr_scalar::Marker;
 use std::alloc::AllocError;
 use std::process::Abort;
 
@@ -27,14 +26,6 @@ pub(crate) fn is_text(made: Result<String, AllocError>, text: &str) -> bool {
     }
 }
 
-/// Whether a text is refused for this fault at this place.
-pub(crate) fn is_refused<T: Drop>(read: Result<T, Stop>, fault: FaultText, place: Place) -> bool {
-    match read {
-        Err(Stop::Refused(refusal)) => refusal.text == fault && refusal.mark == marker(place),
-        _ => false,
-    }
-}
-
 /// Whether just these characters remain of an input.
 pub(crate) fn remains<T: Input + Drop>(mut input: T, rest: &str) -> bool {
     for c in rest.chars() {
@@ -44,11 +35,4 @@ pub(crate) fn remains<T: Input + Drop>(mut input: T, rest: &str) -> bool {
         input.skip();
     }
     input.look_ch() == '\0' && input.peek_opt().is_none()
-}
-
-/// A reader behind the blanks with which a text begins.
-pub(crate) fn behind_blanks(text: &str) -> Reader<StrInput<'_>> {
-    let mut reader = Reader::new(StrInput::new(text));
-    let _ = reader.skip_ws_to_eol(SkipTabs::Yes);
-    reader
 }

@@ -12,3 +12,5 @@ mod input;
 mod scalar;
 #[cfg(test)]
 mod scanner;
+#[cfg(test)]
+mod told;

@@ -6,4 +6,4 @@ mod plain;
 mod printed;
 mod property;
 mod quoted;
-mod reading;
+mod values;

@@ -1,7 +1,13 @@
--- What stands where `peek` shows want of memory.
-use Rattle.std.specs.Prelude.{◌≡◌, false, Option, Some, None}
+-- What stands where a parser tells want of memory.
+use Rattle.std.specs.Prelude.{◌≡◌, Bool, true, false, List, drop, Option, Some, None, Result, Err, String}
+use Rattle.std.specs.declared.alloc.Global.{Global}
+use Rattle.saphyr_scalar.specs.declared.scalar.position.Span.{Span}
+use Rattle.saphyr_parser.specs.Types.Event.{Event}
+use Rattle.saphyr_parser.specs.Types.Fault.{Fault}
+use Rattle.saphyr_parser.specs.Types.Fault.TheVariants as fault
 use Rattle.saphyr_parser.specs.Answer.{OutOfMemory}
 use Rattle.saphyr_parser.specs.Cursor.{EventCursor, Kept}
+use Rattle.case_files.specs.Lines.{Comes}
 
 -- A fault that was met is want of memory, and wasn't given yet.
 abbrev pub IsUngivenWant : Option Kept → Type 0
@@ -12,3 +18,9 @@ IsUngivenWant (Some k) = (k.fault ≡ OutOfMemory) × (k.given ≡ false)
 pub record IsInWant (parser : EventCursor) : Type 0 where
   pub current : parser.current ≡ None
   pub kept : IsUngivenWant parser.kept
+
+-- What was handed out is the first of the lines, which is passed. Or it is want of memory.
+abbrev pub PassesItem : Bool → Option (Result (Event × Span) Fault) → List (String Global) → List (String Global)
+    → Type 0
+PassesItem true item old new = Comes item old × (new ≡ drop 1 old)
+PassesItem false item old new = item ≡ Some (Err fault.OutOfMemory)

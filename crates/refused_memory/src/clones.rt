@@ -1,10 +1,10 @@
 //! Clones of a parser, of events and of faults.
 use crate::ended::is_ended_by_memory;
 use crate::outcome::Outcome;
-use crate::ways::{give_want, take_left};
+use crate::ways::{gives_want, is_want, pass_line, take_left};
 use case_files::{Difference, Expected};
 use saphyr_parser::{CloneInput, Event, Fault, Input, Parser, Span};
-use std::alloc::Global;
+use std::alloc::{AllocError, Global};
 
 /// How many places of a text a parser is cloned at, about.
 const MOST_PLACES: usize = 24;
@@ -17,14 +17,14 @@ pub fn by_clones<T: CloneInput>(
     lines: &[String],
 ) -> Result<Outcome, Difference> {
     let stride = lines.len() / MOST_PLACES + 1;
-    for (place, _) in lines.iter().enumerate() {
+    for place in 0..lines.len() {
         let left = lines.get(place..).unwrap_or(&[]);
-        if place % stride == 0 && take_clone(alloc, parser, left)? == Outcome::Refused {
+        let is_due = place % stride == 0;
+        if is_due && take_clone(alloc, parser, left)? == Outcome::Refused {
             return is_untouched(alloc, parser, left);
         }
-        if parser.next_event() == Some(Err(Fault::OutOfMemory)) {
-            is_ended_by_memory(alloc, parser)?;
-            return Ok(Outcome::Refused);
+        if gives_want(parser) {
+            return is_ended_by_memory(alloc, parser);
         }
     }
     Ok(Outcome::Whole)
@@ -61,19 +61,46 @@ pub fn by_copies<T: Input>(
     lines: &[String],
 ) -> Result<Outcome, Difference> {
     let mut expected = Expected::new(alloc, lines);
+    copy_lines(alloc, parser, &mut expected)
+}
+
+fn copy_lines<T: Input>(
+    alloc: Global,
+    parser: &mut Parser<'_, T>,
+    expected: &mut Expected<'_>,
+) -> Result<Outcome, Difference> {
     let mut outcome = Outcome::Whole;
-    for _ in lines {
-        let item = parser.next_event();
-        if matches!(item, Some(Err(Fault::OutOfMemory))) {
-            is_ended_by_memory(alloc, parser)?;
-            return Ok(Outcome::Refused);
+    for _ in expected.left() {
+        match copy_next(alloc, parser, expected)? {
+            Some(Outcome::Whole) => {}
+            Some(Outcome::Refused) => outcome = Outcome::Refused,
+            None => return is_ended_by_memory(alloc, parser),
         }
-        if copy_item(alloc, &item)? == Outcome::Refused {
-            outcome = Outcome::Refused;
-        }
-        expected.pass_given(item)?;
     }
     Ok(outcome)
+}
+
+// What is given next is copied, and is the next line; none where want of memory is given.
+fn copy_next<T: Input>(
+    alloc: Global,
+    parser: &mut Parser<'_, T>,
+    expected: &mut Expected<'_>,
+) -> Result<Option<Outcome>, Difference> {
+    let item = parser.next_event();
+    copy_line(alloc, &item, expected)
+}
+
+fn copy_line(
+    alloc: Global,
+    item: &Option<Result<(Event<'_>, Span), Fault>>,
+    expected: &mut Expected<'_>,
+) -> Result<Option<Outcome>, Difference> {
+    if is_want(item) {
+        return Ok(None);
+    }
+    let outcome = copy_item(alloc, item)?;
+    pass_line(item, expected)?;
+    Ok(Some(outcome))
 }
 
 // The copy of what was handed out equals it, or there is no memory for it.
@@ -83,12 +110,22 @@ fn copy_item(
 ) -> Result<Outcome, Difference> {
     let is_equal = match item {
         None => Ok(true),
-        Some(Ok((event, _))) => event.try_clone().map(|copy| copy == *event),
-        Some(Err(fault)) => fault.try_clone().map(|copy| copy == *fault),
+        Some(Ok((event, _))) => has_copy(event),
+        Some(Err(fault)) => has_fault_copy(fault),
     };
     match is_equal {
         Ok(true) => Ok(Outcome::Whole),
         Ok(false) => Err(Difference::new(alloc, "a copy differs")),
         Err(_) => Ok(Outcome::Refused),
     }
+}
+
+fn has_copy(event: &Event<'_>) -> Result<bool, AllocError> {
+    let copy = event.try_clone()?;
+    Ok(copy == *event)
+}
+
+fn has_fault_copy(fault: &Fault) -> Result<bool, AllocError> {
+    let copy = fault.try_clone()?;
+    Ok(copy == *fault)
 }

@@ -1,12 +1,14 @@
 //! What stands behind all that a parser gives.
-ghost use Rattle.std.specs.Prelude.{◌≡◌, OnOk, string_bytes};
+ghost use Rattle.std.specs.Prelude.{◌≡◌, IfOk, OnOk, string_bytes, true};
 ghost use Rattle.saphyr_parser.specs.Answer.{empty_answer};
 ghost use Rattle.saphyr_parser.specs.Cursor.{to_come};
 ghost use Rattle.case_files.specs.Listings.{is_fault_line};
+ghost use Rattle.refused_memory.specs.declared.outcome.Outcome.TheVariants.{Refused};
 
+use crate::loading::load_next;
 use crate::outcome::Outcome;
 use case_files::{ComparingReceiver, Difference};
-use saphyr_parser::{Fault, Input, Parser};
+use saphyr_parser::{Input, Parser};
 use std::alloc::Global;
 
 /// Whether the line is that of a fault.
@@ -16,15 +18,29 @@ pub fn is_fault(line: &String) -> bool
     case_files::is_fault(line.as_str())
 }
 
+// `peek` shows nothing.
+fn shows_nothing<T: Input>(parser: &mut Parser<'_, T>) -> bool
+    ensures { result ≡ true → to_come parser.old ≡ empty_answer }
+{
+    parser.peek().is_none()
+}
+
+// `next_event` gives nothing.
+fn gives_none<T: Input>(parser: &mut Parser<'_, T>) -> bool
+    ensures { result ≡ true → to_come parser.new ≡ empty_answer }
+{
+    parser.next_event().is_none()
+}
+
 /// Nothing is left to show or to give.
 fn gives_nothing<T: Input>(alloc: Global, parser: &mut Parser<'_, T>) -> Result<(), Difference>
     ensures before { OnOk result (to_come parser.old ≡ empty_answer) }
     ensures behind { OnOk result (to_come parser.new ≡ empty_answer) }
 {
-    if parser.peek().is_some() {
+    if !shows_nothing(parser) {
         return Err(Difference::new(alloc, "`peek` shows more"));
     }
-    if parser.next_event().is_some() {
+    if !gives_none(parser) {
         return Err(Difference::new(alloc, "`next_event` gives more"));
     }
     Ok(())
@@ -34,13 +50,15 @@ fn gives_nothing<T: Input>(alloc: Global, parser: &mut Parser<'_, T>) -> Result<
 pub fn is_ended_by_memory<T: Input>(
     alloc: Global,
     parser: &mut Parser<'_, T>,
-) -> Result<(), Difference>
+) -> Result<Outcome, Difference>
     ensures before { OnOk result (to_come parser.old ≡ empty_answer) }
     ensures behind { OnOk result (to_come parser.new ≡ empty_answer) }
+    ensures refused { IfOk result (λ outcome. outcome ≡ Refused) }
 {
     gives_nothing(alloc, parser)?;
     keeps_want(alloc, parser)?;
-    keeps_want(alloc, parser)
+    keeps_want(alloc, parser)?;
+    Ok(Outcome::Refused)
 }
 
 // `load` answers want of memory and sends nothing, and nothing is left behind it.
@@ -48,11 +66,20 @@ fn keeps_want<T: Input>(alloc: Global, parser: &mut Parser<'_, T>) -> Result<(),
     ensures { OnOk result (to_come parser.new ≡ empty_answer) }
 {
     let mut receiver = ComparingReceiver::new(alloc, &[]);
-    let answer = parser.load(&mut receiver, true);
-    receiver.check_end()?;
-    if answer != Err(Fault::OutOfMemory) {
+    loads_want(alloc, parser, &mut receiver)
+}
+
+fn loads_want<T: Input>(
+    alloc: Global,
+    parser: &mut Parser<'_, T>,
+    receiver: &mut ComparingReceiver<'_>,
+) -> Result<(), Difference>
+    ensures { OnOk result (to_come parser.new ≡ empty_answer) }
+{
+    if load_next(parser, receiver, true)? == Outcome::Whole {
         return Err(Difference::new(alloc, "`load` forgets want of memory"));
     }
+    receiver.check_end()?;
     gives_nothing(alloc, parser)
 }
 
@@ -66,15 +93,42 @@ pub fn is_ended<T: Input>(
     ensures { OnOk result (to_come parser.old ≡ empty_answer) }
 {
     gives_nothing(alloc, parser)?;
+    loads_last(alloc, parser, last)
+}
+
+fn loads_last<T: Input>(
+    alloc: Global,
+    parser: &mut Parser<'_, T>,
+    last: &[String],
+) -> Result<Outcome, Difference> {
     let mut receiver = ComparingReceiver::new(alloc, last);
-    let answer = parser.load(&mut receiver, true);
-    if answer == Err(Fault::OutOfMemory) && last.iter().any(is_fault) {
-        let again = parser.load(&mut receiver, true);
-        receiver.check_answer(again)?;
-        receiver.check_end()?;
-        return Ok(Outcome::Refused);
+    loads_left(alloc, parser, &mut receiver)
+}
+
+// `load` sends or answers the lines that are left.
+fn loads_left<T: Input>(
+    alloc: Global,
+    parser: &mut Parser<'_, T>,
+    receiver: &mut ComparingReceiver<'_>,
+) -> Result<Outcome, Difference> {
+    if load_next(parser, receiver, true)? == Outcome::Refused {
+        return loads_fault(alloc, parser, receiver);
     }
-    receiver.check_answer(answer)?;
     receiver.check_end()?;
     Ok(Outcome::Whole)
+}
+
+// The line that is left is that of a fault, and `load` answers it.
+fn loads_fault<T: Input>(
+    alloc: Global,
+    parser: &mut Parser<'_, T>,
+    receiver: &mut ComparingReceiver<'_>,
+) -> Result<Outcome, Difference> {
+    if !receiver.left().iter().any(is_fault) {
+        return Err(Difference::new(alloc, "`load` finds no memory for the end"));
+    }
+    // Where there is no memory again, the line stays.
+    load_next(parser, receiver, true)?;
+    receiver.check_end()?;
+    Ok(Outcome::Refused)
 }

@@ -13,6 +13,7 @@
 
 mod clones;
 mod ended;
+mod loading;
 mod outcome;
 mod parts;
 mod trees;
@@ -33,15 +34,15 @@ enum Failure {
     OutOfMemory(#[from] AllocError),
     #[error("the case can't be read, or the lines can't be printed")]
     Io(#[from] io::Error),
-    #[error("{0}")]
-    Differs(String),
+    #[error(transparent)]
+    Difference(#[from] Difference),
 }
 
 impl Failure {
     fn status(&self) -> u8 {
         match self {
-            Failure::Differs(_) => 1,
-            Failure::OutOfMemory(_) | Failure::Io(_) => 2,
+            Failure::Difference(Difference::Found(_)) => 1,
+            _ => 2,
         }
     }
 }
@@ -85,18 +86,18 @@ fn main(rt: HostRuntime) -> ExitCode {
 }
 
 fn run(rt: &HostRuntime) -> Result<(), Failure> {
-    let alloc = rt.alloc();
-    let text = io::read_to_string(alloc, rt.stdin())?;
-    for case in &parse_cases(alloc, text.as_str())? {
-        let lines = printed(alloc, case.lines.as_slice())?;
-        for way in WAYS {
-            match take(alloc, case, lines.as_str(), way) {
-                Ok(Outcome::Whole) => println!(rt; "{way:?}: whole")?,
-                Ok(Outcome::Refused) => println!(rt; "{way:?}: refused")?,
-                Err(Difference::OutOfMemory(error)) => return Err(Failure::OutOfMemory(error)),
-                Err(Difference::Found(text)) => return Err(Failure::Differs(text)),
-            }
-        }
+    let text = io::read_to_string(rt.alloc(), rt.stdin())?;
+    for case in &parse_cases(rt.alloc(), text.as_str())? {
+        take_case(rt, case)?;
+    }
+    Ok(())
+}
+
+fn take_case(rt: &HostRuntime, case: &Case) -> Result<(), Failure> {
+    let lines = printed(rt.alloc(), case.lines.as_slice())?;
+    for way in WAYS {
+        let outcome = take(rt.alloc(), case, lines.as_str(), way)?;
+        println!(rt; "{way:?}: {}", outcome.name())?;
     }
     Ok(())
 }
@@ -107,8 +108,8 @@ fn take(alloc: Global, case: &Case, text: &str, way: Way) -> Result<Outcome, Dif
     match way {
         Way::NextEvent => ways::by_next_event(alloc, parser, lines),
         Way::Peek => ways::by_peek(alloc, parser, lines),
-        Way::LoadAll => ways::by_load(alloc, parser, lines, true),
-        Way::LoadEach => ways::by_load(alloc, parser, lines, false),
+        Way::LoadAll => loading::by_load(alloc, parser, lines, true),
+        Way::LoadEach => loading::by_load(alloc, parser, lines, false),
         Way::TryClone => clones::by_clones(alloc, parser, lines),
         Way::Copies => clones::by_copies(alloc, parser, lines),
         Way::Dump => parts::by_dump(alloc, parser, lines, text),

@@ -7,3 +7,12 @@ pub enum Outcome {
     /// All is so up to a refused request for memory, and as it is to be behind that.
     Refused,
 }
+
+impl Outcome {
+    pub fn name(self) -> &'static str {
+        match self {
+            Outcome::Whole => "whole",
+            Outcome::Refused => "refused",
+        }
+    }
+}

@@ -6,6 +6,13 @@ use case_files::{Case, Difference, Expected, KeepingWriter, Manner};
 use saphyr_parser::{DumpFault, Fault, Input, Marker, Parser, ScanError, dump, lists_characters};
 use std::alloc::{AllocError, Global};
 
+/// A writer that takes each piece whole.
+const WHOLE: Manner = Manner {
+    at_a_time: usize::MAX,
+    before_failure: usize::MAX,
+    is_silent: false,
+};
+
 /// `dump` writes whole lines, and where it answers want of memory, nothing is left.
 pub fn by_dump<T: Input>(
     alloc: Global,
@@ -13,44 +20,85 @@ pub fn by_dump<T: Input>(
     lines: &[String],
     text: &str,
 ) -> Result<Outcome, Difference> {
-    let manner = Manner {
-        at_a_time: usize::MAX,
-        before_failure: usize::MAX,
-        is_silent: false,
-    };
-    let mut writer = KeepingWriter::new(alloc, manner);
+    match dump_lines(alloc, parser, last(lines), text)? {
+        Outcome::Whole => is_ended(alloc, parser, last(lines)),
+        Outcome::Refused => is_ended_by_memory(alloc, parser),
+    }
+}
+
+// `dump` writes all lines, or whole ones up to want of memory.
+fn dump_lines<T: Input>(
+    alloc: Global,
+    parser: &mut Parser<'_, T>,
+    last: &[String],
+    text: &str,
+) -> Result<Outcome, Difference> {
+    let mut writer = KeepingWriter::new(alloc, WHOLE);
     let answer = dump(parser, &mut writer);
+    has_dumped(alloc, &writer, &answer, last, text)
+}
+
+fn has_dumped(
+    alloc: Global,
+    writer: &KeepingWriter,
+    answer: &Result<(), DumpFault>,
+    last: &[String],
+    text: &str,
+) -> Result<Outcome, Difference> {
     let Some(rest) = writer.rest_of(text) else {
         return Err(Difference::new(alloc, "other bytes are written"));
     };
-    let mut expected = Expected::new(alloc, last(lines));
     match answer {
-        Err(DumpFault::Parse(Fault::OutOfMemory)) => {
-            ends_line(alloc, text, rest)?;
-            is_ended_by_memory(alloc, parser)?;
-            return Ok(Outcome::Refused);
-        }
-        Err(DumpFault::Parse(fault)) => expected.is_next(Some(Err(&fault)))?,
-        // The writer keeps what it takes.
-        Err(DumpFault::Write) if writer.has_failed() => {
-            return Err(Difference::OutOfMemory(AllocError));
-        }
-        Err(DumpFault::Write) => return Err(Difference::new(alloc, "no write has failed")),
-        Ok(()) => {}
+        Ok(()) => is_whole(alloc, rest),
+        Err(DumpFault::Parse(fault)) => is_whole_up_to(alloc, fault, last, text, rest),
+        Err(DumpFault::Write) => Err(write_failure(alloc, writer)),
     }
-    if !rest.is_empty() {
-        return Err(Difference::new(alloc, "lines are missing"));
+}
+
+// No line is missing.
+fn is_whole(alloc: Global, rest: &[u8]) -> Result<Outcome, Difference> {
+    if rest.is_empty() {
+        return Ok(Outcome::Whole);
     }
-    is_ended(alloc, parser, last(lines))
+    Err(Difference::new(alloc, "lines are missing"))
+}
+
+// No line is missing before the fault, which is the last line, or the lines are whole up to want of memory.
+fn is_whole_up_to(
+    alloc: Global,
+    fault: &Fault,
+    last: &[String],
+    text: &str,
+    rest: &[u8],
+) -> Result<Outcome, Difference> {
+    if matches!(fault, Fault::OutOfMemory) {
+        return ends_line(alloc, text, rest);
+    }
+    is_last(alloc, fault, last)?;
+    is_whole(alloc, rest)
+}
+
+/// The fault is that of the last line.
+pub fn is_last(alloc: Global, fault: &Fault, last: &[String]) -> Result<(), Difference> {
+    let mut expected = Expected::new(alloc, last);
+    expected.is_next(Some(Err(fault)))
 }
 
 // The lines before the rest are whole.
-fn ends_line(alloc: Global, text: &str, rest: &[u8]) -> Result<(), Difference> {
+fn ends_line(alloc: Global, text: &str, rest: &[u8]) -> Result<Outcome, Difference> {
     let count = text.len().saturating_sub(rest.len());
     match text.as_bytes().get(..count).unwrap_or(&[]) {
-        [] | [.., b'\n'] => Ok(()),
+        [] | [.., b'\n'] => Ok(Outcome::Refused),
         _ => Err(Difference::new(alloc, "a line is cut")),
     }
+}
+
+// Why a write fails: the writer keeps what it takes.
+fn write_failure(alloc: Global, writer: &KeepingWriter) -> Difference {
+    if writer.has_failed() {
+        return Difference::OutOfMemory(AllocError);
+    }
+    Difference::new(alloc, "no write has failed")
 }
 
 /// The events are taken of a parser over an iterator, whose window on the characters takes memory.

@@ -1,9 +1,10 @@
 //! The documents of a text as trees.
 use crate::ended::{is_ended, is_ended_by_memory};
 use crate::outcome::Outcome;
-use crate::ways::last;
+use crate::parts::is_last;
+use crate::ways::{last, pass_line};
 use case_files::{Difference, Expected, push_item};
-use saphyr_parser::{CloneInput, Fault, Input, Parser};
+use saphyr_parser::{CloneInput, Event, Fault, Input, Parser, Span};
 use std::alloc::{AllocError, Global};
 use tree_events::events_of;
 use yaml_tree::{Document, Limits, TreeFault, load_documents};
@@ -14,6 +15,17 @@ const WIDE: Limits = Limits {
     depth: usize::MAX,
 };
 
+/// How loading ends.
+#[derive(Clone, Copy)]
+enum Loaded {
+    /// With all documents, or with the fault of the text.
+    Whole,
+    /// There was no memory for the trees.
+    TreesRefused,
+    /// There was none for the parser.
+    EventsRefused,
+}
+
 /// The documents are loaded. Where there is no memory for the trees, the parser gives what comes behind the
 /// event that could not be taken.
 pub fn by_load_documents<T: CloneInput>(
@@ -21,24 +33,46 @@ pub fn by_load_documents<T: CloneInput>(
     parser: &mut Parser<'_, T>,
     lines: &[String],
 ) -> Result<Outcome, Difference> {
-    let mut again = parser.try_clone()?;
-    match load_documents(alloc, parser, WIDE) {
-        Ok(documents) => have_events(alloc, documents.as_slice(), &mut again, lines)?,
-        Err(TreeFault::OutOfMemory) => {
-            goes_on(alloc, parser, lines)?;
-            return Ok(Outcome::Refused);
-        }
-        Err(TreeFault::Parse(Fault::OutOfMemory)) => {
-            is_ended_by_memory(alloc, parser)?;
-            return Ok(Outcome::Refused);
-        }
-        Err(TreeFault::Parse(fault)) => {
-            let mut expected = Expected::new(alloc, last(lines));
-            expected.is_next(Some(Err(&fault)))?;
-        }
-        Err(fault) => return Err(Difference::Found(format!(in alloc; "{fault}")?)),
+    match load_lines(alloc, parser, lines)? {
+        Loaded::Whole => is_ended(alloc, parser, last(lines)),
+        Loaded::TreesRefused => goes_on(alloc, parser, lines),
+        Loaded::EventsRefused => is_ended_by_memory(alloc, parser),
     }
-    is_ended(alloc, parser, last(lines))
+}
+
+// The documents have the events of the lines, or the fault is their last.
+fn load_lines<T: CloneInput>(
+    alloc: Global,
+    parser: &mut Parser<'_, T>,
+    lines: &[String],
+) -> Result<Loaded, Difference> {
+    let mut again = parser.try_clone()?;
+    let loaded = load_documents(alloc, parser, WIDE);
+    judge(alloc, &loaded, &mut again, lines)
+}
+
+fn judge<T: Input>(
+    alloc: Global,
+    loaded: &Result<Vec<Document>, TreeFault>,
+    again: &mut Parser<'_, T>,
+    lines: &[String],
+) -> Result<Loaded, Difference> {
+    match loaded {
+        Ok(documents) => have_events(alloc, documents.as_slice(), again, lines),
+        Err(fault) => judge_fault(alloc, fault, last(lines)),
+    }
+}
+
+fn judge_fault(alloc: Global, fault: &TreeFault, last: &[String]) -> Result<Loaded, Difference> {
+    match fault {
+        TreeFault::OutOfMemory => Ok(Loaded::TreesRefused),
+        TreeFault::Parse(Fault::OutOfMemory) => Ok(Loaded::EventsRefused),
+        TreeFault::Parse(fault) => {
+            is_last(alloc, fault, last)?;
+            Ok(Loaded::Whole)
+        }
+        fault => Err(Difference::Found(format!(in alloc; "{fault}")?)),
+    }
 }
 
 // The documents have the events that a parser gives, which are the lines.
@@ -47,18 +81,47 @@ fn have_events<T: Input>(
     documents: &[Document],
     parser: &mut Parser<'_, T>,
     lines: &[String],
-) -> Result<(), Difference> {
+) -> Result<Loaded, Difference> {
+    let events = events_of(alloc, documents)?;
     let mut expected = Expected::new(alloc, lines);
-    for event in &events_of(alloc, documents)? {
-        let item = parser.next_event();
-        match &item {
-            Some(Ok((given, _))) if *given == *event => {}
-            Some(Err(Fault::OutOfMemory)) => return Err(Difference::OutOfMemory(AllocError)),
-            _ => return Err(Difference::new(alloc, "a tree has other events")),
-        }
-        expected.pass_given(item)?;
+    pass_events(alloc, events.as_slice(), parser, &mut expected)
+}
+
+fn pass_events<T: Input>(
+    alloc: Global,
+    events: &[Event<'_>],
+    parser: &mut Parser<'_, T>,
+    expected: &mut Expected<'_>,
+) -> Result<Loaded, Difference> {
+    for event in events {
+        pass_event(alloc, event, parser, expected)?;
     }
-    expected.is_next(None)
+    expected.is_next(None)?;
+    Ok(Loaded::Whole)
+}
+
+// A parser gives this event, which is the next line.
+fn pass_event<T: Input>(
+    alloc: Global,
+    event: &Event<'_>,
+    parser: &mut Parser<'_, T>,
+    expected: &mut Expected<'_>,
+) -> Result<(), Difference> {
+    let item = parser.next_event();
+    is_event(alloc, &item, event, expected)
+}
+
+fn is_event(
+    alloc: Global,
+    item: &Option<Result<(Event<'_>, Span), Fault>>,
+    event: &Event<'_>,
+    expected: &mut Expected<'_>,
+) -> Result<(), Difference> {
+    match item {
+        Some(Ok((given, _))) if *given == *event => pass_line(item, expected),
+        Some(Err(Fault::OutOfMemory)) => Err(Difference::OutOfMemory(AllocError)),
+        _ => Err(Difference::new(alloc, "a tree has other events")),
+    }
 }
 
 // What a parser still gives is the last of the lines.
@@ -66,18 +129,46 @@ fn goes_on<T: Input>(
     alloc: Global,
     parser: &mut Parser<'_, T>,
     lines: &[String],
-) -> Result<(), Difference> {
+) -> Result<Outcome, Difference> {
+    let left = lines_left(alloc, parser, lines.len())?;
+    if left.len() < lines.len() && lines.ends_with(left.as_slice()) {
+        return Ok(Outcome::Refused);
+    }
+    Err(Difference::new(alloc, "the parser does not go on"))
+}
+
+// The lines of what a parser still gives, so many at most.
+fn lines_left<T: Input>(
+    alloc: Global,
+    parser: &mut Parser<'_, T>,
+    most: usize,
+) -> Result<Vec<String>, AllocError> {
     let mut left = Vec::new(alloc);
-    for _ in lines {
-        let Some(item) = parser.next_event() else {
-            break;
-        };
-        let mut line = String::new(alloc);
-        push_item(&mut line, item.as_ref())?;
-        left.push(line).map_err(AllocError::from)?;
+    for _ in 0..most {
+        match next_line(alloc, parser)? {
+            Some(line) => left.push(line)?,
+            None => break,
+        }
     }
-    if left.len() >= lines.len() || !lines.ends_with(left.as_slice()) {
-        return Err(Difference::new(alloc, "the parser does not go on"));
-    }
-    Ok(())
+    Ok(left)
+}
+
+fn next_line<T: Input>(
+    alloc: Global,
+    parser: &mut Parser<'_, T>,
+) -> Result<Option<String>, AllocError> {
+    let item = parser.next_event();
+    line_of(alloc, &item)
+}
+
+fn line_of(
+    alloc: Global,
+    item: &Option<Result<(Event<'_>, Span), Fault>>,
+) -> Result<Option<String>, AllocError> {
+    let Some(item) = item else {
+        return Ok(None);
+    };
+    let mut line = String::new(alloc);
+    push_item(&mut line, item.as_ref())?;
+    Ok(Some(line))
 }

@@ -1,16 +1,17 @@
-//! The ways to take events one by one and by `load`.
-ghost use Rattle.std.specs.Prelude.{◌≡◌, ◌<◌, ◌-◌, OnOk, Ok, drop, length, true};
+//! The ways to take events one by one.
+ghost use Rattle.std.specs.Prelude.{◌≡◌, ◌<◌, ◌-◌, Err, IfOk, OnOk, Ok, Some, drop, length, true};
+ghost use Rattle.saphyr_parser.specs.Types.Fault.TheVariants.{OutOfMemory};
 ghost use Rattle.saphyr_parser.specs.Answer as answer;
 ghost use Rattle.saphyr_parser.specs.Answer.{fault_alone, empty_answer};
 ghost use Rattle.saphyr_parser.specs.Cursor.{Stays, count, to_come};
 ghost use Rattle.case_files.specs.Listings.{ListAll};
-ghost use Rattle.refused_memory.specs.Want.{IsInWant};
-ghost use Rattle.refused_memory.specs.declared.outcome.Outcome.TheVariants.{Whole};
+ghost use Rattle.refused_memory.specs.Want.{IsInWant, PassesItem};
+ghost use Rattle.refused_memory.specs.declared.outcome.Outcome.TheVariants.{Refused, Whole};
 
 use crate::ended::{is_ended, is_ended_by_memory, is_fault};
 use crate::outcome::Outcome;
-use case_files::{ComparingReceiver, Difference, Expected};
-use saphyr_parser::{Fault, Input, Parser};
+use case_files::{Difference, Expected};
+use saphyr_parser::{Event, Fault, Input, Parser, Span};
 use std::alloc::Global;
 
 /// The last line of a case, where there is one.
@@ -19,6 +20,38 @@ pub fn last(lines: &[String]) -> &[String]
 {
     let (_, last) = lines.split_at(lines.len().saturating_sub(1));
     last
+}
+
+/// Whether want of memory was handed out.
+pub fn is_want(item: &Option<Result<(Event<'_>, Span), Fault>>) -> bool
+    ensures { result ≡ true → item.now ≡ Some (Err OutOfMemory) }
+{
+    matches!(item, Some(Err(Fault::OutOfMemory)))
+}
+
+/// What was handed out is the next line.
+pub fn pass_line(
+    item: &Option<Result<(Event<'_>, Span), Fault>>,
+    expected: &mut Expected<'_>,
+) -> Result<(), Difference> {
+    match item {
+        Some(item) => expected.pass(Some(item.as_ref())),
+        None => expected.pass(None),
+    }
+}
+
+// What was handed out is the next line, or nothing where none is left. Or it is want of memory, and then not.
+fn pass_item(
+    item: Option<Result<(Event<'_>, Span), Fault>>,
+    expected: &mut Expected<'_>,
+) -> Result<bool, Difference>
+    ensures { IfOk result (λ comes. PassesItem comes item.entry expected.old expected.new) }
+{
+    if is_want(&item) {
+        return Ok(false);
+    }
+    expected.pass_given(item)?;
+    Ok(true)
 }
 
 /// What is left to give is the lines, or a beginning of them and then want of memory.
@@ -31,11 +64,20 @@ pub fn take_left<T: Input>(
     ensures ended { OnOk result (to_come parser.new ≡ empty_answer) }
 {
     let mut expected = Expected::new(alloc, lines);
+    take_lines(parser, &mut expected)
+}
+
+fn take_lines<T: Input>(
+    parser: &mut Parser<'_, T>,
+    expected: &mut Expected<'_>,
+) -> Result<Outcome, Difference>
+    ensures whole { result ≡ Ok Whole → ListAll expected.old (to_come parser.old) }
+    ensures ended { OnOk result (to_come parser.new ≡ empty_answer) }
+{
     while let Some(item) = parser.next_event() {
-        if matches!(item, Err(Fault::OutOfMemory)) {
+        if !pass_item(Some(item), expected)? {
             return Ok(Outcome::Refused);
         }
-        expected.pass_given(Some(item))?;
     }
     expected.is_next(None)?;
     Ok(Outcome::Whole)
@@ -51,10 +93,7 @@ pub fn by_next_event<T: Input>(
 {
     match take_left(alloc, parser, lines)? {
         Outcome::Whole => is_ended(alloc, parser, last(lines)),
-        Outcome::Refused => {
-            is_ended_by_memory(alloc, parser)?;
-            Ok(Outcome::Refused)
-        }
+        Outcome::Refused => is_ended_by_memory(alloc, parser),
     }
 }
 
@@ -68,21 +107,56 @@ pub fn by_peek<T: Input>(
     ensures { result ≡ Ok Whole → ListAll lines.now (to_come parser.old) }
 {
     let mut expected = Expected::new(alloc, lines);
+    peek_lines(alloc, parser, lines, &mut expected)
+}
+
+fn peek_lines<T: Input>(
+    alloc: Global,
+    parser: &mut Parser<'_, T>,
+    lines: &[String],
+    expected: &mut Expected<'_>,
+) -> Result<Outcome, Difference>
+    ensures { result ≡ Ok Whole → ListAll expected.old (to_come parser.old) }
+{
     for line in lines {
         if shows_want(parser) {
-            give_want(alloc, parser)?;
-            return Ok(Outcome::Refused);
+            return give_want(alloc, parser);
         }
-        expected.is_next(parser.peek())?;
-        let item = parser.next_event();
-        if is_fault(line) && matches!(item, Some(Err(Fault::OutOfMemory))) {
-            is_ended_by_memory(alloc, parser)?;
-            return Ok(Outcome::Refused);
+        if !pass_shown(parser, expected)? {
+            return refuse_copy(alloc, parser, line);
         }
-        expected.pass_given(item)?;
     }
     expected.is_next(None)?;
     is_ended(alloc, parser, last(lines))
+}
+
+// The next line is shown, and then given. Where want of memory is given it is not.
+fn pass_shown<T: Input>(
+    parser: &mut Parser<'_, T>,
+    expected: &mut Expected<'_>,
+) -> Result<bool, Difference>
+    ensures { IfOk result (λ comes. comes ≡ true
+        → ListAll expected.new (to_come parser.new) → ListAll expected.old (to_come parser.old)) }
+{
+    expected.is_next(parser.peek())?;
+    pass_item(parser.next_event(), expected)
+}
+
+// Memory runs out where what was shown is given: that is the copy of a fault.
+fn refuse_copy<T: Input>(
+    alloc: Global,
+    parser: &mut Parser<'_, T>,
+    line: &String,
+) -> Result<Outcome, Difference>
+    ensures { IfOk result (λ outcome. outcome ≡ Refused) }
+{
+    if is_fault(line) {
+        return is_ended_by_memory(alloc, parser);
+    }
+    Err(Difference::new(
+        alloc,
+        "`next_event` finds no memory for an event that was shown",
+    ))
 }
 
 fn shows_want<T: Input>(parser: &mut Parser<'_, T>) -> bool
@@ -93,78 +167,23 @@ fn shows_want<T: Input>(parser: &mut Parser<'_, T>) -> bool
     matches!(parser.peek(), Some(Err(Fault::OutOfMemory)))
 }
 
+/// `next_event` gives want of memory, or what is passed over.
+pub fn gives_want<T: Input>(parser: &mut Parser<'_, T>) -> bool {
+    is_want(&parser.next_event())
+}
+
 /// Want of memory is shown until it is given, and then nothing is left.
-pub fn give_want<T: Input>(alloc: Global, parser: &mut Parser<'_, T>) -> Result<(), Difference>
+pub fn give_want<T: Input>(alloc: Global, parser: &mut Parser<'_, T>) -> Result<Outcome, Difference>
     ensures shown { OnOk result (IsInWant parser.old) }
     ensures lost { OnOk result (0 < count (to_come parser.old)) }
     ensures ended { OnOk result (to_come parser.new ≡ empty_answer) }
+    ensures refused { IfOk result (λ outcome. outcome ≡ Refused) }
 {
     if !(shows_want(parser) && shows_want(parser)) {
         return Err(Difference::new(alloc, "`peek` doesn't show want of memory"));
     }
-    if parser.next_event() != Some(Err(Fault::OutOfMemory)) {
+    if !gives_want(parser) {
         return Err(Difference::new(alloc, "`next_event` doesn't give what is shown"));
     }
     is_ended_by_memory(alloc, parser)
-}
-
-/// The events are taken by `load`, all at once or a document at a time.
-pub fn by_load<T: Input>(
-    alloc: Global,
-    parser: &mut Parser<'_, T>,
-    lines: &[String],
-    multi: bool,
-) -> Result<Outcome, Difference> {
-    let mut receiver = ComparingReceiver::new(alloc, lines);
-    for _ in lines {
-        let answer = parser.load(&mut receiver, multi);
-        if answer == Err(Fault::OutOfMemory) {
-            load_again(alloc, parser, &mut receiver)?;
-            return Ok(Outcome::Refused);
-        }
-        receiver.check_answer(answer)?;
-        if receiver.left().is_empty() {
-            break;
-        }
-    }
-    receiver.check_end()?;
-    end_load(alloc, parser, last(lines))
-}
-
-// A fault that `load` answered is still to be given, and the end of the stream isn't.
-fn end_load<T: Input>(
-    alloc: Global,
-    parser: &mut Parser<'_, T>,
-    last: &[String],
-) -> Result<Outcome, Difference> {
-    if last.iter().any(is_fault) {
-        return by_peek(alloc, parser, last);
-    }
-    is_ended(alloc, parser, last)
-}
-
-// `load` has answered want of memory. If that was met in reading, it is kept, and nothing more is sent. Or
-// all events were sent and only the copy of the text's fault was refused: then that is answered now.
-fn load_again<T: Input>(
-    alloc: Global,
-    parser: &mut Parser<'_, T>,
-    receiver: &mut ComparingReceiver<'_>,
-) -> Result<(), Difference> {
-    receiver.check()?;
-    let left = receiver.left();
-    let answer = parser.load(receiver, true);
-    if answer == Err(Fault::OutOfMemory) {
-        receiver.check()?;
-        if receiver.left().len() != left.len() {
-            return Err(Difference::new(alloc, "`load` sends more"));
-        }
-        return give_want(alloc, parser);
-    }
-    receiver.check_answer(answer)?;
-    receiver.check_end()?;
-    if !left.iter().all(is_fault) {
-        return Err(Difference::new(alloc, "`load` goes on"));
-    }
-    end_load(alloc, parser, left)?;
-    Ok(())
 }

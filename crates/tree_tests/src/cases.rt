@@ -2,11 +2,11 @@
 
 use case_files::push_item;
 use saphyr_parser::{Fault, Marker, ScanError};
-use std::alloc::Global;
+use std::alloc::{AllocError, Global};
 use std::process::Abort;
 use std::test::Fail;
 
-fn assert_prints_its_line(rt: &impl Abort, alloc: Global, fault: &Fault) -> Result<(), Fail> {
+fn expect_line(rt: &impl Abort, alloc: Global, fault: &Fault) -> Result<(), AllocError> {
     let mut line = String::new(alloc);
     push_item(&mut line, Err(fault))?;
     let printed = format!(in alloc; "! {fault}")?;
@@ -14,12 +14,21 @@ fn assert_prints_its_line(rt: &impl Abort, alloc: Global, fault: &Fault) -> Resu
     Ok(())
 }
 
+fn expect_line_of_refusal(rt: &impl Abort, alloc: Global) -> Result<(), AllocError> {
+    let error = ScanError::new_str(alloc, Marker::new(3, 1, 2), "a text")?;
+    expect_line(rt, alloc, &Fault::Scan(error))
+}
+
 #[test]
 fn faults_print_their_lines(rt: HostRuntime) -> Result<(), Fail> {
     let alloc = rt.alloc();
-    let error = ScanError::new_str(alloc, Marker::new(3, 1, 2), "a text")?;
-    assert_prints_its_line(&rt, alloc, &Fault::Scan(error))?;
-    assert_prints_its_line(&rt, alloc, &Fault::OutOfMemory)?;
-    assert_prints_its_line(&rt, alloc, &Fault::Receiver)?;
-    assert_prints_its_line(&rt, alloc, &Fault::InsideDocument)
+    expect_line_of_refusal(&rt, alloc)?;
+    for fault in [
+        &Fault::OutOfMemory,
+        &Fault::Receiver,
+        &Fault::InsideDocument,
+    ] {
+        expect_line(&rt, alloc, fault)?;
+    }
+    Ok(())
 }

@@ -1,228 +1,326 @@
-//! Small forests and their events; tags and copies of events by themselves.
+//! The events of small forests (YAML 1.2.2, 3.1); tags and copies of events by themselves.
+//!
+//! A test states a forest as a table, and its events as they print, so that few functions hold trees or events: these
+//! are dear to prove where they are dropped.
 
 use forest_events::forest_events;
 use forest_events::tree::{Directive, Document, Handle, Node, Properties, WrittenTag};
 use saphyr_parser::{Event, Tag};
 use saphyr_scalar::ScalarStyle;
 use std::alloc::{AllocError, Global};
+use std::process::Abort;
 use std::test::Fail;
 
-fn properties() -> Properties {
-    Properties {
-        anchor: None,
-        tag: None,
+/// What may stand before a scalar. A handle is named by its word, and `!` by none.
+#[derive(Clone, Copy)]
+enum Property {
+    Anchor(&'static str),
+    Tag(Option<&'static str>, &'static str),
+}
+
+/// A node that holds no others.
+#[derive(Clone, Copy)]
+enum Leaf {
+    Alias(&'static str),
+    Scalar(Option<Property>, ScalarStyle, &'static str),
+}
+
+#[derive(Clone, Copy)]
+enum Root {
+    Leaf(Leaf),
+    Sequence(&'static [Leaf]),
+    /// A mapping of one key to a sequence.
+    Mapping(Leaf, &'static [Leaf]),
+}
+
+/// A document of a table, with the word of the handle that it declares and the prefix.
+#[derive(Clone, Copy)]
+struct Entry {
+    explicit: bool,
+    declared: Option<(&'static str, &'static str)>,
+    root: Root,
+}
+
+fn handle(alloc: Global, word: Option<&str>) -> Result<Handle, AllocError> {
+    match word {
+        Some(word) => Ok(Handle::Named(String::from_str(alloc, word)?)),
+        None => Ok(Handle::Primary),
     }
 }
 
-fn anchored(alloc: Global, name: &str) -> Result<Properties, AllocError> {
-    Ok(Properties {
-        anchor: Some(String::from_str(alloc, name)?),
-        tag: None,
-    })
-}
-
-fn tagged(alloc: Global, handle: Handle, suffix: &str) -> Result<Properties, AllocError> {
+fn tag(alloc: Global, word: Option<&str>, suffix: &str) -> Result<WrittenTag, AllocError> {
     let suffix = String::from_str(alloc, suffix)?;
-    Ok(Properties {
-        anchor: None,
-        tag: Some(WrittenTag::Shorthand(handle, suffix)),
+    Ok(WrittenTag::Shorthand(handle(alloc, word)?, suffix))
+}
+
+fn properties(alloc: Global, property: Option<Property>) -> Result<Properties, AllocError> {
+    match property {
+        None => Ok(NO_PROPERTIES),
+        Some(Property::Anchor(name)) => Ok(Properties {
+            anchor: Some(String::from_str(alloc, name)?),
+            tag: None,
+        }),
+        Some(Property::Tag(word, suffix)) => Ok(Properties {
+            anchor: None,
+            tag: Some(tag(alloc, word, suffix)?),
+        }),
+    }
+}
+
+const NO_PROPERTIES: Properties = Properties {
+    anchor: None,
+    tag: None,
+};
+
+fn scalar(
+    alloc: Global,
+    property: Option<Property>,
+    style: ScalarStyle,
+    text: &str,
+) -> Result<Node, AllocError> {
+    let properties = properties(alloc, property)?;
+    Ok(Node::Scalar(properties, style, String::from_str(alloc, text)?))
+}
+
+fn node(alloc: Global, leaf: Leaf) -> Result<Node, AllocError> {
+    match leaf {
+        Leaf::Alias(name) => Ok(Node::Alias(String::from_str(alloc, name)?)),
+        Leaf::Scalar(property, style, text) => scalar(alloc, property, style, text),
+    }
+}
+
+fn sequence(alloc: Global, leaves: &[Leaf]) -> Result<Node, AllocError> {
+    let mut nodes = Vec::new(alloc);
+    for leaf in leaves {
+        nodes.push(node(alloc, *leaf)?)?;
+    }
+    Ok(Node::Seq(NO_PROPERTIES, nodes))
+}
+
+fn pair(alloc: Global, key: Leaf, leaves: &[Leaf]) -> Result<(Node, Node), AllocError> {
+    let key = node(alloc, key)?;
+    Ok((key, sequence(alloc, leaves)?))
+}
+
+fn mapping(alloc: Global, key: Leaf, leaves: &[Leaf]) -> Result<Node, AllocError> {
+    let mut pairs = Vec::new(alloc);
+    pairs.push(pair(alloc, key, leaves)?)?;
+    Ok(Node::Map(NO_PROPERTIES, pairs))
+}
+
+fn root_node(alloc: Global, root: Root) -> Result<Node, AllocError> {
+    match root {
+        Root::Leaf(leaf) => node(alloc, leaf),
+        Root::Sequence(leaves) => sequence(alloc, leaves),
+        Root::Mapping(key, leaves) => mapping(alloc, key, leaves),
+    }
+}
+
+fn directive(alloc: Global, word: &str, prefix: &str) -> Result<Directive, AllocError> {
+    let prefix = String::from_str(alloc, prefix)?;
+    Ok(Directive::TagPrefix(handle(alloc, Some(word))?, prefix))
+}
+
+fn directives(alloc: Global, declared: Option<(&str, &str)>) -> Result<Vec<Directive>, AllocError> {
+    let mut directives = Vec::new(alloc);
+    if let Some((word, prefix)) = declared {
+        directives.push(directive(alloc, word, prefix)?)?;
+    }
+    Ok(directives)
+}
+
+fn document(alloc: Global, entry: &Entry) -> Result<Document, AllocError> {
+    let directives = directives(alloc, entry.declared)?;
+    Ok(Document {
+        explicit: entry.explicit,
+        directives,
+        node: root_node(alloc, entry.root)?,
     })
 }
 
-fn plain(alloc: Global, properties: Properties, text: &str) -> Result<Node, AllocError> {
-    let text = String::from_str(alloc, text)?;
-    Ok(Node::Scalar(properties, ScalarStyle::Plain, text))
-}
-
-fn alias(alloc: Global, name: &str) -> Result<Node, AllocError> {
-    Ok(Node::Alias(String::from_str(alloc, name)?))
-}
-
-fn bare(alloc: Global, node: Node) -> Result<Vec<Document>, AllocError> {
-    let document = Document {
-        explicit: false,
-        directives: Vec::new(alloc),
-        node,
-    };
-    Ok(vec![in alloc; document]?)
-}
-
-fn named(alloc: Global) -> Result<Handle, AllocError> {
-    Ok(Handle::Named(String::from_str(alloc, "prefix")?))
-}
-
-fn push_number(out: &mut String, number: usize) -> Result<(), AllocError> {
-    let shown = number.to_string(*out.allocator())?;
-    out.push_str(shown.as_str())
-}
-
-fn push_tag(out: &mut String, id: usize, tag: &Option<Tag>) -> Result<(), AllocError> {
-    if id > 0 {
-        out.push_str(" &")?;
-        push_number(out, id)?;
+fn forest(alloc: Global, entries: &[Entry]) -> Result<Vec<Document>, AllocError> {
+    let mut documents = Vec::new(alloc);
+    for entry in entries {
+        documents.push(document(alloc, entry)?)?;
     }
-    if let Some(tag) = tag {
-        out.push_str(" <")?;
-        out.push_str(tag.handle.as_str())?;
-        out.push_str(tag.suffix.as_str())?;
-        out.push('>')?;
-    }
+    Ok(documents)
+}
+
+// The events of a forest as they print, `None` where it has none.
+fn printed(alloc: Global, forest: &[Document], keep: bool) -> Result<String, AllocError> {
+    let events = forest_events(alloc, forest, keep)?;
+    format!(in alloc; "{events:?}")
+}
+
+// The same of the forest of a table.
+fn told(alloc: Global, entries: &[Entry], keep: bool) -> Result<String, AllocError> {
+    let forest = forest(alloc, entries)?;
+    printed(alloc, forest.as_slice(), keep)
+}
+
+// The forest of a table has these events, where prefixes are kept for later documents or aren't.
+fn expect(
+    rt: &impl Abort,
+    alloc: Global,
+    entries: &[Entry],
+    keep: bool,
+    events: &str,
+) -> Result<(), AllocError> {
+    let text = told(alloc, entries, keep)?;
+    assert_eq!(rt; text.as_str(), events);
     Ok(())
 }
 
-fn push_event(out: &mut String, event: &Event) -> Result<(), AllocError> {
-    match event {
-        Event::Nothing => {}
-        Event::StreamStart => out.push_str("+STR")?,
-        Event::StreamEnd => out.push_str(" -STR")?,
-        Event::DocumentStart(explicit) => out.push_str(if *explicit {
-            " +DOC---"
-        } else {
-            " +DOC"
-        })?,
-        Event::DocumentEnd => out.push_str(" -DOC")?,
-        Event::Alias(id) => {
-            out.push_str(" =ALI *")?;
-            push_number(out, *id)?;
-        }
-        Event::Scalar(text, style, id, tag) => {
-            out.push_str(" =VAL")?;
-            push_tag(out, *id, tag)?;
-            out.push_str(if *style == ScalarStyle::Plain {
-                " :"
-            } else {
-                " \""
-            })?;
-            out.push_str(text.as_str())?;
-        }
-        Event::SequenceStart(id, tag) => {
-            out.push_str(" +SEQ")?;
-            push_tag(out, *id, tag)?;
-        }
-        Event::SequenceEnd => out.push_str(" -SEQ")?,
-        Event::MappingStart(id, tag) => {
-            out.push_str(" +MAP")?;
-            push_tag(out, *id, tag)?;
-        }
-        Event::MappingEnd => out.push_str(" -MAP")?,
-    }
-    Ok(())
-}
+const PLAIN: ScalarStyle = ScalarStyle::Plain;
 
-/// The events of a forest in one line, `none` where it has none.
-fn shown(alloc: Global, forest: &[Document], keep: bool) -> Result<String, AllocError> {
-    let mut out = String::new(alloc);
-    match forest_events(alloc, forest, keep)? {
-        Some(events) => {
-            for event in events.iter() {
-                push_event(&mut out, event)?;
-            }
-        }
-        None => out.push_str("none")?,
-    }
-    Ok(out)
-}
+const PAIR: &[Entry] = &[Entry {
+    explicit: false,
+    declared: None,
+    root: Root::Mapping(
+        Leaf::Scalar(None, ScalarStyle::DoubleQuoted, "a"),
+        &[
+            Leaf::Scalar(None, PLAIN, "1"),
+            Leaf::Scalar(None, PLAIN, "true"),
+        ],
+    ),
+}];
 
 #[test]
 fn tells_nodes_in_preorder(rt: HostRuntime) -> Result<(), Fail> {
-    let alloc = rt.alloc();
-    let name = Node::Scalar(
-        properties(),
-        ScalarStyle::DoubleQuoted,
-        String::from_str(alloc, "a")?,
-    );
-    let values = vec![in alloc;
-        plain(alloc, properties(), "1")?,
-        plain(alloc, properties(), "true")?,
-    ]?;
-    let pairs = vec![in alloc; (name, Node::Seq(properties(), values))]?;
-    let forest = bare(alloc, Node::Map(properties(), pairs))?;
-    assert_eq!(rt;
-        shown(alloc, forest.as_slice(), false)?.as_str(),
-        "+STR +DOC +MAP =VAL \"a +SEQ =VAL :1 =VAL :true -SEQ -MAP -DOC -STR"
-    );
+    let events = "Some([StreamStart, DocumentStart(false), MappingStart(0, None), \
+        Scalar(\"a\", DoubleQuoted, 0, None), SequenceStart(0, None), Scalar(\"1\", Plain, 0, None), \
+        Scalar(\"true\", Plain, 0, None), SequenceEnd, MappingEnd, DocumentEnd, StreamEnd])";
+    expect(&rt, rt.alloc(), PAIR, false, events)?;
     Ok(())
 }
+
+const REPEATED_ANCHOR: &[Entry] = &[Entry {
+    explicit: false,
+    declared: None,
+    root: Root::Sequence(&[
+        Leaf::Scalar(Some(Property::Anchor("a")), PLAIN, "x"),
+        Leaf::Alias("a"),
+        Leaf::Scalar(Some(Property::Anchor("a")), PLAIN, "y"),
+        Leaf::Alias("a"),
+    ]),
+}];
+
+const ALIAS_OF_ANOTHER_DOCUMENT: &[Entry] = &[
+    Entry {
+        explicit: false,
+        declared: None,
+        root: Root::Leaf(Leaf::Scalar(Some(Property::Anchor("a")), PLAIN, "x")),
+    },
+    Entry {
+        explicit: true,
+        declared: None,
+        root: Root::Leaf(Leaf::Alias("a")),
+    },
+];
 
 #[test]
 fn aliases_have_the_latest_anchor(rt: HostRuntime) -> Result<(), Fail> {
-    let alloc = rt.alloc();
-    let nodes = vec![in alloc;
-        plain(alloc, anchored(alloc, "a")?, "x")?,
-        alias(alloc, "a")?,
-        plain(alloc, anchored(alloc, "a")?, "y")?,
-        alias(alloc, "a")?,
-    ]?;
-    let forest = bare(alloc, Node::Seq(properties(), nodes))?;
-    assert_eq!(rt;
-        shown(alloc, forest.as_slice(), false)?.as_str(),
-        "+STR +DOC +SEQ =VAL &1 :x =ALI *1 =VAL &2 :y =ALI *2 -SEQ -DOC -STR"
-    );
-    let mut forest = bare(alloc, plain(alloc, anchored(alloc, "a")?, "x")?)?;
-    forest.push(Document {
-        explicit: true,
-        directives: Vec::new(alloc),
-        node: alias(alloc, "a")?,
-    })?;
-    assert_eq!(rt; shown(alloc, forest.as_slice(), false)?.as_str(), "none");
+    let events = "Some([StreamStart, DocumentStart(false), SequenceStart(0, None), \
+        Scalar(\"x\", Plain, 1, None), Alias(1), Scalar(\"y\", Plain, 2, None), Alias(2), \
+        SequenceEnd, DocumentEnd, StreamEnd])";
+    expect(&rt, rt.alloc(), REPEATED_ANCHOR, false, events)?;
+    expect(&rt, rt.alloc(), ALIAS_OF_ANOTHER_DOCUMENT, false, "None")?;
     Ok(())
 }
+
+const PRIMARY_HANDLE: &[Entry] = &[Entry {
+    explicit: false,
+    declared: None,
+    root: Root::Leaf(Leaf::Scalar(Some(Property::Tag(None, "\u{e9}")), PLAIN, "x")),
+}];
 
 #[test]
 fn primary_handles_stand_for_themselves(rt: HostRuntime) -> Result<(), Fail> {
-    let alloc = rt.alloc();
-    let forest = bare(
-        alloc,
-        plain(alloc, tagged(alloc, Handle::Primary, "\u{e9}")?, "x")?,
-    )?;
-    assert_eq!(rt;
-        shown(alloc, forest.as_slice(), false)?.as_str(),
-        "+STR +DOC =VAL <!\u{e9}> :x -DOC -STR"
-    );
+    let events = "Some([StreamStart, DocumentStart(false), \
+        Scalar(\"x\", Plain, 0, Some(Tag { handle: \"!\", suffix: \"\u{e9}\" })), DocumentEnd, StreamEnd])";
+    expect(&rt, rt.alloc(), PRIMARY_HANDLE, false, events)?;
     Ok(())
 }
 
+const HANDLE_OF_THE_FIRST_DOCUMENT: &[Entry] = &[
+    Entry {
+        explicit: true,
+        declared: Some(("prefix", "tag:example.com,2011:")),
+        root: Root::Leaf(Leaf::Scalar(Some(Property::Tag(Some("prefix"), "A")), PLAIN, "a")),
+    },
+    Entry {
+        explicit: true,
+        declared: None,
+        root: Root::Leaf(Leaf::Scalar(Some(Property::Tag(Some("prefix"), "B")), PLAIN, "c")),
+    },
+];
+
 #[test]
 fn prefixes_hold_for_later_documents_where_kept(rt: HostRuntime) -> Result<(), Fail> {
-    let alloc = rt.alloc();
-    let prefix = String::from_str(alloc, "tag:example.com,2011:")?;
-    let mut forest = vec![in alloc;
-        Document {
-            explicit: true,
-            directives: vec![in alloc; Directive::TagPrefix(named(alloc)?, prefix)]?,
-            node: plain(alloc, tagged(alloc, named(alloc)?, "A")?, "a")?,
-        },
-    ]?;
-    forest.push(Document {
-        explicit: true,
-        directives: Vec::new(alloc),
-        node: plain(alloc, tagged(alloc, named(alloc)?, "B")?, "c")?,
-    })?;
-    assert_eq!(rt; shown(alloc, forest.as_slice(), false)?.as_str(), "none");
-    assert_eq!(rt;
-        shown(alloc, forest.as_slice(), true)?.as_str(),
-        "+STR +DOC--- =VAL <tag:example.com,2011:A> :a -DOC +DOC--- =VAL <tag:example.com,2011:B> :c -DOC -STR"
-    );
+    let events = "Some([StreamStart, DocumentStart(true), \
+        Scalar(\"a\", Plain, 0, Some(Tag { handle: \"tag:example.com,2011:\", suffix: \"A\" })), \
+        DocumentEnd, DocumentStart(true), \
+        Scalar(\"c\", Plain, 0, Some(Tag { handle: \"tag:example.com,2011:\", suffix: \"B\" })), \
+        DocumentEnd, StreamEnd])";
+    expect(&rt, rt.alloc(), HANDLE_OF_THE_FIRST_DOCUMENT, false, "None")?;
+    expect(&rt, rt.alloc(), HANDLE_OF_THE_FIRST_DOCUMENT, true, events)?;
     Ok(())
 }
+
+fn resolved_tag(alloc: Global, handle: &str, suffix: &str) -> Result<Tag, AllocError> {
+    let handle = String::from_str(alloc, handle)?;
+    Ok(Tag {
+        handle,
+        suffix: String::from_str(alloc, suffix)?,
+    })
+}
+
+// A tag prints this, and is of YAML's core schema or isn't.
+fn expect_tag(
+    rt: &impl Abort,
+    alloc: Global,
+    (handle, suffix): (&str, &str),
+    text: &str,
+    is_core: bool,
+) -> Result<(), AllocError> {
+    let tag = resolved_tag(alloc, handle, suffix)?;
+    assert_eq!(rt; tag.is_yaml_core_schema(), is_core);
+    let printed = tag.to_string(alloc)?;
+    assert_eq!(rt; printed.as_str(), text);
+    Ok(())
+}
+
+fn is_less(
+    alloc: Global,
+    (handle, suffix): (&str, &str),
+    other: (&str, &str),
+) -> Result<bool, AllocError> {
+    let tag = resolved_tag(alloc, handle, suffix)?;
+    Ok(tag < resolved_tag(alloc, other.0, other.1)?)
+}
+
+fn has_copy(event: &Event<'_>) -> Result<bool, AllocError> {
+    let copy = event.try_clone()?;
+    Ok(copy == *event)
+}
+
+const LOCAL: (&str, &str) = ("!", "foo");
+
+const CORE: (&str, &str) = ("tag:yaml.org,2002:", "str");
 
 #[test]
 fn prints_tags(rt: HostRuntime) -> Result<(), Fail> {
     let alloc = rt.alloc();
-    let local = Tag {
-        handle: String::from_str(alloc, "!")?,
-        suffix: String::from_str(alloc, "foo")?,
-    };
-    assert_eq!(rt; local.to_string(alloc)?.as_str(), "!foo");
-    assert!(rt; !local.is_yaml_core_schema());
-    let core = Tag {
-        handle: String::from_str(alloc, "tag:yaml.org,2002:")?,
-        suffix: String::from_str(alloc, "str")?,
-    };
-    assert_eq!(rt; core.to_string(alloc)?.as_str(), "tag:yaml.org,2002:!str");
-    assert!(rt; core.is_yaml_core_schema());
-    assert!(rt; local < core);
-    let event: Event<'static> = Event::SequenceStart(1, Some(core));
-    assert!(rt; event.try_clone()? == event);
+    expect_tag(&rt, alloc, LOCAL, "!foo", false)?;
+    expect_tag(&rt, alloc, CORE, "tag:yaml.org,2002:!str", true)?;
+    assert!(rt; is_less(alloc, LOCAL, CORE)?);
+    Ok(())
+}
+
+#[test]
+fn events_have_copies(rt: HostRuntime) -> Result<(), Fail> {
+    let tag = resolved_tag(rt.alloc(), CORE.0, CORE.1)?;
+    let event = Event::SequenceStart(1, Some(tag));
+    assert!(rt; has_copy(&event)?);
     Ok(())
 }

@@ -5,7 +5,6 @@ ghost use Rattle.std.specs.Prelude.{◌≡◌};
 use crate::helpers::{expect, remains};
 use saphyr_input::StrInput;
 use saphyr_input::input::{Input, SkipTabs};
-use std::alloc::AllocError;
 
 // The text with four places loaded.
 fn four_loaded<'a>(text: &'a str) -> StrInput<'a>
@@ -19,7 +18,8 @@ fn four_loaded<'a>(text: &'a str) -> StrInput<'a>
 // Whether the characters of an input up to a space are so many and go behind a text, and these remain.
 fn fetches_word<T: Input + Drop>(out: &mut String, mut input: T, count: usize, rest: &str) -> bool {
     let fetched = input.fetch_while_is_yaml_non_space(out);
-    matches!(fetched, Ok(n) if n == count) && remains(input, rest)
+    let is_left = remains(input, rest);
+    matches!(fetched, Ok(n) if n == count) && is_left
 }
 
 // The same of the letters, digits, `_` and `-` that an input begins with.
@@ -30,18 +30,21 @@ fn fetches_letters<T: Input + Drop>(
     rest: &str,
 ) -> bool {
     let fetched = input.fetch_while_is_alpha(out);
-    matches!(fetched, Ok(n) if n == count) && remains(input, rest)
+    let is_left = remains(input, rest);
+    matches!(fetched, Ok(n) if n == count) && is_left
+}
+
+// Whether both readings stand behind each other in the text that is made.
+fn appends(out: &mut String) -> bool {
+    fetches_word(out, StrInput::new("éa b"), 2, " b")
+        && fetches_letters(out, StrInput::new("a_1-é"), 4, "é")
+        && out.as_str() == "éaa_1-"
 }
 
 #[test]
-fn counts_and_appends_characters(rt: HostRuntime) -> Result<(), AllocError> {
-    let mut out = String::from_str(rt.alloc(), "<")?;
-    let word = StrInput::new("éa b");
-    expect(&rt, fetches_word(&mut out, word, 2, " b"), "éa b");
-    let letters = StrInput::new("a_1-é");
-    expect(&rt, fetches_letters(&mut out, letters, 4, "é"), "a_1-é");
-    expect(&rt, out.as_str() == "<éaa_1-", "<éaa_1-");
-    Ok(())
+fn counts_and_appends_characters(rt: HostRuntime) {
+    let mut out = String::new(rt.alloc());
+    expect(&rt, appends(&mut out), "éaa_1-");
 }
 
 // What is skipped of an input: how many characters, what was met, and what remains.
@@ -52,7 +55,8 @@ fn skips<T: Input + Drop>(mut input: T, tabs: SkipTabs, (count, answer, rest): S
         SkipTabs::Yes => input.skip_ws_to_eol(SkipTabs::Yes),
         _ => input.skip_ws_to_eol(SkipTabs::No),
     };
-    skipped == count && met == answer && remains(input, rest)
+    let is_left = remains(input, rest);
+    skipped == count && met == answer && is_left
 }
 
 #[test]
@@ -114,10 +118,12 @@ fn tells_what_comes_next(rt: HostRuntime) {
 fn takes_characters_off(rt: HostRuntime) {
     let text = "éa-  #é\nx";
     let mut input = StrInput::new(text);
-    expect(&rt, input.buf_is_empty() && input.bufmaxlen() == 128, text);
+    expect(&rt, input.buf_is_empty(), text);
+    expect(&rt, input.bufmaxlen() == 128, text);
     expect(&rt, input.raw_read_ch() == 'é', text);
     expect(&rt, input.raw_read_non_breakz_ch() == Some('a'), text);
-    expect(&rt, input.look_ch() == '-' && input.buflen() == 1, text);
+    expect(&rt, input.look_ch() == '-', text);
+    expect(&rt, input.buflen() == 1, text);
     input.skip();
     expect(&rt, input.skip_while_blank() == 2, "  #é\nx");
     expect(&rt, input.skip_while_non_breakz() == 2, "#é\nx");

@@ -1,167 +1,120 @@
-//! Directives, the places behind them, and their faults.
+//! Directives, the places behind them, and their faults (YAML 1.2.2, 6.8).
 
-use crate::helpers::{Place, behind_blanks, expect, is_refused, marker};
-use saphyr_input::input::Input;
-use saphyr_scalar::{Directive, DirectiveLine, FaultText, Reader, Stop};
-use std::alloc::Global;
-
-// What a directive says, in texts of the tests.
-#[derive(Clone, Copy)]
-enum Said<'a> {
-    Version(u32, u32),
-    TagPrefix(&'a str, &'a str),
-    Reserved(&'a str),
-}
-
-fn says(directive: &Directive, said: Said) -> bool {
-    match (directive, said) {
-        (Directive::Version(major, minor), Said::Version(first, second)) => {
-            *major == first && *minor == second
-        }
-        (Directive::TagPrefix(handle, prefix), Said::TagPrefix(first, second)) => {
-            handle.as_str() == first && prefix.as_str() == second
-        }
-        (Directive::Reserved(name), Said::Reserved(first)) => name.as_str() == first,
-        _ => false,
-    }
-}
-
-// The directive that a reader stands in front of. Where there is no `%` it is as if memory ran out.
-fn read<T: Input>(alloc: Global, reader: &mut Reader<T>) -> Result<DirectiveLine, Stop> {
-    if reader.look() == '%' {
-        reader.read_directive(alloc)
-    } else {
-        Err(Stop::OutOfMemory)
-    }
-}
-
-// Whether a text reads as a directive that says this and ends so far in its line, and whose line ends there.
-fn reads(alloc: Global, text: &str, said: Said, end: usize, behind: Place) -> bool {
-    let mut reader = behind_blanks(text);
-    let is_read = match read(alloc, &mut reader) {
-        Ok(line) => says(&line.directive, said) && line.end == marker((end, 1, end)),
-        Err(_) => false,
-    };
-    is_read && reader.mark() == marker(behind) && reader.blank_so_far() == (behind.2 == 0)
-}
+use crate::told::{Row, expect_told};
 
 #[test]
 fn reads_versions(rt: HostRuntime) {
-    const ROWS: &[(&str, u32, u32, usize, Place)] = &[
-        ("%YAML 1.2\n---", 1, 2, 9, (10, 2, 0)),
-        ("%YAML 1.2", 1, 2, 9, (9, 1, 9)),
-        ("%YAML \t10.03 # c\r\n#", 10, 3, 12, (18, 2, 0)),
+    const ROWS: &[Row] = &[
+        (0, "%YAML 1.2\n---", "YAML 1.2 @ 9,1,9 > 10,2,0 blank"),
+        (0, "%YAML 1.2", "YAML 1.2 @ 9,1,9 > 9,1,9"),
         (
-            "%YAML 123456789.999999999 \t\r---",
-            123_456_789,
-            999_999_999,
-            25,
-            (28, 2, 0),
+            0,
+            "%YAML \t10.03 # c\r\n#",
+            "YAML 10.3 @ 12,1,12 > 18,2,0 blank",
         ),
-        ("%YAML 1.2\0\n", 1, 2, 9, (9, 1, 9)),
+        (
+            0,
+            "%YAML 123456789.999999999 \t\r---",
+            "YAML 123456789.999999999 @ 25,1,25 > 28,2,0 blank",
+        ),
+        (0, "%YAML 1.2\0\n", "YAML 1.2 @ 9,1,9 > 9,1,9"),
     ];
-    for &(text, major, minor, end, behind) in ROWS {
-        let said = Said::Version(major, minor);
-        expect(&rt, reads(rt.alloc(), text, said, end, behind), text);
-    }
+    expect_told(&rt, rt.alloc(), false, ROWS);
 }
 
 #[test]
 fn reads_tag_prefixes(rt: HostRuntime) {
-    const ROWS: &[(&str, &str, &str, usize, Place)] = &[
+    const ROWS: &[Row] = &[
         (
+            0,
             "%TAG !prefix! tag:example.com,2011:\n--- !prefix!A",
-            "!prefix!",
-            "tag:example.com,2011:",
-            35,
-            (36, 2, 0),
+            "TAG !prefix! tag:example.com,2011: @ 35,1,35 > 36,2,0 blank",
         ),
-        ("%TAG ! tag:x,2000:\n", "!", "tag:x,2000:", 18, (19, 2, 0)),
         (
+            0,
+            "%TAG ! tag:x,2000:\n",
+            "TAG ! tag:x,2000: @ 18,1,18 > 19,2,0 blank",
+        ),
+        (
+            0,
             "%TAG !e! tag:a,2000:\n%TAG",
-            "!e!",
-            "tag:a,2000:",
-            20,
-            (21, 2, 0),
+            "TAG !e! tag:a,2000: @ 20,1,20 > 21,2,0 blank",
         ),
         (
+            0,
             "%TAG \t!!  !foo%C3%A9! # c",
-            "!!",
-            "!fooé!",
-            21,
-            (25, 1, 25),
+            "TAG !! !fooé! @ 21,1,21 > 25,1,25",
         ),
-        ("%TAG !e!tag:x#c\r\n", "!e!", "tag:x#c", 15, (17, 2, 0)),
-        ("%TAG ! %2C,[\n", "!", ",,[", 12, (13, 2, 0)),
+        (
+            0,
+            "%TAG !e!tag:x#c\r\n",
+            "TAG !e! tag:x#c @ 15,1,15 > 17,2,0 blank",
+        ),
+        (0, "%TAG ! %2C,[\n", "TAG ! ,,[ @ 12,1,12 > 13,2,0 blank"),
     ];
-    for &(text, handle, prefix, end, behind) in ROWS {
-        let said = Said::TagPrefix(handle, prefix);
-        expect(&rt, reads(rt.alloc(), text, said, end, behind), text);
-    }
+    expect_told(&rt, rt.alloc(), false, ROWS);
 }
 
 #[test]
 fn passes_reserved_directives(rt: HostRuntime) {
-    const ROWS: &[(&str, &str, usize, Place)] = &[
-        ("%FOO bar # baz\n", "FOO", 14, (15, 2, 0)),
-        ("%YAML1.2\n", "YAML1.2", 8, (9, 2, 0)),
-        ("%TAGS\t", "TAGS", 6, (6, 1, 6)),
-        ("%yaml#1,[%é\r\n", "yaml#1,[%é", 11, (13, 2, 0)),
+    const ROWS: &[Row] = &[
+        (0, "%FOO bar # baz\n", "FOO @ 14,1,14 > 15,2,0 blank"),
+        (0, "%YAML1.2\n", "YAML1.2 @ 8,1,8 > 9,2,0 blank"),
+        (0, "%TAGS\t", "TAGS @ 6,1,6 > 6,1,6"),
+        (0, "%yaml#1,[%é\r\n", "yaml#1,[%é @ 11,1,11 > 13,2,0 blank"),
     ];
-    for &(text, name, end, behind) in ROWS {
-        let said = Said::Reserved(name);
-        expect(&rt, reads(rt.alloc(), text, said, end, behind), text);
-    }
+    expect_told(&rt, rt.alloc(), false, ROWS);
 }
 
 #[test]
 fn refuses(rt: HostRuntime) {
-    const ROWS: &[(&str, FaultText, usize)] = &[
-        (" \t% x", FaultText::DirectiveNameExpected, 3),
-        (" \t%", FaultText::DirectiveNameExpected, 3),
-        (" \t%\u{FEFF}a", FaultText::DirectiveNameExpected, 3),
-        (" \t%a\u{FEFF}", FaultText::DirectiveNameCharacter, 3),
-        (" \t%YAML", FaultText::VersionNumberExpected, 2),
-        (" \t%YAML x", FaultText::VersionNumberExpected, 2),
-        (" \t%YAML 1.", FaultText::VersionNumberExpected, 2),
-        (" \t%YAML .2", FaultText::VersionNumberExpected, 2),
-        (" \t%YAML 1", FaultText::VersionDigitOrDotExpected, 2),
-        (" \t%YAML 1,2", FaultText::VersionDigitOrDotExpected, 2),
-        (" \t%YAML 1234567890.1", FaultText::VersionNumberTooLong, 2),
-        (" \t%YAML 1.0000000001", FaultText::VersionNumberTooLong, 2),
-        (" \t%YAML 1.2 x", FaultText::DirectiveEndExpected, 2),
-        (" \t%YAML 1.2.3", FaultText::DirectiveEndExpected, 2),
-        (" \t%YAML 1.2#c", FaultText::CommentWithoutWhitespace, 11),
+    const ROWS: &[Row] = &[
+        (0, " \t% x", "! DirectiveNameExpected @ 3,1,3"),
+        (0, " \t%", "! DirectiveNameExpected @ 3,1,3"),
+        (0, " \t%\u{feff}a", "! DirectiveNameExpected @ 3,1,3"),
+        (0, " \t%a\u{feff}", "! DirectiveNameCharacter @ 3,1,3"),
+        (0, " \t%YAML", "! VersionNumberExpected @ 2,1,2"),
+        (0, " \t%YAML x", "! VersionNumberExpected @ 2,1,2"),
+        (0, " \t%YAML 1.", "! VersionNumberExpected @ 2,1,2"),
+        (0, " \t%YAML .2", "! VersionNumberExpected @ 2,1,2"),
+        (0, " \t%YAML 1", "! VersionDigitOrDotExpected @ 2,1,2"),
+        (0, " \t%YAML 1,2", "! VersionDigitOrDotExpected @ 2,1,2"),
+        (0, " \t%YAML 1234567890.1", "! VersionNumberTooLong @ 2,1,2"),
+        (0, " \t%YAML 1.0000000001", "! VersionNumberTooLong @ 2,1,2"),
+        (0, " \t%YAML 1.2 x", "! DirectiveEndExpected @ 2,1,2"),
+        (0, " \t%YAML 1.2.3", "! DirectiveEndExpected @ 2,1,2"),
+        (0, " \t%YAML 1.2#c", "! CommentWithoutWhitespace @ 11,1,11"),
         (
-            " \t%YAML 1.2 \u{FEFF}",
-            FaultText::MisplacedByteOrderMark,
-            12,
+            0,
+            " \t%YAML 1.2 \u{feff}",
+            "! MisplacedByteOrderMark @ 12,1,12",
         ),
-        (" \t%FOO \u{FEFF}", FaultText::MisplacedByteOrderMark, 7),
-        (" \t%FOO # \u{FEFF}", FaultText::MisplacedByteOrderMark, 9),
-        (" \t%TAG", FaultText::TagHandleStartExpected, 2),
-        (" \t%TAG x", FaultText::TagHandleStartExpected, 2),
+        (0, " \t%FOO \u{feff}", "! MisplacedByteOrderMark @ 7,1,7"),
+        (0, " \t%FOO # \u{feff}", "! MisplacedByteOrderMark @ 9,1,9"),
+        (0, " \t%TAG", "! TagHandleStartExpected @ 2,1,2"),
+        (0, " \t%TAG x", "! TagHandleStartExpected @ 2,1,2"),
         (
+            0,
             " \t%TAG !e tag:x",
-            FaultText::TagDirectiveHandleEndExpected,
-            2,
+            "! TagDirectiveHandleEndExpected @ 2,1,2",
         ),
-        (" \t%TAG !\n", FaultText::TagPrefixCharacter, 2),
-        (" \t%TAG ! ,x", FaultText::TagPrefixCharacter, 2),
-        (" \t%TAG !! [", FaultText::TagPrefixCharacter, 2),
-        (" \t%TAG ! é", FaultText::TagPrefixCharacter, 2),
-        (" \t%TAG ! %zz", FaultText::TagEscape, 2),
-        (" \t%TAG ! a%C3 x", FaultText::TagEscape, 2),
-        (" \t%TAG ! %80", FaultText::TagEscapeLeadingByte, 2),
-        (" \t%TAG ! a%C3%41", FaultText::TagEscapeTrailingByte, 2),
-        (" \t%TAG ! %C0%80", FaultText::TagEscapeCodePoint, 2),
-        (" \t%TAG ! a%ED%A0%80", FaultText::TagEscapeCodePoint, 2),
-        (" \t%TAG ! a\"b", FaultText::TagDirectiveEndExpected, 2),
-        (" \t%TAG ! a\u{FEFF}", FaultText::TagDirectiveEndExpected, 2),
-        (" \t%TAG ! tag:x y", FaultText::DirectiveEndExpected, 2),
+        (0, " \t%TAG !\n", "! TagPrefixCharacter @ 2,1,2"),
+        (0, " \t%TAG ! ,x", "! TagPrefixCharacter @ 2,1,2"),
+        (0, " \t%TAG !! [", "! TagPrefixCharacter @ 2,1,2"),
+        (0, " \t%TAG ! é", "! TagPrefixCharacter @ 2,1,2"),
+        (0, " \t%TAG ! %zz", "! TagEscape @ 2,1,2"),
+        (0, " \t%TAG ! a%C3 x", "! TagEscape @ 2,1,2"),
+        (0, " \t%TAG ! %80", "! TagEscapeLeadingByte @ 2,1,2"),
+        (0, " \t%TAG ! a%C3%41", "! TagEscapeTrailingByte @ 2,1,2"),
+        (0, " \t%TAG ! %C0%80", "! TagEscapeCodePoint @ 2,1,2"),
+        (0, " \t%TAG ! a%ED%A0%80", "! TagEscapeCodePoint @ 2,1,2"),
+        (0, " \t%TAG ! a\"b", "! TagDirectiveEndExpected @ 2,1,2"),
+        (
+            0,
+            " \t%TAG ! a\u{feff}",
+            "! TagDirectiveEndExpected @ 2,1,2",
+        ),
+        (0, " \t%TAG ! tag:x y", "! DirectiveEndExpected @ 2,1,2"),
     ];
-    for &(text, fault, place) in ROWS {
-        let read = read(rt.alloc(), &mut behind_blanks(text));
-        expect(&rt, is_refused(read, fault, (place, 1, place)), text);
-    }
+    expect_told(&rt, rt.alloc(), false, ROWS);
 }

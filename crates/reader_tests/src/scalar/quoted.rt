@@ -1,195 +1,137 @@
-//! Quoted scalars, their ends and their faults.
+//! Quoted scalars, their ends and their faults (YAML 1.2.2, 7.3.1 and 7.3.2).
 
-use crate::helpers::{Place, expect, is_refused, marker};
-use saphyr_input::StrInput;
-use saphyr_input::input::Input;
-use saphyr_scalar::{FaultText, Reader, Stop};
-use std::alloc::Global;
-
-const START: Place = (0, 1, 0);
-
-// The quoted scalar that a reader stands in front of. Without a quote it is as if memory ran out.
-fn read<T: Input>(alloc: Global, reader: &mut Reader<T>, indent: usize) -> Result<String, Stop> {
-    match reader.look() {
-        '"' => reader.read_double_quoted(alloc, indent),
-        '\'' => reader.read_single_quoted(alloc, indent),
-        _ => Err(Stop::OutOfMemory),
-    }
-}
-
-// Whether a text begins with a scalar of this value.
-fn reads(alloc: Global, text: &str, indent: usize, value: &str) -> bool {
-    match read(alloc, &mut Reader::new(StrInput::new(text)), indent) {
-        Ok(read) => read.as_str() == value,
-        Err(_) => false,
-    }
-}
-
-// Whether a text begins with a scalar that ends there.
-fn ends(alloc: Global, text: &str, end: Place) -> bool {
-    let mut reader = Reader::new(StrInput::new(text));
-    read(alloc, &mut reader, 0).is_ok() && reader.mark() == marker(end)
-}
-
-fn refuses(alloc: Global, text: &str, indent: usize, fault: FaultText, place: Place) -> bool {
-    let read = read(alloc, &mut Reader::new(StrInput::new(text)), indent);
-    is_refused(read, fault, place)
-}
+use crate::told::{Row, expect_told};
 
 #[test]
 fn reads_lines_of_double_quoted_scalars(rt: HostRuntime) {
-    const ROWS: &[(&str, &str)] = &[
-        ("\"a \\\n  b\n\n c\"", "a b\nc"),
-        ("\"a\r\nb\"", "a b"),
-        ("\"a\r\rb\"", "a\nb"),
-        ("\"a\n\r\nb\"", "a\nb"),
-        ("\"a \t\n \tb\"", "a b"),
-        ("\"a\n\n\n b\"", "a\n\nb"),
-        ("\"a\n \n\t\n b\"", "a\n\nb"),
-        ("\" a \"", " a "),
-        ("\" \n a\n \"", " a "),
-        ("\"a\\\n\n b\"", "a\nb"),
-        ("\"a\\\r\n\r\n b\"", "a\nb"),
-        ("\"a\\ \n\\ b\"", "a   b"),
-        ("\"a\n\\\nb\"", "a b"),
-        ("\"a\\\n\\\nb\"", "ab"),
-        ("\"\\\n\"", ""),
-        ("\"a\n---\"", "a ---"),
-        ("\"a\n --- b\"", "a --- b"),
-        ("\"a'b''c # d: e\"", "a'b''c # d: e"),
-        ("\"\\x41\\u00e9\\U0001F600\\n\"", "Aé😀\n"),
+    const ROWS: &[Row] = &[
+        (0, "\"a \\\n  b\n\n c\"", "a b\nc > 13,4,3"),
+        (0, "\"a\r\nb\"", "a b > 6,2,2"),
+        (0, "\"a\r\rb\"", "a\nb > 6,3,2"),
+        (0, "\"a\n\r\nb\"", "a\nb > 7,3,2"),
+        (0, "\"a \t\n \tb\"", "a b > 9,2,4"),
+        (0, "\"a\n\n\n b\"", "a\n\nb > 8,4,3"),
+        (0, "\"a\n \n\t\n b\"", "a\n\nb > 10,4,3"),
+        (0, "\" a \"", " a  > 5,1,5"),
+        (0, "\" \n a\n \"", " a  > 8,3,2"),
+        (0, "\"a\\\n\n b\"", "a\nb > 8,3,3"),
+        (0, "\"a\\\r\n\r\n b\"", "a\nb > 10,3,3"),
+        (0, "\"a\\ \n\\ b\"", "a   b > 9,2,4"),
+        (0, "\"a\n\\\nb\"", "a b > 7,3,2"),
+        (0, "\"a\\\n\\\nb\"", "ab > 8,3,2"),
+        (0, "\"\\\n\"", " > 4,2,1"),
+        (0, "\"a\n---\"", "a --- > 7,2,4"),
+        (0, "\"a\n --- b\"", "a --- b > 10,2,7"),
+        (0, "\"a'b''c # d: e\"", "a'b''c # d: e > 15,1,15"),
+        (0, "\"\\x41\\u00e9\\U0001F600\\n\"", "Aé😀\n > 24,1,24"),
     ];
-    for &(text, value) in ROWS {
-        expect(&rt, reads(rt.alloc(), text, 0, value), text);
-    }
+    expect_told(&rt, rt.alloc(), false, ROWS);
 }
 
 #[test]
 fn reads_single_quoted_scalars(rt: HostRuntime) {
-    const ROWS: &[(&str, &str)] = &[
-        ("'it''s'", "it's"),
-        ("''", ""),
-        ("''''", "'"),
-        ("''''''", "''"),
-        ("'a\\'", "a\\"),
-        ("'a\\\nb'", "a\\ b"),
-        ("'a\"b'", "a\"b"),
-        ("' a \n\n b '", " a\nb "),
-        ("'a ''\n ''b'", "a ' 'b"),
-        ("'a' 'b'", "a"),
+    const ROWS: &[Row] = &[
+        (0, "'it''s'", "it's > 7,1,7"),
+        (0, "''", " > 2,1,2"),
+        (0, "''''", "' > 4,1,4"),
+        (0, "''''''", "'' > 6,1,6"),
+        (0, "'a\\'", "a\\ > 4,1,4"),
+        (0, "'a\\\nb'", "a\\ b > 6,2,2"),
+        (0, "'a\"b'", "a\"b > 5,1,5"),
+        (0, "' a \n\n b '", " a\nb  > 10,3,4"),
+        (0, "'a ''\n ''b'", "a ' 'b > 11,2,5"),
+        (0, "'a' 'b'", "a > 3,1,3"),
     ];
-    for &(text, value) in ROWS {
-        expect(&rt, reads(rt.alloc(), text, 0, value), text);
-    }
+    expect_told(&rt, rt.alloc(), false, ROWS);
 }
 
 #[test]
 fn ends_right_behind_the_closing_quote(rt: HostRuntime) {
-    const ROWS: &[(&str, Place)] = &[
-        ("\"a \\\n  b\n\n c\"", (13, 4, 3)),
-        ("\"a\r\nb\" c", (6, 2, 2)),
-        ("\"\u{FEFF}\"", (3, 1, 3)),
-        ("\"a\n\u{FEFF}b\"", (6, 2, 3)),
-        ("'it''s' # c", (7, 1, 7)),
-        ("'a\n\n'", (5, 3, 1)),
+    const ROWS: &[Row] = &[
+        (0, "\"a\r\nb\" c", "a b > 6,2,2"),
+        (0, "\"\u{feff}\"", "\u{feff} > 3,1,3"),
+        (0, "\"a\n\u{feff}b\"", "a \u{feff}b > 6,2,3"),
+        (0, "'it''s' # c", "it's > 7,1,7"),
+        (0, "'a\n\n'", "a\n > 5,3,1"),
     ];
-    for &(text, end) in ROWS {
-        expect(&rt, ends(rt.alloc(), text, end), text);
-    }
+    expect_told(&rt, rt.alloc(), false, ROWS);
 }
 
 #[test]
 fn refuses_ends_inside_quotes(rt: HostRuntime) {
-    const ROWS: &[&str] = &[
-        "\"",
-        "\"a",
-        "\"a ",
-        "\"a\n",
-        "\"a\n ",
-        "\"a\\\n",
-        "\"a\0\"",
-        "\"a\n\0\"",
-        "'",
-        "'a''",
-        "'a\n",
+    const ROWS: &[Row] = &[
+        (3, "\"", "! EndInsideQuotes @ 0,1,0"),
+        (3, "\"a", "! EndInsideQuotes @ 0,1,0"),
+        (3, "\"a ", "! EndInsideQuotes @ 0,1,0"),
+        (3, "\"a\n", "! EndInsideQuotes @ 0,1,0"),
+        (3, "\"a\n ", "! EndInsideQuotes @ 0,1,0"),
+        (3, "\"a\\\n", "! EndInsideQuotes @ 0,1,0"),
+        (3, "\"a\0\"", "! EndInsideQuotes @ 0,1,0"),
+        (3, "\"a\n\0\"", "! EndInsideQuotes @ 0,1,0"),
+        (3, "'", "! EndInsideQuotes @ 0,1,0"),
+        (3, "'a''", "! EndInsideQuotes @ 0,1,0"),
+        (3, "'a\n", "! EndInsideQuotes @ 0,1,0"),
     ];
-    for &text in ROWS {
-        let holds = refuses(rt.alloc(), text, 3, FaultText::EndInsideQuotes, START);
-        expect(&rt, holds, text);
-    }
+    expect_told(&rt, rt.alloc(), false, ROWS);
 }
 
 #[test]
 fn refuses_markers_inside_quotes(rt: HostRuntime) {
-    const ROWS: &[&str] = &[
-        "\"a\n---\nb\"",
-        "\"a\n... b\"",
-        "\"a\n\n...",
-        "\"a\\\n---\0\"",
-        "'a\r---\tb'",
-    ];
-    for &text in ROWS {
-        let holds = refuses(
-            rt.alloc(),
-            text,
+    const ROWS: &[Row] = &[
+        (
             0,
-            FaultText::DocumentIndicatorInsideQuotes,
-            START,
-        );
-        expect(&rt, holds, text);
-    }
+            "\"a\n---\nb\"",
+            "! DocumentIndicatorInsideQuotes @ 0,1,0",
+        ),
+        (0, "\"a\n... b\"", "! DocumentIndicatorInsideQuotes @ 0,1,0"),
+        (0, "\"a\n\n...", "! DocumentIndicatorInsideQuotes @ 0,1,0"),
+        (
+            0,
+            "\"a\\\n---\0\"",
+            "! DocumentIndicatorInsideQuotes @ 0,1,0",
+        ),
+        (0, "'a\r---\tb'", "! DocumentIndicatorInsideQuotes @ 0,1,0"),
+    ];
+    expect_told(&rt, rt.alloc(), false, ROWS);
 }
 
 #[test]
 fn refuses_lines_left_of_the_indentation(rt: HostRuntime) {
-    const ROWS: &[(&str, usize, FaultText, Place)] = &[
-        ("\"a\nb\"", 1, FaultText::QuotedIndentation, START),
-        ("\"a\n b\"", 2, FaultText::QuotedIndentation, START),
-        ("\"a\n\"", 1, FaultText::QuotedIndentation, START),
-        ("\"a\\\n \"", 2, FaultText::QuotedIndentation, START),
-        ("'a\n\n b'", 2, FaultText::QuotedIndentation, START),
-        ("\"a\n\tb\"", 1, FaultText::TabAsIndentation, (3, 2, 0)),
-        (
-            "\"a\n \t\n   b\"",
-            2,
-            FaultText::TabAsIndentation,
-            (4, 2, 1),
-        ),
-        ("'a\n\n\tb'", 1, FaultText::TabAsIndentation, (4, 3, 0)),
+    const ROWS: &[Row] = &[
+        (1, "\"a\nb\"", "! QuotedIndentation @ 0,1,0"),
+        (2, "\"a\n b\"", "! QuotedIndentation @ 0,1,0"),
+        (1, "\"a\n\"", "! QuotedIndentation @ 0,1,0"),
+        (2, "\"a\\\n \"", "! QuotedIndentation @ 0,1,0"),
+        (2, "'a\n\n b'", "! QuotedIndentation @ 0,1,0"),
+        (1, "\"a\n\tb\"", "! TabAsIndentation @ 3,2,0"),
+        (2, "\"a\n \t\n   b\"", "! TabAsIndentation @ 4,2,1"),
+        (1, "'a\n\n\tb'", "! TabAsIndentation @ 4,3,0"),
     ];
-    for &(text, indent, fault, place) in ROWS {
-        let holds = refuses(rt.alloc(), text, indent, fault, place);
-        expect(&rt, holds, text);
-    }
+    expect_told(&rt, rt.alloc(), false, ROWS);
 }
 
 #[test]
 fn reads_lines_right_of_the_indentation(rt: HostRuntime) {
-    const ROWS: &[(&str, usize, &str)] = &[
-        ("\"a\nb\"", 0, "a b"),
-        ("\"a\n b\"", 1, "a b"),
-        ("\"a\n \tb\"", 1, "a b"),
-        ("\"a\n\n  b\"", 2, "a\nb"),
-        ("\"a\\\n\"", 8, "a"),
-        ("\"a\tb\"", 8, "a\tb"),
+    const ROWS: &[Row] = &[
+        (0, "\"a\nb\"", "a b > 5,2,2"),
+        (1, "\"a\n b\"", "a b > 6,2,3"),
+        (1, "\"a\n \tb\"", "a b > 7,2,4"),
+        (2, "\"a\n\n  b\"", "a\nb > 8,3,4"),
+        (8, "\"a\\\n\"", "a > 5,2,1"),
+        (8, "\"a\tb\"", "a\tb > 5,1,5"),
     ];
-    for &(text, indent, value) in ROWS {
-        expect(&rt, reads(rt.alloc(), text, indent, value), text);
-    }
+    expect_told(&rt, rt.alloc(), false, ROWS);
 }
 
 #[test]
 fn refuses_escapes_that_are_none(rt: HostRuntime) {
-    const ROWS: &[(&str, FaultText)] = &[
-        ("\"a\n\\q\"", FaultText::UnknownEscape),
-        ("\"\\", FaultText::UnknownEscape),
-        ("\"\\x1g\"", FaultText::HexadecimalDigitExpected),
-        ("\"\\u12\"", FaultText::HexadecimalDigitExpected),
-        ("\"\\ud83d\\ude00\"", FaultText::EscapedCodePoint),
-        ("\"\\U00110000\"", FaultText::EscapedCodePoint),
+    const ROWS: &[Row] = &[
+        (0, "\"a\n\\q\"", "! UnknownEscape @ 0,1,0"),
+        (0, "\"\\", "! UnknownEscape @ 0,1,0"),
+        (0, "\"\\x1g\"", "! HexadecimalDigitExpected @ 0,1,0"),
+        (0, "\"\\u12\"", "! HexadecimalDigitExpected @ 0,1,0"),
+        (0, "\"\\ud83d\\ude00\"", "! EscapedCodePoint @ 0,1,0"),
+        (0, "\"\\U00110000\"", "! EscapedCodePoint @ 0,1,0"),
     ];
-    for &(text, fault) in ROWS {
-        let holds = refuses(rt.alloc(), text, 0, fault, START);
-        expect(&rt, holds, text);
-    }
+    expect_told(&rt, rt.alloc(), false, ROWS);
 }
