@@ -1,12 +1,17 @@
 #!/usr/bin/env python3
 """Which definitions a reader must believe, for each promise of a parser: what `docs/DEFINITIONS.md` lists, found anew.
 
-    tests/promises.py [--quiet] [NAME..]
+    tests/promises.py [--quiet] [--mark] [NAME..]
 
-A promise is a clause of `Parser::new` (or of `with_limit`, where it says more), of `next_event` or of `load_documents`.
-Each of its names is followed through the `use` lines of its file to the definition in a crate's `specs`, and so is each
-name in there. What is reached is printed, by clause: the file, the section of the standard that its head names, and the
-definitions. A `NAME` of a clause or a function, as `taken`, prints this alone, and `--quiet` counts only.
+A promise is a clause of one of `FUNCTIONS`: of `Parser::new` (or of `with_limit` and `new_from_iter`, where they say
+more), of the calls of a parser, of `load_documents`, of `dump` or of `run_dump`. Each of its names is followed through
+the `use` lines of its file to the definition in a crate's `specs`, and so is each name in there. What is reached is
+printed, by clause: the file, the section of the standard that its head names, and the definitions. A `NAME` of a clause
+or a function, as `taken`, prints this alone, and `--quiet` counts only.
+
+The tables of the page have a column `promise`, which says which promises rest on a row's definitions: those of the
+names in its first cell, or where that has none, of its files. The script fails where a row says something else, and
+`--mark` writes it into the page.
 
 No promise quotes a definition of steps, which stands in a file or folder `Steps`: those say what the code does, and not
 what the standard asks. So the script fails where one is reached, and prints the names that lead there. But a promise
@@ -26,8 +31,19 @@ import re
 import sys
 
 TOP = os.path.dirname(os.path.dirname(os.path.abspath(__file__)))
+PAGE = os.path.join(TOP, "docs", "DEFINITIONS.md")
 PARSER, LOADER = "crates/saphyr_parser/src/cursor.rt", "crates/yaml_tree/src/loading.rt"
-FUNCTIONS = [(PARSER, "new"), (PARSER, "with_limit"), (PARSER, "next_event"), (LOADER, "load_documents")]
+PRINTING, RUNNING = "crates/saphyr_parser/src/printing.rt", "crates/saphyr_parser/src/printing/run.rt"
+# each with its mark in the page, where that isn't the clause's own name
+FUNCTIONS = {
+    (PARSER, "new"): None, (PARSER, "with_limit"): None, (PARSER, "new_from_iter"): None,
+    (PARSER, "next_event"): "calls", (PARSER, "peek"): "calls", (PARSER, "load"): "calls",
+    (PARSER, "keep_tags"): "calls", (LOADER, "load_documents"): "trees",
+    (PRINTING, "dump"): "lines", (RUNNING, "run_dump"): "lines",
+}
+SAME_AS_NEW = {"with_limit", "new_from_iter"}
+# `decided` has no mark: it says that the events are computed, and stops there
+MARKS = ["json", "layout", "closed", "taken", "spans", "calls", "trees", "lines"]
 # files of definitions are named by their crate and their path below its `specs`
 COMPUTED = {
     (("saphyr_scanner", "Steps.Remaining"), "scan"),
@@ -218,7 +234,7 @@ def show(came):
 
 
 def look(path, function, asked, reached, is_quiet):
-    """Prints what the clauses of a function reach, and gathers it; gives the lines on steps among it."""
+    """Prints what the clauses of a function reach, and gathers the marks of it; gives the lines on steps among it."""
     wrong = []
     clauses, scope = clauses_of(path, function)
     for clause, text in clauses:
@@ -226,20 +242,53 @@ def look(path, function, asked, reached, is_quiet):
             continue
         name = f"`{function}`" + (f", clause `{clause}`" if clause else "")
         came = reached_from(text, scope)
-        more = [definition for definition in came if function != "with_limit" or definition not in reached]
+        more = [definition for definition in came if function not in SAME_AS_NEW or definition not in reached]
         if not is_quiet:
             print(f"{name}: {len(came)} definitions"
-                  + (f", of which {len(more)} not by `new`" if function == "with_limit" else ""))
+                  + (f", of which {len(more)} not by `new`" if function in SAME_AS_NEW else ""))
             show(more)
         wrong += [f"{name}: {path_to(step, came)}, of {spec_of(step.module).path}"
                   for step in more if is_step(step) and step not in COMPUTED]
-        reached.update(came)
+        for definition in came:
+            reached.setdefault(definition, set()).add(FUNCTIONS[path, function] or clause)
     return wrong
+
+
+def marks_of(row, files, reached):
+    """The promises that rest on a row's definitions. What rests on `layout` has no mark for `closed`."""
+    names = re.findall(r"`([^`]+)`", row)
+    marks = {mark for definition, marks in reached.items() for mark in marks
+             if spec_of(definition.module).path.endswith(files) and (not names or definition.name in names)}
+    if "layout" in marks:
+        marks.discard("closed")
+    found = [mark for mark in MARKS if mark in marks]
+    return "all" if len(found) == len(MARKS) - 1 and "layout" in found else ", ".join(found)
+
+
+def marked_page(reached):
+    """The page with the marks that were found, and the lines on rows that have others."""
+    lines, other, column = [], [], 0
+    with open(PAGE, encoding="utf-8") as file:
+        for number, line in enumerate(file, 1):
+            cells = re.split(r"(?<!\\)\|", line)
+            if len(cells) == 1:
+                column = 0
+            elif " promise " in cells[2:]:
+                column = cells.index(" promise ", 2)
+            files = tuple("/" + name for name in re.findall(r"`([^`]+\.antt)`", cells[2])) if column else ()
+            if files:
+                has, found = cells[column].strip(), marks_of(cells[1], files, reached)
+                cells[column] = f" {found} " if found else " "
+                if has != found:
+                    other.append(f"docs/DEFINITIONS.md, line {number}: {found or 'none'} in place of {has or 'none'}")
+            lines.append("|".join(cells))
+    return "".join(lines), other
 
 
 def main():
     arguments = argparse.ArgumentParser(description=__doc__.split("\n", 1)[0])
     arguments.add_argument("--quiet", action="store_true", help="count the definitions only")
+    arguments.add_argument("--mark", action="store_true", help="write into the page what rests on each row")
     arguments.add_argument("names", nargs="*", metavar="NAME", help="the clauses or functions to look at, else all")
     given = arguments.parse_args()
     names = {name for path, function in FUNCTIONS for name in (function, *dict(clauses_of(path, function)[0]))}
@@ -252,7 +301,15 @@ def main():
         print(f"a promise reaches a step: {line}", file=sys.stderr)
     print(f"{len(reached)} definitions of {len({definition.module for definition in reached})} files must be believed, "
           f"and {len(wrong)} of them are steps")
-    sys.exit(1 if wrong else 0)
+    page, other = ("", []) if given.names else marked_page(reached)
+    if given.mark and other:
+        with open(PAGE, "w", encoding="utf-8") as file:
+            file.write(page)
+        print(f"{len(other)} rows of the page have new marks")
+        other = []
+    for line in other:
+        print(line, file=sys.stderr)
+    sys.exit(1 if wrong or other else 0)
 
 
 if __name__ == "__main__":
