@@ -59,6 +59,17 @@ fill_in() {
     install -Dm644 -t "$2" "$work/$1"
 }
 
+# Leaves the words of a page's links that lead to what a release hasn't, and takes the links.
+cut_links() {
+    local page target
+    for page; do
+        { grep -o '](\([^)#]*\)' "$page" || true; } | cut -c3- | sort -u | while read -r target; do
+            case $target in '' | http*) continue ;; esac
+            [ -e "$(dirname "$page")/$target" ] || sed -i "s|\[\([^]]*\)\]($target[^)]*)|\1|g" "$page"
+        done
+    done
+}
+
 # Puts all files under a folder.
 lay_out() {
     local share=$1/share/saphyr_parser program=crates/dump_events/out/dump_events
@@ -80,6 +91,7 @@ lay_out() {
     install -Dm644 -t "$share/docs" docs/{COMING_FROM,DIFFERENCES,FACES,SPANS,YAML}.md
     install -Dm644 -t "$share/rust" rust/{Cargo.toml,build.rs,README.md,LICENSE-MIT,LICENSE-APACHE}
     find rust/src rust/examples -type f -exec install -Dm644 {} "$share/{}" \;
+    cut_links "$share/CHANGELOG.md" "$share/rust/README.md" "$share"/docs/*.md
 }
 
 make_libraries

@@ -194,6 +194,15 @@ def files_below(folder):
     return sorted(os.path.relpath(f"{at}/{it}", folder) for at, _, files in os.walk(folder) for it in files)
 
 
+def check_links(release):
+    """A link of a page leads to a file of the release."""
+    for page in files_below(release.at):
+        if page.endswith(".md"):
+            for target in re.findall(r"\]\(([^)#]+)[^)]*\)", read(f"{release.at}/{page}")):
+                if not target.startswith("http") and not os.path.exists(f"{release.at}/{os.path.dirname(page)}/{target}"):
+                    fail(f"{page} has a link to {target}, which the release hasn't")
+
+
 def check_install(release):
     """A prefix has the same files."""
     prefix = f"{release.folder}/prefix"
@@ -213,6 +222,7 @@ def main():
         release = Release(folder)
         check_versions(release)
         check_names(release)
+        check_links(release)
         check_install(release)
         leave_the_kit()
         tools = {name: shutil.which(name) for name in ("pkg-config", "cmake", "cargo")}
