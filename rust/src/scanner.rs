@@ -19,7 +19,10 @@ pub enum ScalarStyle {
 }
 
 /// A place between two characters of a text.
-#[derive(Clone, Copy, Debug, Default, PartialEq, Eq)]
+///
+/// Places of one text are in the order of their indexes. A place prints as `line:column`, both counted from 1, as
+/// editors do.
+#[derive(Clone, Copy, Debug, Default, PartialEq, Eq, PartialOrd, Ord)]
 pub struct Marker {
     index: usize,
     line: usize,
@@ -49,6 +52,12 @@ impl Marker {
     #[must_use]
     pub fn col(&self) -> usize {
         self.col
+    }
+}
+
+impl fmt::Display for Marker {
+    fn fmt(&self, f: &mut fmt::Formatter<'_>) -> fmt::Result {
+        write!(f, "{}:{}", self.line, self.col.saturating_add(1))
     }
 }
 

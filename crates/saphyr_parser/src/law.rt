@@ -48,7 +48,9 @@ mod comparing;
 mod later;
 
 pub use calling::{hands_out_what_was_peeked, keeps_no_prefixes_at_first, loads_the_end_again};
-pub use comparing::{hashes_alike, orders_styles, orders_tags, reads_inputs_alike, starts_at_zero};
+pub use comparing::{
+    hashes_alike, orders_places, orders_styles, orders_tags, reads_inputs_alike, starts_at_zero,
+};
 use json_laws::scans_each_json;
 pub use later::{
     keeps_spans_later, keeps_spans_over_load, leaves_later_parsers, loads_later_parsers,

@@ -93,6 +93,25 @@ fn measures_spans(rt: HostRuntime) {
     assert!(rt; Span::default() == Span::empty(Marker::default()));
 }
 
+// A place as it is printed, and that it comes behind the one before.
+#[test]
+fn prints_and_orders_places(rt: HostRuntime) {
+    const ROWS: &[(Place, &str)] = &[
+        ((0, 0, 0), "0:1"),
+        ((0, 1, 0), "1:1"),
+        ((3, 1, 3), "1:4"),
+        ((4, 2, 0), "2:1"),
+        ((4, 2, usize::MAX), "2:18446744073709551616"),
+    ];
+    let mut before = Marker::default();
+    for &(place, text) in ROWS {
+        let mark = marker(place);
+        expect(&rt, is_text(format!(in rt.alloc(); "{mark}"), text), text);
+        assert!(rt; before <= mark && mark >= before);
+        before = mark;
+    }
+}
+
 #[test]
 fn orders_the_styles(rt: HostRuntime) {
     const PAIRS: &[(ScalarStyle, ScalarStyle)] = &[

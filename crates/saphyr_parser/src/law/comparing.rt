@@ -52,6 +52,16 @@ pub fn orders_styles(one: ScalarStyle, other: ScalarStyle) -> Ordering
     one.cmp(&other)
 }
 
+/// Places are ordered by their indexes, then by their lines and columns, so those of one text by what stands before
+/// them. They compare as equal exactly where they are equal.
+pub fn orders_places(one: Marker, other: Marker) -> Ordering
+    ensures order { result ≡ ordering_then (nat_cmp one.index other.index)
+        (ordering_then (nat_cmp one.line other.line) (nat_cmp one.col other.col)) }
+    ensures equal { result ≡ Equal ↔ one ≡ other }
+{
+    one.cmp(&other)
+}
+
 /// Equal tags feed a hasher alike, and so do equal styles.
 pub fn hashes_alike()
     ensures tags { (one other : DeclaredTag) → resolved_tag one ≡ resolved_tag other

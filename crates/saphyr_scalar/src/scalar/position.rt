@@ -3,11 +3,16 @@
 ghost use Rattle.std.specs.Prelude.{◌≡◌, ◌+◌, ◌-◌, ◌<◌, ◌≤◌, ◌^◌, ◌==◌};
 ghost use Rattle.saphyr_scalar.specs.Views.Cursor as spec;
 
+use std::fmt;
+
 /// A place in a text.
 ///
 /// The index counts all characters before the place, and the column those of its line, both from
 /// 0. Lines count from 1. A byte order mark at the start of a line counts for the index alone.
-#[derive(Clone, Copy, Debug, PartialEq, Eq, Default)]
+///
+/// Places of one text are in the order of their indexes. It prints as `line:column`, both counted
+/// from 1, as editors do.
+#[derive(Clone, Copy, Debug, PartialEq, Eq, PartialOrd, Ord, Default)]
 pub struct Marker {
     pub index: usize,
     pub line: usize,
@@ -73,6 +78,18 @@ impl Marker {
             line: self.line.saturating_add(1),
             col: 0,
         }
+    }
+}
+
+impl fmt::Display for Marker {
+    ghost use Rattle.std.specs.Prelude.{Some};
+    ghost use Rattle.saphyr_scalar.specs.Faults.{line_and_column};
+
+    ghost output = { λ m. Some (line_and_column m) };
+
+    fn fmt<W: fmt::Write>(&self, f: &mut fmt::Formatter<W>) -> fmt::Result {
+        let column = self.col as u128 + 1;
+        write!(f, "{}:{}", self.line, column)
     }
 }
 
