@@ -7,6 +7,7 @@ pub mod Pieces
 pub mod SingleSpaces
 pub mod Words
 pub mod Spelled
+pub mod Indented
 pub mod GapsRead
 pub mod WordsRead
 pub mod WordEnds

@@ -22,9 +22,9 @@ pub use directive::{Directive, DirectiveLine};
 pub use directive_law::spells_each_directive;
 pub use fault::{FaultText, Refusal, ScanError, Stop};
 pub use law::{
-    begins_plain_scalars_with_ink, counts_each_block_scalar, keeps_markers_out_of_quotes,
-    places_each_block_scalar, reads_plain_values, spells_each_quoted, takes_anchor,
-    takes_block_scalar, takes_directive, takes_plain, takes_quoted, takes_tag,
+    begins_plain_scalars_with_ink, counts_each_block_scalar, indents_plain_lines,
+    places_each_block_scalar, reads_plain_values, spells_each_quoted, spells_quoted_lines,
+    takes_anchor, takes_block_scalar, takes_directive, takes_plain, takes_quoted, takes_tag,
 };
 pub use plain::PlainScalar;
 pub use position::{Marker, Span};

@@ -2,6 +2,7 @@
 use Rattle.std.proofs.Common.{◌≡◌, ℕ, zero, suc, ◌+◌, Bool, true, false, List, [], ◌∷◌, ◌++◌, length, take, drop, slice_index, Result, Ok, Err, refl, sym, ap, ◌∙◌, arith, subst, IsTrue, cond, append_assoc, encode_utf8_all}
 use Rattle.std.specs.Prelude.{◌||◌, ◌&&◌, ◌==◌, nat_lt, if◌then◌else◌}
 use Rattle.std.specs.List.{prefix_len}
+use Rattle.std.proofs.lemmas.Bool.{false≢true}
 use Rattle.std.proofs.lemmas.Bool.Decides.{nat_tests}
 use Rattle.std.proofs.lemmas.List.{append-nil, take-append-drop, length-take-le}
 use Rattle.std.proofs.lemmas.Str.{encode_ascii}
@@ -16,30 +17,34 @@ use Rattle.scalar_values.specs.Folding.{folded, line_feeds, raw_break}
 use Rattle.saphyr_scalar.specs.Steps.Plain as spec
 use Rattle.saphyr_scalar.specs.Steps.Plain.{seen_gap, PlainGap, ends_line, reached_gap, line_front, lines, next_lines, gap_from, gap}
 use Rattle.saphyr_scalar.specs.Reading.Plain.{end_of_text}
+use Rattle.saphyr_scalar.specs.Spelling.LaterLines.{AreLaterLines}
 use Rattle.saphyr_scalar.proofs.Moving.{along_none, along_more}
 use Rattle.saphyr_scalar.proofs.Quoted.Inside.{break_cases}
 use Rattle.saphyr_scalar.proofs.Plain.Gaps.{no_refusal, same_gap, may_stand_same}
+use Rattle.saphyr_scalar.proofs.Plain.Indented.{IsLine, later_unbroken, line_begins, lines_is_line, break_to_start}
 use Rattle.saphyr_scalar.proofs.Plain.Runs.{Ink, NoFeed, items_of, ink_no_feed, same_ends, line_count, folded_breaks, AreBlank, folded_blanks}
 use Rattle.saphyr_input.proofs.Basics.Booleans.{by_test}
 use Rattle.std.proofs.lemmas.List.Sums.{prefix_len-le-length}
 use Rattle.saphyr_input.proofs.Basics.Characters.{blank_no_break}
 use Rattle.saphyr_scalar.proofs.PassedBreaks.{behind_one}
 
--- xs begins with a run of blanks and breaks with k breaks, from m on, and rest stands behind it, at `end`
-pub record Run (xs rest : List ℕ) (m end : Marker) (k : ℕ) : Type 0 where
+-- xs begins with a run of blanks and breaks with k breaks, from m on, and rest stands behind it, at `end`. P holds of
+-- each line that begins in it.
+pub record Run (P : List ℕ → Type 0) (xs rest : List ℕ) (m end : Marker) (k : ℕ) : Type 0 where
   white : List ℕ
   are : AreIn is_blank_or_break white
   is : xs ≡ white ++ rest
   count : line_count white ≡ k
   place : end_of_text m white ≡ end
+  later : AreLaterLines P white rest
 
-no_run : (xs : List ℕ) (m : Marker) → Run xs xs m m 0
-no_run xs m = record { white = []; are = tt; is = refl; count = refl; place = refl }
+no_run : (P : List ℕ → Type 0) (xs : List ℕ) (m : Marker) → Run P xs xs m m 0
+no_run P xs m = record { white = []; are = tt; is = refl; count = refl; place = refl; later = tt }
 
-more_run : (c : ℕ) (cs rest : List ℕ) (m end : Marker) (k : ℕ) → IsTrue (is_blank_or_break c) → NoFeed rest
-    → Run cs rest (behind_one m c cs) end k
-    → Run (c ∷ cs) rest m end (if ends_line c cs then suc k else k)
-more_run c cs rest m end k white none r =
+more_run : (P : List ℕ → Type 0) (c : ℕ) (cs rest : List ℕ) (m end : Marker) (k : ℕ) → IsTrue (is_blank_or_break c)
+    → NoFeed rest → (IsTrue (ends_line c cs) → P cs) → Run P cs rest (behind_one m c cs) end k
+    → Run P (c ∷ cs) rest m end (if ends_line c cs then suc k else k)
+more_run P c cs rest m end k white none line r =
     let same : ends_line c cs ≡ ends_line c r.white = ap (ends_line c) r.is ∙ same_ends c r.white rest none in
     record {
       white = c ∷ r.white;
@@ -48,6 +53,7 @@ more_run c cs rest m end k white none r =
       count = ap (λ n. if ends_line c r.white then suc n else n) r.count
           ∙ ap (λ (b : Bool). if b then suc k else k) (sym same);
       place = ap (λ (b : Bool). end_of_text (if b then next_line m 1 else along m 1) r.white) (sym same) ∙ r.place;
+      later = (subst (λ (l : List ℕ). IsTrue (ends_line c l) → P l) r.is line, r.later);
     }
 
 other_no_feed : (c : ℕ) → is_blank_or_break c ≡ false → (c == line_feed) ≡ false
@@ -55,74 +61,78 @@ other_no_feed = ink_no_feed
 
 -- the lines behind a word's line
 
-record LinesRun (xs : List ℕ) (m : Marker) (f : List ℕ) (g : PlainGap) : Type 0 where
+record LinesRun (i : ℕ) (xs : List ℕ) (m : Marker) (f : List ℕ) (g : PlainGap) : Type 0 where
   breaks : ℕ
   stop : NoFeed g.behind.rest
-  run : Run xs g.behind.rest m g.behind.mark breaks
+  run : Run (IsLine i g.behind) xs g.behind.rest m g.behind.mark breaks
   text : g.text ≡ f ++ line_feeds breaks
 
-reached_run : (a : Marker) (t : Bool) (f : List ℕ) (m : Marker) (xs : List ℕ) (g : PlainGap) → NoFeed xs
-    → reached_gap a t f (line_front m xs) ≡ Ok g → LinesRun xs m f g
-reached_run a t f m xs g stop e =
-    subst (λ (h : PlainGap). LinesRun xs m f h) (sym (may_stand_same a t f (line_front m xs) g e))
-    (record { breaks = 0; stop = stop; run = no_run xs m; text = sym (append-nil f) })
+reached_run : (i : ℕ) (a : Marker) (t : Bool) (f : List ℕ) (m : Marker) (xs : List ℕ) (g : PlainGap) → NoFeed xs
+    → reached_gap a t f (line_front m xs) ≡ Ok g → LinesRun i xs m f g
+reached_run i a t f m xs g stop e =
+    subst (λ (h : PlainGap). LinesRun i xs m f h) (sym (may_stand_same a t f (line_front m xs) g e))
+    (record { breaks = 0; stop = stop; run = no_run (IsLine i (line_front m xs)) xs m; text = sym (append-nil f) })
 
 more_text : (b : Bool) (k : ℕ) (f text : List ℕ) → text ≡ (if b then f ++ line_feed ∷ [] else f) ++ line_feeds k
     → text ≡ f ++ line_feeds (if b then suc k else k)
 more_text true k f text e = e ∙ append_assoc f (10 ∷ []) (line_feeds k)
 more_text false k f text e = e
 
-lines_more : (i : ℕ) (a : Marker) (t : Bool) (f : List ℕ) (m : Marker) (c : ℕ) (cs : List ℕ) (g : PlainGap)
-    → is_blank_or_break c ≡ true
-    → LinesRun cs (behind_one m c cs) (if ends_line c cs then f ++ line_feed ∷ [] else f) g → LinesRun (c ∷ cs) m f g
-lines_more i a t f m c cs g white r = record {
+lines_more : (i : ℕ) (f : List ℕ) (m : Marker) (c : ℕ) (cs : List ℕ) (g : PlainGap) → is_blank_or_break c ≡ true
+    → (IsTrue (ends_line c cs) → IsLine i g.behind cs)
+    → LinesRun i cs (behind_one m c cs) (if ends_line c cs then f ++ line_feed ∷ [] else f) g
+    → LinesRun i (c ∷ cs) m f g
+lines_more i f m c cs g white line r = record {
   breaks = if ends_line c cs then suc r.breaks else r.breaks;
   stop = r.stop;
-  run = more_run c cs g.behind.rest m g.behind.mark r.breaks white r.stop r.run;
+  run = more_run (IsLine i g.behind) c cs g.behind.rest m g.behind.mark r.breaks white r.stop line r.run;
   text = more_text (ends_line c cs) r.breaks f g.text r.text;
 }
 
 lines_run : (i : ℕ) (a : Marker) (t : Bool) (f : List ℕ) (m : Marker) (xs : List ℕ) (g : PlainGap)
-    → lines i a t f m xs ≡ Ok g → LinesRun xs m f g
+    → lines i a t f m xs ≡ Ok g → LinesRun i xs m f g
 unfolding lines
-lines_run i a t f m [] g = reached_run a t f m [] g refl
+lines_run i a t f m [] g = reached_run i a t f m [] g refl
 lines_run i a t f m (c ∷ cs) g =
-    by_test (is_blank_or_break c) _ _ (λ (r : Result PlainGap Refusal). r ≡ Ok g → LinesRun (c ∷ cs) m f g)
-    (λ white e. lines_more i a t f m c cs g white
+    by_test (is_blank_or_break c) _ _ (λ (r : Result PlainGap Refusal). r ≡ Ok g → LinesRun i (c ∷ cs) m f g)
+    (λ white e. lines_more i f m c cs g white
+    (λ ends. line_begins i a t (if ends_line c cs then f ++ line_feed ∷ [] else f) m c cs g ends e)
     (lines_run i a (is_blank c && (t || ((c == tab) && nat_lt m.col i)))
     (if ends_line c cs then f ++ line_feed ∷ [] else f) (if ends_line c cs then next_line m 1 else along m 1) cs g
     e))
-    (λ other e. reached_run a t f m (c ∷ cs) g (other_no_feed c other) e)
+    (λ other e. reached_run i a t f m (c ∷ cs) g (other_no_feed c other) e)
 
 -- a break before them
-break_run : (s : Cursor) (rest : List ℕ) (end : Marker) (k : ℕ) → is_break (slice_index s.rest 0) ≡ true → NoFeed rest
-    → Run (pass_break s).rest rest (pass_break s).mark end k → Run s.rest rest s.mark end (suc k)
-break_run s rest end k h none = at_first s.rest h
+break_run : (P : List ℕ → Type 0) (s : Cursor) (rest : List ℕ) (end : Marker) (k : ℕ)
+    → is_break (slice_index s.rest 0) ≡ true → NoFeed rest → P (pass_break s).rest
+    → Run P (pass_break s).rest rest (pass_break s).mark end k → Run P s.rest rest s.mark end (suc k)
+break_run P s rest end k h none = at_first s.rest h
   where
     from : List ℕ → Cursor
     from xs = record { rest = xs; mark = s.mark; blank_so_far = s.blank_so_far }
 
     Goal : List ℕ → Type 0
-    Goal xs = Run (pass_break (from xs)).rest rest (pass_break (from xs)).mark end k → Run xs rest s.mark end (suc k)
+    Goal xs = P (pass_break (from xs)).rest → Run P (pass_break (from xs)).rest rest (pass_break (from xs)).mark end k
+        → Run P xs rest s.mark end (suc k)
 
     feed : (cs : List ℕ) → Goal (line_feed ∷ cs)
-    feed cs r = more_run 10 cs rest s.mark end k refl none r
+    feed cs line r = more_run P 10 cs rest s.mark end k refl none (λ _. line) r
 
     return : (cs : List ℕ) → (slice_index cs 0 == line_feed) ≡ false → Goal (carriage_return ∷ cs)
     return cs e =
-        let Begins : Bool → Type 0 = λ b. Run cs rest (cond b (next_line s.mark 1) (along s.mark 1)) end k → Run
+        let Begins : Bool → Type 0 = λ b. Run P cs rest (cond b (next_line s.mark 1) (along s.mark 1)) end k → Run P
         (13 ∷ cs) rest s.mark end (cond b (suc k) k) in
         let line : ends_line 13 cs ≡ true = rw e refl in
-        let one : Begins true = subst Begins line (more_run 13 cs rest s.mark end k refl none) in
+        let one : P cs → Begins true = λ p. subst Begins line (more_run P 13 cs rest s.mark end k refl none (λ _. p)) in
         rw e one
 
     two : (cs : List ℕ) → Goal (carriage_return ∷ line_feed ∷ cs)
-    two cs r =
+    two cs line r =
         let index : s.mark.index + 1 + 1 ≡ s.mark.index + 2 = omega arith in
-        let moved : Run cs rest (next_line (along s.mark 1) 1) end k =
-        subst (λ n. Run cs rest (record (next_line s.mark 2) { index = n }) end k) (sym index) r in
-        more_run 13 (10 ∷ cs) rest s.mark end (suc k) refl none
-        (more_run 10 cs rest (along s.mark 1) end k refl none moved)
+        let moved : Run P cs rest (next_line (along s.mark 1) 1) end k =
+        subst (λ n. Run P cs rest (record (next_line s.mark 2) { index = n }) end k) (sym index) r in
+        more_run P 13 (10 ∷ cs) rest s.mark end (suc k) refl none (λ e. absurd (false≢true e))
+        (more_run P 10 cs rest (along s.mark 1) end k refl none (λ _. line) moved)
 
     either_one : (d : ℕ) (ds : List ℕ) (b : Bool) → (d == line_feed) ≡ b → Goal (carriage_return ∷ d ∷ ds)
     either_one d ds true e = let is : 10 ≡ d = grind (arith, nat_tests) in subst (λ x. Goal (13 ∷ x ∷ ds)) is (two ds)
@@ -143,33 +153,35 @@ blank_white c h = rw h refl
 blank_line : (c : ℕ) (cs : List ℕ) → is_blank c ≡ true → ends_line c cs ≡ false
 blank_line c cs h = let no = blank_no_break c h in rw no refl
 
-one_blank : (c : ℕ) (cs rest : List ℕ) (m end : Marker) (k : ℕ) → is_blank c ≡ true → NoFeed rest
-    → Run cs rest (along m 1) end k → Run (c ∷ cs) rest m end k
-one_blank c cs rest m end k h none r =
-    let Begins : Bool → Type 0 = λ b. Run cs rest (cond b (next_line m 1) (along m 1)) end k → Run (c ∷ cs) rest m end
-    (cond b (suc k) k) in
-    let one : Begins false = subst Begins (blank_line c cs h) (more_run c cs rest m end k (blank_white c h) none) in
+one_blank : (P : List ℕ → Type 0) (c : ℕ) (cs rest : List ℕ) (m end : Marker) (k : ℕ) → is_blank c ≡ true
+    → NoFeed rest → Run P cs rest (along m 1) end k → Run P (c ∷ cs) rest m end k
+one_blank P c cs rest m end k h none r =
+    let Begins : Bool → Type 0 = λ b. Run P cs rest (cond b (next_line m 1) (along m 1)) end k
+    → Run P (c ∷ cs) rest m end (cond b (suc k) k) in
+    let one : Begins false = subst Begins (blank_line c cs h)
+    (more_run P c cs rest m end k (blank_white c h) none
+    (λ e. absurd (false≢true (sym (blank_line c cs h) ∙ e)))) in
     one r
 
-pub blanks_run : (xs rest : List ℕ) (m end : Marker) (k : ℕ) → NoFeed rest
-    → Run (drop (prefix_len is_blank xs) xs) rest (along m (prefix_len is_blank xs)) end k → Run xs rest m end k
-blanks_run [] rest m end k none = λ r. subst (λ x. Run [] rest x end k) (along_none m) r
-blanks_run (c ∷ cs) rest m end k none =
+pub blanks_run : (P : List ℕ → Type 0) (xs rest : List ℕ) (m end : Marker) (k : ℕ) → NoFeed rest
+    → Run P (drop (prefix_len is_blank xs) xs) rest (along m (prefix_len is_blank xs)) end k → Run P xs rest m end k
+blanks_run P [] rest m end k none = λ r. subst (λ x. Run P [] rest x end k) (along_none m) r
+blanks_run P (c ∷ cs) rest m end k none =
     by_test (is_blank c) (1 + prefix_len is_blank cs) 0
-    (λ n. Run (drop n (c ∷ cs)) rest (along m n) end k → Run (c ∷ cs) rest m end k)
+    (λ n. Run P (drop n (c ∷ cs)) rest (along m n) end k → Run P (c ∷ cs) rest m end k)
     (λ h r.
     let one : 1 + prefix_len is_blank cs ≡ suc (prefix_len is_blank cs) = omega arith in
     let n = prefix_len is_blank cs in
-    let moved : Run (drop n cs) rest (along m (suc n)) end k = subst (λ x. Run (drop x (c ∷ cs)) rest (along m x) end k)
-    one r in
-    one_blank c cs rest m end k h none
-    (blanks_run cs rest (along m 1) end k none
-    (subst (λ x. Run (drop n cs) rest x end k) (sym (along_more m 1 n (suc n) (omega arith))) moved)))
-    (λ h r. subst (λ x. Run (c ∷ cs) rest x end k) (along_none m) r)
+    let moved : Run P (drop n cs) rest (along m (suc n)) end k =
+    subst (λ x. Run P (drop x (c ∷ cs)) rest (along m x) end k) one r in
+    one_blank P c cs rest m end k h none
+    (blanks_run P cs rest (along m 1) end k none
+    (subst (λ x. Run P (drop n cs) rest x end k) (sym (along_more m 1 n (suc n) (omega arith))) moved)))
+    (λ h r. subst (λ x. Run P (c ∷ cs) rest x end k) (along_none m) r)
 
 -- what a gap is read as
 
-pub record GapReads (xs : List ℕ) (m : Marker) (g : PlainGap) : Type 0 where
+pub record GapReads (i : ℕ) (xs : List ℕ) (m : Marker) (g : PlainGap) : Type 0 where
   pub white : List ℕ
   pub are : AreIn is_blank_or_break white
   pub is : xs ≡ white ++ g.behind.rest
@@ -179,6 +191,7 @@ pub record GapReads (xs : List ℕ) (m : Marker) (g : PlainGap) : Type 0 where
   pub text : encode_utf8_all value ≡ g.text
   pub reads : (c : ℕ) (cs : List ℕ) → Ink c
       → folded (items_of (white ++ (c ∷ cs))) ≡ value ++ folded (items_of (c ∷ cs))
+  pub later : AreLaterLines (IsLine i g.behind) white g.behind.rest
 
 -- blanks alone
 blank_prefix : (xs : List ℕ) → AreBlank (take (prefix_len is_blank xs) xs)
@@ -201,10 +214,16 @@ passed_blanks m (c ∷ v) h =
 prefix_take : (xs : List ℕ) → length (take (prefix_len is_blank xs) xs) ≡ prefix_len is_blank xs
 prefix_take xs = length-take-le (prefix_len is_blank xs) xs (prefix_len-le-length is_blank xs)
 
-blanks_read : (xs : List ℕ) (m : Marker) → is_break (slice_index (drop (prefix_len is_blank xs) xs) 0) ≡ false
+all_on_line : (P : List ℕ → Type 0) (v behind : List ℕ) → AreBlank v → AreLaterLines P v behind
+all_on_line P [] behind h = tt
+all_on_line P (c ∷ v) behind h =
+    later_unbroken P c v behind (blank_no_break c h.0) (all_on_line P v behind h.1)
+
+blanks_read : (i : ℕ) (xs : List ℕ) (m : Marker)
+    → is_break (slice_index (drop (prefix_len is_blank xs) xs) 0) ≡ false
     → let n = prefix_len is_blank xs in
-    GapReads xs m (seen_gap false (encode_utf8_all (take n xs)) (mid_line (along m n) (drop n xs)))
-blanks_read xs m other =
+    GapReads i xs m (seen_gap false (encode_utf8_all (take n xs)) (mid_line (along m n) (drop n xs)))
+blanks_read i xs m other =
     let n = prefix_len is_blank xs in
     let v = take n xs in
     let blank = blank_prefix xs in
@@ -217,6 +236,7 @@ blanks_read xs m other =
       value = v;
       text = refl;
       reads = λ c cs ink. folded_blanks v c cs blank ink;
+      later = all_on_line (IsLine i (mid_line (along m n) (drop n xs))) v (drop n xs) blank;
     }
   where
     not_feed : (c : ℕ) → is_break c ≡ false → (c == line_feed) ≡ false
@@ -241,16 +261,20 @@ folded_text (suc k) g e =
     some_length : (n : ℕ) → (suc n == 0) ≡ false
     some_length n = grind (arith, nat_tests)
 
-lines_read : (xs : List ℕ) (m : Marker) (g : PlainGap) (t : Cursor) → along m (prefix_len is_blank xs) ≡ t.mark
+lines_read : (i : ℕ) (xs : List ℕ) (m : Marker) (g : PlainGap) (t : Cursor)
+    → along m (prefix_len is_blank xs) ≡ t.mark
     → drop (prefix_len is_blank xs) xs ≡ t.rest → is_break (slice_index t.rest 0) ≡ true
-    → LinesRun (pass_break t).rest (pass_break t).mark [] g → GapReads xs m (spec.folded_gap g)
-lines_read xs m g t mark rest breaks r =
-    let behind = break_run t g.behind.rest g.behind.mark r.breaks breaks r.stop r.run in
-    let moved : Run (drop (prefix_len is_blank xs) xs) g.behind.rest (along m (prefix_len is_blank xs)) g.behind.mark
-    (suc r.breaks) =
-    subst (λ x. Run (drop (prefix_len is_blank xs) xs) g.behind.rest x g.behind.mark (suc r.breaks)) (sym mark)
-    (subst (λ y. Run y g.behind.rest t.mark g.behind.mark (suc r.breaks)) (sym rest) behind) in
-    let all = blanks_run xs g.behind.rest m g.behind.mark (suc r.breaks) r.stop moved in
+    → IsLine i g.behind (pass_break t).rest
+    → LinesRun i (pass_break t).rest (pass_break t).mark [] g → GapReads i xs m (spec.folded_gap g)
+lines_read i xs m g t mark rest breaks line r =
+    let P = IsLine i g.behind in
+    let k = suc r.breaks in
+    let behind = break_run P t g.behind.rest g.behind.mark r.breaks breaks r.stop line r.run in
+    let blanks = prefix_len is_blank xs in
+    let moved : Run P (drop blanks xs) g.behind.rest (along m blanks) g.behind.mark k =
+    subst (λ x. Run P (drop blanks xs) g.behind.rest x g.behind.mark k) (sym mark)
+    (subst (λ y. Run P y g.behind.rest t.mark g.behind.mark k) (sym rest) behind) in
+    let all = blanks_run P xs g.behind.rest m g.behind.mark k r.stop moved in
     record {
       white = all.white;
       are = all.are;
@@ -260,30 +284,33 @@ lines_read xs m g t mark rest breaks r =
       value = raw_break r.breaks;
       text = folded_text r.breaks g r.text;
       reads = λ c cs ink. folded_breaks r.breaks all.white c cs all.are all.count ink;
+      later = all.later;
     }
 
 next_lines_read : (i : ℕ) (a : Marker) (xs : List ℕ) (m : Marker) (g : PlainGap) (t : Cursor)
     → along m (prefix_len is_blank xs) ≡ t.mark → drop (prefix_len is_blank xs) xs ≡ t.rest
     → is_break (slice_index t.rest 0) ≡ true
-    → next_lines i a (pass_break t) ≡ Ok g → GapReads xs m g
+    → next_lines i a (pass_break t) ≡ Ok g → GapReads i xs m g
 next_lines_read i a xs m g t mark rest breaks =
     by_result (lines i a false [] (pass_break t).mark (pass_break t).rest)
     (lines_run i a false [] (pass_break t).mark (pass_break t).rest)
+    (λ h e. lines_is_line i a [] (pass_break t).mark (pass_break t).rest h (break_to_start t breaks) e)
   where
     by_result : (r : Result PlainGap Refusal)
-        → ((h : PlainGap) → r ≡ Ok h → LinesRun (pass_break t).rest (pass_break t).mark [] h)
-        → (r >>= λ h. Ok (spec.folded_gap h)) ≡ Ok g → GapReads xs m g
-    by_result (Ok h) runs e =
-        subst (λ (x : PlainGap). GapReads xs m x) (sym (same_gap (spec.folded_gap h) g e))
-        (lines_read xs m h t mark rest breaks (runs h refl))
-    by_result (Err r) runs e = absurd (no_refusal r g e)
+        → ((h : PlainGap) → r ≡ Ok h → LinesRun i (pass_break t).rest (pass_break t).mark [] h)
+        → ((h : PlainGap) → r ≡ Ok h → IsLine i h.behind (pass_break t).rest)
+        → (r >>= λ h. Ok (spec.folded_gap h)) ≡ Ok g → GapReads i xs m g
+    by_result (Ok h) runs line e =
+        subst (λ (x : PlainGap). GapReads i xs m x) (sym (same_gap (spec.folded_gap h) g e))
+        (lines_read i xs m h t mark rest breaks (line h refl) (runs h refl))
+    by_result (Err r) runs line e = absurd (no_refusal r g e)
 
 pub gap_reads : (i : ℕ) (a : Marker) (xs : List ℕ) (m : Marker) (g : PlainGap) → gap i a (mid_line m xs) ≡ Ok g
-    → GapReads xs m g
+    → GapReads i xs m g
 unfolding gap gap_from
 gap_reads i a xs m g =
     let n = prefix_len is_blank xs in
     let t = pass n (mid_line m xs) in
-    by_test (is_break (slice_index t.rest 0)) _ _ (λ (r : Result PlainGap Refusal). r ≡ Ok g → GapReads xs m g)
+    by_test (is_break (slice_index t.rest 0)) _ _ (λ (r : Result PlainGap Refusal). r ≡ Ok g → GapReads i xs m g)
     (λ breaks e. next_lines_read i a xs m g t refl refl breaks e)
-    (λ other e. subst (λ (x : PlainGap). GapReads xs m x) (sym (same_gap _ g e)) (blanks_read xs m other))
+    (λ other e. subst (λ (x : PlainGap). GapReads i xs m x) (sym (same_gap _ g e)) (blanks_read i xs m other))

@@ -1,5 +1,5 @@
 -- What is read as a plain scalar is the reading of a piece of the text.
-use Rattle.std.proofs.Common.{◌≡◌, ℕ, zero, suc, ◌+◌, ◌-◌, ◌≤◌, Bool, true, false, List, [], ◌∷◌, length, take, drop, slice_index, Option, Result, Ok, Err, refl, sym, ap, ◌∙◌, arith, subst, encode_utf8_all}
+use Rattle.std.proofs.Common.{◌≡◌, ℕ, zero, suc, ◌+◌, ◌-◌, ◌≤◌, Bool, true, false, List, [], ◌∷◌, ◌++◌, length, take, drop, slice_index, Option, Result, Ok, Err, refl, sym, ap, ◌∙◌, arith, subst, encode_utf8_all}
 use Rattle.std.specs.Prelude.{if◌then◌else◌}
 use Rattle.std.proofs.lemmas.List.{length-drop}
 use Rattle.saphyr_input.specs.Places.{is_blank_or_break}
@@ -10,9 +10,11 @@ use Rattle.saphyr_scalar.specs.Views.Cursor.{Cursor, ◌>>=◌, refuse, along}
 use Rattle.saphyr_scalar.specs.Steps.Quoted.{mid_line}
 use Rattle.saphyr_scalar.specs.Steps.Plain.{is_in_word, word_len, word_starts, next_word_starts, PlainGap, gap, PlainScalarRead, with_text, scalar_end, word, plain}
 use Rattle.saphyr_scalar.specs.Reading.Plain.{IsPlainReading}
+use Rattle.saphyr_scalar.specs.Spelling.LaterLines.{ArePlainLines}
 use Rattle.saphyr_scalar.proofs.Plain.Words.{word_left, word_len_more}
 use Rattle.saphyr_scalar.proofs.Plain.Pieces.{plain_behind_gap, all_word, word_stops, word_over, goes_says, starts_says}
 use Rattle.saphyr_scalar.proofs.Plain.Gaps.{gap_end}
+use Rattle.saphyr_scalar.proofs.Plain.Indented.{GoesOn, goes_on}
 use Rattle.saphyr_scalar.proofs.Plain.Spelled.{Begins, starts_begins, goes_begins}
 use Rattle.saphyr_scalar.proofs.Plain.Runs.{Ink}
 use Rattle.saphyr_scalar.proofs.Plain.GapsRead.{GapReads, gap_reads}
@@ -28,10 +30,10 @@ same_reading x y e = cc
 
 abbrev Hypothesis : ℕ → Bool → ℕ → Marker → Type 0
 Hypothesis n f i a = (m : Marker) (xs : List ℕ) → length xs ≤ n → is_in_word f xs ≡ true → Begins m xs → (x : Read)
-    → word f i a m xs ≡ Ok x → WordReads f m xs x
+    → word f i a m xs ≡ Ok x → WordReads f i m xs x
 
 word_turn : (n : ℕ) (f : Bool) (i : ℕ) (a m : Marker) (xs : List ℕ) → Hypothesis n f i a → length xs ≤ suc n
-    → is_in_word f xs ≡ true → Begins m xs → (x : Read) → word f i a m xs ≡ Ok x → WordReads f m xs x
+    → is_in_word f xs ≡ true → Begins m xs → (x : Read) → word f i a m xs ≡ Ok x → WordReads f i m xs x
 word_turn n f i a m xs hyp short goes begins x is =
     by_gap (gap i a (mid_line end left)) refl
     (sym (all_word f i a m xs ∙ ap (with_text text) (word_over f i a end left (word_stops f xs))) ∙ is)
@@ -49,29 +51,30 @@ word_turn n f i a m xs hyp short goes begins x is =
     text = encode_utf8_all (take k xs)
 
     Goal : Type 0
-    Goal = WordReads f m xs x
+    Goal = WordReads f i m xs x
 
-    by_rest : (g : PlainGap) → GapReads left end g → length g.behind.rest ≤ n → is_in_word f g.behind.rest ≡ true
+    by_rest : (g : PlainGap) → GapReads i left end g → GoesOn f i g.behind → length g.behind.rest ≤ n
         → Begins g.behind.mark g.behind.rest → (r : PlainScalarRead) → word f i a g.behind.mark g.behind.rest ≡ r
         → with_text text (with_text g.text r) ≡ Ok x → Goal
-    by_rest g reads less on starts (Ok y) eq e =
-        subst (WordReads f m xs) (same_reading _ x e)
-        (word_more f m xs g y goes begins (front_of f xs goes) reads
-        (hyp g.behind.mark g.behind.rest less on starts y eq))
-    by_rest g reads less on starts (Err r) eq e = absurd (no_reading r x e)
+    by_rest g reads on less starts (Ok y) eq e =
+        subst (WordReads f i m xs) (same_reading _ x e)
+        (word_more f i m xs g y goes begins (front_of f xs goes) on reads
+        (hyp g.behind.mark g.behind.rest less on.word starts y eq))
+    by_rest g reads on less starts (Err r) eq e = absurd (no_reading r x e)
 
     by_goes : (g : PlainGap) → gap i a (mid_line end left) ≡ Ok g → (b : Bool) (u : Cursor)
         → next_word_starts f i g.behind ≡ Ok (b, u)
         → with_text text (if b then with_text g.text (word f i a u.mark u.rest) else scalar_end f end g) ≡ Ok x → Goal
     by_goes g eq false u q e =
-        subst (WordReads f m xs) (same_reading _ x e)
-        (last_word f m xs g goes begins (front_of f xs goes) (gap_reads i a left end g eq))
+        subst (WordReads f i m xs) (same_reading _ x e)
+        (last_word f i m xs g goes begins (front_of f xs goes) (gap_reads i a left end g eq))
     by_goes g eq true u q e =
         let says = goes_says f i true g.behind u q in
         let gone = gap_end i a (mid_line end left) g eq in
         let less : length g.behind.rest ≤ n = shorter (length left) (length g.behind.rest) gone.taken
         (rw length-drop refl) gone.count in
-        by_rest g (gap_reads i a left end g eq) less (says.goes refl) (goes_begins f i g.behind u q)
+        by_rest g (gap_reads i a left end g eq) (goes_on f i g.behind u q (says.goes refl)) less
+        (goes_begins f i g.behind u q)
         (word f i a g.behind.mark g.behind.rest) refl
         (subst (λ (c : Cursor). with_text text (with_text g.text (word f i a c.mark c.rest)) ≡ Ok x) says.same e)
       where
@@ -100,35 +103,41 @@ word_reads (suc n) f i a m xs short goes begins x is =
 
 -- the scalar
 
-pub plain_reads : (f : Bool) (i : ℕ) (s t : Cursor) (text : List ℕ) (end : Marker) (comment : Option Marker)
-    → plain f i s ≡ Ok (text, end, comment, t) → IsPlainReading f s text end t
+pub plain_lines : (f : Bool) (i : ℕ) (s t : Cursor) (text : List ℕ) (end : Marker) (comment : Option Marker)
+    → plain f i s ≡ Ok (text, end, comment, t)
+    → (r : IsPlainReading f s text end t) × ArePlainLines f i r.piece (r.white ++ t.rest)
 unfolding plain
-plain_reads f i s t text end comment is = by_start (word_starts f s) refl is
+plain_lines f i s t text end comment is = by_start (word_starts f s) refl is
   where
     x : Read
     x = (text, end, comment, t)
 
-    from_word : WordReads f s.mark s.rest x → IsPlainReading f s text end t
-    from_word r = record {
-      piece = r.first ∷ r.others;
-      white = r.white;
-      is = r.is;
-      spelled = r.spelled;
-      safe = r.safe;
-      front = r.closes.front;
-      last = r.closes.last;
-      closes = r.closes.is;
-      is_ink = r.closes.ink;
-      follows = r.follows;
-      value = r.value;
-      ends = r.ends;
-      are_white = r.are;
-      behind = r.behind;
-    }
+    Goal : Type 0
+    Goal = (r : IsPlainReading f s text end t) × ArePlainLines f i r.piece (r.white ++ t.rest)
+
+    from_word : WordReads f i s.mark s.rest x → Goal
+    from_word r = (
+      record {
+        piece = r.first ∷ r.others;
+        white = r.white;
+        is = r.is;
+        spelled = r.spelled;
+        safe = r.safe;
+        front = r.closes.front;
+        last = r.closes.last;
+        closes = r.closes.is;
+        is_ink = r.closes.ink;
+        follows = r.follows;
+        value = r.value;
+        ends = r.ends;
+        are_white = r.are;
+        behind = r.behind;
+      },
+      r.later,
+    )
 
     by_first : (b : Bool) (u : Cursor) → word_starts f s ≡ Ok (b, u)
-        → (if b then word f i s.mark u.mark u.rest else refuse fault.PlainEnd s.mark) ≡ Ok x
-        → IsPlainReading f s text end t
+        → (if b then word f i s.mark u.mark u.rest else refuse fault.PlainEnd s.mark) ≡ Ok x → Goal
     by_first false u q e = absurd (no_reading _ x e)
     by_first true u q e =
         let says = starts_says f true s u q in
@@ -137,9 +146,13 @@ plain_reads f i s t text end comment is = by_start (word_starts f s) refl is
 
     by_start : (r : Result (Bool × Cursor) Refusal) → word_starts f s ≡ r
         → (r >>= λ b. if b.0 then word f i s.mark b.1.mark b.1.rest else refuse fault.PlainEnd s.mark) ≡ Ok x
-        → IsPlainReading f s text end t
+        → Goal
     by_start (Ok b) q e = by_first b.0 b.1 q e
     by_start (Err r) q e = absurd (no_reading r x e)
+
+pub plain_reads : (f : Bool) (i : ℕ) (s t : Cursor) (text : List ℕ) (end : Marker) (comment : Option Marker)
+    → plain f i s ≡ Ok (text, end, comment, t) → IsPlainReading f s text end t
+plain_reads f i s t text end comment is = (plain_lines f i s t text end comment is).0
 
 -- its first character
 

@@ -17,6 +17,8 @@ use Rattle.saphyr_scalar.proofs.Plain.Spelled.{Begins, Closes, word_spelled, whi
 use Rattle.saphyr_scalar.proofs.Plain.Runs.{Ink, AreInk, items_of, ink_no_feed, folded_word, passed_append, passed_word}
 use Rattle.saphyr_input.proofs.Basics.Booleans.{by_test}
 use Rattle.saphyr_scalar.proofs.Plain.GapsRead.{GapReads}
+use Rattle.saphyr_scalar.proofs.Plain.Indented.{GoesOn, IsLine, later_append, later_ink, later_weaken}
+use Rattle.saphyr_scalar.specs.Spelling.LaterLines.{AreLaterLines, IsPlainLine, ArePlainLines}
 
 -- Words and gaps.
 
@@ -47,7 +49,7 @@ abbrev pub Read : Type 0
 Read = List ℕ × Marker × Option Marker × Cursor
 
 -- what is read from a word on
-pub record WordReads (f : Bool) (m : Marker) (xs : List ℕ) (x : Read) : Type 0 where
+pub record WordReads (f : Bool) (i : ℕ) (m : Marker) (xs : List ℕ) (x : Read) : Type 0 where
   pub first : ℕ
   pub others : List ℕ
   pub ink : Ink first
@@ -61,6 +63,7 @@ pub record WordReads (f : Bool) (m : Marker) (xs : List ℕ) (x : Read) : Type 0
   pub ends : end_of_text m (first ∷ others) ≡ x.1
   pub are : AreIn is_blank_or_break white
   pub behind : end_of_text x.1 white ≡ x.3.mark
+  pub later : ArePlainLines f i (first ∷ others) (white ++ x.3.rest)
 
 -- the word at the front
 pub record Front (f : Bool) (xs : List ℕ) : Type 0 where
@@ -86,16 +89,16 @@ safe_word true xs y behind e = word_safe xs y behind
 safe_word false xs y behind e = absurd (cc)
 
 -- the last word
-pub last_word : (f : Bool) (m : Marker) (xs : List ℕ) (g : PlainGap) → is_in_word f xs ≡ true → Begins m xs → Front f xs
-    → (let n = word_len f xs in GapReads (drop n xs) (along m n) g)
-    → WordReads f m xs (
+pub last_word : (f : Bool) (i : ℕ) (m : Marker) (xs : List ℕ) (g : PlainGap) → is_in_word f xs ≡ true → Begins m xs
+    → Front f xs → (let n = word_len f xs in GapReads i (drop n xs) (along m n) g)
+    → WordReads f i m xs (
       encode_utf8_all (take (word_len f xs) xs)
           ++ [],
       along m (word_len f xs),
       comment_of f g.tabbed g.behind,
       g.behind,
     )
-last_word f m xs g goes begins w r =
+last_word f i m xs g goes begins w r =
     let n = word_len f xs in
     let count : length (w.first ∷ w.others) ≡ n = sym (ap length w.is) ∙ length-take-le n xs (word_within f xs) in
     record {
@@ -120,14 +123,15 @@ last_word f m xs g goes begins w r =
           ∙ ap (along m) count;
       are = r.are;
       behind = r.place;
+      later = later_ink (IsPlainLine f i) (w.first ∷ w.others) (r.white ++ g.behind.rest) w.ink;
     }
 
 -- a word, a gap and what is read behind it
-pub word_more : (f : Bool) (m : Marker) (xs : List ℕ) (g : PlainGap) (x : Read) → is_in_word f xs ≡ true → Begins m xs
-    → Front f xs
-    → (let n = word_len f xs in GapReads (drop n xs) (along m n) g) → WordReads f g.behind.mark g.behind.rest x
-    → WordReads f m xs (encode_utf8_all (take (word_len f xs) xs) ++ (g.text ++ x.0), x.1, x.2, x.3)
-word_more f m xs g x goes begins w r b =
+pub word_more : (f : Bool) (i : ℕ) (m : Marker) (xs : List ℕ) (g : PlainGap) (x : Read) → is_in_word f xs ≡ true
+    → Begins m xs → Front f xs → GoesOn f i g.behind
+    → (let n = word_len f xs in GapReads i (drop n xs) (along m n) g) → WordReads f i g.behind.mark g.behind.rest x
+    → WordReads f i m xs (encode_utf8_all (take (word_len f xs) xs) ++ (g.text ++ x.0), x.1, x.2, x.3)
+word_more f i m xs g x goes begins w on r b =
     let n = word_len f xs in
     let word = w.first ∷ w.others in
     let next = b.first ∷ b.others in
@@ -175,4 +179,10 @@ word_more f m xs g x goes begins w r b =
           ∙ b.ends;
       are = b.are;
       behind = b.behind;
+      later = later_append (IsPlainLine f i) word (r.white ++ next) rest
+          (later_ink (IsPlainLine f i) word ((r.white ++ next) ++ rest) w.ink)
+          (later_append (IsPlainLine f i) r.white next rest
+          (subst (AreLaterLines (IsPlainLine f i) r.white) b.is
+          (later_weaken (IsLine i g.behind) (IsPlainLine f i) (λ line is. is f on) r.white g.behind.rest r.later))
+          b.later);
     }

@@ -94,8 +94,8 @@ digits_spelled start (suc n) v t w s e =
 
 -- an escape that was read, behind its backslash
 pub record Escape (m : Marker) (e : ℕ) (xs : List ℕ) (c : ℕ) (s : Cursor) : Type 0 where
-  pub grows : (items : List Item) (x : List ℕ) → quotes.IsCleanText Double s.rest items x
-      → quotes.IsCleanText Double (backslash ∷ e ∷ xs) (Escaped c ∷ items) x
+  pub grows : (n : ℕ) (items : List Item) (x : List ℕ) → quotes.IsCleanText n Double s.rest items x
+      → quotes.IsCleanText n Double (backslash ∷ e ∷ xs) (Escaped c ∷ items) x
   pub shorter : length s.rest ≤ length xs
   pub passes : (n : Marker) (u : List ℕ) → IsPassed s.mark s.rest n u → IsPassed m (backslash ∷ e ∷ xs) n u
 
@@ -139,9 +139,9 @@ number_spelled start m e xs c s (Some n) asked g =
       scalar = subst (λ (n : ℕ). IsTrue (is_scalar_value n)) k.1 k.0;
     } in
     record {
-      grows = λ items x r. subst (λ (y : List ℕ). quotes.IsCleanText Double (92 ∷ e ∷ y) (Escaped c ∷ items) x)
+      grows = λ n items x r. subst (λ (y : List ℕ). quotes.IsCleanText n Double (92 ∷ e ∷ y) (Escaped c ∷ items) x)
           (sym split)
-          (quotes.numbered e c d.ds s.rest items x is r);
+          (quotes.numbered n e c d.ds s.rest items x is r);
       shorter = rw (split, length-append) (omega arith);
       passes = λ n u p. letter_passed m e xs n u
           (no_break_digits e _ asked)
@@ -155,9 +155,9 @@ of_spelled start m e xs c s (Some k) is g =
     let same : k ≡ c = gave_first k c (pass 2 (mid_line m (92 ∷ e ∷ xs))) s g in
     let left : xs ≡ s.rest = ap (λ (u : Cursor). u.rest) (gave_second k c (pass 2 (mid_line m (92 ∷ e ∷ xs))) s g) in
     record {
-      grows = λ items x r. subst (λ (y : List ℕ). quotes.IsCleanText Double (92 ∷ e ∷ y) (Escaped c ∷ items) x)
+      grows = λ n items x r. subst (λ (y : List ℕ). quotes.IsCleanText n Double (92 ∷ e ∷ y) (Escaped c ∷ items) x)
           (sym left)
-          (quotes.escaped e c s.rest items x (is ∙ ap Some same) r);
+          (quotes.escaped n e c s.rest items x (is ∙ ap Some same) r);
       shorter = rw left (omega arith);
       passes = λ n u p. letter_passed m e xs n u (no_break_simple e k is)
           (subst (λ (x : Cursor). IsPassed x.mark x.rest n u)

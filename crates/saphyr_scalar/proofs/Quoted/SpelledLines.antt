@@ -1,6 +1,7 @@
 -- What is read as a quoted scalar is spelled so, and its text is the reading of its items.
 use Rattle.std.proofs.Common.{◌≡◌, ℕ, zero, suc, ◌≤◌, Bool, false, List, [], ◌∷◌, ◌++◌, length, drop, slice_index, Result, Ok, Err, refl, sym, ap, ◌∙◌, arith, subst, encode_utf8_all}
-use Rattle.std.specs.Prelude.{◌&&◌, ◌==◌}
+use Rattle.std.specs.Prelude.{◌-◌, ◌&&◌, ◌==◌}
+use Rattle.std.proofs.lemmas.Bool.{ltb-false}
 use Rattle.saphyr_input.specs.Classes.{is_z, is_blank, is_break}
 use Rattle.saphyr_input.specs.Places.{is_document_indicator}
 use Rattle.saphyr_scalar.specs.declared.scalar.position.Marker.{Marker}
@@ -11,6 +12,7 @@ use Rattle.saphyr_scalar.specs.Views.Cursor.{Cursor, ◌>>=◌, along}
 use Rattle.scalar_values.specs.Flow as flow
 use Rattle.scalar_values.specs.Folding.{folded}
 use Rattle.saphyr_scalar.specs.Steps.Quoted.{TextRead, mid_line, QuotedGap, on_line, over_lines, no_gap, is_left, folded_break, quoted_line, end_gap, inner_text, quoted}
+use Rattle.saphyr_scalar.specs.Spelling.IndentedQuotes.{HasIndentedLines}
 use Rattle.saphyr_scalar.specs.Spelling.QuotedMarkers.{HasNoMarker}
 use Rattle.saphyr_scalar.proofs.Quoted.Clean as quotes
 use Rattle.saphyr_scalar.proofs.Quoted.Clean.{IsClear}
@@ -20,13 +22,14 @@ use Rattle.saphyr_scalar.proofs.Quoted.SpelledEscapes.{GaveText, nothing_text, f
 use Rattle.saphyr_input.proofs.Basics.Booleans.{by_test}
 use Rattle.saphyr_scalar.proofs.NoBreaks.{mark_no_break, mark_no_nul}
 use Rattle.saphyr_scalar.proofs.Quoted.GapBytes.{gap_front, no_gap_bytes}
-use Rattle.saphyr_scalar.proofs.Quoted.SpelledGaps.{IsOverLines, Spelled, Known, blank_step, break_step}
+use Rattle.saphyr_scalar.proofs.Quoted.SpelledGaps.{IsOverLines, Spelled, Known, enough, blank_step, break_step}
 use Rattle.saphyr_scalar.proofs.Quoted.SpelledWords.{cases, word_spelled}
 
 -- what ends a gap
-pub record Ended (gap : QuotedGap) (col : ℕ) (xs text : List ℕ) : Type 0 where
+pub record Ended (indent : ℕ) (gap : QuotedGap) (col : ℕ) (xs text : List ℕ) : Type 0 where
   pub bytes : text ≡ gap_front gap
   pub clear : IsOverLines gap → col ≡ 0 → IsClear xs
+  pub right : IsOverLines gap → indent ≤ col
   pub nul : is_z (slice_index xs 0) ≡ false
 
 no_error_is_ok : {A X : Type 0} (r : Refusal) (x : A) → ◌≡◌ {A = Result A Refusal} (Err r) (Ok x) → X
@@ -35,27 +38,29 @@ no_error_is_ok r x e = absurd (cc)
 given_is : (x y : List ℕ) → ◌≡◌ {A = Result (List ℕ) Refusal} (Ok x) (Ok y) → y ≡ x
 given_is x y e = cc
 
-abbrev LinesEnded : Bool → ℕ → Cursor → List ℕ → Result Cursor Refusal → Type 0
-LinesEnded escaped n s text r =
+abbrev LinesEnded : ℕ → Bool → ℕ → Cursor → List ℕ → Result Cursor Refusal → Type 0
+LinesEnded indent escaped n s text r =
     (r >>= λ t. Ok (encode_utf8_all (folded_break escaped n))) ≡ Ok text
-    → Ended (over_lines escaped n) s.mark.col s.rest text
+    → Ended indent (over_lines escaped n) s.mark.col s.rest text
 
 pub gap_ended : (indent : ℕ) (start : Marker) (gap : QuotedGap) (s : Cursor) (text : List ℕ)
-    → end_gap indent start gap s ≡ Ok text → Ended gap s.mark.col s.rest text
+    → end_gap indent start gap s ≡ Ok text → Ended indent gap s.mark.col s.rest text
 unfolding end_gap quoted_line
 gap_ended indent start (on_line bytes) s text =
     by_test (is_z (slice_index s.rest 0)) _ _
-    (λ (r : Result (List ℕ) Refusal). r ≡ Ok text → Ended (on_line bytes) s.mark.col s.rest text)
+    (λ (r : Result (List ℕ) Refusal). r ≡ Ok text → Ended indent (on_line bytes) s.mark.col s.rest text)
     (λ _ e. no_error_is_ok _ text e)
-    (λ nul e. record { bytes = given_is bytes text e; clear = λ o. absurd o; nul = nul })
+    (λ nul e. record { bytes = given_is bytes text e; clear = λ o. absurd o; right = λ o. absurd o; nul = nul })
 gap_ended indent start (over_lines escaped n) s text =
-    by_test ((s.mark.col == 0) && is_document_indicator s.rest) _ _ (LinesEnded escaped n s text)
+    by_test ((s.mark.col == 0) && is_document_indicator s.rest) _ _ (LinesEnded indent escaped n s text)
     (λ _ e. no_error_is_ok _ text e)
-    (λ none. by_test (is_z (slice_index s.rest 0)) _ _ (LinesEnded escaped n s text) (λ _ e. no_error_is_ok _ text e)
-    (λ nul. by_test (is_left indent s.mark) _ _ (LinesEnded escaped n s text) (λ _ e. no_error_is_ok _ text e)
-    (λ _ e. record {
+    (λ none. by_test (is_z (slice_index s.rest 0)) _ _ (LinesEnded indent escaped n s text)
+    (λ _ e. no_error_is_ok _ text e)
+    (λ nul. by_test (is_left indent s.mark) _ _ (LinesEnded indent escaped n s text) (λ _ e. no_error_is_ok _ text e)
+    (λ left e. record {
       bytes = given_is (encode_utf8_all (folded_break escaped n)) text e;
       clear = λ _ first. sym (ap (λ k. (k == 0) && is_document_indicator s.rest) first) ∙ none;
+      right = λ _. ltb-false s.mark.col indent left;
       nul = nul;
     })))
 
@@ -66,7 +71,7 @@ then_front (Err r) f b s e = nothing_text r b s e
 
 content_step : (n : ℕ) (q : Quote) (indent : ℕ) (start : Marker) (gap : QuotedGap) (m : Marker) (c : ℕ) (cs b : List ℕ)
     (s : Cursor) → is_blank c ≡ false → is_break c ≡ false → length cs ≤ n → Known n q indent start
-    → GaveText (inner_text q indent start gap 0 m (c ∷ cs)) b s → Spelled q gap m (c ∷ cs) b s
+    → GaveText (inner_text q indent start gap 0 m (c ∷ cs)) b s → Spelled indent q gap m (c ∷ cs) b s
 content_step n q indent start gap m c cs b s blank break le known g =
     let t = then_front (end_gap indent start gap (mid_line m (c ∷ cs))) _ b s
     (sym (quoted_behind_gap q indent start gap m c cs blank break) ∙ g) in
@@ -80,16 +85,18 @@ content_step n q indent start gap m c cs b s blank break le known g =
       bytes = sym (w.bytes gap) ∙ ap (λ x. x ++ f.0) (sym ended.bytes) ∙ f.2;
       passed = w.passed;
       clear = ended.clear;
+      reached = λ o. let right = ended.right o in
+          enough (indent - m.col) (c ∷ cs) (omega (arith, right));
     }
 
 at_text_end : (q : Quote) (indent : ℕ) (start : Marker) (gap : QuotedGap) (m : Marker) (b : List ℕ) (s : Cursor)
-    → GaveText (inner_text q indent start gap 0 m []) b s → Spelled q gap m [] b s
+    → GaveText (inner_text q indent start gap 0 m []) b s → Spelled indent q gap m [] b s
 unfolding inner_text
 at_text_end q indent start gap m b s g = nothing_text _ b s g
 
 inside_spelled : (n : ℕ) (q : Quote) (indent : ℕ) (start : Marker) (gap : QuotedGap) (m : Marker) (xs b : List ℕ)
     (s : Cursor)
-    → length xs ≤ n → GaveText (inner_text q indent start gap 0 m xs) b s → Spelled q gap m xs b s
+    → length xs ≤ n → GaveText (inner_text q indent start gap 0 m xs) b s → Spelled indent q gap m xs b s
 inside_spelled n q indent start gap m [] b s le g = at_text_end q indent start gap m b s g
 inside_spelled zero q indent start gap m (c ∷ cs) b s le g = absurd (omega arith)
 inside_spelled (suc n) q indent start gap m (c ∷ cs) b s le g =
@@ -100,12 +107,13 @@ inside_spelled (suc n) q indent start gap m (c ∷ cs) b s le g =
     (λ break. break_step n q indent start gap m c cs b s break (omega arith) known g)
     (λ break. content_step n q indent start gap m c cs b s blank break (omega arith) known g))
 
--- What was read as a quoted scalar is spelled so, its items read as the text, and no line of it begins with a document
--- marker.
+-- What was read as a quoted scalar is spelled so, its items read as the text, and no later line begins with a document
+-- marker or is indented less than it has to be.
 pub quoted_clean : (q : Quote) (indent : ℕ) (t : Cursor) (b : List ℕ) (s : Cursor) → slice_index t.rest 0 ≡ flow.mark q
     → GaveText (quoted q indent t) b s
     → (items : List Item) × (is : quotes.IsQuotedText q t.rest items s.rest) × (encode_utf8_all (folded items) ≡ b)
     × IsPassed t.mark t.rest s.mark s.rest × HasNoMarker q is.0 items s.rest is.2
+    × HasIndentedLines indent q is.0 items s.rest is.2
 unfolding quoted
 quoted_clean q indent t b s quote g =
     let inner = inside_spelled (length (drop 1 t.rest)) q indent t.mark no_gap (along t.mark 1) (drop 1 t.rest) b s
@@ -117,6 +125,7 @@ quoted_clean q indent t b s quote g =
       subst (λ (l : List ℕ). IsPassed t.mark l s.mark s.rest) (sym cut)
           (character t.mark (flow.mark q) (drop 1 t.rest) s.mark s.rest (mark_no_break q) inner.passed),
       inner.is.1,
+      inner.is.2,
     )
   where
     opened : (q : Quote) (xs : List ℕ) → slice_index xs 0 ≡ flow.mark q → xs ≡ flow.mark q ∷ drop 1 xs

@@ -1,5 +1,5 @@
 -- The words of a quoted scalar that is read are spelled so, and its closing quote.
-use Rattle.std.proofs.Common.{◌≡◌, ℕ, ◌≤◌, Bool, true, false, List, [], ◌∷◌, ◌++◌, length, drop, slice_index, refl, sym, ap, ◌∙◌, arith, subst, IsTrue, cond}
+use Rattle.std.proofs.Common.{◌≡◌, ℕ, ◌-◌, ◌≤◌, Bool, true, false, List, [], ◌∷◌, ◌++◌, length, drop, slice_index, refl, sym, ap, ◌∙◌, arith, subst, IsTrue, cond}
 use Rattle.std.specs.Prelude.{◌||◌, ◌&&◌, ◌==◌, not, encode_utf8}
 use Rattle.saphyr_input.specs.Classes.{is_z, is_blank, is_break, is_breakz}
 use Rattle.saphyr_scalar.specs.declared.scalar.position.Marker.{Marker}
@@ -10,14 +10,16 @@ use Rattle.scalar_values.specs.declared.flow.Quote.TheVariants.{Single, Double}
 use Rattle.saphyr_scalar.specs.Views.Cursor.{Cursor, along, next_line}
 use Rattle.scalar_values.specs.Flow as flow
 use Rattle.saphyr_scalar.specs.Steps.Quoted.{is_literal, mid_line, QuotedGap, over_lines, no_gap, escaped_gap, break_len, is_closing, escaped_character, inner_text, inner_text_at}
+use Rattle.saphyr_scalar.specs.Spelling.LaterLines.{is_quoted_line}
 use Rattle.saphyr_scalar.proofs.Quoted.Clean as quotes
+use Rattle.saphyr_scalar.proofs.Quoted.Clean.{IsClear}
 use Rattle.saphyr_scalar.specs.Passing.{IsPassed, nothing, character, line_break}
 use Rattle.saphyr_scalar.proofs.Moving.{along_more}
 use Rattle.saphyr_scalar.proofs.Quoted.Inside.{IsQuotedInk, stands}
 use Rattle.saphyr_scalar.proofs.Quoted.Parts.{at_escape, at_two_quotes}
 use Rattle.saphyr_scalar.proofs.Quoted.Gaps.{at_escaped_break, at_closing}
 use Rattle.saphyr_scalar.proofs.Quoted.SpelledEscapes.{GaveText, text_first, text_second, then_text, front_gave, escape_spelled, no_escape}
-use Rattle.std.proofs.lemmas.Bool.{eqb-true}
+use Rattle.std.proofs.lemmas.Bool.{eqb-true, or_left, or_right}
 use Rattle.saphyr_input.specs.Indicators.{apostrophe, backslash, quotation_mark}
 use Rattle.saphyr_input.proofs.Basics.Booleans.{either, or_false_left}
 use Rattle.saphyr_input.proofs.Basics.Lists.{drop_shorter}
@@ -26,22 +28,23 @@ use Rattle.saphyr_scalar.proofs.Quoted.GapBytes.{gap_bytes, gap_front, closed_by
 use Rattle.saphyr_scalar.proofs.Quoted.SpelledGaps.{Spelled, Known}
 
 -- A word, or the closing quote.
-pub record Word (q : Quote) (m : Marker) (xs y : List ℕ) (s : Cursor) : Type 0 where
+pub record Word (indent : ℕ) (q : Quote) (m : Marker) (xs y : List ℕ) (s : Cursor) : Type 0 where
   pub items : List Item
-  pub is : quotes.IsCleanText q xs items s.rest
+  pub is : quotes.IsCleanText indent q xs items s.rest
   pub bytes : (gap : QuotedGap) → gap_front gap ++ y ≡ gap_bytes gap items
   pub passed : IsPassed m xs s.mark s.rest
 
 closed_word : (q : Quote) (indent : ℕ) (start m : Marker) (cs y : List ℕ) (s : Cursor)
     → IsTrue (is_closing q (flow.mark q ∷ cs))
-    → GaveText (inner_text q indent start no_gap 0 m (flow.mark q ∷ cs)) y s → Word q m (flow.mark q ∷ cs) y s
+    → GaveText (inner_text q indent start no_gap 0 m (flow.mark q ∷ cs)) y s → Word indent q m (flow.mark q ∷ cs) y s
 closed_word q indent start m cs y s h g =
     let done = sym (at_closing q indent start m cs h) ∙ g in
     let left : cs ≡ s.rest = ap (λ (u : Cursor). u.rest) (text_second [] y (mid_line (along m 1) cs) s done) in
     let empty : [] ≡ y = text_first [] y (mid_line (along m 1) cs) s done in
     record {
       items = [];
-      is = subst (λ (x : List ℕ). quotes.IsCleanText q (flow.mark q ∷ cs) [] x) left (quotes.closed q cs h);
+      is = subst (λ (x : List ℕ). quotes.IsCleanText indent q (flow.mark q ∷ cs) [] x) left
+          (quotes.closed indent q cs h);
       bytes = λ gap. ap (λ b. gap_front gap ++ b) (sym empty) ∙ closed_bytes gap;
       passed = subst (λ (u : Cursor). IsPassed m (flow.mark q ∷ cs) u.mark u.rest)
           (text_second [] y (mid_line (along m 1) cs) s done)
@@ -63,15 +66,15 @@ content_item c is =
 
 literal_word : (n : ℕ) (q : Quote) (indent : ℕ) (start m : Marker) (c : ℕ) (cs y : List ℕ) (s : Cursor) → IsQuotedInk c
     → is_literal q c ≡ true → length cs ≤ n → Known n q indent start
-    → GaveText (inner_text q indent start no_gap 0 m (c ∷ cs)) y s → Word q m (c ∷ cs) y s
+    → GaveText (inner_text q indent start no_gap 0 m (c ∷ cs)) y s → Word indent q m (c ∷ cs) y s
 literal_word n q indent start m c cs y s content h le known g =
     let f = front_gave (encode_utf8 c) (inner_text q indent start no_gap 0 (along m 1) cs) y s
     (sym (stands q indent start m c cs h) ∙ g) in
     let r = known no_gap (along m 1) cs f.0 s le f.1 in
     record {
       items = Raw c ∷ r.items;
-      is = subst (λ (i : Item). quotes.IsCleanText q (c ∷ cs) (i ∷ r.items) s.rest) (content_item c content)
-          (quotes.itself q c cs r.items s.rest (literal_itself q c h) r.is);
+      is = subst (λ (i : Item). quotes.IsCleanText indent q (c ∷ cs) (i ∷ r.items) s.rest) (content_item c content)
+          (quotes.itself indent q c cs r.items s.rest (literal_itself q c h) r.is);
       bytes = λ gap. ap (λ b. gap_front gap ++ b) (sym f.2 ∙ ap (λ b. encode_utf8 c ++ b) (sym r.bytes))
           ∙ raw_bytes gap c r.items;
       passed = character m c cs s.mark s.rest content.break r.passed;
@@ -91,41 +94,65 @@ two_passed m cs n u p =
 -- two single quotes, or the closing one
 quote_word : (n : ℕ) (indent : ℕ) (start m : Marker) (cs y : List ℕ) (s : Cursor) → length cs ≤ n
     → Known n Single indent start
-    → GaveText (inner_text Single indent start no_gap 0 m (apostrophe ∷ cs)) y s → Word Single m (apostrophe ∷ cs) y s
+    → GaveText (inner_text Single indent start no_gap 0 m (apostrophe ∷ cs)) y s
+    → Word indent Single m (apostrophe ∷ cs) y s
 quote_word n indent start m [] y s le known g = closed_word Single indent start m [] y s refl g
 quote_word n indent start m (d ∷ cs) y s le known g = cases (d == 39)
     (λ h. let is : 39 ≡ d = sym (eqb-true d 39 h) in
-    subst (λ (x : ℕ). Word Single m (39 ∷ x ∷ cs) y s) is
+    subst (λ (x : ℕ). Word indent Single m (39 ∷ x ∷ cs) y s) is
     (second (ap (λ x. inner_text Single indent start no_gap 0 m (39 ∷ x ∷ cs)) is ∙ g)))
     (λ h. closed_word Single indent start m (d ∷ cs) y s (rw h refl) g)
   where
     second : GaveText (inner_text Single indent start no_gap 0 m (apostrophe ∷ apostrophe ∷ cs)) y s
-        → Word Single m (apostrophe ∷ apostrophe ∷ cs) y s
+        → Word indent Single m (apostrophe ∷ apostrophe ∷ cs) y s
     second g =
         let f = front_gave (encode_utf8 39) (inner_text Single indent start no_gap 0 (along m 2) cs) y s
         (sym (at_two_quotes indent start m cs) ∙ g) in
         let r = known no_gap (along m 2) cs f.0 s (omega arith) f.1 in
         record {
           items = Raw 39 ∷ r.items;
-          is = quotes.two_quotes cs r.items s.rest r.is;
+          is = quotes.two_quotes indent cs r.items s.rest r.is;
           bytes = λ gap. ap (λ b. gap_front gap ++ b) (sym f.2 ∙ ap (λ b. encode_utf8 39 ++ b) (sym r.bytes))
               ∙ raw_bytes gap 39 r.items;
           passed = two_passed m cs s.mark s.rest r.passed;
         }
 
--- what stands behind an escaped break
-line_word : (n : ℕ) (indent : ℕ) (start m : Marker) (xs y : List ℕ) (s : Cursor) → length xs ≤ n
+-- What stands behind an escaped break, at a line's start: where it is the closing quote it may stand at any column.
+record Further (indent : ℕ) (m : Marker) (xs y : List ℕ) (s : Cursor) : Type 0 where
+  items : List Item
+  is : quotes.IsCleanText indent Double xs items s.rest
+  bytes : gap_bytes (over_lines true 0) items ≡ y
+  passed : IsPassed m xs s.mark s.rest
+  clear : IsClear xs
+  reached : quotes.IsReachedOrClosed indent xs
+
+further : (indent : ℕ) (m : Marker) (xs y : List ℕ) (s : Cursor) → m.col ≡ 0
+    → Spelled indent Double (over_lines true 0) m xs y s → Further indent m xs y s
+further indent m xs y s start r = record {
+  items = r.items;
+  is = r.is;
+  bytes = r.bytes;
+  passed = r.passed;
+  clear = r.clear tt start;
+  reached = or_left (is_quoted_line indent xs) (slice_index xs 0 == 34)
+      (let none : indent - m.col ≡ indent = omega (arith, start) in
+      subst (λ n. quotes.IsReached n xs) none (r.reached tt));
+}
+
+line_word : (n : ℕ) (indent : ℕ) (start m : Marker) (xs y : List ℕ) (s : Cursor) → m.col ≡ 0 → length xs ≤ n
     → Known n Double indent start
     → GaveText (inner_text Double indent start (escaped_gap Double (slice_index xs 0)) 0 m xs) y s
-    → Spelled Double (over_lines true 0) m xs y s
-line_word n indent start m [] y s le known g = known (over_lines true 0) m [] y s le g
-line_word n indent start m (c ∷ cs) y s le known g = cases (c == 34)
+    → Further indent m xs y s
+line_word n indent start m [] y s first le known g =
+    further indent m [] y s first (known (over_lines true 0) m [] y s le g)
+line_word n indent start m (c ∷ cs) y s first le known g = cases (c == 34)
     (λ h. let is : 34 ≡ c = sym (eqb-true c 34 h) in
-    subst (λ (x : ℕ). Spelled Double (over_lines true 0) m (x ∷ cs) y s) is
+    subst (λ (x : ℕ). Further indent m (x ∷ cs) y s) is
     (closes (ap (λ x. inner_text Double indent start no_gap 0 m (x ∷ cs)) is
     ∙ ap (λ g. inner_text Double indent start g 0 m (c ∷ cs)) (sym (gap_of (c == 34) h)) ∙ g)))
-    (λ h. known (over_lines true 0) m (c ∷ cs) y s le
-    (ap (λ g. inner_text Double indent start g 0 m (c ∷ cs)) (sym (line_of (c == 34) h)) ∙ g))
+    (λ h. further indent m (c ∷ cs) y s first
+    (known (over_lines true 0) m (c ∷ cs) y s le
+    (ap (λ g. inner_text Double indent start g 0 m (c ∷ cs)) (sym (line_of (c == 34) h)) ∙ g)))
   where
     gap_of : (b : Bool) → b ≡ true → cond b no_gap (over_lines true 0) ≡ no_gap
     gap_of true h = refl
@@ -136,24 +163,27 @@ line_word n indent start m (c ∷ cs) y s le known g = cases (c == 34)
     line_of false h = refl
 
     closes : GaveText (inner_text Double indent start no_gap 0 m (quotation_mark ∷ cs)) y s
-        → Spelled Double (over_lines true 0) m (quotation_mark ∷ cs) y s
+        → Further indent m (quotation_mark ∷ cs) y s
     closes g =
         let done = sym (at_closing Double indent start m cs refl) ∙ g in
         let left : cs ≡ s.rest = ap (λ (u : Cursor). u.rest) (text_second [] y (mid_line (along m 1) cs) s done) in
         record {
           items = [];
-          is = subst (λ (x : List ℕ). quotes.IsCleanText Double (34 ∷ cs) [] x) left (quotes.closed Double cs refl);
+          is = subst (λ (x : List ℕ). quotes.IsCleanText indent Double (34 ∷ cs) [] x) left
+              (quotes.closed indent Double cs refl);
           bytes = text_first [] y (mid_line (along m 1) cs) s done;
           passed = subst (λ (u : Cursor). IsPassed m (34 ∷ cs) u.mark u.rest)
               (text_second [] y (mid_line (along m 1) cs) s done)
               (character m 34 cs (along m 1) cs refl (nothing (along m 1) cs));
-          clear = λ _ _. refl;
+          clear = refl;
+          reached = or_right (is_quoted_line indent (34 ∷ cs)) true refl;
         }
 
 -- an escape, or an escaped break
 backslash_word : (n : ℕ) (indent : ℕ) (start m : Marker) (cs y : List ℕ) (s : Cursor) → length cs ≤ n
     → Known n Double indent start
-    → GaveText (inner_text Double indent start no_gap 0 m (backslash ∷ cs)) y s → Word Double m (backslash ∷ cs) y s
+    → GaveText (inner_text Double indent start no_gap 0 m (backslash ∷ cs)) y s
+    → Word indent Double m (backslash ∷ cs) y s
 backslash_word n indent start m [] y s le known g =
     let t = then_text (escaped_character start (mid_line m (92 ∷ []))) _ y s
     (sym (at_escape indent start m [] refl) ∙ g) in
@@ -161,11 +191,11 @@ backslash_word n indent start m [] y s le known g =
 backslash_word n indent start m (e ∷ xs) y s le known g = cases (is_break e)
     (λ h.
     let r = line_word n indent start (next_line (along m 1) (break_len (e ∷ xs))) (drop (break_len (e ∷ xs)) (e ∷ xs)) y
-    s (omega (arith, drop_shorter (break_len (e ∷ xs)) (e ∷ xs))) known
+    s refl (omega (arith, drop_shorter (break_len (e ∷ xs)) (e ∷ xs))) known
     (sym (at_escaped_break indent start m (e ∷ xs) h) ∙ g) in
     record {
       items = EscapedBreak ∷ r.items;
-      is = quotes.escaped_break (e ∷ xs) r.items s.rest h (r.clear tt refl) r.is;
+      is = quotes.escaped_break indent (e ∷ xs) r.items s.rest h r.clear r.reached r.is;
       bytes = λ gap. ap (λ b. gap_front gap ++ b) (sym r.bytes) ∙ escaped_break_bytes gap r.items;
       passed = character m 92 (e ∷ xs) s.mark s.rest refl (line_break (along m 1) (e ∷ xs) s.mark s.rest h r.passed);
     })
@@ -177,7 +207,7 @@ backslash_word n indent start m (e ∷ xs) y s le known g = cases (is_break e)
     let r = known no_gap t.1.mark t.1.rest f.0 s (omega (arith, esc.shorter, le)) f.1 in
     record {
       items = Escaped t.0 ∷ r.items;
-      is = esc.grows r.items s.rest r.is;
+      is = esc.grows indent r.items s.rest r.is;
       bytes = λ gap. ap (λ b. gap_front gap ++ b) (sym f.2 ∙ ap (λ b. encode_utf8 t.0 ++ b) (sym r.bytes))
           ∙ escaped_bytes gap t.0 r.items;
       passed = esc.passes s.mark s.rest r.passed;
@@ -197,24 +227,24 @@ special_of q c is h = by_cases (is_blank c) (is_break c) (is_z c) (flow.is_speci
 pub word_spelled : (n : ℕ) (q : Quote) (indent : ℕ) (start m : Marker) (c : ℕ) (cs y : List ℕ) (s : Cursor)
     → IsQuotedInk c
     → length cs ≤ n → Known n q indent start
-    → GaveText (inner_text q indent start no_gap 0 m (c ∷ cs)) y s → Word q m (c ∷ cs) y s
+    → GaveText (inner_text q indent start no_gap 0 m (c ∷ cs)) y s → Word indent q m (c ∷ cs) y s
 word_spelled n q indent start m c cs y s is le known g = cases (is_literal q c)
     (λ h. literal_word n q indent start m c cs y s is h le known g)
     (λ h. by_quote q known g (special_of q c is h))
   where
     by_quote : (q : Quote) → Known n q indent start → GaveText (inner_text q indent start no_gap 0 m (c ∷ cs)) y s
-        → flow.is_special q c ≡ true → Word q m (c ∷ cs) y s
+        → flow.is_special q c ≡ true → Word indent q m (c ∷ cs) y s
     by_quote Single known g special =
         let same : 39 ≡ c = sym (eqb-true c 39 special) in
-        subst (λ (x : ℕ). Word Single m (x ∷ cs) y s) same
+        subst (λ (x : ℕ). Word indent Single m (x ∷ cs) y s) same
         (quote_word n indent start m cs y s le known
         (ap (λ x. inner_text Single indent start no_gap 0 m (x ∷ cs)) same ∙ g))
-    by_quote Double known g special = either (c == 34) (c == 92) (Word Double m (c ∷ cs) y s) special
+    by_quote Double known g special = either (c == 34) (c == 92) (Word indent Double m (c ∷ cs) y s) special
         (λ h. let same : 34 ≡ c = sym (eqb-true c 34 h) in
-        subst (λ (x : ℕ). Word Double m (x ∷ cs) y s) same
+        subst (λ (x : ℕ). Word indent Double m (x ∷ cs) y s) same
         (closed_word Double indent start m cs y s refl
         (ap (λ x. inner_text Double indent start no_gap 0 m (x ∷ cs)) same ∙ g)))
         (λ h. let same : 92 ≡ c = sym (eqb-true c 92 h) in
-        subst (λ (x : ℕ). Word Double m (x ∷ cs) y s) same
+        subst (λ (x : ℕ). Word indent Double m (x ∷ cs) y s) same
         (backslash_word n indent start m cs y s le known
         (ap (λ x. inner_text Double indent start no_gap 0 m (x ∷ cs)) same ∙ g)))

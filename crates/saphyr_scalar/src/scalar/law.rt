@@ -1,7 +1,7 @@
 //! Laws: what the readers of scalars promise in the standard's words (YAML 1.2.2, 7.3): what is read is spelled so
 //! and has that value. And that each reader takes characters off, so that a scanner comes to an end.
 
-ghost use Rattle.std.specs.Prelude.{◌≡◌, ℕ, ◌+◌, ◌-◌, ◌^◌, ◌<◌, ◌≤◌, ◌⊎◌, Bool, Option, false, true, List, length, Ok, encode_utf8_all, slice_index};
+ghost use Rattle.std.specs.Prelude.{◌≡◌, ℕ, ◌+◌, ◌-◌, ◌^◌, ◌<◌, ◌≤◌, ◌⊎◌, ◌++◌, Bool, Option, false, true, List, length, Ok, encode_utf8_all, slice_index};
 ghost use Rattle.saphyr_input.specs.Indicators.{exclamation_mark, percent_sign};
 ghost use Rattle.saphyr_input.specs.Classes.{is_break, is_z};
 ghost use Rattle.saphyr_input.specs.Places.{is_blank_or_break};
@@ -17,6 +17,8 @@ ghost use Rattle.saphyr_scalar.specs.Views.Cursor.{Cursor};
 ghost use Rattle.saphyr_scalar.specs.Steps.Quoted.{quoted};
 ghost use Rattle.saphyr_scalar.specs.Spelling.Quoted.{IsQuotedText};
 ghost use Rattle.scalar_values.specs.Flow as flow;
+ghost use Rattle.saphyr_scalar.specs.Spelling.LaterLines.{ArePlainLines};
+ghost use Rattle.saphyr_scalar.specs.Spelling.IndentedQuotes.{HasIndentedLines};
 ghost use Rattle.saphyr_scalar.specs.Spelling.QuotedMarkers.{HasNoMarker};
 ghost use Rattle.saphyr_scalar.specs.Passing.{IsPassed};
 ghost use Rattle.scalar_values.specs.Folding.{folded};
@@ -35,13 +37,16 @@ pub fn spells_each_quoted()
         × (encode_utf8_all (folded items) ≡ text) × IsPassed s.mark s.rest t.mark t.rest }
 {}
 
-/// No later line of what is read as a quoted scalar begins with a document marker.
-pub fn keeps_markers_out_of_quotes()
+/// No later line of what is read as a quoted scalar begins with a document marker, and each begins
+/// with as many spaces as `indent` asks for, or has fewer and nothing else. Right behind an escaped
+/// break the closing quote may stand at any column.
+pub fn spells_quoted_lines()
     ensures { (quote : Quote) (indent : ℕ) (s t : Cursor) (text : List ℕ)
         → slice_index s.rest 0 ≡ flow.mark quote → quoted quote indent s ≡ Ok (text, t)
         → (items : List Item) × (is : IsQuotedText quote s.rest items t.rest)
         × (encode_utf8_all (folded items) ≡ text) × IsPassed s.mark s.rest t.mark t.rest
-        × HasNoMarker quote is.0 items t.rest is.2 }
+        × HasNoMarker quote is.0 items t.rest is.2
+        × HasIndentedLines indent quote is.0 items t.rest is.2 }
 {}
 
 /// What is read as a plain scalar is the reading of a piece of the text that is spelled as one, and
@@ -50,6 +55,16 @@ pub fn reads_plain_values()
     ensures { (in_flow : Bool) (indent : ℕ) (s t : Cursor) (text : List ℕ) (end : Marker)
         (comment : Option Marker) → plain in_flow indent s ≡ Ok (text, end, comment, t)
         → IsPlainReading in_flow s text end t }
+{}
+
+/// Each later line of what is read as a plain scalar begins with as many spaces as `indent` asks
+/// for, or has blanks alone. Inside flow it may begin with fewer spaces, but not with fewer and a
+/// tab.
+pub fn indents_plain_lines()
+    ensures { (in_flow : Bool) (indent : ℕ) (s t : Cursor) (text : List ℕ) (end : Marker)
+        (comment : Option Marker) → plain in_flow indent s ≡ Ok (text, end, comment, t)
+        → (reading : IsPlainReading in_flow s text end t)
+        × ArePlainLines in_flow indent reading.piece (reading.white ++ t.rest) }
 {}
 
 /// A plain scalar begins with a character that is neither a blank nor a break.
