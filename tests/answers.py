@@ -23,8 +23,8 @@ missing, and end a single pair by a brace before a bracket is one too many. (An 
 tag is compared up to its prefix.)
 
 What it doesn't tell: other lists that end in a fault; spans, of which each list has many; texts whose answers break
-several conditions at once; and answers with more than `--bare` (2) starts and keys without a text at one place. Today's
-definitions let any number of these through, and there are at most two where no condition is broken.
+several conditions at once; and answers with more than `--bare` (2) starts and keys without a text at one place, of
+which the definitions take two at most.
 """
 import argparse
 import collections
@@ -61,6 +61,7 @@ APART = re.compile(r"(?:[ \t\n\r]|#[^\0\n\r\ufeff]*)*")
 NAME = re.compile(r"[^\0 \t\n\r\ufeff,\[\]{}]+")
 BYTES = re.compile("(?:%[0-9a-fA-F]{2})+")
 NAMED_HANDLE = re.compile("![0-9A-Za-z_-]*!")
+SPACES = re.compile(" *")
 BLANKS = re.compile(r"[ \t]*")
 LINE_TAIL = re.compile(r"[ \t]*(?:(?<=[ \t])#[^\0\n\r\ufeff]*)?(?=[\0\n\r]|\Z)")
 VERSION = re.compile(r"%YAML[ \t]+[0-9]{1,9}\.[0-9]{1,9}")
@@ -69,21 +70,9 @@ RESERVED = re.compile(r"%([^\0 \t\n\r\ufeff]+)(?:[ \t][^\0\n\r\ufeff]*)?")
 HEADER = re.compile(r"[|>]([1-9]?)([-+]?)([1-9]?)[ \t]*(?:(?<=[ \t])#[^\0\n\r\ufeff]*)?(\r\n|\r|\n)?")
 LEADING = re.compile(r"[ \n\r]*")
 
-# What no definition asks, with a smallest text and an answer of it that is taken for the want of this alone.
-OPEN = {
-    "own line": ("behind a block collection's properties a line ends (8.2.3)",
-                 "! :", "+MAP <!> / =VAL : / =VAL : / -MAP"),
-    "entry's column": ("a block mapping's entry without a key begins at its column (8.2.2)",
-                       ": :", "+MAP / =VAL : / =VAL : / =VAL : / =VAL : / -MAP"),
-    "later lines": ("outside flow a scalar's later lines stand right of the innermost collection's column (6.1)",
-                    "- a\n-", "+SEQ / =VAL :a - / -SEQ"),
-    "colon apart": ("inside flow white space, an indicator or the end stands behind a colon, or before it a key that ends"
-                    " with a quote or a bracket (7.4.2)", "[:a]", "+SEQ / +MAP / =VAL : / =VAL :a / -MAP / -SEQ"),
-    "some key": ("a key without a `?` has a text (7.4, 8.2.2)",
-                 "?\n:", "+MAP / =VAL : / =VAL : / =VAL : / =VAL : / -MAP"),
-    "colon's column": ("in a block mapping the colon of a `?` stands at the mapping's column (8.2.2)",
-                       "? :", "+MAP / =VAL : / =VAL : / -MAP"),
-}
+# What no definition asks, by a name: what it says, with a smallest text and an answer of it that is taken for the want of
+# this alone. Today the definitions ask everything that is known.
+OPEN = {}
 WAIVED = "key with a colon", "own braces"
 BITS = {name: 1 << number for number, name in enumerate(OPEN)}
 REFUSED = (1 << 64) - 1
@@ -367,9 +356,24 @@ class Search:
                 if self.ends_directive(end):
                     yield (handle, prefix), self.along(place, end - place.index), 0
 
+    # ## Spelling/LaterLines.antt. `least` there is `column` + 1 for plain scalars, and `column` for quoted ones.
+    def indentation_at(self, index):
+        """How many spaces a line begins with, and the character behind them."""
+        spaces = SPACES.match(self.text, index).end() - index
+        return spaces, self.at(index + spaces)
+
+    def is_plain_line(self, index, context, column):
+        spaces, behind = self.indentation_at(index)
+        is_blank_line = self.at(BLANKS.match(self.text, index).end()) in BREAK
+        return spaces > column or is_blank_line or context == IN_FLOW and behind != "\t"
+
+    def is_quoted_line(self, index, column):
+        spaces, behind = self.indentation_at(index)
+        return spaces >= column or behind in BREAK
+
     # ## Reading/Plain.antt
     def plain_tokens(self, place, context, column):
-        """Each plain scalar at a place (IsPlainToken): its value, the place behind it, and what it breaks."""
+        """Each plain scalar at a place (IsPlainToken): its value and the place behind it."""
         first, there, is_apart = self.at(place.index), place, True
         if first in ",[]{}#&*!'\"%@`" + WHITE or first in "-?:" and self.at(place.index + 1) in BLANK_OR_BREAKZ:
             return
@@ -378,11 +382,13 @@ class Search:
             if c in END + MARK or c == "#" and is_apart or c == ":" and following in BLANK_OR_BREAKZ \
                     or there.col == 0 and self.is_document_indicator(there.index):
                 return
+            if self.ends_line(there.index) and not self.is_plain_line(there.index + 1, context, column):
+                return
             there, is_apart = self.behind(there, there.index + 1), c in WHITE
             if not is_apart and following in BLANK_OR_BREAKZ + MARK + ":" + FLOW:
                 piece = self.text[place.index:there.index]
                 if self.may_stand(piece, context, following):
-                    yield plain_value(normalized(piece)), there, self.lines_break(place, there, context, column)
+                    yield plain_value(normalized(piece)), there
 
     def may_stand(self, piece, context, following):
         """Whether a piece has no indicator that ends it inside flow (IsSafeInFlow), or begins none outside."""
@@ -390,13 +396,7 @@ class Search:
             return piece[0] not in "|>"
         return not set(piece) & set(FLOW) and not (piece[-1] == ":" and following in FLOW)
 
-    def lines_break(self, place, behind, context, column):
-        """What the later lines of a flow scalar outside flow break."""
-        lines = re.split("\r\n|[\r\n]", self.text[place.index:behind.index])[1:]
-        fit = all(len(line) - len(line.lstrip(BLANK)) > column for line in lines if line.strip(BLANK))
-        return self.unless("later lines", context == IN_FLOW or fit)
-
-    # ## Spelling/Quoted.antt and Spelling/QuotedMarkers.antt
+    # ## Spelling/Quoted.antt, Spelling/QuotedMarkers.antt and Spelling/IndentedQuotes.antt
     def break_len(self, index):
         return 1 + (self.text[index:index + 2] == "\r\n")
 
@@ -421,13 +421,12 @@ class Search:
             return ("break", c), self.break_len(index)
         return None if c == END else (raw_item(c), 1 + (c == quote))
 
-    def quoted_tokens(self, place, context, column):
+    def quoted_tokens(self, place, column):
         """The quoted scalar at a place (IsQuotedToken)."""
         quote, index, items = self.at(place.index), place.index + 1, []
         while index < len(self.text):
             if self.at(index) == quote and not (quote == "'" and self.at(index + 1) == "'"):
-                behind = self.behind(place, index + 1, ends_json=True)
-                yield quote, folded(items), behind, self.lines_break(place, behind, context, column)
+                yield quote, folded(items), self.behind(place, index + 1, ends_json=True)
                 return
             found = self.quoted_item(quote, index)
             if not found:
@@ -435,6 +434,9 @@ class Search:
             items.append(found[0])
             index += found[1]
             if found[0][0] in ("break", "escaped break") and self.is_document_indicator(index):
+                return
+            closes = found[0][0] == "escaped break" and self.at(index) == quote
+            if found[0][0] in ("break", "escaped break") and not (closes or self.is_quoted_line(index, column)):
                 return
 
     # ## Reading/BlockText.antt
@@ -479,14 +481,14 @@ class Search:
             fit = all(is_read_line(indentation, line) for line in lines)
             if fit and self.text[end - 1:end + 1] != "\r\n" and self.is_behind_lines(indentation, t):
                 value = block_value(style, chomping, indentation, "\n".join(lines), self.at(end) == END)
-                yield style, value, t, 0
+                yield style, value, t
             if self.at(end) in END + MARK or is_start and self.is_document_indicator(end):
                 return
             is_start = self.at(end) in BREAK
 
     def scalar_tokens(self, place, context, column):
         if self.at(place.index) in "'\"":
-            yield from self.quoted_tokens(place, context, column)
+            yield from self.quoted_tokens(place, column)
         if self.at(place.index) in "|>":
             yield from self.block_scalar_tokens(place, context, column)
         yield from (("plain", *it) for it in self.plain_tokens(place, context, column))
@@ -532,9 +534,8 @@ class Search:
     def flow_content(self, place, context, column, anchor, tag):
         """What no block collection is: a scalar, which may be left out behind a property, or a flow collection."""
         content = self.apart(place)
-        for style, value, t, broken in self.scalar_tokens(content, context, column):
-            part = Leaf("=VAL", anchor, tag, style, value)
-            yield from ((told, u, broken) for told, u in (self.tell(t, part) if self.may(broken) else []))
+        for style, value, t in self.scalar_tokens(content, context, column):
+            yield from ((told, u, 0) for told, u in self.tell(t, Leaf("=VAL", anchor, tag, style, value)))
         if (anchor, tag) != (None, None):
             yield from ((told, t, 0) for told, t in self.tell(place, Leaf("=VAL", anchor, tag, "plain", "")))
         for name, collection in (("+SEQ", self.flow_sequence), ("+MAP", self.flow_mapping)):

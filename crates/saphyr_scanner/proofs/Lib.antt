@@ -21,6 +21,7 @@ pub mod ReadersCounted
 pub mod HeldTexts
 pub mod LineTexts
 pub mod Reached
+pub mod LessIndented
 pub mod PlainBehind
 pub mod QuotedEnds
 pub mod GapPlaces

@@ -4,6 +4,7 @@ pub mod Separated
 pub mod InPlace
 pub mod Parts
 pub mod Later
+pub mod OnLine
 pub mod Held
 pub mod Keys
 pub mod Neutral
@@ -14,3 +15,4 @@ pub mod Arrivals
 pub mod Fetch
 pub mod Run
 pub mod Places
+pub mod JsonEnds

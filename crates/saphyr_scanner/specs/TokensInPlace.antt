@@ -1,6 +1,7 @@
 -- Which tokens may stand where, told of the tokens alone: a single pair of a flow sequence has its start, its colon and
--- its end, an implicit key has its colon, and a block collection has an entry (YAML 1.2.2, 7.4, 7.5 and 8.2).
-use Rattle.std.specs.Prelude.{◌+◌, Bool, true, false, not, nat_le, nat_lt, ◌||◌, ◌&&◌, if◌then◌else◌, List, [], ◌∷◌, Option, Some, None, IsTrue}
+-- its end, an implicit key has its colon, a block collection has an entry, and its properties stand on a line before it
+-- (YAML 1.2.2, 7.4, 7.5 and 8.2). A colon without an implicit key stands at its mapping's column.
+use Rattle.std.specs.Prelude.{ℕ, ◌+◌, ◌==◌, Bool, true, false, not, nat_le, nat_lt, ◌||◌, ◌&&◌, if◌then◌else◌, List, [], ◌∷◌, Option, Some, None, IsTrue}
 use Rattle.saphyr_scalar.specs.declared.scalar.position.Marker.{Marker}
 use Rattle.saphyr_scalar.specs.declared.scalar.position.Span.{Span}
 use Rattle.saphyr_scanner.specs.Grammar.Tokens as tokens
@@ -24,40 +25,77 @@ pub record Enclosed : Type 0 where
   pub enclosure : Enclosure
   pub key : Option Marker
 
--- a block collection that began right in front of a token
+-- what began right in front of a token: a block collection, a node, whose anchor or tag ends on a line, or an implicit
+-- key
 pub data Begun : Type 0 where
   Nothing : Begun
   BlockSequence : Begun
   BlockMapping : Begun
+  Property : ℕ → Begun
+  KeyStart : Begun
 
--- what encloses a token innermost, what is around that, and what has begun
+-- what encloses a token innermost, what is around that, what has begun, and the columns of the open block collections,
+-- the innermost first
 pub record Enclosures : Type 0 where
   pub inner : Enclosed
   pub outer : List Enclosed
   pub begun : Begun
+  pub columns : List ℕ
 
 abbrev pub not_enclosed : Enclosures
-not_enclosed = record { inner = record { enclosure = Block; key = None }; outer = []; begun = Nothing }
+not_enclosed = record { inner = record { enclosure = Block; key = None }; outer = []; begun = Nothing; columns = [] }
 
 abbrev pub with_begun : Begun → Enclosures → Enclosures
-with_begun begun all = record { inner = all.inner; outer = all.outer; begun = begun }
+with_begun begun all = record { inner = all.inner; outer = all.outer; begun = begun; columns = all.columns }
+
+-- a block collection begins at a column
+abbrev pub begun_at : Begun → ℕ → Enclosures → Enclosures
+begun_at begun column all =
+    record { inner = all.inner; outer = all.outer; begun = begun; columns = column ∷ all.columns }
+
+abbrev pub without_innermost : List ℕ → List ℕ
+without_innermost [] = []
+without_innermost (column ∷ columns) = columns
+
+-- the innermost block collection ends
+abbrev pub block_ended : Enclosures → Enclosures
+block_ended all =
+    record { inner = all.inner; outer = all.outer; begun = Nothing; columns = without_innermost all.columns }
 
 abbrev pub entered : Enclosure → Enclosures → Enclosures
-entered e all =
-    record { inner = record { enclosure = e; key = None }; outer = all.inner ∷ all.outer; begun = Nothing }
+entered e all = record {
+  inner = record { enclosure = e; key = None };
+  outer = all.inner ∷ all.outer;
+  begun = Nothing;
+  columns = all.columns;
+}
 
-abbrev pub left_for : List Enclosed → Enclosures
-left_for [] = not_enclosed
-left_for (e ∷ es) = record { inner = e; outer = es; begun = Nothing }
+abbrev pub left_for : List Enclosed → List ℕ → Enclosures
+left_for [] columns = record {
+  inner = record { enclosure = Block; key = None };
+  outer = [];
+  begun = Nothing;
+  columns = columns;
+}
+left_for (e ∷ es) columns = record { inner = e; outer = es; begun = Nothing; columns = columns }
 
 -- an entry or a single pair begins, goes on or ends
 abbrev pub turned_to : Enclosure → Enclosures → Enclosures
-turned_to e all = record { inner = record { enclosure = e; key = None }; outer = all.outer; begun = Nothing }
+turned_to e all = record {
+  inner = record { enclosure = e; key = None };
+  outer = all.outer;
+  begun = Nothing;
+  columns = all.columns;
+}
 
 -- an implicit key began
 abbrev pub awaiting_colon : Marker → Enclosures → Enclosures
-awaiting_colon key all =
-    record { inner = record { enclosure = all.inner.enclosure; key = Some key }; outer = all.outer; begun = Nothing }
+awaiting_colon key all = record {
+  inner = record { enclosure = all.inner.enclosure; key = Some key };
+  outer = all.outer;
+  begun = KeyStart;
+  columns = all.columns;
+}
 
 abbrev pub behind_question : Enclosure → Enclosure
 behind_question Sequence = MarkedEntry
@@ -77,18 +115,21 @@ has_text span = nat_lt span.start.index span.end.index
 
 -- what encloses the token behind
 abbrev pub enclosures_behind : Kind → Span → Enclosures → Enclosures
-enclosures_behind tokens.BlockSequenceStart span all = with_begun BlockSequence all
-enclosures_behind tokens.BlockMappingStart span all = with_begun BlockMapping all
+enclosures_behind tokens.BlockSequenceStart span all = begun_at BlockSequence span.start.col all
+enclosures_behind tokens.BlockMappingStart span all = begun_at BlockMapping span.start.col all
+enclosures_behind tokens.BlockEnd span all = block_ended all
 enclosures_behind tokens.FlowSequenceStart span all = entered Sequence all
-enclosures_behind tokens.FlowSequenceEnd span all = left_for all.outer
+enclosures_behind tokens.FlowSequenceEnd span all = left_for all.outer all.columns
 enclosures_behind tokens.FlowMappingStart span all =
     if has_text span then entered Mapping all else turned_to PairKey all
 enclosures_behind tokens.FlowMappingEnd span all =
-    if has_text span then left_for all.outer else turned_to Sequence all
+    if has_text span then left_for all.outer all.columns else turned_to Sequence all
 enclosures_behind tokens.FlowEntry span all = turned_to (behind_comma all.inner.enclosure) all
 enclosures_behind tokens.Key span all =
     if has_text span then turned_to (behind_question all.inner.enclosure) all else awaiting_colon span.start all
 enclosures_behind tokens.Value span all = turned_to (behind_pair_colon all.inner.enclosure) all
+enclosures_behind (tokens.Anchor name) span all = with_begun (Property span.end.line) all
+enclosures_behind (tokens.Tag handle suffix) span all = with_begun (Property span.end.line) all
 enclosures_behind _ span all = with_begun Nothing all
 
 -- ## What may stand there
@@ -118,15 +159,22 @@ abbrev pub is_in_brackets : Enclosure → Bool
 is_in_brackets Block = false
 is_in_brackets _ = true
 
+-- at the column of the innermost open block collection
+abbrev pub is_at_column : ℕ → List ℕ → Bool
+is_at_column column [] = false
+is_at_column column (innermost ∷ columns) = column == innermost
+
 -- Where no key's colon is to come. A single pair ends before the next entry and before `]`. (Of `[a: b}` and `{]` the
--- tokens come before the parser refuses them.)
-abbrev pub fits : Enclosure → Kind → Span → Bool
-fits e tokens.FlowMappingStart span = has_text span || may_begin_pair e
-fits e tokens.FlowMappingEnd span = if has_text span then is_in_brackets e else may_end_pair e
-fits e tokens.FlowSequenceEnd span = is_in_brackets e && not (is_pair e)
-fits e tokens.FlowEntry span = not (is_pair e)
-fits e tokens.Key span = has_text span || may_begin_key e
-fits e _ span = true
+-- tokens come before the parser refuses them.) 8.2.2: outside brackets a colon without a key, and that of a `?`, stands
+-- at the column of its mapping.
+abbrev pub fits : Enclosure → List ℕ → Kind → Span → Bool
+fits e columns tokens.FlowMappingStart span = has_text span || may_begin_pair e
+fits e columns tokens.FlowMappingEnd span = if has_text span then is_in_brackets e else may_end_pair e
+fits e columns tokens.FlowSequenceEnd span = is_in_brackets e && not (is_pair e)
+fits e columns tokens.FlowEntry span = not (is_pair e)
+fits e columns tokens.Key span = has_text span || may_begin_key e
+fits e columns tokens.Value span = is_in_brackets e || is_at_column span.start.col columns
+fits e columns _ span = true
 
 -- 7.4: a token of a node that may be an implicit key: properties, an alias, a scalar, or the start of a flow
 -- collection, which encloses what stands in it
@@ -139,8 +187,8 @@ is_of_flow_node tokens.FlowSequenceStart span = true
 is_of_flow_node tokens.FlowMappingStart span = has_text span
 is_of_flow_node _ span = false
 
--- 7.4.2, 8.2.2: A block mapping's colon stands on the line where the key began, at most 1,024 characters behind. A single
--- pair's stands on the key's line, and one in braces anywhere behind.
+-- 7.4.2, 8.2.2: A block mapping's colon stands on the line where the key began, at most 1,024 characters behind. A
+-- single pair's stands on the key's line, and one in braces anywhere behind.
 abbrev pub is_near : Enclosure → Marker → Marker → Bool
 is_near Block key colon = nat_le colon.line key.line && nat_le colon.index (key.index + 1024)
 is_near PairKey key colon = nat_le colon.line key.line
@@ -151,21 +199,30 @@ abbrev pub fits_in_key : Enclosure → Marker → Kind → Span → Bool
 fits_in_key e key tokens.Value span = is_near e key span.start
 fits_in_key e key kind span = is_of_flow_node kind span
 
-abbrev pub fits_at : Enclosure → Option Marker → Kind → Span → Bool
-fits_at e None kind span = fits e kind span
-fits_at e (Some key) kind span = fits_in_key e key kind span
+abbrev pub fits_at : Enclosure → Option Marker → List ℕ → Kind → Span → Bool
+fits_at e None columns kind span = fits e columns kind span
+fits_at e (Some key) columns kind span = fits_in_key e key kind span
 
--- 8.2: a block sequence begins with `-`, and a block mapping with a key or a colon
-abbrev pub may_follow : Begun → Kind → Bool
-may_follow Nothing kind = true
-may_follow BlockSequence tokens.BlockEntry = true
-may_follow BlockSequence _ = false
-may_follow BlockMapping tokens.Key = true
-may_follow BlockMapping tokens.Value = true
-may_follow BlockMapping _ = false
+-- 8.2: A block sequence begins with `-`, and a block mapping with a key or a colon. The properties of a block
+-- collection stand on a line before it, also where the `-` of a sequence stands at its mapping's column. 7.4, 8.2.2:
+-- behind the start of an implicit key stands a token of its node.
+abbrev pub may_follow : Begun → Kind → Span → Bool
+may_follow Nothing kind span = true
+may_follow BlockSequence tokens.BlockEntry span = true
+may_follow BlockSequence _ span = false
+may_follow BlockMapping tokens.Key span = true
+may_follow BlockMapping tokens.Value span = true
+may_follow BlockMapping _ span = false
+may_follow (Property line) tokens.BlockSequenceStart span = nat_lt line span.start.line
+may_follow (Property line) tokens.BlockMappingStart span = nat_lt line span.start.line
+may_follow (Property line) tokens.BlockEntry span = nat_lt line span.start.line
+may_follow (Property line) _ span = true
+may_follow KeyStart tokens.Value span = false
+may_follow KeyStart _ span = true
 
 abbrev pub may_stand : Enclosures → Kind → Span → Bool
-may_stand all kind span = may_follow all.begun kind && fits_at all.inner.enclosure all.inner.key kind span
+may_stand all kind span =
+    may_follow all.begun kind span && fits_at all.inner.enclosure all.inner.key all.columns kind span
 
 -- each token may stand where it does
 abbrev pub AreInPlace : Enclosures → List Piece → Type 0

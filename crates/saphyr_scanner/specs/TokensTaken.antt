@@ -1,8 +1,8 @@
 -- Which tokens are taken from a text: up to the last token the text is the spellings of the tokens in order, parted by
 -- blanks, breaks and comments alone (YAML 1.2.2, chapters 5 to 9). Nothing else is passed over.
 -- A place is a cursor, of which what stands there and its line and column count here.
-use Rattle.std.specs.Prelude.{◌≡◌, ℕ, ◌+◌, ◌-◌, ◌≤◌, ◌<◌, Bool, false, not, nat_lt, if◌then◌else◌, ◌&&◌, ◌==◌, ◌⊎◌, List, [], ◌∷◌, ◌++◌, length, drop, slice_index, Option, Some, None, IsTrue, IsFalse, codes, encode_utf8_all}
-use Rattle.saphyr_input.specs.Classes.{is_blank, is_break, is_breakz, is_blank_or_breakz, is_yaml_non_break, is_anchor_char, is_one_of, byte_order_mark}
+use Rattle.std.specs.Prelude.{◌≡◌, ℕ, ◌+◌, ◌-◌, ◌≤◌, ◌<◌, Bool, true, false, not, nat_lt, if◌then◌else◌, ◌&&◌, ◌||◌, ◌==◌, ◌⊎◌, List, [], ◌∷◌, ◌++◌, length, drop, slice_index, Option, Some, None, IsTrue, IsFalse, codes, encode_utf8_all}
+use Rattle.saphyr_input.specs.Classes.{is_blank, is_break, is_breakz, is_blank_or_breakz, is_flow, is_yaml_non_break, is_anchor_char, is_one_of, byte_order_mark}
 use Rattle.saphyr_input.specs.Places.{is_document_start, is_document_end, is_document_indicator, is_blank_or_break}
 use Rattle.saphyr_input.specs.Indicators.{ampersand, asterisk, colon, comma, greater_than, hyphen, left_brace, left_bracket, number_sign, percent_sign, question_mark, right_brace, right_bracket, vertical_bar}
 use Rattle.saphyr_scalar.specs.declared.scalar.position.Marker.{Marker}
@@ -19,6 +19,8 @@ use Rattle.saphyr_scalar.specs.Views.Cursor.{Cursor, start_cursor, along, next_l
 use Rattle.saphyr_scalar.specs.Passing.{IsPassed}
 use Rattle.saphyr_scalar.specs.Spelling.LineBreaks.{break_len}
 use Rattle.scalar_values.specs.Folding.{folded}
+use Rattle.saphyr_scalar.specs.Spelling.LaterLines.{ArePlainLines}
+use Rattle.saphyr_scalar.specs.Spelling.IndentedQuotes.{HasIndentedLines}
 use Rattle.saphyr_scalar.specs.Spelling.QuotedMarkers.{HasNoMarker}
 use Rattle.saphyr_scalar.specs.Spelling.Quoted.{IsQuotedText}
 use Rattle.saphyr_scalar.specs.Reading.Plain.{IsPlainReading}
@@ -28,7 +30,7 @@ use Rattle.saphyr_scalar.specs.Spelling.Directive.{ReadDirective, version, tag_p
 use Rattle.saphyr_scanner.specs.Grammar.Tokens as tokens
 use Rattle.saphyr_scanner.specs.Grammar.Tokens.{Kind}
 use Rattle.saphyr_scanner.specs.Views.Tokens.{Piece, Remaining}
-use Rattle.saphyr_scanner.specs.TokensInPlace.{has_text, not_enclosed, AreInPlace}
+use Rattle.saphyr_scanner.specs.TokensInPlace.{has_text, without_innermost, not_enclosed, AreInPlace}
 
 -- ## Places (5.4)
 
@@ -82,8 +84,8 @@ LiesOnLine s m = (tail behind : List ℕ) × IsLineTail tail × (s.rest ≡ tail
 abbrev pub HasNoText : Span → Cursor → Cursor → Type 0
 HasNoText span s t = (span.end ≡ span.start) × IsPlaceOrEnd s span.start × (t ≡ s)
 
--- 8.2: The start of a block collection stands right of the column of the collection around it, where the text of the next
--- token begins that has one: neither a blank, a break nor a comment stands there.
+-- 8.2: The start of a block collection stands right of the column of the collection around it, where the text of the
+-- next token begins that has one: neither a blank, a break nor a comment stands there.
 abbrev pub begins_text : ℕ → Bool
 begins_text c = not (is_blank_or_break c) && not (c == number_sign)
 
@@ -181,36 +183,46 @@ IsQuestionMark in_flow indent span s t =
     × ((behind : List ℕ) × IsPassedOver t.mark t.rest span.end behind)
     × (in_flow ≡ false → IsAtColumn indent s.mark)
 
--- 7.4.2, 8.2.2: `:`, before which the span stands, empty. Outside flow a blank, a break, NUL or the end follows.
-abbrev pub IsColon : Bool → Span → Cursor → Cursor → Type 0
-IsColon in_flow span s t =
+-- what may stand behind a colon inside flow whatever stands before it: a blank, a break, NUL, the end or a flow
+-- indicator
+abbrev pub parts_colon : ℕ → Bool
+parts_colon c = is_blank_or_breakz c || is_flow c
+
+-- 7.4.2, 8.2.2: `:`, before which the span stands, empty. Outside flow a blank, a break, NUL or the end follows. Inside
+-- flow it is parted too, but behind a text that ends like JSON.
+abbrev pub IsColon : Bool → Bool → Span → Cursor → Cursor → Type 0
+IsColon in_flow ends_json span s t =
     TakesCharacter colon s t × (in_flow ≡ false → IsTrue (is_blank_or_breakz (slice_index t.rest 0)))
     × (span.start ≡ s.mark) × (span.end ≡ s.mark)
+    × (in_flow ≡ true → (ends_json ≡ true) ⊎ IsTrue (parts_colon (slice_index t.rest 0)))
 
 -- ## Scalars (7.3, 8.1)
 
 -- From quote to quote, behind which the span has only blanks and a comment. No later line begins with a document
--- marker.
-abbrev pub IsQuotedToken : Quote → List ℕ → Span → Cursor → Cursor → Type 0
-IsQuotedToken quote value span s t =
+-- marker, or left of the column of the innermost open block collection.
+abbrev pub IsQuotedToken : Quote → ℕ → List ℕ → Span → Cursor → Cursor → Type 0
+IsQuotedToken quote indent value span s t =
     (items : List Item) × (is : IsQuotedText quote s.rest items t.rest) × (value ≡ encode_utf8_all (folded items))
     × IsPassed s.mark s.rest t.mark t.rest × (span.start ≡ s.mark) × LiesOnLine t span.end
-    × HasNoMarker quote is.0 items t.rest is.2
+    × HasNoMarker quote is.0 items t.rest is.2 × HasIndentedLines (indent - 1) quote is.0 items t.rest is.2
 
 -- no indicator with which another token begins inside flow and outside
 abbrev pub may_begin_plain : ℕ → Bool
 may_begin_plain c = not (is_one_of (codes ",[]{}#&*!'\"%@`") c)
 
--- Where a token stands: whether inside brackets, and the first column right of the innermost open block collection, 0
--- at the root.
+-- Where a token stands: whether inside brackets, the first column right of the innermost open block collection, 0 at
+-- the root, and whether the text before ends like JSON.
 pub record Surroundings : Type 0 where
   pub in_flow : Bool
   pub indent : ℕ
+  pub ends_json : Bool
 
 -- The span is the piece that is read. It begins with neither a blank nor a break, with `-`, `?` or `:` only where no
 -- blank, break or NUL follows, and with `|` or `>`, which begin a block scalar outside flow, only inside flow. Where
--- blanks and breaks behind it are passed no break stands behind those, so that none of two characters is cut.
-pub record IsPlainToken (in_flow : Bool) (value : List ℕ) (span : Span) (s t : Cursor) : Type 0 where
+-- blanks and breaks behind it are passed no break stands behind those, so that none of two characters is cut. Outside
+-- flow its later lines stand right of the column of the innermost open block collection; inside flow no tab stands left
+-- of that.
+pub record IsPlainToken (in_flow : Bool) (indent : ℕ) (value : List ℕ) (span : Span) (s t : Cursor) : Type 0 where
   pub start : span.start ≡ s.mark
   pub begins : IsTrue (may_begin_plain (slice_index s.rest 0))
   pub is_ink : IsFalse (is_blank_or_break (slice_index s.rest 0))
@@ -219,6 +231,7 @@ pub record IsPlainToken (in_flow : Bool) (value : List ℕ) (span : Span) (s t :
   pub no_block_scalar : in_flow ≡ false → IsFalse (is_one_of (codes "|>") (slice_index s.rest 0))
   pub reading : IsPlainReading in_flow s value span.end t
   pub uncut : (reading.white ≡ []) ⊎ IsFalse (is_break (slice_index t.rest 0))
+  pub lines : ArePlainLines in_flow indent reading.piece (reading.white ++ t.rest)
 
 abbrev pub block_indicator : BlockStyle → ℕ
 block_indicator block_style.Literal = vertical_bar
@@ -235,9 +248,9 @@ pub record IsBlockScalarToken (style : BlockStyle) (indent : ℕ) (value : List 
   pub end : span.end ≡ t.mark
 
 abbrev pub IsScalarToken : ScalarStyle → Surroundings → List ℕ → Span → Cursor → Cursor → Type 0
-IsScalarToken style.Plain at value span s t = IsPlainToken at.in_flow value span s t
-IsScalarToken style.SingleQuoted at value span s t = IsQuotedToken Single value span s t
-IsScalarToken style.DoubleQuoted at value span s t = IsQuotedToken Double value span s t
+IsScalarToken style.Plain at value span s t = IsPlainToken at.in_flow at.indent value span s t
+IsScalarToken style.SingleQuoted at value span s t = IsQuotedToken Single at.indent value span s t
+IsScalarToken style.DoubleQuoted at value span s t = IsQuotedToken Double at.indent value span s t
 IsScalarToken style.Literal at value span s t =
     (at.in_flow ≡ false) × IsBlockScalarToken block_style.Literal at.indent value span s t
 IsScalarToken style.Folded at value span s t =
@@ -265,50 +278,76 @@ IsToken at tokens.FlowMappingEnd span s t = IsFlowIndicator right_brace span s t
 IsToken at tokens.BlockEntry span s t = IsDash at.indent span s t
 IsToken at tokens.FlowEntry span s t = IsFlowIndicator comma span s t
 IsToken at tokens.Key span s t = IsQuestionMark at.in_flow at.indent span s t ⊎ IsKeyStart at.in_flow at.indent span s t
-IsToken at tokens.Value span s t = IsColon at.in_flow span s t
+IsToken at tokens.Value span s t = IsColon at.in_flow at.ends_json span s t
 IsToken at (tokens.Alias name) span s t = IsNameToken asterisk name span s t
 IsToken at (tokens.Anchor name) span s t = IsNameToken ampersand name span s t
 IsToken at (tokens.Tag handle suffix) span s t = IsTagToken at.in_flow handle suffix span s t
 IsToken at (tokens.Scalar style value) span s t = IsScalarToken style at value span s t
 
 -- What is open where a token stands: the columns of the block collections, the innermost first, and how many brackets
--- and braces.
+-- and braces. And whether the text before ends like JSON: its last token that has a text is a quoted scalar, or the end
+-- of a flow collection.
 pub record Collections : Type 0 where
   pub columns : List ℕ
   pub brackets : ℕ
+  pub ends_json : Bool
 
 abbrev pub no_collections : Collections
-no_collections = record { columns = []; brackets = 0 }
-
-abbrev pub without_innermost : List ℕ → List ℕ
-without_innermost [] = []
-without_innermost (column ∷ columns) = columns
+no_collections = record { columns = []; brackets = 0; ends_json = false }
 
 abbrev pub with_columns : List ℕ → Collections → Collections
-with_columns columns opened = record { columns = columns; brackets = opened.brackets }
+with_columns columns opened =
+    record { columns = columns; brackets = opened.brackets; ends_json = opened.ends_json }
 
 abbrev pub with_brackets : ℕ → Collections → Collections
-with_brackets n opened = record { columns = opened.columns; brackets = n }
+with_brackets n opened = record { columns = opened.columns; brackets = n; ends_json = opened.ends_json }
+
+abbrev pub with_ends_json : Bool → Collections → Collections
+with_ends_json ends_json opened =
+    record { columns = opened.columns; brackets = opened.brackets; ends_json = ends_json }
+
+abbrev pub is_quoted : ScalarStyle → Bool
+is_quoted style.SingleQuoted = true
+is_quoted style.DoubleQuoted = true
+is_quoted _ = false
+
+-- 7.4.2: A key ends like JSON with a quote or the end of a flow collection. A token without a text changes nothing;
+-- those of `-`, of `:` and of a block scalar have a text, though their span may be empty.
+abbrev pub ends_json_behind : Kind → Span → Bool → Bool
+ends_json_behind (tokens.Scalar style value) span ends_json = is_quoted style
+ends_json_behind tokens.FlowSequenceEnd span ends_json = true
+ends_json_behind tokens.FlowMappingEnd span ends_json = if has_text span then true else ends_json
+ends_json_behind tokens.BlockEntry span ends_json = false
+ends_json_behind tokens.Value span ends_json = false
+ends_json_behind _ span ends_json = if has_text span then false else ends_json
 
 -- What is open behind a token. The start and the end of a single pair have no text, and open and close no bracket.
-abbrev pub open_behind : Kind → Span → Collections → Collections
-open_behind tokens.BlockSequenceStart span opened = with_columns (span.start.col ∷ opened.columns) opened
-open_behind tokens.BlockMappingStart span opened = with_columns (span.start.col ∷ opened.columns) opened
-open_behind tokens.BlockEnd span opened = with_columns (without_innermost opened.columns) opened
-open_behind tokens.FlowSequenceStart span opened = with_brackets (opened.brackets + 1) opened
-open_behind tokens.FlowSequenceEnd span opened = with_brackets (opened.brackets - 1) opened
-open_behind tokens.FlowMappingStart span opened =
+abbrev pub collections_behind : Kind → Span → Collections → Collections
+collections_behind tokens.BlockSequenceStart span opened = with_columns (span.start.col ∷ opened.columns) opened
+collections_behind tokens.BlockMappingStart span opened = with_columns (span.start.col ∷ opened.columns) opened
+collections_behind tokens.BlockEnd span opened = with_columns (without_innermost opened.columns) opened
+collections_behind tokens.FlowSequenceStart span opened = with_brackets (opened.brackets + 1) opened
+collections_behind tokens.FlowSequenceEnd span opened = with_brackets (opened.brackets - 1) opened
+collections_behind tokens.FlowMappingStart span opened =
     if has_text span then with_brackets (opened.brackets + 1) opened else opened
-open_behind tokens.FlowMappingEnd span opened =
+collections_behind tokens.FlowMappingEnd span opened =
     if has_text span then with_brackets (opened.brackets - 1) opened else opened
-open_behind _ span opened = opened
+collections_behind _ span opened = opened
+
+abbrev pub open_behind : Kind → Span → Collections → Collections
+open_behind kind span opened =
+    with_ends_json (ends_json_behind kind span opened.ends_json) (collections_behind kind span opened)
 
 abbrev pub least_column_in : List ℕ → ℕ
 least_column_in [] = 0
 least_column_in (column ∷ columns) = column + 1
 
 abbrev pub surroundings_in : Collections → Surroundings
-surroundings_in opened = record { in_flow = nat_lt 0 opened.brackets; indent = least_column_in opened.columns }
+surroundings_in opened = record {
+  in_flow = nat_lt 0 opened.brackets;
+  indent = least_column_in opened.columns;
+  ends_json = opened.ends_json;
+}
 
 -- tokens from one place to another, the first of which stands where these collections are open
 abbrev pub AreTokens : Collections → List Piece → Cursor → Cursor → Type 0

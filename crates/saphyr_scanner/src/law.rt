@@ -15,10 +15,11 @@ ghost use Rattle.saphyr_scanner.specs.TokensTaken.{AreApart, AreTakenFrom, AreTo
 ghost use Rattle.saphyr_scanner.specs.Views.Tokens.{Piece};
 
 use saphyr_scalar::scalar::{
-    begins_plain_scalars_with_ink, counts_each_block_scalar, keeps_markers_out_of_quotes,
+    begins_plain_scalars_with_ink, counts_each_block_scalar, indents_plain_lines,
     places_each_block_scalar, reads_block_texts, reads_plain_values, refuses_inside,
-    spells_each_anchor, spells_each_directive, spells_each_quoted, spells_each_tag, takes_anchor,
-    takes_block_scalar, takes_directive, takes_plain, takes_quoted, takes_tag,
+    spells_each_anchor, spells_each_directive, spells_each_quoted, spells_each_tag,
+    spells_quoted_lines, takes_anchor, takes_block_scalar, takes_directive, takes_plain,
+    takes_quoted, takes_tag,
 };
 
 /// Each reader of a token takes characters off the text, so that scanning ends. Like all laws it does nothing when it
@@ -83,8 +84,8 @@ pub fn takes_all_tokens()
     ensures { (limit : ℕ) (text : List ℕ) → length text < 2 ^ 63
         → AreTakenFrom text (scan limit text) }
 {
-    reads_plain_values();
-    keeps_markers_out_of_quotes();
+    indents_plain_lines();
+    spells_quoted_lines();
     begins_plain_scalars_with_ink();
     reads_block_texts();
     places_each_block_scalar();

@@ -9,3 +9,4 @@ pub mod Places
 pub mod ShortHandles
 pub mod Standing
 pub mod Columns
+pub mod LaterLines

@@ -1,4 +1,5 @@
 -- Small texts, with their tokens and places.
 pub mod TakenTexts
 pub mod ColumnTexts
+pub mod LineTexts
 pub mod OutOfPlace

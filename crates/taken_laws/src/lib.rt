@@ -10,6 +10,7 @@ ghost use Rattle.saphyr_scalar.specs.declared.scalar.position.Span.{Span};
 ghost use Rattle.saphyr_scanner.specs.Examples.Forests.{brackets_tokens};
 ghost use Rattle.saphyr_scanner.specs.TokensTaken.{AreTakenFrom, IsPlaceOf, IsPlainToken};
 ghost use Rattle.taken_laws.specs.Examples.ColumnTexts as columns;
+ghost use Rattle.taken_laws.specs.Examples.LineTexts as lines;
 ghost use Rattle.taken_laws.specs.Examples.TakenTexts as texts;
 ghost use Rattle.taken_laws.specs.Examples.OutOfPlace as places;
 
@@ -19,9 +20,11 @@ pub fn takes_tokens()
 {}
 
 /// The tokens of texts in flow style, as a scanner gives them: a mapping with quoted scalars and a
-/// comment, and a sequence with an anchor and its alias.
+/// comment, one whose value follows the colon of a quoted key at once, and a sequence with an anchor
+/// and its alias.
 pub fn takes_flow()
     ensures mapping { AreTakenFrom (codes "{'a': \"b\" # c\n}") texts.flow_mapping }
+    ensures beside { AreTakenFrom (codes "{'a':b}") texts.value_beside }
     ensures alias { AreTakenFrom (codes "[&x a, *x]") texts.alias }
 {}
 
@@ -45,8 +48,9 @@ pub fn takes_streams()
 /// What is not taken: `[a]` without the token of its `a`, `a` with the value `b`, `[]` with a bracket
 /// whose span starts behind it, and a block mapping that starts before the blank of its line, from which
 /// an indentation that is given would be counted. Nor is a tag that ends before a letter or a `#`, a
-/// colon outside brackets before a letter, a plain scalar with a comma inside brackets, one that begins
-/// with `|` outside, or a literal inside brackets. No place of a text stands behind its end.
+/// colon outside brackets before a letter, one inside brackets before a letter but behind a bracket or a
+/// comma, a plain scalar with a comma inside brackets, one that begins with `|` outside, or a literal
+/// inside brackets. No place of a text stands behind its end.
 pub fn takes_no_others()
     ensures dropped_word { ¬ AreTakenFrom (codes "[a]") texts.dropped_word }
     ensures other_value { ¬ AreTakenFrom (codes "a") texts.other_value }
@@ -55,6 +59,8 @@ pub fn takes_no_others()
     ensures short_tag { ¬ AreTakenFrom (codes ": !a\n") texts.short_tag }
     ensures tag_before_comment { ¬ AreTakenFrom (codes ": !a#b\n") texts.tag_before_comment }
     ensures short_key { ¬ AreTakenFrom (codes "a:b") texts.short_key }
+    ensures colon_beside { ¬ AreTakenFrom (codes "[:a]") texts.colon_beside }
+    ensures colon_in_next_entry { ¬ AreTakenFrom (codes "['a',:b]") texts.colon_in_next_entry }
     ensures one_entry { ¬ AreTakenFrom (codes ": [a, b]\n") texts.one_entry }
     ensures literal_as_plain { ¬ AreTakenFrom (codes ": |\n a\n") texts.literal_as_plain }
     ensures literal_in_list { ¬ AreTakenFrom (codes "[|1\n]\n") texts.literal_in_list }
@@ -69,9 +75,9 @@ pub fn takes_no_shorter()
     ensures short_handle { ¬ AreTakenFrom (codes "%TAG !e!t:x\n--- !u v\n") texts.short_handle }
 {}
 
-/// Block collections follow columns: an entry of a sequence, and a key, stands at its column, neither right nor left of it; in `:` LF
-/// `:` no mapping is the first value, nor in `-` LF `- a` a sequence the first entry; and in `a:` LF ` b: c` LF ` d: e` the
-/// mapping of `b` ends neither before `d` nor before the blank there.
+/// Block collections follow columns: an entry of a sequence, and a key, stands at its column, neither right nor left of
+/// it; in `:` LF `:` no mapping is the first value, nor in `-` LF `- a` a sequence the first entry; and in `a:` LF ` b:
+/// c` LF ` d: e` the mapping of `b` ends neither before `d` nor before the blank there.
 pub fn takes_no_other_columns()
     ensures further_entry { ¬ AreTakenFrom (codes "- a\n - b") columns.further_entry }
     ensures entry_left { ¬ AreTakenFrom (codes " - a\n- b") columns.entry_left }
@@ -84,16 +90,31 @@ pub fn takes_no_other_columns()
         columns.ended_before_blank }
 {}
 
-/// From no text are tokens taken of which one stands out of its place: a key without a `?` has its colon, in a block
-/// mapping and in a single pair of a flow sequence on its line, and in a block mapping at most 1,024 characters behind its
-/// start; a block collection has an entry; a mapping in brackets has both braces; and a single pair has neither, but its
-/// start, its colon and its end.
+/// No later line of a plain scalar stands at its collection's column or left of it, and none of a
+/// quoted scalar left of that: `- a` LF `-` is no list of `a -`, nor `- - "a` LF `b"` one of `"a b"`.
+pub fn takes_no_lines_to_the_left()
+    ensures plain_line { ¬ AreTakenFrom (codes "- a\n-") lines.plain_line }
+    ensures quoted_line { ¬ AreTakenFrom (codes "- - \"a\nb\"") lines.quoted_line }
+{}
+
+/// From no text are tokens taken of which one stands out of its place: a key without a `?` has a node and its colon, in
+/// a block mapping and in a single pair of a flow sequence on its line, and in a block mapping at most 1,024 characters
+/// behind its start; a block collection has an entry, and its properties stand on a line before it; the colon of a `?`
+/// and that of an entry without a key stand at the column of their block mapping; a mapping in brackets has both
+/// braces; and a single pair has neither, but its start, its colon and its end.
 pub fn takes_none_out_of_place()
     ensures key_alone { (text : List ℕ) → ¬ AreTakenFrom text places.key_alone }
     ensures key_on_two_lines { (text : List ℕ) → ¬ AreTakenFrom text places.key_on_two_lines }
+    ensures key_without_node { (text : List ℕ) → ¬ AreTakenFrom text places.key_without_node }
     ensures long_key { (text : List ℕ) → ¬ AreTakenFrom text places.long_key }
     ensures no_entry { (text : List ℕ) → ¬ AreTakenFrom text places.no_entry }
     ensures no_pair { (text : List ℕ) → ¬ AreTakenFrom text places.no_pair }
+    ensures entry_right { (text : List ℕ) → ¬ AreTakenFrom text places.entry_right }
+    ensures colon_right { (text : List ℕ) → ¬ AreTakenFrom text places.colon_right }
+    ensures colon_left { (text : List ℕ) → ¬ AreTakenFrom text places.colon_left }
+    ensures tag_beside { (text : List ℕ) → ¬ AreTakenFrom text places.tag_beside }
+    ensures anchor_beside { (text : List ℕ) → ¬ AreTakenFrom text places.anchor_beside }
+    ensures anchor_before_entry { (text : List ℕ) → ¬ AreTakenFrom text places.anchor_before_entry }
     ensures no_braces { (text : List ℕ) → ¬ AreTakenFrom text places.no_braces }
     ensures one_brace { (text : List ℕ) → ¬ AreTakenFrom text places.one_brace }
     ensures pair_without_colon { (text : List ℕ) → ¬ AreTakenFrom text places.pair_without_colon }
@@ -104,7 +125,7 @@ pub fn takes_none_out_of_place()
 
 /// The value of a plain scalar begins with no blank and no break.
 pub fn begins_values_with_ink()
-    ensures { (in_flow : Bool) (value : List ℕ) (span : Span) (s t : Cursor)
-        → IsPlainToken in_flow value span s t
+    ensures { (in_flow : Bool) (indent : ℕ) (value : List ℕ) (span : Span) (s t : Cursor)
+        → IsPlainToken in_flow indent value span s t
         → is_blank_or_break (slice_index value 0) ≡ false }
 {}

@@ -1,8 +1,10 @@
 -- What each step of block collections does.
-use Rattle.std.proofs.Common.{◌≡◌, ℕ, ◌+◌, ◌≤◌, Bool, true, false, List, [], ◌∷◌, None, refl, sym, ap, ◌∙◌, arith, inl, inr, IsTrue}
+use Rattle.std.proofs.Common.{◌≡◌, ℕ, ◌+◌, ◌≤◌, Bool, true, false, [], ◌∷◌, None, refl, sym, ap, ◌∙◌, arith, inl, inr, IsTrue}
 use Rattle.std.specs.Prelude.{◌&&◌, ◌||◌, ◌==◌, slice_index, not, if◌then◌else◌, nat_le}
 use Rattle.saphyr_input.specs.Classes.{is_break, is_flow, is_blank_or_breakz}
 use Rattle.saphyr_input.specs.Separation.{found_tabs}
+use Rattle.saphyr_scalar.specs.declared.scalar.position.Marker.{Marker}
+use Rattle.saphyr_scalar.specs.declared.scalar.position.Span.{Span}
 use Rattle.saphyr_scalar.specs.Views.Cursor.{Cursor, ◌>>=◌, pass}
 use Rattle.saphyr_scanner.specs.declared.engine.level.Context.{Context}
 use Rattle.saphyr_scanner.specs.declared.engine.level.Context.TheVariants as context
@@ -17,16 +19,16 @@ use Rattle.saphyr_scanner.specs.Steps.Block as block
 use Rattle.saphyr_scanner.specs.TokensTaken as taken
 use Rattle.saphyr_scanner.specs.TokensTaken.{AreApart, IsAtColumn}
 use Rattle.saphyr_scanner.specs.TokensInPlace as place
-use Rattle.saphyr_scanner.specs.TokensInPlace.{Enclosed, Begun, with_begun, turned_to, awaiting_colon, has_text, enclosures_behind, may_follow}
+use Rattle.saphyr_scanner.specs.TokensInPlace.{Begun, with_begun, turned_to, awaiting_colon, has_text, enclosures_behind, may_follow}
 use Rattle.saphyr_scanner.proofs.Effects.Moves.{DoesWithin, encloses, and_then, Same, lesser, further}
-use Rattle.saphyr_scanner.proofs.Effects.Puts.{passes, indicated, quiet_within, block_begins, loud}
+use Rattle.saphyr_scanner.proofs.Effects.Puts.{passes, indicated, freed, quiet_within, block_begins, loud}
 use Rattle.saphyr_scanner.proofs.Effects.Walked.{Premises, Walked, walked_then, at_most, Doing, at_reach, separate_walked}
 use Rattle.saphyr_scanner.proofs.LineTails.{OnLine}
 use Rattle.saphyr_scanner.proofs.Reached.{apart_reached}
 use Rattle.saphyr_scanner.proofs.Taken.Keys.{IsDeep}
 use Rattle.saphyr_scanner.proofs.Taken.Cores.{by_bool, further_block, further_right}
-use Rattle.saphyr_scanner.proofs.Taken.Held.{enclosure_of, enclosed_by, enclosures_of}
-use Rattle.saphyr_scanner.proofs.Taken.InPlace.{free}
+use Rattle.saphyr_scanner.proofs.Taken.Held.{enclosure_of, outside_of, enclosures_of}
+use Rattle.saphyr_scanner.proofs.Taken.InPlace.{Outside, free}
 use Rattle.saphyr_scanner.proofs.Effects.Flow.{has_some}
 use Rattle.saphyr_scanner.proofs.Taken.Later.{apart_later}
 use Rattle.saphyr_scanner.proofs.Taken.Places.{Reaches, reaches_reaches, at_here}
@@ -57,28 +59,31 @@ dash_walked b s c a =
     (λ x g. by_test (found_tabs x.0 && block.is_dash_next x.1) _ _ (Walked (Premises b) P s)
     (λ _ _. at_reach s x.1.cursor (there x.1 g.1))
     (λ _. by_test (is_break (slice_index x.1.cursor.rest 0) || is_flow (slice_index x.1.cursor.rest 0)) _ _ P
-    (λ _. g) (λ _. g))))
+    (λ _. (g.0, g.1)) (λ _. (g.0, g.1)))))
     (λ d g. by_test (in_block d && d.required) _ _ (Walked (Premises b) (Behind c) s)
     (λ _ _. at_reach s d.cursor (there d g.1))
     (λ _. ((ap (λ (l : Level). record { context = l.context; key = None }) g.0.0, g.0.1, g.0.2), g.1)))
 
 -- from c, which stands before the `-`, at the column of its collection, which may have begun
 dash : {A : Type 0} (g : Begun) (c d : Core) → slice_index c.cursor.rest 0 ≡ hyphen
-    → is_blank_or_breakz (slice_index c.cursor.rest 1) ≡ true → in_block c ≡ true → IsAtColumn c.indent c.cursor.mark
-    → Same (forget_key c) d → OnLine (pass 1 c.cursor) d.cursor → IsTrue (may_follow g tokens.BlockEntry)
+    → is_blank_or_breakz (slice_index c.cursor.rest 1) ≡ true → in_block c ≡ true → c.key_allowed ≡ true
+    → IsAtColumn c.indent c.cursor.mark
+    → Same (forget_key c) d → OnLine (pass 1 c.cursor) d.cursor
+    → ((p : Span) → IsTrue (may_follow g tokens.BlockEntry p))
     → DoesWithin A (with_begun g (enclosures_of c)) (enclosures_of d) None 1 1 (forget_key c) d
     (at_mark d.cursor.mark tokens.BlockEntry ∷ [])
-dash g c d first second b column s o follows =
+dash g c d first second b allowed column s o follows =
     let r : Core = forget_key c in
     let u = d.cursor in
     let later = apart_later (pass 1 c.cursor).mark (pass 1 c.cursor).rest u.mark u.rest o.apart in
     and_then (λ n. n)
-    (loud (with_begun g (enclosures_of c)) 1 r (empty_piece u.mark tokens.BlockEntry) u (λ x. refl) (rw follows refl)
-    (λ i. absurd (cc)) b refl
+    (loud (with_begun g (enclosures_of c)) 1 r (empty_piece u.mark tokens.BlockEntry) u (λ x. refl)
+    (rw (follows (empty_piece u.mark tokens.BlockEntry).span) refl) (λ i. absurd (cc)) refl
+    ((λ _. (allowed, ap (λ (m : Marker). m.line) o.on_line.4)), λ no. absurd (cc)) b refl
     (indicated 45 r u (empty_piece u.mark tokens.BlockEntry) (record { some = refl; unbroken = refl; is = first })
     o.apart (omega (arith, later.index)) (omega arith) (omega arith)
-    (λ t. (t, ap is_blank_or_breakz (second_is c.cursor.rest) ∙ second, o.on_line, refl, column))))
-    (further (with_cursor u r) d s (taken.nothing u.mark u.rest))
+    (λ t _ _. (t, ap is_blank_or_breakz (second_is c.cursor.rest) ∙ second, o.on_line, refl, column))))
+    (further (freed (with_cursor u r)) d s (taken.nothing u.mark u.rest) (λ _. inl refl))
 
 -- where no block collection begins the innermost is at this column
 at_column : (i column : ℕ) (b : Bool) → b ≡ true → (b && nat_le i column) ≡ false → i ≤ column + 1
@@ -86,11 +91,12 @@ at_column : (i column : ℕ) (b : Bool) → b ≡ true → (b && nat_le i column
 at_column i column true e f deep = let less = leb-false i column f in omega (arith, less, deep)
 at_column i column false e f deep = absurd (cc)
 
-next_entry_does : (c : Core) → in_block c ≡ true → IsDeep c → slice_index c.cursor.rest 0 ≡ hyphen
+next_entry_does : (c : Core) → in_block c ≡ true → c.key_allowed ≡ true → IsDeep c
+    → slice_index c.cursor.rest 0 ≡ hyphen
     → is_blank_or_breakz (slice_index c.cursor.rest 1) ≡ true
     → Walked (Premises c) (Doing None c) c.cursor (block.next_entry c)
 unfolding block.next_entry
-next_entry_does c e deep first second =
+next_entry_does c e allowed deep first second =
     let s = c.cursor in
     let a = passes 45 s (record { some = refl; unbroken = refl; is = first }) in
     by_bool (is_further s.mark.col c)
@@ -101,19 +107,26 @@ next_entry_does c e deep first second =
     (λ f. let r : Core = enter_block s.mark.col (pass_on 1 c) in
     walked_then (Premises c) (Behind r) (Doing None c) s (block.pass_dash r >>= remove_key) _ (dash_walked c s r a)
     (λ d g. at_most (omega arith) (and_then (λ n. n)
-    (block_begins (enclosure_of c.level.context) (enclosed_by c.outer) c tokens.BlockSequenceStart place.BlockSequence
-    (λ i. absurd (cc)) (λ i p u t h. h) (λ x y. refl) (λ p. refl) (λ p. refl) e
+    (block_begins (enclosure_of c.level.context) c tokens.BlockSequenceStart place.BlockSequence
+    (λ i. absurd (cc)) refl refl allowed (λ i p u t h. h) (λ x y. refl) (λ p all. refl) (λ p columns. refl) e
     (further_right s.mark.col c f) (ap taken.begins_text first))
-    (dash place.BlockSequence (enter_block s.mark.col c) (record d { key_allowed = true }) first second e refl g.0 g.1
-    refl))))
+    (dash place.BlockSequence (enter_block s.mark.col c) (record d { key_allowed = true }) first second e allowed refl
+    g.0 g.1
+    (λ p. refl)))))
     (λ f. walked_then (Premises c) (Behind (pass_on 1 c)) (Doing None c) s
     (block.pass_dash (pass_on 1 c) >>= remove_key)
     _ (dash_walked c s (pass_on 1 c) a)
     (λ d g. at_most (omega arith) (and_then (λ n. n)
     (lesser (enclosures_of c) c (forget_key c) (record { block = refl; key = inr refl }) refl (λ n. n)
-    (taken.nothing s.mark s.rest))
-    (dash place.Nothing c (record d { key_allowed = true }) first second e
-    (at_column c.indent s.mark.col (in_block c) e f (deep e)) g.0 g.1 refl))))
+    (taken.nothing s.mark s.rest) (λ a. inl a))
+    (dash place.Nothing c (record d { key_allowed = true }) first second e allowed
+    (at_column c.indent s.mark.col (in_block c) e f (deep e)) g.0 g.1 (λ p. refl)))))
+
+-- a key may begin outside flow
+pub allowed_in : (block allowed : Bool) → (block && not allowed) ≡ false → block ≡ true → allowed ≡ true
+allowed_in true true e b = refl
+allowed_in true false e b = absurd (cc)
+allowed_in false allowed e b = absurd (cc)
 
 pub block_entry_does : (c : Core) → IsDeep c → slice_index c.cursor.rest 0 ≡ hyphen
     → is_blank_or_breakz (slice_index c.cursor.rest 1) ≡ true
@@ -123,7 +136,7 @@ block_entry_does c deep first second =
     let P = Walked (Premises c) (Doing None c) c.cursor in
     by_test (not (in_block c)) _ _ P (λ _ _. at_here c.cursor)
     (λ e. by_test (not c.key_allowed) _ _ P (λ _ _. at_here c.cursor)
-    (λ _. next_entry_does c (not-false (in_block c) e) deep first second))
+    (λ a. next_entry_does c (not-false (in_block c) e) (not-false c.key_allowed a) deep first second))
 
 -- ## `?`
 
@@ -146,7 +159,7 @@ question_walked A c a =
     (λ _. by_test (slice_index t.cursor.rest 0 == 9) _ _ P (λ _ _. there) (λ _. ((refl, refl, λ n. n), p))))
 
 -- what encloses the tokens behind a `?`
-question_encloses : (x : Context) (outside : List Enclosed)
+question_encloses : (x : Context) (outside : Outside)
     → free (enclosure_of (behind_question x)) outside
     ≡ free (place.behind_question (enclosure_of x)) outside
 question_encloses context.FlowSequence outside = refl
@@ -159,36 +172,36 @@ question : {A : Type 0} (g : Begun) (x : Context) (c d : Core) → c.level.conte
     → c.level.key ≡ None → slice_index c.cursor.rest 0 ≡ question_mark
     → is_blank_or_breakz (slice_index c.cursor.rest 1) ≡ true
     → (in_block c ≡ true → IsAtColumn c.indent c.cursor.mark) → Same c d → AreApart (pass 1 c.cursor) d.cursor
-    → IsTrue (may_follow g tokens.Key)
-    → DoesWithin A (with_begun g (free (enclosure_of x) (enclosed_by c.outer))) (enclosures_of d) None 1 1 c d
+    → ((p : Span) → IsTrue (may_follow g tokens.Key p))
+    → DoesWithin A (with_begun g (free (enclosure_of x) (outside_of c))) (enclosures_of d) None 1 1 c d
     (up_to_here c.cursor.mark tokens.Key d ∷ [])
 question g x c d turned none first second column s a follows =
     let u = d.cursor in
-    let within = with_begun g (free (enclosure_of x) (enclosed_by c.outer)) in
+    let within = with_begun g (free (enclosure_of x) (outside_of c)) in
     let later = apart_later (pass 1 c.cursor).mark (pass 1 c.cursor).rest u.mark u.rest a in
     let t : Piece = record { span = record { start = c.cursor.mark; end = u.mark }; kind = tokens.Key } in
     let some = has_some t.span (omega (arith, later.index)) in
     let behind : enclosures_of c ≡ enclosures_behind tokens.Key t.span within =
-    ap (λ y. free (enclosure_of y) (enclosed_by c.outer)) turned ∙ question_encloses x (enclosed_by c.outer)
+    ap (λ y. free (enclosure_of y) (outside_of c)) turned ∙ question_encloses x (outside_of c)
     ∙ sym (marked (has_text t.span) some) in
     and_then (λ n. n)
     (encloses behind (quiet_within within 1 c t u refl (λ y. refl) (λ y. refl) (inl none)
-    (λ _. rw (follows, some) refl) (λ i. absurd (cc))
+    (λ _. rw (follows t.span, some) refl) (λ i. absurd (cc)) refl
     (indicated 63 c u t (record { some = refl; unbroken = refl; is = first }) a (omega arith)
     (omega (arith, later.index)) (omega arith)
-    (λ k. inl (
+    (λ k _ _. inl (
       k,
       ap is_blank_or_breakz (second_is c.cursor.rest) ∙ second,
       refl,
       (u.rest, a),
       λ f. column (not-false (in_block c) f),
     )))))
-    (further (with_cursor u c) d s (taken.nothing u.mark u.rest))
+    (further (freed (with_cursor u c)) d s (taken.nothing u.mark u.rest) (λ _. inl refl))
   where
     marked : (b : Bool) → b ≡ true → (if b then turned_to (place.behind_question (enclosure_of x))
-        (free (enclosure_of x) (enclosed_by c.outer)) else awaiting_colon c.cursor.mark
-        (free (enclosure_of x) (enclosed_by c.outer)))
-        ≡ free (place.behind_question (enclosure_of x)) (enclosed_by c.outer)
+        (free (enclosure_of x) (outside_of c)) else awaiting_colon c.cursor.mark
+        (free (enclosure_of x) (outside_of c)))
+        ≡ free (place.behind_question (enclosure_of x)) (outside_of c)
     marked true e = refl
     marked false e = absurd (cc)
 
@@ -206,7 +219,7 @@ key_does c deep first second =
     let x = behind_question c.level.context in
     let a = passes 63 s (record { some = refl; unbroken = refl; is = first }) in
     by_test (in_block c && not c.key_allowed) _ _ (Walked (Premises c) (Doing None c) s) (λ _ _. at_here s)
-    (λ _. by_bool (is_further s.mark.col c)
+    (λ w. by_bool (is_further s.mark.col c)
     (λ b. Walked (Premises c) (Doing None c) s
     ((remove_key (with_context x (if b then enter_block s.mark.col c else c)) >>= λ d. block.pass_question
     (record d { key_allowed = in_block d })) >>= λ d. completed_step
@@ -214,18 +227,22 @@ key_does c deep first second =
     (λ f. let r : Core = with_context x (enter_block s.mark.col c) in
     walked_then (Premises c) (Asked r) (Doing None c) s _ _ (question_walked (Premises c) r a)
     (λ d g. at_most (omega arith) (and_then (λ n. n)
-    (block_begins (enclosure_of c.level.context) (enclosed_by c.outer) c tokens.BlockMappingStart place.BlockMapping
-    (λ i. absurd (cc)) (λ i p u t h. h) (λ j y. refl) (λ p. refl) (λ p. refl)
+    (block_begins (enclosure_of c.level.context) c tokens.BlockMappingStart place.BlockMapping
+    (λ i. absurd (cc)) refl refl (allowed_in (in_block c) c.key_allowed w (further_block s.mark.col c f))
+    (λ i p u t h. h) (λ j y. refl) (λ p all. refl) (λ p columns. refl)
     (further_block s.mark.col c f) (further_right s.mark.col c f) (ap taken.begins_text first))
     (and_then (λ n. n)
-    (lesser (with_begun place.BlockMapping (enclosures_of c)) (forget_key (enter_block s.mark.col c)) (forget_key r)
-    (record { block = question_block c.level.context; key = inr refl }) refl (λ n. n) (taken.nothing s.mark s.rest))
-    (question place.BlockMapping c.level.context (forget_key r) d refl refl first second (λ _. refl) g.0 g.1 refl)))))
+    (lesser (with_begun place.BlockMapping (enclosures_of (enter_block s.mark.col c)))
+    (forget_key (enter_block s.mark.col c)) (forget_key r)
+    (record { block = question_block c.level.context; key = inr refl }) refl (λ n. n) (taken.nothing s.mark s.rest)
+    (λ a. inl a))
+    (question place.BlockMapping c.level.context (forget_key r) d refl refl first second (λ _. refl) g.0 g.1
+    (λ p. refl))))))
     (λ f. let r : Core = with_context x c in
     walked_then (Premises c) (Asked r) (Doing None c) s _ _ (question_walked (Premises c) r a)
     (λ d g. at_most (omega arith) (and_then (λ n. n)
     (lesser (enclosures_of c) c (forget_key r) (record { block = question_block c.level.context; key = inr refl }) refl
-    (λ n. n) (taken.nothing s.mark s.rest))
+    (λ n. n) (taken.nothing s.mark s.rest) (λ a. inl a))
     (question place.Nothing c.level.context (forget_key r) d refl refl first second
     (λ e. let b = sym (question_block c.level.context) ∙ e in
-    at_column c.indent s.mark.col (in_block c) b f (deep b)) g.0 g.1 refl)))))
+    at_column c.indent s.mark.col (in_block c) b f (deep b)) g.0 g.1 (λ p. refl))))))

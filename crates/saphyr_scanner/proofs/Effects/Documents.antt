@@ -26,7 +26,7 @@ use Rattle.saphyr_scanner.proofs.Added.Queue.{IsNoEnd}
 use Rattle.saphyr_scanner.proofs.Blocks.{unrolled_cursor, unrolled_comment}
 use Rattle.saphyr_scanner.proofs.Counted.{stays, text_passed}
 use Rattle.saphyr_scanner.proofs.Effects.Moves.{Does, and_then, NoComment, Same, still, further}
-use Rattle.saphyr_scanner.proofs.Effects.Puts.{Reading, quiet}
+use Rattle.saphyr_scanner.proofs.Effects.Puts.{Reading, freed, quiet}
 use Rattle.saphyr_scanner.proofs.Effects.Walked.{Premises, Walked, walked_then, at_most, resting, unsaved_step, at_reach}
 use Rattle.saphyr_scanner.proofs.Effects.Walked.{at_inside, read_walked, separate_walked}
 use Rattle.saphyr_scanner.proofs.Effects.Readers.{TextLaws}
@@ -34,10 +34,10 @@ use Rattle.saphyr_scanner.proofs.Effects.States.{FetchesTokens, advances_advance
 use Rattle.saphyr_scanner.proofs.Effects.Steps.{begins_none, begins_forgotten}
 use Rattle.saphyr_scanner.proofs.LineTails.{OnLine, tail_apart}
 use Rattle.saphyr_scanner.proofs.Reached.{along_reached, apart_reached}
-use Rattle.saphyr_scanner.proofs.Taken.Documents.{HoldsState, forgotten_unrolled, three_at, Marking, end_marking, break_apart, directive_is_token, directive_keeps, quiet_directive}
+use Rattle.saphyr_scanner.proofs.Taken.Documents.{HoldsState, forgotten_unrolled, three_at, Marking, end_marking, break_apart, directive_is_token, directive_keeps, quiet_directive, unbound_directive}
 use Rattle.saphyr_scanner.proofs.Taken.Cores.{surroundings}
 use Rattle.saphyr_scanner.proofs.Taken.Neutral.{Neutral, neutral}
-use Rattle.saphyr_scanner.proofs.Taken.Held.{Setting}
+use Rattle.saphyr_scanner.proofs.Taken.Held.{Setting, is_unbound}
 use Rattle.saphyr_scanner.proofs.Taken.Later.{apart_later}
 use Rattle.saphyr_scanner.proofs.Taken.Parts.{is_quiet}
 use Rattle.saphyr_scanner.proofs.Taken.Places.{Reaches, reaches_reaches, At, at_here}
@@ -97,21 +97,22 @@ documented s t x c m d = record {
 spelled : {A : Type 0} (c d : Core) → c.level.key ≡ None → (kind : Kind) (text : List ℕ)
     → c.cursor.rest ≡ text ++ d.cursor.rest
     → d.cursor.mark.index ≡ c.cursor.mark.index + length text → 0 < length text → is_quiet kind ≡ true
-    → ((span : Span) → Neutral (record { span = span; kind = kind })) → IsNoEnd kind
-    → Same c d → IsToken (surroundings c) kind (record { start = c.cursor.mark; end = d.cursor.mark }) c.cursor d.cursor
+    → ((span : Span) → Neutral (record { span = span; kind = kind })) → IsNoEnd kind → is_unbound kind ≡ true
+    → Same c d → ((b : Bool)
+    → IsToken (surroundings b c) kind (record { start = c.cursor.mark; end = d.cursor.mark }) c.cursor d.cursor)
     → Does A None 1 5 c d (up_to_here c.cursor.mark kind d ∷ [])
-spelled c d none kind text is i some q b e s token =
+spelled c d none kind text is i some q b e unbound s token =
     let u = d.cursor in
     let a = text_passed c.cursor u text is i in
     at_most (omega arith) (and_then (λ n. n)
     (quiet 1 c (record { span = record { start = c.cursor.mark; end = u.mark }; kind = kind }) u q
-    (b (record { start = c.cursor.mark; end = u.mark })) (inl none) e
+    (b (record { start = c.cursor.mark; end = u.mark })) (inl none) e unbound
     (record {
       less = λ _. omega (arith, a.counted, i, some);
       span = λ _. record { ahead = a; begins = omega arith; inside = a.later; ends = omega arith };
-      token = λ _. (u, token, taken.nothing u.mark u.rest);
+      token = λ _. (u, (λ b _. token b), taken.nothing u.mark u.rest);
     }))
-    (still (with_cursor u c) d s refl))
+    (still (freed (with_cursor u c)) d s refl (λ _. inl refl)))
 
 -- ## Markers
 
@@ -137,8 +138,9 @@ marker_walked stands text kind marking no_end s col e =
     ) in (
       documented s t (record { core = d; actions = up_to_here t.core.cursor.mark kind d ∷ [] }) c (λ n. n)
           (spelled t.core d c.no_key kind text three (let k = marking.count in omega (arith, k))
-          (let k = marking.count in omega (arith, k)) marking.quiet marking.keeps no_end (refl, refl, λ n. n)
-          (marking.is (surroundings t.core) _ t.core.cursor d.cursor token)),
+          (let k = marking.count in omega (arith, k)) marking.quiet marking.keeps no_end marking.unbound
+          (refl, refl, λ n. n)
+          (λ b. marking.is (surroundings b t.core) _ t.core.cursor d.cursor token)),
       ap (pass 3) c.cursor,
     ))
 
@@ -179,14 +181,16 @@ end_marker_walked s col e =
         e).0)
 
     by : (t : State) → Documented s t → Reaches s.core.cursor t.core.cursor → (r : Result (SkipTabs × Core) Refusal)
-        → Walked (Premises s.core) (λ (x : SkipTabs × Core). Same t.core x.1 × OnLine t.core.cursor x.1.cursor)
-        s.core.cursor r
+        → Walked (Premises s.core)
+        (λ (x : SkipTabs × Core). Same t.core x.1 × OnLine t.core.cursor x.1.cursor
+        × (x.1.key_allowed ≡ t.core.key_allowed)) s.core.cursor r
         → Walked (Premises s.core) (Documented s) s.core.cursor (on_core_with r t >>= document.end_line)
     by t d a (Ok x) h =
         let c = t.core.cursor in
         let u = x.1.cursor in
         let later = apart_later c.mark c.rest u.mark u.rest h.1.apart in
-        let f : Does (Unit {0}) None 0 0 t.core x.1 [] = further t.core x.1 h.0 h.1.apart in
+        let f : Does (Unit {0}) None 0 0 t.core x.1 [] = further t.core x.1 h.0 h.1.apart
+        (λ a. inl (sym h.2 ∙ a)) in
         by_test (is_breakz (slice_index u.rest 0)) _ _ (Walked (Premises s.core) (Documented s) s.core.cursor)
         (λ _. record {
           advances = advances_advances 1 0 s t _ d.advances
@@ -226,8 +230,8 @@ mark_walked s e =
     documented s t (record { core = d; actions = up_to_here here.mark tokens.ByteOrderMark d ∷ [] }) c (λ n. n)
     (subst P c.cursor (spelled t.core d c.no_key tokens.ByteOrderMark (byte_order_mark ∷ []) is (omega arith)
     (omega arith) refl
-    (λ p. neutral _ p refl) (λ i. absurd (cc)) (refl, refl, λ n. n)
-    (record { is = is; at_start = col; start = refl; end = refl; goes_on = refl })))))
+    (λ p. neutral _ p refl) (λ i. absurd (cc)) refl (refl, refl, λ n. n)
+    (λ _. record { is = is; at_start = col; start = refl; end = refl; goes_on = refl })))))
   where
     no_column : (n : ℕ) (b : Bool) → (nat_lt 0 n || b) ≡ false → n ≡ 0
     no_column n b f = zero_of n (first (nat_lt 0 n) b f)
@@ -268,7 +272,7 @@ directive_reading c x col f e = record {
       (along_more s.mark (length text) (length tail) (length text + length tail) refl) first in
       let P : Cursor → Type 0 = λ u. AreApart mid u in (
         mid,
-        directive_is_token x.0 (surroundings c) (record { start = s.mark; end = x.1 }) s mid (
+        (λ b _. directive_is_token x.0 (surroundings b c) (record { start = s.mark; end = x.1 }) s mid (
           text,
           tail,
           behind,
@@ -278,7 +282,7 @@ directive_reading c x col f e = record {
           r.5,
           refl,
           r.6,
-        ),
+        )),
         subst P (sym r.8) (apart_apart mid.mark mid.rest there.mark there.rest (pass_break there).mark
             (pass_break there).rest second (break_apart there)),
       );
@@ -314,8 +318,8 @@ directive_walked s col f =
         (quiet 1 t.core (record { span = record { start = t.core.cursor.mark; end = x.1 }; kind = kind }) x.2
         (quiet_directive x.0) (directive_keeps x.0 (record { start = t.core.cursor.mark; end = x.1 }))
         (inl c.no_key)
-        (directive_is_no_end x.0) (directive_reading t.core x col first e))
-        (still (with_cursor x.2 t.core) d (refl, refl, λ n. n) refl)))
+        (directive_is_no_end x.0) (unbound_directive x.0) (directive_reading t.core x col first e))
+        (still (freed (with_cursor x.2 t.core)) d (refl, refl, λ n. n) refl (λ _. inl refl))))
     by t c (Err e) col first h = h
 
 -- ## What follows

@@ -1,7 +1,7 @@
 -- What is done where a token is fetched, in one statement.
-use Rattle.std.proofs.Common.{◌≡◌, ℕ, ◌+◌, ◌-◌, ◌≤◌, ◌<◌, Bool, true, false, List, [], ◌∷◌, ◌++◌, length, Result, Ok, Err, refl, sym, ap, ◌∙◌, arith, cond, subst}
-use Rattle.std.specs.Prelude.{codes, ◌&&◌, slice_index, not, ◌==◌, nat_lt, nat_le, Some, None}
-use Rattle.saphyr_input.specs.Classes.{is_bom, is_z, is_blank_or_breakz}
+use Rattle.std.proofs.Common.{◌≡◌, ℕ, ◌+◌, ◌-◌, ◌≤◌, ◌<◌, Bool, true, false, List, [], ◌∷◌, ◌++◌, length, Result, Ok, Err, refl, sym, ap, ◌∙◌, arith, cond, subst, ◌⊎◌, inl, inr, IsTrue}
+use Rattle.std.specs.Prelude.{codes, ◌&&◌, ◌||◌, slice_index, not, ◌==◌, nat_lt, nat_le, Some, None}
+use Rattle.saphyr_input.specs.Classes.{is_bom, is_z, is_flow, is_blank_or_breakz}
 use Rattle.saphyr_input.specs.Places.{is_document_start, is_document_end}
 use Rattle.saphyr_scalar.specs.declared.scalar.position.Marker.{Marker}
 use Rattle.saphyr_scalar.specs.declared.scalar.fault.Refusal.{Refusal}
@@ -18,6 +18,7 @@ use Rattle.saphyr_scanner.specs.Steps.State.{State, on_core}
 use Rattle.saphyr_scanner.specs.Steps.Unrolling.{unroll}
 use Rattle.saphyr_scanner.specs.Steps.Document as document
 use Rattle.saphyr_scanner.specs.Steps.Fetch.{size, step, state_behind_content, fetch_here, arrive, begin, fetch, check_limit, fetch_within, without_far_key}
+use Rattle.saphyr_scanner.specs.TokensTaken.{parts_colon}
 use Rattle.saphyr_scanner.proofs.Steps.Choice.{cases}
 use Rattle.saphyr_scanner.proofs.Blocks.{unrolled_cursor}
 use Rattle.saphyr_scanner.proofs.Ordered.Queue.{GrowsInOrder, grows_grows, core_grows, put_grows}
@@ -38,7 +39,8 @@ use Rattle.saphyr_scanner.proofs.Effects.Documents.{start_walked, end_marker_wal
 use Rattle.saphyr_scanner.proofs.Taken.Documents.{start_marking}
 use Rattle.saphyr_input.proofs.Basics.Booleans.{by_test}
 use Rattle.saphyr_scalar.proofs.Given.{Given, given_bind, given_of}
-use Rattle.std.proofs.lemmas.Bool.{and_parts, ltb-false, eqb-true}
+use Rattle.std.proofs.lemmas.Bool.{and_parts, or_cases, ltb-false, eqb-true}
+use Rattle.std.proofs.Math.Bool.{or-true}
 
 -- ## What begins at a place
 
@@ -49,6 +51,18 @@ deep_of false i col e = let h = ltb-false col (i - 1) e in omega (arith, h)
 -- no token stands where the line is not indented enough
 pub deep_here : (c : Core) → nat_lt c.cursor.mark.col (least_column c) ≡ false → IsDeep c
 deep_here c e _ = deep_of c.deeper c.indent c.cursor.mark.col e
+
+blank_parts : (x : ℕ) → is_blank_or_breakz x ≡ true → parts_colon x ≡ true
+blank_parts x e = rw e refl
+
+beside_parts : (second : ℕ) (c : Core) → slice_index c.cursor.rest 1 ≡ second
+    → (is_flow second || (c.cursor.mark.index == c.adjacent)) ≡ true
+    → (c.cursor.mark.index ≡ c.adjacent) ⊎ IsTrue (parts_colon (slice_index c.cursor.rest 1))
+beside_parts second c g e =
+    elim (or_cases (is_flow second) (c.cursor.mark.index == c.adjacent) e) [
+      | inl f ↦ inr (ap parts_colon g ∙ (rw f (or-true (is_blank_or_breakz second))))
+      | inr i ↦ inl (eqb-true c.cursor.mark.index c.adjacent i)
+    ]
 
 pub step_does : (first second n : ℕ) (c : Core) → 0 < length c.cursor.rest → slice_index c.cursor.rest 0 ≡ first
     → slice_index c.cursor.rest 1 ≡ second → IsDeep c
@@ -72,9 +86,15 @@ step_does first second n c h f g deep =
       comma = λ e. still _ (entry_does c (f ∙ e));
       dash = λ e b. still _ (block_entry_does c deep (f ∙ e) (ap is_blank_or_breakz g ∙ b));
       question = λ e b. still _ (key_does c deep (f ∙ e) (ap is_blank_or_breakz g ∙ b));
-      colon = λ e b. still _ (value_does c (f ∙ e) (λ _. ap is_blank_or_breakz g ∙ b));
-      beside = λ e b. still _ (flow_value_does second c (f ∙ e) (λ i. absurd
-          (let w = (and_parts (not (in_block c)) _ b).0 in cc)));
+      colon = λ e b.
+          let blank = ap is_blank_or_breakz g ∙ b in
+          still _ (value_does c (f ∙ e) ((λ _. blank), λ _. inr (blank_parts (slice_index c.cursor.rest 1) blank)));
+      beside = λ e b.
+          let w = and_parts (not (in_block c)) _ b in
+          still _ (flow_value_does second c (f ∙ e) (
+            (λ i. absurd (let no = w.0 in cc)),
+            λ _. beside_parts second c g w.1,
+          ));
       double = λ e. does _ (double_quoted_does n c (f ∙ e));
       single = λ e. does _ (single_quoted_does n c (f ∙ e));
       alias = λ e. does _ (name_does tokens.Alias 42 an_alias n c h (f ∙ e));

@@ -1,6 +1,6 @@
 -- What each step of flow collections does.
 use Rattle.std.proofs.Common.{◌≡◌, ℕ, ◌+◌, ◌-◌, ◌<◌, Bool, true, false, List, [], ◌∷◌, length, suc, ◌∙◌, Some, None, refl, sym, ap, arith, subst, inl, inr, IsTrue}
-use Rattle.std.specs.Prelude.{◌&&◌, ◌==◌, slice_index, nat_le}
+use Rattle.std.specs.Prelude.{◌&&◌, ◌==◌, slice_index, nat_le, if◌then◌else◌}
 use Rattle.saphyr_input.specs.Indicators.{comma}
 use Rattle.saphyr_input.specs.Classes.{is_break}
 use Rattle.saphyr_scalar.specs.declared.scalar.position.Marker.{Marker}
@@ -13,24 +13,24 @@ use Rattle.saphyr_scanner.specs.Grammar.Tokens.{Kind}
 use Rattle.saphyr_scanner.specs.Views.Tokens.{Piece}
 use Rattle.saphyr_scanner.specs.Steps.Queue.{empty_piece}
 use Rattle.saphyr_scanner.specs.Steps.Core.{Core, Put, in_block, forget_key, remove_key, go_deeper, at_mark, up_to_here, with_context, with_key, completed_step}
-use Rattle.saphyr_scanner.specs.Steps.Level.{is_block, ends_pair, behind_entry}
+use Rattle.saphyr_scanner.specs.Steps.Level.{Level, is_block, ends_pair, behind_entry}
 use Rattle.saphyr_scanner.specs.Steps.Passing.{separate, pass_on, with_cursor}
 use Rattle.saphyr_scanner.specs.Steps.Flow as flow
 use Rattle.saphyr_scanner.specs.TokensTaken as taken
-use Rattle.saphyr_scanner.specs.TokensTaken.{Collections, Surroundings, open_behind, IsToken, IsFlowIndicator, begins_text}
+use Rattle.saphyr_scanner.specs.TokensTaken.{Collections, Surroundings, open_behind, ends_json_behind, IsToken, IsFlowIndicator, begins_text}
 use Rattle.saphyr_scanner.specs.TokensInPlace as place
-use Rattle.saphyr_scanner.specs.TokensInPlace.{Enclosure, Enclosed, Enclosures, has_text, enclosures_behind, may_end_pair, is_of_flow_node, fits}
+use Rattle.saphyr_scanner.specs.TokensInPlace.{Enclosure, Enclosures, has_text, enclosures_behind, may_end_pair, is_of_flow_node, fits}
 use Rattle.saphyr_scanner.specs.Limits.{most_open}
 use Rattle.saphyr_scanner.proofs.Added.Queue.{IsNoEnd}
-use Rattle.saphyr_scanner.proofs.Effects.Moves.{DoesWithin, Does, encloses, NoComment, and_then, Same, same, same_same, lesser, further, leaving}
-use Rattle.saphyr_scanner.proofs.Effects.Puts.{Reading, empty_reading, IndicatorStands, passes, indicated, quiet_within, saving, entered, left}
+use Rattle.saphyr_scanner.proofs.Effects.Moves.{Around, around, DoesWithin, Does, encloses, NoComment, and_then, Same, same, lesser, further, still_within, leaving}
+use Rattle.saphyr_scanner.proofs.Effects.Puts.{freed, Reading, empty_reading, IndicatorStands, passes, indicated, quiet_within, saving, entered, left}
 use Rattle.saphyr_scanner.proofs.Effects.Walked.{Premises, Walked, walked_then, at_most, Doing}
 use Rattle.saphyr_scanner.proofs.Effects.Walked.{separate_walked}
 use Rattle.saphyr_scanner.proofs.LineTails.{OnLine}
-use Rattle.saphyr_scanner.proofs.Taken.Cores.{by_bool, surroundings}
+use Rattle.saphyr_scanner.proofs.Taken.Cores.{apart_same, by_bool, surroundings}
 use Rattle.saphyr_scanner.proofs.Taken.Keys.{IsArrival}
-use Rattle.saphyr_scanner.proofs.Taken.Held.{enclosure_of, enclosed_by, enclosures_of, FitsWithin}
-use Rattle.saphyr_scanner.proofs.Taken.InPlace.{deeper, no_text, free}
+use Rattle.saphyr_scanner.proofs.Taken.Held.{is_unbound, enclosure_of, outside_of, enclosures_of, Adjoins, FitsWithin}
+use Rattle.saphyr_scanner.proofs.Taken.InPlace.{deeper, no_text, Outside, free}
 use Rattle.saphyr_scanner.proofs.Taken.Later.{apart_later}
 use Rattle.saphyr_scanner.proofs.Taken.Parts.{is_quiet, Begins, pair_ends}
 use Rattle.saphyr_scanner.proofs.Taken.Places.{Reaches, at_here}
@@ -43,6 +43,7 @@ pub record Bracket (x : ℕ) (kind : Kind) : Type 0 where
   pub unbroken : is_break x ≡ false
   pub quiet : is_quiet kind ≡ true
   pub no_end : IsNoEnd kind
+  pub unbound : is_unbound kind ≡ true
   pub is : (i : Surroundings) (span : Span) (s t : Cursor) → IsFlowIndicator x span s t → IsToken i kind span s t
 
 -- how many brackets are open behind one of more than no characters
@@ -70,50 +71,58 @@ pub record Enters (kind : Kind) (x : Context) (span : Span) : Type 0 where
   pub encloses : (all : Enclosures) → enclosures_behind kind span all ≡ place.entered (enclosure_of x) all
   pub depth : (d : ℕ) → deeper kind span d ≡ suc d
   pub of_node : IsTrue (is_of_flow_node kind span)
-  pub fits : (e : Enclosure) → IsTrue (fits e kind span)
+  pub fits : (e : Enclosure) (columns : List ℕ) → IsTrue (fits e columns kind span)
 
 abbrev pub EntersAll : Kind → Context → Type 0
 EntersAll kind x = (span : Span) → span.start.index < span.end.index → Enters kind x span
 
 pub sequence_enters : EntersAll tokens.FlowSequenceStart context.FlowSequence
-sequence_enters span l = record { encloses = λ all. refl; depth = λ d. refl; of_node = refl; fits = λ e. refl }
+sequence_enters span l =
+    record { encloses = λ all. refl; depth = λ d. refl; of_node = refl; fits = λ e columns. refl }
 
 pub mapping_enters : EntersAll tokens.FlowMappingStart context.FlowMapping
 mapping_enters span l =
     let some = has_some span l in
-    record { encloses = λ all. rw some refl; depth = λ d. rw some refl; of_node = some; fits = λ e. rw some refl }
+    record {
+      encloses = λ all. rw some refl;
+      depth = λ d. rw some refl;
+      of_node = some;
+      fits = λ e columns. rw some refl;
+    }
 
 -- what encloses the tokens behind one that closes
 pub record Leaves (kind : Kind) (span : Span) : Type 0 where
-  pub encloses : (all : Enclosures) → enclosures_behind kind span all ≡ place.left_for all.outer
+  pub encloses : (all : Enclosures) → enclosures_behind kind span all ≡ place.left_for all.outer all.columns
   pub depth : (d : ℕ) → deeper kind span (suc d) ≡ d
+  pub ends_json : (b : Bool) → ends_json_behind kind span b ≡ true
 
 abbrev pub LeavesAll : Kind → Type 0
 LeavesAll kind = (span : Span) → span.start.index < span.end.index → Leaves kind span
 
 pub sequence_leaves : LeavesAll tokens.FlowSequenceEnd
-sequence_leaves span l = record { encloses = λ all. refl; depth = λ d. omega arith }
+sequence_leaves span l = record { encloses = λ all. refl; depth = λ d. omega arith; ends_json = λ b. refl }
 
 pub mapping_leaves : LeavesAll tokens.FlowMappingEnd
 mapping_leaves span l =
     let some = has_some span l in
-    record { encloses = λ all. rw some refl; depth = λ d. rw some (omega arith) }
+    record { encloses = λ all. rw some refl; depth = λ d. rw some (omega arith); ends_json = λ b. rw some refl }
 
 -- a single pair may have ended before
 abbrev pub ended : Bool → Enclosures → Enclosures
 ended true all = place.turned_to place.Sequence all
 ended false all = all
 
-ended_outer : (ends : Bool) (all : Enclosures) → (ended ends all).outer ≡ all.outer
-ended_outer true all = refl
-ended_outer false all = refl
+left_ended : (ends : Bool) (all : Enclosures)
+    → place.left_for (ended ends all).outer (ended ends all).columns ≡ place.left_for all.outer all.columns
+left_ended true all = refl
+left_ended false all = refl
 
 -- a bracket that closes may stand behind the pair's end
 abbrev pub EndsPair : Bool → Context → Type 0
 EndsPair ends x = ends ≡ true → IsTrue (may_end_pair (enclosure_of x))
 
 abbrev pub MayClose : Kind → Bool → Context → Type 0
-MayClose kind ends x = (span : Span) → span.start.index < span.end.index → (outside : List Enclosed)
+MayClose kind ends x = (span : Span) → span.start.index < span.end.index → (outside : Outside)
     → is_block x ≡ false → FitsWithin (ended ends (free (enclosure_of x) outside)) (record { span = span; kind = kind })
 
 pub pair_may_end : (x : Context) → EndsPair (ends_pair x) x
@@ -145,23 +154,58 @@ BeginsPiece kind = (span : Span) → span.start.index < span.end.index → Begin
 
 pub open_sequence : Bracket 91 tokens.FlowSequenceStart
 open_sequence =
-    record { some = refl; unbroken = refl; quiet = refl; no_end = λ i. absurd (cc); is = λ i span s t h. h }
+    record {
+      some = refl;
+      unbroken = refl;
+      quiet = refl;
+      no_end = λ i. absurd (cc);
+      unbound = refl;
+      is = λ i span s t h. h;
+    }
 
 pub open_mapping : Bracket 123 tokens.FlowMappingStart
 open_mapping =
-    record { some = refl; unbroken = refl; quiet = refl; no_end = λ i. absurd (cc); is = λ i span s t h. inl h }
+    record {
+      some = refl;
+      unbroken = refl;
+      quiet = refl;
+      no_end = λ i. absurd (cc);
+      unbound = refl;
+      is = λ i span s t h. inl h;
+    }
 
 pub close_sequence : Bracket 93 tokens.FlowSequenceEnd
 close_sequence =
-    record { some = refl; unbroken = refl; quiet = refl; no_end = λ i. absurd (cc); is = λ i span s t h. h }
+    record {
+      some = refl;
+      unbroken = refl;
+      quiet = refl;
+      no_end = λ i. absurd (cc);
+      unbound = refl;
+      is = λ i span s t h. h;
+    }
 
 pub close_mapping : Bracket 125 tokens.FlowMappingEnd
 close_mapping =
-    record { some = refl; unbroken = refl; quiet = refl; no_end = λ i. absurd (cc); is = λ i span s t h. inl h }
+    record {
+      some = refl;
+      unbroken = refl;
+      quiet = refl;
+      no_end = λ i. absurd (cc);
+      unbound = refl;
+      is = λ i span s t h. inl h;
+    }
 
 comma_is_bracket : Bracket 44 tokens.FlowEntry
 comma_is_bracket =
-    record { some = refl; unbroken = refl; quiet = refl; no_end = λ i. absurd (cc); is = λ i span s t h. h }
+    record {
+      some = refl;
+      unbroken = refl;
+      quiet = refl;
+      no_end = λ i. absurd (cc);
+      unbound = refl;
+      is = λ i span s t h. h;
+    }
 
 pub sequence_starts : BeginsPiece tokens.FlowSequenceStart
 sequence_starts span l i s u h = (h.1, ap (λ t. begins_text (slice_index t 0)) h.0.0)
@@ -187,7 +231,7 @@ bracket_read x kind c u b f o =
     let later = apart_later (pass 1 c.cursor).mark (pass 1 c.cursor).rest u.mark u.rest o.apart in
     indicated x c u (bracket_piece kind c u) (stands x kind c.cursor b f) o.apart (omega arith)
     (omega (arith, later.index)) (omega arith)
-    (λ t. b.is (surroundings c) (record { start = c.cursor.mark; end = u.mark }) c.cursor (pass 1 c.cursor)
+    (λ t e _. b.is (surroundings e c) (record { start = c.cursor.mark; end = u.mark }) c.cursor (pass 1 c.cursor)
     (t, refl, o.on_line))
 
 -- ## `[` and `{`
@@ -212,23 +256,56 @@ start_does i kind x b starts counts enters flows n c f =
     let into = enters span some in
     and_then (λ n. n)
     (entered n x c behind (bracket_piece kind c u) flows s refl (λ n. n) b.quiet (counts span some)
-    into.encloses into.depth into.of_node into.fits b.no_end (starts span some) refl (bracket_read i kind c u b f g.1))
-    (further (flow.enter x behind) e.1 g.0 (taken.nothing u.mark u.rest)))))
+    into.encloses into.depth into.of_node into.fits b.no_end b.unbound (starts span some) refl
+    (bracket_read i kind c u b f g.1))
+    (further (flow.enter x behind) e.1 g.0 (taken.nothing u.mark u.rest) (λ _. inl refl)))))
 
 -- ## The end of a collection or an entry
+
+-- what is put into two that are the same leaves them the same, where they stand
+record Respected (x y v w : Core) : Type 0 where
+  same : Same v w
+  before : v.cursor ≡ x.cursor
+  behind : w.cursor ≡ y.cursor
+  silent : NoComment x v
+  allows : v.key_allowed ≡ x.key_allowed
+
+adjacent_respected : (x y : Core) → Same x y → y.cursor ≡ x.cursor
+    → Respected x y (flow.allow_adjacent x) (flow.allow_adjacent y)
+adjacent_respected x y s e = by (in_block x) (in_block y) (ap (λ (l : Level). is_block l.context) s.0)
+  where
+    allowed : Bool → Core → Core
+    allowed b c = if b then c else record c { adjacent = c.cursor.mark.index }
+
+    by : (a b : Bool) → b ≡ a → Respected x y (allowed a x) (allowed b y)
+    by true true f = record { same = s; before = refl; behind = refl; silent = λ n. n; allows = refl }
+    by true false f = absurd (cc)
+    by false true f = absurd (cc)
+    by false false f = record {
+      same = (
+        s.0,
+        ap (λ (a : Around). record a { adjacent = y.cursor.mark.index }) s.1
+            ∙ ap (λ (u : Cursor). record (around x) { adjacent = u.mark.index }) e,
+        s.2,
+      );
+      before = refl;
+      behind = refl;
+      silent = λ n. n;
+      allows = refl;
+    }
 
 -- behind a bracket or a comma, which leaves d behind c, and before it the end of a pair
 bracket_walked : (x : ℕ) (kind : Kind) → Bracket x kind → (c d : Core) (ends : Bool) → slice_index c.cursor.rest 0 ≡ x
     → d.cursor ≡ c.cursor → NoComment c d → EndsPair ends c.level.context
+    → (f : Core → Core) → ((x y : Core) → Same x y → y.cursor ≡ x.cursor → Respected x y (f x) (f y))
     → ((u : Cursor) → c.cursor.mark.index < u.mark.index → Reading 1 (with_key None c) (bracket_piece kind c u) u
-    → DoesWithin (IsArrival c) (ended ends (enclosures_of c)) (enclosures_of d) None 1 1 (with_key None c)
-    (with_cursor u d) (Put (bracket_piece kind c u) ∷ []))
-    → (f : Core → Core) → ((e : Core) → Same e (f e) × ((f e).cursor ≡ e.cursor))
+    → DoesWithin (IsArrival c) (ended ends (enclosures_of c)) (enclosures_of (f (freed (with_cursor u d)))) None 1 1
+    (with_key None c) (f (freed (with_cursor u d))) (Put (bracket_piece kind c u) ∷ []))
     → Walked (Premises c) (Doing None c) c.cursor
     (separate (pass_on 1 d) >>= λ e. completed_step
     (flow.behind_pair ends c.cursor.mark (up_to_here c.cursor.mark kind e.1))
     (f e.1))
-bracket_walked x kind bracket c d ends first there silent may put f alike =
+bracket_walked x kind bracket c d ends first there silent may f alike put =
     let on : (pass_on 1 d).cursor ≡ pass 1 c.cursor = ap (pass 1) there in
     let R : Cursor → Type 0 = λ v. Reaches c.cursor v in
     let b : Core = with_key None c in
@@ -236,19 +313,18 @@ bracket_walked x kind bracket c d ends first there silent may put f alike =
     (separate_walked c c.cursor (pass_on 1 d)
     (λ _. subst R (sym on) (passes x c.cursor (stands x kind c.cursor bracket first)))) (λ e g.
     let u : Cursor = e.1.cursor in
-    let k = alike e.1 in
-    let P : Cursor → Type 0 = λ v. taken.AreApart u v in
+    let k = alike (freed (with_cursor u d)) e.1 g.0 refl in
     let Q : Cursor → Type 0 = λ v. OnLine v u in
     let o : OnLine (pass 1 c.cursor) u = subst Q on g.1 in
     let later = apart_later (pass 1 c.cursor).mark (pass 1 c.cursor).rest u.mark u.rest o.apart in
     let token : DoesWithin (IsArrival c) (ended ends (enclosures_of c)) (enclosures_of (f e.1)) None 1 1 b (f e.1)
-    (up_to_here c.cursor.mark kind e.1 ∷ []) = and_then silent
+    (up_to_here c.cursor.mark kind e.1 ∷ []) = and_then (λ n. k.silent (silent n))
     (put u (omega (arith, later.index)) (bracket_read x kind b u bracket first o))
-    (further (with_cursor u d) (f e.1) (same_same (with_cursor u d) e.1 (f e.1) g.0 k.0)
-    (subst P (sym k.1) (taken.nothing u.mark u.rest))) in
+    (further (f (freed (with_cursor u d))) (f e.1) k.same
+    (apart_same (f (freed (with_cursor u d))).cursor (f e.1).cursor (k.behind ∙ sym k.before)) (λ _. inl k.allows)) in
     let forgets : Does (IsArrival c) None 0 0 c b [] =
     lesser (enclosures_of c) c b (record { block = refl; key = inr refl }) refl (λ n. n)
-    (taken.nothing c.cursor.mark c.cursor.rest) in
+    (taken.nothing c.cursor.mark c.cursor.rest) (λ a. inl a) in
     by_bool ends
     (λ b2. EndsPair b2 c.level.context → DoesWithin (IsArrival c) (ended b2 (enclosures_of c)) (enclosures_of (f e.1))
     None 1 1 b (f e.1) (up_to_here c.cursor.mark kind e.1 ∷ [])
@@ -265,16 +341,13 @@ bracket_walked x kind bracket c d ends first there silent may put f alike =
         let b : Core = with_key None c in
         let t = empty_piece c.cursor.mark tokens.FlowMappingEnd in
         let no = no_text c.cursor.mark.index in
-        encloses (rw no refl)
+        and_then (λ n. n)
+        (encloses (rw no refl)
         (quiet_within (enclosures_of c) 0 b t c.cursor refl
         (λ y. ap (λ (z : Collections). z.brackets) (pair_ends c.cursor.mark y)) (λ d. rw no refl) (inl refl)
-        (λ _. rw no may) (λ i. absurd (cc))
-        (empty_reading b tokens.FlowMappingEnd (inr (refl, inl refl, refl))))
-
-adjacent_same : (c : Core) → Same c (flow.allow_adjacent c) × ((flow.allow_adjacent c).cursor ≡ c.cursor)
-adjacent_same c =
-    by_test (in_block c) _ _ (λ (d : Core). Same c d × (d.cursor ≡ c.cursor)) (λ _. (same c, refl))
-    (λ _. ((refl, refl, λ n. n), refl))
+        (λ _. rw no may) (λ i. absurd (cc)) refl
+        (empty_reading b tokens.FlowMappingEnd (λ _. inr (refl, inl refl, refl)))))
+        (still_within (place.turned_to place.Sequence (enclosures_of c)) (freed b) b (same b) refl (λ _. inl refl))
 
 pub end_does : (i : ℕ) (kind : Kind) → Bracket i kind → Counts (λ n. n - 1) kind → LeavesAll kind
     → (ends : Bool) (c : Core) → EndsPair ends c.level.context → MayClose kind ends c.level.context
@@ -289,22 +362,30 @@ end_does i kind b counts leaves ends c may close first =
     (flow.behind_pair ends c.cursor.mark (up_to_here c.cursor.mark kind e.1)) (flow.allow_adjacent e.1)))
     (λ l ls m.
     bracket_walked i kind b c (record c { level = l; outer = ls; key_allowed = false }) ends first refl (λ n. n) may
+    flow.allow_adjacent adjacent_respected
     (λ u some r.
     let span : Span = record { start = c.cursor.mark; end = u.mark } in
     let out = leaves span some in
     let within = ended ends (enclosures_of c) in
-    encloses (m.encloses ∙ ap place.left_for (sym (ended_outer ends (enclosures_of c))) ∙ sym (out.encloses within))
-    (left within (with_key None c) l ls (bracket_piece kind c u) u
+    let t = bracket_piece kind c u in
+    let d : ℕ → Core =
+    λ n. record c { cursor = u; level = l; outer = ls; key_allowed = true; adjacent = n } in
+    let Closes : Core → Type 0 =
+    λ e. DoesWithin (IsArrival c) within (enclosures_of e) None 1 1 (with_key None c) e (Put t ∷ []) in
+    let closes : (n : ℕ) → Adjoins t c (d n) → Closes (d n) = λ n j.
+    encloses (m.encloses (outside_of c).columns ∙ sym (left_ended ends (enclosures_of c)) ∙ sym (out.encloses within))
+    (left within (with_key None c) l ls t u n j
     (record { above = m.above; keys = m.keys; fewer = m.fewer; encloses = m.encloses }) b.quiet
-    (counts span some) out.depth (close span some (enclosed_by c.outer) inside) b.no_end r))
-    flow.allow_adjacent adjacent_same))
+    (counts span some) out.depth (close span some (outside_of c) inside) b.no_end b.unbound r) in
+    by_test (is_block l.context) _ _ Closes (λ _. closes c.adjacent (inl refl))
+    (λ _. closes u.mark.index (inr (refl, out.ends_json))))))
 
 entry_block : (x : Context) → is_block (behind_entry x) ≡ is_block x
 entry_block context.Block = refl
 entry_block _ = refl
 
 -- behind a comma
-entry_encloses : (x : Context) (outside : List Enclosed) (span : Span)
+entry_encloses : (x : Context) (outside : Outside) (span : Span)
     → free (enclosure_of (behind_entry x)) outside
     ≡ enclosures_behind tokens.FlowEntry span (ended (ends_pair x) (free (enclosure_of x) outside))
 entry_encloses context.Block outside span = refl
@@ -314,7 +395,7 @@ entry_encloses context.ExplicitFlowPair outside span = refl
 entry_encloses context.MarkedFlowPair outside span = refl
 entry_encloses context.FlowMapping outside span = refl
 
-entry_fits : (x : Context) (outside : List Enclosed) (span : Span)
+entry_fits : (x : Context) (outside : Outside) (span : Span)
     → FitsWithin (ended (ends_pair x) (free (enclosure_of x) outside))
     (record { span = span; kind = tokens.FlowEntry })
 entry_fits context.Block outside span = refl
@@ -335,10 +416,11 @@ entry_does c first =
     by_test (in_block c && c.required) _ _
     (λ r. Walked (Premises c) (Doing None c) c.cursor (r >>= flow.next_flow_entry)) (λ _ _. at_here c.cursor)
     (λ _. bracket_walked 44 tokens.FlowEntry comma_is_bracket c d (ends_pair x) first refl (λ n. n) (pair_may_end x)
-    (λ u some r. encloses (entry_encloses x (enclosed_by c.outer) (bracket_piece tokens.FlowEntry c u).span)
+    (λ e. e) (λ v w s e. record { same = s; before = refl; behind = refl; silent = λ n. n; allows = refl })
+    (λ u some r. encloses (entry_encloses x (outside_of c) (bracket_piece tokens.FlowEntry c u).span)
     (and_then (λ n. n)
     (quiet_within within 1 b (bracket_piece tokens.FlowEntry c u) u refl (λ y. refl) (λ e. refl) (inl refl)
-    (λ _. entry_fits x (enclosed_by c.outer) (bracket_piece tokens.FlowEntry c u).span) (λ i. absurd (cc)) r)
-    (lesser (enclosures_behind tokens.FlowEntry (bracket_piece tokens.FlowEntry c u).span within) (with_cursor u b)
-    (with_cursor u d) (record { block = entry_block x; key = inr refl }) refl
-    (λ n. n) (taken.nothing u.mark u.rest)))) (λ e. e) (λ e. (same e, refl)))
+    (λ _. entry_fits x (outside_of c) (bracket_piece tokens.FlowEntry c u).span) (λ i. absurd (cc)) refl r)
+    (lesser (enclosures_behind tokens.FlowEntry (bracket_piece tokens.FlowEntry c u).span within)
+    (freed (with_cursor u b)) (freed (with_cursor u d)) (record { block = entry_block x; key = inr refl }) refl
+    (λ n. n) (taken.nothing u.mark u.rest) (λ _. inl refl)))))

@@ -19,7 +19,7 @@ use Rattle.saphyr_scanner.proofs.Ordered.Queue.{PutsInOrder}
 use Rattle.saphyr_scanner.proofs.PlainBehind.{IsNoted}
 use Rattle.saphyr_scanner.proofs.Taken.Candidates.{KeyAbove, LevelsAbove, Above, ActionsAbove}
 use Rattle.saphyr_scanner.proofs.Taken.Cores.{HoldsWithin, same_enclosures, Lesser, holds_lesser}
-use Rattle.saphyr_scanner.proofs.Taken.Held.{enclosure_of, enclosed_by, enclosures_of, Setting}
+use Rattle.saphyr_scanner.proofs.Taken.Held.{enclosure_of, enclosed_by, enclosures_of, Setting, AllowsKey}
 use Rattle.saphyr_scanner.proofs.Taken.Keys.{Keys}
 use Rattle.saphyr_scanner.proofs.Taken.InPlace.{free}
 use Rattle.saphyr_scanner.proofs.Taken.Later.{apart_later}
@@ -133,6 +133,7 @@ pub record Around : Type 0 where
   pub outer_indents : List ℕ
   pub started : Bool
   pub ended : Bool
+  pub adjacent : ℕ
 
 abbrev pub around : Core → Around
 around c = record {
@@ -141,6 +142,7 @@ around c = record {
   outer_indents = c.outer_indents;
   started = c.started;
   ended = c.ended;
+  adjacent = c.adjacent;
 }
 
 abbrev pub Same : Core → Core → Type 0
@@ -161,8 +163,8 @@ lesser_above h l m e a = by e.key
 
 -- separation is passed, and the key may be forgotten
 pub lesser : {A : Type 0} (within : Enclosures) (c d : Core) → Lesser c.level d.level → around d ≡ around c
-    → NoComment c d → AreApart c.cursor d.cursor → DoesWithin A within within None 0 0 c d []
-lesser within c d l a m p =
+    → NoComment c d → AreApart c.cursor d.cursor → AllowsKey c d → DoesWithin A within within None 0 0 c d []
+lesser within c d l a m p allows =
     let later = apart_later c.cursor.mark c.cursor.rest d.cursor.mark d.cursor.rest p in
     let blocks : open_blocks d ≡ open_blocks c =
     ap (λ (x : Around). at_most_one x.indent + length x.outer_indents) a in
@@ -184,55 +186,66 @@ lesser within c d l a m p =
           );
       holds = λ _ _ opened from q _ h.
           holds_lesser within opened from c d q l (ap (λ (x : Around). x.outer) a) (ap (λ (x : Around). x.indent) a)
-          (ap (λ (x : Around). x.outer_indents) a) p h;
+          (ap (λ (x : Around). x.outer_indents) a) (ap (λ (x : Around). x.adjacent) a) p allows h;
       noted = λ f. inl (m f);
     }
 
 pub further_within : {A : Type 0} (within : Enclosures) (c d : Core) → Same c d → AreApart c.cursor d.cursor
-    → DoesWithin A within within None 0 0 c d []
-further_within within c d s p =
+    → AllowsKey c d → DoesWithin A within within None 0 0 c d []
+further_within within c d s p allows =
     lesser within c d
     (record { block = ap (λ (l : Level). is_block l.context) s.0; key = inl (ap (λ (l : Level). l.key) s.0) }) s.1 s.2
-    p
+    p allows
 
 pub same_around : (c d : Core) → Same c d → enclosures_of d ≡ enclosures_of c
 same_around c d s =
     same_enclosures c d (ap (λ (l : Level). l.context) s.0) (ap (λ (x : Around). x.outer) s.1)
+    (ap (λ (x : Around). x.indent) s.1) (ap (λ (x : Around). x.outer_indents) s.1)
 
-pub further : {A : Type 0} (c d : Core) → Same c d → AreApart c.cursor d.cursor → Does A None 0 0 c d []
-further c d s p = encloses (same_around c d s) (further_within (enclosures_of c) c d s p)
+pub further : {A : Type 0} (c d : Core) → Same c d → AreApart c.cursor d.cursor → AllowsKey c d
+    → Does A None 0 0 c d []
+further c d s p allows = encloses (same_around c d s) (further_within (enclosures_of c) c d s p allows)
 
 -- what is known stays, where the text doesn't go on
-pub still_within : {A : Type 0} (within : Enclosures) (c d : Core) → Same c d → d.cursor ≡ c.cursor
+pub still_within : {A : Type 0} (within : Enclosures) (c d : Core) → Same c d → d.cursor ≡ c.cursor → AllowsKey c d
     → DoesWithin A within within None 0 0 c d []
-still_within within c d s e =
+still_within within c d s e allows =
     further_within within c d s (let P : Cursor → Type 0 = λ u. AreApart c.cursor u in subst P (sym e)
-    (taken.nothing c.cursor.mark c.cursor.rest))
+    (taken.nothing c.cursor.mark c.cursor.rest)) allows
 
-pub still : {A : Type 0} (c d : Core) → Same c d → d.cursor ≡ c.cursor → Does A None 0 0 c d []
-still c d s e = encloses (same_around c d s) (still_within (enclosures_of c) c d s e)
+pub still : {A : Type 0} (c d : Core) → Same c d → d.cursor ≡ c.cursor → AllowsKey c d → Does A None 0 0 c d []
+still c d s e allows = encloses (same_around c d s) (still_within (enclosures_of c) c d s e allows)
 
 -- a flow collection is left for the level around it
 pub record Left (c : Core) (l : Level) (ls : List Level) : Type 0 where
   pub above : (h : ℕ) → LevelsAbove h c.outer → KeyAbove h l.key × LevelsAbove h ls
-  pub keys : (b : ℕ) (q : Queue) → Keys b q c.indent c.outer → Keys b q c.indent (l ∷ ls)
+  pub keys : (all : Enclosures) (b : ℕ) (q : Queue) → Keys all b q c.indent c.outer
+      → Keys all b q c.indent (l ∷ ls)
   pub fewer : length ls ≡ length c.outer - 1
-  pub encloses : free (enclosure_of l.context) (enclosed_by ls) ≡ left_for (enclosed_by c.outer)
+  pub encloses : (columns : List ℕ)
+      → free (enclosure_of l.context) (record { enclosed = enclosed_by ls; columns = columns })
+      ≡ left_for (enclosed_by c.outer) columns
 
 pub leaving : (c : Core) (P : Core → Type 0)
     → ((l : Level) (ls : List Level) → Left c l ls → P (record c { level = l; outer = ls; key_allowed = false }))
     → P (flow.leave c)
-leaving c P f = by c.outer (λ h a. a) (λ b q k. k) refl refl
+leaving c P f = by c.outer (λ h a. a) (λ x b q k. k) refl (λ columns. refl)
   where
     by : (ls : List Level) → ((h : ℕ) → LevelsAbove h c.outer → LevelsAbove h ls)
-        → ((b : ℕ) (q : Queue) → Keys b q c.indent c.outer → Keys b q c.indent ls)
-        → length c.outer ≡ length ls → left_for (enclosed_by c.outer) ≡ left_for (enclosed_by ls)
+        → ((all : Enclosures) (b : ℕ) (q : Queue) → Keys all b q c.indent c.outer → Keys all b q c.indent ls)
+        → length c.outer ≡ length ls
+        → ((columns : List ℕ) → left_for (enclosed_by c.outer) columns ≡ left_for (enclosed_by ls) columns)
         → P (flow.leave_to ls c)
     by [] above keys n e = f at_root [] (record {
       above = λ h a. (tt, tt);
-      keys = λ b q k. (refl, tt, tt);
+      keys = λ x b q k. (refl, tt, tt);
       fewer = omega (arith, n);
-      encloses = sym e;
+      encloses = λ columns. sym (e columns);
     })
     by (l ∷ ls) above keys n e =
-        f l ls (record { above = above; keys = keys; fewer = omega (arith, n); encloses = sym e })
+        f l ls (record {
+          above = above;
+          keys = keys;
+          fewer = omega (arith, n);
+          encloses = λ columns. sym (e columns);
+        })

@@ -29,13 +29,14 @@ use Rattle.saphyr_scanner.proofs.Taken.Places.{here_at}
 
 -- a reader that takes a text off, and ends its token there
 token_read : (c : Core) (kind : Kind) (u : Cursor) → (Readers → Less u c.cursor) → (ReaderEnds → Ahead c.cursor u)
-    → (TextLaws → IsToken (surroundings c) kind (record { start = c.cursor.mark; end = u.mark }) c.cursor u)
+    → (TextLaws → (b : Bool)
+    → IsToken (surroundings b c) kind (record { start = c.cursor.mark; end = u.mark }) c.cursor u)
     → Reading 1 c (record { span = record { start = c.cursor.mark; end = u.mark }; kind = kind }) u
 token_read c kind u less ahead is = record {
   less = λ laws. let z = less laws in omega (arith, z);
   span = λ laws. let z = ahead laws in
       record { ahead = z; begins = omega arith; inside = z.later; ends = omega arith };
-  token = λ laws. (u, is laws, taken.nothing u.mark u.rest);
+  token = λ laws. (u, (λ b _. is laws b), taken.nothing u.mark u.rest);
 }
 
 pub record Named (token_of : List ℕ → Kind) (x : ℕ) : Type 0 where
@@ -93,16 +94,17 @@ name_does token_of x named n c some f =
     (λ y e.
     let span : Span = record { start = here.mark; end = y.1.mark } in
     let kind : Kind = token_of y.0 in
-    saved n c (with_cursor y.1 d) (record { span = span; kind = kind }) s refl (λ m. inl m) (named.quiet y.0)
-    (named.keeps y.0 span) (named.of_node y.0 span) (named.no_end y.0) (λ i. named.of i y.0 span) refl
-    (token_read c kind y.1 (λ laws. laws.name here y.1 y.0 some e) (λ laws. laws.name here y.1 y.0 some e) (λ laws.
+    saved n c (with_cursor y.1 d) (record { span = span; kind = kind }) s refl (inl refl) (λ m. inl m) (named.quiet y.0)
+    (named.keeps y.0 span) (named.of_node y.0 span) (named.no_end y.0) (λ _. refl)
+    (λ i. named.of i y.0 span) refl
+    (token_read c kind y.1 (λ laws. laws.name here y.1 y.0 some e) (λ laws. laws.name here y.1 y.0 some e) (λ laws b.
     let w = laws.name here y.1 y.0 some e in
     let first : w.0 ≡ x = sym (ap (λ t. slice_index t 0) w.2) ∙ f in
     let P : ℕ → Type 0 = λ k. here.rest ≡ k ∷ (w.1 ++ y.1.rest) in
     let m : 1 + length w.1 ≡ length (x ∷ w.1) = omega arith in
     let goes : y.1.mark ≡ along here.mark (length (x ∷ w.1)) =
     ap (λ (u : Cursor). u.mark) w.5 ∙ ap (λ k. along here.mark k) m in
-    named.is (surroundings c) y.0 span here y.1
+    named.is (surroundings b c) y.0 span here y.1
     (w.1, w.3, sym w.6, record { is = subst P first w.2; start = refl; end = refl; goes_on = goes }, w.4)))))
 
 pub tag_does : (n : ℕ) (c : Core) → slice_index c.cursor.rest 0 ≡ exclamation_mark
@@ -117,14 +119,15 @@ tag_does n c first =
     walked_then (Premises c) _ Q here (tags.tag f here) _
     (read_walked (Premises c) here (tags.tag f here) (λ e q laws. here_at here e.mark (laws.0.tag f here e q))) (λ y e.
     let span : Span = record { start = here.mark; end = y.2.mark } in
-    saved n c (with_cursor y.2 d) (record { span = span; kind = tokens.Tag y.0 y.1 }) s refl (λ m. inl m) refl
-    (neutral _ span refl) refl (λ i. absurd (cc))
+    saved n c (with_cursor y.2 d) (record { span = span; kind = tokens.Tag y.0 y.1 }) s refl (inl refl) (λ m. inl m)
+    refl
+    (neutral _ span refl) refl (λ i. absurd (cc)) (λ _. refl)
     (λ i a b k. (
       k.6.start,
       ap (λ t. begins_text (slice_index t 0)) k.6.is ∙ ap begins_text (tag_begins k.0 b.rest k.1 k.2 k.3),
     )) refl
     (token_read c (tokens.Tag y.0 y.1) y.2 (λ laws. laws.tag f here y.2 y.0 y.1 first e)
-    (λ laws. laws.tag f here y.2 y.0 y.1 first e) (λ laws.
+    (λ laws. laws.tag f here y.2 y.0 y.1 first e) (λ laws _.
     let w = laws.tag f here y.2 y.0 y.1 first e in
     let E : Bool → Type 0 = λ g. EndsTag g y.2.rest in (
       w.0,

@@ -17,22 +17,22 @@ use Rattle.saphyr_scanner.specs.Steps.Core.{in_block, save_key, forget_key, ente
 use Rattle.saphyr_scanner.specs.Steps.Flow as flow
 use Rattle.saphyr_scanner.specs.Steps.Passing.{with_cursor}
 use Rattle.saphyr_scanner.specs.TokensTaken as taken
-use Rattle.saphyr_scanner.specs.TokensTaken.{Collections, Surroundings, AreApart, IsToken, TakesCharacter, IsBlockStart, begins_text, open_behind}
+use Rattle.saphyr_scanner.specs.TokensTaken.{Collections, Surroundings, AreApart, IsToken, TakesCharacter, IsBlockStart, begins_text, open_behind, collections_behind}
 use Rattle.saphyr_scanner.proofs.Added.Queue.{IsNoEnd, at_most_one, one_at_most, open_blocks}
 use Rattle.saphyr_scanner.proofs.Effects.Readers.{Readers, ReaderEnds, ReadsSpan, TextLaws}
 use Rattle.saphyr_scanner.proofs.Effects.Moves.{Around, DoesWithin, Does, encloses, IsBeforePlace, IsNextPlace, Left, NoComment, around}
 use Rattle.saphyr_scanner.proofs.PlainBehind.{IsNoted}
 use Rattle.saphyr_scanner.proofs.Taken.Candidates.{KeyAbove, LevelsAbove, Above}
-use Rattle.saphyr_scanner.proofs.Taken.Cores.{HoldsWithin, same_enclosures, surroundings, outermost, holds_put, next_put, quiet_opens, quiet_put, loud_put}
+use Rattle.saphyr_scanner.proofs.Taken.Cores.{HoldsWithin, same_enclosures, surroundings, IsTokenThere, outermost, holds_put, next_put, quiet_opens, quiet_put, loud_put}
 use Rattle.saphyr_scanner.proofs.Taken.Neutral.{KeepsBrackets, Neutral}
 use Rattle.saphyr_scanner.proofs.Taken.Cores.{saved_keys, open_quiet, open_loud, indicator_is_passed}
-use Rattle.saphyr_scanner.proofs.Taken.Held.{Stands, enclosure_of, enclosed_by, enclosures_of, Setting, FitsWithin}
+use Rattle.saphyr_scanner.proofs.Taken.Held.{Stands, enclosure_of, outside_of, enclosures_of, began_at, Setting, FitsWithin, Adjoins, is_property, IsParted, is_unbound, unbound_parted, same_calm, unbound_calm, node_parted}
 use Rattle.saphyr_scanner.proofs.Taken.Keys.{KeepsDepth, IsFreeOr, keeps_depth, leads_in, leads_out, lower, below_key, keys_put, keys_weaken}
-use Rattle.saphyr_scanner.proofs.Taken.InPlace.{deeper, awaited, MayOpen, free}
+use Rattle.saphyr_scanner.proofs.Taken.InPlace.{deeper, in_key, awaited, MayOpen, Outside, free, calmed, calm}
 use Rattle.saphyr_scanner.specs.TokensInPlace as place
-use Rattle.saphyr_scanner.specs.TokensInPlace.{Enclosure, Enclosed, Begun, Enclosures, with_begun, enclosures_behind, may_begin_key, is_of_flow_node, fits}
+use Rattle.saphyr_scanner.specs.TokensInPlace.{Enclosure, Begun, Enclosures, with_begun, begun_at, awaiting_colon, enclosures_behind, may_begin_key, is_of_flow_node, fits}
 use Rattle.saphyr_scanner.proofs.Taken.Later.{apart_later}
-use Rattle.saphyr_scanner.proofs.Taken.Parts.{is_quiet, Begins, opens_block, with_column}
+use Rattle.saphyr_scanner.proofs.Taken.Parts.{is_quiet, Begins, opens_block, with_column, EndsOnLine}
 use Rattle.saphyr_scanner.proofs.Taken.Places.{Reaches, character_reached}
 use Rattle.saphyr_input.proofs.Basics.Booleans.{by_test}
 
@@ -42,11 +42,12 @@ use Rattle.saphyr_input.proofs.Basics.Booleans.{by_test}
 pub record Reading (k : ℕ) (c : Core) (t : Piece) (u : Cursor) : Type 0 where
   pub less : Readers → length u.rest + k ≤ length c.cursor.rest
   pub span : ReaderEnds → ReadsSpan c.cursor t.span u
-  pub token : TextLaws → (behind : Cursor) × IsToken (surroundings c) t.kind t.span c.cursor behind × AreApart behind u
+  pub token : TextLaws → (behind : Cursor) × IsTokenThere c t c.cursor behind × AreApart behind u
 
 -- a token without characters
 pub empty_reading : (c : Core) (kind : Kind)
-    → IsToken (surroundings c) kind (record { start = c.cursor.mark; end = c.cursor.mark }) c.cursor c.cursor
+    → ((b : Bool)
+    → IsToken (surroundings b c) kind (record { start = c.cursor.mark; end = c.cursor.mark }) c.cursor c.cursor)
     → Reading 0 c (empty_piece c.cursor.mark kind) c.cursor
 empty_reading c kind is = record {
   less = λ _. omega arith;
@@ -56,7 +57,7 @@ empty_reading c kind is = record {
     inside = omega arith;
     ends = omega arith;
   };
-  token = λ _. (c.cursor, is, taken.nothing c.cursor.mark c.cursor.rest);
+  token = λ _. (c.cursor, (λ b _. is b), taken.nothing c.cursor.mark c.cursor.rest);
 }
 
 -- an indicator stands here
@@ -72,7 +73,7 @@ passes x s h = character_reached x s (pass 1 s) h.unbroken (indicator_is_passed 
 pub indicated : (x : ℕ) (c : Core) (u : Cursor) (t : Piece) → IndicatorStands x c.cursor → AreApart (pass 1 c.cursor) u
     → c.cursor.mark.index ≤ t.span.start.index → t.span.start.index ≤ t.span.end.index
     → t.span.end.index ≤ u.mark.index
-    → (TakesCharacter x c.cursor (pass 1 c.cursor) → IsToken (surroundings c) t.kind t.span c.cursor (pass 1 c.cursor))
+    → (TakesCharacter x c.cursor (pass 1 c.cursor) → IsTokenThere c t c.cursor (pass 1 c.cursor))
     → Reading 1 c t u
 indicated x c u t stands apart begins inside ends is =
     let takes = indicator_is_passed x c.cursor stands.some stands.is in
@@ -110,113 +111,137 @@ putting within behind n k v c d t r e s f m few above holds = record {
   noted = m;
 }
 
+-- a key may begin here, where no properties stand last
+abbrev pub freed : Core → Core
+freed c = record c { key_allowed = true }
+
 -- one that doesn't change which block collections and brackets are open
 pub quiet_within : {A : Type 0} (within : Enclosures) (k : ℕ) (c : Core) (t : Piece) (u : Cursor)
     → is_quiet t.kind ≡ true → KeepsBrackets t → KeepsDepth t → IsFreeOr t c.level.key → (A → FitsWithin within t)
-    → IsNoEnd t.kind → Reading k c t u
-    → DoesWithin A within (enclosures_behind t.kind t.span within) None k 1 c (with_cursor u c) (Put t ∷ [])
-quiet_within within k c t u q b depth own fit e r =
-    putting within (enclosures_behind t.kind t.span within) None k 0 c (with_cursor u c) t r e refl refl (λ m. inl m)
+    → IsNoEnd t.kind → is_unbound t.kind ≡ true → Reading k c t u
+    → DoesWithin A within (enclosures_behind t.kind t.span within) None k 1 c (freed (with_cursor u c)) (Put t ∷ [])
+quiet_within within k c t u q b depth own fit e unbound r =
+    let d : Core = freed (with_cursor u c) in
+    encloses (sym (unbound_calm t.kind t.span within unbound))
+    (putting within (calm (enclosures_behind t.kind t.span within)) None k 0 c d t r e refl refl (λ m. inl m)
     (omega arith) (λ h _ a. a)
     (λ premise laws opened from p _ h.
     let w = r.token laws in
-    quiet_put within opened from c (with_cursor u c) p t c.cursor w.0 q b depth own (fit premise)
+    quiet_put within opened from c d p t c.cursor w.0 q b depth own (fit premise) (unbound_parted t c d unbound)
     (taken.nothing c.cursor.mark c.cursor.rest) w.1 w.2
-    (record { level = refl; outer = refl; indent = refl; outer_indents = refl }) h)
+    (record { level = refl; outer = refl; indent = refl; outer_indents = refl; adjacent = refl }) h))
 
 -- one that changes nothing
 pub quiet : {A : Type 0} (k : ℕ) (c : Core) (t : Piece) (u : Cursor) → is_quiet t.kind ≡ true → Neutral t
-    → IsFreeOr t c.level.key → IsNoEnd t.kind → Reading k c t u → Does A None k 1 c (with_cursor u c) (Put t ∷ [])
-quiet k c t u q b own e r =
-    encloses (sym (b.encloses (enclosure_of c.level.context) (enclosed_by c.outer)))
-    (quiet_within (enclosures_of c) k c t u q b.brackets b.depth own (λ _. b.fits (enclosure_of c.level.context)) e r)
+    → IsFreeOr t c.level.key → IsNoEnd t.kind → is_unbound t.kind ≡ true → Reading k c t u
+    → Does A None k 1 c (freed (with_cursor u c)) (Put t ∷ [])
+quiet k c t u q b own e unbound r =
+    encloses (sym (b.encloses (enclosure_of c.level.context) (outside_of c))
+    ∙ unbound_calm t.kind t.span (enclosures_of c) unbound)
+    (quiet_within (enclosures_of c) k c t u q b.brackets b.depth own
+    (λ _. b.fits (enclosure_of c.level.context) (outside_of c).columns) e unbound r)
 
 -- a block collection begins, where no token may be a key any more
-pub block_begins : {A : Type 0} (e : Enclosure) (outside : List Enclosed) (c : Core) (kind : Kind) (g : Begun)
-    → IsNoEnd kind
+pub block_begins : {A : Type 0} (e : Enclosure) (c : Core) (kind : Kind) (g : Begun) → IsNoEnd kind
+    → is_property kind ≡ false → calmed g ≡ g → c.key_allowed ≡ true
     → ((i : Surroundings) (span : Span) (s t : Cursor) → IsBlockStart i.indent span s t → IsToken i kind span s t)
-    → ((span : Span) (opened : Collections) → open_behind kind span opened ≡ with_column span.start.col opened)
-    → ((span : Span) → enclosures_behind kind span (free e outside) ≡ with_begun g (free e outside))
-    → ((span : Span) → IsTrue (fits e kind span))
+    → ((span : Span) (opened : Collections) → collections_behind kind span opened ≡ with_column span.start.col opened)
+    → ((span : Span) (all : Enclosures) → enclosures_behind kind span all ≡ begun_at g span.start.col all)
+    → ((span : Span) (columns : List ℕ) → IsTrue (fits e columns kind span))
     → in_block c ≡ true → c.indent ≤ c.cursor.mark.col → IsTrue (begins_text (slice_index c.cursor.rest 0))
-    → DoesWithin A (free e outside) (with_begun g (free e outside)) None 0 3 c
+    → DoesWithin A (free e (outside_of c))
+    (with_begun g (free e (outside_of (enter_block c.cursor.mark.col c)))) None 0 3 c
     (forget_key (enter_block c.cursor.mark.col c)) (at_mark c.cursor.mark kind ∷ [])
-block_begins e outside c kind g n is opens begins fit b right first =
+block_begins e c kind g n other same allowed is opens begins fit b right first =
     let d : Core = forget_key (enter_block c.cursor.mark.col c) in
-    let within = free e outside in
+    let within = free e (outside_of c) in
     let none : AreApart c.cursor c.cursor = taken.nothing c.cursor.mark c.cursor.rest in
     let t = empty_piece c.cursor.mark kind in
-    let token = is (surroundings c) (record { start = c.cursor.mark; end = c.cursor.mark }) c.cursor c.cursor
-    (refl, refl, refl, first, right) in
-    encloses (sym (begins t.span))
-    (putting within (enclosures_behind kind t.span within) None 0 2 c d t (empty_reading c kind token) n refl refl
+    let token : (b : Bool) → IsToken (surroundings b c) kind (record { start = c.cursor.mark; end = c.cursor.mark })
+    c.cursor c.cursor = λ b. is (surroundings b c) (record { start = c.cursor.mark; end = c.cursor.mark }) c.cursor
+    c.cursor (refl, refl, refl, first, right) in
+    encloses (ap (λ x. with_begun x (free e (outside_of d))) (sym same)
+    ∙ ap calm (sym (began_at g e c.cursor.mark.col c) ∙ sym (begins t.span within)))
+    (putting within (calm (enclosures_behind kind t.span within)) None 0 2 c d t (empty_reading c kind token) n refl
+    refl
     (λ m. inl m)
     (let y = one_at_most (c.cursor.mark.col + 1) in omega (arith, y)) (λ h _ a. (tt, a.1)) (λ _ _ opened from q _ h.
     loud_put within opened from c d q t c.cursor c.cursor
-    none token none
+    none (λ i _. token i) none
     (λ x k. subst (λ (l : Collections). Stands l d)
     (sym (opens (record { start = c.cursor.mark; end = c.cursor.mark }) x))
-    ((refl, k.0), k.1)) (fit t.span) refl (outermost within opened from c q h b) b h))
+    ((refl, k.0), k.1)) refl (fit t.span within.columns) ((λ _. (allowed, refl)), λ no. absurd (cc)) refl
+    (outermost within opened from c q h b) b h))
 
 -- outside flow a token that changes nothing that is open, where no token may be a key
 pub loud : {A : Type 0} (within : Enclosures) (k : ℕ) (c : Core) (t : Piece) (u : Cursor)
-    → ((opened : Collections) → open_behind t.kind t.span opened ≡ opened) → FitsWithin within t → IsNoEnd t.kind
-    → in_block c ≡ true → c.level.key ≡ None → Reading k c t u
-    → DoesWithin A within (enclosures_behind t.kind t.span within) None k 1 c (with_cursor u c) (Put t ∷ [])
-loud within k c t u same fit e b none r =
-    let d : Core = with_cursor u c in
-    putting within (enclosures_behind t.kind t.span within) None k 0 c d t r e refl refl (λ m. inl m) (omega arith)
+    → ((opened : Collections) → collections_behind t.kind t.span opened ≡ opened) → FitsWithin within t → IsNoEnd t.kind
+    → is_property t.kind ≡ false → IsParted t c (freed (with_cursor u c)) → in_block c ≡ true → c.level.key ≡ None
+    → Reading k c t u
+    → DoesWithin A within (enclosures_behind t.kind t.span within) None k 1 c (freed (with_cursor u c)) (Put t ∷ [])
+loud within k c t u same fit e other parted b none r =
+    let d : Core = freed (with_cursor u c) in
+    encloses (sym (same_calm t.kind t.span within other))
+    (putting within (calm (enclosures_behind t.kind t.span within)) None k 0 c d t r e refl refl (λ m. inl m)
+    (omega arith)
     (λ h _ a. a)
     (λ _ laws opened from q _ h.
     let w = r.token laws in
     loud_put within opened from c d q t c.cursor w.0 (taken.nothing c.cursor.mark c.cursor.rest) w.1 w.2
-    (λ x k. subst (λ (l : Collections). Stands l d) (sym (same x)) k) fit none
-    (outermost within opened from c q h b) b h)
+    (λ x k. subst (λ (l : Collections). Stands l d) (sym (same x)) k) refl fit parted none
+    (outermost within opened from c q h b) b h))
 
 -- ## A key is saved
 
 abbrev pub IsSaved : ℕ → Core → Level → Type 0
 IsSaved n c l =
     (l ≡ c.level)
-    ⊎ (l ≡ record { context = c.level.context; key = Some (record { mark = c.cursor.mark; place = n }) })
+    ⊎ (
+    (l ≡ record { context = c.level.context; key = Some (record { mark = c.cursor.mark; place = n }) })
+    × (c.key_allowed ≡ true)
+    )
 
 pub saving : (n : ℕ) (c : Core) (P : Core → Type 0)
     → ((l : Level) (r : Bool) → IsSaved n c l → P (record c { level = l; required = r })) → P (save_key n c)
-saving n c P f = by_test c.key_allowed _ _ P (λ _. f _ _ (inr refl)) (λ _. f c.level c.required (inl refl))
+saving n c P f = by_test c.key_allowed _ _ P (λ e. f _ _ (inr (refl, e))) (λ _. f c.level c.required (inl refl))
 
 -- the level is as much inside flow
 pub same_block : (n : ℕ) (c : Core) (l : Level) → IsSaved n c l → is_block l.context ≡ in_block c
 same_block n c l (inl e) = ap (λ (x : Level). is_block x.context) e
-same_block n c l (inr e) = ap (λ (x : Level). is_block x.context) e
+same_block n c l (inr e) = ap (λ (x : Level). is_block x.context) e.0
 
 pub same_flow : (n : ℕ) (c : Core) (l : Level) → IsSaved n c l → not (is_block l.context) ≡ not (in_block c)
 same_flow n c l s = ap not (same_block n c l s)
 
 pub saved_above : (h n : ℕ) (c : Core) (l : Level) → IsSaved n c l → h ≤ n → KeyAbove h c.level.key → KeyAbove h l.key
 saved_above h n c l (inl e) i a = let P : Level → Type 0 = λ x. KeyAbove h x.key in subst P (sym e) a
-saved_above h n c l (inr e) i a = let P : Level → Type 0 = λ x. KeyAbove h x.key in subst P (sym e) i
+saved_above h n c l (inr e) i a = let P : Level → Type 0 = λ x. KeyAbove h x.key in subst P (sym e.0) i
 
-pub saved_around : (n : ℕ) (c d : Core) → IsSaved n c d.level → around d ≡ around c
+-- what is around stays, but for the place that is kept for a colon
+abbrev pub Stays : Core → Core → Type 0
+Stays c d = around (record d { adjacent = c.adjacent }) ≡ around c
+
+pub saved_around : (n : ℕ) (c d : Core) → IsSaved n c d.level → Stays c d
     → enclosures_of d ≡ enclosures_of c
 saved_around n c d s a =
     same_enclosures c d
-    (elim s [ inl e ↦ ap (λ (l : Level). l.context) e | inr e ↦ ap (λ (l : Level). l.context) e ])
-    (ap (λ (x : Around). x.outer) a)
+    (elim s [ inl e ↦ ap (λ (l : Level). l.context) e | inr e ↦ ap (λ (l : Level). l.context) e.0 ])
+    (ap (λ (x : Around). x.outer) a) (ap (λ (x : Around). x.indent) a) (ap (λ (x : Around). x.outer_indents) a)
 
 -- the token that may be a key
-pub saved : {A : Type 0} (n : ℕ) (c d : Core) (t : Piece) → IsSaved n c d.level → around d ≡ around c
+pub saved : {A : Type 0} (n : ℕ) (c d : Core) (t : Piece) → IsSaved n c d.level → Stays c d → Adjoins t c d
     → (c.comment ≡ None → IsNoted d.comment d.cursor) → is_quiet t.kind ≡ true → Neutral t
-    → IsTrue (is_of_flow_node t.kind t.span) → IsNoEnd t.kind
+    → IsTrue (is_of_flow_node t.kind t.span) → IsNoEnd t.kind → (is_property t.kind ≡ true → d.key_allowed ≡ false)
     → Begins t → t.span.start ≡ c.cursor.mark → Reading 1 c t d.cursor → Does A (Some n) 1 5 c d (Put t ∷ [])
-saved n c d t s a m q b node e begins start h =
+saved n c d t s a j m q b node e closes begins start h =
     let outer = ap (λ (x : Around). x.outer) a in
     let indent = ap (λ (x : Around). x.indent) a in
     let indents = ap (λ (x : Around). x.outer_indents) a in
     let blocks : open_blocks d ≡ open_blocks c =
     ap (λ (x : Around). at_most_one x.indent + length x.outer_indents) a in
     let within = enclosures_of c in
-    encloses (saved_around n c d s a ∙ sym (b.encloses (enclosure_of c.level.context) (enclosed_by c.outer)))
-    (putting within (enclosures_behind t.kind t.span within) (Some n) 1 4 c d t h e
+    encloses (saved_around n c d s a ∙ sym (b.encloses (enclosure_of c.level.context) (outside_of c)))
+    (putting within (calm (enclosures_behind t.kind t.span within)) (Some n) 1 4 c d t h e
     (ap (λ (x : Around). x.started) a) (ap (λ (x : Around). x.ended) a) m
     (omega (arith, blocks))
     (λ i l x. let P : List Level → Type 0 = λ ls. LevelsAbove i ls in
@@ -226,12 +251,12 @@ saved n c d t s a m q b node e begins start h =
     let Q : ℕ → Type 0 = λ j. IsSaved j c d.level in
     record {
       taken = holds_put within opened from c d p t c.cursor w.0 (taken.nothing c.cursor.mark c.cursor.rest) w.1 w.2
-          (quiet_opens t c d q indent indents (λ x z. b.brackets x ∙ z ∙ sym (ap length outer)))
-          (b.fits (enclosure_of c.level.context)) k;
-      keys = saved_keys 0 c p t (with_cursor c.cursor d) q node (b.depth 0)
+          (quiet_opens t c d q indent indents (λ x z. b.brackets x ∙ z ∙ sym (ap length outer))) j
+          (b.fits (enclosure_of c.level.context) within.columns) (node_parted t c d node closes) k;
+      keys = saved_keys opened.enclosures 0 c p t (with_cursor c.cursor d) q node (b.depth 0)
           (keeps_depth t c.level c.outer (inr node) b.depth) begins start i.1
           (record { level = subst Q i.0 s; cursor = refl; outer = outer; indent = indent; outer_indents = indents })
-          k.keys;
+          k.taken.past k.keys;
     }))
 
 -- ## A bracket
@@ -242,10 +267,10 @@ pub entered : {A : Type 0} (n : ℕ) (x : Context) (c d : Core) (t : Piece) → 
     → ((opened : Collections) → (open_behind t.kind t.span opened).brackets ≡ opened.brackets + 1)
     → ((all : Enclosures) → enclosures_behind t.kind t.span all ≡ place.entered (enclosure_of x) all)
     → ((e : ℕ) → deeper t.kind t.span e ≡ suc e) → IsTrue (is_of_flow_node t.kind t.span)
-    → ((e : Enclosure) → IsTrue (fits e t.kind t.span))
-    → IsNoEnd t.kind → Begins t → t.span.start ≡ c.cursor.mark → Reading 1 c t d.cursor
+    → ((e : Enclosure) (columns : List ℕ) → IsTrue (fits e columns t.kind t.span))
+    → IsNoEnd t.kind → is_unbound t.kind ≡ true → Begins t → t.span.start ≡ c.cursor.mark → Reading 1 c t d.cursor
     → Does A (Some n) 1 5 c (flow.enter x d) (Put t ∷ [])
-entered n x c d t flows s a m q b enters depth node fit e begins start h =
+entered n x c d t flows s a m q b enters depth node fit e unbound begins start h =
     let r : Core = flow.enter x d in
     let outer = ap (λ (x : Around). x.outer) a in
     let indent = ap (λ (x : Around). x.indent) a in
@@ -253,8 +278,11 @@ entered n x c d t flows s a m q b enters depth node fit e begins start h =
     let blocks : open_blocks r ≡ open_blocks c =
     ap (λ (x : Around). at_most_one x.indent + length x.outer_indents) a in
     let within = enclosures_of c in
-    encloses (ap (place.entered (enclosure_of x)) (saved_around n c d s a) ∙ sym (enters within))
-    (putting within (enclosures_behind t.kind t.span within) (Some n) 1 4 c r t h e (ap (λ (x : Around). x.started) a)
+    let stays : Stays c d = ap (λ (y : Around). record y { adjacent = c.adjacent }) a in
+    encloses (ap (place.entered (enclosure_of x)) (saved_around n c d s stays) ∙ sym (enters within)
+    ∙ sym (unbound_calm t.kind t.span within unbound))
+    (putting within (calm (enclosures_behind t.kind t.span within)) (Some n) 1 4 c r t h e
+    (ap (λ (x : Around). x.started) a)
     (ap (λ (x : Around). x.ended) a)
     (λ f. inl (m f)) (omega (arith, blocks))
     (λ i l y. let P : List Level → Type 0 = λ ls. LevelsAbove i ls in
@@ -265,11 +293,13 @@ entered n x c d t flows s a m q b enters depth node fit e begins start h =
     record {
       taken = holds_put within opened from c r p t c.cursor w.0 (taken.nothing c.cursor.mark c.cursor.rest) w.1 w.2
           (quiet_opens t c r q indent indents (λ y z. b y ∙ (let l = ap length outer in omega (arith, z, l))))
-          (fit (enclosure_of c.level.context)) k;
+          (inl (ap (λ (x : Around). x.adjacent) a))
+          (fit (enclosure_of c.level.context) within.columns) (unbound_parted t c r unbound) k;
       keys = (
         flows,
         tt,
-        saved_keys 1 c p t (with_cursor c.cursor d) q node (depth 0) (leads_in t (c.level ∷ c.outer) 0 node depth)
+        saved_keys opened.enclosures 1 c p t (with_cursor c.cursor d) q node (depth 0)
+            (leads_in t (c.level ∷ c.outer) 0 node depth)
             begins start i.1
             (record {
               level = subst Q i.0 s;
@@ -277,34 +307,39 @@ entered n x c d t flows s a m q b enters depth node fit e begins start h =
               outer = outer;
               indent = indent;
               outer_indents = indents;
-            }) k.keys,
+            }) k.taken.past k.keys,
       );
     }))
 
 -- the token that closes a flow collection, which is left for the level around it
-pub left : {A : Type 0} (within : Enclosures) (c : Core) (l : Level) (ls : List Level) (t : Piece) (u : Cursor)
+pub left : {A : Type 0} (within : Enclosures) (c : Core) (l : Level) (ls : List Level) (t : Piece) (u : Cursor) (n : ℕ)
+    → Adjoins t c (record c { cursor = u; level = l; outer = ls; key_allowed = false; adjacent = n })
     → Left c l ls → is_quiet t.kind ≡ true
     → ((opened : Collections) → (open_behind t.kind t.span opened).brackets ≡ opened.brackets - 1)
     → ((e : ℕ) → deeper t.kind t.span (suc e) ≡ e) → FitsWithin within t
-    → IsNoEnd t.kind → Reading 1 c t u
+    → IsNoEnd t.kind → is_unbound t.kind ≡ true → Reading 1 c t u
     → DoesWithin A within (enclosures_behind t.kind t.span within) None 1 1 c
-    (record c { cursor = u; level = l; outer = ls; key_allowed = false }) (Put t ∷ [])
-left within c l ls t u z q b depth fit e h =
-    let d : Core = record c { cursor = u; level = l; outer = ls; key_allowed = false } in
-    putting within (enclosures_behind t.kind t.span within) None 1 0 c d t h e refl refl (λ m. inl m) (omega arith)
+    (record c { cursor = u; level = l; outer = ls; key_allowed = true; adjacent = n }) (Put t ∷ [])
+left within c l ls t u n j z q b depth fit e unbound h =
+    let d : Core = record c { cursor = u; level = l; outer = ls; key_allowed = true; adjacent = n } in
+    encloses (sym (unbound_calm t.kind t.span within unbound))
+    (putting within (calm (enclosures_behind t.kind t.span within)) None 1 0 c d t h e refl refl (λ m. inl m)
+    (omega arith)
     (λ i _ a. z.above i a.1)
     (λ _ laws opened from p _ k.
     let w = h.token laws in
-    let n = next_put t p in
+    let more = next_put t p in
     let r = with_piece t p in
-    let outers = keys_weaken 1 (lower (next p) c.level.key) (next r) p c.indent c.outer
-    (let j = below_key 0 (next p) p (is_block c.level.context) c.indent c.level.key k.keys.1 in omega (arith, n, j))
-    k.keys.2 in
+    let outers = keys_weaken opened.enclosures 1 (lower (next p) c.level.key) (next r) p c.indent c.outer
+    (let low = below_key opened.enclosures 0 (next p) p (is_block c.level.context) c.indent c.level.key k.keys.1 in
+    omega (arith, more, low)) k.keys.2 in
     record {
       taken = holds_put within opened from c d p t c.cursor w.0 (taken.nothing c.cursor.mark c.cursor.rest) w.1 w.2
-          (quiet_opens t c d q refl refl (λ y v. b y ∙ ap (λ i. i - 1) v ∙ sym z.fewer)) fit k;
-      keys = z.keys (next r) r (keys_put 1 0 (next r) p c.indent c.outer t q (leads_out t c.outer 0 depth) outers);
-    })
+          (quiet_opens t c d q refl refl (λ y v. b y ∙ ap (λ i. i - 1) v ∙ sym z.fewer)) j fit
+          (unbound_parted t c d unbound) k;
+      keys = z.keys opened.enclosures (next r) r
+          (keys_put opened.enclosures 1 0 (next r) p c.indent c.outer t q (leads_out t c.outer 0 depth) outers);
+    }))
 
 -- ## A candidate turns out to be a key
 
@@ -312,7 +347,7 @@ opens : {A : Type 0} (within behind : Enclosures) (v : ℕ) (c d : Core) (k : Ca
     → d.cursor ≡ c.cursor → c.level.key ≡ Some k
     → d.level.key ≡ None → d.outer ≡ c.outer → d.started ≡ c.started → d.ended ≡ c.ended → NoComment c d
     → open_blocks d ≤ open_blocks c + v
-    → ((opened : Setting) (from : Cursor) (q : Queue) → HoldsWithin within opened from c q
+    → (A → (opened : Setting) (from : Cursor) (q : Queue) → HoldsWithin within opened from c q
     → HoldsWithin behind opened from d (with_opening k.place o q))
     → DoesWithin A within behind None 0 (2 + v) c d (Open k.place o ∷ [])
 opens within behind v c d k o e key none outer s f m few holds =
@@ -330,27 +365,28 @@ opens within behind v c d k o e key none outer s f m few holds =
           let P : Option Candidate → Type 0 = λ y. KeyAbove h y in
           let Q : List Level → Type 0 = λ ls. LevelsAbove h ls in
           ((subst P (sym none) tt, subst Q (sym outer) x.1), (subst P key x.0, tt));
-      holds = λ _ _ opened from q _ h. holds opened from q h;
+      holds = λ premise _ opened from q _ h. holds premise opened from q h;
       noted = λ g. inl (m g);
     }
 
 -- a key alone, or in flow with its mapping
-pub key_opens : {A : Type 0} (e : Enclosure) (outside : List Enclosed) (c : Core) (k : Candidate) (o : Opening)
+pub key_opens : {A : Type 0} (e : Enclosure) (outside : Outside) (c : Core) (k : Candidate) (o : Opening)
     → opens_block o ≡ false → MayOpen o e → (in_block c ≡ true → k.mark.col < c.indent) → c.level.key ≡ Some k
     → DoesWithin A (free e outside) (awaited o k.mark (free e outside)) None 0 2 c (forget_key c)
     (Open k.place o ∷ [])
 key_opens e outside c k o n m left is =
     opens (free e outside) (awaited o k.mark (free e outside)) 0 c (forget_key c) k o refl is refl refl refl refl
     (λ i. i) (omega arith)
-    (λ opened from q h. open_quiet e outside opened from c q k o n m left is h)
+    (λ _ opened from q h. open_quiet e outside opened from c q k o n m left is h)
 
 -- a block mapping and a key
-pub mapping_opens : {A : Type 0} (e : Enclosure) (outside : List Enclosed) (c : Core) (k : Candidate)
-    → in_block c ≡ true → IsTrue (may_begin_key e) → c.indent ≤ k.mark.col → c.level.key ≡ Some k
-    → DoesWithin A (free e outside) (awaited opening.BlockMappingAndKey k.mark (free e outside)) None 0 4 c
-    (forget_key (enter_block k.mark.col c)) (Open k.place opening.BlockMappingAndKey ∷ [])
-mapping_opens e outside c k b may right is =
-    opens (free e outside) (awaited opening.BlockMappingAndKey k.mark (free e outside)) 2 c
+pub mapping_opens : {A : Type 0} (e : Enclosure) (c : Core) (k : Candidate) → in_block c ≡ true
+    → IsTrue (may_begin_key e) → (A → EndsOnLine k.mark c.cursor) → c.indent ≤ k.mark.col → c.level.key ≡ Some k
+    → DoesWithin A (free e (outside_of c)) (in_key k.mark (free e (outside_of (enter_block k.mark.col c))))
+    None 0 4 c (forget_key (enter_block k.mark.col c)) (Open k.place opening.BlockMappingAndKey ∷ [])
+mapping_opens e c k b may near right is =
+    encloses (ap (in_key k.mark) (sym (began_at place.BlockMapping e k.mark.col c)))
+    (opens (free e (outside_of c)) (awaited opening.BlockMappingAndKey k.mark (free e (outside_of c))) 2 c
     (forget_key (enter_block k.mark.col c)) k opening.BlockMappingAndKey refl is refl refl refl refl (λ n. n)
     (let y = one_at_most (k.mark.col + 1) in omega (arith, y))
-    (λ opened from q h. open_loud e outside opened from c q k b may right is h)
+    (λ premise opened from q h. open_loud e (outside_of c) opened from c q k b may (near premise) right is h))

@@ -19,6 +19,8 @@ use Rattle.saphyr_scalar.specs.Reading.BlockText.{IsBlockText}
 use Rattle.saphyr_scalar.specs.Reading.Plain.{IsPlainReading}
 use Rattle.saphyr_scalar.specs.RefusedInside.{IsRefusedInside}
 use Rattle.saphyr_scalar.specs.Spelling.Directive.{IsReadDirective, IsLineTail, ReadDirective}
+use Rattle.saphyr_scalar.specs.Spelling.IndentedQuotes.{HasIndentedLines}
+use Rattle.saphyr_scalar.specs.Spelling.LaterLines.{ArePlainLines}
 use Rattle.saphyr_scalar.specs.Spelling.Quoted.{IsQuotedText}
 use Rattle.saphyr_scalar.specs.Spelling.QuotedMarkers.{HasNoMarker}
 use Rattle.saphyr_scalar.specs.Spelling.Tag.{IsAnchorName, IsTagText, EndsTag}
@@ -77,11 +79,13 @@ pub record BlockPlace (s : Cursor) (span : Span) (t : Cursor) : Type 0 where
 -- what the laws of the readers say
 pub record TextLaws : Type 0 where
   pub plain : (in_flow : Bool) (indent : ℕ) (s t : Cursor) (text : List ℕ) (end : Marker) (comment : Option Marker)
-      → words.plain in_flow indent s ≡ Ok (text, end, comment, t) → IsPlainReading in_flow s text end t
+      → words.plain in_flow indent s ≡ Ok (text, end, comment, t)
+      → (r : IsPlainReading in_flow s text end t) × ArePlainLines in_flow indent r.piece (r.white ++ t.rest)
   pub quotes : (quote : Quote) (indent : ℕ) (s t : Cursor) (text : List ℕ) → slice_index s.rest 0 ≡ mark quote
       → quoted.quoted quote indent s ≡ Ok (text, t)
       → (items : List Item) × (is : IsQuotedText quote s.rest items t.rest) × (encode_utf8_all (folded items) ≡ text)
       × IsPassed s.mark s.rest t.mark t.rest × HasNoMarker quote is.0 items t.rest is.2
+      × HasIndentedLines indent quote is.0 items t.rest is.2
   pub ink : (in_flow : Bool) (indent : ℕ) (s t : Cursor) (text : List ℕ) (end : Marker) (comment : Option Marker)
       → words.plain in_flow indent s ≡ Ok (text, end, comment, t) → is_blank_or_break (slice_index s.rest 0) ≡ false
   pub block_text : (style : BlockStyle) (indent : ℕ) (s t : Cursor) (text : List ℕ) (span : Span)

@@ -1,5 +1,5 @@
 -- What each step of scalars does, by the laws of the readers.
-use Rattle.std.proofs.Common.{◌≡◌, ◌≢◌, ℕ, ◌<◌, Bool, true, false, List, [], ◌∷◌, ◌++◌, length, Some, Ok, IsTrue, IsFalse, refl, sym, ap, ◌∙◌, arith, subst, inl, inr}
+use Rattle.std.proofs.Common.{◌≡◌, ◌≢◌, ℕ, ◌-◌, ◌≤◌, ◌<◌, Bool, true, false, List, [], ◌∷◌, ◌++◌, length, Some, Ok, IsTrue, IsFalse, refl, sym, ap, ◌∙◌, arith, subst, inl, inr}
 use Rattle.std.specs.Prelude.{◌&&◌, ◌||◌, ◌==◌, slice_index, not, nat_lt, codes}
 use Rattle.saphyr_input.specs.Classes.{is_break, is_blank_or_breakz, is_one_of}
 use Rattle.saphyr_input.specs.Places.{is_blank_or_break}
@@ -13,6 +13,7 @@ use Rattle.saphyr_scalar.specs.declared.scalar.position.Span.{Span}
 use Rattle.saphyr_scalar.specs.declared.scalar.style.ScalarStyle.{ScalarStyle}
 use Rattle.saphyr_scalar.specs.declared.scalar.style.ScalarStyle.TheVariants.{Plain, SingleQuoted, DoubleQuoted}
 use Rattle.saphyr_scalar.specs.Reading.Plain.{IsSpelledPlain, IsPlainReading}
+use Rattle.saphyr_scalar.specs.Spelling.LaterLines.{ArePlainLines}
 use Rattle.saphyr_scalar.specs.Steps.Block as blocks
 use Rattle.saphyr_scalar.specs.Steps.Plain as words
 use Rattle.saphyr_scalar.specs.Steps.Quoted as quoted
@@ -24,13 +25,15 @@ use Rattle.saphyr_scanner.specs.Steps.Level.{Level}
 use Rattle.saphyr_scanner.specs.Steps.Passing.{separate, pass_gap, with_cursor}
 use Rattle.saphyr_scanner.specs.Steps.Scalar as scalar
 use Rattle.saphyr_scanner.specs.TokensTaken as taken
-use Rattle.saphyr_scanner.specs.TokensTaken.{Surroundings, IsToken, IsQuotedToken, may_begin_plain, begins_text}
+use Rattle.saphyr_scanner.specs.TokensTaken.{Surroundings, IsToken, IsQuotedToken, may_begin_plain, begins_text, ends_json_behind}
 use Rattle.saphyr_scanner.proofs.Counted.{Ahead}
+use Rattle.saphyr_scanner.proofs.Effects.Moves.{Around}
 use Rattle.saphyr_scanner.proofs.Effects.Puts.{IsSaved, saving, saved_above, saved, same_block, same_flow}
 use Rattle.saphyr_scanner.proofs.Effects.Walked.{Premises, Walked, walked_then, Doing, Stepped, at_inside, read_walked}
 use Rattle.saphyr_scanner.proofs.Effects.Walked.{at_reach, separate_walked, gap_walked}
 use Rattle.saphyr_scanner.proofs.Effects.Readers.{Readers, ReaderEnds, Less}
 use Rattle.saphyr_scanner.proofs.PlainBehind.{EndsUnbroken, plain_ends}
+use Rattle.saphyr_scanner.proofs.LessIndented.{less_indented}
 use Rattle.saphyr_scanner.proofs.Reached.{apart_reached, passed_reached}
 use Rattle.saphyr_scanner.proofs.Steps.Choice.{NoIndicator}
 use Rattle.saphyr_scanner.proofs.Taken.Cores.{surroundings}
@@ -54,7 +57,8 @@ Starts span s = (span.start ≡ s.mark) × IsTrue (begins_text (slice_index s.re
 -- the style of a quote, and what the reader takes off
 record Quoting (quote : Quote) (style : ScalarStyle) : Type 0 where
   quiet : (value : List ℕ) → is_quiet (tokens.Scalar style value) ≡ true
-  is : (i : Surroundings) (value : List ℕ) (span : Span) (s t : Cursor) → IsQuotedToken quote value span s t
+  ends_json : (value : List ℕ) (span : Span) (b : Bool) → ends_json_behind (tokens.Scalar style value) span b ≡ true
+  is : (i : Surroundings) (value : List ℕ) (span : Span) (s t : Cursor) → IsQuotedToken quote i.indent value span s t
       → IsToken i (tokens.Scalar style value) span s t
   of : (i : Surroundings) (value : List ℕ) (span : Span) (s t : Cursor) → IsToken i (tokens.Scalar style value) span s t
       → Starts span s
@@ -66,6 +70,7 @@ record Quoting (quote : Quote) (style : ScalarStyle) : Type 0 where
 double_quoting : Quoting Double DoubleQuoted
 double_quoting = record {
   quiet = λ v. refl;
+  ends_json = λ v p b. refl;
   is = λ i v p s t k. k;
   of = λ i v p s t k. (k.4, ap (λ l. begins_text (slice_index l 0)) k.1.1);
   less = λ laws. laws.double_quoted;
@@ -75,11 +80,16 @@ double_quoting = record {
 single_quoting : Quoting Single SingleQuoted
 single_quoting = record {
   quiet = λ v. refl;
+  ends_json = λ v p b. refl;
   is = λ i v p s t k. k;
   of = λ i v p s t k. (k.4, ap (λ l. begins_text (slice_index l 0)) k.1.1);
   less = λ laws. laws.single_quoted;
   ahead = λ laws. laws.single_quoted;
 }
+
+-- later lines of quoted scalars have to reach the column of the innermost block collection at least
+least_right : (c : Core) → c.indent - 1 ≤ least_column c
+least_right c = by_test c.deeper _ _ (λ n. c.indent - 1 ≤ n) (λ _. omega arith) (λ _. omega arith)
 
 quotes_do : (quote : Quote) (style : ScalarStyle) → Quoting quote style → (n : ℕ) (c : Core)
     → slice_index c.cursor.rest 0 ≡ mark quote → (l : Level) (r : Bool) → IsSaved n c l
@@ -113,8 +123,10 @@ quotes_do quote style quoting n c first l r s =
     let v : Cursor = f.cursor in
     let a = apart_later x.1.mark x.1.rest u.mark u.rest g.1.apart in
     let b = apart_later u.mark u.rest v.mark v.rest k.1 in
-    saved n c (scalar.adjacent_here f) t (subst (λ m. IsSaved n c m) (sym (k.0.0 ∙ g.0.0)) s) (k.0.1 ∙ g.0.1)
+    saved n c (scalar.adjacent_here f) t (subst (λ m. IsSaved n c m) (sym (k.0.0 ∙ g.0.0)) s)
+    (ap (λ (a : Around). record a { adjacent = c.adjacent }) (k.0.1 ∙ g.0.1)) (inr (refl, quoting.ends_json x.0 t.span))
     (λ m. inl (k.0.2 (g.0.2 m))) (quoting.quiet x.0) (neutral _ t.span refl) refl (λ i. absurd (cc))
+    (λ no. absurd (cc))
     (λ i. quoting.of i x.0 t.span) refl
     (record {
       less = λ laws. let z = quoting.less laws low here x.1 x.0 first e in
@@ -131,7 +143,16 @@ quotes_do quote style quoting n c first l r s =
           };
       token = λ laws. let w = laws.quotes quote low here x.1 x.0 first e in (
         x.1,
-        quoting.is (surroundings c) x.0 t.span here x.1 (w.0, w.1, sym w.2, w.3, refl, g.1.on_line, w.4),
+        (λ j _. quoting.is (surroundings j c) x.0 t.span here x.1 (
+          w.0,
+          w.1,
+          sym w.2,
+          w.3,
+          refl,
+          g.1.on_line,
+          w.4,
+          less_indented (c.indent - 1) low (least_right c) quote w.1.0 w.0 x.1.rest w.1.2 w.5,
+        )),
         apart_apart x.1.mark x.1.rest u.mark u.rest v.mark v.rest g.1.apart k.1,
       );
     })))
@@ -229,6 +250,10 @@ plain_start first second c f g n =
           ∙ no_literal (in_block c) (first == 124) (first == 62) n.literal n.folded b;
     }
 
+abbrev PlainRead : Bool → ℕ → Cursor → List ℕ → Marker → Cursor → Type 0
+PlainRead f indent s text end t =
+    (r : IsPlainReading f s text end t) × ArePlainLines f indent r.piece (r.white ++ t.rest)
+
 pub plain_does : (n : ℕ) (c : Core) → PlainStart (not (in_block c)) c.cursor
     → Walked (Premises c) (Doing (Some n) c) c.cursor (scalar.plain_steps n c)
 unfolding scalar.plain_steps scalar.read_plain
@@ -245,26 +270,28 @@ plain_does n c starts =
     (λ e q laws. at_inside here e (laws.0.plain f c.indent here e q))) (λ x e.
     let ends = given_of EndsUnbroken (words.plain f c.indent here) x (plain_ends f c.indent here) e in
     let t : Piece = record { span = record { start = here.mark; end = x.1 }; kind = tokens.Scalar Plain x.0 } in
-    saved n c (scalar.behind_plain x.2 x.3 d) t s refl (λ _. ends.0) refl (neutral _ t.span refl) refl
-    (λ i. absurd (cc))
+    saved n c (scalar.behind_plain x.2 x.3 d) t s refl (inl refl) (λ _. ends.0) refl (neutral _ t.span refl) refl
+    (λ i. absurd (cc)) (λ no. absurd (cc))
     (λ i a b k. (k.start, plain_begins (slice_index a.rest 0) k.begins k.is_ink)) refl
     (record {
       less = λ laws. let z = laws.plain f c.indent here x.3 x.0 x.1 x.2 e in omega (arith, z);
       span = λ laws. let z = laws.plain f c.indent here x.3 x.0 x.1 x.2 e in
           record { ahead = z.ahead; begins = omega arith; inside = z.begins; ends = z.ends };
-      token = λ laws. let z = laws.plain f c.indent here x.3 x.0 x.1 x.2 e in (
-        x.3,
-        record {
-          start = refl;
-          begins = starts.other (no_sign f here x.3 x.0 x.1 z);
-          is_ink = laws.ink f c.indent here x.3 x.0 x.1 x.2 e;
-          no_indicator = starts.no_indicator;
-          no_block_scalar = starts.no_block_scalar;
-          reading = subst (λ g. IsPlainReading g here x.0 x.1 x.3) (same_flow n c l s) z;
-          uncut = inr ends.1;
-        },
-        taken.nothing x.3.mark x.3.rest,
-      );
+      token = λ laws. let z = laws.plain f c.indent here x.3 x.0 x.1 x.2 e in
+          let read = subst (λ g. PlainRead g c.indent here x.0 x.1 x.3) (same_flow n c l s) z in (
+            x.3,
+            (λ _ _. record {
+              start = refl;
+              begins = starts.other (no_sign f here x.3 x.0 x.1 z.0);
+              is_ink = laws.ink f c.indent here x.3 x.0 x.1 x.2 e;
+              no_indicator = starts.no_indicator;
+              no_block_scalar = starts.no_block_scalar;
+              reading = read.0;
+              uncut = inr ends.1;
+              lines = read.1;
+            }),
+            taken.nothing x.3.mark x.3.rest,
+          );
     }))))
 
 -- ## Block scalars
@@ -302,7 +329,7 @@ block_does style n c b some f =
       fetched = λ laws text small opened from q later g arrival k.
           let Q : ℕ → Type 0 = λ j. IsSaved j c l in
           block_fetched laws text small opened from q style c d later
-          (record { level = subst Q g s; cursor = refl; outer = refl; indent = refl; outer_indents = refl }) k b
+          (record { level = subst Q g s; cursor = refl; outer = refl; indent = refl; outer_indents = refl }) refl k b
           (same_block n c l s ∙ b) f x e;
       noted = λ m. inl m;
     }))

@@ -1,5 +1,5 @@
 -- What a colon does.
-use Rattle.std.proofs.Common.{◌≡◌, ℕ, ◌+◌, Bool, true, false, List, [], ◌∷◌, ◌++◌, Option, Some, None, refl, sym, ap, ◌∙◌, arith, inl, inr, ◌≤◌, ◌<◌}
+use Rattle.std.proofs.Common.{◌≡◌, ℕ, zero, suc, ◌+◌, Bool, true, false, List, [], ◌∷◌, ◌++◌, Option, Some, None, refl, sym, ap, ◌∙◌, arith, inl, inr, ◌≤◌, ◌<◌, ◌⊎◌}
 use Rattle.std.specs.Prelude.{◌-◌, ◌&&◌, ◌||◌, ◌==◌, slice_index, not, nat_lt, nat_le, if◌then◌else◌, IsTrue}
 use Rattle.saphyr_input.specs.Indicators.{colon}
 use Rattle.saphyr_input.specs.Classes.{is_alpha, is_blank_or_breakz}
@@ -18,29 +18,30 @@ use Rattle.saphyr_scanner.specs.Steps.Passing.{separate, pass_on, with_cursor}
 use Rattle.saphyr_scanner.specs.Steps.Value as value
 use Rattle.saphyr_scanner.specs.Steps.Fetch as fetching
 use Rattle.saphyr_scanner.specs.TokensTaken as taken
-use Rattle.saphyr_scanner.specs.TokensTaken.{AreApart, Collections}
+use Rattle.saphyr_scanner.specs.TokensTaken.{AreApart, Collections, parts_colon}
 use Rattle.saphyr_scanner.specs.TokensInPlace as place
-use Rattle.saphyr_scanner.specs.TokensInPlace.{Enclosure, Enclosed, Enclosures, turned_to, awaiting_colon, behind_pair_colon, may_begin_pair, may_begin_key, with_begun, is_near}
+use Rattle.saphyr_scanner.specs.TokensInPlace.{Enclosure, Enclosures, turned_to, awaiting_colon, behind_pair_colon, may_begin_pair, may_begin_key, with_begun, is_in_brackets, is_at_column, is_near, Enclosed}
 use Rattle.saphyr_scanner.proofs.Effects.Moves.{DoesWithin, encloses, and_then, Around, Same, same, same_around, lesser, still_within}
-use Rattle.saphyr_scanner.proofs.Effects.Puts.{empty_reading, IndicatorStands, passes, indicated, quiet_within, block_begins, key_opens}
+use Rattle.saphyr_scanner.proofs.Effects.Puts.{empty_reading, IndicatorStands, passes, indicated, freed, quiet_within, block_begins, key_opens}
 use Rattle.saphyr_scanner.proofs.Effects.Puts.{mapping_opens}
+use Rattle.saphyr_scanner.proofs.Effects.Blocks.{allowed_in}
 use Rattle.saphyr_scanner.proofs.Effects.Walked.{Premises, Walked, walked_then, walked_map, at_most, Doing, at_reach}
 use Rattle.saphyr_scanner.proofs.Effects.Walked.{separate_walked}
 use Rattle.saphyr_scanner.proofs.Reached.{apart_reached}
 use Rattle.saphyr_scanner.proofs.Taken.Cores.{by_bool, further_block, further_right, no_further}
-use Rattle.saphyr_scanner.proofs.Taken.Keys.{IsArrival}
-use Rattle.saphyr_scanner.proofs.Taken.Held.{enclosure_of, enclosed_by, enclosures_of, FitsWithin}
-use Rattle.saphyr_scanner.proofs.Taken.InPlace.{no_text, free}
-use Rattle.saphyr_scanner.proofs.Taken.Later.{apart_later}
+use Rattle.saphyr_scanner.proofs.Taken.Keys.{IsDeep, IsArrival}
+use Rattle.saphyr_scanner.proofs.Taken.Held.{enclosure_of, columns_of, outside_of, enclosures_of, FitsWithin}
+use Rattle.saphyr_scanner.proofs.Taken.InPlace.{no_text, Outside, free, in_key}
+use Rattle.saphyr_scanner.proofs.Taken.Later.{apart_later, top}
 use Rattle.saphyr_scanner.proofs.Taken.Parts.{pair_starts}
 use Rattle.saphyr_scanner.proofs.Taken.Places.{Reaches, reaches_reaches, at_here}
 use Rattle.saphyr_input.proofs.Basics.Booleans.{by_test}
 use Rattle.saphyr_input.proofs.Basics.Lists.{second_is}
-use Rattle.std.proofs.lemmas.Bool.{not-false, ltb-false, le-leb}
+use Rattle.std.proofs.lemmas.Bool.{not-false, ltb-false, le-leb, eq-eqb, not-true}
 
 -- behind the colon, where what is known stays
 abbrev Behind : Core → Core → Type 0
-Behind c d = Same c d × AreApart (pass 1 c.cursor) d.cursor
+Behind c d = Same c d × AreApart (pass 1 c.cursor) d.cursor × (d.key_allowed ≡ c.key_allowed)
 
 tab_walked : (b c : Core) → Reaches c.cursor (pass 1 c.cursor)
     → Walked (Premises b) (Behind c) c.cursor (value.check_tab (pass_on 1 c))
@@ -54,8 +55,8 @@ tab_walked b c a =
     && ((slice_index x.1.cursor.rest 0 == 45) || is_alpha (slice_index x.1.cursor.rest 0))) _ _ P
     (λ _ _. at_reach c.cursor x.1.cursor (reaches_reaches c.cursor (pass 1 c.cursor) x.1.cursor a
     (apart_reached (pass 1 c.cursor).mark (pass 1 c.cursor).rest x.1.cursor.mark x.1.cursor.rest g.1.apart)))
-    (λ _. (g.0, g.1.apart))))
-    (λ _. (same c, taken.nothing (pass 1 c.cursor).mark (pass 1 c.cursor).rest))
+    (λ _. (g.0, g.1.apart, g.2))))
+    (λ _. (same c, taken.nothing (pass 1 c.cursor).mark (pass 1 c.cursor).rest, refl))
 
 -- ## What stays alike
 
@@ -71,6 +72,7 @@ same_blocks column c d s = (
     outer_indents = x.indent ∷ x.outer_indents;
     started = x.started;
     ended = x.ended;
+    adjacent = x.adjacent;
   }) s.1,
   s.2,
 )
@@ -100,9 +102,12 @@ key_same c d o s e = ap (λ (l : Level). l.key) (sym s.0) ∙ e
 abbrev behind_value : Enclosures → Enclosures
 behind_value all = turned_to (behind_pair_colon all.inner.enclosure) all
 
--- outside flow a blank, a break, NUL or the end follows the colon
+-- a blank, a break, NUL or the end follows the colon, or inside flow a flow indicator, or the place for it is kept
 abbrev pub IsParted : Core → Type 0
-IsParted c = in_block c ≡ true → is_blank_or_breakz (slice_index c.cursor.rest 1) ≡ true
+IsParted c =
+    (in_block c ≡ true → is_blank_or_breakz (slice_index c.cursor.rest 1) ≡ true)
+    × (in_block c ≡ false
+    → (c.cursor.mark.index ≡ c.adjacent) ⊎ IsTrue (parts_colon (slice_index c.cursor.rest 1)))
 
 -- from e, which stands before the colon, where no key is a candidate
 colon_does : {A : Type 0} (within : Enclosures) (e d : Core) (u : Cursor) → slice_index e.cursor.rest 0 ≡ colon
@@ -113,15 +118,20 @@ colon_does within e d u first parted a s there none fit =
     let later = apart_later (pass 1 e.cursor).mark (pass 1 e.cursor).rest u.mark u.rest a in
     let t = empty_piece e.cursor.mark tokens.Value in
     and_then (λ n. n)
-    (quiet_within within 1 e t u refl (λ x. refl) (λ x. refl) (inl none) fit (λ i. absurd (cc))
+    (quiet_within within 1 e t u refl (λ x. refl) (λ x. refl) (inl none) fit (λ i. absurd (cc)) refl
     (indicated 58 e u t (record { some = refl; unbroken = refl; is = first }) a
-    (omega arith) (omega arith) (omega (arith, later.index)) (λ t. (
+    (omega arith) (omega arith) (omega (arith, later.index)) (λ t b told. (
       t,
-      λ f. ap is_blank_or_breakz (second_is e.cursor.rest) ∙ parted (not-false (in_block e) f),
+      λ f. ap is_blank_or_breakz (second_is e.cursor.rest) ∙ parted.0 (not-false (in_block e) f),
       refl,
       refl,
+      λ f. let flows = not-true (in_block e) f in
+          elim (parted.1 flows) [
+            | inl at ↦ inl (told at flows)
+            | inr parts ↦ inr (ap parts_colon (second_is e.cursor.rest) ∙ parts)
+          ],
     ))))
-    (still_within (behind_value within) (with_cursor u e) d s there)
+    (still_within (behind_value within) (freed (with_cursor u e)) d s there (λ _. inl refl))
 
 -- where a key is open the colon stands near it
 near_colon : (x : Context) (k : Candidate) (m : Marker) → (is_block x && is_too_far (Some k) m) ≡ false
@@ -146,6 +156,15 @@ near_colon context.FlowPair k m far e = absurd (cc)
 near_colon context.ExplicitFlowPair k m far e = refl
 near_colon context.MarkedFlowPair k m far e = refl
 near_colon context.FlowMapping k m far e = refl
+
+near_line : (x : Context) (k : Candidate) (m : Marker) → is_block x ≡ true
+    → (is_block x && is_too_far (Some k) m) ≡ false → m.line ≤ k.mark.line
+near_line x k m b far = near (nat_lt k.mark.line m.line) refl (sym (rw b refl) ∙ far)
+  where
+    near : (a : Bool) → nat_lt k.mark.line m.line ≡ a
+        → (if a then true else nat_lt 1024 (m.index - k.mark.index)) ≡ false → m.line ≤ k.mark.line
+    near true f h = absurd (cc)
+    near false f h = ltb-false k.mark.line m.line f
 
 pair_near : (begins : Bool) (k m : Marker) → (begins && nat_lt k.line m.line) ≡ false → begins ≡ true
     → IsTrue (nat_le m.line k.line)
@@ -189,8 +208,11 @@ pair_may_begin context.FlowMapping e = absurd (cc)
 -- What a colon does from c, where it turned the context to that behind the colon, and x enclosed the tokens before.
 abbrev Valued : Core → Context → Core → Step → Type 0
 Valued b x c y =
-    DoesWithin (IsArrival b) (free (enclosure_of x) (enclosed_by c.outer)) (enclosures_of y.core) None 1 5 c y.core
-    y.actions
+    DoesWithin (IsArrival b) (free (enclosure_of x) (outside_of c)) (enclosures_of y.core) None 1 5 c y.core y.actions
+
+colon_block : (x : Context) → is_block (behind_colon x) ≡ is_block x
+colon_block context.FlowSequence = refl
+colon_block _ = refl
 
 -- d is behind the colon
 record Turned (b : Core) (x : Context) (c d : Core) : Type 0 where
@@ -199,13 +221,24 @@ record Turned (b : Core) (x : Context) (c d : Core) : Type 0 where
   behind : Behind c d
   context : c.level.context ≡ behind_colon x
   near : IsArrival b → (is_block x && is_too_far c.level.key c.cursor.mark) ≡ false
+  deep : IsArrival b → IsDeep c
   flows : begins_pair x ≡ true → in_block d ≡ false
+  small : IsArrival b → c.cursor.mark.line < top
 
 turned_encloses : (b : Core) (x : Context) (c d : Core) (e : Enclosure) → Turned b x c d
-    → enclosure_of (behind_colon x) ≡ e → enclosures_of d ≡ free e (enclosed_by c.outer)
+    → enclosure_of (behind_colon x) ≡ e → enclosures_of d ≡ free e (outside_of c)
 turned_encloses b x c d e t f =
-    same_around c d t.behind.0 ∙ ap (λ y. free (enclosure_of y) (enclosed_by c.outer)) t.context
-    ∙ ap (λ y. free y (enclosed_by c.outer)) f
+    same_around c d t.behind.0 ∙ ap (λ y. free (enclosure_of y) (outside_of c)) t.context
+    ∙ ap (λ y. free y (outside_of c)) f
+
+-- where a block collection began before
+turned_in_block : (b : Core) (x : Context) (c d : Core) (e : Enclosure) (column : ℕ) → Turned b x c d
+    → enclosure_of (behind_colon x) ≡ e
+    → enclosures_of (enter_block column d) ≡ free e (outside_of (enter_block column c))
+turned_in_block b x c d e column t f =
+    same_around (enter_block column c) (enter_block column d) (same_blocks column c d t.behind.0)
+    ∙ ap (λ y. free (enclosure_of y) (outside_of (enter_block column c))) t.context
+    ∙ ap (λ y. free y (outside_of (enter_block column c))) f
 
 key_does : (b c d : Core) (x : Context) (k : Candidate) → Turned b x c d → d.level.key ≡ Some k
     → Walked (Premises b) (Valued b x c) c.cursor (value.value_of_key k (begins_pair x) c.cursor.mark d)
@@ -216,10 +249,12 @@ key_does b c d x k t is =
     let g = t.behind in
     let begins = begins_pair x in
     let own = enclosure_of x in
-    let outside = enclosed_by c.outer in
+    let outside = outside_of c in
     let known = key_same c d (Some k) g.0 is in
     let near : begins ≡ false → IsArrival b → IsTrue (is_near own k.mark s.mark) =
     λ e a. near_colon x k s.mark (ap (λ o. is_block x && is_too_far o s.mark) (sym known) ∙ t.near a) e in
+    let block_x : in_block c ≡ true → is_block x ≡ true = λ e. sym (colon_block x)
+    ∙ ap is_block (sym t.context) ∙ e in
     let Into : Bool → Core = λ f. record (forget_key (go_deeper (if f then enter_block k.mark.col d else d))) {
       key_allowed = false;
     } in
@@ -233,11 +268,16 @@ key_does b c d x k t is =
     (λ f. let inside = further_block k.mark.col d f in
     by_test begins opening.FlowMappingAndKey opening.BlockMappingAndKey (From true)
     (λ e. absurd (let no = t.flows e in cc))
-    (λ e. encloses (turned_encloses b x c d (behind_pair_colon own) t (behind_alone x e))
-    (and_then (λ n. n) (mapping_opens own outside c k (block_same c d g.0 inside) (alone_may_begin x e)
+    (λ e. encloses (turned_in_block b x c d (behind_pair_colon own) k.mark.col t (behind_alone x e))
+    (and_then (λ n. n) (mapping_opens own c k (block_same c d g.0 inside) (alone_may_begin x e)
+    (λ a. (
+      near_line x k s.mark (block_x (block_same c d g.0 inside))
+          (ap (λ o. is_block x && is_too_far o s.mark) (sym known) ∙ t.near a),
+      t.small a,
+    ))
     (right_same k.mark.col c d g.0 f) known)
-    (colon_does (awaiting_colon k.mark (free own outside)) (forget_key (enter_block k.mark.col c)) (Into true) u t.first
-    t.parted g.1
+    (colon_does (in_key k.mark (free own (outside_of (enter_block k.mark.col c))))
+    (forget_key (enter_block k.mark.col c)) (Into true) u t.first t.parted g.1
     (same_forgotten (enter_block k.mark.col c) (enter_block k.mark.col d) (same_blocks k.mark.col c d g.0)) refl refl
     (near e)))))
     (λ f. let left = left_same k.mark.col c d g.0 f in
@@ -245,15 +285,45 @@ key_does b c d x k t is =
     (λ e. encloses (turned_encloses b x c d place.PairValue t (behind_pair x e))
     (at_most (omega arith) (and_then (λ n. n)
     (key_opens own outside c k opening.FlowMappingAndKey refl (pair_may_begin x e) left known)
-    (colon_does (awaiting_colon k.mark (free place.PairKey outside)) (forget_key c) (Into false) u t.first t.parted g.1
+    (colon_does (in_key k.mark (free place.PairKey outside)) (forget_key c) (Into false) u t.first t.parted g.1
     (same_forgotten c d g.0) refl refl (λ _. pair_near begins k.mark s.mark line e)))))
     (λ e. encloses (turned_encloses b x c d (behind_pair_colon own) t (behind_alone x e))
     (at_most (omega arith) (and_then (λ n. n)
     (key_opens own outside c k opening.Key refl (alone_may_begin x e) left known)
-    (colon_does (awaiting_colon k.mark (free own outside)) (forget_key c) (Into false) u t.first t.parted g.1
+    (colon_does (in_key k.mark (free own outside)) (forget_key c) (Into false) u t.first t.parted g.1
     (same_forgotten c d g.0) refl refl (near e)))))))
 
 -- ## Without a key
+
+flow_brackets : (x : Context) → is_block x ≡ false → IsTrue (is_in_brackets (enclosure_of x))
+flow_brackets context.Block e = absurd (cc)
+flow_brackets _ e = refl
+
+or_right : (a b : Bool) → b ≡ true → IsTrue (a || b)
+or_right true b e = refl
+or_right false b e = e
+
+-- the innermost of the open block collections has the column left of the indentation
+innermost_column : (column i : ℕ) (is : List ℕ) → i ≡ column + 1 → is_at_column column (columns_of i is) ≡ true
+innermost_column column zero is e = absurd (omega (arith, e))
+innermost_column column (suc i) [] e = eq-eqb column i (omega (arith, e))
+innermost_column column (suc i) (j ∷ is) e = eq-eqb column i (omega (arith, e))
+
+-- where no block collection begins outside brackets the colon stands at the column of the innermost
+alone_fits : (b : Core) (x : Context) (c d : Core) (e : Enclosure) → Turned b x c d
+    → (is_block x ≡ false → IsTrue (is_in_brackets e)) → is_further c.cursor.mark.col d ≡ false → IsDeep c
+    → IsTrue (is_in_brackets e || is_at_column c.cursor.mark.col (outside_of c).columns)
+alone_fits b x c d e t bracketed f deep = by (is_block x) refl
+  where
+    by : (y : Bool) → is_block x ≡ y
+        → IsTrue (is_in_brackets e || is_at_column c.cursor.mark.col (outside_of c).columns)
+    by true g =
+        let outside : in_block c ≡ true = ap is_block t.context ∙ colon_block x ∙ g in
+        let left = left_same c.cursor.mark.col c d t.behind.0 f outside in
+        let right = deep outside in
+        or_right (is_in_brackets e) (is_at_column c.cursor.mark.col (outside_of c).columns)
+        (innermost_column c.cursor.mark.col c.indent c.outer_indents (omega (arith, left, right)))
+    by false g = rw (bracketed g) refl
 
 alone_does : (b c d : Core) (x : Context) → Turned b x c d → d.level.key ≡ None
     → Walked (Premises b) (Valued b x c) c.cursor (value.value_alone (begins_pair x) c.cursor.mark d)
@@ -264,7 +334,7 @@ alone_does b c d x t none =
     let g = t.behind in
     let begins = begins_pair x in
     let own = enclosure_of x in
-    let outside = enclosed_by c.outer in
+    let outside = outside_of c in
     let column = s.mark.col in
     let Into : Bool → Core = λ f. record (go_deeper (if f then enter_block column d else d)) {
       key_allowed = in_block d;
@@ -273,54 +343,56 @@ alone_does b c d x t none =
     ++ at_mark s.mark tokens.Value ∷ [] in
     let further = is_further column d in
     let free_key : c.level.key ≡ None = key_same c d None g.0 none in
-    let value : (e : Enclosure) → enclosure_of (behind_colon x) ≡ behind_pair_colon e
+    let value : (in_block d && not d.key_allowed) ≡ false → (e : Enclosure)
+    → enclosure_of (behind_colon x) ≡ behind_pair_colon e → (is_block x ≡ false → IsTrue (is_in_brackets e))
     → DoesWithin (IsArrival b) (free e outside) (enclosures_of (Into further)) None 1 4 c (Into further)
-    (Starts further) = λ e same.
+    (Starts further) = λ w e same bracketed.
     by_bool further
     (λ f. DoesWithin (IsArrival b) (free e outside) (enclosures_of (Into f)) None 1 4 c (Into f) (Starts f))
     (λ f. let r = same_blocks column c d g.0 in
-    encloses (turned_encloses b x c d (behind_pair_colon e) t same)
+    let allowed = sym g.2 ∙ allowed_in (in_block d) d.key_allowed w (further_block column d f) in
+    encloses (turned_in_block b x c d (behind_pair_colon e) column t same)
     (and_then (λ n. n)
-    (block_begins e outside c tokens.BlockMappingStart place.BlockMapping (λ i. absurd (cc)) (λ i p v t h. h)
-    (λ x y. refl) (λ p. refl) (λ p. refl)
+    (block_begins e c tokens.BlockMappingStart place.BlockMapping (λ i. absurd (cc)) refl refl allowed
+    (λ i p v t h. h) (λ x y. refl) (λ p all. refl) (λ p columns. refl)
     (block_same c d g.0 (further_block column d f)) (right_same column c d g.0 f) (ap taken.begins_text t.first))
-    (colon_does (with_begun place.BlockMapping (free e outside)) (forget_key (enter_block column c)) (Into true) u
-    t.first t.parted g.1
+    (colon_does (with_begun place.BlockMapping (free e (outside_of (enter_block column c))))
+    (forget_key (enter_block column c)) (Into true) u t.first t.parted g.1
     (no_key d.level none ∙ ap (λ (l : Level). record { context = l.context; key = None }) g.0.0, r.1, r.2) refl refl
-    (λ _. refl))))
-    (λ _. encloses (turned_encloses b x c d (behind_pair_colon e) t same)
+    (λ _. or_right (is_in_brackets e) (is_at_column column (outside_of (enter_block column c)).columns)
+    (innermost_column column (column + 1) (c.indent ∷ c.outer_indents) refl)))))
+    (λ f. encloses (turned_encloses b x c d (behind_pair_colon e) t same)
     (at_most (omega arith)
-    (colon_does (free e outside) c (Into false) u t.first t.parted g.1 g.0 refl free_key (λ _. refl)))) in
+    (colon_does (free e outside) c (Into false) u t.first t.parted g.1 g.0 refl free_key
+    (λ a. alone_fits b x c d e t bracketed f (t.deep a))))) in
     by_test (in_block d && not d.key_allowed) _ _ (Walked (Premises b) (Valued b x c) s) (λ _ _. at_here s)
-    (λ _. by_bool begins
+    (λ w. by_bool begins
     (λ f. DoesWithin (IsArrival b) (free own outside) (enclosures_of (Into further)) None 1 5 c (Into further)
     ((if f then at_mark s.mark tokens.FlowMappingStart ∷ [] else []) ++ Starts further))
     (λ e. and_then (λ n. n)
-    (pair_begins own outside c free_key (pair_may_begin x e)) (value place.PairKey (behind_pair x e)))
-    (λ e. at_most (omega arith) (value own (behind_alone x e))))
+    (pair_begins own outside c free_key (pair_may_begin x e)) (value w place.PairKey (behind_pair x e) (λ _. refl)))
+    (λ e. at_most (omega arith) (value w own (behind_alone x e) (flow_brackets x))))
   where
-    pair_begins : (e : Enclosure) (outside : List Enclosed) (c : Core) → c.level.key ≡ None
+    pair_begins : (e : Enclosure) (outside : Outside) (c : Core) → c.level.key ≡ None
         → IsTrue (may_begin_pair e)
         → DoesWithin (IsArrival b) (free e outside) (free place.PairKey outside) None 0 1 c c
         (at_mark c.cursor.mark tokens.FlowMappingStart ∷ [])
     pair_begins e outside c none may =
         let t = empty_piece c.cursor.mark tokens.FlowMappingStart in
         let no = no_text c.cursor.mark.index in
-        encloses (rw no refl)
+        and_then (λ n. n)
+        (encloses (rw no refl)
         (quiet_within (free e outside) 0 c t c.cursor refl
         (λ x. ap (λ (y : Collections). y.brackets) (pair_starts c.cursor.mark x)) (λ x. rw no refl) (inl none)
-        (λ _. rw no may) (λ i. absurd (cc))
-        (empty_reading c tokens.FlowMappingStart (inr (refl, inl refl, refl))))
+        (λ _. rw no may) (λ i. absurd (cc)) refl
+        (empty_reading c tokens.FlowMappingStart (λ _. inr (refl, inl refl, refl)))))
+        (still_within (free place.PairKey outside) (freed c) c (same c) refl (λ _. inl refl))
 
 either_does : (b c d : Core) (x : Context) (o : Option Candidate) → d.level.key ≡ o → Turned b x c d
     → Walked (Premises b) (Valued b x c) c.cursor (value.behind_key o (begins_pair x) c.cursor.mark d)
 unfolding value.behind_key
 either_does b c d x (Some k) e t = key_does b c d x k t e
 either_does b c d x None e t = alone_does b c d x t e
-
-colon_block : (x : Context) → is_block (behind_colon x) ≡ is_block x
-colon_block context.FlowSequence = refl
-colon_block _ = refl
 
 pair_flows : (x : Context) → begins_pair x ≡ true → is_block (behind_colon x) ≡ false
 pair_flows context.FlowSequence e = refl
@@ -340,14 +412,16 @@ value_does c first parted =
     walked_map (Premises c) (Valued c x v) (Doing None c) c.cursor _
     (λ y k. and_then (λ n. n)
     (lesser (enclosures_of c) c v (record { block = colon_block x; key = inl refl }) refl (λ n. n)
-    (taken.nothing c.cursor.mark c.cursor.rest)) k)
+    (taken.nothing c.cursor.mark c.cursor.rest) (λ a. inl a)) k)
     (either_does c v d x d.level.key refl (record {
       first = first;
-      parted = λ e. parted (sym (colon_block x) ∙ e);
+      parted = ((λ e. parted.0 (sym (colon_block x) ∙ e)), λ e. parted.1 (sym (colon_block x) ∙ e));
       behind = g;
       context = refl;
       near = λ a. a.1;
+      deep = λ a e. a.0 (sym (colon_block x) ∙ e);
       flows = λ e. ap (λ (l : Level). is_block l.context) g.0.0 ∙ pair_flows x e;
+      small = λ a. a.2;
     })))
 
 pub flow_value_does : (second : ℕ) (c : Core) → slice_index c.cursor.rest 0 ≡ colon → IsParted c

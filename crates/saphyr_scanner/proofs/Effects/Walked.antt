@@ -139,14 +139,17 @@ read_walked A s (Ok x) told = refl
 read_walked A s (Err e) told = told e refl
 
 pub separate_walked : (b : Core) (s : Cursor) (c : Core) → (Premises b → Reaches s c.cursor)
-    → Walked (Premises b) (λ (x : SkipTabs × Core). Same c x.1 × OnLine c.cursor x.1.cursor) s (separate c)
+    → Walked (Premises b)
+    (λ (x : SkipTabs × Core). Same c x.1 × OnLine c.cursor x.1.cursor × (x.1.key_allowed ≡ c.key_allowed)) s
+    (separate c)
 separate_walked b s c a = by (separation tabs.Yes c.cursor) refl (separation_passes c.cursor)
   where
     by : (r : Result (SkipTabs × Cursor) Refusal) → separation tabs.Yes c.cursor ≡ r
         → Given (λ (x : SkipTabs × Cursor). OnLine c.cursor x.1) r
-        → Walked (Premises b) (λ (x : SkipTabs × Core). Same c x.1 × OnLine c.cursor x.1.cursor) s
+        → Walked (Premises b)
+        (λ (x : SkipTabs × Core). Same c x.1 × OnLine c.cursor x.1.cursor × (x.1.key_allowed ≡ c.key_allowed)) s
         (r >>= λ x. Ok (x.0, with_cursor x.1 c))
-    by (Ok x) e h = (same c, h)
+    by (Ok x) e h = (same c, h, refl)
     by (Err e) f h =
         λ laws. at_further s c.cursor e.mark (a laws) (at_inside c.cursor e (laws.0.separation tabs.Yes c.cursor e f))
 

@@ -1,6 +1,6 @@
 -- What is passed up to where the next token begins is separation, or the text's end.
-use Rattle.std.proofs.Common.{◌≡◌, ℕ, ◌+◌, ◌-◌, ◌^◌, ◌≤◌, ◌<◌, Bool, true, false, List, ◌∷◌, length, Option, Some, None, Result, Ok, Err, refl, sym, ap, ◌∙◌, arith, subst, inl, inr, cond, IsTrue}
-use Rattle.std.specs.Prelude.{◌&&◌, slice_index, not, nat_lt}
+use Rattle.std.proofs.Common.{◌≡◌, ℕ, ◌+◌, ◌-◌, ◌^◌, ◌≤◌, ◌<◌, ◌⊎◌, Bool, true, false, List, ◌∷◌, length, Option, Some, None, Result, Ok, Err, refl, sym, ap, ◌∙◌, arith, subst, inl, inr, cond, IsTrue}
+use Rattle.std.specs.Prelude.{◌&&◌, ◌||◌, slice_index, not, nat_lt}
 use Rattle.saphyr_input.specs.Classes.{is_z, is_blank, is_break}
 use Rattle.saphyr_scalar.specs.declared.scalar.position.Marker.{Marker}
 use Rattle.saphyr_scalar.specs.declared.scalar.fault.Refusal.{Refusal}
@@ -15,10 +15,11 @@ use Rattle.saphyr_scanner.specs.Steps.Unrolling.{unroll, end_blocks, is_right_of
 use Rattle.saphyr_scanner.specs.Steps.Fetch.{arrive}
 use Rattle.saphyr_scanner.specs.TokensTaken as taken
 use Rattle.saphyr_scanner.specs.TokensTaken.{AreApart, IsPassedOver, Collections, begins_text}
+use Rattle.saphyr_scanner.specs.TokensInPlace.{Enclosures}
 use Rattle.saphyr_scanner.proofs.Blocks.{none_ends, unrolled_cursor, blocks_cursor, go_less_deep_cursor}
-use Rattle.saphyr_scanner.proofs.Taken.Separated.{gap_apart, BeginsText, gap_begins}
-use Rattle.saphyr_scanner.proofs.Taken.Later.{top, LaterThan, later_later}
-use Rattle.saphyr_scanner.proofs.Taken.Held.{enclosures_of, Setting, Taken, taken_within, taken_further}
+use Rattle.saphyr_scanner.proofs.Taken.Separated.{gap_apart, BeginsText, gap_begins, Breaks, gap_breaks}
+use Rattle.saphyr_scanner.proofs.Taken.Later.{top, LaterThan, later_later, apart_later}
+use Rattle.saphyr_scanner.proofs.Taken.Held.{enclosures_of, Setting, Taken, taken_within, AllowsKey, taken_further}
 use Rattle.saphyr_scanner.proofs.Taken.Keys.{Keys}
 use Rattle.saphyr_scanner.proofs.Taken.Cores.{Alike, alike_enclosures, keys_of, keys_lesser, no_keys, outermost_level}
 use Rattle.saphyr_scanner.proofs.Taken.Keys.{IsNear}
@@ -30,28 +31,50 @@ use Rattle.std.proofs.lemmas.Bool.{not-true, le-ltb, ltb-false, eqb-true}
 
 -- ## What is passed
 
+-- a key may begin only where one might before, or behind a break, which ends a line
+abbrev AllowsBehind : Core → Core → Type 0
+AllowsBehind c d = d.key_allowed ≡ true → (c.key_allowed ≡ true)
+    ⊎ (c.cursor.mark.line ≤ top → d.cursor.mark.line < top → c.cursor.mark.line < d.cursor.mark.line)
+
+gap_allows : (c : Core) (g : gaps.GapEnd) → Breaks c.cursor.mark false g → AllowsBehind c (behind_gap c g)
+gap_allows c g h e = by g.broke (in_block c) c.key_allowed e refl refl
+  where
+    by : (broke block allowed : Bool) → ((broke && block) || allowed) ≡ true → broke ≡ g.broke
+        → allowed ≡ c.key_allowed → (c.key_allowed ≡ true)
+        ⊎ (c.cursor.mark.line ≤ top → g.cursor.mark.line < top → c.cursor.mark.line < g.cursor.mark.line)
+    by broke block true e i j = inl (sym j)
+    by true block false e i j = inr (λ low small. elim ((h low).2 (sym i) small) [ inl z ↦ absurd (cc) | inr l ↦ l ])
+    by false block false e i j = absurd (cc)
+
 behind_gap_of : {X : Type 0} → (P : X → Type 0) (c : Core) (f : Core → Result X Refusal)
     → ((d : Core) → Alike c d → AreApart c.cursor d.cursor → IsTrue (begins_text (slice_index d.cursor.rest 0))
-    → Given P (f d)) → Given P (pass_gap c >>= f)
+    → AllowsBehind c d → Given P (f d)) → Given P (pass_gap c >>= f)
 unfolding pass_gap check_comment
 behind_gap_of P c f go = by (gaps.whole_gap (least_column c) c.cursor)
     (gap_apart (least_column c) false false c.cursor) (gap_begins (least_column c) false false c.cursor)
+    (gap_breaks (least_column c) false false c.cursor)
   where
     checked : (m : Option Marker) (d : Core) → Alike c d → AreApart c.cursor d.cursor
-        → IsTrue (begins_text (slice_index d.cursor.rest 0)) → Given P (check_comment_of m d >>= f)
-    checked None d a p b = go d a p b
-    checked (Some m) d a p b =
+        → IsTrue (begins_text (slice_index d.cursor.rest 0)) → AllowsBehind c d → Given P (check_comment_of m d >>= f)
+    checked None d a p b k = go d a p b k
+    checked (Some m) d a p b k =
         let e : Core = record d { comment = None } in
         by_test (goes_on_behind m e) _ _ (λ r. Given P (r >>= f)) (λ _. tt)
-        (λ _. go e (record { level = a.level; outer = a.outer; indent = a.indent; outer_indents = a.outer_indents })
-        p b)
+        (λ _. go e (record {
+          level = a.level;
+          outer = a.outer;
+          indent = a.indent;
+          outer_indents = a.outer_indents;
+          adjacent = a.adjacent;
+        }) p b k)
 
     by : (r : Result gaps.GapEnd Refusal) → Given (λ (p : gaps.GapEnd). AreApart c.cursor p.cursor) r
-        → Given BeginsText r
+        → Given BeginsText r → Given (Breaks c.cursor.mark false) r
         → Given P ((r >>= λ g. check_comment_of (behind_gap c g).comment (behind_gap c g)) >>= f)
-    by (Ok g) h b = checked c.comment (behind_gap c g)
-        (record { level = refl; outer = refl; indent = refl; outer_indents = refl }) h b
-    by (Err e) h b = tt
+    by (Ok g) h b k = checked c.comment (behind_gap c g)
+        (record { level = refl; outer = refl; indent = refl; outer_indents = refl; adjacent = refl }) h b
+        (gap_allows c g k)
+    by (Err e) h b k = tt
 
 -- ## To where the next token begins
 
@@ -64,34 +87,36 @@ z_stays _ _ _ _ (taken.line_break m t n u e p) z =
     absurd (let f : is_break (slice_index t 0) ≡ false = ap is_break (eqb-true (slice_index t 0) 0 z) in cc)
 z_stays _ _ _ _ (taken.comment m words t n u a e p) z = absurd (cc)
 
-further_live : (c d : Core) (q : Queue) → Alike c d → AreApart c.cursor d.cursor → Live c q → Live d q
-further_live c d q a p h nz = by (is_z (slice_index c.cursor.rest 0)) refl
+further_live : (all : Enclosures) (c d : Core) (q : Queue) → Alike c d → AreApart c.cursor d.cursor → Live all c q
+    → Live all d q
+further_live all c d q a p h nz = by (is_z (slice_index c.cursor.rest 0)) refl
   where
-    by : (b : Bool) → is_z (slice_index c.cursor.rest 0) ≡ b → Keys (next q) q d.indent (d.level ∷ d.outer)
+    by : (b : Bool) → is_z (slice_index c.cursor.rest 0) ≡ b → Keys all (next q) q d.indent (d.level ∷ d.outer)
     by true z = absurd (let e =
         z_stays c.cursor.mark c.cursor.rest d.cursor.mark d.cursor.rest p z in
         let f : is_z (slice_index d.cursor.rest 0) ≡ true = ap (λ l. is_z (slice_index l 0)) e ∙ z in cc)
-    by false z = keys_of (next q) q c.indent d.indent c.level d.level c.outer d.outer a.indent a.level a.outer (h z)
+    by false z = keys_of all (next q) q c.indent d.indent c.level d.level c.outer d.outer a.indent a.level a.outer (h z)
 
 record Near (opened : Setting) (from : Cursor) (q : Queue) (c : Core) : Type 0 where
   taken : Taken opened from c q
-  live : Live c q
+  live : Live opened.enclosures c q
   near : IsNear c
   begins : IsTrue (begins_text (slice_index c.cursor.rest 0))
 
-pub forgotten_live : (c : Core) (q : Queue) → Live c q → Live (forget_key c) q
-forgotten_live c q h nz =
-    keys_lesser (next q) q c.indent c.level (forget_key c).level c.outer (record { block = refl; key = inr refl })
+pub forgotten_live : (all : Enclosures) (c : Core) (q : Queue) → Live all c q → Live all (forget_key c) q
+forgotten_live all c q h nz =
+    keys_lesser all (next q) q c.indent c.level (forget_key c).level c.outer (record { block = refl; key = inr refl })
     (h nz)
 
 pub forgotten_taken : (opened : Setting) (from : Cursor) (c : Core) (q : Queue) → Taken opened from c q
     → Taken opened from (forget_key c) q
 forgotten_taken opened from c q h =
-    taken_further (enclosures_of c) opened from c (forget_key c) q (taken.nothing _ _) refl refl refl h
+    taken_further (enclosures_of c) opened from c (forget_key c) q (taken.nothing _ _) refl refl refl refl
+    (λ a. inl a) h
 
 dropped_near : (opened : Setting) (from : Cursor) (q : Queue) (c : Core)
-    → IsTrue (begins_text (slice_index c.cursor.rest 0)) → Taken opened from c q → Live c q
-    → Given (Near opened from q) (drop_far_key c)
+    → IsTrue (begins_text (slice_index c.cursor.rest 0)) → Taken opened from c q
+    → Live opened.enclosures c q → Given (Near opened from q) (drop_far_key c)
 unfolding drop_far_key
 dropped_near opened from q c b h l =
     by_test (not (in_block c && is_too_far c.level.key c.cursor.mark)) _ _ (Given (Near opened from q))
@@ -104,19 +129,29 @@ dropped_near opened from q c b h l =
     (λ _. by_test c.required _ _ (Given (Near opened from q)) (λ _. tt)
     (λ _. record {
       taken = forgotten_taken opened from c q h;
-      live = forgotten_live c q l;
+      live = forgotten_live opened.enclosures c q l;
       near = and_false (in_block c);
       begins = b;
     }))
 
-gapped : (opened : Setting) (from : Cursor) (q : Queue) (c : Core) → Taken opened from c q → Live c q
+gapped : (text : List ℕ) → length text < 2 ^ 63 → (opened : Setting) (from : Cursor) (q : Queue) (c : Core)
+    → LaterThan (start_cursor text) from → Taken opened from c q → Live opened.enclosures c q
     → Given (Near opened from q) (pass_gap c >>= drop_far_key)
-gapped opened from q c h l =
+gapped text small opened from q c l h k =
+    let here = later_later (start_cursor text).mark text from.mark from.rest c.cursor.mark c.cursor.rest l
+    (taken_later opened from c q h) in
+    let low = line_small text c.cursor small here in
     behind_gap_of (Near opened from q) c drop_far_key
-    (λ d a p b. dropped_near opened from q d b
+    (λ d a p b allows.
+    let there = later_later (start_cursor text).mark text c.cursor.mark c.cursor.rest d.cursor.mark d.cursor.rest here
+    (apart_later c.cursor.mark c.cursor.rest d.cursor.mark d.cursor.rest p) in
+    let lines : AllowsKey c d = λ e. elim (allows e)
+    [ inl f ↦ inl f | inr f ↦ inr (f (omega (arith, low)) (line_small text d.cursor small there)) ] in
+    dropped_near opened from q d b
     (taken_within (enclosures_of c) (enclosures_of d) opened from d q (alike_enclosures c d a)
-    (taken_further (enclosures_of c) opened from c d q p a.indent a.outer_indents (ap length a.outer) h))
-    (further_live c d q a p l))
+    (taken_further (enclosures_of c) opened from c d q p a.indent a.outer_indents (ap length a.outer) a.adjacent
+    lines h))
+    (further_live opened.enclosures c d q a p k))
 
 line_near : (k : Candidate) (m : Marker) → is_too_far (Some k) m ≡ false → m.line ≤ k.mark.line
 line_near k m e = ltb-false k.mark.line m.line (first (nat_lt k.mark.line m.line) _ e)
@@ -128,34 +163,39 @@ line_near k m e = ltb-false k.mark.line m.line (first (nat_lt k.mark.line m.line
 -- where a key is a candidate no block collection ends
 unrolled_keys : (text : List ℕ) → length text < 2 ^ 63 → (opened : Setting) (from : Cursor) (q : Queue) (c : Core)
     → LaterThan (start_cursor text) from → Near opened from q c → let t =
-    unroll (Some c.cursor.mark.col) c.cursor.mark (record { core = c; queue = q }) in Live t.core t.queue
+    unroll (Some c.cursor.mark.col) c.cursor.mark (record { core = c; queue = q }) in
+    Live opened.enclosures t.core t.queue
 unfolding unroll
 unrolled_keys text small opened from q c l h nz =
     let m = c.cursor.mark in
     let s : State = record { core = c; queue = q } in
-    let P : State → Type 0 = λ t. Keys (next t.queue) t.queue t.core.indent (t.core.level ∷ t.core.outer) in
+    let P : State → Type 0 = λ t. Keys opened.enclosures (next t.queue) t.queue t.core.indent
+    (t.core.level ∷ t.core.outer) in
     let z : is_z (slice_index c.cursor.rest 0) ≡ false = ap (λ (u : Cursor). is_z (slice_index u.rest 0))
     (sym (unrolled_cursor (Some m.col) m s)) ∙ nz in
     let keys = h.live z in
     by_test (in_block c) (end_blocks (Some m.col) m c.outer_indents (with_core (go_less_deep (Some m.col) c) s)) s P
     (λ e. by c.level.key refl e keys) (λ _. keys)
   where
-    by : (o : Option Candidate) → c.level.key ≡ o → in_block c ≡ true → Keys (next q) q c.indent (c.level ∷ c.outer)
+    by : (o : Option Candidate) → c.level.key ≡ o → in_block c ≡ true
+        → Keys opened.enclosures (next q) q c.indent (c.level ∷ c.outer)
         → let t = end_blocks (Some c.cursor.mark.col) c.cursor.mark c.outer_indents
         (with_core (go_less_deep (Some c.cursor.mark.col) c) (record { core = c; queue = q })) in
-        Keys (next t.queue) t.queue t.core.indent (t.core.level ∷ t.core.outer)
+        Keys opened.enclosures (next t.queue) t.queue t.core.indent (t.core.level ∷ t.core.outer)
     by None i e keys =
         let t : State = end_blocks (Some c.cursor.mark.col) c.cursor.mark c.outer_indents
         (with_core (go_less_deep (Some c.cursor.mark.col) c) (record { core = c; queue = q })) in
         let v = blocks_levels (Some c.cursor.mark.col) c.cursor.mark c.outer_indents
         (with_core (go_less_deep (Some c.cursor.mark.col) c) (record { core = c; queue = q })) in
-        no_keys (next t.queue) t.queue t.core.indent t.core.level t.core.outer (ap (λ (y : Level). y.key) v.level ∙ i)
-        (v.outer ∙ outermost_level (next q) q c.indent c.level c.outer keys e)
+        no_keys opened.enclosures (next t.queue) t.queue t.core.indent t.core.level t.core.outer
+        (ap (λ (y : Level). y.key) v.level ∙ i)
+        (v.outer ∙ outermost_level opened.enclosures (next q) q c.indent c.level c.outer keys e)
         (ap (λ (y : Level). is_block y.context) v.level ∙ e)
     by (Some k) i e keys =
         let m = c.cursor.mark in
         let s : State = with_core (go_less_deep (Some m.col) c) (record { core = c; queue = q }) in
-        let known = key_known (next q) q (is_block c.level.context) c.indent c.level.key k c.outer i keys.1 keys.2 in
+        let known = key_known opened.enclosures (next q) q (is_block c.level.context) c.indent c.level.key k c.outer i
+        keys.1 keys.2 in
         let from_small : from.mark.line ≤ top = (l.lines (omega arith)).1 in
         let stands = key_stands opened from c q (next q) (is_block c.level.context) c.indent k from_small h.taken
         known.0 in
@@ -168,12 +208,13 @@ unrolled_keys text small opened from q c l h nz =
         let deep : c.indent ≤ k.mark.col + 1 = known.0.deep e in
         let not_right : is_right_of (Some m.col) c.indent ≡ false = le-ltb m.col (c.indent - 1)
         (omega (arith, column, deep)) in
-        let Q : State → Type 0 = λ t. Keys (next t.queue) t.queue t.core.indent (t.core.level ∷ t.core.outer) in
+        let Q : State → Type 0 = λ t. Keys opened.enclosures (next t.queue) t.queue t.core.indent
+        (t.core.level ∷ t.core.outer) in
         subst Q (sym (none_ends (Some m.col) m c.outer_indents s not_right)) keys
 
 pub record Arrived (opened : Setting) (from : Cursor) (t : State) : Type 0 where
   pub taken : TakenState opened from t
-  pub live : Live t.core t.queue
+  pub live : Live opened.enclosures t.core t.queue
   pub near : IsNear t.core
 
 -- where block collections end the candidate and the place stay
@@ -193,10 +234,11 @@ unrolled_near c q h =
     ∙ ap (F c.level) same ∙ h) (λ _. h)
 
 pub arrived : (text : List ℕ) → length text < 2 ^ 63 → (opened : Setting) (from : Cursor) (s : State)
-    → LaterThan (start_cursor text) from → TakenState opened from s → Live s.core s.queue
+    → LaterThan (start_cursor text) from → TakenState opened from s → Live opened.enclosures s.core s.queue
     → Given (Arrived opened from) (arrive s)
 unfolding arrive
-arrived text small opened from s l h k = by (pass_gap s.core >>= drop_far_key) (gapped opened from s.queue s.core h k)
+arrived text small opened from s l h k = by (pass_gap s.core >>= drop_far_key)
+    (gapped text small opened from s.queue s.core l h k)
   where
     by : (r : Result Core Refusal) → Given (Near opened from s.queue) r
         → Given (Arrived opened from)

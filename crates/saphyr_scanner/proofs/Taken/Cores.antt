@@ -3,6 +3,7 @@ use Rattle.std.proofs.Common.{◌≡◌, ℕ, zero, suc, ◌+◌, ◌-◌, ◌�
 use Rattle.std.specs.Prelude.{◌&&◌, ◌==◌, slice_index, not, nat_le, nat_lt}
 use Rattle.saphyr_scalar.specs.Views.Cursor.{Cursor, pass}
 use Rattle.saphyr_scalar.proofs.Properties.TagsSpelled.{cut_at}
+use Rattle.saphyr_scanner.specs.declared.engine.level.Context.{Context}
 use Rattle.saphyr_scanner.specs.declared.queue.Opening.{Opening}
 use Rattle.saphyr_scanner.specs.declared.queue.Opening.TheVariants as opening
 use Rattle.saphyr_scanner.specs.Views.Tokens.{Piece}
@@ -11,17 +12,18 @@ use Rattle.saphyr_scanner.specs.Steps.Core.{Core, in_block, forget_key, is_furth
 use Rattle.saphyr_scanner.specs.Steps.Level.{Candidate, Level, is_block}
 use Rattle.saphyr_scanner.specs.TokensTaken as taken
 use Rattle.saphyr_scanner.specs.TokensTaken.{Collections, Surroundings, AreApart, IsToken, TakesCharacter, open_behind, begins_text}
-use Rattle.saphyr_scanner.specs.TokensInPlace.{Enclosure, Enclosed, Enclosures, enclosures_behind, may_begin_key, is_of_flow_node}
-use Rattle.saphyr_scanner.proofs.Taken.InPlace.{deeper, awaited, MayOpen, free}
-use Rattle.saphyr_scanner.proofs.Taken.Parts.{is_quiet, quiet_open, Begins, opens_block, column_of}
-use Rattle.saphyr_scanner.proofs.Taken.Held.{Stack, Stands, enclosure_of, enclosed_by, enclosures_of, Setting, TakenWithin, Taken, taken_within, taken_further, Opens, FitsWithin, taken_put}
+use Rattle.saphyr_scanner.specs.TokensInPlace.{Enclosure, Enclosures, enclosures_behind, may_begin_key, is_of_flow_node}
+use Rattle.saphyr_scanner.proofs.Taken.InPlace.{deeper, awaited, MayOpen, Outside, free, all_behind, calm, IsPast}
+use Rattle.saphyr_scanner.proofs.Taken.Parts.{is_quiet, quiet_open, Begins, opens_block, column_of, EndsOnLine}
+use Rattle.saphyr_scanner.proofs.Taken.Held.{Stack, Stands, enclosure_of, enclosed_by, columns_of, enclosures_of, Setting, TakenWithin, Taken, taken_within, taken_further, Opens, FitsWithin, taken_put, Adjoins, AllowsKey, IsParted}
+use Rattle.saphyr_scanner.proofs.Leads.{flat}
 use Rattle.saphyr_scanner.proofs.Taken.Neutral.{KeepsBrackets}
 use Rattle.saphyr_scanner.proofs.Taken.Keys.{taken_open, Key, KeyOf, lower, KeysFrom, Keys, keys_weaken, KeepsDepth, IsFreeOr, LeadsDeeper, keeps_depth, keys_put, keys_open, below_key}
 use Rattle.std.proofs.lemmas.Bool.{lt-ltb, leb-true, leb-false}
 
 pub record HoldsWithin (within : Enclosures) (opened : Setting) (from : Cursor) (c : Core) (q : Queue) : Type 0 where
   pub taken : TakenWithin within opened from c q
-  pub keys : Keys (next q) q c.indent (c.level ∷ c.outer)
+  pub keys : Keys opened.enclosures (next q) q c.indent (c.level ∷ c.outer)
 
 abbrev pub HoldsTaken : Setting → Cursor → Core → Queue → Type 0
 HoldsTaken opened from c q = HoldsWithin (enclosures_of c) opened from c q
@@ -39,23 +41,29 @@ pub record Alike (c d : Core) : Type 0 where
   pub outer : d.outer ≡ c.outer
   pub indent : d.indent ≡ c.indent
   pub outer_indents : d.outer_indents ≡ c.outer_indents
+  pub adjacent : d.adjacent ≡ c.adjacent
 
 -- the same encloses them
-pub same_enclosures : (c d : Core) → d.level.context ≡ c.level.context → d.outer ≡ c.outer
-    → enclosures_of d ≡ enclosures_of c
-same_enclosures c d l o =
-    ap (λ x. free (enclosure_of x) (enclosed_by d.outer)) l
-    ∙ ap (λ ls. free (enclosure_of c.level.context) (enclosed_by ls)) o
+pub same_enclosures : (c d : Core) → d.level.context ≡ c.level.context → d.outer ≡ c.outer → d.indent ≡ c.indent
+    → d.outer_indents ≡ c.outer_indents → enclosures_of d ≡ enclosures_of c
+same_enclosures c d l o i s =
+    let From : Context → List Level → ℕ → List ℕ → Enclosures =
+    λ x ls j js. free (enclosure_of x) (record { enclosed = enclosed_by ls; columns = columns_of j js }) in
+    ap (λ x. From x d.outer d.indent d.outer_indents) l
+    ∙ ap (λ ls. From c.level.context ls d.indent d.outer_indents) o
+    ∙ ap (λ j. From c.level.context c.outer j d.outer_indents) i
+    ∙ ap (λ js. From c.level.context c.outer c.indent js) s
 
 pub alike_enclosures : (c d : Core) → Alike c d → enclosures_of d ≡ enclosures_of c
-alike_enclosures c d a = same_enclosures c d (ap (λ (l : Level). l.context) a.level) a.outer
+alike_enclosures c d a =
+    same_enclosures c d (ap (λ (l : Level). l.context) a.level) a.outer a.indent a.outer_indents
 
-pub keys_of : (b : ℕ) (q : Queue) (i j : ℕ) (l m : Level) (ls ms : List Level) → j ≡ i → m ≡ l → ms ≡ ls
-    → Keys b q i (l ∷ ls) → Keys b q j (m ∷ ms)
-keys_of b q i j l m ls ms e f g h =
-    let P : ℕ → Type 0 = λ x. Keys b q x (m ∷ ms) in
-    let Q : Level → Type 0 = λ x. Keys b q i (x ∷ ms) in
-    let R : List Level → Type 0 = λ x. Keys b q i (l ∷ x) in
+pub keys_of : (all : Enclosures) (b : ℕ) (q : Queue) (i j : ℕ) (l m : Level) (ls ms : List Level) → j ≡ i → m ≡ l
+    → ms ≡ ls → Keys all b q i (l ∷ ls) → Keys all b q j (m ∷ ms)
+keys_of all b q i j l m ls ms e f g h =
+    let P : ℕ → Type 0 = λ x. Keys all b q x (m ∷ ms) in
+    let Q : Level → Type 0 = λ x. Keys all b q i (x ∷ ms) in
+    let R : List Level → Type 0 = λ x. Keys all b q i (l ∷ x) in
     subst P (sym e) (subst Q (sym f) (subst R (sym g) h))
 
 -- the key of the level may be forgotten
@@ -63,57 +71,60 @@ pub record Lesser (l m : Level) : Type 0 where
   pub block : is_block m.context ≡ is_block l.context
   pub key : (m.key ≡ l.key) ⊎ (m.key ≡ None)
 
-pub keys_lesser : (b : ℕ) (q : Queue) (i : ℕ) (l m : Level) (ls : List Level) → Lesser l m → Keys b q i (l ∷ ls)
-    → Keys b q i (m ∷ ls)
-keys_lesser b q i l m ls e h = by e.key
+pub keys_lesser : (all : Enclosures) (b : ℕ) (q : Queue) (i : ℕ) (l m : Level) (ls : List Level) → Lesser l m
+    → Keys all b q i (l ∷ ls) → Keys all b q i (m ∷ ls)
+keys_lesser all b q i l m ls e h = by e.key
   where
     Known : Option Candidate → Type 0
-    Known k = KeyOf 0 b q (is_block m.context) i k × KeysFrom 1 (lower b k) q i ls
+    Known k = KeyOf all 0 b q (is_block m.context) i k × KeysFrom all 1 (lower b k) q i ls
 
     none : (k : Option Candidate) → k ≡ None → Known k
     none k f = subst Known (sym f) (
       tt,
-      keys_weaken 1 (lower b l.key) b q i ls (below_key 0 b q (is_block l.context) i l.key h.1) h.2,
+      keys_weaken all 1 (lower b l.key) b q i ls (below_key all 0 b q (is_block l.context) i l.key h.1) h.2,
     )
 
     same : (k : Option Candidate) → k ≡ l.key → Known k
     same k f =
-        let P : Option Candidate → Type 0 = λ x. KeyOf 0 b q (is_block m.context) i x × KeysFrom 1 (lower b x) q i ls in
-        let Q : Bool → Type 0 = λ x. KeyOf 0 b q x i l.key in
+        let P : Option Candidate → Type 0 = λ x. KeyOf all 0 b q (is_block m.context) i x
+        × KeysFrom all 1 (lower b x) q i ls in
+        let Q : Bool → Type 0 = λ x. KeyOf all 0 b q x i l.key in
         subst P (sym f) (subst Q (sym e.block) h.1, h.2)
 
-    by : (m.key ≡ l.key) ⊎ (m.key ≡ None) → Keys b q i (m ∷ ls)
+    by : (m.key ≡ l.key) ⊎ (m.key ≡ None) → Keys all b q i (m ∷ ls)
     by (inl f) = let x = same m.key f in (e.block ∙ h.0, x.0, x.1)
     by (inr f) = let x = none m.key f in (e.block ∙ h.0, x.0, x.1)
 
 pub holds_lesser : (within : Enclosures) (opened : Setting) (from : Cursor) (c d : Core) (q : Queue)
     → Lesser c.level d.level
-    → d.outer ≡ c.outer → d.indent ≡ c.indent → d.outer_indents ≡ c.outer_indents → AreApart c.cursor d.cursor
-    → HoldsWithin within opened from c q → HoldsWithin within opened from d q
-holds_lesser within opened from c d q l o i s p h = record {
-  taken = taken_further within opened from c d q p i s (ap length o) h.taken;
-  keys = keys_of (next q) q c.indent d.indent d.level d.level c.outer d.outer i refl o
-      (keys_lesser (next q) q c.indent c.level d.level c.outer l h.keys);
+    → d.outer ≡ c.outer → d.indent ≡ c.indent → d.outer_indents ≡ c.outer_indents → d.adjacent ≡ c.adjacent
+    → AreApart c.cursor d.cursor → AllowsKey c d → HoldsWithin within opened from c q
+    → HoldsWithin within opened from d q
+holds_lesser within opened from c d q l o i s e p allows h = record {
+  taken = taken_further within opened from c d q p i s (ap length o) e allows h.taken;
+  keys = keys_of opened.enclosures (next q) q c.indent d.indent d.level d.level c.outer d.outer i refl o
+      (keys_lesser opened.enclosures (next q) q c.indent c.level d.level c.outer l h.keys);
 }
 
 pub holds_forgotten : (opened : Setting) (from : Cursor) (c : Core) (q : Queue) → HoldsTaken opened from c q
     → HoldsTaken opened from (forget_key c) q
 holds_forgotten opened from c q h =
     holds_lesser (enclosures_of c) opened from c (forget_key c) q (record { block = refl; key = inr refl }) refl refl
-    refl (taken.nothing _ _) h
+    refl refl (taken.nothing _ _) (λ e. inl e) h
 
 -- outside flow nothing encloses the level
 none_outer : (ls : List Level) → is_empty_list ls ≡ true → ls ≡ []
 none_outer [] e = refl
 none_outer (l ∷ ls) e = absurd (cc)
 
-pub outermost_level : (b : ℕ) (q : Queue) (i : ℕ) (l : Level) (ls : List Level) → Keys b q i (l ∷ ls)
+pub outermost_level : (all : Enclosures) (b : ℕ) (q : Queue) (i : ℕ) (l : Level) (ls : List Level)
+    → Keys all b q i (l ∷ ls)
     → is_block l.context ≡ true → ls ≡ []
-outermost_level b q i l ls h e = none_outer ls (sym h.0 ∙ e)
+outermost_level all b q i l ls h e = none_outer ls (sym h.0 ∙ e)
 
 pub outermost : (within : Enclosures) (opened : Setting) (from : Cursor) (c : Core) (q : Queue)
     → HoldsWithin within opened from c q → in_block c ≡ true → c.outer ≡ []
-outermost within opened from c q h e = outermost_level (next q) q c.indent c.level c.outer h.keys e
+outermost within opened from c q h e = outermost_level opened.enclosures (next q) q c.indent c.level c.outer h.keys e
 
 -- inside flow a level encloses the innermost, as many as brackets are open
 open_outside : (ls : List Level) → nat_lt 0 (length ls) ≡ not (is_empty_list ls)
@@ -125,11 +136,11 @@ pub open_in_flow : (within : Enclosures) (opened : Setting) (from : Cursor) (c :
 open_in_flow within opened from c q h = open_outside c.outer ∙ ap not (sym h.keys.0)
 
 -- where no key is a candidate at all
-pub no_keys : (b : ℕ) (q : Queue) (i : ℕ) (l : Level) (ls : List Level) → l.key ≡ None → ls ≡ []
-    → is_block l.context ≡ true → Keys b q i (l ∷ ls)
-no_keys b q i l ls k o e =
-    let P : List Level → Type 0 = λ x. Keys b q i (l ∷ x) in
-    let Q : Option Candidate → Type 0 = λ x. KeyOf 0 b q (is_block l.context) i x in
+pub no_keys : (all : Enclosures) (b : ℕ) (q : Queue) (i : ℕ) (l : Level) (ls : List Level) → l.key ≡ None → ls ≡ []
+    → is_block l.context ≡ true → Keys all b q i (l ∷ ls)
+no_keys all b q i l ls k o e =
+    let P : List Level → Type 0 = λ x. Keys all b q i (l ∷ x) in
+    let Q : Option Candidate → Type 0 = λ x. KeyOf all 0 b q (is_block l.context) i x in
     subst P (sym o) (e, subst Q (sym k) tt, tt)
 
 -- ## A token comes
@@ -152,60 +163,80 @@ quiet_opens t c d e i o n opened h =
 pub next_put : (t : Piece) (q : Queue) → next (with_piece t q) ≡ next q + 1
 next_put t q = let l = length-append q.places (bare_place t ∷ []) in omega (arith, l)
 
--- where the next token of a scanner stands
-abbrev pub surroundings : Core → Surroundings
-surroundings c = record { in_flow = not (in_block c); indent = c.indent }
+-- where the next token of a scanner stands, and whether the text before ends like JSON
+abbrev pub surroundings : Bool → Core → Surroundings
+surroundings ends_json c = record { in_flow = not (in_block c); indent = c.indent; ends_json = ends_json }
+
+-- inside flow it does at the place that is kept for a colon
+abbrev pub IsToldAt : Bool → Core → Type 0
+IsToldAt ends_json c = c.cursor.mark.index ≡ c.adjacent → in_block c ≡ false → ends_json ≡ true
+
+abbrev pub IsTokenThere : Core → Piece → Cursor → Cursor → Type 0
+IsTokenThere c t here behind = (b : Bool) → IsToldAt b c → IsToken (surroundings b c) t.kind t.span here behind
+
+some_outer : (ls : List Level) → is_empty_list ls ≡ false → 0 < length ls
+some_outer [] e = absurd (cc)
+some_outer (l ∷ ls) e = omega arith
 
 -- a token is put behind the others
 pub holds_put : (within : Enclosures) (opened : Setting) (from : Cursor) (c d : Core) (q : Queue) (t : Piece)
     (here behind : Cursor)
-    → AreApart c.cursor here → IsToken (surroundings c) t.kind t.span here behind
-    → AreApart behind d.cursor → Opens t c d → FitsWithin within t → HoldsWithin within opened from c q
-    → TakenWithin (enclosures_behind t.kind t.span within) opened from d (with_piece t q)
-holds_put within opened from c d q t here behind a is b o f h =
-    let P : Bool → Type 0 = λ x. IsToken (record { in_flow = x; indent = c.indent }) t.kind t.span here behind in
-    taken_put within opened from c d q t here behind a (subst P (sym (open_in_flow within opened from c q h)) is) b o f
-    h.taken
+    → AreApart c.cursor here → IsTokenThere c t here behind
+    → AreApart behind d.cursor → Opens t c d → Adjoins t c d → FitsWithin within t → IsParted t c d
+    → HoldsWithin within opened from c q
+    → TakenWithin (calm (enclosures_behind t.kind t.span within)) opened from d (with_piece t q)
+holds_put within opened from c d q t here behind a is b o adjoins f parted h =
+    let P : Bool → Bool → Type 0 = λ e x. IsToken
+    (record { in_flow = x; indent = c.indent; ends_json = e }) t.kind t.span here behind in
+    taken_put within opened from c d q t here behind a
+    (λ e k. subst (P e) (sym (open_in_flow within opened from c q h))
+    (is e (λ i n. k.1 i (some_outer c.outer (sym h.keys.0 ∙ n))))) b o adjoins f parted h.taken
 
 -- a quiet token from here to behind, and separation to the place that is reached
 pub quiet_put : (within : Enclosures) (opened : Setting) (from : Cursor) (c d : Core) (q : Queue) (t : Piece)
     (here behind : Cursor)
     → is_quiet t.kind ≡ true → KeepsBrackets t → KeepsDepth t → IsFreeOr t c.level.key → FitsWithin within t
-    → AreApart c.cursor here
-    → IsToken (surroundings c) t.kind t.span here behind → AreApart behind d.cursor
+    → IsParted t c d → AreApart c.cursor here
+    → IsTokenThere c t here behind → AreApart behind d.cursor
     → Alike c d → HoldsWithin within opened from c q
-    → HoldsWithin (enclosures_behind t.kind t.span within) opened from d (with_piece t q)
-quiet_put within opened from c d q t here behind e f depth own fit a is b l h = record {
+    → HoldsWithin (calm (enclosures_behind t.kind t.span within)) opened from d (with_piece t q)
+quiet_put within opened from c d q t here behind e f depth own fit parted a is b l h = record {
   taken = holds_put within opened from c d q t here behind a is b
-      (quiet_opens t c d e l.indent l.outer_indents (λ x n. f x ∙ n ∙ sym (ap length l.outer))) fit h;
+      (quiet_opens t c d e l.indent l.outer_indents (λ x n. f x ∙ n ∙ sym (ap length l.outer))) (inl l.adjacent) fit
+      parted h;
   keys =
-      let k = keys_put 0 0 (next q) q c.indent (c.level ∷ c.outer) t e (keeps_depth t c.level c.outer own depth)
+      let all = opened.enclosures in
+      let k = keys_put all 0 0 (next q) q c.indent (c.level ∷ c.outer) t e (keeps_depth t c.level c.outer own depth)
       h.keys in
       let n = next_put t q in
-      keys_of (next (with_piece t q)) (with_piece t q) c.indent d.indent c.level d.level c.outer d.outer l.indent
+      keys_of all (next (with_piece t q)) (with_piece t q) c.indent d.indent c.level d.level c.outer d.outer l.indent
       l.level l.outer
-      (keys_weaken 0 (next q) (next (with_piece t q)) (with_piece t q) c.indent (c.level ∷ c.outer) (omega (arith, n))
+      (keys_weaken all 0 (next q) (next (with_piece t q)) (with_piece t q) c.indent (c.level ∷ c.outer)
+      (omega (arith, n))
       k);
 }
 
 -- any token, behind which no key is a candidate
 pub loud_put : (within : Enclosures) (opened : Setting) (from : Cursor) (c d : Core) (q : Queue) (t : Piece)
     (here behind : Cursor)
-    → AreApart c.cursor here → IsToken (surroundings c) t.kind t.span here behind
-    → AreApart behind d.cursor → Opens t c d → FitsWithin within t → d.level.key ≡ None → d.outer ≡ []
-    → in_block d ≡ true
+    → AreApart c.cursor here → IsTokenThere c t here behind
+    → AreApart behind d.cursor → Opens t c d → d.adjacent ≡ c.adjacent → FitsWithin within t → IsParted t c d
+    → d.level.key ≡ None → d.outer ≡ [] → in_block d ≡ true
     → HoldsWithin within opened from c q
-    → HoldsWithin (enclosures_behind t.kind t.span within) opened from d (with_piece t q)
-loud_put within opened from c d q t here behind a is b o fit k n f h = record {
-  taken = holds_put within opened from c d q t here behind a is b o fit h;
-  keys = no_keys (next (with_piece t q)) (with_piece t q) d.indent d.level d.outer k n f;
+    → HoldsWithin (calm (enclosures_behind t.kind t.span within)) opened from d (with_piece t q)
+loud_put within opened from c d q t here behind a is b o stays fit parted k n f h = record {
+  taken = holds_put within opened from c d q t here behind a is b o (inl stays) fit parted h;
+  keys = no_keys opened.enclosures (next (with_piece t q)) (with_piece t q) d.indent d.level d.outer k n f;
 }
 
 -- ## A key is saved
 
 pub record Saved (n : ℕ) (c d : Core) : Type 0 where
   pub level : (d.level ≡ c.level)
-      ⊎ (d.level ≡ record { context = c.level.context; key = Some (record { mark = c.cursor.mark; place = n }) })
+      ⊎ (
+      (d.level ≡ record { context = c.level.context; key = Some (record { mark = c.cursor.mark; place = n }) })
+      × (c.key_allowed ≡ true)
+      )
   pub cursor : d.cursor ≡ c.cursor
   pub outer : d.outer ≡ c.outer
   pub indent : d.indent ≡ c.indent
@@ -221,24 +252,26 @@ pub saved_enclosures : (n : ℕ) (c d : Core) → Saved n c d → enclosures_of 
 saved_enclosures n c d s =
     same_enclosures c d
     (elim s.level
-    [ inl e ↦ ap (λ (l : Level). l.context) e | inr e ↦ ap (λ (l : Level). l.context) e ]) s.outer
+    [ inl e ↦ ap (λ (l : Level). l.context) e | inr e ↦ ap (λ (l : Level). l.context) e.0 ]) s.outer s.indent
+    s.outer_indents
 
 -- what the new token is put behind, where a key was saved
 pub saved_taken : (opened : Setting) (from : Cursor) (n : ℕ) (c d : Core) (q : Queue) → Saved n c d
-    → Taken opened from c q → Taken opened from d q
-saved_taken opened from n c d q s h =
+    → d.adjacent ≡ c.adjacent → AllowsKey c d → Taken opened from c q → Taken opened from d q
+saved_taken opened from n c d q s e allows h =
     taken_within (enclosures_of c) (enclosures_of d) opened from d q (saved_enclosures n c d s)
     (taken_further (enclosures_of c) opened from c d q (apart_same c.cursor d.cursor s.cursor) s.indent s.outer_indents
-    (ap length s.outer) h)
+    (ap length s.outer) e allows h)
 
 -- A token that may be a key: from its level to a depth, which its own level's candidate is told of.
-pub saved_keys : (e : ℕ) (c : Core) (q : Queue) (t : Piece) (d : Core) → is_quiet t.kind ≡ true
+pub saved_keys : (all : Enclosures) (e : ℕ) (c : Core) (q : Queue) (t : Piece) (d : Core) → is_quiet t.kind ≡ true
     → IsTrue (is_of_flow_node t.kind t.span) → deeper t.kind t.span 0 ≡ e
     → LeadsDeeper t (c.level ∷ c.outer) 0 e → Begins t
     → t.span.start ≡ c.cursor.mark → (in_block c ≡ true → c.indent ≤ c.cursor.mark.col + 1) → Saved (next q) c d
-    → Keys (next q) q c.indent (c.level ∷ c.outer)
-    → KeysFrom e (next (with_piece t q)) (with_piece t q) d.indent (d.level ∷ d.outer)
-saved_keys e c q t d quiet node depth leads b m deep s h = by s.level
+    → (c.key_allowed ≡ true → IsPast (all_behind (flat q.places) all).begun c.cursor.mark.line)
+    → Keys all (next q) q c.indent (c.level ∷ c.outer)
+    → KeysFrom all e (next (with_piece t q)) (with_piece t q) d.indent (d.level ∷ d.outer)
+saved_keys all e c q t d quiet node depth leads b m deep s past h = by s.level
   where
     more : next (with_piece t q) ≡ next q + 1
     more = next_put t q
@@ -246,25 +279,28 @@ saved_keys e c q t d quiet node depth leads b m deep s h = by s.level
     r : Queue
     r = with_piece t q
 
-    of : (l : Level) → d.level ≡ l → KeysFrom e (next r) r c.indent (l ∷ c.outer)
-        → KeysFrom e (next r) r d.indent (d.level ∷ d.outer)
+    of : (l : Level) → d.level ≡ l → KeysFrom all e (next r) r c.indent (l ∷ c.outer)
+        → KeysFrom all e (next r) r d.indent (d.level ∷ d.outer)
     of l f k =
-        let P : ℕ → Type 0 = λ x. KeysFrom e (next r) r x (d.level ∷ d.outer) in
-        let Q : Level → Type 0 = λ x. KeysFrom e (next r) r c.indent (x ∷ d.outer) in
-        let R : List Level → Type 0 = λ x. KeysFrom e (next r) r c.indent (l ∷ x) in
+        let P : ℕ → Type 0 = λ x. KeysFrom all e (next r) r x (d.level ∷ d.outer) in
+        let Q : Level → Type 0 = λ x. KeysFrom all e (next r) r c.indent (x ∷ d.outer) in
+        let R : List Level → Type 0 = λ x. KeysFrom all e (next r) r c.indent (l ∷ x) in
         subst P (sym s.indent) (subst Q (sym f) (subst R (sym s.outer) k))
 
     by : (d.level ≡ c.level)
-        ⊎ (d.level ≡ record { context = c.level.context; key = Some (record { mark = c.cursor.mark; place = next q }) })
-        → KeysFrom e (next r) r d.indent (d.level ∷ d.outer)
+        ⊎ (
+        (d.level ≡ record { context = c.level.context; key = Some (record { mark = c.cursor.mark; place = next q }) })
+        × (c.key_allowed ≡ true)
+        )
+        → KeysFrom all e (next r) r d.indent (d.level ∷ d.outer)
     by (inl f) =
         of c.level f
-        (keys_weaken e (next q) (next r) r c.indent (c.level ∷ c.outer) (omega (arith, more))
-        (keys_put 0 e (next q) q c.indent (c.level ∷ c.outer) t quiet leads h))
-    by (inr f) =
-        let outers = keys_weaken 1 (lower (next q) c.level.key) (next q) q c.indent c.outer
-        (below_key 0 (next q) q (is_block c.level.context) c.indent c.level.key h.1) h.2 in
-        let own : Key e (next r) r (is_block c.level.context) c.indent
+        (keys_weaken all e (next q) (next r) r c.indent (c.level ∷ c.outer) (omega (arith, more))
+        (keys_put all 0 e (next q) q c.indent (c.level ∷ c.outer) t quiet leads h))
+    by (inr (f, allowed)) =
+        let outers = keys_weaken all 1 (lower (next q) c.level.key) (next q) q c.indent c.outer
+        (below_key all 0 (next q) q (is_block c.level.context) c.indent c.level.key h.1) h.2 in
+        let own : Key all e (next r) r (is_block c.level.context) c.indent
         (record { mark = c.cursor.mark; place = next q }) = record {
           front = q.places;
           back = [];
@@ -274,12 +310,13 @@ saved_keys e c q t d quiet node depth leads b m deep s h = by s.level
           below = omega (arith, more);
           marked = m;
           begins = b;
-          quiet = λ _. (quiet, tt);
+          quiet = (quiet, tt);
           deep = deep;
           inside = (node, depth);
+          past = past allowed;
         } in
         of (record { context = c.level.context; key = Some (record { mark = c.cursor.mark; place = next q }) }) f
-        (h.0, own, keys_put 1 (suc e) (next q) q c.indent c.outer t quiet leads.1 outers)
+        (h.0, own, keys_put all 1 (suc e) (next q) q c.indent c.outer t quiet leads.1 outers)
 
 -- ## A candidate turns out to be a key
 
@@ -296,61 +333,60 @@ quiet_column : (o : Opening) (column : ℕ) (opened : Collections) → opens_blo
 quiet_column opening.BlockMappingAndKey column opened e = absurd (cc)
 quiet_column _ column opened e = refl
 
-pub key_known : (b : ℕ) (q : Queue) (block : Bool) (i : ℕ) (o : Option Candidate) (k : Candidate) (ls : List Level)
-    → o ≡ Some k → KeyOf 0 b q block i o → KeysFrom 1 (lower b o) q i ls
-    → Key 0 b q block i k × KeysFrom 1 k.place q i ls
-key_known b q block i o k ls e x y =
-    let P : Option Candidate → Type 0 = λ z. KeyOf 0 b q block i z in
-    let Q : Option Candidate → Type 0 = λ z. KeysFrom 1 (lower b z) q i ls in
+pub key_known : (all : Enclosures) (b : ℕ) (q : Queue) (block : Bool) (i : ℕ) (o : Option Candidate) (k : Candidate)
+    (ls : List Level) → o ≡ Some k → KeyOf all 0 b q block i o → KeysFrom all 1 (lower b o) q i ls
+    → Key all 0 b q block i k × KeysFrom all 1 k.place q i ls
+key_known all b q block i o k ls e x y =
+    let P : Option Candidate → Type 0 = λ z. KeyOf all 0 b q block i z in
+    let Q : Option Candidate → Type 0 = λ z. KeysFrom all 1 (lower b z) q i ls in
     (subst P e x, subst Q e y)
 
-some_outer : (ls : List Level) → is_empty_list ls ≡ false → 0 < length ls
-some_outer [] e = absurd (cc)
-some_outer (l ∷ ls) e = omega arith
-
 -- a key alone, or in flow with its mapping
-pub open_quiet : (e : Enclosure) (outside : List Enclosed) (opened : Setting) (from : Cursor) (c : Core) (q : Queue)
+pub open_quiet : (e : Enclosure) (outside : Outside) (opened : Setting) (from : Cursor) (c : Core) (q : Queue)
     (k : Candidate) (o : Opening)
     → opens_block o ≡ false → MayOpen o e → (in_block c ≡ true → k.mark.col < c.indent) → c.level.key ≡ Some k
     → HoldsWithin (free e outside) opened from c q
     → HoldsWithin (awaited o k.mark (free e outside)) opened from (forget_key c) (with_opening k.place o q)
 open_quiet e outside opened from c q k o f m left is h =
-    let known = key_known (next q) q (is_block c.level.context) c.indent c.level.key k c.outer is h.keys.1 h.keys.2 in
+    let known = key_known opened.enclosures (next q) q (is_block c.level.context) c.indent c.level.key k c.outer is
+    h.keys.1 h.keys.2 in
     let key = known.0 in
     let n = next_open k.place o q in
     let r = with_opening k.place o q in
     record {
       taken = taken_open e outside opened from c (forget_key c) q (next q) (is_block c.level.context) k o key
-          (λ g. absurd (cc)) (λ g. absurd (cc)) (λ _ g. left g)
+          (λ g. absurd (cc)) (λ g. absurd (cc)) (λ g. absurd (cc)) (λ _ g. left g)
           (λ g. some_outer c.outer (sym h.keys.0 ∙ g)) m
-          (taken.nothing _ _) (λ l s. subst (λ (j : Collections). Stands j c)
+          refl refl refl refl (λ l s. subst (λ (j : Collections). Stands j c)
           (sym (quiet_column o k.mark.col l f)) s) h.taken;
       keys = (
         h.keys.0,
         tt,
-        keys_weaken 1 k.place (next r) r c.indent c.outer (omega (arith, n, key.below))
-            (keys_open 0 (next q) q (is_block c.level.context) c.indent k key 1 k.place c.indent c.outer o f
+        keys_weaken opened.enclosures 1 k.place (next r) r c.indent c.outer (omega (arith, n, key.below))
+            (keys_open opened.enclosures 0 (next q) q (is_block c.level.context) c.indent k key 1 k.place c.indent
+            c.outer o f
             (omega arith) (omega arith) known.1),
       );
     }
 
 -- a block mapping and a key
-pub open_loud : (e : Enclosure) (outside : List Enclosed) (opened : Setting) (from : Cursor) (c : Core) (q : Queue)
-    (k : Candidate) → in_block c ≡ true → IsTrue (may_begin_key e)
+pub open_loud : (e : Enclosure) (outside : Outside) (opened : Setting) (from : Cursor) (c : Core) (q : Queue)
+    (k : Candidate) → in_block c ≡ true → IsTrue (may_begin_key e) → EndsOnLine k.mark c.cursor
     → c.indent ≤ k.mark.col → c.level.key ≡ Some k → HoldsWithin (free e outside) opened from c q
     → HoldsWithin (awaited opening.BlockMappingAndKey k.mark (free e outside)) opened from
     (forget_key (enter_block k.mark.col c))
     (with_opening k.place opening.BlockMappingAndKey q)
-open_loud e outside opened from c q k b may right is h =
-    let known = key_known (next q) q (is_block c.level.context) c.indent c.level.key k c.outer is h.keys.1 h.keys.2 in
+open_loud e outside opened from c q k b may near right is h =
+    let known = key_known opened.enclosures (next q) q (is_block c.level.context) c.indent c.level.key k c.outer is
+    h.keys.1 h.keys.2 in
     let d : Core = forget_key (enter_block k.mark.col c) in
     let r = with_opening k.place opening.BlockMappingAndKey q in
     record {
       taken = taken_open e outside opened from c d q (next q) (is_block c.level.context) k opening.BlockMappingAndKey
           known.0
-          (λ f. b) (λ f. right) (λ f. absurd (cc)) (λ f. absurd (cc)) may (taken.nothing _ _)
+          (λ f. b) (λ f. near) (λ f. right) (λ f. absurd (cc)) (λ f. absurd (cc)) may refl refl refl refl
           (λ l s. ((refl, s.0), s.1)) h.taken;
-      keys = no_keys (next r) r d.indent d.level d.outer refl
+      keys = no_keys opened.enclosures (next r) r d.indent d.level d.outer refl
           (outermost (free e outside) opened from c q h b) b;
     }
 

@@ -21,7 +21,7 @@ use Rattle.saphyr_scanner.specs.TokensTaken as taken
 use Rattle.saphyr_scanner.specs.TokensTaken.{Surroundings, AreApart, IsPassedOver, IsToken, IsPlaceOrEnd, Collections, begins_text, BeginsNoContent, IsContentEnd}
 use Rattle.saphyr_scanner.proofs.Blocks.{unrolled_cursor}
 use Rattle.saphyr_scanner.proofs.Taken.Parts.{is_quiet}
-use Rattle.saphyr_scanner.proofs.Taken.Held.{enclosures_of, Setting, taken_further, taken_put}
+use Rattle.saphyr_scanner.proofs.Taken.Held.{enclosures_of, Setting, taken_further, is_unbound, unbound_parted, taken_put}
 use Rattle.saphyr_scanner.proofs.Taken.Cores.{HoldsTaken, holds_forgotten, no_keys, outermost}
 use Rattle.saphyr_scanner.proofs.Taken.Neutral.{Neutral, neutral}
 use Rattle.saphyr_scanner.proofs.Taken.States.{Fetched, TakenState, unroll_taken, blocks_levels, BlocksEnd}
@@ -68,8 +68,8 @@ forgotten_unrolled opened from s end h =
     let l = blocks_levels None m s.core.outer_indents (with_core (go_less_deep None s.core) s) in
     record {
       taken = taken_further (enclosures_of t.core) opened from t.core (forget_key t.core) t.queue (taken.nothing _ _)
-          refl refl refl k;
-      keys = no_keys (next t.queue) t.queue t.core.indent (forget_key t.core).level t.core.outer refl
+          refl refl refl refl (λ a. inl a) k;
+      keys = no_keys opened.enclosures (next t.queue) t.queue t.core.indent (forget_key t.core).level t.core.outer refl
           (l.outer ∙ outermost (enclosures_of s.core) opened from s.core s.queue h e)
           (ap (λ (y : Level). is_block y.context) l.level ∙ e);
     })
@@ -104,6 +104,7 @@ pub record Marking (stands : List ℕ → Bool) (text : List ℕ) (kind : Kind) 
   pub three : (xs : List ℕ) → stands xs ≡ true → xs ≡ text ++ drop 3 xs
   pub ends : (xs : List ℕ) → stands xs ≡ true → is_document_indicator xs ≡ true
   pub count : length text ≡ 3
+  pub unbound : is_unbound kind ≡ true
 
 pub start_marking : Marking is_document_start (codes "---") tokens.DocumentStart
 start_marking = record {
@@ -113,6 +114,7 @@ start_marking = record {
   three = λ xs e. three_at 45 xs refl (and_parts (next_3_are xs 45 45 45) (is_blank_or_breakz (slice_index xs 3)) e).0;
   ends = λ xs e. rw e refl;
   count = refl;
+  unbound = refl;
 }
 
 pub end_marking : Marking is_document_end (codes "...") tokens.DocumentEnd
@@ -123,6 +125,7 @@ end_marking = record {
   three = λ xs e. three_at 46 xs refl (and_parts (next_3_are xs 46 46 46) (is_blank_or_breakz (slice_index xs 3)) e).0;
   ends = λ xs e. rw e (or-true (is_document_start xs));
   count = refl;
+  unbound = refl;
 }
 
 -- ## Directives
@@ -153,6 +156,11 @@ pub quiet_directive : (d : ReadDirective) → is_quiet (document.directive_kind 
 quiet_directive (version major minor) = refl
 quiet_directive (tag_prefix handle prefix) = refl
 quiet_directive (reserved name) = refl
+
+pub unbound_directive : (d : ReadDirective) → is_unbound (document.directive_kind d) ≡ true
+unbound_directive (version major minor) = refl
+unbound_directive (tag_prefix handle prefix) = refl
+unbound_directive (reserved name) = refl
 
 pub directive_keeps : (d : ReadDirective) (span : Span)
     → Neutral (record { span = span; kind = document.directive_kind d })
@@ -189,8 +197,10 @@ end_fetched opened from s h =
     (λ _. record {
       taken = taken_put (enclosures_of t.core) opened from t.core (document.core_at_end t.core) t.queue
           (empty_piece m tokens.StreamEnd)
-          t.core.cursor t.core.cursor (taken.nothing _ _) (left, (refl, there, refl)) (taken.nothing _ _) (λ cs k. k)
-          refl (unroll_taken opened from None m s (place, first, inl empty) h);
+          t.core.cursor t.core.cursor (taken.nothing _ _) (λ _ _. (left, (refl, there, refl))) (taken.nothing _ _)
+          (λ cs k. k) (inl refl) refl
+          (unbound_parted (empty_piece m tokens.StreamEnd) t.core (document.core_at_end t.core) refl)
+          (unroll_taken opened from None m s (place, first, inl empty) h);
       live = λ f. absurd (cc);
     }))
     (λ _. tt)

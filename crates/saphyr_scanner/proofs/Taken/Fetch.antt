@@ -20,13 +20,13 @@ use Rattle.saphyr_scanner.proofs.Effects.Readers.{TextLaws}
 use Rattle.saphyr_scanner.proofs.Leads.{flat}
 use Rattle.saphyr_scanner.proofs.Effects.States.{FetchesTokens, after_step_fetches}
 use Rattle.saphyr_scanner.proofs.Effects.Fetch.{some_character_left, deep_here, step_does, step_effect, arrive_advances}
-use Rattle.saphyr_scanner.proofs.Taken.Later.{LaterThan}
+use Rattle.saphyr_scanner.proofs.Taken.Later.{LaterThan, later_later}
 use Rattle.saphyr_scanner.proofs.Taken.Parts.{tokens_part}
-use Rattle.saphyr_scanner.proofs.Taken.Held.{enclosures_of, Setting, taken_put}
+use Rattle.saphyr_scanner.proofs.Taken.Held.{enclosures_of, Setting, unbound_parted, taken_put}
 use Rattle.saphyr_scanner.proofs.Taken.Cores.{no_keys, quiet_put}
 use Rattle.saphyr_scanner.proofs.Effects.Walked.{Premises, Walked, walked_given, Stepped}
 use Rattle.saphyr_scanner.proofs.Effects.Documents.{Documented, start_walked, end_marker_walked, mark_walked, directive_walked, documents_advance, documents_hold}
-use Rattle.saphyr_scanner.proofs.Taken.States.{Live, Fetched, holds_fetched, FetchedStep, TakenState}
+use Rattle.saphyr_scanner.proofs.Taken.States.{line_small, taken_later, Live, Fetched, holds_fetched, FetchedStep, TakenState}
 use Rattle.saphyr_scanner.proofs.Taken.Documents.{HoldsState, start_marking, end_fetched}
 use Rattle.saphyr_input.proofs.Basics.Booleans.{by_test}
 use Rattle.saphyr_scalar.proofs.Given.{Given, given_bind, given_of}
@@ -132,30 +132,40 @@ here_read laws text small opened from s l going begun a =
     both_given opened from s (after_step r s.queue) going begun
     (after_step_fetched opened from s.queue r
     (walked_given (Premises s.core) (Stepped (next s.queue) s.core) (FetchedStep opened from s.queue) s.core.cursor r
-    (λ x k. k.fetched laws text small opened from s.queue l refl
-    (deep, a.near) h)
+    (λ x k. k.fetched laws text small opened from s.queue l refl (
+      deep,
+      a.near,
+      line_small text s.core.cursor small
+          (later_later (start_cursor text).mark text from.mark from.rest s.core.cursor.mark s.core.cursor.rest l
+          (taken_later opened from s.core s.queue a.taken)),
+    ) h)
     (step_does (slice_index t 0) (slice_index t 1) (next s.queue) s.core some refl refl deep)))
     (after_step_fetches _ s r (step_effect (slice_index t 0) (slice_index t 1) (next s.queue) s.core some refl refl
     deep))))))))
 
 begin_live : (opened : Setting) (from : Cursor) (s : State) → s.core.level.key ≡ None → TakenState opened from s
-    → Live s.core s.queue
-    → Live (record s.core { started = true }) (with_piece (empty_piece s.core.cursor.mark tokens.StreamStart) s.queue)
+    → Live opened.enclosures s.core s.queue
+    → Live opened.enclosures (record s.core { started = true })
+    (with_piece (empty_piece s.core.cursor.mark tokens.StreamStart) s.queue)
 begin_live opened from s none h l nz =
     (quiet_put (enclosures_of s.core) opened from s.core (record s.core { started = true }) s.queue
     (empty_piece s.core.cursor.mark tokens.StreamStart) s.core.cursor s.core.cursor refl (λ x. refl)
-    (λ d. refl) (inl none) refl (taken.nothing _ _)
-    (refl, inl refl, refl) (taken.nothing _ _)
-    (record { level = refl; outer = refl; indent = refl; outer_indents = refl })
+    (λ d. refl) (inl none) refl
+    (unbound_parted (empty_piece s.core.cursor.mark tokens.StreamStart) s.core (record s.core { started = true }) refl)
+    (taken.nothing _ _)
+    (λ _ _. (refl, inl refl, refl)) (taken.nothing _ _)
+    (record { level = refl; outer = refl; indent = refl; outer_indents = refl; adjacent = refl })
     (record { taken = h; keys = l nz })).keys
 
 begin_read : (opened : Setting) (from : Cursor) (s : State) → s.core.ended ≡ false → s.core.level.key ≡ None
-    → TakenState opened from s → Live s.core s.queue → Read opened from (begin s)
+    → TakenState opened from s → Live opened.enclosures s.core s.queue → Read opened from (begin s)
 begin_read opened from s going none h l = record {
   fetched = record {
     taken = taken_put (enclosures_of s.core) opened from s.core (record s.core { started = true }) s.queue
         (empty_piece s.core.cursor.mark tokens.StreamStart) s.core.cursor s.core.cursor (taken.nothing _ _)
-        (refl, inl refl, refl) (taken.nothing _ _) (λ cs k. k) refl h;
+        (λ _ _. (refl, inl refl, refl)) (taken.nothing _ _) (λ cs k. (k.0, k.1)) (inl refl) refl
+        (unbound_parted (empty_piece s.core.cursor.mark tokens.StreamStart) s.core (record s.core { started = true })
+        refl) h;
     live = λ _. inl (begin_live opened from s none h l);
   };
   over = λ e. absurd (let f : s.core.ended ≡ true = e in cc);
@@ -164,7 +174,7 @@ begin_read opened from s going none h l = record {
 
 pub fetch_read : TextLaws → (text : List ℕ) → length text < 2 ^ 63
     → (opened : Setting) (from : Cursor) (s : State) → LaterThan (start_cursor text) from → s.core.ended ≡ false
-    → IsFresh s → TakenState opened from s → Live s.core s.queue → Given (Read opened from) (fetch s)
+    → IsFresh s → TakenState opened from s → Live opened.enclosures s.core s.queue → Given (Read opened from) (fetch s)
 unfolding fetch
 fetch_read laws text small opened from s l going fresh h k =
     by_test s.core.started _ _ (Given (Read opened from))
@@ -178,7 +188,7 @@ fetch_read laws text small opened from s l going fresh h k =
 
 pub record Ready (opened : Setting) (from : Cursor) (t : State) : Type 0 where
   pub taken : TakenState opened from t
-  pub live : t.core.ended ≡ false → Live t.core t.queue
+  pub live : t.core.ended ≡ false → Live opened.enclosures t.core t.queue
   pub over : t.core.ended ≡ true → OverAt opened from t.queue
   pub fresh : IsFresh t
 
@@ -203,9 +213,9 @@ settled_ready opened from s h =
     (λ _. record {
       taken = forgotten_taken opened from c s.queue h.fetched.taken;
       live = λ g. elim (h.fetched.live g) [
-        | inl k ↦ forgotten_live c s.queue k
+        | inl k ↦ forgotten_live opened.enclosures c s.queue k
         | inr w ↦
-            (λ nz. no_keys (next s.queue) s.queue c.indent (forget_key c).level c.outer refl w.1
+            (λ nz. no_keys opened.enclosures (next s.queue) s.queue c.indent (forget_key c).level c.outer refl w.1
             (and_parts (in_block c) (is_too_far c.level.key c.cursor.mark) w.0).0)
       ];
       over = h.over;

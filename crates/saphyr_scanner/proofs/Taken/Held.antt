@@ -1,21 +1,30 @@
 -- What is known of the tokens that a scanner holds: they are taken from the text, and each may stand where it does.
-use Rattle.std.proofs.Common.{◌≡◌, ℕ, ◌+◌, List, [], ◌∷◌, ◌++◌, length, None, refl, sym, ap, ◌∙◌, subst, IsTrue}
-use Rattle.std.specs.Prelude.{nat_lt}
+use Rattle.std.proofs.Common.{◌≡◌, ℕ, zero, suc, ◌+◌, List, [], ◌∷◌, ◌++◌, length, None, refl, sym, ap, ◌∙◌, arith, subst, IsTrue, ◌≤◌, ◌<◌, ◌⊎◌, Bool, true, inl, inr, false}
+use Rattle.std.specs.Prelude.{nat_lt, not, ◌&&◌}
 use Rattle.saphyr_scalar.specs.Views.Cursor.{Cursor}
+use Rattle.saphyr_scalar.specs.declared.scalar.position.Marker.{Marker}
+use Rattle.saphyr_scalar.specs.declared.scalar.position.Span.{Span}
+use Rattle.saphyr_scanner.specs.Grammar.Tokens as tokens
+use Rattle.saphyr_scanner.specs.Grammar.Tokens.{Kind}
 use Rattle.saphyr_scanner.specs.Views.Tokens.{Piece}
 use Rattle.saphyr_scanner.specs.Steps.Queue.{Queue, bare_place, with_piece}
-use Rattle.saphyr_scanner.specs.Steps.Core.{Core}
+use Rattle.saphyr_scanner.specs.Steps.Core.{Core, enter_block}
 use Rattle.saphyr_scanner.specs.Steps.Level.{Level}
 use Rattle.saphyr_scanner.specs.declared.engine.level.Context.{Context}
 use Rattle.saphyr_scanner.specs.declared.engine.level.Context.TheVariants as context
 use Rattle.saphyr_scanner.specs.TokensInPlace as place
-use Rattle.saphyr_scanner.specs.TokensInPlace.{Enclosure, Enclosed, Enclosures, enclosures_behind, may_stand, AreInPlace}
-use Rattle.saphyr_scanner.specs.TokensTaken.{Collections, Surroundings, AreApart, IsToken, AreTokens, open_behind, least_column_in, surroundings_in}
+use Rattle.saphyr_scanner.specs.TokensInPlace.{Enclosure, Enclosed, Begun, Enclosures, with_begun, begun_at, enclosures_behind, may_stand, AreInPlace, has_text, is_of_flow_node, fits_at, may_follow}
+use Rattle.saphyr_scanner.specs.TokensTaken.{Collections, Surroundings, AreApart, IsToken, AreTokens, open_behind, least_column_in, surroundings_in, ends_json_behind}
 use Rattle.saphyr_scanner.proofs.Leads.{flat}
-use Rattle.saphyr_scanner.proofs.Taken.InPlace.{all_behind, behind_append, in_place_append, free}
+use Rattle.saphyr_scanner.proofs.Taken.InPlace.{all_behind, behind_append, in_place_append, Outside, free, calmed, calm, IsPast, EndsOn, past_later, past_end, begun_by, begun_behind}
+use Rattle.saphyr_scanner.proofs.Taken.Later.{top, apart_later, tokens_later}
 use Rattle.saphyr_scanner.proofs.Taken.Separated.{apart_apart}
+use Rattle.saphyr_scanner.proofs.Taken.Later.{apart_later, token_later}
+use Rattle.saphyr_scanner.proofs.Taken.JsonEnds.{GoesOn, token_goes_on}
 use Rattle.saphyr_scanner.proofs.Taken.Parts.{open_all, open_append, tokens_append}
 use Rattle.saphyr_scanner.proofs.Queues.{flat_append}
+use Rattle.std.proofs.lemmas.Bool.{ltb-false, lt-ltb}
+use Rattle.saphyr_input.proofs.Basics.Booleans.{by_test}
 
 -- ## The open collections
 
@@ -34,13 +43,16 @@ stack_indent (column ∷ columns) i (j ∷ is) h = sym h.0
 abbrev pub Stands : Collections → Core → Type 0
 Stands opened c = Stack opened.columns c.indent c.outer_indents × (opened.brackets ≡ length c.outer)
 
--- where the next token of a scanner stands
-abbrev pub surroundings_of : Core → Surroundings
-surroundings_of c = record { in_flow = nat_lt 0 (length c.outer); indent = c.indent }
+-- where the next token of a scanner stands, and whether the text before ends like JSON
+abbrev pub surroundings_of : Bool → Core → Surroundings
+surroundings_of ends_json c =
+    record { in_flow = nat_lt 0 (length c.outer); indent = c.indent; ends_json = ends_json }
 
-stands_in : (opened : Collections) (c : Core) → Stands opened c → surroundings_in opened ≡ surroundings_of c
+stands_in : (opened : Collections) (c : Core) → Stands opened c
+    → surroundings_in opened ≡ surroundings_of opened.ends_json c
 stands_in opened c h =
-    let S : ℕ → ℕ → Surroundings = λ n i. record { in_flow = nat_lt 0 n; indent = i } in
+    let S : ℕ → ℕ → Surroundings =
+    λ n i. record { in_flow = nat_lt 0 n; indent = i; ends_json = opened.ends_json } in
     ap (λ i. S opened.brackets i) (stack_indent opened.columns c.indent c.outer_indents h.0)
     ∙ ap (λ n. S n c.indent) h.1
 
@@ -65,8 +77,88 @@ abbrev pub enclosed_by : List Level → List Enclosed
 enclosed_by [] = []
 enclosed_by (l ∷ ls) = record { enclosure = enclosure_of l.context; key = None } ∷ enclosed_by ls
 
+-- the columns of the open block collections, of which each is one left of an indentation
+abbrev pub columns_of : ℕ → List ℕ → List ℕ
+columns_of zero is = []
+columns_of (suc column) [] = column ∷ []
+columns_of (suc column) (i ∷ is) = column ∷ columns_of i is
+
+pub columns_entered : (column i : ℕ) (is : List ℕ) → columns_of (column + 1) (i ∷ is) ≡ column ∷ columns_of i is
+columns_entered column i is = let next : column + 1 ≡ suc column = omega arith in rw next refl
+
+abbrev pub outside_of : Core → Outside
+outside_of c = record { enclosed = enclosed_by c.outer; columns = columns_of c.indent c.outer_indents }
+
 abbrev pub enclosures_of : Core → Enclosures
-enclosures_of c = free (enclosure_of c.level.context) (enclosed_by c.outer)
+enclosures_of c = free (enclosure_of c.level.context) (outside_of c)
+
+-- a block collection began at a column
+pub began_at : (g : Begun) (e : Enclosure) (column : ℕ) (c : Core)
+    → begun_at g column (free e (outside_of c)) ≡ with_begun g (free e (outside_of (enter_block column c)))
+began_at g e column c =
+    let From : List ℕ → Enclosures =
+    λ columns. with_begun g (free e (record { enclosed = enclosed_by c.outer; columns = columns })) in
+    ap From (sym (columns_entered column c.indent c.outer_indents))
+
+-- ## Where a colon may stand with nothing behind it
+
+-- inside flow the place that is kept for such a colon stands behind a text that ends like JSON, if the scanner is there
+abbrev pub KeepsPlace : Bool → Core → Type 0
+KeepsPlace ends_json c =
+    (c.adjacent ≤ c.cursor.mark.index)
+    × (c.cursor.mark.index ≡ c.adjacent → 0 < length c.outer → ends_json ≡ true)
+
+pub keeps_further : (ends_json : Bool) (c d : Core) → c.cursor.mark.index ≤ d.cursor.mark.index
+    → d.adjacent ≡ c.adjacent → length d.outer ≡ length c.outer → KeepsPlace ends_json c → KeepsPlace ends_json d
+keeps_further ends_json c d l e n k =
+    (omega (arith, l, e, k.0), λ h s. k.1 (omega (arith, l, e, k.0, h)) (omega (arith, n, s)))
+
+-- with a token the place stays, or is the one behind it, which ends like JSON
+abbrev pub EndsJson : Piece → Type 0
+EndsJson t = (b : Bool) → ends_json_behind t.kind t.span b ≡ true
+
+abbrev pub Adjoins : Piece → Core → Core → Type 0
+Adjoins t c d = (d.adjacent ≡ c.adjacent) ⊎ ((d.adjacent ≡ d.cursor.mark.index) × EndsJson t)
+
+keeps_put : (i : Surroundings) (c d : Core) (t : Piece) (here behind : Cursor) (opened : Collections)
+    → AreApart c.cursor here → IsToken i t.kind t.span here behind → AreApart behind d.cursor
+    → i.in_flow ≡ nat_lt 0 (length c.outer) → opened.brackets ≡ length c.outer
+    → (open_behind t.kind t.span opened).brackets ≡ length d.outer → Adjoins t c d → KeepsPlace opened.ends_json c
+    → KeepsPlace (open_behind t.kind t.span opened).ends_json d
+keeps_put i c d t here behind opened a is b flows before after adjoins k = by adjoins
+  where
+    first : c.cursor.mark.index ≤ here.mark.index
+    first = (apart_later c.cursor.mark c.cursor.rest here.mark here.rest a).index
+
+    own : here.mark.index ≤ behind.mark.index
+    own = (token_later i t.kind t.span here behind is).index
+
+    last : behind.mark.index ≤ d.cursor.mark.index
+    last = (apart_later behind.mark behind.rest d.cursor.mark d.cursor.rest b).index
+
+    stays : d.adjacent ≡ c.adjacent → GoesOn i t.kind t.span here behind
+        → KeepsPlace (open_behind t.kind t.span opened).ends_json d
+    stays e (inl more) = (
+      omega (arith, first, more, last, e, k.0),
+      λ h s. absurd (omega (arith, first, more, last, e, k.0, h)),
+    )
+    stays e (inr (inl json)) = (omega (arith, first, own, last, e, k.0), λ h s. json opened.ends_json)
+    stays e (inr (inr (brackets, inl keeps))) =
+        let same = brackets opened in (
+          omega (arith, first, own, last, e, k.0),
+          λ h s. keeps opened.ends_json
+              ∙ k.1 (omega (arith, first, own, last, e, k.0, h)) (omega (arith, same, before, after, s)),
+        )
+    stays e (inr (inr (brackets, inr out))) =
+        let same = brackets opened in
+        let none = ltb-false 0 (length c.outer) (sym flows ∙ out) in (
+          omega (arith, first, own, last, e, k.0),
+          λ h s. absurd (omega (arith, same, before, after, s, none)),
+        )
+
+    by : Adjoins t c d → KeepsPlace (open_behind t.kind t.span opened).ends_json d
+    by (inl e) = stays e (token_goes_on i t.kind t.span here behind is)
+    by (inr e) = let at = e.0 in (omega (arith, at), λ h s. e.1 opened.ends_json)
 
 -- ## The tokens
 
@@ -79,14 +171,19 @@ abbrev pub setting_behind : List Piece → Setting → Setting
 setting_behind ps opened =
     record { collections = open_all ps opened.collections; enclosures = all_behind ps opened.enclosures }
 
--- the tokens are taken from the text, and what encloses the next token is known
+-- The tokens are taken from the text, and what encloses the next token is known. Where properties stand last no key may
+-- begin on their line.
 pub record TakenWithin (within : Enclosures) (opened : Setting) (from : Cursor) (c : Core) (q : Queue) : Type 0 where
   pub last : Cursor
   pub tokens : AreTokens opened.collections (flat q.places) from last
   pub apart : AreApart last c.cursor
   pub stands : Stands (open_all (flat q.places) opened.collections) c
   pub in_place : AreInPlace opened.enclosures (flat q.places)
-  pub encloses : all_behind (flat q.places) opened.enclosures ≡ within
+  pub encloses : calm (all_behind (flat q.places) opened.enclosures) ≡ within
+  pub small : from.mark.line ≤ top
+  pub ends : EndsOn (all_behind (flat q.places) opened.enclosures).begun last.mark.line
+  pub past : c.key_allowed ≡ true → IsPast (all_behind (flat q.places) opened.enclosures).begun c.cursor.mark.line
+  pub place : KeepsPlace (open_all (flat q.places) opened.collections).ends_json c
 
 abbrev pub Taken : Setting → Cursor → Core → Queue → Type 0
 Taken opened from c q = TakenWithin (enclosures_of c) opened from c q
@@ -96,18 +193,37 @@ pub taken_within : (v w : Enclosures) (opened : Setting) (from : Cursor) (c : Co
 taken_within v w opened from c q e h =
     let P : Enclosures → Type 0 = λ x. TakenWithin x opened from c q in subst P (sym e) h
 
+-- a key may begin only where one might before, or on a later line
+abbrev pub AllowsKey : Core → Core → Type 0
+AllowsKey c d = d.key_allowed ≡ true → (c.key_allowed ≡ true) ⊎ (c.cursor.mark.line < d.cursor.mark.line)
+
 -- the text goes on behind separation
 pub taken_further : (within : Enclosures) (opened : Setting) (from : Cursor) (c d : Core) (q : Queue)
     → AreApart c.cursor d.cursor → d.indent ≡ c.indent → d.outer_indents ≡ c.outer_indents
-    → length d.outer ≡ length c.outer → TakenWithin within opened from c q → TakenWithin within opened from d q
-taken_further within opened from c d q a i o n h = record {
-  last = h.last;
-  tokens = h.tokens;
-  apart = apart_apart h.last.mark h.last.rest c.cursor.mark c.cursor.rest d.cursor.mark d.cursor.rest h.apart a;
-  stands = stands_same (open_all (flat q.places) opened.collections) c d i o n h.stands;
-  in_place = h.in_place;
-  encloses = h.encloses;
-}
+    → length d.outer ≡ length c.outer → d.adjacent ≡ c.adjacent → AllowsKey c d
+    → TakenWithin within opened from c q
+    → TakenWithin within opened from d q
+taken_further within opened from c d q a i o n e allows h =
+    let now = all_behind (flat q.places) opened.enclosures in
+    let first = (tokens_later opened.collections (flat q.places) from h.last h.tokens).lines h.small in
+    let here = (apart_later h.last.mark h.last.rest c.cursor.mark c.cursor.rest h.apart).lines first.1 in
+    let there = (apart_later c.cursor.mark c.cursor.rest d.cursor.mark d.cursor.rest a).lines here.1 in
+    record {
+      last = h.last;
+      tokens = h.tokens;
+      apart = apart_apart h.last.mark h.last.rest c.cursor.mark c.cursor.rest d.cursor.mark d.cursor.rest h.apart a;
+      stands = stands_same (open_all (flat q.places) opened.collections) c d i o n h.stands;
+      in_place = h.in_place;
+      encloses = h.encloses;
+      small = h.small;
+      ends = h.ends;
+      past = λ g. elim (allows g) [
+        | inl f ↦ past_later now.begun c.cursor.mark.line d.cursor.mark.line there.0 (h.past f)
+        | inr l ↦ past_end now.begun h.last.mark.line d.cursor.mark.line (omega (arith, here.0, l)) h.ends
+      ];
+      place = keeps_further (open_all (flat q.places) opened.collections).ends_json c d
+          (apart_later c.cursor.mark c.cursor.rest d.cursor.mark d.cursor.rest a).index e n h.place;
+    }
 
 flat_put : (t : Piece) (q : Queue) → flat (with_piece t q).places ≡ flat q.places ++ t ∷ []
 flat_put t q = flat_append q.places (bare_place t ∷ [])
@@ -120,15 +236,118 @@ Opens t c d = (opened : Collections) → Stands opened c → Stands (open_behind
 abbrev pub FitsWithin : Enclosures → Piece → Type 0
 FitsWithin within t = IsTrue (may_stand within t.kind t.span)
 
+-- ## A token is put
+
+-- the start of a block collection, or an entry of a sequence
+abbrev pub begins_block : Kind → Bool
+begins_block tokens.BlockSequenceStart = true
+begins_block tokens.BlockMappingStart = true
+begins_block tokens.BlockEntry = true
+begins_block _ = false
+
+abbrev pub is_property : Kind → Bool
+is_property (tokens.Anchor name) = true
+is_property (tokens.Tag handle suffix) = true
+is_property _ = false
+
+-- a block collection and an entry begin where a key may, and behind properties no key may begin
+abbrev pub IsParted : Piece → Core → Core → Type 0
+IsParted t c d = (begins_block t.kind ≡ true → (c.key_allowed ≡ true) × (t.span.start.line ≡ c.cursor.mark.line))
+    × (is_property t.kind ≡ true → d.key_allowed ≡ false)
+
+-- a token that is neither
+abbrev pub is_unbound : Kind → Bool
+is_unbound kind = not (begins_block kind) && not (is_property kind)
+
+pub unbound_parted : (t : Piece) (c d : Core) → is_unbound t.kind ≡ true → IsParted t c d
+unbound_parted t c d e = by (begins_block t.kind) (is_property t.kind) e
+  where
+    by : (a b : Bool) → (not a && not b) ≡ true
+        → (a ≡ true → (c.key_allowed ≡ true) × (t.span.start.line ≡ c.cursor.mark.line))
+        × (b ≡ true → d.key_allowed ≡ false)
+    by true b e = absurd (cc)
+    by false true e = absurd (cc)
+    by false false e = ((λ no. absurd (cc)), (λ no. absurd (cc)))
+
+pub same_calm : (kind : Kind) (span : Span) (all : Enclosures) → is_property kind ≡ false
+    → calm (enclosures_behind kind span all) ≡ enclosures_behind kind span all
+same_calm kind span all e =
+    let behind = enclosures_behind kind span all in
+    let begun = begun_behind kind span all in
+    ap (λ g. with_begun g behind) (ap calmed begun ∙ same kind e ∙ sym begun)
+  where
+    same : (kind : Kind) → is_property kind ≡ false → calmed (begun_by kind span) ≡ begun_by kind span
+    same (tokens.Anchor name) e = absurd (cc)
+    same (tokens.Tag handle suffix) e = absurd (cc)
+    same tokens.Key e = by_test (has_text span) _ _ (λ g. calmed g ≡ g) (λ _. refl) (λ _. refl)
+    same _ e = refl
+
+pub unbound_calm : (kind : Kind) (span : Span) (all : Enclosures) → is_unbound kind ≡ true
+    → calm (enclosures_behind kind span all) ≡ enclosures_behind kind span all
+unbound_calm kind span all e = same_calm kind span all (by (begins_block kind) (is_property kind) e)
+  where
+    by : (a b : Bool) → (not a && not b) ≡ true → b ≡ false
+    by true b e = absurd (cc)
+    by false true e = absurd (cc)
+    by false false e = refl
+
+-- a node's token begins no block collection
+pub node_parted : (t : Piece) (c d : Core) → IsTrue (is_of_flow_node t.kind t.span)
+    → (is_property t.kind ≡ true → d.key_allowed ≡ false) → IsParted t c d
+node_parted t c d node closes = (λ e. absurd (no t.kind node e), closes)
+  where
+    no : (kind : Kind) → IsTrue (is_of_flow_node kind t.span) → begins_block kind ≡ true → ⊥
+    no tokens.BlockSequenceStart h e = let no : false ≡ true = h in cc
+    no tokens.BlockMappingStart h e = let no : false ≡ true = h in cc
+    no tokens.BlockEntry h e = let no : false ≡ true = h in cc
+    no _ h e = cc
+
+calmed_fits : (g : Begun) (kind : Kind) (span : Span) (fit : Bool) → (may_follow (calmed g) kind span && fit) ≡ true
+    → (begins_block kind ≡ true → IsPast g span.start.line) → (may_follow g kind span && fit) ≡ true
+calmed_fits (place.Property line) tokens.BlockSequenceStart span fit h past =
+    let l = lt-ltb line span.start.line (past refl) in rw l h
+calmed_fits (place.Property line) tokens.BlockMappingStart span fit h past =
+    let l = lt-ltb line span.start.line (past refl) in rw l h
+calmed_fits (place.Property line) tokens.BlockEntry span fit h past =
+    let l = lt-ltb line span.start.line (past refl) in rw l h
+calmed_fits (place.Property line) _ span fit h past = h
+calmed_fits _ kind span fit h past = h
+
+-- what encloses the token behind does not rest on what has begun in front
+behind_begun : (kind : Kind) (span : Span) (g : Begun) (all : Enclosures)
+    → enclosures_behind kind span (with_begun g all) ≡ enclosures_behind kind span all
+behind_begun tokens.BlockSequenceStart span g all = refl
+behind_begun _ span g all = refl
+
+-- properties end where their token does
+begun_ends : (i : Surroundings) (kind : Kind) (span : Span) (s t : Cursor) → IsToken i kind span s t
+    → EndsOn (begun_by kind span) t.mark.line
+begun_ends i (tokens.Anchor name) span s t h = ap (λ (m : Marker). m.line) h.3.end
+begun_ends i (tokens.Tag handle suffix) span s t h = ap (λ (m : Marker). m.line) h.6.end
+begun_ends i tokens.Key span s t h = by_test (has_text span) _ _ (λ g. EndsOn g t.mark.line) (λ _. tt) (λ _. tt)
+begun_ends i _ span s t h = tt
+
+begun_past : (kind : Kind) (span : Span) (n : ℕ) (allowed : Bool) → (is_property kind ≡ true → allowed ≡ false)
+    → allowed ≡ true → IsPast (begun_by kind span) n
+begun_past (tokens.Anchor name) span n allowed f e = absurd (let no = f refl in cc)
+begun_past (tokens.Tag handle suffix) span n allowed f e = absurd (let no = f refl in cc)
+begun_past tokens.Key span n allowed f e = by_test (has_text span) _ _ (λ g. IsPast g n) (λ _. tt) (λ _. tt)
+begun_past _ span n allowed f e = tt
+
 -- a token is put behind the others
 pub taken_put : (within : Enclosures) (opened : Setting) (from : Cursor) (c d : Core) (q : Queue) (t : Piece)
     (here behind : Cursor)
-    → AreApart c.cursor here → IsToken (surroundings_of c) t.kind t.span here behind → AreApart behind d.cursor
-    → Opens t c d → FitsWithin within t → TakenWithin within opened from c q
-    → TakenWithin (enclosures_behind t.kind t.span within) opened from d (with_piece t q)
-taken_put within opened from c d q t here behind a is b o f h =
+    → AreApart c.cursor here
+    → ((b : Bool) → KeepsPlace b c → IsToken (surroundings_of b c) t.kind t.span here behind)
+    → AreApart behind d.cursor → Opens t c d → Adjoins t c d → FitsWithin within t → IsParted t c d
+    → TakenWithin within opened from c q
+    → TakenWithin (calm (enclosures_behind t.kind t.span within)) opened from d (with_piece t q)
+taken_put within opened from c d q t here behind a told b o adjoins f parted h =
     let open_now = open_all (flat q.places) opened.collections in
-    let i : surroundings_in open_now ≡ surroundings_of c = stands_in open_now c h.stands in
+    let around = surroundings_of open_now.ends_json c in
+    let is = told open_now.ends_json h.place in
+    let i : surroundings_in open_now ≡ around = stands_in open_now c h.stands in
+    let stands_then = o open_now h.stands in
     let apart = apart_apart h.last.mark h.last.rest c.cursor.mark c.cursor.rest here.mark here.rest h.apart a in
     let one : AreTokens open_now (t ∷ []) h.last behind =
     (here, behind, apart, subst (λ (j : Surroundings). IsToken j t.kind t.span here behind) (sym i) is, refl) in
@@ -137,16 +356,34 @@ taken_put within opened from c d q t here behind a is b o f h =
     let open_then : open_all (flat (with_piece t q).places) opened.collections ≡ open_behind t.kind t.span open_now =
     ap (λ l. open_all l opened.collections) (flat_put t q)
     ∙ open_append (flat q.places) (t ∷ []) opened.collections in
-    let P : Enclosures → Type 0 = λ x. AreInPlace x (t ∷ []) in
+    let now = all_behind (flat q.places) opened.enclosures in
+    let then : all_behind (flat (with_piece t q).places) opened.enclosures ≡ enclosures_behind t.kind t.span now =
+    ap (λ l. all_behind l opened.enclosures) (flat_put t q) ∙ behind_append (flat q.places) (t ∷ [])
+    opened.enclosures in
+    let begun = ap (λ (x : Enclosures). x.begun) then ∙ begun_behind t.kind t.span now in
     record {
       last = behind;
       tokens = subst (λ l. AreTokens opened.collections l from behind) same all;
       apart = b;
-      stands = subst (λ (x : Collections). Stands x d) (sym open_then) (o open_now h.stands);
+      stands = subst (λ (x : Collections). Stands x d) (sym open_then) stands_then;
       in_place = subst (λ l. AreInPlace opened.enclosures l) same
           (in_place_append (flat q.places) (t ∷ []) opened.enclosures h.in_place
-          (subst P (sym h.encloses) (f, tt)));
-      encloses = ap (λ l. all_behind l opened.enclosures) (flat_put t q)
-          ∙ behind_append (flat q.places) (t ∷ []) opened.enclosures
-          ∙ ap (enclosures_behind t.kind t.span) h.encloses;
+          (put_fits within now t c d h.encloses f parted h.past, tt));
+      encloses = ap calm (then ∙ sym (behind_begun t.kind t.span (calmed now.begun) now))
+          ∙ ap (λ x. calm (enclosures_behind t.kind t.span x)) h.encloses;
+      small = h.small;
+      ends = subst (λ g. EndsOn g behind.mark.line) (sym begun)
+          (begun_ends around t.kind t.span here behind is);
+      past = λ e. subst (λ g. IsPast g d.cursor.mark.line) (sym begun)
+          (begun_past t.kind t.span d.cursor.mark.line d.key_allowed parted.1 e);
+      place = subst (λ (x : Collections). KeepsPlace x.ends_json d) (sym open_then)
+          (keeps_put around c d t here behind open_now a is b refl h.stands.1 stands_then.1 adjoins h.place);
     }
+  where
+    put_fits : (within now : Enclosures) (t : Piece) (c d : Core) → calm now ≡ within → FitsWithin within t
+        → IsParted t c d → (c.key_allowed ≡ true → IsPast now.begun c.cursor.mark.line) → FitsWithin now t
+    put_fits within now t c d e f parted past =
+        let P : Enclosures → Type 0 = λ x. FitsWithin x t in
+        let Q : ℕ → Type 0 = λ m. IsPast now.begun m in
+        calmed_fits now.begun t.kind t.span (fits_at now.inner.enclosure now.inner.key now.columns t.kind t.span)
+        (subst P (sym e) f) (λ b. let w = parted.0 b in subst Q (sym w.1) (past w.0))

@@ -1,10 +1,12 @@
 -- Tokens that may stand where they do, one part behind the other, and the same tokens within other enclosures.
-use Rattle.std.proofs.Common.{◌≡◌, ℕ, zero, suc, ◌+◌, ◌-◌, Bool, true, false, List, [], ◌∷◌, ◌++◌, length, Option, Some, None, refl, sym, ap, ◌∙◌, arith, subst, IsTrue}
-use Rattle.std.specs.Prelude.{◌||◌, nat_lt, if◌then◌else◌}
+use Rattle.std.proofs.Common.{◌≡◌, ℕ, zero, suc, ◌+◌, ◌-◌, Bool, true, false, List, [], ◌∷◌, ◌++◌, length, Option, Some, None, refl, sym, ap, ◌∙◌, arith, subst, IsTrue, ◌≤◌, ◌<◌}
+use Rattle.std.specs.Prelude.{◌||◌, ◌&&◌, nat_lt, if◌then◌else◌}
 use Rattle.std.proofs.lemmas.Bool.Decides.{nat_tests}
-use Rattle.std.proofs.lemmas.Bool.{and_parts}
+use Rattle.std.proofs.lemmas.Bool.{and_parts, lt-ltb}
+use Rattle.saphyr_input.proofs.Basics.Booleans.{by_test}
 use Rattle.saphyr_scalar.specs.declared.scalar.position.Marker.{Marker}
 use Rattle.saphyr_scalar.specs.declared.scalar.position.Span.{Span}
+use Rattle.saphyr_scalar.specs.declared.scalar.style.ScalarStyle.TheVariants as style
 use Rattle.saphyr_scanner.specs.declared.queue.Opening.{Opening}
 use Rattle.saphyr_scanner.specs.declared.queue.Opening.TheVariants as opening
 use Rattle.saphyr_scanner.specs.Grammar.Tokens as tokens
@@ -12,7 +14,7 @@ use Rattle.saphyr_scanner.specs.Grammar.Tokens.{Kind}
 use Rattle.saphyr_scanner.specs.Views.Tokens.{Piece}
 use Rattle.saphyr_scanner.specs.Steps.Queue.{empty_piece}
 use Rattle.saphyr_scanner.specs.TokensInPlace as place
-use Rattle.saphyr_scanner.specs.TokensInPlace.{Enclosure, Enclosed, Begun, Enclosures, with_begun, turned_to, awaiting_colon, has_text, enclosures_behind, may_begin_pair, may_begin_key, is_of_flow_node, fits_at, may_follow, may_stand, AreInPlace}
+use Rattle.saphyr_scanner.specs.TokensInPlace.{Enclosure, Enclosed, Begun, Enclosures, with_begun, begun_at, turned_to, awaiting_colon, has_text, enclosures_behind, may_begin_pair, may_begin_key, is_in_brackets, is_of_flow_node, fits_at, may_follow, may_stand, AreInPlace}
 use Rattle.saphyr_scanner.proofs.Leads.{place_pieces}
 
 -- ## One part behind the other
@@ -112,154 +114,260 @@ inside_shift (p ∷ ps) m a b c h k =
 
 abbrev stacked : List Enclosed → Enclosures → Enclosures
 stacked [] all = all
-stacked (t ∷ ts) all =
-    record { inner = t; outer = (stacked ts all).inner ∷ (stacked ts all).outer; begun = all.begun }
+stacked (t ∷ ts) all = record {
+  inner = t;
+  outer = (stacked ts all).inner ∷ (stacked ts all).outer;
+  begun = all.begun;
+  columns = (stacked ts all).columns;
+}
 
 -- what encloses, of which the innermost are these, and what has begun
 abbrev pub on_top : List Enclosed → Begun → Enclosures → Enclosures
 on_top ts g all = with_begun g (stacked ts all)
 
-of_node_fits : (e : Enclosure) (key : Option Marker) (kind : Kind) (span : Span) → IsTrue (is_of_flow_node kind span)
-    → IsTrue (fits_at e key kind span)
-of_node_fits e None (tokens.Alias name) span h = refl
-of_node_fits e None (tokens.Anchor name) span h = refl
-of_node_fits e None (tokens.Tag handle suffix) span h = refl
-of_node_fits e None (tokens.Scalar style value) span h = refl
-of_node_fits e None tokens.FlowSequenceStart span h = refl
-of_node_fits e None tokens.FlowMappingStart span h = rw h refl
-of_node_fits e None _ span h = absurd (let no : false ≡ true = h in cc)
-of_node_fits e (Some m) (tokens.Alias name) span h = refl
-of_node_fits e (Some m) (tokens.Anchor name) span h = refl
-of_node_fits e (Some m) (tokens.Tag handle suffix) span h = refl
-of_node_fits e (Some m) (tokens.Scalar style value) span h = refl
-of_node_fits e (Some m) tokens.FlowSequenceStart span h = refl
-of_node_fits e (Some m) tokens.FlowMappingStart span h = h
-of_node_fits e (Some m) _ span h = absurd (let no : false ≡ true = h in cc)
+of_node_fits : (e : Enclosure) (key : Option Marker) (columns : List ℕ) (kind : Kind) (span : Span)
+    → IsTrue (is_of_flow_node kind span) → IsTrue (fits_at e key columns kind span)
+of_node_fits e None columns (tokens.Alias name) span h = refl
+of_node_fits e None columns (tokens.Anchor name) span h = refl
+of_node_fits e None columns (tokens.Tag handle suffix) span h = refl
+of_node_fits e None columns (tokens.Scalar style value) span h = refl
+of_node_fits e None columns tokens.FlowSequenceStart span h = refl
+of_node_fits e None columns tokens.FlowMappingStart span h = rw h refl
+of_node_fits e None columns _ span h = absurd (let no : false ≡ true = h in cc)
+of_node_fits e (Some m) columns (tokens.Alias name) span h = refl
+of_node_fits e (Some m) columns (tokens.Anchor name) span h = refl
+of_node_fits e (Some m) columns (tokens.Tag handle suffix) span h = refl
+of_node_fits e (Some m) columns (tokens.Scalar style value) span h = refl
+of_node_fits e (Some m) columns tokens.FlowSequenceStart span h = refl
+of_node_fits e (Some m) columns tokens.FlowMappingStart span h = h
+of_node_fits e (Some m) columns _ span h = absurd (let no : false ≡ true = h in cc)
+
+-- in brackets no column counts
+fits_in_brackets : (e : Enclosure) (key : Option Marker) (columns others : List ℕ) (kind : Kind) (span : Span)
+    → IsTrue (is_in_brackets e) → fits_at e key others kind span ≡ fits_at e key columns kind span
+fits_in_brackets e (Some m) columns others kind span h = refl
+fits_in_brackets e None columns others tokens.Value span h = rw h refl
+fits_in_brackets e None columns others _ span h = refl
+
+-- no block collection has begun right in front
+abbrev pub takes_node : Begun → Bool
+takes_node place.BlockSequence = false
+takes_node place.BlockMapping = false
+takes_node _ = true
 
 -- a node's token begins no block collection's entry
 node_follows : (g : Begun) (kind : Kind) (span : Span) → IsTrue (is_of_flow_node kind span)
-    → IsTrue (may_follow g kind) → g ≡ place.Nothing
-node_follows place.Nothing kind span h f = refl
+    → IsTrue (may_follow g kind span) → takes_node g ≡ true
 node_follows place.BlockSequence tokens.BlockEntry span h f = absurd (let no : false ≡ true = h in cc)
 node_follows place.BlockSequence _ span h f = absurd (let no : false ≡ true = f in cc)
 node_follows place.BlockMapping tokens.Key span h f = absurd (let no : false ≡ true = h in cc)
 node_follows place.BlockMapping tokens.Value span h f = absurd (let no : false ≡ true = h in cc)
 node_follows place.BlockMapping _ span h f = absurd (let no : false ≡ true = f in cc)
+node_follows _ kind span h f = refl
+
+-- no start of a block collection, no `-` and no colon
+abbrev begins_node : Kind → Bool
+begins_node tokens.BlockSequenceStart = false
+begins_node tokens.BlockMappingStart = false
+begins_node tokens.BlockEntry = false
+begins_node tokens.Value = false
+begins_node _ = true
+
+node_begins : (kind : Kind) (span : Span) → IsTrue (is_of_flow_node kind span) → begins_node kind ≡ true
+node_begins tokens.BlockSequenceStart span h = absurd (let no : false ≡ true = h in cc)
+node_begins tokens.BlockMappingStart span h = absurd (let no : false ≡ true = h in cc)
+node_begins tokens.BlockEntry span h = absurd (let no : false ≡ true = h in cc)
+node_begins tokens.Value span h = absurd (let no : false ≡ true = h in cc)
+node_begins _ span h = refl
+
+node_may_follow : (g : Begun) (kind : Kind) (span : Span) → takes_node g ≡ true → begins_node kind ≡ true
+    → may_follow g kind span ≡ true
+node_may_follow place.Nothing kind span h b = refl
+node_may_follow place.BlockSequence kind span h b = absurd (cc)
+node_may_follow place.BlockMapping kind span h b = absurd (cc)
+node_may_follow (place.Property line) tokens.BlockSequenceStart span h b = absurd (cc)
+node_may_follow (place.Property line) tokens.BlockMappingStart span h b = absurd (cc)
+node_may_follow (place.Property line) tokens.BlockEntry span h b = absurd (cc)
+node_may_follow (place.Property line) _ span h b = refl
+node_may_follow place.KeyStart tokens.Value span h b = absurd (cc)
+node_may_follow place.KeyStart _ span h b = refl
+
+-- ## Tokens that neither begin nor end a block collection nor an entry of a sequence, and are no block scalars
+
+abbrev pub is_quiet : Kind → Bool
+is_quiet tokens.BlockSequenceStart = false
+is_quiet tokens.BlockMappingStart = false
+is_quiet tokens.BlockEnd = false
+is_quiet tokens.BlockEntry = false
+is_quiet (tokens.Scalar style.Literal value) = false
+is_quiet (tokens.Scalar style.Folded value) = false
+is_quiet _ = true
+
+abbrev pub AreQuiet : List Piece → Type 0
+AreQuiet [] = Unit {0}
+AreQuiet (p ∷ ps) = (is_quiet p.kind ≡ true) × AreQuiet ps
 
 -- what has begun behind a token
-abbrev begun_by : Kind → Begun
-begun_by tokens.BlockSequenceStart = place.BlockSequence
-begun_by tokens.BlockMappingStart = place.BlockMapping
-begun_by _ = place.Nothing
+abbrev pub begun_by : Kind → Span → Begun
+begun_by tokens.BlockSequenceStart span = place.BlockSequence
+begun_by tokens.BlockMappingStart span = place.BlockMapping
+begun_by (tokens.Anchor name) span = place.Property span.end.line
+begun_by (tokens.Tag handle suffix) span = place.Property span.end.line
+begun_by tokens.Key span = if has_text span then place.Nothing else place.KeyStart
+begun_by _ span = place.Nothing
+
+begun_left : (es : List Enclosed) (columns : List ℕ) → (place.left_for es columns).begun ≡ place.Nothing
+begun_left [] columns = refl
+begun_left (e ∷ es) columns = refl
+
+pub begun_behind : (kind : Kind) (span : Span) (all : Enclosures)
+    → (enclosures_behind kind span all).begun ≡ begun_by kind span
+begun_behind tokens.FlowSequenceEnd span all = begun_left all.outer all.columns
+begun_behind tokens.FlowMappingStart span all =
+    by_test (has_text span) _ _ (λ (x : Enclosures). x.begun ≡ place.Nothing) (λ _. refl) (λ _. refl)
+begun_behind tokens.FlowMappingEnd span all =
+    by_test (has_text span) _ _ (λ (x : Enclosures). x.begun ≡ place.Nothing) (λ _. begun_left all.outer all.columns)
+    (λ _. refl)
+begun_behind tokens.Key span all = by (has_text span)
+  where
+    by : (b : Bool) → (if b then turned_to (place.behind_question all.inner.enclosure) all else
+        awaiting_colon span.start all).begun ≡ (if b then place.Nothing else place.KeyStart)
+    by true = refl
+    by false = refl
+begun_behind _ span all = refl
+
+abbrev AreBrackets : List Enclosed → Type 0
+AreBrackets [] = Unit {0}
+AreBrackets (t ∷ ts) = IsTrue (is_in_brackets t.enclosure) × AreBrackets ts
 
 -- what the innermost are behind a token
 record Top (kind : Kind) (span : Span) (ts : List Enclosed) : Type 0 where
   top : List Enclosed
+  brackets : AreBrackets top
   depth : length top ≡ deeper kind span (length ts)
   behind : (g : Begun) (all : Enclosures)
-      → enclosures_behind kind span (on_top ts g all) ≡ on_top top (begun_by kind) all
-  settles : length top ≡ 0 → begun_by kind ≡ place.Nothing
+      → enclosures_behind kind span (on_top ts g all) ≡ on_top top (begun_by kind span) all
 
 top_of_node : (kind : Kind) (span : Span) → IsTrue (is_of_flow_node kind span) → Top kind span []
 top_of_node (tokens.Alias name) span h =
-    record { top = []; depth = refl; behind = λ g all. refl; settles = λ _. refl }
+    record { top = []; brackets = tt; depth = refl; behind = λ g all. refl }
 top_of_node (tokens.Anchor name) span h =
-    record { top = []; depth = refl; behind = λ g all. refl; settles = λ _. refl }
+    record { top = []; brackets = tt; depth = refl; behind = λ g all. refl }
 top_of_node (tokens.Tag handle suffix) span h =
-    record { top = []; depth = refl; behind = λ g all. refl; settles = λ _. refl }
+    record { top = []; brackets = tt; depth = refl; behind = λ g all. refl }
 top_of_node (tokens.Scalar style value) span h =
-    record { top = []; depth = refl; behind = λ g all. refl; settles = λ _. refl }
+    record { top = []; brackets = tt; depth = refl; behind = λ g all. refl }
 top_of_node tokens.FlowSequenceStart span h = record {
   top = record { enclosure = place.Sequence; key = None } ∷ [];
+  brackets = (refl, tt);
   depth = refl;
   behind = λ g all. refl;
-  settles = λ _. refl;
 }
 top_of_node tokens.FlowMappingStart span h = record {
   top = record { enclosure = place.Mapping; key = None } ∷ [];
+  brackets = (refl, tt);
   depth = rw h refl;
   behind = λ g all. rw h refl;
-  settles = λ _. refl;
 }
 top_of_node _ span h = absurd (let no : false ≡ true = h in cc)
 
 -- the innermost changes
-changed_top : (kind : Kind) (span : Span) (t u : Enclosed) (ts : List Enclosed) → ((d : ℕ) → deeper kind span d ≡ d)
-    → ((g : Begun) (all : List Enclosed) → enclosures_behind kind span (record { inner = t; outer = all; begun = g })
-    ≡ record { inner = u; outer = all; begun = begun_by kind }) → Top kind span (t ∷ ts)
-changed_top kind span t u ts d e = record {
+changed_top : (kind : Kind) (span : Span) (t u : Enclosed) (ts : List Enclosed) → AreBrackets (u ∷ ts)
+    → ((d : ℕ) → deeper kind span d ≡ d)
+    → ((g : Begun) (all : List Enclosed) (columns : List ℕ)
+    → enclosures_behind kind span (record { inner = t; outer = all; begun = g; columns = columns })
+    ≡ record { inner = u; outer = all; begun = begun_by kind span; columns = columns }) → Top kind span (t ∷ ts)
+changed_top kind span t u ts b d e = record {
   top = u ∷ ts;
+  brackets = b;
   depth = sym (d (length (t ∷ ts)));
-  behind = λ g all. e g ((stacked ts all).inner ∷ (stacked ts all).outer);
-  settles = λ no. absurd (omega (arith, no));
+  behind = λ g all. e g ((stacked ts all).inner ∷ (stacked ts all).outer) (stacked ts all).columns;
 }
 
-top_behind : (kind : Kind) (span : Span) (t : Enclosed) (ts : List Enclosed) → Top kind span (t ∷ ts)
-top_behind tokens.FlowSequenceStart span t ts = record {
+question_stays : (e : Enclosure) → IsTrue (is_in_brackets e) → IsTrue (is_in_brackets (place.behind_question e))
+question_stays place.Block h = h
+question_stays _ h = refl
+
+comma_stays : (e : Enclosure) → IsTrue (is_in_brackets e) → IsTrue (is_in_brackets (place.behind_comma e))
+comma_stays place.Block h = h
+comma_stays _ h = refl
+
+colon_stays : (e : Enclosure) → IsTrue (is_in_brackets e) → IsTrue (is_in_brackets (place.behind_pair_colon e))
+colon_stays place.Block h = h
+colon_stays _ h = refl
+
+top_behind : (kind : Kind) (span : Span) (t : Enclosed) (ts : List Enclosed) → is_quiet kind ≡ true
+    → AreBrackets (t ∷ ts) → Top kind span (t ∷ ts)
+top_behind tokens.FlowSequenceStart span t ts q b = record {
   top = record { enclosure = place.Sequence; key = None } ∷ t ∷ ts;
+  brackets = (refl, b);
   depth = refl;
   behind = λ g all. refl;
-  settles = λ _. refl;
 }
-top_behind tokens.FlowSequenceEnd span t ts =
-    record { top = ts; depth = omega arith; behind = λ g all. refl; settles = λ _. refl }
-top_behind tokens.FlowMappingStart span t ts = by (has_text span) refl
+top_behind tokens.FlowSequenceEnd span t ts q b =
+    record { top = ts; brackets = b.1; depth = omega arith; behind = λ g all. refl }
+top_behind tokens.FlowMappingStart span t ts q b = by (has_text span) refl
   where
-    by : (b : Bool) → has_text span ≡ b → Top tokens.FlowMappingStart span (t ∷ ts)
+    by : (x : Bool) → has_text span ≡ x → Top tokens.FlowMappingStart span (t ∷ ts)
     by true e = record {
       top = record { enclosure = place.Mapping; key = None } ∷ t ∷ ts;
+      brackets = (refl, b);
       depth = rw e refl;
       behind = λ g all. rw e refl;
-      settles = λ _. refl;
     }
     by false e =
-        changed_top _ span t (record { enclosure = place.PairKey; key = None }) ts (λ d. rw e refl)
-        (λ g all. rw e refl)
-top_behind tokens.FlowMappingEnd span t ts = by (has_text span) refl
+        changed_top _ span t (record { enclosure = place.PairKey; key = None }) ts (refl, b.1) (λ d. rw e refl)
+        (λ g all columns. rw e refl)
+top_behind tokens.FlowMappingEnd span t ts q b = by (has_text span) refl
   where
-    by : (b : Bool) → has_text span ≡ b → Top tokens.FlowMappingEnd span (t ∷ ts)
-    by true e =
-        record { top = ts; depth = rw e (omega arith); behind = λ g all. rw e refl; settles = λ _. refl }
+    by : (x : Bool) → has_text span ≡ x → Top tokens.FlowMappingEnd span (t ∷ ts)
+    by true e = record {
+      top = ts;
+      brackets = b.1;
+      depth = rw e (omega arith);
+      behind = λ g all. rw e refl;
+    }
     by false e =
-        changed_top _ span t (record { enclosure = place.Sequence; key = None }) ts (λ d. rw e refl)
-        (λ g all. rw e refl)
-top_behind tokens.Key span t ts = by (has_text span) refl
+        changed_top _ span t (record { enclosure = place.Sequence; key = None }) ts (refl, b.1) (λ d. rw e refl)
+        (λ g all columns. rw e refl)
+top_behind tokens.Key span t ts q b = by (has_text span) refl
   where
-    by : (b : Bool) → has_text span ≡ b → Top tokens.Key span (t ∷ ts)
+    by : (x : Bool) → has_text span ≡ x → Top tokens.Key span (t ∷ ts)
     by true e =
-        changed_top _ span t (record { enclosure = place.behind_question t.enclosure; key = None }) ts (λ d. refl)
-        (λ g all. rw e refl)
+        changed_top _ span t (record { enclosure = place.behind_question t.enclosure; key = None }) ts
+        (question_stays t.enclosure b.0, b.1) (λ d. refl) (λ g all columns. rw e refl)
     by false e =
-        changed_top _ span t (record { enclosure = t.enclosure; key = Some span.start }) ts (λ d. refl)
-        (λ g all. rw e refl)
-top_behind tokens.Value span t ts =
-    changed_top _ span t (record { enclosure = place.behind_pair_colon t.enclosure; key = None }) ts (λ d. refl)
-    (λ g all. refl)
-top_behind tokens.FlowEntry span t ts =
-    changed_top _ span t (record { enclosure = place.behind_comma t.enclosure; key = None }) ts (λ d. refl)
-    (λ g all. refl)
-top_behind _ span t ts = changed_top _ span t t ts (λ d. refl) (λ g all. refl)
+        changed_top _ span t (record { enclosure = t.enclosure; key = Some span.start }) ts b (λ d. refl)
+        (λ g all columns. rw e refl)
+top_behind tokens.Value span t ts q b =
+    changed_top _ span t (record { enclosure = place.behind_pair_colon t.enclosure; key = None }) ts
+    (colon_stays t.enclosure b.0, b.1) (λ d. refl) (λ g all columns. refl)
+top_behind tokens.FlowEntry span t ts q b =
+    changed_top _ span t (record { enclosure = place.behind_comma t.enclosure; key = None }) ts
+    (comma_stays t.enclosure b.0, b.1) (λ d. refl) (λ g all columns. refl)
+top_behind tokens.BlockSequenceStart span t ts q b = absurd (cc)
+top_behind tokens.BlockMappingStart span t ts q b = absurd (cc)
+top_behind tokens.BlockEnd span t ts q b = absurd (cc)
+top_behind _ span t ts q b = changed_top _ span t t ts b (λ d. refl) (λ g all columns. refl)
 
 -- the tokens told within `b` and within `c`
 record Retold (ps : List Piece) (ts : List Enclosed) (g : Begun) (e : ℕ) (b c : Enclosures) : Type 0 where
   top : List Enclosed
   last : Begun
   depth : length top ≡ e
-  settled : length top ≡ 0 → last ≡ place.Nothing
   in_place : AreInPlace (on_top ts g c) ps
   before : all_behind ps (on_top ts g b) ≡ on_top top last b
   behind : all_behind ps (on_top ts g c) ≡ on_top top last c
 
-retell : (ps : List Piece) (ts : List Enclosed) (g : Begun) (e : ℕ) (b c : Enclosures)
-    → (length ts ≡ 0 → g ≡ place.Nothing) → AreInside (length ts) ps e
-    → AreInPlace (on_top ts g b) ps → Retold ps ts g e b c
-retell [] ts g e b c s h k =
-    record { top = ts; last = g; depth = h; settled = s; in_place = tt; before = refl; behind = refl }
-retell (p ∷ ps) ts g e b c s h k = by ts h k (λ us i. retell ps us (begun_by p.kind) e b c i)
+retell : (ps : List Piece) (ts : List Enclosed) (g : Begun) (e : ℕ) (b c : Enclosures) → AreBrackets ts → AreQuiet ps
+    → AreInside (length ts) ps e → AreInPlace (on_top ts g b) ps → Retold ps ts g e b c
+retell [] ts g e b c w q h k = record { top = ts; last = g; depth = h; in_place = tt; before = refl; behind = refl }
+retell (p ∷ ps) ts g e b c w q h k =
+    by ts w h k (λ us v. retell ps us (begun_by p.kind p.span) e b c v q.1)
   where
     Others : Type 0
-    Others = (us : List Enclosed) → (length us ≡ 0 → begun_by p.kind ≡ place.Nothing) → AreInside (length us) ps e
-        → AreInPlace (on_top us (begun_by p.kind) b) ps → Retold ps us (begun_by p.kind) e b c
+    Others = (us : List Enclosed) → AreBrackets us → AreInside (length us) ps e
+        → AreInPlace (on_top us (begun_by p.kind p.span) b) ps → Retold ps us (begun_by p.kind p.span) e b c
 
     further : (ts : List Enclosed) (u : Top p.kind p.span ts) → IsTrue (may_stand (on_top ts g c) p.kind p.span)
         → AreInside (deeper p.kind p.span (length ts)) ps e
@@ -267,99 +375,177 @@ retell (p ∷ ps) ts g e b c s h k = by ts h k (λ us i. retell ps us (begun_by 
     further ts u f h k go =
         let P : ℕ → Type 0 = λ n. AreInside n ps e in
         let Q : Enclosures → Type 0 = λ all. AreInPlace all ps in
-        let r = go u.top u.settles (subst P (sym u.depth) h) (subst Q (u.behind g b) k) in record {
+        let r = go u.top u.brackets (subst P (sym u.depth) h) (subst Q (u.behind g b) k) in record {
           top = r.top;
           last = r.last;
           depth = r.depth;
-          settled = r.settled;
           in_place = (f, subst Q (sym (u.behind g c)) r.in_place);
           before = ap (all_behind ps) (u.behind g b) ∙ r.before;
           behind = ap (all_behind ps) (u.behind g c) ∙ r.behind;
         }
 
-    by : (ts : List Enclosed) → AreInside (length ts) (p ∷ ps) e → AreInPlace (on_top ts g b) (p ∷ ps) → Others
-        → Retold (p ∷ ps) ts g e b c
-    by [] h k go =
-        let w = and_parts (may_follow g p.kind) (fits_at b.inner.enclosure b.inner.key p.kind p.span) k.0 in
-        let fit = of_node_fits c.inner.enclosure c.inner.key p.kind p.span h.0 in
-        let follows : may_follow g p.kind ≡ true = w.0 in
+    by : (ts : List Enclosed) → AreBrackets ts → AreInside (length ts) (p ∷ ps) e
+        → AreInPlace (on_top ts g b) (p ∷ ps) → Others → Retold (p ∷ ps) ts g e b c
+    by [] w h k go =
+        let x = and_parts (may_follow g p.kind p.span)
+        (fits_at b.inner.enclosure b.inner.key b.columns p.kind p.span) k.0 in
+        let fit = of_node_fits c.inner.enclosure c.inner.key c.columns p.kind p.span h.0 in
+        let follows : may_follow g p.kind p.span ≡ true = x.0 in
         further [] (top_of_node p.kind p.span h.0) (rw (follows, fit) refl) h.1 k.1 go
-    by (t ∷ ts) h k go =
-        further (t ∷ ts) (top_behind p.kind p.span t ts) k.0 (inside_rest (length (t ∷ ts)) p ps e h) k.1 go
+    by (t ∷ ts) w h k go =
+        let same = fits_in_brackets t.enclosure t.key (stacked ts b).columns (stacked ts c).columns p.kind p.span w.0 in
+        further (t ∷ ts) (top_behind p.kind p.span t ts q.0 w) (ap (λ x. may_follow g p.kind p.span && x) same ∙ k.0)
+        (inside_rest (length (t ∷ ts)) p ps e h) k.1 go
 
-no_top : (ts : List Enclosed) (g : Begun) (all : Enclosures) → length ts ≡ 0 → g ≡ place.Nothing
-    → on_top ts g all ≡ with_begun place.Nothing all
-no_top [] g all e f = ap (λ x. with_begun x all) f
-no_top (t ∷ ts) g all e f = absurd (omega (arith, e))
+no_top : (ts : List Enclosed) (g : Begun) (all : Enclosures) → length ts ≡ 0 → on_top ts g all ≡ with_begun g all
+no_top [] g all e = refl
+no_top (t ∷ ts) g all e = absurd (omega (arith, e))
 
--- the tokens of a node that may be a key, within other enclosures, which they leave as these are
-pub record NodeRetold (ps : List Piece) (b c : Enclosures) : Type 0 where
-  pub in_place : AreInPlace (with_begun place.Nothing c) ps
-  pub before : all_behind ps (with_begun place.Nothing b) ≡ with_begun place.Nothing b
-  pub behind : all_behind ps (with_begun place.Nothing c) ≡ with_begun place.Nothing c
+-- The tokens of a node that may be a key, within other enclosures and with something else right in front: they leave
+-- the enclosures as these are.
+pub record NodeRetold (ps : List Piece) (g f : Begun) (b c : Enclosures) : Type 0 where
+  pub last : Begun
+  pub in_place : AreInPlace (with_begun f c) ps
+  pub before : all_behind ps (with_begun g b) ≡ with_begun last b
+  pub behind : all_behind ps (with_begun f c) ≡ with_begun last c
 
-pub node_retold : (ps : List Piece) (b c : Enclosures) → AreInside 0 ps 0
-    → AreInPlace (with_begun place.Nothing b) ps → NodeRetold ps b c
-node_retold ps b c h k =
-    let r = retell ps [] place.Nothing 0 b c (λ _. refl) h k in
-    let none = r.settled r.depth in record {
-      in_place = r.in_place;
-      before = r.before ∙ no_top r.top r.last b r.depth none;
-      behind = r.behind ∙ no_top r.top r.last c r.depth none;
+pub node_retold : (t : Piece) (ps : List Piece) (g f : Begun) (b c : Enclosures) → takes_node f ≡ true
+    → AreQuiet (t ∷ ps) → AreInside 0 (t ∷ ps) 0 → AreInPlace (with_begun g b) (t ∷ ps) → NodeRetold (t ∷ ps) g f b c
+node_retold t ps g f b c takes q h k =
+    let u = top_of_node t.kind t.span h.0 in
+    let P : ℕ → Type 0 = λ n. AreInside n ps 0 in
+    let Q : Enclosures → Type 0 = λ all. AreInPlace all ps in
+    let r = retell ps u.top (begun_by t.kind t.span) 0 b c u.brackets q.1 (subst P (sym u.depth) h.1)
+    (subst Q (u.behind g b) k.1) in
+    let fit = of_node_fits c.inner.enclosure c.inner.key c.columns t.kind t.span h.0 in
+    let follows = node_may_follow f t.kind t.span takes (node_begins t.kind t.span h.0) in record {
+      last = r.last;
+      in_place = (rw (follows, fit) refl, subst Q (sym (u.behind f c)) r.in_place);
+      before = ap (all_behind ps) (u.behind g b) ∙ r.before ∙ no_top r.top r.last b r.depth;
+      behind = ap (all_behind ps) (u.behind f c) ∙ r.behind ∙ no_top r.top r.last c r.depth;
     }
 
 -- no block collection has begun in front of such a node
-pub settled_before : (t : Piece) (ps : List Piece) (d : ℕ) (all : Enclosures) → AreInside 0 (t ∷ ps) d
-    → AreInPlace all (t ∷ ps) → with_begun place.Nothing all ≡ all
-settled_before t ps d all h k =
-    let w = and_parts (may_follow all.begun t.kind) (fits_at all.inner.enclosure all.inner.key t.kind t.span) k.0 in
-    ap (λ g. with_begun g all) (sym (node_follows all.begun t.kind t.span h.0 w.0))
+pub node_taken : (t : Piece) (ps : List Piece) (d : ℕ) (all : Enclosures) → AreInside 0 (t ∷ ps) d
+    → AreInPlace all (t ∷ ps) → takes_node all.begun ≡ true
+node_taken t ps d all h k =
+    let w = and_parts (may_follow all.begun t.kind t.span)
+    (fits_at all.inner.enclosure all.inner.key all.columns t.kind t.span) k.0 in
+    node_follows all.begun t.kind t.span h.0 w.0
+
+-- ## Properties right in front
+
+-- what encloses, but for properties that stand right in front
+abbrev pub calmed : Begun → Begun
+calmed (place.Property line) = place.Nothing
+calmed g = g
+
+abbrev pub calm : Enclosures → Enclosures
+calm all = with_begun (calmed all.begun) all
+
+-- properties that stand right in front end before a line
+abbrev pub IsPast : Begun → ℕ → Type 0
+IsPast (place.Property line) n = line < n
+IsPast _ n = Unit {0}
+
+-- they end on a line
+abbrev pub EndsOn : Begun → ℕ → Type 0
+EndsOn (place.Property line) n = line ≡ n
+EndsOn _ n = Unit {0}
+
+pub past_later : (g : Begun) (m n : ℕ) → m ≤ n → IsPast g m → IsPast g n
+past_later (place.Property line) m n l h = omega (arith, l, h)
+past_later _ m n l h = tt
+
+pub past_end : (g : Begun) (m n : ℕ) → m < n → EndsOn g m → IsPast g n
+past_end (place.Property line) m n l e = omega (arith, l, e)
+past_end _ m n l e = tt
+
+past_follows : (g : Begun) (span : Span) → takes_node g ≡ true → IsPast g span.start.line
+    → may_follow g tokens.BlockMappingStart span ≡ true
+past_follows place.BlockSequence span h l = absurd (cc)
+past_follows place.BlockMapping span h l = absurd (cc)
+past_follows (place.Property line) span h l = lt-ltb line span.start.line l
+past_follows _ span h l = refl
 
 -- ## A candidate turns out to be a key
 
 pub no_text : (n : ℕ) → nat_lt n n ≡ false
 no_text n = grind (arith, nat_tests)
 
--- what encloses a key's tokens
+-- what encloses a key's tokens, the first of which was met
+abbrev pub in_key : Marker → Enclosures → Enclosures
+in_key m all = with_begun place.Nothing (awaiting_colon m all)
+
 abbrev pub awaited : Opening → Marker → Enclosures → Enclosures
 awaited opening.Nothing m all = all
-awaited opening.Key m all = awaiting_colon m all
-awaited opening.BlockMappingAndKey m all = awaiting_colon m all
-awaited opening.FlowMappingAndKey m all = awaiting_colon m (turned_to place.PairKey all)
+awaited opening.Key m all = in_key m all
+awaited opening.BlockMappingAndKey m all = in_key m (begun_at place.BlockMapping m.col all)
+awaited opening.FlowMappingAndKey m all = in_key m (turned_to place.PairKey all)
 
 abbrev pub MayOpen : Opening → Enclosure → Type 0
 MayOpen opening.Nothing e = Unit {0}
 MayOpen opening.FlowMappingAndKey e = IsTrue (may_begin_pair e)
 MayOpen _ e = IsTrue (may_begin_key e)
 
+-- what is around a level: what encloses it, and the columns of the open block collections
+pub record Outside : Type 0 where
+  pub enclosed : List Enclosed
+  pub columns : List ℕ
+
 -- within e no key waits
-abbrev pub free : Enclosure → List Enclosed → Enclosures
-free e around = record { inner = record { enclosure = e; key = None }; outer = around; begun = place.Nothing }
+abbrev pub free : Enclosure → Outside → Enclosures
+free e outside = record {
+  inner = record { enclosure = e; key = None };
+  outer = outside.enclosed;
+  begun = place.Nothing;
+  columns = outside.columns;
+}
 
-pub record Opened (o : Opening) (t : Piece) (back : List Piece) (all : Enclosures) : Type 0 where
-  pub in_place : AreInPlace all (place_pieces o t ++ back)
-  pub behind : all_behind (place_pieces o t ++ back) all ≡ awaited o t.span.start all
+-- the tokens of a candidate, with what has begun right in front of it
+pub record Opened (o : Opening) (t : Piece) (back : List Piece) (g : Begun) (all : Enclosures) : Type 0 where
+  pub last : Begun
+  pub before : all_behind (t ∷ back) (with_begun g all) ≡ with_begun last all
+  pub in_place : AreInPlace (with_begun g all) (place_pieces o t ++ back)
+  pub behind : all_behind (place_pieces o t ++ back) (with_begun g all) ≡ with_begun last (awaited o t.span.start all)
 
-pub opened_in_place : (o : Opening) (t : Piece) (back : List Piece) (e : Enclosure) (around : List Enclosed)
-    → MayOpen o e → AreInside 0 (t ∷ back) 0 → AreInPlace (free e around) (t ∷ back)
-    → Opened o t back (free e around)
-opened_in_place opening.Nothing t back e around m h k =
-    let r = node_retold (t ∷ back) (free e around) (free e around) h k in
-    record { in_place = k; behind = r.before }
-opened_in_place opening.Key t back e around m h k =
-    let r = node_retold (t ∷ back) (free e around) (awaiting_colon t.span.start (free e around)) h k in
+pub opened_in_place : (o : Opening) (t : Piece) (back : List Piece) (g : Begun) (e : Enclosure)
+    (outside : Outside) → MayOpen o e → takes_node g ≡ true → IsPast g t.span.start.line → AreQuiet (t ∷ back)
+    → AreInside 0 (t ∷ back) 0 → AreInPlace (with_begun g (free e outside)) (t ∷ back)
+    → Opened o t back g (free e outside)
+opened_in_place opening.Nothing t back g e outside m f l q h k =
+    let r = node_retold t back g g (free e outside) (free e outside) f q h k in
+    record { last = r.last; before = r.before; in_place = k; behind = r.before }
+opened_in_place opening.Key t back g e outside m f l q h k =
+    let all = awaiting_colon t.span.start (free e outside) in
+    let r = node_retold t back g all.begun (free e outside) all refl q h k in
     let no = no_text t.span.start.index in
-    record { in_place = rw (no, m) (refl, r.in_place); behind = rw no r.behind }
-opened_in_place opening.BlockMappingAndKey t back e around m h k =
-    let r = node_retold (t ∷ back) (free e around) (awaiting_colon t.span.start (free e around)) h k in
+    let key = node_may_follow g tokens.Key (empty_piece t.span.start tokens.Key).span f refl in
+    record { last = r.last; before = r.before; in_place = rw (no, m, key) (refl, r.in_place); behind = rw no r.behind }
+opened_in_place opening.BlockMappingAndKey t back g e outside m f l q h k =
+    let all = awaiting_colon t.span.start (begun_at place.BlockMapping t.span.start.col (free e outside)) in
+    let r = node_retold t back g all.begun (free e outside) all refl q h k in
     let no = no_text t.span.start.index in
-    record { in_place = rw (no, m) (refl, (refl, r.in_place)); behind = rw no r.behind }
-opened_in_place opening.FlowMappingAndKey t back e around m h k =
-    let r = node_retold (t ∷ back) (free e around)
-    (awaiting_colon t.span.start (turned_to place.PairKey (free e around))) h k in
+    let start = past_follows g (empty_piece t.span.start tokens.BlockMappingStart).span f l in
+    record {
+      last = r.last;
+      before = r.before;
+      in_place = rw (no, m, start) (refl, (refl, r.in_place));
+      behind = rw no r.behind;
+    }
+opened_in_place opening.FlowMappingAndKey t back g e outside m f l q h k =
+    let all = awaiting_colon t.span.start (turned_to place.PairKey (free e outside)) in
+    let r = node_retold t back g all.begun (free e outside) all refl q h k in
     let no = no_text t.span.start.index in
+    let start = node_may_follow g tokens.FlowMappingStart (empty_piece t.span.start tokens.FlowMappingStart).span f
+    refl in
     let key = or_true (nat_lt t.span.start.index t.span.start.index) in
-    record { in_place = rw no (m, (key, r.in_place)); behind = rw no r.behind }
+    record {
+      last = r.last;
+      before = r.before;
+      in_place = rw (no, m, start) (refl, (key, r.in_place));
+      behind = rw no r.behind;
+    }
   where
     or_true : (b : Bool) → (b || true) ≡ true
     or_true true = refl

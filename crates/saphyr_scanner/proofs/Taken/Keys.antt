@@ -9,21 +9,22 @@ use Rattle.saphyr_scanner.specs.Views.Tokens.{Piece}
 use Rattle.saphyr_scanner.specs.Steps.Queue.{Place, Queue, is_empty_list, bare_place, places_with_opening, with_piece, with_opening}
 use Rattle.saphyr_scanner.specs.Steps.Core.{Core, in_block, is_too_far}
 use Rattle.saphyr_scanner.specs.Steps.Level.{Candidate, Level, is_block}
-use Rattle.saphyr_scanner.specs.TokensInPlace.{Enclosure, Enclosed, Enclosures, is_of_flow_node, AreInPlace}
+use Rattle.saphyr_scanner.specs.TokensInPlace.{Enclosure, Enclosures, is_of_flow_node, AreInPlace, Enclosed, Begun, with_begun}
 use Rattle.saphyr_scanner.specs.TokensTaken.{Collections, AreApart, AreTokens, least_column_in, IsAtColumn}
 use Rattle.std.proofs.lemmas.Bool.{ltb-false}
 use Rattle.saphyr_scanner.proofs.Leads.{flat, place_pieces}
-use Rattle.saphyr_scanner.proofs.Taken.InPlace.{all_behind, behind_append, in_place_append, in_place_parts, deeper, AreInside, inside_of, inside_append, inside_parts, inside_shift, inside_opened, node_retold, settled_before, awaited, MayOpen, free, opened_in_place}
-use Rattle.saphyr_scanner.proofs.Taken.Separated.{apart_apart}
-use Rattle.saphyr_scanner.proofs.Taken.Parts.{open_all, open_append, is_quiet, AreQuiet, quiet_columns, quiet_append, same_brackets, with_opening_there, with_opening_behind, Begins, opens_block, column_of, place_tokens, place_open}
+use Rattle.saphyr_scanner.proofs.Taken.InPlace.{all_behind, behind_append, in_place_append, in_place_parts, deeper, AreInside, inside_of, inside_append, inside_parts, inside_shift, inside_opened, node_retold, awaited, MayOpen, Outside, free, opened_in_place, node_taken, calm, IsPast, EndsOn}
+use Rattle.saphyr_scanner.specs.TokensInPlace as place
+use Rattle.saphyr_scanner.proofs.Taken.Later.{apart_later, top}
+use Rattle.saphyr_scanner.proofs.Taken.Parts.{open_all, open_append, is_quiet, AreQuiet, quiet_columns, quiet_append, same_brackets, with_opening_there, with_opening_behind, Begins, opens_block, column_of, place_tokens, place_open, EndsOnLine}
 use Rattle.saphyr_scanner.proofs.Queues.{flat_append, place_with_front}
-use Rattle.saphyr_scanner.proofs.Taken.Held.{stack_indent, Stands, Setting, TakenWithin}
+use Rattle.saphyr_scanner.proofs.Taken.Held.{stack_indent, Stands, Setting, KeepsPlace, keeps_further, TakenWithin}
 
 -- ## Candidates
 
--- A candidate is a token of the queue, from which the tokens lead as deep as its level is enclosed by others. Where its
--- level is no flow collection, no block collection began or ended since, and no block scalar came.
-pub record Key (d b : ℕ) (q : Queue) (block : Bool) (i : ℕ) (k : Candidate) : Type 0 where
+-- A candidate is a token of the queue, from which the tokens lead as deep as its level is enclosed by others. No block
+-- collection began or ended since, and no block scalar came. Properties right in front of it end on an earlier line.
+pub record Key (all : Enclosures) (d b : ℕ) (q : Queue) (block : Bool) (i : ℕ) (k : Candidate) : Type 0 where
   pub front : List Place
   pub back : List Place
   pub token : Piece
@@ -32,13 +33,14 @@ pub record Key (d b : ℕ) (q : Queue) (block : Bool) (i : ℕ) (k : Candidate) 
   pub below : k.place < b
   pub marked : token.span.start ≡ k.mark
   pub begins : Begins token
-  pub quiet : block ≡ true → AreQuiet (token ∷ flat back)
+  pub quiet : AreQuiet (token ∷ flat back)
   pub deep : block ≡ true → i ≤ k.mark.col + 1
   pub inside : AreInside 0 (token ∷ flat back) d
+  pub past : IsPast (all_behind (flat front) all).begun k.mark.line
 
-abbrev pub KeyOf : ℕ → ℕ → Queue → Bool → ℕ → Option Candidate → Type 0
-KeyOf d b q block i None = Unit {0}
-KeyOf d b q block i (Some k) = Key d b q block i k
+abbrev pub KeyOf : Enclosures → ℕ → ℕ → Queue → Bool → ℕ → Option Candidate → Type 0
+KeyOf all d b q block i None = Unit {0}
+KeyOf all d b q block i (Some k) = Key all d b q block i k
 
 abbrev pub lower : ℕ → Option Candidate → ℕ
 lower b None = b
@@ -49,18 +51,19 @@ abbrev pub IsNested : Level → List Level → Type 0
 IsNested l ls = is_block l.context ≡ is_empty_list ls
 
 -- candidates further out stand further in front, and deeper lead the tokens behind them
-abbrev pub KeysFrom : ℕ → ℕ → Queue → ℕ → List Level → Type 0
-KeysFrom d b q i [] = Unit {0}
-KeysFrom d b q i (l ∷ ls) = IsNested l ls × KeyOf d b q (is_block l.context) i l.key
-    × KeysFrom (suc d) (lower b l.key) q i ls
+abbrev pub KeysFrom : Enclosures → ℕ → ℕ → Queue → ℕ → List Level → Type 0
+KeysFrom all d b q i [] = Unit {0}
+KeysFrom all d b q i (l ∷ ls) = IsNested l ls × KeyOf all d b q (is_block l.context) i l.key
+    × KeysFrom all (suc d) (lower b l.key) q i ls
 
-abbrev pub Keys : ℕ → Queue → ℕ → List Level → Type 0
-Keys b q i ls = KeysFrom 0 b q i ls
+abbrev pub Keys : Enclosures → ℕ → Queue → ℕ → List Level → Type 0
+Keys all b q i ls = KeysFrom all 0 b q i ls
 
-key_weaken : (d a b : ℕ) (q : Queue) (block : Bool) (i : ℕ) (k : Option Candidate) → a ≤ b → KeyOf d a q block i k
-    → KeyOf d b q block i k
-key_weaken d a b q block i None h x = tt
-key_weaken d a b q block i (Some k) h x =
+key_weaken : (all : Enclosures) (d a b : ℕ) (q : Queue) (block : Bool) (i : ℕ) (k : Option Candidate) → a ≤ b
+    → KeyOf all d a q block i k
+    → KeyOf all d b q block i k
+key_weaken all d a b q block i None h x = tt
+key_weaken all d a b q block i (Some k) h x =
     record {
       front = x.front;
       back = x.back;
@@ -72,21 +75,22 @@ key_weaken d a b q block i (Some k) h x =
       begins = x.begins;
       quiet = x.quiet;
       deep = x.deep;
+      past = x.past;
       inside = x.inside;
     }
 
-pub keys_weaken : (d a b : ℕ) (q : Queue) (i : ℕ) (ls : List Level) → a ≤ b → KeysFrom d a q i ls
-    → KeysFrom d b q i ls
-keys_weaken d a b q i [] h x = tt
-keys_weaken d a b q i (l ∷ ls) h x = (
+pub keys_weaken : (all : Enclosures) (d a b : ℕ) (q : Queue) (i : ℕ) (ls : List Level) → a ≤ b → KeysFrom all d a q i ls
+    → KeysFrom all d b q i ls
+keys_weaken all d a b q i [] h x = tt
+keys_weaken all d a b q i (l ∷ ls) h x = (
   x.0,
-  key_weaken d a b q (is_block l.context) i l.key h x.1,
+  key_weaken all d a b q (is_block l.context) i l.key h x.1,
   rest l.key x.2
-      (λ z. keys_weaken (suc d) a b q i ls h z),
+      (λ z. keys_weaken all (suc d) a b q i ls h z),
 )
   where
-    rest : (k : Option Candidate) → KeysFrom (suc d) (lower a k) q i ls
-        → (KeysFrom (suc d) a q i ls → KeysFrom (suc d) b q i ls) → KeysFrom (suc d) (lower b k) q i ls
+    rest : (k : Option Candidate) → KeysFrom all (suc d) (lower a k) q i ls
+        → (KeysFrom all (suc d) a q i ls → KeysFrom all (suc d) b q i ls) → KeysFrom all (suc d) (lower b k) q i ls
     rest None z go = go z
     rest (Some k) z go = z
 
@@ -139,10 +143,11 @@ pub leads_out : (t : Piece) (ls : List Level) (d : ℕ) → ((e : ℕ) → deepe
 leads_out t [] d n = tt
 leads_out t (l ∷ ls) d n = (for_key l.key _ (n d), leads_out t ls (suc d) n)
 
-key_put : (d e b : ℕ) (q : Queue) (block : Bool) (i : ℕ) (k : Option Candidate) (t : Piece) → is_quiet t.kind ≡ true
-    → ForKey k (AreInside d (t ∷ []) e) → KeyOf d b q block i k → KeyOf e b (with_piece t q) block i k
-key_put d e b q block i None t f g x = tt
-key_put d e b q block i (Some k) t f g x =
+key_put : (all : Enclosures) (d e b : ℕ) (q : Queue) (block : Bool) (i : ℕ) (k : Option Candidate) (t : Piece)
+    → is_quiet t.kind ≡ true
+    → ForKey k (AreInside d (t ∷ []) e) → KeyOf all d b q block i k → KeyOf all e b (with_piece t q) block i k
+key_put all d e b q block i None t f g x = tt
+key_put all d e b q block i (Some k) t f g x =
     let same : flat (x.back ++ bare_place t ∷ []) ≡ flat x.back ++ t ∷ [] = flat_append x.back (bare_place t ∷ []) in
     let P : List Piece → Type 0 = λ l. AreQuiet l in
     let Q : List Piece → Type 0 = λ l. AreInside 0 (x.token ∷ l) e in
@@ -156,20 +161,19 @@ key_put d e b q block i (Some k) t f g x =
       below = x.below;
       marked = x.marked;
       begins = x.begins;
-      quiet = λ h.
-          let y = x.quiet h in
-          (y.0, subst P (sym same) (quiet_append (flat x.back) (t ∷ []) y.1 (f, tt)));
+      quiet = (x.quiet.0, subst P (sym same) (quiet_append (flat x.back) (t ∷ []) x.quiet.1 (f, tt)));
       deep = x.deep;
+      past = x.past;
       inside = subst Q (sym same) (inside_append (x.token ∷ flat x.back) (t ∷ []) 0 d e x.inside g);
     }
 
-pub keys_put : (d e b : ℕ) (q : Queue) (i : ℕ) (ls : List Level) (t : Piece) → is_quiet t.kind ≡ true
-    → LeadsDeeper t ls d e → KeysFrom d b q i ls → KeysFrom e b (with_piece t q) i ls
-keys_put d e b q i [] t f g x = tt
-keys_put d e b q i (l ∷ ls) t f g x = (
+pub keys_put : (all : Enclosures) (d e b : ℕ) (q : Queue) (i : ℕ) (ls : List Level) (t : Piece) → is_quiet t.kind ≡ true
+    → LeadsDeeper t ls d e → KeysFrom all d b q i ls → KeysFrom all e b (with_piece t q) i ls
+keys_put all d e b q i [] t f g x = tt
+keys_put all d e b q i (l ∷ ls) t f g x = (
   x.0,
-  key_put d e b q (is_block l.context) i l.key t f g.0 x.1,
-  keys_put (suc d) (suc e) (lower b l.key) q i ls t f g.1 x.2,
+  key_put all d e b q (is_block l.context) i l.key t f g.0 x.1,
+  keys_put all (suc d) (suc e) (lower b l.key) q i ls t f g.1 x.2,
 )
 
 -- ## What stands in front of a token
@@ -212,11 +216,11 @@ behind_front (f ∷ front) (g ∷ other) p r back rest e l =
     (m.0, m.1, omega (arith, m.2))
 
 -- a candidate of an inner level turns out to be a key
-key_open : (d a : ℕ) (q : Queue) (block : Bool) (i : ℕ) (k : Candidate) → Key d a q block i k
+key_open : (all : Enclosures) (d a : ℕ) (q : Queue) (block : Bool) (i : ℕ) (k : Candidate) → Key all d a q block i k
     → (e b : ℕ) (outside : Bool) (j : ℕ) (o : Option Candidate) (w : Opening) → opens_block w ≡ false
-    → b ≤ k.place → d < e → KeyOf e b q outside j o → KeyOf e b (with_opening k.place w q) outside j o
-key_open d a q block i k z e b outside j None w f h deep x = tt
-key_open d a q block i k z e b outside j (Some o) w f h deep x =
+    → b ≤ k.place → d < e → KeyOf all e b q outside j o → KeyOf all e b (with_opening k.place w q) outside j o
+key_open all d a q block i k z e b outside j None w f h deep x = tt
+key_open all d a q block i k z e b outside j (Some o) w f h deep x =
     let r = behind_front z.front x.front (bare_place z.token) (bare_place x.token) z.back x.back
     (sym x.places ∙ z.places) (omega (arith, x.at, z.at, x.below, h)) in
     let mid = r.0 in
@@ -241,8 +245,9 @@ key_open d a q block i k z e b outside j (Some o) w f h deep x =
       below = x.below;
       marked = x.marked;
       begins = x.begins;
-      quiet = λ g. let y = x.quiet g in (y.0, quiet_opened (length mid) w x.back f y.1);
+      quiet = (x.quiet.0, quiet_opened (length mid) w x.back f x.quiet.1);
       deep = x.deep;
+      past = x.past;
       inside = subst P (sym (ap flat there ∙ flat_append mid (place_with_front w z.token ∷ z.back)))
           (inside_append (x.token ∷ front) (place_pieces w z.token ++ flat z.back) 0 parts.0 e parts.1
           (opened_at parts.0 (omega (arith, some, deep)) parts.2));
@@ -258,66 +263,105 @@ key_open d a q block i k z e b outside j (Some o) w f h deep x =
     opened_at zero l y = absurd (omega (arith, l))
     opened_at (suc m) l y = inside_opened m w z.token (flat z.back) e y
 
-pub below_key : (d b : ℕ) (q : Queue) (block : Bool) (i : ℕ) (k : Option Candidate) → KeyOf d b q block i k
+pub below_key : (all : Enclosures) (d b : ℕ) (q : Queue) (block : Bool) (i : ℕ) (k : Option Candidate)
+    → KeyOf all d b q block i k
     → lower b k ≤ b
-below_key d b q block i None x = omega arith
-below_key d b q block i (Some k) x = omega (arith, x.below)
+below_key all d b q block i None x = omega arith
+below_key all d b q block i (Some k) x = omega (arith, x.below)
 
-pub keys_open : (d a : ℕ) (q : Queue) (block : Bool) (i : ℕ) (k : Candidate) → Key d a q block i k
+pub keys_open : (all : Enclosures) (d a : ℕ) (q : Queue) (block : Bool) (i : ℕ) (k : Candidate)
+    → Key all d a q block i k
     → (e b j : ℕ) (ls : List Level) (w : Opening) → opens_block w ≡ false → b ≤ k.place → d < e
-    → KeysFrom e b q j ls → KeysFrom e b (with_opening k.place w q) j ls
-keys_open d a q block i k z e b j [] w f h deep x = tt
-keys_open d a q block i k z e b j (l ∷ ls) w f h deep x =
-    let n = below_key e b q (is_block l.context) j l.key x.1 in (
+    → KeysFrom all e b q j ls → KeysFrom all e b (with_opening k.place w q) j ls
+keys_open all d a q block i k z e b j [] w f h deep x = tt
+keys_open all d a q block i k z e b j (l ∷ ls) w f h deep x =
+    let n = below_key all e b q (is_block l.context) j l.key x.1 in (
       x.0,
-      key_open d a q block i k z e b (is_block l.context) j l.key w f h deep x.1,
-      keys_open d a q block i k z (suc e) (lower b l.key) j ls w f (omega (arith, n, h)) (omega (arith, deep)) x.2,
+      key_open all d a q block i k z e b (is_block l.context) j l.key w f h deep x.1,
+      keys_open all d a q block i k z (suc e) (lower b l.key) j ls w f (omega (arith, n, h)) (omega (arith, deep)) x.2,
     )
 
 -- The tokens behind a candidate of the innermost level leave its enclosures as they are, and those behind the key's
 -- start await its colon.
-place_in_place : (e : Enclosure) (outside : List Enclosed) (all : Enclosures) (o : Opening) (front : List Place)
-    (t : Piece) (back : List Place) → MayOpen o e → AreInside 0 (t ∷ flat back) 0
-    → AreInPlace all (flat (front ++ bare_place t ∷ back))
-    → all_behind (flat (front ++ bare_place t ∷ back)) all ≡ free e outside
-    → AreInPlace all (flat (front ++ place_with_front o t ∷ back))
-    × (all_behind (flat (front ++ place_with_front o t ∷ back)) all ≡ awaited o t.span.start (free e outside))
-place_in_place e outside all o front t back m inside h i =
+record InPlaceOpened (e : Enclosure) (outside : Outside) (all : Enclosures) (o : Opening) (front : List Place)
+    (t : Piece) (back : List Place) : Type 0 where
+  in_place : AreInPlace all (flat (front ++ place_with_front o t ∷ back))
+  behind : calm (all_behind (flat (front ++ place_with_front o t ∷ back)) all)
+      ≡ awaited o t.span.start (free e outside)
+  begun : (all_behind (flat (front ++ place_with_front o t ∷ back)) all).begun
+      ≡ (all_behind (flat (front ++ bare_place t ∷ back)) all).begun
+
+calm_awaited : (o : Opening) (m : Marker) (e : Enclosure) (outside : Outside) (last : Begun)
+    → calm (with_begun last (free e outside)) ≡ free e outside
+    → calm (with_begun last (awaited o m (free e outside))) ≡ awaited o m (free e outside)
+calm_awaited o m e outside last h =
+    let g = ap (λ (x : Enclosures). x.begun) h in
+    ap (λ y. with_begun y (awaited o m (free e outside))) g ∙ same o
+  where
+    same : (o : Opening) → with_begun place.Nothing (awaited o m (free e outside)) ≡ awaited o m (free e outside)
+    same opening.Nothing = refl
+    same opening.Key = refl
+    same opening.BlockMappingAndKey = refl
+    same opening.FlowMappingAndKey = refl
+
+place_in_place : (e : Enclosure) (outside : Outside) (all : Enclosures) (o : Opening) (front : List Place)
+    (t : Piece) (back : List Place) → MayOpen o e → IsPast (all_behind (flat front) all).begun t.span.start.line
+    → AreQuiet (t ∷ flat back) → AreInside 0 (t ∷ flat back) 0 → AreInPlace all (flat (front ++ bare_place t ∷ back))
+    → calm (all_behind (flat (front ++ bare_place t ∷ back)) all) ≡ free e outside
+    → InPlaceOpened e outside all o front t back
+place_in_place e outside all o front t back m past quiet inside h i =
     let P : List Piece → Type 0 = λ l. AreInPlace all l in
     let mid = all_behind (flat front) all in
     let parts = in_place_parts (flat front) (t ∷ flat back) all
     (subst P (flat_append front (bare_place t ∷ back)) h) in
-    let settled = settled_before t (flat back) 0 mid inside parts.1 in
+    let takes = node_taken t (flat back) 0 mid inside parts.1 in
+    let stays = node_retold t (flat back) mid.begun mid.begun mid mid takes quiet inside parts.1 in
+    let before : all_behind (flat (front ++ bare_place t ∷ back)) all ≡ with_begun stays.last mid =
+    ap (λ l. all_behind l all) (flat_append front (bare_place t ∷ back))
+    ∙ behind_append (flat front) (t ∷ flat back) all ∙ stays.before in
+    let here : mid ≡ with_begun mid.begun (free e outside) =
+    ap (with_begun mid.begun) (sym (ap calm before) ∙ i) in
     let Q : Enclosures → Type 0 = λ x. AreInPlace x (t ∷ flat back) in
-    let stays = node_retold (t ∷ flat back) mid mid inside (subst Q (sym settled) parts.1) in
-    let here : mid ≡ free e outside = sym settled ∙ sym stays.before ∙ ap (all_behind (t ∷ flat back)) settled
-    ∙ sym (behind_append (flat front) (t ∷ flat back) all)
-    ∙ ap (λ l. all_behind l all) (sym (flat_append front (bare_place t ∷ back))) ∙ i in
-    let now = opened_in_place o t (flat back) e outside m inside (subst Q here parts.1) in
+    let now = opened_in_place o t (flat back) mid.begun e outside m takes past quiet inside (subst Q here parts.1) in
     let R : Enclosures → Type 0 = λ x. AreInPlace x (place_pieces o t ++ flat back) in
-    let same = flat_append front (place_with_front o t ∷ back) in (
-      subst P (sym same)
+    let same = flat_append front (place_with_front o t ∷ back) in
+    let ends : all_behind (flat (front ++ bare_place t ∷ back)) all ≡ with_begun now.last (free e outside) =
+    ap (λ l. all_behind l all) (flat_append front (bare_place t ∷ back))
+    ∙ behind_append (flat front) (t ∷ flat back) all ∙ ap (all_behind (t ∷ flat back)) here ∙ now.before in
+    let then : all_behind (flat (front ++ place_with_front o t ∷ back)) all
+    ≡ with_begun now.last (awaited o t.span.start (free e outside)) =
+    ap (λ l. all_behind l all) same ∙ behind_append (flat front) (place_pieces o t ++ flat back) all
+    ∙ ap (all_behind (place_pieces o t ++ flat back)) here ∙ now.behind in
+    record {
+      in_place = subst P (sym same)
           (in_place_append (flat front) (place_pieces o t ++ flat back) all parts.0
-          (subst R (sym here) now.in_place)),
-      ap (λ l. all_behind l all) same ∙ behind_append (flat front) (place_pieces o t ++ flat back) all
-          ∙ ap (all_behind (place_pieces o t ++ flat back)) here ∙ now.behind,
-    )
+          (subst R (sym here) now.in_place));
+      behind = ap calm then ∙ calm_awaited o t.span.start e outside now.last (sym (ap calm ends) ∙ i);
+      begun = ap (λ (x : Enclosures). x.begun) then ∙ sym (ap (λ (x : Enclosures). x.begun) ends);
+    }
+
+column_ends_json : (o : Opening) (column : ℕ) (opened : Collections)
+    → (column_of o column opened).ends_json ≡ opened.ends_json
+column_ends_json opening.BlockMappingAndKey column opened = refl
+column_ends_json _ column opened = refl
 
 -- the tokens, where a candidate of the innermost level turns out to be a key
-pub taken_open : (e : Enclosure) (outside : List Enclosed) (opened : Setting) (from : Cursor) (c d : Core) (q : Queue)
+pub taken_open : (e : Enclosure) (outside : Outside) (opened : Setting) (from : Cursor) (c d : Core) (q : Queue)
     (b : ℕ) (block : Bool) (k : Candidate)
-    (o : Opening) → Key 0 b q block c.indent k → (opens_block o ≡ true → block ≡ true)
+    (o : Opening) → Key opened.enclosures 0 b q block c.indent k → (opens_block o ≡ true → block ≡ true)
+    → (opens_block o ≡ true → EndsOnLine k.mark c.cursor)
     → (opens_block o ≡ true → c.indent ≤ k.mark.col) → (opens_block o ≡ false → block ≡ true → k.mark.col < c.indent)
-    → (block ≡ false → 0 < length c.outer) → MayOpen o e → AreApart c.cursor d.cursor
+    → (block ≡ false → 0 < length c.outer) → MayOpen o e → d.cursor ≡ c.cursor → d.key_allowed ≡ c.key_allowed
+    → length d.outer ≡ length c.outer → d.adjacent ≡ c.adjacent
     → ((open_now : Collections) → Stands open_now c → Stands (column_of o k.mark.col open_now) d)
     → TakenWithin (free e outside) opened from c q
     → TakenWithin (awaited o k.mark (free e outside)) opened from d (with_opening k.place o q)
-taken_open e outside opened from c d q b block k o x f right left outer m a s h =
+taken_open e outside opened from c d q b block k o x f near right left outer m there allowed levels stays s h =
     let n : k.place - q.handed ≡ length x.front = omega (arith, x.at) in
     let now : (with_opening k.place o q).places ≡ x.front ++ place_with_front o x.token ∷ x.back =
     ap (λ j. places_with_opening j o q.places) n ∙ ap (places_with_opening (length x.front) o) x.places
     ∙ with_opening_there o x.front (bare_place x.token) x.back in
-    let quiet : opens_block o ≡ true → AreQuiet (x.token ∷ flat x.back) = λ g. x.quiet (f g) in
+    let quiet : opens_block o ≡ true → AreQuiet (x.token ∷ flat x.back) = λ _. x.quiet in
     let P : List Place → Type 0 = λ l. AreTokens opened.collections (flat l) from h.last in
     let Q : List Place → Type 0 = λ l. Stands (open_all (flat l) opened.collections) d in
     let S : List Place → Type 0 = λ l. Stands (open_all (flat l) opened.collections) c in
@@ -328,7 +372,7 @@ taken_open e outside opened from c d q b block k o x f right left outer m a s h 
     ∙ ap (λ l. open_all l opened.collections) (flat_append x.front (bare_place x.token ∷ x.back))
     ∙ open_append (flat x.front) (x.token ∷ flat x.back) opened.collections in
     let indent : block ≡ true → least_column_in now_open.columns ≡ c.indent =
-    λ g. ap least_column_in (sym (quiet_columns (x.token ∷ flat x.back) now_open (x.quiet g))
+    λ g. ap least_column_in (sym (quiet_columns (x.token ∷ flat x.back) now_open x.quiet)
     ∙ ap (λ (y : Collections). y.columns) (sym same))
     ∙ stack_indent (open_all (flat q.places) opened.collections).columns c.indent c.outer_indents h.stands.0 in
     let further : opens_block o ≡ true → least_column_in now_open.columns ≤ x.token.span.start.col =
@@ -345,8 +389,14 @@ taken_open e outside opened from c d q b block k o x f right left outer m a s h 
       | false ↦ λ e n z. absurd (let some = outer e in let none = ltb-false 0 now_open.brackets z in
           omega (arith, some, none, brackets))
     ] g in
+    let on_line : opens_block o ≡ true → EndsOnLine x.token.span.start h.last = λ g.
+    let last = (apart_later h.last.mark h.last.rest c.cursor.mark c.cursor.rest h.apart).kept (near g).1 in
+    let start = ap (λ (m : Marker). m.line) x.marked in (
+      omega (arith, last, start, (near g).0),
+      omega (arith, last, (near g).1),
+    ) in
     let all = place_tokens opened.collections o x.front x.token x.back from h.last x.begins quiet
-    further x.inside (by block refl)
+    on_line further x.inside (by block refl)
     (subst P x.places h.tokens) in
     let stands_now = s (open_all (flat (x.front ++ bare_place x.token ∷ x.back)) opened.collections)
     (subst S x.places h.stands) in
@@ -354,17 +404,36 @@ taken_open e outside opened from c d q b block k o x f right left outer m a s h 
     ≡ column_of o k.mark.col (open_all (flat (x.front ++ bare_place x.token ∷ x.back)) opened.collections) =
     place_open opened.collections o x.front x.token x.back quiet
     ∙ ap (λ j. column_of o j (open_all (flat (x.front ++ bare_place x.token ∷ x.back)) opened.collections)) column in
-    let places = place_in_place e outside opened.enclosures o x.front x.token x.back m x.inside
+    let past = subst (λ (j : Marker). IsPast (all_behind (flat x.front) opened.enclosures).begun j.line) (sym x.marked)
+    x.past in
+    let places = place_in_place e outside opened.enclosures o x.front x.token x.back m past x.quiet x.inside
     (subst (λ l. AreInPlace opened.enclosures (flat l)) x.places h.in_place)
-    (ap (λ l. all_behind (flat l) opened.enclosures) (sym x.places) ∙ h.encloses) in
+    (ap (λ l. calm (all_behind (flat l) opened.enclosures)) (sym x.places) ∙ h.encloses) in
+    let begun : (all_behind (flat (with_opening k.place o q).places) opened.enclosures).begun
+    ≡ (all_behind (flat q.places) opened.enclosures).begun =
+    ap (λ l. (all_behind (flat l) opened.enclosures).begun) now ∙ places.begun
+    ∙ ap (λ l. (all_behind (flat l) opened.enclosures).begun) (sym x.places) in
+    let R : Cursor → Type 0 = λ u. AreApart h.last u in
     record {
       last = h.last;
       tokens = subst P (sym now) all;
-      apart = apart_apart h.last.mark h.last.rest c.cursor.mark c.cursor.rest d.cursor.mark d.cursor.rest h.apart a;
+      apart = subst R (sym there) h.apart;
       stands = subst Q (sym now) (subst (λ (l : Collections). Stands l d) (sym is) stands_now);
-      in_place = subst (λ l. AreInPlace opened.enclosures (flat l)) (sym now) places.0;
-      encloses = ap (λ l. all_behind (flat l) opened.enclosures) now ∙ places.1
+      in_place = subst (λ l. AreInPlace opened.enclosures (flat l)) (sym now) places.in_place;
+      encloses = ap (λ l. calm (all_behind (flat l) opened.enclosures)) now ∙ places.behind
           ∙ ap (λ i. awaited o i (free e outside)) x.marked;
+      place = subst (λ b. KeepsPlace b d)
+          (ap (λ l. (open_all (flat l) opened.collections).ends_json) x.places
+          ∙ sym (column_ends_json o k.mark.col (open_all (flat (x.front ++ bare_place x.token ∷ x.back))
+          opened.collections)) ∙ ap (λ (y : Collections). y.ends_json) (sym is)
+          ∙ ap (λ l. (open_all (flat l) opened.collections).ends_json) (sym now))
+          (keeps_further (open_all (flat q.places) opened.collections).ends_json c d
+          (omega (arith, ap (λ (u : Cursor). u.mark.index) there)) stays levels h.place);
+      small = h.small;
+      ends = subst (λ g. EndsOn g h.last.mark.line) (sym begun) h.ends;
+      past = λ i. subst (λ g. IsPast g d.cursor.mark.line) (sym begun) (subst
+          (λ (u : Cursor). IsPast (all_behind (flat q.places) opened.enclosures).begun u.mark.line) (sym there)
+          (h.past (sym allowed ∙ i)));
     }
 
 -- ## Where the next token begins
@@ -377,5 +446,9 @@ IsNear c = (in_block c && is_too_far c.level.key c.cursor.mark) ≡ false
 abbrev pub IsDeep : Core → Type 0
 IsDeep c = in_block c ≡ true → c.indent ≤ c.cursor.mark.col + 1
 
+-- a line that counts
+abbrev pub IsSmall : Core → Type 0
+IsSmall c = c.cursor.mark.line < top
+
 abbrev pub IsArrival : Core → Type 0
-IsArrival c = IsDeep c × IsNear c
+IsArrival c = IsDeep c × IsNear c × IsSmall c

@@ -31,6 +31,7 @@ pub record Later (m : Marker) (t : List ℕ) (n : Marker) (u : List ℕ) : Type 
   pub counted : n.index + length u ≡ m.index + length t
   pub lines : m.line ≤ top → (m.line ≤ n.line) × (n.line ≤ top)
   pub slow : n.line + m.index ≤ m.line + n.index
+  pub kept : n.line < top → m.line ≤ n.line
   pub columns : m.line ≤ top → n.line < top → n.line ≤ m.line → m.col ≤ n.col
 
 abbrev pub LaterThan : Cursor → Cursor → Type 0
@@ -42,6 +43,7 @@ later_here m t = record {
   counted = refl;
   lines = λ h. (omega arith, h);
   slow = omega arith;
+  kept = λ h. omega arith;
   columns = λ h k l. omega arith;
 }
 
@@ -52,6 +54,7 @@ later_later m t n u k v a b = record {
   counted = omega (arith, a.counted, b.counted);
   lines = λ h. let x = a.lines h in let y = b.lines x.1 in (omega (arith, x.0, y.0), y.1);
   slow = omega (arith, a.slow, b.slow);
+  kept = λ h. let y = b.kept h in let x = a.kept (omega (arith, y, h)) in omega (arith, x, y);
   columns = λ h i l.
       let x = a.lines h in
       let y = b.lines x.1 in
@@ -67,6 +70,7 @@ along_later m n t u l = record {
   counted = omega (arith, l);
   lines = λ h. (omega arith, h);
   slow = omega arith;
+  kept = λ h. omega arith;
   columns = λ h i k. omega arith;
 }
 
@@ -78,6 +82,7 @@ line_later m n t u k l =
       counted = omega (arith, l);
       lines = λ h. (omega arith, omega arith);
       slow = omega arith;
+      kept = λ h. omega (arith, h);
       columns = λ h i j. absurd (omega arith);
     }
 
@@ -160,6 +165,7 @@ mark_later span s t h =
       counted = omega (arith, k);
       lines = λ h. (omega arith, h);
       slow = omega arith;
+      kept = λ h. omega (arith, h);
       columns = λ h i k. omega arith;
     })
 

@@ -1,29 +1,31 @@
--- Tokens that change nothing of what encloses those behind.
-use Rattle.std.proofs.Common.{◌≡◌, Bool, true, false, List, refl, IsTrue}
+-- Tokens that change nothing of what encloses those behind, but for properties that stand right in front.
+use Rattle.std.proofs.Common.{◌≡◌, ℕ, Bool, true, false, List, refl, IsTrue}
 use Rattle.saphyr_scalar.specs.declared.scalar.position.Span.{Span}
 use Rattle.saphyr_scanner.specs.Grammar.Tokens as tokens
 use Rattle.saphyr_scanner.specs.Grammar.Tokens.{Kind}
 use Rattle.saphyr_scanner.specs.Views.Tokens.{Piece}
 use Rattle.saphyr_scanner.specs.TokensTaken.{Collections, open_behind}
-use Rattle.saphyr_scanner.specs.TokensInPlace.{Enclosure, Enclosed, enclosures_behind, fits}
-use Rattle.saphyr_scanner.proofs.Taken.InPlace.{free}
+use Rattle.saphyr_scanner.specs.TokensInPlace.{Enclosure, enclosures_behind, fits}
+use Rattle.saphyr_scanner.proofs.Taken.InPlace.{Outside, free, calm}
 use Rattle.saphyr_scanner.proofs.Taken.Keys.{KeepsDepth}
 
 -- a token that opens and closes no bracket
 abbrev pub KeepsBrackets : Piece → Type 0
 KeepsBrackets t = (opened : Collections) → (open_behind t.kind t.span opened).brackets ≡ opened.brackets
 
--- A token that neither opens nor closes a bracket, a single pair or an implicit key, and may stand anywhere.
+-- A token that neither opens nor closes a bracket, a block collection, a single pair or an implicit key, and may stand
+-- anywhere.
 pub record Neutral (t : Piece) : Type 0 where
   pub brackets : KeepsBrackets t
   pub depth : KeepsDepth t
-  pub encloses : (e : Enclosure) (outside : List Enclosed)
-      → enclosures_behind t.kind t.span (free e outside) ≡ free e outside
-  pub fits : (e : Enclosure) → IsTrue (fits e t.kind t.span)
+  pub encloses : (e : Enclosure) (outside : Outside)
+      → calm (enclosures_behind t.kind t.span (free e outside)) ≡ free e outside
+  pub fits : (e : Enclosure) (columns : List ℕ) → IsTrue (fits e columns t.kind t.span)
 
 abbrev pub is_neutral : Kind → Bool
 is_neutral tokens.BlockSequenceStart = false
 is_neutral tokens.BlockMappingStart = false
+is_neutral tokens.BlockEnd = false
 is_neutral tokens.FlowSequenceStart = false
 is_neutral tokens.FlowSequenceEnd = false
 is_neutral tokens.FlowMappingStart = false
@@ -36,6 +38,7 @@ is_neutral _ = true
 pub neutral : (kind : Kind) (span : Span) → is_neutral kind ≡ true → Neutral (record { span = span; kind = kind })
 neutral tokens.BlockSequenceStart span e = absurd (cc)
 neutral tokens.BlockMappingStart span e = absurd (cc)
+neutral tokens.BlockEnd span e = absurd (cc)
 neutral tokens.FlowSequenceStart span e = absurd (cc)
 neutral tokens.FlowSequenceEnd span e = absurd (cc)
 neutral tokens.FlowMappingStart span e = absurd (cc)
@@ -43,4 +46,4 @@ neutral tokens.FlowMappingEnd span e = absurd (cc)
 neutral tokens.FlowEntry span e = absurd (cc)
 neutral tokens.Key span e = absurd (cc)
 neutral tokens.Value span e = absurd (cc)
-neutral _ span e = record { brackets = λ x. refl; depth = λ d. refl; encloses = λ x y. refl; fits = λ x. refl }
+neutral _ span e = record { brackets = λ x. refl; depth = λ d. refl; encloses = λ x y. refl; fits = λ x y. refl }

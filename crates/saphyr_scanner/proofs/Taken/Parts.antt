@@ -1,5 +1,5 @@
 -- Tokens that are taken from a text, one part behind the other.
-use Rattle.std.proofs.Common.{◌≡◌, ℕ, zero, suc, ◌+◌, ◌⊎◌, Bool, true, false, List, [], ◌∷◌, ◌++◌, length, refl, sym, ap, ◌∙◌, arith, subst, inl, inr, IsTrue, ◌≤◌}
+use Rattle.std.proofs.Common.{◌≡◌, ℕ, zero, suc, ◌+◌, ◌⊎◌, Bool, true, false, List, [], ◌∷◌, ◌++◌, length, refl, sym, ap, ◌∙◌, arith, subst, inl, inr, IsTrue, ◌≤◌, ◌<◌}
 use Rattle.std.specs.Prelude.{◌-◌, slice_index, if◌then◌else◌, nat_lt}
 use Rattle.std.proofs.lemmas.Bool.{lt-ltb}
 use Rattle.saphyr_input.proofs.Basics.Booleans.{by_test}
@@ -7,6 +7,7 @@ use Rattle.saphyr_scalar.specs.declared.scalar.position.Marker.{Marker}
 use Rattle.saphyr_scalar.specs.declared.scalar.position.Span.{Span}
 use Rattle.saphyr_scalar.specs.declared.scalar.style.ScalarStyle.TheVariants as style
 use Rattle.saphyr_scalar.specs.Views.Cursor.{Cursor}
+use Rattle.scalar_values.specs.declared.flow.Quote.TheVariants.{Single, Double}
 use Rattle.saphyr_scanner.specs.declared.queue.Opening.{Opening}
 use Rattle.saphyr_scanner.specs.declared.queue.Opening.TheVariants as opening
 use Rattle.saphyr_scanner.specs.Grammar.Tokens as tokens
@@ -14,11 +15,14 @@ use Rattle.saphyr_scanner.specs.Grammar.Tokens.{Kind}
 use Rattle.saphyr_scanner.specs.Views.Tokens.{Piece}
 use Rattle.saphyr_scanner.specs.Steps.Queue.{Place, bare_place, places_with_opening, empty_piece}
 use Rattle.saphyr_scanner.specs.TokensTaken as taken
-use Rattle.saphyr_scanner.specs.TokensTaken.{Collections, Surroundings, with_columns, with_brackets, surroundings_in, IsToken, AreTokens, begins_text, open_behind, least_column_in, IsAtColumn}
+use Rattle.saphyr_scanner.specs.TokensTaken.{Collections, Surroundings, with_columns, with_brackets, with_ends_json, surroundings_in, IsToken, AreTokens, begins_text, open_behind, least_column_in, IsAtColumn}
 use Rattle.saphyr_scanner.specs.TokensInPlace.{has_text, is_of_flow_node}
 use Rattle.saphyr_scanner.proofs.Leads.{flat, place_pieces}
 use Rattle.saphyr_scanner.proofs.Queues.{flat_append, place_with_front}
+use Rattle.saphyr_scanner.proofs.Taken.Later.{top, apart_later, token_later, tokens_later}
+use Rattle.saphyr_scanner.proofs.Taken.OnLine.{plain_on_line, quoted_on_line}
 use Rattle.saphyr_scanner.proofs.Taken.InPlace.{no_text, deeper, AreInside, inside_first, inside_rest}
+pub use Rattle.saphyr_scanner.proofs.Taken.InPlace.{is_quiet, AreQuiet}
 
 -- what is open behind tokens
 abbrev pub open_all : List Piece → Collections → Collections
@@ -49,39 +53,42 @@ tokens_part opened (p ∷ ps) qs s u h =
     let r = tokens_part (open_behind p.kind p.span opened) ps qs h.1 u h.4 in
     record { between = r.between; front = (h.0, h.1, h.2, h.3, r.front); back = r.back }
 
--- ## Tokens that neither begin nor end a block collection nor an entry of a sequence, and are no block scalars
-
-abbrev pub is_quiet : Kind → Bool
-is_quiet tokens.BlockSequenceStart = false
-is_quiet tokens.BlockMappingStart = false
-is_quiet tokens.BlockEnd = false
-is_quiet tokens.BlockEntry = false
-is_quiet (tokens.Scalar style.Literal value) = false
-is_quiet (tokens.Scalar style.Folded value) = false
-is_quiet _ = true
+-- ## Quiet tokens
 
 -- a block collection begins at a column
 abbrev pub with_column : ℕ → Collections → Collections
 with_column column opened = with_columns (column ∷ opened.columns) opened
 
--- in flow, or among the tokens of a node that may be a key, a quiet token is one whichever columns are open
-pub quiet_token : (f : Bool) (i j : ℕ) (kind : Kind) (span : Span) (s t : Cursor) → is_quiet kind ≡ true
-    → IsTrue (is_of_flow_node kind span) ⊎ (f ≡ true)
-    → IsToken (record { in_flow = f; indent = i }) kind span s t
-    → IsToken (record { in_flow = f; indent = j }) kind span s t
-quiet_token f i j (tokens.Scalar style.Literal value) span s t q w h = absurd (cc)
-quiet_token f i j (tokens.Scalar style.Folded value) span s t q w h = absurd (cc)
-quiet_token f i j tokens.BlockSequenceStart span s t q w h = absurd (cc)
-quiet_token f i j tokens.BlockMappingStart span s t q w h = absurd (cc)
-quiet_token f i j tokens.BlockEntry span s t q w h = absurd (cc)
-quiet_token f i j tokens.BlockEnd span s t q w h = absurd (cc)
-quiet_token f i j (tokens.Scalar style.Plain value) span s t q w h = h
-quiet_token f i j (tokens.Scalar style.SingleQuoted value) span s t q w h = h
-quiet_token f i j (tokens.Scalar style.DoubleQuoted value) span s t q w h = h
-quiet_token f i j tokens.Key span s t q (inl n) h = absurd (let no : false ≡ true = n in cc)
-quiet_token f i j tokens.Key span s t q (inr e) (inr h) = inr (h.0, h.1, h.2, h.3, λ g. absurd (cc))
-quiet_token f i j tokens.Key span s t q (inr e) (inl h) = inl (h.0, h.1, h.2, h.3, λ g. absurd (cc))
-quiet_token f i j _ span s t q w h = h
+-- In flow, or among the tokens of a node that may be a key, a quiet token on one line is one whichever columns are
+-- open.
+pub quiet_token : (f b : Bool) (i j : ℕ) (kind : Kind) (span : Span) (s t : Cursor) → is_quiet kind ≡ true
+    → IsTrue (is_of_flow_node kind span) ⊎ (f ≡ true) → t.mark.line ≤ s.mark.line → t.mark.line < top
+    → IsToken (record { in_flow = f; indent = i; ends_json = b }) kind span s t
+    → IsToken (record { in_flow = f; indent = j; ends_json = b }) kind span s t
+quiet_token f b i j (tokens.Scalar style.Literal value) span s t q w le small h = absurd (cc)
+quiet_token f b i j (tokens.Scalar style.Folded value) span s t q w le small h = absurd (cc)
+quiet_token f b i j tokens.BlockSequenceStart span s t q w le small h = absurd (cc)
+quiet_token f b i j tokens.BlockMappingStart span s t q w le small h = absurd (cc)
+quiet_token f b i j tokens.BlockEntry span s t q w le small h = absurd (cc)
+quiet_token f b i j tokens.BlockEnd span s t q w le small h = absurd (cc)
+quiet_token f b i j (tokens.Scalar style.Plain value) span s t q w le small h = record {
+  start = h.start;
+  begins = h.begins;
+  is_ink = h.is_ink;
+  no_indicator = h.no_indicator;
+  no_block_scalar = h.no_block_scalar;
+  reading = h.reading;
+  uncut = h.uncut;
+  lines = plain_on_line f j s t value span.end h.reading le small;
+}
+quiet_token f b i j (tokens.Scalar style.SingleQuoted value) span s t q w le small h =
+    (h.0, h.1, h.2, h.3, h.4, h.5, h.6, quoted_on_line (j - 1) Single h.0 s t h.1 h.3 le small)
+quiet_token f b i j (tokens.Scalar style.DoubleQuoted value) span s t q w le small h =
+    (h.0, h.1, h.2, h.3, h.4, h.5, h.6, quoted_on_line (j - 1) Double h.0 s t h.1 h.3 le small)
+quiet_token f b i j tokens.Key span s t q (inl n) le small h = absurd (let no : false ≡ true = n in cc)
+quiet_token f b i j tokens.Key span s t q (inr e) le small (inr h) = inr (h.0, h.1, h.2, h.3, λ g. absurd (cc))
+quiet_token f b i j tokens.Key span s t q (inr e) le small (inl h) = inl (h.0, h.1, h.2, h.3, λ g. absurd (cc))
+quiet_token f b i j _ span s t q w le small h = h
 
 -- the columns stay behind a quiet token
 pub quiet_open : (kind : Kind) (span : Span) (opened : Collections) → is_quiet kind ≡ true
@@ -103,23 +110,21 @@ quiet_column column tokens.BlockMappingStart span opened q = absurd (cc)
 quiet_column column tokens.BlockEnd span opened q = absurd (cc)
 quiet_column column tokens.FlowMappingStart span opened q = by (has_text span)
   where
-    by : (b : Bool)
-        → (if b then with_brackets (opened.brackets + 1) (with_column column opened) else with_column column opened)
-        ≡ with_column column (if b then with_brackets (opened.brackets + 1) opened else opened)
+    by : (b : Bool) → with_ends_json (if b then false else opened.ends_json)
+        (if b then with_brackets (opened.brackets + 1) (with_column column opened) else with_column column opened)
+        ≡ with_column column (with_ends_json (if b then false else opened.ends_json)
+        (if b then with_brackets (opened.brackets + 1) opened else opened))
     by true = refl
     by false = refl
 quiet_column column tokens.FlowMappingEnd span opened q = by (has_text span)
   where
-    by : (b : Bool)
-        → (if b then with_brackets (opened.brackets - 1) (with_column column opened) else with_column column opened)
-        ≡ with_column column (if b then with_brackets (opened.brackets - 1) opened else opened)
+    by : (b : Bool) → with_ends_json (if b then true else opened.ends_json)
+        (if b then with_brackets (opened.brackets - 1) (with_column column opened) else with_column column opened)
+        ≡ with_column column (with_ends_json (if b then true else opened.ends_json)
+        (if b then with_brackets (opened.brackets - 1) opened else opened))
     by true = refl
     by false = refl
 quiet_column column _ span opened q = refl
-
-abbrev pub AreQuiet : List Piece → Type 0
-AreQuiet [] = Unit {0}
-AreQuiet (p ∷ ps) = (is_quiet p.kind ≡ true) × AreQuiet ps
 
 pub quiet_columns : (ps : List Piece) (opened : Collections) → AreQuiet ps
     → (open_all ps opened).columns ≡ opened.columns
@@ -187,19 +192,31 @@ inside_in_flow zero p ps e n l x = inl x.0
 inside_in_flow (suc d) p ps e n l x = inr (lt-ltb 0 n (omega (arith, l)))
 
 pub quiet_tokens : (column : ℕ) (opened : Collections) (ps : List Piece) (s u : Cursor) (d e : ℕ)
-    → d ≤ opened.brackets → AreInside d ps e → AreQuiet ps
+    → d ≤ opened.brackets → AreInside d ps e → AreQuiet ps → u.mark.line ≤ s.mark.line → u.mark.line < top
     → AreTokens opened ps s u → AreTokens (with_column column opened) ps s u
-quiet_tokens column opened [] s u d e l x q h = h
-quiet_tokens column opened (p ∷ ps) s u d e l x q h = (
-  h.0,
-  h.1,
-  h.2,
-  quiet_token (surroundings_in opened).in_flow (surroundings_in opened).indent (column + 1) p.kind p.span h.0 h.1 q.0
-      (inside_in_flow d p ps e opened.brackets l x) h.3,
-  subst (λ (x : Collections). AreTokens x ps h.1 u) (sym (quiet_column column p.kind p.span opened q.0))
-      (quiet_tokens column (open_behind p.kind p.span opened) ps h.1 u (deeper p.kind p.span d) e
-      (brackets_deep p.kind p.span opened d l) (inside_rest d p ps e x) q.1 h.4),
-)
+quiet_tokens column opened [] s u d e l x q le small h = h
+quiet_tokens column opened (p ∷ ps) s u d e l x q le small h =
+    let behind : h.1.mark.line ≤ u.mark.line = (tokens_later (open_behind p.kind p.span opened) ps h.1 u h.4).kept small
+    in
+    let there : h.0.mark.line ≤ h.1.mark.line =
+    (token_later (surroundings_in opened) p.kind p.span h.0 h.1 h.3).kept (omega (arith, behind, small)) in
+    let here : s.mark.line ≤ h.0.mark.line =
+    (apart_later s.mark s.rest h.0.mark h.0.rest h.2).kept (omega (arith, behind, there, small)) in (
+      h.0,
+      h.1,
+      h.2,
+      quiet_token (surroundings_in opened).in_flow opened.ends_json (surroundings_in opened).indent (column + 1) p.kind
+          p.span h.0 h.1 q.0 (inside_in_flow d p ps e opened.brackets l x) (omega (arith, behind, here, le))
+          (omega (arith, behind, small)) h.3,
+      subst (λ (x : Collections). AreTokens x ps h.1 u) (sym (quiet_column column p.kind p.span opened q.0))
+          (quiet_tokens column (open_behind p.kind p.span opened) ps h.1 u (deeper p.kind p.span d) e
+          (brackets_deep p.kind p.span opened d l) (inside_rest d p ps e x) q.1 (omega (arith, here, there, le)) small
+          h.4),
+    )
+
+-- where a key ends, on the line where it begins
+abbrev pub EndsOnLine : Marker → Cursor → Type 0
+EndsOnLine m u = (u.mark.line ≤ m.line) × (u.mark.line < top)
 
 pub quiet_all : (column : ℕ) (ps : List Piece) (opened : Collections) → AreQuiet ps
     → open_all ps (with_column column opened) ≡ with_column column (open_all ps opened)
@@ -208,7 +225,15 @@ quiet_all column (p ∷ ps) opened q =
     ap (open_all ps) (quiet_column column p.kind p.span opened q.0)
     ∙ quiet_all column ps (open_behind p.kind p.span opened) q.1
 
--- ## A single pair's start and end
+-- ## The start of a key and of a block mapping, and a single pair's start and end
+
+key_starts : (m : Marker) (opened : Collections)
+    → open_behind tokens.Key (record { start = m; end = m }) opened ≡ opened
+key_starts m opened = rw (no_text m.index) refl
+
+mapping_starts : (m : Marker) (opened : Collections)
+    → open_behind tokens.BlockMappingStart (record { start = m; end = m }) opened ≡ with_column m.col opened
+mapping_starts m opened = rw (no_text m.index) refl
 
 pub pair_starts : (m : Marker) (opened : Collections)
     → open_behind tokens.FlowMappingStart (record { start = m; end = m }) opened ≡ opened
@@ -249,24 +274,27 @@ column_of _ column opened = opened
 
 opening_tokens : (opened : Collections) (o : Opening) (t : Piece) (back : List Piece) (s u : Cursor) → Begins t
     → (opens_block o ≡ true → AreQuiet (t ∷ back))
+    → (opens_block o ≡ true → EndsOnLine t.span.start u)
     → (opens_block o ≡ true → least_column_in opened.columns ≤ t.span.start.col) → AreInside 0 (t ∷ back) 0
     → (opens_block o ≡ false → nat_lt 0 opened.brackets ≡ false
     → IsAtColumn (least_column_in opened.columns) t.span.start) → AreTokens opened (t ∷ back) s u
     → AreTokens opened (place_pieces o t ++ back) s u
-opening_tokens opened opening.Nothing t back s u b q r x c h = h
-opening_tokens opened opening.Key t back s u b q r x c h =
+opening_tokens opened opening.Nothing t back s u b q n r x c h = h
+opening_tokens opened opening.Key t back s u b q n r x c h =
     let place = b _ h.0 h.1 h.3 in
-    let At : Marker → Type 0 = λ m. IsAtColumn (least_column_in opened.columns) m in (
+    let At : Marker → Type 0 = λ m. IsAtColumn (least_column_in opened.columns) m in
+    let P : Collections → Type 0 = λ x. AreTokens x (t ∷ back) h.0 u in (
       h.0,
       h.0,
       h.2,
       inr (refl, place.0, refl, place.1, λ f. subst At place.0 (c refl f)),
-      (h.0, h.1, taken.nothing _ _, h.3, h.4),
+      subst P (sym (key_starts t.span.start opened)) (h.0, h.1, taken.nothing _ _, h.3, h.4),
     )
-opening_tokens opened opening.FlowMappingAndKey t back s u b q r x c h =
+opening_tokens opened opening.FlowMappingAndKey t back s u b q n r x c h =
     let place = b _ h.0 h.1 h.3 in
     let At : Marker → Type 0 = λ m. IsAtColumn (least_column_in opened.columns) m in
-    let P : Collections → Type 0 = λ x. AreTokens x (empty_piece t.span.start tokens.Key ∷ t ∷ back) h.0 u in (
+    let P : Collections → Type 0 = λ x. AreTokens x (empty_piece t.span.start tokens.Key ∷ t ∷ back) h.0 u in
+    let Q : Collections → Type 0 = λ x. AreTokens x (t ∷ back) h.0 u in (
       h.0,
       h.0,
       h.2,
@@ -276,25 +304,29 @@ opening_tokens opened opening.FlowMappingAndKey t back s u b q r x c h =
         h.0,
         taken.nothing _ _,
         inr (refl, place.0, refl, place.1, λ f. subst At place.0 (c refl f)),
-        (h.0, h.1, taken.nothing _ _, h.3, h.4),
+        subst Q (sym (key_starts t.span.start opened)) (h.0, h.1, taken.nothing _ _, h.3, h.4),
       ),
     )
-opening_tokens opened opening.BlockMappingAndKey t back s u b q r x c h =
+opening_tokens opened opening.BlockMappingAndKey t back s u b q n r x c h =
     let place = b _ h.0 h.1 h.3 in
     let k = quiet_tokens t.span.start.col opened (t ∷ back) h.0 u 0 0 (omega arith) x (q refl)
+    (subst (λ (m : Marker). u.mark.line ≤ m.line) place.0 (n refl).0) (n refl).1
     (h.0, h.1, taken.nothing _ _, h.3, h.4) in
     let right : least_column_in opened.columns ≤ h.0.mark.col =
-    subst (λ (m : Marker). least_column_in opened.columns ≤ m.col) place.0 (r refl) in (
+    subst (λ (m : Marker). least_column_in opened.columns ≤ m.col) place.0 (r refl) in
+    let begun = with_column t.span.start.col opened in
+    let P : Collections → Type 0 = λ x. AreTokens x (empty_piece t.span.start tokens.Key ∷ t ∷ back) h.0 u in
+    let Q : Collections → Type 0 = λ x. AreTokens x (t ∷ back) h.0 u in (
       h.0,
       h.0,
       h.2,
       (refl, place.0, refl, place.1, right),
-      (
+      subst P (sym (mapping_starts t.span.start opened)) (
         h.0,
         h.0,
         taken.nothing _ _,
         inr (refl, place.0, refl, place.1, λ _. ap (λ (m : Marker). m.col + 1) place.0),
-        k,
+        subst Q (sym (key_starts t.span.start begun)) k,
       ),
     )
 
@@ -302,25 +334,30 @@ opening_open : (opened : Collections) (o : Opening) (t : Piece) (back : List Pie
     → (opens_block o ≡ true → AreQuiet (t ∷ back))
     → open_all (place_pieces o t ++ back) opened ≡ column_of o t.span.start.col (open_all (t ∷ back) opened)
 opening_open opened opening.Nothing t back q = refl
-opening_open opened opening.Key t back q = refl
+opening_open opened opening.Key t back q = ap (open_all (t ∷ back)) (key_starts t.span.start opened)
 opening_open opened opening.FlowMappingAndKey t back q =
     ap (open_all (empty_piece t.span.start tokens.Key ∷ t ∷ back)) (pair_starts t.span.start opened)
-opening_open opened opening.BlockMappingAndKey t back q = quiet_all t.span.start.col (t ∷ back) opened (q refl)
+    ∙ ap (open_all (t ∷ back)) (key_starts t.span.start opened)
+opening_open opened opening.BlockMappingAndKey t back q =
+    ap (open_all (empty_piece t.span.start tokens.Key ∷ t ∷ back)) (mapping_starts t.span.start opened)
+    ∙ ap (open_all (t ∷ back)) (key_starts t.span.start (with_column t.span.start.col opened))
+    ∙ quiet_all t.span.start.col (t ∷ back) opened (q refl)
 
 -- a token in the queue, in front of which nothing stands, is opened
 pub place_tokens : (opened : Collections) (o : Opening) (front : List Place) (t : Piece) (back : List Place)
     (s u : Cursor) → Begins t → (opens_block o ≡ true → AreQuiet (t ∷ flat back))
+    → (opens_block o ≡ true → EndsOnLine t.span.start u)
     → (opens_block o ≡ true → least_column_in (open_all (flat front) opened).columns ≤ t.span.start.col)
     → AreInside 0 (t ∷ flat back) 0
     → (opens_block o ≡ false → nat_lt 0 (open_all (flat front) opened).brackets ≡ false
     → IsAtColumn (least_column_in (open_all (flat front) opened).columns) t.span.start)
     → AreTokens opened (flat (front ++ bare_place t ∷ back)) s u
     → AreTokens opened (flat (front ++ place_with_front o t ∷ back)) s u
-place_tokens opened o front t back s u b q c x at h =
+place_tokens opened o front t back s u b q n c x at h =
     let P : List Piece → Type 0 = λ l. AreTokens opened l s u in
     let r = tokens_part opened (flat front) (t ∷ flat back) s u
     (subst P (flat_append front (bare_place t ∷ back)) h) in
-    let k = opening_tokens (open_all (flat front) opened) o t (flat back) r.between u b q c x at r.back in
+    let k = opening_tokens (open_all (flat front) opened) o t (flat back) r.between u b q n c x at r.back in
     subst P (sym (flat_append front (place_with_front o t ∷ back)))
     (tokens_append opened (flat front) (place_pieces o t ++ flat back) s r.between u r.front k)
 

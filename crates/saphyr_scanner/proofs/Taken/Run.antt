@@ -20,10 +20,10 @@ use Rattle.saphyr_scanner.proofs.Leads.{flat, place_pieces}
 use Rattle.saphyr_scanner.proofs.Effects.Readers.{Readers, TextLaws, RefusalLaws}
 use Rattle.saphyr_scanner.proofs.Taken.Later.{LaterThan, later_here, later_later, tokens_later}
 use Rattle.saphyr_scanner.proofs.Taken.Parts.{open_append, tokens_append, tokens_part}
-use Rattle.saphyr_scanner.proofs.Taken.Held.{Stands, Setting, setting_behind}
+use Rattle.saphyr_scanner.proofs.Taken.Held.{Stands, Setting, KeepsPlace, setting_behind}
 use Rattle.saphyr_scanner.proofs.Taken.Keys.{Key, KeyOf, lower, KeysFrom, keys_weaken}
-use Rattle.saphyr_scanner.proofs.Taken.InPlace.{behind_append, in_place_append, in_place_parts}
-use Rattle.saphyr_scanner.specs.TokensInPlace.{not_enclosed, AreInPlace}
+use Rattle.saphyr_scanner.proofs.Taken.InPlace.{all_behind, behind_append, in_place_append, in_place_parts, calm, IsPast, EndsOn}
+use Rattle.saphyr_scanner.specs.TokensInPlace.{Enclosures, not_enclosed, AreInPlace}
 use Rattle.saphyr_scanner.proofs.Taken.Fetch.{Read, Ready, settled_ready, read_ready}
 use Rattle.saphyr_scanner.proofs.Taken.Places.{Reaches, reaches_reaches, place_of, tokens_reached}
 use Rattle.saphyr_scanner.proofs.Told.Documents.{NotedState}
@@ -35,18 +35,23 @@ use Rattle.saphyr_scanner.proofs.Queues.{holding}
 
 -- ## A place is handed out
 
-key_handed : (d b n : ℕ) (p : Place) (ps : List Place) (block : Bool) (i : ℕ) (k : Option Candidate)
-    → is_place n k ≡ false → KeyOf d b (record { places = p ∷ ps; handed = n }) block i k
-    → KeyOf d b (record { places = ps; handed = n + 1 }) block i k
-key_handed d b n p ps block i None e x = tt
-key_handed d b n p ps block i (Some k) e x = by x.front x.places x.at
+key_handed : (all : Enclosures) (d b n : ℕ) (p : Place) (ps : List Place) (block : Bool) (i : ℕ)
+    (k : Option Candidate)
+    → is_place n k ≡ false → KeyOf all d b (record { places = p ∷ ps; handed = n }) block i k
+    → KeyOf (all_behind (place_pieces p.opening p.piece) all) d b (record { places = ps; handed = n + 1 }) block i k
+key_handed all d b n p ps block i None e x = tt
+key_handed all d b n p ps block i (Some k) e x = by x.front x.places x.at x.past
   where
+    first : (w : Place) (ws front : List Place) → p ∷ ps ≡ (w ∷ ws) ++ front → w ≡ p
+    first w ws front f = sym (ap (λ l. elim l [ [] ↦ p | y ∷ ys ↦ y ]) f)
+
     by : (front : List Place) → p ∷ ps ≡ front ++ bare_place x.token ∷ x.back → k.place ≡ n + length front
-        → Key d b (record { places = ps; handed = n + 1 }) block i k
-    by [] f at =
+        → IsPast (all_behind (flat front) all).begun k.mark.line
+        → Key (all_behind (place_pieces p.opening p.piece) all) d b (record { places = ps; handed = n + 1 }) block i k
+    by [] f at past =
         let same : k.place ≡ n = omega (arith, at) in
         absurd (let g : (k.place == n) ≡ true = ap (λ m. m == n) same ∙ eq-eqb n n refl in cc)
-    by (w ∷ ws) f at = record {
+    by (w ∷ ws) f at past = record {
       front = ws;
       back = x.back;
       token = x.token;
@@ -58,17 +63,23 @@ key_handed d b n p ps block i (Some k) e x = by x.front x.places x.at
       quiet = x.quiet;
       deep = x.deep;
       inside = x.inside;
+      past =
+          let P : Enclosures → Type 0 = λ y. IsPast y.begun k.mark.line in
+          let Q : Place → Type 0 = λ y. IsPast (all_behind (flat ws) (all_behind (place_pieces y.opening y.piece)
+          all)).begun k.mark.line in
+          subst Q (first w ws (bare_place x.token ∷ x.back) f)
+          (subst P (behind_append (place_pieces w.opening w.piece) (flat ws) all) past);
     }
 
-keys_handed : (d b n : ℕ) (p : Place) (ps : List Place) (i : ℕ) (ls : List Level) → any_holds n ls ≡ false
-    → KeysFrom d b (record { places = p ∷ ps; handed = n }) i ls
-    → KeysFrom d b (record { places = ps; handed = n + 1 }) i ls
-keys_handed d b n p ps i [] e x = tt
-keys_handed d b n p ps i (l ∷ ls) e x =
+keys_handed : (all : Enclosures) (d b n : ℕ) (p : Place) (ps : List Place) (i : ℕ) (ls : List Level)
+    → any_holds n ls ≡ false → KeysFrom all d b (record { places = p ∷ ps; handed = n }) i ls
+    → KeysFrom (all_behind (place_pieces p.opening p.piece) all) d b (record { places = ps; handed = n + 1 }) i ls
+keys_handed all d b n p ps i [] e x = tt
+keys_handed all d b n p ps i (l ∷ ls) e x =
     let f = or_parts (holds n l) (any_holds n ls) e in (
       x.0,
-      key_handed d b n p ps (is_block l.context) i l.key f.0 x.1,
-      keys_handed (suc d) (lower b l.key) n p ps i ls f.1 x.2,
+      key_handed all d b n p ps (is_block l.context) i l.key f.0 x.1,
+      keys_handed all (suc d) (lower b l.key) n p ps i ls f.1 x.2,
     )
 
 not_held : (ended held : Bool) → ended ≡ false → (not ended && held) ≡ false → held ≡ false
@@ -96,6 +107,7 @@ one_left text opened from c p ps n l h e =
     let w = in_place_parts ts (flat ps) opened.enclosures h.taken.in_place in
     let count : n + length (p ∷ ps) ≡ n + 1 + length ps = omega arith in
     let further = tokens_later opened.collections ts from r.between r.front in
+    let same = behind_append ts (flat ps) opened.enclosures in
     let reached = tokens_reached opened.collections ts from r.between r.front in
     record {
       between = r.between;
@@ -112,12 +124,19 @@ one_left text opened from c p ps n l h e =
           apart = h.taken.apart;
           stands = subst (λ (x : Collections). Stands x c) (open_append ts (flat ps) opened.collections) h.taken.stands;
           in_place = w.1;
-          encloses = sym (behind_append ts (flat ps) opened.enclosures) ∙ h.taken.encloses;
+          encloses = ap calm (sym same) ∙ h.taken.encloses;
+          small = (further.lines h.taken.small).1;
+          ends = subst (λ (x : Enclosures). EndsOn x.begun h.taken.last.mark.line) same h.taken.ends;
+          past = λ a. subst (λ (x : Enclosures). IsPast x.begun c.cursor.mark.line) same (h.taken.past a);
+          place = subst (λ (x : Collections). KeepsPlace x.ends_json c) (open_append ts (flat ps) opened.collections)
+              h.taken.place;
         };
         live = λ f nz.
             let free = not_held c.ended _ f e in
-            let k = keys_handed 0 (n + length (p ∷ ps)) n p ps c.indent (c.level ∷ c.outer) free (h.live f nz) in
-            keys_weaken 0 (n + length (p ∷ ps)) (n + 1 + length ps) (record { places = ps; handed = n + 1 }) c.indent
+            let k = keys_handed opened.enclosures 0 (n + length (p ∷ ps)) n p ps c.indent (c.level ∷ c.outer) free
+            (h.live f nz) in
+            keys_weaken (all_behind ts opened.enclosures) 0 (n + length (p ∷ ps)) (n + 1 + length ps)
+            (record { places = ps; handed = n + 1 }) c.indent
             (c.level ∷ c.outer) (omega arith) k;
         over = λ f u v. h.over f u (tokens_append opened.collections ts (flat ps) from r.between u r.front v);
         fresh = h.fresh;
@@ -159,7 +178,8 @@ handed_follow text go c others opened from n (p ∷ ps) l h =
     (λ e.
     let w = one_left text opened from c p ps n l h e in
     place_follows text opened from w.between p.opening p.piece _ w.tokens w.in_place
-    (handed_follow text go c others (setting_behind (place_pieces p.opening p.piece) opened) w.between (n + 1) ps w.later
+    (handed_follow text go c others (setting_behind (place_pieces p.opening p.piece) opened) w.between (n + 1) ps
+    w.later
     w.ready))
 
 delivers_taken : (text : List ℕ) (opened : Setting) (from : Cursor) (r : Result State Refusal)
@@ -212,6 +232,10 @@ start_read text = record {
       stands = ((refl, refl), refl);
       in_place = tt;
       encloses = refl;
+      small = omega arith;
+      ends = tt;
+      past = λ _. tt;
+      place = (omega arith, λ _ some. absurd (omega (arith, some)));
     };
     live = λ _. inl (λ nz. (refl, tt, tt));
   };

@@ -1,5 +1,5 @@
 -- What is passed between two tokens is separation.
-use Rattle.std.proofs.Common.{◌≡◌, ℕ, ◌+◌, Bool, true, false, List, [], ◌∷◌, ◌++◌, length, drop, Result, Ok, Err, IsTrue, IsFalse, refl, sym, ap, ◌∙◌, arith, subst, inl, inr}
+use Rattle.std.proofs.Common.{◌≡◌, ℕ, ◌+◌, ◌≤◌, ◌<◌, ◌⊎◌, Bool, true, false, List, [], ◌∷◌, ◌++◌, length, drop, Result, Ok, Err, IsTrue, IsFalse, refl, sym, ap, ◌∙◌, arith, subst, inl, inr}
 use Rattle.std.specs.Prelude.{◌&&◌, ◌||◌, ◌==◌, slice_index, not}
 use Rattle.saphyr_input.specs.Classes.{is_bom, is_blank, is_break, is_yaml_non_break, is_z, carriage_return, line_feed}
 use Rattle.saphyr_scalar.specs.declared.scalar.position.Marker.{Marker}
@@ -16,6 +16,7 @@ use Rattle.saphyr_input.specs.Indicators.{number_sign}
 use Rattle.saphyr_input.proofs.Basics.Booleans.{by_test, or_false_left, or_false_right}
 use Rattle.saphyr_scanner.proofs.Gaps.{break_is_no_blank, break_is_no_sign}
 use Rattle.saphyr_scalar.proofs.Given.{Given}
+use Rattle.saphyr_scanner.proofs.Taken.Later.{top}
 
 pub apart_apart : (m : Marker) (t : List ℕ) (n : Marker) (u : List ℕ) (k : Marker) (v : List ℕ) → IsPassedOver m t n u
     → IsPassedOver n u k v → IsPassedOver m t k v
@@ -232,6 +233,55 @@ all_begin l (c ∷ cs) m blank broke tabbed =
 pub gap_begins : (l : ℕ) (broke tabbed : Bool) (s : Cursor)
     → Given BeginsText (end_of_gap l s.mark s.blank_so_far broke tabbed s.rest)
 gap_begins l broke tabbed s = (all_begin l s.rest s.mark s.blank_so_far broke tabbed).between
+
+-- ## Where a break is passed the line is a later one
+
+-- of a place that is reached, where not too many lines were counted
+abbrev pub Breaks : Marker → Bool → GapEnd → Type 0
+Breaks m broke p = m.line ≤ top → (m.line ≤ p.cursor.mark.line) × (p.cursor.mark.line ≤ top)
+    × (p.broke ≡ true → p.cursor.mark.line < top → (broke ≡ true) ⊎ (m.line < p.cursor.mark.line))
+
+stop_breaks : (m : Marker) (blank broke tabbed : Bool) (t : List ℕ)
+    → Given (Breaks m broke) (stop m blank broke tabbed t)
+unfolding stop
+stop_breaks m blank broke tabbed t =
+    by_test (tabbed && is_bom (slice_index t 0)) _ _ (Given (Breaks m broke)) (λ _. tt)
+    (λ _. by_test (tabbed && not (is_z (slice_index t 0))) _ _ (Given (Breaks m broke)) (λ _. tt)
+    (λ _ l. (omega arith, l, λ e s. inl e)))
+
+-- between tokens, and in a comment
+record Breaking (l : ℕ) (t : List ℕ) (m : Marker) (blank broke tabbed : Bool) : Type 0 where
+  between : Given (Breaks m broke) (end_of_gap l m blank broke tabbed t)
+  inside : Given (Breaks m broke) (end_of_gap_in_comment l m blank broke tabbed t)
+
+all_break : (l : ℕ) (t : List ℕ) (m : Marker) (blank broke tabbed : Bool) → Breaking l t m blank broke tabbed
+all_break l [] m blank broke tabbed =
+    record { between = stop_breaks m blank broke tabbed []; inside = stop_breaks m blank broke tabbed [] }
+all_break l (c ∷ cs) m blank broke tabbed =
+    let P = Given (Breaks m broke) in
+    let line : P (end_of_gap l (next_line m 1) true true false cs) =
+    given_map _ _ (end_of_gap l (next_line m 1) true true false cs)
+    (λ p h small.
+    let k = h (omega arith) in
+    (omega (arith, k.0, small), k.1, λ _ s. inr (omega (arith, k.0, s))))
+    (all_break l cs (next_line m 1) true true false).between in
+    record {
+      between =
+          by_test (is_blank c || ((c == 13) && (slice_index cs 0 == 10))) _ _ P
+          (λ _. (all_break l cs (along m 1) blank broke (is_tab_indentation l m blank c || tabbed)).between)
+          (λ _. by_test (is_break c) _ _ P (λ _. line)
+          (λ _. by_test (c == 35) _ _ P (λ _. (all_break l cs (along m 1) blank broke tabbed).inside)
+          (λ _. stop_breaks m blank broke tabbed (c ∷ cs))));
+      inside =
+          by_test (is_yaml_non_break c) _ _ P (λ _. (all_break l cs (along m 1) blank broke tabbed).inside)
+          (λ _. by_test ((c == 13) && (slice_index cs 0 == 10)) _ _ P
+          (λ _. (all_break l cs (along m 1) blank broke tabbed).between)
+          (λ _. by_test (is_break c) _ _ P (λ _. line) (λ _. stop_breaks m blank broke tabbed (c ∷ cs))));
+    }
+
+pub gap_breaks : (l : ℕ) (broke tabbed : Bool) (s : Cursor)
+    → Given (Breaks s.mark broke) (end_of_gap l s.mark s.blank_so_far broke tabbed s.rest)
+gap_breaks l broke tabbed s = (all_break l s.rest s.mark s.blank_so_far broke tabbed).between
 
 -- ## Behind `?`
 

@@ -1,5 +1,5 @@
 -- What is known between tokens: behind a block scalar a candidate is too far in front to be a key.
-use Rattle.std.proofs.Common.{◌≡◌, ℕ, ◌^◌, ◌≤◌, ◌<◌, ◌⊎◌, Bool, true, false, List, [], ◌∷◌, length, Option, Ok, Some, None, refl, sym, ap, ◌∙◌, arith, subst, inl, inr, IsTrue}
+use Rattle.std.proofs.Common.{◌≡◌, ℕ, zero, suc, ◌^◌, ◌≤◌, ◌<◌, ◌⊎◌, Bool, true, false, List, [], ◌∷◌, length, Option, Ok, Some, None, refl, sym, ap, ◌∙◌, arith, subst, inl, inr, IsTrue}
 use Rattle.std.specs.Prelude.{◌-◌, ◌&&◌, slice_index, nat_lt}
 use Rattle.saphyr_input.specs.Classes.{is_z}
 use Rattle.scalar_values.specs.declared.block.BlockStyle.{BlockStyle}
@@ -19,13 +19,15 @@ use Rattle.saphyr_scanner.specs.Steps.State.{State, with_core}
 use Rattle.saphyr_scanner.specs.Steps.Unrolling.{unroll, end_blocks, end_block, is_right_of, with_outer_indent, go_less_deep}
 use Rattle.saphyr_scanner.specs.TokensTaken as taken
 use Rattle.saphyr_scanner.specs.TokensTaken.{AreTokens, IsToken, IsBlockScalarToken, IsPlaceOrEnd, Collections, begins_text, IsContentEnd, IsBlockEnd}
+use Rattle.saphyr_scanner.specs.TokensInPlace.{Enclosures, without_innermost, block_ended}
 use Rattle.saphyr_scanner.proofs.Blocks.{block_cursor, go_less_deep_cursor}
 use Rattle.saphyr_scanner.proofs.Leads.{flat}
 use Rattle.saphyr_scanner.proofs.Taken.Later.{top, Later, LaterThan, later_later, apart_later, token_later, tokens_later}
 use Rattle.saphyr_scanner.proofs.Taken.Parts.{tokens_part}
-use Rattle.saphyr_scanner.proofs.Taken.Held.{Stack, enclosures_of, Setting, Taken, taken_within, taken_further, taken_put}
+use Rattle.saphyr_scanner.proofs.Taken.InPlace.{free}
+use Rattle.saphyr_scanner.proofs.Taken.Held.{Stack, enclosure_of, enclosed_by, columns_of, enclosures_of, Setting, Taken, taken_within, taken_further, unbound_parted, taken_put}
 use Rattle.saphyr_scanner.proofs.Taken.Keys.{Key, Keys}
-use Rattle.saphyr_scanner.proofs.Taken.Cores.{HoldsTaken, same_enclosures, Saved, no_keys, outermost}
+use Rattle.saphyr_scanner.proofs.Taken.Cores.{HoldsTaken, Saved, no_keys, outermost}
 use Rattle.saphyr_scanner.proofs.Taken.Cores.{saved_taken, first_at, apart_same}
 use Rattle.saphyr_scanner.proofs.Taken.Cores.{key_known}
 use Rattle.saphyr_scanner.proofs.Effects.Readers.{TextLaws}
@@ -54,7 +56,8 @@ taken_later opened from c q h =
     (apart_later h.last.mark h.last.rest c.cursor.mark c.cursor.rest h.apart)
 
 pub key_stands : (opened : Setting) (from : Cursor) (c : Core) (q : Queue) (b : ℕ) (block : Bool) (i : ℕ)
-    (k : Candidate) → from.mark.line ≤ top → Taken opened from c q → Key 0 b q block i k → CandidateStands k c
+    (k : Candidate) → from.mark.line ≤ top → Taken opened from c q → Key opened.enclosures 0 b q block i k
+    → CandidateStands k c
 key_stands opened from c q b block i k l h x =
     let P : List Place → Type 0 = λ ps. AreTokens opened.collections (flat ps) from h.last in
     let Q : List Piece → Type 0 = λ ps. AreTokens opened.collections ps from h.last in
@@ -78,15 +81,15 @@ key_stands opened from c q b block i k l h x =
 -- ## What is known behind a token
 
 -- at NUL and the end of the text no candidate counts
-abbrev pub Live : Core → Queue → Type 0
-Live c q = is_z (slice_index c.cursor.rest 0) ≡ false → Keys (next q) q c.indent (c.level ∷ c.outer)
+abbrev pub Live : Enclosures → Core → Queue → Type 0
+Live all c q = is_z (slice_index c.cursor.rest 0) ≡ false → Keys all (next q) q c.indent (c.level ∷ c.outer)
 
 abbrev pub IsFar : Core → Type 0
 IsFar c = ((in_block c && is_too_far c.level.key c.cursor.mark) ≡ true) × (c.outer ≡ [])
 
 pub record Fetched (opened : Setting) (from : Cursor) (c : Core) (q : Queue) : Type 0 where
   pub taken : Taken opened from c q
-  pub live : c.ended ≡ false → Live c q ⊎ IsFar c
+  pub live : c.ended ≡ false → Live opened.enclosures c q ⊎ IsFar c
 
 pub holds_fetched : (opened : Setting) (from : Cursor) (c : Core) (q : Queue) → HoldsTaken opened from c q
     → Fetched opened from c q
@@ -97,11 +100,12 @@ FetchedStep opened from q x = Fetched opened from x.core (perform x.actions q)
 
 -- ## Block scalars
 
-block_token : (style : BlockStyle) (i : ℕ) (value : List ℕ) (span : Span) (s t : Cursor)
+block_token : (style : BlockStyle) (i : ℕ) (b : Bool) (value : List ℕ) (span : Span) (s t : Cursor)
     → IsBlockScalarToken style i value span s t
-    → IsToken (record { in_flow = false; indent = i }) (tokens.Scalar (scalar.style_of style) value) span s t
-block_token block_style.Literal i value span s t h = (refl, h)
-block_token block_style.Folded i value span s t h = (refl, h)
+    → IsToken (record { in_flow = false; indent = i; ends_json = b }) (tokens.Scalar (scalar.style_of style) value) span
+    s t
+block_token block_style.Literal i b value span s t h = (refl, h)
+block_token block_style.Folded i b value span s t h = (refl, h)
 
 pub too_far : (k : Candidate) (m : Marker) → k.mark.line < m.line → is_too_far (Some k) m ≡ true
 too_far k m h = let e = lt-ltb k.mark.line m.line h in rw e refl
@@ -120,7 +124,8 @@ key_line opened from q c d l s h k i = by s.level
 
     old : (o : Option Candidate) → c.level.key ≡ o → o ≡ Some k → k.mark.line ≤ d.cursor.mark.line
     old o e f =
-        let known = key_known (next q) q (is_block c.level.context) c.indent c.level.key k c.outer (e ∙ f) h.keys.1
+        let known = key_known opened.enclosures (next q) q (is_block c.level.context) c.indent c.level.key k c.outer
+        (e ∙ f) h.keys.1
         h.keys.2 in
         let stands = key_stands opened from c q (next q) (is_block c.level.context) c.indent k l h.taken known.0 in
         let lines = stands.later.lines stands.small in
@@ -128,10 +133,13 @@ key_line opened from q c d l s h k i = by s.level
         omega (arith, lines.0, u)
 
     by : (d.level ≡ c.level)
-        ⊎ (d.level ≡ record { context = c.level.context; key = Some (record { mark = c.cursor.mark; place = next q }) })
+        ⊎ (
+        (d.level ≡ record { context = c.level.context; key = Some (record { mark = c.cursor.mark; place = next q }) })
+        × (c.key_allowed ≡ true)
+        )
         → k.mark.line ≤ d.cursor.mark.line
     by (inl g) = old d.level.key (ap (λ (y : Level). y.key) (sym g)) i
-    by (inr g) =
+    by (inr (g, _)) =
         let m : Some (record { mark = c.cursor.mark; place = next q }) ≡ Some k =
         sym (ap (λ (y : Level). y.key) g) ∙ i in
         let line : Option Candidate → ℕ = λ o. elim o [ None ↦ 0 | Some y ↦ y.mark.line ] in
@@ -142,14 +150,15 @@ key_line opened from q c d l s h k i = by s.level
 pub block_fetched : TextLaws → (text : List ℕ) → length text < 2 ^ 63
     → (opened : Setting) (from : Cursor) (q : Queue) (style : BlockStyle) (c d : Core)
     → LaterThan (start_cursor text) from
-    → Saved (next q) c d → HoldsTaken opened from c q → in_block c ≡ true → in_block d ≡ true
+    → Saved (next q) c d → d.adjacent ≡ c.adjacent → HoldsTaken opened from c q → in_block c ≡ true
+    → in_block d ≡ true
     → slice_index c.cursor.rest 0 ≡ taken.block_indicator style → (x : List ℕ × Span × Cursor)
     → blocks.block_scalar style d.indent d.cursor ≡ Ok x
     → Fetched opened from (with_cursor x.2 d) (with_piece (record {
       span = record { start = x.1.start; end = x.1.end };
       kind = tokens.Scalar (scalar.style_of style) x.0;
     }) q)
-block_fetched laws text small opened from q style c d l s h b bd f x e =
+block_fetched laws text small opened from q style c d l s stays h b bd f x e =
     let first : slice_index d.cursor.rest 0 ≡ taken.block_indicator style =
     first_at (taken.block_indicator style) c.cursor d.cursor s.cursor f in
     let p = laws.block_place style d.indent d.cursor x.2 x.0 x.1 first e in
@@ -165,17 +174,26 @@ block_fetched laws text small opened from q style c d l s h b bd f x e =
       passes = p.passes;
       end = p.end;
     } in
-    let held = saved_taken opened from (next q) c d q s h.taken in
+    let before : Core = record d { key_allowed = false } in
+    let held = saved_taken opened from (next q) c before q
+    (record {
+      level = s.level;
+      cursor = s.cursor;
+      outer = s.outer;
+      indent = s.indent;
+      outer_indents = s.outer_indents;
+    }) stays (λ no. absurd (cc)) h.taken in
     let e2 : Core = with_cursor x.2 d in
     let from_small : from.mark.line ≤ top = (l.lines (omega arith)).1 in
     let l2 : from.mark.line ≤ top = from_small in
     let r = later_later (start_cursor text).mark text from.mark from.rest d.cursor.mark d.cursor.rest l
-    (taken_later opened from d q held) in
+    (taken_later opened from before q held) in
     let none : c.outer ≡ [] = outermost (enclosures_of c) opened from c q h b in
     let by : (o : Option Candidate) → d.level.key ≡ o → d.cursor.mark.line < x.2.mark.line
-    → (Live e2 (with_piece piece q)) ⊎ (IsFar e2) =
-    λ o g less. elim o as (λ y. d.level.key ≡ y → (Live e2 (with_piece piece q)) ⊎ (IsFar e2)) [
-      | None ↦ λ i. inl (λ nz. no_keys (next (with_piece piece q)) (with_piece piece q) d.indent d.level d.outer i
+    → (Live opened.enclosures e2 (with_piece piece q)) ⊎ (IsFar e2) =
+    λ o g less. elim o as (λ y. d.level.key ≡ y → (Live opened.enclosures e2 (with_piece piece q)) ⊎ (IsFar e2)) [
+      | None ↦ λ i. inl (λ nz. no_keys opened.enclosures (next (with_piece piece q)) (with_piece piece q) d.indent
+          d.level d.outer i
           (s.outer ∙ none) bd)
       | Some k ↦ λ i. inr (
         far_of e2 (Some k) i bd k refl
@@ -183,12 +201,13 @@ block_fetched laws text small opened from q style c d l s h b bd f x e =
         s.outer ∙ none,
       )
     ] g in
-    let There : List Level → Type 0 = λ ls. IsToken (record { in_flow = nat_lt 0 (length ls); indent = d.indent })
+    let There : Bool → List Level → Type 0 = λ i ls. IsToken
+    (record { in_flow = nat_lt 0 (length ls); indent = d.indent; ends_json = i })
     (tokens.Scalar (scalar.style_of style) x.0) x.1 d.cursor x.2 in
     record {
-      taken = taken_put (enclosures_of d) opened from d e2 q piece d.cursor x.2 (taken.nothing _ _)
-          (subst There (sym (s.outer ∙ none)) (block_token style d.indent x.0 x.1 d.cursor x.2 is))
-          (taken.nothing _ _) (λ cs k. k) refl held;
+      taken = taken_put (enclosures_of d) opened from before e2 q piece d.cursor x.2 (taken.nothing _ _)
+          (λ i _. subst (There i) (sym (s.outer ∙ none)) (block_token style d.indent i x.0 x.1 d.cursor x.2 is))
+          (taken.nothing _ _) (λ cs k. k) (inl refl) refl (unbound_parted piece before e2 refl) held;
       live = λ _. elim (p.line (line_small text d.cursor small r))
           [ inl less ↦ by d.level.key refl less | inr z ↦ inl (λ nz. absurd (cc)) ];
     }
@@ -204,12 +223,45 @@ outer_indent_levels : (is : List ℕ) (c : Core) → Levels c (with_outer_indent
 outer_indent_levels [] c = record { level = refl; outer = refl }
 outer_indent_levels (i ∷ is) c = record { level = refl; outer = refl }
 
+outer_indent_stays : (is : List ℕ) (c : Core) → (with_outer_indent is c).adjacent ≡ c.adjacent
+outer_indent_stays [] c = refl
+outer_indent_stays (i ∷ is) c = refl
+
 outer_indent_stack : (is columns : List ℕ) (c : Core) → Stack columns c.indent is
-    → Stack (taken.without_innermost columns) (with_outer_indent is c).indent (with_outer_indent is c).outer_indents
+    → Stack (without_innermost columns) (with_outer_indent is c).indent (with_outer_indent is c).outer_indents
 outer_indent_stack [] [] c h = (refl, refl)
 outer_indent_stack [] (column ∷ columns) c h = absurd h
 outer_indent_stack (j ∷ is) [] c h = absurd (let e = h.1 in cc)
 outer_indent_stack (j ∷ is) (column ∷ columns) c h = h.1
+
+-- the innermost column goes
+outer_indent_columns : (column : Option ℕ) (is : List ℕ) (c : Core) → is_right_of column c.indent ≡ true
+    → columns_of (with_outer_indent is c).indent (with_outer_indent is c).outer_indents
+    ≡ without_innermost (columns_of c.indent is)
+outer_indent_columns column is c e = by is c.indent (positive column c.indent e)
+  where
+    positive : (column : Option ℕ) (i : ℕ) → is_right_of column i ≡ true → 0 < i
+    positive None i e = ltb-true 0 i e
+    positive (Some column) i e = let l = ltb-true column (i - 1) e in omega (arith, l)
+
+    by : (is : List ℕ) (i : ℕ) → 0 < i
+        → columns_of (with_outer_indent is c).indent (with_outer_indent is c).outer_indents
+        ≡ without_innermost (columns_of i is)
+    by is zero l = absurd (omega (arith, l))
+    by [] (suc i) l = refl
+    by (j ∷ is) (suc i) l = refl
+
+-- what encloses the tokens behind an end
+ended_enclosures : (column : Option ℕ) (m : Marker) (s : State) → is_right_of column s.core.indent ≡ true
+    → enclosures_of (end_block m s).core ≡ block_ended (enclosures_of s.core)
+ended_enclosures column m s e =
+    let levels = outer_indent_levels s.core.outer_indents s.core in
+    let From : Level → List Level → List ℕ → Enclosures =
+    λ l ls columns. free (enclosure_of l.context) (record { enclosed = enclosed_by ls; columns = columns }) in
+    let d = (end_block m s).core in
+    ap (λ l. From l d.outer (columns_of d.indent d.outer_indents)) levels.level
+    ∙ ap (λ ls. From s.core.level ls (columns_of d.indent d.outer_indents)) levels.outer
+    ∙ ap (From s.core.level s.core.outer) (outer_indent_columns column s.core.outer_indents s.core e)
 
 abbrev pub TakenState : Setting → Cursor → State → Type 0
 TakenState opened from s = Taken opened from s.core s.queue
@@ -237,16 +289,16 @@ block_taken : (opened : Setting) (from : Cursor) (column : Option ℕ) (m : Mark
     → TakenState opened from (end_block m s)
 block_taken opened from column m s e p h =
     let levels = outer_indent_levels s.core.outer_indents s.core in
-    taken_within (enclosures_of s.core) (enclosures_of (end_block m s).core) opened from (end_block m s).core
-    (end_block m s).queue
-    (same_enclosures s.core (end_block m s).core (ap (λ (l : Level). l.context) levels.level) levels.outer)
+    taken_within (block_ended (enclosures_of s.core)) (enclosures_of (end_block m s).core) opened from
+    (end_block m s).core (end_block m s).queue (ended_enclosures column m s e)
     (taken_put (enclosures_of s.core) opened from s.core (end_block m s).core s.queue (empty_piece m tokens.BlockEnd)
-    s.core.cursor s.core.cursor (taken.nothing _ _) (block_end column m s.core.indent s.core.cursor e p)
+    s.core.cursor s.core.cursor (taken.nothing _ _) (λ _ _. block_end column m s.core.indent s.core.cursor e p)
     (apart_same s.core.cursor (end_block m s).core.cursor (block_cursor m s))
     (λ x k. (
       outer_indent_stack s.core.outer_indents x.columns s.core k.0,
       k.1 ∙ sym (ap length levels.outer),
-    )) refl h)
+    )) (inl (outer_indent_stays s.core.outer_indents s.core)) refl
+    (unbound_parted (empty_piece m tokens.BlockEnd) s.core (end_block m s).core refl) h)
 
 blocks_taken : (opened : Setting) (from : Cursor) (column : Option ℕ) (m : Marker) (is : List ℕ) (s : State)
     → BlocksEnd column m s.core.cursor → TakenState opened from s → TakenState opened from (end_blocks column m is s)
@@ -263,10 +315,10 @@ go_less_deep_taken : (opened : Setting) (from : Cursor) (column : Option ℕ) (s
     → TakenState opened from (with_core (go_less_deep column s.core) s)
 go_less_deep_taken opened from None s h =
     taken_further (enclosures_of s.core) opened from s.core (go_less_deep None s.core) s.queue
-    (taken.nothing _ _) refl refl refl h
+    (taken.nothing _ _) refl refl refl refl (λ a. inl a) h
 go_less_deep_taken opened from (Some column) s h =
     taken_further (enclosures_of s.core) opened from s.core (go_less_deep (Some column) s.core) s.queue
-    (taken.nothing _ _) refl refl refl h
+    (taken.nothing _ _) refl refl refl refl (λ a. inl a) h
 
 pub unroll_taken : (opened : Setting) (from : Cursor) (column : Option ℕ) (m : Marker) (s : State)
     → BlocksEnd column m s.core.cursor → TakenState opened from s → TakenState opened from (unroll column m s)

@@ -27,7 +27,8 @@ header n chomping behind mark indicators h e = (mark, indicators, [], codes "\n"
 pub takes_literal : AreTakenFrom (codes "--- |\n a\n") texts.literal
 unfolding encode
 takes_literal =
-    let scalar : TokenText (record { in_flow = false; indent = 0 }) (tokens.Scalar Literal (codes "a\n"))
+    let scalar : TokenText (record { in_flow = false; indent = 0; ends_json = false })
+    (tokens.Scalar Literal (codes "a\n"))
     (span_from_to (marker_at 7 2 1) (marker_at 9 3 0)) (marker_at 4 1 4) (codes "|\n a\n") (marker_at 9 3 0) [] =
     record {
       holds = (
@@ -72,7 +73,8 @@ unfolding encode
 takes_indentation =
     let inside_c : AreInside true (codes " c\n") [] =
     (refl, (λ e. refl), (refl, (λ e. refl), (refl, (λ e. refl), tt))) in
-    let scalar : TokenText (record { in_flow = false; indent = 1 }) (tokens.Scalar Folded (codes " b\nc"))
+    let scalar : TokenText (record { in_flow = false; indent = 1; ends_json = false })
+    (tokens.Scalar Folded (codes " b\nc"))
     (span_from_to (marker_at 8 2 1) (marker_at 14 4 0))
     (marker_at 3 1 3) (codes ">1-\n  b\n c\n") (marker_at 14 4 0) [] =
     record {

@@ -1,5 +1,5 @@
 -- The tokens of small texts with directives and marks, and of one that is refused, are taken from them.
-use Rattle.std.proofs.Common.{[], refl, inl, inr, arith, codes}
+use Rattle.std.proofs.Common.{refl, inl, inr, arith, codes}
 use lib.Utf8.{encode}
 use Rattle.saphyr_input.specs.Classes.{is_tag_char, is_uri_char}
 use Rattle.saphyr_scalar.specs.Spelling.Tag.{IsHandleText, IsPrefix, IsTagText}

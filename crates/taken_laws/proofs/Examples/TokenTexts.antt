@@ -16,6 +16,8 @@ use Rattle.saphyr_scalar.specs.Views.Cursor.{Cursor, along, next_line}
 use Rattle.saphyr_scalar.specs.Passing as passing
 use Rattle.saphyr_scalar.specs.Passing.{IsPassed}
 use Rattle.saphyr_scalar.specs.Reading.Plain.{ends_piece, end_of_text}
+use Rattle.saphyr_scalar.proofs.Plain.Indented.{later_ink}
+use Rattle.saphyr_scalar.specs.Spelling.LaterLines.{IsPlainLine}
 use Rattle.saphyr_scalar.specs.Spelling.Tag.{IsTagText, EndsTag}
 use Rattle.saphyr_scalar.specs.Spelling.Directive.{IsLineTail, IsReadTagDirective}
 use Rattle.saphyr_scalar.specs.Spelling.Quoted.{stands_for_itself, closed, itself}
@@ -183,7 +185,13 @@ dash_taken {m = m} c = record { holds = ((refl, refl), refl, lies (along m 1) bl
 pub colon_taken : {at : Surroundings} {m : Marker} {others : List ℕ}
     → IsTrue (is_blank_or_breakz (slice_index others 0))
     → TokenText at tokens.Value (span_from_to m m) m (colon ∷ others) (along m 1) others
-colon_taken b = record { holds = ((refl, refl), (λ _. b), refl, refl) }
+colon_taken b = record { holds = ((refl, refl), (λ _. b), refl, refl, λ _. inr (rw b refl)) }
+
+-- inside flow a colon behind what ends like JSON
+pub json_colon_taken : {at : Surroundings} {m : Marker} {others : List ℕ} → at.in_flow ≡ true → at.ends_json ≡ true
+    → TokenText at tokens.Value (span_from_to m m) m (colon ∷ others) (along m 1) others
+json_colon_taken flows json =
+    record { holds = ((refl, refl), (λ e. absurd (cc)), refl, refl, λ _. inl json) }
 
 -- ## Names, of one character
 
@@ -211,12 +219,12 @@ abbrev pub third : Marker → Marker
 third m = along (along (along m 1) 1) 1
 
 -- one character in quotes
-in_quotes_taken : (quote : Quote) (c n : ℕ) (bytes : List ℕ) (m : Marker) (t : List ℕ) → Tail t n
+in_quotes_taken : (quote : Quote) (indent c n : ℕ) (bytes : List ℕ) (m : Marker) (t : List ℕ) → Tail t n
     → IsTrue (stands_for_itself quote c) → IsFalse (is_break c) → IsFalse (is_break (mark quote))
     → IsTrue (is_closing quote (mark quote ∷ t)) → bytes ≡ encode_utf8_all (folded (raw_item c ∷ []))
-    → IsQuotedToken quote bytes (span_from_to m (along (third m) n)) (cursor_here (mark quote ∷ c ∷ mark quote ∷ t) m)
-    (cursor_here t (third m))
-in_quotes_taken quote c n bytes m t h s b q d e = (
+    → IsQuotedToken quote indent bytes (span_from_to m (along (third m) n))
+    (cursor_here (mark quote ∷ c ∷ mark quote ∷ t) m) (cursor_here t (third m))
+in_quotes_taken quote indent c n bytes m t h s b q d e = (
   raw_item c ∷ [],
   (c ∷ mark quote ∷ t, refl, itself quote c (mark quote ∷ t) [] t s (closed quote t d)),
   e,
@@ -224,6 +232,7 @@ in_quotes_taken quote c n bytes m t h s b q d e = (
       (passing.character _ _ _ _ _ q (passing.nothing _ _))),
   refl,
   lies (third m) h,
+  tt,
   tt,
 )
 
@@ -234,8 +243,8 @@ pub single_quoted_taken : {at : Surroundings} {n : ℕ} {bytes t : List ℕ} {m 
     (apostrophe ∷ c ∷ apostrophe ∷ t)
     (third m)
     t
-single_quoted_taken {n = n} {bytes} {t} {m} c h s b d e =
-    record { holds = in_quotes_taken Single c n bytes m t h s b refl d e }
+single_quoted_taken {at = at} {n} {bytes} {t} {m} c h s b d e =
+    record { holds = in_quotes_taken Single at.indent c n bytes m t h s b refl d e }
 
 pub double_quoted_taken : {at : Surroundings} {n : ℕ} {bytes t : List ℕ} {m : Marker} (c : ℕ) → Tail t n
     → IsTrue (stands_for_itself Double c) → IsFalse (is_break c) → bytes ≡ encode_utf8_all (folded (raw_item c ∷ []))
@@ -243,8 +252,8 @@ pub double_quoted_taken : {at : Surroundings} {n : ℕ} {bytes t : List ℕ} {m 
     (quotation_mark ∷ c ∷ quotation_mark ∷ t)
     (third m)
     t
-double_quoted_taken {n = n} {bytes} {t} {m} c h s b e =
-    record { holds = in_quotes_taken Double c n bytes m t h s b refl refl e }
+double_quoted_taken {at = at} {n} {bytes} {t} {m} c h s b e =
+    record { holds = in_quotes_taken Double at.indent c n bytes m t h s b refl refl e }
 
 -- a character that may stand alone as a plain scalar
 pub record IsLetter (c : ℕ) : Type 0 where
@@ -308,7 +317,7 @@ pub plain_taken : {at : Surroundings} {c : ℕ} {m : Marker} {bytes t : List ℕ
     → IsTrue (ends_piece (slice_index t 0)) → encode_utf8_all (plain_value (normalized (c ∷ []))) ≡ bytes
     → end_of_text m (c ∷ []) ≡ along m 1
     → TokenText at (tokens.Scalar Plain bytes) (span_from_to m (along m 1)) m (c ∷ t) (along m 1) t
-plain_taken {c = c} {t = t} l d f v e = record {
+plain_taken {at = at} {c} {t = t} l d f v e = record {
   holds = record {
     start = refl;
     begins = l.begins;
@@ -339,6 +348,7 @@ plain_taken {c = c} {t = t} l d f v e = record {
       behind = refl;
     };
     uncut = inl refl;
+    lines = later_ink (IsPlainLine at.in_flow at.indent) (c ∷ []) t (l.is_ink, tt);
   };
 }
 

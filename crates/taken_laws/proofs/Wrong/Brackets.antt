@@ -1,6 +1,6 @@
 -- Inside brackets no plain scalar with a comma and no block scalar is taken, and outside no plain scalar that begins
 -- with `|`.
-use Rattle.std.proofs.Common.{◌≡◌, ℕ, ◌+◌, ◌≤◌, true, false, List, [], ◌∷◌, ◌++◌, length, refl, sym, ap, ◌∙◌, arith}
+use Rattle.std.proofs.Common.{◌≡◌, ℕ, ◌≤◌, true, false, List, [], ◌∷◌, ◌++◌, length, refl, sym, ap, ◌∙◌, arith}
 use Rattle.std.specs.Prelude.{codes, slice_index}
 use Rattle.saphyr_input.specs.Classes.{is_flow, is_one_of}
 use Rattle.saphyr_scalar.specs.declared.scalar.position.Marker.{Marker}

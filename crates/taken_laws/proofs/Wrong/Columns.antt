@@ -1,6 +1,6 @@
--- At another column than its collection's no entry is taken, and no key. No block collection starts at the column of the one around
--- it, and none ends before what stands right of its column.
-use Rattle.std.proofs.Common.{◌≡◌, ℕ, ◌+◌, ◌≤◌, ◌<◌, ◌⊎◌, Bool, true, false, List, [], ◌∷◌, length, drop, refl, sym, ap, ◌∙◌, arith, inl, inr, IsTrue}
+-- At another column than its collection's no entry is taken, and no key. No block collection starts at the column of
+-- the one around it, and none ends before what stands right of its column.
+use Rattle.std.proofs.Common.{◌≡◌, ℕ, ◌+◌, ◌≤◌, ◌<◌, ◌⊎◌, true, false, List, [], ◌∷◌, length, drop, refl, sym, ap, ◌∙◌, arith, inl, inr}
 use Rattle.std.specs.Prelude.{codes, slice_index}
 use Rattle.saphyr_input.specs.Classes.{is_blank}
 use Rattle.saphyr_input.specs.Indicators.{hyphen}
@@ -9,7 +9,7 @@ use Rattle.saphyr_scalar.specs.declared.scalar.position.Marker.{Marker}
 use Rattle.saphyr_scalar.specs.declared.scalar.position.Span.{Span}
 use Rattle.saphyr_scalar.specs.Views.Cursor.{Cursor, start_cursor}
 use Rattle.saphyr_scanner.specs.Grammar.Tokens.{Key}
-use Rattle.saphyr_scanner.specs.TokensTaken.{IsPlaceOrEnd, IsToken, IsDash, IsContentEnd, IsBlockEnd, begins_text, AreTakenFrom}
+use Rattle.saphyr_scanner.specs.TokensTaken.{IsPlaceOrEnd, IsToken, IsDash, IsContentEnd, begins_text, AreTakenFrom}
 use Rattle.saphyr_scanner.proofs.Taken.Places.{Reaches}
 use Rattle.taken_laws.specs.Examples.TakenTexts.{marker_at}
 use Rattle.taken_laws.specs.Examples.ColumnTexts as texts
@@ -55,7 +55,7 @@ further_key_refused (end, tokens, place, fin) =
     by key.here key.behind key.is
   where
     by : (s t : Cursor)
-        → IsToken (record { in_flow = false; indent = 1 }) Key
+        → IsToken (record { in_flow = false; indent = 1; ends_json = false }) Key
         (record { start = marker_at 5 2 1; end = marker_at 7 2 3 }) s t → ⊥
     by s t (inl h) =
         let col : 1 ≡ s.mark.col = ap (λ (m : Marker). m.col) h.2 in
@@ -72,7 +72,7 @@ key_right_refused (end, tokens, place, fin) =
     off s e column = let col : 1 ≡ s.mark.col = ap (λ (m : Marker). m.col) e in omega (arith, col, column)
 
     by : (s t : Cursor)
-        → IsToken (record { in_flow = false; indent = 1 }) Key
+        → IsToken (record { in_flow = false; indent = 1; ends_json = false }) Key
         (record { start = marker_at 6 2 1; end = marker_at 6 2 1 }) s t → ⊥
     by s t (inl h) = off s h.2 (h.4 refl)
     by s t (inr h) = off s h.1 (h.4 refl)

@@ -37,8 +37,8 @@ value_begins_as_piece (c ∷ cs) front others last rest value e is ink v =
     let told : folded (items_of (c ∷ cs)) ≡ c ∷ folded (items_of cs) = folded_word (c ∷ []) cs (first, tt) in
     first_byte c (folded (items_of cs)) value first (sym (ap encode_utf8_all told) ∙ v)
 
-pub plain_value_ink : (f : Bool) (value : List ℕ) (span : Span) (s t : Cursor) → IsPlainToken f value span s t
-    → is_blank_or_break (slice_index value 0) ≡ false
-plain_value_ink f value span s t h =
+pub plain_value_ink : (f : Bool) (indent : ℕ) (value : List ℕ) (span : Span) (s t : Cursor)
+    → IsPlainToken f indent value span s t → is_blank_or_break (slice_index value 0) ≡ false
+plain_value_ink f indent value span s t h =
     let r = h.reading in
     value_begins_as_piece r.piece r.front (r.white ++ t.rest) r.last s.rest value r.closes r.is h.is_ink r.value

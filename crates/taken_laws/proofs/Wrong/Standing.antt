@@ -92,7 +92,8 @@ at_index text u n r e =
 abbrev pub has_character : ℕ → List ℕ → Bool
 has_character c text = list_any (λ x. x == c) text
 
-pub stands_behind : (c : ℕ) (front rest : List ℕ) → slice_index rest 0 ≡ c → c ≢ 0 → has_character c (front ++ rest) ≡ true
+pub stands_behind : (c : ℕ) (front rest : List ℕ) → slice_index rest 0 ≡ c → c ≢ 0
+    → has_character c (front ++ rest) ≡ true
 stands_behind c [] [] e n = absurd (n (sym e))
 stands_behind c [] (x ∷ xs) e n = let here : (x == c) ≡ true = ap (λ y. y == c) e ∙ eq-eqb c c refl in rw here refl
 stands_behind c (x ∷ front) rest e n = let more = stands_behind c front rest e n in rw more (either (x == c))

@@ -1,6 +1,6 @@
 use Rattle.taken_laws.proofs.Examples.TakenRefused.{dropped_word_refused, other_value_refused, other_start_refused, place_behind}
 use Rattle.taken_laws.proofs.Wrong.Brackets.{one_entry_refused, literal_as_plain_refused, literal_in_list_refused}
-use Rattle.taken_laws.proofs.Wrong.Parted.{short_tag_refused, tag_before_comment_refused, short_key_refused}
+use Rattle.taken_laws.proofs.Wrong.Parted.{short_tag_refused, tag_before_comment_refused, short_key_refused, colon_beside_refused, colon_in_next_entry_refused}
 use Rattle.taken_laws.proofs.Wrong.Places.{other_indentation_refused}
 use Rattle.taken_laws.proofs.takes_no_others.Goals as goal
 
@@ -27,6 +27,12 @@ returns-clause-tag_before_comment c = tag_before_comment_refused
 
 pub returns-clause-short_key : goal.returns-clause-short_key
 returns-clause-short_key c = short_key_refused
+
+pub returns-clause-colon_beside : goal.returns-clause-colon_beside
+returns-clause-colon_beside c = colon_beside_refused
+
+pub returns-clause-colon_in_next_entry : goal.returns-clause-colon_in_next_entry
+returns-clause-colon_in_next_entry c = colon_in_next_entry_refused
 
 pub returns-clause-one_entry : goal.returns-clause-one_entry
 returns-clause-one_entry c = one_entry_refused

@@ -31,5 +31,26 @@ returns-clause-no_entry c = wrong.no_entry_refused
 pub returns-clause-no_pair : goal.returns-clause-no_pair
 returns-clause-no_pair c = wrong.no_pair_refused
 
+pub returns-clause-key_without_node : goal.returns-clause-key_without_node
+returns-clause-key_without_node c = wrong.key_without_node_refused
+
+pub returns-clause-tag_beside : goal.returns-clause-tag_beside
+returns-clause-tag_beside c = wrong.tag_beside_refused
+
+pub returns-clause-anchor_beside : goal.returns-clause-anchor_beside
+returns-clause-anchor_beside c = wrong.anchor_beside_refused
+
+pub returns-clause-anchor_before_entry : goal.returns-clause-anchor_before_entry
+returns-clause-anchor_before_entry c = wrong.anchor_before_entry_refused
+
 pub returns-clause-key_of_no_pair : goal.returns-clause-key_of_no_pair
 returns-clause-key_of_no_pair c = wrong.key_of_no_pair_refused
+
+pub returns-clause-entry_right : goal.returns-clause-entry_right
+returns-clause-entry_right c = wrong.entry_right_refused
+
+pub returns-clause-colon_right : goal.returns-clause-colon_right
+returns-clause-colon_right c = wrong.colon_right_refused
+
+pub returns-clause-colon_left : goal.returns-clause-colon_left
+returns-clause-colon_left c = wrong.colon_left_refused

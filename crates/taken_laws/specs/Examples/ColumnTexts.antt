@@ -1,5 +1,5 @@
 -- Near misses of columns: tokens of block collections that stand at other columns than theirs (YAML 1.2.2, 8.2).
-use Rattle.std.specs.Prelude.{ℕ, [], ◌∷◌, None, codes}
+use Rattle.std.specs.Prelude.{[], ◌∷◌, None, codes}
 use Rattle.saphyr_scanner.specs.Grammar.Forest.{Plain}
 use Rattle.saphyr_scanner.specs.Grammar.Tokens as tokens
 use Rattle.saphyr_scanner.specs.Views.Tokens.{Remaining}
@@ -114,7 +114,8 @@ sequence_beside =
       refusal = None;
     }
 
--- ## `a:` LF ` b: c` LF ` d: e` with the keys `a` and `d`: the mapping of `b` ends before `d`, or before the blank there
+-- ## `a:` LF ` b: c` LF ` d: e` with the keys `a` and `d`: the mapping of `b` ends before `d`, or before the blank
+-- there
 
 abbrev pub ended_before_key : Remaining
 ended_before_key =

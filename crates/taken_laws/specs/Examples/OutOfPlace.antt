@@ -1,5 +1,5 @@
 -- Tokens of small texts of which one stands out of its place.
-use Rattle.std.specs.Prelude.{List, [], ◌∷◌, ◌++◌, None, codes}
+use Rattle.std.specs.Prelude.{List, [], ◌∷◌, None, codes}
 use Rattle.saphyr_scanner.specs.Grammar.Forest.{Plain}
 use Rattle.saphyr_scanner.specs.Grammar.Tokens as tokens
 use Rattle.saphyr_scanner.specs.Views.Tokens.{Piece, Remaining}
@@ -30,6 +30,14 @@ key_on_two_lines =
     (empty_at (marker_at 0 1 0) tokens.BlockMappingStart ∷ empty_at (marker_at 0 1 0) tokens.Key ∷ letter
     ∷ empty_at (marker_at 2 2 0) tokens.Value ∷ [])
 
+-- `?` LF `:` as a block mapping of two pairs, the second of which has a key without a token of its own
+abbrev pub key_without_node : Remaining
+key_without_node =
+    stream_of
+    (empty_at (marker_at 0 1 0) tokens.BlockMappingStart
+    ∷ piece_from_to (marker_at 0 1 0) (marker_at 2 2 0) tokens.Key ∷ empty_at (marker_at 2 2 0) tokens.Key
+    ∷ empty_at (marker_at 2 2 0) tokens.Value ∷ [])
+
 -- a block mapping whose colon stands 1,025 characters behind the key's start
 abbrev pub long_key : Remaining
 long_key =
@@ -43,11 +51,60 @@ no_entry =
     stream_of
     (empty_at (marker_at 0 1 0) tokens.BlockSequenceStart ∷ empty_at (marker_at 0 1 0) tokens.BlockEnd ∷ [])
 
+-- `! :` as a block mapping with the tag
+abbrev pub tag_beside : Remaining
+tag_beside =
+    stream_of
+    (piece_from_to (marker_at 0 1 0) (marker_at 1 1 1) (tokens.Tag [] (codes "!"))
+    ∷ empty_at (marker_at 2 1 2) tokens.BlockMappingStart ∷ empty_at (marker_at 2 1 2) tokens.Value ∷ [])
+
+-- `&a - b` as a block sequence with the anchor
+abbrev pub anchor_beside : Remaining
+anchor_beside =
+    stream_of
+    (piece_from_to (marker_at 0 1 0) (marker_at 2 1 2) (tokens.Anchor (codes "a"))
+    ∷ empty_at (marker_at 3 1 3) tokens.BlockSequenceStart ∷ empty_at (marker_at 5 1 5) tokens.BlockEntry ∷ [])
+
+-- `   k:` LF `&x - a` as a mapping whose value is a sequence with the anchor
+abbrev pub anchor_before_entry : Remaining
+anchor_before_entry =
+    stream_of
+    (empty_at (marker_at 3 1 3) tokens.BlockMappingStart ∷ empty_at (marker_at 3 1 3) tokens.Key
+    ∷ piece_from_to (marker_at 3 1 3) (marker_at 4 1 4) (tokens.Scalar Plain (codes "k"))
+    ∷ empty_at (marker_at 4 1 4) tokens.Value
+    ∷ piece_from_to (marker_at 6 2 0) (marker_at 8 2 2) (tokens.Anchor (codes "x"))
+    ∷ empty_at (marker_at 11 2 5) tokens.BlockEntry ∷ [])
+
 -- `: a` as a block mapping without an entry
 abbrev pub no_pair : Remaining
 no_pair =
     stream_of
     (empty_at (marker_at 0 1 0) tokens.BlockMappingStart ∷ empty_at (marker_at 0 1 0) tokens.BlockEnd ∷ [])
+
+-- `: :` as a block mapping of two entries, of which the second stands right of its column
+abbrev pub entry_right : Remaining
+entry_right =
+    stream_of
+    (empty_at (marker_at 0 1 0) tokens.BlockMappingStart ∷ empty_at (marker_at 0 1 0) tokens.Value
+    ∷ empty_at (marker_at 2 1 2) tokens.Value ∷ [])
+
+-- `? :` as an entry of a block mapping whose colon stands right of its column
+abbrev pub colon_right : Remaining
+colon_right =
+    stream_of
+    (empty_at (marker_at 0 1 0) tokens.BlockMappingStart
+    ∷ piece_from_to (marker_at 0 1 0) (marker_at 2 1 2) tokens.Key ∷ empty_at (marker_at 2 1 2) tokens.Value ∷ [])
+
+-- `? ? a` LF `: b` as a colon of the second `?`, left of its column
+abbrev pub colon_left : Remaining
+colon_left =
+    stream_of
+    (empty_at (marker_at 0 1 0) tokens.BlockMappingStart
+    ∷ piece_from_to (marker_at 0 1 0) (marker_at 2 1 2) tokens.Key
+    ∷ empty_at (marker_at 2 1 2) tokens.BlockMappingStart
+    ∷ piece_from_to (marker_at 2 1 2) (marker_at 4 1 4) tokens.Key
+    ∷ piece_from_to (marker_at 4 1 4) (marker_at 5 1 5) (tokens.Scalar Plain (codes "a"))
+    ∷ empty_at (marker_at 6 2 0) tokens.Value ∷ [])
 
 -- `a` as a mapping in braces that don't stand there
 abbrev pub no_braces : Remaining

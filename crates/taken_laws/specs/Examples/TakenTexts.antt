@@ -35,6 +35,24 @@ flow_mapping =
       refusal = None;
     }
 
+-- ## `{'a':b}`
+
+abbrev pub value_beside : Remaining
+value_beside =
+    record {
+      pieces =
+          empty_at (marker_at 0 1 0) tokens.StreamStart ∷
+          piece_from_to (marker_at 0 1 0) (marker_at 1 1 1) tokens.FlowMappingStart ∷
+          empty_at (marker_at 1 1 1) tokens.Key ∷
+          piece_from_to (marker_at 1 1 1) (marker_at 4 1 4) (tokens.Scalar SingleQuoted (codes "a")) ∷
+          empty_at (marker_at 4 1 4) tokens.Value ∷
+          piece_from_to (marker_at 5 1 5) (marker_at 6 1 6) (tokens.Scalar Plain (codes "b")) ∷
+          piece_from_to (marker_at 6 1 6) (marker_at 7 1 7) tokens.FlowMappingEnd ∷
+          empty_at (marker_at 7 2 0) tokens.StreamEnd ∷
+          [];
+      refusal = None;
+    }
+
 -- ## `- a: b` LF `- c:`
 
 abbrev pub block_mappings : Remaining
@@ -232,8 +250,8 @@ other_indentation =
       refusal = None;
     }
 
--- ## Near misses that are too short: of `--- |` LF ` a#b` and of `: |` LF ` a#b` the value `a` with a comment behind it, and
--- of `%TAG !e!t:x` LF `--- !u v` the handle `!` with the prefix `e!t:x`
+-- ## Near misses that are too short: of `--- |` LF ` a#b` and of `: |` LF ` a#b` the value `a` with a comment behind
+-- it, and of `%TAG !e!t:x` LF `--- !u v` the handle `!` with the prefix `e!t:x`
 
 abbrev pub cut_line : Remaining
 cut_line =
@@ -319,6 +337,42 @@ short_key =
           piece_from_to (marker_at 2 1 2) (marker_at 3 1 3) (tokens.Scalar Plain (codes "b")) ∷
           empty_at (marker_at 3 2 0) tokens.BlockEnd ∷
           empty_at (marker_at 3 2 0) tokens.StreamEnd ∷
+          [];
+      refusal = None;
+    }
+
+-- ## Near misses of colons inside brackets: `[:a]` and `['a',:b]` with a single pair that has no key
+
+abbrev pub colon_beside : Remaining
+colon_beside =
+    record {
+      pieces =
+          empty_at (marker_at 0 1 0) tokens.StreamStart ∷
+          piece_from_to (marker_at 0 1 0) (marker_at 1 1 1) tokens.FlowSequenceStart ∷
+          empty_at (marker_at 1 1 1) tokens.FlowMappingStart ∷
+          empty_at (marker_at 1 1 1) tokens.Value ∷
+          piece_from_to (marker_at 2 1 2) (marker_at 3 1 3) (tokens.Scalar Plain (codes "a")) ∷
+          empty_at (marker_at 3 1 3) tokens.FlowMappingEnd ∷
+          piece_from_to (marker_at 3 1 3) (marker_at 4 1 4) tokens.FlowSequenceEnd ∷
+          empty_at (marker_at 4 2 0) tokens.StreamEnd ∷
+          [];
+      refusal = None;
+    }
+
+abbrev pub colon_in_next_entry : Remaining
+colon_in_next_entry =
+    record {
+      pieces =
+          empty_at (marker_at 0 1 0) tokens.StreamStart ∷
+          piece_from_to (marker_at 0 1 0) (marker_at 1 1 1) tokens.FlowSequenceStart ∷
+          piece_from_to (marker_at 1 1 1) (marker_at 4 1 4) (tokens.Scalar SingleQuoted (codes "a")) ∷
+          piece_from_to (marker_at 4 1 4) (marker_at 5 1 5) tokens.FlowEntry ∷
+          empty_at (marker_at 5 1 5) tokens.FlowMappingStart ∷
+          empty_at (marker_at 5 1 5) tokens.Value ∷
+          piece_from_to (marker_at 6 1 6) (marker_at 7 1 7) (tokens.Scalar Plain (codes "b")) ∷
+          empty_at (marker_at 7 1 7) tokens.FlowMappingEnd ∷
+          piece_from_to (marker_at 7 1 7) (marker_at 8 1 8) tokens.FlowSequenceEnd ∷
+          empty_at (marker_at 8 2 0) tokens.StreamEnd ∷
           [];
       refusal = None;
     }

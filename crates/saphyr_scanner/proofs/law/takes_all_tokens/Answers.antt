@@ -19,8 +19,8 @@ some_indicator block_style.Folded [] e = absurd (omega (arith, e))
 pub returns : goal.returns
 returns c =
     let laws : TextLaws = record {
-      plain = c.reads_plain_values.ensures;
-      quotes = c.keeps_markers_out_of_quotes.ensures;
+      plain = c.indents_plain_lines.ensures;
+      quotes = c.spells_quoted_lines.ensures;
       ink = c.begins_plain_scalars_with_ink.ensures;
       block_text = λ style indent s t text span e r. c.reads_block_texts.ensures style indent s t text span
           (ap is_break e ∙ indicator_begins style) (some_indicator style s.rest e) r;
