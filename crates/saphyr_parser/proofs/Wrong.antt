@@ -9,3 +9,13 @@ pub mod Tags
 pub mod Brackets
 pub mod Prefixes
 pub mod Handles
+pub mod Absent
+pub mod Balanced
+pub mod Unmarked
+pub mod Whole
+pub mod Mappings
+pub mod TextEnds
+pub mod Lines
+pub mod FirstCharacters
+pub mod FlowColons
+pub mod OwnLines

@@ -188,14 +188,16 @@ pub fn closes_at_markers()
         examples.start_events }
 {}
 
-/// The line `---` has all the premises of the promise on the layout grammar, and is a closed beginning, behind a
-/// byte order mark too: where the promises hold, a parser gives its events, and where `[` follows those up to the
+/// The line `---` has all the premises of the promise on the layout grammar, and is a closed beginning, behind
+/// byte order marks too: where the promises hold, a parser gives its events, and where `[` follows those up to the
 /// document's start.
 pub fn closes_layout()
     ensures closed { (keep : Bool) → IsClosed (IsLayoutText most_open) IsLineRest 100 keep
         (codes "---\n[") examples.start_events }
     ensures marked { (keep : Bool) → IsClosed (IsLayoutText most_open) IsLineRest 100 keep
         (codes "\u{feff}---\n[") examples.start_events }
+    ensures twice { (keep : Bool) → IsClosed (IsLayoutText most_open) IsLineRest 100 keep
+        (codes "\u{feff}\n\u{feff}---\n[") examples.start_events }
     ensures behind { (keep : Bool) → IsClosed (IsLayoutText most_open) IsLineRest 100 keep
         (codes "---\n...\n\u{feff}---\n[") examples.two_starts_events }
     ensures alone { (parser : EventCursor) (keep : Bool) → ReadsLayout 100 (codes "---\n") parser

@@ -1,6 +1,7 @@
 //! What is true of each answer that is taken from a text, and wrong answers that are not.
-ghost use Rattle.std.specs.Prelude.{[], Bool, List, codes, ℕ};
-ghost use Rattle.std.specs.List.{All};
+ghost use Rattle.std.specs.Prelude.{◌≡◌, [], Bool, IsFalse, List, None, codes, length, ℕ};
+ghost use Rattle.std.specs.List.{All, list_any};
+ghost use Rattle.saphyr_input.specs.Classes.{is_one_of};
 ghost use Rattle.saphyr_scalar.specs.declared.scalar.position.Span.{Span};
 ghost use Rattle.saphyr_machine.specs.Answer.{Answer};
 ghost use Rattle.saphyr_machine.specs.Events.{Happening};
@@ -9,6 +10,9 @@ ghost use Rattle.saphyr_parser.specs.Nesting.{IsAtStart, IsNested};
 ghost use Rattle.saphyr_parser.specs.SpansWithin.{HasSpansIn};
 ghost use Rattle.saphyr_parser.specs.Examples.WrongAnswers as wrong;
 ghost use Rattle.saphyr_parser.specs.Examples.WrongAnswers.{BeginsWithInk, EndsWithStreamEnd};
+ghost use Rattle.saphyr_parser.specs.Examples.WrongMappings as mapping;
+ghost use Rattle.saphyr_parser.specs.Examples.WrongPlaces as place;
+ghost use Rattle.saphyr_parser.specs.Examples.WrongMappings.{BeginsMappingBefore, IsNoMapping};
 
 /// The end of the stream is the last event, and no other is; where a fault ends the events, none is.
 pub fn ends_with_stream_end()
@@ -62,6 +66,42 @@ pub fn takes_no_other_answers()
     ensures literal_as_plain { (keep : Bool) → ¬ AreTaken keep (codes ": |\n a\n")
         wrong.literal_as_plain }
     ensures one_entry { (keep : Bool) → ¬ AreTaken keep (codes ": [a, b]\n") wrong.one_entry }
+{}
+
+/// A mapping has a `:`, a `?` or a `}` in its text: where a text has none of these, and no fault ends the events, no
+/// mapping is among them.
+pub fn marks_mappings()
+    ensures { (keep : Bool) (text : List ℕ) (a : Answer) → AreTaken keep text a
+        → a.fault ≡ None → IsFalse (list_any (is_one_of (codes ":?}")) text)
+        → All (λ (e : Happening × Span). IsNoMapping e.0) a.events }
+{}
+
+/// A mapping begins before the end of the text, where no fault ends the events.
+pub fn begins_mappings_inside()
+    ensures { (keep : Bool) (text : List ℕ) (a : Answer) → AreTaken keep text a
+        → a.fault ≡ None
+        → All (λ (e : Happening × Span). BeginsMappingBefore (length text) e.0 e.1) a.events }
+{}
+
+/// So no mapping is taken from `{a`, as if the brace were closed, from `a`, as if it were a key, or from `[a]`, as if
+/// it were a pair; nor from `:` an empty one for its value.
+pub fn takes_no_other_mappings()
+    ensures open_brace { (keep : Bool) → ¬ AreTaken keep (codes "{a") mapping.open_brace }
+    ensures key_without_colon { (keep : Bool) → ¬ AreTaken keep (codes "a")
+        mapping.key_without_colon }
+    ensures pair_without_colon { (keep : Bool) → ¬ AreTaken keep (codes "[a]")
+        mapping.pair_without_colon }
+    ensures empty_mapping { (keep : Bool) → ¬ AreTaken keep (codes ":") mapping.empty_mapping }
+{}
+
+/// Nothing stands where the standard has none of its kind: in `- a` LF `-` the second line is none of the scalar's,
+/// since it stands at the sequence's column; in `[:a]` the colon, which an `a` follows, parts no pair; and in `&c a: b`
+/// LF `: v` the anchor, on the line of the first key, is not the mapping's.
+pub fn takes_no_other_places()
+    ensures later_line { (keep : Bool) → ¬ AreTaken keep (codes "- a\n-") place.later_line }
+    ensures colon_in_flow { (keep : Bool) → ¬ AreTaken keep (codes "[:a]") place.colon_in_flow }
+    ensures other_anchor { (keep : Bool) → ¬ AreTaken keep (codes "&c a: b\n: v\n")
+        place.other_anchor }
 {}
 
 /// In `a:` LF `- [x]` the bracket is the second sequence's: where the first start has it, the second one

@@ -2,12 +2,13 @@
 -- too.
 use Rattle.std.specs.Prelude.{codes}
 use Rattle.std.proofs.Common.{◌≡◌, ℕ, Bool, true, false, List, [], ◌∷◌, Some, refl, inl, inr, arith}
-use Rattle.scalar_laws.specs.Spelling.Spaces.{IsEol, IsFiller, IsLastFiller, IsLineRest}
+use Rattle.scalar_laws.specs.Spelling.Spaces.{AreMany, IsEol, IsFiller, IsLastFiller, IsLineRest}
 use Rattle.saphyr_scanner.specs.Limits.{most_open}
 use Rattle.saphyr_scanner.specs.Grammar.Forest.{left_out}
 use Rattle.saphyr_machine.specs.Events as events
 use Rattle.saphyr_machine.specs.Events.{empty_scalar}
-use Rattle.layout_laws.specs.Grammar.Layout.{IsDocument, IsDocumentSuffix, AreDocuments, IsLayoutText}
+use Rattle.layout_laws.specs.Grammar.Layout.{IsDocument, IsDocumentPrefix, no_prefix, mark_prefix, IsDocumentSuffix, AreDocuments, IsLayoutText}
+use Rattle.layout_laws.specs.Grammar.ClosedTexts.{IsMarkBehindFiller}
 use Rattle.layout_laws.specs.Grammar.BlockNodes.{IsBlockNode}
 use Rattle.layout_laws.proofs.Examples.MarkerAlone.{stands_for_one}
 use Rattle.saphyr_parser.specs.ForestEvents.{events}
@@ -72,8 +73,15 @@ starts_alone free behind =
 last_start : AreDocuments (IsBlockNode most_open) examples.start_forest true (codes "---\n")
 last_start = ([], codes "---\n", [], no_filler, starts_alone true [], inl no_last_filler, refl)
 
+one_mark : (behind : List ℕ) → IsDocumentPrefix (codes "\u{feff}") behind
+one_mark behind = mark_prefix [] [] behind no_filler (no_prefix behind)
+
+-- the same before a marker
+mark_ahead : AreMany IsMarkBehindFiller (codes "\u{feff}")
+mark_ahead = (codes "\u{feff}" ∷ [], (([], no_filler, refl), tt), refl)
+
 marked_stands : IsLayoutText most_open examples.start_forest (codes "\u{feff}---\n")
-marked_stands = (codes "\u{feff}", codes "---\n", inr refl, last_start, refl)
+marked_stands = (codes "\u{feff}", codes "---\n", one_mark (codes "---\n"), last_start, refl)
 
 pub marked : (keep : Bool)
     → IsClosed (IsLayoutText most_open) IsLineRest 100 keep (codes "\u{feff}---\n[") examples.start_events
@@ -84,7 +92,7 @@ marked keep =
       begins = refl;
       within = omega arith;
       marker = Starts;
-      ends = (codes "\u{feff}", [], empty_line_rest, inr (inl refl), refl);
+      ends = (codes "\u{feff}", [], empty_line_rest, inr (codes "\u{feff}", mark_ahead, inl refl), refl);
       forest = examples.start_forest;
       told = examples.start_told;
       promised = record { stands_for = marked_stands; within = omega arith; has_events = has_events keep };
@@ -93,13 +101,58 @@ marked keep =
       are_told = refl;
     }
 
+-- ## Behind two of them, with an empty line between
+
+one_line : IsFiller (codes "\n")
+one_line = (codes "\n" ∷ [], (([], ([], [], tt, inl refl, refl), refl), tt), refl)
+
+twice_stands : IsLayoutText most_open examples.start_forest (codes "\u{feff}\n\u{feff}---\n")
+twice_stands =
+    let line = codes "---\n" in (
+      codes "\u{feff}\n\u{feff}",
+      line,
+      mark_prefix [] (codes "\n\u{feff}") line no_filler (mark_prefix (codes "\n") [] line one_line (no_prefix line)),
+      last_start,
+      refl,
+    )
+
+marks_ahead : AreMany IsMarkBehindFiller (codes "\u{feff}\n\u{feff}")
+marks_ahead =
+    (codes "\u{feff}" ∷ codes "\n\u{feff}" ∷ [], (([], no_filler, refl), ((codes "\n", one_line, refl), tt)), refl)
+
+pub twice : (keep : Bool)
+    → IsClosed (IsLayoutText most_open) IsLineRest 100 keep (codes "\u{feff}\n\u{feff}---\n[") examples.start_events
+twice keep =
+    record {
+      front = codes "\u{feff}\n\u{feff}---\n";
+      others = codes "[";
+      begins = refl;
+      within = omega arith;
+      marker = Starts;
+      ends = (
+        codes "\u{feff}\n\u{feff}",
+        [],
+        empty_line_rest,
+        inr (codes "\u{feff}\n\u{feff}", marks_ahead, inl refl),
+        refl,
+      );
+      forest = examples.start_forest;
+      told = examples.start_told;
+      promised = record { stands_for = twice_stands; within = omega arith; has_events = has_events keep };
+      earlier = events.StreamStart ∷ [];
+      is_first = refl;
+      are_told = refl;
+    }
+
+-- ## Behind a `...` line
+
 behind_stands : IsLayoutText most_open examples.two_starts (codes "---\n...\n\u{feff}---\n")
 behind_stands =
     let suffix : IsDocumentSuffix (codes "...\n\u{feff}") (codes "---\n") =
-    ([], codes "\n", codes "\u{feff}", no_filler, inl ([], empty_line_rest, refl), inr ([], no_filler, refl), refl) in (
+    ([], codes "\n", codes "\u{feff}", no_filler, inl ([], empty_line_rest, refl), one_mark (codes "---\n"), refl) in (
       [],
       codes "---\n...\n\u{feff}---\n",
-      inl refl,
+      no_prefix (codes "---\n...\n\u{feff}---\n"),
       (
         [],
         codes "---\n",
@@ -130,7 +183,7 @@ behind keep =
         codes "---\n...\n\u{feff}",
         [],
         empty_line_rest,
-        inr (inr (codes "---\n", [], [], inr (codes "---", refl), empty_line_rest, no_filler, refl)),
+        inr (codes "\u{feff}", mark_ahead, inr (codes "---\n", [], inr (codes "---", refl), empty_line_rest, refl)),
         refl,
       );
       forest = examples.two_starts;

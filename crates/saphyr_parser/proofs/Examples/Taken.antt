@@ -23,8 +23,12 @@ pieces = record { span = examples.start_span; kind = tokens.StreamStart }
 
 are_taken : AreTakenFrom [] (record { pieces = pieces; refusal = None })
 are_taken =
-    let s = text.start_cursor [] in let apart : AreApart s s = taken.nothing s.mark s.rest in
-    (s, (s, s, apart, (refl, inl refl, refl), (s, s, apart, (refl, (refl, inl refl, refl)), refl)), (refl, (refl, tt)), refl)
+    let s = text.start_cursor [] in let apart : AreApart s s = taken.nothing s.mark s.rest in (
+      s,
+      (s, s, apart, (refl, inl refl, refl), (s, s, apart, (refl, (refl, inl refl, refl)), refl)),
+      (refl, (refl, tt)),
+      refl,
+    )
 
 have_tokens : HaveTokens [] examples.no_documents.events pieces
 have_tokens =

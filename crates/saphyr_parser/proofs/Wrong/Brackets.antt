@@ -1,6 +1,6 @@
 -- Inside brackets no plain scalar with a comma is taken, and outside none that begins with `|`.
 use Rattle.std.proofs.Common.{◌≡◌, ℕ, ◌+◌, ◌≤◌, Bool, true, false, List, [], ◌∷◌, ◌++◌, None, refl, sym, ap, ◌∙◌, arith, subst, inl, inr, codes}
-use Rattle.std.specs.Prelude.{◌-◌, ◌≢◌, nat_lt, if◌then◌else◌, slice_index}
+use Rattle.std.specs.Prelude.{◌-◌, nat_lt, if◌then◌else◌, slice_index}
 use Rattle.std.proofs.lemmas.Bool.Decides.{nat_tests}
 use Rattle.saphyr_input.specs.Classes.{is_one_of}
 use Rattle.saphyr_scalar.specs.declared.scalar.position.Marker.{Marker}
@@ -18,51 +18,38 @@ use Rattle.saphyr_scanner.proofs.Taken.Later.{apart_later, token_later, tokens_l
 use Rattle.saphyr_scanner.proofs.Taken.Parts.{open_all, tokens_append}
 use Rattle.saphyr_scanner.proofs.Taken.Places.{Reaches, reaches_reaches, token_reached, tokens_reached}
 use Rattle.taken_laws.proofs.Wrong.Brackets.{comma_is_not_safe}
-use Rattle.taken_laws.proofs.Wrong.Standing.{at_index, has_character, reached_behind, stands_behind}
+use Rattle.taken_laws.proofs.Wrong.Standing.{at_index, has_character}
 use Rattle.saphyr_machine.specs.Events.{Happening, SequenceStart}
 use Rattle.saphyr_parser.specs.EventsTaken.{SpansAll, AreContentTokens, BeginsEntries, IsOf, AreTaken}
 use Rattle.saphyr_parser.specs.Examples.Forests.{plain_event}
 use Rattle.saphyr_parser.specs.Examples.WrongAnswers as wrong
+use Rattle.saphyr_parser.proofs.Wrong.Absent.{nowhere, without_text}
 use Rattle.saphyr_parser.proofs.Wrong.Stretches.{Stretch, AllStretch, stretches, alone, no_property, span_starts}
 
 -- whether brackets are open
-abbrev in_flow : Collections → Bool
+abbrev pub in_flow : Collections → Bool
 in_flow opened = (surroundings_in opened).in_flow
 
 nothing_open : (n : ℕ) → nat_lt 0 n ≡ false → nat_lt 0 (n - 1) ≡ false
 nothing_open n e = grind (arith, nat_tests)
 
-some_open : (n : ℕ) → nat_lt 0 (n + 1) ≡ true
+pub some_open : (n : ℕ) → nat_lt 0 (n + 1) ≡ true
 some_open n = grind (arith, nat_tests)
-
-without_text : (span : Span) (s t : Cursor) → HasNoText span s t → nat_lt span.start.index span.end.index ≡ false
-without_text span s t h = ap (λ (m : Marker). nat_lt span.start.index m.index) h.0 ∙ none span.start.index
-  where
-    none : (n : ℕ) → nat_lt n n ≡ false
-    none n = grind (arith, nat_tests)
 
 -- ## Texts without brackets
 
 module _ (text : List ℕ) (no_bracket : has_character 91 text ≡ false) (no_brace : has_character 123 text ≡ false) where
-  nowhere : (c : ℕ) (s : Cursor) (xs : List ℕ) → Reaches (start_cursor text) s → s.rest ≡ c ∷ xs → c ≢ 0
-      → has_character c text ≡ false → ⊥
-  nowhere c s xs r e n none =
-      let front = reached_behind (start_cursor text).mark text s.mark s.rest r in
-      let there = ap (has_character c) front.1
-      ∙ stands_behind c front.0 s.rest (ap (λ l. slice_index l 0) e) n in
-      let k : false ≡ true = sym none ∙ there in cc
-
   stays_outside : (opened : Collections) (kind : Kind) (span : Span) (s t : Cursor) → Reaches (start_cursor text) s
       → IsToken (surroundings_in opened) kind span s t → in_flow opened ≡ false
       → in_flow (open_behind kind span opened) ≡ false
   stays_outside opened tokens.FlowSequenceStart span s t r h out =
-      absurd (nowhere 91 s t.rest r h.0.0 (λ z. omega (arith, z)) no_bracket)
+      absurd (nowhere text 91 s t.rest r h.0.0 (λ z. omega (arith, z)) no_bracket)
   stays_outside opened tokens.FlowSequenceEnd span s t r h out = nothing_open opened.brackets out
   stays_outside opened tokens.FlowMappingStart span s t r (inl h) out =
-      absurd (nowhere 123 s t.rest r h.0.0 (λ z. omega (arith, z)) no_brace)
+      absurd (nowhere text 123 s t.rest r h.0.0 (λ z. omega (arith, z)) no_brace)
   stays_outside opened tokens.FlowMappingStart span s t r (inr h) out =
       let P : Bool → Type 0 = λ b. in_flow (if b then with_brackets (opened.brackets + 1) opened else opened) ≡ false in
-      subst P (sym (without_text span s t h)) out
+      subst P (sym (without_text span h.0)) out
   stays_outside opened tokens.FlowMappingEnd span s t r h out = by (nat_lt span.start.index span.end.index)
     where
       by : (b : Bool) → in_flow (if b then with_brackets (opened.brackets - 1) opened else opened) ≡ false
@@ -83,7 +70,7 @@ module _ (text : List ℕ) (no_bracket : has_character 91 text ≡ false) (no_br
 -- ## Inside brackets
 
 -- a token without a text closes no bracket
-stays_inside : (opened : Collections) (kind : Kind) (span : Span) (s t : Cursor)
+pub stays_inside : (opened : Collections) (kind : Kind) (span : Span) (s t : Cursor)
     → IsToken (surroundings_in opened) kind span s t
     → t.mark.index ≡ s.mark.index → in_flow opened ≡ true → in_flow (open_behind kind span opened) ≡ true
 stays_inside opened tokens.FlowSequenceStart span s t h e inside = some_open opened.brackets
@@ -98,10 +85,10 @@ stays_inside opened tokens.FlowMappingEnd span s t (inl h) e inside =
     absurd (let k = ap (λ (m : Marker). m.index) h.0.1 in omega (arith, e, k))
 stays_inside opened tokens.FlowMappingEnd span s t (inr h) e inside =
     let P : Bool → Type 0 = λ b. in_flow (if b then with_brackets (opened.brackets - 1) opened else opened) ≡ true in
-    subst P (sym (without_text span s t h)) inside
+    subst P (sym (without_text span h.0)) inside
 stays_inside opened _ span s t h e inside = inside
 
-all_inside : (opened : Collections) (ps : List Piece) (s u : Cursor) → AreTokens opened ps s u
+pub all_inside : (opened : Collections) (ps : List Piece) (s u : Cursor) → AreTokens opened ps s u
     → u.mark.index ≡ s.mark.index → in_flow opened ≡ true → in_flow (open_all ps opened) ≡ true
 all_inside opened [] s u h e inside = inside
 all_inside opened (p ∷ ps) s u h e inside =
@@ -143,14 +130,14 @@ bar_refused opened own s u span r out content h spans first =
         cc
 
 -- where no bracket stands in the text, none is open at any event
-abbrev AllOutside : (text : List ℕ) (opened : Collections) (from : Cursor) (es : List (Happening × Span))
+abbrev pub AllOutside : (text : List ℕ) (opened : Collections) (from : Cursor) (es : List (Happening × Span))
     → AllStretch text opened from es → Type 0
 AllOutside text opened from [] h = Unit {0}
 AllOutside text opened from (e ∷ es) h =
     (in_flow (open_all h.0.skipped opened) ≡ false)
     × AllOutside text (open_all h.0.own (open_all h.0.skipped opened)) h.0.end es h.1
 
-events_outside : (text : List ℕ) → has_character 91 text ≡ false → has_character 123 text ≡ false
+pub events_outside : (text : List ℕ) → has_character 91 text ≡ false → has_character 123 text ≡ false
     → (opened : Collections) (from : Cursor) (es : List (Happening × Span)) (h : AllStretch text opened from es)
     → Reaches (start_cursor text) from → in_flow opened ≡ false → AllOutside text opened from es h
 events_outside text a b opened from [] h r out = tt

@@ -107,7 +107,7 @@ owned keep text a t =
 event_ink : (text : List ℕ) (what : Happening) (span : Span) → Owned text what span → BeginsWithInk what
 event_ink text (Scalar value style.Plain id tag) span (inl e) = ap (λ v. is_blank_or_break (slice_index v 0)) e
 event_ink text (Scalar value style.Plain id tag) span (inr o) =
-    plain_value_ink o.at.in_flow value o.own o.here o.behind o.is
+    plain_value_ink o.at.in_flow o.at.indent value o.own o.here o.behind o.is
 event_ink text _ span o = tt
 
 all_ink : (text : List ℕ) (es : List (Happening × Span)) → AllOwned text es

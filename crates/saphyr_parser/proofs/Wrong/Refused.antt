@@ -31,7 +31,7 @@ white_refused : (text value : List ℕ) (span : Span) → (space ∷ value ≡ [
     → ⊥
 white_refused text value span (inl e) = cc
 white_refused text value span (inr h) =
-    let k = plain_value_ink h.at.in_flow (32 ∷ value) h.own h.here h.behind h.is in cc
+    let k = plain_value_ink h.at.in_flow h.at.indent (32 ∷ value) h.own h.here h.behind h.is in cc
 
 pub blank_first_is_not_taken : (keep : Bool) → AreTaken keep (codes "- a") wrong.blank_first → ⊥
 blank_first_is_not_taken keep t = white_refused (codes "- a") (codes "a") _

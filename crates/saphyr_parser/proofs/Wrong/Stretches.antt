@@ -22,7 +22,7 @@ use Rattle.saphyr_machine.specs.Events.{Happening}
 use Rattle.saphyr_parser.specs.EventsTaken as taking
 use Rattle.saphyr_parser.specs.EventsTaken.{SpansAll, ArePropertyTokens, AreContentTokens, BelongsToNone, IsAnchorKind, IsTagKind, IsOf, HaveTokens, AreTaken}
 
-abbrev AreSkipped : List Piece → Type 0
+abbrev pub AreSkipped : List Piece → Type 0
 AreSkipped [] = Unit {0}
 AreSkipped (p ∷ ps) = BelongsToNone p.kind × AreSkipped ps
 
@@ -157,7 +157,7 @@ content_words k ts w (front, own, either, kind, is) =
     by (inr p) = property_words front p
 
 -- a tag begins with `!`, and so does each handle
-tag_begins : (text handle suffix : List ℕ) → IsTagText text handle suffix → (more : List ℕ) × (text ≡ 33 ∷ more)
+pub tag_begins : (text handle suffix : List ℕ) → IsTagText text handle suffix → (more : List ℕ) × (text ≡ 33 ∷ more)
 tag_begins text handle suffix (inl h) = ([], h.0)
 tag_begins text handle suffix (inr (inl h)) = (60 ∷ (h.0 ++ 62 ∷ []), h.3)
 tag_begins text handle suffix (inr (inr (back, is, some, written, whole))) = by is
@@ -200,7 +200,7 @@ property_begins at (tokens.Tag handle suffix) span s t w h =
 property_begins at _ span s t (inl w) h = absurd w
 property_begins at _ span s t (inr w) h = absurd w
 
-first_property : (p : Piece) (ps : List Piece) → ArePropertyTokens (p ∷ ps) → IsAnchorKind p.kind ⊎ IsTagKind p.kind
+pub first_property : (p : Piece) (ps : List Piece) → ArePropertyTokens (p ∷ ps) → IsAnchorKind p.kind ⊎ IsTagKind p.kind
 first_property p [] h = h
 first_property p (q ∷ []) (inl h) = inl h.0
 first_property p (q ∷ []) (inr h) = inr h.0

@@ -40,10 +40,10 @@ EndsWithStreamEnd a = EndsSo a.fault a.events
 
 -- ## Wrong answers
 
-abbrev span_of : Marker → Marker → Span
+abbrev pub span_of : Marker → Marker → Span
 span_of start end = record { start = start; end = end }
 
-abbrev origin : Span
+abbrev pub origin : Span
 origin = span_of (marker_at 0 1 0) (marker_at 0 1 0)
 
 -- `- a` with the value ` a`

@@ -1,4 +1,5 @@
-use Rattle.saphyr_parser.proofs.Examples.ClosedLayout.{line_closes, marked, behind, gives_start, gives_first}
+use Rattle.saphyr_parser.proofs.Examples.ClosedLayout.{line_closes, marked, twice, behind, gives_start}
+use Rattle.saphyr_parser.proofs.Examples.ClosedLayout.{gives_first}
 use Rattle.saphyr_parser.proofs.law.closes_layout.Goals as goal
 
 pub returns-clause-closed : goal.returns-clause-closed
@@ -6,6 +7,9 @@ returns-clause-closed c = line_closes
 
 pub returns-clause-marked : goal.returns-clause-marked
 returns-clause-marked c = marked
+
+pub returns-clause-twice : goal.returns-clause-twice
+returns-clause-twice c = twice
 
 pub returns-clause-behind : goal.returns-clause-behind
 returns-clause-behind c = behind

@@ -1,0 +1,81 @@
+-- Where no fault ends the events, the tokens that they have are all of a text's and all of a forest's.
+use Rattle.std.proofs.Common.{◌≡◌, List, [], ◌∷◌, ◌++◌, Option, Some, None, ap, ◌∙◌, append-nil, subst, ℕ, Bool}
+use Rattle.std.specs.List.{All}
+use Rattle.std.proofs.lemmas.List.Elements.{All-nil, All-cons}
+use Rattle.saphyr_scalar.specs.declared.scalar.position.Span.{Span}
+use Rattle.saphyr_scalar.specs.Views.Cursor.{Cursor, start_cursor}
+use Rattle.saphyr_scanner.specs.Grammar.Forest.{Forest}
+use Rattle.saphyr_scanner.specs.Grammar.TokenGrammar.{Yields}
+use Rattle.saphyr_scanner.specs.Grammar.Tokens.{Kind}
+use Rattle.saphyr_scanner.specs.TokensInPlace.{not_enclosed, AreInPlace}
+use Rattle.saphyr_scanner.specs.TokensTaken.{no_collections, AreTokens}
+use Rattle.saphyr_scanner.specs.Views.Tokens.{Piece}
+use Rattle.saphyr_machine.specs.Answer.{Answer, Ending}
+use Rattle.saphyr_machine.specs.Events.{Happening}
+use Rattle.saphyr_parser.specs.EventsTaken as taking
+use Rattle.saphyr_parser.specs.EventsTaken.{IsOf, HaveTokens, IsAllUnless, AreTaken}
+use Rattle.saphyr_parser.specs.Exactly.{kinds}
+use Rattle.saphyr_parser.proofs.Wrong.Absent.{Each}
+
+-- all tokens of the text, which are a forest's, and of which the events are told
+pub record Whole (text : List ℕ) (es : List (Happening × Span)) : Type 0 where
+  pub forest : Forest
+  pub pieces : List Piece
+  pub end : Cursor
+  pub taken : AreTokens no_collections pieces (start_cursor text) end
+  pub in_place : AreInPlace not_enclosed pieces
+  pub yielded : Yields forest (kinds pieces)
+  pub unread : List Piece
+  pub places : HaveTokens unread es pieces
+
+nothing_more : (fault : Option Ending) {X : Type 0} (more : List X) → fault ≡ None → IsAllUnless fault more
+    → more ≡ []
+nothing_more None more e h = h
+nothing_more (Some f) more e h = absurd (cc)
+
+pub whole : (keep : Bool) (text : List ℕ) (a : Answer) → AreTaken keep text a → a.fault ≡ None
+    → Whole text a.events
+whole keep text a t fault =
+    let r = t.1 in
+    let b = r.begins in
+    let P : List Kind → Type 0 = λ l. Yields t.0 (kinds b.read ++ l) in
+    let Q : List Piece → Type 0 = λ l. AreTokens no_collections l (start_cursor text) r.taken.0 in
+    let R : List Piece → Type 0 = λ l. AreInPlace not_enclosed l in
+    let all_read : r.tokens.pieces ≡ b.read = b.are_read
+    ∙ ap (λ l. b.read ++ l) (nothing_more a.fault b.unread fault b.all_read) ∙ append-nil b.read in
+    record {
+      forest = t.0;
+      pieces = b.read;
+      end = r.taken.0;
+      taken = subst Q all_read r.taken.1;
+      in_place = subst R all_read r.taken.2;
+      yielded = subst (Yields t.0) (append-nil (kinds b.read))
+          (subst P (nothing_more a.fault b.expected fault b.all_expected) b.yielded);
+      unread = b.unread;
+      places = b.places;
+    }
+
+-- ## From tokens to events
+
+pub each_parts : (P : Kind → Span → Type 0) (ps qs : List Piece) → Each P (ps ++ qs) → Each P ps × Each P qs
+each_parts P [] qs h = (tt, h)
+each_parts P (p ∷ ps) qs h = let more = each_parts P ps qs h.1 in ((h.0, more.0), more.1)
+
+abbrev pub EachEvent : (Happening → Span → Type 0) → List (Happening × Span) → Type 0
+EachEvent Q [] = Unit {0}
+EachEvent Q (e ∷ es) = Q e.0 e.1 × EachEvent Q es
+
+pub each_event : (P : Kind → Span → Type 0) (Q : Happening → Span → Type 0) (unread : List Piece)
+    (es : List (Happening × Span)) (ts : List Piece)
+    → ((what : Happening) (span : Span) (own others : List Piece) → IsOf what span own others → Each P own
+    → Q what span) → HaveTokens unread es ts → Each P ts → EachEvent Q es
+each_event P Q unread _ _ f (taking.nothing ts) h = tt
+each_event P Q unread _ _ f (taking.passed es t ts b k) h = each_event P Q unread es ts f k h.1
+each_event P Q unread _ _ f (taking.event what span es own ts i k) h =
+    let parts = each_parts P own ts h in
+    (f what span own (ts ++ unread) i parts.0, each_event P Q unread es ts f k parts.1)
+
+pub all_events : (Q : Happening → Span → Type 0) (es : List (Happening × Span)) → EachEvent Q es
+    → All (λ (e : Happening × Span). Q e.0 e.1) es
+all_events Q [] h = All-nil (λ (e : Happening × Span). Q e.0 e.1)
+all_events Q (e ∷ es) h = All-cons (λ (x : Happening × Span). Q x.0 x.1) e es h.0 (all_events Q es h.1)

@@ -1,0 +1,13 @@
+use Rattle.saphyr_parser.proofs.Wrong.FlowColons as colons
+use Rattle.saphyr_parser.proofs.Wrong.Lines as lines
+use Rattle.saphyr_parser.proofs.Wrong.OwnLines as own_lines
+use Rattle.saphyr_parser.proofs.taken_law.takes_no_other_places.Goals as goal
+
+pub returns-clause-later_line : goal.returns-clause-later_line
+returns-clause-later_line c = lines.later_line_is_not_taken
+
+pub returns-clause-colon_in_flow : goal.returns-clause-colon_in_flow
+returns-clause-colon_in_flow c = colons.colon_in_flow_is_not_taken
+
+pub returns-clause-other_anchor : goal.returns-clause-other_anchor
+returns-clause-other_anchor c = own_lines.other_anchor_is_not_taken
