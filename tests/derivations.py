@@ -60,9 +60,20 @@ def may_follow(indent, column, behind):
     return not behind or is_marker(behind) or c not in ("", "\n") and at < column and (at < indent or c == "#")
 
 
+def may_follow_empty(indent, column, behind):
+    """The same behind a block scalar without content (IsEmptyBody), whose lines have at most `column` spaces."""
+    at = len(behind) - len(behind.lstrip(" "))
+    return may_follow(indent, column, behind) and (at < indent or not column or not behind)
+
+
 def has_tab_ahead(text):
     """Whether a tab stands before the first token of a text, outside comments (BlockNodes.antt)."""
     return "\t" in re.sub("#[^\n]*", "", re.match("([ \t\n]|#[^\n]*)*", text)[0])
+
+
+def is_value_ahead(column, text):
+    """Whether the first token of a text is the `:` of a value at a column (BlockNodes.antt)."""
+    return bool(re.match("[ \t]{%d}:([ \t\n]|$)" % column, re.sub("^([ \t]*(#.*)?\n)*", "", text)))
 
 
 class Derivation:
@@ -72,7 +83,7 @@ class Derivation:
         self.random, self.hits, self.names, self.handles = random.Random(seed), [], set(), set()
         self.one_of, self.declares, self.fuel = self.random.choice, False, 0
         text, self.forest = self.documents(True, self.one_of((0, 1, 1, 1, 2, 2, 3, 4)))
-        self.text = self.broken(MARK * (self.pick("stream", bare=7, with_a_mark=1) == "with_a_mark") + text)
+        self.text = self.broken(self.prefix(text) + text)
 
     def few(self):
         return self.one_of((0, 0, 0, 0, 1, 1, 2, 3))
@@ -110,12 +121,28 @@ class Derivation:
         """What may stand at the end of a line right behind what a place is behind."""
         return " " if place[0] == "question" else TABS
 
-    def gap(self, place):
-        kind = self.pick(f"gap behind a {place[0]}", spaces=3, next_line=1, nothing=6 * (place[0] == "start"))
+    def line_prefix(self, indent, blanks=TABS):
+        front = self.characters(" ", indent) + (self.characters(blanks) if self.rarely(2) else "")
+        self.hits += ["a tab behind indentation"] * ("\t" in front)
+        return front
+
+    def gap(self, place, node):
+        kind = self.pick(f"gap behind a {place[0]}", blanks=3, next_line=1, nothing=6 * (place[0] == "start"))
+        blanks = self.blanks(place)
         if kind == "next_line":
-            blanks = self.blanks(place)
-            return self.line_end(blanks) + self.filler(blanks=blanks) + self.characters(" ", place[1] + 1)
-        return self.characters(" ", 1) if kind == "spaces" else ""
+            return self.line_end(blanks) + self.filler(blanks=blanks) + self.line_prefix(place[1] + 1, blanks)
+        gap = self.characters(" " if self.rarely(2) else blanks, 1) if kind == "blanks" else ""
+        self.hits += ["a tab before a node"] * ("\t" in gap)
+        is_lone_tab = place[0] in ("key", "mark") and not gap.strip("\t") and re.match("[0-9A-Za-z_-]", node)
+        return " " + gap if is_lone_tab else gap
+
+    def text_gap(self, indent):
+        """A gap behind properties."""
+        if indent is None or self.pick("gap behind properties", blanks=4, next_line=1) == "blanks":
+            gap = self.characters(" " if self.rarely(2) else TABS, 1)
+            self.hits += ["a tab behind properties"] * ("\t" in gap)
+            return gap
+        return self.line_end() + self.filler() + self.line_prefix(indent)
 
     def separation(self, indent, least=0, blanks="   \t"):
         if indent is None or self.pick("separation", blanks=4, lines=1) == "blanks":
@@ -145,18 +172,18 @@ class Derivation:
         self.handles.add(handle)
         return handle + text, (handle, value)
 
-    def properties(self):
+    def properties(self, indent):
         kind = self.pick("properties", anchor=3, tag=1 + (not self.names), both=1)
         anchor = None if kind == "tag" else self.anchor_name(sorted(self.names) or "abc")
         text, tag = ("", None) if kind == "anchor" else self.tag()
         self.names.discard(anchor)
         written = ["&" + anchor, text][:2 if tag else 1] if anchor else [text]
         self.random.shuffle(written)
-        return self.characters(" ", 1).join(written), (anchor, tag)
+        return self.text_gap(indent).join(written), (anchor, tag)
 
-    def before(self, name, separation):
+    def before(self, name, indent, separation):
         kind = self.pick(f"before {name}", nothing=6, properties=1 + 3 * bool(self.names))
-        text, properties = self.properties() if kind == "properties" else ("", NO_PROPERTIES)
+        text, properties = self.properties(indent) if kind == "properties" else ("", NO_PROPERTIES)
         return text and text + separation, properties
 
     def directives(self):
@@ -192,7 +219,7 @@ class Derivation:
         for _ in range(self.few()):
             folds = indent is not None and self.pick("word gap", blanks=3, folded=1) == "folded"
             text += self.characters("   \t", not folds) + (self.next_line(indent) if folds else "")
-            text += self.word(in_flow, False)
+            text += ("- " if self.rarely(8) else "") + self.word(in_flow, False)
         return text, ":" + folded(text)
 
     def plain_key(self, in_flow, indent):
@@ -201,7 +228,7 @@ class Derivation:
         word = self.characters(OPEN_INK if in_flow else INK, self.few()) + self.characters("::::-?", 1)
         is_refused = not front and word[0] in FLOW + "&*!|>'\"%@`"
         text = front + ("a" + word if is_refused or word[0] == "#" else word)
-        before, properties = self.before("a plain key", self.separation(indent, 1))
+        before, properties = self.before("a plain key", indent, self.separation(indent, 1))
         self.hits.append("key: its last word is free")
         self.hits += [f"key: {text} alone"] * (text in ("-", "?", ":"))
         return before + text, [("=VAL", properties, ":" + folded(text))]
@@ -231,17 +258,17 @@ class Derivation:
             self.names.add(name)
             return "*" + name, [("=ALI", NO_PROPERTIES, name)]
         if kind == "properties":
-            text, properties = self.properties()
+            text, properties = self.properties(indent)
             return text, [("=VAL", properties, ":")]
         if kind == "tower":  # as many sequences in one another as may be open
             sequence = self.collection("sequence", NO_PROPERTIES, [])
             return ("[" + self.separation(indent)) * room + "]" * room, sequence[:1] * room + sequence[1:] * room
         if kind in ("sequence", "mapping"):
             text, parts = self.items(room - 1, indent, kind)
-            front, properties = self.before("a flow collection", self.separation(indent, 1))
+            front, properties = self.before("a flow collection", indent, self.separation(indent, 1))
             return front + text, self.collection(kind, properties, parts)
         text, shown = self.plain(in_flow, indent) if kind == "plain" else self.quoted("'\""[kind == "double"], indent)
-        front, properties = self.before("a flow scalar", self.separation(indent, 1))
+        front, properties = self.before("a flow scalar", indent, self.separation(indent, 1))
         return front + text, [("=VAL", properties, shown)]
 
     def collection(self, kind, properties, parts):
@@ -294,13 +321,15 @@ class Derivation:
         if kind == "left_out":
             return self.eol(behind, self.blanks(place)), LEFT_OUT
         if kind == "scalar":
-            text, shown = self.block_scalar(behind, *self.one_of(starts))
-            front, properties = self.before("a block scalar", self.characters(" ", 1))
-            return self.gap(place) + front + text, [("=VAL", properties, shown)]
+            column, digit = self.one_of(starts)
+            lacks_content = may_follow_empty(indent, column, behind) and self.rarely(4 if behind else 2)
+            text, shown = (self.empty_scalar if lacks_content else self.block_scalar)(behind, column, digit)
+            front, properties = self.before("a block scalar", indent, self.text_gap(indent))
+            return self.gap(place, front + text) + front + text, [("=VAL", properties, shown)]
         if kind in ("sequence", "mapping"):
             return self.block_collection(place, behind, kind)
         text, parts = self.flow_node(MOST_OPEN, False, indent)
-        return self.gap(place) + text + self.eol(behind), parts
+        return self.gap(place, text) + text + self.eol(behind), parts
 
     def block_scalar(self, behind, column, digit):
         first, lines = self.few(), []
@@ -310,14 +339,40 @@ class Derivation:
             line = "a" + line if column == 0 and (is_marker(line) or at == 0 and line[0] == "\t") else line
             lines.append(None if at < first or at > first and self.rarely(3) else line)
         body = "\n".join(" " * (self.random.randint(0, column) if it is None else column) + (it or "") for it in lines)
-        body += "\n" * bool(behind or lines[-1] is None or self.rarely(2))
+        cut = not behind and self.rarely(3)
+        if cut:
+            # spaces up to the text's end, which are an empty line at the column and none left of it
+            spaces = self.random.randint(0, column)
+            body += "\n" + " " * spaces
+            lines += [None] * (spaces == column > 0)
+        else:
+            body += "\n" * bool(behind or lines[-1] is None or self.rarely(2))
         told = {"its indentation is given": digit, "at column 0": not column, "its last line is empty": not lines[-1],
-                "its last break lacks": body[-1] != "\n", "a comment left of it": behind.lstrip(" ")[:1] == "#",
+                "its last break lacks": body[-1] != "\n" and not cut, "spaces at the text's end": cut, "a comment left of it": behind.lstrip(" ")[:1] == "#",
                 "a tab left of it": behind.lstrip(" ")[:1] == "\t"}
         self.hits += [f"block scalar: {it}" for it in told if told[it]]
+        style, chomping, header = self.header(digit)
+        return header + self.line_end(" \t") + body, style + block_value(style == ">", chomping, lines)
+
+    def header(self, digit):
         style, chomping = self.one_of("|>"), self.pick("chomping", clip=1, strip=1, keep=1)
-        header = "".join([str(digit or ""), {"clip": "", "strip": "-", "keep": "+"}[chomping]][::self.one_of((1, -1))])
-        return style + header + self.line_end(" \t") + body, style + block_value(style == ">", chomping, lines)
+        marks = [str(digit or ""), {"clip": "", "strip": "-", "keep": "+"}[chomping]][::self.one_of((1, -1))]
+        return style, chomping, style + "".join(marks)
+
+    def empty_scalar(self, behind, column, digit):
+        """A block scalar without content (IsEmptyBody)."""
+        style, chomping, header = self.header(digit)
+        # no tab stands right behind the header's line
+        end, count = self.line_end(" \t"), self.few() or int(behind[:1] == "\t")
+        body = "".join(" " * self.random.randint(0, column) + "\n" for _ in range(count))
+        told = "no lines" if not count else "empty lines"
+        if not behind and self.rarely(2):
+            spaces = self.random.randint(0, column)
+            told, count, body = "spaces at the text's end", count or int(spaces > 0), body + " " * spaces
+            if not body and self.rarely(2):
+                told, end = "a header at the text's end", end[:-1]
+        self.hits += [f"block scalar without content: {told}"]
+        return header + end + body, style + "\n" * (count if chomping == "keep" else 0)
 
     def block_collection(self, place, behind, kind):
         name, column = place
@@ -329,9 +384,9 @@ class Derivation:
         if lead == "compact":
             return spaces + text, self.collection(kind, NO_PROPERTIES, parts)
         self.hits += ["block sequence: at its mapping's column"] * (at == column)
-        front, properties = self.before("a block collection", "")
+        front, properties = self.before("a block collection", column + 1, "")
         blanks = TABS if front else self.blanks(place)
-        front = (front and spaces + front) + self.line_end(blanks) + self.filler(blanks=blanks)
+        front = (front and self.gap(place, front) + front) + self.line_end(blanks) + self.filler(blanks=blanks)
         return front + " " * at + text, self.collection(kind, properties, parts)
 
     def entries(self, column, behind, kind):
@@ -343,8 +398,12 @@ class Derivation:
         return text, parts
 
     def block_pair(self, column, behind):
-        kind = self.pick("block pair", key=6, mark=2, key_alone=1)
-        text, value = ("", LEFT_OUT) if kind == "key_alone" else self.block_node((kind, column), behind)
+        may_be_alone = int(not is_value_ahead(column, behind))
+        kind = self.pick("block pair", key=6, mark=2, no_key=1, key_alone=may_be_alone)
+        place = "mark" if kind == "mark" else "key"
+        text, value = ("", LEFT_OUT) if kind == "key_alone" else self.block_node((place, column), behind)
+        if kind == "no_key":
+            return ":" + text, LEFT_OUT + value
         if kind != "key":
             colon = self.filler() + " " * column + ":" if kind == "mark" else ""
             node, key = self.block_node(("question", column), colon + text + behind)
@@ -355,7 +414,7 @@ class Derivation:
             return node + ":" + text, key + value
         if is_plain:
             node, key, self.names = "a", [("=VAL", NO_PROPERTIES, ":a")], names
-        node += self.characters(" ", key[0][0] == "=ALI" or key[0][2] == ":")
+        node += self.characters("  \t", key[0][0] == "=ALI" or key[0][2] == ":")
         node = node.ljust(LONGEST_KEY) if self.pick("key", any=60, as_long_as_it_may_be=1) != "any" else node
         if len(node) > LONGEST_KEY:
             node = "? " + node + "\n" + " " * column
@@ -375,13 +434,21 @@ class Derivation:
                 return directives + "---" * (kind != "bare") + text, (prefixes, parts)
             del self.hits[count:]
 
+    def prefix(self, behind):
+        """What may stand where a document is free: byte order marks and `...` lines, with filler before each."""
+        kind = self.pick("where a document is free", nothing=6, mark=1, end=1)
+        if kind == "nothing":
+            return ""
+        others = self.prefix(behind)
+        return self.filler() + (MARK if kind == "mark" else "..." + self.eol(others + behind)) + others
+
     def documents(self, free, count):
         if not count:
             return self.filler(last=1), []
-        kind = self.pick("behind a document", nothing=2, suffix=1, suffix_with_a_mark=1)
+        kind = self.pick("behind a document", nothing=1, suffix=1)
         others, forest = self.documents(kind != "nothing", count - 1)
         if kind != "nothing":
-            others = (self.filler() + MARK if kind == "suffix_with_a_mark" else "") + others
+            others = self.prefix(others) + others
             others = self.filler() + "..." + self.eol(others) + others
         text, document = self.document(free, others)
         return self.filler() + text + others, [document] + forest

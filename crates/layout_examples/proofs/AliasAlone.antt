@@ -98,25 +98,26 @@ no_blanks (c ∷ d ∷ ds) content (h, (i, j)) n e =
     cc
 
 -- the text that behind properties alone is the rest of the name or blanks and content
-behind_anchor : (anchor : Option (List ℕ)) (x : Option Tag) (t others : List ℕ) → AreProperties anchor x t
+behind_anchor : (indent : ℕ) (anchor : Option (List ℕ)) (x : Option Tag) (t others : List ℕ)
+    → AreProperties anchor x indent t
     → codes "&a *b" ≡ t ++ others → codes " *b" ≡ others
-behind_anchor None None t others h e = absurd h
-behind_anchor (Some name) None t others ((n, h), f) e =
+behind_anchor indent None None t others h e = absurd h
+behind_anchor indent (Some name) None t others ((n, h), f) e =
     no_anchor name others h n (tails 38 38 (codes "a *b") (name ++ others) (rw f at e))
-behind_anchor None (Some x) t others h e =
+behind_anchor indent None (Some x) t others h e =
     absurd (no_tag x t h (before_in is_here (codes "&a *b") t others e anchor_and_alias_stand_here))
-behind_anchor (Some name) (Some x) t others (a, between, w, h, i, s, inl f) e =
-    absurd (no_tag x w i (behind_in is_here (between ++ w) between w refl
-    (behind_in is_here t a (between ++ w) f (before_in is_here (codes "&a *b") t others e
+behind_anchor indent (Some name) (Some x) t others (a, gap, w, h, i, s, inl f) e =
+    absurd (no_tag x w i (behind_in is_here (gap ++ w) gap w refl
+    (behind_in is_here t a (gap ++ w) f (before_in is_here (codes "&a *b") t others e
     anchor_and_alias_stand_here))))
-behind_anchor (Some name) (Some x) t others (a, between, w, h, i, s, inr f) e =
-    absurd (no_tag x w i (before_in is_here t w (between ++ a) f (before_in is_here (codes "&a *b") t others e
+behind_anchor indent (Some name) (Some x) t others (a, gap, w, h, i, s, inr f) e =
+    absurd (no_tag x w i (before_in is_here t w (gap ++ a) f (before_in is_here (codes "&a *b") t others e
     anchor_and_alias_stand_here)))
 
 no_scalar : (p : Properties) (style : Style) (value : List ℕ) (in_flow : Bool) (indent : ℕ) (t : List ℕ)
     → IsScalarNode p style value in_flow indent t → codes "&a *b" ≡ t → ⊥
 no_scalar p style value in_flow indent t (inl (e, f, h)) d =
-    let g : codes " *b" ≡ [] = behind_anchor p.anchor p.tag t [] h (d ∙ sym (append-nil t)) in cc
+    let g : codes " *b" ≡ [] = behind_anchor indent p.anchor p.tag t [] h (d ∙ sym (append-nil t)) in cc
 no_scalar p style value in_flow indent t (inr (before, content, inl (e, f), c, g)) d =
     let same : codes "&a *b" ≡ content = d ∙ (rw f at g) in no_content style value in_flow indent 38 (codes "a *b")
     content c (subst (λ (u : List ℕ). AreHere u) same anchor_and_alias_stand_here) refl same
@@ -128,7 +129,7 @@ no_scalar p style value in_flow indent t (inr (before, content, inr (properties,
     let blank : AreIn is_blank separation = blanks_alone indent separation s
     (before_in is_here (separation ++ content) separation content refl here) in
     let same : codes "*b" ≡ content = no_blanks separation content blank n
-    (behind_anchor p.anchor p.tag properties (separation ++ content) h all) in
+    (behind_anchor indent p.anchor p.tag properties (separation ++ content) h all) in
     no_content style value in_flow indent 42 (codes "b") content c
     (subst (λ (u : List ℕ). AreHere u) same (refl, (refl, tt))) refl same
 

@@ -38,7 +38,7 @@ flow_scalar Folded v in_flow indent t is h = absurd h
 dash_is_no_scalar : (p : Properties) (style : Style) (v : List ℕ) (in_flow : Bool) (indent : ℕ) (t : List ℕ)
     → codes "-" ≡ t
     → IsScalarNode p style v in_flow indent t → ⊥
-dash_is_no_scalar p style v in_flow indent t is (inl (e, f, h)) = dash_is_no_mark t is (properties p.anchor p.tag t h)
+dash_is_no_scalar p style v in_flow indent t is (inl (e, f, h)) = dash_is_no_mark t is (properties indent p.anchor p.tag t h)
 dash_is_no_scalar p style v in_flow indent t is (inr (front, content, b, h, e)) = by_front (before p indent front b)
   where
     by_front : (front ≡ []) ⊎ Begins IsPropertyMark front → ⊥

@@ -1,13 +1,15 @@
 -- Near misses of the layout grammar. The entries of a flow sequence begin with no comma, so `[,]` stands for no
 -- sequence.
 use Rattle.std.proofs.Common.{◌≡◌, ◌≢◌, ℕ, ◌⊎◌, Bool, true, false, List, [], ◌∷◌, ◌++◌, Option, Some, None, inl, inr}
-use Rattle.std.proofs.Common.{refl, arith, codes, ap, IsTrue}
+use Rattle.std.proofs.Common.{refl, arith, codes, ap, ◌==◌, slice_index, IsTrue}
+use Rattle.std.specs.Prelude.{not}
 use Rattle.saphyr_input.specs.Indicators.{comma, left_bracket}
-use Rattle.saphyr_input.specs.Classes.{is_blank}
+use Rattle.saphyr_input.specs.Classes.{byte_order_mark, is_blank}
 use Rattle.saphyr_scalar.specs.Reading.BlockLines.{spaces}
 use Rattle.saphyr_scalar.specs.Spelling.Tag.{AreIn}
 use Rattle.scalar_laws.specs.Spelling.Spaces.{AreEach, joined_pieces, IsSeparationLine, IsSeparation}
-use Rattle.scalar_laws.proofs.Beginnings.{behind_first, heads, Begins, front_of}
+use Rattle.scalar_laws.proofs.Beginnings.{behind_first, heads, Begins, front_of, before_in, lacks}
+use Rattle.scalar_laws.proofs.Beginnings.{no_feed_no_filler}
 use Rattle.saphyr_scanner.specs.Grammar.Forest.{Style, Plain, SingleQuoted, DoubleQuoted, Literal, Folded, Handle}
 use Rattle.saphyr_scanner.specs.Grammar.Forest.{Primary, Secondary, Named, Tag, NonSpecific, Verbatim, Shorthand}
 use Rattle.saphyr_scanner.specs.Grammar.Forest.{Properties, Node, Alias, Scalar, Seq, Map, Nodes, NoNode, MoreNodes}
@@ -19,6 +21,7 @@ use Rattle.layout_laws.specs.Grammar.FlowNodes.{IsPlainKeyNode, IsColonAndValue,
 use Rattle.layout_laws.specs.Grammar.FlowNodes.{IsOpening, IsBeforeColon, IsFlowNode, AreItems, IsPairItem}
 use Rattle.layout_laws.specs.Grammar.BlockNodes.{IsBlockNode}
 use Rattle.layout_laws.specs.Grammar.Layout.{IsBareDocument}
+use Rattle.layout_laws.specs.Grammar.Layout.{IsDocumentPrefix, no_prefix, mark_prefix, end_prefix}
 
 abbrev NoComma : List ℕ → Type 0
 NoComma t = Begins (λ c. c ≢ 44) t
@@ -45,14 +48,15 @@ tag NonSpecific t e = (33, [], inr refl, e)
 tag (Verbatim uri) t (inside, n, d, e) = (33, 60 ∷ (inside ++ codes ">"), inr refl, e)
 tag (Shorthand h s) t (front, back, f, n, d, e) = front_of IsPropertyMark front back t (handle h front f) e
 
-pub properties : (a : Option (List ℕ)) (x : Option Tag) (t : List ℕ) → AreProperties a x t → Begins IsPropertyMark t
-properties None None t h = absurd h
-properties (Some name) None t h = anchor name t h
-properties None (Some x) t h = tag x t h
-properties (Some name) (Some x) t (front, between, written, a, b, s, inl e) =
-    front_of IsPropertyMark front (between ++ written) t (anchor name front a) e
-properties (Some name) (Some x) t (front, between, written, a, b, s, inr e) =
-    front_of IsPropertyMark written (between ++ front) t (tag x written b) e
+pub properties : (indent : ℕ) (a : Option (List ℕ)) (x : Option Tag) (t : List ℕ) → AreProperties a x indent t
+    → Begins IsPropertyMark t
+properties indent None None t h = absurd h
+properties indent (Some name) None t h = anchor name t h
+properties indent None (Some x) t h = tag x t h
+properties indent (Some name) (Some x) t (front, gap, written, a, b, s, inl e) =
+    front_of IsPropertyMark front (gap ++ written) t (anchor name front a) e
+properties indent (Some name) (Some x) t (front, gap, written, a, b, s, inr e) =
+    front_of IsPropertyMark written (gap ++ front) t (tag x written b) e
 
 mark_is_no_comma : (c : ℕ) → IsPropertyMark c → c ≢ comma
 mark_is_no_comma c (inl e) f = omega arith
@@ -70,7 +74,7 @@ pub before : (p : Properties) (indent : ℕ) (t : List ℕ) → IsBeforeContent 
     → (t ≡ []) ⊎ Begins IsPropertyMark t
 before p indent t (inl (e, f)) = inl f
 before p indent t (inr (front, separation, h, n, s, e)) =
-    inr (front_of IsPropertyMark front separation t (properties p.anchor p.tag front h) e)
+    inr (front_of IsPropertyMark front separation t (properties indent p.anchor p.tag front h) e)
 
 mark_has_no_comma : (t : List ℕ) → (t ≡ []) ⊎ Begins IsPropertyMark t → (t ≡ []) ⊎ NoComma t
 mark_has_no_comma t (inl e) = inl e
@@ -98,7 +102,7 @@ flow_scalar Folded v in_flow indent t h = absurd h
 
 scalar_has_no_comma : (p : Properties) (style : Style) (v : List ℕ) (in_flow : Bool) (indent : ℕ) (t : List ℕ)
     → IsScalarNode p style v in_flow indent t → NoComma t
-scalar_has_no_comma p style v in_flow indent t (inl (e, f, h)) = mark_has_no_comma_in t (properties p.anchor p.tag t h)
+scalar_has_no_comma p style v in_flow indent t (inl (e, f, h)) = mark_has_no_comma_in t (properties indent p.anchor p.tag t h)
 scalar_has_no_comma p style v in_flow indent t (inr (front, content, b, h, e)) =
     no_comma_behind front content t (mark_has_no_comma front (before p indent front b))
     (flow_scalar style v in_flow indent content h) e
@@ -106,8 +110,8 @@ scalar_has_no_comma p style v in_flow indent t (inr (front, content, b, h, e)) =
 plain_key_word : (in_flow : Bool) (indent : ℕ) (t : List ℕ) → IsPlainKey in_flow indent t → NoComma t
 plain_key_word in_flow indent [] (inl ((some, ink, sign), b)) = absurd (some refl)
 plain_key_word in_flow indent (c ∷ cs) (inl (word, b)) = (c, cs, (λ e. comma_is_no_plain c e b), refl)
-plain_key_word in_flow indent t (inr (first, gap, word, h, g, last, e)) =
-    front_of (λ c. c ≢ 44) first (gap ++ word) t (plain in_flow indent first h) e
+plain_key_word in_flow indent t (inr (first, dashes, gap, word, h, lone, g, last, e)) =
+    front_of (λ c. c ≢ 44) first (dashes ++ (gap ++ word)) t (plain in_flow indent first h) e
 
 plain_key : (x : Node) (in_flow : Bool) (indent : ℕ) (t : List ℕ) → IsPlainKeyNode x in_flow indent t → NoComma t
 plain_key (Alias name) in_flow indent t h = absurd h
@@ -263,3 +267,21 @@ marker_inside room d behind (e, f, h) = cc
 
 pub two_versions : (major minor : ℕ) → AreCompatible (Version 1 2 ∷ Version major minor ∷ []) → ⊥
 two_versions major minor ((h, x), y) = h
+
+-- no byte order mark stands behind a blank on its line
+pub mark_behind_blank : (behind : List ℕ) → IsDocumentPrefix (codes " \u{feff}") behind → ⊥
+mark_behind_blank behind h = by_text (codes " \u{feff}") behind h refl
+  where
+    by_filler : (filler others : List ℕ) → codes " \u{feff}" ≡ filler ++ (byte_order_mark ∷ others) → filler ≡ [] → ⊥
+    by_filler filler others e none =
+        let f : codes " \u{feff}" ≡ 65279 ∷ others = rw none at e in
+        let g : 65279 ≡ 32 = heads 32 65279 (codes "\u{feff}") others f in omega (arith, g)
+
+    by_text : (t behind : List ℕ) → IsDocumentPrefix t behind → codes " \u{feff}" ≡ t → ⊥
+    by_text _ _ (no_prefix behind) e = let f : true ≡ false = ap (λ x. slice_index x 0 == 32) e in cc
+    by_text _ _ (mark_prefix filler others behind f p) e =
+        by_filler filler others e (no_feed_no_filler filler
+        (before_in (λ c. not (c == 10)) (codes " \u{feff}") filler (65279 ∷ others) e (refl, (refl, tt))) f)
+    by_text _ _ (end_prefix filler end others behind f l p) e =
+        lacks (λ c. not (c == 46)) 46 (codes " \u{feff}") filler (codes ".." ++ (end ++ others)) refl e
+        (refl, (refl, tt))

@@ -1,8 +1,8 @@
 -- The line `---` stands for nothing but one document whose node is left out.
 use Rattle.std.proofs.Common.{◌≡◌, ◌≢◌, ℕ, zero, suc, ◌⊎◌, Bool, true, false, ◌==◌, List, [], ◌∷◌, ◌++◌, inl, inr, refl}
-use Rattle.std.proofs.Common.{◌∙◌, arith, codes, ap, subst, IsFalse}
+use Rattle.std.proofs.Common.{◌∙◌, arith, codes, ap, sym, subst, append_assoc, IsFalse}
 use Rattle.saphyr_input.specs.Indicators.{hyphen, percent_sign}
-use Rattle.saphyr_input.specs.Classes.{byte_order_mark, line_feed}
+use Rattle.saphyr_input.specs.Classes.{line_feed}
 use Rattle.saphyr_scalar.specs.Reading.BlockLines.{spaces}
 use Rattle.saphyr_scalar.specs.Spelling.Tag.{AreIn}
 use Rattle.scalar_laws.specs.Spelling.Plain.{is_word_ink}
@@ -19,6 +19,7 @@ use Rattle.layout_laws.specs.Grammar.BlockNodes.{Position, BehindDash, AtStart, 
 use Rattle.layout_laws.specs.Grammar.BlockNodes.{IsStyled, IsScalarInBlock, IsBlockNode, AreEntries, ArePairs}
 use Rattle.layout_laws.specs.Grammar.Layout.{IsDirective, AreDirectives, has_marker, IsExplicitDocument, IsDocument}
 use Rattle.layout_laws.specs.Grammar.Layout.{IsBehindDocument, AreDocuments, IsLayoutText}
+use Rattle.layout_laws.specs.Grammar.Layout.{IsDocumentPrefix, no_prefix, mark_prefix, end_prefix}
 use Rattle.layout_laws.proofs.Examples.MarkerAlone.{only}
 use Rattle.layout_examples.proofs.LayoutRefused.{properties, IsPropertyMark}
 
@@ -37,7 +38,7 @@ no_eol t behind (inr (r, e)) n h = n e
 
 no_flow : (room : ℕ) (x : Node) (place : Position) (t behind : List ℕ) → IsFlowInBlock room x place t behind
     → behind ≢ [] → IsAll 45 t → ⊥
-no_flow room x place t behind (gap, text, end, g, f, l, e) n h =
+no_flow room x place t behind (gap, text, end, g, f, apart, l, e) n h =
     no_eol end behind l n (behind_in (is 45) (text ++ end) text end refl (behind_in (is 45) t gap (text ++ end) e h))
 
 -- a block scalar begins with `|` or `>`
@@ -62,11 +63,13 @@ no_pairs :
     → ArePairs room pairs m t behind → IsAll c t → ⊥
 no_pairs c room NoPair m t behind x y h i = h
 no_pairs c room (MorePairs key value pairs) m t behind x y
-    (pair, others, inl (node, between, text, k, l, s, b, n, v, f), o, e) i =
+    (pair, others, inl (inl (node, between, text, k, l, s, b, n, v, f)), o, e) i =
     let j = before_in (is c) t pair others e i in
     lacks (is c) 58 (between ++ (58 ∷ text)) between text x refl
     (behind_in (is c) pair node (between ++ (58 ∷ text)) f j)
-no_pairs c room (MorePairs key value pairs) m t behind x y (pair, others, inr (inl (node, v, n, k, f)), o, e) i =
+no_pairs c room (MorePairs key value pairs) m t behind x y (pair, others, inl (inr (text, v, k, f)), o, e) i =
+    lacks (is c) 58 pair [] text x f (before_in (is c) t pair others e i)
+no_pairs c room (MorePairs key value pairs) m t behind x y (pair, others, inr (inl (node, v, n, k, u, f)), o, e) i =
     lacks (is c) 63 pair [] node y f (before_in (is c) t pair others e i)
 no_pairs c room (MorePairs key value pairs) m t behind x y
     (pair, others, inr (inr (node, colon, text, n, k, v, w, f)), o, e) i =
@@ -186,7 +189,7 @@ no_content Folded value in_flow indent t s h = s
 
 no_flow_scalar : (p : Properties) (style : Style) (value : List ℕ) (in_flow : Bool) (indent : ℕ) (t : List ℕ)
     → IsScalarNode p style value in_flow indent t → IsAll 10 t → ⊥
-no_flow_scalar p style value in_flow indent t (inl (e, f, h)) i = no_first_mark t (properties p.anchor p.tag t h) i
+no_flow_scalar p style value in_flow indent t (inl (e, f, h)) i = no_first_mark t (properties indent p.anchor p.tag t h) i
 no_flow_scalar p style value in_flow indent t (inr (before, content, b, c, e)) i =
     no_content style value in_flow indent content c (behind_in (is 10) t before content e i)
 
@@ -205,7 +208,7 @@ no_flow_node room (Map p pairs) in_flow indent t (left, opening, inside, r, o, i
 
 no_flow_line : (room : ℕ) (x : Node) (place : Position) (t behind : List ℕ) → IsFlowInBlock room x place t behind
     → IsAll 10 t → ⊥
-no_flow_line room x place t behind (gap, text, end, g, f, l, e) h =
+no_flow_line room x place t behind (gap, text, end, g, f, apart, l, e) h =
     no_flow_node room x false _ text f
     (before_in (is 10) (text ++ end) text end refl (behind_in (is 10) t gap (text ++ end) e h))
 
@@ -339,8 +342,24 @@ document room (d ∷ ds) t (filling, text, others, f, doc, b, e) g =
         absurd (no_first 45 c (codes "--\n") cs refl (λ y. omega arith) (λ y. omega arith) n (g ∙ i))
 
 pub one_forest : (room : ℕ) (forest : Forest) → IsLayoutText room forest (codes "---\n") → forest ≡ only ∷ []
-one_forest room forest (mark, others, inl m, h, e) =
-    document room forest others h (let f : codes "---\n" ≡ others = rw m at e in f)
-one_forest room forest (mark, others, inr m, h, e) =
-    let f : codes "---\n" ≡ byte_order_mark ∷ others = rw m at e in let g : byte_order_mark ≡ 45 = heads 45
-    byte_order_mark (codes "--\n") others f in absurd (omega (arith, g))
+one_forest room forest (prefix, others, p, h, e) = by_prefix prefix others p h e
+  where
+    -- the first character is no filler's, no byte order mark and no `.`
+    no_front : (c : ℕ) (filling t behind : List ℕ) → (45 == c) ≡ false → IsFiller filling
+        → codes "---\n" ≡ (filling ++ (c ∷ t)) ++ behind → ⊥
+    no_front c filling t behind n f e =
+        by_filler (behind_filler (codes "---\n") filling (c ∷ (t ++ behind)) f
+        (e ∙ append_assoc filling (c ∷ t) behind))
+      where
+        by_filler : (codes "---\n" ≡ c ∷ (t ++ behind)) ⊎ Begins IsFirst (codes "---\n") → ⊥
+        by_filler (inl g) = let k : true ≡ false = sym (ap (λ x. 45 == x) (heads 45 c (codes "--\n") (t ++ behind) g)) ∙ n in cc
+        by_filler (inr (c, cs, h, g)) =
+            no_first 45 c (codes "--\n") cs refl (λ y. omega arith) (λ y. omega arith) h g
+
+    by_prefix : (prefix others : List ℕ) → IsDocumentPrefix prefix others
+        → AreDocuments (IsBlockNode room) forest true others → codes "---\n" ≡ prefix ++ others
+        → forest ≡ only ∷ []
+    by_prefix _ _ (no_prefix others) h e = document room forest others h e
+    by_prefix _ _ (mark_prefix filling next others f p) h e = absurd (no_front 65279 filling next others refl f e)
+    by_prefix _ _ (end_prefix filling end next others f l p) h e =
+        absurd (no_front 46 filling (codes ".." ++ (end ++ next)) others refl f e)

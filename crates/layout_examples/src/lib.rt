@@ -6,15 +6,15 @@
 ghost use Rattle.std.specs.Prelude.{codes, ◌≡◌, ◌∷◌, ◌++◌, [], ℕ, suc, Bool, true, false, List, Some, None};
 ghost use Rattle.scalar_values.specs.declared.block.Chomping.{Chomping};
 ghost use Rattle.scalar_values.specs.Block.{Line};
-ghost use Rattle.scalar_laws.specs.Spelling.Block.{IsBlockScalar};
+ghost use Rattle.scalar_laws.specs.Spelling.Block.{IsBlockScalar, IsEmptyBody};
 ghost use Rattle.scalar_laws.specs.Spelling.Spaces.{IsEol};
 ghost use Rattle.saphyr_scanner.specs.Examples.Forests.{plain_node, double_quoted_node};
 ghost use Rattle.saphyr_scanner.specs.Grammar.Forest.{Plain, SingleQuoted, DoubleQuoted, Literal, Folded, Primary, Secondary, Named, Verbatim, Shorthand, NonSpecific, no_properties, Alias, Scalar, Seq, Map, NoNode, MoreNodes, NoPair, MorePairs, left_out, Version, TagPrefix, Reserved, bare, Document, Forest, Node, Nodes, Properties, AreCompatible};
 ghost use Rattle.saphyr_scanner.specs.Limits.{most_open};
-ghost use Rattle.layout_laws.specs.Grammar.BlockNodes.{AreOtherEntries, BehindKey, IsBehindScalar, IsBlockNode, IsImplicitPair, IsKeyAlone, IsLead};
+ghost use Rattle.layout_laws.specs.Grammar.BlockNodes.{AreOtherEntries, BehindKey, IsBehindScalar, IsBlockNode, IsFlowInBlock, IsImplicitPair, IsKeyAlone, IsKeylessPair, IsLead};
 ghost use Rattle.layout_laws.specs.Grammar.FlowNodes.{AreItems, IsBeforeColon, IsFlowNode, IsKeyText};
 ghost use Rattle.layout_laws.specs.Grammar.FlowScalars.{IsFirstWord, IsPlain};
-ghost use Rattle.layout_laws.specs.Grammar.Layout.{IsBareDocument, IsLayoutText};
+ghost use Rattle.layout_laws.specs.Grammar.Layout.{IsBareDocument, IsDocumentPrefix, IsLayoutText};
 
 /// Texts in flow style, each with the forest that it stands for: collections, pairs, properties, and
 /// scalars on several lines.
@@ -62,6 +62,9 @@ pub fn derives_flow()
         (Map no_properties (MorePairs
         (Map no_properties (MorePairs (plain_node (codes "a")) (plain_node (codes "b")) NoPair))
         (plain_node (codes "c")) NoPair)) NoNode)) ∷ []) (codes "[ {a: b}:c]") }
+    ensures dashes { IsLayoutText most_open (bare
+        (Seq no_properties (MoreNodes (plain_node (codes "a - b")) NoNode)) ∷ [])
+        (codes "[a - b]") }
     ensures plain_lines { IsLayoutText most_open (bare (plain_node (codes "a b\nc")) ∷ [])
         (codes "a b \n\n c") }
     ensures plain_tabs { IsLayoutText most_open (bare (plain_node (codes "a\nb")) ∷ [])
@@ -82,7 +85,7 @@ pub fn derives_flow()
 {}
 
 /// Texts in block style, each with the forest that it stands for: block sequences and mappings,
-/// compact ones, explicit keys, properties, block scalars, and a value on the next line.
+/// compact ones, explicit keys, keys left out, properties, block scalars, and a value on the next line.
 pub fn derives_block()
     ensures sequence { IsLayoutText most_open (bare
         (Seq no_properties (MoreNodes (plain_node (codes "a")) (MoreNodes (plain_node (codes "b")) NoNode)))
@@ -111,6 +114,23 @@ pub fn derives_block()
     ensures tab_behind_scalar { IsLayoutText most_open (bare
         (Seq no_properties (MoreNodes (Scalar no_properties Literal (codes "a\n")) NoNode)) ∷ [])
         (codes "- |\n  a\n\t# c") }
+    ensures tab_behind_dash { IsLayoutText most_open (bare
+        (Seq no_properties (MoreNodes (plain_node (codes "a")) NoNode)) ∷ []) (codes "-\ta") }
+    ensures tab_before_colon { IsLayoutText most_open (bare
+        (Map no_properties (MorePairs (plain_node (codes "k")) (plain_node (codes "a")) NoPair)) ∷ [])
+        (codes "k\t: a") }
+    ensures tab_behind_colon { IsLayoutText most_open (bare
+        (Map no_properties (MorePairs (plain_node (codes "k")) (plain_node (codes "a")) NoPair)) ∷ [])
+        (codes "k: \ta") }
+    ensures tab_behind_indentation { IsLayoutText most_open (bare
+        (Map no_properties (MorePairs (plain_node (codes "k")) (plain_node (codes "a")) NoPair)) ∷ [])
+        (codes "k:\n \ta") }
+    ensures tab_between_properties { IsLayoutText most_open (bare
+        (Scalar (record { anchor = Some (codes "x"); tag = Some (Shorthand Primary (codes "t")) })
+        Plain (codes "a")) ∷ []) (codes "&x\t!t a") }
+    ensures tab_before_header { IsLayoutText most_open (bare
+        (Seq no_properties (MoreNodes (Scalar (record { anchor = Some (codes "x"); tag = None })
+        Literal (codes "a\n")) NoNode)) ∷ []) (codes "- &x\t|\n  a\n") }
     ensures colons_in_keys { IsLayoutText most_open
         (bare (Map no_properties (MorePairs (plain_node (codes "a:")) (plain_node (codes "b"))
         (MorePairs (plain_node (codes "c :")) (plain_node (codes "d")) NoPair))) ∷ []) (codes "a:: b\nc :: d") }
@@ -141,6 +161,18 @@ pub fn derives_block()
         (Map (record { anchor = None; tag = Some (Shorthand Primary (codes "t")) })
         (MorePairs (Alias (codes "x")) (Scalar no_properties SingleQuoted (codes "b")) NoPair))
         NoPair)) ∷ []) (codes "&x\na: !t # c\n\n *x : 'b'\n") }
+    ensures properties_above { IsLayoutText most_open (bare
+        (Map no_properties (MorePairs (plain_node (codes "k"))
+        (Seq (record { anchor = Some (codes "x"); tag = None })
+        (MoreNodes (plain_node (codes "a")) NoNode)) NoPair)) ∷ [])
+        (codes "k:\n  &x\n  - a") }
+    ensures properties_on_lines { IsLayoutText most_open (bare
+        (Seq (record { anchor = Some (codes "x"); tag = Some (Shorthand Primary (codes "t")) })
+        (MoreNodes (plain_node (codes "a")) NoNode)) ∷ []) (codes "!t\n&x\n- a") }
+    ensures properties_above_scalar { IsLayoutText most_open (bare
+        (Seq no_properties (MoreNodes
+        (Scalar (record { anchor = Some (codes "x"); tag = None }) Literal (codes "a\n")) NoNode))
+        ∷ []) (codes "- &x # c\n |\n a\n") }
     ensures literal { IsLayoutText most_open ((record
         { explicit = true; directives = []; node = (Scalar no_properties Literal (codes "a\n")) })
         ∷ []) (codes "--- |\n a\n") }
@@ -158,6 +190,33 @@ pub fn derives_block()
     ensures indicator { IsLayoutText most_open (bare
         (Map no_properties (MorePairs (plain_node (codes "a"))
         (Scalar no_properties Literal (codes " b")) NoPair)) ∷ []) (codes "a: |1-\n  b\n") }
+    ensures no_key { IsLayoutText most_open (bare
+        (Map no_properties (MorePairs left_out (plain_node (codes "a")) NoPair)) ∷ []) (codes ": a") }
+    ensures no_keys { IsLayoutText most_open (bare
+        (Map no_properties (MorePairs (plain_node (codes "a")) (plain_node (codes "b"))
+        (MorePairs left_out left_out (MorePairs left_out (plain_node (codes "c")) NoPair)))) ∷ [])
+        (codes "a: b\n:\n: c") }
+    ensures no_key_inside { IsLayoutText most_open (bare
+        (Map no_properties (MorePairs (plain_node (codes "k"))
+        (Map no_properties (MorePairs left_out (plain_node (codes "a")) NoPair)) NoPair)) ∷ [])
+        (codes "k:\n  : a") }
+    ensures no_key_as_key { IsLayoutText most_open (bare
+        (Map no_properties (MorePairs
+        (Map no_properties (MorePairs left_out (plain_node (codes "a")) NoPair))
+        (plain_node (codes "b")) NoPair)) ∷ []) (codes "? : a\n: b") }
+    ensures no_value_as_key { IsLayoutText most_open (bare
+        (Map no_properties (MorePairs
+        (Map no_properties (MorePairs (plain_node (codes "a")) left_out NoPair))
+        (plain_node (codes "b")) NoPair)) ∷ []) (codes "? ? a\n: b") }
+    ensures empty_scalars { IsLayoutText most_open (bare
+        (Map no_properties (MorePairs (plain_node (codes "k")) (Scalar no_properties Literal [])
+        (MorePairs (plain_node (codes "a")) (Scalar no_properties Literal (codes "\n")) NoPair))) ∷ [])
+        (codes "k: |\na: |+\n\n") }
+    ensures header_alone { IsLayoutText most_open (bare
+        (Seq no_properties (MoreNodes (Scalar no_properties Literal []) NoNode)) ∷ []) (codes "- |") }
+    ensures spaces_at_end { IsLayoutText most_open (bare
+        (Seq no_properties (MoreNodes (Scalar no_properties Literal (codes "a\n\n")) NoNode)) ∷ [])
+        (codes "- |+\n a\n ") }
     ensures explicit_collections { IsLayoutText most_open (bare
         (Map no_properties (MorePairs (Seq no_properties (MoreNodes (plain_node (codes "a")) NoNode))
         (Seq no_properties (MoreNodes (plain_node (codes "b")) NoNode)) NoPair)) ∷ [])
@@ -165,7 +224,7 @@ pub fn derives_block()
 {}
 
 /// Streams, each with its forest: filler alone, directives, explicit and bare documents, byte order
-/// marks, and a carriage return before a line feed.
+/// marks, `...` lines before, between and without documents, and a carriage return before a line feed.
 pub fn derives_streams()
     ensures nothing { IsLayoutText most_open ([]) (codes "# x\n ") }
     ensures directives { IsLayoutText most_open ((record {
@@ -199,6 +258,11 @@ pub fn derives_streams()
     ensures mark_behind_filler { IsLayoutText most_open (bare
         (Scalar (record { anchor = None; tag = Some (NonSpecific) }) Plain ([])) ∷ [])
         (codes "!\n...\n# c\n\u{feff}\n") }
+    ensures ends_alone { IsLayoutText most_open ([]) (codes "... # x\n...") }
+    ensures ends_before { IsLayoutText most_open (bare (plain_node (codes "a"))
+        ∷ bare (plain_node (codes "b")) ∷ []) (codes "...\na\n...\n# x\n...\nb") }
+    ensures marks_before { IsLayoutText most_open (bare (plain_node (codes "a")) ∷ [])
+        (codes "# x\n\u{feff}\u{feff}...\n\u{feff}# x\na") }
 {}
 
 /// How many flow collections are open at once: where there is no room for one, no sequence in brackets
@@ -226,7 +290,8 @@ pub fn has_one_forest()
 
 /// What the layout grammar has not: `[,]` for any sequence, an entry that begins with a comma, `*x:` as
 /// a key with its colon, a word with a colon at its end, a line in a bare document that begins with a
-/// document marker, and two version directives of one document.
+/// document marker, two version directives of one document, and before a document a byte order mark
+/// behind a blank.
 pub fn refuses_near_misses()
     ensures comma_alone { (room : ℕ) (p : Properties) (nodes : Nodes)
         → ¬ IsFlowNode room (Seq p nodes) false 0 (codes "[,]") }
@@ -238,14 +303,16 @@ pub fn refuses_near_misses()
         → ¬ IsBareDocument (IsBlockNode room) d (codes "a\n--- b") behind }
     ensures two_versions { (major minor : ℕ) → ¬ AreCompatible
         (Version 1 2 ∷ Version major minor ∷ []) }
+    ensures mark_behind_blank { (behind : List ℕ) → ¬ IsDocumentPrefix (codes " \u{feff}") behind }
 {}
 
-/// No plain scalar is `- a` or `@a`, and none but a key is a colon alone; a lone `-` with a blank before its colon is
-/// no key; no header of a block scalar has two digits, `#x` without a blank before it ends no line, and no alias has
-/// an anchor.
+/// No plain scalar is `- a` or `@a`, inside flow none is `a -`, and none but a key is a colon alone; a lone `-` with a blank before its colon is
+/// no key; no header of a block scalar has two digits, and no block scalar of a line of a space stands before `---`;
+/// `#x` without a blank before it ends no line, and no alias has an anchor.
 pub fn refuses_scalars()
     ensures dash_and_blank { (in_flow : Bool) (indent : ℕ)
         → ¬ IsPlain in_flow indent (codes "- a") }
+    ensures last_dash { (indent : ℕ) → ¬ IsPlain true indent (codes "a -") }
     ensures indicator_first { (in_flow : Bool) (indent : ℕ)
         → ¬ IsPlain in_flow indent (codes "@a") }
     ensures lone_colon { (in_flow : Bool) (indent : ℕ) → ¬ IsPlain in_flow indent (codes ":") }
@@ -255,21 +322,34 @@ pub fn refuses_scalars()
     ensures two_digits { (indent i n : ℕ) (chomping : Chomping) (lines : List Line)
         (t body others : List ℕ)
         → ¬ IsBlockScalar indent i n chomping lines (codes "|12" ++ t) body others }
+    ensures spaces_before_marker { (i n : ℕ) (lines : List Line)
+        → ¬ IsEmptyBody 0 i n (codes "---") lines (codes " \n---") }
     ensures comment_without_blank { (behind : List ℕ) → ¬ IsEol (codes "#x\n") behind }
     ensures alias_with_anchor { (room : ℕ) (node : Node) (in_flow : Bool) (indent : ℕ)
         → ¬ IsFlowNode room node in_flow indent (codes "&a *b") }
 {}
 
-/// In block style no tab stands before a further entry, nor behind a `?` before what comes next, also where its
-/// key is left out, nor on the line behind a block scalar's before a further entry. No entry of a sequence
-/// stands left of the others, no key goes on over lines, and no sequence begins on the line of its key.
+/// In block style no tab alone stands between a key's colon and a word, and none indents a value. No tab stands
+/// before a further entry, nor behind a `?` before what comes next, also where its key is left out, nor on the
+/// line behind a block scalar's before a further entry. A `?` without a value stands before no `:` at its column.
+/// No entry of a sequence stands left of the others, no key goes on over lines, and no sequence begins on the line
+/// of its key, or of a `:` without one.
 pub fn refuses_in_block()
+    ensures lone_tab { (room m : ℕ) (node : Node) (behind : List ℕ)
+        → ¬ IsFlowInBlock room node (BehindKey m) (codes "\ta") behind }
+    ensures tab_before_value { (room m : ℕ) (node : Node) (behind : List ℕ)
+        → ¬ IsFlowInBlock room node (BehindKey m) (codes "\n\ta") behind }
     ensures tab_in_indentation { (room : ℕ) (nodes : Nodes) (m : ℕ) (behind : List ℕ)
         → ¬ AreOtherEntries room nodes m (codes "\t- b") behind }
     ensures tab_behind_question { (room : ℕ) (key value : Node) (m : ℕ) (behind : List ℕ)
         → ¬ IsKeyAlone value (IsBlockNode room key) m (codes "?\t\n") behind }
     ensures tab_behind_left_out { (room : ℕ) (key value : Node) (m : ℕ) (others : List ℕ)
         → ¬ IsKeyAlone value (IsBlockNode room key) m (codes "?\n") (codes "\t\n" ++ others) }
+    ensures value_of_its_own { (room : ℕ) (key value : Node) (others : List ℕ)
+        → ¬ IsKeyAlone value (IsBlockNode room key) 0 (codes "? a\n") (codes ": b" ++ others) }
+    ensures sequence_behind_colon { (room : ℕ) (key : Node) (p : Properties) (nodes : Nodes) (m : ℕ)
+        (behind : List ℕ)
+        → ¬ IsKeylessPair key (IsBlockNode room (Seq p nodes)) m (codes ": - a") behind }
     ensures tab_behind_block_scalar { (indent i : ℕ) → ¬ IsBehindScalar indent i (codes "\t\n- b") }
     ensures entry_left { (room : ℕ) (nodes : Nodes) (m : ℕ) (behind : List ℕ)
         → ¬ AreOtherEntries room nodes (suc m) (codes "- b") behind }

@@ -36,5 +36,6 @@ pub mod Words
 pub mod PlainEnds
 pub mod Noted
 pub mod Plains
+pub mod NoDashes
 pub mod Contents
 pub mod ScalarNodes

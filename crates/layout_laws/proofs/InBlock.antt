@@ -11,13 +11,13 @@ pub mod Questions
 pub mod Colons
 pub mod Lines
 pub mod LineStarts
-pub mod DirectiveLines
 pub mod FurtherScalars
 pub mod Further
 pub mod Statements
 pub mod Texts
 pub mod BehindIndicators
 pub mod TabsAhead
+pub mod ValuesAhead
 pub mod ScalarTexts
 pub mod HeaderScalars
 pub mod Scalars

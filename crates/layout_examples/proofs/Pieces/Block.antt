@@ -1,9 +1,9 @@
 -- Block collections, their entries and pairs, and nodes in flow style at their places.
-use Rattle.std.proofs.Common.{ℕ, suc, ◌+◌, ◌≤◌, false, not, ◌==◌, List, [], ◌∷◌, ◌++◌, length, inl, inr, refl, arith}
-use Rattle.std.proofs.Common.{codes, IsTrue, IsFalse}
+use Rattle.std.proofs.Common.{◌≢◌, ℕ, suc, ◌+◌, ◌≤◌, false, not, ◌==◌, List, [], ◌∷◌, ◌++◌, length, inl, inr, refl, arith}
+use Rattle.std.proofs.Common.{codes, slice_index, IsTrue, IsFalse}
 use Rattle.std.specs.List.{list_all}
 use Rattle.saphyr_input.specs.Indicators.{colon, hyphen, question_mark}
-use Rattle.saphyr_input.specs.Classes.{line_feed}
+use Rattle.saphyr_input.specs.Classes.{is_blank, line_feed}
 use Rattle.saphyr_scalar.specs.Reading.BlockLines.{spaces}
 use Rattle.saphyr_scanner.specs.Grammar.Forest.{Properties, no_properties, Node, Alias, Scalar, Seq, Map, Nodes, NoNode}
 use Rattle.saphyr_scanner.specs.Grammar.Forest.{MoreNodes, Pairs, NoPair, MorePairs, left_out}
@@ -11,10 +11,11 @@ use Rattle.saphyr_scanner.specs.Examples.Forests.{plain_node}
 use Rattle.layout_laws.specs.Grammar.FlowNodes.{needs_separation}
 use Rattle.layout_laws.specs.Grammar.BlockNodes.{Position, BehindDash, BehindMark, BehindKey, AtStart, indent_at}
 use Rattle.layout_laws.specs.Grammar.BlockNodes.{sequence_indent_at, is_start, IsLead, IsFlowInBlock}
-use Rattle.layout_laws.specs.Grammar.BlockNodes.{IsBehindQuestion, IsBlockPair, IsBlockNode, AreEntries}
+use Rattle.layout_laws.specs.Grammar.BlockNodes.{IsBehindQuestion, is_value_ahead, IsBlockPair, IsBlockNode, AreEntries}
 use Rattle.layout_laws.specs.Grammar.BlockNodes.{AreOtherEntries, ArePairs, AreOtherPairs, IsCollectionFront}
+use Rattle.saphyr_input.specs.Classes.{is_alpha}
 use Rattle.layout_examples.proofs.Pieces.Spaces.{each, Rest, Filler, End, feed, text_end, Gap, space}
-use Rattle.layout_examples.proofs.Pieces.Scalars.{Front, FlowText, IsLetter, word}
+use Rattle.layout_examples.proofs.Pieces.Scalars.{Front, FrontAt, FlowText, IsLetter, word}
 use Rattle.layout_examples.proofs.Pieces.Flow.{KeyText, node_key}
 
 -- a node at its place, before what stands behind it
@@ -33,9 +34,11 @@ node_in_block room (Map p pairs) place t behind h = inl h
 pub flow : {room : ℕ} {node : Node} {place : Position} {gap t end behind : List ℕ} → Gap place gap
     → FlowText room node false (indent_at place) t → End end behind
     → BlockText room node place (gap ++ (t ++ end)) behind
-flow {room} {node} {place} {gap} {t} {end} {behind} g h e = record {
-  holds = node_in_block room node place (gap ++ (t ++ end)) behind (gap, t, end, g.holds, h.holds, e.holds, refl);
-}
+flow {room} {node} {place} {gap} {t} {end} {behind} g h e =
+    let apart = g.word (is_alpha (slice_index t 0)) in record {
+      holds = node_in_block room node place (gap ++ (t ++ end)) behind
+          (gap, t, end, g.holds, h.holds, apart, e.holds, refl);
+    }
 
 -- a word of one letter behind an indicator, up to the end of its line
 pub line : {c room : ℕ} {place : Position} {behind : List ℕ} → IsLetter c
@@ -81,18 +84,25 @@ below_front p place least m front rest lines c r f h = record {
   holds = inl (front, rest ++ codes "\n", lines, h, c, (rest, r.holds, refl), f.holds, refl);
 }
 
-pub below_first : {p : Properties} {least : ℕ} {front rest lines : List ℕ} (m : ℕ) → Front p front → Rest rest
+pub below_first : {p : Properties} {least : ℕ} {front rest lines : List ℕ} (m : ℕ) → FrontAt p 0 front → Rest rest
     → Filler lines → least ≤ m → Lead p AtStart least m (front ++ ((rest ++ codes "\n") ++ (lines ++ spaces m)))
 below_first {p} {least} {front} {rest} {lines} m c r f h =
     below_front p AtStart least m front rest lines
-    (inr ([], front, inr (refl, (0, omega arith, refl)), c.holds, refl)) r f h
+    (inr ([], front, inr (inr (refl, refl)), c.holds, refl)) r f h
 
 pub below_behind : {p : Properties} {place : Position} {least : ℕ} {front rest lines : List ℕ} (m : ℕ) → Front p front
     → Rest rest → Filler lines → least ≤ m
     → Lead p place least m ((32 ∷ front) ++ ((rest ++ codes "\n") ++ (lines ++ spaces m)))
 below_behind {p} {place} {least} {front} {rest} {lines} m c r f h =
     below_front p place least m (32 ∷ front) rest lines
-    (inr (codes " ", front, inl (1, omega arith, refl), c.holds, refl)) r f h
+    (inr (codes " ", front, inl ((λ e. cc), (refl, tt)), c.holds (indent_at place), refl)) r f h
+
+-- the same, where something else than a space stands before the properties
+pub below_properties : {p : Properties} {place : Position} {least : ℕ} {gap front rest lines : List ℕ} (m : ℕ)
+    → Gap place gap → Front p front → Rest rest → Filler lines → least ≤ m
+    → Lead p place least m ((gap ++ front) ++ ((rest ++ codes "\n") ++ (lines ++ spaces m)))
+below_properties {p} {place} {least} {gap} {front} {rest} {lines} m g c r f h =
+    below_front p place least m (gap ++ front) rest lines (inr (gap, front, g.holds, c.holds (indent_at place), refl)) r f h
 
 -- ## Sequences
 
@@ -171,37 +181,46 @@ pub pair_by_colon : {room m : ℕ} {key value : Node} {t v behind : List ℕ} �
     → BlockText room value (BehindKey m) v behind → IsTrue (not (needs_separation key))
     → BlockPair room key value m (t ++ (colon ∷ v)) behind
 pair_by_colon {t = t} {v} k h n = record {
-  holds = inl (
+  holds = inl (inl (
     t,
     [],
     v,
     k.text.holds,
     each (λ c. not (c == 10)) t k.on_line,
-    (0, omega arith, refl),
+    tt,
     inr n,
     k.short,
     h.holds,
     refl,
-  );
+  ));
 }
 
--- the same with a space before the colon
-pub colon_apart : {room m : ℕ} {key value : Node} {t v behind : List ℕ} → KeyOnLine room key m t (codes " ")
-    → BlockText room value (BehindKey m) v behind → BlockPair room key value m (t ++ (32 ∷ colon ∷ v)) behind
-colon_apart {t = t} {v} k h = record {
-  holds = inl (
+-- the same with blanks before the colon
+colon_behind : {room m : ℕ} {key value : Node} {t v behind : List ℕ} (w : List ℕ) → IsTrue (list_all is_blank w) → w ≢ []
+    → KeyOnLine room key m t w → BlockText room value (BehindKey m) v behind
+    → BlockPair room key value m (t ++ (w ++ (colon ∷ v))) behind
+colon_behind {t = t} {v} w are some k h = record {
+  holds = inl (inl (
     t,
-    codes " ",
+    w,
     v,
     k.text.holds,
     each (λ c. not (c == 10)) t k.on_line,
-    (1, omega arith, refl),
-    inl (λ e. cc),
+    each is_blank w are,
+    inl some,
     k.short,
     h.holds,
     refl,
-  );
+  ));
 }
+
+pub colon_apart : {room m : ℕ} {key value : Node} {t v behind : List ℕ} → KeyOnLine room key m t (codes " ")
+    → BlockText room value (BehindKey m) v behind → BlockPair room key value m (t ++ (32 ∷ colon ∷ v)) behind
+colon_apart k h = colon_behind (codes " ") refl (λ e. cc) k h
+
+pub colon_behind_tab : {room m : ℕ} {key value : Node} {t v behind : List ℕ} → KeyOnLine room key m t (codes "\t")
+    → BlockText room value (BehindKey m) v behind → BlockPair room key value m (t ++ (9 ∷ colon ∷ v)) behind
+colon_behind_tab k h = colon_behind (codes "\t") refl (λ e. cc) k h
 
 -- one letter, its colon, and a value
 pub letter : {c room m : ℕ} {value : Node} {v behind : List ℕ} → IsLetter c
@@ -209,9 +228,15 @@ pub letter : {c room m : ℕ} {value : Node} {v behind : List ℕ} → IsLetter 
     → BlockPair room (plain_node (c ∷ [])) value m (c ∷ colon ∷ v) behind
 letter l h = pair_by_colon (letter_key l (omega arith)) h refl
 
+-- a `:` without a key, and a value
+pub unkeyed : {room m : ℕ} {value : Node} {v behind : List ℕ} → BlockText room value (BehindKey m) v behind
+    → BlockPair room left_out value m (colon ∷ v) behind
+unkeyed {v = v} h = record { holds = inl (inr (v, refl, h.holds, refl)) }
+
 pub asked : {room m : ℕ} {key : Node} {t behind : List ℕ} → BlockText room key (BehindMark m) t behind
-    → IsBehindQuestion t behind → BlockPair room key left_out m (question_mark ∷ t) behind
-asked {t = t} h q = record { holds = inr (inl (t, refl, q, h.holds, refl)) }
+    → IsBehindQuestion t behind → IsFalse (is_value_ahead false m 0 behind)
+    → BlockPair room key left_out m (question_mark ∷ t) behind
+asked {t = t} h q n = record { holds = inr (inl (t, refl, q, h.holds, n, refl)) }
 
 -- a `?` and a key, and behind filler a `:` and a value
 pub asked_pair : {room m : ℕ} {key value : Node} {t lines v behind : List ℕ}

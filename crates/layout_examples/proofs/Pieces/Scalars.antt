@@ -13,13 +13,13 @@ use Rattle.saphyr_scalar.specs.Spelling.Quoted.{stands_for_itself, IsText, close
 use Rattle.saphyr_scalar.specs.Spelling.Tag.{IsAnchorName}
 use Rattle.scalar_laws.specs.Spelling.Plain.{is_word_ink, IsWordIn}
 use Rattle.scalar_laws.specs.Spelling.QuotedLines.{LinesFit}
-use Rattle.scalar_laws.specs.Spelling.Spaces.{AreMany}
+use Rattle.scalar_laws.specs.Spelling.Spaces.{AreMany, IsLinePrefix, IsNextLine}
 use Rattle.scalar_laws.proofs.Beginnings.{decodes_itself}
 use Rattle.saphyr_scanner.specs.Grammar.Forest.{Style, Plain, SingleQuoted, DoubleQuoted, Handle, Tag, NonSpecific}
 use Rattle.saphyr_scanner.specs.Grammar.Forest.{Verbatim, Shorthand, Properties, no_properties, Node, Alias, Scalar}
 use Rattle.saphyr_scanner.specs.Examples.Forests.{plain_node}
 use Rattle.layout_laws.specs.Grammar.TagSpelling.{IsHandle, IsTag}
-use Rattle.layout_laws.specs.Grammar.FlowScalars.{begins_plain, IsFirstWord, IsLinePrefix, IsWordGap, IsFurtherWord}
+use Rattle.layout_laws.specs.Grammar.FlowScalars.{begins_plain, IsFirstWord, IsWordGap, IsFurtherWord}
 use Rattle.layout_laws.specs.Grammar.FlowScalars.{IsPlain, IsFlowScalar}
 use Rattle.layout_laws.specs.Grammar.FlowNodes.{IsProperties, IsFlowNode}
 use Rattle.layout_examples.proofs.Pieces.Spaces.{each, Apart}
@@ -31,13 +31,20 @@ pub record FlowText (room : ℕ) (node : Node) (in_flow : Bool) (indent : ℕ) (
 -- ## Properties
 
 pub record Front (p : Properties) (t : List ℕ) : Type 0 where
-  pub holds : IsProperties p t
+  pub holds : (indent : ℕ) → IsProperties p indent t
+
+-- at this indentation
+pub record FrontAt (p : Properties) (indent : ℕ) (t : List ℕ) : Type 0 where
+  pub holds : IsProperties p indent t
+
+pub front_at : {p : Properties} {indent : ℕ} {t : List ℕ} → Front p t → FrontAt p indent t
+front_at {indent = indent} h = record { holds = h.holds indent }
 
 anchor_name : (t : List ℕ) → t ≢ [] → IsTrue (list_all is_anchor_char t) → IsAnchorName t
 anchor_name t n h = (n, each is_anchor_char t h)
 
 pub anchor_x : Front (record { anchor = Some (codes "x"); tag = None }) (codes "&x")
-anchor_x = record { holds = (anchor_name (codes "x") (λ e. cc) refl, refl) }
+anchor_x = record { holds = λ indent. (anchor_name (codes "x") (λ e. cc) refl, refl) }
 
 pub alias_x : {room indent : ℕ} {in_flow : Bool} → FlowText room (Alias (codes "x")) in_flow indent (codes "*x")
 alias_x = record { holds = (anchor_name (codes "x") (λ e. cc) refl, refl) }
@@ -57,19 +64,41 @@ pub mark_alone : TagText NonSpecific (codes "!")
 mark_alone = record { holds = refl }
 
 pub tagged : {tag : Tag} {t : List ℕ} → TagText tag t → Front (record { anchor = None; tag = Some tag }) t
-tagged h = record { holds = h.holds }
+tagged h = record { holds = λ indent. h.holds }
 
 pub anchor_x_before : {tag : Tag} {t : List ℕ} → TagText tag t
     → Front (record { anchor = Some (codes "x"); tag = Some tag }) (codes "&x " ++ t)
 anchor_x_before {tag} {t} h = record {
-  holds = (codes "&x", codes " ", t, anchor_x.holds, h.holds, (1, omega arith, refl), inl refl);
+  holds = λ indent. (codes "&x", codes " ", t, anchor_x.holds indent, h.holds, inl ((λ e. cc), (refl, tt)), inl refl);
+}
+
+-- the same with a tab between
+pub anchor_x_and_tab : {tag : Tag} {t : List ℕ} → TagText tag t
+    → Front (record { anchor = Some (codes "x"); tag = Some tag }) (codes "&x\t" ++ t)
+anchor_x_and_tab {tag} {t} h = record {
+  holds = λ indent. (codes "&x", codes "\t", t, anchor_x.holds indent, h.holds, inl ((λ e. cc), (refl, tt)), inl refl);
 }
 
 pub anchor_x_behind : {tag : Tag} {t : List ℕ} → TagText tag t
     → Front (record { anchor = Some (codes "x"); tag = Some tag }) (t ++ codes " &x")
 anchor_x_behind {tag} {t} h = record {
-  holds = (codes "&x", codes " ", t, anchor_x.holds, h.holds, (1, omega arith, refl), inr refl);
+  holds = λ indent. (codes "&x", codes " ", t, anchor_x.holds indent, h.holds, inl ((λ e. cc), (refl, tt)), inr refl);
 }
+
+-- on two lines, at the start of both
+pub anchor_x_below : {tag : Tag} {t : List ℕ} → TagText tag t
+    → FrontAt (record { anchor = Some (codes "x"); tag = Some tag }) 0 (t ++ codes "\n&x")
+anchor_x_below {t = t} h =
+    let line : IsNextLine 0 (codes "\n") = (
+      codes "\n",
+      [],
+      [],
+      ([], ([], [], tt, inl refl, refl), refl),
+      ([], tt, refl),
+      ([], [], (0, omega arith, refl), tt, refl),
+      refl,
+    ) in
+    record { holds = (codes "&x", codes "\n", t, anchor_x.holds 0, h.holds, inr line, inr refl) }
 
 -- ## Scalars
 
@@ -83,13 +112,13 @@ scalar {t = t} h = record { holds = inr ([], t, inl (refl, refl), h.holds, refl)
 pub with_front : {room indent : ℕ} {p : Properties} {style : Style} {value front gap t : List ℕ} {in_flow : Bool}
     → Front p front → Apart indent gap → ScalarText style value in_flow indent t → gap ≢ []
     → FlowText room (Scalar p style value) in_flow indent ((front ++ gap) ++ t)
-with_front {front = front} {gap} {t} h g s n = record {
-  holds = inr (front ++ gap, t, inr (front, gap, h.holds, n, g.holds, refl), s.holds, refl);
+with_front {indent = indent} {front = front} {gap} {t} h g s n = record {
+  holds = inr (front ++ gap, t, inr (front, gap, h.holds indent, n, g.holds, refl), s.holds, refl);
 }
 
 pub front_alone : {room indent : ℕ} {p : Properties} {in_flow : Bool} {t : List ℕ} → Front p t
     → FlowText room (Scalar p Plain []) in_flow indent t
-front_alone h = record { holds = inl (refl, refl, h.holds) }
+front_alone {indent = indent} h = record { holds = inl (refl, refl, h.holds indent) }
 
 -- a character that is no indicator, and stands for itself as a plain scalar
 pub record IsLetter (c : ℕ) : Type 0 where
@@ -203,8 +232,31 @@ pub next_word : {c indent : ℕ} {in_flow : Bool} {gap others : List ℕ} → Wo
 next_word {c} {in_flow = in_flow} {gap} g l w = record {
   holds = (
     (gap ++ (c ∷ [])) ∷ w.holds.0,
-    ((gap, c ∷ [], g.holds, further_word l in_flow, refl), w.holds.1),
+    (([], gap, c ∷ [], ([], tt, refl), g.holds, further_word l in_flow, refl), w.holds.1),
     ap (λ x. (gap ++ (c ∷ [])) ++ x) w.holds.2,
+  );
+}
+
+-- a lone `-` before a word
+pub dash_and_word : {c indent : ℕ} {in_flow : Bool} {front gap others : List ℕ} → WordGap indent front
+    → WordGap indent gap → IsLetter c → MoreWords in_flow indent others
+    → MoreWords in_flow indent (((front ++ codes "-") ++ (gap ++ (c ∷ []))) ++ others)
+dash_and_word {c} {in_flow = in_flow} {front} {gap} f g l w = record {
+  holds = (
+    ((front ++ codes "-") ++ (gap ++ (c ∷ []))) ∷ w.holds.0,
+    (
+      (
+        front ++ codes "-",
+        gap,
+        c ∷ [],
+        ((front ++ codes "-") ∷ [], ((front, f.holds, refl), tt), sym (append-nil (front ++ codes "-"))),
+        g.holds,
+        further_word l in_flow,
+        refl,
+      ),
+      w.holds.1,
+    ),
+    ap (λ x. ((front ++ codes "-") ++ (gap ++ (c ∷ []))) ++ x) w.holds.2,
   );
 }
 

@@ -1,15 +1,16 @@
 -- White space of small texts: ends of lines, filler, and separation. A piece is a text with what holds of it.
-use Rattle.std.proofs.Common.{◌≡◌, ℕ, ◌≤◌, Bool, List, [], ◌∷◌, ◌++◌, inl, inr, refl, sym, ◌∙◌, arith, codes, ap}
-use Rattle.std.proofs.Common.{IsTrue}
+use Rattle.std.proofs.Common.{◌≡◌, ℕ, ◌≤◌, Bool, List, [], ◌∷◌, ◌++◌, inl, inr, refl, sym, ◌∙◌, codes, ap}
+use Rattle.std.proofs.Common.{IsTrue, false}
+use Rattle.std.specs.Prelude.{◌&&◌, ◌==◌}
 use Rattle.std.specs.List.{list_all}
 use Rattle.std.proofs.lemmas.List.{append-nil, append_assoc}
 use Rattle.saphyr_input.specs.Indicators.{number_sign}
-use Rattle.saphyr_input.proofs.Basics.Booleans.{and_true_left, and_true_right}
-use Rattle.saphyr_input.specs.Classes.{is_blank, is_yaml_non_break}
+use Rattle.saphyr_input.proofs.Basics.Booleans.{and_true_left, and_true_right, and_false}
+use Rattle.saphyr_input.specs.Classes.{is_blank, is_yaml_non_break, tab}
 use Rattle.saphyr_scalar.specs.Reading.BlockLines.{spaces}
 use Rattle.saphyr_scalar.specs.Spelling.Tag.{AreIn}
 use Rattle.scalar_laws.specs.Spelling.Spaces.{IsLineRest, IsEol, IsFillerText, IsFiller, IsLastFiller, IsSeparation}
-use Rattle.layout_laws.specs.Grammar.BlockNodes.{Position, AtStart, indent_at, IsGapAt}
+use Rattle.layout_laws.specs.Grammar.BlockNodes.{Position, BehindDash, AtStart, is_behind_colon, indent_at, IsGapAt}
 
 pub each : (set : ℕ → Bool) (t : List ℕ) → IsTrue (list_all set t) → AreIn set t
 each set [] h = tt
@@ -127,18 +128,52 @@ lines_apart {indent} {rest} {lines} front r f h =
 
 -- ## Before a node in block style
 
+-- where tabs alone stand, no colon is before them
 pub record Gap (place : Position) (t : List ℕ) : Type 0 where
   pub holds : IsGapAt place t
+  pub word : (a : Bool) → (is_behind_colon place && (list_all (λ c. c == tab) t && a)) ≡ false
 
 pub no_gap : Gap AtStart []
-no_gap = record { holds = inr (refl, refl) }
+no_gap = record { holds = inr (inr (refl, refl)); word = λ a. refl }
 
 pub space : {place : Position} → Gap place (codes " ")
-space = record { holds = inl (inl (1, omega arith, refl)) }
+space {place} = record { holds = inl ((λ e. cc), (refl, tt)); word = λ a. and_false (is_behind_colon place) }
+
+pub space_and_tab : {place : Position} → Gap place (codes " \t")
+space_and_tab {place} =
+    record { holds = inl ((λ e. cc), (refl, (refl, tt))); word = λ a. and_false (is_behind_colon place) }
+
+pub tab_alone : {m : ℕ} → Gap (BehindDash m) (codes "\t")
+tab_alone = record { holds = inl ((λ e. cc), (refl, tt)); word = λ a. refl }
 
 -- a line's end, filler, and spaces
 pub lines_down : {place : Position} {lines : List ℕ} (n : ℕ) → Filler lines → indent_at place ≤ n
     → Gap place (codes "\n" ++ (lines ++ spaces n))
 lines_down {place} {lines} n f h = record {
-  holds = inl (inr (codes "\n", lines, spaces n, ([], (blanks [] refl).holds, refl), f.holds, (n, h, refl), refl));
+  holds = inr (inl (
+    codes "\n",
+    lines,
+    spaces n,
+    ([], (blanks [] refl).holds, refl),
+    f.holds,
+    (spaces n, [], (n, h, refl), tt, sym (append-nil (spaces n))),
+    refl,
+  ));
+  word = λ a. and_false (is_behind_colon place);
+}
+
+-- the same, and a tab
+pub lines_down_and_tab : {place : Position} {lines : List ℕ} (n : ℕ) → Filler lines → indent_at place ≤ n
+    → Gap place (codes "\n" ++ (lines ++ (spaces n ++ codes "\t")))
+lines_down_and_tab {place} {lines} n f h = record {
+  holds = inr (inl (
+    codes "\n",
+    lines,
+    spaces n ++ codes "\t",
+    ([], (blanks [] refl).holds, refl),
+    f.holds,
+    (spaces n, codes "\t", (n, h, refl), (refl, tt), refl),
+    refl,
+  ));
+  word = λ a. and_false (is_behind_colon place);
 }

@@ -12,6 +12,7 @@ use Rattle.scalar_laws.proofs.Beginnings.{decodes_itself}
 use Rattle.saphyr_scanner.specs.Grammar.Forest.{Handle, Directive, Version, TagPrefix, Reserved, AreCompatible, bare}
 use Rattle.saphyr_scanner.specs.Grammar.Forest.{Node, Document, Forest}
 use Rattle.layout_laws.specs.Grammar.BlockNodes.{AtStart, BehindMarker, IsBlockNode}
+use Rattle.layout_laws.specs.Grammar.Layout as layout
 use Rattle.layout_laws.specs.Grammar.Layout.{IsDirective, AreDirectives, IsDocument, IsDocumentPrefix}
 use Rattle.layout_laws.specs.Grammar.Layout.{IsBehindDocument, AreDocuments, has_marker, IsLayout, IsLayoutText}
 use Rattle.layout_laws.specs.Grammar.TagSpelling.{IsHandle}
@@ -58,25 +59,39 @@ pub documents : {room : ℕ} {d : Document} {forest : Forest} {free : Bool} {t o
     → DocumentText room d free t others → Behind room forest others → Documents room (d ∷ forest) free (t ++ others)
 documents {t = t} {others} h g = record { holds = ([], t, others, no_filler.holds, h.holds, g.holds, refl) }
 
+pub documents_behind : {room : ℕ} {d : Document} {forest : Forest} {free : Bool} {lines t others : List ℕ}
+    → Filler lines → DocumentText room d free t others → Behind room forest others
+    → Documents room (d ∷ forest) free (lines ++ (t ++ others))
+documents_behind {lines = lines} {t} {others} f h g =
+    record { holds = (lines, t, others, f.holds, h.holds, g.holds, refl) }
+
 pub at_once : {room : ℕ} {forest : Forest} {t : List ℕ} → Documents room forest false t → Behind room forest t
 at_once h = record { holds = inl h.holds }
 
 pub finish : {room : ℕ} → Behind room [] []
 finish = at_once (end_of_stream no_more)
 
--- filler and a byte order mark, or neither
-pub record Prefix (t : List ℕ) : Type 0 where
-  pub holds : IsDocumentPrefix t
+-- what may stand where a document is free
+pub record Prefix (t behind : List ℕ) : Type 0 where
+  pub holds : IsDocumentPrefix t behind
 
-pub no_prefix : Prefix []
-no_prefix = record { holds = inl refl }
+pub no_prefix : {behind : List ℕ} → Prefix [] behind
+no_prefix {behind} = record { holds = layout.no_prefix behind }
 
-pub mark : {t : List ℕ} → Filler t → Prefix (t ++ (byte_order_mark ∷ []))
-mark {t} f = record { holds = inr (t, f.holds, refl) }
+-- a byte order mark behind filler, and what follows it
+pub mark : {lines others behind : List ℕ} → Filler lines → Prefix others behind
+    → Prefix (lines ++ (byte_order_mark ∷ others)) behind
+mark {lines} {others} {behind} f p = record { holds = layout.mark_prefix lines others behind f.holds p.holds }
+
+-- a `...` line behind filler, and what follows it
+pub dots_before : {lines end others behind : List ℕ} → Filler lines → End end (others ++ behind) → Prefix others behind
+    → Prefix (lines ++ (codes "..." ++ (end ++ others))) behind
+dots_before {lines} {end} {others} {behind} f e p =
+    record { holds = layout.end_prefix lines end others behind f.holds e.holds p.holds }
 
 -- behind filler a `...` line
 pub dots : {room : ℕ} {forest : Forest} {lines end prefix others : List ℕ} → Filler lines → End end (prefix ++ others)
-    → Prefix prefix → Documents room forest true others
+    → Prefix prefix others → Documents room forest true others
     → Behind room forest ((lines ++ (codes "..." ++ (end ++ prefix))) ++ others)
 dots {lines = lines} {end} {prefix} {others} f e p h = record {
   holds = inr (
@@ -90,24 +105,25 @@ dots {lines = lines} {end} {prefix} {others} f e p h = record {
 
 -- ## Streams
 
-layout : (room : ℕ) (forest : Forest) (t u : List ℕ) → normalized u ≡ t → IsLayout room forest t
+layout_text : (room : ℕ) (forest : Forest) (t u : List ℕ) → normalized u ≡ t → IsLayout room forest t
     → IsLayoutText room forest u
-layout room forest t u e h = rw e h
+layout_text room forest t u e h = rw e h
 
 pub stream : {room : ℕ} {forest : Forest} {t : List ℕ} (u : List ℕ) → Documents room forest true t → normalized u ≡ t
     → IsLayoutText room forest u
-stream {room} {forest} {t} u h e = layout room forest t u e ([], t, inl refl, h.holds, refl)
+stream {room} {forest} {t} u h e = layout_text room forest t u e ([], t, layout.no_prefix t, h.holds, refl)
 
-pub marked_stream : {room : ℕ} {forest : Forest} {t : List ℕ} (u : List ℕ) → Documents room forest true t
-    → normalized u ≡ byte_order_mark ∷ t → IsLayoutText room forest u
-marked_stream {room} {forest} {t} u h e =
-    layout room forest (byte_order_mark ∷ t) u e (byte_order_mark ∷ [], t, inr refl, h.holds, refl)
+pub prefixed_stream : {room : ℕ} {forest : Forest} {prefix t : List ℕ} (u : List ℕ) → Prefix prefix t
+    → Documents room forest true t
+    → normalized u ≡ prefix ++ t → IsLayoutText room forest u
+prefixed_stream {room} {forest} {prefix} {t} u p h e =
+    layout_text room forest (prefix ++ t) u e (prefix, t, p.holds, h.holds, refl)
 
 -- one bare document
 pub document : {room : ℕ} {node : Node} {t : List ℕ} (u : List ℕ) → BlockText room node AtStart t [] → normalized u ≡ t
     → IsFalse (has_marker true t) → IsLayoutText room (bare node ∷ []) u
 document {room} {node} {t} u h e m =
-    layout room (bare node ∷ []) t u e ([], t, inl refl, one, refl)
+    layout_text room (bare node ∷ []) t u e ([], t, layout.no_prefix t, one, refl)
   where
     one : AreDocuments (IsBlockNode room) (bare node ∷ []) true t
     one = ([], t, [], no_filler.holds, inl (refl, (refl, m, h.holds)), inl no_more.holds, sym (append-nil t))

@@ -11,7 +11,7 @@ use Rattle.layout_examples.proofs.Pieces.Spaces.{text_end, feed_behind}
 use Rattle.layout_examples.proofs.Pieces.Scalars.{anchor_x_before, anchor_x_behind, alias_x, tag_t, verbatim_u, tagged}
 use Rattle.layout_examples.proofs.Pieces.Scalars.{scalar, with_front, front_alone, letter_a, letter_b, letter_c}
 use Rattle.layout_examples.proofs.Pieces.Scalars.{letter_d, plain, word, double_quoted, space_gap, empty_line_gap}
-use Rattle.layout_examples.proofs.Pieces.Scalars.{no_word, next_word, words, single_quoted_lines, double_quoted_lines}
+use Rattle.layout_examples.proofs.Pieces.Scalars.{no_word, next_word, dash_and_word, words, single_quoted_lines, double_quoted_lines}
 use Rattle.layout_examples.proofs.Pieces.Flow.{node_key, sign_key, colon_alone, value_behind_colon, colon_at_once, keyed, key_asked}
 use Rattle.layout_examples.proofs.Pieces.Flow.{value_asked, pair_asked, item, item_apart, pair_item, value_item}
 use Rattle.layout_examples.proofs.Pieces.Flow.{asked_item, mark_item, no_items, item_list, no_comma, last_comma, comma}
@@ -102,6 +102,12 @@ returns-clause-properties_alone c =
     document (codes "[!!t, !<u> &x\t\"b\"]") (flow no_gap (brackets tight (item_list
     (item (front_alone (tagged (tag_t (codes "!!") refl)))) (comma blank (item (with_front (anchor_x_behind verbatim_u)
     (apart (codes "\t") refl) (double_quoted 98 refl refl) (λ e. cc))) no_comma))) text_end) refl refl
+
+pub returns-clause-dashes : goal.returns-clause-dashes
+returns-clause-dashes c =
+    document (codes "[a - b]") (flow no_gap (brackets tight (item_list
+    (item (scalar (words letter_a (dash_and_word space_gap space_gap letter_b no_word) refl))) no_comma)) text_end)
+    refl refl
 
 pub returns-clause-plain_lines : goal.returns-clause-plain_lines
 returns-clause-plain_lines c =

@@ -1,6 +1,13 @@
-use Rattle.layout_examples.proofs.NearMisses.{tab_in_indentation, tab_behind_question, tab_behind_left_out}
+use Rattle.layout_examples.proofs.NearMisses.{lone_tab, tab_before_value, tab_in_indentation, tab_behind_question, tab_behind_left_out}
 use Rattle.layout_examples.proofs.NearMisses.{tab_behind_block_scalar, entry_left, key_over_lines, sequence_behind_key}
+use Rattle.layout_examples.proofs.NearMisses.{value_of_its_own, sequence_behind_colon}
 use Rattle.layout_examples.proofs.refuses_in_block.Goals as goal
+
+pub returns-clause-lone_tab : goal.returns-clause-lone_tab
+returns-clause-lone_tab c = lone_tab
+
+pub returns-clause-tab_before_value : goal.returns-clause-tab_before_value
+returns-clause-tab_before_value c = tab_before_value
 
 pub returns-clause-tab_in_indentation : goal.returns-clause-tab_in_indentation
 returns-clause-tab_in_indentation c = tab_in_indentation
@@ -22,3 +29,9 @@ returns-clause-tab_behind_left_out c = tab_behind_left_out
 
 pub returns-clause-tab_behind_block_scalar : goal.returns-clause-tab_behind_block_scalar
 returns-clause-tab_behind_block_scalar c = tab_behind_block_scalar
+
+pub returns-clause-value_of_its_own : goal.returns-clause-value_of_its_own
+returns-clause-value_of_its_own c = value_of_its_own
+
+pub returns-clause-sequence_behind_colon : goal.returns-clause-sequence_behind_colon
+returns-clause-sequence_behind_colon c = sequence_behind_colon

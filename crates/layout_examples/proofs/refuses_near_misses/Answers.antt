@@ -1,5 +1,5 @@
 use Rattle.layout_examples.proofs.LayoutRefused.{comma_alone, comma_first, alias_key, colon_at_end, marker_inside}
-use Rattle.layout_examples.proofs.LayoutRefused.{two_versions}
+use Rattle.layout_examples.proofs.LayoutRefused.{two_versions, mark_behind_blank}
 use Rattle.layout_examples.proofs.refuses_near_misses.Goals as goal
 
 pub returns-clause-comma_alone : goal.returns-clause-comma_alone
@@ -19,3 +19,6 @@ returns-clause-marker_inside c = marker_inside
 
 pub returns-clause-two_versions : goal.returns-clause-two_versions
 returns-clause-two_versions c = two_versions
+
+pub returns-clause-mark_behind_blank : goal.returns-clause-mark_behind_blank
+returns-clause-mark_behind_blank c = mark_behind_blank

@@ -2,7 +2,7 @@
 use Rattle.std.proofs.Common.{ℕ, true, [], ◌∷◌, inl, inr, refl, codes}
 use Rattle.scalar_laws.specs.Spelling.Spaces.{IsFiller, IsFillerText}
 use Rattle.saphyr_scanner.specs.Grammar.Forest.{left_out, Document}
-use Rattle.layout_laws.specs.Grammar.Layout.{IsLayoutText}
+use Rattle.layout_laws.specs.Grammar.Layout.{no_prefix, IsLayoutText}
 
 abbrev pub only : Document
 only = record { explicit = true; directives = []; node = left_out }
@@ -13,7 +13,7 @@ stands_for_one room =
     ([], [], tt, inl refl, refl) in (
       [],
       codes "---\n",
-      inl refl,
+      no_prefix (codes "---\n"),
       (
         [],
         codes "---\n",

@@ -83,7 +83,7 @@ collection_behind_properties : (around : Around) (p : Properties) → ReaderProm
     → (Is : List Kind → Type 0) (b : Brackets)
     → AreBrackets b → (m : Marker) (t v w inside o : List ℕ)
     → FitsAround around m ((t ++ v) ++ bracket_text b w inside) o
-    → IsProperties p t → v ≢ [] → IsSeparation around.indent v → IsSeparation around.indent w
+    → IsProperties p around.indent t → v ≢ [] → IsSeparation around.indent v → IsSeparation around.indent w
     → IsParted around.indent (w ++ (inside ++ (b.closing ∷ o)))
     → (now : FlowMoment) → length now.outer < most_open → Calm around now.context → now.adjacent ≤ m.index
     → StandsBefore around now m (((t ++ v) ++ bracket_text b w inside) ++ o)

@@ -34,7 +34,7 @@ ink_front a t o e b = record {
   ink = b.ink;
 }
 
-anchor_ink : (name t : List ℕ) → IsAnchor name t → BeginsInk t
+pub anchor_ink : (name t : List ℕ) → IsAnchor name t → BeginsInk t
 anchor_ink name t h = begins_with 38 name t h.1
     (record { blank = refl; break = refl; comment = refl; byte_order_mark = refl })
 
@@ -46,23 +46,23 @@ handle_ink Primary t h = begins_with 33 [] t h exclamation
 handle_ink Secondary t h = begins_with 33 (33 ∷ []) t h exclamation
 handle_ink (Named word) t h = begins_with 33 (word ++ codes "!") t h.2 exclamation
 
-tag_ink : (tag : Tag) (t : List ℕ) → IsTag tag t → BeginsInk t
+pub tag_ink : (tag : Tag) (t : List ℕ) → IsTag tag t → BeginsInk t
 tag_ink NonSpecific t h = begins_with 33 [] t h exclamation
 tag_ink (Verbatim uri) t h = begins_with 33 (60 ∷ (h.0 ++ codes ">")) t h.3 exclamation
 tag_ink (Shorthand handle suffix) t h = ink_front h.0 t h.1 h.5 (handle_ink handle h.0 h.2)
 
-are_properties_ink : (anchor : Option (List ℕ)) (tag : Option Tag) (t : List ℕ) → AreProperties anchor tag t
-    → BeginsInk t
-are_properties_ink None None t h = absurd h
-are_properties_ink (Some name) None t h = anchor_ink name t h
-are_properties_ink None (Some tag) t h = tag_ink tag t h
-are_properties_ink (Some name) (Some tag) t (anchor, between, written, a, w, s, inl e) =
+are_properties_ink : (indent : ℕ) (anchor : Option (List ℕ)) (tag : Option Tag) (t : List ℕ)
+    → AreProperties anchor tag indent t → BeginsInk t
+are_properties_ink indent None None t h = absurd h
+are_properties_ink indent (Some name) None t h = anchor_ink name t h
+are_properties_ink indent None (Some tag) t h = tag_ink tag t h
+are_properties_ink indent (Some name) (Some tag) t (anchor, between, written, a, w, s, inl e) =
     ink_front anchor t (between ++ written) e (anchor_ink name anchor a)
-are_properties_ink (Some name) (Some tag) t (anchor, between, written, a, w, s, inr e) =
+are_properties_ink indent (Some name) (Some tag) t (anchor, between, written, a, w, s, inr e) =
     ink_front written t (between ++ anchor) e (tag_ink tag written w)
 
-pub properties_ink : (p : Properties) (t : List ℕ) → IsProperties p t → BeginsInk t
-properties_ink p t h = are_properties_ink p.anchor p.tag t h
+pub properties_ink : (p : Properties) (indent : ℕ) (t : List ℕ) → IsProperties p indent t → BeginsInk t
+properties_ink p indent t h = are_properties_ink indent p.anchor p.tag t h
 
 -- properties and what stands behind them, or that alone
 pub front_ink : (indent : ℕ) (p : Properties) (front t o : List ℕ) → IsBeforeContent p indent front → t ≡ front ++ o
@@ -70,7 +70,7 @@ pub front_ink : (indent : ℕ) (p : Properties) (front t o : List ℕ) → IsBef
 front_ink indent p front t o (inl (none, e)) is b = subst BeginsInk (sym (is ∙ ap (λ (x : List ℕ). x ++ o) e)) b
 front_ink indent p front t o (inr (properties, separation, h, some, parts, e)) is b =
     ink_front properties t (separation ++ o) (is ∙ ap (λ (x : List ℕ). x ++ o) e ∙ append_assoc properties separation o)
-    (properties_ink p properties h)
+    (properties_ink p indent properties h)
 
 -- ## Scalars
 
@@ -121,8 +121,8 @@ plain_key_ink in_flow indent t (inl ((some, ink, no_comment), begins)) =
     by_word : (w : List ℕ) → w ≢ [] → AreIn (is_word_ink in_flow) w → slice_index w 0 ≢ number_sign → BeginsInk w
     by_word [] some ink no_comment = absurd (some refl)
     by_word (c ∷ cs) some ink no_comment = begins_with c cs (c ∷ cs) refl (word_ink in_flow c ink.0 no_comment)
-plain_key_ink in_flow indent t (inr (plain, gap, word, h, gapped, last, e)) =
-    ink_front plain t (gap ++ word) e (ink_front h.0 plain h.1 h.4 (words_ink in_flow h.0 h.2.0))
+plain_key_ink in_flow indent t (inr (plain, dashes, gap, word, h, lone, gapped, last, e)) =
+    ink_front plain t (dashes ++ (gap ++ word)) e (ink_front h.0 plain h.1 h.4 (words_ink in_flow h.0 h.2.0))
 
 -- ## Nodes
 
@@ -136,7 +136,7 @@ pub node_ink : (indent room : ℕ) (node : Node) (in_flow : Bool) (t : List ℕ)
     → BeginsInk t
 node_ink indent room (Alias name) in_flow t h =
     begins_with 42 name t h.1 (record { blank = refl; break = refl; comment = refl; byte_order_mark = refl })
-node_ink indent room (Scalar p style value) in_flow t (inl h) = properties_ink p t h.2
+node_ink indent room (Scalar p style value) in_flow t (inl h) = properties_ink p indent t h.2
 node_ink indent room (Scalar p style value) in_flow t (inr (front, content, f, s, e)) =
     front_ink indent p front t content f e (scalar_ink indent style value in_flow content s)
 node_ink indent room (Seq p nodes) in_flow t (left, opening, inside, r, (front, separation, f, parts, e), items, is) =

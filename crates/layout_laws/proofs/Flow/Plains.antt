@@ -107,18 +107,18 @@ key_begins f indent t r (inl ((some, ink, sign), begins)) = by_word t some ink s
       no_comment = sign;
       further = λ _. ink.1.0;
     }
-key_begins f indent t r (inr (plain, gap, word, h, gapped, last, e)) =
-    let b = word_begins f indent plain (gap ++ (word ++ (58 ∷ r))) h in
+key_begins f indent t r (inr (plain, dashes, gap, word, h, lone, gapped, last, e)) =
+    let end = dashes ++ (gap ++ word) in
+    let b = word_begins f indent plain (end ++ (58 ∷ r)) h in
     record {
       first = b.first;
-      others = b.others ++ (gap ++ word);
-      is = e ∙ ap (λ (y : List ℕ). y ++ (gap ++ word)) b.is;
+      others = b.others ++ end;
+      is = e ∙ ap (λ (y : List ℕ). y ++ end) b.is;
       begins = b.begins;
       ink = b.ink;
       no_comment = b.no_comment;
       further = λ k. subst (λ (y : List ℕ). IsTrue (is_word_ink f (slice_index y 0)))
-          (sym (append_assoc b.others (gap ++ word) (58 ∷ r)
-          ∙ ap (λ (y : List ℕ). b.others ++ y) (append_assoc gap word (58 ∷ r)))) (b.further k);
+          (sym (append_assoc b.others end (58 ∷ r))) (b.further k);
     }
 
 no_blank : (c : ℕ) → is_blank_or_breakz c ≡ false → is_blank c ≡ false
@@ -145,7 +145,7 @@ token_begins f t o b =
     }
 
 -- a character before a word's second one
-lone_test : (f : Bool) (first d second : ℕ) → (first ≡ d → IsTrue (is_word_ink f second))
+pub lone_test : (f : Bool) (first d second : ℕ) → (first ≡ d → IsTrue (is_word_ink f second))
     → ((first == d) && is_blank_or_breakz second) ≡ false
 lone_test f first d second h = by_first (first == d) refl
   where

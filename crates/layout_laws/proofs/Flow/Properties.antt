@@ -1,11 +1,14 @@
 -- The properties of a node in flow style are passed, and an alias is.
-use Rattle.std.proofs.Common.{◌≡◌, ℕ, zero, suc, ◌+◌, ◌≤◌, ◌<◌, Bool, true, false, List, [], ◌∷◌, ◌++◌, length, slice_index, refl, sym, ap, ◌∙◌, arith, subst, append_assoc, IsTrue, inl, inr}
+use Rattle.std.proofs.Common.{◌≡◌, ◌≢◌, ℕ, zero, suc, ◌+◌, ◌-◌, ◌≤◌, ◌<◌, Bool, true, false, List, [], ◌∷◌, ◌++◌, length, slice_index, refl, sym, ap, ◌∙◌, arith, subst, append_assoc, append-nil, IsTrue, inl, inr}
 use Rattle.std.specs.Prelude.{not, option_map, Option, Some, None}
 use Rattle.saphyr_input.specs.Classes.{is_blank, is_blank_or_breakz}
 use Rattle.std.proofs.lemmas.Bool.{false≢true}
+use Rattle.std.proofs.lemmas.Bool.Decides.{nat_tests}
 use Rattle.saphyr_scalar.specs.declared.scalar.position.Marker.{Marker}
 use Rattle.saphyr_scalar.specs.Spelling.Tag.{AreIn, EndsTag}
-use Rattle.scalar_laws.specs.Spelling.Spaces.{AreSpaces}
+use Rattle.saphyr_scalar.specs.Reading.BlockLines.{spaces}
+use Rattle.scalar_laws.specs.Spelling.Spaces.{IsGap, IsSeparation}
+use Rattle.scalar_laws.proofs.Beginnings.{both_in}
 use Rattle.saphyr_scanner.specs.declared.engine.level.Context.{Context}
 use Rattle.saphyr_scanner.specs.Grammar.Tokens.{Kind, alias_token, anchor_token, tag_token}
 use Rattle.saphyr_scanner.specs.Grammar.TokenGrammar as grammar
@@ -21,8 +24,9 @@ use Rattle.layout_laws.specs.Grammar.FlowNodes.{IsAnchor}
 use Rattle.layout_laws.proofs.InFlow.States.{Around, state_at, FlowMoment, root_moment}
 use Rattle.layout_laws.proofs.Flow.States.{Since, KeptKey, keeping, moved, past, IsBehindNode, IsBehindRoot, ReaderPromises, Known, PassesPiece, FitsAround, IsAfterNode, IsAfterProperties, NodePasses, RootCloses, after, StandsBefore, key_behind}
 use Rattle.layout_laws.proofs.Flow.Places.{moved_append}
+use Rattle.layout_laws.proofs.Documents.Lines.{rest_first}
 use Rattle.layout_laws.proofs.Flow.GapSteps.{less_behind}
-use Rattle.layout_laws.proofs.Flow.Fillers.{blanks_past, spaces_are_blank, are_spaces_past}
+use Rattle.layout_laws.proofs.Flow.Fillers.{spaces_are_blank, separation_past, right_behind}
 use Rattle.layout_laws.proofs.Flow.Pieces.{fits_front, fits_back}
 use Rattle.layout_laws.proofs.Flow.Joins.{since_join, join, closes_unnoted, knowing}
 use Rattle.layout_laws.proofs.Flow.Inks.{node_ink}
@@ -64,13 +68,52 @@ one_property x kept ad p =
       still = p.knows.tells.1;
     })
 
-spaces_right : (column : ℕ) (m : Marker) (w : List ℕ) → AreSpaces 1 w → column ≤ m.col → column ≤ (moved m w).col
-spaces_right column m w h low =
-    (blanks_past column w (subst (AreIn is_blank) (sym h.2) (spaces_are_blank h.0)) m low).right
+-- a gap is separation
+pub gap_separates : (indent : ℕ) (w : List ℕ) → IsGap indent w → IsSeparation indent w
+gap_separates indent w (inl (some, are)) = ([], w, ([], tt, refl), are, refl)
+gap_separates indent w (inr (
+  end,
+  filler,
+  front,
+  (rest, (blanks, comment, are, k, rest_is), end_is),
+  filler_is,
+  (lead, tail, (n, low, lead_is), tail_are, prefix_is),
+  e,
+)) =
+    let line = blanks ++ (comment ++ (10 ∷ (filler ++ spaces indent))) in
+    let more = spaces (n - indent) ++ tail in
+    let front_is : front ≡ spaces indent ++ more = prefix_is
+    ∙ ap (λ (x : List ℕ). x ++ tail) (lead_is ∙ longer indent n low)
+    ∙ append_assoc (spaces indent) (spaces (n - indent)) tail in
+    let parts : w ≡ ((blanks ++ comment) ++ (10 ∷ [])) ++ (filler ++ (spaces indent ++ more)) = e
+    ∙ ap (λ (x : List ℕ). x ++ (filler ++ front)) (end_is ∙ ap (λ (x : List ℕ). x ++ (10 ∷ [])) rest_is)
+    ∙ ap (λ (x : List ℕ). ((blanks ++ comment) ++ (10 ∷ [])) ++ (filler ++ x)) front_is in
+    let text : w ≡ (line ++ []) ++ more =
+    parts ∙ joined blanks comment filler (spaces indent) more ∙ ap (λ (x : List ℕ). x ++ more) (sym (append-nil line))
+    in (
+      line ++ [],
+      more,
+      (line ∷ [], ((blanks, comment, filler, are, k, filler_is, refl), tt), refl),
+      both_in is_blank (spaces (n - indent)) tail (spaces_are_blank (n - indent)) tail_are,
+      text,
+    )
+  where
+    joined : (a b c d e : List ℕ)
+        → ((a ++ b) ++ (10 ∷ [])) ++ (c ++ (d ++ e)) ≡ (a ++ (b ++ (10 ∷ (c ++ d)))) ++ e
+    joined a b c d e = simp append_assoc
 
--- two with spaces between
+    sum : (i j : ℕ) → spaces (i + j) ≡ spaces i ++ spaces j
+    sum zero j = let same : 0 + j ≡ j = omega arith in ap spaces same
+    sum (suc i) j =
+        let same : suc i + j ≡ suc (i + j) = omega arith in ap spaces same ∙ ap (λ (x : List ℕ). 32 ∷ x) (sum i j)
+
+    longer : (i n : ℕ) → i ≤ n → spaces n ≡ spaces i ++ spaces (n - i)
+    longer i n low = let same : n ≡ i + (n - i) = omega (arith, low) in ap spaces same ∙ sum i (n - i)
+
+-- two with a gap between
 two_properties : (around : Around) (start : Bool → State) (x : Context) (kept before : Option Candidate)
-    (ls : List Level) (ps : List Place) (ad : ℕ) (m : Marker) (a w b o : List ℕ) (first second : Kind) → AreSpaces 1 w
+    (ls : List Level) (ps : List Place) (ad : ℕ) (m : Marker) (a w b o : List ℕ) (first second : Kind)
+    → IsGap around.indent w
     → (p : PassesPiece around start
     (after_token (closes_key ad) x (record { kept = kept; before = before; from = m; over = a })) x ls ps (moved m a)
     ((w ++ b) ++ o) (first ∷ []))
@@ -82,10 +125,11 @@ two_properties : (around : Around) (start : Bool → State) (x : Context) (kept 
     (record { kept = kept; before = before; from = m; over = a ++ (w ++ b) })
     ad) x ls ps (moved m (a ++ (w ++ b))) o (first ∷ second ∷ [])
 two_properties around start x kept before ls ps ad m a w b o first second h p passes =
+    let parts = gap_separates around.indent w h in
     let here : StandsBefore around (after p) (moved (moved m a) w) (b ++ o) =
     p.fits ∙ ap (past around.indent (moved m a)) (append_assoc w b o)
-    ∙ are_spaces_past around.indent 1 w h (moved m a) (b ++ o) in
-    let q = passes here (spaces_right around.indent (moved m a) w h p.right) in
+    ∙ separation_past around.indent (moved m a) w (b ++ o) parts p.right in
+    let q = passes here (right_behind around.indent (moved m a) w parts p.right) in
     let place : moved (moved (moved m a) w) b ≡ moved m (a ++ (w ++ b)) =
     sym (moved_append m a (w ++ b) ∙ moved_append (moved m a) w b) in
     subst (λ (n : Marker). PassesPiece around start
@@ -106,15 +150,30 @@ two_properties around start x kept before ls ps ad m a w b o first second h p pa
       still = q.knows.tells.1 ∙ p.knows.tells.1;
     }))
 
-pub space_first : (w y : List ℕ) → AreSpaces 1 w → IsTrue (is_blank_or_breakz (slice_index (w ++ y) 0))
-space_first w y (zero, some, is) = absurd (omega (arith, some))
-space_first w y (suc n, some, is) =
-    subst (λ (v : List ℕ). IsTrue (is_blank_or_breakz (slice_index (v ++ y) 0))) (sym is) refl
+pub blank_first : (w y : List ℕ) → (w ≢ []) × AreIn is_blank w → IsTrue (is_blank_or_breakz (slice_index (w ++ y) 0))
+blank_first [] y h = absurd (h.0 refl)
+blank_first (c ∷ cs) y h = apart c h.1.0
+  where
+    apart : (c : ℕ) → IsTrue (is_blank c) → IsTrue (is_blank_or_breakz c)
+    apart c h = grind (arith, nat_tests)
 
-spaces_end_tag : (in_flow : Bool) (w b o : List ℕ) → AreSpaces 1 w → EndsTag in_flow ((w ++ b) ++ o)
-spaces_end_tag in_flow w b o h =
+-- behind a token: a blank or a break
+pub gap_first : (indent : ℕ) (w y : List ℕ) → IsGap indent w → IsTrue (is_blank_or_breakz (slice_index (w ++ y) 0))
+gap_first indent w y (inl h) = blank_first w y h
+gap_first indent w y (inr (end, filler, front, (rest, rest_is, end_is), filler_is, prefix, e)) =
+    let more = (filler ++ front) ++ y in
+    let text : w ++ y ≡ rest ++ (10 ∷ more) = ap (λ (x : List ℕ). x ++ y) e
+    ∙ ap (λ (x : List ℕ). (x ++ (filler ++ front)) ++ y) end_is ∙ joined rest (filler ++ front) y in
+    subst (λ (x : List ℕ). IsTrue (is_blank_or_breakz (slice_index x 0))) (sym text)
+    (rest_first rest (10 ∷ more) rest_is (inr refl))
+  where
+    joined : (a b c : List ℕ) → ((a ++ (10 ∷ [])) ++ b) ++ c ≡ a ++ (10 ∷ (b ++ c))
+    joined a b c = simp append_assoc
+
+gap_ends_tag : (indent : ℕ) (in_flow : Bool) (w b o : List ℕ) → IsGap indent w → EndsTag in_flow ((w ++ b) ++ o)
+gap_ends_tag indent in_flow w b o h =
     subst (EndsTag in_flow) (sym (append_assoc w b o))
-    (white_ends_tag in_flow (w ++ (b ++ o)) (space_first w (b ++ o) h))
+    (white_ends_tag in_flow (w ++ (b ++ o)) (gap_first indent w (b ++ o) h))
 
 -- ## Properties
 
@@ -133,11 +192,11 @@ ReadsProperties around anchor tag m t o now =
 
 anchor_and_tag : ReaderPromises → (around : Around) (name : List ℕ) (tag : Tag) (m : Marker) (a w b o : List ℕ)
     → IsAnchor name a
-    → AreSpaces 1 w → IsTag tag b → (now : FlowMoment) → EndsTag (not (is_block now.context)) o
+    → IsGap around.indent w → IsTag tag b → (now : FlowMoment) → EndsTag (not (is_block now.context)) o
     → ReadsProperties around (Some name) (Some tag) m (a ++ (w ++ b)) o now
 anchor_and_tag reads around name tag m a w b o h spaced g now ends fits text =
     let behind = (w ++ b) ++ o in
-    let p = anchor_passes reads around name a behind m h (tag_ends_name true behind (spaces_end_tag true w b o spaced))
+    let p = anchor_passes reads around name a behind m h (tag_ends_name true behind (gap_ends_tag around.indent true w b o spaced))
     (fits_front m a (w ++ b) o fits) now (text ∙ ap (past around.indent m) (append_assoc a (w ++ b) o)) in
     record {
       tokens = anchor_token name ∷ tag_token tag ∷ [];
@@ -150,12 +209,12 @@ anchor_and_tag reads around name tag m a w b o h spaced g now ends fits text =
 
 tag_and_anchor : ReaderPromises → (around : Around) (name : List ℕ) (tag : Tag) (m : Marker) (a w b o : List ℕ)
     → IsTag tag a
-    → AreSpaces 1 w → IsAnchor name b → (now : FlowMoment) → EndsTag (not (is_block now.context)) o
+    → IsGap around.indent w → IsAnchor name b → (now : FlowMoment) → EndsTag (not (is_block now.context)) o
     → ReadsProperties around (Some name) (Some tag) m (a ++ (w ++ b)) o now
 tag_and_anchor reads around name tag m a w b o g spaced h now ends fits text =
     let behind = (w ++ b) ++ o in
     let p = tag_passes reads around tag a behind m g (fits_front m a (w ++ b) o fits) now
-    (spaces_end_tag (not (is_block now.context)) w b o spaced)
+    (gap_ends_tag around.indent (not (is_block now.context)) w b o spaced)
     (text ∙ ap (past around.indent m) (append_assoc a (w ++ b) o)) in
     record {
       tokens = tag_token tag ∷ anchor_token name ∷ [];
@@ -169,7 +228,7 @@ tag_and_anchor reads around name tag m a w b o g spaced h now ends fits text =
 
 pub properties_read : ReaderPromises
     → (around : Around) (anchor : Option (List ℕ)) (tag : Option Tag) (m : Marker) (t o : List ℕ)
-    → layout.AreProperties anchor tag t
+    → layout.AreProperties anchor tag around.indent t
     → (now : FlowMoment) → EndsTag (not (is_block now.context)) o → ReadsProperties around anchor tag m t o now
 properties_read reads around None None m t o h now ends fits text = absurd h
 properties_read reads around (Some name) None m t o h now ends fits text =

@@ -34,20 +34,20 @@ flow_ends_tag x o flow h = subst (λ (f : Bool). EndsTag f o) (sym (ap not flow)
 
 -- ## Properties alone, for an empty scalar
 
-some_property : (anchor : Option (List ℕ)) (tag : Option Tag) (t : List ℕ) → layout.AreProperties anchor tag t
-    → HasOne anchor tag
-some_property None None t h = absurd h
-some_property (Some name) None t h = tt
-some_property None (Some tag) t h = tt
-some_property (Some name) (Some tag) t h = tt
+some_property : (anchor : Option (List ℕ)) (tag : Option Tag) (indent : ℕ) (t : List ℕ)
+    → layout.AreProperties anchor tag indent t → HasOne anchor tag
+some_property None None indent t h = absurd h
+some_property (Some name) None indent t h = tt
+some_property None (Some tag) indent t h = tt
+some_property (Some name) (Some tag) indent t h = tt
 
-pub empty_are : (p : Properties) (t : List ℕ) (tokens : List Kind) (place : grammar.Context) → IsProperties p t
-    → grammar.YieldProperties p tokens → grammar.YieldsNode (Scalar p Plain []) place tokens
-empty_are p t tokens place h are =
-    (tokens, [], are, inr (some_property p.anchor p.tag t h, refl, refl, refl), sym (append-nil tokens))
+pub empty_are : (p : Properties) (indent : ℕ) (t : List ℕ) (tokens : List Kind) (place : grammar.Context)
+    → IsProperties p indent t → grammar.YieldProperties p tokens → grammar.YieldsNode (Scalar p Plain []) place tokens
+empty_are p indent t tokens place h are =
+    (tokens, [], are, inr (some_property p.anchor p.tag indent t h, refl, refl, refl), sym (append-nil tokens))
 
-empty_passes : ReaderPromises → (around : Around) (p : Properties) (m : Marker) (t o : List ℕ) → IsProperties p t
-    → FitsAround around m t o → IsBehindNode around.indent (Scalar p Plain []) o
+empty_passes : ReaderPromises → (around : Around) (p : Properties) (m : Marker) (t o : List ℕ)
+    → IsProperties p around.indent t → FitsAround around m t o → IsBehindNode around.indent (Scalar p Plain []) o
     → (now : FlowMoment) → now.adjacent < m.index → is_block now.context ≡ false → StandsBefore around now m (t ++ o)
     → NodePasses around now (Scalar p Plain []) m t o
 empty_passes reads around p m t o h fits behind now low flow text =
@@ -57,7 +57,7 @@ empty_passes reads around p m t o h fits behind now low flow text =
     let known = r.passes.knows.properties in
     record {
       tokens = r.tokens;
-      are = empty_are p t r.tokens grammar.InFlow h r.are;
+      are = empty_are p around.indent t r.tokens grammar.InFlow h r.are;
       passes = knowing r.passes (after_node around.indent now.context (key_behind now m) node (moved m t) o)
           (record {
             piece = known.piece;
@@ -70,15 +70,15 @@ empty_passes reads around p m t o h fits behind now low flow text =
           });
     }
 
-empty_closes : ReaderPromises → (around : Around) (p : Properties) (m : Marker) (t o : List ℕ) → IsProperties p t
-    → FitsAround around m t o → IsBehindRoot around.indent (moved m t) o → (now : FlowMoment) → now.adjacent ≤ m.index
+empty_closes : ReaderPromises → (around : Around) (p : Properties) (m : Marker) (t o : List ℕ)
+    → IsProperties p around.indent t → FitsAround around m t o → IsBehindRoot around.indent (moved m t) o → (now : FlowMoment) → now.adjacent ≤ m.index
     → StandsBefore around now m (t ++ o) → RootCloses around now (Scalar p Plain []) m t o
 empty_closes reads around p m t o h fits behind now before text =
     let ends = white_ends_tag false o (root_first around.indent (moved m t) o behind) in
     let r = properties_read reads around p.anchor p.tag m t o h (root_moment now) ends fits text in
     record {
       tokens = r.tokens;
-      are = empty_are p t r.tokens grammar.InBlock h r.are;
+      are = empty_are p around.indent t r.tokens grammar.InBlock h r.are;
       closes = closes_unnoted r.passes (subst (λ (n : ℕ). n ≤ (past around.indent (moved m t) o).0.index)
           (sym r.passes.knows.still) (behind_low around.indent now.adjacent m t o before)) r.passes.knows.since;
     }
@@ -158,7 +158,7 @@ pub full_are : (p : Properties) (style : Style) (value : List ℕ) (tokens : Lis
 full_are p style value tokens place are = (tokens, scalar_token style value ∷ [], are, inl refl, refl)
 
 full_passes : ReaderPromises → (around : Around) (p : Properties) (style : Style) (value a w b o : List ℕ) (m : Marker)
-    → IsProperties p a → w ≢ [] → IsSeparation around.indent w → ContentPasses around p style value b o
+    → IsProperties p around.indent a → w ≢ [] → IsSeparation around.indent w → ContentPasses around p style value b o
     → FitsAround around m (a ++ (w ++ b)) o → IsBehindNode around.indent (Scalar p style value) o
     → (now : FlowMoment) → now.adjacent < m.index → is_block now.context ≡ false
     → StandsBefore around now m ((a ++ (w ++ b)) ++ o) → NodePasses around now (Scalar p style value) m (a ++ (w ++ b))
@@ -200,7 +200,7 @@ full_passes reads around p style value a w b o m h some parts g fits behind now 
     }
 
 full_closes : ReaderPromises → (around : Around) (p : Properties) (style : Style) (value a w b o : List ℕ) (m : Marker)
-    → IsProperties p a → w ≢ [] → IsSeparation around.indent w → IsFlowScalar style value false around.indent b
+    → IsProperties p around.indent a → w ≢ [] → IsSeparation around.indent w → IsFlowScalar style value false around.indent b
     → FitsAround around m (a ++ (w ++ b)) o → IsBehindRoot around.indent (moved m (a ++ (w ++ b))) o
     → (now : FlowMoment) → now.adjacent ≤ m.index → StandsBefore around now m ((a ++ (w ++ b)) ++ o)
     → RootCloses around now (Scalar p style value) m (a ++ (w ++ b)) o

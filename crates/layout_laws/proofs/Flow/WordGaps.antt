@@ -13,8 +13,8 @@ use Rattle.saphyr_scalar.specs.Steps.Plain.{ends_line}
 use Rattle.saphyr_scalar.specs.Reading.Plain.{end_of_text}
 use Rattle.saphyr_scalar.specs.Spelling.Tag.{AreIn}
 use Rattle.scalar_laws.specs.Spelling.Plain.{behind_blanks, reaches_tabbed, has_line_end, IsPlainGap}
-use Rattle.scalar_laws.specs.Spelling.Spaces.{joined_pieces, AreEach, AreSpaces}
-use Rattle.layout_laws.specs.Grammar.FlowScalars.{IsLinePrefix, IsEmptyLine, IsFoldedGap, IsWordGap}
+use Rattle.scalar_laws.specs.Spelling.Spaces.{joined_pieces, AreEach, AreSpaces, IsLinePrefix}
+use Rattle.layout_laws.specs.Grammar.FlowScalars.{IsEmptyLine, IsFoldedGap, IsWordGap}
 use Rattle.layout_laws.proofs.Flow.States.{moved}
 use Rattle.layout_laws.proofs.Flow.Places.{moved_append}
 use Rattle.layout_laws.proofs.Flow.Fillers.{spaces_are_blank, blanks_past, spaces_column}
@@ -180,7 +180,7 @@ pub record Gapped (indent : ℕ) (m : Marker) (t : List ℕ) : Type 0 where
   pub right : indent ≤ m.col → indent ≤ (moved m t).col
 
 -- a line's prefix reaches the indentation
-prefix_reaches : (indent : ℕ) (m : Marker) (t : List ℕ) → IsLinePrefix indent t → indent ≤ (moved m t).col
+pub prefix_reaches : (indent : ℕ) (m : Marker) (t : List ℕ) → IsLinePrefix indent t → indent ≤ (moved m t).col
 prefix_reaches indent m t (front, blanks, (n, low, spaced), are, is) =
     let k = moved m front in
     let there = ap (λ (f : List ℕ). (moved m f).col) spaced ∙ spaces_column m n in

@@ -3,7 +3,7 @@ use Rattle.std.proofs.Common.{◌≡◌, ◌≢◌, ℕ, ◌≤◌, Bool, true, 
 use Rattle.std.specs.Prelude.{◌&&◌, ◌==◌}
 use Rattle.std.proofs.lemmas.Bool.Decides.{nat_tests}
 use Rattle.saphyr_input.specs.Indicators.{colon, hyphen}
-use Rattle.saphyr_input.specs.Classes.{is_break, is_blank_or_breakz, is_bom, is_flow}
+use Rattle.saphyr_input.specs.Classes.{is_blank, is_break, is_blank_or_breakz, is_bom, is_flow}
 use Rattle.saphyr_input.specs.Places.{is_document_indicator}
 use Rattle.saphyr_scalar.specs.declared.scalar.position.Marker.{Marker}
 use Rattle.saphyr_scalar.specs.Views.Cursor.{along}
@@ -11,8 +11,8 @@ use Rattle.saphyr_scalar.specs.Reading.Plain.{end_of_text}
 use Rattle.saphyr_scalar.specs.Spelling.Tag.{AreIn}
 use Rattle.saphyr_scalar.proofs.NoBreaks.{NoBreaks}
 use Rattle.scalar_laws.specs.Spelling.Plain.{EndsPlain, is_word_ink, AreWordInk, IsWordIn, AreInkBefore, IsWordBefore, words_text, IsNoMarker, AreFurtherWords, IsPlainText}
-use Rattle.scalar_laws.specs.Spelling.Spaces.{joined_pieces, AreEach}
-use Rattle.layout_laws.specs.Grammar.FlowScalars.{IsWordGap, IsFurtherWord, IsPlain, IsLastWord, IsPlainKey}
+use Rattle.scalar_laws.specs.Spelling.Spaces.{joined_pieces, AreEach, AreMany}
+use Rattle.layout_laws.specs.Grammar.FlowScalars.{IsWordGap, IsLoneDash, IsFurtherWord, IsPlain, IsLastWord, IsPlainKey}
 use Rattle.layout_laws.proofs.Flow.States.{moved, IsClear}
 use Rattle.layout_laws.proofs.Flow.Places.{moved_append, right_along, clear_front, clear_back, clear_here}
 use Rattle.layout_laws.proofs.Flow.Names.{unbroken_along, unbroken_on_line}
@@ -173,35 +173,109 @@ one_further f indent m gap word more o gapped is_word clear rest =
           (subst (λ (k : Marker). indent ≤ k.col) (sym there) ((word_gap indent m gap gapped).right low)))));
     }
 
+blank_is_apart : (c : ℕ) → IsTrue (is_blank c) → is_flow c ≡ false
+blank_is_apart c h = grind (arith, nat_tests)
+
+-- what stands between words begins with no flow indicator
+gap_is_apart : (indent : ℕ) (gap more : List ℕ) → IsWordGap indent gap → is_flow (slice_index (gap ++ more) 0) ≡ false
+gap_is_apart indent gap more (inl (some, are)) = by_first gap some are
+  where
+    by_first : (t : List ℕ) → t ≢ [] → AreIn is_blank t → is_flow (slice_index (t ++ more) 0) ≡ false
+    by_first [] some are = absurd (some refl)
+    by_first (c ∷ cs) some are = blank_is_apart c are.0
+gap_is_apart indent gap more (inr (blanks, lines, front, are, ls, prefix, is)) =
+    subst (λ (t : List ℕ). is_flow (slice_index (t ++ more) 0) ≡ false) (sym is) (by_first blanks are)
+  where
+    by_first : (t : List ℕ) → AreIn is_blank t
+        → is_flow (slice_index ((t ++ (10 ∷ (lines ++ front))) ++ more) 0) ≡ false
+    by_first [] are = refl
+    by_first (c ∷ cs) are = blank_is_apart c are.0
+
+-- a lone `-` stands before what begins with no flow indicator
+dash_before : (f : Bool) (y : List ℕ) → is_flow (slice_index y 0) ≡ false → IsWordBefore f (hyphen ∷ []) y
+dash_before f y apart = record {
+  some = λ e. cc;
+  ink = (dash_is_ink f, λ e. absurd (omega (arith, e)), tt);
+  no_comment = λ e. absurd (omega (arith, e));
+  no_lone_dash = lone_dash 45 f (is_flow (slice_index y 0)) (λ _. apart);
+}
+  where
+    dash_is_ink : (f : Bool) → IsTrue (is_word_ink f 45)
+    dash_is_ink true = refl
+    dash_is_ink false = refl
+
+-- lone `-` and their gaps, and what stands behind them
+dashes_further : (f : Bool) (indent : ℕ) (pieces : List (List ℕ)) → AreEach (IsLoneDash indent) pieces
+    → (last o : List ℕ) → is_flow (slice_index (last ++ o) 0) ≡ false
+    → ((m : Marker) → IsClear m last o → IsFurther f indent m last o)
+    → (m : Marker) → IsClear m (joined_pieces pieces ++ last) o → IsFurther f indent m (joined_pieces pieces ++ last) o
+dashes_further f indent [] h last o apart ends m clear = ends m clear
+dashes_further f indent (p ∷ ps) ((gap, gapped, is), others) last o apart ends m clear =
+    let more = joined_pieces ps ++ last in
+    let text : (p ++ joined_pieces ps) ++ last ≡ gap ++ ((45 ∷ []) ++ more) =
+    append_assoc p (joined_pieces ps) last ∙ ap (λ (t : List ℕ). t ++ more) is ∙ append_assoc gap (45 ∷ []) more in
+    let all : IsClear m (gap ++ ((45 ∷ []) ++ more)) o = subst (λ (t : List ℕ). IsClear m t o) text clear in
+    let before = dash_before f (more ++ o) (next ps others) in
+    let behind = behind_word (end_of_text m gap) (45 ∷ []) more o (word_unbroken f (45 ∷ []) (more ++ o) before.ink)
+    (at_word m gap (45 ∷ []) more o all) in
+    subst (λ (t : List ℕ). IsFurther f indent m t o) (sym text)
+    (one_further f indent m gap (45 ∷ []) more o gapped before all
+    (dashes_further f indent ps others last o apart ends (along (end_of_text m gap) 1) behind))
+  where
+    next : (qs : List (List ℕ)) → AreEach (IsLoneDash indent) qs
+        → is_flow (slice_index ((joined_pieces qs ++ last) ++ o) 0) ≡ false
+    next [] h = apart
+    next (q ∷ qs) ((gap, gapped, is), others) =
+        let text : ((q ++ joined_pieces qs) ++ last) ++ o ≡ gap ++ ((45 ∷ []) ++ ((joined_pieces qs ++ last) ++ o)) =
+        ap (λ (t : List ℕ). ((t ++ joined_pieces qs) ++ last) ++ o) is ∙ simp append_assoc in
+        subst (λ (t : List ℕ). is_flow (slice_index t 0) ≡ false) (sym text)
+        (gap_is_apart indent gap ((45 ∷ []) ++ ((joined_pieces qs ++ last) ++ o)) gapped)
+
 -- words, and what stands behind them
 further_words : (f : Bool) (indent : ℕ) (pieces : List (List ℕ)) → AreEach (IsFurtherWord f indent) pieces
     → (last o : List ℕ) → ((m : Marker) → IsClear m last o → IsFurther f indent m last o)
     → (m : Marker) → IsClear m (joined_pieces pieces ++ last) o → IsFurther f indent m (joined_pieces pieces ++ last) o
 further_words f indent [] h last o ends m clear = ends m clear
-further_words f indent (p ∷ ps) ((gap, word, gapped, is_word, is), others) last o ends m clear =
+further_words f indent (p ∷ ps) ((dashes, gap, word, (lone, each, joins), gapped, is_word, is), others) last o ends m
+    clear =
     let more = joined_pieces ps ++ last in
-    let text : (p ++ joined_pieces ps) ++ last ≡ gap ++ (word ++ more) =
-    append_assoc p (joined_pieces ps) last ∙ ap (λ (t : List ℕ). t ++ more) is ∙ append_assoc gap word more in
-    let all : IsClear m (gap ++ (word ++ more)) o = subst (λ (t : List ℕ). IsClear m t o) text clear in
+    let text : (p ++ joined_pieces ps) ++ last ≡ joined_pieces lone ++ (gap ++ (word ++ more)) =
+    ap (λ (t : List ℕ). (t ++ joined_pieces ps) ++ last) (is ∙ ap (λ (t : List ℕ). t ++ (gap ++ word)) joins)
+    ∙ simp append_assoc in
     let before = word_before f word (more ++ o) is_word in
-    let behind = behind_word (end_of_text m gap) word more o (word_unbroken f word (more ++ o) before.ink)
-    (at_word m gap word more o all) in
     subst (λ (t : List ℕ). IsFurther f indent m t o) (sym text)
-    (one_further f indent m gap word more o gapped before all
-    (further_words f indent ps others last o ends (along (end_of_text m gap) (length word)) behind))
+    (dashes_further f indent lone each (gap ++ (word ++ more)) o (apart gapped more)
+    (λ n there. one_further f indent n gap word more o gapped before there
+    (further_words f indent ps others last o ends (along (end_of_text n gap) (length word))
+    (behind_word (end_of_text n gap) word more o (word_unbroken f word (more ++ o) before.ink)
+    (at_word n gap word more o there)))) m (subst (λ (t : List ℕ). IsClear m t o) text clear))
+  where
+    apart : IsWordGap indent gap → (more : List ℕ) → is_flow (slice_index ((gap ++ (word ++ more)) ++ o) 0) ≡ false
+    apart gapped more =
+        subst (λ (t : List ℕ). is_flow (slice_index t 0) ≡ false) (sym (append_assoc gap (word ++ more) o))
+        (gap_is_apart indent gap ((word ++ more) ++ o) gapped)
 
 nothing_further : (f : Bool) (indent : ℕ) (m : Marker) (o : List ℕ) → IsFurther f indent m [] o
 nothing_further f indent m o = record { words = []; is = refl; further = tt; right = λ low. low }
 
--- a gap and a key's last word
-last_further : (f : Bool) (indent : ℕ) (gap word r : List ℕ) → IsWordGap indent gap → IsLastWord f word → (m : Marker)
-    → IsClear m (gap ++ word) (colon ∷ r) → IsFurther f indent m (gap ++ word) (colon ∷ r)
-last_further f indent gap word r gapped is_word m clear =
-    let text : gap ++ word ≡ gap ++ (word ++ []) = ap (λ (t : List ℕ). gap ++ t) (sym (append-nil word)) in
+-- lone `-`, a gap and a key's last word
+last_further : (f : Bool) (indent : ℕ) (dashes gap word r : List ℕ) → AreMany (IsLoneDash indent) dashes
+    → IsWordGap indent gap → IsLastWord f word → (m : Marker) → IsClear m (dashes ++ (gap ++ word)) (colon ∷ r)
+    → IsFurther f indent m (dashes ++ (gap ++ word)) (colon ∷ r)
+last_further f indent dashes gap word r (lone, each, joins) gapped is_word m clear =
+    let text : dashes ++ (gap ++ word) ≡ joined_pieces lone ++ (gap ++ (word ++ [])) =
+    ap (λ (t : List ℕ). t ++ (gap ++ word)) joins
+    ∙ ap (λ (t : List ℕ). joined_pieces lone ++ (gap ++ t)) (sym (append-nil word)) in
     subst (λ (t : List ℕ). IsFurther f indent m t (58 ∷ r)) (sym text)
-    (one_further f indent m gap word [] (58 ∷ r) gapped (last_before f word r is_word)
-    (subst (λ (t : List ℕ). IsClear m t (58 ∷ r)) text clear)
-    (nothing_further f indent (along (end_of_text m gap) (length word)) (58 ∷ r)))
+    (dashes_further f indent lone each (gap ++ (word ++ [])) (58 ∷ r) apart
+    (λ n there. one_further f indent n gap word [] (58 ∷ r) gapped (last_before f word r is_word) there
+    (nothing_further f indent (along (end_of_text n gap) (length word)) (58 ∷ r))) m
+    (subst (λ (t : List ℕ). IsClear m t (58 ∷ r)) text clear))
+  where
+    apart : is_flow (slice_index ((gap ++ (word ++ [])) ++ (58 ∷ r)) 0) ≡ false
+    apart =
+        subst (λ (t : List ℕ). is_flow (slice_index t 0) ≡ false) (sym (append_assoc gap (word ++ []) (58 ∷ r)))
+        (gap_is_apart indent gap ((word ++ []) ++ (58 ∷ r)) gapped)
 
 -- ## The whole scalar
 
@@ -245,13 +319,23 @@ key_words : (f : Bool) (indent : ℕ) (m : Marker) (t r : List ℕ) → IsPlainK
 key_words f indent m t r (inl (word, begins)) clear =
     has_words f indent m t (58 ∷ r) t [] (sym (append-nil t)) (last_before f t r word) clear
     (λ n _. nothing_further f indent n (58 ∷ r))
-key_words f indent m t r (inr (plain, gap, word, (first, others, is_first, (pieces, each, joins), is), gapped, last, e))
-    clear =
-    let behind = joined_pieces pieces ++ (gap ++ word) in
-    let text : t ≡ first ++ behind = e ∙ ap (λ (y : List ℕ). y ++ (gap ++ word))
-    (is ∙ ap (λ (y : List ℕ). first ++ y) joins) ∙ append_assoc first (joined_pieces pieces) (gap ++ word) in
+key_words f indent m t r (inr (
+  plain,
+  dashes,
+  gap,
+  word,
+  (first, others, is_first, (pieces, each, joins), is),
+  lone,
+  gapped,
+  last,
+  e,
+)) clear =
+    let end = dashes ++ (gap ++ word) in
+    let behind = joined_pieces pieces ++ end in
+    let text : t ≡ first ++ behind = e ∙ ap (λ (y : List ℕ). y ++ end)
+    (is ∙ ap (λ (y : List ℕ). first ++ y) joins) ∙ append_assoc first (joined_pieces pieces) end in
     has_words f indent m t (58 ∷ r) first behind text (word_before f first (behind ++ (58 ∷ r)) is_first.0) clear
-    (further_words f indent pieces each (gap ++ word) (58 ∷ r) (last_further f indent gap word r gapped last))
+    (further_words f indent pieces each end (58 ∷ r) (last_further f indent dashes gap word r lone gapped last))
 
 text_of : (f : Bool) (indent : ℕ) (m : Marker) (t o : List ℕ) → HasWords f indent m t o → IsClear m t o
     → EndsPlain f indent (moved m t) o → IsPlainText f indent m t o

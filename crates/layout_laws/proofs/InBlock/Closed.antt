@@ -4,8 +4,8 @@ use Rattle.std.proofs.Common.{◌≡◌, ℕ, ◌≤◌, ◌<◌, ◌^◌, true,
 use Rattle.std.specs.Prelude.{map, ◌==◌}
 use Rattle.saphyr_input.specs.Indicators.{full_stop}
 use Rattle.saphyr_input.specs.Breaks.{normalized}
-use Rattle.saphyr_input.specs.Classes.{is_blank_or_breakz, line_feed}
-use Rattle.scalar_laws.specs.Spelling.Spaces.{IsEol, IsFiller, IsLastFiller, IsLineRest}
+use Rattle.saphyr_input.specs.Classes.{byte_order_mark, is_blank_or_breakz, line_feed}
+use Rattle.scalar_laws.specs.Spelling.Spaces.{AreEach, joined_pieces, IsEol, IsFiller, IsLastFiller, IsLineRest}
 use Rattle.saphyr_scanner.specs.Grammar.Forest.{Node, Forest, left_out}
 use Rattle.saphyr_scanner.specs.Limits.{most_open}
 use Rattle.saphyr_scanner.specs.Steps.Remaining.{scan}
@@ -20,26 +20,26 @@ use Rattle.saphyr_scanner.proofs.Leads.{flat}
 use Rattle.saphyr_scanner.proofs.Effects.Readers.{Readers}
 use Rattle.saphyr_scanner.proofs.Unroll.{rest}
 use Rattle.layout_laws.specs.Grammar.BlockNodes.{BehindMarker, IsLeftOut, IsBlockNode}
-use Rattle.layout_laws.specs.Grammar.ClosedTexts.{DocumentMarker, Starts, Ends, marker_text, marker_token, IsBeforeLine, IsBeforeMarker, EndsWithMarker, HandsOut}
+use Rattle.layout_laws.specs.Grammar.ClosedTexts.{DocumentMarker, Starts, Ends, marker_text, marker_token, IsBeforeLine, IsBeforeMarker, IsMarkBehindFiller, EndsWithMarker, HandsOut}
 use Rattle.layout_laws.specs.Grammar.Layout as layout
-use Rattle.layout_laws.specs.Grammar.Layout.{IsDocumentPrefix, IsLayout, IsLayoutText}
+use Rattle.layout_laws.specs.Grammar.Layout.{IsDocumentPrefix, no_prefix, mark_prefix, end_prefix, IsLayout, IsLayoutText}
 use Rattle.layout_laws.specs.SameKinds.{HaveSameKinds}
 use Rattle.layout_laws.proofs.Flow.States.{ReaderPromises}
 use Rattle.layout_laws.proofs.Documents.Lines.{rest_first}
-use Rattle.layout_laws.proofs.Documents.Markers.{reads_mark}
 use Rattle.layout_laws.proofs.Documents.Stands.{Lined, StandsInStream}
-use Rattle.layout_laws.proofs.InBlock.Skips.{nothing, filler_skipped}
-use Rattle.layout_laws.proofs.InBlock.LineStarts.{opens_line, feed_opens, opens_too, HasLine}
+use Rattle.layout_laws.proofs.InBlock.Skips.{filler_skipped}
+use Rattle.layout_laws.proofs.InBlock.LineStarts.{opens_line, feed_opens}
 use Rattle.layout_laws.proofs.InBlock.FurtherScalars.{EndsFed, fed_front}
+use Rattle.scalar_laws.proofs.Beginnings.{back_in}
 use Rattle.layout_laws.proofs.InBlock.Statements.{ReadsLeaves}
 use Rattle.layout_laws.proofs.InBlock.Documents.Ends.{AreBlockDocuments, HasNoReturn, OpensMarker, opens_marker}
 use Rattle.layout_laws.proofs.InBlock.Firsts.{HasToken, token_front, node_token, documents_token}
 use Rattle.layout_laws.proofs.InBlock.HandedMarkers.{Handed, hands_start, hands_end}
-use Rattle.layout_laws.proofs.InBlock.Stops.{StopsAt, one_stop, token_stops, marker_stops, end_stops, mark_stops, documents_stop}
+use Rattle.layout_laws.proofs.InBlock.Stops.{StopsAt, one_stop, token_stops, marker_stops, end_stops, mark_stops, mark_prefix_stops, end_prefix_stops, documents_stop}
 use Rattle.layout_laws.proofs.InBlock.Layouts.{leaves}
 use Rattle.layout_laws.proofs.InBlock.ScalarTexts.{ReadsBlocks}
 use Rattle.layout_laws.proofs.InBlock.Streams.{begins}
-use Rattle.layout_laws.proofs.InBlock.ToMarkers.{Closes, closes_on, IsMarkerRest, StartsHere, EndsHere, Found, passes_suffix, closes_documents}
+use Rattle.layout_laws.proofs.InBlock.ToMarkers.{Closes, closes_on, YieldsAhead, IsMarkerRest, StartsHere, EndsHere, Found, passes_end, passes_mark, closes_stream}
 use Rattle.layout_laws.proofs.Breaks.Layouts.{no_return_left}
 use Rattle.layout_laws.proofs.Breaks.Normal.{beside, normal_shorter}
 use Rattle.saphyr_input.proofs.Basics.Lists.{cons_not_empty}
@@ -61,38 +61,42 @@ rest_stops : (tail : List ℕ) → IsLineRest tail → StopsAt (last_rest tail) 
 rest_stops tail h = subst (λ (x : List ℕ). StopsAt x []) (append-nil (last_rest tail))
     (end_stops (last_rest tail) [] [] (inl (tail, h, refl)) (λ m. refl))
 
--- behind `...` stand neither a byte order mark nor documents
+-- behind `...` stand no byte order mark, no other `...` and no documents
 none_behind : {limit : ℕ} → ReadsLeaves limit → (tail : List ℕ) → IsLineRest tail
-    → (ds : Forest) (end prefix others : List ℕ) → IsEol end (prefix ++ others) → IsDocumentPrefix prefix
+    → (ds : Forest) (end prefix others : List ℕ) → IsEol end (prefix ++ others) → IsDocumentPrefix prefix others
     → AreBlockDocuments ds true others → end ++ (prefix ++ others) ≡ last_rest tail → ds ≡ []
-none_behind leaves tail tail_is ds end prefix others end_is (inr (filler, filler_is, e)) h text =
-    let at : prefix ++ others ≡ filler ++ (65279 ∷ others) = ap (λ (x : List ℕ). x ++ others) e
-    ∙ append_assoc filler (65279 ∷ []) others in
-    let stops = subst (λ (x : List ℕ). StopsAt x (65279 ∷ others)) (sym at)
-    (mark_stops filler others (filler_skipped filler filler_is)) in
-    absurd (cons_not_empty 65279 others
-    (one_stop (end ++ (prefix ++ others)) (last_rest tail) (65279 ∷ others) [] text
-    (end_stops end (prefix ++ others) (65279 ∷ others) end_is stops) (rest_stops tail tail_is)))
-none_behind leaves tail tail_is ds end prefix others end_is (inl e) h text =
+none_behind leaves tail tail_is ds end _ _ end_is (mark_prefix filler next others filler_is p) h text =
+    let stops = mark_prefix_stops filler next others filler_is in
+    absurd (cons_not_empty 65279 (next ++ others)
+    (one_stop (end ++ ((filler ++ (65279 ∷ next)) ++ others)) (last_rest tail) (65279 ∷ (next ++ others)) [] text
+    (end_stops end ((filler ++ (65279 ∷ next)) ++ others) (65279 ∷ (next ++ others)) end_is stops)
+    (rest_stops tail tail_is)))
+none_behind leaves tail tail_is ds end _ _ end_is (end_prefix filler own next others filler_is own_is p) h text =
+    let prefix = filler ++ (46 ∷ 46 ∷ 46 ∷ (own ++ next)) in
+    let at = 46 ∷ 46 ∷ (own ++ (next ++ others)) in
+    absurd (cons_not_empty 46 at
+    (one_stop (end ++ (prefix ++ others)) (last_rest tail) (46 ∷ at) [] text
+    (end_stops end (prefix ++ others) (46 ∷ at) end_is (end_prefix_stops filler own next others filler_is))
+    (rest_stops tail tail_is)))
+none_behind leaves tail tail_is ds end _ _ end_is (no_prefix others) h text =
     by_token (documents_token leaves ds true others h)
   where
     by_token : ((ds ≡ []) × IsLastFiller others) ⊎ HasToken others → ds ≡ []
     by_token (inl k) = k.0
     by_token (inr k) =
-        let stops = subst (λ (x : List ℕ). StopsAt (x ++ others) (k.first ∷ k.others)) (sym e) (token_stops others k) in
         absurd (cons_not_empty k.first k.others
-        (one_stop (end ++ (prefix ++ others)) (last_rest tail) (k.first ∷ k.others) [] text
-        (end_stops end (prefix ++ others) (k.first ∷ k.others) end_is stops) (rest_stops tail tail_is)))
+        (one_stop (end ++ others) (last_rest tail) (k.first ∷ k.others) [] text
+        (end_stops end others (k.first ∷ k.others) end_is (token_stops others k)) (rest_stops tail tail_is)))
 
 last_end : {limit : ℕ} {start : State} → ReadsLeaves limit → (tail more : List ℕ) → IsLineRest tail
     → EndsHere limit start Ends more (last_rest tail)
-last_end leaves tail more tail_is ds end prefix others ts end_is prefix_is h clean text v =
+last_end leaves tail more tail_is ds free opened end prefix others ts end_is prefix_is h clean text v =
     let none = none_behind leaves tail tail_is ds end prefix others end_is prefix_is h text in
     let over : grammar.YieldDocuments ds true (tokens.StreamEnd ∷ []) =
     subst (λ (x : Forest). grammar.YieldDocuments x true (tokens.StreamEnd ∷ [])) (sym none) refl in
     record {
       earlier = [];
-      told = ([], tokens.DocumentEnd ∷ [], tokens.StreamEnd ∷ [], tt, inr ([], tt, refl, over), refl);
+      told = (tokens.StreamEnd ∷ [], ([], tokens.StreamEnd ∷ [], tt, over, refl), refl);
       handed = hands_end (last_rest tail) more v (inl (tail, tail_is, refl));
     }
 
@@ -146,11 +150,84 @@ last_marker : {limit : ℕ} (start : State) → ReadsLeaves limit → (marker : 
 last_marker start leaves Starts tail more tail_is = last_start leaves tail more tail_is
 last_marker start leaves Ends tail more tail_is = last_end leaves tail more tail_is
 
--- ## A byte order mark behind a `...` line
+-- ## Byte order marks
 
 -- the last line
 abbrev marker_line : DocumentMarker → List ℕ → List ℕ
 marker_line marker tail = marker_text marker ++ last_rest tail
+
+-- What stands before documents begins with a byte order mark, behind which `rest` stands.
+record MarkFirst (prefix others rest : List ℕ) : Type 0 where
+  filler : List ℕ
+  next : List ℕ
+  filler_is : IsFiller filler
+  next_is : IsDocumentPrefix next others
+  is : prefix ++ others ≡ filler ++ (byte_order_mark ∷ (next ++ others))
+  left : next ++ others ≡ rest
+
+mark_first : {limit : ℕ} → ReadsLeaves limit → (ds : Forest) (prefix others rest : List ℕ)
+    → IsDocumentPrefix prefix others
+    → AreBlockDocuments ds true others
+    → ((at : List ℕ) → StopsAt (prefix ++ others) at → at ≡ byte_order_mark ∷ rest)
+    → MarkFirst prefix others rest
+mark_first leaves ds _ _ rest (no_prefix others) h stops =
+    let k = documents_stop leaves ds true others h in absurd (k.unmarked rest (stops k.at k.stops))
+mark_first leaves ds _ _ rest (mark_prefix filler next others filler_is p) h stops =
+    let same : 65279 ∷ (next ++ others) ≡ 65279 ∷ rest = stops (65279 ∷ (next ++ others))
+    (mark_prefix_stops filler next others filler_is) in
+    record {
+      filler = filler;
+      next = next;
+      filler_is = filler_is;
+      next_is = p;
+      is = append_assoc filler (65279 ∷ next) others;
+      left = cc;
+    }
+mark_first leaves ds _ _ rest (end_prefix filler end next others filler_is end_is p) h stops =
+    let at = 46 ∷ 46 ∷ 46 ∷ (end ++ (next ++ others)) in
+    absurd (no_dot (46 ∷ 46 ∷ (end ++ (next ++ others))) rest
+    (stops at (end_prefix_stops filler end next others filler_is)))
+  where
+    no_dot : (cs ds : List ℕ) → full_stop ∷ cs ≡ byte_order_mark ∷ ds → ⊥
+    no_dot cs ds e = let k : true ≡ false = ap (λ (x : List ℕ). slice_index x 0 == 46) e in cc
+
+-- the marks, and the last line behind them
+abbrev marked_line : DocumentMarker → List (List ℕ) → List ℕ → List ℕ
+marked_line marker marks tail = joined_pieces marks ++ marker_line marker tail
+
+marks_text : (piece filler marks line : List ℕ) → piece ≡ filler ++ byte_order_mark ∷ []
+    → (piece ++ marks) ++ line ≡ filler ++ (byte_order_mark ∷ (marks ++ line))
+marks_text piece filler marks line e =
+    ap (λ (x : List ℕ). (x ++ marks) ++ line) e ∙ ap (λ (x : List ℕ). x ++ line) (append_assoc filler (65279 ∷ []) marks)
+    ∙ append_assoc filler (65279 ∷ marks) line
+
+-- the stream, or what stands behind a `...` line, is of the marks and the last line
+closes_marks : {limit : ℕ} {start : State} → ReaderPromises → ReadsLeaves limit
+    → (marker : DocumentMarker) (marks : List (List ℕ)) (tail more : List ℕ) → AreEach IsMarkBehindFiller marks
+    → IsLineRest tail
+    → (ds : Forest) (prefix others : List ℕ) (ts : List Kind) → IsDocumentPrefix prefix others
+    → AreBlockDocuments ds true others → HasNoReturn others
+    → StandsInStream limit start true (Lined true ((prefix ++ others) ++ more)) ((prefix ++ others) ++ more) ts
+    → prefix ++ others ≡ marked_line marker marks tail
+    → Closes limit start marker (YieldsAhead ds) ts
+closes_marks {start = start} readers leaves marker [] tail more are tail_is ds prefix others ts prefix_is h clean v e =
+    closes_stream readers leaves marker (last_rest tail) more (last_rest_is tail tail_is)
+    (last_marker start leaves marker tail more tail_is) ds prefix others ts prefix_is h clean v
+    (record { front = []; is = e; line = refl })
+closes_marks {limit = limit} {start = start} readers leaves marker (piece ∷ marks) tail more
+    ((filler, filler_is, f), are) tail_is ds prefix others ts prefix_is h clean v e =
+    let line = marked_line marker marks tail in
+    let text = e ∙ marks_text piece filler (joined_pieces marks) (marker_line marker tail) f in
+    let k = mark_first leaves ds prefix others line prefix_is h
+    (λ at stops. one_stop (prefix ++ others) (filler ++ (65279 ∷ line)) at (65279 ∷ line) text stops
+    (mark_stops filler line (filler_skipped filler filler_is))) in
+    passes_mark ds k.filler ((k.next ++ others) ++ more) ts k.filler_is
+    (subst (λ (x : List ℕ). StandsInStream limit start true (Lined true x) x ts)
+    (ap (λ (x : List ℕ). x ++ more) k.is ∙ append_assoc k.filler (65279 ∷ (k.next ++ others)) more) v)
+    (λ us s. closes_marks readers leaves marker marks tail more are tail_is ds k.next others us k.next_is h clean s
+    k.left)
+
+-- ## Byte order marks behind a `...` line
 
 -- the end of a line with its break
 abbrev IsWholeEnd : List ℕ → Type 0
@@ -158,154 +235,139 @@ IsWholeEnd end = (rest : List ℕ) × IsLineRest rest × (end ≡ rest ++ 10 ∷
 
 -- what stands behind the `...`
 abbrev mark_rest : List ℕ → List ℕ → List ℕ → List ℕ
-mark_rest end filler line = end ++ (filler ++ (65279 ∷ line))
+mark_rest end filler line = end ++ (filler ++ (byte_order_mark ∷ line))
 
-mark_rest_is : (marker : DocumentMarker) (end filler tail : List ℕ) → IsWholeEnd end
-    → IsMarkerRest (mark_rest end filler (marker_line marker tail))
-mark_rest_is marker end filler tail (rest, h, e) =
-    let line = marker_line marker tail in
+line_fed : (marker : DocumentMarker) (marks : List (List ℕ)) (tail : List ℕ) → EndsFed (marked_line marker marks tail)
+line_fed marker marks tail =
+    fed_front (joined_pieces marks) (marker_line marker tail)
+    (fed_front (marker_text marker) (last_rest tail) (record { front = tail; is = refl }))
+
+mark_rest_is : (marker : DocumentMarker) (end filler : List ℕ) (marks : List (List ℕ)) (tail : List ℕ)
+    → IsWholeEnd end
+    → IsMarkerRest (mark_rest end filler (marked_line marker marks tail))
+mark_rest_is marker end filler marks tail (rest, h, e) =
+    let line = marked_line marker marks tail in
     let text : mark_rest end filler line ≡ rest ++ (10 ∷ (filler ++ (65279 ∷ line))) =
     ap (λ (x : List ℕ). x ++ (filler ++ (65279 ∷ line))) e
     ∙ append_assoc rest (10 ∷ []) (filler ++ (65279 ∷ line)) in
-    let fed : EndsFed line = fed_front (marker_text marker) (last_rest tail) (record { front = tail; is = refl }) in
     record {
       first = ap (λ (x : List ℕ). is_blank_or_breakz (slice_index x 0)) text
           ∙ rest_first rest (10 ∷ (filler ++ (65279 ∷ line))) h (inr refl);
       fed = fed_front end (filler ++ (65279 ∷ line))
-          (fed_front filler (65279 ∷ line) (fed_front (65279 ∷ []) line fed));
+          (fed_front filler (65279 ∷ line) (fed_front (65279 ∷ []) line (line_fed marker marks tail)));
     }
 
 mark_rest_stops : (end filler line : List ℕ) → IsWholeEnd end → IsFiller filler
-    → StopsAt (mark_rest end filler line) (65279 ∷ line)
+    → StopsAt (mark_rest end filler line) (byte_order_mark ∷ line)
 mark_rest_stops end filler line end_is filler_is =
     end_stops end (filler ++ (65279 ∷ line)) (65279 ∷ line) (inl end_is)
     (mark_stops filler line (filler_skipped filler filler_is))
 
 mark_end : {limit : ℕ} {start : State} → ReaderPromises → ReadsLeaves limit
-    → (marker : DocumentMarker) (end filler tail more : List ℕ) → IsWholeEnd end → IsFiller filler → IsLineRest tail
-    → EndsHere limit start marker more (mark_rest end filler (marker_line marker tail))
-mark_end readers leaves marker before filler tail more before_is filler_is tail_is ds end prefix others ts end_is
-    (inl e) h clean text v =
-    let line = marker_line marker tail in
-    let k = documents_stop leaves ds true others h in
-    let stops = end_stops end (prefix ++ others) k.at end_is
-    (subst (λ (x : List ℕ). StopsAt (x ++ others) k.at) (sym e) k.stops) in
-    absurd (k.unmarked line (one_stop (end ++ (prefix ++ others)) (mark_rest before filler line) k.at (65279 ∷ line)
-    text stops (mark_rest_stops before filler line before_is filler_is)))
-mark_end {limit} {start} readers leaves marker before filler tail more before_is filler_is tail_is ds end prefix others
-    ts end_is (inr (own, own_is, e)) h clean text v =
-    let line = marker_line marker tail in
-    let at : prefix ++ others ≡ own ++ (65279 ∷ others) = ap (λ (x : List ℕ). x ++ others) e
-    ∙ append_assoc own (65279 ∷ []) others in
-    let stops = end_stops end (prefix ++ others) (65279 ∷ others) end_is
-    (subst (λ (x : List ℕ). StopsAt x (65279 ∷ others)) (sym at)
-    (mark_stops own others (filler_skipped own own_is))) in
-    let both = one_stop (end ++ (prefix ++ others)) (mark_rest before filler line) (65279 ∷ others) (65279 ∷ line) text
-    stops (mark_rest_stops before filler line before_is filler_is) in
-    let left : others ≡ line = cc in
-    let fed : EndsFed (prefix ++ others) = fed_front prefix others
-    (subst EndsFed (sym left)
-    (fed_front (marker_text marker) (last_rest tail) (record { front = tail; is = refl }))) in
-    let whole : mark_rest before filler line ++ more ≡ end ++ (prefix ++ (others ++ more)) =
-    ap (λ (x : List ℕ). x ++ more) (sym text) ∙ append_assoc end (prefix ++ others) more
-    ∙ ap (λ (x : List ℕ). end ++ x) (append_assoc prefix others more) in
-    passes_suffix ds end prefix others more ts end_is (inr (own, own_is, e)) fed
-    (subst (λ (x : List ℕ). StandsInStream limit start false (Lined false (46 ∷ 46 ∷ 46 ∷ x)) (46 ∷ 46 ∷ 46 ∷ x) ts)
+    → (marker : DocumentMarker) (end filler : List ℕ) (marks : List (List ℕ)) (tail more : List ℕ) → IsWholeEnd end
+    → IsFiller filler → AreEach IsMarkBehindFiller marks → IsLineRest tail
+    → EndsHere limit start marker more (mark_rest end filler (marked_line marker marks tail))
+mark_end {limit} {start} readers leaves marker before filler marks tail more before_is filler_is are tail_is ds free
+    opened end prefix others ts end_is prefix_is h clean text v =
+    let line = marked_line marker marks tail in
+    let k = mark_first leaves ds prefix others line prefix_is h
+    (λ at stops. one_stop (end ++ (prefix ++ others)) (mark_rest before filler line) at (65279 ∷ line) text
+    (end_stops end (prefix ++ others) at end_is stops) (mark_rest_stops before filler line before_is filler_is)) in
+    let fed : EndsFed (prefix ++ others) = subst EndsFed (sym k.is)
+    (fed_front k.filler (65279 ∷ (k.next ++ others)) (fed_front (65279 ∷ []) (k.next ++ others)
+    (subst EndsFed (sym k.left) (line_fed marker marks tail)))) in
+    let whole : mark_rest before filler line ++ more ≡ end ++ ((prefix ++ others) ++ more) =
+    ap (λ (x : List ℕ). x ++ more) (sym text) ∙ append_assoc end (prefix ++ others) more in
+    passes_end ds end (prefix ++ others) more ts end_is fed
+    (subst (λ (x : List ℕ). StandsInStream limit start free (Lined opened (46 ∷ 46 ∷ 46 ∷ x)) (46 ∷ 46 ∷ 46 ∷ x) ts)
     whole
     v)
-    (λ us s. closes_documents readers leaves marker (last_rest tail) more (last_rest_is tail tail_is)
-    (last_marker start leaves marker tail more tail_is) ds true others us h clean s
-    (record { front = []; is = left; line = refl }))
+    (λ us s. passes_mark ds k.filler ((k.next ++ others) ++ more) us k.filler_is
+    (subst (λ (x : List ℕ). StandsInStream limit start true (Lined true x) x us)
+    (ap (λ (x : List ℕ). x ++ more) k.is ∙ append_assoc k.filler (65279 ∷ (k.next ++ others)) more) s)
+    (λ us s. closes_marks readers leaves marker marks tail more are tail_is ds k.next others us k.next_is h clean s
+    k.left))
 
 -- ## Streams
-
--- where the last line stands in the documents' text: at a line's start, or behind a `...` line and a byte order mark
-abbrev Placed : DocumentMarker → List ℕ → List ℕ → Type 0
-Placed marker tail t =
-    HasLine t (marker_line marker tail)
-    ⊎ ((end filler : List ℕ) × IsWholeEnd end × IsFiller filler
-    × HasLine t (46 ∷ 46 ∷ 46 ∷ mark_rest end filler (marker_line marker tail)))
 
 before_line : (front : List ℕ) → IsBeforeLine front → opens_line true front ≡ true
 before_line front (inl e) = ap (opens_line true) e
 before_line front (inr (others, e)) = ap (opens_line true) e ∙ feed_opens true others
 
-mark_text : (others rest filler line : List ℕ)
-    → (others ++ (full_stop ∷ full_stop ∷ full_stop ∷ (rest ++ line_feed ∷ (filler ++ 65279 ∷ [])))) ++ line
-    ≡ others ++ (full_stop ∷ full_stop ∷ full_stop ∷ mark_rest (rest ++ line_feed ∷ []) filler line)
-mark_text others rest filler line = simp append_assoc
+-- a `...` line, and behind it the last line
+line_behind : (others rest line : List ℕ)
+    → others ++ (full_stop ∷ full_stop ∷ full_stop ∷ ((rest ++ line_feed ∷ []) ++ line))
+    ≡ ((others ++ (full_stop ∷ full_stop ∷ full_stop ∷ rest)) ++ line_feed ∷ []) ++ line
+line_behind others rest line = simp append_assoc
 
--- behind no byte order mark
-placed : {limit : ℕ} → ReadsLeaves limit → (marker : DocumentMarker) (forest : Forest) (t front tail : List ℕ)
-    → AreBlockDocuments forest true t → IsBeforeMarker front → t ≡ front ++ marker_line marker tail
-    → Placed marker tail t
-placed leaves marker forest t front tail h (inl before) e =
-    inl (record { front = front; is = e; line = before_line front before })
-placed leaves marker forest t front tail h (inr (inl one)) e =
-    let k = documents_stop leaves forest true t h in
+mark_text : (others rest marks line : List ℕ)
+    → (others ++ (full_stop ∷ full_stop ∷ full_stop ∷ (rest ++ line_feed ∷ marks))) ++ line
+    ≡ others ++ (full_stop ∷ full_stop ∷ full_stop ∷ ((rest ++ line_feed ∷ []) ++ (marks ++ line)))
+mark_text others rest marks line = simp append_assoc
+
+-- where the last line, perhaps with byte order marks, stands behind a `...` line
+closes_behind_end : {limit : ℕ} {start : State} → ReaderPromises → ReadsLeaves limit
+    → (marker : DocumentMarker) (earlier rest : List ℕ) (marks : List (List ℕ)) (tail more : List ℕ)
+    → IsBeforeLine earlier → IsLineRest rest → AreEach IsMarkBehindFiller marks → IsLineRest tail
+    → (ds : Forest) (prefix others : List ℕ) (ts : List Kind) → IsDocumentPrefix prefix others
+    → AreBlockDocuments ds true others → HasNoReturn others
+    → StandsInStream limit start true (Lined true ((prefix ++ others) ++ more)) ((prefix ++ others) ++ more) ts
+    → prefix ++ others
+    ≡ earlier ++ (full_stop ∷ full_stop ∷ full_stop ∷ ((rest ++ line_feed ∷ []) ++ marked_line marker marks tail))
+    → Closes limit start marker (YieldsAhead ds) ts
+closes_behind_end {start = start} readers leaves marker earlier rest [] tail more before rest_is are tail_is ds prefix
+    others ts prefix_is h clean v e =
     let line = marker_line marker tail in
-    absurd (k.unmarked line (one_stop t (65279 ∷ line) k.at (65279 ∷ line) (e ∙ ap (λ (x : List ℕ). x ++ line) one)
-    k.stops (mark_stops [] line nothing)))
-placed leaves marker forest t front tail h (inr (inr (others, rest, filler, before, rest_is, filler_is, is))) e =
+    closes_stream readers leaves marker (last_rest tail) more (last_rest_is tail tail_is)
+    (last_marker start leaves marker tail more tail_is) ds prefix others ts prefix_is h clean v
+    (record {
+      front = (earlier ++ (46 ∷ 46 ∷ 46 ∷ rest)) ++ 10 ∷ [];
+      is = e ∙ line_behind earlier rest line;
+      line = feed_opens true (earlier ++ (46 ∷ 46 ∷ 46 ∷ rest));
+    })
+closes_behind_end readers leaves marker earlier rest (piece ∷ marks) tail more before rest_is
+    ((filler, filler_is, f), are) tail_is ds prefix others ts prefix_is h clean v e =
+    let end = rest ++ 10 ∷ [] in
+    let whole : IsWholeEnd end = (rest, rest_is, refl) in
+    closes_stream readers leaves Ends (mark_rest end filler (marked_line marker marks tail)) more
+    (mark_rest_is marker end filler marks tail whole)
+    (mark_end readers leaves marker end filler marks tail more whole filler_is are tail_is) ds prefix others ts prefix_is
+    h clean v
+    (record {
+      front = earlier;
+      is = e ∙ ap (λ (x : List ℕ). earlier ++ (46 ∷ 46 ∷ 46 ∷ (end ++ x)))
+          (marks_text piece filler (joined_pieces marks) (marker_line marker tail) f);
+      line = before_line earlier before;
+    })
+
+-- behind a front at whose end a line begins, perhaps with byte order marks
+closes_last : {limit : ℕ} {start : State} → ReaderPromises → ReadsLeaves limit
+    → (marker : DocumentMarker) (front tail more : List ℕ)
+    → IsLineRest tail → (ds : Forest) (prefix others : List ℕ) (ts : List Kind) → IsDocumentPrefix prefix others
+    → AreBlockDocuments ds true others → HasNoReturn others
+    → StandsInStream limit start true (Lined true ((prefix ++ others) ++ more)) ((prefix ++ others) ++ more) ts
+    → IsBeforeMarker front → prefix ++ others ≡ front ++ marker_line marker tail
+    → Closes limit start marker (YieldsAhead ds) ts
+closes_last {start = start} readers leaves marker front tail more tail_is ds prefix others ts prefix_is h clean v
+    (inl before) e =
+    closes_stream readers leaves marker (last_rest tail) more (last_rest_is tail tail_is)
+    (last_marker start leaves marker tail more tail_is) ds prefix others ts prefix_is h clean v
+    (record { front = front; is = e; line = before_line front before })
+closes_last readers leaves marker front tail more tail_is ds prefix others ts prefix_is h clean v
+    (inr (marks, (pieces, are, same), inl first)) e =
+    closes_marks readers leaves marker pieces tail more are tail_is ds prefix others ts prefix_is h clean v
+    (e ∙ ap (λ (x : List ℕ). x ++ marker_line marker tail) (first ∙ same))
+closes_last readers leaves marker front tail more tail_is ds prefix others ts prefix_is h clean v
+    (inr (marks, (pieces, are, same), inr (earlier, rest, before, rest_is, is))) e =
     let line = marker_line marker tail in
-    inr (
-      rest ++ 10 ∷ [],
-      filler,
-      (rest, rest_is, refl),
-      filler_is,
-      record {
-        front = others;
-        is = e ∙ ap (λ (x : List ℕ). x ++ line) is ∙ mark_text others rest filler line;
-        line = before_line others before;
-      },
-    )
+    closes_behind_end readers leaves marker earlier rest pieces tail more before rest_is are tail_is ds prefix others ts
+    prefix_is h clean v
+    (e ∙ ap (λ (x : List ℕ). x ++ line) is ∙ mark_text earlier rest marks line
+    ∙ ap (λ (x : List ℕ). earlier ++ (46 ∷ 46 ∷ 46 ∷ ((rest ++ 10 ∷ []) ++ (x ++ line)))) same)
 
-without_mark : (t front y : List ℕ) → 65279 ∷ t ≡ front ++ y → (slice_index y 0 == 65279) ≡ false
-    → opens_line true front ≡ true → HasLine t y
-without_mark t [] y e other opens =
-    absurd (let k : true ≡ false = ap (λ (x : List ℕ). slice_index x 0 == 65279) e ∙ other in cc)
-without_mark t (c ∷ cs) y e other opens = record { front = cs; is = cc; line = opens_too (c == line_feed) cs opens }
-
-no_byte_order_mark : (marker : DocumentMarker) (tail : List ℕ)
-    → (slice_index (marker_line marker tail) 0 == 65279) ≡ false
-no_byte_order_mark Starts tail = refl
-no_byte_order_mark Ends tail = refl
-
--- behind one at the text's start
-placed_behind : (marker : DocumentMarker) (t front tail : List ℕ) → IsBeforeMarker front
-    → 65279 ∷ t ≡ front ++ marker_line marker tail → Placed marker tail t
-placed_behind marker t front tail (inl before) e =
-    inl (without_mark t front (marker_line marker tail) e (no_byte_order_mark marker tail) (before_line front before))
-placed_behind marker t front tail (inr (inl one)) e =
-    let text : 65279 ∷ t ≡ 65279 ∷ marker_line marker tail = e
-    ∙ ap (λ (x : List ℕ). x ++ marker_line marker tail) one in
-    inl (record { front = []; is = cc; line = refl })
-placed_behind marker t front tail (inr (inr (others, rest, filler, before, rest_is, filler_is, is))) e =
-    let line = marker_line marker tail in
-    inr (
-      rest ++ 10 ∷ [],
-      filler,
-      (rest, rest_is, refl),
-      filler_is,
-      without_mark t others
-          (46 ∷ 46 ∷ 46 ∷ mark_rest (rest ++ 10 ∷ []) filler line)
-          (e ∙ ap (λ (x : List ℕ). x ++ line) is ∙ mark_text others rest filler line) refl (before_line others before),
-    )
-
-closes_placed : {limit : ℕ} {start : State} → ReaderPromises → ReadsLeaves limit
-    → (marker : DocumentMarker) (tail more : List ℕ)
-    → IsLineRest tail → (forest : Forest) (t : List ℕ) (ts : List Kind) → AreBlockDocuments forest true t
-    → HasNoReturn t
-    → StandsInStream limit start true (Lined true (t ++ more)) (t ++ more) ts → Placed marker tail t
-    → Closes limit start marker (grammar.YieldDocuments forest true) ts
-closes_placed {start = start} readers leaves marker tail more tail_is forest t ts h clean v (inl line) =
-    closes_documents readers leaves marker (last_rest tail) more (last_rest_is tail tail_is)
-    (last_marker start leaves marker tail more tail_is) forest true t ts h clean v line
-closes_placed readers leaves marker tail more tail_is forest t ts h clean v
-    (inr (end, filler, end_is, filler_is, line)) =
-    closes_documents readers leaves Ends (mark_rest end filler (marker_line marker tail)) more
-    (mark_rest_is marker end filler tail end_is)
-    (mark_end readers leaves marker end filler tail more end_is filler_is tail_is) forest true t ts h clean v line
+in_stream : (forest : Forest) (t : List Kind) → YieldsAhead forest t → Yields forest (tokens.StreamStart ∷ t)
+in_stream forest t (marks, others, are, told, e) =
+    (marks, others, are, told, ap (λ (x : List Kind). tokens.StreamStart ∷ x) e)
 
 -- From the start of the text, whatever follows, the scanner comes behind the marker, and holds nothing back.
 closed_leads : ReaderPromises → (limit : ℕ) → ReadsLeaves limit
@@ -314,26 +376,13 @@ closed_leads : ReaderPromises → (limit : ℕ) → ReadsLeaves limit
     → length (text ++ more) ≤ limit
     → Closes limit (start (text ++ more)) marker (Yields forest) []
 closed_leads readers limit leaves marker forest text more clean (front, tail, tail_is, before, at)
-    (mark, others, inl none, documents, e) short =
-    let same : text ≡ others = e ∙ ap (λ (x : List ℕ). x ++ others) none in
+    (prefix, others, prefix_is, documents, e) short =
     let first = subst (λ (x : List ℕ). StandsInStream limit (start (text ++ more)) true (Lined true (x ++ more))
     (x ++ more)
-    (tokens.StreamStart ∷ [])) same (begins limit (text ++ more) short) in
-    closes_on [] (tokens.StreamStart ∷ []) (λ all told. ([], all, tt, told, refl))
-    (closes_placed readers leaves marker tail more tail_is forest others (tokens.StreamStart ∷ []) documents
-    (subst HasNoReturn same clean) first
-    (placed leaves marker forest others front tail documents before (sym same ∙ at)))
-closed_leads readers limit leaves marker forest text more clean (front, tail, tail_is, before, at)
-    (mark, others, inr one, documents, e) short =
-    let same : text ≡ 65279 ∷ others = e ∙ ap (λ (x : List ℕ). x ++ others) one in
-    let first = reads_mark (others ++ more)
-    (subst (λ (x : List ℕ). StandsInStream limit (start (text ++ more)) true (Lined true (x ++ more)) (x ++ more)
-    (tokens.StreamStart ∷ [])) same (begins limit (text ++ more) short)) in
-    closes_on [] (tokens.StreamStart ∷ tokens.ByteOrderMark ∷ [])
-    (λ all told. (tokens.ByteOrderMark ∷ [], all, (inr refl, tt), told, refl))
-    (closes_placed readers leaves marker tail more tail_is forest others
-    (tokens.StreamStart ∷ tokens.ByteOrderMark ∷ []) documents (subst HasNoReturn same clean).1 first
-    (placed_behind marker others front tail before (sym same ∙ at)))
+    (tokens.StreamStart ∷ [])) e (begins limit (text ++ more) short) in
+    closes_on [] (tokens.StreamStart ∷ []) (in_stream forest)
+    (closes_last readers leaves marker front tail more tail_is forest prefix others (tokens.StreamStart ∷ []) prefix_is
+    documents (back_in _ prefix others (subst HasNoReturn e clean)) first before (sym e ∙ at))
 
 -- ## The scanner's tokens
 

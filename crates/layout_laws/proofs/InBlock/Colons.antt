@@ -1,18 +1,17 @@
 -- The `:` of a block mapping is read (YAML 1.2.2, 8.2.2).
-use Rattle.std.proofs.Common.{◌≡◌, ℕ, zero, suc, ◌+◌, ◌<◌, ◌≤◌, Bool, true, false, List, [], ◌∷◌, ◌++◌, length, slice_index, refl, sym, ap, ◌∙◌, arith, append_assoc, Ok, ◌⊎◌, inl, inr}
-use Rattle.std.specs.Prelude.{◌||◌, ◌==◌, not, nat_le, nat_lt, Option, Some, None, if◌then◌else◌}
+use Rattle.std.proofs.Common.{◌≡◌, ℕ, suc, ◌+◌, ◌<◌, ◌≤◌, Bool, true, false, List, [], ◌∷◌, ◌++◌, length, slice_index, refl, sym, ap, ◌∙◌, arith, append_assoc, Ok, ◌⊎◌, inl, inr}
+use Rattle.std.specs.Prelude.{◌||◌, ◌==◌, nat_le, nat_lt, Option, Some, None, if◌then◌else◌}
 use Rattle.std.proofs.lemmas.Bool.Decides.{nat_tests}
 use Rattle.std.proofs.lemmas.List.{length-append}
-use Rattle.saphyr_input.specs.Classes.{is_alpha, is_blank, tab}
+use Rattle.saphyr_input.specs.Classes.{tab}
 use Rattle.saphyr_scalar.specs.declared.scalar.position.Marker.{Marker}
-use Rattle.saphyr_input.specs.Separation.{found_blanks, has_valid_yaml_ws}
+use Rattle.saphyr_input.specs.Separation.{found_blanks}
 use Rattle.saphyr_input.specs.declared.input.SkipTabs.{SkipTabs}
 use Rattle.saphyr_input.specs.declared.input.SkipTabs.TheVariants.{Yes}
-use Rattle.saphyr_scalar.specs.Reading.BlockLines.{spaces}
 use Rattle.saphyr_scalar.specs.Views.Cursor.{Cursor, ◌>>=◌, along, separation}
 use Rattle.saphyr_scanner.specs.declared.queue.Opening.{Opening}
 use Rattle.saphyr_scanner.specs.declared.queue.Opening.TheVariants as opening
-use Rattle.saphyr_scanner.specs.Steps.Core.{least_column, Core, Open, completed_step, at_mark, is_too_far}
+use Rattle.saphyr_scanner.specs.Steps.Core.{least_column, Core, Open, completed_step, at_mark, perform, is_too_far}
 use Rattle.saphyr_scanner.specs.Steps.Level.{Candidate}
 use Rattle.saphyr_scanner.specs.Steps.Passing.{with_cursor}
 use Rattle.saphyr_scanner.specs.Steps.Queue.{next, Place, Queue, bare_place, empty_piece}
@@ -24,24 +23,21 @@ use Rattle.saphyr_scanner.specs.Steps.Value as value
 use Rattle.saphyr_scanner.specs.Steps.Fetch.{fetch, fetch_here, state_behind_content, step}
 use Rattle.layout_laws.specs.Grammar.BlockNodes as layout
 use Rattle.layout_laws.proofs.Flow.Colons.{pair_places, performs}
-use Rattle.layout_laws.proofs.Flow.Fillers.{EndsLine}
-use Rattle.layout_laws.proofs.Flow.Separates.{blank_stops}
 use Rattle.layout_laws.proofs.Flow.States.{past}
 use Rattle.layout_laws.proofs.InBlock.States.{Frame, Moment, moment_at, moment_with, core_of, state_of, tabbed, IsUntabbed, crosses, GoesOnAs, At, Before}
 use Rattle.layout_laws.proofs.InBlock.Follows.{steps_from, begins_here, deeper_at, lands_key}
-use Rattle.layout_laws.proofs.InBlock.Entries.{IsBehindIndicator, front_end, separates, frame_behind, steps_on, before_next}
+use Rattle.layout_laws.proofs.InBlock.Entries.{IsBehindIndicator, front_end, separates, frame_behind, steps_on, least_within, before_next}
 use Rattle.saphyr_scalar.proofs.Given.{cursor_at}
-use Rattle.saphyr_input.proofs.Basics.Numbers.{le_next, zero_below_next, next_not_within}
-use Rattle.saphyr_input.proofs.Basics.Booleans.{and_false}
+use Rattle.saphyr_input.proofs.Basics.Numbers.{le_next, zero_below_next}
 use Rattle.std.proofs.Math.Bool.{or-true}
-use Rattle.saphyr_input.specs.Indicators.{colon, hyphen}
+use Rattle.saphyr_input.specs.Indicators.{colon}
 use Rattle.saphyr_scanner.proofs.Queues.{place_kinds, place_kinds_append, queue_of}
 use Rattle.layout_laws.proofs.InBlock.Questions.{colon_begins, key_kinds}
 
 -- ## Behind a colon
 
 -- What stands behind a colon on its line is passed, where a tab stands first; else nothing is.
-record PassesColon (o : List ℕ) (h : IsBehindIndicator o) (m : Marker) : Type 0 where
+record PassesColon (indent : ℕ) (o : List ℕ) (h : IsBehindIndicator true indent o) (m : Marker) : Type 0 where
   mark : Marker
   rest : List ℕ
   passes : (f : Frame) (n : Moment) → n.cursor ≡ cursor_at o m false
@@ -49,48 +45,29 @@ record PassesColon (o : List ℕ) (h : IsBehindIndicator o) (m : Marker) : Type 
   low : mark.index ≤ m.index + length o
   lands : past 0 mark rest ≡ past 0 m o
   crosses_same : crosses rest ≡ crosses o
-  clean : (least : ℕ) → tabbed least mark false false rest ≡ false
+  clean : (least : ℕ) → least ≤ indent → tabbed least mark false false rest ≡ false
 
--- where the line ends, no word stands
-no_word_at_line_end : (more : List ℕ) → EndsLine more
-    → ((slice_index more 0 == hyphen) || is_alpha (slice_index more 0)) ≡ false
-no_word_at_line_end more (inl e) = ap (λ (t : List ℕ). (slice_index t 0 == 45) || is_alpha (slice_index t 0)) e
-no_word_at_line_end more (inr e) = ap (λ (c : ℕ). (c == 45) || is_alpha c) e
-
-no_space_first : (o : List ℕ) (n : ℕ) (xs : List ℕ) → o ≡ spaces n ++ xs → is_blank (slice_index xs 0) ≡ false
-    → (slice_index o 0 == tab) ≡ false
-no_space_first o zero xs e h = ap (λ (t : List ℕ). slice_index t 0 == 9) e ∙ no_tab xs h
-  where
-    none : (c : ℕ) → is_blank c ≡ false → (c == tab) ≡ false
-    none c h = grind (arith, nat_tests)
-
-    no_tab : (xs : List ℕ) → is_blank (slice_index xs 0) ≡ false → (slice_index xs 0 == tab) ≡ false
-    no_tab xs h = none (slice_index xs 0) h
-no_space_first o (suc n) xs e h = ap (λ (t : List ℕ). slice_index t 0 == 9) e
-
-passes_colon : (o : List ℕ) (h : IsBehindIndicator o) (m : Marker) → PassesColon o h m
+passes_colon : (indent : ℕ) (o : List ℕ) (h : IsBehindIndicator true indent o) (m : Marker) → PassesColon indent o h m
 unfolding value.check_tab
-passes_colon o h m = by_tab (slice_index o 0 == 9) refl h.tabs
+passes_colon indent o h m = by_tab (slice_index o 0 == 9) refl
   where
     size : length o ≡ length (h.blanks ++ h.comment) + length h.more
     size = ap length (h.is ∙ sym (append_assoc h.blanks h.comment h.more))
         ∙ length-append (h.blanks ++ h.comment) h.more
 
-    ended : (slice_index o 0 == tab) ≡ true → EndsLine h.more → (f : Frame) (n : Moment)
-        → n.cursor ≡ cursor_at o m false
+    passed : (slice_index o 0 == tab) ≡ true → (f : Frame) (n : Moment) → n.cursor ≡ cursor_at o m false
         → value.check_tab (core_of f n) ≡ Ok (core_of f (record n { cursor = cursor_at h.more (front_end h m) false }))
-    ended e ends f n at =
+    passed e f n at =
         let there = cursor_at h.more (front_end h m) false in
         let sep = ap (separation Yes) at ∙ separates o h m false in
         let first : (slice_index n.cursor.rest 0 == 9) ≡ true = ap (λ (s : Cursor). slice_index s.rest 0 == 9) at ∙ e in
         let word : value.refuse_lone_tab (found_blanks Yes o, core_of f (record n { cursor = there }))
-        ≡ Ok (core_of f (record n { cursor = there })) =
-        rw (no_word_at_line_end h.more ends, and_false (not (has_valid_yaml_ws (found_blanks Yes o)))) refl in
+        ≡ Ok (core_of f (record n { cursor = there })) = rw (h.word refl) refl in
         rw first (ap (λ r. (r >>= λ (x : SkipTabs × Cursor). Ok (x.0, with_cursor x.1 (core_of f n)))
         >>= value.refuse_lone_tab) sep ∙ word)
 
-    stays : (slice_index o 0 == tab) ≡ false → PassesColon o h m
-    stays e = record {
+    by_tab : (b : Bool) → (slice_index o 0 == tab) ≡ b → PassesColon indent o h m
+    by_tab false e = record {
       mark = m;
       rest = o;
       passes = λ f n at. rw (ap (λ (s : Cursor). slice_index s.rest 0 == 9) at ∙ e)
@@ -98,30 +75,19 @@ passes_colon o h m = by_tab (slice_index o 0 == 9) refl h.tabs
       low = omega arith;
       lands = refl;
       crosses_same = refl;
-      clean = λ least. h.clean_all least m;
+      clean = λ least low. h.clean_all least low m;
     }
-
-    by_tab : (b : Bool) → (slice_index o 0 == tab) ≡ b → EndsLine h.more ⊎ ((n : ℕ) × (h.blanks ≡ spaces n))
-        → PassesColon o h m
-    by_tab false e tabs = stays e
-    by_tab true e (inl ends) = record {
+    by_tab true e = record {
       mark = front_end h m;
       rest = h.more;
-      passes = ended e ends;
+      passes = passed e;
       low = omega (arith, size);
       lands = h.lands m;
       crosses_same = h.crosses_same;
-      clean = λ least. h.clean least (front_end h m) false;
+      clean = λ least low. h.clean least low (front_end h m);
     }
-    by_tab true e (inr (n, spaced)) =
-        let text : o ≡ spaces n ++ (h.comment ++ h.more) = h.is ∙ ap (λ (x : List ℕ). x ++ (h.comment ++ h.more))
-        spaced in
-        stays (no_space_first o n (h.comment ++ h.more) text (blank_stops h.blanks h.comment h.more h.parts h.stops))
 
--- ## `:` behind `?`
-
-some_indent : (i col : ℕ) → i ≡ col + 1 → nat_lt 0 i ≡ true
-some_indent i col e = grind (arith, nat_tests)
+-- ## `:` behind `?`, or without a key
 
 -- behind a `:` of its own
 abbrev behind_value : Marker → List ℕ → ℕ → Moment
@@ -135,51 +101,99 @@ behind_value n o ad = record {
   comment = None;
 }
 
-value_step : (f : Frame) (m : Marker) (o : List ℕ) (h : IsBehindIndicator o) (p : PassesColon o h (along m 1))
-    (blank : Bool) (ad : ℕ) (deeper : Bool) → f.indent ≡ m.col + 1 → (i : ℕ)
+some_further : (i k : ℕ) (b : Bool) → nat_le i k ≡ b → nat_lt 0 i ≡ true ⊎ (b ≡ true)
+some_further i k true e = inr refl
+some_further i k false e = inl (positive i k e)
+  where
+    positive : (i k : ℕ) → nat_le i k ≡ false → nat_lt 0 i ≡ true
+    positive i k e = grind (arith, nat_tests)
+
+value_step : (f : Frame) (m : Marker) (o : List ℕ) (h : IsBehindIndicator true (suc m.col) o)
+    (p : PassesColon (suc m.col) o h (along m 1)) (blank : Bool) (ad : ℕ) (deeper further : Bool) → nat_le f.indent m.col ≡ further → (i : ℕ)
     → step 58 (slice_index o 0) i (core_of f (moment_at m (colon ∷ o) blank None true ad deeper))
-    ≡ completed_step (at_mark m tokens.Value ∷ []) (core_of f (behind_value p.mark p.rest ad))
+    ≡ completed_step (value.opening_actions false m (core_of f (moment_at m (colon ∷ o) blank None true ad deeper)))
+    (core_of (frame_behind further m.col f) (behind_value p.mark p.rest ad))
 unfolding step value.value_steps value.behind_key value.value_alone value.opening_actions
-value_step f m o h p blank ad deeper same i =
+value_step f m o h p blank ad deeper further e i =
     let n : Moment = record (moment_at m (58 ∷ o) blank None true ad deeper)
     { cursor = cursor_at o (along m 1) false } in
-    let d : Moment = record n { cursor = cursor_at p.rest p.mark false } in
-    let there : value.behind_key None false m (core_of f d)
-    ≡ completed_step (at_mark m tokens.Value ∷ []) (core_of f (behind_value p.mark p.rest ad)) =
-    rw (next_not_within f.indent m.col same, some_indent f.indent m.col same) refl in
-    rw h.first (ap (λ r. r >>= λ (c : Core). value.behind_key c.level.key false m c) (p.passes f n refl) ∙ there)
+    rw h.first (ap (λ r. r >>= λ (c : Core). value.behind_key c.level.key false m c) (p.passes f n refl)
+    ∙ alone further e (some_further f.indent m.col further e))
+  where
+    d : Moment
+    d = record (moment_at m (58 ∷ o) blank None true ad deeper) { cursor = cursor_at p.rest p.mark false }
 
--- the `:` of a value is read, in a mapping that is open
-pub reads_value : {limit : ℕ} {start : State} {ts : List Kind} (f : Frame) (m : Marker) (o : List ℕ)
-    → f.indent ≡ m.col + 1 → IsBehindIndicator o
+    alone : (b : Bool) → nat_le f.indent m.col ≡ b → nat_lt 0 f.indent ≡ true ⊎ (b ≡ true)
+        → value.behind_key None false m (core_of f d)
+        ≡ completed_step (value.opening_actions false m (core_of f (moment_at m (colon ∷ o) blank None true ad deeper)))
+        (core_of (frame_behind b m.col f) (behind_value p.mark p.rest ad))
+    alone true e s = rw (e, zero_below_next m.col) refl
+    alone false e (inl s) = rw (e, s) refl
+    alone false e (inr s) = absurd (cc)
+
+-- what is put into the queue
+value_places : Bool → Marker → List Place → List Place
+value_places true m ps =
+    (ps ++ bare_place (empty_piece m tokens.BlockMappingStart) ∷ []) ++ bare_place (empty_piece m tokens.Value) ∷ []
+value_places false m ps = ps ++ bare_place (empty_piece m tokens.Value) ∷ []
+
+value_performs : (f : Frame) (n : Moment) (further : Bool) (m : Marker) (ps : List Place)
+    → nat_le f.indent m.col ≡ further
+    → perform (value.opening_actions false m (core_of f n)) (queue_of ps) ≡ queue_of (value_places further m ps)
+unfolding value_places value.opening_actions
+value_performs f n true m ps e = rw e refl
+value_performs f n false m ps e = rw e refl
+
+-- the tokens of a `:`, before which a mapping may start
+abbrev pub value_kinds : Bool → List Kind
+value_kinds further = if further then tokens.BlockMappingStart ∷ tokens.Value ∷ [] else tokens.Value ∷ []
+
+value_are : (further : Bool) (m : Marker) (ps : List Place) (ts : List Kind) → place_kinds ps ≡ ts
+    → place_kinds (value_places further m ps) ≡ ts ++ value_kinds further
+unfolding value_places
+value_are true m ps ts e =
+    let first = place_kinds_append ps (bare_place (empty_piece m tokens.BlockMappingStart) ∷ [])
+    ∙ ap (λ (x : List Kind). x ++ tokens.BlockMappingStart ∷ []) e in
+    place_kinds_append (ps ++ bare_place (empty_piece m tokens.BlockMappingStart) ∷ [])
+    (bare_place (empty_piece m tokens.Value) ∷ []) ∙ ap (λ (x : List Kind). x ++ tokens.Value ∷ []) first
+    ∙ append_assoc ts (tokens.BlockMappingStart ∷ []) (tokens.Value ∷ [])
+value_are false m ps ts e =
+    place_kinds_append ps (bare_place (empty_piece m tokens.Value) ∷ [])
+    ∙ ap (λ (x : List Kind). x ++ tokens.Value ∷ []) e
+
+-- the `:` of a value is read, which begins a mapping or goes on with one
+pub reads_value : {limit : ℕ} {start : State} {ts : List Kind} (f : Frame) (m : Marker) (o : List ℕ) (further : Bool)
+    → nat_le f.indent m.col ≡ further → f.indent ≤ m.col + 1
+    → IsBehindIndicator true (suc m.col) o
     → m.index + length (colon ∷ o) ≤ limit → (v : At limit start f m (colon ∷ o) ts) → v.key ≡ None → v.allowed ≡ true
-    → Before limit start (layout.BehindMark m.col) f (along m 1) o (ts ++ tokens.Value ∷ [])
+    → Before limit start (layout.BehindMark m.col) (frame_behind further m.col f) (along m 1) o
+    (ts ++ value_kinds further)
 unfolding state_behind_content
-reads_value {limit} {start} {ts} f m o same h count v none allowed =
+reads_value {limit} {start} {ts} f m o further e far h count v none allowed =
     let i = next (queue_of v.places) in
     let deeper = deeper_at f v.deeper m in
-    let p = passes_colon o h (along m 1) in
+    let p = passes_colon (suc m.col) o h (along m 1) in
+    let g = frame_behind further m.col f in
     let t = behind_value p.mark p.rest v.adjacent in
-    let qs = v.places ++ bare_place (empty_piece m tokens.Value) ∷ [] in
-    let made : state_behind_content 58 (slice_index o 0)
-    (state_of f (moment_at m (58 ∷ o) v.blank None true v.adjacent deeper) v.places) ≡ Ok (state_of f t qs) =
-    ap (λ r. after_step r (queue_of v.places)) (value_step f m o h p v.blank v.adjacent deeper same i) in
+    let qs = value_places further m v.places in
+    let n = moment_at m (58 ∷ o) v.blank None true v.adjacent deeper in
+    let made : state_behind_content 58 (slice_index o 0) (state_of f n v.places) ≡ Ok (state_of g t qs) =
+    ap (λ r. after_step r (queue_of v.places)) (value_step f m o h p v.blank v.adjacent deeper further e i)
+    ∙ ap (λ (q : Queue). Ok (let r : State = record { core = core_of g t; queue = q } in r))
+    (value_performs f n further m v.places e) in
     let there : state_behind_content 58 (slice_index o 0)
-    (state_of f (moment_at m (58 ∷ o) v.blank v.key v.allowed v.adjacent deeper) v.places) ≡ Ok (state_of f t qs) =
+    (state_of f (moment_at m (58 ∷ o) v.blank v.key v.allowed v.adjacent deeper) v.places) ≡ Ok (state_of g t qs) =
     ap (λ (b : Bool). state_behind_content 58 (slice_index o 0)
     (state_of f (moment_at m (58 ∷ o) v.blank v.key b v.adjacent deeper) v.places)) allowed
     ∙ ap (λ (k : Option Candidate). state_behind_content 58 (slice_index o 0)
     (state_of f (moment_at m (58 ∷ o) v.blank k true v.adjacent deeper) v.places)) none ∙ made in
-    let kept = place_kinds_append v.places (bare_place (empty_piece m tokens.Value) ∷ [])
-    ∙ ap (λ (x : List Kind). x ++ tokens.Value ∷ []) v.are in
-    before_next (layout.BehindMark m.col) f t qs (along m 1) o
-    (steps_on f f m (58 ∷ o) v (colon_begins m o) (least f.indent m.col same) t qs there refl
+    before_next (layout.BehindMark m.col) g t qs (along m 1) o
+    (steps_on f g m (58 ∷ o) v (colon_begins m o) far t qs there refl
     (room m.index p.mark.index (length o) limit p.low count))
-    kept refl refl refl (le_next v.adjacent m.index v.low) p.lands p.clean (or-true (crosses p.rest)) refl
+    (value_are further m v.places ts v.are) refl refl refl (le_next v.adjacent m.index v.low) p.lands
+    (p.clean (least_column (core_of g t)) (least_within further m.col f t far))
+    (or-true (crosses p.rest)) refl
   where
-    least : (i col : ℕ) → i ≡ col + 1 → i ≤ col + 1
-    least i col e = omega (arith, e)
-
     room : (i j l limit : ℕ) → j ≤ i + 1 + l → i + suc l ≤ limit → j ≤ limit
     room i j l limit k h = omega (arith, k, h)
 
@@ -201,15 +215,16 @@ colon_moment n o ad = record {
   comment = None;
 }
 
-colon_step : (f : Frame) (r : Bool) (k : Candidate) (m : Marker) (o : List ℕ) (h : IsBehindIndicator o)
-    (p : PassesColon o h (along m 1)) (blank a : Bool) (ad : ℕ) (deeper further : Bool)
+colon_step : (f : Frame) (r : Bool) (k : Candidate) (m : Marker) (indent : ℕ) (o : List ℕ)
+    (h : IsBehindIndicator true indent o) (p : PassesColon indent o h (along m 1)) (blank a : Bool) (ad : ℕ)
+    (deeper further : Bool)
     → nat_le f.indent k.mark.col ≡ further
     → f.indent ≤ k.mark.col + 1 → nat_lt 0 f.indent ≡ true ⊎ (further ≡ true) → (i : ℕ)
     → step 58 (slice_index o 0) i (core_of f (moment_with r m (colon ∷ o) blank (Some k) a ad deeper))
     ≡ completed_step (Open k.place (block_opening further) ∷ at_mark m tokens.Value ∷ [])
     (core_of (frame_behind further k.mark.col f) (colon_moment p.mark p.rest ad))
 unfolding step value.value_steps value.behind_key value.value_of_key
-colon_step f r k m o h p blank a ad deeper further e far some i =
+colon_step f r k m indent o h p blank a ad deeper further e far some i =
     let n : Moment = record (moment_with r m (58 ∷ o) blank (Some k) a ad deeper)
     { cursor = cursor_at o (along m 1) false } in
     rw h.first (ap (λ q. q >>= λ (c : Core). value.behind_key c.level.key false m c) (p.passes f n refl)
@@ -253,7 +268,7 @@ pub reads_colon : {limit : ℕ} {start : State} (f : Frame) (n : Moment) (ps oth
     → place_kinds ps ≡ ts
     → place_kinds new ≡ us → n.key ≡ Some (record { mark = k; place = length ps }) → n.comment ≡ None
     → past 0 n.cursor.mark n.cursor.rest ≡ (m, colon ∷ o) → IsUntabbed (least_column (core_of f n)) n.cursor
-    → is_too_far n.key m ≡ false → k.col ≤ m.col → IsBehindIndicator o
+    → is_too_far n.key m ≡ false → k.col ≤ m.col → IsBehindIndicator true (suc k.col) o
     → m.index + length (colon ∷ o) ≤ limit → n.adjacent ≤ m.index
     → Before limit start (layout.BehindKey k.col) (frame_behind further k.col f) (along m 1) o
     (ts ++ (key_kinds further ++ (us ++ tokens.Value ∷ [])))
@@ -265,14 +280,15 @@ reads_colon {limit} {start} f n ps others new key k m o ts us further e far v is
     let deeper = deeper_at f n.deeper m in
     let i = next (queue_of (ps ++ new)) in
     let g = frame_behind further k.col f in
-    let p = passes_colon o h (along m 1) in
+    let p = passes_colon (suc k.col) o h (along m 1) in
     let t = colon_moment p.mark p.rest n.adjacent in
     let places = pair_places (block_opening further) key others (empty_piece m tokens.Value) in
     let allowed = crosses n.cursor.rest || n.allowed in
     let c = core_of f (moment_with n.required m (58 ∷ o) l.0 n.key allowed n.adjacent deeper) in
     let stepped = ap (λ (q : Option Candidate). step 58 (slice_index o 0) i
     (core_of f (moment_with n.required m (58 ∷ o) l.0 q allowed n.adjacent deeper))) candidate
-    ∙ colon_step f n.required (record { mark = k; place = length ps }) m o h p l.0 allowed n.adjacent deeper further e
+    ∙ colon_step f n.required (record { mark = k; place = length ps }) m (suc k.col) o h p l.0 allowed n.adjacent deeper
+    further e
     far (some_further f.indent k.col further e) i in
     let made = ap (λ r. after_step r (queue_of (ps ++ new))) stepped
     ∙ ap (λ (q : Queue). Ok (let r : State = record { core = core_of g t; queue = q } in r))
@@ -283,18 +299,13 @@ reads_colon {limit} {start} f n ps others new key k m o ts us further e far v is
     before_next (layout.BehindKey k.col) g t (ps ++ places) (along m 1) o
     (steps_from g t (ps ++ places) v refl there refl (room m.index p.mark.index (length o) limit p.low count))
     (key_are further ps others key m ts us first (ap place_kinds (sym is) ∙ are)) refl refl refl
-    (le_next n.adjacent m.index low) p.lands p.clean (none_same (crosses p.rest) (crosses o) p.crosses_same)
+    (le_next n.adjacent m.index low) p.lands
+    (p.clean (least_column (core_of g t)) (least_within further k.col f t far))
+    (none_same (crosses p.rest) (crosses o) p.crosses_same)
     (behind k.col m.col right)
   where
     further_right : (i k m : ℕ) → i ≤ k + 1 → k ≤ m → i ≤ m + 1
     further_right i k m h l = omega (arith, h, l)
-
-    some_further : (i k : ℕ) (b : Bool) → nat_le i k ≡ b → nat_lt 0 i ≡ true ⊎ (b ≡ true)
-    some_further i k true e = inr refl
-    some_further i k false e = inl (positive i k e)
-      where
-        positive : (i k : ℕ) → nat_le i k ≡ false → nat_lt 0 i ≡ true
-        positive i k e = grind (arith, nat_tests)
 
     or_none : (b : Bool) → (b || false) ≡ b
     or_none true = refl

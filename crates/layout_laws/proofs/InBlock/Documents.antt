@@ -1,4 +1,5 @@
 -- A document and what parts it from the next are read (YAML 1.2.2, chapter 9).
+pub mod DirectiveLines
 pub mod Ends
 pub mod Nodes
 use Rattle.std.proofs.Common.{◌≡◌, ℕ, Bool, true, false, List, [], ◌∷◌, ◌++◌, refl, sym, ap, ◌∙◌, subst, append_assoc, append-nil, ◌⊎◌, inl, inr, IsTrue}
@@ -45,20 +46,20 @@ none_inside (x ∷ a) b c k e = absurd (cc)
 node_some : {limit : ℕ} → ReadsLeaves limit → (node : Node) (t o : List ℕ) → IsBlockNode most_open node AtStart t o
     → t ≡ []
     → ⊥
-node_some leaves (Alias name) t o (gap, text, end, gap_is, is, end_is, e) none =
+node_some leaves (Alias name) t o (gap, text, end, gap_is, is, apart, end_is, e) none =
     none_inside gap text end (leaves.flow_ink (Alias name) most_open 0 false text is) (sym e ∙ none)
 node_some leaves (Scalar p style value) t o (inl h) none = absurd (let k : true ≡ false = h.1 in cc)
-node_some leaves (Scalar p style value) t o (inr (inl (gap, text, end, gap_is, is, end_is, e))) none =
+node_some leaves (Scalar p style value) t o (inr (inl (gap, text, end, gap_is, is, apart, end_is, e))) none =
     none_inside gap text end (leaves.flow_ink (Scalar p style value) most_open 0 false text is) (sym e ∙ none)
 node_some leaves (Scalar p style value) t o (inr (inr (gap, front, scalar, gap_is, front_is, h, e))) none =
     none_inside gap (front ++ scalar) [] (leaves.block_ink p style value 0 front scalar o front_is h)
     (ap (λ (x : List ℕ). gap ++ x) (append-nil (front ++ scalar)) ∙ sym e ∙ none)
-node_some leaves (Seq p nodes) t o (inl (gap, text, end, gap_is, is, end_is, e)) none =
+node_some leaves (Seq p nodes) t o (inl (gap, text, end, gap_is, is, apart, end_is, e)) none =
     none_inside gap text end (leaves.flow_ink (Seq p nodes) most_open 0 false text is) (sym e ∙ none)
 node_some leaves (Seq p nodes) t o (inr (m, lead, entries, lead_is, h, e)) none =
     none_inside lead entries [] (entries_ink nodes m entries o h)
     (ap (λ (x : List ℕ). lead ++ x) (append-nil entries) ∙ sym e ∙ none)
-node_some leaves (Map p pairs) t o (inl (gap, text, end, gap_is, is, end_is, e)) none =
+node_some leaves (Map p pairs) t o (inl (gap, text, end, gap_is, is, apart, end_is, e)) none =
     none_inside gap text end (leaves.flow_ink (Map p pairs) most_open 0 false text is) (sym e ∙ none)
 node_some leaves (Map p pairs) t o (inr (m, lead, entries, lead_is, h, e)) none =
     none_inside lead entries [] (pairs_ink leaves pairs m entries o h)

@@ -1,17 +1,15 @@
 -- The `-` of an entry of a block sequence is read (YAML 1.2.2, 8.2.1).
-use Rattle.std.proofs.Common.{◌≡◌, ℕ, zero, suc, ◌+◌, ◌≤◌, Bool, true, false, List, [], ◌∷◌, ◌++◌, length, slice_index, refl, sym, ap, ◌∙◌, arith, append_assoc, IsTrue, Ok, ◌⊎◌, inl, inr}
-use Rattle.std.specs.Prelude.{◌||◌, ◌&&◌, ◌==◌, nat_le, nat_lt, take, Option, None, if◌then◌else◌}
-use Rattle.std.specs.List.{prefix_len, list_any}
+use Rattle.std.proofs.Common.{◌≡◌, ℕ, suc, ◌+◌, ◌≤◌, Bool, true, false, List, [], ◌∷◌, ◌++◌, length, slice_index, refl, sym, ap, ◌∙◌, arith, append_assoc, IsTrue, Ok, ◌⊎◌, inl}
+use Rattle.std.specs.Prelude.{◌||◌, ◌&&◌, ◌==◌, not, nat_le, nat_lt, Option, None, if◌then◌else◌}
 use Rattle.std.proofs.lemmas.Bool.Decides.{nat_tests}
 use Rattle.std.proofs.lemmas.List.{length-append}
 use Rattle.saphyr_input.specs.Indicators.{hyphen}
-use Rattle.saphyr_input.specs.Classes.{is_blank, is_break, is_flow, is_blank_or_breakz, tab}
+use Rattle.saphyr_input.specs.Classes.{is_blank, is_break, is_flow, is_blank_or_breakz, is_alpha}
 use Rattle.saphyr_input.specs.Places.{is_document_indicator}
-use Rattle.saphyr_input.specs.Separation.{found_blanks, found_tabs}
+use Rattle.saphyr_input.specs.Separation.{found_blanks, found_tabs, has_valid_yaml_ws}
 use Rattle.saphyr_input.specs.declared.input.SkipTabs.{SkipTabs}
 use Rattle.saphyr_input.specs.declared.input.SkipTabs.TheVariants.{Yes}
 use Rattle.saphyr_scalar.specs.declared.scalar.position.Marker.{Marker}
-use Rattle.saphyr_scalar.specs.Reading.BlockLines.{spaces}
 use Rattle.saphyr_scalar.specs.Views.Cursor.{Cursor, ◌>>=◌, along, separation}
 use Rattle.saphyr_scalar.specs.Spelling.Tag.{AreIn}
 use Rattle.saphyr_scalar.proofs.Given.{cursor_at}
@@ -30,10 +28,11 @@ use Rattle.layout_laws.proofs.Flow.States.{past}
 use Rattle.layout_laws.proofs.Flow.GapSteps.{past_low}
 use Rattle.layout_laws.specs.Grammar.BlockNodes as layout
 use Rattle.layout_laws.specs.Grammar.BlockNodes.{Position as Position}
-use Rattle.layout_laws.proofs.Flow.Fillers.{EndsLine}
-use Rattle.layout_laws.proofs.Flow.Separates.{StopsLine, blank_stops, line_separated}
-use Rattle.layout_laws.proofs.InBlock.States.{Frame, Moment, frame_at_column, moment_at, core_of, state_of, tabbed, IsUntabbed, crosses, is_compact, IsPlaced, At, Before}
+use Rattle.layout_laws.proofs.Flow.Separates.{StopsLine, line_separated}
+use Rattle.layout_laws.proofs.InBlock.States.{Frame, Moment, frame_at_column, moment_at, core_of, state_of, IsUntabbed, crosses, is_compact, IsPlaced, At, Before}
 use Rattle.layout_laws.proofs.InBlock.Gaps.{past_stops}
+use Rattle.layout_laws.proofs.InBlock.Skips.{IsCleanBehind}
+use Rattle.layout_laws.proofs.InFlow.States.{least_low}
 use Rattle.layout_laws.proofs.InBlock.Follows.{follows_itself, steps_from, goes_alike, left_key, left_again, lands, BeginsToken, begins_here, arrives_at, stays_open, deeper_at}
 use Rattle.saphyr_input.proofs.Basics.Booleans.{and_false}
 use Rattle.saphyr_scanner.proofs.Queues.{place_kinds, place_kinds_append, queue_of}
@@ -45,9 +44,10 @@ abbrev pub BeginsWhite : List ℕ → Type 0
 BeginsWhite [] = ⊥
 BeginsWhite (c ∷ cs) = IsTrue (is_blank c) ⊎ (c ≡ 10)
 
--- Behind an indicator stand blanks, and a comment behind some or none; then the end of the line, or a token, with
--- spaces alone before it. No tab indents what comes next.
-pub record IsBehindIndicator (o : List ℕ) : Type 0 where
+-- Behind an indicator stand blanks, and a comment behind some or none; then the end of the line, or a token. Behind tabs
+-- that is no `-` of a compact sequence and, behind a colon and tabs alone, no word. No tab stands in the indentation of
+-- what comes next, of so many columns.
+pub record IsBehindIndicator (colon : Bool) (indent : ℕ) (o : List ℕ) : Type 0 where
   pub blanks : List ℕ
   pub comment : List ℕ
   pub more : List ℕ
@@ -55,55 +55,25 @@ pub record IsBehindIndicator (o : List ℕ) : Type 0 where
   pub are : AreIn is_blank blanks
   pub parts : IsCommentBehind blanks comment
   pub stops : StopsLine comment more
-  pub tabs : EndsLine more ⊎ ((n : ℕ) × (blanks ≡ spaces n))
+  pub dash : (found_tabs (found_blanks Yes o)
+      && ((slice_index more 0 == hyphen) && is_blank_or_breakz (slice_index more 1))) ≡ false
+  pub word : colon ≡ true → (not (has_valid_yaml_ws (found_blanks Yes o))
+      && ((slice_index more 0 == hyphen) || is_alpha (slice_index more 0))) ≡ false
   pub lands : (m : Marker) → past 0 (along m (length (blanks ++ comment))) more ≡ past 0 m o
   pub crosses_same : crosses more ≡ crosses o
-  pub clean : (least : ℕ) (m : Marker) (blank : Bool) → tabbed least m blank false more ≡ false
-  pub clean_all : (least : ℕ) (m : Marker) → tabbed least m false false o ≡ false
+  pub clean : IsCleanBehind indent more
+  pub clean_all : IsCleanBehind indent o
   pub first : is_blank_or_breakz (slice_index o 0) ≡ true
   pub white : (o ≡ []) ⊎ BeginsWhite o
 
 -- behind what is passed on the line
-abbrev pub front_end : {o : List ℕ} → IsBehindIndicator o → Marker → Marker
+abbrev pub front_end : {colon : Bool} {indent : ℕ} {o : List ℕ} → IsBehindIndicator colon indent o → Marker → Marker
 front_end h m = along m (length (h.blanks ++ h.comment))
 
--- where spaces stand alone no tab is found
-spaces_alone : (n : ℕ) (xs : List ℕ) → is_blank (slice_index xs 0) ≡ false
-    → list_any (λ c. c == tab) (take (prefix_len is_blank (spaces n ++ xs)) (spaces n ++ xs)) ≡ false
-spaces_alone zero [] h = refl
-spaces_alone zero (c ∷ cs) h = rw h refl
-spaces_alone (suc n) xs h =
-    let one : 1 + prefix_len is_blank (spaces n ++ xs) ≡ suc (prefix_len is_blank (spaces n ++ xs)) = omega arith in
-    rw one (spaces_alone n xs h)
-
 -- blanks and a comment are passed
-pub separates : (o : List ℕ) (h : IsBehindIndicator o) (m : Marker) (b : Bool)
+pub separates : {colon : Bool} {indent : ℕ} (o : List ℕ) (h : IsBehindIndicator colon indent o) (m : Marker) (b : Bool)
     → separation Yes (cursor_at o m b) ≡ Ok (found_blanks Yes o, cursor_at h.more (front_end h m) b)
 separates o h m b = line_separated (cursor_at o m b) h.blanks h.comment h.more h.is h.are h.parts h.stops
-
-no_tabs : (o : List ℕ) (h : IsBehindIndicator o) (n : ℕ) → h.blanks ≡ spaces n → found_tabs (found_blanks Yes o) ≡ false
-no_tabs o h n e =
-    let text : o ≡ spaces n ++ (h.comment ++ h.more) = h.is ∙ ap (λ (x : List ℕ). x ++ (h.comment ++ h.more)) e in
-    ap (λ (t : List ℕ). list_any (λ c. c == 9) (take (prefix_len is_blank t) t)) text
-    ∙ spaces_alone n (h.comment ++ h.more) (blank_stops h.blanks h.comment h.more h.parts h.stops)
-
-no_dash : (more : List ℕ) (b : Bool) → EndsLine more → ((slice_index more 0 == hyphen) && b) ≡ false
-no_dash more b (inl e) = ap (λ (t : List ℕ). (slice_index t 0 == 45) && b) e
-no_dash more b (inr e) = ap (λ (c : ℕ). (c == 45) && b) e
-
--- tabs and the `-` of a compact sequence don't stand together
-tabs_and_dash : (o : List ℕ) (h : IsBehindIndicator o)
-    → (found_tabs (found_blanks Yes o) &&
-    ((slice_index h.more 0 == hyphen) && is_blank_or_breakz (slice_index h.more 1)))
-    ≡ false
-tabs_and_dash o h = by_tabs h.tabs
-  where
-    by_tabs : EndsLine h.more ⊎ ((n : ℕ) × (h.blanks ≡ spaces n))
-        → (found_tabs (found_blanks Yes o)
-        && ((slice_index h.more 0 == hyphen) && is_blank_or_breakz (slice_index h.more 1))) ≡ false
-    by_tabs (inl ends) = rw (no_dash h.more (is_blank_or_breakz (slice_index h.more 1)) ends)
-        (and_false (found_tabs (found_blanks Yes o)))
-    by_tabs (inr k) = rw (no_tabs o h k.0 k.1) refl
 
 -- ## A step
 
@@ -157,7 +127,8 @@ deepens g n = by_first (is_break (slice_index n.cursor.rest 0) || is_flow (slice
     by_first false e = (n.deeper, rw e refl)
 
 -- what stands behind `-` on its line is passed
-passes_dash : (g : Frame) (n : Moment) (o : List ℕ) (h : IsBehindIndicator o) (m : Marker)
+passes_dash : {colon : Bool} {indent : ℕ} (g : Frame) (n : Moment) (o : List ℕ) (h : IsBehindIndicator colon indent o)
+    (m : Marker)
     → n.cursor ≡ cursor_at o m false
     → (d : Bool) × (pass_dash (core_of g n)
     ≡ Ok (core_of g (record n { cursor = cursor_at h.more (front_end h m) false; deeper = d })))
@@ -167,7 +138,7 @@ passes_dash g n o h m at =
     let sep = ap (separation Yes) at ∙ separates o h m false in
     let d = deepens g (record n { cursor = there }) in
     let untabbed : refuse_tab (found_blanks Yes o, core_of g (record n { cursor = there }))
-    ≡ Ok (deepen (core_of g (record n { cursor = there }))) = rw (tabs_and_dash o h) refl in (
+    ≡ Ok (deepen (core_of g (record n { cursor = there }))) = rw h.dash refl in (
       d.0,
       ap (λ r. (r >>= λ (x : SkipTabs × Cursor). Ok (x.0, with_cursor x.1 (core_of g n))) >>= refuse_tab) sep
           ∙ untabbed ∙ ap Ok d.1,
@@ -204,8 +175,8 @@ forgets : (g : Frame) (n : Moment) → n.required ≡ false
 unfolding remove_key
 forgets g n free = rw free refl
 
-dash_step : (f : Frame) (m : Marker) (o : List ℕ) (h : IsBehindIndicator o) (blank : Bool) (key : Option Candidate)
-    (ad : ℕ) (deeper further : Bool) → nat_le f.indent m.col ≡ further → (i : ℕ)
+dash_step : {colon : Bool} {indent : ℕ} (f : Frame) (m : Marker) (o : List ℕ) (h : IsBehindIndicator colon indent o)
+    (blank : Bool) (key : Option Candidate) (ad : ℕ) (deeper further : Bool) → nat_le f.indent m.col ≡ further → (i : ℕ)
     → (d : Bool) × (step 45 (slice_index o 0) i (core_of f (moment_at m (hyphen ∷ o) blank key true ad deeper))
     ≡ completed_step (behind_start further m tokens.BlockSequenceStart
     (at_mark (front_end h (along m 1)) tokens.BlockEntry))
@@ -260,16 +231,30 @@ dash_are false m n ps ts e =
     place_kinds_append ps (bare_place (empty_piece n tokens.BlockEntry) ∷ [])
     ∙ ap (λ (x : List Kind). x ++ tokens.BlockEntry ∷ []) e
 
+-- Behind an indicator content has to reach no column behind the next.
+pub least_within : (further : Bool) (column : ℕ) (f : Frame) (n : Moment) → f.indent ≤ column + 1
+    → least_column (core_of (frame_behind further column f) n) ≤ suc column
+least_within further column f n far =
+    let g = frame_behind further column f in
+    within (least_column (core_of g n)) g.indent (suc column) (least_low g.indent n.deeper) (by_frame further)
+  where
+    within : (i j k : ℕ) → i ≤ j → j ≤ k → i ≤ k
+    within i j k h l = omega (arith, h, l)
+
+    by_frame : (further : Bool) → (frame_behind further column f).indent ≤ suc column
+    by_frame true = omega arith
+    by_frame false = omega (arith, far)
+
 -- A raw state behind a token, told at the next one.
 pub before_next : {limit : ℕ} {start : State} {ts : List Kind} (place : Position) (g : Frame) (n : Moment)
     (qs : List Place) (m : Marker) (o : List ℕ) → LeadsTo limit (state_of g n qs) start → place_kinds qs ≡ ts
     → n.key ≡ None → n.required ≡ false → n.comment ≡ None → n.adjacent ≤ m.index
-    → past 0 n.cursor.mark n.cursor.rest ≡ past 0 m o → ((least : ℕ) → IsUntabbed least n.cursor)
+    → past 0 n.cursor.mark n.cursor.rest ≡ past 0 m o → IsUntabbed (least_column (core_of g n)) n.cursor
     → (crosses n.cursor.rest || n.allowed) ≡ (is_compact place || crosses o) → IsPlaced place m
     → Before limit start place g m o ts
 before_next {limit} {start} {ts} place g n qs m o leads are none free quiet low text clean allows placed =
     let t = past 0 m o in
-    let l = lands g n qs t.0 t.1 free text (clean (least_column (core_of g n))) (inl quiet) in
+    let l = lands g n qs t.0 t.1 free text clean (inl quiet) in
     let on = past_low 0 m o in
     record {
       at = record {
@@ -294,8 +279,8 @@ before_next {limit} {start} {ts} place g n qs m o leads are none free quiet low 
     left_none k e m = rw e refl
 
 -- `-` is read, which begins a sequence or goes on with one
-pub reads_dash : {limit : ℕ} {start : State} {ts : List Kind} (f : Frame) (m : Marker) (o : List ℕ) (further : Bool)
-    → nat_le f.indent m.col ≡ further → f.indent ≤ m.col + 1 → IsBehindIndicator o
+pub reads_dash : {colon : Bool} {limit : ℕ} {start : State} {ts : List Kind} (f : Frame) (m : Marker) (o : List ℕ) (further : Bool)
+    → nat_le f.indent m.col ≡ further → f.indent ≤ m.col + 1 → IsBehindIndicator colon (suc m.col) o
     → m.index + length (hyphen ∷ o) ≤ limit → (v : At limit start f m (hyphen ∷ o) ts) → v.allowed ≡ true
     → Before limit start (layout.BehindDash m.col) (frame_behind further m.col f) (along m 1) o
     (ts ++ dash_kinds further)
@@ -325,7 +310,7 @@ reads_dash {limit} {start} {ts} f m o further e far h count v allowed =
     before_next (layout.BehindDash m.col) g t (dash_places further m n v.places) (along m 1) o
     (steps_on f g m (45 ∷ o) v (dash_begins m o h.first) far t (dash_places further m n v.places) there refl low)
     (dash_are further m n v.places ts v.are) refl refl refl (later v.adjacent m.index v.low) (h.lands (along m 1))
-    (λ least. h.clean least n false) (or_true (crosses h.more)) refl
+    (h.clean (least_column (core_of g t)) (least_within further m.col f t far) n) (or_true (crosses h.more)) refl
   where
     later : (a b : ℕ) → a ≤ b → a ≤ b + 1
     later a b h = omega (arith, h)

@@ -185,7 +185,7 @@ behind_root f n end o h q is stop left =
 
 pub reads_flow : ReaderPromises → (limit : ℕ) → limit < 2 ^ 63 → (node : Node)
     → ReadsAt limit node (IsFlowInBlock most_open node)
-reads_flow reads limit short node place f same m t o (gap, text, end, gap_is, node_is, end_is, e) fits behind start ts
+reads_flow reads limit short node place f same m t o (gap, text, end, gap_is, node_is, apart, end_is, e) fits behind start ts
     before =
     let around = around_of limit f in
     let at = moved m gap in

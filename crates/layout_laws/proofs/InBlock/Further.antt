@@ -11,6 +11,7 @@ use Rattle.layout_laws.proofs.Flow.States.{moved}
 use Rattle.layout_laws.proofs.InBlock.Statements.{EndsWithLine, ReadsLeaves}
 use Rattle.layout_laws.proofs.InBlock.Texts.{ends_back, node_ends, other_entries_end, other_pairs_end}
 use Rattle.layout_laws.proofs.InBlock.TabsAhead.{TellsTabs, tells_behind, has_token, token_behind}
+use Rattle.layout_laws.proofs.InBlock.ValuesAhead.{value_ahead_further}
 use Rattle.layout_laws.proofs.InBlock.FurtherScalars.{EndsFed, fed_front, none_fed, styled_further}
 
 -- ## Nodes
@@ -25,8 +26,8 @@ eol_further more t o fed (inr (h, e)) = absurd (none_fed o fed e)
 
 flow_further : (more : List ℕ) (room : ℕ) (node : Node) (place : Position) (t o : List ℕ) → EndsFed o
     → IsFlowInBlock room node place t o → IsFlowInBlock room node place t (o ++ more)
-flow_further more room node place t o fed (gap, text, end, gap_is, is, end_is, e) =
-    (gap, text, end, gap_is, is, end_further more end o fed end_is, e)
+flow_further more room node place t o fed (gap, text, end, gap_is, is, apart, end_is, e) =
+    (gap, text, end, gap_is, is, apart, end_further more end o fed end_is, e)
 
 -- What stands behind ends with a break and has a token, and before it is told whether a tab stands ahead.
 pub record IsTokenAhead (more o : List ℕ) : Type 0 where
@@ -68,14 +69,17 @@ pair_further : (more : List ℕ) {limit : ℕ} → ReadsLeaves limit → (key va
     → IsBlockPair most_open key value (IsBlockNode most_open key) (IsBlockNode most_open value) m t o
     → IsBlockPair most_open key value (IsBlockNode most_open key) (IsBlockNode most_open value) m t (o ++ more)
 pair_further more leaves key value K V m t o ahead
-    (inl (node, between, v, node_is, line, spaced, before, short, h, e)) =
-    inl (node, between, v, node_is, line, spaced, before, short, V (BehindKey m) v o ahead h, e)
-pair_further more leaves key value K V m t o ahead (inr (inl (node, out, some, h, e))) =
+    (inl (inl (node, between, v, node_is, line, spaced, before, short, h, e))) =
+    inl (inl (node, between, v, node_is, line, spaced, before, short, V (BehindKey m) v o ahead h, e))
+pair_further more leaves key value K V m t o ahead (inl (inr (v, out, h, e))) =
+    inl (inr (v, out, V (BehindKey m) v o ahead h, e))
+pair_further more leaves key value K V m t o ahead (inr (inl (node, out, some, h, unvalued, e))) =
     inr (inl (
       node,
       out,
       question_further more node o (node_ends leaves key (BehindMark m) node o h) ahead some,
       K (BehindMark m) node o ahead h,
+      value_ahead_further m o more ahead.token ahead.fed ∙ unvalued,
       e,
     ))
 pair_further more leaves key value K V m t o ahead (inr (inr (node, colon, v, some, h, mark, k, e))) =

@@ -1,11 +1,11 @@
 -- A block scalar stands where more text follows as well, if what stands behind it ends with a break and has a token.
-use Rattle.std.proofs.Common.{◌≡◌, ℕ, zero, suc, Bool, true, false, List, [], ◌∷◌, ◌++◌, slice_index, refl, sym, ap, ◌∙◌, subst, append_assoc, ◌⊎◌, inl, inr, IsTrue}
+use Rattle.std.proofs.Common.{◌≡◌, ℕ, zero, suc, Bool, true, false, List, [], ◌∷◌, ◌++◌, ◌<◌, slice_index, refl, sym, ap, ◌∙◌, subst, append_assoc, ◌⊎◌, inl, inr, IsTrue}
 use Rattle.saphyr_input.specs.Classes.{is_z, is_yaml_non_break, line_feed}
 use Rattle.saphyr_input.specs.Places.{is_document_indicator}
 use Rattle.saphyr_scalar.specs.Reading.BlockLines.{spaces}
 use Rattle.scalar_values.specs.Block.{Line}
 use Rattle.scalar_laws.specs.Spelling.Block as spelling
-use Rattle.scalar_laws.specs.Spelling.Block.{IsIndicator, no_digit, digit, IsChomping, strip, clip, keep, no_comment, comment, IsContent, AreLines, no_lines, empty, content, last, IsBody, leading, first, first_and_last, IsHeader, digit_first, chomping_first, IsBehind, IsBlockScalar}
+use Rattle.scalar_laws.specs.Spelling.Block.{IsIndicator, no_digit, digit, IsChomping, strip, clip, keep, no_comment, comment, no_comment_at_end, comment_at_end, IsContent, AreLines, no_lines, empty, content, last, last_empty, left_of, IsBody, leading, first, first_and_last, AreEmptyLines, no_empty_lines, empty_line, empty_line_and_spaces, IsEmptyBody, empty_lines, spaces_alone, IsHeader, digit_first, chomping_first, IsBehind, IsBlockScalar}
 use Rattle.scalar_values.specs.declared.block.BlockStyle.{BlockStyle}
 use Rattle.scalar_values.specs.declared.block.BlockStyle.TheVariants as block
 use Rattle.scalar_values.specs.declared.block.Chomping.{Chomping}
@@ -84,25 +84,27 @@ chomping_further more (strip x) = strip (x ++ more)
 chomping_further more (clip x) = clip (x ++ more)
 chomping_further more (keep x) = keep (x ++ more)
 
-line_end_further : (more : List ℕ) {t x : List ℕ} → spelling.IsHeaderEnd t x
+line_end_further : (more : List ℕ) {t x : List ℕ} → EndsFed x → spelling.IsHeaderEnd t x
     → spelling.IsHeaderEnd (t ++ more) (x ++ more)
-line_end_further more (no_comment blanks x are) =
+line_end_further more fed (no_comment blanks x are) =
     subst (λ (t : List ℕ). spelling.IsHeaderEnd t (x ++ more)) (sym (append_assoc blanks (10 ∷ x) more))
     (no_comment blanks (x ++ more) are)
-line_end_further more (comment blank blanks text x are words) =
+line_end_further more fed (comment blank blanks text x are words) =
     subst (λ (t : List ℕ). spelling.IsHeaderEnd t (x ++ more))
     (sym (append_assoc (blank ∷ blanks) (35 ∷ (text ++ (10 ∷ x))) more
     ∙ ap (λ (t : List ℕ). (blank ∷ blanks) ++ (35 ∷ t)) (append_assoc text (10 ∷ x) more)))
     (comment blank blanks text (x ++ more) are words)
+line_end_further more fed (no_comment_at_end blanks are) = absurd (none_fed [] fed refl)
+line_end_further more fed (comment_at_end blank blanks text are words) = absurd (none_fed [] fed refl)
 
-header_further : (more : List ℕ) {n : ℕ} {c : Chomping} {x t : List ℕ} → IsHeader n c x t
+header_further : (more : List ℕ) {n : ℕ} {c : Chomping} {x t : List ℕ} → EndsFed x → IsHeader n c x t
     → IsHeader n c (x ++ more) (t ++ more)
-header_further more (digit_first mark a b d i c e) =
+header_further more fed (digit_first mark a b d i c e) =
     digit_first mark (a ++ more) (b ++ more) (d ++ more) (indicator_further more i) (chomping_further more c)
-    (line_end_further more e)
-header_further more (chomping_first mark a b d c i e) =
+    (line_end_further more fed e)
+header_further more fed (chomping_first mark a b d c i e) =
     chomping_first mark (a ++ more) (b ++ more) (d ++ more) (chomping_further more c) (indicator_further more i)
-    (line_end_further more e)
+    (line_end_further more fed e)
 
 marker_before_feed : (c : ℕ) (cs t more : List ℕ)
     → is_document_indicator (c ∷ (cs ++ (line_feed ∷ (t ++ more))))
@@ -133,6 +135,8 @@ lines_further more x fed {i} (content c cs ls t k h) =
     subst (AreLines i (x ++ more) _) (sym (content_text i c cs t more))
     (content c cs ls (t ++ more) (content_further more i c cs t k) (lines_further more x fed h))
 lines_further more x fed (last c cs k e) = absurd (none_fed x fed e)
+lines_further more x fed (last_empty some e) = absurd (none_fed x fed e)
+lines_further more x fed (left_of j less e) = absurd (none_fed x fed e)
 
 body_further : (more x : List ℕ) → EndsFed x → {i : ℕ} {given : Bool} {ls : List Line} {t : List ℕ}
     → IsBody i given x ls t → IsBody i given (x ++ more) ls (t ++ more)
@@ -144,6 +148,31 @@ body_further more x fed {i} {given} (first c cs ls t some k h) =
     (first c cs ls (t ++ more) some (content_further more i c cs t k) (lines_further more x fed h))
 body_further more x fed (first_and_last c cs some k e) = absurd (none_fed x fed e)
 
+empty_lines_further : (more x : List ℕ) → EndsFed x → {i : ℕ} {ls : List Line} {t : List ℕ} → AreEmptyLines i x ls t
+    → AreEmptyLines i (x ++ more) ls (t ++ more)
+empty_lines_further more x fed no_empty_lines = no_empty_lines
+empty_lines_further more x fed {i} (empty_line j ls t low h) =
+    subst (AreEmptyLines i (x ++ more) _) (sym (append_assoc (spaces j) (10 ∷ t) more))
+    (empty_line j ls (t ++ more) low (empty_lines_further more x fed h))
+empty_lines_further more x fed (empty_line_and_spaces j k low further e) = absurd (none_fed x fed e)
+
+empty_body_further : (more x : List ℕ) → EndsFed x → {indent i n : ℕ} {ls : List Line} {t : List ℕ}
+    → IsEmptyBody indent i n x ls t → IsEmptyBody indent i n (x ++ more) ls (t ++ more)
+empty_body_further more x fed {indent} {i} {n} (empty_lines ls t are cond) =
+    empty_lines ls (t ++ more) (empty_lines_further more x fed are) (left cond)
+  where
+    left : (n < indent) ⊎ ((i ≡ 0) ⊎ (x ≡ [])) → (n < indent) ⊎ ((i ≡ 0) ⊎ (x ++ more ≡ []))
+    left (inl e) = inl e
+    left (inr (inl e)) = inr (inl e)
+    left (inr (inr e)) = absurd (none_fed x fed e)
+empty_body_further more x fed (spaces_alone j some low e) = absurd (none_fed x fed e)
+
+all_further : (more x : List ℕ) → EndsFed x → {indent i n : ℕ} {given : Bool} {ls : List Line} {t : List ℕ}
+    → IsBody i given x ls t ⊎ IsEmptyBody indent i n x ls t
+    → IsBody i given (x ++ more) ls (t ++ more) ⊎ IsEmptyBody indent i n (x ++ more) ls (t ++ more)
+all_further more x fed (inl h) = inl (body_further more x fed h)
+all_further more x fed (inr h) = inr (empty_body_further more x fed h)
+
 lines_fed : (x : List ℕ) → EndsFed x → {i : ℕ} {ls : List Line} {t : List ℕ} → AreLines i x ls t → EndsFed t
 lines_fed x fed no_lines = fed
 lines_fed x fed (empty j ls t low h) = fed_front (spaces j) (10 ∷ t) (fed_front (10 ∷ []) t (lines_fed x fed h))
@@ -151,6 +180,8 @@ lines_fed x fed {i} (content c cs ls t k h) =
     fed_front (spaces i) (c ∷ (cs ++ (10 ∷ t)))
     (fed_front (c ∷ cs) (10 ∷ t) (fed_front (10 ∷ []) t (lines_fed x fed h)))
 lines_fed x fed (last c cs k e) = absurd (none_fed x fed e)
+lines_fed x fed (last_empty some e) = absurd (none_fed x fed e)
+lines_fed x fed (left_of j less e) = absurd (none_fed x fed e)
 
 body_fed : (x : List ℕ) → EndsFed x → {i : ℕ} {given : Bool} {ls : List Line} {t : List ℕ} → IsBody i given x ls t
     → EndsFed t
@@ -159,6 +190,18 @@ body_fed x fed {i} (first c cs ls t some k h) =
     fed_front (spaces i) (c ∷ (cs ++ (10 ∷ t)))
     (fed_front (c ∷ cs) (10 ∷ t) (fed_front (10 ∷ []) t (lines_fed x fed h)))
 body_fed x fed (first_and_last c cs some k e) = absurd (none_fed x fed e)
+
+empty_lines_fed : (x : List ℕ) → EndsFed x → {i : ℕ} {ls : List Line} {t : List ℕ} → AreEmptyLines i x ls t → EndsFed t
+empty_lines_fed x fed no_empty_lines = fed
+empty_lines_fed x fed (empty_line j ls t low h) =
+    fed_front (spaces j) (10 ∷ t) (fed_front (10 ∷ []) t (empty_lines_fed x fed h))
+empty_lines_fed x fed (empty_line_and_spaces j k low further e) = absurd (none_fed x fed e)
+
+all_fed : (x : List ℕ) → EndsFed x → {indent i n : ℕ} {given : Bool} {ls : List Line} {t : List ℕ}
+    → IsBody i given x ls t ⊎ IsEmptyBody indent i n x ls t → EndsFed t
+all_fed x fed (inl h) = body_fed x fed h
+all_fed x fed (inr (empty_lines ls t are cond)) = empty_lines_fed x fed are
+all_fed x fed (inr (spaces_alone j some low e)) = absurd (none_fed x fed e)
 
 behind_further : (more x : List ℕ) → EndsFed x → (i n : ℕ) (others : List ℕ) → IsBehind i n x others
     → IsBehind i n (x ++ more) (others ++ more)
@@ -230,10 +273,10 @@ text_further more style value indent t o fed token (i, n, chomping, lines, body,
       is_given = scalar.is_given;
       behind = scalar.behind ++ more;
       header = subst (IsHeader scalar.digit chomping (body ++ more)) (append_assoc t o more)
-          (header_further more scalar.header);
-      no_tab = λ e. scalar.no_tab (sym (same_first body more (body_fed scalar.behind behind_fed scalar.lines)) ∙ e);
+          (header_further more (all_fed scalar.behind behind_fed scalar.lines) scalar.header);
+      no_tab = λ e. scalar.no_tab (sym (same_first body more (all_fed scalar.behind behind_fed scalar.lines)) ∙ e);
       indentation = scalar.indentation;
-      lines = body_further more scalar.behind behind_fed scalar.lines;
+      lines = all_further more scalar.behind behind_fed scalar.lines;
       ends = behind_further more scalar.behind behind_fed i n others scalar.ends;
     } in (
       i,

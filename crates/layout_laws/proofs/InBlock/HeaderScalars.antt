@@ -11,7 +11,7 @@ use Rattle.saphyr_scalar.specs.declared.scalar.position.Span.{Span}
 use Rattle.saphyr_scalar.specs.Reading.BlockLines.{spaces}
 use Rattle.saphyr_scalar.specs.Steps.Block as blocks
 use Rattle.saphyr_scalar.specs.Views.Cursor.{Cursor, ◌>>=◌}
-use Rattle.saphyr_scanner.specs.Steps.Core.{Core, completed_step, from_to, is_too_far, drop_far_key, least_column, save_key}
+use Rattle.saphyr_scanner.specs.Steps.Core.{Core, completed_step, from_to, least_column, save_key}
 use Rattle.saphyr_scanner.specs.Steps.Level.{Candidate}
 use Rattle.saphyr_scanner.specs.Steps.Fetch.{fetch, fetch_here, fetch_within, check_limit, state_behind_content, step}
 use Rattle.saphyr_scanner.specs.Grammar.Forest.{Style, Plain, SingleQuoted, DoubleQuoted, Literal, Folded}
@@ -28,10 +28,10 @@ use Rattle.layout_laws.specs.Grammar.BlockNodes.{IsBlockScalarText, IsStyled}
 use Rattle.layout_laws.proofs.Flow.States.{moved, past}
 use Rattle.layout_laws.proofs.Flow.GapSteps.{past_low}
 use Rattle.layout_laws.proofs.Flow.Places.{moved_append, moved_count}
-use Rattle.layout_laws.proofs.InBlock.States.{Frame, Moment, moment_at, core_of, state_of, tabbed, IsUntabbed, crosses, GoesOnAs, At}
+use Rattle.layout_laws.proofs.InBlock.States.{Frame, Moment, moment_at, core_of, state_of, tabbed, IsUntabbed, crosses, GoesOnAs, At, EndsDocument}
 use Rattle.layout_laws.proofs.InBlock.Gaps.{past_stops}
 use Rattle.layout_laws.proofs.InBlock.Skips.{skipped_past, spaces_skipped}
-use Rattle.layout_laws.proofs.InBlock.Follows.{follows_itself, goes_alike, first_step, lands, BeginsToken, begins_here, arrives_at, stays_open, deeper_at}
+use Rattle.layout_laws.proofs.InBlock.Follows.{follows_itself, goes_alike, first_step, left_key, left_again, drops, lands, BeginsToken, begins_here, arrives_at, stays_open, deeper_at}
 use Rattle.layout_laws.proofs.InBlock.Lines.{FitsOnLines, fits_back}
 use Rattle.layout_laws.proofs.InBlock.Statements.{EndsNodeAt, Arrived}
 use Rattle.layout_laws.proofs.InBlock.ScalarTexts.{ReadsBlocks, block_taken}
@@ -125,31 +125,23 @@ abbrev pub IsOnLineOrBefore : Option Candidate → Marker → Type 0
 IsOnLineOrBefore None m = Unit {0}
 IsOnLineOrBefore (Some k) m = k.mark.line ≤ m.line
 
-abbrev IsGone : Option Candidate → Marker → Type 0
-IsGone k m = (k ≡ None) ⊎ (is_too_far k m ≡ true)
-
 gone : (a : Bool) (i : ℕ) (m n : Marker) (key : Option Candidate) → IsOnLineOrBefore key m → m.line < n.line
-    → IsGone (saved a i m key) n
-gone true i m n key late h = inr (too_far (record { mark = m; place = i }) n h)
-gone false i m n None late h = inl refl
-gone false i m n (Some k) late h = inr (too_far k n (omega (arith, late, h)))
+    → left_key (saved a i m key) n ≡ None
+gone true i m n key late h = rw (too_far (record { mark = m; place = i }) n h) refl
+gone false i m n None late h = refl
+gone false i m n (Some k) late h = rw (too_far k n (omega (arith, late, h))) refl
 
-drops_gone : (g : Frame) (n : Moment) → n.required ≡ false → IsGone n.key n.cursor.mark
-    → drop_far_key (core_of g n) ≡ Ok (core_of g (record n { key = None; required = false }))
-unfolding drop_far_key
-drops_gone g n free (inl e) = rw (e, free) refl
-drops_gone g n free (inr e) = rw (e, free) refl
-
--- From a state that goes on with this state the scanner comes to that, where the key is dropped.
+-- From a state that goes on with this state the scanner comes to that, where a key that is too far is dropped.
 steps_dropping : {limit : ℕ} {start s : State} (g : Frame) (n : Moment) (qs : List Place) → GoesOnAs limit start s
-    → s.core.ended ≡ false → fetch s ≡ Ok (state_of g n qs) → n.required ≡ false → IsGone n.key n.cursor.mark
-    → n.cursor.mark.index ≤ limit → LeadsTo limit (state_of g (record n { key = None; required = false }) qs) start
+    → s.core.ended ≡ false → fetch s ≡ Ok (state_of g n qs) → n.required ≡ false
+    → n.cursor.mark.index ≤ limit
+    → LeadsTo limit (state_of g (record n { key = left_key n.key n.cursor.mark; required = false }) qs) start
 unfolding fetch_within
-steps_dropping {limit} g n qs f going is free left low =
+steps_dropping {limit} g n qs f going is free low =
     let fits : check_limit limit (state_of g n qs) ≡ Ok (state_of g n qs) =
     rw (le-leb n.cursor.mark.index limit low) refl in
     first_step f going (ap (λ r. r >>= check_limit limit) is ∙ fits)
-    (ap (λ r. on_core r (queue_of qs)) (drops_gone g n free left))
+    (ap (λ r. on_core r (queue_of qs)) (drops g n free))
 
 -- ## A block scalar alone
 
@@ -159,30 +151,37 @@ spaces_tabbed least m blank zero y = refl
 spaces_tabbed least m blank (suc n) y = spaces_tabbed least (moved m (32 ∷ [])) blank n y
 
 -- where the scanner stands behind a block scalar
-arrives_behind : {limit : ℕ} {start : State} (f : Frame) (left : Cursor) (ad : ℕ) (qs : List Place) (ts : List Kind)
-    (k : Marker) (o : List ℕ) → LeadsTo limit (state_of f (behind_scalar left None ad) qs) start
+arrives_behind : {limit : ℕ} {start : State} (f : Frame) (left : Cursor) (key : Option Candidate) (ad : ℕ)
+    (qs : List Place) (ts : List Kind) (k : Marker) (o : List ℕ)
+    → LeadsTo limit (state_of f (behind_scalar left key ad) qs) start
     → place_kinds qs ≡ ts → past 0 left.mark left.rest ≡ past 0 k o → ((least : ℕ) → IsUntabbed least left)
-    → ad ≤ (past 0 k o).0.index → Arrived limit start f k o ts
-arrives_behind f left ad qs ts k o leads are text clean low =
-    let n = behind_scalar left None ad in
+    → ad ≤ (past 0 k o).0.index → (key ≡ None) ⊎ (o ≡ []) → Arrived limit start f k o ts
+arrives_behind f left key ad qs ts k o leads are text clean low ends =
+    let n = behind_scalar left key ad in
     let t = past 0 k o in
     let l = lands f n qs t.0 t.1 refl text (clean (least_column (core_of f n))) (inl refl) in
     record {
       at = record {
         blank = l.0;
-        key = None;
+        key = left_key key t.0;
         allowed = crosses left.rest || true;
         adjacent = ad;
         deeper = false;
         places = qs;
         follows = goes_alike (follows_itself leads) l.1 refl;
         stop = past_stops k o;
-        near = refl;
+        near = left_again key t.0;
         are = are;
         low = low;
       };
-      next = inr (refl, or-true (crosses left.rest));
+      next = by_end ends;
     }
+  where
+    by_end : (key ≡ None) ⊎ (o ≡ []) → EndsDocument (past 0 k o).0 (past 0 k o).1
+        ⊎ ((left_key key (past 0 k o).0 ≡ None) × ((crosses left.rest || true) ≡ true))
+    by_end (inl none) =
+        inr (ap (λ (c : Option Candidate). left_key c (past 0 k o).0) none, or-true (crosses left.rest))
+    by_end (inr over) = inl (inl (ap (λ (y : List ℕ). (past 0 k y).1) over))
 
 -- from its header on
 pub reads_scalar : ReadsBlocks
@@ -225,9 +224,8 @@ reads_scalar laws {limit} {start} {ts} f style value m more t o short low begins
     let index = ap (λ (k : Marker). k.index) b.mark in
     let below = fits.below in
     let limited : b.left.mark.index ≤ limit = omega (arith, whole, inner, size, index, below) in
-    let line = b.later fits.lined (omega (arith, below, short)) in
-    let leads = steps_dropping f n qs v.follows refl there refl (gone v.allowed i m b.left.mark v.key late line)
-    limited in
+    let leads = steps_dropping f n qs v.follows refl there refl limited in
+    let ends = key_ends i b.left.mark (b.later fits.lined (omega (arith, below, short))) in
     let lands_at : past 0 b.left.mark b.left.rest ≡ past 0 (moved m t) o =
     ap (λ (x : List ℕ). past 0 b.left.mark x) b.rest ∙ ap (λ (k : Marker). past 0 k b.others) b.mark
     ∙ sym (skipped_past (moved m t) (spaces b.n) b.others (spaces_skipped b.n))
@@ -241,11 +239,16 @@ reads_scalar laws {limit} {start} {ts} f style value m more t o short low begins
     ∙ ap (tabbed least (moved m t) b.left.blank_so_far false) (sym b.behind)
     ∙ behind.clean least (moved m t) b.left.blank_so_far in
     let size_y = length-append t o in
-    arrives_behind f b.left v.adjacent qs (ts ++ piece.kind ∷ []) (moved m t) o leads
+    arrives_behind f b.left (left_key (saved v.allowed i m v.key) b.left.mark) v.adjacent qs (ts ++ piece.kind ∷ []) (moved m t) o leads
     (place_kinds_append v.places (bare_place piece ∷ []) ∙ ap (λ (x : List Kind). x ++ piece.kind ∷ []) v.are)
     lands_at clean
-    (omega (arith, lower, on, whole, size_y))
+    (omega (arith, lower, on, whole, size_y)) ends
   where
+    key_ends : (i : ℕ) (n : Marker) → (m.line < n.line) ⊎ (o ≡ [])
+        → (left_key (saved v.allowed i m v.key) n ≡ None) ⊎ (o ≡ [])
+    key_ends i n (inl later) = inl (gone v.allowed i m n v.key late later)
+    key_ends i n (inr over) = inr over
+
     column_far : (i col : ℕ) → i ≤ col → i ≤ col + 1
     column_far i col h = omega (arith, h)
 

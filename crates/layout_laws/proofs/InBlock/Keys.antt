@@ -1,43 +1,27 @@
 -- Keys on one line at block level are read.
-use Rattle.std.proofs.Common.{◌≡◌, ℕ, ◌+◌, ◌≤◌, Bool, true, false, List, [], ◌∷◌, ◌++◌, length, refl, sym, ap, ◌∙◌, arith, subst}
+use Rattle.std.proofs.Common.{◌≡◌, ℕ, ◌+◌, ◌≤◌, Bool, true, false, List, ◌∷◌, ◌++◌, length, refl, sym, ap, ◌∙◌, arith, subst}
 use Rattle.std.specs.Prelude.{Some, None}
-use Rattle.saphyr_input.specs.Classes.{is_blank}
 use Rattle.saphyr_scalar.specs.declared.scalar.position.Marker.{Marker}
-use Rattle.saphyr_scalar.specs.Views.Cursor.{along}
-use Rattle.saphyr_scalar.specs.Reading.BlockLines.{spaces}
-use Rattle.saphyr_scalar.specs.Spelling.Tag.{AreIn}
 use Rattle.saphyr_scanner.specs.Steps.Level.{Candidate}
 use Rattle.saphyr_scanner.specs.Grammar.Forest.{Node}
 use Rattle.layout_laws.specs.Grammar.FlowNodes.{IsOnLine}
-use Rattle.layout_laws.proofs.Flow.States.{moved, past, IsInk, ReaderPromises}
+use Rattle.layout_laws.proofs.Flow.States.{moved, past, ReaderPromises}
 use Rattle.layout_laws.proofs.Flow.Places.{moved_append, moved_along}
-use Rattle.layout_laws.proofs.Flow.Gaps.{right_tab as no_left_tab}
 use Rattle.layout_laws.proofs.Flow.GapSteps.{past_ink}
-use Rattle.layout_laws.proofs.Flow.Fillers.{right_tab, blanks_past}
+use Rattle.layout_laws.proofs.Flow.Fillers.{blanks_past}
 use Rattle.layout_laws.proofs.InFlow.States.{Around, least, least_low}
 use Rattle.layout_laws.proofs.InFlow.KeyLines.{IsNear, not_far, deeper_at, is_required}
 use Rattle.layout_laws.proofs.InFlow.KeyScalars.{colon_ink}
-use Rattle.layout_laws.proofs.InFlow.Keys.{key_read, spaces_on_line, both_on_line}
+use Rattle.layout_laws.proofs.InFlow.Keys.{key_read, blanks_are_on_line, both_on_line}
 use Rattle.layout_laws.proofs.InBlock.States.{Frame, Moment, moment_at, state_of, tabbed, GoesOnAs}
 use Rattle.layout_laws.proofs.InBlock.Follows.{goes_on}
+use Rattle.layout_laws.proofs.InBlock.Skips.{right_untabbed}
 use Rattle.layout_laws.proofs.InBlock.Statements.{ReadsKey}
-use Rattle.saphyr_input.proofs.Basics.Numbers.{le_next}
-use Rattle.saphyr_input.proofs.Basics.Characters.{no_return}
+use Rattle.layout_laws.proofs.InBlock.Texts.{ink_clean}
 
 -- a frame without what is required
 abbrev pub around_of : ℕ → Frame → Around
 around_of limit f = record { limit = limit; indent = f.indent; outers = f.outers; pending = false; required = false }
-
--- no tab stands left of a column among blanks right of it
-blanks_untabbed : (low column : ℕ) → low ≤ column → (w : List ℕ) (c : ℕ) (cs : List ℕ) → AreIn is_blank w → IsInk c
-    → (m : Marker) (blank : Bool) → column ≤ m.col → tabbed low m blank false (w ++ (c ∷ cs)) ≡ false
-blanks_untabbed low column under [] c cs are ink m blank right =
-    rw (ink.blank, ink.break, ink.comment, no_return c ink.break) refl
-blanks_untabbed low column under (x ∷ xs) c cs are ink m blank right =
-    rw are.0
-    (ap (λ (t : Bool). tabbed low (along m 1) blank t (xs ++ (c ∷ cs)))
-    (no_left_tab column low m blank x (right_tab column m x right) under)
-    ∙ blanks_untabbed low column under xs c cs are.1 ink (along m 1) blank (le_next column m.col right))
 
 -- behind a text on a key's line
 line_near : (m : Marker) (place : ℕ) (t : List ℕ) → IsOnLine t → length t ≤ 1024
@@ -52,7 +36,7 @@ line_near m place t line short =
 pub reads_key : ReaderPromises → (limit : ℕ) (node : Node) → ReadsKey limit node
 reads_key reads limit node f m t o n far h line apart short white fits start ts v allowed =
     let around = around_of limit f in
-    let y = t ++ (spaces n ++ (58 ∷ o)) in
+    let y = t ++ (n.text ++ (58 ∷ o)) in
     let k : Candidate = record { mark = m; place = length v.places } in
     let r = key_read reads around refl node m t n o h line apart short white far fits.clear fits.below v.deeper v.blank
     v.key v.adjacent v.places v.low in
@@ -69,7 +53,7 @@ reads_key reads limit node f m t o n far h line apart short white fits start ts 
     let before : GoesOnAs limit start (state_of f (moment_at m y v.blank v.key true v.adjacent v.deeper) v.places) =
     subst (λ (b : Bool). GoesOnAs limit start (state_of f (moment_at m y v.blank v.key b v.adjacent v.deeper) v.places))
     allowed v.follows in
-    let place : moved (moved m t) (spaces n) ≡ moved m (t ++ spaces n) = sym (moved_append m t (spaces n)) in
+    let place : moved (moved m t) n.text ≡ moved m (t ++ n.text) = sym (moved_append m t n.text) in
     let right = a.right in
     record {
       moment = moment;
@@ -88,10 +72,10 @@ reads_key reads limit node f m t o n far h line apart short white fits start ts 
           ∙ past_ink 0 (moved a.there.mark a.white) 58 o colon_ink
           ∙ ap (λ (p : Marker). (p, 58 ∷ o)) (a.mark ∙ place);
       untabbed = ap (tabbed (least f.indent a.deeper) a.there.mark a.there.blank_so_far false) a.rest
-          ∙ blanks_untabbed (least f.indent a.deeper) f.indent (least_low f.indent a.deeper) a.white 58 o a.are_white
-          colon_ink a.there.mark a.there.blank_so_far right;
-      near = not_far k (moved m (t ++ spaces n))
-          (line_near m (length v.places) (t ++ spaces n) (both_on_line t (spaces n) line (spaces_on_line n)) short);
+          ∙ right_untabbed (least f.indent a.deeper) f.indent (least_low f.indent a.deeper) a.white (58 ∷ o) a.are_white
+          (ink_clean 58 o colon_ink) a.there.mark a.there.blank_so_far right;
+      near = not_far k (moved m (t ++ n.text))
+          (line_near m (length v.places) (t ++ n.text) (both_on_line t n.text line (blanks_are_on_line n.text n.are)) short);
       low = subst (λ (p : Marker). a.adjacent ≤ p.index) place a.low;
     }
   where

@@ -15,6 +15,7 @@ use Rattle.layout_laws.specs.SameKinds.{HaveSameKinds}
 use Rattle.layout_laws.proofs.Breaks.Layouts.{no_return_left, scans_too}
 use Rattle.layout_laws.proofs.Breaks.Normal.{beside, normal_shorter}
 use Rattle.layout_laws.proofs.Flow.Inks.{node_ink, plain_key_node_ink}
+use Rattle.layout_laws.proofs.Flow.NoDashes.{node_no_dash}
 use Rattle.layout_laws.proofs.Flow.States.{ReaderPromises}
 use Rattle.layout_laws.proofs.InBlock.FlowNodes.{reads_flow}
 use Rattle.layout_laws.proofs.InBlock.Keys.{reads_key}
@@ -27,11 +28,12 @@ use Rattle.layout_laws.proofs.InBlock.Streams.{layout_leads}
 pub leaves : ReaderPromises → ReadsBlocks → (limit : ℕ) → limit < 2 ^ 63 → ReadsLeaves limit
 leaves reads blocks limit short = record {
   flow = reads_flow reads limit short;
-  block_scalar = scalars.reads_block_scalars blocks short (reads_head reads limit);
+  block_scalar = scalars.reads_block_scalars blocks short (reads_head reads limit short);
   key = reads_key reads limit;
   properties = reads_properties reads limit short;
   key_ink = λ node indent t. plain_key_node_ink false indent node t;
   flow_ink = λ node room indent in_flow t. node_ink indent room node in_flow t;
+  flow_dash = λ node room indent in_flow t o. node_no_dash indent room node in_flow t o;
   block_ink = block_ink;
   scalar_ends = scalar_ends;
 }

@@ -1,6 +1,6 @@
 -- What stands before a block collection is passed: its properties, or nothing, and the way to its first entry.
 use Rattle.std.proofs.Common.{◌≡◌, ℕ, ◌+◌, ◌≤◌, true, List, [], ◌∷◌, ◌++◌, refl, sym, ap, ◌∙◌, arith, subst, append_assoc, append-nil, inl, inr}
-use Rattle.std.specs.Prelude.{◌||◌}
+use Rattle.std.specs.Prelude.{◌||◌, None}
 use Rattle.saphyr_scalar.specs.declared.scalar.position.Marker.{Marker}
 use Rattle.saphyr_scalar.specs.Reading.BlockLines.{spaces}
 use Rattle.scalar_laws.specs.Spelling.Spaces.{IsLineEnd, IsFiller}
@@ -25,6 +25,7 @@ pub record LeadRead (limit : ℕ) (start : State) (p : Properties) (f : Frame) (
   pub tokens : List Kind
   pub are : grammar.YieldProperties p tokens
   pub at : At limit start f m y (ts ++ tokens)
+  pub none : at.key ≡ None
   pub allowed : at.allowed ≡ true
 
 -- where there are no properties, and what stands before is skipped
@@ -36,15 +37,16 @@ plain_lead {limit} {start} {ts} p place f m w y none h b opens v =
     let there : past 0 m (w ++ y) ≡ (moved m w, y) = ap (λ (x : List ℕ). past 0 m (w ++ x)) b.is
     ∙ reaches m w b.first b.others h b.ink
     ∙ ap (λ (x : List ℕ). let q : Marker × List ℕ = (moved m w, x) in q) (sym b.is) in
-    let p_at = subst (λ (q : Marker × List ℕ). (u : At limit start f q.0 q.1 ts) × (u.allowed ≡ true)) there
-    (v.at, v.allows opens) in
-    let all = subst (λ (us : List Kind). (u : At limit start f (moved m w) y us) × (u.allowed ≡ true))
-    (sym (append-nil ts)) p_at in
+    let p_at = subst (λ (q : Marker × List ℕ). (u : At limit start f q.0 q.1 ts) × (u.key ≡ None)
+    × (u.allowed ≡ true)) there (v.at, v.none, v.allows opens) in
+    let all = subst (λ (us : List Kind). (u : At limit start f (moved m w) y us) × (u.key ≡ None)
+    × (u.allowed ≡ true)) (sym (append-nil ts)) p_at in
     record {
       tokens = [];
       are = subst (λ (q : Properties). grammar.YieldProperties q []) (sym none) refl;
       at = all.0;
-      allowed = all.1;
+      none = all.1;
+      allowed = all.2;
     }
 
 true_crosses : (place : Position) (t : List ℕ) → crosses t ≡ true → (is_compact place || crosses t) ≡ true
@@ -78,7 +80,7 @@ reads_lead {limit} leaves p place least column f same m lead y
     (fits_so m lead (white ++ (t ++ w)) y is fits) start ts
     (subst (λ (x : List ℕ). Before limit start place f m x ts) text v) in
     subst (λ (x : List ℕ). LeadRead limit start p f (moved m x) y ts) (sym is)
-    (record { tokens = r.tokens; are = r.are; at = r.at; allowed = r.allowed })
+    (record { tokens = r.tokens; are = r.are; at = r.at; none = r.none; allowed = r.allowed })
 reads_lead {limit} leaves p (BehindDash c) least column f same m lead y (inr (none, (n, some, col, e))) b fits start ts
     v =
     subst (λ (x : List ℕ). LeadRead limit start p f (moved m x) y ts) (sym e)

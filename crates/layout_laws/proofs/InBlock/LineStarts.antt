@@ -2,11 +2,10 @@
 use Rattle.std.proofs.Common.{◌≡◌, ℕ, Bool, true, false, List, [], ◌∷◌, ◌++◌, IsTrue, refl, sym, ap, ◌∙◌, arith, subst, append_assoc, append-nil, ◌⊎◌, inl, inr}
 use Rattle.std.proofs.lemmas.Bool.Decides.{nat_tests}
 use Rattle.std.specs.Prelude.{◌&&◌, ◌==◌, not}
-use Rattle.saphyr_input.specs.Classes.{line_feed, is_blank, is_yaml_non_break}
+use Rattle.saphyr_input.specs.Classes.{byte_order_mark, line_feed, is_blank, is_yaml_non_break}
 use Rattle.saphyr_input.specs.Places.{is_document_indicator}
 use Rattle.saphyr_scalar.specs.Spelling.Tag.{AreIn}
-use Rattle.scalar_laws.specs.Spelling.Spaces.{IsComment, IsLastFiller, IsLineRest, IsEol}
-use Rattle.layout_laws.specs.Grammar.Layout.{IsDocumentPrefix}
+use Rattle.scalar_laws.specs.Spelling.Spaces.{IsComment, IsFiller, IsLastFiller, IsLineRest, IsEol}
 use Rattle.layout_laws.proofs.Flow.States.{marks_line}
 use Rattle.layout_laws.proofs.Flow.Fillers.{behind_is}
 use Rattle.layout_laws.proofs.InBlock.Skips.{IsSkipped, nothing, one_space, one_break, one_rest, filler_skipped}
@@ -121,12 +120,11 @@ end_unmarked t o (inl (rest, h, e)) =
     (both_unmarked rest (10 ∷ []) (rest_unmarked rest h) (skipped_unmarked (10 ∷ []) (one_break [] nothing)))
 end_unmarked t o (inr h) = rest_unmarked t h.0
 
-pub prefix_unmarked : (t : List ℕ) → IsDocumentPrefix t → IsUnmarked t
-prefix_unmarked t (inl e) = subst IsUnmarked (sym e) (λ at_start o. refl)
-prefix_unmarked t (inr (filler, is, e)) =
-    subst IsUnmarked (sym e)
-    (both_unmarked filler (65279 ∷ []) (skipped_unmarked filler (filler_skipped filler is))
-    (line_unmarked 65279 [] refl refl (refl, tt)))
+-- a byte order mark behind filler
+pub mark_unmarked : (filler : List ℕ) → IsFiller filler → IsUnmarked (filler ++ (byte_order_mark ∷ []))
+mark_unmarked filler is =
+    both_unmarked filler (65279 ∷ []) (skipped_unmarked filler (filler_skipped filler is))
+    (line_unmarked 65279 [] refl refl (refl, tt))
 
 -- ## A document marker stands behind such a piece
 

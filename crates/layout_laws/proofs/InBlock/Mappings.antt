@@ -1,6 +1,6 @@
 -- The pairs of a block mapping are read (YAML 1.2.2, 8.2.2).
 use Rattle.std.proofs.Common.{◌≡◌, ℕ, suc, ◌+◌, ◌≤◌, Bool, true, false, List, [], ◌∷◌, ◌++◌, refl, sym, ap, ◌∙◌, arith, subst, append_assoc, append-nil, inl, inr}
-use Rattle.std.specs.Prelude.{◌==◌, ◌&&◌, nat_le}
+use Rattle.std.specs.Prelude.{◌==◌, ◌&&◌, None, nat_le}
 use Rattle.std.proofs.lemmas.Bool.Decides.{nat_tests}
 use Rattle.saphyr_input.specs.Places.{is_document_indicator}
 use Rattle.saphyr_scalar.specs.declared.scalar.position.Marker.{Marker}
@@ -8,7 +8,7 @@ use Rattle.saphyr_scanner.specs.Steps.State.{State}
 use Rattle.saphyr_scanner.specs.Grammar.Tokens.{Kind}
 use Rattle.saphyr_scanner.specs.Grammar.Forest.{Node, Pairs, NoPair, MorePairs}
 use Rattle.saphyr_scanner.specs.Limits.{most_open}
-use Rattle.layout_laws.specs.Grammar.BlockNodes.{IsBlockPair, IsBlockNode, ArePairs, AreOtherPairs}
+use Rattle.layout_laws.specs.Grammar.BlockNodes.{is_value_ahead, IsBlockPair, IsBlockNode, ArePairs, AreOtherPairs}
 use Rattle.layout_laws.proofs.Flow.States.{IsClear, moved, past}
 use Rattle.layout_laws.proofs.Flow.Places.{moved_append, clear_here}
 use Rattle.layout_laws.proofs.InBlock.Lines.{FitsOnLines, fits_front, fits_back, fits_so}
@@ -19,7 +19,8 @@ use Rattle.layout_laws.proofs.InBlock.Texts.{node_ends, pair_ends, behind_indent
 use Rattle.layout_laws.proofs.InBlock.BehindIndicators.{pair_ink, further_ink}
 use Rattle.layout_laws.proofs.InBlock.Sequences.{StartsLine, starts_behind, not_empty, frame_indent, goes_on}
 use Rattle.saphyr_input.proofs.Basics.Numbers.{next_not_within}
-use Rattle.layout_laws.proofs.InBlock.Pairs.{mapping_start, some_first, reads_pair}
+use Rattle.layout_laws.proofs.InBlock.Pairs.{mapping_start, least, some_first, reads_pair}
+use Rattle.layout_laws.proofs.InBlock.ValuesAhead.{skipped_ahead}
 
 -- ## Pairs
 
@@ -49,14 +50,14 @@ ReadsOtherPairs limit pairs =
     → AreOtherPairs most_open pairs column t o
     → FitsOnLines limit m t o → EndsNodeAt (suc column) (moved m t) o → StartsLine m (t ++ o)
     → (start : State) (ts : List Kind) → Arrived limit start g m (t ++ o) ts
-    → PairsRead limit start pairs g (moved m t) o ts
+    → PairsRead limit start pairs column g m t o ts
 
 pub no_other_pairs : {limit : ℕ} → ReadsOtherPairs limit NoPair
 no_other_pairs {limit} g column same m t o h fits behind starts start ts v =
     record {
       tokens = [];
       are = refl;
-      begins = λ no. no;
+      begins = λ no. absurd no;
       arrived = subst (λ (us : List Kind). Arrived limit start g (moved m t) o us) (sym (append-nil ts))
           (subst (λ (x : List ℕ). Arrived limit start g m (x ++ o) ts → Arrived limit start g (moved m x) o ts) (sym h)
           (λ k. k) v);
@@ -74,8 +75,12 @@ not_marker m c cs h (inr k) =
     zero_is : (n : ℕ) → n ≡ 0 → (n == 0) ≡ true
     zero_is n e = grind (arith, nat_tests)
 
-least : (i col : ℕ) → i ≡ col + 1 → i ≤ col + 1
-least i col e = omega (arith, e)
+-- a `:` ahead, behind a line's end
+ahead_of_line : (n : Marker) (z : List ℕ) (column : ℕ) → StartsLine n z → is_value_ahead false column n.col z ≡ true
+    → is_value_ahead false column 0 z ≡ true
+ahead_of_line n z column (inl e) h = subst (λ (c : ℕ). is_value_ahead false column c z ≡ true) e h
+ahead_of_line n z column (inr e) h =
+    absurd (let no : false ≡ true = subst (λ (x : List ℕ). is_value_ahead false column n.col x ≡ true) e h in cc)
 
 list_end : (ts us vs : List Kind) → ((ts ++ []) ++ us) ++ vs ≡ ts ++ (us ++ vs)
 list_end ts us vs = simp (append_assoc, append-nil)
@@ -117,13 +122,24 @@ more_pairs {limit} leaves key value pairs K V more g column same m t o (front, p
     let width = same ∙ ap (λ (c : ℕ). c + 1) (sym col) in
     let r = reads_pair leaves key value K V g n false (next_not_within g.indent n.col width)
     (least g.indent n.col width) pair z is_pair fits_pair
-    (subst (λ (c : ℕ). EndsNodeAt (suc c) last z) (sym col) behind_z) start ts at_pair.at ready.1 in
+    (subst (λ (c : ℕ). EndsNodeAt (suc c) last z) (sym col) behind_z) start ts at_pair.at ready.0
+    ready.1 in
     let s = more g column same last others o k (fits_back n pair others o fits_pairs) behind_o starts_z start
     ((ts ++ []) ++ r.tokens) r.arrived in
     record {
       tokens = r.tokens ++ s.tokens;
-      are = (r.tokens, s.tokens, r.are s.tokens s.begins, s.are, refl);
-      begins = r.begins s.tokens;
+      are = (
+        r.tokens,
+        s.tokens,
+        r.are s.tokens
+            (λ first. ahead_of_line last z n.col starts_z
+            (subst (λ (c : ℕ). is_value_ahead false c last.col z ≡ true) (sym col) (s.begins first))),
+        s.are,
+        refl,
+      );
+      begins = λ first. ap (is_value_ahead false column m.col) text
+          ∙ skipped_ahead column m front (pair ++ z) (indentation_skipped column front front_is)
+          ∙ subst (λ (c : ℕ). is_value_ahead false c n.col (pair ++ z) ≡ true) col (r.begins s.tokens first);
       arrived = subst (λ (x : Marker). Arrived limit start g x o (ts ++ (r.tokens ++ s.tokens))) (sym end)
           (subst (Arrived limit start g (moved last others) o) (list_end ts r.tokens s.tokens) s.arrived);
     }
@@ -142,11 +158,11 @@ pub reads_pairs : {limit : ℕ} → ReadsLeaves limit → (key value : Node) (pa
     → (f : Frame) (n : Marker) (further : Bool) → nat_le f.indent n.col ≡ further → f.indent ≤ n.col + 1
     → (t o : List ℕ) → ArePairs most_open (MorePairs key value pairs) n.col t o → FitsOnLines limit n t o
     → EndsNodeAt (suc n.col) (moved n t) o
-    → (start : State) (ts : List Kind) (v : At limit start f n (t ++ o) ts) → v.allowed ≡ true
-    → PairsRead limit start (MorePairs key value pairs) (frame_behind further n.col f) (moved n t) o
+    → (start : State) (ts : List Kind) (v : At limit start f n (t ++ o) ts) → v.key ≡ None → v.allowed ≡ true
+    → PairsRead limit start (MorePairs key value pairs) n.col (frame_behind further n.col f) n t o
     (ts ++ mapping_start further)
 reads_pairs {limit} leaves key value pairs K V more f n further e far t o (pair, others, h, k, is) fits behind start ts
-    v allowed =
+    v none allowed =
     let z = others ++ o in
     let g = frame_behind further n.col f in
     let text : t ++ o ≡ pair ++ z = ap (λ (x : List ℕ). x ++ o) is ∙ append_assoc pair others o in
@@ -158,15 +174,22 @@ reads_pairs {limit} leaves key value pairs K V more f n further e far t o (pair,
     (pair_ends key value (λ place u y i. node_ends leaves key place u y i)
     (λ place u y i. node_ends leaves value place u y i) n.col pair z h) in
     let behind_z = other_pairs_behind leaves pairs n.col last others o k starts_z behind_o in
-    let p = subst (λ (y : List ℕ). (w : At limit start f n y ts) × (w.allowed ≡ true)) text (v, allowed) in
+    let p = subst (λ (y : List ℕ). (w : At limit start f n y ts) × (w.key ≡ None) × (w.allowed ≡ true)) text
+    (v, none, allowed) in
     let r = reads_pair leaves key value K V f n further e far pair z h (fits_front n pair others o whole) behind_z start
-    ts p.0 p.1 in
+    ts p.0 p.1 p.2 in
     let s = more g n.col (frame_indent further f n.col e far) last others o k (fits_back n pair others o whole) behind_o
     starts_z start ((ts ++ mapping_start further) ++ r.tokens) r.arrived in
     record {
       tokens = r.tokens ++ s.tokens;
-      are = (r.tokens, s.tokens, r.are s.tokens s.begins, s.are, refl);
-      begins = r.begins s.tokens;
+      are = (
+        r.tokens,
+        s.tokens,
+        r.are s.tokens (λ first. ahead_of_line last z n.col starts_z (s.begins first)),
+        s.are,
+        refl,
+      );
+      begins = λ first. ap (is_value_ahead false n.col n.col) text ∙ r.begins s.tokens first;
       arrived = subst (λ (x : Marker). Arrived limit start g x o
           ((ts ++ mapping_start further) ++ (r.tokens ++ s.tokens))) (sym end)
           (subst (Arrived limit start g (moved last others) o)

@@ -241,7 +241,7 @@ reads_mapping {limit} leaves p key value pairs K V more place f same m t o (colu
     entries o (subst (λ (c : ℕ). ArePairs most_open (MorePairs key value pairs) c entries o) (sym col) h)
     (fits_back m lead entries o whole)
     (behind_wider f.indent (suc n.col) (moved n entries) o (two f.indent n.col low) behind_o) start (ts ++ l.tokens)
-    l.at l.allowed in
+    l.at l.none l.allowed in
     let c = collection_closes f n.col (past 0 (moved n entries) o) low behind_o.left r.arrived in
     record {
       tokens = l.tokens ++ (tokens.BlockMappingStart ∷ (r.tokens ++ tokens.BlockEnd ∷ []));

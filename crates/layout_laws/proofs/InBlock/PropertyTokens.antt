@@ -30,7 +30,8 @@ use Rattle.layout_laws.proofs.Flow.Places.{moved_count, moved_index}
 use Rattle.layout_laws.proofs.Flow.Tags.{tag_read, tag_first}
 use Rattle.layout_laws.proofs.InBlock.States.{Frame, Moment, moment_at, core_of, state_of, crosses, GoesOnAs, At}
 use Rattle.layout_laws.proofs.InBlock.Gaps.{past_stops}
-use Rattle.layout_laws.proofs.InBlock.Skips.{IsClean}
+use Rattle.layout_laws.proofs.InBlock.Skips.{IsCleanBehind}
+use Rattle.layout_laws.proofs.InFlow.States.{least_low}
 use Rattle.layout_laws.proofs.InBlock.Follows.{follows_itself, goes_alike, first_step, left_key, left_again, drops, lands, BeginsToken, begins_here, arrives_at, stays_open, deeper_at}
 use Rattle.layout_laws.proofs.InBlock.Lines.{FitsOnLines}
 use Rattle.layout_laws.proofs.InBlock.HeaderScalars.{IsOnLineOrBefore, saves}
@@ -62,9 +63,9 @@ late_saved : (a : Bool) (i : ℕ) (m : Marker) (key : Option Candidate) → IsOn
 late_saved true i m key h = omega arith
 late_saved false i m key h = h
 
-pub late_same : (k : Option Candidate) (m n : Marker) → m.line ≡ n.line → IsOnLineOrBefore k m → IsOnLineOrBefore k n
-late_same None m n e h = tt
-late_same (Some k) m n e h = omega (arith, e, h)
+pub late_later : (k : Option Candidate) (m n : Marker) → m.line ≤ n.line → IsOnLineOrBefore k m → IsOnLineOrBefore k n
+late_later None m n e h = tt
+late_later (Some k) m n e h = omega (arith, e, h)
 
 -- From a state that goes on with this state the scanner comes to that, where a key that is too far is dropped.
 steps_keeping : {limit : ℕ} {start s : State} (g : Frame) (n : Moment) (qs : List Place) → GoesOnAs limit start s
@@ -84,7 +85,7 @@ token_read : {limit : ℕ} {start : State} {ts : List Kind} (f : Frame) (k : Kin
     (core_of f (moment_at m y v.blank v.key v.allowed v.adjacent deeper))
     ≡ completed_step (from_to m n k ∷ []) (core_of f
     (moment_at n o false (saved v.allowed i m v.key) false v.adjacent deeper)))
-    → n.index ≤ limit → m.index ≤ n.index → IsClean o → IsOnLineOrBefore v.key m
+    → n.index ≤ limit → m.index ≤ n.index → IsCleanBehind f.indent o → IsOnLineOrBefore v.key m
     → TokenRead limit start f m n o (ts ++ k ∷ [])
 unfolding fetch state_behind_content
 token_read {limit} {start} {ts} f k m n y o v low begins steps limited onward clean late =
@@ -105,7 +106,8 @@ token_read {limit} {start} {ts} f k m n y o v low begins steps limited onward cl
     let leads = steps_keeping f here qs v.follows refl there refl limited in
     let left : Moment = moment_at n o false (left_key (saved v.allowed i m v.key) n) false v.adjacent deeper in
     let t = past 0 n o in
-    let l = lands f left qs t.0 t.1 refl refl (clean (least_column (core_of f left)) n false) (inl refl) in
+    let l = lands f left qs t.0 t.1 refl refl
+    (clean (least_column (core_of f left)) (least_low f.indent deeper) n) (inl refl) in
     let on = past_low 0 n o in
     let lower = v.low in
     record {
@@ -133,7 +135,7 @@ token_read {limit} {start} {ts} f k m n y o v low begins steps limited onward cl
 -- a token of this text is read, wherever it stands
 abbrev pub TokenReads : ℕ → State → Frame → Kind → List ℕ → Type 0
 TokenReads limit start f k t =
-    (m : Marker) (ts : List Kind) (o : List ℕ) → f.indent ≤ m.col → IsClean o
+    (m : Marker) (ts : List Kind) (o : List ℕ) → f.indent ≤ m.col → IsCleanBehind f.indent o
     → IsTrue (is_blank_or_breakz (slice_index o 0)) → FitsOnLines limit m t o → (v : At limit start f m (t ++ o) ts)
     → IsOnLineOrBefore v.key m
     → TokenRead limit start f m (moved m t) o (ts ++ k ∷ [])

@@ -6,7 +6,7 @@ use Rattle.saphyr_input.specs.Classes.{is_blank, is_blank_or_breakz, line_feed, 
 use Rattle.saphyr_scalar.specs.declared.scalar.position.Marker.{Marker}
 use Rattle.saphyr_scalar.specs.Views.Cursor.{◌>>=◌, along}
 use Rattle.saphyr_scanner.specs.declared.engine.level.Context.TheVariants as context
-use Rattle.saphyr_scanner.specs.Steps.Core.{Core, completed_step, from_to, up_to_here, perform, is_further, roll, remove_key, with_context, in_block}
+use Rattle.saphyr_scanner.specs.Steps.Core.{least_column, Core, completed_step, from_to, up_to_here, perform, is_further, roll, remove_key, with_context, in_block}
 use Rattle.saphyr_scanner.specs.Steps.Level.{Candidate, behind_question}
 use Rattle.saphyr_scanner.specs.Steps.Block as block
 use Rattle.saphyr_scanner.specs.Steps.Block.{behind_start}
@@ -208,4 +208,4 @@ reads_question {limit} {start} {ts} f m o further e far h clean count v allowed 
     (within_index n.index (length y) (m.index + 1) (length o) limit counted
     (shifted m.index (length o) limit count)))
     (mark_are further m n v.places ts v.are) refl refl refl (le_next v.adjacent m.index v.low)
-    (past_again 0 (along m 1) o) (λ least. stop_tabbed least n s.0 y stop) (or-true (crosses y)) refl
+    (past_again 0 (along m 1) o) (stop_tabbed (least_column (core_of g t)) n s.0 y stop) (or-true (crosses y)) refl

@@ -39,7 +39,7 @@ pub record ReadsBlocks : Type 0 where
   pub place : (m : Marker) (s : List ℕ) (n : Marker) (u : List ℕ) → IsPassed m s n u → (k : Marker) → IsPassed m s k u
       → k ≡ n
 
--- ## A header ends with a break
+-- ## Where a header ends
 
 indicator_splits : (n : ℕ) (a b : List ℕ) → IsIndicator n a b → (w : List ℕ) × (a ≡ w ++ b)
 indicator_splits _ _ _ (spelling.no_digit x) = ([], refl)
@@ -50,97 +50,34 @@ chomping_splits _ _ _ (spelling.strip x) = (45 ∷ [], refl)
 chomping_splits _ _ _ (spelling.clip x) = ([], refl)
 chomping_splits _ _ _ (spelling.keep x) = (43 ∷ [], refl)
 
-end_splits : (d x : List ℕ) → spelling.IsHeaderEnd d x → (w : List ℕ) × (d ≡ w ++ (line_feed ∷ x))
-end_splits _ _ (spelling.no_comment blanks x are) = (blanks, refl)
+end_splits : (d x : List ℕ) → spelling.IsHeaderEnd d x → (x ≡ []) ⊎ ((w : List ℕ) × (d ≡ w ++ (line_feed ∷ x)))
+end_splits _ _ (spelling.no_comment blanks x are) = inr (blanks, refl)
 end_splits _ _ (spelling.comment blank blanks text x are words) =
-    ((blank ∷ blanks) ++ (35 ∷ text), sym (append_assoc (blank ∷ blanks) (35 ∷ text) (10 ∷ x)))
+    inr ((blank ∷ blanks) ++ (35 ∷ text), sym (append_assoc (blank ∷ blanks) (35 ∷ text) (10 ∷ x)))
+end_splits _ _ (spelling.no_comment_at_end blanks are) = inl refl
+end_splits _ _ (spelling.comment_at_end blank blanks text are words) = inl refl
 
-in_parts : (mark : ℕ) (a b d x u v w : List ℕ) → a ≡ u ++ b → b ≡ v ++ d → d ≡ w ++ (line_feed ∷ x)
-    → mark ∷ a ≡ (mark ∷ (u ++ (v ++ w))) ++ (line_feed ∷ x)
-in_parts mark a b d x u v w e f g =
-    ap (λ (y : List ℕ). mark ∷ y)
-    (e ∙ ap (λ (y : List ℕ). u ++ y) (f ∙ ap (λ (y : List ℕ). v ++ y) g ∙ sym (append_assoc v w (10 ∷ x)))
-    ∙ sym (append_assoc u (v ++ w) (10 ∷ x)))
+in_parts : (mark : ℕ) (a b d x u v : List ℕ) → a ≡ u ++ b → b ≡ v ++ d
+    → (x ≡ []) ⊎ ((w : List ℕ) × (d ≡ w ++ (line_feed ∷ x)))
+    → (x ≡ []) ⊎ ((w : List ℕ) × (mark ∷ a ≡ w ++ (line_feed ∷ x)))
+in_parts mark a b d x u v e f (inl over) = inl over
+in_parts mark a b d x u v e f (inr (w, g)) =
+    inr (
+      mark ∷ (u ++ (v ++ w)),
+      ap (λ (y : List ℕ). mark ∷ y)
+          (e ∙ ap (λ (y : List ℕ). u ++ y) (f ∙ ap (λ (y : List ℕ). v ++ y) g ∙ sym (append_assoc v w (10 ∷ x)))
+          ∙ sym (append_assoc u (v ++ w) (10 ∷ x))),
+    )
 
+-- a header ends with a break, or with the text
 header_splits : (n : ℕ) (chomping : Chomping) (x t : List ℕ) → IsHeader n chomping x t
-    → (w : List ℕ) × (t ≡ w ++ (line_feed ∷ x))
+    → (x ≡ []) ⊎ ((w : List ℕ) × (t ≡ w ++ (line_feed ∷ x)))
 header_splits n chomping x _ (spelling.digit_first mark a b d h k e) =
-    let u = indicator_splits n a b h in let v = chomping_splits chomping b d k in let w = end_splits d x e in
-    (mark ∷ (u.0 ++ (v.0 ++ w.0)), in_parts mark a b d x u.0 v.0 w.0 u.1 v.1 w.1)
+    let u = indicator_splits n a b h in let v = chomping_splits chomping b d k in
+    in_parts mark a b d x u.0 v.0 u.1 v.1 (end_splits d x e)
 header_splits n chomping x _ (spelling.chomping_first mark a b d h k e) =
-    let u = chomping_splits chomping a b h in let v = indicator_splits n b d k in let w = end_splits d x e in
-    (mark ∷ (u.0 ++ (v.0 ++ w.0)), in_parts mark a b d x u.0 v.0 w.0 u.1 v.1 w.1)
-
--- ## The reading
-
--- From s a block scalar t was read, and o stands behind it, of which spaces may be passed.
-pub record BlockTaken (style : BlockStyle) (indent : ℕ) (value : List ℕ) (s : Cursor) (t o : List ℕ) : Type 0 where
-  pub n : ℕ
-  pub others : List ℕ
-  pub behind : o ≡ spaces n ++ others
-  pub span : Span
-  pub left : Cursor
-  pub read : block_scalar style indent s ≡ Ok (encode_utf8_all value, span, left)
-  pub rest : left.rest ≡ others
-  pub mark : left.mark ≡ moved (moved s.mark t) (spaces n)
-  pub later : IsLined s.mark → s.mark.index + length (t ++ o) < 2 ^ 63 → s.mark.line < left.mark.line
-
-no_returns : (n : ℕ) → AreIn (λ c. not (c == carriage_return)) (spaces n)
-no_returns zero = tt
-no_returns (suc n) = (refl, no_returns n)
-
-some_text : (c : ℕ) (xs t : List ℕ) → t ≡ c ∷ xs → 0 < length t
-some_text c xs t e = subst (λ (y : List ℕ). 0 < length y) (sym e) (omega arith)
-
-pub block_taken : ReadsBlocks
-    → (style : BlockStyle) (value : List ℕ) (indent : ℕ) (s : Cursor) (first : ℕ) (more t o : List ℕ) → s.rest ≡ t ++ o
-    → t ≡ first ∷ more → is_break first ≡ false
-    → AreIn (λ c. not (c == carriage_return)) t → IsBlockScalarText style value indent t o
-    → BlockTaken style indent value s t o
-block_taken laws style value indent s first more t o whole begins no_break clean
-    (i, n, chomping, lines, body, others, scalar, behind_is, ends, is_value) =
-    let k = laws.reads style chomping indent i n lines s body others
-    (subst (λ (y : List ℕ). IsBlockScalar indent i n chomping lines y body others) (sym whole) scalar) in
-    let behind : o ≡ spaces n ++ others = sym behind_is ∙ scalar.ends.is in
-    let text : s.rest ≡ (t ++ spaces n) ++ others = whole ∙ ap (λ (y : List ℕ). t ++ y) behind
-    ∙ sym (append_assoc t (spaces n) others) in
-    let read : block_scalar style indent s ≡ Ok (encode_utf8_all value, k.span, k.left) =
-    k.read ∙ ap (λ (y : List ℕ). Ok (y, k.span, k.left)) (k.value ∙ ap encode_utf8_all (sym is_value)) in
-    let start : s.rest ≡ first ∷ (more ++ o) = whole ∙ ap (λ (y : List ℕ). y ++ o) begins in
-    let went = laws.passes style indent s k.left (encode_utf8_all value) k.span
-    (ap (λ (y : List ℕ). is_break (slice_index y 0)) start ∙ no_break) (some_text first (more ++ o) s.rest start)
-    read in
-    let here : IsPassed s.mark s.rest k.left.mark others = subst (λ (y : List ℕ). IsPassed s.mark s.rest k.left.mark y)
-    k.rest went in
-    let there : IsPassed s.mark s.rest (moved s.mark (t ++ spaces n)) others =
-    subst (λ (y : List ℕ). IsPassed s.mark y (moved s.mark (t ++ spaces n)) others) (sym text)
-    (moved_passes s.mark (t ++ spaces n) others
-    (both_in (λ c. not (c == carriage_return)) t (spaces n) clean (no_returns n))) in
-    let place : k.left.mark ≡ moved s.mark (t ++ spaces n) = laws.place s.mark s.rest (moved s.mark (t ++ spaces n))
-    others there k.left.mark here in
-    let h = header_splits scalar.digit chomping body (t ++ o) scalar.header in
-    let inner : t ++ o ≡ (h.0 ++ (10 ∷ k.front)) ++ others =
-    h.1 ∙ ap (λ (y : List ℕ). h.0 ++ (10 ∷ y)) k.taken ∙ sym (append_assoc h.0 (10 ∷ k.front) others) in
-    let line : t ++ spaces n ≡ h.0 ++ (10 ∷ k.front) = append_cancel_right (t ++ spaces n) (h.0 ++ (10 ∷ k.front))
-    others (sym text ∙ whole ∙ inner) in
-    let size = ap length (sym whole ∙ text) ∙ length-append (t ++ spaces n) others in
-    record {
-      n = n;
-      others = others;
-      behind = behind;
-      span = k.span;
-      left = k.left;
-      read = read;
-      rest = k.rest;
-      mark = place ∙ moved_append s.mark t (spaces n);
-      later = λ lined low. subst (λ (p : Marker). s.mark.line < p.line) (sym (place ∙ ap (moved s.mark) line))
-          (later_line s.mark h.0 k.front lined
-          (short s.mark.index (length (t ++ o)) (length others) (t ++ spaces n) (h.0 ++ (10 ∷ k.front)) size line
-          low));
-    }
-  where
-    short : (i l j : ℕ) (a b : List ℕ) → l ≡ length a + j → a ≡ b → i + l < 2 ^ 63 → i + length b < 2 ^ 63
-    short i l j a b e f h = subst (λ (y : List ℕ). i + length y < 2 ^ 63) f (omega (arith, e, h))
+    let u = chomping_splits chomping a b h in let v = indicator_splits n b d k in
+    in_parts mark a b d x u.0 v.0 u.1 v.1 (end_splits d x e)
 
 -- ## Where a block scalar ends
 
@@ -179,6 +116,8 @@ lines_end i o _ _ spelling.no_lines = record { front = []; is = refl; ends = inl
 lines_end i o _ _ (spelling.empty j ls t low r) = ended_behind_line (spaces j) t o (lines_end i o ls t r)
 lines_end i o _ _ (spelling.content c cs ls t h r) = content_line i c cs t o (lines_end i o ls t r)
 lines_end i o _ _ (spelling.last c cs h e) = ended_at_last_line (spaces i ++ (c ∷ cs)) o e
+lines_end i o _ _ (spelling.last_empty some e) = ended_at_last_line (spaces i) o e
+lines_end i o _ _ (spelling.left_of j less e) = ended_at_last_line (spaces j) o e
 
 body_end : (i : ℕ) (is_given : Bool) (o : List ℕ) (ls : List Line) (t : List ℕ) → spelling.IsBody i is_given o ls t
     → Ended t o
@@ -187,15 +126,123 @@ body_end i is_given o _ _ (spelling.leading j ls t low r) =
 body_end i is_given o _ _ (spelling.first c cs ls t some h r) = content_line i c cs t o (lines_end i o ls t r)
 body_end i is_given o _ _ (spelling.first_and_last c cs some h e) = ended_at_last_line (spaces i ++ (c ∷ cs)) o e
 
+empty_lines_end : (i : ℕ) (o : List ℕ) (ls : List Line) (t : List ℕ) → spelling.AreEmptyLines i o ls t → Ended t o
+empty_lines_end i o _ _ spelling.no_empty_lines = record { front = []; is = refl; ends = inl refl }
+empty_lines_end i o _ _ (spelling.empty_line j ls t low r) = ended_behind_line (spaces j) t o (empty_lines_end i o ls t r)
+empty_lines_end i o _ _ (spelling.empty_line_and_spaces j k low further e) =
+    ended_at_last_line (spaces j ++ (10 ∷ spaces k)) o e
+
+all_end : (indent i n : ℕ) (is_given : Bool) (o : List ℕ) (ls : List Line) (t : List ℕ)
+    → spelling.IsBody i is_given o ls t ⊎ spelling.IsEmptyBody indent i n o ls t → Ended t o
+all_end indent i n is_given o ls t (inl h) = body_end i is_given o ls t h
+all_end indent i n is_given o _ _ (inr (spelling.empty_lines ls t are cond)) = empty_lines_end i o ls t are
+all_end indent i n is_given o _ _ (inr (spelling.spaces_alone j some low e)) = ended_at_last_line (spaces j) o e
+
+-- where nothing is left, nothing stands behind
+none_left : (t o : List ℕ) → Ended t o → t ≡ [] → o ≡ []
+none_left t o p e = by_front p.front (sym p.is ∙ e)
+  where
+    by_front : (front : List ℕ) → front ++ o ≡ [] → o ≡ []
+    by_front [] f = f
+    by_front (c ∷ cs) f = absurd (cc)
+
+-- ## The reading
+
+-- From s a block scalar t was read, and o stands behind it, of which spaces may be passed.
+pub record BlockTaken (style : BlockStyle) (indent : ℕ) (value : List ℕ) (s : Cursor) (t o : List ℕ) : Type 0 where
+  pub n : ℕ
+  pub others : List ℕ
+  pub behind : o ≡ spaces n ++ others
+  pub span : Span
+  pub left : Cursor
+  pub read : block_scalar style indent s ≡ Ok (encode_utf8_all value, span, left)
+  pub rest : left.rest ≡ others
+  pub mark : left.mark ≡ moved (moved s.mark t) (spaces n)
+  pub later : IsLined s.mark → s.mark.index + length (t ++ o) < 2 ^ 63 → (s.mark.line < left.mark.line) ⊎ (o ≡ [])
+
+no_returns : (n : ℕ) → AreIn (λ c. not (c == carriage_return)) (spaces n)
+no_returns zero = tt
+no_returns (suc n) = (refl, no_returns n)
+
+some_text : (c : ℕ) (xs t : List ℕ) → t ≡ c ∷ xs → 0 < length t
+some_text c xs t e = subst (λ (y : List ℕ). 0 < length y) (sym e) (omega arith)
+
+pub block_taken : ReadsBlocks
+    → (style : BlockStyle) (value : List ℕ) (indent : ℕ) (s : Cursor) (first : ℕ) (more t o : List ℕ) → s.rest ≡ t ++ o
+    → t ≡ first ∷ more → is_break first ≡ false
+    → AreIn (λ c. not (c == carriage_return)) t → IsBlockScalarText style value indent t o
+    → BlockTaken style indent value s t o
+block_taken laws style value indent s first more t o whole begins no_break clean
+    (i, n, chomping, lines, body, others, scalar, behind_is, ends, is_value) =
+    let k = laws.reads style chomping indent i n lines s body others
+    (subst (λ (y : List ℕ). IsBlockScalar indent i n chomping lines y body others) (sym whole) scalar) in
+    let behind : o ≡ spaces n ++ others = sym behind_is ∙ scalar.ends.is in
+    let text : s.rest ≡ (t ++ spaces n) ++ others = whole ∙ ap (λ (y : List ℕ). t ++ y) behind
+    ∙ sym (append_assoc t (spaces n) others) in
+    let read : block_scalar style indent s ≡ Ok (encode_utf8_all value, k.span, k.left) =
+    k.read ∙ ap (λ (y : List ℕ). Ok (y, k.span, k.left)) (k.value ∙ ap encode_utf8_all (sym is_value)) in
+    let start : s.rest ≡ first ∷ (more ++ o) = whole ∙ ap (λ (y : List ℕ). y ++ o) begins in
+    let went = laws.passes style indent s k.left (encode_utf8_all value) k.span
+    (ap (λ (y : List ℕ). is_break (slice_index y 0)) start ∙ no_break) (some_text first (more ++ o) s.rest start)
+    read in
+    let here : IsPassed s.mark s.rest k.left.mark others = subst (λ (y : List ℕ). IsPassed s.mark s.rest k.left.mark y)
+    k.rest went in
+    let there : IsPassed s.mark s.rest (moved s.mark (t ++ spaces n)) others =
+    subst (λ (y : List ℕ). IsPassed s.mark y (moved s.mark (t ++ spaces n)) others) (sym text)
+    (moved_passes s.mark (t ++ spaces n) others
+    (both_in (λ c. not (c == carriage_return)) t (spaces n) clean (no_returns n))) in
+    let place : k.left.mark ≡ moved s.mark (t ++ spaces n) = laws.place s.mark s.rest (moved s.mark (t ++ spaces n))
+    others there k.left.mark here in
+    let size = ap length (sym whole ∙ text) ∙ length-append (t ++ spaces n) others in
+    record {
+      n = n;
+      others = others;
+      behind = behind;
+      span = k.span;
+      left = k.left;
+      read = read;
+      rest = k.rest;
+      mark = place ∙ moved_append s.mark t (spaces n);
+      later = by_header k place size (header_splits scalar.digit chomping body (t ++ o) scalar.header);
+    }
+  where
+    short : (i l j : ℕ) (a b : List ℕ) → l ≡ length a + j → a ≡ b → i + l < 2 ^ 63 → i + length b < 2 ^ 63
+    short i l j a b e f h = subst (λ (y : List ℕ). i + length y < 2 ^ 63) f (omega (arith, e, h))
+
+    by_header : (k : IsTaken style indent i n chomping lines s body others)
+        → k.left.mark ≡ moved s.mark (t ++ spaces n) → length (t ++ o) ≡ length (t ++ spaces n) + length others
+        → (body ≡ []) ⊎ ((w : List ℕ) × (t ++ o ≡ w ++ (line_feed ∷ body)))
+        → IsLined s.mark → s.mark.index + length (t ++ o) < 2 ^ 63 → (s.mark.line < k.left.mark.line) ⊎ (o ≡ [])
+    by_header k place size (inl none) lined low =
+        inr (sym behind_is ∙ none_left body scalar.behind
+        (all_end indent i n scalar.is_given scalar.behind lines body scalar.lines) none)
+    by_header k place size (inr (w, e)) lined low =
+        let text : t ++ o ≡ (t ++ spaces n) ++ others = ap (λ (y : List ℕ). t ++ y) (sym behind_is ∙ scalar.ends.is)
+        ∙ sym (append_assoc t (spaces n) others) in
+        let inner : t ++ o ≡ (w ++ (10 ∷ k.front)) ++ others =
+        e ∙ ap (λ (y : List ℕ). w ++ (10 ∷ y)) k.taken ∙ sym (append_assoc w (10 ∷ k.front) others) in
+        let line : t ++ spaces n ≡ w ++ (10 ∷ k.front) = append_cancel_right (t ++ spaces n) (w ++ (10 ∷ k.front))
+        others (sym text ∙ inner) in
+        inl (subst (λ (p : Marker). s.mark.line < p.line) (sym (place ∙ ap (moved s.mark) line))
+        (later_line s.mark w k.front lined
+        (short s.mark.index (length (t ++ o)) (length others) (t ++ spaces n) (w ++ (10 ∷ k.front)) size line low)))
+
 block_ends : (style : BlockStyle) (value : List ℕ) (indent : ℕ) (t o : List ℕ)
     → IsBlockScalarText style value indent t o → EndsWithLine t o
 block_ends style value indent t o (i, n, chomping, lines, body, others, scalar, behind_is, ends, is_value) =
-    let h = header_splits scalar.digit chomping body (t ++ o) scalar.header in
-    let p = subst (Ended body) behind_is (body_end i scalar.is_given scalar.behind lines body scalar.lines) in
-    let text : t ++ o ≡ (h.0 ++ (10 ∷ p.front)) ++ o = h.1 ∙ ap (λ (y : List ℕ). h.0 ++ (10 ∷ y)) p.is
-    ∙ sym (append_assoc h.0 (10 ∷ p.front) o) in
-    subst (λ (y : List ℕ). EndsWithLine y o) (sym (append_cancel_right t (h.0 ++ (10 ∷ p.front)) o text))
-    (line_then h.0 p.front o p.ends)
+    by_header (header_splits scalar.digit chomping body (t ++ o) scalar.header)
+  where
+    p : Ended body o
+    p = subst (Ended body) behind_is
+        (all_end indent i n scalar.is_given scalar.behind lines body scalar.lines)
+
+    by_header : (body ≡ []) ⊎ ((w : List ℕ) × (t ++ o ≡ w ++ (line_feed ∷ body))) → EndsWithLine t o
+    by_header (inl none) = inr (none_left body o p none)
+    by_header (inr (w, e)) =
+        let text : t ++ o ≡ (w ++ (10 ∷ p.front)) ++ o = e ∙ ap (λ (y : List ℕ). w ++ (10 ∷ y)) p.is
+        ∙ sym (append_assoc w (10 ∷ p.front) o) in
+        subst (λ (y : List ℕ). EndsWithLine y o) (sym (append_cancel_right t (w ++ (10 ∷ p.front)) o text))
+        (line_then w p.front o p.ends)
 
 -- behind a block scalar stands a line's start, or nothing
 pub scalar_ends : (style : Style) (value : List ℕ) (indent : ℕ) (t o : List ℕ) → IsStyled style value indent t o
@@ -230,9 +277,9 @@ sign_ink DoubleQuoted value indent t o h = absurd h
 
 -- a block scalar begins with its properties or with its header
 pub block_ink : (p : Properties) (style : Style) (value : List ℕ) (indent : ℕ) (front t o : List ℕ)
-    → IsScalarFront p front → IsStyled style value indent t o → BeginsInk (front ++ t)
+    → IsScalarFront p indent front → IsStyled style value indent t o → BeginsInk (front ++ t)
 block_ink p style value indent front t o (inl (none, e)) h =
     subst (λ (y : List ℕ). BeginsInk (y ++ t)) (sym e) (sign_ink style value indent t o h)
 block_ink p style value indent front t o (inr (properties, between, is, spaced, e)) h =
     subst (λ (y : List ℕ). BeginsInk (y ++ t)) (sym e)
-    (further_ink (properties ++ between) t (further_ink properties between (properties_ink p properties is)))
+    (further_ink (properties ++ between) t (further_ink properties between (properties_ink p indent properties is)))

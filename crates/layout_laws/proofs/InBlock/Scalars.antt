@@ -1,17 +1,20 @@
 -- Block scalars at block level, with what stands before them (YAML 1.2.2, 8.1).
-use Rattle.std.proofs.Common.{◌≡◌, ℕ, zero, suc, ◌+◌, ◌^◌, ◌<◌, ◌≤◌, true, false, List, [], ◌∷◌, ◌++◌, refl, sym, ap, ◌∙◌, arith, subst, append_assoc, append-nil, IsTrue, ◌⊎◌, inl, inr}
+use Rattle.std.proofs.Common.{◌≡◌, ◌≢◌, ℕ, ◌+◌, ◌^◌, ◌<◌, ◌≤◌, true, false, List, [], ◌∷◌, ◌++◌, length, refl, sym, ap, ◌∙◌, arith, subst, append_assoc, append-nil, IsTrue, ◌⊎◌, inl, inr}
 use Rattle.std.specs.Prelude.{Option, Some, None}
+use Rattle.std.proofs.lemmas.Bool.Decides.{nat_tests}
+use Rattle.saphyr_input.specs.Classes.{is_blank, is_break}
+use Rattle.saphyr_scalar.specs.Spelling.Tag.{AreIn}
 use Rattle.saphyr_scalar.specs.declared.scalar.position.Marker.{Marker}
-use Rattle.saphyr_scalar.specs.Reading.BlockLines.{spaces}
-use Rattle.saphyr_scalar.proofs.NoBreaks.{NoBreaks, no_breaks_both}
-use Rattle.scalar_laws.specs.Spelling.Spaces.{AreSpaces}
+use Rattle.saphyr_scalar.proofs.NoBreaks.{NoBreaks}
+use Rattle.scalar_laws.specs.Spelling.Spaces.{IsNextLine, IsGap}
 use Rattle.saphyr_scanner.specs.Steps.Level.{Candidate}
 use Rattle.saphyr_scanner.specs.Grammar.Forest.{Style, Tag, Properties, Scalar}
 use Rattle.saphyr_scanner.specs.Steps.State.{State}
 use Rattle.saphyr_scanner.specs.Grammar.Tokens.{Kind, scalar_token}
 use Rattle.saphyr_scanner.specs.Grammar.TokenGrammar as grammar
 use Rattle.saphyr_scanner.proofs.LineTexts.{name_no_break, tag_no_break}
-use Rattle.layout_laws.specs.Grammar.FlowNodes.{AreProperties, IsProperties}
+use Rattle.layout_laws.specs.Grammar.FlowNodes.{IsAnchor, AreProperties, IsProperties}
+use Rattle.layout_laws.specs.Grammar.TagSpelling.{IsTag}
 use Rattle.layout_laws.specs.Grammar.BlockNodes as layout
 use Rattle.layout_laws.specs.Grammar.BlockNodes.{Position as Position, indent_at, is_start, IsGapAt, IsStyled, IsScalarFront, IsScalarInBlock}
 use Rattle.layout_laws.proofs.Flow.States.{moved, past}
@@ -19,11 +22,12 @@ use Rattle.layout_laws.proofs.Flow.Inks.{BeginsInk}
 use Rattle.layout_laws.proofs.Flow.Names.{unbroken_along}
 use Rattle.layout_laws.proofs.Flow.Places.{moved_append}
 use Rattle.layout_laws.proofs.Flow.Tags.{tag_read}
+use Rattle.layout_laws.proofs.Flow.WordGaps.{prefix_reaches}
 use Rattle.layout_laws.proofs.InBlock.States.{Frame, IsPlaced, At, Before}
-use Rattle.layout_laws.proofs.InBlock.Skips.{gap_skipped}
+use Rattle.layout_laws.proofs.InBlock.Skips.{gap_passes}
 use Rattle.layout_laws.proofs.InBlock.Lines.{FitsOnLines, fits_front, fits_so}
 use Rattle.layout_laws.proofs.InBlock.Statements.{context_at, EndsNodeAt, Arrived, NodeRead, ReadsAt}
-use Rattle.layout_laws.proofs.InBlock.Texts.{spaces_moved, indentation_col, reaches}
+use Rattle.layout_laws.proofs.InBlock.Texts.{passes_to}
 use Rattle.layout_laws.proofs.InBlock.BehindIndicators.{further_ink}
 use Rattle.layout_laws.proofs.InBlock.ScalarTexts.{ReadsBlocks, sign_ink}
 use Rattle.layout_laws.proofs.InBlock.HeaderScalars.{IsOnLineOrBefore, reads_behind}
@@ -44,24 +48,33 @@ start_reaches (layout.BehindKey c) n h = absurd (let e : false ≡ true = h in c
 start_reaches layout.BehindMarker n h = absurd (let e : false ≡ true = h in cc)
 start_reaches layout.AtStart n h = omega arith
 
+-- nor behind the next line's indentation
+next_line_reaches : (indent : ℕ) (m : Marker) (w : List ℕ) → IsNextLine indent w → indent ≤ (moved m w).col
+next_line_reaches indent m w (end, filler, front, end_is, filler_is, prefix, e) =
+    let there : moved m w ≡ moved (moved (moved m end) filler) front = ap (moved m) e
+    ∙ moved_append m end (filler ++ front) ∙ moved_append (moved m end) filler front in
+    subst (λ (k : Marker). indent ≤ k.col) (sym there) (prefix_reaches indent (moved (moved m end) filler) front prefix)
+
+unbroken_blanks : (w : List ℕ) → AreIn is_blank w → NoBreaks w
+unbroken_blanks [] h = tt
+unbroken_blanks (c ∷ cs) h = (unbroken c h.0, unbroken_blanks cs h.1)
+  where
+    unbroken : (c : ℕ) → IsTrue (is_blank c) → is_break c ≡ false
+    unbroken c h = grind (arith, nat_tests)
+
 -- behind the gap before a node stands nothing that is left of it
 pub gap_reaches : (place : Position) (m : Marker) (gap : List ℕ) → IsGapAt place gap → IsPlaced place m
     → indent_at place ≤ (moved m gap).col
-gap_reaches place m gap (inl (inl (n, some, e))) placed =
-    let there : (moved m gap).col ≡ m.col + n = ap (λ (x : List ℕ). (moved m x).col) e
-    ∙ ap (λ (k : Marker). k.col) (spaces_moved m n) in
-    let reach = spaces_reach place m n some placed in
+gap_reaches place m gap (inl (some, are)) placed =
+    let there = ap (λ (k : Marker). k.col) (unbroken_along m gap (unbroken_blanks gap are)) in
+    let reach = spaces_reach place m (length gap) (some_length gap some) placed in
     omega (arith, there, reach)
-gap_reaches place m gap (inl (inr (end, filler, front, (rest, rest_is, end_is), filler_is, (n, low, front_is), e)))
-    placed =
-    let line : (moved m end).col ≡ 0 = ap (λ (x : List ℕ). (moved m x).col) end_is
-    ∙ ap (λ (k : Marker). k.col) (moved_append m rest (10 ∷ [])) in
-    let there : (moved m gap).col ≡ n = ap (λ (x : List ℕ). (moved m x).col) e
-    ∙ ap (λ (k : Marker). k.col) (moved_append m end (filler ++ front))
-    ∙ indentation_col (moved m end) n (filler ++ front) (filler, filler_is, ap (λ (x : List ℕ). filler ++ x) front_is)
-    line in
-    omega (arith, there, low)
-gap_reaches place m gap (inr (first, e)) placed = start_reaches place (moved m gap).col first
+  where
+    some_length : (w : List ℕ) → w ≢ [] → 1 ≤ length w
+    some_length [] some = absurd (some refl)
+    some_length (c ∷ cs) some = omega arith
+gap_reaches place m gap (inr (inl h)) placed = next_line_reaches (indent_at place) m gap h
+gap_reaches place m gap (inr (inr (first, e))) placed = start_reaches place (moved m gap).col first
 
 pub none_late : (k : Option Candidate) (m : Marker) → k ≡ None → IsOnLineOrBefore k m
 none_late k m e = subst (λ (x : Option Candidate). IsOnLineOrBefore x m) (sym e) tt
@@ -73,14 +86,14 @@ pub lands_behind : {limit : ℕ} {start : State} {ts : List Kind} {place : Posit
 lands_behind {limit} {start} {ts} {place} f m gap y h ink b =
     let there : past 0 m (gap ++ y) ≡ (moved m gap, y) =
     ap (λ (x : List ℕ). past 0 m (gap ++ x)) ink.is
-    ∙ reaches m gap ink.first ink.others (gap_skipped place gap h) ink.ink
+    ∙ passes_to m gap ink.first ink.others (gap_passes place gap h) ink.ink
     ∙ ap (λ (x : List ℕ). (moved m gap, x)) (sym ink.is) in
     let P : Marker × List ℕ → Type 0 = λ q. (v : At limit start f q.0 q.1 ts) × (v.key ≡ None) in
     subst P there (b.at, b.none)
 
--- ## Properties on the header's line
+-- ## Properties before the header
 
--- Properties, and spaces behind them, were read up to a token on their line.
+-- Properties, and the gap behind them, were read up to a token on their line or a later one.
 pub record HeadRead (limit : ℕ) (start : State) (p : Properties) (f : Frame) (m : Marker) (y : List ℕ)
     (ts : List Kind) : Type 0 where
   pub tokens : List Kind
@@ -88,49 +101,60 @@ pub record HeadRead (limit : ℕ) (start : State) (p : Properties) (f : Frame) (
   pub at : At limit start f m y (ts ++ tokens)
   pub late : IsOnLineOrBefore at.key m
 
--- `t` is the properties, `gap` stands before them, and spaces behind.
+-- `t` is the properties, `gap` stands before them, and `between` behind.
 abbrev pub ReadsHead : ℕ → Type 0
 ReadsHead limit =
     (p : Properties) (place : Position) (f : Frame) → f.indent ≡ indent_at place
-    → (m : Marker) (gap t between y : List ℕ) → IsGapAt place gap → IsProperties p t → AreSpaces 1 between
+    → (m : Marker) (gap t between y : List ℕ) → IsGapAt place gap → IsProperties p (indent_at place) t
+    → IsGap (indent_at place) between
     → BeginsInk y
     → FitsOnLines limit m (gap ++ (t ++ between)) y → (start : State) (ts : List Kind)
     → Before limit start place f m (gap ++ (t ++ (between ++ y))) ts
     → HeadRead limit start p f (moved m (gap ++ (t ++ between))) y ts
 
-pub unbroken_properties : (anchor : Option (List ℕ)) (tag : Option Tag) (t : List ℕ) → AreProperties anchor tag t
-    → NoBreaks t
-unbroken_properties None None t h = absurd h
-unbroken_properties (Some name) None t (h, e) = subst NoBreaks (sym e) (refl, name_no_break name h)
-unbroken_properties None (Some tag) t h = let r = tag_read tag t h in tag_no_break t r.handle r.suffix r.is
-unbroken_properties (Some name) (Some tag) t (anchor, between, written, (h, e), k, (n, some, spaced), order) =
-    let first : NoBreaks anchor = subst NoBreaks (sym e) (refl, name_no_break name h) in
-    let r = tag_read tag written k in
-    let second = tag_no_break written r.handle r.suffix r.is in
-    let middle : NoBreaks between = subst NoBreaks (sym spaced) (unbroken_spaces n) in
-    by_order first middle second order
+pub unbroken_anchor : (name t : List ℕ) → IsAnchor name t → NoBreaks t
+unbroken_anchor name t (h, e) = subst NoBreaks (sym e) (refl, name_no_break name h)
+
+pub unbroken_tag : (tag : Tag) (t : List ℕ) → IsTag tag t → NoBreaks t
+unbroken_tag tag t h = let r = tag_read tag t h in tag_no_break t r.handle r.suffix r.is
+
+-- a text on one line, behind which nothing is left of it
+pub unbroken_reaches : (least : ℕ) (m : Marker) (t : List ℕ) → NoBreaks t → least ≤ m.col → least ≤ (moved m t).col
+unbroken_reaches least m t h low =
+    let line = ap (λ (j : Marker). j.col) (unbroken_along m t h) in omega (arith, line, low)
+
+-- the gap behind a text
+pub text_gap_reaches : (least : ℕ) (m : Marker) (w : List ℕ) → IsGap least w → least ≤ m.col → least ≤ (moved m w).col
+text_gap_reaches least m w (inl (some, are)) low =
+    let there = ap (λ (j : Marker). j.col) (unbroken_along m w (unbroken_blanks w are)) in omega (arith, there, low)
+text_gap_reaches least m w (inr h) low = next_line_reaches least m w h
+
+properties_reach : (least : ℕ) (anchor : Option (List ℕ)) (tag : Option Tag) (m : Marker) (t : List ℕ)
+    → AreProperties anchor tag least t → least ≤ m.col → least ≤ (moved m t).col
+properties_reach least None None m t h low = absurd h
+properties_reach least (Some name) None m t h low = unbroken_reaches least m t (unbroken_anchor name t h) low
+properties_reach least None (Some tag) m t h low = unbroken_reaches least m t (unbroken_tag tag t h) low
+properties_reach least (Some name) (Some tag) m t (a, gap, w, h, k, gapped, order) low = by_order order
   where
-    unbroken_spaces : (n : ℕ) → NoBreaks (spaces n)
-    unbroken_spaces zero = tt
-    unbroken_spaces (suc n) = (refl, unbroken_spaces n)
+    both : (a b : List ℕ) → NoBreaks a → NoBreaks b → t ≡ a ++ (gap ++ b) → least ≤ (moved m t).col
+    both a b whole other e =
+        subst (λ (j : Marker). least ≤ j.col)
+        (sym (ap (moved m) e ∙ moved_append m a (gap ++ b) ∙ moved_append (moved m a) gap b))
+        (unbroken_reaches least (moved (moved m a) gap) b other
+        (text_gap_reaches least (moved m a) gap gapped (unbroken_reaches least m a whole low)))
 
-    by_order : NoBreaks anchor → NoBreaks between → NoBreaks written
-        → (t ≡ anchor ++ (between ++ written)) ⊎ (t ≡ written ++ (between ++ anchor)) → NoBreaks t
-    by_order a b w (inl is) =
-        subst NoBreaks (sym is) (no_breaks_both anchor (between ++ written) a (no_breaks_both between written b w))
-    by_order a b w (inr is) =
-        subst NoBreaks (sym is) (no_breaks_both written (between ++ anchor) w (no_breaks_both between anchor b a))
+    by_order : (t ≡ a ++ (gap ++ w)) ⊎ (t ≡ w ++ (gap ++ a)) → least ≤ (moved m t).col
+    by_order (inl e) = both a w (unbroken_anchor name a h) (unbroken_tag tag w k) e
+    by_order (inr e) = both w a (unbroken_tag tag w k) (unbroken_anchor name a h) e
 
--- properties and spaces stand on one line
-head_reaches : (p : Properties) (least : ℕ) (m : Marker) (gap t between : List ℕ) → IsProperties p t
-    → AreSpaces 1 between → least ≤ (moved m gap).col → least ≤ (moved m (gap ++ (t ++ between))).col
-head_reaches p least m gap t between h (n, some, e) low =
-    let k = moved m gap in
-    let line = ap (λ (j : Marker). j.col) (unbroken_along k t (unbroken_properties p.anchor p.tag t h)) in
-    let whole : moved m (gap ++ (t ++ between)) ≡ moved (moved k t) (spaces n) =
-    moved_append m gap (t ++ between) ∙ moved_append k t between ∙ ap (moved (moved k t)) e in
-    let there = ap (λ (j : Marker). j.col) (whole ∙ spaces_moved (moved k t) n) in
-    omega (arith, low, line, there)
+-- what stands behind properties isn't left of what they reach
+head_reaches : (p : Properties) (least : ℕ) (m : Marker) (gap t between : List ℕ) → IsProperties p least t
+    → IsGap least between → least ≤ (moved m gap).col → least ≤ (moved m (gap ++ (t ++ between))).col
+head_reaches p least m gap t between h gapped low =
+    subst (λ (j : Marker). least ≤ j.col)
+    (sym (moved_append m gap (t ++ between) ∙ moved_append (moved m gap) t between))
+    (text_gap_reaches least (moved (moved m gap) t) between gapped
+    (properties_reach least p.anchor p.tag (moved m gap) t h low))
 
 -- ## The leaf
 
@@ -175,7 +199,8 @@ reads_block_scalars laws {limit} short heads p style value place f same m t o
               (append_assoc ts us (scalar_token style value ∷ [])) r);
         }
 
-    by_front : IsScalarFront p front → NodeRead limit start (Scalar p style value) place f (moved m t) o ts
+    by_front : IsScalarFront p (indent_at place) front
+        → NodeRead limit start (Scalar p style value) place f (moved m t) o ts
     by_front (inl (none, empty)) =
         let whole : t ≡ gap ++ text = e ∙ ap (λ (x : List ℕ). gap ++ (x ++ text)) empty in
         let b : Before limit start place f m (gap ++ (text ++ o)) ts =
@@ -198,4 +223,7 @@ reads_block_scalars laws {limit} short heads p style value place f same m t o
         subst (λ (x : List ℕ). Before limit start place f m x ts) inner before in
         let r = heads p place f same m gap properties between (text ++ o) gap_is h spaced ink
         (fits_front m w text o (fits_so m t (w ++ text) o whole fits)) start ts b in
-        behind_head w r.tokens whole r.are (head_reaches p f.indent m gap properties between h spaced low) r.at r.late
+        let far = subst (λ (i : ℕ). i ≤ (moved m w).col) (sym same)
+        (head_reaches p (indent_at place) m gap properties between h spaced
+        (subst (λ (i : ℕ). i ≤ (moved m gap).col) same low)) in
+        behind_head w r.tokens whole r.are far r.at r.late

@@ -1,5 +1,5 @@
 -- Spaces, comments and breaks between two tokens at block level.
-use Rattle.std.proofs.Common.{◌≡◌, ℕ, zero, suc, Bool, true, false, List, [], ◌∷◌, ◌++◌, slice_index, refl, sym, ap, ◌∙◌, arith, subst, append_assoc, append-nil, ◌⊎◌, inl, inr}
+use Rattle.std.proofs.Common.{◌≡◌, ℕ, zero, suc, ◌+◌, ◌≤◌, Bool, true, false, List, [], ◌∷◌, ◌++◌, slice_index, refl, sym, ap, ◌∙◌, arith, subst, append_assoc, append-nil, ◌⊎◌, inl, inr}
 use Rattle.std.specs.Prelude.{◌||◌, ◌&&◌, ◌==◌, if◌then◌else◌}
 use Rattle.std.proofs.lemmas.Bool.Decides.{nat_tests}
 use Rattle.saphyr_input.specs.Classes.{is_blank, is_break, is_yaml_non_break, carriage_return, line_feed}
@@ -7,18 +7,22 @@ use Rattle.saphyr_scalar.specs.declared.scalar.position.Marker.{Marker}
 use Rattle.saphyr_scalar.specs.Reading.BlockLines.{spaces}
 use Rattle.saphyr_scalar.specs.Views.Cursor.{along, next_line}
 use Rattle.saphyr_scalar.specs.Spelling.Tag.{AreIn}
-use Rattle.scalar_laws.specs.Spelling.Spaces.{AreEach, AreSpaces, joined_pieces, IsComment, IsLineRest, IsLineEnd, IsFillerLine, IsFiller}
+use Rattle.scalar_laws.specs.Spelling.Spaces.{AreEach, AreSpaces, joined_pieces, IsComment, IsLineRest, IsLineEnd, IsFillerLine, IsFiller, IsLinePrefix, IsNextLine, IsGap}
+use Rattle.scalar_laws.proofs.Beginnings.{both_in}
 use Rattle.saphyr_scanner.specs.Steps.Gap as gap
 use Rattle.saphyr_scanner.specs.Steps.Gap.{is_tab_indentation}
 use Rattle.layout_laws.specs.Grammar.BlockNodes.{Position, indent_at, IsGapAt}
 use Rattle.layout_laws.proofs.Flow.States.{moved, past, past_comment}
 use Rattle.layout_laws.proofs.Flow.Places.{moved_append}
-use Rattle.layout_laws.proofs.Flow.Fillers.{blanks_past, front_past, behind_is}
+use Rattle.layout_laws.proofs.Flow.Gaps.{right_tab as no_left_tab}
+use Rattle.layout_laws.proofs.Flow.Fillers.{right_tab, blanks_past, front_past, behind_is, spaces_are_blank}
 use Rattle.layout_laws.proofs.InBlock.Gaps.{no_left}
 use Rattle.layout_laws.proofs.InBlock.States.{tabbed, tabbed_comment, crosses, crosses_comment}
 use Rattle.std.proofs.lemmas.Bool.{or_parts}
 use Rattle.saphyr_input.specs.Indicators.{number_sign}
 use Rattle.saphyr_input.proofs.Basics.Characters.{ink_no_tab}
+use Rattle.saphyr_input.proofs.Basics.Numbers.{le_next}
+use Rattle.saphyr_input.proofs.Basics.Booleans.{and_false}
 
 -- ## The text between two tokens
 
@@ -154,6 +158,14 @@ line_end_crosses t y (rest, (blanks, c, are, k, is_rest), is) =
 abbrev pub IsClean : List ℕ → Type 0
 IsClean y = (least : ℕ) (m : Marker) (blank : Bool) → tabbed least m blank false y ≡ false
 
+-- None stands left of these columns before the next token.
+abbrev pub IsCleanIn : ℕ → List ℕ → Type 0
+IsCleanIn indent y = (least : ℕ) → least ≤ indent → (m : Marker) (blank : Bool) → tabbed least m blank false y ≡ false
+
+-- The same behind a token on its line, where tabs are no indentation.
+abbrev pub IsCleanBehind : ℕ → List ℕ → Type 0
+IsCleanBehind indent y = (least : ℕ) → least ≤ indent → (m : Marker) → tabbed least m false false y ≡ false
+
 words_clean : (least : ℕ) (words y : List ℕ) → AreIn is_yaml_non_break words
     → ((m : Marker) → tabbed least m true false y ≡ false) → (m : Marker) (blank tab : Bool)
     → tabbed_comment least m blank tab (words ++ (line_feed ∷ y)) ≡ false
@@ -177,13 +189,71 @@ rest_clean least [] comment y are c k m blank tab = comment_line_clean least com
 rest_clean least (b ∷ bs) comment y are c k m blank tab =
     rw are.0 (rest_clean least bs comment y are.1 c k (along m 1) blank (is_tab_indentation least m blank b || tab))
 
-pub skipped_clean : (w y : List ℕ) → IsSkipped w → IsClean y → IsClean (w ++ y)
-skipped_clean _ y nothing k least m blank = k least m blank
-skipped_clean _ y (one_space w h) k least m blank = skipped_clean w y h k least (along m 1) blank
-skipped_clean _ y (one_break w h) k least m blank = skipped_clean w y h k least (next_line m 1) true
-skipped_clean _ y (one_rest blanks comment w are c h) k least m blank =
+pub skipped_untabbed : (least : ℕ) (w y : List ℕ) → IsSkipped w
+    → ((m : Marker) (blank : Bool) → tabbed least m blank false y ≡ false)
+    → (m : Marker) (blank : Bool) → tabbed least m blank false (w ++ y) ≡ false
+skipped_untabbed least _ y nothing k m blank = k m blank
+skipped_untabbed least _ y (one_space w h) k m blank = skipped_untabbed least w y h k (along m 1) blank
+skipped_untabbed least _ y (one_break w h) k m blank = skipped_untabbed least w y h k (next_line m 1) true
+skipped_untabbed least _ y (one_rest blanks comment w are c h) k m blank =
     ap (tabbed least m blank false) (rest_text blanks comment w y)
-    ∙ rest_clean least blanks comment (w ++ y) are c (λ n. skipped_clean w y h k least n true) m blank false
+    ∙ rest_clean least blanks comment (w ++ y) are c (λ n. skipped_untabbed least w y h k n true) m blank false
+
+pub skipped_clean : (w y : List ℕ) → IsSkipped w → IsClean y → IsClean (w ++ y)
+skipped_clean w y h k least = skipped_untabbed least w y h (k least)
+
+-- behind what is no blank, tabs are no matter
+pub blanks_untabbed : (least : ℕ) (w y : List ℕ) → AreIn is_blank w → IsClean y → (m : Marker)
+    → tabbed least m false false (w ++ y) ≡ false
+blanks_untabbed least [] y are k m = k least m false
+blanks_untabbed least (b ∷ bs) y are k m =
+    rw (are.0, and_false (b == 9)) (blanks_untabbed least bs y are.1 k (along m 1))
+
+-- right of a column they are none
+pub right_untabbed : (least column : ℕ) → least ≤ column → (w y : List ℕ) → AreIn is_blank w → IsClean y
+    → (m : Marker) (blank : Bool) → column ≤ m.col → tabbed least m blank false (w ++ y) ≡ false
+right_untabbed least column under [] y are k m blank right = k least m blank
+right_untabbed least column under (x ∷ xs) y are k m blank right =
+    rw are.0
+    (ap (λ (t : Bool). tabbed least (along m 1) blank t (xs ++ y))
+    (no_left_tab column least m blank x (right_tab column m x right) under)
+    ∙ right_untabbed least column under xs y are.1 k (along m 1) blank (le_next column m.col right))
+
+spaces_untabbed : (least n : ℕ) (w y : List ℕ) → AreIn is_blank w → IsClean y → (m : Marker) (blank : Bool)
+    → least ≤ m.col + n → tabbed least m blank false (spaces n ++ (w ++ y)) ≡ false
+spaces_untabbed least zero w y are k m blank far =
+    right_untabbed least least (omega arith) w y are k m blank (omega (arith, far))
+spaces_untabbed least (suc n) w y are k m blank far =
+    spaces_untabbed least n w y are k (along m 1) blank (shift least m.col n far)
+  where
+    shift : (i c n : ℕ) → i ≤ c + suc n → i ≤ c + 1 + n
+    shift i c n h = omega (arith, h)
+
+-- in front of a line's content the tabs stand behind its indentation
+prefix_clean : (indent : ℕ) (w y : List ℕ) → IsLinePrefix indent w → IsClean y → IsCleanIn indent (w ++ y)
+prefix_clean indent w y (front, blanks, (n, reach, spaced), are, is) k least low m blank =
+    let text : w ++ y ≡ spaces n ++ (blanks ++ y) = ap (λ (x : List ℕ). x ++ y)
+    (is ∙ ap (λ (x : List ℕ). x ++ blanks) spaced) ∙ append_assoc (spaces n) blanks y in
+    ap (tabbed least m blank false) text
+    ∙ spaces_untabbed least n blanks y are k m blank (further m.col least indent n low reach)
+  where
+    further : (c i j n : ℕ) → i ≤ j → j ≤ n → i ≤ c + n
+    further c i j n h k = omega (arith, h, k)
+
+pub lines_clean : (indent : ℕ) (filler front y : List ℕ) → IsFiller filler → IsLinePrefix indent front → IsClean y
+    → IsCleanIn indent ((filler ++ front) ++ y)
+lines_clean indent filler front y filler_is prefix k least low m blank =
+    ap (tabbed least m blank false) (append_assoc filler front y)
+    ∙ skipped_untabbed least filler (front ++ y) (filler_skipped filler filler_is)
+    (prefix_clean indent front y prefix k least low) m blank
+
+-- no tab of a gap is indentation
+pub gap_clean : (indent : ℕ) (w y : List ℕ) → IsGap indent w → IsClean y → IsCleanBehind indent (w ++ y)
+gap_clean indent w y (inl (some, are)) k least low m = blanks_untabbed least w y are k m
+gap_clean indent w y (inr (end, filler, front, end_is, filler_is, prefix, e)) k least low m =
+    ap (tabbed least m false false) (ap (λ (x : List ℕ). x ++ y) e ∙ append_assoc end (filler ++ front) y)
+    ∙ skipped_untabbed least end ((filler ++ front) ++ y) (line_end_skipped end end_is)
+    (lines_clean indent filler front y filler_is prefix k least low) m false
 
 -- Whether a tab stands among the blanks before the next token.
 abbrev mutual
@@ -381,11 +451,38 @@ spaces_reach m blank c t (inr e) clean =
           ≡ gap.spaces_end (past 0 m (x ∷ t)).0 p.still_blank true (past 0 m (x ∷ t)).1) (sym e) (p.is ∙ last),
     )
 
--- what parts a node from what stands before it
-pub gap_skipped : (place : Position) (gap : List ℕ) → IsGapAt place gap → IsSkipped gap
-gap_skipped place gap (inl (inl h)) = are_spaces_skipped 1 gap h
-gap_skipped place gap (inl (inr (end, filler, front, end_is, filler_is, front_is, e))) =
-    subst IsSkipped (sym e) (skipped_append end (filler ++ front) (line_end_skipped end end_is)
-    (skipped_append filler front (filler_skipped filler filler_is)
-    (are_spaces_skipped (indent_at place) front front_is)))
-gap_skipped place gap (inr (first, e)) = subst IsSkipped (sym e) nothing
+-- ## The text before a token, tabs among it
+
+abbrev pub Passes : List ℕ → Type 0
+Passes w = (m : Marker) (y : List ℕ) → past 0 m (w ++ y) ≡ past 0 (moved m w) y
+
+pub skipped_passes : (w : List ℕ) → IsSkipped w → Passes w
+skipped_passes w h m y = skipped_past m w y h
+
+pub both_pass : (a b : List ℕ) → Passes a → Passes b → Passes (a ++ b)
+both_pass a b h k m y =
+    ap (past 0 m) (append_assoc a b y) ∙ h m (b ++ y) ∙ k (moved m a) y
+    ∙ ap (λ (n : Marker). past 0 n y) (sym (moved_append m a b))
+
+pub blanks_pass : (w : List ℕ) → AreIn is_blank w → Passes w
+blanks_pass w are m y = (blanks_past 0 w are m (omega arith)).is y
+
+prefix_blank : (indent : ℕ) (w : List ℕ) → IsLinePrefix indent w → AreIn is_blank w
+prefix_blank indent w (front, blanks, (n, low, spaced), are, is) =
+    subst (AreIn is_blank) (sym (is ∙ ap (λ (x : List ℕ). x ++ blanks) spaced))
+    (both_in is_blank (spaces n) blanks (spaces_are_blank n) are)
+
+next_line_passes : (indent : ℕ) (w : List ℕ) → IsNextLine indent w → Passes w
+next_line_passes indent w (end, filler, front, end_is, filler_is, prefix, e) =
+    subst Passes (sym e) (both_pass end (filler ++ front) (skipped_passes end (line_end_skipped end end_is))
+    (both_pass filler front (skipped_passes filler (filler_skipped filler filler_is))
+    (blanks_pass front (prefix_blank indent front prefix))))
+
+pub text_gap_passes : (indent : ℕ) (gap : List ℕ) → IsGap indent gap → Passes gap
+text_gap_passes indent gap (inl (some, are)) = blanks_pass gap are
+text_gap_passes indent gap (inr h) = next_line_passes indent gap h
+
+pub gap_passes : (place : Position) (gap : List ℕ) → IsGapAt place gap → Passes gap
+gap_passes place gap (inl (some, are)) = blanks_pass gap are
+gap_passes place gap (inr (inl h)) = next_line_passes (indent_at place) gap h
+gap_passes place gap (inr (inr (first, e))) = subst Passes (sym e) (λ m y. refl)

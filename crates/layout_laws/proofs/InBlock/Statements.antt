@@ -17,12 +17,14 @@ use Rattle.saphyr_scanner.specs.Grammar.Forest.{Style, Properties, Node, Scalar,
 use Rattle.saphyr_scanner.specs.Limits.{most_open}
 use Rattle.saphyr_scanner.proofs.Queues.{place_kinds}
 use Rattle.layout_laws.specs.Grammar.FlowNodes.{IsFlowNode, IsOnLine, IsPlainKeyNode, IsKeyText, IsBeforeColon, IsProperties}
-use Rattle.layout_laws.specs.Grammar.BlockNodes.{Position, BehindMark, BehindKey, is_start, indent_at, AreSpacesAt, IsFlowInBlock, IsStyled, IsScalarFront, IsScalarInBlock, BehindDash, BehindMarker, AtStart}
+use Rattle.layout_laws.specs.Grammar.BlockNodes.{Position, BehindMark, BehindKey, is_start, indent_at, IsGapAt, IsFlowInBlock, IsStyled, IsScalarFront, IsScalarInBlock, BehindDash, BehindMarker, AtStart, is_value_ahead}
 use Rattle.layout_laws.proofs.Flow.States.{moved, past}
 use Rattle.layout_laws.proofs.Flow.Inks.{BeginsInk}
 use Rattle.layout_laws.proofs.InBlock.Lines.{FitsOnLines}
 use Rattle.layout_laws.proofs.InBlock.States.{Frame, Moment, core_of, state_of, IsUntabbed, EndsDocument, IsLeftOf, GoesOnAs, At, Before}
 use Rattle.layout_laws.proofs.InBlock.Skips.{IsClean}
+use Rattle.layout_laws.proofs.InFlow.KeyScalars.{Blanks}
+use Rattle.layout_laws.proofs.Flow.NoDashes.{NoDash}
 
 -- in which part of the token grammar a node at a place stands
 abbrev pub context_at : Position → grammar.Context
@@ -104,12 +106,12 @@ pub record KeyRead (limit : ℕ) (start : State) (node : Node) (f : Frame) (k m 
 -- the same of each key
 abbrev pub ReadsKey : ℕ → Node → Type 0
 ReadsKey limit node =
-    (f : Frame) (m : Marker) (t o : List ℕ) (n : ℕ) → f.indent ≤ m.col + 1
-    → IsKeyText (IsFlowNode most_open node false (suc m.col)) node false (suc m.col) t (spaces n) → IsOnLine t
-    → IsBeforeColon node (spaces n) → length (t ++ spaces n) ≤ 1024
-    → is_blank_or_breakz (slice_index o 0) ≡ true → FitsOnLines limit m (t ++ spaces n) (58 ∷ o)
-    → (start : State) (ts : List Kind) → (v : At limit start f m (t ++ (spaces n ++ (58 ∷ o))) ts) → v.allowed ≡ true
-    → KeyRead limit start node f m (moved m (t ++ spaces n)) o ts
+    (f : Frame) (m : Marker) (t o : List ℕ) (n : Blanks) → f.indent ≤ m.col + 1
+    → IsKeyText (IsFlowNode most_open node false (suc m.col)) node false (suc m.col) t n.text → IsOnLine t
+    → IsBeforeColon node n.text → length (t ++ n.text) ≤ 1024
+    → is_blank_or_breakz (slice_index o 0) ≡ true → FitsOnLines limit m (t ++ n.text) (58 ∷ o)
+    → (start : State) (ts : List Kind) → (v : At limit start f m (t ++ (n.text ++ (58 ∷ o))) ts) → v.allowed ≡ true
+    → KeyRead limit start node f m (moved m (t ++ n.text)) o ts
 
 -- Properties before a block collection on the next lines were read, up to its first token at m.
 pub record PropertiesRead (limit : ℕ) (start : State) (p : Properties) (f : Frame) (m : Marker) (y : List ℕ)
@@ -124,11 +126,11 @@ pub record PropertiesRead (limit : ℕ) (start : State) (p : Properties) (f : Fr
 abbrev pub IsNextLineText : List ℕ → Type 0
 IsNextLineText w = (end filler : List ℕ) × (n : ℕ) × IsLineEnd end × IsFiller filler × (w ≡ end ++ (filler ++ spaces n))
 
--- `t` is the properties with the spaces before them, and `w` the rest of their line, filler and indentation.
+-- `t` is the properties, `front` stands before them, and `w` the rest of their line, filler and indentation.
 abbrev pub ReadsProperties : ℕ → Type 0
 ReadsProperties limit =
     (p : Properties) (place : Position) (f : Frame) → f.indent ≡ indent_at place → (m : Marker) (front t w y : List ℕ)
-    → AreSpacesAt place front → IsProperties p t → IsNextLineText w → BeginsInk y
+    → IsGapAt place front → IsProperties p (indent_at place) t → IsNextLineText w → BeginsInk y
     → FitsOnLines limit m (front ++ (t ++ w)) y → (start : State) (ts : List Kind)
     → Before limit start place f m (front ++ (t ++ (w ++ y))) ts
     → PropertiesRead limit start p f (moved m (front ++ (t ++ w))) y ts
@@ -143,8 +145,10 @@ pub record ReadsLeaves (limit : ℕ) : Type 0 where
   pub key_ink : (node : Node) (indent : ℕ) (t : List ℕ) → IsPlainKeyNode node false indent t → BeginsInk t
   pub flow_ink : (node : Node) (room indent : ℕ) (in_flow : Bool) (t : List ℕ) → IsFlowNode room node in_flow indent t
       → BeginsInk t
+  pub flow_dash : (node : Node) (room indent : ℕ) (in_flow : Bool) (t o : List ℕ) → IsFlowNode room node in_flow indent t
+      → NoDash (t ++ o)
   pub block_ink : (p : Properties) (style : Style) (value : List ℕ) (indent : ℕ) (front t o : List ℕ)
-      → IsScalarFront p front → IsStyled style value indent t o → BeginsInk (front ++ t)
+      → IsScalarFront p indent front → IsStyled style value indent t o → BeginsInk (front ++ t)
   pub scalar_ends : (style : Style) (value : List ℕ) (indent : ℕ) (t o : List ℕ) → IsStyled style value indent t o
       → EndsWithLine t o
 
@@ -157,10 +161,11 @@ pub record EntriesRead (limit : ℕ) (start : State) (nodes : Nodes) (g : Frame)
   pub are : grammar.YieldBlockEntries nodes tokens
   pub arrived : Arrived limit start g m o (ts ++ tokens)
 
--- The pairs of a mapping were read, inside its frame.
-pub record PairsRead (limit : ℕ) (start : State) (pairs : Pairs) (g : Frame) (m : Marker) (o : List ℕ)
+-- The pairs of a mapping at a column were read, from m on, inside its frame. They begin with a value only where its `:`
+-- stands ahead.
+pub record PairsRead (limit : ℕ) (start : State) (pairs : Pairs) (column : ℕ) (g : Frame) (m : Marker) (t o : List ℕ)
     (ts : List Kind) : Type 0 where
   pub tokens : List Kind
   pub are : grammar.YieldBlockPairs pairs tokens
-  pub begins : grammar.BeginsWithValue tokens → ⊥
-  pub arrived : Arrived limit start g m o (ts ++ tokens)
+  pub begins : grammar.BeginsWithValue tokens → is_value_ahead false column m.col (t ++ o) ≡ true
+  pub arrived : Arrived limit start g (moved m t) o (ts ++ tokens)

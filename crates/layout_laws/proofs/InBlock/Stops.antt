@@ -1,17 +1,18 @@
 -- The text from the first token of a text on, which is one however the text is parted.
-use Rattle.std.proofs.Common.{◌≡◌, ℕ, Bool, true, false, List, [], ◌∷◌, ◌++◌, refl, sym, ap, ◌∙◌, arith, ◌⊎◌, inl, inr}
-use Rattle.saphyr_input.specs.Classes.{is_bom}
+use Rattle.std.proofs.Common.{◌≡◌, ℕ, Bool, true, false, List, [], ◌∷◌, ◌++◌, refl, sym, ap, ◌∙◌, arith, subst, append_assoc, ◌⊎◌, inl, inr}
+use Rattle.saphyr_input.specs.Classes.{byte_order_mark, is_bom}
+use Rattle.saphyr_input.specs.Indicators.{full_stop}
 use Rattle.saphyr_scalar.specs.declared.scalar.position.Marker.{Marker}
-use Rattle.scalar_laws.specs.Spelling.Spaces.{IsLastFiller, IsEol}
+use Rattle.scalar_laws.specs.Spelling.Spaces.{IsFiller, IsLastFiller, IsEol}
 use Rattle.saphyr_scanner.specs.Grammar.Forest.{Forest}
 use Rattle.layout_laws.proofs.Flow.States.{IsInk, moved, past}
 use Rattle.layout_laws.proofs.Flow.Fillers.{last_filler_past, rest_past}
 use Rattle.layout_laws.proofs.Documents.Lines.{eol}
 use Rattle.layout_laws.proofs.InBlock.States.{IsStop}
 use Rattle.layout_laws.proofs.InBlock.Gaps.{ink_stop, stop_past}
-use Rattle.layout_laws.proofs.InBlock.Skips.{IsSkipped, filler_skipped, skipped_past}
+use Rattle.layout_laws.proofs.InBlock.Skips.{IsSkipped, Passes, filler_skipped, skipped_passes}
 use Rattle.layout_laws.proofs.InBlock.Statements.{ReadsLeaves}
-use Rattle.layout_laws.proofs.InBlock.Documents.Ends.{AreBlockDocuments, OpensMarker}
+use Rattle.layout_laws.proofs.InBlock.Documents.Ends.{AreBlockDocuments, OpensMarker, dot_ink, suffix_text}
 use Rattle.layout_laws.proofs.InBlock.Firsts.{HasToken, documents_token}
 
 -- behind blanks, breaks and comments the text has this at its front
@@ -24,12 +25,15 @@ one_stop t u s r e h k =
     let m : Marker = record { index = 0; line = 1; col = 0 } in
     sym (h m) ∙ ap (λ (x : List ℕ). (past 0 m x).1) e ∙ k m
 
+passed_stops : (w s : List ℕ) → Passes w → IsStop s → StopsAt (w ++ s) s
+passed_stops w s h stop m = ap (λ (q : Marker × List ℕ). q.1) (h m s ∙ stop_past (moved m w) s stop)
+
 skipped_stops : (w s : List ℕ) → IsSkipped w → IsStop s → StopsAt (w ++ s) s
-skipped_stops w s h stop m = ap (λ (q : Marker × List ℕ). q.1) (skipped_past m w s h ∙ stop_past (moved m w) s stop)
+skipped_stops w s h stop = passed_stops w s (skipped_passes w h) stop
 
 pub token_stops : (t : List ℕ) (h : HasToken t) → StopsAt t (h.first ∷ h.others)
 token_stops t h m = ap (λ (x : List ℕ). (past 0 m x).1) h.is
-    ∙ skipped_stops h.white (h.first ∷ h.others) h.skipped (ink_stop h.first h.others h.ink) m
+    ∙ passed_stops h.white (h.first ∷ h.others) h.passes (ink_stop h.first h.others h.ink) m
 
 pub marker_stops : (o : List ℕ) (k : OpensMarker o) → StopsAt o (k.first ∷ k.others)
 marker_stops o k m = ap (λ (x : List ℕ). (past 0 m x).1) k.is
@@ -48,6 +52,20 @@ last_stops o h m = ap (λ (q : Marker × List ℕ). q.1) (last_filler_past 0 m o
 -- at a byte order mark
 pub mark_stops : (filler o : List ℕ) → IsSkipped filler → StopsAt (filler ++ (65279 ∷ o)) (65279 ∷ o)
 mark_stops filler o h = skipped_stops filler (65279 ∷ o) h (refl, refl, refl)
+
+-- at a byte order mark, or at a `...`, before documents
+pub mark_prefix_stops : (filler next others : List ℕ) → IsFiller filler
+    → StopsAt ((filler ++ (byte_order_mark ∷ next)) ++ others) (byte_order_mark ∷ (next ++ others))
+mark_prefix_stops filler next others is = subst (λ (x : List ℕ). StopsAt x (65279 ∷ (next ++ others)))
+    (sym (append_assoc filler (65279 ∷ next) others)) (mark_stops filler (next ++ others) (filler_skipped filler is))
+
+pub end_prefix_stops : (filler end next others : List ℕ) → IsFiller filler
+    → StopsAt ((filler ++ (full_stop ∷ full_stop ∷ full_stop ∷ (end ++ next))) ++ others)
+    (full_stop ∷ full_stop ∷ full_stop ∷ (end ++ (next ++ others)))
+end_prefix_stops filler end next others is =
+    let at = 46 ∷ 46 ∷ (end ++ (next ++ others)) in
+    subst (λ (x : List ℕ). StopsAt x (46 ∷ at)) (sym (suffix_text filler end next others))
+    (skipped_stops filler (46 ∷ at) (filler_skipped filler is) (ink_stop 46 at dot_ink))
 
 -- ## Documents begin with no byte order mark
 

@@ -1,5 +1,5 @@
 -- The scanner takes a text of the layout grammar and makes tokens of its forest.
-use Rattle.std.proofs.Common.{◌≡◌, ℕ, ◌≤◌, Bool, true, false, List, [], ◌∷◌, ◌++◌, length, inl, inr, refl, sym, ap, ◌∙◌, arith, subst, append_assoc, append-nil}
+use Rattle.std.proofs.Common.{◌≡◌, ℕ, ◌≤◌, Bool, true, false, List, [], ◌∷◌, ◌++◌, length, ◌⊎◌, inl, inr, refl, sym, ap, ◌∙◌, arith, subst, append_assoc, append-nil}
 use Rattle.std.specs.Prelude.{None, ◌==◌, not}
 use Rattle.saphyr_input.specs.Classes.{carriage_return}
 use Rattle.saphyr_scalar.specs.Views.Cursor.{start_cursor}
@@ -13,7 +13,7 @@ use Rattle.saphyr_scanner.specs.Grammar.TokenGrammar.{AreEndsAndMarks, Yields}
 use Rattle.saphyr_scanner.specs.Steps.State.{State, start}
 use Rattle.saphyr_scanner.proofs.Leads.{LeadsTo}
 use Rattle.layout_laws.specs.Grammar.Layout as layout
-use Rattle.layout_laws.specs.Grammar.Layout.{IsDocumentPrefix, IsLayout}
+use Rattle.layout_laws.specs.Grammar.Layout.{IsDocumentPrefix, no_prefix, mark_prefix, end_prefix, IsLayout}
 use Rattle.layout_laws.proofs.Flow.States.{moved, ReaderPromises}
 use Rattle.layout_laws.proofs.Flow.Fillers.{last_filler_past}
 use Rattle.layout_laws.proofs.Documents.Lines.{passes_filler}
@@ -37,25 +37,37 @@ pub record PrefixStands (limit : ℕ) (start : State) (others : List ℕ) (ts : 
   pub are : AreEndsAndMarks marks
   pub stands : StandsInStream limit start true (Lined true others) others (ts ++ marks)
 
-pub reads_prefix : {limit : ℕ} {start : State} (prefix others : List ℕ) (ts : List Kind) → IsDocumentPrefix prefix
+with_mark : {limit : ℕ} {start : State} {others : List ℕ} (ts : List Kind) (k : Kind)
+    → (k ≡ tokens.DocumentEnd) ⊎ (k ≡ tokens.ByteOrderMark) → PrefixStands limit start others (ts ++ k ∷ [])
+    → PrefixStands limit start others ts
+with_mark {limit = limit} {start = start} {others = others} ts k is p = record {
+  marks = k ∷ p.marks;
+  are = (is, p.are);
+  stands = subst (StandsInStream limit start true (Lined true others) others) (append_assoc ts (k ∷ []) p.marks)
+      p.stands;
+}
+
+pub reads_prefix : {limit : ℕ} {start : State} (prefix others : List ℕ) (ts : List Kind)
+    → IsDocumentPrefix prefix others
     → StandsInStream limit start true (Lined true (prefix ++ others)) (prefix ++ others) ts
     → PrefixStands limit start others ts
-reads_prefix {limit = limit} {start = start} prefix others ts (inl e) v =
+reads_prefix {limit = limit} {start = start} _ _ ts (no_prefix others) v =
     record {
       marks = [];
       are = tt;
-      stands = subst (StandsInStream limit start true (Lined true others) others) (sym (append-nil ts))
-          (subst (λ (x : List ℕ). StandsInStream limit start true (Lined true (x ++ others)) (x ++ others) ts) e v);
+      stands = subst (StandsInStream limit start true (Lined true others) others) (sym (append-nil ts)) v;
     }
-reads_prefix {limit = limit} {start = start} prefix others ts (inr (filler, is, e)) v =
-    let text : prefix ++ others ≡ filler ++ (65279 ∷ others) = ap (λ (x : List ℕ). x ++ others) e
-    ∙ append_assoc filler (65279 ∷ []) others in
-    let first = subst (λ (x : List ℕ). StandsInStream limit start true (Lined true x) x ts) text v in
-    record {
-      marks = tokens.ByteOrderMark ∷ [];
-      are = (inr refl, tt);
-      stands = reads_mark others (passes_filler filler (65279 ∷ others) is first);
-    }
+reads_prefix {limit = limit} {start = start} _ _ ts (mark_prefix filler more others is h) v =
+    let first = subst (λ (x : List ℕ). StandsInStream limit start true (Lined true x) x ts)
+    (append_assoc filler (65279 ∷ more) others) v in
+    with_mark ts tokens.ByteOrderMark (inr refl) (reads_prefix more others (ts ++ tokens.ByteOrderMark ∷ []) h
+    (reads_mark (more ++ others) (passes_filler filler (65279 ∷ (more ++ others)) is first)))
+reads_prefix {limit = limit} {start = start} _ _ ts (end_prefix filler end more others is end_is h) v =
+    let first = subst (λ (x : List ℕ). StandsInStream limit start true (Lined true x) x ts)
+    (suffix_text filler end more others) v in
+    with_mark ts tokens.DocumentEnd (inl refl) (reads_prefix more others (ts ++ tokens.DocumentEnd ∷ []) h
+    (reads_end end (more ++ others)
+    (passes_filler filler (46 ∷ 46 ∷ 46 ∷ (end ++ (more ++ others))) is first) end_is))
 
 -- what stands behind a document is read, where documents are
 reads_behind : {limit : ℕ} {start : State} (ds : Forest)
@@ -152,27 +164,14 @@ pub layout_leads : ReaderPromises → (limit : ℕ) → ReadsLeaves limit → (f
     → AreIn (λ c. not (c == carriage_return)) text → IsLayout most_open forest text → length text ≤ limit
     → (d : State) × LeadsTo limit d (start text) × (d.core.ended ≡ true)
     × ((tokens : List Kind) × Yields forest tokens × (place_kinds d.queue.places ≡ tokens))
-layout_leads readers limit leaves forest text clean (mark, others, inl none, documents, e) short =
-    let same : text ≡ others = e ∙ ap (λ (x : List ℕ). x ++ others) none in
-    let f = reads_documents readers leaves forest true others (tokens.StreamStart ∷ []) documents
-    (subst HasNoReturn same clean)
-    (subst (λ (x : List ℕ). StandsInStream limit (start text) true (Lined true x) x (tokens.StreamStart ∷ [])) same
+layout_leads readers limit leaves forest text clean (prefix, others, prefix_is, documents, e) short =
+    let p = reads_prefix prefix others (tokens.StreamStart ∷ []) prefix_is
+    (subst (λ (x : List ℕ). StandsInStream limit (start text) true (Lined true x) x (tokens.StreamStart ∷ [])) e
     (begins limit text short)) in
-    (f.last, f.leads, f.over, (tokens.StreamStart ∷ f.others, ([], f.others, tt, f.told, refl), f.are))
-layout_leads readers limit leaves forest text clean (mark, others, inr one, documents, e) short =
-    let same : text ≡ 65279 ∷ others = e ∙ ap (λ (x : List ℕ). x ++ others) one in
-    let first = reads_mark others
-    (subst (λ (x : List ℕ). StandsInStream limit (start text) true (Lined true x) x (tokens.StreamStart ∷ [])) same
-    (begins limit text short)) in
-    let f = reads_documents readers leaves forest true others (tokens.StreamStart ∷ tokens.ByteOrderMark ∷ []) documents
-    (subst HasNoReturn same clean).1 first in (
+    let f = reads_documents readers leaves forest true others (tokens.StreamStart ∷ p.marks) documents
+    (back_in _ prefix others (subst HasNoReturn e clean)) p.stands in (
       f.last,
       f.leads,
       f.over,
-      (
-        tokens.StreamStart ∷ tokens.ByteOrderMark
-            ∷ f.others,
-        (tokens.ByteOrderMark ∷ [], f.others, (inr refl, tt), f.told, refl),
-        f.are,
-      ),
+      (tokens.StreamStart ∷ (p.marks ++ f.others), (p.marks, f.others, p.are, f.told, refl), f.are),
     )

@@ -15,7 +15,7 @@ use Rattle.layout_laws.proofs.Flow.Places.{moved_append, moved_along}
 use Rattle.layout_laws.proofs.Documents.Lines.{filler_line}
 use Rattle.layout_laws.proofs.InBlock.States.{EndsDocument}
 use Rattle.layout_laws.proofs.InBlock.Gaps.{ink_stop, stop_tabbed, stop_past}
-use Rattle.layout_laws.proofs.InBlock.Skips.{IsSkipped, IsClean, skipped_past, skipped_clean, skipped_append, spaces_skipped, filler_skipped}
+use Rattle.layout_laws.proofs.InBlock.Skips.{IsSkipped, Passes, IsClean, skipped_passes, skipped_clean, skipped_append, spaces_skipped, filler_skipped}
 use Rattle.layout_laws.proofs.InBlock.Statements.{EndsWithLine, EndsNodeAt, ReadsLeaves}
 
 -- ## Where a node ends
@@ -42,7 +42,7 @@ left_out_ends node place t o h = eol_ends t o h.2
 
 flow_ends : (room : ℕ) (node : Node) (place : Position) (t o : List ℕ) → IsFlowInBlock room node place t o
     → EndsWithLine t o
-flow_ends room node place t o (gap, text, end, gap_is, is, end_is, e) =
+flow_ends room node place t o (gap, text, end, gap_is, is, apart, end_is, e) =
     ends_so t (gap ++ (text ++ end)) o e (ends_back gap (text ++ end) o (ends_back text end o (eol_ends end o end_is)))
 
 pub pair_ends : (key value : Node)
@@ -51,10 +51,12 @@ pub pair_ends : (key value : Node)
     → (m : ℕ) (t o : List ℕ)
     → IsBlockPair most_open key value (IsBlockNode most_open key) (IsBlockNode most_open value) m t o
     → EndsWithLine t o
-pair_ends key value K V m t o (inl (node, between, v, node_is, line, spaced, before, short, h, e)) =
+pair_ends key value K V m t o (inl (inl (node, between, v, node_is, line, spaced, before, short, h, e))) =
     ends_so t (node ++ (between ++ ((58 ∷ []) ++ v))) o e
     (ends_back node (between ++ (58 ∷ v)) o (ends_back between (58 ∷ v) o (ends_back (58 ∷ []) v o (V _ v o h))))
-pair_ends key value K V m t o (inr (inl (node, out, some, h, e))) =
+pair_ends key value K V m t o (inl (inr (v, out, h, e))) =
+    ends_so t ((58 ∷ []) ++ v) o e (ends_back (58 ∷ []) v o (V _ v o h))
+pair_ends key value K V m t o (inr (inl (node, out, some, h, unvalued, e))) =
     ends_so t ((63 ∷ []) ++ node) o e (ends_back (63 ∷ []) node o (K _ node o h))
 pair_ends key value K V m t o (inr (inr (node, colon, v, some, h, mark, k, e))) =
     ends_so t ((63 ∷ []) ++ (node ++ (colon ++ v))) o e
@@ -150,10 +152,14 @@ indentation_skipped column w (filler, h, is) =
 pub ink_clean : (c : ℕ) (cs : List ℕ) → IsInk c → IsClean (c ∷ cs)
 ink_clean c cs h least m blank = stop_tabbed least m blank (c ∷ cs) (ink_stop c cs h)
 
--- where what is skipped leads to a token
+-- where what is passed leads to a token
+pub passes_to : (m : Marker) (w : List ℕ) (c : ℕ) (cs : List ℕ) → Passes w → IsInk c
+    → past 0 m (w ++ (c ∷ cs)) ≡ (moved m w, c ∷ cs)
+passes_to m w c cs h ink = h m (c ∷ cs) ∙ stop_past (moved m w) (c ∷ cs) (ink_stop c cs ink)
+
 pub reaches : (m : Marker) (w : List ℕ) (c : ℕ) (cs : List ℕ) → IsSkipped w → IsInk c
     → past 0 m (w ++ (c ∷ cs)) ≡ (moved m w, c ∷ cs)
-reaches m w c cs h ink = skipped_past m w (c ∷ cs) h ∙ stop_past (moved m w) (c ∷ cs) (ink_stop c cs ink)
+reaches m w c cs h ink = passes_to m w c cs (skipped_passes w h) ink
 
 -- What is skipped stands behind a node that ends a line, before a token at a column.
 pub behind_indented : (column : ℕ) (m : Marker) (w : List ℕ) (c : ℕ) (cs : List ℕ) → IsEntryIndentation column w

@@ -2,9 +2,9 @@
 use Rattle.std.proofs.Common.{◌≡◌, ℕ, Bool, true, false, List, [], ◌∷◌, ◌++◌, slice_index, IsTrue, refl, sym, ap, ◌∙◌, subst, append_assoc, ◌⊎◌, inl, inr}
 use Rattle.std.specs.Prelude.{map, ◌==◌}
 use Rattle.saphyr_input.specs.Indicators.{full_stop, hyphen}
-use Rattle.saphyr_input.specs.Classes.{is_blank_or_breakz, line_feed}
+use Rattle.saphyr_input.specs.Classes.{byte_order_mark, is_blank_or_breakz, line_feed}
 use Rattle.saphyr_input.specs.Places.{is_document_indicator}
-use Rattle.scalar_laws.specs.Spelling.Spaces.{IsLastFiller, IsEol}
+use Rattle.scalar_laws.specs.Spelling.Spaces.{IsFiller, IsLastFiller, IsEol}
 use Rattle.scalar_laws.proofs.Beginnings.{front_in, back_in}
 use Rattle.saphyr_scanner.specs.Grammar.Forest.{Document, Forest, AreCompatible}
 use Rattle.saphyr_scanner.specs.Limits.{most_open}
@@ -12,16 +12,17 @@ use Rattle.saphyr_scanner.specs.Steps.State.{State}
 use Rattle.saphyr_scanner.specs.Grammar.Tokens as tokens
 use Rattle.saphyr_scanner.specs.Grammar.Tokens.{Kind, directive_token}
 use Rattle.saphyr_scanner.specs.Grammar.TokenGrammar as grammar
+use Rattle.saphyr_scanner.specs.Grammar.TokenGrammar.{AreEndsAndMarks}
 use Rattle.layout_laws.specs.Grammar.BlockNodes.{BehindMarker, AtStart, IsBlockNode}
 use Rattle.layout_laws.specs.Grammar.ClosedTexts.{DocumentMarker, Starts, Ends, marker_text, marker_token}
 use Rattle.layout_laws.specs.Grammar.Layout as layout
-use Rattle.layout_laws.specs.Grammar.Layout.{IsDocumentPrefix}
+use Rattle.layout_laws.specs.Grammar.Layout.{IsDocumentPrefix, no_prefix, mark_prefix, end_prefix}
 use Rattle.layout_laws.proofs.Flow.States.{marks_line, ReaderPromises}
 use Rattle.layout_laws.proofs.Documents.Lines.{passes_filler}
-use Rattle.layout_laws.proofs.Documents.Markers.{start_ends, end_ends, reads_end}
+use Rattle.layout_laws.proofs.Documents.Markers.{start_ends, end_ends, reads_end, reads_mark}
 use Rattle.layout_laws.proofs.Documents.Stands.{Lined, StandsInStream}
 use Rattle.layout_laws.proofs.InBlock.Skips.{filler_skipped}
-use Rattle.layout_laws.proofs.InBlock.LineStarts.{opens_line, HasLine, behind_piece, no_line, skipped_unmarked, last_unmarked, end_unmarked, prefix_unmarked}
+use Rattle.layout_laws.proofs.InBlock.LineStarts.{opens_line, HasLine, behind_piece, no_line, skipped_unmarked, last_unmarked, end_unmarked, mark_unmarked}
 use Rattle.layout_laws.proofs.InBlock.FurtherScalars.{EndsFed, fed_front, fed_behind, same_marker}
 use Rattle.layout_laws.proofs.InBlock.Further.{end_further, IsTokenAhead, document_further}
 use Rattle.layout_laws.proofs.InBlock.TabsAhead.{TellsTabs, tells_filler, tells_token, has_token, token_filler, token_here}
@@ -30,8 +31,7 @@ use Rattle.layout_laws.proofs.InBlock.Texts.{node_ends}
 use Rattle.layout_laws.proofs.InBlock.Documents.Ends.{AreBlockDocuments, HasNoReturn, OpensMarker, opens_marker, lands_marked, plain_marked, suffix_text}
 use Rattle.layout_laws.proofs.InBlock.Documents.Nodes.{node_marks}
 use Rattle.layout_laws.proofs.InBlock.Documents.{text_of_document, reads_front, reads_document}
-use Rattle.layout_laws.proofs.InBlock.DirectiveLines.{directives_unmarked}
-use Rattle.layout_laws.proofs.InBlock.Streams.{reads_prefix}
+use Rattle.layout_laws.proofs.InBlock.Documents.DirectiveLines.{directives_unmarked}
 use Rattle.layout_laws.proofs.InBlock.HandedMarkers.{Handed}
 
 -- ## Tokens up to a marker's
@@ -58,6 +58,46 @@ closes_on {limit = limit} {start = start} {marker = marker} {Told = Told} {Whole
           (append_assoc ts us (c.earlier ++ marker_token marker ∷ [])
           ∙ ap (λ (x : List Kind). ts ++ x) (sym (append_assoc us c.earlier (marker_token marker ∷ [])))) c.handed;
     }
+
+-- with another clause
+closes_as : {limit : ℕ} {start : State} {marker : DocumentMarker} {Told Whole : List Kind → Type 0} {ts : List Kind}
+    → ((others : List Kind) → Told others → Whole others) → Closes limit start marker Told ts
+    → Closes limit start marker Whole ts
+closes_as {marker = marker} each c = record {
+  earlier = c.earlier;
+  told = each (c.earlier ++ marker_token marker ∷ tokens.StreamEnd ∷ []) c.told;
+  handed = c.handed;
+}
+
+-- ends of documents and byte order marks, and documents behind them
+abbrev pub YieldsAhead : Forest → List Kind → Type 0
+YieldsAhead ds t = (marks others : List Kind) × AreEndsAndMarks marks × grammar.YieldDocuments ds true others
+    × (t ≡ marks ++ others)
+
+-- the same from an end of a document on
+abbrev pub YieldsEnd : Forest → List Kind → Type 0
+YieldsEnd ds t = (others : List Kind) × YieldsAhead ds others × (t ≡ tokens.DocumentEnd ∷ others)
+
+one_more : (ds : Forest) (k : Kind) (t : List Kind) → (k ≡ tokens.DocumentEnd) ⊎ (k ≡ tokens.ByteOrderMark)
+    → YieldsAhead ds t
+    → YieldsAhead ds (k ∷ t)
+one_more ds k t is (marks, others, are, told, e) =
+    (k ∷ marks, others, (is, are), told, ap (λ (x : List Kind). k ∷ x) e)
+
+end_ahead : (ds : Forest) (t : List Kind) → YieldsEnd ds t → YieldsAhead ds t
+end_ahead ds t (others, ahead, e) =
+    subst (YieldsAhead ds) (sym e) (one_more ds tokens.DocumentEnd others (inl refl) ahead)
+
+end_behind : (ds : Forest) (t : List Kind) → YieldsEnd ds t
+    → grammar.YieldsBehindDocument (grammar.YieldDocuments ds) t
+end_behind ds t (all, (marks, others, are, told, same), e) = (
+  [],
+  tokens.DocumentEnd ∷ marks,
+  others,
+  tt,
+  inr (marks, are, refl, told),
+  e ∙ ap (λ (x : List Kind). tokens.DocumentEnd ∷ x) same,
+)
 
 -- ## The marker
 
@@ -88,10 +128,11 @@ StartsHere limit start marker more r =
 
 abbrev pub EndsHere : ℕ → State → DocumentMarker → List ℕ → List ℕ → Type 0
 EndsHere limit start marker more r =
-    (ds : Forest) (end prefix others : List ℕ) (ts : List Kind) → IsEol end (prefix ++ others) → IsDocumentPrefix prefix
-    → AreBlockDocuments ds true others → HasNoReturn others → end ++ (prefix ++ others) ≡ r
-    → StandsInStream limit start false (Lined false (46 ∷ 46 ∷ 46 ∷ (r ++ more))) (46 ∷ 46 ∷ 46 ∷ (r ++ more)) ts
-    → Closes limit start marker (grammar.YieldsBehindDocument (grammar.YieldDocuments ds)) ts
+    (ds : Forest) (free opened : Bool) (end prefix others : List ℕ) (ts : List Kind) → IsEol end (prefix ++ others)
+    → IsDocumentPrefix prefix others → AreBlockDocuments ds true others → HasNoReturn others
+    → end ++ (prefix ++ others) ≡ r
+    → StandsInStream limit start free (Lined opened (46 ∷ 46 ∷ 46 ∷ (r ++ more))) (46 ∷ 46 ∷ 46 ∷ (r ++ more)) ts
+    → Closes limit start marker (YieldsEnd ds) ts
 
 abbrev pub Found : ℕ → State → DocumentMarker → List ℕ → DocumentMarker → List ℕ → Type 0
 Found limit start marker more Starts r = StartsHere limit start marker more r
@@ -105,27 +146,32 @@ marked_fed : (w : DocumentMarker) (r t : List ℕ) → IsMarkerRest r → Marked
 marked_fed w r t h l = subst EndsFed (sym l.is)
     (fed_front l.front (marker_text w ++ r) (fed_front (marker_text w) r h.fed))
 
--- ## A `...` line is passed
+-- ## A `...` line and a byte order mark are passed
 
--- Behind a `...` line and what may stand before a document, the scanner goes on with documents.
-pub passes_suffix : {limit : ℕ} {start : State} {marker : DocumentMarker} (ds : Forest)
-    (end prefix others more : List ℕ) (ts : List Kind) → IsEol end (prefix ++ others) → IsDocumentPrefix prefix
-    → EndsFed (prefix ++ others)
-    → StandsInStream limit start false
-    (Lined false (full_stop ∷ full_stop ∷ full_stop ∷ (end ++ (prefix ++ (others ++ more)))))
-    (full_stop ∷ full_stop ∷ full_stop ∷ (end ++ (prefix ++ (others ++ more)))) ts
-    → ((us : List Kind) → StandsInStream limit start true (Lined true (others ++ more)) (others ++ more) us
-    → Closes limit start marker (grammar.YieldDocuments ds true) us)
-    → Closes limit start marker (grammar.YieldsBehindDocument (grammar.YieldDocuments ds)) ts
-passes_suffix {limit = limit} {start = start} {marker = marker} ds end prefix others more ts end_is prefix_is fed v go =
-    let longer : IsEol end (prefix ++ (others ++ more)) = subst (IsEol end) (append_assoc prefix others more)
-    (end_further more end (prefix ++ others) fed end_is) in
-    let p = reads_prefix prefix (others ++ more) (ts ++ tokens.DocumentEnd ∷ []) prefix_is
-    (reads_end end (prefix ++ (others ++ more)) v longer) in
-    closes_on ts (tokens.DocumentEnd ∷ p.marks)
-    (λ all told. ([], tokens.DocumentEnd ∷ p.marks, all, tt, inr (p.marks, p.are, refl, told), refl))
-    (subst (Closes limit start marker (grammar.YieldDocuments ds true))
-    (append_assoc ts (tokens.DocumentEnd ∷ []) p.marks) (go ((ts ++ tokens.DocumentEnd ∷ []) ++ p.marks) p.stands))
+-- Behind a `...` line the scanner goes on with what may stand before documents.
+pub passes_end : {limit : ℕ} {start : State} {marker : DocumentMarker} {free opened : Bool} (ds : Forest)
+    (end o more : List ℕ) (ts : List Kind) → IsEol end o → EndsFed o
+    → StandsInStream limit start free
+    (Lined opened (full_stop ∷ full_stop ∷ full_stop ∷ (end ++ (o ++ more))))
+    (full_stop ∷ full_stop ∷ full_stop ∷ (end ++ (o ++ more))) ts
+    → ((us : List Kind) → StandsInStream limit start true (Lined true (o ++ more)) (o ++ more) us
+    → Closes limit start marker (YieldsAhead ds) us)
+    → Closes limit start marker (YieldsEnd ds) ts
+passes_end ds end o more ts end_is fed v go =
+    closes_on ts (tokens.DocumentEnd ∷ []) (λ all told. (all, told, refl))
+    (go (ts ++ tokens.DocumentEnd ∷ []) (reads_end end (o ++ more) v (end_further more end o fed end_is)))
+
+-- behind filler and a byte order mark
+pub passes_mark : {limit : ℕ} {start : State} {marker : DocumentMarker} (ds : Forest) (filler o : List ℕ)
+    (ts : List Kind) → IsFiller filler
+    → StandsInStream limit start true (Lined true (filler ++ (byte_order_mark ∷ o))) (filler ++ (byte_order_mark ∷ o))
+    ts
+    → ((us : List Kind) → StandsInStream limit start true (Lined true o) o us
+    → Closes limit start marker (YieldsAhead ds) us)
+    → Closes limit start marker (YieldsAhead ds) ts
+passes_mark ds filler o ts is v go =
+    closes_on ts (tokens.ByteOrderMark ∷ []) (λ all told. one_more ds tokens.ByteOrderMark all (inr refl) told)
+    (go (ts ++ tokens.ByteOrderMark ∷ []) (reads_mark o (passes_filler filler (65279 ∷ o) is v)))
 
 -- ## A document is passed
 
@@ -241,6 +287,97 @@ closes_document {limit = limit} {start = start} {marker = marker} readers leaves
         closes_beyond readers leaves w r more rest d ds free document others ts
         (inr (may, (directives, node, explicit, compatible, are, unmarked, is, e))) behind clean v l (go l)
 
+-- ## Before documents
+
+-- the marker is that of a `...` line, or stands behind it
+closes_end : {limit : ℕ} {start : State} {marker : DocumentMarker} {free opened : Bool} (w : DocumentMarker)
+    (r more : List ℕ) → IsMarkerRest r → Found limit start marker more w r
+    → (ds : Forest) (filler end prefix others : List ℕ) (ts : List Kind) → IsFiller filler
+    → IsEol end (prefix ++ others) → IsDocumentPrefix prefix others → AreBlockDocuments ds true others
+    → HasNoReturn others
+    → StandsInStream limit start free
+    (Lined opened ((filler ++ (full_stop ∷ full_stop ∷ full_stop ∷ (end ++ (prefix ++ others)))) ++ more))
+    ((filler ++ (full_stop ∷ full_stop ∷ full_stop ∷ (end ++ (prefix ++ others)))) ++ more) ts
+    → Marked w r (filler ++ (full_stop ∷ full_stop ∷ full_stop ∷ (end ++ (prefix ++ others))))
+    → (Marked w r (prefix ++ others) → (us : List Kind)
+    → StandsInStream limit start true (Lined true ((prefix ++ others) ++ more)) ((prefix ++ others) ++ more) us
+    → Closes limit start marker (YieldsAhead ds) us)
+    → Closes limit start marker (YieldsEnd ds) ts
+closes_end {limit = limit} {start = start} {marker = marker} {free = free} {opened = opened} w r more rest found ds
+    filler end prefix others ts filler_is end_is prefix_is h clean v line go =
+    let l = behind_piece true filler (46 ∷ 46 ∷ 46 ∷ (end ++ (prefix ++ others))) line.front (marker_text w ++ r)
+    line.is (skipped_unmarked filler (filler_skipped filler filler_is) true _) line.line
+    (marker_is_indicator w r rest) in
+    let first = passes_filler filler (46 ∷ 46 ∷ 46 ∷ ((end ++ (prefix ++ others)) ++ more)) filler_is
+    (subst (λ (x : List ℕ). StandsInStream limit start free (Lined opened x) x ts)
+    (append_assoc filler (46 ∷ 46 ∷ 46 ∷ (end ++ (prefix ++ others))) more) v) in
+    by_front first l.front l.is l.line
+  where
+    at_marker : (w : DocumentMarker) → Found limit start marker more w r
+        → StandsInStream limit start free
+        (Lined opened (full_stop ∷ full_stop ∷ full_stop ∷ ((end ++ (prefix ++ others)) ++ more)))
+        (full_stop ∷ full_stop ∷ full_stop ∷ ((end ++ (prefix ++ others)) ++ more)) ts
+        → full_stop ∷ full_stop ∷ full_stop ∷ (end ++ (prefix ++ others)) ≡ marker_text w ++ r
+        → Closes limit start marker (YieldsEnd ds) ts
+    at_marker Starts found first same =
+        absurd (dash_or_dot (45 ∷ 45 ∷ r) (46 ∷ 46 ∷ (end ++ (prefix ++ others))) (sym same))
+    at_marker Ends found first same =
+        let text : end ++ (prefix ++ others) ≡ r = cc in
+        found ds free opened end prefix others ts end_is prefix_is h clean text
+        (subst (λ (x : List ℕ). StandsInStream limit start free (Lined opened (46 ∷ 46 ∷ 46 ∷ (x ++ more)))
+        (46 ∷ 46 ∷ 46 ∷ (x ++ more)) ts) text first)
+
+    by_front : StandsInStream limit start free
+        (Lined opened (full_stop ∷ full_stop ∷ full_stop ∷ ((end ++ (prefix ++ others)) ++ more)))
+        (full_stop ∷ full_stop ∷ full_stop ∷ ((end ++ (prefix ++ others)) ++ more)) ts
+        → (front : List ℕ) → full_stop ∷ full_stop ∷ full_stop ∷ (end ++ (prefix ++ others))
+        ≡ front ++ (marker_text w ++ r)
+        → opens_line true front ≡ true
+        → Closes limit start marker (YieldsEnd ds) ts
+    by_front first [] same opens = at_marker w found first same
+    by_front first (c ∷ cs) same opens =
+        let dot : c ≡ 46 = cc in
+        let text : 46 ∷ 46 ∷ (end ++ (prefix ++ others)) ≡ cs ++ (marker_text w ++ r) = cc in
+        let k = behind_piece false (46 ∷ 46 ∷ end) (prefix ++ others) cs (marker_text w ++ r) text
+        (end_unmarked end (prefix ++ others) end_is false (prefix ++ others))
+        (subst (λ (x : ℕ). opens_line (x == line_feed) cs ≡ true) dot opens) (marker_is_indicator w r rest) in
+        passes_end ds end (prefix ++ others) more ts end_is (marked_fed w r (prefix ++ others) rest k)
+        (subst (λ (x : List ℕ). StandsInStream limit start free (Lined opened (46 ∷ 46 ∷ 46 ∷ x)) (46 ∷ 46 ∷ 46 ∷ x) ts)
+        (append_assoc end (prefix ++ others) more)
+        first)
+        (go k)
+
+-- the marker stands in what may stand before documents, or in these
+closes_prefix : {limit : ℕ} {start : State} {marker : DocumentMarker} (w : DocumentMarker) (r more : List ℕ)
+    → IsMarkerRest r → Found limit start marker more w r → (ds : Forest)
+    → ((t : List ℕ) (ts : List Kind) → AreBlockDocuments ds true t → HasNoReturn t
+    → StandsInStream limit start true (Lined true (t ++ more)) (t ++ more) ts → Marked w r t
+    → Closes limit start marker (grammar.YieldDocuments ds true) ts)
+    → (prefix others : List ℕ) (ts : List Kind) → IsDocumentPrefix prefix others → AreBlockDocuments ds true others
+    → HasNoReturn others
+    → StandsInStream limit start true (Lined true ((prefix ++ others) ++ more)) ((prefix ++ others) ++ more) ts
+    → Marked w r (prefix ++ others)
+    → Closes limit start marker (YieldsAhead ds) ts
+closes_prefix w r more rest found ds go _ _ ts (no_prefix others) h clean v line =
+    closes_as (λ all told. ([], all, tt, told, refl)) (go others ts h clean v line)
+closes_prefix {limit = limit} {start = start} w r more rest found ds go _ _ ts (mark_prefix filler next others is p) h
+    clean v line =
+    let text = append_assoc filler (65279 ∷ next) others in
+    let l = behind_piece true (filler ++ (65279 ∷ [])) (next ++ others) line.front (marker_text w ++ r)
+    (append_assoc filler (65279 ∷ []) (next ++ others) ∙ sym text ∙ line.is)
+    (mark_unmarked filler is true (next ++ others)) line.line (marker_is_indicator w r rest) in
+    passes_mark ds filler ((next ++ others) ++ more) ts is
+    (subst (λ (x : List ℕ). StandsInStream limit start true (Lined true x) x ts)
+    (ap (λ (x : List ℕ). x ++ more) text ∙ append_assoc filler (65279 ∷ (next ++ others)) more) v)
+    (λ us s. closes_prefix w r more rest found ds go next others us p h clean s l)
+closes_prefix {limit = limit} {start = start} w r more rest found ds go _ _ ts
+    (end_prefix filler end next others is end_is p) h clean v line =
+    let text = suffix_text filler end next others in
+    closes_as (end_ahead ds) (closes_end w r more rest found ds filler end next others ts is end_is p h clean
+    (subst (λ (x : List ℕ). StandsInStream limit start true (Lined true (x ++ more)) (x ++ more) ts) text v)
+    (subst (Marked w r) text line)
+    (λ l us s. closes_prefix w r more rest found ds go next others us p h clean s l))
+
 -- ## Documents
 
 closes_behind : {limit : ℕ} {start : State} {marker : DocumentMarker} (w : DocumentMarker) (r more : List ℕ)
@@ -252,67 +389,20 @@ closes_behind : {limit : ℕ} {start : State} {marker : DocumentMarker} (w : Doc
     → StandsInStream limit start false (Lined false (o ++ more)) (o ++ more) ts → Marked w r o
     → Closes limit start marker (grammar.YieldsBehindDocument (grammar.YieldDocuments ds)) ts
 closes_behind w r more rest found ds go o ts (inl h) clean v line =
-    let c = go false o ts h clean v line in
-    record {
-      earlier = c.earlier;
-      told = ([], [], c.earlier ++ marker_token _ ∷ tokens.StreamEnd ∷ [], tt, inl (refl, c.told), refl);
-      handed = c.handed;
-    }
+    closes_as (λ all told. ([], [], all, tt, inl (refl, told), refl)) (go false o ts h clean v line)
 closes_behind {limit = limit} {start = start} {marker = marker} w r more rest found ds go o ts
     (inr (suffix, others, (filler, end, prefix, filler_is, end_is, prefix_is, e), h, is)) clean v line =
     let text : o ≡ filler ++ (46 ∷ 46 ∷ 46 ∷ (end ++ (prefix ++ others))) =
     is ∙ ap (λ (x : List ℕ). x ++ others) e ∙ suffix_text filler end prefix others in
-    let l = behind_piece true filler (46 ∷ 46 ∷ 46 ∷ (end ++ (prefix ++ others))) line.front (marker_text w ++ r)
-    (sym text ∙ line.is) (skipped_unmarked filler (filler_skipped filler filler_is) true _) line.line
-    (marker_is_indicator w r rest) in
-    let whole : o ++ more ≡ filler ++ (46 ∷ 46 ∷ 46 ∷ ((end ++ (prefix ++ others)) ++ more)) =
-    ap (λ (x : List ℕ). x ++ more) text ∙ append_assoc filler (46 ∷ 46 ∷ 46 ∷ (end ++ (prefix ++ others))) more in
-    let first = passes_filler filler (46 ∷ 46 ∷ 46 ∷ ((end ++ (prefix ++ others)) ++ more)) filler_is
-    (subst (λ (x : List ℕ). StandsInStream limit start false (Lined false x) x ts) whole v) in
-    by_front (back_in _ suffix others (subst HasNoReturn is clean)) first l.front l.is l.line
-  where
-    at_marker : HasNoReturn others → (w : DocumentMarker) → Found limit start marker more w r
-        → StandsInStream limit start false
-        (Lined false (full_stop ∷ full_stop ∷ full_stop ∷ ((end ++ (prefix ++ others)) ++ more)))
-        (full_stop ∷ full_stop ∷ full_stop ∷ ((end ++ (prefix ++ others)) ++ more)) ts
-        → full_stop ∷ full_stop ∷ full_stop ∷ (end ++ (prefix ++ others)) ≡ marker_text w ++ r
-        → Closes limit start marker (grammar.YieldsBehindDocument (grammar.YieldDocuments ds)) ts
-    at_marker left Starts found first same =
-        absurd (dash_or_dot (45 ∷ 45 ∷ r) (46 ∷ 46 ∷ (end ++ (prefix ++ others))) (sym same))
-    at_marker left Ends found first same =
-        let text : end ++ (prefix ++ others) ≡ r = cc in
-        found ds end prefix others ts end_is prefix_is h left text
-        (subst (λ (x : List ℕ). StandsInStream limit start false (Lined false (46 ∷ 46 ∷ 46 ∷ (x ++ more)))
-        (46 ∷ 46 ∷ 46 ∷ (x ++ more)) ts) text first)
-
-    by_front : HasNoReturn others
-        → StandsInStream limit start false
-        (Lined false (full_stop ∷ full_stop ∷ full_stop ∷ ((end ++ (prefix ++ others)) ++ more)))
-        (full_stop ∷ full_stop ∷ full_stop ∷ ((end ++ (prefix ++ others)) ++ more)) ts
-        → (front : List ℕ) → full_stop ∷ full_stop ∷ full_stop ∷ (end ++ (prefix ++ others))
-        ≡ front ++ (marker_text w ++ r)
-        → opens_line true front ≡ true
-        → Closes limit start marker (grammar.YieldsBehindDocument (grammar.YieldDocuments ds)) ts
-    by_front left first [] same opens = at_marker left w found first same
-    by_front left first (c ∷ cs) same opens =
-        let dot : c ≡ 46 = cc in
-        let text : 46 ∷ 46 ∷ (end ++ (prefix ++ others)) ≡ cs ++ (marker_text w ++ r) = cc in
-        let k = behind_piece false (46 ∷ 46 ∷ end) (prefix ++ others) cs (marker_text w ++ r) text
-        (end_unmarked end (prefix ++ others) end_is false (prefix ++ others))
-        (subst (λ (x : ℕ). opens_line (x == line_feed) cs ≡ true) dot opens) (marker_is_indicator w r rest) in
-        let l = behind_piece true prefix others k.front (marker_text w ++ r) k.is
-        (prefix_unmarked prefix prefix_is true others) k.line (marker_is_indicator w r rest) in
-        let behind : (end ++ (prefix ++ others)) ++ more ≡ end ++ (prefix ++ (others ++ more)) =
-        append_assoc end (prefix ++ others) more
-        ∙ ap (λ (x : List ℕ). end ++ x) (append_assoc prefix others more) in
-        passes_suffix ds end prefix others more ts end_is prefix_is (marked_fed w r (prefix ++ others) rest k)
-        (subst (λ (x : List ℕ). StandsInStream limit start false (Lined false (46 ∷ 46 ∷ 46 ∷ x)) (46 ∷ 46 ∷ 46 ∷ x) ts)
-        behind
-        first)
-        (λ us s. go true others us h left s l)
+    let left = back_in _ suffix others (subst HasNoReturn is clean) in
+    closes_as (end_behind ds) (closes_end w r more rest found ds filler end prefix others ts filler_is end_is prefix_is
+    h left
+    (subst (λ (x : List ℕ). StandsInStream limit start false (Lined false (x ++ more)) (x ++ more) ts) text v)
+    (subst (Marked w r) text line)
+    (λ l us s. closes_prefix w r more rest found ds (go true) prefix others us prefix_is h left s l))
 
 -- The marker stands at a line's start of the documents' text: up to it they are read, and there what is to be shown is.
-pub closes_documents : {limit : ℕ} {start : State} {marker : DocumentMarker} → ReaderPromises → ReadsLeaves limit
+closes_documents : {limit : ℕ} {start : State} {marker : DocumentMarker} → ReaderPromises → ReadsLeaves limit
     → (w : DocumentMarker) (r more : List ℕ) → IsMarkerRest r → Found limit start marker more w r
     → (forest : Forest) (free : Bool) (t : List ℕ) (ts : List Kind) → AreBlockDocuments forest free t → HasNoReturn t
     → StandsInStream limit start free (Lined free (t ++ more)) (t ++ more) ts → HasLine t (marker_text w ++ r)
@@ -334,3 +424,15 @@ closes_documents {limit = limit} {start = start} readers leaves w r more rest fo
     (front_in _ document others left) first l
     (λ next us s. closes_behind w r more rest found ds (closes_documents readers leaves w r more rest found ds) others
     us behind (back_in _ document others left) s next)
+
+-- The marker stands at a line's start of a stream, behind whose own start the scanner stands.
+pub closes_stream : {limit : ℕ} {start : State} {marker : DocumentMarker} → ReaderPromises → ReadsLeaves limit
+    → (w : DocumentMarker) (r more : List ℕ) → IsMarkerRest r → Found limit start marker more w r
+    → (forest : Forest) (prefix others : List ℕ) (ts : List Kind) → IsDocumentPrefix prefix others
+    → AreBlockDocuments forest true others → HasNoReturn others
+    → StandsInStream limit start true (Lined true ((prefix ++ others) ++ more)) ((prefix ++ others) ++ more) ts
+    → HasLine (prefix ++ others) (marker_text w ++ r)
+    → Closes limit start marker (YieldsAhead forest) ts
+closes_stream readers leaves w r more rest found forest prefix others ts prefix_is h clean v line =
+    closes_prefix w r more rest found forest (closes_documents readers leaves w r more rest found forest true) prefix
+    others ts prefix_is h clean v line

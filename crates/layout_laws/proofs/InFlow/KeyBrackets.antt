@@ -2,7 +2,6 @@
 use Rattle.std.proofs.Common.{◌≡◌, ℕ, suc, ◌+◌, ◌≤◌, false, List, [], ◌∷◌, ◌++◌, length, refl, sym, ap, ◌∙◌, arith, subst, append_assoc, append-nil, inl, inr}
 use Rattle.saphyr_input.specs.Indicators.{colon}
 use Rattle.saphyr_scalar.specs.declared.scalar.position.Marker.{Marker}
-use Rattle.saphyr_scalar.specs.Reading.BlockLines.{spaces}
 use Rattle.scalar_laws.specs.Spelling.Spaces.{IsSeparation}
 use Rattle.saphyr_scanner.specs.declared.engine.level.Context.TheVariants as context
 use Rattle.saphyr_scanner.specs.Grammar.Tokens as tokens
@@ -18,7 +17,7 @@ use Rattle.layout_laws.specs.Grammar.FlowNodes.{IsBeforeContent, IsFlowNode}
 use Rattle.layout_laws.proofs.InFlow.States.{Around}
 use Rattle.layout_laws.proofs.InFlow.KeyLines.{Ready}
 use Rattle.layout_laws.proofs.InFlow.KeyTokens.{InKey, in_back, in_right, in_so, Along, along_joins, along_ready}
-use Rattle.layout_laws.proofs.InFlow.KeyScalars.{colon_text, colon_after}
+use Rattle.layout_laws.proofs.InFlow.KeyScalars.{Blanks, colon_text, colon_after}
 use Rattle.layout_laws.proofs.InFlow.KeyCollections.{calmed, collection_along}
 use Rattle.layout_laws.proofs.Flow.States.{moved, FitsAround, IsParted, ReaderPromises}
 use Rattle.layout_laws.proofs.Flow.Places.{clear_front}
@@ -41,24 +40,24 @@ record FrontedBrackets (around : Around) (start : State) (Is : List Kind → Typ
   along : Along around start k qs m y (properties ++ (b.opens ∷ (inside ++ b.closes ∷ [])))
 
 -- the run inside the brackets, wherever they stand
-abbrev RunsAt : Around → (List Kind → Type 0) → Brackets → Candidate → List ℕ → List ℕ → ℕ → List ℕ → Type 0
+abbrev RunsAt : Around → (List Kind → Type 0) → Brackets → Candidate → List ℕ → List ℕ → Blanks → List ℕ → Type 0
 RunsAt around Is b k w inside n r =
-    (e : Marker) → InKey around k e (bracket_text b w inside ++ spaces n) (58 ∷ r)
+    (e : Marker) → InKey around k e (bracket_text b w inside ++ n.text) (58 ∷ r)
     → RunsInside (calmed around) Is b context.Block [] (moved e (b.opening ∷ w)) inside (colon_text n r)
 
 brackets_key : ReaderPromises → (around : Around) → around.pending ≡ around.required
     → (start : State) (Is : List Kind → Type 0) (b : Brackets) → AreBrackets b
-    → (p : Properties) (k : Candidate) (qs : List Place) (front w inside : List ℕ) (n : ℕ)
+    → (p : Properties) (k : Candidate) (qs : List Place) (front w inside : List ℕ) (n : Blanks)
     (r : List ℕ) (e : Marker) (ad : ℕ) → IsBeforeContent p around.indent front → IsSeparation around.indent w
     → IsParted around.indent (w ++ (inside ++ (b.closing ∷ colon_text n r)))
-    → InKey around k e ((front ++ bracket_text b w inside) ++ spaces n) (colon ∷ r) → ad ≤ e.index
+    → InKey around k e ((front ++ bracket_text b w inside) ++ n.text) (colon ∷ r) → ad ≤ e.index
     → Ready around start k ((front ++ bracket_text b w inside) ++ colon_text n r) e ad qs
     → RunsAt around Is b k w inside n r
     → FrontedBrackets around start Is b p k qs (colon_after e (front ++ bracket_text b w inside) n) (colon ∷ r)
 brackets_key reads around same start Is b are p k qs front w inside n r e ad (inl (none, is)) parts parted text low
     ready run =
     let body = bracket_text b w inside in
-    subst (λ (f : List ℕ). InKey around k e ((f ++ body) ++ spaces n) (58 ∷ r)
+    subst (λ (f : List ℕ). InKey around k e ((f ++ body) ++ n.text) (58 ∷ r)
     → Ready around start k ((f ++ body) ++ colon_text n r) e ad qs
     → FrontedBrackets around start Is b p k qs (colon_after e (f ++ body) n) (58 ∷ r)) (sym is)
     (λ i z. let c = collection_along around same start Is b are k qs w inside n r e ad parts parted i low z (run e i) in
@@ -72,14 +71,14 @@ brackets_key reads around same start Is b are p k qs front w inside n r e ad (in
 brackets_key reads around same start Is b are p k qs front w inside n r e ad (inr (t, v, h, some, gap, is)) parts parted
     text low ready run =
     let body = bracket_text b w inside in
-    let whole = in_so k e ((front ++ body) ++ spaces n) (t ++ (v ++ (body ++ spaces n))) (58 ∷ r)
-    (front_parts front t v body (spaces n) is) text in
-    let f = fronted reads around start p k qs t v body (spaces n) (58 ∷ r) e ad h some gap whole low
+    let whole = in_so k e ((front ++ body) ++ n.text) (t ++ (v ++ (body ++ n.text))) (58 ∷ r)
+    (front_parts front t v body n.text is) text in
+    let f = fronted reads around start p k qs t v body n.text (58 ∷ r) e ad h some gap whole low
     (subst (λ (x : List ℕ). Ready around start k x e ad qs) (front_parts front t v body (colon_text n r) is) ready) in
     let there = moved (moved e t) v in
-    let inner = in_back k (moved e t) v (body ++ spaces n) (58 ∷ r)
-    (in_back k e t (v ++ (body ++ spaces n)) (58 ∷ r) whole) in
-    let next = along_ready body (colon_text n r) (spaces n) (58 ∷ r) f.along
+    let inner = in_back k (moved e t) v (body ++ n.text) (58 ∷ r)
+    (in_back k e t (v ++ (body ++ n.text)) (58 ∷ r) whole) in
+    let next = along_ready body (colon_text n r) n.text (58 ∷ r) f.along
     (bracket_begins b are (w ++ (inside ++ (b.closing ∷ [])))) inner refl in
     let c = collection_along around same _ Is b are k _ w inside n r there f.along.adjacent parts parted inner
     f.along.low next (run there inner) in
@@ -94,20 +93,21 @@ brackets_key reads around same start Is b are p k qs front w inside n r e ad (in
     })
 
 -- a piece inside a key's brackets
-inside_fits : (around : Around) (k : Candidate) (e : Marker) (c : ℕ) (w inside : List ℕ) (d n : ℕ) (r : List ℕ)
-    → InKey around k e (((c ∷ w) ++ (inside ++ (d ∷ []))) ++ spaces n) (colon ∷ r)
+inside_fits : (around : Around) (k : Candidate) (e : Marker) (c : ℕ) (w inside : List ℕ) (d : ℕ) (n : Blanks)
+    (r : List ℕ)
+    → InKey around k e (((c ∷ w) ++ (inside ++ (d ∷ []))) ++ n.text) (colon ∷ r)
     → FitsAround (calmed around) (moved e (c ∷ w)) inside (d ∷ colon_text n r)
 inside_fits around k e c w inside d n r text =
-    let tail = inside ++ ((d ∷ []) ++ spaces n) in
-    let same : ((c ∷ w) ++ (inside ++ (d ∷ []))) ++ spaces n ≡ (c ∷ w) ++ tail =
-    append_assoc (c ∷ w) (inside ++ (d ∷ [])) (spaces n)
-    ∙ ap (λ (x : List ℕ). (c ∷ w) ++ x) (append_assoc inside (d ∷ []) (spaces n)) in
-    let text1 = in_so k e (((c ∷ w) ++ (inside ++ (d ∷ []))) ++ spaces n) ((c ∷ w) ++ tail) (58 ∷ r) same text in
+    let tail = inside ++ ((d ∷ []) ++ n.text) in
+    let same : ((c ∷ w) ++ (inside ++ (d ∷ []))) ++ n.text ≡ (c ∷ w) ++ tail =
+    append_assoc (c ∷ w) (inside ++ (d ∷ [])) n.text
+    ∙ ap (λ (x : List ℕ). (c ∷ w) ++ x) (append_assoc inside (d ∷ []) n.text) in
+    let text1 = in_so k e (((c ∷ w) ++ (inside ++ (d ∷ []))) ++ n.text) ((c ∷ w) ++ tail) (58 ∷ r) same text in
     let text2 = in_back k e (c ∷ w) tail (58 ∷ r) text1 in
     record {
-      clear = clear_front (moved e (c ∷ w)) inside ((d ∷ []) ++ spaces n) (58 ∷ r) text2.clear;
+      clear = clear_front (moved e (c ∷ w)) inside ((d ∷ []) ++ n.text) (58 ∷ r) text2.clear;
       below = subst (λ (t : List ℕ). (moved e (c ∷ w)).index + length t ≤ around.limit)
-          (append_assoc inside ((d ∷ []) ++ spaces n) (58 ∷ r)) text2.below;
+          (append_assoc inside ((d ∷ []) ++ n.text) (58 ∷ r)) text2.below;
       right = in_right k e c w tail (58 ∷ r) text1;
       calm = refl;
     }
@@ -116,9 +116,9 @@ room_inside : (left : ℕ) → most_open ≡ suc left → left + 1 ≤ most_open
 room_inside left e = omega (arith, e)
 
 pub sequence_key : ReaderPromises → (around : Around) → around.pending ≡ around.required
-    → (start : State) (p : Properties) (nodes : Nodes) (k : Candidate) (qs : List Place) (t : List ℕ) (n : ℕ)
+    → (start : State) (p : Properties) (nodes : Nodes) (k : Candidate) (qs : List Place) (t : List ℕ) (n : Blanks)
     (r : List ℕ) (e : Marker) (ad : ℕ)
-    → IsFlowNode most_open (Seq p nodes) false around.indent t → InKey around k e (t ++ spaces n) (colon ∷ r)
+    → IsFlowNode most_open (Seq p nodes) false around.indent t → InKey around k e (t ++ n.text) (colon ∷ r)
     → ad ≤ e.index
     → Ready around start k (t ++ colon_text n r) e ad qs
     → KeyAlong around start (Seq p nodes) k qs (colon_after e t n) (colon ∷ r)
@@ -142,7 +142,7 @@ sequence_key reads around same start p nodes k qs t n r e ad
     let c = brackets_key reads around same start (grammar.YieldFlowEntries nodes) square are_square p k qs front w
     inside n r e ad f parts (parted_by around.indent w (inside ++ (93 ∷ colon_text n r)) parts
     (items_ink around.indent left nodes inside (colon_text n r) h))
-    (subst (λ (x : List ℕ). InKey around k e (x ++ spaces n) (58 ∷ r)) whole text) low
+    (subst (λ (x : List ℕ). InKey around k e (x ++ n.text) (58 ∷ r)) whole text) low
     (subst (λ (x : List ℕ). Ready around start k (x ++ colon_text n r) e ad qs) whole ready) run in
     subst (λ (x : List ℕ). KeyAlong around start (Seq p nodes) k qs (colon_after e x n) (58 ∷ r)) (sym whole)
     (record {
@@ -159,9 +159,9 @@ sequence_key reads around same start p nodes k qs t n r e ad
     })
 
 pub mapping_key_reads : ReaderPromises → (around : Around) → around.pending ≡ around.required
-    → (start : State) (p : Properties) (pairs : Pairs) (k : Candidate) (qs : List Place) (t : List ℕ) (n : ℕ)
+    → (start : State) (p : Properties) (pairs : Pairs) (k : Candidate) (qs : List Place) (t : List ℕ) (n : Blanks)
     (r : List ℕ) (e : Marker) (ad : ℕ)
-    → IsFlowNode most_open (Map p pairs) false around.indent t → InKey around k e (t ++ spaces n) (colon ∷ r)
+    → IsFlowNode most_open (Map p pairs) false around.indent t → InKey around k e (t ++ n.text) (colon ∷ r)
     → ad ≤ e.index
     → Ready around start k (t ++ colon_text n r) e ad qs
     → KeyAlong around start (Map p pairs) k qs (colon_after e t n) (colon ∷ r)
@@ -185,7 +185,7 @@ mapping_key_reads reads around same start p pairs k qs t n r e ad
     let c = brackets_key reads around same start (grammar.YieldFlowPairs pairs) curly are_curly p k qs front w inside n
     r e ad f parts (parted_by around.indent w (inside ++ (125 ∷ colon_text n r)) parts
     (pairs_ink around.indent left pairs inside (colon_text n r) h))
-    (subst (λ (x : List ℕ). InKey around k e (x ++ spaces n) (58 ∷ r)) whole text) low
+    (subst (λ (x : List ℕ). InKey around k e (x ++ n.text) (58 ∷ r)) whole text) low
     (subst (λ (x : List ℕ). Ready around start k (x ++ colon_text n r) e ad qs) whole ready) run in
     subst (λ (x : List ℕ). KeyAlong around start (Map p pairs) k qs (colon_after e x n) (58 ∷ r)) (sym whole)
     (record {

@@ -4,7 +4,6 @@ use Rattle.std.proofs.Math.Nat.{zero-add}
 use Rattle.std.specs.Prelude.{Option, Some, None}
 use Rattle.saphyr_scalar.specs.declared.scalar.position.Marker.{Marker}
 use Rattle.saphyr_scalar.specs.Views.Cursor.{Cursor, ◌>>=◌, along}
-use Rattle.saphyr_scalar.specs.Reading.BlockLines.{spaces}
 use Rattle.saphyr_scalar.proofs.Given.{cursor_at}
 use Rattle.scalar_laws.specs.Spelling.Spaces.{IsSeparation}
 use Rattle.saphyr_scanner.specs.declared.engine.level.Context.{Context}
@@ -22,11 +21,11 @@ use Rattle.layout_laws.proofs.InFlow.States.{Around, core_at, state_at, drops_fa
 use Rattle.layout_laws.proofs.InFlow.ScalarsOnLine.{separation_of_blanks}
 use Rattle.layout_laws.proofs.InFlow.KeyLines.{Ready, keeps_near_key}
 use Rattle.layout_laws.proofs.InFlow.KeyTokens.{InKey, in_near, in_back, in_right, in_limit, in_so, Along}
-use Rattle.layout_laws.proofs.InFlow.KeyScalars.{colon_ink, colon_text, colon_after}
+use Rattle.layout_laws.proofs.InFlow.KeyScalars.{Blanks, colon_ink, colon_text, colon_after}
 use Rattle.layout_laws.proofs.Flow.States.{moved, past, IsParted}
 use Rattle.layout_laws.proofs.Flow.Places.{moved_append, moved_index, clear_front}
 use Rattle.layout_laws.proofs.Flow.GapSteps.{past_ink}
-use Rattle.layout_laws.proofs.Flow.Fillers.{spaces_are_blank, separation_past, right_behind}
+use Rattle.layout_laws.proofs.Flow.Fillers.{separation_past, right_behind}
 use Rattle.layout_laws.proofs.Flow.Arrivals.{arrives, begins_here, within_index}
 use Rattle.layout_laws.proofs.Flow.Separates.{separates}
 use Rattle.layout_laws.proofs.Flow.Brackets.{mark_begins, mark_moved, mark_places, mark_puts, mark_kinds, pending}
@@ -118,10 +117,10 @@ bracket_closes : (around : Around) → around.pending ≡ around.required → (b
     → step b.closing second i (core_at (calmed around) d s inside k ms a ad)
     ≡ close_collection (ends_pair inside) b.closes (core_at (calmed around) d s inside k ms a ad))
     → (k : Candidate) (j : Option Candidate) (a : Bool) (ad : ℕ) (qs : List Place) (s : Cursor) (d : Bool) (e : Marker)
-    (n : ℕ) (r : List ℕ) → InKey around k e ((b.closing ∷ []) ++ spaces n) (colon ∷ r) → around.indent ≤ e.col
+    (n : Blanks) (r : List ℕ) → InKey around k e ((b.closing ∷ []) ++ n.text) (colon ∷ r) → around.indent ≤ e.col
     → past around.indent s.mark s.rest ≡ past around.indent e (b.closing ∷ colon_text n r)
     → Closed around (state_at (calmed around) (moment s inside j (level_of context.Block (Some k) ∷ []) a ad qs) d) k qs
-    (ends_pair inside) b.closes e (moved (along e 1) (spaces n)) r ad d
+    (ends_pair inside) b.closes e (moved (along e 1) n.text) r ad d
 unfolding fetch state_behind_content fetch_within
 bracket_closes around same b are inside flows closing k j a ad qs s d e n r text right at =
     let o = colon_text n r in
@@ -130,11 +129,11 @@ bracket_closes around same b are inside flows closing k j a ad qs s d e n r text
     let v = arrives (calmed around) (moment s inside j ls a ad qs) e (b.closing ∷ o)
     (at ∙ past_ink around.indent e b.closing o mark.ink) mark.ink.blank right refl in
     let seen = cursor_at (b.closing ∷ o) e v.blank in
-    let p = separates around.indent (cursor_at o (along e 1) false) (spaces n) 58 r refl
-    (separation_of_blanks around.indent (spaces n) (spaces_are_blank n)) (le_next around.indent e.col right)
+    let p = separates around.indent (cursor_at o (along e 1) false) n.text 58 r refl
+    (separation_of_blanks around.indent n.text n.are) (le_next around.indent e.col right)
     colon_ink in
-    let near = p.near (spaces_are_blank n) in
-    let begins = mark_begins e b.closing o mark (clear_front e (b.closing ∷ []) (spaces n) (58 ∷ r) text.clear) in
+    let near = p.near n.are in
+    let begins = mark_begins e b.closing o mark (clear_front e (b.closing ∷ []) n.text (58 ∷ r) text.clear) in
     let core = core_at (calmed around) d seen inside v.key ls v.allowed ad in
     let ends = ends_pair inside in
     let new = mark_places ends e p.there.mark b.closes in
@@ -154,12 +153,12 @@ bracket_closes around same b are inside flows closing k j a ad qs s d e n r text
     let start = state_at (calmed around) (moment s inside j ls a ad qs) d in
     let fetched : fetch start ≡ Ok st = there ∙ at_place ∙ made in
     let one : along e 1 ≡ moved e (b.closing ∷ []) = mark_moved e b.closing mark in
-    let behind_text = in_back k e (b.closing ∷ []) (spaces n) (58 ∷ r) text in
-    let whole = in_back k (moved e (b.closing ∷ [])) (spaces n) [] (58 ∷ r)
-    (in_so k (moved e (b.closing ∷ [])) (spaces n) (spaces n ++ []) (58 ∷ r) (sym (append-nil (spaces n)))
+    let behind_text = in_back k e (b.closing ∷ []) n.text (58 ∷ r) text in
+    let whole = in_back k (moved e (b.closing ∷ [])) n.text [] (58 ∷ r)
+    (in_so k (moved e (b.closing ∷ [])) n.text (n.text ++ []) (58 ∷ r) (sym (append-nil n.text))
     behind_text) in
-    let place : p.there.mark ≡ moved (moved e (b.closing ∷ [])) (spaces n) =
-    near.1 ∙ ap (λ (m : Marker). moved m (spaces n)) one in
+    let place : p.there.mark ≡ moved (moved e (b.closing ∷ [])) n.text =
+    near.1 ∙ ap (λ (m : Marker). moved m n.text) one in
     let last = subst (λ (m : Marker). InKey around k m [] (58 ∷ r)) (sym place) whole in
     let fits : check_limit around.limit st ≡ Ok st =
     rw (le-leb p.there.mark.index around.limit (in_limit k p.there.mark [] (58 ∷ r) last)) refl in
@@ -187,9 +186,9 @@ all_told opens closes ts ends = ap (λ (x : List Kind). opens ∷ x) (sym (appen
 
 pub collection_along : (around : Around) → around.pending ≡ around.required
     → (start : State) (Is : List Kind → Type 0) (b : Brackets) → AreBrackets b
-    → (k : Candidate) (qs : List Place) (w inside : List ℕ) (n : ℕ) (r : List ℕ) (e : Marker)
+    → (k : Candidate) (qs : List Place) (w inside : List ℕ) (n : Blanks) (r : List ℕ) (e : Marker)
     (ad : ℕ) → IsSeparation around.indent w → IsParted around.indent (w ++ (inside ++ (b.closing ∷ colon_text n r)))
-    → InKey around k e (bracket_text b w inside ++ spaces n) (colon ∷ r) → ad ≤ e.index
+    → InKey around k e (bracket_text b w inside ++ n.text) (colon ∷ r) → ad ≤ e.index
     → Ready around start k (bracket_text b w inside ++ colon_text n r) e ad qs
     → RunsInside (calmed around) Is b context.Block [] (moved e (b.opening ∷ w)) inside (colon_text n r)
     → CollectionAlong around start Is b k qs (colon_after e (bracket_text b w inside) n) (colon ∷ r)
@@ -202,16 +201,16 @@ collection_along around same start Is b are k qs w inside n r e ad parts parted 
     ∙ ap (λ (t : List ℕ). b.opening ∷ (w ++ t)) (append_assoc inside close o) in
     let here = moved e (b.opening ∷ w) in
     let at_end = moved here inside in
-    let whole : body ++ spaces n ≡ (b.opening ∷ w) ++ (inside ++ (close ++ spaces n)) =
-    append_assoc (b.opening ∷ w) (inside ++ close) (spaces n)
-    ∙ ap (λ (t : List ℕ). (b.opening ∷ w) ++ t) (append_assoc inside close (spaces n)) in
-    let text1 = in_so k e (body ++ spaces n) ((b.opening ∷ w) ++ (inside ++ (close ++ spaces n))) (58 ∷ r) whole text in
-    let text2 = in_back k e (b.opening ∷ w) (inside ++ (close ++ spaces n)) (58 ∷ r) text1 in
-    let text3 = in_back k here inside (close ++ spaces n) (58 ∷ r) text2 in
-    let right1 = in_right k e b.opening w (inside ++ (close ++ spaces n)) (58 ∷ r) text1 in
+    let whole : body ++ n.text ≡ (b.opening ∷ w) ++ (inside ++ (close ++ n.text)) =
+    append_assoc (b.opening ∷ w) (inside ++ close) n.text
+    ∙ ap (λ (t : List ℕ). (b.opening ∷ w) ++ t) (append_assoc inside close n.text) in
+    let text1 = in_so k e (body ++ n.text) ((b.opening ∷ w) ++ (inside ++ (close ++ n.text))) (58 ∷ r) whole text in
+    let text2 = in_back k e (b.opening ∷ w) (inside ++ (close ++ n.text)) (58 ∷ r) text1 in
+    let text3 = in_back k here inside (close ++ n.text) (58 ∷ r) text2 in
+    let right1 = in_right k e b.opening w (inside ++ (close ++ n.text)) (58 ∷ r) text1 in
     let mark : moved e (b.opening ∷ []) ≡ along e 1 = sym (mark_moved e b.opening are.opening_mark) in
     let split : here ≡ moved (moved e (b.opening ∷ [])) w = moved_append e (b.opening ∷ []) w in
-    let below1 = below_open e body (spaces n) (58 ∷ r) o1 texts text.below in
+    let below1 = below_open e body n.text (58 ∷ r) o1 texts text.below in
     let first = bracket_opens around same start b are k qs e o1 ad parted text.low below1
     (subst (λ (t : List ℕ). Ready around start k t e ad qs) texts ready) in
     let right0 : around.indent ≤ (moved e (b.opening ∷ [])).col =
@@ -236,8 +235,8 @@ collection_along around same start Is b are k qs w inside n r e ad parts parted 
     let places : qs2 ++ new3 ≡ qs ++ (new1 ++ (q.new ++ new3)) =
     append_assoc (qs ++ new1) q.new new3 ∙ append_assoc qs new1 (q.new ++ new3) in
     let led = leads_on first.leads (leads_on ran.leads last.leads) in
-    let end : moved (along at_end 1) (spaces n) ≡ colon_after e body n =
-    ap (λ (m : Marker). moved m (spaces n))
+    let end : moved (along at_end 1) n.text ≡ colon_after e body n =
+    ap (λ (m : Marker). moved m n.text)
     (mark_moved at_end b.closing are.closing_mark
     ∙ sym (moved_append e (b.opening ∷ w) (inside ++ close) ∙ moved_append here inside close)) in
     let told : place_kinds (new1 ++ (q.new ++ new3))
@@ -262,8 +261,8 @@ collection_along around same start Is b are k qs w inside n r e ad parts parted 
         rest = last.rest;
         mark = at_colon;
         right = subst (λ (m : Marker). around.indent ≤ m.col) (sym last.mark)
-            (right_behind around.indent (along at_end 1) (spaces n)
-            (separation_of_blanks around.indent (spaces n) (spaces_are_blank n))
+            (right_behind around.indent (along at_end 1) n.text
+            (separation_of_blanks around.indent n.text n.are)
             (le_next around.indent at_end.col q.right));
         piece = record { span = record { start = e; end = first.there.mark }; kind = b.opens };
         others = q.new ++ new3;
@@ -278,8 +277,8 @@ collection_along around same start Is b are k qs w inside n r e ad parts parted 
     lower : (ad l i : ℕ) → i ≡ e.index + suc l → ad ≤ e.index → ad < i
     lower ad l i h low = omega (arith, h, low)
 
-    later : (ad : ℕ) (m : Marker) (n : ℕ) → ad ≤ m.index → ad ≤ (moved (along m 1) (spaces n)).index
-    later ad m n low = let i = moved_index (along m 1) (spaces n) in omega (arith, i, low)
+    later : (ad : ℕ) (m : Marker) (n : Blanks) → ad ≤ m.index → ad ≤ (moved (along m 1) n.text).index
+    later ad m n low = let i = moved_index (along m 1) n.text in omega (arith, i, low)
 
     below_open : (e : Marker) (body s y o1 : List ℕ) → body ++ (s ++ y) ≡ b.opening ∷ o1
         → e.index + length ((body ++ s) ++ y) ≤ around.limit → (along e 1).index + length o1 ≤ around.limit

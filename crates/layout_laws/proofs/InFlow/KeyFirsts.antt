@@ -94,7 +94,7 @@ fresh_tag around tag t o h =
     (λ d s k ad n. tag_fresh around d s k ad n _)
 
 fresh_properties : (around : Around) (anchor : Option (List ℕ)) (tag : Option Tag) (t o : List ℕ)
-    → layout.AreProperties anchor tag t → Fresh around (t ++ o)
+    → layout.AreProperties anchor tag around.indent t → Fresh around (t ++ o)
 fresh_properties around None None t o h = absurd h
 fresh_properties around (Some name) None t o h = fresh_anchor around name t o h
 fresh_properties around None (Some tag) t o h = fresh_tag around tag t o h
@@ -152,14 +152,14 @@ begins_front a t b = record {
   directive = b.directive;
 }
 
-properties_begin : (anchor : Option (List ℕ)) (tag : Option Tag) (t : List ℕ) → layout.AreProperties anchor tag t
-    → Begins t
-properties_begin None None t h = absurd h
-properties_begin (Some name) None t h = anchor_begins name t h
-properties_begin None (Some tag) t h = tag_begins tag t h
-properties_begin (Some name) (Some tag) t (a, s, c, h, g, spaced, inl is) =
+properties_begin : (indent : ℕ) (anchor : Option (List ℕ)) (tag : Option Tag) (t : List ℕ)
+    → layout.AreProperties anchor tag indent t → Begins t
+properties_begin indent None None t h = absurd h
+properties_begin indent (Some name) None t h = anchor_begins name t h
+properties_begin indent None (Some tag) t h = tag_begins tag t h
+properties_begin indent (Some name) (Some tag) t (a, s, c, h, g, spaced, inl is) =
     begins_so t (a ++ (s ++ c)) is (begins_front a (s ++ c) (anchor_begins name a h))
-properties_begin (Some name) (Some tag) t (c, s, a, h, g, spaced, inr is) =
+properties_begin indent (Some name) (Some tag) t (c, s, a, h, g, spaced, inr is) =
     begins_so t (a ++ (s ++ c)) is (begins_front a (s ++ c) (tag_begins tag a g))
 
 pub bracket_begins : (b : Brackets) → AreBrackets b → (t : List ℕ) → Begins (b.opening ∷ t)
@@ -179,7 +179,7 @@ front_begins indent p front t (inl (none, is)) h = begins_so (front ++ t) t (ap 
 front_begins indent p front t (inr (written, separation, g, some, parts, is)) h =
     begins_so (front ++ t) (written ++ (separation ++ t))
     (ap (λ (x : List ℕ). x ++ t) is ∙ append_assoc written separation t)
-    (begins_front written (separation ++ t) (properties_begin p.anchor p.tag written g))
+    (begins_front written (separation ++ t) (properties_begin indent p.anchor p.tag written g))
 
 -- a key's text begins a token, and keeps the key's place, before what stands behind it
 pub record FirstOf (around : Around) (p o : List ℕ) : Type 0 where
@@ -192,7 +192,7 @@ fresh_behind around p t o e h = subst (λ (x : List ℕ). FirstOf around x o) (s
 scalar_first : (around : Around) (p : Properties) (style : Style) (value t o : List ℕ)
     → IsScalarNode p style value false around.indent t → FirstOf around t o
 scalar_first around p style value t o (inl (plain, empty, h)) =
-    record { begins = properties_begin p.anchor p.tag t h; fresh = fresh_properties around p.anchor p.tag t o h }
+    record { begins = properties_begin around.indent p.anchor p.tag t h; fresh = fresh_properties around p.anchor p.tag t o h }
 scalar_first around p style value t o (inr (front, content, before, g, e)) =
     fresh_behind around t (front ++ content) o e
     (record {

@@ -1,11 +1,11 @@
 -- An alias and a scalar on one line at block level are read as keys, with the properties before them.
-use Rattle.std.proofs.Common.{◌≡◌, ◌≢◌, ℕ, zero, suc, ◌≤◌, true, false, List, [], ◌∷◌, ◌++◌, slice_index, refl, sym, ap, ◌∙◌, subst, append_assoc, IsTrue, ◌⊎◌, inl, inr}
+use Rattle.std.proofs.Common.{◌≡◌, ◌≢◌, ℕ, ◌≤◌, arith, true, false, List, [], ◌∷◌, ◌++◌, slice_index, refl, sym, ap, ◌∙◌, subst, append_assoc, IsTrue, ◌⊎◌, inl, inr}
 use Rattle.std.proofs.lemmas.Bool.{false≢true}
 use Rattle.saphyr_input.specs.Indicators.{colon}
-use Rattle.saphyr_input.specs.Classes.{is_blank_or_breakz}
+use Rattle.saphyr_input.specs.Classes.{is_blank, is_blank_or_breakz}
+use Rattle.std.proofs.lemmas.Bool.Decides.{nat_tests}
 use Rattle.saphyr_scalar.specs.declared.scalar.position.Marker.{Marker}
-use Rattle.saphyr_scalar.specs.Reading.BlockLines.{spaces}
-use Rattle.saphyr_scalar.specs.Spelling.Tag.{EndsTag}
+use Rattle.saphyr_scalar.specs.Spelling.Tag.{AreIn, EndsTag}
 use Rattle.scalar_laws.specs.Spelling.Spaces.{IsSeparation}
 use Rattle.saphyr_scanner.specs.Grammar.Tokens.{Kind, alias_token, scalar_token}
 use Rattle.saphyr_scanner.specs.Grammar.TokenGrammar as grammar
@@ -19,11 +19,10 @@ use Rattle.layout_laws.proofs.InFlow.States.{Around}
 use Rattle.layout_laws.proofs.InFlow.ScalarsOnLine.{front_on_line, back_on_line, blanks_on_line}
 use Rattle.layout_laws.proofs.InFlow.KeyLines.{Ready}
 use Rattle.layout_laws.proofs.InFlow.KeyTokens.{InKey, in_back, in_so, Along, along_joins, along_ready, alias_along, properties_along}
-use Rattle.layout_laws.proofs.InFlow.KeyScalars.{colon_text, colon_after, ContentReads, scalar_reads, plain_key_reads}
+use Rattle.layout_laws.proofs.InFlow.KeyScalars.{Blanks, no_blanks, colon_text, colon_after, ContentReads, scalar_reads, plain_key_reads}
 use Rattle.layout_laws.proofs.Flow.States.{moved, ReaderPromises}
 use Rattle.layout_laws.proofs.Flow.Places.{moved_append}
-use Rattle.layout_laws.proofs.Flow.Fillers.{spaces_are_blank}
-use Rattle.layout_laws.proofs.Flow.Ends.{tag_ends_name}
+use Rattle.layout_laws.proofs.Flow.Ends.{tag_ends_name, white_ends_tag}
 use Rattle.layout_laws.proofs.Flow.ScalarNodes.{empty_are, bare_are, separation_ends, full_are}
 
 -- ## Keys
@@ -35,33 +34,36 @@ pub record KeyAlong (around : Around) (start : State) (node : Node) (k : Candida
   pub are : grammar.YieldsNode node grammar.InBlockMapping tokens
   pub along : Along around start k qs m y tokens
 
-some_space : (n : ℕ) (r : List ℕ) → (spaces n ≢ []) ⊎ IsTrue false → EndsTag false (colon_text n r)
-some_space zero r (inl some) = absurd (some refl)
-some_space zero r (inr k) = absurd (false≢true k)
-some_space (suc n) r h = refl
+some_blank : (w r : List ℕ) → AreIn is_blank w → (w ≢ []) ⊎ IsTrue false → EndsTag false (w ++ (colon ∷ r))
+some_blank w r are (inr k) = absurd (false≢true k)
+some_blank [] r are (inl some) = absurd (some refl)
+some_blank (c ∷ cs) r are (inl some) = white_ends_tag false (c ∷ (cs ++ (58 ∷ r))) (blank_apart c are.0)
+  where
+    blank_apart : (c : ℕ) → IsTrue (is_blank c) → is_blank_or_breakz c ≡ true
+    blank_apart c h = grind (arith, nat_tests)
 
 pub alias_key : ReaderPromises → (around : Around) (start : State) (name : List ℕ) (k : Candidate) (qs : List Place)
     (p : List ℕ)
-    (n : ℕ) (r : List ℕ) (e : Marker) (ad : ℕ) → layout.IsAlias name p → IsBeforeColon (Alias name) (spaces n)
-    → InKey around k e (p ++ spaces n) (colon ∷ r) → ad ≤ e.index → Ready around start k (p ++ colon_text n r) e ad qs
+    (n : Blanks) (r : List ℕ) (e : Marker) (ad : ℕ) → layout.IsAlias name p → IsBeforeColon (Alias name) n.text
+    → InKey around k e (p ++ n.text) (colon ∷ r) → ad ≤ e.index → Ready around start k (p ++ colon_text n r) e ad qs
     → KeyAlong around start (Alias name) k qs (colon_after e p n) (colon ∷ r)
 alias_key reads around start name k qs p n r e ad h apart text low ready =
     record {
       tokens = alias_token name ∷ [];
       are = refl;
-      along = alias_along reads around start k qs name p (spaces n) (58 ∷ r) (spaces n) (58 ∷ r) e ad h
-          (tag_ends_name false (colon_text n r) (some_space n r apart)) text refl (spaces_are_blank n) low ready;
+      along = alias_along reads around start k qs name p n.text (58 ∷ r) n.text (58 ∷ r) e ad h
+          (tag_ends_name false (colon_text n r) (some_blank n.text r n.are apart)) text refl n.are low ready;
     }
 
 empty_key : ReaderPromises → (around : Around) (start : State) (p : Properties) (k : Candidate) (qs : List Place)
     (t : List ℕ)
-    (n : ℕ) (r : List ℕ) (e : Marker) (ad : ℕ) → IsProperties p t → IsBeforeColon (Scalar p Plain []) (spaces n)
-    → InKey around k e (t ++ spaces n) (colon ∷ r) → ad ≤ e.index → Ready around start k (t ++ colon_text n r) e ad qs
+    (n : Blanks) (r : List ℕ) (e : Marker) (ad : ℕ) → IsProperties p around.indent t → IsBeforeColon (Scalar p Plain []) n.text
+    → InKey around k e (t ++ n.text) (colon ∷ r) → ad ≤ e.index → Ready around start k (t ++ colon_text n r) e ad qs
     → KeyAlong around start (Scalar p Plain []) k qs (colon_after e t n) (colon ∷ r)
 empty_key reads around start p k qs t n r e ad h apart text low ready =
-    let a = properties_along reads around start k qs p.anchor p.tag t (spaces n) (58 ∷ r) (spaces n) (58 ∷ r) e ad h
-    (some_space n r apart) text refl (spaces_are_blank n) low ready in
-    record { tokens = a.tokens; are = empty_are p t a.tokens grammar.InBlockMapping h a.are; along = a.along }
+    let a = properties_along reads around start k qs p.anchor p.tag t n.text (58 ∷ r) n.text (58 ∷ r) e ad h
+    (some_blank n.text r n.are apart) text refl n.are low ready in
+    record { tokens = a.tokens; are = empty_are p around.indent t a.tokens grammar.InBlockMapping h a.are; along = a.along }
 
 -- what stands behind properties: separation on the line
 pub record Fronted (around : Around) (start : State) (p : Properties) (k : Candidate) (qs : List Place) (m : Marker)
@@ -71,7 +73,8 @@ pub record Fronted (around : Around) (start : State) (p : Properties) (k : Candi
   pub along : Along around start k qs m y tokens
 
 pub fronted : ReaderPromises → (around : Around) (start : State) (p : Properties) (k : Candidate) (qs : List Place)
-    (t v c s behind_all : List ℕ) (e : Marker) (ad : ℕ) → IsProperties p t → v ≢ [] → IsSeparation around.indent v
+    (t v c s behind_all : List ℕ) (e : Marker) (ad : ℕ)
+    → IsProperties p around.indent t → v ≢ [] → IsSeparation around.indent v
     → InKey around k e (t ++ (v ++ (c ++ s))) behind_all → ad ≤ e.index
     → Ready around start k (t ++ (v ++ (c ++ (s ++ behind_all)))) e ad qs
     → Fronted around start p k qs (moved (moved e t) v) (c ++ (s ++ behind_all))
@@ -90,21 +93,21 @@ fronted reads around start p k qs t v c s behind_all e ad h some gap text low re
 pub front_parts : (front t v c s : List ℕ) → front ≡ t ++ v → (front ++ c) ++ s ≡ t ++ (v ++ (c ++ s))
 front_parts front t v c s e = append_assoc front c s ∙ ap (λ (x : List ℕ). x ++ (c ++ s)) e ∙ append_assoc t v (c ++ s)
 
-pub colon_after_parts : (e : Marker) (front t v c : List ℕ) (n : ℕ) → front ≡ t ++ v
+pub colon_after_parts : (e : Marker) (front t v c : List ℕ) (n : Blanks) → front ≡ t ++ v
     → colon_after (moved (moved e t) v) c n ≡ colon_after e (front ++ c) n
 colon_after_parts e front t v c n is =
-    ap (λ (m : Marker). moved (moved m c) (spaces n)) (sym (moved_append e t v))
-    ∙ ap (λ (x : List ℕ). moved (moved (moved e x) c) (spaces n)) (sym is)
-    ∙ ap (λ (m : Marker). moved m (spaces n)) (sym (moved_append e front c))
+    ap (λ (m : Marker). moved (moved m c) n.text) (sym (moved_append e t v))
+    ∙ ap (λ (x : List ℕ). moved (moved (moved e x) c) n.text) (sym is)
+    ∙ ap (λ (m : Marker). moved m n.text) (sym (moved_append e front c))
 
 content_key : ReaderPromises → (around : Around) (start : State) (p : Properties) (style : Style) (value : List ℕ)
-    (k : Candidate) (qs : List Place) (front content : List ℕ) (n : ℕ) (r : List ℕ) (e : Marker) (ad : ℕ)
+    (k : Candidate) (qs : List Place) (front content : List ℕ) (n : Blanks) (r : List ℕ) (e : Marker) (ad : ℕ)
     → IsBeforeContent p around.indent front → ContentReads around style value content n r
-    → InKey around k e ((front ++ content) ++ spaces n) (colon ∷ r) → ad ≤ e.index
+    → InKey around k e ((front ++ content) ++ n.text) (colon ∷ r) → ad ≤ e.index
     → Ready around start k ((front ++ content) ++ colon_text n r) e ad qs
     → KeyAlong around start (Scalar p style value) k qs (colon_after e (front ++ content) n) (colon ∷ r)
 content_key reads around start p style value k qs front content n r e ad (inl (none, is)) g text low ready =
-    subst (λ (f : List ℕ). InKey around k e ((f ++ content) ++ spaces n) (58 ∷ r)
+    subst (λ (f : List ℕ). InKey around k e ((f ++ content) ++ n.text) (58 ∷ r)
     → Ready around start k ((f ++ content) ++ colon_text n r) e ad qs
     → KeyAlong around start (Scalar p style value) k qs (colon_after e (f ++ content) n) (58 ∷ r)) (sym is)
     (λ i z. record {
@@ -114,14 +117,14 @@ content_key reads around start p style value k qs front content n r e ad (inl (n
     }) text ready
 content_key reads around start p style value k qs front content n r e ad (inr (t, v, h, some, gap, is)) g text low
     ready =
-    let whole = in_so k e ((front ++ content) ++ spaces n) (t ++ (v ++ (content ++ spaces n))) (58 ∷ r)
-    (front_parts front t v content (spaces n) is) text in
-    let f = fronted reads around start p k qs t v content (spaces n) (58 ∷ r) e ad h some gap whole low
+    let whole = in_so k e ((front ++ content) ++ n.text) (t ++ (v ++ (content ++ n.text))) (58 ∷ r)
+    (front_parts front t v content n.text is) text in
+    let f = fronted reads around start p k qs t v content n.text (58 ∷ r) e ad h some gap whole low
     (subst (λ (x : List ℕ). Ready around start k x e ad qs) (front_parts front t v content (colon_text n r) is)
     ready) in
-    let inside = in_back k (moved e t) v (content ++ spaces n) (58 ∷ r)
-    (in_back k e t (v ++ (content ++ spaces n)) (58 ∷ r) whole) in
-    let next = along_ready content (colon_text n r) (spaces n) (58 ∷ r) f.along g.begins inside refl in
+    let inside = in_back k (moved e t) v (content ++ n.text) (58 ∷ r)
+    (in_back k e t (v ++ (content ++ n.text)) (58 ∷ r) whole) in
+    let next = along_ready content (colon_text n r) n.text (58 ∷ r) f.along g.begins inside refl in
     let c = g.along _ k _ (moved (moved e t) v) f.along.adjacent inside f.along.low next in
     subst (λ (m : Marker). KeyAlong around start (Scalar p style value) k qs m (58 ∷ r))
     (colon_after_parts e front t v content n is)
@@ -132,20 +135,20 @@ content_key reads around start p style value k qs front content n r e ad (inr (t
     })
 
 pub scalar_key : ReaderPromises → (around : Around) (start : State) (p : Properties) (style : Style) (value : List ℕ)
-    (k : Candidate) (qs : List Place) (t : List ℕ) (n : ℕ) (r : List ℕ) (e : Marker) (ad : ℕ)
-    → IsScalarNode p style value false around.indent t → IsBeforeColon (Scalar p style value) (spaces n)
-    → is_blank_or_breakz (slice_index r 0) ≡ true → InKey around k e (t ++ spaces n) (colon ∷ r) → ad ≤ e.index
+    (k : Candidate) (qs : List Place) (t : List ℕ) (n : Blanks) (r : List ℕ) (e : Marker) (ad : ℕ)
+    → IsScalarNode p style value false around.indent t → IsBeforeColon (Scalar p style value) n.text
+    → is_blank_or_breakz (slice_index r 0) ≡ true → InKey around k e (t ++ n.text) (colon ∷ r) → ad ≤ e.index
     → Ready around start k (t ++ colon_text n r) e ad qs
     → KeyAlong around start (Scalar p style value) k qs (colon_after e t n) (colon ∷ r)
 scalar_key reads around start p style value k qs t n r e ad (inl (plain, empty, h)) apart white text low ready =
-    subst (λ (q : Style). IsBeforeColon (Scalar p q value) (spaces n)
+    subst (λ (q : Style). IsBeforeColon (Scalar p q value) n.text
     → KeyAlong around start (Scalar p q value) k qs (colon_after e t n) (58 ∷ r)) (sym plain)
-    (subst (λ (v : List ℕ). IsBeforeColon (Scalar p Plain v) (spaces n)
+    (subst (λ (v : List ℕ). IsBeforeColon (Scalar p Plain v) n.text
     → KeyAlong around start (Scalar p Plain v) k qs (colon_after e t n) (58 ∷ r)) (sym empty)
     (λ a. empty_key reads around start p k qs t n r e ad h a text low ready)) apart
 scalar_key reads around start p style value k qs t n r e ad (inr (front, content, before, g, is)) apart white text low
     ready =
-    subst (λ (x : List ℕ). InKey around k e (x ++ spaces n) (58 ∷ r)
+    subst (λ (x : List ℕ). InKey around k e (x ++ n.text) (58 ∷ r)
     → Ready around start k (x ++ colon_text n r) e ad qs
     → KeyAlong around start (Scalar p style value) k qs (colon_after e x n) (58 ∷ r)) (sym is)
     (λ i z. content_key reads around start p style value k qs front content n r e ad before
@@ -164,5 +167,5 @@ plain_key reads around start (Scalar p style value) k qs t r e ad (front, conten
     text low ready =
     subst (λ (x : List ℕ). InKey around k e (x ++ []) (58 ∷ r) → Ready around start k (x ++ (58 ∷ r)) e ad qs
     → KeyAlong around start (Scalar p style value) k qs (moved e x) (58 ∷ r)) (sym e_is)
-    (λ i z. content_key reads around start p style value k qs front content 0 r e ad before
+    (λ i z. content_key reads around start p style value k qs front content no_blanks r e ad before
     (plain_key_reads reads around style value content r plain is g white) i low z) text ready

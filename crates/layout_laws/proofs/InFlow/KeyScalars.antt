@@ -1,7 +1,9 @@
 -- The content of a key on one line at block level: plain and quoted scalars.
-use Rattle.std.proofs.Common.{◌≡◌, ◌≢◌, ℕ, zero, suc, ◌≤◌, Bool, true, false, List, [], ◌∷◌, ◌++◌, length, slice_index, Ok, refl, sym, ap, ◌∙◌, arith, subst, append-nil, inl, encode_utf8_all}
+use Rattle.std.proofs.Common.{◌≡◌, ◌≢◌, ℕ, ◌≤◌, Bool, true, false, List, [], ◌∷◌, ◌++◌, length, slice_index, Ok, refl, sym, ap, ◌∙◌, arith, subst, append-nil, inl, IsTrue, encode_utf8_all}
 use Rattle.std.specs.Prelude.{◌==◌, Option, Some, None}
-use Rattle.saphyr_input.specs.Classes.{is_blank, is_blank_or_breakz}
+use Rattle.std.proofs.lemmas.Bool.Decides.{nat_tests}
+use Rattle.saphyr_input.specs.Classes.{is_blank, is_break, is_blank_or_breakz}
+use Rattle.saphyr_input.specs.Places.{is_blank_or_break}
 use Rattle.saphyr_scalar.specs.declared.scalar.position.Marker.{Marker}
 use Rattle.scalar_values.specs.declared.flow.Quote.{Quote}
 use Rattle.scalar_values.specs.declared.flow.Quote.TheVariants.{Single, Double}
@@ -9,7 +11,7 @@ use Rattle.saphyr_scalar.specs.Views.Cursor.{Cursor, ◌>>=◌, along}
 use Rattle.scalar_values.specs.Flow.{mark, plain_value}
 use Rattle.saphyr_scalar.specs.Steps.Quoted.{mid_line}
 use Rattle.saphyr_scalar.specs.Steps.Plain.{is_in_word, comment_of}
-use Rattle.saphyr_scalar.specs.Reading.BlockLines.{spaces}
+use Rattle.saphyr_scalar.specs.Spelling.Tag.{AreIn}
 use Rattle.saphyr_scalar.proofs.Given.{cursor_at}
 use Rattle.scalar_laws.specs.Spelling.Plain.{is_tabbed, past_white, EndsPlain, IsPlainText}
 use Rattle.saphyr_scanner.specs.declared.engine.level.Context.TheVariants as context
@@ -31,8 +33,8 @@ use Rattle.layout_laws.proofs.InFlow.KeyTokens.{InKey, in_near, in_back, in_righ
 use Rattle.layout_laws.proofs.Flow.States.{moved, past, crosses, IsInk, ReaderPromises}
 use Rattle.layout_laws.proofs.Flow.Places.{moved_index, clear_front}
 use Rattle.layout_laws.proofs.Flow.GapSteps.{past_ink}
-use Rattle.layout_laws.proofs.InBlock.Crossings.{spaces_uncrossed}
-use Rattle.layout_laws.proofs.Flow.Fillers.{spaces_past, spaces_are_blank, blanks_past}
+use Rattle.layout_laws.proofs.InBlock.Skips.{blanks_cross}
+use Rattle.layout_laws.proofs.Flow.Fillers.{blanks_past}
 use Rattle.layout_laws.proofs.Flow.Arrivals.{PassesGap}
 use Rattle.layout_laws.proofs.Flow.Separates.{separates}
 use Rattle.layout_laws.proofs.Flow.Quotes.{EndsQuotes, style_of_quote, quote_first, behind_step, quoted_step}
@@ -47,20 +49,39 @@ use Rattle.saphyr_scanner.proofs.Gaps.{stop_here}
 pub colon_ink : IsInk 58
 colon_ink = record { blank = refl; break = refl; comment = refl; byte_order_mark = refl }
 
--- the spaces and the colon behind a key
-abbrev pub colon_text : ℕ → List ℕ → List ℕ
-colon_text n r = spaces n ++ (58 ∷ r)
+-- the blanks between a key and its colon
+pub record Blanks : Type 0 where
+  pub text : List ℕ
+  pub are : AreIn is_blank text
 
-pub colon_lands : (column : ℕ) (m : Marker) (n : ℕ) (r : List ℕ)
-    → past column m (colon_text n r) ≡ (moved m (spaces n), colon ∷ r)
-colon_lands column m n r = spaces_past column n m (58 ∷ r) ∙ past_ink column (moved m (spaces n)) 58 r colon_ink
+abbrev pub no_blanks : Blanks
+no_blanks = record { text = []; are = tt }
+
+-- the blanks and the colon behind a key
+abbrev pub colon_text : Blanks → List ℕ → List ℕ
+colon_text n r = n.text ++ (58 ∷ r)
+
+pub colon_lands : (column : ℕ) (m : Marker) (n : Blanks) (r : List ℕ) → column ≤ m.col
+    → past column m (colon_text n r) ≡ (moved m n.text, colon ∷ r)
+colon_lands column m n r right =
+    (blanks_past column n.text n.are m right).is (58 ∷ r) ∙ past_ink column (moved m n.text) 58 r colon_ink
 
 -- ## Plain scalars
 
-white_spaces : (m : Marker) (n : ℕ) (r : List ℕ)
-    → past_white m false (colon_text n r) ≡ cursor_at (colon ∷ r) (moved m (spaces n)) false
-white_spaces m zero r = refl
-white_spaces m (suc n) r = white_spaces (along m 1) n r
+white_blanks : (m : Marker) (w r : List ℕ) → AreIn is_blank w
+    → past_white m false (w ++ (colon ∷ r)) ≡ cursor_at (colon ∷ r) (moved m w) false
+white_blanks m [] r are = refl
+white_blanks m (c ∷ cs) r are =
+    rw (blank_white c are.0, blank_unbroken c are.0, blank_feed c are.0) (white_blanks (along m 1) cs r are.1)
+  where
+    blank_white : (c : ℕ) → IsTrue (is_blank c) → is_blank_or_break c ≡ true
+    blank_white c h = grind (arith, nat_tests)
+
+    blank_unbroken : (c : ℕ) → IsTrue (is_blank c) → is_break c ≡ false
+    blank_unbroken c h = grind (arith, nat_tests)
+
+    blank_feed : (c : ℕ) → IsTrue (is_blank c) → (c == 10) ≡ false
+    blank_feed c h = grind (arith, nat_tests)
 
 colon_stops : (r : List ℕ) → is_blank_or_breakz (slice_index r 0) ≡ true → is_in_word false (colon ∷ r) ≡ false
 unfolding is_in_word
@@ -70,55 +91,59 @@ no_comment : (t : Bool) (m : Marker) (r : List ℕ) → comment_of false t (curs
 unfolding comment_of
 no_comment t m r = refl
 
-spaces_apart : (n : ℕ) (r : List ℕ) → slice_index (colon_text n r) 0 ≢ number_sign
-spaces_apart zero r e = absurd (omega (arith, e))
-spaces_apart (suc n) r e = absurd (omega (arith, e))
+blanks_apart : (w r : List ℕ) → AreIn is_blank w → slice_index (w ++ (colon ∷ r)) 0 ≢ number_sign
+blanks_apart [] r are e = absurd (omega (arith, e))
+blanks_apart (c ∷ cs) r are e = no_sign c are.0 e
+  where
+    no_sign : (c : ℕ) → IsTrue (is_blank c) → c ≢ number_sign
+    no_sign c h e = absurd (let f : false ≡ true = sym (ap (λ (d : ℕ). is_blank d) e) ∙ h in cc)
 
-key_ends_plain : (column : ℕ) (m : Marker) (n : ℕ) (r : List ℕ) → is_blank_or_breakz (slice_index r 0) ≡ true
+key_ends_plain : (column : ℕ) (m : Marker) (n : Blanks) (r : List ℕ) → column ≤ m.col
+    → is_blank_or_breakz (slice_index r 0) ≡ true
     → EndsPlain false column m (colon_text n r)
-key_ends_plain column m n r h =
+key_ends_plain column m n r right h =
     record {
-      stops = inl (ap (λ (u : Cursor). is_in_word false u.rest) (white_spaces m n r) ∙ colon_stops r h);
-      apart = spaces_apart n r;
+      stops = inl (ap (λ (u : Cursor). is_in_word false u.rest) (white_blanks m n.text r n.are) ∙ colon_stops r h);
+      apart = blanks_apart n.text r n.are;
       tabs = tabs_behind column m m false (colon_text n r)
-          (ap (λ (z : Marker × List ℕ). is_blank (slice_index z.1 0)) (colon_lands column m n r));
+          (ap (λ (z : Marker × List ℕ). is_blank (slice_index z.1 0)) (colon_lands column m n r right));
     }
 
-right_behind_key : (column : ℕ) (m : Marker) (n : ℕ) → column ≤ m.col → column ≤ (moved m (spaces n)).col
-right_behind_key column m n right = (blanks_past column (spaces n) (spaces_are_blank n) m right).right
+right_behind_key : (column : ℕ) (m : Marker) (n : Blanks) → column ≤ m.col → column ≤ (moved m n.text).col
+right_behind_key column m n right = (blanks_past column n.text n.are m right).right
 
-index_behind : (e : Marker) (t : List ℕ) (n ad : ℕ) → ad ≤ e.index → ad ≤ (moved (moved e t) (spaces n)).index
+index_behind : (e : Marker) (t : List ℕ) (n : Blanks) (ad : ℕ) → ad ≤ e.index → ad ≤ (moved (moved e t) n.text).index
 index_behind e t n ad low =
     let one = moved_index e t in
-    let two = moved_index (moved e t) (spaces n) in
+    let two = moved_index (moved e t) n.text in
     omega (arith, one, two, low)
 
 -- where a scalar ends before its colon
-abbrev pub colon_after : Marker → List ℕ → ℕ → Marker
-colon_after e t n = moved (moved e t) (spaces n)
+abbrev pub colon_after : Marker → List ℕ → Blanks → Marker
+colon_after e t n = moved (moved e t) n.text
 
 -- a text that is read as a plain scalar
 text_along : ReaderPromises → (around : Around) (start : State) (k : Candidate) (qs : List Place) (c : ℕ) (cs : List ℕ)
-    (n : ℕ)
+    (n : Blanks)
     (r : List ℕ) (e : Marker) (ad : ℕ) → BeginsWord false (c ∷ cs) (colon_text n r)
-    → IsPlainText false around.indent e (c ∷ cs) (colon_text n r) → InKey around k e ((c ∷ cs) ++ spaces n) (colon ∷ r)
+    → IsPlainText false around.indent e (c ∷ cs) (colon_text n r) → InKey around k e ((c ∷ cs) ++ n.text) (colon ∷ r)
     → ad ≤ e.index → Ready around start k ((c ∷ cs) ++ colon_text n r) e ad qs
     → Along around start k qs (colon_after e (c ∷ cs) n) (colon ∷ r) (scalar_token Plain (plain_value (c ∷ cs)) ∷ [])
 text_along reads around start k qs c cs n r e ad begins plain text low ready =
     let t = c ∷ cs in
     let o = colon_text n r in
-    let clear = clear_front e t (spaces n) (58 ∷ r) text.clear in
+    let clear = clear_front e t n.text (58 ∷ r) text.clear in
     let end = moved e t in
     let there = cursor_at (58 ∷ r) (colon_after e t n) false in
     let kind = scalar_token Plain (plain_value t) in
-    let last = in_back k end (spaces n) [] (58 ∷ r)
-    (subst (λ (x : List ℕ). InKey around k end x (58 ∷ r)) (sym (append-nil (spaces n)))
-    (in_back k e t (spaces n) (58 ∷ r) text)) in
+    let last = in_back k end n.text [] (58 ∷ r)
+    (subst (λ (x : List ℕ). InKey around k end x (58 ∷ r)) (sym (append-nil n.text))
+    (in_back k e t n.text (58 ∷ r) text)) in
     let stepped = plain_step reads around ready.deeper (length qs) e ready.blank t o context.Block begins plain clear
     (Some k) [] false ad (inl refl) (behind_key refl refl)
     ∙ ap (λ (u : Cursor). completed_step (from_to e end kind ∷ [])
     (record (core_at around false u context.Block (Some k) [] u.blank_so_far ad)
-    { comment = comment_of false (is_tabbed around.indent o) u })) (white_spaces end n r)
+    { comment = comment_of false (is_tabbed around.indent o) u })) (white_blanks end n.text r n.are)
     ∙ ap (λ (q : Option Marker). completed_step (from_to e end kind ∷ [])
     (record (core_at around false there context.Block (Some k) [] false ad) { comment = q }))
     (no_comment (is_tabbed around.indent o) (colon_after e t n) r) in
@@ -132,7 +157,7 @@ text_along reads around start k qs c cs n r e ad begins plain text low ready =
       are_white = tt;
       rest = refl;
       mark = refl;
-      right = right_behind_key around.indent end n (in_right k e c cs (spaces n) (58 ∷ r) text);
+      right = right_behind_key around.indent end n (in_right k e c cs n.text (58 ∷ r) text);
       piece = record { span = record { start = e; end = end }; kind = kind };
       others = [];
       leads = led;
@@ -142,15 +167,15 @@ text_along reads around start k qs c cs n r e ad begins plain text low ready =
 
 pub plain_along : ReaderPromises → (around : Around) (start : State) (k : Candidate) (qs : List Place) (c : ℕ)
     (cs : List ℕ)
-    (n : ℕ) (r : List ℕ) (e : Marker) (ad : ℕ) → IsPlain false around.indent (c ∷ cs)
-    → is_blank_or_breakz (slice_index r 0) ≡ true → InKey around k e ((c ∷ cs) ++ spaces n) (colon ∷ r) → ad ≤ e.index
+    (n : Blanks) (r : List ℕ) (e : Marker) (ad : ℕ) → IsPlain false around.indent (c ∷ cs)
+    → is_blank_or_breakz (slice_index r 0) ≡ true → InKey around k e ((c ∷ cs) ++ n.text) (colon ∷ r) → ad ≤ e.index
     → Ready around start k ((c ∷ cs) ++ colon_text n r) e ad qs
     → Along around start k qs (colon_after e (c ∷ cs) n) (colon ∷ r) (scalar_token Plain (plain_value (c ∷ cs)) ∷ [])
 plain_along reads around start k qs c cs n r e ad h white text low ready =
-    let clear = clear_front e (c ∷ cs) (spaces n) (58 ∷ r) text.clear in
+    let clear = clear_front e (c ∷ cs) n.text (58 ∷ r) text.clear in
     text_along reads around start k qs c cs n r e ad (word_begins false around.indent (c ∷ cs) (colon_text n r) h)
     (plain_text false around.indent e (c ∷ cs) (colon_text n r) h clear
-    (key_ends_plain around.indent (moved e (c ∷ cs)) n r white)) text low ready
+    (key_ends_plain around.indent (moved e (c ∷ cs)) n r (in_right k e c cs n.text (58 ∷ r) text) white)) text low ready
 
 -- a plain scalar whose last word may end with a colon, right before the key's colon
 pub plain_key_along : ReaderPromises
@@ -161,8 +186,8 @@ pub plain_key_along : ReaderPromises
     → Along around start k qs (moved e (c ∷ cs)) (colon ∷ r) (scalar_token Plain (plain_value (c ∷ cs)) ∷ [])
 plain_key_along reads around start k qs c cs r e ad h white text low ready =
     let clear = clear_front e (c ∷ cs) [] (58 ∷ r) text.clear in
-    text_along reads around start k qs c cs 0 r e ad (key_begins false around.indent (c ∷ cs) r h)
-    (key_text false around.indent e (c ∷ cs) r h clear (key_ends_plain around.indent (moved e (c ∷ cs)) 0 r white)) text
+    text_along reads around start k qs c cs no_blanks r e ad (key_begins false around.indent (c ∷ cs) r h)
+    (key_text false around.indent e (c ∷ cs) r h clear (key_ends_plain around.indent (moved e (c ∷ cs)) no_blanks r (in_right k e c cs [] (58 ∷ r) text) white)) text
     low ready
 
 -- ## Quoted scalars
@@ -188,25 +213,25 @@ gap_to_colon around d s k ad m r is at_colon =
     gapped
 
 -- what stands behind the closing quote, and the colon
-record KeyQuotes (around : Around) (start : Marker) (m : Marker) (n : ℕ) (r : List ℕ) : Type 0 where
+record KeyQuotes (around : Around) (start : Marker) (m : Marker) (n : Blanks) (r : List ℕ) : Type 0 where
   ends : EndsQuotes around start (mid_line m (colon_text n r)) context.Block
   rest : ends.there.rest ≡ colon ∷ r
-  mark : ends.there.mark ≡ moved m (spaces n)
+  mark : ends.there.mark ≡ moved m n.text
 
-key_quotes : (around : Around) (start m : Marker) (n : ℕ) (r : List ℕ) → around.indent ≤ m.col
-    → start.line ≡ (moved m (spaces n)).line → KeyQuotes around start m n r
+key_quotes : (around : Around) (start m : Marker) (n : Blanks) (r : List ℕ) → around.indent ≤ m.col
+    → start.line ≡ (moved m n.text).line → KeyQuotes around start m n r
 key_quotes around start m n r right line =
-    let p = separates around.indent (mid_line m (colon_text n r)) (spaces n) 58 r refl
-    (separation_of_blanks around.indent (spaces n) (spaces_are_blank n)) right colon_ink in
-    let near = p.near (spaces_are_blank n) in
+    let p = separates around.indent (mid_line m (colon_text n r)) n.text 58 r refl
+    (separation_of_blanks around.indent n.text n.are) right colon_ink in
+    let near = p.near n.are in
     record {
       ends = record {
         found = p.found;
         there = p.there;
         is = p.is;
         lands = p.lands;
-        inked = ap (λ (z : Marker × List ℕ). is_blank (slice_index z.1 0)) (colon_lands around.indent m n r);
-        stays = λ _ e. absurd (clash (crosses (colon_text n r)) e (spaces_uncrossed n r));
+        inked = ap (λ (z : Marker × List ℕ). is_blank (slice_index z.1 0)) (colon_lands around.indent m n r right);
+        stays = λ _ e. absurd (clash (crosses (colon_text n r)) e (blanks_cross n.text (58 ∷ r) n.are));
         goes = λ d k ls a ad. goes_before_colon around d start p.there r k ls a ad near.0
             (line ∙ ap (λ (z : Marker). z.line) (sym near.1));
       };
@@ -214,26 +239,29 @@ key_quotes around start m n r right line =
       mark = near.1;
     }
 
-no_quote : (n : ℕ) (r : List ℕ) → (slice_index (colon_text n r) 0 == apostrophe) ≡ false
-no_quote zero r = refl
-no_quote (suc n) r = refl
+no_quote : (w r : List ℕ) → AreIn is_blank w → (slice_index (w ++ (colon ∷ r)) 0 == apostrophe) ≡ false
+no_quote [] r are = refl
+no_quote (c ∷ cs) r are = no_apostrophe c are.0
+  where
+    no_apostrophe : (c : ℕ) → IsTrue (is_blank c) → (c == apostrophe) ≡ false
+    no_apostrophe c h = grind (arith, nat_tests)
 
 pub quotes_along : ReaderPromises
-    → (around : Around) (start : State) (k : Candidate) (qs : List Place) (quote : Quote) (value t : List ℕ) (n : ℕ)
+    → (around : Around) (start : State) (k : Candidate) (qs : List Place) (quote : Quote) (value t : List ℕ) (n : Blanks)
     (r : List ℕ) (e : Marker) (ad : ℕ) → IsQuoted quote around.indent value t
-    → InKey around k e (t ++ spaces n) (colon ∷ r) → Ready around start k (t ++ colon_text n r) e ad qs
+    → InKey around k e (t ++ n.text) (colon ∷ r) → Ready around start k (t ++ colon_text n r) e ad qs
     → Along around start k qs (colon_after e t n) (colon ∷ r) (scalar_token (style_of_quote quote) value ∷ [])
 quotes_along reads around start k qs quote value t n r e ad h text ready =
     let o = colon_text n r in
-    let clear = clear_front e t (spaces n) (58 ∷ r) text.clear in
+    let clear = clear_front e t n.text (58 ∷ r) text.clear in
     let end = moved e t in
     let m = colon_after e t n in
     let kind = scalar_token (style_of_quote quote) value in
-    let whole = in_back k e t (spaces n) (58 ∷ r) text in
-    let last = in_back k end (spaces n) [] (58 ∷ r)
-    (subst (λ (x : List ℕ). InKey around k end x (58 ∷ r)) (sym (append-nil (spaces n))) whole) in
-    let right = subst (λ (x : List ℕ). InKey around k e (x ++ spaces n) (58 ∷ r) → around.indent ≤ (moved e x).col)
-    (sym h.5) (λ i. in_right k e (mark quote) h.0 (spaces n) (58 ∷ r) i) text in
+    let whole = in_back k e t n.text (58 ∷ r) text in
+    let last = in_back k end n.text [] (58 ∷ r)
+    (subst (λ (x : List ℕ). InKey around k end x (58 ∷ r)) (sym (append-nil n.text)) whole) in
+    let right = subst (λ (x : List ℕ). InKey around k e (x ++ n.text) (58 ∷ r) → around.indent ≤ (moved e x).col)
+    (sym h.5) (λ i. in_right k e (mark quote) h.0 n.text (58 ∷ r) i) text in
     let ends = key_quotes around e end n r right (text.line ∙ sym last.line) in
     let shut = ends.ends.there in
     let g : PassesGap around shut context.Block (Some k) [] false ad m (58 ∷ r) =
@@ -246,7 +274,7 @@ quotes_along reads around start k qs quote value t n r e ad h text ready =
     } in
     let first : slice_index (t ++ o) 0 ≡ mark quote = ap (λ (y : List ℕ). slice_index (y ++ o) 0) h.5 in
     let there = cursor_at (58 ∷ r) m shut.blank_so_far in
-    let stepped = quoted_step reads around ready.deeper quote (length qs) e ready.blank value t o h clear (no_quote n r)
+    let stepped = quoted_step reads around ready.deeper quote (length qs) e ready.blank value t o h clear (no_quote n.text r n.are)
     context.Block (Some k) [] false ad (slice_index (t ++ o) 0) first (behind_key refl refl)
     ∙ behind_step around ready.deeper e (style_of_quote quote) (encode_utf8_all value)
     (mid_line end o) context.Block (Some k)
@@ -280,15 +308,15 @@ some_first : (in_flow : Bool) (indent : ℕ) (t : List ℕ) → IsPlain in_flow 
 some_first in_flow indent t h = let w = word_begins in_flow indent t [] h in (w.first, w.others, w.is)
 
 pub content_along : ReaderPromises
-    → (around : Around) (start : State) (k : Candidate) (qs : List Place) (style : Style) (value t : List ℕ) (n : ℕ)
+    → (around : Around) (start : State) (k : Candidate) (qs : List Place) (style : Style) (value t : List ℕ) (n : Blanks)
     (r : List ℕ) (e : Marker) (ad : ℕ) → IsFlowScalar style value false around.indent t
-    → is_blank_or_breakz (slice_index r 0) ≡ true → InKey around k e (t ++ spaces n) (colon ∷ r) → ad ≤ e.index
+    → is_blank_or_breakz (slice_index r 0) ≡ true → InKey around k e (t ++ n.text) (colon ∷ r) → ad ≤ e.index
     → Ready around start k (t ++ colon_text n r) e ad qs
     → Along around start k qs (colon_after e t n) (colon ∷ r) (scalar_token style value ∷ [])
 content_along reads around start k qs Plain value t n r e ad h white text low ready =
     let f = some_first false around.indent t h.0 in
     subst (λ (v : List ℕ). Along around start k qs (colon_after e t n) (58 ∷ r) (scalar_token Plain v ∷ [])) (sym h.1)
-    (subst (λ (x : List ℕ). IsPlain false around.indent x → InKey around k e (x ++ spaces n) (58 ∷ r)
+    (subst (λ (x : List ℕ). IsPlain false around.indent x → InKey around k e (x ++ n.text) (58 ∷ r)
     → Ready around start k (x ++ colon_text n r) e ad qs
     → Along around start k qs (colon_after e x n) (58 ∷ r) (scalar_token Plain (plain_value x) ∷ []))
     (sym f.2) (λ p i z. plain_along reads around start k qs f.0 f.1 n r e ad p white i low z) h.0 text ready)
@@ -300,10 +328,10 @@ content_along reads around start k qs Literal value t n r e ad h white text low 
 content_along reads around start k qs Folded value t n r e ad h white text low ready = absurd h
 
 -- how the content of a key is read, before spaces and its colon
-pub record ContentReads (around : Around) (style : Style) (value content : List ℕ) (n : ℕ) (r : List ℕ) : Type 0 where
+pub record ContentReads (around : Around) (style : Style) (value content : List ℕ) (n : Blanks) (r : List ℕ) : Type 0 where
   pub begins : Begins content
   pub along : (start : State) (k : Candidate) (qs : List Place) (e : Marker) (ad : ℕ)
-      → InKey around k e (content ++ spaces n) (colon ∷ r) → ad ≤ e.index
+      → InKey around k e (content ++ n.text) (colon ∷ r) → ad ≤ e.index
       → Ready around start k (content ++ colon_text n r) e ad qs
       → Along around start k qs (colon_after e content n) (colon ∷ r) (scalar_token style value ∷ [])
 
@@ -314,7 +342,7 @@ scalar_begins indent DoubleQuoted value t h = subst Begins (sym h.5) (quote_firs
 scalar_begins indent Literal value t h = absurd h
 scalar_begins indent Folded value t h = absurd h
 
-pub scalar_reads : ReaderPromises → (around : Around) (style : Style) (value content : List ℕ) (n : ℕ) (r : List ℕ)
+pub scalar_reads : ReaderPromises → (around : Around) (style : Style) (value content : List ℕ) (n : Blanks) (r : List ℕ)
     → IsFlowScalar style value false around.indent content → is_blank_or_breakz (slice_index r 0) ≡ true
     → ContentReads around style value content n r
 scalar_reads reads around style value content n r h white =
@@ -327,10 +355,10 @@ scalar_reads reads around style value content n r h white =
 
 pub plain_key_reads : ReaderPromises → (around : Around) (style : Style) (value content r : List ℕ) → style ≡ Plain
     → value ≡ plain_value content → IsPlainKey false around.indent content → is_blank_or_breakz (slice_index r 0) ≡ true
-    → ContentReads around style value content 0 r
+    → ContentReads around style value content no_blanks r
 plain_key_reads reads around style value content r plain is h white =
-    subst (λ (q : Style). ContentReads around q value content 0 r) (sym plain)
-    (subst (λ (v : List ℕ). ContentReads around Plain v content 0 r) (sym is)
+    subst (λ (q : Style). ContentReads around q value content no_blanks r) (sym plain)
+    (subst (λ (v : List ℕ). ContentReads around Plain v content no_blanks r) (sym is)
     (record {
       begins = token_begins false content (58 ∷ r) (key_begins false around.indent content r h);
       along = λ start k qs e ad text low ready. key_along start k qs content e ad h text low ready;

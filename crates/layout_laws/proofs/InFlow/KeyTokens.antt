@@ -1,5 +1,5 @@
 -- The tokens of a key on one line at block level, one behind the other.
-use Rattle.std.proofs.Common.{◌≡◌, ℕ, zero, suc, ◌+◌, ◌≤◌, Bool, false, List, [], ◌∷◌, ◌++◌, length, slice_index, refl, sym, ap, ◌∙◌, arith, subst, append_assoc, inl, inr, encode_utf8_all}
+use Rattle.std.proofs.Common.{◌≡◌, ◌≢◌, ℕ, suc, ◌+◌, ◌≤◌, Bool, false, List, [], ◌∷◌, ◌++◌, length, slice_index, refl, sym, ap, ◌∙◌, arith, subst, append_assoc, inl, inr, encode_utf8_all}
 use Rattle.std.specs.Prelude.{option_map, Option, Some, None}
 use Rattle.std.proofs.lemmas.List.{length-append}
 use Rattle.saphyr_input.specs.Classes.{is_blank, is_break, is_anchor_char}
@@ -8,7 +8,7 @@ use Rattle.saphyr_scalar.specs.Views.Cursor.{Cursor, along}
 use Rattle.saphyr_scalar.specs.Steps.Quoted.{mid_line}
 use Rattle.saphyr_scalar.specs.Spelling.Tag.{AreIn, IsAnchorName, EndsTag}
 use Rattle.saphyr_scalar.proofs.Given.{cursor_at}
-use Rattle.scalar_laws.specs.Spelling.Spaces.{AreSpaces}
+use Rattle.scalar_laws.specs.Spelling.Spaces.{IsGap}
 use Rattle.saphyr_scanner.specs.declared.engine.level.Context.TheVariants as context
 use Rattle.saphyr_scanner.specs.Grammar.Tokens as tokens
 use Rattle.saphyr_scanner.specs.Grammar.Tokens.{Kind, alias_token, anchor_token, tag_token}
@@ -27,16 +27,16 @@ use Rattle.layout_laws.specs.Grammar.TagSpelling.{IsTag}
 use Rattle.layout_laws.specs.Grammar.FlowNodes as layout
 use Rattle.layout_laws.specs.Grammar.FlowNodes.{IsOnLine, IsAnchor, IsAlias}
 use Rattle.layout_laws.proofs.InFlow.States.{Around, core_at, state_at, behind_key, moment}
-use Rattle.layout_laws.proofs.InFlow.ScalarsOnLine.{front_on_line, back_on_line}
+use Rattle.layout_laws.proofs.InFlow.ScalarsOnLine.{front_on_line, back_on_line, gap_of_blanks}
 use Rattle.layout_laws.proofs.InFlow.KeyLines.{IsNear, Ready, later_ready, token_led}
 use Rattle.layout_laws.proofs.Flow.States.{moved, IsClear, ReaderPromises}
 use Rattle.layout_laws.proofs.Flow.Places.{moved_append, moved_index, moved_along, clear_front, clear_back}
 use Rattle.layout_laws.proofs.Flow.Arrivals.{BeginsToken}
-use Rattle.layout_laws.proofs.Flow.Fillers.{spaces_are_blank}
 use Rattle.layout_laws.proofs.Flow.Tokens.{Begins, begins_token}
 use Rattle.layout_laws.proofs.Flow.Names.{name_step, begins_anchor, begins_alias, anchor_first, tag_step, begins_tag}
 use Rattle.layout_laws.proofs.Flow.Tags.{tag_read, tag_first}
-use Rattle.layout_laws.proofs.Flow.Ends.{tag_ends_name}
+use Rattle.layout_laws.proofs.Flow.Ends.{tag_ends_name, white_ends_tag}
+use Rattle.layout_laws.proofs.Flow.Properties.{blank_first}
 
 -- ## The rest of a key
 
@@ -293,12 +293,8 @@ pub record PropertiesAlong (around : Around) (start : State) (k : Candidate) (qs
   pub are : grammar.AreBoth (option_map anchor_token anchor) (option_map tag_token tag) tokens
   pub along : Along around start k qs m y tokens
 
-blank_spaces : (w : List ℕ) → AreSpaces 1 w → AreIn is_blank w
-blank_spaces w h = subst (AreIn is_blank) (sym h.2) (spaces_are_blank h.0)
-
-blanks_end_tag : (w y : List ℕ) → AreSpaces 1 w → EndsTag false (w ++ y)
-blanks_end_tag w y (zero, some, is) = absurd (omega (arith, some))
-blanks_end_tag w y (suc n, some, is) = subst (λ (v : List ℕ). EndsTag false (v ++ y)) (sym is) refl
+blanks_end_tag : (w y : List ℕ) → (w ≢ []) × AreIn is_blank w → EndsTag false (w ++ y)
+blanks_end_tag w y h = white_ends_tag false (w ++ y) (blank_first w y h)
 
 pub tag_begins : (tag : Tag) (t : List ℕ) → IsTag tag t → Begins t
 tag_begins tag t h =
@@ -316,14 +312,20 @@ tag_begins tag t h =
 pub anchor_begins : (name t : List ℕ) → IsAnchor name t → Begins t
 anchor_begins name t h = subst Begins (sym h.1) (anchor_first name)
 
--- two texts with spaces between
+-- two texts with blanks between
 spaced_parts : (t a s c b : List ℕ) → t ≡ a ++ (s ++ c) → t ++ b ≡ a ++ (s ++ (c ++ b))
 spaced_parts t a s c b e = ap (λ (x : List ℕ). x ++ b) e ∙ append_assoc a (s ++ c) b
     ∙ ap (λ (x : List ℕ). a ++ x) (append_assoc s c b)
 
+-- on one line a gap is of blanks
+blanks_between : (a s c t : List ℕ) (indent : ℕ) → IsGap indent s → t ≡ a ++ (s ++ c) → IsOnLine t
+    → (s ≢ []) × AreIn is_blank s
+blanks_between a s c t indent h e line =
+    gap_of_blanks indent s h (front_on_line s c (s ++ c) refl (back_on_line a (s ++ c) t e line))
+
 pub properties_along : ReaderPromises
     → (around : Around) (start : State) (k : Candidate) (qs : List Place) (anchor : Option (List ℕ)) (tag : Option Tag)
-    (t b behind w y : List ℕ) (e : Marker) (ad : ℕ) → layout.AreProperties anchor tag t
+    (t b behind w y : List ℕ) (e : Marker) (ad : ℕ) → layout.AreProperties anchor tag around.indent t
     → EndsTag false (b ++ behind) → InKey around k e (t ++ b) behind → b ++ behind ≡ w ++ y → AreIn is_blank w
     → ad ≤ e.index → Ready around start k (t ++ (b ++ behind)) e ad qs
     → PropertiesAlong around start k qs anchor tag (moved (moved e t) w) y
@@ -341,10 +343,12 @@ properties_along reads around start k qs None (Some tag) t b behind w y e ad h e
       are = refl;
       along = tag_along reads around start k qs tag t b behind w y e ad h ends text is are low r;
     }
-properties_along reads around start k qs (Some name) (Some tag) t b behind w y e ad (a, s, c, h, g, spaced, inl t_is)
+properties_along reads around start k qs (Some name) (Some tag) t b behind w y e ad (a, s, c, h, g, gapped, inl t_is)
     ends text is are low r =
     let o = b ++ behind in
     let rest = s ++ (c ++ b) in
+    let spaced = blanks_between a s c t around.indent gapped t_is
+    (front_on_line t b (t ++ b) refl text.on_line) in
     let whole = in_so k e (t ++ b) (a ++ rest) behind (spaced_parts t a s c b t_is) text in
     let behind_is : rest ++ behind ≡ s ++ (c ++ o) = append_assoc s (c ++ b) behind
     ∙ ap (λ (x : List ℕ). s ++ x) (append_assoc c b behind) in
@@ -353,7 +357,7 @@ properties_along reads around start k qs (Some name) (Some tag) t b behind w y e
     let first = anchor_along reads around start k qs name a rest behind s (c ++ o) e ad h
     (tag_ends_name false (rest ++ behind) (subst (EndsTag false) (sym behind_is) (blanks_end_tag s (c ++ o) spaced)))
     whole
-    behind_is (blank_spaces s spaced) low there in
+    behind_is spaced.1 low there in
     let inside = in_back k (moved e a) s (c ++ b) behind (in_back k e a rest behind whole) in
     let next = along_ready c o b behind first (tag_begins tag c g) inside refl in
     let second = tag_along reads around _ k _ tag c b behind w y (moved (moved e a) s) first.adjacent g ends inside is
@@ -366,17 +370,19 @@ properties_along reads around start k qs (Some name) (Some tag) t b behind w y e
       along = subst (λ (m : Marker). Along around start k qs (moved m w) y (anchor_token name ∷ tag_token tag ∷ []))
           place (along_joins first second);
     }
-properties_along reads around start k qs (Some name) (Some tag) t b behind w y e ad (c, s, a, h, g, spaced, inr t_is)
+properties_along reads around start k qs (Some name) (Some tag) t b behind w y e ad (c, s, a, h, g, gapped, inr t_is)
     ends text is are low r =
     let o = b ++ behind in
     let rest = s ++ (c ++ b) in
+    let spaced = blanks_between a s c t around.indent gapped t_is
+    (front_on_line t b (t ++ b) refl text.on_line) in
     let whole = in_so k e (t ++ b) (a ++ rest) behind (spaced_parts t a s c b t_is) text in
     let behind_is : rest ++ behind ≡ s ++ (c ++ o) = append_assoc s (c ++ b) behind
     ∙ ap (λ (x : List ℕ). s ++ x) (append_assoc c b behind) in
     let there = subst (λ (x : List ℕ). Ready around start k x e ad qs)
     (spaced_parts t a s c o t_is ∙ ap (λ (x : List ℕ). a ++ x) (sym behind_is)) r in
     let first = tag_along reads around start k qs tag a rest behind s (c ++ o) e ad g
-    (subst (EndsTag false) (sym behind_is) (blanks_end_tag s (c ++ o) spaced)) whole behind_is (blank_spaces s spaced)
+    (subst (EndsTag false) (sym behind_is) (blanks_end_tag s (c ++ o) spaced)) whole behind_is spaced.1
     low there in
     let inside = in_back k (moved e a) s (c ++ b) behind (in_back k e a rest behind whole) in
     let next = along_ready c o b behind first (anchor_begins name c h) inside refl in

@@ -1,6 +1,6 @@
 -- On one line the indentation of a scalar in flow style, and of what stands before it, does not matter.
-use Rattle.std.proofs.Common.{◌≡◌, ℕ, ◌≤◌, Bool, true, false, List, [], ◌∷◌, ◌++◌, drop, slice_index, refl, sym, ap, ◌∙◌, arith, subst, append_assoc, IsTrue, ◌⊎◌, inl, inr}
-use Rattle.std.specs.Prelude.{◌==◌, not}
+use Rattle.std.proofs.Common.{◌≡◌, ◌≢◌, ℕ, ◌≤◌, Bool, true, false, List, [], ◌∷◌, ◌++◌, drop, slice_index, refl, sym, ap, ◌∙◌, arith, subst, append_assoc, IsTrue, ◌⊎◌, inl, inr}
+use Rattle.std.specs.Prelude.{◌==◌, not, Option, Some, None}
 use Rattle.saphyr_input.specs.Classes.{is_blank, is_break, line_feed}
 use Rattle.scalar_values.specs.declared.folding.Item.{Item}
 use Rattle.scalar_values.specs.declared.flow.Quote.{Quote}
@@ -10,11 +10,11 @@ use Rattle.saphyr_scalar.specs.Steps.Quoted.{break_len}
 use Rattle.saphyr_scalar.specs.Spelling.Quoted.{IsText, closed, itself, broken, two_quotes, escaped, numbered, escaped_break}
 use Rattle.saphyr_scalar.specs.Spelling.Tag.{AreIn}
 use Rattle.scalar_laws.specs.Spelling.QuotedLines.{space_count, IsLine, LinesFit}
-use Rattle.scalar_laws.specs.Spelling.Spaces.{joined_pieces, AreEach, IsSeparationLine, IsSeparation}
+use Rattle.scalar_laws.specs.Spelling.Spaces.{joined_pieces, AreEach, AreMany, IsLinePrefix, IsGap, IsSeparationLine, IsSeparation}
 use Rattle.scalar_laws.proofs.Beginnings.{front_in, back_in}
-use Rattle.saphyr_scanner.specs.Grammar.Forest.{Style, Plain, SingleQuoted, DoubleQuoted, Literal, Folded, Properties, Node, Alias, Scalar, Seq, Map}
-use Rattle.layout_laws.specs.Grammar.FlowScalars.{IsLinePrefix, IsEmptyLine, IsWordGap, IsFurtherWord, IsPlain, IsPlainKey, IsQuoted, IsFlowScalar}
-use Rattle.layout_laws.specs.Grammar.FlowNodes.{IsOnLine, IsBeforeContent, IsScalarNode, IsPlainKeyNode, IsKeyText, IsOpening}
+use Rattle.saphyr_scanner.specs.Grammar.Forest.{Style, Plain, SingleQuoted, DoubleQuoted, Literal, Folded, Tag, Properties, Node, Alias, Scalar, Seq, Map}
+use Rattle.layout_laws.specs.Grammar.FlowScalars.{IsEmptyLine, IsWordGap, IsLoneDash, IsFurtherWord, IsPlain, IsPlainKey, IsQuoted, IsFlowScalar}
+use Rattle.layout_laws.specs.Grammar.FlowNodes.{AreProperties, IsOnLine, IsBeforeContent, IsScalarNode, IsPlainKeyNode, IsKeyText, IsOpening}
 
 -- ## Parts of a line
 
@@ -47,6 +47,27 @@ separation_of_blanks indent w h = ([], w, ([], tt, refl), h, refl)
 pub separation_lowers : (i j : ℕ) (w : List ℕ) → IsOnLine w → IsSeparation i w → IsSeparation j w
 separation_lowers i j w line h = separation_of_blanks j w (blanks_on_line i w h line)
 
+-- a gap on one line is of blanks
+pub gap_of_blanks : (indent : ℕ) (w : List ℕ) → IsGap indent w → IsOnLine w → (w ≢ []) × AreIn is_blank w
+gap_of_blanks indent w (inl h) line = h
+gap_of_blanks indent w (inr (end, filler, front, (rest, rest_is, end_is), filler_is, prefix, e)) line =
+    absurd (let f : false ≡ true = (back_on_line rest (10 ∷ (filler ++ front)) w
+    (e ∙ ap (λ (t : List ℕ). t ++ (filler ++ front)) end_is ∙ append_assoc rest (10 ∷ []) (filler ++ front)) line).0
+    in cc)
+
+properties_lower : (i j : ℕ) (anchor : Option (List ℕ)) (tag : Option Tag) (t : List ℕ) → IsOnLine t
+    → AreProperties anchor tag i t → AreProperties anchor tag j t
+properties_lower i j None None t line h = absurd h
+properties_lower i j (Some name) None t line h = h
+properties_lower i j None (Some tag) t line h = h
+properties_lower i j (Some name) (Some tag) t line (anchor, gap, written, a, w, gapped, order) =
+    (anchor, gap, written, a, w, inl (gap_of_blanks i gap gapped (inside order)), order)
+  where
+    inside : (t ≡ anchor ++ (gap ++ written)) ⊎ (t ≡ written ++ (gap ++ anchor)) → IsOnLine gap
+    inside (inl e) =
+        front_on_line gap written (gap ++ written) refl (back_on_line anchor (gap ++ written) t e line)
+    inside (inr e) = front_on_line gap anchor (gap ++ anchor) refl (back_on_line written (gap ++ anchor) t e line)
+
 -- ## Scalars
 
 prefix_lowers : (i j : ℕ) → j ≤ i → (t : List ℕ) → IsLinePrefix i t → IsLinePrefix j t
@@ -74,11 +95,21 @@ gap_lowers i j low t (inr (blanks, lines, front, are, (pieces, each, joins), pre
       is,
     )
 
+dashes_lower : (i j : ℕ) → j ≤ i → (t : List ℕ) → AreMany (IsLoneDash i) t → AreMany (IsLoneDash j) t
+dashes_lower i j low t (pieces, each, joins) = (pieces, by_pieces pieces each, joins)
+  where
+    by_pieces : (pieces : List (List ℕ)) → AreEach (IsLoneDash i) pieces → AreEach (IsLoneDash j) pieces
+    by_pieces [] h = tt
+    by_pieces (p ∷ ps) ((gap, gapped, is), others) =
+        ((gap, gap_lowers i j low gap gapped, is), by_pieces ps others)
+
 words_lower : (i j : ℕ) → j ≤ i → (f : Bool) (pieces : List (List ℕ)) → AreEach (IsFurtherWord f i) pieces
     → AreEach (IsFurtherWord f j) pieces
 words_lower i j low f [] h = tt
-words_lower i j low f (p ∷ ps) ((gap, word, gapped, is_word, is), others) =
-    ((gap, word, gap_lowers i j low gap gapped, is_word, is), words_lower i j low f ps others)
+words_lower i j low f (p ∷ ps) ((dashes, gap, word, lone, gapped, is_word, is), others) = (
+  (dashes, gap, word, dashes_lower i j low dashes lone, gap_lowers i j low gap gapped, is_word, is),
+  words_lower i j low f ps others,
+)
 
 plain_lowers : (i j : ℕ) → j ≤ i → (f : Bool) (t : List ℕ) → IsPlain f i t → IsPlain f j t
 plain_lowers i j low f t (first, others, is_first, (pieces, each, joins), is) =
@@ -125,7 +156,7 @@ before_lowers i j p t line (inr (properties, separation, h, some, parts, e)) =
     inr (
       properties,
       separation,
-      h,
+      properties_lower i j p.anchor p.tag properties (front_on_line properties separation t e line) h,
       some,
       separation_lowers i j separation (back_on_line properties separation t e line)
           parts,
@@ -134,7 +165,8 @@ before_lowers i j p t line (inr (properties, separation, h, some, parts, e)) =
 
 pub scalar_node_lowers : (i j : ℕ) → j ≤ i → (p : Properties) (style : Style) (value : List ℕ) (f : Bool) (t : List ℕ)
     → IsOnLine t → IsScalarNode p style value f i t → IsScalarNode p style value f j t
-scalar_node_lowers i j low p style value f t line (inl h) = inl h
+scalar_node_lowers i j low p style value f t line (inl (plain, empty, h)) =
+    inl (plain, empty, properties_lower i j p.anchor p.tag t line h)
 scalar_node_lowers i j low p style value f t line (inr (front, content, before, g, e)) =
     inr (
       front,
@@ -161,8 +193,18 @@ opening_lowers i j p bracket t line (front, separation, before, parts, e) = (
 
 plain_key_lowers : (i j : ℕ) → j ≤ i → (f : Bool) (t : List ℕ) → IsPlainKey f i t → IsPlainKey f j t
 plain_key_lowers i j low f t (inl h) = inl h
-plain_key_lowers i j low f t (inr (plain, gap, word, h, gapped, last, e)) =
-    inr (plain, gap, word, plain_lowers i j low f plain h, gap_lowers i j low gap gapped, last, e)
+plain_key_lowers i j low f t (inr (plain, dashes, gap, word, h, lone, gapped, last, e)) =
+    inr (
+      plain,
+      dashes,
+      gap,
+      word,
+      plain_lowers i j low f plain h,
+      dashes_lower i j low dashes lone,
+      gap_lowers i j low gap gapped,
+      last,
+      e,
+    )
 
 plain_key_node_lowers : (i j : ℕ) → j ≤ i → (node : Node) (f : Bool) (t : List ℕ) → IsOnLine t
     → IsPlainKeyNode node f i t → IsPlainKeyNode node f j t

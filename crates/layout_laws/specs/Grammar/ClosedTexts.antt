@@ -1,7 +1,7 @@
 -- Texts that end with the line of a document marker (YAML 1.2.2, 9.1.2, 9.1.4), in texts whose breaks are line feeds.
 use Rattle.std.specs.Prelude.{◌≡◌, ◌⊎◌, ℕ, List, [], ◌∷◌, ◌++◌, map, codes}
 use Rattle.saphyr_input.specs.Classes.{line_feed, byte_order_mark}
-use Rattle.scalar_laws.specs.Spelling.Spaces.{IsFiller, IsLineRest}
+use Rattle.scalar_laws.specs.Spelling.Spaces.{AreMany, IsFiller, IsLineRest}
 use Rattle.saphyr_scanner.specs.Grammar.Tokens as tokens
 use Rattle.saphyr_scanner.specs.Grammar.Tokens.{Kind}
 use Rattle.saphyr_scanner.specs.Grammar.Forest.{Forest}
@@ -26,15 +26,19 @@ marker_token Ends = tokens.DocumentEnd
 abbrev pub IsBeforeLine : List ℕ → Type 0
 IsBeforeLine front = (front ≡ []) ⊎ ((others : List ℕ) × (front ≡ others ++ line_feed ∷ []))
 
--- 5.2, 9.1.1: this text ends with a byte order mark of the stream, which stands at its start, or behind a `...` line
--- and filler
+-- 5.2, 9.1.1 [3], [202]: byte order marks, with filler before each
+abbrev pub IsMarkBehindFiller : List ℕ → Type 0
+IsMarkBehindFiller t = (filler : List ℕ) × IsFiller filler × (t ≡ filler ++ byte_order_mark ∷ [])
+
+-- this text ends with byte order marks of the stream, which stand at its start, or behind a `...` line
 abbrev pub EndsWithMark : List ℕ → Type 0
 EndsWithMark front =
-    (front ≡ byte_order_mark ∷ [])
-    ⊎ ((others rest filler : List ℕ) × IsBeforeLine others × IsLineRest rest × IsFiller filler
-    × (front ≡ others ++ (codes "..." ++ (rest ++ line_feed ∷ (filler ++ byte_order_mark ∷ [])))))
+    (marks : List ℕ) × AreMany IsMarkBehindFiller marks
+    × ((front ≡ marks)
+    ⊎ ((others rest : List ℕ) × IsBeforeLine others × IsLineRest rest
+    × (front ≡ others ++ (codes "..." ++ (rest ++ line_feed ∷ marks)))))
 
--- behind this text a marker's line begins, perhaps with a byte order mark, which takes up no column
+-- behind this text a marker's line begins, perhaps with byte order marks, which take up no column
 abbrev pub IsBeforeMarker : List ℕ → Type 0
 IsBeforeMarker front = IsBeforeLine front ⊎ EndsWithMark front
 

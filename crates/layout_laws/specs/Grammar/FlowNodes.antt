@@ -6,7 +6,7 @@ use Rattle.std.specs.List.{list_all}
 use Rattle.saphyr_input.specs.Classes.{is_blank, is_break, tab, line_feed}
 use Rattle.saphyr_input.specs.Indicators.{number_sign}
 use Rattle.saphyr_scalar.specs.Spelling.Tag.{AreIn, IsAnchorName}
-use Rattle.scalar_laws.specs.Spelling.Spaces.{AreSpaces, IsSeparation}
+use Rattle.scalar_laws.specs.Spelling.Spaces.{IsGap, IsSeparation}
 use Rattle.saphyr_scanner.specs.Grammar.Forest.{Style, Plain, SingleQuoted, DoubleQuoted, Tag, Properties, no_properties, Node, Alias, Scalar, Seq, Map, Nodes, NoNode, MoreNodes, Pairs, NoPair, MorePairs, left_out}
 use Rattle.layout_laws.specs.Grammar.TagSpelling.{IsTag}
 use Rattle.scalar_values.specs.Flow.{plain_value}
@@ -14,37 +14,37 @@ use Rattle.layout_laws.specs.Grammar.FlowScalars.{IsPlainKey, IsFlowScalar}
 
 -- ## Properties and aliases
 
--- 6.9.2
+-- 6.9.2 [101]
 abbrev pub IsAnchor : List ℕ → List ℕ → Type 0
 IsAnchor name t = IsAnchorName name × (t ≡ codes "&" ++ name)
 
--- 7.1
+-- 7.1 [104]
 abbrev pub IsAlias : List ℕ → List ℕ → Type 0
 IsAlias name t = IsAnchorName name × (t ≡ codes "*" ++ name)
 
--- 6.9: an anchor, a tag, or both in either order with spaces between
-abbrev pub AreProperties : Option (List ℕ) → Option Tag → List ℕ → Type 0
-AreProperties None None t = ⊥
-AreProperties (Some name) None t = IsAnchor name t
-AreProperties None (Some tag) t = IsTag tag t
-AreProperties (Some name) (Some tag) t =
-    (anchor between written : List ℕ) × IsAnchor name anchor × IsTag tag written × AreSpaces 1 between
-    × ((t ≡ anchor ++ (between ++ written)) ⊎ (t ≡ written ++ (between ++ anchor)))
+-- 6.9 [96]: an anchor, a tag, or both in either order, on one line or on two
+abbrev pub AreProperties : Option (List ℕ) → Option Tag → ℕ → List ℕ → Type 0
+AreProperties None None indent t = ⊥
+AreProperties (Some name) None indent t = IsAnchor name t
+AreProperties None (Some tag) indent t = IsTag tag t
+AreProperties (Some name) (Some tag) indent t =
+    (anchor gap written : List ℕ) × IsAnchor name anchor × IsTag tag written × IsGap indent gap
+    × ((t ≡ anchor ++ (gap ++ written)) ⊎ (t ≡ written ++ (gap ++ anchor)))
 
-abbrev pub IsProperties : Properties → List ℕ → Type 0
-IsProperties p t = AreProperties p.anchor p.tag t
+abbrev pub IsProperties : Properties → ℕ → List ℕ → Type 0
+IsProperties p indent t = AreProperties p.anchor p.tag indent t
 
 -- before a node's content: nothing, or properties and some separation
 abbrev pub IsBeforeContent : Properties → ℕ → List ℕ → Type 0
 IsBeforeContent p indent t =
     ((p ≡ no_properties) × (t ≡ []))
-    ⊎ ((properties separation : List ℕ) × IsProperties p properties × (separation ≢ [])
+    ⊎ ((properties separation : List ℕ) × IsProperties p indent properties × (separation ≢ [])
     × IsSeparation indent separation × (t ≡ properties ++ separation))
 
--- 7.5: a scalar with its content, or properties alone, which stand for an empty one (7.2)
+-- 7.5 [159], [160]: a scalar with its content, or properties alone, which stand for an empty one (7.2)
 abbrev pub IsScalarNode : Properties → Style → List ℕ → Bool → ℕ → List ℕ → Type 0
 IsScalarNode p style value in_flow indent t =
-    ((style ≡ Plain) × (value ≡ []) × IsProperties p t)
+    ((style ≡ Plain) × (value ≡ []) × IsProperties p indent t)
     ⊎ ((front content : List ℕ) × IsBeforeContent p indent front × IsFlowScalar style value in_flow indent content
     × (t ≡ front ++ content))
 
@@ -60,8 +60,8 @@ needs_separation (Alias name) = true
 needs_separation (Scalar p Plain []) = true
 needs_separation _ = false
 
--- 7.4.2: a value may stand right behind the colon of a key in quotes, and of a flow collection with blanks alone before
--- its colon.
+-- 7.4.2 [149]: a value may stand right behind the colon of a key in quotes, and of a flow collection with blanks alone
+-- before its colon.
 abbrev pub allows_adjacent : Node → List ℕ → Bool
 allows_adjacent (Scalar p SingleQuoted value) separation = true
 allows_adjacent (Scalar p DoubleQuoted value) separation = true
@@ -93,21 +93,21 @@ IsPlainKeyNode _ in_flow indent t = ⊥
 abbrev pub IsKeyText : (List ℕ → Type 0) → Node → Bool → ℕ → List ℕ → List ℕ → Type 0
 IsKeyText K key in_flow indent t separation = K t ⊎ (IsPlainKeyNode key in_flow indent t × (separation ≡ []))
 
--- 7.4.2: a key, separation, a colon and a value
+-- 7.4.2 [145], [148]: a key, separation, a colon and a value
 abbrev pub IsKeyAndValue : Node → Node → (List ℕ → Type 0) → (List ℕ → Type 0) → ℕ → List ℕ → Type 0
 IsKeyAndValue key value K V indent t =
     (node separation colon : List ℕ) × IsKeyText K key true indent node separation × IsSeparation indent separation
     × IsBeforeColon key separation × IsColonAndValue (allows_adjacent key separation) value V indent colon
     × (t ≡ node ++ (separation ++ colon))
 
--- 7.4.1: the same in brackets, with the key and its colon on one line
+-- 7.4.2 [152], [153]: the same in brackets, with the key and its colon on one line
 abbrev pub IsKeyOnLineAndValue : Node → Node → (List ℕ → Type 0) → (List ℕ → Type 0) → ℕ → List ℕ → Type 0
 IsKeyOnLineAndValue key value K V indent t =
     (node blanks colon : List ℕ) × IsKeyText K key true indent node blanks × IsOnLine node × AreIn is_blank blanks
     × IsBeforeColon key blanks × IsColonAndValue (allows_adjacent key blanks) value V indent colon
     × (t ≡ node ++ (blanks ++ colon))
 
--- 7.4.1, 7.4.2: no key, and a colon and a value
+-- 7.4.2 [146]: no key, and a colon and a value
 abbrev pub IsValueAlone : Node → Node → (List ℕ → Type 0) → ℕ → List ℕ → Type 0
 IsValueAlone key value V indent t = (key ≡ left_out) × IsColonAndValue false value V indent t
 
@@ -121,7 +121,7 @@ has_tab_outside false (c ∷ cs) = (c == tab) || has_tab_outside (c == number_si
 abbrev pub IsBehindMark : ℕ → List ℕ → Type 0
 IsBehindMark indent t = (t ≢ []) × IsSeparation indent t × IsFalse (has_tab_outside false t)
 
--- 7.4.2: a `?` with a key, a value or both
+-- 7.4.2 [142], [143], [150]: a `?` with a key, a value or both
 abbrev pub IsExplicitPair : Node → Node → (List ℕ → Type 0) → (List ℕ → Type 0) → ℕ → List ℕ → Type 0
 IsExplicitPair key value K V indent t =
     (separation pair : List ℕ) × IsBehindMark indent separation
@@ -141,7 +141,7 @@ abbrev pub IsBeforeSeparation : (List ℕ → Type 0) → ℕ → List ℕ → T
 IsBeforeSeparation P indent t =
     (piece separation : List ℕ) × P piece × IsSeparation indent separation × (t ≡ piece ++ separation)
 
--- 7.4.2: a pair in braces
+-- 7.4.2 [142], [144]: a pair in braces
 abbrev pub IsPairText : Node → Node → (List ℕ → Type 0) → (List ℕ → Type 0) → ℕ → List ℕ → Type 0
 IsPairText key value K V indent t =
     ((value ≡ left_out) × K t)
@@ -152,7 +152,7 @@ abbrev pub IsPair : Node → Node → (List ℕ → Type 0) → (List ℕ → Ty
 IsPair key value K V indent t =
     IsLoneMark key value indent t ⊎ IsBeforeSeparation (IsPairText key value K V indent) indent t
 
--- 7.4.1: a pair in brackets
+-- 7.4.2 [150], [151]: a pair in brackets
 abbrev pub IsSinglePairText : Node → Node → (List ℕ → Type 0) → (List ℕ → Type 0) → ℕ → List ℕ → Type 0
 IsSinglePairText key value K V indent t =
     IsKeyOnLineAndValue key value K V indent t
@@ -191,7 +191,7 @@ abbrev mutual
       (left : ℕ) × (opening inside : List ℕ) × (room ≡ suc left) × IsOpening p (codes "{") indent opening
       × AreFlowPairs left pairs indent inside × (t ≡ opening ++ (inside ++ codes "}"))
 
-  -- 7.4.1: the entries of a flow sequence: nodes, and mappings of one pair without braces
+  -- 7.4.1 [138], [139]: the entries of a flow sequence: nodes, and mappings of one pair without braces
   pub AreItems : ℕ → Nodes → ℕ → List ℕ → Type 0
   AreItems room NoNode indent t = t ≡ []
   AreItems room (MoreNodes node nodes) indent t =
@@ -211,7 +211,7 @@ abbrev mutual
       indent t
   IsPairItem room _ indent t = ⊥
 
-  -- 7.4.2: the entries of a flow mapping
+  -- 7.4.2 [141]: the entries of a flow mapping
   pub AreFlowPairs : ℕ → Pairs → ℕ → List ℕ → Type 0
   AreFlowPairs room NoPair indent t = t ≡ []
   AreFlowPairs room (MorePairs key value pairs) indent t =

@@ -12,12 +12,12 @@ use Rattle.saphyr_scalar.specs.Spelling.Quoted.{IsText}
 use Rattle.saphyr_scalar.specs.Spelling.Tag.{AreIn}
 use Rattle.scalar_laws.specs.Spelling.Plain.{is_word_ink, IsWordIn}
 use Rattle.scalar_laws.specs.Spelling.QuotedLines.{LinesFit}
-use Rattle.scalar_laws.specs.Spelling.Spaces.{AreMany, AreSpaces}
+use Rattle.scalar_laws.specs.Spelling.Spaces.{AreMany, AreSpaces, IsLinePrefix}
 use Rattle.saphyr_scanner.specs.Grammar.Forest.{Style, Plain, SingleQuoted, DoubleQuoted}
 
 -- ## 7.3.3: plain scalars
 
--- no indicator with which another token begins (5.3)
+-- no indicator with which another token begins (5.3 [22])
 abbrev pub begins_plain : ℕ → Bool
 begins_plain c = not (is_one_of (codes ",[]{}#&*!|>'\"%@`") c)
 
@@ -27,15 +27,12 @@ IsFirstWord in_flow word =
     IsWordIn in_flow word × IsTrue (begins_plain (slice_index word 0)) × (word ≢ codes "-") × (word ≢ codes "?")
     × (word ≢ codes ":")
 
--- 6.3: what stands before the content of a later line: its indentation, and any blanks
-abbrev pub IsLinePrefix : ℕ → List ℕ → Type 0
-IsLinePrefix indent t = (front blanks : List ℕ) × AreSpaces indent front × AreIn is_blank blanks × (t ≡ front ++ blanks)
-
--- 6.4: an empty line, of spaces or none, or of what stands before content
+-- 6.4 [70]: an empty line, of spaces or none, or of what stands before content
 abbrev pub IsEmptyLine : ℕ → List ℕ → Type 0
 IsEmptyLine indent t = (front : List ℕ) × (AreSpaces 0 front ⊎ IsLinePrefix indent front) × (t ≡ front ++ codes "\n")
 
--- 6.5: between words on different lines: blanks, the break, empty lines, and what stands before the next line's content
+-- 6.5 [74]: between words on different lines: blanks, the break, empty lines, and what stands before the next line's
+-- content
 abbrev pub IsFoldedGap : ℕ → List ℕ → Type 0
 IsFoldedGap indent t =
     (blanks lines front : List ℕ) × AreIn is_blank blanks × AreMany (IsEmptyLine indent) lines
@@ -45,8 +42,15 @@ IsFoldedGap indent t =
 abbrev pub IsWordGap : ℕ → List ℕ → Type 0
 IsWordGap indent t = ((t ≢ []) × AreIn is_blank t) ⊎ IsFoldedGap indent t
 
+-- a lone `-` behind a word
+abbrev pub IsLoneDash : ℕ → List ℕ → Type 0
+IsLoneDash indent t = (gap : List ℕ) × IsWordGap indent gap × (t ≡ gap ++ codes "-")
+
+-- A word behind others. Inside flow the last word is no lone `-`, but such may stand before it.
 abbrev pub IsFurtherWord : Bool → ℕ → List ℕ → Type 0
-IsFurtherWord in_flow indent t = (gap word : List ℕ) × IsWordGap indent gap × IsWordIn in_flow word × (t ≡ gap ++ word)
+IsFurtherWord in_flow indent t =
+    (dashes gap word : List ℕ) × AreMany (IsLoneDash indent) dashes × IsWordGap indent gap × IsWordIn in_flow word
+    × (t ≡ dashes ++ (gap ++ word))
 
 abbrev pub IsPlain : Bool → ℕ → List ℕ → Type 0
 IsPlain in_flow indent t =
@@ -62,8 +66,8 @@ IsLastWord in_flow word = (word ≢ []) × AreIn (is_word_ink in_flow) word × (
 abbrev pub IsPlainKey : Bool → ℕ → List ℕ → Type 0
 IsPlainKey in_flow indent t =
     (IsLastWord in_flow t × IsTrue (begins_plain (slice_index t 0)))
-    ⊎ ((plain gap word : List ℕ) × IsPlain in_flow indent plain × IsWordGap indent gap × IsLastWord in_flow word
-    × (t ≡ plain ++ (gap ++ word)))
+    ⊎ ((plain dashes gap word : List ℕ) × IsPlain in_flow indent plain × AreMany (IsLoneDash indent) dashes
+    × IsWordGap indent gap × IsLastWord in_flow word × (t ≡ plain ++ (dashes ++ (gap ++ word))))
 
 -- ## 7.3.1, 7.3.2: quoted scalars
 

@@ -29,7 +29,7 @@ AreDirectives (d ∷ others) t =
 
 -- ## 9.1: documents
 
--- 9.1.2: whether a document marker begins a line of a text, which stands at a line's start or elsewhere
+-- 9.1.2 [206]: whether a document marker begins a line of a text, which stands at a line's start or elsewhere
 abbrev pub has_marker : Bool → List ℕ → Bool
 has_marker at_start [] = false
 has_marker at_start (c ∷ others) =
@@ -39,11 +39,11 @@ has_marker at_start (c ∷ others) =
 abbrev pub NodeTexts : Type 1
 NodeTexts = Node → Position → List ℕ → List ℕ → Type 0
 
--- 9.1.3: a bare document, whose node is not left out
+-- 9.1.3 [207]: a bare document, whose node is not left out
 abbrev pub IsBareDocument : NodeTexts → Document → List ℕ → List ℕ → Type 0
 IsBareDocument N d t behind = (d ≡ bare d.node) × IsFalse (has_marker true t) × N d.node AtStart t behind
 
--- 9.1.4, 9.1.5: an explicit document, its directives before it
+-- 9.1.4, 9.1.5 [208], [209]: an explicit document, its directives before it
 abbrev pub IsExplicitDocument : NodeTexts → Document → List ℕ → List ℕ → Type 0
 IsExplicitDocument N d t behind =
     (directives node : List ℕ) × (d.explicit ≡ true) × AreCompatible d.directives
@@ -59,14 +59,20 @@ IsDocument N d free t behind =
 
 -- ## 9.2: streams
 
--- 9.1.1: filler and a byte order mark before a document, or neither
-abbrev pub IsDocumentPrefix : List ℕ → Type 0
-IsDocumentPrefix t = (t ≡ []) ⊎ ((filler : List ℕ) × IsFiller filler × (t ≡ filler ++ (byte_order_mark ∷ [])))
+-- 9.1.1, 9.1.2 [202], [205]: what may stand where a document is free, before `behind`: byte order marks and `...`
+-- lines, any number of them, with filler before each
+pub data IsDocumentPrefix : List ℕ → List ℕ → Type 0 where
+  no_prefix : (behind : List ℕ) → IsDocumentPrefix [] behind
+  mark_prefix : (filler others behind : List ℕ) → IsFiller filler → IsDocumentPrefix others behind
+      → IsDocumentPrefix (filler ++ (byte_order_mark ∷ others)) behind
+  end_prefix : (filler end others behind : List ℕ) → IsFiller filler → IsEol end (others ++ behind)
+      → IsDocumentPrefix others behind
+      → IsDocumentPrefix (filler ++ (codes "..." ++ (end ++ others))) behind
 
--- 9.1.2: a `...` line behind filler, and behind it what may stand before a document
+-- 9.1.2 [205]: a `...` line behind filler, and behind it what may stand before a document
 abbrev pub IsDocumentSuffix : List ℕ → List ℕ → Type 0
 IsDocumentSuffix t behind =
-    (filler end prefix : List ℕ) × IsFiller filler × IsEol end (prefix ++ behind) × IsDocumentPrefix prefix
+    (filler end prefix : List ℕ) × IsFiller filler × IsEol end (prefix ++ behind) × IsDocumentPrefix prefix behind
     × (t ≡ filler ++ (codes "..." ++ (end ++ prefix)))
 
 -- behind a document: what Others tells, or a `...` line first
@@ -82,10 +88,10 @@ AreDocuments N (d ∷ ds) free t =
     (filler document others : List ℕ) × IsFiller filler × IsDocument N d free document others
     × IsBehindDocument (AreDocuments N ds) others × (t ≡ filler ++ (document ++ others))
 
--- a stream, with a byte order mark at its start or none
+-- a stream: what may stand before a document, and documents
 abbrev pub IsStream : NodeTexts → Forest → List ℕ → Type 0
-IsStream N forest t = (mark others : List ℕ) × ((mark ≡ []) ⊎ (mark ≡ byte_order_mark ∷ []))
-    × AreDocuments N forest true others × (t ≡ mark ++ others)
+IsStream N forest t = (prefix others : List ℕ) × IsDocumentPrefix prefix others × AreDocuments N forest true others
+    × (t ≡ prefix ++ others)
 
 -- ## The layout grammar
 
@@ -95,6 +101,6 @@ IsStream N forest t = (mark others : List ℕ) × ((mark ≡ []) ⊎ (mark ≡ b
 abbrev pub IsLayout : ℕ → Forest → List ℕ → Type 0
 IsLayout room forest t = IsStream (IsBlockNode room) forest t
 
--- 5.4: a text of the layout grammar, whatever its breaks are
+-- 5.4 [28]: a text of the layout grammar, whatever its breaks are
 abbrev pub IsLayoutText : ℕ → Forest → List ℕ → Type 0
 IsLayoutText room forest t = IsLayout room forest (normalized t)

@@ -6,12 +6,12 @@ use Rattle.saphyr_scalar.specs.Spelling.Tag.{IsDecoded}
 use Rattle.saphyr_scanner.specs.Grammar.Characters.{AreAll}
 use Rattle.saphyr_scanner.specs.Grammar.Forest.{Handle, Named, handle_text, Tag, NonSpecific, Verbatim, Shorthand}
 
--- 6.8.2.1: the word of a named handle has a character
+-- 6.8.2.1 [89] to [92]: the word of a named handle has a character
 abbrev pub IsHandle : Handle → List ℕ → Type 0
 IsHandle (Named word) t = (word ≢ []) × AreAll (λ c. IsTrue (is_alpha c)) word × (t ≡ handle_text (Named word))
 IsHandle handle t = t ≡ handle_text handle
 
--- 6.9.1: a tag. A uri and a suffix have a character each.
+-- 6.9.1 [97] to [100]: a tag. A uri and a suffix have a character each.
 abbrev pub IsTag : Tag → List ℕ → Type 0
 IsTag NonSpecific t = t ≡ codes "!"
 IsTag (Verbatim uri) t =

@@ -1,6 +1,6 @@
 -- Where the header of a block scalar stands, it is taken off.
-use Rattle.std.proofs.Common.{◌≡◌, ◌≢◌, ℕ, suc, ◌+◌, ◌-◌, ◌≤◌, true, false, List, [], ◌∷◌, ◌++◌, length, drop, slice_index, Result, Ok, refl, ap, ◌∙◌, arith, subst, add-zero, nat_eq, nat_lt}
-use Rattle.std.specs.Prelude.{◌&&◌, not, Option, Some, None, unwrap_or}
+use Rattle.std.proofs.Common.{◌≡◌, ◌≢◌, ℕ, suc, ◌+◌, ◌-◌, ◌≤◌, true, false, List, [], ◌∷◌, ◌++◌, length, drop, slice_index, Result, Ok, refl, ap, ◌∙◌, arith, subst, add-zero, nat_eq, nat_lt, inl, inr}
+use Rattle.std.specs.Prelude.{◌&&◌, not, ◌⊎◌, Option, Some, None, unwrap_or}
 use Rattle.std.specs.List.{prefix_len}
 use Rattle.std.proofs.lemmas.Bool.Decides.{nat_tests}
 use Rattle.std.proofs.Math.Seq.{drop-append_seam, drop-append-add}
@@ -17,17 +17,17 @@ use Rattle.saphyr_scalar.specs.declared.scalar.position.Marker.{Marker}
 use Rattle.saphyr_scalar.specs.declared.scalar.fault.Refusal.{Refusal}
 use Rattle.saphyr_scalar.specs.Views.Cursor.{Cursor, ◌>>=◌, pass, pass_blanks, pass_line, pass_break, separation, behind_separation}
 use Rattle.saphyr_scalar.specs.Steps.Block.{chomping, indicator, header_break, header_end, last_chomping, header_behind, header}
-use Rattle.scalar_laws.specs.Spelling.Block.{IsIndicator, no_digit, digit, IsChomping, strip, clip, keep, IsHeaderEnd, no_comment, comment, IsHeader, digit_first, chomping_first}
+use Rattle.scalar_laws.specs.Spelling.Block.{IsIndicator, no_digit, digit, IsChomping, strip, clip, keep, IsHeaderEnd, no_comment, comment, no_comment_at_end, comment_at_end, IsHeader, digit_first, chomping_first}
 use Rattle.saphyr_input.proofs.Basics.Booleans.{and_false, clash, by_test, either}
 use Rattle.saphyr_input.proofs.Basics.Numbers.{one_and}
 
 -- what is left behind white space
-behind_read : (text : List ℕ) (v : Cursor) (x : List ℕ) → v.rest ≡ line_feed ∷ x → is_bare_comment Yes text ≡ false
+behind_read : (text : List ℕ) (v : Cursor) → is_bom (slice_index v.rest 0) ≡ false → is_bare_comment Yes text ≡ false
     → behind_separation Yes text v ≡ Ok (found_blanks Yes text, v)
 unfolding behind_separation
-behind_read text v x e bare =
+behind_read text v e bare =
     let no : (nat_lt 0 v.mark.col && is_bom (slice_index v.rest 0)) ≡ false =
-    ap (λ (xs : List ℕ). nat_lt 0 v.mark.col && is_bom (slice_index xs 0)) e ∙ and_false (nat_lt 0 v.mark.col) in
+    ap (λ b. nat_lt 0 v.mark.col && b) e ∙ and_false (nat_lt 0 v.mark.col) in
     let Goal : Result (SkipTabs × Cursor) Refusal → Type 0 = λ r. r ≡ Ok (found_blanks Yes text, v) in
     by_test (nat_lt 0 v.mark.col && is_bom (slice_index v.rest 0)) _ _ Goal (λ h. clash _ h no)
     (λ _. by_test (is_bare_comment Yes text) _ _ Goal (λ h. clash _ h bare) (λ _. refl))
@@ -55,13 +55,37 @@ break_read start v x e tab =
     by_test (not (is_breakz (slice_index v.rest 0))) _ _ Goal (λ h. clash _ h yes)
     (λ _. by_test (nat_eq (slice_index (pass_break v).rest 0) 9) _ _ Goal (λ h. clash _ h no) (λ _. ap Ok passed))
 
+none_passed : (v : Cursor) → v.rest ≡ [] → pass_break v ≡ v
+none_passed v e =
+    let no : next_2_are v.rest 13 10 ≡ false = ap (λ (xs : List ℕ). next_2_are xs 13 10) e in
+    let nor : is_break (slice_index v.rest 0) ≡ false = ap (λ (xs : List ℕ). is_break (slice_index xs 0)) e in
+    let Goal : Cursor → Type 0 = λ s. s ≡ v in
+    by_test (next_2_are v.rest 13 10) _ _ Goal (λ h. clash _ h no)
+    (λ _. by_test (is_break (slice_index v.rest 0)) _ _ Goal (λ h. clash _ h nor) (λ _. refl))
+
+end_passed : (start : Marker) (v : Cursor) → v.rest ≡ [] → header_break start v ≡ Ok v
+unfolding header_break
+end_passed start v e =
+    let yes : not (is_breakz (slice_index v.rest 0)) ≡ false = ap (λ (xs : List ℕ). not (is_breakz (slice_index xs 0)))
+    e in
+    let passed = none_passed v e in
+    let left : (pass_break v).rest ≡ [] = ap (λ (s : Cursor). s.rest) passed ∙ e in
+    let no : nat_eq (slice_index (pass_break v).rest 0) 9 ≡ false = ap (λ (xs : List ℕ). nat_eq (slice_index xs 0) 9)
+    left in
+    let Goal : Result Cursor Refusal → Type 0 = λ r. r ≡ Ok v in
+    by_test (not (is_breakz (slice_index v.rest 0))) _ _ Goal (λ h. clash _ h yes)
+    (λ _. by_test (nat_eq (slice_index (pass_break v).rest 0) 9) _ _ Goal (λ h. clash _ h no) (λ _. ap Ok passed))
+
+-- behind a header's line a line begins, or nothing is left behind the header
+abbrev pub IsBehindLine : Cursor → List ℕ → Type 0
+IsBehindLine u x = ((u.mark.col ≡ 0) × (u.blank_so_far ≡ true)) ⊎ ((x ≡ []) × (u.blank_so_far ≡ false))
+
 -- the end of a header's line was taken off
 pub record Ended (start : Marker) (s : Cursor) (x : List ℕ) : Type 0 where
   pub end : Cursor
   pub read : header_end start s ≡ Ok end
   pub rest : end.rest ≡ x
-  pub col : end.mark.col ≡ 0
-  pub blank : end.blank_so_far ≡ true
+  pub place : IsBehindLine end x
 
 header_end_at : (start : Marker) (s : Cursor) (x : List ℕ) → drop (separation_len Yes s.rest) s.rest ≡ line_feed ∷ x
     → is_bare_comment Yes s.rest ≡ false → slice_index x 0 ≢ 9 → Ended start s x
@@ -71,10 +95,22 @@ header_end_at start s x e bare tab =
     record {
       end = pass_line 1 v;
       read = ap (λ (r : Result (SkipTabs × Cursor) Refusal). r >>= λ y. header_break start y.1)
-          (behind_read s.rest v x e bare) ∙ break_read start v x e tab;
+          (behind_read s.rest v (ap (λ (xs : List ℕ). is_bom (slice_index xs 0)) e) bare) ∙ break_read start v x e tab;
       rest = ap (drop 1) e;
-      col = refl;
-      blank = refl;
+      place = inl (refl, refl);
+    }
+
+text_end_at : (start : Marker) (s : Cursor) → drop (separation_len Yes s.rest) s.rest ≡ []
+    → is_bare_comment Yes s.rest ≡ false → s.blank_so_far ≡ false → Ended start s []
+unfolding header_end separation
+text_end_at start s e bare dark =
+    let v = pass_blanks (separation_len Yes s.rest) s in
+    record {
+      end = v;
+      read = ap (λ (r : Result (SkipTabs × Cursor) Refusal). r >>= λ y. header_break start y.1)
+          (behind_read s.rest v (ap (λ (xs : List ℕ). is_bom (slice_index xs 0)) e) bare) ∙ end_passed start v e;
+      rest = e;
+      place = inr (refl, dark);
     }
 
 blanks_len : (blanks t : List ℕ) → AreIn is_blank blanks → is_blank (slice_index t 0) ≡ false
@@ -88,6 +124,14 @@ text_len : (text x : List ℕ) → AreIn is_yaml_non_break text
 text_len [] x h = refl
 text_len (c ∷ cs) x h = let more = text_len cs x h.1 in rw (h.0, more) (omega arith)
 
+all_blank : (blanks : List ℕ) → AreIn is_blank blanks → prefix_len is_blank blanks ≡ length blanks
+all_blank [] h = refl
+all_blank (b ∷ bs) h = let more = all_blank bs h.1 in rw (h.0, more) (omega arith)
+
+all_text : (text : List ℕ) → AreIn is_yaml_non_break text → prefix_len is_yaml_non_break text ≡ length text
+all_text [] h = refl
+all_text (c ∷ cs) h = let more = all_text cs h.1 in rw (h.0, more) (omega arith)
+
 told_sep : (d : List ℕ) (n : ℕ) → blank_len Yes d ≡ n → nat_eq n 0 ≡ false
     → separation_len Yes d ≡ n + comment_len (drop n d)
 told_sep d n len some = rw (len, some) refl
@@ -95,11 +139,15 @@ told_sep d n len some = rw (len, some) refl
 no_bare : (d : List ℕ) (n : ℕ) → blank_len Yes d ≡ n → nat_eq n 0 ≡ false → is_bare_comment Yes d ≡ false
 no_bare d n len some = rw (len, some) refl
 
+all_dropped : (xs : List ℕ) → drop (length xs) xs ≡ []
+all_dropped [] = refl
+all_dropped (x ∷ xs) = all_dropped xs
+
 pub end_read : (start : Marker) (s : Cursor) (d x : List ℕ) → s.rest ≡ d → IsHeaderEnd d x → slice_index x 0 ≢ 9
-    → Ended start s x
-end_read start s _ x e (no_comment [] y h) tab =
+    → s.blank_so_far ≡ false → Ended start s x
+end_read start s _ x e (no_comment [] y h) tab dark =
     header_end_at start s y (ap (λ (xs : List ℕ). drop (separation_len Yes xs) xs) e) (ap (is_bare_comment Yes) e) tab
-end_read start s _ x e (no_comment (b ∷ bs) y h) tab =
+end_read start s _ x e (no_comment (b ∷ bs) y h) tab dark =
     let d = (b ∷ bs) ++ (10 ∷ y) in
     let n = length (b ∷ bs) in
     let len : blank_len Yes d ≡ n = blanks_len (b ∷ bs) (10 ∷ y) h refl in
@@ -108,7 +156,7 @@ end_read start s _ x e (no_comment (b ∷ bs) y h) tab =
     let sep : separation_len Yes d ≡ n = told_sep d n len some ∙ ap (λ xs. n + comment_len xs) behind ∙ add-zero n in
     header_end_at start s y (ap (λ (xs : List ℕ). drop (separation_len Yes xs) xs) e ∙ ap (λ k. drop k d) sep ∙ behind)
     (ap (is_bare_comment Yes) e ∙ no_bare d n len some) tab
-end_read start s _ x e (comment b bs text y h k) tab =
+end_read start s _ x e (comment b bs text y h k) tab dark =
     let t = 35 ∷ (text ++ (10 ∷ y)) in
     let d = (b ∷ bs) ++ t in
     let n = length (b ∷ bs) in
@@ -121,6 +169,30 @@ end_read start s _ x e (comment b bs text y h k) tab =
     header_end_at start s y (ap (λ (xs : List ℕ). drop (separation_len Yes xs) xs) e ∙ ap (λ i. drop i d) sep
     ∙ drop-append-add (b ∷ bs) t (suc (length text)) ∙ drop-append_seam text (10 ∷ y))
     (ap (is_bare_comment Yes) e ∙ no_bare d n len some) tab
+end_read start s _ _ e (no_comment_at_end [] h) tab dark =
+    text_end_at start s (ap (λ (xs : List ℕ). drop (separation_len Yes xs) xs) e) (ap (is_bare_comment Yes) e) dark
+end_read start s _ _ e (no_comment_at_end (b ∷ bs) h) tab dark =
+    let d = b ∷ bs in
+    let n = length (b ∷ bs) in
+    let len : blank_len Yes d ≡ n = all_blank (b ∷ bs) h in
+    let some : nat_eq n 0 ≡ false = grind (arith, nat_tests) in
+    let behind : drop n d ≡ [] = all_dropped (b ∷ bs) in
+    let sep : separation_len Yes d ≡ n = told_sep d n len some ∙ ap (λ xs. n + comment_len xs) behind ∙ add-zero n in
+    text_end_at start s (ap (λ (xs : List ℕ). drop (separation_len Yes xs) xs) e ∙ ap (λ k. drop k d) sep ∙ behind)
+    (ap (is_bare_comment Yes) e ∙ no_bare d n len some) dark
+end_read start s _ _ e (comment_at_end b bs text h k) tab dark =
+    let t = 35 ∷ text in
+    let d = (b ∷ bs) ++ t in
+    let n = length (b ∷ bs) in
+    let len : blank_len Yes d ≡ n = blanks_len (b ∷ bs) t h refl in
+    let some : nat_eq n 0 ≡ false = grind (arith, nat_tests) in
+    let behind : drop n d ≡ t = drop-append_seam (b ∷ bs) t in
+    let own : comment_len t ≡ suc (length text) = ap (λ i. 1 + i) (all_text text k) ∙ one_and (length text) in
+    let sep : separation_len Yes d ≡ n + suc (length text) = told_sep d n len some
+    ∙ ap (λ xs. n + comment_len xs) behind ∙ ap (λ i. n + i) own in
+    text_end_at start s (ap (λ (xs : List ℕ). drop (separation_len Yes xs) xs) e ∙ ap (λ i. drop i d) sep
+    ∙ drop-append-add (b ∷ bs) t (suc (length text)) ∙ all_dropped text)
+    (ap (is_bare_comment Yes) e ∙ no_bare d n len some) dark
 
 -- the indicators
 pub chomping_none : (s : Cursor) (x : ℕ) → slice_index s.rest 0 ≡ x → nat_eq x 43 ≡ false → nat_eq x 45 ≡ false
@@ -189,6 +261,9 @@ pub end_no_mark : (d x : List ℕ) → IsHeaderEnd d x → NoMark (slice_index d
 end_no_mark _ x (no_comment [] y h) = record { keep = refl; strip = refl; digit = refl }
 end_no_mark _ x (no_comment (b ∷ bs) y h) = blank_no_mark b h.0
 end_no_mark _ x (comment b bs text y h k) = blank_no_mark b h.0
+end_no_mark _ _ (no_comment_at_end [] h) = record { keep = refl; strip = refl; digit = refl }
+end_no_mark _ _ (no_comment_at_end (b ∷ bs) h) = blank_no_mark b h.0
+end_no_mark _ _ (comment_at_end b bs text h k) = blank_no_mark b h.0
 
 pub digit_no_mark : (d : ℕ) → 1 ≤ d → d ≤ 9 → (nat_eq (48 + d) 43 ≡ false) × (nat_eq (48 + d) 45 ≡ false)
 digit_no_mark d low high = (grind (arith, nat_tests), grind (arith, nat_tests))
@@ -198,8 +273,7 @@ pub record HeaderRead (n : ℕ) (c : Chomping) (x : List ℕ) (s : Cursor) : Typ
   pub behind : Cursor
   pub told : header s ≡ Ok (record { chomping = c; indicator = n }, behind)
   pub left : behind.rest ≡ x
-  pub at_start : behind.mark.col ≡ 0
-  pub begun : behind.blank_so_far ≡ true
+  pub place : IsBehindLine behind x
 
 header_on : (s : Cursor) (first : Option Chomping × Cursor) (k : ℕ × Cursor) (l : Chomping × Cursor) (u : Cursor)
     → chomping (pass 1 s) ≡ first → indicator s.mark first.1 ≡ Ok k → last_chomping first.0 k.1 ≡ l
@@ -210,16 +284,15 @@ header_on s first k l u e1 e2 e3 e4 = rw (e1, e2, e3, e4) refl
 
 header_of : (n : ℕ) (c : Chomping) (d x : List ℕ) (s : Cursor) (first : Option Chomping × Cursor) (t v : Cursor)
     → chomping (pass 1 s) ≡ first → indicator s.mark first.1 ≡ Ok (n, t) → last_chomping first.0 t ≡ (c, v) → v.rest ≡ d
-    → IsHeaderEnd d x → slice_index x 0 ≢ 9
+    → IsHeaderEnd d x → slice_index x 0 ≢ 9 → v.blank_so_far ≡ false
     → HeaderRead n c x s
-header_of n c d x s first t v e1 e2 e3 rest l tab =
-    let e = end_read s.mark v d x rest l tab in
+header_of n c d x s first t v e1 e2 e3 rest l tab dark =
+    let e = end_read s.mark v d x rest l tab dark in
     record {
       behind = e.end;
       told = header_on s first (n, t) (c, v) e.end e1 e2 e3 e.read;
       left = e.rest;
-      at_start = e.col;
-      begun = e.blank;
+      place = e.place;
     }
 
 last_chosen : (c : Chomping) (s : Cursor) → last_chomping (Some c) s ≡ (c, s)
@@ -238,31 +311,34 @@ first_of_text s a e = ap (λ (xs : List ℕ). slice_index xs 0) e
 
 -- behind a chomping indicator
 some_first : (n : ℕ) (c : Chomping) (b d x : List ℕ) (s v : Cursor) → chomping (pass 1 s) ≡ (Some c, v) → v.rest ≡ b
-    → IsIndicator n b d → IsHeaderEnd d x → slice_index x 0 ≢ 9 → HeaderRead n c x s
-some_first _ c _ d x s v e rest (no_digit y) l tab =
+    → IsIndicator n b d → IsHeaderEnd d x → slice_index x 0 ≢ 9 → v.blank_so_far ≡ false → HeaderRead n c x s
+some_first _ c _ d x s v e rest (no_digit y) l tab dark =
     let none = end_no_mark y x l in
     header_of 0 c y x s (Some c, v) v v e
     (indicator_none s.mark v (slice_index y 0) (first_of_text v y rest) none.digit) (last_chosen c v) rest l tab
-some_first _ c _ d x s v e rest (digit k y low high) l tab =
+    dark
+some_first _ c _ d x s v e rest (digit k y low high) l tab dark =
     header_of k c y x s (Some c, v) (pass 1 v) (pass 1 v) e
     (indicator_digit s.mark v k (front v (48 + k) y rest) low high) (last_chosen c (pass 1 v)) (ap (drop 1) rest) l
-    tab
+    tab refl
 
 -- behind the indentation indicator, where no chomping indicator stood before it
 last_read : (n : ℕ) (c : Chomping) (b d x : List ℕ) (s t : Cursor) → chomping (pass 1 s) ≡ (None, pass 1 s)
     → indicator s.mark (pass 1 s) ≡ Ok (n, t) → t.rest ≡ b → IsChomping c b d → IsHeaderEnd d x → slice_index x 0 ≢ 9
-    → HeaderRead n c x s
-last_read n _ _ d x s t e i rest (strip y) l tab =
+    → t.blank_so_far ≡ false → HeaderRead n c x s
+last_read n _ _ d x s t e i rest (strip y) l tab dark =
     header_of n Strip y x s (None, pass 1 s) t (pass 1 t) e i
     (last_looked t (pass 1 t) (Some Strip) (chomping_strip t (front t 45 y rest))) (ap (drop 1) rest) l tab
-last_read n _ _ d x s t e i rest (keep y) l tab =
+    refl
+last_read n _ _ d x s t e i rest (keep y) l tab dark =
     header_of n Keep y x s (None, pass 1 s) t (pass 1 t) e i
     (last_looked t (pass 1 t) (Some Keep) (chomping_keep t (front t 43 y rest))) (ap (drop 1) rest) l tab
-last_read n _ _ d x s t e i rest (clip y) l tab =
+    refl
+last_read n _ _ d x s t e i rest (clip y) l tab dark =
     let none = end_no_mark y x l in
     header_of n Clip y x s (None, pass 1 s) t t e i
     (last_looked t t None (chomping_none t (slice_index y 0) (first_of_text t y rest) none.keep none.strip)) rest l
-    tab
+    tab dark
 
 digit_read : (k : ℕ) (c : Chomping) (y d x : List ℕ) (s : Cursor) → (pass 1 s).rest ≡ (48 + k) ∷ y → 1 ≤ k → k ≤ 9
     → IsChomping c y d → IsHeaderEnd d x → slice_index x 0 ≢ 9 → HeaderRead k c x s
@@ -270,7 +346,7 @@ digit_read k c y d x s rest low high ch l tab =
     let first = front (pass 1 s) (48 + k) y rest in
     let no = digit_no_mark k low high in
     last_read k c y d x s (pass 1 (pass 1 s)) (chomping_none (pass 1 s) (48 + k) first no.0 no.1)
-    (indicator_digit s.mark (pass 1 s) k first low high) (ap (drop 1) rest) ch l tab
+    (indicator_digit s.mark (pass 1 s) k first low high) (ap (drop 1) rest) ch l tab refl
 
 clip_read : (n : ℕ) (a d x : List ℕ) (s : Cursor) → (pass 1 s).rest ≡ a → IsIndicator n a d → IsHeaderEnd d x
     → slice_index x 0 ≢ 9 → HeaderRead n Clip x s
@@ -278,17 +354,17 @@ clip_read _ _ d x s rest (no_digit y) l tab =
     let none = end_no_mark y x l in
     let first = first_of_text (pass 1 s) y rest in
     last_read 0 Clip y y x s (pass 1 s) (chomping_none (pass 1 s) (slice_index y 0) first none.keep none.strip)
-    (indicator_none s.mark (pass 1 s) (slice_index y 0) first none.digit) rest (clip y) l tab
+    (indicator_none s.mark (pass 1 s) (slice_index y 0) first none.digit) rest (clip y) l tab refl
 clip_read _ _ d x s rest (digit k y low high) l tab = digit_read k Clip y y x s rest low high (clip y) l tab
 
 chomping_read : (n : ℕ) (c : Chomping) (a b d x : List ℕ) (s : Cursor) → (pass 1 s).rest ≡ a → IsChomping c a b
     → IsIndicator n b d → IsHeaderEnd d x → slice_index x 0 ≢ 9 → HeaderRead n c x s
 chomping_read n _ _ b d x s rest (strip y) i l tab =
     some_first n Strip y d x s (pass 1 (pass 1 s)) (chomping_strip (pass 1 s) (front (pass 1 s) 45 y rest))
-    (ap (drop 1) rest) i l tab
+    (ap (drop 1) rest) i l tab refl
 chomping_read n _ _ b d x s rest (keep y) i l tab =
     some_first n Keep y d x s (pass 1 (pass 1 s)) (chomping_keep (pass 1 s) (front (pass 1 s) 43 y rest))
-    (ap (drop 1) rest) i l tab
+    (ap (drop 1) rest) i l tab refl
 chomping_read n _ _ b d x s rest (clip y) i l tab = clip_read n y d x s rest i l tab
 
 first_read : (n : ℕ) (c : Chomping) (a b d x : List ℕ) (s : Cursor) → (pass 1 s).rest ≡ a → IsIndicator n a b

@@ -39,7 +39,7 @@ limit_space : (i : ℕ) (given : Bool) (limit : Option ℕ) (col : ℕ) → IsLi
 limit_space i given None col h less = refl
 limit_space i given (Some limit) col h less = space_left limit col (omega arith)
 
-e_spaces : (i : ℕ) (given : Bool) (limit : Option ℕ) (lines : EmptyLinesRead) (b : Bool) (j : ℕ) (m : Marker) (t : List ℕ)
+pub e_spaces : (i : ℕ) (given : Bool) (limit : Option ℕ) (lines : EmptyLinesRead) (b : Bool) (j : ℕ) (m : Marker) (t : List ℕ)
     → IsLimit i given limit → m.col + j ≤ i
     → pass_empty_lines limit lines b m (spaces j ++ t) ≡ pass_empty_lines limit lines b (along m j) t
 e_spaces i given limit lines b zero m t l h = ap (λ x. pass_empty_lines limit lines b x t) (sym (along_none m))
@@ -48,7 +48,7 @@ e_spaces i given limit lines b (suc j) m t l h =
     ∙ e_spaces i given limit lines b j (along m 1) t l (omega arith)
     ∙ ap (λ x. pass_empty_lines limit lines b x t) (along_more m 1 j (suc j) (omega arith))
 
-e_feed : (limit : Option ℕ) (lines : EmptyLinesRead) (b : Bool) (m : Marker) (t : List ℕ)
+pub e_feed : (limit : Option ℕ) (lines : EmptyLinesRead) (b : Bool) (m : Marker) (t : List ℕ)
     → pass_empty_lines limit lines b m (line_feed ∷ t) ≡ pass_empty_lines limit (with_empty_line lines m.col) true
     (next_line m 1) t
 unfolding pass_empty_lines

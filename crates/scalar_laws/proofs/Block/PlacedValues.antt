@@ -1,5 +1,5 @@
 -- Where the lines of a block scalar stand, what is read has their value, with the breaks at their end.
-use Rattle.std.proofs.Common.{◌≡◌, ℕ, ◌+◌, ◌<◌, ◌≤◌, Bool, true, false, List, [], ◌∷◌, ◌++◌, length, slice_index, refl, sym, ap, ◌∙◌, arith}
+use Rattle.std.proofs.Common.{◌≡◌, ℕ, suc, ◌+◌, ◌<◌, ◌≤◌, Bool, true, false, List, [], ◌∷◌, ◌++◌, length, slice_index, refl, sym, ap, ◌∙◌, arith}
 use Rattle.std.specs.Prelude.{◌&&◌, max, Option, Some}
 use Rattle.std.proofs.lemmas.Bool.Decides.{nat_tests}
 use Rattle.std.proofs.lemmas.List.{append-nil}
@@ -8,15 +8,16 @@ use Rattle.scalar_values.specs.declared.block.BlockStyle.{BlockStyle}
 use Rattle.saphyr_scalar.specs.declared.scalar.position.Marker.{Marker}
 use Rattle.saphyr_scalar.specs.Views.Cursor.{Cursor, along, next_line}
 use Rattle.saphyr_scalar.specs.Steps.Block.{line_cursor, break_before, LinesRead, lines_behind_text, between, tail, is_unfinished}
+use Rattle.saphyr_scalar.specs.Reading.BlockLines.{spaces}
 use Rattle.saphyr_scalar.proofs.Block.Values.{cut_tail, same_break}
-use Rattle.scalar_laws.specs.Spelling.Block.{IsContent, AreLines, no_lines, empty, content, last, IsBehind}
+use Rattle.scalar_laws.specs.Spelling.Block.{IsContent, AreLines, no_lines, empty, content, last, last_empty, left_of, IsBehind}
 use Rattle.scalar_values.specs.declared.block.Chomping.{Chomping}
 use Rattle.scalar_values.specs.declared.block.Chomping.TheVariants.{Strip, Clip, Keep}
 use Rattle.scalar_values.specs.Block as reading
 use Rattle.scalar_values.specs.Block.{Line, is_more_indented, contents_behind, empty_at_end}
 use Rattle.saphyr_input.specs.Classes.{is_z}
 use Rattle.std.proofs.Common.{nat_le, append_assoc, add-one}
-use Rattle.scalar_laws.proofs.Block.Places.{spaces_on, feed_on, line_feed_on, line_end_on, behind_same, begun_on}
+use Rattle.scalar_laws.proofs.Block.Places.{spaces_on, feed_on, line_feed_on, line_end_on, spaces_end, behind_same, begun_on}
 
 -- what the lines read as, with the breaks at their end
 abbrev pub Value : Chomping → ℕ → LinesRead → List ℕ
@@ -43,6 +44,29 @@ unfinished i s h e =
     let far : nat_le (max i 1) s.mark.col ≡ true = grind (arith, nat_tests) in
     let z : is_z (slice_index s.rest 0) ≡ true = ap (λ (xs : List ℕ). is_z (slice_index xs 0)) e in
     rw (z, far) refl
+
+keeps_more : (c : Chomping) (k : ℕ)
+    → tail c true (record { broken = true; empty_lines = k }) ≡ reading.chomped c true (suc k)
+keeps_more Strip k = refl
+keeps_more Clip k = refl
+keeps_more Keep k = refl
+
+-- spaces up to the text's end, at the indentation and left of it
+full_spaces : (st : BlockStyle) (c : Chomping) (i : ℕ) (more : Bool) (k : ℕ) (b : Bool) (m : Marker) → m.col ≡ 0
+    → 1 ≤ i → Value c i (between st i (Some more) k b m (spaces i)) ≡ reading.chomped c true (suc k)
+unfolding is_unfinished
+full_spaces st c i more k b m col some =
+    let far : nat_le (max i 1) (m.col + i) ≡ true = grind (arith, nat_tests) in
+    ap (Value c i) (spaces_end st i (Some more) k b i m (omega arith))
+    ∙ ap (λ u. tail c u (record { broken = true; empty_lines = k })) far ∙ keeps_more c k
+
+few_spaces : (st : BlockStyle) (c : Chomping) (i : ℕ) (more : Bool) (k : ℕ) (b : Bool) (j : ℕ) (m : Marker)
+    → m.col ≡ 0 → j < i → Value c i (between st i (Some more) k b m (spaces j)) ≡ reading.chomped c true k
+unfolding is_unfinished
+few_spaces st c i more k b j m col less =
+    let near : nat_le (max i 1) (m.col + j) ≡ false = grind (arith, nat_tests) in
+    ap (Value c i) (spaces_end st i (Some more) k b j m (omega arith))
+    ∙ ap (λ u. tail c u (record { broken = true; empty_lines = k })) near ∙ ended_tail c k
 
 behind_value : (st : BlockStyle) (c : Chomping) (i : ℕ) (more : Bool) (k : ℕ) (b : Bool) (m : Marker) (n : ℕ)
     (x others : List ℕ) → m.col ≡ 0 → IsBehind i n x others
@@ -115,3 +139,7 @@ lines_value_left st c i n x others above more k b m _ _ e col (last y cs ic none
     ∙ last_value st c i (Some more) k b (along m i) y cs (omega arith) ic
     ∙ ap (λ z. bb ++ (z ++ end)) (sym (append-nil (y ∷ cs))) ∙ sym (append_assoc bb ((y ∷ cs) ++ []) end)
     ∙ ap (λ z. (z ++ ((y ∷ cs) ++ [])) ++ end) (sym (same_break st above (y ∷ cs) more (is_blank y) k e refl))
+lines_value_left st c i n x others above more k b m _ _ e col (last_empty some none) h =
+    full_spaces st c i more k b m col some
+lines_value_left st c i n x others above more k b m _ _ e col (left_of j less none) h =
+    few_spaces st c i more k b j m col less

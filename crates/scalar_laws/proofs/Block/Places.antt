@@ -12,7 +12,7 @@ use Rattle.saphyr_scalar.specs.Views.Cursor.{along, next_line}
 use Rattle.saphyr_scalar.specs.Reading.BlockLines.{spaces}
 use Rattle.saphyr_scalar.specs.Steps.Block.{line_cursor, is_indentation, line_starts, break_before, LinesRead, lines_behind_text, lines_ended, between, line}
 use Rattle.saphyr_scalar.proofs.Moving.{along_none, along_more}
-use Rattle.scalar_laws.specs.Spelling.Block.{IsContent, AreLines, no_lines, empty, content, last, IsBehind}
+use Rattle.scalar_laws.specs.Spelling.Block.{IsContent, AreLines, no_lines, empty, content, last, last_empty, left_of, IsBehind}
 use Rattle.scalar_values.specs.Block.{Line}
 use Rattle.saphyr_scalar.proofs.Block.Turns.{line_begins, line_on, no_line_at}
 use Rattle.saphyr_input.proofs.Basics.Booleans.{and_false}
@@ -83,7 +83,7 @@ space_off i n x h = by_left (nat_lt n i) refl
         rw (ne_eqb x 32 (h less)) refl
     by_left false e = rw e (and_false (nat_eq x 32))
 
-none_starts : (i n : ℕ) (xs : List ℕ)
+pub none_starts : (i n : ℕ) (xs : List ℕ)
     → (n ≡ i → (is_yaml_non_break (slice_index xs 0) ≡ false) ⊎ ((i ≡ 0) × (is_document_indicator xs ≡ true)))
     → line_starts i n xs ≡ false
 unfolding line_starts
@@ -99,7 +99,7 @@ none_starts i n xs h = by_column (nat_eq n i) refl
     by_column true e = by_end (h (grind (arith, nat_tests)))
     by_column false e = refl
 
-no_break_at : (x : ℕ) → x ≢ line_feed → x ≢ carriage_return → is_break x ≡ false
+pub no_break_at : (x : ℕ) → x ≢ line_feed → x ≢ carriage_return → is_break x ≡ false
 no_break_at x a d = rw (ne_eqb x 10 a, ne_eqb x 13 d) refl
 
 pub behind_same : (st : BlockStyle) (i : ℕ) (ab : Option Bool) (k : ℕ) (b : Bool) (m : Marker) (n : ℕ)
@@ -159,6 +159,18 @@ last_left st i n ab k b m c cs others col h none =
     (line_end_on st i (is_blank c) b p) in
     subst (Left n others) (sym same) (sym none, inr none)
 
+-- spaces up to the text's end
+pub spaces_end : (st : BlockStyle) (i : ℕ) (ab : Option Bool) (k : ℕ) (b : Bool) (j : ℕ) (m : Marker) → m.col + j ≤ i
+    → between st i ab k b m (spaces j) ≡ lines_ended (is_some ab) k (line_cursor b (along m j) [])
+unfolding between
+spaces_end st i ab k b j m at =
+    ap (between st i ab k b m) (sym (append-nil (spaces j))) ∙ spaces_on st i ab k b j m [] at
+
+spaces_left : (st : BlockStyle) (i n : ℕ) (ab : Option Bool) (k : ℕ) (b : Bool) (j : ℕ) (m : Marker) (others : List ℕ)
+    → m.col + j ≤ i → others ≡ [] → Left n others (between st i ab k b m (spaces j))
+spaces_left st i n ab k b j m others at none =
+    subst (Left n others) (sym (spaces_end st i ab k b j m at)) (sym none, inr none)
+
 pub lines_left : (st : BlockStyle) (i n : ℕ) (x : List ℕ) (ab : Option Bool) (k : ℕ) (b : Bool) (m : Marker)
     (ls : List Line) (t others : List ℕ) → m.col ≡ 0 → AreLines i x ls t → IsBehind i n x others
     → Left n others (between st i ab k b m t)
@@ -177,3 +189,7 @@ lines_left st i n x ab k b m _ _ others col (last c cs ic none) h =
     let at : m.col + i ≤ i = omega arith in
     subst (Left n others) (sym (spaces_on st i ab k b i m (c ∷ cs) at))
     (last_left st i n ab k b (along m i) c cs others (omega arith) ic (nothing_behind i n x others none h))
+lines_left st i n x ab k b m _ _ others col (last_empty some none) h =
+    spaces_left st i n ab k b i m others (omega arith) (nothing_behind i n x others none h)
+lines_left st i n x ab k b m _ _ others col (left_of j less none) h =
+    spaces_left st i n ab k b j m others (omega arith) (nothing_behind i n x others none h)

@@ -10,33 +10,38 @@ use Rattle.scalar_values.specs.declared.block.BlockStyle.{BlockStyle}
 use Rattle.saphyr_scalar.specs.Spelling.Tag.{AreIn}
 use Rattle.saphyr_scalar.specs.declared.scalar.position.Span.{Span}
 use Rattle.saphyr_scalar.specs.Views.Cursor.{Cursor}
-use Rattle.scalar_values.specs.Block.{Line, Empty, Content, lines_value}
+use Rattle.scalar_values.specs.Block.{Line, Empty, Content, has_content, lines_value}
 use Rattle.saphyr_scalar.specs.Reading.BlockLines.{spaces}
 use Rattle.saphyr_scalar.specs.Steps.Block.{block_scalar}
 
--- 8.1.1.1: a digit from 1 to 9, or none, which is told as 0
+-- 8.1.1.1 [163]: a digit from 1 to 9, or none, which is told as 0
 pub data IsIndicator : ℕ → List ℕ → List ℕ → Type 0 where
   no_digit : (x : List ℕ) → IsIndicator 0 x x
   digit : (d : ℕ) (x : List ℕ) → 1 ≤ d → d ≤ 9 → IsIndicator d ((48 + d) ∷ x) x
 
--- 8.1.1.2: a chomping indicator, or none
+-- 8.1.1.2 [164]: a chomping indicator, or none
 pub data IsChomping : Chomping → List ℕ → List ℕ → Type 0 where
   strip : (x : List ℕ) → IsChomping Strip (hyphen ∷ x) x
   clip : (x : List ℕ) → IsChomping Clip x x
   keep : (x : List ℕ) → IsChomping Keep (plus_sign ∷ x) x
 
--- 6.6: blanks, and behind some blanks a comment, up to a line feed
+-- 6.6 [77]: blanks, and behind some blanks a comment, up to a line feed or to the text's end
 pub data IsHeaderEnd : List ℕ → List ℕ → Type 0 where
   no_comment : (blanks x : List ℕ) → AreIn is_blank blanks → IsHeaderEnd (blanks ++ (line_feed ∷ x)) x
   comment : (blank : ℕ) (blanks text x : List ℕ) → AreIn is_blank (blank ∷ blanks) → AreIn is_yaml_non_break text
       → IsHeaderEnd ((blank ∷ blanks) ++ (number_sign ∷ (text ++ (line_feed ∷ x)))) x
+  no_comment_at_end : (blanks : List ℕ) → AreIn is_blank blanks → IsHeaderEnd blanks []
+  comment_at_end : (blank : ℕ) (blanks text : List ℕ) → AreIn is_blank (blank ∷ blanks) → AreIn is_yaml_non_break text
+      → IsHeaderEnd ((blank ∷ blanks) ++ (number_sign ∷ text)) []
 
 -- a line's content: characters that are no breaks, at column 0 none that begin a document marker
 pub record IsContent (i : ℕ) (c : ℕ) (cs x : List ℕ) : Type 0 where
   pub all : AreIn is_yaml_non_break (c ∷ cs)
   pub no_marker : i ≡ 0 → is_document_indicator ((c ∷ cs) ++ x) ≡ false
 
--- 8.1.2: lines, each empty or content behind the indentation i; the last one may lack a break at the text's end
+-- 8.1.2, 8.1.3 [171] to [173], [175] to [182]: lines, each empty or content behind the indentation i; the last one may
+-- lack a break at the text's end. Spaces alone are then an empty line where they reach the indentation, and none left
+-- of it.
 pub data AreLines (i : ℕ) (x : List ℕ) : List Line → List ℕ → Type 0 where
   no_lines : AreLines i x [] x
   empty : (j : ℕ) (ls : List Line) (t : List ℕ) → j ≤ i → AreLines i x ls t
@@ -45,6 +50,8 @@ pub data AreLines (i : ℕ) (x : List ℕ) : List Line → List ℕ → Type 0 w
       → AreLines i x (Content (c ∷ cs) ∷ ls) (spaces i ++ (c ∷ (cs ++ (line_feed ∷ t))))
   last : (c : ℕ) (cs : List ℕ) → IsContent i c cs [] → x ≡ []
       → AreLines i x (Content (c ∷ cs) ∷ []) (spaces i ++ (c ∷ cs))
+  last_empty : 1 ≤ i → x ≡ [] → AreLines i x (Empty ∷ []) (spaces i)
+  left_of : (j : ℕ) → j < i → x ≡ [] → AreLines i x [] (spaces j)
 
 -- what ends the lines: n spaces, and behind them no more of the indentation and no line
 pub record IsBehind (i n : ℕ) (x others : List ℕ) : Type 0 where
@@ -57,8 +64,8 @@ pub record IsBehind (i n : ℕ) (x others : List ℕ) : Type 0 where
   pub no_content : n ≡ i → (is_yaml_non_break (slice_index others 0) ≡ false)
       ⊎ ((i ≡ 0) × (is_document_indicator others ≡ true))
 
--- 8.1.1.1: a text with a content line, behind empty ones or none; where no indicator gives the indentation, its content
--- begins with no space
+-- 8.1.1.1, 8.1.2, 8.1.3 [171], [173], [182]: a text with a content line, behind empty ones or none; where no indicator
+-- gives the indentation, its content begins with no space
 pub data IsBody (i : ℕ) (given : Bool) (x : List ℕ) : List Line → List ℕ → Type 0 where
   leading : (j : ℕ) (ls : List Line) (t : List ℕ) → j ≤ i → IsBody i given x ls t
       → IsBody i given x (Empty ∷ ls) (spaces j ++ (line_feed ∷ t))
@@ -68,15 +75,31 @@ pub data IsBody (i : ℕ) (given : Bool) (x : List ℕ) : List Line → List ℕ
   first_and_last : (c : ℕ) (cs : List ℕ) → (given ≡ false → c ≢ space) → IsContent i c cs [] → x ≡ []
       → IsBody i given x (Content (c ∷ cs) ∷ []) (spaces i ++ (c ∷ cs))
 
--- 8.1.1: a header, with its line; its indicators stand in either order
+-- 8.1.1.2 [166] to [168]: empty lines; at the text's end spaces may stand behind them, which are no line
+pub data AreEmptyLines (i : ℕ) (x : List ℕ) : List Line → List ℕ → Type 0 where
+  no_empty_lines : AreEmptyLines i x [] x
+  empty_line : (j : ℕ) (ls : List Line) (t : List ℕ) → j ≤ i → AreEmptyLines i x ls t
+      → AreEmptyLines i x (Empty ∷ ls) (spaces j ++ (line_feed ∷ t))
+  empty_line_and_spaces : (j k : ℕ) → j ≤ i → k ≤ i → x ≡ []
+      → AreEmptyLines i x (Empty ∷ []) (spaces j ++ (line_feed ∷ spaces k))
+
+-- 8.1.1.1, 8.1.1.2 [166] to [169]: a text without content: empty lines or none, or at the text's end spaces alone, which
+-- are one. A line behind it begins left of `indent`, behind n spaces, or the indentation is 0, where a document marker is
+-- no content.
+pub data IsEmptyBody (indent i n : ℕ) (x : List ℕ) : List Line → List ℕ → Type 0 where
+  empty_lines : (ls : List Line) (t : List ℕ) → AreEmptyLines i x ls t → (n < indent) ⊎ ((i ≡ 0) ⊎ (x ≡ []))
+      → IsEmptyBody indent i n x ls t
+  spaces_alone : (j : ℕ) → 1 ≤ j → j ≤ i → x ≡ [] → IsEmptyBody indent i n x (Empty ∷ []) (spaces j)
+
+-- 8.1.1 [162]: a header, with its line; its indicators stand in either order
 pub data IsHeader (n : ℕ) (chomping : Chomping) (x : List ℕ) : List ℕ → Type 0 where
   digit_first : (mark : ℕ) (a b d : List ℕ) → IsIndicator n a b → IsChomping chomping b d → IsHeaderEnd d x
       → IsHeader n chomping x (mark ∷ a)
   chomping_first : (mark : ℕ) (a b d : List ℕ) → IsChomping chomping a b → IsIndicator n b d → IsHeaderEnd d x
       → IsHeader n chomping x (mark ∷ a)
 
--- 8.1.1.1: the indentation i counts from that of the enclosing block collection where a digit gives it. `indent` is the
--- first column to the right of that collection.
+-- 8.1.1.1 [163]: the indentation i counts from that of the enclosing block collection where a digit gives it. `indent`
+-- is the first column to the right of that collection.
 pub data IsIndentation (indent i : ℕ) : ℕ → Bool → Type 0 where
   found : indent ≤ i → IsIndentation indent i 0 false
   given : (d : ℕ) → 1 ≤ d → i ≡ indent - 1 + d → i < 2 ^ 64 → IsIndentation indent i d true
@@ -89,11 +112,11 @@ pub record IsBlockScalar (indent i n : ℕ) (chomping : Chomping) (ls : List Lin
   pub header : IsHeader digit chomping body t
   pub no_tab : slice_index body 0 ≢ tab
   pub indentation : IsIndentation indent i digit is_given
-  pub lines : IsBody i is_given behind ls body
+  pub lines : IsBody i is_given behind ls body ⊎ IsEmptyBody indent i n behind ls body
   pub ends : IsBehind i n behind others
 
 -- It was read from s: its lines, and the spaces of what ends them, are taken off. Its span starts behind the
--- indentation of the first content line, and ends where reading did.
+-- indentation of the first content line, where it has one, and ends where reading did.
 pub record IsTaken (style : BlockStyle) (indent i n : ℕ) (chomping : Chomping) (ls : List Line) (s : Cursor)
     (body others : List ℕ) : Type 0 where
   pub text : List ℕ
@@ -103,7 +126,7 @@ pub record IsTaken (style : BlockStyle) (indent i n : ℕ) (chomping : Chomping)
   pub read : block_scalar style indent s ≡ Ok (text, span, left)
   pub rest : left.rest ≡ others
   pub column : (left.mark.col ≡ n) ⊎ (others ≡ [])
-  pub start : span.start.col ≡ i
+  pub start : has_content ls ≡ true → span.start.col ≡ i
   pub end : span.end ≡ left.mark
   pub taken : body ≡ front ++ others
   pub value : text ≡ encode_utf8_all (lines_value style chomping true ls)

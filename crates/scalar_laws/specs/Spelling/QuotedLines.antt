@@ -13,8 +13,8 @@ use Rattle.scalar_values.specs.declared.flow.Quote.{Quote}
 abbrev pub space_count : List ℕ → ℕ
 space_count t = prefix_len (λ c. c == space) t
 
--- A line that begins here: no document marker does, and the line begins with `indent` spaces or more (6.1), or it has
--- spaces alone (6.4).
+-- A line that begins here: no document marker does, and the line begins with `indent` spaces or more (6.1 [63]), or it
+-- has spaces alone (6.4 [70]).
 pub record IsLine (indent : ℕ) (t : List ℕ) : Type 0 where
   pub no_marker : IsFalse (is_document_indicator t)
   pub indented : (indent ≤ space_count t) ⊎ IsTrue (is_break (slice_index (drop (space_count t) t) 0))

@@ -22,11 +22,11 @@ AreMany P t = (pieces : List (List ℕ)) × AreEach P pieces × (t ≡ joined_pi
 
 -- ## Spaces and comments
 
--- 6.1: spaces, at least so many
+-- 6.1 [63]: spaces, at least so many
 abbrev pub AreSpaces : ℕ → List ℕ → Type 0
 AreSpaces least t = (n : ℕ) × (least ≤ n) × (t ≡ spaces n)
 
--- 6.6: a comment, up to the end of its line
+-- 6.6 [75]: a comment, up to the end of its line
 abbrev pub IsComment : List ℕ → Type 0
 IsComment t = (words : List ℕ) × AreIn is_yaml_non_break words × (t ≡ codes "#" ++ words)
 
@@ -36,7 +36,7 @@ IsCommentBehind white t = (t ≡ []) ⊎ ((white ≢ []) × IsComment t)
 
 -- ## Ends of lines
 
--- 6.6: what may stand behind a token on its line: blanks, and behind some blanks a comment
+-- 6.6 [77]: what may stand behind a token on its line: blanks, and behind some blanks a comment
 abbrev pub IsLineRest : List ℕ → Type 0
 IsLineRest t = (blanks comment : List ℕ) × AreIn is_blank blanks × IsCommentBehind blanks comment
     × (t ≡ blanks ++ comment)
@@ -49,7 +49,7 @@ IsLineEnd t = (rest : List ℕ) × IsLineRest rest × (t ≡ rest ++ codes "\n")
 abbrev pub IsEol : List ℕ → List ℕ → Type 0
 IsEol t behind = IsLineEnd t ⊎ (IsLineRest t × (behind ≡ []))
 
--- 6.6, 6.4: a line of blanks, or of blanks and a comment, without its break
+-- 6.6, 6.4 [78]: a line of blanks, or of blanks and a comment, without its break
 abbrev pub IsFillerText : List ℕ → Type 0
 IsFillerText t = (front comment : List ℕ) × AreIn is_blank front × ((comment ≡ []) ⊎ IsComment comment)
     × (t ≡ front ++ comment)
@@ -67,15 +67,20 @@ IsLastFiller t = (filler text : List ℕ) × IsFiller filler × IsFillerText tex
 
 -- ## Separation
 
--- 6.7 in block style, behind an indicator: spaces, or the end of the line, filler and the next line's indentation
+-- 6.3 [69]: what stands before the content of a line of its own: its indentation, and any blanks
+abbrev pub IsLinePrefix : ℕ → List ℕ → Type 0
+IsLinePrefix indent t = (front blanks : List ℕ) × AreSpaces indent front × AreIn is_blank blanks × (t ≡ front ++ blanks)
+
+-- 6.7 [80], [81] in block style: blanks, or the end of the line, filler, and what stands before the next line's content
 abbrev pub IsNextLine : ℕ → List ℕ → Type 0
-IsNextLine indent t = (end filler front : List ℕ) × IsLineEnd end × IsFiller filler × AreSpaces indent front
+IsNextLine indent t = (end filler front : List ℕ) × IsLineEnd end × IsFiller filler × IsLinePrefix indent front
     × (t ≡ end ++ (filler ++ front))
 
 abbrev pub IsGap : ℕ → List ℕ → Type 0
-IsGap indent t = AreSpaces 1 t ⊎ IsNextLine indent t
+IsGap indent t = ((t ≢ []) × AreIn is_blank t) ⊎ IsNextLine indent t
 
--- 6.7 in flow style: blanks, a comment behind some blank or none, the break, filler and the next line's indentation
+-- 6.7 [81] in flow style: blanks, a comment behind some blank or none, the break, filler and the next line's
+-- indentation
 abbrev pub IsSeparationLine : ℕ → List ℕ → Type 0
 IsSeparationLine indent t =
     (blanks comment filler : List ℕ) × AreIn is_blank blanks × IsCommentBehind blanks comment × IsFiller filler
