@@ -4,7 +4,7 @@
     tests/promises.py [--quiet] [--mark] [NAME..]
 
 A promise is a clause of one of `FUNCTIONS`: of `Parser::new` (or of `with_limit` and `new_from_iter`, where they say
-more), of the calls of a parser, of `load_documents`, of `dump` or of `run_dump`. Each of its names is followed through
+more), of the calls of a parser, of `load_documents`, of `load_document`, of `dump` or of `run_dump`. Each of its names is followed through
 the `use` lines of its file to the definition in a crate's `specs`, and so is each name in there. What is reached is
 printed, by clause: the file, the section of the standard that its head names, and the definitions. A `NAME` of a clause
 or a function, as `taken`, prints this alone, and `--quiet` counts only.
@@ -33,12 +33,13 @@ import sys
 TOP = os.path.dirname(os.path.dirname(os.path.abspath(__file__)))
 PAGE = os.path.join(TOP, "docs", "DEFINITIONS.md")
 PARSER, LOADER = "crates/saphyr_parser/src/cursor.rt", "crates/yaml_tree/src/loading.rt"
+ONE_LOADER = "crates/yaml_tree/src/document_loading.rt"
 PRINTING, RUNNING = "crates/saphyr_parser/src/printing.rt", "crates/saphyr_parser/src/printing/run.rt"
 # each with its mark in the page, where that isn't the clause's own name
 FUNCTIONS = {
     (PARSER, "new"): None, (PARSER, "with_limit"): None, (PARSER, "new_from_iter"): None,
     (PARSER, "next_event"): "calls", (PARSER, "peek"): "calls", (PARSER, "load"): "calls",
-    (PARSER, "keep_tags"): "calls", (LOADER, "load_documents"): "trees",
+    (PARSER, "keep_tags"): "calls", (LOADER, "load_documents"): "trees", (ONE_LOADER, "load_document"): "trees",
     (PRINTING, "dump"): "lines", (RUNNING, "run_dump"): "lines",
 }
 SAME_AS_NEW = {"with_limit", "new_from_iter"}

@@ -17,6 +17,7 @@ mod loading;
 mod outcome;
 mod parts;
 mod trees;
+mod walks;
 mod ways;
 
 use case_files::{Case, Difference, parse_cases, printed};
@@ -60,9 +61,11 @@ enum Way {
     NewFromIter,
     NewStr,
     LoadDocuments,
+    LoadEachDocument,
+    WalkTrees,
 }
 
-const WAYS: [Way; 10] = [
+const WAYS: [Way; 12] = [
     Way::NextEvent,
     Way::Peek,
     Way::LoadAll,
@@ -73,6 +76,8 @@ const WAYS: [Way; 10] = [
     Way::NewFromIter,
     Way::NewStr,
     Way::LoadDocuments,
+    Way::LoadEachDocument,
+    Way::WalkTrees,
 ];
 
 fn main(rt: HostRuntime) -> ExitCode {
@@ -115,7 +120,9 @@ fn take(alloc: Global, case: &Case, text: &str, way: Way) -> Result<Outcome, Dif
         Way::Dump => parts::by_dump(alloc, parser, lines, text),
         Way::NewFromIter => parts::by_iterator(alloc, case),
         Way::NewStr => parts::by_error(alloc, case.name.as_str()),
-        Way::LoadDocuments => trees::by_load_documents(alloc, parser, lines),
+        Way::LoadDocuments => trees::by_load_documents(alloc, parser, lines, false),
+        Way::LoadEachDocument => trees::by_load_documents(alloc, parser, lines, true),
+        Way::WalkTrees => walks::by_walks(alloc, parser, lines),
     }
 }
 

@@ -7,10 +7,10 @@ use case_files::{Difference, Expected, push_item};
 use saphyr_parser::{CloneInput, Event, Fault, Input, Parser, Span};
 use std::alloc::{AllocError, Global};
 use tree_events::events_of;
-use yaml_tree::{Document, Limits, TreeFault, load_documents};
+use yaml_tree::{Document, Limits, TreeFault, load_document, load_documents};
 
 /// Limits that no text passes.
-const WIDE: Limits = Limits {
+pub const WIDE: Limits = Limits {
     nodes: usize::MAX,
     depth: usize::MAX,
 };
@@ -26,14 +26,15 @@ enum Loaded {
     EventsRefused,
 }
 
-/// The documents are loaded. Where there is no memory for the trees, the parser gives what comes behind the
-/// event that could not be taken.
+/// The documents are loaded, one at a time or all at once. Where there is no memory for the trees, the parser
+/// gives what comes behind the event that could not be taken.
 pub fn by_load_documents<T: CloneInput>(
     alloc: Global,
     parser: &mut Parser<'_, T>,
     lines: &[String],
+    each: bool,
 ) -> Result<Outcome, Difference> {
-    match load_lines(alloc, parser, lines)? {
+    match load_lines(alloc, parser, lines, each)? {
         Loaded::Whole => is_ended(alloc, parser, last(lines)),
         Loaded::TreesRefused => goes_on(alloc, parser, lines),
         Loaded::EventsRefused => is_ended_by_memory(alloc, parser),
@@ -45,10 +46,33 @@ fn load_lines<T: CloneInput>(
     alloc: Global,
     parser: &mut Parser<'_, T>,
     lines: &[String],
+    each: bool,
 ) -> Result<Loaded, Difference> {
     let mut again = parser.try_clone()?;
-    let loaded = load_documents(alloc, parser, WIDE);
+    let loaded = load(alloc, parser, each);
     judge(alloc, &loaded, &mut again, lines)
+}
+
+fn load<T: Input>(
+    alloc: Global,
+    parser: &mut Parser<'_, T>,
+    each: bool,
+) -> Result<Vec<Document>, TreeFault> {
+    if each {
+        return load_each(alloc, parser);
+    }
+    load_documents(alloc, parser, WIDE)
+}
+
+fn load_each<T: Input>(
+    alloc: Global,
+    parser: &mut Parser<'_, T>,
+) -> Result<Vec<Document>, TreeFault> {
+    let mut documents = Vec::new(alloc);
+    while let Some(document) = load_document(alloc, parser, WIDE)? {
+        documents.push(document)?;
+    }
+    Ok(documents)
 }
 
 fn judge<T: Input>(

@@ -10,3 +10,5 @@ mod cases;
 mod documents;
 #[cfg(test)]
 mod forests;
+#[cfg(test)]
+mod one_by_one;

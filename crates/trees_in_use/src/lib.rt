@@ -5,4 +5,8 @@
 #[cfg(test)]
 mod accessors;
 #[cfg(test)]
+mod expanding;
+#[cfg(test)]
+mod paths;
+#[cfg(test)]
 mod places;

@@ -1,12 +1,12 @@
 -- Which parser loading leaves: event after event was handed out.
-use Rattle.std.proofs.Common.{◌≡◌, ◌++◌, List, [], ◌∷◌, Result, Ok, Err, Vec, Global, refl, sym, ap, subst, ◌∙◌, append-nil, inr}
+use Rattle.std.proofs.Common.{◌≡◌, ℕ, ◌<◌, ◌++◌, List, [], ◌∷◌, Result, Ok, Err, Vec, Global, refl, sym, ap, subst, ◌∙◌, append-nil, length-append, arith, inr}
 use Rattle.saphyr_scalar.specs.declared.scalar.position.Marker.{Marker}
 use Rattle.saphyr_scalar.specs.declared.scalar.position.Span.{Span}
 use Rattle.saphyr_parser.specs.Events.{Happening}
 use Rattle.saphyr_parser.specs.Answer.{Answer}
-use Rattle.saphyr_parser.specs.Cursor.{EventCursor, to_come}
+use Rattle.saphyr_parser.specs.Cursor.{EventCursor, count, to_come}
 use Rattle.saphyr_parser.specs.Calls.{Advances, AdvancesOver, IsOver, Looks}
-use Rattle.saphyr_machine.proofs.Calls.Handing.{nothing_left, over_more, over_splits}
+use Rattle.saphyr_machine.proofs.Calls.Handing.{advances_less, nothing_left, over_more, over_splits}
 use Rattle.yaml_tree.specs.declared.fault.TreeFault.{TreeFault}
 use Rattle.yaml_tree.specs.declared.fault.TreeFault.TheVariants as fault
 use Rattle.yaml_tree.specs.declared.tally.Limits.{Limits}
@@ -61,3 +61,43 @@ leaves_behind (Err fault.OutOfMemory) b old looked new l s h f = absurd f
 leaves_behind (Err (fault.Parse g)) b old looked new l s h f = absurd f
 leaves_behind (Err (fault.TooManyNodes at most)) b old looked new l s h f = absurd f
 leaves_behind (Err (fault.TooDeep at most)) b old looked new l s h f = absurd f
+
+-- ## Document after document
+
+over_both : (es fs : List (Happening × Span)) (a b c : EventCursor) → AdvancesOver es a b → AdvancesOver fs b c
+    → AdvancesOver (es ++ fs) a c
+over_both [] fs a b c same others = subst (λ (x : EventCursor). AdvancesOver fs x c) same others
+over_both (e ∷ es) fs a b c (m, first, more) others = (m, first, over_both es fs m b c more others)
+
+pub hands_both : (a b c : EventCursor) → HasHandedOut a b → HasHandedOut b c → HasHandedOut a c
+hands_both a b c h k =
+    record { handed = h.handed ++ k.handed; over = over_both h.handed k.handed a b c h.over k.over }
+
+pub leaves_rest : {X Y : Type 0} (x : X) (y : Y) (a b c : EventCursor) → HasHandedOut a b
+    → LeavesFrom {X = X} (Ok x) b c → LeavesFrom {X = Y} (Ok y) a c
+leaves_rest x y a b c h (all, over) =
+    let split = over_splits h.handed a b h.over in (
+      subst (λ (l : List (Happening × Span)). AdvancesOver l a c) (sym split.0)
+          (over_both h.handed (to_come b).events a b c h.over all),
+      over,
+    )
+
+pub leaves_fault : (X Y : Type 0) (f : TreeFault) (a b c : EventCursor) → HasHandedOut a b
+    → LeavesFrom {X = X} (Err f) b c → LeavesFrom {X = Y} (Err f) a c
+leaves_fault X Y (fault.Parse f) a b c h (m, k, fails) = (m, hands_both a b m h k, fails)
+leaves_fault X Y fault.NotFresh a b c h k = hands_both a b c h k
+leaves_fault X Y fault.OutOfMemory a b c h k = hands_both a b c h k
+leaves_fault X Y (fault.TooManyNodes at most) a b c h k = hands_both a b c h k
+leaves_fault X Y (fault.TooDeep at most) a b c h k = hands_both a b c h k
+
+less_before : (es : List (Happening × Span)) (a b : Answer) (n : ℕ) → a.events ≡ es ++ b.events
+    → a.fault ≡ b.fault → n < count b → n < count a
+less_before es a b n split same h = rw (split, same) (omega (arith, length-append es b.events, h))
+
+-- behind an event less is left
+pub hands_less : (a b c : EventCursor) (e : Happening × Span) → HasHandedOut a b → Advances e b c
+    → count (to_come c) < count (to_come a)
+hands_less a b c e h next =
+    let split = over_splits h.handed a b h.over in
+    let less = advances_less e b c next in
+    less_before h.handed (to_come a) (to_come b) (count (to_come c)) split.0 split.1 less

@@ -3,6 +3,12 @@ pub mod Unloads
 pub mod Taking
 pub mod Loads
 pub mod Leaving
+pub mod Grounded
+pub mod DocumentEnds
+pub mod DocumentRead
+pub mod DocumentFound
+pub mod Stuck
+pub mod OneByOne
 pub mod Copies
 pub mod Access
 pub mod NodeEvents
@@ -11,3 +17,6 @@ pub mod SpansRead
 pub mod Balance
 pub mod Walks
 pub mod AnchorSearch
+pub mod LastItems
+pub mod Counts
+pub mod Leads

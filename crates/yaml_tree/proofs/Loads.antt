@@ -58,10 +58,10 @@ stops_at_last f limits all a b e old r h w = record {
   why = w;
 }
 
-no_nest : (f : Option Ending) (o : Option Nest) → o ≡ None → IsWhole f o → ⊥
+pub no_nest : (f : Option Ending) (o : Option Nest) → o ≡ None → IsWhole f o → ⊥
 no_nest f o e w = subst (IsWhole f) e w
 
-told_split : (all a b : Answer) (es : List (Happening × Span)) (e : Happening × Span) → all.events ≡ es ++ a.events
+pub told_split : (all a b : Answer) (es : List (Happening × Span)) (e : Happening × Span) → all.events ≡ es ++ a.events
     → a ≡ with_first_event e b → happenings all.events ≡ (happenings es ++ e.0 ∷ []) ++ happenings b.events
 told_split all a b es e s h = ap happenings (split_more all a b es e s h)
     ∙ map-append (λ (d : Happening × Span). d.0) es (e ∷ b.events)

@@ -18,7 +18,8 @@ use Rattle.yaml_tree.specs.declared.walk.Turn.TheVariants.{Enter, Leave, Over}
 use Rattle.yaml_tree.specs.declared.walk.Visit.{Visit}
 use Rattle.yaml_tree.specs.declared.walk.Walk.{Walk}
 use Rattle.yaml_tree.specs.Unloading.{node_events, pair_events}
-use Rattle.yaml_tree.specs.Walking.{IsCollectionEnd, AreCollectionEnds, BeginsNode, root_events, rest_events, frames_events, to_visit, left_to_visit, openings, Turns, Enters, Visits}
+use Rattle.yaml_tree.specs.Walking.{IsCollectionEnd, AreCollectionEnds, BeginsNode, root_events, rest_events, frames_events, to_visit, left_to_visit, openings, Turns, Enters, Visits, IsWalkOf, path_of}
+use Rattle.yaml_tree.specs.Following.{LeadsTo}
 use Rattle.yaml_tree.proofs.Unloads.{node_events-Seq, node_events-Map}
 use Rattle.yaml_tree.proofs.Balance.{ends_frames}
 
@@ -116,6 +117,18 @@ opens olds rests more r s node e f own = pushed rests olds r e
     ∙ append_assoc (node_events node) (rest_events s) (frames_events rests)
     ∙ ap (λ (l : List Happening). node_events node ++ l) (sym (pushed rests more s f))
 
+-- what is to be visited begins with a part of the innermost collection
+pub comes_next : (old : Walk) (rests mid : List Rest) (r s t : Rest) (node : Node) → old.root ≡ None
+    → old.levels.items ≡ rests ++ r ∷ [] → r ≡ t → mid ≡ rests ++ s ∷ []
+    → rest_events t ≡ node_events node ++ rest_events s → to_visit old ≡ node_events node ++ frames_events mid
+comes_next old rests mid r s t node none e is f own = visits_levels old none
+    ∙ opens old.levels.items rests mid r s node e f (ap rest_events is ∙ own)
+
+pub comes_first : (old : Walk) (root : Bor Node) → old.root ≡ Some root
+    → to_visit old ≡ node_events root.now ++ frames_events old.levels.items
+comes_first old root some =
+    ap (λ (o : Option (Bor Node)). root_events o ++ frames_events old.levels.items) some
+
 pub turn_enters : (result : Result Turn AllocError) (old new : Walk) (rests mid : List Rest) (r s : Rest) (node : Node)
     → old.root ≡ None → new.root ≡ None → old.levels.items ≡ rests ++ r ∷ [] → mid ≡ rests ++ s ∷ []
     → rest_events r ≡ node_events node ++ rest_events s
@@ -190,13 +203,15 @@ pub record HasPassed (old new : Walk) : Type 0 where
   pub passed : List (Happening × Span)
   pub ends : AreCollectionEnds passed
   pub split : left_to_visit old ≡ passed ++ left_to_visit new
+  pub within : (root : Node) → IsWalkOf root old → IsWalkOf root new
 
 pub passes_none : (w : Walk) → HasPassed w w
-passes_none w = record { passed = []; ends = tt; split = refl }
+passes_none w = record { passed = []; ends = tt; split = refl; within = λ root of. of }
 
 pub passes_end : (old s t : Walk) (span : Span) (others : List Span) → HasPassed old s
-    → Turns Leave (to_visit s) (to_visit t) → s.spans.now ≡ span ∷ others → t.spans.now ≡ others → HasPassed old t
-passes_end old s t span others p (h, end, e) es et =
+    → Turns Leave (to_visit s) (to_visit t) → ((root : Node) → IsWalkOf root s → IsWalkOf root t)
+    → s.spans.now ≡ span ∷ others → t.spans.now ≡ others → HasPassed old t
+passes_end old s t span others p (h, end, e) within es et =
     let step = ap (λ l. zip l s.spans.now) e ∙ ap (λ l. zip (h ∷ to_visit t) l) es
     ∙ ap (λ l. (h, span) ∷ zip (to_visit t) l) (sym et) in
     record {
@@ -204,18 +219,21 @@ passes_end old s t span others p (h, end, e) es et =
       ends = ends_joined p.passed ((h, span) ∷ []) p.ends (end, tt);
       split = p.split ∙ ap (λ (l : List (Happening × Span)). p.passed ++ l) step
           ∙ sym (append_assoc p.passed ((h, span) ∷ []) (left_to_visit t));
+      within = λ root of. within root (p.within root of);
     }
 
 pub visits_node : (old s t : Walk) (visit : Visit) (others : List Span) → HasPassed old s
-    → BeginsNode visit.node.now visit.depth (to_visit s) (to_visit t) → s.spans.now ≡ visit.span ∷ others
-    → t.spans.now ≡ others → Visits old (Some (Ok visit)) t
-visits_node old s t visit others p b es et = (
+    → BeginsNode visit.node.now visit.depth (to_visit s) (to_visit t)
+    → ((root : Node) → IsWalkOf root s → IsWalkOf root t × LeadsTo (path_of t) root visit.node.now (to_visit s))
+    → s.spans.now ≡ visit.span ∷ others → t.spans.now ≡ others → Visits old (Some (Ok visit)) t
+visits_node old s t visit others p b leads es et = (
   p.passed,
   to_visit s,
   p.ends,
   b,
   p.split ∙ ap (λ (l : List Span). p.passed ++ zip (to_visit s) l)
       (es ∙ ap (λ (o : List Span). visit.span ∷ o) (sym et)),
+  λ root of. leads root (p.within root of),
 )
 
 ended : (old s : Walk) → HasPassed old s → left_to_visit s ≡ [] → AreCollectionEnds (left_to_visit old)

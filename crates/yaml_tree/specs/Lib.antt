@@ -7,8 +7,13 @@ pub mod TallySeen
 pub mod LoaderSeen
 pub mod Loading
 pub mod Leaving
+pub mod DocumentLoading
+pub mod DocumentSeen
 pub mod Accessing
 pub mod Spanning
 pub mod KeeperSeen
 pub mod Walking
 pub mod Anchoring
+pub mod Expanding
+pub mod CounterSeen
+pub mod Following

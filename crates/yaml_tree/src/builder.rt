@@ -1,5 +1,5 @@
 //! Trees that grow event by event.
-ghost use Rattle.std.specs.Prelude.{◌≡◌, [], Some};
+ghost use Rattle.std.specs.Prelude.{◌≡◌, [], ◌∷◌, Some};
 ghost use Rattle.saphyr_parser.specs.Events as events;
 ghost use Rattle.saphyr_parser.specs.Views.Events.{happening};
 ghost use Rattle.yaml_tree.specs.Unloading.{node_events};
@@ -24,6 +24,7 @@ pub(crate) struct Builder {
 
 impl Builder {
     ghost use Rattle.yaml_tree.specs.BuilderSeen.{builder_events, nest_of, Grows, Follows, HandsOutInnermost, Finishes};
+    ghost use Rattle.yaml_tree.specs.DocumentSeen.{nest_in_stream, HoldsLast};
 
     pub(crate) fn new(alloc: Global) -> Builder
         ensures written { builder_events result ≡ [] }
@@ -33,6 +34,18 @@ impl Builder {
             alloc,
             outer: Vec::new(alloc),
             innermost: Open::Nothing,
+        }
+    }
+
+    // A builder that has taken the stream's start.
+    pub(crate) fn in_stream(alloc: Global) -> Builder
+        ensures written { builder_events result ≡ events.StreamStart ∷ [] }
+        ensures nested { nest_of result ≡ nest_in_stream }
+    {
+        Builder {
+            alloc,
+            outer: Vec::new(alloc),
+            innermost: Open::Stream(Vec::new(alloc)),
         }
     }
 
@@ -70,6 +83,16 @@ impl Builder {
             return Err(TreeFault::NotFresh);
         }
         self.innermost.into_documents()
+    }
+
+    // The document that has ended last, or none where the stream has ended.
+    pub(crate) fn last_document(self) -> Result<Option<Document>, TreeFault>
+        ensures { HoldsLast result self }
+    {
+        if !self.outer.is_empty() {
+            return Err(TreeFault::NotFresh);
+        }
+        self.innermost.into_last_document()
     }
 
     fn begin_stream(&mut self) -> Result<(), TreeFault>

@@ -21,7 +21,7 @@ pub enum TreeFault {
     /// There was no memory for the trees.
     #[error("out of memory")]
     OutOfMemory,
-    /// The parser's next event isn't the stream's start.
+    /// The parser's next event isn't the stream's start, or for `load_document` is one of a document that has begun.
     #[error("the parser has handed out events")]
     NotFresh,
 }

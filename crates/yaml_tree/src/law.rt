@@ -1,14 +1,31 @@
 //! What the events of texts are to a loader.
-ghost use Rattle.std.specs.Prelude.{Bool, Err, List, ℕ};
+ghost use Rattle.std.specs.Prelude.{◌≡◌, Bool, None, Ok, Err, List, ℕ};
 ghost use Rattle.saphyr_parser.specs.Answer.{Answer};
 ghost use Rattle.saphyr_parser.specs.EventsTaken.{AreTaken};
+ghost use Rattle.saphyr_parser.specs.Nesting.{happenings};
 ghost use Rattle.yaml_tree.specs.declared.tally.Limits.{Limits};
 ghost use Rattle.yaml_tree.specs.declared.fault.TreeFault.TheVariants.{NotFresh};
+ghost use Rattle.yaml_tree.specs.declared.document.Document.{Document};
+ghost use Rattle.yaml_tree.specs.Unloading.{unload};
 ghost use Rattle.yaml_tree.specs.Loading.{LoadsDocuments};
+ghost use Rattle.yaml_tree.specs.DocumentLoading.{LoadsDocument, LoadsEach};
 
 /// `load_documents` on a new parser never answers `NotFresh`: what a new parser gives is taken from its text, as it
 /// promises (`taken`).
 pub fn loads_new_parsers()
     ensures { (keep : Bool) (text : List ℕ) (limits : Limits) (all left : Answer)
         → AreTaken keep text all → LoadsDocuments limits (Err NotFresh) all left → ⊥ }
+{}
+
+/// `load_document` on a new parser, call after call, never answers `NotFresh` as long as each call gives a document.
+/// Once it answers that there is none, the documents that it gave have exactly the events of the text, as those of
+/// `load_documents` have.
+pub fn loads_one_by_one()
+    ensures fresh { (keep : Bool) (text : List ℕ) (limits : Limits) (documents : List Document)
+        (all left behind : Answer) → AreTaken keep text all → LoadsEach limits documents all left
+        → LoadsDocument limits (Err NotFresh) left behind → ⊥ }
+    ensures whole { (keep : Bool) (text : List ℕ) (limits : Limits) (documents : List Document)
+        (all left behind : Answer) → AreTaken keep text all → LoadsEach limits documents all left
+        → LoadsDocument limits (Ok None) left behind
+        → (unload documents ≡ happenings all.events) × (all.fault ≡ None) }
 {}

@@ -1,11 +1,12 @@
 //! Documents from the events of a parser (YAML 1.2.2, 3.1.2).
-ghost use Rattle.std.specs.Prelude.{◌≡◌, List, [], ◌∷◌, ◌++◌};
-ghost use Rattle.saphyr_parser.specs.Events.{Happening};
+ghost use Rattle.std.specs.Prelude.{◌≡◌, ◌↔◌, List, [], ◌∷◌, ◌++◌, IsTrue};
+ghost use Rattle.saphyr_parser.specs.Events.{Happening, StreamStart, DocumentEnd};
 ghost use Rattle.saphyr_parser.specs.Views.Events.{happening};
 ghost use Rattle.saphyr_parser.specs.Cursor.{to_come};
 ghost use Rattle.saphyr_parser.specs.Calls.{Looks};
 ghost use Rattle.yaml_tree.specs.Loading.{LoadsDocuments, TakesAll, BeginsSo};
 ghost use Rattle.yaml_tree.specs.Leaving.{LeavesParser, LeavesFrom};
+ghost use Rattle.yaml_tree.specs.DocumentSeen.{TakesPart, Shrinks, LeavesPart};
 
 use crate::builder::Builder;
 use crate::document::Document;
@@ -47,6 +48,13 @@ pub(crate) fn is_at_start<'input, T: Input>(parser: &mut Parser<'input, T>) -> b
     }
 }
 
+// Whether a document ends with the event.
+fn ends_document(event: &Event) -> bool
+    ensures { IsTrue result ↔ happening event.now ≡ DocumentEnd }
+{
+    matches!(event, Event::DocumentEnd)
+}
+
 // Trees that grow within limits.
 #[derive(Drop)]
 pub(crate) struct Loader {
@@ -66,6 +74,16 @@ impl Loader {
         }
     }
 
+    // A loader that has taken the stream's start.
+    pub(crate) fn in_stream(alloc: Global, limits: Limits) -> Loader
+        ensures { HasTaken limits (StreamStart ∷ []) result }
+    {
+        Loader {
+            tally: Tally::new(limits),
+            builder: Builder::in_stream(alloc),
+        }
+    }
+
     // Takes all events that are still to come.
     fn take_all<'input, T: Input>(
         &mut self,
@@ -76,13 +94,35 @@ impl Loader {
         ensures leaves { (limits : Limits) → HasTaken limits [] self.old
             → LeavesFrom result parser.old parser.new }
     {
+        while self.take_document(parser)? {}
+        Ok(())
+    }
+
+    // Takes events up to the end of a document. Whether one ended; where none did, the stream has.
+    pub(crate) fn take_document<'input, T: Input>(
+        &mut self,
+        parser: &mut Parser<'input, T>,
+    ) -> Result<bool, TreeFault>
+        ensures takes { (limits : Limits) (before : List Happening)
+            → HasTaken limits before self.old
+            → TakesPart limits before result (to_come parser.old) (to_come parser.new) self.new }
+        ensures shrinks { Shrinks result (to_come parser.old) (to_come parser.new) }
+        ensures leaves { (limits : Limits) (before : List Happening)
+            → HasTaken limits before self.old → LeavesPart result parser.old parser.new }
+    {
         while let Some(read) = parser.next_event() {
             match read {
-                Ok((event, span)) => self.take(event, span.start)?,
+                Ok((event, span)) => {
+                    let last = ends_document(&event);
+                    self.take(event, span.start)?;
+                    if last {
+                        return Ok(true);
+                    }
+                }
                 Err(fault) => return Err(TreeFault::Parse(fault)),
             }
         }
-        Ok(())
+        Ok(false)
     }
 
     // Takes an event whose span starts here. The limits are judged first.

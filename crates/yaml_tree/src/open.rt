@@ -27,6 +27,7 @@ pub(crate) enum Open {
 
 impl Open {
     ghost use Rattle.yaml_tree.specs.OpenSeen.{place_of, GrowsBy, EndsWhole, Completes};
+    ghost use Rattle.yaml_tree.specs.DocumentSeen.{IsLastOf};
 
     // The stream that begins.
     pub(crate) fn begun(self, alloc: Global) -> Result<Open, TreeFault>
@@ -125,6 +126,17 @@ impl Open {
     {
         match self {
             Open::Ended(documents) => Ok(documents),
+            _ => Err(TreeFault::NotFresh),
+        }
+    }
+
+    // The document that has ended last, or none where the stream has ended.
+    pub(crate) fn into_last_document(self) -> Result<Option<Document>, TreeFault>
+        ensures { IsLastOf result self }
+    {
+        match self {
+            Open::Stream(mut documents) => Ok(documents.pop()),
+            Open::Ended(_) => Ok(None),
             _ => Err(TreeFault::NotFresh),
         }
     }

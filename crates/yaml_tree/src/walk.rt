@@ -1,10 +1,15 @@
 //! The nodes of a tree one after the other, each before its parts, with the spans of their events (YAML 1.2.2, 3.1).
-ghost use Rattle.std.specs.Prelude.{◌≡◌, ◌∷◌, ◌++◌, length, OnOk, IfOk};
+ghost use Rattle.std.specs.Prelude.{◌≡◌, ℕ, ◌-◌, ◌∷◌, ◌++◌, length, option_map, OnOk, IfOk};
+ghost use Rattle.yaml_tree.specs.declared.node.Node.{Node};
+ghost use Rattle.yaml_tree.specs.declared.paths.Step.{Step as StepSeen};
+ghost use Rattle.std.specs.Option.{option_to_list};
 ghost use Rattle.std.specs.Iterator.{at_most};
 ghost use Rattle.yaml_tree.specs.Unloading.{node_events};
 ghost use Rattle.yaml_tree.specs.Walking.{to_visit, frames_events, Enters, Turns, Visits};
+ghost use Rattle.yaml_tree.specs.Walking.{path_of, step_in, last_step, IsWalkOf, LeadDown, StandBelow, TurnsWithin};
 
 use crate::node::Node;
+use crate::paths::Step;
 use saphyr_parser::Span;
 use std::alloc::{AllocError, Global};
 
@@ -17,12 +22,33 @@ pub struct Visit<'a> {
     pub depth: usize,
 }
 
-// What is still to be visited of a collection.
+// The parts of a collection, and those of them that are still to be visited.
 #[derive(Clone, Copy)]
 enum Rest<'a> {
     Items(&'a [Node], &'a [Node]),
     Pairs(&'a [(Node, Node)], &'a [(Node, Node)]),
     Value(&'a Node, &'a [(Node, Node)], &'a [(Node, Node)]),
+}
+
+impl<'a> Rest<'a> {
+    // The step to the part that began last.
+    fn step(&self) -> Option<Step>
+        ensures { option_to_list result ≡ step_in self.now }
+    {
+        match self {
+            Rest::Items(all, left) => Some(Step::Index(last_of(all.len(), left.len())?)),
+            Rest::Pairs(all, left) => Some(Step::Value(last_of(all.len(), left.len())?)),
+            Rest::Value(_, all, left) => Some(Step::Key(last_of(all.len(), left.len())?)),
+        }
+    }
+}
+
+// The index of the last part before these.
+fn last_of(all: usize, left: usize) -> Option<usize>
+    ensures { (step : ℕ → StepSeen) → option_to_list (option_map step result)
+        ≡ last_step step (all - left) }
+{
+    all.checked_sub(left)?.checked_sub(1)
 }
 
 // An event of a tree: a node begins, with so many collections around it; or a collection ends.
@@ -47,6 +73,7 @@ impl<'a> Walk<'a> {
     pub fn new(alloc: Global, root: &'a Node, spans: &'a [Span]) -> Walk<'a>
         ensures events { to_visit result ≡ node_events root.now }
         ensures spans { result.spans.now ≡ spans.now }
+        ensures root { IsWalkOf root.now result }
     {
         Walk {
             root: Some(root),
@@ -55,9 +82,25 @@ impl<'a> Walk<'a> {
         }
     }
 
+    /// The path from the root to the node that was visited last. Ask right behind the visit: where no visit comes any
+    /// more, the path leads to no node in particular.
+    pub fn path(&self, alloc: Global) -> Result<Vec<Step>, AllocError>
+        ensures { IfOk result (λ path. path.items ≡ path_of self.now) }
+    {
+        let mut path = Vec::new(alloc);
+        for level in &self.levels {
+            if let Some(step) = level.step() {
+                path.push(step)?;
+            }
+        }
+        Ok(path)
+    }
+
     // The next event of the tree.
     pub(crate) fn turn(&mut self) -> Result<Turn<'a>, AllocError>
         ensures turns { IfOk result (λ turn. Turns turn (to_visit self.old) (to_visit self.new)) }
+        ensures within { IfOk result (λ turn. (root : Node) → IsWalkOf root self.old
+            → TurnsWithin root turn (to_visit self.old) self.new) }
         ensures spans { self.new.spans ≡ self.old.spans }
     {
         if let Some(root) = self.root.take() {
@@ -90,6 +133,9 @@ impl<'a> Walk<'a> {
     fn enter(&mut self, node: &'a Node) -> Result<Turn<'a>, AllocError>
         ensures turns { IfOk result (λ turn. Enters turn node.now (frames_events self.old.levels.items)
             (frames_events self.new.levels.items) (length self.old.levels.items)) }
+        ensures below { OnOk result ((root : Node) → LeadDown node.now self.old.levels.items root
+            → StandBelow self.new.levels.items root) }
+        ensures path { OnOk result (path_of self.new ≡ path_of self.old) }
         ensures root { self.new.root ≡ self.old.root }
         ensures spans { self.new.spans ≡ self.old.spans }
     {

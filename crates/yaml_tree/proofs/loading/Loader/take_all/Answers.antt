@@ -1,57 +1,45 @@
-use Rattle.std.proofs.Common.{◌≡◌, ◌∷◌, ◌++◌, [], Err, rules}
-use Rattle.saphyr_parser.specs.Cursor.{event_of}
+use Rattle.std.proofs.Common.{◌≡◌, Bool, Err, false, rules}
 use Rattle.saphyr_parser.specs.Nesting.{happenings}
-use Rattle.yaml_tree.proofs.Loads.{reads_none, reads_more, fails, refuses, reads_all}
-use Rattle.yaml_tree.proofs.Leaving.{hands_none, hands_more, leaves_all, leaves_at}
+use Rattle.yaml_tree.proofs.Loads.{reads_none}
+use Rattle.yaml_tree.proofs.Leaving.{hands_none, hands_both, leaves_rest, leaves_fault}
+use Rattle.yaml_tree.proofs.DocumentRead.{reads_document, reads_stream, fails_in_stream}
 use Rattle.yaml_tree.proofs.loading.Loader.take_all.Goals as goal
 
-pub loop-read-init : goal.loop-read-init
-loop-read-init g c = (λ limits h. reads_none limits _ _ h, hands_none _)
+pub loop-init : goal.loop-init
+loop-init g c = λ limits h. (reads_none limits _ _ h, hands_none _)
 
-pub loop-read-preserved : goal.loop-read-preserved
-loop-read-preserved g c = (
-  λ limits h.
-      let read = c.loop-read.invariant.0 limits h in
-      let hands = rw c.in-Ok.is at c.in-Some.ensures.hands in
-      reads_more limits _ _ _ (event_of (c.in-Ok.event, c.in-Ok.span)) _ _ read hands
-      (c.in_ok-take-in-Ok.ensures limits (happenings read.taken) read.loader),
-  hands_more _ _ _ (event_of (c.in-Ok.event, c.in-Ok.span)) c.loop-read.invariant.1
-      (rw c.in-Ok.is at c.in-Some.ensures.leaves),
-)
-
-pub returns-in_err-take-in-Ok-clause-takes : goal.returns-in_err-take-in-Ok-clause-takes
-returns-in_err-take-in-Ok-clause-takes g c = λ limits h.
-    let read = c.loop-read.invariant.0 limits h in
-    let hands = rw c.in-Ok.is at c.in-Some.ensures.hands in
-    let answer : c.from_residual.result ≡ Err c.in_err-take-in-Ok.field-0.0 = search rules in
-    rw answer (fails _ limits _ _ _ (event_of (c.in-Ok.event, c.in-Ok.span)) _ read hands
-    (c.in_err-take-in-Ok.ensures limits (happenings read.taken) read.loader))
-
-pub returns-in_err-take-in-Ok-clause-leaves : goal.returns-in_err-take-in-Ok-clause-leaves
-returns-in_err-take-in-Ok-clause-leaves g c = λ limits h.
-    let read = c.loop-read.invariant.0 limits h in
-    let next = event_of (c.in-Ok.event, c.in-Ok.span) in
-    let leaves = rw c.in-Ok.is at c.in-Some.ensures.leaves in
-    let answer : c.from_residual.result ≡ Err c.in_err-take-in-Ok.field-0.0 = search rules in
-    rw answer (leaves_at (Unit {0}) _ limits (happenings read.taken ++ next.0 ∷ []) next.1.start _ _
-    (c.in_err-take-in-Ok.ensures limits (happenings read.taken) read.loader)
-    (hands_more _ _ _ next c.loop-read.invariant.1 leaves))
-
-pub returns-in-Err-clause-takes : goal.returns-in-Err-clause-takes
-returns-in-Err-clause-takes g c = λ limits h.
-    let hands = rw c.in-Err.is at c.in-Some.ensures.hands in
-    refuses c.in-Err.fault limits _ _ _ _ (c.loop-read.invariant.0 limits h) hands.0 hands.1
-
-pub returns-in-Err-clause-leaves : goal.returns-in-Err-clause-leaves
-returns-in-Err-clause-leaves g c = λ limits h.
-    let leaves = rw c.in-Err.is at c.in-Some.ensures.leaves in
-    (_, c.loop-read.invariant.1, leaves)
+pub loop-preserved : goal.loop-preserved
+loop-preserved g c = λ limits h.
+    let before = c.loop.invariant limits h in
+    let events = happenings before.0.taken in
+    let takes = rw c.if-branch.true at (c.in_ok-take_document.ensures.takes limits events before.0.loader) in
+    let leaves = rw c.if-branch.true at (c.in_ok-take_document.ensures.leaves limits events before.0.loader) in
+    (reads_document limits _ _ _ _ _ before.0 takes, hands_both _ _ _ before.1 leaves)
 
 pub returns-clause-takes : goal.returns-clause-takes
 returns-clause-takes g c = λ limits h.
-    let hands = c.in_default.ensures.hands in
-    reads_all limits _ _ _ _ (c.loop-read.invariant.0 limits h) hands.0 hands.1
+    let before = c.loop.invariant limits h in
+    let events = happenings before.0.taken in
+    let takes = rw c.if-branch.false at (c.in_ok-take_document.ensures.takes limits events before.0.loader) in
+    reads_stream limits _ _ _ _ _ before.0 takes
 
 pub returns-clause-leaves : goal.returns-clause-leaves
 returns-clause-leaves g c = λ limits h.
-    leaves_all {X = Unit {0}} tt _ _ _ c.loop-read.invariant.1 c.in_default.ensures.leaves
+    let before = c.loop.invariant limits h in
+    let events = happenings before.0.taken in
+    let leaves = rw c.if-branch.false at (c.in_ok-take_document.ensures.leaves limits events before.0.loader) in
+    leaves_rest {X = Bool} {Y = Unit {0}} false tt _ _ _ before.1 leaves
+
+pub returns-in_err-take_document-clause-takes : goal.returns-in_err-take_document-clause-takes
+returns-in_err-take_document-clause-takes g c = λ limits h.
+    let before = c.loop.invariant limits h in
+    let answer : c.from_residual.result ≡ Err c.in_err-take_document.field-0.0 = search rules in
+    rw answer (fails_in_stream _ limits _ _ _ _ before.0
+    (c.in_err-take_document.ensures.takes limits (happenings before.0.taken) before.0.loader))
+
+pub returns-in_err-take_document-clause-leaves : goal.returns-in_err-take_document-clause-leaves
+returns-in_err-take_document-clause-leaves g c = λ limits h.
+    let before = c.loop.invariant limits h in
+    let answer : c.from_residual.result ≡ Err c.in_err-take_document.field-0.0 = search rules in
+    rw answer (leaves_fault Bool (Unit {0}) _ _ _ _ before.1
+    (c.in_err-take_document.ensures.leaves limits (happenings before.0.taken) before.0.loader))

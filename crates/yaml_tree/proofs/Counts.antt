@@ -1,0 +1,257 @@
+-- A count of expanded nodes, event after event, is the count of the tree.
+use Rattle.std.proofs.Common.{◌≡◌, ℕ, ◌+◌, min, List, [], ◌∷◌, ◌++◌, map, Option, Result, Ok, Err, OnOk, refl, sym, ap, subst, ◌∙◌, append_assoc, arith, rules, String, Global}
+use Rattle.std.specs.List.{flat_map}
+use Rattle.saphyr_scalar.specs.declared.scalar.style.ScalarStyle.{ScalarStyle}
+use Rattle.saphyr_parser.specs.Types.Tag.{Tag}
+use Rattle.saphyr_parser.specs.Events as events
+use Rattle.saphyr_parser.specs.Events.{Happening, SequenceEnd, MappingEnd}
+use Rattle.yaml_tree.specs.declared.node.Node.{Node, Alias, Scalar, out-Node, fold_out-Node, the_lemmas}
+use Rattle.yaml_tree.specs.declared.node.Node.TheOpen.{Node-F}
+use Rattle.yaml_tree.specs.declared.node.Node.TheFolds.{ind-Node, fold-roll-Node, map-Node}
+use Rattle.yaml_tree.specs.declared.expanding.Counter.{Counter}
+use Rattle.yaml_tree.specs.declared.walk.Turn.TheVariants.{Leave}
+use Rattle.yaml_tree.specs.Unloading.{node_events, both_events, unload_step}
+use Rattle.yaml_tree.specs.Walking.{IsCollectionEnd, BeginsNode, Turns}
+use Rattle.yaml_tree.specs.Expanding.{Sizes, Expanded, most, no_sizes, followed_by, expanded, expanded_items, expanded_pairs, expand_step}
+use Rattle.yaml_tree.specs.CounterSeen.{Count, with_nodes, begun, left_to, left, entered_layer, counted, counted_all, size_in, AreOpen, Holds}
+use Rattle.yaml_tree.proofs.LastItems.{none_is_last, same_last}
+
+-- ## The events of a node
+
+count : ℕ → Sizes → List (ℕ × ℕ) → Count
+count nodes sizes levels = record { nodes = nodes; sizes = sizes; levels = levels }
+
+-- a part more of the collection that is open
+abbrev grown : Expanded → Count → Count
+grown e c = record { nodes = c.nodes + e.nodes; sizes = e.sizes; levels = c.levels }
+
+grown-none : (c : Count) → c ≡ grown (record { nodes = 0; sizes = c.sizes }) c
+unfolding count
+grown-none c = let e : c.nodes ≡ c.nodes + 0 = omega arith in ap (λ (n : ℕ). count n c.sizes c.levels) e
+
+grown-twice : (e f : Expanded) (c : Count)
+    → grown f (grown e c) ≡ grown (record { nodes = e.nodes + f.nodes; sizes = f.sizes }) c
+unfolding count
+grown-twice e f c = let same : (c.nodes + e.nodes) + f.nodes ≡ c.nodes + (e.nodes + f.nodes) = omega arith in
+    ap (λ (n : ℕ). count n f.sizes c.levels) same
+
+counted-append : (xs ys : List Happening) (c : Count) → counted_all (xs ++ ys) c ≡ counted_all ys (counted_all xs c)
+counted-append [] ys c = refl
+counted-append (x ∷ xs) ys c = counted-append xs ys (counted x c)
+
+-- these events grow a count by what is expanded
+record Grows (hs : List Happening) (e : Sizes → Expanded) : Type 0 where
+  by : (c : Count) → counted_all hs c ≡ grown (e c.sizes) c
+
+grows_by_none : Grows [] (λ sizes. record { nodes = 0; sizes = sizes })
+grows_by_none = record { by = grown-none }
+
+grows_by_both : (xs ys : List Happening) (e f : Sizes → Expanded) → Grows xs e → Grows ys f
+    → Grows (xs ++ ys) (λ sizes. followed_by (e sizes) f)
+grows_by_both xs ys e f first second = record {
+  by = λ c. counted-append xs ys c ∙ ap (counted_all ys) (first.by c)
+      ∙ second.by (grown (e c.sizes) c) ∙ grown-twice (e c.sizes) (f (e c.sizes).sizes) c;
+}
+
+abbrev IsCounted : Node → Type 0
+IsCounted n = Grows (node_events n) (expanded n)
+
+-- W is a node with a proof beside it
+
+in_sequence : {W : Type 0} (node : W → Node) (holds : (w : W) → IsCounted (node w)) (ws : List W)
+    → Grows (flat_map (λ (events : List Happening). events) (map node_events (map node ws)))
+    (expanded_items (map expanded (map node ws)))
+in_sequence node holds [] = grows_by_none
+in_sequence node holds (w ∷ ws) = grows_by_both _ _ (expanded (node w)) (expanded_items (map expanded (map node ws)))
+    (holds w) (in_sequence node holds ws)
+
+abbrev both : (Node × Node) → List Happening × List Happening
+both p = (node_events p.0, node_events p.1)
+
+abbrev both_expanded : (Node × Node) → (Sizes → Expanded) × (Sizes → Expanded)
+both_expanded p = (expanded p.0, expanded p.1)
+
+in_pair : (key value : Node) (others : List Happening) (rest : Sizes → Expanded) → IsCounted key → IsCounted value
+    → Grows others rest → Grows ((node_events key ++ node_events value) ++ others)
+    (λ sizes. followed_by (expanded key sizes) (λ behind. followed_by (expanded value behind) rest))
+in_pair key value others rest k v r =
+    let values : Sizes → Expanded = λ sizes. followed_by (expanded value sizes) rest in
+    subst (λ (hs : List Happening). Grows hs (λ sizes. followed_by (expanded key sizes) values))
+    (sym (append_assoc (node_events key) (node_events value) others))
+    (grows_by_both _ _ (expanded key) values k (grows_by_both _ _ (expanded value) rest v r))
+
+in_mapping : {W : Type 0} (node : W → Node) (holds : (w : W) → IsCounted (node w)) (ws : List (W × W))
+    → Grows (flat_map both_events (map both (map (λ (p : W × W). (node p.0, node p.1)) ws)))
+    (expanded_pairs (map both_expanded (map (λ (p : W × W). (node p.0, node p.1)) ws)))
+in_mapping node holds [] = grows_by_none
+in_mapping {W} node holds (w ∷ ws) = in_pair (node w.0) (node w.1) _
+    (expanded_pairs (map both_expanded (map (λ (p : W × W). (node p.0, node p.1)) ws)))
+    (holds w.0) (holds w.1) (in_mapping node holds ws)
+
+around : (inner : List Happening) (e : Sizes → Expanded) (end : Happening) (id : ℕ) (c : Count) → Grows inner e
+    → ((d : Count) → counted end d ≡ left d)
+    → counted_all (inner ++ end ∷ []) (begun id c)
+    ≡ with_nodes id (1 + (e c.sizes).nodes) (record { nodes = c.nodes; sizes = (e c.sizes).sizes; levels = c.levels })
+around inner e end id c grows ends = counted-append inner (end ∷ []) (begun id c)
+    ∙ ap (counted_all (end ∷ [])) (grows.by (begun id c)) ∙ ends (grown (e c.sizes) (begun id c))
+
+in_layer : {W : Type 0} (node : W → Node) (holds : (w : W) → IsCounted (node w)) (y : Node-F W)
+    → Grows (unload_step (map-Node Node (List Happening) node_events (map-Node W Node node y)))
+    (expand_step (map-Node Node (Sizes → Expanded) expanded (map-Node W Node node y)))
+in_layer node holds (Node-F.Alias id) = record { by = λ c. refl }
+in_layer node holds (Node-F.Scalar text style id tag) = record { by = λ c. refl }
+in_layer node holds (Node-F.Seq id tag nodes) = record {
+  by = λ c. around _
+      (expanded_items (map expanded (map node nodes.items))) SequenceEnd id c (in_sequence node holds nodes.items)
+      (λ d. refl);
+}
+in_layer {W} node holds (Node-F.Map id tag pairs) = record {
+  by = λ c. around _
+      (expanded_pairs (map both_expanded (map (λ (p : W × W). (node p.0, node p.1)) pairs.items))) MappingEnd id c
+      (in_mapping node holds pairs.items) (λ d. refl);
+}
+
+grows_as : {hs ks : List Happening} {e f : Sizes → Expanded} → ks ≡ hs → f ≡ e → Grows hs e → Grows ks f
+grows_as {hs} {ks} {e} {f} same alike grows =
+    subst (λ (l : List Happening). Grows l f) (sym same) (subst (Grows hs) (sym alike) grows)
+
+counts_node : (n : Node) → IsCounted n
+counts_node = ind-Node IsCounted (λ x y is.
+    grows_as (fold-roll-Node (List Happening) unload_step x) (fold-roll-Node (Sizes → Expanded) expand_step x)
+    (subst (λ (z : Node-F Node). Grows (unload_step (map-Node Node (List Happening) node_events z))
+    (expand_step (map-Node Node (Sizes → Expanded) expanded z))) is (in_layer (λ e. e.0) (λ e. e.1) y)))
+
+-- ## Event after event
+
+head_counted : (h start : Happening) (xs ys : List Happening) (c : Count) → h ∷ xs ≡ start ∷ ys
+    → counted start c ≡ counted h c
+head_counted h start xs ys c e = let same : h ≡ start = cc in ap (λ (k : Happening). counted k c) (sym same)
+
+layer_counted : (layer : Node-F Node) (behind others : List Happening) (start : Happening) (c : Count)
+    → unload_step (map-Node Node (List Happening) node_events layer) ++ behind ≡ start ∷ others
+    → counted start c ≡ entered_layer layer c
+layer_counted (Node-F.Alias id) behind others start c e = head_counted _ start _ others c e
+layer_counted (Node-F.Scalar text style id tag) behind others start c e = head_counted _ start _ others c e
+layer_counted (Node-F.Seq id tag nodes) behind others start c e = head_counted _ start _ others c e
+layer_counted (Node-F.Map id tag pairs) behind others start c e = head_counted _ start _ others c e
+
+node_counted : (node : Node) (behind others : List Happening) (start : Happening) (c : Count)
+    → node_events node ++ behind ≡ start ∷ others → counted start c ≡ entered_layer (out-Node node) c
+node_counted node behind others start c e =
+    layer_counted (out-Node node) behind others start c (rw fold_out-Node at e)
+
+end_counted : (h : Happening) (c : Count) → IsCollectionEnd h → counted h c ≡ left c
+end_counted events.SequenceEnd c end = refl
+end_counted events.MappingEnd c end = refl
+end_counted events.Nothing c end = absurd end
+end_counted events.StreamStart c end = absurd end
+end_counted events.StreamEnd c end = absurd end
+end_counted (events.DocumentStart explicit) c end = absurd end
+end_counted events.DocumentEnd c end = absurd end
+end_counted (events.Alias id) c end = absurd end
+end_counted (events.Scalar text style id tag) c end = absurd end
+end_counted (events.SequenceStart id tag) c end = absurd end
+end_counted (events.MappingStart id tag) c end = absurd end
+
+-- what a counter holds becomes the count of the tree behind the events that are left
+pub record IsCounting (root : Node) (to_come : List Happening) (counter : Counter) : Type 0 where
+  pub so_far : Count
+  pub holds : Holds counter so_far
+  pub whole : (counted_all to_come so_far).nodes ≡ (expanded root no_sizes).nodes
+
+pub counts_none : (root : Node) (to_come : List Happening) (counter : Counter)
+    → Holds counter (record { nodes = 0; sizes = no_sizes; levels = [] }) → to_come ≡ node_events root
+    → IsCounting root to_come counter
+counts_none root to_come counter holds e =
+    let none : Count = record { nodes = 0; sizes = no_sizes; levels = [] } in
+    let all = ap (λ (c : Count). c.nodes)
+    (ap (λ (hs : List Happening). counted_all hs none) e ∙ (counts_node root).by none) in
+    record { so_far = none; holds = holds; whole = omega (arith, all) }
+
+counts_more : (root : Node) (to_come others : List Happening) (old new : Counter) (h : Happening)
+    (k : IsCounting root to_come old) (c : Count) → to_come ≡ h ∷ others → counted h k.so_far ≡ c
+    → Holds new c → IsCounting root others new
+counts_more root to_come others old new h k c e same holds = record {
+  so_far = c;
+  holds = holds;
+  whole = ap (λ (d : Count). (counted_all others d).nodes) (sym same)
+      ∙ ap (λ (hs : List Happening). (counted_all hs k.so_far).nodes) (sym e) ∙ k.whole;
+}
+
+pub counts_start : (root node : Node) (depth : ℕ) (to_come others : List Happening) (old new : Counter)
+    → IsCounting root to_come old → BeginsNode node depth to_come others
+    → ((c : Count) → Holds old c → Holds new (entered_layer (out-Node node) c)) → IsCounting root others new
+counts_start root node depth to_come others old new k b keeps =
+    counts_more root to_come others old new b.start k _ b.next
+    (node_counted node b.behind others b.start k.so_far (sym b.own ∙ b.next)) (keeps k.so_far k.holds)
+
+pub counts_end : (root : Node) (to_come others : List Happening) (old new : Counter) → IsCounting root to_come old
+    → Turns Leave to_come others → ((c : Count) → Holds old c → Holds new (left c)) → IsCounting root others new
+counts_end root to_come others old new k (h, end, e) keeps =
+    counts_more root to_come others old new h k _ e (end_counted h k.so_far end) (keeps k.so_far k.holds)
+
+pub counts_all : (root : Node) (to_come : List Happening) (counter : Counter) → IsCounting root to_come counter
+    → to_come ≡ [] → counter.nodes ≡ min most (expanded root no_sizes).nodes
+counts_all root to_come counter k e = k.holds.nodes ∙ ap (min most)
+    (ap (λ (hs : List Happening). (counted_all hs k.so_far).nodes) (sym e) ∙ k.whole)
+
+-- ## What a counter holds
+
+left_to_holds : (levels : List (ℕ × ℕ)) (old mid new : Counter) (id nodes : ℕ) (c : Count)
+    → old.levels.items ≡ mid.levels.items ++ (id, mid.nodes) ∷ [] → AreOpen old.levels.items levels
+    → ((k : ℕ) → size_in mid.sizes k ≡ min most (c.sizes k)) → nodes ≡ min most c.nodes
+    → ((d : Count) (n : ℕ) → nodes ≡ min most n → Holds mid d → Holds new (with_nodes id n d))
+    → Holds new (left_to levels c)
+left_to_holds [] old mid new id nodes c e are sizes same adds =
+    absurd (none_is_last mid.levels.items (id, mid.nodes) (sym e ∙ are))
+left_to_holds (outer ∷ levels) old mid new id nodes c e (front, kept, others) sizes same adds =
+    let ends = same_last mid.levels.items front (id, mid.nodes) (outer.0, min most outer.1) (sym e ∙ kept) in
+    let before : Count = record { nodes = outer.1; sizes = c.sizes; levels = levels } in
+    subst (λ (k : ℕ). Holds new (with_nodes k c.nodes before)) (ap (λ (p : ℕ × ℕ). p.0) ends.1)
+    (adds before c.nodes same (record {
+      nodes = ap (λ (p : ℕ × ℕ). p.1) ends.1;
+      sizes = sizes;
+      levels = subst (λ (l : List (ℕ × ℕ)). AreOpen l levels) (sym ends.0) others;
+    }))
+
+pub leaves : {T E : Type 0} (result : Result T E) (old mid new : Counter) (id nodes : ℕ)
+    → old.levels.items ≡ mid.levels.items ++ (id, mid.nodes) ∷ [] → nodes ≡ old.nodes → mid.sizes ≡ old.sizes
+    → OnOk result ((d : Count) (n : ℕ) → nodes ≡ min most n → Holds mid d → Holds new (with_nodes id n d))
+    → OnOk result ((c : Count) → Holds old c → Holds new (left c))
+leaves (Ok t) old mid new id nodes e same sizes adds = λ c h. left_to_holds c.levels old mid new id nodes c e h.levels
+    (λ k. ap (λ m. size_in m k) sizes ∙ h.sizes k) (same ∙ h.nodes) adds
+leaves (Err f) old mid new id nodes e same sizes adds = tt
+
+-- an alias or a scalar begins, which is all of it
+pub enters : {T E : Type 0} (result : Result T E) (old new : Counter) (node : Node) (id nodes : ℕ)
+    → ((c : Count) → Holds old c
+    → (n : ℕ) × (nodes ≡ min most n) × (with_nodes id n c ≡ entered_layer (out-Node node) c))
+    → OnOk result ((c : Count) (n : ℕ) → nodes ≡ min most n → Holds old c → Holds new (with_nodes id n c))
+    → OnOk result ((c : Count) → Holds old c → Holds new (entered_layer (out-Node node) c))
+enters (Ok t) old new node id nodes layer adds = λ c h. let own = layer c h in
+    subst (Holds new) own.2 (adds c own.0 own.1 h)
+enters (Err f) old new node id nodes layer adds = tt
+
+enters_alias : (id : ℕ) (c : Count) → with_nodes 0 (c.sizes id) c ≡ entered_layer (out-Node (Alias id)) c
+enters_alias id c = search (rules, the_lemmas)
+
+pub alias_layer : (old : Counter) (node : Node) (id nodes : ℕ) → node ≡ Alias id → nodes ≡ size_in old.sizes id
+    → (c : Count) → Holds old c → (n : ℕ) × (nodes ≡ min most n) × (with_nodes 0 n c ≡ entered_layer (out-Node node) c)
+alias_layer old node id nodes is size c h = (
+  c.sizes id,
+  size ∙ h.sizes id,
+  enters_alias id c ∙ ap (λ (n : Node). entered_layer (out-Node n) c) (sym is),
+)
+
+enters_scalar : (text : String Global) (style : ScalarStyle) (id : ℕ) (tag : Option Tag) (c : Count)
+    → with_nodes id 1 c ≡ entered_layer (out-Node (Scalar text style id tag)) c
+enters_scalar text style id tag c = search (rules, the_lemmas)
+
+pub scalar_layer : (old : Counter) (node : Node) (text : String Global) (style : ScalarStyle) (id : ℕ)
+    (tag : Option Tag) → node ≡ Scalar text style id tag → (c : Count) → Holds old c
+    → (n : ℕ) × (1 ≡ min most n) × (with_nodes id n c ≡ entered_layer (out-Node node) c)
+scalar_layer old node text style id tag is c h = (
+  1,
+  refl,
+  enters_scalar text style id tag c ∙ ap (λ (n : Node). entered_layer (out-Node n) c) (sym is),
+)

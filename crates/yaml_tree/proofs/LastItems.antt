@@ -1,0 +1,16 @@
+-- The last item of a list.
+use Rattle.std.proofs.Common.{◌≡◌, List, [], ◌∷◌, ◌++◌, refl}
+
+pub none_is_last : {X : Type 0} (xs : List X) (x : X) → xs ++ x ∷ [] ≡ [] → ⊥
+none_is_last [] x e = cc
+none_is_last (y ∷ xs) x e = cc
+
+pub same_last : {X : Type 0} (xs ys : List X) (x y : X) → xs ++ x ∷ [] ≡ ys ++ y ∷ [] → (xs ≡ ys) × (x ≡ y)
+same_last [] [] x y e = (refl, cc)
+same_last [] (z ∷ ys) x y e = let none : ys ++ y ∷ [] ≡ [] = cc in absurd (none_is_last ys y none)
+same_last (z ∷ xs) [] x y e = let none : xs ++ x ∷ [] ≡ [] = cc in absurd (none_is_last xs x none)
+same_last (z ∷ xs) (w ∷ ys) x y e =
+    let inner : xs ++ x ∷ [] ≡ ys ++ y ∷ [] = cc in
+    let same : z ≡ w = cc in
+    let front = (same_last xs ys x y inner).0 in
+    (cc, (same_last xs ys x y inner).1)
