@@ -1,8 +1,9 @@
 #!/usr/bin/env bash
-# What `dump_events` answers to its arguments, and where it can't read or write: the program as `rt ci`, or
-# `rt run` in its folder, left it in out/.
+# What `dump_events` and `check_yaml` answer to their arguments, and where they can't read or write: the programs as
+# `rt ci`, or `rt run` in their folders, left them in out/.
 set -euo pipefail
-program=$(cd "$(dirname "$0")/.." && pwd)/crates/dump_events/out/dump_events
+crates=$(cd "$(dirname "$0")/.." && pwd)/crates
+program=$crates/dump_events/out/dump_events
 folder=$(mktemp -d)
 trap 'rm -rf "$folder"' EXIT
 cd "$folder"
@@ -40,6 +41,69 @@ status=0
 "$program" text >/dev/full 2>errors || status=$?
 if [ "$status" != 1 ] || [ "$(cat errors)" != "dump_events: can't write" ]; then
     echo "dump_events on a full device: status $status: $(cat errors)"
+    failed=1
+fi
+
+program=$crates/check_yaml/out/check_yaml
+printf -- '---\n' >empty
+
+# answers STATUS PRINTED ARGUMENT..: the status of `check_yaml`, what stands on standard output, and nothing on standard
+# error but what `complaint` has.
+complaint=''
+answers() {
+    local wanted=$1 printed=$2 status=0
+    shift 2
+    printf '%b' "$printed" >wanted
+    printf '%b' "$complaint" >complaint
+    "$program" "$@" >lines 2>errors <text || status=$?
+    if [ "$status" != "$wanted" ] || ! cmp -s wanted lines || ! cmp -s complaint errors; then
+        echo "check_yaml ${*@Q}: status $status and not $wanted: $(cat lines errors)"
+        failed=1
+    fi
+}
+
+warned='empty:1:1: warning: this document has no content\n---\n^\n'
+refused="refused:1:3: error: ':' may not precede any of \`[{\` in flow mapping\n[a:[]]\n  ^\n"
+events='+STR\n+DOC\n+MAP\n=VAL :a\n=VAL :b\n-MAP\n-DOC\n-STR\n'
+answers 0 ''
+answers 0 '' -
+answers 0 '' text - text
+answers 1 "$warned" empty
+answers 1 "$refused" text refused
+answers 1 "$warned$refused" empty refused
+answers 1 '' --quiet empty refused
+answers 0 "$events" --events text
+answers 0 "$events" --events
+answers 1 '-:1:1: warning: the text has more than 0 nodes\na: b\n^\n' --max-nodes 0
+answers 1 '-:1:1: warning: more than 0 collections are open here\na: b\n^\n' --max-depth 0 -
+answers 0 "$(sed -n 's/^const VERSION: &str = "\(.*\)";$/\1/p' "$crates/check_yaml/src/main.rt")\n" --version
+
+usage=$("$program" --help)
+case $usage in
+'usage: check_yaml [--events] [--quiet] [--max-depth N] [--max-nodes N] [FILE..]'*) ;;
+*)
+    echo "check_yaml --help: $usage"
+    failed=1
+    ;;
+esac
+answers 0 "$usage\n" --help
+complaint="check_yaml: there is no option --wrong\n$usage\n"
+answers 2 '' --wrong empty
+complaint="check_yaml: --max-depth asks for a number\n$usage\n"
+answers 2 '' --max-depth
+answers 2 '' --max-depth -1
+complaint="check_yaml: --max-nodes asks for a number\n$usage\n"
+answers 2 '' --max-nodes empty
+complaint="check_yaml: missing: can't read\n"
+answers 2 '' missing
+answers 2 "$warned$refused" empty missing refused
+complaint="check_yaml: .: can't read\n"
+answers 2 '' . --quiet empty
+
+status=0
+"$program" empty >/dev/full 2>errors || status=$?
+if [ "$status" != 2 ] || [ "$(cat errors)" != "check_yaml: empty: can't write" ]; then
+    echo "check_yaml on a full device: status $status: $(cat errors)"
     failed=1
 fi
 [ "$failed" = 1 ] || echo "arguments: as they are to be answered"

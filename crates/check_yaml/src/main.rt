@@ -6,12 +6,16 @@
 //! warning, and 2 for a wrong call, or where a file can't be read or something can't be written.
 #![tactic(auto)]
 
+ghost use Rattle.std.specs.Prelude.{◌≡◌};
+ghost use Rattle.std.specs.Process.{exit_status};
+
 use std::alloc::AllocError;
 use std::env;
 use std::fs::File;
-use std::io::Read;
 use std::process::ExitCode;
-use yaml_check::{Call, CheckFault, HELP, Options, Verdict, check_source, parse_arguments};
+use yaml_check::{
+    Call, CheckFault, HELP, Options, Verdict, WrongCall, check_source, parse_arguments, status_of,
+};
 
 const VERSION: &str = "check_yaml 0.3.3+rattle.2";
 
@@ -28,10 +32,7 @@ fn main(rt: HostRuntime) -> ExitCode {
         Ok(Call::Help) => say(&rt, HELP),
         Ok(Call::Version) => say(&rt, VERSION),
         Ok(Call::Check(options, files)) => check_files(&rt, options, &files),
-        Err(wrong) => {
-            let _ = eprintln!(rt; "check_yaml: {wrong}\n{HELP}");
-            ExitCode::from(2)
-        }
+        Err(wrong) => misused(&rt, &wrong),
     }
 }
 
@@ -43,39 +44,44 @@ fn say(rt: &HostRuntime, text: &str) -> ExitCode {
     }
 }
 
-fn refuse(rt: &HostRuntime, text: &str) -> ExitCode {
+// Says that the call is wrong, and how to call.
+fn misused(rt: &HostRuntime, wrong: &WrongCall) -> ExitCode
+    ensures { exit_status result ≡ 2 }
+{
+    let _ = eprintln!(rt; "check_yaml: {wrong}\n{HELP}");
+    ExitCode::from(2)
+}
+
+fn refuse(rt: &HostRuntime, text: &str) -> ExitCode
+    ensures { exit_status result ≡ 2 }
+{
     let _ = eprintln!(rt; "check_yaml: {text}");
     ExitCode::from(2)
 }
 
-// Checks each file. The worst of what they answer is the status.
+// Checks each file, and says why where one is not checked.
 fn check_files(rt: &HostRuntime, options: Options, files: &[String]) -> ExitCode {
-    let mut status = 0;
+    let mut answers = Vec::new(rt.alloc());
     for name in files {
-        status = check_file(rt, options, name.as_str()).max(status);
+        let answer = check_file(rt, options, name.as_str());
+        if let Err(fault) = answer {
+            let _ = eprintln!(rt; "check_yaml: {name}: {fault}");
+        }
+        if answers.push(answer).is_err() {
+            return refuse(rt, "out of memory");
+        }
     }
-    ExitCode::from(status)
+    ExitCode::from(status_of(&answers))
 }
 
-fn check_file(rt: &HostRuntime, options: Options, name: &str) -> u8 {
+fn check_file(rt: &HostRuntime, options: Options, name: &str) -> Result<Verdict, CheckFault> {
+    let alloc = rt.alloc();
+    let mut out = rt.stdout();
     if name == "-" {
-        return check_from(rt, options, name, &mut rt.stdin());
+        return check_source(alloc, name, &mut rt.stdin(), options, &mut out);
     }
     match File::open(rt, name) {
-        Ok(mut file) => check_from(rt, options, name, &mut file),
-        Err(_) => complain(rt, name, CheckFault::CantRead),
+        Ok(mut file) => check_source(alloc, name, &mut file, options, &mut out),
+        Err(_) => Err(CheckFault::CantRead),
     }
-}
-
-fn check_from<R: Read>(rt: &HostRuntime, options: Options, name: &str, source: &mut R) -> u8 {
-    match check_source(rt.alloc(), name, source, options, &mut rt.stdout()) {
-        Ok(Verdict::Right) => 0,
-        Ok(Verdict::Wrong) => 1,
-        Err(fault) => complain(rt, name, fault),
-    }
-}
-
-fn complain(rt: &HostRuntime, name: &str, fault: CheckFault) -> u8 {
-    let _ = eprintln!(rt; "check_yaml: {name}: {fault}");
-    2
 }

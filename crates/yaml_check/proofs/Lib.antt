@@ -1,3 +1,10 @@
 pub mod Judging
+pub mod KeyMaps
+pub mod KeysFrom
+pub mod Meaning
+pub mod Rules
+pub mod Stacks
+pub mod StatusLemmas
+pub mod Told
 pub mod ViewParts
 pub mod Warnings

@@ -1,16 +1,18 @@
 -- What the check of a source reads and writes, and what its verdict means.
-use Rattle.std.specs.Prelude.{◌≡◌, ℕ, ◌⊎◌, if◌then◌else◌, List, [], Option, None, Result, Ok, Err}
+use Rattle.std.specs.Prelude.{◌≡◌, ℕ, ◌⊎◌, if◌then◌else◌, List, [], ◌++◌, Option, None, Result, Ok, Err}
 use Rattle.std.specs.Str.{chars, IsUtf8}
 use Rattle.std.specs.Io.KnownBytes.{Appends}
 use Rattle.saphyr_parser.specs.Answer.{Answer}
 use Rattle.saphyr_parser.specs.Printed.{printed_lines}
-use Rattle.saphyr_parser.specs.Runs.{answer_of_text, ReadsAll}
+use Rattle.saphyr_parser.specs.Runs.{answer_of_text, ReadsAll, TakesBeginning}
 use Rattle.yaml_check.specs.declared.arguments.Options.{Options}
 use Rattle.yaml_check.specs.declared.finding.Findings.{Findings}
 use Rattle.yaml_check.specs.declared.run.CheckFault.{CheckFault}
+use Rattle.yaml_check.specs.declared.run.CheckFault.TheVariants as fault
 use Rattle.yaml_check.specs.declared.run.Verdict.{Verdict}
 use Rattle.yaml_check.specs.declared.run.Verdict.TheVariants as verdict
-use Rattle.yaml_check.specs.Checked.{NamesFault}
+use Rattle.yaml_check.specs.Checked.{NamesFault, NamesWarnings}
+use Rattle.yaml_check.specs.Warned.{nothing_seen, warnings_on}
 use Rattle.yaml_check.specs.Reports.{IsReport}
 
 -- nothing was found
@@ -25,43 +27,73 @@ events_asked options a = if options.events then printed_lines a.events else []
 abbrev pub told_unless_quiet : Options → List ℕ → List ℕ
 told_unless_quiet options told = if options.quiet then [] else told
 
--- A text is right: no fault ends its events, and nothing is told of it.
+-- A text is right: no fault ends its events, no warning is on one of them, and nothing is told of it.
 pub record IsRight (options : Options) (bytes : List ℕ) (old new : Option (List ℕ)) : Type 0 where
   pub fault : (answer_of_text bytes).fault ≡ None
+  pub warnings : warnings_on (answer_of_text bytes).events (nothing_seen options.limits) ≡ []
   pub written : Appends old new (events_asked options (answer_of_text bytes))
 
--- A text has a fault or a warning. What is told of it names the fault of the parser, or none where it has none.
+-- A text has a fault or a warning. What is told of it names the fault of the parser, or none where it has none, and
+-- the warnings on its events.
 pub record IsWrong (name : List ℕ) (options : Options) (bytes : List ℕ) (old new : Option (List ℕ)) : Type 0 where
   pub found : Findings
   pub some : ¬ IsClean found
   pub names : NamesFault (answer_of_text bytes) found
+  pub warns : NamesWarnings options.limits (answer_of_text bytes) found
   pub told : List ℕ
   pub report : IsReport name (chars bytes) found told
   pub middle : Option (List ℕ)
   pub events : Appends old middle (events_asked options (answer_of_text bytes))
   pub written : Appends middle new (told_unless_quiet options told)
 
+-- What was written before memory ran out or the writer failed is a beginning of the events' lines and, where nothing
+-- else is told, of such a report.
+pub record IsCutShort (name : List ℕ) (options : Options) (bytes : List ℕ) (old new : Option (List ℕ)) : Type 0 where
+  pub told : List ℕ
+  pub report : (told ≡ []) ⊎ ((found : Findings) × NamesFault (answer_of_text bytes) found
+      × NamesWarnings options.limits (answer_of_text bytes) found × IsReport name (chars bytes) found told)
+  pub taken : TakesBeginning old new (events_asked options (answer_of_text bytes) ++ told_unless_quiet options told)
+
 -- What the verdict on a text says of it.
 abbrev pub Judges : Result Verdict CheckFault → List ℕ → Options → List ℕ → Option (List ℕ) → Option (List ℕ) → Type 0
 Judges (Ok verdict.Right) name options bytes old new = IsRight options bytes old new
 Judges (Ok verdict.Wrong) name options bytes old new = IsWrong name options bytes old new
-Judges (Err f) name options bytes old new = Unit {0}
+Judges (Err fault.CantRead) name options bytes old new = ⊥
+Judges (Err fault.CantWrite) name options bytes old new = IsCutShort name options bytes old new
+Judges (Err fault.OutOfMemory) name options bytes old new =
+    TakesBeginning old new (events_asked options (answer_of_text bytes))
 
+-- bytes that are no text are never right
 abbrev pub IsNeverRight : Result Verdict CheckFault → Type 0
 IsNeverRight (Ok verdict.Right) = ⊥
 IsNeverRight (Ok verdict.Wrong) = Unit {0}
-IsNeverRight (Err f) = Unit {0}
+IsNeverRight (Err fault.CantRead) = ⊥
+IsNeverRight (Err _) = Unit {0}
 
--- What the verdict says of bytes: those that are no text are never right.
+-- What the verdict says of bytes.
 abbrev pub JudgesBytes : Result Verdict CheckFault → List ℕ → Options → List ℕ → Option (List ℕ) → Option (List ℕ)
     → Type 0
-JudgesBytes (Err f) name options bytes old new = Unit {0}
-JudgesBytes (Ok verdict.Right) name options bytes old new = IsUtf8 bytes × IsRight options bytes old new
-JudgesBytes (Ok verdict.Wrong) name options bytes old new = (¬ IsUtf8 bytes) ⊎ IsWrong name options bytes old new
+JudgesBytes r name options bytes old new =
+    (IsUtf8 bytes × Judges r name options bytes old new) ⊎ ((¬ IsUtf8 bytes) × IsNeverRight r)
 
 -- What a check of a source answers: the bytes that it has left, and those that the writer holds, before and behind.
+-- Where the source can't be read, nothing is written.
 abbrev pub Checks : Result Verdict CheckFault → List ℕ → Options → Option (List ℕ) → Option (List ℕ)
     → Option (List ℕ) → Option (List ℕ) → Type 0
-Checks (Err f) name options unread left old new = Unit {0}
-Checks (Ok v) name options unread left old new =
-    (bytes : List ℕ) × ReadsAll unread left bytes × JudgesBytes (Ok v) name options bytes old new
+Checks (Err fault.CantRead) name options unread left old new = new ≡ old
+Checks r name options unread left old new =
+    (bytes : List ℕ) × ReadsAll unread left bytes × JudgesBytes r name options bytes old new
+
+-- ## Writing
+
+-- Lines of events were written, or a beginning of them.
+abbrev pub WritesLines : Result (Unit {0}) CheckFault → List ℕ → Option (List ℕ) → Option (List ℕ) → Type 0
+WritesLines (Ok u) lines old new = Appends old new lines
+WritesLines (Err fault.CantRead) lines old new = ⊥
+WritesLines (Err _) lines old new = TakesBeginning old new lines
+
+-- A text was written, or the writer failed and took a beginning of it.
+abbrev pub WritesTold : Result (Unit {0}) CheckFault → List ℕ → Option (List ℕ) → Option (List ℕ) → Type 0
+WritesTold (Ok u) told old new = Appends old new told
+WritesTold (Err fault.CantWrite) told old new = TakesBeginning old new told
+WritesTold (Err _) told old new = ⊥

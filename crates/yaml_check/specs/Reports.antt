@@ -5,29 +5,29 @@ use Rattle.saphyr_scalar.specs.declared.scalar.fault.ScanError.{ScanError}
 use Rattle.yaml_check.specs.declared.finding.Finding.{Finding}
 use Rattle.yaml_check.specs.declared.finding.Findings.{Findings}
 use Rattle.yaml_check.specs.declared.view.View.{View}
-use Rattle.yaml_check.specs.Texts.{error_line, place_text, warning_line}
+use Rattle.yaml_check.specs.Texts.{error_line, name_and_place, warning_line}
 use Rattle.yaml_check.specs.Shown.{place_index}
 use Rattle.yaml_check.specs.Views.{IsView, excerpt}
 
 -- One thing is told behind what was: its place, a line of text, and the line of the place with a caret.
-pub record Tells (name text : List ℕ) (place : Marker) (line old new : List ℕ) : Type 0 where
+pub record AddsReport (name text : List ℕ) (place : Marker) (line old new : List ℕ) : Type 0 where
   pub view : View
   pub is_view : IsView text (place_index text place.index) place.col view
-  pub told : new ≡ old ++ (place_text name place ++ (line ++ excerpt view))
+  pub told : new ≡ old ++ (name_and_place name place ++ (line ++ excerpt view))
 
 -- the warnings are told one after the other
-abbrev pub TellsWarnings : List ℕ → List ℕ → List Finding → List ℕ → List ℕ → Type 0
-TellsWarnings name text [] old new = new ≡ old
-TellsWarnings name text (w ∷ ws) old new =
-    (middle : List ℕ) × Tells name text w.place (warning_line w.warning) old middle
-    × TellsWarnings name text ws middle new
+abbrev pub AddsWarnings : List ℕ → List ℕ → List Finding → List ℕ → List ℕ → Type 0
+AddsWarnings name text [] old new = new ≡ old
+AddsWarnings name text (w ∷ ws) old new =
+    (middle : List ℕ) × AddsReport name text w.place (warning_line w.warning) old middle
+    × AddsWarnings name text ws middle new
 
-abbrev pub TellsFault : List ℕ → List ℕ → Option ScanError → List ℕ → List ℕ → Type 0
-TellsFault name text None old new = new ≡ old
-TellsFault name text (Some e) old new = Tells name text e.mark (error_line (string_bytes e.info)) old new
+abbrev pub AddsFault : List ℕ → List ℕ → Option ScanError → List ℕ → List ℕ → Type 0
+AddsFault name text None old new = new ≡ old
+AddsFault name text (Some e) old new = AddsReport name text e.mark (error_line (string_bytes e.info)) old new
 
 -- the warnings in their order, and the fault behind them
 abbrev pub IsReport : List ℕ → List ℕ → Findings → List ℕ → Type 0
 IsReport name text found bytes =
-    (middle : List ℕ) × TellsWarnings name text found.warnings.items [] middle
-    × TellsFault name text found.fault middle bytes
+    (middle : List ℕ) × AddsWarnings name text found.warnings.items [] middle
+    × AddsFault name text found.fault middle bytes

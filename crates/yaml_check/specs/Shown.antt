@@ -15,19 +15,19 @@ is_hidden c = is_control c || is_in_range 0x200b 0x200f c || is_in_range 0x2028 
 unfoldable pub columns_of : ℕ → ℕ
 columns_of c = if is_hidden c then length (escape_default c) else unwrap_or (char_width false c) 0
 
-abbrev pub columns : List ℕ → ℕ
-columns cs = sum_by columns_of cs
+abbrev pub shown_columns : List ℕ → ℕ
+shown_columns cs = sum_by columns_of cs
 
-abbrev pub is_break : ℕ → Bool
-is_break c = (c == 10) || (c == 13)
+abbrev pub ends_line : ℕ → Bool
+ends_line c = (c == 10) || (c == 13)
 
-abbrev pub HasNoBreak : List ℕ → Type 0
-HasNoBreak cs = All (λ c. is_break c ≡ false) cs
+abbrev pub StaysOnLine : List ℕ → Type 0
+StaysOnLine cs = All (λ c. ends_line c ≡ false) cs
 
 -- whether a line goes on
-abbrev pub goes_on : List ℕ → Bool
-goes_on [] = false
-goes_on (c ∷ cs) = not (is_break c)
+abbrev pub line_goes_on : List ℕ → Bool
+line_goes_on [] = false
+line_goes_on (c ∷ cs) = not (ends_line c)
 
 -- the escape of a character, in UTF-8
 unfoldable pub escaped : ℕ → List ℕ

@@ -1,13 +1,14 @@
 -- The texts of what is found, and of its place.
-use Rattle.std.specs.Prelude.{ℕ, ◌+◌, List, ◌++◌, codes}
+use Rattle.std.specs.Prelude.{ℕ, List, ◌++◌, codes}
 use Rattle.std.specs.Fmt.{decimal}
 use Rattle.saphyr_parser.specs.Words.Marker.{Marker}
+use Rattle.saphyr_scalar.specs.Faults.{line_and_column}
 use Rattle.yaml_check.specs.declared.finding.Warning.{Warning}
 use Rattle.yaml_check.specs.declared.finding.Warning.TheVariants as warning
 
 abbrev pub warning_text : Warning → List ℕ
 warning_text (warning.SameKey first) =
-    codes "this key stands in its mapping already, at " ++ (decimal first.line ++ (codes ":" ++ decimal (first.col + 1)))
+    codes "this key stands in its mapping already, at " ++ line_and_column first
 warning_text (warning.WideAlias most) = codes "this alias stands for more than " ++ (decimal most ++ codes " nodes")
 warning_text warning.NoContent = codes "this document has no content"
 warning_text (warning.TooDeep most) = codes "more than " ++ (decimal most ++ codes " collections are open here")
@@ -19,7 +20,6 @@ warning_line w = codes "warning: " ++ (warning_text w ++ codes "\n")
 abbrev pub error_line : List ℕ → List ℕ
 error_line text = codes "error: " ++ (text ++ codes "\n")
 
--- the name of a text and a place in it, whose column is counted from 1 here
-abbrev pub place_text : List ℕ → Marker → List ℕ
-place_text name place =
-    name ++ (codes ":" ++ (decimal place.line ++ (codes ":" ++ (decimal (place.col + 1) ++ codes ": "))))
+-- the name of a text and a place in it
+abbrev pub name_and_place : List ℕ → Marker → List ℕ
+name_and_place name place = name ++ (codes ":" ++ (line_and_column place ++ codes ": "))

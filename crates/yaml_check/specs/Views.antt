@@ -1,7 +1,7 @@
 -- What is shown of a line round a place.
 use Rattle.std.specs.Prelude.{◌≡◌, ℕ, ◌+◌, ◌-◌, ◌≤◌, min, nat_lt, List, ◌++◌, length, drop, slice_range, replicate, codes}
 use Rattle.yaml_check.specs.declared.view.View.{View}
-use Rattle.yaml_check.specs.Shown.{columns, cut, goes_on, visible, HasNoBreak}
+use Rattle.yaml_check.specs.Shown.{shown_columns, cut, line_goes_on, visible, StaysOnLine}
 
 -- the characters of a line that stand before a place in this column
 abbrev pub front_of : List ℕ → ℕ → ℕ → List ℕ
@@ -15,10 +15,10 @@ pub record IsView (text : List ℕ) (at col : ℕ) (v : View) : Type 0 where
   pub cut_before : v.cut_before ≡ nat_lt 0 (length left)
   pub right : List ℕ
   pub back : drop at text ≡ v.back.now ++ right
-  pub line : HasNoBreak v.back.now
-  pub cut_behind : v.cut_behind ≡ goes_on right
-  pub caret : v.caret ≡ length (cut v.cut_before) + columns v.front.now
-  pub fits : v.caret + columns v.back.now + length (cut v.cut_behind) ≤ 200
+  pub line : StaysOnLine v.back.now
+  pub cut_behind : v.cut_behind ≡ line_goes_on right
+  pub caret : v.caret ≡ length (cut v.cut_before) + shown_columns v.front.now
+  pub fits : v.caret + shown_columns v.back.now + length (cut v.cut_behind) ≤ 200
 
 -- how it is shown, in UTF-8
 abbrev pub excerpt : View → List ℕ

@@ -51,12 +51,7 @@ impl fmt::Display for Warning {
     fn fmt<W: fmt::Write>(&self, f: &mut fmt::Formatter<W>) -> fmt::Result {
         match self {
             Warning::SameKey(first) => {
-                let line = first.line;
-                let column = first.col as u128 + 1;
-                write!(
-                    f,
-                    "this key stands in its mapping already, at {line}:{column}"
-                )
+                write!(f, "this key stands in its mapping already, at {first}")
             }
             Warning::WideAlias(most) => write!(f, "this alias stands for more than {most} nodes"),
             Warning::NoContent => write!(f, "this document has no content"),

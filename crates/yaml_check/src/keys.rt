@@ -1,59 +1,64 @@
-//! What is open in a document, and the keys of mappings.
-ghost use Rattle.std.specs.Prelude.{◌≡◌, IfOk};
-ghost use Rattle.std.specs.BTreeMap.{get};
+//! Keys that stand twice in a mapping.
+ghost use Rattle.std.specs.Prelude.{◌≡◌, None, IfOk, OnOk, option_map};
+ghost use Rattle.saphyr_parser.specs.Views.Events.{happening, resolved_tag};
+ghost use Rattle.yaml_check.specs.Keys as spec;
 
-use saphyr_parser::{Marker, Tag};
+use crate::finding::{Finding, Warning};
+use saphyr_parser::{Event, Marker, Tag};
 use std::alloc::{AllocError, Global};
 use std::collections::BTreeMap;
+use std::mem::replace;
 
-/// The text of a key, and its tag as it is displayed, empty where it has none.
+/// The text of a key, and its tag's name, empty where it has none.
 type Key = (String, String);
 
 /// What the next node is.
 #[derive(Clone, Copy)]
 pub(crate) enum Next {
-    Root,
-    Item,
+    /// A root, an entry of a sequence, or none.
+    Entry,
     Key,
     Value,
 }
 
-/// A document or a collection that is open.
+/// A mapping with the keys that it has so far, or what else nodes stand in.
 #[derive(Drop)]
-pub(crate) struct Open {
-    pub(crate) next: Next,
-    /// The id of a collection's anchor, 0 where it has none.
-    pub(crate) anchor: usize,
-    /// How many nodes were passed, and those that aliases stand for.
-    pub(crate) nodes: usize,
+pub(crate) struct Level {
+    next: Next,
+    /// Where each key stands first.
     keys: BTreeMap<Key, Marker>,
 }
 
-impl Open {
-    /// Nothing in it was passed yet.
-    pub(crate) fn new(alloc: Global, next: Next, anchor: usize) -> Open {
-        Open {
+impl Level {
+    ghost use Rattle.yaml_check.specs.KeysSeen as seen;
+
+    /// Nothing stands in it yet.
+    fn new(alloc: Global, next: Next) -> Level
+        ensures { seen.level_of result ≡ spec.new_level next }
+    {
+        Level {
             next,
-            anchor,
-            nodes: 0,
             keys: BTreeMap::new(alloc),
         }
     }
 
-    /// Passes a node that stands for so many.
-    pub(crate) fn pass(&mut self, nodes: usize) {
-        self.nodes = self.nodes.saturating_add(nodes);
+    /// A node ends.
+    fn pass(&mut self)
+        ensures { seen.level_of self.new ≡ spec.behind_node (seen.level_of self.old) }
+    {
         self.next = match self.next {
             Next::Key => Next::Value,
             Next::Value => Next::Key,
-            other => other,
+            Next::Entry => Next::Entry,
         };
     }
 
-    /// Keeps a key with its place, unless it stood before: then where it first did.
-    pub(crate) fn add_key(&mut self, key: Key, place: Marker) -> Result<Option<Marker>, AllocError>
-        ensures { IfOk result (λ first.
-            first ≡ get ⟦<(String, String) as Ord>⟧.cmp self.old.keys key) }
+    /// Where an equal key stood before, if one did. Else the key is kept with its place.
+    fn add_key(&mut self, key: Key, place: Marker) -> Result<Option<Marker>, AllocError>
+        ensures first { IfOk result (λ first.
+            first ≡ spec.first_place (spec.key_bytes key) (seen.level_of self.old)) }
+        ensures kept { OnOk result (seen.level_of self.new
+            ≡ spec.with_first_place (spec.key_bytes key) place (seen.level_of self.old)) }
     {
         let before = self.keys.get(&key).copied();
         if before.is_none() {
@@ -63,11 +68,118 @@ impl Open {
     }
 }
 
-/// What a scalar is known by among the keys of a mapping: its text and its tag, whatever its style.
-pub(crate) fn key_of(alloc: Global, text: &str, tag: &Option<Tag>) -> Result<Key, AllocError> {
-    let shown = match tag {
-        Some(tag) => format!(in alloc; "{tag}")?,
+/// Looks for keys that stand twice in a mapping.
+#[derive(Drop)]
+pub(crate) struct Keys {
+    alloc: Global,
+    /// What the next node stands in.
+    here: Level,
+    /// What that stands in, the innermost last.
+    outer: Vec<Level>,
+}
+
+impl Keys {
+    ghost use Rattle.yaml_check.specs.KeysSeen as seen;
+
+    pub(crate) fn new(alloc: Global) -> Keys
+        ensures { seen.keys_of result ≡ spec.no_keys }
+    {
+        Keys {
+            alloc,
+            here: Level::new(alloc, Next::Entry),
+            outer: Vec::new(alloc),
+        }
+    }
+
+    /// Takes an event, whose span starts here, and warns of a key that stood in its mapping before.
+    pub(crate) fn take(
+        &mut self,
+        event: &Event,
+        place: Marker,
+    ) -> Result<Option<Finding>, AllocError>
+        ensures told { IfOk result (λ told.
+            told ≡ spec.key_warning (seen.keys_of self.old) (happening event.now) place) }
+        ensures behind { OnOk result (seen.keys_of self.new
+            ≡ spec.keys_behind (happening event.now) place (seen.keys_of self.old)) }
+    {
+        match event {
+            Event::Scalar(text, _, _, tag) => {
+                let first = self.take_scalar(text.as_str(), tag, place)?;
+                Ok(first.map(|first| Finding {
+                    place,
+                    warning: Warning::SameKey(first),
+                }))
+            }
+            Event::Alias(_) => {
+                self.here.pass();
+                Ok(None)
+            }
+            Event::DocumentStart(_) | Event::SequenceStart(..) => self.open(Next::Entry),
+            Event::MappingStart(..) => self.open(Next::Key),
+            Event::DocumentEnd | Event::SequenceEnd | Event::MappingEnd => {
+                self.close();
+                Ok(None)
+            }
+            _ => Ok(None),
+        }
+    }
+
+    /// Takes a scalar. Where it is a key that stood before, tells where that was.
+    fn take_scalar(
+        &mut self,
+        text: &str,
+        tag: &Option<Tag>,
+        place: Marker,
+    ) -> Result<Option<Marker>, AllocError>
+        ensures first { IfOk result (λ first. first
+            ≡ spec.first_of (spec.key_of text.now (option_map resolved_tag tag.now))
+            (seen.level_of self.old.here)) }
+        ensures behind { OnOk result (seen.keys_of self.new
+            ≡ spec.with_here (spec.behind_scalar (spec.key_of text.now (option_map resolved_tag
+            tag.now)) place (seen.level_of self.old.here)) (seen.keys_of self.old)) }
+    {
+        let first = match self.here.next {
+            Next::Key => {
+                let key = key_of(self.alloc, text, tag)?;
+                self.here.add_key(key, place)?
+            }
+            _ => None,
+        };
+        self.here.pass();
+        Ok(first)
+    }
+
+    /// A document or a collection begins, and the next node in it is this.
+    fn open(&mut self, next: Next) -> Result<Option<Finding>, AllocError>
+        ensures none { IfOk result (λ told. told ≡ None) }
+        ensures behind { OnOk result (seen.keys_of self.new
+            ≡ spec.keys_inside next (seen.keys_of self.old)) }
+    {
+        let outer = replace(&mut self.here, Level::new(self.alloc, next));
+        self.outer.push(outer)?;
+        Ok(None)
+    }
+
+    /// The innermost of them ends.
+    fn close(&mut self)
+        ensures { seen.keys_of self.new ≡ spec.keys_outside (seen.keys_of self.old) }
+    {
+        if let Some(level) = self.outer.pop() {
+            self.here = level;
+            self.here.pass();
+        }
+    }
+}
+
+/// What a scalar is known by among the keys of a mapping, whatever its style: its text and the whole name of
+/// its tag.
+fn key_of(alloc: Global, text: &str, tag: &Option<Tag>) -> Result<Key, AllocError>
+    ensures { IfOk result (λ key. spec.key_bytes key
+        ≡ spec.key_of text.now (option_map resolved_tag tag.now)) }
+{
+    let name = match tag {
+        Some(tag) => format!(in alloc; "{}{}", tag.handle, tag.suffix)?,
         None => String::new(alloc),
     };
-    Ok((String::from_str(alloc, text)?, shown))
+    Ok((String::from_str(alloc, text)?, name))
 }

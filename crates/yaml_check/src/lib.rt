@@ -3,14 +3,18 @@
 
 mod arguments;
 mod checking;
+mod content;
+mod counting;
 mod finding;
 mod keys;
+pub mod law;
 mod run;
+mod sizes;
 mod telling;
 mod view;
 
 pub use arguments::{Call, HELP, Options, WrongCall, parse_arguments};
 pub use checking::{Limits, check_text};
 pub use finding::{Finding, Findings, Warning};
-pub use run::{CheckFault, Verdict, check_source};
+pub use run::{CheckFault, Verdict, check_source, status_of};
 pub use telling::report;

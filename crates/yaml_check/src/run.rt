@@ -1,8 +1,9 @@
 //! The check of one file: it is read, checked and told of.
-ghost use Rattle.std.specs.Prelude.{IfOk, OnOk};
-ghost use Rattle.std.specs.Io.KnownBytes.{Appends};
+ghost use Rattle.std.specs.Prelude.{◌≡◌, ◌≤◌, ◌↔◌, IfSome};
 ghost use Rattle.saphyr_parser.specs.Runs.{answer_of_text, ReadsAll};
-ghost use Rattle.yaml_check.specs.Checks.{Checks, IsNeverRight, Judges, JudgesBytes, events_asked, told_unless_quiet};
+ghost use Rattle.yaml_check.specs.Statuses as status;
+ghost use Rattle.yaml_check.specs.Statuses.{AreRight, OneUnchecked};
+ghost use Rattle.yaml_check.specs.Checks.{Checks, IsNeverRight, Judges, JudgesBytes, WritesLines, WritesTold, events_asked, told_unless_quiet};
 
 use crate::arguments::Options;
 use crate::checking::check_text;
@@ -20,6 +21,32 @@ pub enum Verdict {
     Wrong,
 }
 
+/// The status of a program that got these answers of files: 0 where all are right, 2 where one was not checked,
+/// and else 1.
+#[must_use]
+pub fn status_of(answers: &[Result<Verdict, CheckFault>]) -> u8
+    ensures right { (result ≡ 0) ↔ AreRight answers.now }
+    ensures unchecked { (result ≡ 2) ↔ OneUnchecked answers.now }
+    ensures else_wrong { result ≤ 2 }
+{
+    let mut status = 0;
+    for answer in answers {
+        status = status_of_one(*answer).max(status);
+    }
+    status
+}
+
+/// The status where this file alone is checked.
+fn status_of_one(answer: Result<Verdict, CheckFault>) -> u8
+    ensures { result ≡ status.status_of_one answer }
+{
+    match answer {
+        Ok(Verdict::Right) => 0,
+        Ok(Verdict::Wrong) => 1,
+        Err(_) => 2,
+    }
+}
+
 /// Why a file was not checked.
 #[derive(Clone, Copy, Debug, Error)]
 pub enum CheckFault {
@@ -32,7 +59,6 @@ pub enum CheckFault {
 }
 
 impl From<AllocError> for CheckFault {
-    ghost use Rattle.std.specs.Prelude.{◌≡◌};
     ghost use Rattle.yaml_check.specs.declared.run.CheckFault.TheVariants.{OutOfMemory};
 
     ghost from_gives = { λ _ fault. fault ≡ OutOfMemory };
@@ -53,19 +79,21 @@ pub fn check_source<R: Read, W: Write>(
     ensures { Checks result name.now options (R.remaining source.old) (R.remaining source.new)
         (W.contents out.old) (W.contents out.new) }
 {
-    let bytes = read_source(alloc, source)?;
-    judge_bytes(alloc, name, &bytes, options, out)
+    match read_source(alloc, source) {
+        Some(bytes) => judge_bytes(alloc, name, &bytes, options, out),
+        None => Err(CheckFault::CantRead),
+    }
 }
 
-/// All bytes of a source.
-fn read_source<R: Read>(alloc: Global, source: &mut R) -> Result<Vec<u8>, CheckFault>
-    ensures { IfOk result (λ bytes.
+/// All bytes of a source, if it can be read.
+fn read_source<R: Read>(alloc: Global, source: &mut R) -> Option<Vec<u8>>
+    ensures { IfSome result (λ bytes.
         ReadsAll (R.remaining source.old) (R.remaining source.new) bytes.items) }
 {
     let mut bytes = Vec::new(alloc);
     match source.read_to_end(&mut bytes) {
-        Ok(_count) => Ok(bytes),
-        Err(_) => Err(CheckFault::CantRead),
+        Ok(_count) => Some(bytes),
+        Err(_) => None,
     }
 }
 
@@ -115,28 +143,41 @@ fn judge<W: Write>(
 ) -> Result<Verdict, CheckFault>
     ensures { Judges result name.now options text.now (W.contents out.old) (W.contents out.new) }
 {
-    write_events(alloc, text, options, out)?;
     let found = check_text(alloc, text, options.limits)?;
     if found.is_empty() {
+        write_events(alloc, text, options, out)?;
         return Ok(Verdict::Right);
     }
     let told = report(alloc, name, text, &found)?;
+    write_events(alloc, text, options, out)?;
     write_unless_quiet(out, told.as_str(), options)?;
     Ok(Verdict::Wrong)
 }
 
 /// Writes what is told, unless nothing is to be.
 fn write_unless_quiet<W: Write>(out: &mut W, told: &str, options: Options) -> Result<(), CheckFault>
-    ensures { OnOk result (Appends (W.contents out.old) (W.contents out.new)
-        (told_unless_quiet options told.now)) }
+    ensures { WritesTold result (told_unless_quiet options told.now) (W.contents out.old)
+        (W.contents out.new) }
 {
     if options.quiet {
         return Ok(());
     }
-    match out.write_all(told.as_bytes()) {
-        Ok(()) => Ok(()),
-        Err(_) => Err(CheckFault::CantWrite),
+    write_bytes(out, told.as_bytes())
+}
+
+/// Writes all bytes, however few the writer takes at a time.
+#[tactic(auto, using(saphyr_parser::proofs::Printed::Written::takes_first, saphyr_parser::proofs::Printed::Written::takes_next, saphyr_parser::proofs::Printed::Written::takes_all, crate::proofs::Judging::takes_none_more))]
+fn write_bytes<W: Write>(out: &mut W, bytes: &[u8]) -> Result<(), CheckFault>
+    ensures { WritesTold result bytes.now (W.contents out.old) (W.contents out.new) }
+{
+    let mut rest = bytes;
+    while !rest.is_empty() {
+        match out.write(rest) {
+            Ok(0) | Err(_) => return Err(CheckFault::CantWrite),
+            Ok(count) => rest = &rest[count..],
+        }
     }
+    Ok(())
 }
 
 /// Writes the lines of the events where they are asked for, as `dump_events` does.
@@ -146,8 +187,8 @@ fn write_events<W: Write>(
     options: Options,
     out: &mut W,
 ) -> Result<(), CheckFault>
-    ensures { OnOk result (Appends (W.contents out.old) (W.contents out.new)
-        (events_asked options (answer_of_text text.now))) }
+    ensures { WritesLines result (events_asked options (answer_of_text text.now))
+        (W.contents out.old) (W.contents out.new) }
 {
     if !options.events {
         return Ok(());

@@ -1,8 +1,8 @@
 //! What people read of what was found: the place, the text, the line and a caret.
 ghost use Rattle.std.specs.Prelude.{◌≡◌, ◌++◌, [], IfOk, OnOk, string_bytes};
 ghost use Rattle.std.specs.Str.{chars};
-ghost use Rattle.yaml_check.specs.Texts.{error_line, place_text, warning_line};
-ghost use Rattle.yaml_check.specs.Reports.{IsReport, Tells, TellsFault, TellsWarnings};
+ghost use Rattle.yaml_check.specs.Texts.{error_line, name_and_place, warning_line};
+ghost use Rattle.yaml_check.specs.Reports.{AddsFault, AddsReport, AddsWarnings, IsReport};
 
 use crate::finding::{Finding, Findings, Warning};
 use crate::view::View;
@@ -36,7 +36,7 @@ fn tell_warnings(
     text: &[char],
     warnings: &[Finding],
 ) -> Result<(), AllocError>
-    ensures { OnOk result (TellsWarnings name.now text.now warnings.now (string_bytes out.old)
+    ensures { OnOk result (AddsWarnings name.now text.now warnings.now (string_bytes out.old)
         (string_bytes out.new)) }
 {
     for finding in warnings {
@@ -53,7 +53,7 @@ fn tell_warning(
     text: &[char],
     finding: Finding,
 ) -> Result<(), AllocError>
-    ensures { OnOk result (Tells name.now text.now finding.place (warning_line finding.warning)
+    ensures { OnOk result (AddsReport name.now text.now finding.place (warning_line finding.warning)
         (string_bytes out.old) (string_bytes out.new)) }
 {
     let line = line_of_warning(alloc, finding.warning)?;
@@ -68,7 +68,7 @@ fn tell_fault(
     text: &[char],
     fault: &Option<ScanError>,
 ) -> Result<(), AllocError>
-    ensures { OnOk result (TellsFault name.now text.now fault.now (string_bytes out.old)
+    ensures { OnOk result (AddsFault name.now text.now fault.now (string_bytes out.old)
         (string_bytes out.new)) }
 {
     match fault {
@@ -102,7 +102,7 @@ fn tell(
     place: Marker,
     line: &str,
 ) -> Result<(), AllocError>
-    ensures { OnOk result (Tells name.now text.now place line.now (string_bytes out.old)
+    ensures { OnOk result (AddsReport name.now text.now place line.now (string_bytes out.old)
         (string_bytes out.new)) }
 {
     push_place(out, name, place)?;
@@ -112,11 +112,10 @@ fn tell(
 
 /// Appends the name of a text and a place in it.
 fn push_place(out: &mut String, name: &str, place: Marker) -> Result<(), AllocError>
-    ensures { OnOk result (string_bytes out.new ≡ string_bytes out.old ++ place_text name.now place) }
+    ensures { OnOk result (string_bytes out.new
+        ≡ string_bytes out.old ++ name_and_place name.now place) }
 {
-    let line = place.line;
-    let column = place.col as u128 + 1;
-    write!(out, "{name}:{line}:{column}: ")
+    write!(out, "{name}:{place}: ")
 }
 
 /// What is printed of bytes of this name that are not UTF-8, of which the text that stands in front is.

@@ -61,8 +61,8 @@ fn columns_of(c: char) -> usize
 }
 
 /// Whether a character breaks a line.
-fn is_break(c: char) -> bool
-    ensures { result ≡ shown.is_break c }
+fn ends_line(c: char) -> bool
+    ensures { result ≡ shown.ends_line c }
 {
     c == '\n' || c == '\r'
 }
@@ -70,7 +70,7 @@ fn is_break(c: char) -> bool
 /// Where the last of some characters begin that fit into so many columns, and how many columns they leave.
 fn last_that_fit(characters: &[char], most: usize) -> (usize, usize)
     ensures within { result.0 ≤ length characters.now }
-    ensures left { result.1 + shown.columns (drop result.0 characters.now) ≡ most }
+    ensures left { result.1 + shown.shown_columns (drop result.0 characters.now) ≡ most }
 {
     let mut start = characters.len();
     let mut left = most;
@@ -89,7 +89,7 @@ fn last_that_fit(characters: &[char], most: usize) -> (usize, usize)
 fn fit_front(line: &[char]) -> (usize, usize)
     ensures within { result.0 ≤ length line.now }
     ensures caret { result.1 ≡ length (shown.cut (nat_lt 0 result.0))
-        + shown.columns (drop result.0 line.now) }
+        + shown.shown_columns (drop result.0 line.now) }
     ensures fits { result.1 ≤ 120 }
 {
     let most = FRONT - CUT.len();
@@ -101,11 +101,11 @@ fn fit_front(line: &[char]) -> (usize, usize)
 }
 
 /// Whether a line goes on.
-fn goes_on(rest: &[char]) -> bool
-    ensures { result ≡ shown.goes_on rest.now }
+fn line_goes_on(rest: &[char]) -> bool
+    ensures { result ≡ shown.line_goes_on rest.now }
 {
     match rest.first() {
-        Some(c) => !is_break(*c),
+        Some(c) => !ends_line(*c),
         None => false,
     }
 }
@@ -113,15 +113,15 @@ fn goes_on(rest: &[char]) -> bool
 /// How many characters of a line fit into so many columns, up to its break.
 fn count_that_fit(characters: &[char], most: usize) -> usize
     ensures within { result ≤ length characters.now }
-    ensures fits { shown.columns (take result characters.now) ≤ most }
-    ensures line { shown.HasNoBreak (take result characters.now) }
+    ensures fits { shown.shown_columns (take result characters.now) ≤ most }
+    ensures line { shown.StaysOnLine (take result characters.now) }
 {
     let mut count = 0;
     let mut left = most;
     while count < characters.len() {
         let c = characters[count];
         let wide = columns_of(c);
-        if wide > left || is_break(c) {
+        if wide > left || ends_line(c) {
             break;
         }
         left -= wide;
@@ -143,7 +143,8 @@ fn push_escape(out: &mut String, c: char) -> Result<(), AllocError>
 
 /// Appends characters as they are shown.
 fn push_visible(out: &mut String, characters: &[char]) -> Result<(), AllocError>
-    ensures { OnOk result (string_bytes out.new ≡ string_bytes out.old ++ shown.visible characters.now) }
+    ensures { OnOk result (string_bytes out.new
+        ≡ string_bytes out.old ++ shown.visible characters.now) }
 {
     for c in characters {
         if is_hidden(*c) {
@@ -181,7 +182,7 @@ impl<'a> View<'a> {
             front: &line[start..],
             back: &rest[..count],
             cut_before: start > 0,
-            cut_behind: goes_on(&rest[count..]),
+            cut_behind: line_goes_on(&rest[count..]),
             caret,
         }
     }

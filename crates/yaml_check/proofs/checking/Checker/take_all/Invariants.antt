@@ -1,6 +1,12 @@
-use Rattle.std.proofs.Common.{◌≡◌}
+use Rattle.std.proofs.Common.{◌≡◌, ◌++◌}
 use Rattle.saphyr_parser.specs.Cursor.{to_come}
+use Rattle.yaml_check.specs.CheckerSeen.{seen_of}
+use Rattle.yaml_check.specs.Warned.{warnings_on}
 use Rattle.yaml_check.proofs.checking.Checker.take_all.Given as goal
 
 abbrev pub invariant-loop-item : goal.invariant-loop-item
-invariant-loop-item g l = (to_come l.item-iterator).fault ≡ (to_come l.fn.parser).fault
+invariant-loop-item g l = record {
+  fault : (to_come l.item-iterator).fault ≡ (to_come l.fn.parser).fault;
+  warned : l.self.warnings.items ++ warnings_on (to_come l.item-iterator).events (seen_of l.self)
+      ≡ l.fn.self.warnings.items ++ warnings_on (to_come l.fn.parser).events (seen_of l.fn.self);
+}

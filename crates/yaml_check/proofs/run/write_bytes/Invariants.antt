@@ -1,0 +1,9 @@
+use Rattle.std.proofs.Common.{length}
+use Rattle.saphyr_parser.specs.Written.{TakesUpTo}
+use Rattle.yaml_check.proofs.run.write_bytes.Given as goal
+
+abbrev pub invariant-loop-rest : goal.invariant-loop-rest
+invariant-loop-rest g l = TakesUpTo (g.W.Write.contents l.fn.out) (g.W.Write.contents l.out) l.bytes l.rest
+
+abbrev pub decreases-loop-rest : goal.decreases-loop-rest
+decreases-loop-rest g l = length l.rest

@@ -1,0 +1,83 @@
+-- What the warnings on a text's events mean.
+use Rattle.std.specs.Prelude.{◌≡◌, ℕ, ◌+◌, ◌-◌, Bool, true, false, List, [], ◌∷◌, ◌++◌, count_by, Contains, Option, if◌then◌else◌}
+use Rattle.saphyr_parser.specs.Words.Marker.{Marker}
+use Rattle.saphyr_parser.specs.Words.Span.{Span}
+use Rattle.saphyr_parser.specs.Words.Forest.{Style}
+use Rattle.saphyr_parser.specs.Events.{ResolvedTag, Happening, DocumentStart, Scalar, SequenceEnd, MappingEnd, empty_scalar}
+use Rattle.yaml_check.specs.declared.checking.Limits.{Limits}
+use Rattle.yaml_check.specs.declared.finding.Warning.{Warning}
+use Rattle.yaml_check.specs.Counting.{is_collection, is_node}
+use Rattle.yaml_check.specs.Keys.{Key, key_of}
+use Rattle.yaml_check.specs.Warned.{nothing_seen, warnings_on}
+
+-- this is told of the events at this place
+abbrev pub IsWarned : Limits → List (Happening × Span) → Marker → Warning → Type 0
+IsWarned limits events place w =
+    Contains (warnings_on events (nothing_seen limits)) (record { place = place; warning = w })
+
+-- A document begins here, and its root is left out: no text, no anchor and no tag stand for it (YAML 1.2.2, 7.2).
+pub record IsEmptyDocument (events : List (Happening × Span)) (place : Marker) : Type 0 where
+  pub front : List (Happening × Span)
+  pub explicit : Bool
+  pub start : Span
+  pub root : Span
+  pub back : List (Happening × Span)
+  pub split : events ≡ front ++ ((DocumentStart explicit, start) ∷ ((empty_scalar, root) ∷ back))
+  pub begins : start.start ≡ place
+
+-- A node begins here, behind so many others. An alias is a node, and so is one that is left out.
+pub record IsNodeBehind (events : List (Happening × Span)) (count : ℕ) (place : Marker) : Type 0 where
+  pub front : List (Happening × Span)
+  pub node : Happening × Span
+  pub back : List (Happening × Span)
+  pub split : events ≡ front ++ node ∷ back
+  pub is_one : is_node node.0 ≡ true
+  pub before : count_by (λ e. is_node e.0) front ≡ count
+  pub begins : node.1.start ≡ place
+
+-- how many collections are open behind an event, and behind events
+abbrev pub ends_collection : Happening → Bool
+ends_collection SequenceEnd = true
+ends_collection MappingEnd = true
+ends_collection _ = false
+
+abbrev pub collections_behind : Happening → ℕ → ℕ
+collections_behind what n = if ends_collection what then n - 1 else (if is_collection what then n + 1 else n)
+
+abbrev pub collections_behind_all : List (Happening × Span) → ℕ → ℕ
+collections_behind_all [] n = n
+collections_behind_all (e ∷ es) n = collections_behind_all es (collections_behind e.0 n)
+
+-- A collection begins here, inside so many others.
+pub record IsCollectionInside (events : List (Happening × Span)) (count : ℕ) (place : Marker) : Type 0 where
+  pub front : List (Happening × Span)
+  pub node : Happening × Span
+  pub back : List (Happening × Span)
+  pub split : events ≡ front ++ node ∷ back
+  pub is_one : is_collection node.0 ≡ true
+  pub around : collections_behind_all front 0 ≡ count
+  pub begins : node.1.start ≡ place
+
+-- ## Keys that stand twice
+
+-- A scalar with this text and this tag begins here.
+pub record IsScalarAt (key : Key) (place : Marker) (e : Happening × Span) : Type 0 where
+  pub text : List ℕ
+  pub style : Style
+  pub id : ℕ
+  pub tag : Option ResolvedTag
+  pub is_scalar : e.0 ≡ Scalar text style id tag
+  pub is_key : key_of text tag ≡ key
+  pub begins : e.1.start ≡ place
+
+-- A scalar begins here, and one with the same text and the same tag begins before it, at `first`.
+pub record IsRepeated (events : List (Happening × Span)) (first place : Marker) : Type 0 where
+  pub key : Key
+  pub front : List (Happening × Span)
+  pub earlier : Happening × Span
+  pub between : List (Happening × Span)
+  pub later : Happening × Span
+  pub back : List (Happening × Span)
+  pub split : events ≡ (front ++ earlier ∷ between) ++ later ∷ back
+  pub is_first : IsScalarAt key first earlier
+  pub is_later : IsScalarAt key place later

@@ -1,0 +1,131 @@
+//! Aliases that stand for many nodes.
+ghost use Rattle.std.specs.Prelude.{◌≡◌, None, IfOk, OnOk};
+ghost use Rattle.saphyr_parser.specs.Views.Events.{happening};
+ghost use Rattle.yaml_check.specs.Sizes as spec;
+
+use crate::finding::{Finding, Warning};
+use saphyr_parser::{Event, Marker};
+use std::alloc::{AllocError, Global};
+use std::collections::BTreeMap;
+
+/// How many nodes an alias may stand for without a warning.
+const WIDE: usize = 1_000_000;
+
+/// A collection, or what else nodes stand in.
+#[derive(Clone, Copy)]
+pub(crate) struct Size {
+    /// The id of its anchor, 0 where it has none.
+    anchor: usize,
+    /// How many nodes stand in it so far, with those that aliases stand for.
+    nodes: usize,
+}
+
+/// Looks for aliases that stand for many nodes.
+#[derive(Drop)]
+pub(crate) struct Sizes {
+    /// What the next node stands in.
+    here: Size,
+    /// What that stands in, the innermost last.
+    outer: Vec<Size>,
+    /// How many nodes the node of each anchor stands for, once it has ended.
+    known: BTreeMap<usize, usize>,
+}
+
+impl Sizes {
+    ghost use Rattle.yaml_check.specs.SizesSeen as seen;
+
+    pub(crate) fn new(alloc: Global) -> Sizes
+        ensures { seen.sizes_of result ≡ spec.no_sizes }
+    {
+        Sizes {
+            here: Size {
+                anchor: 0,
+                nodes: 0,
+            },
+            outer: Vec::new(alloc),
+            known: BTreeMap::new(alloc),
+        }
+    }
+
+    /// How many collections are open.
+    pub(crate) fn depth(&self) -> usize
+        ensures { result ≡ spec.open_collections (seen.sizes_of self.now) }
+    {
+        self.outer.len()
+    }
+
+    /// Takes an event, whose span starts here, and warns of an alias that stands for many nodes.
+    pub(crate) fn take(
+        &mut self,
+        event: &Event,
+        place: Marker,
+    ) -> Result<Option<Finding>, AllocError>
+        ensures told { IfOk result (λ told.
+            told ≡ spec.alias_warning (seen.sizes_of self.old) (happening event.now) place) }
+        ensures behind { OnOk result (seen.sizes_of self.new
+            ≡ spec.sizes_behind (happening event.now) (seen.sizes_of self.old)) }
+    {
+        match event {
+            Event::Alias(id) => Ok(self.take_alias(*id, place)),
+            Event::Scalar(_, _, id, _) => self.end_node(*id, 1),
+            Event::SequenceStart(id, _) | Event::MappingStart(id, _) => self.open(*id),
+            Event::SequenceEnd | Event::MappingEnd => self.close(),
+            _ => Ok(None),
+        }
+    }
+
+    /// Passes an alias. One inside the node that it stands for has no end.
+    fn take_alias(&mut self, id: usize, place: Marker) -> Option<Finding>
+        ensures told { result ≡ spec.wide_if (spec.size_at id (seen.sizes_of self.old)) place }
+        ensures behind { seen.sizes_of self.new ≡ spec.with_nodes
+            (spec.size_at id (seen.sizes_of self.old)) (seen.sizes_of self.old) }
+    {
+        let nodes = self.known.get(&id).copied().unwrap_or(usize::MAX);
+        self.here.nodes = self.here.nodes.saturating_add(nodes);
+        if nodes <= WIDE {
+            return None;
+        }
+        Some(Finding {
+            place,
+            warning: Warning::WideAlias(WIDE),
+        })
+    }
+
+    /// Passes a node that has ended and stands for so many.
+    fn end_node(&mut self, id: usize, nodes: usize) -> Result<Option<Finding>, AllocError>
+        ensures none { IfOk result (λ told. told ≡ None) }
+        ensures behind { OnOk result (seen.sizes_of self.new
+            ≡ spec.with_ended_node id nodes (seen.sizes_of self.old)) }
+    {
+        if id > 0 {
+            self.known.insert(id, nodes)?;
+        }
+        self.here.nodes = self.here.nodes.saturating_add(nodes);
+        Ok(None)
+    }
+
+    /// A collection with this anchor begins.
+    fn open(&mut self, anchor: usize) -> Result<Option<Finding>, AllocError>
+        ensures none { IfOk result (λ told. told ≡ None) }
+        ensures behind { OnOk result (seen.sizes_of self.new
+            ≡ spec.sizes_inside anchor (seen.sizes_of self.old)) }
+    {
+        self.outer.push(self.here)?;
+        self.here = Size { anchor, nodes: 0 };
+        Ok(None)
+    }
+
+    /// The innermost collection ends.
+    fn close(&mut self) -> Result<Option<Finding>, AllocError>
+        ensures none { IfOk result (λ told. told ≡ None) }
+        ensures behind { OnOk result (seen.sizes_of self.new
+            ≡ spec.sizes_outside (seen.sizes_of self.old)) }
+    {
+        let Some(outer) = self.outer.pop() else {
+            return Ok(None);
+        };
+        let ended = self.here;
+        self.here = outer;
+        self.end_node(ended.anchor, ended.nodes.saturating_add(1))
+    }
+}
