@@ -16,7 +16,7 @@ An answer that isn't the parser's is counted under the fewest conditions that it
 isn't searched. `-` stands for an answer that breaks none: a class without a name, which wants a condition. A definition
 that comes to ask a condition takes its name out of `OPEN`, and what breaks it is no answer any more.
 
-With `--cases` what the files of event_cases store, or FILEs like them, is held against the definitions, for texts of up
+With `--cases` what the files of test_cases store, or FILEs like them, is held against the definitions, for texts of up
 to 700 characters: each answer without a fault has to be taken from its text by tokens that break no condition. One that
 a fault ends has to begin so, but for `WAIVED`: the parser may tell a value before it finds that a key's colon is
 missing, and end a single pair by a brace before a bracket is one too many. (An alias may name any anchor there, and a
@@ -38,7 +38,7 @@ import sys
 import threading
 
 TOP = os.path.dirname(os.path.dirname(os.path.abspath(__file__)))
-PROGRAM, DATA = TOP + "/crates/dump_events/out/dump_events", TOP + "/crates/event_cases/data/"
+PROGRAM, DATA = TOP + "/crates/dump_events/out/dump_events", TOP + "/crates/test_cases/data/"
 ALPHABET = "a:-?#[]{},&!*|>\"' \n"
 PIECES = ["a", "a ", "a: ", ": ", ":\n", "- ", "-\n", "? ", "\n ", "\n  ", "\n- ", "\n: ", "\n? ", "\na: ", "&a ",
           "&a\n", "!a ", "*a ", "|\n", ">\n", "--- ", "\n...\n", " #", "[a", "{a", ", ", "a\n", '"a"', "'a'", "%TAG ",
@@ -112,7 +112,7 @@ def way(yields):
     return found
 
 
-# ## scalar_values: Folding.antt, Flow.antt, Lines.antt and Block.antt
+# ## saphyr_values: Folding.antt, Flow.antt, Lines.antt and Block.antt
 def folded(items):
     """Items are pairs of a kind ("blank", "raw", "escaped", "break" or "escaped break") and a character."""
     text, at_start = "", False

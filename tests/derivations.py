@@ -1,5 +1,5 @@
 #!/usr/bin/env python3
-"""Random derivations of the layout grammar, read by `dump_events`.
+"""Random derivations of YAML's grammar, read by `dump_events`.
 
     tests/derivations.py [COUNT [SEED]]
 
@@ -7,7 +7,7 @@ Makes COUNT texts (50,000) from the seeds SEED (1), SEED + 1 and so on, and comp
 or `rt run` in crates/dump_events left it in out/, with the events of their forests. The shortest that differ are shown.
 
 A method of `Derivation` is a production, and makes a text and the node for which that stands, as the definitions in the
-specs/ of layout_laws, scalar_laws and saphyr_scalar relate them. They speak of what stands behind a piece, so texts
+specs/ of yaml_laws, scalar_laws and saphyr_scalar relate them. They speak of what stands behind a piece, so texts
 are made from their ends. A node is its parts in the order of their events, which come from these parts alone.
 """
 import collections
@@ -420,7 +420,7 @@ class Derivation:
             node = "? " + node + "\n" + " " * column
         return node + ":" + text, key + value
 
-    # ## Layout.antt
+    # ## Yaml.antt
     def document(self, free, behind):
         """A document in which no line begins with a marker, and no alias lacks its anchor."""
         while True:

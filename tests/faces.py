@@ -3,7 +3,7 @@
 
     tests/faces.py
 
-Builds the C programs of tests/faces and the crate of rust/, and runs each case of crates/event_cases/data through
+Builds the C programs of tests/faces and the crate of rust/, and runs each case of crates/test_cases/data through
 both: their events and places are to be the case's, and its lines those that `dump_events` prints. The C face is
 misused, each request for memory over the worked texts is refused in turn, and where valgrind is there, it looks for
 leaks. Where there is no compiler of C or no cargo, it says so, and tests nothing. SAPHYR_PARSER_LIB may name another

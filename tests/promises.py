@@ -44,7 +44,7 @@ FUNCTIONS = {
 }
 SAME_AS_NEW = {"with_limit", "new_from_iter"}
 # `decided` has no mark: it says that the events are computed, and stops there
-MARKS = ["json", "layout", "closed", "taken", "spans", "calls", "trees", "lines"]
+MARKS = ["json", "yaml", "closed", "taken", "spans", "calls", "trees", "lines"]
 # files of definitions are named by their crate and their path below its `specs`
 COMPUTED = {
     (("saphyr_scanner", "Steps.Remaining"), "scan"),
@@ -256,14 +256,14 @@ def look(path, function, asked, reached, is_quiet):
 
 
 def marks_of(row, files, reached):
-    """The promises that rest on a row's definitions. What rests on `layout` has no mark for `closed`."""
+    """The promises that rest on a row's definitions. What rests on `yaml` has no mark for `closed`."""
     names = re.findall(r"`([^`]+)`", row)
     marks = {mark for definition, marks in reached.items() for mark in marks
              if spec_of(definition.module).path.endswith(files) and (not names or definition.name in names)}
-    if "layout" in marks:
+    if "yaml" in marks:
         marks.discard("closed")
     found = [mark for mark in MARKS if mark in marks]
-    return "all" if len(found) == len(MARKS) - 1 and "layout" in found else ", ".join(found)
+    return "all" if len(found) == len(MARKS) - 1 and "yaml" in found else ", ".join(found)
 
 
 def marked_page(reached):

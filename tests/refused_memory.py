@@ -3,10 +3,10 @@
 
     tests/refused_memory.py [--all | NAME ..]
 
-Runs over the cases of crates/event_cases/data: those of worked.txt, with --all those of each file, or those
+Runs over the cases of crates/test_cases/data: those of worked.txt, with --all those of each file, or those
 whose names are given. Two programs are run on each case, as `rt ci`, or `rt run` in their crates, left them
 in out/. The first request is refused, then the second, and so on up to the first run in which none is.
-`refused_memory` judges by itself what stands behind a refused request. `dump_events`, from standard input and
+`test_refused_memory` judges by itself what stands behind a refused request. `dump_events`, from standard input and
 from a file, has to print a beginning of the lines, and to say why it stopped.
 """
 import concurrent.futures
@@ -19,7 +19,7 @@ import sys
 import tempfile
 
 ROOT = os.path.dirname(os.path.dirname(os.path.abspath(__file__)))
-DATA = f"{ROOT}/crates/event_cases/data"
+DATA = f"{ROOT}/crates/test_cases/data"
 SAID = b"a request was refused\n"
 ESCAPE = re.compile(r"\\(?:u\{([0-9a-f]+)\}|(.))")
 NAMED = {"n": "\n", "r": "\r", "t": "\t"}
@@ -82,7 +82,7 @@ class Run:
 
 
 def judge_ways(run):
-    """What is wrong with a run of `refused_memory`. It may find no memory itself, for the case or its comparison."""
+    """What is wrong with a run of `test_refused_memory`. It may find no memory itself, for the case or its comparison."""
     refused = run.out.count(": refused\n")
     if run.status == 0 and refused == run.was_refused:
         return None
@@ -116,7 +116,7 @@ def sweep(library, words, text, judge):
 
 def check(library, folder, case):
     """How many requests of a case were refused, and what was wrong."""
-    ways = [program("refused_memory")]
+    ways = [program("test_refused_memory")]
     sweeps = [sweep(library, ways, case.block, judge_ways)]
     if not case.keeps_tags:
         dump, file = program("dump_events"), f"{folder}/{abs(hash(case.block))}"

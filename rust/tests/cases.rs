@@ -10,7 +10,7 @@ use std::panic::catch_unwind;
 use std::path::Path;
 use std::{fs, thread};
 
-const DATA: &str = concat!(env!("CARGO_MANIFEST_DIR"), "/../crates/event_cases/data");
+const DATA: &str = concat!(env!("CARGO_MANIFEST_DIR"), "/../crates/test_cases/data");
 
 /// How many lines a case may have whose parser is cloned at each place.
 const MOST_CLONED: usize = 16;

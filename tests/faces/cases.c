@@ -1,6 +1,6 @@
 /*
  * Reads texts from standard input, and prints the events of each with their places, as the cases of
- * crates/event_cases have them. Each is peeked before it is taken, and a clone has to give it too.
+ * crates/test_cases have them. Each is peeked before it is taken, and a clone has to give it too.
  *
  * A text comes behind a line with `1` or `0`, for `keep_tags`, and how many bytes it has. Its lines end in the byte FF.
  */

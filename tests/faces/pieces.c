@@ -1,6 +1,6 @@
 /*
  * Reads texts from standard input, and prints the events of each with their places, as the cases of
- * crates/event_cases have them. Each comes in pieces of as many bytes as the argument says.
+ * crates/test_cases have them. Each comes in pieces of as many bytes as the argument says.
  *
  *     pieces COUNT
  *

@@ -60,7 +60,7 @@ AdvancesOver (e ∷ es) old new = (middle : EventCursor) × Advances e old middl
 
 -- ## The fault that ends the events
 
--- the fault as it was kept, or the want of memory for a copy of it
+-- the fault as it was kept, or the lack of memory for a copy of it
 abbrev pub IsToldAs : Ending → Fault → Type 0
 IsToldAs kept (fault.Scan e) = kept ≡ Refused e.mark (string_bytes e.info)
 IsToldAs kept fault.OutOfMemory = Unit {0}

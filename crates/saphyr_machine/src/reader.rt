@@ -127,7 +127,7 @@ impl<'input, T: Input> EventReader<'input, T> {
     }
 
     // Gives the fault that ended the events, unless it was given before. Where it can't be copied, it is
-    // lost for the want of memory.
+    // lost for the lack of memory.
     fn give_fault(&mut self) -> Option<Result<(Event<'input>, Span), Fault>>
         ensures { calls.GivesFault (cursor self.old).kept result (cursor self.old)
             (cursor self.new) }

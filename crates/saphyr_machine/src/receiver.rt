@@ -10,7 +10,7 @@ use std::alloc::{AllocError, AllocFailed};
 #[derive(Clone, Copy, Debug, PartialEq, Eq)]
 pub struct Refused;
 
-/// A receiver that stores events refuses one for want of memory by `?`, as in `self.events.push(event)?`.
+/// A receiver that stores events refuses one for lack of memory by `?`, as in `self.events.push(event)?`.
 impl From<AllocError> for Refused {
     ghost from_gives = { λ _ _. Unit {0} };
 
@@ -36,7 +36,7 @@ pub trait EventReceiver<'input> {
     /// The receiver before, the event, the answer and the receiver after.
     ghost takes: { Self → Happening → Result (Unit {0}) Refused → Self → Type 0 };
 
-    /// Takes an event, or refuses it, as where it can't store it for want of memory.
+    /// Takes an event, or refuses it, as where it can't store it for lack of memory.
     fn on_event(&mut self, ev: Event<'input>) -> Result<(), Refused>
         ensures { takes self.old (happening ev.entry) result self.new };
 }
@@ -51,7 +51,7 @@ pub trait SpannedEventReceiver<'input> {
     /// The receiver before, the event with its span, the answer and the receiver after.
     ghost receives: { Self → Happening × Span → Result (Unit {0}) Refused → Self → Type 0 };
 
-    /// Takes an event, or refuses it, as where it can't store it for want of memory.
+    /// Takes an event, or refuses it, as where it can't store it for lack of memory.
     fn on_event(&mut self, ev: Event<'input>, span: Span) -> Result<(), Refused>
         ensures { receives self.old (happening ev.entry, span) result self.new };
 }

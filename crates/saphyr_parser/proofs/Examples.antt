@@ -2,4 +2,4 @@
 pub mod Events
 pub mod Taken
 pub mod TakenEvents
-pub mod ClosedLayout
+pub mod ClosedYaml

@@ -4,10 +4,10 @@ pub mod Forests
 pub mod ReadsEach
 pub mod JsonEvents
 pub mod ReadsJson
-pub mod ReadsLayout
+pub mod ReadsYaml
 pub mod CommonBeginnings
 pub mod ClosedTokens
-pub mod ReadsClosedLayout
+pub mod ReadsClosedYaml
 pub mod TakesEvents
 pub mod KeepsSpans
 pub mod WithinLimit

@@ -6,7 +6,7 @@ use Rattle.saphyr_scanner.specs.Views.Tokens.{Piece}
 use Rattle.saphyr_machine.specs.Events.{Happening}
 use Rattle.saphyr_machine.specs.Steps.Machine.{Machine}
 use Rattle.saphyr_machine.specs.Answer.{Answer, ending_of}
-pub use Rattle.layout_laws.specs.Grammar.ClosedTexts.{marker_token}
+pub use Rattle.yaml_laws.specs.Grammar.ClosedTexts.{marker_token}
 
 -- more tokens stand behind those of the machine, and the refusal ends them all
 abbrev pub with_more : List Piece → Option Refusal → Machine → Machine

@@ -3,7 +3,7 @@ use Rattle.std.specs.Prelude.{◌≡◌, ◌≤◌, ℕ, Bool, true, List, [], �
 use Rattle.saphyr_input.specs.Breaks.{normalized}
 use Rattle.saphyr_scalar.specs.declared.scalar.position.Span.{Span}
 use Rattle.saphyr_scanner.specs.Grammar.Forest.{Forest}
-pub use Rattle.layout_laws.specs.Grammar.ClosedTexts.{DocumentMarker, Starts, Ends, EndsWithMarker}
+pub use Rattle.yaml_laws.specs.Grammar.ClosedTexts.{DocumentMarker, Starts, Ends, EndsWithMarker}
 use Rattle.saphyr_machine.specs.Events.{Happening, StreamEnd, DocumentStart, DocumentEnd, empty_scalar}
 use Rattle.saphyr_parser.specs.ForestEvents.{events}
 use Rattle.saphyr_machine.specs.Answer.{Answer}

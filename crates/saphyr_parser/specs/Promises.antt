@@ -1,4 +1,4 @@
--- The promises of `Parser::new`: on all texts, and on those of JSON and of the layout grammar. Each is of a text and of
+-- The promises of `Parser::new`: on all texts, and on those of JSON and of YAML's grammar. Each is of a text and of
 -- a parser at its start. The proof of each stands under its name in `proofs/Promises`.
 use Rattle.std.specs.Prelude.{◌≤◌, ℕ, Bool, List}
 use Rattle.scalar_laws.specs.Spelling.Spaces.{IsLineRest}
@@ -6,7 +6,7 @@ use Rattle.saphyr_scanner.specs.Grammar.Forest.{Forest, open_in_forest}
 use Rattle.saphyr_machine.specs.Cursor.{EventCursor, keeping_tags, to_come}
 use Rattle.saphyr_scanner.specs.Limits.{most_open}
 use Rattle.json_laws.specs.Grammar.Json.{IsJson}
-use Rattle.layout_laws.specs.Grammar.Layout.{IsLayoutText}
+use Rattle.yaml_laws.specs.Grammar.Yaml.{IsYamlText}
 use Rattle.saphyr_parser.specs.EventsTaken.{AreTaken}
 use Rattle.saphyr_parser.specs.Premises.{ReadsEach, ReadsClosed}
 use Rattle.saphyr_parser.specs.SpansWithin.{HasSpansIn, IsLater}
@@ -28,11 +28,11 @@ IsShallowJson room forest text = IsJson forest text × (open_in_forest forest �
 abbrev pub ReadsJson : ℕ → List ℕ → EventCursor → Type 0
 ReadsJson limit text parser = ReadsEach (IsShallowJson most_open) limit text parser
 
--- each text of the layout grammar gives exactly its forest's events
-abbrev pub ReadsLayout : ℕ → List ℕ → EventCursor → Type 0
-ReadsLayout limit text parser = ReadsEach (IsLayoutText most_open) limit text parser
+-- each text of YAML's grammar gives exactly its forest's events
+abbrev pub ReadsYaml : ℕ → List ℕ → EventCursor → Type 0
+ReadsYaml limit text parser = ReadsEach (IsYamlText most_open) limit text parser
 
 -- Behind a beginning that a line of `---` or `...` closes, anything may follow. Behind the marker its line has blanks,
 -- and behind some blanks a comment.
-abbrev pub ReadsClosedLayout : ℕ → List ℕ → EventCursor → Type 0
-ReadsClosedLayout limit text parser = ReadsClosed (IsLayoutText most_open) IsLineRest limit text parser
+abbrev pub ReadsClosedYaml : ℕ → List ℕ → EventCursor → Type 0
+ReadsClosedYaml limit text parser = ReadsClosed (IsYamlText most_open) IsLineRest limit text parser

@@ -9,5 +9,5 @@ pub use Rattle.saphyr_scanner.specs.Limits.{most_open}
 pub use Rattle.saphyr_scanner.specs.Steps.Remaining
 pub use Rattle.saphyr_scanner.specs.TokensTaken
 pub use Rattle.json_laws.specs.Grammar.Json
-pub use Rattle.layout_laws.specs.Grammar.Layout
-pub use Rattle.layout_laws.specs.Grammar.ClosedTexts
+pub use Rattle.yaml_laws.specs.Grammar.Yaml
+pub use Rattle.yaml_laws.specs.Grammar.ClosedTexts

@@ -7,11 +7,11 @@ ghost use Rattle.saphyr_scanner.specs.Steps.Remaining.{scan};
 ghost use Rattle.saphyr_parser.specs.Limits.{most_characters};
 ghost use Rattle.saphyr_machine.specs.Cursor as spec;
 ghost use Rattle.saphyr_machine.specs.Calls as calls;
-ghost use Rattle.saphyr_parser.specs.Promises.{KeepsSpans, ReadsClosedLayout, ReadsJson, ReadsLayout, TakesEvents};
+ghost use Rattle.saphyr_parser.specs.Promises.{KeepsSpans, ReadsClosedYaml, ReadsJson, ReadsYaml, TakesEvents};
 
 use crate::law::{gives_json, takes_all_events};
 use json_laws::scans_each_json;
-use layout_laws::{hands_out_markers, scans_each_layout_text};
+use yaml_laws::{hands_out_markers, scans_each_yaml_text};
 use saphyr_input::input::{CloneInput, Input};
 use saphyr_input::{BufferedInput, StrInput};
 use saphyr_machine::{Event, EventReader, Fault, Progress, SpannedEventReceiver};
@@ -63,7 +63,7 @@ impl<'input, T: Input> Parser<'input, T> {
 
     /// The events of an input's text, which is refused past 4,294,967,295 characters.
     ///
-    /// Each text of the layout grammar gives exactly its forest's events, and so does each text of JSON.
+    /// Each text of YAML's grammar gives exactly its forest's events, and so does each text of JSON.
     /// Where one ends with a line of `---` or `...`, its events up to and with the marker's come first,
     /// whatever follows.
     ///
@@ -74,8 +74,8 @@ impl<'input, T: Input> Parser<'input, T> {
     pub fn new(alloc: Global, src: T) -> Self
         ensures decided { result ≡ spec.at_start (scan most_characters (T.rest src)) }
         ensures json { ReadsJson most_characters (T.rest src) result }
-        ensures layout { ReadsLayout most_characters (T.rest src) result }
-        ensures closed { ReadsClosedLayout most_characters (T.rest src) result }
+        ensures yaml { ReadsYaml most_characters (T.rest src) result }
+        ensures closed { ReadsClosedYaml most_characters (T.rest src) result }
         ensures spans { KeepsSpans (T.rest src) result }
         ensures taken { TakesEvents (T.rest src) result }
     {
@@ -92,13 +92,13 @@ impl<'input, T: Input> Parser<'input, T> {
     pub fn with_limit(alloc: Global, src: T, limit: usize) -> Self
         ensures decided { result ≡ spec.at_start (scan limit (T.rest src)) }
         ensures json { ReadsJson limit (T.rest src) result }
-        ensures layout { limit ≤ most_characters → ReadsLayout limit (T.rest src) result }
-        ensures closed { limit ≤ most_characters → ReadsClosedLayout limit (T.rest src) result }
+        ensures yaml { limit ≤ most_characters → ReadsYaml limit (T.rest src) result }
+        ensures closed { limit ≤ most_characters → ReadsClosedYaml limit (T.rest src) result }
         ensures spans { KeepsSpans (T.rest src) result }
         ensures taken { limit ≤ most_characters → TakesEvents (T.rest src) result }
     {
         scans_each_json();
-        scans_each_layout_text();
+        scans_each_yaml_text();
         hands_out_markers();
         gives_json();
         ends_with_the_stream();
@@ -194,7 +194,7 @@ impl<'input, T: CloneInput> Parser<'input, T> {
     /// peeked included, and the same setting of `keep_tags`. Advancing one doesn't move the other.
     ///
     /// All of what was read and not handed out is copied, and the input by its `clone`: over an iterator
-    /// both read on from their own copies of it. Want of memory is the only error, and leaves this parser
+    /// both read on from their own copies of it. Lack of memory is the only error, and leaves this parser
     /// as it was.
     pub fn try_clone(&self) -> Result<Self, AllocError>
         ensures { IfOk result (λ copy. copy ≡ self.now) }
@@ -211,8 +211,8 @@ impl<'input> Parser<'input, StrInput<'input>> {
     pub fn new_from_str(alloc: Global, value: &'input str) -> Self
         ensures decided { result ≡ spec.at_start (scan most_characters (chars value.now)) }
         ensures json { ReadsJson most_characters (chars value.now) result }
-        ensures layout { ReadsLayout most_characters (chars value.now) result }
-        ensures closed { ReadsClosedLayout most_characters (chars value.now) result }
+        ensures yaml { ReadsYaml most_characters (chars value.now) result }
+        ensures closed { ReadsClosedYaml most_characters (chars value.now) result }
         ensures spans { KeepsSpans (chars value.now) result }
         ensures taken { TakesEvents (chars value.now) result }
     {
@@ -233,10 +233,10 @@ impl<'input, I: Iterator<Item = char>> Parser<'input, BufferedInput<I>> {
             ≡ spec.at_start (scan most_characters (take (most_characters + 1) text))) }
         ensures json { (text : List ℕ) → Lists I.can_next I.next_gives iter text
             → IfOk result (λ parser. ReadsJson most_characters text parser) }
-        ensures layout { (text : List ℕ) → Lists I.can_next I.next_gives iter text
-            → IfOk result (λ parser. ReadsLayout most_characters text parser) }
+        ensures yaml { (text : List ℕ) → Lists I.can_next I.next_gives iter text
+            → IfOk result (λ parser. ReadsYaml most_characters text parser) }
         ensures closed { (text : List ℕ) → Lists I.can_next I.next_gives iter text
-            → IfOk result (λ parser. ReadsClosedLayout most_characters text parser) }
+            → IfOk result (λ parser. ReadsClosedYaml most_characters text parser) }
         ensures spans { (text : List ℕ) → Lists I.can_next I.next_gives iter text
             → IfOk result (λ parser. KeepsSpans (take (most_characters + 1) text) parser) }
         ensures taken { (text : List ℕ) → Lists I.can_next I.next_gives iter text

@@ -25,7 +25,7 @@ ghost use Rattle.saphyr_parser.specs.Exactly.{GivesExactly, TellTheSame, kinds, 
 ghost use Rattle.saphyr_machine.specs.Events.{Alias, DocumentEnd, Happening};
 ghost use Rattle.saphyr_parser.specs.EventsTaken.{AreTaken, BeginsSomeForest, HasPlaceIn, IsOf};
 ghost use Rattle.saphyr_parser.specs.Premises.{DocumentMarker, GivesFirst, HasOneMeaning, IsClosed, MeanTheSame, ReadsClosed, ReadsEach, events_behind_marker};
-ghost use Rattle.saphyr_parser.specs.Promises.{IsShallowJson, KeepsSpans, ReadsClosedLayout, ReadsLayout, TakesEvents};
+ghost use Rattle.saphyr_parser.specs.Promises.{IsShallowJson, KeepsSpans, ReadsClosedYaml, ReadsYaml, TakesEvents};
 ghost use Rattle.saphyr_scalar.specs.declared.scalar.position.Span.{Span};
 ghost use Rattle.saphyr_scalar.specs.declared.scalar.fault.Refusal.{Refusal};
 ghost use Rattle.scalar_laws.specs.Spelling.Spaces.{IsLineRest};
@@ -33,7 +33,7 @@ ghost use Rattle.saphyr_scanner.specs.Limits.{most_open};
 ghost use Rattle.saphyr_scanner.specs.AtPlaces.{AreAtPlaces};
 ghost use Rattle.saphyr_scanner.specs.Ends.{EndsWithStream};
 ghost use Rattle.saphyr_scanner.specs.TokensTaken.{AreTakenFrom, IsPlaceOf};
-ghost use Rattle.layout_laws.specs.Grammar.Layout.{IsLayoutText};
+ghost use Rattle.yaml_laws.specs.Grammar.Yaml.{IsYamlText};
 ghost use Rattle.saphyr_parser.specs.WellFormed.{AreWellFormed};
 ghost use Rattle.saphyr_machine.specs.Steps.Machine.{Machine, Told, ending_refusal};
 ghost use Rattle.saphyr_machine.specs.Steps.Expected.{event_step};
@@ -55,7 +55,7 @@ use json_laws::scans_each_json;
 pub use later::{
     keeps_spans_later, keeps_spans_over_load, leaves_later_parsers, loads_later_parsers,
 };
-use layout_laws::{scans_breaks_alike, scans_each_layout_text};
+use yaml_laws::{scans_breaks_alike, scans_each_yaml_text};
 use saphyr_scanner::law::bounds_tokens;
 
 /// A node comes in preorder, between the events of its document and of the stream.
@@ -164,17 +164,17 @@ pub fn takes_no_other_span()
 
 /// A text has one meaning: all forests that stand for it have the same events, where they have any. So it is
 /// of each grammar whose texts a parser reads, since its one list is the events of each of their forests: of the
-/// layout grammar, of JSON, and where a text is one of both.
+/// grammar of YAML, of JSON, and where a text is one of both.
 pub fn has_one_meaning()
-    ensures layout { (text : List ℕ) → length text ≤ most_characters
-        → HasOneMeaning (IsLayoutText most_open) text }
+    ensures yaml { (text : List ℕ) → length text ≤ most_characters
+        → HasOneMeaning (IsYamlText most_open) text }
     ensures json { (text : List ℕ) → length text ≤ most_characters
         → HasOneMeaning (IsShallowJson most_open) text }
     ensures both { (text : List ℕ) → length text ≤ most_characters
-        → MeanTheSame (IsShallowJson most_open) (IsLayoutText most_open) text }
+        → MeanTheSame (IsShallowJson most_open) (IsYamlText most_open) text }
 {
     scans_each_json();
-    scans_each_layout_text();
+    scans_each_yaml_text();
     bounds_tokens();
     gives_json();
 }
@@ -188,22 +188,22 @@ pub fn closes_at_markers()
         examples.start_events }
 {}
 
-/// The line `---` has all the premises of the promise on the layout grammar, and is a closed beginning, behind
+/// The line `---` has all the premises of the promise on YAML's grammar, and is a closed beginning, behind
 /// byte order marks too: where the promises hold, a parser gives its events, and where `[` follows those up to the
 /// document's start.
-pub fn closes_layout()
-    ensures closed { (keep : Bool) → IsClosed (IsLayoutText most_open) IsLineRest 100 keep
+pub fn closes_yaml()
+    ensures closed { (keep : Bool) → IsClosed (IsYamlText most_open) IsLineRest 100 keep
         (codes "---\n[") examples.start_events }
-    ensures marked { (keep : Bool) → IsClosed (IsLayoutText most_open) IsLineRest 100 keep
+    ensures marked { (keep : Bool) → IsClosed (IsYamlText most_open) IsLineRest 100 keep
         (codes "\u{feff}---\n[") examples.start_events }
-    ensures twice { (keep : Bool) → IsClosed (IsLayoutText most_open) IsLineRest 100 keep
+    ensures twice { (keep : Bool) → IsClosed (IsYamlText most_open) IsLineRest 100 keep
         (codes "\u{feff}\n\u{feff}---\n[") examples.start_events }
-    ensures behind { (keep : Bool) → IsClosed (IsLayoutText most_open) IsLineRest 100 keep
+    ensures behind { (keep : Bool) → IsClosed (IsYamlText most_open) IsLineRest 100 keep
         (codes "---\n...\n\u{feff}---\n[") examples.two_starts_events }
-    ensures alone { (parser : EventCursor) (keep : Bool) → ReadsLayout 100 (codes "---\n") parser
+    ensures alone { (parser : EventCursor) (keep : Bool) → ReadsYaml 100 (codes "---\n") parser
         → GivesExactly examples.start_told (to_come (keeping_tags keep parser)) }
     ensures followed { (parser : EventCursor) (keep : Bool)
-        → ReadsClosedLayout 100 (codes "---\n[") parser
+        → ReadsClosedYaml 100 (codes "---\n[") parser
         → GivesFirst examples.start_events (to_come (keeping_tags keep parser)) }
 {}
 

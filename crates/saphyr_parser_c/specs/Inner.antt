@@ -9,7 +9,7 @@ use Rattle.saphyr_parser.specs.Types.Fault.{Fault}
 use Rattle.saphyr_scanner.specs.Steps.Remaining.{scan}
 use Rattle.saphyr_parser.specs.Calls.{EndsTheStream, GivesNext, Peeks}
 use Rattle.saphyr_parser.specs.Cursor.{EventCursor, HandsOutNext, at_start, keeping_tags, to_come}
-use Rattle.saphyr_parser.specs.Promises.{KeepsSpans, ReadsClosedLayout, ReadsJson, ReadsLayout, TakesEvents}
+use Rattle.saphyr_parser.specs.Promises.{KeepsSpans, ReadsClosedYaml, ReadsJson, ReadsYaml, TakesEvents}
 use Rattle.saphyr_parser_c.specs.declared.inner.Inner.{Inner}
 use Rattle.saphyr_parser_c.specs.declared.shown.CEvent.{CEvent}
 use Rattle.saphyr_parser_c.specs.declared.status.Status.{Status}
@@ -21,8 +21,8 @@ use Rattle.saphyr_parser_c.specs.Shown.{TellsC, TellsLent}
 pub record Promises (text : List ℕ) (parser : EventCursor) : Type 0 where
   pub decided : parser ≡ at_start (scan most_characters text)
   pub json : ReadsJson most_characters text parser
-  pub layout : ReadsLayout most_characters text parser
-  pub closed : ReadsClosedLayout most_characters text parser
+  pub yaml : ReadsYaml most_characters text parser
+  pub closed : ReadsClosedYaml most_characters text parser
   pub spans : KeepsSpans text parser
   pub taken : TakesEvents text parser
 

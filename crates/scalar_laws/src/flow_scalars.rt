@@ -9,19 +9,19 @@ ghost use Rattle.saphyr_scalar.specs.declared.scalar.position.Marker.{Marker};
 ghost use Rattle.saphyr_scalar.specs.Views.Cursor.{Cursor, along};
 ghost use Rattle.saphyr_scalar.specs.Steps.Quoted.{double_quoted, quoted, mid_line};
 ghost use Rattle.saphyr_scalar.specs.Spelling.Quoted.{IsQuotedText};
-ghost use Rattle.scalar_values.specs.Flow as flow;
-ghost use Rattle.scalar_values.specs.Flow.{plain_value};
+ghost use Rattle.saphyr_values.specs.Flow as flow;
+ghost use Rattle.saphyr_values.specs.Flow.{plain_value};
 ghost use Rattle.saphyr_scalar.specs.Passing.{IsPassed};
 ghost use Rattle.scalar_laws.specs.Spelling.QuotedLines.{AreOnLine, LinesFit};
 ghost use Rattle.saphyr_input.specs.Breaks.{normalized};
-ghost use Rattle.scalar_values.specs.Folding.{folded};
+ghost use Rattle.saphyr_values.specs.Folding.{folded};
 ghost use Rattle.saphyr_scalar.specs.Spelling.OneLine.{IsDoubleQuoted};
 ghost use Rattle.saphyr_scalar.specs.Steps.Plain.{is_in_word, plain, comment_of};
 ghost use Rattle.saphyr_scalar.specs.Reading.Plain.{end_of_text};
 ghost use Rattle.scalar_laws.specs.Spelling.Plain.{IsPlainWord, EndsPlain, IsPlainText, is_tabbed, past_white};
 
 use saphyr_scalar::Marker;
-use scalar_values::{Item, Quote};
+use saphyr_values::{Item, Quote};
 
 /// Where a double quoted scalar is spelled on one line, it is read, without a fault and whatever the
 /// indentation: its characters, and what stands behind it.

@@ -268,7 +268,7 @@ fails_in_document (fault.TooManyNodes place most) limits before all left at on h
 fails_in_document (fault.TooDeep place most) limits before all left at on h =
     stops_in_document (fault.TooDeep place most) limits before all left at (λ hs p w. w) h
 
--- ## Want of memory before the first event
+-- ## Lack of memory before the first event
 
 nothing_before : {X : Type 0} (xs ys : List X) (y : X) → [] ≡ xs ++ (y ∷ ys) → ⊥
 nothing_before [] ys y e = cc

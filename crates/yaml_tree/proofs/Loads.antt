@@ -144,7 +144,7 @@ loads_none limits all left (fault.Parse g) b h = h
 loads_none limits all left (fault.TooManyNodes at most) b h = h
 loads_none limits all left (fault.TooDeep at most) b h = h
 
--- ## Want of memory before the first event
+-- ## Lack of memory before the first event
 
 nothing_before : {X : Type 0} (xs ys : List X) (y : X) → [] ≡ xs ++ (y ∷ ys) → ⊥
 nothing_before [] ys y e = cc

@@ -90,7 +90,7 @@ exceeds limits events h place old (fault.Parse f) t c = absurd c
 exceeds limits events h place old fault.OutOfMemory t c = absurd c
 exceeds limits events h place old fault.NotFresh t c = absurd c
 
--- an event within the limits is not taken for want of memory
+-- an event within the limits is not taken for lack of memory
 pub lacks_memory : (limits : Limits) (events : List Happening) (h : Happening) (place : Marker) (old : Loader)
     (t : Tally) → HasTaken limits events old
     → Tallies (Ok tt) (counts_behind h (counts_of old.tally)) place old.tally t

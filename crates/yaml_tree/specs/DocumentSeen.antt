@@ -30,7 +30,7 @@ use Rattle.yaml_tree.specs.DocumentLoading.{IsBetween, with_stream_start, EndNoD
 abbrev pub GoesOnBehind : List Happening → Answer → Type 0
 GoesOnBehind before a = IsBetween a × (with_stream_start (happenings a.events) ≡ before ++ happenings a.events)
 
--- What a look finds, where only want of memory changes what is to come.
+-- What a look finds, where only lack of memory changes what is to come.
 abbrev pub StandsAt : Place → Answer → Answer → Type 0
 StandsAt BeforeStream all mid = Stays all mid × GoesOnBehind [] mid
 StandsAt Between all mid = Stays all mid × GoesOnBehind (StreamStart ∷ []) mid

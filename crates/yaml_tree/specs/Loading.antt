@@ -62,7 +62,7 @@ LoadsDocuments limits (Err f) all left = FailsToLoad limits f all left
 
 -- ## Steps of a call
 
--- whether nothing was handed out, where only want of memory changes what is to come
+-- whether nothing was handed out, where only lack of memory changes what is to come
 abbrev pub BeginsSo : Bool → Answer → Answer → Type 0
 BeginsSo true all mid = Stays all mid × IsAtStart mid
 BeginsSo false all mid = IsLate all mid

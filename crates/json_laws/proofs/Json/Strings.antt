@@ -5,7 +5,7 @@ use Rattle.std.proofs.lemmas.Bool.Decides.{nat_tests}
 use Rattle.std.proofs.lemmas.List.{length-append}
 use Rattle.saphyr_input.specs.Indicators.{quotation_mark}
 use Rattle.saphyr_input.specs.Classes.{IsHex, is_hex, hex_value}
-use Rattle.scalar_values.specs.Escapes.{is_scalar_value, short_escape}
+use Rattle.saphyr_values.specs.Escapes.{is_scalar_value, short_escape}
 use Rattle.saphyr_scalar.specs.declared.scalar.fault.Refusal.{Refusal}
 use Rattle.saphyr_scalar.specs.Views.Cursor.{Cursor, along}
 use Rattle.saphyr_scalar.specs.Steps.Quoted.{mid_line}

@@ -3,7 +3,7 @@ use Rattle.std.proofs.Common.{◌≡◌, ℕ, ◌≤◌, List, take, subst, arit
 use Rattle.std.proofs.lemmas.List.{take_all}
 use Rattle.saphyr_machine.specs.Cursor.{EventCursor}
 use Rattle.saphyr_parser.specs.Premises.{Grammar, ReadsEach}
-use Rattle.saphyr_parser.specs.Promises.{ReadsClosedLayout}
+use Rattle.saphyr_parser.specs.Promises.{ReadsClosedYaml}
 
 pub reads_whole : (G : Grammar) (limit bound : ℕ) (text : List ℕ) (parser : EventCursor) → limit ≤ bound
     → ReadsEach G limit (take bound text) parser → ReadsEach G limit text parser
@@ -14,8 +14,8 @@ reads_whole G limit bound text parser within reads forest keep told promised =
 
 -- the same of a closed beginning
 pub reads_whole_closed : (limit bound : ℕ) (text : List ℕ) (parser : EventCursor) → limit ≤ bound
-    → ReadsClosedLayout limit (take bound text) parser → ReadsClosedLayout limit text parser
+    → ReadsClosedYaml limit (take bound text) parser → ReadsClosedYaml limit text parser
 reads_whole_closed limit bound text parser within reads keep first closed =
     let short = closed.within in
     let whole : take bound text ≡ text = take_all bound text (omega (arith, short)) in
-    subst (λ (cs : List ℕ). ReadsClosedLayout limit cs parser) whole reads keep first closed
+    subst (λ (cs : List ℕ). ReadsClosedYaml limit cs parser) whole reads keep first closed

@@ -3,12 +3,12 @@ use Rattle.std.proofs.Common.{◌≡◌, ◌⊎◌, ℕ, Bool, true, false, List
 use Rattle.saphyr_input.specs.Indicators.{apostrophe, quotation_mark}
 use Rattle.saphyr_input.specs.Classes.{is_break}
 use Rattle.saphyr_input.specs.Places.{is_document_indicator}
-use Rattle.scalar_values.specs.declared.folding.Item.{Item}
-use Rattle.scalar_values.specs.declared.flow.Quote.{Quote}
-use Rattle.scalar_values.specs.declared.flow.Quote.TheVariants.{Single, Double}
+use Rattle.saphyr_values.specs.declared.folding.Item.{Item}
+use Rattle.saphyr_values.specs.declared.flow.Quote.{Quote}
+use Rattle.saphyr_values.specs.declared.flow.Quote.TheVariants.{Single, Double}
 use Rattle.saphyr_scalar.specs.declared.scalar.style.ScalarStyle.TheVariants.{DoubleQuoted}
 use Rattle.saphyr_scalar.specs.Views.Cursor.{start_cursor}
-use Rattle.scalar_values.specs.Flow.{mark}
+use Rattle.saphyr_values.specs.Flow.{mark}
 use Rattle.saphyr_scalar.specs.Steps.Quoted.{break_len}
 use Rattle.saphyr_scalar.specs.Spelling.QuotedMarkers.{HasNoMarker}
 use Rattle.saphyr_scalar.specs.Spelling.Quoted.{IsText, closed, itself, broken, two_quotes, escaped, numbered, escaped_break, stands_for_itself}

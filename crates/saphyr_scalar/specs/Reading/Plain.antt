@@ -7,7 +7,7 @@ use Rattle.saphyr_input.specs.Indicators.{colon, number_sign}
 use Rattle.saphyr_scalar.specs.Spelling.Tag.{AreIn}
 use Rattle.saphyr_scalar.specs.declared.scalar.position.Marker.{Marker}
 use Rattle.saphyr_scalar.specs.Views.Cursor.{Cursor, along, next_line}
-use Rattle.scalar_values.specs.Flow.{plain_value}
+use Rattle.saphyr_values.specs.Flow.{plain_value}
 use Rattle.saphyr_scalar.specs.Spelling.LineBreaks.{ends_line}
 
 -- the place behind a text that begins at a place: a line more behind each break, and else a column more

@@ -5,10 +5,10 @@ use Rattle.saphyr_input.specs.Classes.{is_z, is_break, is_breakz, is_blank, is_d
 use Rattle.saphyr_input.specs.Places.{is_document_indicator}
 use Rattle.saphyr_input.specs.declared.input.SkipTabs.TheVariants.{Yes}
 use Rattle.saphyr_input.specs.Indicators.{hyphen, plus_sign}
-use Rattle.scalar_values.specs.declared.block.BlockStyle.{BlockStyle}
-use Rattle.scalar_values.specs.declared.block.BlockStyle.TheVariants.{Literal, Folded}
-use Rattle.scalar_values.specs.declared.block.Chomping.{Chomping}
-use Rattle.scalar_values.specs.declared.block.Chomping.TheVariants.{Strip, Clip, Keep}
+use Rattle.saphyr_values.specs.declared.block.BlockStyle.{BlockStyle}
+use Rattle.saphyr_values.specs.declared.block.BlockStyle.TheVariants.{Literal, Folded}
+use Rattle.saphyr_values.specs.declared.block.Chomping.{Chomping}
+use Rattle.saphyr_values.specs.declared.block.Chomping.TheVariants.{Strip, Clip, Keep}
 use Rattle.saphyr_scalar.specs.declared.scalar.position.Marker.{Marker}
 use Rattle.saphyr_scalar.specs.declared.scalar.position.Span.{Span}
 use Rattle.saphyr_scalar.specs.declared.scalar.fault.Refusal.{Refusal}
@@ -18,7 +18,7 @@ use Rattle.saphyr_scalar.specs.declared.scalar.block.header.BlockHeader.{BlockHe
 use Rattle.saphyr_scalar.specs.declared.scalar.block.lines.EmptyLines.{EmptyLines}
 use Rattle.saphyr_scalar.specs.declared.scalar.block.breaks.BlockEnd.{BlockEnd}
 use Rattle.saphyr_scalar.specs.Views.Cursor.{Cursor, ◌>>=◌, refuse, along, next_line, pass, pass_break, pass_comment, separation}
-use Rattle.scalar_values.specs.Folding.{line_feeds, raw_break}
+use Rattle.saphyr_values.specs.Folding.{line_feeds, raw_break}
 
 -- 8.1.1.2: the chomping indicator that stands first, where one does, and what stands behind it
 unfoldable pub chomping : Cursor → Option Chomping × Cursor

@@ -17,7 +17,7 @@ use crate::scalar::reader::Reader;
 pub use law::reads_block_texts;
 use saphyr_input::char_traits::is_z;
 use saphyr_input::input::Input;
-use scalar_values::{BlockStyle, Chomping};
+use saphyr_values::{BlockStyle, Chomping};
 use std::alloc::{AllocError, Global};
 
 /// The text of a block scalar, and where it stands.

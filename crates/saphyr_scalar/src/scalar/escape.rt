@@ -9,7 +9,7 @@ use crate::scalar::position::Marker;
 use crate::scalar::reader::Reader;
 use saphyr_input::char_traits::{as_hex, is_hex};
 use saphyr_input::input::Input;
-use scalar_values::{digit_count, short_escape};
+use saphyr_values::{digit_count, short_escape};
 
 impl<T: Input> Reader<T> {
     ghost use Rattle.saphyr_scalar.specs.Views.Reader.{cursor_of, GivesBy};

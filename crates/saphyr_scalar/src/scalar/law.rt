@@ -6,7 +6,7 @@ ghost use Rattle.saphyr_input.specs.Indicators.{exclamation_mark, percent_sign};
 ghost use Rattle.saphyr_input.specs.Classes.{is_break, is_z};
 ghost use Rattle.saphyr_input.specs.Places.{is_blank_or_break};
 ghost use Rattle.saphyr_scalar.specs.declared.scalar.position.Marker.{Marker};
-ghost use Rattle.scalar_values.specs.declared.block.BlockStyle.{BlockStyle};
+ghost use Rattle.saphyr_values.specs.declared.block.BlockStyle.{BlockStyle};
 ghost use Rattle.saphyr_scalar.specs.declared.scalar.position.Span.{Span};
 ghost use Rattle.saphyr_scalar.specs.Steps.Anchor.{anchor};
 ghost use Rattle.saphyr_scalar.specs.Steps.Block.{block_scalar};
@@ -16,17 +16,17 @@ ghost use Rattle.saphyr_scalar.specs.Steps.Tag.{tag};
 ghost use Rattle.saphyr_scalar.specs.Views.Cursor.{Cursor};
 ghost use Rattle.saphyr_scalar.specs.Steps.Quoted.{quoted};
 ghost use Rattle.saphyr_scalar.specs.Spelling.Quoted.{IsQuotedText};
-ghost use Rattle.scalar_values.specs.Flow as flow;
+ghost use Rattle.saphyr_values.specs.Flow as flow;
 ghost use Rattle.saphyr_scalar.specs.Spelling.LaterLines.{ArePlainLines};
 ghost use Rattle.saphyr_scalar.specs.Spelling.IndentedQuotes.{HasIndentedLines};
 ghost use Rattle.saphyr_scalar.specs.Spelling.QuotedMarkers.{HasNoMarker};
 ghost use Rattle.saphyr_scalar.specs.Passing.{IsPassed};
-ghost use Rattle.scalar_values.specs.Folding.{folded};
+ghost use Rattle.saphyr_values.specs.Folding.{folded};
 ghost use Rattle.saphyr_scalar.specs.Steps.Plain.{plain};
 ghost use Rattle.saphyr_scalar.specs.Reading.Plain.{IsPlainReading};
 
 use crate::scalar::position::Marker;
-use scalar_values::{Item, Quote};
+use saphyr_values::{Item, Quote};
 
 /// What is read as a quoted scalar is spelled so, what is left stands behind it, its text is the
 /// reading of what it spells, its lines folded, and its place is told of each character and break.

@@ -7,14 +7,14 @@ mod words;
 ghost use Rattle.std.specs.Prelude.{◌≡◌, slice_index, string_bytes};
 ghost use Rattle.saphyr_input.specs.Indicators.{apostrophe, quotation_mark};
 ghost use Rattle.saphyr_scalar.specs.Steps.Quoted as spec;
-ghost use Rattle.scalar_values.specs.Flow as flow;
+ghost use Rattle.saphyr_values.specs.Flow as flow;
 
 use crate::scalar::fault::Stop;
 use crate::scalar::position::Marker;
 use crate::scalar::reader::Reader;
 use crate::scalar::spare::FIRST_ROOM;
 use saphyr_input::input::Input;
-use scalar_values::Quote;
+use saphyr_values::Quote;
 use std::alloc::Global;
 
 impl<T: Input> Reader<T> {

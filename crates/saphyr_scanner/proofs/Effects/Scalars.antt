@@ -3,11 +3,11 @@ use Rattle.std.proofs.Common.{◌≡◌, ◌≢◌, ℕ, ◌-◌, ◌≤◌, ◌
 use Rattle.std.specs.Prelude.{◌&&◌, ◌||◌, ◌==◌, slice_index, not, nat_lt, codes}
 use Rattle.saphyr_input.specs.Classes.{is_break, is_blank_or_breakz, is_one_of}
 use Rattle.saphyr_input.specs.Places.{is_blank_or_break}
-use Rattle.scalar_values.specs.declared.block.BlockStyle.{BlockStyle}
-use Rattle.scalar_values.specs.declared.block.BlockStyle.TheVariants as block_style
-use Rattle.scalar_values.specs.declared.flow.Quote.{Quote}
-use Rattle.scalar_values.specs.declared.flow.Quote.TheVariants.{Single, Double}
-use Rattle.scalar_values.specs.Flow.{mark}
+use Rattle.saphyr_values.specs.declared.block.BlockStyle.{BlockStyle}
+use Rattle.saphyr_values.specs.declared.block.BlockStyle.TheVariants as block_style
+use Rattle.saphyr_values.specs.declared.flow.Quote.{Quote}
+use Rattle.saphyr_values.specs.declared.flow.Quote.TheVariants.{Single, Double}
+use Rattle.saphyr_values.specs.Flow.{mark}
 use Rattle.saphyr_scalar.specs.declared.scalar.position.Marker.{Marker}
 use Rattle.saphyr_scalar.specs.declared.scalar.position.Span.{Span}
 use Rattle.saphyr_scalar.specs.declared.scalar.style.ScalarStyle.{ScalarStyle}

@@ -4,9 +4,9 @@ use Rattle.std.specs.Prelude.{◌&&◌, ◌==◌, not}
 use Rattle.std.proofs.lemmas.Bool.{false≢true, or_parts, not-true}
 use Rattle.saphyr_input.specs.Classes.{is_break, is_breakz, is_z}
 use Rattle.saphyr_input.proofs.Basics.Booleans.{by_test, and_true_left, and_false}
-use Rattle.scalar_values.specs.declared.folding.Item.{Item}
-use Rattle.scalar_values.specs.declared.flow.Quote.{Quote}
-use Rattle.scalar_values.specs.Flow.{mark, is_special}
+use Rattle.saphyr_values.specs.declared.folding.Item.{Item}
+use Rattle.saphyr_values.specs.declared.flow.Quote.{Quote}
+use Rattle.saphyr_values.specs.Flow.{mark, is_special}
 use Rattle.saphyr_scalar.specs.declared.scalar.position.Marker.{Marker}
 use Rattle.saphyr_scalar.specs.Passing.{IsPassed, nothing, character, line_break}
 use Rattle.saphyr_scalar.specs.Reading.Plain.{end_of_text, IsPlainReading}

@@ -23,7 +23,7 @@ use crate::token::{Token, TokenType};
 use saphyr_input::char_traits::{is_blank_or_breakz, is_bom, is_flow, is_z};
 use saphyr_input::input::Input;
 use saphyr_scalar::{FaultText, Stop};
-use scalar_values::BlockStyle;
+use saphyr_values::BlockStyle;
 use std::alloc::AllocError;
 
 impl<T: Input> Engine<T> {

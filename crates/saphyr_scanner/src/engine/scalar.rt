@@ -17,7 +17,7 @@ use crate::token::TokenType;
 use saphyr_input::char_traits::is_breakz;
 use saphyr_input::input::Input;
 use saphyr_scalar::{FaultText, Marker, ScalarStyle, Stop};
-use scalar_values::BlockStyle;
+use saphyr_values::BlockStyle;
 
 impl<T: Input> Engine<T> {
     ghost use Rattle.saphyr_scanner.specs.Views.Engine.{state, ActsBy};

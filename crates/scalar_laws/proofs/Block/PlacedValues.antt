@@ -4,17 +4,17 @@ use Rattle.std.specs.Prelude.{◌&&◌, max, Option, Some}
 use Rattle.std.proofs.lemmas.Bool.Decides.{nat_tests}
 use Rattle.std.proofs.lemmas.List.{append-nil}
 use Rattle.saphyr_input.specs.Classes.{is_blank, line_feed}
-use Rattle.scalar_values.specs.declared.block.BlockStyle.{BlockStyle}
+use Rattle.saphyr_values.specs.declared.block.BlockStyle.{BlockStyle}
 use Rattle.saphyr_scalar.specs.declared.scalar.position.Marker.{Marker}
 use Rattle.saphyr_scalar.specs.Views.Cursor.{Cursor, along, next_line}
 use Rattle.saphyr_scalar.specs.Steps.Block.{line_cursor, break_before, LinesRead, lines_behind_text, between, tail, is_unfinished}
 use Rattle.saphyr_scalar.specs.Reading.BlockLines.{spaces}
 use Rattle.saphyr_scalar.proofs.Block.Values.{cut_tail, same_break}
 use Rattle.scalar_laws.specs.Spelling.Block.{IsContent, AreLines, no_lines, empty, content, last, last_empty, left_of, IsBehind}
-use Rattle.scalar_values.specs.declared.block.Chomping.{Chomping}
-use Rattle.scalar_values.specs.declared.block.Chomping.TheVariants.{Strip, Clip, Keep}
-use Rattle.scalar_values.specs.Block as reading
-use Rattle.scalar_values.specs.Block.{Line, is_more_indented, contents_behind, empty_at_end}
+use Rattle.saphyr_values.specs.declared.block.Chomping.{Chomping}
+use Rattle.saphyr_values.specs.declared.block.Chomping.TheVariants.{Strip, Clip, Keep}
+use Rattle.saphyr_values.specs.Block as reading
+use Rattle.saphyr_values.specs.Block.{Line, is_more_indented, contents_behind, empty_at_end}
 use Rattle.saphyr_input.specs.Classes.{is_z}
 use Rattle.std.proofs.Common.{nat_le, append_assoc, add-one}
 use Rattle.scalar_laws.proofs.Block.Places.{spaces_on, feed_on, line_feed_on, line_end_on, spaces_end, behind_same, begun_on}

@@ -5,7 +5,7 @@ use Rattle.std.proofs.lemmas.Bool.Decides.{nat_tests}
 use Rattle.std.proofs.lemmas.List.{append-nil}
 use Rattle.saphyr_input.specs.Classes.{is_blank, is_break, is_yaml_non_break, line_feed, carriage_return}
 use Rattle.saphyr_input.specs.Places.{is_document_indicator}
-use Rattle.scalar_values.specs.declared.block.BlockStyle.{BlockStyle}
+use Rattle.saphyr_values.specs.declared.block.BlockStyle.{BlockStyle}
 use Rattle.saphyr_scalar.specs.Spelling.Tag.{AreIn}
 use Rattle.saphyr_scalar.specs.declared.scalar.position.Marker.{Marker}
 use Rattle.saphyr_scalar.specs.Views.Cursor.{along, next_line}
@@ -13,7 +13,7 @@ use Rattle.saphyr_scalar.specs.Reading.BlockLines.{spaces}
 use Rattle.saphyr_scalar.specs.Steps.Block.{line_cursor, is_indentation, line_starts, break_before, LinesRead, lines_behind_text, lines_ended, between, line}
 use Rattle.saphyr_scalar.proofs.Moving.{along_none, along_more}
 use Rattle.scalar_laws.specs.Spelling.Block.{IsContent, AreLines, no_lines, empty, content, last, last_empty, left_of, IsBehind}
-use Rattle.scalar_values.specs.Block.{Line}
+use Rattle.saphyr_values.specs.Block.{Line}
 use Rattle.saphyr_scalar.proofs.Block.Turns.{line_begins, line_on, no_line_at}
 use Rattle.saphyr_input.proofs.Basics.Booleans.{and_false}
 use Rattle.std.proofs.lemmas.Bool.{ne_eqb}

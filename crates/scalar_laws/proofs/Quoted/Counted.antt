@@ -5,9 +5,9 @@ use Rattle.saphyr_input.specs.Classes.{is_break, is_blank}
 use Rattle.saphyr_input.specs.Places.{next_2_are}
 use Rattle.saphyr_scalar.specs.declared.scalar.position.Marker.{Marker}
 use Rattle.saphyr_scalar.specs.declared.scalar.fault.Refusal.{Refusal}
-use Rattle.scalar_values.specs.declared.flow.Quote.{Quote}
-use Rattle.scalar_values.specs.declared.flow.Quote.TheVariants.{Single, Double}
-use Rattle.scalar_values.specs.Flow as flow
+use Rattle.saphyr_values.specs.declared.flow.Quote.{Quote}
+use Rattle.saphyr_values.specs.declared.flow.Quote.TheVariants.{Single, Double}
+use Rattle.saphyr_values.specs.Flow as flow
 use Rattle.saphyr_scalar.specs.Views.Cursor.{Cursor, ◌>>=◌, along, next_line, pass}
 use Rattle.saphyr_scalar.specs.Steps.Quoted.{TextRead, QuotedGap, no_gap, is_literal, hex_digit_count, escaped_character, special, special_len, blank_in, break_in, end_gap, break_len, if_some, with_front, mid_line, inner_text, quoted}
 use Rattle.saphyr_scalar.proofs.Quoted.Escapes.{escape_place}

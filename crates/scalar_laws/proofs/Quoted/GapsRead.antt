@@ -3,11 +3,11 @@ use Rattle.std.proofs.Common.{◌≡◌, ℕ, Bool, true, false, List, ◌∷◌
 use Rattle.std.specs.Prelude.{◌&&◌, ◌==◌, encode_utf8}
 use Rattle.saphyr_input.specs.Classes.{is_blank, is_break, tab}
 use Rattle.saphyr_scalar.specs.declared.scalar.position.Marker.{Marker}
-use Rattle.scalar_values.specs.declared.folding.Item.{Item}
-use Rattle.scalar_values.specs.declared.folding.Item.TheVariants.{Blank, Raw, Break}
-use Rattle.scalar_values.specs.declared.flow.Quote.{Quote}
+use Rattle.saphyr_values.specs.declared.folding.Item.{Item}
+use Rattle.saphyr_values.specs.declared.folding.Item.TheVariants.{Blank, Raw, Break}
+use Rattle.saphyr_values.specs.declared.flow.Quote.{Quote}
 use Rattle.saphyr_scalar.specs.Views.Cursor.{along, next_line}
-use Rattle.scalar_values.specs.Flow as flow
+use Rattle.saphyr_values.specs.Flow as flow
 use Rattle.saphyr_scalar.specs.Passing.{character, line_break}
 use Rattle.saphyr_scalar.specs.Steps.Quoted.{mid_line, QuotedGap, on_line, over_lines, no_gap, is_left, blank_in, break_in, break_len, inner_text, inner_text_at}
 use Rattle.saphyr_scalar.specs.Spelling.Quoted as quotes

@@ -3,12 +3,12 @@ use Rattle.std.proofs.Common.{◌≡◌, ℕ, ◌+◌, Bool, true, false, List, 
 use Rattle.std.specs.Prelude.{◌||◌, ◌&&◌, ◌==◌, not}
 use Rattle.saphyr_input.specs.Classes.{is_break}
 use Rattle.saphyr_scalar.specs.declared.scalar.position.Marker.{Marker}
-use Rattle.scalar_values.specs.declared.folding.Item.{Item}
-use Rattle.scalar_values.specs.declared.flow.Quote.{Quote}
-use Rattle.scalar_values.specs.declared.flow.Quote.TheVariants.{Single, Double}
+use Rattle.saphyr_values.specs.declared.folding.Item.{Item}
+use Rattle.saphyr_values.specs.declared.flow.Quote.{Quote}
+use Rattle.saphyr_values.specs.declared.flow.Quote.TheVariants.{Single, Double}
 use Rattle.saphyr_scalar.specs.Views.Cursor.{Cursor, along}
-use Rattle.scalar_values.specs.Flow as flow
-use Rattle.scalar_values.specs.Folding.{folded}
+use Rattle.saphyr_values.specs.Flow as flow
+use Rattle.saphyr_values.specs.Folding.{folded}
 use Rattle.saphyr_scalar.specs.Passing.{IsPassed, nothing, character}
 use Rattle.saphyr_scalar.specs.Steps.Quoted.{mid_line, quoted}
 use Rattle.saphyr_scalar.specs.Spelling.Quoted as quotes

@@ -3,9 +3,9 @@
 
 ghost use Rattle.std.specs.Prelude.{◌≡◌, ◌+◌, ◌++◌, string_bytes, OnOk, encode_utf8_all};
 ghost use Rattle.saphyr_scalar.specs.Steps.Block as spec;
-ghost use Rattle.scalar_values.specs.Folding.{line_feeds};
+ghost use Rattle.saphyr_values.specs.Folding.{line_feeds};
 
-use scalar_values::{BlockStyle, Chomping};
+use saphyr_values::{BlockStyle, Chomping};
 use std::alloc::AllocError;
 
 // What stands behind the last content: whether a break ends its line, and the empty lines.

@@ -8,7 +8,7 @@ use crate::scalar::position::Marker;
 use crate::scalar::reader::Reader;
 use saphyr_input::char_traits::{is_breakz, is_digit};
 use saphyr_input::input::{Input, SkipTabs};
-use scalar_values::Chomping;
+use saphyr_values::Chomping;
 
 // What a header says: the indicator of the indentation is 0 where none stands.
 #[derive(Clone, Copy)]

@@ -8,7 +8,7 @@ ghost use Rattle.saphyr_scalar.specs.Steps.Block.{block_scalar};
 ghost use Rattle.saphyr_scalar.specs.Reading.BlockText.{IsBlockText};
 
 use crate::scalar::position::Span;
-use scalar_values::BlockStyle;
+use saphyr_values::BlockStyle;
 
 /// What is read as a block scalar is one: a header's line and lines, of which its text is the value.
 /// No content stands before its span.

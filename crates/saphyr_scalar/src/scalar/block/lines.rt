@@ -10,7 +10,7 @@ use crate::scalar::reader::Reader;
 use saphyr_input::char_set::NonBreak;
 use saphyr_input::char_traits::{is_break, is_yaml_non_break};
 use saphyr_input::input::Input;
-use scalar_values::BlockStyle;
+use saphyr_values::BlockStyle;
 
 // Lines of spaces alone: how many breaks end them, and the column that the longest reaches.
 #[derive(Clone, Copy)]

@@ -4,14 +4,14 @@
 ghost use Rattle.std.specs.Prelude.{◌≡◌, ℕ, Bool, false, ◌==◌, ◌++◌, slice_index, string_bytes, encode_utf8_all, OnOk, IsTrue};
 ghost use Rattle.saphyr_input.specs.Classes as class;
 ghost use Rattle.saphyr_scalar.specs.Steps.Quoted as spec;
-ghost use Rattle.scalar_values.specs.Flow as flow;
+ghost use Rattle.saphyr_values.specs.Flow as flow;
 
 use crate::scalar::fault::{FaultText, Refusal, Stop};
 use crate::scalar::position::Marker;
 use crate::scalar::reader::Reader;
 use saphyr_input::char_traits::{is_blank, is_break, is_z};
 use saphyr_input::input::Input;
-use scalar_values::Quote;
+use saphyr_values::Quote;
 use std::alloc::AllocError;
 
 // Moves what a line break and the empty lines behind it read as to the end of a text.

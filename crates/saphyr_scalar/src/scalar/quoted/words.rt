@@ -13,7 +13,7 @@ use crate::scalar::reader::Reader;
 use saphyr_input::char_set::{CharSet, SpacedSet};
 use saphyr_input::char_traits::{is_blank_or_breakz, is_break};
 use saphyr_input::input::Input;
-use scalar_values::Quote;
+use saphyr_values::Quote;
 use std::alloc::AllocError;
 
 // Whether a character between the quotes stands for itself and is no blank.

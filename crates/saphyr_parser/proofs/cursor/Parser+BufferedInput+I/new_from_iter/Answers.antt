@@ -1,7 +1,7 @@
 use Rattle.std.proofs.Common.{ℕ, List, subst, arith}
 use Rattle.saphyr_scanner.specs.Limits.{most_open}
-use Rattle.layout_laws.specs.Grammar.Layout.{IsLayoutText}
-use Rattle.saphyr_parser.specs.Promises.{IsShallowJson, KeepsSpans, ReadsClosedLayout, ReadsJson, ReadsLayout, TakesEvents}
+use Rattle.yaml_laws.specs.Grammar.Yaml.{IsYamlText}
+use Rattle.saphyr_parser.specs.Promises.{IsShallowJson, KeepsSpans, ReadsClosedYaml, ReadsJson, ReadsYaml, TakesEvents}
 use Rattle.saphyr_parser.proofs.Promises.WithinLimit.{reads_whole, reads_whole_closed}
 use Rattle.saphyr_parser.proofs.cursor.Parser+BufferedInput+I.new_from_iter.Goals as goal
 
@@ -21,14 +21,14 @@ returns-clause-taken g c =
     λ text lists. subst (λ (cs : List ℕ). TakesEvents cs c.new-2.result) (c.in_ok-new.ensures.rest text lists)
     c.new-2.ensures.taken
 
-pub returns-clause-layout : goal.returns-clause-layout
-returns-clause-layout g c =
-    λ text lists. reads_whole (IsLayoutText most_open) 4294967295 4294967296 text c.new-2.result (omega arith)
-    (subst (λ (cs : List ℕ). ReadsLayout 4294967295 cs c.new-2.result) (c.in_ok-new.ensures.rest text lists)
-    c.new-2.ensures.layout)
+pub returns-clause-yaml : goal.returns-clause-yaml
+returns-clause-yaml g c =
+    λ text lists. reads_whole (IsYamlText most_open) 4294967295 4294967296 text c.new-2.result (omega arith)
+    (subst (λ (cs : List ℕ). ReadsYaml 4294967295 cs c.new-2.result) (c.in_ok-new.ensures.rest text lists)
+    c.new-2.ensures.yaml)
 
 pub returns-clause-closed : goal.returns-clause-closed
 returns-clause-closed g c =
     λ text lists. reads_whole_closed 4294967295 4294967296 text c.new-2.result (omega arith)
-    (subst (λ (cs : List ℕ). ReadsClosedLayout 4294967295 cs c.new-2.result) (c.in_ok-new.ensures.rest text lists)
+    (subst (λ (cs : List ℕ). ReadsClosedYaml 4294967295 cs c.new-2.result) (c.in_ok-new.ensures.rest text lists)
     c.new-2.ensures.closed)

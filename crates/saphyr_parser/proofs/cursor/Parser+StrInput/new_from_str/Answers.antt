@@ -1,20 +1,20 @@
 use Rattle.std.proofs.Common.{ℕ, List, subst}
-use Rattle.saphyr_parser.specs.Promises.{KeepsSpans, ReadsClosedLayout, ReadsJson, ReadsLayout, TakesEvents}
+use Rattle.saphyr_parser.specs.Promises.{KeepsSpans, ReadsClosedYaml, ReadsJson, ReadsYaml, TakesEvents}
 use Rattle.saphyr_parser.proofs.cursor.Parser+StrInput.new_from_str.Goals as goal
 
 pub returns-clause-taken : goal.returns-clause-taken
 returns-clause-taken c = subst (λ (cs : List ℕ). TakesEvents cs c.new-2.result) c.new.ensures.rest c.new-2.ensures.taken
 
-pub returns-clause-layout : goal.returns-clause-layout
-returns-clause-layout c =
-    subst (λ (cs : List ℕ). ReadsLayout 4294967295 cs c.new-2.result) c.new.ensures.rest c.new-2.ensures.layout
+pub returns-clause-yaml : goal.returns-clause-yaml
+returns-clause-yaml c =
+    subst (λ (cs : List ℕ). ReadsYaml 4294967295 cs c.new-2.result) c.new.ensures.rest c.new-2.ensures.yaml
 
 pub returns-clause-spans : goal.returns-clause-spans
 returns-clause-spans c = subst (λ (cs : List ℕ). KeepsSpans cs c.new-2.result) c.new.ensures.rest c.new-2.ensures.spans
 
 pub returns-clause-closed : goal.returns-clause-closed
 returns-clause-closed c =
-    subst (λ (cs : List ℕ). ReadsClosedLayout 4294967295 cs c.new-2.result) c.new.ensures.rest c.new-2.ensures.closed
+    subst (λ (cs : List ℕ). ReadsClosedYaml 4294967295 cs c.new-2.result) c.new.ensures.rest c.new-2.ensures.closed
 
 pub returns-clause-json : goal.returns-clause-json
 returns-clause-json c =

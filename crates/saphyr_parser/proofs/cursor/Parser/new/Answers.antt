@@ -4,8 +4,8 @@ use Rattle.saphyr_parser.proofs.cursor.Parser.new.Goals as goal
 pub returns-clause-taken : goal.returns-clause-taken
 returns-clause-taken g c = c.with_limit.ensures.taken (omega arith)
 
-pub returns-clause-layout : goal.returns-clause-layout
-returns-clause-layout g c = c.with_limit.ensures.layout (omega arith)
+pub returns-clause-yaml : goal.returns-clause-yaml
+returns-clause-yaml g c = c.with_limit.ensures.yaml (omega arith)
 
 pub returns-clause-closed : goal.returns-clause-closed
 returns-clause-closed g c = c.with_limit.ensures.closed (omega arith)

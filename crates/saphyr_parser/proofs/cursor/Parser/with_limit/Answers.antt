@@ -1,9 +1,9 @@
 use Rattle.std.proofs.Common.{ap, ◌∙◌, arith}
 use Rattle.saphyr_machine.specs.Cursor.{at_start}
 use Rattle.saphyr_parser.proofs.Promises.KeepsSpans.{parser_keeps_spans}
-use Rattle.saphyr_parser.proofs.Promises.ReadsClosedLayout.{reads_closed_layout}
+use Rattle.saphyr_parser.proofs.Promises.ReadsClosedYaml.{reads_closed_yaml}
 use Rattle.saphyr_parser.proofs.Promises.ReadsJson.{reads_each_json}
-use Rattle.saphyr_parser.proofs.Promises.ReadsLayout.{reads_layout}
+use Rattle.saphyr_parser.proofs.Promises.ReadsYaml.{reads_yaml}
 use Rattle.saphyr_parser.proofs.Promises.TakesEvents.{parser_takes}
 use Rattle.saphyr_parser.proofs.cursor.Parser.with_limit.Goals as goal
 
@@ -22,14 +22,14 @@ returns-clause-taken g c =
     λ few. parser_takes c.takes_all_events.ensures _ _ c.new.result _ c.new-2.ensures c.new.ensures.tokens
     c.new.ensures.taken (c.ends_with_the_stream.ensures _ _) (c.bounds_tokens.ensures _ _) few
 
-pub returns-clause-layout : goal.returns-clause-layout
-returns-clause-layout g c = λ few.
-    reads_layout c.scans_each_layout_text.ensures _ _ few (c.bounds_tokens.ensures _ _) _
+pub returns-clause-yaml : goal.returns-clause-yaml
+returns-clause-yaml g c = λ few.
+    reads_yaml c.scans_each_yaml_text.ensures _ _ few (c.bounds_tokens.ensures _ _) _
     (c.new-2.ensures ∙ ap at_start c.new.ensures.tokens)
 
 pub returns-clause-closed : goal.returns-clause-closed
 returns-clause-closed g c = λ few.
-    reads_closed_layout _ few (λ text. c.bounds_tokens.ensures _ text)
-    (λ marker forest text others layout ends apart short. c.hands_out_markers.ensures _ marker forest text others
-    layout ends apart short (omega (arith, few))) _ _
+    reads_closed_yaml _ few (λ text. c.bounds_tokens.ensures _ text)
+    (λ marker forest text others yaml ends apart short. c.hands_out_markers.ensures _ marker forest text others
+    yaml ends apart short (omega (arith, few))) _ _
     (c.new-2.ensures ∙ ap at_start c.new.ensures.tokens)

@@ -16,7 +16,7 @@ returns-in-Ok-new c =
           (record {
             decided = made.decided;
             json = made.json;
-            layout = made.layout;
+            yaml = made.yaml;
             closed = made.closed;
             spans = made.spans;
             taken = made.taken;

@@ -1,6 +1,6 @@
 use Rattle.std.proofs.Common.{◌++◌, sym, ap, ◌∙◌, append_assoc, string_bytes, encode_utf8_all}
 use Rattle.std.specs.Prelude.{encode_utf8}
-use Rattle.scalar_values.specs.Folding.{line_feeds}
+use Rattle.saphyr_values.specs.Folding.{line_feeds}
 use Rattle.saphyr_scalar.proofs.Quoted.Lines.{one_more_feed}
 use Rattle.saphyr_scalar.proofs.scalar.quoted.gap.push_folded_break.Goals as goal
 

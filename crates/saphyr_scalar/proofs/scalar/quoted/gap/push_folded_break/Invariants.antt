@@ -1,5 +1,5 @@
 use Rattle.std.proofs.Common.{◌≡◌, ◌++◌, string_bytes, encode_utf8_all}
-use Rattle.scalar_values.specs.Folding.{line_feeds}
+use Rattle.saphyr_values.specs.Folding.{line_feeds}
 use Rattle.saphyr_scalar.proofs.scalar.quoted.gap.push_folded_break.Given as goal
 
 abbrev pub invariant-loop : goal.invariant-loop

@@ -1,6 +1,6 @@
 use Rattle.std.proofs.Common.{◌≡◌, IsTrue, Ok, slice_index, string_bytes, sym, ap, ◌∙◌, subst}
 use Rattle.saphyr_scalar.specs.Views.Cursor.{Cursor}
-use Rattle.scalar_values.specs.Flow as flow
+use Rattle.saphyr_values.specs.Flow as flow
 use Rattle.saphyr_scalar.specs.Steps.Quoted as spec
 use Rattle.saphyr_scalar.specs.Views.Reader.{cursor_of}
 use Rattle.saphyr_scalar.proofs.Quoted.Gaps.{quote_closes}

@@ -1,0 +1,44 @@
+//! The inputs that a parser can have.
+use crate::reading::{by_iterator, by_load, by_next_event, last_index};
+use example_input::Characters;
+use saphyr_parser::{Fault, Parser, lists_characters};
+use std::alloc::Global;
+
+/// The scalars of a text by each input, and the furthest index of an event.
+#[derive(Clone, Copy, Debug)]
+pub struct Counts {
+    pub from_text: usize,
+    pub from_iterator: usize,
+    pub from_own_input: usize,
+    pub last_index: usize,
+}
+
+pub fn count_all(alloc: Global, text: &str) -> Result<Counts, Fault> {
+    let characters: Vec<char> = text.chars().collect(alloc)?;
+    let (from_text, last_index) = from_text(alloc, text)?;
+    Ok(Counts {
+        from_text,
+        from_iterator: from_iterator(alloc, text)?,
+        from_own_input: from_own_input(alloc, characters.as_slice())?,
+        last_index,
+    })
+}
+
+/// A text in memory. Here prefixes of tags hold for later documents too.
+fn from_text(alloc: Global, text: &str) -> Result<(usize, usize), Fault> {
+    let parser = Parser::new_from_str(alloc, text).keep_tags(true);
+    let last = last_index(&parser)?;
+    Ok((by_iterator(parser)?, last))
+}
+
+/// An iterator of characters. The law `lists_characters` says that it gives one list, as `new_from_iter` asks.
+fn from_iterator(alloc: Global, text: &str) -> Result<usize, Fault> {
+    let characters = text.chars();
+    lists_characters(&characters);
+    by_next_event(Parser::new_from_iter(alloc, characters)?)
+}
+
+/// An input of one's own.
+fn from_own_input(alloc: Global, characters: &[char]) -> Result<usize, Fault> {
+    by_load(&mut Parser::new(alloc, Characters::new(characters)))
+}

@@ -1,0 +1,17 @@
+use Rattle.std.proofs.Common.{◌++◌, sym, ap, ◌∙◌, string_bytes}
+use Rattle.std.proofs.lemmas.Iterator.{YieldsList-from_chars}
+use Rattle.std.proofs.lemmas.Iterator.Consumers.{YieldsList-end}
+use Rattle.std.proofs.lemmas.List.{map-id}
+use Rattle.std.specs.List.{flat_map}
+use Rattle.std.specs.Str.{chars}
+use Rattle.test_case_files.specs.Lines.{character_text}
+use Rattle.test_case_files.proofs.printing.push_escaped.Goals as goal
+
+-- behind the loop all characters of the text have come
+pub returns : goal.returns
+returns c =
+    let all =
+    YieldsList-end (YieldsList-from_chars c.args.text.now c.utf8.text cc)
+    c.loop-c.yielded _ c.loop-c.yielded_by _ _ c.in-None.is c.next.ensures.steps in
+    let same = sym (map-id c.loop-c.yielded) ∙ all.0 in
+    c.loop-c.invariant ∙ ap (λ cs. string_bytes c.args.line.now ++ flat_map character_text cs) same

@@ -1,0 +1,109 @@
+//! The lines that a parser is to give.
+ghost use Rattle.std.specs.Prelude.{◌≡◌, OnOk, [], drop, is_ok, if◌then◌else◌};
+ghost use Rattle.test_case_files.specs.Lines.{Comes, item_of};
+
+use crate::difference::Difference;
+use crate::printing::push_item;
+use saphyr_parser::{Event, Fault, Span};
+use std::alloc::Global;
+use std::marker::Model;
+
+/// The lines that are still to come.
+#[derive(Drop)]
+pub struct Expected<'a> {
+    alloc: Global,
+    lines: &'a [String],
+    // The line of what came last.
+    shown: String,
+}
+
+impl<'a> Model for Expected<'a> {
+    ghost use Rattle.std.specs.Prelude.{List, String};
+    ghost use Rattle.std.specs.declared.alloc.Global.{Global as Heap};
+
+    ghost Value = { List (String Heap) };
+
+    ghost view = { λ e. e.lines.now };
+}
+
+impl<'a> Expected<'a> {
+    pub fn new(alloc: Global, lines: &'a [String]) -> Self
+        ensures { result ≡ lines.now }
+    {
+        Expected {
+            alloc,
+            lines,
+            shown: String::new(alloc),
+        }
+    }
+
+    /// The lines that haven't come.
+    pub fn left(&self) -> &'a [String]
+        ensures { result.now ≡ self.now }
+    {
+        self.lines
+    }
+
+    /// What comes is the next line, or nothing where no line is left.
+    pub fn is_next(
+        &mut self,
+        item: Option<Result<&(Event<'_>, Span), &Fault>>,
+    ) -> Result<(), Difference>
+        ensures comes { OnOk result (Comes (item_of item.entry) self.old) }
+        ensures same { self.new ≡ self.old }
+    {
+        let Some(item) = item else {
+            return self.ends();
+        };
+        self.shown.clear();
+        push_item(&mut self.shown, item)?;
+        let line = &self.shown;
+        match self.lines.first() {
+            Some(wanted) if *wanted == *line => Ok(()),
+            Some(wanted) => {
+                let text = format!(in self.alloc; "{line:?} in place of {wanted:?}")?;
+                Err(Difference::Found(text))
+            }
+            None => Err(Difference::Found(format!(in self.alloc; "{line:?} is too much")?)),
+        }
+    }
+
+    /// The same, and the next line has come.
+    pub fn pass(
+        &mut self,
+        item: Option<Result<&(Event<'_>, Span), &Fault>>,
+    ) -> Result<(), Difference>
+        ensures comes { OnOk result (Comes (item_of item.entry) self.old) }
+        ensures rest { self.new ≡ (if is_ok result then drop 1 self.old else self.old) }
+    {
+        self.is_next(item)?;
+        self.lines = self.lines.get(1..).unwrap_or(&[]);
+        Ok(())
+    }
+
+    /// The same of what was handed out.
+    pub fn pass_given(
+        &mut self,
+        item: Option<Result<(Event<'_>, Span), Fault>>,
+    ) -> Result<(), Difference>
+        ensures comes { OnOk result (Comes item.entry self.old) }
+        ensures rest { self.new ≡ (if is_ok result then drop 1 self.old else self.old) }
+    {
+        match &item {
+            Some(item) => self.pass(Some(item.as_ref())),
+            None => self.pass(None),
+        }
+    }
+
+    // No line is left.
+    fn ends(&self) -> Result<(), Difference>
+        ensures { OnOk result (self.now ≡ []) }
+    {
+        match self.lines.first() {
+            None => Ok(()),
+            Some(wanted) => Err(Difference::Found(format!(in self.alloc;
+                "{wanted:?} is missing"
+            )?)),
+        }
+    }
+}

@@ -1,0 +1,92 @@
+//! What is found where the cases of a file are compared.
+ghost use Rattle.std.specs.Prelude.{◌≡◌, ◌<◌, ◌≤◌, All, IfOk, OnOk, length, vec_len};
+ghost use Rattle.test_cases.specs.Agreement.{AgreesOn};
+
+use crate::{refusing, trees, ways, writing};
+use test_case_files::{Case, Difference};
+use std::alloc::{AllocError, Global};
+
+/// How many differences are shown of a file.
+const MOST_SHOWN: usize = 20;
+
+/// What is compared with a case.
+#[derive(Clone, Copy, Debug)]
+pub enum Subject {
+    /// The events, by each way to take them.
+    Events,
+    /// What is left where a receiver refuses an event.
+    RefusedEvents,
+    /// What is written where a write fails.
+    FailedWrites,
+    /// The documents as trees, within limits.
+    Trees,
+}
+
+impl Subject {
+    pub fn name(self) -> &'static str {
+        match self {
+            Subject::Events => "events",
+            Subject::RefusedEvents => "refused events",
+            Subject::FailedWrites => "failed writes",
+            Subject::Trees => "trees",
+        }
+    }
+
+    fn compare(self, alloc: Global, case: &Case) -> Result<(), Difference>
+        ensures { OnOk result (AgreesOn self case.now) }
+    {
+        match self {
+            Subject::Events => ways::compare(alloc, case),
+            Subject::RefusedEvents => refusing::compare(alloc, case),
+            Subject::FailedWrites => writing::compare(alloc, case),
+            Subject::Trees => trees::compare(alloc, case),
+        }
+    }
+}
+
+/// What is found of the cases of a file.
+#[derive(Drop)]
+pub struct Findings {
+    /// How many cases agree.
+    pub agreeing: usize,
+    /// The first differences, each behind the name of its case.
+    pub differences: Vec<String>,
+}
+
+impl Findings {
+    // Puts a difference behind the others, while there are few.
+    fn put(&mut self, alloc: Global, name: &str, difference: Difference) -> Result<(), AllocError>
+        ensures count { self.new.agreeing ≡ self.old.agreeing }
+        ensures shown { OnOk result (0 < vec_len self.new.differences) }
+    {
+        let text = match difference {
+            Difference::OutOfMemory(error) => return Err(error),
+            Difference::Found(text) => text,
+        };
+        if self.differences.len() < MOST_SHOWN {
+            self.differences.push(format!(in alloc; "{name}, {text}")?)?;
+        }
+        Ok(())
+    }
+}
+
+/// Compares each of the cases. Where as many agree as there are, each does, and where fewer do, a difference
+/// is shown.
+pub fn compare_all(alloc: Global, cases: &[Case], subject: Subject) -> Result<Findings, AllocError>
+    ensures all { IfOk result (λ found.
+        found.agreeing ≡ length cases.now → All (AgreesOn subject) cases.now) }
+    ensures shown { IfOk result (λ found.
+        found.agreeing < length cases.now → 0 < vec_len found.differences) }
+{
+    let mut found = Findings {
+        agreeing: 0,
+        differences: Vec::new(alloc),
+    };
+    for case in cases {
+        match subject.compare(alloc, case) {
+            Ok(()) => found.agreeing += 1,
+            Err(difference) => found.put(alloc, case.name.as_str(), difference)?,
+        }
+    }
+    Ok(found)
+}

@@ -1,0 +1,252 @@
+//! The events of a text by each way to take them: one by one, by `load`, with a peek before each, and by
+//! clones.
+ghost use Rattle.std.specs.Prelude.{◌≡◌, ◌<◌, IfOk, OnOk, true};
+ghost use Rattle.saphyr_parser.specs.Cursor.{Stays, count, keeping_tags, to_come};
+ghost use Rattle.test_case_files.specs.Listings.{Agrees, ListAll};
+ghost use Rattle.test_cases.specs.Handed.{HasMore, LoadsOn, MayLoad, StandsBetween, TakesAnswer};
+
+use crate::inputs::{Comparison, compare_inputs};
+use test_case_files::{Case, ComparingReceiver, Difference, Expected};
+use saphyr_parser::{CloneInput, Fault, Input, Parser};
+use std::alloc::{AllocError, Global};
+
+/// How many lines a case may have whose parser is cloned at each place.
+const MOST_CLONED: usize = 16;
+
+/// Compares the events of a text with its lines, through each input and by each way.
+pub fn compare(alloc: Global, case: &Case) -> Result<(), Difference>
+    ensures { OnOk result (Agrees case.now) }
+{
+    compare_inputs(alloc, case.text.as_str(), &Ways { alloc, case })
+}
+
+#[derive(Drop)]
+struct Ways<'a> {
+    alloc: Global,
+    case: &'a Case,
+}
+
+impl Comparison for Ways<'_> {
+    ghost agrees = { λ w parser.
+        ListAll w.case.now.lines.items (to_come (keeping_tags w.case.now.keeps_tags parser)) };
+
+    fn compare<T: CloneInput>(&self, parser: Parser<'_, T>) -> Result<(), Difference> {
+        let lines = self.case.lines.as_slice();
+        let mut parser = parser.keep_tags(self.case.keeps_tags);
+        by_other_ways(self.alloc, &parser, lines)?;
+        is_left(self.alloc, &mut parser, lines)
+    }
+}
+
+/// What a parser has left to give is the lines.
+pub fn is_left<T: Input + Drop>(
+    alloc: Global,
+    parser: &mut Parser<'_, T>,
+    lines: &[String],
+) -> Result<(), Difference>
+    ensures { OnOk result (ListAll lines.now (to_come parser.old)) }
+{
+    let mut expected = Expected::new(alloc, lines);
+    for item in parser.by_ref() {
+        expected.pass_given(Some(item))?;
+    }
+    expected.is_next(None)
+}
+
+/// What a clone of a parser has left to give is the lines.
+pub fn is_left_to_clone<T: CloneInput>(
+    alloc: Global,
+    parser: &Parser<'_, T>,
+    lines: &[String],
+) -> Result<(), Difference>
+    ensures { OnOk result (ListAll lines.now (to_come parser.now)) }
+{
+    let mut clone = parser.try_clone()?;
+    is_left(alloc, &mut clone, lines)
+}
+
+// The ways that leave the parser as it is: each takes the events of a clone.
+fn by_other_ways<T: CloneInput>(
+    alloc: Global,
+    parser: &Parser<'_, T>,
+    lines: &[String],
+) -> Result<(), Difference> {
+    by_load(alloc, parser, lines).map_err(|it| it.within(alloc, "by load"))?;
+    by_peek(alloc, parser, lines).map_err(|it| it.within(alloc, "by peek"))?;
+    if lines.len() <= MOST_CLONED {
+        by_clones(alloc, parser, lines).map_err(|it| it.within(alloc, "by clones"))?;
+    }
+    Ok(())
+}
+
+// `load` hands over the events, a document at a time, and answers the fault.
+fn by_load<T: CloneInput>(
+    alloc: Global,
+    parser: &Parser<'_, T>,
+    lines: &[String],
+) -> Result<(), Difference>
+    ensures { StandsBetween parser.now
+        → OnOk result (ListAll lines.now (to_come parser.now)) }
+{
+    let mut clone = parser.try_clone()?;
+    load_each(alloc, &mut clone, lines)
+}
+
+fn load_each<T: CloneInput>(
+    alloc: Global,
+    parser: &mut Parser<'_, T>,
+    lines: &[String],
+) -> Result<(), Difference>
+    ensures { StandsBetween parser.old
+        → OnOk result (ListAll lines.now (to_come parser.old)) }
+{
+    let mut receiver = ComparingReceiver::new(alloc, lines);
+    while loads_on(alloc, parser, &mut receiver)? {}
+    receiver.check_end()
+}
+
+// Has the next document handed over. Whether another may come: `load` is not called where nothing is left,
+// nor behind a fault, since it would hand over the end of the stream again, or answer that fault.
+fn loads_on<T: CloneInput>(
+    alloc: Global,
+    parser: &mut Parser<'_, T>,
+    receiver: &mut ComparingReceiver<'_>,
+) -> Result<bool, Difference>
+    ensures less { IfOk result (λ more. more ≡ true
+        → count (to_come parser.new) < count (to_come parser.old)) }
+    ensures lists { MayLoad parser.old → IfOk result (λ more.
+        LoadsOn more receiver.old receiver.new parser.old parser.new) }
+{
+    if gives_more(parser)? {
+        return load_document(alloc, parser, receiver);
+    }
+    Ok(false)
+}
+
+fn gives_more<T: CloneInput>(parser: &Parser<'_, T>) -> Result<bool, AllocError>
+    ensures { IfOk result (λ more. HasMore more (to_come parser.now)) }
+{
+    let mut clone = parser.try_clone()?;
+    Ok(clone.next_event().is_some())
+}
+
+fn load_document<T: Input>(
+    alloc: Global,
+    parser: &mut Parser<'_, T>,
+    receiver: &mut ComparingReceiver<'_>,
+) -> Result<bool, Difference>
+    ensures less { 0 < count (to_come parser.old) → IfOk result (λ more. more ≡ true
+        → count (to_come parser.new) < count (to_come parser.old)) }
+    ensures lists { StandsBetween parser.old → IfOk result (λ more.
+        LoadsOn more receiver.old receiver.new parser.old parser.new) }
+{
+    let answer = parser.load(receiver, false);
+    is_unrefused(alloc, receiver, answer)
+}
+
+// All that was handed over is as expected, and so is the fault that was answered. Whether none was.
+fn is_unrefused(
+    alloc: Global,
+    receiver: &mut ComparingReceiver<'_>,
+    answer: Result<(), Fault>,
+) -> Result<bool, Difference>
+    ensures { IfOk result (λ more. TakesAnswer answer more receiver.old receiver.new) }
+{
+    if matches!(answer, Err(Fault::Receiver)) {
+        receiver.check()?;
+        return Err(Difference::new(alloc, "an event is refused"));
+    }
+    let more = answer.is_ok();
+    receiver.check_answer(answer)?;
+    Ok(more)
+}
+
+// `peek` shows each line, twice, before `next_event` gives it, and nothing behind the last.
+fn by_peek<T: CloneInput>(
+    alloc: Global,
+    parser: &Parser<'_, T>,
+    lines: &[String],
+) -> Result<(), Difference>
+    ensures { OnOk result (ListAll lines.now (to_come parser.now)) }
+{
+    let mut clone = parser.try_clone()?;
+    peek_each(alloc, &mut clone, lines)
+}
+
+fn peek_each<T: Input + Drop>(
+    alloc: Global,
+    parser: &mut Parser<'_, T>,
+    lines: &[String],
+) -> Result<(), Difference>
+    ensures { OnOk result (ListAll lines.now (to_come parser.old)) }
+{
+    let mut expected = Expected::new(alloc, lines);
+    for _line in lines {
+        is_shown(parser, &mut expected)?;
+        is_shown(parser, &mut expected)?;
+        pass_next(parser, &mut expected)?;
+    }
+    is_shown(parser, &mut expected)?;
+    is_left(alloc, parser, expected.left())
+}
+
+// `peek` shows the next line.
+fn is_shown<T: Input>(
+    parser: &mut Parser<'_, T>,
+    expected: &mut Expected<'_>,
+) -> Result<(), Difference>
+    ensures same { expected.new ≡ expected.old }
+    ensures stays { Stays (to_come parser.old) (to_come parser.new) }
+{
+    expected.is_next(parser.peek())
+}
+
+// `next_event` gives the next line.
+fn pass_next<T: Input>(
+    parser: &mut Parser<'_, T>,
+    expected: &mut Expected<'_>,
+) -> Result<(), Difference>
+    ensures { OnOk result (ListAll expected.new (to_come parser.new)
+        → ListAll expected.old (to_come parser.old)) }
+{
+    expected.pass_given(parser.next_event())
+}
+
+// At each place clones give what is left, before the next line is peeked and behind that.
+fn by_clones<T: CloneInput>(
+    alloc: Global,
+    parser: &Parser<'_, T>,
+    lines: &[String],
+) -> Result<(), Difference>
+    ensures { OnOk result (ListAll lines.now (to_come parser.now)) }
+{
+    let mut clone = parser.try_clone()?;
+    clone_each(alloc, &mut clone, lines)
+}
+
+fn clone_each<T: CloneInput>(
+    alloc: Global,
+    parser: &mut Parser<'_, T>,
+    lines: &[String],
+) -> Result<(), Difference>
+    ensures { OnOk result (ListAll lines.now (to_come parser.old)) }
+{
+    let mut expected = Expected::new(alloc, lines);
+    for _line in lines {
+        clone_twice(alloc, parser, expected.left())?;
+        pass_next(parser, &mut expected)?;
+    }
+    is_left(alloc, parser, expected.left())
+}
+
+fn clone_twice<T: CloneInput>(
+    alloc: Global,
+    parser: &mut Parser<'_, T>,
+    lines: &[String],
+) -> Result<(), Difference>
+    ensures { Stays (to_come parser.old) (to_come parser.new) }
+{
+    is_left_to_clone(alloc, parser, lines)?;
+    let _ = parser.peek();
+    is_left_to_clone(alloc, parser, lines)
+}

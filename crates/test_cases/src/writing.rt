@@ -1,0 +1,113 @@
+//! What `dump` writes, and what a writer has taken where it fails.
+ghost use Rattle.std.specs.Prelude.{◌≡◌, IfOk, OnOk, Some, false, option_map};
+ghost use Rattle.saphyr_parser.specs.Cursor.{to_come};
+ghost use Rattle.test_case_files.specs.Lines.{line_of_fault};
+ghost use Rattle.test_case_files.specs.Listings.{fault_line_of, case_answer};
+ghost use Rattle.test_cases.specs.Agreement.{DumpAgrees};
+ghost use Rattle.test_cases.specs.Dumped.{IsWritten};
+
+use crate::inputs::parser_of;
+use test_case_files::{Case, Difference, KeepingWriter, Manner, printed, push_item};
+use saphyr_parser::{DumpFault, Fault, Input, Parser, dump};
+use std::alloc::Global;
+
+/// How many bytes the lines may have of which each is refused alone.
+const MOST_CUT: usize = 200;
+
+/// A writer that takes each piece whole.
+pub const WHOLE: Manner = Manner {
+    at_a_time: usize::MAX,
+    before_failure: usize::MAX,
+    is_silent: false,
+};
+
+/// Has each write of a text's lines fail in turn, by an error and by nothing taken. Where there are few,
+/// each byte is refused too.
+pub fn compare(alloc: Global, case: &Case) -> Result<(), Difference>
+    ensures { OnOk result (DumpAgrees case.now) }
+{
+    let text = printed(alloc, case.lines.as_slice())?;
+    let by_bytes = Manner {
+        at_a_time: 1,
+        ..WHOLE
+    };
+    if write_case(alloc, case, text.as_str(), by_bytes)? {
+        return Err(Difference::new(alloc, "a writer that takes bytes fails"));
+    }
+    fail_each(alloc, case, text.as_str(), WHOLE)?;
+    let silent = Manner {
+        is_silent: true,
+        ..WHOLE
+    };
+    fail_each(alloc, case, text.as_str(), silent)?;
+    if text.len() <= MOST_CUT {
+        fail_each(alloc, case, text.as_str(), by_bytes)?;
+    }
+    Ok(())
+}
+
+// Has the first write fail, then the second, and so on until none fails.
+fn fail_each(alloc: Global, case: &Case, text: &str, manner: Manner) -> Result<(), Difference> {
+    for before_failure in 0..usize::MAX {
+        let manner = Manner {
+            before_failure,
+            ..manner
+        };
+        if !write_case(alloc, case, text, manner)? {
+            break;
+        }
+    }
+    Ok(())
+}
+
+// Writes the lines of a case. Whether the writer has failed.
+fn write_case(alloc: Global, case: &Case, text: &str, manner: Manner) -> Result<bool, Difference>
+    ensures { IfOk result (λ has_failed.
+        IsWritten has_failed (fault_line_of case.now.lines.items) text.now (case_answer case.now)) }
+{
+    is_dumped(
+        alloc,
+        parser_of(alloc, case),
+        text,
+        case.fault_line(),
+        manner,
+    )
+}
+
+/// `dump` writes the text up to where the writer fails, and answers that, or the fault. Whether the writer
+/// has failed.
+pub fn is_dumped<T: Input + Drop>(
+    alloc: Global,
+    mut parser: Parser<'_, T>,
+    text: &str,
+    fault: Option<&str>,
+    manner: Manner,
+) -> Result<bool, Difference>
+    ensures { IfOk result (λ has_failed.
+        IsWritten has_failed (option_map (λ line. line.now) fault.entry) text.now (to_come parser.entry)) }
+{
+    let mut writer = KeepingWriter::new(alloc, manner);
+    let answer = dump(&mut parser, &mut writer);
+    let Some(rest) = writer.rest_of(text) else {
+        return Err(Difference::new(alloc, "other bytes are written"));
+    };
+    match answer {
+        Err(DumpFault::Write) if writer.has_failed() && !rest.is_empty() => Ok(true),
+        Ok(()) if rest.is_empty() && fault.is_none() => Ok(false),
+        Err(DumpFault::Parse(found)) if rest.is_empty() => is_fault(alloc, &found, fault),
+        _ => Err(Difference::new(alloc, "another answer")),
+    }
+}
+
+// The line of a fault is as expected. No writer has failed.
+fn is_fault(alloc: Global, found: &Fault, fault: Option<&str>) -> Result<bool, Difference>
+    ensures { IfOk result (λ has_failed. (has_failed ≡ false)
+        × (option_map (λ line. line.now) fault.entry ≡ Some (line_of_fault found.now))) }
+{
+    let mut line = String::new(alloc);
+    push_item(&mut line, Err(found))?;
+    if fault != Some(line.as_str()) {
+        return Err(Difference::new(alloc, line.as_str()));
+    }
+    Ok(false)
+}

@@ -1,0 +1,214 @@
+//! Line breaks, folding, and the values of scalars in each style (YAML 1.2.2, 5.4, 6.5, 7.3 and 8.1).
+
+use crate::helpers::{expect, is_text};
+use saphyr_values::{
+    BlockStyle, Chomping, Ending, Item, block_value, double_quoted_value, folded, normalized,
+    plain_value, single_quoted_value,
+};
+use std::alloc::{AllocError, Global};
+use std::process::Abort;
+
+// How a piece of a text is spelled.
+#[derive(Clone, Copy)]
+enum Spelling {
+    Lines,
+    Plain,
+    SingleQuoted,
+    DoubleQuoted,
+}
+
+fn value_of(alloc: Global, spelling: Spelling, piece: &str) -> Result<Option<String>, AllocError> {
+    match spelling {
+        Spelling::Lines => Ok(Some(normalized(alloc, piece)?)),
+        Spelling::Plain => Ok(Some(plain_value(alloc, piece)?)),
+        Spelling::SingleQuoted => single_quoted_value(alloc, piece),
+        Spelling::DoubleQuoted => double_quoted_value(alloc, piece),
+    }
+}
+
+// Whether a piece has this value, or none.
+fn is_value(read: Result<Option<String>, AllocError>, want: Option<&str>) -> bool {
+    match read {
+        Ok(value) => value.as_deref() == want,
+        Err(_) => false,
+    }
+}
+
+fn expect_values(
+    rt: &impl Abort,
+    alloc: Global,
+    spelling: Spelling,
+    rows: &[(&str, Option<&str>)],
+) {
+    for &(piece, want) in rows {
+        expect(rt, is_value(value_of(alloc, spelling, piece), want), piece);
+    }
+}
+
+#[test]
+fn breaks_are_normalized(rt: HostRuntime) {
+    const ROWS: &[(&str, Option<&str>)] = &[
+        ("a\r\nb\rc\n\r", Some("a\nb\nc\n\n")),
+        ("\r\r\n", Some("\n\n")),
+        ("é", Some("é")),
+    ];
+    expect_values(&rt, rt.alloc(), Spelling::Lines, ROWS);
+}
+
+#[test]
+fn plain_scalars(rt: HostRuntime) {
+    const ROWS: &[(&str, Option<&str>)] = &[
+        ("a\n\nb", Some("a\nb")),
+        ("1 2", Some("1 2")),
+        ("scalar\nkey", Some("scalar key")),
+        ("a \t\r\n  b", Some("a b")),
+        ("a\n\n \n\nb\\n", Some("a\n\n\nb\\n")),
+    ];
+    expect_values(&rt, rt.alloc(), Spelling::Plain, ROWS);
+}
+
+#[test]
+fn single_quoted_scalars(rt: HostRuntime) {
+    const ROWS: &[(&str, Option<&str>)] = &[
+        ("'it''s'", Some("it's")),
+        ("''", Some("")),
+        ("''''", Some("'")),
+        ("' a \n\n b\\n '", Some(" a\nb\\n ")),
+        ("'it's'", None),
+        ("'''", None),
+        ("'", None),
+        ("a'", None),
+        ("\"a\"", None),
+        ("", None),
+    ];
+    expect_values(&rt, rt.alloc(), Spelling::SingleQuoted, ROWS);
+}
+
+#[test]
+fn double_quoted_scalars(rt: HostRuntime) {
+    const ROWS: &[(&str, Option<&str>)] = &[
+        ("\"a \\\n  b\n\n c\"", Some("a b\nc")),
+        ("\"a\\\n\n\n b\\ \n\"", Some("a\n\nb  ")),
+        (
+            "\"\\0\\a\\b\\t\\\t\\n\\v\\f\\r\\e\"",
+            Some("\0\x07\x08\t\t\n\x0b\x0c\r\x1b"),
+        ),
+        (
+            "\"\\ \\\"\\/\\\\\\N\\_\\L\\P\"",
+            Some(" \"/\\\u{85}\u{a0}\u{2028}\u{2029}"),
+        ),
+        ("\"\\x41\\u20aC\\U0001F600\"", Some("A€😀")),
+        ("\"\\U0010FFFF\"", Some("􏿿")),
+        ("\"\\ud83d\\ude00\"", None),
+        ("\"\\U00110000\"", None),
+        ("\"\\UFFFFFFFF\"", None),
+        ("\"\\x4\"", None),
+        ("\"\\u004g\"", None),
+        ("\"\\q\"", None),
+        ("\"a\"b\"", None),
+        ("\"a\\\"", None),
+        ("\"a", None),
+        ("\"", None),
+    ];
+    expect_values(&rt, rt.alloc(), Spelling::DoubleQuoted, ROWS);
+}
+
+#[test]
+fn items_are_folded(rt: HostRuntime) {
+    const ITEMS: &[Item] = &[
+        Item::Blank(' '),
+        Item::Raw('a'),
+        Item::Blank('\t'),
+        Item::Break,
+        Item::Blank(' '),
+        Item::Escaped(' '),
+        Item::Blank(' '),
+        Item::EscapedBreak,
+        Item::Blank(' '),
+        Item::Break,
+        Item::Raw('b'),
+        Item::Break,
+        Item::EscapedBreak,
+    ];
+    let text = " a   \nb ";
+    expect(&rt, is_text(folded(rt.alloc(), ITEMS), text), text);
+}
+
+// Whether the lines of a text, indented by so much, have this value in a style.
+fn is_block(
+    alloc: Global,
+    (style, chomping, ending): (BlockStyle, Chomping, Ending),
+    (indentation, text): (usize, &str),
+    want: &str,
+) -> bool {
+    let value = block_value(alloc, style, chomping, indentation, text, ending);
+    is_text(value, want)
+}
+
+#[test]
+fn folded_block_scalars(rt: HostRuntime) {
+    const ROWS: &[(&str, &str)] = &[
+        (" a\n b\n\n  c\n d\n", "a b\n\n c\nd\n"),
+        (" a\n  b\n c\n", "a\n b\nc\n"),
+        ("\n a\n\n\n b", "\na\n\nb\n"),
+        (" a\n\n \tb\n\n c\n", "a\n\n\tb\n\nc\n"),
+    ];
+    let manner = (BlockStyle::Folded, Chomping::Clip, Ending::AtEnd);
+    for &(text, want) in ROWS {
+        expect(&rt, is_block(rt.alloc(), manner, (1, text), want), text);
+    }
+}
+
+// Whether the lines of a text, indented by so much, read so with their last breaks stripped, clipped or kept.
+fn is_literal(
+    alloc: Global,
+    lines: (usize, &str),
+    (stripped, clipped, kept): (&str, &str, &str),
+) -> bool {
+    let style = BlockStyle::Literal;
+    let ending = Ending::AtEnd;
+    is_block(alloc, (style, Chomping::Strip, ending), lines, stripped)
+        && is_block(alloc, (style, Chomping::Clip, ending), lines, clipped)
+        && is_block(alloc, (style, Chomping::Keep, ending), lines, kept)
+}
+
+#[test]
+fn literal_block_scalars(rt: HostRuntime) {
+    const ROWS: &[(usize, &str, &str, &str, &str)] = &[
+        (1, " a\n ", "a", "a\n", "a\n\n"),
+        (1, " a\n\n", "a", "a\n", "a\n\n"),
+        (1, "\n a\r\n\r b\r", "\na\n\nb", "\na\n\nb\n", "\na\n\nb\n"),
+        (2, "   a\n", " a", " a\n", " a\n"),
+        (2, "   a", " a", " a\n", " a\n"),
+        (2, "  a\n ", "a", "a\n", "a\n"),
+        (2, "  a\n  ", "a", "a\n", "a\n\n"),
+        (2, "  a\n   ", "a\n ", "a\n \n", "a\n \n"),
+        (0, "", "", "", ""),
+        (0, "\n", "", "", "\n"),
+        (1, " ", "", "", "\n"),
+        (1, "\n ", "", "", "\n"),
+    ];
+    for &(indentation, text, stripped, clipped, kept) in ROWS {
+        let values = (stripped, clipped, kept);
+        expect(
+            &rt,
+            is_literal(rt.alloc(), (indentation, text), values),
+            text,
+        );
+    }
+}
+
+#[test]
+fn block_scalars_cut_by_a_mark(rt: HostRuntime) {
+    const ROWS: &[(Chomping, &str, &str)] = &[
+        (Chomping::Strip, " a", "a"),
+        (Chomping::Clip, " a", "a"),
+        (Chomping::Keep, " a", "a"),
+        (Chomping::Keep, " a\n ", "a\n"),
+        (Chomping::Keep, " ", ""),
+    ];
+    for &(chomping, text, want) in ROWS {
+        let manner = (BlockStyle::Literal, chomping, Ending::AtMark);
+        expect(&rt, is_block(rt.alloc(), manner, (1, text), want), text);
+    }
+}

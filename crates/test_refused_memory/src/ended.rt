@@ -1,0 +1,134 @@
+//! What stands behind all that a parser gives.
+ghost use Rattle.std.specs.Prelude.{◌≡◌, IfOk, OnOk, string_bytes, true};
+ghost use Rattle.saphyr_parser.specs.Answer.{empty_answer};
+ghost use Rattle.saphyr_parser.specs.Cursor.{to_come};
+ghost use Rattle.test_case_files.specs.Listings.{is_fault_line};
+ghost use Rattle.test_refused_memory.specs.declared.outcome.Outcome.TheVariants.{Refused};
+
+use crate::loading::load_next;
+use crate::outcome::Outcome;
+use test_case_files::{ComparingReceiver, Difference};
+use saphyr_parser::{Input, Parser};
+use std::alloc::Global;
+
+/// Whether the line is that of a fault.
+pub fn is_fault(line: &String) -> bool
+    ensures { result ≡ is_fault_line (string_bytes line.now) }
+{
+    test_case_files::is_fault(line.as_str())
+}
+
+// `peek` shows nothing.
+fn shows_nothing<T: Input>(parser: &mut Parser<'_, T>) -> bool
+    ensures { result ≡ true → to_come parser.old ≡ empty_answer }
+{
+    parser.peek().is_none()
+}
+
+// `next_event` gives nothing.
+fn gives_none<T: Input>(parser: &mut Parser<'_, T>) -> bool
+    ensures { result ≡ true → to_come parser.new ≡ empty_answer }
+{
+    parser.next_event().is_none()
+}
+
+/// Nothing is left to show or to give.
+fn gives_nothing<T: Input>(alloc: Global, parser: &mut Parser<'_, T>) -> Result<(), Difference>
+    ensures before { OnOk result (to_come parser.old ≡ empty_answer) }
+    ensures behind { OnOk result (to_come parser.new ≡ empty_answer) }
+{
+    if !shows_nothing(parser) {
+        return Err(Difference::new(alloc, "`peek` shows more"));
+    }
+    if !gives_none(parser) {
+        return Err(Difference::new(alloc, "`next_event` gives more"));
+    }
+    Ok(())
+}
+
+/// Nothing is left, and each `load` answers lack of memory and sends nothing.
+pub fn is_ended_by_memory<T: Input>(
+    alloc: Global,
+    parser: &mut Parser<'_, T>,
+) -> Result<Outcome, Difference>
+    ensures before { OnOk result (to_come parser.old ≡ empty_answer) }
+    ensures behind { OnOk result (to_come parser.new ≡ empty_answer) }
+    ensures refused { IfOk result (λ outcome. outcome ≡ Refused) }
+{
+    gives_nothing(alloc, parser)?;
+    keeps_want(alloc, parser)?;
+    keeps_want(alloc, parser)?;
+    Ok(Outcome::Refused)
+}
+
+// `load` answers lack of memory and sends nothing, and nothing is left behind it.
+fn keeps_want<T: Input>(alloc: Global, parser: &mut Parser<'_, T>) -> Result<(), Difference>
+    ensures { OnOk result (to_come parser.new ≡ empty_answer) }
+{
+    let mut receiver = ComparingReceiver::new(alloc, &[]);
+    loads_want(alloc, parser, &mut receiver)
+}
+
+fn loads_want<T: Input>(
+    alloc: Global,
+    parser: &mut Parser<'_, T>,
+    receiver: &mut ComparingReceiver<'_>,
+) -> Result<(), Difference>
+    ensures { OnOk result (to_come parser.new ≡ empty_answer) }
+{
+    if load_next(parser, receiver, true)? == Outcome::Whole {
+        return Err(Difference::new(alloc, "`load` forgets lack of memory"));
+    }
+    receiver.check_end()?;
+    gives_nothing(alloc, parser)
+}
+
+/// Nothing is left, and `load` sends the last line, which is the end of the stream, or answers it, a fault.
+/// Where only that fault's copy is refused, the next `load` answers it.
+pub fn is_ended<T: Input>(
+    alloc: Global,
+    parser: &mut Parser<'_, T>,
+    last: &[String],
+) -> Result<Outcome, Difference>
+    ensures { OnOk result (to_come parser.old ≡ empty_answer) }
+{
+    gives_nothing(alloc, parser)?;
+    loads_last(alloc, parser, last)
+}
+
+fn loads_last<T: Input>(
+    alloc: Global,
+    parser: &mut Parser<'_, T>,
+    last: &[String],
+) -> Result<Outcome, Difference> {
+    let mut receiver = ComparingReceiver::new(alloc, last);
+    loads_left(alloc, parser, &mut receiver)
+}
+
+// `load` sends or answers the lines that are left.
+fn loads_left<T: Input>(
+    alloc: Global,
+    parser: &mut Parser<'_, T>,
+    receiver: &mut ComparingReceiver<'_>,
+) -> Result<Outcome, Difference> {
+    if load_next(parser, receiver, true)? == Outcome::Refused {
+        return loads_fault(alloc, parser, receiver);
+    }
+    receiver.check_end()?;
+    Ok(Outcome::Whole)
+}
+
+// The line that is left is that of a fault, and `load` answers it.
+fn loads_fault<T: Input>(
+    alloc: Global,
+    parser: &mut Parser<'_, T>,
+    receiver: &mut ComparingReceiver<'_>,
+) -> Result<Outcome, Difference> {
+    if !receiver.left().iter().any(is_fault) {
+        return Err(Difference::new(alloc, "`load` finds no memory for the end"));
+    }
+    // Where there is no memory again, the line stays.
+    load_next(parser, receiver, true)?;
+    receiver.check_end()?;
+    Ok(Outcome::Refused)
+}

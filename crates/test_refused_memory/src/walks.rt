@@ -1,0 +1,52 @@
+//! The nodes of trees, with their places and the paths to them.
+use crate::outcome::Outcome;
+use crate::parts::is_last;
+use crate::trees::WIDE;
+use crate::ways::last;
+use test_case_files::Difference;
+use saphyr_parser::{Fault, Input, Parser, Span};
+use std::alloc::{AllocError, Global};
+use yaml_tree::{Node, TreeFault, Walk, load_documents_with_spans};
+
+/// The documents are loaded with their places, their nodes are counted, and the path to each node leads there. Where
+/// there is no memory for any of it, that is the answer.
+pub fn by_walks<T: Input>(
+    alloc: Global,
+    parser: &mut Parser<'_, T>,
+    lines: &[String],
+) -> Result<Outcome, Difference> {
+    match walk_all(alloc, parser) {
+        Ok(true) => Ok(Outcome::Whole),
+        Ok(false) => Err(Difference::new(alloc, "a path does not lead to its node")),
+        Err(TreeFault::OutOfMemory | TreeFault::Parse(Fault::OutOfMemory)) => Ok(Outcome::Refused),
+        Err(TreeFault::Parse(fault)) => {
+            is_last(alloc, &fault, last(lines))?;
+            Ok(Outcome::Whole)
+        }
+        Err(fault) => Err(Difference::Found(format!(in alloc; "{fault}")?)),
+    }
+}
+
+fn walk_all<T: Input>(alloc: Global, parser: &mut Parser<'_, T>) -> Result<bool, TreeFault> {
+    let loaded = load_documents_with_spans(alloc, parser, WIDE)?;
+    for (document, spans) in loaded.documents.iter().zip(loaded.spans.iter()) {
+        document.expanded_nodes(alloc)?;
+        if !leads_to_each(alloc, &document.root, spans.nodes.as_slice())? {
+            return Ok(false);
+        }
+    }
+    Ok(true)
+}
+
+// The path to each node of a tree leads there.
+fn leads_to_each(alloc: Global, root: &Node, spans: &[Span]) -> Result<bool, AllocError> {
+    let mut walk = Walk::new(alloc, root, spans);
+    while let Some(visit) = walk.next() {
+        let visit = visit?;
+        let path = walk.path(alloc)?;
+        if root.follow(path.as_slice()) != Some(visit.node) {
+            return Ok(false);
+        }
+    }
+    Ok(true)
+}

@@ -1,0 +1,200 @@
+-- What stands between two tokens is passed alike in a text and in its normalized text.
+use Rattle.std.proofs.Common.{◌≡◌, ℕ, ◌+◌, ◌≤◌, Bool, true, false, List, [], ◌∷◌, length, Result, refl, sym, ap, ◌∙◌, arith}
+use Rattle.std.specs.Prelude.{◌==◌, ◌^◌, ◌&&◌, ◌||◌, not, slice_index}
+use Rattle.saphyr_input.specs.Breaks.{normalized}
+use Rattle.saphyr_input.specs.Classes.{is_blank, is_bom, is_break, is_yaml_non_break, is_z, carriage_return, line_feed}
+use Rattle.saphyr_scalar.specs.declared.scalar.position.Marker.{Marker}
+use Rattle.saphyr_scalar.specs.declared.scalar.fault.Refusal.{Refusal}
+use Rattle.saphyr_scalar.specs.Views.Cursor.{Cursor, along, next_line}
+use Rattle.scalar_laws.proofs.Breaks.Sides.{Normal, normalized_is, nothing, character, feed, return, pair}
+use Rattle.scalar_laws.specs.Alike.{GiveAlike}
+use Rattle.saphyr_scanner.specs.Steps.Gap.{GapEnd, SpacesEnd, stop, end_of_gap, end_of_gap_in_comment, end_of_spaces, end_of_spaces_in_comment, is_tab_indentation}
+use Rattle.yaml_laws.proofs.Breaks.Normal.{beside}
+use Rattle.yaml_laws.proofs.Breaks.Places.{reindexed, near, Ahead, Stand, Low, ahead_ahead, ahead_stands, stand_here}
+use Rattle.yaml_laws.proofs.Breaks.Steps.{choose, both_choose, both_so, line_from, character_ahead, two_ahead, single_ahead}
+use Rattle.saphyr_input.proofs.Basics.Characters.{no_return}
+use Rattle.saphyr_scalar.proofs.Given.{cursor_at}
+
+-- from s on the same is passed in both texts, up to no break
+abbrev pub PassesAlike : List ℕ → Cursor → ℕ → GapEnd → GapEnd → Type 0
+PassesAlike text s i g h =
+    (j : ℕ) × (h ≡ record { cursor = near j g.cursor; broke = g.broke }) × Ahead text s i g.cursor j ×
+    (is_break (slice_index g.cursor.rest 0) ≡ false)
+
+passes_from_ahead : (text : List ℕ) (s : Cursor) (i : ℕ) (t : Cursor) (j : ℕ) (r q : Result GapEnd Refusal)
+    → Ahead text s i t j → GiveAlike (PassesAlike text t j) r q → GiveAlike (PassesAlike text s i) r q
+passes_from_ahead text s i t j r q x h =
+    both_so (PassesAlike text t j) (PassesAlike text s i) r q
+    (λ g k p. (p.0, p.1, ahead_ahead text s i t j g.cursor p.0 x p.2, p.3)) h
+
+stop_alike : (text : List ℕ) (t n : List ℕ) (m : Marker) (i : ℕ) (blank broke tabbed : Bool) → n ≡ normalized t
+    → slice_index n 0 ≡ slice_index t 0 → is_break (slice_index t 0) ≡ false
+    → Stand text (cursor_at t m blank) i
+    → GiveAlike (PassesAlike text (cursor_at t m blank) i) (stop m blank broke tabbed t)
+    (stop (reindexed i m) blank broke tabbed n)
+unfolding stop
+stop_alike text t n m i blank broke tabbed e f k x =
+    let R = PassesAlike text (cursor_at t m blank) i in
+    both_choose R (tabbed && is_bom (slice_index t 0)) (tabbed && is_bom (slice_index n 0)) _ _ _ _
+    (ap (λ c. tabbed && is_bom c) f) (λ _. refl)
+    (λ _. both_choose R (tabbed && not (is_z (slice_index t 0))) (tabbed && not (is_z (slice_index n 0))) _ _ _ _
+    (ap (λ c. tabbed && not (is_z c)) f) (λ _. refl)
+    (λ _.
+    let same = ap (λ l. record { cursor = cursor_at l (reindexed i m) blank; broke = broke }) e in
+    (i, same, stand_here text (cursor_at t m blank) i x, k)))
+
+-- What is passed from here on, and in a comment.
+record Gaps (text : List ℕ) (least : ℕ) (t n : List ℕ) (m : Marker) (i : ℕ) (blank broke tabbed : Bool) : Type 0 where
+  between : GiveAlike (PassesAlike text (cursor_at t m blank) i) (end_of_gap least m blank broke tabbed t)
+      (end_of_gap least (reindexed i m) blank broke tabbed n)
+  inside : GiveAlike (PassesAlike text (cursor_at t m blank) i) (end_of_gap_in_comment least m blank broke tabbed t)
+      (end_of_gap_in_comment least (reindexed i m) blank broke tabbed n)
+
+not_cut : (c : ℕ) (t n : List ℕ) → (c == carriage_return) ≡ false
+    → ((c == carriage_return) && (slice_index n 0 == line_feed))
+    ≡ ((c == carriage_return) && (slice_index t 0 == line_feed))
+not_cut c t n e = rw e refl
+
+all_gaps : (text : List ℕ) (least : ℕ) (t n : List ℕ) → Normal t n → (m : Marker) (i : ℕ) (blank broke tabbed : Bool)
+    → m.line + length t ≤ 2 ^ 63 → Stand text (cursor_at t m blank) i
+    → Gaps text least t n m i blank broke tabbed
+all_gaps text least _ _ nothing m i blank broke tabbed low x =
+    let h = stop_alike text [] [] m i blank broke tabbed refl refl refl x in record { between = h; inside = h }
+all_gaps text least _ _ (character c {r = t} {q = n} ink w) m i blank broke tabbed low x =
+    let R = PassesAlike text (cursor_at (c ∷ t) m blank) i in
+    let e = no_return c ink in
+    let is : normalized (c ∷ t) ≡ c ∷ normalized t = rw e refl in
+    let line = single_ahead text c c t m i blank true is (omega (arith, low)) x in
+    let next = all_gaps text least t n w (next_line m 1) (i + 1) true true false (omega (arith, low))
+    (ahead_stands text _ _ _ _ line) in
+    let on = character_ahead text c t m i blank blank e x in
+    let more = λ (b : Bool). all_gaps text least t n w (along m 1) (i + 1) blank broke b (omega (arith, low))
+    (ahead_stands text _ _ _ _ on) in
+    let here = λ (k : is_break c ≡ false). stop_alike text (c ∷ t) (c ∷ n) m i blank broke tabbed
+    (ap (λ l. c ∷ l) (sym (normalized_is w)) ∙ sym is) refl k x in
+    record {
+      between =
+          both_choose R (is_blank c || ((c == 13) && (slice_index t 0 == 10)))
+          (is_blank c || ((c == 13) && (slice_index n 0 == 10))) _ _ _ _ (ap (λ b. is_blank c || b) (not_cut c t n e))
+          (λ _. passes_from_ahead text _ _ _ _ _ _ on (more (is_tab_indentation least m blank c || tabbed)).between)
+          (λ _. both_choose R (is_break c) (is_break c) _ _ _ _ refl (λ _. passes_from_ahead text _ _ _ _ _ _ line
+          next.between)
+          (λ k. both_choose R (c == 35) (c == 35) _ _ _ _ refl
+          (λ _. passes_from_ahead text _ _ _ _ _ _ on (more tabbed).inside) (λ _. here k)));
+      inside =
+          both_choose R (is_yaml_non_break c) (is_yaml_non_break c) _ _ _ _ refl
+          (λ _. passes_from_ahead text _ _ _ _ _ _ on (more tabbed).inside)
+          (λ _. both_choose R ((c == 13) && (slice_index t 0 == 10)) ((c == 13) && (slice_index n 0 == 10)) _ _ _ _
+          (not_cut c t n e)
+          (λ _. passes_from_ahead text _ _ _ _ _ _ on (more tabbed).between)
+          (λ _. both_choose R (is_break c) (is_break c) _ _ _ _ refl
+          (λ _. passes_from_ahead text _ _ _ _ _ _ line next.between) here));
+    }
+all_gaps text least _ _ (feed {r = t} {q = n} w) m i blank broke tabbed low x =
+    let line = single_ahead text 10 10 t m i blank true refl (omega (arith, low)) x in
+    let next = all_gaps text least t n w (next_line m 1) (i + 1) true true false (omega (arith, low))
+    (ahead_stands text _ _ _ _ line) in
+    let h = passes_from_ahead text _ _ _ _ _ _ line next.between in
+    record { between = h; inside = h }
+all_gaps text least _ _ (pair {r = t} {q = n} w) m i blank broke tabbed low x =
+    let line = two_ahead text t m i blank true (omega (arith, low)) x in
+    let next = all_gaps text least t n w (line_from m (m.index + 1 + 1)) (i + 1) true true false
+    (omega (arith, low)) (ahead_stands text _ _ _ _ line) in
+    let h = passes_from_ahead text _ _ _ _ _ _ line next.between in
+    record { between = h; inside = h }
+all_gaps text least _ _ (return {r = t} {q = n} e w) m i blank broke tabbed low x =
+    let is : normalized (13 ∷ t) ≡ 10 ∷ normalized t = rw e refl in
+    let line = single_ahead text 13 10 t m i blank true is (omega (arith, low)) x in
+    let next = all_gaps text least t n w (next_line m 1) (i + 1) true true false (omega (arith, low))
+    (ahead_stands text _ _ _ _ line) in
+    let h = passes_from_ahead text _ _ _ _ _ _ line next.between in
+    record { between = rw e h; inside = rw e h }
+
+pub gap_alike : (text : List ℕ) (least : ℕ) (s : Cursor) (i : ℕ) (broke tabbed : Bool) → Low s → Stand text s i
+    → GiveAlike (PassesAlike text s i) (end_of_gap least s.mark s.blank_so_far broke tabbed s.rest)
+    (end_of_gap least (near i s).mark s.blank_so_far broke tabbed (normalized s.rest))
+gap_alike text least s i broke tabbed low x =
+    (all_gaps text least s.rest (normalized s.rest)
+    (beside s.rest) s.mark i s.blank_so_far broke tabbed low x).between
+
+-- ## Behind `?`
+
+abbrev pub Spaces : List ℕ → Cursor → ℕ → SpacesEnd → SpacesEnd → Type 0
+Spaces text s i g h = (j : ℕ) × (h ≡ record { cursor = near j g.cursor; space = g.space }) × Ahead text s i g.cursor j
+
+spaces_end_further : (text : List ℕ) (s : Cursor) (i : ℕ) (t : Cursor) (j : ℕ) (g h : SpacesEnd) → Ahead text s i t j
+    → Spaces text t j g h → Spaces text s i g h
+spaces_end_further text s i t j g h x p = (p.0, p.1, ahead_ahead text s i t j g.cursor p.0 x p.2)
+
+record Spacing (text : List ℕ) (t n : List ℕ) (m : Marker) (i : ℕ) (blank space : Bool) : Type 0 where
+  between : Spaces text (cursor_at t m blank) i (end_of_spaces m blank space t)
+      (end_of_spaces (reindexed i m) blank space n)
+  inside : Spaces text (cursor_at t m blank) i (end_of_spaces_in_comment m blank space t)
+      (end_of_spaces_in_comment (reindexed i m) blank space n)
+
+all_spaces : (text : List ℕ) (t n : List ℕ) → Normal t n → (m : Marker) (i : ℕ) (blank space : Bool)
+    → m.line + length t ≤ 2 ^ 63 → Stand text (cursor_at t m blank) i → Spacing text t n m i blank space
+all_spaces text _ _ nothing m i blank space low x =
+    let h : Spaces text (cursor_at [] m blank) i (end_of_spaces m blank space [])
+    (end_of_spaces (reindexed i m) blank space []) =
+    (i, refl, stand_here text (cursor_at [] m blank) i x) in record { between = h; inside = h }
+all_spaces text _ _ (character c {r = t} {q = n} ink w) m i blank space low x =
+    let P = Spaces text (cursor_at (c ∷ t) m blank) i in
+    let e = no_return c ink in
+    let is : normalized (c ∷ t) ≡ c ∷ normalized t = rw e refl in
+    let line = single_ahead text c c t m i blank true is (omega (arith, low)) x in
+    let next = all_spaces text t n w (next_line m 1) (i + 1) true true (omega (arith, low))
+    (ahead_stands text _ _ _ _ line) in
+    let on = character_ahead text c t m i blank blank e x in
+    let more = λ (b : Bool). all_spaces text t n w (along m 1) (i + 1) blank b (omega (arith, low))
+    (ahead_stands text _ _ _ _ on) in
+    let here : P (record { cursor = cursor_at (c ∷ t) m blank; space = space })
+    (record { cursor = cursor_at (c ∷ n) (reindexed i m) blank; space = space }) = (
+      i,
+      ap (λ l. record { cursor = record { rest = l; mark = reindexed i m; blank_so_far = blank }; space = space })
+          (ap (λ l. c ∷ l) (sym (normalized_is w)) ∙ sym is),
+      stand_here text (cursor_at (c ∷ t) m blank) i x,
+    ) in
+    record {
+      between =
+          choose P ((c == 32) || ((c == 13) && (slice_index t 0 == 10)))
+          ((c == 32) || ((c == 13) && (slice_index n 0 == 10))) _ _ _ _ (ap (λ b. (c == 32) || b) (not_cut c t n e))
+          (λ _. spaces_end_further text _ _ _ _ _ _ on (more true).between)
+          (λ _. choose P (is_break c) (is_break c) _ _ _ _ refl
+          (λ _. spaces_end_further text _ _ _ _ _ _ line next.between)
+          (λ _. choose P (c == 35) (c == 35) _ _ _ _ refl
+          (λ _. spaces_end_further text _ _ _ _ _ _ on (more space).inside) (λ _. here)));
+      inside =
+          choose P (is_yaml_non_break c) (is_yaml_non_break c) _ _ _ _ refl
+          (λ _. spaces_end_further text _ _ _ _ _ _ on (more space).inside)
+          (λ _. choose P ((c == 13) && (slice_index t 0 == 10)) ((c == 13) && (slice_index n 0 == 10)) _ _ _ _
+          (not_cut c t n e)
+          (λ _. spaces_end_further text _ _ _ _ _ _ on (more true).between)
+          (λ _. choose P (is_break c) (is_break c) _ _ _ _ refl
+          (λ _. spaces_end_further text _ _ _ _ _ _ line next.between) (λ _. here)));
+    }
+all_spaces text _ _ (feed {r = t} {q = n} w) m i blank space low x =
+    let line = single_ahead text 10 10 t m i blank true refl (omega (arith, low)) x in
+    let next = all_spaces text t n w (next_line m 1) (i + 1) true true (omega (arith, low))
+    (ahead_stands text _ _ _ _ line) in
+    let h = spaces_end_further text _ _ _ _ _ _ line next.between in
+    record { between = h; inside = h }
+all_spaces text _ _ (pair {r = t} {q = n} w) m i blank space low x =
+    let line = two_ahead text t m i blank true (omega (arith, low)) x in
+    let next = all_spaces text t n w (line_from m (m.index + 1 + 1)) (i + 1) true true (omega (arith, low))
+    (ahead_stands text _ _ _ _ line) in
+    let h = spaces_end_further text _ _ _ _ _ _ line next.between in
+    record { between = h; inside = h }
+all_spaces text _ _ (return {r = t} {q = n} e w) m i blank space low x =
+    let is : normalized (13 ∷ t) ≡ 10 ∷ normalized t = rw e refl in
+    let line = single_ahead text 13 10 t m i blank true is (omega (arith, low)) x in
+    let next = all_spaces text t n w (next_line m 1) (i + 1) true true (omega (arith, low))
+    (ahead_stands text _ _ _ _ line) in
+    let h = spaces_end_further text _ _ _ _ _ _ line next.between in
+    record { between = rw e h; inside = rw e h }
+
+pub spaces_alike : (text : List ℕ) (s : Cursor) (i : ℕ) (space : Bool) → Low s → Stand text s i
+    → Spaces text s i (end_of_spaces s.mark s.blank_so_far space s.rest)
+    (end_of_spaces (near i s).mark s.blank_so_far space (normalized s.rest))
+spaces_alike text s i space low x =
+    (all_spaces text s.rest (normalized s.rest) (beside s.rest) s.mark i s.blank_so_far space low x).between

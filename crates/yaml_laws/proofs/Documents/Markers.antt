@@ -1,0 +1,212 @@
+-- Document markers, byte order marks and the text's end are read.
+use Rattle.std.proofs.Common.{◌≡◌, ℕ, ◌+◌, ◌≤◌, Bool, true, false, List, [], ◌∷◌, ◌++◌, length, slice_index, Ok, IsTrue, inl, inr, refl, sym, ap, ◌∙◌, arith, ◌⊎◌}
+use Rattle.std.specs.Prelude.{◌==◌, nat_lt, Option, None, ◌||◌}
+use Rattle.std.proofs.lemmas.Bool.Decides.{nat_tests}
+use Rattle.std.proofs.lemmas.List.{length-append}
+use Rattle.saphyr_input.specs.Classes.{is_blank_or_breakz, is_breakz}
+use Rattle.saphyr_input.specs.Places.{is_document_indicator}
+use Rattle.saphyr_input.specs.declared.input.SkipTabs.{SkipTabs}
+use Rattle.saphyr_input.specs.declared.input.SkipTabs.TheVariants.{Yes}
+use Rattle.saphyr_scalar.specs.declared.scalar.position.Marker.{Marker}
+use Rattle.saphyr_scalar.specs.Views.Cursor.{Cursor, ◌>>=◌, along, separation}
+use Rattle.saphyr_scalar.proofs.Given.{cursor_at}
+use Rattle.scalar_laws.specs.Spelling.Spaces.{IsEol}
+use Rattle.saphyr_scanner.specs.declared.engine.level.Context.TheVariants as context
+use Rattle.saphyr_scanner.specs.Grammar.Tokens as tokens
+use Rattle.saphyr_scanner.specs.Grammar.Tokens.{Kind}
+use Rattle.saphyr_scanner.specs.Views.Tokens.{Piece}
+use Rattle.saphyr_scanner.specs.Steps.Queue.{Place, bare_place}
+use Rattle.saphyr_scanner.specs.Steps.Core.{remove_key}
+use Rattle.saphyr_scanner.specs.Steps.Level.{Candidate}
+use Rattle.saphyr_scanner.specs.Steps.Passing.{with_cursor}
+use Rattle.saphyr_scanner.specs.Steps.State.{on_core_with}
+use Rattle.saphyr_scanner.specs.Steps.State.{State}
+use Rattle.saphyr_scanner.specs.Steps.Unrolling.{unroll}
+use Rattle.saphyr_scanner.specs.Steps.Document.{end_content, state_behind_marker, end_line, state_behind_document_end, state_behind_byte_order_mark}
+use Rattle.saphyr_scanner.specs.Steps.Fetch.{fetch_here}
+use Rattle.saphyr_scanner.proofs.Leads.{LeadsTo}
+use Rattle.yaml_laws.proofs.Flow.States.{moved, past}
+use Rattle.yaml_laws.proofs.Flow.GapSteps.{past_count}
+use Rattle.yaml_laws.proofs.Flow.Separates.{separates_rest}
+use Rattle.yaml_laws.proofs.Documents.Lines.{eol, eol_first, break_ends}
+use Rattle.yaml_laws.proofs.Documents.Stands.{reads_here, AtLine, Lined, BehindStart, StandsInStream, reads_token}
+use Rattle.yaml_laws.proofs.InBlock.States.{crosses}
+use Rattle.yaml_laws.proofs.InBlock.Follows.{comes_to_end}
+use Rattle.std.proofs.Math.Bool.{or-false, or-true}
+use Rattle.std.proofs.lemmas.Bool.{eq-eqb}
+use Rattle.saphyr_input.specs.Indicators.{full_stop, hyphen}
+use Rattle.saphyr_input.proofs.Basics.Lists.{cons_not_empty}
+use Rattle.saphyr_scanner.proofs.Queues.{place_kinds, place_kinds_append}
+use Rattle.saphyr_scanner.proofs.Root.{core_at, state_at, fetches_stream_end, stream_end_place}
+
+no_greater : (n : ℕ) → n ≡ 0 → nat_lt 0 n ≡ false
+no_greater n h = grind (arith, nat_tests)
+
+-- a token that was read
+abbrev pub piece_of : Marker → Marker → Kind → Piece
+piece_of a b kind = record { span = record { start = a; end = b }; kind = kind }
+
+-- a line's start, where something is left
+pub at_line : (o : List ℕ) (m : Marker) → AtLine o m → ¬ (o ≡ []) → m.col ≡ 0
+at_line o m (inl e) h = e
+at_line o m (inr e) h = absurd (h e)
+
+-- ## `---`
+
+along_lined : (m : Marker) (n : ℕ) → m.line ≤ m.index + 1 → m.line ≤ m.index + n + 1
+along_lined m n h = omega (arith, h)
+
+pub start_here : (m : Marker) (blank : Bool) (r : List ℕ) (k : Option Candidate) (a : Bool) (ad : ℕ) (ps : List Place)
+    → m.col ≡ 0 → is_blank_or_breakz (slice_index r 0) ≡ true
+    → fetch_here (state_at false (cursor_at (hyphen ∷ hyphen ∷ hyphen ∷ r) m blank) context.Block k [] a ad ps)
+    ≡ Ok (state_at false (cursor_at r (along m 3) false) context.Block None [] false ad
+    (ps ++ bare_place (piece_of m (along m 3) tokens.DocumentStart) ∷ []))
+unfolding fetch_here state_behind_marker end_content remove_key unroll
+start_here m blank r k a ad ps col h = rw (eq-eqb m.col 0 col, h) refl
+
+off_line : (n : ℕ) → (n + 3 == 0) ≡ false
+off_line n = grind (arith, nat_tests)
+
+index_behind : (i n : ℕ) → i ≤ i + n
+index_behind i n = omega arith
+
+pub start_count : (m : Marker) (r : List ℕ) (limit : ℕ) → m.index + length (hyphen ∷ hyphen ∷ hyphen ∷ r) ≤ limit
+    → m.index + 3 + length r ≤ limit
+start_count m r limit h = omega (arith, h)
+
+-- `---` and `...` end a document
+pub start_ends : (r : List ℕ) → is_blank_or_breakz (slice_index r 0) ≡ true
+    → IsTrue (is_document_indicator (hyphen ∷ hyphen ∷ hyphen ∷ r))
+start_ends r h = rw h refl
+
+pub reads_start : {limit : ℕ} {start : State} {free opened : Bool} {ts : List Kind} (r : List ℕ)
+    → StandsInStream limit start free (Lined opened (hyphen ∷ hyphen ∷ hyphen ∷ r)) (hyphen ∷ hyphen ∷ hyphen ∷ r) ts
+    → is_blank_or_breakz (slice_index r 0) ≡ true
+    → StandsInStream limit start true (BehindStart r) r (ts ++ tokens.DocumentStart ∷ [])
+reads_start {limit = limit} r v h =
+    let col = at_line (45 ∷ 45 ∷ 45 ∷ r) v.mark v.line.0 (cons_not_empty 45 (45 ∷ 45 ∷ r)) in
+    reads_token v refl (inr (inr (col, start_ends r h))) (λ _. cursor_at r (along v.mark 3) false) false
+    (piece_of v.mark (along v.mark 3) tokens.DocumentStart)
+    (λ blank key allowed ad ps. start_here v.mark blank r key allowed ad ps col h) (BehindStart r) (along v.mark 3) r
+    (λ _. refl) (start_count v.mark r limit v.count) (λ _. (off_line v.mark.col, or-false (crosses r)))
+    (index_behind v.mark.index 3) (along_lined v.mark 3 v.lined)
+
+-- ## A byte order mark
+
+-- behind a byte order mark, which has no column
+abbrev pub beyond_byte_order_mark : Marker → Marker
+beyond_byte_order_mark m = record { index = m.index + 1; line = m.line; col = m.col }
+
+mark_here : (m : Marker) (blank : Bool) (r : List ℕ) (k : Option Candidate) (a : Bool) (ad : ℕ) (ps : List Place)
+    → m.col ≡ 0
+    → fetch_here (state_at false (cursor_at (65279 ∷ r) m blank) context.Block k [] a ad ps)
+    ≡ Ok (state_at false (cursor_at r (beyond_byte_order_mark m) blank) context.Block None [] true ad
+    (ps ++ bare_place (piece_of m (beyond_byte_order_mark m) tokens.ByteOrderMark) ∷ []))
+unfolding fetch_here state_behind_byte_order_mark end_content remove_key unroll
+mark_here m blank r k a ad ps col = rw (no_greater m.col col) refl
+
+mark_count : (m : Marker) (r : List ℕ) (limit : ℕ) → m.index + length (65279 ∷ r) ≤ limit
+    → m.index + 1 + length r ≤ limit
+mark_count m r limit h = omega (arith, h)
+
+pub reads_mark : {limit : ℕ} {start : State} {opened : Bool} {ts : List Kind} (r : List ℕ)
+    → StandsInStream limit start true (Lined opened (65279 ∷ r)) (65279 ∷ r) ts
+    → StandsInStream limit start true (Lined true r) r (ts ++ tokens.ByteOrderMark ∷ [])
+reads_mark {limit = limit} r v =
+    let col = at_line (65279 ∷ r) v.mark v.line.0 (cons_not_empty 65279 r) in
+    reads_token v refl (inl refl) (λ blank. cursor_at r (beyond_byte_order_mark v.mark) blank) true
+    (piece_of v.mark (beyond_byte_order_mark v.mark) tokens.ByteOrderMark)
+    (λ blank key allowed ad ps. mark_here v.mark blank r key allowed ad ps col) (Lined true r)
+    (beyond_byte_order_mark v.mark) r
+    (λ _. refl) (mark_count v.mark r limit v.count) (λ _. (inl col, λ _. inl (or-true (crosses r))))
+    (index_behind v.mark.index 1) (along_lined v.mark 1 v.lined)
+
+-- ## `...`
+
+pub end_here : (m n : Marker) (blank : Bool) (r more : List ℕ) (found : SkipTabs) (k : Option Candidate) (a : Bool)
+    (ad : ℕ) (ps : List Place) → m.col ≡ 0 → is_blank_or_breakz (slice_index r 0) ≡ true
+    → separation Yes (cursor_at r (along m 3) false) ≡ Ok (found, cursor_at more n false)
+    → is_breakz (slice_index more 0) ≡ true
+    → fetch_here (state_at false (cursor_at (full_stop ∷ full_stop ∷ full_stop ∷ r) m blank) context.Block k [] a ad ps)
+    ≡ Ok (state_at false (cursor_at more n false) context.Block None [] false ad
+    (ps ++ bare_place (piece_of m (along m 3) tokens.DocumentEnd) ∷ []))
+unfolding fetch_here state_behind_document_end state_behind_marker end_content remove_key unroll end_line
+end_here m n blank r more found k a ad ps col first is h =
+    let c = core_at false (cursor_at r (along m 3) false) context.Block None [] false ad in
+    let t = state_at false (cursor_at r (along m 3) false) context.Block None [] false ad
+    (ps ++ bare_place (piece_of m (along m 3) tokens.DocumentEnd) ∷ []) in
+    let u = state_at false (cursor_at more n false) context.Block None [] false ad
+    (ps ++ bare_place (piece_of m (along m 3) tokens.DocumentEnd) ∷ []) in
+    let line : end_line (found, u) ≡ Ok u = rw h refl in
+    rw (eq-eqb m.col 0 col, first)
+    (ap (λ q. on_core_with (q >>= λ (x : SkipTabs × Cursor). Ok (x.0, with_cursor x.1 c)) t >>= end_line) is ∙ line)
+
+pub end_ends : (r : List ℕ) → is_blank_or_breakz (slice_index r 0) ≡ true
+    → IsTrue (is_document_indicator (full_stop ∷ full_stop ∷ full_stop ∷ r))
+end_ends r h = rw h refl
+
+pub end_count : (m n : Marker) (r o : List ℕ) (limit : ℕ)
+    → m.index + length (full_stop ∷ full_stop ∷ full_stop ∷ r) ≤ limit
+    → n.index + length o ≡ m.index + 3 + length r → n.index + length o ≤ limit
+end_count m n r o limit h e = omega (arith, h, e)
+
+end_further : (m n : Marker) (end o : List ℕ) → n.index + length o ≡ m.index + 3 + length (end ++ o) → m.index ≤ n.index
+end_further m n end o e = let all = length-append end o in omega (arith, e, all)
+
+pub reads_end : {limit : ℕ} {start : State} {free opened : Bool} {ts : List Kind} (end o : List ℕ)
+    → StandsInStream limit start free (Lined opened (full_stop ∷ full_stop ∷ full_stop ∷ (end ++ o)))
+    (full_stop ∷ full_stop ∷ full_stop ∷ (end ++ o)) ts
+    → IsEol end o
+    → StandsInStream limit start true (Lined true o) o (ts ++ tokens.DocumentEnd ∷ [])
+reads_end {limit = limit} end o v h =
+    let r = end ++ o in
+    let col = at_line (46 ∷ 46 ∷ 46 ∷ r) v.mark v.line.0 (cons_not_empty 46 (46 ∷ 46 ∷ r)) in
+    let e = eol (along v.mark 3) end o h in
+    let first = eol_first (along v.mark 3) r o e in
+    let sep = separates_rest (cursor_at r (along v.mark 3) false) e.rest e.more e.is e.line e.break in
+    let n = moved (along v.mark 3) e.rest in
+    reads_token v refl (inr (inr (col, end_ends r first))) (λ _. cursor_at e.more n false) false
+    (piece_of v.mark (along v.mark 3) tokens.DocumentEnd)
+    (λ blank key allowed ad ps. end_here v.mark n blank r e.more sep.0 key allowed ad ps col first sep.1
+    (break_ends e.more e.break)) (Lined true o) e.mark o (λ _. e.behind 0)
+    (end_count v.mark e.mark r o limit v.count e.count) (λ _. (e.place, λ _. opens e.more o e.opens))
+    (end_further v.mark e.mark end o e.count) (e.lined (along_lined v.mark 3 v.lined))
+  where
+    opens : (more o : List ℕ) → (crosses more ≡ true) ⊎ (o ≡ []) → ((crosses more || false) ≡ true) ⊎ (o ≡ [])
+    opens more o (inl h) = inl (or-false (crosses more) ∙ h)
+    opens more o (inr h) = inr h
+
+-- ## The text's end
+
+-- From the start the scanner comes to the end of the stream, and has read these tokens and others, of which Told holds.
+pub record FinishesStream (limit : ℕ) (start : State) (Told : List Kind → Type 0) (ts : List Kind) : Type 0 where
+  pub last : State
+  pub leads : LeadsTo limit last start
+  pub over : last.core.ended ≡ true
+  pub others : List Kind
+  pub told : Told others
+  pub are : place_kinds last.queue.places ≡ ts ++ others
+
+low_index : (i l n limit : ℕ) → i + 0 ≡ n + l → n + l ≤ limit → i ≤ limit
+low_index i l n limit e h = omega (arith, e, h)
+
+pub reads_stream_end : {limit : ℕ} {start : State} {free : Bool} {P : Marker → Bool → Type 0} {o : List ℕ}
+    {ts : List Kind} (v : StandsInStream limit start free P o ts) (m : Marker) → past 0 v.mark o ≡ (m, [])
+    → FinishesStream limit start (λ t. t ≡ tokens.StreamEnd ∷ []) ts
+reads_stream_end {limit = limit} {free = free} {o = o} {ts = ts} v m text =
+    let counted : m.index + 0 ≡ v.mark.index + length o = ap (λ (p : Marker × List ℕ). p.0.index + length p.1)
+    (sym text) ∙ past_count 0 v.mark o in
+    let low = low_index m.index (length o) v.mark.index limit counted v.count in
+    let r = reads_here limit v.comment v.there v.key v.allowed v.adjacent v.places m [] (v.fits ∙ text) (inr (inl refl))
+    true (λ blank. cursor_at [] m blank) (λ key. key) false (v.places ++ stream_end_place m ∷ [])
+    (λ blank key allowed. fetches_stream_end m blank key allowed v.adjacent v.places) (λ _. low) in
+    record {
+      last = state_at true (cursor_at [] m r.0) context.Block r.1 [] false v.adjacent
+          (v.places ++ stream_end_place m ∷ []);
+      leads = comes_to_end v.follows refl r.4 refl;
+      over = refl;
+      others = tokens.StreamEnd ∷ [];
+      told = refl;
+      are = place_kinds_append v.places (stream_end_place m ∷ [])
+          ∙ ap (λ (x : List Kind). x ++ tokens.StreamEnd ∷ []) v.are;
+    }

@@ -1,0 +1,227 @@
+-- The brackets and braces of a text in flow style are read.
+use Rattle.std.proofs.Common.{◌≡◌, ◌⊎◌, ℕ, ◌<◌, ◌≤◌, Bool, true, false, List, [], ◌∷◌, ◌++◌, length, slice_index, Result, Ok, Err, refl, sym, ap, ◌∙◌, arith, subst, append_assoc, cond, IsTrue}
+use Rattle.std.specs.Prelude.{◌&&◌, ◌==◌, Option, None}
+use Rattle.std.specs.List.{list_all}
+use Rattle.saphyr_input.specs.Indicators.{percent_sign}
+use Rattle.saphyr_input.specs.Classes.{is_blank, is_z, line_feed}
+use Rattle.saphyr_input.specs.declared.input.SkipTabs.{SkipTabs}
+use Rattle.saphyr_input.specs.declared.input.SkipTabs.TheVariants.{Yes}
+use Rattle.saphyr_scalar.specs.declared.scalar.position.Marker.{Marker}
+use Rattle.saphyr_scalar.specs.declared.scalar.fault.Refusal.{Refusal}
+use Rattle.saphyr_scalar.specs.Views.Cursor.{Cursor, along, separation}
+use Rattle.saphyr_scalar.specs.Spelling.Tag.{AreIn}
+use Rattle.saphyr_scalar.proofs.Given.{cursor_at}
+use Rattle.scalar_laws.specs.Spelling.Spaces.{IsSeparation}
+use Rattle.saphyr_scanner.specs.declared.engine.level.Context.{Context}
+use Rattle.saphyr_scanner.specs.Grammar.Tokens as tokens
+use Rattle.saphyr_scanner.specs.Grammar.Tokens.{Kind}
+use Rattle.saphyr_scanner.specs.Views.Tokens.{Piece}
+use Rattle.saphyr_scanner.specs.Steps.Queue.{Place, bare_place, empty_piece}
+use Rattle.saphyr_scanner.specs.Steps.Core.{Core, from_to, perform}
+use Rattle.saphyr_scanner.specs.Steps.Level.{Candidate, Level, is_block}
+use Rattle.saphyr_scanner.specs.Steps.Flow as flow
+use Rattle.saphyr_scanner.specs.Steps.Flow.{close_collection, behind_pair}
+use Rattle.saphyr_scanner.specs.Steps.Fetch.{step}
+use Rattle.saphyr_scanner.specs.Limits.{most_open}
+use Rattle.yaml_laws.proofs.InFlow.States.{Around, core_at, state_at, Calm, placed_right, opening_steps_open, open_collection_gives, close_collection_gives, deepened, bracket_deepens, as_before, FlowMoment, moment, moment_with}
+use Rattle.yaml_laws.proofs.Flow.States.{IsFresh, Since, moved, past, IsClear, IsInk, IsParted, Known, fresh_key, PassesPiece, FitsAround, StandsBefore, key_behind}
+use Rattle.yaml_laws.proofs.Flow.Places.{moved_index, right_one, clear_here}
+use Rattle.yaml_laws.proofs.Flow.GapSteps.{past_ink, past_low}
+use Rattle.yaml_laws.proofs.Flow.Arrivals.{BeginsToken, arrives, step_comes, within_index}
+use Rattle.yaml_laws.proofs.Flow.Tokens.{saved_since}
+use Rattle.yaml_laws.proofs.Flow.Separates.{separates}
+use Rattle.yaml_laws.proofs.Flow.Joins.{step_passes}
+use Rattle.yaml_laws.proofs.InBlock.Crossings.{fresh_in_flow}
+use Rattle.saphyr_input.proofs.Basics.Numbers.{le_next}
+use Rattle.saphyr_scanner.proofs.Queues.{token_place, place_kinds, queue_of}
+use Rattle.saphyr_scanner.proofs.Levels.{saved, level_of}
+
+-- a character that is a token
+pub record IsTokenMark (c : ℕ) : Type 0 where
+  pub ink : IsInk c
+  pub nul : is_z c ≡ false
+  pub directive : (c == percent_sign) ≡ false
+  pub feed : (c == line_feed) ≡ false
+
+pub mark_begins : (m : Marker) (c : ℕ) (o : List ℕ) → IsTokenMark c → IsClear m (c ∷ []) o → BeginsToken m (c ∷ o)
+mark_begins m c o h clear =
+    record {
+      nul = h.nul;
+      byte_order_mark = h.ink.byte_order_mark;
+      directive = h.directive;
+      marker = clear_here m c [] o clear;
+    }
+
+pub mark_moved : (m : Marker) (c : ℕ) → IsTokenMark c → along m 1 ≡ moved m (c ∷ [])
+mark_moved m c h = rw h.feed refl
+
+pub one_on : (m : Marker) (c ad : ℕ) → ad ≤ m.index → ad < (moved m (c ∷ [])).index
+one_on m c ad low = let i = moved_index m (c ∷ []) in omega (arith, i, low)
+
+-- ## An opening bracket
+
+-- behind an opening bracket
+abbrev pub opened_collection : Marker → Known
+opened_collection m key allowed adjacent new =
+    fresh_key m key allowed adjacent new × ((piece : Piece) × (new ≡ bare_place piece ∷ []))
+
+pub saved_so : (x : Context) (a b : Bool) (n : ℕ) (m : Marker) (k j : Option Candidate)
+    → (is_block x ≡ false → (j ≡ k) × (b ≡ a)) → is_block x ≡ false → saved b n m j ≡ saved a n m k
+saved_so x a b n m k j h e = let s = h e in ap (λ (q : Bool). saved q n m j) s.1 ∙ ap (saved a n m) s.0
+
+pub open_passes : (around : Around) (y : Context) → is_block y ≡ false → (kind : Kind) (ch : ℕ) → IsTokenMark ch
+    → ((second i : ℕ) (c : Core) → step ch second i c ≡ flow.opening_steps y kind i c)
+    → (m : Marker) (o : List ℕ) → FitsAround around m (ch ∷ []) o → IsParted around.indent o
+    → (now : FlowMoment) → length now.outer < most_open → Calm around now.context → now.adjacent ≤ m.index
+    → StandsBefore around now m (ch ∷ o) → (j : Option Candidate) × (is_block now.context ≡ false → j ≡ key_behind now
+    m)
+    × PassesPiece around (state_at around now) (opened_collection (moved m (ch ∷ []))) y (level_of now.context j
+    ∷ now.outer)
+    now.places (moved m (ch ∷ [])) o (kind ∷ [])
+    × ((t : List ℕ) → (key : Option Candidate) → (key ≡ None) ⊎ (key ≡ j) → Since now.key m t key)
+open_passes around y in_flow kind ch mark begins m o fits parted now low calm before text =
+    let v = arrives around now m (ch ∷ o) (text ∙ past_ink around.indent m ch o mark.ink) mark.ink.blank
+    fits.right fits.calm in
+    let key = saved v.allowed (length now.places) m v.key in
+    let p = separates around.indent (cursor_at o (along m 1) false) parted.separation parted.first parted.others
+    parted.is parted.parts (le_next around.indent m.col fits.right) parted.ink in
+    let stepped = λ (d : Bool). begins (slice_index o 0) (length now.places)
+    (core_at around d (cursor_at (ch ∷ o) m v.blank) now.context v.key now.outer v.allowed now.adjacent)
+    ∙ opening_steps_open y kind (length now.places) around d (cursor_at (ch ∷ o) m v.blank) now.context v.key now.outer
+    v.allowed now.adjacent (placed_right now.context v.allowed fits.calm fits.right)
+    ∙ open_collection_gives y kind ch o m v.blank around (deepened around now.context d) now.context key now.outer
+    v.allowed now.adjacent p.found p.there p.is low in_flow calm in
+    let below = fits.below in
+    let new = token_place m p.there.mark kind ∷ [] in
+    let next = moment p.there y None (level_of now.context key ∷ now.outer) true now.adjacent now.places in
+    let came = step_comes around now m (ch ∷ o) v (mark_begins m ch o mark fits.clear) (moment_with new next)
+    (from_to m p.there.mark kind ∷ []) (deepened around now.context) (bracket_deepens around now.context)
+    stepped refl (within_index around.indent around.limit p.there (along m 1) o p.lands (omega (arith, below))) in (
+      key,
+      saved_so now.context now.allowed v.allowed (length now.places) m now.key v.key v.same,
+      step_passes next new (moved m (ch ∷ [])) o (kind ∷ []) (opened_collection
+          (moved m (ch ∷ []))) came (right_one around.indent m ch mark.feed fits.right)
+          (p.lands ∙ ap (λ (q : Marker). past around.indent q o) (mark_moved m ch mark))
+          (fresh_in_flow y o true p.there in_flow) refl (
+            (came.same in_flow, refl, one_on m ch now.adjacent before),
+            (record { span = record { start = m; end = p.there.mark }; kind = kind }, refl),
+          ),
+      λ t j h. saved_since v.allowed (length now.places) m now.key v.key t j v.kept h,
+    )
+
+-- ## A closing bracket
+
+-- the end of a pair that has no bracket of its own
+abbrev pub pending : Bool → List Kind
+pending true = tokens.FlowMappingEnd ∷ []
+pending false = []
+
+-- the places that a mark makes, behind the end of such a pair
+abbrev pub mark_places : Bool → Marker → Marker → Kind → List Place
+mark_places true m e kind = bare_place (empty_piece m tokens.FlowMappingEnd) ∷ token_place m e kind ∷ []
+mark_places false m e kind = token_place m e kind ∷ []
+
+pub mark_puts : (ends : Bool) (ps : List Place) (m e : Marker) (kind : Kind)
+    → perform (behind_pair ends m (from_to m e kind)) (queue_of ps) ≡ queue_of (ps ++ mark_places ends m e kind)
+mark_puts true ps m e kind =
+    ap queue_of (append_assoc ps (bare_place (empty_piece m tokens.FlowMappingEnd) ∷ []) (token_place m e kind ∷ []))
+mark_puts false ps m e kind = refl
+
+pub mark_kinds : (ends : Bool) (m e : Marker) (kind : Kind)
+    → place_kinds (mark_places ends m e kind) ≡ pending ends ++ kind ∷ []
+mark_kinds true m e kind = refl
+mark_kinds false m e kind = refl
+
+-- Behind a collection the key is that of the level around it. Where blanks alone stand before a colon, it may stand at
+-- once.
+pub record IsCollectionClosed (indent : ℕ) (x : Context) (j : Option Candidate) (m : Marker) (o : List ℕ)
+    (key : Option Candidate)
+    (adjacent : ℕ) : Type 0 where
+  pub keeps : is_block x ≡ false → key ≡ j
+  pub kept : (key ≡ None) ⊎ (key ≡ j)
+  pub near : is_block x ≡ false → (w more : List ℕ) → o ≡ w ++ (58 ∷ more) → IsSeparation indent w
+      → IsTrue (list_all is_blank w) → adjacent ≡ (moved m w).index
+  pub low : adjacent ≤ (past indent m o).0.index
+
+abbrev pub closed_collection : ℕ → Context → Option Candidate → Marker → List ℕ → Known
+closed_collection indent x j m o key allowed adjacent new = IsCollectionClosed indent x j m o key adjacent
+
+all_blank : (w : List ℕ) → IsTrue (list_all is_blank w) → AreIn is_blank w
+all_blank [] h = tt
+all_blank (c ∷ cs) h = by_first (is_blank c) (list_all is_blank cs) refl h (λ k. all_blank cs k)
+  where
+    by_first : (p q : Bool) → is_blank c ≡ p → IsTrue (p && q) → (IsTrue q → AreIn is_blank cs)
+        → AreIn is_blank (c ∷ cs)
+    by_first true q e h f = (e, f h)
+    by_first false q e h f = absurd (cc)
+
+abbrev reached : Marker → Result (SkipTabs × Cursor) Refusal → Marker
+reached m (Ok x) = x.1.mark
+reached m (Err e) = m
+
+-- what blanks and a comment behind a token give is one place
+one_place : (indent : ℕ) (s : Cursor) (found : SkipTabs) (there : Cursor) → separation Yes s ≡ Ok (found, there)
+    → (w more : List ℕ) → s.rest ≡ w ++ (58 ∷ more) → IsSeparation indent w → indent ≤ s.mark.col
+    → IsTrue (list_all is_blank w) → there.mark ≡ moved s.mark w
+one_place indent s found there is w more text parts right blank =
+    let colon : IsInk 58 = record { blank = refl; break = refl; comment = refl; byte_order_mark = refl } in
+    let p = separates indent s w 58 more text parts right colon in
+    ap (reached s.mark) (sym is ∙ p.is) ∙ (p.near (all_blank w blank)).1
+
+either : (b : Bool) (n k bound : ℕ) → n ≤ bound → k ≤ bound → cond b n k ≤ bound
+either true n k bound h g = h
+either false n k bound h g = g
+
+one_behind : (indent : ℕ) (m : Marker) (c : ℕ) (o : List ℕ) (ad : ℕ) → ad ≤ m.index
+    → ad ≤ (past indent (moved m (c ∷ [])) o).0.index
+one_behind indent m c o ad low =
+    let on = one_on m c ad low in
+    let behind = past_low indent (moved m (c ∷ [])) o in
+    omega (arith, on, behind)
+
+pub close_passes : (around : Around) (y : Context) → is_block y ≡ false → (ends : Bool) (kind : Kind) (ch : ℕ)
+    → IsTokenMark ch
+    → ((second i : ℕ) (d : Bool) (s : Cursor) (k : Option Candidate) (ls : List Level) (a : Bool) (ad : ℕ)
+    → step ch second i (core_at around d s y k ls a ad)
+    ≡ close_collection ends kind (core_at around d s y k ls a ad))
+    → (m : Marker) (o : List ℕ) → FitsAround around m (ch ∷ []) o → (found : SkipTabs) (there : Cursor)
+    → separation Yes (cursor_at o (along m 1) false) ≡ Ok (found, there)
+    → past around.indent there.mark there.rest ≡ past around.indent (along m 1) o
+    → (j : Option Candidate) (x : Context) (ls : List Level) (now : FlowMoment) → IsFresh x o false there
+    → Calm around x → now.adjacent ≤ m.index → StandsBefore around now m (ch ∷ o)
+    → PassesPiece around (state_at around (record now { context = y; outer = level_of x j ∷ ls }))
+    (closed_collection around.indent x j (moved m (ch ∷ [])) o) x ls now.places (moved m (ch ∷ [])) o
+    (pending ends ++ kind ∷ [])
+close_passes around y flows ends kind ch mark begins m o fits found there is lands j x ls now fresh calm before text =
+    let inside : FlowMoment = record now { context = y; outer = level_of x j ∷ ls } in
+    let v = arrives around inside m (ch ∷ o) (text ∙ past_ink around.indent m ch o
+    mark.ink) mark.ink.blank fits.right fits.calm in
+    let stepped = λ (d : Bool). begins (slice_index o 0) (length now.places) d (cursor_at (ch ∷ o) m v.blank) v.key
+    (level_of x j ∷ ls) v.allowed now.adjacent
+    ∙ close_collection_gives ends kind ch o m v.blank around d y v.key j x ls v.allowed now.adjacent found there
+    is flows calm in
+    let below = fits.below in
+    let new = mark_places ends m there.mark kind in
+    let next = moment there x j ls false (cond (is_block x) now.adjacent there.mark.index) now.places in
+    let came = step_comes around inside m (ch ∷ o) v (mark_begins m ch o mark fits.clear) (moment_with new next)
+    (behind_pair ends m (from_to m there.mark kind)) (λ d. d)
+    (as_before around) stepped (mark_puts ends now.places m there.mark kind)
+    (within_index around.indent around.limit there (along m 1) o lands (omega (arith, below))) in
+    let here = mark_moved m ch mark in
+    step_passes next new (moved m (ch ∷ [])) o (pending ends ++ kind ∷ [])
+    (closed_collection around.indent x j (moved m (ch ∷ [])) o) came
+    (right_one around.indent m ch mark.feed fits.right)
+    (lands ∙ ap (λ (q : Marker). past around.indent q o) here) fresh (mark_kinds ends m there.mark kind)
+    (record {
+      keeps = came.same;
+      kept = came.kept;
+      near = λ e w more text parts blank.
+          rw e (ap (λ (q : Marker). q.index)
+          (one_place around.indent (cursor_at o (along m 1) false) found there is w more text parts
+          (le_next around.indent m.col fits.right) blank ∙ ap (λ (q : Marker). moved q w) here));
+      low = either (is_block x) now.adjacent there.mark.index (past around.indent (moved m (ch ∷ [])) o).0.index
+          (one_behind around.indent m ch o now.adjacent before)
+          (subst (λ (q : Marker × List ℕ). there.mark.index ≤ q.0.index)
+          (lands ∙ ap (λ (q : Marker). past around.indent q o) here)
+          (past_low around.indent there.mark there.rest));
+    })

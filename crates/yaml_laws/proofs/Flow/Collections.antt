@@ -1,0 +1,213 @@
+-- Collections in brackets and braces, given the run over what is inside them.
+pub mod Runs
+use Rattle.std.proofs.Common.{◌≡◌, ℕ, ◌<◌, ◌≤◌, Bool, true, false, List, [], ◌∷◌, ◌++◌, length, Ok, sym, ap, ◌∙◌, subst, append_assoc, IsTrue}
+use Rattle.std.specs.Prelude.{Option, None}
+use Rattle.std.specs.List.{list_all}
+use Rattle.saphyr_input.specs.Indicators.{colon}
+use Rattle.saphyr_input.specs.Classes.{is_blank}
+use Rattle.saphyr_input.specs.declared.input.SkipTabs.{SkipTabs}
+use Rattle.saphyr_input.specs.declared.input.SkipTabs.TheVariants.{Yes}
+use Rattle.saphyr_scalar.specs.declared.scalar.position.Marker.{Marker}
+use Rattle.saphyr_scalar.specs.Views.Cursor.{Cursor, along, separation}
+use Rattle.saphyr_scalar.proofs.Given.{cursor_at}
+use Rattle.scalar_laws.specs.Spelling.Spaces.{IsSeparation}
+use Rattle.saphyr_scanner.specs.declared.engine.level.Context.{Context}
+use Rattle.saphyr_scanner.specs.declared.engine.level.Context.TheVariants as context
+use Rattle.saphyr_scanner.specs.Grammar.Tokens.{Kind}
+use Rattle.saphyr_scanner.specs.Views.Tokens.{Piece}
+use Rattle.saphyr_scanner.specs.Steps.Queue.{Place, bare_place}
+use Rattle.saphyr_scanner.specs.Steps.Core.{Core}
+use Rattle.saphyr_scanner.specs.Steps.Level.{Candidate, Level, is_block, ends_pair}
+use Rattle.saphyr_scanner.specs.Steps.Flow as flow
+use Rattle.saphyr_scanner.specs.Steps.Flow.{close_collection}
+use Rattle.saphyr_scanner.specs.Steps.State.{State}
+use Rattle.saphyr_scanner.specs.Steps.Fetch.{step}
+use Rattle.saphyr_scanner.specs.Limits.{most_open}
+use Rattle.yaml_laws.proofs.InFlow.States.{Around, core_at, state_at, Calm, FlowMoment}
+use Rattle.yaml_laws.proofs.Flow.States.{crosses, IsFresh, Since, KeptKey, keeping, moved, past, IsParted, IsBehindRoot, Known, PassesPiece, FitsAround, ended, StandsBefore, after}
+use Rattle.yaml_laws.proofs.Flow.Places.{moved_append}
+use Rattle.yaml_laws.proofs.Flow.GapSteps.{past_ink, less_on}
+use Rattle.yaml_laws.proofs.Flow.Fillers.{rest_past}
+use Rattle.yaml_laws.proofs.Flow.Separates.{separates, separates_rest}
+use Rattle.yaml_laws.proofs.Flow.Joins.{join, separation_joins}
+use Rattle.yaml_laws.proofs.Flow.Brackets.{IsTokenMark, open_passes, pending, close_passes}
+use Rattle.yaml_laws.proofs.InBlock.Crossings.{fresh_in_flow, line_rest_crosses}
+use Rattle.yaml_laws.proofs.Flow.Pieces.{fits_front, fits_back, fits_before}
+use Rattle.saphyr_input.proofs.Basics.Numbers.{le_next}
+use Rattle.saphyr_scanner.proofs.Levels.{level_of}
+
+-- ## Behind the closing bracket
+
+-- what blanks and a comment behind a bracket at m give
+pub record EndsAt (indent : ℕ) (x : Context) (m : Marker) (o : List ℕ) : Type 0 where
+  pub found : SkipTabs
+  pub there : Cursor
+  pub is : separation Yes (cursor_at o (along m 1) false) ≡ Ok (found, there)
+  pub lands : past indent there.mark there.rest ≡ past indent (along m 1) o
+  pub fresh : IsFresh x o false there
+
+pub ends_inside : (indent : ℕ) (x : Context) (m : Marker) (o : List ℕ) → is_block x ≡ false → IsParted indent o
+    → indent ≤ m.col → EndsAt indent x m o
+ends_inside indent x m o flow h right =
+    let p = separates indent (cursor_at o (along m 1) false) h.separation h.first h.others h.is h.parts
+    (le_next indent m.col right) h.ink in
+    record {
+      found = p.found;
+      there = p.there;
+      is = p.is;
+      lands = p.lands;
+      fresh = fresh_in_flow x o false p.there flow;
+    }
+
+pub ends_root : (indent : ℕ) (m e : Marker) (o : List ℕ) → IsBehindRoot indent e o → indent ≤ m.col
+    → EndsAt indent context.Block m o
+ends_root indent m e o h right =
+    let p = separates_rest (cursor_at o (along m 1) false) h.rest h.more h.is h.line h.break in
+    record {
+      found = p.0;
+      there = record { rest = h.more; mark = moved (along m 1) h.rest; blank_so_far = false };
+      is = p.1;
+      lands = sym (ap (past indent (along m 1)) h.is
+          ∙ rest_past indent (along m 1) h.rest h.more h.line h.break (le_next indent m.col right));
+      fresh = λ _ e. line_rest_crosses h.rest h.more h.line h.break (ap crosses (sym h.is) ∙ e);
+    }
+
+-- ## The brackets and what is inside
+
+-- the run over what is inside, up to the closing bracket ch
+pub record InsidePasses (around : Around) (start : Bool → State) (Is : List Kind → Type 0) (ch : ℕ) (kind : Kind)
+    (ls : List Level) (ps : List Place) (m : Marker) (o : List ℕ) : Type 0 where
+  pub inside : Context
+  pub flows : is_block inside ≡ false
+  pub closes : (second i : ℕ) (d : Bool) (s : Cursor) (k : Option Candidate) (ms : List Level) (a : Bool) (ad : ℕ)
+      → step ch second i (core_at around d s inside k ms a ad)
+      ≡ close_collection (ends_pair inside) kind (core_at around d s inside k ms a ad)
+  pub tokens : List Kind
+  pub are : Is (tokens ++ pending (ends_pair inside))
+  pub passes : PassesPiece around start (ended around.indent m o) inside ls ps m o tokens
+
+-- a kind of collection: its brackets and their tokens
+pub record Brackets : Type 0 where
+  pub context : Context
+  pub opening : ℕ
+  pub closing : ℕ
+  pub opens : Kind
+  pub closes : Kind
+
+pub record AreBrackets (b : Brackets) : Type 0 where
+  pub flows : is_block b.context ≡ false
+  pub opening_mark : IsTokenMark b.opening
+  pub closing_mark : IsTokenMark b.closing
+  pub begins : (second i : ℕ) (c : Core) → step b.opening second i c ≡ flow.opening_steps b.context b.opens i c
+
+-- Behind a collection: as behind a node, of which blanks alone stand before a colon that may stand at once.
+pub record IsBracketed (indent : ℕ) (x : Context) (kept : KeptKey) (m : Marker) (o : List ℕ) (key : Option Candidate)
+    (adjacent : ℕ) (new : List Place) : Type 0 where
+  pub piece : Piece
+  pub others : List Place
+  pub is : new ≡ bare_place piece ∷ others
+  pub keeps : is_block x ≡ false → key ≡ kept.kept
+  pub since : Since kept.before kept.from kept.over key
+  pub near : is_block x ≡ false → (w more : List ℕ) → o ≡ w ++ (colon ∷ more) → IsSeparation indent w
+      → IsTrue (list_all is_blank w) → adjacent ≡ (moved m w).index
+  pub low : adjacent ≤ (past indent m o).0.index
+
+abbrev pub bracketed : ℕ → Context → KeptKey → Marker → List ℕ → Known
+bracketed indent x kept m o key allowed adjacent new = IsBracketed indent x kept m o key adjacent new
+
+-- the text from the opening bracket to the closing one
+abbrev pub bracket_text : Brackets → List ℕ → List ℕ → List ℕ
+bracket_text b w inside = (b.opening ∷ w) ++ (inside ++ (b.closing ∷ []))
+
+-- the run over what is inside, wherever the opening bracket leads
+abbrev pub RunsInside : Around → (List Kind → Type 0) → Brackets → Context → List Level → Marker → List ℕ → List ℕ
+    → Type 0
+RunsInside around Is b x ls m inside o =
+    (j : Option Candidate) (now : FlowMoment) → now.key ≡ None → now.allowed ≡ true → now.adjacent < m.index
+    → around.indent ≤ m.col → StandsBefore around now m (inside ++ (b.closing ∷ o))
+    → InsidePasses around (state_at around (record now { context = b.context; outer = level_of x j ∷ ls })) Is b.closing
+    b.closes (level_of x j ∷ ls) now.places (moved m inside) (b.closing ∷ o)
+
+-- the run over a collection whose text t stands at m before o
+pub record BracketsPass (around : Around) (now : FlowMoment) (Is : List Kind → Type 0) (b : Brackets) (m : Marker)
+    (t o : List ℕ) : Type 0 where
+  pub inside : List Kind
+  pub are : Is inside
+  pub passes : PassesPiece around (state_at around now)
+      (bracketed around.indent now.context (keeping now m t) (moved m t) o) now.context now.outer now.places (moved m t)
+      o (b.opens ∷ (inside ++ b.closes ∷ []))
+
+-- a token of its own is the first, and no colon may stand at once from n on
+abbrev starts_with : Piece → ℕ → Known
+starts_with piece n key allowed adjacent new = ((others : List Place) × (new ≡ bare_place piece ∷ others))
+    × (adjacent ≤ n)
+
+all_told : (opens closes : Kind) (ts ends : List Kind)
+    → ((opens ∷ []) ++ ts) ++ (ends ++ closes ∷ []) ≡ opens ∷ ((ts ++ ends) ++ closes ∷ [])
+all_told opens closes ts ends = ap (λ (x : List Kind). opens ∷ x) (sym (append_assoc ts ends (closes ∷ [])))
+
+pub brackets_pass : (around : Around) (Is : List Kind → Type 0) (b : Brackets) → AreBrackets b
+    → (m : Marker) (w inside o : List ℕ) → FitsAround around m (bracket_text b w inside) o
+    → IsSeparation around.indent w
+    → IsParted around.indent (w ++ (inside ++ (b.closing ∷ o)))
+    → (now : FlowMoment) → length now.outer < most_open → Calm around now.context → now.adjacent ≤ m.index
+    → StandsBefore around now m (bracket_text b w inside ++ o)
+    → (around.indent ≤ (moved (moved m (b.opening ∷ w)) inside).col
+    → EndsAt around.indent now.context (moved (moved m (b.opening ∷ w)) inside) o)
+    → RunsInside around Is b now.context now.outer (moved m (b.opening ∷ w)) inside o
+    → BracketsPass around now Is b m (bracket_text b w inside) o
+brackets_pass around Is b are m w inside o fits parts parted now low calm before text ends run =
+    let close = b.closing ∷ [] in
+    let follow : (inside ++ close) ++ o ≡ inside ++ (b.closing ∷ o) = append_assoc inside close o in
+    let whole = fits_front m (b.opening ∷ w) (inside ++ close) o fits in
+    let first = fits_front m (b.opening ∷ []) w ((inside ++ close) ++ o) whole in
+    let opening_fits = fits_before m (b.opening ∷ []) (w ++ ((inside ++ close) ++ o)) (w ++ (inside ++ (b.closing ∷ o)))
+    (ap (λ (t : List ℕ). w ++ t) follow) first in
+    let here = moved m (b.opening ∷ w) in
+    let texts : bracket_text b w inside ++ o ≡ b.opening ∷ (w ++ (inside ++ (b.closing ∷ o))) =
+    append_assoc (b.opening ∷ w) (inside ++ close) o ∙ ap (λ (t : List ℕ). b.opening ∷ (w ++ t)) follow in
+    let opened = open_passes around b.context are.flows b.opens b.opening are.opening_mark are.begins m
+    (w ++ (inside ++ (b.closing ∷ o))) opening_fits parted
+    now low calm before (text ∙ ap (past around.indent m) texts) in
+    let j = opened.0 in
+    let p = separation_joins (moved m (b.opening ∷ [])) w (inside ++ (b.closing ∷ o)) parts opened.2 in
+    let r = run j (after p) p.knows.0.0 p.knows.0.1
+    (less_on p.adjacent (moved m (b.opening ∷ [])) w p.knows.0.2) p.right p.fits in
+    let closing_fits = fits_back here inside close o r.passes.right
+    (fits_back m (b.opening ∷ w) (inside ++ close) o p.right fits) in
+    let at_close = ends r.passes.right in
+    let piece = p.knows.1.0 in
+    let at_end = moved here inside in
+    let first_ended : r.passes.adjacent ≤ at_end.index = subst (λ (z : Marker × List ℕ). r.passes.adjacent ≤ z.0.index)
+    (past_ink around.indent at_end b.closing o are.closing_mark.ink) r.passes.knows in
+    let q = join p r.passes (starts_with piece at_end.index)
+    ((r.passes.new, ap (λ (z : List Place). z ++ r.passes.new) p.knows.1.1), first_ended) in
+    let c = close_passes around r.inside r.flows (ends_pair r.inside) b.closes b.closing are.closing_mark r.closes
+    at_end o closing_fits at_close.found at_close.there at_close.is at_close.lands
+    j now.context now.outer (after q) at_close.fresh calm q.knows.1 q.fits in
+    let end = moved at_end close in
+    let kept = keeping now m (bracket_text b w inside) in
+    let known : IsBracketed around.indent now.context kept end o c.key c.adjacent (q.new ++ c.new) = record {
+      piece = piece;
+      others = q.knows.0.0 ++ c.new;
+      is = ap (λ (z : List Place). z ++ c.new) q.knows.0.1;
+      keeps = λ e. c.knows.keeps e ∙ opened.1 e;
+      since = opened.3 (bracket_text b w inside) c.key c.knows.kept;
+      near = c.knows.near;
+      low = c.knows.low;
+    } in
+    let all = join q c (bracketed around.indent now.context kept end o) known in
+    let start = state_at around now in
+    let place : end ≡ moved m (bracket_text b w inside) =
+    sym (moved_append m (b.opening ∷ w) (inside ++ close) ∙ moved_append here inside close) in
+    let inner = r.tokens ++ pending (ends_pair r.inside) in
+    record {
+      inside = inner;
+      are = r.are;
+      passes = subst (λ (e : Marker). PassesPiece around start (bracketed around.indent now.context kept e o)
+          now.context
+          now.outer now.places e o (b.opens ∷ (inner ++ b.closes ∷ []))) place
+          (subst (λ (ts : List Kind). PassesPiece around start (bracketed around.indent now.context kept end o)
+          now.context now.outer now.places end o ts)
+          (all_told b.opens b.closes r.tokens (pending (ends_pair r.inside))) all);
+    }

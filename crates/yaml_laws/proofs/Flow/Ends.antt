@@ -1,0 +1,150 @@
+-- What stands first behind a piece of a text in flow style.
+use Rattle.std.proofs.Common.{◌≡◌, ◌≢◌, ℕ, Bool, true, false, List, [], ◌∷◌, ◌++◌, slice_index, refl, sym, ap, ◌∙◌, arith, subst, append_assoc, IsTrue, ◌⊎◌, inl, inr}
+use Rattle.std.specs.Prelude.{◌||◌, ◌&&◌, not}
+use Rattle.std.proofs.lemmas.Bool.Decides.{nat_tests}
+use Rattle.saphyr_input.specs.Classes.{is_blank, is_breakz, is_blank_or_breakz, is_bom, is_flow, is_anchor_char, line_feed}
+use Rattle.saphyr_input.specs.Places.{is_blank_or_break}
+use Rattle.saphyr_scalar.specs.declared.scalar.position.Marker.{Marker}
+use Rattle.saphyr_scalar.specs.Reading.BlockLines.{spaces}
+use Rattle.saphyr_scalar.specs.Spelling.Tag.{AreIn, EndsTag}
+use Rattle.scalar_laws.specs.Spelling.Spaces.{joined_pieces, AreEach, IsCommentBehind, IsSeparationLine, IsSeparation, IsLineRest}
+use Rattle.saphyr_scanner.specs.Grammar.Forest.{Node}
+use Rattle.yaml_laws.specs.Grammar.FlowNodes.{needs_separation, IsBeforeColon}
+use Rattle.yaml_laws.proofs.Flow.States.{EndsNode, IsBehindNode, IsBehindRoot}
+use Rattle.std.proofs.lemmas.Bool.{or_left}
+
+-- ## White space first
+
+-- nothing, or a blank or a break first
+abbrev pub BeginsWhite : List ℕ → Type 0
+BeginsWhite [] = Unit {0}
+BeginsWhite (c ∷ cs) = IsTrue (is_blank_or_break c)
+
+pub blank_white : (c : ℕ) → IsTrue (is_blank c) → IsTrue (is_blank_or_break c)
+blank_white c h = grind (arith, nat_tests)
+
+blanks_white : (w : List ℕ) → AreIn is_blank w → BeginsWhite w
+blanks_white [] h = tt
+blanks_white (c ∷ cs) h = blank_white c h.0
+
+-- a comment stands behind white space alone
+behind_white : (w comment more : List ℕ) → BeginsWhite w → IsCommentBehind w comment → BeginsWhite more
+    → BeginsWhite (w ++ (comment ++ more))
+behind_white (c ∷ cs) comment more h k g = h
+behind_white [] comment more h (inl e) g = subst (λ (y : List ℕ). BeginsWhite (y ++ more)) (sym e) g
+behind_white [] comment more h (inr k) g = absurd (k.0 refl)
+
+two_white : (a b : List ℕ) → BeginsWhite a → BeginsWhite b → BeginsWhite (a ++ b)
+two_white [] b h k = k
+two_white (c ∷ cs) b h k = h
+
+separation_line_white : (indent : ℕ) (w : List ℕ) → IsSeparationLine indent w → BeginsWhite w
+separation_line_white indent w h = subst BeginsWhite (sym h.6)
+    (behind_white h.0 h.1 (10 ∷ (h.2 ++ spaces indent)) (blanks_white h.0 h.3) h.4 refl)
+
+pub separation_white : (indent : ℕ) (w : List ℕ) → IsSeparation indent w → BeginsWhite w
+separation_white indent w h =
+    subst BeginsWhite (sym h.4)
+    (two_white h.0 h.1 (subst BeginsWhite (sym h.2.2) (pieces h.2.0 h.2.1)) (blanks_white h.1 h.3))
+  where
+    pieces : (ws : List (List ℕ)) → AreEach (IsSeparationLine indent) ws → BeginsWhite (joined_pieces ws)
+    pieces [] k = tt
+    pieces (v ∷ vs) k = two_white v (joined_pieces vs) (separation_line_white indent v k.0) (pieces vs k.1)
+
+rest_white : (rest more : List ℕ) → IsLineRest rest → BeginsWhite more → BeginsWhite (rest ++ more)
+rest_white rest more h k =
+    subst BeginsWhite (sym (ap (λ (y : List ℕ). y ++ more) h.4 ∙ append_assoc h.0 h.1 more))
+    (behind_white h.0 h.1 more (blanks_white h.0 h.2) h.3 k)
+
+-- ## The first character behind a node
+
+white_breakz : (c : ℕ) → IsTrue (is_blank_or_break c) → IsTrue (is_blank_or_breakz c)
+white_breakz c h = grind (arith, nat_tests)
+
+pub first_white : (w : List ℕ) → BeginsWhite w → IsTrue (is_blank_or_breakz (slice_index w 0))
+first_white [] h = refl
+first_white (c ∷ cs) h = white_breakz c h
+
+-- behind a document's node: a blank, a break or the end
+pub root_first : (indent : ℕ) (m : Marker) (o : List ℕ) → IsBehindRoot indent m o
+    → IsTrue (is_blank_or_breakz (slice_index o 0))
+root_first indent m o h =
+    first_white o (subst BeginsWhite (sym h.is) (rest_white h.rest h.more h.line (ends h.more h.break)))
+  where
+    feed : (c : ℕ) → c ≡ line_feed → IsTrue (is_blank_or_break c)
+    feed c e = rw e refl
+
+    ends : (more : List ℕ) → (more ≡ []) ⊎ (slice_index more 0 ≡ line_feed) → BeginsWhite more
+    ends [] k = tt
+    ends (c ∷ cs) (inl e) = absurd (cc)
+    ends (c ∷ cs) (inr e) = feed c e
+
+-- behind separation that is not empty
+pub ends_behind_separation : (indent : ℕ) (w y : List ℕ) → IsSeparation indent w → w ≢ []
+    → IsTrue (is_blank_or_breakz (slice_index (w ++ y) 0))
+ends_behind_separation indent w y h some = by_first w some (separation_white indent w h)
+  where
+    by_first : (w : List ℕ) → w ≢ [] → BeginsWhite w → IsTrue (is_blank_or_breakz (slice_index (w ++ y) 0))
+    by_first [] some k = absurd (some refl)
+    by_first (c ∷ cs) some k = white_breakz c k
+
+-- the character right behind a node inside flow
+abbrev pub EndsHere : Node → ℕ → Type 0
+EndsHere node c = IsTrue (is_blank_or_breakz c)
+    ⊎ ((c ≡ 44) ⊎ ((c ≡ 93) ⊎ ((c ≡ 125) ⊎ ((c ≡ 58) × IsTrue (not (needs_separation node))))))
+
+pub behind_node_first : (indent : ℕ) (node : Node) (o : List ℕ) → IsBehindNode indent node o → EndsHere node
+    (slice_index o 0)
+behind_node_first indent node o h = by_separation h.separation h.is h.parts h.ends
+  where
+    colon : IsBeforeColon node [] → IsTrue (not (needs_separation node))
+    colon (inl some) = absurd (some refl)
+    colon (inr k) = k
+
+    ends : EndsNode node [] h.first h.others → EndsHere node h.first
+    ends (inl e) = inr (inl e)
+    ends (inr (inl e)) = inr (inr (inl e))
+    ends (inr (inr (inl e))) = inr (inr (inr (inl e)))
+    ends (inr (inr (inr e))) = inr (inr (inr (inr (e.0, colon e.1))))
+
+    by_separation : (w : List ℕ) → o ≡ w ++ (h.first ∷ h.others) → IsSeparation indent w
+        → EndsNode node w h.first h.others → EndsHere node (slice_index o 0)
+    by_separation [] is parts k = subst (λ (y : List ℕ). EndsHere node (slice_index y 0)) (sym is) (ends k)
+    by_separation (c ∷ cs) is parts k =
+        subst (λ (y : List ℕ). EndsHere node (slice_index y 0)) (sym is)
+        (inl (white_breakz c (separation_white indent (c ∷ cs) parts)))
+
+-- ## What it ends
+
+ends_none : (blank breakz mark flow in_flow : Bool) → ((blank || breakz) || (in_flow && flow)) ≡ true
+    → ((((not breakz && not mark) && not blank) && not flow)) ≡ false
+ends_none blank true mark flow in_flow e = refl
+ends_none blank false true flow in_flow e = refl
+ends_none true false false flow in_flow e = refl
+ends_none false false false true in_flow e = refl
+ends_none false false false false true e = absurd (cc)
+ends_none false false false false false e = absurd (cc)
+
+-- what ends a tag ends a name
+pub tag_ends_name : (in_flow : Bool) (o : List ℕ) → EndsTag in_flow o → is_anchor_char (slice_index o 0) ≡ false
+tag_ends_name in_flow o h =
+    let c = slice_index o 0 in ends_none (is_blank c) (is_breakz c) (is_bom c) (is_flow c) in_flow h
+
+pub white_ends_tag : (in_flow : Bool) (o : List ℕ) → IsTrue (is_blank_or_breakz (slice_index o 0)) → EndsTag in_flow o
+white_ends_tag in_flow o h = or_left (is_blank_or_breakz (slice_index o 0)) (in_flow && is_flow (slice_index o 0)) h
+
+-- behind a node that needs separation before a colon
+pub node_ends_tag : (indent : ℕ) (node : Node) (o : List ℕ) → IsTrue (needs_separation node)
+    → IsBehindNode indent node o → EndsTag true o
+node_ends_tag indent node o needs h = by_first (slice_index o 0) (behind_node_first indent node o h)
+  where
+    never : (b : Bool) → b ≡ true → IsTrue (not b) → ⊥
+    never true e k = absurd (cc)
+    never false e k = cc
+
+    by_first : (c : ℕ) → EndsHere node c → IsTrue (is_blank_or_breakz c || (true && is_flow c))
+    by_first c (inl k) = or_left (is_blank_or_breakz c) (true && is_flow c) k
+    by_first c (inr (inl e)) = rw e refl
+    by_first c (inr (inr (inl e))) = rw e refl
+    by_first c (inr (inr (inr (inl e)))) = rw e refl
+    by_first c (inr (inr (inr (inr e)))) = absurd (never (needs_separation node) needs e.1)

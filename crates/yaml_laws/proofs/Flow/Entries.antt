@@ -1,0 +1,273 @@
+-- The entries of braces and of brackets inside flow.
+use Rattle.std.proofs.Common.{◌≡◌, ℕ, ◌+◌, ◌<◌, ◌≤◌, Bool, true, false, List, [], ◌∷◌, ◌++◌, length, refl, sym, ap, ◌∙◌, subst, append_assoc, append-nil, ◌⊎◌, inl, inr}
+use Rattle.std.specs.Prelude.{None}
+use Rattle.saphyr_input.specs.Indicators.{comma, right_brace, right_bracket}
+use Rattle.saphyr_input.specs.Classes.{is_blank}
+use Rattle.saphyr_scalar.specs.declared.scalar.position.Marker.{Marker}
+use Rattle.saphyr_scalar.specs.Views.Cursor.{along}
+use Rattle.saphyr_scalar.specs.Spelling.Tag.{AreIn}
+use Rattle.scalar_laws.specs.Spelling.Spaces.{IsSeparation}
+use Rattle.saphyr_scanner.specs.declared.engine.level.Context.{Context}
+use Rattle.saphyr_scanner.specs.declared.engine.level.Context.TheVariants as context
+use Rattle.saphyr_scanner.specs.Grammar.Tokens as tokens
+use Rattle.saphyr_scanner.specs.Grammar.Tokens.{Kind}
+use Rattle.saphyr_scanner.specs.Grammar.TokenGrammar as grammar
+use Rattle.saphyr_scanner.specs.Steps.Queue.{Place}
+use Rattle.saphyr_scanner.specs.Steps.Level.{Level, is_block, behind_entry, ends_pair}
+use Rattle.saphyr_scanner.specs.Steps.State.{State}
+use Rattle.saphyr_scanner.specs.Grammar.Forest.{no_properties, Node, Map, NoPair, MorePairs}
+use Rattle.saphyr_scanner.specs.Limits.{most_open}
+use Rattle.yaml_laws.specs.Grammar.FlowNodes.{IsOnLine, IsKeyAndValue, IsBeforeSeparation, IsPairText, IsPair, IsSinglePairText, IsSinglePair, IsFlowNode}
+use Rattle.yaml_laws.proofs.InFlow.States.{Around, state_at, FlowMoment, moment_in}
+use Rattle.yaml_laws.proofs.Flow.States.{FitsAround, moved, past, PassesPiece, ended, PassesNode, StandsBefore}
+use Rattle.yaml_laws.proofs.Flow.Places.{moved_append, moved_along}
+use Rattle.yaml_laws.proofs.Flow.Fillers.{separation_past}
+use Rattle.yaml_laws.proofs.Flow.Separates.{blanks_moved}
+use Rattle.yaml_laws.proofs.Flow.Joins.{separation_joins, knowing}
+use Rattle.yaml_laws.proofs.Flow.Brackets.{pending}
+use Rattle.yaml_laws.proofs.Flow.Pieces.{fits_front, fits_so, IsBehindEntry, entry_behind, wider_entry}
+use Rattle.yaml_laws.proofs.Flow.Pairs.{TellsPiece, told_at, told_so, key_passes, alone_passes}
+use Rattle.yaml_laws.proofs.Flow.MarkedPairs.{MarkedTokens, IsMarked, explicit_passes, lone_passes}
+
+-- ## In braces
+
+in_braces : IsMarked context.FlowMapping context.FlowMapping
+in_braces = record { flows = refl; question = refl; inside = refl; no_pair = refl; colon = refl }
+
+in_brackets : IsMarked context.FlowSequence context.ExplicitFlowPair
+in_brackets = record { flows = refl; question = refl; inside = refl; no_pair = refl; colon = refl }
+
+ended_behind : {around : Around} {start : Bool → State} {x : Context} {ls : List Level} {ps : List Place}
+    {ts : List Kind} (m : Marker) (w o : List ℕ) → IsSeparation around.indent w
+    → PassesPiece around start (ended around.indent m (w ++ o)) x ls ps m (w ++ o) ts
+    → PassesPiece around start (ended around.indent (moved m w) o) x ls ps (moved m w) o ts
+ended_behind {around = around} m w o parts p =
+    let q = separation_joins m w o parts p in
+    knowing q (ended around.indent (moved m w) o)
+    (subst (λ (r : Marker × List ℕ). q.adjacent ≤ r.0.index) (separation_past around.indent m w o parts p.right)
+    q.knows)
+
+told_behind : {around : Around} {start : Bool → State} {Is : List Kind → Type 0} {x : Context} {ls : List Level}
+    {ps : List Place} (m : Marker) (w o : List ℕ) → IsSeparation around.indent w
+    → TellsPiece around start Is x ls ps m (w ++ o) → TellsPiece around start Is x ls ps (moved m w) o
+told_behind m w o parts t = record { tokens = t.tokens; are = t.are; passes = ended_behind m w o parts t.passes }
+
+abbrev pub PairInBraces : Node → Node → List Kind → Type 0
+PairInBraces key value t =
+    grammar.YieldsFlowPair key value (grammar.YieldsNode key grammar.InFlow) (grammar.YieldsNode value grammar.InFlow) t
+
+marked_in_braces : (key value : Node) (t : List Kind) → MarkedTokens key value t → PairInBraces key value t
+marked_in_braces key value t (inl h) = inl h
+marked_in_braces key value t (inr h) = inr (inl h)
+
+pair_text_passes : {around : Around} (room : ℕ) (key value : Node) → PassesNode around room key
+    → PassesNode around room value → (m : Marker) (t o : List ℕ) → FitsAround around m t o
+    → IsBehindEntry around.indent o
+    → IsPairText key value (IsFlowNode room key true around.indent) (IsFlowNode room value true around.indent)
+    around.indent t → (now : FlowMoment) → now.key ≡ None → now.allowed ≡ true
+    → room + length now.outer ≤ most_open → now.adjacent < m.index → StandsBefore around now m (t ++ o)
+    → TellsPiece around (state_at around (moment_in context.FlowMapping now)) (PairInBraces key value)
+    context.FlowMapping now.outer now.places (moved m t) o
+pair_text_passes {around} room key value K V m t o fits ends (inl (none, h)) now no_candidate fresh low before text =
+    let n = K m t o (inl h) fits (entry_behind around.indent key o ends) (moment_in context.FlowMapping now)
+    before refl low text in
+    record {
+      tokens = n.tokens;
+      are = inr (inr (inr (none, n.are)));
+      passes = knowing n.passes (ended around.indent (moved m t) o) (n.passes.knows.low refl);
+    }
+pair_text_passes room key value K V m t o fits ends (inr (inl h)) now no_candidate fresh low before text =
+    told_so (λ ts (ks, vs, are, others, is).
+    inl (tokens.Key ∷ ks, tokens.Value ∷ vs, (ks, inr are, refl), (vs, others, refl), is))
+    (key_passes room key value K V context.FlowMapping refl m t o fits ends h (λ e. absurd (none e)) now
+    fresh low before text)
+  where
+    none : false ≡ true → ⊥
+    none e = cc
+pair_text_passes room key value K V m t o fits ends (inr (inr (inl h))) now no_candidate fresh low before text =
+    told_so (λ ts v. inr (inr (inl (h.0, v))))
+    (alone_passes room key value V context.FlowMapping refl m t o fits ends h now no_candidate low before text)
+pair_text_passes room key value K V m t o fits ends (inr (inr (inr h))) now no_candidate fresh low before text =
+    told_so (marked_in_braces key value)
+    (explicit_passes room key value K V context.FlowMapping context.FlowMapping in_braces m t o fits ends h now low
+    before text)
+
+-- a pair in braces, with the separation behind it
+pub pair_passes : {around : Around} (room : ℕ) (key value : Node) → PassesNode around room key
+    → PassesNode around room value → (m : Marker) (t : List ℕ) (c : ℕ) (cs : List ℕ) → FitsAround around m t (c ∷ cs)
+    → (c ≡ comma) ⊎ ((c ≡ right_bracket) ⊎ (c ≡ right_brace))
+    → IsPair key value (IsFlowNode room key true around.indent) (IsFlowNode room value true around.indent) around.indent
+    t → (now : FlowMoment) → now.key ≡ None → now.allowed ≡ true
+    → room + length now.outer ≤ most_open → now.adjacent < m.index → StandsBefore around now m (t ++ (c ∷ cs))
+    → TellsPiece around (state_at around (moment_in context.FlowMapping now)) (PairInBraces key value)
+    context.FlowMapping now.outer now.places (moved m t) (c ∷ cs)
+pair_passes room key value K V m t c cs fits ends (inl h) now no_candidate fresh low before text =
+    told_so (marked_in_braces key value)
+    (lone_passes key value context.FlowMapping context.FlowMapping in_braces m t c cs fits ends h now before text)
+pair_passes {around} room key value K V m t c cs fits ends (inr (piece, separation, h, parts, e)) now
+    no_candidate fresh low before text =
+    let f = fits_front m piece separation (c ∷ cs) (fits_so m t (piece ++ separation) (c ∷ cs) e fits) in
+    let texts = ap (λ (x : List ℕ). x ++ (c ∷ cs)) e ∙ append_assoc piece separation (c ∷ cs) in
+    told_at (moved (moved m piece) separation) (moved m t)
+    (sym (moved_append m piece separation) ∙ ap (moved m) (sym e))
+    (told_behind (moved m piece) separation (c ∷ cs) parts
+    (pair_text_passes room key value K V m piece (separation ++ (c ∷ cs)) f
+    (wider_entry around.indent separation cs c parts ends) h now no_candidate fresh low before
+    (text ∙ ap (past around.indent m) texts)))
+
+-- ## In brackets
+
+-- the tokens of an entry: those of a node, or of a mapping of one pair
+abbrev pub IsEntry : Node → List Kind → Type 0
+IsEntry node t = grammar.YieldsNode node grammar.InFlow t ⊎ grammar.YieldsPairEntry node t
+
+-- The run over an entry of brackets. A pair that has no bracket of its own is open behind it, and ends with what stands
+-- behind the entry.
+pub record ItemPasses (around : Around) (start : Bool → State) (Is : List Kind → Type 0) (ls : List Level)
+    (ps : List Place) (m : Marker) (o : List ℕ) : Type 0 where
+  pub inside : Context
+  pub flows : is_block inside ≡ false
+  pub back : behind_entry inside ≡ context.FlowSequence
+  pub tokens : List Kind
+  pub are : Is (tokens ++ pending (ends_pair inside))
+  pub passes : PassesPiece around start (ended around.indent m o) inside ls ps m o tokens
+
+item_at : {around : Around} {start : Bool → State} {Is : List Kind → Type 0} {ls : List Level} {ps : List Place}
+    {o : List ℕ} (m n : Marker) → m ≡ n → ItemPasses around start Is ls ps m o
+    → ItemPasses around start Is ls ps n o
+item_at {around} {start} {Is} {ls} {ps} {o} m n e t = subst (λ (k : Marker). ItemPasses around start Is ls ps k o) e t
+
+item_behind : {around : Around} {start : Bool → State} {Is : List Kind → Type 0} {ls : List Level} {ps : List Place}
+    (m : Marker) (w o : List ℕ) → IsSeparation around.indent w → ItemPasses around start Is ls ps m (w ++ o)
+    → ItemPasses around start Is ls ps (moved m w) o
+item_behind m w o parts t =
+    record {
+      inside = t.inside;
+      flows = t.flows;
+      back = t.back;
+      tokens = t.tokens;
+      are = t.are;
+      passes = ended_behind m w o parts t.passes;
+    }
+
+-- a node, with the separation behind it
+pub node_item_passes : {around : Around} (room : ℕ) (node : Node) → PassesNode around room node
+    → (m : Marker) (t : List ℕ) (c : ℕ) (cs : List ℕ) → FitsAround around m t (c ∷ cs)
+    → (c ≡ comma) ⊎ ((c ≡ right_bracket) ⊎ (c ≡ right_brace))
+    → IsBeforeSeparation (IsFlowNode room node true around.indent) around.indent t
+    → (now : FlowMoment) → room + length now.outer ≤ most_open → now.adjacent < m.index
+    → StandsBefore around now m (t ++ (c ∷ cs))
+    → ItemPasses around (state_at around (moment_in context.FlowSequence now)) (IsEntry node) now.outer now.places
+    (moved m t) (c ∷ cs)
+node_item_passes {around} room node N m t c cs fits ends (piece, separation, h, parts, e) now low before text =
+    let o = separation ++ (c ∷ cs) in
+    let f = fits_front m piece separation (c ∷ cs) (fits_so m t (piece ++ separation) (c ∷ cs) e fits) in
+    let texts = ap (λ (x : List ℕ). x ++ (c ∷ cs)) e ∙ append_assoc piece separation (c ∷ cs) in
+    let n = N m piece o (inl h) f
+    (entry_behind around.indent node o (wider_entry around.indent separation cs c parts ends))
+    (moment_in context.FlowSequence now) before refl low (text ∙ ap (past around.indent m) texts) in
+    item_at (moved (moved m piece) separation) (moved m t)
+    (sym (moved_append m piece separation) ∙ ap (moved m) (sym e))
+    (item_behind (moved m piece) separation (c ∷ cs) parts
+    (record {
+      inside = context.FlowSequence;
+      flows = refl;
+      back = refl;
+      tokens = n.tokens;
+      are = inl (subst (grammar.YieldsNode node grammar.InFlow) (sym (append-nil n.tokens)) n.are);
+      passes = knowing n.passes (ended around.indent (moved m piece) o) (n.passes.knows.low refl);
+    }))
+
+-- the mapping of one pair
+abbrev pub single : Node → Node → Node
+single key value = Map no_properties (MorePairs key value NoPair)
+
+between : (key value : Node) (t : List Kind) → PairInBraces key value t
+    → IsEntry (single key value) (tokens.FlowMappingStart ∷ (t ++ tokens.FlowMappingEnd ∷ []))
+between key value t h = inl (
+  [],
+  tokens.FlowMappingStart
+      ∷ (t ++ tokens.FlowMappingEnd ∷ []),
+  refl,
+  inl (t, (t, [], h, inl refl, sym (append-nil t)), refl),
+  refl,
+)
+
+same_line : (m : Marker) (node blanks : List ℕ) → IsOnLine node → AreIn is_blank blanks
+    → m.line ≡ (moved (moved m node) blanks).line
+same_line m node blanks h are =
+    ap (λ (k : Marker). k.line)
+    (sym (blanks_moved (moved m node) blanks are ∙ ap (λ (k : Marker). along k (length blanks)) (moved_along m node h)))
+
+single_text_passes : {around : Around} (room : ℕ) (key value : Node) → PassesNode around room key
+    → PassesNode around room value → (m : Marker) (t o : List ℕ) → FitsAround around m t o
+    → IsBehindEntry around.indent o
+    → IsSinglePairText key value (IsFlowNode room key true around.indent) (IsFlowNode room value true around.indent)
+    around.indent t → (now : FlowMoment) → now.key ≡ None → now.allowed ≡ true
+    → room + length now.outer ≤ most_open → now.adjacent < m.index → StandsBefore around now m (t ++ o)
+    → ItemPasses around (state_at around (moment_in context.FlowSequence now)) (IsEntry (single key value)) now.outer
+    now.places (moved m t) o
+single_text_passes {around} room key value K V m t o fits ends (inl (node, blanks, colon, h, line, are, apart, c, e))
+    now no_candidate fresh low before text =
+    let pair : IsKeyAndValue key value (IsFlowNode room key true around.indent)
+    (IsFlowNode room value true around.indent) around.indent t =
+    (node, blanks, colon, h, ([], blanks, ([], tt, refl), are, refl), apart, c, e) in
+    let p = key_passes room key value K V context.FlowSequence refl m t o fits ends pair
+    (λ _. same_line m node blanks line are) now fresh low before text in
+    let ks = p.are.0 in
+    let vs = p.are.1 in
+    let told : PairInBraces key value (tokens.Key ∷ (ks ++ tokens.Value ∷ vs)) =
+    inl (tokens.Key ∷ ks, tokens.Value ∷ vs, (ks, inr p.are.2, refl), (vs, p.are.3, refl), refl) in
+    let all = subst (λ (x : List Kind). IsEntry (single key value) (x ++ tokens.FlowMappingEnd ∷ [])) (sym p.are.4)
+    (between key value (tokens.Key ∷ (ks ++ tokens.Value ∷ vs)) told) in
+    record { inside = context.FlowPair; flows = refl; back = refl; tokens = p.tokens; are = all; passes = p.passes }
+single_text_passes {around} room key value K V m t o fits ends (inr (inl h)) now no_candidate fresh low before text =
+    let p = alone_passes room key value V context.FlowSequence refl m t o fits ends h now no_candidate low
+    before text in
+    let vs = p.are.0 in
+    let told : PairInBraces key value (tokens.Value ∷ vs) = inr (inr (inl (h.0, (vs, p.are.1, refl)))) in
+    let all = subst (λ (x : List Kind). IsEntry (single key value) (x ++ tokens.FlowMappingEnd ∷ [])) (sym p.are.2)
+    (between key value (tokens.Value ∷ vs) told) in
+    record { inside = context.FlowPair; flows = refl; back = refl; tokens = p.tokens; are = all; passes = p.passes }
+single_text_passes {around} room key value K V m t o fits ends (inr (inr h)) now no_candidate fresh low before text =
+    let p = explicit_passes room key value K V context.FlowSequence context.ExplicitFlowPair in_brackets m t o fits ends
+    h now low before text in
+    record {
+      inside = context.ExplicitFlowPair;
+      flows = refl;
+      back = refl;
+      tokens = p.tokens;
+      are = inr (refl, subst (MarkedTokens key value) (sym (append-nil p.tokens)) p.are);
+      passes = p.passes;
+    }
+
+-- a pair in brackets, with the separation behind it
+pub single_passes : {around : Around} (room : ℕ) (key value : Node) → PassesNode around room key
+    → PassesNode around room value → (m : Marker) (t : List ℕ) (c : ℕ) (cs : List ℕ) → FitsAround around m t (c ∷ cs)
+    → (c ≡ comma) ⊎ ((c ≡ right_bracket) ⊎ (c ≡ right_brace))
+    → IsSinglePair key value (IsFlowNode room key true around.indent) (IsFlowNode room value true around.indent)
+    around.indent t → (now : FlowMoment) → now.key ≡ None → now.allowed ≡ true
+    → room + length now.outer ≤ most_open → now.adjacent < m.index → StandsBefore around now m (t ++ (c ∷ cs))
+    → ItemPasses around (state_at around (moment_in context.FlowSequence now)) (IsEntry (single key value)) now.outer
+    now.places (moved m t) (c ∷ cs)
+single_passes room key value K V m t c cs fits ends (inl h) now no_candidate fresh low before text =
+    let p = lone_passes key value context.FlowSequence context.ExplicitFlowPair in_brackets m t c cs fits ends h now
+    before text in
+    record {
+      inside = context.ExplicitFlowPair;
+      flows = refl;
+      back = refl;
+      tokens = p.tokens;
+      are = inr (refl, subst (MarkedTokens key value) (sym (append-nil p.tokens)) p.are);
+      passes = p.passes;
+    }
+single_passes {around} room key value K V m t c cs fits ends (inr (piece, separation, h, parts, e)) now
+    no_candidate fresh low before text =
+    let f = fits_front m piece separation (c ∷ cs) (fits_so m t (piece ++ separation) (c ∷ cs) e fits) in
+    let texts = ap (λ (x : List ℕ). x ++ (c ∷ cs)) e ∙ append_assoc piece separation (c ∷ cs) in
+    item_at (moved (moved m piece) separation) (moved m t)
+    (sym (moved_append m piece separation) ∙ ap (moved m) (sym e))
+    (item_behind (moved m piece) separation (c ∷ cs) parts
+    (single_text_passes room key value K V m piece (separation ++ (c ∷ cs)) f
+    (wider_entry around.indent separation cs c parts ends) h now no_candidate fresh low before
+    (text ∙ ap (past around.indent m) texts)))

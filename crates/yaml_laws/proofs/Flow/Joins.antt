@@ -1,0 +1,193 @@
+-- Runs over pieces of a text in flow style, one behind the other.
+use Rattle.std.proofs.Common.{◌≡◌, inl, inr, sym, ℕ, ◌≤◌, Bool, List, [], ◌++◌, refl, ap, ◌∙◌, append_assoc, append-nil}
+use Rattle.std.specs.Prelude.{Option, Some, None}
+use Rattle.saphyr_scalar.specs.declared.scalar.position.Marker.{Marker}
+use Rattle.scalar_laws.specs.Spelling.Spaces.{IsSeparation}
+use Rattle.saphyr_scanner.specs.declared.engine.level.Context.{Context}
+use Rattle.saphyr_scanner.specs.declared.engine.level.Context.TheVariants as context
+use Rattle.saphyr_scanner.specs.Grammar.Tokens.{Kind}
+use Rattle.saphyr_scanner.specs.Steps.Queue.{Place}
+use Rattle.saphyr_scanner.specs.Steps.Level.{Candidate, Level}
+use Rattle.saphyr_scanner.specs.Steps.State.{State}
+use Rattle.saphyr_scanner.proofs.Queues.{place_kinds, place_kinds_append}
+use Rattle.yaml_laws.proofs.InFlow.States.{Around, state_at, runs_to_itself, chains, ComesAround, FlowMoment, moment_with}
+use Rattle.yaml_laws.proofs.Flow.States.{moved, past, IsFresh, Since, Known, PassesPiece, Closes, after, StandsBefore}
+use Rattle.yaml_laws.proofs.Flow.Places.{moved_append}
+use Rattle.yaml_laws.proofs.Flow.Fillers.{separation_past, right_behind}
+use Rattle.yaml_laws.proofs.InBlock.Crossings.{separation_crosses}
+
+-- a piece, and another behind it
+pub join : {around : Around} {start : Bool → State} {known more : Known} {x y : Context} {ls ms : List Level}
+    {ps : List Place} {m e : Marker} {o z : List ℕ} {ts us : List Kind}
+    → (p : PassesPiece around start known x ls ps m o ts)
+    → (q : PassesPiece around (state_at around (after p)) more y ms (ps ++ p.new)
+    e z us) → (all : Known) → all q.key q.allowed q.adjacent (p.new ++ q.new)
+    → PassesPiece around start all y ms ps e z (ts ++ us)
+join {ps = ps} {ts = ts} {us = us} p q all knows =
+    record {
+      there = q.there;
+      key = q.key;
+      allowed = q.allowed;
+      adjacent = q.adjacent;
+      new = p.new ++ q.new;
+      leads = rw (← append_assoc ps p.new q.new) (chains p.leads q.leads);
+      right = q.right;
+      fits = q.fits;
+      fresh = q.fresh;
+      are = place_kinds_append p.new q.new ∙ ap (λ x. x ++ place_kinds q.new) p.are ∙ ap (λ x. ts ++ x) q.are;
+      knows = knows;
+    }
+
+-- what may be a key behind two texts with separation between
+pub since_join : (k : Option Candidate) (m : Marker) (a w b : List ℕ) (j key : Option Candidate) → Since k m a j
+    → Since j (moved (moved m a) w) b key → Since k m (a ++ (w ++ b)) key
+since_join k m a w b j key f (inl e) = inl e
+since_join k m a w b j key f (inr (inl e)) = earlier f
+  where
+    earlier : Since k m a j → Since k m (a ++ (w ++ b)) key
+    earlier (inl g) = inl (e ∙ g)
+    earlier (inr (inl g)) = inr (inl (e ∙ g))
+    earlier (inr (inr (front, back, place, is, g))) =
+        inr (inr (
+          front,
+          back ++ (w ++ b),
+          place,
+          ap (λ (x : List ℕ). x ++ (w ++ b)) is
+              ∙ append_assoc front back (w ++ b),
+          e ∙ g,
+        ))
+since_join k m a w b j key f (inr (inr (front, back, place, is, g))) =
+    let here : moved (moved (moved m a) w) front ≡ moved m (a ++ (w ++ front)) =
+    sym (moved_append m a (w ++ front) ∙ moved_append (moved m a) w front) in
+    inr (inr (
+      a ++ (w ++ front),
+      back,
+      place,
+      ap (λ (x : List ℕ). a ++ (w ++ x)) is ∙ ap (λ (x : List ℕ). a ++ x) (sym (append_assoc w front back))
+          ∙ sym (append_assoc a (w ++ front) back),
+      g ∙ ap (λ (n : Marker). Some (let c : Candidate = record { mark = n; place = place } in c)) here,
+    ))
+
+-- a document's node, behind a piece that stands before it
+pub join_root : {around : Around} {start : Bool → State} {known : Known} {ps : List Place} {m e : Marker} {o z : List ℕ}
+    {ts us : List Kind} → (p : PassesPiece around start known context.Block [] ps m o ts)
+    {j k : Option Candidate} {first next : Marker} {t u : List ℕ}
+    → (q : Closes around (state_at around (after p)) j next
+    u (ps ++ p.new) e z us) → Since k first t q.key → Closes around start k first t ps e z (ts ++ us)
+join_root {ps = ps} {ts = ts} p q late =
+    record {
+      there = q.there;
+      key = q.key;
+      allowed = q.allowed;
+      adjacent = q.adjacent;
+      comment = q.comment;
+      right = q.right;
+      new = p.new ++ q.new;
+      leads = rw (← append_assoc ps p.new q.new) (chains p.leads q.leads);
+      fits = q.fits;
+      are = place_kinds_append p.new q.new ∙ ap (λ x. x ++ place_kinds q.new) p.are ∙ ap (λ x. ts ++ x) q.are;
+      low = q.low;
+      late = late;
+      fresh = q.fresh;
+    }
+
+-- a document's node behind which no comment is noted
+pub closes_unnoted : {around : Around} {start : Bool → State} {known : Known} {ps : List Place} {m : Marker}
+    {o : List ℕ}
+    {ts : List Kind} → (p : PassesPiece around start known context.Block [] ps m o ts)
+    → p.adjacent ≤ (past around.indent m o).0.index → {k : Option Candidate} {first : Marker} {t : List ℕ}
+    → Since k first t p.key → Closes around start k first t ps m o ts
+closes_unnoted p low late = record {
+  there = p.there;
+  key = p.key;
+  allowed = p.allowed;
+  adjacent = p.adjacent;
+  comment = None;
+  new = p.new;
+  leads = p.leads;
+  right = p.right;
+  fits = p.fits;
+  are = p.are;
+  low = low;
+  late = late;
+  fresh = p.fresh;
+}
+
+-- the separation behind a piece
+pub separation_joins : {around : Around} {start : Bool → State} {known : Known} {x : Context} {ls : List Level}
+    {ps : List Place}
+    {ts : List Kind} → (m : Marker) (w o : List ℕ) → IsSeparation around.indent w
+    → PassesPiece around start known x ls ps m (w ++ o) ts → PassesPiece around start known x ls ps (moved m w) o ts
+separation_joins {around = around} m w o h p =
+    record {
+      there = p.there;
+      key = p.key;
+      allowed = p.allowed;
+      adjacent = p.adjacent;
+      new = p.new;
+      leads = p.leads;
+      right = right_behind around.indent m w h p.right;
+      fits = p.fits ∙ separation_past around.indent m w o h p.right;
+      fresh = λ b e. p.fresh b (separation_crosses around.indent w o h e);
+      are = p.are;
+      knows = p.knows;
+    }
+
+-- what is known, told otherwise
+pub knowing : {around : Around} {start : Bool → State} {known : Known} {x : Context} {ls : List Level} {ps : List Place}
+    {m : Marker} {o : List ℕ} {ts : List Kind} → (p : PassesPiece around start known x ls ps m o ts) → (other : Known)
+    → other p.key p.allowed p.adjacent p.new → PassesPiece around start other x ls ps m o ts
+knowing p other h =
+    record {
+      there = p.there;
+      key = p.key;
+      allowed = p.allowed;
+      adjacent = p.adjacent;
+      new = p.new;
+      leads = p.leads;
+      right = p.right;
+      fits = p.fits;
+      fresh = p.fresh;
+      are = p.are;
+      knows = h;
+    }
+
+-- one step
+pub step_passes : {around : Around} {start : Bool → State} (next : FlowMoment) (new : List Place) (m : Marker)
+    (o : List ℕ) (ts : List Kind) (known : Known) → (c : ComesAround around start (moment_with new next))
+    → around.indent ≤ m.col → StandsBefore around next m o → IsFresh next.context o next.allowed next.cursor
+    → place_kinds new ≡ ts → known c.key next.allowed next.adjacent new
+    → PassesPiece around start known next.context next.outer next.places m o ts
+step_passes next new m o ts known c right fits fresh are knows =
+    record {
+      there = next.cursor;
+      key = c.key;
+      allowed = next.allowed;
+      adjacent = next.adjacent;
+      new = new;
+      leads = c.leads;
+      right = right;
+      fits = fits;
+      fresh = fresh;
+      are = are;
+      knows = knows;
+    }
+
+-- no step
+pub passes_nothing : (around : Around) (now : FlowMoment) (m : Marker) (o : List ℕ) (known : Known) → around.indent
+    ≤ m.col → StandsBefore around now m o → IsFresh now.context o now.allowed now.cursor → known now.key now.allowed
+    now.adjacent [] → PassesPiece around (state_at around now) known now.context now.outer now.places m o []
+passes_nothing around now m o known right text fresh knows =
+    record {
+      there = now.cursor;
+      key = now.key;
+      allowed = now.allowed;
+      adjacent = now.adjacent;
+      new = [];
+      leads = rw append-nil (runs_to_itself around _);
+      right = right;
+      fits = text;
+      fresh = fresh;
+      are = refl;
+      knows = knows;
+    }

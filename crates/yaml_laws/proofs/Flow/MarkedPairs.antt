@@ -1,0 +1,203 @@
+-- Pairs that a `?` begins, inside flow.
+use Rattle.std.proofs.Common.{◌≡◌, ℕ, ◌+◌, ◌<◌, ◌≤◌, Bool, true, false, List, [], ◌∷◌, ◌++◌, length, refl, sym, ap, ◌∙◌, arith, subst, append_assoc, ◌⊎◌, inl, inr}
+use Rattle.std.specs.Prelude.{None}
+use Rattle.saphyr_input.specs.Indicators.{comma, question_mark, right_brace, right_bracket}
+use Rattle.saphyr_scalar.specs.declared.scalar.position.Marker.{Marker}
+use Rattle.saphyr_scanner.specs.declared.engine.level.Context.{Context}
+use Rattle.saphyr_scanner.specs.Grammar.Tokens as tokens
+use Rattle.saphyr_scanner.specs.Grammar.Tokens.{Kind}
+use Rattle.saphyr_scanner.specs.Grammar.TokenGrammar as grammar
+use Rattle.saphyr_scanner.specs.Steps.Level.{is_block, behind_question, begins_pair, behind_colon}
+use Rattle.saphyr_scanner.specs.Grammar.Forest.{Node, left_out}
+use Rattle.saphyr_scanner.specs.Limits.{most_open}
+use Rattle.yaml_laws.specs.Grammar.FlowNodes.{IsColonAndValue, IsKeyAndValue, IsValueAlone, IsBehindMark, IsExplicitPair, IsLoneMark, IsFlowNode}
+use Rattle.yaml_laws.proofs.InFlow.States.{Around, state_at, FlowMoment, moment_in}
+use Rattle.yaml_laws.proofs.Flow.States.{FitsAround, moved, past, IsInk, IsParted, PassesPiece, no_key, ended, PassesNode, after, StandsBefore}
+use Rattle.yaml_laws.proofs.Flow.Places.{moved_append}
+use Rattle.yaml_laws.proofs.Flow.GapSteps.{past_low, less_on}
+use Rattle.yaml_laws.proofs.Flow.Joins.{join, separation_joins, knowing}
+use Rattle.yaml_laws.proofs.Flow.Values.{alone_kinds}
+use Rattle.yaml_laws.proofs.Flow.Questions.{mark_passes}
+use Rattle.yaml_laws.proofs.Flow.Inks.{BeginsInk, begins_with, ink_front, node_ink, key_text_ink}
+use Rattle.yaml_laws.proofs.Flow.Pieces.{fits_front, fits_back, fits_so, IsBehindEntry, end_ink, entry_behind}
+use Rattle.yaml_laws.proofs.Flow.Pairs.{TellsPiece, told_at, told_so, PairTokens, AloneTokens, alone_passes, marked_key_passes}
+
+-- the tokens of such a pair
+abbrev pub MarkedTokens : Node → Node → List Kind → Type 0
+MarkedTokens key value t =
+    grammar.YieldsSinglePair key value (grammar.YieldsNode key grammar.InFlow) (grammar.YieldsNode value grammar.InFlow)
+    t
+
+-- what a `?` begins, in a context y, where what stands behind it is in the context z
+pub record IsMarked (y z : Context) : Type 0 where
+  pub flows : is_block y ≡ false
+  pub question : behind_question y ≡ z
+  pub inside : is_block z ≡ false
+  pub no_pair : begins_pair z ≡ false
+  pub colon : behind_colon z ≡ z
+
+-- the `?` and the separation behind it
+mark_behind : (around : Around) (y z : Context) → IsMarked y z → (m : Marker) (separation o : List ℕ)
+    → FitsAround around m (question_mark ∷ separation) o → IsBehindMark around.indent separation
+    → (first : ℕ) (others : List ℕ)
+    → o ≡ first ∷ others → IsInk first → (now : FlowMoment) → now.adjacent ≤ m.index
+    → StandsBefore around now m (question_mark ∷ (separation ++ o))
+    → PassesPiece around (state_at around (moment_in y now)) (no_key (moved m (question_mark ∷ separation))) z now.outer
+    now.places
+    (moved m (question_mark ∷ separation)) o (tokens.Key ∷ [])
+mark_behind around y z c m separation o fits (some, parts, tabs) first others is ink now before text =
+    let parted : IsParted around.indent (separation ++ o) =
+    record {
+      separation = separation;
+      first = first;
+      others = others;
+      is = ap (λ (t : List ℕ). separation ++ t) is;
+      parts = parts;
+      ink = ink;
+    } in
+    let f = fits_front m (63 ∷ []) separation o fits in
+    let p = mark_passes around y c.flows m (separation ++ o) f parted some tabs now before text in
+    let start = state_at around (moment_in y now) in
+    let q = separation_joins (moved m (63 ∷ [])) separation o parts p in
+    subst (λ (x : Context). PassesPiece around start (no_key (moved m (63 ∷ separation))) x now.outer now.places
+    (moved m (63 ∷ separation)) o (tokens.Key ∷ [])) c.question (knowing q (no_key (moved m (63 ∷ separation)))
+    (q.knows.0, q.knows.1, less_on q.adjacent (moved m (63 ∷ [])) separation q.knows.2))
+
+-- ## A key, a value or both behind the mark
+
+colon_ink : (indent : ℕ) (adjacent : Bool) (value : Node) (V : List ℕ → Type 0) (t : List ℕ)
+    → IsColonAndValue adjacent value V indent t → BeginsInk t
+colon_ink indent adjacent value V t (inl (none, e)) =
+    begins_with 58 [] t e (record { blank = refl; break = refl; comment = refl; byte_order_mark = refl })
+colon_ink indent adjacent value V t (inr (separation, node, parts, apart, h, e)) =
+    begins_with 58 (separation ++ node) t e
+    (record { blank = refl; break = refl; comment = refl; byte_order_mark = refl })
+
+pub alone_ink : (indent : ℕ) (key value : Node) (V : List ℕ → Type 0) (t : List ℕ) → IsValueAlone key value V indent t
+    → BeginsInk t
+alone_ink indent key value V t h = colon_ink indent false value V t h.1
+
+pub key_ink : (indent room : ℕ) (key value : Node) (V : List ℕ → Type 0) (t : List ℕ)
+    → IsKeyAndValue key value (IsFlowNode room key true indent) V indent t → BeginsInk t
+key_ink indent room key value V t (node, separation, colon, h, parts, apart, c, e) =
+    ink_front node t (separation ++ colon) e (key_text_ink indent room key node separation h)
+
+-- what stands behind the separation of a mark
+abbrev Inside : ℕ → ℕ → Node → Node → List ℕ → Type 0
+Inside indent room key value t =
+    ((value ≡ left_out) × IsFlowNode room key true indent t)
+    ⊎ (IsValueAlone key value (IsFlowNode room value true indent) indent t
+    ⊎ IsKeyAndValue key value (IsFlowNode room key true indent)
+    (IsFlowNode room value true indent) indent t)
+
+inside_ink : (indent room : ℕ) (key value : Node) (t : List ℕ) → Inside indent room key value t → BeginsInk t
+inside_ink indent room key value t (inl h) = node_ink indent room key true t h.1
+inside_ink indent room key value t (inr (inl h)) = alone_ink indent key value (IsFlowNode room value true indent) t h
+inside_ink indent room key value t (inr (inr h)) = key_ink indent room key value (IsFlowNode room value true indent) t h
+
+-- the tokens behind the mark's
+abbrev InsideTokens : Node → Node → List Kind → Type 0
+InsideTokens key value t = MarkedTokens key value (tokens.Key ∷ t)
+
+inside_passes : {around : Around} (room : ℕ) (key value : Node) → PassesNode around room key
+    → PassesNode around room value → (y z : Context) → IsMarked y z → (m : Marker) (t o : List ℕ)
+    → FitsAround around m t o
+    → IsBehindEntry around.indent o → Inside around.indent room key value t
+    → (now : FlowMoment) → now.key ≡ None → now.allowed ≡ false
+    → room + length now.outer ≤ most_open → now.adjacent < m.index → StandsBefore around now m (t ++ o)
+    → TellsPiece around (state_at around (moment_in z now)) (InsideTokens key value) z now.outer now.places (moved m t)
+    o
+inside_passes {around} room key value K V y z c m t o fits ends (inl (none, h)) now no_candidate none_allowed
+    low before text =
+    let n = K m t o (inl h) fits (entry_behind around.indent key o ends) (moment_in z now) before c.inside low text in
+    record {
+      tokens = n.tokens;
+      are = inr (none, (n.tokens, inr n.are, refl));
+      passes = knowing n.passes (ended around.indent (moved m t) o) (n.passes.knows.low c.inside);
+    }
+inside_passes {around} room key value K V y z c m t o fits ends (inr (inl h)) now no_candidate none_allowed
+    low before text =
+    let start = state_at around (moment_in z now) in
+    let v = alone_passes room key value V z c.inside m t o fits ends h now no_candidate low before text in
+    told_so (λ ts (vs, are, is). inl (
+      tokens.Key ∷ [],
+      tokens.Value ∷ vs,
+      ([], inl (h.0, refl), refl),
+      (vs, are, refl),
+      ap (λ (x : List Kind). tokens.Key ∷ x)
+          (is ∙ ap (λ (b : Bool). alone_kinds b ++ (tokens.Value ∷ vs)) c.no_pair),
+    ))
+    (subst (λ (x : Context). TellsPiece around start (AloneTokens (alone_kinds (begins_pair z)) value) x now.outer
+    now.places
+    (moved m t) o) c.colon v)
+inside_passes {around} room key value K V y z c m t o fits ends (inr (inr h)) now no_candidate none_allowed
+    low before text =
+    let start = state_at around (moment_in z now) in
+    let v = marked_key_passes room key value K V z c.inside c.no_pair m t o fits ends h now no_candidate
+    none_allowed low before text in
+    told_so (λ ts (ks, vs, are, others, is).
+    inl (
+      tokens.Key ∷ ks,
+      tokens.Value
+          ∷ vs,
+      (ks, inr are, refl),
+      (vs, others, refl),
+      ap (λ (x : List Kind). tokens.Key ∷ x) is,
+    ))
+    (subst (λ (x : Context). TellsPiece around start (PairTokens [] key value) x now.outer now.places (moved m t) o)
+    c.colon
+    v)
+
+-- a `?` with a key, a value or both
+pub explicit_passes : {around : Around} (room : ℕ) (key value : Node) → PassesNode around room key
+    → PassesNode around room value → (y z : Context) → IsMarked y z → (m : Marker) (t o : List ℕ)
+    → FitsAround around m t o → IsBehindEntry around.indent o
+    → IsExplicitPair key value (IsFlowNode room key true around.indent) (IsFlowNode room value true around.indent)
+    around.indent t
+    → (now : FlowMoment) → room + length now.outer ≤ most_open → now.adjacent < m.index
+    → StandsBefore around now m (t ++ o)
+    → TellsPiece around (state_at around (moment_in y now)) (MarkedTokens key value) z now.outer now.places (moved m t)
+    o
+explicit_passes {around} room key value K V y z c m t o fits ends (separation, pair, mark, h, e) now low before text =
+    let b = inside_ink around.indent room key value pair h in
+    let is : t ≡ (63 ∷ separation) ++ pair = e in
+    let whole = fits_so m t ((63 ∷ separation) ++ pair) o is fits in
+    let texts : t ++ o ≡ 63 ∷ (separation ++ (pair ++ o)) = ap (λ (x : List ℕ). x ++ o) is
+    ∙ append_assoc (63 ∷ separation) pair o in
+    let p = mark_behind around y z c m separation (pair ++ o) (fits_front m (63 ∷ separation) pair o whole) mark b.first
+    (b.others ++ o) (ap (λ (x : List ℕ). x ++ o) b.is) b.ink now
+    (omega (arith, before)) (text ∙ ap (past around.indent m) texts) in
+    let q = inside_passes room key value K V y z c (moved m (63 ∷ separation)) pair o
+    (fits_back m (63 ∷ separation) pair o p.right whole) ends h (after p) p.knows.0 p.knows.1 low p.knows.2 p.fits in
+    told_at (moved (moved m (63 ∷ separation)) pair) (moved m t)
+    (sym (moved_append m (63 ∷ separation) pair) ∙ ap (moved m) (sym is))
+    (record {
+      tokens = tokens.Key ∷ q.tokens;
+      are = q.are;
+      passes = join p q.passes (ended around.indent (moved (moved m (63 ∷ separation)) pair) o) q.passes.knows;
+    })
+
+upto : (a b c : ℕ) → a < b → b ≤ c → a ≤ c
+upto a b c h k = omega (arith, h, k)
+
+-- a `?` alone
+pub lone_passes : {around : Around} (key value : Node) (y z : Context) → IsMarked y z
+    → (m : Marker) (t : List ℕ) (c : ℕ) (cs : List ℕ) → FitsAround around m t (c ∷ cs)
+    → (c ≡ comma) ⊎ ((c ≡ right_bracket) ⊎ (c ≡ right_brace))
+    → IsLoneMark key value around.indent t → (now : FlowMoment) → now.adjacent < m.index
+    → StandsBefore around now m (t ++ (c ∷ cs))
+    → TellsPiece around (state_at around (moment_in y now)) (MarkedTokens key value) z now.outer now.places (moved m t)
+    (c ∷ cs)
+lone_passes {around} key value y z q m t c cs fits ends (separation, no_key_there, none, mark, e) now before text =
+    let p = mark_behind around y z q m separation (c ∷ cs) (fits_so m t (63 ∷ separation) (c ∷ cs) e fits) mark c cs
+    refl (end_ink c ends) now (omega (arith, before))
+    (text ∙ ap (λ (x : List ℕ). past around.indent m (x ++ (c ∷ cs))) e) in
+    told_at (moved m (63 ∷ separation)) (moved m t) (ap (moved m) (sym e))
+    (record {
+      tokens = tokens.Key ∷ [];
+      are = inr (none, ([], inl (no_key_there, refl), refl));
+      passes = knowing p (ended around.indent (moved m (63 ∷ separation)) (c ∷ cs))
+          (upto p.adjacent (moved m (63 ∷ separation)).index
+          (past around.indent (moved m (63 ∷ separation)) (c ∷ cs)).0.index p.knows.2
+          (past_low around.indent (moved m (63 ∷ separation)) (c ∷ cs)));
+    })

@@ -1,0 +1,211 @@
+-- The anchors, aliases and tags of a text in flow style are passed.
+use Rattle.std.proofs.Common.{◌≡◌, ℕ, ◌+◌, ◌≤◌, Bool, false, List, [], ◌∷◌, ◌++◌, length, slice_index, refl, sym, ap, ◌∙◌, arith, subst, encode_utf8_all}
+use Rattle.std.specs.Prelude.{◌==◌, not, Option}
+use Rattle.saphyr_input.specs.Indicators.{ampersand, asterisk}
+use Rattle.saphyr_input.specs.Classes.{is_break, is_anchor_char, line_feed}
+use Rattle.saphyr_scalar.specs.declared.scalar.position.Marker.{Marker}
+use Rattle.saphyr_scalar.specs.Views.Cursor.{Cursor, ◌>>=◌, along}
+use Rattle.saphyr_scalar.specs.Steps.Quoted.{mid_line}
+use Rattle.saphyr_scalar.specs.Spelling.Tag.{AreIn, IsAnchorName, IsTagText, EndsTag}
+use Rattle.saphyr_scalar.proofs.NoBreaks.{NoBreaks}
+use Rattle.saphyr_scanner.specs.declared.engine.level.Context.{Context}
+use Rattle.saphyr_scanner.specs.Grammar.Tokens as tokens
+use Rattle.saphyr_scanner.specs.Grammar.Tokens.{Kind, alias_token, anchor_token, tag_token}
+use Rattle.saphyr_scanner.specs.Grammar.Forest.{Tag}
+use Rattle.saphyr_scanner.specs.Steps.Core.{Core, from_to, completed_step}
+use Rattle.saphyr_scanner.specs.Steps.Level.{Candidate, Level, is_block}
+use Rattle.saphyr_scanner.specs.Steps.Passing.{with_cursor}
+use Rattle.saphyr_scanner.specs.Steps.Property as property
+use Rattle.saphyr_scanner.specs.Steps.Property.{read_name, read_tag}
+use Rattle.saphyr_scanner.specs.Steps.Scalar.{disallow_key}
+use Rattle.saphyr_scanner.specs.Steps.Fetch.{step}
+use Rattle.saphyr_scanner.proofs.LineTexts.{name_no_break, tag_no_break}
+use Rattle.yaml_laws.specs.Grammar.TagSpelling.{IsTag}
+use Rattle.yaml_laws.specs.Grammar.FlowNodes.{IsAnchor, IsAlias}
+use Rattle.yaml_laws.proofs.InFlow.States.{Around, core_at, Placed, placed_right, saves_key, as_before, FlowMoment}
+use Rattle.yaml_laws.proofs.Flow.States.{moved, ReaderPromises, FitsAround, StandsBefore}
+use Rattle.yaml_laws.proofs.Flow.Places.{moved_along, right_along}
+use Rattle.yaml_laws.proofs.Flow.Tokens.{Begins, token_passes, PassesToken}
+use Rattle.yaml_laws.proofs.Flow.Tags.{tag_read, tag_first}
+use Rattle.saphyr_scalar.proofs.Given.{cursor_at}
+use Rattle.saphyr_input.proofs.Basics.Characters.{no_break_no_feed}
+use Rattle.saphyr_scanner.proofs.Levels.{saved}
+
+-- on its line what has no break has no line feed
+pub unbroken_on_line : (t : List ℕ) → NoBreaks t → AreIn (λ c. not (c == line_feed)) t
+unbroken_on_line [] h = tt
+unbroken_on_line (c ∷ cs) h = (no_break_no_feed c h.0, unbroken_on_line cs h.1)
+
+pub unbroken_along : (m : Marker) (t : List ℕ) → NoBreaks t → moved m t ≡ along m (length t)
+unbroken_along m t h = moved_along m t (unbroken_on_line t h)
+
+pub unbroken_right : (column : ℕ) (m : Marker) (t : List ℕ) → NoBreaks t → column ≤ m.col → column ≤ (moved m t).col
+unbroken_right column m t h low = right_along column m t (unbroken_on_line t h) low
+
+-- no key may begin behind the token, and the place where a colon may stand at once is still the same
+abbrev pub closes_key : ℕ → Bool → ℕ → Type 0
+closes_key ad allowed adjacent = (allowed ≡ false) × (adjacent ≡ ad)
+
+-- ## Names
+
+named_along : (m : Marker) (indicator : ℕ) (name : List ℕ) → is_break indicator ≡ false → IsAnchorName name
+    → along m (1 + length name) ≡ moved m (indicator ∷ name)
+named_along m indicator name e h =
+    let one : 1 + length name ≡ length (indicator ∷ name) = omega arith in
+    ap (along m) one ∙ sym (unbroken_along m (indicator ∷ name) (e, name_no_break name h))
+
+pub name_step : ReaderPromises → (around : Around) (d : Bool) (token_of : List ℕ
+    → Kind) (n : ℕ) (m : Marker) (b : Bool) (indicator : ℕ)
+    (name o : List ℕ) → is_break indicator ≡ false → IsAnchorName name → is_anchor_char (slice_index o 0) ≡ false
+    → (x : Context) (k : Option Candidate) (ls : List Level) (a : Bool) (ad : ℕ) → Placed around x a m
+    → property.name_steps token_of n (core_at around d (cursor_at (indicator ∷ (name ++ o)) m b) x k ls a ad)
+    ≡ completed_step (from_to m (moved m (indicator ∷ name)) (token_of (encode_utf8_all name)) ∷ [])
+    (core_at around d (mid_line (moved m (indicator ∷ name)) o) x (saved a n m k) ls false ad)
+unfolding property.name_steps read_name
+name_step reads around d token_of n m b indicator name o e h ends x k ls a ad placed =
+    let s = cursor_at (indicator ∷ (name ++ o)) m b in
+    let c = core_at around d s x (saved a n m k) ls false ad in
+    let token = λ (y : List ℕ × Cursor). completed_step (from_to m y.1.mark (token_of y.0) ∷ []) (with_cursor y.1 c) in
+    ap (λ (q : Core). read_name token_of (disallow_key q)) (saves_key n around d s x k ls a ad placed)
+    ∙ ap (λ q. q >>= token) (reads.anchor s indicator name o refl h ends)
+    ∙ ap (λ (end : Marker). token (encode_utf8_all name, mid_line end o)) (named_along m indicator name e h)
+
+name_passes : ReaderPromises → (around : Around) (token_of : List ℕ
+    → Kind) (indicator : ℕ) (name o : List ℕ) (m : Marker)
+    → ((second n : ℕ) (c : Core) → step indicator second n c ≡ property.name_steps token_of n c)
+    → Begins (indicator ∷ name) → is_break indicator ≡ false → IsAnchorName name
+    → is_anchor_char (slice_index o 0) ≡ false → FitsAround around m (indicator ∷ name) o
+    → (now : FlowMoment) → StandsBefore around now m ((indicator ∷ name) ++ o) → PassesToken around
+    (closes_key now.adjacent) now m (indicator ∷ name) o (token_of (encode_utf8_all name))
+name_passes reads around token_of indicator name o m begins first break h ends fits now text =
+    let kind = token_of (encode_utf8_all name) in
+    let end = moved m (indicator ∷ name) in
+    token_passes around (closes_key now.adjacent) kind (indicator ∷ name) o m first fits
+    (unbroken_right around.indent m (indicator ∷ name) (break, name_no_break name h) fits.right) now text
+    (λ b j e. record {
+      there = mid_line end o;
+      end = end;
+      allowed = false;
+      adjacent = now.adjacent;
+      to = λ d. d;
+      deepens = as_before around;
+      is = λ d. begins (slice_index (name ++ o) 0) (length now.places)
+          (core_at around d (cursor_at (indicator ∷ (name ++ o)) m b) now.context j now.outer e now.adjacent)
+          ∙ name_step reads around d token_of (length now.places) m b indicator name o break h ends now.context j
+          now.outer e now.adjacent (placed_right now.context e fits.calm fits.right);
+      fits = refl;
+      fresh = λ _ e. e;
+      tells = (refl, refl);
+    })
+
+pub begins_anchor : (second n : ℕ) (c : Core) → step 38 second n c ≡ property.anchor_steps n c
+unfolding step
+begins_anchor second n c = refl
+
+pub begins_alias : (second n : ℕ) (c : Core) → step 42 second n c ≡ property.alias_steps n c
+unfolding step
+begins_alias second n c = refl
+
+pub anchor_first : (name : List ℕ) → Begins (ampersand ∷ name)
+anchor_first name = record {
+  first = 38;
+  others = name;
+  is = refl;
+  ink = record { blank = refl; break = refl; comment = refl; byte_order_mark = refl };
+  nul = refl;
+  directive = refl;
+}
+
+pub alias_first : (name : List ℕ) → Begins (asterisk ∷ name)
+alias_first name = record {
+  first = 42;
+  others = name;
+  is = refl;
+  ink = record { blank = refl; break = refl; comment = refl; byte_order_mark = refl };
+  nul = refl;
+  directive = refl;
+}
+
+pub anchor_passes : ReaderPromises → (around : Around) (name t o : List ℕ) (m : Marker) → IsAnchor name t
+    → is_anchor_char (slice_index o 0) ≡ false → FitsAround around m t o → (now : FlowMoment)
+    → StandsBefore around now m
+    (t ++ o) → PassesToken around (closes_key now.adjacent) now m t o (anchor_token name)
+anchor_passes reads around name t o m h ends fits now text =
+    subst (λ (p : List ℕ). FitsAround around m p o → StandsBefore around now m (p ++ o)
+    → PassesToken around (closes_key now.adjacent) now m p o (anchor_token name))
+    (sym h.1) (λ f e. name_passes reads around tokens.Anchor 38 name o m begins_anchor (anchor_first name) refl h.0 ends
+    f now
+    e) fits text
+
+pub alias_token_passes : ReaderPromises → (around : Around) (name t o : List ℕ) (m : Marker) → IsAlias name t
+    → is_anchor_char (slice_index o 0) ≡ false → FitsAround around m t o → (now : FlowMoment)
+    → StandsBefore around now m
+    (t ++ o) → PassesToken around (closes_key now.adjacent) now m t o (alias_token name)
+alias_token_passes reads around name t o m h ends fits now text =
+    subst (λ (p : List ℕ). FitsAround around m p o → StandsBefore around now m (p ++ o)
+    → PassesToken around (closes_key now.adjacent) now m p o (alias_token name))
+    (sym h.1) (λ f e. name_passes reads around tokens.Alias 42 name o m begins_alias (alias_first name) refl h.0 ends f
+    now e)
+    fits text
+
+-- ## Tags
+
+pub tag_step : ReaderPromises → (around : Around) (d : Bool) (n : ℕ) (m : Marker) (b : Bool)
+    (t handle suffix o : List ℕ)
+    → IsTagText t handle suffix → (x : Context) (k : Option Candidate) (ls : List Level) (a : Bool) (ad : ℕ)
+    → EndsTag (not (is_block x)) o → Placed around x a m
+    → property.tag_steps n (core_at around d (cursor_at (t ++ o) m b) x k ls a ad)
+    ≡ completed_step (from_to m (moved m t) (tokens.Tag (encode_utf8_all handle) (encode_utf8_all suffix)) ∷ [])
+    (core_at around d (mid_line (moved m t) o) x (saved a n m k) ls false ad)
+unfolding property.tag_steps read_tag
+tag_step reads around d n m b t handle suffix o h x k ls a ad ends placed =
+    let s = cursor_at (t ++ o) m b in
+    let c = core_at around d s x (saved a n m k) ls false ad in
+    let token = λ (y : List ℕ × List ℕ × Cursor). completed_step (from_to m y.2.mark (tokens.Tag y.0 y.1) ∷ [])
+    (with_cursor y.2 c) in
+    ap (λ (q : Core). read_tag (disallow_key q)) (saves_key n around d s x k ls a ad placed)
+    ∙ ap (λ q. q >>= token) (reads.tag (not (is_block x)) s t handle suffix o refl h ends)
+    ∙ ap (λ (end : Marker). token (encode_utf8_all handle, encode_utf8_all suffix, mid_line end o))
+    (sym (unbroken_along m t (tag_no_break t handle suffix h)))
+
+pub begins_tag : (second n : ℕ) (c : Core) → step 33 second n c ≡ property.tag_steps n c
+unfolding step
+begins_tag second n c = refl
+
+pub tag_passes : ReaderPromises → (around : Around) (tag : Tag) (t o : List ℕ) (m : Marker) → IsTag tag t
+    → FitsAround around m t o
+    → (now : FlowMoment) → EndsTag (not (is_block now.context)) o → StandsBefore around now m (t ++ o)
+    → PassesToken around (closes_key now.adjacent) now m t o (tag_token tag)
+tag_passes reads around tag t o m h fits now ends text =
+    let r = tag_read tag t h in
+    let f = tag_first t r.handle r.suffix r.is in
+    let first : Begins t = record {
+      first = 33;
+      others = f.0;
+      is = f.1;
+      ink = record { blank = refl; break = refl; comment = refl; byte_order_mark = refl };
+      nul = refl;
+      directive = refl;
+    } in
+    let at_first : slice_index (t ++ o) 0 ≡ 33 = ap (λ (p : List ℕ). slice_index (p ++ o) 0) f.1 in
+    let second = slice_index (t ++ o) 1 in
+    let end = moved m t in
+    let n = length now.places in
+    let kind = tokens.Tag (encode_utf8_all r.handle) (encode_utf8_all r.suffix) in
+    subst (λ (q : Kind). PassesToken around (closes_key now.adjacent) now m t o q) r.token (token_passes around
+    (closes_key now.adjacent) kind t o m first fits
+    (unbroken_right around.indent m t (tag_no_break t r.handle r.suffix r.is) fits.right) now text (λ b j e. record {
+      there = mid_line end o;
+      end = end;
+      allowed = false;
+      adjacent = now.adjacent;
+      to = λ d. d;
+      deepens = as_before around;
+      is = λ d. let c = core_at around d (cursor_at (t ++ o) m b) now.context j now.outer e now.adjacent in
+          ap (λ (i : ℕ). step i second n c) at_first ∙ begins_tag second n c
+          ∙ tag_step reads around d n m b t r.handle r.suffix o r.is now.context j now.outer e now.adjacent ends
+          (placed_right now.context e fits.calm fits.right);
+      fits = refl;
+      fresh = λ _ e. e;
+      tells = (refl, refl);
+    }))

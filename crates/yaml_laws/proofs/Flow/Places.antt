@@ -1,0 +1,110 @@
+-- Places behind the pieces of a text, and pieces that no document marker begins a line of.
+use Rattle.std.proofs.Common.{◌≡◌, ℕ, suc, ◌+◌, ◌≤◌, Bool, true, false, List, [], ◌∷◌, ◌++◌, length, refl, sym, ap, ◌∙◌, arith, subst, append_assoc, IsTrue}
+use Rattle.std.specs.Prelude.{◌&&◌, ◌==◌, not, if◌then◌else◌}
+use Rattle.std.proofs.lemmas.Bool.Decides.{nat_tests}
+use Rattle.std.proofs.lemmas.List.{length-append}
+use Rattle.saphyr_input.specs.Classes.{line_feed, carriage_return}
+use Rattle.saphyr_input.specs.Places.{is_document_indicator}
+use Rattle.saphyr_scalar.specs.declared.scalar.position.Marker.{Marker}
+use Rattle.saphyr_scalar.specs.Views.Cursor.{along, next_line}
+use Rattle.saphyr_scalar.specs.Spelling.Tag.{AreIn}
+use Rattle.yaml_laws.proofs.Flow.States.{moved, marks_line, IsClear}
+use Rattle.saphyr_scalar.proofs.Moving.{along_none, along_more}
+use Rattle.saphyr_input.proofs.Basics.Booleans.{by_test}
+use Rattle.std.proofs.lemmas.Bool.{or_parts, or_from}
+use Rattle.scalar_laws.proofs.Beginnings.{front_in, back_in}
+
+-- behind one character
+abbrev pub behind_character : Marker → ℕ → Marker
+behind_character m c = if c == line_feed then next_line m 1 else along m 1
+
+pub moved_append : (m : Marker) (a b : List ℕ) → moved m (a ++ b) ≡ moved (moved m a) b
+moved_append m [] b = refl
+moved_append m (c ∷ cs) b = moved_append (behind_character m c) cs b
+
+one_index : (m : Marker) (c : ℕ) → (behind_character m c).index ≡ m.index + 1
+one_index m c = by_test (c == line_feed) (next_line m 1) (along m 1) (λ (k : Marker). k.index ≡ m.index + 1) (λ _. refl)
+    (λ _. refl)
+
+pub moved_index : (m : Marker) (p : List ℕ) → (moved m p).index ≡ m.index + length p
+moved_index m [] = omega arith
+moved_index m (c ∷ cs) =
+    let more = moved_index (behind_character m c) cs in
+    let one = one_index m c in
+    omega (arith, more, one)
+
+pub moved_count : (m : Marker) (p o : List ℕ) → (moved m p).index + length o ≡ m.index + length (p ++ o)
+moved_count m p o =
+    let i = moved_index m p in
+    let l = length-append p o in
+    omega (arith, i, l)
+
+-- on one line
+pub moved_along : (m : Marker) (p : List ℕ) → AreIn (λ c. not (c == line_feed)) p → moved m p ≡ along m (length p)
+moved_along m [] h = sym (along_none m)
+moved_along m (c ∷ cs) h =
+    by_test (c == line_feed) (next_line m 1) (along m 1) (λ (k : Marker). moved k cs ≡ along m (suc (length cs)))
+    (λ e. absurd (never (c == line_feed) e h.0))
+    (λ _. moved_along (along m 1) cs h.1 ∙ along_more m 1 (length cs) (length (c ∷ cs)) (omega arith))
+  where
+    never : (b : Bool) → b ≡ true → IsTrue (not b) → ⊥
+    never true e k = absurd (cc)
+    never false e k = cc
+
+-- what stands right of a column goes on there
+pub right_along : (column : ℕ) (m : Marker) (p : List ℕ) → AreIn (λ c. not (c == line_feed)) p → column ≤ m.col
+    → column ≤ (moved m p).col
+right_along column m p h low =
+    subst (λ (k : Marker). column ≤ k.col) (sym (moved_along m p h)) (further m.col (length p) low)
+  where
+    further : (n l : ℕ) → column ≤ n → column ≤ n + l
+    further n l h = omega (arith, h)
+
+pub right_one : (column : ℕ) (m : Marker) (c : ℕ) → (c == line_feed) ≡ false → column ≤ m.col
+    → column ≤ (moved m (c ∷ [])).col
+right_one column m c h low = right_along column m (c ∷ []) (ap not h, tt) low
+
+-- ## Clear pieces
+
+front_unmarked : (at_start : Bool) (a b o : List ℕ) → marks_line at_start (a ++ b) o ≡ false
+    → marks_line at_start a (b ++ o) ≡ false
+front_unmarked at_start [] b o h = refl
+front_unmarked at_start (c ∷ cs) b o h =
+    let n = or_parts (at_start && is_document_indicator (c ∷ ((cs ++ b) ++ o)))
+    (marks_line (c == line_feed) (cs ++ b) o) h in
+    or_from (at_start && is_document_indicator (c ∷ (cs ++ (b ++ o)))) (marks_line (c == line_feed) cs (b ++ o))
+    (ap (λ (t : List ℕ). at_start && is_document_indicator (c ∷ t)) (sym (append_assoc cs b o)) ∙ n.0)
+    (front_unmarked (c == line_feed) cs b o n.1)
+
+one_column : (m : Marker) (c : ℕ) → ((behind_character m c).col == 0) ≡ (c == line_feed)
+one_column m c = by_test (c == line_feed) (next_line m 1) (along m 1) (λ (k : Marker). (k.col == 0) ≡ (c == line_feed))
+    (λ e. sym e) (λ e. further m.col ∙ sym e)
+  where
+    further : (n : ℕ) → (n + 1 == 0) ≡ false
+    further n = grind (arith, nat_tests)
+
+back_unmarked : (m : Marker) (a b o : List ℕ) → marks_line (m.col == 0) (a ++ b) o ≡ false
+    → marks_line ((moved m a).col == 0) b o ≡ false
+back_unmarked m [] b o h = h
+back_unmarked m (c ∷ cs) b o h =
+    let n = or_parts ((m.col == 0) && is_document_indicator (c ∷ ((cs ++ b) ++ o)))
+    (marks_line (c == line_feed) (cs ++ b) o) h in
+    back_unmarked (behind_character m c) cs b o (ap (λ (q : Bool). marks_line q (cs ++ b) o) (one_column m c) ∙ n.1)
+
+-- A piece of two parts is clear where both are.
+pub clear_front : (m : Marker) (a b o : List ℕ) → IsClear m (a ++ b) o → IsClear m a (b ++ o)
+clear_front m a b o h = record {
+  no_return = front_in (λ c. not (c == carriage_return)) a b h.no_return;
+  no_marker = front_unmarked (m.col == 0) a b o h.no_marker;
+}
+
+pub clear_back : (m : Marker) (a b o : List ℕ) → IsClear m (a ++ b) o → IsClear (moved m a) b o
+clear_back m a b o h = record {
+  no_return = back_in (λ c. not (c == carriage_return)) a b h.no_return;
+  no_marker = back_unmarked m a b o h.no_marker;
+}
+
+pub clear_here : (m : Marker) (c : ℕ) (cs o : List ℕ) → IsClear m (c ∷ cs) o
+    → ((m.col == 0) && is_document_indicator (c ∷ (cs ++ o))) ≡ false
+clear_here m c cs o h = (or_parts ((m.col == 0) && is_document_indicator (c ∷ (cs ++ o)))
+    (marks_line (c == line_feed) cs o) h.no_marker).0

@@ -1,0 +1,196 @@
+-- What stands behind a node in flow style ends a plain scalar.
+use Rattle.std.proofs.Common.{◌≡◌, ◌≢◌, ℕ, ◌<◌, ◌≤◌, Bool, true, false, List, [], ◌∷◌, slice_index, refl, sym, ap, ◌∙◌, arith, subst, IsTrue, ◌⊎◌, inl, inr}
+use Rattle.std.specs.Prelude.{◌||◌, ◌&&◌, ◌==◌, if◌then◌else◌}
+use Rattle.std.proofs.lemmas.Bool.{false≢true}
+use Rattle.std.proofs.lemmas.Bool.Decides.{nat_tests}
+use Rattle.saphyr_input.specs.Indicators.{colon, comma, number_sign, right_brace, right_bracket}
+use Rattle.saphyr_input.specs.Classes.{is_blank, is_break, is_blank_or_breakz, is_flow, carriage_return}
+use Rattle.saphyr_input.specs.Places.{is_blank_or_break, is_document_indicator}
+use Rattle.saphyr_scalar.specs.declared.scalar.position.Marker.{Marker}
+use Rattle.saphyr_scalar.specs.Views.Cursor.{Cursor, along, next_line}
+use Rattle.saphyr_scalar.specs.Steps.Plain.{is_in_word, ends_line}
+use Rattle.scalar_laws.specs.Spelling.Plain.{past_white, StopsPlain, EndsPlain}
+use Rattle.saphyr_scanner.specs.Grammar.Forest.{Node}
+use Rattle.yaml_laws.specs.Grammar.FlowNodes.{allows_adjacent}
+use Rattle.yaml_laws.proofs.Flow.States.{past, moved, IsInk, EndsDocument, IsLeft, ends_colon, EndsNode, IsBehindNode, IsBehindRoot}
+use Rattle.yaml_laws.proofs.Flow.GapSteps.{past_ink, no_left}
+use Rattle.yaml_laws.proofs.InFlow.Tabs.{lands_on_ink, tabs_behind, broke_or_right}
+use Rattle.yaml_laws.proofs.Flow.Fillers.{white_past, separation_past}
+use Rattle.yaml_laws.proofs.Flow.Ends.{EndsHere, behind_node_first, root_first}
+use Rattle.yaml_laws.proofs.Flow.Quotes.{ends_node_ink}
+use Rattle.saphyr_input.proofs.Basics.Booleans.{by_test}
+
+-- ## Behind the blanks and breaks
+
+abbrev StopsWhite : List ℕ → Type 0
+StopsWhite [] = Unit {0}
+StopsWhite (c ∷ cs) = is_blank_or_break c ≡ false
+
+white_stops : (m : Marker) (b : Bool) (t : List ℕ) → StopsWhite (past_white m b t).rest
+white_stops m b [] = tt
+white_stops m b (c ∷ cs) =
+    by_test (is_blank_or_break c)
+    (past_white (if ends_line c cs then next_line m 1 else along m 1) (b || is_break c) cs)
+    (record { rest = c ∷ cs; mark = m; blank_so_far = b })
+    (λ (u : Cursor). StopsWhite u.rest)
+    (λ _. white_stops (if ends_line c cs then next_line m 1 else along m 1) (b || is_break c) cs) (λ e. e)
+
+-- the end, a comment, or the next token
+abbrev Reaches : ℕ → Marker → List ℕ → Marker → List ℕ → Type 0
+Reaches column m o n r = (r ≡ []) ⊎ ((slice_index r 0 ≡ 35) ⊎ ((n ≡ (past column m o).0) × (r ≡ (past column m o).1)))
+
+reaches : (column : ℕ) (m : Marker) (o : List ℕ) → is_blank (slice_index (past column m o).1 0) ≡ false
+    → Reaches column m o (past_white m false o).mark (past_white m false o).rest
+reaches column m o inked =
+    by_rest (past_white m false o).mark (past_white m false o).rest (white_stops m false o)
+    (white_past column m false o inked)
+  where
+    no_blank : (c : ℕ) → is_blank_or_break c ≡ false → is_blank c ≡ false
+    no_blank c h = grind (arith, nat_tests)
+
+    no_break : (c : ℕ) → is_blank_or_break c ≡ false → is_break c ≡ false
+    no_break c h = grind (arith, nat_tests)
+
+    no_return : (c : ℕ) → is_blank_or_break c ≡ false → (c == carriage_return) ≡ false
+    no_return c h = grind (arith, nat_tests)
+
+    sign : (c : ℕ) → (c == number_sign) ≡ true → c ≡ number_sign
+    sign c e = grind (arith, nat_tests)
+
+    by_sign : (n : Marker) (c : ℕ) (cs : List ℕ) (is : Bool) → (c == number_sign) ≡ is → is_blank_or_break c ≡ false
+        → past column n (c ∷ cs) ≡ past column m o → Reaches column m o n (c ∷ cs)
+    by_sign n c cs true e h k = inr (inl (sign c e))
+    by_sign n c cs false e h k =
+        let still : past column n (c ∷ cs) ≡ (n, c ∷ cs) =
+        rw (no_left column n c (no_blank c h), no_blank c h, no_break c h, e, no_return c h) refl in
+        let same : ◌≡◌ {A = Marker × List ℕ} (n, c ∷ cs) (past column m o) = sym still ∙ k in
+        inr (inr (ap (λ (p : Marker × List ℕ). p.0) same, ap (λ (p : Marker × List ℕ). p.1) same))
+
+    by_rest : (n : Marker) (r : List ℕ) → StopsWhite r → past column n r ≡ past column m o → Reaches column m o n r
+    by_rest n [] h e = inl refl
+    by_rest n (c ∷ cs) h e = by_sign n c cs (c == 35) refl h e
+
+-- ## Where no word goes on
+
+no_word : (f : Bool) (t : List ℕ) → t ≡ [] → is_in_word f t ≡ false
+unfolding is_in_word
+no_word f t e = rw e refl
+
+colon_ends : (c : ℕ) → IsTrue (ends_colon c) → (is_blank_or_breakz c || (true && is_flow c)) ≡ true
+colon_ends c h = by_blank (is_blank_or_breakz c) refl h
+  where
+    flow : (c : ℕ) → ((c == comma) || (c == right_bracket) || (c == right_brace)) ≡ true → is_flow c ≡ true
+    flow c e = grind (arith, nat_tests)
+
+    parts : (b p q r : Bool) → b ≡ false → (b || p || q || r) ≡ true → (p || q || r) ≡ true
+    parts true p q r e k = absurd (cc)
+    parts false p q r e k = k
+
+    by_blank : (b : Bool) → is_blank_or_breakz c ≡ b
+        → (is_blank_or_breakz c || (c == comma) || (c == right_bracket) || (c == right_brace)) ≡ true
+        → (is_blank_or_breakz c || (true && is_flow c)) ≡ true
+    by_blank true e k = rw e refl
+    by_blank false e k = rw e (flow c (parts (is_blank_or_breakz c) (c == 44) (c == 93) (c == 125) e k))
+
+colon_stops : (others : List ℕ) → IsTrue (ends_colon (slice_index others 0)) → is_in_word true (colon ∷ others) ≡ false
+unfolding is_in_word
+colon_stops others h = rw (colon_ends (slice_index others 0) h) refl
+
+-- a node that lets no value stand right behind its colon
+abbrev pub ParsColon : Node → Type 0
+ParsColon node = (w : List ℕ) → allows_adjacent node w ≡ false
+
+word_stops : (node : Node) (w : List ℕ) (c : ℕ) (others : List ℕ) → ParsColon node → EndsNode node w c others
+    → is_in_word true (c ∷ others) ≡ false
+unfolding is_in_word
+word_stops node w c others apart (inl e) = rw e refl
+word_stops node w c others apart (inr (inl e)) = rw e refl
+word_stops node w c others apart (inr (inr (inl e))) = rw e refl
+word_stops node w c others apart (inr (inr (inr (e, before, inl allows)))) =
+    absurd (false≢true (sym (apart w) ∙ allows))
+word_stops node w c others apart (inr (inr (inr (e, before, inr ends)))) =
+    subst (λ (d : ℕ). is_in_word true (d ∷ others) ≡ false) (sym e) (colon_stops others ends)
+
+-- ## Ends
+
+ends_no_sign : (node : Node) (c : ℕ) → EndsHere node c → c ≢ number_sign
+ends_no_sign node c h e = absurd (by_end (subst (EndsHere node) e h))
+  where
+    by_end : EndsHere node 35 → ⊥
+    by_end (inl k) = cc
+    by_end (inr (inl k)) = omega (arith, k)
+    by_end (inr (inr (inl k))) = omega (arith, k)
+    by_end (inr (inr (inr (inl k)))) = omega (arith, k)
+    by_end (inr (inr (inr (inr k)))) = omega (arith, k.0)
+
+pub ends_in_flow : (column : ℕ) (node : Node) (m : Marker) (o : List ℕ) → ParsColon node → IsBehindNode column node o
+    → column ≤ m.col → EndsPlain true column m o
+ends_in_flow column node m o apart h right =
+    record {
+      stops = stops (reaches column m o inked);
+      apart = ends_no_sign node (slice_index o 0) (behind_node_first column node o h);
+      tabs = tabs_behind column m m false o inked;
+    }
+  where
+    ink : IsInk h.first
+    ink = (ends_node_ink node h.separation h.others h.first h.ends).0
+
+    lands : past column m o ≡ (moved m h.separation, h.first ∷ h.others)
+    lands = ap (past column m) h.is ∙ separation_past column m h.separation (h.first ∷ h.others) h.parts right
+        ∙ past_ink column (moved m h.separation) h.first h.others ink
+
+    inked : is_blank (slice_index (past column m o).1 0) ≡ false
+    inked = ap (λ (z : Marker × List ℕ). is_blank (slice_index z.1 0)) lands ∙ ink.blank
+
+    stops : Reaches column m o (past_white m false o).mark (past_white m false o).rest
+        → StopsPlain true column (past_white m false o)
+    stops (inl e) = inl (no_word true (past_white m false o).rest e)
+    stops (inr (inl e)) = inr (inl e)
+    stops (inr (inr e)) = inl (subst (λ (r : List ℕ). is_in_word true r ≡ false)
+        (sym (e.1 ∙ ap (λ (p : Marker × List ℕ). p.1) lands))
+        (word_stops node h.separation h.first h.others apart h.ends))
+
+-- outside flow
+pub ends_at_root : (column : ℕ) (m : Marker) (o : List ℕ) → IsBehindRoot column m o → column ≤ m.col
+    → EndsPlain false column m o
+ends_at_root column m o h right =
+    record {
+      stops = stops (reaches column m o inked) (h.lands right);
+      apart = other (slice_index o 0) (root_first column m o h);
+      tabs = tabs_behind column m m false o inked;
+    }
+  where
+    inked : is_blank (slice_index (past column m o).1 0) ≡ false
+    inked = lands_on_ink column (past column m o).0 (past column m o).1 (h.lands right)
+
+    other : (c : ℕ) → IsTrue (is_blank_or_breakz c) → c ≢ number_sign
+    other c k e = absurd (false≢true (subst (λ (d : ℕ). IsTrue (is_blank_or_breakz d)) e k))
+
+    low : (a b c : ℕ) → a ≤ b → b < c → c ≤ a → ⊥
+    low a b c h k g = absurd (omega (arith, h, k, g))
+
+    broke : (n : Marker) → n ≡ (past column m o).0 → (past column m o).0.col < column
+        → ((past_white m false o).blank_so_far ≡ true) ⊎ (m.col ≤ n.col) → IsTrue (past_white m false o).blank_so_far
+    broke n e left (inl k) = k
+    broke n e left (inr k) =
+        absurd (low m.col n.col column k (subst (λ (z : Marker). z.col < column) (sym e) left) right)
+
+    stops : Reaches column m o (past_white m false o).mark (past_white m false o).rest
+        → EndsDocument (past column m o).0 (past column m o).1 ⊎ IsLeft column (past column m o).0 (past column m o).1
+        → StopsPlain false column (past_white m false o)
+    stops (inl e) k = inl (no_word false (past_white m false o).rest e)
+    stops (inr (inl e)) k = inr (inl e)
+    stops (inr (inr e)) (inl (inl k)) = inl (no_word false (past_white m false o).rest (e.1 ∙ k))
+    stops (inr (inr e)) (inl (inr k)) =
+        inr (inr (inl (
+          ap (λ (n : Marker). n.col) e.0
+              ∙ k.0,
+          subst (λ (r : List ℕ). IsTrue (is_document_indicator r)) (sym e.1) k.1,
+        )))
+    stops (inr (inr e)) (inr k) =
+        inr (inr (inr (
+          refl,
+          broke (past_white m false o).mark e.0 k.left (broke_or_right m o),
+          subst
+              (λ (z : Marker). z.col < column) (sym e.0) k.left,
+        )))

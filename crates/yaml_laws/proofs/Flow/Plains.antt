@@ -1,0 +1,386 @@
+-- The plain scalars of a text in flow style are passed.
+use Rattle.std.proofs.Common.{◌≡◌, ◌≢◌, ℕ, ◌<◌, ◌≤◌, Bool, true, false, List, [], ◌∷◌, ◌++◌, length, slice_index, Ok, refl, sym, ap, ◌∙◌, arith, subst, append_assoc, IsTrue, ◌⊎◌, inl, inr, encode_utf8_all}
+use Rattle.std.specs.Prelude.{◌||◌, ◌&&◌, ◌==◌, not, nat_lt, Option, None}
+use Rattle.std.proofs.lemmas.Bool.Decides.{nat_tests}
+use Rattle.saphyr_input.specs.Breaks.{normalized}
+use Rattle.saphyr_input.specs.Classes.{is_blank, is_blank_or_breakz, is_flow, is_z}
+use Rattle.saphyr_scalar.specs.declared.scalar.position.Marker.{Marker}
+use Rattle.saphyr_scalar.specs.Views.Cursor.{Cursor, ◌>>=◌}
+use Rattle.saphyr_values.specs.Flow.{plain_value}
+use Rattle.saphyr_scalar.specs.Steps.Plain.{PlainScalarRead, comment_of}
+use Rattle.saphyr_scalar.specs.Spelling.Tag.{AreIn}
+use Rattle.scalar_laws.specs.Spelling.Plain.{is_tabbed, past_white, EndsPlain, is_word_ink, AreWordInk, IsPlainText}
+use Rattle.saphyr_scanner.specs.declared.engine.level.Context.{Context}
+use Rattle.saphyr_scanner.specs.declared.engine.level.Context.TheVariants as context
+use Rattle.saphyr_scanner.specs.Grammar.Tokens as tokens
+use Rattle.saphyr_scanner.specs.Grammar.Tokens.{Kind, scalar_token}
+use Rattle.saphyr_scanner.specs.Grammar.Forest.{Plain}
+use Rattle.saphyr_scanner.specs.Steps.Core.{Core, from_to, completed_step}
+use Rattle.saphyr_scanner.specs.Steps.Level.{Candidate, Level, is_block}
+use Rattle.saphyr_scanner.specs.Steps.Scalar as scalar
+use Rattle.saphyr_scanner.specs.Steps.Scalar.{read_plain, disallow_key, behind_plain}
+use Rattle.saphyr_scanner.specs.Steps.Fetch.{step, is_value_adjacent}
+use Rattle.yaml_laws.specs.Grammar.FlowScalars.{begins_plain, IsPlain, IsPlainKey}
+use Rattle.yaml_laws.proofs.InFlow.States.{Around, core_at, state_at, Placed, placed_right, plain_placed, saves_key, none_deeper, FlowMoment, moment, root_moment}
+use Rattle.yaml_laws.proofs.Flow.States.{moved, past, IsClear, IsInk, ReaderPromises, Closes, FitsAround, StandsBefore}
+use Rattle.yaml_laws.proofs.Flow.Places.{moved_count}
+use Rattle.yaml_laws.proofs.Flow.Fillers.{white_past}
+use Rattle.yaml_laws.proofs.Flow.GapSteps.{past_ink}
+use Rattle.yaml_laws.proofs.Flow.Arrivals.{arrives, within_index}
+use Rattle.yaml_laws.proofs.Flow.Low.{behind_low}
+use Rattle.yaml_laws.proofs.Flow.Tokens.{Begins, saved_since, begins_past, begins_inked, begins_token, adjacent_at, token_passes, PassesToken}
+use Rattle.yaml_laws.proofs.Flow.WordGaps.{passed_moved, normalized_same}
+use Rattle.yaml_laws.proofs.Flow.Words.{ink_other, ink_no_break, colon_is_ink, plain_text, key_text, plain_right, key_right}
+use Rattle.yaml_laws.proofs.Flow.Noted.{noted_step_comes}
+use Rattle.yaml_laws.proofs.InBlock.Crossings.{white_crosses}
+use Rattle.saphyr_input.proofs.Basics.Booleans.{other_than, and_false}
+use Rattle.saphyr_scalar.proofs.Given.{cursor_at}
+use Rattle.std.proofs.lemmas.Bool.{ne_eqb, eqb-true}
+use Rattle.saphyr_input.specs.Indicators.{hyphen, question_mark, number_sign}
+use Rattle.saphyr_scanner.proofs.Queues.{token_place}
+use Rattle.saphyr_scanner.proofs.Levels.{saved}
+
+-- ## The first two characters
+
+-- the first word of a plain scalar begins a text, before what stands behind it
+pub record BeginsWord (f : Bool) (t o : List ℕ) : Type 0 where
+  pub first : ℕ
+  pub others : List ℕ
+  pub is : t ≡ first ∷ others
+  pub begins : IsTrue (begins_plain first)
+  pub ink : IsTrue (is_word_ink f first)
+  pub no_comment : first ≢ number_sign
+  pub further : (first ≡ hyphen) ⊎ ((first ≡ question_mark) ⊎ (first ≡ 58))
+      → IsTrue (is_word_ink f (slice_index (others ++ o) 0))
+
+pub word_begins : (f : Bool) (indent : ℕ) (t o : List ℕ) → IsPlain f indent t → BeginsWord f t o
+word_begins f indent t o (word, others, (is_word, begins, no_dash, no_mark, no_colon), many, is) =
+    by_word word is_word.some is_word.ink is_word.no_comment begins no_dash no_mark no_colon is
+  where
+    lone : (c d : ℕ) → c ≡ d → (c ∷ []) ≢ (d ∷ []) → ⊥
+    lone c d e other = other (ap (λ (z : ℕ). z ∷ []) e)
+
+    by_word : (w : List ℕ) → w ≢ [] → AreWordInk f w → slice_index w 0 ≢ number_sign
+        → IsTrue (begins_plain (slice_index w 0))
+        → w ≢ hyphen ∷ [] → w ≢ question_mark ∷ [] → w ≢ 58 ∷ [] → t ≡ w ++ others → BeginsWord f t o
+    by_word [] some ink sign b dash mark colon e = absurd (some refl)
+    by_word (c ∷ []) some ink sign b dash mark colon e =
+        record { first = c; others = others; is = e; begins = b; ink = ink.0; no_comment = sign; further = alone }
+      where
+        alone : (c ≡ hyphen) ⊎ ((c ≡ question_mark) ⊎ (c ≡ 58)) → IsTrue (is_word_ink f (slice_index (others ++ o) 0))
+        alone (inl k) = absurd (lone c 45 k dash)
+        alone (inr (inl k)) = absurd (lone c 63 k mark)
+        alone (inr (inr k)) = absurd (lone c 58 k colon)
+    by_word (c ∷ d ∷ ds) some ink sign b dash mark colon e =
+        record {
+          first = c;
+          others = d ∷ (ds ++ others);
+          is = e;
+          begins = b;
+          ink = ink.0;
+          no_comment = sign;
+          further = λ _. ink.2.0;
+        }
+
+-- the first word of a key, which stands before the key's colon
+pub key_begins : (f : Bool) (indent : ℕ) (t r : List ℕ) → IsPlainKey f indent t → BeginsWord f t (58 ∷ r)
+key_begins f indent t r (inl ((some, ink, sign), begins)) = by_word t some ink sign begins
+  where
+    by_word : (w : List ℕ) → w ≢ [] → AreIn (is_word_ink f) w → slice_index w 0 ≢ number_sign
+        → IsTrue (begins_plain (slice_index w 0)) → BeginsWord f w (58 ∷ r)
+    by_word [] some ink sign b = absurd (some refl)
+    by_word (c ∷ []) some ink sign b = record {
+      first = c;
+      others = [];
+      is = refl;
+      begins = b;
+      ink = ink.0;
+      no_comment = sign;
+      further = λ _. colon_is_ink f;
+    }
+    by_word (c ∷ d ∷ ds) some ink sign b = record {
+      first = c;
+      others = d ∷ ds;
+      is = refl;
+      begins = b;
+      ink = ink.0;
+      no_comment = sign;
+      further = λ _. ink.1.0;
+    }
+key_begins f indent t r (inr (plain, dashes, gap, word, h, lone, gapped, last, e)) =
+    let end = dashes ++ (gap ++ word) in
+    let b = word_begins f indent plain (end ++ (58 ∷ r)) h in
+    record {
+      first = b.first;
+      others = b.others ++ end;
+      is = e ∙ ap (λ (y : List ℕ). y ++ end) b.is;
+      begins = b.begins;
+      ink = b.ink;
+      no_comment = b.no_comment;
+      further = λ k. subst (λ (y : List ℕ). IsTrue (is_word_ink f (slice_index y 0)))
+          (sym (append_assoc b.others end (58 ∷ r))) (b.further k);
+    }
+
+no_blank : (c : ℕ) → is_blank_or_breakz c ≡ false → is_blank c ≡ false
+no_blank c h = grind (arith, nat_tests)
+
+no_nul : (c : ℕ) → is_blank_or_breakz c ≡ false → is_z c ≡ false
+no_nul c h = grind (arith, nat_tests)
+
+pub token_begins : (f : Bool) (t o : List ℕ) → BeginsWord f t o → Begins t
+token_begins f t o b =
+    let ink = ink_other f b.first b.ink in
+    record {
+      first = b.first;
+      others = b.others;
+      is = b.is;
+      ink = record {
+        blank = no_blank b.first ink.blank_or_breakz;
+        break = ink_no_break b.first ink.blank_or_breakz;
+        comment = ne_eqb b.first 35 b.no_comment;
+        byte_order_mark = ink.byte_order_mark;
+      };
+      nul = no_nul b.first ink.blank_or_breakz;
+      directive = other_than begins_plain 37 b.first refl b.begins;
+    }
+
+-- a character before a word's second one
+pub lone_test : (f : Bool) (first d second : ℕ) → (first ≡ d → IsTrue (is_word_ink f second))
+    → ((first == d) && is_blank_or_breakz second) ≡ false
+lone_test f first d second h = by_first (first == d) refl
+  where
+    by_first : (b : Bool) → (first == d) ≡ b → ((first == d) && is_blank_or_breakz second) ≡ false
+    by_first true e = rw e ((ink_other f second (h (eqb-true first d e))).blank_or_breakz)
+    by_first false e = rw e refl
+
+-- no value stands where a colon is part of a word
+value_test : (block : Bool) (first second i ad : ℕ) → (first ≡ 58 → IsTrue (is_word_ink (not block) second))
+    → (block ≡ true) ⊎ (ad < i)
+    → ((first == 58) && (not block && (is_flow second || (i == ad)))) ≡ false
+value_test true first second i ad h low = and_false (first == 58)
+value_test false first second i ad h (inl e) = absurd (cc)
+value_test false first second i ad h (inr low) = by_first (first == 58) refl
+  where
+    further : (i ad : ℕ) → ad < i → (i == ad) ≡ false
+    further i ad h = grind (arith, nat_tests)
+
+    by_first : (b : Bool) → (first == 58) ≡ b → ((first == 58) && (true && (is_flow second || (i == ad)))) ≡ false
+    by_first true e = rw (e, (ink_other true second (h (eqb-true first 58 e))).flow, further i ad low) refl
+    by_first false e = rw e refl
+
+pub plain_begins : (first second n : ℕ) (c : Core) → IsTrue (begins_plain first)
+    → ((first == hyphen) && is_blank_or_breakz second) ≡ false
+    → ((first == question_mark) && is_blank_or_breakz second) ≡ false
+    → ((first == 58) && is_blank_or_breakz second) ≡ false
+    → ((first == 58) && is_value_adjacent second c) ≡ false → step first second n c ≡ scalar.plain_steps n c
+unfolding step
+plain_begins first second n c h dash mark colon value =
+    let other : (d : ℕ) → begins_plain d ≡ false → (first == d) ≡ false = λ d e. other_than begins_plain d first e h in
+    rw (
+      other 91 refl,
+      other 123 refl,
+      other 93 refl,
+      other 125 refl,
+      other 44 refl,
+      dash,
+      mark,
+      colon,
+      value,
+      other 34 refl,
+      other 39 refl,
+      other 42 refl,
+      other 38 refl,
+      other 33 refl,
+      other 124 refl,
+      other 62 refl,
+      other 37 refl,
+      other 64 refl,
+      other 96 refl,
+    ) refl
+
+-- ## The scalar is read
+
+-- the value of a plain scalar as a token
+abbrev plain_token : List ℕ → Kind
+plain_token t = scalar_token Plain (plain_value t)
+
+-- what is read of a text that ends at a place
+abbrev found : ℕ → Bool → List ℕ → Marker → List ℕ → PlainScalarRead
+found indent f o end v = Ok (
+  encode_utf8_all (plain_value v),
+  end,
+  comment_of f (is_tabbed indent o) (past_white end false o),
+  past_white end
+      false o,
+)
+
+plain_read : ReaderPromises → (around : Around) (d : Bool) (n : ℕ) (m : Marker) (b : Bool) (t o : List ℕ) (x : Context)
+    → IsPlainText (not (is_block x)) around.indent m t o → IsClear m t o
+    → (k : Option Candidate) (ls : List Level) (a : Bool) (ad : ℕ) → Placed around x a m
+    → let u = past_white (moved m t) false o in scalar.plain_steps n
+    (core_at around d (cursor_at (t ++ o) m b) x k ls a ad)
+    ≡ completed_step (from_to m (moved m t) (plain_token t) ∷ [])
+    (record (core_at around false u x (saved a n m k) ls u.blank_so_far ad)
+    { comment = comment_of (not (is_block x)) (is_tabbed around.indent o) u })
+unfolding scalar.plain_steps read_plain
+plain_read reads around d n m b t o x h clear k ls a ad placed =
+    let s = cursor_at (t ++ o) m b in
+    let f = not (is_block x) in
+    let c = core_at around false s x (saved a n m k) ls false ad in
+    let token = λ (z : List ℕ × Marker × Option Marker × Cursor). completed_step
+    (from_to m z.1 (tokens.Scalar Plain z.0) ∷ [])
+    (behind_plain z.2 z.3 c) in
+    let refused : (f && nat_lt m.col around.indent) ≡ false = plain_placed around x a m placed in
+    let got = reads.plain f around.indent s t o refl h
+    ∙ ap (λ (end : Marker). found around.indent f o end (normalized t)) (passed_moved m t clear.no_return)
+    ∙ ap (found around.indent f o (moved m t)) (normalized_same t clear.no_return) in
+    ap (λ (q : Core). read_plain (record (disallow_key q) { deeper = false }))
+    (saves_key n around d s x k ls a ad placed) ∙ rw refused (ap (λ q. q >>= token) got)
+
+-- ## The step
+
+-- no other token begins where a plain scalar does
+pub plain_dispatches : (around : Around) (d : Bool) (s : Cursor) (n : ℕ) (t o : List ℕ) (x : Context)
+    → BeginsWord (not (is_block x)) t o → (k : Option Candidate) (ls : List Level) (a : Bool) (ad : ℕ)
+    → (is_block x ≡ true) ⊎ (ad < s.mark.index)
+    → step (slice_index (t ++ o) 0) (slice_index (t ++ o) 1) n (core_at around d s x k ls a ad)
+    ≡ scalar.plain_steps n (core_at around d s x k ls a ad)
+plain_dispatches around d s n t o x w k ls a ad low =
+    let f = not (is_block x) in
+    let first = slice_index (t ++ o) 0 in
+    let second = slice_index (t ++ o) 1 in
+    let at_first : first ≡ w.first = ap (λ (y : List ℕ). slice_index (y ++ o) 0) w.is in
+    let at_second : (first ≡ 45) ⊎ ((first ≡ 63) ⊎ (first ≡ 58)) → IsTrue (is_word_ink f second) =
+    λ e. second_ink f t o w (subst (λ (i : ℕ). (i ≡ 45) ⊎ ((i ≡ 63) ⊎ (i ≡ 58))) at_first e) in
+    plain_begins first second n (core_at around d s x k ls a ad)
+    (subst (λ (i : ℕ). IsTrue (begins_plain i)) (sym at_first) w.begins)
+    (lone_test f first 45 second (λ e. at_second (inl e))) (lone_test f first 63 second (λ e. at_second (inr (inl e))))
+    (lone_test f first 58 second (λ e. at_second (inr (inr e))))
+    (value_test (is_block x) first second s.mark.index ad (λ e. at_second (inr (inr e))) low)
+  where
+    second_ink : (f : Bool) (t o : List ℕ) (w : BeginsWord f t o)
+        → (w.first ≡ hyphen) ⊎ ((w.first ≡ question_mark) ⊎ (w.first ≡ 58))
+        → IsTrue (is_word_ink f (slice_index (t ++ o) 1))
+    second_ink f t o w e =
+        subst (λ (y : List ℕ). IsTrue (is_word_ink f (slice_index (y ++ o) 1))) (sym w.is) (w.further e)
+
+-- The premises of a step over a plain scalar: outside flow, or where no colon may stand at once.
+pub plain_step : ReaderPromises → (around : Around) (d : Bool) (n : ℕ) (m : Marker) (b : Bool) (t o : List ℕ)
+    (x : Context)
+    → BeginsWord (not (is_block x)) t o → IsPlainText (not (is_block x)) around.indent m t o → IsClear m t o
+    → (k : Option Candidate) (ls : List Level) (a : Bool) (ad : ℕ) → (is_block x ≡ true) ⊎ (ad < m.index)
+    → Placed around x a m
+    → let u = past_white (moved m t) false o in
+    step (slice_index (t ++ o) 0) (slice_index (t ++ o) 1) n (core_at around d (cursor_at (t ++ o) m b) x k ls a ad)
+    ≡ completed_step (from_to m (moved m t) (plain_token t) ∷ [])
+    (record (core_at around false u x (saved a n m k) ls u.blank_so_far ad)
+    { comment = comment_of (not (is_block x)) (is_tabbed around.indent o) u })
+plain_step reads around d n m b t o x begins text clear k ls a ad low placed =
+    plain_dispatches around d (cursor_at (t ++ o) m b) n t o x begins k ls a ad low
+    ∙ plain_read reads around d n m b t o x text clear k ls a ad placed
+
+-- ## Inside flow
+
+no_comment : (f t : Bool) (u : Cursor) → f ≡ true → comment_of f t u ≡ None
+unfolding comment_of
+no_comment f t u e = rw e refl
+
+-- a text that is read as a plain scalar is passed
+pub text_passes : ReaderPromises → (around : Around) (t o : List ℕ) (m : Marker) → BeginsWord true t o
+    → IsPlainText true around.indent m t o → FitsAround around m t o → around.indent ≤ (moved m t).col
+    → is_blank (slice_index (past around.indent (moved m t) o).1 0) ≡ false
+    → (now : FlowMoment) → is_block now.context ≡ false → now.adjacent < m.index → StandsBefore around now m (t ++ o)
+    → PassesToken around (adjacent_at now.adjacent) now m t o (scalar_token Plain (plain_value t))
+text_passes reads around t o m begins plain fits right inked now flow low text =
+    let inside : not (is_block now.context) ≡ true = ap not flow in
+    let u = past_white (moved m t) false o in
+    let word : BeginsWord (not (is_block now.context)) t o = subst (λ (f : Bool). BeginsWord f t o) (sym inside)
+    begins in
+    let is_text : IsPlainText (not (is_block now.context)) around.indent m t o =
+    subst (λ (f : Bool). IsPlainText f around.indent m t o) (sym inside) plain in
+    token_passes around (adjacent_at now.adjacent) (plain_token t) t o m (token_begins true t o begins) fits right now
+    text (λ b j e. record {
+      there = u;
+      end = moved m t;
+      allowed = u.blank_so_far;
+      adjacent = now.adjacent;
+      to = λ d. false;
+      deepens = none_deeper around;
+      is = λ d. plain_step reads around d (length now.places) m b t o now.context word is_text fits.clear j now.outer e
+          now.adjacent (inr low) (placed_right now.context e fits.calm fits.right)
+          ∙ ap (λ (q : Option Marker). completed_step (from_to m (moved m t) (plain_token t) ∷ [])
+          (record (core_at around false u now.context (saved e (length now.places) m j) now.outer u.blank_so_far
+          now.adjacent) { comment = q }))
+          (no_comment (not (is_block now.context)) (is_tabbed around.indent o) u inside);
+      fits = white_past around.indent (moved m t) false o inked;
+      fresh = λ _ e. white_crosses (moved m t) false o e;
+      tells = refl;
+    })
+
+pub plain_passes : ReaderPromises → (around : Around) (t o : List ℕ) (m : Marker) → IsPlain true around.indent t
+    → FitsAround around m t o → EndsPlain true around.indent (moved m t) o
+    → is_blank (slice_index (past around.indent (moved m t) o).1 0) ≡ false
+    → (now : FlowMoment) → is_block now.context ≡ false → now.adjacent < m.index → StandsBefore around now m (t ++ o)
+    → PassesToken around (adjacent_at now.adjacent) now m t o (scalar_token Plain (plain_value t))
+plain_passes reads around t o m h fits ends inked =
+    text_passes reads around t o m (word_begins true around.indent t o h)
+    (plain_text true around.indent m t o h fits.clear ends) fits
+    (plain_right true around.indent m t o h fits.clear fits.right) inked
+
+-- a key is passed, up to its colon
+pub plain_key_passes : ReaderPromises → (around : Around) (t r : List ℕ) (m : Marker) → IsPlainKey true around.indent t
+    → FitsAround around m t (58 ∷ r) → EndsPlain true around.indent (moved m t) (58 ∷ r)
+    → (now : FlowMoment) → is_block now.context ≡ false → now.adjacent < m.index → StandsBefore around now m
+    (t ++ (58 ∷ r))
+    → PassesToken around (adjacent_at now.adjacent) now m t (58 ∷ r) (scalar_token Plain (plain_value t))
+plain_key_passes reads around t r m h fits ends =
+    text_passes reads around t (58 ∷ r) m (key_begins true around.indent t r h)
+    (key_text true around.indent m t r h fits.clear ends) fits
+    (key_right true around.indent m t r h fits.clear fits.right)
+    (ap (λ (z : Marker × List ℕ). is_blank (slice_index z.1 0)) (past_ink around.indent (moved m t) 58 r colon_ink))
+  where
+    colon_ink : IsInk 58
+    colon_ink = record { blank = refl; break = refl; comment = refl; byte_order_mark = refl }
+
+-- ## A document's node
+
+pub plain_closes : ReaderPromises → (around : Around) (t o : List ℕ) (m : Marker) → IsPlain false around.indent t
+    → FitsAround around m t o → EndsPlain false around.indent (moved m t) o
+    → is_blank (slice_index (past around.indent (moved m t) o).1 0) ≡ false
+    → (now : FlowMoment) → now.adjacent ≤ m.index → StandsBefore around now m (t ++ o)
+    → Closes around (state_at around (root_moment now)) now.key m t now.places (moved m t) o
+    (scalar_token Plain (plain_value t) ∷ [])
+plain_closes reads around t o m h fits ends inked now before text =
+    let w = word_begins false around.indent t o h in
+    let f = token_begins false t o w in
+    let v = arrives around (root_moment now) m (t ++ o) (text ∙ begins_past around.indent m t o f)
+    (begins_inked t o f) fits.right fits.calm in
+    let u = past_white (moved m t) false o in
+    let lands = white_past around.indent (moved m t) false o inked in
+    let count = moved_count m t o in
+    let below = fits.below in
+    let low = within_index around.indent around.limit u (moved m t) o lands (omega (arith, count, below)) in
+    let new = token_place m (moved m t) (plain_token t) ∷ [] in
+    let stepped = λ (d : Bool). plain_step reads around d (length now.places) m v.blank t o context.Block w
+    (plain_text false around.indent m t o h fits.clear ends) fits.clear v.key [] v.allowed now.adjacent (inl refl)
+    (placed_right context.Block v.allowed fits.calm fits.right) in
+    let came = noted_step_comes around now m (t ++ o) v (begins_token m t o f fits.clear)
+    (comment_of false (is_tabbed around.indent o) u) (moment u context.Block (saved v.allowed (length now.places) m
+    v.key) [] u.blank_so_far now.adjacent
+    (now.places ++ new)) (from_to m (moved m t) (plain_token t) ∷ []) (λ d. false) (none_deeper around) stepped refl
+    low in
+    record {
+      there = u;
+      key = came.key;
+      allowed = u.blank_so_far;
+      adjacent = now.adjacent;
+      comment = comment_of false (is_tabbed around.indent o) u;
+      new = new;
+      leads = came.leads;
+      right = plain_right false around.indent m t o h fits.clear fits.right;
+      fits = lands;
+      are = refl;
+      low = behind_low around.indent now.adjacent m t o before;
+      late = saved_since v.allowed (length now.places) m now.key v.key t came.key v.kept came.kept;
+      fresh = λ _ e. white_crosses (moved m t) false o e;
+    }

@@ -1,0 +1,298 @@
+-- The properties of a node in flow style are passed, and an alias is.
+use Rattle.std.proofs.Common.{◌≡◌, ◌≢◌, ℕ, zero, suc, ◌+◌, ◌-◌, ◌≤◌, ◌<◌, Bool, true, false, List, [], ◌∷◌, ◌++◌, length, slice_index, refl, sym, ap, ◌∙◌, arith, subst, append_assoc, append-nil, IsTrue, inl, inr}
+use Rattle.std.specs.Prelude.{not, option_map, Option, Some, None}
+use Rattle.saphyr_input.specs.Classes.{is_blank, is_blank_or_breakz}
+use Rattle.std.proofs.lemmas.Bool.{false≢true}
+use Rattle.std.proofs.lemmas.Bool.Decides.{nat_tests}
+use Rattle.saphyr_scalar.specs.declared.scalar.position.Marker.{Marker}
+use Rattle.saphyr_scalar.specs.Spelling.Tag.{AreIn, EndsTag}
+use Rattle.saphyr_scalar.specs.Reading.BlockLines.{spaces}
+use Rattle.scalar_laws.specs.Spelling.Spaces.{IsGap, IsSeparation}
+use Rattle.scalar_laws.proofs.Beginnings.{both_in}
+use Rattle.saphyr_scanner.specs.declared.engine.level.Context.{Context}
+use Rattle.saphyr_scanner.specs.Grammar.Tokens.{Kind, alias_token, anchor_token, tag_token}
+use Rattle.saphyr_scanner.specs.Grammar.TokenGrammar as grammar
+use Rattle.saphyr_scanner.specs.Steps.Queue.{Place}
+use Rattle.saphyr_scanner.specs.Steps.Level.{Candidate, Level, is_block}
+use Rattle.saphyr_scanner.specs.Steps.State.{State}
+use Rattle.saphyr_scanner.specs.Grammar.Forest.{Tag, Alias}
+use Rattle.saphyr_scanner.specs.Limits.{most_open}
+use Rattle.saphyr_scanner.proofs.Levels.{saved}
+use Rattle.yaml_laws.specs.Grammar.TagSpelling.{IsTag}
+use Rattle.yaml_laws.specs.Grammar.FlowNodes as yaml
+use Rattle.yaml_laws.specs.Grammar.FlowNodes.{IsAnchor}
+use Rattle.yaml_laws.proofs.InFlow.States.{Around, state_at, FlowMoment, root_moment}
+use Rattle.yaml_laws.proofs.Flow.States.{Since, KeptKey, keeping, moved, past, IsBehindNode, IsBehindRoot, ReaderPromises, Known, PassesPiece, FitsAround, IsAfterNode, IsAfterProperties, NodePasses, RootCloses, after, StandsBefore, key_behind}
+use Rattle.yaml_laws.proofs.Flow.Places.{moved_append}
+use Rattle.yaml_laws.proofs.Documents.Lines.{rest_first}
+use Rattle.yaml_laws.proofs.Flow.GapSteps.{less_behind}
+use Rattle.yaml_laws.proofs.Flow.Fillers.{spaces_are_blank, separation_past, right_behind}
+use Rattle.yaml_laws.proofs.Flow.Pieces.{fits_front, fits_back}
+use Rattle.yaml_laws.proofs.Flow.Joins.{since_join, join, closes_unnoted, knowing}
+use Rattle.yaml_laws.proofs.Flow.Inks.{node_ink}
+use Rattle.yaml_laws.proofs.Flow.Low.{start_low, behind_low}
+use Rattle.yaml_laws.proofs.Flow.Tokens.{after_token}
+use Rattle.yaml_laws.proofs.Flow.Names.{closes_key, anchor_passes, alias_token_passes, tag_passes}
+use Rattle.yaml_laws.proofs.Flow.Ends.{tag_ends_name, white_ends_tag, node_ends_tag, root_first}
+
+-- ## What is known behind properties
+
+-- as IsAfterProperties, and the place where a colon may stand at once is still the same
+pub record IsBehindProperties (x : Context) (kept : KeptKey) (ad : ℕ) (key : Option Candidate) (allowed : Bool)
+    (adjacent : ℕ) (new : List Place) : Type 0 where
+  pub properties : IsAfterProperties x kept.kept key allowed new
+  pub since : Since kept.before kept.from kept.over key
+  pub still : adjacent ≡ ad
+
+abbrev pub behind_properties : Context → KeptKey → ℕ → Known
+behind_properties x kept ad key allowed adjacent new = IsBehindProperties x kept ad key allowed adjacent new
+
+pub closed_saved : (a : Bool) (n : ℕ) (m : Marker) (k : Option Candidate) → a ≡ false → saved a n m k ≡ k
+closed_saved a n m k e = rw e refl
+
+one_property : {around : Around} {start : Bool → State} {ls : List Level} {ps : List Place} {m : Marker} {o : List ℕ}
+    {ts : List Kind} → (x : Context) (kept : KeptKey) (ad : ℕ)
+    → PassesPiece around start (after_token (closes_key ad) x kept) x ls ps m o ts
+    → PassesPiece around start (behind_properties x kept ad) x ls ps m o ts
+one_property x kept ad p =
+    knowing p (behind_properties x kept ad)
+    (record {
+      properties = record {
+        piece = p.knows.piece;
+        others = [];
+        is = p.knows.is;
+        keeps = p.knows.keeps;
+        closed = p.knows.tells.0;
+      };
+      since = p.knows.since;
+      still = p.knows.tells.1;
+    })
+
+-- a gap is separation
+pub gap_separates : (indent : ℕ) (w : List ℕ) → IsGap indent w → IsSeparation indent w
+gap_separates indent w (inl (some, are)) = ([], w, ([], tt, refl), are, refl)
+gap_separates indent w (inr (
+  end,
+  filler,
+  front,
+  (rest, (blanks, comment, are, k, rest_is), end_is),
+  filler_is,
+  (lead, tail, (n, low, lead_is), tail_are, prefix_is),
+  e,
+)) =
+    let line = blanks ++ (comment ++ (10 ∷ (filler ++ spaces indent))) in
+    let more = spaces (n - indent) ++ tail in
+    let front_is : front ≡ spaces indent ++ more = prefix_is
+    ∙ ap (λ (x : List ℕ). x ++ tail) (lead_is ∙ longer indent n low)
+    ∙ append_assoc (spaces indent) (spaces (n - indent)) tail in
+    let parts : w ≡ ((blanks ++ comment) ++ (10 ∷ [])) ++ (filler ++ (spaces indent ++ more)) = e
+    ∙ ap (λ (x : List ℕ). x ++ (filler ++ front)) (end_is ∙ ap (λ (x : List ℕ). x ++ (10 ∷ [])) rest_is)
+    ∙ ap (λ (x : List ℕ). ((blanks ++ comment) ++ (10 ∷ [])) ++ (filler ++ x)) front_is in
+    let text : w ≡ (line ++ []) ++ more =
+    parts ∙ joined blanks comment filler (spaces indent) more ∙ ap (λ (x : List ℕ). x ++ more) (sym (append-nil line))
+    in (
+      line ++ [],
+      more,
+      (line ∷ [], ((blanks, comment, filler, are, k, filler_is, refl), tt), refl),
+      both_in is_blank (spaces (n - indent)) tail (spaces_are_blank (n - indent)) tail_are,
+      text,
+    )
+  where
+    joined : (a b c d e : List ℕ)
+        → ((a ++ b) ++ (10 ∷ [])) ++ (c ++ (d ++ e)) ≡ (a ++ (b ++ (10 ∷ (c ++ d)))) ++ e
+    joined a b c d e = simp append_assoc
+
+    sum : (i j : ℕ) → spaces (i + j) ≡ spaces i ++ spaces j
+    sum zero j = let same : 0 + j ≡ j = omega arith in ap spaces same
+    sum (suc i) j =
+        let same : suc i + j ≡ suc (i + j) = omega arith in ap spaces same ∙ ap (λ (x : List ℕ). 32 ∷ x) (sum i j)
+
+    longer : (i n : ℕ) → i ≤ n → spaces n ≡ spaces i ++ spaces (n - i)
+    longer i n low = let same : n ≡ i + (n - i) = omega (arith, low) in ap spaces same ∙ sum i (n - i)
+
+-- two with a gap between
+two_properties : (around : Around) (start : Bool → State) (x : Context) (kept before : Option Candidate)
+    (ls : List Level) (ps : List Place) (ad : ℕ) (m : Marker) (a w b o : List ℕ) (first second : Kind)
+    → IsGap around.indent w
+    → (p : PassesPiece around start
+    (after_token (closes_key ad) x (record { kept = kept; before = before; from = m; over = a })) x ls ps (moved m a)
+    ((w ++ b) ++ o) (first ∷ []))
+    → (StandsBefore around (after p) (moved (moved m a) w) (b ++ o) → around.indent ≤ (moved (moved m a) w).col
+    → PassesPiece around (state_at around (after p))
+    (after_token (closes_key p.adjacent) x (keeping (after p) (moved (moved m a) w) b)) x ls (ps ++ p.new)
+    (moved (moved (moved m a) w) b) o (second ∷ []))
+    → PassesPiece around start (behind_properties x
+    (record { kept = kept; before = before; from = m; over = a ++ (w ++ b) })
+    ad) x ls ps (moved m (a ++ (w ++ b))) o (first ∷ second ∷ [])
+two_properties around start x kept before ls ps ad m a w b o first second h p passes =
+    let parts = gap_separates around.indent w h in
+    let here : StandsBefore around (after p) (moved (moved m a) w) (b ++ o) =
+    p.fits ∙ ap (past around.indent (moved m a)) (append_assoc w b o)
+    ∙ separation_past around.indent (moved m a) w (b ++ o) parts p.right in
+    let q = passes here (right_behind around.indent (moved m a) w parts p.right) in
+    let place : moved (moved (moved m a) w) b ≡ moved m (a ++ (w ++ b)) =
+    sym (moved_append m a (w ++ b) ∙ moved_append (moved m a) w b) in
+    subst (λ (n : Marker). PassesPiece around start
+    (behind_properties x (record { kept = kept; before = before; from = m; over = a ++ (w ++ b) }) ad) x ls ps n o
+    (first ∷ second ∷ [])) place
+    (join p q (behind_properties x (record { kept = kept; before = before; from = m; over = a ++ (w ++ b) }) ad)
+    (record {
+      properties = record {
+        piece = p.knows.piece;
+        others = q.new;
+        is = ap (λ (r : List Place). r ++ q.new) p.knows.is;
+        keeps = λ e. q.knows.keeps e
+            ∙ closed_saved p.allowed (length (ps ++ p.new)) (moved (moved m a) w) p.key p.knows.tells.0
+            ∙ p.knows.keeps e;
+        closed = q.knows.tells.0;
+      };
+      since = since_join before m a w b p.key q.key p.knows.since q.knows.since;
+      still = q.knows.tells.1 ∙ p.knows.tells.1;
+    }))
+
+pub blank_first : (w y : List ℕ) → (w ≢ []) × AreIn is_blank w → IsTrue (is_blank_or_breakz (slice_index (w ++ y) 0))
+blank_first [] y h = absurd (h.0 refl)
+blank_first (c ∷ cs) y h = apart c h.1.0
+  where
+    apart : (c : ℕ) → IsTrue (is_blank c) → IsTrue (is_blank_or_breakz c)
+    apart c h = grind (arith, nat_tests)
+
+-- behind a token: a blank or a break
+pub gap_first : (indent : ℕ) (w y : List ℕ) → IsGap indent w → IsTrue (is_blank_or_breakz (slice_index (w ++ y) 0))
+gap_first indent w y (inl h) = blank_first w y h
+gap_first indent w y (inr (end, filler, front, (rest, rest_is, end_is), filler_is, prefix, e)) =
+    let more = (filler ++ front) ++ y in
+    let text : w ++ y ≡ rest ++ (10 ∷ more) = ap (λ (x : List ℕ). x ++ y) e
+    ∙ ap (λ (x : List ℕ). (x ++ (filler ++ front)) ++ y) end_is ∙ joined rest (filler ++ front) y in
+    subst (λ (x : List ℕ). IsTrue (is_blank_or_breakz (slice_index x 0))) (sym text)
+    (rest_first rest (10 ∷ more) rest_is (inr refl))
+  where
+    joined : (a b c : List ℕ) → ((a ++ (10 ∷ [])) ++ b) ++ c ≡ a ++ (10 ∷ (b ++ c))
+    joined a b c = simp append_assoc
+
+gap_ends_tag : (indent : ℕ) (in_flow : Bool) (w b o : List ℕ) → IsGap indent w → EndsTag in_flow ((w ++ b) ++ o)
+gap_ends_tag indent in_flow w b o h =
+    subst (EndsTag in_flow) (sym (append_assoc w b o))
+    (white_ends_tag in_flow (w ++ (b ++ o)) (gap_first indent w (b ++ o) h))
+
+-- ## Properties
+
+-- the tokens of an anchor and a tag, and the run over their text
+pub record PropertiesRead (around : Around) (now : FlowMoment) (anchor : Option (List ℕ)) (tag : Option Tag)
+    (m : Marker) (t o : List ℕ) : Type 0 where
+  pub tokens : List Kind
+  pub are : grammar.AreBoth (option_map anchor_token anchor) (option_map tag_token tag) tokens
+  pub passes : PassesPiece around (state_at around now) (behind_properties now.context (keeping now m t) now.adjacent)
+      now.context now.outer now.places (moved m t) o tokens
+
+-- what is shown of a piece with properties
+abbrev ReadsProperties : Around → Option (List ℕ) → Option Tag → Marker → List ℕ → List ℕ → FlowMoment → Type 0
+ReadsProperties around anchor tag m t o now =
+    FitsAround around m t o → StandsBefore around now m (t ++ o) → PropertiesRead around now anchor tag m t o
+
+anchor_and_tag : ReaderPromises → (around : Around) (name : List ℕ) (tag : Tag) (m : Marker) (a w b o : List ℕ)
+    → IsAnchor name a
+    → IsGap around.indent w → IsTag tag b → (now : FlowMoment) → EndsTag (not (is_block now.context)) o
+    → ReadsProperties around (Some name) (Some tag) m (a ++ (w ++ b)) o now
+anchor_and_tag reads around name tag m a w b o h spaced g now ends fits text =
+    let behind = (w ++ b) ++ o in
+    let p = anchor_passes reads around name a behind m h (tag_ends_name true behind (gap_ends_tag around.indent true w b o spaced))
+    (fits_front m a (w ++ b) o fits) now (text ∙ ap (past around.indent m) (append_assoc a (w ++ b) o)) in
+    record {
+      tokens = anchor_token name ∷ tag_token tag ∷ [];
+      are = inl refl;
+      passes = two_properties around (state_at around now) now.context (key_behind now m) now.key now.outer now.places
+          now.adjacent m a w b o (anchor_token name) (tag_token tag) spaced p
+          (λ there right. tag_passes reads around tag b o (moved (moved m a) w) g
+          (fits_back (moved m a) w b o right (fits_back m a (w ++ b) o p.right fits)) (after p) ends there);
+    }
+
+tag_and_anchor : ReaderPromises → (around : Around) (name : List ℕ) (tag : Tag) (m : Marker) (a w b o : List ℕ)
+    → IsTag tag a
+    → IsGap around.indent w → IsAnchor name b → (now : FlowMoment) → EndsTag (not (is_block now.context)) o
+    → ReadsProperties around (Some name) (Some tag) m (a ++ (w ++ b)) o now
+tag_and_anchor reads around name tag m a w b o g spaced h now ends fits text =
+    let behind = (w ++ b) ++ o in
+    let p = tag_passes reads around tag a behind m g (fits_front m a (w ++ b) o fits) now
+    (gap_ends_tag around.indent (not (is_block now.context)) w b o spaced)
+    (text ∙ ap (past around.indent m) (append_assoc a (w ++ b) o)) in
+    record {
+      tokens = tag_token tag ∷ anchor_token name ∷ [];
+      are = inr refl;
+      passes = two_properties around (state_at around now) now.context (key_behind now m) now.key now.outer now.places
+          now.adjacent m a w b o (tag_token tag) (anchor_token name) spaced p
+          (λ there right. anchor_passes reads around name b o (moved (moved m a) w) h
+          (tag_ends_name (not (is_block now.context)) o ends)
+          (fits_back (moved m a) w b o right (fits_back m a (w ++ b) o p.right fits)) (after p) there);
+    }
+
+pub properties_read : ReaderPromises
+    → (around : Around) (anchor : Option (List ℕ)) (tag : Option Tag) (m : Marker) (t o : List ℕ)
+    → yaml.AreProperties anchor tag around.indent t
+    → (now : FlowMoment) → EndsTag (not (is_block now.context)) o → ReadsProperties around anchor tag m t o now
+properties_read reads around None None m t o h now ends fits text = absurd h
+properties_read reads around (Some name) None m t o h now ends fits text =
+    let p = anchor_passes reads around name t o m h (tag_ends_name (not (is_block now.context)) o ends) fits now text in
+    record {
+      tokens = anchor_token name ∷ [];
+      are = refl;
+      passes = one_property now.context (keeping now m t) now.adjacent p;
+    }
+properties_read reads around None (Some tag) m t o h now ends fits text =
+    let p = tag_passes reads around tag t o m h fits now ends text in
+    record {
+      tokens = tag_token tag ∷ [];
+      are = refl;
+      passes = one_property now.context (keeping now m t) now.adjacent p;
+    }
+properties_read reads around (Some name) (Some tag) m t o (anchor, between, written, h, g, spaced, inl is) now ends fits
+    text =
+    subst (λ (y : List ℕ). ReadsProperties around (Some name) (Some tag) m y o now) (sym is)
+    (anchor_and_tag reads around name tag m anchor between written o h spaced g now ends) fits text
+properties_read reads around (Some name) (Some tag) m t o (anchor, between, written, h, g, spaced, inr is) now ends fits
+    text =
+    subst (λ (y : List ℕ). ReadsProperties around (Some name) (Some tag) m y o now) (sym is)
+    (tag_and_anchor reads around name tag m written between anchor o g spaced h now ends) fits text
+
+-- ## An alias
+
+pub alias_passes : ReaderPromises → (around : Around) (room : ℕ) (name : List ℕ) (m : Marker) (p o : List ℕ)
+    → yaml.IsFlowNode room (Alias name) true around.indent p → FitsAround around m p o
+    → IsBehindNode around.indent (Alias name) o
+    → (now : FlowMoment) → now.adjacent < m.index → is_block now.context ≡ false → room + length now.outer ≤ most_open
+    → StandsBefore around now m (p ++ o) → NodePasses around now (Alias name) m p o
+alias_passes reads around room name m p o h fits behind now before flow small text =
+    let ends = tag_ends_name true o (node_ends_tag around.indent (Alias name) o refl behind) in
+    let q = alias_token_passes reads around name p o m h ends fits now text in
+    record {
+      tokens = alias_token name ∷ [];
+      are = refl;
+      passes = knowing q (λ key allowed adjacent new. IsAfterNode around.indent now.context (key_behind now m)
+          (Alias name) (moved m p) o key adjacent new)
+          (record {
+            piece = q.knows.piece;
+            others = [];
+            is = q.knows.is;
+            keeps = q.knows.keeps;
+            near = λ e separation more is parts allows. absurd (false≢true allows);
+            low = λ e. subst (λ (n : ℕ). n ≤ (past around.indent (moved m p) o).0.index) (sym q.knows.tells.1)
+                (less_behind around.indent now.adjacent m p o before);
+          });
+    }
+
+pub alias_closes : ReaderPromises → (around : Around) (name : List ℕ) (m : Marker) (p o : List ℕ)
+    → yaml.IsFlowNode most_open (Alias name) false around.indent p → FitsAround around m p o
+    → IsBehindRoot around.indent (moved m p) o
+    → (now : FlowMoment) → now.adjacent ≤ (past around.indent m (p ++ o)).0.index → StandsBefore around now m (p ++ o)
+    → RootCloses around now (Alias name) m p o
+alias_closes reads around name m p o h fits behind now before text =
+    let first = start_low around.indent now.adjacent m p o (node_ink around.indent most_open (Alias name) false p h)
+    before in
+    let ends = tag_ends_name true o (white_ends_tag true o (root_first around.indent (moved m p) o behind)) in
+    let q = alias_token_passes reads around name p o m h ends fits (root_moment now) text in
+    record {
+      tokens = alias_token name ∷ [];
+      are = refl;
+      closes = closes_unnoted q (subst (λ (n : ℕ). n ≤ (past around.indent (moved m p) o).0.index) (sym q.knows.tells.1)
+          (behind_low around.indent now.adjacent m p o first)) q.knows.since;
+    }

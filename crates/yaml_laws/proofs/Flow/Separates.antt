@@ -1,0 +1,239 @@
+-- Blanks and a comment behind a token of a text in flow style are passed, up to the end of the line.
+use Rattle.std.proofs.Common.{◌≡◌, ◌≢◌, ℕ, ◌+◌, ◌<◌, ◌≤◌, Bool, true, false, List, [], ◌∷◌, ◌++◌, length, drop, slice_index, Ok, refl, sym, ap, ◌∙◌, arith, subst, append_assoc, append-nil, IsTrue, ◌⊎◌, inl, inr, cond}
+use Rattle.std.specs.Prelude.{◌==◌, not}
+use Rattle.std.specs.List.{prefix_len}
+use Rattle.std.proofs.Math.Seq.{drop-append_seam}
+use Rattle.std.proofs.lemmas.Bool.Decides.{nat_tests}
+use Rattle.std.proofs.lemmas.List.{length-append}
+use Rattle.saphyr_input.specs.Indicators.{number_sign}
+use Rattle.saphyr_input.specs.Classes.{is_blank, is_break, is_bom, is_yaml_non_break, line_feed}
+use Rattle.saphyr_input.specs.Separation.{comment_len, separation_len, found_blanks}
+use Rattle.saphyr_input.specs.declared.input.SkipTabs.{SkipTabs}
+use Rattle.saphyr_input.specs.declared.input.SkipTabs.TheVariants.{Yes}
+use Rattle.saphyr_scalar.specs.declared.scalar.position.Marker.{Marker}
+use Rattle.saphyr_scalar.specs.Views.Cursor.{Cursor, along, pass_blanks, separation, behind_separation}
+use Rattle.saphyr_scalar.specs.Spelling.Tag.{AreIn}
+use Rattle.saphyr_scalar.specs.Reading.BlockLines.{spaces}
+use Rattle.saphyr_scalar.proofs.Runs.{run_len}
+use Rattle.scalar_laws.specs.Spelling.Spaces.{joined_pieces, AreEach, IsComment, IsCommentBehind, IsSeparationLine, IsSeparation, IsLineRest}
+use Rattle.yaml_laws.proofs.Flow.States.{moved, past, IsInk}
+use Rattle.yaml_laws.proofs.Flow.Places.{moved_along}
+use Rattle.yaml_laws.proofs.Flow.Fillers.{EndsLine, blanks_past, front_past, behind_is}
+use Rattle.saphyr_input.proofs.Basics.Characters.{blank_no_feed, non_break_no_feed}
+use Rattle.scalar_laws.proofs.Beginnings.{back_in, both_in}
+use Rattle.saphyr_scanner.proofs.Gaps.{separated}
+
+-- what ends blanks and a comment, or blanks alone
+pub record StopsLine (comment more : List ℕ) : Type 0 where
+  pub mark : is_bom (slice_index more 0) ≡ false
+  pub blank : comment ≡ [] → is_blank (slice_index more 0) ≡ false
+  pub sign : comment ≡ [] → (slice_index more 0 == number_sign) ≡ false
+  pub word : comment ≢ [] → is_yaml_non_break (slice_index more 0) ≡ false
+
+pub line_stops : (comment more : List ℕ) → EndsLine more → StopsLine comment more
+line_stops comment more (inl e) =
+    subst (StopsLine comment) (sym e) (record { mark = refl; blank = λ _. refl; sign = λ _. refl; word = λ _. refl })
+line_stops comment more (inr e) =
+    record {
+      mark = ap is_bom e;
+      blank = λ _. ap is_blank e;
+      sign = λ _. ap (λ (c : ℕ). c == 35) e;
+      word = λ _. ap is_yaml_non_break e;
+    }
+
+pub ink_stops : (c : ℕ) (cs : List ℕ) → IsInk c → StopsLine [] (c ∷ cs)
+ink_stops c cs h = record {
+  mark = h.byte_order_mark;
+  blank = λ _. h.blank;
+  sign = λ _. h.comment;
+  word = λ n. absurd (n refl);
+}
+
+comment_counts : (blanks comment more : List ℕ) → IsCommentBehind blanks comment → StopsLine comment more
+    → comment_len (comment ++ more) ≡ length comment
+comment_counts blanks comment more (inl e) h =
+    subst (λ (c : List ℕ). comment_len (c ++ more) ≡ length c) (sym e) (rw (h.sign e) refl)
+comment_counts blanks comment more (inr (some, (words, are, is))) h =
+    let other : comment ≢ [] = λ e. absurd (let f : [] ≡ 35 ∷ words = sym e ∙ is in cc) in
+    let run = run_len is_yaml_non_break words more are (h.word other) in
+    subst (λ (c : List ℕ). comment_len (c ++ more) ≡ length c) (sym is) (counted words run)
+  where
+    counted : (words : List ℕ) → prefix_len is_yaml_non_break (words ++ more) ≡ length words
+        → comment_len (number_sign ∷ (words ++ more)) ≡ length (number_sign ∷ words)
+    counted words run = omega (arith, run)
+
+blank_no_sign : (c : ℕ) → is_blank c ≡ true → (c == number_sign) ≡ false
+blank_no_sign c h = grind (arith, nat_tests)
+
+starts_white : (blanks comment more : List ℕ) → AreIn is_blank blanks → IsCommentBehind blanks comment
+    → StopsLine comment more → (slice_index (blanks ++ (comment ++ more)) 0 == number_sign) ≡ false
+starts_white (c ∷ cs) comment more are k h = blank_no_sign c are.0
+starts_white [] comment more are (inl e) h = ap (λ (t : List ℕ). slice_index (t ++ more) 0 == 35) e ∙ h.sign e
+starts_white [] comment more are (inr k) h = absurd (k.0 refl)
+
+pub blank_stops : (blanks comment more : List ℕ) → IsCommentBehind blanks comment → StopsLine comment more
+    → is_blank (slice_index (comment ++ more) 0) ≡ false
+blank_stops blanks comment more (inl e) h = ap (λ (t : List ℕ). is_blank (slice_index (t ++ more) 0)) e ∙ h.blank e
+blank_stops blanks comment more (inr k) h = ap (λ (t : List ℕ). is_blank (slice_index (t ++ more) 0)) k.1.2
+
+none_or_some : (n k : ℕ) → (k ≡ 0) ⊎ (0 < n) → cond (n == 0) 0 (n + k) ≡ n + k
+none_or_some n k (inl e) = rw e (by_some n)
+  where
+    by_some : (n : ℕ) → cond (n == 0) 0 (n + 0) ≡ n + 0
+    by_some n = grind (arith, nat_tests)
+none_or_some n k (inr h) = grind (arith, nat_tests)
+
+parted : (blanks comment : List ℕ) → IsCommentBehind blanks comment → (length comment ≡ 0) ⊎ (0 < length blanks)
+parted blanks comment (inl e) = inl (ap length e)
+parted [] comment (inr k) = absurd (k.0 refl)
+parted (c ∷ cs) comment (inr k) = inr (omega arith)
+
+counts : (blanks comment more : List ℕ) → AreIn is_blank blanks → IsCommentBehind blanks comment
+    → StopsLine comment more → separation_len Yes (blanks ++ (comment ++ more)) ≡ length (blanks ++ comment)
+counts blanks comment more are k h =
+    let n = run_len is_blank blanks (comment ++ more) are (blank_stops blanks comment more k h) in
+    rw n (rw (drop-append_seam blanks (comment ++ more))
+    (rw (comment_counts blanks comment more k h)
+    (none_or_some (length blanks) (length comment) (parted blanks comment k) ∙ sym (length-append blanks comment))))
+
+-- blanks and a comment, or none
+pub line_separated : (s : Cursor) (blanks comment more : List ℕ) → s.rest ≡ blanks ++ (comment ++ more)
+    → AreIn is_blank blanks → IsCommentBehind blanks comment → StopsLine comment more
+    → separation Yes s ≡ Ok (
+      found_blanks Yes s.rest,
+      record { rest = more; mark = along s.mark (length (blanks ++ comment)); blank_so_far = s.blank_so_far },
+    )
+unfolding separation
+line_separated s blanks comment more is are k h =
+    let n = separation_len Yes s.rest in
+    let count : n ≡ length (blanks ++ comment) = ap (separation_len Yes) is ∙ counts blanks comment more are k h in
+    let text : s.rest ≡ (blanks ++ comment) ++ more = is ∙ sym (append_assoc blanks comment more) in
+    let left : drop n s.rest ≡ more = ap (λ (x : List ℕ). drop n x) text
+    ∙ ap (λ (i : ℕ). drop i ((blanks ++ comment) ++ more)) count ∙ drop-append_seam (blanks ++ comment) more in
+    let there : Cursor = record {
+      rest = more;
+      mark = along s.mark (length (blanks ++ comment));
+      blank_so_far = s.blank_so_far;
+    } in
+    let place : pass_blanks n s ≡ there = rw (left, count) refl in
+    ap (behind_separation Yes s.rest) place
+    ∙ separated s.rest there (ap (λ (x : List ℕ). slice_index x 0 == 35) is ∙ starts_white blanks comment more are k h)
+    h.mark
+
+-- ## Where the places are
+
+within : (p q : ℕ → Bool) → ((c : ℕ) → IsTrue (p c) → IsTrue (q c)) → (t : List ℕ) → AreIn p t → AreIn q t
+within p q f [] h = tt
+within p q f (c ∷ cs) h = (f c h.0, within p q f cs h.1)
+
+comment_on_line : (comment : List ℕ) → (comment ≡ []) ⊎ IsComment comment → AreIn (λ c. not (c == line_feed)) comment
+comment_on_line comment (inl e) = subst (AreIn (λ c. not (c == line_feed))) (sym e) tt
+comment_on_line comment (inr h) =
+    subst (AreIn (λ c. not (c == line_feed))) (sym h.2)
+    (refl, within is_yaml_non_break (λ c. not (c == line_feed)) non_break_no_feed h.0 h.1)
+
+pub blanks_moved : (m : Marker) (w : List ℕ) → AreIn is_blank w → moved m w ≡ along m (length w)
+blanks_moved m w h = moved_along m w (within is_blank (λ c. not (c == line_feed)) blank_no_feed w h)
+
+pub front_moved : (m : Marker) (blanks comment : List ℕ) → AreIn is_blank blanks → (comment ≡ []) ⊎ IsComment comment
+    → moved m (blanks ++ comment) ≡ along m (length (blanks ++ comment))
+front_moved m blanks comment h k =
+    moved_along m (blanks ++ comment)
+    (both_in (λ c. not (c == line_feed)) blanks comment
+    (within is_blank (λ c. not (c == line_feed)) blank_no_feed blanks h) (comment_on_line comment k))
+
+-- ## What is passed before the character that begins a token
+
+-- behind a token, where y stands behind the separation w
+pub record Separates (column : ℕ) (s : Cursor) (w y : List ℕ) : Type 0 where
+  pub found : SkipTabs
+  pub there : Cursor
+  pub is : separation Yes s ≡ Ok (found, there)
+  pub lands : past column there.mark there.rest ≡ past column s.mark s.rest
+  pub ends : (is_break (slice_index there.rest 0) ≡ true) ⊎ (there.rest ≡ y)
+  pub near : AreIn is_blank w → (there.rest ≡ y) × (there.mark ≡ moved s.mark w)
+
+separates_on_line : (column : ℕ) (s : Cursor) (blanks : List ℕ) (c : ℕ) (cs : List ℕ) → s.rest ≡ blanks ++ (c ∷ cs)
+    → AreIn is_blank blanks → column ≤ s.mark.col → IsInk c → Separates column s blanks (c ∷ cs)
+separates_on_line column s blanks c cs is are low ink =
+    let mark : along s.mark (length (blanks ++ [])) ≡ moved s.mark blanks =
+    ap (λ (t : List ℕ). along s.mark (length t)) (append-nil blanks) ∙ sym (blanks_moved s.mark blanks are) in
+    record {
+      found = found_blanks Yes s.rest;
+      there = record { rest = c ∷ cs; mark = along s.mark (length (blanks ++ [])); blank_so_far = s.blank_so_far };
+      is = line_separated s blanks [] (c ∷ cs) is are (inl refl) (ink_stops c cs ink);
+      lands = ap (λ (m : Marker). past column m (c ∷ cs)) mark
+          ∙ sym (ap (past column s.mark) is ∙ (blanks_past column blanks are s.mark low).is (c ∷ cs));
+      ends = inr refl;
+      near = λ _. (refl, mark);
+    }
+
+-- up to a line's end
+pub line_rest : (s : Cursor) (blanks comment more : List ℕ) → s.rest ≡ blanks ++ (comment ++ more)
+    → AreIn is_blank blanks → IsCommentBehind blanks comment → EndsLine more
+    → (found : SkipTabs) × (separation Yes s
+    ≡ Ok (found, record { rest = more; mark = moved s.mark (blanks ++ comment); blank_so_far = s.blank_so_far }))
+line_rest s blanks comment more is are k ends =
+    let mark = front_moved s.mark blanks comment are (behind_is blanks comment k) in (
+      found_blanks Yes s.rest,
+      line_separated s blanks comment more is are k (line_stops comment more ends)
+          ∙ ap (λ (m : Marker). Ok
+          (let t : SkipTabs × Cursor =
+          (found_blanks Yes s.rest, record { rest = more; mark = m; blank_so_far = s.blank_so_far }) in t))
+          (sym mark),
+    )
+
+pub separates_rest : (s : Cursor) (rest more : List ℕ) → s.rest ≡ rest ++ more → IsLineRest rest → EndsLine more
+    → (found : SkipTabs) × (separation Yes s
+    ≡ Ok (found, record { rest = more; mark = moved s.mark rest; blank_so_far = s.blank_so_far }))
+separates_rest s rest more is (front, comment, blank, k, e) ends =
+    let text : s.rest ≡ front ++ (comment ++ more) = is ∙ ap (λ (t : List ℕ). t ++ more) e
+    ∙ append_assoc front comment more in
+    let r = line_rest s front comment more text blank k ends in (
+      r.0,
+      r.1 ∙ ap (λ (t : List ℕ). Ok
+          (let u : SkipTabs × Cursor =
+          (r.0, record { rest = more; mark = moved s.mark t; blank_so_far = s.blank_so_far }) in u)) (sym e),
+    )
+
+no_blank_feed : (a b : List ℕ) → AreIn is_blank (a ++ (line_feed ∷ b)) → ⊥
+no_blank_feed a b h = absurd (let k : false ≡ true = (back_in is_blank a (10 ∷ b) h).0 in cc)
+
+over_lines : (column : ℕ) (s : Cursor) (w blanks comment more : List ℕ) (c : ℕ) (cs : List ℕ)
+    → s.rest ≡ blanks ++ (comment ++ (line_feed ∷ more)) → w ++ (c ∷ cs) ≡ blanks ++ (comment ++ (line_feed ∷ more))
+    → ¬ (AreIn is_blank w)
+    → AreIn is_blank blanks → IsCommentBehind blanks comment → column ≤ s.mark.col → Separates column s w (c ∷ cs)
+over_lines column s w blanks comment more c cs is text wide are k low =
+    let r = line_rest s blanks comment (10 ∷ more) is are k (inr refl) in
+    record {
+      found = r.0;
+      there = record { rest = 10 ∷ more; mark = moved s.mark (blanks ++ comment); blank_so_far = s.blank_so_far };
+      is = r.1;
+      lands = sym (ap (past column s.mark) (is ∙ sym (append_assoc blanks comment (10 ∷ more)))
+          ∙ front_past column s.mark (blanks ++ comment) blanks comment (10 ∷ more)
+          (blanks_past column blanks are s.mark low).is (behind_is blanks comment k) refl (inr refl));
+      ends = inl refl;
+      near = λ h. absurd (wide h);
+    }
+
+pub separates : (column : ℕ) (s : Cursor) (w : List ℕ) (c : ℕ) (cs : List ℕ) → s.rest ≡ w ++ (c ∷ cs)
+    → IsSeparation column w → column ≤ s.mark.col → IsInk c → Separates column s w (c ∷ cs)
+separates column s w c cs is (lines, blanks, (pieces, each, lines_are), are, e) low ink = by_lines pieces each lines_are
+  where
+    by_lines : (pieces : List (List ℕ)) → AreEach (IsSeparationLine column) pieces → lines ≡ joined_pieces pieces
+        → Separates column s w (c ∷ cs)
+    by_lines [] each lines_are =
+        let same : w ≡ blanks = e ∙ ap (λ (t : List ℕ). t ++ blanks) lines_are in
+        subst (λ (v : List ℕ). Separates column s v (c ∷ cs)) (sym same)
+        (separates_on_line column s blanks c cs (is ∙ ap (λ (t : List ℕ). t ++ (c ∷ cs)) same) are low ink)
+    by_lines (p ∷ ps) ((first, comment, filler, first_are, k, filler_is, line_is), others) lines_are =
+        let more = (filler ++ spaces column) ++ (joined_pieces ps ++ (blanks ++ (c ∷ cs))) in
+        let inside : w ≡ first ++ (comment ++ (10 ∷ ((filler ++ spaces column) ++ (joined_pieces ps ++ blanks)))) =
+        e ∙ ap (λ (t : List ℕ). t ++ blanks) lines_are ∙ ap (λ (t : List ℕ). (t ++ joined_pieces ps) ++ blanks) line_is
+        ∙ simp append_assoc in
+        let text : w ++ (c ∷ cs) ≡ first ++ (comment ++ (10 ∷ more)) =
+        ap (λ (t : List ℕ). t ++ (c ∷ cs)) inside ∙ simp append_assoc in
+        let both : w ≡ (first ++ comment) ++ (10 ∷ ((filler ++ spaces column) ++ (joined_pieces ps ++ blanks))) =
+        inside ∙ sym (append_assoc first comment _) in
+        over_lines column s w first comment more c cs (is ∙ text) text
+        (λ h. no_blank_feed (first ++ comment) _ (subst (AreIn is_blank) both h)) first_are k low

@@ -1,0 +1,389 @@
+-- What is said of a piece of a text in flow style, and of the states before it and behind it, whatever block
+-- collections are open.
+use Rattle.std.proofs.Common.{◌≡◌, ℕ, ◌+◌, ◌<◌, ◌≤◌, Bool, true, false, List, [], ◌∷◌, ◌++◌, length, slice_index, IsTrue, ◌⊎◌, Ok, encode_utf8_all}
+use Rattle.std.specs.Prelude.{◌||◌, ◌&&◌, ◌==◌, not, nat_lt, Option, Some, None, if◌then◌else◌}
+use Rattle.saphyr_input.specs.Indicators.{colon, number_sign}
+use Rattle.saphyr_input.specs.Breaks.{normalized}
+use Rattle.saphyr_input.specs.Classes.{is_blank, is_break, is_breakz, is_blank_or_breakz, is_yaml_non_break, is_anchor_char, is_bom, line_feed, carriage_return}
+use Rattle.saphyr_input.specs.Places.{is_document_indicator}
+use Rattle.saphyr_scalar.specs.declared.scalar.position.Marker.{Marker}
+use Rattle.saphyr_scalar.specs.Views.Cursor.{Cursor, along, next_line, pass_break}
+use Rattle.saphyr_scalar.specs.Steps.Anchor as anchors
+use Rattle.saphyr_scalar.specs.Steps.Tag as tags
+use Rattle.saphyr_scalar.specs.Steps.Plain as words
+use Rattle.saphyr_scalar.specs.Steps.Plain.{comment_of}
+use Rattle.saphyr_scalar.specs.Reading.Plain.{end_of_text}
+use Rattle.saphyr_scalar.specs.Steps.Quoted as quotes
+use Rattle.saphyr_scalar.specs.Steps.Quoted.{mid_line}
+use Rattle.saphyr_scalar.specs.Spelling.Quoted.{IsQuotedText}
+use Rattle.scalar_laws.specs.Spelling.Plain.{IsPlainText, is_tabbed, past_white}
+use Rattle.scalar_laws.specs.Spelling.QuotedLines.{LinesFit}
+use Rattle.saphyr_values.specs.Flow.{plain_value}
+use Rattle.saphyr_values.specs.Folding.{folded}
+use Rattle.saphyr_scalar.specs.Passing.{IsPassed}
+use Rattle.saphyr_scalar.specs.Steps.Directive as directives
+use Rattle.saphyr_scalar.specs.Spelling.Directive as spelling
+use Rattle.saphyr_scalar.specs.Spelling.Directive.{ReadDirective, IsDirectiveText, IsReservedDirective, IsLineTail}
+use Rattle.saphyr_values.specs.declared.folding.Item.{Item}
+use Rattle.saphyr_values.specs.declared.flow.Quote.{Quote}
+use Rattle.saphyr_scalar.specs.Spelling.Tag.{AreIn, IsAnchorName, IsTagText, EndsTag}
+use Rattle.scalar_laws.specs.Spelling.Spaces.{IsSeparation, IsLineRest}
+use Rattle.saphyr_scanner.specs.declared.engine.level.Context.{Context}
+use Rattle.saphyr_scanner.specs.declared.engine.level.Context.TheVariants as context
+use Rattle.saphyr_scanner.specs.Grammar.Tokens.{Kind}
+use Rattle.saphyr_scanner.specs.Grammar.TokenGrammar as grammar
+use Rattle.saphyr_scanner.specs.Views.Tokens.{Piece}
+use Rattle.saphyr_scanner.specs.Steps.Queue.{Place, bare_place}
+use Rattle.saphyr_scanner.specs.Steps.Level.{Candidate, Level, is_block}
+use Rattle.saphyr_scanner.specs.Steps.State.{State}
+use Rattle.saphyr_scanner.specs.Grammar.Forest.{Node}
+use Rattle.saphyr_scanner.specs.Limits.{most_open}
+use Rattle.saphyr_scanner.proofs.Queues.{place_kinds}
+use Rattle.saphyr_scanner.proofs.Levels.{saved}
+use Rattle.yaml_laws.specs.Grammar.FlowNodes.{IsPlainKeyNode, IsBeforeColon, allows_adjacent, IsFlowNode}
+use Rattle.yaml_laws.proofs.InFlow.States.{Around, FlowMoment, moment, state_at, RunsTo, root_moment}
+
+-- ## Places in a text
+
+-- the place behind a text whose breaks are line feeds
+abbrev pub moved : Marker → List ℕ → Marker
+moved m [] = m
+moved m (c ∷ cs) = moved (if c == line_feed then next_line m 1 else along m 1) cs
+
+-- a tab left of a column
+abbrev pub is_left_tab : ℕ → Marker → ℕ → Bool
+is_left_tab column m c = (c == 9) && nat_lt m.col column
+
+-- Whether no token stands on the rest of a line: blanks, a comment or none, and a break or the text's end.
+abbrev mutual
+  pub is_filler_rest : List ℕ → Bool
+  is_filler_rest [] = true
+  is_filler_rest (c ∷ cs) = if is_blank c then is_filler_rest cs else is_break c || ((c == 35) && is_comment_rest cs)
+
+  -- behind the `#` of a comment
+  pub is_comment_rest : List ℕ → Bool
+  is_comment_rest [] = true
+  is_comment_rest (c ∷ cs) = if is_yaml_non_break c then is_comment_rest cs else is_break c
+
+-- The place and the text behind the blanks, breaks and comments at a place, up to a tab left of a column on the line of
+-- a token, which may not stand in indentation. Two places before the same token have the same.
+abbrev mutual
+  pub past : ℕ → Marker → List ℕ → Marker × List ℕ
+  past column m [] = (m, [])
+  past column m (c ∷ cs) =
+      if is_left_tab column m c && not (is_filler_rest cs) then (m, c ∷ cs)
+      else if is_blank c || ((c == 13) && (slice_index cs 0 == 10)) then past column (along m 1) cs
+      else if is_break c then past column (next_line m 1) cs
+      else if c == 35 then past_comment column (along m 1) cs
+      else (m, c ∷ cs)
+
+  -- behind the `#` of a comment
+  pub past_comment : ℕ → Marker → List ℕ → Marker × List ℕ
+  past_comment column m [] = (m, [])
+  past_comment column m (c ∷ cs) =
+      if is_yaml_non_break c then past_comment column (along m 1) cs
+      else if (c == 13) && (slice_index cs 0 == 10) then past column (along m 1) cs
+      else if is_break c then past column (next_line m 1) cs
+      else (m, c ∷ cs)
+
+-- the text that stands at m has the same next token as what is left at a moment
+abbrev pub StandsBefore : Around → FlowMoment → Marker → List ℕ → Type 0
+StandsBefore around now m t =
+    past around.indent now.cursor.mark now.cursor.rest ≡ past around.indent m t
+
+-- Whether a break stands before the next token (the text's end): what `gap` knows where it stops.
+abbrev mutual
+  pub crosses : List ℕ → Bool
+  crosses [] = false
+  crosses (c ∷ cs) =
+      if is_blank c || ((c == 13) && (slice_index cs 0 == 10)) then crosses cs
+      else if is_break c then true
+      else if c == 35 then crosses_comment cs
+      else false
+
+  pub crosses_comment : List ℕ → Bool
+  crosses_comment [] = false
+  crosses_comment (c ∷ cs) =
+      if is_yaml_non_break c then crosses_comment cs
+      else if (c == 13) && (slice_index cs 0 == 10) then crosses cs
+      else if is_break c then true
+      else false
+
+-- whether a document marker begins a line of a text before `behind`, where the text stands at a line's start or
+-- elsewhere
+abbrev pub marks_line : Bool → List ℕ → List ℕ → Bool
+marks_line at_start [] behind = false
+marks_line at_start (c ∷ cs) behind =
+    (at_start && is_document_indicator (c ∷ (cs ++ behind))) || marks_line (c == line_feed) cs behind
+
+-- A piece of the text at a place has no CR, and no document marker begins a line of it.
+pub record IsClear (m : Marker) (piece behind : List ℕ) : Type 0 where
+  pub no_return : AreIn (λ c. not (c == carriage_return)) piece
+  pub no_marker : marks_line (m.col == 0) piece behind ≡ false
+
+-- ## What stands behind
+
+-- a character that begins neither a blank, a break nor a comment, and is no byte order mark
+pub record IsInk (c : ℕ) : Type 0 where
+  pub blank : is_blank c ≡ false
+  pub break : is_break c ≡ false
+  pub comment : (c == number_sign) ≡ false
+  pub byte_order_mark : is_bom c ≡ false
+
+-- separation, and a character behind it that begins a token
+pub record IsParted (indent : ℕ) (o : List ℕ) : Type 0 where
+  pub separation : List ℕ
+  pub first : ℕ
+  pub others : List ℕ
+  pub is : o ≡ separation ++ (first ∷ others)
+  pub parts : IsSeparation indent separation
+  pub ink : IsInk first
+
+-- what may stand behind a colon that stands right behind no quote or bracket
+abbrev pub ends_colon : ℕ → Bool
+ends_colon c = is_blank_or_breakz c || (c == 44) || (c == 93) || (c == 125)
+
+-- what ends a node inside flow, behind separation: a comma, a closing bracket, or the colon of a key
+abbrev pub EndsNode : Node → List ℕ → ℕ → List ℕ → Type 0
+EndsNode node separation c others =
+    (c ≡ 44) ⊎ ((c ≡ 93) ⊎ ((c ≡ 125)
+    ⊎ ((c ≡ 58) × IsBeforeColon node separation
+    × (IsTrue (allows_adjacent node separation) ⊎ IsTrue (ends_colon (slice_index others 0))))))
+
+-- what stands behind a node inside flow
+pub record IsBehindNode (indent : ℕ) (node : Node) (o : List ℕ) : Type 0 where
+  pub separation : List ℕ
+  pub first : ℕ
+  pub others : List ℕ
+  pub is : o ≡ separation ++ (first ∷ others)
+  pub parts : IsSeparation indent separation
+  pub ends : EndsNode node separation first others
+
+-- the text's end, or a document marker at a line's start
+abbrev pub EndsDocument : Marker → List ℕ → Type 0
+EndsDocument m y = (y ≡ []) ⊎ ((m.col ≡ 0) × IsTrue (is_document_indicator y))
+
+-- a character left of a column that is no blank
+pub record IsLeft (column : ℕ) (m : Marker) (y : List ℕ) : Type 0 where
+  pub left : m.col < column
+  pub first : ℕ
+  pub others : List ℕ
+  pub is : y ≡ first ∷ others
+  pub blank : is_blank first ≡ false
+
+-- What stands behind a node at block level, from its end m on: the rest of its line, and behind filler the text's end,
+-- a document marker at a line's start, or a token left of the node.
+pub record IsBehindRoot (indent : ℕ) (m : Marker) (o : List ℕ) : Type 0 where
+  pub rest : List ℕ
+  pub more : List ℕ
+  pub is : o ≡ rest ++ more
+  pub line : IsLineRest rest
+  pub break : (more ≡ []) ⊎ (slice_index more 0 ≡ line_feed)
+  pub lands : indent ≤ m.col
+      → EndsDocument (past indent m o).0 (past indent m o).1 ⊎ IsLeft indent (past indent m o).0 (past indent m o).1
+
+-- A piece that is clear, within the limit, and right of the block collection around it, where no key is required.
+pub record FitsAround (around : Around) (m : Marker) (p o : List ℕ) : Type 0 where
+  pub clear : IsClear m p o
+  pub below : m.index + length (p ++ o) ≤ around.limit
+  pub right : around.indent ≤ m.col
+  pub calm : around.pending ≡ false
+
+-- ## What the readers of scalars, properties and directives promise
+
+pub record ReaderPromises : Type 0 where
+  pub plain : (in_flow : Bool) (indent : ℕ) (s : Cursor) (text x : List ℕ) → s.rest ≡ text ++ x
+      → IsPlainText in_flow indent s.mark text x
+      → let end = end_of_text s.mark text in let behind =
+      past_white end false x in words.plain in_flow indent s
+      ≡ Ok (
+        encode_utf8_all (plain_value (normalized text)),
+        end,
+        comment_of in_flow (is_tabbed indent x) behind,
+        behind,
+      )
+  pub quoted : (quote : Quote) (indent : ℕ) (s : Cursor) (items : List Item) (x : List ℕ)
+      (is : IsQuotedText quote s.rest items x) → LinesFit indent quote is.0 items x is.2
+      → (m : Marker) × IsPassed s.mark s.rest m x
+      × (quotes.quoted quote indent s ≡ Ok (encode_utf8_all (folded items), mid_line m x))
+  pub place : (m : Marker) (s : List ℕ) (n : Marker) (u : List ℕ) → IsPassed m s n u → (k : Marker) → IsPassed m s k u
+      → k ≡ n
+  pub anchor : (s : Cursor) (indicator : ℕ) (name x : List ℕ) → s.rest ≡ indicator ∷ (name ++ x) → IsAnchorName name
+      → is_anchor_char (slice_index x 0) ≡ false
+      → anchors.anchor s ≡ Ok (encode_utf8_all name, mid_line (along s.mark (1 + length name)) x)
+  pub tag : (in_flow : Bool) (s : Cursor) (t handle suffix x : List ℕ) → s.rest ≡ t ++ x → IsTagText t handle suffix
+      → EndsTag in_flow x
+      → tags.tag in_flow s ≡ Ok (encode_utf8_all handle, encode_utf8_all suffix, mid_line (along s.mark (length t)) x)
+  pub directive : (s : Cursor) (d : ReadDirective) (t tail x : List ℕ) → s.rest ≡ t ++ (tail ++ x) → IsDirectiveText d t
+      → IsLineTail tail → is_breakz (slice_index x 0) ≡ true
+      → directives.directive s
+      ≡ Ok (d, along s.mark (length t), pass_break (mid_line (along s.mark (length t + length tail)) x))
+  pub reserved : (s : Cursor) (name t x : List ℕ) → s.rest ≡ t ++ x → IsReservedDirective name t
+      → is_breakz (slice_index x 0) ≡ true
+      → directives.directive s
+      ≡ Ok (
+        spelling.reserved (encode_utf8_all name),
+        along s.mark (length t),
+        pass_break
+            (mid_line (along s.mark (length t)) x),
+      )
+
+-- ## What may be a key
+
+-- What may be a key behind a text that stands at m: nothing, what could be one before it, or what begins in it.
+abbrev pub Since : Option Candidate → Marker → List ℕ → Option Candidate → Type 0
+Since k m t key =
+    (key ≡ None) ⊎ ((key ≡ k)
+    ⊎ ((front back : List ℕ) × (place : ℕ) × (t ≡ front ++ back)
+    × (key ≡ Some (record { mark = moved m front; place = place }))))
+
+-- what is kept inside flow behind a text, and what could be a key before it, and where the text stands
+pub record KeptKey : Type 0 where
+  pub kept : Option Candidate
+  pub before : Option Candidate
+  pub from : Marker
+  pub over : List ℕ
+
+-- the key behind a token at m, where a key may begin
+abbrev pub key_behind : FlowMoment → Marker → Option Candidate
+key_behind now m = saved now.allowed (length now.places) m now.key
+
+abbrev pub keeping : FlowMoment → Marker → List ℕ → KeptKey
+keeping now m t = record { kept = key_behind now m; before = now.key; from = m; over = t }
+
+-- ## Where a key may begin
+
+-- Behind a piece at block level, where a break stands before the next token, a key may begin, or the break is still
+-- ahead.
+abbrev pub IsFresh : Context → List ℕ → Bool → Cursor → Type 0
+IsFresh x o allowed there = is_block x ≡ true → crosses o ≡ true → (allowed || crosses there.rest) ≡ true
+
+-- ## Runs over a piece
+
+-- what is known behind a piece: of the key, whether one may begin, where a colon may stand at once, and the new places
+abbrev pub Known : Type 1
+Known = Option Candidate → Bool → ℕ → List Place → Type 0
+
+-- From a state the scanner comes, behind a piece, to where the text o stands at m, or further within the separation at
+-- its front. The places of the piece hold these tokens.
+pub record PassesPiece (around : Around) (start : Bool → State) (known : Known) (x : Context) (ls : List Level)
+    (ps : List Place) (m : Marker) (o : List ℕ) (ts : List Kind) : Type 0 where
+  pub there : Cursor
+  pub key : Option Candidate
+  pub allowed : Bool
+  pub adjacent : ℕ
+  pub new : List Place
+  pub leads : RunsTo around (state_at around (moment there x key ls allowed adjacent (ps ++ new))) start
+  pub right : around.indent ≤ m.col
+  pub fits : past around.indent there.mark there.rest ≡ past around.indent m o
+  pub fresh : IsFresh x o allowed there
+  pub are : place_kinds new ≡ ts
+  pub knows : known key allowed adjacent new
+
+-- the moment behind a piece
+abbrev pub after : {around : Around} {start : Bool → State} {known : Known} {x : Context} {ls : List Level}
+    {ps : List Place} {m : Marker} {o : List ℕ} {ts : List Kind} → PassesPiece around start known x ls ps m o ts
+    → FlowMoment
+after {x = x} {ls = ls} {ps = ps} p = moment p.there x p.key ls p.allowed p.adjacent (ps ++ p.new)
+
+-- a state with the comment that ended a plain scalar outside flow
+abbrev pub noted : Option Marker → State → State
+noted comment s = record s { core = record s.core { comment = comment } }
+
+-- the same of a document's node
+pub record Closes (around : Around) (start : Bool → State) (k : Option Candidate) (first : Marker) (t : List ℕ)
+    (ps : List Place) (m : Marker) (o : List ℕ) (ts : List Kind) : Type 0 where
+  pub there : Cursor
+  pub key : Option Candidate
+  pub allowed : Bool
+  pub adjacent : ℕ
+  pub comment : Option Marker
+  pub new : List Place
+  pub leads : RunsTo around (λ d. noted comment
+      (state_at around (moment there context.Block key [] allowed adjacent (ps ++ new)) d)) start
+  pub right : around.indent ≤ m.col
+  pub fits : past around.indent there.mark there.rest ≡ past around.indent m o
+  pub are : place_kinds new ≡ ts
+  pub low : adjacent ≤ (past around.indent m o).0.index
+  pub late : Since k first t key
+  pub fresh : IsFresh context.Block o allowed there
+
+-- ## What is known behind a piece
+
+-- a key may begin and none is kept, and no colon may stand at once from m on
+abbrev pub fresh_key : Marker → Known
+fresh_key m key allowed adjacent new = (key ≡ None) × (allowed ≡ true) × (adjacent < m.index)
+
+-- no key may begin and none is kept, and no colon may stand at once from m on
+abbrev pub no_key : Marker → Known
+no_key m key allowed adjacent new = (key ≡ None) × (allowed ≡ false) × (adjacent < m.index)
+
+-- before m and o, no colon may stand at once behind the next token
+abbrev pub ended : ℕ → Marker → List ℕ → Known
+ended indent m o key allowed adjacent new = adjacent ≤ (past indent m o).0.index
+
+-- Behind a node that ends at m before o: its first token has nothing in front of it, inside flow the key is as told,
+-- and where a colon may stand at once, the place of that is kept.
+pub record IsAfterNode (indent : ℕ) (x : Context) (kept : Option Candidate) (node : Node) (m : Marker) (o : List ℕ)
+    (key : Option Candidate) (adjacent : ℕ) (new : List Place) : Type 0 where
+  pub piece : Piece
+  pub others : List Place
+  pub is : new ≡ bare_place piece ∷ others
+  pub keeps : is_block x ≡ false → key ≡ kept
+  pub near : is_block x ≡ false → (separation more : List ℕ) → o ≡ separation ++ (colon ∷ more)
+      → IsSeparation indent separation → IsTrue (allows_adjacent node separation)
+      → adjacent ≡ (moved m separation).index
+  pub low : is_block x ≡ false → adjacent ≤ (past indent m o).0.index
+
+abbrev pub after_node : ℕ → Context → Option Candidate → Node → Marker → List ℕ → Known
+after_node indent x kept node m o key allowed adjacent new = IsAfterNode indent x kept node m o key adjacent new
+
+-- behind properties, which keep the key that begins with them
+pub record IsAfterProperties (x : Context) (kept key : Option Candidate) (allowed : Bool) (new : List Place) : Type
+    0 where
+  pub piece : Piece
+  pub others : List Place
+  pub is : new ≡ bare_place piece ∷ others
+  pub keeps : is_block x ≡ false → key ≡ kept
+  pub closed : allowed ≡ false
+
+-- ## What is shown of nodes
+
+-- The tokens of a node, and the run over its text t, which stands at m before o.
+pub record NodePasses (around : Around) (now : FlowMoment) (node : Node) (m : Marker) (t o : List ℕ) : Type 0 where
+  pub tokens : List Kind
+  pub are : grammar.YieldsNode node grammar.InFlow tokens
+  pub passes : PassesPiece around (state_at around now)
+      (after_node around.indent now.context (key_behind now m) node (moved m t) o) now.context now.outer now.places
+      (moved m t) o tokens
+
+-- the same of a document's node
+pub record RootCloses (around : Around) (now : FlowMoment) (node : Node) (m : Marker) (t o : List ℕ) : Type 0 where
+  pub tokens : List Kind
+  pub are : grammar.YieldsNode node grammar.InBlock tokens
+  pub closes : Closes around (state_at around (root_moment now)) now.key m t now.places (moved m t) o tokens
+
+-- a node inside flow, or a plain scalar that is a key, with its colon right behind it
+abbrev pub IsNodeOrKey : ℕ → Node → ℕ → List ℕ → List ℕ → Type 0
+IsNodeOrKey room node indent p o =
+    IsFlowNode room node true indent p ⊎ (IsPlainKeyNode node true indent p × ((r : List ℕ) × (o ≡ 58 ∷ r)))
+
+-- A node inside flow is passed, which may open so many flow collections.
+abbrev pub PassesNode : Around → ℕ → Node → Type 0
+PassesNode around room node =
+    (m : Marker) (p o : List ℕ) → IsNodeOrKey room node around.indent p o → FitsAround around m p o
+    → IsBehindNode around.indent node o
+    → (now : FlowMoment) → now.adjacent < m.index → is_block now.context ≡ false → room + length now.outer ≤ most_open
+    → StandsBefore around now m (p ++ o) → NodePasses around now node m p o
+
+-- A node at block level is passed.
+abbrev pub ClosesNode : Around → Node → Type 0
+ClosesNode around node =
+    (m : Marker) (p o : List ℕ) → IsFlowNode most_open node false around.indent p → FitsAround around m p o
+    → IsBehindRoot around.indent (moved m p) o
+    → (now : FlowMoment) → now.adjacent ≤ (past around.indent m (p ++ o)).0.index → StandsBefore around now m (p ++ o)
+    → RootCloses around now node m p o
+
+-- each is, where no key is required
+abbrev pub ClosesNodes : Around → Type 0
+ClosesNodes around = around.required ≡ false → (node : Node) → ClosesNode around node

@@ -1,0 +1,378 @@
+-- The plain scalars of a text in flow style are plain scalars as they are read.
+use Rattle.std.proofs.Common.{◌≡◌, ◌≢◌, ℕ, ◌≤◌, Bool, true, false, List, [], ◌∷◌, ◌++◌, length, slice_index, refl, sym, ap, ◌∙◌, arith, subst, append_assoc, append-nil, IsTrue, IsFalse, inl, inr}
+use Rattle.std.specs.Prelude.{◌&&◌, ◌==◌}
+use Rattle.std.proofs.lemmas.Bool.Decides.{nat_tests}
+use Rattle.saphyr_input.specs.Indicators.{colon, hyphen}
+use Rattle.saphyr_input.specs.Classes.{is_blank, is_break, is_blank_or_breakz, is_bom, is_flow}
+use Rattle.saphyr_input.specs.Places.{is_document_indicator}
+use Rattle.saphyr_scalar.specs.declared.scalar.position.Marker.{Marker}
+use Rattle.saphyr_scalar.specs.Views.Cursor.{along}
+use Rattle.saphyr_scalar.specs.Reading.Plain.{end_of_text}
+use Rattle.saphyr_scalar.specs.Spelling.Tag.{AreIn}
+use Rattle.saphyr_scalar.proofs.NoBreaks.{NoBreaks}
+use Rattle.scalar_laws.specs.Spelling.Plain.{EndsPlain, is_word_ink, AreWordInk, IsWordIn, AreInkBefore, IsWordBefore, words_text, IsNoMarker, AreFurtherWords, IsPlainText}
+use Rattle.scalar_laws.specs.Spelling.Spaces.{joined_pieces, AreEach, AreMany}
+use Rattle.yaml_laws.specs.Grammar.FlowScalars.{IsWordGap, IsLoneDash, IsFurtherWord, IsPlain, IsLastWord, IsPlainKey}
+use Rattle.yaml_laws.proofs.Flow.States.{moved, IsClear}
+use Rattle.yaml_laws.proofs.Flow.Places.{moved_append, right_along, clear_front, clear_back, clear_here}
+use Rattle.yaml_laws.proofs.Flow.Names.{unbroken_along, unbroken_on_line}
+use Rattle.saphyr_input.proofs.Basics.Booleans.{none_of_three, and_false}
+use Rattle.yaml_laws.proofs.Flow.WordGaps.{passed_moved, word_gap, plain_gap}
+
+-- ## Words
+
+-- what ink is not
+pub record IsOther (f : Bool) (c : ℕ) : Type 0 where
+  pub blank_or_breakz : is_blank_or_breakz c ≡ false
+  pub byte_order_mark : is_bom c ≡ false
+  pub flow : (f && is_flow c) ≡ false
+
+pub ink_other : (f : Bool) (c : ℕ) → IsTrue (is_word_ink f c) → IsOther f c
+ink_other f c h = let p =
+    none_of_three (is_blank_or_breakz c) (is_bom c) (f && is_flow c) h in
+    record { blank_or_breakz = p.0; byte_order_mark = p.1; flow = p.2 }
+
+pub ink_no_break : (c : ℕ) → is_blank_or_breakz c ≡ false → is_break c ≡ false
+ink_no_break c h = grind (arith, nat_tests)
+
+word_unbroken : (f : Bool) (w y : List ℕ) → AreInkBefore f w y → NoBreaks w
+word_unbroken f [] y h = tt
+word_unbroken f (c ∷ cs) y h = (ink_no_break c (ink_other f c h.0).blank_or_breakz, word_unbroken f cs y h.2)
+
+-- ## Words before what follows them
+
+ink_before : (f : Bool) (w y : List ℕ) → AreWordInk f w → AreInkBefore f w y
+ink_before f [] y h = tt
+ink_before f (c ∷ cs) y h = (h.0, λ e. next cs (h.1 e) h.2, ink_before f cs y h.2)
+  where
+    next : (cs : List ℕ) → cs ≢ [] → AreWordInk f cs → IsTrue (is_word_ink f (slice_index (cs ++ y) 0))
+    next [] some k = absurd (some refl)
+    next (d ∷ ds) some k = k.0
+
+lone_dash : (c : ℕ) (f second : Bool) → (f ≡ true → second ≡ false) → (f && (c == hyphen) && second) ≡ false
+lone_dash c f second h = by_flow f h
+  where
+    by_flow : (g : Bool) → (g ≡ true → second ≡ false) → (g && (c == hyphen) && second) ≡ false
+    by_flow false h = refl
+    by_flow true h = rw (h refl) (and_false (c == 45))
+
+-- a word stands before anything
+pub word_before : (f : Bool) (w y : List ℕ) → IsWordIn f w → IsWordBefore f w y
+word_before f w y h = record {
+  some = h.some;
+  ink = ink_before f w y h.ink;
+  no_comment = h.no_comment;
+  no_lone_dash = by_word w h.some h.ink h.no_lone_dash;
+}
+  where
+    dash : (c : ℕ) → (c == hyphen) ≡ true → c ≡ hyphen
+    dash c e = grind (arith, nat_tests)
+
+    by_first : (c : ℕ) (b : Bool) → (f ≡ true → (c ∷ []) ≢ hyphen ∷ []) → (f && (c == hyphen) && b) ≡ false
+    by_first c b other = by_test f (c == 45) refl other
+      where
+        by_test : (g : Bool) (q : Bool) → (c == hyphen) ≡ q → (g ≡ true → (c ∷ []) ≢ hyphen ∷ [])
+            → (g && q && b) ≡ false
+        by_test false q e k = refl
+        by_test true false e k = refl
+        by_test true true e k = absurd (k refl (ap (λ (z : ℕ). z ∷ []) (dash c e)))
+
+    by_word : (w : List ℕ) → w ≢ [] → AreWordInk f w → (f ≡ true → w ≢ hyphen ∷ [])
+        → (f && (slice_index (w ++ y) 0 == hyphen) && is_flow (slice_index (w ++ y) 1)) ≡ false
+    by_word [] some ink other = absurd (some refl)
+    by_word (c ∷ []) some ink other = by_first c (is_flow (slice_index y 0)) other
+    by_word (c ∷ d ∷ ds) some ink other =
+        lone_dash c f (is_flow d) (λ e. subst (λ (g : Bool). (g && is_flow d) ≡ false) e (ink_other f d ink.2.0).flow)
+
+-- a colon is a character of a word
+pub colon_is_ink : (f : Bool) → IsTrue (is_word_ink f 58)
+colon_is_ink true = refl
+colon_is_ink false = refl
+
+-- a key's last word stands before the key's colon
+pub last_before : (f : Bool) (w r : List ℕ) → IsLastWord f w → IsWordBefore f w (colon ∷ r)
+last_before f w r (some, ink, no_comment) =
+    record { some = some; ink = inks w ink; no_comment = no_comment; no_lone_dash = by_word w some ink }
+  where
+    next : (cs : List ℕ) → AreIn (is_word_ink f) cs → IsTrue (is_word_ink f (slice_index (cs ++ (colon ∷ r)) 0))
+    next [] k = colon_is_ink f
+    next (d ∷ ds) k = k.0
+
+    inks : (cs : List ℕ) → AreIn (is_word_ink f) cs → AreInkBefore f cs (colon ∷ r)
+    inks [] k = tt
+    inks (c ∷ cs) k = (k.0, λ _. next cs k.1, inks cs k.1)
+
+    by_word : (w : List ℕ) → w ≢ [] → AreIn (is_word_ink f) w
+        → (f && (slice_index (w ++ (colon ∷ r)) 0 == hyphen) && is_flow (slice_index (w ++ (colon ∷ r)) 1)) ≡ false
+    by_word [] some ink = absurd (some refl)
+    by_word (c ∷ []) some ink = lone_dash c f false (λ _. refl)
+    by_word (c ∷ d ∷ ds) some ink =
+        lone_dash c f (is_flow d) (λ e. subst (λ (g : Bool). (g && is_flow d) ≡ false) e (ink_other f d ink.1.0).flow)
+
+-- ## No marker begins a line
+
+marked : (n : ℕ) (b : Bool) → ((n == 0) && b) ≡ false → n ≡ 0 → IsFalse b
+marked n b h e = subst (λ (k : ℕ). ((k == 0) && b) ≡ false) e h
+
+no_marker : (m : Marker) (w o : List ℕ) → w ≢ [] → IsClear m w o → IsNoMarker m (w ++ o)
+no_marker m [] o some clear = absurd (some refl)
+no_marker m (c ∷ cs) o some clear = marked m.col (is_document_indicator (c ∷ (cs ++ o))) (clear_here m c cs o clear)
+
+-- ## The words behind the first
+
+record IsFurther (f : Bool) (indent : ℕ) (m : Marker) (t o : List ℕ) : Type 0 where
+  words : List (List ℕ × List ℕ)
+  is : t ≡ words_text words
+  further : AreFurtherWords f indent m words o
+  right : indent ≤ m.col → indent ≤ (moved m t).col
+
+-- behind a word
+behind_word : (m : Marker) (word more o : List ℕ) → NoBreaks word → IsClear m (word ++ more) o
+    → IsClear (along m (length word)) more o
+behind_word m word more o unbroken clear =
+    subst (λ (n : Marker). IsClear n more o) (unbroken_along m word unbroken) (clear_back m word more o clear)
+
+-- at a word
+at_word : (m : Marker) (gap word more o : List ℕ) → IsClear m (gap ++ (word ++ more)) o
+    → IsClear (end_of_text m gap) (word ++ more) o
+at_word m gap word more o clear =
+    subst (λ (n : Marker). IsClear n (word ++ more) o)
+    (sym (passed_moved m gap (clear_front m gap (word ++ more) o clear).no_return))
+    (clear_back m gap (word ++ more) o clear)
+
+-- a gap and a word before others
+one_further : (f : Bool) (indent : ℕ) (m : Marker) (gap word more o : List ℕ) → IsWordGap indent gap
+    → IsWordBefore f word (more ++ o) → IsClear m (gap ++ (word ++ more)) o
+    → IsFurther f indent (along (end_of_text m gap) (length word)) more o
+    → IsFurther f indent m (gap ++ (word ++ more)) o
+one_further f indent m gap word more o gapped is_word clear rest =
+    let there : end_of_text m gap ≡ moved m gap =
+    passed_moved m gap (clear_front m gap (word ++ more) o clear).no_return in
+    let unbroken = word_unbroken f word (more ++ o) is_word.ink in
+    let line : moved (end_of_text m gap) word ≡ along (end_of_text m gap) (length word) =
+    unbroken_along (end_of_text m gap) word unbroken in
+    let unmarked : IsNoMarker (end_of_text m gap) (word ++ (words_text rest.words ++ o)) =
+    subst (λ (t : List ℕ). IsNoMarker (end_of_text m gap) (word ++ (t ++ o))) rest.is
+    (no_marker (end_of_text m gap) word (more ++ o) is_word.some
+    (clear_front (end_of_text m gap) word more o (at_word m gap word more o clear))) in
+    record {
+      words = (gap, word) ∷ rest.words;
+      is = ap (λ (t : List ℕ). gap ++ (word ++ t)) rest.is;
+      further = (
+        plain_gap f indent m gap gapped there,
+        subst (λ (t : List ℕ). IsWordBefore f word (t ++ o)) rest.is
+            is_word,
+        unmarked,
+        rest.further,
+      );
+      right = λ low. subst (λ (k : Marker). indent ≤ k.col)
+          (sym (moved_append m gap (word ++ more) ∙ moved_append (moved m gap) word more
+          ∙ ap (λ (k : Marker). moved (moved k word) more) (sym there) ∙ ap (λ (k : Marker). moved k more) line))
+          (rest.right (subst (λ (k : Marker). indent ≤ k.col) line
+          (right_along indent (end_of_text m gap) word (unbroken_on_line word unbroken)
+          (subst (λ (k : Marker). indent ≤ k.col) (sym there) ((word_gap indent m gap gapped).right low)))));
+    }
+
+blank_is_apart : (c : ℕ) → IsTrue (is_blank c) → is_flow c ≡ false
+blank_is_apart c h = grind (arith, nat_tests)
+
+-- what stands between words begins with no flow indicator
+gap_is_apart : (indent : ℕ) (gap more : List ℕ) → IsWordGap indent gap → is_flow (slice_index (gap ++ more) 0) ≡ false
+gap_is_apart indent gap more (inl (some, are)) = by_first gap some are
+  where
+    by_first : (t : List ℕ) → t ≢ [] → AreIn is_blank t → is_flow (slice_index (t ++ more) 0) ≡ false
+    by_first [] some are = absurd (some refl)
+    by_first (c ∷ cs) some are = blank_is_apart c are.0
+gap_is_apart indent gap more (inr (blanks, lines, front, are, ls, prefix, is)) =
+    subst (λ (t : List ℕ). is_flow (slice_index (t ++ more) 0) ≡ false) (sym is) (by_first blanks are)
+  where
+    by_first : (t : List ℕ) → AreIn is_blank t
+        → is_flow (slice_index ((t ++ (10 ∷ (lines ++ front))) ++ more) 0) ≡ false
+    by_first [] are = refl
+    by_first (c ∷ cs) are = blank_is_apart c are.0
+
+-- a lone `-` stands before what begins with no flow indicator
+dash_before : (f : Bool) (y : List ℕ) → is_flow (slice_index y 0) ≡ false → IsWordBefore f (hyphen ∷ []) y
+dash_before f y apart = record {
+  some = λ e. cc;
+  ink = (dash_is_ink f, λ e. absurd (omega (arith, e)), tt);
+  no_comment = λ e. absurd (omega (arith, e));
+  no_lone_dash = lone_dash 45 f (is_flow (slice_index y 0)) (λ _. apart);
+}
+  where
+    dash_is_ink : (f : Bool) → IsTrue (is_word_ink f 45)
+    dash_is_ink true = refl
+    dash_is_ink false = refl
+
+-- lone `-` and their gaps, and what stands behind them
+dashes_further : (f : Bool) (indent : ℕ) (pieces : List (List ℕ)) → AreEach (IsLoneDash indent) pieces
+    → (last o : List ℕ) → is_flow (slice_index (last ++ o) 0) ≡ false
+    → ((m : Marker) → IsClear m last o → IsFurther f indent m last o)
+    → (m : Marker) → IsClear m (joined_pieces pieces ++ last) o → IsFurther f indent m (joined_pieces pieces ++ last) o
+dashes_further f indent [] h last o apart ends m clear = ends m clear
+dashes_further f indent (p ∷ ps) ((gap, gapped, is), others) last o apart ends m clear =
+    let more = joined_pieces ps ++ last in
+    let text : (p ++ joined_pieces ps) ++ last ≡ gap ++ ((45 ∷ []) ++ more) =
+    append_assoc p (joined_pieces ps) last ∙ ap (λ (t : List ℕ). t ++ more) is ∙ append_assoc gap (45 ∷ []) more in
+    let all : IsClear m (gap ++ ((45 ∷ []) ++ more)) o = subst (λ (t : List ℕ). IsClear m t o) text clear in
+    let before = dash_before f (more ++ o) (next ps others) in
+    let behind = behind_word (end_of_text m gap) (45 ∷ []) more o (word_unbroken f (45 ∷ []) (more ++ o) before.ink)
+    (at_word m gap (45 ∷ []) more o all) in
+    subst (λ (t : List ℕ). IsFurther f indent m t o) (sym text)
+    (one_further f indent m gap (45 ∷ []) more o gapped before all
+    (dashes_further f indent ps others last o apart ends (along (end_of_text m gap) 1) behind))
+  where
+    next : (qs : List (List ℕ)) → AreEach (IsLoneDash indent) qs
+        → is_flow (slice_index ((joined_pieces qs ++ last) ++ o) 0) ≡ false
+    next [] h = apart
+    next (q ∷ qs) ((gap, gapped, is), others) =
+        let text : ((q ++ joined_pieces qs) ++ last) ++ o ≡ gap ++ ((45 ∷ []) ++ ((joined_pieces qs ++ last) ++ o)) =
+        ap (λ (t : List ℕ). ((t ++ joined_pieces qs) ++ last) ++ o) is ∙ simp append_assoc in
+        subst (λ (t : List ℕ). is_flow (slice_index t 0) ≡ false) (sym text)
+        (gap_is_apart indent gap ((45 ∷ []) ++ ((joined_pieces qs ++ last) ++ o)) gapped)
+
+-- words, and what stands behind them
+further_words : (f : Bool) (indent : ℕ) (pieces : List (List ℕ)) → AreEach (IsFurtherWord f indent) pieces
+    → (last o : List ℕ) → ((m : Marker) → IsClear m last o → IsFurther f indent m last o)
+    → (m : Marker) → IsClear m (joined_pieces pieces ++ last) o → IsFurther f indent m (joined_pieces pieces ++ last) o
+further_words f indent [] h last o ends m clear = ends m clear
+further_words f indent (p ∷ ps) ((dashes, gap, word, (lone, each, joins), gapped, is_word, is), others) last o ends m
+    clear =
+    let more = joined_pieces ps ++ last in
+    let text : (p ++ joined_pieces ps) ++ last ≡ joined_pieces lone ++ (gap ++ (word ++ more)) =
+    ap (λ (t : List ℕ). (t ++ joined_pieces ps) ++ last) (is ∙ ap (λ (t : List ℕ). t ++ (gap ++ word)) joins)
+    ∙ simp append_assoc in
+    let before = word_before f word (more ++ o) is_word in
+    subst (λ (t : List ℕ). IsFurther f indent m t o) (sym text)
+    (dashes_further f indent lone each (gap ++ (word ++ more)) o (apart gapped more)
+    (λ n there. one_further f indent n gap word more o gapped before there
+    (further_words f indent ps others last o ends (along (end_of_text n gap) (length word))
+    (behind_word (end_of_text n gap) word more o (word_unbroken f word (more ++ o) before.ink)
+    (at_word n gap word more o there)))) m (subst (λ (t : List ℕ). IsClear m t o) text clear))
+  where
+    apart : IsWordGap indent gap → (more : List ℕ) → is_flow (slice_index ((gap ++ (word ++ more)) ++ o) 0) ≡ false
+    apart gapped more =
+        subst (λ (t : List ℕ). is_flow (slice_index t 0) ≡ false) (sym (append_assoc gap (word ++ more) o))
+        (gap_is_apart indent gap ((word ++ more) ++ o) gapped)
+
+nothing_further : (f : Bool) (indent : ℕ) (m : Marker) (o : List ℕ) → IsFurther f indent m [] o
+nothing_further f indent m o = record { words = []; is = refl; further = tt; right = λ low. low }
+
+-- lone `-`, a gap and a key's last word
+last_further : (f : Bool) (indent : ℕ) (dashes gap word r : List ℕ) → AreMany (IsLoneDash indent) dashes
+    → IsWordGap indent gap → IsLastWord f word → (m : Marker) → IsClear m (dashes ++ (gap ++ word)) (colon ∷ r)
+    → IsFurther f indent m (dashes ++ (gap ++ word)) (colon ∷ r)
+last_further f indent dashes gap word r (lone, each, joins) gapped is_word m clear =
+    let text : dashes ++ (gap ++ word) ≡ joined_pieces lone ++ (gap ++ (word ++ [])) =
+    ap (λ (t : List ℕ). t ++ (gap ++ word)) joins
+    ∙ ap (λ (t : List ℕ). joined_pieces lone ++ (gap ++ t)) (sym (append-nil word)) in
+    subst (λ (t : List ℕ). IsFurther f indent m t (58 ∷ r)) (sym text)
+    (dashes_further f indent lone each (gap ++ (word ++ [])) (58 ∷ r) apart
+    (λ n there. one_further f indent n gap word [] (58 ∷ r) gapped (last_before f word r is_word) there
+    (nothing_further f indent (along (end_of_text n gap) (length word)) (58 ∷ r))) m
+    (subst (λ (t : List ℕ). IsClear m t (58 ∷ r)) text clear))
+  where
+    apart : is_flow (slice_index ((gap ++ (word ++ [])) ++ (58 ∷ r)) 0) ≡ false
+    apart =
+        subst (λ (t : List ℕ). is_flow (slice_index t 0) ≡ false) (sym (append_assoc gap (word ++ []) (58 ∷ r)))
+        (gap_is_apart indent gap ((word ++ []) ++ (58 ∷ r)) gapped)
+
+-- ## The whole scalar
+
+both_some : (a b : List ℕ) → a ≢ [] → a ++ b ≢ []
+both_some [] b some e = absurd (some refl)
+both_some (c ∷ a) b some e = absurd (cc)
+
+-- the words of a plain scalar
+record HasWords (f : Bool) (indent : ℕ) (m : Marker) (t o : List ℕ) : Type 0 where
+  first : List ℕ
+  behind : List ℕ
+  is : t ≡ first ++ behind
+  word : IsWordBefore f first (behind ++ o)
+  others : IsFurther f indent (along m (length first)) behind o
+
+has_words : (f : Bool) (indent : ℕ) (m : Marker) (t o first behind : List ℕ) → t ≡ first ++ behind
+    → IsWordBefore f first (behind ++ o) → IsClear m t o
+    → ((n : Marker) → IsClear n behind o → IsFurther f indent n behind o) → HasWords f indent m t o
+has_words f indent m t o first behind is word clear further = record {
+  first = first;
+  behind = behind;
+  is = is;
+  word = word;
+  others = further (along m (length first))
+      (behind_word m first behind o (word_unbroken f first (behind ++ o) word.ink)
+      (subst (λ (y : List ℕ). IsClear m y o) is clear));
+}
+
+plain_words : (f : Bool) (indent : ℕ) (m : Marker) (t o : List ℕ) → IsPlain f indent t → IsClear m t o
+    → HasWords f indent m t o
+plain_words f indent m t o (first, others, is_first, (pieces, each, joins), is) clear =
+    let text : t ≡ first ++ (joined_pieces pieces ++ []) = is ∙ ap (λ (y : List ℕ). first ++ y)
+    (joins ∙ sym (append-nil (joined_pieces pieces))) in
+    has_words f indent m t o first (joined_pieces pieces ++ []) text
+    (word_before f first ((joined_pieces pieces ++ []) ++ o) is_first.0) clear
+    (further_words f indent pieces each [] o (λ n _. nothing_further f indent n o))
+
+-- those of a key before its colon
+key_words : (f : Bool) (indent : ℕ) (m : Marker) (t r : List ℕ) → IsPlainKey f indent t → IsClear m t (colon ∷ r)
+    → HasWords f indent m t (colon ∷ r)
+key_words f indent m t r (inl (word, begins)) clear =
+    has_words f indent m t (58 ∷ r) t [] (sym (append-nil t)) (last_before f t r word) clear
+    (λ n _. nothing_further f indent n (58 ∷ r))
+key_words f indent m t r (inr (
+  plain,
+  dashes,
+  gap,
+  word,
+  (first, others, is_first, (pieces, each, joins), is),
+  lone,
+  gapped,
+  last,
+  e,
+)) clear =
+    let end = dashes ++ (gap ++ word) in
+    let behind = joined_pieces pieces ++ end in
+    let text : t ≡ first ++ behind = e ∙ ap (λ (y : List ℕ). y ++ end)
+    (is ∙ ap (λ (y : List ℕ). first ++ y) joins) ∙ append_assoc first (joined_pieces pieces) end in
+    has_words f indent m t (58 ∷ r) first behind text (word_before f first (behind ++ (58 ∷ r)) is_first.0) clear
+    (further_words f indent pieces each end (58 ∷ r) (last_further f indent dashes gap word r lone gapped last))
+
+text_of : (f : Bool) (indent : ℕ) (m : Marker) (t o : List ℕ) → HasWords f indent m t o → IsClear m t o
+    → EndsPlain f indent (moved m t) o → IsPlainText f indent m t o
+text_of f indent m t o h clear ends = record {
+  first = h.first;
+  others = h.others.words;
+  is = h.is ∙ ap (λ (y : List ℕ). h.first ++ y) h.others.is;
+  word = subst (λ (y : List ℕ). IsWordBefore f h.first (y ++ o)) h.others.is h.word;
+  marker = no_marker m t o (λ e. both_some h.first h.behind h.word.some (sym h.is ∙ e)) clear;
+  further = h.others.further;
+  ends = subst (λ (n : Marker). EndsPlain f indent n o) (sym (passed_moved m t clear.no_return)) ends;
+}
+
+pub plain_text : (f : Bool) (indent : ℕ) (m : Marker) (t o : List ℕ) → IsPlain f indent t → IsClear m t o
+    → EndsPlain f indent (moved m t) o → IsPlainText f indent m t o
+plain_text f indent m t o h clear ends = text_of f indent m t o (plain_words f indent m t o h clear) clear ends
+
+pub key_text : (f : Bool) (indent : ℕ) (m : Marker) (t r : List ℕ) → IsPlainKey f indent t → IsClear m t (colon ∷ r)
+    → EndsPlain f indent (moved m t) (colon ∷ r) → IsPlainText f indent m t (colon ∷ r)
+key_text f indent m t r h clear ends = text_of f indent m t (58 ∷ r) (key_words f indent m t r h clear) clear ends
+
+right_of : (f : Bool) (indent : ℕ) (m : Marker) (t o : List ℕ) → HasWords f indent m t o → indent ≤ m.col
+    → indent ≤ (moved m t).col
+right_of f indent m t o h low =
+    let unbroken = word_unbroken f h.first (h.behind ++ o) h.word.ink in
+    let line : moved m h.first ≡ along m (length h.first) = unbroken_along m h.first unbroken in
+    let here = subst (λ (k : Marker). indent ≤ k.col) line
+    (right_along indent m h.first (unbroken_on_line h.first unbroken) low) in
+    subst (λ (k : Marker). indent ≤ k.col)
+    (sym (ap (moved m) h.is ∙ moved_append m h.first h.behind ∙ ap (λ (k : Marker). moved k h.behind) line))
+    (h.others.right here)
+
+-- a plain scalar ends right of a column that its lines reach
+pub plain_right : (f : Bool) (indent : ℕ) (m : Marker) (t o : List ℕ) → IsPlain f indent t → IsClear m t o
+    → indent ≤ m.col → indent ≤ (moved m t).col
+plain_right f indent m t o h clear low = right_of f indent m t o (plain_words f indent m t o h clear) low
+
+pub key_right : (f : Bool) (indent : ℕ) (m : Marker) (t r : List ℕ) → IsPlainKey f indent t → IsClear m t (colon ∷ r)
+    → indent ≤ m.col → indent ≤ (moved m t).col
+key_right f indent m t r h clear low = right_of f indent m t (58 ∷ r) (key_words f indent m t r h clear) low

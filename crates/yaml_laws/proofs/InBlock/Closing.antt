@@ -1,0 +1,249 @@
+-- A block collection ends before a token to its left, and at the end of its document.
+use Rattle.std.proofs.Common.{◌≡◌, ℕ, ◌+◌, ◌<◌, ◌≤◌, Bool, true, false, List, [], ◌∷◌, ◌++◌, slice_index, refl, sym, ap, ◌∙◌, arith, subst, Ok, ◌⊎◌, inl, inr, IsTrue}
+use Rattle.std.specs.Prelude.{Result, ◌-◌, ◌||◌, ◌&&◌, ◌==◌, nat_le, nat_lt, Option, Some, None, if◌then◌else◌}
+use Rattle.std.proofs.lemmas.Bool.Decides.{nat_tests}
+use Rattle.saphyr_input.specs.Classes.{is_z, is_bom, is_blank_or_breakz}
+use Rattle.saphyr_input.specs.Places.{is_document_start, is_document_end, is_document_indicator}
+use Rattle.saphyr_scalar.specs.declared.scalar.position.Marker.{Marker}
+use Rattle.saphyr_scalar.specs.declared.scalar.fault.Refusal.{Refusal}
+use Rattle.saphyr_scalar.specs.Views.Cursor.{◌>>=◌}
+use Rattle.saphyr_scanner.specs.Steps.Passing.{separate}
+use Rattle.saphyr_scanner.specs.Steps.Level.{Candidate}
+use Rattle.saphyr_scanner.specs.Steps.Document as document
+use Rattle.saphyr_scanner.specs.Steps.Document.{end_mark}
+use Rattle.saphyr_scanner.specs.Steps.Queue.{Place, bare_place, empty_piece}
+use Rattle.saphyr_scanner.specs.Steps.State.{State, on_core_with}
+use Rattle.saphyr_scanner.specs.Grammar.Tokens as tokens
+use Rattle.saphyr_scanner.specs.Grammar.Tokens.{Kind}
+use Rattle.saphyr_scanner.specs.Steps.Unrolling.{unroll}
+use Rattle.saphyr_scanner.specs.Steps.Fetch.{fetch, fetch_here}
+use Rattle.yaml_laws.proofs.InBlock.States.{Frame, frame_at_column, moment_at, state_of, EndsDocument, At}
+use Rattle.yaml_laws.proofs.InBlock.Follows.{goes_alike, arrives_at, stays_open}
+use Rattle.saphyr_input.proofs.Basics.Numbers.{zero_below_next}
+use Rattle.saphyr_input.proofs.Basics.Booleans.{and_false}
+use Rattle.std.proofs.lemmas.Bool.{ltb-true, eq-eqb}
+use Rattle.saphyr_input.specs.Indicators.{full_stop, hyphen, percent_sign}
+use Rattle.saphyr_scanner.proofs.Queues.{place_kinds, place_kinds_append}
+
+-- the token that ends a collection
+abbrev pub end_place : Marker → Place
+end_place m = bare_place (empty_piece m tokens.BlockEnd)
+
+-- ## Before a token to its left
+
+right_of : (c col : ℕ) → col < c → nat_lt col (c + 1 - 1) ≡ true
+right_of c col h = grind (arith, nat_tests)
+
+not_deep : (c col : ℕ) → col < c → nat_le (c + 1) col ≡ false
+not_deep c col h = grind (arith, nat_tests)
+
+ends_left : (f : Frame) (c : ℕ) (m : Marker) (y : List ℕ) (blank : Bool) (key : Option Candidate) (a : Bool) (ad : ℕ)
+    (deeper : Bool) (ps : List Place) → m.col < c
+    → unroll (Some m.col) m (state_of (frame_at_column c f) (moment_at m y blank key a ad deeper) ps)
+    ≡ unroll (Some m.col) m (state_of f (moment_at m y blank key a ad false) (ps ++ end_place m ∷ []))
+unfolding unroll
+ends_left f c m y blank key a ad deeper ps left =
+    rw (right_of c m.col left, not_deep c m.col left, and_false deeper) refl
+
+-- ## At the end of its document
+
+-- the states with and without the collection end alike
+ends_last : (f : Frame) (c : ℕ) (n m : Marker) (y : List ℕ) (blank : Bool) (key : Option Candidate) (a : Bool) (ad : ℕ)
+    (deeper other : Bool) (ps : List Place)
+    → unroll None n (state_of (frame_at_column c f) (moment_at m y blank key a ad deeper) ps)
+    ≡ unroll None n (state_of f (moment_at m y blank key a ad other) (ps ++ end_place n ∷ []))
+unfolding unroll
+ends_last f c n m y blank key a ad deeper other ps = rw (zero_below_next c) refl
+
+at_line_start : (m : Marker) → m.col ≡ 0 → end_mark m ≡ m
+at_line_start m e = rw e refl
+
+-- the first character of a document marker
+record IsMarkerSign (c : ℕ) : Type 0 where
+  nul : is_z c ≡ false
+  byte_order_mark : is_bom c ≡ false
+  directive : (c == percent_sign) ≡ false
+
+dash_sign : (c : ℕ) → (c == hyphen) ≡ true → IsMarkerSign c
+dash_sign c h = record { nul = nul c h; byte_order_mark = mark c h; directive = directive c h }
+  where
+    nul : (c : ℕ) → (c == hyphen) ≡ true → is_z c ≡ false
+    nul c h = grind (arith, nat_tests)
+
+    mark : (c : ℕ) → (c == hyphen) ≡ true → is_bom c ≡ false
+    mark c h = grind (arith, nat_tests)
+
+    directive : (c : ℕ) → (c == hyphen) ≡ true → (c == percent_sign) ≡ false
+    directive c h = grind (arith, nat_tests)
+
+dot_sign : (c : ℕ) → (c == full_stop) ≡ true → IsMarkerSign c
+dot_sign c h = record { nul = nul c h; byte_order_mark = mark c h; directive = directive c h }
+  where
+    nul : (c : ℕ) → (c == full_stop) ≡ true → is_z c ≡ false
+    nul c h = grind (arith, nat_tests)
+
+    mark : (c : ℕ) → (c == full_stop) ≡ true → is_bom c ≡ false
+    mark c h = grind (arith, nat_tests)
+
+    directive : (c : ℕ) → (c == full_stop) ≡ true → (c == percent_sign) ≡ false
+    directive c h = grind (arith, nat_tests)
+
+first_of : (a b c d : Bool) → ((a && b && c) && d) ≡ true → a ≡ true
+first_of true b c d h = refl
+first_of false b c d h = h
+
+marker_sign : (y : List ℕ) (start : Bool) → is_document_start y ≡ start → IsTrue (is_document_indicator y)
+    → IsMarkerSign (slice_index y 0)
+marker_sign y true e h =
+    dash_sign (slice_index y 0)
+    (first_of (slice_index y 0 == 45) (slice_index y 1 == 45) (slice_index y 2 == 45)
+    (is_blank_or_breakz (slice_index y 3)) e)
+marker_sign y false e h =
+    let end : is_document_end y ≡ true = ap (λ (b : Bool). b || is_document_end y) (sym e) ∙ h in
+    dot_sign (slice_index y 0)
+    (first_of (slice_index y 0 == 46) (slice_index y 1 == 46) (slice_index y 2 == 46)
+    (is_blank_or_breakz (slice_index y 3)) end)
+
+abbrev by_marker : Bool → State → Result State Refusal
+by_marker start s =
+    if start then document.state_behind_marker tokens.DocumentStart s else document.state_behind_document_end s
+
+pub marker_here : (f : Frame) (m : Marker) (y : List ℕ) (blank : Bool) (key : Option Candidate) (a : Bool) (ad : ℕ)
+    (deeper : Bool) (ps : List Place) (start : Bool) → is_document_start y ≡ start → m.col ≡ 0
+    → IsTrue (is_document_indicator y)
+    → fetch_here (state_of f (moment_at m y blank key a ad deeper) ps)
+    ≡ by_marker start (state_of f (moment_at m y blank key a ad deeper) ps)
+unfolding fetch_here
+marker_here f m y blank key a ad deeper ps true e col h =
+    let g = marker_sign y true e h in rw (eq-eqb m.col 0 col, g.nul, g.byte_order_mark, g.directive, e) refl
+marker_here f m y blank key a ad deeper ps false e col h =
+    let g = marker_sign y false e h in
+    let end : is_document_end y ≡ true = ap (λ (b : Bool). b || is_document_end y) (sym e) ∙ h in
+    rw (eq-eqb m.col 0 col, g.nul, g.byte_order_mark, g.directive, e, end) refl
+
+-- states whose collections all end alike are ended alike by a marker
+pub marked_alike : (start : Bool) (m : Marker) (s t : State) → s.core.cursor.mark ≡ m → t.core.cursor.mark ≡ m
+    → unroll None m s ≡ unroll None m t → by_marker start s ≡ by_marker start t
+unfolding document.state_behind_marker document.state_behind_document_end document.end_content
+marked_alike start m s t at_s at_t e = by_start start
+  where
+    content : document.end_content s ≡ document.end_content t
+    content = ap (λ (n : Marker). document.remove_key_of (unroll None n s)) at_s ∙ ap document.remove_key_of e
+        ∙ sym (ap (λ (n : Marker). document.remove_key_of (unroll None n t)) at_t)
+
+    marker : (kind : Kind) → document.state_behind_marker kind s ≡ document.state_behind_marker kind t
+    marker kind = ap (λ r. r >>= λ (u : State). Ok
+        (document.put_passed u.core.cursor.mark kind (document.pass_marker u.core) u)) content
+
+    by_start : (start : Bool) → by_marker start s ≡ by_marker start t
+    by_start true = marker tokens.DocumentStart
+    by_start false = ap (λ r. r >>= λ (u : State). on_core_with (separate u.core) u >>= document.end_line)
+        (marker tokens.DocumentEnd)
+
+-- what the end of the stream does
+pub stream_ends : (f : Frame) (m : Marker) (blank : Bool) (key : Option Candidate) (a : Bool) (ad : ℕ) (deeper : Bool)
+    (ps : List Place)
+    → fetch_here (state_of f (moment_at m [] blank key a ad deeper) ps)
+    ≡ Ok (document.finish (end_mark m)
+    (unroll None (end_mark m) (state_of f (moment_at m [] blank key a ad deeper) ps)))
+unfolding fetch_here document.state_behind_end document.end_at
+stream_ends f m blank key a ad deeper ps = refl
+
+-- A collection ends at the end of its document, where the next token stands no further left.
+ends_here : (f : Frame) (c : ℕ) (m : Marker) (y : List ℕ) (blank : Bool) (key : Option Candidate) (a : Bool) (ad : ℕ)
+    (deeper other : Bool) (ps : List Place) → EndsDocument m y
+    → fetch_here (state_of (frame_at_column c f) (moment_at m y blank key a ad deeper) ps)
+    ≡ fetch_here (state_of f (moment_at m y blank key a ad other) (ps ++ end_place (end_mark m) ∷ []))
+ends_here f c m y blank key a ad deeper other ps (inl e) =
+    subst (λ (z : List ℕ). fetch_here (state_of (frame_at_column c f) (moment_at m z blank key a ad deeper) ps)
+    ≡ fetch_here (state_of f (moment_at m z blank key a ad other) (ps ++ end_place (end_mark m) ∷ []))) (sym e)
+    (stream_ends (frame_at_column c f) m blank key a ad deeper ps
+    ∙ ap (λ (s : State). Ok (document.finish (end_mark m) s))
+    (ends_last f c (end_mark m) m [] blank key a ad deeper other ps)
+    ∙ sym (stream_ends f m blank key a ad other (ps ++ end_place (end_mark m) ∷ [])))
+ends_here f c m y blank key a ad deeper other ps (inr h) =
+    let same : end_mark m ≡ m = at_line_start m h.0 in
+    let start = is_document_start y in
+    subst (λ (n : Marker). fetch_here (state_of (frame_at_column c f) (moment_at m y blank key a ad deeper) ps)
+    ≡ fetch_here (state_of f (moment_at m y blank key a ad other) (ps ++ end_place n ∷ []))) (sym same)
+    (marker_here (frame_at_column c f) m y blank key a ad deeper ps start refl h.0 h.1
+    ∙ marked_alike start m (state_of (frame_at_column c f) (moment_at m y blank key a ad deeper) ps)
+    (state_of f (moment_at m y blank key a ad other) (ps ++ end_place m ∷ [])) refl refl
+    (ends_last f c m m y blank key a ad deeper other ps)
+    ∙ sym (marker_here f m y blank key a ad other (ps ++ end_place m ∷ []) start refl h.0 h.1))
+
+-- ## A collection ends
+
+at_least : (c col : ℕ) → nat_lt col c ≡ false → c + 1 ≤ col + 1
+at_least c col h = grind (arith, nat_tests)
+
+outer_least : (i c col : ℕ) → i ≤ c → c + 1 ≤ col + 1 → i ≤ col + 1
+outer_least i c col h k = omega (arith, h, k)
+
+-- the tokens of places before the end of a collection
+ended_kinds : (ps : List Place) (m : Marker) (ts : List Kind) → place_kinds ps ≡ ts
+    → place_kinds (ps ++ end_place m ∷ []) ≡ ts ++ tokens.BlockEnd ∷ []
+ended_kinds ps m ts e = place_kinds_append ps (end_place m ∷ []) ∙ ap (λ (x : List Kind). x ++ tokens.BlockEnd ∷ []) e
+
+-- The block collection at a column ends before the token at m, which stands to its left or ends the document.
+pub closes_block : {limit : ℕ} {start : State} {ts : List Kind} (f : Frame) (c : ℕ) (m : Marker) (y : List ℕ)
+    → f.indent ≤ c → EndsDocument m y ⊎ (m.col < c) → (v : At limit start (frame_at_column c f) m y ts)
+    → (w : At limit start f m y (ts ++ tokens.BlockEnd ∷ [])) × (w.key ≡ v.key) × (w.allowed ≡ v.allowed)
+unfolding fetch
+closes_block {limit} {start} {ts} f c m y inside ends v = by_column (nat_lt m.col c) refl
+  where
+    arrived : (g : Frame) (deeper : Bool) (ps : List Place)
+        → fetch (state_of g (moment_at m y v.blank v.key v.allowed v.adjacent deeper) ps)
+        ≡ fetch_here (unroll (Some m.col) m (state_of g (moment_at m y v.blank v.key v.allowed v.adjacent deeper) ps))
+    arrived g deeper ps = ap (λ r. r >>= fetch_here)
+        (arrives_at g m y v.blank v.key v.allowed v.adjacent deeper ps v.stop v.near)
+
+    closed_at : (n : Marker)
+        → fetch (state_of (frame_at_column c f) (moment_at m y v.blank v.key v.allowed v.adjacent v.deeper) v.places)
+        ≡ fetch (state_of f (moment_at m y v.blank v.key v.allowed v.adjacent false) (v.places ++ end_place n ∷ []))
+        → (w : At limit start f m y (ts ++ tokens.BlockEnd ∷ [])) × (w.key ≡ v.key) × (w.allowed ≡ v.allowed)
+    closed_at n e = (
+      record {
+        blank = v.blank;
+        key = v.key;
+        allowed = v.allowed;
+        adjacent = v.adjacent;
+        deeper = false;
+        places = v.places ++ end_place n ∷ [];
+        follows = goes_alike v.follows e refl;
+        stop = v.stop;
+        near = v.near;
+        are = ended_kinds v.places n ts v.are;
+        low = v.low;
+      },
+      refl,
+      refl,
+    )
+
+    by_end : nat_lt m.col c ≡ false → EndsDocument m y ⊎ (m.col < c)
+        → (w : At limit start f m y (ts ++ tokens.BlockEnd ∷ [])) × (w.key ≡ v.key) × (w.allowed ≡ v.allowed)
+    by_end e (inr h) = absurd
+        (let k : m.col < c → nat_lt m.col c ≡ true = λ l. yes m.col l in let no = sym (k h) ∙ e in cc)
+      where
+        yes : (col : ℕ) → col < c → nat_lt col c ≡ true
+        yes col l = grind (arith, nat_tests)
+    by_end e (inl h) =
+        let far = at_least c m.col e in
+        closed_at (end_mark m)
+        (arrived (frame_at_column c f) v.deeper v.places
+        ∙ ap fetch_here (stays_open (frame_at_column c f) false m y v.blank v.key v.allowed v.adjacent v.deeper v.places
+        far)
+        ∙ ends_here f c m y v.blank v.key v.allowed v.adjacent (v.deeper && nat_le (c + 1) m.col) false v.places h
+        ∙ sym (arrived f false (v.places ++ end_place (end_mark m) ∷ [])
+        ∙ ap fetch_here (stays_open f false m y v.blank v.key v.allowed v.adjacent false
+        (v.places ++ end_place (end_mark m) ∷ []) (outer_least f.indent c m.col inside far))))
+
+    by_column : (b : Bool) → nat_lt m.col c ≡ b
+        → (w : At limit start f m y (ts ++ tokens.BlockEnd ∷ [])) × (w.key ≡ v.key) × (w.allowed ≡ v.allowed)
+    by_column true e =
+        closed_at m
+        (arrived (frame_at_column c f) v.deeper v.places
+        ∙ ap fetch_here (ends_left f c m y v.blank v.key v.allowed v.adjacent v.deeper v.places
+        (ltb-true m.col c e))
+        ∙ sym (arrived f false (v.places ++ end_place m ∷ [])))
+    by_column false e = by_end e ends

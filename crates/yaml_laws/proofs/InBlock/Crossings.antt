@@ -1,0 +1,98 @@
+-- Whether a break is ahead, before what is passed and behind it.
+use Rattle.std.proofs.Common.{◌≡◌, ℕ, Bool, true, false, List, [], ◌∷◌, ◌++◌, slice_index, refl, sym, ap, ◌∙◌, append_assoc, inl, inr}
+use Rattle.std.specs.Prelude.{◌||◌, if◌then◌else◌}
+use Rattle.saphyr_input.specs.Indicators.{colon}
+use Rattle.saphyr_input.specs.Classes.{is_blank, is_break, line_feed}
+use Rattle.saphyr_input.specs.Places.{is_blank_or_break}
+use Rattle.saphyr_scalar.specs.declared.scalar.position.Marker.{Marker}
+use Rattle.saphyr_scalar.specs.Reading.BlockLines.{spaces}
+use Rattle.saphyr_scalar.specs.Views.Cursor.{Cursor, along, next_line}
+use Rattle.saphyr_scalar.specs.Steps.Plain.{ends_line}
+use Rattle.scalar_laws.specs.Spelling.Plain.{past_white}
+use Rattle.scalar_laws.specs.Spelling.Spaces.{AreEach, joined_pieces, IsSeparation, IsSeparationLine, IsLineRest}
+use Rattle.saphyr_scanner.specs.declared.engine.level.Context.{Context}
+use Rattle.saphyr_scanner.specs.Steps.Level.{is_block}
+use Rattle.yaml_laws.proofs.Flow.States.{crosses, IsFresh}
+use Rattle.yaml_laws.proofs.Flow.Fillers.{EndsLine, spaces_are_blank, behind_is}
+use Rattle.yaml_laws.proofs.InBlock.Skips.{blanks_cross, rest_crosses, last_crosses}
+use Rattle.saphyr_input.proofs.Basics.Booleans.{clash}
+
+-- inside flow nothing is asked
+pub fresh_in_flow : (x : Context) (o : List ℕ) (allowed : Bool) (there : Cursor) → is_block x ≡ false
+    → IsFresh x o allowed there
+fresh_in_flow x o allowed there flow b e = absurd (clash (is_block x) b flow)
+
+-- no break stands among spaces before a character that is passed in no gap
+pub spaces_uncrossed : (n : ℕ) (r : List ℕ) → crosses (spaces n ++ (colon ∷ r)) ≡ false
+spaces_uncrossed n r = blanks_cross (spaces n) (58 ∷ r) (spaces_are_blank n)
+
+-- a break behind separation is one behind what stands before it
+pub separation_crosses : (indent : ℕ) (w o : List ℕ) → IsSeparation indent w → crosses o ≡ true
+    → crosses (w ++ o) ≡ true
+separation_crosses indent w o (lines, blanks, (pieces, each, lines_are), are, e) h = by_lines pieces each lines_are
+  where
+    by_lines : (ps : List (List ℕ)) → AreEach (IsSeparationLine indent) ps → lines ≡ joined_pieces ps
+        → crosses (w ++ o) ≡ true
+    by_lines [] each lines_are =
+        ap (λ (t : List ℕ). crosses (t ++ o)) (e ∙ ap (λ (t : List ℕ). t ++ blanks) lines_are)
+        ∙ blanks_cross blanks o are ∙ h
+    by_lines (p ∷ ps) ((first, comment, filler, first_are, k, filler_is, line_is), others) lines_are =
+        let more = (filler ++ spaces indent) ++ (joined_pieces ps ++ (blanks ++ o)) in
+        let text : w ++ o ≡ first ++ (comment ++ (10 ∷ more)) =
+        ap (λ (t : List ℕ). t ++ o)
+        (e ∙ ap (λ (t : List ℕ). t ++ blanks) lines_are
+        ∙ ap (λ (t : List ℕ). (t ++ joined_pieces ps) ++ blanks) line_is)
+        ∙ simp append_assoc in
+        ap crosses text ∙ rest_crosses first comment more first_are (behind_is first comment k)
+
+feed_crosses : (t : List ℕ) → slice_index t 0 ≡ line_feed → crosses t ≡ true
+feed_crosses [] e = absurd (cc)
+feed_crosses (c ∷ cs) e = rw e refl
+
+-- behind the rest of a line its break is still ahead
+pub line_rest_crosses : (rest more : List ℕ) → IsLineRest rest → EndsLine more → crosses (rest ++ more) ≡ true
+    → crosses more ≡ true
+line_rest_crosses rest more h (inr feed) e = feed_crosses more feed
+line_rest_crosses rest more (blanks, comment, are, k, is) (inl none) e =
+    let text : rest ++ more ≡ blanks ++ (comment ++ []) = ap (λ (t : List ℕ). rest ++ t) none
+    ∙ ap (λ (t : List ℕ). t ++ []) is ∙ append_assoc blanks comment [] in
+    absurd (clash (crosses (rest ++ more)) e
+    (ap crosses text ∙ last_crosses blanks comment are (behind_is blanks comment k)))
+
+-- a break stands at the end of a line
+pub content_crosses : (rest o : List ℕ) → IsLineRest rest → crosses (rest ++ (line_feed ∷ o)) ≡ true
+content_crosses rest o (blanks, comment, are, k, is) =
+    ap crosses (ap (λ (t : List ℕ). t ++ (10 ∷ o)) is ∙ append_assoc blanks comment (10 ∷ o))
+    ∙ rest_crosses blanks comment o are (behind_is blanks comment k)
+
+-- ## Behind a plain scalar
+
+break_ahead : (b : Bool) (c : ℕ) (cs : List ℕ) (blank break : Bool) → is_blank c ≡ blank → is_break c ≡ break
+    → (blank || break) ≡ true → (b || crosses (c ∷ cs)) ≡ true → ((b || break) || crosses cs) ≡ true
+break_ahead true c cs blank break e f white h = refl
+break_ahead false c cs blank true e f white h = refl
+break_ahead false c cs true false e f white h = sym (same) ∙ h
+  where
+    same : crosses (c ∷ cs) ≡ crosses cs
+    same = rw e refl
+break_ahead false c cs false false e f white h = absurd (cc)
+
+-- its reader has met the break, or it is still ahead
+pub white_crosses : (m : Marker) (b : Bool) (o : List ℕ) → (b || crosses o) ≡ true
+    → ((past_white m b o).blank_so_far || crosses (past_white m b o).rest) ≡ true
+white_crosses m b [] h = h
+white_crosses m b (c ∷ cs) h =
+    by_white (is_blank_or_break c) refl
+    (λ e. white_crosses (if ends_line c cs then next_line m 1 else along m 1) (b || is_break c) cs
+    (break_ahead b c cs (is_blank c) (is_break c) refl refl e h))
+  where
+    on : Marker
+    on = if ends_line c cs then next_line m 1 else along m 1
+
+    by_white : (white : Bool) → is_blank_or_break c ≡ white
+        → (is_blank_or_break c ≡ true
+        → ((past_white on (b || is_break c) cs).blank_so_far || crosses (past_white on (b || is_break c) cs).rest)
+        ≡ true)
+        → ((past_white m b (c ∷ cs)).blank_so_far || crosses (past_white m b (c ∷ cs)).rest) ≡ true
+    by_white true e further = rw e (further e)
+    by_white false e further = rw e h

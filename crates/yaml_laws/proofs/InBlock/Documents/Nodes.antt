@@ -1,0 +1,258 @@
+-- The node of a document is read (YAML 1.2.2, chapter 9).
+use Rattle.std.proofs.Common.{◌≡◌, ℕ, ◌+◌, ◌≤◌, Bool, true, false, List, [], ◌∷◌, ◌++◌, length, slice_index, refl, sym, ap, ◌∙◌, arith, subst, inl, inr}
+use Rattle.std.specs.Prelude.{◌||◌, ◌&&◌, ◌==◌, nat_le, Option, None}
+use Rattle.std.proofs.lemmas.Bool.Decides.{nat_tests}
+use Rattle.saphyr_input.specs.Classes.{is_blank, is_break, is_yaml_non_break, line_feed, carriage_return}
+use Rattle.saphyr_input.specs.Places.{is_document_start}
+use Rattle.saphyr_scalar.specs.declared.scalar.position.Marker.{Marker}
+use Rattle.saphyr_scalar.specs.Views.Cursor.{◌>>=◌, along, next_line}
+use Rattle.saphyr_scanner.specs.Steps.Core.{is_too_far}
+use Rattle.saphyr_scanner.specs.Steps.Level.{Candidate}
+use Rattle.saphyr_scanner.specs.Steps.Queue.{Place}
+use Rattle.saphyr_scanner.specs.Steps.State.{State}
+use Rattle.saphyr_scanner.specs.Steps.Fetch.{fetch, fetch_here}
+use Rattle.saphyr_scanner.specs.Steps.Unrolling.{unroll}
+use Rattle.saphyr_scanner.specs.Grammar.Tokens.{Kind}
+use Rattle.saphyr_scanner.specs.Grammar.Forest.{Node}
+use Rattle.saphyr_scanner.specs.Limits.{most_open}
+use Rattle.yaml_laws.specs.Grammar.BlockNodes.{Position as Position, indent_at, IsBlockNode}
+use Rattle.yaml_laws.specs.Grammar.Yaml.{has_marker}
+use Rattle.yaml_laws.proofs.Flow.States.{IsClear, EndsDocument, marks_line, moved, past}
+use Rattle.yaml_laws.proofs.Flow.Places.{behind_character, moved_count}
+use Rattle.yaml_laws.proofs.Flow.GapSteps.{past_again}
+use Rattle.yaml_laws.proofs.InBlock.MarkedLines.{fed_marks, last_marks}
+use Rattle.yaml_laws.proofs.Documents.Stands.{AtLine, Lined, OffLine, StandsInStream}
+use Rattle.yaml_laws.proofs.InBlock.States.{Moment, root, moment_at, state_of, tabbed, tabbed_comment, crosses, IsStop, is_compact, IsPlaced, Before}
+use Rattle.yaml_laws.proofs.InBlock.Gaps.{past_stops}
+use Rattle.yaml_laws.proofs.InBlock.Follows.{goes_alike, left_key, left_again, lands as land, arrives_at, stays_open}
+use Rattle.yaml_laws.proofs.InBlock.Closing.{marker_here, marked_alike, stream_ends}
+use Rattle.yaml_laws.proofs.InBlock.Lines.{FitsOnLines, moved_lined}
+use Rattle.yaml_laws.proofs.InBlock.Statements.{EndsNodeAt, EndsWithLine, AreRead, ReadsLeaves}
+use Rattle.yaml_laws.proofs.InBlock.Texts.{node_ends}
+use Rattle.yaml_laws.proofs.InBlock.Sequences.{StartsLine, starts_behind}
+use Rattle.yaml_laws.proofs.InBlock.Nodes.{reads_node}
+use Rattle.saphyr_scalar.proofs.Given.{cursor_at}
+use Rattle.std.proofs.lemmas.Bool.{eq-eqb}
+use Rattle.saphyr_input.specs.Indicators.{number_sign}
+use Rattle.saphyr_scanner.proofs.Gaps.{no_tab_indentation}
+use Rattle.yaml_laws.proofs.InBlock.Documents.Ends.{HasNoReturn, Lands, IsPlainBehind}
+
+-- ## The text of a node is clear
+
+-- a text behind which a line starts ends with a break
+feed_last : (m : Marker) (c : ℕ) (cs : List ℕ) → (moved m (c ∷ cs)).col ≡ 0
+    → (front : List ℕ) × (c ∷ cs ≡ front ++ (line_feed ∷ []))
+feed_last m c [] e = by_feed (c == line_feed) refl e
+  where
+    feed : (c : ℕ) → (c == line_feed) ≡ true → c ≡ line_feed
+    feed c e = grind (arith, nat_tests)
+
+    by_feed : (b : Bool) → (c == line_feed) ≡ b → (moved m (c ∷ [])).col ≡ 0
+        → (front : List ℕ) × (c ∷ [] ≡ front ++ (line_feed ∷ []))
+    by_feed true k e = ([], ap (λ (x : ℕ). x ∷ []) (feed c k))
+    by_feed false k e = absurd
+        (let place : moved m (c ∷ []) ≡ along m 1 =
+        rw (moved, k) refl in let col : m.col + 1 ≡ 0 =
+        sym (ap (λ (n : Marker). n.col) place) ∙ e in omega (arith, col))
+feed_last m c (d ∷ ds) e = let r = feed_last (behind_character m c) d ds e in (c ∷ r.0, ap (λ (x : List ℕ). c ∷ x) r.1)
+
+pub node_marks : (at_start : Bool) (t o : List ℕ) → EndsWithLine t o → marks_line at_start t o ≡ has_marker at_start t
+node_marks at_start t o (inr e) =
+    subst (λ (x : List ℕ). marks_line at_start t x ≡ has_marker at_start t) (sym e) (last_marks at_start t)
+node_marks at_start [] o (inl h) = refl
+node_marks at_start (c ∷ cs) o (inl h) =
+    let f = feed_last (record { index = 0; line = 1; col = 0 }) c cs (h (record { index = 0; line = 1; col = 0 })) in
+    subst (λ (t : List ℕ). marks_line at_start t o ≡ has_marker at_start t) (sym f.1) (fed_marks at_start f.0 o)
+
+pub none_here : (t others : List ℕ) → t ++ others ≡ [] → t ≡ []
+none_here [] others e = refl
+none_here (c ∷ cs) others e = absurd (cc)
+
+-- a bare document's text
+pub bare_clear : (m : Marker) (t others : List ℕ) → AtLine (t ++ others) m → HasNoReturn t → has_marker true t ≡ false
+    → EndsWithLine t others → IsClear m t others
+bare_clear m t others (inl e) clean h ends =
+    record {
+      no_return = clean;
+      no_marker = ap (λ (b : Bool). marks_line b t others) (eq-eqb m.col 0 e) ∙ node_marks true t others ends ∙ h;
+    }
+bare_clear m t others (inr e) clean h ends =
+    record {
+      no_return = clean;
+      no_marker = ap (λ (x : List ℕ). marks_line (m.col == 0) x others) (none_here t others e);
+    }
+
+-- the text behind a `---`
+pub explicit_clear : (m : Marker) (t others : List ℕ) → OffLine m → HasNoReturn t → has_marker false t ≡ false
+    → EndsWithLine t others → IsClear m t others
+explicit_clear m t others e clean h ends =
+    record {
+      no_return = clean;
+      no_marker = ap (λ (b : Bool). marks_line b t others) e ∙ node_marks false t others ends ∙ h;
+    }
+
+-- ## The node of a document
+
+-- The scanner has read a document's node, and stands behind it.
+pub record NodeStands (limit : ℕ) (start : State) (node : Node) (place : Position) (others : List ℕ) (ts : List Kind) :
+    Type 0 where
+  pub tokens : List Kind
+  pub are : AreRead node place tokens
+  pub stands : StandsInStream limit start false (Lined false others) others (ts ++ tokens)
+
+-- at the end of a document it doesn't matter where content would have to stand
+flat_here : (m : Marker) (y : List ℕ) (blank : Bool) (key : Option Candidate) (a : Bool) (ad : ℕ) (deeper : Bool)
+    (ps : List Place) → EndsDocument m y
+    → fetch_here (state_of root (moment_at m y blank key a ad deeper) ps)
+    ≡ fetch_here (state_of root (moment_at m y blank key a ad false) ps)
+unfolding unroll
+flat_here m y blank key a ad deeper ps (inl e) =
+    subst (λ (z : List ℕ). fetch_here (state_of root (moment_at m z blank key a ad deeper) ps)
+    ≡ fetch_here (state_of root (moment_at m z blank key a ad false) ps)) (sym e)
+    (stream_ends root m blank key a ad deeper ps ∙ sym (stream_ends root m blank key a ad false ps))
+flat_here m y blank key a ad deeper ps (inr h) =
+    let start = is_document_start y in
+    marker_here root m y blank key a ad deeper ps start refl h.0 h.1
+    ∙ marked_alike start m (state_of root (moment_at m y blank key a ad deeper) ps)
+    (state_of root (moment_at m y blank key a ad false) ps) refl refl (flat_ends m y blank key a ad deeper ps)
+    ∙ sym (marker_here root m y blank key a ad false ps start refl h.0 h.1)
+  where
+    flat_ends : (m : Marker) (y : List ℕ) (blank : Bool) (key : Option Candidate) (a : Bool) (ad : ℕ) (deeper : Bool)
+        (ps : List Place)
+        → unroll None m (state_of root (moment_at m y blank key a ad deeper) ps)
+        ≡ unroll None m (state_of root (moment_at m y blank key a ad false) ps)
+    flat_ends m y blank key a ad deeper ps = refl
+
+flat : (m : Marker) (y : List ℕ) (blank : Bool) (key : Option Candidate) (a : Bool) (ad : ℕ) (deeper : Bool)
+    (ps : List Place) → IsStop y → is_too_far key m ≡ false → EndsDocument m y
+    → fetch (state_of root (moment_at m y blank key a ad deeper) ps)
+    ≡ fetch (state_of root (moment_at m y blank key a ad false) ps)
+unfolding fetch
+flat m y blank key a ad deeper ps stop near ends =
+    let arrived = λ (d : Bool). ap (λ r. r >>= fetch_here) (arrives_at root m y blank key a ad d ps stop near)
+    ∙ ap fetch_here (stays_open root false m y blank key a ad d ps (omega arith)) in
+    arrived deeper ∙ flat_here m y blank key a ad (deeper && nat_le 0 m.col) ps ends ∙ sym (arrived false)
+
+untabbed_kind : (m : Marker) (blank : Bool) (c : ℕ) (cs : List ℕ) (is_white is_line is_sign : Bool)
+    → (is_blank c || ((c == carriage_return) && (slice_index cs 0 == line_feed))) ≡ is_white → is_break c ≡ is_line
+    → (c == number_sign) ≡ is_sign
+    → tabbed 0 (along m 1) blank false cs ≡ false → tabbed 0 (next_line m 1) true false cs ≡ false
+    → tabbed_comment 0 (along m 1) blank false cs ≡ false → tabbed 0 m blank false (c ∷ cs) ≡ false
+untabbed_kind m blank c cs true q r e f g on line sign =
+    rw e (ap (λ (b : Bool). tabbed 0 (along m 1) blank b cs) (no_tab_indentation m blank c) ∙ on)
+untabbed_kind m blank c cs false true r e f g on line sign = rw (e, f) line
+untabbed_kind m blank c cs false false true e f g on line sign = rw (e, f, g) sign
+untabbed_kind m blank c cs false false false e f g on line sign = rw (e, f, g) refl
+
+tabbed_over_comment : (m : Marker) (blank : Bool) (c : ℕ) (cs : List ℕ) (is_word is_return is_line : Bool)
+    → is_yaml_non_break c ≡ is_word → ((c == carriage_return) && (slice_index cs 0 == line_feed)) ≡ is_return
+    → is_break c ≡ is_line
+    → tabbed_comment 0 (along m 1) blank false cs ≡ false → tabbed 0 (along m 1) blank false cs ≡ false
+    → tabbed 0 (next_line m 1) true false cs ≡ false → tabbed_comment 0 m blank false (c ∷ cs) ≡ false
+tabbed_over_comment m blank c cs true q r e f g word on line = rw e word
+tabbed_over_comment m blank c cs false true r e f g word on line = rw (e, f) on
+tabbed_over_comment m blank c cs false false true e f g word on line = rw (e, f, g) line
+tabbed_over_comment m blank c cs false false false e f g word on line = rw (e, f, g) refl
+
+-- at the root no tab stands left of what is enclosed
+mutual
+  untabbed : (m : Marker) (blank : Bool) (t : List ℕ) → tabbed 0 m blank false t ≡ false
+  untabbed m blank [] = refl
+  untabbed m blank (c ∷ cs) =
+      untabbed_kind m blank c cs (is_blank c || ((c == 13) && (slice_index cs 0 == 10))) (is_break c) (c == 35) refl
+      refl refl (untabbed (along m 1) blank cs) (untabbed (next_line m 1) true cs)
+      (comment_untabbed (along m 1) blank cs)
+
+  comment_untabbed : (m : Marker) (blank : Bool) (t : List ℕ) → tabbed_comment 0 m blank false t ≡ false
+  comment_untabbed m blank [] = refl
+  comment_untabbed m blank (c ∷ cs) =
+      tabbed_over_comment m blank c cs (is_yaml_non_break c) ((c == 13) && (slice_index cs 0 == 10)) (is_break c) refl
+      refl
+      refl (comment_untabbed (along m 1) blank cs) (untabbed (along m 1) blank cs) (untabbed (next_line m 1) true cs)
+
+sum_within : (i l j k limit : ℕ) → i + l ≡ j + k → j + k ≤ limit → i + l ≤ limit
+sum_within i l j k limit e h = omega (arith, e, h)
+
+pub reads_root : {limit : ℕ} {start : State} {P : Marker → Bool → Type 0} → ReadsLeaves limit → (place : Position)
+    → indent_at place ≡ 0 → (node : Node) (t others : List ℕ) (ts : List Kind)
+    → IsBlockNode most_open node place t others
+    → ((m : Marker) → AtLine others m → Lands m others) → IsPlainBehind others
+    → (v : StandsInStream limit start true P (t ++ others) ts) → FitsOnLines limit v.mark t others
+    → IsPlaced place v.mark
+    → ((is_compact place || crosses (t ++ others)) ≡ true → (crosses v.there.rest || v.allowed) ≡ true)
+    → NodeStands limit start node place others ts
+reads_root {limit} {start} leaves place flat_place node t others ts h lands plain v fits placed opens =
+    let q = past 0 v.mark (t ++ others) in
+    let n : Moment = record {
+      cursor = v.there;
+      key = v.key;
+      allowed = v.allowed;
+      adjacent = v.adjacent;
+      deeper = false;
+      required = false;
+      comment = v.comment;
+    } in
+    let l = land root n v.places q.0 q.1 refl v.fits (untabbed v.there.mark v.there.blank_so_far v.there.rest)
+    (inl (v.quiet refl)) in
+    let before : Before limit start place root v.mark (t ++ others) ts = record {
+      at = record {
+        blank = l.0;
+        key = left_key v.key q.0;
+        allowed = crosses v.there.rest || v.allowed;
+        adjacent = v.adjacent;
+        deeper = false;
+        places = v.places;
+        follows = goes_alike v.follows l.1 refl;
+        stop = past_stops v.mark (t ++ others);
+        near = left_again v.key q.0;
+        are = v.are;
+        low = v.low;
+      };
+      none = left_none v.key (v.none refl) q.0;
+      allows = opens;
+      placed = placed;
+    } in
+    let ends = node_ends leaves node place t others h in
+    let m = moved v.mark t in
+    let line = lined m others (starts_behind v.mark t others ends) in
+    let behind : EndsNodeAt 0 m others =
+    record { left = inl (lands m line); clean = plain.clean } in
+    let r = reads_node leaves node place root (sym flat_place) v.mark t others h fits behind start ts before in
+    let u = r.arrived.at in
+    let p = past 0 m others in
+    let on = past_again 0 m others in
+    record {
+      tokens = r.tokens;
+      are = r.are;
+      stands = record {
+        there = cursor_at p.1 p.0 u.blank;
+        key = u.key;
+        allowed = u.allowed;
+        adjacent = u.adjacent;
+        comment = None;
+        places = u.places;
+        mark = m;
+        none = λ e. absurd (unopened e);
+        follows = goes_alike u.follows
+            (flat p.0 p.1 u.blank u.key u.allowed u.adjacent u.deeper u.places u.stop u.near (lands m line)) refl;
+        fits = on;
+        line = (line, λ e. absurd (unopened e));
+        count =
+            sum_within m.index (length others) v.mark.index (length (t ++ others)) limit (moved_count v.mark t others)
+            v.count;
+        are = u.are;
+        quiet = λ _. refl;
+        low = u.low;
+        lined = moved_lined v.mark t v.lined;
+      };
+    }
+  where
+    unopened : false ≡ true → ⊥
+    unopened e = cc
+
+    left_none : (k : Option Candidate) → k ≡ None → (m : Marker) → left_key k m ≡ None
+    left_none k e m = rw e refl
+
+    lined : (m : Marker) (o : List ℕ) → StartsLine m o → AtLine o m
+    lined m o (inl e) = inl e
+    lined m o (inr e) = inr e

@@ -1,0 +1,320 @@
+-- The `-` of an entry of a block sequence is read (YAML 1.2.2, 8.2.1).
+use Rattle.std.proofs.Common.{◌≡◌, ℕ, suc, ◌+◌, ◌≤◌, Bool, true, false, List, [], ◌∷◌, ◌++◌, length, slice_index, refl, sym, ap, ◌∙◌, arith, append_assoc, IsTrue, Ok, ◌⊎◌, inl}
+use Rattle.std.specs.Prelude.{◌||◌, ◌&&◌, ◌==◌, not, nat_le, nat_lt, Option, None, if◌then◌else◌}
+use Rattle.std.proofs.lemmas.Bool.Decides.{nat_tests}
+use Rattle.std.proofs.lemmas.List.{length-append}
+use Rattle.saphyr_input.specs.Indicators.{hyphen}
+use Rattle.saphyr_input.specs.Classes.{is_blank, is_break, is_flow, is_blank_or_breakz, is_alpha}
+use Rattle.saphyr_input.specs.Places.{is_document_indicator}
+use Rattle.saphyr_input.specs.Separation.{found_blanks, found_tabs, has_valid_yaml_ws}
+use Rattle.saphyr_input.specs.declared.input.SkipTabs.{SkipTabs}
+use Rattle.saphyr_input.specs.declared.input.SkipTabs.TheVariants.{Yes}
+use Rattle.saphyr_scalar.specs.declared.scalar.position.Marker.{Marker}
+use Rattle.saphyr_scalar.specs.Views.Cursor.{Cursor, ◌>>=◌, along, separation}
+use Rattle.saphyr_scalar.specs.Spelling.Tag.{AreIn}
+use Rattle.saphyr_scalar.proofs.Given.{cursor_at}
+use Rattle.scalar_laws.specs.Spelling.Spaces.{IsCommentBehind}
+use Rattle.saphyr_scanner.specs.Steps.Core.{least_column, Core, completed_step, at_mark, perform, is_further, roll, remove_key}
+use Rattle.saphyr_scanner.specs.Steps.Level.{Candidate}
+use Rattle.saphyr_scanner.specs.Steps.Block.{block_entry_steps, next_entry, pass_dash, deepen, refuse_tab, behind_start}
+use Rattle.saphyr_scanner.specs.Steps.Passing.{pass_on, with_cursor}
+use Rattle.saphyr_scanner.specs.Steps.Queue.{next, Place, Queue, bare_place, empty_piece}
+use Rattle.saphyr_scanner.specs.Steps.State.{State, after_step}
+use Rattle.saphyr_scanner.specs.Grammar.Tokens as tokens
+use Rattle.saphyr_scanner.specs.Grammar.Tokens.{Kind}
+use Rattle.saphyr_scanner.specs.Steps.Fetch.{fetch, fetch_here, state_behind_content, step}
+use Rattle.saphyr_scanner.proofs.Leads.{LeadsTo}
+use Rattle.yaml_laws.proofs.Flow.States.{past}
+use Rattle.yaml_laws.proofs.Flow.GapSteps.{past_low}
+use Rattle.yaml_laws.specs.Grammar.BlockNodes as yaml
+use Rattle.yaml_laws.specs.Grammar.BlockNodes.{Position as Position}
+use Rattle.yaml_laws.proofs.Flow.Separates.{StopsLine, line_separated}
+use Rattle.yaml_laws.proofs.InBlock.States.{Frame, Moment, frame_at_column, moment_at, core_of, state_of, IsUntabbed, crosses, is_compact, IsPlaced, At, Before}
+use Rattle.yaml_laws.proofs.InBlock.Gaps.{past_stops}
+use Rattle.yaml_laws.proofs.InBlock.Skips.{IsCleanBehind}
+use Rattle.yaml_laws.proofs.InFlow.States.{least_low}
+use Rattle.yaml_laws.proofs.InBlock.Follows.{follows_itself, steps_from, goes_alike, left_key, left_again, lands, BeginsToken, begins_here, arrives_at, stays_open, deeper_at}
+use Rattle.saphyr_input.proofs.Basics.Booleans.{and_false}
+use Rattle.saphyr_scanner.proofs.Queues.{place_kinds, place_kinds_append, queue_of}
+
+-- ## What stands behind an indicator
+
+-- a blank or a break stands first
+abbrev pub BeginsWhite : List ℕ → Type 0
+BeginsWhite [] = ⊥
+BeginsWhite (c ∷ cs) = IsTrue (is_blank c) ⊎ (c ≡ 10)
+
+-- Behind an indicator stand blanks, and a comment behind some or none; then the end of the line, or a token. Behind tabs
+-- that is no `-` of a compact sequence and, behind a colon and tabs alone, no word. No tab stands in the indentation of
+-- what comes next, of so many columns.
+pub record IsBehindIndicator (colon : Bool) (indent : ℕ) (o : List ℕ) : Type 0 where
+  pub blanks : List ℕ
+  pub comment : List ℕ
+  pub more : List ℕ
+  pub is : o ≡ blanks ++ (comment ++ more)
+  pub are : AreIn is_blank blanks
+  pub parts : IsCommentBehind blanks comment
+  pub stops : StopsLine comment more
+  pub dash : (found_tabs (found_blanks Yes o)
+      && ((slice_index more 0 == hyphen) && is_blank_or_breakz (slice_index more 1))) ≡ false
+  pub word : colon ≡ true → (not (has_valid_yaml_ws (found_blanks Yes o))
+      && ((slice_index more 0 == hyphen) || is_alpha (slice_index more 0))) ≡ false
+  pub lands : (m : Marker) → past 0 (along m (length (blanks ++ comment))) more ≡ past 0 m o
+  pub crosses_same : crosses more ≡ crosses o
+  pub clean : IsCleanBehind indent more
+  pub clean_all : IsCleanBehind indent o
+  pub first : is_blank_or_breakz (slice_index o 0) ≡ true
+  pub white : (o ≡ []) ⊎ BeginsWhite o
+
+-- behind what is passed on the line
+abbrev pub front_end : {colon : Bool} {indent : ℕ} {o : List ℕ} → IsBehindIndicator colon indent o → Marker → Marker
+front_end h m = along m (length (h.blanks ++ h.comment))
+
+-- blanks and a comment are passed
+pub separates : {colon : Bool} {indent : ℕ} (o : List ℕ) (h : IsBehindIndicator colon indent o) (m : Marker) (b : Bool)
+    → separation Yes (cursor_at o m b) ≡ Ok (found_blanks Yes o, cursor_at h.more (front_end h m) b)
+separates o h m b = line_separated (cursor_at o m b) h.blanks h.comment h.more h.is h.are h.parts h.stops
+
+-- ## A step
+
+-- From a token a step leads on. Behind it no key is kept.
+pub steps_on : {limit : ℕ} {start : State} {ts : List Kind} (f g : Frame) (m : Marker) (y : List ℕ)
+    (v : At limit start f m y ts) → BeginsToken m y → f.indent ≤ m.col + 1 → (n : Moment) (qs : List Place)
+    → state_behind_content (slice_index y 0) (slice_index y 1)
+    (state_of f (moment_at m y v.blank v.key v.allowed v.adjacent (deeper_at f v.deeper m)) v.places)
+    ≡ Ok (state_of g n qs)
+    → n.key ≡ None → n.cursor.mark.index ≤ limit → LeadsTo limit (state_of g n qs) start
+unfolding fetch
+steps_on f g m y v begins far n qs is none low =
+    let there = ap (λ r. r >>= fetch_here)
+    (arrives_at f m y v.blank v.key v.allowed v.adjacent v.deeper v.places v.stop v.near)
+    ∙ ap fetch_here (stays_open f false m y v.blank v.key v.allowed v.adjacent v.deeper v.places far)
+    ∙ begins_here f false m y v.blank v.key v.allowed v.adjacent v.deeper v.places begins far ∙ is in
+    steps_from g n qs v.follows refl there none low
+
+-- ## `-`
+
+dash_is_no_marker : (o : List ℕ) → is_blank_or_breakz (slice_index o 0) ≡ true
+    → is_document_indicator (hyphen ∷ o) ≡ false
+dash_is_no_marker [] h = refl
+dash_is_no_marker (c ∷ cs) h = by_dash (c == 45) refl
+  where
+    dash : (c : ℕ) → (c == hyphen) ≡ true → is_blank_or_breakz c ≡ true → ⊥
+    dash c e h = absurd (let k : false ≡ true = sym (no c e) ∙ h in cc)
+      where
+        no : (c : ℕ) → (c == hyphen) ≡ true → is_blank_or_breakz c ≡ false
+        no c e = grind (arith, nat_tests)
+
+    by_dash : (b : Bool) → (c == hyphen) ≡ b → is_document_indicator (hyphen ∷ c ∷ cs) ≡ false
+    by_dash true e = absurd (dash c e h)
+    by_dash false e = rw e refl
+
+dash_begins : (m : Marker) (o : List ℕ) → is_blank_or_breakz (slice_index o 0) ≡ true → BeginsToken m (hyphen ∷ o)
+dash_begins m o h = record {
+  stop = (refl, refl, refl);
+  nul = refl;
+  byte_order_mark = refl;
+  directive = and_false (m.col == 0);
+  marker = rw (dash_is_no_marker o h, and_false (m.col == 0)) refl;
+}
+
+deepens : (g : Frame) (n : Moment) → (d : Bool) × (deepen (core_of g n) ≡ core_of g (record n { deeper = d }))
+deepens g n = by_first (is_break (slice_index n.cursor.rest 0) || is_flow (slice_index n.cursor.rest 0)) refl
+  where
+    by_first : (b : Bool) → (is_break (slice_index n.cursor.rest 0) || is_flow (slice_index n.cursor.rest 0)) ≡ b
+        → (d : Bool) × (deepen (core_of g n) ≡ core_of g (record n { deeper = d }))
+    by_first true e = (nat_lt 0 g.indent || n.deeper, rw e refl)
+    by_first false e = (n.deeper, rw e refl)
+
+-- what stands behind `-` on its line is passed
+passes_dash : {colon : Bool} {indent : ℕ} (g : Frame) (n : Moment) (o : List ℕ) (h : IsBehindIndicator colon indent o)
+    (m : Marker)
+    → n.cursor ≡ cursor_at o m false
+    → (d : Bool) × (pass_dash (core_of g n)
+    ≡ Ok (core_of g (record n { cursor = cursor_at h.more (front_end h m) false; deeper = d })))
+unfolding pass_dash
+passes_dash g n o h m at =
+    let there = cursor_at h.more (front_end h m) false in
+    let sep = ap (separation Yes) at ∙ separates o h m false in
+    let d = deepens g (record n { cursor = there }) in
+    let untabbed : refuse_tab (found_blanks Yes o, core_of g (record n { cursor = there }))
+    ≡ Ok (deepen (core_of g (record n { cursor = there }))) = rw h.dash refl in (
+      d.0,
+      ap (λ r. (r >>= λ (x : SkipTabs × Cursor). Ok (x.0, with_cursor x.1 (core_of g n))) >>= refuse_tab) sep
+          ∙ untabbed ∙ ap Ok d.1,
+    )
+
+-- the frame behind a `-`, and what it puts before its token
+abbrev pub frame_behind : Bool → ℕ → Frame → Frame
+frame_behind further column f = if further then frame_at_column column f else f
+
+-- behind `-`
+abbrev behind_dash : List ℕ → Marker → Bool → ℕ → Moment
+behind_dash more n deeper ad =
+    record {
+      cursor = cursor_at more n false;
+      key = None;
+      allowed = true;
+      adjacent = ad;
+      deeper = deeper;
+      required = false;
+      comment = None;
+    }
+
+dash_enters : (f : Frame) (m : Marker) (o : List ℕ) (blank : Bool) (key : Option Candidate) (ad : ℕ)
+    (deeper further : Bool)
+    → nat_le f.indent m.col ≡ further
+    → (d : Bool) × (roll m.col (pass_on 1 (core_of f (moment_at m (hyphen ∷ o) blank key true ad deeper)))
+    ≡ core_of (frame_behind further m.col f)
+    (record (moment_at m (hyphen ∷ o) blank key true ad d) { cursor = cursor_at o (along m 1) false }))
+dash_enters f m o blank key ad deeper true e = (false, rw e refl)
+dash_enters f m o blank key ad deeper false e = (deeper, rw e refl)
+
+forgets : (g : Frame) (n : Moment) → n.required ≡ false
+    → remove_key (core_of g n) ≡ Ok (core_of g (record n { key = None; required = false }))
+unfolding remove_key
+forgets g n free = rw free refl
+
+dash_step : {colon : Bool} {indent : ℕ} (f : Frame) (m : Marker) (o : List ℕ) (h : IsBehindIndicator colon indent o)
+    (blank : Bool) (key : Option Candidate) (ad : ℕ) (deeper further : Bool) → nat_le f.indent m.col ≡ further → (i : ℕ)
+    → (d : Bool) × (step 45 (slice_index o 0) i (core_of f (moment_at m (hyphen ∷ o) blank key true ad deeper))
+    ≡ completed_step (behind_start further m tokens.BlockSequenceStart
+    (at_mark (front_end h (along m 1)) tokens.BlockEntry))
+    (core_of (frame_behind further m.col f) (behind_dash h.more (front_end h (along m 1)) d ad)))
+unfolding step block_entry_steps next_entry
+dash_step f m o h blank key ad deeper further e i =
+    let c = core_of f (moment_at m (45 ∷ o) blank key true ad deeper) in
+    let r = dash_enters f m o blank key ad deeper further e in
+    let n : Moment = record (moment_at m (45 ∷ o) blank key true ad r.0) { cursor = cursor_at o (along m 1) false } in
+    let g = frame_behind further m.col f in
+    let p = passes_dash g n o h (along m 1) refl in
+    let all = ap pass_dash r.1 ∙ p.1 in
+    let there : Moment = record n { cursor = cursor_at h.more (front_end h (along m 1)) false; deeper = p.0 } in
+    let gone = ap (λ q. q >>= remove_key) all ∙ forgets g there refl in
+    let last = record (core_of g (record there { key = None; required = false })) { key_allowed = true } in (
+      p.0,
+      rw h.first (ap (λ q. q >>= λ (d : Core). completed_step
+          (behind_start (is_further m.col c) m tokens.BlockSequenceStart (at_mark d.cursor.mark tokens.BlockEntry))
+          (record d { key_allowed = true })) gone
+          ∙ ap (λ (b : Bool). completed_step
+          (behind_start b m tokens.BlockSequenceStart (at_mark last.cursor.mark tokens.BlockEntry)) last) e),
+    )
+
+-- what is put into the queue
+dash_places : Bool → Marker → Marker → List Place → List Place
+dash_places true m n ps =
+    (ps ++ bare_place (empty_piece m tokens.BlockSequenceStart) ∷ []) ++ bare_place (empty_piece n tokens.BlockEntry)
+    ∷ []
+dash_places false m n ps = ps ++ bare_place (empty_piece n tokens.BlockEntry) ∷ []
+
+dash_performs : (further : Bool) (m n : Marker) (ps : List Place)
+    → perform (behind_start further m tokens.BlockSequenceStart (at_mark n tokens.BlockEntry)) (queue_of ps)
+    ≡ queue_of (dash_places further m n ps)
+unfolding dash_places
+dash_performs true m n ps = refl
+dash_performs false m n ps = refl
+
+-- the tokens of a `-`, before which a sequence may start
+abbrev pub dash_kinds : Bool → List Kind
+dash_kinds further = if further then tokens.BlockSequenceStart ∷ tokens.BlockEntry ∷ [] else tokens.BlockEntry ∷ []
+
+dash_are : (further : Bool) (m n : Marker) (ps : List Place) (ts : List Kind) → place_kinds ps ≡ ts
+    → place_kinds (dash_places further m n ps) ≡ ts ++ dash_kinds further
+unfolding dash_places
+dash_are true m n ps ts e =
+    let first = place_kinds_append ps (bare_place (empty_piece m tokens.BlockSequenceStart) ∷ [])
+    ∙ ap (λ (x : List Kind). x ++ tokens.BlockSequenceStart ∷ []) e in
+    place_kinds_append (ps ++ bare_place (empty_piece m tokens.BlockSequenceStart) ∷ [])
+    (bare_place (empty_piece n tokens.BlockEntry) ∷ []) ∙ ap (λ (x : List Kind). x ++ tokens.BlockEntry ∷ []) first
+    ∙ append_assoc ts (tokens.BlockSequenceStart ∷ []) (tokens.BlockEntry ∷ [])
+dash_are false m n ps ts e =
+    place_kinds_append ps (bare_place (empty_piece n tokens.BlockEntry) ∷ [])
+    ∙ ap (λ (x : List Kind). x ++ tokens.BlockEntry ∷ []) e
+
+-- Behind an indicator content has to reach no column behind the next.
+pub least_within : (further : Bool) (column : ℕ) (f : Frame) (n : Moment) → f.indent ≤ column + 1
+    → least_column (core_of (frame_behind further column f) n) ≤ suc column
+least_within further column f n far =
+    let g = frame_behind further column f in
+    within (least_column (core_of g n)) g.indent (suc column) (least_low g.indent n.deeper) (by_frame further)
+  where
+    within : (i j k : ℕ) → i ≤ j → j ≤ k → i ≤ k
+    within i j k h l = omega (arith, h, l)
+
+    by_frame : (further : Bool) → (frame_behind further column f).indent ≤ suc column
+    by_frame true = omega arith
+    by_frame false = omega (arith, far)
+
+-- A raw state behind a token, told at the next one.
+pub before_next : {limit : ℕ} {start : State} {ts : List Kind} (place : Position) (g : Frame) (n : Moment)
+    (qs : List Place) (m : Marker) (o : List ℕ) → LeadsTo limit (state_of g n qs) start → place_kinds qs ≡ ts
+    → n.key ≡ None → n.required ≡ false → n.comment ≡ None → n.adjacent ≤ m.index
+    → past 0 n.cursor.mark n.cursor.rest ≡ past 0 m o → IsUntabbed (least_column (core_of g n)) n.cursor
+    → (crosses n.cursor.rest || n.allowed) ≡ (is_compact place || crosses o) → IsPlaced place m
+    → Before limit start place g m o ts
+before_next {limit} {start} {ts} place g n qs m o leads are none free quiet low text clean allows placed =
+    let t = past 0 m o in
+    let l = lands g n qs t.0 t.1 free text clean (inl quiet) in
+    let on = past_low 0 m o in
+    record {
+      at = record {
+        blank = l.0;
+        key = left_key n.key t.0;
+        allowed = crosses n.cursor.rest || n.allowed;
+        adjacent = n.adjacent;
+        deeper = n.deeper;
+        places = qs;
+        follows = goes_alike (follows_itself leads) l.1 refl;
+        stop = past_stops m o;
+        near = left_again n.key t.0;
+        are = are;
+        low = omega (arith, low, on);
+      };
+      none = left_none n.key none t.0;
+      allows = λ e. allows ∙ e;
+      placed = placed;
+    }
+  where
+    left_none : (k : Option Candidate) → k ≡ None → (m : Marker) → left_key k m ≡ None
+    left_none k e m = rw e refl
+
+-- `-` is read, which begins a sequence or goes on with one
+pub reads_dash : {colon : Bool} {limit : ℕ} {start : State} {ts : List Kind} (f : Frame) (m : Marker) (o : List ℕ) (further : Bool)
+    → nat_le f.indent m.col ≡ further → f.indent ≤ m.col + 1 → IsBehindIndicator colon (suc m.col) o
+    → m.index + length (hyphen ∷ o) ≤ limit → (v : At limit start f m (hyphen ∷ o) ts) → v.allowed ≡ true
+    → Before limit start (yaml.BehindDash m.col) (frame_behind further m.col f) (along m 1) o
+    (ts ++ dash_kinds further)
+unfolding state_behind_content
+reads_dash {limit} {start} {ts} f m o further e far h count v allowed =
+    let i = next (queue_of v.places) in
+    let n = front_end h (along m 1) in
+    let deeper = deeper_at f v.deeper m in
+    let s = dash_step f m o h v.blank v.key v.adjacent deeper further e i in
+    let g = frame_behind further m.col f in
+    let t = behind_dash h.more n s.0 v.adjacent in
+    let made : state_behind_content 45 (slice_index o 0)
+    (state_of f (moment_at m (45 ∷ o) v.blank v.key true v.adjacent deeper) v.places)
+    ≡ Ok (state_of g t (dash_places further m n v.places)) =
+    ap (λ r. after_step r (queue_of v.places)) s.1
+    ∙ ap (λ (q : Queue). Ok (let r : State = record { core = core_of g t; queue = q } in r))
+    (dash_performs further m n v.places) in
+    let there : state_behind_content 45 (slice_index o 0)
+    (state_of f (moment_at m (45 ∷ o) v.blank v.key v.allowed v.adjacent deeper) v.places)
+    ≡ Ok (state_of g t (dash_places further m n v.places)) =
+    ap (λ (b : Bool). state_behind_content 45 (slice_index o 0)
+    (state_of f (moment_at m (45 ∷ o) v.blank v.key b v.adjacent deeper) v.places)) allowed ∙ made in
+    let size = ap length h.is ∙ length-append h.blanks (h.comment ++ h.more) in
+    let inner = length-append h.comment h.more in
+    let front = length-append h.blanks h.comment in
+    let low : n.index ≤ limit = omega (arith, count, size, inner, front) in
+    before_next (yaml.BehindDash m.col) g t (dash_places further m n v.places) (along m 1) o
+    (steps_on f g m (45 ∷ o) v (dash_begins m o h.first) far t (dash_places further m n v.places) there refl low)
+    (dash_are further m n v.places ts v.are) refl refl refl (later v.adjacent m.index v.low) (h.lands (along m 1))
+    (h.clean (least_column (core_of g t)) (least_within further m.col f t far) n) (or_true (crosses h.more)) refl
+  where
+    later : (a b : ℕ) → a ≤ b → a ≤ b + 1
+    later a b h = omega (arith, h)
+
+    or_true : (b : Bool) → (b || true) ≡ true
+    or_true true = refl
+    or_true false = refl

@@ -1,0 +1,280 @@
+-- A block scalar at block level is read from its header on (YAML 1.2.2, 8.1).
+use Rattle.std.proofs.Common.{◌≡◌, ℕ, zero, suc, ◌+◌, ◌^◌, ◌<◌, ◌≤◌, Bool, true, false, List, [], ◌∷◌, ◌++◌, length, slice_index, refl, sym, ap, ◌∙◌, arith, subst, Ok, encode_utf8_all, ◌⊎◌, inl, inr}
+use Rattle.std.specs.Prelude.{◌||◌, ◌==◌, not, Option, Some, None}
+use Rattle.std.proofs.lemmas.Bool.Decides.{nat_tests}
+use Rattle.std.proofs.lemmas.List.{length-append}
+use Rattle.saphyr_input.specs.Classes.{is_break}
+use Rattle.saphyr_values.specs.declared.block.BlockStyle.{BlockStyle}
+use Rattle.saphyr_values.specs.declared.block.BlockStyle.TheVariants as block_style
+use Rattle.saphyr_scalar.specs.declared.scalar.position.Marker.{Marker}
+use Rattle.saphyr_scalar.specs.declared.scalar.position.Span.{Span}
+use Rattle.saphyr_scalar.specs.Reading.BlockLines.{spaces}
+use Rattle.saphyr_scalar.specs.Steps.Block as blocks
+use Rattle.saphyr_scalar.specs.Views.Cursor.{Cursor, ◌>>=◌}
+use Rattle.saphyr_scanner.specs.Steps.Core.{Core, completed_step, from_to, least_column, save_key}
+use Rattle.saphyr_scanner.specs.Steps.Level.{Candidate}
+use Rattle.saphyr_scanner.specs.Steps.Fetch.{fetch, fetch_here, fetch_within, check_limit, state_behind_content, step}
+use Rattle.saphyr_scanner.specs.Grammar.Forest.{Style, Plain, SingleQuoted, DoubleQuoted, Literal, Folded}
+use Rattle.saphyr_scanner.specs.Steps.Passing.{with_cursor}
+use Rattle.saphyr_scanner.specs.Steps.Queue.{next, Place, bare_place}
+use Rattle.saphyr_scanner.specs.Steps.Scalar as scalar
+use Rattle.saphyr_scanner.specs.Steps.Scalar.{style_of}
+use Rattle.saphyr_scanner.specs.Views.Tokens.{Piece}
+use Rattle.saphyr_scanner.specs.Steps.State.{State, after_step, on_core}
+use Rattle.saphyr_scanner.specs.Grammar.Tokens as kind
+use Rattle.saphyr_scanner.specs.Grammar.Tokens.{Kind, scalar_token}
+use Rattle.saphyr_scanner.proofs.Leads.{LeadsTo}
+use Rattle.yaml_laws.specs.Grammar.BlockNodes.{IsBlockScalarText, IsStyled}
+use Rattle.yaml_laws.proofs.Flow.States.{moved, past}
+use Rattle.yaml_laws.proofs.Flow.GapSteps.{past_low}
+use Rattle.yaml_laws.proofs.Flow.Places.{moved_append, moved_count}
+use Rattle.yaml_laws.proofs.InBlock.States.{Frame, Moment, moment_at, core_of, state_of, tabbed, IsUntabbed, crosses, GoesOnAs, At, EndsDocument}
+use Rattle.yaml_laws.proofs.InBlock.Gaps.{past_stops}
+use Rattle.yaml_laws.proofs.InBlock.Skips.{skipped_past, spaces_skipped}
+use Rattle.yaml_laws.proofs.InBlock.Follows.{follows_itself, goes_alike, first_step, left_key, left_again, drops, lands, BeginsToken, begins_here, arrives_at, stays_open, deeper_at}
+use Rattle.yaml_laws.proofs.InBlock.Lines.{FitsOnLines, fits_back}
+use Rattle.yaml_laws.proofs.InBlock.Statements.{EndsNodeAt, Arrived}
+use Rattle.yaml_laws.proofs.InBlock.ScalarTexts.{ReadsBlocks, block_taken}
+use Rattle.saphyr_scalar.proofs.Given.{cursor_at}
+use Rattle.saphyr_input.proofs.Basics.Booleans.{and_false}
+use Rattle.std.proofs.Math.Bool.{or-true}
+use Rattle.std.proofs.lemmas.Bool.{le-leb}
+use Rattle.saphyr_scanner.proofs.Taken.States.{too_far}
+use Rattle.saphyr_scanner.proofs.Queues.{place_kinds, place_kinds_append, queue_of}
+use Rattle.saphyr_scanner.proofs.Levels.{saved}
+
+-- ## The step at a header
+
+-- the character that begins a header
+abbrev pub sign : BlockStyle → ℕ
+sign block_style.Literal = 124
+sign block_style.Folded = 62
+
+-- behind a block scalar
+abbrev behind_scalar : Cursor → Option Candidate → ℕ → Moment
+behind_scalar s key ad =
+    record { cursor = s; key = key; allowed = true; adjacent = ad; deeper = false; required = false; comment = None }
+
+no_key_column : (i col : ℕ) → i ≤ col → (i == col + 1) ≡ false
+no_key_column i col h = grind (arith, nat_tests)
+
+-- the core behind the saving of a key, with the header ahead
+pub saves : (f : Frame) (m : Marker) (y : List ℕ) (blank : Bool) (key : Option Candidate) (a : Bool) (ad : ℕ)
+    (deeper : Bool) (i : ℕ) → f.indent ≤ m.col
+    → save_key i (core_of f (moment_at m y blank key a ad deeper))
+    ≡ core_of f (moment_at m y blank (saved a i m key) a ad deeper)
+saves f m y blank key true ad deeper i low = rw (no_key_column f.indent m.col low, and_false (not deeper)) refl
+saves f m y blank key false ad deeper i low = refl
+
+reads_block : (f : Frame) (style : BlockStyle) (m : Marker) (y : List ℕ) (blank : Bool) (key : Option Candidate)
+    (ad : ℕ) (text : List ℕ) (span : Span) (left : Cursor)
+    → blocks.block_scalar style f.indent (cursor_at y m blank) ≡ Ok (text, span, left)
+    → scalar.read_block style (core_of f (moment_at m y blank key true ad false))
+    ≡ completed_step (from_to span.start span.end (kind.Scalar (style_of style) text) ∷ [])
+    (core_of f (behind_scalar left key ad))
+unfolding scalar.read_block
+reads_block f style m y blank key ad text span left e =
+    ap (λ r. r >>= λ (x : List ℕ × Span × Cursor). completed_step
+    (from_to x.1.start x.1.end (kind.Scalar (style_of style) x.0) ∷ [])
+    (with_cursor x.2 (core_of f (moment_at m y blank key true ad false)))) e
+
+block_step : (f : Frame) (style : BlockStyle) (m : Marker) (y : List ℕ) (blank : Bool) (key : Option Candidate)
+    (a : Bool) (ad : ℕ) (deeper : Bool) (text : List ℕ) (span : Span) (left : Cursor)
+    → f.indent ≤ m.col → blocks.block_scalar style f.indent (cursor_at y m blank) ≡ Ok (text, span, left) → (i : ℕ)
+    → scalar.block_scalar_steps style i (core_of f (moment_at m y blank key a ad deeper))
+    ≡ completed_step (from_to span.start span.end (kind.Scalar (style_of style) text) ∷ [])
+    (core_of f (behind_scalar left (saved a i m key) ad))
+unfolding scalar.block_scalar_steps
+block_step f style m y blank key a ad deeper text span left low e i =
+    ap (λ (c : Core). scalar.read_block style (record c { key_allowed = true; deeper = false }))
+    (saves f m y blank key a ad deeper i low)
+    ∙ reads_block f style m y blank (saved a i m key) ad text span left e
+
+style_at_sign : (f : Frame) (style : BlockStyle) (n : Moment) (second i : ℕ)
+    → step (sign style) second i (core_of f n) ≡ scalar.block_scalar_steps style i (core_of f n)
+unfolding step
+style_at_sign f block_style.Literal n second i = refl
+style_at_sign f block_style.Folded n second i = refl
+
+header_begins : (style : BlockStyle) (m : Marker) (o : List ℕ) → BeginsToken m (sign style ∷ o)
+header_begins block_style.Literal m o =
+    record {
+      stop = (refl, refl, refl);
+      nul = refl;
+      byte_order_mark = refl;
+      directive = and_false (m.col == 0);
+      marker = and_false (m.col == 0);
+    }
+header_begins block_style.Folded m o =
+    record {
+      stop = (refl, refl, refl);
+      nul = refl;
+      byte_order_mark = refl;
+      directive = and_false (m.col == 0);
+      marker = and_false (m.col == 0);
+    }
+
+sign_is_no_break : (style : BlockStyle) → is_break (sign style) ≡ false
+sign_is_no_break block_style.Literal = refl
+sign_is_no_break block_style.Folded = refl
+
+-- ## A key that is dropped behind a line
+
+-- A candidate, where there is one, begins on this line or before it.
+abbrev pub IsOnLineOrBefore : Option Candidate → Marker → Type 0
+IsOnLineOrBefore None m = Unit {0}
+IsOnLineOrBefore (Some k) m = k.mark.line ≤ m.line
+
+gone : (a : Bool) (i : ℕ) (m n : Marker) (key : Option Candidate) → IsOnLineOrBefore key m → m.line < n.line
+    → left_key (saved a i m key) n ≡ None
+gone true i m n key late h = rw (too_far (record { mark = m; place = i }) n h) refl
+gone false i m n None late h = refl
+gone false i m n (Some k) late h = rw (too_far k n (omega (arith, late, h))) refl
+
+-- From a state that goes on with this state the scanner comes to that, where a key that is too far is dropped.
+steps_dropping : {limit : ℕ} {start s : State} (g : Frame) (n : Moment) (qs : List Place) → GoesOnAs limit start s
+    → s.core.ended ≡ false → fetch s ≡ Ok (state_of g n qs) → n.required ≡ false
+    → n.cursor.mark.index ≤ limit
+    → LeadsTo limit (state_of g (record n { key = left_key n.key n.cursor.mark; required = false }) qs) start
+unfolding fetch_within
+steps_dropping {limit} g n qs f going is free low =
+    let fits : check_limit limit (state_of g n qs) ≡ Ok (state_of g n qs) =
+    rw (le-leb n.cursor.mark.index limit low) refl in
+    first_step f going (ap (λ r. r >>= check_limit limit) is ∙ fits)
+    (ap (λ r. on_core r (queue_of qs)) (drops g n free))
+
+-- ## A block scalar alone
+
+spaces_tabbed : (least : ℕ) (m : Marker) (blank : Bool) (n : ℕ) (y : List ℕ)
+    → tabbed least m blank false (spaces n ++ y) ≡ tabbed least (moved m (spaces n)) blank false y
+spaces_tabbed least m blank zero y = refl
+spaces_tabbed least m blank (suc n) y = spaces_tabbed least (moved m (32 ∷ [])) blank n y
+
+-- where the scanner stands behind a block scalar
+arrives_behind : {limit : ℕ} {start : State} (f : Frame) (left : Cursor) (key : Option Candidate) (ad : ℕ)
+    (qs : List Place) (ts : List Kind) (k : Marker) (o : List ℕ)
+    → LeadsTo limit (state_of f (behind_scalar left key ad) qs) start
+    → place_kinds qs ≡ ts → past 0 left.mark left.rest ≡ past 0 k o → ((least : ℕ) → IsUntabbed least left)
+    → ad ≤ (past 0 k o).0.index → (key ≡ None) ⊎ (o ≡ []) → Arrived limit start f k o ts
+arrives_behind f left key ad qs ts k o leads are text clean low ends =
+    let n = behind_scalar left key ad in
+    let t = past 0 k o in
+    let l = lands f n qs t.0 t.1 refl text (clean (least_column (core_of f n))) (inl refl) in
+    record {
+      at = record {
+        blank = l.0;
+        key = left_key key t.0;
+        allowed = crosses left.rest || true;
+        adjacent = ad;
+        deeper = false;
+        places = qs;
+        follows = goes_alike (follows_itself leads) l.1 refl;
+        stop = past_stops k o;
+        near = left_again key t.0;
+        are = are;
+        low = low;
+      };
+      next = by_end ends;
+    }
+  where
+    by_end : (key ≡ None) ⊎ (o ≡ []) → EndsDocument (past 0 k o).0 (past 0 k o).1
+        ⊎ ((left_key key (past 0 k o).0 ≡ None) × ((crosses left.rest || true) ≡ true))
+    by_end (inl none) =
+        inr (ap (λ (c : Option Candidate). left_key c (past 0 k o).0) none, or-true (crosses left.rest))
+    by_end (inr over) = inl (inl (ap (λ (y : List ℕ). (past 0 k y).1) over))
+
+-- from its header on
+pub reads_scalar : ReadsBlocks
+    → {limit : ℕ} {start : State} {ts : List Kind} (f : Frame) (style : BlockStyle) (value : List ℕ) (m : Marker)
+    (more t o : List ℕ) → limit < 2 ^ 63 → f.indent ≤ m.col
+    → t ≡ sign style ∷ more → IsBlockScalarText style value f.indent t o → FitsOnLines limit m t o
+    → EndsNodeAt f.indent (moved m t) o → (v : At limit start f m (t ++ o) ts) → IsOnLineOrBefore v.key m
+    → Arrived limit start f (moved m t) o (ts ++ kind.Scalar (style_of style) (encode_utf8_all value) ∷ [])
+unfolding fetch state_behind_content
+reads_scalar laws {limit} {start} {ts} f style value m more t o short low begins is fits behind v late =
+    let y = t ++ o in
+    let start_is : y ≡ sign style ∷ (more ++ o) = ap (λ (x : List ℕ). x ++ o) begins in
+    let b = block_taken laws style value f.indent (cursor_at y m v.blank) (sign style) more t o refl begins
+    (sign_is_no_break style) fits.clear.no_return is in
+    let i = next (queue_of v.places) in
+    let deeper = deeper_at f v.deeper m in
+    let n = behind_scalar b.left (saved v.allowed i m v.key) v.adjacent in
+    let piece : Piece = record { span = b.span; kind = kind.Scalar (style_of style) (encode_utf8_all value) } in
+    let qs = v.places ++ bare_place piece ∷ [] in
+    let c = core_of f (moment_at m y v.blank v.key v.allowed v.adjacent deeper) in
+    let far = column_far f.indent m.col low in
+    let begun : BeginsToken m y = subst (BeginsToken m) (sym start_is) (header_begins style m (more ++ o)) in
+    let stepped : step (slice_index y 0) (slice_index y 1) i c
+    ≡ completed_step (from_to b.span.start b.span.end piece.kind ∷ []) (core_of f n) =
+    ap (λ (x : List ℕ). step (slice_index x 0) (slice_index y 1) i c) start_is
+    ∙ style_at_sign f style (moment_at m y v.blank v.key v.allowed v.adjacent deeper) (slice_index y 1) i
+    ∙ block_step f style m y v.blank v.key v.allowed v.adjacent deeper (encode_utf8_all value) b.span b.left low b.read
+    i in
+    let made : state_behind_content (slice_index y 0) (slice_index y 1)
+    (state_of f (moment_at m y v.blank v.key v.allowed v.adjacent deeper) v.places) ≡ Ok (state_of f n qs) =
+    ap (λ r. after_step r (queue_of v.places)) stepped in
+    let there : fetch (state_of f (moment_at m y v.blank v.key v.allowed v.adjacent v.deeper) v.places)
+    ≡ Ok (state_of f n qs) =
+    ap (λ r. r >>= fetch_here) (arrives_at f m y v.blank v.key v.allowed v.adjacent v.deeper v.places v.stop v.near)
+    ∙ ap fetch_here (stays_open f false m y v.blank v.key v.allowed v.adjacent v.deeper v.places far)
+    ∙ begins_here f false m y v.blank v.key v.allowed v.adjacent v.deeper v.places begun far ∙ made in
+    let whole = moved_count m t o in
+    let inner = moved_count (moved m t) (spaces b.n) b.others in
+    let size = ap length b.behind in
+    let index = ap (λ (k : Marker). k.index) b.mark in
+    let below = fits.below in
+    let limited : b.left.mark.index ≤ limit = omega (arith, whole, inner, size, index, below) in
+    let leads = steps_dropping f n qs v.follows refl there refl limited in
+    let ends = key_ends i b.left.mark (b.later fits.lined (omega (arith, below, short))) in
+    let lands_at : past 0 b.left.mark b.left.rest ≡ past 0 (moved m t) o =
+    ap (λ (x : List ℕ). past 0 b.left.mark x) b.rest ∙ ap (λ (k : Marker). past 0 k b.others) b.mark
+    ∙ sym (skipped_past (moved m t) (spaces b.n) b.others (spaces_skipped b.n))
+    ∙ ap (past 0 (moved m t)) (sym b.behind) in
+    let on = past_low 0 (moved m t) o in
+    let lower = v.low in
+    let clean : (least : ℕ) → IsUntabbed least b.left =
+    λ least. ap (λ (x : List ℕ). tabbed least b.left.mark b.left.blank_so_far false x) b.rest
+    ∙ ap (λ (k : Marker). tabbed least k b.left.blank_so_far false b.others) b.mark
+    ∙ sym (spaces_tabbed least (moved m t) b.left.blank_so_far b.n b.others)
+    ∙ ap (tabbed least (moved m t) b.left.blank_so_far false) (sym b.behind)
+    ∙ behind.clean least (moved m t) b.left.blank_so_far in
+    let size_y = length-append t o in
+    arrives_behind f b.left (left_key (saved v.allowed i m v.key) b.left.mark) v.adjacent qs (ts ++ piece.kind ∷ []) (moved m t) o leads
+    (place_kinds_append v.places (bare_place piece ∷ []) ∙ ap (λ (x : List Kind). x ++ piece.kind ∷ []) v.are)
+    lands_at clean
+    (omega (arith, lower, on, whole, size_y)) ends
+  where
+    key_ends : (i : ℕ) (n : Marker) → (m.line < n.line) ⊎ (o ≡ [])
+        → (left_key (saved v.allowed i m v.key) n ≡ None) ⊎ (o ≡ [])
+    key_ends i n (inl later) = inl (gone v.allowed i m n v.key late later)
+    key_ends i n (inr over) = inr over
+
+    column_far : (i col : ℕ) → i ≤ col → i ≤ col + 1
+    column_far i col h = omega (arith, h)
+
+-- a block scalar of a style
+reads_styled : ReadsBlocks
+    → {limit : ℕ} {start : State} {ts : List Kind} (f : Frame) (style : Style) (value : List ℕ) (m : Marker)
+    (t o : List ℕ) → limit < 2 ^ 63 → f.indent ≤ m.col → IsStyled style value f.indent t o
+    → FitsOnLines limit m t o → EndsNodeAt f.indent (moved m t) o → (v : At limit start f m (t ++ o) ts)
+    → IsOnLineOrBefore v.key m
+    → Arrived limit start f (moved m t) o (ts ++ scalar_token style value ∷ [])
+reads_styled laws f Literal value m t o short low (more, h, e) fits behind v late =
+    reads_scalar laws f block_style.Literal value m more t o short low e h fits behind v late
+reads_styled laws f Folded value m t o short low (more, h, e) fits behind v late =
+    reads_scalar laws f block_style.Folded value m more t o short low e h fits behind v late
+reads_styled laws f Plain value m t o short low h fits behind v late = absurd h
+reads_styled laws f SingleQuoted value m t o short low h fits behind v late = absurd h
+reads_styled laws f DoubleQuoted value m t o short low h fits behind v late = absurd h
+
+-- the same behind a piece of the text
+pub reads_behind : ReadsBlocks
+    → {limit : ℕ} {start : State} {ts : List Kind} (f : Frame) (style : Style) (value : List ℕ) (m : Marker)
+    (w t o : List ℕ) → limit < 2 ^ 63 → f.indent ≤ (moved m w).col
+    → IsStyled style value f.indent t o → FitsOnLines limit m (w ++ t) o → EndsNodeAt f.indent (moved m (w ++ t)) o
+    → (v : At limit start f (moved m w) (t ++ o) ts) → IsOnLineOrBefore v.key (moved m w)
+    → Arrived limit start f (moved m (w ++ t)) o (ts ++ scalar_token style value ∷ [])
+reads_behind laws {limit} {start} {ts} f style value m w t o short low h fits behind v late =
+    subst (λ (k : Marker). Arrived limit start f k o (ts ++ scalar_token style value ∷ [])) (sym (moved_append m w t))
+    (reads_styled laws f style value (moved m w) t o short low h (fits_back m w t o fits)
+    (subst (λ (k : Marker). EndsNodeAt f.indent k o) (moved_append m w t) behind) v late)

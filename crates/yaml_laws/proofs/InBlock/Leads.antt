@@ -1,0 +1,153 @@
+-- What stands before a block collection is passed: its properties, or nothing, and the way to its first entry.
+use Rattle.std.proofs.Common.{◌≡◌, ℕ, ◌+◌, ◌≤◌, true, List, [], ◌∷◌, ◌++◌, refl, sym, ap, ◌∙◌, arith, subst, append_assoc, append-nil, inl, inr}
+use Rattle.std.specs.Prelude.{◌||◌, None}
+use Rattle.saphyr_scalar.specs.declared.scalar.position.Marker.{Marker}
+use Rattle.saphyr_scalar.specs.Reading.BlockLines.{spaces}
+use Rattle.scalar_laws.specs.Spelling.Spaces.{IsLineEnd, IsFiller}
+use Rattle.saphyr_scanner.specs.Steps.State.{State}
+use Rattle.saphyr_scanner.specs.Grammar.Tokens.{Kind}
+use Rattle.saphyr_scanner.specs.Grammar.TokenGrammar as grammar
+use Rattle.saphyr_scanner.specs.Grammar.Forest.{Properties, no_properties}
+use Rattle.yaml_laws.specs.Grammar.BlockNodes.{Position, BehindDash, BehindMark, BehindKey, BehindMarker, AtStart, indent_at, sequence_indent_at, IsLead}
+use Rattle.yaml_laws.proofs.Flow.States.{moved, past}
+use Rattle.yaml_laws.proofs.Flow.Places.{moved_append}
+use Rattle.yaml_laws.proofs.InBlock.Lines.{FitsOnLines, fits_so}
+use Rattle.yaml_laws.proofs.Flow.Inks.{BeginsInk}
+use Rattle.yaml_laws.proofs.InBlock.States.{Frame, crosses, is_compact, IsPlaced, At, Before}
+use Rattle.yaml_laws.proofs.InBlock.Skips.{IsSkipped, skipped_append, filler_skipped, spaces_skipped, line_end_skipped, line_end_crosses}
+use Rattle.yaml_laws.proofs.InBlock.Statements.{ReadsLeaves, IsNextLineText}
+use Rattle.yaml_laws.proofs.InBlock.Texts.{reaches, spaces_moved, indentation_col}
+use Rattle.std.proofs.Math.Bool.{or-true}
+
+-- What stands before a collection at a column was read, up to its first token.
+pub record LeadRead (limit : ℕ) (start : State) (p : Properties) (f : Frame) (m : Marker) (y : List ℕ)
+    (ts : List Kind) : Type 0 where
+  pub tokens : List Kind
+  pub are : grammar.YieldProperties p tokens
+  pub at : At limit start f m y (ts ++ tokens)
+  pub none : at.key ≡ None
+  pub allowed : at.allowed ≡ true
+
+-- where there are no properties, and what stands before is skipped
+plain_lead : {limit : ℕ} {start : State} {ts : List Kind} (p : Properties) (place : Position) (f : Frame) (m : Marker)
+    (w y : List ℕ) → p ≡ no_properties → IsSkipped w → BeginsInk y
+    → (is_compact place || crosses (w ++ y)) ≡ true → Before limit start place f m (w ++ y) ts
+    → LeadRead limit start p f (moved m w) y ts
+plain_lead {limit} {start} {ts} p place f m w y none h b opens v =
+    let there : past 0 m (w ++ y) ≡ (moved m w, y) = ap (λ (x : List ℕ). past 0 m (w ++ x)) b.is
+    ∙ reaches m w b.first b.others h b.ink
+    ∙ ap (λ (x : List ℕ). let q : Marker × List ℕ = (moved m w, x) in q) (sym b.is) in
+    let p_at = subst (λ (q : Marker × List ℕ). (u : At limit start f q.0 q.1 ts) × (u.key ≡ None)
+    × (u.allowed ≡ true)) there (v.at, v.none, v.allows opens) in
+    let all = subst (λ (us : List Kind). (u : At limit start f (moved m w) y us) × (u.key ≡ None)
+    × (u.allowed ≡ true)) (sym (append-nil ts)) p_at in
+    record {
+      tokens = [];
+      are = subst (λ (q : Properties). grammar.YieldProperties q []) (sym none) refl;
+      at = all.0;
+      none = all.1;
+      allowed = all.2;
+    }
+
+true_crosses : (place : Position) (t : List ℕ) → crosses t ≡ true → (is_compact place || crosses t) ≡ true
+true_crosses place t e = rw e (or-true (is_compact place))
+
+-- up to the first token of a collection, given its lead
+pub reads_lead : {limit : ℕ} → ReadsLeaves limit → (p : Properties) (place : Position) (least column : ℕ) (f : Frame)
+    → f.indent ≡ indent_at place → (m : Marker) (lead y : List ℕ) → IsLead p place least column lead → BeginsInk y
+    → FitsOnLines limit m lead y → (start : State) (ts : List Kind) → Before limit start place f m (lead ++ y) ts
+    → LeadRead limit start p f (moved m lead) y ts
+reads_lead {limit} leaves p place least column f same m lead y
+    (inl (front, end, filler, low, inl none, end_is, filler_is, e)) b fits start ts v =
+    let w = end ++ (filler ++ spaces column) in
+    let is : lead ≡ w = e ∙ ap (λ (x : List ℕ). x ++ w) none.1 in
+    let skipped = skipped_append end (filler ++ spaces column) (line_end_skipped end end_is)
+    (skipped_append filler (spaces column) (filler_skipped filler filler_is) (spaces_skipped column)) in
+    let over : crosses (w ++ y) ≡ true = ap crosses (append_assoc end (filler ++ spaces column) y)
+    ∙ line_end_crosses end ((filler ++ spaces column) ++ y) end_is in
+    subst (λ (x : List ℕ). LeadRead limit start p f (moved m x) y ts) (sym is)
+    (plain_lead p place f m w y none.0 skipped b (true_crosses place (w ++ y) over)
+    (subst (λ (x : List ℕ). Before limit start place f m (x ++ y) ts) is v))
+reads_lead {limit} leaves p place least column f same m lead y
+    (inl (front, end, filler, low, inr (white, t, spaced, properties, front_is), end_is, filler_is, e)) b fits start ts
+    v =
+    let w = end ++ (filler ++ spaces column) in
+    let is : lead ≡ white ++ (t ++ w) = e ∙ ap (λ (x : List ℕ). x ++ w) front_is ∙ append_assoc white t w in
+    let text : lead ++ y ≡ white ++ (t ++ (w ++ y)) = ap (λ (x : List ℕ). x ++ y) is ∙ append_assoc white (t ++ w) y
+    ∙ ap (λ (x : List ℕ). white ++ x) (append_assoc t w y) in
+    let next : IsNextLineText w = (end, filler, column, end_is, filler_is, refl) in
+    let r = leaves.properties p place f same m white t w y spaced properties next b
+    (fits_so m lead (white ++ (t ++ w)) y is fits) start ts
+    (subst (λ (x : List ℕ). Before limit start place f m x ts) text v) in
+    subst (λ (x : List ℕ). LeadRead limit start p f (moved m x) y ts) (sym is)
+    (record { tokens = r.tokens; are = r.are; at = r.at; none = r.none; allowed = r.allowed })
+reads_lead {limit} leaves p (BehindDash c) least column f same m lead y (inr (none, (n, some, col, e))) b fits start ts
+    v =
+    subst (λ (x : List ℕ). LeadRead limit start p f (moved m x) y ts) (sym e)
+    (plain_lead p (BehindDash c) f m (spaces n) y none (spaces_skipped n) b refl
+    (subst (λ (x : List ℕ). Before limit start (BehindDash c) f m (x ++ y) ts) e v))
+reads_lead {limit} leaves p (BehindMark c) least column f same m lead y (inr (none, (n, some, col, e))) b fits start ts
+    v =
+    subst (λ (x : List ℕ). LeadRead limit start p f (moved m x) y ts) (sym e)
+    (plain_lead p (BehindMark c) f m (spaces n) y none (spaces_skipped n) b refl
+    (subst (λ (x : List ℕ). Before limit start (BehindMark c) f m (x ++ y) ts) e v))
+reads_lead leaves p (BehindKey c) least column f same m lead y (inr (none, h)) b fits start ts v = absurd h
+reads_lead leaves p BehindMarker least column f same m lead y (inr (none, h)) b fits start ts v = absurd h
+reads_lead {limit} leaves p AtStart least column f same m lead y (inr (none, e)) b fits start ts v =
+    subst (λ (x : List ℕ). LeadRead limit start p f (moved m x) y ts) (sym e)
+    (plain_lead p AtStart f m (spaces column) y none (spaces_skipped column) b refl
+    (subst (λ (x : List ℕ). Before limit start AtStart f m (x ++ y) ts) e v))
+
+-- ## Columns
+
+next_col : (m : Marker) (front end filler : List ℕ) (column : ℕ) → IsLineEnd end → IsFiller filler
+    → (moved m (front ++ (end ++ (filler ++ spaces column)))).col ≡ column
+next_col m front end filler column end_is filler_is =
+    let text = moved_append m front (end ++ (filler ++ spaces column))
+    ∙ moved_append (moved m front) end (filler ++ spaces column) in
+    let line : (moved (moved m front) end).col ≡ 0 = at_line (moved m front) end end_is in
+    ap (λ (n : Marker). n.col) text
+    ∙ indentation_col (moved (moved m front) end) column (filler ++ spaces column) (filler, filler_is, refl) line
+  where
+    at_line : (m : Marker) (end : List ℕ) → IsLineEnd end → (moved m end).col ≡ 0
+    at_line m end (rest, h, is) =
+        ap (λ (x : List ℕ). (moved m x).col) is ∙ ap (λ (n : Marker). n.col) (moved_append m rest (10 ∷ []))
+
+spaced_col : (m : Marker) (n c : ℕ) → m.col ≡ c → (moved m (spaces n)).col ≡ c + n
+spaced_col m n c e = ap (λ (x : Marker). x.col) (spaces_moved m n) ∙ ap (λ (i : ℕ). i + n) e
+
+-- the first token of a collection stands at its column
+pub lead_col : (p : Properties) (place : Position) (least column : ℕ) (m : Marker) (lead : List ℕ) → IsPlaced place m
+    → IsLead p place least column lead → (moved m lead).col ≡ column
+lead_col p place least column m lead at (inl (front, end, filler, low, front_is, end_is, filler_is, e)) =
+    ap (λ (x : List ℕ). (moved m x).col) e ∙ next_col m front end filler column end_is filler_is
+lead_col p (BehindDash c) least column m lead at (inr (none, (n, some, col, e))) =
+    ap (λ (x : List ℕ). (moved m x).col) e ∙ spaced_col m n (c + 1) at ∙ sym col
+lead_col p (BehindMark c) least column m lead at (inr (none, (n, some, col, e))) =
+    ap (λ (x : List ℕ). (moved m x).col) e ∙ spaced_col m n (c + 1) at ∙ sym col
+lead_col p (BehindKey c) least column m lead at (inr (none, h)) = absurd h
+lead_col p BehindMarker least column m lead at (inr (none, h)) = absurd h
+lead_col p AtStart least column m lead at (inr (none, e)) =
+    ap (λ (x : List ℕ). (moved m x).col) e ∙ spaced_col m column 0 at ∙ zero_plus column
+  where
+    zero_plus : (n : ℕ) → 0 + n ≡ n
+    zero_plus n = omega arith
+
+-- a mapping stands to the right of what encloses it
+pub mapping_least : (p : Properties) (place : Position) (column : ℕ) (lead : List ℕ)
+    → IsLead p place (indent_at place) column lead → indent_at place ≤ column
+mapping_least p place column lead (inl h) = h.3
+mapping_least p (BehindDash c) column lead (inr (none, (n, some, col, e))) = omega (arith, some, col)
+mapping_least p (BehindMark c) column lead (inr (none, (n, some, col, e))) = omega (arith, some, col)
+mapping_least p (BehindKey c) column lead (inr (none, h)) = absurd h
+mapping_least p BehindMarker column lead (inr (none, h)) = absurd h
+mapping_least p AtStart column lead (inr (none, e)) = omega arith
+
+pub sequence_least : (p : Properties) (place : Position) (column : ℕ) (lead : List ℕ)
+    → IsLead p place (sequence_indent_at place) column lead → sequence_indent_at place ≤ column
+sequence_least p place column lead (inl h) = h.3
+sequence_least p (BehindDash c) column lead (inr (none, (n, some, col, e))) = omega (arith, some, col)
+sequence_least p (BehindMark c) column lead (inr (none, (n, some, col, e))) = omega (arith, some, col)
+sequence_least p (BehindKey c) column lead (inr (none, h)) = absurd h
+sequence_least p BehindMarker column lead (inr (none, h)) = absurd h
+sequence_least p AtStart column lead (inr (none, e)) = omega arith

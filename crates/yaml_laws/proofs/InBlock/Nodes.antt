@@ -1,0 +1,320 @@
+-- All nodes at block level are read, given the leaves (YAML 1.2.2, chapter 8).
+use Rattle.std.proofs.Common.{◌≡◌, ℕ, suc, ◌+◌, ◌<◌, ◌≤◌, Bool, true, false, List, [], ◌∷◌, ◌++◌, refl, sym, ap, ◌∙◌, arith, subst, append_assoc, append-nil, ◌⊎◌, inl, inr}
+use Rattle.std.specs.Prelude.{◌||◌, nat_le, None}
+use Rattle.std.proofs.lemmas.Bool.Decides.{nat_tests}
+use Rattle.saphyr_scalar.specs.declared.scalar.position.Marker.{Marker}
+use Rattle.scalar_laws.specs.Spelling.Spaces.{IsEol}
+use Rattle.saphyr_scanner.specs.Steps.State.{State}
+use Rattle.saphyr_scanner.specs.Grammar.Tokens as tokens
+use Rattle.saphyr_scanner.specs.Grammar.Tokens.{Kind}
+use Rattle.saphyr_scanner.specs.Grammar.TokenGrammar as grammar
+use Rattle.saphyr_scanner.specs.Grammar.Forest.{Properties, Node, Alias, Scalar, Seq, Map, Nodes, NoNode, MoreNodes, Pairs, NoPair, MorePairs}
+use Rattle.saphyr_scanner.specs.Limits.{most_open}
+use Rattle.yaml_laws.specs.Grammar.BlockNodes.{Position, BehindDash, BehindMark, BehindKey, BehindMarker, AtStart, indent_at, sequence_indent_at, IsLead, IsLeftOut, IsFlowInBlock, IsBlockNode, AreEntries, ArePairs}
+use Rattle.yaml_laws.proofs.Flow.States.{moved, past}
+use Rattle.yaml_laws.proofs.Flow.Places.{moved_append}
+use Rattle.yaml_laws.proofs.InBlock.Lines.{FitsOnLines, fits_front, fits_back, fits_so}
+use Rattle.yaml_laws.proofs.Flow.Fillers.{rest_past}
+use Rattle.yaml_laws.proofs.InBlock.States.{Frame, is_compact, EndsDocument, At, Before}
+use Rattle.yaml_laws.proofs.InBlock.Closing.{closes_block}
+use Rattle.yaml_laws.proofs.InBlock.Skips.{line_end_skipped, line_end_crosses, skipped_past}
+use Rattle.yaml_laws.proofs.InBlock.Entries.{frame_behind}
+use Rattle.yaml_laws.proofs.InBlock.Statements.{context_at, EndsNodeAt, ArrivedAt, Arrived, NodeRead, ReadsAt, ReadsLeaves, place_allows_block}
+use Rattle.yaml_laws.proofs.InBlock.Texts.{behind_wider}
+use Rattle.yaml_laws.proofs.InBlock.BehindIndicators.{entries_ink, pairs_ink, further_ink}
+use Rattle.yaml_laws.proofs.InBlock.Leads.{reads_lead, lead_col, mapping_least, sequence_least}
+use Rattle.yaml_laws.proofs.InBlock.Sequences.{ReadsOthers, no_others, more_others, reads_entries}
+use Rattle.yaml_laws.proofs.InBlock.Mappings.{ReadsOtherPairs, no_other_pairs, more_pairs, reads_pairs}
+use Rattle.std.proofs.Math.Bool.{or-true}
+use Rattle.std.proofs.lemmas.Bool.{leb-true}
+
+-- ## A node that is left out
+
+eol_past : (m : Marker) (t o : List ℕ) → IsEol t o → past 0 m (t ++ o) ≡ past 0 (moved m t) o
+eol_past m t o (inl h) = skipped_past m t o (line_end_skipped t h)
+eol_past m t o (inr h) =
+    subst (λ (x : List ℕ). past 0 m (t ++ x) ≡ past 0 (moved m t) x) (sym h.1)
+    (rest_past 0 m t [] h.0 (inl refl) (omega arith))
+
+reads_left_out : (limit : ℕ) (node : Node) → ReadsAt limit node (IsLeftOut node)
+reads_left_out limit node place f same m t o (is, out, eol) fits behind start ts v =
+    record {
+      tokens = [];
+      are = inl (out, is, refl);
+      arrived = subst (λ (us : List Kind). Arrived limit start f (moved m t) o us) (sym (append-nil ts))
+          (subst (ArrivedAt limit start f ts) (eol_past m t o eol) (record { at = v.at; next = by_eol eol }));
+    }
+  where
+    nothing_left : (o ≡ []) → (past 0 m (t ++ o)).1 ≡ []
+    nothing_left e = ap (λ (q : Marker × List ℕ). q.1) (eol_past m t o eol)
+        ∙ ap (λ (x : List ℕ). (past 0 (moved m t) x).1) e
+
+    by_eol : IsEol t o → EndsDocument (past 0 m (t ++ o)).0 (past 0 m (t ++ o)).1
+        ⊎ ((v.at.key ≡ None) × (v.at.allowed ≡ true))
+    by_eol (inl h) = inr (
+      v.none,
+      v.allows
+          (ap (λ (b : Bool). is_compact place || b) (line_end_crosses t o h) ∙ or-true (is_compact place)),
+    )
+    by_eol (inr h) = inl (inl (nothing_left h.1))
+
+-- ## Block sequences
+
+indent_near : (place : Position) → indent_at place ≤ suc (sequence_indent_at place)
+indent_near (BehindDash c) = omega arith
+indent_near (BehindMark c) = omega arith
+indent_near (BehindKey c) = omega arith
+indent_near BehindMarker = omega arith
+indent_near AtStart = omega arith
+
+-- a sequence at the column of what encloses it stands in a mapping
+in_mapping : (place : Position) (i col : ℕ) → i ≡ indent_at place → sequence_indent_at place ≤ col
+    → nat_le i col ≡ false → grammar.IsInBlockMapping (context_at place)
+in_mapping (BehindMark c) i col same low e = tt
+in_mapping (BehindKey c) i col same low e = tt
+in_mapping (BehindDash c) i col same low e =
+    absurd (let k = enough i (suc c) col same low in let no : true ≡ false = sym k ∙ e in cc)
+  where
+    enough : (i j col : ℕ) → i ≡ j → j ≤ col → nat_le i col ≡ true
+    enough i j col e h = grind (arith, nat_tests)
+in_mapping BehindMarker i col same low e =
+    absurd (let k = enough i 0 col same low in let no : true ≡ false = sym k ∙ e in cc)
+  where
+    enough : (i j col : ℕ) → i ≡ j → j ≤ col → nat_le i col ≡ true
+    enough i j col e h = grind (arith, nat_tests)
+in_mapping AtStart i col same low e =
+    absurd (let k = enough i 0 col same low in let no : true ≡ false = sym k ∙ e in cc)
+  where
+    enough : (i j col : ℕ) → i ≡ j → j ≤ col → nat_le i col ≡ true
+    enough i j col e h = grind (arith, nat_tests)
+
+new_list : (ts ps us : List Kind) (k : Kind)
+    → (((ts ++ ps) ++ k ∷ []) ++ us) ++ tokens.BlockEnd ∷ [] ≡ ts ++ (ps ++ (k ∷ (us ++ tokens.BlockEnd ∷ [])))
+new_list ts ps us k = simp append_assoc
+
+old_list : (ts ps us : List Kind) → ((ts ++ ps) ++ []) ++ us ≡ ts ++ (ps ++ us)
+old_list ts ps us = simp (append_assoc, append-nil)
+
+-- a collection that began at a column ends
+collection_closes : {limit : ℕ} {start : State} {ts : List Kind} (f : Frame) (column : ℕ) (q : Marker × List ℕ)
+    → f.indent ≤ column
+    → EndsDocument q.0 q.1 ⊎ (q.0.col < f.indent) → ArrivedAt limit start (frame_behind true column f) ts q
+    → ArrivedAt limit start f (ts ++ tokens.BlockEnd ∷ []) q
+collection_closes {limit} {start} {ts} f column q low left v =
+    let c = closes_block f column q.0 q.1 low (by_left left) v.at in
+    record { at = c.0; next = by_next c v.next }
+  where
+    further : (a i c : ℕ) → i ≤ c → a < i → a < c
+    further a i c h k = omega (arith, h, k)
+
+    by_left : EndsDocument q.0 q.1 ⊎ (q.0.col < f.indent) → EndsDocument q.0 q.1 ⊎ (q.0.col < column)
+    by_left (inl h) = inl h
+    by_left (inr h) = inr (further q.0.col f.indent column low h)
+
+    by_next : (c : (w : At limit start f q.0 q.1 (ts ++ tokens.BlockEnd ∷ [])) × (w.key ≡ v.at.key)
+        × (w.allowed ≡ v.at.allowed)) → EndsDocument q.0 q.1 ⊎ ((v.at.key ≡ None) × (v.at.allowed ≡ true))
+        → EndsDocument q.0 q.1 ⊎ ((c.0.key ≡ None) × (c.0.allowed ≡ true))
+    by_next c (inl h) = inl h
+    by_next c (inr h) = inr (c.1 ∙ h.0, c.2 ∙ h.1)
+
+-- how a block sequence stands at a place
+abbrev IsBlockSequence : Properties → Nodes → Position → List ℕ → List ℕ → Type 0
+IsBlockSequence p nodes place t o =
+    (m : ℕ) × (lead entries : List ℕ) × IsLead p place (sequence_indent_at place) m lead
+    × AreEntries most_open nodes m entries o × (t ≡ lead ++ entries)
+
+reads_sequence : {limit : ℕ} → ReadsLeaves limit → (p : Properties) (node : Node) (nodes : Nodes)
+    → ReadsAt limit node (IsBlockNode most_open node) → ReadsOthers limit nodes
+    → ReadsAt limit (Seq p (MoreNodes node nodes)) (IsBlockSequence p (MoreNodes node nodes))
+reads_sequence {limit} leaves p node nodes reads more place f same m t o (column, lead, entries, lead_is, h, e) fits
+    behind start ts v = by_column (nat_le f.indent n.col) refl
+  where
+    n : Marker
+    n = moved m lead
+
+    col : n.col ≡ column
+    col = lead_col p place (sequence_indent_at place) column m lead v.placed lead_is
+
+    text : t ++ o ≡ lead ++ (entries ++ o)
+    text = ap (λ (x : List ℕ). x ++ o) e ∙ append_assoc lead entries o
+
+    whole : FitsOnLines limit m (lead ++ entries) o
+    whole = fits_so m t (lead ++ entries) o e fits
+
+    end : moved m t ≡ moved n entries
+    end = ap (moved m) e ∙ moved_append m lead entries
+
+    low : sequence_indent_at place ≤ n.col
+    low = subst (λ (c : ℕ). sequence_indent_at place ≤ c) (sym col) (sequence_least p place column lead lead_is)
+
+    far : f.indent ≤ n.col + 1
+    far = near f.indent (indent_at place) (sequence_indent_at place) n.col same (indent_near place) low
+      where
+        near : (i a s c : ℕ) → i ≡ a → a ≤ suc s → s ≤ c → i ≤ c + 1
+        near i a s c e h k = omega (arith, e, h, k)
+
+    wide : f.indent ≤ suc n.col
+    wide = by_suc f.indent n.col far
+      where
+        by_suc : (i c : ℕ) → i ≤ c + 1 → i ≤ suc c
+        by_suc i c h = omega (arith, h)
+
+    behind_o : EndsNodeAt f.indent (moved n entries) o
+    behind_o = subst (λ (x : Marker). EndsNodeAt f.indent x o) end behind
+
+    by_column : (further : Bool) → nat_le f.indent n.col ≡ further
+        → NodeRead limit start (Seq p (MoreNodes node nodes)) place f (moved m t) o ts
+    by_column true k =
+        let l = reads_lead leaves p place (sequence_indent_at place) column f same m lead (entries ++ o) lead_is
+        (further_ink entries o (entries_ink (MoreNodes node nodes) column entries o h))
+        (fits_front m lead entries o whole) start ts
+        (subst (λ (x : List ℕ). Before limit start place f m x ts) text v) in
+        let r = reads_entries leaves node nodes reads more f n true k far entries o
+        (subst (λ (c : ℕ). AreEntries most_open (MoreNodes node nodes) c entries o) (sym col) h)
+        (fits_back m lead entries o whole)
+        (behind_wider f.indent (suc n.col) (moved n entries) o wide behind_o) start (ts ++ l.tokens) l.at l.allowed in
+        let c = collection_closes f n.col (past 0 (moved n entries) o) (leb-true f.indent n.col k) behind_o.left
+        r.arrived in
+        record {
+          tokens = l.tokens ++ (tokens.BlockSequenceStart ∷ (r.tokens ++ tokens.BlockEnd ∷ []));
+          are = inr (
+            l.tokens,
+            tokens.BlockSequenceStart
+                ∷ (r.tokens ++ tokens.BlockEnd ∷ []),
+            l.are,
+            inr (inl (place_allows_block place, (r.tokens, r.are, refl))),
+            refl,
+          );
+          arrived = subst (λ (x : Marker). Arrived limit start f x o
+              (ts ++ (l.tokens ++ (tokens.BlockSequenceStart ∷ (r.tokens ++ tokens.BlockEnd ∷ []))))) (sym end)
+              (subst (Arrived limit start f (moved n entries) o)
+              (new_list ts l.tokens r.tokens tokens.BlockSequenceStart) c);
+        }
+    by_column false k =
+        let l = reads_lead leaves p place (sequence_indent_at place) column f same m lead (entries ++ o) lead_is
+        (further_ink entries o (entries_ink (MoreNodes node nodes) column entries o h))
+        (fits_front m lead entries o whole) start ts
+        (subst (λ (x : List ℕ). Before limit start place f m x ts) text v) in
+        let r = reads_entries leaves node nodes reads more f n false k far entries o
+        (subst (λ (c : ℕ). AreEntries most_open (MoreNodes node nodes) c entries o) (sym col) h)
+        (fits_back m lead entries o whole)
+        (behind_wider f.indent (suc n.col) (moved n entries) o wide behind_o) start (ts ++ l.tokens) l.at l.allowed in
+        record {
+          tokens = l.tokens ++ r.tokens;
+          are = inr (
+            l.tokens,
+            r.tokens,
+            l.are,
+            inr (inr (in_mapping place f.indent n.col same low k, tt, r.are)),
+            refl,
+          );
+          arrived = subst (λ (x : Marker). Arrived limit start f x o (ts ++ (l.tokens ++ r.tokens))) (sym end)
+              (subst (Arrived limit start f (moved n entries) o) (old_list ts l.tokens r.tokens) r.arrived);
+        }
+
+-- ## Block mappings
+
+abbrev IsBlockMapping : Properties → Pairs → Position → List ℕ → List ℕ → Type 0
+IsBlockMapping p pairs place t o =
+    (m : ℕ) × (lead entries : List ℕ) × IsLead p place (indent_at place) m lead × ArePairs most_open pairs m entries o
+    × (t ≡ lead ++ entries)
+
+reads_mapping : {limit : ℕ} → ReadsLeaves limit → (p : Properties) (key value : Node) (pairs : Pairs)
+    → ReadsAt limit key (IsBlockNode most_open key) → ReadsAt limit value (IsBlockNode most_open value)
+    → ReadsOtherPairs limit pairs
+    → ReadsAt limit (Map p (MorePairs key value pairs)) (IsBlockMapping p (MorePairs key value pairs))
+reads_mapping {limit} leaves p key value pairs K V more place f same m t o (column, lead, entries, lead_is, h, e) fits
+    behind start ts v =
+    let n = moved m lead in
+    let col = lead_col p place (indent_at place) column m lead v.placed lead_is in
+    let text : t ++ o ≡ lead ++ (entries ++ o) = ap (λ (x : List ℕ). x ++ o) e ∙ append_assoc lead entries o in
+    let whole = fits_so m t (lead ++ entries) o e fits in
+    let end = ap (moved m) e ∙ moved_append m lead entries in
+    let low : f.indent ≤ n.col = subst (λ (c : ℕ). f.indent ≤ c) (sym col)
+    (subst (λ (i : ℕ). i ≤ column) (sym same) (mapping_least p place column lead lead_is)) in
+    let behind_o = subst (λ (x : Marker). EndsNodeAt f.indent x o) end behind in
+    let l = reads_lead leaves p place (indent_at place) column f same m lead (entries ++ o) lead_is
+    (further_ink entries o (pairs_ink leaves (MorePairs key value pairs) column entries o h))
+    (fits_front m lead entries o whole) start ts
+    (subst (λ (x : List ℕ). Before limit start place f m x ts) text v) in
+    let r = reads_pairs leaves key value pairs K V more f n true (yes f.indent n.col low) (one f.indent n.col low)
+    entries o (subst (λ (c : ℕ). ArePairs most_open (MorePairs key value pairs) c entries o) (sym col) h)
+    (fits_back m lead entries o whole)
+    (behind_wider f.indent (suc n.col) (moved n entries) o (two f.indent n.col low) behind_o) start (ts ++ l.tokens)
+    l.at l.none l.allowed in
+    let c = collection_closes f n.col (past 0 (moved n entries) o) low behind_o.left r.arrived in
+    record {
+      tokens = l.tokens ++ (tokens.BlockMappingStart ∷ (r.tokens ++ tokens.BlockEnd ∷ []));
+      are = inr (
+        l.tokens,
+        tokens.BlockMappingStart
+            ∷ (r.tokens ++ tokens.BlockEnd ∷ []),
+        l.are,
+        inr (place_allows_block place, (r.tokens, r.are, refl)),
+        refl,
+      );
+      arrived = subst (λ (x : Marker). Arrived limit start f x o
+          (ts ++ (l.tokens ++ (tokens.BlockMappingStart ∷ (r.tokens ++ tokens.BlockEnd ∷ []))))) (sym end)
+          (subst (Arrived limit start f (moved n entries) o) (new_list ts l.tokens r.tokens tokens.BlockMappingStart)
+          c);
+    }
+  where
+    yes : (i c : ℕ) → i ≤ c → nat_le i c ≡ true
+    yes i c h = grind (arith, nat_tests)
+
+    one : (i c : ℕ) → i ≤ c → i ≤ c + 1
+    one i c h = omega (arith, h)
+
+    two : (i c : ℕ) → i ≤ c → i ≤ suc c
+    two i c h = omega (arith, h)
+
+-- ## All nodes
+
+reads_either : (limit : ℕ) (node : Node) (A B : Position → List ℕ → List ℕ → Type 0) → ReadsAt limit node A
+    → ReadsAt limit node B → ReadsAt limit node (λ place t o. A place t o ⊎ B place t o)
+reads_either limit node A B a b place f same m t o (inl h) fits behind start ts v =
+    a place f same m t o h fits behind start ts v
+reads_either limit node A B a b place f same m t o (inr h) fits behind start ts v =
+    b place f same m t o h fits behind start ts v
+
+no_sequence : (limit : ℕ) (p : Properties) → ReadsAt limit (Seq p NoNode) (IsBlockSequence p NoNode)
+no_sequence limit p place f same m t o (column, lead, entries, lead_is, h, e) fits behind start ts v = absurd h
+
+no_mapping : (limit : ℕ) (p : Properties) → ReadsAt limit (Map p NoPair) (IsBlockMapping p NoPair)
+no_mapping limit p place f same m t o (column, lead, entries, lead_is, h, e) fits behind start ts v = absurd h
+
+mutual
+  pub reads_node : {limit : ℕ} → ReadsLeaves limit → (node : Node) → ReadsAt limit node (IsBlockNode most_open node)
+  reads_node leaves (Alias name) = leaves.flow (Alias name)
+  reads_node {limit} leaves (Scalar p style value) =
+      reads_either limit (Scalar p style value) (IsLeftOut (Scalar p style value)) _
+      (reads_left_out limit (Scalar p style value))
+      (reads_either limit (Scalar p style value) (IsFlowInBlock most_open (Scalar p style value)) _
+      (leaves.flow (Scalar p style value)) (leaves.block_scalar p style value))
+  reads_node {limit} leaves (Seq p NoNode) =
+      reads_either limit (Seq p NoNode) (IsFlowInBlock most_open (Seq p NoNode)) (IsBlockSequence p NoNode)
+      (leaves.flow (Seq p NoNode)) (no_sequence limit p)
+  reads_node {limit} leaves (Seq p (MoreNodes node nodes)) =
+      reads_either limit (Seq p (MoreNodes node nodes)) (IsFlowInBlock most_open (Seq p (MoreNodes node nodes)))
+      (IsBlockSequence p (MoreNodes node nodes)) (leaves.flow (Seq p (MoreNodes node nodes)))
+      (reads_sequence leaves p node nodes (reads_node leaves node) (reads_others leaves nodes))
+  reads_node {limit} leaves (Map p NoPair) =
+      reads_either limit (Map p NoPair) (IsFlowInBlock most_open (Map p NoPair)) (IsBlockMapping p NoPair)
+      (leaves.flow (Map p NoPair)) (no_mapping limit p)
+  reads_node {limit} leaves (Map p (MorePairs key value pairs)) =
+      reads_either limit (Map p (MorePairs key value pairs))
+      (IsFlowInBlock most_open (Map p (MorePairs key value pairs)))
+      (IsBlockMapping p (MorePairs key value pairs)) (leaves.flow (Map p (MorePairs key value pairs)))
+      (reads_mapping leaves p key value pairs (reads_node leaves key) (reads_node leaves value)
+      (reads_other_pairs leaves pairs))
+
+  reads_others : {limit : ℕ} → ReadsLeaves limit → (nodes : Nodes) → ReadsOthers limit nodes
+  reads_others leaves NoNode = no_others
+  reads_others leaves (MoreNodes node nodes) =
+      more_others leaves node nodes (reads_node leaves node) (reads_others leaves nodes)
+
+  reads_other_pairs : {limit : ℕ} → ReadsLeaves limit → (pairs : Pairs) → ReadsOtherPairs limit pairs
+  reads_other_pairs leaves NoPair = no_other_pairs
+  reads_other_pairs leaves (MorePairs key value pairs) =
+      more_pairs leaves key value pairs (reads_node leaves key) (reads_node leaves value)
+      (reads_other_pairs leaves pairs)

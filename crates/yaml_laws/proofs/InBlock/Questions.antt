@@ -1,0 +1,211 @@
+-- The `?` of a block mapping is read (YAML 1.2.2, 8.2.2).
+use Rattle.std.proofs.Common.{◌≡◌, ℕ, suc, ◌+◌, ◌≤◌, Bool, true, false, List, [], ◌∷◌, ◌++◌, length, slice_index, refl, sym, ap, ◌∙◌, arith, append_assoc, IsTrue, Ok, ◌⊎◌, inl, inr}
+use Rattle.std.specs.Prelude.{◌||◌, ◌==◌, nat_le, Option, None, if◌then◌else◌}
+use Rattle.std.proofs.lemmas.Bool.Decides.{nat_tests}
+use Rattle.saphyr_input.specs.Classes.{is_blank, is_blank_or_breakz, line_feed, tab}
+use Rattle.saphyr_scalar.specs.declared.scalar.position.Marker.{Marker}
+use Rattle.saphyr_scalar.specs.Views.Cursor.{◌>>=◌, along}
+use Rattle.saphyr_scanner.specs.declared.engine.level.Context.TheVariants as context
+use Rattle.saphyr_scanner.specs.Steps.Core.{least_column, Core, completed_step, from_to, up_to_here, perform, is_further, roll, remove_key, with_context, in_block}
+use Rattle.saphyr_scanner.specs.Steps.Level.{Candidate, behind_question}
+use Rattle.saphyr_scanner.specs.Steps.Block as block
+use Rattle.saphyr_scanner.specs.Steps.Block.{behind_start}
+use Rattle.saphyr_scanner.specs.Steps.Gap as gap
+use Rattle.saphyr_scanner.specs.Steps.Passing.{with_cursor}
+use Rattle.saphyr_scanner.specs.Steps.Queue.{next, Place, Queue, bare_place, empty_piece}
+use Rattle.saphyr_scanner.specs.Steps.State.{State, after_step}
+use Rattle.saphyr_scanner.specs.Grammar.Tokens as tokens
+use Rattle.saphyr_scanner.specs.Grammar.Tokens.{Kind}
+use Rattle.saphyr_scanner.specs.Steps.Fetch.{state_behind_content, step}
+use Rattle.yaml_laws.specs.Grammar.BlockNodes as yaml
+use Rattle.yaml_laws.proofs.Flow.GapSteps.{past_count, past_again}
+use Rattle.yaml_laws.proofs.Flow.States.{past}
+use Rattle.yaml_laws.proofs.InBlock.States.{Frame, Moment, moment_at, core_of, state_of, IsStop, crosses, At, Before}
+use Rattle.yaml_laws.proofs.InBlock.Gaps.{past_stops, stop_tabbed}
+use Rattle.yaml_laws.proofs.InBlock.Skips.{has_tab, spaces_reach}
+use Rattle.yaml_laws.proofs.InBlock.Follows.{BeginsToken, deeper_at}
+use Rattle.yaml_laws.proofs.InBlock.Entries.{BeginsWhite, frame_behind, steps_on, before_next}
+use Rattle.saphyr_input.proofs.Basics.Numbers.{le_next}
+use Rattle.saphyr_input.proofs.Basics.Booleans.{and_false}
+use Rattle.std.proofs.Math.Bool.{or-true}
+use Rattle.std.proofs.lemmas.Bool.{or_parts}
+use Rattle.saphyr_input.specs.Indicators.{colon, question_mark}
+use Rattle.saphyr_scanner.proofs.Queues.{place_kinds, place_kinds_append, queue_of}
+
+-- ## `?`
+
+white_first : (o : List ℕ) → BeginsWhite o → is_blank_or_breakz (slice_index o 0) ≡ true
+white_first [] h = absurd h
+white_first (c ∷ cs) (inl e) = blank_apart c e
+  where
+    blank_apart : (c : ℕ) → is_blank c ≡ true → is_blank_or_breakz c ≡ true
+    blank_apart c e = grind (arith, nat_tests)
+white_first (c ∷ cs) (inr e) = rw e refl
+
+-- a space or a break
+no_tab_first : (c : ℕ) (cs : List ℕ) → IsTrue (is_blank c) ⊎ (c ≡ line_feed) → has_tab (c ∷ cs) ≡ false
+    → (c ≡ 32) ⊎ (c ≡ line_feed)
+no_tab_first c cs (inl e) clean = inl (space c e (or_parts (c == 9) (has_tab cs) (sym whole ∙ clean)).0)
+  where
+    whole : has_tab (c ∷ cs) ≡ ((c == tab) || has_tab cs)
+    whole = rw e refl
+
+    space : (c : ℕ) → is_blank c ≡ true → (c == tab) ≡ false → c ≡ 32
+    space c e f = grind (arith, nat_tests)
+no_tab_first c cs (inr e) clean = inr e
+
+reach : (m : Marker) (o : List ℕ) → BeginsWhite o → has_tab o ≡ false
+    → (b : Bool) × (gap.end_of_spaces m false false o ≡ gap.spaces_end (past 0 m o).0 b true (past 0 m o).1)
+reach m [] h clean = absurd h
+reach m (c ∷ cs) h clean = spaces_reach m false c cs (no_tab_first c cs h clean) clean
+
+mark_begins : (m : Marker) (o : List ℕ) → BeginsToken m (question_mark ∷ o)
+mark_begins m o = record {
+  stop = (refl, refl, refl);
+  nul = refl;
+  byte_order_mark = refl;
+  directive = and_false (m.col == 0);
+  marker = and_false (m.col == 0);
+}
+
+pub colon_begins : (m : Marker) (o : List ℕ) → BeginsToken m (colon ∷ o)
+colon_begins m o = record {
+  stop = (refl, refl, refl);
+  nul = refl;
+  byte_order_mark = refl;
+  directive = and_false (m.col == 0);
+  marker = and_false (m.col == 0);
+}
+
+no_tab_here : (y : List ℕ) → IsStop y → (slice_index y 0 == tab) ≡ false
+no_tab_here [] h = refl
+no_tab_here (c ∷ cs) h = no_tab c h.0
+  where
+    no_tab : (c : ℕ) → is_blank c ≡ false → (c == tab) ≡ false
+    no_tab c h = grind (arith, nat_tests)
+
+mark_enters : (f : Frame) (m : Marker) (y : List ℕ) (blank : Bool) (key : Option Candidate) (ad : ℕ)
+    (deeper further : Bool)
+    → nat_le f.indent m.col ≡ further
+    → (d : Bool) × (remove_key
+    (with_context (behind_question context.Block)
+    (roll m.col (core_of f (moment_at m y blank key true ad deeper))))
+    ≡ Ok (core_of (frame_behind further m.col f) (moment_at m y blank None true ad d)))
+unfolding remove_key
+mark_enters f m y blank key ad deeper true e = (false, rw e refl)
+mark_enters f m y blank key ad deeper false e = (deeper, rw e refl)
+
+-- behind `?`, at the next token
+abbrev question_moment : Marker → List ℕ → Bool → ℕ → Bool → Moment
+question_moment n y blank ad deeper = moment_at n y blank None true ad deeper
+
+passes_mark : (g : Frame) (m : Marker) (o : List ℕ) (blank : Bool) (ad : ℕ) (deeper : Bool) → BeginsWhite o
+    → has_tab o ≡ false
+    → (b : Bool) × (block.pass_question (core_of g (moment_at m (question_mark ∷ o) blank None true ad deeper))
+    ≡ Ok (core_of g (question_moment (past 0 (along m 1) o).0 (past 0 (along m 1) o).1 b ad deeper)))
+unfolding block.behind_mark
+passes_mark g m o blank ad deeper h clean =
+    let r = reach (along m 1) o h clean in
+    let c = core_of g (moment_at m (63 ∷ o) blank None true ad deeper) in
+    let none = no_tab_here (past 0 (along m 1) o).1 (past_stops (along m 1) o) in
+    let there : block.behind_mark true
+    (core_of g (question_moment (past 0 (along m 1) o).0 (past 0 (along m 1) o).1 r.0 ad deeper))
+    ≡ Ok (core_of g (question_moment (past 0 (along m 1) o).0 (past 0 (along m 1) o).1 r.0 ad deeper)) =
+    rw none refl in
+    (r.0, ap (λ (s : gap.SpacesEnd). block.behind_mark s.space (with_cursor s.cursor c)) r.1 ∙ there)
+
+question_step : (f : Frame) (m : Marker) (o : List ℕ) (blank : Bool) (key : Option Candidate) (ad : ℕ)
+    (deeper further : Bool) → nat_le f.indent m.col ≡ further → BeginsWhite o → has_tab o ≡ false → (i : ℕ)
+    → (b : Bool) × (d : Bool)
+    × (step 63 (slice_index o 0) i (core_of f (moment_at m (question_mark ∷ o) blank key true ad deeper))
+    ≡ completed_step (behind_start further m tokens.BlockMappingStart (from_to m (past 0 (along m 1) o).0 tokens.Key))
+    (core_of (frame_behind further m.col f)
+    (question_moment (past 0 (along m 1) o).0 (past 0 (along m 1) o).1 b ad d)))
+unfolding step block.key_steps block.begin_key
+question_step f m o blank key ad deeper further e h clean i =
+    let c = core_of f (moment_at m (63 ∷ o) blank key true ad deeper) in
+    let r = mark_enters f m (63 ∷ o) blank key ad deeper further e in
+    let g = frame_behind further m.col f in
+    let p = passes_mark g m o blank ad r.0 h clean in
+    let first = white_first o h in
+    let last = core_of g (question_moment (past 0 (along m 1) o).0 (past 0 (along m 1) o).1 p.0 ad r.0) in
+    let begun = ap (λ q. q >>= λ (d : Core). block.pass_question (record d { key_allowed = in_block d })) r.1 ∙ p.1 in (
+      p.0,
+      r.0,
+      rw first (ap (λ q. q >>= λ (d : Core). completed_step
+          (behind_start (is_further m.col c) m tokens.BlockMappingStart (up_to_here m tokens.Key d)) d) begun
+          ∙ ap (λ (b : Bool). completed_step (behind_start b m tokens.BlockMappingStart (up_to_here m tokens.Key last))
+          last) e),
+    )
+
+-- what is put into the queue
+mark_places : Bool → Marker → Marker → List Place → List Place
+mark_places true m n ps =
+    (ps ++ bare_place (empty_piece m tokens.BlockMappingStart) ∷ [])
+    ++ bare_place (record { span = record { start = m; end = n }; kind = tokens.Key }) ∷ []
+mark_places false m n ps = ps ++ bare_place (record { span = record { start = m; end = n }; kind = tokens.Key }) ∷ []
+
+mark_performs : (further : Bool) (m n : Marker) (ps : List Place)
+    → perform (behind_start further m tokens.BlockMappingStart (from_to m n tokens.Key)) (queue_of ps)
+    ≡ queue_of (mark_places further m n ps)
+unfolding mark_places
+mark_performs true m n ps = refl
+mark_performs false m n ps = refl
+
+-- the tokens before a key, where a mapping may start
+abbrev pub key_kinds : Bool → List Kind
+key_kinds further = if further then tokens.BlockMappingStart ∷ tokens.Key ∷ [] else tokens.Key ∷ []
+
+mark_are : (further : Bool) (m n : Marker) (ps : List Place) (ts : List Kind) → place_kinds ps ≡ ts
+    → place_kinds (mark_places further m n ps) ≡ ts ++ key_kinds further
+unfolding mark_places
+mark_are true m n ps ts e =
+    let first = place_kinds_append ps (bare_place (empty_piece m tokens.BlockMappingStart) ∷ [])
+    ∙ ap (λ (x : List Kind). x ++ tokens.BlockMappingStart ∷ []) e in
+    let key : Place = bare_place (record { span = record { start = m; end = n }; kind = tokens.Key }) in
+    place_kinds_append (ps ++ bare_place (empty_piece m tokens.BlockMappingStart) ∷ []) (key ∷ [])
+    ∙ ap (λ (x : List Kind). x ++ tokens.Key ∷ []) first
+    ∙ append_assoc ts (tokens.BlockMappingStart ∷ []) (tokens.Key ∷ [])
+mark_are false m n ps ts e =
+    let key : Place = bare_place (record { span = record { start = m; end = n }; kind = tokens.Key }) in
+    place_kinds_append ps (key ∷ []) ∙ ap (λ (x : List Kind). x ++ tokens.Key ∷ []) e
+
+within_index : (i l j k limit : ℕ) → i + l ≡ j + k → j + k ≤ limit → i ≤ limit
+within_index i l j k limit e h = omega (arith, e, h)
+
+shifted : (i l limit : ℕ) → i + suc l ≤ limit → i + 1 + l ≤ limit
+shifted i l limit h = omega (arith, h)
+
+-- `?` is read, which begins a mapping or goes on with one
+pub reads_question : {limit : ℕ} {start : State} {ts : List Kind} (f : Frame) (m : Marker) (o : List ℕ) (further : Bool)
+    → nat_le f.indent m.col ≡ further → f.indent ≤ m.col + 1 → BeginsWhite o → has_tab o ≡ false
+    → m.index + length (question_mark ∷ o) ≤ limit → (v : At limit start f m (question_mark ∷ o) ts) → v.allowed ≡ true
+    → Before limit start (yaml.BehindMark m.col) (frame_behind further m.col f) (along m 1) o
+    (ts ++ key_kinds further)
+unfolding state_behind_content
+reads_question {limit} {start} {ts} f m o further e far h clean count v allowed =
+    let i = next (queue_of v.places) in
+    let deeper = deeper_at f v.deeper m in
+    let s = question_step f m o v.blank v.key v.adjacent deeper further e h clean i in
+    let g = frame_behind further m.col f in
+    let n = (past 0 (along m 1) o).0 in
+    let y = (past 0 (along m 1) o).1 in
+    let t = question_moment n y s.0 v.adjacent s.1 in
+    let qs = mark_places further m n v.places in
+    let made : state_behind_content 63 (slice_index o 0)
+    (state_of f (moment_at m (63 ∷ o) v.blank v.key true v.adjacent deeper) v.places) ≡ Ok (state_of g t qs) =
+    ap (λ r. after_step r (queue_of v.places)) s.2
+    ∙ ap (λ (q : Queue). Ok (let r : State = record { core = core_of g t; queue = q } in r))
+    (mark_performs further m n v.places) in
+    let there : state_behind_content 63 (slice_index o 0)
+    (state_of f (moment_at m (63 ∷ o) v.blank v.key v.allowed v.adjacent deeper) v.places) ≡ Ok (state_of g t qs) =
+    ap (λ (b : Bool). state_behind_content 63 (slice_index o 0)
+    (state_of f (moment_at m (63 ∷ o) v.blank v.key b v.adjacent deeper) v.places)) allowed ∙ made in
+    let counted = past_count 0 (along m 1) o in
+    let stop = past_stops (along m 1) o in
+    before_next (yaml.BehindMark m.col) g t qs (along m 1) o
+    (steps_on f g m (63 ∷ o) v (mark_begins m o) far t qs there refl
+    (within_index n.index (length y) (m.index + 1) (length o) limit counted
+    (shifted m.index (length o) limit count)))
+    (mark_are further m n v.places ts v.are) refl refl refl (le_next v.adjacent m.index v.low)
+    (past_again 0 (along m 1) o) (stop_tabbed (least_column (core_of g t)) n s.0 y stop) (or-true (crosses y)) refl

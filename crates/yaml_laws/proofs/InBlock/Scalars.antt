@@ -1,0 +1,229 @@
+-- Block scalars at block level, with what stands before them (YAML 1.2.2, 8.1).
+use Rattle.std.proofs.Common.{◌≡◌, ◌≢◌, ℕ, ◌+◌, ◌^◌, ◌<◌, ◌≤◌, true, false, List, [], ◌∷◌, ◌++◌, length, refl, sym, ap, ◌∙◌, arith, subst, append_assoc, append-nil, IsTrue, ◌⊎◌, inl, inr}
+use Rattle.std.specs.Prelude.{Option, Some, None}
+use Rattle.std.proofs.lemmas.Bool.Decides.{nat_tests}
+use Rattle.saphyr_input.specs.Classes.{is_blank, is_break}
+use Rattle.saphyr_scalar.specs.Spelling.Tag.{AreIn}
+use Rattle.saphyr_scalar.specs.declared.scalar.position.Marker.{Marker}
+use Rattle.saphyr_scalar.proofs.NoBreaks.{NoBreaks}
+use Rattle.scalar_laws.specs.Spelling.Spaces.{IsNextLine, IsGap}
+use Rattle.saphyr_scanner.specs.Steps.Level.{Candidate}
+use Rattle.saphyr_scanner.specs.Grammar.Forest.{Style, Tag, Properties, Scalar}
+use Rattle.saphyr_scanner.specs.Steps.State.{State}
+use Rattle.saphyr_scanner.specs.Grammar.Tokens.{Kind, scalar_token}
+use Rattle.saphyr_scanner.specs.Grammar.TokenGrammar as grammar
+use Rattle.saphyr_scanner.proofs.LineTexts.{name_no_break, tag_no_break}
+use Rattle.yaml_laws.specs.Grammar.FlowNodes.{IsAnchor, AreProperties, IsProperties}
+use Rattle.yaml_laws.specs.Grammar.TagSpelling.{IsTag}
+use Rattle.yaml_laws.specs.Grammar.BlockNodes as yaml
+use Rattle.yaml_laws.specs.Grammar.BlockNodes.{Position as Position, indent_at, is_start, IsGapAt, IsStyled, IsScalarFront, IsScalarInBlock}
+use Rattle.yaml_laws.proofs.Flow.States.{moved, past}
+use Rattle.yaml_laws.proofs.Flow.Inks.{BeginsInk}
+use Rattle.yaml_laws.proofs.Flow.Names.{unbroken_along}
+use Rattle.yaml_laws.proofs.Flow.Places.{moved_append}
+use Rattle.yaml_laws.proofs.Flow.Tags.{tag_read}
+use Rattle.yaml_laws.proofs.Flow.WordGaps.{prefix_reaches}
+use Rattle.yaml_laws.proofs.InBlock.States.{Frame, IsPlaced, At, Before}
+use Rattle.yaml_laws.proofs.InBlock.Skips.{gap_passes}
+use Rattle.yaml_laws.proofs.InBlock.Lines.{FitsOnLines, fits_front, fits_so}
+use Rattle.yaml_laws.proofs.InBlock.Statements.{context_at, EndsNodeAt, Arrived, NodeRead, ReadsAt}
+use Rattle.yaml_laws.proofs.InBlock.Texts.{passes_to}
+use Rattle.yaml_laws.proofs.InBlock.BehindIndicators.{further_ink}
+use Rattle.yaml_laws.proofs.InBlock.ScalarTexts.{ReadsBlocks, sign_ink}
+use Rattle.yaml_laws.proofs.InBlock.HeaderScalars.{IsOnLineOrBefore, reads_behind}
+
+-- ## The gap before it
+
+pub spaces_reach : (place : Position) (m : Marker) (n : ℕ) → 1 ≤ n → IsPlaced place m → indent_at place ≤ m.col + n
+spaces_reach (yaml.BehindDash c) m n some placed = omega (arith, some, placed)
+spaces_reach (yaml.BehindMark c) m n some placed = omega (arith, some, placed)
+spaces_reach (yaml.BehindKey c) m n some placed = omega (arith, some, placed)
+spaces_reach yaml.BehindMarker m n some placed = omega arith
+spaces_reach yaml.AtStart m n some placed = omega arith
+
+start_reaches : (place : Position) (n : ℕ) → IsTrue (is_start place) → indent_at place ≤ n
+start_reaches (yaml.BehindDash c) n h = absurd (let e : false ≡ true = h in cc)
+start_reaches (yaml.BehindMark c) n h = absurd (let e : false ≡ true = h in cc)
+start_reaches (yaml.BehindKey c) n h = absurd (let e : false ≡ true = h in cc)
+start_reaches yaml.BehindMarker n h = absurd (let e : false ≡ true = h in cc)
+start_reaches yaml.AtStart n h = omega arith
+
+-- nor behind the next line's indentation
+next_line_reaches : (indent : ℕ) (m : Marker) (w : List ℕ) → IsNextLine indent w → indent ≤ (moved m w).col
+next_line_reaches indent m w (end, filler, front, end_is, filler_is, prefix, e) =
+    let there : moved m w ≡ moved (moved (moved m end) filler) front = ap (moved m) e
+    ∙ moved_append m end (filler ++ front) ∙ moved_append (moved m end) filler front in
+    subst (λ (k : Marker). indent ≤ k.col) (sym there) (prefix_reaches indent (moved (moved m end) filler) front prefix)
+
+unbroken_blanks : (w : List ℕ) → AreIn is_blank w → NoBreaks w
+unbroken_blanks [] h = tt
+unbroken_blanks (c ∷ cs) h = (unbroken c h.0, unbroken_blanks cs h.1)
+  where
+    unbroken : (c : ℕ) → IsTrue (is_blank c) → is_break c ≡ false
+    unbroken c h = grind (arith, nat_tests)
+
+-- behind the gap before a node stands nothing that is left of it
+pub gap_reaches : (place : Position) (m : Marker) (gap : List ℕ) → IsGapAt place gap → IsPlaced place m
+    → indent_at place ≤ (moved m gap).col
+gap_reaches place m gap (inl (some, are)) placed =
+    let there = ap (λ (k : Marker). k.col) (unbroken_along m gap (unbroken_blanks gap are)) in
+    let reach = spaces_reach place m (length gap) (some_length gap some) placed in
+    omega (arith, there, reach)
+  where
+    some_length : (w : List ℕ) → w ≢ [] → 1 ≤ length w
+    some_length [] some = absurd (some refl)
+    some_length (c ∷ cs) some = omega arith
+gap_reaches place m gap (inr (inl h)) placed = next_line_reaches (indent_at place) m gap h
+gap_reaches place m gap (inr (inr (first, e))) placed = start_reaches place (moved m gap).col first
+
+pub none_late : (k : Option Candidate) (m : Marker) → k ≡ None → IsOnLineOrBefore k m
+none_late k m e = subst (λ (x : Option Candidate). IsOnLineOrBefore x m) (sym e) tt
+
+-- the state before a node is that behind the gap
+pub lands_behind : {limit : ℕ} {start : State} {ts : List Kind} {place : Position} (f : Frame) (m : Marker)
+    (gap y : List ℕ) → IsGapAt place gap → BeginsInk y → Before limit start place f m (gap ++ y) ts
+    → (v : At limit start f (moved m gap) y ts) × (v.key ≡ None)
+lands_behind {limit} {start} {ts} {place} f m gap y h ink b =
+    let there : past 0 m (gap ++ y) ≡ (moved m gap, y) =
+    ap (λ (x : List ℕ). past 0 m (gap ++ x)) ink.is
+    ∙ passes_to m gap ink.first ink.others (gap_passes place gap h) ink.ink
+    ∙ ap (λ (x : List ℕ). (moved m gap, x)) (sym ink.is) in
+    let P : Marker × List ℕ → Type 0 = λ q. (v : At limit start f q.0 q.1 ts) × (v.key ≡ None) in
+    subst P there (b.at, b.none)
+
+-- ## Properties before the header
+
+-- Properties, and the gap behind them, were read up to a token on their line or a later one.
+pub record HeadRead (limit : ℕ) (start : State) (p : Properties) (f : Frame) (m : Marker) (y : List ℕ)
+    (ts : List Kind) : Type 0 where
+  pub tokens : List Kind
+  pub are : grammar.YieldProperties p tokens
+  pub at : At limit start f m y (ts ++ tokens)
+  pub late : IsOnLineOrBefore at.key m
+
+-- `t` is the properties, `gap` stands before them, and `between` behind.
+abbrev pub ReadsHead : ℕ → Type 0
+ReadsHead limit =
+    (p : Properties) (place : Position) (f : Frame) → f.indent ≡ indent_at place
+    → (m : Marker) (gap t between y : List ℕ) → IsGapAt place gap → IsProperties p (indent_at place) t
+    → IsGap (indent_at place) between
+    → BeginsInk y
+    → FitsOnLines limit m (gap ++ (t ++ between)) y → (start : State) (ts : List Kind)
+    → Before limit start place f m (gap ++ (t ++ (between ++ y))) ts
+    → HeadRead limit start p f (moved m (gap ++ (t ++ between))) y ts
+
+pub unbroken_anchor : (name t : List ℕ) → IsAnchor name t → NoBreaks t
+unbroken_anchor name t (h, e) = subst NoBreaks (sym e) (refl, name_no_break name h)
+
+pub unbroken_tag : (tag : Tag) (t : List ℕ) → IsTag tag t → NoBreaks t
+unbroken_tag tag t h = let r = tag_read tag t h in tag_no_break t r.handle r.suffix r.is
+
+-- a text on one line, behind which nothing is left of it
+pub unbroken_reaches : (least : ℕ) (m : Marker) (t : List ℕ) → NoBreaks t → least ≤ m.col → least ≤ (moved m t).col
+unbroken_reaches least m t h low =
+    let line = ap (λ (j : Marker). j.col) (unbroken_along m t h) in omega (arith, line, low)
+
+-- the gap behind a text
+pub text_gap_reaches : (least : ℕ) (m : Marker) (w : List ℕ) → IsGap least w → least ≤ m.col → least ≤ (moved m w).col
+text_gap_reaches least m w (inl (some, are)) low =
+    let there = ap (λ (j : Marker). j.col) (unbroken_along m w (unbroken_blanks w are)) in omega (arith, there, low)
+text_gap_reaches least m w (inr h) low = next_line_reaches least m w h
+
+properties_reach : (least : ℕ) (anchor : Option (List ℕ)) (tag : Option Tag) (m : Marker) (t : List ℕ)
+    → AreProperties anchor tag least t → least ≤ m.col → least ≤ (moved m t).col
+properties_reach least None None m t h low = absurd h
+properties_reach least (Some name) None m t h low = unbroken_reaches least m t (unbroken_anchor name t h) low
+properties_reach least None (Some tag) m t h low = unbroken_reaches least m t (unbroken_tag tag t h) low
+properties_reach least (Some name) (Some tag) m t (a, gap, w, h, k, gapped, order) low = by_order order
+  where
+    both : (a b : List ℕ) → NoBreaks a → NoBreaks b → t ≡ a ++ (gap ++ b) → least ≤ (moved m t).col
+    both a b whole other e =
+        subst (λ (j : Marker). least ≤ j.col)
+        (sym (ap (moved m) e ∙ moved_append m a (gap ++ b) ∙ moved_append (moved m a) gap b))
+        (unbroken_reaches least (moved (moved m a) gap) b other
+        (text_gap_reaches least (moved m a) gap gapped (unbroken_reaches least m a whole low)))
+
+    by_order : (t ≡ a ++ (gap ++ w)) ⊎ (t ≡ w ++ (gap ++ a)) → least ≤ (moved m t).col
+    by_order (inl e) = both a w (unbroken_anchor name a h) (unbroken_tag tag w k) e
+    by_order (inr e) = both w a (unbroken_tag tag w k) (unbroken_anchor name a h) e
+
+-- what stands behind properties isn't left of what they reach
+head_reaches : (p : Properties) (least : ℕ) (m : Marker) (gap t between : List ℕ) → IsProperties p least t
+    → IsGap least between → least ≤ (moved m gap).col → least ≤ (moved m (gap ++ (t ++ between))).col
+head_reaches p least m gap t between h gapped low =
+    subst (λ (j : Marker). least ≤ j.col)
+    (sym (moved_append m gap (t ++ between) ∙ moved_append (moved m gap) t between))
+    (text_gap_reaches least (moved (moved m gap) t) between gapped
+    (properties_reach least p.anchor p.tag (moved m gap) t h low))
+
+-- ## The leaf
+
+scalar_are : (p : Properties) (style : Style) (value : List ℕ) (context : grammar.Context) (front : List Kind)
+    → grammar.YieldProperties p front
+    → grammar.YieldsNode (Scalar p style value) context (front ++ scalar_token style value ∷ [])
+scalar_are p style value context front h = (front, scalar_token style value ∷ [], h, inl refl, refl)
+
+-- Each block scalar is read.
+pub reads_block_scalars : ReadsBlocks → {limit : ℕ} → limit < 2 ^ 63 → ReadsHead limit
+    → (p : Properties) (style : Style) (value : List ℕ)
+    → ReadsAt limit (Scalar p style value) (IsScalarInBlock p style value)
+reads_block_scalars laws {limit} short heads p style value place f same m t o
+    (gap, front, text, gap_is, front_is, styled, e)
+    fits behind start ts before = by_front front_is
+  where
+    is : IsStyled style value f.indent text o
+    is = subst (λ (i : ℕ). IsStyled style value i text o) (sym same) styled
+
+    low : f.indent ≤ (moved m gap).col
+    low = subst (λ (i : ℕ). i ≤ (moved m gap).col) (sym same) (gap_reaches place m gap gap_is before.placed)
+
+    ink : BeginsInk (text ++ o)
+    ink = further_ink text o (sign_ink style value f.indent text o is)
+
+    -- behind a piece of the text, properties were read
+    behind_head : (w : List ℕ) (us : List Kind) → t ≡ w ++ text → grammar.YieldProperties p us
+        → f.indent ≤ (moved m w).col → (v : At limit start f (moved m w) (text ++ o) (ts ++ us))
+        → IsOnLineOrBefore v.key (moved m w)
+        → NodeRead limit start (Scalar p style value) place f (moved m t) o ts
+    behind_head w us whole are far v late =
+        let fits_all = fits_so m t (w ++ text) o whole fits in
+        let behind_all : EndsNodeAt f.indent (moved m (w ++ text)) o =
+        subst (λ (x : List ℕ). EndsNodeAt f.indent (moved m x) o) whole behind in
+        let r = reads_behind laws f style value m w text o short far is fits_all behind_all v late in
+        record {
+          tokens = us ++ scalar_token style value ∷ [];
+          are = inr (scalar_are p style value (context_at place) us are);
+          arrived = subst (λ (x : List ℕ). Arrived limit start f (moved m x) o
+              (ts ++ (us ++ scalar_token style value ∷ []))) (sym whole)
+              (subst (λ (x : List Kind). Arrived limit start f (moved m (w ++ text)) o x)
+              (append_assoc ts us (scalar_token style value ∷ [])) r);
+        }
+
+    by_front : IsScalarFront p (indent_at place) front
+        → NodeRead limit start (Scalar p style value) place f (moved m t) o ts
+    by_front (inl (none, empty)) =
+        let whole : t ≡ gap ++ text = e ∙ ap (λ (x : List ℕ). gap ++ (x ++ text)) empty in
+        let b : Before limit start place f m (gap ++ (text ++ o)) ts =
+        subst (λ (x : List ℕ). Before limit start place f m x ts)
+        (ap (λ (x : List ℕ). x ++ o) whole ∙ append_assoc gap text o) before in
+        let l = lands_behind f m gap (text ++ o) gap_is ink b in
+        let P : List Kind → Type 0 = λ us. (v : At limit start f (moved m gap) (text ++ o) us) × (v.key ≡ None) in
+        let v = subst P (sym (append-nil ts)) l in
+        behind_head gap [] whole (subst (λ (q : Properties). grammar.YieldProperties q []) (sym none) refl) low v.0
+        (none_late v.0.key (moved m gap) v.1)
+    by_front (inr (properties, between, h, spaced, parts)) =
+        let w = gap ++ (properties ++ between) in
+        let whole : t ≡ w ++ text = e ∙ ap (λ (x : List ℕ). gap ++ (x ++ text)) parts
+        ∙ sym (append_assoc gap (properties ++ between) text) in
+        let inner : t ++ o ≡ gap ++ (properties ++ (between ++ (text ++ o))) =
+        ap (λ (x : List ℕ). x ++ o) whole ∙ append_assoc w text o
+        ∙ append_assoc gap (properties ++ between) (text ++ o)
+        ∙ ap (λ (x : List ℕ). gap ++ x) (append_assoc properties between (text ++ o)) in
+        let b : Before limit start place f m (gap ++ (properties ++ (between ++ (text ++ o)))) ts =
+        subst (λ (x : List ℕ). Before limit start place f m x ts) inner before in
+        let r = heads p place f same m gap properties between (text ++ o) gap_is h spaced ink
+        (fits_front m w text o (fits_so m t (w ++ text) o whole fits)) start ts b in
+        let far = subst (λ (i : ℕ). i ≤ (moved m w).col) (sym same)
+        (head_reaches p (indent_at place) m gap properties between h spaced
+        (subst (λ (i : ℕ). i ≤ (moved m gap).col) same low)) in
+        behind_head w r.tokens whole r.are far r.at r.late

@@ -1,0 +1,488 @@
+-- Spaces, comments and breaks between two tokens at block level.
+use Rattle.std.proofs.Common.{◌≡◌, ℕ, zero, suc, ◌+◌, ◌≤◌, Bool, true, false, List, [], ◌∷◌, ◌++◌, slice_index, refl, sym, ap, ◌∙◌, arith, subst, append_assoc, append-nil, ◌⊎◌, inl, inr}
+use Rattle.std.specs.Prelude.{◌||◌, ◌&&◌, ◌==◌, if◌then◌else◌}
+use Rattle.std.proofs.lemmas.Bool.Decides.{nat_tests}
+use Rattle.saphyr_input.specs.Classes.{is_blank, is_break, is_yaml_non_break, carriage_return, line_feed}
+use Rattle.saphyr_scalar.specs.declared.scalar.position.Marker.{Marker}
+use Rattle.saphyr_scalar.specs.Reading.BlockLines.{spaces}
+use Rattle.saphyr_scalar.specs.Views.Cursor.{along, next_line}
+use Rattle.saphyr_scalar.specs.Spelling.Tag.{AreIn}
+use Rattle.scalar_laws.specs.Spelling.Spaces.{AreEach, AreSpaces, joined_pieces, IsComment, IsLineRest, IsLineEnd, IsFillerLine, IsFiller, IsLinePrefix, IsNextLine, IsGap}
+use Rattle.scalar_laws.proofs.Beginnings.{both_in}
+use Rattle.saphyr_scanner.specs.Steps.Gap as gap
+use Rattle.saphyr_scanner.specs.Steps.Gap.{is_tab_indentation}
+use Rattle.yaml_laws.specs.Grammar.BlockNodes.{Position, indent_at, IsGapAt}
+use Rattle.yaml_laws.proofs.Flow.States.{moved, past, past_comment}
+use Rattle.yaml_laws.proofs.Flow.Places.{moved_append}
+use Rattle.yaml_laws.proofs.Flow.Gaps.{right_tab as no_left_tab}
+use Rattle.yaml_laws.proofs.Flow.Fillers.{right_tab, blanks_past, front_past, behind_is, spaces_are_blank}
+use Rattle.yaml_laws.proofs.InBlock.Gaps.{no_left}
+use Rattle.yaml_laws.proofs.InBlock.States.{tabbed, tabbed_comment, crosses, crosses_comment}
+use Rattle.std.proofs.lemmas.Bool.{or_parts}
+use Rattle.saphyr_input.specs.Indicators.{number_sign}
+use Rattle.saphyr_input.proofs.Basics.Characters.{ink_no_tab}
+use Rattle.saphyr_input.proofs.Basics.Numbers.{le_next}
+use Rattle.saphyr_input.proofs.Basics.Booleans.{and_false}
+
+-- ## The text between two tokens
+
+pub data IsSkipped : List ℕ → Type 0 where
+  nothing : IsSkipped []
+  one_space : (w : List ℕ) → IsSkipped w → IsSkipped (32 ∷ w)
+  one_break : (w : List ℕ) → IsSkipped w → IsSkipped (line_feed ∷ w)
+  one_rest : (blanks comment w : List ℕ) → AreIn is_blank blanks → (comment ≡ []) ⊎ IsComment comment → IsSkipped w
+      → IsSkipped (blanks ++ (comment ++ (line_feed ∷ w)))
+
+-- the rest of a line, its break, and what stands behind it
+rest_text : (blanks comment w y : List ℕ)
+    → (blanks ++ (comment ++ (line_feed ∷ w))) ++ y ≡ blanks ++ (comment ++ (line_feed ∷ (w ++ y)))
+rest_text blanks comment w y = simp append_assoc
+
+pub skipped_append : (a b : List ℕ) → IsSkipped a → IsSkipped b → IsSkipped (a ++ b)
+skipped_append _ b nothing k = k
+skipped_append _ b (one_space w h) k = one_space (w ++ b) (skipped_append w b h k)
+skipped_append _ b (one_break w h) k = one_break (w ++ b) (skipped_append w b h k)
+skipped_append _ b (one_rest blanks comment w are c h) k =
+    subst IsSkipped (sym (rest_text blanks comment w b))
+    (one_rest blanks comment (w ++ b) are c (skipped_append w b h k))
+
+pub spaces_skipped : (n : ℕ) → IsSkipped (spaces n)
+spaces_skipped zero = nothing
+spaces_skipped (suc n) = one_space (spaces n) (spaces_skipped n)
+
+pub rest_skipped : (t w : List ℕ) → IsLineRest t → IsSkipped w → IsSkipped (t ++ (line_feed ∷ w))
+rest_skipped t w (blanks, c, are, k, is) h =
+    let text : t ++ (10 ∷ w) ≡ blanks ++ (c ++ (10 ∷ w)) = ap (λ (x : List ℕ). x ++ (10 ∷ w)) is
+    ∙ append_assoc blanks c (10 ∷ w) in
+    subst IsSkipped (sym text) (one_rest blanks c w are (behind_is blanks c k) h)
+
+pub line_end_skipped : (t : List ℕ) → IsLineEnd t → IsSkipped t
+line_end_skipped t (rest, h, is) = subst IsSkipped (sym is) (rest_skipped rest [] h nothing)
+
+filler_line_skipped : (t : List ℕ) → IsFillerLine t → IsSkipped t
+filler_line_skipped t (text, (front, c, are, k, is_text), is) =
+    let whole : t ≡ front ++ (c ++ (10 ∷ [])) = is ∙ ap (λ (x : List ℕ). x ++ (10 ∷ [])) is_text
+    ∙ append_assoc front c (10 ∷ []) in
+    subst IsSkipped (sym whole) (one_rest front c [] are k nothing)
+
+pub filler_skipped : (t : List ℕ) → IsFiller t → IsSkipped t
+filler_skipped t (pieces, each, is) = subst IsSkipped (sym is) (lines pieces each)
+  where
+    lines : (ws : List (List ℕ)) → AreEach IsFillerLine ws → IsSkipped (joined_pieces ws)
+    lines [] h = nothing
+    lines (v ∷ vs) h = skipped_append v (joined_pieces vs) (filler_line_skipped v h.0) (lines vs h.1)
+
+pub are_spaces_skipped : (least : ℕ) (t : List ℕ) → AreSpaces least t → IsSkipped t
+are_spaces_skipped least t (n, low, is) = subst IsSkipped (sym is) (spaces_skipped n)
+
+-- ## What is known of it
+
+-- the place behind it
+pub skipped_past : (m : Marker) (w y : List ℕ) → IsSkipped w → past 0 m (w ++ y) ≡ past 0 (moved m w) y
+skipped_past m _ y nothing = refl
+skipped_past m _ y (one_space w h) = skipped_past (along m 1) w y h
+skipped_past m _ y (one_break w h) = skipped_past (next_line m 1) w y h
+skipped_past m _ y (one_rest blanks comment w are k h) =
+    let front = blanks ++ comment in
+    let line = next_line (moved m front) 1 in
+    let whole : blanks ++ (comment ++ (10 ∷ w)) ≡ front ++ (10 ∷ w) = sym (append_assoc blanks comment (10 ∷ w)) in
+    let text : (blanks ++ (comment ++ (10 ∷ w))) ++ y ≡ front ++ (10 ∷ (w ++ y)) =
+    ap (λ (x : List ℕ). x ++ y) whole ∙ append_assoc front (10 ∷ w) y in
+    let rest = front_past 0 m front blanks comment (10 ∷ (w ++ y))
+    (λ z. (blanks_past 0 blanks are m (omega arith)).is z) k refl (inr refl) in
+    let place : moved m (blanks ++ (comment ++ (10 ∷ w))) ≡ moved line w =
+    ap (moved m) whole ∙ moved_append m front (10 ∷ w) in
+    ap (past 0 m) text ∙ rest ∙ skipped_past line w y h ∙ ap (λ (n : Marker). past 0 n y) (sym place)
+
+-- whether a break stands in it
+pub has_line : (w : List ℕ) → IsSkipped w → Bool
+has_line _ nothing = false
+has_line _ (one_space w h) = has_line w h
+has_line _ (one_break w h) = true
+has_line _ (one_rest blanks comment w are k h) = true
+
+pub spaces_no_line : (n : ℕ) → has_line (spaces n) (spaces_skipped n) ≡ false
+unfolding has_line spaces_skipped
+spaces_no_line zero = refl
+spaces_no_line (suc n) = spaces_no_line n
+
+pub words_cross : (words y : List ℕ) → AreIn is_yaml_non_break words → crosses_comment (words ++ (line_feed ∷ y)) ≡ true
+words_cross [] y h = refl
+words_cross (c ∷ cs) y h = rw h.0 (words_cross cs y h.1)
+
+pub blanks_cross : (w o : List ℕ) → AreIn is_blank w → crosses (w ++ o) ≡ crosses o
+blanks_cross [] o h = refl
+blanks_cross (c ∷ cs) o h = rw h.0 (blanks_cross cs o h.1)
+
+pub comment_crosses : (comment o : List ℕ) → (comment ≡ []) ⊎ IsComment comment
+    → crosses (comment ++ (line_feed ∷ o)) ≡ true
+comment_crosses comment o (inl e) = ap (λ (x : List ℕ). crosses (x ++ (10 ∷ o))) e
+comment_crosses comment o (inr (words, are, is)) =
+    ap (λ (x : List ℕ). crosses (x ++ (10 ∷ o))) is ∙ words_cross words o are
+
+-- behind the rest of a line, before its break
+pub rest_crosses : (blanks comment o : List ℕ) → AreIn is_blank blanks → (comment ≡ []) ⊎ IsComment comment
+    → crosses (blanks ++ (comment ++ (line_feed ∷ o))) ≡ true
+rest_crosses blanks comment o are k = blanks_cross blanks (comment ++ (10 ∷ o)) are ∙ comment_crosses comment o k
+
+pub skipped_crosses : (w y : List ℕ) (h : IsSkipped w) → crosses (w ++ y) ≡ (has_line w h || crosses y)
+unfolding has_line
+skipped_crosses _ y nothing = refl
+skipped_crosses _ y (one_space w h) = skipped_crosses w y h
+skipped_crosses _ y (one_break w h) = refl
+skipped_crosses _ y (one_rest blanks comment w are k h) =
+    ap crosses (rest_text blanks comment w y) ∙ rest_crosses blanks comment (w ++ y) are k
+
+words_end_uncrossed : (words : List ℕ) → AreIn is_yaml_non_break words → crosses_comment words ≡ false
+words_end_uncrossed [] h = refl
+words_end_uncrossed (c ∷ cs) h = rw h.0 (words_end_uncrossed cs h.1)
+
+-- on a text's last line no break stands
+pub last_crosses : (blanks comment : List ℕ) → AreIn is_blank blanks → (comment ≡ []) ⊎ IsComment comment
+    → crosses (blanks ++ (comment ++ [])) ≡ false
+last_crosses blanks comment are k =
+    blanks_cross blanks (comment ++ []) are ∙ ap crosses (append-nil comment) ∙ by_comment k
+  where
+    by_comment : (comment ≡ []) ⊎ IsComment comment → crosses comment ≡ false
+    by_comment (inl e) = ap crosses e
+    by_comment (inr (words, are, is)) = ap crosses is ∙ words_end_uncrossed words are
+
+-- a break stands at the end of a line
+pub line_end_crosses : (t y : List ℕ) → IsLineEnd t → crosses (t ++ y) ≡ true
+line_end_crosses t y (rest, (blanks, c, are, k, is_rest), is) =
+    let text : t ++ y ≡ blanks ++ (c ++ (10 ∷ y)) = ap (λ (x : List ℕ). x ++ y)
+    (is ∙ ap (λ (x : List ℕ). x ++ (10 ∷ [])) is_rest) ∙ simp append_assoc in
+    ap crosses text ∙ rest_crosses blanks c y are (behind_is blanks c k)
+
+-- No tab stands left of any column before the next token.
+abbrev pub IsClean : List ℕ → Type 0
+IsClean y = (least : ℕ) (m : Marker) (blank : Bool) → tabbed least m blank false y ≡ false
+
+-- None stands left of these columns before the next token.
+abbrev pub IsCleanIn : ℕ → List ℕ → Type 0
+IsCleanIn indent y = (least : ℕ) → least ≤ indent → (m : Marker) (blank : Bool) → tabbed least m blank false y ≡ false
+
+-- The same behind a token on its line, where tabs are no indentation.
+abbrev pub IsCleanBehind : ℕ → List ℕ → Type 0
+IsCleanBehind indent y = (least : ℕ) → least ≤ indent → (m : Marker) → tabbed least m false false y ≡ false
+
+words_clean : (least : ℕ) (words y : List ℕ) → AreIn is_yaml_non_break words
+    → ((m : Marker) → tabbed least m true false y ≡ false) → (m : Marker) (blank tab : Bool)
+    → tabbed_comment least m blank tab (words ++ (line_feed ∷ y)) ≡ false
+words_clean least [] y h k m blank tab = k (next_line m 1)
+words_clean least (c ∷ cs) y h k m blank tab = rw h.0 (words_clean least cs y h.1 k (along m 1) blank tab)
+
+-- the tabs on a line that ends are no matter
+comment_line_clean : (least : ℕ) (comment y : List ℕ) → (comment ≡ []) ⊎ IsComment comment
+    → ((m : Marker) → tabbed least m true false y ≡ false) → (m : Marker) (blank tab : Bool)
+    → tabbed least m blank tab (comment ++ (line_feed ∷ y)) ≡ false
+comment_line_clean least comment y (inl e) k m blank tab =
+    ap (λ (x : List ℕ). tabbed least m blank tab (x ++ (10 ∷ y))) e ∙ k (next_line m 1)
+comment_line_clean least comment y (inr (words, are, is)) k m blank tab =
+    ap (λ (x : List ℕ). tabbed least m blank tab (x ++ (10 ∷ y))) is
+    ∙ words_clean least words y are k (along m 1) blank tab
+
+rest_clean : (least : ℕ) (blanks comment y : List ℕ) → AreIn is_blank blanks → (comment ≡ []) ⊎ IsComment comment
+    → ((m : Marker) → tabbed least m true false y ≡ false)
+    → (m : Marker) (blank tab : Bool) → tabbed least m blank tab (blanks ++ (comment ++ (line_feed ∷ y))) ≡ false
+rest_clean least [] comment y are c k m blank tab = comment_line_clean least comment y c k m blank tab
+rest_clean least (b ∷ bs) comment y are c k m blank tab =
+    rw are.0 (rest_clean least bs comment y are.1 c k (along m 1) blank (is_tab_indentation least m blank b || tab))
+
+pub skipped_untabbed : (least : ℕ) (w y : List ℕ) → IsSkipped w
+    → ((m : Marker) (blank : Bool) → tabbed least m blank false y ≡ false)
+    → (m : Marker) (blank : Bool) → tabbed least m blank false (w ++ y) ≡ false
+skipped_untabbed least _ y nothing k m blank = k m blank
+skipped_untabbed least _ y (one_space w h) k m blank = skipped_untabbed least w y h k (along m 1) blank
+skipped_untabbed least _ y (one_break w h) k m blank = skipped_untabbed least w y h k (next_line m 1) true
+skipped_untabbed least _ y (one_rest blanks comment w are c h) k m blank =
+    ap (tabbed least m blank false) (rest_text blanks comment w y)
+    ∙ rest_clean least blanks comment (w ++ y) are c (λ n. skipped_untabbed least w y h k n true) m blank false
+
+pub skipped_clean : (w y : List ℕ) → IsSkipped w → IsClean y → IsClean (w ++ y)
+skipped_clean w y h k least = skipped_untabbed least w y h (k least)
+
+-- behind what is no blank, tabs are no matter
+pub blanks_untabbed : (least : ℕ) (w y : List ℕ) → AreIn is_blank w → IsClean y → (m : Marker)
+    → tabbed least m false false (w ++ y) ≡ false
+blanks_untabbed least [] y are k m = k least m false
+blanks_untabbed least (b ∷ bs) y are k m =
+    rw (are.0, and_false (b == 9)) (blanks_untabbed least bs y are.1 k (along m 1))
+
+-- right of a column they are none
+pub right_untabbed : (least column : ℕ) → least ≤ column → (w y : List ℕ) → AreIn is_blank w → IsClean y
+    → (m : Marker) (blank : Bool) → column ≤ m.col → tabbed least m blank false (w ++ y) ≡ false
+right_untabbed least column under [] y are k m blank right = k least m blank
+right_untabbed least column under (x ∷ xs) y are k m blank right =
+    rw are.0
+    (ap (λ (t : Bool). tabbed least (along m 1) blank t (xs ++ y))
+    (no_left_tab column least m blank x (right_tab column m x right) under)
+    ∙ right_untabbed least column under xs y are.1 k (along m 1) blank (le_next column m.col right))
+
+spaces_untabbed : (least n : ℕ) (w y : List ℕ) → AreIn is_blank w → IsClean y → (m : Marker) (blank : Bool)
+    → least ≤ m.col + n → tabbed least m blank false (spaces n ++ (w ++ y)) ≡ false
+spaces_untabbed least zero w y are k m blank far =
+    right_untabbed least least (omega arith) w y are k m blank (omega (arith, far))
+spaces_untabbed least (suc n) w y are k m blank far =
+    spaces_untabbed least n w y are k (along m 1) blank (shift least m.col n far)
+  where
+    shift : (i c n : ℕ) → i ≤ c + suc n → i ≤ c + 1 + n
+    shift i c n h = omega (arith, h)
+
+-- in front of a line's content the tabs stand behind its indentation
+prefix_clean : (indent : ℕ) (w y : List ℕ) → IsLinePrefix indent w → IsClean y → IsCleanIn indent (w ++ y)
+prefix_clean indent w y (front, blanks, (n, reach, spaced), are, is) k least low m blank =
+    let text : w ++ y ≡ spaces n ++ (blanks ++ y) = ap (λ (x : List ℕ). x ++ y)
+    (is ∙ ap (λ (x : List ℕ). x ++ blanks) spaced) ∙ append_assoc (spaces n) blanks y in
+    ap (tabbed least m blank false) text
+    ∙ spaces_untabbed least n blanks y are k m blank (further m.col least indent n low reach)
+  where
+    further : (c i j n : ℕ) → i ≤ j → j ≤ n → i ≤ c + n
+    further c i j n h k = omega (arith, h, k)
+
+pub lines_clean : (indent : ℕ) (filler front y : List ℕ) → IsFiller filler → IsLinePrefix indent front → IsClean y
+    → IsCleanIn indent ((filler ++ front) ++ y)
+lines_clean indent filler front y filler_is prefix k least low m blank =
+    ap (tabbed least m blank false) (append_assoc filler front y)
+    ∙ skipped_untabbed least filler (front ++ y) (filler_skipped filler filler_is)
+    (prefix_clean indent front y prefix k least low) m blank
+
+-- no tab of a gap is indentation
+pub gap_clean : (indent : ℕ) (w y : List ℕ) → IsGap indent w → IsClean y → IsCleanBehind indent (w ++ y)
+gap_clean indent w y (inl (some, are)) k least low m = blanks_untabbed least w y are k m
+gap_clean indent w y (inr (end, filler, front, end_is, filler_is, prefix, e)) k least low m =
+    ap (tabbed least m false false) (ap (λ (x : List ℕ). x ++ y) e ∙ append_assoc end (filler ++ front) y)
+    ∙ skipped_untabbed least end ((filler ++ front) ++ y) (line_end_skipped end end_is)
+    (lines_clean indent filler front y filler_is prefix k least low) m false
+
+-- Whether a tab stands among the blanks before the next token.
+abbrev mutual
+  pub has_tab : List ℕ → Bool
+  has_tab [] = false
+  has_tab (c ∷ cs) =
+      if is_blank c || ((c == 13) && (slice_index cs 0 == 10)) then (c == 9) || has_tab cs
+      else if is_break c then has_tab cs
+      else if c == 35 then comment_has_tab cs
+      else false
+
+  pub comment_has_tab : List ℕ → Bool
+  comment_has_tab [] = false
+  comment_has_tab (c ∷ cs) =
+      if is_yaml_non_break c then comment_has_tab cs
+      else if (c == 13) && (slice_index cs 0 == 10) then has_tab cs
+      else if is_break c then has_tab cs
+      else false
+
+-- ## A line without a token at the text's end
+
+pub comment_ends_clean : (t : List ℕ) → IsComment t → (least : ℕ) (m : Marker) (blank tab : Bool)
+    → tabbed least m blank tab t ≡ false
+comment_ends_clean t (words, are, is) least m blank tab =
+    subst (λ (x : List ℕ). tabbed least m blank tab x ≡ false) (sym is) (by_words (along m 1) words are)
+  where
+    by_words : (m : Marker) (words : List ℕ) → AreIn is_yaml_non_break words
+        → tabbed_comment least m blank tab words ≡ false
+    by_words m [] h = refl
+    by_words m (c ∷ cs) h = rw h.0 (by_words (along m 1) cs h.1)
+
+pub rest_ends_clean : (blanks comment : List ℕ) → AreIn is_blank blanks → (comment ≡ []) ⊎ IsComment comment
+    → (least : ℕ) (m : Marker) (blank tab : Bool) → tabbed least m blank tab (blanks ++ comment) ≡ false
+rest_ends_clean [] comment are (inl e) least m blank tab = ap (λ (x : List ℕ). tabbed least m blank tab x) e
+rest_ends_clean [] comment are (inr h) least m blank tab = comment_ends_clean comment h least m blank tab
+rest_ends_clean (b ∷ bs) comment are k least m blank tab =
+    rw are.0 (rest_ends_clean bs comment are.1 k least (along m 1) blank (is_tab_indentation least m blank b || tab))
+
+-- ## Behind `?`
+
+record Spaces (m : Marker) (blank space : Bool) (t : List ℕ) : Type 0 where
+  still_blank : Bool
+  some : Bool
+  is : gap.end_of_spaces m blank space t ≡ gap.spaces_end (past 0 m t).0 still_blank some (past 0 m t).1
+  has : space ≡ true → some ≡ true
+
+record SpacesBehind (m : Marker) (blank space : Bool) (t : List ℕ) : Type 0 where
+  still_blank : Bool
+  some : Bool
+  is : gap.end_of_spaces_in_comment m blank space t ≡ gap.spaces_end (past_comment 0 m t).0 still_blank some
+      (past_comment 0 m t).1
+  has : space ≡ true → some ≡ true
+
+space_alone : (c : ℕ) → (c == 9) ≡ false → is_blank c ≡ (c == 32)
+space_alone c h = grind (arith, nat_tests)
+
+white_is : (c : ℕ) (r : Bool) → (c == 9) ≡ false → (is_blank c || r) ≡ ((c == 32) || r)
+white_is c r h = ap (λ (b : Bool). b || r) (space_alone c h)
+
+-- the same, where a character is known
+on_white : (m : Marker) (blank space : Bool) (c : ℕ) (cs : List ℕ)
+    → (is_blank c || ((c == carriage_return) && (slice_index cs 0 == line_feed))) ≡ true
+    → ((c == 32) || ((c == carriage_return) && (slice_index cs 0 == line_feed))) ≡ true
+    → Spaces (along m 1) blank true cs → Spaces m blank space (c ∷ cs)
+on_white m blank space c cs e white p =
+    record { still_blank = p.still_blank; some = p.some; is = rw (no_left m c, e, white) p.is; has = λ _. p.has refl }
+
+spaces_over_break : (m : Marker) (blank space : Bool) (c : ℕ) (cs : List ℕ)
+    → (is_blank c || ((c == carriage_return) && (slice_index cs 0 == line_feed))) ≡ false → is_break c ≡ true
+    → ((c == 32) || ((c == carriage_return) && (slice_index cs 0 == line_feed))) ≡ false
+    → Spaces (next_line m 1) true true cs
+    → Spaces m blank space (c ∷ cs)
+spaces_over_break m blank space c cs e f white p =
+    record {
+      still_blank = p.still_blank;
+      some = p.some;
+      is = rw (no_left m c, e, f, white) p.is;
+      has = λ _. p.has refl;
+    }
+
+on_sign : (m : Marker) (blank space : Bool) (c : ℕ) (cs : List ℕ)
+    → (is_blank c || ((c == carriage_return) && (slice_index cs 0 == line_feed))) ≡ false → is_break c ≡ false
+    → (c == number_sign) ≡ true
+    → ((c == 32) || ((c == carriage_return) && (slice_index cs 0 == line_feed))) ≡ false
+    → SpacesBehind (along m 1) blank space cs
+    → Spaces m blank space (c ∷ cs)
+on_sign m blank space c cs e f g white p =
+    record { still_blank = p.still_blank; some = p.some; is = rw (no_left m c, e, f, g, white) p.is; has = p.has }
+
+no_white : (c : ℕ) (r : Bool) → (is_blank c || r) ≡ false → ((c == 32) || r) ≡ false
+no_white c r e = sym (white_is c r (ink_no_tab c (or_parts (is_blank c) r e).0)) ∙ e
+
+spaces_kind : (m : Marker) (blank space : Bool) (c : ℕ) (cs : List ℕ) (is_white is_line is_sign : Bool)
+    → (is_blank c || ((c == carriage_return) && (slice_index cs 0 == line_feed))) ≡ is_white → is_break c ≡ is_line
+    → (c == number_sign) ≡ is_sign
+    → has_tab (c ∷ cs) ≡ false
+    → (has_tab cs ≡ false → Spaces (along m 1) blank true cs)
+    → (has_tab cs ≡ false → Spaces (next_line m 1) true true cs)
+    → (comment_has_tab cs ≡ false → SpacesBehind (along m 1) blank space cs) → Spaces m blank space (c ∷ cs)
+spaces_kind m blank space c cs true q r e f g clean on line sign =
+    let whole : has_tab (c ∷ cs) ≡ ((c == 9) || has_tab cs) = rw e refl in
+    let n = or_parts (c == 9) (has_tab cs) (sym whole ∙ clean) in
+    on_white m blank space c cs e (sym (white_is c ((c == 13) && (slice_index cs 0 == 10)) n.0) ∙ e) (on n.1)
+spaces_kind m blank space c cs false true r e f g clean on line sign =
+    let same : has_tab (c ∷ cs) ≡ has_tab cs = rw (e, f) refl in
+    spaces_over_break m blank space c cs e f (no_white c ((c == 13) && (slice_index cs 0 == 10)) e)
+    (line (sym same ∙ clean))
+spaces_kind m blank space c cs false false true e f g clean on line sign =
+    let same : has_tab (c ∷ cs) ≡ comment_has_tab cs = rw (e, f, g) refl in
+    on_sign m blank space c cs e f g (no_white c ((c == 13) && (slice_index cs 0 == 10)) e) (sign (sym same ∙ clean))
+spaces_kind m blank space c cs false false false e f g clean on line sign =
+    let white = no_white c ((c == 13) && (slice_index cs 0 == 10)) e in
+    record { still_blank = blank; some = space; is = rw (no_left m c, e, f, g, white) refl; has = λ h. h }
+
+skips_in_word : (m : Marker) (blank space : Bool) (c : ℕ) (cs : List ℕ) → is_yaml_non_break c ≡ true
+    → SpacesBehind (along m 1) blank space cs → SpacesBehind m blank space (c ∷ cs)
+skips_in_word m blank space c cs e p = record {
+  still_blank = p.still_blank;
+  some = p.some;
+  is = rw e p.is;
+  has = p.has;
+}
+
+behind_return : (m : Marker) (blank space : Bool) (c : ℕ) (cs : List ℕ) → is_yaml_non_break c ≡ false
+    → ((c == carriage_return) && (slice_index cs 0 == line_feed)) ≡ true → Spaces (along m 1) blank true cs
+    → SpacesBehind m blank space (c ∷ cs)
+behind_return m blank space c cs e f p =
+    record { still_blank = p.still_blank; some = p.some; is = rw (e, f) p.is; has = λ _. p.has refl }
+
+skips_behind_line : (m : Marker) (blank space : Bool) (c : ℕ) (cs : List ℕ) → is_yaml_non_break c ≡ false
+    → ((c == carriage_return) && (slice_index cs 0 == line_feed)) ≡ false → is_break c ≡ true
+    → Spaces (next_line m 1) true true cs → SpacesBehind m blank space (c ∷ cs)
+skips_behind_line m blank space c cs e f g p =
+    record { still_blank = p.still_blank; some = p.some; is = rw (e, f, g) p.is; has = λ _. p.has refl }
+
+behind_kind : (m : Marker) (blank space : Bool) (c : ℕ) (cs : List ℕ) (is_word is_return is_line : Bool)
+    → is_yaml_non_break c ≡ is_word → ((c == carriage_return) && (slice_index cs 0 == line_feed)) ≡ is_return
+    → is_break c ≡ is_line
+    → comment_has_tab (c ∷ cs) ≡ false
+    → (comment_has_tab cs ≡ false → SpacesBehind (along m 1) blank space cs)
+    → (has_tab cs ≡ false → Spaces (along m 1) blank true cs)
+    → (has_tab cs ≡ false → Spaces (next_line m 1) true true cs) → SpacesBehind m blank space (c ∷ cs)
+behind_kind m blank space c cs true q r e f g clean word on line =
+    let same : comment_has_tab (c ∷ cs) ≡ comment_has_tab cs = rw e refl in
+    skips_in_word m blank space c cs e (word (sym same ∙ clean))
+behind_kind m blank space c cs false true r e f g clean word on line =
+    let same : comment_has_tab (c ∷ cs) ≡ has_tab cs = rw (e, f) refl in
+    behind_return m blank space c cs e f (on (sym same ∙ clean))
+behind_kind m blank space c cs false false true e f g clean word on line =
+    let same : comment_has_tab (c ∷ cs) ≡ has_tab cs = rw (e, f, g) refl in
+    skips_behind_line m blank space c cs e f g (line (sym same ∙ clean))
+behind_kind m blank space c cs false false false e f g clean word on line =
+    record { still_blank = blank; some = space; is = rw (e, f, g) refl; has = λ h. h }
+
+mutual
+  spaces_are : (m : Marker) (blank space : Bool) (t : List ℕ) → has_tab t ≡ false → Spaces m blank space t
+  spaces_are m blank space [] clean = record { still_blank = blank; some = space; is = refl; has = λ h. h }
+  spaces_are m blank space (c ∷ cs) clean =
+      spaces_kind m blank space c cs (is_blank c || ((c == 13) && (slice_index cs 0 == 10))) (is_break c) (c == 35) refl
+      refl refl clean
+      (λ k. spaces_are (along m 1) blank true cs k) (λ k. spaces_are (next_line m 1) true true cs k)
+      (λ k. behind_are (along m 1) blank space cs k)
+
+  behind_are : (m : Marker) (blank space : Bool) (t : List ℕ) → comment_has_tab t ≡ false → SpacesBehind m blank space t
+  behind_are m blank space [] clean = record { still_blank = blank; some = space; is = refl; has = λ h. h }
+  behind_are m blank space (c ∷ cs) clean =
+      behind_kind m blank space c cs (is_yaml_non_break c) ((c == 13) && (slice_index cs 0 == 10)) (is_break c) refl
+      refl refl clean
+      (λ k. behind_are (along m 1) blank space cs k) (λ k. spaces_are (along m 1) blank true cs k)
+      (λ k. spaces_are (next_line m 1) true true cs k)
+
+-- what a `?` passes: something, up to the next token
+pub spaces_reach : (m : Marker) (blank : Bool) (c : ℕ) (t : List ℕ) → (c ≡ 32) ⊎ (c ≡ line_feed)
+    → has_tab (c ∷ t) ≡ false
+    → (b : Bool) × (gap.end_of_spaces m blank false (c ∷ t) ≡ gap.spaces_end (past 0 m (c ∷ t)).0 b true
+    (past 0 m (c ∷ t)).1)
+spaces_reach m blank c t (inl e) clean =
+    let p = spaces_are (along m 1) blank true t (subst (λ (x : ℕ). has_tab (x ∷ t) ≡ false) e clean) in
+    let last : gap.spaces_end (past 0 (along m 1) t).0 p.still_blank p.some (past 0 (along m 1) t).1
+    ≡ gap.spaces_end (past 0 (along m 1) t).0 p.still_blank true (past 0 (along m 1) t).1 =
+    ap (λ (s : Bool). gap.spaces_end (past 0 (along m 1) t).0 p.still_blank s (past 0 (along m 1) t).1)
+    (p.has refl) in (
+      p.still_blank,
+      subst (λ (x : ℕ). gap.end_of_spaces m blank false (x ∷ t)
+          ≡ gap.spaces_end (past 0 m (x ∷ t)).0 p.still_blank true (past 0 m (x ∷ t)).1) (sym e) (p.is ∙ last),
+    )
+spaces_reach m blank c t (inr e) clean =
+    let p = spaces_are (next_line m 1) true true t (subst (λ (x : ℕ). has_tab (x ∷ t) ≡ false) e clean) in
+    let last : gap.spaces_end (past 0 (next_line m 1) t).0 p.still_blank p.some (past 0 (next_line m 1) t).1
+    ≡ gap.spaces_end (past 0 (next_line m 1) t).0 p.still_blank true (past 0 (next_line m 1) t).1 =
+    ap (λ (s : Bool). gap.spaces_end (past 0 (next_line m 1) t).0 p.still_blank s (past 0 (next_line m 1) t).1)
+    (p.has refl) in (
+      p.still_blank,
+      subst (λ (x : ℕ). gap.end_of_spaces m blank false (x ∷ t)
+          ≡ gap.spaces_end (past 0 m (x ∷ t)).0 p.still_blank true (past 0 m (x ∷ t)).1) (sym e) (p.is ∙ last),
+    )
+
+-- ## The text before a token, tabs among it
+
+abbrev pub Passes : List ℕ → Type 0
+Passes w = (m : Marker) (y : List ℕ) → past 0 m (w ++ y) ≡ past 0 (moved m w) y
+
+pub skipped_passes : (w : List ℕ) → IsSkipped w → Passes w
+skipped_passes w h m y = skipped_past m w y h
+
+pub both_pass : (a b : List ℕ) → Passes a → Passes b → Passes (a ++ b)
+both_pass a b h k m y =
+    ap (past 0 m) (append_assoc a b y) ∙ h m (b ++ y) ∙ k (moved m a) y
+    ∙ ap (λ (n : Marker). past 0 n y) (sym (moved_append m a b))
+
+pub blanks_pass : (w : List ℕ) → AreIn is_blank w → Passes w
+blanks_pass w are m y = (blanks_past 0 w are m (omega arith)).is y
+
+prefix_blank : (indent : ℕ) (w : List ℕ) → IsLinePrefix indent w → AreIn is_blank w
+prefix_blank indent w (front, blanks, (n, low, spaced), are, is) =
+    subst (AreIn is_blank) (sym (is ∙ ap (λ (x : List ℕ). x ++ blanks) spaced))
+    (both_in is_blank (spaces n) blanks (spaces_are_blank n) are)
+
+next_line_passes : (indent : ℕ) (w : List ℕ) → IsNextLine indent w → Passes w
+next_line_passes indent w (end, filler, front, end_is, filler_is, prefix, e) =
+    subst Passes (sym e) (both_pass end (filler ++ front) (skipped_passes end (line_end_skipped end end_is))
+    (both_pass filler front (skipped_passes filler (filler_skipped filler filler_is))
+    (blanks_pass front (prefix_blank indent front prefix))))
+
+pub text_gap_passes : (indent : ℕ) (gap : List ℕ) → IsGap indent gap → Passes gap
+text_gap_passes indent gap (inl (some, are)) = blanks_pass gap are
+text_gap_passes indent gap (inr h) = next_line_passes indent gap h
+
+pub gap_passes : (place : Position) (gap : List ℕ) → IsGapAt place gap → Passes gap
+gap_passes place gap (inl (some, are)) = blanks_pass gap are
+gap_passes place gap (inr (inl h)) = next_line_passes (indent_at place) gap h
+gap_passes place gap (inr (inr (first, e))) = subst Passes (sym e) (λ m y. refl)

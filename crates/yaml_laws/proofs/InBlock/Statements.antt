@@ -1,0 +1,171 @@
+-- What is shown of nodes and collections at block level.
+use Rattle.std.proofs.Common.{◌≡◌, ℕ, suc, ◌+◌, ◌≤◌, Bool, true, false, List, [], ◌∷◌, ◌++◌, length, slice_index, IsFalse, ◌⊎◌, inl, inr}
+use Rattle.std.specs.Prelude.{Some, None}
+use Rattle.saphyr_input.specs.Indicators.{colon}
+use Rattle.saphyr_input.specs.Classes.{is_blank_or_breakz}
+use Rattle.saphyr_scalar.specs.declared.scalar.position.Marker.{Marker}
+use Rattle.saphyr_scalar.specs.Reading.BlockLines.{spaces}
+use Rattle.scalar_laws.specs.Spelling.Spaces.{IsLineEnd, IsFiller}
+use Rattle.saphyr_scanner.specs.Steps.Core.{is_too_far, least_column}
+use Rattle.saphyr_scanner.specs.Steps.Queue as queue
+use Rattle.saphyr_scanner.specs.Steps.Queue.{bare_place}
+use Rattle.saphyr_scanner.specs.Views.Tokens.{Piece}
+use Rattle.saphyr_scanner.specs.Steps.State.{State}
+use Rattle.saphyr_scanner.specs.Grammar.Tokens.{Kind}
+use Rattle.saphyr_scanner.specs.Grammar.TokenGrammar as grammar
+use Rattle.saphyr_scanner.specs.Grammar.Forest.{Style, Properties, Node, Scalar, Nodes, Pairs, left_out}
+use Rattle.saphyr_scanner.specs.Limits.{most_open}
+use Rattle.saphyr_scanner.proofs.Queues.{place_kinds}
+use Rattle.yaml_laws.specs.Grammar.FlowNodes.{IsFlowNode, IsOnLine, IsPlainKeyNode, IsKeyText, IsBeforeColon, IsProperties}
+use Rattle.yaml_laws.specs.Grammar.BlockNodes.{Position, BehindMark, BehindKey, is_start, indent_at, IsGapAt, IsFlowInBlock, IsStyled, IsScalarFront, IsScalarInBlock, BehindDash, BehindMarker, AtStart, is_value_ahead}
+use Rattle.yaml_laws.proofs.Flow.States.{moved, past}
+use Rattle.yaml_laws.proofs.Flow.Inks.{BeginsInk}
+use Rattle.yaml_laws.proofs.InBlock.Lines.{FitsOnLines}
+use Rattle.yaml_laws.proofs.InBlock.States.{Frame, Moment, core_of, state_of, IsUntabbed, EndsDocument, IsLeftOf, GoesOnAs, At, Before}
+use Rattle.yaml_laws.proofs.InBlock.Skips.{IsClean}
+use Rattle.yaml_laws.proofs.InFlow.KeyScalars.{Blanks}
+use Rattle.yaml_laws.proofs.Flow.NoDashes.{NoDash}
+
+-- in which part of the token grammar a node at a place stands
+abbrev pub context_at : Position → grammar.Context
+context_at (BehindMark m) = grammar.InBlockMapping
+context_at (BehindKey m) = grammar.InBlockMapping
+context_at _ = grammar.InBlock
+
+pub place_allows_block : (place : Position) → grammar.AllowsBlock (context_at place)
+place_allows_block (BehindDash m) = tt
+place_allows_block (BehindMark m) = tt
+place_allows_block (BehindKey m) = tt
+place_allows_block BehindMarker = tt
+place_allows_block AtStart = tt
+
+-- What stands behind a node, from m on: the next token ends the document or stands left of a column, and no tab stands
+-- before it on its line.
+pub record EndsNodeAt (column : ℕ) (m : Marker) (o : List ℕ) : Type 0 where
+  pub left : IsLeftOf column (past 0 m o).0 (past 0 m o).1
+  pub clean : IsClean o
+
+-- The scanner stands before what is behind a piece, in a frame, where a key may begin, or the document ends.
+pub record ArrivedAt (limit : ℕ) (start : State) (f : Frame) (ts : List Kind) (q : Marker × List ℕ) : Type 0 where
+  pub at : At limit start f q.0 q.1 ts
+  pub next : EndsDocument q.0 q.1 ⊎ ((at.key ≡ None) × (at.allowed ≡ true))
+
+abbrev pub Arrived : ℕ → State → Frame → Marker → List ℕ → List Kind → Type 0
+Arrived limit start f m o ts = ArrivedAt limit start f ts (past 0 m o)
+
+-- behind a text stands a line's start, or nothing
+abbrev pub EndsWithLine : List ℕ → List ℕ → Type 0
+EndsWithLine t o = ((m : Marker) → (moved m t).col ≡ 0) ⊎ (o ≡ [])
+
+-- A node at a place is left out, which it isn't at a document's start, or it has these tokens.
+abbrev pub AreRead : Node → Position → List Kind → Type 0
+AreRead node place ts = (IsFalse (is_start place) × (node ≡ left_out) × (ts ≡ []))
+    ⊎ grammar.YieldsNode node (context_at place) ts
+
+-- the same, wherever it stands
+pub as_optional : (node : Node) (place : Position) (ts : List Kind) → AreRead node place ts
+    → grammar.YieldsOptional node (grammar.YieldsNode node (context_at place)) ts
+as_optional node place ts (inl h) = inl (h.1, h.2)
+as_optional node place ts (inr h) = inr h
+
+-- A node at a place was read, which is left out or has these tokens.
+pub record NodeRead (limit : ℕ) (start : State) (node : Node) (place : Position) (f : Frame) (m : Marker) (o : List ℕ)
+    (ts : List Kind) : Type 0 where
+  pub tokens : List Kind
+  pub are : AreRead node place tokens
+  pub arrived : Arrived limit start f m o (ts ++ tokens)
+
+-- The text of a node at a place is read, where Is tells how it stands there.
+abbrev pub ReadsAt : ℕ → Node → (Position → List ℕ → List ℕ → Type 0) → Type 0
+ReadsAt limit node Is =
+    (place : Position) (f : Frame) → f.indent ≡ indent_at place → (m : Marker) (t o : List ℕ) → Is place t o
+    → FitsOnLines limit m t o → EndsNodeAt f.indent (moved m t) o
+    → (start : State) (ts : List Kind) → Before limit start place f m (t ++ o) ts
+    → NodeRead limit start node place f (moved m t) o ts
+
+-- A key on one line was read, up to its colon at m: its tokens are in the last places, of which the first may be
+-- opened.
+pub record KeyRead (limit : ℕ) (start : State) (node : Node) (f : Frame) (k m : Marker) (o : List ℕ) (ts : List Kind) :
+    Type 0 where
+  pub moment : Moment
+  pub places : List queue.Place
+  pub key : Piece
+  pub others : List queue.Place
+  pub follows : GoesOnAs limit start (state_of f moment (places ++ bare_place key ∷ others))
+  pub first : place_kinds places ≡ ts
+  pub tokens : List Kind
+  pub are : place_kinds (bare_place key ∷ others) ≡ tokens
+  pub node_are : grammar.YieldsNode node grammar.InBlockMapping tokens
+  pub candidate : moment.key ≡ Some (record { mark = k; place = length places })
+  pub quiet : moment.comment ≡ None
+  pub lands : past 0 moment.cursor.mark moment.cursor.rest ≡ (m, colon ∷ o)
+  pub untabbed : IsUntabbed (least_column (core_of f moment)) moment.cursor
+  pub near : is_too_far moment.key m ≡ false
+  pub low : moment.adjacent ≤ m.index
+
+-- the same of each key
+abbrev pub ReadsKey : ℕ → Node → Type 0
+ReadsKey limit node =
+    (f : Frame) (m : Marker) (t o : List ℕ) (n : Blanks) → f.indent ≤ m.col + 1
+    → IsKeyText (IsFlowNode most_open node false (suc m.col)) node false (suc m.col) t n.text → IsOnLine t
+    → IsBeforeColon node n.text → length (t ++ n.text) ≤ 1024
+    → is_blank_or_breakz (slice_index o 0) ≡ true → FitsOnLines limit m (t ++ n.text) (58 ∷ o)
+    → (start : State) (ts : List Kind) → (v : At limit start f m (t ++ (n.text ++ (58 ∷ o))) ts) → v.allowed ≡ true
+    → KeyRead limit start node f m (moved m (t ++ n.text)) o ts
+
+-- Properties before a block collection on the next lines were read, up to its first token at m.
+pub record PropertiesRead (limit : ℕ) (start : State) (p : Properties) (f : Frame) (m : Marker) (y : List ℕ)
+    (ts : List Kind) : Type 0 where
+  pub tokens : List Kind
+  pub are : grammar.YieldProperties p tokens
+  pub at : At limit start f m y (ts ++ tokens)
+  pub none : at.key ≡ None
+  pub allowed : at.allowed ≡ true
+
+-- the rest of a line behind properties, its break, filler, and the indentation of the next token
+abbrev pub IsNextLineText : List ℕ → Type 0
+IsNextLineText w = (end filler : List ℕ) × (n : ℕ) × IsLineEnd end × IsFiller filler × (w ≡ end ++ (filler ++ spaces n))
+
+-- `t` is the properties, `front` stands before them, and `w` the rest of their line, filler and indentation.
+abbrev pub ReadsProperties : ℕ → Type 0
+ReadsProperties limit =
+    (p : Properties) (place : Position) (f : Frame) → f.indent ≡ indent_at place → (m : Marker) (front t w y : List ℕ)
+    → IsGapAt place front → IsProperties p (indent_at place) t → IsNextLineText w → BeginsInk y
+    → FitsOnLines limit m (front ++ (t ++ w)) y → (start : State) (ts : List Kind)
+    → Before limit start place f m (front ++ (t ++ (w ++ y))) ts
+    → PropertiesRead limit start p f (moved m (front ++ (t ++ w))) y ts
+
+-- What is shown of the leaves, from which collections follow.
+pub record ReadsLeaves (limit : ℕ) : Type 0 where
+  pub flow : (node : Node) → ReadsAt limit node (IsFlowInBlock most_open node)
+  pub block_scalar : (p : Properties) (style : Style) (value : List ℕ)
+      → ReadsAt limit (Scalar p style value) (IsScalarInBlock p style value)
+  pub key : (node : Node) → ReadsKey limit node
+  pub properties : ReadsProperties limit
+  pub key_ink : (node : Node) (indent : ℕ) (t : List ℕ) → IsPlainKeyNode node false indent t → BeginsInk t
+  pub flow_ink : (node : Node) (room indent : ℕ) (in_flow : Bool) (t : List ℕ) → IsFlowNode room node in_flow indent t
+      → BeginsInk t
+  pub flow_dash : (node : Node) (room indent : ℕ) (in_flow : Bool) (t o : List ℕ) → IsFlowNode room node in_flow indent t
+      → NoDash (t ++ o)
+  pub block_ink : (p : Properties) (style : Style) (value : List ℕ) (indent : ℕ) (front t o : List ℕ)
+      → IsScalarFront p indent front → IsStyled style value indent t o → BeginsInk (front ++ t)
+  pub scalar_ends : (style : Style) (value : List ℕ) (indent : ℕ) (t o : List ℕ) → IsStyled style value indent t o
+      → EndsWithLine t o
+
+-- ## Collections
+
+-- The entries of a sequence were read, inside its frame.
+pub record EntriesRead (limit : ℕ) (start : State) (nodes : Nodes) (g : Frame) (m : Marker) (o : List ℕ)
+    (ts : List Kind) : Type 0 where
+  pub tokens : List Kind
+  pub are : grammar.YieldBlockEntries nodes tokens
+  pub arrived : Arrived limit start g m o (ts ++ tokens)
+
+-- The pairs of a mapping at a column were read, from m on, inside its frame. They begin with a value only where its `:`
+-- stands ahead.
+pub record PairsRead (limit : ℕ) (start : State) (pairs : Pairs) (column : ℕ) (g : Frame) (m : Marker) (t o : List ℕ)
+    (ts : List Kind) : Type 0 where
+  pub tokens : List Kind
+  pub are : grammar.YieldBlockPairs pairs tokens
+  pub begins : grammar.BeginsWithValue tokens → is_value_ahead false column m.col (t ++ o) ≡ true
+  pub arrived : Arrived limit start g (moved m t) o (ts ++ tokens)

@@ -1,0 +1,177 @@
+-- The scanner takes a text of YAML's grammar and makes tokens of its forest.
+use Rattle.std.proofs.Common.{◌≡◌, ℕ, ◌≤◌, Bool, true, false, List, [], ◌∷◌, ◌++◌, length, ◌⊎◌, inl, inr, refl, sym, ap, ◌∙◌, arith, subst, append_assoc, append-nil}
+use Rattle.std.specs.Prelude.{None, ◌==◌, not}
+use Rattle.saphyr_input.specs.Classes.{carriage_return}
+use Rattle.saphyr_scalar.specs.Views.Cursor.{start_cursor}
+use Rattle.saphyr_scalar.specs.Spelling.Tag.{AreIn}
+use Rattle.saphyr_scanner.specs.Grammar.Forest.{Forest}
+use Rattle.saphyr_scanner.specs.Limits.{most_open}
+use Rattle.saphyr_scanner.specs.Grammar.Tokens as tokens
+use Rattle.saphyr_scanner.specs.Grammar.Tokens.{Kind}
+use Rattle.saphyr_scanner.specs.Grammar.TokenGrammar as grammar
+use Rattle.saphyr_scanner.specs.Grammar.TokenGrammar.{AreEndsAndMarks, Yields}
+use Rattle.saphyr_scanner.specs.Steps.State.{State, start}
+use Rattle.saphyr_scanner.proofs.Leads.{LeadsTo}
+use Rattle.yaml_laws.specs.Grammar.Yaml as yaml
+use Rattle.yaml_laws.specs.Grammar.Yaml.{IsDocumentPrefix, no_prefix, mark_prefix, end_prefix, IsYaml}
+use Rattle.yaml_laws.proofs.Flow.States.{moved, ReaderPromises}
+use Rattle.yaml_laws.proofs.Flow.Fillers.{last_filler_past}
+use Rattle.yaml_laws.proofs.Documents.Lines.{passes_filler}
+use Rattle.yaml_laws.proofs.Documents.Stands.{Lined, StandsInStream}
+use Rattle.yaml_laws.proofs.Documents.Markers.{reads_mark, reads_end, FinishesStream, reads_stream_end}
+use Rattle.yaml_laws.proofs.InBlock.States.{crosses}
+use Rattle.yaml_laws.proofs.InBlock.Follows.{follows_itself}
+use Rattle.yaml_laws.proofs.InBlock.Statements.{ReadsLeaves}
+use Rattle.yaml_laws.proofs.InBlock.Documents.Ends.{plain_behind, AreBlockDocuments, HasNoReturn, suffix_text, lands_behind}
+use Rattle.yaml_laws.proofs.InBlock.Documents.{reads_document}
+use Rattle.std.proofs.Math.Bool.{or-true}
+use Rattle.scalar_laws.proofs.Beginnings.{front_in, back_in}
+use Rattle.saphyr_scanner.proofs.Queues.{place_kinds}
+use Rattle.saphyr_scanner.proofs.Root.{stream_start_place, fetches_stream_start}
+
+-- ## Between documents
+
+-- The scanner has read what may stand before a document.
+pub record PrefixStands (limit : ℕ) (start : State) (others : List ℕ) (ts : List Kind) : Type 0 where
+  pub marks : List Kind
+  pub are : AreEndsAndMarks marks
+  pub stands : StandsInStream limit start true (Lined true others) others (ts ++ marks)
+
+with_mark : {limit : ℕ} {start : State} {others : List ℕ} (ts : List Kind) (k : Kind)
+    → (k ≡ tokens.DocumentEnd) ⊎ (k ≡ tokens.ByteOrderMark) → PrefixStands limit start others (ts ++ k ∷ [])
+    → PrefixStands limit start others ts
+with_mark {limit = limit} {start = start} {others = others} ts k is p = record {
+  marks = k ∷ p.marks;
+  are = (is, p.are);
+  stands = subst (StandsInStream limit start true (Lined true others) others) (append_assoc ts (k ∷ []) p.marks)
+      p.stands;
+}
+
+pub reads_prefix : {limit : ℕ} {start : State} (prefix others : List ℕ) (ts : List Kind)
+    → IsDocumentPrefix prefix others
+    → StandsInStream limit start true (Lined true (prefix ++ others)) (prefix ++ others) ts
+    → PrefixStands limit start others ts
+reads_prefix {limit = limit} {start = start} _ _ ts (no_prefix others) v =
+    record {
+      marks = [];
+      are = tt;
+      stands = subst (StandsInStream limit start true (Lined true others) others) (sym (append-nil ts)) v;
+    }
+reads_prefix {limit = limit} {start = start} _ _ ts (mark_prefix filler more others is h) v =
+    let first = subst (λ (x : List ℕ). StandsInStream limit start true (Lined true x) x ts)
+    (append_assoc filler (65279 ∷ more) others) v in
+    with_mark ts tokens.ByteOrderMark (inr refl) (reads_prefix more others (ts ++ tokens.ByteOrderMark ∷ []) h
+    (reads_mark (more ++ others) (passes_filler filler (65279 ∷ (more ++ others)) is first)))
+reads_prefix {limit = limit} {start = start} _ _ ts (end_prefix filler end more others is end_is h) v =
+    let first = subst (λ (x : List ℕ). StandsInStream limit start true (Lined true x) x ts)
+    (suffix_text filler end more others) v in
+    with_mark ts tokens.DocumentEnd (inl refl) (reads_prefix more others (ts ++ tokens.DocumentEnd ∷ []) h
+    (reads_end end (more ++ others)
+    (passes_filler filler (46 ∷ 46 ∷ 46 ∷ (end ++ (more ++ others))) is first) end_is))
+
+-- what stands behind a document is read, where documents are
+reads_behind : {limit : ℕ} {start : State} (ds : Forest)
+    → ((free : Bool) (t : List ℕ) (ts : List Kind) → AreBlockDocuments ds free t → HasNoReturn t
+    → StandsInStream limit start free (Lined free t) t ts
+    → FinishesStream limit start (grammar.YieldDocuments ds free) ts)
+    → (o : List ℕ) (ts : List Kind) → yaml.IsBehindDocument (AreBlockDocuments ds) o → HasNoReturn o
+    → StandsInStream limit start false (Lined false o) o ts
+    → FinishesStream limit start (grammar.YieldsBehindDocument (grammar.YieldDocuments ds)) ts
+reads_behind ds go o ts (inl h) clean v =
+    let f = go false o ts h clean v in
+    record {
+      last = f.last;
+      leads = f.leads;
+      over = f.over;
+      others = f.others;
+      told = ([], [], f.others, tt, inl (refl, f.told), refl);
+      are = f.are;
+    }
+reads_behind {limit = limit} {start = start} ds go o ts
+    (inr (suffix, others, (filler, end, prefix, filler_is, end_is, prefix_is, e), h, is)) clean v =
+    let text : o ≡ filler ++ (46 ∷ 46 ∷ 46 ∷ (end ++ (prefix ++ others))) =
+    is ∙ ap (λ (x : List ℕ). x ++ others) e ∙ suffix_text filler end prefix others in
+    let first = passes_filler filler (46 ∷ 46 ∷ 46 ∷ (end ++ (prefix ++ others))) filler_is
+    (subst (λ (x : List ℕ). StandsInStream limit start false (Lined false x) x ts) text v) in
+    let p = reads_prefix prefix others (ts ++ tokens.DocumentEnd ∷ []) prefix_is
+    (reads_end end (prefix ++ others) first end_is) in
+    let f = go true others ((ts ++ tokens.DocumentEnd ∷ []) ++ p.marks) h
+    (back_in _ suffix others (subst HasNoReturn is clean)) p.stands in
+    record {
+      last = f.last;
+      leads = f.leads;
+      over = f.over;
+      others = tokens.DocumentEnd ∷ (p.marks ++ f.others);
+      told = ([], tokens.DocumentEnd ∷ p.marks, f.others, tt, inr (p.marks, p.are, refl, f.told), refl);
+      are = f.are ∙ behind_list ts p.marks f.others tokens.DocumentEnd;
+    }
+  where
+    behind_list : (ts marks us : List Kind) (k : Kind) → ((ts ++ k ∷ []) ++ marks) ++ us ≡ ts ++ (k ∷ (marks ++ us))
+    behind_list ts marks us k = simp append_assoc
+
+-- ## Documents
+
+reads_documents : {limit : ℕ} {start : State} → ReaderPromises → ReadsLeaves limit
+    → (forest : Forest) (free : Bool) (t : List ℕ) (ts : List Kind) → AreBlockDocuments forest free t → HasNoReturn t
+    → StandsInStream limit start free (Lined free t) t ts
+    → FinishesStream limit start (grammar.YieldDocuments forest free) ts
+reads_documents readers leaves [] free t ts h clean v =
+    let f = reads_stream_end v (moved v.mark t) (last_filler_past 0 v.mark t h) in
+    record { last = f.last; leads = f.leads; over = f.over; others = f.others; told = f.told; are = f.are }
+reads_documents {limit = limit} {start = start} readers leaves (d ∷ ds) free t ts
+    (filler, document, others, filler_is, is, behind, e) clean v =
+    let first = passes_filler filler (document ++ others) filler_is
+    (subst (λ (x : List ℕ). StandsInStream limit start free (Lined free x) x ts) e v) in
+    let left = back_in _ filler (document ++ others) (subst HasNoReturn e clean) in
+    let n = reads_document readers leaves d free document others ts is (lands_behind leaves ds others behind)
+    (plain_behind ds others behind) (front_in _ document others left) first in
+    let f = reads_behind ds (reads_documents readers leaves ds) others (ts ++ n.tokens) behind
+    (back_in _ document others left) n.stands in
+    record {
+      last = f.last;
+      leads = f.leads;
+      over = f.over;
+      others = n.tokens ++ f.others;
+      told = (n.tokens, f.others, n.are, f.told, refl);
+      are = f.are ∙ append_assoc ts n.tokens f.others;
+    }
+
+pub begins : (limit : ℕ) (text : List ℕ) → length text ≤ limit
+    → StandsInStream limit (start text) true (Lined true text) text (tokens.StreamStart ∷ [])
+begins limit text h =
+    let first = fetches_stream_start limit text in
+    record {
+      there = start_cursor text;
+      key = first.key;
+      allowed = true;
+      adjacent = 0;
+      comment = None;
+      places = stream_start_place ∷ [];
+      mark = record { index = 0; line = 1; col = 0 };
+      follows = follows_itself first.leads;
+      none = λ _. first.none refl;
+      fits = refl;
+      line = (inl refl, λ _. inl (or-true (crosses text)));
+      count = omega (arith, h);
+      are = refl;
+      quiet = λ _. refl;
+      low = omega arith;
+      lined = omega arith;
+    }
+
+-- From the start of a text of YAML's grammar the scanner comes to its end, and holds tokens of its forest.
+pub yaml_leads : ReaderPromises → (limit : ℕ) → ReadsLeaves limit → (forest : Forest) (text : List ℕ)
+    → AreIn (λ c. not (c == carriage_return)) text → IsYaml most_open forest text → length text ≤ limit
+    → (d : State) × LeadsTo limit d (start text) × (d.core.ended ≡ true)
+    × ((tokens : List Kind) × Yields forest tokens × (place_kinds d.queue.places ≡ tokens))
+yaml_leads readers limit leaves forest text clean (prefix, others, prefix_is, documents, e) short =
+    let p = reads_prefix prefix others (tokens.StreamStart ∷ []) prefix_is
+    (subst (λ (x : List ℕ). StandsInStream limit (start text) true (Lined true x) x (tokens.StreamStart ∷ [])) e
+    (begins limit text short)) in
+    let f = reads_documents readers leaves forest true others (tokens.StreamStart ∷ p.marks) documents
+    (back_in _ prefix others (subst HasNoReturn e clean)) p.stands in (
+      f.last,
+      f.leads,
+      f.over,
+      (tokens.StreamStart ∷ (p.marks ++ f.others), (p.marks, f.others, p.are, f.told, refl), f.are),
+    )

@@ -1,0 +1,251 @@
+-- Where no tab stands ahead, none stands among the blanks before the next token. And what follows a token tells nothing
+-- of what stands before it.
+use Rattle.std.proofs.Common.{◌≡◌, ℕ, ◌+◌, ◌≤◌, Bool, true, false, List, [], ◌∷◌, ◌++◌, slice_index, refl, sym, ap, ◌∙◌, arith, append_assoc, IsTrue, ◌⊎◌, inl, inr}
+use Rattle.std.specs.Prelude.{◌||◌, ◌&&◌, ◌==◌, not, if◌then◌else◌}
+use Rattle.std.proofs.lemmas.Bool.Decides.{nat_tests}
+use Rattle.saphyr_input.specs.Classes.{is_blank, is_break, is_yaml_non_break, line_feed, carriage_return, space, tab}
+use Rattle.saphyr_scalar.specs.declared.scalar.position.Marker.{Marker}
+use Rattle.yaml_laws.specs.Grammar.BlockNodes.{has_tab_ahead}
+use Rattle.yaml_laws.proofs.Flow.States.{moved, IsInk}
+use Rattle.yaml_laws.proofs.Flow.Places.{behind_character}
+use Rattle.yaml_laws.proofs.InBlock.Skips.{has_tab, comment_has_tab}
+use Rattle.std.proofs.lemmas.Bool.{or_parts}
+use Rattle.saphyr_input.specs.Indicators.{number_sign}
+use Rattle.saphyr_scalar.specs.Spelling.Tag.{AreIn}
+use Rattle.scalar_laws.specs.Spelling.Spaces.{IsFiller, AreEach, joined_pieces, IsComment, IsFillerLine, IsLastFiller}
+use Rattle.yaml_laws.proofs.Flow.Spaces.{white_no_sign, break_no_sign}
+use Rattle.yaml_laws.proofs.Documents.Lines.{filler_line}
+use Rattle.saphyr_input.proofs.Basics.Booleans.{by_test}
+
+-- whether a character leads on to the next token
+abbrev leads_on : ℕ → Bool
+leads_on c = (c == 32) || is_break c || (c == 35)
+
+and_then : (a b : Bool) → a ≡ true → (a && b) ≡ false → b ≡ false
+and_then true b e h = h
+and_then false b e h = absurd (cc)
+
+white_leads : (c : ℕ) (b : Bool) → (is_blank c || ((c == carriage_return) && b)) ≡ true → (c == tab) ≡ false
+    → leads_on c ≡ true
+white_leads c true e f = grind (arith, nat_tests)
+white_leads c false e f = grind (arith, nat_tests)
+
+break_leads : (c : ℕ) → is_break c ≡ true → leads_on c ≡ true
+break_leads c e = grind (arith, nat_tests)
+
+sign_leads : (c : ℕ) → (c == number_sign) ≡ true → leads_on c ≡ true
+sign_leads c e = grind (arith, nat_tests)
+
+ahead_kind : (c : ℕ) (cs : List ℕ) (is_white is_line is_sign : Bool)
+    → (is_blank c || ((c == carriage_return) && (slice_index cs 0 == line_feed))) ≡ is_white → is_break c ≡ is_line
+    → (c == number_sign) ≡ is_sign
+    → has_tab_ahead false (c ∷ cs) ≡ false → (has_tab_ahead false cs ≡ false → has_tab cs ≡ false)
+    → (has_tab_ahead true cs ≡ false → comment_has_tab cs ≡ false)
+    → has_tab (c ∷ cs) ≡ false
+ahead_kind c cs true q r e f g h on sign =
+    let n = or_parts (c == 9) (leads_on c && has_tab_ahead (c == 35) cs) h in
+    let left = and_then (leads_on c) (has_tab_ahead (c == 35) cs) (white_leads c (slice_index cs 0 == 10) e n.0) n.1 in
+    let here = ap (λ (b : Bool). has_tab_ahead b cs) (sym (white_no_sign c (slice_index cs 0 == 10) e)) in
+    rw (e, n.0) (on (here ∙ left))
+ahead_kind c cs false true r e f g h on sign =
+    let n = or_parts (c == 9) (leads_on c && has_tab_ahead (c == 35) cs) h in
+    let left = and_then (leads_on c) (has_tab_ahead (c == 35) cs) (break_leads c f) n.1 in
+    let here = ap (λ (b : Bool). has_tab_ahead b cs) (sym (break_no_sign c f)) in
+    rw (e, f) (on (here ∙ left))
+ahead_kind c cs false false true e f g h on sign =
+    let n = or_parts (c == 9) (leads_on c && has_tab_ahead (c == 35) cs) h in
+    let left = and_then (leads_on c) (has_tab_ahead (c == 35) cs) (sign_leads c g) n.1 in
+    rw (e, f, g) (sign (ap (λ (b : Bool). has_tab_ahead b cs) (sym g) ∙ left))
+ahead_kind c cs false false false e f g h on sign = rw (e, f, g) refl
+
+tabs_ahead_of_comment : (c : ℕ) (cs : List ℕ) (is_word is_return is_line : Bool) → is_yaml_non_break c ≡ is_word
+    → ((c == carriage_return) && (slice_index cs 0 == line_feed)) ≡ is_return → is_break c ≡ is_line
+    → has_tab_ahead true (c ∷ cs) ≡ false
+    → (has_tab_ahead true cs ≡ false → comment_has_tab cs ≡ false)
+    → (has_tab_ahead false cs ≡ false → has_tab cs ≡ false)
+    → comment_has_tab (c ∷ cs) ≡ false
+tabs_ahead_of_comment c cs true q r e f g h word on =
+    rw e (word (ap (λ (b : Bool). has_tab_ahead (not b) cs) (sym (no_break c e)) ∙ h))
+  where
+    no_break : (c : ℕ) → is_yaml_non_break c ≡ true → is_break c ≡ false
+    no_break c e = grind (arith, nat_tests)
+tabs_ahead_of_comment c cs false true r e f g h word on =
+    rw (e, f) (on (ap (λ (b : Bool). has_tab_ahead (not b) cs) (sym (returns c (slice_index cs 0 == 10) f)) ∙ h))
+  where
+    returns : (c : ℕ) (b : Bool) → ((c == carriage_return) && b) ≡ true → is_break c ≡ true
+    returns c true e = grind (arith, nat_tests)
+    returns c false e = grind (arith, nat_tests)
+tabs_ahead_of_comment c cs false false true e f g h word on =
+    rw (e, f, g) (on (ap (λ (b : Bool). has_tab_ahead (not b) cs) (sym g) ∙ h))
+tabs_ahead_of_comment c cs false false false e f g h word on = rw (e, f, g) refl
+
+mutual
+  pub no_tab_ahead : (t : List ℕ) → has_tab_ahead false t ≡ false → has_tab t ≡ false
+  no_tab_ahead [] h = refl
+  no_tab_ahead (c ∷ cs) h =
+      ahead_kind c cs (is_blank c || ((c == 13) && (slice_index cs 0 == 10))) (is_break c) (c == 35) refl refl refl h
+      (λ k. no_tab_ahead cs k) (λ k. none_in_comment cs k)
+
+  none_in_comment : (t : List ℕ) → has_tab_ahead true t ≡ false → comment_has_tab t ≡ false
+  none_in_comment [] h = refl
+  none_in_comment (c ∷ cs) h =
+      tabs_ahead_of_comment c cs (is_yaml_non_break c) ((c == 13) && (slice_index cs 0 == 10)) (is_break c) refl refl
+      refl h
+      (λ k. none_in_comment cs k) (λ k. no_tab_ahead cs k)
+
+-- ## Where more text follows
+
+-- whether a tab stands ahead is told without what follows
+abbrev pub TellsTabs : List ℕ → List ℕ → Type 0
+TellsTabs more o = has_tab_ahead false (o ++ more) ≡ has_tab_ahead false o
+
+-- in mid-line
+column_behind_character : (m : Marker) (c : ℕ) → (c == line_feed) ≡ false → 1 ≤ (behind_character m c).col
+column_behind_character m c e = rw e (some m.col)
+  where
+    some : (n : ℕ) → 1 ≤ n + 1
+    some n = omega arith
+
+sign_no_feed : (c : ℕ) → (c == number_sign) ≡ true → (c == line_feed) ≡ false
+sign_no_feed c e = grind (arith, nat_tests)
+
+unbroken_no_feed : (c : ℕ) → not (is_break c) ≡ true → (c == line_feed) ≡ false
+unbroken_no_feed c e = feed c (falsely (is_break c) e)
+  where
+    falsely : (b : Bool) → not b ≡ true → b ≡ false
+    falsely false e = refl
+    falsely true e = absurd (cc)
+
+    feed : (c : ℕ) → is_break c ≡ false → (c == line_feed) ≡ false
+    feed c e = grind (arith, nat_tests)
+
+-- behind a text that ends a line
+same_ahead : (in_comment : Bool) (m : Marker) (t o more : List ℕ) → (in_comment ≡ true → 1 ≤ m.col)
+    → (moved m t).col ≡ 0 → TellsTabs more o
+    → has_tab_ahead in_comment (t ++ (o ++ more)) ≡ has_tab_ahead in_comment (t ++ o)
+same_ahead true m [] o more some e h = let k = some refl in absurd (omega (arith, k, e))
+same_ahead false m [] o more some e h = h
+same_ahead true m (c ∷ cs) o more some e h =
+    same_ahead (not (is_break c)) (behind_character m c) cs o more
+    (λ k. column_behind_character m c (unbroken_no_feed c k)) e h
+same_ahead false m (c ∷ cs) o more some e h =
+    ap (λ (b : Bool). (c == 9) || (leads_on c && b))
+    (same_ahead (c == 35) (behind_character m c) cs o more (λ k. column_behind_character m c (sign_no_feed c k)) e h)
+
+abbrev text_start : Marker
+text_start = record { index = 0; line = 1; col = 0 }
+
+pub tells_behind : (t o more : List ℕ) → ((m : Marker) → (moved m t).col ≡ 0) → TellsTabs more o
+    → TellsTabs more (t ++ o)
+tells_behind t o more h k =
+    ap (has_tab_ahead false) (append_assoc t o more)
+    ∙ same_ahead false text_start t o more (λ e. absurd (cc)) (h text_start) k
+
+pub tells_filler : (t o more : List ℕ) → IsFiller t → TellsTabs more o → TellsTabs more (t ++ o)
+tells_filler t o more h k =
+    ap (has_tab_ahead false) (append_assoc t o more)
+    ∙ same_ahead false text_start t o more (λ e. absurd (cc)) (filler_line text_start t h refl) k
+
+-- before a token
+pub tells_token : (c : ℕ) (cs more : List ℕ) → IsInk c → TellsTabs more (c ∷ cs)
+tells_token c cs more ink = rw (no_tab c ink.blank, no_space c ink.blank, ink.break, ink.comment) refl
+  where
+    no_tab : (c : ℕ) → is_blank c ≡ false → (c == tab) ≡ false
+    no_tab c h = grind (arith, nat_tests)
+
+    no_space : (c : ℕ) → is_blank c ≡ false → (c == space) ≡ false
+    no_space c h = grind (arith, nat_tests)
+
+-- ## Whether a token stands ahead
+
+-- behind blanks, breaks and comments; the first argument tells that a comment goes on
+abbrev pub has_token : Bool → List ℕ → Bool
+has_token in_comment [] = false
+has_token true (c ∷ cs) = has_token (not (is_break c)) cs
+has_token false (c ∷ cs) = if (c == 9) || leads_on c then has_token (c == 35) cs else true
+
+-- in front of one stands what ends a line
+token_front : (in_comment : Bool) (m : Marker) (t o : List ℕ) → (in_comment ≡ true → 1 ≤ m.col) → (moved m t).col ≡ 0
+    → has_token false o ≡ true → has_token in_comment (t ++ o) ≡ true
+token_front true m [] o some e h = let k = some refl in absurd (omega (arith, k, e))
+token_front false m [] o some e h = h
+token_front true m (c ∷ cs) o some e h =
+    token_front (not (is_break c)) (behind_character m c) cs o
+    (λ k. column_behind_character m c (unbroken_no_feed c k)) e h
+token_front false m (c ∷ cs) o some e h =
+    by_test ((c == 9) || leads_on c) (has_token (c == 35) (cs ++ o)) true (λ (b : Bool). b ≡ true)
+    (λ _. token_front (c == 35) (behind_character m c) cs o (λ k. column_behind_character m c (sign_no_feed c k)) e h)
+    (λ _. refl)
+
+pub token_behind : (t o : List ℕ) → ((m : Marker) → (moved m t).col ≡ 0) → has_token false o ≡ true
+    → has_token false (t ++ o) ≡ true
+token_behind t o h k = token_front false text_start t o (λ e. absurd (cc)) (h text_start) k
+
+pub token_filler : (t o : List ℕ) → IsFiller t → has_token false o ≡ true → has_token false (t ++ o) ≡ true
+token_filler t o h k =
+    token_front false text_start t o (λ e. absurd (cc)) (filler_line text_start t h refl) k
+
+pub token_here : (c : ℕ) (cs : List ℕ) → IsInk c → has_token false (c ∷ cs) ≡ true
+token_here c cs ink = rw (no_tab c ink.blank, no_space c ink.blank, ink.break, ink.comment) refl
+  where
+    no_tab : (c : ℕ) → is_blank c ≡ false → (c == tab) ≡ false
+    no_tab c h = grind (arith, nat_tests)
+
+    no_space : (c : ℕ) → is_blank c ≡ false → (c == space) ≡ false
+    no_space c h = grind (arith, nat_tests)
+
+-- none stands in filler
+words_none : (words o : List ℕ) → AreIn is_yaml_non_break words → has_token false o ≡ false
+    → has_token true (words ++ (line_feed ∷ o)) ≡ false
+words_none [] o h k = k
+words_none (c ∷ cs) o h k =
+    ap (λ (b : Bool). has_token (not b) (cs ++ (10 ∷ o))) (no_break c h.0) ∙ words_none cs o h.1 k
+  where
+    no_break : (c : ℕ) → IsTrue (is_yaml_non_break c) → is_break c ≡ false
+    no_break c h = grind (arith, nat_tests)
+
+last_words_none : (words : List ℕ) → AreIn is_yaml_non_break words → has_token true words ≡ false
+last_words_none [] h = refl
+last_words_none (c ∷ cs) h = rw (no_break c h.0) (last_words_none cs h.1)
+  where
+    no_break : (c : ℕ) → IsTrue (is_yaml_non_break c) → is_break c ≡ false
+    no_break c h = grind (arith, nat_tests)
+
+blanks_none : (w o : List ℕ) → AreIn is_blank w → has_token false o ≡ false → has_token false (w ++ o) ≡ false
+blanks_none [] o h k = k
+blanks_none (c ∷ cs) o h k = rw (leads c h.0, no_sign c h.0) (blanks_none cs o h.1 k)
+  where
+    leads : (c : ℕ) → IsTrue (is_blank c) → ((c == tab) || leads_on c) ≡ true
+    leads c h = grind (arith, nat_tests)
+
+    no_sign : (c : ℕ) → IsTrue (is_blank c) → (c == number_sign) ≡ false
+    no_sign c h = grind (arith, nat_tests)
+
+line_none : (t o : List ℕ) → IsFillerLine t → has_token false o ≡ false → has_token false (t ++ o) ≡ false
+line_none t o (text, (front, comment, are, k, is_text), is) h =
+    let whole : t ++ o ≡ front ++ (comment ++ (10 ∷ o)) =
+    ap (λ (x : List ℕ). x ++ o) (is ∙ ap (λ (x : List ℕ). x ++ (10 ∷ [])) is_text) ∙ simp append_assoc in
+    ap (has_token false) whole ∙ blanks_none front (comment ++ (10 ∷ o)) are (by_comment k)
+  where
+    by_comment : (comment ≡ []) ⊎ IsComment comment → has_token false (comment ++ (line_feed ∷ o)) ≡ false
+    by_comment (inl e) = ap (λ (x : List ℕ). has_token false (x ++ (10 ∷ o))) e ∙ h
+    by_comment (inr (words, are_words, e)) =
+        ap (λ (x : List ℕ). has_token false (x ++ (10 ∷ o))) e ∙ words_none words o are_words h
+
+filler_none : (ws : List (List ℕ)) (o : List ℕ) → AreEach IsFillerLine ws → has_token false o ≡ false
+    → has_token false (joined_pieces ws ++ o) ≡ false
+filler_none [] o h k = k
+filler_none (v ∷ vs) o h k =
+    ap (has_token false) (append_assoc v (joined_pieces vs) o) ∙ line_none v (joined_pieces vs ++ o) h.0
+    (filler_none vs o h.1 k)
+
+pub last_none : (t : List ℕ) → IsLastFiller t → has_token false t ≡ false
+last_none t (filler, text, (pieces, each, joins), (front, comment, are, k, is_text), is) =
+    let whole : t ≡ joined_pieces pieces ++ (front ++ comment) =
+    is ∙ ap (λ (x : List ℕ). x ++ text) joins ∙ ap (λ (x : List ℕ). joined_pieces pieces ++ x) is_text in
+    ap (has_token false) whole
+    ∙ filler_none pieces (front ++ comment) each (blanks_none front comment are (by_comment k))
+  where
+    by_comment : (comment ≡ []) ⊎ IsComment comment → has_token false comment ≡ false
+    by_comment (inl e) = ap (has_token false) e
+    by_comment (inr (words, are_words, e)) = ap (has_token false) e ∙ last_words_none words are_words

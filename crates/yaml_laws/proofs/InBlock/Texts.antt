@@ -1,0 +1,189 @@
+-- The texts of nodes at block level: where they end, and the columns and tokens behind what is skipped.
+use Rattle.std.proofs.Common.{◌≡◌, ℕ, zero, suc, ◌+◌, ◌<◌, ◌≤◌, List, [], ◌∷◌, ◌++◌, length, refl, sym, ap, ◌∙◌, arith, subst, append-nil, ◌⊎◌, inl, inr}
+use Rattle.std.specs.Prelude.{◌==◌, not}
+use Rattle.saphyr_input.specs.Classes.{line_feed}
+use Rattle.saphyr_scalar.specs.declared.scalar.position.Marker.{Marker}
+use Rattle.saphyr_scalar.specs.Reading.BlockLines.{spaces}
+use Rattle.saphyr_scalar.specs.Views.Cursor.{along}
+use Rattle.saphyr_scalar.specs.Spelling.Tag.{AreIn}
+use Rattle.scalar_laws.specs.Spelling.Spaces.{IsEol}
+use Rattle.saphyr_scanner.specs.Grammar.Forest.{Node, Alias, Scalar, Seq, Map, Nodes, NoNode, MoreNodes, Pairs, NoPair, MorePairs}
+use Rattle.saphyr_scanner.specs.Limits.{most_open}
+use Rattle.yaml_laws.specs.Grammar.BlockNodes.{Position, indent_at, IsLeftOut, IsFlowInBlock, IsBlockPair, IsEntryIndentation, IsBlockNode, AreEntries, AreOtherEntries, ArePairs, AreOtherPairs}
+use Rattle.yaml_laws.proofs.Flow.States.{IsInk, moved, past}
+use Rattle.yaml_laws.proofs.Flow.Places.{moved_append, moved_along}
+use Rattle.yaml_laws.proofs.Documents.Lines.{filler_line}
+use Rattle.yaml_laws.proofs.InBlock.States.{EndsDocument}
+use Rattle.yaml_laws.proofs.InBlock.Gaps.{ink_stop, stop_tabbed, stop_past}
+use Rattle.yaml_laws.proofs.InBlock.Skips.{IsSkipped, Passes, IsClean, skipped_passes, skipped_clean, skipped_append, spaces_skipped, filler_skipped}
+use Rattle.yaml_laws.proofs.InBlock.Statements.{EndsWithLine, EndsNodeAt, ReadsLeaves}
+
+-- ## Where a node ends
+
+pub ends_back : (a t o : List ℕ) → EndsWithLine t o → EndsWithLine (a ++ t) o
+ends_back a t o (inl h) = inl (λ m. ap (λ (n : Marker). n.col) (moved_append m a t) ∙ h (moved m a))
+ends_back a t o (inr h) = inr h
+
+ends_so : (t u o : List ℕ) → t ≡ u → EndsWithLine u o → EndsWithLine t o
+ends_so t u o e h = subst (λ (x : List ℕ). EndsWithLine x o) (sym e) h
+
+pub eol_ends : (t o : List ℕ) → IsEol t o → EndsWithLine t o
+eol_ends t o (inl (rest, h, is)) = ends_so t (rest ++ (10 ∷ [])) o is (ends_back rest (10 ∷ []) o (inl (λ m. refl)))
+eol_ends t o (inr h) = inr h.1
+
+last_ends : (a t o : List ℕ) → (t ≡ []) ⊎ EndsWithLine t o → EndsWithLine a (t ++ o) → EndsWithLine (a ++ t) o
+last_ends a t o (inr h) first = ends_back a t o h
+last_ends a t o (inl e) first =
+    ends_so (a ++ t) a o (ap (λ (x : List ℕ). a ++ x) e ∙ append-nil a)
+    (subst (λ (x : List ℕ). EndsWithLine a (x ++ o)) e first)
+
+left_out_ends : (node : Node) (place : Position) (t o : List ℕ) → IsLeftOut node place t o → EndsWithLine t o
+left_out_ends node place t o h = eol_ends t o h.2
+
+flow_ends : (room : ℕ) (node : Node) (place : Position) (t o : List ℕ) → IsFlowInBlock room node place t o
+    → EndsWithLine t o
+flow_ends room node place t o (gap, text, end, gap_is, is, apart, end_is, e) =
+    ends_so t (gap ++ (text ++ end)) o e (ends_back gap (text ++ end) o (ends_back text end o (eol_ends end o end_is)))
+
+pub pair_ends : (key value : Node)
+    → ((place : Position) (t o : List ℕ) → IsBlockNode most_open key place t o → EndsWithLine t o)
+    → ((place : Position) (t o : List ℕ) → IsBlockNode most_open value place t o → EndsWithLine t o)
+    → (m : ℕ) (t o : List ℕ)
+    → IsBlockPair most_open key value (IsBlockNode most_open key) (IsBlockNode most_open value) m t o
+    → EndsWithLine t o
+pair_ends key value K V m t o (inl (inl (node, between, v, node_is, line, spaced, before, short, h, e))) =
+    ends_so t (node ++ (between ++ ((58 ∷ []) ++ v))) o e
+    (ends_back node (between ++ (58 ∷ v)) o (ends_back between (58 ∷ v) o (ends_back (58 ∷ []) v o (V _ v o h))))
+pair_ends key value K V m t o (inl (inr (v, out, h, e))) =
+    ends_so t ((58 ∷ []) ++ v) o e (ends_back (58 ∷ []) v o (V _ v o h))
+pair_ends key value K V m t o (inr (inl (node, out, some, h, unvalued, e))) =
+    ends_so t ((63 ∷ []) ++ node) o e (ends_back (63 ∷ []) node o (K _ node o h))
+pair_ends key value K V m t o (inr (inr (node, colon, v, some, h, mark, k, e))) =
+    ends_so t ((63 ∷ []) ++ (node ++ (colon ++ v))) o e
+    (ends_back (63 ∷ []) (node ++ (colon ++ v)) o (ends_back node (colon ++ v) o (ends_back colon v o (V _ v o k))))
+
+mutual
+  pub node_ends : {limit : ℕ} → ReadsLeaves limit → (node : Node) (place : Position) (t o : List ℕ)
+      → IsBlockNode most_open node place t o → EndsWithLine t o
+  node_ends leaves (Alias name) place t o h = flow_ends most_open (Alias name) place t o h
+  node_ends leaves (Scalar p style value) place t o (inl h) = left_out_ends (Scalar p style value) place t o h
+  node_ends leaves (Scalar p style value) place t o (inr (inl h)) =
+      flow_ends most_open (Scalar p style value) place t o h
+  node_ends leaves (Scalar p style value) place t o (inr (inr (gap, front, scalar, gap_is, front_is, h, e))) =
+      ends_so t (gap ++ (front ++ scalar)) o e
+      (ends_back gap (front ++ scalar) o
+      (ends_back front scalar o (leaves.scalar_ends style value (indent_at place) scalar o h)))
+  node_ends leaves (Seq p nodes) place t o (inl h) = flow_ends most_open (Seq p nodes) place t o h
+  node_ends leaves (Seq p nodes) place t o (inr (m, lead, entries, lead_is, h, e)) =
+      ends_so t (lead ++ entries) o e (ends_back lead entries o (entries_end leaves nodes m entries o h))
+  node_ends leaves (Map p pairs) place t o (inl h) = flow_ends most_open (Map p pairs) place t o h
+  node_ends leaves (Map p pairs) place t o (inr (m, lead, entries, lead_is, h, e)) =
+      ends_so t (lead ++ entries) o e (ends_back lead entries o (pairs_end leaves pairs m entries o h))
+
+  pub entries_end : {limit : ℕ} → ReadsLeaves limit → (nodes : Nodes) (m : ℕ) (t o : List ℕ)
+      → AreEntries most_open nodes m t o
+      → EndsWithLine t o
+  entries_end leaves NoNode m t o h = absurd h
+  entries_end leaves (MoreNodes node nodes) m t o (entry, others, h, k, e) =
+      ends_so t ((45 ∷ []) ++ (entry ++ others)) o e
+      (ends_back (45 ∷ []) (entry ++ others) o
+      (last_ends entry others o (other_entries_end leaves nodes m others o k)
+      (node_ends leaves node _ entry (others ++ o) h)))
+
+  pub other_entries_end : {limit : ℕ} → ReadsLeaves limit → (nodes : Nodes) (m : ℕ) (t o : List ℕ)
+      → AreOtherEntries most_open nodes m t o → (t ≡ []) ⊎ EndsWithLine t o
+  other_entries_end leaves NoNode m t o h = inl h
+  other_entries_end leaves (MoreNodes node nodes) m t o (front, entry, others, front_is, h, k, e) =
+      inr (ends_so t (front ++ ((45 ∷ []) ++ (entry ++ others))) o e (ends_back front (45 ∷ (entry ++ others)) o
+      (ends_back (45 ∷ []) (entry ++ others) o
+      (last_ends entry others o (other_entries_end leaves nodes m others o k)
+      (node_ends leaves node _ entry (others ++ o) h)))))
+
+  pub pairs_end : {limit : ℕ} → ReadsLeaves limit → (pairs : Pairs) (m : ℕ) (t o : List ℕ)
+      → ArePairs most_open pairs m t o
+      → EndsWithLine t o
+  pairs_end leaves NoPair m t o h = absurd h
+  pairs_end leaves (MorePairs key value pairs) m t o (pair, others, h, k, e) =
+      ends_so t (pair ++ others) o e
+      (last_ends pair others o (other_pairs_end leaves pairs m others o k)
+      (pair_ends key value (λ place u z k. node_ends leaves key place u z k)
+      (λ place u z k. node_ends leaves value place u z k) m pair (others ++ o) h))
+
+  pub other_pairs_end : {limit : ℕ} → ReadsLeaves limit → (pairs : Pairs) (m : ℕ) (t o : List ℕ)
+      → AreOtherPairs most_open pairs m t o → (t ≡ []) ⊎ EndsWithLine t o
+  other_pairs_end leaves NoPair m t o h = inl h
+  other_pairs_end leaves (MorePairs key value pairs) m t o (front, pair, others, front_is, h, k, e) =
+      inr (ends_so t (front ++ (pair ++ others)) o e
+      (ends_back front (pair ++ others) o
+      (last_ends pair others o (other_pairs_end leaves pairs m others o k)
+      (pair_ends key value (λ place u z k. node_ends leaves key place u z k)
+      (λ place u z k. node_ends leaves value place u z k) m pair (others ++ o) h))))
+
+-- ## Columns
+
+no_feeds : (n : ℕ) → AreIn (λ c. not (c == line_feed)) (spaces n)
+no_feeds zero = tt
+no_feeds (suc n) = (refl, no_feeds n)
+
+spaces_size : (n : ℕ) → length (spaces n) ≡ n
+spaces_size zero = refl
+spaces_size (suc n) = let more = spaces_size n in omega (arith, more)
+
+pub spaces_moved : (m : Marker) (n : ℕ) → moved m (spaces n) ≡ along m n
+spaces_moved m n = moved_along m (spaces n) (no_feeds n) ∙ ap (along m) (spaces_size n)
+
+none_and : (a b : ℕ) → a ≡ 0 → a + b ≡ b
+none_and a b e = omega (arith, e)
+
+-- the column behind filler and indentation that begin at a line's start
+pub indentation_col : (m : Marker) (column : ℕ) (w : List ℕ) → IsEntryIndentation column w → m.col ≡ 0
+    → (moved m w).col ≡ column
+indentation_col m column w (filler, h, is) e =
+    ap (λ (x : List ℕ). (moved m x).col) is
+    ∙ ap (λ (n : Marker). n.col) (moved_append m filler (spaces column) ∙ spaces_moved (moved m filler) column)
+    ∙ none_and (moved m filler).col column (filler_line m filler h e)
+
+pub indentation_skipped : (column : ℕ) (w : List ℕ) → IsEntryIndentation column w → IsSkipped w
+indentation_skipped column w (filler, h, is) =
+    subst IsSkipped (sym is) (skipped_append filler (spaces column) (filler_skipped filler h) (spaces_skipped column))
+
+-- ## Before a token
+
+pub ink_clean : (c : ℕ) (cs : List ℕ) → IsInk c → IsClean (c ∷ cs)
+ink_clean c cs h least m blank = stop_tabbed least m blank (c ∷ cs) (ink_stop c cs h)
+
+-- where what is passed leads to a token
+pub passes_to : (m : Marker) (w : List ℕ) (c : ℕ) (cs : List ℕ) → Passes w → IsInk c
+    → past 0 m (w ++ (c ∷ cs)) ≡ (moved m w, c ∷ cs)
+passes_to m w c cs h ink = h m (c ∷ cs) ∙ stop_past (moved m w) (c ∷ cs) (ink_stop c cs ink)
+
+pub reaches : (m : Marker) (w : List ℕ) (c : ℕ) (cs : List ℕ) → IsSkipped w → IsInk c
+    → past 0 m (w ++ (c ∷ cs)) ≡ (moved m w, c ∷ cs)
+reaches m w c cs h ink = passes_to m w c cs (skipped_passes w h) ink
+
+-- What is skipped stands behind a node that ends a line, before a token at a column.
+pub behind_indented : (column : ℕ) (m : Marker) (w : List ℕ) (c : ℕ) (cs : List ℕ) → IsEntryIndentation column w
+    → IsInk c → m.col ≡ 0 → EndsNodeAt (suc column) m (w ++ (c ∷ cs))
+behind_indented column m w c cs h ink e =
+    let k = indentation_skipped column w h in
+    let there = reaches m w c cs k ink in
+    record {
+      left = inr (subst (λ (q : Marker × List ℕ). q.0.col < suc column) (sym there)
+          (less (moved m w).col column (indentation_col m column w h e)));
+      clean = skipped_clean w (c ∷ cs) k (ink_clean c cs ink);
+    }
+  where
+    less : (a b : ℕ) → a ≡ b → a < suc b
+    less a b e = omega (arith, e)
+
+-- further to the right, what is left of a column is left of it too
+pub behind_wider : (i j : ℕ) (m : Marker) (o : List ℕ) → i ≤ j → EndsNodeAt i m o → EndsNodeAt j m o
+behind_wider i j m o low h = record { left = by_left h.left; clean = h.clean }
+  where
+    further : (a i j : ℕ) → i ≤ j → a < i → a < j
+    further a i j l k = omega (arith, l, k)
+
+    by_left : EndsDocument (past 0 m o).0 (past 0 m o).1 ⊎ ((past 0 m o).0.col < i)
+        → EndsDocument (past 0 m o).0 (past 0 m o).1 ⊎ ((past 0 m o).0.col < j)
+    by_left (inl k) = inl k
+    by_left (inr k) = inr (further (past 0 m o).0.col i j low k)

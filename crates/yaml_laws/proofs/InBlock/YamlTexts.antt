@@ -1,0 +1,61 @@
+-- Each text of YAML's grammar gives tokens of its forest.
+use Rattle.std.proofs.Common.{false, ℕ, ◌<◌, ◌^◌, ◌≤◌, List, length, ap, ◌∙◌, arith}
+use Rattle.std.specs.Prelude.{map}
+use Rattle.saphyr_input.specs.Breaks.{normalized}
+use Rattle.saphyr_scanner.specs.Grammar.Forest.{Forest}
+use Rattle.saphyr_scanner.specs.Limits.{most_open}
+use Rattle.saphyr_scanner.specs.Steps.Remaining.{Scans, scan}
+use Rattle.saphyr_scanner.specs.Views.Tokens.{Piece, Remaining}
+use Rattle.saphyr_scanner.specs.Grammar.TokenGrammar.{Yields}
+use Rattle.saphyr_scanner.specs.Grammar.Tokens.{Kind}
+use Rattle.saphyr_scanner.proofs.Lazy.{handed_out}
+use Rattle.saphyr_scanner.proofs.Effects.Readers.{Readers}
+use Rattle.yaml_laws.specs.Grammar.Yaml.{IsYamlText}
+use Rattle.yaml_laws.specs.SameKinds.{HaveSameKinds}
+use Rattle.yaml_laws.proofs.Breaks.YamlTexts.{no_return_left, scans_too}
+use Rattle.yaml_laws.proofs.Breaks.Normal.{beside, normal_shorter}
+use Rattle.yaml_laws.proofs.Flow.Inks.{node_ink, plain_key_node_ink}
+use Rattle.yaml_laws.proofs.Flow.NoDashes.{node_no_dash}
+use Rattle.yaml_laws.proofs.Flow.States.{ReaderPromises}
+use Rattle.yaml_laws.proofs.InBlock.FlowNodes.{reads_flow}
+use Rattle.yaml_laws.proofs.InBlock.Keys.{reads_key}
+use Rattle.yaml_laws.proofs.InBlock.Properties.{reads_head, reads_properties}
+use Rattle.yaml_laws.proofs.InBlock.ScalarTexts.{ReadsBlocks, block_ink, scalar_ends}
+use Rattle.yaml_laws.proofs.InBlock.Scalars as scalars
+use Rattle.yaml_laws.proofs.InBlock.Statements.{ReadsLeaves}
+use Rattle.yaml_laws.proofs.InBlock.Streams.{yaml_leads}
+
+pub leaves : ReaderPromises → ReadsBlocks → (limit : ℕ) → limit < 2 ^ 63 → ReadsLeaves limit
+leaves reads blocks limit short = record {
+  flow = reads_flow reads limit short;
+  block_scalar = scalars.reads_block_scalars blocks short (reads_head reads limit short);
+  key = reads_key reads limit;
+  properties = reads_properties reads limit short;
+  key_ink = λ node indent t. plain_key_node_ink false indent node t;
+  flow_ink = λ node room indent in_flow t. node_ink indent room node in_flow t;
+  flow_dash = λ node room indent in_flow t o. node_no_dash indent room node in_flow t o;
+  block_ink = block_ink;
+  scalar_ends = scalar_ends;
+}
+
+-- each text of YAML's grammar gives tokens of its forest
+pub yaml_scans : Readers → ReaderPromises → ReadsBlocks → (limit : ℕ) → limit < 2 ^ 63
+    → (forest : Forest) (text : List ℕ)
+    → HaveSameKinds (scan limit text) (scan limit (normalized text))
+    → IsYamlText most_open forest text → length text ≤ limit
+    → (ts : List Kind) × Yields forest ts × Scans ts (scan limit text)
+yaml_scans readers reads blocks limit low forest text same yaml short =
+    let n = normalized text in
+    let clean = no_return_left (beside text) in
+    let l = normal_shorter text in
+    let run = yaml_leads reads limit (leaves reads blocks limit low) forest n clean yaml
+    (omega (arith, l, short)) in
+    let all = handed_out readers limit n run.0 run.1 run.2 in (
+      run.3.0,
+      run.3.1,
+      scans_too run.3.0 (scan limit text) (scan limit n) same (
+        ap (λ (r : Remaining). r.refusal) all,
+        ap (λ (r : Remaining). map (λ (t : Piece). t.kind) r.pieces) all
+            ∙ run.3.2,
+      ),
+    )

@@ -1,0 +1,250 @@
+-- Tokens on the line of a key at block level: the scanner keeps the place where the key begins.
+use Rattle.std.proofs.Common.{◌≡◌, ℕ, ◌+◌, ◌≤◌, Bool, true, false, List, [], ◌∷◌, ◌++◌, length, slice_index, Ok, refl, ap, ◌∙◌, arith}
+use Rattle.std.proofs.Math.Nat.{zero-add}
+use Rattle.std.specs.Prelude.{◌-◌, ◌&&◌, ◌==◌, not, nat_lt, nat_le, Option, Some}
+use Rattle.std.proofs.lemmas.Bool.Decides.{nat_tests}
+use Rattle.saphyr_input.specs.Classes.{is_blank}
+use Rattle.saphyr_input.specs.Places.{is_document_start, is_document_end}
+use Rattle.saphyr_scalar.specs.declared.scalar.position.Marker.{Marker}
+use Rattle.saphyr_scalar.specs.Views.Cursor.{Cursor, ◌>>=◌, along}
+use Rattle.saphyr_scalar.specs.Spelling.Tag.{AreIn}
+use Rattle.saphyr_scanner.specs.declared.engine.level.Context.TheVariants as context
+use Rattle.saphyr_scanner.specs.Grammar.Tokens.{Kind}
+use Rattle.saphyr_scanner.specs.Steps.Gap.{GapEnd, stop, end_of_gap}
+use Rattle.saphyr_scanner.specs.Steps.Queue.{Place}
+use Rattle.saphyr_scanner.specs.Steps.Core.{is_too_far, drop_far_key, from_to, completed_step}
+use Rattle.saphyr_scanner.specs.Steps.Level.{Candidate, Level}
+use Rattle.saphyr_scanner.specs.Steps.Passing.{pass_gap, check_comment, behind_gap}
+use Rattle.saphyr_scanner.specs.Steps.State.{State, on_core, after_step}
+use Rattle.saphyr_scanner.specs.Steps.Unrolling.{unroll}
+use Rattle.saphyr_scanner.specs.Steps.Fetch.{step, state_behind_content, fetch_here, arrive, fetch, check_limit, fetch_within}
+use Rattle.saphyr_scanner.proofs.Leads.{LeadsTo, stay, onward}
+use Rattle.yaml_laws.proofs.InFlow.States.{Around, core_at, state_at, least, least_low, drops_far_key, key_left, no_ends, none_unrolls, moment}
+use Rattle.yaml_laws.proofs.Flow.States.{moved, IsInk}
+use Rattle.yaml_laws.proofs.Flow.Gaps.{right_tab as no_left_tab}
+use Rattle.yaml_laws.proofs.Flow.Fillers.{right_tab, no_feed, blanks_past}
+use Rattle.yaml_laws.proofs.Flow.Arrivals.{BeginsToken}
+use Rattle.saphyr_scalar.proofs.Given.{cursor_at}
+use Rattle.saphyr_input.proofs.Basics.Numbers.{le_next}
+use Rattle.saphyr_input.proofs.Basics.Characters.{no_return}
+use Rattle.saphyr_input.proofs.Basics.Booleans.{and_false, and_or_false}
+use Rattle.std.proofs.lemmas.Bool.{le-ltb, le-leb}
+use Rattle.saphyr_scanner.proofs.Queues.{token_place, queue_of}
+use Rattle.saphyr_scanner.proofs.Gaps.{stop_here}
+
+-- ## A key is kept on its line
+
+-- a place on the line of a key, at most 1,024 characters behind its start
+pub record IsNear (k : Candidate) (m : Marker) : Type 0 where
+  pub line : m.line ≡ k.mark.line
+  pub index : m.index ≤ k.mark.index + 1024
+
+no_later : (a b : ℕ) → b ≡ a → nat_lt a b ≡ false
+no_later a b e = grind (arith, nat_tests)
+
+no_more : (a b : ℕ) → a ≤ b + 1024 → nat_lt 1024 (a - b) ≡ false
+no_more a b h = grind (arith, nat_tests)
+
+pub not_far : (k : Candidate) (m : Marker) → IsNear k m → is_too_far (Some k) m ≡ false
+not_far k m h = rw (no_later k.mark.line m.line h.line, no_more m.index k.mark.index h.index) refl
+
+pub keeps_near_key : (around : Around) (d : Bool) (s : Cursor) (k : Candidate) (ls : List Level) (a : Bool) (ad : ℕ)
+    → IsNear k s.mark
+    → drop_far_key (core_at around d s context.Block (Some k) ls a ad)
+    ≡ Ok (core_at around d s context.Block (Some k) ls a ad)
+unfolding drop_far_key
+keeps_near_key around d s k ls a ad near = rw (not_far k s.mark near) refl
+
+-- ## Blanks before a token
+
+pub ink_gap : (low : ℕ) (c : ℕ) (cs : List ℕ) → IsInk c → (m : Marker) (blank : Bool)
+    → end_of_gap low m blank false false (c ∷ cs) ≡ stop m blank false false (c ∷ cs)
+ink_gap low c cs ink m blank = rw (ink.blank, ink.break, ink.comment, no_return c ink.break) refl
+
+blanks_gap : (low column : ℕ) → low ≤ column → (w : List ℕ) (c : ℕ) (cs : List ℕ) → AreIn is_blank w → IsInk c
+    → (m : Marker) (blank : Bool) → column ≤ m.col
+    → end_of_gap low m blank false false (w ++ (c ∷ cs)) ≡ stop (moved m w) blank false false (c ∷ cs)
+blanks_gap low column under [] c cs are ink m blank right = ink_gap low c cs ink m blank
+blanks_gap low column under (x ∷ xs) c cs are ink m blank right =
+    let same : moved (along m 1) xs ≡ moved m (x ∷ xs) = rw (no_feed x are.0) refl in
+    rw are.0
+    (ap (λ (t : Bool). end_of_gap low (along m 1) blank false t (xs ++ (c ∷ cs)))
+    (no_left_tab column low m blank x (right_tab column m x right) under)
+    ∙ blanks_gap low column under xs c cs are.1 ink (along m 1) blank (le_next column m.col right)
+    ∙ ap (λ (n : Marker). stop n blank false false (c ∷ cs)) same)
+
+-- the next token on the line is reached
+line_arrives : (around : Around) (d : Bool) (s : Cursor) (k : Candidate) (ad : ℕ) (ps : List Place) (w : List ℕ) (c : ℕ)
+    (cs : List ℕ) → s.rest ≡ w ++ (c ∷ cs) → AreIn is_blank w → IsInk c
+    → around.indent ≤ s.mark.col → IsNear k (moved s.mark w)
+    → arrive (state_at around (moment s context.Block (Some k) [] false ad ps) d)
+    ≡ Ok (state_at around (moment (cursor_at (c ∷ cs) (moved s.mark w) s.blank_so_far) context.Block (Some k) [] false
+    ad ps) d)
+unfolding arrive pass_gap check_comment
+line_arrives around d s k ad ps w c cs is are ink right near =
+    let n = moved s.mark w in
+    let there = cursor_at (c ∷ cs) n s.blank_so_far in
+    let here = core_at around d s context.Block (Some k) [] false ad in
+    let gapped = ap (λ (t : List ℕ). end_of_gap (least around.indent d) s.mark s.blank_so_far false false t) is
+    ∙ blanks_gap (least around.indent d) around.indent (least_low around.indent d) w c cs are ink s.mark s.blank_so_far
+    right ∙ stop_here n s.blank_so_far false (c ∷ cs) in
+    let passed = ap (λ r. r >>= λ (p : GapEnd). check_comment (behind_gap here p)) gapped in
+    let reached = ap (λ r. r >>= drop_far_key) passed ∙ keeps_near_key around d there k [] false ad near in
+    ap (λ r. on_core r (queue_of ps) >>= λ (t : State). Ok (unroll (Some t.core.cursor.mark.col) t.core.cursor.mark t))
+    reached
+    ∙ ap Ok (none_unrolls around n.col n there context.Block (Some k) [] false ad ps d
+    (blanks_past around.indent w are s.mark right).right)
+
+-- ## A token is about to be read
+
+-- The scanner reads a token of the key that is kept, which stands at e, where the text is t.
+pub record Ready (around : Around) (start : State) (k : Candidate) (t : List ℕ) (e : Marker) (ad : ℕ)
+    (qs : List Place) : Type 0 where
+  pub deeper : Bool
+  pub blank : Bool
+  pub running : start.core.ended ≡ false
+  pub fetches : fetch start
+      ≡ after_step (step (slice_index t 0) (slice_index t 1) (length qs)
+      (core_at around deeper (cursor_at t e blank) context.Block (Some k) [] false ad)) (queue_of qs)
+
+-- content stands no further left than its collection's entries
+begins_low : (around : Around) (d : Bool) (s : Cursor) (k : Option Candidate) (a : Bool) (ad : ℕ) (ps : List Place)
+    → BeginsToken s.mark s.rest → nat_lt s.mark.col (least around.indent d) ≡ false
+    → fetch_here (state_at around (moment s context.Block k [] a ad ps) d)
+    ≡ state_behind_content (slice_index s.rest 0) (slice_index s.rest 1)
+    (state_at around (moment s context.Block k [] a ad ps) d)
+unfolding fetch_here
+begins_low around d s k a ad ps h right =
+    let n = and_or_false (s.mark.col == 0) (is_document_start s.rest) (is_document_end s.rest) h.marker in
+    rw (h.nul, h.byte_order_mark, h.directive, and_false (s.mark.col == 0), n.0, n.1, right) refl
+
+reaches_low : (around : Around) (d : Bool) (m : Marker) → around.indent ≤ m.col
+    → nat_lt m.col (least around.indent d) ≡ false
+reaches_low around d m right =
+    let low = least_low around.indent d in le-ltb m.col (least around.indent d) (omega (arith, low, right))
+
+-- behind another token of the key
+pub later_ready : (around : Around) (d : Bool) (s : Cursor) (k : Candidate) (ad : ℕ) (ps : List Place) (w : List ℕ)
+    (c : ℕ) (cs : List ℕ) → s.rest ≡ w ++ (c ∷ cs) → AreIn is_blank w → IsInk c
+    → around.indent ≤ s.mark.col → IsNear k (moved s.mark w) → BeginsToken (moved s.mark w) (c ∷ cs)
+    → Ready around (state_at around (moment s context.Block (Some k) [] false ad ps) d) k (c ∷ cs) (moved s.mark w) ad
+    ps
+unfolding fetch state_behind_content
+later_ready around d s k ad ps w c cs is are ink right near token =
+    let n = moved s.mark w in
+    let there = cursor_at (c ∷ cs) n s.blank_so_far in
+    let core = core_at around d there context.Block (Some k) [] false ad in
+    record {
+      deeper = d;
+      blank = s.blank_so_far;
+      running = refl;
+      fetches = ap (λ r. r >>= fetch_here) (line_arrives around d s k ad ps w c cs is are ink right near)
+          ∙ begins_low around d there (Some k) false ad ps token
+          (reaches_low around d n (blanks_past around.indent w are s.mark right).right)
+          ∙ ap (λ (i : ℕ). after_step (step c (slice_index cs 0) i core) (queue_of ps)) (zero-add (length ps));
+    }
+
+-- whether a key has to stand at a column
+abbrev pub is_required : Around → Bool → Marker → Bool
+is_required around d m = not d && (around.indent == m.col + 1)
+
+-- the same where a key begins at m
+abbrev pub keyed : Around → Bool → Marker → Around
+keyed around d m = record {
+  limit = around.limit;
+  indent = around.indent;
+  outers = around.outers;
+  pending = is_required around d m;
+  required = is_required around d m;
+}
+
+-- whether content has to stand further right at a key's line
+abbrev pub deeper_at : Around → Bool → Marker → Bool
+deeper_at around d m = d && nat_le around.indent m.col
+
+still_least : (around : Around) (d : Bool) (m : Marker) → around.indent ≤ m.col + 1
+    → nat_lt m.col (least around.indent (deeper_at around d m)) ≡ false
+still_least around d m h = by_deeper (deeper_at around d m) refl
+  where
+    reached : (d : Bool) → (d && nat_le around.indent m.col) ≡ true → nat_le around.indent m.col ≡ true
+    reached true e = e
+    reached false e = absurd (cc)
+
+    is_reached : (a b : ℕ) → nat_le a b ≡ true → nat_lt b a ≡ false
+    is_reached a b e = grind (arith, nat_tests)
+
+    one_less : (a b : ℕ) → a ≤ b + 1 → nat_lt b (a - 1) ≡ false
+    one_less a b h = grind (arith, nat_tests)
+
+    by_deeper : (b : Bool) → deeper_at around d m ≡ b
+        → nat_lt m.col (least around.indent (deeper_at around d m)) ≡ false
+    by_deeper true e = ap (λ (q : Bool). nat_lt m.col (least around.indent q)) e
+        ∙ is_reached around.indent m.col (reached d e)
+    by_deeper false e = ap (λ (q : Bool). nat_lt m.col (least around.indent q)) e ∙ one_less around.indent m.col h
+
+-- the step at the first token of a key keeps the key's place
+abbrev pub Fresh : Around → List ℕ → Type 0
+Fresh around t =
+    (d : Bool) (s : Cursor) (k : Option Candidate) (ad n : ℕ)
+    → step (slice_index t 0) (slice_index t 1) n (core_at around d s context.Block k [] true ad)
+    ≡ step (slice_index t 0) (slice_index t 1) n
+    (core_at (keyed around d s.mark) d s context.Block (Some (record { mark = s.mark; place = n })) [] false ad)
+
+-- the first token of a key
+pub first_ready : (around : Around) → around.pending ≡ false
+    → (d blank : Bool) (k : Option Candidate) (ad : ℕ) (ps : List Place) (m : Marker) (c : ℕ) (cs : List ℕ) → IsInk c
+    → around.indent ≤ m.col + 1
+    → BeginsToken m (c ∷ cs) → Fresh around (c ∷ cs)
+    → Ready (keyed around (deeper_at around d m) m)
+    (state_at around (moment (cursor_at (c ∷ cs) m blank) context.Block k [] true ad ps) d)
+    (record { mark = m; place = length ps }) (c ∷ cs) m ad ps
+unfolding fetch arrive pass_gap check_comment unroll state_behind_content
+first_ready around calm d blank k ad ps m c cs ink right token fresh =
+    let there = cursor_at (c ∷ cs) m blank in
+    let here = core_at around d there context.Block k [] true ad in
+    let left = key_left context.Block k m in
+    let e = deeper_at around d m in
+    let gapped = ink_gap (least around.indent d) c cs ink m blank ∙ stop_here m blank false (c ∷ cs) in
+    let passed = ap (λ r. r >>= λ (p : GapEnd). check_comment (behind_gap here p)) gapped in
+    let reached = ap (λ r. r >>= drop_far_key) passed ∙ drops_far_key around d there context.Block k [] true ad calm in
+    let arrived = ap (λ r. on_core r (queue_of ps) >>= λ (t : State). Ok
+    (unroll (Some t.core.cursor.mark.col) t.core.cursor.mark t)) reached
+    ∙ ap Ok (no_ends m.col m around.outers (state_at around (moment there context.Block left [] true ad ps) e)
+    (one_less around.indent m.col right)) in
+    record {
+      deeper = e;
+      blank = blank;
+      running = refl;
+      fetches = ap (λ r. r >>= fetch_here) arrived
+          ∙ begins_low around e there left true ad ps token (still_least around d m right)
+          ∙ ap (λ (i : ℕ). after_step (step c (slice_index cs 0) i
+          (core_at around e there context.Block left [] true ad))
+          (queue_of ps)) (zero-add (length ps))
+          ∙ ap (λ q. after_step q (queue_of ps)) (fresh e there left ad (length ps));
+    }
+  where
+    one_less : (a b : ℕ) → a ≤ b + 1 → nat_lt b (a - 1) ≡ false
+    one_less a b h = grind (arith, nat_tests)
+
+-- ## A token is read
+
+pub token_led : (around : Around) (start : State) (k : Candidate) (t : List ℕ) (e : Marker) (ad : ℕ) (qs : List Place)
+    (r : Ready around start k t e ad qs)
+    → (end : Marker) (kind : Kind) (there : Cursor) (adjacent : ℕ) (to : Bool → Bool)
+    → step (slice_index t 0) (slice_index t 1) (length qs)
+    (core_at around r.deeper (cursor_at t e r.blank) context.Block (Some k) [] false ad)
+    ≡ completed_step (from_to e end kind ∷ [])
+    (core_at around (to r.deeper) there context.Block (Some k) [] false adjacent)
+    → IsNear k there.mark → there.mark.index ≤ around.limit
+    → LeadsTo around.limit (state_at around (moment there context.Block (Some k) [] false adjacent
+    (qs ++ token_place e end
+    kind ∷ [])) (to r.deeper)) start
+unfolding fetch_within
+token_led around start k t e ad qs r end kind there adjacent to is near low =
+    let st = state_at around (moment there context.Block (Some k) [] false adjacent (qs ++ token_place e end kind ∷ []))
+    (to r.deeper) in
+    let fits : check_limit around.limit st ≡ Ok st = rw (le-leb there.mark.index around.limit low) refl in
+    let fetched : fetch start ≡ Ok st = r.fetches ∙ ap (λ q. after_step q (queue_of qs)) is in
+    onward start st st r.running (ap (λ q. q >>= check_limit around.limit) fetched ∙ fits)
+    (ap (λ q. on_core q (queue_of (qs ++ token_place e end kind ∷ [])))
+    (keeps_near_key around (to r.deeper) there k [] false adjacent near)) stay

@@ -1,0 +1,377 @@
+-- The content of a key on one line at block level: plain and quoted scalars.
+use Rattle.std.proofs.Common.{◌≡◌, ◌≢◌, ℕ, ◌≤◌, Bool, true, false, List, [], ◌∷◌, ◌++◌, length, slice_index, Ok, refl, sym, ap, ◌∙◌, arith, subst, append-nil, inl, IsTrue, encode_utf8_all}
+use Rattle.std.specs.Prelude.{◌==◌, Option, Some, None}
+use Rattle.std.proofs.lemmas.Bool.Decides.{nat_tests}
+use Rattle.saphyr_input.specs.Classes.{is_blank, is_break, is_blank_or_breakz}
+use Rattle.saphyr_input.specs.Places.{is_blank_or_break}
+use Rattle.saphyr_scalar.specs.declared.scalar.position.Marker.{Marker}
+use Rattle.saphyr_values.specs.declared.flow.Quote.{Quote}
+use Rattle.saphyr_values.specs.declared.flow.Quote.TheVariants.{Single, Double}
+use Rattle.saphyr_scalar.specs.Views.Cursor.{Cursor, ◌>>=◌, along}
+use Rattle.saphyr_values.specs.Flow.{mark, plain_value}
+use Rattle.saphyr_scalar.specs.Steps.Quoted.{mid_line}
+use Rattle.saphyr_scalar.specs.Steps.Plain.{is_in_word, comment_of}
+use Rattle.saphyr_scalar.specs.Spelling.Tag.{AreIn}
+use Rattle.saphyr_scalar.proofs.Given.{cursor_at}
+use Rattle.scalar_laws.specs.Spelling.Plain.{is_tabbed, past_white, EndsPlain, IsPlainText}
+use Rattle.saphyr_scanner.specs.declared.engine.level.Context.TheVariants as context
+use Rattle.saphyr_scanner.specs.Grammar.Tokens.{scalar_token}
+use Rattle.saphyr_scanner.specs.Steps.Gap.{GapEnd, end_of_gap}
+use Rattle.saphyr_scanner.specs.Steps.Queue.{Place}
+use Rattle.saphyr_scanner.specs.Steps.Core.{from_to, completed_step}
+use Rattle.saphyr_scanner.specs.Steps.Level.{Candidate, Level}
+use Rattle.saphyr_scanner.specs.Steps.Passing.{pass_gap, check_comment, behind_gap}
+use Rattle.saphyr_scanner.specs.Steps.Scalar.{goes_on_behind_quotes}
+use Rattle.saphyr_scanner.specs.Steps.State.{State}
+use Rattle.saphyr_scanner.specs.Grammar.Forest.{Style, Plain, SingleQuoted, DoubleQuoted, Literal, Folded}
+use Rattle.yaml_laws.specs.Grammar.FlowScalars.{IsPlain, IsPlainKey, IsQuoted, IsFlowScalar}
+use Rattle.yaml_laws.proofs.InFlow.States.{Around, core_at, least, behind_key}
+use Rattle.yaml_laws.proofs.InFlow.Tabs.{tabs_behind}
+use Rattle.yaml_laws.proofs.InFlow.ScalarsOnLine.{separation_of_blanks}
+use Rattle.yaml_laws.proofs.InFlow.KeyLines.{Ready, token_led, ink_gap}
+use Rattle.yaml_laws.proofs.InFlow.KeyTokens.{InKey, in_near, in_back, in_right, in_limit, Along}
+use Rattle.yaml_laws.proofs.Flow.States.{moved, past, crosses, IsInk, ReaderPromises}
+use Rattle.yaml_laws.proofs.Flow.Places.{moved_index, clear_front}
+use Rattle.yaml_laws.proofs.Flow.GapSteps.{past_ink}
+use Rattle.yaml_laws.proofs.InBlock.Skips.{blanks_cross}
+use Rattle.yaml_laws.proofs.Flow.Fillers.{blanks_past}
+use Rattle.yaml_laws.proofs.Flow.Arrivals.{PassesGap}
+use Rattle.yaml_laws.proofs.Flow.Separates.{separates}
+use Rattle.yaml_laws.proofs.Flow.Quotes.{EndsQuotes, style_of_quote, quote_first, behind_step, quoted_step}
+use Rattle.yaml_laws.proofs.Flow.Plains.{BeginsWord, word_begins, key_begins, token_begins, plain_step}
+use Rattle.yaml_laws.proofs.Flow.Words.{plain_text, key_text}
+use Rattle.yaml_laws.proofs.Flow.Tokens.{Begins}
+use Rattle.std.proofs.lemmas.Bool.{eq-eqb}
+use Rattle.saphyr_input.specs.Indicators.{apostrophe, colon, number_sign}
+use Rattle.saphyr_input.proofs.Basics.Booleans.{clash}
+use Rattle.saphyr_scanner.proofs.Gaps.{stop_here}
+
+pub colon_ink : IsInk 58
+colon_ink = record { blank = refl; break = refl; comment = refl; byte_order_mark = refl }
+
+-- the blanks between a key and its colon
+pub record Blanks : Type 0 where
+  pub text : List ℕ
+  pub are : AreIn is_blank text
+
+abbrev pub no_blanks : Blanks
+no_blanks = record { text = []; are = tt }
+
+-- the blanks and the colon behind a key
+abbrev pub colon_text : Blanks → List ℕ → List ℕ
+colon_text n r = n.text ++ (58 ∷ r)
+
+pub colon_lands : (column : ℕ) (m : Marker) (n : Blanks) (r : List ℕ) → column ≤ m.col
+    → past column m (colon_text n r) ≡ (moved m n.text, colon ∷ r)
+colon_lands column m n r right =
+    (blanks_past column n.text n.are m right).is (58 ∷ r) ∙ past_ink column (moved m n.text) 58 r colon_ink
+
+-- ## Plain scalars
+
+white_blanks : (m : Marker) (w r : List ℕ) → AreIn is_blank w
+    → past_white m false (w ++ (colon ∷ r)) ≡ cursor_at (colon ∷ r) (moved m w) false
+white_blanks m [] r are = refl
+white_blanks m (c ∷ cs) r are =
+    rw (blank_white c are.0, blank_unbroken c are.0, blank_feed c are.0) (white_blanks (along m 1) cs r are.1)
+  where
+    blank_white : (c : ℕ) → IsTrue (is_blank c) → is_blank_or_break c ≡ true
+    blank_white c h = grind (arith, nat_tests)
+
+    blank_unbroken : (c : ℕ) → IsTrue (is_blank c) → is_break c ≡ false
+    blank_unbroken c h = grind (arith, nat_tests)
+
+    blank_feed : (c : ℕ) → IsTrue (is_blank c) → (c == 10) ≡ false
+    blank_feed c h = grind (arith, nat_tests)
+
+colon_stops : (r : List ℕ) → is_blank_or_breakz (slice_index r 0) ≡ true → is_in_word false (colon ∷ r) ≡ false
+unfolding is_in_word
+colon_stops r h = rw h refl
+
+no_comment : (t : Bool) (m : Marker) (r : List ℕ) → comment_of false t (cursor_at (colon ∷ r) m false) ≡ None
+unfolding comment_of
+no_comment t m r = refl
+
+blanks_apart : (w r : List ℕ) → AreIn is_blank w → slice_index (w ++ (colon ∷ r)) 0 ≢ number_sign
+blanks_apart [] r are e = absurd (omega (arith, e))
+blanks_apart (c ∷ cs) r are e = no_sign c are.0 e
+  where
+    no_sign : (c : ℕ) → IsTrue (is_blank c) → c ≢ number_sign
+    no_sign c h e = absurd (let f : false ≡ true = sym (ap (λ (d : ℕ). is_blank d) e) ∙ h in cc)
+
+key_ends_plain : (column : ℕ) (m : Marker) (n : Blanks) (r : List ℕ) → column ≤ m.col
+    → is_blank_or_breakz (slice_index r 0) ≡ true
+    → EndsPlain false column m (colon_text n r)
+key_ends_plain column m n r right h =
+    record {
+      stops = inl (ap (λ (u : Cursor). is_in_word false u.rest) (white_blanks m n.text r n.are) ∙ colon_stops r h);
+      apart = blanks_apart n.text r n.are;
+      tabs = tabs_behind column m m false (colon_text n r)
+          (ap (λ (z : Marker × List ℕ). is_blank (slice_index z.1 0)) (colon_lands column m n r right));
+    }
+
+right_behind_key : (column : ℕ) (m : Marker) (n : Blanks) → column ≤ m.col → column ≤ (moved m n.text).col
+right_behind_key column m n right = (blanks_past column n.text n.are m right).right
+
+index_behind : (e : Marker) (t : List ℕ) (n : Blanks) (ad : ℕ) → ad ≤ e.index → ad ≤ (moved (moved e t) n.text).index
+index_behind e t n ad low =
+    let one = moved_index e t in
+    let two = moved_index (moved e t) n.text in
+    omega (arith, one, two, low)
+
+-- where a scalar ends before its colon
+abbrev pub colon_after : Marker → List ℕ → Blanks → Marker
+colon_after e t n = moved (moved e t) n.text
+
+-- a text that is read as a plain scalar
+text_along : ReaderPromises → (around : Around) (start : State) (k : Candidate) (qs : List Place) (c : ℕ) (cs : List ℕ)
+    (n : Blanks)
+    (r : List ℕ) (e : Marker) (ad : ℕ) → BeginsWord false (c ∷ cs) (colon_text n r)
+    → IsPlainText false around.indent e (c ∷ cs) (colon_text n r) → InKey around k e ((c ∷ cs) ++ n.text) (colon ∷ r)
+    → ad ≤ e.index → Ready around start k ((c ∷ cs) ++ colon_text n r) e ad qs
+    → Along around start k qs (colon_after e (c ∷ cs) n) (colon ∷ r) (scalar_token Plain (plain_value (c ∷ cs)) ∷ [])
+text_along reads around start k qs c cs n r e ad begins plain text low ready =
+    let t = c ∷ cs in
+    let o = colon_text n r in
+    let clear = clear_front e t n.text (58 ∷ r) text.clear in
+    let end = moved e t in
+    let there = cursor_at (58 ∷ r) (colon_after e t n) false in
+    let kind = scalar_token Plain (plain_value t) in
+    let last = in_back k end n.text [] (58 ∷ r)
+    (subst (λ (x : List ℕ). InKey around k end x (58 ∷ r)) (sym (append-nil n.text))
+    (in_back k e t n.text (58 ∷ r) text)) in
+    let stepped = plain_step reads around ready.deeper (length qs) e ready.blank t o context.Block begins plain clear
+    (Some k) [] false ad (inl refl) (behind_key refl refl)
+    ∙ ap (λ (u : Cursor). completed_step (from_to e end kind ∷ [])
+    (record (core_at around false u context.Block (Some k) [] u.blank_so_far ad)
+    { comment = comment_of false (is_tabbed around.indent o) u })) (white_blanks end n.text r n.are)
+    ∙ ap (λ (q : Option Marker). completed_step (from_to e end kind ∷ [])
+    (record (core_at around false there context.Block (Some k) [] false ad) { comment = q }))
+    (no_comment (is_tabbed around.indent o) (colon_after e t n) r) in
+    let led = token_led around start k (t ++ o) e ad qs ready end kind there ad (λ d. false) stepped
+    (in_near k (colon_after e t n) [] (58 ∷ r) last) (in_limit k (colon_after e t n) [] (58 ∷ r) last) in
+    record {
+      deeper = false;
+      there = there;
+      adjacent = ad;
+      white = [];
+      are_white = tt;
+      rest = refl;
+      mark = refl;
+      right = right_behind_key around.indent end n (in_right k e c cs n.text (58 ∷ r) text);
+      piece = record { span = record { start = e; end = end }; kind = kind };
+      others = [];
+      leads = led;
+      are = refl;
+      low = index_behind e t n ad low;
+    }
+
+pub plain_along : ReaderPromises → (around : Around) (start : State) (k : Candidate) (qs : List Place) (c : ℕ)
+    (cs : List ℕ)
+    (n : Blanks) (r : List ℕ) (e : Marker) (ad : ℕ) → IsPlain false around.indent (c ∷ cs)
+    → is_blank_or_breakz (slice_index r 0) ≡ true → InKey around k e ((c ∷ cs) ++ n.text) (colon ∷ r) → ad ≤ e.index
+    → Ready around start k ((c ∷ cs) ++ colon_text n r) e ad qs
+    → Along around start k qs (colon_after e (c ∷ cs) n) (colon ∷ r) (scalar_token Plain (plain_value (c ∷ cs)) ∷ [])
+plain_along reads around start k qs c cs n r e ad h white text low ready =
+    let clear = clear_front e (c ∷ cs) n.text (58 ∷ r) text.clear in
+    text_along reads around start k qs c cs n r e ad (word_begins false around.indent (c ∷ cs) (colon_text n r) h)
+    (plain_text false around.indent e (c ∷ cs) (colon_text n r) h clear
+    (key_ends_plain around.indent (moved e (c ∷ cs)) n r (in_right k e c cs n.text (58 ∷ r) text) white)) text low ready
+
+-- a plain scalar whose last word may end with a colon, right before the key's colon
+pub plain_key_along : ReaderPromises
+    → (around : Around) (start : State) (k : Candidate) (qs : List Place) (c : ℕ) (cs r : List ℕ) (e : Marker) (ad : ℕ)
+    → IsPlainKey false around.indent (c ∷ cs)
+    → is_blank_or_breakz (slice_index r 0) ≡ true → InKey around k e ((c ∷ cs) ++ []) (colon ∷ r) → ad ≤ e.index
+    → Ready around start k ((c ∷ cs) ++ (colon ∷ r)) e ad qs
+    → Along around start k qs (moved e (c ∷ cs)) (colon ∷ r) (scalar_token Plain (plain_value (c ∷ cs)) ∷ [])
+plain_key_along reads around start k qs c cs r e ad h white text low ready =
+    let clear = clear_front e (c ∷ cs) [] (58 ∷ r) text.clear in
+    text_along reads around start k qs c cs no_blanks r e ad (key_begins false around.indent (c ∷ cs) r h)
+    (key_text false around.indent e (c ∷ cs) r h clear (key_ends_plain around.indent (moved e (c ∷ cs)) no_blanks r (in_right k e c cs [] (58 ∷ r) text) white)) text
+    low ready
+
+-- ## Quoted scalars
+
+goes_before_colon : (around : Around) (d : Bool) (start : Marker) (s : Cursor) (r : List ℕ) (k : Option Candidate)
+    (ls : List Level) (a : Bool) (ad : ℕ) → s.rest ≡ colon ∷ r → start.line ≡ s.mark.line
+    → goes_on_behind_quotes start (core_at around d s context.Block k ls a ad) ≡ true
+unfolding goes_on_behind_quotes
+goes_before_colon around d start s r k ls a ad is e = rw (is, eq-eqb start.line s.mark.line e) refl
+
+-- the colon is reached
+gap_to_colon : (around : Around) (d : Bool) (s : Cursor) (k : Candidate) (ad : ℕ) (m : Marker) (r : List ℕ)
+    → s.rest ≡ colon ∷ r → s.mark ≡ m
+    → pass_gap (core_at around d s context.Block (Some k) [] false ad)
+    ≡ Ok (core_at around d (cursor_at (colon ∷ r) m s.blank_so_far) context.Block (Some k) [] false ad)
+unfolding pass_gap check_comment
+gap_to_colon around d s k ad m r is at_colon =
+    let low = least around.indent d in
+    let gapped = ap (λ (t : List ℕ). end_of_gap low s.mark s.blank_so_far false false t) is
+    ∙ ap (λ (n : Marker). end_of_gap low n s.blank_so_far false false (58 ∷ r)) at_colon
+    ∙ ink_gap low 58 r colon_ink m s.blank_so_far ∙ stop_here m s.blank_so_far false (58 ∷ r) in
+    ap (λ q. q >>= λ (p : GapEnd). check_comment (behind_gap (core_at around d s context.Block (Some k) [] false ad) p))
+    gapped
+
+-- what stands behind the closing quote, and the colon
+record KeyQuotes (around : Around) (start : Marker) (m : Marker) (n : Blanks) (r : List ℕ) : Type 0 where
+  ends : EndsQuotes around start (mid_line m (colon_text n r)) context.Block
+  rest : ends.there.rest ≡ colon ∷ r
+  mark : ends.there.mark ≡ moved m n.text
+
+key_quotes : (around : Around) (start m : Marker) (n : Blanks) (r : List ℕ) → around.indent ≤ m.col
+    → start.line ≡ (moved m n.text).line → KeyQuotes around start m n r
+key_quotes around start m n r right line =
+    let p = separates around.indent (mid_line m (colon_text n r)) n.text 58 r refl
+    (separation_of_blanks around.indent n.text n.are) right colon_ink in
+    let near = p.near n.are in
+    record {
+      ends = record {
+        found = p.found;
+        there = p.there;
+        is = p.is;
+        lands = p.lands;
+        inked = ap (λ (z : Marker × List ℕ). is_blank (slice_index z.1 0)) (colon_lands around.indent m n r right);
+        stays = λ _ e. absurd (clash (crosses (colon_text n r)) e (blanks_cross n.text (58 ∷ r) n.are));
+        goes = λ d k ls a ad. goes_before_colon around d start p.there r k ls a ad near.0
+            (line ∙ ap (λ (z : Marker). z.line) (sym near.1));
+      };
+      rest = near.0;
+      mark = near.1;
+    }
+
+no_quote : (w r : List ℕ) → AreIn is_blank w → (slice_index (w ++ (colon ∷ r)) 0 == apostrophe) ≡ false
+no_quote [] r are = refl
+no_quote (c ∷ cs) r are = no_apostrophe c are.0
+  where
+    no_apostrophe : (c : ℕ) → IsTrue (is_blank c) → (c == apostrophe) ≡ false
+    no_apostrophe c h = grind (arith, nat_tests)
+
+pub quotes_along : ReaderPromises
+    → (around : Around) (start : State) (k : Candidate) (qs : List Place) (quote : Quote) (value t : List ℕ) (n : Blanks)
+    (r : List ℕ) (e : Marker) (ad : ℕ) → IsQuoted quote around.indent value t
+    → InKey around k e (t ++ n.text) (colon ∷ r) → Ready around start k (t ++ colon_text n r) e ad qs
+    → Along around start k qs (colon_after e t n) (colon ∷ r) (scalar_token (style_of_quote quote) value ∷ [])
+quotes_along reads around start k qs quote value t n r e ad h text ready =
+    let o = colon_text n r in
+    let clear = clear_front e t n.text (58 ∷ r) text.clear in
+    let end = moved e t in
+    let m = colon_after e t n in
+    let kind = scalar_token (style_of_quote quote) value in
+    let whole = in_back k e t n.text (58 ∷ r) text in
+    let last = in_back k end n.text [] (58 ∷ r)
+    (subst (λ (x : List ℕ). InKey around k end x (58 ∷ r)) (sym (append-nil n.text)) whole) in
+    let right = subst (λ (x : List ℕ). InKey around k e (x ++ n.text) (58 ∷ r) → around.indent ≤ (moved e x).col)
+    (sym h.5) (λ i. in_right k e (mark quote) h.0 n.text (58 ∷ r) i) text in
+    let ends = key_quotes around e end n r right (text.line ∙ sym last.line) in
+    let shut = ends.ends.there in
+    let g : PassesGap around shut context.Block (Some k) [] false ad m (58 ∷ r) =
+    record {
+      blank = shut.blank_so_far;
+      allowed = false;
+      is = λ d. gap_to_colon around d shut k ad m r ends.rest ends.mark;
+      same = λ _. refl;
+      fresh = λ _ e. absurd (clash (crosses (58 ∷ r)) (ap crosses (sym ends.rest) ∙ e) refl);
+    } in
+    let first : slice_index (t ++ o) 0 ≡ mark quote = ap (λ (y : List ℕ). slice_index (y ++ o) 0) h.5 in
+    let there = cursor_at (58 ∷ r) m shut.blank_so_far in
+    let stepped = quoted_step reads around ready.deeper quote (length qs) e ready.blank value t o h clear (no_quote n.text r n.are)
+    context.Block (Some k) [] false ad (slice_index (t ++ o) 0) first (behind_key refl refl)
+    ∙ behind_step around ready.deeper e (style_of_quote quote) (encode_utf8_all value)
+    (mid_line end o) context.Block (Some k)
+    [] ad
+    m (58 ∷ r) ends.ends g in
+    let led = token_led around start k (t ++ o) e ad qs ready ends.ends.there.mark kind there m.index (λ d. d) stepped
+    (in_near k m [] (58 ∷ r) last) (in_limit k m [] (58 ∷ r) last) in
+    record {
+      deeper = ready.deeper;
+      there = there;
+      adjacent = m.index;
+      white = [];
+      are_white = tt;
+      rest = refl;
+      mark = refl;
+      right = right_behind_key around.indent end n right;
+      piece = record { span = record { start = e; end = ends.ends.there.mark }; kind = kind };
+      others = [];
+      leads = led;
+      are = refl;
+      low = no_more m.index;
+    }
+  where
+    no_more : (n : ℕ) → n ≤ n
+    no_more n = omega arith
+
+-- ## Both
+
+some_first : (in_flow : Bool) (indent : ℕ) (t : List ℕ) → IsPlain in_flow indent t
+    → (c : ℕ) × (cs : List ℕ) × (t ≡ c ∷ cs)
+some_first in_flow indent t h = let w = word_begins in_flow indent t [] h in (w.first, w.others, w.is)
+
+pub content_along : ReaderPromises
+    → (around : Around) (start : State) (k : Candidate) (qs : List Place) (style : Style) (value t : List ℕ) (n : Blanks)
+    (r : List ℕ) (e : Marker) (ad : ℕ) → IsFlowScalar style value false around.indent t
+    → is_blank_or_breakz (slice_index r 0) ≡ true → InKey around k e (t ++ n.text) (colon ∷ r) → ad ≤ e.index
+    → Ready around start k (t ++ colon_text n r) e ad qs
+    → Along around start k qs (colon_after e t n) (colon ∷ r) (scalar_token style value ∷ [])
+content_along reads around start k qs Plain value t n r e ad h white text low ready =
+    let f = some_first false around.indent t h.0 in
+    subst (λ (v : List ℕ). Along around start k qs (colon_after e t n) (58 ∷ r) (scalar_token Plain v ∷ [])) (sym h.1)
+    (subst (λ (x : List ℕ). IsPlain false around.indent x → InKey around k e (x ++ n.text) (58 ∷ r)
+    → Ready around start k (x ++ colon_text n r) e ad qs
+    → Along around start k qs (colon_after e x n) (58 ∷ r) (scalar_token Plain (plain_value x) ∷ []))
+    (sym f.2) (λ p i z. plain_along reads around start k qs f.0 f.1 n r e ad p white i low z) h.0 text ready)
+content_along reads around start k qs SingleQuoted value t n r e ad h white text low ready =
+    quotes_along reads around start k qs Single value t n r e ad h text ready
+content_along reads around start k qs DoubleQuoted value t n r e ad h white text low ready =
+    quotes_along reads around start k qs Double value t n r e ad h text ready
+content_along reads around start k qs Literal value t n r e ad h white text low ready = absurd h
+content_along reads around start k qs Folded value t n r e ad h white text low ready = absurd h
+
+-- how the content of a key is read, before spaces and its colon
+pub record ContentReads (around : Around) (style : Style) (value content : List ℕ) (n : Blanks) (r : List ℕ) : Type 0 where
+  pub begins : Begins content
+  pub along : (start : State) (k : Candidate) (qs : List Place) (e : Marker) (ad : ℕ)
+      → InKey around k e (content ++ n.text) (colon ∷ r) → ad ≤ e.index
+      → Ready around start k (content ++ colon_text n r) e ad qs
+      → Along around start k qs (colon_after e content n) (colon ∷ r) (scalar_token style value ∷ [])
+
+pub scalar_begins : (indent : ℕ) (style : Style) (value t : List ℕ) → IsFlowScalar style value false indent t → Begins t
+scalar_begins indent Plain value t h = token_begins false t [] (word_begins false indent t [] h.0)
+scalar_begins indent SingleQuoted value t h = subst Begins (sym h.5) (quote_first Single h.0)
+scalar_begins indent DoubleQuoted value t h = subst Begins (sym h.5) (quote_first Double h.0)
+scalar_begins indent Literal value t h = absurd h
+scalar_begins indent Folded value t h = absurd h
+
+pub scalar_reads : ReaderPromises → (around : Around) (style : Style) (value content : List ℕ) (n : Blanks) (r : List ℕ)
+    → IsFlowScalar style value false around.indent content → is_blank_or_breakz (slice_index r 0) ≡ true
+    → ContentReads around style value content n r
+scalar_reads reads around style value content n r h white =
+    record {
+      begins = scalar_begins around.indent style value content h;
+      along =
+          λ start k qs e ad text low ready. content_along reads around start k qs style value content n r e ad h white
+          text low ready;
+    }
+
+pub plain_key_reads : ReaderPromises → (around : Around) (style : Style) (value content r : List ℕ) → style ≡ Plain
+    → value ≡ plain_value content → IsPlainKey false around.indent content → is_blank_or_breakz (slice_index r 0) ≡ true
+    → ContentReads around style value content no_blanks r
+plain_key_reads reads around style value content r plain is h white =
+    subst (λ (q : Style). ContentReads around q value content no_blanks r) (sym plain)
+    (subst (λ (v : List ℕ). ContentReads around Plain v content no_blanks r) (sym is)
+    (record {
+      begins = token_begins false content (58 ∷ r) (key_begins false around.indent content r h);
+      along = λ start k qs e ad text low ready. key_along start k qs content e ad h text low ready;
+    }))
+  where
+    key_along : (start : State) (k : Candidate) (qs : List Place) (t : List ℕ) (e : Marker) (ad : ℕ)
+        → IsPlainKey false around.indent t → InKey around k e (t ++ []) (colon ∷ r) → ad ≤ e.index
+        → Ready around start k (t ++ (colon ∷ r)) e ad qs
+        → Along around start k qs (moved e t) (colon ∷ r) (scalar_token Plain (plain_value t) ∷ [])
+    key_along start k qs [] e ad h text low ready =
+        absurd (let b = key_begins false around.indent [] r h in none b.first b.others b.is)
+      where
+        none : (c : ℕ) (cs : List ℕ) → [] ≡ c ∷ cs → ⊥
+        none c cs e = cc
+    key_along start k qs (c ∷ cs) e ad h text low ready =
+        plain_key_along reads around start k qs c cs r e ad h white text low ready

@@ -1,0 +1,398 @@
+-- The tokens of a key on one line at block level, one behind the other.
+use Rattle.std.proofs.Common.{◌≡◌, ◌≢◌, ℕ, suc, ◌+◌, ◌≤◌, Bool, false, List, [], ◌∷◌, ◌++◌, length, slice_index, refl, sym, ap, ◌∙◌, arith, subst, append_assoc, inl, inr, encode_utf8_all}
+use Rattle.std.specs.Prelude.{option_map, Option, Some, None}
+use Rattle.std.proofs.lemmas.List.{length-append}
+use Rattle.saphyr_input.specs.Classes.{is_blank, is_break, is_anchor_char}
+use Rattle.saphyr_scalar.specs.declared.scalar.position.Marker.{Marker}
+use Rattle.saphyr_scalar.specs.Views.Cursor.{Cursor, along}
+use Rattle.saphyr_scalar.specs.Steps.Quoted.{mid_line}
+use Rattle.saphyr_scalar.specs.Spelling.Tag.{AreIn, IsAnchorName, EndsTag}
+use Rattle.saphyr_scalar.proofs.Given.{cursor_at}
+use Rattle.scalar_laws.specs.Spelling.Spaces.{IsGap}
+use Rattle.saphyr_scanner.specs.declared.engine.level.Context.TheVariants as context
+use Rattle.saphyr_scanner.specs.Grammar.Tokens as tokens
+use Rattle.saphyr_scanner.specs.Grammar.Tokens.{Kind, alias_token, anchor_token, tag_token}
+use Rattle.saphyr_scanner.specs.Grammar.TokenGrammar as grammar
+use Rattle.saphyr_scanner.specs.Views.Tokens.{Piece}
+use Rattle.saphyr_scanner.specs.Steps.Queue.{Place, bare_place}
+use Rattle.saphyr_scanner.specs.Steps.Core.{Core}
+use Rattle.saphyr_scanner.specs.Steps.Level.{Candidate}
+use Rattle.saphyr_scanner.specs.Steps.Property as property
+use Rattle.saphyr_scanner.specs.Steps.State.{State}
+use Rattle.saphyr_scanner.specs.Steps.Fetch.{step}
+use Rattle.saphyr_scanner.specs.Grammar.Forest.{Tag}
+use Rattle.saphyr_scanner.proofs.Leads.{LeadsTo, leads_on}
+use Rattle.saphyr_scanner.proofs.Queues.{token_place, place_kinds, place_kinds_append}
+use Rattle.yaml_laws.specs.Grammar.TagSpelling.{IsTag}
+use Rattle.yaml_laws.specs.Grammar.FlowNodes as yaml
+use Rattle.yaml_laws.specs.Grammar.FlowNodes.{IsOnLine, IsAnchor, IsAlias}
+use Rattle.yaml_laws.proofs.InFlow.States.{Around, core_at, state_at, behind_key, moment}
+use Rattle.yaml_laws.proofs.InFlow.ScalarsOnLine.{front_on_line, back_on_line, gap_of_blanks}
+use Rattle.yaml_laws.proofs.InFlow.KeyLines.{IsNear, Ready, later_ready, token_led}
+use Rattle.yaml_laws.proofs.Flow.States.{moved, IsClear, ReaderPromises}
+use Rattle.yaml_laws.proofs.Flow.Places.{moved_append, moved_index, moved_along, clear_front, clear_back}
+use Rattle.yaml_laws.proofs.Flow.Arrivals.{BeginsToken}
+use Rattle.yaml_laws.proofs.Flow.Tokens.{Begins, begins_token}
+use Rattle.yaml_laws.proofs.Flow.Names.{name_step, begins_anchor, begins_alias, anchor_first, tag_step, begins_tag}
+use Rattle.yaml_laws.proofs.Flow.Tags.{tag_read, tag_first}
+use Rattle.yaml_laws.proofs.Flow.Ends.{tag_ends_name, white_ends_tag}
+use Rattle.yaml_laws.proofs.Flow.Properties.{blank_first}
+
+-- ## The rest of a key
+
+-- The rest of a key, with the spaces before its colon, stands at e: it is on the key's line, and clear, and near.
+pub record InKey (around : Around) (k : Candidate) (e : Marker) (q behind : List ℕ) : Type 0 where
+  pub line : e.line ≡ k.mark.line
+  pub index : e.index + length q ≤ k.mark.index + 1024
+  pub on_line : IsOnLine q
+  pub low : around.indent ≤ e.col + 1
+  pub clear : IsClear e q behind
+  pub below : e.index + length (q ++ behind) ≤ around.limit
+
+pub in_near : {around : Around} (k : Candidate) (e : Marker) (q behind : List ℕ) → InKey around k e q behind
+    → IsNear k e
+in_near k e q behind h = let index = h.index in record { line = h.line; index = further (length q) index }
+  where
+    further : (n : ℕ) → e.index + n ≤ k.mark.index + 1024 → e.index ≤ k.mark.index + 1024
+    further n h = omega (arith, h)
+
+pub in_back : {around : Around} (k : Candidate) (e : Marker) (a b behind : List ℕ) → InKey around k e (a ++ b) behind
+    → InKey around k (moved e a) b behind
+in_back {around} k e a b behind h =
+    let front = front_on_line a b (a ++ b) refl h.on_line in
+    let there : moved e a ≡ along e (length a) = moved_along e a front in
+    let count = length-append a b in
+    let index = h.index in
+    let below = h.below in
+    let low = h.low in
+    let whole : length ((a ++ b) ++ behind) ≡ length a + length (b ++ behind) =
+    ap length (append_assoc a b behind) ∙ length-append a (b ++ behind) in
+    record {
+      line = ap (λ (m : Marker). m.line) there ∙ h.line;
+      index = subst (λ (m : Marker). m.index + length b ≤ k.mark.index + 1024) (sym there)
+          (nearer (length a) (length b) (length (a ++ b)) count index);
+      on_line = back_on_line a b (a ++ b) refl h.on_line;
+      low = subst (λ (m : Marker). around.indent ≤ m.col + 1) (sym there) (further (length a) low);
+      clear = clear_back e a b behind h.clear;
+      below = subst (λ (m : Marker). m.index + length (b ++ behind) ≤ around.limit) (sym there)
+          (within (length a) (length (b ++ behind)) (length ((a ++ b) ++ behind)) whole below);
+    }
+  where
+    nearer : (p q n : ℕ) → n ≡ p + q → e.index + n ≤ k.mark.index + 1024 → e.index + p + q ≤ k.mark.index + 1024
+    nearer p q n s h = omega (arith, s, h)
+
+    further : (n : ℕ) → around.indent ≤ e.col + 1 → around.indent ≤ e.col + n + 1
+    further n h = omega (arith, h)
+
+    within : (p q n : ℕ) → n ≡ p + q → e.index + n ≤ around.limit → e.index + p + q ≤ around.limit
+    within p q n s h = omega (arith, s, h)
+
+-- behind a character of a key stands nothing left of its collection
+pub in_right : {around : Around} (k : Candidate) (e : Marker) (c : ℕ) (cs b behind : List ℕ)
+    → InKey around k e ((c ∷ cs) ++ b) behind → around.indent ≤ (moved e (c ∷ cs)).col
+in_right {around} k e c cs b behind h =
+    let front = front_on_line (c ∷ cs) b ((c ∷ cs) ++ b) refl h.on_line in
+    let low = h.low in
+    subst (λ (m : Marker). around.indent ≤ m.col) (sym (moved_along e (c ∷ cs) front)) (further (length cs) low)
+  where
+    further : (n : ℕ) → around.indent ≤ e.col + 1 → around.indent ≤ e.col + suc n
+    further n h = omega (arith, h)
+
+pub in_limit : {around : Around} (k : Candidate) (e : Marker) (q behind : List ℕ) → InKey around k e q behind
+    → e.index ≤ around.limit
+in_limit {around} k e q behind h = further (length (q ++ behind)) h.below
+  where
+    further : (n : ℕ) → e.index + n ≤ around.limit → e.index ≤ around.limit
+    further n h = omega (arith, h)
+
+pub in_so : {around : Around} (k : Candidate) (e : Marker) (p q behind : List ℕ) → p ≡ q → InKey around k e p behind
+    → InKey around k e q behind
+in_so {around} k e p q behind is h = subst (λ (t : List ℕ). InKey around k e t behind) is h
+
+-- ## What was read of a key
+
+-- The scanner has read these tokens of a key, and y stands at m behind blanks on the line.
+pub record Along (around : Around) (start : State) (k : Candidate) (qs : List Place) (m : Marker) (y : List ℕ)
+    (ts : List Kind) : Type 0 where
+  pub deeper : Bool
+  pub there : Cursor
+  pub adjacent : ℕ
+  pub white : List ℕ
+  pub are_white : AreIn is_blank white
+  pub rest : there.rest ≡ white ++ y
+  pub mark : moved there.mark white ≡ m
+  pub right : around.indent ≤ there.mark.col
+  pub piece : Piece
+  pub others : List Place
+  pub leads : LeadsTo around.limit
+      (state_at around (moment there context.Block (Some k) [] false adjacent (qs ++ bare_place piece ∷ others)) deeper)
+      start
+  pub are : place_kinds (bare_place piece ∷ others) ≡ ts
+  pub low : adjacent ≤ m.index
+
+pub along_joins : {around : Around} {start : State} {k : Candidate} {qs : List Place} {m n : Marker} {y z : List ℕ}
+    {ts us : List Kind} → (a : Along around start k qs m y ts)
+    → Along around (state_at around (moment a.there context.Block (Some k) [] false a.adjacent (qs ++ bare_place a.piece
+    ∷ a.others)) a.deeper) k (qs ++ bare_place a.piece ∷ a.others) n z us → Along around start k qs n z (ts ++ us)
+along_joins {around} {start} {k} {qs} {m} {n} {y} {z} {ts} {us} a b =
+    let front = bare_place a.piece ∷ a.others in
+    let back = bare_place b.piece ∷ b.others in
+    record {
+      deeper = b.deeper;
+      there = b.there;
+      adjacent = b.adjacent;
+      white = b.white;
+      are_white = b.are_white;
+      rest = b.rest;
+      mark = b.mark;
+      right = b.right;
+      piece = a.piece;
+      others = a.others ++ back;
+      leads = subst (λ (ps : List Place). LeadsTo around.limit
+          (state_at around (moment b.there context.Block (Some k) [] false b.adjacent ps) b.deeper) start)
+          (append_assoc qs front back) (leads_on a.leads b.leads);
+      are = place_kinds_append front back ∙ ap (λ (x : List Kind). x ++ place_kinds back) a.are
+          ∙ ap (λ (x : List Kind). ts ++ x) b.are;
+      low = b.low;
+    }
+
+-- the next token of the key is about to be read
+pub along_ready : {around : Around} {start : State} {k : Candidate} {qs : List Place} {m : Marker} {ts : List Kind}
+    (p o b behind : List ℕ) → (a : Along around start k qs m (p ++ o) ts) → Begins p → InKey around k m (p ++ b) behind
+    → o ≡ b ++ behind
+    → Ready around (state_at around (moment a.there context.Block (Some k) [] false a.adjacent (qs ++ bare_place a.piece
+    ∷ a.others)) a.deeper) k (p ++ o) m a.adjacent (qs ++ bare_place a.piece ∷ a.others)
+along_ready {around} {start} {k} {qs} {m} {ts} p o b behind a begins h same =
+    let front : p ++ o ≡ begins.first ∷ (begins.others ++ o) = ap (λ (t : List ℕ). t ++ o) begins.is in
+    let clear : IsClear m p o = subst (IsClear m p) (sym same) (clear_front m p b behind h.clear) in
+    let token = begins_token m p o begins clear in
+    let st = state_at around (moment a.there context.Block (Some k) [] false a.adjacent (qs ++ bare_place a.piece
+    ∷ a.others)) a.deeper in
+    let near = in_near k m (p ++ b) behind h in
+    subst (λ (t : List ℕ). Ready around st k t m a.adjacent (qs ++ bare_place a.piece ∷ a.others)) (sym front)
+    (subst (λ (n : Marker). Ready around st k (begins.first ∷ (begins.others ++ o)) n a.adjacent
+    (qs ++ bare_place a.piece ∷ a.others)) a.mark
+    (later_ready around a.deeper a.there k a.adjacent (qs ++ bare_place a.piece ∷ a.others) a.white begins.first
+    (begins.others ++ o) (a.rest ∙ ap (λ (t : List ℕ). a.white ++ t) front) a.are_white begins.ink a.right
+    (subst (IsNear k) (sym a.mark) near)
+    (subst (λ (n : Marker). BeginsToken n (begins.first ∷ (begins.others ++ o))) (sym a.mark)
+    (subst (BeginsToken m) front token))))
+
+-- ## Names and tags
+
+-- a token that ends where its text does
+ends_there : {around : Around} {start : State} {k : Candidate} {qs : List Place} (e : Marker) (c : ℕ)
+    (cs b behind w y : List ℕ) (ad : ℕ) (kind : Kind) (deeper : Bool) → InKey around k e ((c ∷ cs) ++ b) behind
+    → b ++ behind ≡ w ++ y
+    → AreIn is_blank w → ad ≤ e.index
+    → LeadsTo around.limit (state_at around
+    (moment (mid_line (moved e (c ∷ cs)) (b ++ behind)) context.Block (Some k) []
+    false
+    ad (qs ++ token_place e (moved e (c ∷ cs)) kind ∷ [])) deeper) start
+    → Along around start k qs (moved (moved e (c ∷ cs)) w) y (kind ∷ [])
+ends_there {around} {start} {k} {qs} e c cs b behind w y ad kind deeper h is are low leads =
+    let one = moved_index e (c ∷ cs) in
+    let two = moved_index (moved e (c ∷ cs)) w in
+    record {
+      deeper = deeper;
+      there = mid_line (moved e (c ∷ cs)) (b ++ behind);
+      adjacent = ad;
+      white = w;
+      are_white = are;
+      rest = is;
+      mark = refl;
+      right = in_right k e c cs b behind h;
+      piece = record { span = record { start = e; end = moved e (c ∷ cs) }; kind = kind };
+      others = [];
+      leads = leads;
+      are = refl;
+      low = omega (arith, one, two, low);
+    }
+
+pub name_along : ReaderPromises → (around : Around) (start : State) (k : Candidate) (qs : List Place) (token_of : List ℕ
+    → Kind)
+    (indicator : ℕ) (name b behind w y : List ℕ) (e : Marker) (ad : ℕ)
+    → ((second n : ℕ) (c : Core) → step indicator second n c ≡ property.name_steps token_of n c)
+    → is_break indicator ≡ false
+    → IsAnchorName name → is_anchor_char (slice_index (b ++ behind) 0) ≡ false
+    → InKey around k e ((indicator ∷ name) ++ b) behind → b ++ behind ≡ w ++ y → AreIn is_blank w → ad ≤ e.index
+    → Ready around start k ((indicator ∷ name) ++ (b ++ behind)) e ad qs
+    → Along around start k qs (moved (moved e (indicator ∷ name)) w) y (token_of (encode_utf8_all name) ∷ [])
+name_along reads around start k qs token_of indicator name b behind w y e ad begins break h ends text is are low r =
+    let o = b ++ behind in
+    let end = moved e (indicator ∷ name) in
+    let kind = token_of (encode_utf8_all name) in
+    let inside = in_back k e (indicator ∷ name) b behind text in
+    let stepped = begins (slice_index (name ++ o) 0) (length qs)
+    (core_at around r.deeper (cursor_at (indicator ∷ (name ++ o)) e r.blank) context.Block (Some k) [] false ad)
+    ∙ name_step reads around r.deeper token_of (length qs) e r.blank indicator name o break h ends context.Block
+    (Some k) [] false ad (behind_key refl refl) in
+    ends_there e indicator name b behind w y ad kind r.deeper text is are low
+    (token_led around start k ((indicator ∷ name) ++ o) e ad qs r end kind (mid_line end o) ad (λ d. d) stepped
+    (in_near k end b behind inside) (in_limit k end b behind inside))
+
+pub anchor_along : ReaderPromises
+    → (around : Around) (start : State) (k : Candidate) (qs : List Place) (name t b behind w y : List ℕ) (e : Marker)
+    (ad : ℕ) → IsAnchor name t → is_anchor_char (slice_index (b ++ behind) 0) ≡ false
+    → InKey around k e (t ++ b) behind → b ++ behind ≡ w ++ y → AreIn is_blank w → ad ≤ e.index
+    → Ready around start k (t ++ (b ++ behind)) e ad qs
+    → Along around start k qs (moved (moved e t) w) y (anchor_token name ∷ [])
+anchor_along reads around start k qs name t b behind w y e ad h ends text is are low r =
+    subst (λ (p : List ℕ). InKey around k e (p ++ b) behind → Ready around start k (p ++ (b ++ behind)) e ad qs
+    → Along around start k qs (moved (moved e p) w) y (anchor_token name ∷ [])) (sym h.1)
+    (λ i z. name_along reads around start k qs tokens.Anchor 38 name b behind w y e ad begins_anchor refl h.0 ends i is
+    are low
+    z) text r
+
+pub alias_along : ReaderPromises → (around : Around) (start : State) (k : Candidate) (qs : List Place)
+    (name t b behind w y : List ℕ) (e : Marker) (ad : ℕ) → IsAlias name t
+    → is_anchor_char (slice_index (b ++ behind) 0) ≡ false
+    → InKey around k e (t ++ b) behind → b ++ behind ≡ w ++ y → AreIn is_blank w → ad ≤ e.index
+    → Ready around start k (t ++ (b ++ behind)) e ad qs
+    → Along around start k qs (moved (moved e t) w) y (alias_token name ∷ [])
+alias_along reads around start k qs name t b behind w y e ad h ends text is are low r =
+    subst (λ (p : List ℕ). InKey around k e (p ++ b) behind → Ready around start k (p ++ (b ++ behind)) e ad qs
+    → Along around start k qs (moved (moved e p) w) y (alias_token name ∷ [])) (sym h.1)
+    (λ i z. name_along reads around start k qs tokens.Alias 42 name b behind w y e ad begins_alias refl h.0 ends i is
+    are low z)
+    text r
+
+pub tag_along : ReaderPromises → (around : Around) (start : State) (k : Candidate) (qs : List Place) (tag : Tag)
+    (t b behind w y : List ℕ) (e : Marker) (ad : ℕ) → IsTag tag t → EndsTag false (b ++ behind)
+    → InKey around k e (t ++ b) behind → b ++ behind ≡ w ++ y → AreIn is_blank w → ad ≤ e.index
+    → Ready around start k (t ++ (b ++ behind)) e ad qs
+    → Along around start k qs (moved (moved e t) w) y (tag_token tag ∷ [])
+tag_along reads around start k qs tag t b behind w y e ad h ends text is are low r =
+    let o = b ++ behind in
+    let g = tag_read tag t h in
+    let f = tag_first t g.handle g.suffix g.is in
+    let end = moved e t in
+    let kind = tokens.Tag (encode_utf8_all g.handle) (encode_utf8_all g.suffix) in
+    let core = core_at around r.deeper (cursor_at (t ++ o) e r.blank) context.Block (Some k) [] false ad in
+    let at_first : slice_index (t ++ o) 0 ≡ 33 = ap (λ (p : List ℕ). slice_index (p ++ o) 0) f.1 in
+    let second = slice_index (t ++ o) 1 in
+    let stepped = ap (λ (i : ℕ). step i second (length qs) core) at_first ∙ begins_tag second (length qs) core
+    ∙ tag_step reads around r.deeper (length qs) e r.blank t g.handle g.suffix o g.is context.Block (Some k) [] false ad
+    ends (behind_key refl refl) in
+    let inside = in_back k e t b behind text in
+    let led = token_led around start k (t ++ o) e ad qs r end kind (mid_line end o) ad (λ d. d) stepped
+    (in_near k end b behind inside) (in_limit k end b behind inside) in
+    subst (λ (q : Kind). Along around start k qs (moved (moved e t) w) y (q ∷ [])) g.token
+    (subst (λ (p : List ℕ). InKey around k e (p ++ b) behind
+    → LeadsTo around.limit (state_at around (moment (mid_line (moved e p) o) context.Block (Some k) [] false ad
+    (qs ++ token_place e (moved e p) kind ∷ [])) r.deeper) start
+    → Along around start k qs (moved (moved e p) w) y (kind ∷ [])) (sym f.1)
+    (λ i l. ends_there e 33 f.0 b behind w y ad kind r.deeper i is are low l) text led)
+
+-- ## Properties
+
+-- the tokens of properties, and what stands behind them
+pub record PropertiesAlong (around : Around) (start : State) (k : Candidate) (qs : List Place)
+    (anchor : Option (List ℕ)) (tag : Option Tag) (m : Marker) (y : List ℕ) : Type 0 where
+  pub tokens : List Kind
+  pub are : grammar.AreBoth (option_map anchor_token anchor) (option_map tag_token tag) tokens
+  pub along : Along around start k qs m y tokens
+
+blanks_end_tag : (w y : List ℕ) → (w ≢ []) × AreIn is_blank w → EndsTag false (w ++ y)
+blanks_end_tag w y h = white_ends_tag false (w ++ y) (blank_first w y h)
+
+pub tag_begins : (tag : Tag) (t : List ℕ) → IsTag tag t → Begins t
+tag_begins tag t h =
+    let g = tag_read tag t h in
+    let f = tag_first t g.handle g.suffix g.is in
+    record {
+      first = 33;
+      others = f.0;
+      is = f.1;
+      ink = record { blank = refl; break = refl; comment = refl; byte_order_mark = refl };
+      nul = refl;
+      directive = refl;
+    }
+
+pub anchor_begins : (name t : List ℕ) → IsAnchor name t → Begins t
+anchor_begins name t h = subst Begins (sym h.1) (anchor_first name)
+
+-- two texts with blanks between
+spaced_parts : (t a s c b : List ℕ) → t ≡ a ++ (s ++ c) → t ++ b ≡ a ++ (s ++ (c ++ b))
+spaced_parts t a s c b e = ap (λ (x : List ℕ). x ++ b) e ∙ append_assoc a (s ++ c) b
+    ∙ ap (λ (x : List ℕ). a ++ x) (append_assoc s c b)
+
+-- on one line a gap is of blanks
+blanks_between : (a s c t : List ℕ) (indent : ℕ) → IsGap indent s → t ≡ a ++ (s ++ c) → IsOnLine t
+    → (s ≢ []) × AreIn is_blank s
+blanks_between a s c t indent h e line =
+    gap_of_blanks indent s h (front_on_line s c (s ++ c) refl (back_on_line a (s ++ c) t e line))
+
+pub properties_along : ReaderPromises
+    → (around : Around) (start : State) (k : Candidate) (qs : List Place) (anchor : Option (List ℕ)) (tag : Option Tag)
+    (t b behind w y : List ℕ) (e : Marker) (ad : ℕ) → yaml.AreProperties anchor tag around.indent t
+    → EndsTag false (b ++ behind) → InKey around k e (t ++ b) behind → b ++ behind ≡ w ++ y → AreIn is_blank w
+    → ad ≤ e.index → Ready around start k (t ++ (b ++ behind)) e ad qs
+    → PropertiesAlong around start k qs anchor tag (moved (moved e t) w) y
+properties_along reads around start k qs None None t b behind w y e ad h ends text is are low r = absurd h
+properties_along reads around start k qs (Some name) None t b behind w y e ad h ends text is are low r =
+    record {
+      tokens = anchor_token name ∷ [];
+      are = refl;
+      along = anchor_along reads around start k qs name t b behind w y e ad h
+          (tag_ends_name false (b ++ behind) ends) text is are low r;
+    }
+properties_along reads around start k qs None (Some tag) t b behind w y e ad h ends text is are low r =
+    record {
+      tokens = tag_token tag ∷ [];
+      are = refl;
+      along = tag_along reads around start k qs tag t b behind w y e ad h ends text is are low r;
+    }
+properties_along reads around start k qs (Some name) (Some tag) t b behind w y e ad (a, s, c, h, g, gapped, inl t_is)
+    ends text is are low r =
+    let o = b ++ behind in
+    let rest = s ++ (c ++ b) in
+    let spaced = blanks_between a s c t around.indent gapped t_is
+    (front_on_line t b (t ++ b) refl text.on_line) in
+    let whole = in_so k e (t ++ b) (a ++ rest) behind (spaced_parts t a s c b t_is) text in
+    let behind_is : rest ++ behind ≡ s ++ (c ++ o) = append_assoc s (c ++ b) behind
+    ∙ ap (λ (x : List ℕ). s ++ x) (append_assoc c b behind) in
+    let there = subst (λ (x : List ℕ). Ready around start k x e ad qs)
+    (spaced_parts t a s c o t_is ∙ ap (λ (x : List ℕ). a ++ x) (sym behind_is)) r in
+    let first = anchor_along reads around start k qs name a rest behind s (c ++ o) e ad h
+    (tag_ends_name false (rest ++ behind) (subst (EndsTag false) (sym behind_is) (blanks_end_tag s (c ++ o) spaced)))
+    whole
+    behind_is spaced.1 low there in
+    let inside = in_back k (moved e a) s (c ++ b) behind (in_back k e a rest behind whole) in
+    let next = along_ready c o b behind first (tag_begins tag c g) inside refl in
+    let second = tag_along reads around _ k _ tag c b behind w y (moved (moved e a) s) first.adjacent g ends inside is
+    are first.low next in
+    let place : moved (moved (moved e a) s) c ≡ moved e t =
+    sym (ap (moved e) t_is ∙ moved_append e a (s ++ c) ∙ moved_append (moved e a) s c) in
+    record {
+      tokens = anchor_token name ∷ tag_token tag ∷ [];
+      are = inl refl;
+      along = subst (λ (m : Marker). Along around start k qs (moved m w) y (anchor_token name ∷ tag_token tag ∷ []))
+          place (along_joins first second);
+    }
+properties_along reads around start k qs (Some name) (Some tag) t b behind w y e ad (c, s, a, h, g, gapped, inr t_is)
+    ends text is are low r =
+    let o = b ++ behind in
+    let rest = s ++ (c ++ b) in
+    let spaced = blanks_between a s c t around.indent gapped t_is
+    (front_on_line t b (t ++ b) refl text.on_line) in
+    let whole = in_so k e (t ++ b) (a ++ rest) behind (spaced_parts t a s c b t_is) text in
+    let behind_is : rest ++ behind ≡ s ++ (c ++ o) = append_assoc s (c ++ b) behind
+    ∙ ap (λ (x : List ℕ). s ++ x) (append_assoc c b behind) in
+    let there = subst (λ (x : List ℕ). Ready around start k x e ad qs)
+    (spaced_parts t a s c o t_is ∙ ap (λ (x : List ℕ). a ++ x) (sym behind_is)) r in
+    let first = tag_along reads around start k qs tag a rest behind s (c ++ o) e ad g
+    (subst (EndsTag false) (sym behind_is) (blanks_end_tag s (c ++ o) spaced)) whole behind_is spaced.1
+    low there in
+    let inside = in_back k (moved e a) s (c ++ b) behind (in_back k e a rest behind whole) in
+    let next = along_ready c o b behind first (anchor_begins name c h) inside refl in
+    let second = anchor_along reads around _ k _ name c b behind w y (moved (moved e a) s) first.adjacent h
+    (tag_ends_name false o ends) inside is are first.low next in
+    let place : moved (moved (moved e a) s) c ≡ moved e t =
+    sym (ap (moved e) t_is ∙ moved_append e a (s ++ c) ∙ moved_append (moved e a) s c) in
+    record {
+      tokens = tag_token tag ∷ anchor_token name ∷ [];
+      are = inr refl;
+      along = subst (λ (m : Marker). Along around start k qs (moved m w) y (tag_token tag ∷ anchor_token name ∷ []))
+          place (along_joins first second);
+    }

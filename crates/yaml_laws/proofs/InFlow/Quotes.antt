@@ -1,0 +1,164 @@
+-- A quoted scalar ends right of a column that its lines reach.
+use Rattle.std.proofs.Common.{◌≡◌, ℕ, suc, ◌+◌, ◌≤◌, Bool, true, false, List, [], ◌∷◌, ◌++◌, drop, slice_index, refl, sym, ap, ◌∙◌, arith, subst, IsTrue, ◌⊎◌, inl, inr}
+use Rattle.std.specs.Prelude.{◌&&◌, ◌==◌, not, None}
+use Rattle.std.proofs.lemmas.Bool.{false≢true}
+use Rattle.std.proofs.lemmas.Bool.Decides.{nat_tests}
+use Rattle.saphyr_input.specs.Classes.{is_break, is_hex, is_breakz, space, line_feed, carriage_return}
+use Rattle.saphyr_values.specs.Escapes.{digit_count}
+use Rattle.saphyr_values.proofs.ItemsRead.{short_escape_no_feed}
+use Rattle.saphyr_scalar.specs.declared.scalar.position.Marker.{Marker}
+use Rattle.saphyr_values.specs.declared.folding.Item.{Item}
+use Rattle.saphyr_values.specs.declared.flow.Quote.{Quote}
+use Rattle.saphyr_values.specs.declared.flow.Quote.TheVariants.{Single, Double}
+use Rattle.saphyr_scalar.specs.Views.Cursor.{along, next_line}
+use Rattle.saphyr_values.specs.Flow.{mark, is_special, backslash, apostrophe}
+use Rattle.saphyr_scalar.specs.Spelling.OneLine.{IsNumber}
+use Rattle.saphyr_scalar.specs.Steps.Quoted.{break_len}
+use Rattle.saphyr_scalar.specs.Spelling.Quoted.{stands_for_itself, IsText, closed, itself, broken, two_quotes, escaped, numbered, escaped_break}
+use Rattle.saphyr_scalar.specs.Spelling.Tag.{AreIn}
+use Rattle.scalar_laws.specs.Spelling.QuotedLines.{space_count, IsLine, LinesFit}
+use Rattle.yaml_laws.proofs.Flow.States.{moved}
+use Rattle.yaml_laws.proofs.Flow.Places.{moved_append, right_along}
+use Rattle.saphyr_input.proofs.Basics.Numbers.{le_next}
+use Rattle.scalar_laws.proofs.Beginnings.{back_in}
+
+-- What stands at a place is right of a column, or is so behind spaces, or spaces end the line.
+abbrev pub Reaches : ℕ → Marker → List ℕ → Type 0
+Reaches column m t = (column ≤ m.col + space_count t) ⊎ IsTrue (is_break (slice_index (drop (space_count t) t) 0))
+
+no_space : (c : ℕ) (t : List ℕ) → (c == space) ≡ false → space_count (c ∷ t) ≡ 0
+no_space c t e = rw e refl
+
+-- behind a character that is no space and no break
+from_ink : (column : ℕ) (m : Marker) (c : ℕ) (t : List ℕ) → (c == space) ≡ false → is_break c ≡ false
+    → Reaches column m (c ∷ t) → column ≤ m.col
+from_ink column m c t e f (inl h) = let none = no_space c t e in let n = space_count (c ∷ t) in omega (arith, none, h)
+from_ink column m c t e f (inr h) =
+    absurd (false≢true (sym f
+    ∙ subst (λ (n : ℕ). IsTrue (is_break (slice_index (drop n (c ∷ t)) 0))) (no_space c t e) h))
+
+right_reaches : (column : ℕ) (m : Marker) (t : List ℕ) → column ≤ m.col → Reaches column m t
+right_reaches column m t h = inl (let n = space_count t in omega (arith, h))
+
+on_space : (column : ℕ) (m : Marker) (t : List ℕ) → Reaches column m (space ∷ t) → Reaches column (along m 1) t
+on_space column m t (inl h) = inl (further (space_count t) h)
+  where
+    further : (n : ℕ) → column ≤ m.col + (1 + n) → column ≤ m.col + 1 + n
+    further n h = omega (arith, h)
+on_space column m t (inr h) =
+    let one : 1 + space_count t ≡ suc (space_count t) = omega arith in
+    inr (subst (λ (n : ℕ). IsTrue (is_break (slice_index (drop n (32 ∷ t)) 0))) one h)
+
+itself_ink : (q : Quote) (c : ℕ) → IsTrue (stands_for_itself q c) → is_break c ≡ false
+itself_ink q c h = parts (is_breakz c) refl h
+  where
+    none : (c : ℕ) → is_breakz c ≡ false → is_break c ≡ false
+    none c h = grind (arith, nat_tests)
+
+    parts : (b : Bool) → is_breakz c ≡ b → (not b && not (is_special q c)) ≡ true → is_break c ≡ false
+    parts true e k = absurd (cc)
+    parts false e k = none c e
+
+feed_first : (t : List ℕ) → IsTrue (is_break (slice_index t 0)) → AreIn (λ c. not (c == carriage_return)) t
+    → (cs : List ℕ) × (t ≡ line_feed ∷ cs)
+feed_first [] h k = absurd (false≢true h)
+feed_first (c ∷ cs) h k = (cs, ap (λ (z : ℕ). z ∷ cs) (is_feed c h k.0))
+  where
+    is_feed : (c : ℕ) → IsTrue (is_break c) → IsTrue (not (c == carriage_return)) → c ≡ line_feed
+    is_feed c h k = grind (arith, nat_tests)
+
+line_reaches : (column : ℕ) (m : Marker) (t : List ℕ) → m.col ≡ 0 → IsLine column t → Reaches column m t
+line_reaches column m t e h = by_line h.indented
+  where
+    by_line : (column ≤ space_count t) ⊎ IsTrue (is_break (slice_index (drop (space_count t) t) 0)) → Reaches column m t
+    by_line (inl k) = inl (let n = space_count t in omega (arith, e, k))
+    by_line (inr k) = inr k
+
+no_feed_letter : (e : ℕ) (ds : List ℕ) (c : ℕ) → IsNumber e c ds → (e == line_feed) ≡ false
+no_feed_letter e ds c h = by_test (e == line_feed) refl
+  where
+    feed : (e : ℕ) → (e == line_feed) ≡ true → e ≡ line_feed
+    feed e h = grind (arith, nat_tests)
+
+    by_test : (b : Bool) → (e == line_feed) ≡ b → (e == line_feed) ≡ false
+    by_test true k = let count = h.count in let none : digit_count e ≡ None = ap digit_count (feed e k) in absurd (cc)
+    by_test false k = k
+
+hex_line : (ds : List ℕ) → AreIn is_hex ds → AreIn (λ c. not (c == line_feed)) ds
+hex_line [] h = tt
+hex_line (d ∷ ds) h = (one d h.0, hex_line ds h.1)
+  where
+    one : (d : ℕ) → IsTrue (is_hex d) → IsTrue (not (d == line_feed))
+    one d h = grind (arith, nat_tests)
+
+-- ## To the end of the text
+
+no_feed_ink : (c : ℕ) → is_break c ≡ false → (c == line_feed) ≡ false
+no_feed_ink c h = grind (arith, nat_tests)
+
+mark_ink : (q : Quote) → ((mark q == space) ≡ false) × (is_break (mark q) ≡ false)
+mark_ink Single = (refl, refl)
+mark_ink Double = (refl, refl)
+
+over_feed : (m : Marker) (t : List ℕ) → (cs : List ℕ) × (t ≡ line_feed ∷ cs) → AreIn (λ c. not (c == carriage_return)) t
+    → (moved m t ≡ moved (next_line m 1) (drop (break_len t) t))
+    × AreIn (λ c. not (c == carriage_return)) (drop (break_len t) t)
+over_feed m t (cs, is) clean =
+    subst (λ (y : List ℕ). AreIn (λ c. not (c == carriage_return)) y
+    → (moved m y ≡ moved (next_line m 1) (drop (break_len y) y))
+    × AreIn (λ c. not (c == carriage_return)) (drop (break_len y) y)) (sym is)
+    (λ k. (refl, k.1)) clean
+
+pub text_right : (column : ℕ) (q : Quote) (t : List ℕ) (items : List Item) (x : List ℕ) (spelled : IsText q t items x)
+    → LinesFit column q t items x spelled → x ≡ [] → (m : Marker) → Reaches column m t
+    → AreIn (λ c. not (c == carriage_return)) t → column ≤ (moved m t).col
+text_right column _ _ _ _ (closed q x h) fit e m reach clean =
+    let ink = mark_ink q in
+    subst (λ (y : List ℕ). column ≤ (moved m (mark q ∷ y)).col) (sym e)
+    (right_along column m (mark q ∷ []) (ap not (no_feed_ink (mark q) ink.1), tt)
+    (from_ink column m (mark q) x ink.0 ink.1 reach))
+text_right column _ _ _ _ (itself q c t items x h r) fit e m reach clean =
+    let ink = itself_ink q c h in
+    let same : moved m (c ∷ t) ≡ moved (along m 1) t = rw (no_feed_ink c ink) refl in
+    subst (λ (k : Marker). column ≤ k.col) (sym same)
+    (text_right column q t items x r fit e (along m 1) (by_space (c == space) refl) clean.1)
+  where
+    is_space : (c : ℕ) → (c == space) ≡ true → c ≡ space
+    is_space c e = grind (arith, nat_tests)
+
+    by_space : (b : Bool) → (c == space) ≡ b → Reaches column (along m 1) t
+    by_space true k = on_space column m t (subst (λ (z : ℕ). Reaches column m (z ∷ t)) (is_space c k) reach)
+    by_space false k = right_reaches column (along m 1) t
+        (le_next column m.col (from_ink column m c t k (itself_ink q c h) reach))
+text_right column _ _ _ _ (broken q t items x h r) fit e m reach clean =
+    let b = over_feed m t (feed_first t h clean) clean in
+    subst (λ (k : Marker). column ≤ k.col) (sym b.0)
+    (text_right column q (drop (break_len t) t) items x r fit.1 e (next_line m 1)
+    (line_reaches column (next_line m 1) (drop (break_len t) t) refl fit.0) b.1)
+text_right column _ _ _ _ (two_quotes t items x r) fit e m reach clean =
+    let here = from_ink column m apostrophe (apostrophe ∷ t) refl refl reach in
+    text_right column Single t items x r fit e (along (along m 1) 1)
+    (right_reaches column (along (along m 1) 1) t (le_next column (m.col + 1) (le_next column m.col here)))
+    clean.1.1
+text_right column _ _ _ _ (escaped d c t items x h r) fit e m reach clean =
+    let here = from_ink column m backslash (d ∷ t) refl refl reach in
+    let same : moved m (backslash ∷ d ∷ t) ≡ moved (along (along m 1) 1) t = rw (short_escape_no_feed d c h) refl in
+    subst (λ (k : Marker). column ≤ k.col) (sym same)
+    (text_right column Double t items x r fit e (along (along m 1) 1)
+    (right_reaches column (along (along m 1) 1) t (le_next column (m.col + 1) (le_next column m.col here)))
+    clean.1.1)
+text_right column _ _ _ _ (numbered d c ds t items x h r) fit e m reach clean =
+    let here = from_ink column m backslash (d ∷ (ds ++ t)) refl refl reach in
+    let front = backslash ∷ d ∷ ds in
+    let line : AreIn (λ c. not (c == line_feed)) front =
+    (refl, (ap not (no_feed_letter d ds c h), hex_line ds h.hex)) in
+    let there = right_along column m front line here in
+    subst (λ (k : Marker). column ≤ k.col) (sym (moved_append m front t))
+    (text_right column Double t items x r fit e (moved m front) (right_reaches column (moved m front) t there)
+    (back_in (λ c. not (c == carriage_return)) ds t clean.1.1))
+text_right column _ _ _ _ (escaped_break t items x h r) fit e m reach clean =
+    let n = along m 1 in
+    let b = over_feed n t (feed_first t h clean.1) clean.1 in
+    subst (λ (k : Marker). column ≤ k.col) (sym b.0)
+    (text_right column Double (drop (break_len t) t) items x r fit.1 e (next_line n 1)
+    (line_reaches column (next_line n 1) (drop (break_len t) t) refl fit.0) b.1)

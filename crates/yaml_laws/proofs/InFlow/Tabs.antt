@@ -1,0 +1,301 @@
+-- The tabs and breaks that a plain scalar's reader passes behind a scalar, where a token or the text's end is reached.
+use Rattle.std.proofs.Common.{◌≡◌, ℕ, ◌+◌, ◌≤◌, Bool, true, false, List, [], ◌∷◌, drop, slice_index, refl, sym, ap, ◌∙◌, arith, subst, IsTrue, ◌⊎◌, inl, inr}
+use Rattle.std.specs.Prelude.{◌||◌, ◌&&◌, ◌==◌, not, nat_lt, if◌then◌else◌}
+use Rattle.std.specs.List.{prefix_len}
+use Rattle.std.proofs.lemmas.Bool.Decides.{nat_tests}
+use Rattle.saphyr_input.specs.Indicators.{full_stop, hyphen, number_sign}
+use Rattle.saphyr_input.specs.Classes.{is_blank, is_break, carriage_return, line_feed}
+use Rattle.saphyr_input.specs.Places.{is_blank_or_break, is_document_indicator}
+use Rattle.saphyr_scalar.specs.declared.scalar.position.Marker.{Marker}
+use Rattle.saphyr_scalar.specs.Views.Cursor.{Cursor, along, next_line}
+use Rattle.saphyr_scalar.specs.Steps.Plain.{ends_line}
+use Rattle.saphyr_scalar.proofs.Given.{cursor_at}
+use Rattle.scalar_laws.specs.Spelling.Plain.{reaches_tabbed, is_tabbed, stands_behind_tab, past_white}
+use Rattle.scalar_laws.proofs.Plain.Texts.{blanks_on}
+use Rattle.scalar_laws.proofs.Plain.White.{flag_on, tabbed_on, tabbed_stop, past_on, past_stop}
+use Rattle.yaml_laws.proofs.Flow.States.{is_filler_rest, past, EndsDocument, IsLeft}
+use Rattle.yaml_laws.proofs.Flow.Gaps.{stops_tab, stop_blank, tab_rest, no_rest, no_tab_before}
+use Rattle.saphyr_input.proofs.Basics.Characters.{blank_no_break, return_breaks}
+use Rattle.saphyr_input.proofs.Basics.Booleans.{and_true_right, clash}
+
+-- ## What is landed at is no blank
+
+starts_marker : (y : List ℕ) → IsTrue (is_document_indicator y) → is_blank (slice_index y 0) ≡ false
+starts_marker y h = by_first (slice_index y 0 == 45) (slice_index y 0 == 46) refl refl
+  where
+    dash : (c : ℕ) → (c == hyphen) ≡ true → is_blank c ≡ false
+    dash c e = grind (arith, nat_tests)
+
+    dot : (c : ℕ) → (c == full_stop) ≡ true → is_blank c ≡ false
+    dot c e = grind (arith, nat_tests)
+
+    neither : (p q : Bool) → slice_index y 0 == hyphen ≡ p → slice_index y 0 == full_stop ≡ q → p ≡ false → q ≡ false
+        → is_document_indicator y ≡ false
+    neither p q e f g h = rw (e ∙ g, f ∙ h) refl
+
+    by_first : (p q : Bool) → slice_index y 0 == hyphen ≡ p → slice_index y 0 == full_stop ≡ q
+        → is_blank (slice_index y 0) ≡ false
+    by_first true q e f = dash (slice_index y 0) e
+    by_first false true e f = dot (slice_index y 0) f
+    by_first false false e f = absurd (clash (is_document_indicator y) h (neither false false e f refl refl))
+
+pub lands_on_ink : (column : ℕ) (m : Marker) (y : List ℕ) → EndsDocument m y ⊎ IsLeft column m y
+    → is_blank (slice_index y 0) ≡ false
+lands_on_ink column m y (inl (inl e)) = ap (λ (t : List ℕ). is_blank (slice_index t 0)) e
+lands_on_ink column m y (inl (inr h)) = starts_marker y h.1
+lands_on_ink column m y (inr h) = ap (λ (t : List ℕ). is_blank (slice_index t 0)) h.is ∙ h.blank
+
+-- ## Where a tab stands in the indentation before a token, a comment or the text's end does
+
+-- from a place on, where a tab stands before it only if no token stands on the rest of the line
+abbrev Tabs : ℕ → Marker → Bool → List ℕ → Type 0
+Tabs column m tab t =
+    is_blank (slice_index (past column m t).1 0) ≡ false → (tab ≡ true → is_filler_rest t ≡ true)
+    → (n : Marker) (b : Bool)
+    → (reaches_tabbed column m.col tab t ≡ false) ⊎ (stands_behind_tab (past_white n b t).rest ≡ true)
+
+-- a blank, and CR before LF, is passed and ends no line
+record White (c : ℕ) (cs : List ℕ) : Type 0 where
+  white : is_blank_or_break c ≡ true
+  line : ends_line c cs ≡ false
+
+white_passes : (c : ℕ) (cs : List ℕ)
+    → (is_blank c || ((c == carriage_return) && (slice_index cs 0 == line_feed))) ≡ true → White c cs
+white_passes c cs h = by_blank (is_blank c) ((c == 13) && (slice_index cs 0 == 10)) refl refl h
+  where
+    by_blank : (p q : Bool) → is_blank c ≡ p → ((c == carriage_return) && (slice_index cs 0 == line_feed)) ≡ q
+        → (p || q) ≡ true
+        → White c cs
+    by_blank true q e f k = record { white = rw e refl; line = rw (blank_no_break c e) refl }
+    by_blank false true e f k =
+        let b = return_breaks c (slice_index cs 0 == 10) f in record { white = rw (e, b) refl; line = rw (b, f) refl }
+    by_blank false false e f k = absurd (cc)
+
+line_break_white : (c : ℕ) (cs : List ℕ)
+    → (is_blank c || ((c == carriage_return) && (slice_index cs 0 == line_feed))) ≡ false → is_break c
+    ≡ true
+    → (is_blank_or_break c ≡ true) × (ends_line c cs ≡ true)
+line_break_white c cs h e = by_return (is_blank c) ((c == 13) && (slice_index cs 0 == 10)) refl refl h
+  where
+    by_return : (p q : Bool) → is_blank c ≡ p → ((c == carriage_return) && (slice_index cs 0 == line_feed)) ≡ q
+        → (p || q) ≡ false
+        → (is_blank_or_break c ≡ true) × (ends_line c cs ≡ true)
+    by_return true q f g k = absurd (cc)
+    by_return false true f g k = absurd (cc)
+    by_return false false f g k = (rw (f, e) refl, rw (e, g) refl)
+
+other_white : (c : ℕ) (cs : List ℕ)
+    → (is_blank c || ((c == carriage_return) && (slice_index cs 0 == line_feed))) ≡ false
+    → is_break c ≡ false → is_blank_or_break c ≡ false
+other_white c cs h e = by_blank (is_blank c) refl h
+  where
+    by_blank : (p : Bool) → is_blank c ≡ p → (p || ((c == carriage_return) && (slice_index cs 0 == line_feed))) ≡ false
+        → is_blank_or_break c ≡ false
+    by_blank true f k = absurd (cc)
+    by_blank false f k = rw (f, e) refl
+
+-- the flag behind a blank or a break stands for a tab that ends nothing
+flag_rest : (column : ℕ) (m : Marker) (c : ℕ) (cs : List ℕ) (tab : Bool) → stops_tab column m c cs ≡ false
+    → (is_blank c || ((c == carriage_return) && (slice_index cs 0 == line_feed))) ≡ true
+    → (tab ≡ true → is_filler_rest (c ∷ cs) ≡ true)
+    → flag_on column m.col tab c ≡ true → is_filler_rest cs ≡ true
+flag_rest column m c cs tab t e h k =
+    tab_rest column column m true c cs tab t (omega arith) e h
+    (either (c == 9) (nat_lt m.col column) tab
+    (and_true_right (is_blank c) (tab || ((c == 9) && nat_lt m.col column)) k))
+  where
+    either : (a b d : Bool) → (d || (a && b)) ≡ true → (((a && true) && b) || d) ≡ true
+    either true true d k = refl
+    either true false true k = refl
+    either true false false k = absurd (cc)
+    either false b true k = refl
+    either false b false k = absurd (cc)
+
+-- behind a break no tab stands
+no_flag : (column : ℕ) (m : Marker) (c : ℕ) (tab : Bool) → is_break c ≡ true → flag_on column m.col tab c ≡ false
+no_flag column m c tab e = rw (no_blank c e) refl
+  where
+    no_blank : (c : ℕ) → is_break c ≡ true → is_blank c ≡ false
+    no_blank c e = grind (arith, nat_tests)
+
+tab_kind : (column : ℕ) (m : Marker) (tab : Bool) (c : ℕ) (cs : List ℕ) (is_tab is_white is_line is_sign : Bool)
+    → stops_tab column m c cs ≡ is_tab
+    → (is_blank c || ((c == carriage_return) && (slice_index cs 0 == line_feed))) ≡ is_white
+    → is_break c ≡ is_line → (c == number_sign) ≡ is_sign → Tabs column (along m 1) (flag_on column m.col tab c) cs
+    → Tabs column (next_line m 1) false cs → Tabs column m tab (c ∷ cs)
+tab_kind column m tab c cs true q r s t e f g on line h bare n b =
+    let still : past column m (c ∷ cs) ≡ (m, c ∷ cs) = rw t refl in
+    absurd (clash (is_blank c) (stop_blank column m c cs t)
+    (ap (λ (z : Marker × List ℕ). is_blank (slice_index z.1 0)) (sym still) ∙ h))
+tab_kind column m tab c cs false true r s t e f g on line h bare n b =
+    let there : past column m (c ∷ cs) ≡ past column (along m 1) cs = rw (t, e) refl in
+    let w = white_passes c cs e in
+    let step : reaches_tabbed column m.col tab (c ∷ cs)
+    ≡ reaches_tabbed column (m.col + 1) (flag_on column m.col tab c) cs =
+    tabbed_on column m.col tab c cs w.white
+    ∙ ap (λ (p : Bool). reaches_tabbed column (if p then 0 else m.col + 1) (flag_on column m.col tab c) cs) w.line in
+    let over = past_on n b c cs w.white in
+    behind (m.col + 1) (flag_on column m.col tab c) _ _ step over
+    (on (ap (λ (z : Marker × List ℕ). is_blank (slice_index z.1 0)) (sym there) ∙ h)
+    (flag_rest column m c cs tab t e bare) (if ends_line c cs then next_line n 1 else along n 1) (b || is_break c))
+  where
+    behind : (k : ℕ) (p : Bool) (u v : Cursor) → reaches_tabbed column m.col tab (c ∷ cs) ≡ reaches_tabbed column k p cs
+        → u ≡ v → (reaches_tabbed column k p cs ≡ false) ⊎ (stands_behind_tab v.rest ≡ true)
+        → (reaches_tabbed column m.col tab (c ∷ cs) ≡ false) ⊎ (stands_behind_tab u.rest ≡ true)
+    behind k p u v step over (inl x) = inl (step ∙ x)
+    behind k p u v step over (inr x) = inr (ap (λ (u : Cursor). stands_behind_tab u.rest) over ∙ x)
+tab_kind column m tab c cs false false true s t e f g on line h bare n b =
+    let there : past column m (c ∷ cs) ≡ past column (next_line m 1) cs = rw (t, e, f) refl in
+    let w = line_break_white c cs e f in
+    let step : reaches_tabbed column m.col tab (c ∷ cs) ≡ reaches_tabbed column 0 false cs =
+    tabbed_on column m.col tab c cs w.0
+    ∙ ap (λ (p : Bool). reaches_tabbed column (if p then 0 else m.col + 1) (flag_on column m.col tab c) cs) w.1
+    ∙ ap (λ (p : Bool). reaches_tabbed column 0 p cs) (no_flag column m c tab f) in
+    let over = past_on n b c cs w.0 in
+    behind _ _ step over (line (ap (λ (z : Marker × List ℕ). is_blank (slice_index z.1 0)) (sym there) ∙ h)
+    (no_tab_before (is_filler_rest cs)) (if ends_line c cs then next_line n 1 else along n 1) (b || is_break c))
+  where
+    behind : (u v : Cursor) → reaches_tabbed column m.col tab (c ∷ cs) ≡ reaches_tabbed column 0 false cs
+        → u ≡ v → (reaches_tabbed column 0 false cs ≡ false) ⊎ (stands_behind_tab v.rest ≡ true)
+        → (reaches_tabbed column m.col tab (c ∷ cs) ≡ false) ⊎ (stands_behind_tab u.rest ≡ true)
+    behind u v step over (inl x) = inl (step ∙ x)
+    behind u v step over (inr x) = inr (ap (λ (u : Cursor). stands_behind_tab u.rest) over ∙ x)
+tab_kind column m tab c cs false false false true t e f g on line h bare n b =
+    let still : past_white n b (c ∷ cs) ≡ cursor_at (c ∷ cs) n b = past_stop n b (c ∷ cs) (other_white c cs e f) in
+    inr (ap (λ (u : Cursor). stands_behind_tab u.rest) still ∙ rw g refl)
+tab_kind column m false c cs false false false false t e f g on line h bare n b =
+    inl (tabbed_stop column m.col false (c ∷ cs) (other_white c cs e f))
+tab_kind column m true c cs false false false false t e f g on line h bare n b =
+    absurd (clash (is_filler_rest (c ∷ cs)) (bare refl) (no_rest c cs e f g))
+
+tabs_right : (column : ℕ) (m : Marker) (tab : Bool) (t : List ℕ) → Tabs column m tab t
+tabs_right column m tab [] h bare n b = inr refl
+tabs_right column m tab (c ∷ cs) h bare n b =
+    tab_kind column m tab c cs (stops_tab column m c cs) (is_blank c || ((c == 13) && (slice_index cs 0 == 10)))
+    (is_break c) (c == 35) refl refl refl refl
+    (tabs_right column (along m 1) (flag_on column m.col tab c) cs) (tabs_right column (next_line m 1) false cs) h bare
+    n b
+
+-- ## Behind the blanks of a line
+
+-- before a character that is no blank the column does not matter
+any_column : (column a b : ℕ) (t : List ℕ) → is_blank (slice_index t 0) ≡ false
+    → reaches_tabbed column a false t ≡ reaches_tabbed column b false t
+any_column column a b [] h = refl
+any_column column a b (c ∷ cs) h = by_white (is_blank_or_break c) refl
+  where
+    feed : (c : ℕ) → (c == line_feed) ≡ true → c ≡ line_feed
+    feed c e = grind (arith, nat_tests)
+
+    at_feed : (x y : ℕ) (cs : List ℕ) → (slice_index cs 0 == line_feed) ≡ true
+        → reaches_tabbed column x false cs ≡ reaches_tabbed column y false cs
+    at_feed x y [] e = refl
+    at_feed x y (d ∷ ds) e =
+        subst (λ (z : ℕ). reaches_tabbed column x false (z ∷ ds) ≡ reaches_tabbed column y false (z ∷ ds))
+        (sym (feed d e)) refl
+
+    by_line : (p : Bool) → ends_line c cs ≡ p → is_break c ≡ true
+        → reaches_tabbed column (if p then 0 else a + 1) false cs
+        ≡ reaches_tabbed column (if p then 0 else b + 1) false cs
+    by_line true e f = refl
+    by_line false e f = at_feed (a + 1) (b + 1) cs (and_true_right (c == 13) (slice_index cs 0 == 10)
+        (cut (is_break c) ((c == 13) && (slice_index cs 0 == 10)) f e))
+      where
+        cut : (x y : Bool) → x ≡ true → (x && not y) ≡ false → y ≡ true
+        cut true true f e = refl
+        cut true false f e = absurd (cc)
+        cut false y f e = absurd (cc)
+
+    no_flag_at : (k : ℕ) → flag_on column k false c ≡ false
+    no_flag_at k = rw h refl
+
+    by_white : (w : Bool) → is_blank_or_break c ≡ w
+        → reaches_tabbed column a false (c ∷ cs) ≡ reaches_tabbed column b false (c ∷ cs)
+    by_white true e =
+        tabbed_on column a false c cs e
+        ∙ ap (λ (p : Bool). reaches_tabbed column (if ends_line c cs then 0 else a + 1) p cs) (no_flag_at a)
+        ∙ by_line (ends_line c cs) refl (or_false_first (is_blank c) (is_break c) h e)
+        ∙ sym (tabbed_on column b false c cs e
+        ∙ ap (λ (p : Bool). reaches_tabbed column (if ends_line c cs then 0 else b + 1) p cs) (no_flag_at b))
+      where
+        or_false_first : (x y : Bool) → x ≡ false → (x || y) ≡ true → y ≡ true
+        or_false_first false y e f = f
+        or_false_first true y e f = absurd (cc)
+    by_white false e = tabbed_stop column a false (c ∷ cs) e ∙ sym (tabbed_stop column b false (c ∷ cs) e)
+
+behind_kind : (column : ℕ) (m : Marker) (c : ℕ) (cs : List ℕ) (is_tab blank : Bool) → stops_tab column m c cs ≡ is_tab
+    → is_blank c ≡ blank → is_blank (slice_index (past column m (c ∷ cs)).1 0) ≡ false → (n : Marker) (b : Bool)
+    → (is_blank (slice_index (past column (along m 1) cs).1 0) ≡ false
+    → (is_tabbed column cs ≡ false)
+    ⊎ (stands_behind_tab (past_white (if ends_line c cs then next_line n 1 else along n 1) (b || is_break c) cs).rest
+    ≡ true))
+    → (is_tabbed column (c ∷ cs) ≡ false) ⊎ (stands_behind_tab (past_white n b (c ∷ cs)).rest ≡ true)
+behind_kind column m c cs true p t e h n b on =
+    let still : past column m (c ∷ cs) ≡ (m, c ∷ cs) = rw t refl in
+    absurd (clash (is_blank c) (stop_blank column m c cs t)
+    (ap (λ (z : Marker × List ℕ). is_blank (slice_index z.1 0)) (sym still) ∙ h))
+behind_kind column m c cs false true t e h n b on =
+    let there : past column m (c ∷ cs) ≡ past column (along m 1) cs = rw (t, e) refl in
+    by_rest (on (ap (λ (z : Marker × List ℕ). is_blank (slice_index z.1 0)) (sym there) ∙ h))
+  where
+    white : is_blank_or_break c ≡ true
+    white = rw e refl
+
+    by_rest : (is_tabbed column cs ≡ false)
+        ⊎ (stands_behind_tab
+        (past_white (if ends_line c cs then next_line n 1 else along n 1) (b || is_break c) cs).rest ≡ true)
+        → (is_tabbed column (c ∷ cs) ≡ false) ⊎ (stands_behind_tab (past_white n b (c ∷ cs)).rest ≡ true)
+    by_rest (inl x) = inl (ap (reaches_tabbed column 0 false) (blanks_on c cs e) ∙ x)
+    by_rest (inr x) = inr (ap (λ (u : Cursor). stands_behind_tab u.rest) (past_on n b c cs white) ∙ x)
+behind_kind column m c cs false false t e h n b on =
+    by_rest (tabs_right column m false (c ∷ cs) h (no_tab_before (is_filler_rest (c ∷ cs))) n b)
+  where
+    none : prefix_len is_blank (c ∷ cs) ≡ 0
+    none = rw e refl
+
+    by_rest : (reaches_tabbed column m.col false (c ∷ cs) ≡ false)
+        ⊎ (stands_behind_tab (past_white n b (c ∷ cs)).rest ≡ true)
+        → (is_tabbed column (c ∷ cs) ≡ false) ⊎ (stands_behind_tab (past_white n b (c ∷ cs)).rest ≡ true)
+    by_rest (inl x) = inl (ap (λ (k : ℕ). reaches_tabbed column 0 false (drop k (c ∷ cs))) none
+        ∙ any_column column 0 m.col (c ∷ cs) e ∙ x)
+    by_rest (inr x) = inr x
+
+-- where a token or the text's end is reached
+pub tabs_behind : (column : ℕ) (m n : Marker) (b : Bool) (t : List ℕ)
+    → is_blank (slice_index (past column m t).1 0) ≡ false
+    → (is_tabbed column t ≡ false) ⊎ (stands_behind_tab (past_white n b t).rest ≡ true)
+tabs_behind column m n b [] h = inr refl
+tabs_behind column m n b (c ∷ cs) h =
+    behind_kind column m c cs (stops_tab column m c cs) (is_blank c) refl refl h n b
+    (tabs_behind column (along m 1) (if ends_line c cs then next_line n 1 else along n 1) (b || is_break c) cs)
+
+-- ## A break was passed, or the place is not left of the first
+
+one_on : (a b n : ℕ) → n ≡ a + 1 → n ≤ b → a ≤ b
+one_on a b n e h = omega (arith, e, h)
+
+still_blank : (m : Marker) (t : List ℕ) → (past_white m true t).blank_so_far ≡ true
+still_blank m [] = refl
+still_blank m (c ∷ cs) =
+    by_white (is_blank_or_break c) refl (still_blank (if ends_line c cs then next_line m 1 else along m 1) cs)
+  where
+    by_white : (b : Bool) → is_blank_or_break c ≡ b
+        → (past_white (if ends_line c cs then next_line m 1 else along m 1) true cs).blank_so_far ≡ true
+        → (past_white m true (c ∷ cs)).blank_so_far ≡ true
+    by_white true e on = rw e on
+    by_white false e on = rw e refl
+
+pub broke_or_right : (m : Marker) (t : List ℕ)
+    → ((past_white m false t).blank_so_far ≡ true) ⊎ (m.col ≤ (past_white m false t).mark.col)
+broke_or_right m [] = inr (omega arith)
+broke_or_right m (c ∷ cs) = by_kind (is_blank_or_break c) (is_break c) refl refl (broke_or_right (along m 1) cs)
+  where
+    by_kind : (b line : Bool) → is_blank_or_break c ≡ b → is_break c ≡ line
+        → ((past_white (along m 1) false cs).blank_so_far ≡ true)
+        ⊎ ((along m 1).col ≤ (past_white (along m 1) false cs).mark.col)
+        → ((past_white m false (c ∷ cs)).blank_so_far ≡ true) ⊎ (m.col ≤ (past_white m false (c ∷ cs)).mark.col)
+    by_kind false line e f on = inr (rw e (omega arith))
+    by_kind true true e f on = inl (rw (e, f) (still_blank _ cs))
+    by_kind true false e f (inl k) = inl (rw (e, f) k)
+    by_kind true false e f (inr k) =
+        inr (rw (e, f) (one_on m.col (past_white (along m 1) false cs).mark.col (m.col + 1) refl k))

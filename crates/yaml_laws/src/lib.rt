@@ -1,0 +1,90 @@
+//! Laws of the texts of YAML's grammar: each gives tokens of its forest, and no fault, whatever its line breaks.
+//!
+//! The functions are laws: they do nothing, and their clauses are what is proved.
+#![tactic(auto)]
+
+ghost use Rattle.std.specs.Prelude.{◌≡◌, ◌≤◌, List, codes, ◌∷◌, ◌++◌, [], ℕ, length, ◌<◌, ◌^◌};
+ghost use Rattle.saphyr_input.specs.Breaks.{normalized};
+ghost use Rattle.scalar_laws.specs.Spelling.Spaces.{IsLineRest};
+ghost use Rattle.saphyr_scanner.specs.Grammar.Forest.{Forest, Primary, Shorthand};
+ghost use Rattle.saphyr_scanner.specs.Limits.{most_open};
+ghost use Rattle.saphyr_scanner.specs.Grammar.TokenGrammar.{Yields};
+ghost use Rattle.saphyr_scanner.specs.Grammar.Tokens.{Kind};
+ghost use Rattle.saphyr_scanner.specs.Steps.Remaining.{Scans, scan};
+ghost use Rattle.yaml_laws.specs.Grammar.TagSpelling.{IsTag};
+ghost use Rattle.yaml_laws.specs.Grammar.ClosedTexts.{DocumentMarker, EndsWithMarker, HandsOut};
+ghost use Rattle.yaml_laws.specs.Grammar.Yaml.{IsYamlText};
+ghost use Rattle.yaml_laws.specs.SameKinds.{HaveSameKinds};
+
+use saphyr_scalar::scalar::{
+    places_each_block_scalar, reads_plain_values, spells_each_anchor, spells_each_directive,
+    spells_each_quoted, spells_each_tag,
+};
+use saphyr_scanner::law::takes_characters_off;
+use scalar_laws::{
+    passes_to_one_place, reads_breaks_alike, reads_each_anchor, reads_each_block_scalar,
+    reads_each_directive, reads_each_plain_text, reads_each_quoted, reads_each_reserved_directive,
+    reads_each_tag,
+};
+
+/// In a tag the percent escapes of the UTF-8 of a character stand for the character.
+pub fn reads_tags()
+    ensures { IsTag (Shorthand Primary (0xE9 ∷ [])) (codes "!%C3%A9") }
+{}
+
+/// A text and its normalized text have tokens of the same kinds, and a refusal with the same text ends both
+/// or none.
+pub fn scans_breaks_alike()
+    ensures { (limit : ℕ) (text : List ℕ) → length text < 2 ^ 63 → length text ≤ limit
+        → HaveSameKinds (scan limit text) (scan limit (normalized text)) }
+{
+    reads_breaks_alike();
+    reads_plain_values();
+    spells_each_quoted();
+    places_each_block_scalar();
+    spells_each_anchor();
+    spells_each_tag();
+    spells_each_directive();
+    takes_characters_off();
+}
+
+/// Each text of YAML's grammar, within the limit, gives tokens of its forest, and no fault.
+pub fn scans_each_yaml_text()
+    ensures { (limit : ℕ) (forest : Forest) (text : List ℕ) → IsYamlText most_open forest text
+        → length text ≤ limit → limit < 2 ^ 63
+        → (tokens : List Kind) × Yields forest tokens × Scans tokens (scan limit text) }
+{
+    scans_breaks_alike();
+    reads_each_plain_text();
+    reads_each_quoted();
+    reads_each_block_scalar();
+    places_each_block_scalar();
+    passes_to_one_place();
+    reads_each_anchor();
+    reads_each_tag();
+    reads_each_directive();
+    reads_each_reserved_directive();
+    takes_characters_off();
+}
+
+/// A text of YAML's grammar ends with a line of `---` or `...`: whatever follows its last break, the tokens up to
+/// and with the marker's come first, as they are those of its forest.
+pub fn hands_out_markers()
+    ensures { (limit : ℕ) (marker : DocumentMarker) (forest : Forest) (text others : List ℕ)
+        → IsYamlText most_open forest text → EndsWithMarker IsLineRest marker (normalized text)
+        → normalized (text ++ others) ≡ normalized text ++ normalized others
+        → length (text ++ others) ≤ limit → limit < 2 ^ 63
+        → HandsOut marker forest (scan limit (text ++ others)) }
+{
+    scans_breaks_alike();
+    reads_each_plain_text();
+    reads_each_quoted();
+    reads_each_block_scalar();
+    places_each_block_scalar();
+    passes_to_one_place();
+    reads_each_anchor();
+    reads_each_tag();
+    reads_each_directive();
+    reads_each_reserved_directive();
+    takes_characters_off();
+}
