@@ -33,6 +33,11 @@ def is_marker(text):
     return text[:3] in ("---", "...") and text[3:4] in ("", " ", "\t", "\n")
 
 
+def ends_content(text):
+    """Whether a text ends a document's content where it begins a line (BlockNodes.antt)."""
+    return is_marker(text) or text[:1] == MARK
+
+
 def folded(text):
     """A folded flow scalar (Reading/Folding.antt): U+E003 is an escaped break's backslash, ESCAPED an escaped blank."""
     text = re.sub("\ue003[ \t\n]*", lambda it: ESCAPED[2] * (it[0].count("\n") - 1), text)
@@ -56,8 +61,8 @@ def may_follow(indent, column, behind):
     at, c = len(behind) - len(behind.lstrip(" ")), behind.lstrip(" ")[:1]
     if c == "\t":
         last = re.sub("^([ \t]*(#.*)?\n)*", "", behind)
-        return at < column and (is_marker(last) or bool(re.fullmatch("[ \t]*(#[^\n]*)?", last)))
-    return not behind or is_marker(behind) or c not in ("", "\n") and at < column and (at < indent or c == "#")
+        return at < column and (ends_content(last) or bool(re.fullmatch("[ \t]*(#[^\n]*)?", last)))
+    return not behind or ends_content(behind) or c not in ("", "\n") and at < column and (at < indent or c == "#")
 
 
 def may_follow_empty(indent, column, behind):
@@ -450,6 +455,8 @@ class Derivation:
         if kind != "nothing":
             others = self.prefix(others) + others
             others = self.filler() + "..." + self.eol(others) + others
+        if self.pick("before what ends a document", nothing=4, marks=1) == "marks":
+            others = "".join(self.filler() + MARK for _ in range(1 + self.few())) + others
         text, document = self.document(free, others)
         return self.filler() + text + others, [document] + forest
 

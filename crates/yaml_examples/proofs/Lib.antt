@@ -2,6 +2,10 @@ pub mod AliasAlone
 pub mod DashApart
 pub mod Derived
 pub mod YamlRefused
+pub mod MarksRefused
 pub mod NearMisses
+pub mod NoValueBehindEnd
+pub mod OnLiterals
 pub mod OneForest
 pub mod Pieces
+pub mod Refused

@@ -2,7 +2,7 @@
 use Rattle.std.proofs.Common.{◌≡◌, ◌≢◌, ℕ, zero, suc, ◌≤◌, ◌⊎◌, Bool, true, false, ◌==◌, not, List, [], ◌∷◌, ◌++◌, IsTrue, IsFalse}
 use Rattle.std.proofs.Common.{inl, inr, refl, sym, ◌∙◌, arith, codes, ap, subst, slice_index, append_assoc}
 use Rattle.std.proofs.lemmas.Bool.{false≢true}
-use Rattle.saphyr_input.specs.Classes.{is_alpha, is_blank, line_feed, tab}
+use Rattle.saphyr_input.specs.Classes.{is_alpha, is_blank, is_bom, line_feed, tab}
 use Rattle.saphyr_values.specs.declared.block.Chomping.{Chomping}
 use Rattle.saphyr_scalar.specs.Reading.BlockLines.{spaces}
 use Rattle.saphyr_scalar.specs.Spelling.Tag.{AreIn}
@@ -17,7 +17,7 @@ use Rattle.scalar_laws.proofs.Beginnings.{IsFirst, no_first, behind_filler}
 use Rattle.saphyr_scanner.specs.Grammar.Forest.{Properties, Node, Seq, Nodes, NoNode, MoreNodes}
 use Rattle.yaml_laws.specs.Grammar.FlowScalars.{begins_plain, IsFirstWord, IsWordGap, IsFurtherWord, IsPlain}
 use Rattle.yaml_laws.specs.Grammar.FlowNodes.{IsOnLine, IsFlowNode}
-use Rattle.yaml_laws.specs.Grammar.BlockNodes.{BehindKey, IsGapAt, is_lone_tab, IsFlowInBlock, IsBehindScalar, IsLead}
+use Rattle.yaml_laws.specs.Grammar.BlockNodes.{BehindKey, IsGapAt, is_lone_tab, IsFlowInBlock, EndsContent, IsBehindScalar, IsLead}
 use Rattle.yaml_laws.specs.Grammar.BlockNodes.{IsEntryIndentation}
 use Rattle.yaml_laws.proofs.Flow.Inks.{BeginsInk, node_ink}
 use Rattle.yaml_laws.specs.Grammar.BlockNodes.{has_tab_ahead, IsImplicitPair, IsKeylessPair, IsKeyAlone, IsBlockNode}
@@ -299,15 +299,22 @@ sequence_behind_colon room key p nodes m behind (value, out, h, e) =
     (subst (λ (x : List ℕ). AreIn is_no_bracket_and_no_feed x) (tails 58 58 (codes " - a") value e)
     (refl, (refl, (refl, (refl, tt)))))
 
--- whether a document marker stands anywhere
-abbrev any_marker : List ℕ → Bool
-any_marker [] = is_document_indicator []
-any_marker (c ∷ cs) = is_document_indicator (c ∷ cs) || any_marker cs
+-- whether a document marker or a byte order mark stands here, or anywhere
+abbrev ends_content : List ℕ → Bool
+ends_content t = is_document_indicator t || is_bom (slice_index t 0)
 
-marker_in : (a b : List ℕ) → is_document_indicator b ≡ true → any_marker (a ++ b) ≡ true
+content_ends : (t : List ℕ) → EndsContent t → ends_content t ≡ true
+content_ends t (inl h) = rw h refl
+content_ends t (inr h) = rw h (or-true (is_document_indicator t))
+
+abbrev any_marker : List ℕ → Bool
+any_marker [] = ends_content []
+any_marker (c ∷ cs) = ends_content (c ∷ cs) || any_marker cs
+
+marker_in : (a b : List ℕ) → ends_content b ≡ true → any_marker (a ++ b) ≡ true
 marker_in [] [] h = h
 marker_in [] (c ∷ cs) h = rw h refl
-marker_in (c ∷ cs) b h = rw (marker_in cs b h) (or-true (is_document_indicator (c ∷ (cs ++ b))))
+marker_in (c ∷ cs) b h = rw (marker_in cs b h) (or-true (ends_content (c ∷ (cs ++ b))))
 
 -- behind a tab alone, a word
 pub lone_tab : (room m : ℕ) (node : Node) (behind : List ℕ)
@@ -402,7 +409,8 @@ tab_before_value room m node behind (gap, text, end, gap_is, is, apart, end_is, 
 
 pub tab_behind_block_scalar : (indent i : ℕ) → IsBehindScalar indent i (codes "\t\n- b") → ⊥
 tab_behind_block_scalar indent i (inl e) = cc
-tab_behind_block_scalar indent i (inr (inl h)) = absurd (let e : false ≡ true = h in cc)
+tab_behind_block_scalar indent i (inr (inl (inl h))) = absurd (let e : false ≡ true = h in cc)
+tab_behind_block_scalar indent i (inr (inl (inr h))) = absurd (let e : false ≡ true = h in cc)
 tab_behind_block_scalar indent i (inr (inr (inl (zero, c, more, ink, feed, left, e)))) =
     let f : is_blank c ≡ true = ap is_blank (heads 9 c (codes "\n- b") more e) in cc
 tab_behind_block_scalar indent i (inr (inr (inl (suc n, c, more, ink, feed, left, e)))) =
@@ -410,7 +418,7 @@ tab_behind_block_scalar indent i (inr (inr (inl (suc n, c, more, ink, feed, left
 tab_behind_block_scalar indent i (inr (inr (inr (n, others, left, e, inl last)))) =
     let f : true ≡ false = last_none (codes "\t\n- b") last in cc
 tab_behind_block_scalar indent i (inr (inr (inr (n, others, left, e, inr (filling, marked, h, marker, is))))) =
-    let f : false ≡ true = ap any_marker is ∙ marker_in filling marked marker in cc
+    let f : false ≡ true = ap any_marker is ∙ marker_in filling marked (content_ends marked marker) in cc
 
 no_left : (m : ℕ) (front others : List ℕ) → (front ≡ spaces (suc m)) ⊎ Begins IsFirst front
     → codes "- b" ≡ front ++ others → ⊥

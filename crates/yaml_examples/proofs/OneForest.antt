@@ -6,7 +6,7 @@ use Rattle.saphyr_input.specs.Classes.{line_feed}
 use Rattle.saphyr_scalar.specs.Reading.BlockLines.{spaces}
 use Rattle.saphyr_scalar.specs.Spelling.Tag.{AreIn}
 use Rattle.scalar_laws.specs.Spelling.Plain.{is_word_ink}
-use Rattle.scalar_laws.specs.Spelling.Spaces.{IsFiller, IsFillerText, IsEol}
+use Rattle.scalar_laws.specs.Spelling.Spaces.{joined_pieces, IsFiller, IsFillerText, IsEol}
 use Rattle.scalar_laws.proofs.Beginnings.{heads, tails, Begins, front_of, behind_in, before_in, lacks, IsFirst}
 use Rattle.scalar_laws.proofs.Beginnings.{no_first, filler_text, behind_filler}
 use Rattle.saphyr_scanner.specs.Grammar.Forest.{Style, Plain, SingleQuoted, DoubleQuoted, Literal, Folded, Properties}
@@ -18,7 +18,7 @@ use Rattle.yaml_laws.specs.Grammar.FlowNodes.{IsScalarNode, IsOpening, IsFlowNod
 use Rattle.yaml_laws.specs.Grammar.BlockNodes.{Position, BehindDash, AtStart, BehindMarker, IsLead, IsFlowInBlock}
 use Rattle.yaml_laws.specs.Grammar.BlockNodes.{IsStyled, IsScalarInBlock, IsBlockNode, AreEntries, ArePairs}
 use Rattle.yaml_laws.specs.Grammar.Yaml.{IsDirective, AreDirectives, has_marker, IsExplicitDocument, IsDocument}
-use Rattle.yaml_laws.specs.Grammar.Yaml.{IsBehindDocument, AreDocuments, IsYamlText}
+use Rattle.yaml_laws.specs.Grammar.Yaml.{IsBehindMarks, IsBehindDocument, AreDocuments, IsYamlText}
 use Rattle.yaml_laws.specs.Grammar.Yaml.{IsDocumentPrefix, no_prefix, mark_prefix, end_prefix}
 use Rattle.yaml_laws.proofs.Examples.MarkerAlone.{only}
 use Rattle.yaml_examples.proofs.YamlRefused.{properties, IsPropertyMark}
@@ -270,18 +270,27 @@ no_document : (room : ℕ) (d : Document) (t behind : List ℕ) → IsExplicitDo
 no_document room d t behind (directives, node, x, c, ds, m, n, e) h =
     lacks (is 10) 45 t directives (codes "--" ++ node) refl e h
 
-no_document_behind : (room : ℕ) (ds : Forest) (t : List ℕ) → IsBehindDocument (AreDocuments (IsBlockNode room) ds) t
+no_document_unmarked : (room : ℕ) (ds : Forest) (t : List ℕ) → IsBehindMarks (AreDocuments (IsBlockNode room) ds) t
     → IsAll 10 t
     → ds ≡ []
-no_document_behind room [] t h i = refl
-no_document_behind room (d ∷ ds) t (inl (filling, document, others, f, inl (x, h), b, e)) i = cc
-no_document_behind room (d ∷ ds) t (inl (filling, document, others, f, inr (x, h), b, e)) i =
+no_document_unmarked room [] t h i = refl
+no_document_unmarked room (d ∷ ds) t (inl (filling, document, others, f, inl (x, h), b, e)) i = cc
+no_document_unmarked room (d ∷ ds) t (inl (filling, document, others, f, inr (x, h), b, e)) i =
     absurd (no_document room d document others h
     (before_in (is 10) (document ++ others) document others refl
     (behind_in (is 10) t filling (document ++ others) e i)))
-no_document_behind room (d ∷ ds) t (inr (suffix, others, (filling, end, prefix, f, l, p, g), h, e)) i =
+no_document_unmarked room (d ∷ ds) t (inr (suffix, others, (filling, end, prefix, f, l, p, g), h, e)) i =
     absurd (lacks (is 10) 46 suffix filling (codes ".." ++ (end ++ prefix)) refl g
     (before_in (is 10) t suffix others e i))
+
+no_document_behind : (room : ℕ) (ds : Forest) (t : List ℕ) → IsBehindDocument (AreDocuments (IsBlockNode room) ds) t
+    → IsAll 10 t
+    → ds ≡ []
+no_document_behind room ds t (marks, others, ([], each, joins), h, e) i =
+    no_document_unmarked room ds others h (behind_in (is 10) t marks others e i)
+no_document_behind room ds t (marks, others, (piece ∷ pieces, ((filling, f, g), each), joins), h, e) i =
+    absurd (lacks (is 10) 65279 piece filling [] refl g
+    (before_in (is 10) marks piece (joined_pieces pieces) joins (before_in (is 10) t marks others e i)))
 
 -- ## The stream
 

@@ -3,6 +3,9 @@
 //! The functions are laws: they do nothing, and their clauses are what is proved.
 #![tactic(auto)]
 
+pub mod agreement;
+pub mod exceptions;
+
 ghost use Rattle.std.specs.Prelude.{codes, ◌≡◌, ◌∷◌, ◌++◌, [], ℕ, suc, Bool, true, false, List, Some, None};
 ghost use Rattle.saphyr_values.specs.declared.block.Chomping.{Chomping};
 ghost use Rattle.saphyr_values.specs.Block.{Line};
@@ -14,7 +17,7 @@ ghost use Rattle.saphyr_scanner.specs.Limits.{most_open};
 ghost use Rattle.yaml_laws.specs.Grammar.BlockNodes.{AreOtherEntries, BehindKey, IsBehindScalar, IsBlockNode, IsFlowInBlock, IsImplicitPair, IsKeyAlone, IsKeylessPair, IsLead};
 ghost use Rattle.yaml_laws.specs.Grammar.FlowNodes.{AreItems, IsBeforeColon, IsFlowNode, IsKeyText};
 ghost use Rattle.yaml_laws.specs.Grammar.FlowScalars.{IsFirstWord, IsPlain};
-ghost use Rattle.yaml_laws.specs.Grammar.Yaml.{IsBareDocument, IsDocumentPrefix, IsYamlText};
+ghost use Rattle.yaml_laws.specs.Grammar.Yaml.{AreDocuments, IsBareDocument, IsBehindDocument, IsDocumentPrefix, IsYamlText};
 
 /// Texts in flow style, each with the forest that it stands for: collections, pairs, properties, and
 /// scalars on several lines.
@@ -224,7 +227,8 @@ pub fn derives_block()
 {}
 
 /// Streams, each with its forest: filler alone, directives, explicit and bare documents, byte order
-/// marks, `...` lines before, between and without documents, and a carriage return before a line feed.
+/// marks before, between and behind documents, `...` lines before, between and without documents, and a
+/// carriage return before a line feed.
 pub fn derives_streams()
     ensures nothing { IsYamlText most_open ([]) (codes "# x\n ") }
     ensures directives { IsYamlText most_open ((record {
@@ -263,6 +267,19 @@ pub fn derives_streams()
         ∷ bare (plain_node (codes "b")) ∷ []) (codes "...\na\n...\n# x\n...\nb") }
     ensures marks_before { IsYamlText most_open (bare (plain_node (codes "a")) ∷ [])
         (codes "# x\n\u{feff}\u{feff}...\n\u{feff}# x\na") }
+    ensures mark_behind { IsYamlText most_open (bare (plain_node (codes "a")) ∷ [])
+        (codes "a\n\u{feff}") }
+    ensures mark_before_document { IsYamlText most_open ((record
+        { explicit = true; directives = []; node = (plain_node (codes "a")) })
+        ∷ (record { explicit = true; directives = []; node = (plain_node (codes "b")) }) ∷ [])
+        (codes "--- a\n\u{feff}---\nb") }
+    ensures marks_behind { IsYamlText most_open (bare
+        (Map no_properties (MorePairs (plain_node (codes "a")) (plain_node (codes "b")) NoPair))
+        ∷ bare (plain_node (codes "c")) ∷ [])
+        (codes "a: b\n\u{feff}\n# x\n\u{feff}...\nc") }
+    ensures mark_behind_scalar { IsYamlText most_open ((record
+        { explicit = true; directives = []; node = (Scalar no_properties Literal (codes "a\n")) })
+        ∷ []) (codes "--- |\n a\n\u{feff}") }
 {}
 
 /// How many flow collections are open at once: where there is no room for one, no sequence in brackets
@@ -290,8 +307,8 @@ pub fn has_one_forest()
 
 /// What YAML's grammar has not: `[,]` for any sequence, an entry that begins with a comma, `*x:` as
 /// a key with its colon, a word with a colon at its end, a line in a bare document that begins with a
-/// document marker, two version directives of one document, and before a document a byte order mark
-/// behind a blank.
+/// document marker, two version directives of one document, before a document a byte order mark behind a
+/// blank, and behind a mark that no `...` line precedes a bare document.
 pub fn refuses_near_misses()
     ensures comma_alone { (room : ℕ) (p : Properties) (nodes : Nodes)
         → ¬ IsFlowNode room (Seq p nodes) false 0 (codes "[,]") }
@@ -303,6 +320,8 @@ pub fn refuses_near_misses()
         → ¬ IsBareDocument (IsBlockNode room) d (codes "a\n--- b") behind }
     ensures two_versions { (major minor : ℕ) → ¬ AreCompatible
         (Version 1 2 ∷ Version major minor ∷ []) }
+    ensures bare_behind_mark { (room : ℕ) (forest : Forest)
+        → ¬ IsBehindDocument (AreDocuments (IsBlockNode room) forest) (codes "\u{feff}b") }
     ensures mark_behind_blank { (behind : List ℕ) → ¬ IsDocumentPrefix (codes " \u{feff}") behind }
 {}
 
@@ -331,7 +350,7 @@ pub fn refuses_scalars()
 
 /// In block style no tab alone stands between a key's colon and a word, and none indents a value. No tab stands
 /// before a further entry, nor behind a `?` before what comes next, also where its key is left out, nor on the
-/// line behind a block scalar's before a further entry. A `?` without a value stands before no `:` at its column.
+/// line behind a block scalar's before a further entry, and no byte order mark behind a space there. A `?` without a value stands before no `:` at its column.
 /// No entry of a sequence stands left of the others, no key goes on over lines, and no sequence begins on the line
 /// of its key, or of a `:` without one.
 pub fn refuses_in_block()
@@ -350,6 +369,7 @@ pub fn refuses_in_block()
     ensures sequence_behind_colon { (room : ℕ) (key : Node) (p : Properties) (nodes : Nodes) (m : ℕ)
         (behind : List ℕ)
         → ¬ IsKeylessPair key (IsBlockNode room (Seq p nodes)) m (codes ": - a") behind }
+    ensures mark_behind_space { (i : ℕ) → ¬ IsBehindScalar 0 i (codes " \u{feff}") }
     ensures tab_behind_block_scalar { (indent i : ℕ) → ¬ IsBehindScalar indent i (codes "\t\n- b") }
     ensures entry_left { (room : ℕ) (nodes : Nodes) (m : ℕ) (behind : List ℕ)
         → ¬ AreOtherEntries room nodes (suc m) (codes "- b") behind }

@@ -31,10 +31,9 @@ pub mod Nodes
 pub mod MarkedLines
 pub mod Documents
 pub mod Firsts
-pub mod HandedMarkers
 pub mod Stops
 pub mod Streams
-pub mod ToMarkers
+pub mod Markers
 pub mod Keys
 pub mod FlowNodes
 pub mod YamlTexts

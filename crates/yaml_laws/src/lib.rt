@@ -33,10 +33,10 @@ pub fn reads_tags()
 {}
 
 /// A text and its normalized text have tokens of the same kinds, and a refusal with the same text ends both
-/// or none.
+/// or none, whatever limits at or above the text's length each has.
 pub fn scans_breaks_alike()
-    ensures { (limit : ℕ) (text : List ℕ) → length text < 2 ^ 63 → length text ≤ limit
-        → HaveSameKinds (scan limit text) (scan limit (normalized text)) }
+    ensures { (limit other : ℕ) (text : List ℕ) → length text < 2 ^ 63 → length text ≤ limit
+        → length text ≤ other → HaveSameKinds (scan limit text) (scan other (normalized text)) }
 {
     reads_breaks_alike();
     reads_plain_values();
@@ -51,7 +51,7 @@ pub fn scans_breaks_alike()
 /// Each text of YAML's grammar, within the limit, gives tokens of its forest, and no fault.
 pub fn scans_each_yaml_text()
     ensures { (limit : ℕ) (forest : Forest) (text : List ℕ) → IsYamlText most_open forest text
-        → length text ≤ limit → limit < 2 ^ 63
+        → length text ≤ limit → length text < 2 ^ 63
         → (tokens : List Kind) × Yields forest tokens × Scans tokens (scan limit text) }
 {
     scans_breaks_alike();

@@ -1,5 +1,5 @@
 -- Documents and streams.
-use Rattle.std.proofs.Common.{◌≡◌, ◌≢◌, ℕ, ◌+◌, ◌-◌, Bool, true, false, ◌||◌, ◌==◌, List, [], ◌∷◌, ◌++◌, inl, inr, refl}
+use Rattle.std.proofs.Common.{◌≡◌, ◌≢◌, ℕ, ◌+◌, ◌-◌, Bool, true, false, ◌||◌, ◌==◌, List, [], ◌∷◌, ◌++◌, inl, inr, refl, ◌∙◌, append_assoc}
 use Rattle.std.proofs.Common.{sym, arith, codes, ap, ◌&&◌, IsTrue, IsFalse}
 use Rattle.std.proofs.lemmas.List.{append-nil}
 use Rattle.std.proofs.lemmas.Bool.{false≢true}
@@ -14,10 +14,11 @@ use Rattle.saphyr_scanner.specs.Grammar.Forest.{Node, Document, Forest}
 use Rattle.yaml_laws.specs.Grammar.BlockNodes.{AtStart, BehindMarker, IsBlockNode}
 use Rattle.yaml_laws.specs.Grammar.Yaml as yaml
 use Rattle.yaml_laws.specs.Grammar.Yaml.{IsDirective, AreDirectives, IsDocument, IsDocumentPrefix}
-use Rattle.yaml_laws.specs.Grammar.Yaml.{IsBehindDocument, AreDocuments, has_marker, IsYaml, IsYamlText}
+use Rattle.yaml_laws.specs.Grammar.Yaml.{IsMarkBehindFiller, IsBehindDocument, AreDocuments, has_marker, IsYaml, IsYamlText}
 use Rattle.yaml_laws.specs.Grammar.TagSpelling.{IsHandle}
 use Rattle.yaml_examples.proofs.Pieces.Spaces.{Filler, no_filler, LastFiller, no_more, End}
 use Rattle.yaml_examples.proofs.Pieces.Block.{BlockText}
+use Rattle.scalar_laws.specs.Spelling.Spaces.{AreMany, joined_pieces}
 
 -- a document, before what stands behind it
 pub record DocumentText (room : ℕ) (d : Document) (free : Bool) (t behind : List ℕ) : Type 0 where
@@ -65,8 +66,31 @@ pub documents_behind : {room : ℕ} {d : Document} {forest : Forest} {free : Boo
 documents_behind {lines = lines} {t} {others} f h g =
     record { holds = (lines, t, others, f.holds, h.holds, g.holds, refl) }
 
+no_marks : AreMany IsMarkBehindFiller []
+no_marks = ([], tt, refl)
+
 pub at_once : {room : ℕ} {forest : Forest} {t : List ℕ} → Documents room forest false t → Behind room forest t
-at_once h = record { holds = inl h.holds }
+at_once {t = t} h = record { holds = ([], t, no_marks, inl h.holds, refl) }
+
+-- a byte order mark behind filler, and what follows it
+pub marked : {room : ℕ} {forest : Forest} {lines t : List ℕ} → Filler lines → Behind room forest t
+    → Behind room forest (lines ++ (byte_order_mark ∷ t))
+marked {room} {forest} {lines} {t} f h = record { holds = with_mark h.holds }
+  where
+    with_mark : IsBehindDocument (AreDocuments (IsBlockNode room) forest) t
+        → IsBehindDocument (AreDocuments (IsBlockNode room) forest) (lines ++ (byte_order_mark ∷ t))
+    with_mark (marks, others, (pieces, each, joins), k, e) = (
+      lines ++ (65279 ∷ marks),
+      others,
+      (
+        (lines ++ (65279 ∷ [])) ∷ pieces,
+        ((lines, f.holds, refl), each),
+        ap (λ (x : List ℕ). lines ++ (65279 ∷ x)) joins
+            ∙ sym (append_assoc lines (65279 ∷ []) (joined_pieces pieces)),
+      ),
+      k,
+      ap (λ (x : List ℕ). lines ++ (65279 ∷ x)) e ∙ sym (append_assoc lines (65279 ∷ marks) others),
+    )
 
 pub finish : {room : ℕ} → Behind room [] []
 finish = at_once (end_of_stream no_more)
@@ -93,15 +117,17 @@ dots_before {lines} {end} {others} {behind} f e p =
 pub dots : {room : ℕ} {forest : Forest} {lines end prefix others : List ℕ} → Filler lines → End end (prefix ++ others)
     → Prefix prefix others → Documents room forest true others
     → Behind room forest ((lines ++ (codes "..." ++ (end ++ prefix))) ++ others)
-dots {lines = lines} {end} {prefix} {others} f e p h = record {
-  holds = inr (
-    lines ++ (codes "..." ++ (end ++ prefix)),
-    others,
-    (lines, end, prefix, f.holds, e.holds, p.holds, refl),
-    h.holds,
-    refl,
-  );
-}
+dots {lines = lines} {end} {prefix} {others} f e p h =
+    let suffix = lines ++ (codes "..." ++ (end ++ prefix)) in
+    record {
+      holds = (
+        [],
+        suffix ++ others,
+        no_marks,
+        inr (suffix, others, (lines, end, prefix, f.holds, e.holds, p.holds, refl), h.holds, refl),
+        refl,
+      );
+    }
 
 -- ## Streams
 
@@ -126,7 +152,7 @@ document {room} {node} {t} u h e m =
     yaml_text room (bare node ∷ []) t u e ([], t, yaml.no_prefix t, one, refl)
   where
     one : AreDocuments (IsBlockNode room) (bare node ∷ []) true t
-    one = ([], t, [], no_filler.holds, inl (refl, (refl, m, h.holds)), inl no_more.holds, sym (append-nil t))
+    one = ([], t, [], no_filler.holds, inl (refl, (refl, m, h.holds)), (finish {room = room}).holds, sym (append-nil t))
 
 -- ## Directives
 

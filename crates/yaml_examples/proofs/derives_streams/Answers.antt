@@ -11,10 +11,10 @@ use Rattle.yaml_examples.proofs.Pieces.Spaces.{lines_down}
 use Rattle.yaml_examples.proofs.Pieces.Scalars.{anchor_x, alias_x, mark_alone, tagged, front_alone, letter_a}
 use Rattle.yaml_examples.proofs.Pieces.Scalars.{letter_b, letter_c, word}
 use Rattle.yaml_examples.proofs.Pieces.Flow.{item, item_apart, item_list, no_comma, comma, brackets}
-use Rattle.yaml_examples.proofs.Pieces.Block.{flow, line, last, nothing, below_behind, sequence, dash, no_dash}
-use Rattle.yaml_examples.proofs.Pieces.BlockScalars.{no_front, literal_scalar}
+use Rattle.yaml_examples.proofs.Pieces.Block.{flow, line, last, nothing, below_behind, sequence, dash, no_dash, lead_at_start, mapping, first_pair, no_pair, letter}
+use Rattle.yaml_examples.proofs.Pieces.BlockScalars.{no_front, literal_scalar, literal_a}
 use Rattle.yaml_examples.proofs.Pieces.Streams.{bare_document, explicit, directed, end_of_stream, documents, at_once}
-use Rattle.yaml_examples.proofs.Pieces.Streams.{documents_behind}
+use Rattle.yaml_examples.proofs.Pieces.Streams.{documents_behind, marked}
 use Rattle.yaml_examples.proofs.Pieces.Streams.{finish, no_prefix, mark, dots_before, dots, stream, prefixed_stream}
 use Rattle.yaml_examples.proofs.Pieces.Streams.{document}
 use Rattle.yaml_examples.proofs.Pieces.Streams.{no_directive, directive, version, tag_prefix, prefix_of_one}
@@ -56,7 +56,7 @@ returns-clause-documents c =
         no_return = λ e. omega arith;
         no_content = λ e. inr (refl, refl);
       };
-    }) refl (inr (inl refl)) refl) refl) (at_once (documents
+    }) refl (inr (inl (inl refl))) refl) refl) (at_once (documents
     (explicit (nothing (feed_behind (comment 32 [] (codes " x") refl refl)) refl) refl) (at_once (documents
     (explicit (flow (lines_down 0 no_filler (omega arith)) (word letter_b) feed) refl)
     (dots (filler (comment_line [] (codes " y") refl refl) no_filler) (feed_behind (blanks (codes " ") refl)) no_prefix
@@ -120,3 +120,29 @@ returns-clause-marks_before c =
     (dots_before no_filler feed (mark no_filler no_prefix))))
     (documents_behind (filler (comment_line [] (codes " x") refl refl) no_filler)
     (bare_document (flow no_gap (word letter_a) text_end) refl) finish) refl
+
+pub returns-clause-mark_behind : goal.returns-clause-mark_behind
+returns-clause-mark_behind c =
+    stream {room = most_open} (codes "a\n\u{feff}") (documents
+    (bare_document (flow no_gap (word letter_a) feed) refl) (marked no_filler finish)) refl
+
+pub returns-clause-mark_before_document : goal.returns-clause-mark_before_document
+returns-clause-mark_before_document c =
+    stream {room = most_open} (codes "--- a\n\u{feff}---\nb") (documents (explicit (line letter_a) refl)
+    (marked no_filler (at_once (documents
+    (explicit (flow (lines_down 0 no_filler (omega arith)) (word letter_b) text_end) refl) finish)))) refl
+
+pub returns-clause-marks_behind : goal.returns-clause-marks_behind
+returns-clause-marks_behind c =
+    stream {room = most_open} (codes "a: b\n\u{feff}\n# x\n\u{feff}...\nc") (documents
+    (bare_document (mapping lead_at_start (first_pair (letter letter_a (line letter_b)) no_pair)) refl)
+    (marked no_filler
+    (marked (filler (blank_line [] refl) (filler (comment_line [] (codes " x") refl refl) no_filler))
+    (dots no_filler feed no_prefix (documents (bare_document (flow no_gap (word letter_c) text_end) refl) finish)))))
+    refl
+
+pub returns-clause-mark_behind_scalar : goal.returns-clause-mark_behind_scalar
+returns-clause-mark_behind_scalar c =
+    stream {room = most_open} (codes "--- |\n a\n\u{feff}") (documents
+    (explicit (literal_a 1 0 (codes "\u{feff}") no_front (omega arith) (omega arith) refl (λ e. refl)
+    (inr (inl (inr refl)))) refl) (marked no_filler finish)) refl

@@ -1,6 +1,7 @@
 use Rattle.yaml_examples.proofs.NearMisses.{lone_tab, tab_before_value, tab_in_indentation, tab_behind_question, tab_behind_left_out}
 use Rattle.yaml_examples.proofs.NearMisses.{tab_behind_block_scalar, entry_left, key_over_lines, sequence_behind_key}
 use Rattle.yaml_examples.proofs.NearMisses.{value_of_its_own, sequence_behind_colon}
+use Rattle.yaml_examples.proofs.MarksRefused.{mark_behind_space}
 use Rattle.yaml_examples.proofs.refuses_in_block.Goals as goal
 
 pub returns-clause-lone_tab : goal.returns-clause-lone_tab
@@ -26,6 +27,9 @@ returns-clause-sequence_behind_key c = sequence_behind_key
 
 pub returns-clause-tab_behind_left_out : goal.returns-clause-tab_behind_left_out
 returns-clause-tab_behind_left_out c = tab_behind_left_out
+
+pub returns-clause-mark_behind_space : goal.returns-clause-mark_behind_space
+returns-clause-mark_behind_space c = mark_behind_space
 
 pub returns-clause-tab_behind_block_scalar : goal.returns-clause-tab_behind_block_scalar
 returns-clause-tab_behind_block_scalar c = tab_behind_block_scalar

@@ -1,5 +1,6 @@
 use Rattle.yaml_examples.proofs.YamlRefused.{comma_alone, comma_first, alias_key, colon_at_end, marker_inside}
 use Rattle.yaml_examples.proofs.YamlRefused.{two_versions, mark_behind_blank}
+use Rattle.yaml_examples.proofs.MarksRefused.{bare_behind_mark}
 use Rattle.yaml_examples.proofs.refuses_near_misses.Goals as goal
 
 pub returns-clause-comma_alone : goal.returns-clause-comma_alone
@@ -19,6 +20,9 @@ returns-clause-marker_inside c = marker_inside
 
 pub returns-clause-two_versions : goal.returns-clause-two_versions
 returns-clause-two_versions c = two_versions
+
+pub returns-clause-bare_behind_mark : goal.returns-clause-bare_behind_mark
+returns-clause-bare_behind_mark c = bare_behind_mark
 
 pub returns-clause-mark_behind_blank : goal.returns-clause-mark_behind_blank
 returns-clause-mark_behind_blank c = mark_behind_blank

@@ -163,15 +163,15 @@ fetch_same text c x q r laws t e =
           (at_mark (near_core x c).cursor.mark tokens.StreamStart) q r refl e,
     ))
 
-within_same : (text : List ℕ) (limit : ℕ) (c : Core) (x : Indexes) (q r : Queue) → length text ≤ limit
-    → Twin text c x → SameQueues q r
-    → GiveAlike (States text) (check_limit limit (holding c q)) (check_limit limit (holding (near_core x c) r))
-within_same text limit c x q r short t e =
+within_same : (text : List ℕ) (limit other : ℕ) (c : Core) (x : Indexes) (q r : Queue) → length text ≤ limit
+    → length text ≤ other → Twin text c x → SameQueues q r
+    → GiveAlike (States text) (check_limit limit (holding c q)) (check_limit other (holding (near_core x c) r))
+within_same text limit other c x q r short short_too t e =
     let a : nat_le c.cursor.mark.index limit ≡ true = le-leb c.cursor.mark.index limit
     (omega (arith, t.ahead.counted, short)) in
     let l = normal_shorter text in
-    let b : nat_le x.at limit ≡ true = le-leb x.at limit (omega (arith, t.ahead.counted_too, l, short)) in
-    both_choose (States text) (nat_le c.cursor.mark.index limit) (nat_le x.at limit) _ _ _ _ (b ∙ sym a)
+    let b : nat_le x.at other ≡ true = le-leb x.at other (omega (arith, t.ahead.counted_too, l, short_too)) in
+    both_choose (States text) (nat_le c.cursor.mark.index limit) (nat_le x.at other) _ _ _ _ (b ∙ sym a)
     (λ _. ((x, refl, t), e)) (λ _. refl)
 
 pub settled_same : (text : List ℕ) (c : Core) (x : Indexes) (q r : Queue) → Twin text c x → SameQueues q r
@@ -179,18 +179,18 @@ pub settled_same : (text : List ℕ) (c : Core) (x : Indexes) (q r : Queue) → 
 settled_same text c x q r t e =
     on_core_same text (drop_far_key c) (drop_far_key (near_core x c)) q r (drop_twin text c x t) e
 
--- a token is read, and a candidate that is too far is dropped
-pub read_same : (text : List ℕ) (limit : ℕ) (c : Core) (x : Indexes) (q r : Queue) → Laws text → length text ≤ limit
-    → Twin text c x → SameQueues q r
+-- A token is read, and a candidate that is too far is dropped. Both limits are at or above the text's length.
+pub read_same : (text : List ℕ) (limit other : ℕ) (c : Core) (x : Indexes) (q r : Queue) → Laws text
+    → length text ≤ limit → length text ≤ other → Twin text c x → SameQueues q r
     → GiveAlike (States text) (fetch_within limit (holding c q) >>= without_far_key)
-    (fetch_within limit (holding (near_core x c) r) >>= without_far_key)
+    (fetch_within other (holding (near_core x c) r) >>= without_far_key)
 unfolding fetch_within
-read_same text limit c x q r laws short t e =
+read_same text limit other c x q r laws short short_too t e =
     both_then (States text) (States text) _ _ without_far_key without_far_key
     (both_then (States text) (States text) (fetch (holding c q)) (fetch (holding (near_core x c) r)) (check_limit limit)
-    (check_limit limit) (fetch_same text c x q r laws t e)
+    (check_limit other) (fetch_same text c x q r laws t e)
     (λ a b i j h. of_cores text (λ d f. GiveAlike (States text) (check_limit limit (holding d a.queue))
-    (check_limit limit (holding f b.queue))) a.core b.core h.0
-    (λ y u. within_same text limit a.core y a.queue b.queue short u h.1)))
+    (check_limit other (holding f b.queue))) a.core b.core h.0
+    (λ y u. within_same text limit other a.core y a.queue b.queue short short_too u h.1)))
     (λ a b i j h. of_cores text (λ d f. GiveAlike (States text) (without_far_key (holding d a.queue))
     (without_far_key (holding f b.queue))) a.core b.core h.0 (λ y u. settled_same text a.core y a.queue b.queue u h.1))

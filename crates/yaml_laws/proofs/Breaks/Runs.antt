@@ -103,41 +103,41 @@ remaining_after_same text (Ok s) (Err f) go ho h k = absurd h
 remaining_after_same text (Err d) (Ok t) go ho h k = absurd h
 remaining_after_same text (Err d) (Err f) go ho h k = record { kinds = refl; refusals = ap (λ e. Some e) h }
 
-runs_same : (text : List ℕ) → Laws text → Readers → (limit : ℕ) → length text ≤ limit
+runs_same : (text : List ℕ) → Laws text → Readers → (limit other : ℕ) → length text ≤ limit → length text ≤ other
     → (n m : ℕ) (c : Core) (x : Indexes) (q r : Queue) → size c < n → size (near_core x c) < m → Twin text c x
     → SameQueues q r
-    → HaveSameKinds (run n limit (holding c q)) (run m limit (holding (near_core x c) r))
-runs_same text laws readers limit short zero m c x q r a b t e = absurd (omega (arith, a))
-runs_same text laws readers limit short (suc n) zero c x q r a b t e = absurd (omega (arith, b))
-runs_same text laws readers limit short (suc n) (suc m) c x q r a b t e =
+    → HaveSameKinds (run n limit (holding c q)) (run m other (holding (near_core x c) r))
+runs_same text laws readers limit other short short_too zero m c x q r a b t e = absurd (omega (arith, a))
+runs_same text laws readers limit other short short_too (suc n) zero c x q r a b t e = absurd (omega (arith, b))
+runs_same text laws readers limit other short short_too (suc n) (suc m) c x q r a b t e =
     hands_same text c x q.places r.places q.handed r.handed _ _ e.places e.handed
     (λ u v f. choose HaveSameKinds c.ended c.ended _ _ _ _ refl (λ _. record { kinds = refl; refusals = refl })
-    (λ going. remaining_after_same text (read limit (holding c u)) (read limit (holding (near_core x c) v))
+    (λ going. remaining_after_same text (read limit (holding c u)) (read other (holding (near_core x c) v))
     (run n limit)
-    (run m limit) (read_same text limit c x u v laws short t f)
+    (run m other) (read_same text limit other c x u v laws short short_too t f)
     (λ s w i j h.
     let less = less_read readers limit (holding c u) s going i in
-    let less_too = less_read readers limit (holding (near_core x c) v) w going j in
+    let less_too = less_read readers other (holding (near_core x c) v) w going j in
     of_run s w h.0 h.1 (omega (arith, less, a)) (omega (arith, less_too, b))
-    (λ y z l. runs_same text laws readers limit short n m s.core y s.queue w.queue
+    (λ y z l. runs_same text laws readers limit other short short_too n m s.core y s.queue w.queue
     (omega (arith, less, a)) l z h.1))))
   where
     of_run : (s w : State) (h : Cores text s.core w.core) → SameQueues s.queue w.queue → size s.core < n
         → size w.core < m
         → ((y : Indexes) → Twin text s.core y → size (near_core y s.core) < m → HaveSameKinds (run n limit s)
-        (run m limit (holding (near_core y s.core) w.queue))) → HaveSameKinds (run n limit s) (run m limit w)
+        (run m other (holding (near_core y s.core) w.queue))) → HaveSameKinds (run n limit s) (run m other w)
     of_run s w h f l k go =
-        let P : Core → Type 0 = λ d. size d < m → HaveSameKinds (run n limit s) (run m limit (holding d w.queue)) in
+        let P : Core → Type 0 = λ d. size d < m → HaveSameKinds (run n limit s) (run m other (holding d w.queue)) in
         let Q : Core → Type 0 = λ d. P d in
         (subst Q (sym h.1) (λ z. go h.0 h.2 z)) k
 
 start_indexes : Indexes
 start_indexes = record { at = 0; key = 0; outer = []; adjacent = 0; comment = 0 }
 
-pub scans_same : (text : List ℕ) → Laws text → Readers → (limit : ℕ) → length text ≤ limit
-    → HaveSameKinds (scan limit text) (scan limit (normalized text))
+pub scans_same : (text : List ℕ) → Laws text → Readers → (limit other : ℕ) → length text ≤ limit
+    → length text ≤ other → HaveSameKinds (scan limit text) (scan other (normalized text))
 unfolding start_indexes remaining
-scans_same text laws readers limit short =
+scans_same text laws readers limit other short short_too =
     let s : State = start text in
     let t : Twin text s.core start_indexes = record {
       ahead = record { even = even_here 1 0 0; counted = refl; counted_too = refl; here = refl; there = refl };
@@ -149,6 +149,6 @@ scans_same text laws readers limit short =
     remaining_after_same text (without_far_key s) (without_far_key (start (normalized text))) _ _
     (settled_same text s.core start_indexes s.queue s.queue t (record { places = tt; handed = refl }))
     (λ u v i j h. of_cores text (λ c d. HaveSameKinds (run (suc (size c)) limit (holding c u.queue))
-    (run (suc (size d)) limit (holding d v.queue))) u.core v.core h.0
-    (λ y z. runs_same text laws readers limit short (suc (size u.core))
+    (run (suc (size d)) other (holding d v.queue))) u.core v.core h.0
+    (λ y z. runs_same text laws readers limit other short short_too (suc (size u.core))
     (suc (size (near_core y u.core))) u.core y u.queue v.queue (omega arith) (omega arith) z h.1))

@@ -85,7 +85,7 @@ pub reads_start : {limit : ℕ} {start : State} {free opened : Bool} {ts : List 
     → StandsInStream limit start true (BehindStart r) r (ts ++ tokens.DocumentStart ∷ [])
 reads_start {limit = limit} r v h =
     let col = at_line (45 ∷ 45 ∷ 45 ∷ r) v.mark v.line.0 (cons_not_empty 45 (45 ∷ 45 ∷ r)) in
-    reads_token v refl (inr (inr (col, start_ends r h))) (λ _. cursor_at r (along v.mark 3) false) false
+    reads_token v refl (inr (inr (col, inl (start_ends r h)))) (λ _. cursor_at r (along v.mark 3) false) false
     (piece_of v.mark (along v.mark 3) tokens.DocumentStart)
     (λ blank key allowed ad ps. start_here v.mark blank r key allowed ad ps col h) (BehindStart r) (along v.mark 3) r
     (λ _. refl) (start_count v.mark r limit v.count) (λ _. (off_line v.mark.col, or-false (crosses r)))
@@ -109,12 +109,12 @@ mark_count : (m : Marker) (r : List ℕ) (limit : ℕ) → m.index + length (652
     → m.index + 1 + length r ≤ limit
 mark_count m r limit h = omega (arith, h)
 
-pub reads_mark : {limit : ℕ} {start : State} {opened : Bool} {ts : List Kind} (r : List ℕ)
-    → StandsInStream limit start true (Lined opened (65279 ∷ r)) (65279 ∷ r) ts
+pub reads_mark : {limit : ℕ} {start : State} {free opened : Bool} {ts : List Kind} (r : List ℕ)
+    → StandsInStream limit start free (Lined opened (65279 ∷ r)) (65279 ∷ r) ts
     → StandsInStream limit start true (Lined true r) r (ts ++ tokens.ByteOrderMark ∷ [])
 reads_mark {limit = limit} r v =
     let col = at_line (65279 ∷ r) v.mark v.line.0 (cons_not_empty 65279 r) in
-    reads_token v refl (inl refl) (λ blank. cursor_at r (beyond_byte_order_mark v.mark) blank) true
+    reads_token v refl (inr (inr (col, inr refl))) (λ blank. cursor_at r (beyond_byte_order_mark v.mark) blank) true
     (piece_of v.mark (beyond_byte_order_mark v.mark) tokens.ByteOrderMark)
     (λ blank key allowed ad ps. mark_here v.mark blank r key allowed ad ps col) (Lined true r)
     (beyond_byte_order_mark v.mark) r
@@ -165,7 +165,7 @@ reads_end {limit = limit} end o v h =
     let first = eol_first (along v.mark 3) r o e in
     let sep = separates_rest (cursor_at r (along v.mark 3) false) e.rest e.more e.is e.line e.break in
     let n = moved (along v.mark 3) e.rest in
-    reads_token v refl (inr (inr (col, end_ends r first))) (λ _. cursor_at e.more n false) false
+    reads_token v refl (inr (inr (col, inl (end_ends r first)))) (λ _. cursor_at e.more n false) false
     (piece_of v.mark (along v.mark 3) tokens.DocumentEnd)
     (λ blank key allowed ad ps. end_here v.mark n blank r e.more sep.0 key allowed ad ps col first sep.1
     (break_ends e.more e.break)) (Lined true o) e.mark o (λ _. e.behind 0)

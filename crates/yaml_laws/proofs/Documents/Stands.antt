@@ -29,22 +29,27 @@ use Rattle.saphyr_scalar.proofs.Given.{cursor_at}
 use Rattle.std.proofs.lemmas.Bool.{eq-eqb}
 use Rattle.saphyr_scanner.proofs.Queues.{place_kinds, place_kinds_append, queue_of}
 use Rattle.saphyr_scanner.proofs.Root.{core_at, state_at, drops_key, none_unrolls, comes}
+use Rattle.yaml_laws.proofs.Flow.Inks.{mark_no_plain}
 
 -- ## Behind a comment that ended a plain scalar
 
-no_document_begins : (a b c d e f : Bool) → (d ≡ true) ⊎ (e ≡ true) → (a && b && c && not d && not e && f) ≡ false
+no_document_begins : (a b c d e f : Bool) → (d ≡ true) ⊎ ((e ≡ true) ⊎ (f ≡ false))
+    → (a && b && c && not d && not e && f) ≡ false
 no_document_begins false b c d e f h = refl
 no_document_begins true false c d e f h = refl
 no_document_begins true true false d e f h = refl
 no_document_begins true true true true e f h = refl
 no_document_begins true true true false true f h = refl
 no_document_begins true true true false false f (inl e) = absurd (cc)
-no_document_begins true true true false false f (inr e) = absurd (cc)
+no_document_begins true true true false false f (inr (inl e)) = absurd (cc)
+no_document_begins true true true false false f (inr (inr e)) = e
 
 document_ends_by_test : (m : Marker) (y : List ℕ) → EndsDocument m y
-    → (is_z (slice_index y 0) ≡ true) ⊎ (((m.col == 0) && is_document_indicator y) ≡ true)
+    → (is_z (slice_index y 0) ≡ true)
+    ⊎ ((((m.col == 0) && is_document_indicator y) ≡ true) ⊎ (can_be_plain false y ≡ false))
 document_ends_by_test m y (inl e) = inl (ap (λ (t : List ℕ). is_z (slice_index t 0)) e)
-document_ends_by_test m y (inr h) = inr (rw (eq-eqb m.col 0 h.0) h.1)
+document_ends_by_test m y (inr (col, inl h)) = inr (inl (rw (eq-eqb m.col 0 col) h))
+document_ends_by_test m y (inr (col, inr h)) = inr (inr (mark_no_plain y h))
 
 none_goes_on : (comment : Marker) (c : Core) → EndsDocument c.cursor.mark c.cursor.rest
     → goes_on_behind comment c ≡ false
@@ -220,6 +225,29 @@ reads_token {limit = limit} {y = y} {ts = ts} v here may t b piece is Q n o fits
       quiet = λ _. refl;
       low = omega (arith, first, later, on);
       lined = lined;
+    }
+
+-- where a document is free one may stand that needn't be
+pub unfree : {limit : ℕ} {start : State} {o : List ℕ} {ts : List Kind}
+    → StandsInStream limit start true (Lined true o) o ts → StandsInStream limit start false (Lined false o) o ts
+unfree v =
+    record {
+      there = v.there;
+      key = v.key;
+      allowed = v.allowed;
+      adjacent = v.adjacent;
+      comment = v.comment;
+      places = v.places;
+      mark = v.mark;
+      none = λ _. v.none refl;
+      follows = v.follows;
+      fits = v.fits;
+      line = (v.line.0, λ _. v.line.1 refl);
+      count = v.count;
+      are = v.are;
+      quiet = λ _. v.quiet refl;
+      low = v.low;
+      lined = v.lined;
     }
 
 -- what holds no token is passed

@@ -32,7 +32,7 @@ stands_for_one room =
             refl,
           ),
         ),
-        inl ([], [], none, last, refl),
+        ([], [], ([], tt, refl), inl ([], [], none, last, refl), refl),
         refl,
       ),
       refl,

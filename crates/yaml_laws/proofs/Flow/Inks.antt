@@ -3,7 +3,7 @@ use Rattle.std.proofs.Common.{◌≡◌, ◌≢◌, ℕ, Bool, true, false, List
 use Rattle.std.specs.Prelude.{◌==◌, slice_index, Option, Some, None}
 use Rattle.std.proofs.lemmas.Bool.Decides.{nat_tests}
 use Rattle.saphyr_input.specs.Indicators.{number_sign}
-use Rattle.saphyr_input.specs.Classes.{is_blank, is_break, is_bom}
+use Rattle.saphyr_input.specs.Classes.{is_blank, is_break, is_bom, byte_order_mark}
 use Rattle.saphyr_values.specs.declared.flow.Quote.{Quote}
 use Rattle.saphyr_values.specs.declared.flow.Quote.TheVariants.{Single, Double}
 use Rattle.saphyr_values.specs.Flow.{mark}
@@ -14,6 +14,7 @@ use Rattle.yaml_laws.specs.Grammar.TagSpelling.{IsHandle, IsTag}
 use Rattle.yaml_laws.specs.Grammar.FlowScalars.{IsPlainKey, IsFlowScalar}
 use Rattle.yaml_laws.specs.Grammar.FlowNodes.{IsAnchor, AreProperties, IsProperties, IsBeforeContent, IsPlainKeyNode, IsKeyText, IsFlowNode}
 use Rattle.yaml_laws.proofs.Flow.States.{IsInk}
+use Rattle.saphyr_input.specs.Places.{can_be_plain}
 
 -- a text begins with a character that begins a token
 pub record BeginsInk (t : List ℕ) : Type 0 where
@@ -33,6 +34,17 @@ ink_front a t o e b = record {
   is = e ∙ ap (λ (x : List ℕ). x ++ o) b.is;
   ink = b.ink;
 }
+
+-- ## A byte order mark
+
+pub bom_is : (c : ℕ) → is_bom c ≡ true → c ≡ byte_order_mark
+bom_is c e = grind (arith, nat_tests)
+
+-- it begins no plain scalar
+pub mark_no_plain : (y : List ℕ) → IsTrue (is_bom (slice_index y 0)) → can_be_plain false y ≡ false
+mark_no_plain y h = rw (bom_is (slice_index y 0) h) refl
+
+-- ## First characters
 
 pub anchor_ink : (name t : List ℕ) → IsAnchor name t → BeginsInk t
 anchor_ink name t h = begins_with 38 name t h.1

@@ -4,7 +4,7 @@ use Rattle.std.specs.Prelude.{◌||◌, ◌&&◌, ◌==◌, if◌then◌else◌}
 use Rattle.std.proofs.lemmas.Bool.{false≢true}
 use Rattle.std.proofs.lemmas.Bool.Decides.{nat_tests}
 use Rattle.saphyr_input.specs.Indicators.{colon, comma, number_sign, right_brace, right_bracket}
-use Rattle.saphyr_input.specs.Classes.{is_blank, is_break, is_blank_or_breakz, is_flow, carriage_return}
+use Rattle.saphyr_input.specs.Classes.{is_blank, is_break, is_blank_or_breakz, is_flow, carriage_return, is_bom}
 use Rattle.saphyr_input.specs.Places.{is_blank_or_break, is_document_indicator}
 use Rattle.saphyr_scalar.specs.declared.scalar.position.Marker.{Marker}
 use Rattle.saphyr_scalar.specs.Views.Cursor.{Cursor, along, next_line}
@@ -19,6 +19,7 @@ use Rattle.yaml_laws.proofs.Flow.Fillers.{white_past, separation_past}
 use Rattle.yaml_laws.proofs.Flow.Ends.{EndsHere, behind_node_first, root_first}
 use Rattle.yaml_laws.proofs.Flow.Quotes.{ends_node_ink}
 use Rattle.saphyr_input.proofs.Basics.Booleans.{by_test}
+use Rattle.yaml_laws.proofs.Flow.Inks.{bom_is}
 
 -- ## Behind the blanks and breaks
 
@@ -75,6 +76,10 @@ reaches column m o inked =
 no_word : (f : Bool) (t : List ℕ) → t ≡ [] → is_in_word f t ≡ false
 unfolding is_in_word
 no_word f t e = rw e refl
+
+mark_no_word : (t : List ℕ) → IsTrue (is_bom (slice_index t 0)) → is_in_word false t ≡ false
+unfolding is_in_word
+mark_no_word t h = rw (bom_is (slice_index t 0) h) refl
 
 colon_ends : (c : ℕ) → IsTrue (ends_colon c) → (is_blank_or_breakz c || (true && is_flow c)) ≡ true
 colon_ends c h = by_blank (is_blank_or_breakz c) refl h
@@ -181,12 +186,14 @@ ends_at_root column m o h right =
     stops (inl e) k = inl (no_word false (past_white m false o).rest e)
     stops (inr (inl e)) k = inr (inl e)
     stops (inr (inr e)) (inl (inl k)) = inl (no_word false (past_white m false o).rest (e.1 ∙ k))
-    stops (inr (inr e)) (inl (inr k)) =
+    stops (inr (inr e)) (inl (inr (col, inl k))) =
         inr (inr (inl (
           ap (λ (n : Marker). n.col) e.0
-              ∙ k.0,
-          subst (λ (r : List ℕ). IsTrue (is_document_indicator r)) (sym e.1) k.1,
+              ∙ col,
+          subst (λ (r : List ℕ). IsTrue (is_document_indicator r)) (sym e.1) k,
         )))
+    stops (inr (inr e)) (inl (inr (col, inr k))) =
+        inl (subst (λ (r : List ℕ). is_in_word false r ≡ false) (sym e.1) (mark_no_word (past column m o).1 k))
     stops (inr (inr e)) (inr k) =
         inr (inr (inr (
           refl,

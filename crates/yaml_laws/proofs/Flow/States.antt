@@ -42,6 +42,7 @@ use Rattle.saphyr_scanner.proofs.Queues.{place_kinds}
 use Rattle.saphyr_scanner.proofs.Levels.{saved}
 use Rattle.yaml_laws.specs.Grammar.FlowNodes.{IsPlainKeyNode, IsBeforeColon, allows_adjacent, IsFlowNode}
 use Rattle.yaml_laws.proofs.InFlow.States.{Around, FlowMoment, moment, state_at, RunsTo, root_moment}
+use Rattle.yaml_laws.specs.Grammar.BlockNodes.{EndsContent}
 
 -- ## Places in a text
 
@@ -159,9 +160,9 @@ pub record IsBehindNode (indent : ℕ) (node : Node) (o : List ℕ) : Type 0 whe
   pub parts : IsSeparation indent separation
   pub ends : EndsNode node separation first others
 
--- the text's end, or a document marker at a line's start
+-- the text's end, or at a line's start what ends a document's content
 abbrev pub EndsDocument : Marker → List ℕ → Type 0
-EndsDocument m y = (y ≡ []) ⊎ ((m.col ≡ 0) × IsTrue (is_document_indicator y))
+EndsDocument m y = (y ≡ []) ⊎ ((m.col ≡ 0) × EndsContent y)
 
 -- a character left of a column that is no blank
 pub record IsLeft (column : ℕ) (m : Marker) (y : List ℕ) : Type 0 where

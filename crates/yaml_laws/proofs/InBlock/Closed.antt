@@ -20,9 +20,9 @@ use Rattle.saphyr_scanner.proofs.Leads.{flat}
 use Rattle.saphyr_scanner.proofs.Effects.Readers.{Readers}
 use Rattle.saphyr_scanner.proofs.Unroll.{rest}
 use Rattle.yaml_laws.specs.Grammar.BlockNodes.{BehindMarker, IsLeftOut, IsBlockNode}
-use Rattle.yaml_laws.specs.Grammar.ClosedTexts.{DocumentMarker, Starts, Ends, marker_text, marker_token, IsBeforeLine, IsBeforeMarker, IsMarkBehindFiller, EndsWithMarker, HandsOut}
+use Rattle.yaml_laws.specs.Grammar.ClosedTexts.{DocumentMarker, Starts, Ends, marker_text, marker_token, IsBeforeLine, IsBeforeMarker, EndsWithMarker, HandsOut}
 use Rattle.yaml_laws.specs.Grammar.Yaml as yaml
-use Rattle.yaml_laws.specs.Grammar.Yaml.{IsDocumentPrefix, no_prefix, mark_prefix, end_prefix, IsYaml, IsYamlText}
+use Rattle.yaml_laws.specs.Grammar.Yaml.{IsDocumentPrefix, IsMarkBehindFiller, no_prefix, mark_prefix, end_prefix, IsYaml, IsYamlText}
 use Rattle.yaml_laws.specs.SameKinds.{HaveSameKinds}
 use Rattle.yaml_laws.proofs.Flow.States.{ReaderPromises}
 use Rattle.yaml_laws.proofs.Documents.Lines.{rest_first}
@@ -32,14 +32,15 @@ use Rattle.yaml_laws.proofs.InBlock.LineStarts.{opens_line, feed_opens}
 use Rattle.yaml_laws.proofs.InBlock.FurtherScalars.{EndsFed, fed_front}
 use Rattle.scalar_laws.proofs.Beginnings.{back_in}
 use Rattle.yaml_laws.proofs.InBlock.Statements.{ReadsLeaves}
-use Rattle.yaml_laws.proofs.InBlock.Documents.Ends.{AreBlockDocuments, HasNoReturn, OpensMarker, opens_marker}
+use Rattle.yaml_laws.proofs.InBlock.Documents.Ends.{AreBlockDocuments, HasNoReturn, OpensMarker, opens_marker, marks_text}
 use Rattle.yaml_laws.proofs.InBlock.Firsts.{HasToken, token_front, node_token, documents_token}
-use Rattle.yaml_laws.proofs.InBlock.HandedMarkers.{Handed, hands_start, hands_end}
+use Rattle.yaml_laws.proofs.InBlock.Markers.HandedMarkers.{Handed, hands_start, hands_end}
 use Rattle.yaml_laws.proofs.InBlock.Stops.{StopsAt, one_stop, token_stops, marker_stops, end_stops, mark_stops, mark_prefix_stops, end_prefix_stops, documents_stop}
 use Rattle.yaml_laws.proofs.InBlock.YamlTexts.{leaves}
 use Rattle.yaml_laws.proofs.InBlock.ScalarTexts.{ReadsBlocks}
 use Rattle.yaml_laws.proofs.InBlock.Streams.{begins}
-use Rattle.yaml_laws.proofs.InBlock.ToMarkers.{Closes, closes_on, YieldsAhead, IsMarkerRest, StartsHere, EndsHere, Found, passes_end, passes_mark, closes_stream}
+use Rattle.yaml_laws.proofs.InBlock.Markers.AtMarkers.{Closes, closes_on, YieldsAhead, IsMarkerRest, StartsHere, EndsHere, Found, passes_end, passes_mark}
+use Rattle.yaml_laws.proofs.InBlock.Markers.ToMarkers.{closes_stream}
 use Rattle.yaml_laws.proofs.Breaks.YamlTexts.{no_return_left}
 use Rattle.yaml_laws.proofs.Breaks.Normal.{beside, normal_shorter}
 use Rattle.saphyr_input.proofs.Basics.Lists.{cons_not_empty}
@@ -194,12 +195,6 @@ mark_first leaves ds _ _ rest (end_prefix filler end next others filler_is end_i
 -- the marks, and the last line behind them
 abbrev marked_line : DocumentMarker → List (List ℕ) → List ℕ → List ℕ
 marked_line marker marks tail = joined_pieces marks ++ marker_line marker tail
-
-marks_text : (piece filler marks line : List ℕ) → piece ≡ filler ++ byte_order_mark ∷ []
-    → (piece ++ marks) ++ line ≡ filler ++ (byte_order_mark ∷ (marks ++ line))
-marks_text piece filler marks line e =
-    ap (λ (x : List ℕ). (x ++ marks) ++ line) e ∙ ap (λ (x : List ℕ). x ++ line) (append_assoc filler (65279 ∷ []) marks)
-    ∙ append_assoc filler (65279 ∷ marks) line
 
 -- the stream, or what stands behind a `...` line, is of the marks and the last line
 closes_marks : {limit : ℕ} {start : State} → ReaderPromises → ReadsLeaves limit

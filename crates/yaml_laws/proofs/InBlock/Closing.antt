@@ -24,6 +24,8 @@ use Rattle.saphyr_input.proofs.Basics.Booleans.{and_false}
 use Rattle.std.proofs.lemmas.Bool.{ltb-true, eq-eqb}
 use Rattle.saphyr_input.specs.Indicators.{full_stop, hyphen, percent_sign}
 use Rattle.saphyr_scanner.proofs.Queues.{place_kinds, place_kinds_append}
+use Rattle.yaml_laws.proofs.Flow.Inks.{bom_is}
+use Rattle.yaml_laws.specs.Grammar.BlockNodes.{EndsContent}
 
 -- the token that ends a collection
 abbrev pub end_place : Marker → Place
@@ -108,7 +110,7 @@ abbrev by_marker : Bool → State → Result State Refusal
 by_marker start s =
     if start then document.state_behind_marker tokens.DocumentStart s else document.state_behind_document_end s
 
-pub marker_here : (f : Frame) (m : Marker) (y : List ℕ) (blank : Bool) (key : Option Candidate) (a : Bool) (ad : ℕ)
+marker_here : (f : Frame) (m : Marker) (y : List ℕ) (blank : Bool) (key : Option Candidate) (a : Bool) (ad : ℕ)
     (deeper : Bool) (ps : List Place) (start : Bool) → is_document_start y ≡ start → m.col ≡ 0
     → IsTrue (is_document_indicator y)
     → fetch_here (state_of f (moment_at m y blank key a ad deeper) ps)
@@ -121,15 +123,38 @@ marker_here f m y blank key a ad deeper ps false e col h =
     let end : is_document_end y ≡ true = ap (λ (b : Bool). b || is_document_end y) (sym e) ∙ h in
     rw (eq-eqb m.col 0 col, g.nul, g.byte_order_mark, g.directive, e, end) refl
 
--- states whose collections all end alike are ended alike by a marker
-pub marked_alike : (start : Bool) (m : Marker) (s t : State) → s.core.cursor.mark ≡ m → t.core.cursor.mark ≡ m
+-- what a byte order mark at m does
+abbrev by_mark : Marker → State → Result State Refusal
+by_mark m s = document.end_content s >>= λ t. Ok
+    (document.put_passed m tokens.ByteOrderMark (document.pass_mark t.core) t)
+
+mark_here : (f : Frame) (m : Marker) (y : List ℕ) (blank : Bool) (key : Option Candidate) (a : Bool) (ad : ℕ)
+    (deeper : Bool) (ps : List Place) → m.col ≡ 0 → IsTrue (is_bom (slice_index y 0))
+    → fetch_here (state_of f (moment_at m y blank key a ad deeper) ps)
+    ≡ by_mark m (state_of f (moment_at m y blank key a ad deeper) ps)
+unfolding fetch_here document.state_behind_byte_order_mark
+mark_here f m y blank key a ad deeper ps col h =
+    rw (ap is_z (bom_is (slice_index y 0) h), h, no_greater m.col col) refl
+  where
+    no_greater : (n : ℕ) → n ≡ 0 → nat_lt 0 n ≡ false
+    no_greater n e = grind (arith, nat_tests)
+
+-- the content of states whose collections all end alike ends alike
+content_alike : (m : Marker) (s t : State) → s.core.cursor.mark ≡ m → t.core.cursor.mark ≡ m
+    → unroll None m s ≡ unroll None m t → document.end_content s ≡ document.end_content t
+unfolding document.end_content
+content_alike m s t at_s at_t e =
+    ap (λ (n : Marker). document.remove_key_of (unroll None n s)) at_s ∙ ap document.remove_key_of e
+    ∙ sym (ap (λ (n : Marker). document.remove_key_of (unroll None n t)) at_t)
+
+-- by a marker too
+marked_alike : (start : Bool) (m : Marker) (s t : State) → s.core.cursor.mark ≡ m → t.core.cursor.mark ≡ m
     → unroll None m s ≡ unroll None m t → by_marker start s ≡ by_marker start t
-unfolding document.state_behind_marker document.state_behind_document_end document.end_content
+unfolding document.state_behind_marker document.state_behind_document_end
 marked_alike start m s t at_s at_t e = by_start start
   where
     content : document.end_content s ≡ document.end_content t
-    content = ap (λ (n : Marker). document.remove_key_of (unroll None n s)) at_s ∙ ap document.remove_key_of e
-        ∙ sym (ap (λ (n : Marker). document.remove_key_of (unroll None n t)) at_t)
+    content = content_alike m s t at_s at_t e
 
     marker : (kind : Kind) → document.state_behind_marker kind s ≡ document.state_behind_marker kind t
     marker kind = ap (λ r. r >>= λ (u : State). Ok
@@ -139,6 +164,26 @@ marked_alike start m s t at_s at_t e = by_start start
     by_start true = marker tokens.DocumentStart
     by_start false = ap (λ r. r >>= λ (u : State). on_core_with (separate u.core) u >>= document.end_line)
         (marker tokens.DocumentEnd)
+
+-- What ends a document's content is read alike in states whose collections all end alike.
+pub ended_alike : (f g : Frame) (m : Marker) (y : List ℕ) (blank : Bool) (key : Option Candidate) (a : Bool) (ad : ℕ)
+    (deeper other : Bool) (ps qs : List Place) → m.col ≡ 0 → EndsContent y
+    → unroll None m (state_of f (moment_at m y blank key a ad deeper) ps)
+    ≡ unroll None m (state_of g (moment_at m y blank key a ad other) qs)
+    → fetch_here (state_of f (moment_at m y blank key a ad deeper) ps)
+    ≡ fetch_here (state_of g (moment_at m y blank key a ad other) qs)
+ended_alike f g m y blank key a ad deeper other ps qs col (inl h) same =
+    let start = is_document_start y in
+    marker_here f m y blank key a ad deeper ps start refl col h
+    ∙ marked_alike start m (state_of f (moment_at m y blank key a ad deeper) ps)
+    (state_of g (moment_at m y blank key a ad other) qs) refl refl same
+    ∙ sym (marker_here g m y blank key a ad other qs start refl col h)
+ended_alike f g m y blank key a ad deeper other ps qs col (inr h) same =
+    mark_here f m y blank key a ad deeper ps col h
+    ∙ ap (λ r. r >>= λ (u : State). Ok (document.put_passed m tokens.ByteOrderMark (document.pass_mark u.core) u))
+    (content_alike m (state_of f (moment_at m y blank key a ad deeper) ps)
+    (state_of g (moment_at m y blank key a ad other) qs) refl refl same)
+    ∙ sym (mark_here g m y blank key a ad other qs col h)
 
 -- what the end of the stream does
 pub stream_ends : (f : Frame) (m : Marker) (blank : Bool) (key : Option Candidate) (a : Bool) (ad : ℕ) (deeper : Bool)
@@ -163,14 +208,10 @@ ends_here f c m y blank key a ad deeper other ps (inl e) =
     ∙ sym (stream_ends f m blank key a ad other (ps ++ end_place (end_mark m) ∷ [])))
 ends_here f c m y blank key a ad deeper other ps (inr h) =
     let same : end_mark m ≡ m = at_line_start m h.0 in
-    let start = is_document_start y in
     subst (λ (n : Marker). fetch_here (state_of (frame_at_column c f) (moment_at m y blank key a ad deeper) ps)
     ≡ fetch_here (state_of f (moment_at m y blank key a ad other) (ps ++ end_place n ∷ []))) (sym same)
-    (marker_here (frame_at_column c f) m y blank key a ad deeper ps start refl h.0 h.1
-    ∙ marked_alike start m (state_of (frame_at_column c f) (moment_at m y blank key a ad deeper) ps)
-    (state_of f (moment_at m y blank key a ad other) (ps ++ end_place m ∷ [])) refl refl
-    (ends_last f c m m y blank key a ad deeper other ps)
-    ∙ sym (marker_here f m y blank key a ad other (ps ++ end_place m ∷ []) start refl h.0 h.1))
+    (ended_alike (frame_at_column c f) f m y blank key a ad deeper other ps (ps ++ end_place m ∷ []) h.0 h.1
+    (ends_last f c m m y blank key a ad deeper other ps))
 
 -- ## A collection ends
 

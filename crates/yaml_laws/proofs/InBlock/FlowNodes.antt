@@ -23,7 +23,7 @@ use Rattle.yaml_laws.proofs.Flow.States.{moved, past, crosses, EndsDocument, IsL
 use Rattle.yaml_laws.proofs.Flow.Places.{moved_append, moved_count}
 use Rattle.yaml_laws.proofs.Flow.GapSteps.{past_low}
 use Rattle.yaml_laws.proofs.Flow.Fillers.{rest_past}
-use Rattle.yaml_laws.proofs.Flow.Inks.{node_ink}
+use Rattle.yaml_laws.proofs.Flow.Inks.{node_ink, mark_no_plain}
 use Rattle.yaml_laws.proofs.Documents.Lines.{eol}
 use Rattle.yaml_laws.proofs.Flow.NodesPass.{nodes_close}
 use Rattle.yaml_laws.proofs.InBlock.States.{Frame, Moment, core_of, IsStop, IsLeftOf, Before}
@@ -52,7 +52,8 @@ eol_moved column m end o (inl (rest, h, is)) right =
     ∙ ap (λ (k : Marker). past column k o) (sym (ap (moved m) is ∙ moved_append m rest (10 ∷ [])))
 eol_moved column m end o (inr (h, none)) right = rest_past column m end o h (inl none) right
 
-none_of : (a b c d e g : Bool) → (c ≡ false) ⊎ ((d ≡ false) ⊎ (e ≡ false)) → (a && b && c && d && e && g) ≡ false
+none_of : (a b c d e g : Bool) → (c ≡ false) ⊎ ((d ≡ false) ⊎ ((e ≡ false) ⊎ (g ≡ false)))
+    → (a && b && c && d && e && g) ≡ false
 none_of false b c d e g h = refl
 none_of true false c d e g h = refl
 none_of true true false d e g h = refl
@@ -60,7 +61,8 @@ none_of true true true false e g h = refl
 none_of true true true true false g h = refl
 none_of true true true true true g (inl h) = absurd (cc)
 none_of true true true true true g (inr (inl h)) = absurd (cc)
-none_of true true true true true g (inr (inr h)) = absurd (cc)
+none_of true true true true true g (inr (inr (inl h))) = absurd (cc)
+none_of true true true true true g (inr (inr (inr h))) = h
 
 left_of : (deeper : Bool) (i col : ℕ) → col < i → (if deeper then nat_lt i col else nat_le i col) ≡ false
 left_of true i col h = grind (arith, nat_tests)
@@ -79,9 +81,11 @@ quiet_left f n m y h =
 
     by_end : IsLeftOf f.indent m y
         → ((if n.deeper then nat_lt f.indent m.col else nat_le f.indent m.col) ≡ false)
-        ⊎ ((not (is_z (slice_index y 0)) ≡ false) ⊎ (not ((m.col == 0) && is_document_indicator y) ≡ false))
+        ⊎ ((not (is_z (slice_index y 0)) ≡ false)
+        ⊎ ((not ((m.col == 0) && is_document_indicator y) ≡ false) ⊎ (can_be_plain false y ≡ false)))
     by_end (inl (inl e)) = inr (inl (ap (λ (x : List ℕ). not (is_z (slice_index x 0))) e))
-    by_end (inl (inr k)) = inr (inr (at_start k.0 k.1))
+    by_end (inl (inr (col, inl k))) = inr (inr (inl (at_start col k)))
+    by_end (inl (inr (col, inr k))) = inr (inr (inr (mark_no_plain y k)))
     by_end (inr left) = inl (left_of n.deeper f.indent m.col left)
 
 -- ## Its tokens

@@ -1,6 +1,6 @@
 -- A block scalar stands where more text follows as well, if what stands behind it ends with a break and has a token.
-use Rattle.std.proofs.Common.{◌≡◌, ℕ, zero, suc, Bool, true, false, List, [], ◌∷◌, ◌++◌, ◌<◌, slice_index, refl, sym, ap, ◌∙◌, subst, append_assoc, ◌⊎◌, inl, inr, IsTrue}
-use Rattle.saphyr_input.specs.Classes.{is_z, is_yaml_non_break, line_feed}
+use Rattle.std.proofs.Common.{◌≡◌, ℕ, zero, suc, Bool, true, false, List, [], ◌∷◌, ◌++◌, ◌<◌, slice_index, refl, sym, ap, ◌∙◌, subst, append_assoc, ◌⊎◌, inl, inr}
+use Rattle.saphyr_input.specs.Classes.{is_z, is_yaml_non_break, line_feed, is_bom}
 use Rattle.saphyr_input.specs.Places.{is_document_indicator}
 use Rattle.saphyr_scalar.specs.Reading.BlockLines.{spaces}
 use Rattle.saphyr_values.specs.Block.{Line}
@@ -10,7 +10,7 @@ use Rattle.saphyr_values.specs.declared.block.BlockStyle.{BlockStyle}
 use Rattle.saphyr_values.specs.declared.block.BlockStyle.TheVariants as block
 use Rattle.saphyr_values.specs.declared.block.Chomping.{Chomping}
 use Rattle.saphyr_scanner.specs.Grammar.Forest.{Style, Literal, Folded, Plain, SingleQuoted, DoubleQuoted}
-use Rattle.yaml_laws.specs.Grammar.BlockNodes.{IsBehindScalar, IsBlockScalarText, IsStyled}
+use Rattle.yaml_laws.specs.Grammar.BlockNodes.{IsBehindScalar, IsBlockScalarText, IsStyled, EndsContent}
 use Rattle.yaml_laws.proofs.InBlock.MarkedLines.{fed_marker}
 use Rattle.yaml_laws.proofs.InBlock.TabsAhead.{has_token, last_none}
 use Rattle.saphyr_input.proofs.Basics.Booleans.{clash}
@@ -52,6 +52,11 @@ same_marker o more h = subst (λ (x : List ℕ). is_document_indicator (x ++ mor
         ≡ is_document_indicator (front ++ (line_feed ∷ []))
     by_front [] = refl
     by_front (c ∷ cs) = fed_marker c cs more
+
+-- nor whether the content of a document ends
+pub content_ends_further : (more o : List ℕ) → EndsFed o → EndsContent o → EndsContent (o ++ more)
+content_ends_further more o fed (inl h) = inl (same_marker o more fed ∙ h)
+content_ends_further more o fed (inr h) = inr (ap is_bom (same_first o more fed) ∙ h)
 
 -- behind spaces
 fed_back : (n : ℕ) (o front : List ℕ) → spaces n ++ o ≡ front ++ (line_feed ∷ []) → EndsFed o
@@ -228,7 +233,7 @@ behind_further more x fed i n others h =
 left_further : (more : List ℕ) (indent i : ℕ) (t : List ℕ) → EndsFed t → has_token false t ≡ true
     → IsBehindScalar indent i t → IsBehindScalar indent i (t ++ more)
 left_further more indent i t fed token (inl e) = absurd (none_fed t fed e)
-left_further more indent i t fed token (inr (inl h)) = inr (inl (same_marker t more fed ∙ h))
+left_further more indent i t fed token (inr (inl h)) = inr (inl (content_ends_further more t fed h))
 left_further more indent i t fed token (inr (inr (inl (n, c, others, no_space, no_break, left, e)))) =
     inr (inr (inl (
       n,
@@ -258,10 +263,11 @@ left_further more indent i t fed token
       ),
     )))
   where
-    marker_further : (filler marked : List ℕ) → EndsFed (filler ++ marked) → IsTrue (is_document_indicator marked)
-        → IsTrue (is_document_indicator (marked ++ more))
-    marker_further filler [] f h = absurd (let k : false ≡ true = h in cc)
-    marker_further filler (c ∷ cs) f h = same_marker (c ∷ cs) more (fed_behind filler c cs f) ∙ h
+    marker_further : (filler marked : List ℕ) → EndsFed (filler ++ marked) → EndsContent marked
+        → EndsContent (marked ++ more)
+    marker_further filler [] f (inl h) = absurd (let k : false ≡ true = h in cc)
+    marker_further filler [] f (inr h) = absurd (let k : false ≡ true = h in cc)
+    marker_further filler (c ∷ cs) f h = content_ends_further more (c ∷ cs) (fed_behind filler c cs f) h
 
 text_further : (more : List ℕ) (style : BlockStyle) (value : List ℕ) (indent : ℕ) (t o : List ℕ) → EndsFed o
     → has_token false o ≡ true → IsBlockScalarText style value indent t o

@@ -9,7 +9,7 @@ use Rattle.saphyr_scanner.specs.Grammar.Tokens.{Kind}
 use Rattle.saphyr_scanner.specs.Grammar.Forest.{Node, Pairs, NoPair, MorePairs}
 use Rattle.saphyr_scanner.specs.Limits.{most_open}
 use Rattle.yaml_laws.specs.Grammar.BlockNodes.{is_value_ahead, IsBlockPair, IsBlockNode, ArePairs, AreOtherPairs}
-use Rattle.yaml_laws.proofs.Flow.States.{IsClear, moved, past}
+use Rattle.yaml_laws.proofs.Flow.States.{IsClear, moved, past, IsInk}
 use Rattle.yaml_laws.proofs.Flow.Places.{moved_append, clear_here}
 use Rattle.yaml_laws.proofs.InBlock.Lines.{FitsOnLines, fits_front, fits_back, fits_so}
 use Rattle.yaml_laws.proofs.InBlock.States.{Frame, EndsDocument, At}
@@ -21,6 +21,8 @@ use Rattle.yaml_laws.proofs.InBlock.Sequences.{StartsLine, starts_behind, not_em
 use Rattle.saphyr_input.proofs.Basics.Numbers.{next_not_within}
 use Rattle.yaml_laws.proofs.InBlock.Pairs.{mapping_start, least, some_first, reads_pair}
 use Rattle.yaml_laws.proofs.InBlock.ValuesAhead.{skipped_ahead}
+use Rattle.saphyr_input.specs.Classes.{is_bom}
+use Rattle.saphyr_input.proofs.Basics.Booleans.{clash}
 
 -- ## Pairs
 
@@ -64,13 +66,14 @@ no_other_pairs {limit} g column same m t o h fits behind starts start ts v =
     }
 
 -- a token that is no document marker, where the text has none at its line's start
-not_marker : (m : Marker) (c : ℕ) (cs : List ℕ) → ((m.col == 0) && is_document_indicator (c ∷ cs)) ≡ false
+not_marker : (m : Marker) (c : ℕ) (cs : List ℕ) → ((m.col == 0) && is_document_indicator (c ∷ cs)) ≡ false → IsInk c
     → EndsDocument m (c ∷ cs) → ⊥
-not_marker m c cs h (inl e) = cc
-not_marker m c cs h (inr k) =
+not_marker m c cs h ink (inl e) = cc
+not_marker m c cs h ink (inr (col, inr k)) = clash (is_bom c) k ink.byte_order_mark
+not_marker m c cs h ink (inr (col, inl k)) =
     absurd (let start : (m.col == 0) ≡ true =
-    zero_is m.col k.0 in let both : ((m.col == 0) && is_document_indicator (c ∷ cs)) ≡ true =
-    rw (start, k.1) refl in let no : false ≡ true = sym h ∙ both in cc)
+    zero_is m.col col in let both : ((m.col == 0) && is_document_indicator (c ∷ cs)) ≡ true =
+    rw (start, k) refl in let no : false ≡ true = sym h ∙ both in cc)
   where
     zero_is : (n : ℕ) → n ≡ 0 → (n == 0) ≡ true
     zero_is n e = grind (arith, nat_tests)
@@ -116,7 +119,7 @@ more_pairs {limit} leaves key value pairs K V more g column same m t o (front, p
     let starts_z = starts_behind n pair z (ends key value n.col pair z is_pair) in
     let behind_z = other_pairs_behind leaves pairs column last others o k starts_z behind_o in
     let clear = clear_here n b.first b.others z (subst (λ (x : List ℕ). IsClear n x z) b.is fits_pair.clear) in
-    let unmarked : EndsDocument n (pair ++ z) → ⊥ = λ d. not_marker n b.first (b.others ++ z) clear
+    let unmarked : EndsDocument n (pair ++ z) → ⊥ = λ d. not_marker n b.first (b.others ++ z) clear b.ink
     (subst (λ (x : List ℕ). EndsDocument n (x ++ z)) b.is d) in
     let ready = goes_on unmarked at_pair in
     let width = same ∙ ap (λ (c : ℕ). c + 1) (sym col) in

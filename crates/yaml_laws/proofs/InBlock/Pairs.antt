@@ -223,7 +223,8 @@ reads_keyless {limit} leaves key value V f n further e far t z (v, out, h, is) f
 
 no_colon_marker : (m : Marker) (o : List ℕ) → EndsDocument m (58 ∷ o) → ⊥
 no_colon_marker m o (inl e) = cc
-no_colon_marker m o (inr h) = absurd (let k : false ≡ true = h.1 in cc)
+no_colon_marker m o (inr (col, inl h)) = absurd (let k : false ≡ true = h in cc)
+no_colon_marker m o (inr (col, inr h)) = absurd (let k : false ≡ true = h in cc)
 
 pub some_first : (w rest : List ℕ) (d : ℕ) → (c : ℕ) × (cs : List ℕ) × (w ++ (d ∷ rest) ≡ c ∷ cs)
 some_first [] rest d = (d, rest, refl)

@@ -97,7 +97,8 @@ reads_entry {limit} leaves node reads f n further e far entry z is fits behind s
 marker_none : (rest : List ℕ) → is_blank_or_breakz (slice_index rest 0) ≡ true → (m : Marker)
     → EndsDocument m (hyphen ∷ rest) → ⊥
 marker_none rest h m (inl e) = cc
-marker_none rest h m (inr k) = by_first rest h k.1
+marker_none rest h m (inr (col, inr k)) = cc
+marker_none rest h m (inr (col, inl k)) = by_first rest h k
   where
     dash : (c : ℕ) → (c == hyphen) ≡ true → is_blank_or_breakz c ≡ true → ⊥
     dash c e h = absurd (let k : false ≡ true = sym (no c e) ∙ h in cc)

@@ -38,7 +38,7 @@ token_stops t h m = ap (λ (x : List ℕ). (past 0 m x).1) h.is
 pub marker_stops : (o : List ℕ) (k : OpensMarker o) → StopsAt o (k.first ∷ k.others)
 marker_stops o k m = ap (λ (x : List ℕ). (past 0 m x).1) k.is
     ∙ skipped_stops k.filler (k.first ∷ k.others) (filler_skipped k.filler k.filler_is)
-    (ink_stop k.first k.others k.ink) m
+    k.stops m
 
 pub end_stops : (end o s : List ℕ) → IsEol end o → StopsAt o s → StopsAt (end ++ o) s
 end_stops end o s h k m =

@@ -17,17 +17,18 @@ use Rattle.yaml_laws.specs.Grammar.Yaml.{IsDocumentPrefix, no_prefix, mark_prefi
 use Rattle.yaml_laws.proofs.Flow.States.{moved, ReaderPromises}
 use Rattle.yaml_laws.proofs.Flow.Fillers.{last_filler_past}
 use Rattle.yaml_laws.proofs.Documents.Lines.{passes_filler}
-use Rattle.yaml_laws.proofs.Documents.Stands.{Lined, StandsInStream}
+use Rattle.yaml_laws.proofs.Documents.Stands.{Lined, StandsInStream, unfree}
 use Rattle.yaml_laws.proofs.Documents.Markers.{reads_mark, reads_end, FinishesStream, reads_stream_end}
 use Rattle.yaml_laws.proofs.InBlock.States.{crosses}
 use Rattle.yaml_laws.proofs.InBlock.Follows.{follows_itself}
 use Rattle.yaml_laws.proofs.InBlock.Statements.{ReadsLeaves}
-use Rattle.yaml_laws.proofs.InBlock.Documents.Ends.{plain_behind, AreBlockDocuments, HasNoReturn, suffix_text, lands_behind}
+use Rattle.yaml_laws.proofs.InBlock.Documents.Ends.{plain_behind, AreBlockDocuments, HasNoReturn, suffix_text, lands_behind, marks_text}
 use Rattle.yaml_laws.proofs.InBlock.Documents.{reads_document}
 use Rattle.std.proofs.Math.Bool.{or-true}
 use Rattle.scalar_laws.proofs.Beginnings.{front_in, back_in}
 use Rattle.saphyr_scanner.proofs.Queues.{place_kinds}
 use Rattle.saphyr_scanner.proofs.Root.{stream_start_place, fetches_stream_start}
+use Rattle.scalar_laws.specs.Spelling.Spaces.{AreEach, joined_pieces}
 
 -- ## Between documents
 
@@ -69,15 +70,15 @@ reads_prefix {limit = limit} {start = start} _ _ ts (end_prefix filler end more 
     (reads_end end (more ++ others)
     (passes_filler filler (46 ∷ 46 ∷ 46 ∷ (end ++ (more ++ others))) is first) end_is))
 
--- what stands behind a document is read, where documents are
-reads_behind : {limit : ℕ} {start : State} (ds : Forest)
+-- what stands behind a document and its byte order marks is read, where documents are
+reads_unmarked : {limit : ℕ} {start : State} (ds : Forest)
     → ((free : Bool) (t : List ℕ) (ts : List Kind) → AreBlockDocuments ds free t → HasNoReturn t
     → StandsInStream limit start free (Lined free t) t ts
     → FinishesStream limit start (grammar.YieldDocuments ds free) ts)
-    → (o : List ℕ) (ts : List Kind) → yaml.IsBehindDocument (AreBlockDocuments ds) o → HasNoReturn o
+    → (o : List ℕ) (ts : List Kind) → yaml.IsBehindMarks (AreBlockDocuments ds) o → HasNoReturn o
     → StandsInStream limit start false (Lined false o) o ts
     → FinishesStream limit start (grammar.YieldsBehindDocument (grammar.YieldDocuments ds)) ts
-reads_behind ds go o ts (inl h) clean v =
+reads_unmarked ds go o ts (inl h) clean v =
     let f = go false o ts h clean v in
     record {
       last = f.last;
@@ -87,7 +88,7 @@ reads_behind ds go o ts (inl h) clean v =
       told = ([], [], f.others, tt, inl (refl, f.told), refl);
       are = f.are;
     }
-reads_behind {limit = limit} {start = start} ds go o ts
+reads_unmarked {limit = limit} {start = start} ds go o ts
     (inr (suffix, others, (filler, end, prefix, filler_is, end_is, prefix_is, e), h, is)) clean v =
     let text : o ≡ filler ++ (46 ∷ 46 ∷ 46 ∷ (end ++ (prefix ++ others))) =
     is ∙ ap (λ (x : List ℕ). x ++ others) e ∙ suffix_text filler end prefix others in
@@ -108,6 +109,51 @@ reads_behind {limit = limit} {start = start} ds go o ts
   where
     behind_list : (ts marks us : List Kind) (k : Kind) → ((ts ++ k ∷ []) ++ marks) ++ us ≡ ts ++ (k ∷ (marks ++ us))
     behind_list ts marks us k = simp append_assoc
+
+-- a byte order mark, and what stands behind a document
+pub mark_told : (Others : Bool → List Kind → Type 0) (ts : List Kind) → grammar.YieldsBehindDocument Others ts
+    → grammar.YieldsBehindDocument Others (tokens.ByteOrderMark ∷ ts)
+mark_told Others ts (marks, end, others, are, h, e) =
+    (tokens.ByteOrderMark ∷ marks, end, others, (refl, are), h, ap (λ (x : List Kind). tokens.ByteOrderMark ∷ x) e)
+
+-- from its byte order marks on
+reads_marked : {limit : ℕ} {start : State} (ds : Forest)
+    → ((free : Bool) (t : List ℕ) (ts : List Kind) → AreBlockDocuments ds free t → HasNoReturn t
+    → StandsInStream limit start free (Lined free t) t ts
+    → FinishesStream limit start (grammar.YieldDocuments ds free) ts)
+    → (pieces : List (List ℕ)) (o : List ℕ) (ts : List Kind) → AreEach yaml.IsMarkBehindFiller pieces
+    → yaml.IsBehindMarks (AreBlockDocuments ds) o → HasNoReturn o
+    → StandsInStream limit start false (Lined false (joined_pieces pieces ++ o)) (joined_pieces pieces ++ o) ts
+    → FinishesStream limit start (grammar.YieldsBehindDocument (grammar.YieldDocuments ds)) ts
+reads_marked ds go [] o ts each h clean v = reads_unmarked ds go o ts h clean v
+reads_marked {limit = limit} {start = start} ds go (piece ∷ pieces) o ts ((filler, filler_is, is), each) h clean v =
+    let rest = joined_pieces pieces ++ o in
+    let first = passes_filler filler (65279 ∷ rest) filler_is
+    (subst (λ (x : List ℕ). StandsInStream limit start false (Lined false x) x ts)
+    (marks_text piece filler (joined_pieces pieces) o is) v) in
+    let f = reads_marked ds go pieces o (ts ++ tokens.ByteOrderMark ∷ []) each h clean
+    (unfree (reads_mark rest first)) in
+    record {
+      last = f.last;
+      leads = f.leads;
+      over = f.over;
+      others = tokens.ByteOrderMark ∷ f.others;
+      told = mark_told (grammar.YieldDocuments ds) f.others f.told;
+      are = f.are ∙ append_assoc ts (tokens.ByteOrderMark ∷ []) f.others;
+    }
+
+-- what stands behind a document is read
+reads_behind : {limit : ℕ} {start : State} (ds : Forest)
+    → ((free : Bool) (t : List ℕ) (ts : List Kind) → AreBlockDocuments ds free t → HasNoReturn t
+    → StandsInStream limit start free (Lined free t) t ts
+    → FinishesStream limit start (grammar.YieldDocuments ds free) ts)
+    → (o : List ℕ) (ts : List Kind) → yaml.IsBehindDocument (AreBlockDocuments ds) o → HasNoReturn o
+    → StandsInStream limit start false (Lined false o) o ts
+    → FinishesStream limit start (grammar.YieldsBehindDocument (grammar.YieldDocuments ds)) ts
+reads_behind {limit = limit} {start = start} ds go o ts (marks, others, (pieces, each, joins), h, e) clean v =
+    reads_marked ds go pieces others ts each h (back_in _ marks others (subst HasNoReturn e clean))
+    (subst (λ (x : List ℕ). StandsInStream limit start false (Lined false x) x ts)
+    (e ∙ ap (λ (x : List ℕ). x ++ others) joins) v)
 
 -- ## Documents
 

@@ -6,9 +6,10 @@ use Rattle.std.proofs.lemmas.Bool.Decides.{nat_tests}
 use Rattle.saphyr_input.specs.Classes.{is_blank, is_break, is_yaml_non_break, line_feed, carriage_return, space, tab}
 use Rattle.saphyr_scalar.specs.declared.scalar.position.Marker.{Marker}
 use Rattle.yaml_laws.specs.Grammar.BlockNodes.{has_tab_ahead}
-use Rattle.yaml_laws.proofs.Flow.States.{moved, IsInk}
+use Rattle.yaml_laws.proofs.Flow.States.{moved}
 use Rattle.yaml_laws.proofs.Flow.Places.{behind_character}
 use Rattle.yaml_laws.proofs.InBlock.Skips.{has_tab, comment_has_tab}
+use Rattle.yaml_laws.proofs.InBlock.States.{IsStop}
 use Rattle.std.proofs.lemmas.Bool.{or_parts}
 use Rattle.saphyr_input.specs.Indicators.{number_sign}
 use Rattle.saphyr_scalar.specs.Spelling.Tag.{AreIn}
@@ -147,8 +148,8 @@ tells_filler t o more h k =
     ∙ same_ahead false text_start t o more (λ e. absurd (cc)) (filler_line text_start t h refl) k
 
 -- before a token
-pub tells_token : (c : ℕ) (cs more : List ℕ) → IsInk c → TellsTabs more (c ∷ cs)
-tells_token c cs more ink = rw (no_tab c ink.blank, no_space c ink.blank, ink.break, ink.comment) refl
+pub tells_token : (c : ℕ) (cs more : List ℕ) → IsStop (c ∷ cs) → TellsTabs more (c ∷ cs)
+tells_token c cs more (blank, break, comment) = rw (no_tab c blank, no_space c blank, break, comment) refl
   where
     no_tab : (c : ℕ) → is_blank c ≡ false → (c == tab) ≡ false
     no_tab c h = grind (arith, nat_tests)
@@ -185,8 +186,8 @@ pub token_filler : (t o : List ℕ) → IsFiller t → has_token false o ≡ tru
 token_filler t o h k =
     token_front false text_start t o (λ e. absurd (cc)) (filler_line text_start t h refl) k
 
-pub token_here : (c : ℕ) (cs : List ℕ) → IsInk c → has_token false (c ∷ cs) ≡ true
-token_here c cs ink = rw (no_tab c ink.blank, no_space c ink.blank, ink.break, ink.comment) refl
+pub token_here : (c : ℕ) (cs : List ℕ) → IsStop (c ∷ cs) → has_token false (c ∷ cs) ≡ true
+token_here c cs (blank, break, comment) = rw (no_tab c blank, no_space c blank, break, comment) refl
   where
     no_tab : (c : ℕ) → is_blank c ≡ false → (c == tab) ≡ false
     no_tab c h = grind (arith, nat_tests)

@@ -38,22 +38,22 @@ leaves reads blocks limit short = record {
   scalar_ends = scalar_ends;
 }
 
--- each text of YAML's grammar gives tokens of its forest
-pub yaml_scans : Readers → ReaderPromises → ReadsBlocks → (limit : ℕ) → limit < 2 ^ 63
+-- Each text of YAML's grammar gives tokens of its forest. The normalized text is scanned with a limit of its own.
+pub yaml_scans : Readers → ReaderPromises → ReadsBlocks → (limit other : ℕ) → other < 2 ^ 63
     → (forest : Forest) (text : List ℕ)
-    → HaveSameKinds (scan limit text) (scan limit (normalized text))
-    → IsYamlText most_open forest text → length text ≤ limit
+    → HaveSameKinds (scan limit text) (scan other (normalized text))
+    → IsYamlText most_open forest text → length text ≤ other
     → (ts : List Kind) × Yields forest ts × Scans ts (scan limit text)
-yaml_scans readers reads blocks limit low forest text same yaml short =
+yaml_scans readers reads blocks limit other low forest text same yaml short =
     let n = normalized text in
     let clean = no_return_left (beside text) in
     let l = normal_shorter text in
-    let run = yaml_leads reads limit (leaves reads blocks limit low) forest n clean yaml
+    let run = yaml_leads reads other (leaves reads blocks other low) forest n clean yaml
     (omega (arith, l, short)) in
-    let all = handed_out readers limit n run.0 run.1 run.2 in (
+    let all = handed_out readers other n run.0 run.1 run.2 in (
       run.3.0,
       run.3.1,
-      scans_too run.3.0 (scan limit text) (scan limit n) same (
+      scans_too run.3.0 (scan limit text) (scan other n) same (
         ap (λ (r : Remaining). r.refusal) all,
         ap (λ (r : Remaining). map (λ (t : Piece). t.kind) r.pieces) all
             ∙ run.3.2,

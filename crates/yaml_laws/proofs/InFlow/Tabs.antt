@@ -17,6 +17,7 @@ use Rattle.yaml_laws.proofs.Flow.States.{is_filler_rest, past, EndsDocument, IsL
 use Rattle.yaml_laws.proofs.Flow.Gaps.{stops_tab, stop_blank, tab_rest, no_rest, no_tab_before}
 use Rattle.saphyr_input.proofs.Basics.Characters.{blank_no_break, return_breaks}
 use Rattle.saphyr_input.proofs.Basics.Booleans.{and_true_right, clash}
+use Rattle.yaml_laws.proofs.Flow.Inks.{bom_is}
 
 -- ## What is landed at is no blank
 
@@ -42,7 +43,8 @@ starts_marker y h = by_first (slice_index y 0 == 45) (slice_index y 0 == 46) ref
 pub lands_on_ink : (column : ℕ) (m : Marker) (y : List ℕ) → EndsDocument m y ⊎ IsLeft column m y
     → is_blank (slice_index y 0) ≡ false
 lands_on_ink column m y (inl (inl e)) = ap (λ (t : List ℕ). is_blank (slice_index t 0)) e
-lands_on_ink column m y (inl (inr h)) = starts_marker y h.1
+lands_on_ink column m y (inl (inr (col, inl h))) = starts_marker y h
+lands_on_ink column m y (inl (inr (col, inr h))) = ap is_blank (bom_is (slice_index y 0) h)
 lands_on_ink column m y (inr h) = ap (λ (t : List ℕ). is_blank (slice_index t 0)) h.is ∙ h.blank
 
 -- ## Where a tab stands in the indentation before a token, a comment or the text's end does

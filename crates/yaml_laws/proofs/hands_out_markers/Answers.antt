@@ -21,6 +21,7 @@ returns c limit marker forest text others yaml ends apart short small =
           (c.places_each_block_scalar.ensures style indent s t text span e f g).0;
       place = c.passes_to_one_place.ensures;
     } in
-    let same = c.scans_breaks_alike.ensures limit (text ++ others) (omega (arith, short, small)) short in
+    let same = c.scans_breaks_alike.ensures limit limit (text ++ others) (omega (arith, short, small)) short
+    short in
     closed_scans c.takes_characters_off.ensures reads blocks limit small marker forest text others same yaml ends
     apart short

@@ -21,7 +21,7 @@ at_one : (m : Marker) (n : ℕ) (t : List ℕ) → mid_line (along m (1 + n)) t 
 at_one m n t = let one : 1 + n ≡ suc n = omega arith in rw one refl
 
 pub returns : goal.returns
-returns c limit text small short =
+returns c limit other text small short short_too =
     let forward : Forwards = record {
       plain = λ in_flow indent s x e. forward_plain in_flow s x.3 x.0 x.1
           (c.reads_plain_values.ensures in_flow indent s x.3 x.0 x.1 x.2 e);
@@ -39,4 +39,4 @@ returns c limit text small short =
     } in
     let alike = c.reads_breaks_alike.ensures.reads text in
     let known : Laws text = record { small = small; alike = alike; forward = forward } in
-    scans_same text known c.takes_characters_off.ensures limit short
+    scans_same text known c.takes_characters_off.ensures limit other short short_too

@@ -1,4 +1,4 @@
-use Rattle.std.proofs.Common.{arith}
+use Rattle.std.proofs.Common.{arith, length}
 use Rattle.yaml_laws.proofs.Flow.States.{ReaderPromises}
 use Rattle.yaml_laws.proofs.InBlock.ScalarTexts.{ReadsBlocks}
 use Rattle.yaml_laws.proofs.InBlock.YamlTexts.{yaml_scans}
@@ -21,5 +21,6 @@ returns c limit forest text yaml short small =
           (c.places_each_block_scalar.ensures style indent s t text span e f g).0;
       place = c.passes_to_one_place.ensures;
     } in
-    let same = c.scans_breaks_alike.ensures limit text (omega (arith, short, small)) short in
-    yaml_scans c.takes_characters_off.ensures reads blocks limit small forest text same yaml short
+    let same = c.scans_breaks_alike.ensures limit (length text) text small short (omega arith) in
+    yaml_scans c.takes_characters_off.ensures reads blocks limit (length text) small forest text same yaml
+    (omega arith)

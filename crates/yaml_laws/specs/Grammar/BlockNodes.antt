@@ -3,7 +3,7 @@
 -- once.
 use Rattle.std.specs.Prelude.{◌≡◌, ◌≢◌, ℕ, suc, ◌+◌, ◌<◌, ◌≤◌, ◌⊎◌, Bool, true, false, not, ◌==◌, ◌&&◌, ◌||◌, List, [], ◌∷◌, ◌++◌, length, slice_index, IsTrue, IsFalse, codes, if◌then◌else◌}
 use Rattle.std.specs.List.{list_all}
-use Rattle.saphyr_input.specs.Classes.{is_alpha, is_blank, is_break, is_blank_or_breakz, tab, space, line_feed}
+use Rattle.saphyr_input.specs.Classes.{is_alpha, is_blank, is_bom, is_break, is_blank_or_breakz, tab, space, line_feed}
 use Rattle.saphyr_input.specs.Places.{is_document_indicator}
 use Rattle.saphyr_input.specs.Indicators.{colon, number_sign}
 use Rattle.saphyr_values.specs.declared.block.BlockStyle.{BlockStyle}
@@ -103,27 +103,30 @@ IsFlowInBlock room node place t behind =
     (gap text end : List ℕ) × IsGapAt place gap × IsFlowNode room node false (indent_at place) text
     × IsFalse (is_lone_tab place gap text) × IsEol end behind × (t ≡ gap ++ (text ++ end))
 
--- What may follow the lines of a block scalar whose content begins at column i: nothing, a document marker, a line that
--- begins at or left of the enclosing collection's column, or a comment left of the content, behind spaces alone; or
--- filler up to the document's end whose first line has a tab left of the content.
+-- 5.2, 9.1.2 [3], [206]: at a line's start this ends a document's content: a document marker, or a byte order mark
+abbrev pub EndsContent : List ℕ → Type 0
+EndsContent t = IsTrue (is_document_indicator t) ⊎ IsTrue (is_bom (slice_index t 0))
+
+-- What may follow the lines of a block scalar whose content begins at column i: nothing, what ends the document's
+-- content, a line that begins at or left of the enclosing collection's column, or a comment left of the content, behind
+-- spaces alone; or filler up to the document's end whose first line has a tab left of the content.
 abbrev pub IsLineLeft : ℕ → ℕ → List ℕ → Type 0
 IsLineLeft indent i t =
     (n c : ℕ) × (others : List ℕ) × IsFalse (is_blank c) × (c ≢ line_feed)
     × ((n < indent) ⊎ ((c ≡ number_sign) × (n < i)))
     × (t ≡ spaces n ++ (c ∷ others))
 
--- filler, and behind it the text's end or a document marker
+-- filler, and behind it the text's end or what ends the document's content
 abbrev pub IsFillerAtEnd : List ℕ → Type 0
 IsFillerAtEnd t =
-    IsLastFiller t
-    ⊎ ((filler others : List ℕ) × IsFiller filler × IsTrue (is_document_indicator others) × (t ≡ filler ++ others))
+    IsLastFiller t ⊎ ((filler others : List ℕ) × IsFiller filler × EndsContent others × (t ≡ filler ++ others))
 
 abbrev pub IsTabLeft : ℕ → List ℕ → Type 0
 IsTabLeft i t = (n : ℕ) × (others : List ℕ) × (n < i) × (t ≡ spaces n ++ (tab ∷ others)) × IsFillerAtEnd t
 
 abbrev pub IsBehindScalar : ℕ → ℕ → List ℕ → Type 0
 IsBehindScalar indent i t =
-    (t ≡ []) ⊎ (IsTrue (is_document_indicator t) ⊎ (IsLineLeft indent i t ⊎ IsTabLeft i t))
+    (t ≡ []) ⊎ (EndsContent t ⊎ (IsLineLeft indent i t ⊎ IsTabLeft i t))
 
 -- 8.1 [170], [174]: a block scalar from its header on, with all of its lines
 abbrev pub IsBlockScalarText : BlockStyle → List ℕ → ℕ → List ℕ → List ℕ → Type 0

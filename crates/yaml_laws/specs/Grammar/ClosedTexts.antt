@@ -1,7 +1,8 @@
 -- Texts that end with the line of a document marker (YAML 1.2.2, 9.1.2, 9.1.4), in texts whose breaks are line feeds.
 use Rattle.std.specs.Prelude.{◌≡◌, ◌⊎◌, ℕ, List, [], ◌∷◌, ◌++◌, map, codes}
-use Rattle.saphyr_input.specs.Classes.{line_feed, byte_order_mark}
-use Rattle.scalar_laws.specs.Spelling.Spaces.{AreMany, IsFiller, IsLineRest}
+use Rattle.saphyr_input.specs.Classes.{line_feed}
+use Rattle.scalar_laws.specs.Spelling.Spaces.{AreMany, IsLineRest}
+use Rattle.yaml_laws.specs.Grammar.Yaml.{IsMarkBehindFiller}
 use Rattle.saphyr_scanner.specs.Grammar.Tokens as tokens
 use Rattle.saphyr_scanner.specs.Grammar.Tokens.{Kind}
 use Rattle.saphyr_scanner.specs.Grammar.Forest.{Forest}
@@ -25,10 +26,6 @@ marker_token Ends = tokens.DocumentEnd
 -- behind this text a line begins: it is empty, or ends with a break
 abbrev pub IsBeforeLine : List ℕ → Type 0
 IsBeforeLine front = (front ≡ []) ⊎ ((others : List ℕ) × (front ≡ others ++ line_feed ∷ []))
-
--- 5.2, 9.1.1 [3], [202]: byte order marks, with filler before each
-abbrev pub IsMarkBehindFiller : List ℕ → Type 0
-IsMarkBehindFiller t = (filler : List ℕ) × IsFiller filler × (t ≡ filler ++ byte_order_mark ∷ [])
 
 -- this text ends with byte order marks of the stream, which stand at its start, or behind a `...` line
 abbrev pub EndsWithMark : List ℕ → Type 0

@@ -4,7 +4,7 @@ use Rattle.saphyr_input.specs.Breaks.{normalized}
 use Rattle.saphyr_input.specs.Classes.{byte_order_mark, line_feed}
 use Rattle.saphyr_input.specs.Places.{is_document_indicator}
 use Rattle.saphyr_scalar.specs.Spelling.Directive.{IsVersionDirective, IsTagDirective, IsReservedDirective, IsLineTail}
-use Rattle.scalar_laws.specs.Spelling.Spaces.{IsFiller, IsLastFiller, IsEol}
+use Rattle.scalar_laws.specs.Spelling.Spaces.{AreMany, IsFiller, IsLastFiller, IsEol}
 use Rattle.saphyr_scanner.specs.Grammar.Forest.{Directive, Version, TagPrefix, Reserved, AreCompatible, bare, Node, Document, Forest}
 use Rattle.yaml_laws.specs.Grammar.TagSpelling.{IsHandle}
 use Rattle.yaml_laws.specs.Grammar.BlockNodes.{Position, AtStart, BehindMarker, IsBlockNode}
@@ -75,11 +75,20 @@ IsDocumentSuffix t behind =
     (filler end prefix : List ℕ) × IsFiller filler × IsEol end (prefix ++ behind) × IsDocumentPrefix prefix behind
     × (t ≡ filler ++ (codes "..." ++ (end ++ prefix)))
 
+-- 5.2 [3]: a byte order mark, with filler before it
+abbrev pub IsMarkBehindFiller : List ℕ → Type 0
+IsMarkBehindFiller t = (filler : List ℕ) × IsFiller filler × (t ≡ filler ++ byte_order_mark ∷ [])
+
 -- behind a document: what Others tells, or a `...` line first
-abbrev pub IsBehindDocument : (Bool → List ℕ → Type 0) → List ℕ → Type 0
-IsBehindDocument Others t =
+abbrev pub IsBehindMarks : (Bool → List ℕ → Type 0) → List ℕ → Type 0
+IsBehindMarks Others t =
     Others false t ⊎ ((suffix others : List ℕ) × IsDocumentSuffix suffix others × Others true others
     × (t ≡ suffix ++ others))
+
+-- 9.2 [211]: the same behind byte order marks, any number of them
+abbrev pub IsBehindDocument : (Bool → List ℕ → Type 0) → List ℕ → Type 0
+IsBehindDocument Others t =
+    (marks others : List ℕ) × AreMany IsMarkBehindFiller marks × IsBehindMarks Others others × (t ≡ marks ++ others)
 
 -- documents, with filler between and behind them
 abbrev pub AreDocuments : NodeTexts → Forest → Bool → List ℕ → Type 0

@@ -1,14 +1,13 @@
 -- What stands behind a document ends it, or begins with a document marker (YAML 1.2.2, chapter 9).
-use Rattle.std.proofs.Common.{◌≡◌, ℕ, Bool, true, false, List, [], ◌∷◌, ◌++◌, slice_index, refl, sym, ap, ◌∙◌, subst, append_assoc, ◌⊎◌, inl, inr, IsTrue}
+use Rattle.std.proofs.Common.{◌≡◌, ℕ, Bool, true, false, List, [], ◌∷◌, ◌++◌, slice_index, refl, sym, ap, ◌∙◌, subst, append_assoc, ◌⊎◌, inl, inr}
 use Rattle.std.specs.Prelude.{◌==◌, not}
-use Rattle.saphyr_input.specs.Classes.{is_blank_or_breakz, carriage_return}
-use Rattle.saphyr_input.specs.Places.{is_document_indicator}
+use Rattle.saphyr_input.specs.Classes.{is_blank_or_breakz, carriage_return, byte_order_mark}
 use Rattle.saphyr_scalar.specs.declared.scalar.position.Marker.{Marker}
 use Rattle.saphyr_scalar.specs.Spelling.Tag.{AreIn}
-use Rattle.scalar_laws.specs.Spelling.Spaces.{IsFiller, IsLastFiller}
+use Rattle.scalar_laws.specs.Spelling.Spaces.{IsFiller, IsLastFiller, joined_pieces}
 use Rattle.saphyr_scanner.specs.Grammar.Forest.{Node, Document, Forest}
 use Rattle.saphyr_scanner.specs.Limits.{most_open}
-use Rattle.yaml_laws.specs.Grammar.BlockNodes.{BehindMarker, IsBlockNode}
+use Rattle.yaml_laws.specs.Grammar.BlockNodes.{BehindMarker, IsBlockNode, EndsContent}
 use Rattle.yaml_laws.specs.Grammar.Yaml as yaml
 use Rattle.yaml_laws.specs.Grammar.Yaml.{AreDirectives, AreDocuments}
 use Rattle.yaml_laws.proofs.Flow.States.{IsInk, EndsDocument, moved, past}
@@ -16,12 +15,13 @@ use Rattle.yaml_laws.proofs.Flow.Fillers.{last_filler_past}
 use Rattle.yaml_laws.proofs.Documents.Lines.{eol, eol_first, filler_at_line}
 use Rattle.yaml_laws.proofs.Documents.Markers.{start_ends, end_ends}
 use Rattle.yaml_laws.proofs.Documents.Stands.{AtLine}
-use Rattle.yaml_laws.proofs.InBlock.Skips.{IsClean, skipped_clean, filler_skipped, rest_ends_clean}
+use Rattle.yaml_laws.proofs.InBlock.Skips.{IsClean, skipped_clean, filler_skipped, rest_ends_clean, skipped_passes}
 use Rattle.yaml_laws.proofs.InBlock.Statements.{ReadsLeaves}
-use Rattle.yaml_laws.proofs.InBlock.Texts.{ink_clean, reaches}
 use Rattle.yaml_laws.proofs.InBlock.BehindIndicators.{node_behind}
 use Rattle.std.proofs.lemmas.Bool.{false≢true}
 use Rattle.saphyr_input.specs.Indicators.{full_stop, hyphen}
+use Rattle.yaml_laws.proofs.InBlock.States.{IsStop}
+use Rattle.yaml_laws.proofs.InBlock.Gaps.{stop_tabbed, stop_past}
 
 -- the documents of a text of YAML's grammar
 abbrev pub AreBlockDocuments : Forest → Bool → List ℕ → Type 0
@@ -48,11 +48,15 @@ column_at_line : (c : ℕ) (cs : List ℕ) (m : Marker) → AtLine (c ∷ cs) m 
 column_at_line c cs m (inl e) = e
 column_at_line c cs m (inr e) = absurd (cc)
 
-pub plain_marked : (filler : List ℕ) (c : ℕ) (cs o : List ℕ) → IsFiller filler → o ≡ filler ++ (c ∷ cs) → IsInk c
+pub plain_marked : (filler : List ℕ) (c : ℕ) (cs o : List ℕ) → IsFiller filler → o ≡ filler ++ (c ∷ cs)
+    → IsStop (c ∷ cs)
     → IsPlainBehind o
-plain_marked filler c cs o filler_is e ink =
+plain_marked filler c cs o filler_is e stops =
     subst IsPlainBehind (sym e)
-    (record { clean = skipped_clean filler (c ∷ cs) (filler_skipped filler filler_is) (ink_clean c cs ink) })
+    (record {
+      clean = skipped_clean filler (c ∷ cs) (filler_skipped filler filler_is)
+          (λ least m blank. stop_tabbed least m blank (c ∷ cs) stops);
+    })
 
 last_plain : (o : List ℕ) → IsLastFiller o → IsPlainBehind o
 last_plain o (filler, text, filler_is, (front, comment, are, k, text_is), is) =
@@ -63,9 +67,6 @@ last_plain o (filler, text, filler_is, (front, comment, are, k, text_is), is) =
           (λ least m blank. rest_ends_clean front comment are k least m blank false);
     })
 
-dash_ink : IsInk 45
-dash_ink = record { blank = refl; break = refl; comment = refl; byte_order_mark = refl }
-
 pub dot_ink : IsInk 46
 dot_ink = record { blank = refl; break = refl; comment = refl; byte_order_mark = refl }
 
@@ -75,11 +76,34 @@ pub suffix_text : (filler end prefix others : List ℕ)
     ≡ filler ++ (full_stop ∷ full_stop ∷ full_stop ∷ (end ++ (prefix ++ others)))
 suffix_text filler end prefix others = simp append_assoc
 
-pub plain_behind : (ds : Forest) (o : List ℕ) → yaml.IsBehindDocument (AreBlockDocuments ds) o → IsPlainBehind o
-plain_behind [] o (inl h) = last_plain o h
-plain_behind (d ∷ ds) o (inl (filler, document, others, filler_is, inl h, behind, e)) = absurd (false≢true h.0)
-plain_behind (d ∷ ds) o (inl (filler, document, others, filler_is, inr (inl h, is), behind, e)) = absurd (false≢true h)
-plain_behind (d ∷ ds) o (inl (
+-- before a byte order mark and what stands behind it
+pub marks_text : (piece filler marks others : List ℕ) → piece ≡ filler ++ byte_order_mark ∷ []
+    → (piece ++ marks) ++ others ≡ filler ++ (byte_order_mark ∷ (marks ++ others))
+marks_text piece filler marks others e =
+    ap (λ (x : List ℕ). (x ++ marks) ++ others) e
+    ∙ ap (λ (x : List ℕ). x ++ others) (append_assoc filler (65279 ∷ []) marks)
+    ∙ append_assoc filler (65279 ∷ marks) others
+
+-- behind a document stands a byte order mark first, behind filler, or none
+marks_first : (Others : Bool → List ℕ → Type 0) (o : List ℕ) → yaml.IsBehindDocument Others o
+    → yaml.IsBehindMarks Others o
+    ⊎ ((filler rest : List ℕ) × IsFiller filler × (o ≡ filler ++ (byte_order_mark ∷ rest)))
+marks_first Others o (marks, others, ([], each, joins), h, e) =
+    inl (subst (yaml.IsBehindMarks Others) (sym (e ∙ ap (λ (x : List ℕ). x ++ others) joins)) h)
+marks_first Others o (marks, others, (piece ∷ pieces, ((filler, filler_is, is), each), joins), h, e) =
+    inr (
+      filler,
+      joined_pieces pieces ++ others,
+      filler_is,
+      e ∙ ap (λ (x : List ℕ). x ++ others) joins ∙ marks_text piece filler (joined_pieces pieces) others is,
+    )
+
+plain_unmarked : (ds : Forest) (o : List ℕ) → yaml.IsBehindMarks (AreBlockDocuments ds) o → IsPlainBehind o
+plain_unmarked [] o (inl h) = last_plain o h
+plain_unmarked (d ∷ ds) o (inl (filler, document, others, filler_is, inl h, behind, e)) = absurd (false≢true h.0)
+plain_unmarked (d ∷ ds) o (inl (filler, document, others, filler_is, inr (inl h, is), behind, e)) =
+    absurd (false≢true h)
+plain_unmarked (d ∷ ds) o (inl (
   filler,
   document,
   others,
@@ -92,11 +116,19 @@ plain_behind (d ∷ ds) o (inl (
     let begins : document ≡ hyphen ∷ hyphen ∷ hyphen ∷ node = text
     ∙ ap (λ (x : List ℕ). x ++ (hyphen ∷ hyphen ∷ hyphen ∷ node)) empty in
     plain_marked filler 45 (hyphen ∷ hyphen ∷ (node ++ others)) o filler_is
-    (e ∙ ap (λ (x : List ℕ). filler ++ (x ++ others)) begins) dash_ink
-plain_behind ds o (inr (suffix, others, (filler, end, prefix, filler_is, end_is, prefix_is, text), behind, e)) =
+    (e ∙ ap (λ (x : List ℕ). filler ++ (x ++ others)) begins) (refl, refl, refl)
+plain_unmarked ds o (inr (suffix, others, (filler, end, prefix, filler_is, end_is, prefix_is, text), behind, e)) =
     let whole : o ≡ filler ++ (46 ∷ 46 ∷ 46 ∷ (end ++ (prefix ++ others))) =
     e ∙ ap (λ (x : List ℕ). x ++ others) text ∙ suffix_text filler end prefix others in
-    plain_marked filler 46 (46 ∷ 46 ∷ (end ++ (prefix ++ others))) o filler_is whole dot_ink
+    plain_marked filler 46 (46 ∷ 46 ∷ (end ++ (prefix ++ others))) o filler_is whole (refl, refl, refl)
+
+pub plain_behind : (ds : Forest) (o : List ℕ) → yaml.IsBehindDocument (AreBlockDocuments ds) o → IsPlainBehind o
+plain_behind ds o h = by_first (marks_first (AreBlockDocuments ds) o h)
+  where
+    by_first : yaml.IsBehindMarks (AreBlockDocuments ds) o
+        ⊎ ((filler rest : List ℕ) × IsFiller filler × (o ≡ filler ++ (byte_order_mark ∷ rest))) → IsPlainBehind o
+    by_first (inl k) = plain_unmarked ds o k
+    by_first (inr (filler, rest, filler_is, e)) = plain_marked filler 65279 rest o filler_is e (refl, refl, refl)
 
 -- behind `---` stands a blank or a break
 pub explicit_first : {limit : ℕ} → ReadsLeaves limit → (node : Node) (t others : List ℕ)
@@ -105,33 +137,33 @@ pub explicit_first : {limit : ℕ} → ReadsLeaves limit → (node : Node) (t ot
 explicit_first leaves node t others h plain =
     let b = node_behind leaves node BehindMarker t others refl h plain.clean in b.first
 
--- behind filler a document marker begins a line
+-- behind filler a document marker or a byte order mark begins a line
 pub record OpensMarker (o : List ℕ) : Type 0 where
   pub filler : List ℕ
   pub filler_is : IsFiller filler
   pub first : ℕ
   pub others : List ℕ
-  pub ink : IsInk first
-  pub marker : IsTrue (is_document_indicator (first ∷ others))
+  pub stops : IsStop (first ∷ others)
+  pub ends : EndsContent (first ∷ others)
   pub is : o ≡ filler ++ (first ∷ others)
 
 pub lands_marked : (o : List ℕ) → OpensMarker o → (m : Marker) → AtLine o m → Lands m o
 lands_marked o k m line =
     let n = moved m k.filler in
     let there : past 0 m o ≡ (n, k.first ∷ k.others) = ap (past 0 m) k.is
-    ∙ reaches m k.filler k.first k.others (filler_skipped k.filler k.filler_is) k.ink in
+    ∙ skipped_passes k.filler (filler_skipped k.filler k.filler_is) m (k.first ∷ k.others)
+    ∙ stop_past n (k.first ∷ k.others) k.stops in
     let col = column_at_line k.first k.others n
     (filler_at_line m k.filler (k.first ∷ k.others) k.filler_is (subst (λ (x : List ℕ). AtLine x m) k.is line)) in
-    subst (λ (x : Marker × List ℕ). EndsDocument x.0 x.1) (sym there) (inr (col, k.marker))
+    subst (λ (x : Marker × List ℕ). EndsDocument x.0 x.1) (sym there) (inr (col, k.ends))
 
--- what stands behind a document: filler alone, or a document marker
-pub opens_marker : {limit : ℕ} → ReadsLeaves limit → (ds : Forest) (o : List ℕ)
-    → yaml.IsBehindDocument (AreBlockDocuments ds) o → ((ds ≡ []) × IsLastFiller o) ⊎ OpensMarker o
-opens_marker leaves [] o (inl h) = inl (refl, h)
-opens_marker leaves (d ∷ ds) o (inl (filler, document, others, filler_is, inl h, behind, e)) = absurd (false≢true h.0)
-opens_marker leaves (d ∷ ds) o (inl (filler, document, others, filler_is, inr (inl h, is), behind, e)) =
+opens_unmarked : {limit : ℕ} → ReadsLeaves limit → (ds : Forest) (o : List ℕ)
+    → yaml.IsBehindMarks (AreBlockDocuments ds) o → ((ds ≡ []) × IsLastFiller o) ⊎ OpensMarker o
+opens_unmarked leaves [] o (inl h) = inl (refl, h)
+opens_unmarked leaves (d ∷ ds) o (inl (filler, document, others, filler_is, inl h, behind, e)) = absurd (false≢true h.0)
+opens_unmarked leaves (d ∷ ds) o (inl (filler, document, others, filler_is, inr (inl h, is), behind, e)) =
     absurd (false≢true h)
-opens_marker leaves (d ∷ ds) o
+opens_unmarked leaves (d ∷ ds) o
     (inl (
       filler,
       document,
@@ -148,25 +180,45 @@ opens_marker leaves (d ∷ ds) o
       filler_is = filler_is;
       first = 45;
       others = 45 ∷ 45 ∷ (node ++ others);
-      ink = dash_ink;
-      marker = start_ends (node ++ others)
-          (explicit_first leaves d.node node others node_is (plain_behind ds others behind));
+      stops = (refl, refl, refl);
+      ends = inl (start_ends (node ++ others)
+          (explicit_first leaves d.node node others node_is (plain_behind ds others behind)));
       is = e ∙ ap (λ (x : List ℕ). filler ++ (x ++ others)) begins;
     })
-opens_marker leaves ds o (inr (suffix, others, (filler, end, prefix, filler_is, end_is, prefix_is, text), behind, e)) =
+opens_unmarked leaves ds o (inr (suffix, others, (filler, end, prefix, filler_is, end_is, prefix_is, text), behind, e)) =
     let m : Marker = record { index = 0; line = 1; col = 0 } in
     inr (record {
       filler = filler;
       filler_is = filler_is;
       first = 46;
       others = 46 ∷ 46 ∷ (end ++ (prefix ++ others));
-      ink = dot_ink;
-      marker = end_ends (end ++ (prefix ++ others))
-          (eol_first m (end ++ (prefix ++ others)) (prefix ++ others) (eol m end (prefix ++ others) end_is));
+      stops = (refl, refl, refl);
+      ends = inl (end_ends (end ++ (prefix ++ others))
+          (eol_first m (end ++ (prefix ++ others)) (prefix ++ others) (eol m end (prefix ++ others) end_is)));
       is = e ∙ ap (λ (x : List ℕ). x ++ others) text ∙ suffix_text filler end prefix others;
     })
 
--- so it is the text's end, or a document marker
+-- what stands behind a document: filler alone, a document marker, or a byte order mark
+pub opens_marker : {limit : ℕ} → ReadsLeaves limit → (ds : Forest) (o : List ℕ)
+    → yaml.IsBehindDocument (AreBlockDocuments ds) o → ((ds ≡ []) × IsLastFiller o) ⊎ OpensMarker o
+opens_marker leaves ds o h = by_first (marks_first (AreBlockDocuments ds) o h)
+  where
+    by_first : yaml.IsBehindMarks (AreBlockDocuments ds) o
+        ⊎ ((filler rest : List ℕ) × IsFiller filler × (o ≡ filler ++ (byte_order_mark ∷ rest)))
+        → ((ds ≡ []) × IsLastFiller o) ⊎ OpensMarker o
+    by_first (inl k) = opens_unmarked leaves ds o k
+    by_first (inr (filler, rest, filler_is, e)) =
+        inr (record {
+          filler = filler;
+          filler_is = filler_is;
+          first = 65279;
+          others = rest;
+          stops = (refl, refl, refl);
+          ends = inr refl;
+          is = e;
+        })
+
+-- so it is the text's end, or ends the document's content
 pub lands_behind : {limit : ℕ} → ReadsLeaves limit → (ds : Forest) (o : List ℕ)
     → yaml.IsBehindDocument (AreBlockDocuments ds) o → (m : Marker) → AtLine o m → Lands m o
 lands_behind leaves ds o h m line = by_first (opens_marker leaves ds o h)

@@ -3,7 +3,6 @@ use Rattle.std.proofs.Common.{◌≡◌, ℕ, ◌+◌, ◌≤◌, Bool, true, fa
 use Rattle.std.specs.Prelude.{◌||◌, ◌&&◌, ◌==◌, nat_le, Option, None}
 use Rattle.std.proofs.lemmas.Bool.Decides.{nat_tests}
 use Rattle.saphyr_input.specs.Classes.{is_blank, is_break, is_yaml_non_break, line_feed, carriage_return}
-use Rattle.saphyr_input.specs.Places.{is_document_start}
 use Rattle.saphyr_scalar.specs.declared.scalar.position.Marker.{Marker}
 use Rattle.saphyr_scalar.specs.Views.Cursor.{◌>>=◌, along, next_line}
 use Rattle.saphyr_scanner.specs.Steps.Core.{is_too_far}
@@ -25,7 +24,7 @@ use Rattle.yaml_laws.proofs.Documents.Stands.{AtLine, Lined, OffLine, StandsInSt
 use Rattle.yaml_laws.proofs.InBlock.States.{Moment, root, moment_at, state_of, tabbed, tabbed_comment, crosses, IsStop, is_compact, IsPlaced, Before}
 use Rattle.yaml_laws.proofs.InBlock.Gaps.{past_stops}
 use Rattle.yaml_laws.proofs.InBlock.Follows.{goes_alike, left_key, left_again, lands as land, arrives_at, stays_open}
-use Rattle.yaml_laws.proofs.InBlock.Closing.{marker_here, marked_alike, stream_ends}
+use Rattle.yaml_laws.proofs.InBlock.Closing.{ended_alike, stream_ends}
 use Rattle.yaml_laws.proofs.InBlock.Lines.{FitsOnLines, moved_lined}
 use Rattle.yaml_laws.proofs.InBlock.Statements.{EndsNodeAt, EndsWithLine, AreRead, ReadsLeaves}
 use Rattle.yaml_laws.proofs.InBlock.Texts.{node_ends}
@@ -111,11 +110,7 @@ flat_here m y blank key a ad deeper ps (inl e) =
     ≡ fetch_here (state_of root (moment_at m z blank key a ad false) ps)) (sym e)
     (stream_ends root m blank key a ad deeper ps ∙ sym (stream_ends root m blank key a ad false ps))
 flat_here m y blank key a ad deeper ps (inr h) =
-    let start = is_document_start y in
-    marker_here root m y blank key a ad deeper ps start refl h.0 h.1
-    ∙ marked_alike start m (state_of root (moment_at m y blank key a ad deeper) ps)
-    (state_of root (moment_at m y blank key a ad false) ps) refl refl (flat_ends m y blank key a ad deeper ps)
-    ∙ sym (marker_here root m y blank key a ad false ps start refl h.0 h.1)
+    ended_alike root root m y blank key a ad deeper false ps ps h.0 h.1 (flat_ends m y blank key a ad deeper ps)
   where
     flat_ends : (m : Marker) (y : List ℕ) (blank : Bool) (key : Option Candidate) (a : Bool) (ad : ℕ) (deeper : Bool)
         (ps : List Place)

@@ -1,5 +1,5 @@
 -- Behind a document marker nothing that was read may yet be a key, so all tokens up to its own are handed out.
-use Rattle.std.proofs.Common.{◌≡◌, ℕ, ◌+◌, ◌≤◌, Bool, true, false, List, [], ◌∷◌, ◌++◌, length, slice_index, Ok, refl, ap, ◌∙◌, arith, inr}
+use Rattle.std.proofs.Common.{◌≡◌, ℕ, ◌+◌, ◌≤◌, Bool, true, false, List, [], ◌∷◌, ◌++◌, length, slice_index, Ok, refl, ap, ◌∙◌, arith, inl, inr}
 use Rattle.std.proofs.lemmas.List.{length-append}
 use Rattle.std.specs.Prelude.{Option, None}
 use Rattle.saphyr_input.specs.Indicators.{full_stop, hyphen}
@@ -75,7 +75,7 @@ pub hands_start : {limit : ℕ} {start : State} {free opened : Bool} {ts : List 
     → Handed limit start (ts ++ tokens.DocumentStart ∷ [])
 hands_start {limit = limit} r v h =
     let col = at_line (45 ∷ 45 ∷ 45 ∷ r) v.mark v.line.0 (cons_not_empty 45 (45 ∷ 45 ∷ r)) in
-    hands_token v refl (inr (col, start_ends r h)) (cursor_at r (along v.mark 3) false)
+    hands_token v refl (inr (col, inl (start_ends r h))) (cursor_at r (along v.mark 3) false)
     (piece_of v.mark (along v.mark 3) tokens.DocumentStart)
     (λ blank key allowed ad ps. start_here v.mark blank r key allowed ad ps col h)
     (front_low (v.mark.index + 3) (length r) limit (start_count v.mark r limit v.count))
@@ -92,7 +92,7 @@ hands_end {limit = limit} end o v h =
     let first = eol_first (along v.mark 3) r o e in
     let sep = separates_rest (cursor_at r (along v.mark 3) false) e.rest e.more e.is e.line e.break in
     let n = moved (along v.mark 3) e.rest in
-    hands_token v refl (inr (col, end_ends r first)) (cursor_at e.more n false)
+    hands_token v refl (inr (col, inl (end_ends r first))) (cursor_at e.more n false)
     (piece_of v.mark (along v.mark 3) tokens.DocumentEnd)
     (λ blank key allowed ad ps. end_here v.mark n blank r e.more sep.0 key allowed ad ps col first sep.1
     (break_ends e.more e.break))

@@ -1,177 +1,37 @@
 -- The documents of a text are read up to a document marker at a line's start, whatever text follows theirs.
-use Rattle.std.proofs.Common.{◌≡◌, ℕ, Bool, true, false, List, [], ◌∷◌, ◌++◌, slice_index, IsTrue, refl, sym, ap, ◌∙◌, subst, append_assoc, ◌⊎◌, inl, inr}
-use Rattle.std.specs.Prelude.{map, ◌==◌}
+use Rattle.std.proofs.Common.{◌≡◌, ℕ, Bool, true, false, List, [], ◌∷◌, ◌++◌, refl, sym, ap, ◌∙◌, subst, append_assoc, ◌⊎◌, inl, inr}
+use Rattle.std.specs.Prelude.{◌==◌}
 use Rattle.saphyr_input.specs.Indicators.{full_stop, hyphen}
-use Rattle.saphyr_input.specs.Classes.{byte_order_mark, is_blank_or_breakz, line_feed}
-use Rattle.saphyr_input.specs.Places.{is_document_indicator}
-use Rattle.scalar_laws.specs.Spelling.Spaces.{IsFiller, IsLastFiller, IsEol}
+use Rattle.saphyr_input.specs.Classes.{line_feed}
+use Rattle.scalar_laws.specs.Spelling.Spaces.{IsFiller, IsLastFiller, IsEol, AreEach, joined_pieces}
 use Rattle.scalar_laws.proofs.Beginnings.{front_in, back_in}
-use Rattle.saphyr_scanner.specs.Grammar.Forest.{Document, Forest, AreCompatible}
+use Rattle.saphyr_scanner.specs.Grammar.Forest.{Document, Forest}
 use Rattle.saphyr_scanner.specs.Limits.{most_open}
 use Rattle.saphyr_scanner.specs.Steps.State.{State}
 use Rattle.saphyr_scanner.specs.Grammar.Tokens as tokens
-use Rattle.saphyr_scanner.specs.Grammar.Tokens.{Kind, directive_token}
+use Rattle.saphyr_scanner.specs.Grammar.Tokens.{Kind}
 use Rattle.saphyr_scanner.specs.Grammar.TokenGrammar as grammar
-use Rattle.saphyr_scanner.specs.Grammar.TokenGrammar.{AreEndsAndMarks}
 use Rattle.yaml_laws.specs.Grammar.BlockNodes.{BehindMarker, AtStart, IsBlockNode}
-use Rattle.yaml_laws.specs.Grammar.ClosedTexts.{DocumentMarker, Starts, Ends, marker_text, marker_token}
+use Rattle.yaml_laws.specs.Grammar.ClosedTexts.{DocumentMarker, Starts, Ends, marker_text}
 use Rattle.yaml_laws.specs.Grammar.Yaml as yaml
 use Rattle.yaml_laws.specs.Grammar.Yaml.{IsDocumentPrefix, no_prefix, mark_prefix, end_prefix}
 use Rattle.yaml_laws.proofs.Flow.States.{marks_line, ReaderPromises}
 use Rattle.yaml_laws.proofs.Documents.Lines.{passes_filler}
-use Rattle.yaml_laws.proofs.Documents.Markers.{start_ends, end_ends, reads_end, reads_mark}
-use Rattle.yaml_laws.proofs.Documents.Stands.{Lined, StandsInStream}
+use Rattle.yaml_laws.proofs.Documents.Markers.{reads_mark}
+use Rattle.yaml_laws.proofs.Documents.Stands.{Lined, StandsInStream, unfree}
 use Rattle.yaml_laws.proofs.InBlock.Skips.{filler_skipped}
 use Rattle.yaml_laws.proofs.InBlock.LineStarts.{opens_line, HasLine, behind_piece, no_line, skipped_unmarked, last_unmarked, end_unmarked, mark_unmarked}
-use Rattle.yaml_laws.proofs.InBlock.FurtherScalars.{EndsFed, fed_front, fed_behind, same_marker}
-use Rattle.yaml_laws.proofs.InBlock.Further.{end_further, IsTokenAhead, document_further}
+use Rattle.yaml_laws.proofs.InBlock.FurtherScalars.{EndsFed, fed_behind, content_ends_further}
+use Rattle.yaml_laws.proofs.InBlock.Further.{IsTokenAhead, document_further}
 use Rattle.yaml_laws.proofs.InBlock.TabsAhead.{TellsTabs, tells_filler, tells_token, has_token, token_filler, token_here}
 use Rattle.yaml_laws.proofs.InBlock.Statements.{ReadsLeaves}
 use Rattle.yaml_laws.proofs.InBlock.Texts.{node_ends}
-use Rattle.yaml_laws.proofs.InBlock.Documents.Ends.{AreBlockDocuments, HasNoReturn, OpensMarker, opens_marker, lands_marked, plain_marked, suffix_text}
+use Rattle.yaml_laws.proofs.InBlock.Documents.Ends.{AreBlockDocuments, HasNoReturn, OpensMarker, opens_marker, lands_marked, plain_marked, suffix_text, marks_text}
 use Rattle.yaml_laws.proofs.InBlock.Documents.Nodes.{node_marks}
 use Rattle.yaml_laws.proofs.InBlock.Documents.{text_of_document, reads_front, reads_document}
 use Rattle.yaml_laws.proofs.InBlock.Documents.DirectiveLines.{directives_unmarked}
-use Rattle.yaml_laws.proofs.InBlock.HandedMarkers.{Handed}
-
--- ## Tokens up to a marker's
-
--- The scanner has handed out these tokens and others, up to and with a marker's own. Were the stream's end the next
--- token, Told would hold of the others.
-pub record Closes (limit : ℕ) (start : State) (marker : DocumentMarker) (Told : List Kind → Type 0) (ts : List Kind) :
-    Type 0 where
-  pub earlier : List Kind
-  pub told : Told (earlier ++ marker_token marker ∷ tokens.StreamEnd ∷ [])
-  pub handed : Handed limit start (ts ++ (earlier ++ marker_token marker ∷ []))
-
--- with further tokens in front
-pub closes_on : {limit : ℕ} {start : State} {marker : DocumentMarker} {Told Whole : List Kind → Type 0}
-    (ts us : List Kind) → ((others : List Kind) → Told others → Whole (us ++ others))
-    → Closes limit start marker Told (ts ++ us)
-    → Closes limit start marker Whole ts
-closes_on {limit = limit} {start = start} {marker = marker} {Told = Told} {Whole = Whole} ts us each c =
-    record {
-      earlier = us ++ c.earlier;
-      told = subst Whole (sym (append_assoc us c.earlier (marker_token marker ∷ tokens.StreamEnd ∷ [])))
-          (each (c.earlier ++ marker_token marker ∷ tokens.StreamEnd ∷ []) c.told);
-      handed = subst (Handed limit start)
-          (append_assoc ts us (c.earlier ++ marker_token marker ∷ [])
-          ∙ ap (λ (x : List Kind). ts ++ x) (sym (append_assoc us c.earlier (marker_token marker ∷ [])))) c.handed;
-    }
-
--- with another clause
-closes_as : {limit : ℕ} {start : State} {marker : DocumentMarker} {Told Whole : List Kind → Type 0} {ts : List Kind}
-    → ((others : List Kind) → Told others → Whole others) → Closes limit start marker Told ts
-    → Closes limit start marker Whole ts
-closes_as {marker = marker} each c = record {
-  earlier = c.earlier;
-  told = each (c.earlier ++ marker_token marker ∷ tokens.StreamEnd ∷ []) c.told;
-  handed = c.handed;
-}
-
--- ends of documents and byte order marks, and documents behind them
-abbrev pub YieldsAhead : Forest → List Kind → Type 0
-YieldsAhead ds t = (marks others : List Kind) × AreEndsAndMarks marks × grammar.YieldDocuments ds true others
-    × (t ≡ marks ++ others)
-
--- the same from an end of a document on
-abbrev pub YieldsEnd : Forest → List Kind → Type 0
-YieldsEnd ds t = (others : List Kind) × YieldsAhead ds others × (t ≡ tokens.DocumentEnd ∷ others)
-
-one_more : (ds : Forest) (k : Kind) (t : List Kind) → (k ≡ tokens.DocumentEnd) ⊎ (k ≡ tokens.ByteOrderMark)
-    → YieldsAhead ds t
-    → YieldsAhead ds (k ∷ t)
-one_more ds k t is (marks, others, are, told, e) =
-    (k ∷ marks, others, (is, are), told, ap (λ (x : List Kind). k ∷ x) e)
-
-end_ahead : (ds : Forest) (t : List Kind) → YieldsEnd ds t → YieldsAhead ds t
-end_ahead ds t (others, ahead, e) =
-    subst (YieldsAhead ds) (sym e) (one_more ds tokens.DocumentEnd others (inl refl) ahead)
-
-end_behind : (ds : Forest) (t : List Kind) → YieldsEnd ds t
-    → grammar.YieldsBehindDocument (grammar.YieldDocuments ds) t
-end_behind ds t (all, (marks, others, are, told, same), e) = (
-  [],
-  tokens.DocumentEnd ∷ marks,
-  others,
-  tt,
-  inr (marks, are, refl, told),
-  e ∙ ap (λ (x : List Kind). tokens.DocumentEnd ∷ x) same,
-)
-
--- ## The marker
-
--- what stands behind a marker: a blank or a break first, and a break last
-pub record IsMarkerRest (r : List ℕ) : Type 0 where
-  pub first : is_blank_or_breakz (slice_index r 0) ≡ true
-  pub fed : EndsFed r
-
-marker_is_indicator : (w : DocumentMarker) (r : List ℕ) → IsMarkerRest r
-    → IsTrue (is_document_indicator (marker_text w ++ r))
-marker_is_indicator Starts r h = start_ends r h.first
-marker_is_indicator Ends r h = end_ends r h.first
-
-dash_or_dot : (cs ds : List ℕ) → hyphen ∷ cs ≡ full_stop ∷ ds → ⊥
-dash_or_dot cs ds e = let k : true ≡ false = ap (λ (x : List ℕ). slice_index x 0 == 45) e in cc
-
--- What is to be shown where the marker is that of a document, or one behind a document. Its rest is r, and `more`
--- follows.
-abbrev pub StartsHere : ℕ → State → DocumentMarker → List ℕ → List ℕ → Type 0
-StartsHere limit start marker more r =
-    (d : Document) (ds : Forest) (free now opened : Bool) (node others : List ℕ) (ts : List Kind)
-    → IsTrue free ⊎ (d.directives ≡ []) → d.explicit ≡ true → AreCompatible d.directives
-    → IsBlockNode most_open d.node BehindMarker node others → yaml.IsBehindDocument (AreBlockDocuments ds) others
-    → node ++ others ≡ r
-    → StandsInStream limit start now (Lined opened (45 ∷ 45 ∷ 45 ∷ (r ++ more))) (45 ∷ 45 ∷ 45 ∷ (r ++ more))
-    (ts ++ map directive_token d.directives)
-    → Closes limit start marker (grammar.YieldDocuments (d ∷ ds) free) ts
-
-abbrev pub EndsHere : ℕ → State → DocumentMarker → List ℕ → List ℕ → Type 0
-EndsHere limit start marker more r =
-    (ds : Forest) (free opened : Bool) (end prefix others : List ℕ) (ts : List Kind) → IsEol end (prefix ++ others)
-    → IsDocumentPrefix prefix others → AreBlockDocuments ds true others → HasNoReturn others
-    → end ++ (prefix ++ others) ≡ r
-    → StandsInStream limit start free (Lined opened (46 ∷ 46 ∷ 46 ∷ (r ++ more))) (46 ∷ 46 ∷ 46 ∷ (r ++ more)) ts
-    → Closes limit start marker (YieldsEnd ds) ts
-
-abbrev pub Found : ℕ → State → DocumentMarker → List ℕ → DocumentMarker → List ℕ → Type 0
-Found limit start marker more Starts r = StartsHere limit start marker more r
-Found limit start marker more Ends r = EndsHere limit start marker more r
-
--- behind this text stands the marker
-abbrev Marked : DocumentMarker → List ℕ → List ℕ → Type 0
-Marked w r t = HasLine t (marker_text w ++ r)
-
-marked_fed : (w : DocumentMarker) (r t : List ℕ) → IsMarkerRest r → Marked w r t → EndsFed t
-marked_fed w r t h l = subst EndsFed (sym l.is)
-    (fed_front l.front (marker_text w ++ r) (fed_front (marker_text w) r h.fed))
-
--- ## A `...` line and a byte order mark are passed
-
--- Behind a `...` line the scanner goes on with what may stand before documents.
-pub passes_end : {limit : ℕ} {start : State} {marker : DocumentMarker} {free opened : Bool} (ds : Forest)
-    (end o more : List ℕ) (ts : List Kind) → IsEol end o → EndsFed o
-    → StandsInStream limit start free
-    (Lined opened (full_stop ∷ full_stop ∷ full_stop ∷ (end ++ (o ++ more))))
-    (full_stop ∷ full_stop ∷ full_stop ∷ (end ++ (o ++ more))) ts
-    → ((us : List Kind) → StandsInStream limit start true (Lined true (o ++ more)) (o ++ more) us
-    → Closes limit start marker (YieldsAhead ds) us)
-    → Closes limit start marker (YieldsEnd ds) ts
-passes_end ds end o more ts end_is fed v go =
-    closes_on ts (tokens.DocumentEnd ∷ []) (λ all told. (all, told, refl))
-    (go (ts ++ tokens.DocumentEnd ∷ []) (reads_end end (o ++ more) v (end_further more end o fed end_is)))
-
--- behind filler and a byte order mark
-pub passes_mark : {limit : ℕ} {start : State} {marker : DocumentMarker} (ds : Forest) (filler o : List ℕ)
-    (ts : List Kind) → IsFiller filler
-    → StandsInStream limit start true (Lined true (filler ++ (byte_order_mark ∷ o))) (filler ++ (byte_order_mark ∷ o))
-    ts
-    → ((us : List Kind) → StandsInStream limit start true (Lined true o) o us
-    → Closes limit start marker (YieldsAhead ds) us)
-    → Closes limit start marker (YieldsAhead ds) ts
-passes_mark ds filler o ts is v go =
-    closes_on ts (tokens.ByteOrderMark ∷ []) (λ all told. one_more ds tokens.ByteOrderMark all (inr refl) told)
-    (go (ts ++ tokens.ByteOrderMark ∷ []) (reads_mark o (passes_filler filler (65279 ∷ o) is v)))
+use Rattle.yaml_laws.proofs.InBlock.Streams.{mark_told}
+use Rattle.yaml_laws.proofs.InBlock.Markers.AtMarkers.{Closes, closes_on, closes_as, YieldsAhead, YieldsEnd, end_ahead, end_behind, IsMarkerRest, marker_is_indicator, dash_or_dot, Found, Marked, marked_fed, passes_end, passes_mark}
 
 -- ## A document is passed
 
@@ -183,8 +43,8 @@ opens_marker_still o more fed k =
       filler_is = k.filler_is;
       first = k.first;
       others = k.others ++ more;
-      ink = k.ink;
-      marker = same_marker (k.first ∷ k.others) more ends ∙ k.marker;
+      stops = k.stops;
+      ends = content_ends_further more (k.first ∷ k.others) ends k.ends;
       is = ap (λ (x : List ℕ). x ++ more) k.is ∙ append_assoc k.filler (k.first ∷ k.others) more;
     }
 
@@ -192,12 +52,12 @@ opens_marker_still o more fed k =
 tells_marked : (o more : List ℕ) → OpensMarker o → TellsTabs more o
 tells_marked o more k =
     subst (TellsTabs more) (sym k.is)
-    (tells_filler k.filler (k.first ∷ k.others) more k.filler_is (tells_token k.first k.others more k.ink))
+    (tells_filler k.filler (k.first ∷ k.others) more k.filler_is (tells_token k.first k.others more k.stops))
 
 token_marked : (o : List ℕ) → OpensMarker o → has_token false o ≡ true
 token_marked o k =
     subst (λ (x : List ℕ). has_token false x ≡ true) (sym k.is)
-    (token_filler k.filler (k.first ∷ k.others) k.filler_is (token_here k.first k.others k.ink))
+    (token_filler k.filler (k.first ∷ k.others) k.filler_is (token_here k.first k.others k.stops))
 
 closes_beyond : {limit : ℕ} {start : State} {marker : DocumentMarker} → ReaderPromises → ReadsLeaves limit
     → (w : DocumentMarker) (r more : List ℕ) → IsMarkerRest r
@@ -220,7 +80,7 @@ closes_beyond readers leaves w r more rest d ds free document others ts is behin
     } in
     let n = reads_document readers leaves d free document (others ++ more) ts
     (document_further more leaves d free document others ahead is) (lands_marked (others ++ more) k)
-    (plain_marked k.filler k.first k.others (others ++ more) k.filler_is k.is k.ink) clean v in
+    (plain_marked k.filler k.first k.others (others ++ more) k.filler_is k.is k.stops) clean v in
     closes_on ts n.tokens (λ all told. (n.tokens, all, n.are, told, refl)) (go (ts ++ n.tokens) n.stands)
   where
     opens : ((ds ≡ []) × IsLastFiller others) ⊎ OpensMarker others → OpensMarker others
@@ -380,17 +240,17 @@ closes_prefix {limit = limit} {start = start} w r more rest found ds go _ _ ts
 
 -- ## Documents
 
-closes_behind : {limit : ℕ} {start : State} {marker : DocumentMarker} (w : DocumentMarker) (r more : List ℕ)
+closes_unmarked : {limit : ℕ} {start : State} {marker : DocumentMarker} (w : DocumentMarker) (r more : List ℕ)
     → IsMarkerRest r → Found limit start marker more w r → (ds : Forest)
     → ((free : Bool) (t : List ℕ) (ts : List Kind) → AreBlockDocuments ds free t → HasNoReturn t
     → StandsInStream limit start free (Lined free (t ++ more)) (t ++ more) ts → Marked w r t
     → Closes limit start marker (grammar.YieldDocuments ds free) ts)
-    → (o : List ℕ) (ts : List Kind) → yaml.IsBehindDocument (AreBlockDocuments ds) o → HasNoReturn o
+    → (o : List ℕ) (ts : List Kind) → yaml.IsBehindMarks (AreBlockDocuments ds) o → HasNoReturn o
     → StandsInStream limit start false (Lined false (o ++ more)) (o ++ more) ts → Marked w r o
     → Closes limit start marker (grammar.YieldsBehindDocument (grammar.YieldDocuments ds)) ts
-closes_behind w r more rest found ds go o ts (inl h) clean v line =
+closes_unmarked w r more rest found ds go o ts (inl h) clean v line =
     closes_as (λ all told. ([], [], all, tt, inl (refl, told), refl)) (go false o ts h clean v line)
-closes_behind {limit = limit} {start = start} {marker = marker} w r more rest found ds go o ts
+closes_unmarked {limit = limit} {start = start} {marker = marker} w r more rest found ds go o ts
     (inr (suffix, others, (filler, end, prefix, filler_is, end_is, prefix_is, e), h, is)) clean v line =
     let text : o ≡ filler ++ (46 ∷ 46 ∷ 46 ∷ (end ++ (prefix ++ others))) =
     is ∙ ap (λ (x : List ℕ). x ++ others) e ∙ suffix_text filler end prefix others in
@@ -400,6 +260,49 @@ closes_behind {limit = limit} {start = start} {marker = marker} w r more rest fo
     (subst (λ (x : List ℕ). StandsInStream limit start false (Lined false (x ++ more)) (x ++ more) ts) text v)
     (subst (Marked w r) text line)
     (λ l us s. closes_prefix w r more rest found ds (go true) prefix others us prefix_is h left s l))
+
+-- the marker stands behind a document's byte order marks
+closes_marked : {limit : ℕ} {start : State} {marker : DocumentMarker} (w : DocumentMarker) (r more : List ℕ)
+    → IsMarkerRest r → Found limit start marker more w r → (ds : Forest)
+    → ((free : Bool) (t : List ℕ) (ts : List Kind) → AreBlockDocuments ds free t → HasNoReturn t
+    → StandsInStream limit start free (Lined free (t ++ more)) (t ++ more) ts → Marked w r t
+    → Closes limit start marker (grammar.YieldDocuments ds free) ts)
+    → (pieces : List (List ℕ)) (o : List ℕ) (ts : List Kind) → AreEach yaml.IsMarkBehindFiller pieces
+    → yaml.IsBehindMarks (AreBlockDocuments ds) o → HasNoReturn o
+    → StandsInStream limit start false (Lined false ((joined_pieces pieces ++ o) ++ more))
+    ((joined_pieces pieces ++ o) ++ more) ts
+    → Marked w r (joined_pieces pieces ++ o)
+    → Closes limit start marker (grammar.YieldsBehindDocument (grammar.YieldDocuments ds)) ts
+closes_marked w r more rest found ds go [] o ts each h clean v line =
+    closes_unmarked w r more rest found ds go o ts h clean v line
+closes_marked {limit = limit} {start = start} w r more rest found ds go (piece ∷ pieces) o ts
+    ((filler, filler_is, is), each) h clean v line =
+    let left = joined_pieces pieces ++ o in
+    let text = marks_text piece filler (joined_pieces pieces) o is in
+    let l = behind_piece true (filler ++ (65279 ∷ [])) left line.front (marker_text w ++ r)
+    (append_assoc filler (65279 ∷ []) left ∙ sym text ∙ line.is) (mark_unmarked filler filler_is true left) line.line
+    (marker_is_indicator w r rest) in
+    let first = passes_filler filler (65279 ∷ (left ++ more)) filler_is
+    (subst (λ (x : List ℕ). StandsInStream limit start false (Lined false x) x ts)
+    (ap (λ (x : List ℕ). x ++ more) text ∙ append_assoc filler (65279 ∷ left) more) v) in
+    closes_on ts (tokens.ByteOrderMark ∷ []) (mark_told (grammar.YieldDocuments ds))
+    (closes_marked w r more rest found ds go pieces o (ts ++ tokens.ByteOrderMark ∷ []) each h clean
+    (unfree (reads_mark (left ++ more) first)) l)
+
+closes_behind : {limit : ℕ} {start : State} {marker : DocumentMarker} (w : DocumentMarker) (r more : List ℕ)
+    → IsMarkerRest r → Found limit start marker more w r → (ds : Forest)
+    → ((free : Bool) (t : List ℕ) (ts : List Kind) → AreBlockDocuments ds free t → HasNoReturn t
+    → StandsInStream limit start free (Lined free (t ++ more)) (t ++ more) ts → Marked w r t
+    → Closes limit start marker (grammar.YieldDocuments ds free) ts)
+    → (o : List ℕ) (ts : List Kind) → yaml.IsBehindDocument (AreBlockDocuments ds) o → HasNoReturn o
+    → StandsInStream limit start false (Lined false (o ++ more)) (o ++ more) ts → Marked w r o
+    → Closes limit start marker (grammar.YieldsBehindDocument (grammar.YieldDocuments ds)) ts
+closes_behind {limit = limit} {start = start} w r more rest found ds go o ts
+    (marks, others, (pieces, each, joins), h, e) clean v line =
+    let text = e ∙ ap (λ (x : List ℕ). x ++ others) joins in
+    closes_marked w r more rest found ds go pieces others ts each h (back_in _ marks others (subst HasNoReturn e clean))
+    (subst (λ (x : List ℕ). StandsInStream limit start false (Lined false (x ++ more)) (x ++ more) ts) text v)
+    (subst (Marked w r) text line)
 
 -- The marker stands at a line's start of the documents' text: up to it they are read, and there what is to be shown is.
 closes_documents : {limit : ℕ} {start : State} {marker : DocumentMarker} → ReaderPromises → ReadsLeaves limit
