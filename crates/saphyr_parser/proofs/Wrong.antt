@@ -6,6 +6,7 @@ pub mod Starts
 pub mod Refused
 pub mod Stretches
 pub mod Tags
+pub mod OneBracket
 pub mod Brackets
 pub mod Prefixes
 pub mod Handles
@@ -19,3 +20,7 @@ pub mod Lines
 pub mod FirstCharacters
 pub mod FlowColons
 pub mod OwnLines
+pub mod CollectionCount
+pub mod LoneIndicators
+pub mod Indicators
+pub mod Sequences

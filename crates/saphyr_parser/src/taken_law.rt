@@ -1,5 +1,5 @@
 //! What is true of each answer that is taken from a text, and wrong answers that are not.
-ghost use Rattle.std.specs.Prelude.{◌≡◌, [], Bool, IsFalse, List, None, codes, length, ℕ};
+ghost use Rattle.std.specs.Prelude.{◌≡◌, [], Bool, IsFalse, IsTrue, List, None, codes, length, ℕ};
 ghost use Rattle.std.specs.List.{All, list_any};
 ghost use Rattle.saphyr_input.specs.Classes.{is_one_of};
 ghost use Rattle.saphyr_scalar.specs.declared.scalar.position.Span.{Span};
@@ -12,7 +12,14 @@ ghost use Rattle.saphyr_parser.specs.Examples.WrongAnswers as wrong;
 ghost use Rattle.saphyr_parser.specs.Examples.WrongAnswers.{BeginsWithInk, EndsWithStreamEnd};
 ghost use Rattle.saphyr_parser.specs.Examples.WrongMappings as mapping;
 ghost use Rattle.saphyr_parser.specs.Examples.WrongPlaces as place;
-ghost use Rattle.saphyr_parser.specs.Examples.WrongMappings.{BeginsMappingBefore, IsNoMapping};
+ghost use Rattle.saphyr_parser.specs.Examples.WrongMappings.{
+  BeginsMappingBefore,
+  IsNoMapping,
+  IsNoSequence,
+  StandAtColumns,
+  has_only_indicators,
+  marks_sequence,
+};
 
 /// The end of the stream is the last event, and no other is; where a fault ends the events, none is.
 pub fn ends_with_stream_end()
@@ -76,6 +83,14 @@ pub fn marks_mappings()
         → All (λ (e : Happening × Span). IsNoMapping e.0) a.events }
 {}
 
+/// A sequence has a `[` in its text, or a `-` that a blank, a break, NUL or the end follows: where a text has none of
+/// these, and no fault ends the events, no sequence is among them.
+pub fn marks_sequences()
+    ensures { (keep : Bool) (text : List ℕ) (a : Answer) → AreTaken keep text a
+        → a.fault ≡ None → IsFalse (marks_sequence text)
+        → All (λ (e : Happening × Span). IsNoSequence e.0) a.events }
+{}
+
 /// A mapping begins before the end of the text, where no fault ends the events.
 pub fn begins_mappings_inside()
     ensures { (keep : Bool) (text : List ℕ) (a : Answer) → AreTaken keep text a
@@ -83,8 +98,17 @@ pub fn begins_mappings_inside()
         → All (λ (e : Happening × Span). BeginsMappingBefore (length text) e.0 e.1) a.events }
 {}
 
+/// In a text of nothing but blanks, line feeds, and `-`, `?` and `:` that a blank, a line feed or the end follows,
+/// these stand at the columns of collections: where no fault ends the events, at no more than so many as begin among
+/// them.
+pub fn begins_collections_at_columns()
+    ensures { (keep : Bool) (text : List ℕ) (a : Answer) → AreTaken keep text a
+        → a.fault ≡ None → IsTrue (has_only_indicators text) → StandAtColumns text a.events }
+{}
+
 /// So no mapping is taken from `{a`, as if the brace were closed, from `a`, as if it were a key, or from `[a]`, as if
-/// it were a pair; nor from `:` an empty one for its value.
+/// it were a pair; nor from `:` an empty one for its value. From `: :` and `? :`, in which a mapping stands in another,
+/// no mapping is taken whose one key and value are empty, nor from `: :` one of two such pairs.
 pub fn takes_no_other_mappings()
     ensures open_brace { (keep : Bool) → ¬ AreTaken keep (codes "{a") mapping.open_brace }
     ensures key_without_colon { (keep : Bool) → ¬ AreTaken keep (codes "a")
@@ -92,13 +116,20 @@ pub fn takes_no_other_mappings()
     ensures pair_without_colon { (keep : Bool) → ¬ AreTaken keep (codes "[a]")
         mapping.pair_without_colon }
     ensures empty_mapping { (keep : Bool) → ¬ AreTaken keep (codes ":") mapping.empty_mapping }
+    ensures one_mapping { (keep : Bool) → ¬ AreTaken keep (codes ": :") mapping.one_pair }
+    ensures one_column { (keep : Bool) → ¬ AreTaken keep (codes ": :") mapping.two_pairs }
+    ensures lone_colon { (keep : Bool) → ¬ AreTaken keep (codes "? :") mapping.one_pair }
 {}
 
 /// Nothing stands where the standard has none of its kind: in `- a` LF `-` the second line is none of the scalar's,
-/// since it stands at the sequence's column; in `[:a]` the colon, which an `a` follows, parts no pair; and in `&c a: b`
-/// LF `: v` the anchor, on the line of the first key, is not the mapping's.
+/// since it stands at the sequence's column; in `-` LF ` -` the second `-`, at another column, begins no second entry;
+/// `-a` has no entry; in `[:a]` the colon, which an `a` follows, parts no pair; and in `&c a: b` LF `: v` the anchor,
+/// on the line of the first key, is not the mapping's.
 pub fn takes_no_other_places()
     ensures later_line { (keep : Bool) → ¬ AreTaken keep (codes "- a\n-") place.later_line }
+    ensures other_column { (keep : Bool) → ¬ AreTaken keep (codes "-\n -") place.two_entries }
+    ensures dash_without_blank { (keep : Bool) → ¬ AreTaken keep (codes "-a")
+        place.dash_without_blank }
     ensures colon_in_flow { (keep : Bool) → ¬ AreTaken keep (codes "[:a]") place.colon_in_flow }
     ensures other_anchor { (keep : Bool) → ¬ AreTaken keep (codes "&c a: b\n: v\n")
         place.other_anchor }

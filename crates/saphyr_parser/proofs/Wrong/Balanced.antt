@@ -18,7 +18,7 @@ closes a b tokens.FlowSequenceEnd = a
 closes a b tokens.FlowMappingEnd = b
 closes a b _ = 0
 
-abbrev pub total : (Kind → ℕ) → List Kind → ℕ
+abbrev pub total : {X : Type 0} → (X → ℕ) → List X → ℕ
 total f [] = 0
 total f (k ∷ ks) = f k + total f ks
 
@@ -30,7 +30,7 @@ AreClosed a b (k ∷ ks) = (total (opens a b) (k ∷ ks) ≤ total (closes a b) 
 abbrev pub AreBalanced : ℕ → ℕ → List Kind → Type 0
 AreBalanced a b t = (total (opens a b) t ≡ total (closes a b) t) × AreClosed a b t
 
-total_append : (f : Kind → ℕ) (s t : List Kind) → total f (s ++ t) ≡ total f s + total f t
+pub total_append : {X : Type 0} (f : X → ℕ) (s t : List X) → total f (s ++ t) ≡ total f s + total f t
 total_append f [] t = omega arith
 total_append f (k ∷ s) t = let more = total_append f s t in omega (arith, more)
 

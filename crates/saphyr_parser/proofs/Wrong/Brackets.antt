@@ -2,6 +2,7 @@
 use Rattle.std.proofs.Common.{◌≡◌, ℕ, ◌+◌, ◌≤◌, Bool, true, false, List, [], ◌∷◌, ◌++◌, None, refl, sym, ap, ◌∙◌, arith, subst, inl, inr, codes}
 use Rattle.std.specs.Prelude.{◌-◌, nat_lt, if◌then◌else◌, slice_index}
 use Rattle.std.proofs.lemmas.Bool.Decides.{nat_tests}
+use Rattle.saphyr_input.proofs.Basics.Numbers.{zero_below_next}
 use Rattle.saphyr_input.specs.Classes.{is_one_of}
 use Rattle.saphyr_scalar.specs.declared.scalar.position.Marker.{Marker}
 use Rattle.saphyr_scalar.specs.declared.scalar.position.Span.{Span}
@@ -15,26 +16,20 @@ use Rattle.saphyr_scanner.specs.TokensTaken as taken
 use Rattle.saphyr_scanner.specs.TokensTaken.{Collections, no_collections, surroundings_in, open_behind, with_brackets, HasNoText, IsToken, AreTokens}
 use Rattle.saphyr_scanner.proofs.Reached.{apart_reached}
 use Rattle.saphyr_scanner.proofs.Taken.Later.{apart_later, token_later, tokens_later}
-use Rattle.saphyr_scanner.proofs.Taken.Parts.{open_all, tokens_append}
+use Rattle.saphyr_scanner.proofs.Taken.Parts.{open_all}
 use Rattle.saphyr_scanner.proofs.Taken.Places.{Reaches, reaches_reaches, token_reached, tokens_reached}
 use Rattle.taken_laws.proofs.Wrong.Brackets.{comma_is_not_safe}
 use Rattle.taken_laws.proofs.Wrong.Standing.{at_index, has_character}
 use Rattle.saphyr_machine.specs.Events.{Happening, SequenceStart}
-use Rattle.saphyr_parser.specs.EventsTaken.{SpansAll, AreContentTokens, BeginsEntries, IsOf, AreTaken}
+use Rattle.saphyr_parser.specs.EventsTaken.{SpansAll, AreContentTokens, IsOf, AreTaken}
 use Rattle.saphyr_parser.specs.Examples.Forests.{plain_event}
 use Rattle.saphyr_parser.specs.Examples.WrongAnswers as wrong
 use Rattle.saphyr_parser.proofs.Wrong.Absent.{nowhere, without_text}
-use Rattle.saphyr_parser.proofs.Wrong.Stretches.{Stretch, AllStretch, stretches, alone, no_property, span_starts}
-
--- whether brackets are open
-abbrev pub in_flow : Collections → Bool
-in_flow opened = (surroundings_in opened).in_flow
+use Rattle.saphyr_parser.proofs.Wrong.OneBracket.{in_flow, behind_bracket}
+use Rattle.saphyr_parser.proofs.Wrong.Stretches.{Stretch, AllStretch, stretches, alone, span_starts}
 
 nothing_open : (n : ℕ) → nat_lt 0 n ≡ false → nat_lt 0 (n - 1) ≡ false
 nothing_open n e = grind (arith, nat_tests)
-
-pub some_open : (n : ℕ) → nat_lt 0 (n + 1) ≡ true
-some_open n = grind (arith, nat_tests)
 
 -- ## Texts without brackets
 
@@ -73,13 +68,13 @@ module _ (text : List ℕ) (no_bracket : has_character 91 text ≡ false) (no_br
 pub stays_inside : (opened : Collections) (kind : Kind) (span : Span) (s t : Cursor)
     → IsToken (surroundings_in opened) kind span s t
     → t.mark.index ≡ s.mark.index → in_flow opened ≡ true → in_flow (open_behind kind span opened) ≡ true
-stays_inside opened tokens.FlowSequenceStart span s t h e inside = some_open opened.brackets
+stays_inside opened tokens.FlowSequenceStart span s t h e inside = zero_below_next opened.brackets
 stays_inside opened tokens.FlowSequenceEnd span s t h e inside =
     absurd (let k = ap (λ (m : Marker). m.index) h.0.1 in omega (arith, e, k))
 stays_inside opened tokens.FlowMappingStart span s t h e inside = by (nat_lt span.start.index span.end.index)
   where
     by : (b : Bool) → in_flow (if b then with_brackets (opened.brackets + 1) opened else opened) ≡ true
-    by true = some_open opened.brackets
+    by true = zero_below_next opened.brackets
     by false = inside
 stays_inside opened tokens.FlowMappingEnd span s t (inl h) e inside =
     absurd (let k = ap (λ (m : Marker). m.index) h.0.1 in omega (arith, e, k))
@@ -173,82 +168,6 @@ literal_as_plain_is_not_taken keep t =
 abbrev list_text : List ℕ
 list_text = codes ": [a, b]\n"
 
--- behind the bracket's own token, where brackets are open
-record Inside (opened : Collections) (end : Cursor) : Type 0 where
-  inside : in_flow opened ≡ true
-  index : end.mark.index ≡ 3
-
-bracket_opens : (opened : Collections) (own : List Piece) (s u : Cursor) → Reaches (start_cursor list_text) s
-    → AreContentTokens tokens.FlowSequenceStart own → AreTokens opened own s u → SpansAll own wrong.bracket
-    → Inside (open_all own opened) u
-bracket_opens opened own s u r content h spans =
-    let lone = alone list_text 2 91 (codes "a, b]\n") refl (λ z. omega (arith, z))
-    (λ z. omega (arith, z)) _ opened own s u
-    wrong.bracket r content h spans refl in
-    let P : List Piece → Type 0 = λ l. AreTokens opened l s u in
-    let Q : List Piece → Type 0 = λ l. SpansAll l wrong.bracket in
-    subst (λ l. Inside (open_all l opened) u) (sym lone.2) (by lone.0 lone.1 (subst P lone.2 h) (subst Q lone.2 spans))
-  where
-    by : (p : Piece) → p.kind ≡ tokens.FlowSequenceStart → AreTokens opened (p ∷ []) s u
-        → SpansAll (p ∷ []) wrong.bracket → Inside (open_behind p.kind p.span opened) u
-    by p kind (here, behind, apart, is, end) spans =
-        let K : Kind → Type 0 = λ k. IsToken (surroundings_in opened) k p.span here behind in
-        let bracket = subst K kind is in
-        let index : 2 ≡ here.mark.index = ap (λ (m : Marker). m.index)
-        (span_starts p [] wrong.bracket spans ∙ bracket.1) in
-        let further = ap (λ (m : Marker). m.index) bracket.0.1 in
-        let there = ap (λ (c : Cursor). c.mark.index) end in
-        record {
-          inside = subst (λ k. in_flow (open_behind k p.span opened) ≡ true) (sym kind) (some_open opened.brackets);
-          index = omega (arith, index, further, there);
-        }
-
-no_block_start : (opened : Collections) (own : List Piece) (s u : Cursor) → Reaches (start_cursor list_text) s
-    → AreContentTokens tokens.BlockSequenceStart own → AreTokens opened own s u → SpansAll own wrong.bracket → ⊥
-no_block_start opened own s u r content h spans =
-    let lone = alone list_text 2 91 (codes "a, b]\n") refl (λ z. omega (arith, z))
-    (λ z. omega (arith, z)) _ opened own s u
-    wrong.bracket r content h spans refl in
-    let P : List Piece → Type 0 = λ l. AreTokens opened l s u in
-    let Q : List Piece → Type 0 = λ l. SpansAll l wrong.bracket in
-    by lone.0 lone.1 (subst P lone.2 h) (subst Q lone.2 spans)
-  where
-    by : (p : Piece) → p.kind ≡ tokens.BlockSequenceStart → AreTokens opened (p ∷ []) s u
-        → SpansAll (p ∷ []) wrong.bracket → ⊥
-    by p kind (here, behind, apart, is, end) spans =
-        let K : Kind → Type 0 = λ k. IsToken (surroundings_in opened) k p.span here behind in
-        let empty = ap (λ (m : Marker). m.index) (subst K kind is).0 in
-        let start = ap (λ (s : Span). s.start.index) spans in
-        let stop = ap (λ (s : Span). s.end.index) spans in
-        omega (arith, empty, start, stop)
-
-no_entries : (opened : Collections) (own others : List Piece) (s u last : Cursor) → Reaches (start_cursor list_text) s
-    → AreTokens opened own s u → AreTokens (open_all own opened) others u last
-    → BeginsEntries own wrong.bracket others → ⊥
-no_entries opened own [] s u last r h k none = none
-no_entries opened own (entry ∷ others) s u last r h (here, behind, apart, is, more) (kind, inl e, spans) =
-    let K : Kind → Type 0 = λ k. IsToken (surroundings_in (open_all own opened)) k entry.span here behind in
-    let Q : List Piece → Type 0 = λ l. SpansAll (l ++ entry ∷ []) wrong.bracket in
-    let own_span = subst Q e spans in
-    let empty = ap (λ (m : Marker). m.index) (subst K kind is).3 in
-    let start = ap (λ (s : Span). s.start.index) own_span in
-    let stop = ap (λ (s : Span). s.end.index) own_span in
-    omega (arith, empty, start, stop)
-no_entries opened own (entry ∷ others) s u last r h (here, behind, apart, is, more) (kind, inr are, spans) =
-    no_property list_text 2 91 (codes "a, b]\n") refl (λ z. omega (arith, z)) (λ z. omega (arith, z)) opened own
-    (entry ∷ []) s behind wrong.bracket r are
-    (tokens_append opened own (entry ∷ []) s u behind h (here, behind, apart, is, refl)) spans refl
-
-bracket_inside : (opened : Collections) (own others : List Piece) (s u last : Cursor)
-    → Reaches (start_cursor list_text) s → IsOf (SequenceStart 0 None) wrong.bracket own others
-    → AreTokens opened own s u → AreTokens (open_all own opened) others u last → Inside (open_all own opened) u
-bracket_inside opened own others s u last r (inl (inl content, spans)) h k =
-    bracket_opens opened own s u r content h spans
-bracket_inside opened own others s u last r (inl (inr content, spans)) h k =
-    absurd (no_block_start opened own s u r content h spans)
-bracket_inside opened own others s u last r (inr begins) h k =
-    absurd (no_entries opened own others s u last r h k begins)
-
 -- the entry's token, where brackets are open
 comma_refused : (opened : Collections) (own : List Piece) (s u : Cursor) → Reaches (start_cursor list_text) s
     → (s.mark.index ≡ 3 → in_flow opened ≡ true) → 3 ≤ s.mark.index
@@ -290,8 +209,8 @@ one_entry_is_not_taken keep t =
         (plain_event (codes "a, b")) wrong.both_entries
         → ⊥
     by {o = o} st scalar =
-        let inner = bracket_inside (open_all st.skipped o) st.own st.others st.start st.end st.last st.reached st.is
-        st.tokens st.rest in
+        let inner = behind_bracket list_text 2 (codes "a, b]\n") refl wrong.bracket refl refl 0 None
+        (open_all st.skipped o) st.own st.others st.start st.end st.last st.reached st.is st.tokens st.rest in
         let opened = open_all st.own (open_all st.skipped o) in
         let later = tokens_later opened scalar.skipped st.end scalar.start scalar.before in
         by_tokens scalar.own scalar.is scalar.tokens

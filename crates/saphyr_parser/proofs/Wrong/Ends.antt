@@ -66,27 +66,30 @@ abbrev NoEnds : List Happening → Type 0
 NoEnds [] = Unit {0}
 NoEnds (w ∷ ws) = IsNoStreamEnd w × NoEnds ws
 
-mapped : {X : Type 0} (o : Option X) (make : X → Happening) (w : Happening) → ((x : X) → IsNoStreamEnd (make x))
-    → option_map make o ≡ Some w → IsNoStreamEnd w
-mapped None make w h e = absurd (cc)
-mapped (Some x) make w h e = let same : make x ≡ w = cc in subst IsNoStreamEnd same (h x)
+-- what is true of the event that is made is true of it
+pub mapped : (P : Happening → Type 0) {X : Type 0} (o : Option X) (make : X → Happening) (w : Happening)
+    → ((x : X) → P (make x)) → option_map make o ≡ Some w → P w
+mapped P None make w h e = absurd (cc)
+mapped P (Some x) make w h e = let same : make x ≡ w = cc in subst P same (h x)
 
-is_event : (v w : Happening) → IsNoStreamEnd v → (let o : Option Happening = Some v in o ≡ Some w) → IsNoStreamEnd w
-is_event v w h e = let same : v ≡ w = cc in subst IsNoStreamEnd same h
+pub is_event : (P : Happening → Type 0) (v w : Happening) → P v
+    → (let o : Option Happening = Some v in o ≡ Some w) → P w
+is_event P v w h e = let same : v ≡ w = cc in subst P same h
 
 event_no_end : (keep : Bool) (front : List Part) (p : Part) (w : Happening) → IsInner p
     → event_of_part keep front p ≡ Some w
     → IsNoStreamEnd w
-event_no_end keep front OpenStream w i e = is_event events.StreamStart w tt e
+event_no_end keep front OpenStream w i e = is_event IsNoStreamEnd events.StreamStart w tt e
 event_no_end keep front CloseStream w i e = absurd i
-event_no_end keep front (OpenDocument explicit directives) w i e = is_event (events.DocumentStart explicit) w tt e
-event_no_end keep front CloseDocument w i e = is_event events.DocumentEnd w tt e
-event_no_end keep front (Reference name) w i e = mapped _ events.Alias w (λ x. tt) e
-event_no_end keep front (Leaf p style value) w i e = mapped _ _ w (λ x. tt) e
-event_no_end keep front (OpenSequence p) w i e = mapped _ _ w (λ x. tt) e
-event_no_end keep front CloseSequence w i e = is_event events.SequenceEnd w tt e
-event_no_end keep front (OpenMapping p) w i e = mapped _ _ w (λ x. tt) e
-event_no_end keep front CloseMapping w i e = is_event events.MappingEnd w tt e
+event_no_end keep front (OpenDocument explicit directives) w i e =
+    is_event IsNoStreamEnd (events.DocumentStart explicit) w tt e
+event_no_end keep front CloseDocument w i e = is_event IsNoStreamEnd events.DocumentEnd w tt e
+event_no_end keep front (Reference name) w i e = mapped IsNoStreamEnd _ events.Alias w (λ x. tt) e
+event_no_end keep front (Leaf p style value) w i e = mapped IsNoStreamEnd _ _ w (λ x. tt) e
+event_no_end keep front (OpenSequence p) w i e = mapped IsNoStreamEnd _ _ w (λ x. tt) e
+event_no_end keep front CloseSequence w i e = is_event IsNoStreamEnd events.SequenceEnd w tt e
+event_no_end keep front (OpenMapping p) w i e = mapped IsNoStreamEnd _ _ w (λ x. tt) e
+event_no_end keep front CloseMapping w i e = is_event IsNoStreamEnd events.MappingEnd w tt e
 
 -- events, of which the stream's end is the last, and no other is
 record Closes (es : List Happening) : Type 0 where

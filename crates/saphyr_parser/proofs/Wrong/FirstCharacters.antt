@@ -37,12 +37,12 @@ begins_token c = is_one_of (codes "%-.[]{},*&!") c || (c == byte_order_mark)
 no_start : (c d : ℕ) → begins_token c ≡ false → c ≡ d → begins_token d ≡ true → ⊥
 no_start c d none same is = let k : true ≡ false = sym is ∙ sym (ap begins_token same) ∙ none in cc
 
-directive_begins : (d : ReadDirective) (text : List ℕ) → IsReadDirective d text → slice_index text 0 ≡ 37
+pub directive_begins : (d : ReadDirective) (text : List ℕ) → IsReadDirective d text → slice_index text 0 ≡ 37
 directive_begins (version major minor) text h = ap (λ l. slice_index l 0) h.6
 directive_begins (tag_prefix handle prefix) text (h, p, is, front, back) = ap (λ l. slice_index l 0) is.8
 directive_begins (reserved name) text (n, is, e) = ap (λ l. slice_index l 0) is.7
 
-begins_with : (text rest more : List ℕ) (c : ℕ) → rest ≡ text ++ more → slice_index text 0 ≡ c → (c == 0) ≡ false
+pub begins_with : (text rest more : List ℕ) (c : ℕ) → rest ≡ text ++ more → slice_index text 0 ≡ c → (c == 0) ≡ false
     → slice_index rest 0 ≡ c
 begins_with [] rest more c is e some =
     absurd (let k : true ≡ false = ap (λ x. x == 0) e ∙ some in cc)

@@ -14,28 +14,26 @@ use Rattle.saphyr_scanner.specs.TokensTaken.{Collections, surroundings_in, open_
 use Rattle.saphyr_scanner.specs.Views.Tokens.{Piece}
 use Rattle.saphyr_scanner.proofs.Reached.{apart_reached}
 use Rattle.saphyr_scanner.proofs.Taken.Later.{apart_later, token_later}
-use Rattle.saphyr_scanner.proofs.Taken.Parts.{open_all, tokens_append}
-use Rattle.saphyr_scanner.proofs.Taken.Places.{Reaches, reaches_reaches, token_reached, tokens_reached}
+use Rattle.saphyr_scanner.proofs.Taken.Parts.{open_all}
+use Rattle.saphyr_scanner.proofs.Taken.Places.{reaches_reaches, token_reached}
 use Rattle.taken_laws.proofs.Wrong.Standing.{at_index}
 use Rattle.saphyr_machine.specs.Events.{Happening, SequenceStart, MappingStart}
-use Rattle.saphyr_parser.specs.EventsTaken.{ArePropertyTokens, SpansAll, AreContentTokens, BelongsToNone, BeginsEntries, IsAnchorKind, IsTagKind, IsOf, AreTaken}
+use Rattle.saphyr_parser.specs.EventsTaken.{ArePropertyTokens, SpansAll, AreContentTokens, BelongsToNone, IsAnchorKind, IsTagKind, IsOf, AreTaken}
 use Rattle.saphyr_parser.specs.Examples.Forests.{plain_event}
 use Rattle.saphyr_parser.specs.Examples.WrongPlaces as wrong
 use Rattle.saphyr_parser.proofs.Wrong.Absent.{without_text}
-use Rattle.saphyr_parser.proofs.Wrong.Brackets.{in_flow, some_open, stays_inside}
+use Rattle.saphyr_parser.proofs.Wrong.Brackets.{stays_inside}
 use Rattle.saphyr_parser.proofs.Wrong.FirstCharacters.{begins_token, stops_at, takes_nothing}
+use Rattle.saphyr_parser.proofs.Wrong.OneBracket.{BehindBracket, behind_bracket}
 use Rattle.saphyr_parser.proofs.Wrong.Owned.{content_end}
-use Rattle.saphyr_parser.proofs.Wrong.Stretches.{AreSkipped, Stretch, stretches, alone, no_property, span_starts, word}
+use Rattle.saphyr_parser.proofs.Wrong.Stretches.{AreSkipped, Stretch, stretches, alone, span_starts, word}
 
 abbrev pair_text : List ℕ
 pair_text = codes "[:a]"
 
 -- inside brackets, before the colon, and behind no text that ends like JSON
-record Before (opened : Collections) (s : Cursor) : Type 0 where
-  reached : Reaches (start_cursor pair_text) s
-  index : s.mark.index ≡ 1
-  inside : in_flow opened ≡ true
-  ends_json : opened.ends_json ≡ false
+abbrev Before : Collections → Cursor → Type 0
+Before opened s = BehindBracket pair_text 0 opened s
 
 before_rest : (opened : Collections) (s : Cursor) → Before opened s → s.rest ≡ codes ":a]"
 before_rest opened s b = at_index pair_text s 1 b.reached b.index
@@ -186,84 +184,6 @@ empty_no_scalars opened own others s u from (inl ((front, p, either, e, is), spa
 empty_no_scalars opened own others s u from (inr (inl h)) k = property_no_scalars own h.2
 empty_no_scalars opened own others s u from (inr (inr h)) k = subst AreNoScalars (sym h.4) tt
 
--- ## The bracket
-
-bracket_opens : (opened : Collections) (own : List Piece) (s u : Cursor) → Reaches (start_cursor pair_text) s
-    → AreContentTokens tokens.FlowSequenceStart own → AreTokens opened own s u
-    → SpansAll own wrong.pair_bracket → Before (open_all own opened) u
-bracket_opens opened own s u r content h spans =
-    let lone = alone pair_text 0 91 (codes ":a]") refl (λ z. omega (arith, z)) (λ z. omega (arith, z)) _ opened own s u
-    wrong.pair_bracket r content h spans refl in
-    let P : List Piece → Type 0 = λ l. AreTokens opened l s u in
-    let Q : List Piece → Type 0 = λ l. SpansAll l wrong.pair_bracket in
-    subst (λ l. Before (open_all l opened) u) (sym lone.2)
-    (by lone.0 lone.1 (subst P lone.2 h) (subst Q lone.2 spans))
-  where
-    by : (p : Piece) → p.kind ≡ tokens.FlowSequenceStart → AreTokens opened (p ∷ []) s u
-        → SpansAll (p ∷ []) wrong.pair_bracket → Before (open_behind p.kind p.span opened) u
-    by p kind (here, behind, apart, is, end) spans =
-        let K : Kind → Type 0 = λ k. IsToken (surroundings_in opened) k p.span here behind in
-        let bracket = subst K kind is in
-        let index : 0 ≡ here.mark.index = ap (λ (m : Marker). m.index)
-        (span_starts p [] wrong.pair_bracket spans ∙ bracket.1) in
-        let further = ap (λ (m : Marker). m.index) bracket.0.1 in
-        let there = ap (λ (c : Cursor). c.mark.index) end in
-        let F : Bool → Type 0 = λ b. (if b then false else opened.ends_json) ≡ false in
-        let text : true ≡ has_text p.span = ap has_text spans in
-        let C : Kind → Type 0 = λ k. (open_behind k p.span opened).ends_json ≡ false in
-        record {
-          reached = reaches_reaches (start_cursor pair_text) s u r
-              (tokens_reached opened (p ∷ []) s u (here, behind, apart, is, end));
-          index = omega (arith, index, further, there);
-          inside = subst (λ k. in_flow (open_behind k p.span opened) ≡ true) (sym kind) (some_open opened.brackets);
-          ends_json = subst C (sym kind) (subst F text refl);
-        }
-
-no_block_start : (opened : Collections) (own : List Piece) (s u : Cursor) → Reaches (start_cursor pair_text) s
-    → AreContentTokens tokens.BlockSequenceStart own → AreTokens opened own s u → SpansAll own wrong.pair_bracket → ⊥
-no_block_start opened own s u r content h spans =
-    let lone = alone pair_text 0 91 (codes ":a]") refl (λ z. omega (arith, z)) (λ z. omega (arith, z)) _ opened own s u
-    wrong.pair_bracket r content h spans refl in
-    let P : List Piece → Type 0 = λ l. AreTokens opened l s u in
-    let Q : List Piece → Type 0 = λ l. SpansAll l wrong.pair_bracket in
-    by lone.0 lone.1 (subst P lone.2 h) (subst Q lone.2 spans)
-  where
-    by : (p : Piece) → p.kind ≡ tokens.BlockSequenceStart → AreTokens opened (p ∷ []) s u
-        → SpansAll (p ∷ []) wrong.pair_bracket → ⊥
-    by p kind (here, behind, apart, is, end) spans =
-        let K : Kind → Type 0 = λ k. IsToken (surroundings_in opened) k p.span here behind in
-        let empty = ap (λ (m : Marker). m.index) (subst K kind is).0 in
-        let start = ap (λ (s : Span). s.start.index) spans in
-        let stop = ap (λ (s : Span). s.end.index) spans in
-        omega (arith, empty, start, stop)
-
-no_entries : (opened : Collections) (own others : List Piece) (s u last : Cursor) → Reaches (start_cursor pair_text) s
-    → AreTokens opened own s u → AreTokens (open_all own opened) others u last
-    → BeginsEntries own wrong.pair_bracket others → ⊥
-no_entries opened own [] s u last r h k none = none
-no_entries opened own (entry ∷ others) s u last r h (here, behind, apart, is, more) (kind, inl e, spans) =
-    let K : Kind → Type 0 = λ k. IsToken (surroundings_in (open_all own opened)) k entry.span here behind in
-    let Q : List Piece → Type 0 = λ l. SpansAll (l ++ entry ∷ []) wrong.pair_bracket in
-    let own_span = subst Q e spans in
-    let empty = ap (λ (m : Marker). m.index) (subst K kind is).3 in
-    let start = ap (λ (s : Span). s.start.index) own_span in
-    let stop = ap (λ (s : Span). s.end.index) own_span in
-    omega (arith, empty, start, stop)
-no_entries opened own (entry ∷ others) s u last r h (here, behind, apart, is, more) (kind, inr are, spans) =
-    no_property pair_text 0 91 (codes ":a]") refl (λ z. omega (arith, z)) (λ z. omega (arith, z)) opened own
-    (entry ∷ []) s behind wrong.pair_bracket r are
-    (tokens_append opened own (entry ∷ []) s u behind h (here, behind, apart, is, refl)) spans refl
-
-behind_bracket : (opened : Collections) (own others : List Piece) (s u last : Cursor)
-    → Reaches (start_cursor pair_text) s → IsOf (SequenceStart 0 None) wrong.pair_bracket own others
-    → AreTokens opened own s u → AreTokens (open_all own opened) others u last → Before (open_all own opened) u
-behind_bracket opened own others s u last r (inl (inl content, spans)) h k =
-    bracket_opens opened own s u r content h spans
-behind_bracket opened own others s u last r (inl (inr content, spans)) h k =
-    absurd (no_block_start opened own s u r content h spans)
-behind_bracket opened own others s u last r (inr begins) h k =
-    absurd (no_entries opened own others s u last r h k begins)
-
 -- ## `[:a]` with a pair
 
 behind_event : {o : Collections} {from : Cursor} {what : Happening} {span : Span}
@@ -309,8 +229,8 @@ colon_in_flow_is_not_taken keep t =
         (value : Stretch pair_text (open_all key.own (open_all key.skipped (open_all pair.own (open_all pair.skipped
         (open_all st.own (open_all st.skipped o)))))) key.end (plain_event (codes "a")) wrong.behind_colon) → ⊥
     by {o = o} st pair key value =
-        let bracket = behind_bracket (open_all st.skipped o) st.own st.others st.start st.end st.last st.reached st.is
-        st.tokens st.rest in
+        let bracket = behind_bracket pair_text 0 (codes ":a]") refl wrong.pair_bracket refl refl 0 None
+        (open_all st.skipped o) st.own st.others st.start st.end st.last st.reached st.is st.tokens st.rest in
         let begun = behind_event pair bracket (mapping_no_scalars wrong.at_colon pair.own pair.others pair.is) in
         let first = before_event key begun in
         let empty = empty_no_scalars _ key.own key.others key.start key.end (omega (arith, first.index)) key.is

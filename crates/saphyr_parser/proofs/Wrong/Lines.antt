@@ -24,7 +24,8 @@ use Rattle.saphyr_parser.specs.EventsTaken.{SpansAll, AreContentTokens, BelongsT
 use Rattle.saphyr_parser.specs.Examples.Forests.{plain_event}
 use Rattle.saphyr_parser.specs.Examples.WrongAnswers.{origin}
 use Rattle.saphyr_parser.specs.Examples.WrongPlaces as wrong
-use Rattle.saphyr_parser.proofs.Wrong.Brackets.{in_flow, events_outside}
+use Rattle.saphyr_parser.proofs.Wrong.Brackets.{events_outside}
+use Rattle.saphyr_parser.proofs.Wrong.OneBracket.{in_flow}
 use Rattle.saphyr_parser.proofs.Wrong.Stretches.{AreSkipped, Stretch, stretches, alone, no_property, span_starts}
 
 abbrev lines_text : List ℕ

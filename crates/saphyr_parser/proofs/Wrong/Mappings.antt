@@ -24,25 +24,19 @@ use Rattle.saphyr_parser.proofs.Wrong.Balanced.{forest_balances, forest_ends}
 use Rattle.saphyr_parser.proofs.Wrong.Stretches.{first_property, span_starts}
 use Rattle.saphyr_parser.proofs.Wrong.TextEnds.{IsFirst, BeginsBefore, begins_before}
 use Rattle.saphyr_parser.proofs.Wrong.Unmarked.{BeginsNoMapping, unmarked_tokens}
-use Rattle.saphyr_parser.proofs.Wrong.Whole.{whole, each_parts, EachEvent, each_event, all_events}
+use Rattle.saphyr_parser.proofs.Wrong.Whole.{whole, EachEvent, each_event, no_content, all_events}
 
 -- ## Texts without the three characters
 
-no_content : (kind : Kind) (own : List Piece) → ((span : Span) → BeginsNoMapping kind span → ⊥)
-    → AreContentTokens kind own → Each BeginsNoMapping own → ⊥
-no_content kind own none (front, p, either, e, is) h =
-    let last = (each_parts BeginsNoMapping front (p ∷ []) (subst (Each BeginsNoMapping) is h)).1 in
-    none p.span (subst (λ k. BeginsNoMapping k p.span) e last.0)
-
 event_without : (what : Happening) (span : Span) (own others : List Piece) → IsOf what span own others
-    → Each BeginsNoMapping own → IsNoMapping what
-event_without (MappingStart id tag) span own others (inl c, spans) h =
-    no_content tokens.FlowMappingStart own (λ _ z. z) c h
-event_without (MappingStart id tag) span own others (inr (inl c), spans) h =
-    no_content tokens.BlockMappingStart own (λ _ z. z) c h
-event_without (MappingStart id tag) span own others (inr (inr (mark, e, is)), spans) h =
+    → Each BeginsNoMapping own → Each BeginsNoMapping others → IsNoMapping what
+event_without (MappingStart id tag) span own others (inl c, spans) h k =
+    no_content BeginsNoMapping tokens.FlowMappingStart own (λ _ z. z) c h
+event_without (MappingStart id tag) span own others (inr (inl c), spans) h k =
+    no_content BeginsNoMapping tokens.BlockMappingStart own (λ _ z. z) c h
+event_without (MappingStart id tag) span own others (inr (inr (mark, e, is)), spans) h k =
     subst (λ k. BeginsNoMapping k mark.span) e (subst (Each BeginsNoMapping) is h).0
-event_without _ span own others i h = tt
+event_without _ span own others i h k = tt
 
 none_of : (p q : ℕ → Bool) (text : List ℕ) → ((c : ℕ) → p c ≡ false → q c ≡ false) → list_any p text ≡ false
     → list_any q text ≡ false
@@ -68,7 +62,7 @@ each_unmarked keep text a t fault none =
     (λ c e. or_false_left (c == 125) false (or_false_right (c == 63) _ (behind_colon c e))) none in
     let each = each_taken text IsUnmarked no_collections w.pieces (start_cursor text) w.end
     (unmarked text no_colon no_question no_brace) (taken.nothing (start_cursor text).mark text) w.taken in
-    each_event BeginsNoMapping (λ what span. IsNoMapping what) w.unread a.events w.pieces event_without w.places
+    each_event BeginsNoMapping (λ what span. IsNoMapping what) a.events w.pieces event_without w.places
     (unmarked_tokens w.forest w.pieces each w.in_place w.yielded)
 
 pub marks_mappings : (keep : Bool) (text : List ℕ) (a : Answer) → AreTaken keep text a → a.fault ≡ None
@@ -104,21 +98,21 @@ content_first kind own f (front, p, either, e, is) x xs k = by front either (sym
         subst IsFirst (sym (ap (λ (p : Piece). p.kind) same)) (property_first y.kind (first_property y ys are))
 
 event_before : (n : ℕ) (what : Happening) (span : Span) (own others : List Piece) → IsOf what span own others
-    → Each (BeginsBefore n) own → BeginsMappingBefore n what span
-event_before n (MappingStart id tag) span own others (inl c, spans) h =
+    → Each (BeginsBefore n) own → Each (BeginsBefore n) others → BeginsMappingBefore n what span
+event_before n (MappingStart id tag) span own others (inl c, spans) h k =
     starts_with n own span h spans (content_first tokens.FlowMappingStart own tt c)
-event_before n (MappingStart id tag) span own others (inr (inl c), spans) h =
+event_before n (MappingStart id tag) span own others (inr (inl c), spans) h k =
     starts_with n own span h spans (content_first tokens.BlockMappingStart own tt c)
-event_before n (MappingStart id tag) span own others (inr (inr (mark, e, is)), spans) h =
-    starts_with n own span h spans (λ p ps k. let same : p ≡ mark = cc in
+event_before n (MappingStart id tag) span own others (inr (inr (mark, e, is)), spans) h k =
+    starts_with n own span h spans (λ p ps first. let same : p ≡ mark = cc in
     subst IsFirst (sym (ap (λ (p : Piece). p.kind) same ∙ e)) tt)
-event_before n _ span own others i h = tt
+event_before n _ span own others i h k = tt
 
 each_before : (keep : Bool) (text : List ℕ) (a : Answer) → AreTaken keep text a → a.fault ≡ None
     → EachEvent (BeginsMappingBefore (length text)) a.events
 each_before keep text a t fault =
     let w = whole keep text a t fault in
-    each_event (BeginsBefore (length text)) (BeginsMappingBefore (length text)) w.unread a.events w.pieces
+    each_event (BeginsBefore (length text)) (BeginsMappingBefore (length text)) a.events w.pieces
     (event_before (length text)) w.places (begins_before text no_collections not_enclosed w.pieces (start_cursor text)
     w.end (taken.nothing (start_cursor text).mark text) w.taken w.in_place
     (forest_ends w.forest (kinds w.pieces) w.yielded) (forest_balances 0 1 w.forest (kinds w.pieces) w.yielded).1)

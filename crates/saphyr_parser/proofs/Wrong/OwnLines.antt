@@ -60,14 +60,14 @@ simple text tag question bracket brace at _ span s t r h = tt
 
 -- ## No single pair begins
 
-no_pair : (key : Option Marker) (columns : List ℕ) (span : Span) → has_text span ≡ false
+pub no_pair : (key : Option Marker) (columns : List ℕ) (span : Span) → has_text span ≡ false
     → IsTrue (fits_at place.Block key columns tokens.FlowMappingStart span) → ⊥
 no_pair None columns span t h =
     let P : Bool → Type 0 = λ b. IsTrue (b || place.may_begin_pair place.Block) in
     let z : false ≡ true = subst P t h in cc
 no_pair (Some m) columns span t h = let z : false ≡ true = sym t ∙ h in cc
 
-no_brace_ends : (key : Option Marker) (columns : List ℕ) (span : Span)
+pub no_brace_ends : (key : Option Marker) (columns : List ℕ) (span : Span)
     → IsTrue (fits_at place.Block key columns tokens.FlowMappingEnd span) → ⊥
 no_brace_ends None columns span h = by (has_text span) h
   where
@@ -234,6 +234,6 @@ other_anchor_is_not_taken keep t =
     let each = each_taken anchor_text IsSimple no_collections w.pieces (start_cursor anchor_text) w.end
     (simple anchor_text refl refl refl refl) (taken.nothing (start_cursor anchor_text).mark anchor_text) w.taken in
     let flow = no_flow_mappings not_enclosed w.pieces each w.in_place refl in
-    let over = all_over_lines w.unread wrong.other_anchor.events w.pieces w.places each flow
+    let over = all_over_lines [] wrong.other_anchor.events w.pieces w.places each flow
     (are_beside not_enclosed w.pieces w.in_place) in
     over.1.1.0 (omega arith) refl

@@ -1,6 +1,7 @@
 -- No mapping begins at the end of the text: behind its start stands its first key or a colon (YAML 1.2.2, 7.4, 8.2.2).
 use Rattle.std.proofs.Common.{◌≡◌, ◌⊎◌, ℕ, ◌<◌, Bool, true, false, List, [], ◌∷◌, ◌++◌, length, Option, Some, None, refl, sym, ap, ◌∙◌, arith, subst, inl, inr}
 use Rattle.std.specs.Prelude.{◌||◌, if◌then◌else◌, slice_index, IsTrue, IsFalse}
+use Rattle.std.proofs.lemmas.List.{nil_from_length}
 use Rattle.saphyr_input.proofs.Basics.Booleans.{and_true_right}
 use Rattle.saphyr_scalar.specs.declared.scalar.position.Marker.{Marker}
 use Rattle.saphyr_scalar.specs.declared.scalar.position.Span.{Span}
@@ -23,27 +24,23 @@ use Rattle.saphyr_parser.proofs.Wrong.Unmarked.{IsNoKey, IsNoMappingEnd, none_cl
 
 -- ## Where nothing is left of the text
 
-no_length : (l : List ℕ) → length l ≡ 0 → l ≡ []
-no_length [] e = refl
-no_length (c ∷ cs) e = absurd (omega (arith, e))
-
 apart_at_end : (m : Marker) (n : Marker) (t u : List ℕ) → IsPassedOver m t n u → t ≡ [] → u ≡ []
 apart_at_end m n t u h e =
     let a = apart_later m t n u h in
     let none = ap (λ (l : List ℕ). length l) e in
-    no_length u (omega (arith, a.counted, a.index, none))
+    nil_from_length u (omega (arith, a.counted, a.index, none))
 
 token_at_end : (at : Surroundings) (k : Kind) (span : Span) (s t : Cursor) → IsToken at k span s t → s.rest ≡ []
     → t.rest ≡ []
 token_at_end at k span s t h e =
     let a = token_later at k span s t h in
     let none = ap (λ (l : List ℕ). length l) e in
-    no_length t.rest (omega (arith, a.counted, a.index, none))
+    nil_from_length t.rest (omega (arith, a.counted, a.index, none))
 
 no_text : (c : ℕ) (cs rest : List ℕ) → rest ≡ c ∷ cs → rest ≡ [] → ⊥
 no_text c cs rest h e = let k : [] ≡ c ∷ cs = sym e ∙ h in cc
 
-no_piece : (front more rest : List ℕ) (last : ℕ) → rest ≡ (front ++ last ∷ []) ++ more → rest ≡ [] → ⊥
+pub no_piece : (front more rest : List ℕ) (last : ℕ) → rest ≡ (front ++ last ∷ []) ++ more → rest ≡ [] → ⊥
 no_piece [] more rest last h e = no_text last more rest h e
 no_piece (c ∷ front) more rest last h e = no_text c _ rest h e
 

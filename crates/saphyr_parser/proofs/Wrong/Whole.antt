@@ -1,5 +1,5 @@
 -- Where no fault ends the events, the tokens that they have are all of a text's and all of a forest's.
-use Rattle.std.proofs.Common.{◌≡◌, List, [], ◌∷◌, ◌++◌, Option, Some, None, ap, ◌∙◌, append-nil, subst, ℕ, Bool}
+use Rattle.std.proofs.Common.{◌≡◌, List, [], ◌∷◌, ◌++◌, Option, Some, None, sym, map, ap, ◌∙◌, append-nil, subst, ℕ, Bool}
 use Rattle.std.specs.List.{All}
 use Rattle.std.proofs.lemmas.List.Elements.{All-nil, All-cons}
 use Rattle.saphyr_scalar.specs.declared.scalar.position.Span.{Span}
@@ -13,31 +13,37 @@ use Rattle.saphyr_scanner.specs.Views.Tokens.{Piece}
 use Rattle.saphyr_machine.specs.Answer.{Answer, Ending}
 use Rattle.saphyr_machine.specs.Events.{Happening}
 use Rattle.saphyr_parser.specs.EventsTaken as taking
-use Rattle.saphyr_parser.specs.EventsTaken.{IsOf, HaveTokens, IsAllUnless, AreTaken}
+use Rattle.saphyr_parser.specs.EventsTaken.{AreContentTokens, IsOf, HaveTokens, IsAllUnless, IsCut, AreTaken}
 use Rattle.saphyr_parser.specs.Exactly.{kinds}
+use Rattle.saphyr_parser.specs.ForestEvents.{events}
 use Rattle.saphyr_parser.proofs.Wrong.Absent.{Each}
 
--- all tokens of the text, which are a forest's, and of which the events are told
-pub record Whole (text : List ℕ) (es : List (Happening × Span)) : Type 0 where
+-- all tokens of the text, which are a forest's, and of which the events are told, which are the forest's
+pub record Whole (keep : Bool) (text : List ℕ) (es : List (Happening × Span)) : Type 0 where
   pub forest : Forest
   pub pieces : List Piece
   pub end : Cursor
   pub taken : AreTokens no_collections pieces (start_cursor text) end
   pub in_place : AreInPlace not_enclosed pieces
   pub yielded : Yields forest (kinds pieces)
-  pub unread : List Piece
-  pub places : HaveTokens unread es pieces
+  pub places : HaveTokens [] es pieces
+  pub told : events forest keep ≡ Some (map (λ (e : Happening × Span). e.0) es)
 
 nothing_more : (fault : Option Ending) {X : Type 0} (more : List X) → fault ≡ None → IsAllUnless fault more
     → more ≡ []
 nothing_more None more e h = h
 nothing_more (Some f) more e h = absurd (cc)
 
+none_missing : (fault : Option Ending) {X : Type 0} (more : List X) → fault ≡ None → IsCut fault more → more ≡ []
+none_missing None more e h = h
+none_missing (Some f) more e h = absurd (cc)
+
 pub whole : (keep : Bool) (text : List ℕ) (a : Answer) → AreTaken keep text a → a.fault ≡ None
-    → Whole text a.events
+    → Whole keep text a.events
 whole keep text a t fault =
     let r = t.1 in
     let b = r.begins in
+    let happenings : List Happening = map (λ (e : Happening × Span). e.0) a.events in
     let P : List Kind → Type 0 = λ l. Yields t.0 (kinds b.read ++ l) in
     let Q : List Piece → Type 0 = λ l. AreTokens no_collections l (start_cursor text) r.taken.0 in
     let R : List Piece → Type 0 = λ l. AreInPlace not_enclosed l in
@@ -51,8 +57,10 @@ whole keep text a t fault =
       in_place = subst R all_read r.taken.2;
       yielded = subst (Yields t.0) (append-nil (kinds b.read))
           (subst P (nothing_more a.fault b.expected fault b.all_expected) b.yielded);
-      unread = b.unread;
-      places = b.places;
+      places = subst (λ l. HaveTokens l a.events b.read) (nothing_more a.fault b.unread fault b.all_read) b.places;
+      told = b.are_events
+          ∙ ap Some (ap (λ l. happenings ++ l) (none_missing a.fault b.missing fault b.all_given)
+          ∙ append-nil happenings);
     }
 
 -- ## From tokens to events
@@ -65,15 +73,24 @@ abbrev pub EachEvent : (Happening → Span → Type 0) → List (Happening × Sp
 EachEvent Q [] = Unit {0}
 EachEvent Q (e ∷ es) = Q e.0 e.1 × EachEvent Q es
 
-pub each_event : (P : Kind → Span → Type 0) (Q : Happening → Span → Type 0) (unread : List Piece)
-    (es : List (Happening × Span)) (ts : List Piece)
+-- what is true of an event whose own tokens, and all behind these, P is true of
+pub each_event : (P : Kind → Span → Type 0) (Q : Happening → Span → Type 0) (es : List (Happening × Span))
+    (ts : List Piece)
     → ((what : Happening) (span : Span) (own others : List Piece) → IsOf what span own others → Each P own
-    → Q what span) → HaveTokens unread es ts → Each P ts → EachEvent Q es
-each_event P Q unread _ _ f (taking.nothing ts) h = tt
-each_event P Q unread _ _ f (taking.passed es t ts b k) h = each_event P Q unread es ts f k h.1
-each_event P Q unread _ _ f (taking.event what span es own ts i k) h =
+    → Each P others → Q what span) → HaveTokens [] es ts → Each P ts → EachEvent Q es
+each_event P Q _ _ f (taking.nothing ts) h = tt
+each_event P Q _ _ f (taking.passed es t ts b k) h = each_event P Q es ts f k h.1
+each_event P Q _ _ f (taking.event what span es own ts i k) h =
     let parts = each_parts P own ts h in
-    (f what span own (ts ++ unread) i parts.0, each_event P Q unread es ts f k parts.1)
+    let behind = subst (Each P) (sym (append-nil ts)) parts.1 in
+    (f what span own (ts ++ []) i parts.0 behind, each_event P Q es ts f k parts.1)
+
+-- content of a kind of which P is not true
+pub no_content : (P : Kind → Span → Type 0) (kind : Kind) (own : List Piece) → ((span : Span) → P kind span → ⊥)
+    → AreContentTokens kind own → Each P own → ⊥
+no_content P kind own none (front, p, either, e, is) h =
+    let last = (each_parts P front (p ∷ []) (subst (Each P) is h)).1 in
+    none p.span (subst (λ k. P k p.span) e last.0)
 
 pub all_events : (Q : Happening → Span → Type 0) (es : List (Happening × Span)) → EachEvent Q es
     → All (λ (e : Happening × Span). Q e.0 e.1) es

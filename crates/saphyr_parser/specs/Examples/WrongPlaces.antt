@@ -6,7 +6,7 @@ use Rattle.saphyr_machine.specs.Answer.{Answer}
 use Rattle.taken_laws.specs.Examples.TakenTexts.{marker_at}
 use Rattle.saphyr_parser.specs.Examples.Forests.{plain_event}
 use Rattle.saphyr_parser.specs.Examples.WrongAnswers.{span_of, origin}
-use Rattle.saphyr_parser.specs.Examples.WrongMappings.{bare_document, at}
+use Rattle.saphyr_parser.specs.Examples.WrongMappings.{bare_document, at, one_collection}
 
 -- `- a` LF `-` with one scalar
 abbrev pub both_lines : Span
@@ -55,3 +55,19 @@ other_anchor =
     (events.MappingEnd, at (marker_at 12 3 0)) ∷
     []
     ) (marker_at 12 3 0)
+
+-- `-` LF ` -` as one sequence
+abbrev pub two_entries : Answer
+two_entries =
+    one_collection (events.SequenceStart 0 None) (marker_at 1 1 1 ∷ marker_at 4 2 2 ∷ []) events.SequenceEnd
+    (marker_at 4 3 0)
+
+-- `-a` as a sequence
+abbrev pub dash_without_blank : Answer
+dash_without_blank =
+    bare_document (
+    (events.SequenceStart 0 None, origin) ∷
+    (plain_event (codes "a"), span_of (marker_at 1 1 1) (marker_at 2 1 2)) ∷
+    (events.SequenceEnd, at (marker_at 2 2 0)) ∷
+    []
+    ) (marker_at 2 2 0)

@@ -1,3 +1,4 @@
+use Rattle.saphyr_parser.proofs.Wrong.Indicators as indicators
 use Rattle.saphyr_parser.proofs.Wrong.Mappings as mappings
 use Rattle.saphyr_parser.proofs.taken_law.takes_no_other_mappings.Goals as goal
 
@@ -12,3 +13,12 @@ returns-clause-pair_without_colon c = mappings.pair_without_colon_is_not_taken
 
 pub returns-clause-empty_mapping : goal.returns-clause-empty_mapping
 returns-clause-empty_mapping c = mappings.empty_mapping_is_not_taken
+
+pub returns-clause-one_mapping : goal.returns-clause-one_mapping
+returns-clause-one_mapping c = indicators.one_pair_is_not_taken
+
+pub returns-clause-one_column : goal.returns-clause-one_column
+returns-clause-one_column c = indicators.two_pairs_is_not_taken
+
+pub returns-clause-lone_colon : goal.returns-clause-lone_colon
+returns-clause-lone_colon c = indicators.lone_colon_is_not_taken

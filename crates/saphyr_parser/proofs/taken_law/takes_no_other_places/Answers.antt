@@ -1,3 +1,5 @@
+use Rattle.saphyr_parser.proofs.Wrong.Indicators as indicators
+use Rattle.saphyr_parser.proofs.Wrong.Sequences as sequences
 use Rattle.saphyr_parser.proofs.Wrong.FlowColons as colons
 use Rattle.saphyr_parser.proofs.Wrong.Lines as lines
 use Rattle.saphyr_parser.proofs.Wrong.OwnLines as own_lines
@@ -11,3 +13,9 @@ returns-clause-colon_in_flow c = colons.colon_in_flow_is_not_taken
 
 pub returns-clause-other_anchor : goal.returns-clause-other_anchor
 returns-clause-other_anchor c = own_lines.other_anchor_is_not_taken
+
+pub returns-clause-other_column : goal.returns-clause-other_column
+returns-clause-other_column c = indicators.two_entries_is_not_taken
+
+pub returns-clause-dash_without_blank : goal.returns-clause-dash_without_blank
+returns-clause-dash_without_blank c = sequences.dash_without_blank_is_not_taken
