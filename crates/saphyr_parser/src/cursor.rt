@@ -1,6 +1,6 @@
 //! The parser as its callers see it: a place in the list of a text's events.
 
-ghost use Rattle.std.specs.Prelude.{◌≡◌, ◌≤◌, ℕ, ◌+◌, List, length, take, IfOk};
+ghost use Rattle.std.specs.Prelude.{◌≡◌, ◌≤◌, ◌<◌, ◌^◌, ℕ, ◌+◌, List, length, take, IfOk};
 ghost use Rattle.std.specs.Str.{chars};
 ghost use Rattle.saphyr_input.specs.Listed.{Lists, Listed};
 ghost use Rattle.saphyr_scanner.specs.Steps.Remaining.{scan};
@@ -9,9 +9,8 @@ ghost use Rattle.saphyr_machine.specs.Cursor as spec;
 ghost use Rattle.saphyr_machine.specs.Calls as calls;
 ghost use Rattle.saphyr_parser.specs.Promises.{KeepsSpans, ReadsClosedYaml, ReadsJson, ReadsYaml, TakesEvents};
 
-use crate::law::{gives_json, takes_all_events};
-use json_laws::scans_each_json;
-use yaml_laws::{hands_out_markers, scans_each_yaml_text};
+use crate::law::takes_all_events;
+use json_laws::is_yaml_text;
 use saphyr_input::input::{CloneInput, Input};
 use saphyr_input::{BufferedInput, StrInput};
 use saphyr_machine::{Event, EventReader, Fault, Progress, SpannedEventReceiver};
@@ -20,9 +19,19 @@ use saphyr_scanner::Scanner;
 use saphyr_scanner::law::{bounds_tokens, ends_with_the_stream, places_taken_tokens};
 use std::alloc::{AllocError, Global};
 use std::marker::Model;
+use yaml_laws::{hands_out_markers, scans_each_yaml_text};
 
 /// How many characters a text may have.
 const MOST_CHARACTERS: usize = 4294967295;
+
+/// The same input: where a place of it is loaded, it has fewer than 2^63 characters.
+fn counted<T: Input>(mut src: T) -> T
+    ensures same { T.rest result ≡ T.rest src }
+    ensures countable { length (T.rest result) < 2 ^ 63 }
+{
+    src.lookahead(1);
+    src
+}
 
 /// The events of a text, one after the other. Each has a span within the text, whose start is at or before
 /// its end.
@@ -97,14 +106,14 @@ impl<'input, T: Input> Parser<'input, T> {
         ensures spans { KeepsSpans (T.rest src) result }
         ensures taken { limit ≤ most_characters → TakesEvents (T.rest src) result }
     {
-        scans_each_json();
+        is_yaml_text();
         scans_each_yaml_text();
         hands_out_markers();
-        gives_json();
         ends_with_the_stream();
         bounds_tokens();
         takes_all_events();
         places_taken_tokens();
+        let src = counted(src);
         Parser {
             reader: EventReader::new(alloc, Scanner::new(alloc, src, limit)),
         }
@@ -136,13 +145,20 @@ impl<'input, T: Input> Parser<'input, T> {
         self.reader.next_event()
     }
 
-    // Hands out the next event or fault, which is written into its place.
+    /// Hands out the next event, or the fault that ends the events, as `next_event` does, and writes it into its
+    /// place. A loop that keeps nothing of an event goes by this: no event is moved, and the memory of a text is
+    /// taken again for the next.
     #[inline(always)]
-    pub(crate) fn advance(
+    pub fn next_event_into(
         &mut self,
         next: &mut (Event<'input>, Span),
         fault: &mut Fault,
     ) -> Progress
+        ensures hands { spec.HandsOutNext (calls.item_at next.new fault.new result)
+            (spec.to_come self.old) (spec.to_come self.new) }
+        ensures remembers { spec.Remembers (calls.item_at next.new fault.new result) self.old
+            self.new }
+        ensures given { spec.IsGiven (calls.item_at next.new fault.new result) self.new.kept }
         ensures leaves { calls.GivesNext (calls.item_at next.new fault.new result) self.old
             self.new }
         ensures over { calls.EndsTheStream self.new }

@@ -49,7 +49,7 @@ fn dump_each<'input, T: Input, W: Write>(
 {
     let mut fault = Fault::OutOfMemory;
     loop {
-        match parser.advance(next, &mut fault) {
+        match parser.next_event_into(next, &mut fault) {
             Progress::Event => write_line(out, &next.0)?,
             Progress::Fault => return Err(DumpFault::Parse(fault)),
             Progress::Over => return Ok(()),

@@ -9,7 +9,7 @@ use Rattle.saphyr_parser_c.specs.declared.inner.Inner.{Inner}
 use Rattle.saphyr_parser_c.specs.declared.shown.CEvent.{CEvent}
 use Rattle.saphyr_parser_c.specs.declared.status.Status.{Status}
 use Rattle.saphyr_parser_c.specs.declared.status.Status.TheVariants as status
-use Rattle.saphyr_parser_c.specs.Inner.{IsOverText, ShowsToC, HandsToC}
+use Rattle.saphyr_parser_c.specs.Inner.{IsOverText, ShowsToC, HandsToC, handed}
 use Rattle.saphyr_parser_c.specs.Shown.{Holds, no_fields, nowhere}
 use Rattle.saphyr_parser_c.specs.Status.{code_of}
 
@@ -48,7 +48,7 @@ PeeksAt (some old) code c new =
 -- where a copy is made, it stands where the parser stands
 abbrev pub Copies : Inner → ℤ → Option Inner → Type 0
 Copies old code none = code ≡ code_of status.NoMemory
-Copies old code (some copy) = (code ≡ pos 0) × (copy.parser ≡ old.parser) × (copy.event ≡ None)
+Copies old code (some copy) = (code ≡ pos 0) × (copy.parser ≡ old.parser) × (handed copy ≡ None)
 
 abbrev pub Clones : Option Inner → ℤ → Option Inner → Type 0
 Clones none code copy = (code ≡ code_of status.NoParser) × (copy ≡ none)

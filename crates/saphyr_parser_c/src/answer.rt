@@ -2,9 +2,9 @@
 
 ghost use Rattle.std.specs.Prelude.{◌≡◌};
 ghost use Rattle.saphyr_parser.specs.Cursor.{event_of};
-ghost use Rattle.saphyr_parser_c.specs.Same.{IsSame, IsSameFault};
+ghost use Rattle.saphyr_parser_c.specs.Same.{IsSameFault};
 ghost use Rattle.saphyr_parser_c.specs.Shown.{HasNumbers, HasTexts, Stands, no_fields};
-ghost use Rattle.saphyr_parser_c.specs.Shown.{TellsC, TellsFault, TellsLent, TellsLentFault, TellsNumbers};
+ghost use Rattle.saphyr_parser_c.specs.Shown.{TellsFault, TellsLent, TellsLentFault, TellsNumbers};
 
 use crate::shown::{CEvent, bare, blank, show};
 use crate::status::Status;
@@ -20,8 +20,8 @@ fn refused(error: &ScanError) -> CEvent
     bare(0, error.mark, error.mark)
 }
 
-// Tells an event that is kept.
-fn tell_event(alloc: Global, given: &mut (Event<'static>, Span), out: &mut CEvent)
+/// Tells an event that is kept.
+pub fn tell_event(alloc: Global, given: &mut (Event<'static>, Span), out: &mut CEvent)
     ensures same { event_of given.new ≡ event_of given.old }
     ensures numbers { TellsNumbers given.new out.new }
     ensures stands { Stands given.new.0 out.new }
@@ -30,8 +30,8 @@ fn tell_event(alloc: Global, given: &mut (Event<'static>, Span), out: &mut CEven
     keep(alloc, &mut given.0, out);
 }
 
-// Tells a fault that is kept.
-fn tell_fault(alloc: Global, fault: &mut Fault, out: &mut CEvent) -> Status
+/// Tells a fault that is kept.
+pub fn tell_fault(alloc: Global, fault: &mut Fault, out: &mut CEvent) -> Status
     ensures same { IsSameFault fault.old fault.new }
     ensures tells { TellsFault fault.new result out.new }
 {
@@ -44,28 +44,6 @@ fn tell_fault(alloc: Global, fault: &mut Fault, out: &mut CEvent) -> Status
         Fault::OutOfMemory | Fault::Receiver | Fault::InsideDocument => {
             *out = blank();
             Status::NoMemory
-        }
-    }
-}
-
-/// Tells what is kept.
-pub fn tell(
-    alloc: Global,
-    given: &mut Option<Result<(Event<'static>, Span), Fault>>,
-    out: &mut CEvent,
-) -> Status
-    ensures same { IsSame given.old given.new }
-    ensures tells { TellsC given.new result out.new }
-{
-    match given {
-        Some(Ok(event)) => {
-            tell_event(alloc, event, out);
-            Status::Event
-        }
-        Some(Err(fault)) => tell_fault(alloc, fault, out),
-        None => {
-            *out = blank();
-            Status::End
         }
     }
 }

@@ -1,13 +1,13 @@
 //! A parser with the event that it gave last, whose texts C may read until the next call.
 
-ghost use Rattle.std.specs.Prelude.{◌≡◌, IfOk, IsUtf8, MatchResult};
+ghost use Rattle.std.specs.Prelude.{◌≡◌, IfOk, IsUtf8, MatchResult, None};
 ghost use Rattle.saphyr_parser_c.specs.Inner.{RefusesText};
 
-use crate::answer::{tell, tell_lent};
+use crate::answer::{tell_event, tell_fault, tell_lent};
 use crate::encoding::begins_as_utf16;
-use crate::shown::CEvent;
+use crate::shown::{CEvent, blank};
 use crate::status::Status;
-use saphyr_parser::{Event, Fault, Parser, Span, StrInput};
+use saphyr_parser::{Event, Fault, Parser, Progress, Span, StrInput, no_event};
 use std::alloc::{AllocError, Global};
 use std::mem;
 
@@ -27,13 +27,29 @@ fn unreadable(text: &[u8]) -> Status
 #[derive(Drop)]
 pub struct Inner {
     pub(super) parser: Parser<'static, StrInput<'static>>,
-    pub(super) event: Option<Result<(Event<'static>, Span), Fault>>,
+    // What was handed out last: where an event and a fault stand, and which of them it was.
+    pub(super) next: (Event<'static>, Span),
+    pub(super) fault: Fault,
+    pub(super) progress: Progress,
 }
 
 impl Inner {
     ghost use Rattle.saphyr_parser.specs.Calls as calls;
     ghost use Rattle.saphyr_parser.specs.Cursor as cursor;
     ghost use Rattle.saphyr_parser_c.specs.Inner as spec;
+
+    // A parser that has handed out nothing here.
+    #[inline(always)]
+    fn fresh(parser: Parser<'static, StrInput<'static>>) -> Inner
+        ensures { (result.parser ≡ parser.entry) × (spec.handed result ≡ None) }
+    {
+        Inner {
+            parser,
+            next: no_event(),
+            fault: Fault::OutOfMemory,
+            progress: Progress::Over,
+        }
+    }
 
     /// A parser at the start of a text, on the heap.
     pub fn over(
@@ -48,13 +64,7 @@ impl Inner {
             return Err(unreadable(text));
         };
         let parser = Parser::new_from_str(alloc, text).keep_tags(keep_tags);
-        match Box::new(
-            alloc,
-            Inner {
-                parser,
-                event: None,
-            },
-        ) {
+        match Box::new(alloc, Inner::fresh(parser)) {
             Ok(inner) => Ok(inner),
             Err(_) => Err(Status::NoMemory),
         }
@@ -64,8 +74,18 @@ impl Inner {
     pub fn step(&mut self, alloc: Global, out: &mut CEvent) -> Status
         ensures { spec.HandsToC self.old result out.new self.new }
     {
-        self.event = self.parser.next_event();
-        tell(alloc, &mut self.event, out)
+        self.progress = self.parser.next_event_into(&mut self.next, &mut self.fault);
+        match self.progress {
+            Progress::Event => {
+                tell_event(alloc, &mut self.next, out);
+                Status::Event
+            }
+            Progress::Fault => tell_fault(alloc, &mut self.fault, out),
+            Progress::Over => {
+                *out = blank();
+                Status::End
+            }
+        }
     }
 
     /// Shows what comes next.
@@ -77,16 +97,11 @@ impl Inner {
 
     /// A parser of its own at the same place, on the heap.
     pub fn copy(&self, alloc: Global) -> Result<Box<Inner, Global>, AllocError>
-        ensures { IfOk result (λ b. (b.value.parser ≡ self.now.parser) × (b.value.event ≡ None)) }
+        ensures { IfOk result
+            (λ b. (b.value.parser ≡ self.now.parser) × (spec.handed b.value ≡ None)) }
     {
         let parser = self.parser.try_clone()?;
-        match Box::new(
-            alloc,
-            Inner {
-                parser,
-                event: None,
-            },
-        ) {
+        match Box::new(alloc, Inner::fresh(parser)) {
             Ok(inner) => Ok(inner),
             Err(_) => Err(AllocError),
         }
