@@ -1,3 +1,3 @@
 pub mod AllTokens
 pub mod Examples
-pub mod Json
+pub mod InYaml

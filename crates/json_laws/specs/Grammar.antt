@@ -1,3 +1,2 @@
--- Which texts of JSON stand for which forests, and the tokens of these (RFC 8259).
+-- Which texts of JSON stand for which forests (RFC 8259).
 pub mod Json
-pub mod JsonTokens

@@ -1,19 +1,15 @@
-//! Laws of texts of JSON: each gives the tokens of its forest, and no fault.
+//! Laws of texts of JSON: each is a text of YAML's grammar, of the same forest.
 //!
 //! The functions are laws: they do nothing, and their clauses are what is proved.
 #![tactic(auto)]
 
-ghost use Rattle.std.specs.Prelude.{◌≤◌, List, ℕ, length};
+ghost use Rattle.std.specs.Prelude.{◌≤◌, List, ℕ};
 ghost use Rattle.saphyr_scanner.specs.Examples.Forests.{block_forest, block_tokens, json_forest, json_text, json_text_tokens};
 ghost use Rattle.saphyr_scanner.specs.Grammar.Forest.{Forest, open_in_forest};
 ghost use Rattle.saphyr_scanner.specs.Grammar.TokenGrammar.{Yields};
 ghost use Rattle.saphyr_scanner.specs.Grammar.Tokens.{Kind};
-ghost use Rattle.saphyr_scanner.specs.Steps.Remaining.{Scans, scan};
+ghost use Rattle.yaml_laws.specs.Grammar.Yaml.{IsYamlText};
 ghost use Rattle.json_laws.specs.Grammar.Json.{IsJson};
-ghost use Rattle.json_laws.specs.Grammar.JsonTokens as json;
-
-use saphyr_scanner::law::takes_characters_off;
-use scalar_laws::{counts_each_double_quoted, reads_each_double_quoted, reads_each_plain_word};
 
 /// A text of JSON stands for its forest.
 pub fn reads_json()
@@ -32,22 +28,9 @@ pub fn has_tokens()
         → (tokens : List Kind) × Yields forest tokens }
 {}
 
-/// These are tokens of a JSON text's forest: a pair's key and value each behind its token, a comma between
-/// entries, and no comma behind the last one.
-pub fn tells_json_tokens()
-    ensures { (forest : Forest) (text : List ℕ) → IsJson forest text
-        → Yields forest (json.json_tokens forest) }
+/// Each text of JSON is a text of YAML's grammar, of the same forest. At most `room` collections are
+/// open at once in it, all of which are in flow style.
+pub fn is_yaml_text()
+    ensures { (room : ℕ) (forest : Forest) (text : List ℕ) → IsJson forest text
+        → open_in_forest forest ≤ room → IsYamlText room forest text }
 {}
-
-/// Each text of JSON within the limit, with at most 255 collections open at once, gives the tokens of
-/// its forest, and no fault.
-pub fn scans_each_json()
-    ensures { (limit : ℕ) (forest : Forest) (text : List ℕ) → IsJson forest text
-        → open_in_forest forest ≤ 255 → length text ≤ limit
-        → Scans (json.json_tokens forest) (scan limit text) }
-{
-    reads_each_plain_word();
-    reads_each_double_quoted();
-    counts_each_double_quoted();
-    takes_characters_off();
-}

@@ -10,7 +10,6 @@ ghost use Rattle.saphyr_parser.specs.ForestEvents.{events};
 ghost use Rattle.saphyr_scanner.specs.Examples.Forests.{json_forest};
 ghost use Rattle.saphyr_scanner.specs.Grammar.Forest.{Forest};
 ghost use Rattle.json_laws.specs.Grammar.Json.{IsJson};
-ghost use Rattle.json_laws.specs.Grammar.JsonTokens.{json_tokens};
 ghost use Rattle.saphyr_input.specs.Breaks.{normalized};
 ghost use Rattle.saphyr_scanner.specs.Steps.Remaining.{scan};
 ghost use Rattle.saphyr_scanner.specs.Views.Tokens.{Piece, Remaining};
@@ -51,12 +50,12 @@ pub use calling::{hands_out_what_was_peeked, keeps_no_prefixes_at_first, loads_t
 pub use comparing::{
     hashes_alike, orders_places, orders_styles, orders_tags, reads_inputs_alike, starts_at_zero,
 };
-use json_laws::scans_each_json;
+use json_laws::is_yaml_text;
 pub use later::{
     keeps_spans_later, keeps_spans_over_load, leaves_later_parsers, loads_later_parsers,
 };
-use yaml_laws::{scans_breaks_alike, scans_each_yaml_text};
 use saphyr_scanner::law::bounds_tokens;
+use yaml_laws::{scans_breaks_alike, scans_each_yaml_text};
 
 /// A node comes in preorder, between the events of its document and of the stream.
 pub fn tells_nodes_in_preorder()
@@ -119,19 +118,6 @@ pub fn gives_each_forest()
         → GivesExactly told (to_come (keeping_tags keep (at_start tokens))) }
 {}
 
-/// The same of the tokens of a text of JSON, which has no anchors.
-pub fn gives_json()
-    ensures machine { (forest : Forest) (text : List ℕ) (keep : Bool) (pieces : List Piece)
-        (told : List Happening) → IsJson forest text → kinds pieces ≡ json_tokens forest
-        → events forest keep ≡ Some told → GivesExactly told (answer_of_tokens keep pieces) }
-    ensures parser { (forest : Forest) (text : List ℕ) (keep : Bool) (tokens : Remaining)
-        (told : List Happening) → IsJson forest text → kinds tokens.pieces ≡ json_tokens forest
-        → tokens.refusal ≡ None → events forest keep ≡ Some told
-        → GivesExactly told (to_come (keeping_tags keep (at_start tokens))) }
-{
-    json_laws::tells_json_tokens();
-}
-
 /// Where the spans of tokens stand one behind the other at places of a text, each event's span has its start at
 /// or before its end, and both are places of that text.
 pub fn keeps_spans_in()
@@ -173,10 +159,9 @@ pub fn has_one_meaning()
     ensures both { (text : List ℕ) → length text ≤ most_characters
         → MeanTheSame (IsShallowJson most_open) (IsYamlText most_open) text }
 {
-    scans_each_json();
+    is_yaml_text();
     scans_each_yaml_text();
     bounds_tokens();
-    gives_json();
 }
 
 /// Behind the line `---` anything may follow: the start of its document is given. Where nothing follows, that

@@ -7,8 +7,7 @@ use Rattle.saphyr_scanner.specs.Limits.{most_open}
 use Rattle.saphyr_scanner.specs.Grammar.Forest.{left_out}
 use Rattle.saphyr_machine.specs.Events as events
 use Rattle.saphyr_machine.specs.Events.{empty_scalar}
-use Rattle.yaml_laws.specs.Grammar.Yaml.{IsDocument, IsDocumentPrefix, no_prefix, mark_prefix, IsDocumentSuffix, AreDocuments, IsYamlText}
-use Rattle.yaml_laws.specs.Grammar.ClosedTexts.{IsMarkBehindFiller}
+use Rattle.yaml_laws.specs.Grammar.Yaml.{IsDocument, IsDocumentPrefix, no_prefix, mark_prefix, IsDocumentSuffix, IsMarkBehindFiller, AreDocuments, IsYamlText}
 use Rattle.yaml_laws.specs.Grammar.BlockNodes.{IsBlockNode}
 use Rattle.yaml_laws.proofs.Examples.MarkerAlone.{stands_for_one}
 use Rattle.saphyr_parser.specs.ForestEvents.{events}
@@ -71,7 +70,15 @@ starts_alone free behind =
     inr (inr refl, ([], codes "\n", refl, tt, refl, refl, inl (refl, refl, feed_is_eol behind), refl))
 
 last_start : AreDocuments (IsBlockNode most_open) examples.start_forest true (codes "---\n")
-last_start = ([], codes "---\n", [], no_filler, starts_alone true [], inl no_last_filler, refl)
+last_start = (
+  [],
+  codes "---\n",
+  [],
+  no_filler,
+  starts_alone true [],
+  ([], [], ([], tt, refl), inl no_last_filler, refl),
+  refl,
+)
 
 one_mark : (behind : List ℕ) → IsDocumentPrefix (codes "\u{feff}") behind
 one_mark behind = mark_prefix [] [] behind no_filler (no_prefix behind)
@@ -159,7 +166,13 @@ behind_stands =
         codes "...\n\u{feff}---\n",
         no_filler,
         starts_alone true (codes "...\n\u{feff}---\n"),
-        inr (codes "...\n\u{feff}", codes "---\n", suffix, last_start, refl),
+        (
+          [],
+          codes "...\n\u{feff}---\n",
+          ([], tt, refl),
+          inr (codes "...\n\u{feff}", codes "---\n", suffix, last_start, refl),
+          refl,
+        ),
         refl,
       ),
       refl,

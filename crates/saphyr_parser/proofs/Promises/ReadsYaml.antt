@@ -14,7 +14,7 @@ use Rattle.saphyr_parser.proofs.Promises.ReadsEach.{reads_each}
 -- each text of YAML's grammar gives tokens of its forest
 abbrev pub ScansYaml : Type 0
 ScansYaml = (limit : ℕ) (forest : Forest) (text : List ℕ) → IsYamlText most_open forest text
-    → length text ≤ limit → limit < 2 ^ 63
+    → length text ≤ limit → length text < 2 ^ 63
     → (tokens : List Kind) × Yields forest tokens × Scans tokens (scan limit text)
 
 pub reads_yaml : ScansYaml → (limit : ℕ) (text : List ℕ) → limit ≤ 4294967295
@@ -22,4 +22,4 @@ pub reads_yaml : ScansYaml → (limit : ℕ) (text : List ℕ) → limit ≤ 429
     → ReadsYaml limit text parser
 reads_yaml scans limit text most bound =
     reads_each (IsYamlText most_open) limit text most bound
-    (λ forest yaml short. scans limit forest text yaml short (omega (arith, most)))
+    (λ forest yaml short. scans limit forest text yaml short (omega (arith, short, most)))

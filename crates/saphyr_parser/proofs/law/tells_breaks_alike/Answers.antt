@@ -6,4 +6,4 @@ use Rattle.saphyr_parser.proofs.law.tells_breaks_alike.Goals as goal
 pub returns : goal.returns
 returns c limit keep text small short =
     tells_too keep (scan limit text) (scan limit (normalized text))
-    (c.scans_breaks_alike.ensures limit text small short).kinds
+    (c.scans_breaks_alike.ensures limit limit text small short short).kinds

@@ -1,12 +1,10 @@
--- Each word of JSON is a plain word.
-use Rattle.std.proofs.Common.{◌≡◌, ◌≢◌, ℕ, Bool, true, false, List, [], ◌∷◌, ◌++◌, refl, sym, ap, ◌∙◌, arith, subst, IsTrue, ◌⊎◌, inl, inr, codes}
-use Rattle.std.specs.Prelude.{◌||◌, ◌&&◌, ◌==◌, not}
+-- The characters of a word of JSON: each goes on with a plain scalar, and the first may begin one.
+use Rattle.std.proofs.Common.{◌≡◌, ℕ, List, [], ◌∷◌, ◌++◌, refl, sym, ap, ◌∙◌, arith, subst, IsTrue, ◌⊎◌, inl, inr, codes}
 use Rattle.std.proofs.lemmas.Bool.Decides.{nat_tests}
-use Rattle.saphyr_input.specs.Indicators.{comma, hyphen, right_brace, right_bracket, full_stop, number_sign}
-use Rattle.saphyr_input.specs.Classes.{IsDigit, is_blank, is_break, is_blank_or_breakz, is_flow}
+use Rattle.saphyr_input.specs.Indicators.{hyphen}
+use Rattle.saphyr_input.specs.Classes.{IsDigit}
 use Rattle.saphyr_scalar.specs.Spelling.Tag.{AreIn}
-use Rattle.saphyr_scalar.specs.Steps.Plain.{is_in_word}
-use Rattle.scalar_laws.specs.Spelling.Plain.{is_plain_safe, IsPlainWord}
+use Rattle.scalar_laws.specs.Spelling.Plain.{is_plain_safe}
 use Rattle.saphyr_scanner.specs.Grammar.Characters.{AreAll}
 use Rattle.json_laws.specs.Grammar.Json.{IsInteger, IsFraction, IsExponent, IsJsonNumber, IsWord}
 
@@ -138,56 +136,3 @@ word_begins t (inr (inr (inl e))) =
       dash = λ n. absurd (omega arith);
     }
 word_begins t (inr (inr (inr h))) = number_begins t h
-
--- Each word of JSON is a plain word.
-pub word_is_plain : (t : List ℕ) → IsWord t → IsPlainWord t
-word_is_plain t h =
-    let b = word_begins t h in
-    record {
-      first = b.first;
-      others = b.others;
-      is = b.is;
-      safe = word_safe t h;
-      no_comment = no_comment b.first b.kind;
-      no_dot = no_dot b.first b.kind;
-      dash = λ e. let d = b.dash e in (d.0, d.1, d.2, (λ is. absurd (omega (arith, d.3))));
-    }
-  where
-    no_comment : (c : ℕ) → (c ≡ hyphen) ⊎ IsDigit c ⊎ (c ≡ 116) ⊎ (c ≡ 102) ⊎ (c ≡ 110) → c ≢ number_sign
-    no_comment c k = grind arith
-
-    no_dot : (c : ℕ) → (c ≡ hyphen) ⊎ IsDigit c ⊎ (c ≡ 116) ⊎ (c ≡ 102) ⊎ (c ≡ 110) → c ≢ full_stop
-    no_dot c k = grind arith
-
--- ## What stands behind a word
-
--- What stands behind a value and the white space behind that: in flow `,`, `]` or `}`, else the text's end.
-abbrev pub IsBehindValue : Bool → List ℕ → Type 0
-IsBehindValue in_flow [] = Unit {0}
-IsBehindValue in_flow (c ∷ cs) = (in_flow ≡ true) × ((c ≡ 44) ⊎ (c ≡ 93) ⊎ (c ≡ 125))
-
--- a mark behind a value is no blank or break, and no plain scalar goes on with it in flow
-pub record IsValueEnd (c : ℕ) : Type 0 where
-  pub blank : is_blank c ≡ false
-  pub break : is_break c ≡ false
-  pub flow : is_flow c ≡ true
-  pub colon : (c == 58) ≡ false
-
-mark_behind : (c : ℕ) → (c ≡ comma) ⊎ (c ≡ right_bracket) ⊎ (c ≡ right_brace) → IsValueEnd c
-mark_behind c (inl e) = subst IsValueEnd (sym e) (record { blank = refl; break = refl; flow = refl; colon = refl })
-mark_behind c (inr (inl e)) = subst IsValueEnd (sym e)
-    (record { blank = refl; break = refl; flow = refl; colon = refl })
-mark_behind c (inr (inr e)) = subst IsValueEnd (sym e)
-    (record { blank = refl; break = refl; flow = refl; colon = refl })
-
-neither : (a b : Bool) → (a && not (b || true)) ≡ false
-neither true true = refl
-neither true false = refl
-neither false b = refl
-
--- no plain scalar goes on behind a value
-pub behind_value_stops : (in_flow : Bool) (y : List ℕ) → IsBehindValue in_flow y → is_in_word in_flow y ≡ false
-unfolding is_in_word
-behind_value_stops in_flow [] h = refl
-behind_value_stops in_flow (c ∷ cs) h =
-    let m = mark_behind c h.1 in rw (h.0, m.colon, m.flow) (neither (not (is_blank_or_breakz c)) (c == 65279))

@@ -1,0 +1,73 @@
+-- What a piece of a text becomes where the text's breaks are normalized.
+use Rattle.std.proofs.Common.{◌≡◌, ℕ, Bool, true, false, List, [], ◌∷◌, ◌++◌, refl, sym, ap, ◌∙◌, arith, subst, append_assoc, slice_index, inl, inr}
+use Rattle.std.specs.Prelude.{◌==◌, if◌then◌else◌}
+use Rattle.std.proofs.lemmas.Bool.Decides.{nat_tests}
+use Rattle.saphyr_input.specs.Breaks.{normal_break, normalized}
+use Rattle.saphyr_input.specs.Classes.{line_feed}
+use Rattle.saphyr_scalar.specs.Spelling.Tag.{AreIn}
+use Rattle.json_laws.specs.Grammar.Json.{IsWhite, IsWhiteSpace}
+use Rattle.json_laws.proofs.InYaml.White.{is_white}
+use Rattle.json_laws.proofs.InYaml.Calm.{is_no_break}
+
+-- the piece t before x, of whose normalized text P holds
+pub record Becomes (P : List ℕ → Type 0) (t x : List ℕ) : Type 0 where
+  pub text : List ℕ
+  pub normal : normalized (t ++ x) ≡ text ++ normalized x
+  pub holds : P text
+
+-- one piece and another behind it
+abbrev pub Both : (List ℕ → Type 0) → (List ℕ → Type 0) → List ℕ → Type 0
+Both P Q t = (front back : List ℕ) × P front × Q back × (t ≡ front ++ back)
+
+pub become_both : {P Q : List ℕ → Type 0} (a b x : List ℕ) → Becomes P a (b ++ x) → Becomes Q b x
+    → Becomes (Both P Q) (a ++ b) x
+become_both a b x p q = record {
+  text = p.text ++ q.text;
+  normal = ap normalized (append_assoc a b x) ∙ p.normal ∙ ap (λ (y : List ℕ). p.text ++ y) q.normal
+      ∙ sym (append_assoc p.text q.text (normalized x));
+  holds = (p.text, q.text, p.holds, q.holds, refl);
+}
+
+pub becomes_so : {P Q : List ℕ → Type 0} {t x : List ℕ} → ((n : List ℕ) → P n → Q n) → Becomes P t x → Becomes Q t x
+becomes_so f p = record { text = p.text; normal = p.normal; holds = f p.text p.holds }
+
+-- ## A piece without a break stays
+
+no_return : (c : ℕ) → is_no_break c ≡ true → (c == 13) ≡ false
+no_return c h = grind (arith, nat_tests)
+
+stays_normal : (t x : List ℕ) → AreIn is_no_break t → normalized (t ++ x) ≡ t ++ normalized x
+stays_normal [] x h = refl
+stays_normal (c ∷ cs) x h = rw (no_return c h.0) (ap (λ (y : List ℕ). c ∷ y) (stays_normal cs x h.1))
+
+pub stays : {P : List ℕ → Type 0} (t x : List ℕ) → AreIn is_no_break t → P t → Becomes P t x
+stays t x h p = record { text = t; normal = stays_normal t x h; holds = p }
+
+-- ## White space stays white space
+
+white_break : (c : ℕ) (others : List ℕ) → IsWhite c → AreIn is_white (normal_break c others)
+white_break c others (inl e) = subst (λ (x : ℕ). AreIn is_white (normal_break x others)) (sym e) (refl, tt)
+white_break c others (inr (inl e)) = subst (λ (x : ℕ). AreIn is_white (normal_break x others)) (sym e) (refl, tt)
+white_break c others (inr (inr (inl e))) =
+    subst (λ (x : ℕ). AreIn is_white (normal_break x others)) (sym e) (refl, tt)
+white_break c others (inr (inr (inr e))) =
+    subst (λ (x : ℕ). AreIn is_white (normal_break x others)) (sym e) (by (slice_index others 0 == 10))
+  where
+    by : (b : Bool) → AreIn is_white (if b then [] else line_feed ∷ [])
+    by true = tt
+    by false = (refl, tt)
+
+pub white_both : (a b : List ℕ) → AreIn is_white a → AreIn is_white b → AreIn is_white (a ++ b)
+white_both [] b h k = k
+white_both (c ∷ cs) b h k = (h.0, white_both cs b h.1 k)
+
+pub white_becomes : (w x : List ℕ) → IsWhiteSpace w → Becomes (AreIn is_white) w x
+white_becomes [] x h = record { text = []; normal = refl; holds = tt }
+white_becomes (c ∷ w) x h =
+    let r = white_becomes w x h.1 in
+    let first = normal_break c (w ++ x) in
+    record {
+      text = first ++ r.text;
+      normal = ap (λ (y : List ℕ). first ++ y) r.normal ∙ sym (append_assoc first r.text (normalized x));
+      holds = white_both first r.text (white_break c (w ++ x) h.0) r.holds;
+    }

@@ -1,0 +1,60 @@
+-- No document marker begins a line of a text of JSON. A piece is calm where it brings none, whatever it stands before.
+use Rattle.std.proofs.Common.{◌≡◌, ℕ, Bool, true, false, List, [], ◌∷◌, ◌++◌, refl, sym, arith, subst, append_assoc}
+use Rattle.std.specs.Prelude.{◌||◌, ◌==◌, not}
+use Rattle.std.proofs.lemmas.Bool.Decides.{nat_tests}
+use Rattle.saphyr_input.specs.Classes.{is_break}
+use Rattle.saphyr_input.specs.Places.{is_document_indicator}
+use Rattle.saphyr_scalar.specs.Spelling.Tag.{AreIn}
+use Rattle.yaml_laws.specs.Grammar.Yaml.{has_marker}
+use Rattle.json_laws.proofs.InYaml.White.{is_white}
+
+abbrev pub IsCalm : List ℕ → Type 0
+IsCalm t = (rest : List ℕ) → has_marker true rest ≡ false → has_marker true (t ++ rest) ≡ false
+
+pub calm_both : (a b : List ℕ) → IsCalm a → IsCalm b → IsCalm (a ++ b)
+calm_both a b p q rest h =
+    subst (λ (x : List ℕ). has_marker true x ≡ false) (sym (append_assoc a b rest)) (p (b ++ rest) (q rest h))
+
+-- a marker begins no later line where none begins a line
+later_lines : (t : List ℕ) → has_marker true t ≡ false → has_marker false t ≡ false
+later_lines [] h = refl
+later_lines (c ∷ cs) h = second (is_document_indicator (c ∷ cs)) (has_marker (c == 10) cs) h
+  where
+    second : (a b : Bool) → (a || b) ≡ false → b ≡ false
+    second false b h = h
+    second true b h = absurd (cc)
+
+-- a character that begins no marker
+pub calm_character : (c : ℕ) → (c == 45) ≡ false → (c == 46) ≡ false → IsCalm (c ∷ [])
+calm_character c no_dash no_dot rest h = rw (no_dash, no_dot) (by_feed (c == 10))
+  where
+    by_feed : (b : Bool) → has_marker b rest ≡ false
+    by_feed true = h
+    by_feed false = later_lines rest h
+
+white_begins_none : (c : ℕ) → is_white c ≡ true → ((c == 45) ≡ false) × ((c == 46) ≡ false)
+white_begins_none c h = (grind (arith, nat_tests), grind (arith, nat_tests))
+
+pub white_calm : (w : List ℕ) → AreIn is_white w → IsCalm w
+white_calm [] h rest k = k
+white_calm (c ∷ w) h rest k =
+    let n = white_begins_none c h.0 in calm_character c n.0 n.1 (w ++ rest) (white_calm w h.1 rest k)
+
+-- ## Pieces without a break
+
+abbrev pub is_no_break : ℕ → Bool
+is_no_break c = not (is_break c)
+
+no_feed : (c : ℕ) → is_no_break c ≡ true → (c == 10) ≡ false
+no_feed c h = grind (arith, nat_tests)
+
+inside_line : (t rest : List ℕ) → AreIn is_no_break t → has_marker true rest ≡ false
+    → has_marker false (t ++ rest) ≡ false
+inside_line [] rest h k = later_lines rest k
+inside_line (c ∷ cs) rest h k = rw (no_feed c h.0) (inside_line cs rest h.1 k)
+
+-- a piece whose front is no marker
+pub calm_line : (c : ℕ) (cs : List ℕ) → AreIn is_no_break (c ∷ cs)
+    → ((rest : List ℕ) → is_document_indicator (c ∷ (cs ++ rest)) ≡ false)
+    → IsCalm (c ∷ cs)
+calm_line c cs h none rest k = rw (none rest, no_feed c h.0) (inside_line cs rest h.1 k)

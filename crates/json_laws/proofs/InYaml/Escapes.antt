@@ -1,0 +1,45 @@
+-- The escapes of JSON's strings are escapes of double quoted scalars.
+use Rattle.std.proofs.Common.{◌≡◌, ℕ, ◌+◌, ◌*◌, ◌<◌, ◌≤◌, List, refl, sym, arith, subst, IsTrue, inl, inr}
+use Rattle.std.specs.Prelude.{Some}
+use Rattle.std.proofs.lemmas.Bool.Decides.{nat_tests}
+use Rattle.saphyr_input.specs.Classes.{IsHex, is_hex, hex_value}
+use Rattle.saphyr_values.specs.Escapes.{is_scalar_value, short_escape}
+use Rattle.saphyr_scalar.specs.Spelling.OneLine as spelling
+use Rattle.saphyr_scalar.specs.Spelling.OneLine.{stands_in_double_quotes, IsInside, closed, itself, escaped, numbered, IsDoubleQuoted}
+use Rattle.saphyr_scanner.specs.Grammar.Characters.{IsSurrogate}
+use Rattle.json_laws.specs.Grammar.Json.{IsJsonEscape, IsCode}
+
+pub short_fits : (letter c : ℕ) → IsJsonEscape letter c → short_escape letter ≡ Some c
+unfolding short_escape
+short_fits letter c (inl h) = rw (h.0, h.1) refl
+short_fits letter c (inr (inl h)) = rw (h.0, h.1) refl
+short_fits letter c (inr (inr (inl h))) = rw (h.0, h.1) refl
+short_fits letter c (inr (inr (inr (inl h)))) = rw (h.0, h.1) refl
+short_fits letter c (inr (inr (inr (inr (inl h))))) = rw (h.0, h.1) refl
+short_fits letter c (inr (inr (inr (inr (inr (inl h)))))) = rw (h.0, h.1) refl
+short_fits letter c (inr (inr (inr (inr (inr (inr (inl h))))))) = rw (h.0, h.1) refl
+short_fits letter c (inr (inr (inr (inr (inr (inr (inr h))))))) = rw (h.0, h.1) refl
+
+hex_fits : (d : ℕ) → IsHex d → IsTrue (is_hex d)
+hex_fits d h = grind (arith, nat_tests)
+
+hex_small : (d : ℕ) → IsHex d → hex_value d ≤ 15
+hex_small d h = grind (arith, nat_tests)
+
+scalar_fits : (c : ℕ) → c < 0x1_0000 → ¬ (IsSurrogate c) → IsTrue (is_scalar_value c)
+scalar_fits c h other = grind (arith, nat_tests)
+
+four : (a b d e c : ℕ) → c ≡ ((a * 16 + b) * 16 + d) * 16 + e → (((0 * 16 + a) * 16 + b) * 16 + d) * 16 + e ≡ c
+four a b d e c is = omega arith
+
+-- four digits that stand for a character
+pub code_fits : (c : ℕ) (code : List ℕ) → IsCode c code → ¬ (IsSurrogate c) → spelling.IsNumber 117 c code
+code_fits c code (d3, d2, d1, d0, h3, h2, h1, h0, is, spelled) other =
+    let small : c < 0x1_0000 = omega (arith, is, hex_small d3 h3, hex_small d2 h2, hex_small d1 h1, hex_small d0 h0) in
+    subst (spelling.IsNumber 117 c) (sym spelled)
+    (record {
+      count = refl;
+      hex = (hex_fits d3 h3, (hex_fits d2 h2, (hex_fits d1 h1, (hex_fits d0 h0, tt))));
+      value = four (hex_value d3) (hex_value d2) (hex_value d1) (hex_value d0) c is;
+      scalar = scalar_fits c small other;
+    })

@@ -1,0 +1,144 @@
+-- The strings of JSON are double quoted scalars of YAML's grammar, on one line.
+use Rattle.std.proofs.Common.{◌≡◌, ℕ, Bool, true, false, List, [], ◌∷◌, ◌++◌, refl, sym, ap, ◌∙◌, arith, subst, append_assoc, codes, inl, inr}
+use Rattle.std.specs.Prelude.{◌==◌, if◌then◌else◌}
+use Rattle.std.proofs.lemmas.Bool.Decides.{nat_tests}
+use Rattle.saphyr_input.specs.Classes.{IsHex, is_blank}
+use Rattle.saphyr_scalar.specs.Spelling.Quoted.{stands_for_itself, IsText, closed, itself, escaped, numbered}
+use Rattle.saphyr_scalar.specs.Spelling.Tag.{AreIn}
+use Rattle.saphyr_values.specs.declared.flow.Quote.TheVariants.{Double}
+use Rattle.saphyr_values.specs.declared.folding.Item.{Item}
+use Rattle.saphyr_values.specs.declared.folding.Item.TheVariants.{Blank, Raw, Escaped, Break, EscapedBreak}
+use Rattle.saphyr_values.specs.Flow.{raw_item}
+use Rattle.saphyr_values.specs.Folding.{folded, is_before_break}
+use Rattle.scalar_laws.specs.Spelling.QuotedLines.{AreOnLine}
+use Rattle.scalar_laws.proofs.Beginnings.{both_in}
+use Rattle.scalar_laws.proofs.Quoted.Reads.{line_fits}
+use Rattle.yaml_laws.specs.Grammar.FlowScalars.{IsQuoted}
+use Rattle.json_laws.specs.Grammar.Json.{IsUnescaped, IsJsonEscape, IsJsonSpelling, AreSpellings, IsString}
+use Rattle.json_laws.proofs.InYaml.Escapes.{short_fits, code_fits}
+use Rattle.json_laws.proofs.InYaml.Calm.{IsCalm, is_no_break, calm_line}
+
+unescaped_stands : (c : ℕ) → IsUnescaped c → stands_for_itself Double c ≡ true
+unescaped_stands c h = grind (arith, nat_tests)
+
+-- ## The items of a string
+
+-- Items on one line, which stand for these characters.
+record Spells (t value : List ℕ) : Type 0 where
+  items : List Item
+  text : IsText Double (t ++ codes "\"") items []
+  line : AreOnLine items
+  value_is : folded items ≡ value
+
+before_no_break : (items : List Item) → AreOnLine items → is_before_break items ≡ false
+before_no_break [] h = refl
+before_no_break (Blank c ∷ items) h = before_no_break items h
+before_no_break (Raw c ∷ items) h = refl
+before_no_break (Escaped c ∷ items) h = refl
+before_no_break (Break ∷ items) h = absurd h
+before_no_break (EscapedBreak ∷ items) h = refl
+
+-- an item of a character that stands for itself
+raw_line : (c : ℕ) (items : List Item) → (c == 10) ≡ false → AreOnLine items → AreOnLine (raw_item c ∷ items)
+raw_line c items h on = rw h (by (is_blank c))
+  where
+    by : (b : Bool) → AreOnLine ((if b then Blank c else Raw c) ∷ items)
+    by true = on
+    by false = on
+
+raw_folded : (c : ℕ) (items : List Item) → (c == 10) ≡ false → AreOnLine items
+    → folded (raw_item c ∷ items) ≡ c ∷ folded items
+raw_folded c items h on = rw h (by (is_blank c))
+  where
+    by : (b : Bool) → folded ((if b then Blank c else Raw c) ∷ items) ≡ c ∷ folded items
+    by true = rw (before_no_break items on) refl
+    by false = refl
+
+one_spells : (c : ℕ) (spelling more value : List ℕ) → IsJsonSpelling c spelling → Spells more value
+    → Spells (spelling ++ more) (c ∷ value)
+one_spells c spelling more value (inl h) r =
+    let n : (c == 10) ≡ false = no_feed c h.0 in
+    subst (λ (y : List ℕ). Spells (y ++ more) (c ∷ value)) (sym h.1) (record {
+      items = raw_item c ∷ r.items;
+      text = itself Double c (more ++ codes "\"") r.items [] (unescaped_stands c h.0) r.text;
+      line = raw_line c r.items n r.line;
+      value_is = raw_folded c r.items n r.line ∙ ap (λ (y : List ℕ). c ∷ y) r.value_is;
+    })
+  where
+    no_feed : (c : ℕ) → IsUnescaped c → (c == 10) ≡ false
+    no_feed c h = grind (arith, nat_tests)
+one_spells c spelling more value (inr (inl h)) r =
+    subst (λ (y : List ℕ). Spells (y ++ more) (c ∷ value)) (sym h.2) (record {
+      items = Escaped c ∷ r.items;
+      text = escaped h.0 c (more ++ codes "\"") r.items [] (short_fits h.0 c h.1) r.text;
+      line = r.line;
+      value_is = ap (λ (y : List ℕ). c ∷ y) r.value_is;
+    })
+one_spells c spelling more value (inr (inr h)) r =
+    subst (λ (y : List ℕ). Spells (y ++ more) (c ∷ value)) (sym h.3) (record {
+      items = Escaped c ∷ r.items;
+      text = subst (λ (y : List ℕ). IsText Double (92 ∷ 117 ∷ y) (Escaped c ∷ r.items) [])
+          (sym (append_assoc h.0 more (codes "\"")))
+          (numbered 117 c h.0 (more ++ codes "\"") r.items [] (code_fits c h.0 h.1 h.2) r.text);
+      line = r.line;
+      value_is = ap (λ (y : List ℕ). c ∷ y) r.value_is;
+    })
+
+spells : (value t : List ℕ) → AreSpellings value t → Spells t value
+spells [] t h = subst (λ (y : List ℕ). Spells y []) (sym h)
+    (record { items = []; text = closed Double [] refl; line = tt; value_is = refl })
+spells (c ∷ others) t h =
+    subst (λ (y : List ℕ). Spells y (c ∷ others)) (sym h.4) (one_spells c h.0 h.1 others h.2 (spells others h.1 h.3))
+
+-- A string of JSON is a double quoted scalar, of the same characters.
+pub string_quoted : (indent : ℕ) (value t : List ℕ) → IsString value t → IsQuoted Double indent value t
+string_quoted indent value t h =
+    let s = spells value h.0 h.1 in (
+      h.0 ++ codes "\"",
+      s.items,
+      s.text,
+      line_fits indent Double (h.0 ++ codes "\"") s.items [] s.text s.line,
+      sym s.value_is,
+      h.2,
+    )
+
+-- ## No break and no marker stands in it
+
+hex_no_break : (d : ℕ) → IsHex d → is_no_break d ≡ true
+hex_no_break d h = grind (arith, nat_tests)
+
+letter_no_break : (letter c : ℕ) → IsJsonEscape letter c → is_no_break letter ≡ true
+letter_no_break letter c (inl h) = rw h.0 refl
+letter_no_break letter c (inr (inl h)) = rw h.0 refl
+letter_no_break letter c (inr (inr (inl h))) = rw h.0 refl
+letter_no_break letter c (inr (inr (inr (inl h)))) = rw h.0 refl
+letter_no_break letter c (inr (inr (inr (inr (inl h))))) = rw h.0 refl
+letter_no_break letter c (inr (inr (inr (inr (inr (inl h)))))) = rw h.0 refl
+letter_no_break letter c (inr (inr (inr (inr (inr (inr (inl h))))))) = rw h.0 refl
+letter_no_break letter c (inr (inr (inr (inr (inr (inr (inr h))))))) = rw h.0 refl
+
+one_no_break : (c : ℕ) (t : List ℕ) → IsJsonSpelling c t → AreIn is_no_break t
+one_no_break c t (inl h) = subst (AreIn is_no_break) (sym h.1) (unescaped c h.0, tt)
+  where
+    unescaped : (c : ℕ) → IsUnescaped c → is_no_break c ≡ true
+    unescaped c h = grind (arith, nat_tests)
+one_no_break c t (inr (inl h)) = subst (AreIn is_no_break) (sym h.2) (refl, (letter_no_break h.0 c h.1, tt))
+one_no_break c t (inr (inr (code, (d3, d2, d1, d0, h3, h2, h1, h0, is, spelled), other, e))) =
+    subst (AreIn is_no_break) (sym (e ∙ ap (λ (y : List ℕ). codes "\\u" ++ y) spelled))
+    (refl, (refl, (hex_no_break d3 h3, (hex_no_break d2 h2, (hex_no_break d1 h1, (hex_no_break d0 h0, tt))))))
+
+inside_no_break : (value t : List ℕ) → AreSpellings value t → AreIn is_no_break t
+inside_no_break [] t h = subst (AreIn is_no_break) (sym h) tt
+inside_no_break (c ∷ others) t h =
+    subst (AreIn is_no_break) (sym h.4)
+    (both_in is_no_break h.0 h.1 (one_no_break c h.0 h.2) (inside_no_break others h.1 h.3))
+
+pub string_no_break : (value t : List ℕ) → IsString value t → AreIn is_no_break t
+string_no_break value t h =
+    subst (AreIn is_no_break) (sym h.2)
+    (refl, both_in is_no_break h.0 (codes "\"") (inside_no_break value h.0 h.1) (refl, tt))
+
+pub string_calm : (value t : List ℕ) → IsString value t → IsCalm t
+string_calm value t h =
+    subst IsCalm (sym h.2)
+    (calm_line 34 (h.0 ++ codes "\"") (subst (AreIn is_no_break) h.2 (string_no_break value t h)) (λ rest. refl))

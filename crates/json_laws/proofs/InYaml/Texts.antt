@@ -1,0 +1,88 @@
+-- A text of JSON is a text of YAML's grammar: its value is the node of a bare document, in flow style.
+use Rattle.std.proofs.Common.{◌≡◌, ℕ, ◌≤◌, true, false, List, [], ◌∷◌, ◌++◌, refl, sym, ap, ◌∙◌, subst, append_assoc, append-nil, inl, inr}
+use Rattle.saphyr_input.specs.Breaks.{normalized}
+use Rattle.saphyr_scalar.specs.Spelling.Tag.{AreIn}
+use Rattle.saphyr_scanner.specs.Grammar.Forest.{Node, Alias, Scalar, Seq, Map, bare, Document, Forest, open_collections, open_in_forest}
+use Rattle.yaml_laws.specs.Grammar.BlockNodes.{AtStart, IsFlowInBlock, IsBlockNode}
+use Rattle.yaml_laws.specs.Grammar.FlowNodes.{IsFlowNode}
+use Rattle.yaml_laws.specs.Grammar.Yaml.{has_marker, no_prefix, IsYaml, IsYamlText}
+use Rattle.json_laws.specs.Grammar.Json.{IsJsonText, IsJson}
+use Rattle.json_laws.proofs.InYaml.White.{is_white, white_gap, white_ends}
+use Rattle.json_laws.proofs.InYaml.Calm.{IsCalm, calm_both, white_calm}
+use Rattle.json_laws.proofs.InYaml.Becomes.{Becomes, Both, become_both, white_both, white_becomes}
+use Rattle.json_laws.proofs.InYaml.Parts.{IsPadded}
+use Rattle.json_laws.proofs.InYaml.Nodes.{first_least, value_becomes}
+
+-- a node in flow style is one at block level
+flow_node : (room : ℕ) (node : Node) (t behind : List ℕ) → IsFlowInBlock room node AtStart t behind
+    → IsBlockNode room node AtStart t behind
+flow_node room (Alias name) t behind h = h
+flow_node room (Scalar p style value) t behind h = inr (inl h)
+flow_node room (Seq p nodes) t behind h = inl h
+flow_node room (Map p pairs) t behind h = inl h
+
+regrouped : (g c a o : List ℕ) → g ++ (c ++ (a ++ o)) ≡ (g ++ (c ++ a)) ++ o
+regrouped g c a o = simp append_assoc
+
+-- white space round a node in flow style, which is that of a bare document
+node_yaml : (room : ℕ) (node : Node) (gap core w : List ℕ) → AreIn is_white gap → IsFlowNode room node false 0 core
+    → IsCalm core → AreIn is_white w
+    → IsYaml room (bare node ∷ []) (gap ++ (core ++ w))
+node_yaml room node gap core w gap_white flow calm white =
+    let e = white_ends w white in
+    let document = gap ++ (core ++ e.end) in
+    let no_marker = calm_both gap (core ++ e.end) (white_calm gap gap_white)
+    (calm_both core e.end calm (white_calm e.end e.white)) [] refl in
+    let unmarked : has_marker true document ≡ false = subst (λ (x : List ℕ). has_marker true x ≡ false)
+    (append-nil document) no_marker in
+    let is : gap ++ (core ++ w) ≡ document ++ e.others = ap (λ (x : List ℕ). gap ++ (core ++ x)) e.is
+    ∙ regrouped gap core e.end e.others in
+    let stands = flow_node room node document e.others
+    (gap, core, e.end, white_gap gap gap_white, flow, refl, e.ends, refl) in (
+      [],
+      gap ++ (core ++ w),
+      no_prefix (gap ++ (core ++ w)),
+      (
+        [],
+        document,
+        e.others,
+        ([], tt, refl),
+        inl (refl, (refl, unmarked, stands)),
+        ([], e.others, ([], tt, refl), inl e.more, refl),
+        is,
+      ),
+      refl,
+    )
+
+abbrev IsRoot : ℕ → Node → List ℕ → Type 0
+IsRoot room node t = Both (AreIn is_white) (Both (IsPadded room node false) (AreIn is_white)) t
+
+joined : (w b c a v : List ℕ) → w ++ ((b ++ (c ++ a)) ++ v) ≡ (w ++ b) ++ (c ++ (a ++ v))
+joined w b c a v = simp append_assoc
+
+root_yaml : (room : ℕ) (node : Node) (n : List ℕ) → IsRoot room node n → IsYaml room (bare node ∷ []) n
+root_yaml room node n (w, rest, wh, (t, v, p, vh, e1), e0) =
+    let is : n ≡ (w ++ p.before) ++ (p.core ++ (p.after ++ v)) = e0 ∙ ap (λ (x : List ℕ). w ++ x)
+    (e1 ∙ ap (λ (x : List ℕ). x ++ v) p.is) ∙ joined w p.before p.core p.after v in
+    subst (IsYaml room (bare node ∷ [])) (sym is)
+    (node_yaml room node (w ++ p.before) p.core (p.after ++ v) (white_both w p.before wh p.white_before) p.flow p.calm
+    (white_both p.after v p.white_after vh))
+
+text_yaml : (room : ℕ) (node : Node) (text : List ℕ) → IsJsonText node text → open_collections node ≤ room
+    → IsYamlText room (bare node ∷ []) text
+text_yaml room node text (before, value, after, bh, h, ah, is) fits =
+    let r : Becomes (IsRoot room node) (before ++ (value ++ after)) [] =
+    become_both before (value ++ after) [] (white_becomes before ((value ++ after) ++ []) bh)
+    (become_both value after [] (value_becomes room node false value (after ++ []) h fits) (white_becomes after [] ah)) in
+    let same : normalized text ≡ r.text =
+    ap normalized (is ∙ sym (append-nil (before ++ (value ++ after)))) ∙ r.normal ∙ append-nil r.text in
+    subst (IsYaml room (bare node ∷ [])) (sym same) (root_yaml room node r.text r.holds)
+
+-- Each text of JSON is a text of YAML's grammar, of the same forest.
+pub json_is_yaml : (room : ℕ) (forest : Forest) (text : List ℕ) → IsJson forest text → open_in_forest forest ≤ room
+    → IsYamlText room forest text
+json_is_yaml room (document ∷ []) text h fits =
+    subst (λ (d : Document). IsYamlText room (d ∷ []) text) (sym h.0)
+    (text_yaml room document.node text h.1 (first_least (open_collections document.node) 0 room fits))
+json_is_yaml room [] text h fits = elim h [ ]
+json_is_yaml room (document ∷ (_ ∷ _)) text h fits = elim h [ ]
