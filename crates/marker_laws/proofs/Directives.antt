@@ -1,0 +1,172 @@
+-- Directives are read alike.
+use Rattle.std.proofs.Common.{◌≡◌, ℕ, suc, ◌+◌, ◌-◌, ◌*◌, Bool, false, List, [], ◌∷◌, length, slice_index, refl, Ok, cond, encode_utf8, codes}
+use Rattle.std.specs.Prelude.{◌||◌, ◌==◌, nat_lt, bytes_eq}
+use Rattle.std.specs.List.{prefix_len}
+use Rattle.saphyr_input.specs.Classes.{is_break, is_blank, is_breakz, is_blank_or_breakz, is_digit, is_alpha, is_tag_char, is_yaml_non_space, is_yaml_non_break}
+use Rattle.saphyr_input.specs.declared.input.SkipTabs.{SkipTabs}
+use Rattle.saphyr_input.specs.declared.input.SkipTabs.TheVariants as skip
+use Rattle.saphyr_scalar.specs.declared.scalar.position.Marker.{Marker}
+use Rattle.saphyr_scalar.specs.Views.Cursor.{Cursor, ◌>>=◌, refuse, along, pass_break, pass_comment}
+use Rattle.saphyr_scalar.specs.declared.scalar.fault.FaultText.TheVariants as fault
+use Rattle.saphyr_scalar.specs.Steps.Quoted.{mid_line, with_front}
+use Rattle.saphyr_scalar.specs.Steps.Tag.{CharacterSet, handle_of, decoded_at}
+use Rattle.saphyr_scalar.specs.Steps.Directive.{pass_all_blanks, directive_name_of, name, number_end, number_from, number, behind_major, version_directive, handle_behind_word, handle, prefix, behind_prefix, tag_directive, value, line_end, directive}
+use Rattle.saphyr_scalar.specs.Spelling.Directive.{ReadDirective, version, tag_prefix, reserved}
+use Rattle.saphyr_scalar.proofs.NoBreaks.{class_no_break}
+use Rattle.marker_laws.specs.Beside.{Ahead, dashes, dots, character, reading, Before, before, Beside, beside, Gives, refused, given, Pairs, pairs, Triples, triples}
+use Rattle.marker_laws.proofs.Ahead.{run_before, stands_before}
+use Rattle.marker_laws.proofs.Results.{both_then, choose, by_first, blanks_before}
+use Rattle.marker_laws.proofs.Separations.{separation_beside, break_beside}
+use Rattle.marker_laws.proofs.Names.{one_before, one_passed, run_of, character_same, front_same, decoded_same}
+
+blanks_of : (s t : Cursor) → Before s t → Before (pass_all_blanks s) (pass_all_blanks t)
+blanks_of _ _ (before s {q = q} e) =
+    let x = run_before is_blank refl refl e in
+    blanks_before s q (prefix_len is_blank s.rest) (prefix_len is_blank q) x.len x.left
+
+comment_before : (s t : Cursor) → Before s t → Before (pass_comment s) (pass_comment t)
+comment_before _ _ (before s {q = q} e) =
+    let x = run_before is_yaml_non_break refl refl e in
+    blanks_before s q (prefix_len is_yaml_non_break s.rest) (prefix_len is_yaml_non_break q) x.len x.left
+
+name_of_same : (m : Marker) (x y : List ℕ × Cursor) → Pairs Before x y
+    → Gives (Pairs Before) (directive_name_of m x) (directive_name_of m y)
+unfolding directive_name_of
+name_of_same m _ _ (pairs a (before s e)) =
+    choose (Pairs Before) (length a == 0) (length a == 0) _ _ _ _ refl (λ _. refused _)
+    (λ _. by_first (Pairs Before) is_blank_or_breakz e _ _ _ _ (λ _. given (pairs a (before s e))) (λ _. refused _))
+
+name_same : (s t : Cursor) → Before s t → Gives (Pairs Before) (name s) (name t)
+unfolding name
+name_same _ _ (before s {q = q} e) =
+    name_of_same s.mark _ _ (run_of is_yaml_non_space refl refl [] s (reading q s) (before s e))
+
+-- ## Versions
+
+number_end_same : (a : Marker) (k v : ℕ) (s t : Cursor) → Before s t
+    → Gives (Pairs Before) (number_end a k v s) (number_end a k v t)
+unfolding number_end
+number_end_same a k v s t h =
+    choose (Pairs Before) (k == 0) (k == 0) _ _ _ _ refl (λ _. refused _) (λ _. given (pairs v h))
+
+number_by : (a : Marker) (k v : ℕ) (m : Marker) {b : Bool} {r q : List ℕ} → Ahead b r q → b ≡ false
+    → Gives (Pairs Before) (number_from a k v m r) (number_from a k v m q)
+unfolding number_from
+number_by a k v m (dashes d e) f = absurd (cc)
+number_by a k v m (dots d e) f = absurd (cc)
+number_by a k v m (character c {r = r} {q = q} h) f =
+    choose (Pairs Before) (is_digit c) (is_digit c) _ _ _ _ refl
+    (λ g. choose (Pairs Before) (nat_lt k 9) (nat_lt k 9) _ _ _ _ refl
+    (λ _. number_by a (suc k) (v * 10 + (c - 48)) (along m 1) h (class_no_break is_digit refl refl c g))
+    (λ _. refused _))
+    (λ _. number_end_same a k v (mid_line m (c ∷ r)) (mid_line m (c ∷ q)) (before (mid_line m (c ∷ r)) (character c h)))
+
+number_same : (a : Marker) (s t : Cursor) → Before s t → Gives (Pairs Before) (number a s) (number a t)
+number_same a _ _ (before s e) = number_by a 0 0 s.mark e refl
+
+version_of : (k : ℕ) (x y : ℕ × Cursor) → Pairs Before x y
+    → Gives (Pairs Before) (Ok (version k x.0, x.1)) (Ok (version k y.0, y.1))
+version_of k _ _ (pairs v h) = given (pairs (version k v) h)
+
+major_same : (m : Marker) (x y : ℕ × Cursor) → Pairs Before x y
+    → Gives (Pairs Before) (behind_major m x) (behind_major m y)
+unfolding behind_major
+major_same m _ _ (pairs v (before s e)) =
+    by_first (Pairs Before) (λ c. c == 46) e _ _ _ _
+    (λ h. both_then (Pairs Before) (Pairs Before) (number_same m _ _ (one_passed s (λ c. c == 46) refl refl e h))
+    (version_of v))
+    (λ _. refused _)
+
+version_same : (m : Marker) (s t : Cursor) → Before s t
+    → Gives (Pairs Before) (version_directive m s) (version_directive m t)
+unfolding version_directive
+version_same m s t h = both_then (Pairs Before) (Pairs Before) (number_same m _ _ (blanks_of s t h)) (major_same m)
+
+-- ## Handles and prefixes
+
+handle_word_same : (m : Marker) (x y : List ℕ × Cursor) → Pairs Before x y
+    → Gives (Pairs Before) (handle_behind_word m x) (handle_behind_word m y)
+unfolding handle_behind_word
+handle_word_same m _ _ (pairs a (before s e)) =
+    by_first (Pairs Before) (λ c. c == 33) e _ _ _ _
+    (λ h. given (pairs (handle_of a) (one_passed s (λ c. c == 33) refl refl e h)))
+    (λ _. choose (Pairs Before) (length a == 0) (length a == 0) _ _ _ _ refl
+    (λ _. given (pairs (codes "!") (before s e))) (λ _. refused _))
+
+handle_same : (m : Marker) (s t : Cursor) → Before s t → Gives (Pairs Before) (handle m s) (handle m t)
+unfolding handle
+handle_same m _ _ (before s e) =
+    by_first (Pairs Before) (λ c. c == 33) e _ _ _ _
+    (λ h. handle_word_same m _ _ (run_of is_alpha refl refl [] _ _ (one_passed s (λ c. c == 33) refl refl e h)))
+    (λ _. refused _)
+
+prefix_of : (set : CharacterSet) (m : Marker) (x y : ℕ × Cursor) → Pairs Before x y → Gives (Pairs Before)
+    (with_front (encode_utf8 x.0) (decoded_at set m x.1)) (with_front (encode_utf8 y.0) (decoded_at set m y.1))
+prefix_of set m _ _ (pairs a {s = s} {t = t} h) = front_same (encode_utf8 a) _ _ (decoded_same set m s t h)
+
+prefix_same : (m : Marker) (s t : Cursor) → Before s t → Gives (Pairs Before) (prefix m s) (prefix m t)
+unfolding prefix
+prefix_same m _ _ (before s e) =
+    by_first (Pairs Before) (λ c. (c == 33) || is_tag_char c) e _ _ _ _
+    (λ h. both_then (Pairs Before) (Pairs Before) (character_same m s e
+    (class_no_break (λ c. (c == 33) || is_tag_char c) refl refl (slice_index s.rest 0) h)) (prefix_of _ m))
+    (λ _. refused _)
+
+behind_prefix_same : (m : Marker) (h : List ℕ) (x y : List ℕ × Cursor) → Pairs Before x y
+    → Gives (Pairs Before) (behind_prefix m h x) (behind_prefix m h y)
+unfolding behind_prefix
+behind_prefix_same m h _ _ (pairs a (before s e)) =
+    by_first (Pairs Before) is_blank_or_breakz e _ _ _ _ (λ _. given (pairs (tag_prefix h a) (before s e)))
+    (λ _. refused _)
+
+behind_handle_same : (m : Marker) (x y : List ℕ × Cursor) → Pairs Before x y → Gives (Pairs Before)
+    (prefix m (pass_all_blanks x.1) >>= λ z. behind_prefix m x.0 z)
+    (prefix m (pass_all_blanks y.1) >>= λ z. behind_prefix m y.0 z)
+behind_handle_same m _ _ (pairs a {s = s} {t = t} h) =
+    both_then (Pairs Before) (Pairs Before) (prefix_same m _ _ (blanks_of s t h)) (behind_prefix_same m a)
+
+tag_same : (m : Marker) (s t : Cursor) → Before s t → Gives (Pairs Before) (tag_directive m s) (tag_directive m t)
+unfolding tag_directive
+tag_same m s t h =
+    both_then (Pairs Before) (Pairs Before) (handle_same m _ _ (blanks_of s t h)) (behind_handle_same m)
+
+-- ## Directives
+
+value_same : (m : Marker) (x y : List ℕ × Cursor) → Pairs Before x y → Gives (Pairs Before) (value m x) (value m y)
+unfolding value
+value_same m _ _ (pairs a {s = s} {t = t} h) =
+    choose (Pairs Before) (bytes_eq a (codes "YAML")) (bytes_eq a (codes "YAML")) _ _ _ _ refl
+    (λ _. version_same m s t h)
+    (λ _. choose (Pairs Before) (bytes_eq a (codes "TAG")) (bytes_eq a (codes "TAG")) _ _ _ _ refl
+    (λ _. tag_same m s t h) (λ _. given (pairs (reserved a) (comment_before s t h))))
+
+line_end_of : (m : Marker) (x y : SkipTabs × Cursor) → Pairs Beside x y → Gives Beside
+    (cond (is_breakz (slice_index x.1.rest 0)) (Ok (pass_break x.1)) (refuse fault.DirectiveEndExpected m))
+    (cond (is_breakz (slice_index y.1.rest 0)) (Ok (pass_break y.1)) (refuse fault.DirectiveEndExpected m))
+line_end_of m _ _ (pairs a (beside s h)) =
+    by_first Beside is_breakz h.ahead _ _ _ _ (λ _. given (break_beside s h)) (λ _. refused _)
+
+line_end_same : (m : Marker) (s t : Cursor) → Before s t → Gives Beside (line_end m s) (line_end m t)
+unfolding line_end
+line_end_same m _ _ (before s e) =
+    both_then (Pairs Beside) Beside (separation_beside skip.Yes s (stands_before s.mark e)) (line_end_of m)
+
+end_of : (d : ReadDirective) (m : Marker) (s t : Cursor) → Beside s t
+    → Gives (Triples Beside) (Ok (d, m, s)) (Ok (d, m, t))
+end_of d m s t h = given (triples d m h)
+
+behind_value : (m : Marker) (x y : ReadDirective × Cursor) → Pairs Before x y → Gives (Triples Beside)
+    (line_end m x.1 >>= λ t. Ok (x.0, x.1.mark, t)) (line_end m y.1 >>= λ t. Ok (y.0, y.1.mark, t))
+behind_value m _ _ (pairs d (before s e)) =
+    both_then Beside (Triples Beside) (line_end_same m _ _ (before s e)) (end_of d s.mark)
+
+behind_name : (m : Marker) (x y : List ℕ × Cursor) → Pairs Before x y → Gives (Triples Beside)
+    (value m x >>= λ d. line_end m d.1 >>= λ t. Ok (d.0, d.1.mark, t))
+    (value m y >>= λ d. line_end m d.1 >>= λ t. Ok (d.0, d.1.mark, t))
+behind_name m x y h = both_then (Pairs Before) (Triples Beside) (value_same m x y h) (behind_value m)
+
+pub directive_same : (s : Cursor) {q : List ℕ} → Ahead false s.rest q → is_break (slice_index s.rest 0) ≡ false
+    → Gives (Triples Beside) (directive s) (directive (reading q s))
+unfolding directive
+directive_same s h k =
+    both_then (Pairs Before) (Triples Beside) (name_same _ _ (one_before s h k)) (behind_name s.mark)

@@ -1,0 +1,130 @@
+-- What stands between two tokens is passed alike: no marker is passed.
+use Rattle.std.proofs.Common.{◌≡◌, ℕ, Bool, true, false, List, ◌∷◌, slice_index, refl, ap}
+use Rattle.std.specs.Prelude.{◌&&◌, ◌||◌, ◌==◌, not}
+use Rattle.std.proofs.lemmas.Bool.{and_parts}
+use Rattle.saphyr_input.specs.Classes.{is_break, is_blank, is_bom, is_z, is_yaml_non_break, space}
+use Rattle.saphyr_input.specs.Indicators.{number_sign}
+use Rattle.saphyr_scalar.specs.declared.scalar.position.Marker.{Marker}
+use Rattle.saphyr_scalar.specs.Views.Cursor.{Cursor, along, next_line}
+use Rattle.saphyr_scalar.specs.Steps.Block.{line_cursor}
+use Rattle.saphyr_scalar.proofs.Choices.{both_by}
+use Rattle.saphyr_scalar.proofs.NoBreaks.{class_no_break}
+use Rattle.saphyr_scanner.specs.Steps.Gap.{GapEnd, stop, end_of_gap, end_of_gap_in_comment, is_tab_indentation, whole_gap, SpacesEnd, end_of_spaces, end_of_spaces_in_comment, spaces_at}
+use Rattle.marker_laws.specs.Beside.{Ahead, dashes, dots, character, Stands, reading, Beside, beside, Gives, refused, given}
+use Rattle.marker_laws.proofs.Ahead.{first_same, dashes_told, dots_told, stands_before}
+use Rattle.marker_laws.proofs.Results.{choose}
+use Rattle.marker_laws.proofs.Lines.{Fits, fits_on, fits_feed, Off, off_on}
+
+-- two ends of gaps at the same place
+pub data Gaps : GapEnd → GapEnd → Type 0 where
+  gaps : (broke : Bool) {s t : Cursor} → Beside s t
+      → Gaps (record { cursor = s; broke = broke }) (record { cursor = t; broke = broke })
+
+stop_same : (m : Marker) (blank broke tabbed : Bool) {r q : List ℕ} → Stands m r q
+    → Gives Gaps (stop m blank broke tabbed r) (stop m blank broke tabbed q)
+unfolding stop
+stop_same m blank broke tabbed {r = r} {q = q} h =
+    choose Gaps (tabbed && is_bom (slice_index r 0)) (tabbed && is_bom (slice_index q 0)) _ _ _ _
+    (ap (λ c. tabbed && is_bom c) (first_same h.ahead)) (λ _. refused _)
+    (λ _. choose Gaps (tabbed && not (is_z (slice_index r 0))) (tabbed && not (is_z (slice_index q 0))) _ _ _ _
+    (ap (λ c. tabbed && not (is_z c)) (first_same h.ahead)) (λ _. refused _)
+    (λ _. given (gaps broke (beside (line_cursor blank m r) h))))
+
+-- a blank, or a CR before an LF
+abbrev goes_along : (ℕ → Bool) → ℕ → List ℕ → Bool
+goes_along p c r = p c || ((c == 13) && (slice_index r 0 == 10))
+
+fits_along : (p : ℕ → Bool) → p 10 ≡ false → p 13 ≡ false → (c : ℕ) (r : List ℕ) (m : Marker)
+    → goes_along p c r ≡ true → Fits (is_break c) r m
+fits_along p x y c r m e = by (p c) refl e
+  where
+    by : (b : Bool) → p c ≡ b → (b || ((c == 13) && (slice_index r 0 == 10))) ≡ true → Fits (is_break c) r m
+    by true f g = fits_on r m (class_no_break p x y c f)
+    by false f g = fits_feed (is_break c) r m (and_parts (c == 13) _ g).1
+
+mutual
+  between_same : (least : ℕ) (m : Marker) (blank broke tabbed : Bool) {b : Bool} {r q : List ℕ} → Ahead b r q
+      → Fits b r m
+      → Gives Gaps (end_of_gap least m blank broke tabbed r) (end_of_gap least m blank broke tabbed q)
+  between_same least m blank broke tabbed (dashes d e) f =
+      stop_same m blank broke tabbed (record { flag = true; ahead = dashes d e; fits = f })
+  between_same least m blank broke tabbed (dots d e) f =
+      stop_same m blank broke tabbed (record { flag = true; ahead = dots d e; fits = f })
+  between_same least m blank broke tabbed {b = b} (character c {r = r} {q = q} h) f =
+      choose Gaps (goes_along is_blank c r) (goes_along is_blank c q) _ _ _ _
+      (ap (λ x. is_blank c || ((c == 13) && (x == 10))) (first_same h))
+      (λ g. between_same least (along m 1) blank broke (is_tab_indentation least m blank c || tabbed) h
+      (fits_along is_blank refl refl c r (along m 1) g))
+      (λ _. choose Gaps (is_break c) (is_break c) _ _ _ _ refl
+      (λ _. between_same least (next_line m 1) true true false h (λ _ _. refl))
+      (λ ink. choose Gaps (c == number_sign) (c == number_sign) _ _ _ _ refl
+      (λ _. comment_same least (along m 1) blank broke tabbed h (off_on r ink))
+      (λ _. stop_same m blank broke tabbed (record { flag = b; ahead = character c h; fits = f }))))
+
+  comment_same : (least : ℕ) (m : Marker) (blank broke tabbed : Bool) {b : Bool} {r q : List ℕ} → Ahead b r q
+      → Off b r → Gives Gaps (end_of_gap_in_comment least m blank broke tabbed r)
+      (end_of_gap_in_comment least m blank broke tabbed q)
+  comment_same least m blank broke tabbed (dashes d {x = x} e) f = absurd (f refl (dashes_told d x e))
+  comment_same least m blank broke tabbed (dots d {x = x} e) f = absurd (f refl (dots_told d x e))
+  comment_same least m blank broke tabbed {b = b} (character c {r = r} {q = q} h) f =
+      choose Gaps (is_yaml_non_break c) (is_yaml_non_break c) _ _ _ _ refl
+      (λ g. comment_same least (along m 1) blank broke tabbed h
+      (off_on r (class_no_break is_yaml_non_break refl refl c g)))
+      (λ _. choose Gaps ((c == 13) && (slice_index r 0 == 10)) ((c == 13) && (slice_index q 0 == 10)) _ _ _ _
+      (ap (λ x. (c == 13) && (x == 10)) (first_same h))
+      (λ g. between_same least (along m 1) blank broke tabbed h
+      (fits_feed (is_break c) r (along m 1) (and_parts (c == 13) _ g).1))
+      (λ _. choose Gaps (is_break c) (is_break c) _ _ _ _ refl
+      (λ _. between_same least (next_line m 1) true true false h (λ _ _. refl))
+      (λ _. stop_same m blank broke tabbed (stands_before m (character c h)))))
+
+pub gap_same : (least : ℕ) (s : Cursor) {q : List ℕ} → Stands s.mark s.rest q
+    → Gives Gaps (whole_gap least s) (whole_gap least (reading q s))
+gap_same least s h = between_same least s.mark s.blank_so_far false false h.ahead h.fits
+
+-- ## Behind `?`
+
+pub data Spaces : SpacesEnd → SpacesEnd → Type 0 where
+  spaces : (space : Bool) {s t : Cursor} → Beside s t
+      → Spaces (record { cursor = s; space = space }) (record { cursor = t; space = space })
+
+abbrev is_space : ℕ → Bool
+is_space c = c == space
+
+mutual
+  spaces_same : (m : Marker) (blank found : Bool) {b : Bool} {r q : List ℕ} → Ahead b r q → Fits b r m
+      → Spaces (end_of_spaces m blank found r) (end_of_spaces m blank found q)
+  spaces_same m blank found (dashes d e) f =
+      spaces found (beside (line_cursor blank m _) (record { flag = true; ahead = dashes d e; fits = f }))
+  spaces_same m blank found (dots d e) f =
+      spaces found (beside (line_cursor blank m _) (record { flag = true; ahead = dots d e; fits = f }))
+  spaces_same m blank found {b = b} (character c {r = r} {q = q} h) f =
+      both_by (goes_along is_space c r) (goes_along is_space c q) _ _ _ _ Spaces
+      (ap (λ x. is_space c || ((c == 13) && (x == 10))) (first_same h))
+      (λ g _. spaces_same (along m 1) blank true h (fits_along is_space refl refl c r (along m 1) g))
+      (λ _ _. both_by (is_break c) (is_break c) _ _ _ _ Spaces refl
+      (λ _ _. spaces_same (next_line m 1) true true h (λ _ _. refl))
+      (λ ink _. both_by (c == number_sign) (c == number_sign) _ _ _ _ Spaces refl
+      (λ _ _. spaces_comment (along m 1) blank found h (off_on r ink))
+      (λ _ _. spaces found (beside (line_cursor blank m (c ∷ r))
+      (record { flag = b; ahead = character c h; fits = f })))))
+
+  spaces_comment : (m : Marker) (blank found : Bool) {b : Bool} {r q : List ℕ} → Ahead b r q → Off b r
+      → Spaces (end_of_spaces_in_comment m blank found r) (end_of_spaces_in_comment m blank found q)
+  spaces_comment m blank found (dashes d {x = x} e) f = absurd (f refl (dashes_told d x e))
+  spaces_comment m blank found (dots d {x = x} e) f = absurd (f refl (dots_told d x e))
+  spaces_comment m blank found {b = b} (character c {r = r} {q = q} h) f =
+      both_by (is_yaml_non_break c) (is_yaml_non_break c) _ _ _ _ Spaces refl
+      (λ g _. spaces_comment (along m 1) blank found h
+      (off_on r (class_no_break is_yaml_non_break refl refl c g)))
+      (λ _ _. both_by ((c == 13) && (slice_index r 0 == 10)) ((c == 13) && (slice_index q 0 == 10)) _ _ _ _ Spaces
+      (ap (λ x. (c == 13) && (x == 10)) (first_same h))
+      (λ g _. spaces_same (along m 1) blank true h
+      (fits_feed (is_break c) r (along m 1) (and_parts (c == 13) _ g).1))
+      (λ _ _. both_by (is_break c) (is_break c) _ _ _ _ Spaces refl
+      (λ _ _. spaces_same (next_line m 1) true true h (λ _ _. refl))
+      (λ _ _. spaces found (beside (line_cursor blank m (c ∷ r)) (stands_before m (character c h))))))
+
+pub spaces_beside : (found : Bool) (s : Cursor) {q : List ℕ} → Stands s.mark s.rest q
+    → Spaces (spaces_at found s) (spaces_at found (reading q s))
+spaces_beside found s h = spaces_same s.mark s.blank_so_far found h.ahead h.fits

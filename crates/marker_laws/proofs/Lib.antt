@@ -1,0 +1,17 @@
+pub mod Ahead
+pub mod Results
+pub mod Separations
+pub mod Names
+pub mod Directives
+pub mod Lines
+pub mod Blocks
+pub mod Quotes
+pub mod Plains
+pub mod Gaps
+pub mod Cores
+pub mod Indicators
+pub mod Tokens
+pub mod Fetches
+pub mod Markers
+pub mod Runs
+pub mod Through
