@@ -17,8 +17,8 @@ use Rattle.yaml_check.specs.Counting.{is_collection, is_node, node_warning, one_
 use Rattle.yaml_check.specs.Meant.{IsCollectionInside, IsEmptyDocument, IsNodeBehind, collections_behind, collections_behind_all}
 use Rattle.yaml_check.specs.Sizes.{SizesOpen, sizes_behind, sizes_ended_in}
 use Rattle.yaml_check.specs.Warned.{Seen, depth_warning, nothing_seen, seen_behind, warnings_on}
-use Rattle.yaml_check.proofs.Told.{IsTold, one_is_told, seen_behind_all, told_of_one}
-use Rattle.yaml_check.proofs.Rules.{IsOfRule, OfContent, OfDepth, OfNode, rule_of, rule_tells, found, content_rule, content_tells, depth_rule, depth_tells, node_rule, node_tells}
+use Rattle.yaml_check.proofs.Told.{seen_behind_all}
+use Rattle.yaml_check.proofs.Rules.{IsToldByRule, OfContent, OfDepth, OfNode, found, rule_is_told, told_by_rule, content_rule, content_tells, depth_rule, depth_tells, node_rule, node_tells}
 
 abbrev pub Events : Type 0
 Events = List (Happening × Span)
@@ -123,11 +123,9 @@ left_out_is (Scalar [] Plain zero None) out = refl
 left_out_is _ out = absurd cc
 
 empty_told : (es : Events) (limits : Limits) (place : Marker)
-    (t : IsTold es (nothing_seen limits) (found place warning.NoContent))
-    → IsOfRule t.event.0 t.event.1.start (seen_behind_all t.front (nothing_seen limits)) (found place warning.NoContent)
-    → IsEmptyDocument es place
-empty_told es limits place t rule = by (content_tells behind.begun t.event.0 _
-    (content_rule t.event.0 t.event.1.start behind (found place warning.NoContent) rule refl))
+    → IsToldByRule es (nothing_seen limits) (found place warning.NoContent) → IsEmptyDocument es place
+empty_told es limits place t = by (content_tells behind.begun t.event.0 _
+    (content_rule t.event.0 t.event.1.start behind (found place warning.NoContent) t.rule refl))
   where
     behind : Seen
     behind = seen_behind_all t.front (nothing_seen limits)
@@ -157,25 +155,23 @@ empty_told es limits place t rule = by (content_tells behind.begun t.event.0 _
     by (at, begun, out, same) = go at (place_of same) out (begun_means t.front (nothing_seen limits) at begun)
 
 begins_told : (es : Events) (limits : Limits) (place : Marker) → IsEmptyDocument es place
-    → IsTold es (nothing_seen limits) (found place warning.NoContent)
+    → IsToldByRule es (nothing_seen limits) (found place warning.NoContent)
 begins_told es limits place d = record {
   front = d.front ++ (DocumentStart d.explicit, d.start) ∷ [];
   event = (empty_scalar, d.root);
   back = d.back;
   split = d.split ∙ sym (append_assoc d.front _ _);
-  told = rule_tells empty_scalar d.root.start
-      (seen_behind_all (d.front ++ (DocumentStart d.explicit, d.start) ∷ []) (nothing_seen limits)) _ (OfContent (ap (λ o. content_warning o empty_scalar)
-      (behind_start d.front d.explicit d.start (nothing_seen limits) ∙ ap Some d.begins)));
+  rule = OfContent (ap (λ o. content_warning o empty_scalar)
+      (behind_start d.front d.explicit d.start (nothing_seen limits) ∙ ap Some d.begins));
 }
 
 pub tells_empty_documents : (limits : Limits) (es : Events) (place : Marker)
     → Contains (warnings_on es (nothing_seen limits)) (found place warning.NoContent) → IsEmptyDocument es place
-tells_empty_documents limits es place told = let t = told_of_one es (nothing_seen limits) _ told in
-    empty_told es limits place t (rule_of t.event.0 t.event.1.start _ _ t.told)
+tells_empty_documents limits es place told = empty_told es limits place (told_by_rule es (nothing_seen limits) _ told)
 
 pub tells_each_empty_document : (limits : Limits) (es : Events) (place : Marker) → IsEmptyDocument es place
     → Contains (warnings_on es (nothing_seen limits)) (found place warning.NoContent)
-tells_each_empty_document limits es place d = one_is_told es (nothing_seen limits) _ (begins_told es limits place d)
+tells_each_empty_document limits es place d = rule_is_told es (nothing_seen limits) _ (begins_told es limits place d)
 
 -- ## Too many nodes
 
@@ -195,13 +191,11 @@ left_none most count left (inl (within, is)) same = is ∙ ap Some (omega arith)
 left_none most count left (inr (past, is)) same = absurd (omega arith)
 
 node_told : (es : Events) (limits : Limits) (place : Marker) (most : ℕ)
-    → (t : IsTold es (nothing_seen limits) (found place (warning.TooManyNodes most)))
-    → IsOfRule t.event.0 t.event.1.start (seen_behind_all t.front (nothing_seen limits)) (found place
-    (warning.TooManyNodes most))
+    → IsToldByRule es (nothing_seen limits) (found place (warning.TooManyNodes most))
     → (most ≡ limits.nodes) × IsNodeBehind es most place
-node_told es limits place most t rule =
+node_told es limits place most t =
     let behind : Seen = seen_behind_all t.front (nothing_seen limits) in
-    let told = node_rule t.event.0 t.event.1.start behind (found place (warning.TooManyNodes most)) rule refl in
+    let told = node_rule t.event.0 t.event.1.start behind (found place (warning.TooManyNodes most)) t.rule refl in
     let e = node_tells behind.limits.nodes behind.left t.event.0 t.event.1.start _ told in
     let is_most : most ≡ limits.nodes =
     most_nodes e.2 ∙ ap (λ (l : Limits). l.nodes) (limits_stay t.front (nothing_seen limits)) in (
@@ -220,8 +214,8 @@ node_told es limits place most t rule =
 pub tells_too_many_nodes : (limits : Limits) (es : Events) (place : Marker) (most : ℕ)
     → Contains (warnings_on es (nothing_seen limits)) (found place (warning.TooManyNodes most))
     → (most ≡ limits.nodes) × IsNodeBehind es most place
-tells_too_many_nodes limits es place most told = let t = told_of_one es (nothing_seen limits) _ told in
-    node_told es limits place most t (rule_of t.event.0 t.event.1.start _ _ t.told)
+tells_too_many_nodes limits es place most told =
+    node_told es limits place most (told_by_rule es (nothing_seen limits) _ told)
 
 one_too_many_at : (limits : Limits) (s : Seen) (what : Happening) (place : Marker) → s.limits ≡ limits
     → is_node what ≡ true
@@ -233,15 +227,14 @@ pub tells_each_node_too_many : (limits : Limits) (es : Events) (place : Marker) 
     → (most ≡ limits.nodes) × IsNodeBehind es most place
     → Contains (warnings_on es (nothing_seen limits)) (found place (warning.TooManyNodes most))
 tells_each_node_too_many limits es place most (is_most, n) =
-    rw (is_most, ← n.begins) (one_is_told es (nothing_seen limits) _ (record {
+    rw (is_most, ← n.begins) (rule_is_told es (nothing_seen limits) _ (record {
       front = n.front;
       event = n.node;
       back = n.back;
       split = n.split;
-      told = rule_tells n.node.0 n.node.1.start (seen_behind_all n.front (nothing_seen limits)) _ (OfNode
-          (one_too_many_at limits (seen_behind_all n.front (nothing_seen limits)) n.node.0 n.node.1.start
+      rule = OfNode (one_too_many_at limits (seen_behind_all n.front (nothing_seen limits)) n.node.0 n.node.1.start
           (limits_stay n.front (nothing_seen limits)) n.is_one
-          (left_none limits.nodes _ _ (left_at n.front limits) (n.before ∙ is_most))));
+          (left_none limits.nodes _ _ (left_at n.front limits) (n.before ∙ is_most)));
     }))
 
 -- ## Collections in one another
@@ -271,13 +264,11 @@ both_hold true false h = absurd cc
 both_hold false b h = absurd cc
 
 deep_told : (es : Events) (limits : Limits) (place : Marker) (most : ℕ)
-    → (t : IsTold es (nothing_seen limits) (found place (warning.TooDeep most)))
-    → IsOfRule t.event.0 t.event.1.start (seen_behind_all t.front (nothing_seen limits)) (found place
-    (warning.TooDeep most))
+    → IsToldByRule es (nothing_seen limits) (found place (warning.TooDeep most))
     → (most ≡ limits.depth) × IsCollectionInside es most place
-deep_told es limits place most t rule =
+deep_told es limits place most t =
     let behind : Seen = seen_behind_all t.front (nothing_seen limits) in
-    let told = depth_rule t.event.0 t.event.1.start behind (found place (warning.TooDeep most)) rule refl in
+    let told = depth_rule t.event.0 t.event.1.start behind (found place (warning.TooDeep most)) t.rule refl in
     let e = depth_tells behind t.event.0 t.event.1.start _ told in
     let limit = ap (λ (l : Limits). l.depth) (limits_stay t.front (nothing_seen limits)) in
     let is_most : most ≡ limits.depth = most_deep e.1 ∙ limit in
@@ -297,8 +288,8 @@ deep_told es limits place most t rule =
 pub tells_deep_collections : (limits : Limits) (es : Events) (place : Marker) (most : ℕ)
     → Contains (warnings_on es (nothing_seen limits)) (found place (warning.TooDeep most))
     → (most ≡ limits.depth) × IsCollectionInside es most place
-tells_deep_collections limits es place most told = let t = told_of_one es (nothing_seen limits) _ told in
-    deep_told es limits place most t (rule_of t.event.0 t.event.1.start _ _ t.told)
+tells_deep_collections limits es place most told =
+    deep_told es limits place most (told_by_rule es (nothing_seen limits) _ told)
 
 too_deep_at : (limits : Limits) (s : Seen) (what : Happening) (place : Marker) → s.limits ≡ limits
     → is_collection what ≡ true
@@ -310,13 +301,12 @@ pub tells_each_deep_collection : (limits : Limits) (es : Events) (place : Marker
     → (most ≡ limits.depth) × IsCollectionInside es most place
     → Contains (warnings_on es (nothing_seen limits)) (found place (warning.TooDeep most))
 tells_each_deep_collection limits es place most (is_most, n) =
-    rw (is_most, ← n.begins) (one_is_told es (nothing_seen limits) _ (record {
+    rw (is_most, ← n.begins) (rule_is_told es (nothing_seen limits) _ (record {
       front = n.front;
       event = n.node;
       back = n.back;
       split = n.split;
-      told = rule_tells n.node.0 n.node.1.start (seen_behind_all n.front (nothing_seen limits)) _ (OfDepth
-          (too_deep_at limits (seen_behind_all n.front (nothing_seen limits)) n.node.0 n.node.1.start
+      rule = OfDepth (too_deep_at limits (seen_behind_all n.front (nothing_seen limits)) n.node.0 n.node.1.start
           (limits_stay n.front (nothing_seen limits)) n.is_one
-          (open_all n.front (nothing_seen limits) ∙ (n.around ∙ is_most))));
+          (open_all n.front (nothing_seen limits) ∙ (n.around ∙ is_most)));
     }))

@@ -1,8 +1,9 @@
 -- Which rule a warning on an event is of.
-use Rattle.std.proofs.Common.{◌≡◌, ℕ, List, ◌++◌, Option, Some, None, refl, ap, inl, inr, arith}
+use Rattle.std.proofs.Common.{◌≡◌, ℕ, List, ◌∷◌, ◌++◌, Option, Some, None, refl, ap, inl, inr, arith}
 use Rattle.std.specs.Prelude.{◌⊎◌, ◌==◌, ◌&&◌, zero, suc, Bool, true, false, Contains, nat_le, option_to_list, option_map, if◌then◌else◌}
 use Rattle.std.proofs.lemmas.List.Elements.{Contains-append_left, Contains-append_right, Contains-append_cases}
 use Rattle.saphyr_parser.specs.Words.Marker.{Marker}
+use Rattle.saphyr_parser.specs.Words.Span.{Span}
 use Rattle.saphyr_parser.specs.Events.{Happening, Alias, Scalar}
 use Rattle.yaml_check.specs.declared.finding.Finding.{Finding}
 use Rattle.yaml_check.specs.declared.finding.Warning.{Warning}
@@ -10,9 +11,10 @@ use Rattle.yaml_check.specs.declared.finding.Warning.TheVariants as warning
 use Rattle.yaml_check.specs.Contents.{is_left_out, content_warning}
 use Rattle.yaml_check.specs.Counting.{is_collection, is_node, node_warning, one_too_many}
 use Rattle.yaml_check.specs.Keys.{KeysOpen, first_of, key_of, key_warning}
+use Rattle.yaml_check.specs.Meant.{rule_number}
 use Rattle.yaml_check.specs.Sizes.{SizesOpen, alias_warning, open_collections, size_at, wide, wide_if}
-use Rattle.yaml_check.specs.Warned.{Seen, depth_warning, warnings_at}
-use Rattle.yaml_check.proofs.Told.{in_option, option_has}
+use Rattle.yaml_check.specs.Warned.{Seen, depth_warning, warnings_at, warnings_on}
+use Rattle.yaml_check.proofs.Told.{in_option, one_is_told, option_has, seen_behind_all, told_of_one}
 
 -- The five rules, in the order in which they are asked.
 pub data IsOfRule (what : Happening) (place : Marker) (s : Seen) (w : Finding) : Type 0 where
@@ -22,7 +24,7 @@ pub data IsOfRule (what : Happening) (place : Marker) (s : Seen) (w : Finding) :
   OfDepth : depth_warning s what place ≡ Some w → IsOfRule what place s w
   OfNode : node_warning s.limits.nodes s.left what place ≡ Some w → IsOfRule what place s w
 
-pub rule_of : (what : Happening) (place : Marker) (s : Seen) (w : Finding) → Contains (warnings_at what place s) w
+rule_of : (what : Happening) (place : Marker) (s : Seen) (w : Finding) → Contains (warnings_at what place s) w
     → IsOfRule what place s w
 rule_of what place s w told = first (Contains-append_cases (option_to_list (content_warning s.begun what)) _ w told)
   where
@@ -54,6 +56,24 @@ rule_of what place s w told = first (Contains-append_cases (option_to_list (cont
     first (inl here) = OfContent (in_option _ w here)
     first (inr there) = second (Contains-append_cases (option_to_list (key_warning s.keys what place)) _ w there)
 
+-- an event of a list, of which a warning is told by one of the rules
+pub record IsToldByRule (events : List (Happening × Span)) (s : Seen) (w : Finding) : Type 0 where
+  pub front : List (Happening × Span)
+  pub event : Happening × Span
+  pub back : List (Happening × Span)
+  pub split : events ≡ front ++ event ∷ back
+  pub rule : IsOfRule event.0 event.1.start (seen_behind_all front s) w
+
+pub told_by_rule : (events : List (Happening × Span)) (s : Seen) (w : Finding) → Contains (warnings_on events s) w
+    → IsToldByRule events s w
+told_by_rule events s w told = let t = told_of_one events s w told in record {
+  front = t.front;
+  event = t.event;
+  back = t.back;
+  split = t.split;
+  rule = rule_of t.event.0 t.event.1.start (seen_behind_all t.front s) w t.told;
+}
+
 data IsOfList (a b c d e : List Finding) (w : Finding) : Type 0 where
   OfFirst : Contains a w → IsOfList a b c d e w
   OfSecond : Contains b w → IsOfList a b c d e w
@@ -72,7 +92,7 @@ of_list a b c d e w (OfFourth h) = Contains-append_right a (b ++ (c ++ (d ++ e))
 of_list a b c d e w (OfFifth h) = Contains-append_right a (b ++ (c ++ (d ++ e))) w
     (Contains-append_right b (c ++ (d ++ e)) w (Contains-append_right c (d ++ e) w (Contains-append_right d e w h)))
 
-pub rule_tells : (what : Happening) (place : Marker) (s : Seen) (w : Finding) → IsOfRule what place s w
+rule_tells : (what : Happening) (place : Marker) (s : Seen) (w : Finding) → IsOfRule what place s w
     → Contains (warnings_at what place s) w
 rule_tells what place s w rule = of_list (option_to_list (content_warning s.begun what))
     (option_to_list (key_warning s.keys what place)) (option_to_list (alias_warning s.sizes what place))
@@ -87,6 +107,16 @@ rule_tells what place s w rule = of_list (option_to_list (content_warning s.begu
     list_of (OfAlias e) = OfThird (option_has _ w e)
     list_of (OfDepth e) = OfFourth (option_has _ w e)
     list_of (OfNode e) = OfFifth (option_has _ w e)
+
+pub rule_is_told : (events : List (Happening × Span)) (s : Seen) (w : Finding) → IsToldByRule events s w
+    → Contains (warnings_on events s) w
+rule_is_told events s w t = one_is_told events s w (record {
+  front = t.front;
+  event = t.event;
+  back = t.back;
+  split = t.split;
+  told = rule_tells t.event.0 t.event.1.start (seen_behind_all t.front s) w t.rule;
+})
 
 -- ## What each rule tells
 
@@ -125,8 +155,8 @@ wide_tells n place w told = by (nat_le n wide) refl told
 
 pub alias_tells : (s : SizesOpen) (what : Happening) (place : Marker) (w : Finding)
     → alias_warning s what place ≡ Some w
-    → w ≡ found place (warning.WideAlias wide)
-alias_tells s (Alias id) place w told = (wide_tells (size_at id s) place w told).1
+    → (id : ℕ) × (what ≡ Alias id) × (nat_le (size_at id s) wide ≡ false) × (w ≡ found place (warning.WideAlias wide))
+alias_tells s (Alias id) place w told = let t = wide_tells (size_at id s) place w told in (id, refl, t.0, t.1)
 alias_tells s _ place w told = absurd cc
 
 pub depth_tells : (s : Seen) (what : Happening) (place : Marker) (w : Finding) → depth_warning s what place ≡ Some w
@@ -156,61 +186,54 @@ node_tells most left what place w told = by (is_node what) left refl refl told
 
 -- ## The rule of a warning
 
-abbrev pub kind : Warning → ℕ
-kind warning.NoContent = 0
-kind (warning.SameKey first) = 1
-kind (warning.WideAlias most) = 2
-kind (warning.TooDeep most) = 3
-kind (warning.TooManyNodes most) = 4
-
-kind_is : {w : Finding} {at : Marker} {v : Warning} → w ≡ found at v → kind w.warning ≡ kind v
-kind_is same = ap (λ (f : Finding). kind f.warning) same
+kind_is : {w : Finding} {at : Marker} {v : Warning} → w ≡ found at v → rule_number w.warning ≡ rule_number v
+kind_is same = ap (λ (f : Finding). rule_number f.warning) same
 
 module _ (what : Happening) (place : Marker) (s : Seen) (w : Finding) where
-  content_kind : content_warning s.begun what ≡ Some w → kind w.warning ≡ 0
+  pub content_kind : content_warning s.begun what ≡ Some w → rule_number w.warning ≡ 0
   content_kind told = kind_is (content_tells s.begun what w told).3
 
-  key_kind : key_warning s.keys what place ≡ Some w → kind w.warning ≡ 1
+  pub key_kind : key_warning s.keys what place ≡ Some w → rule_number w.warning ≡ 1
   key_kind told = kind_is (key_tells s.keys what place w told).1
 
-  alias_kind : alias_warning s.sizes what place ≡ Some w → kind w.warning ≡ 2
-  alias_kind told = kind_is (alias_tells s.sizes what place w told)
+  pub alias_kind : alias_warning s.sizes what place ≡ Some w → rule_number w.warning ≡ 2
+  alias_kind told = kind_is (alias_tells s.sizes what place w told).3
 
-  depth_kind : depth_warning s what place ≡ Some w → kind w.warning ≡ 3
+  pub depth_kind : depth_warning s what place ≡ Some w → rule_number w.warning ≡ 3
   depth_kind told = kind_is (depth_tells s what place w told).1
 
-  node_kind : node_warning s.limits.nodes s.left what place ≡ Some w → kind w.warning ≡ 4
+  pub node_kind : node_warning s.limits.nodes s.left what place ≡ Some w → rule_number w.warning ≡ 4
   node_kind told = kind_is (node_tells s.limits.nodes s.left what place w told).2
 
-  pub content_rule : IsOfRule what place s w → kind w.warning ≡ 0 → content_warning s.begun what ≡ Some w
+  pub content_rule : IsOfRule what place s w → rule_number w.warning ≡ 0 → content_warning s.begun what ≡ Some w
   content_rule (OfContent told) is = told
   content_rule (OfKey told) is = absurd (omega (arith, is, key_kind told))
   content_rule (OfAlias told) is = absurd (omega (arith, is, alias_kind told))
   content_rule (OfDepth told) is = absurd (omega (arith, is, depth_kind told))
   content_rule (OfNode told) is = absurd (omega (arith, is, node_kind told))
 
-  pub key_rule : IsOfRule what place s w → kind w.warning ≡ 1 → key_warning s.keys what place ≡ Some w
+  pub key_rule : IsOfRule what place s w → rule_number w.warning ≡ 1 → key_warning s.keys what place ≡ Some w
   key_rule (OfContent told) is = absurd (omega (arith, is, content_kind told))
   key_rule (OfKey told) is = told
   key_rule (OfAlias told) is = absurd (omega (arith, is, alias_kind told))
   key_rule (OfDepth told) is = absurd (omega (arith, is, depth_kind told))
   key_rule (OfNode told) is = absurd (omega (arith, is, node_kind told))
 
-  pub alias_rule : IsOfRule what place s w → kind w.warning ≡ 2 → alias_warning s.sizes what place ≡ Some w
+  pub alias_rule : IsOfRule what place s w → rule_number w.warning ≡ 2 → alias_warning s.sizes what place ≡ Some w
   alias_rule (OfContent told) is = absurd (omega (arith, is, content_kind told))
   alias_rule (OfKey told) is = absurd (omega (arith, is, key_kind told))
   alias_rule (OfAlias told) is = told
   alias_rule (OfDepth told) is = absurd (omega (arith, is, depth_kind told))
   alias_rule (OfNode told) is = absurd (omega (arith, is, node_kind told))
 
-  pub depth_rule : IsOfRule what place s w → kind w.warning ≡ 3 → depth_warning s what place ≡ Some w
+  pub depth_rule : IsOfRule what place s w → rule_number w.warning ≡ 3 → depth_warning s what place ≡ Some w
   depth_rule (OfContent told) is = absurd (omega (arith, is, content_kind told))
   depth_rule (OfKey told) is = absurd (omega (arith, is, key_kind told))
   depth_rule (OfAlias told) is = absurd (omega (arith, is, alias_kind told))
   depth_rule (OfDepth told) is = told
   depth_rule (OfNode told) is = absurd (omega (arith, is, node_kind told))
 
-  pub node_rule : IsOfRule what place s w → kind w.warning ≡ 4 → node_warning s.limits.nodes s.left what place ≡ Some w
+  pub node_rule : IsOfRule what place s w → rule_number w.warning ≡ 4 → node_warning s.limits.nodes s.left what place ≡ Some w
   node_rule (OfContent told) is = absurd (omega (arith, is, content_kind told))
   node_rule (OfKey told) is = absurd (omega (arith, is, key_kind told))
   node_rule (OfAlias told) is = absurd (omega (arith, is, alias_kind told))

@@ -6,7 +6,7 @@ use Rattle.std.specs.Cmp.Lexicographic.{slice_cmp}
 use Rattle.std.specs.Map.{lookup}
 use Rattle.std.specs.BTreeMap.{insert_entry, is_at}
 use Rattle.saphyr_parser.specs.Words.Marker.{Marker}
-use Rattle.saphyr_parser.specs.Events.{ResolvedTag, Happening, DocumentStart, DocumentEnd, Alias, Scalar, SequenceStart, SequenceEnd, MappingStart, MappingEnd}
+use Rattle.saphyr_parser.specs.Events.{ResolvedTag, Happening, Alias, Scalar, SequenceStart, SequenceEnd, MappingStart, MappingEnd}
 use Rattle.yaml_check.specs.declared.keys.Next.{Next}
 use Rattle.yaml_check.specs.declared.keys.Next.TheVariants as next
 use Rattle.yaml_check.specs.declared.finding.Finding.{Finding}
@@ -72,7 +72,7 @@ with_key_if _ key place l = l
 abbrev pub behind_scalar : Key → Marker → KeyLevel → KeyLevel
 behind_scalar key place l = behind_node (with_key_if l.next key place l)
 
--- The innermost document or collection, and what it stands in, the innermost first. The last stands for the stream.
+-- The innermost collection, and what it stands in, the innermost first. The last stands for the stream.
 pub record KeysOpen : Type 0 where
   pub here : KeyLevel
   pub outer : List KeyLevel
@@ -96,8 +96,6 @@ keys_outside k = keys_ended_in k.outer k
 abbrev pub keys_behind : Happening → Marker → KeysOpen → KeysOpen
 keys_behind (Alias id) place k = with_here (behind_node k.here) k
 keys_behind (Scalar text style id tag) place k = with_here (behind_scalar (key_of text tag) place k.here) k
-keys_behind (DocumentStart explicit) place k = keys_inside next.Entry k
-keys_behind DocumentEnd place k = keys_outside k
 keys_behind (SequenceStart id tag) place k = keys_inside next.Entry k
 keys_behind SequenceEnd place k = keys_outside k
 keys_behind (MappingStart id tag) place k = keys_inside next.Key k

@@ -4,9 +4,11 @@ pub mod CheckerSeen
 pub mod Checks
 pub mod Contents
 pub mod Counting
+pub mod EqualKeys
 pub mod Keys
 pub mod KeysSeen
 pub mod Meant
+pub mod Nodes
 pub mod Reports
 pub mod Shown
 pub mod Sizes
@@ -15,3 +17,4 @@ pub mod Statuses
 pub mod Texts
 pub mod Views
 pub mod Warned
+pub mod WideAliases

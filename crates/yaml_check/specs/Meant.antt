@@ -1,13 +1,14 @@
 -- What the warnings on a text's events mean.
-use Rattle.std.specs.Prelude.{◌≡◌, ℕ, ◌+◌, ◌-◌, Bool, true, false, List, [], ◌∷◌, ◌++◌, count_by, Contains, Option, if◌then◌else◌}
+use Rattle.std.specs.Prelude.{◌≡◌, ℕ, ◌+◌, ◌-◌, ◌≤◌, ◌==◌, Bool, true, List, [], ◌∷◌, ◌++◌, count_by, Contains, if◌then◌else◌}
 use Rattle.saphyr_parser.specs.Words.Marker.{Marker}
 use Rattle.saphyr_parser.specs.Words.Span.{Span}
-use Rattle.saphyr_parser.specs.Words.Forest.{Style}
-use Rattle.saphyr_parser.specs.Events.{ResolvedTag, Happening, DocumentStart, Scalar, SequenceEnd, MappingEnd, empty_scalar}
+use Rattle.saphyr_parser.specs.Events.{Happening, DocumentStart, empty_scalar}
 use Rattle.yaml_check.specs.declared.checking.Limits.{Limits}
+use Rattle.yaml_check.specs.declared.finding.Finding.{Finding}
 use Rattle.yaml_check.specs.declared.finding.Warning.{Warning}
+use Rattle.yaml_check.specs.declared.finding.Warning.TheVariants as warning
 use Rattle.yaml_check.specs.Counting.{is_collection, is_node}
-use Rattle.yaml_check.specs.Keys.{Key, key_of}
+use Rattle.yaml_check.specs.Nodes.{ends_collection}
 use Rattle.yaml_check.specs.Warned.{nothing_seen, warnings_on}
 
 -- this is told of the events at this place
@@ -36,11 +37,6 @@ pub record IsNodeBehind (events : List (Happening × Span)) (count : ℕ) (place
   pub begins : node.1.start ≡ place
 
 -- how many collections are open behind an event, and behind events
-abbrev pub ends_collection : Happening → Bool
-ends_collection SequenceEnd = true
-ends_collection MappingEnd = true
-ends_collection _ = false
-
 abbrev pub collections_behind : Happening → ℕ → ℕ
 collections_behind what n = if ends_collection what then n - 1 else (if is_collection what then n + 1 else n)
 
@@ -58,26 +54,19 @@ pub record IsCollectionInside (events : List (Happening × Span)) (count : ℕ) 
   pub around : collections_behind_all front 0 ≡ count
   pub begins : node.1.start ≡ place
 
--- ## Keys that stand twice
+-- ## How often it is told
 
--- A scalar with this text and this tag begins here.
-pub record IsScalarAt (key : Key) (place : Marker) (e : Happening × Span) : Type 0 where
-  pub text : List ℕ
-  pub style : Style
-  pub id : ℕ
-  pub tag : Option ResolvedTag
-  pub is_scalar : e.0 ≡ Scalar text style id tag
-  pub is_key : key_of text tag ≡ key
-  pub begins : e.1.start ≡ place
+-- the rules, by numbers
+abbrev pub rule_number : Warning → ℕ
+rule_number warning.NoContent = 0
+rule_number (warning.SameKey first) = 1
+rule_number (warning.WideAlias most) = 2
+rule_number (warning.TooDeep most) = 3
+rule_number (warning.TooManyNodes most) = 4
 
--- A scalar begins here, and one with the same text and the same tag begins before it, at `first`.
-pub record IsRepeated (events : List (Happening × Span)) (first place : Marker) : Type 0 where
-  pub key : Key
-  pub front : List (Happening × Span)
-  pub earlier : Happening × Span
-  pub between : List (Happening × Span)
-  pub later : Happening × Span
-  pub back : List (Happening × Span)
-  pub split : events ≡ (front ++ earlier ∷ between) ++ later ∷ back
-  pub is_first : IsScalarAt key first earlier
-  pub is_later : IsScalarAt key place later
+-- To what is told of some events one more event adds at most one warning by this rule.
+pub record AddsOneAtMost (limits : Limits) (front : List (Happening × Span)) (e : Happening × Span) (rule : ℕ)
+    : Type 0 where
+  pub more : List Finding
+  pub told : warnings_on (front ++ e ∷ []) (nothing_seen limits) ≡ warnings_on front (nothing_seen limits) ++ more
+  pub one : count_by (λ (w : Finding). rule_number w.warning == rule) more ≤ 1

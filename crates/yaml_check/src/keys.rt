@@ -114,9 +114,9 @@ impl Keys {
                 self.here.pass();
                 Ok(None)
             }
-            Event::DocumentStart(_) | Event::SequenceStart(..) => self.open(Next::Entry),
+            Event::SequenceStart(..) => self.open(Next::Entry),
             Event::MappingStart(..) => self.open(Next::Key),
-            Event::DocumentEnd | Event::SequenceEnd | Event::MappingEnd => {
+            Event::SequenceEnd | Event::MappingEnd => {
                 self.close();
                 Ok(None)
             }
@@ -149,7 +149,7 @@ impl Keys {
         Ok(first)
     }
 
-    /// A document or a collection begins, and the next node in it is this.
+    /// A collection begins, and the next node in it is this.
     fn open(&mut self, next: Next) -> Result<Option<Finding>, AllocError>
         ensures none { IfOk result (λ told. told ≡ None) }
         ensures behind { OnOk result (seen.keys_of self.new
@@ -160,7 +160,7 @@ impl Keys {
         Ok(None)
     }
 
-    /// The innermost of them ends.
+    /// The innermost collection ends.
     fn close(&mut self)
         ensures { seen.keys_of self.new ≡ spec.keys_outside (seen.keys_of self.old) }
     {
