@@ -3,8 +3,8 @@ ghost use Rattle.std.specs.Prelude.{◌≡◌, ◌<◌, ◌≤◌, All, IfOk, On
 ghost use Rattle.test_cases.specs.Agreement.{AgreesOn};
 
 use crate::{refusing, trees, ways, writing};
-use test_case_files::{Case, Difference};
 use std::alloc::{AllocError, Global};
+use test_case_files::{Case, Difference};
 
 /// How many differences are shown of a file.
 const MOST_SHOWN: usize = 20;

@@ -5,10 +5,10 @@ ghost use Rattle.saphyr_scanner.specs.Steps.Remaining.{scan};
 ghost use Rattle.saphyr_parser.specs.Limits.{most_characters};
 ghost use Rattle.saphyr_parser.specs.Cursor.{at_start, keeping_tags};
 
-use test_case_files::{Case, Difference};
-use test_list_input::ListInput;
 use saphyr_parser::{CloneInput, Parser, StrInput, lists_characters};
 use std::alloc::Global;
+use test_case_files::{Case, Difference};
+use test_list_input::ListInput;
 
 /// A parser of the text of a case, from a string.
 pub fn parser_of<'a>(alloc: Global, case: &'a Case) -> Parser<'a, StrInput<'a>>

@@ -4,9 +4,9 @@ ghost use Rattle.test_cases.specs.Long.{DeepBlockAgrees, DeepFlowAgrees, LongKey
 
 use crate::inputs::{Comparison, compare_inputs};
 use crate::writing::{WHOLE, is_dumped};
-use test_case_files::Difference;
 use saphyr_parser::{CloneInput, Parser};
 use std::alloc::{AllocError, Global};
+use test_case_files::Difference;
 
 /// Compares what `dump` writes of each text.
 pub fn compare(alloc: Global) -> Result<(), Difference>

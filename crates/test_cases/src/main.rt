@@ -21,10 +21,10 @@ mod trees;
 mod ways;
 mod writing;
 
-use test_case_files::{Difference, parse_cases};
 use findings::{Subject, compare_all};
 use std::alloc::AllocError;
 use std::{fs, io};
+use test_case_files::{Difference, parse_cases};
 use thiserror::Error;
 
 /// The names of the files.

@@ -9,9 +9,9 @@ ghost use Rattle.test_cases.specs.Handed.{ListAllButOne, StandsBetween};
 
 use crate::inputs::parser_of;
 use crate::ways::is_left_to_clone;
-use test_case_files::{Case, ComparingReceiver, Difference};
 use saphyr_parser::{CloneInput, Fault, Input, Parser};
 use std::alloc::Global;
+use test_case_files::{Case, ComparingReceiver, Difference};
 
 /// Refuses each event of a text in turn.
 pub fn compare(alloc: Global, case: &Case) -> Result<(), Difference>

@@ -7,9 +7,9 @@ ghost use Rattle.test_cases.specs.Trees.{HasTrees, IsTold};
 
 use crate::inputs::parser_of;
 use crate::ways::{is_left, is_left_to_clone};
-use test_case_files::{Case, Difference};
 use saphyr_parser::{CloneInput, Event, Fault, Input, Parser, ScanError, Span};
 use std::alloc::{AllocError, Global};
+use test_case_files::{Case, Difference};
 use test_tree_events::events_of;
 use yaml_tree::{Document, Limits, TreeFault, load_documents};
 

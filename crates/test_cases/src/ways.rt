@@ -6,9 +6,9 @@ ghost use Rattle.test_case_files.specs.Listings.{Agrees, ListAll};
 ghost use Rattle.test_cases.specs.Handed.{HasMore, LoadsOn, MayLoad, StandsBetween, TakesAnswer};
 
 use crate::inputs::{Comparison, compare_inputs};
-use test_case_files::{Case, ComparingReceiver, Difference, Expected};
 use saphyr_parser::{CloneInput, Fault, Input, Parser};
 use std::alloc::{AllocError, Global};
+use test_case_files::{Case, ComparingReceiver, Difference, Expected};
 
 /// How many lines a case may have whose parser is cloned at each place.
 const MOST_CLONED: usize = 16;

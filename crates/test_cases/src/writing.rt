@@ -7,9 +7,9 @@ ghost use Rattle.test_cases.specs.Agreement.{DumpAgrees};
 ghost use Rattle.test_cases.specs.Dumped.{IsWritten};
 
 use crate::inputs::parser_of;
-use test_case_files::{Case, Difference, KeepingWriter, Manner, printed, push_item};
 use saphyr_parser::{DumpFault, Fault, Input, Parser, dump};
 use std::alloc::Global;
+use test_case_files::{Case, Difference, KeepingWriter, Manner, printed, push_item};
 
 /// How many bytes the lines may have of which each is refused alone.
 const MOST_CUT: usize = 200;

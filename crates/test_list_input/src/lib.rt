@@ -4,9 +4,6 @@
 
 ghost use Rattle.std.specs.Prelude.{◌≡◌, ◌≤◌, drop};
 
-#[cfg(test)]
-mod tests;
-
 use saphyr_input::char_traits::is_yaml_non_break;
 use saphyr_input::input::{CloneInput, Input};
 

@@ -19,6 +19,8 @@ mod limits;
 #[cfg(test)]
 mod loading;
 #[cfg(test)]
+mod parts;
+#[cfg(test)]
 mod running;
 #[cfg(test)]
 mod telling;

@@ -1,9 +1,9 @@
 //! Texts with limits on their characters.
 use crate::helpers::{expect_that, repeated};
 use crate::telling::lines_left;
-use test_list_input::ListInput;
 use saphyr_parser::{BufferedInput, Input, Parser, StrInput, lists_characters};
 use std::alloc::{AllocError, Global};
+use test_list_input::ListInput;
 
 // Texts that show one thing each.
 const TEXTS: &[&str] = &[

@@ -1,13 +1,13 @@
 //! What a parser tells, call by call, in the lines of cases: `> EVENT @ START END` for each event, `! FAULT` for a
 //! fault. Few functions then hold an event or a fault, of which each is dear to prove.
-use test_case_files::push_item;
-use test_list_input::ListInput;
 use saphyr_parser::{
     Event, EventReceiver, Fault, Input, Marker, Parser, Refused, Span, SpannedEventReceiver,
     lists_characters,
 };
 use std::alloc::{AllocError, Global};
 use std::process::Abort;
+use test_case_files::push_item;
+use test_list_input::ListInput;
 
 /// A call of a parser.
 #[derive(Clone, Copy)]

@@ -1,4 +1,5 @@
 //! The tests of inputs.
 
 mod buffered;
+mod list;
 mod str;

@@ -2,9 +2,9 @@
 use crate::ended::is_ended_by_memory;
 use crate::outcome::Outcome;
 use crate::ways::{gives_want, is_want, pass_line, take_left};
-use test_case_files::{Difference, Expected};
 use saphyr_parser::{CloneInput, Event, Fault, Input, Parser, Span};
 use std::alloc::{AllocError, Global};
+use test_case_files::{Difference, Expected};
 
 /// How many places of a text a parser is cloned at, about.
 const MOST_PLACES: usize = 24;

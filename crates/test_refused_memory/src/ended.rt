@@ -7,9 +7,9 @@ ghost use Rattle.test_refused_memory.specs.declared.outcome.Outcome.TheVariants.
 
 use crate::loading::load_next;
 use crate::outcome::Outcome;
-use test_case_files::{ComparingReceiver, Difference};
 use saphyr_parser::{Input, Parser};
 use std::alloc::Global;
+use test_case_files::{ComparingReceiver, Difference};
 
 /// Whether the line is that of a fault.
 pub fn is_fault(line: &String) -> bool

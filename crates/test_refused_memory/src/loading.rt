@@ -2,9 +2,9 @@
 use crate::ended::{is_ended, is_fault};
 use crate::outcome::Outcome;
 use crate::ways::{by_peek, give_want, last};
-use test_case_files::{ComparingReceiver, Difference};
 use saphyr_parser::{Fault, Input, Parser};
 use std::alloc::Global;
+use test_case_files::{ComparingReceiver, Difference};
 
 /// The events are taken by `load`, all at once or a document at a time.
 pub fn by_load<T: Input>(

@@ -20,12 +20,12 @@ mod trees;
 mod walks;
 mod ways;
 
-use test_case_files::{Case, Difference, parse_cases, printed};
 use outcome::Outcome;
 use saphyr_parser::{Parser, StrInput};
 use std::alloc::{AllocError, Global};
 use std::io;
 use std::process::ExitCode;
+use test_case_files::{Case, Difference, parse_cases, printed};
 use thiserror::Error;
 
 /// Why there is no line for a way.

@@ -2,9 +2,9 @@
 use crate::ended::{is_ended, is_ended_by_memory};
 use crate::outcome::Outcome;
 use crate::ways::{by_next_event, last};
-use test_case_files::{Case, Difference, Expected, KeepingWriter, Manner};
 use saphyr_parser::{DumpFault, Fault, Input, Marker, Parser, ScanError, dump, lists_characters};
 use std::alloc::{AllocError, Global};
+use test_case_files::{Case, Difference, Expected, KeepingWriter, Manner};
 
 /// A writer that takes each piece whole.
 const WHOLE: Manner = Manner {

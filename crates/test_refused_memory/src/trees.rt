@@ -3,9 +3,9 @@ use crate::ended::{is_ended, is_ended_by_memory};
 use crate::outcome::Outcome;
 use crate::parts::is_last;
 use crate::ways::{last, pass_line};
-use test_case_files::{Difference, Expected, push_item};
 use saphyr_parser::{CloneInput, Event, Fault, Input, Parser, Span};
 use std::alloc::{AllocError, Global};
+use test_case_files::{Difference, Expected, push_item};
 use test_tree_events::events_of;
 use yaml_tree::{Document, Limits, TreeFault, load_document, load_documents};
 

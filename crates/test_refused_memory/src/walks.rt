@@ -3,9 +3,9 @@ use crate::outcome::Outcome;
 use crate::parts::is_last;
 use crate::trees::WIDE;
 use crate::ways::last;
-use test_case_files::Difference;
 use saphyr_parser::{Fault, Input, Parser, Span};
 use std::alloc::{AllocError, Global};
+use test_case_files::Difference;
 use yaml_tree::{Node, TreeFault, Walk, load_documents_with_spans};
 
 /// The documents are loaded with their places, their nodes are counted, and the path to each node leads there. Where

@@ -10,9 +10,9 @@ ghost use Rattle.test_refused_memory.specs.declared.outcome.Outcome.TheVariants.
 
 use crate::ended::{is_ended, is_ended_by_memory, is_fault};
 use crate::outcome::Outcome;
-use test_case_files::{Difference, Expected};
 use saphyr_parser::{Event, Fault, Input, Parser, Span};
 use std::alloc::Global;
+use test_case_files::{Difference, Expected};
 
 /// The last line of a case, where there is one.
 pub fn last(lines: &[String]) -> &[String]

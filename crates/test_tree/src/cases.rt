@@ -1,10 +1,10 @@
 //! The printed texts of faults, which no clause says: each is that of its line.
 
-use test_case_files::push_item;
 use saphyr_parser::{Fault, Marker, ScanError};
 use std::alloc::{AllocError, Global};
 use std::process::Abort;
 use std::test::Fail;
+use test_case_files::push_item;
 
 fn expect_line(rt: &impl Abort, alloc: Global, fault: &Fault) -> Result<(), AllocError> {
     let mut line = String::new(alloc);

@@ -3,13 +3,13 @@
 //! A test states a forest as a table, and its events as they print, so that few functions hold trees or events: these
 //! are dear to prove where they are dropped.
 
-use test_forest_events::forest_events;
-use test_forest_events::tree::{Directive, Document, Handle, Node, Properties, WrittenTag};
 use saphyr_parser::{Event, Tag};
 use saphyr_scalar::ScalarStyle;
 use std::alloc::{AllocError, Global};
 use std::process::Abort;
 use std::test::Fail;
+use test_forest_events::forest_events;
+use test_forest_events::tree::{Directive, Document, Handle, Node, Properties, WrittenTag};
 
 /// What may stand before a scalar. A handle is named by its word, and `!` by none.
 #[derive(Clone, Copy)]

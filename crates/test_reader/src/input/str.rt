@@ -48,9 +48,13 @@ fn counts_and_appends_characters(rt: HostRuntime) {
 }
 
 // What is skipped of an input: how many characters, what was met, and what remains.
-type Skipped<'a> = (usize, Result<SkipTabs, &'a str>, &'a str);
+pub(super) type Skipped<'a> = (usize, Result<SkipTabs, &'a str>, &'a str);
 
-fn skips<T: Input + Drop>(mut input: T, tabs: SkipTabs, (count, answer, rest): Skipped) -> bool {
+pub(super) fn skips<T: Input + Drop>(
+    mut input: T,
+    tabs: SkipTabs,
+    (count, answer, rest): Skipped,
+) -> bool {
     let (skipped, met) = match tabs {
         SkipTabs::Yes => input.skip_ws_to_eol(SkipTabs::Yes),
         _ => input.skip_ws_to_eol(SkipTabs::No),

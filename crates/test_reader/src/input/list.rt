@@ -1,26 +1,9 @@
-//! The calls of an input over lists: NUL past the end, runs, comments and document markers.
+//! An input over a list, with the default bodies of its trait: NUL past the end, runs, comments and document markers.
 
-use crate::ListInput;
+use crate::helpers::expect;
+use crate::input::str::skips;
 use saphyr_input::input::{Input, SkipTabs};
-use std::process::Abort;
-
-// Stops the test unless this holds, and names the text that it holds of.
-fn expect(rt: &impl Abort, holds: bool, text: &str) {
-    assert!(rt; holds, "{text:?}");
-}
-
-// Whether exactly the characters of a text remain.
-fn remains(mut input: ListInput, text: &str) -> bool {
-    for c in text.chars() {
-        input.lookahead(1);
-        if input.peek_opt() != Some(c) {
-            return false;
-        }
-        input.skip();
-    }
-    input.lookahead(1);
-    input.peek_opt().is_none()
-}
+use test_list_input::ListInput;
 
 #[test]
 fn looks_past_the_end(rt: HostRuntime) {
@@ -48,37 +31,21 @@ fn takes_characters_raw(rt: HostRuntime) {
     expect(&rt, input.look_ch() == '\n', "\n");
 }
 
-// What is skipped of a text: how many characters, what was met, and what remains.
-type Skipped<'a> = (usize, Result<SkipTabs, &'a str>, &'a str);
-
-fn skips(text: &[char], tabs: SkipTabs, (count, found, rest): Skipped) -> bool {
-    let mut input = ListInput::new(text);
-    let (taken, met) = match tabs {
-        SkipTabs::Yes => input.skip_ws_to_eol(SkipTabs::Yes),
-        _ => input.skip_ws_to_eol(SkipTabs::No),
-    };
-    taken == count && met == found && remains(input, rest)
-}
-
 #[test]
 fn skips_white_space_and_comments(rt: HostRuntime) {
-    let bare = "comments must be separated from other tokens by whitespace";
+    let refusal = "comments must be separated from other tokens by whitespace";
     let both = (5, Ok(SkipTabs::Result(true, true)), "\n");
-    expect(
-        &rt,
-        skips(&['\t', ' ', '#', ' ', 'x', '\n'], SkipTabs::Yes, both),
-        "\t # x\n",
-    );
+    let text = ListInput::new(&['\t', ' ', '#', ' ', 'x', '\n']);
+    expect(&rt, skips(text, SkipTabs::Yes, both), "\t # x\n");
     let mark = (2, Ok(SkipTabs::Result(false, true)), "\u{FEFF}");
-    expect(
-        &rt,
-        skips(&[' ', '#', '\u{FEFF}'], SkipTabs::No, mark),
-        " #\u{FEFF}",
-    );
-    let refused = (0, Err(bare), "#x");
-    expect(&rt, skips(&['#', 'x'], SkipTabs::Yes, refused), "#x");
+    let text = ListInput::new(&[' ', '#', '\u{FEFF}']);
+    expect(&rt, skips(text, SkipTabs::No, mark), " #\u{FEFF}");
+    let bare = (0, Err(refusal), "#x");
+    let text = ListInput::new(&['#', 'x']);
+    expect(&rt, skips(text, SkipTabs::Yes, bare), "#x");
     let tab = (1, Ok(SkipTabs::Result(false, true)), "\tx");
-    expect(&rt, skips(&[' ', '\t', 'x'], SkipTabs::No, tab), " \tx");
+    let text = ListInput::new(&[' ', '\t', 'x']);
+    expect(&rt, skips(text, SkipTabs::No, tab), " \tx");
 }
 
 // How many characters are a word, blanks, letters, and the rest of a line.
