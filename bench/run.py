@@ -1,13 +1,16 @@
 #!/usr/bin/env python3
-"""Measures `dump_events` beside other programs that print the same lines.
+"""Measures `dump_events` beside other programs that print the same lines, or faces and parsers without printing.
 
-    bench/run.py [--size MEGABYTES] [--crate SOURCES] [--instructions] [KIND ..]
+    bench/run.py [--size MEGABYTES] [--crate SOURCES] [--instructions] [--parse-only] [KIND ..]
+    bench/run.py --small [--crate SOURCES]
 
-A table of processor time, in the ratio to `dump_events`: above 1 the other takes so many times as long. The least of
-nine runs counts, which take turns. With --instructions it is the instructions for each byte, by callgrind, on smaller
-files, beyond those of an empty text. The peers are the faces for C and Rust of this repository, libyaml where its
-header is there, and with --crate the Rust crate `saphyr-parser`, whose sources are in that folder, and whose
-dependencies cargo fetches. A `-` says that the peer refuses the file.
+A table of processor time, in the ratio to the first program: above 1 the other takes so many times as long. The least
+of nine runs counts, which take turns. With --instructions it is the instructions for each byte, by callgrind, on
+smaller files, beyond those of an empty text. The peers are the faces for C and Rust of this repository, libyaml where
+its header is there, and with --crate the Rust crate `saphyr-parser`, whose sources are in that folder, and whose
+dependencies cargo fetches. With --parse-only the programs count the events, and print nothing of them. --small takes
+the instructions for a text of 48 bytes, whose parser is made, read to its end and freed. A `-` says that the peer
+refuses the file.
 """
 import argparse
 import os
@@ -21,10 +24,11 @@ from inputs import KINDS
 
 ROOT = os.path.dirname(os.path.dirname(os.path.abspath(__file__)))
 sys.path.insert(0, f"{ROOT}/tests")
-from faces import CRATE, cargo, libraries  # noqa: E402
+from faces import CRATE, libraries  # noqa: E402
 from refused_memory import program  # noqa: E402
 
 RUNS = 9
+SMALL = "name: value\nlist: [1, 2, three]\nother: 'text x'\n"
 MANIFEST = """
 [package]
 name = "peer"
@@ -33,38 +37,41 @@ edition = "2021"
 [dependencies]
 saphyr-parser = {{ path = {sources!r} }}
 [[bin]]
-name = "peer"
+name = "dumps"
 path = "{root}/rust/examples/dump_events.rs"
+[[bin]]
+name = "counts"
+path = "{root}/bench/count_events.rs"
 [workspace]
 """
 
 
 def compiled(folder, name, words):
     made = f"{folder}/{name}"
-    command = ["cc", "-std=c11", "-D_GNU_SOURCE", "-O2", *words, "-o", made]
+    command = ["cc", "-std=c11", "-D_GNU_SOURCE", "-O2", f"-I{CRATE}", f"-I{ROOT}/tests/faces", *words, "-o", made]
     return made if subprocess.run(command, capture_output=True).returncode == 0 else None
 
 
-def of_crate(folder, sources):
-    """The Rust example over the Rust crate, in place of this repository's."""
-    os.mkdir(f"{folder}/peer")
-    with open(f"{folder}/peer/Cargo.toml", "w", encoding="utf-8") as it:
+def over_crate(folder, name, sources):
+    """The folder with the Rust programs over the crate in a folder: this repository's, or the Rust crate."""
+    os.mkdir(f"{folder}/{name}")
+    with open(f"{folder}/{name}/Cargo.toml", "w", encoding="utf-8") as it:
         it.write(MANIFEST.format(sources=os.path.abspath(sources), root=ROOT))
-    target = f"{folder}/peer/target"
+    target = f"{folder}/{name}/target"
     env = {**os.environ, "CARGO_TARGET_DIR": target}
-    subprocess.run(["cargo", "build", "--release", "--quiet"], cwd=f"{folder}/peer", env=env, check=True)
-    return f"{target}/release/peer"
+    subprocess.run(["cargo", "build", "--release", "--quiet"], cwd=f"{folder}/{name}", env=env, check=True)
+    return f"{target}/release"
 
 
-def peers(folder, sources):
-    """The programs by their names, the repository's own first."""
-    made = {"dump_events": program("dump_events")}
-    made["C face"] = compiled(folder, "c_face", [f"-I{CRATE}", f"{ROOT}/tests/faces/dump_events.c", *libraries()])
-    cargo("build", "--example", "dump_events")
-    target = os.environ.get("CARGO_TARGET_DIR", f"{ROOT}/rust/target")
-    made["Rust face"] = f"{target}/release/examples/dump_events"
-    made["libyaml"] = compiled(folder, "libyaml", [f"{ROOT}/bench/libyaml_dump.c", "-lyaml"])
-    made["crate"] = of_crate(folder, sources) if sources else None
+def peers(folder, sources, prints):
+    """The programs by their names, the repository's own first: those that print events, or those that count them."""
+    made = {"dump_events": program("dump_events")} if prints else {}
+    c_face, libyaml = ("tests/faces/dump_events", "libyaml_dump") if prints else ("bench/count_events", "libyaml_count")
+    made["C face"] = compiled(folder, "c_face", [f"{ROOT}/{c_face}.c", *libraries()])
+    rust = "dumps" if prints else "counts"
+    made["Rust face"] = f"{over_crate(folder, 'rust', f'{ROOT}/rust')}/{rust}"
+    made["libyaml"] = compiled(folder, "libyaml", [f"{ROOT}/bench/{libyaml}.c", "-lyaml"])
+    made["crate"] = f"{over_crate(folder, 'crate', sources)}/{rust}" if sources else None
     return {name: path for name, path in made.items() if path}
 
 
@@ -115,18 +122,31 @@ def report(programs, file, kind, by_instructions):
     print(f"{kind:14}{size / 1e6:8.2f} MB" + "".join(map(shown, numbers)), flush=True)
 
 
+def report_small(programs, file):
+    """The table of a small text: that of a hundred more runs in one process, for each of them."""
+    with open(file, "w", encoding="utf-8") as it:
+        it.write(SMALL)
+    for name, path in programs.items():
+        few, more = (count_instructions([path, file, times]) for times in ("10", "110"))
+        print(f"{name:12}{(more - few) / 100:10.0f}")
+
+
 def main():
     words = argparse.ArgumentParser(description=__doc__, formatter_class=argparse.RawDescriptionHelpFormatter)
     words.add_argument("--size", type=float, metavar="MEGABYTES")
     words.add_argument("--crate", metavar="SOURCES")
     words.add_argument("--instructions", action="store_true")
+    words.add_argument("--parse-only", action="store_true")
+    words.add_argument("--small", action="store_true")
     words.add_argument("kinds", nargs="*", metavar="KIND", choices=[[], *KINDS])
     asked = words.parse_args()
-    if asked.instructions and not shutil.which("valgrind"):
+    if (asked.instructions or asked.small) and not shutil.which("valgrind"):
         sys.exit("there is no valgrind")
     size = int(1e6 * (asked.size or (0.1 if asked.instructions else 4)))
     with tempfile.TemporaryDirectory() as folder:
-        programs = peers(folder, asked.crate)
+        programs = peers(folder, asked.crate, not (asked.parse_only or asked.small))
+        if asked.small:
+            return report_small(programs, f"{folder}/small")
         unit = "instructions for each byte" if asked.instructions else "seconds, and how many times as long"
         print(f"{unit:25}" + "".join(f"{name:>12}" for name in programs))
         for kind in asked.kinds or KINDS:

@@ -4,7 +4,8 @@
 //! beside its sources: a parser and an event are zeroed at first, a pointer that is passed is not null, one call at a
 //! time uses a parser, and the text stays unchanged where it is until the parser over it is freed. What it gives is
 //! that the texts of an event are UTF-8, and may be read until the next call with the same parser. Here they are copied
-//! right behind the call that wrote them, so that none is left when the next one comes.
+//! right behind the call that wrote them, so that none is left when the next one comes. A text that stands in the
+//! parser's own as it is, is borrowed from there instead.
 
 use crate::encoding::NotUtf8;
 use crate::event::{Event, Tag};
@@ -109,14 +110,41 @@ impl Text<'_> {
 }
 
 /// What a parser gives: an event, the fault that ends the events, or `None` behind them.
-pub type Item = Option<Result<(Event<'static>, Span), ScanError>>;
+pub type Item<'input> = Option<Result<(Event<'input>, Span), ScanError>>;
 
 /// A parser of the library, and the text that it reads.
 pub struct Face<'input> {
     /// Has a parser, always, but for the call that clones it, which empties it and puts the parser back.
     handle: Cell<Handle>,
+    /// What the library wrote last. Its texts are read right behind the call alone.
+    record: Record,
     /// Dropped when the parser was freed.
     text: Text<'input>,
+    reached: Reached,
+}
+
+/// A place in a text, up to which its characters are counted.
+#[derive(Clone, Copy, Default)]
+struct Reached {
+    characters: usize,
+    bytes: usize,
+}
+
+impl Reached {
+    /// Goes on to a later place of the text, and says how many bytes stand before it.
+    fn go_on(&mut self, text: &str, index: usize) -> Option<usize> {
+        let more = index.checked_sub(self.characters)?;
+        let rest = text.get(self.bytes..)?;
+        self.bytes += if rest.as_bytes().get(..more)?.is_ascii() {
+            more
+        } else {
+            let mut characters = rest.chars();
+            characters.nth(more.checked_sub(1)?)?;
+            rest.len() - characters.as_str().len()
+        };
+        self.characters = index;
+        Some(self.bytes)
+    }
 }
 
 // SAFETY: the library keeps nothing outside of the handle, and asks for one call at a time, on whichever thread. So it
@@ -139,17 +167,92 @@ impl<'input> Face<'input> {
         expect(status, OK);
         Face {
             handle: Cell::new(handle),
+            record: Record::zeroed(),
             text,
+            reached: Reached::default(),
         }
     }
 
     /// Hands out the next item.
-    pub fn next(&mut self) -> Item {
-        let mut record = Record::zeroed();
-        // SAFETY: the handle has a parser, which no other call uses, and the record is zeroed.
-        let status = unsafe { saphyr_next(self.handle.get_mut(), &mut record) };
-        // SAFETY: the call was the last one with the parser, and wrote the record.
-        unsafe { item_of(status, &record) }
+    #[inline]
+    pub fn next(&mut self) -> Item<'input> {
+        // SAFETY: the handle has a parser, which no other call uses. The record was zeroed, and nothing but this call
+        // has changed it.
+        let status = unsafe { saphyr_next(self.handle.get_mut(), &mut self.record) };
+        if status != EVENT {
+            // SAFETY: the call was the last one with the parser, and wrote the record.
+            return unsafe { self.ending(status) }.map(Err);
+        }
+        let span = Span::new(marker(&self.record.start), marker(&self.record.end));
+        // SAFETY: the same.
+        Some(Ok((unsafe { self.event() }, span)))
+    }
+
+    /// The fault in place of an event, if there is one.
+    ///
+    /// # Safety
+    /// A call answered this and wrote the record, and no other came since with the parser.
+    #[cold]
+    unsafe fn ending(&self, status: i32) -> Option<ScanError> {
+        if status != REFUSED {
+            expect(status, END);
+            return None;
+        }
+        // SAFETY: as of this function.
+        let info = unsafe { self.record.value.text() };
+        Some(ScanError::new_str(marker(&self.record.start), info))
+    }
+
+    /// The event that a call wrote.
+    ///
+    /// # Safety
+    /// The call wrote the record, and no other came since with the parser.
+    #[inline]
+    unsafe fn event(&mut self) -> Event<'input> {
+        let anchor = self.record.anchor;
+        match self.record.kind {
+            1 => Event::StreamStart,
+            2 => Event::StreamEnd,
+            3 => Event::DocumentStart(self.record.is_explicit != 0),
+            4 => Event::DocumentEnd,
+            5 => Event::Alias(anchor),
+            6 => {
+                let style = style(self.record.style);
+                // SAFETY: as of this function.
+                let (value, tag) = unsafe { (self.value(style), tag_of(&self.record)) };
+                Event::Scalar(value, style, anchor, tag)
+            }
+            // SAFETY: as of this function.
+            7 => Event::SequenceStart(anchor, unsafe { tag_of(&self.record) }),
+            8 => Event::SequenceEnd,
+            // SAFETY: as of this function.
+            9 => Event::MappingStart(anchor, unsafe { tag_of(&self.record) }),
+            10 => Event::MappingEnd,
+            _ => Event::Nothing,
+        }
+    }
+
+    /// The text of the scalar that a call wrote, borrowed where it stands at its place in the text as it is.
+    ///
+    /// # Safety
+    /// The same as of `event`.
+    unsafe fn value(&mut self, style: ScalarStyle) -> Cow<'input, str> {
+        // SAFETY: as of this function.
+        let value = unsafe { self.record.value.text() };
+        let Text::Borrowed(text) = self.text else {
+            return Cow::Owned(value.to_owned());
+        };
+        let quotes = match style {
+            ScalarStyle::Plain => 0,
+            ScalarStyle::SingleQuoted | ScalarStyle::DoubleQuoted => 1,
+            ScalarStyle::Literal | ScalarStyle::Folded => return Cow::Owned(value.to_owned()),
+        };
+        let at = self.reached.go_on(text, self.record.start.index);
+        let piece = at.and_then(|at| text.get(at + quotes..at + quotes + value.len()));
+        match piece {
+            Some(piece) if piece == value => Cow::Borrowed(piece),
+            _ => Cow::Owned(value.to_owned()),
+        }
     }
 
     /// Says whether prefixes of tags hold for later documents too.
@@ -169,7 +272,9 @@ impl Clone for Face<'_> {
         expect(status, OK);
         Face {
             handle: Cell::new(handle),
+            record: Record::zeroed(),
             text: self.text.clone(),
+            reached: self.reached,
         }
     }
 }
@@ -198,72 +303,45 @@ impl Record {
     }
 }
 
-/// What a call answered that hands out or shows the next item.
-///
-/// # Safety
-/// The call wrote the record, and no other came since with the same parser.
-unsafe fn item_of(status: i32, record: &Record) -> Item {
-    let span = Span::new(marker(&record.start), marker(&record.end));
-    match status {
-        // SAFETY: as of this function.
-        EVENT => Some(Ok((unsafe { event_of(record) }, span))),
-        // SAFETY: as of this function.
-        REFUSED => Some(Err(ScanError::new(span.start, unsafe {
-            text_of(&record.value)
-        }))),
-        _ => {
-            expect(status, END);
-            None
-        }
-    }
-}
-
-/// The event that a call wrote.
-///
-/// # Safety
-/// The same as of `item_of`.
-unsafe fn event_of(record: &Record) -> Event<'static> {
-    let anchor = record.anchor;
-    // SAFETY: as of this function.
-    let (value, tag) = unsafe { (text_of(&record.value), tag_of(record)) };
-    match record.kind {
-        1 => Event::StreamStart,
-        2 => Event::StreamEnd,
-        3 => Event::DocumentStart(record.is_explicit != 0),
-        4 => Event::DocumentEnd,
-        5 => Event::Alias(anchor),
-        6 => Event::Scalar(Cow::Owned(value), style(record.style), anchor, tag),
-        7 => Event::SequenceStart(anchor, tag),
-        8 => Event::SequenceEnd,
-        9 => Event::MappingStart(anchor, tag),
-        10 => Event::MappingEnd,
-        _ => Event::Nothing,
-    }
-}
-
 /// The tag of the event that a call wrote.
 ///
 /// # Safety
-/// The same as of `item_of`.
+/// The call wrote the record, and no other came since with the same parser.
+#[inline]
 unsafe fn tag_of(record: &Record) -> Option<Cow<'static, Tag>> {
     if record.has_tag == 0 {
         return None;
     }
     // SAFETY: as of this function.
-    let (handle, suffix) = unsafe { (text_of(&record.tag_handle), text_of(&record.tag_suffix)) };
-    Some(Cow::Owned(Tag { handle, suffix }))
+    Some(Cow::Owned(unsafe { copy_of_tag(record) }))
 }
 
-/// A copy of a text that a call wrote, or of none.
+/// A copy of the texts of a tag.
 ///
 /// # Safety
-/// The same as of `item_of`, of the record that has it.
-unsafe fn text_of(bytes: &Bytes) -> String {
-    if bytes.len == 0 {
-        return String::new();
+/// The same as of `tag_of`.
+#[cold]
+unsafe fn copy_of_tag(record: &Record) -> Tag {
+    // SAFETY: as of this function.
+    let (handle, suffix) = unsafe { (record.tag_handle.text(), record.tag_suffix.text()) };
+    Tag {
+        handle: handle.to_owned(),
+        suffix: suffix.to_owned(),
     }
-    // SAFETY: the library gives texts in UTF-8, which may be read until the next call with the parser.
-    unsafe { str::from_utf8_unchecked(slice::from_raw_parts(bytes.at, bytes.len)) }.to_owned()
+}
+
+impl Bytes {
+    /// The text that a call wrote, or an empty one.
+    ///
+    /// # Safety
+    /// The call wrote the record that has it, and no other comes with the same parser while the text is read.
+    unsafe fn text<'a>(&self) -> &'a str {
+        if self.len == 0 {
+            return "";
+        }
+        // SAFETY: the library gives texts in UTF-8, which may be read until the next call with the parser.
+        unsafe { str::from_utf8_unchecked(slice::from_raw_parts(self.at, self.len)) }
+    }
 }
 
 fn style(number: i32) -> ScalarStyle {

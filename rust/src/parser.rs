@@ -124,14 +124,31 @@ impl<'input, T: Input> Parser<'input, T> {
     ///
     /// # Errors
     /// The fault that ends the events.
+    #[inline]
     pub fn next_event(&mut self) -> Option<ParseResult<'input>> {
+        if self.has_ended() {
+            self.give_fault()
+        } else {
+            self.give()
+        }
+    }
+
+    /// Hands out the next event or the fault, where neither the stream's end nor a fault was read.
+    #[inline]
+    fn give(&mut self) -> Option<ParseResult<'input>> {
         let item = self.pass();
-        if matches!(item, Some(Err(_)) | None) {
-            let fault = self.unsent_fault()?;
-            self.fault = Some((fault.clone(), true));
-            return Some(Err(fault));
+        if let Some((_, was_sent)) = &mut self.fault {
+            *was_sent = true;
         }
         item
+    }
+
+    /// Hands out the fault that ended the events, once.
+    #[cold]
+    fn give_fault(&mut self) -> Option<ParseResult<'input>> {
+        let fault = self.unsent_fault()?;
+        self.fault = Some((fault.clone(), true));
+        Some(Err(fault))
     }
 
     /// Hands events to a receiver: those up to the end of a document or, with `multi` or where no document is left, up
@@ -153,7 +170,8 @@ impl<'input, T: Input> Parser<'input, T> {
             Stand::Inside if self.fault.is_none() => return Err(self.no_document()),
             Stand::Inside | Stand::Between => {}
         }
-        while let Some(item) = self.pass() {
+        while !self.has_ended() {
+            let Some(item) = self.pass() else { break };
             let (event, span) = item?;
             let is_last = !multi && event == Event::DocumentEnd;
             recv.on_event(event, span);
@@ -167,6 +185,7 @@ impl<'input, T: Input> Parser<'input, T> {
     }
 
     /// Whether there is nothing left to read.
+    #[inline]
     fn has_ended(&self) -> bool {
         self.fault.is_some() || matches!(self.stand, Stand::Behind(_))
     }
@@ -177,23 +196,22 @@ impl<'input, T: Input> Parser<'input, T> {
         (!was_sent).then(|| fault.clone())
     }
 
-    /// Passes the next event. A fault is kept.
+    /// Passes the next event, where neither the stream's end nor a fault was read. A fault is kept.
+    #[inline]
     fn pass(&mut self) -> Option<ParseResult<'input>> {
-        if self.has_ended() {
-            return None;
-        }
-        let item = match self.peeked.take() {
-            Some(item) => Ok(item),
-            None => self.read()?,
+        let item = if self.peeked.is_some() {
+            self.peeked.take().map(Ok)
+        } else {
+            self.read()
         };
         match &item {
-            Ok((Event::DocumentStart(_), _)) => self.stand = Stand::Inside,
-            Ok((Event::DocumentEnd, _)) => self.stand = Stand::Between,
-            Ok((Event::StreamEnd, span)) => self.stand = Stand::Behind(*span),
-            Ok(_) => {}
-            Err(fault) => self.fault = Some((fault.clone(), false)),
+            Some(Ok((Event::DocumentStart(_), _))) => self.stand = Stand::Inside,
+            Some(Ok((Event::DocumentEnd, _))) => self.stand = Stand::Between,
+            Some(Ok((Event::StreamEnd, span))) => self.stand = Stand::Behind(*span),
+            Some(Ok(_)) | None => {}
+            Some(Err(fault)) => self.fault = Some((fault.clone(), false)),
         }
-        Some(item)
+        item
     }
 
     /// That no document begins where the parser stands; or the fault that comes next.
@@ -208,7 +226,8 @@ impl<'input, T: Input> Parser<'input, T> {
     }
 
     /// Reads the next item.
-    fn read(&mut self) -> Item {
+    #[inline]
+    fn read(&mut self) -> Item<'input> {
         if let Source::Text(text) = self.source {
             self.source = Source::Whole(Face::new(Text::Borrowed(text), self.keep_tags));
         }
@@ -223,6 +242,7 @@ impl<'input, T: Input> Parser<'input, T> {
 impl<'input, T: Input> Iterator for Parser<'input, T> {
     type Item = ParseResult<'input>;
 
+    #[inline]
     fn next(&mut self) -> Option<Self::Item> {
         self.next_event()
     }

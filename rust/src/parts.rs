@@ -75,7 +75,7 @@ impl<T: Input> Parts<T> {
     }
 
     /// Hands out the next item.
-    pub fn next(&mut self, keep_tags: bool) -> Item {
+    pub fn next(&mut self, keep_tags: bool) -> Item<'static> {
         if !self.has_begun {
             self.has_begun = true;
             return Some(Ok((Event::StreamStart, Span::empty(Marker::new(0, 1, 0)))));
@@ -191,7 +191,7 @@ impl Part {
         }
     }
 
-    fn next(&mut self) -> Item {
+    fn next(&mut self) -> Item<'static> {
         self.given += 1;
         self.face.next()
     }
