@@ -57,7 +57,7 @@ def make_library(kit):
 def library_words(kit):
     """How the compiler `rattle` is told what the library stands on: the crates of crates.txt, and the kit's."""
     with open(f"{ROOT}/crates.txt", encoding="utf-8") as it:
-        lines = [line.partition(":") for line in it]
+        lines = [line.partition(":") for line in it if not line.startswith("#")]
     named = {before.split()[0]: behind.split() for before, _, behind in lines if before.strip()}
     own = {name: f"{ROOT}/crates/{name}/out/rlib" for name in named}
     words = ["--crate-name", "saphyr_parser_c", "--crate-type", "staticlib", "src/lib.rt"]

@@ -9,9 +9,9 @@ the `use` lines of its file to the definition in a crate's `specs`, and so is ea
 printed, by clause: the file, the section of the standard that its head names, and the definitions. A `NAME` of a clause
 or a function, as `taken`, prints this alone, and `--quiet` counts only.
 
-The tables of the page have a column `promise`, which says which promises rest on a row's definitions: those of the
-names in its first cell, or where that has none, of its files. The script fails where a row says something else, and
-`--mark` writes it into the page.
+An entry of the page begins with its names, their file and section, and which promises rest on them: those of its names,
+or where it has none, of its files. The script fails where an entry says something else, and `--mark` writes it into the
+page.
 
 No promise quotes a definition of steps, which stands in a file or folder `Steps`: those say what the code does, and not
 what the standard asks. So the script fails where one is reached, and prints the names that lead there. But a promise
@@ -29,6 +29,7 @@ import functools
 import os
 import re
 import sys
+import textwrap
 
 TOP = os.path.dirname(os.path.dirname(os.path.abspath(__file__)))
 PAGE = os.path.join(TOP, "docs", "DEFINITIONS.md")
@@ -38,7 +39,8 @@ PRINTING, RUNNING = "crates/saphyr_parser/src/printing.rt", "crates/saphyr_parse
 # each with its mark in the page, where that isn't the clause's own name
 FUNCTIONS = {
     (PARSER, "new"): None, (PARSER, "with_limit"): None, (PARSER, "new_from_iter"): None,
-    (PARSER, "next_event"): "calls", (PARSER, "peek"): "calls", (PARSER, "load"): "calls",
+    (PARSER, "next_event"): "calls", (PARSER, "next_event_into"): "calls", (PARSER, "peek"): "calls",
+    (PARSER, "load"): "calls",
     (PARSER, "keep_tags"): "calls", (LOADER, "load_documents"): "trees", (ONE_LOADER, "load_document"): "trees",
     (PRINTING, "dump"): "lines", (RUNNING, "run_dump"): "lines",
 }
@@ -61,6 +63,8 @@ HEAD = re.compile(r"((?:(?:abbrev|unfoldable|pub|data|record) )+)([^\s:]+)|([^\s
 CONSTRUCTOR = re.compile(r"\s+([^\s:]+) :")
 SECTION = re.compile(r"\(((?:YAML|RFC)[^)]*)\)")
 WORDS = re.compile(r"[^\s(){}\[\];,λ]+")
+# an entry of the page: names, where they stand, and for which promises
+ENTRY = re.compile(r"- \*\*(.+?)\*\* in (.+?)(?:, for \*(.+?)\*)?:$")
 
 Module = collections.namedtuple("Module", "crate name")
 Definition = collections.namedtuple("Definition", "module name")
@@ -255,9 +259,9 @@ def look(path, function, asked, reached, is_quiet):
     return wrong
 
 
-def marks_of(row, files, reached):
-    """The promises that rest on a row's definitions. What rests on `yaml` has no mark for `closed`."""
-    names = re.findall(r"`([^`]+)`", row)
+def marks_of(entry, files, reached):
+    """The promises that rest on an entry's definitions. What rests on `yaml` has no mark for `closed`."""
+    names = re.findall(r"`([^`]+)`", entry)
     marks = {mark for definition, marks in reached.items() for mark in marks
              if spec_of(definition.module).path.endswith(files) and (not names or definition.name in names)}
     if "yaml" in marks:
@@ -267,29 +271,34 @@ def marks_of(row, files, reached):
 
 
 def marked_page(reached):
-    """The page with the marks that were found, and the lines on rows that have others."""
-    lines, other, column = [], [], 0
+    """The page with the marks that were found, and the lines on entries that have others."""
+    lines, other, head = [], [], []
     with open(PAGE, encoding="utf-8") as file:
         for number, line in enumerate(file, 1):
-            cells = re.split(r"(?<!\\)\|", line)
-            if len(cells) == 1:
-                column = 0
-            elif " promise " in cells[2:]:
-                column = cells.index(" promise ", 2)
-            files = tuple("/" + name for name in re.findall(r"`([^`]+\.antt)`", cells[2])) if column else ()
+            if line.startswith("- **") or head:
+                head.append(line.strip())
+                if not line.endswith(":\n"):
+                    continue
+            entry = ENTRY.match(" ".join(head)) if head else None
+            files = tuple("/" + name for name in re.findall(r"`([^`]+\.antt)`", entry[2])) if entry else ()
             if files:
-                has, found = cells[column].strip(), marks_of(cells[1], files, reached)
-                cells[column] = f" {found} " if found else " "
+                has, found = entry[3] or "", marks_of(entry[1], files, reached)
                 if has != found:
                     other.append(f"docs/DEFINITIONS.md, line {number}: {found or 'none'} in place of {has or 'none'}")
-            lines.append("|".join(cells))
+                marks = f", for *{found}*" if found else ""
+                line = textwrap.fill(f"- **{entry[1]}** in {entry[2]}{marks}:", 120, subsequent_indent="  ",
+                                     break_long_words=False, break_on_hyphens=False) + "\n"
+            elif head:
+                line = "\n  ".join(head) + "\n"
+            head = []
+            lines.append(line)
     return "".join(lines), other
 
 
 def main():
     arguments = argparse.ArgumentParser(description=__doc__.split("\n", 1)[0])
     arguments.add_argument("--quiet", action="store_true", help="count the definitions only")
-    arguments.add_argument("--mark", action="store_true", help="write into the page what rests on each row")
+    arguments.add_argument("--mark", action="store_true", help="write into the page what rests on each entry")
     arguments.add_argument("names", nargs="*", metavar="NAME", help="the clauses or functions to look at, else all")
     given = arguments.parse_args()
     names = {name for path, function in FUNCTIONS for name in (function, *dict(clauses_of(path, function)[0]))}
@@ -306,7 +315,7 @@ def main():
     if given.mark and other:
         with open(PAGE, "w", encoding="utf-8") as file:
             file.write(page)
-        print(f"{len(other)} rows of the page have new marks")
+        print(f"{len(other)} entries of the page have new marks")
         other = []
     for line in other:
         print(line, file=sys.stderr)

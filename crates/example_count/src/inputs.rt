@@ -13,6 +13,7 @@ pub struct Counts {
     pub last_index: usize,
 }
 
+/// Counts the scalars of a text in each way, and finds where the last one begins.
 pub fn count_all(alloc: Global, text: &str) -> Result<Counts, Fault> {
     let characters: Vec<char> = text.chars().collect(alloc)?;
     let (from_text, last_index) = from_text(alloc, text)?;

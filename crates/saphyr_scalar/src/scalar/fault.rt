@@ -225,6 +225,7 @@ pub struct ScanError {
 }
 
 impl ScanError {
+    /// A fault with this text, at this place.
     pub fn new(loc: Marker, info: String) -> ScanError
         ensures mark { result.mark ≡ loc }
         ensures info { result.info ≡ info }

@@ -20,6 +20,7 @@ pub struct Marker {
 }
 
 impl Marker {
+    /// A place with this index, line and column.
     #[inline]
     pub fn new(index: usize, line: usize, col: usize) -> Marker
         ensures index { result.index ≡ index }
@@ -103,6 +104,7 @@ pub struct Span {
 }
 
 impl Span {
+    /// The span between two places, which may be one and the same.
     #[inline]
     pub fn new(start: Marker, end: Marker) -> Span
         ensures start { result.start ≡ start }
