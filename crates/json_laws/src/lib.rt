@@ -1,6 +1,6 @@
-//! Laws of texts of JSON: each is a text of YAML's grammar, of the same forest.
+//! Laws of texts of JSON: each is a text of YAML's grammar, with the same forest.
 //!
-//! The functions are laws: they do nothing, and their clauses are what is proved.
+//! The functions are laws: they do nothing, and what matters is their proved clauses.
 #![tactic(auto)]
 
 ghost use Rattle.std.specs.Prelude.{◌≤◌, List, ℕ};
@@ -11,7 +11,7 @@ ghost use Rattle.saphyr_scanner.specs.Grammar.Tokens.{Kind};
 ghost use Rattle.yaml_laws.specs.Grammar.Yaml.{IsYamlText};
 ghost use Rattle.json_laws.specs.Grammar.Json.{IsJson};
 
-/// A text of JSON stands for its forest.
+/// An example: a text of JSON and its forest.
 pub fn reads_json()
     ensures { IsJson json_forest json_text }
 {}
@@ -28,8 +28,8 @@ pub fn has_tokens()
         → (tokens : List Kind) × Yields forest tokens }
 {}
 
-/// Each text of JSON is a text of YAML's grammar, of the same forest. At most `room` collections are
-/// open at once in it, all of which are in flow style.
+/// Each text of JSON is a text of YAML's grammar, with the same forest. At most `room` collections are
+/// open in it at once, all in flow style.
 pub fn is_yaml_text()
     ensures { (room : ℕ) (forest : Forest) (text : List ℕ) → IsJson forest text
         → open_in_forest forest ≤ room → IsYamlText room forest text }

@@ -13,8 +13,8 @@ use Rattle.saphyr_machine.specs.Loading.{Loads, MeetsBehind, Portion}
 use Rattle.saphyr_parser.specs.declared.printing.fault.DumpFault.{DumpFault}
 use Rattle.saphyr_parser.specs.declared.printing.fault.DumpFault.TheVariants as dump
 use Rattle.saphyr_parser.specs.Dumps.{Leaves}
-use Rattle.saphyr_parser.specs.Promises.{KeepsSpans}
-use Rattle.saphyr_parser.specs.SpansWithin.{IsLater, itself, advanced, failed, looked, set}
+use Rattle.event_laws.specs.Promises.{KeepsSpans}
+use Rattle.event_laws.specs.SpansWithin.{IsLater, itself, advanced, failed, looked, set}
 
 pub later_behind : (first middle last : EventCursor) → IsLater first middle → IsLater middle last → IsLater first last
 later_behind first middle _ a itself = a

@@ -6,7 +6,7 @@ use Rattle.std.specs.Fmt.{decimal}
 use Rattle.saphyr_scalar.specs.declared.scalar.position.Marker.{Marker}
 use Rattle.saphyr_scalar.specs.Faults.{error_text}
 use Rattle.saphyr_scanner.specs.Steps.Remaining.{scan}
-use Rattle.saphyr_parser.specs.Limits.{most_characters}
+use Rattle.event_laws.specs.Limits.{most_characters}
 use Rattle.saphyr_machine.specs.declared.fault.Fault.{Fault}
 use Rattle.saphyr_machine.specs.declared.fault.Fault.TheVariants as fault
 use Rattle.saphyr_parser.specs.declared.printing.fault.DumpFault.{DumpFault}

@@ -4,12 +4,12 @@ ghost use Rattle.std.specs.Prelude.{◌≡◌, ◌≤◌, ◌<◌, ◌^◌, ℕ,
 ghost use Rattle.std.specs.Str.{chars};
 ghost use Rattle.saphyr_input.specs.Listed.{Lists, Listed};
 ghost use Rattle.saphyr_scanner.specs.Steps.Remaining.{scan};
-ghost use Rattle.saphyr_parser.specs.Limits.{most_characters};
+ghost use Rattle.event_laws.specs.Limits.{most_characters};
 ghost use Rattle.saphyr_machine.specs.Cursor as spec;
 ghost use Rattle.saphyr_machine.specs.Calls as calls;
-ghost use Rattle.saphyr_parser.specs.Promises.{KeepsSpans, ReadsClosedYaml, ReadsJson, ReadsYaml, TakesEvents};
+ghost use Rattle.event_laws.specs.Promises.{KeepsSpans, ReadsClosedYaml, ReadsJson, ReadsYaml, TakesEvents};
 
-use crate::law::takes_all_events;
+use event_laws::takes_all_events;
 use json_laws::is_yaml_text;
 use saphyr_input::input::{CloneInput, Input};
 use saphyr_input::{BufferedInput, StrInput};
@@ -24,7 +24,7 @@ use yaml_laws::{hands_out_markers, scans_each_yaml_text};
 /// How many characters a text may have.
 const MOST_CHARACTERS: usize = 4294967295;
 
-/// The same input: where a place of it is loaded, it has fewer than 2^63 characters.
+/// Returns the input unchanged. If one of its places is loaded, it has fewer than 2^63 characters.
 fn counted<T: Input>(mut src: T) -> T
     ensures same { T.rest result ≡ T.rest src }
     ensures countable { length (T.rest result) < 2 ^ 63 }
@@ -36,13 +36,13 @@ fn counted<T: Input>(mut src: T) -> T
 /// The events of a text, one after the other. Each has a span within the text, whose start is at or before
 /// its end.
 ///
-/// Contracts see a cursor in the list of the events, which at most one fault ends.
+/// Contracts see a cursor in the list of the events, which ends with at most one fault.
 pub struct Parser<'input, T: Input> {
     reader: EventReader<'input, T>,
 }
 
-// Written out, so that a crate with a parser calls it: a derived one is copied, with those of all inner types,
-// to each place where a parser ends, and checked there.
+// Written out, so that crates that drop a parser call it. A derived one, with those of all inner types, would be
+// copied to each place where a parser is dropped, and checked there.
 impl<T: Input + Drop> Drop for Parser<'_, T> {
     fn drop(self) {
         let Parser { reader: _reader } = self;
@@ -72,13 +72,13 @@ impl<'input, T: Input> Parser<'input, T> {
 
     /// The events of an input's text, which is refused past 4,294,967,295 characters.
     ///
-    /// Each text of YAML's grammar gives exactly its forest's events, and so does each text of JSON.
-    /// Where one ends with a line of `---` or `...`, its events up to and with the marker's come first,
-    /// whatever follows.
+    /// Each text of YAML's grammar gives exactly its forest's events, and so does each text of JSON. If
+    /// one ends with a line of `---` or `...`, its events up to the marker's own come first, whatever
+    /// follows.
     ///
     /// The events of every text are taken from it: all events of a forest, or a beginning of them and one
-    /// fault. The text spells the forest's tokens in order, or a beginning of them, and a refusal has its
-    /// place in it, as both ends of each event's span have.
+    /// fault. The text spells the forest's tokens in order, or a beginning of them. The place of a refusal is
+    /// in the text, and so are both ends of each event's span.
     #[must_use]
     pub fn new(alloc: Global, src: T) -> Self
         ensures decided { result ≡ spec.at_start (scan most_characters (T.rest src)) }
@@ -91,12 +91,12 @@ impl<'input, T: Input> Parser<'input, T> {
         Parser::with_limit(alloc, src, MOST_CHARACTERS)
     }
 
-    /// The same with a limit of one's own, for texts from strangers: one with more than `limit` characters is
-    /// refused. The events up to there come first, and then the fault that it is too long, unless another
+    /// The same with your own limit, for texts that you don't trust: a text with more than `limit` characters
+    /// is refused. The events up to there come first, and then the fault that it is too long, unless another
     /// comes before. That fault names 4,294,967,295 characters, whatever the limit.
     ///
-    /// The limit is looked at behind each token, which is read whole. Where a token may be too long for the
-    /// memory, bound the input too: `BufferedInput::with_limit`, with one item more than the limit here.
+    /// The parser checks the limit after each token, and reads that token whole. If a token may be too long for the
+    /// memory, bound the input too, by `BufferedInput::with_limit` with one item more than the limit here.
     #[must_use]
     pub fn with_limit(alloc: Global, src: T, limit: usize) -> Self
         ensures decided { result ≡ spec.at_start (scan limit (T.rest src)) }
@@ -119,9 +119,9 @@ impl<'input, T: Input> Parser<'input, T> {
         }
     }
 
-    /// Whether prefixes of tags hold for later documents too, as they don't in YAML.
+    /// Sets whether prefixes of tags hold for later documents too. In YAML they don't.
     ///
-    /// The setting counts at each end of a document that is read from then on.
+    /// The setting takes effect from the next end of a document that is read.
     #[must_use]
     pub fn keep_tags(mut self, value: bool) -> Self
         ensures { result ≡ spec.keeping_tags value self.entry }
@@ -130,10 +130,10 @@ impl<'input, T: Input> Parser<'input, T> {
         self
     }
 
-    /// Hands out the next event, and where a fault ends the events that fault, once.
+    /// Hands out the next event. If a fault ends the events, hands out that fault, once.
     ///
-    /// An event that was peeked is handed out without new memory. A fault is copied: where there is no memory
-    /// for that, `OutOfMemory` is handed out and kept in its place.
+    /// An event that was peeked is handed out without new memory. A fault is copied. If there is no memory for the
+    /// copy, `OutOfMemory` is handed out, and is kept in place of the fault.
     #[inline(always)]
     pub fn next_event(&mut self) -> Option<Result<(Event<'input>, Span), Fault>>
         ensures hands { spec.HandsOutNext result (spec.to_come self.old) (spec.to_come self.new) }
@@ -146,8 +146,8 @@ impl<'input, T: Input> Parser<'input, T> {
     }
 
     /// Hands out the next event, or the fault that ends the events, as `next_event` does, and writes it into its
-    /// place. A loop that keeps nothing of an event goes by this: no event is moved, and the memory of a text is
-    /// taken again for the next.
+    /// place. Use this in a loop that keeps nothing of an event: no event is moved, and the memory of a text is used
+    /// again for the next.
     #[inline(always)]
     pub fn next_event_into(
         &mut self,
@@ -166,8 +166,8 @@ impl<'input, T: Input> Parser<'input, T> {
         self.reader.advance(next, fault)
     }
 
-    /// Shows what `next_event` hands out next, and doesn't pass it. What was shown is shown again, without new
-    /// memory; and so is a fault, until it is handed out.
+    /// Shows what `next_event` hands out next, without handing it out. The same event or fault is shown again,
+    /// without new memory, until it is handed out.
     pub fn peek(&mut self) -> Option<Result<&(Event<'input>, Span), &Fault>>
         ensures* { sem 𝓛 (LendsNext T.row T.Input self.entry result) }
     {
@@ -175,15 +175,15 @@ impl<'input, T: Input> Parser<'input, T> {
         self.reader.shown()
     }
 
-    /// Hands events to the receiver: those up to the end of a document or, with `multi` or where no
-    /// document is left, all of them up to the end of the stream. An event that was peeked is the first.
+    /// Hands events to the receiver: those up to the end of a document or, with `multi` or if no document
+    /// is left, all of them up to the end of the stream. An event that was peeked is the first.
     ///
-    /// - Where the stream's end was handed out, that event alone is handed over, with the same span.
-    /// - A fault of the text, or that memory ran out in reading, ends the events and is kept: it is
-    ///   answered now and by each later call, which hand over nothing. `next_event` still gives it once.
-    ///   Where it can't be copied, the answer is `OutOfMemory`.
-    /// - `Receiver` says that the receiver refused an event, behind which the parser stands.
-    /// - `InsideDocument` says that a document was begun and not ended: nothing was handed over or changed.
+    /// - If the stream's end was handed out before, only that event is handed over, with the same span.
+    /// - A fault of the text, or `OutOfMemory` in reading, ends the events and is kept. This call and each
+    ///   later one return it, and the later ones hand over nothing. `next_event` still gives it once. If it
+    ///   can't be copied, `OutOfMemory` is returned.
+    /// - `Receiver` says that the receiver refused an event. The parser is after that event.
+    /// - `InsideDocument` says that the parser is inside a document. Nothing was handed over or changed.
     pub fn load<R: SpannedEventReceiver<'input>>(
         &mut self,
         recv: &mut R,
@@ -206,12 +206,12 @@ impl<'input, T: Input> Parser<'input, T> {
 }
 
 impl<'input, T: CloneInput> Parser<'input, T> {
-    /// A parser of its own at the same place of the events: with the same events still to come, one that was
-    /// peeked included, and the same setting of `keep_tags`. Advancing one doesn't move the other.
+    /// An independent parser at the same place of the events. It has the same events still to come, with one that
+    /// was peeked, and the same setting of `keep_tags`. Advancing one doesn't move the other.
     ///
-    /// All of what was read and not handed out is copied, and the input by its `clone`: over an iterator
-    /// both read on from their own copies of it. Lack of memory is the only error, and leaves this parser
-    /// as it was.
+    /// Copies all that was read and not handed out, and the input by its `clone`. Over an iterator, both
+    /// parsers read on from their own copies of it. The only error is that memory ran out, and it leaves
+    /// this parser as it was.
     pub fn try_clone(&self) -> Result<Self, AllocError>
         ensures { IfOk result (λ copy. copy ≡ self.now) }
     {
@@ -238,10 +238,10 @@ impl<'input> Parser<'input, StrInput<'input>> {
 
 impl<'input, I: Iterator<Item = char>> Parser<'input, BufferedInput<I>> {
     /// The events of the characters that an iterator gives up to its first `None`, which are refused past
-    /// 4,294,967,295. They are to be one list, as those of a text's `chars` are by the law `lists_characters`.
-    /// The first of them is asked for here.
+    /// 4,294,967,295. They must be one list. The law `lists_characters` shows this for those of a text's `chars`.
+    /// This call asks for the first of them.
     ///
-    /// An error says that there was no memory for a window on the characters.
+    /// It fails if there is no memory for a window on the characters.
     pub fn new_from_iter(alloc: Global, iter: I) -> Result<Self, AllocError>
         requires { Listed I.can_next I.next_gives iter }
         ensures decided { (text : List ℕ) → Lists I.can_next I.next_gives iter text

@@ -4,7 +4,6 @@
 mod cursor;
 pub mod law;
 mod printing;
-pub mod taken_law;
 
 pub use cursor::Parser;
 pub use printing::{DumpFault, dump, run_dump};

@@ -19,8 +19,8 @@ use std::io::Write;
 
 /// Writes a line for each event that is still to come. It keeps no text of its own.
 ///
-/// A fault that ends the events is answered once the lines before it are written. The first write that
-/// fails, or that takes nothing, ends the call; the event whose line is cut there is lost.
+/// A fault that ends the events is returned after the lines before it are written. The first write that
+/// fails, or that takes nothing, ends the call; the event of the cut line is lost.
 pub fn dump<'input, T: Input, W: Write>(
     parser: &mut Parser<'input, T>,
     out: &mut W,
@@ -34,7 +34,7 @@ pub fn dump<'input, T: Input, W: Write>(
     dump_each(parser, &mut next, out)
 }
 
-// The same, with one place for all events, which are large to move.
+// The same, with one place for all events, since they are large to move.
 #[inline(always)]
 #[tactic(auto, using(crate::proofs::Printed::Dumping::prints_none))]
 fn dump_each<'input, T: Input, W: Write>(

@@ -1,4 +1,4 @@
-//! Laws: what the reader of directives promises in the standard's words: what is spelled so is read (YAML 1.2.2, 6.8).
+//! Laws of the reader of directives in the standard's words: what is spelled so is read (YAML 1.2.2, 6.8).
 
 ghost use Rattle.std.specs.Prelude.{◌≡◌, ℕ, ◌+◌, true, List, ◌++◌, length, Ok, encode_utf8_all, slice_index};
 ghost use Rattle.saphyr_input.specs.Classes.{is_breakz};
@@ -7,8 +7,8 @@ ghost use Rattle.saphyr_scalar.specs.Steps.Directive.{directive};
 ghost use Rattle.saphyr_scalar.specs.Spelling.Directive.{ReadDirective, reserved, IsDirectiveText, IsReservedDirective, IsLineTail};
 ghost use Rattle.saphyr_scalar.specs.Steps.Quoted.{mid_line};
 
-/// Where a version directive or a tag directive is spelled, and behind it blanks, a comment and a
-/// break, NUL or the end, it is read, without a fault, to the end of its line.
+/// If a version directive or a tag directive is spelled, and blanks, a comment and a break, NUL or the end
+/// follow it, it is read, without a fault, to the end of its line.
 pub fn reads_each_directive()
     ensures { (s : Cursor) (d : ReadDirective) (t tail x : List ℕ) → s.rest ≡ t ++ (tail ++ x)
         → IsDirectiveText d t → IsLineTail tail → is_breakz (slice_index x 0) ≡ true
@@ -20,8 +20,8 @@ pub fn reads_each_directive()
         ) }
 {}
 
-/// Where a reserved directive is spelled, and behind its parameters a break, NUL or the end, its
-/// name is read, without a fault, and its parameters are passed.
+/// If a reserved directive is spelled, and a break, NUL or the end follows its parameters, its name is
+/// read, without a fault, and its parameters are passed.
 pub fn reads_each_reserved_directive()
     ensures { (s : Cursor) (name t x : List ℕ) → s.rest ≡ t ++ x → IsReservedDirective name t
         → is_breakz (slice_index x 0) ≡ true

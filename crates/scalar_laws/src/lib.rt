@@ -1,7 +1,7 @@
-//! Laws of the readers of scalars that no reader needs: each scalar, name, tag and directive that is spelled is read,
+//! Laws of the readers of scalars, which no reader needs: each scalar, name, tag and directive that is spelled is read,
 //! and line breaks of all three kinds are read alike.
 //!
-//! The functions are laws: they do nothing, and their clauses are what is proved.
+//! The functions are laws: they do nothing, and what matters is their proved clauses.
 #![tactic(auto)]
 
 mod block_scalars;

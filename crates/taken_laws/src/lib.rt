@@ -1,6 +1,6 @@
 //! Small texts and the tokens that are taken from them, and those that are not.
 //!
-//! The functions are laws: they do nothing, and their clauses are what is proved.
+//! The functions are laws: they do nothing, and what matters is their proved clauses.
 #![tactic(auto)]
 
 ghost use Rattle.std.specs.Prelude.{◌≡◌, Bool, List, codes, [], ℕ, false, slice_index};
@@ -20,7 +20,7 @@ pub fn takes_tokens()
 {}
 
 /// The tokens of texts in flow style, as a scanner gives them: a mapping with quoted scalars and a
-/// comment, one whose value follows the colon of a quoted key at once, and a sequence with an anchor
+/// comment, one whose value comes right after the colon of a quoted key, and a sequence with an anchor
 /// and its alias.
 pub fn takes_flow()
     ensures mapping { AreTakenFrom (codes "{'a': \"b\" # c\n}") texts.flow_mapping }
@@ -46,11 +46,11 @@ pub fn takes_streams()
 {}
 
 /// What is not taken: `[a]` without the token of its `a`, `a` with the value `b`, `[]` with a bracket
-/// whose span starts behind it, and a block mapping that starts before the blank of its line, from which
-/// an indentation that is given would be counted. Nor is a tag that ends before a letter or a `#`, a
-/// colon outside brackets before a letter, one inside brackets before a letter but behind a bracket or a
-/// comma, a plain scalar with a comma inside brackets, one that begins with `|` outside, or a literal
-/// inside brackets. No place of a text stands behind its end.
+/// whose span starts after it, and a block mapping that starts before the blank of its line, from which a
+/// given indentation would be counted. Nor is a tag that ends before a letter or a `#`, a colon outside
+/// brackets before a letter, one inside brackets before a letter but after a bracket or a comma, a plain
+/// scalar with a comma inside brackets, one that begins with `|` outside, or a literal inside brackets.
+/// No place of a text follows its end.
 pub fn takes_no_others()
     ensures dropped_word { ¬ AreTakenFrom (codes "[a]") texts.dropped_word }
     ensures other_value { ¬ AreTakenFrom (codes "a") texts.other_value }
@@ -67,17 +67,17 @@ pub fn takes_no_others()
     ensures place_behind { ¬ IsPlaceOf (codes "a") (texts.marker_at 2 1 2) }
 {}
 
-/// What is read is as long as it can be: a line of a literal scalar goes up to its break, and what follows its `a` in
-/// ` a#b` is no comment, neither in a document nor in a mapping; and of `%TAG !e!t:x` the handle is not `!`.
+/// What is read is as long as it can be. A line of a literal scalar goes up to its break, and what follows its `a` in
+/// ` a#b` is no comment, neither in a document nor in a mapping. The handle of `%TAG !e!t:x` is not `!`.
 pub fn takes_no_shorter()
     ensures cut_line { ¬ AreTakenFrom (codes "--- |\n a#b\n") texts.cut_line }
     ensures cut_value { ¬ AreTakenFrom (codes ": |\n a#b\n") texts.cut_value }
     ensures short_handle { ¬ AreTakenFrom (codes "%TAG !e!t:x\n--- !u v\n") texts.short_handle }
 {}
 
-/// Block collections follow columns: an entry of a sequence, and a key, stands at its column, neither right nor left of
-/// it; in `:` LF `:` no mapping is the first value, nor in `-` LF `- a` a sequence the first entry; and in `a:` LF ` b:
-/// c` LF ` d: e` the mapping of `b` ends neither before `d` nor before the blank there.
+/// Block collections follow columns. An entry or a key is at its collection's column, neither right nor left of it. In
+/// `:` LF `:` no mapping is the first value, nor in `-` LF `- a` a sequence the first entry. In `a:` LF ` b: c` LF ` d:
+/// e` the mapping of `b` ends neither before `d` nor before the blank there.
 pub fn takes_no_other_columns()
     ensures further_entry { ¬ AreTakenFrom (codes "- a\n - b") columns.further_entry }
     ensures entry_left { ¬ AreTakenFrom (codes " - a\n- b") columns.entry_left }
@@ -90,18 +90,19 @@ pub fn takes_no_other_columns()
         columns.ended_before_blank }
 {}
 
-/// No later line of a plain scalar stands at its collection's column or left of it, and none of a
-/// quoted scalar left of that: `- a` LF `-` is no list of `a -`, nor `- - "a` LF `b"` one of `"a b"`.
+/// No later line of a plain scalar is at its collection's column or left of it, and no later line of a
+/// quoted scalar is left of that column: `- a` LF `-` is no list of `a -`, nor `- - "a` LF `b"` one of
+/// `"a b"`.
 pub fn takes_no_lines_to_the_left()
     ensures plain_line { ¬ AreTakenFrom (codes "- a\n-") lines.plain_line }
     ensures quoted_line { ¬ AreTakenFrom (codes "- - \"a\nb\"") lines.quoted_line }
 {}
 
-/// From no text are tokens taken of which one stands out of its place: a key without a `?` has a node and its colon, in
-/// a block mapping and in a single pair of a flow sequence on its line, and in a block mapping at most 1,024 characters
-/// behind its start; a block collection has an entry, and its properties stand on a line before it; the colon of a `?`
-/// and that of an entry without a key stand at the column of their block mapping; a mapping in brackets has both
-/// braces; and a single pair has neither, but its start, its colon and its end.
+/// Each token that is taken is in its place. A key without a `?` has a node and its colon, in a block mapping and in a
+/// single pair of a flow sequence on one line, and in a block mapping at most 1,024 characters after its start. A block
+/// collection has an entry, and its properties are on a line before it. The colon of a `?` and that of an entry without
+/// a key are at the column of their block mapping. A mapping in brackets has both braces. A single pair has none, but
+/// its start, its colon and its end.
 pub fn takes_none_out_of_place()
     ensures key_alone { (text : List ℕ) → ¬ AreTakenFrom text places.key_alone }
     ensures key_on_two_lines { (text : List ℕ) → ¬ AreTakenFrom text places.key_on_two_lines }

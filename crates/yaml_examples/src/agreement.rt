@@ -1,4 +1,4 @@
-//! Where two promises have words of their own for one thing, the words agree.
+//! If two promises define the same thing in different words, the definitions agree.
 #![tactic(auto)]
 
 ghost use Rattle.std.specs.Prelude.{◌≡◌, ◌++◌, ℕ, List, false, slice_index, encode_utf8_all};
@@ -13,9 +13,9 @@ use saphyr_scalar::scalar::reads_block_texts;
 use saphyr_values::BlockStyle;
 use scalar_laws::reads_each_block_scalar;
 
-/// A block scalar of YAML's grammar, which tells of its lines by the standard's productions, is one in the words
-/// of what is promised of any text (`IsBlockText`), with the same value. The spaces that begin the line behind it are
-/// taken with it there.
+/// A block scalar of YAML's grammar, which describes its lines by the standard's productions, is also one by the
+/// definition for any text (`IsBlockText`), with the same value. There the spaces that begin the line after it belong
+/// to it.
 pub fn agrees_on_block_scalars()
     ensures { (style : BlockStyle) (value : List ℕ) (indent : ℕ) (s : Cursor) (t behind : List ℕ)
         → IsBlockScalarText style value indent t behind → s.rest ≡ t ++ behind

@@ -1,6 +1,6 @@
-//! Small texts of YAML's grammar, each with the forest that it stands for, and near misses.
+//! Small texts of YAML's grammar, each with its forest, and near misses.
 //!
-//! The functions are laws: they do nothing, and their clauses are what is proved.
+//! The functions are laws: they do nothing, and what matters is their proved clauses.
 #![tactic(auto)]
 
 pub mod agreement;
@@ -19,8 +19,7 @@ ghost use Rattle.yaml_laws.specs.Grammar.FlowNodes.{AreItems, IsBeforeColon, IsF
 ghost use Rattle.yaml_laws.specs.Grammar.FlowScalars.{IsFirstWord, IsPlain};
 ghost use Rattle.yaml_laws.specs.Grammar.Yaml.{AreDocuments, IsBareDocument, IsBehindDocument, IsDocumentPrefix, IsYamlText};
 
-/// Texts in flow style, each with the forest that it stands for: collections, pairs, properties, and
-/// scalars on several lines.
+/// Texts in flow style, each with its forest: collections, pairs, properties, and scalars on several lines.
 pub fn derives_flow()
     ensures sequence { IsYamlText most_open (bare
         (Seq no_properties (MoreNodes (plain_node (codes "a")) (MoreNodes (plain_node (codes "b")) NoNode)))
@@ -87,8 +86,8 @@ pub fn derives_flow()
         (codes "{\"a\" # c\n :b}") }
 {}
 
-/// Texts in block style, each with the forest that it stands for: block sequences and mappings,
-/// compact ones, explicit keys, keys left out, properties, block scalars, and a value on the next line.
+/// Texts in block style, each with its forest: block sequences and mappings, compact ones, explicit
+/// keys, keys left out, properties, block scalars, and a value on the next line.
 pub fn derives_block()
     ensures sequence { IsYamlText most_open (bare
         (Seq no_properties (MoreNodes (plain_node (codes "a")) (MoreNodes (plain_node (codes "b")) NoNode)))
@@ -226,8 +225,8 @@ pub fn derives_block()
         (codes "? [a]\n\n # x\n:\n- b\n") }
 {}
 
-/// Streams, each with its forest: filler alone, directives, explicit and bare documents, byte order
-/// marks before, between and behind documents, `...` lines before, between and without documents, and a
+/// Streams, each with its forest: only filler, directives, explicit and bare documents, byte order marks
+/// before, between and after documents, `...` lines before, between and without documents, and a
 /// carriage return before a line feed.
 pub fn derives_streams()
     ensures nothing { IsYamlText most_open ([]) (codes "# x\n ") }
@@ -282,8 +281,8 @@ pub fn derives_streams()
         ∷ []) (codes "--- |\n a\n\u{feff}") }
 {}
 
-/// How many flow collections are open at once: where there is no room for one, no sequence in brackets
-/// stands. Block collections, and a pair in brackets without braces of its own, take no room.
+/// The bound on flow collections that are open at once: if there is no room for one, there is no sequence in
+/// brackets. Block collections, and pairs in brackets without braces, take no room.
 pub fn counts_open_collections()
     ensures no_room { (p : Properties) (nodes : Nodes) (in_flow : Bool) (indent : ℕ) (t : List ℕ)
         → ¬ IsFlowNode 0 (Seq p nodes) in_flow indent t }
@@ -297,7 +296,7 @@ pub fn counts_open_collections()
         ∷ []) (codes "- - a\n  - b\n# x\n- c:") }
 {}
 
-/// The line `---` stands for one document, whose node is left out, and for no other forest.
+/// The line `---` is one document, whose node is left out, and has no other forest.
 pub fn has_one_forest()
     ensures stands { (room : ℕ) → IsYamlText room
         ((record { explicit = true; directives = []; node = left_out }) ∷ []) (codes "---\n") }
@@ -305,10 +304,10 @@ pub fn has_one_forest()
         → forest ≡ (record { explicit = true; directives = []; node = left_out }) ∷ [] }
 {}
 
-/// What YAML's grammar has not: `[,]` for any sequence, an entry that begins with a comma, `*x:` as
-/// a key with its colon, a word with a colon at its end, a line in a bare document that begins with a
-/// document marker, two version directives of one document, before a document a byte order mark behind a
-/// blank, and behind a mark that no `...` line precedes a bare document.
+/// What YAML's grammar doesn't have: `[,]` as a sequence, an entry that begins with a comma, `*x:` as a
+/// key with its colon, a word with a colon at its end, a line with a document marker inside a bare
+/// document, two version directives of one document, a byte order mark after a blank before a document,
+/// and a bare document after a byte order mark without a `...` line before it.
 pub fn refuses_near_misses()
     ensures comma_alone { (room : ℕ) (p : Properties) (nodes : Nodes)
         → ¬ IsFlowNode room (Seq p nodes) false 0 (codes "[,]") }
@@ -325,9 +324,9 @@ pub fn refuses_near_misses()
     ensures mark_behind_blank { (behind : List ℕ) → ¬ IsDocumentPrefix (codes " \u{feff}") behind }
 {}
 
-/// No plain scalar is `- a` or `@a`, inside flow none is `a -`, and none but a key is a colon alone; a lone `-` with a blank before its colon is
-/// no key; no header of a block scalar has two digits, and no block scalar of a line of a space stands before `---`;
-/// `#x` without a blank before it ends no line, and no alias has an anchor.
+/// No plain scalar is `- a` or `@a`, none inside flow is `a -`, and only a key is a lone colon. A lone `-` with a blank
+/// before its colon is no key. No header of a block scalar has two digits, and no block scalar of one line with one
+/// space comes before `---`. `#x` without a blank before it is no comment, and no alias has an anchor.
 pub fn refuses_scalars()
     ensures dash_and_blank { (in_flow : Bool) (indent : ℕ)
         → ¬ IsPlain in_flow indent (codes "- a") }
@@ -348,11 +347,11 @@ pub fn refuses_scalars()
         → ¬ IsFlowNode room node in_flow indent (codes "&a *b") }
 {}
 
-/// In block style no tab alone stands between a key's colon and a word, and none indents a value. No tab stands
-/// before a further entry, nor behind a `?` before what comes next, also where its key is left out, nor on the
-/// line behind a block scalar's before a further entry, and no byte order mark behind a space there. A `?` without a value stands before no `:` at its column.
-/// No entry of a sequence stands left of the others, no key goes on over lines, and no sequence begins on the line
-/// of its key, or of a `:` without one.
+/// In block style, a lone tab doesn't separate a key's colon from a word, and doesn't indent a value. No tab comes
+/// before a further entry, nor after a `?`, even if its key is left out. On the line after a block scalar, no tab comes
+/// before a further entry, and no byte order mark after a space. No `:` at its column follows a `?` without a value. No
+/// entry of a sequence is left of the others, no key goes on over lines, and no sequence begins on the line of its key,
+/// or of a `:` without a key.
 pub fn refuses_in_block()
     ensures lone_tab { (room m : ℕ) (node : Node) (behind : List ℕ)
         → ¬ IsFlowInBlock room node (BehindKey m) (codes "\ta") behind }

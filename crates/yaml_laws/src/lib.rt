@@ -1,6 +1,6 @@
 //! Laws of the texts of YAML's grammar: each gives tokens of its forest, and no fault, whatever its line breaks.
 //!
-//! The functions are laws: they do nothing, and their clauses are what is proved.
+//! The functions are laws: they do nothing, and what matters is their proved clauses.
 #![tactic(auto)]
 
 ghost use Rattle.std.specs.Prelude.{◌≡◌, ◌≤◌, List, codes, ◌∷◌, ◌++◌, [], ℕ, length, ◌<◌, ◌^◌};
@@ -27,13 +27,13 @@ use scalar_laws::{
     reads_each_tag,
 };
 
-/// In a tag the percent escapes of the UTF-8 of a character stand for the character.
+/// In a tag, the percent escapes of a character's UTF-8 are read as the character.
 pub fn reads_tags()
     ensures { IsTag (Shorthand Primary (0xE9 ∷ [])) (codes "!%C3%A9") }
 {}
 
 /// A text and its normalized text have tokens of the same kinds, and a refusal with the same text ends both
-/// or none, whatever limits at or above the text's length each has.
+/// or none, whatever their limits at or above the text's length.
 pub fn scans_breaks_alike()
     ensures { (limit other : ℕ) (text : List ℕ) → length text < 2 ^ 63 → length text ≤ limit
         → length text ≤ other → HaveSameKinds (scan limit text) (scan other (normalized text)) }
@@ -67,8 +67,8 @@ pub fn scans_each_yaml_text()
     takes_characters_off();
 }
 
-/// A text of YAML's grammar ends with a line of `---` or `...`: whatever follows its last break, the tokens up to
-/// and with the marker's come first, as they are those of its forest.
+/// Let a text of YAML's grammar end with a line of `---` or `...`. Whatever follows its last break, the tokens up to
+/// the marker's own come first, and are those of its forest.
 pub fn hands_out_markers()
     ensures { (limit : ℕ) (marker : DocumentMarker) (forest : Forest) (text others : List ℕ)
         → IsYamlText most_open forest text → EndsWithMarker IsLineRest marker (normalized text)

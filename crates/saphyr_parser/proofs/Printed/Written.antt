@@ -74,7 +74,7 @@ loses_piece a b c bytes rest piece others e p q = record {
 
 -- ## Several pieces
 
-takes_before_error : (r : Result (Unit {0}) Unwritten) (a b : Option (List ℕ)) (bytes : List ℕ) → IsErr r
+pub takes_before_error : (r : Result (Unit {0}) Unwritten) (a b : Option (List ℕ)) (bytes : List ℕ) → IsErr r
     → TakesSome a b bytes
     → Takes r a b bytes
 takes_before_error (Ok u) a b bytes e p = absurd (cc)

@@ -1,4 +1,4 @@
-//! Callers of a parser, whose contracts follow from those of its calls alone.
+//! Callers of a parser. Their contracts follow only from those of its calls.
 ghost use Rattle.std.specs.Prelude.{◌≡◌, ◌↔◌, None, IfSome, IsTrue, false};
 ghost use Rattle.saphyr_scalar.specs.declared.scalar.position.Span.{Span as PlaceSpan};
 ghost use Rattle.saphyr_machine.specs.Calls.{GivesNext};
@@ -24,8 +24,8 @@ fn ends_the_stream(event: Event<'_>) -> bool
     matches!(event, Event::StreamEnd)
 }
 
-/// Behind iteration up to the end of the stream, `load` hands over that end alone. There is no answer where a
-/// fault ends the events, or where the end was handed out before.
+/// After iteration up to the end of the stream, `load` hands over only that end. The result is `None` if a fault ends
+/// the events, or if the end was handed out before.
 pub fn loads_the_end_again<'input, T: Input, R: SpannedEventReceiver<'input>>(
     parser: &mut Parser<'input, T>,
     recv: &mut R,
@@ -43,7 +43,7 @@ pub fn loads_the_end_again<'input, T: Input, R: SpannedEventReceiver<'input>>(
     None
 }
 
-/// What is handed out, and the parser that is left, are the same where the next event was peeked before.
+/// What is handed out, and the parser that is left, are the same if the next event was peeked before.
 pub fn hands_out_what_was_peeked<'input, T: Input>(
     parser: &mut Parser<'input, T>,
 ) -> Option<Result<(Event<'input>, Span), Fault>>

@@ -33,7 +33,7 @@ pub fn reads_inputs_alike<'a, 'b, T: Input, U: Input>(
 }
 
 /// Tags are ordered by the bytes of their handles, and equal handles by those of the suffixes. Tags compare as
-/// equal exactly where they are equal.
+/// equal exactly if they are equal.
 pub fn orders_tags(one: &Tag, other: &Tag) -> Ordering
     ensures order { result ≡ ordering_then (slice_cmp nat_cmp (resolved_tag one.now).handle
         (resolved_tag other.now).handle)
@@ -44,7 +44,7 @@ pub fn orders_tags(one: &Tag, other: &Tag) -> Ordering
 }
 
 /// Styles are ordered as they are declared: plain, single quoted, double quoted, literal, folded. They compare as
-/// equal exactly where they are equal.
+/// equal exactly if they are equal.
 pub fn orders_styles(one: ScalarStyle, other: ScalarStyle) -> Ordering
     ensures order { result ≡ nat_cmp (style_rank one) (style_rank other) }
     ensures equal { result ≡ Equal ↔ one ≡ other }
@@ -52,8 +52,8 @@ pub fn orders_styles(one: ScalarStyle, other: ScalarStyle) -> Ordering
     one.cmp(&other)
 }
 
-/// Places are ordered by their indexes, then by their lines and columns, so those of one text by what stands before
-/// them. They compare as equal exactly where they are equal.
+/// Places are ordered by their indexes, then by their lines and columns. So those of one text are in the text's order.
+/// They compare as equal exactly if they are equal.
 pub fn orders_places(one: Marker, other: Marker) -> Ordering
     ensures order { result ≡ ordering_then (nat_cmp one.index other.index)
         (ordering_then (nat_cmp one.line other.line) (nat_cmp one.col other.col)) }

@@ -1,4 +1,4 @@
-//! What calls leave is a later parser, of which promises speak whatever was called before: as of spans.
+//! Each call leaves a later parser. Promises such as that on spans hold of it, whatever was called before.
 ghost use Rattle.std.specs.Prelude.{◌≡◌, Bool, List, None, Option, Result, Some, false, true, ℕ};
 ghost use Rattle.saphyr_scalar.specs.declared.scalar.position.Span.{Span};
 ghost use Rattle.saphyr_machine.specs.declared.event.Event.{Event as DeclaredEvent};
@@ -9,15 +9,15 @@ ghost use Rattle.saphyr_machine.specs.Calls.{AdvancesOver, GivesNext, Looks};
 ghost use Rattle.saphyr_machine.specs.Loading.{Loads, MeetsBehind, Portion};
 ghost use Rattle.saphyr_parser.specs.declared.printing.fault.DumpFault.{DumpFault as DeclaredDumpFault};
 ghost use Rattle.saphyr_parser.specs.Dumps.{Leaves};
-ghost use Rattle.saphyr_parser.specs.Promises.{KeepsSpans};
-ghost use Rattle.saphyr_parser.specs.SpansWithin.{IsLater};
+ghost use Rattle.event_laws.specs.Promises.{KeepsSpans};
+ghost use Rattle.event_laws.specs.SpansWithin.{IsLater};
 
 use crate::cursor::Parser;
 use saphyr_input::input::Input;
 use saphyr_machine::{Fault, SpannedEventReceiver};
 
-/// Each call leaves a later parser: `next` and `peek`; events that are handed out one behind the other, and a look
-/// behind them; and `dump`. What is later than a later parser is later.
+/// Each call leaves a later parser: `next` and `peek`; events that are handed out one after the other, and a peek after
+/// them; and `dump`. What is later than a later parser is later.
 pub fn leaves_later_parsers()
     ensures behind { (first middle last : EventCursor) → IsLater first middle → IsLater middle last
         → IsLater first last }
@@ -33,7 +33,7 @@ pub fn leaves_later_parsers()
         (held written : Option (List ℕ)) → Leaves answer old new held written → IsLater old new }
 {}
 
-/// So does `load` with this receiver, by what its clauses say of the parser that is left.
+/// So does `load` with this receiver, as its clauses say of the parser that is left.
 pub fn loads_later_parsers<'input, R: SpannedEventReceiver<'input>>()
     ensures { (answer : Result (Unit {0}) DeclaredFault) (p : Portion) (old new : EventCursor)
         (first last : R) → (IsKept old.kept → new ≡ old)
@@ -44,13 +44,13 @@ pub fn loads_later_parsers<'input, R: SpannedEventReceiver<'input>>()
         → IsLater old new }
 {}
 
-/// What a later parser gives has its spans in the text too.
+/// The spans of what a later parser gives are in the text too.
 pub fn keeps_spans_later()
     ensures { (text : List ℕ) (old new : EventCursor) → KeepsSpans text old → IsLater old new
         → KeepsSpans text new }
 {}
 
-/// Behind a call of `load`, whatever it answers, the spans of what is still to come lie in the text.
+/// After a call of `load`, whatever it returns, the spans of what is still to come are in the text.
 pub fn keeps_spans_over_load<'input, T: Input, R: SpannedEventReceiver<'input>>(
     parser: &mut Parser<'input, T>,
     recv: &mut R,

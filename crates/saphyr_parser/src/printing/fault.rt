@@ -12,7 +12,7 @@ pub enum DumpFault {
     /// The parser gave a fault in place of an event.
     #[error(transparent)]
     Parse(Fault),
-    /// The writer answered an error, or took nothing of bytes that weren't empty.
+    /// The writer returned an error, or took none of some bytes.
     #[error("can't write")]
     Write,
 }

@@ -70,7 +70,7 @@ fn write_bare_scalar<W: Write>(out: &mut W, text: &str, style: ScalarStyle) -> R
     write_text(out, bare_mark(style), text.as_bytes())
 }
 
-// Writes a line of at most 64 bytes in one piece: a text behind what stands before it.
+// Writes a line of at most 64 bytes in one piece: what comes before a text, and the text.
 #[inline(always)]
 fn write_short<W: Write>(out: &mut W, front: &[u8], text: &[u8]) -> Result<(), Unwritten>
     requires { length front.now + length text.now < 64 }
@@ -85,7 +85,7 @@ fn write_short<W: Write>(out: &mut W, front: &[u8], text: &[u8]) -> Result<(), U
     write_all(out, &line[..end + 1])
 }
 
-// Writes a scalar's text behind what stands before it, and ends the line.
+// Writes what comes before a scalar's text and the text, and ends the line.
 #[inline(always)]
 fn write_text<W: Write>(out: &mut W, front: &[u8], text: &[u8]) -> Result<(), Unwritten>
     ensures { Takes result (W.contents out.old) (W.contents out.new)
@@ -98,9 +98,8 @@ fn write_text<W: Write>(out: &mut W, front: &[u8], text: &[u8]) -> Result<(), Un
     write_pieces(out, front, text)
 }
 
-// The same, of a line that is long or has escapes.
+// The same for a line that is long or has escapes.
 #[inline(never)]
-#[tactic(auto, using(crate::proofs::Printed::Written::takes_three, crate::proofs::Printed::Written::loses_first, crate::proofs::Printed::Written::loses_second))]
 fn write_pieces<W: Write>(out: &mut W, front: &[u8], text: &[u8]) -> Result<(), Unwritten>
     ensures { Takes result (W.contents out.old) (W.contents out.new)
         (front.now ++ (printed.printed_bytes text.now ++ codes "\n")) }
@@ -110,7 +109,7 @@ fn write_pieces<W: Write>(out: &mut W, front: &[u8], text: &[u8]) -> Result<(), 
     write_all(out, b"\n")
 }
 
-// What stands before the text of a scalar without properties.
+// What comes before the text of a scalar without properties.
 #[inline(always)]
 fn bare_mark(style: ScalarStyle) -> &'static [u8]
     ensures { result.now ≡ codes "=VAL " ++ printed.style_mark style }
@@ -124,7 +123,7 @@ fn bare_mark(style: ScalarStyle) -> &'static [u8]
     }
 }
 
-// What stands between a scalar's properties and its text.
+// What is between a scalar's properties and its text.
 fn mark(style: ScalarStyle) -> &'static [u8]
     ensures { result.now ≡ codes " " ++ printed.style_mark style }
 {

@@ -27,8 +27,8 @@ pub enum RunFault {
 
 /// Reads all bytes of the source and prints the events of their text, as the program `dump_events` does.
 ///
-/// Returns the program's status: 0 where all lines were written, and 1 otherwise. Then one line of
-/// `err` says why, where `name` stands for the source; whether it could be written is not asked.
+/// Returns the program's status: 0 if all lines were written, otherwise 1. Then one line of `err` says
+/// why, and `name` names the source in it. If that line can't be written, the status is still 1.
 #[tactic(auto, using(crate::proofs::Printed::Running::says))]
 pub fn run_dump<R: Read, W: Write, E: Write>(
     alloc: Global,
@@ -85,7 +85,7 @@ fn dump_text<W: Write>(alloc: Global, text: &str, out: &mut W) -> Result<(), Dum
     dump(&mut parser, out)
 }
 
-// Makes the writer pass on what it holds of the lines, unless it failed before.
+// Flushes the writer, unless it failed before.
 fn finish<W: Write>(dumped: Result<(), DumpFault>, out: &mut W) -> Result<(), RunFault>
     ensures becomes { spec.Becomes dumped result }
     ensures keeps { Keeps (W.contents out.old) (W.contents out.new) }
@@ -117,7 +117,6 @@ fn complain<E: Write>(err: &mut E, name: &str, fault: &RunFault) -> Result<(), U
 }
 
 // Writes a name between two texts.
-#[tactic(auto, using(crate::proofs::Printed::Written::takes_three, crate::proofs::Printed::Written::loses_first, crate::proofs::Printed::Written::loses_second))]
 fn write_named<E: Write>(
     err: &mut E,
     before: &[u8],

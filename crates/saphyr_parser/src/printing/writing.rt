@@ -1,4 +1,4 @@
-//! Bytes, numbers and escaped texts, written to the last byte however few a writer takes at a time.
+//! Bytes, numbers and escaped texts, written whole, however few bytes a writer takes at a time.
 
 ghost use Rattle.std.specs.Prelude.{◌≡◌, ◌+◌, ◌<◌, ◌≤◌, true, false, [], ◌∷◌, ◌++◌, length, take, IfErr, IfNone, IfOk, IfSome};
 ghost use Rattle.saphyr_input.specs.Indicators.{backslash};
@@ -10,11 +10,11 @@ ghost use Rattle.saphyr_parser.specs.Printed.{ArePlain, printed_byte, printed_by
 use std::io::Write;
 use std::simd::prelude::*;
 
-/// The writer answered an error, or took nothing of bytes that weren't empty.
+/// The writer returned an error, or took none of some bytes.
 #[derive(Clone, Copy, Debug)]
 pub struct Unwritten;
 
-// Writes all bytes. Most writers take them at once, which is inlined.
+// Writes all bytes. Most writers take them at once, and that case is inlined.
 #[inline(always)]
 #[tactic(auto, using(crate::proofs::Printed::Written::takes_whole, crate::proofs::Printed::Written::takes_rest, crate::proofs::Printed::Written::takes_nothing))]
 pub(super) fn write_all<W: Write>(out: &mut W, bytes: &[u8]) -> Result<(), Unwritten>
@@ -59,7 +59,7 @@ pub(super) fn write_number<W: Write>(out: &mut W, number: u128) -> Result<(), Un
     write_all(out, &digit)
 }
 
-// Whether a byte of a scalar's text may be escaped. Some rare bytes that are not are taken for one too.
+// Whether a byte of a scalar's text may need an escape. It is also true for some rare bytes that need none.
 #[inline]
 fn is_escaped(byte: u8) -> bool
     ensures { result ≡ false → printed_byte byte ≡ byte ∷ [] }
@@ -67,7 +67,7 @@ fn is_escaped(byte: u8) -> bool
     byte <= b'\r' || byte == b'\\'
 }
 
-// Whether surely none of N bytes is escaped.
+// If this is true, none of N bytes is escaped.
 #[inline(always)]
 fn is_plain_block<const N: usize>(text: &[u8], start: usize) -> bool
     requires { (N ≤ 64) × (start + N ≤ length text.now) }
@@ -94,7 +94,7 @@ fn split_plain(text: &[u8]) -> (&[u8], &[u8])
     text.split_at(count)
 }
 
-// Whether surely none of at most 2 * N bytes is escaped: neither the first N nor the last.
+// If this is true, none of at most 2 * N bytes is escaped: neither the first N nor the last.
 #[inline(always)]
 fn are_ends_plain<const N: usize>(text: &[u8]) -> bool
     requires { (N ≤ 32) × (N ≤ length text.now) × (length text.now ≤ N + N) }
@@ -103,7 +103,7 @@ fn are_ends_plain<const N: usize>(text: &[u8]) -> bool
     is_plain_block::<N>(text, 0) && is_plain_block::<N>(text, text.len() - N)
 }
 
-// Whether surely none of 16 bytes and more is escaped. The last block may lap over the one before it.
+// If this is true, none of 16 or more bytes is escaped. The last block may overlap the one before it.
 #[inline(always)]
 fn are_blocks_plain(text: &[u8]) -> bool
     requires { 16 ≤ length text.now }
@@ -120,7 +120,7 @@ fn are_blocks_plain(text: &[u8]) -> bool
     is_plain_block::<16>(text, last)
 }
 
-// Whether surely no byte of a scalar's text is escaped.
+// If this is true, no byte of a scalar's text is escaped.
 #[inline(always)]
 #[tactic(auto, using(crate::proofs::Printed::Escapes::plain_whole, crate::proofs::Printed::Blocks::plain_through))]
 pub(super) fn is_plain(text: &[u8]) -> bool
@@ -134,7 +134,7 @@ pub(super) fn is_plain(text: &[u8]) -> bool
     }
 }
 
-// The letter that stands behind the backslash for a byte that is escaped.
+// The letter that follows the backslash for a byte that is escaped.
 #[inline]
 fn letter_of(byte: u8) -> Option<u8>
     ensures letter { IfSome result (λ letter. printed_byte byte ≡ backslash ∷ (letter ∷ [])) }
@@ -150,7 +150,7 @@ fn letter_of(byte: u8) -> Option<u8>
     }
 }
 
-// Puts the escapes of bytes that stand in front into the room: of how many bytes, and how many places they fill. The
+// Puts the escapes of the first bytes into the room. Returns of how many bytes, and how many places they fill. The
 // first byte may be one that isn't escaped.
 fn gather_escapes(text: &[u8], room: &mut [u8; 64]) -> (usize, usize)
     ensures within { result.0 ≤ length text.now }
@@ -186,7 +186,7 @@ fn write_escape<W: Write>(out: &mut W, byte: u8) -> Result<(), Unwritten>
     }
 }
 
-// Writes the escapes of bytes that stand in front in one piece, and tells of how many bytes.
+// Writes the escapes of the first bytes in one piece, and returns of how many bytes.
 #[tactic(auto, using(crate::proofs::Printed::Escapes::gathered_lost))]
 fn write_gathered<W: Write>(out: &mut W, text: &[u8]) -> Result<usize, Unwritten>
     ensures within { IfOk result (λ read. read ≤ length text.now) }
@@ -202,7 +202,7 @@ fn write_gathered<W: Write>(out: &mut W, text: &[u8]) -> Result<usize, Unwritten
     Ok(read)
 }
 
-// Writes a scalar's text. What needs no escape is written in one piece, and so are escapes behind one another.
+// Writes a scalar's text. A run without escapes is written in one piece, and so are adjacent escapes.
 #[tactic(auto, using(crate::proofs::Printed::Escapes::plain_written, crate::proofs::Printed::Escapes::plain_lost))]
 pub(super) fn write_escaped<W: Write>(out: &mut W, text: &[u8]) -> Result<(), Unwritten>
     ensures { Takes result (W.contents out.old) (W.contents out.new) (printed_bytes text.now) }

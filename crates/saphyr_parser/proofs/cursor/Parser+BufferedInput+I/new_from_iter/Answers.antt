@@ -1,8 +1,8 @@
 use Rattle.std.proofs.Common.{ℕ, List, subst, arith}
 use Rattle.saphyr_scanner.specs.Limits.{most_open}
 use Rattle.yaml_laws.specs.Grammar.Yaml.{IsYamlText}
-use Rattle.saphyr_parser.specs.Promises.{IsShallowJson, KeepsSpans, ReadsClosedYaml, ReadsJson, ReadsYaml, TakesEvents}
-use Rattle.saphyr_parser.proofs.Promises.WithinLimit.{reads_whole, reads_whole_closed}
+use Rattle.event_laws.specs.Promises.{IsShallowJson, KeepsSpans, ReadsClosedYaml, ReadsJson, ReadsYaml, TakesEvents}
+use Rattle.event_laws.proofs.Promises.WithinLimit.{reads_whole, reads_whole_closed}
 use Rattle.saphyr_parser.proofs.cursor.Parser+BufferedInput+I.new_from_iter.Goals as goal
 
 pub returns-clause-json : goal.returns-clause-json

@@ -1,12 +1,12 @@
 use Rattle.std.proofs.Common.{ap, ◌∙◌, arith, List, ℕ, subst}
 use Rattle.saphyr_machine.specs.Cursor.{at_start}
 use Rattle.saphyr_machine.specs.Views.Readers.{cursor}
-use Rattle.saphyr_parser.specs.Promises.{KeepsSpans, ReadsClosedYaml, ReadsJson, ReadsYaml, TakesEvents}
-use Rattle.saphyr_parser.proofs.Promises.KeepsSpans.{parser_keeps_spans}
-use Rattle.saphyr_parser.proofs.Promises.ReadsClosedYaml.{reads_closed_yaml}
-use Rattle.saphyr_parser.proofs.Promises.ReadsJson.{reads_each_json}
-use Rattle.saphyr_parser.proofs.Promises.ReadsYaml.{reads_yaml}
-use Rattle.saphyr_parser.proofs.Promises.TakesEvents.{parser_takes}
+use Rattle.event_laws.specs.Promises.{KeepsSpans, ReadsClosedYaml, ReadsJson, ReadsYaml, TakesEvents}
+use Rattle.event_laws.proofs.Promises.KeepsSpans.{parser_keeps_spans}
+use Rattle.event_laws.proofs.Promises.ReadsClosedYaml.{reads_closed_yaml}
+use Rattle.event_laws.proofs.Promises.ReadsJson.{reads_each_json}
+use Rattle.event_laws.proofs.Promises.ReadsYaml.{reads_yaml}
+use Rattle.event_laws.proofs.Promises.TakesEvents.{parser_takes}
 use Rattle.saphyr_parser.proofs.cursor.Parser.with_limit.Goals as goal
 
 pub returns-clause-json : goal.returns-clause-json

@@ -1,8 +1,11 @@
-use Rattle.std.proofs.Common.{rules}
 use Rattle.saphyr_parser.specs.Printed.{printed_bytes}
 use Rattle.saphyr_parser.specs.Written.{TakesSome, TakesUpTo}
 use Rattle.saphyr_parser.proofs.Printed.Escapes.{plain_written, plain_lost, escape_written, escape_lost, escapes_written, escapes_lost}
+use Rattle.saphyr_parser.proofs.Printed.Written.{takes_before_error, takes_first}
 use Rattle.saphyr_parser.proofs.printing.writing.write_escaped.Goals as goal
+
+pub loop-rest-init : goal.loop-rest-init
+loop-rest-init g c = takes_first _ _
 
 pub returns-in_err-write_all : goal.returns-in_err-write_all
 returns-in_err-write_all g c =
@@ -12,7 +15,7 @@ returns-in_err-write_all g c =
     (g.W.Write.contents c.write_all.new.out) c.args.text.now c.loop-rest.rest.now c.split_plain.result.0.now
     c.split_plain.result.1.now c.split_plain.ensures.text c.split_plain.ensures.plain c.loop-rest.invariant
     c.in_err-write_all.ensures in
-    search rules
+    takes_before_error _ _ _ _ c.from_residual.ensures.0 lost
 
 pub returns-in_err-write_escape : goal.returns-in_err-write_escape
 returns-in_err-write_escape g c =
@@ -27,7 +30,7 @@ returns-in_err-write_escape g c =
     escape_lost (g.W.Write.contents c.args.out.now) (g.W.Write.contents c.write_all.new.out)
     (g.W.Write.contents c.write_escape.new.out) c.args.text.now c.split_plain.result.1.now c.in-Some.behind.now
     c.in-Some.byte.now c.in-Some.ensures.cases.0 written c.in_err-write_escape.ensures in
-    search rules
+    takes_before_error _ _ _ _ c.from_residual-in_err-write_escape.ensures.0 lost
 
 pub returns-in_err-read : goal.returns-in_err-read
 returns-in_err-read g c =
@@ -42,7 +45,7 @@ returns-in_err-read g c =
     escapes_lost (g.W.Write.contents c.args.out.now) (g.W.Write.contents c.write_all.new.out)
     (g.W.Write.contents c.write_gathered.new.out) c.args.text.now c.split_plain.result.1.now
     written c.in_err-read.ensures.lost in
-    search rules
+    takes_before_error _ _ _ _ c.from_residual-in_err-read.ensures.0 lost
 
 pub loop-rest-preserved-then-not-is_escaped : goal.loop-rest-preserved-then-not-is_escaped
 loop-rest-preserved-then-not-is_escaped g c =

@@ -1,0 +1,246 @@
+-- Inside brackets no colon is taken that a character of a scalar follows (YAML 1.2.2, 7.4.2): `[:a]` is no pair.
+use Rattle.std.proofs.Common.{◌≡◌, ◌⊎◌, ℕ, ◌≤◌, ◌<◌, Bool, true, false, List, [], ◌∷◌, ◌++◌, None, refl, sym, ap, ◌∙◌, arith, subst, inl, inr, codes}
+use Rattle.std.specs.Prelude.{if◌then◌else◌, slice_index, IsTrue}
+use Rattle.saphyr_scalar.specs.declared.scalar.position.Marker.{Marker}
+use Rattle.saphyr_scalar.specs.declared.scalar.position.Span.{Span}
+use Rattle.saphyr_scalar.specs.declared.scalar.style.ScalarStyle.TheVariants as style
+use Rattle.saphyr_scalar.specs.Views.Cursor.{Cursor, start_cursor}
+use Rattle.scalar_laws.proofs.Beginnings.{tails}
+use Rattle.saphyr_scanner.specs.Grammar.Tokens as tokens
+use Rattle.saphyr_scanner.specs.Grammar.Tokens.{Kind}
+use Rattle.saphyr_scanner.specs.TokensInPlace.{has_text}
+use Rattle.saphyr_scanner.specs.TokensTaken as taken
+use Rattle.saphyr_scanner.specs.TokensTaken.{Collections, surroundings_in, open_behind, parts_colon, IsToken, AreTokens}
+use Rattle.saphyr_scanner.specs.Views.Tokens.{Piece}
+use Rattle.saphyr_scanner.proofs.Reached.{apart_reached}
+use Rattle.saphyr_scanner.proofs.Taken.Later.{apart_later, token_later}
+use Rattle.saphyr_scanner.proofs.Taken.Parts.{open_all}
+use Rattle.saphyr_scanner.proofs.Taken.Places.{reaches_reaches, token_reached}
+use Rattle.taken_laws.proofs.Wrong.Standing.{at_index}
+use Rattle.saphyr_machine.specs.Events.{Happening, SequenceStart, MappingStart}
+use Rattle.event_laws.specs.EventsTaken.{ArePropertyTokens, SpansAll, AreContentTokens, BelongsToNone, IsAnchorKind, IsTagKind, IsOf, AreTaken}
+use Rattle.event_examples.specs.Examples.Forests.{plain_event}
+use Rattle.event_examples.specs.Examples.WrongPlaces as wrong
+use Rattle.event_examples.proofs.Wrong.Absent.{without_text}
+use Rattle.event_examples.proofs.Wrong.Brackets.{stays_inside}
+use Rattle.event_examples.proofs.Wrong.FirstCharacters.{begins_token, stops_at, takes_nothing}
+use Rattle.event_examples.proofs.Wrong.OneBracket.{BehindBracket, behind_bracket}
+use Rattle.event_examples.proofs.Wrong.Owned.{content_end}
+use Rattle.event_examples.proofs.Wrong.Stretches.{AreSkipped, Stretch, stretches, alone, span_starts, word}
+
+abbrev pair_text : List ℕ
+pair_text = codes "[:a]"
+
+-- inside brackets, before the colon, and behind no text that ends like JSON
+abbrev Before : Collections → Cursor → Type 0
+Before opened s = BehindBracket pair_text 0 opened s
+
+before_rest : (opened : Collections) (s : Cursor) → Before opened s → s.rest ≡ codes ":a]"
+before_rest opened s b = at_index pair_text s 1 b.reached b.index
+
+stays_apart : (opened : Collections) (s t : Cursor) → Before opened s
+    → taken.IsPassedOver s.mark s.rest t.mark t.rest → Before opened t
+stays_apart opened s t b h =
+    let same = stops_at s.mark s.rest t.mark t.rest 58 (codes "a]") h (before_rest opened s b) refl refl refl in
+    record {
+      reached = reaches_reaches (start_cursor pair_text) s t b.reached (apart_reached s.mark s.rest t.mark t.rest h);
+      index = ap (λ (m : Marker). m.index) same ∙ b.index;
+      inside = b.inside;
+      ends_json = b.ends_json;
+    }
+
+-- no scalar
+abbrev IsNoScalar : Kind → Type 0
+IsNoScalar (tokens.Scalar style value) = ⊥
+IsNoScalar _ = Unit {0}
+
+abbrev AreNoScalars : List Piece → Type 0
+AreNoScalars [] = Unit {0}
+AreNoScalars (p ∷ ps) = IsNoScalar p.kind × AreNoScalars ps
+
+stays_put : (opened : Collections) (k : Kind) (span : Span) (s t : Cursor) → Before opened s → IsNoScalar k
+    → IsToken (surroundings_in opened) k span s t → t ≡ s
+stays_put opened tokens.Value span s t b n h =
+    let rest = before_rest opened s b in
+    let behind = tails 58 58 t.rest (codes "a]") (sym h.0.0 ∙ rest) in
+    absurd (by (h.4 b.inside) behind)
+  where
+    by : (opened.ends_json ≡ true) ⊎ IsTrue (parts_colon (slice_index t.rest 0)) → t.rest ≡ codes "a]" → ⊥
+    by (inl e) is = let k : true ≡ false = sym e ∙ b.ends_json in cc
+    by (inr e) is = let k : true ≡ false = sym e ∙ ap (λ l. parts_colon (slice_index l 0)) is in cc
+stays_put opened tokens.Key span s t b n (inl h) =
+    let z : 58 ≡ 63 = ap (λ l. slice_index l 0) (sym (before_rest opened s b) ∙ h.0.0) in absurd (omega (arith, z))
+stays_put opened tokens.Key span s t b n (inr h) = h.2
+stays_put opened (tokens.Scalar how value) span s t b n h = absurd n
+stays_put opened k span s t b n h =
+    takes_nothing (surroundings_in opened) k span s t tt
+    (ap (λ l. begins_token (slice_index l 0)) (before_rest opened s b)) h
+
+stays_token : (opened : Collections) (k : Kind) (span : Span) (s t : Cursor) → Before opened s → IsNoScalar k
+    → IsToken (surroundings_in opened) k span s t → Before (open_behind k span opened) t
+stays_token opened k span s t b n h =
+    let same = stays_put opened k span s t b n h in
+    let index = ap (λ (c : Cursor). c.mark.index) same in
+    record {
+      reached = reaches_reaches (start_cursor pair_text) s t b.reached
+          (token_reached (surroundings_in opened) k span s t h);
+      index = index ∙ b.index;
+      inside = stays_inside opened k span s t h index b.inside;
+      ends_json = by k n h;
+    }
+  where
+    no_text : (c : Bool) → (if c then false else opened.ends_json) ≡ false
+    no_text true = refl
+    no_text false = b.ends_json
+
+    by : (k : Kind) → IsNoScalar k → IsToken (surroundings_in opened) k span s t
+        → (open_behind k span opened).ends_json ≡ false
+    by (tokens.Scalar how value) n h = absurd n
+    by tokens.FlowSequenceEnd n h =
+        let z : 58 ≡ 93 = ap (λ l. slice_index l 0) (sym (before_rest opened s b) ∙ h.0.0) in absurd (omega (arith, z))
+    by tokens.FlowMappingEnd n (inl h) =
+        let z : 58 ≡ 125 = ap (λ l. slice_index l 0) (sym (before_rest opened s b) ∙ h.0.0) in absurd (omega (arith, z))
+    by tokens.FlowMappingEnd n (inr h) =
+        let P : Bool → Type 0 = λ c. (if c then true else opened.ends_json) ≡ false in
+        subst P (sym (without_text span h.0)) b.ends_json
+    by tokens.BlockEntry n h = refl
+    by tokens.Value n h = refl
+    by _ n h = no_text (has_text span)
+
+stays : (opened : Collections) (ps : List Piece) (s u : Cursor) → Before opened s → AreNoScalars ps
+    → AreTokens opened ps s u → Before (open_all ps opened) u
+stays opened [] s u b n h = let P : Cursor → Type 0 = λ c. Before opened c in subst P (sym h) b
+stays opened (p ∷ ps) s u b n h =
+    let here = stays_apart opened s h.0 b h.2 in
+    stays (open_behind p.kind p.span opened) ps h.1 u (stays_token opened p.kind p.span h.0 h.1 here n.0 h.3) n.1 h.4
+
+-- ## The tokens of the events up to the colon
+
+skipped_no_scalars : (ps : List Piece) → AreSkipped ps → AreNoScalars ps
+skipped_no_scalars [] h = tt
+skipped_no_scalars (p ∷ ps) h = (by p.kind h.0, skipped_no_scalars ps h.1)
+  where
+    by : (k : Kind) → BelongsToNone k → IsNoScalar k
+    by (tokens.Scalar how value) b = b
+    by _ b = tt
+
+no_scalars_append : (ps qs : List Piece) → AreNoScalars ps → AreNoScalars qs → AreNoScalars (ps ++ qs)
+no_scalars_append [] qs a b = b
+no_scalars_append (p ∷ ps) qs a b = (a.0, no_scalars_append ps qs a.1 b)
+
+property_no_scalar : (k : Kind) → IsAnchorKind k ⊎ IsTagKind k → IsNoScalar k
+property_no_scalar (tokens.Scalar how value) (inl h) = h
+property_no_scalar (tokens.Scalar how value) (inr h) = h
+property_no_scalar _ h = tt
+
+property_no_scalars : (ps : List Piece) → ArePropertyTokens ps → AreNoScalars ps
+property_no_scalars [] h = tt
+property_no_scalars (p ∷ []) h = (property_no_scalar p.kind h, tt)
+property_no_scalars (p ∷ q ∷ []) (inl h) =
+    (property_no_scalar p.kind (inl h.0), (property_no_scalar q.kind (inr h.1), tt))
+property_no_scalars (p ∷ q ∷ []) (inr h) =
+    (property_no_scalar p.kind (inr h.0), (property_no_scalar q.kind (inl h.1), tt))
+property_no_scalars (p ∷ q ∷ r ∷ ps) h = absurd h
+
+front_no_scalars : (front : List Piece) → (front ≡ []) ⊎ ArePropertyTokens front → AreNoScalars front
+front_no_scalars front (inl e) = subst AreNoScalars (sym e) tt
+front_no_scalars front (inr h) = property_no_scalars front h
+
+content_no_scalars : (kind : Kind) (own : List Piece) → IsNoScalar kind → AreContentTokens kind own → AreNoScalars own
+content_no_scalars kind own n (front, p, either, e, is) =
+    subst AreNoScalars (sym is)
+    (no_scalars_append front (p ∷ []) (front_no_scalars front either) (subst IsNoScalar (sym e) n, tt))
+
+mapping_no_scalars : (span : Span) (own others : List Piece) → IsOf (MappingStart 0 None) span own others
+    → AreNoScalars own
+mapping_no_scalars span own others (inl c, spans) = content_no_scalars tokens.FlowMappingStart own tt c
+mapping_no_scalars span own others (inr (inl c), spans) = content_no_scalars tokens.BlockMappingStart own tt c
+mapping_no_scalars span own others (inr (inr (mark, e, is)), spans) =
+    subst AreNoScalars (sym is) (subst IsNoScalar (sym e) tt, tt)
+
+-- a scalar at the colon's place ends behind it
+last_long : (opened : Collections) (front : List Piece) (p : Piece) (s u : Cursor) (value : List ℕ)
+    → p.kind ≡ tokens.Scalar style.Plain value → AreTokens opened (front ++ p ∷ []) s u
+    → s.mark.index < p.span.end.index
+last_long opened [] p s u value e (here, behind, apart, is, end) =
+    let K : Kind → Type 0 = λ k. IsToken (surroundings_in opened) k p.span here behind in
+    let w = word (surroundings_in opened) (tokens.Scalar style.Plain value) p.span here behind tt (subst K e is) in
+    let a = apart_later s.mark s.rest here.mark here.rest apart in
+    omega (arith, a.index, w.long)
+last_long opened (q ∷ front) p s u value e (here, behind, apart, is, more) =
+    let a = apart_later s.mark s.rest here.mark here.rest apart in
+    let b = token_later (surroundings_in opened) q.kind q.span here behind is in
+    let c = last_long (open_behind q.kind q.span opened) front p behind u value e more in
+    omega (arith, a.index, b.index, c)
+
+empty_no_scalars : (opened : Collections) (own others : List Piece) (s u : Cursor) → 1 ≤ s.mark.index
+    → IsOf (plain_event []) wrong.at_colon own others → AreTokens opened own s u → AreNoScalars own
+empty_no_scalars opened own others s u from (inl ((front, p, either, e, is), spans)) h =
+    let P : List Piece → Type 0 = λ l. AreTokens opened l s u in
+    let Q : List Piece → Type 0 = λ l. SpansAll l wrong.at_colon in
+    let long = last_long opened front p s u [] e (subst P is h) in
+    let end = ap (λ (m : Marker). m.index) (content_end front p wrong.at_colon (subst Q is spans)) in
+    absurd (omega (arith, from, long, end))
+empty_no_scalars opened own others s u from (inr (inl h)) k = property_no_scalars own h.2
+empty_no_scalars opened own others s u from (inr (inr h)) k = subst AreNoScalars (sym h.4) tt
+
+-- ## `[:a]` with a pair
+
+behind_event : {o : Collections} {from : Cursor} {what : Happening} {span : Span}
+    (st : Stretch pair_text o from what span) → Before o from → AreNoScalars st.own
+    → Before (open_all st.own (open_all st.skipped o)) st.end
+behind_event {o = o} {from = from} st b n =
+    stays (open_all st.skipped o) st.own st.start st.end
+    (stays o st.skipped from st.start b (skipped_no_scalars st.skipped st.are_skipped) st.before) n st.tokens
+
+before_event : {o : Collections} {from : Cursor} {what : Happening} {span : Span}
+    (st : Stretch pair_text o from what span) → Before o from → Before (open_all st.skipped o) st.start
+before_event {o = o} {from = from} st b =
+    stays o st.skipped from st.start b (skipped_no_scalars st.skipped st.are_skipped) st.before
+
+scalar_refused : (opened : Collections) (own : List Piece) (s u : Cursor) → Before opened s
+    → AreContentTokens (tokens.Scalar style.Plain (codes "a")) own → AreTokens opened own s u
+    → SpansAll own wrong.span_of_a → ⊥
+scalar_refused opened own s u b content h spans =
+    let lone = alone pair_text 2 97 (codes "]") refl (λ z. omega (arith, z)) (λ z. omega (arith, z)) _ opened own s u
+    wrong.span_of_a b.reached content h spans refl in
+    let P : List Piece → Type 0 = λ l. AreTokens opened l s u in
+    let Q : List Piece → Type 0 = λ l. SpansAll l wrong.span_of_a in
+    by lone.0 lone.1 (subst P lone.2 h) (subst Q lone.2 spans)
+  where
+    by : (p : Piece) → p.kind ≡ tokens.Scalar style.Plain (codes "a") → AreTokens opened (p ∷ []) s u
+        → SpansAll (p ∷ []) wrong.span_of_a → ⊥
+    by p kind (here, behind, apart, is, end) spans =
+        let K : Kind → Type 0 = λ k. IsToken (surroundings_in opened) k p.span here behind in
+        let start : 2 ≡ here.mark.index = ap (λ (m : Marker). m.index)
+        (span_starts p [] wrong.span_of_a spans ∙ (subst K kind is).start) in
+        let index = (stays_apart opened s here b apart).index in
+        omega (arith, start, index)
+
+pub colon_in_flow_is_not_taken : (keep : Bool) → AreTaken keep pair_text wrong.colon_in_flow → ⊥
+colon_in_flow_is_not_taken keep t =
+    let all = stretches keep pair_text wrong.colon_in_flow t in
+    by all.1.1.0 all.1.1.1.0 all.1.1.1.1.0 all.1.1.1.1.1.0
+  where
+    by : {o : Collections} {from : Cursor} (st : Stretch pair_text o from (SequenceStart 0 None) wrong.pair_bracket)
+        (pair : Stretch pair_text (open_all st.own (open_all st.skipped o)) st.end (MappingStart 0 None) wrong.at_colon)
+        (key : Stretch pair_text (open_all pair.own (open_all pair.skipped (open_all st.own (open_all st.skipped o))))
+        pair.end (plain_event []) wrong.at_colon)
+        (value : Stretch pair_text (open_all key.own (open_all key.skipped (open_all pair.own (open_all pair.skipped
+        (open_all st.own (open_all st.skipped o)))))) key.end (plain_event (codes "a")) wrong.span_of_a) → ⊥
+    by {o = o} st pair key value =
+        let bracket = behind_bracket pair_text 0 (codes ":a]") refl wrong.pair_bracket refl refl 0 None
+        (open_all st.skipped o) st.own st.others st.start st.end st.last st.reached st.is st.tokens st.rest in
+        let begun = behind_event pair bracket (mapping_no_scalars wrong.at_colon pair.own pair.others pair.is) in
+        let first = before_event key begun in
+        let empty = empty_no_scalars _ key.own key.others key.start key.end (omega (arith, first.index)) key.is
+        key.tokens in
+        let behind = before_event value (behind_event key begun empty) in
+        by_tokens value.own value.is value.tokens behind
+      where
+        by_tokens : {c : Collections} (own : List Piece)
+            → IsOf (plain_event (codes "a")) wrong.span_of_a own value.others → AreTokens c own value.start value.end
+            → Before c value.start → ⊥
+        by_tokens {c = c} own (inl (content, spans)) h b = scalar_refused c own value.start value.end b content h spans
+        by_tokens own (inr (inl n)) h b = let k = n.0 in cc
+        by_tokens own (inr (inr n)) h b = let k = n.0 in cc

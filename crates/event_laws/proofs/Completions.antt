@@ -1,0 +1,331 @@
+-- Whatever is open can be closed: a shortest completion of each state, whose events depend on nothing before them.
+use Rattle.std.proofs.Common.{◌≡◌, ◌≢◌, ℕ, List, [], ◌∷◌, Option, Some, None, refl, sym, ap, ◌∙◌, subst, inl, inr}
+use Rattle.saphyr_scalar.specs.declared.scalar.style.ScalarStyle.TheVariants.{Plain}
+use Rattle.saphyr_scanner.specs.Grammar.Forest as forest
+use Rattle.saphyr_scanner.specs.Grammar.Forest.{NoNode, NoPair}
+use Rattle.saphyr_scanner.specs.Grammar.Tokens.{Kind, StreamStart, StreamEnd, BlockEnd, BlockEntry, FlowSequenceEnd, FlowMappingEnd, Value, scalar_token}
+use Rattle.saphyr_scanner.specs.Grammar.TokenGrammar.{InFlow, InBlock, InBlockMapping}
+use Rattle.saphyr_machine.specs.declared.state.State.{State}
+use Rattle.saphyr_machine.specs.declared.state.State.TheVariants as state
+use Rattle.event_laws.specs.Anchors.{one_more_anchor, anchor_of, anchors}
+use Rattle.event_laws.specs.Preorder.{Part, OpenStream, CloseStream, CloseDocument, Leaf, CloseSequence, CloseMapping}
+use Rattle.saphyr_machine.specs.Events.{Happening}
+use Rattle.event_laws.specs.ForestEvents.{first_and_others}
+use Rattle.event_laws.proofs.Told.Telling.{Memory}
+use Rattle.event_laws.proofs.Remembering.{after, event_in, events_in}
+use Rattle.event_laws.proofs.Turned.Following.{Then, Exactly, IsNodeOf, IsOptionalOf, IsSkipped, IsAnyValueOf, FirstEntries, OtherEntries, FirstPairs, OtherPairs, BlockEntries, BlockPairs, InSequence, AtPairEnd, AtPairValue, InMapping, InBlockPairs, FollowsStates, IsOutside, IsInsideDocument, IsAlive, Starts}
+use Rattle.event_laws.proofs.Turned.Turning.{put}
+use Rattle.event_laws.proofs.Turned.Entries.{marked_value, any_value, collection_ends}
+use Rattle.event_laws.proofs.Turned.Block.{one_entry}
+
+-- ## Parts that always have their events, and no anchor
+
+abbrev IsQuiet : Part → Type 0
+IsQuiet OpenStream = Unit {0}
+IsQuiet CloseStream = Unit {0}
+IsQuiet CloseDocument = Unit {0}
+IsQuiet CloseSequence = Unit {0}
+IsQuiet CloseMapping = Unit {0}
+IsQuiet (Leaf p style value) = p ≡ forest.no_properties
+IsQuiet _ = ⊥
+
+abbrev pub AreQuiet : List Part → Type 0
+AreQuiet [] = Unit {0}
+AreQuiet (p ∷ ps) = IsQuiet p × AreQuiet ps
+
+quiet_one : (p : Part) (e : Memory) → IsQuiet p → (w : Happening) × (event_in e p ≡ Some w)
+quiet_one OpenStream e q = (_, refl)
+quiet_one CloseStream e q = (_, refl)
+quiet_one CloseDocument e q = (_, refl)
+quiet_one CloseSequence e q = (_, refl)
+quiet_one CloseMapping e q = (_, refl)
+quiet_one (Leaf p style value) e q =
+    subst (λ (r : forest.Properties). (w : Happening) × (event_in e (Leaf r style value) ≡ Some w)) (sym q) (_, refl)
+quiet_one _ e q = elim q [ ]
+
+pub quiet_events : (ps : List Part) (e : Memory) → AreQuiet ps → (es : List Happening) × (events_in e ps ≡ Some es)
+quiet_events [] e q = ([], refl)
+quiet_events (p ∷ ps) e q =
+    let one : (w : Happening) × (event_in e p ≡ Some w) = quiet_one p e q.0 in
+    let others : (es : List Happening) × (events_in (after p e) ps ≡ Some es) = quiet_events ps (after p e) q.1 in (
+      one.0 ∷ others.0,
+      ap (λ (o : Option Happening). first_and_others o (events_in (after p e) ps)) one.1
+          ∙ ap (first_and_others (Some one.0)) others.1,
+    )
+
+pub some_events : (ps : List Part) (e : Memory) (q : AreQuiet ps) → ps ≢ [] → (quiet_events ps e q).0 ≢ []
+unfolding quiet_events
+some_events [] e q h = absurd (h refl)
+some_events (p ∷ ps) e q h = λ k. cc
+
+no_anchor : (p : Part) → IsQuiet p → anchor_of p ≡ None
+no_anchor OpenStream q = refl
+no_anchor CloseStream q = refl
+no_anchor CloseDocument q = refl
+no_anchor CloseSequence q = refl
+no_anchor CloseMapping q = refl
+no_anchor (Leaf p style value) q = subst (λ (r : forest.Properties). anchor_of (Leaf r style value) ≡ None) (sym q) refl
+no_anchor _ q = elim q [ ]
+
+pub quiet_anchors : (ps : List Part) → AreQuiet ps → anchors ps ≡ 0
+quiet_anchors [] q = refl
+quiet_anchors (p ∷ ps) q =
+    ap (λ (o : Option (List ℕ)). one_more_anchor o (anchors ps)) (no_anchor p q.0) ∙ quiet_anchors ps q.1
+
+-- ## Completions
+
+pub record Completion (s : State) (ss : List State) : Type 0 where
+  pub kinds : List Kind
+  pub parts : List Part
+  pub follows : FollowsStates s ss kinds parts
+  pub starts : (ahead : List Kind) → Starts s ahead kinds
+  pub quiet : AreQuiet parts
+  pub some : parts ≢ []
+
+outside : (s : State) → IsOutside s → Completion s []
+outside state.StreamStart i =
+    record {
+      kinds = StreamStart ∷ StreamEnd ∷ [];
+      parts = OpenStream ∷ CloseStream ∷ [];
+      follows = ([], ([], StreamEnd ∷ [], tt, refl, refl), refl);
+      starts = λ ahead. tt;
+      some = λ e. cc;
+      quiet = (tt, (tt, tt));
+    }
+outside state.ImplicitDocumentStart i =
+    record {
+      kinds = StreamEnd ∷ [];
+      parts = CloseStream ∷ [];
+      follows = ([], [], StreamEnd ∷ [], tt, refl, refl, refl);
+      starts = λ ahead. tt;
+      some = λ e. cc;
+      quiet = (tt, tt);
+    }
+outside state.DocumentStart i =
+    record {
+      kinds = StreamEnd ∷ [];
+      parts = CloseStream ∷ [];
+      follows = ([], [], StreamEnd ∷ [], tt, refl, refl, refl);
+      starts = λ ahead b. tt;
+      some = λ e. cc;
+      quiet = (tt, tt);
+    }
+outside state.DocumentEnd i =
+    record {
+      kinds = StreamEnd ∷ [];
+      parts = CloseDocument ∷ CloseStream ∷ [];
+      follows = ([], ([], [], StreamEnd ∷ [], tt, inl (refl, refl), refl), refl);
+      starts = λ ahead. tt;
+      some = λ e. cc;
+      quiet = (tt, (tt, tt));
+    }
+outside _ i = elim i [ ]
+
+abbrev leaf : Part
+leaf = Leaf forest.no_properties Plain []
+
+skip : (R : List Kind → List Part → Type 0) (ks : List Kind) (ps : List Part) → R ks ps
+    → Then IsSkipped R ks (leaf ∷ ps)
+skip R ks ps r = put IsSkipped R [] (leaf ∷ []) ks ps (refl, refl) r
+
+maybe : (R : List Kind → List Part → Type 0) (ks : List Kind) (ps : List Part) → R ks ps
+    → Then (IsOptionalOf InFlow) R ks (leaf ∷ ps)
+maybe R ks ps r = put (IsOptionalOf InFlow) R [] (leaf ∷ []) ks ps (forest.left_out, inl (refl, refl), refl) r
+
+entries_end : (R : List Kind → List Part → Type 0) (ks : List Kind) (ps : List Part) → R ks ps
+    → InSequence R (FlowSequenceEnd ∷ ks) (CloseSequence ∷ ps)
+entries_end R ks ps r = collection_ends OtherEntries R (FlowSequenceEnd ∷ []) CloseSequence ks ps
+    (NoNode, inl refl, refl) r
+
+pairs_end : (R : List Kind → List Part → Type 0) (ks : List Kind) (ps : List Part) → R ks ps
+    → InMapping R (FlowMappingEnd ∷ ks) (CloseMapping ∷ ps)
+pairs_end R ks ps r = collection_ends OtherPairs R (FlowMappingEnd ∷ []) CloseMapping ks ps (NoPair, inl refl, refl) r
+
+block_pairs_end : (R : List Kind → List Part → Type 0) (ks : List Kind) (ps : List Part) → R ks ps
+    → InBlockPairs R (BlockEnd ∷ ks) (CloseMapping ∷ ps)
+block_pairs_end R ks ps r = collection_ends BlockPairs R (BlockEnd ∷ []) CloseMapping ks ps (NoPair, refl, refl) r
+
+pair_ends : (R : List Kind → List Part → Type 0) (ks : List Kind) (ps : List Part) → R ks ps
+    → AtPairEnd R (FlowSequenceEnd ∷ ks) (CloseMapping ∷ CloseSequence ∷ ps)
+pair_ends R ks ps r = put (Exactly [] (CloseMapping ∷ [])) (InSequence R) [] (CloseMapping ∷ []) _ _ (refl, refl)
+    (entries_end R ks ps r)
+
+pair_value : (R : List Kind → List Part → Type 0) (ks : List Kind) (ps : List Part) → R ks ps
+    → AtPairValue R (FlowSequenceEnd ∷ ks) (leaf ∷ CloseMapping ∷ CloseSequence ∷ ps)
+pair_value R ks ps r = put (IsAnyValueOf InFlow) (AtPairEnd R) [] (leaf ∷ []) _ _ (inr (refl, refl))
+    (pair_ends R ks ps r)
+
+inside : (s other : State) (ss : List State) → IsInsideDocument s → Completion other ss → Completion s (other ∷ ss)
+inside state.DocumentContent o ss i c =
+    record {
+      kinds = c.kinds;
+      parts = leaf ∷ c.parts;
+      follows =
+          put (IsOptionalOf InBlock) (FollowsStates o ss) [] (leaf ∷ []) c.kinds c.parts (
+            forest.left_out,
+            inl (refl, refl),
+            refl,
+          )
+          c.follows;
+      starts = λ ahead. tt;
+      some = λ e. cc;
+      quiet = (refl, c.quiet);
+    }
+inside state.BlockNode o ss i c =
+    record {
+      kinds = scalar_token Plain [] ∷ c.kinds;
+      parts = leaf ∷ c.parts;
+      follows =
+          put (IsNodeOf InBlock) (FollowsStates o ss) (scalar_token Plain [] ∷ []) (leaf ∷ []) c.kinds c.parts
+          (forest.left_out, ([], scalar_token Plain [] ∷ [], refl, inl refl, refl), refl) c.follows;
+      starts = λ ahead. tt;
+      some = λ e. cc;
+      quiet = (refl, c.quiet);
+    }
+inside state.BlockSequenceEntry o ss i c =
+    record {
+      kinds = BlockEnd ∷ c.kinds;
+      parts = CloseSequence ∷ c.parts;
+      follows =
+          collection_ends BlockEntries (FollowsStates o ss) (BlockEnd ∷ []) CloseSequence c.kinds c.parts
+          (NoNode, refl, refl)
+          c.follows;
+      starts = λ ahead. tt;
+      some = λ e. cc;
+      quiet = (tt, c.quiet);
+    }
+inside state.IndentlessSequenceEntry o ss i c =
+    record {
+      kinds = BlockEntry ∷ c.kinds;
+      parts = leaf ∷ CloseSequence ∷ c.parts;
+      follows =
+          one_entry (Then (Exactly [] (CloseSequence ∷ [])) (FollowsStates o ss)) c.kinds
+          (leaf ∷ CloseSequence ∷ c.parts)
+          (put (IsOptionalOf InBlock) _ [] (leaf ∷ []) c.kinds (CloseSequence ∷ c.parts)
+          (forest.left_out, inl (refl, refl), refl)
+          (collection_ends BlockEntries (FollowsStates o ss) [] CloseSequence c.kinds c.parts (NoNode, refl, refl)
+          c.follows));
+      starts = λ ahead b. tt;
+      some = λ e. cc;
+      quiet = (refl, (tt, c.quiet));
+    }
+inside state.BlockMappingKey o ss i c =
+    record {
+      kinds = BlockEnd ∷ c.kinds;
+      parts = CloseMapping ∷ c.parts;
+      follows = block_pairs_end (FollowsStates o ss) c.kinds c.parts c.follows;
+      starts = λ ahead b. absurd b;
+      some = λ e. cc;
+      quiet = (tt, c.quiet);
+    }
+inside state.BlockMappingValue o ss i c =
+    record {
+      kinds = Value ∷ BlockEnd ∷ c.kinds;
+      parts = leaf ∷ CloseMapping ∷ c.parts;
+      follows =
+          inl (marked_value InBlockMapping (InBlockPairs (FollowsStates o ss)) (BlockEnd ∷ c.kinds)
+          (leaf ∷ CloseMapping ∷
+          c.parts)
+          (put (IsOptionalOf InBlockMapping) (InBlockPairs (FollowsStates o ss)) [] (leaf ∷ []) _ _
+          (forest.left_out, inl (refl, refl), refl) (block_pairs_end (FollowsStates o ss) c.kinds c.parts c.follows)));
+      starts = λ ahead b. tt;
+      some = λ e. cc;
+      quiet = (refl, (tt, c.quiet));
+    }
+inside state.FlowSequenceFirstEntry o ss i c =
+    record {
+      kinds = FlowSequenceEnd ∷ c.kinds;
+      parts = CloseSequence ∷ c.parts;
+      follows =
+          collection_ends FirstEntries (FollowsStates o ss) (FlowSequenceEnd ∷ []) CloseSequence c.kinds c.parts
+          (NoNode, refl, refl)
+          c.follows;
+      starts = λ ahead. tt;
+      some = λ e. cc;
+      quiet = (tt, c.quiet);
+    }
+inside state.FlowSequenceEntry o ss i c =
+    record {
+      kinds = FlowSequenceEnd ∷ c.kinds;
+      parts = CloseSequence ∷ c.parts;
+      follows = entries_end (FollowsStates o ss) c.kinds c.parts c.follows;
+      starts = λ ahead. tt;
+      some = λ e. cc;
+      quiet = (tt, c.quiet);
+    }
+inside state.FlowSequenceEntryMappingKey o ss i c =
+    record {
+      kinds = FlowSequenceEnd ∷ c.kinds;
+      parts = leaf ∷ leaf ∷ CloseMapping ∷ CloseSequence ∷ c.parts;
+      follows =
+          maybe (AtPairValue (FollowsStates o ss)) _ _ (pair_value (FollowsStates o ss) c.kinds c.parts c.follows);
+      starts = λ ahead. tt;
+      some = λ e. cc;
+      quiet = (refl, (refl, (tt, (tt, c.quiet))));
+    }
+inside state.FlowSequenceEntryMappingValue o ss i c =
+    record {
+      kinds = FlowSequenceEnd ∷ c.kinds;
+      parts = leaf ∷ CloseMapping ∷ CloseSequence ∷ c.parts;
+      follows = pair_value (FollowsStates o ss) c.kinds c.parts c.follows;
+      starts = λ ahead. tt;
+      some = λ e. cc;
+      quiet = (refl, (tt, (tt, c.quiet)));
+    }
+inside (state.FlowSequenceEntryMappingEnd place) o ss i c =
+    record {
+      kinds = FlowSequenceEnd ∷ c.kinds;
+      parts = CloseMapping ∷ CloseSequence ∷ c.parts;
+      follows = pair_ends (FollowsStates o ss) c.kinds c.parts c.follows;
+      starts = λ ahead. tt;
+      some = λ e. cc;
+      quiet = (tt, (tt, c.quiet));
+    }
+inside state.FlowMappingFirstKey o ss i c =
+    record {
+      kinds = FlowMappingEnd ∷ c.kinds;
+      parts = CloseMapping ∷ c.parts;
+      follows =
+          collection_ends FirstPairs (FollowsStates o ss) (FlowMappingEnd ∷ []) CloseMapping c.kinds c.parts
+          (NoPair, refl, refl)
+          c.follows;
+      starts = λ ahead. tt;
+      some = λ e. cc;
+      quiet = (tt, c.quiet);
+    }
+inside state.FlowMappingKey o ss i c =
+    record {
+      kinds = FlowMappingEnd ∷ c.kinds;
+      parts = CloseMapping ∷ c.parts;
+      follows = pairs_end (FollowsStates o ss) c.kinds c.parts c.follows;
+      starts = λ ahead. tt;
+      some = λ e. cc;
+      quiet = (tt, c.quiet);
+    }
+inside state.FlowMappingValue o ss i c =
+    record {
+      kinds = Value ∷ FlowMappingEnd ∷ c.kinds;
+      parts = leaf ∷ CloseMapping ∷ c.parts;
+      follows =
+          any_value InFlow (InMapping (FollowsStates o ss)) _ _
+          (marked_value InFlow (InMapping (FollowsStates o ss)) (FlowMappingEnd ∷ c.kinds)
+          (leaf ∷ CloseMapping ∷ c.parts)
+          (maybe (InMapping (FollowsStates o ss)) _ _ (pairs_end (FollowsStates o ss) c.kinds c.parts c.follows)));
+      starts = λ ahead b. tt;
+      some = λ e. cc;
+      quiet = (refl, (tt, c.quiet));
+    }
+inside state.FlowMappingEmptyValue o ss i c =
+    record {
+      kinds = FlowMappingEnd ∷ c.kinds;
+      parts = leaf ∷ CloseMapping ∷ c.parts;
+      follows = skip (InMapping (FollowsStates o ss)) _ _ (pairs_end (FollowsStates o ss) c.kinds c.parts c.follows);
+      starts = λ ahead. tt;
+      some = λ e. cc;
+      quiet = (refl, (tt, c.quiet));
+    }
+inside _ o ss i c = elim i [ ]
+
+pub completed : (ss : List State) (s : State) → IsAlive s ss → Completion s ss
+completed [] s a = outside s a
+completed (other ∷ ss) s a = inside s other ss a.0 (completed ss other a.1)

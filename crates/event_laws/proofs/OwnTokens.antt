@@ -1,0 +1,110 @@
+-- The tokens that a step uses: some are passed, and the others are its event's own.
+use Rattle.std.proofs.Common.{◌≡◌, List, [], ◌∷◌, ◌++◌, None, refl, sym, ap, ◌∙◌, subst, ◌⊎◌, inl, inr}
+use Rattle.saphyr_scalar.specs.declared.scalar.position.Marker.{Marker}
+use Rattle.saphyr_scalar.specs.declared.scalar.position.Span.{Span}
+use Rattle.saphyr_scalar.specs.declared.scalar.style.ScalarStyle.TheVariants.{Plain}
+use Rattle.saphyr_scanner.specs.Grammar.Tokens.{Kind, BlockEntry}
+use Rattle.saphyr_scanner.specs.Views.Tokens.{Piece}
+use Rattle.saphyr_machine.specs.Events.{Happening, Scalar}
+use Rattle.saphyr_machine.specs.Steps.Nodes.{NodeProperties}
+use Rattle.event_laws.specs.EventsTaken.{BelongsToNone, IsAnchorKind, IsTagKind, ArePropertyTokens, SpansAll, AreContentTokens, BeginsEntries, IsOf, HaveTokens}
+use Rattle.event_laws.specs.EventsTaken as taking
+
+abbrev pub ArePassed : List Piece → Type 0
+ArePassed [] = Unit {0}
+ArePassed (t ∷ ts) = BelongsToNone t.kind × ArePassed ts
+
+-- `next` stands behind the tokens that are used
+pub record HasOwn (used : List Piece) (what : Happening) (span : Span) (next : List Piece) : Type 0 where
+  pub front : List Piece
+  pub own : List Piece
+  pub are : used ≡ front ++ own
+  pub passed : ArePassed front
+  pub is_of : IsOf what span own next
+
+pub whole : {next : List Piece} (used : List Piece) (what : Happening) (span : Span) → IsOf what span used next
+    → HasOwn used what span next
+whole used what span h = record { front = []; own = used; are = refl; passed = tt; is_of = h }
+
+-- one token that is passed
+pub passed_one : {next : List Piece} (t : Piece) (what : Happening) (span : Span) → BelongsToNone t.kind
+    → IsOf what span [] next → HasOwn (t ∷ []) what span next
+passed_one t what span b h = record { front = t ∷ []; own = []; are = refl; passed = (b, tt); is_of = h }
+
+pub behind_own : {next : List Piece} (t : Piece) (used : List Piece) (what : Happening) (span : Span)
+    → BelongsToNone t.kind → HasOwn used what span next → HasOwn (t ∷ used) what span next
+behind_own t used what span b h =
+    record {
+      front = t ∷ h.front;
+      own = h.own;
+      are = ap (λ (l : List Piece). t ∷ l) h.are;
+      passed = (b, h.passed);
+      is_of = h.is_of;
+    }
+
+-- the events of a list and of the ones behind it
+from_front : (front own ts unread : List Piece) (what : Happening) (span : Span) (es : List (Happening × Span))
+    → ArePassed front → IsOf what span own (ts ++ unread) → HaveTokens unread es ts
+    → HaveTokens unread ((what, span) ∷ es) ((front ++ own) ++ ts)
+from_front [] own ts unread what span es p i h = taking.event what span es own ts i h
+from_front (t ∷ front) own ts unread what span es p i h =
+    taking.passed ((what, span) ∷ es) t ((front ++ own) ++ ts) p.0 (from_front front own ts unread what span es p.1 i h)
+
+pub own_more : (used ts unread : List Piece) (what : Happening) (span : Span) (es : List (Happening × Span))
+    → HasOwn used what span (ts ++ unread) → HaveTokens unread es ts
+    → HaveTokens unread ((what, span) ∷ es) (used ++ ts)
+own_more used ts unread what span es o h =
+    subst (λ (l : List Piece). HaveTokens unread ((what, span) ∷ es) (l ++ ts)) (sym o.are)
+    (from_front o.front o.own ts unread what span es o.passed o.is_of h)
+
+-- ## Properties
+
+-- the tokens of properties, and their places
+abbrev pub Shape : List Piece → NodeProperties → Type 0
+Shape [] q = (q.anchor ≡ 0) × (q.tag ≡ None)
+Shape (p ∷ []) q = (IsAnchorKind p.kind ⊎ IsTagKind p.kind) × (q.start ≡ p.span.start) × (q.behind ≡ p.span.end)
+Shape (p ∷ r ∷ []) q = ArePropertyTokens (p ∷ r ∷ []) × (q.start ≡ p.span.start) × (q.behind ≡ r.span.end)
+Shape _ q = ⊥
+
+-- content without properties begins with its own token
+abbrev pub StartsAt : List Piece → Marker → NodeProperties → Type 0
+StartsAt [] m q = q.start ≡ m
+StartsAt _ m q = Unit {0}
+
+pub content_spans : (front : List Piece) (q : NodeProperties) (t : Piece) → Shape front q → StartsAt front t.span.start
+    q
+    → SpansAll (front ++ t ∷ []) (record { start = q.start; end = t.span.end })
+content_spans [] q t h s = ap (λ (m : Marker). let x : Span = record { start = m; end = t.span.end } in x) s
+content_spans (p ∷ []) q t h s = ap (λ (m : Marker). let x : Span = record { start = m; end = t.span.end } in x) h.1
+content_spans (p ∷ r ∷ []) q t h s = ap (λ (m : Marker). let x : Span = record { start = m; end = t.span.end } in x) h.1
+content_spans (p ∷ r ∷ z ∷ l) q t h s = absurd h
+
+properties_are : (front : List Piece) (q : NodeProperties) → Shape front q → (front ≡ []) ⊎ ArePropertyTokens front
+properties_are [] q h = inl refl
+properties_are (p ∷ []) q h = inr h.0
+properties_are (p ∷ r ∷ []) q h = inr h.0
+properties_are (p ∷ r ∷ z ∷ l) q h = absurd h
+
+pub content_is : (kind : Kind) (front : List Piece) (q : NodeProperties) (t : Piece) → t.kind ≡ kind → Shape front q
+    → AreContentTokens kind (front ++ t ∷ [])
+content_is kind front q t k h = (front, t, properties_are front q h, k, refl)
+
+both_places : (a b c d : Marker) → a ≡ c → b ≡ d
+    → (let x : Span = record { start = a; end = b } in x) ≡ record { start = c; end = d }
+both_places a b c d h k =
+    ap (λ (m : Marker). let x : Span = record { start = m; end = b } in x) h
+    ∙ ap (λ (m : Marker). let x : Span = record { start = c; end = m } in x) k
+
+-- properties alone
+pub alone_is : (front : List Piece) (q : NodeProperties) → Shape front q
+    → IsOf (Scalar [] Plain q.anchor q.tag) (record { start = q.start; end = q.behind }) (front ++ []) []
+alone_is [] q h = inr (inr (refl, refl, h.0, h.1, refl))
+alone_is (p ∷ []) q h = inr (inl (refl, refl, h.0, both_places q.start q.behind p.span.start p.span.end h.1 h.2))
+alone_is (p ∷ r ∷ []) q h = inr (inl (refl, refl, h.0, both_places q.start q.behind p.span.start r.span.end h.1 h.2))
+alone_is (p ∷ r ∷ z ∷ l) q h = absurd h
+
+-- a collection without a start of its own, before its first entry
+pub no_opening : (front : List Piece) (q : NodeProperties) (t : Piece) (others : List Piece) → t.kind ≡ BlockEntry
+    → Shape front q → StartsAt front t.span.start q
+    → BeginsEntries front (record { start = q.start; end = t.span.end }) (t ∷ others)
+no_opening front q t others k h s = (k, properties_are front q h, content_spans front q t h s)

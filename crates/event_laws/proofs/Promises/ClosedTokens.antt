@@ -1,0 +1,164 @@
+-- Tokens up to a document marker's give the events up to and with its own, whatever follows.
+use Rattle.std.proofs.Common.{◌≡◌, ◌≢◌, Bool, List, [], ◌∷◌, ◌++◌, Option, None, refl, sym, ap, ◌∙◌, subst, ◌⊎◌, inl, inr}
+use Rattle.std.proofs.lemmas.List.{append_assoc, append_cancel_right, append-nil, map-append}
+use Rattle.saphyr_scalar.specs.declared.scalar.position.Span.{Span}
+use Rattle.saphyr_scalar.specs.declared.scalar.fault.Refusal.{Refusal}
+use Rattle.saphyr_scanner.specs.Grammar.Tokens as tokens
+use Rattle.saphyr_scanner.specs.Views.Tokens.{Piece}
+use Rattle.saphyr_machine.specs.declared.state.State.{State}
+use Rattle.saphyr_machine.specs.declared.state.State.TheVariants as state
+use Rattle.saphyr_machine.specs.Events as events
+use Rattle.saphyr_machine.specs.Events.{Happening, empty_scalar}
+use Rattle.event_laws.specs.Premises.{DocumentMarker, Starts, Ends, events_behind_marker, GivesFirst}
+use Rattle.saphyr_machine.specs.Steps.Machine.{Machine, fresh_machine, told_event, with_state, with_pieces}
+use Rattle.saphyr_machine.specs.Steps.Documents.{unpassed_token, implicit_start, explicit_start, document_content, document_end, token_behind_document, without_prefixes}
+use Rattle.saphyr_machine.specs.Steps.Expected.{event_step, event_step_at}
+use Rattle.saphyr_machine.specs.Answer.{Answer, with_first_event, answer_of_step, remaining_answer}
+use Rattle.saphyr_machine.specs.Cursor.{at_start, keeping_tags, to_come}
+use Rattle.event_laws.specs.Exactly.{GivesExactly, answer_of_tokens}
+use Rattle.event_laws.specs.More.{marker_token}
+use Rattle.saphyr_machine.proofs.Unroll.{unroll, over}
+use Rattle.event_laws.proofs.Longer.{More, longer, IsLastOr, End}
+use Rattle.event_laws.proofs.Beside.Documents.{IsBetweenDocuments}
+use Rattle.event_laws.proofs.Beside.Machines.{Awaits}
+use Rattle.event_laws.proofs.Promises.CommonBeginnings.{or_last, IsStopped, GoesOn, goes_on}
+use Rattle.event_laws.proofs.Happenings.{happenings_of}
+
+-- ## What follows the marker where the stream ends
+
+-- only the end of the stream is left
+abbrev alone : Span → Machine → Machine
+alone s k = record k { tokens = record { pieces = record { span = s; kind = tokens.StreamEnd } ∷ []; refusal = None } }
+
+start_step : (s : Span) (x : State) (k : Machine) → IsBetweenDocuments x
+    → event_step_at x (alone s k) ≡ told_event events.StreamEnd s (with_state state.End (with_pieces [] (alone s k)))
+unfolding implicit_start explicit_start unpassed_token
+start_step s state.ImplicitDocumentStart k i = refl
+start_step s state.DocumentStart k i = refl
+start_step s _ k i = absurd i
+
+goes : (x : State) → IsBetweenDocuments x → x ≢ state.End
+goes state.ImplicitDocumentStart i = λ e. absurd (cc)
+goes state.DocumentStart i = λ e. absurd (cc)
+goes _ i = absurd i
+
+start_is_told : (s : Span) (k : Machine) → IsBetweenDocuments k.state
+    → remaining_answer (alone s k) ≡ record { events = (events.StreamEnd, s) ∷ []; fault = None }
+unfolding event_step
+start_is_told s k i =
+    unroll (alone s k) (goes k.state i) ∙ ap (λ q. answer_of_step q remaining_answer) (start_step s k.state k i)
+    ∙ ap (with_first_event (events.StreamEnd, s)) (over (with_state state.End (with_pieces [] (alone s k))) refl)
+
+abbrev in_document : List State → Machine → Machine
+in_document ss k = record k { state = state.DocumentContent; states = state.DocumentEnd ∷ ss }
+
+content_told :
+    (s : Span) (ss : List State) (k : Machine)
+    → remaining_answer (alone s (in_document ss k))
+    ≡ record { events = (empty_scalar, s) ∷ (events.DocumentEnd, s) ∷ (events.StreamEnd, s) ∷ []; fault = None }
+unfolding event_step document_content document_end token_behind_document
+content_told s ss k =
+    unroll (alone s (in_document ss k)) (λ e. absurd (cc))
+    ∙ ap (with_first_event (empty_scalar, s))
+    (unroll (alone s (record k { state = state.DocumentEnd; states = ss })) (λ e. absurd (cc))
+    ∙ ap (with_first_event (events.DocumentEnd, s))
+    (start_is_told s (without_prefixes (record k { state = state.DocumentStart; states = ss })) tt))
+
+-- ## The marker
+
+abbrev pub ended_by : DocumentMarker → List Piece → Option Refusal → More
+ended_by w us e = record { Early = ⊥; marker = w; pieces = us; refusal = e }
+
+told_behind : (w : DocumentMarker) (s : Span) (k : Machine) → Awaits w k ⊎ ((w ≡ Ends) × IsBetweenDocuments k.state)
+    → happenings_of (remaining_answer (alone s k)) ≡ events_behind_marker w
+told_behind Ends s k (inl a) = ap happenings_of (start_is_told s k (subst IsBetweenDocuments (sym a) tt))
+told_behind Starts s k (inl a) =
+    let ss : List State = a.1.0 in
+    let same : k ≡ in_document ss k = ap (λ v. record k { state = v }) a.0
+    ∙ ap (λ v. record k { state = state.DocumentContent; states = v }) a.1.1 in
+    ap happenings_of (ap (λ v. remaining_answer (alone s v)) same ∙ content_told s ss k)
+told_behind w s k (inr a) = rw a.0 (ap happenings_of (start_is_told s k a.1))
+
+told_stopped :
+    (w : DocumentMarker) (s : Span) (k : Machine)
+    → IsStopped (ended_by w (record { span = s; kind = tokens.StreamEnd } ∷ []) None) k
+    → happenings_of (remaining_answer (longer (ended_by w (record { span = s; kind = tokens.StreamEnd } ∷ []) None) k))
+    ≡ events_behind_marker w
+told_stopped w s k (inl h) = absurd h
+told_stopped w s k (inr a) =
+    ap (λ ts. happenings_of (remaining_answer
+    (record k {
+      tokens = record { pieces = ts ++ record { span = s; kind = tokens.StreamEnd } ∷ []; refusal = None };
+    }))) a.0 ∙ told_behind w s k a.1
+
+its_own : (w : DocumentMarker) (x : Piece) → x.kind ≡ marker_token w → IsLastOr w ⊥ [] x.kind
+its_own Starts x e = rw e (inl (refl, refl))
+its_own Ends x e = rw e (inl (refl, refl))
+
+pub marker_ends : (w : DocumentMarker) (us : List Piece) (e : Option Refusal) (ts : List Piece) (x : Piece)
+    → x.kind ≡ marker_token w → End (ended_by w us e) (ts ++ x ∷ [])
+marker_ends w us e [] x is = its_own w x is
+marker_ends w us e (t ∷ ts) x is = or_last w _ (ts ++ x ∷ []) t.kind (marker_ends w us e ts x is)
+
+-- ## Whatever follows
+
+-- what is told before the stream's end, where more tokens follow
+first_told :
+    (w : DocumentMarker) (s : Span) (first : List Happening) (m : Machine) (a b : Answer)
+    → GoesOn (ended_by w (record { span = s; kind = tokens.StreamEnd } ∷ []) None) None m a b
+    → happenings_of b ≡ first ++ events_behind_marker w → GivesFirst first a
+first_told w s first m a b (inl e) t = (events_behind_marker w, ap happenings_of (sym e) ∙ t)
+first_told w s first m a b (inr g) t =
+    let behind : Answer = remaining_answer
+    (longer (ended_by w (record { span = s; kind = tokens.StreamEnd } ∷ []) None) g.1.0) in
+    let all : happenings_of b ≡ happenings_of a ++ happenings_of behind = ap happenings_of g.1.2
+    ∙ map-append (λ (e : Happening × Span). e.0) a.events behind.events in
+    let these : happenings_of a ++ events_behind_marker w ≡ first ++ events_behind_marker w =
+    ap (λ xs. happenings_of a ++ xs) (sym (told_stopped w s g.1.0 g.1.1)) ∙ sym all ∙ t in
+    ([], append_cancel_right (happenings_of a) first (events_behind_marker w) these ∙ sym (append-nil first))
+
+also_first : (z : More) (r : Option Refusal) (first : List Happening) (m : Machine) (a b : Answer) → GoesOn z r m a b
+    → GivesFirst first a → GivesFirst first b
+also_first z r first m a b (inl e) f = (f.0, ap happenings_of e ∙ f.1)
+also_first z r first m a b (inr g) f =
+    let behind : Answer = remaining_answer (longer z g.1.0) in (
+      f.0 ++ happenings_of behind,
+      ap happenings_of g.1.2 ∙ map-append (λ (e : Happening × Span). e.0) a.events behind.events
+          ∙ ap (λ xs. xs ++ happenings_of behind) f.1 ∙ append_assoc first f.0 (happenings_of behind),
+    )
+
+-- a machine at the start of tokens
+abbrev pub start : Bool → List Piece → Option Refusal → Machine
+start keep ts e = record (fresh_machine (record { pieces = ts; refusal = e })) { keep_tags = keep }
+
+tokens_close :
+    (keep : Bool) (w : DocumentMarker) (ts us : List Piece) (x : Piece) (s : Span) (e : Option Refusal)
+    (first : List Happening) → x.kind ≡ marker_token w
+    → happenings_of (remaining_answer (start keep ((ts ++ x ∷ []) ++ record { span = s; kind = tokens.StreamEnd } ∷ [])
+    None))
+    ≡ first ++ events_behind_marker w
+    → GivesFirst first (remaining_answer (start keep ((ts ++ x ∷ []) ++ us) e))
+tokens_close keep w ts us x s e first is t =
+    let m : Machine = start keep (ts ++ x ∷ []) None in
+    let end : List Piece = record { span = s; kind = tokens.StreamEnd } ∷ [] in
+    also_first (ended_by w us e) None first m _ _ (goes_on (ended_by w us e) m (inl (marker_ends w us e ts x is)))
+    (first_told w s first m _ _ (goes_on (ended_by w end None) m (inl (marker_ends w end None ts x is))) t)
+
+-- Tokens end with a marker's and the end of the stream, and give exactly these events. Where others follow the marker's
+-- token, the events up to and with the marker's come first.
+pub closed_tokens :
+    (keep : Bool) (w : DocumentMarker) (ts us : List Piece) (x y : Piece) (e : Option Refusal) (first : List Happening)
+    → x.kind ≡ marker_token w → y.kind ≡ tokens.StreamEnd
+    → GivesExactly (first ++ events_behind_marker w) (answer_of_tokens keep (ts ++ x ∷ y ∷ []))
+    → GivesFirst first (to_come (keeping_tags keep (at_start (record { pieces = ts ++ x ∷ us; refusal = e }))))
+closed_tokens keep w ts us x y e first is ends g =
+    let same : (vs : List Piece) → (ts ++ x ∷ []) ++ vs ≡ ts ++ x ∷ vs = λ vs. append_assoc ts (x ∷ []) vs in
+    let the_end : y ≡ record { span = y.span; kind = tokens.StreamEnd } =
+    ap (λ k. record { span = y.span; kind = k }) ends in
+    let given : happenings_of (remaining_answer
+    (start keep ((ts ++ x ∷ []) ++ record { span = y.span; kind = tokens.StreamEnd } ∷ []) None))
+    ≡ first ++ events_behind_marker w =
+    ap (λ vs. happenings_of (remaining_answer (start keep vs None))) (same _ ∙ ap (λ v. ts ++ x ∷ v ∷ []) (sym the_end))
+    ∙ g.1 in
+    subst (λ vs. GivesFirst first (remaining_answer (start keep vs e))) (same us)
+    (tokens_close keep w ts us x y.span e first is given)

@@ -1,0 +1,139 @@
+-- A text of JSON has events, since its forest has no aliases, anchors and tags.
+use Rattle.std.proofs.Common.{◌≡◌, ℕ, Bool, List, [], ◌∷◌, ◌++◌, Option, Some, None, option_map, encode_utf8_all, refl, ◌∙◌, ap}
+use Rattle.saphyr_scanner.specs.Grammar.Forest.{Plain, SingleQuoted, DoubleQuoted, Literal, Folded, Properties, no_properties, Node, Alias, Nodes, NoNode, MoreNodes, Pairs, NoPair, MorePairs, Forest}
+use Rattle.saphyr_scanner.specs.Grammar.Forest as forest
+use Rattle.json_laws.specs.Grammar.Json.{IsMemberName, IsValue, AreElements, AreOtherElements, AreMembers, AreOtherMembers, IsJson}
+use Rattle.event_laws.specs.Preorder.{Part, OpenStream, CloseStream, OpenDocument, CloseDocument, Reference, Leaf, OpenSequence, CloseSequence, OpenMapping, CloseMapping, node_parts, entry_parts, pair_parts, parts}
+use Rattle.saphyr_machine.specs.Events.{Happening, StreamStart, StreamEnd, DocumentStart, DocumentEnd, Scalar, SequenceStart, SequenceEnd, MappingStart, MappingEnd}
+use Rattle.event_laws.specs.Anchors.{anchor_of, one_more_anchor, anchors, own_id}
+use Rattle.event_laws.specs.TagResolution.{any_resolution}
+use Rattle.event_laws.specs.ForestEvents.{first_and_others, event_of_part, events_behind, events}
+
+abbrev IsBarePart : Part → Type 0
+IsBarePart (Reference _) = ⊥
+IsBarePart (Leaf p _ _) = p ≡ no_properties
+IsBarePart (OpenSequence p) = p ≡ no_properties
+IsBarePart (OpenMapping p) = p ≡ no_properties
+IsBarePart _ = Unit {0}
+
+abbrev AreBare : List Part → Type 0
+AreBare [] = Unit {0}
+AreBare (p ∷ ps) = IsBarePart p × AreBare ps
+
+abbrev Has : Option Happening → Type 0
+Has o = (e : Happening) × (o ≡ Some e)
+
+bare_event : (keep : Bool) (front : List Part) (p : Part) → IsBarePart p → Has (event_of_part keep front p)
+bare_event keep front (Reference x) h = elim h [ ]
+bare_event keep front (Leaf p s v) h = (
+  Scalar (encode_utf8_all v) s 0 None,
+  ap
+      (λ (q : Properties). option_map (Scalar (encode_utf8_all v) s (own_id front q.anchor))
+      (any_resolution keep q.tag front)) h,
+)
+bare_event keep front (OpenSequence p) h = (
+  SequenceStart 0 None,
+  ap
+      (λ (q : Properties). option_map (SequenceStart (own_id front q.anchor)) (any_resolution keep q.tag front)) h,
+)
+bare_event keep front (OpenMapping p) h = (
+  MappingStart 0 None,
+  ap
+      (λ (q : Properties). option_map (MappingStart (own_id front q.anchor)) (any_resolution keep q.tag front)) h,
+)
+bare_event keep front OpenStream h = (StreamStart, refl)
+bare_event keep front CloseStream h = (StreamEnd, refl)
+bare_event keep front (OpenDocument explicit ds) h = (DocumentStart explicit, refl)
+bare_event keep front CloseDocument h = (DocumentEnd, refl)
+bare_event keep front CloseSequence h = (SequenceEnd, refl)
+bare_event keep front CloseMapping h = (MappingEnd, refl)
+
+bare_events : (keep : Bool) (front ps : List Part) → AreBare ps
+    → (es : List Happening) × (events_behind keep front ps ≡ Some es)
+bare_events keep front [] h = ([], refl)
+bare_events keep front (p ∷ ps) h =
+    let first : Has (event_of_part keep front p) = bare_event keep front p h.0 in
+    let others : (es : List Happening) × (events_behind keep (p ∷ front) ps ≡ Some es) =
+    bare_events keep (p ∷ front) ps h.1 in (
+      first.0 ∷ others.0,
+      ap (λ o. first_and_others o (events_behind keep (p ∷ front) ps)) first.1
+          ∙ ap (first_and_others (Some first.0)) others.1,
+    )
+
+joined_are_bare : (ps qs : List Part) → AreBare ps → AreBare qs → AreBare (ps ++ qs)
+joined_are_bare [] qs h k = k
+joined_are_bare (p ∷ ps) qs h k = (h.0, joined_are_bare ps qs h.1 k)
+
+member_name_is_bare : (n : Node) (t : List ℕ) → IsMemberName n t → AreBare (node_parts n)
+member_name_is_bare (forest.Scalar p DoubleQuoted v) t h = (h.0, tt)
+member_name_is_bare (forest.Scalar p Plain v) t h = elim h [ ]
+member_name_is_bare (forest.Scalar p SingleQuoted v) t h = elim h [ ]
+member_name_is_bare (forest.Scalar p Literal v) t h = elim h [ ]
+member_name_is_bare (forest.Scalar p Folded v) t h = elim h [ ]
+member_name_is_bare (Alias x) t h = elim h [ ]
+member_name_is_bare (forest.Seq p ns) t h = elim h [ ]
+member_name_is_bare (forest.Map p ps) t h = elim h [ ]
+
+mutual
+  value : (n : Node) (t : List ℕ) → IsValue n t → AreBare (node_parts n)
+  value (forest.Scalar p Plain v) t h = (h.0, tt)
+  value (forest.Scalar p DoubleQuoted v) t h = (h.0, tt)
+  value (forest.Scalar p SingleQuoted v) t h = elim h [ ]
+  value (forest.Scalar p Literal v) t h = elim h [ ]
+  value (forest.Scalar p Folded v) t h = elim h [ ]
+  value (Alias x) t h = elim h [ ]
+  value (forest.Seq p ns) t h =
+      (h.3, joined_are_bare (entry_parts ns) (CloseSequence ∷ []) (elements ns h.1 h.5) (tt, tt))
+  value (forest.Map p ps) t h = (h.3, joined_are_bare (pair_parts ps) (CloseMapping ∷ []) (members ps h.1 h.5) (tt, tt))
+
+  elements : (ns : Nodes) (t : List ℕ) → AreElements ns t → AreBare (entry_parts ns)
+  elements NoNode t h = tt
+  elements (MoreNodes n ns) t h =
+      joined_are_bare (node_parts n) (entry_parts ns) (value n h.0 h.2) (other_elements ns h.1 h.3)
+
+  other_elements : (ns : Nodes) (t : List ℕ) → AreOtherElements ns t → AreBare (entry_parts ns)
+  other_elements NoNode t h = tt
+  other_elements (MoreNodes n ns) t h =
+      joined_are_bare (node_parts n) (entry_parts ns) (value n h.1 h.4) (other_elements ns h.2 h.5)
+
+  members : (ps : Pairs) (t : List ℕ) → AreMembers ps t → AreBare (pair_parts ps)
+  members NoPair t h = tt
+  members (MorePairs k v ps) t h =
+      joined_are_bare (node_parts k) (node_parts v ++ pair_parts ps) (member_name_is_bare k h.0 h.4)
+      (joined_are_bare (node_parts v) (pair_parts ps) (value v h.2 h.6) (other_members ps h.3 h.7))
+
+  other_members : (ps : Pairs) (t : List ℕ) → AreOtherMembers ps t → AreBare (pair_parts ps)
+  other_members NoPair t h = tt
+  other_members (MorePairs k v ps) t h =
+      joined_are_bare (node_parts k) (node_parts v ++ pair_parts ps) (member_name_is_bare k h.1 h.6)
+      (joined_are_bare (node_parts v) (pair_parts ps) (value v h.3 h.8) (other_members ps h.4 h.9))
+
+json_is_bare : (f : Forest) (text : List ℕ) → IsJson f text → AreBare (parts f)
+json_is_bare (d ∷ []) text h = (
+  tt,
+  (
+    tt,
+    joined_are_bare (node_parts d.node) (CloseDocument ∷ CloseStream ∷ []) (value d.node h.1.1 h.1.4)
+        (tt, (tt, tt)),
+  ),
+)
+json_is_bare [] text h = elim h [ ]
+json_is_bare (d ∷ (_ ∷ _)) text h = elim h [ ]
+
+pub json_has_events : (f : Forest) (text : List ℕ) (keep : Bool) → IsJson f text
+    → (es : List Happening) × (events f keep ≡ Some es)
+json_has_events f text keep h = bare_events keep [] (parts f) (json_is_bare f text h)
+
+no_anchor : (p : Part) → IsBarePart p → anchor_of p ≡ None
+no_anchor (Leaf p s v) h = ap (λ (q : Properties). option_map encode_utf8_all q.anchor) h
+no_anchor (OpenSequence p) h = ap (λ (q : Properties). option_map encode_utf8_all q.anchor) h
+no_anchor (OpenMapping p) h = ap (λ (q : Properties). option_map encode_utf8_all q.anchor) h
+no_anchor _ h = refl
+
+bare_parts_without_anchors : (ps : List Part) → AreBare ps → anchors ps ≡ 0
+bare_parts_without_anchors [] h = refl
+bare_parts_without_anchors (p ∷ ps) h = ap (λ o. one_more_anchor o (anchors ps)) (no_anchor p h.0)
+    ∙ bare_parts_without_anchors ps h.1
+
+pub json_has_no_anchors : (f : Forest) (text : List ℕ) → IsJson f text → anchors (parts f) ≡ 0
+json_has_no_anchors f text h = bare_parts_without_anchors (parts f) (json_is_bare f text h)

@@ -1,0 +1,38 @@
+-- A parser gives exactly the events of a text of any grammar whose tokens are those of its forests.
+use Rattle.std.proofs.Common.{◌≡◌, ◌+◌, ◌*◌, ◌≤◌, ◌<◌, ◌^◌, ℕ, List, length, sym, subst, arith}
+use Rattle.std.proofs.lemmas.List.{length-map}
+use Rattle.saphyr_scanner.specs.Grammar.Forest.{Forest}
+use Rattle.saphyr_scanner.specs.Steps.Remaining.{Scans, scan}
+use Rattle.saphyr_scanner.specs.Views.Tokens.{Piece}
+use Rattle.saphyr_scanner.specs.Grammar.TokenGrammar.{Yields}
+use Rattle.saphyr_scanner.specs.Grammar.Tokens.{Kind}
+use Rattle.event_laws.specs.Anchors.{anchors}
+use Rattle.event_laws.specs.Preorder.{parts}
+use Rattle.saphyr_machine.specs.Cursor.{EventCursor, at_start, keeping_tags, to_come}
+use Rattle.event_laws.specs.Exactly.{GivesExactly, kinds}
+use Rattle.event_laws.specs.Premises.{Grammar, ReadsEach}
+use Rattle.event_laws.proofs.AnchorCount.{forest_count}
+use Rattle.event_laws.proofs.Promises.Forests.{each_parsed}
+
+-- the tokens of a text within the limit are those of each of its forests
+abbrev pub ScansForests : Grammar → ℕ → List ℕ → Type 0
+ScansForests G limit text =
+    (forest : Forest) → G forest text → length text ≤ limit
+    → (tokens : List Kind) × Yields forest tokens × Scans tokens (scan limit text)
+
+few_anchors : (forest : Forest) (limit : ℕ) (text : List ℕ) → Yields forest (kinds (scan limit text).pieces)
+    → length (scan limit text).pieces ≤ 5 * limit + 10 → limit ≤ 4294967295 → anchors (parts forest) < 2 ^ 64
+few_anchors forest limit text yields bound most =
+    let count = forest_count forest (kinds (scan limit text).pieces) yields in
+    let same = length-map (scan limit text).pieces (λ (t : Piece). t.kind) in
+    omega (arith, count, same, bound, most)
+
+pub reads_each : (G : Grammar) (limit : ℕ) (text : List ℕ) → limit ≤ 4294967295
+    → length (scan limit text).pieces ≤ 5 * limit + 10 → ScansForests G limit text → (c : EventCursor)
+    → c ≡ at_start (scan limit text) → ReadsEach G limit text c
+reads_each G limit text most bound scans c is forest keep told promised =
+    let scanned = scans forest promised.stands_for promised.within in
+    let yields = subst (Yields forest) (sym scanned.2.1) scanned.1 in
+    subst (λ (x : EventCursor). GivesExactly told (to_come (keeping_tags keep x))) (sym is)
+    (each_parsed forest keep (scan limit text) told yields scanned.2.0 (few_anchors forest limit text yields bound most)
+    promised.has_events)

@@ -1,0 +1,272 @@
+-- The events of any tokens are a beginning of some forest's.
+use Rattle.event_laws.specs.EventsTaken.{BeginsSomeForest, HaveTokens, IsAllUnless, IsCut}
+use Rattle.event_laws.specs.EventsTaken as taking
+use Rattle.event_laws.proofs.OwnTokens.{HasOwn, own_more}
+use Rattle.std.proofs.Common.{◌≡◌, ◌≢◌, ℕ, zero, suc, ◌+◌, ◌<◌, ◌≤◌, ◌^◌, Bool, true, false, List, [], ◌∷◌, ◌++◌, length, Option, Some, None, Result, Ok, Err, refl, sym, ap, ◌∙◌, subst, inl, inr, append_assoc, append-nil, arith, length-append}
+use Rattle.saphyr_scalar.specs.declared.scalar.fault.Refusal.{Refusal}
+use Rattle.saphyr_scanner.specs.Grammar.Forest.{Forest}
+use Rattle.saphyr_scanner.specs.Grammar.Tokens.{Kind}
+use Rattle.saphyr_scanner.specs.Views.Tokens.{Piece, Remaining}
+use Rattle.saphyr_scanner.specs.Grammar.TokenGrammar.{Yields}
+use Rattle.saphyr_machine.specs.declared.state.State.{State}
+use Rattle.saphyr_machine.specs.declared.state.State.TheVariants as state
+use Rattle.event_laws.specs.Anchors.{one_more_anchor, anchor_of, anchors}
+use Rattle.event_laws.specs.Preorder.{Part, parts}
+use Rattle.saphyr_machine.specs.Events.{Happening}
+use Rattle.event_laws.specs.ForestEvents.{first_and_others, events}
+use Rattle.event_laws.specs.Exactly.{kinds}
+use Rattle.saphyr_machine.specs.Steps.Machine.{Machine, Told}
+use Rattle.saphyr_machine.specs.Steps.Expected.{event_step, event_step_at}
+use Rattle.saphyr_machine.specs.Answer.{Answer, empty_answer, with_first_event, ending_of, fault_alone, answer_of_step, remaining_answer, machine_size}
+use Rattle.saphyr_machine.specs.Cursor.{at_start, keeping_tags, to_come}
+use Rattle.event_laws.specs.WellFormed.{AreWellFormed}
+use Rattle.event_laws.proofs.Told.Telling.{Memory}
+use Rattle.event_laws.proofs.Remembering.{after, event_in, events_in}
+use Rattle.event_laws.proofs.MemoryFits.{Within, same_events}
+use Rattle.event_laws.proofs.Promises.Forests.{documents_within, all_compatible, at_first, fits_start}
+use Rattle.saphyr_machine.proofs.Unroll.{unroll, over, shrinks_at}
+use Rattle.event_laws.proofs.Turned.Following.{IsAlive, IsOutside, IsInsideDocument}
+use Rattle.event_laws.proofs.Turned.Turning.{machine, memory, Goes, Turned, weaker, kinds_append}
+use Rattle.event_laws.proofs.Turned.Entries.{Wanted}
+use Rattle.event_laws.proofs.Turned.Sequences as sequence
+use Rattle.event_laws.proofs.Turned.Mappings as mapping
+use Rattle.event_laws.proofs.Turned.Block as block
+use Rattle.event_laws.proofs.Turned.Documents.{Over, MovesOn, moves}
+use Rattle.event_laws.proofs.Turned.Documents as document
+use Rattle.event_laws.proofs.Turned.DocumentEnds as behind
+use Rattle.event_laws.proofs.Completions.{Completion, completed, quiet_events, some_events, quiet_anchors}
+use Rattle.event_laws.proofs.Happenings.{happenings_of}
+
+-- ## Each step
+
+-- a state before which any token may stand
+plainly : (F G : List Kind → List Part → Type 0) (e : Memory) (k : List Piece) (r : Result Told Refusal)
+    → ((ks : List Kind) (ps : List Part) → F ks ps → G ks ps) → Turned F e k r → MovesOn G e k r
+plainly F G e k r i h = moves G e k r (weaker F G e k r i h)
+
+outside_moves : (s x : State) (ts : List Piece) (r : Option Refusal) (e : Memory) → AreWellFormed ts → IsOutside s
+    → MovesOn (Wanted s [] (kinds ts)) e ts (event_step_at s (machine ts r x [] e))
+outside_moves state.StreamStart x ts r e w i =
+    moves (Wanted state.StreamStart [] (kinds ts)) e ts _ (document.stream_turned ts r x e)
+outside_moves state.ImplicitDocumentStart x ts r e w i = document.implicit_moves ts r x e w
+outside_moves state.DocumentStart x ts r e w i = document.explicit_moves ts r x e w
+outside_moves state.DocumentEnd x ts r e w i =
+    plainly _ (Wanted state.DocumentEnd [] (kinds ts)) e ts _ (λ ks ps f. (f, tt)) (behind.document_end_turned ts r x e)
+outside_moves _ x ts r e w i = elim i [ ]
+
+inside_moves : (s x o : State) (ss : List State) (ts : List Piece) (r : Option Refusal) (e : Memory) → AreWellFormed ts
+    → IsInsideDocument s → IsAlive o ss → MovesOn (Wanted s (o ∷ ss) (kinds ts)) e ts
+    (event_step_at s (machine ts r x (o ∷ ss) e))
+inside_moves state.DocumentContent x o ss ts r e w i a =
+    plainly _ (Wanted state.DocumentContent (o ∷ ss) (kinds ts)) e ts _ (λ ks ps f. (f, tt))
+    (behind.content_turned ts r x o ss e w a)
+inside_moves state.BlockNode x o ss ts r e w i a =
+    plainly _ (Wanted state.BlockNode (o ∷ ss) (kinds ts)) e ts _ (λ ks ps f. (f, tt))
+    (behind.block_node_turned ts r x o ss e w a)
+inside_moves state.BlockSequenceEntry x o ss ts r e w i a =
+    plainly _ (Wanted state.BlockSequenceEntry (o ∷ ss) (kinds ts)) e ts _ (λ ks ps f. (f, tt))
+    (block.sequence_entry_turned ts r x o ss e w a)
+inside_moves state.IndentlessSequenceEntry x o ss ts r e w i a =
+    moves (Wanted state.IndentlessSequenceEntry (o ∷ ss) (kinds ts)) e ts _
+    (block.indentless_entry_turned ts r x o ss e w a)
+inside_moves state.BlockMappingKey x o ss ts r e w i a =
+    moves (Wanted state.BlockMappingKey (o ∷ ss) (kinds ts)) e ts _ (block.mapping_key_turned ts r x o ss e w a)
+inside_moves state.BlockMappingValue x o ss ts r e w i a =
+    moves (Wanted state.BlockMappingValue (o ∷ ss) (kinds ts)) e ts _ (block.mapping_value_turned ts r x o ss e w a)
+inside_moves state.FlowSequenceFirstEntry x o ss ts r e w i a =
+    plainly _ (Wanted state.FlowSequenceFirstEntry (o ∷ ss) (kinds ts)) e ts _ (λ ks ps f. (f, tt))
+    (sequence.first_entry_turned ts r x o ss e w a)
+inside_moves state.FlowSequenceEntry x o ss ts r e w i a =
+    plainly _ (Wanted state.FlowSequenceEntry (o ∷ ss) (kinds ts)) e ts _ (λ ks ps f. (f, tt))
+    (sequence.other_entry_turned ts r x o ss e w a)
+inside_moves state.FlowSequenceEntryMappingKey x o ss ts r e w i a =
+    plainly _ (Wanted state.FlowSequenceEntryMappingKey (o ∷ ss) (kinds ts)) e ts _ (λ ks ps f. (f, tt))
+    (sequence.pair_key_turned ts r x o ss e w a)
+inside_moves state.FlowSequenceEntryMappingValue x o ss ts r e w i a =
+    plainly _ (Wanted state.FlowSequenceEntryMappingValue (o ∷ ss) (kinds ts)) e ts _ (λ ks ps f. (f, tt))
+    (sequence.pair_value_turned ts r x o ss e w a)
+inside_moves (state.FlowSequenceEntryMappingEnd place) x o ss ts r e w i a =
+    plainly _ (Wanted (state.FlowSequenceEntryMappingEnd place) (o ∷ ss) (kinds ts)) e ts _ (λ ks ps f. (f, tt))
+    (sequence.pair_end_turned place ts r x o ss e a)
+inside_moves state.FlowMappingFirstKey x o ss ts r e w i a =
+    plainly _ (Wanted state.FlowMappingFirstKey (o ∷ ss) (kinds ts)) e ts _ (λ ks ps f. (f, tt))
+    (mapping.first_pair_turned ts r x o ss e w a)
+inside_moves state.FlowMappingKey x o ss ts r e w i a =
+    plainly _ (Wanted state.FlowMappingKey (o ∷ ss) (kinds ts)) e ts _ (λ ks ps f. (f, tt))
+    (mapping.other_pair_turned ts r x o ss e w a)
+inside_moves state.FlowMappingValue x o ss ts r e w i a =
+    moves (Wanted state.FlowMappingValue (o ∷ ss) (kinds ts)) e ts _ (mapping.mapping_value_turned ts r x o ss e w a)
+inside_moves state.FlowMappingEmptyValue x o ss ts r e w i a =
+    plainly _ (Wanted state.FlowMappingEmptyValue (o ∷ ss) (kinds ts)) e ts _ (λ ks ps f. (f, tt))
+    (mapping.empty_value_turned ts r x o ss e a)
+inside_moves _ x o ss ts r e w i a = elim i [ ]
+
+step_moves : (s x : State) (ss : List State) (ts : List Piece) (r : Option Refusal) (e : Memory) → AreWellFormed ts
+    → IsAlive s ss → MovesOn (Wanted s ss (kinds ts)) e ts (event_step_at s (machine ts r x ss e))
+step_moves s x [] ts r e w a = outside_moves s x ts r e w a
+step_moves s x (o ∷ ss) ts r e w a = inside_moves s x o ss ts r e w a.0 a.1
+
+-- ## All steps
+
+-- The events are a beginning of those of some parts that may follow, by a beginning of their tokens.
+pub record BeginsSomeParts (s : State) (ss : List State) (ts : List Piece) (e : Memory) (a : Answer) : Type 0 where
+  pub read : List Piece
+  pub unread : List Piece
+  pub expected : List Kind
+  pub parts : List Part
+  pub missing : List Happening
+  pub are_read : ts ≡ read ++ unread
+  pub wanted : Wanted s ss (kinds ts) (kinds read ++ expected) parts
+  pub told : events_in e parts ≡ Some (happenings_of a ++ missing)
+  pub few : anchors parts ≤ length read
+  pub places : HaveTokens unread a.events read
+  pub all_read : IsAllUnless a.fault unread
+  pub all_expected : IsAllUnless a.fault expected
+  pub all_given : IsCut a.fault missing
+
+finishes_at_fault : (s : State) (ss : List State) (ts : List Piece) (e : Memory) (f : Refusal) → IsAlive s ss
+    → BeginsSomeParts s ss ts e (fault_alone (ending_of f))
+finishes_at_fault s ss ts e f a =
+    let c : Completion s ss = completed ss s a in
+    let es : (es : List Happening) × (events_in e c.parts ≡ Some es) = quiet_events c.parts e c.quiet in
+    record {
+      read = [];
+      unread = ts;
+      expected = c.kinds;
+      parts = c.parts;
+      missing = es.0;
+      are_read = refl;
+      wanted = (c.follows, c.starts (kinds ts));
+      told = es.1;
+      few = (let n = quiet_anchors c.parts c.quiet in omega (arith, n));
+      places = taking.nothing [];
+      all_read = tt;
+      all_expected = tt;
+      all_given = some_events c.parts e c.quiet c.some;
+    }
+
+events_joined : (part : Part) (ps : List Part) (e : Memory) (w : Happening) (es : List Happening)
+    → event_in e part ≡ Some w
+    → events_in (after part e) ps ≡ Some es → events_in e (part ∷ ps) ≡ Some (w ∷ es)
+events_joined part ps e w es h k =
+    ap (λ (o : Option Happening). first_and_others o (events_in (after part e) ps)) h ∙ ap (first_and_others (Some w)) k
+
+more_anchors : (o : Option (List ℕ)) (n a b : ℕ) → one_more_anchor o 0 ≤ a → n ≤ b → one_more_anchor o n ≤ a + b
+more_anchors None n a b h k = omega (arith, h, k)
+more_anchors (Some x) n a b h k = omega (arith, h, k)
+
+finishes_behind_event : (s : State) (ss : List State) (ts : List Piece) (e : Memory) (x : Told) (a : Answer)
+    → Goes (Wanted s ss (kinds ts)) e ts x
+    → BeginsSomeParts x.machine.state x.machine.states x.machine.tokens.pieces (memory x.machine) a
+    → BeginsSomeParts s ss ts e (with_first_event (x.what, x.span) a)
+finishes_behind_event s ss ts e x a g h = record {
+  read = g.used ++ h.read;
+  unread = h.unread;
+  expected = h.expected;
+  parts = g.part ∷ h.parts;
+  missing = h.missing;
+  are_read = g.taken ∙ ap (λ (l : List Piece). g.used ++ l) h.are_read ∙ sym (append_assoc g.used h.read h.unread);
+  wanted = subst (λ (l : List Kind). Wanted s ss (kinds ts) l (g.part ∷ h.parts))
+      (sym (ap (λ (l : List Kind). l ++ h.expected) (kinds_append g.used h.read)
+      ∙ append_assoc (kinds g.used) (kinds h.read) h.expected))
+      (g.makes (kinds h.read ++ h.expected) h.parts h.wanted.0 h.wanted.1);
+  told = events_joined g.part h.parts e x.what (happenings_of a ++ h.missing) g.tells
+      (subst (λ (m : Memory). events_in m h.parts ≡ Some (happenings_of a ++ h.missing)) g.remembers h.told);
+  few = (let l = length-append g.used h.read in let m =
+      more_anchors (anchor_of g.part) (anchors h.parts) (length g.used) (length h.read) g.few h.few in
+      omega (arith, l, m));
+  places = own_more g.used h.read h.unread x.what x.span a.events
+      (subst (HasOwn g.used x.what x.span) h.are_read g.places) h.places;
+  all_read = h.all_read;
+  all_expected = h.all_expected;
+  all_given = h.all_given;
+}
+
+is_over : (s : State) (ss : List State) (ts : List Piece) (e : Memory) (x : Told) → Over (Wanted s ss (kinds ts)) e ts x
+    → BeginsSomeParts s ss ts e (with_first_event (x.what, x.span) empty_answer)
+is_over s ss ts e x o = record {
+  read = ts;
+  unread = [];
+  expected = [];
+  parts = o.part ∷ [];
+  missing = [];
+  are_read = sym (append-nil ts);
+  wanted = subst (λ (l : List Kind). Wanted s ss (kinds ts) l (o.part ∷ [])) (sym (append-nil (kinds ts))) o.makes;
+  told = events_joined o.part [] e x.what [] o.tells refl;
+  few = o.few;
+  places = subst (λ (l : List Piece). HaveTokens [] ((x.what, x.span) ∷ []) l) (append-nil ts)
+      (own_more ts [] [] x.what x.span [] o.places (taking.nothing []));
+  all_read = refl;
+  all_expected = refl;
+  all_given = refl;
+}
+
+behind_used : (used ts us : List Piece) → ts ≡ used ++ us → AreWellFormed ts → AreWellFormed us
+behind_used [] ts us e w = subst AreWellFormed e w
+behind_used (t ∷ used) ts us e w = behind_used used (used ++ us) us refl ((subst AreWellFormed e w).2)
+
+alive_is_no_end : (s : State) (ss : List State) → IsAlive s ss → s ≢ state.End
+alive_is_no_end s [] a e = subst IsOutside e a
+alive_is_no_end s (o ∷ ss) a e = subst IsInsideDocument e a.0
+
+finishes : (n : ℕ) (m : Machine) → machine_size m < n → AreWellFormed m.tokens.pieces → IsAlive m.state m.states
+    → BeginsSomeParts m.state m.states m.tokens.pieces (memory m) (remaining_answer m)
+unfolding event_step
+finishes zero m l w a = absurd (omega (arith, l))
+finishes (suc n) m l w a =
+    subst (λ (b : Answer). BeginsSomeParts m.state m.states m.tokens.pieces (memory m) b)
+    (sym (unroll m (alive_is_no_end m.state m.states a)))
+    (by (event_step m) refl (step_moves m.state m.state m.states m.tokens.pieces m.tokens.refusal (memory m) w a)
+    (λ k. finishes n k))
+  where
+    by : (r : Result Told Refusal) → event_step m ≡ r
+        → MovesOn (Wanted m.state m.states (kinds m.tokens.pieces)) (memory m) m.tokens.pieces r
+        → ((k : Machine) → machine_size k < n → AreWellFormed k.tokens.pieces → IsAlive k.state k.states
+        → BeginsSomeParts k.state k.states k.tokens.pieces (memory k) (remaining_answer k))
+        → BeginsSomeParts m.state m.states m.tokens.pieces (memory m) (answer_of_step r remaining_answer)
+    by (Err f) e h go = finishes_at_fault m.state m.states m.tokens.pieces (memory m) f a
+    by (Ok x) e (inl g) go =
+        finishes_behind_event m.state m.states m.tokens.pieces (memory m) x (remaining_answer x.machine) g
+        (go x.machine (let s = shrinks_at (machine_size m) m x (omega arith) e in omega (arith, l, s))
+        (behind_used g.used m.tokens.pieces x.machine.tokens.pieces g.taken w) g.alive)
+    by (Ok x) e (inr o) go =
+        subst (λ (b : Answer). BeginsSomeParts m.state m.states m.tokens.pieces (memory m)
+        (with_first_event (x.what, x.span) b))
+        (sym (over x.machine o.is_over)) (is_over m.state m.states m.tokens.pieces (memory m) x o)
+
+-- ## From the start
+
+from_start : (tokens : Remaining) (keep : Bool) (a : Answer) → length tokens.pieces < 2 ^ 64
+    → BeginsSomeParts state.StreamStart [] tokens.pieces (at_first keep) a → BeginsSomeForest keep tokens a
+from_start tokens keep a l h =
+    let f : Forest = h.wanted.0.0 in
+    let yielded : Yields f (kinds h.read ++ h.expected) = h.wanted.0.1 in
+    let are : h.parts ≡ parts f = h.wanted.0.2 in
+    let within : Within false (parts f) = (tt, documents_within f (all_compatible f true yielded.1 yielded.3)) in
+    let count : anchors (parts f) ≤ length h.read = subst (λ (ps : List Part). anchors ps ≤ length h.read) are h.few in
+    let few : anchors (parts f) < 2 ^ 64 =
+    (let b = ap length h.are_read in let c = length-append h.read h.unread in omega (arith, l, b, c, count)) in
+    let same : events_in (at_first keep) (parts f) ≡ events f keep =
+    same_events (parts f) false keep [] (at_first keep) within (fits_start keep) (omega (arith, few)) in (
+      f,
+      record {
+        read = h.read;
+        unread = h.unread;
+        are_read = h.are_read;
+        expected = h.expected;
+        yielded = yielded;
+        missing = h.missing;
+        are_events = sym same
+            ∙ subst (λ (ps : List Part). events_in (at_first keep) ps ≡ Some (happenings_of a ++ h.missing)) are h.told;
+        places = h.places;
+        all_read = h.all_read;
+        all_expected = h.all_expected;
+        all_given = h.all_given;
+      },
+    )
+
+pub begins : (tokens : Remaining) (keep : Bool) → AreWellFormed tokens.pieces → length tokens.pieces < 2 ^ 64
+    → BeginsSomeForest keep tokens (to_come (keeping_tags keep (at_start tokens)))
+begins tokens keep w l =
+    let m : Machine = machine tokens.pieces tokens.refusal state.StreamStart [] (at_first keep) in
+    from_start tokens keep (remaining_answer m) l (finishes (suc (machine_size m)) m (omega arith) w tt)

@@ -1,0 +1,238 @@
+-- The entries of block collections are told.
+use Rattle.std.proofs.Common.{◌≡◌, List, ◌∷◌, ◌++◌, refl, subst, sym, inl, inr}
+use Rattle.saphyr_scanner.specs.Grammar.Forest.{Node}
+use Rattle.saphyr_scanner.specs.Grammar.Forest as forest
+use Rattle.saphyr_scanner.specs.Grammar.Tokens.{Kind, BlockEntry, BlockEnd, Key, Value}
+use Rattle.saphyr_scanner.specs.Grammar.TokenGrammar.{InBlock, InBlockMapping, YieldsOptional, YieldsMarkedKey, YieldsMarkedValue, YieldsBlockPair, BeginsWithValue, YieldsNode}
+use Rattle.saphyr_machine.specs.declared.context.NodeContext.TheVariants.{Block, BlockMapping}
+use Rattle.saphyr_machine.specs.declared.state.State.{State}
+use Rattle.saphyr_machine.specs.declared.state.State.TheVariants as state
+use Rattle.event_laws.specs.Preorder.{Part, node_parts}
+use Rattle.saphyr_machine.specs.Steps.Machine.{told_event}
+use Rattle.saphyr_machine.specs.Events.{empty_scalar}
+use Rattle.saphyr_machine.specs.Steps.Block.{block_sequence_entry, block_sequence_node, indentless_sequence_entry, indentless_sequence_node, block_mapping_key, block_key_node, block_mapping_value, block_value_node}
+use Rattle.saphyr_machine.specs.Steps.Expected.{event_step}
+use Rattle.event_laws.proofs.Told.Telling.{SpansByKinds, Memory, at}
+use Rattle.event_laws.proofs.Remembering.{after_node, TellsParts}
+use Rattle.event_laws.proofs.Told.Nodes.{next_node}
+use Rattle.event_laws.proofs.NodeStarts.{Starts, MayFollow, NodeSays, skipped, enters_or_skips, marked_tokens}
+
+-- ## Entries of sequences
+
+-- what stands behind an entry
+abbrev pub EndsBlockEntry : Kind → Type 0
+EndsBlockEntry BlockEntry = Unit {0}
+EndsBlockEntry BlockEnd = Unit {0}
+EndsBlockEntry _ = ⊥
+
+entry_end_follows : (k : Kind) → EndsBlockEntry k → MayFollow InBlock k
+entry_end_follows BlockEntry h = tt
+entry_end_follows BlockEnd h = tt
+entry_end_follows _ h = elim h [ ]
+
+entry_begins : (f : SpansByKinds) (j : Kind) (l : List Kind) (ss : List State) (e : Memory) → Starts InBlock j
+    → event_step (at f (BlockEntry ∷ j ∷ l) state.BlockSequenceEntry ss e)
+    ≡ next_node Block (at f (j ∷ l) state.BlockSequenceEntry (state.BlockSequenceEntry ∷ ss) e)
+unfolding event_step block_sequence_entry block_sequence_node
+entry_begins f BlockEntry l ss e h = elim h [ ]
+entry_begins f BlockEnd l ss e h = elim h [ ]
+entry_begins f _ l ss e h = refl
+
+entry_is_left_out : (f : SpansByKinds) (k : Kind) (ks : List Kind) (ss : List State) (e : Memory) → EndsBlockEntry k
+    → event_step (at f (BlockEntry ∷ k ∷ ks) state.BlockSequenceEntry ss e)
+    ≡ told_event empty_scalar (f (k ∷ ks)) (at f (k ∷ ks) state.BlockSequenceEntry ss e)
+unfolding event_step block_sequence_entry block_sequence_node
+entry_is_left_out f BlockEntry ks ss e h = refl
+entry_is_left_out f BlockEnd ks ss e h = refl
+entry_is_left_out f _ ks ss e h = elim h [ ]
+
+pub entry_says : (n : Node) (t : List Kind) → YieldsOptional n (YieldsNode n InBlock) t
+    → (YieldsNode n InBlock t → NodeSays n InBlock t)
+    → (f : SpansByKinds) (k : Kind) (ks : List Kind) (ss : List State) (e : Memory) (ps : List Part) → EndsBlockEntry k
+    → TellsParts f (k ∷ ks) state.BlockSequenceEntry ss (after_node n e) ps
+    → TellsParts f (BlockEntry ∷ (t ++ k ∷ ks)) state.BlockSequenceEntry ss e (node_parts n ++ ps)
+entry_says n t h g f k ks ss e ps z l =
+    enters_or_skips n InBlock t h g f k ks (λ l. at f (BlockEntry ∷ l) state.BlockSequenceEntry ss e)
+    state.BlockSequenceEntry (λ l. state.BlockSequenceEntry) ss e ps (entry_end_follows k z) (λ l q. cc)
+    (f (k ∷ ks)) (entry_is_left_out f k ks ss e z) (λ j l s. entry_begins f j l ss e s) l
+
+-- ## Entries of sequences at the column of their mapping
+
+abbrev pub EndsIndentless : Kind → Type 0
+EndsIndentless BlockEntry = Unit {0}
+EndsIndentless k = MayFollow InBlockMapping k
+
+indentless_end_follows : (k : Kind) → EndsIndentless k → MayFollow InBlock k
+indentless_end_follows BlockEntry h = tt
+indentless_end_follows Key h = tt
+indentless_end_follows Value h = tt
+indentless_end_follows BlockEnd h = tt
+indentless_end_follows _ h = elim h [ ]
+
+pub mapping_follow_ends : (k : Kind) → MayFollow InBlockMapping k → EndsIndentless k
+mapping_follow_ends BlockEntry h = tt
+mapping_follow_ends _ h = h
+
+indentless_begins : (f : SpansByKinds) (j : Kind) (l : List Kind) (ss : List State) (e : Memory) → Starts InBlock j
+    → event_step (at f (BlockEntry ∷ j ∷ l) state.IndentlessSequenceEntry ss e)
+    ≡ next_node Block (at f (j ∷ l) state.IndentlessSequenceEntry (state.IndentlessSequenceEntry ∷ ss) e)
+unfolding event_step indentless_sequence_entry indentless_sequence_node
+indentless_begins f BlockEntry l ss e h = elim h [ ]
+indentless_begins f Key l ss e h = elim h [ ]
+indentless_begins f Value l ss e h = elim h [ ]
+indentless_begins f BlockEnd l ss e h = elim h [ ]
+indentless_begins f _ l ss e h = refl
+
+indentless_is_left_out : (f : SpansByKinds) (k : Kind) (ks : List Kind) (ss : List State) (e : Memory)
+    → EndsIndentless k
+    → event_step (at f (BlockEntry ∷ k ∷ ks) state.IndentlessSequenceEntry ss e)
+    ≡ told_event empty_scalar (f (k ∷ ks)) (at f (k ∷ ks) state.IndentlessSequenceEntry ss e)
+unfolding event_step indentless_sequence_entry indentless_sequence_node
+indentless_is_left_out f BlockEntry ks ss e h = refl
+indentless_is_left_out f Key ks ss e h = refl
+indentless_is_left_out f Value ks ss e h = refl
+indentless_is_left_out f BlockEnd ks ss e h = refl
+indentless_is_left_out f _ ks ss e h = elim h [ ]
+
+pub indentless_says : (n : Node) (t : List Kind) → YieldsOptional n (YieldsNode n InBlock) t
+    → (YieldsNode n InBlock t → NodeSays n InBlock t)
+    → (f : SpansByKinds) (k : Kind) (ks : List Kind) (ss : List State) (e : Memory) (ps : List Part) → EndsIndentless k
+    → TellsParts f (k ∷ ks) state.IndentlessSequenceEntry ss (after_node n e) ps
+    → TellsParts f (BlockEntry ∷ (t ++ k ∷ ks)) state.IndentlessSequenceEntry ss e (node_parts n ++ ps)
+indentless_says n t h g f k ks ss e ps z l =
+    enters_or_skips n InBlock t h g f k ks (λ l. at f (BlockEntry ∷ l) state.IndentlessSequenceEntry ss e)
+    state.IndentlessSequenceEntry (λ l. state.IndentlessSequenceEntry) ss e ps (indentless_end_follows k z)
+    (λ l q. cc) (f (k ∷ ks)) (indentless_is_left_out f k ks ss e z) (λ j l s. indentless_begins f j l ss e s) l
+
+-- ## Entries of mappings
+
+block_key_begins : (f : SpansByKinds) (j : Kind) (l : List Kind) (ss : List State) (e : Memory)
+    → Starts InBlockMapping j
+    → event_step (at f (Key ∷ j ∷ l) state.BlockMappingKey ss e)
+    ≡ next_node BlockMapping (at f (j ∷ l) state.BlockMappingKey (state.BlockMappingValue ∷ ss) e)
+unfolding event_step block_mapping_key block_key_node
+block_key_begins f Key l ss e h = elim h [ ]
+block_key_begins f Value l ss e h = elim h [ ]
+block_key_begins f BlockEnd l ss e h = elim h [ ]
+block_key_begins f _ l ss e h = refl
+
+key_is_left_out : (f : SpansByKinds) (k : Kind) (ks : List Kind) (ss : List State) (e : Memory)
+    → MayFollow InBlockMapping k
+    → event_step (at f (Key ∷ k ∷ ks) state.BlockMappingKey ss e)
+    ≡ told_event empty_scalar (f ks) (at f (k ∷ ks) state.BlockMappingValue ss e)
+unfolding event_step block_mapping_key block_key_node
+key_is_left_out f Key ks ss e h = refl
+key_is_left_out f Value ks ss e h = refl
+key_is_left_out f BlockEnd ks ss e h = refl
+key_is_left_out f _ ks ss e h = elim h [ ]
+
+block_value_begins : (f : SpansByKinds) (j : Kind) (l : List Kind) (ss : List State) (e : Memory)
+    → Starts InBlockMapping j
+    → event_step (at f (Value ∷ j ∷ l) state.BlockMappingValue ss e)
+    ≡ next_node BlockMapping (at f (j ∷ l) state.BlockMappingValue (state.BlockMappingKey ∷ ss) e)
+unfolding event_step block_mapping_value block_value_node
+block_value_begins f Key l ss e h = elim h [ ]
+block_value_begins f Value l ss e h = elim h [ ]
+block_value_begins f BlockEnd l ss e h = elim h [ ]
+block_value_begins f _ l ss e h = refl
+
+value_is_left_out : (f : SpansByKinds) (k : Kind) (ks : List Kind) (ss : List State) (e : Memory)
+    → MayFollow InBlockMapping k
+    → event_step (at f (Value ∷ k ∷ ks) state.BlockMappingValue ss e)
+    ≡ told_event empty_scalar (f (k ∷ ks)) (at f (k ∷ ks) state.BlockMappingKey ss e)
+unfolding event_step block_mapping_value block_value_node
+value_is_left_out f Key ks ss e h = refl
+value_is_left_out f Value ks ss e h = refl
+value_is_left_out f BlockEnd ks ss e h = refl
+value_is_left_out f _ ks ss e h = elim h [ ]
+
+value_is_missing : (f : SpansByKinds) (k : Kind) (ks : List Kind) (ss : List State) (e : Memory)
+    → MayFollow InBlockMapping k
+    → ¬ (BeginsWithValue (k ∷ ks))
+    → event_step (at f (k ∷ ks) state.BlockMappingValue ss e)
+    ≡ told_event empty_scalar (f ks) (at f (k ∷ ks) state.BlockMappingKey ss e)
+unfolding event_step block_mapping_value
+value_is_missing f Key ks ss e h n = refl
+value_is_missing f BlockEnd ks ss e h n = refl
+value_is_missing f Value ks ss e h n = absurd (n tt)
+value_is_missing f _ ks ss e h n = elim h [ ]
+
+-- the key, from its mark on
+key_says : (key : Node) (t : List Kind) → YieldsOptional key (YieldsNode key InBlockMapping) t
+    → (YieldsNode key InBlockMapping t → NodeSays key InBlockMapping t)
+    → (f : SpansByKinds) (k : Kind) (ks : List Kind) (ss : List State) (e : Memory) (ps : List Part)
+    → MayFollow InBlockMapping k → TellsParts f (k ∷ ks) state.BlockMappingValue ss (after_node key e) ps
+    → TellsParts f (Key ∷ (t ++ k ∷ ks)) state.BlockMappingKey ss e (node_parts key ++ ps)
+key_says key t h g f k ks ss e ps z l =
+    enters_or_skips key InBlockMapping t h g f k ks (λ l. at f (Key ∷ l) state.BlockMappingKey ss e)
+    state.BlockMappingKey (λ l. state.BlockMappingValue) ss e ps z (λ l q. cc) (f ks)
+    (key_is_left_out f k ks ss e z) (λ j l s. block_key_begins f j l ss e s) l
+
+-- the value, from its mark on
+value_says : (value : Node) (t : List Kind) → YieldsOptional value (YieldsNode value InBlockMapping) t
+    → (YieldsNode value InBlockMapping t → NodeSays value InBlockMapping t)
+    → (f : SpansByKinds) (k : Kind) (ks : List Kind) (ss : List State) (e : Memory) (ps : List Part)
+    → MayFollow InBlockMapping k → TellsParts f (k ∷ ks) state.BlockMappingKey ss (after_node value e) ps
+    → TellsParts f (Value ∷ (t ++ k ∷ ks)) state.BlockMappingValue ss e (node_parts value ++ ps)
+value_says value t h g f k ks ss e ps z l =
+    enters_or_skips value InBlockMapping t h g f k ks (λ l. at f (Value ∷ l) state.BlockMappingValue ss e)
+    state.BlockMappingValue (λ l. state.BlockMappingKey) ss e ps z (λ l q. cc) (f (k ∷ ks))
+    (value_is_left_out f k ks ss e z) (λ j l s. block_value_begins f j l ss e s) l
+
+-- a pair whose value is left out
+alone_says : (key : Node) (t : List Kind) → YieldsMarkedKey key (YieldsNode key InBlockMapping) t
+    → ((u : List Kind) → YieldsNode key InBlockMapping u → NodeSays key InBlockMapping u)
+    → (f : SpansByKinds) (k : Kind) (ks : List Kind) (ss : List State) (e : Memory) (ps : List Part)
+    → MayFollow InBlockMapping k → ¬ (BeginsWithValue (k ∷ ks))
+    → TellsParts f (k ∷ ks) state.BlockMappingKey ss (after_node key e) ps
+    → TellsParts f (t ++ k ∷ ks) state.BlockMappingKey ss e (node_parts key ++ (node_parts forest.left_out ++ ps))
+alone_says key t h g f k ks ss e ps z n l =
+    let e' : Memory = after_node key e in
+    let second : TellsParts f (k ∷ ks) state.BlockMappingValue ss e' (node_parts forest.left_out ++ ps) =
+    skipped e' (at f (k ∷ ks) state.BlockMappingValue ss e') (at f (k ∷ ks) state.BlockMappingKey ss e') ps (f ks)
+    (λ q. cc) (value_is_missing f k ks ss e' z n) l in
+    subst (λ (u : List Kind). TellsParts f (u ++ k ∷ ks) state.BlockMappingKey ss e
+    (node_parts key ++ (node_parts forest.left_out ++ ps))) (sym h.2)
+    (key_says key h.0 h.1 (g h.0) f k ks ss e (node_parts forest.left_out ++ ps) z second)
+
+-- a pair whose key is left out
+keyless_says : (value : Node) (t : List Kind) → YieldsMarkedValue value (YieldsNode value InBlockMapping) t
+    → ((u : List Kind) → YieldsNode value InBlockMapping u → NodeSays value InBlockMapping u)
+    → (f : SpansByKinds) (k : Kind) (ks : List Kind) (ss : List State) (e : Memory) (ps : List Part)
+    → MayFollow InBlockMapping k → TellsParts f (k ∷ ks) state.BlockMappingKey ss (after_node value e) ps
+    → TellsParts f (t ++ k ∷ ks) state.BlockMappingKey ss e (node_parts forest.left_out ++ (node_parts value ++ ps))
+unfolding event_step block_mapping_key
+keyless_says value t h g f k ks ss e ps z l =
+    let rest : List Kind = h.0 ++ k ∷ ks in
+    let second : TellsParts f (Value ∷ rest) state.BlockMappingValue ss e (node_parts value ++ ps) =
+    value_says value h.0 h.1 (g h.0) f k ks ss e ps z l in
+    subst (λ (u : List Kind). TellsParts f (u ++ k ∷ ks) state.BlockMappingKey ss e
+    (node_parts forest.left_out ++ (node_parts value ++ ps))) (sym h.2)
+    (skipped e (at f (Value ∷ rest) state.BlockMappingKey ss e) (at f (Value ∷ rest) state.BlockMappingValue ss e)
+    (node_parts value ++ ps) (f rest) (λ q. cc) refl second)
+
+pub pair_says : (key value : Node) (others t : List Kind)
+    → YieldsBlockPair key value (YieldsNode key InBlockMapping) (YieldsNode value InBlockMapping) others t
+    → ((u : List Kind) → YieldsNode key InBlockMapping u → NodeSays key InBlockMapping u)
+    → ((u : List Kind) → YieldsNode value InBlockMapping u → NodeSays value InBlockMapping u)
+    → (f : SpansByKinds) (k : Kind) (ks : List Kind) (ss : List State) (e : Memory) (ps : List Part)
+    → MayFollow InBlockMapping k → (¬ (BeginsWithValue others) → ¬ (BeginsWithValue (k ∷ ks)))
+    → TellsParts f (k ∷ ks) state.BlockMappingKey ss (after_node value (after_node key e)) ps
+    → TellsParts f (t ++ k ∷ ks) state.BlockMappingKey ss e (node_parts key ++ (node_parts value ++ ps))
+pair_says key value others t (inl h) gk gv f k ks ss e ps z n l =
+    let kt : List Kind = h.2.0 in
+    let vt : List Kind = h.3.0 in
+    let same : t ++ k ∷ ks ≡ Key ∷ (kt ++ Value ∷ (vt ++ k ∷ ks)) =
+    marked_tokens t h.0 h.1 kt vt (k ∷ ks) h.2.2 h.3.2 h.4 in
+    let second : TellsParts f (Value ∷ (vt ++ k ∷ ks)) state.BlockMappingValue ss (after_node key e)
+    (node_parts value ++ ps) = value_says value vt h.3.1 (gv vt) f k ks ss (after_node key e) ps z l in
+    subst (λ (u : List Kind). TellsParts f u state.BlockMappingKey ss e (node_parts key ++ (node_parts value ++ ps)))
+    (sym same) (key_says key kt h.2.1 (gk kt) f Value (vt ++ k ∷ ks) ss e (node_parts value ++ ps) tt second)
+pair_says key value others t (inr (inl h)) gk gv f k ks ss e ps z n l =
+    subst (λ (v : Node). TellsParts f (k ∷ ks) state.BlockMappingKey ss (after_node v (after_node key e)) ps
+    → TellsParts f (t ++ k ∷ ks) state.BlockMappingKey ss e (node_parts key ++ (node_parts v ++ ps))) (sym h.0)
+    (alone_says key t h.2 gk f k ks ss e ps z (n h.1)) l
+pair_says key value others t (inr (inr h)) gk gv f k ks ss e ps z n l =
+    subst (λ (v : Node). TellsParts f (k ∷ ks) state.BlockMappingKey ss (after_node value (after_node v e)) ps
+    → TellsParts f (t ++ k ∷ ks) state.BlockMappingKey ss e (node_parts v ++ (node_parts value ++ ps))) (sym h.0)
+    (keyless_says value t h.1 gv f k ks ss e ps z) l

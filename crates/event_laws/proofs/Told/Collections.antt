@@ -1,0 +1,248 @@
+-- Collections are told, where their entries are.
+use Rattle.std.proofs.Common.{◌≡◌, List, [], ◌∷◌, ◌++◌, refl, subst, ap, ◌∙◌, inl, inr, append_assoc}
+use Rattle.saphyr_scanner.specs.Grammar.Forest.{Node, Nodes, NoNode, MoreNodes, Pairs, NoPair, MorePairs}
+use Rattle.saphyr_scanner.specs.Grammar.Forest as forest
+use Rattle.saphyr_scanner.specs.Grammar.Tokens.{Kind, BlockSequenceStart, BlockMappingStart, BlockEnd, FlowSequenceStart, FlowSequenceEnd, FlowMappingStart, FlowMappingEnd, BlockEntry, FlowEntry, Key, Value}
+use Rattle.saphyr_scanner.specs.Grammar.TokenGrammar as grammar
+use Rattle.saphyr_scanner.specs.Grammar.TokenGrammar.{InFlow, InBlock, InBlockMapping, BeginsWithValue, YieldsNode, YieldFlowEntries, YieldOtherFlowEntries, YieldFlowPairs, YieldOtherFlowPairs, YieldBlockEntries, YieldBlockPairs}
+use Rattle.saphyr_machine.specs.declared.state.State.{State}
+use Rattle.saphyr_machine.specs.declared.state.State.TheVariants as state
+use Rattle.event_laws.specs.Preorder.{Part, OpenSequence, CloseSequence, OpenMapping, CloseMapping, entry_parts, pair_parts}
+use Rattle.saphyr_machine.specs.Events.{SequenceStart, MappingStart}
+use Rattle.saphyr_machine.specs.Steps.Nodes.{span_up_to}
+use Rattle.event_laws.proofs.Told.Telling.{SpansByKinds, Memory, at}
+use Rattle.event_laws.proofs.Remembering.{noted, after_nodes, after_pairs, TellsParts}
+use Rattle.event_laws.proofs.Told.Nodes.{next_node, node_opens}
+use Rattle.event_laws.proofs.NodeStarts.{context_of, MayFollow, NodeSays}
+
+-- ## What a collection's entries are to tell
+
+pub record FlowEntriesSay (ns : Nodes) (t : List Kind) : Type 0 where
+  pub by : (f : SpansByKinds) (ks : List Kind) (s : State) (ss : List State) (e : Memory) (ps : List Part)
+      → TellsParts f ks s ss (after_nodes ns e) ps
+      → TellsParts f (t ++ FlowSequenceEnd ∷ ks) state.FlowSequenceFirstEntry (s ∷ ss) e
+      (entry_parts ns ++ CloseSequence ∷ ps)
+
+pub record FlowPairsSay (qs : Pairs) (t : List Kind) : Type 0 where
+  pub by : (f : SpansByKinds) (ks : List Kind) (s : State) (ss : List State) (e : Memory) (ps : List Part)
+      → TellsParts f ks s ss (after_pairs qs e) ps
+      → TellsParts f (t ++ FlowMappingEnd ∷ ks) state.FlowMappingFirstKey (s ∷ ss) e
+      (pair_parts qs ++ CloseMapping ∷ ps)
+
+pub record BlockEntriesSay (ns : Nodes) (t : List Kind) : Type 0 where
+  pub by : (f : SpansByKinds) (ks : List Kind) (s : State) (ss : List State) (e : Memory) (ps : List Part)
+      → TellsParts f ks s ss (after_nodes ns e) ps
+      → TellsParts f (t ++ BlockEnd ∷ ks) state.BlockSequenceEntry (s ∷ ss) e (entry_parts ns ++ CloseSequence ∷ ps)
+
+pub record IndentlessSay (ns : Nodes) (t : List Kind) : Type 0 where
+  pub by : (f : SpansByKinds) (k : Kind) (ks : List Kind) (s : State) (ss : List State) (e : Memory) (ps : List Part)
+      → MayFollow InBlockMapping k → TellsParts f (k ∷ ks) s ss (after_nodes ns e) ps
+      → TellsParts f (t ++ k ∷ ks) state.IndentlessSequenceEntry (s ∷ ss) e (entry_parts ns ++ CloseSequence ∷ ps)
+
+pub record BlockPairsSay (qs : Pairs) (t : List Kind) : Type 0 where
+  pub by : (f : SpansByKinds) (ks : List Kind) (s : State) (ss : List State) (e : Memory) (ps : List Part)
+      → TellsParts f ks s ss (after_pairs qs e) ps
+      → TellsParts f (t ++ BlockEnd ∷ ks) state.BlockMappingKey (s ∷ ss) e (pair_parts qs ++ CloseMapping ∷ ps)
+
+-- ## Collections
+
+-- tokens of a collection between two tokens
+between : (front inside content t : List Kind) (opening closing : Kind) (rest : List Kind)
+    → content ≡ opening ∷ (inside ++ closing ∷ []) → t ≡ front ++ content
+    → t ++ rest ≡ front ++ opening ∷ (inside ++ closing ∷ rest)
+between front inside content t opening closing rest a b =
+    rw (b, a) (append_assoc front (opening ∷ (inside ++ closing ∷ [])) rest
+    ∙ ap (λ l. front ++ opening ∷ l) (append_assoc inside (closing ∷ []) rest))
+
+flow_sequence : (p : forest.Properties) (ns : Nodes) (c : grammar.Context) (front content t : List Kind)
+    → grammar.YieldProperties p front
+    → grammar.IsBetween FlowSequenceStart FlowSequenceEnd (YieldFlowEntries ns) content → t ≡ front ++ content
+    → ((u : List Kind) → YieldFlowEntries ns u → FlowEntriesSay ns u) → NodeSays (forest.Seq p ns) c t
+flow_sequence p ns c front content t h d a g = record {
+  by = λ f k ks m x s ss e ps z more q l.
+      let rest : List Kind = d.0 ++ FlowSequenceEnd ∷ k ∷ ks in
+      let same : t ++ k ∷ ks ≡ front ++ FlowSequenceStart ∷ rest =
+      between front d.0 content t FlowSequenceStart FlowSequenceEnd (k ∷ ks) d.2 a in
+      let inside : TellsParts f rest state.FlowSequenceFirstEntry (s ∷ ss) (noted p.anchor e)
+      ((entry_parts ns ++ CloseSequence ∷ []) ++ ps) =
+      rw (append_assoc (entry_parts ns) (CloseSequence ∷ []) ps)
+      ((g d.0 d.1).by f (k ∷ ks) s ss (noted p.anchor e) ps l) in
+      node_opens f (context_of c) x (s ∷ ss) e m (at f rest state.FlowSequenceFirstEntry (s ∷ ss) (noted p.anchor e)) p
+      front FlowSequenceStart rest (OpenSequence p) ((entry_parts ns ++ CloseSequence ∷ []) ++ ps) SequenceStart h
+      tt more (q ∙ ap (λ u. next_node (context_of c) (at f u x (s ∷ ss) e)) same) refl
+      (λ r has. (span_up_to r (f rest).end, refl)) inside;
+}
+
+flow_mapping : (p : forest.Properties) (qs : Pairs) (c : grammar.Context) (front content t : List Kind)
+    → grammar.YieldProperties p front → grammar.IsBetween FlowMappingStart FlowMappingEnd (YieldFlowPairs qs) content
+    → t ≡ front ++ content → ((u : List Kind) → YieldFlowPairs qs u → FlowPairsSay qs u)
+    → NodeSays (forest.Map p qs) c t
+flow_mapping p qs c front content t h d a g = record {
+  by = λ f k ks m x s ss e ps z more q l.
+      let rest : List Kind = d.0 ++ FlowMappingEnd ∷ k ∷ ks in
+      let same : t ++ k ∷ ks ≡ front ++ FlowMappingStart ∷ rest = between front d.0 content t FlowMappingStart
+      FlowMappingEnd (k ∷ ks) d.2 a in
+      let inside : TellsParts f rest state.FlowMappingFirstKey (s ∷ ss) (noted p.anchor e)
+      ((pair_parts qs ++ CloseMapping ∷ []) ++ ps) =
+      rw (append_assoc (pair_parts qs) (CloseMapping ∷ []) ps)
+      ((g d.0 d.1).by f (k ∷ ks) s ss (noted p.anchor e) ps l) in
+      node_opens f (context_of c) x (s ∷ ss) e m (at f rest state.FlowMappingFirstKey (s ∷ ss) (noted p.anchor e)) p
+      front FlowMappingStart rest (OpenMapping p) ((pair_parts qs ++ CloseMapping ∷ []) ++ ps) MappingStart h tt
+      more (q ∙ ap (λ u. next_node (context_of c) (at f u x (s ∷ ss) e)) same) refl
+      (λ r has. (span_up_to r (f rest).end, refl)) inside;
+}
+
+block_sequence : (p : forest.Properties) (ns : Nodes) (c : grammar.Context) (front content t : List Kind)
+    → grammar.YieldProperties p front → grammar.AllowsBlock c
+    → grammar.IsBetween BlockSequenceStart BlockEnd (YieldBlockEntries ns) content → t ≡ front ++ content
+    → ((u : List Kind) → YieldBlockEntries ns u → BlockEntriesSay ns u) → NodeSays (forest.Seq p ns) c t
+block_sequence p ns InFlow front content t h b d a g = elim b [ ]
+block_sequence p ns c front content t h b d a g = record {
+  by = λ f k ks m x s ss e ps z more q l.
+      let rest : List Kind = d.0 ++ BlockEnd ∷ k ∷ ks in
+      let same : t ++ k ∷ ks ≡ front ++ BlockSequenceStart ∷ rest =
+      between front d.0 content t BlockSequenceStart BlockEnd (k ∷ ks) d.2 a in
+      let inside : TellsParts f rest state.BlockSequenceEntry (s ∷ ss) (noted p.anchor e)
+      ((entry_parts ns ++ CloseSequence ∷ []) ++ ps) =
+      rw (append_assoc (entry_parts ns) (CloseSequence ∷ []) ps)
+      ((g d.0 d.1).by f (k ∷ ks) s ss (noted p.anchor e) ps l) in
+      node_opens f (context_of c) x (s ∷ ss) e m (at f rest state.BlockSequenceEntry (s ∷ ss) (noted p.anchor e)) p
+      front BlockSequenceStart rest (OpenSequence p) ((entry_parts ns ++ CloseSequence ∷ []) ++ ps) SequenceStart h
+      tt more (q ∙ ap (λ u. next_node (context_of c) (at f u x (s ∷ ss) e)) same) refl
+      (λ r has. (span_up_to r (f rest).end, refl)) inside;
+}
+
+block_mapping : (p : forest.Properties) (qs : Pairs) (c : grammar.Context) (front content t : List Kind)
+    → grammar.YieldProperties p front → grammar.AllowsBlock c
+    → grammar.IsBetween BlockMappingStart BlockEnd (YieldBlockPairs qs) content → t ≡ front ++ content
+    → ((u : List Kind) → YieldBlockPairs qs u → BlockPairsSay qs u) → NodeSays (forest.Map p qs) c t
+block_mapping p qs InFlow front content t h b d a g = elim b [ ]
+block_mapping p qs c front content t h b d a g = record {
+  by = λ f k ks m x s ss e ps z more q l.
+      let rest : List Kind = d.0 ++ BlockEnd ∷ k ∷ ks in
+      let same : t ++ k ∷ ks ≡ front ++ BlockMappingStart ∷ rest =
+      between front d.0 content t BlockMappingStart BlockEnd (k ∷ ks) d.2 a in
+      let inside : TellsParts f rest state.BlockMappingKey (s ∷ ss) (noted p.anchor e)
+      ((pair_parts qs ++ CloseMapping ∷ []) ++ ps) =
+      rw (append_assoc (pair_parts qs) (CloseMapping ∷ []) ps)
+      ((g d.0 d.1).by f (k ∷ ks) s ss (noted p.anchor e) ps l) in
+      node_opens f (context_of c) x (s ∷ ss) e m (at f rest state.BlockMappingKey (s ∷ ss) (noted p.anchor e)) p front
+      BlockMappingStart rest (OpenMapping p) ((pair_parts qs ++ CloseMapping ∷ []) ++ ps) MappingStart h tt more
+      (q ∙ ap (λ u. next_node (context_of c) (at f u x (s ∷ ss) e)) same) refl
+      (λ r has. (span_up_to r (f rest).end, refl)) inside;
+}
+
+-- a sequence at the column of its mapping begins with its first entry's token, which is left in front of the machine
+indentless_sequence : (p : forest.Properties) (ns : Nodes) (c : grammar.Context) (front content others t : List Kind)
+    → grammar.YieldProperties p front → grammar.IsInBlockMapping c → content ≡ BlockEntry ∷ others
+    → t ≡ front ++ content → IndentlessSay ns content → NodeSays (forest.Seq p ns) c t
+indentless_sequence p ns InFlow front content others t h b d a g = elim b [ ]
+indentless_sequence p ns InBlock front content others t h b d a g = elim b [ ]
+indentless_sequence p ns InBlockMapping front content others t h b d a g = record {
+  by = λ f k ks m x s ss e ps z more q l.
+      let rest : List Kind = others ++ k ∷ ks in
+      let same : t ++ k ∷ ks ≡ front ++ BlockEntry ∷ rest = rw (a, d)
+      (append_assoc front (BlockEntry ∷ others) (k ∷ ks)) in
+      let told : TellsParts f (BlockEntry ∷ rest) state.IndentlessSequenceEntry (s ∷ ss) (noted p.anchor e)
+      (entry_parts ns ++ CloseSequence ∷ ps) =
+      subst (λ (u : List Kind). TellsParts f (u ++ k ∷ ks) state.IndentlessSequenceEntry (s ∷ ss) (noted p.anchor e)
+      (entry_parts ns ++ CloseSequence ∷ ps)) d (g.by f k ks s ss (noted p.anchor e) ps z l) in
+      let inside : TellsParts f (BlockEntry ∷ rest) state.IndentlessSequenceEntry (s ∷ ss) (noted p.anchor e)
+      ((entry_parts ns ++ CloseSequence ∷ []) ++ ps) =
+      rw (append_assoc (entry_parts ns) (CloseSequence ∷ []) ps) told in
+      node_opens f (context_of InBlockMapping) x (s ∷ ss) e m
+      (at f (BlockEntry ∷ rest) state.IndentlessSequenceEntry (s ∷ ss) (noted p.anchor e)) p front BlockEntry rest
+      (OpenSequence p) ((entry_parts ns ++ CloseSequence ∷ []) ++ ps) SequenceStart h tt more
+      (q ∙ ap (λ u. next_node (context_of InBlockMapping) (at f u x (s ∷ ss) e)) same) refl
+      (λ r has. (span_up_to r (f rest).end, refl)) inside;
+}
+
+first_dash : (ns : Nodes) (content : List Kind) → grammar.HasNode ns → YieldBlockEntries ns content
+    → (others : List Kind) × (content ≡ BlockEntry ∷ others)
+first_dash NoNode content h d = elim h [ ]
+first_dash (MoreNodes n ns) content h d = (d.0 ++ d.1, d.4)
+
+pub sequence_says : (p : forest.Properties) (ns : Nodes) (c : grammar.Context) (t : List Kind)
+    → YieldsNode (forest.Seq p ns) c t → ((u : List Kind) → YieldFlowEntries ns u → FlowEntriesSay ns u)
+    → ((u : List Kind) → YieldBlockEntries ns u → BlockEntriesSay ns u)
+    → ((u : List Kind) → YieldBlockEntries ns u → IndentlessSay ns u) → NodeSays (forest.Seq p ns) c t
+sequence_says p ns c t h flow block indentless = by_content h.3
+  where
+    by_content : grammar.YieldsSequence ns c (YieldFlowEntries ns) (YieldBlockEntries ns) h.1
+        → NodeSays (forest.Seq p ns) c t
+    by_content (inl d) = flow_sequence p ns c h.0 h.1 t h.2 d h.4 flow
+    by_content (inr (inl d)) = block_sequence p ns c h.0 h.1 t h.2 d.0 d.1 h.4 block
+    by_content (inr (inr d)) =
+        let first : (others : List Kind) × (h.1 ≡ BlockEntry ∷ others) =
+        first_dash ns h.1 d.1 d.2 in
+        indentless_sequence p ns c h.0 h.1 first.0 t h.2 d.0 first.1 h.4 (indentless h.1 d.2)
+
+pub mapping_says : (p : forest.Properties) (qs : Pairs) (c : grammar.Context) (t : List Kind)
+    → YieldsNode (forest.Map p qs) c t → ((u : List Kind) → YieldFlowPairs qs u → FlowPairsSay qs u)
+    → ((u : List Kind) → YieldBlockPairs qs u → BlockPairsSay qs u) → NodeSays (forest.Map p qs) c t
+mapping_says p qs c t h flow block = by_content h.3
+  where
+    by_content : grammar.YieldsMapping c (YieldFlowPairs qs) (YieldBlockPairs qs) h.1 → NodeSays (forest.Map p qs) c t
+    by_content (inl d) = flow_mapping p qs c h.0 h.1 t h.2 d h.4 flow
+    by_content (inr d) = block_mapping p qs c h.0 h.1 t h.2 d.0 d.1 h.4 block
+
+-- ## Ends
+
+-- the token behind an entry
+pub record Next (Fits : Kind → Type 0) (ts : List Kind) : Type 0 where
+  pub first : Kind
+  pub others : List Kind
+  pub is : ts ≡ first ∷ others
+  pub fits : Fits first
+
+next_is : (Fits : Kind → Type 0) (t : List Kind) (k : Kind) (ks rest : List Kind) → t ≡ k ∷ ks → Fits k
+    → Next Fits (t ++ rest)
+next_is Fits t k ks rest e h = record { first = k; others = ks ++ rest; is = ap (λ l. l ++ rest) e; fits = h }
+
+end_is : (Fits : Kind → Type 0) (t : List Kind) (k : Kind) (ks : List Kind) → t ≡ [] → Fits k → Next Fits (t ++ k ∷ ks)
+end_is Fits t k ks e h = record { first = k; others = ks; is = ap (λ l. l ++ k ∷ ks) e; fits = h }
+
+list_end_next : (Fits : Kind → Type 0) (t : List Kind) (close : Kind) (ks : List Kind) → Fits FlowEntry → Fits close
+    → grammar.IsListEnd t → Next Fits (t ++ close ∷ ks)
+list_end_next Fits t close ks a b (inl e) = end_is Fits t close ks e b
+list_end_next Fits t close ks a b (inr e) = next_is Fits t FlowEntry [] (close ∷ ks) e a
+
+pub flow_entries_next : (Fits : Kind → Type 0) (ns : Nodes) (t : List Kind) (close : Kind) (ks : List Kind)
+    → Fits FlowEntry → Fits close → YieldOtherFlowEntries ns t → Next Fits (t ++ close ∷ ks)
+flow_entries_next Fits NoNode t close ks a b h = list_end_next Fits t close ks a b h
+flow_entries_next Fits (MoreNodes n ns) t close ks a b h = next_is Fits t FlowEntry _ (close ∷ ks) h.4 a
+
+pub flow_pairs_next : (Fits : Kind → Type 0) (qs : Pairs) (t : List Kind) (close : Kind) (ks : List Kind)
+    → Fits FlowEntry → Fits close → YieldOtherFlowPairs qs t → Next Fits (t ++ close ∷ ks)
+flow_pairs_next Fits NoPair t close ks a b h = list_end_next Fits t close ks a b h
+flow_pairs_next Fits (MorePairs k v qs) t close ks a b h = next_is Fits t FlowEntry _ (close ∷ ks) h.4 a
+
+pub block_entries_next : (Fits : Kind → Type 0) (ns : Nodes) (t : List Kind) (close : Kind) (ks : List Kind)
+    → Fits BlockEntry → Fits close → YieldBlockEntries ns t → Next Fits (t ++ close ∷ ks)
+block_entries_next Fits NoNode t close ks a b h = end_is Fits t close ks h b
+block_entries_next Fits (MoreNodes n ns) t close ks a b h = next_is Fits t BlockEntry _ (close ∷ ks) h.4 a
+
+-- the first token of an entry of a block mapping
+pair_next : (key value : Node) (K V : List Kind → Type 0) (others t : List Kind)
+    → grammar.YieldsBlockPair key value K V others t → Next (MayFollow InBlockMapping) t
+pair_next key value K V others t (inl h) =
+    record { first = Key; others = h.2.0 ++ h.1; is = h.4 ∙ ap (λ l. l ++ h.1) h.2.2; fits = tt }
+pair_next key value K V others t (inr (inl h)) = record { first = Key; others = h.2.0; is = h.2.2; fits = tt }
+pair_next key value K V others t (inr (inr h)) = record { first = Value; others = h.1.0; is = h.1.2; fits = tt }
+
+pub block_pairs_next : (qs : Pairs) (t : List Kind) (ks : List Kind) → YieldBlockPairs qs t
+    → Next (MayFollow InBlockMapping) (t ++ BlockEnd ∷ ks)
+block_pairs_next NoPair t ks h = end_is (MayFollow InBlockMapping) t BlockEnd ks h tt
+block_pairs_next (MorePairs key value qs) t ks h =
+    let n : Next (MayFollow InBlockMapping) h.0 = pair_next key value (YieldsNode key InBlockMapping)
+    (YieldsNode value InBlockMapping) h.1 h.0 h.2 in
+    next_is (MayFollow InBlockMapping) t n.first (n.others ++ h.1) (BlockEnd ∷ ks) (h.4 ∙ ap (λ l. l ++ h.1) n.is)
+    n.fits
+
+same_value : (j : Kind) (ks ls : List Kind) → BeginsWithValue (j ∷ ks) → BeginsWithValue (j ∷ ls)
+same_value Value ks ls h = tt
+same_value _ ks ls h = h
+
+pub no_value : (t ks : List Kind) → ¬ (BeginsWithValue t) → ¬ (BeginsWithValue (t ++ BlockEnd ∷ ks))
+no_value [] ks n h = h
+no_value (j ∷ t) ks n h = n (same_value j (t ++ BlockEnd ∷ ks) t h)

@@ -1,0 +1,201 @@
+-- The entries of braces are told.
+use Rattle.std.proofs.Common.{◌≡◌, ◌≢◌, List, ◌∷◌, ◌++◌, refl, subst, sym, ◌∙◌, ◌⊎◌, inl, inr}
+use Rattle.saphyr_scalar.specs.declared.scalar.position.Span.{Span}
+use Rattle.saphyr_scanner.specs.Grammar.Forest.{Node}
+use Rattle.saphyr_scanner.specs.Grammar.Forest as forest
+use Rattle.saphyr_scanner.specs.Grammar.Tokens.{Kind, FlowMappingEnd, FlowEntry, Key, Value}
+use Rattle.saphyr_scanner.specs.Grammar.TokenGrammar.{InFlow, YieldsOptional, YieldsMarkedKey, YieldsMarkedValue, YieldsFlowPair, YieldsNode}
+use Rattle.saphyr_scanner.specs.Views.Tokens.{Piece}
+use Rattle.saphyr_machine.specs.declared.context.NodeContext.TheVariants.{Flow}
+use Rattle.saphyr_machine.specs.declared.state.State.{State}
+use Rattle.saphyr_machine.specs.declared.state.State.TheVariants as state
+use Rattle.event_laws.specs.Preorder.{Part, node_parts}
+use Rattle.saphyr_machine.specs.Steps.Machine.{Machine, told_event}
+use Rattle.saphyr_machine.specs.Events.{empty_scalar}
+use Rattle.saphyr_machine.specs.Steps.Nodes.{node_inside}
+use Rattle.saphyr_machine.specs.Steps.Flow.{flow_mapping_pair_at, flow_key_node, flow_mapping_value, flow_value_node, flow_mapping_empty_value}
+use Rattle.saphyr_machine.specs.Steps.Expected.{event_step}
+use Rattle.event_laws.proofs.Told.Telling.{SpansByKinds, Memory, at}
+use Rattle.event_laws.proofs.Remembering.{after_node, SaysParts, TellsParts}
+use Rattle.event_laws.proofs.Told.Nodes.{next_node}
+use Rattle.event_laws.proofs.NodeStarts.{Starts, MayFollow, NodeSays, enters, skipped, enters_or_skips, marked_tokens}
+
+-- what stands behind an entry of braces
+abbrev pub EndsPair : Kind → Type 0
+EndsPair FlowEntry = Unit {0}
+EndsPair FlowMappingEnd = Unit {0}
+EndsPair _ = ⊥
+
+pair_end_follows : (k : Kind) → EndsPair k → MayFollow InFlow k
+pair_end_follows FlowEntry h = tt
+pair_end_follows FlowMappingEnd h = tt
+pair_end_follows _ h = elim h [ ]
+
+-- the machine comes to an entry of braces; the span is the end's, if the mapping ends here
+pub record AtPair (f : SpansByKinds) (x : State) (ss : List State) (e : Memory) (machine : List Kind → Machine) : Type 0
+  where
+    pub goes_on : (l : List Kind) → (machine l).state ≢ state.End
+    pub span : List Kind → Span
+    pub steps : (k : Kind) (l : List Kind)
+        → event_step (machine (k ∷ l)) ≡ flow_mapping_pair_at k (span (k ∷ l)) (record { span = f l; kind = k })
+        (at f l x ss e)
+
+-- ## Keys
+
+flow_key_begins : (f : SpansByKinds) (j : Kind) (l : List Kind) (x : State) (ss : List State) (e : Memory)
+    → Starts InFlow j
+    → flow_key_node (at f (j ∷ l) x ss e) ≡ next_node Flow (at f (j ∷ l) x (state.FlowMappingValue ∷ ss) e)
+unfolding flow_key_node
+flow_key_begins f Value l x ss e h = elim h [ ]
+flow_key_begins f FlowEntry l x ss e h = elim h [ ]
+flow_key_begins f FlowMappingEnd l x ss e h = elim h [ ]
+flow_key_begins f _ l x ss e h = refl
+
+key_is_left_out : (f : SpansByKinds) (k : Kind) (ks : List Kind) (x : State) (ss : List State) (e : Memory) → EndsPair k
+    → flow_key_node (at f (k ∷ ks) x ss e) ≡ told_event empty_scalar (f ks) (at f (k ∷ ks) state.FlowMappingValue ss e)
+unfolding flow_key_node
+key_is_left_out f FlowEntry ks x ss e h = refl
+key_is_left_out f FlowMappingEnd ks x ss e h = refl
+key_is_left_out f _ ks x ss e h = elim h [ ]
+
+-- a key without its mark
+bare_key_begins : (j : Kind) (s : Span) (t : Piece) (m : Machine) → Starts InFlow j
+    → flow_mapping_pair_at j s t m ≡ node_inside state.FlowMappingEmptyValue Flow t m
+bare_key_begins Key s t m h = elim h [ ]
+bare_key_begins Value s t m h = elim h [ ]
+bare_key_begins FlowMappingEnd s t m h = elim h [ ]
+bare_key_begins _ s t m h = refl
+
+-- ## Values
+
+flow_value_begins : (f : SpansByKinds) (j : Kind) (l : List Kind) (ss : List State) (e : Memory) → Starts InFlow j
+    → event_step (at f (Value ∷ j ∷ l) state.FlowMappingValue ss e)
+    ≡ next_node Flow (at f (j ∷ l) state.FlowMappingValue (state.FlowMappingKey ∷ ss) e)
+unfolding event_step flow_mapping_value flow_value_node
+flow_value_begins f FlowEntry l ss e h = elim h [ ]
+flow_value_begins f FlowMappingEnd l ss e h = elim h [ ]
+flow_value_begins f _ l ss e h = refl
+
+value_is_left_out : (f : SpansByKinds) (k : Kind) (ks : List Kind) (ss : List State) (e : Memory) → EndsPair k
+    → event_step (at f (Value ∷ k ∷ ks) state.FlowMappingValue ss e)
+    ≡ told_event empty_scalar (f (k ∷ ks)) (at f (k ∷ ks) state.FlowMappingKey ss e)
+unfolding event_step flow_mapping_value flow_value_node
+value_is_left_out f FlowEntry ks ss e h = refl
+value_is_left_out f FlowMappingEnd ks ss e h = refl
+value_is_left_out f _ ks ss e h = elim h [ ]
+
+value_is_missing : (f : SpansByKinds) (k : Kind) (ks : List Kind) (ss : List State) (e : Memory) → EndsPair k
+    → event_step (at f (k ∷ ks) state.FlowMappingValue ss e)
+    ≡ told_event empty_scalar (f ks) (at f (k ∷ ks) state.FlowMappingKey ss e)
+unfolding event_step flow_mapping_value
+value_is_missing f FlowEntry ks ss e h = refl
+value_is_missing f FlowMappingEnd ks ss e h = refl
+value_is_missing f _ ks ss e h = elim h [ ]
+
+-- ## The pair
+
+-- the value, from its mark on
+value_says : (value : Node) (t : List Kind) → YieldsOptional value (YieldsNode value InFlow) t
+    → (YieldsNode value InFlow t → NodeSays value InFlow t)
+    → (f : SpansByKinds) (k : Kind) (ks : List Kind) (ss : List State) (e : Memory) (ps : List Part) → EndsPair k
+    → TellsParts f (k ∷ ks) state.FlowMappingKey ss (after_node value e) ps
+    → TellsParts f (Value ∷ (t ++ k ∷ ks)) state.FlowMappingValue ss e (node_parts value ++ ps)
+value_says value t h g f k ks ss e ps z l =
+    enters_or_skips value InFlow t h g f k ks (λ l. at f (Value ∷ l) state.FlowMappingValue ss e) state.FlowMappingValue
+    (λ l. state.FlowMappingKey) ss e ps (pair_end_follows k z) (λ l q. cc) (f (k ∷ ks))
+    (value_is_left_out f k ks ss e z) (λ j l s. flow_value_begins f j l ss e s) l
+
+-- no value
+missing_value_says : (f : SpansByKinds) (k : Kind) (ks : List Kind) (ss : List State) (e : Memory) (ps : List Part)
+    → EndsPair k → TellsParts f (k ∷ ks) state.FlowMappingKey ss e ps
+    → TellsParts f (k ∷ ks) state.FlowMappingValue ss e (node_parts forest.left_out ++ ps)
+missing_value_says f k ks ss e ps z l =
+    skipped e (at f (k ∷ ks) state.FlowMappingValue ss e) (at f (k ∷ ks) state.FlowMappingKey ss e) ps (f ks) (λ q. cc)
+    (value_is_missing f k ks ss e z) l
+
+-- the key, from its mark on
+key_says : (key : Node) (t : List Kind) → YieldsOptional key (YieldsNode key InFlow) t
+    → (YieldsNode key InFlow t → NodeSays key InFlow t)
+    → (f : SpansByKinds) (k : Kind) (ks : List Kind) (machine : List Kind → Machine) (x : State) (ss : List State)
+    (e : Memory)
+    (ps : List Part) → MayFollow InFlow k
+    → flow_key_node (at f (k ∷ ks) x ss e) ≡ told_event empty_scalar (f ks) (at f (k ∷ ks) state.FlowMappingValue ss e)
+    → AtPair f x ss e machine → TellsParts f (k ∷ ks) state.FlowMappingValue ss (after_node key e) ps
+    → SaysParts e (machine (Key ∷ (t ++ k ∷ ks))) (node_parts key ++ ps)
+key_says key t h g f k ks machine x ss e ps z skip a l =
+    enters_or_skips key InFlow t h g f k ks (λ l. machine (Key ∷ l)) x (λ l. state.FlowMappingValue) ss e ps z
+    (λ l. a.goes_on (Key ∷ l)) (f ks) (a.steps Key (k ∷ ks) ∙ skip)
+    (λ j l s. a.steps Key (j ∷ l) ∙ flow_key_begins f j l x ss e s) l
+
+-- a pair whose value is left out, by its key's tokens
+alone_says : (key : Node) (t : List Kind) → YieldsMarkedKey key (YieldsNode key InFlow) t ⊎ YieldsNode key InFlow t
+    → ((u : List Kind) → YieldsNode key InFlow u → NodeSays key InFlow u)
+    → (f : SpansByKinds) (k : Kind) (ks : List Kind) (machine : List Kind → Machine) (x : State) (ss : List State)
+    (e : Memory)
+    (ps : List Part) → EndsPair k → AtPair f x ss e machine
+    → TellsParts f (k ∷ ks) state.FlowMappingKey ss (after_node key e) ps
+    → SaysParts e (machine (t ++ k ∷ ks)) (node_parts key ++ (node_parts forest.left_out ++ ps))
+unfolding event_step flow_mapping_empty_value
+alone_says key t (inl h) g f k ks machine x ss e ps z a l =
+    subst (λ (u : List Kind). SaysParts e (machine (u ++ k ∷ ks))
+    (node_parts key ++ (node_parts forest.left_out ++ ps)))
+    (sym h.2) (key_says key h.0 h.1 (g h.0) f k ks machine x ss e _ (pair_end_follows k z)
+    (key_is_left_out f k ks x ss e z) a (missing_value_says f k ks ss (after_node key e) ps z l))
+alone_says key t (inr h) g f k ks machine x ss e ps z a l =
+    let e' : Memory = after_node key e in
+    let second : TellsParts f (k ∷ ks) state.FlowMappingEmptyValue ss e' (node_parts forest.left_out ++ ps) =
+    skipped e' (at f (k ∷ ks) state.FlowMappingEmptyValue ss e') (at f (k ∷ ks) state.FlowMappingKey ss e') ps
+    (f ks) (λ q. cc) refl l in
+    enters key InFlow t h (g t h) f k ks machine x (λ l. state.FlowMappingEmptyValue) ss e
+    (node_parts forest.left_out ++ ps) (pair_end_follows k z) a.goes_on
+    (λ j l s. a.steps j l ∙ bare_key_begins j _ _ _ s) second
+
+-- a pair whose key is left out
+keyless_says : (value : Node) (t : List Kind) → YieldsMarkedValue value (YieldsNode value InFlow) t
+    → ((u : List Kind) → YieldsNode value InFlow u → NodeSays value InFlow u)
+    → (f : SpansByKinds) (k : Kind) (ks : List Kind) (machine : List Kind → Machine) (x : State) (ss : List State)
+    (e : Memory)
+    (ps : List Part) → EndsPair k → AtPair f x ss e machine
+    → TellsParts f (k ∷ ks) state.FlowMappingKey ss (after_node value e) ps
+    → SaysParts e (machine (t ++ k ∷ ks)) (node_parts forest.left_out ++ (node_parts value ++ ps))
+keyless_says value t h g f k ks machine x ss e ps z a l =
+    let rest : List Kind = h.0 ++ k ∷ ks in
+    let second : TellsParts f (Value ∷ rest) state.FlowMappingValue ss e (node_parts value ++ ps) =
+    value_says value h.0 h.1 (g h.0) f k ks ss e ps z l in
+    subst (λ (u : List Kind). SaysParts e (machine (u ++ k ∷ ks))
+    (node_parts forest.left_out ++ (node_parts value ++ ps)))
+    (sym h.2) (skipped e (machine (Value ∷ rest)) (at f (Value ∷ rest) state.FlowMappingValue ss e)
+    (node_parts value ++ ps) (f rest) (a.goes_on (Value ∷ rest)) (a.steps Value rest) second)
+
+-- the pair as an entry of braces
+pub pair_says : (key value : Node) (t : List Kind)
+    → YieldsFlowPair key value (YieldsNode key InFlow) (YieldsNode value InFlow) t
+    → ((u : List Kind) → YieldsNode key InFlow u → NodeSays key InFlow u)
+    → ((u : List Kind) → YieldsNode value InFlow u → NodeSays value InFlow u)
+    → (f : SpansByKinds) (k : Kind) (ks : List Kind) (machine : List Kind → Machine) (x : State) (ss : List State)
+    (e : Memory)
+    (ps : List Part) → EndsPair k → AtPair f x ss e machine
+    → TellsParts f (k ∷ ks) state.FlowMappingKey ss (after_node value (after_node key e)) ps
+    → SaysParts e (machine (t ++ k ∷ ks)) (node_parts key ++ (node_parts value ++ ps))
+unfolding flow_key_node
+pair_says key value t (inl h) gk gv f k ks machine x ss e ps z a l =
+    let kt : List Kind = h.2.0 in
+    let vt : List Kind = h.3.0 in
+    let same : t ++ k ∷ ks ≡ Key ∷ (kt ++ Value ∷ (vt ++ k ∷ ks)) =
+    marked_tokens t h.0 h.1 kt vt (k ∷ ks) h.2.2 h.3.2 h.4 in
+    let second : TellsParts f (Value ∷ (vt ++ k ∷ ks)) state.FlowMappingValue ss (after_node key e)
+    (node_parts value ++ ps) = value_says value vt h.3.1 (gv vt) f k ks ss (after_node key e) ps z l in
+    subst (λ (u : List Kind). SaysParts e (machine u) (node_parts key ++ (node_parts value ++ ps))) (sym same)
+    (key_says key kt h.2.1 (gk kt) f Value (vt ++ k ∷ ks) machine x ss e _ tt refl a second)
+pair_says key value t (inr (inl h)) gk gv f k ks machine x ss e ps z a l =
+    subst (λ (v : Node). TellsParts f (k ∷ ks) state.FlowMappingKey ss (after_node v (after_node key e)) ps
+    → SaysParts e (machine (t ++ k ∷ ks)) (node_parts key ++ (node_parts v ++ ps))) (sym h.0)
+    (alone_says key t (inl h.1) gk f k ks machine x ss e ps z a) l
+pair_says key value t (inr (inr (inl h))) gk gv f k ks machine x ss e ps z a l =
+    subst (λ (v : Node). TellsParts f (k ∷ ks) state.FlowMappingKey ss (after_node value (after_node v e)) ps
+    → SaysParts e (machine (t ++ k ∷ ks)) (node_parts v ++ (node_parts value ++ ps))) (sym h.0)
+    (keyless_says value t h.1 gv f k ks machine x ss e ps z a) l
+pair_says key value t (inr (inr (inr h))) gk gv f k ks machine x ss e ps z a l =
+    subst (λ (v : Node). TellsParts f (k ∷ ks) state.FlowMappingKey ss (after_node v (after_node key e)) ps
+    → SaysParts e (machine (t ++ k ∷ ks)) (node_parts key ++ (node_parts v ++ ps))) (sym h.0)
+    (alone_says key t (inr h.1) gk f k ks machine x ss e ps z a) l

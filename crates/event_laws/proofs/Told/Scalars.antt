@@ -1,0 +1,107 @@
+-- Scalars are told.
+use Rattle.std.proofs.Common.{◌≡◌, ℕ, true, List, [], ◌∷◌, ◌++◌, Option, Some, None, option_map, encode_utf8_all, refl, subst, sym, ap, ◌∙◌, inl, inr, arith, append_assoc}
+use Rattle.std.specs.Prelude.{nat_lt, ◌||◌, is_some}
+use Rattle.std.proofs.Math.Bool.{or-true}
+use Rattle.std.proofs.lemmas.Bool.{lt-ltb}
+use Rattle.saphyr_scalar.specs.declared.scalar.position.Span.{Span}
+use Rattle.saphyr_scanner.specs.Grammar.Forest.{Style, Tag, HasOne, HasProperty}
+use Rattle.saphyr_scanner.specs.Grammar.Forest as forest
+use Rattle.saphyr_scanner.specs.Grammar.Tokens.{Kind, scalar_token}
+use Rattle.saphyr_scanner.specs.Grammar.TokenGrammar as grammar
+use Rattle.saphyr_scanner.specs.Grammar.TokenGrammar.{YieldsNode}
+use Rattle.saphyr_scanner.specs.Views.Tokens.{Piece}
+use Rattle.event_laws.specs.Preorder.{Reference, Leaf}
+use Rattle.saphyr_machine.specs.Events.{Happening, ResolvedTag, Alias, Scalar}
+use Rattle.saphyr_machine.specs.Steps.Machine.{Machine, told_event, pop, put_back, meaning, next_id}
+use Rattle.saphyr_machine.specs.Steps.Nodes.{NodeProperties, has_property, span_up_to, node_without_content, alias_of, alias_node, node}
+use Rattle.event_laws.proofs.Told.Telling.{Memory, at}
+use Rattle.event_laws.proofs.Remembering.{noted, resolve, says}
+use Rattle.event_laws.proofs.Told.Nodes.{next_node, Has, node_opens}
+use Rattle.event_laws.proofs.NodeStarts.{context_of, follow_is_content, follow_ends, NodeSays}
+
+-- ## A node that has properties
+
+id_is_positive : (e : Memory) (id : ℕ) → id ≡ next_id e.anchors → nat_lt 0 id ≡ true
+id_is_positive e id h = lt-ltb 0 id (omega (arith, h))
+
+is_tagged : (o : Option ResolvedTag) (found : Option ResolvedTag)
+    → option_map (λ v. let t : Option ResolvedTag = Some v in t) o ≡ Some found → is_some found ≡ true
+is_tagged (Some v) found h = let same : Some v ≡ found = cc in ap is_some (sym same)
+is_tagged None found h = absurd (cc)
+
+has_one : (e : Memory) (anchor : Option (List ℕ)) (tag : Option Tag) (q : NodeProperties) → HasOne anchor tag
+    → Has e anchor tag q → has_property q ≡ true
+has_one e None None q h has = elim h [ ]
+has_one e (Some name) tag q h has = ap (λ b. b || is_some q.tag) (id_is_positive e q.anchor has.anchor_is)
+has_one e None (Some tag) q h has =
+    ap (λ b. nat_lt 0 q.anchor || b) (is_tagged (resolve e.prefixes tag) q.tag has.tag_is) ∙ or-true (nat_lt 0 q.anchor)
+
+empty_is_told : (q : NodeProperties) (t : Piece) (m : Machine) → has_property q ≡ true
+    → node_without_content q t m ≡ told_event (Scalar [] forest.Plain q.anchor q.tag) (span_up_to q q.behind)
+    (pop (put_back t m))
+empty_is_told q t m h = rw h refl
+
+-- ## Scalars
+
+with_token : (p : forest.Properties) (style : Style) (value : List ℕ) (c : grammar.Context)
+    (front content t : List Kind) → grammar.YieldProperties p front → content ≡ scalar_token style value ∷ []
+    → t ≡ front ++ content → NodeSays (forest.Scalar p style value) c t
+with_token p style value c front content t h a b = record {
+  by = λ f k ks m x s ss e ps z more q l.
+      let same : t ++ k ∷ ks ≡ front ++ scalar_token style value ∷ k ∷ ks =
+      rw (b, a) (append_assoc front (scalar_token style value ∷ []) (k ∷ ks)) in
+      node_opens f (context_of c) x (s ∷ ss) e m (at f (k ∷ ks) s ss (noted p.anchor e)) p front
+      (scalar_token style value) (k ∷ ks) (Leaf p style value) ps (Scalar (encode_utf8_all value) style) h tt more
+      (q ∙ ap (λ u. next_node (context_of c) (at f u x (s ∷ ss) e)) same) refl
+      (λ r has. (span_up_to r (f (k ∷ ks)).end, refl)) l;
+}
+
+-- properties alone
+without_token : (p : forest.Properties) (c : grammar.Context) (front content t : List Kind)
+    → grammar.YieldProperties p front → HasProperty p → content ≡ [] → t ≡ front ++ content
+    → NodeSays (forest.Scalar p forest.Plain []) c t
+without_token p c front content t h some a b = record {
+  by = λ f k ks m x s ss e ps z more q l.
+      let same : t ++ k ∷ ks ≡ front ++ k ∷ ks = rw (b, a) (append_assoc front [] (k ∷ ks)) in
+      let n : Machine = at f (k ∷ ks) s ss (noted p.anchor e) in
+      let piece : Piece = record { span = f ks; kind = k } in
+      node_opens f (context_of c) x (s ∷ ss) e m n p front k ks (Leaf p forest.Plain []) ps (Scalar [] forest.Plain) h
+      (follow_is_content c k z) more (q ∙ ap (λ u. next_node (context_of c) (at f u x (s ∷ ss) e)) same) refl
+      (λ r has. (
+        span_up_to r r.behind,
+        follow_ends c k r piece (at f ks x (s ∷ ss) (noted p.anchor e)) z
+            ∙ empty_is_told r piece (at f ks x (s ∷ ss) (noted p.anchor e)) (has_one e p.anchor p.tag r some has),
+      )) l;
+}
+
+pub scalar_says : (p : forest.Properties) (style : Style) (value : List ℕ) (c : grammar.Context) (t : List Kind)
+    → YieldsNode (forest.Scalar p style value) c t → NodeSays (forest.Scalar p style value) c t
+scalar_says p style value c t h = by_content h.3
+  where
+    by_content : grammar.YieldsScalar p style value h.1 → NodeSays (forest.Scalar p style value) c t
+    by_content (inl e) = with_token p style value c h.0 h.1 t h.2 e h.4
+    by_content (inr g) = subst (λ (y : Style). NodeSays (forest.Scalar p y value) c t) (sym g.1)
+        (subst (λ (v : List ℕ). NodeSays (forest.Scalar p forest.Plain v) c t) (sym g.2)
+        (without_token p c h.0 h.1 t h.2 g.0 g.3 h.4))
+
+-- ## Aliases
+
+alias_is_told : (o : Option ℕ) (w : Happening) (s : Span) (m : Machine) → option_map Alias o ≡ Some w
+    → alias_of o s m ≡ told_event w s (pop m)
+alias_is_told (Some id) w s m h = let same : Alias id ≡ w = cc in ap (λ u. told_event u s (pop m)) same
+alias_is_told None w s m h = absurd (cc)
+
+pub alias_says : (name : List ℕ) (c : grammar.Context) (t : List Kind) → YieldsNode (forest.Alias name) c t
+    → NodeSays (forest.Alias name) c t
+unfolding node alias_node
+alias_says name c t h = record {
+  by = λ f k ks m x s ss e ps z more q l.
+      says e m (at f (k ∷ ks) s ss e) (Reference name) ps more
+      (λ w v. (
+        f (k ∷ ks),
+        q ∙ ap (λ u. next_node (context_of c) (at f (u ++ k ∷ ks) x (s ∷ ss) e)) h
+            ∙ alias_is_told (meaning (encode_utf8_all name) e.anchors.ids) w (f (k ∷ ks)) (at f (k ∷ ks) x (s ∷ ss) e)
+            v,
+      ))
+      l;
+}

@@ -1,0 +1,340 @@
+-- The content of a node is turned, behind its properties.
+use Rattle.event_laws.proofs.OwnTokens.{HasOwn, whole, Shape, alone_is}
+use Rattle.std.proofs.Common.{◌≡◌, ◌≤◌, ℕ, Bool, true, false, List, [], ◌∷◌, ◌++◌, length, Option, Some, None, option_map, encode_utf8_all, is_some, Ok, Err, refl, sym, ap, ◌∙◌, subst, inl, inr, append_assoc, arith, length-append}
+use Rattle.std.specs.Prelude.{if◌then◌else◌, nat_lt, ◌||◌}
+use Rattle.saphyr_scalar.specs.declared.scalar.position.Span.{Span}
+use Rattle.saphyr_scalar.specs.declared.scalar.style.ScalarStyle.{ScalarStyle}
+use Rattle.saphyr_scalar.specs.declared.scalar.style.ScalarStyle.TheVariants.{Plain}
+use Rattle.saphyr_scalar.specs.declared.scalar.fault.Refusal.{Refusal}
+use Rattle.saphyr_scalar.specs.declared.scalar.fault.FaultText.TheVariants as fault
+use Rattle.saphyr_scanner.specs.Grammar.Forest.{HasOne, Tag, Node, Pairs, NoPair, MorePairs}
+use Rattle.saphyr_scanner.specs.Grammar.Forest as forest
+use Rattle.saphyr_scanner.specs.Grammar.Tokens as tokens
+use Rattle.saphyr_scanner.specs.Grammar.Tokens.{Kind}
+use Rattle.saphyr_scanner.specs.Views.Tokens.{Piece}
+use Rattle.saphyr_scanner.specs.Grammar.TokenGrammar as grammar
+use Rattle.saphyr_scanner.specs.Grammar.TokenGrammar.{InFlow, InBlock, InBlockMapping, YieldProperties, YieldsScalar, YieldsBlockPair, YieldBlockPairs}
+use Rattle.saphyr_machine.specs.declared.context.NodeContext.{NodeContext}
+use Rattle.saphyr_machine.specs.declared.context.NodeContext.TheVariants.{Flow, Block, BlockMapping}
+use Rattle.saphyr_machine.specs.declared.state.State.{State}
+use Rattle.saphyr_machine.specs.declared.state.State.TheVariants as state
+use Rattle.event_laws.specs.Anchors.{one_more_anchor}
+use Rattle.event_laws.specs.Preorder.{Part, Leaf, OpenSequence, CloseSequence, OpenMapping, CloseMapping}
+use Rattle.saphyr_machine.specs.Events.{Happening, ResolvedTag, Scalar, SequenceStart, MappingStart}
+use Rattle.event_laws.specs.Exactly.{kinds}
+use Rattle.saphyr_machine.specs.Steps.Nodes.{NodeProperties, has_property, node_without_content}
+use Rattle.event_laws.proofs.Told.Telling.{Memory}
+use Rattle.event_laws.proofs.Remembering.{noted, own_id_in, with_properties}
+use Rattle.event_laws.proofs.Told.Nodes.{Has}
+use Rattle.event_laws.proofs.Turned.Following.{Then, Exactly, Claim, IsNodeOf, FirstEntries, FirstPairs, BlockEntries, BlockPairs, InBlockPairs, AtBlockValue, FollowsStates, IsAlive, BeginsWithEntry}
+use Rattle.event_laws.proofs.Turned.Turning.{machine, Goes, Turned, kinds_append, around}
+
+-- ## Where a node stands
+
+abbrev pub place_of : NodeContext → grammar.Context
+place_of Flow = InFlow
+place_of Block = InBlock
+place_of BlockMapping = InBlockMapping
+
+abbrev pub IsPairState : State → Type 0
+IsPairState state.BlockMappingKey = Unit {0}
+IsPairState state.BlockMappingValue = Unit {0}
+IsPairState _ = ⊥
+
+-- the state behind a key or a value of a block mapping
+abbrev pub Suits : NodeContext → State → Type 0
+Suits BlockMapping s = IsPairState s
+Suits _ s = Unit {0}
+
+abbrev pub NodeThen : NodeContext → State → List State → List Kind → List Part → Type 0
+NodeThen c s ss = Then (IsNodeOf (place_of c)) (FollowsStates s ss)
+
+-- ## Properties that were read
+
+pub record Fronted (e : Memory) (p : forest.Properties) (q : NodeProperties) (front : List Piece) : Type 0 where
+  pub are : YieldProperties p (kinds front)
+  pub has : Has e p.anchor p.tag q
+  pub enough : one_more_anchor (option_map encode_utf8_all p.anchor) 0 ≤ length front
+  pub shape : Shape front q
+
+pub with_told : (make : ℕ → Option ResolvedTag → Happening) (e : Memory) (p : forest.Properties) (q : NodeProperties)
+    → Has e p.anchor p.tag q → with_properties make e p ≡ Some (make q.anchor q.tag)
+with_told make e p q h =
+    ap (option_map (make (own_id_in e p.anchor))) h.tag_is
+    ∙ ap (λ (n : ℕ). let o : Option Happening = Some (make n q.tag) in o) (sym h.anchor_is)
+
+pub enough_for : (p : forest.Properties) (front own : List Piece)
+    → one_more_anchor (option_map encode_utf8_all p.anchor) 0 ≤ length front
+    → one_more_anchor (option_map encode_utf8_all p.anchor) 0 ≤ length (front ++ own)
+enough_for p front own l = let a = length-append front own in omega (arith, l, a)
+
+-- ## Scalars
+
+pub leaf_goes : (p : forest.Properties) (q : NodeProperties) (front own : List Piece) (style : ScalarStyle) (value :
+    List ℕ)
+    (span : Span) (c : grammar.Context) (ts : List Piece) (r : Option Refusal) (s : State) (ss : List State)
+    (e : Memory) → Fronted e p q front → YieldsScalar p style value (kinds own) → IsAlive s ss
+    → HasOwn (front ++ own) (Scalar (encode_utf8_all value) style q.anchor q.tag) span ts
+    → Goes (Then (IsNodeOf c) (FollowsStates s ss)) e (front ++ (own ++ ts))
+    (record {
+      what = Scalar (encode_utf8_all value) style q.anchor q.tag;
+      span = span;
+      machine = machine ts r s ss (noted p.anchor e);
+    })
+leaf_goes p q front own style value span c ts r s ss e h i a o = record {
+  used = front ++ own;
+  part = Leaf p style value;
+  taken = sym (append_assoc front own ts);
+  tells = with_told (Scalar (encode_utf8_all value) style) e p q h.has;
+  remembers = refl;
+  few = enough_for p front own h.enough;
+  places = o;
+  alive = a;
+  makes = λ ks ps f st. record {
+    front = kinds (front ++ own);
+    back = ks;
+    first = Leaf p style value ∷ [];
+    second = ps;
+    begins = (forest.Scalar p style value, (kinds front, kinds own, h.are, i, kinds_append front own), refl);
+    goes_on = f;
+    kinds_are = refl;
+    parts_are = refl;
+  };
+}
+
+-- ## Properties alone
+
+none_has : (a : ℕ) (g : Option ResolvedTag) → a ≡ 0 → (let o : Option (Option ResolvedTag) = Some None in o) ≡ Some g
+    → (nat_lt 0 a || is_some g) ≡ true → ⊥
+none_has a None h k t = let no : (nat_lt 0 a || false) ≡ false = ap (λ (n : ℕ). nat_lt 0 n || false) h in cc
+none_has a (Some v) h k t = cc
+
+has_one : (anchor : Option (List ℕ)) (tag : Option Tag) (e : Memory) (q : NodeProperties) → Has e anchor tag q
+    → has_property q ≡ true → HasOne anchor tag
+has_one None None e q h t = absurd (none_has q.anchor q.tag h.anchor_is h.tag_is t)
+has_one (Some a) None e q h t = tt
+has_one None (Some g) e q h t = tt
+has_one (Some a) (Some g) e q h t = tt
+
+pub alone_turned : (t : Piece) (front : List Piece) (p : forest.Properties) (q : NodeProperties) (c : NodeContext)
+    (ts : List Piece) (r : Option Refusal) (x : State) (s : State) (ss : List State) (e : Memory) → Fronted e p q front
+    → IsAlive s ss → Turned (NodeThen c s ss) e (front ++ t ∷ ts)
+    (node_without_content q t (machine ts r x (s ∷ ss) (noted p.anchor e)))
+alone_turned t front p q c ts r x s ss e h a = by (has_property q) refl
+  where
+    by : (b : Bool) → has_property q ≡ b
+        → Turned (NodeThen c s ss) e (front ++ t ∷ ts)
+        (if b then Ok (record {
+          what = Scalar [] Plain q.anchor q.tag;
+          span = record { start = q.start; end = q.behind };
+          machine = machine (t ∷ ts) r s ss (noted p.anchor e);
+        }) else Err
+        (record { text = fault.NodeContentExpected; mark = t.span.start }))
+    by true y = leaf_goes p q front [] Plain [] (record { start = q.start; end = q.behind }) (place_of c) (t ∷ ts) r s
+        ss e h (inr (has_one p.anchor p.tag e q h.has y, refl, refl, refl)) a
+        (whole (front ++ []) _ _ (alone_is front q h.shape))
+    by false y = tt
+
+-- ## Collections
+
+pub split : (front : List Piece) (t : Piece) (u : List Kind) → kinds (front ++ t ∷ []) ++ u ≡ kinds front ++ t.kind ∷ u
+split front t u = ap (λ (l : List Kind). l ++ u) (kinds_append front (t ∷ []))
+    ∙ append_assoc (kinds front) (t.kind ∷ []) u
+
+pub taken_one : (front : List Piece) (t : Piece) (ts : List Piece) → front ++ t ∷ ts ≡ (front ++ t ∷ []) ++ ts
+taken_one front t ts = sym (append_assoc front (t ∷ []) ts)
+
+pub flow_sequence_goes : (t : Piece) (p : forest.Properties) (q : NodeProperties) (front : List Piece) (span : Span)
+    (c : grammar.Context) (ts : List Piece) (r : Option Refusal) (s : State) (ss : List State) (e : Memory)
+    → t.kind ≡ tokens.FlowSequenceStart → Fronted e p q front → IsAlive s ss
+    → HasOwn (front ++ t ∷ []) (SequenceStart q.anchor q.tag) span ts
+    → Goes (Then (IsNodeOf c) (FollowsStates s ss)) e (front ++ t ∷ ts)
+    (record {
+      what = SequenceStart q.anchor q.tag;
+      span = span;
+      machine = machine ts r state.FlowSequenceFirstEntry (s ∷ ss) (noted p.anchor e);
+    })
+flow_sequence_goes t p q front span c ts r s ss e k h a o = record {
+  used = front ++ t ∷ [];
+  part = OpenSequence p;
+  taken = taken_one front t ts;
+  tells = with_told SequenceStart e p q h.has;
+  remembers = refl;
+  few = enough_for p front (t ∷ []) h.enough;
+  places = o;
+  alive = (tt, a);
+  makes = λ ks ps f st. around FirstEntries (FollowsStates s ss) (IsNodeOf c) (kinds (front ++ t ∷ []))
+      (tokens.FlowSequenceEnd ∷ []) (OpenSequence p) CloseSequence ks ps
+      (λ u w g. (
+        forest.Seq p g.0,
+        (
+          kinds front,
+          tokens.FlowSequenceStart
+              ∷ (u ++ tokens.FlowSequenceEnd ∷ []),
+          h.are,
+          inl (u, g.1, refl),
+          split front t (u ++ tokens.FlowSequenceEnd ∷ [])
+              ∙ ap (λ (y : Kind). kinds front ++ y ∷ (u ++ tokens.FlowSequenceEnd ∷ [])) k,
+        ),
+        ap
+            (λ (l : List Part). OpenSequence p ∷ (l ++ CloseSequence ∷ [])) g.2,
+      )) f;
+}
+
+pub flow_mapping_goes : (t : Piece) (p : forest.Properties) (q : NodeProperties) (front : List Piece) (span : Span)
+    (c : grammar.Context) (ts : List Piece) (r : Option Refusal) (s : State) (ss : List State) (e : Memory)
+    → t.kind ≡ tokens.FlowMappingStart → Fronted e p q front → IsAlive s ss
+    → HasOwn (front ++ t ∷ []) (MappingStart q.anchor q.tag) span ts
+    → Goes (Then (IsNodeOf c) (FollowsStates s ss)) e (front ++ t ∷ ts)
+    (record {
+      what = MappingStart q.anchor q.tag;
+      span = span;
+      machine = machine ts r state.FlowMappingFirstKey (s ∷ ss) (noted p.anchor e);
+    })
+flow_mapping_goes t p q front span c ts r s ss e k h a o = record {
+  used = front ++ t ∷ [];
+  part = OpenMapping p;
+  taken = taken_one front t ts;
+  tells = with_told MappingStart e p q h.has;
+  remembers = refl;
+  few = enough_for p front (t ∷ []) h.enough;
+  places = o;
+  alive = (tt, a);
+  makes = λ ks ps f st. around FirstPairs (FollowsStates s ss) (IsNodeOf c) (kinds (front ++ t ∷ []))
+      (tokens.FlowMappingEnd ∷ []) (OpenMapping p) CloseMapping ks ps
+      (λ u w g. (
+        forest.Map p g.0,
+        (
+          kinds front,
+          tokens.FlowMappingStart
+              ∷ (u ++ tokens.FlowMappingEnd ∷ []),
+          h.are,
+          inl (u, g.1, refl),
+          split front t (u ++ tokens.FlowMappingEnd ∷ [])
+              ∙ ap (λ (y : Kind). kinds front ++ y ∷ (u ++ tokens.FlowMappingEnd ∷ [])) k,
+        ),
+        ap
+            (λ (l : List Part). OpenMapping p ∷ (l ++ CloseMapping ∷ [])) g.2,
+      )) f;
+}
+
+pub block_sequence_goes : (t : Piece) (p : forest.Properties) (q : NodeProperties) (front : List Piece) (span : Span)
+    (c : grammar.Context) (ts : List Piece) (r : Option Refusal) (s : State) (ss : List State) (e : Memory)
+    → t.kind ≡ tokens.BlockSequenceStart → grammar.AllowsBlock c → Fronted e p q front → IsAlive s ss
+    → HasOwn (front ++ t ∷ []) (SequenceStart q.anchor q.tag) span ts
+    → Goes (Then (IsNodeOf c) (FollowsStates s ss)) e (front ++ t ∷ ts)
+    (record {
+      what = SequenceStart q.anchor q.tag;
+      span = span;
+      machine = machine ts r state.BlockSequenceEntry (s ∷ ss) (noted p.anchor e);
+    })
+block_sequence_goes t p q front span c ts r s ss e k b h a o = record {
+  used = front ++ t ∷ [];
+  part = OpenSequence p;
+  taken = taken_one front t ts;
+  tells = with_told SequenceStart e p q h.has;
+  remembers = refl;
+  few = enough_for p front (t ∷ []) h.enough;
+  places = o;
+  alive = (tt, a);
+  makes = λ ks ps f st. around BlockEntries (FollowsStates s ss) (IsNodeOf c) (kinds (front ++ t ∷ []))
+      (tokens.BlockEnd ∷ [])
+      (OpenSequence p) CloseSequence ks ps
+      (λ u w g. (
+        forest.Seq p g.0,
+        (
+          kinds front,
+          tokens.BlockSequenceStart
+              ∷ (u ++ tokens.BlockEnd ∷ []),
+          h.are,
+          inr (inl (b, (u, g.1, refl))),
+          split front t (u ++ tokens.BlockEnd ∷ [])
+              ∙ ap (λ (y : Kind). kinds front ++ y ∷ (u ++ tokens.BlockEnd ∷ [])) k,
+        ),
+        ap
+            (λ (l : List Part). OpenSequence p ∷ (l ++ CloseSequence ∷ [])) g.2,
+      )) f;
+}
+
+pub block_mapping_goes : (t : Piece) (p : forest.Properties) (q : NodeProperties) (front : List Piece) (span : Span)
+    (c : grammar.Context) (ts : List Piece) (r : Option Refusal) (s : State) (ss : List State) (e : Memory)
+    → t.kind ≡ tokens.BlockMappingStart → grammar.AllowsBlock c → Fronted e p q front → IsAlive s ss
+    → HasOwn (front ++ t ∷ []) (MappingStart q.anchor q.tag) span ts
+    → Goes (Then (IsNodeOf c) (FollowsStates s ss)) e (front ++ t ∷ ts)
+    (record {
+      what = MappingStart q.anchor q.tag;
+      span = span;
+      machine = machine ts r state.BlockMappingKey (s ∷ ss) (noted p.anchor e);
+    })
+block_mapping_goes t p q front span c ts r s ss e k b h a o = record {
+  used = front ++ t ∷ [];
+  part = OpenMapping p;
+  taken = taken_one front t ts;
+  tells = with_told MappingStart e p q h.has;
+  remembers = refl;
+  few = enough_for p front (t ∷ []) h.enough;
+  places = o;
+  alive = (tt, a);
+  makes = λ ks ps f st. around BlockPairs (FollowsStates s ss) (IsNodeOf c) (kinds (front ++ t ∷ []))
+      (tokens.BlockEnd ∷ [])
+      (OpenMapping p) CloseMapping ks ps
+      (λ u w g. (
+        forest.Map p g.0,
+        (
+          kinds front,
+          tokens.BlockMappingStart
+              ∷ (u ++ tokens.BlockEnd ∷ []),
+          h.are,
+          inr (b, (u, g.1, refl)),
+          split front t (u ++ tokens.BlockEnd ∷ [])
+              ∙ ap (λ (y : Kind). kinds front ++ y ∷ (u ++ tokens.BlockEnd ∷ [])) k,
+        ),
+        ap
+            (λ (l : List Part). OpenMapping p ∷ (l ++ CloseMapping ∷ [])) g.2,
+      )) f;
+}
+
+-- ## Sequences at the column of the mapping around them
+
+pair_begins : (key value : Node) (K V : List Kind → Type 0) (others t u : List Kind)
+    → YieldsBlockPair key value K V others t → BeginsWithEntry (t ++ u) → ⊥
+pair_begins key value K V others t u (inl h) =
+    subst (λ (l : List Kind). BeginsWithEntry (l ++ u) → ⊥) (sym (h.4 ∙ ap (λ (l : List Kind). l ++ h.1) h.2.2))
+    (λ z. z)
+pair_begins key value K V others t u (inr (inl h)) =
+    subst (λ (l : List Kind). BeginsWithEntry (l ++ u) → ⊥) (sym h.2.2) (λ z. z)
+pair_begins key value K V others t u (inr (inr h)) =
+    subst (λ (l : List Kind). BeginsWithEntry (l ++ u) → ⊥) (sym h.1.2) (λ z. z)
+
+pairs_begin : (qs : Pairs) (t u : List Kind) → YieldBlockPairs qs t → (BeginsWithEntry u → ⊥) → BeginsWithEntry (t ++ u)
+    → ⊥
+pairs_begin NoPair t u h n = subst (λ (l : List Kind). BeginsWithEntry (l ++ u) → ⊥) (sym h) n
+pairs_begin (MorePairs key value qs) t u h n =
+    subst (λ (l : List Kind). BeginsWithEntry l → ⊥) (sym (ap (λ (l : List Kind). l ++ u) h.4 ∙ append_assoc h.0 h.1 u))
+    (pair_begins key value _ _ h.1 h.0 (h.1 ++ u) h.2)
+
+in_pairs_begin : (R : Claim) (ks : List Kind) (ps : List Part) → InBlockPairs R ks ps → BeginsWithEntry ks → ⊥
+in_pairs_begin R ks ps h =
+    let g : Then (Exactly (tokens.BlockEnd ∷ []) (CloseMapping ∷ [])) R h.back h.second = h.goes_on in
+    subst (λ (l : List Kind). BeginsWithEntry l → ⊥) (sym h.kinds_are)
+    (pairs_begin h.begins.0 h.front h.back h.begins.1
+    (subst (λ (l : List Kind). BeginsWithEntry l → ⊥)
+    (sym (g.kinds_are ∙ ap (λ (l : List Kind). l ++ g.back) g.begins.0)) (λ z. z)))
+
+at_value_begins : (R : Claim) (ks : List Kind) (ps : List Part) → AtBlockValue R ks ps → BeginsWithEntry ks → ⊥
+at_value_begins R ks ps (inl h) =
+    subst (λ (l : List Kind). BeginsWithEntry l → ⊥)
+    (sym (h.kinds_are ∙ ap (λ (l : List Kind). l ++ h.back) h.begins.1.2)) (λ z. z)
+at_value_begins R ks ps (inr h) =
+    subst (λ (l : List Kind). BeginsWithEntry l → ⊥)
+    (sym (h.1.kinds_are ∙ ap (λ (l : List Kind). l ++ h.1.back) h.1.begins.0))
+    (in_pairs_begin R h.1.back h.1.second h.1.goes_on)
+
+pub no_entry : (s : State) (ss : List State) (ks : List Kind) (ps : List Part) → IsPairState s
+    → FollowsStates s ss ks ps
+    → BeginsWithEntry ks → ⊥
+no_entry state.BlockMappingKey [] ks ps i h = absurd h
+no_entry state.BlockMappingKey (o ∷ ss) ks ps i h = in_pairs_begin (FollowsStates o ss) ks ps h
+no_entry state.BlockMappingValue [] ks ps i h = absurd h
+no_entry state.BlockMappingValue (o ∷ ss) ks ps i h = at_value_begins (FollowsStates o ss) ks ps h
+no_entry _ ss ks ps i h = elim i [ ]

@@ -1,0 +1,168 @@
+-- Directives that were passed go together, and what they declare is remembered.
+use Rattle.std.proofs.Common.{◌≡◌, ◌≢◌, ℕ, Bool, true, false, List, [], ◌∷◌, ◌++◌, map, encode_utf8_all, Result, Ok, Err, refl, sym, ap, ◌∙◌, subst}
+use Rattle.std.specs.Prelude.{if◌then◌else◌}
+use Rattle.std.specs.BTreeMap.{is_at}
+use Rattle.std.specs.Cmp.Lexicographic.{slice_cmp}
+use Rattle.std.specs.Ordering.{nat_cmp}
+use Rattle.std.specs.Str.{bytes_eq}
+use Rattle.std.proofs.lemmas.Map.Text.{is_eq-slice_cmp}
+use Rattle.std.proofs.lemmas.Slice.Eq.{bytes_eq-Decides}
+use Rattle.saphyr_scalar.specs.declared.scalar.position.Span.{Span}
+use Rattle.saphyr_scalar.specs.declared.scalar.fault.Refusal.{Refusal}
+use Rattle.saphyr_scalar.specs.declared.scalar.fault.FaultText.TheVariants as fault
+use Rattle.saphyr_scanner.specs.Grammar.Forest.{Handle, handle_bytes, Directive, Version, TagPrefix, Reserved, GoesWith, GoesWithAll, AreCompatible}
+use Rattle.saphyr_scanner.specs.Grammar.Tokens as tokens
+use Rattle.saphyr_scanner.specs.Grammar.Tokens.{Kind, directive_token}
+use Rattle.saphyr_scanner.specs.Views.Tokens.{Piece}
+use Rattle.event_laws.specs.Exactly.{kinds}
+use Rattle.saphyr_machine.specs.Steps.Machine.{◌>>=◌, Machine, with_meaning, is_listed, with_name, with_pieces}
+use Rattle.saphyr_machine.specs.Steps.Documents.{Declared, is_directive, with_handle, directive_at, directives_from}
+use Rattle.event_laws.specs.WellFormed.{IsWellFormed, AreWellFormed}
+use Rattle.event_laws.proofs.Remembering.{declaring}
+use Rattle.event_laws.proofs.NameLaws.{listed_test}
+use Rattle.event_laws.proofs.DirectivesPass.{IsFree, AreFree, declared_by}
+use Rattle.std.proofs.lemmas.Bool.{or_parts}
+
+-- ## Directives that may stand together
+
+was_unlisted : (name other : List ℕ) (names : List (List ℕ)) → is_listed name (with_name other names) ≡ false
+    → (other ≢ name) × (is_listed name names ≡ false)
+was_unlisted name other names h =
+    let both : (is_at (slice_cmp nat_cmp name) other ≡ false) × (is_listed name names ≡ false) =
+    or_parts (is_at (slice_cmp nat_cmp name) other) (is_listed name names)
+    (sym (listed_test name other names) ∙ h) in
+    let differ : bytes_eq name other ≡ false = sym (is_eq-slice_cmp name other) ∙ both.0 in (
+      (λ e. let same : bytes_eq name other ≡ true =
+          (bytes_eq-Decides name other).1 (sym e) in let no_way : true ≡ false = sym same ∙ differ in cc),
+      both.1,
+    )
+
+was_free : (x y : Directive) (d : Declared) → IsFree (declared_by x d) y → GoesWith x y × IsFree d y
+was_free (Version _ _) (Version _ _) d h = absurd (cc)
+was_free (Version _ _) (TagPrefix _ _) d h = (tt, h)
+was_free (TagPrefix a _) (TagPrefix b _) d h = was_unlisted (handle_bytes b) (handle_bytes a) d.handles h
+was_free (TagPrefix _ _) (Version _ _) d h = (tt, h)
+was_free (Reserved _) y d h = (tt, h)
+was_free (Version _ _) (Reserved _) d h = (tt, tt)
+was_free (TagPrefix _ _) (Reserved _) d h = (tt, tt)
+
+all_were_free : (x : Directive) (ys : List Directive) (d : Declared) → AreFree (declared_by x d) ys
+    → GoesWithAll x ys × AreFree d ys
+all_were_free x [] d h = (tt, tt)
+all_were_free x (y ∷ ys) d h =
+    let one : GoesWith x y × IsFree d y = was_free x y d h.0 in
+    let others : GoesWithAll x ys × AreFree d ys = all_were_free x ys d h.1 in
+    ((one.0, others.0), (one.1, others.1))
+
+-- ## What was passed
+
+abbrev pub declaring_machine : List Directive → List Piece → Machine → Machine
+declaring_machine ds rest m =
+    record m { tokens = record { pieces = rest; refusal = m.tokens.refusal }; prefixes = declaring ds m.prefixes }
+
+-- directives, and the token behind them
+pub record PassesDirectives (ts : List Piece) (d : Declared) (m : Machine) (u : Piece) (n : Machine) : Type 0 where
+  pub directives : List Directive
+  pub used : List Piece
+  pub rest : List Piece
+  pub are : ts ≡ used ++ u ∷ rest
+  pub kinds_are : kinds used ≡ map directive_token directives
+  pub compatible : AreCompatible directives
+  pub free : AreFree d directives
+  pub leaves : n ≡ declaring_machine directives rest m
+
+abbrev pub PassedBy : List Piece → Declared → Machine → Result (Piece × Machine) Refusal → Type 0
+PassedBy ts d m (Ok x) = PassesDirectives ts d m x.0 x.1
+PassedBy ts d m (Err f) = Unit {0}
+
+nothing_passed : (t : Piece) (ts : List Piece) (d : Declared) (m : Machine)
+    → PassedBy (t ∷ ts) d m (Ok (t, with_pieces ts m))
+nothing_passed t ts d m =
+    record {
+      directives = [];
+      used = [];
+      rest = ts;
+      are = refl;
+      kinds_are = refl;
+      compatible = tt;
+      free = tt;
+      leaves = refl;
+    }
+
+-- one more directive
+one_more_directive : (x : Directive) (t : Piece) (ts : List Piece) (d : Declared) (m n : Machine)
+    (r : Result (Piece × Machine) Refusal) → t.kind ≡ directive_token x → IsFree d x
+    → ((ds : List Directive) (rest : List Piece) → declaring_machine ds rest n ≡ declaring_machine (x ∷ ds) rest m)
+    → PassedBy ts (declared_by x d) n r → PassedBy (t ∷ ts) d m r
+one_more_directive x t ts d m n (Err f) k free same h = tt
+one_more_directive x t ts d m n (Ok y) k free same h =
+    let others : GoesWithAll x h.directives × AreFree d h.directives = all_were_free x h.directives d h.free in
+    record {
+      directives = x ∷ h.directives;
+      used = t ∷ h.used;
+      rest = h.rest;
+      are = ap (λ (l : List Piece). t ∷ l) h.are;
+      kinds_are = ap (λ (l : Kind). l ∷ kinds h.used) k ∙ ap (λ (l : List Kind). directive_token x ∷ l) h.kinds_are;
+      compatible = (others.0, h.compatible);
+      free = (free, others.1);
+      leaves = h.leaves ∙ same h.directives h.rest;
+    }
+
+version_passed : (b : Bool) (major minor : ℕ) (t : Piece) (ts : List Piece) (d : Declared) (m : Machine) → d.version ≡ b
+    → t.kind ≡ tokens.VersionDirective major minor
+    → ((d : Declared) (m : Machine) → PassedBy ts d m (directives_from ts d m))
+    → PassedBy (t ∷ ts) d m (((if b then Err (record { text = fault.DuplicateVersionDirective; mark = t.span.start })
+    else (let y : Result Declared Refusal = Ok (record { version = true; handles = d.handles }) in y))
+    >>= (λ e. let y : Result (Declared × Machine) Refusal = Ok (e, with_pieces ts m) in y))
+    >>= (λ s. directives_from ts s.0 s.1))
+version_passed true major minor t ts d m v k go = tt
+version_passed false major minor t ts d m v k go =
+    one_more_directive (Version major minor) t ts d m (with_pieces ts m) _ k v (λ ds rest. refl)
+    (go (record { version = true; handles = d.handles }) (with_pieces ts m))
+
+tag_passed : (b : Bool) (handle : Handle) (prefix : List ℕ) (t : Piece) (ts : List Piece) (d : Declared) (m : Machine)
+    → is_listed (handle_bytes handle) d.handles ≡ b
+    → t.kind ≡ tokens.TagDirective (handle_bytes handle) (encode_utf8_all prefix)
+    → ((d : Declared) (m : Machine) → PassedBy ts d m (directives_from ts d m))
+    → PassedBy (t ∷ ts) d m ((if b then Err (record { text = fault.DuplicateTagDirective; mark = t.span.start }) else
+    (let y : Result (Declared × Machine) Refusal =
+    Ok (
+      record { version = d.version; handles = with_name (handle_bytes handle) d.handles },
+      record (with_pieces ts m)
+          { prefixes = with_meaning (handle_bytes handle) (encode_utf8_all prefix) m.prefixes },
+    ) in y))
+    >>= (λ s. directives_from ts s.0 s.1))
+tag_passed true handle prefix t ts d m v k go = tt
+tag_passed false handle prefix t ts d m v k go =
+    one_more_directive (TagPrefix handle prefix) t ts d m
+    (record (with_pieces ts m) { prefixes = with_meaning (handle_bytes handle) (encode_utf8_all prefix) m.prefixes })
+    _ k v
+    (λ ds rest. refl) (go _ _)
+
+passed_at : (k : Kind) (sp : Span) (ts : List Piece) (d : Declared) (m : Machine) → IsWellFormed k
+    → ((d : Declared) (m : Machine) → PassedBy ts d m (directives_from ts d m))
+    → PassedBy (record { span = sp; kind = k } ∷ ts) d m
+    (if is_directive k then directive_at k (record { span = sp; kind = k }) d (with_pieces ts m)
+    >>= (λ s. directives_from ts s.0 s.1) else Ok (record { span = sp; kind = k }, with_pieces ts m))
+passed_at (tokens.VersionDirective major minor) sp ts d m w go =
+    version_passed d.version major minor (record { span = sp; kind = tokens.VersionDirective major minor }) ts d m refl
+    refl go
+passed_at (tokens.TagDirective handle prefix) sp ts d m w go =
+    subst (λ (h : List ℕ). PassedBy (record { span = sp; kind = tokens.TagDirective h prefix } ∷ ts) d m
+    (with_handle h prefix sp.start d (with_pieces ts m) >>= (λ s. directives_from ts s.0 s.1))) (sym w.1)
+    (subst (λ (p : List ℕ). PassedBy (record { span = sp; kind = tokens.TagDirective (handle_bytes w.0) p } ∷ ts) d m
+    (with_handle (handle_bytes w.0) p sp.start d (with_pieces ts m) >>= (λ s. directives_from ts s.0 s.1)))
+    (sym w.2.1)
+    (tag_passed (is_listed (handle_bytes w.0) d.handles) w.0 w.2.0
+    (record { span = sp; kind = tokens.TagDirective (handle_bytes w.0) (encode_utf8_all w.2.0) }) ts d m refl refl
+    go))
+passed_at (tokens.ReservedDirective name) sp ts d m w go =
+    one_more_directive (Reserved w.0) (record { span = sp; kind = tokens.ReservedDirective name }) ts d m
+    (with_pieces ts m) _
+    (ap tokens.ReservedDirective w.1) tt (λ ds rest. refl) (go d (with_pieces ts m))
+passed_at k sp ts d m w go = nothing_passed (record { span = sp; kind = k }) ts d m
+
+pub directives_passed : (ts : List Piece) (d : Declared) (m : Machine) → AreWellFormed ts
+    → PassedBy ts d m (directives_from ts d m)
+directives_passed [] d m w = tt
+directives_passed (t ∷ ts) d m w = passed_at t.kind t.span ts d m w.0 (λ c n. directives_passed ts c n w.2)

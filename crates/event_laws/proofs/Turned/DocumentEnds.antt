@@ -1,0 +1,265 @@
+-- The steps at the content and the end of documents are turned.
+use Rattle.event_laws.proofs.OwnTokens.{ArePassed}
+use Rattle.event_laws.specs.EventsTaken.{BelongsToNone}
+use Rattle.std.proofs.Common.{◌≡◌, Bool, true, false, List, [], ◌∷◌, ◌++◌, map, Option, Result, Ok, Err, refl, sym, ap, ◌∙◌, subst, ◌⊎◌, inl, inr, append_assoc, append-nil, arith}
+use Rattle.std.specs.Prelude.{if◌then◌else◌}
+use Rattle.saphyr_scalar.specs.declared.scalar.position.Marker.{Marker}
+use Rattle.saphyr_scalar.specs.declared.scalar.position.Span.{Span}
+use Rattle.saphyr_scalar.specs.declared.scalar.fault.Refusal.{Refusal}
+use Rattle.saphyr_scanner.specs.Grammar.Forest.{Directive, Version, TagPrefix, Reserved, Forest}
+use Rattle.saphyr_scanner.specs.Grammar.Tokens as tokens
+use Rattle.saphyr_scanner.specs.Grammar.Tokens.{Kind, directive_token}
+use Rattle.saphyr_scanner.specs.Views.Tokens.{Piece}
+use Rattle.saphyr_scanner.specs.Grammar.TokenGrammar.{InBlock, AreMarks, AreEndsAndMarks, YieldDocuments}
+use Rattle.saphyr_machine.specs.declared.context.NodeContext.TheVariants.{Block}
+use Rattle.saphyr_machine.specs.declared.state.State.{State}
+use Rattle.saphyr_machine.specs.declared.state.State.TheVariants as state
+use Rattle.event_laws.specs.Preorder.{Part, CloseDocument}
+use Rattle.event_laws.specs.Exactly.{kinds}
+use Rattle.saphyr_machine.specs.Steps.Machine.{◌>>=◌, Machine, with_pieces}
+use Rattle.saphyr_machine.specs.Steps.Block.{block_node}
+use Rattle.saphyr_machine.specs.Steps.Documents.{is_mark, unpassed_token_from, unpassed_token, no_content, document_content_at, document_content, token_behind_marks_at, token_behind_marks, token_behind_document_at, token_behind_document, without_prefixes, document_end_at, document_end}
+use Rattle.event_laws.specs.WellFormed.{AreWellFormed}
+use Rattle.event_laws.proofs.Told.Telling.{Memory}
+use Rattle.event_laws.proofs.Turned.Following.{Then, IsNodeOf, IsOptionalOf, AreExplicit, Outside, FollowsStates, IsAlive, IsFree, BeginsFreely}
+use Rattle.event_laws.proofs.Turned.Turning.{machine, Turned, weaker, replace}
+use Rattle.event_laws.proofs.Turned.Content.{split, taken_one}
+use Rattle.event_laws.proofs.Turned.Nodes.{node_turned}
+use Rattle.event_laws.proofs.Turned.Entries.{skip_optional}
+
+-- ## Content
+
+pub block_node_turned : (ts : List Piece) (r : Option Refusal) (x s : State) (ss : List State) (e : Memory)
+    → AreWellFormed ts → IsAlive s ss
+    → Turned (Then (IsNodeOf InBlock) (FollowsStates s ss)) e ts (block_node (machine ts r x (s ∷ ss) e))
+unfolding block_node
+block_node_turned [] r x s ss e w a = tt
+block_node_turned (t ∷ ts) r x s ss e w a = node_turned t Block ts r x s ss e w tt a
+
+no_content_turned : (t : Piece) (ts : List Piece) (r : Option Refusal) (x s : State) (ss : List State) (e : Memory)
+    → IsAlive s ss → Turned (Then (IsOptionalOf InBlock) (FollowsStates s ss)) e (t ∷ ts)
+    (no_content t (machine ts r x (s ∷ ss) e))
+no_content_turned t ts r x s ss e a = skip_optional InBlock t t.span ts r x s ss e a
+
+content_at_turned : (k : Kind) (sp : Span) (ts : List Piece) (r : Option Refusal) (x s : State) (ss : List State)
+    (e : Memory) → AreWellFormed (record { span = sp; kind = k } ∷ ts) → IsAlive s ss
+    → Turned (Then (IsOptionalOf InBlock) (FollowsStates s ss)) e (record { span = sp; kind = k } ∷ ts)
+    (document_content_at k (record { span = sp; kind = k }) (machine ts r x (s ∷ ss) e))
+content_at_turned (tokens.VersionDirective major minor) sp ts r x s ss e w a = no_content_turned _ ts r x s ss e a
+content_at_turned (tokens.TagDirective handle prefix) sp ts r x s ss e w a = no_content_turned _ ts r x s ss e a
+content_at_turned (tokens.ReservedDirective name) sp ts r x s ss e w a = no_content_turned _ ts r x s ss e a
+content_at_turned tokens.DocumentStart sp ts r x s ss e w a = no_content_turned _ ts r x s ss e a
+content_at_turned tokens.DocumentEnd sp ts r x s ss e w a = no_content_turned _ ts r x s ss e a
+content_at_turned tokens.ByteOrderMark sp ts r x s ss e w a = no_content_turned _ ts r x s ss e a
+content_at_turned tokens.StreamEnd sp ts r x s ss e w a = no_content_turned _ ts r x s ss e a
+content_at_turned k sp ts r x s ss e w a =
+    weaker (Then (IsNodeOf InBlock) (FollowsStates s ss)) (Then (IsOptionalOf InBlock) (FollowsStates s ss)) e _ _
+    (λ ks ps h. replace (IsNodeOf InBlock) (FollowsStates s ss) (IsOptionalOf InBlock) [] [] ks ps
+    (λ u q g. (g.0, inr g.1, g.2)) h) (node_turned (record { span = sp; kind = k }) Block ts r x s ss e w tt a)
+
+pub content_turned : (ts : List Piece) (r : Option Refusal) (x s : State) (ss : List State) (e : Memory)
+    → AreWellFormed ts → IsAlive s ss
+    → Turned (Then (IsOptionalOf InBlock) (FollowsStates s ss)) e ts (document_content (machine ts r x (s ∷ ss) e))
+unfolding document_content
+content_turned [] r x s ss e w a = tt
+content_turned (t ∷ ts) r x s ss e w a = content_at_turned t.kind t.span ts r x s ss e w a
+
+-- ## Byte order marks behind a document
+
+-- marks, and the token behind them
+record Marked (ts : List Piece) (m : Machine) (u : Piece) (n : Machine) : Type 0 where
+  marks : List Piece
+  rest : List Piece
+  are : ts ≡ marks ++ u ∷ rest
+  are_marks : AreMarks (kinds marks)
+  no_mark : is_mark u.kind ≡ false
+  leaves : n ≡ with_pieces rest m
+
+abbrev MarkedBy : List Piece → Machine → Result (Piece × Machine) Refusal → Type 0
+MarkedBy ts m (Ok x) = Marked ts m x.0 x.1
+MarkedBy ts m (Err f) = Unit {0}
+
+mark_is : (k : Kind) → is_mark k ≡ true → k ≡ tokens.ByteOrderMark
+mark_is tokens.ByteOrderMark h = refl
+mark_is _ h = absurd (cc)
+
+one_more_mark : (t : Piece) (ts : List Piece) (m : Machine) (r : Result (Piece × Machine) Refusal)
+    → is_mark t.kind ≡ true
+    → MarkedBy ts (with_pieces ts m) r → MarkedBy (t ∷ ts) m r
+one_more_mark t ts m (Ok x) k h =
+    record {
+      marks = t ∷ h.marks;
+      rest = h.rest;
+      are = ap (λ (l : List Piece). t ∷ l) h.are;
+      are_marks = (mark_is t.kind k, h.are_marks);
+      no_mark = h.no_mark;
+      leaves = h.leaves;
+    }
+one_more_mark t ts m (Err f) k h = tt
+
+marks_passed : (ts : List Piece) (m : Machine) → MarkedBy ts m (unpassed_token_from is_mark ts m)
+marks_passed [] m = tt
+marks_passed (t ∷ ts) m = by (is_mark t.kind) refl (marks_passed ts (with_pieces ts m))
+  where
+    by : (b : Bool) → is_mark t.kind ≡ b → MarkedBy ts (with_pieces ts m)
+        (unpassed_token_from is_mark ts (with_pieces ts m))
+        → MarkedBy (t ∷ ts) m (if b then unpassed_token_from is_mark ts (with_pieces ts m) else Ok
+        (t, with_pieces ts m))
+    by true y h = one_more_mark t ts m _ y h
+    by false y h = record { marks = []; rest = ts; are = refl; are_marks = tt; no_mark = y; leaves = refl }
+
+behind_at : (k : Kind) (sp : Span) (place : Marker) (n : Machine) (ts : List Piece) (m : Machine)
+    → Marked ts m (record { span = sp; kind = k }) n
+    → MarkedBy ts m (token_behind_marks_at k place (record { span = sp; kind = k }) n)
+behind_at tokens.DocumentStart sp place n ts m h = h
+behind_at tokens.DocumentEnd sp place n ts m h = h
+behind_at tokens.StreamEnd sp place n ts m h = h
+behind_at _ sp place n ts m h = tt
+
+behind_some : (res : Result (Piece × Machine) Refusal) (place : Marker) (ts : List Piece) (m : Machine)
+    → MarkedBy ts m res → MarkedBy ts m (res >>= (λ t. token_behind_marks_at t.0.kind place t.0 t.1))
+behind_some (Err f) place ts m h = tt
+behind_some (Ok y) place ts m h = behind_at y.0.kind y.0.span place y.1 ts m h
+
+behind_all : (place : Marker) (ts : List Piece) (m : Machine)
+    → MarkedBy ts (with_pieces ts m) (token_behind_marks place (with_pieces ts m))
+unfolding token_behind_marks unpassed_token
+behind_all place ts m = behind_some _ place ts (with_pieces ts m) (marks_passed ts (with_pieces ts m))
+
+document_at : (k : Kind) (sp : Span) (ts : List Piece) (m : Machine)
+    → MarkedBy (record { span = sp; kind = k } ∷ ts) m
+    (token_behind_document_at k (record { span = sp; kind = k }) (with_pieces ts m))
+document_at tokens.ByteOrderMark sp ts m =
+    one_more_mark (record { span = sp; kind = tokens.ByteOrderMark }) ts m _ refl (behind_all sp.start ts m)
+document_at _ sp ts m = record { marks = []; rest = ts; are = refl; are_marks = tt; no_mark = refl; leaves = refl }
+
+behind_turned : (ts : List Piece) (r : Option Refusal) (x : State) (e : Memory)
+    → MarkedBy ts (machine ts r x [] e) (token_behind_document (machine ts r x [] e))
+unfolding token_behind_document
+behind_turned [] r x e = tt
+behind_turned (t ∷ ts) r x e = document_at t.kind t.span ts (machine (t ∷ ts) r x [] e)
+
+are_passed : (marks : List Piece) → AreMarks (kinds marks) → ArePassed marks
+are_passed [] a = tt
+are_passed (t ∷ marks) a = (subst BelongsToNone (sym a.0) tt, are_passed marks a.1)
+
+passed_with : (marks : List Piece) (u : Piece) → AreMarks (kinds marks) → BelongsToNone u.kind
+    → ArePassed (marks ++ u ∷ [])
+passed_with [] u a b = (b, tt)
+passed_with (t ∷ marks) u a b = (subst BelongsToNone (sym a.0) tt, passed_with marks u a.1 b)
+
+-- ## The end of a document
+
+with_end : (marks : List Piece) (u : Piece) (ks : List Kind) (ps : List Part) → u.kind ≡ tokens.DocumentEnd
+    → AreMarks (kinds marks) → Outside state.ImplicitDocumentStart ks ps
+    → Outside state.DocumentEnd (kinds (marks ++ u ∷ []) ++ ks) (CloseDocument ∷ ps)
+with_end marks u ks ps k a f = (
+  f.0,
+  (
+    kinds marks,
+    tokens.DocumentEnd ∷ f.1,
+    f.2,
+    a,
+    inr (f.1, f.3, refl, f.4),
+    split marks u ks
+        ∙ ap (λ (l : Kind). kinds marks ++ l ∷ ks) k
+        ∙ ap (λ (l : List Kind). kinds marks ++ tokens.DocumentEnd ∷ l) f.5,
+  ),
+  ap (λ (l : List Part). CloseDocument ∷ l)
+      f.6,
+)
+
+no_directives : (xs : List Directive) (rest ks : List Kind) → ks ≡ map directive_token xs ++ rest → BeginsFreely ks
+    → xs ≡ []
+no_directives [] rest ks e b = refl
+no_directives (Version _ _ ∷ xs) rest ks e b = absurd (subst BeginsFreely e b)
+no_directives (TagPrefix _ _ ∷ xs) rest ks e b = absurd (subst BeginsFreely e b)
+no_directives (Reserved _ ∷ xs) rest ks e b = absurd (subst BeginsFreely e b)
+
+not_free : (k : Kind) → (k ≡ tokens.DocumentEnd) ⊎ (k ≡ tokens.ByteOrderMark) → IsFree k → ⊥
+not_free k (inl e) h = subst IsFree e h
+not_free k (inr e) h = subst IsFree e h
+
+no_front : (front documents ks : List Kind) → AreEndsAndMarks front → ks ≡ front ++ documents → BeginsFreely ks
+    → ks ≡ documents
+no_front [] documents ks a e b = e
+no_front (k ∷ front) documents ks a e b = absurd (not_free k a.0 (subst BeginsFreely e b))
+
+next_documents : (f : Forest) (t : List Kind) → AreExplicit f t → BeginsFreely t → YieldDocuments f false t
+next_documents [] t h b = h
+next_documents (d ∷ ds) t h b =
+    let node : List Kind = h.2.0 in
+    let all : t ≡ map directive_token d.directives ++ (tokens.DocumentStart ∷ (node ++ h.1)) =
+    h.4 ∙ ap (λ (l : List Kind). l ++ h.1) h.2.4
+    ∙ append_assoc (map directive_token d.directives) (tokens.DocumentStart ∷ node) h.1 in
+    (h.0, h.1, inr (inr (no_directives d.directives (tokens.DocumentStart ∷ (node ++ h.1)) t all b), h.2), h.3, h.4)
+
+without_end : (marks : List Piece) (ks : List Kind) (ps : List Part) → AreMarks (kinds marks)
+    → Outside state.DocumentStart ks ps → BeginsFreely ks
+    → Outside state.DocumentEnd (kinds marks ++ ks) (CloseDocument ∷ ps)
+without_end marks ks ps a f b =
+    let same : ks ≡ f.2 = no_front f.1 f.2 ks f.3 f.5 b in
+    let documents : YieldDocuments f.0 false ks = next_documents f.0 ks (subst (AreExplicit f.0) (sym same) f.4) b in
+    (f.0, (kinds marks, [], ks, a, inl (refl, documents), refl), ap (λ (l : List Part). CloseDocument ∷ l) f.6)
+
+end_at_turned : (k : Kind) (sp : Span) (n : Machine) (ts : List Piece) (r : Option Refusal) (x : State) (e : Memory)
+    → Marked ts (machine ts r x [] e) (record { span = sp; kind = k }) n
+    → Turned (Outside state.DocumentEnd) e ts (document_end_at k (record { span = sp; kind = k }) (without_prefixes n))
+end_at_turned tokens.DocumentEnd sp n ts r x e h =
+    subst (λ (m : Machine). Turned (Outside state.DocumentEnd) e ts
+    (document_end_at tokens.DocumentEnd (record { span = sp; kind = tokens.DocumentEnd }) (without_prefixes m)))
+    (sym h.leaves)
+    (record {
+      used = h.marks ++ record { span = sp; kind = tokens.DocumentEnd } ∷ [];
+      part = CloseDocument;
+      taken = h.are
+          ∙ taken_one h.marks (record { span = sp; kind = tokens.DocumentEnd }) h.rest;
+      tells = refl;
+      remembers = refl;
+      few = omega arith;
+      places = record {
+        front = h.marks ++ record { span = sp; kind = tokens.DocumentEnd } ∷ [];
+        own = [];
+        are = sym (append-nil (h.marks ++ record { span = sp; kind = tokens.DocumentEnd } ∷ []));
+        passed = passed_with h.marks (record { span = sp; kind = tokens.DocumentEnd }) h.are_marks tt;
+        is_of = refl;
+      };
+      alive = tt;
+      makes = λ ks ps f b. with_end h.marks (record { span = sp; kind = tokens.DocumentEnd }) ks ps refl
+          h.are_marks f;
+    })
+end_at_turned (tokens.VersionDirective major minor) sp n ts r x e h = tt
+end_at_turned (tokens.TagDirective handle prefix) sp n ts r x e h = tt
+end_at_turned (tokens.ReservedDirective name) sp n ts r x e h = tt
+end_at_turned tokens.ByteOrderMark sp n ts r x e h = absurd (let no_way : true ≡ false = h.no_mark in cc)
+end_at_turned k sp n ts r x e h =
+    subst (λ (m : Machine). Turned (Outside state.DocumentEnd) e ts
+    (document_end_at k (record { span = sp; kind = k }) (without_prefixes m))) (sym h.leaves)
+    (record {
+      used = h.marks;
+      part = CloseDocument;
+      taken = h.are;
+      tells = refl;
+      remembers = refl;
+      few = omega arith;
+      places = record {
+        front = h.marks;
+        own = [];
+        are = sym (append-nil h.marks);
+        passed = are_passed h.marks h.are_marks;
+        is_of = refl;
+      };
+      alive = tt;
+      makes = λ ks ps f b. without_end h.marks ks ps h.are_marks f (b tt);
+    })
+
+end_behind : (res : Result (Piece × Machine) Refusal) (ts : List Piece) (r : Option Refusal) (x : State) (e : Memory)
+    → MarkedBy ts (machine ts r x [] e) res
+    → Turned (Outside state.DocumentEnd) e ts (res >>= (λ t. document_end_at t.0.kind t.0 (without_prefixes t.1)))
+end_behind (Err f) ts r x e h = tt
+end_behind (Ok y) ts r x e h = end_at_turned y.0.kind y.0.span y.1 ts r x e h
+
+pub document_end_turned : (ts : List Piece) (r : Option Refusal) (x : State) (e : Memory)
+    → Turned (Outside state.DocumentEnd) e ts (document_end (machine ts r x [] e))
+unfolding document_end
+document_end_turned ts r x e = end_behind _ ts r x e (behind_turned ts r x e)

@@ -1,0 +1,365 @@
+-- The steps at the beginnings of the stream and of documents are turned.
+use Rattle.saphyr_scanner.specs.Grammar.Forest as forest
+use Rattle.event_laws.proofs.OwnTokens.{ArePassed, HasOwn, whole, passed_one, behind_own}
+use Rattle.event_laws.specs.EventsTaken.{BelongsToNone, IsOf}
+use Rattle.std.proofs.Common.{◌≡◌, ◌≤◌, Bool, true, false, List, [], ◌∷◌, ◌++◌, length, map, Option, Some, Result, Ok, Err, refl, sym, ap, ◌∙◌, subst, ◌⊎◌, inl, inr, append_assoc, arith}
+use Rattle.std.specs.Prelude.{if◌then◌else◌}
+use Rattle.saphyr_scalar.specs.declared.scalar.position.Span.{Span}
+use Rattle.saphyr_scalar.specs.declared.scalar.fault.Refusal.{Refusal}
+use Rattle.saphyr_scanner.specs.Grammar.Forest.{Directive, AreCompatible, Document, Forest}
+use Rattle.saphyr_scanner.specs.Grammar.Tokens as tokens
+use Rattle.saphyr_scanner.specs.Grammar.Tokens.{Kind, directive_token}
+use Rattle.saphyr_scanner.specs.Views.Tokens.{Piece}
+use Rattle.saphyr_scanner.specs.Grammar.TokenGrammar.{InBlock, YieldDocuments}
+use Rattle.saphyr_machine.specs.declared.state.State.{State}
+use Rattle.saphyr_machine.specs.declared.state.State.TheVariants as state
+use Rattle.event_laws.specs.Anchors.{anchors}
+use Rattle.event_laws.specs.Preorder.{Part, OpenStream, CloseStream, OpenDocument, node_parts, document_parts}
+use Rattle.saphyr_machine.specs.Events as events
+use Rattle.event_laws.specs.Exactly.{kinds}
+use Rattle.saphyr_machine.specs.Steps.Machine.{◌>>=◌, Machine, Told, with_pieces}
+use Rattle.saphyr_machine.specs.Steps.Documents.{is_end_or_mark, unpassed_token_from, unpassed_token, none_declared, directives, stream_start_at, stream_start, explicit_document_at, explicit_document, bare_document, implicit_start_at, implicit_start, explicit_start_at, explicit_start}
+use Rattle.event_laws.specs.WellFormed.{AreWellFormed}
+use Rattle.event_laws.proofs.Told.Telling.{Memory}
+use Rattle.event_laws.proofs.Remembering.{event_in}
+use Rattle.event_laws.proofs.Turned.Following.{Then, IsNodeOf, IsOptionalOf, AreExplicit, Outside, BeginsFreely}
+use Rattle.event_laws.proofs.Turned.Turning.{machine, Goes, Turned, weaker, behind}
+use Rattle.event_laws.proofs.Turned.Content.{split, taken_one}
+use Rattle.event_laws.proofs.Turned.Entries.{Wanted}
+use Rattle.event_laws.proofs.Turned.Directives.{PassesDirectives, PassedBy, directives_passed}
+
+-- ## A step that may be the last
+
+-- the end of the stream, behind which no token stands
+pub record Over (F : List Kind → List Part → Type 0) (e : Memory) (k : List Piece) (x : Told) : Type 0 where
+  pub part : Part
+  pub is_over : x.machine.state ≡ state.End
+  pub tells : event_in e part ≡ Some x.what
+  pub few : anchors (part ∷ []) ≤ length k
+  pub places : HasOwn k x.what x.span []
+  pub makes : F (kinds k) (part ∷ [])
+
+abbrev pub MovesOn : (List Kind → List Part → Type 0) → Memory → List Piece → Result Told Refusal → Type 0
+MovesOn F e k (Ok x) = Goes F e k x ⊎ Over F e k x
+MovesOn F e k (Err f) = Unit {0}
+
+pub moves : (F : List Kind → List Part → Type 0) (e : Memory) (k : List Piece) (r : Result Told Refusal)
+    → Turned F e k r → MovesOn F e k r
+moves F e k (Ok x) h = inl h
+moves F e k (Err f) h = tt
+
+behind_moves : (t : Piece) (F G : List Kind → List Part → Type 0) (e : Memory) (k : List Piece)
+    (r : Result Told Refusal) → BelongsToNone t.kind
+    → ((ks : List Kind) (ps : List Part) → F ks ps → G (t.kind ∷ ks) ps) → MovesOn F e k r → MovesOn G e (t ∷ k) r
+behind_moves t F G e k (Ok x) b i (inl h) = inl (behind t F G e k (Ok x) b i h)
+behind_moves t F G e k (Ok x) b i (inr h) =
+    inr (record {
+      part = h.part;
+      is_over = h.is_over;
+      tells = h.tells;
+      few = (let l = h.few in omega (arith, l));
+      places = behind_own t k x.what x.span b h.places;
+      makes = i _ _ h.makes;
+    })
+behind_moves t F G e k (Err f) b i h = tt
+
+-- ## Tokens that are passed
+
+passing : (p : Kind → Bool) (G : List Kind → List Kind → List Part → Type 0) (e : Memory) (ts : List Piece)
+    (m : Machine) (go : Piece × Machine → Result Told Refusal) → AreWellFormed ts
+    → ((k : Kind) → p k ≡ true → BelongsToNone k)
+    → ((k : Kind) (ahead ks : List Kind) (ps : List Part) → p k ≡ true → G ahead ks ps → G (k ∷ ahead) (k ∷ ks) ps)
+    → ((t : Piece) (us : List Piece) → AreWellFormed (t ∷ us)
+    → MovesOn (G (kinds (t ∷ us))) e (t ∷ us) (go (t, with_pieces us m)))
+    → MovesOn (G (kinds ts)) e ts (unpassed_token_from p ts m >>= go)
+passing p G e [] m go w free join here = tt
+passing p G e (t ∷ ts) m go w free join here =
+    by (p t.kind) refl (passing p G e ts (with_pieces ts m) go w.2 free join here)
+  where
+    by : (b : Bool) → p t.kind ≡ b → MovesOn (G (kinds ts)) e ts (unpassed_token_from p ts (with_pieces ts m) >>= go)
+        → MovesOn (G (kinds (t ∷ ts))) e (t ∷ ts)
+        ((if b then unpassed_token_from p ts (with_pieces ts m) else Ok (t, with_pieces ts m)) >>= go)
+    by true y h =
+        behind_moves t (G (kinds ts)) (G (kinds (t ∷ ts))) e ts (unpassed_token_from p ts (with_pieces ts m) >>= go)
+        (free t.kind y) (λ ks ps g. join t.kind (kinds ts) ks ps y g) h
+    by false y h = here t ts w
+
+end_or_mark : (k : Kind) → is_end_or_mark k ≡ true → (k ≡ tokens.DocumentEnd) ⊎ (k ≡ tokens.ByteOrderMark)
+end_or_mark tokens.DocumentEnd h = inl refl
+end_or_mark tokens.ByteOrderMark h = inr refl
+end_or_mark _ h = absurd (cc)
+
+is_passed : (k : Kind) → is_end_or_mark k ≡ true → BelongsToNone k
+is_passed tokens.DocumentEnd h = tt
+is_passed tokens.ByteOrderMark h = tt
+is_passed _ h = absurd (cc)
+
+directive_is_passed : (d : Directive) → BelongsToNone (directive_token d)
+directive_is_passed (forest.Version _ _) = tt
+directive_is_passed (forest.TagPrefix _ _) = tt
+directive_is_passed (forest.Reserved _) = tt
+
+first_of_all : (a b : Kind) (x y : List Kind) → (a ∷ x) ≡ (b ∷ y) → (a ≡ b) × (x ≡ y)
+first_of_all a b x y e = ((cc), (cc))
+
+are_passed : (used : List Piece) (ds : List Directive) → kinds used ≡ map directive_token ds → ArePassed used
+are_passed [] ds e = tt
+are_passed (t ∷ used) [] e = absurd (cc)
+are_passed (t ∷ used) (d ∷ ds) e =
+    let both : (t.kind ≡ directive_token d) × (kinds used ≡ map directive_token ds) =
+    first_of_all t.kind (directive_token d) (kinds used) (map directive_token ds) e in
+    (subst BelongsToNone (sym both.0) (directive_is_passed d), are_passed used ds both.1)
+
+-- ## Documents that begin with `---` or directives
+
+abbrev Explicit : List Kind → List Kind → List Part → Type 0
+Explicit ahead ks ps = (f : Forest) × AreExplicit f ks × (ps ≡ document_parts f)
+    × (BeginsFreely ahead → BeginsFreely ks)
+
+begins_as : (used rest : List Piece) (u : Piece) (ts : List Piece) (ks : List Kind) → ts ≡ used ++ u ∷ rest
+    → BeginsFreely (kinds ts) → BeginsFreely (kinds (used ++ u ∷ []) ++ ks)
+begins_as [] rest u ts ks e b = subst (λ (l : List Piece). BeginsFreely (kinds l)) e b
+begins_as (v ∷ used) rest u ts ks e b = subst (λ (l : List Piece). BeginsFreely (kinds l)) e b
+
+explicit_tokens : (ds : List Directive) (used : List Piece) (u : Piece) (front back ks : List Kind)
+    → kinds used ≡ map directive_token ds → u.kind ≡ tokens.DocumentStart → ks ≡ front ++ back
+    → kinds (used ++ u ∷ []) ++ ks ≡ (map directive_token ds ++ tokens.DocumentStart ∷ front) ++ back
+explicit_tokens ds used u front back ks e k q =
+    split used u ks ∙ ap (λ (l : List Kind). l ++ u.kind ∷ ks) e ∙ ap (λ (l : Kind). map directive_token ds ++ l ∷ ks) k
+    ∙ ap (λ (l : List Kind). map directive_token ds ++ tokens.DocumentStart ∷ l) q
+    ∙ sym (append_assoc (map directive_token ds) (tokens.DocumentStart ∷ front) back)
+
+explicit_makes : (ts : List Piece) (ds : List Directive) (used rest : List Piece) (u : Piece) (ks : List Kind)
+    (ps : List Part) → ts ≡ used ++ u ∷ rest → kinds used ≡ map directive_token ds → u.kind ≡ tokens.DocumentStart
+    → AreCompatible ds → Then (IsOptionalOf InBlock) (Outside state.DocumentEnd) ks ps
+    → Explicit (kinds ts) (kinds (used ++ u ∷ []) ++ ks) (OpenDocument true ds ∷ ps)
+explicit_makes ts ds used rest u ks ps e q k c h =
+    let d : Document = record { explicit = true; directives = ds; node = h.begins.0 } in (
+      d ∷ h.goes_on.0,
+      (
+        map directive_token ds ++ tokens.DocumentStart
+            ∷ h.front,
+        h.back,
+        (h.front, refl, c, h.begins.1, refl),
+        h.goes_on.1,
+        explicit_tokens ds used u h.front h.back
+            ks q k h.kinds_are,
+      ),
+      ap (λ (l : List Part). OpenDocument true ds ∷ l)
+          (h.parts_are ∙ ap (λ (l : List Part). l ++ h.second) h.begins.2
+          ∙ ap (λ (l : List Part). node_parts h.begins.0 ++ l) h.goes_on.2),
+      begins_as used rest u ts ks e,
+    )
+
+explicit_at_turned : (k : Kind) (sp : Span) (n : Machine) (ts : List Piece) (r : Option Refusal) (x : State)
+    (e : Memory) → PassesDirectives ts none_declared (machine ts r x [] e) (record { span = sp; kind = k }) n
+    → Turned (Explicit (kinds ts)) e ts (explicit_document_at k (record { span = sp; kind = k }) n)
+explicit_at_turned tokens.DocumentStart sp n ts r x e h =
+    subst (λ (m : Machine). Turned (Explicit (kinds ts)) e ts
+    (explicit_document_at tokens.DocumentStart (record { span = sp; kind = tokens.DocumentStart }) m)) (sym h.leaves)
+    (record {
+      used = h.used ++ record { span = sp; kind = tokens.DocumentStart } ∷ [];
+      part = OpenDocument true h.directives;
+      taken = h.are ∙ taken_one h.used (record { span = sp; kind = tokens.DocumentStart }) h.rest;
+      tells = refl;
+      remembers = refl;
+      few = omega arith;
+      places = record {
+        front = h.used;
+        own = record { span = sp; kind = tokens.DocumentStart } ∷ [];
+        are = refl;
+        passed = are_passed h.used h.directives h.kinds_are;
+        is_of = (record { span = sp; kind = tokens.DocumentStart }, refl, refl, refl);
+      };
+      alive = (tt, tt);
+      makes = λ ks ps f b. explicit_makes ts h.directives h.used h.rest
+          (record { span = sp; kind = tokens.DocumentStart }) ks ps h.are h.kinds_are refl h.compatible f;
+    })
+explicit_at_turned _ sp n ts r x e h = tt
+
+explicit_behind : (res : Result (Piece × Machine) Refusal) (ts : List Piece) (r : Option Refusal) (x : State)
+    (e : Memory) → PassedBy ts none_declared (machine ts r x [] e) res
+    → Turned (Explicit (kinds ts)) e ts (res >>= (λ u. explicit_document_at u.0.kind u.0 u.1))
+explicit_behind (Err f) ts r x e h = tt
+explicit_behind (Ok y) ts r x e h = explicit_at_turned y.0.kind y.0.span y.1 ts r x e h
+
+explicit_turned : (t : Piece) (us : List Piece) (r : Option Refusal) (x : State) (e : Memory) → AreWellFormed (t ∷ us)
+    → Turned (Explicit (kinds (t ∷ us))) e (t ∷ us) (explicit_document t (machine us r x [] e))
+unfolding explicit_document directives
+explicit_turned t us r x e w =
+    explicit_behind _ (t ∷ us) r x e (directives_passed (t ∷ us) none_declared (machine (t ∷ us) r x [] e) w)
+
+-- ## The stream
+
+stream_makes : (ks : List Kind) (ps : List Part) → Outside state.ImplicitDocumentStart ks ps
+    → Outside state.StreamStart (tokens.StreamStart ∷ ks) (OpenStream ∷ ps)
+stream_makes ks ps f = (
+  f.0,
+  (f.1, f.2, f.3, f.4, ap (λ (l : List Kind). tokens.StreamStart ∷ l) f.5),
+  ap
+      (λ (l : List Part). OpenStream ∷ l) f.6,
+)
+
+stream_at_turned : (k : Kind) (sp : Span) (ts : List Piece) (r : Option Refusal) (x : State) (e : Memory)
+    → Turned (Wanted state.StreamStart [] (k ∷ kinds ts)) e (record { span = sp; kind = k } ∷ ts)
+    (stream_start_at k (record { span = sp; kind = k }) (machine ts r x [] e))
+stream_at_turned tokens.StreamStart sp ts r x e =
+    record {
+      used = record { span = sp; kind = tokens.StreamStart } ∷ [];
+      part = OpenStream;
+      taken = refl;
+      tells = refl;
+      remembers = refl;
+      few = omega arith;
+      places = passed_one (record { span = sp; kind = tokens.StreamStart }) _ _ tt refl;
+      alive = tt;
+      makes = λ ks ps f b. (stream_makes ks ps f, tt);
+    }
+stream_at_turned _ sp ts r x e = tt
+
+pub stream_turned : (ts : List Piece) (r : Option Refusal) (x : State) (e : Memory)
+    → Turned (Wanted state.StreamStart [] (kinds ts)) e ts (stream_start (machine ts r x [] e))
+unfolding stream_start
+stream_turned [] r x e = tt
+stream_turned (t ∷ ts) r x e = stream_at_turned t.kind t.span ts r x e
+
+-- ## A document that may begin without `---`
+
+as_documents : (f : Forest) (t : List Kind) → AreExplicit f t → YieldDocuments f true t
+as_documents [] t h = h
+as_documents (d ∷ ds) t h = (h.0, h.1, inr (inl refl, h.2), h.3, h.4)
+
+explicit_first : (ahead ks : List Kind) (ps : List Part) → Explicit ahead ks ps
+    → Wanted state.ImplicitDocumentStart [] ahead ks ps
+explicit_first ahead ks ps h = ((h.0, [], ks, tt, as_documents h.0 ks h.1, refl, h.2), tt)
+
+bare_makes : (ks : List Kind) (ps : List Part) → Then (IsNodeOf InBlock) (Outside state.DocumentEnd) ks ps
+    → Outside state.ImplicitDocumentStart ks (OpenDocument false [] ∷ ps)
+bare_makes ks ps h =
+    let d : Document = record { explicit = false; directives = []; node = h.begins.0 } in (
+      d ∷ h.goes_on.0,
+      [],
+      ks,
+      tt,
+      (h.front, h.back, inl (refl, (refl, refl, h.begins.1)), h.goes_on.1, h.kinds_are),
+      refl,
+      ap (λ (l : List Part). OpenDocument false [] ∷ l)
+          (h.parts_are ∙ ap (λ (l : List Part). l ++ h.second) h.begins.2
+          ∙ ap (λ (l : List Part). node_parts h.begins.0 ++ l) h.goes_on.2),
+    )
+
+bare_turned : (t : Piece) (us : List Piece) (r : Option Refusal) (x : State) (e : Memory)
+    → Turned (Wanted state.ImplicitDocumentStart [] (kinds (t ∷ us))) e (t ∷ us) (bare_document t (machine us r x [] e))
+unfolding bare_document
+bare_turned t us r x e =
+    record {
+      used = [];
+      part = OpenDocument false [];
+      taken = refl;
+      tells = refl;
+      remembers = refl;
+      few = omega arith;
+      places = whole [] _ _ refl;
+      alive = (tt, tt);
+      makes = λ ks ps f b. (bare_makes ks ps f, tt);
+    }
+
+stream_over : (F : List Kind → List Part → Type 0) (t : Piece) (us : List Piece) (x : Told) (e : Memory) → us ≡ []
+    → t.kind ≡ tokens.StreamEnd → x.what ≡ events.StreamEnd → x.machine.state ≡ state.End
+    → F (tokens.StreamEnd ∷ []) (CloseStream ∷ []) → Over F e (t ∷ us) x
+stream_over F t us x e n k w o f = record {
+  part = CloseStream;
+  is_over = o;
+  tells = ap (λ v. let y : Option events.Happening = Some v in y) (sym w);
+  few = omega arith;
+  places = record {
+    front = t ∷ [];
+    own = [];
+    are = ap (λ (l : List Piece). t ∷ l) n;
+    passed = (subst BelongsToNone (sym k) tt, tt);
+    is_of = subst (λ (v : events.Happening). IsOf v x.span [] []) (sym w) refl;
+  };
+  makes = subst (λ (l : List Kind). F l (CloseStream ∷ []))
+      (sym (ap (λ (l : List Piece). t.kind ∷ kinds l) n ∙ ap (λ (l : Kind). l ∷ []) k)) f;
+}
+
+implicit_at_moves : (k : Kind) (sp : Span) (us : List Piece) (r : Option Refusal) (x : State) (e : Memory)
+    → AreWellFormed (record { span = sp; kind = k } ∷ us)
+    → MovesOn (Wanted state.ImplicitDocumentStart [] (k ∷ kinds us)) e (record { span = sp; kind = k } ∷ us)
+    (implicit_start_at k (record { span = sp; kind = k }) (machine us r x [] e))
+implicit_at_moves tokens.StreamEnd sp us r x e w =
+    inr (stream_over (Wanted state.ImplicitDocumentStart [] (tokens.StreamEnd ∷ kinds us))
+    (record { span = sp; kind = tokens.StreamEnd }) us _ e w.1 refl refl refl
+    (([], [], tokens.StreamEnd ∷ [], tt, refl, refl, refl), tt))
+implicit_at_moves (tokens.VersionDirective major minor) sp us r x e w =
+    moves _ e _ _ (weaker (Explicit (tokens.VersionDirective major minor ∷ kinds us))
+    (Wanted state.ImplicitDocumentStart [] (tokens.VersionDirective major minor ∷ kinds us)) e _ _
+    (explicit_first (tokens.VersionDirective major minor ∷ kinds us)) (explicit_turned _ us r x e w))
+implicit_at_moves (tokens.TagDirective handle prefix) sp us r x e w =
+    moves _ e _ _ (weaker (Explicit (tokens.TagDirective handle prefix ∷ kinds us))
+    (Wanted state.ImplicitDocumentStart [] (tokens.TagDirective handle prefix ∷ kinds us)) e _ _
+    (explicit_first (tokens.TagDirective handle prefix ∷ kinds us)) (explicit_turned _ us r x e w))
+implicit_at_moves (tokens.ReservedDirective name) sp us r x e w =
+    moves _ e _ _ (weaker (Explicit (tokens.ReservedDirective name ∷ kinds us))
+    (Wanted state.ImplicitDocumentStart [] (tokens.ReservedDirective name ∷ kinds us)) e _ _
+    (explicit_first (tokens.ReservedDirective name ∷ kinds us)) (explicit_turned _ us r x e w))
+implicit_at_moves tokens.DocumentStart sp us r x e w =
+    moves _ e _ _ (weaker (Explicit (tokens.DocumentStart ∷ kinds us))
+    (Wanted state.ImplicitDocumentStart [] (tokens.DocumentStart ∷ kinds us)) e _ _
+    (explicit_first (tokens.DocumentStart ∷ kinds us)) (explicit_turned _ us r x e w))
+implicit_at_moves k sp us r x e w =
+    moves (Wanted state.ImplicitDocumentStart [] (k ∷ kinds us)) e _ _
+    (bare_turned (record { span = sp; kind = k }) us r x e)
+
+implicit_pass : (k : Kind) (ahead ks : List Kind) (ps : List Part) → is_end_or_mark k ≡ true
+    → Wanted state.ImplicitDocumentStart [] ahead ks ps → Wanted state.ImplicitDocumentStart [] (k ∷ ahead) (k ∷ ks) ps
+implicit_pass k ahead ks ps y h =
+    let f : Outside state.ImplicitDocumentStart ks ps = h.0 in
+    ((f.0, k ∷ f.1, f.2, (end_or_mark k y, f.3), f.4, ap (λ (l : List Kind). k ∷ l) f.5, f.6), tt)
+
+pub implicit_moves : (ts : List Piece) (r : Option Refusal) (x : State) (e : Memory) → AreWellFormed ts
+    → MovesOn (Wanted state.ImplicitDocumentStart [] (kinds ts)) e ts (implicit_start (machine ts r x [] e))
+unfolding implicit_start unpassed_token
+implicit_moves ts r x e w =
+    passing is_end_or_mark (Wanted state.ImplicitDocumentStart []) e ts (machine ts r x [] e) _ w is_passed
+    implicit_pass (λ t us v. implicit_at_moves t.kind t.span us r x e v)
+
+-- ## A document that begins with `---`
+
+explicit_next : (ahead ks : List Kind) (ps : List Part) → Explicit ahead ks ps
+    → Wanted state.DocumentStart [] ahead ks ps
+explicit_next ahead ks ps h = ((h.0, [], ks, tt, h.1, refl, h.2), h.3)
+
+explicit_at_moves : (k : Kind) (sp : Span) (us : List Piece) (r : Option Refusal) (x : State) (e : Memory)
+    → AreWellFormed (record { span = sp; kind = k } ∷ us)
+    → MovesOn (Wanted state.DocumentStart [] (k ∷ kinds us)) e (record { span = sp; kind = k } ∷ us)
+    (explicit_start_at k (record { span = sp; kind = k }) (machine us r x [] e))
+explicit_at_moves tokens.StreamEnd sp us r x e w =
+    inr (stream_over (Wanted state.DocumentStart [] (tokens.StreamEnd ∷ kinds us))
+    (record { span = sp; kind = tokens.StreamEnd }) us _ e w.1 refl refl refl
+    (([], [], tokens.StreamEnd ∷ [], tt, refl, refl, refl), λ b. tt))
+explicit_at_moves k sp us r x e w =
+    moves (Wanted state.DocumentStart [] (k ∷ kinds us)) e _ _
+    (weaker (Explicit (k ∷ kinds us)) (Wanted state.DocumentStart [] (k ∷ kinds us)) e _ _
+    (explicit_next (k ∷ kinds us)) (explicit_turned (record { span = sp; kind = k }) us r x e w))
+
+never_free : (k : Kind) (ks : List Kind) → is_end_or_mark k ≡ true → BeginsFreely (k ∷ ks) → ⊥
+never_free tokens.DocumentEnd ks h b = b
+never_free tokens.ByteOrderMark ks h b = b
+never_free _ ks h b = absurd (cc)
+
+explicit_pass : (k : Kind) (ahead ks : List Kind) (ps : List Part) → is_end_or_mark k ≡ true
+    → Wanted state.DocumentStart [] ahead ks ps → Wanted state.DocumentStart [] (k ∷ ahead) (k ∷ ks) ps
+explicit_pass k ahead ks ps y h =
+    let f : Outside state.DocumentStart ks ps = h.0 in (
+      (f.0, k ∷ f.1, f.2, (end_or_mark k y, f.3), f.4, ap (λ (l : List Kind). k ∷ l) f.5, f.6),
+      λ b. absurd
+          (never_free k ahead y b),
+    )
+
+pub explicit_moves : (ts : List Piece) (r : Option Refusal) (x : State) (e : Memory) → AreWellFormed ts
+    → MovesOn (Wanted state.DocumentStart [] (kinds ts)) e ts (explicit_start (machine ts r x [] e))
+unfolding explicit_start unpassed_token
+explicit_moves ts r x e w =
+    passing is_end_or_mark (Wanted state.DocumentStart []) e ts (machine ts r x [] e) _ w is_passed explicit_pass
+    (λ t us v. explicit_at_moves t.kind t.span us r x e v)

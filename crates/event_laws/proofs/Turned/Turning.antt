@@ -1,0 +1,143 @@
+-- What a step of the machine makes of what may follow.
+use Rattle.event_laws.proofs.OwnTokens.{HasOwn, behind_own}
+use Rattle.event_laws.specs.EventsTaken.{BelongsToNone}
+use Rattle.std.proofs.Common.{◌≡◌, ◌≤◌, List, [], ◌∷◌, ◌++◌, length, Option, Some, Result, Ok, Err, refl, sym, ap, ◌∙◌, subst, append_assoc, arith}
+use Rattle.saphyr_scalar.specs.declared.scalar.fault.Refusal.{Refusal}
+use Rattle.saphyr_scanner.specs.Grammar.Tokens.{Kind}
+use Rattle.saphyr_scanner.specs.Views.Tokens.{Piece}
+use Rattle.saphyr_machine.specs.declared.state.State.{State}
+use Rattle.event_laws.specs.Anchors.{anchors}
+use Rattle.event_laws.specs.Preorder.{Part}
+use Rattle.event_laws.specs.Exactly.{kinds}
+use Rattle.saphyr_machine.specs.Steps.Machine.{Machine, Told}
+use Rattle.event_laws.proofs.Told.Telling.{Memory}
+use Rattle.event_laws.proofs.Remembering.{after, event_in}
+use Rattle.event_laws.proofs.Turned.Following.{Then, Exactly, FollowsStates, IsAlive, Starts}
+
+abbrev pub machine : List Piece → Option Refusal → State → List State → Memory → Machine
+machine ts r s ss e = record {
+  tokens = record { pieces = ts; refusal = r };
+  state = s;
+  states = ss;
+  anchors = e.anchors;
+  prefixes = e.prefixes;
+  keep_tags = e.keep;
+}
+
+abbrev pub memory : Machine → Memory
+memory m = record { anchors = m.anchors; prefixes = m.prefixes; keep = m.keep_tags }
+
+-- A step that tells a part. What may follow it makes, behind the tokens that it used, what might follow before.
+pub record Goes (F : List Kind → List Part → Type 0) (e : Memory) (k : List Piece) (x : Told) : Type 0 where
+  pub used : List Piece
+  pub part : Part
+  pub taken : k ≡ used ++ x.machine.tokens.pieces
+  pub tells : event_in e part ≡ Some x.what
+  pub remembers : memory x.machine ≡ after part e
+  pub few : anchors (part ∷ []) ≤ length used
+  pub places : HasOwn used x.what x.span x.machine.tokens.pieces
+  pub alive : IsAlive x.machine.state x.machine.states
+  pub makes : (ks : List Kind) (ps : List Part) → FollowsStates x.machine.state x.machine.states ks ps
+      → Starts x.machine.state (kinds x.machine.tokens.pieces) ks → F (kinds used ++ ks) (part ∷ ps)
+
+abbrev pub Turned : (List Kind → List Part → Type 0) → Memory → List Piece → Result Told Refusal → Type 0
+Turned F e k (Ok x) = Goes F e k x
+Turned F e k (Err f) = Unit {0}
+
+-- for more lists
+pub weaker : (F G : List Kind → List Part → Type 0) (e : Memory) (k : List Piece) (r : Result Told Refusal)
+    → ((ks : List Kind) (ps : List Part) → F ks ps → G ks ps) → Turned F e k r → Turned G e k r
+weaker F G e k (Ok x) i h =
+    record {
+      used = h.used;
+      part = h.part;
+      taken = h.taken;
+      tells = h.tells;
+      remembers = h.remembers;
+      few = h.few;
+      places = h.places;
+      alive = h.alive;
+      makes = λ ks ps f s. i _ _ (h.makes ks ps f s);
+    }
+weaker F G e k (Err f) i h = tt
+
+-- behind a token that is used too
+pub behind : (t : Piece) (F G : List Kind → List Part → Type 0) (e : Memory) (k : List Piece) (r : Result Told Refusal)
+    → BelongsToNone t.kind → ((ks : List Kind) (ps : List Part) → F ks ps → G (t.kind ∷ ks) ps) → Turned F e k r
+    → Turned G e (t ∷ k) r
+behind t F G e k (Ok x) b i h =
+    record {
+      used = t ∷ h.used;
+      part = h.part;
+      taken = ap (λ (l : List Piece). t ∷ l) h.taken;
+      tells = h.tells;
+      remembers = h.remembers;
+      few = (let l = h.few in omega (arith, l));
+      places = behind_own t h.used x.what x.span b h.places;
+      alive = h.alive;
+      makes = λ ks ps f s. i _ _ (h.makes ks ps f s);
+    }
+behind t F G e k (Err f) b i h = tt
+
+pub kinds_append : (a b : List Piece) → kinds (a ++ b) ≡ kinds a ++ kinds b
+kinds_append [] b = refl
+kinds_append (t ∷ a) b = ap (λ (l : List Kind). t.kind ∷ l) (kinds_append a b)
+
+-- ## Lists with their parts
+
+-- the first two of three in one
+pub regroup : (A B C D : List Kind → List Part → Type 0) (ks : List Kind) (ps : List Part)
+    → ((a b : List Kind) (p q : List Part) → A a p → B b q → D (a ++ b) (p ++ q)) → Then A (Then B C) ks ps
+    → Then D C ks ps
+regroup A B C D ks ps join h =
+    let g : Then B C h.back h.second = h.goes_on in
+    record {
+      front = h.front ++ g.front;
+      back = g.back;
+      first = h.first ++ g.first;
+      second = g.second;
+      begins = join h.front g.front h.first g.first h.begins g.begins;
+      goes_on = g.goes_on;
+      kinds_are = h.kinds_are ∙ ap (λ (l : List Kind). h.front ++ l) g.kinds_are
+          ∙ sym (append_assoc h.front g.front g.back);
+      parts_are = h.parts_are ∙ ap (λ (l : List Part). h.first ++ l) g.parts_are
+          ∙ sym (append_assoc h.first g.first g.second);
+    }
+
+-- other lists in front
+pub replace : (A B D : List Kind → List Part → Type 0) (u : List Kind) (w : List Part) (ks : List Kind) (ps : List Part)
+    → ((a : List Kind) (p : List Part) → A a p → D (u ++ a) (w ++ p)) → Then A B ks ps → Then D B (u ++ ks) (w ++ ps)
+replace A B D u w ks ps join h = record {
+  front = u ++ h.front;
+  back = h.back;
+  first = w ++ h.first;
+  second = h.second;
+  begins = join h.front h.first h.begins;
+  goes_on = h.goes_on;
+  kinds_are = ap (λ (l : List Kind). u ++ l) h.kinds_are ∙ sym (append_assoc u h.front h.back);
+  parts_are = ap (λ (l : List Part). w ++ l) h.parts_are ∙ sym (append_assoc w h.first h.second);
+}
+
+-- these lists in front of all
+pub put : (A R : List Kind → List Part → Type 0) (u : List Kind) (w : List Part) (ks : List Kind) (ps : List Part)
+    → A u w → R ks ps → Then A R (u ++ ks) (w ++ ps)
+put A R u w ks ps a r = record {
+  front = u;
+  back = ks;
+  first = w;
+  second = ps;
+  begins = a;
+  goes_on = r;
+  kinds_are = refl;
+  parts_are = refl;
+}
+
+-- between an opening and a closing
+pub around : (A R D : List Kind → List Part → Type 0) (u close : List Kind) (opening closing : Part) (ks : List Kind)
+    (ps : List Part) → ((a : List Kind) (p : List Part) → A a p → D (u ++ (a ++ close)) (opening ∷ (p ++ closing ∷ [])))
+    → Then A (Then (Exactly close (closing ∷ [])) R) ks ps → Then D R (u ++ ks) (opening ∷ ps)
+around A R D u close opening closing ks ps join h =
+    replace (λ a p. D (u ++ a) (opening ∷ p)) R D u (opening ∷ []) ks ps (λ a p x. x)
+    (regroup A (Exactly close (closing ∷ [])) R (λ a p. D (u ++ a) (opening ∷ p)) ks ps
+    (λ a b p q x y. subst (λ (l : List Kind). D (u ++ (a ++ l)) (opening ∷ (p ++ q))) (sym y.0)
+    (subst (λ (l : List Part). D (u ++ (a ++ close)) (opening ∷ (p ++ l))) (sym y.1) (join a p x))) h)

@@ -1,0 +1,14 @@
+use Rattle.saphyr_machine.specs.Cursor.{keeping_tags}
+use Rattle.saphyr_machine.proofs.Calls.Handing.{advances}
+use Rattle.event_laws.proofs.Settings.{sets, sets_behind}
+use Rattle.event_laws.proofs.sets_at_document_ends.Goals as goal
+
+pub returns-clause-step : goal.returns-clause-step
+returns-clause-step c = λ m keep other. sets keep m other
+
+pub returns-clause-event : goal.returns-clause-event
+returns-clause-event c = λ e old new keep other h. sets_behind e old new keep other h
+
+pub returns-clause-list : goal.returns-clause-list
+returns-clause-list c = λ e old new keep other h. advances e (keeping_tags keep old) (keeping_tags keep new)
+    (sets_behind e old new keep other h)

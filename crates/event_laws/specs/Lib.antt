@@ -1,0 +1,14 @@
+pub mod Exactly
+pub mod Limits
+pub mod Anchors
+pub mod ForestEvents
+pub mod Preorder
+pub mod TagResolution
+pub mod EventsTaken
+pub mod Nesting
+pub mod Premises
+pub mod SpansWithin
+pub mod Promises
+pub mod WellFormed
+pub mod More
+pub mod Settings

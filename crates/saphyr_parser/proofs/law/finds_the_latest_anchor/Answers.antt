@@ -1,8 +1,0 @@
-use Rattle.saphyr_parser.proofs.Latest.{all, found}
-use Rattle.saphyr_parser.proofs.law.finds_the_latest_anchor.Goals as goal
-
-pub returns-clause-found : goal.returns-clause-found
-returns-clause-found c = found
-
-pub returns-clause-each : goal.returns-clause-each
-returns-clause-each c = all

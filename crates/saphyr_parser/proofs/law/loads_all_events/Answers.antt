@@ -1,6 +1,0 @@
-use Rattle.saphyr_machine.specs.Cursor.{to_come}
-use Rattle.saphyr_machine.proofs.HandedOver.{part_all}
-use Rattle.saphyr_parser.proofs.law.loads_all_events.Goals as goal
-
-pub returns : goal.returns
-returns c = λ parser. part_all (to_come parser).events (to_come parser).fault

@@ -1,0 +1,15 @@
+use Rattle.std.proofs.Common.{refl}
+use Rattle.saphyr_parser.proofs.Printed.Written.{loses_first, loses_second, takes_three}
+use Rattle.saphyr_parser.proofs.printing.line.write_pieces.Goals as goal
+
+pub returns-in_err-write_all : goal.returns-in_err-write_all
+returns-in_err-write_all g c = loses_first _ _ _ _ _ _ c.from_residual.ensures.0 c.in_err-write_all.ensures refl
+
+pub returns-in_err-write_escaped : goal.returns-in_err-write_escaped
+returns-in_err-write_escaped g c =
+    loses_second _ _ _ _ _ _ _ _ c.from_residual-in_err-write_escaped.ensures.0 c.in_ok-write_all.ensures
+    c.in_err-write_escaped.ensures refl
+
+pub returns : goal.returns
+returns g c =
+    takes_three _ _ _ _ _ _ _ _ _ c.in_ok-write_all.ensures c.in_ok-write_escaped.ensures c.write_all-2.ensures refl

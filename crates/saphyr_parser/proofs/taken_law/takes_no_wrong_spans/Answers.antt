@@ -1,9 +1,0 @@
-use Rattle.saphyr_parser.proofs.Wrong.Refused as refused
-use Rattle.saphyr_parser.proofs.Wrong.Starts.{free_start_refused}
-use Rattle.saphyr_parser.proofs.taken_law.takes_no_wrong_spans.Goals as goal
-
-pub returns-clause-free_start : goal.returns-clause-free_start
-returns-clause-free_start c = free_start_refused
-
-pub returns-clause-wrong_line : goal.returns-clause-wrong_line
-returns-clause-wrong_line c = refused.wrong_line_is_no_place
