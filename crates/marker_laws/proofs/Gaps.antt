@@ -10,23 +10,23 @@ use Rattle.saphyr_scalar.specs.Steps.Block.{line_cursor}
 use Rattle.saphyr_scalar.proofs.Choices.{both_by}
 use Rattle.saphyr_scalar.proofs.NoBreaks.{class_no_break}
 use Rattle.saphyr_scanner.specs.Steps.Gap.{GapEnd, stop, end_of_gap, end_of_gap_in_comment, is_tab_indentation, whole_gap, SpacesEnd, end_of_spaces, end_of_spaces_in_comment, spaces_at}
-use Rattle.marker_laws.specs.Beside.{Ahead, dashes, dots, character, Stands, reading, Beside, beside, Gives, refused, given}
-use Rattle.marker_laws.proofs.Ahead.{first_same, dashes_told, dots_told, stands_before}
+use Rattle.marker_laws.specs.Beside.{Ahead, here, dashes, dots, character, Stands, reading, Beside, beside, Gives, refused, given}
+use Rattle.marker_laws.proofs.Ahead.{first_same, told, stands_before, stands_here}
 use Rattle.marker_laws.proofs.Results.{choose}
 use Rattle.marker_laws.proofs.Lines.{Fits, fits_on, fits_feed, Off, off_on}
 
 -- two ends of gaps at the same place
-pub data Gaps : GapEnd → GapEnd → Type 0 where
-  gaps : (broke : Bool) {s t : Cursor} → Beside s t
-      → Gaps (record { cursor = s; broke = broke }) (record { cursor = t; broke = broke })
+pub data Gaps (from : List ℕ) : GapEnd → GapEnd → Type 0 where
+  gaps : (broke : Bool) {s t : Cursor} → Beside from s t
+      → Gaps from (record { cursor = s; broke = broke }) (record { cursor = t; broke = broke })
 
-stop_same : (m : Marker) (blank broke tabbed : Bool) {r q : List ℕ} → Stands m r q
-    → Gives Gaps (stop m blank broke tabbed r) (stop m blank broke tabbed q)
+stop_same : {from : List ℕ} (m : Marker) (blank broke tabbed : Bool) {r q : List ℕ} → Stands from m r q
+    → Gives (Gaps from) (stop m blank broke tabbed r) (stop m blank broke tabbed q)
 unfolding stop
-stop_same m blank broke tabbed {r = r} {q = q} h =
-    choose Gaps (tabbed && is_bom (slice_index r 0)) (tabbed && is_bom (slice_index q 0)) _ _ _ _
+stop_same {from = from} m blank broke tabbed {r = r} {q = q} h =
+    choose (Gaps from) (tabbed && is_bom (slice_index r 0)) (tabbed && is_bom (slice_index q 0)) _ _ _ _
     (ap (λ c. tabbed && is_bom c) (first_same h.ahead)) (λ _. refused _)
-    (λ _. choose Gaps (tabbed && not (is_z (slice_index r 0))) (tabbed && not (is_z (slice_index q 0))) _ _ _ _
+    (λ _. choose (Gaps from) (tabbed && not (is_z (slice_index r 0))) (tabbed && not (is_z (slice_index q 0))) _ _ _ _
     (ap (λ c. tabbed && not (is_z c)) (first_same h.ahead)) (λ _. refused _)
     (λ _. given (gaps broke (beside (line_cursor blank m r) h))))
 
@@ -43,88 +43,91 @@ fits_along p x y c r m e = by (p c) refl e
     by false f g = fits_feed (is_break c) r m (and_parts (c == 13) _ g).1
 
 mutual
-  between_same : (least : ℕ) (m : Marker) (blank broke tabbed : Bool) {b : Bool} {r q : List ℕ} → Ahead b r q
+  between_same : {from : List ℕ} (least : ℕ) (m : Marker) (blank broke tabbed : Bool) {b : Bool} {r q : List ℕ}
+      → Ahead from b r q
       → Fits b r m
-      → Gives Gaps (end_of_gap least m blank broke tabbed r) (end_of_gap least m blank broke tabbed q)
-  between_same least m blank broke tabbed (dashes d e) f =
-      stop_same m blank broke tabbed (record { flag = true; ahead = dashes d e; fits = f })
-  between_same least m blank broke tabbed (dots d e) f =
-      stop_same m blank broke tabbed (record { flag = true; ahead = dots d e; fits = f })
-  between_same least m blank broke tabbed {b = b} (character c {r = r} {q = q} h) f =
-      choose Gaps (goes_along is_blank c r) (goes_along is_blank c q) _ _ _ _
+      → Gives (Gaps from) (end_of_gap least m blank broke tabbed r) (end_of_gap least m blank broke tabbed q)
+  between_same least m blank broke tabbed (here (dashes d e)) f =
+      stop_same m blank broke tabbed (stands_here m (dashes d e) f)
+  between_same least m blank broke tabbed (here (dots tail d _ _ white e)) f =
+      stop_same m blank broke tabbed (stands_here m (dots tail d _ _ white e) f)
+  between_same {from = from} least m blank broke tabbed {b = b} (character c {r = r} {q = q} h) f =
+      choose (Gaps from) (goes_along is_blank c r) (goes_along is_blank c q) _ _ _ _
       (ap (λ x. is_blank c || ((c == 13) && (x == 10))) (first_same h))
       (λ g. between_same least (along m 1) blank broke (is_tab_indentation least m blank c || tabbed) h
       (fits_along is_blank refl refl c r (along m 1) g))
-      (λ _. choose Gaps (is_break c) (is_break c) _ _ _ _ refl
+      (λ _. choose (Gaps from) (is_break c) (is_break c) _ _ _ _ refl
       (λ _. between_same least (next_line m 1) true true false h (λ _ _. refl))
-      (λ ink. choose Gaps (c == number_sign) (c == number_sign) _ _ _ _ refl
+      (λ ink. choose (Gaps from) (c == number_sign) (c == number_sign) _ _ _ _ refl
       (λ _. comment_same least (along m 1) blank broke tabbed h (off_on r ink))
       (λ _. stop_same m blank broke tabbed (record { flag = b; ahead = character c h; fits = f }))))
 
-  comment_same : (least : ℕ) (m : Marker) (blank broke tabbed : Bool) {b : Bool} {r q : List ℕ} → Ahead b r q
-      → Off b r → Gives Gaps (end_of_gap_in_comment least m blank broke tabbed r)
+  comment_same : {from : List ℕ} (least : ℕ) (m : Marker) (blank broke tabbed : Bool) {b : Bool} {r q : List ℕ}
+      → Ahead from b r q
+      → Off b r → Gives (Gaps from) (end_of_gap_in_comment least m blank broke tabbed r)
       (end_of_gap_in_comment least m blank broke tabbed q)
-  comment_same least m blank broke tabbed (dashes d {x = x} e) f = absurd (f refl (dashes_told d x e))
-  comment_same least m blank broke tabbed (dots d {x = x} e) f = absurd (f refl (dots_told d x e))
-  comment_same least m blank broke tabbed {b = b} (character c {r = r} {q = q} h) f =
-      choose Gaps (is_yaml_non_break c) (is_yaml_non_break c) _ _ _ _ refl
+  comment_same least m blank broke tabbed (here h) f = absurd (f refl (told h))
+  comment_same {from = from} least m blank broke tabbed {b = b} (character c {r = r} {q = q} h) f =
+      choose (Gaps from) (is_yaml_non_break c) (is_yaml_non_break c) _ _ _ _ refl
       (λ g. comment_same least (along m 1) blank broke tabbed h
       (off_on r (class_no_break is_yaml_non_break refl refl c g)))
-      (λ _. choose Gaps ((c == 13) && (slice_index r 0 == 10)) ((c == 13) && (slice_index q 0 == 10)) _ _ _ _
+      (λ _. choose (Gaps from) ((c == 13) && (slice_index r 0 == 10)) ((c == 13) && (slice_index q 0 == 10)) _ _ _ _
       (ap (λ x. (c == 13) && (x == 10)) (first_same h))
       (λ g. between_same least (along m 1) blank broke tabbed h
       (fits_feed (is_break c) r (along m 1) (and_parts (c == 13) _ g).1))
-      (λ _. choose Gaps (is_break c) (is_break c) _ _ _ _ refl
+      (λ _. choose (Gaps from) (is_break c) (is_break c) _ _ _ _ refl
       (λ _. between_same least (next_line m 1) true true false h (λ _ _. refl))
       (λ _. stop_same m blank broke tabbed (stands_before m (character c h)))))
 
-pub gap_same : (least : ℕ) (s : Cursor) {q : List ℕ} → Stands s.mark s.rest q
-    → Gives Gaps (whole_gap least s) (whole_gap least (reading q s))
+pub gap_same : {from : List ℕ} (least : ℕ) (s : Cursor) {q : List ℕ} → Stands from s.mark s.rest q
+    → Gives (Gaps from) (whole_gap least s) (whole_gap least (reading q s))
 gap_same least s h = between_same least s.mark s.blank_so_far false false h.ahead h.fits
 
 -- ## Behind `?`
 
-pub data Spaces : SpacesEnd → SpacesEnd → Type 0 where
-  spaces : (space : Bool) {s t : Cursor} → Beside s t
-      → Spaces (record { cursor = s; space = space }) (record { cursor = t; space = space })
+pub data Spaces (from : List ℕ) : SpacesEnd → SpacesEnd → Type 0 where
+  spaces : (space : Bool) {s t : Cursor} → Beside from s t
+      → Spaces from (record { cursor = s; space = space }) (record { cursor = t; space = space })
 
 abbrev is_space : ℕ → Bool
 is_space c = c == space
 
 mutual
-  spaces_same : (m : Marker) (blank found : Bool) {b : Bool} {r q : List ℕ} → Ahead b r q → Fits b r m
-      → Spaces (end_of_spaces m blank found r) (end_of_spaces m blank found q)
-  spaces_same m blank found (dashes d e) f =
-      spaces found (beside (line_cursor blank m _) (record { flag = true; ahead = dashes d e; fits = f }))
-  spaces_same m blank found (dots d e) f =
-      spaces found (beside (line_cursor blank m _) (record { flag = true; ahead = dots d e; fits = f }))
-  spaces_same m blank found {b = b} (character c {r = r} {q = q} h) f =
-      both_by (goes_along is_space c r) (goes_along is_space c q) _ _ _ _ Spaces
+  spaces_same : {from : List ℕ} (m : Marker) (blank found : Bool) {b : Bool} {r q : List ℕ} → Ahead from b r q
+      → Fits b r m
+      → Spaces from (end_of_spaces m blank found r) (end_of_spaces m blank found q)
+  spaces_same m blank found (here (dashes d e)) f =
+      spaces found (beside (line_cursor blank m _) (stands_here m (dashes d e) f))
+  spaces_same m blank found (here (dots tail d _ _ white e)) f =
+      spaces found (beside (line_cursor blank m _) (stands_here m (dots tail d _ _ white e) f))
+  spaces_same {from = from} m blank found {b = b} (character c {r = r} {q = q} h) f =
+      both_by (goes_along is_space c r) (goes_along is_space c q) _ _ _ _ (Spaces from)
       (ap (λ x. is_space c || ((c == 13) && (x == 10))) (first_same h))
       (λ g _. spaces_same (along m 1) blank true h (fits_along is_space refl refl c r (along m 1) g))
-      (λ _ _. both_by (is_break c) (is_break c) _ _ _ _ Spaces refl
+      (λ _ _. both_by (is_break c) (is_break c) _ _ _ _ (Spaces from) refl
       (λ _ _. spaces_same (next_line m 1) true true h (λ _ _. refl))
-      (λ ink _. both_by (c == number_sign) (c == number_sign) _ _ _ _ Spaces refl
+      (λ ink _. both_by (c == number_sign) (c == number_sign) _ _ _ _ (Spaces from) refl
       (λ _ _. spaces_comment (along m 1) blank found h (off_on r ink))
       (λ _ _. spaces found (beside (line_cursor blank m (c ∷ r))
       (record { flag = b; ahead = character c h; fits = f })))))
 
-  spaces_comment : (m : Marker) (blank found : Bool) {b : Bool} {r q : List ℕ} → Ahead b r q → Off b r
-      → Spaces (end_of_spaces_in_comment m blank found r) (end_of_spaces_in_comment m blank found q)
-  spaces_comment m blank found (dashes d {x = x} e) f = absurd (f refl (dashes_told d x e))
-  spaces_comment m blank found (dots d {x = x} e) f = absurd (f refl (dots_told d x e))
-  spaces_comment m blank found {b = b} (character c {r = r} {q = q} h) f =
-      both_by (is_yaml_non_break c) (is_yaml_non_break c) _ _ _ _ Spaces refl
+  spaces_comment : {from : List ℕ} (m : Marker) (blank found : Bool) {b : Bool} {r q : List ℕ} → Ahead from b r q
+      → Off b r
+      → Spaces from (end_of_spaces_in_comment m blank found r) (end_of_spaces_in_comment m blank found q)
+  spaces_comment m blank found (here h) f = absurd (f refl (told h))
+  spaces_comment {from = from} m blank found {b = b} (character c {r = r} {q = q} h) f =
+      both_by (is_yaml_non_break c) (is_yaml_non_break c) _ _ _ _ (Spaces from) refl
       (λ g _. spaces_comment (along m 1) blank found h
       (off_on r (class_no_break is_yaml_non_break refl refl c g)))
-      (λ _ _. both_by ((c == 13) && (slice_index r 0 == 10)) ((c == 13) && (slice_index q 0 == 10)) _ _ _ _ Spaces
+      (λ _ _. both_by ((c == 13) && (slice_index r 0 == 10)) ((c == 13) && (slice_index q 0 == 10)) _ _ _ _
+      (Spaces from)
       (ap (λ x. (c == 13) && (x == 10)) (first_same h))
       (λ g _. spaces_same (along m 1) blank true h
       (fits_feed (is_break c) r (along m 1) (and_parts (c == 13) _ g).1))
-      (λ _ _. both_by (is_break c) (is_break c) _ _ _ _ Spaces refl
+      (λ _ _. both_by (is_break c) (is_break c) _ _ _ _ (Spaces from) refl
       (λ _ _. spaces_same (next_line m 1) true true h (λ _ _. refl))
       (λ _ _. spaces found (beside (line_cursor blank m (c ∷ r)) (stands_before m (character c h))))))
 
-pub spaces_beside : (found : Bool) (s : Cursor) {q : List ℕ} → Stands s.mark s.rest q
-    → Spaces (spaces_at found s) (spaces_at found (reading q s))
+pub spaces_beside : {from : List ℕ} (found : Bool) (s : Cursor) {q : List ℕ} → Stands from s.mark s.rest q
+    → Spaces from (spaces_at found s) (spaces_at found (reading q s))
 spaces_beside found s h = spaces_same s.mark s.blank_so_far found h.ahead h.fits

@@ -8,10 +8,13 @@ pub mod Blocks
 pub mod Quotes
 pub mod Plains
 pub mod Gaps
+pub mod Dots
 pub mod Cores
 pub mod Indicators
 pub mod Tokens
 pub mod Fetches
 pub mod Markers
+pub mod OpenFlows
 pub mod Runs
 pub mod Through
+pub mod Events

@@ -1,5 +1,5 @@
 -- Quoted scalars are read alike: a marker at the start of a line is refused.
-use Rattle.std.proofs.Common.{◌≡◌, ℕ, zero, suc, ◌+◌, ◌*◌, ◌<◌, Bool, true, false, List, [], ◌∷◌, length, drop, slice_index, refl, sym, ap, ◌∙◌, arith, subst, cond, Result, Ok, Err, encode_utf8}
+use Rattle.std.proofs.Common.{◌≡◌, ℕ, zero, suc, ◌+◌, ◌*◌, ◌<◌, Bool, true, false, List, [], ◌∷◌, ◌++◌, length, drop, slice_index, refl, sym, ap, ◌∙◌, arith, subst, cond, Result, Ok, Err, encode_utf8}
 use Rattle.std.specs.Prelude.{◌&&◌, ◌==◌, not, pred, Option, Some, None}
 use Rattle.std.proofs.lemmas.Bool.{and_parts, not-true, eqb-true}
 use Rattle.std.proofs.lemmas.List.{length-drop}
@@ -20,74 +20,77 @@ use Rattle.saphyr_scalar.proofs.Quoted.Inside.{passed_over, word_from, quoted_be
 use Rattle.saphyr_scalar.proofs.Quoted.Escapes.{escape_place}
 use Rattle.saphyr_scalar.proofs.NoBreaks.{class_no_break}
 use Rattle.scalar_laws.proofs.Breaks.Results.{by_ends}
-use Rattle.marker_laws.specs.Beside.{Ahead, dashes, dots, character, reading, Before, before, Gives, refused, given, Pairs, pairs}
-use Rattle.marker_laws.proofs.Ahead.{first_same, second_same, indicator_same, inside, dashes_told, dots_told}
+use Rattle.marker_laws.specs.Beside.{Marked, Ahead, here, dashes, dots, character, reading, Before, before, Gives, refused, given, Pairs, pairs}
+use Rattle.marker_laws.proofs.Ahead.{first_same, second_same, indicator_same, inside, told, told_too}
 use Rattle.marker_laws.proofs.Results.{both_then, both_then_known, both_are, choose, by_first}
 use Rattle.marker_laws.proofs.Separations.{past_feed}
 use Rattle.marker_laws.proofs.Names.{one_before, one_passed, two_passed, front_same}
 
 -- ## Escapes
 
-digits_same : (a : Marker) (k v : ℕ) (s t : Cursor) → Before s t
-    → Gives (Pairs Before) (digits a k v s) (digits a k v t)
+digits_same : {from : List ℕ} (a : Marker) (k v : ℕ) (s t : Cursor) → Before from s t
+    → Gives (Pairs (Before from)) (digits a k v s) (digits a k v t)
 unfolding digits
 digits_same a zero v s t h = given (pairs v h)
-digits_same a (suc k) v _ _ (before s {q = q} e) =
-    by_first (Pairs Before) is_hex e _ _ _ _
-    (λ h. subst (λ c. Gives (Pairs Before) (digits a k (v * 16 + hex_value (slice_index s.rest 0)) (pass 1 s))
+digits_same {from = from} a (suc k) v _ _ (before s {q = q} e) =
+    by_first (Pairs (Before from)) is_hex e _ _ _ _
+    (λ h. subst (λ c. Gives (Pairs (Before from)) (digits a k (v * 16 + hex_value (slice_index s.rest 0)) (pass 1 s))
     (digits a k (v * 16 + hex_value c) (pass 1 (reading q s)))) (first_same e)
     (digits_same a k (v * 16 + hex_value (slice_index s.rest 0)) _ _ (one_passed s is_hex refl refl e h)))
     (λ _. refused _)
 
-number_same : (a : Marker) (x y : ℕ × Cursor) → Pairs Before x y
-    → Gives (Pairs Before) (quotes.character a x.0 x.1) (quotes.character a y.0 y.1)
+number_same : {from : List ℕ} (a : Marker) (x y : ℕ × Cursor) → Pairs (Before from) x y
+    → Gives (Pairs (Before from)) (quotes.character a x.0 x.1) (quotes.character a y.0 y.1)
 unfolding quotes.character
-number_same a _ _ (pairs v h) =
-    choose (Pairs Before) (is_scalar_value v) (is_scalar_value v) _ _ _ _ refl (λ _. given (pairs v h))
+number_same {from = from} a _ _ (pairs v h) =
+    choose (Pairs (Before from)) (is_scalar_value v) (is_scalar_value v) _ _ _ _ refl (λ _. given (pairs v h))
     (λ _. refused _)
 
-letter_same : (a : Marker) (o : Option ℕ) (letter : ℕ) (s : Cursor) {q : List ℕ} → Ahead false s.rest q
+letter_same : {from : List ℕ} (a : Marker) (o : Option ℕ) (letter : ℕ) (s : Cursor) {q : List ℕ}
+    → Ahead from false s.rest q
     → is_break (slice_index s.rest 0) ≡ false → is_break (slice_index s.rest 1) ≡ false
-    → Gives (Pairs Before) (escape_of a o letter s) (escape_of a o letter (reading q s))
+    → Gives (Pairs (Before from)) (escape_of a o letter s) (escape_of a o letter (reading q s))
 unfolding escape_of escape_by_number
 letter_same a (Some c) letter s e k l = given (pairs c (two_passed s e k l))
-letter_same a None letter s {q = q} e k l = by (digit_count letter)
+letter_same {from = from} a None letter s {q = q} e k l = by (digit_count letter)
   where
-    by : (o : Option ℕ) → Gives (Pairs Before) (escape_by_number a o s) (escape_by_number a o (reading q s))
+    by : (o : Option ℕ) → Gives (Pairs (Before from)) (escape_by_number a o s) (escape_by_number a o (reading q s))
     by None = refused _
     by (Some n) =
-        both_then (Pairs Before) (Pairs Before) (digits_same a n 0 _ _ (two_passed s e k l)) (number_same a)
+        both_then (Pairs (Before from)) (Pairs (Before from)) (digits_same a n 0 _ _ (two_passed s e k l))
+        (number_same a)
 
-escape_same : (a : Marker) (s : Cursor) {q : List ℕ} → Ahead false s.rest q
+escape_same : {from : List ℕ} (a : Marker) (s : Cursor) {q : List ℕ} → Ahead from false s.rest q
     → is_break (slice_index s.rest 0) ≡ false → is_break (slice_index s.rest 1) ≡ false
-    → Gives (Pairs Before) (escaped_character a s) (escaped_character a (reading q s))
+    → Gives (Pairs (Before from)) (escaped_character a s) (escaped_character a (reading q s))
 unfolding escaped_character
-escape_same a s {q = q} e k l =
-    subst (λ c. Gives (Pairs Before) (escape_of a (short_escape (slice_index s.rest 1)) (slice_index s.rest 1) s)
+escape_same {from = from} a s {q = q} e k l =
+    subst (λ c. Gives (Pairs (Before from)) (escape_of a (short_escape (slice_index s.rest 1)) (slice_index s.rest 1) s)
     (escape_of a (short_escape c) c (reading q s))) (second_same e)
     (letter_same a (short_escape (slice_index s.rest 1)) (slice_index s.rest 1) s e k l)
 
-some_of : (x y : ℕ × Cursor) → Pairs Before x y → Gives (Pairs Before) (Ok (Some x.0, x.1)) (Ok (Some y.0, y.1))
+some_of : {from : List ℕ} (x y : ℕ × Cursor) → Pairs (Before from) x y
+    → Gives (Pairs (Before from)) (Ok (Some x.0, x.1)) (Ok (Some y.0, y.1))
 some_of _ _ (pairs a h) = given (pairs (Some a) h)
 
-special_same : (quote : Quote) (a : Marker) (s : Cursor) {q : List ℕ} → Ahead false s.rest q
-    → Gives (Pairs Before) (special quote a s) (special quote a (reading q s))
+special_same : {from : List ℕ} (quote : Quote) (a : Marker) (s : Cursor) {q : List ℕ} → Ahead from false s.rest q
+    → Gives (Pairs (Before from)) (special quote a s) (special quote a (reading q s))
 unfolding special
-special_same Single a s {q = q} e =
-    choose (Pairs Before) (next_2_are s.rest 39 39) (next_2_are q 39 39) _ _ _ _
+special_same {from = from} Single a s {q = q} e =
+    choose (Pairs (Before from)) (next_2_are s.rest 39 39) (next_2_are q 39 39) _ _ _ _
     (let x = first_same e in let y = second_same e in rw (x, y) refl)
     (λ h.
     let w = and_parts (slice_index s.rest 0 == 39) (slice_index s.rest 1 == 39) h in
     given (pairs _ (two_passed s e (class_no_break (λ c. c == 39) refl refl (slice_index s.rest 0) w.0)
     (class_no_break (λ c. c == 39) refl refl (slice_index s.rest 1) w.1))))
     (λ _. given (pairs None (before s e)))
-special_same Double a s {q = q} e =
-    choose (Pairs Before) ((slice_index s.rest 0 == 92) && not (is_break (slice_index s.rest 1)))
+special_same {from = from} Double a s {q = q} e =
+    choose (Pairs (Before from)) ((slice_index s.rest 0 == 92) && not (is_break (slice_index s.rest 1)))
     ((slice_index q 0 == 92) && not (is_break (slice_index q 1))) _ _ _ _
     (let x = first_same e in let y = second_same e in rw (x, y) refl)
     (λ h.
     let w = and_parts (slice_index s.rest 0 == 92) (not (is_break (slice_index s.rest 1))) h in
-    both_then (Pairs Before) (Pairs Before) (escape_same a s e
+    both_then (Pairs (Before from)) (Pairs (Before from)) (escape_same a s e
     (class_no_break (λ c. c == 92) refl refl (slice_index s.rest 0) w.0) (not-true _ w.1)) some_of)
     (λ _. given (pairs None (before s e)))
 
@@ -177,6 +180,21 @@ marker_refused quote i a m gap c cs blank break z t over =
     quoted_behind_gap quote i a gap m c cs blank break
     ∙ ap (λ r. r >>= λ text. with_front text (word_from quote i a m c cs)) (refuses_marker i a m gap (c ∷ cs) z t over)
 
+refused_here : (quote : Quote) (i : ℕ) (a m : Marker) (gap : QuotedGap) {from r q : List ℕ} → Marked r q
+    → (m.col == 0) ≡ true → is_over gap ≡ true
+    → Gives (Pairs (Before from)) (inner_text quote i a gap 0 m r) (inner_text quote i a gap 0 m q)
+refused_here quote i a m gap (dashes d {x = x} {y = y} e) z over =
+    both_are (Pairs (Before _)) _ _ _ _
+    (marker_refused quote i a m gap 45 (45 ∷ 45 ∷ d ∷ x) refl refl z (told (dashes d {x = x} {y = y} e)) over)
+    (marker_refused quote i a m gap 45 (45 ∷ 45 ∷ d ∷ y) refl refl z (told_too (dashes d {x = x} {y = y} e)) over)
+    (refused _)
+refused_here quote i a m gap (dots tail d x y white e) z over =
+    both_are (Pairs (Before _)) _ _ _ _
+    (marker_refused quote i a m gap 46 (46 ∷ 46 ∷ (tail ++ d ∷ x)) refl refl z (told (dots tail d x y white e)) over)
+    (marker_refused quote i a m gap 46 (46 ∷ 46 ∷ (tail ++ d ∷ y)) refl refl z
+    (told_too (dots tail d x y white e)) over)
+    (refused _)
+
 -- the very same
 data Same {X : Type 0} : X → X → Type 0 where
   same : (x : X) → Same x x
@@ -189,7 +207,8 @@ same_result (Err e) = refused e
 data Any {X : Type 0} : X → X → Type 0 where
   any : (x y : X) → Any x y
 
-gap_same : (i : ℕ) (a : Marker) (gap : QuotedGap) (s : Cursor) {b : Bool} {q : List ℕ} → Ahead b s.rest q
+gap_same : {from : List ℕ} (i : ℕ) (a : Marker) (gap : QuotedGap) (s : Cursor) {b : Bool} {q : List ℕ}
+    → Ahead from b s.rest q
     → Gives Same (end_gap i a gap s) (end_gap i a gap (reading q s))
 unfolding end_gap quoted_line
 gap_same i a (on_line bytes) s h =
@@ -205,35 +224,35 @@ gap_same i a (over_lines escaped n) s {q = q} h =
 -- ## Scalars
 
 -- two readers behind a gap
-data Reads : QuotedGap → Cursor → Cursor → Type 0 where
-  reads : (gap : QuotedGap) (s : Cursor) {q : List ℕ} {b : Bool} → Ahead b s.rest q → Looked b s.rest s.mark gap
-      → Reads gap s (reading q s)
+data Reads (from : List ℕ) : QuotedGap → Cursor → Cursor → Type 0 where
+  reads : (gap : QuotedGap) (s : Cursor) {q : List ℕ} {b : Bool} → Ahead from b s.rest q → Looked b s.rest s.mark gap
+      → Reads from gap s (reading q s)
 
-abbrev SameInside : Quote → ℕ → Marker → Cursor → Cursor → Type 0
-SameInside quote i a s t =
-    (gap : QuotedGap) → Reads gap s t
-    → Gives (Pairs Before) (inner_text_at quote i a gap s) (inner_text_at quote i a gap t)
+abbrev SameInside : List ℕ → Quote → ℕ → Marker → Cursor → Cursor → Type 0
+SameInside from quote i a s t =
+    (gap : QuotedGap) → Reads from gap s t
+    → Gives (Pairs (Before from)) (inner_text_at quote i a gap s) (inner_text_at quote i a gap t)
 
-module _ (quote : Quote) (i : ℕ) (a : Marker) where
+module _ (from : List ℕ) (quote : Quote) (i : ℕ) (a : Marker) where
   abbrev Others : ℕ → Type 0
-  Others k = (x y : Cursor) → length x.rest < k → SameInside quote i a x y
+  Others k = (x y : Cursor) → length x.rest < k → SameInside from quote i a x y
 
   -- further on
-  on_from : (gap : QuotedGap) (m : Marker) {b : Bool} {r q : List ℕ} (k : ℕ) → length r < k → Ahead b r q
+  on_from : (gap : QuotedGap) (m : Marker) {b : Bool} {r q : List ℕ} (k : ℕ) → length r < k → Ahead from b r q
       → Looked b r m gap → Others k
-      → Gives (Pairs Before) (inner_text quote i a gap 0 m r) (inner_text quote i a gap 0 m q)
+      → Gives (Pairs (Before from)) (inner_text quote i a gap 0 m r) (inner_text quote i a gap 0 m q)
   on_from gap m {r = r} {q = q} k less h f others =
       others (mid_line m r) (mid_line m q) less gap (reads gap (mid_line m r) h f)
 
   -- behind a spelling of several characters
   behind_special : (r q : List ℕ) (u v : Cursor) → u.rest ≡ drop (special_len quote (slice_index r 0)) r
-      → v.rest ≡ drop (special_len quote (slice_index q 0)) q → Before u v → Others (suc (length r))
-      → Gives (Pairs Before) (inner_text quote i a no_gap (special_len quote (slice_index r 0)) u.mark r)
+      → v.rest ≡ drop (special_len quote (slice_index q 0)) q → Before from u v → Others (suc (length r))
+      → Gives (Pairs (Before from)) (inner_text quote i a no_gap (special_len quote (slice_index r 0)) u.mark r)
       (inner_text quote i a no_gap (special_len quote (slice_index q 0)) v.mark q)
   behind_special r q _ _ rest other (before u {q = w} e) others =
       let len = length-drop (special_len quote (slice_index r 0)) r in
       let less : length u.rest < suc (length r) = omega (arith, ap length rest, len) in
-      both_are (Pairs Before) _ _ _ _
+      both_are (Pairs (Before from)) _ _ _ _
       (passed_over quote i a no_gap (special_len quote (slice_index r 0)) u.mark r
       ∙ ap (inner_text quote i a no_gap 0 u.mark) (sym rest))
       (passed_over quote i a no_gap (special_len quote (slice_index q 0)) u.mark q
@@ -241,36 +260,35 @@ module _ (quote : Quote) (i : ℕ) (a : Marker) where
       (on_from no_gap u.mark (suc (length r)) less e (looked_on u.rest u.mark no_gap refl) others)
 
   -- behind a break or one character, at the start of a line
-  behind_break : (m : Marker) (gap : QuotedGap) (k n : ℕ) (r q : List ℕ) {b : Bool} → Ahead b (drop k r) (drop k q)
+  behind_break : (m : Marker) (gap : QuotedGap) (k n : ℕ) (r q : List ℕ) {b : Bool} → Ahead from b (drop k r) (drop k q)
       → Looked b (drop k r) m gap → length r < n → Others n
-      → Gives (Pairs Before) (inner_text quote i a gap k m r) (inner_text quote i a gap k m q)
+      → Gives (Pairs (Before from)) (inner_text quote i a gap k m r) (inner_text quote i a gap k m q)
   behind_break m gap k n r q h f less others =
       let len = length-drop k r in
-      both_are (Pairs Before) _ _ _ _ (passed_over quote i a gap k m r) (passed_over quote i a gap k m q)
+      both_are (Pairs (Before from)) _ _ _ _ (passed_over quote i a gap k m r) (passed_over quote i a gap k m q)
       (on_from gap m n (omega (arith, len, less)) h f others)
 
   -- behind an escaped break
-  behind_escaped : (m : Marker) {b : Bool} {r q : List ℕ} → Ahead b r q → b ≡ false → Others (suc (length r))
-      → Gives (Pairs Before)
+  behind_escaped : (m : Marker) {b : Bool} {r q : List ℕ} → Ahead from b r q → b ≡ false → Others (suc (length r))
+      → Gives (Pairs (Before from))
       (inner_text quote i a (escaped_gap quote (slice_index (drop (break_len r) r) 0)) (break_len r)
       (next_line m (break_len r)) r)
       (inner_text quote i a (escaped_gap quote (slice_index (drop (break_len q) q) 0)) (break_len q)
       (next_line m (break_len q)) q)
-  behind_escaped m (dashes d e) z others = absurd (cc)
-  behind_escaped m (dots d e) z others = absurd (cc)
+  behind_escaped m (here h) z others = absurd (cc)
   behind_escaped m (character c {r = r} {q = q} h) z others =
       let len : break_len (c ∷ r) ≡ break_len (c ∷ q) =
       ap (λ x. cond ((c == 13) && (x == 10)) 2 1) (first_same h) in
       subst (λ k. At (break_len (c ∷ r)) k) len (by ((c == 13) && (slice_index r 0 == 10)) refl)
     where
       At : ℕ → ℕ → Type 0
-      At k l = Gives (Pairs Before)
+      At k l = Gives (Pairs (Before from))
           (inner_text quote i a (escaped_gap quote (slice_index (drop k (c ∷ r)) 0)) k (next_line m k) (c ∷ r))
           (inner_text quote i a (escaped_gap quote (slice_index (drop l (c ∷ q)) 0)) l (next_line m l) (c ∷ q))
 
-      there : (k : ℕ) (b : Bool) → Ahead b (drop k (c ∷ r)) (drop k (c ∷ q)) → At k k
+      there : (k : ℕ) (b : Bool) → Ahead from b (drop k (c ∷ r)) (drop k (c ∷ q)) → At k k
       there k b x =
-          subst (λ d. Gives (Pairs Before)
+          subst (λ d. Gives (Pairs (Before from))
           (inner_text quote i a (escaped_gap quote (slice_index (drop k (c ∷ r)) 0)) k (next_line m k) (c ∷ r))
           (inner_text quote i a (escaped_gap quote d) k (next_line m k) (c ∷ q))) (first_same x)
           (behind_break (next_line m k) (escaped_gap quote (slice_index (drop k (c ∷ r)) 0)) k
@@ -282,11 +300,11 @@ module _ (quote : Quote) (i : ℕ) (a : Marker) where
       by false e = there 1 (is_break c) h
 
   -- a spelling of several characters, the closing quote or an escaped break
-  from_special : (m : Marker) (c : ℕ) {r q : List ℕ} → is_break c ≡ false → Ahead (is_break c) r q
+  from_special : (m : Marker) (c : ℕ) {r q : List ℕ} → is_break c ≡ false → Ahead from (is_break c) r q
       → Others (suc (length r)) → (x y : Option ℕ × Cursor)
       → ((d : ℕ) → x.0 ≡ Some d → x.1.rest ≡ drop (special_len quote (slice_index r 0)) r)
       → ((d : ℕ) → y.0 ≡ Some d → y.1.rest ≡ drop (special_len quote (slice_index q 0)) q)
-      → Pairs Before x y → Gives (Pairs Before)
+      → Pairs (Before from) x y → Gives (Pairs (Before from))
       (if_some x.0 (λ d. with_front (encode_utf8 d)
       (inner_text quote i a no_gap (special_len quote (slice_index r 0)) x.1.mark r))
       (cond (c == flow.mark quote) (Ok ([], mid_line (along m 1) r))
@@ -300,19 +318,19 @@ module _ (quote : Quote) (i : ℕ) (a : Marker) where
   from_special m c {r = r} {q = q} ink h others _ _ left other (pairs (Some d) {s = u} {t = v} k) =
       front_same (encode_utf8 d) _ _ (behind_special r q u v (left d refl) (other d refl) k others)
   from_special m c {r = r} {q = q} ink h others _ _ left other (pairs None k) =
-      choose (Pairs Before) (c == flow.mark quote) (c == flow.mark quote) _ _ _ _ refl
+      choose (Pairs (Before from)) (c == flow.mark quote) (c == flow.mark quote) _ _ _ _ refl
       (λ _. given (pairs [] (before (mid_line (along m 1) r) (inside false h ink))))
       (λ _. behind_escaped (along m 1) h ink others)
 
   -- a word or the closing quote
-  from_word : (m : Marker) (c : ℕ) {r q : List ℕ} → is_break c ≡ false → Ahead (is_break c) r q
+  from_word : (m : Marker) (c : ℕ) {r q : List ℕ} → is_break c ≡ false → Ahead from (is_break c) r q
       → Others (suc (length r))
-      → Gives (Pairs Before) (word_from quote i a m c r) (word_from quote i a m c q)
+      → Gives (Pairs (Before from)) (word_from quote i a m c r) (word_from quote i a m c q)
   from_word m c {r = r} {q = q} ink h others =
-      choose (Pairs Before) (is_literal quote c) (is_literal quote c) _ _ _ _ refl
+      choose (Pairs (Before from)) (is_literal quote c) (is_literal quote c) _ _ _ _ refl
       (λ _. front_same (encode_utf8 c) _ _ (on_from no_gap (along m 1) (suc (length r)) (omega arith) h
       (looked_on r (along m 1) no_gap ink) others))
-      (λ _. both_then_known (Pairs Before) (Pairs Before) _ _ _ _
+      (λ _. both_then_known (Pairs (Before from)) (Pairs (Before from)) _ _ _ _
       (special_same quote a (mid_line m (c ∷ r)) (character {b = false} c h)) (λ x y first second is.
       from_special m c ink h others x y
       (λ d some. special_left quote a m c r d x.1 (first ∙ ap (λ (o : Option ℕ). answer (o, x.1)) some))
@@ -321,33 +339,25 @@ module _ (quote : Quote) (i : ℕ) (a : Marker) where
       answer : Option ℕ × Cursor → Result (Option ℕ × Cursor) Refusal
       answer x = Ok x
 
-  inside_by : (m : Marker) (gap : QuotedGap) {b : Bool} {r q : List ℕ} → Ahead b r q → Looked b r m gap
+  inside_by : (m : Marker) (gap : QuotedGap) {b : Bool} {r q : List ℕ} → Ahead from b r q → Looked b r m gap
       → Others (length r)
-      → Gives (Pairs Before) (inner_text quote i a gap 0 m r) (inner_text quote i a gap 0 m q)
+      → Gives (Pairs (Before from)) (inner_text quote i a gap 0 m r) (inner_text quote i a gap 0 m q)
   unfolding inner_text
-  inside_by m gap (dashes d {x = x} {y = y} e) f others =
-      let w = f refl (dashes_told d x e) in
-      both_are (Pairs Before) _ _ _ _
-      (marker_refused quote i a m gap 45 (45 ∷ 45 ∷ d ∷ x) refl refl w.0 (dashes_told d x e) w.1)
-      (marker_refused quote i a m gap 45 (45 ∷ 45 ∷ d ∷ y) refl refl w.0 (dashes_told d y e) w.1) (refused _)
-  inside_by m gap (dots d {x = x} {y = y} e) f others =
-      let w = f refl (dots_told d x e) in
-      both_are (Pairs Before) _ _ _ _
-      (marker_refused quote i a m gap 46 (46 ∷ 46 ∷ d ∷ x) refl refl w.0 (dots_told d x e) w.1)
-      (marker_refused quote i a m gap 46 (46 ∷ 46 ∷ d ∷ y) refl refl w.0 (dots_told d y e) w.1) (refused _)
+  inside_by m gap (here h) f others = let w = f refl (told h) in refused_here quote i a m gap h w.0 w.1
   inside_by m gap {b = b} (character c {r = r} {q = q} h) f others = by (is_blank c) (is_break c) refl refl
     where
       behind_blank : is_break c ≡ false → (g k : QuotedGap) → Same g k
-          → Gives (Pairs Before) (inner_text quote i a g 0 (along m 1) r) (inner_text quote i a k 0 (along m 1) q)
+          → Gives (Pairs (Before from)) (inner_text quote i a g 0 (along m 1) r)
+          (inner_text quote i a k 0 (along m 1) q)
       behind_blank ink _ _ (same g) =
           on_from g (along m 1) (suc (length r)) (omega arith) h (looked_on r (along m 1) g ink) others
 
-      behind_gap : is_break c ≡ false → (u v : List ℕ) → Same u v → Gives (Pairs Before)
+      behind_gap : is_break c ≡ false → (u v : List ℕ) → Same u v → Gives (Pairs (Before from))
           (with_front u (word_from quote i a m c r)) (with_front v (word_from quote i a m c q))
       behind_gap ink _ _ (same u) = front_same u _ _ (from_word m c ink h others)
 
       over : (t : Bool) → ((c == 13) && (slice_index r 0 == 10)) ≡ t → let k : ℕ = cond t 2 1 in
-          Gives (Pairs Before) (inner_text quote i a (break_in gap) (pred k) (next_line m k) r)
+          Gives (Pairs (Before from)) (inner_text quote i a (break_in gap) (pred k) (next_line m k) r)
           (inner_text quote i a (break_in gap) (pred k) (next_line m k) q)
       over true e =
           behind_break (next_line m 2) (break_in gap) 1 (suc (length r)) r q
@@ -357,35 +367,36 @@ module _ (quote : Quote) (i : ℕ) (a : Marker) where
           (omega arith) others
 
       by : (t z : Bool) → is_blank c ≡ t → is_break c ≡ z
-          → Gives (Pairs Before) (inner_text quote i a gap 0 m (c ∷ r)) (inner_text quote i a gap 0 m (c ∷ q))
+          → Gives (Pairs (Before from)) (inner_text quote i a gap 0 m (c ∷ r)) (inner_text quote i a gap 0 m (c ∷ q))
       by true z e k =
-          rw e (both_then Same (Pairs Before) (same_result (blank_in i gap m c))
+          rw e (both_then Same (Pairs (Before from)) (same_result (blank_in i gap m c))
           (behind_blank (class_no_break is_blank refl refl c e)))
       by false true e k =
           let len : break_len (c ∷ r) ≡ break_len (c ∷ q) =
           ap (λ x. cond ((c == 13) && (x == 10)) 2 1) (first_same h) in
-          rw (e, k) (subst (λ n. Gives (Pairs Before)
+          rw (e, k) (subst (λ n. Gives (Pairs (Before from))
           (inner_text quote i a (break_in gap) (pred (break_len (c ∷ r))) (next_line m (break_len (c ∷ r))) r)
           (inner_text quote i a (break_in gap) (pred n) (next_line m n) q)) len
           (over ((c == 13) && (slice_index r 0 == 10)) refl))
       by false false e k =
-          both_are (Pairs Before) _ _ _ _ (quoted_behind_gap quote i a gap m c r e k)
+          both_are (Pairs (Before from)) _ _ _ _ (quoted_behind_gap quote i a gap m c r e k)
           (quoted_behind_gap quote i a gap m c q e k)
-          (both_then Same (Pairs Before) (gap_same i a gap (mid_line m (c ∷ r)) (character {b = b} c h))
+          (both_then Same (Pairs (Before from)) (gap_same i a gap (mid_line m (c ∷ r)) (character {b = b} c h))
           (behind_gap k))
 
-  inside_of : (s t : Cursor) → Others (length s.rest) → SameInside quote i a s t
+  inside_of : (s t : Cursor) → Others (length s.rest) → SameInside from quote i a s t
   inside_of _ _ others _ (reads gap s h f) = inside_by s.mark gap h f others
 
-  inside_same : (s t : Cursor) → SameInside quote i a s t
-  inside_same = by_ends (SameInside quote i a) inside_of
+  inside_same : (s t : Cursor) → SameInside from quote i a s t
+  inside_same = by_ends (SameInside from quote i a) inside_of
 
-pub quoted_same : (quote : Quote) (i : ℕ) (s : Cursor) {q : List ℕ} → Ahead false s.rest q
-    → is_break (slice_index s.rest 0) ≡ false → Gives (Pairs Before) (quoted quote i s) (quoted quote i (reading q s))
+pub quoted_same : {from : List ℕ} (quote : Quote) (i : ℕ) (s : Cursor) {q : List ℕ} → Ahead from false s.rest q
+    → is_break (slice_index s.rest 0) ≡ false
+    → Gives (Pairs (Before from)) (quoted quote i s) (quoted quote i (reading q s))
 unfolding quoted
-quoted_same quote i s {q = q} h k = by (pass 1 s) (pass 1 (reading q s)) (one_before s h k)
+quoted_same {from = from} quote i s {q = q} h k = by (pass 1 s) (pass 1 (reading q s)) (one_before s h k)
   where
-    by : (u v : Cursor) → Before u v
-        → Gives (Pairs Before) (inner_text_at quote i s.mark no_gap u) (inner_text_at quote i s.mark no_gap v)
+    by : (u v : Cursor) → Before from u v
+        → Gives (Pairs (Before from)) (inner_text_at quote i s.mark no_gap u) (inner_text_at quote i s.mark no_gap v)
     by _ _ (before u e) =
-        inside_same quote i s.mark u _ no_gap (reads no_gap u e (looked_on u.rest u.mark no_gap refl))
+        inside_same from quote i s.mark u _ no_gap (reads no_gap u e (looked_on u.rest u.mark no_gap refl))

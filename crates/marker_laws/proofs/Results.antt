@@ -34,7 +34,8 @@ pub choose : {X : Type 0} (R : X → X → Type 0) (a b : Bool) (x y z w : Resul
 choose R a b x y z w e then else = both_by a b x y z w (Gives R) e (λ h _. then h) (λ h _. else h)
 
 -- a choice by the first character
-pub by_first : {X : Type 0} (R : X → X → Type 0) (p : ℕ → Bool) {b : Bool} {r q : List ℕ} → Ahead b r q
+pub by_first : {from : List ℕ} {X : Type 0} (R : X → X → Type 0) (p : ℕ → Bool) {b : Bool} {r q : List ℕ}
+    → Ahead from b r q
     → (x y z w : Result X Refusal) → (p (slice_index r 0) ≡ true → Gives R x z) → (p (slice_index r 0) ≡ false
     → Gives R y w)
     → Gives R (cond (p (slice_index r 0)) x y) (cond (p (slice_index q 0)) z w)
@@ -43,28 +44,32 @@ by_first R p {r = r} {q = q} h x y z w then else =
 
 -- ## Readers
 
-pub beside_before : (s : Cursor) {q : List ℕ} → Ahead false s.rest q → Beside s (reading q s)
+pub beside_before : {from : List ℕ} (s : Cursor) {q : List ℕ} → Ahead from false s.rest q → Beside from s (reading q s)
 beside_before s h = beside s (stands_before s.mark h)
 
 pub pairs_by : {X : Type 0} (C : Cursor → Cursor → Type 0) (x y : X) {s t : Cursor} → x ≡ y → C s t
     → Pairs C (x, s) (y, t)
 pairs_by C x y {s = s} {t = t} e h = subst (λ z. Pairs C (x, s) (z, t)) e (pairs x h)
 
-pub blanks_passed : (s : Cursor) (q : List ℕ) (a b : ℕ) → a ≡ b → Stands (along s.mark a) (drop a s.rest) (drop b q)
-    → Beside (pass_blanks a s) (pass_blanks b (reading q s))
-blanks_passed s q a b e =
-    subst (λ k. Stands (along s.mark a) (drop a s.rest) (drop k q)
-    → Beside (pass_blanks a s) (pass_blanks k (reading q s)))
+pub blanks_passed : {from : List ℕ} (s : Cursor) (q : List ℕ) (a b : ℕ) → a ≡ b
+    → Stands from (along s.mark a) (drop a s.rest) (drop b q)
+    → Beside from (pass_blanks a s) (pass_blanks b (reading q s))
+blanks_passed {from = from} s q a b e =
+    subst (λ k. Stands from (along s.mark a) (drop a s.rest) (drop k q)
+    → Beside from (pass_blanks a s) (pass_blanks k (reading q s)))
     e (λ h. beside (pass_blanks a s) h)
 
-pub passed_before : (s : Cursor) (q : List ℕ) (a b : ℕ) → a ≡ b → Ahead false (drop a s.rest) (drop b q)
-    → Before (pass a s) (pass b (reading q s))
-passed_before s q a b e =
-    subst (λ k. Ahead false (drop a s.rest) (drop k q) → Before (pass a s) (pass k (reading q s))) e
+pub passed_before : {from : List ℕ} (s : Cursor) (q : List ℕ) (a b : ℕ) → a ≡ b
+    → Ahead from false (drop a s.rest) (drop b q)
+    → Before from (pass a s) (pass b (reading q s))
+passed_before {from = from} s q a b e =
+    subst (λ k. Ahead from false (drop a s.rest) (drop k q) → Before from (pass a s) (pass k (reading q s))) e
     (λ h. before (pass a s) h)
 
-pub blanks_before : (s : Cursor) (q : List ℕ) (a b : ℕ) → a ≡ b → Ahead false (drop a s.rest) (drop b q)
-    → Before (pass_blanks a s) (pass_blanks b (reading q s))
-blanks_before s q a b e =
-    subst (λ k. Ahead false (drop a s.rest) (drop k q) → Before (pass_blanks a s) (pass_blanks k (reading q s))) e
+pub blanks_before : {from : List ℕ} (s : Cursor) (q : List ℕ) (a b : ℕ) → a ≡ b
+    → Ahead from false (drop a s.rest) (drop b q)
+    → Before from (pass_blanks a s) (pass_blanks b (reading q s))
+blanks_before {from = from} s q a b e =
+    subst (λ k. Ahead from false (drop a s.rest) (drop k q) → Before from (pass_blanks a s)
+    (pass_blanks k (reading q s))) e
     (λ h. before (pass_blanks a s) h)

@@ -1,91 +1,130 @@
 -- The tokens of two texts are the same up to the marker.
-use Rattle.std.proofs.Common.{◌≡◌, ℕ, zero, suc, ◌+◌, ◌<◌, true, List, [], ◌∷◌, Result, Ok, refl, arith, cond}
+use Rattle.std.proofs.Common.{◌≡◌, ℕ, zero, suc, ◌+◌, ◌<◌, true, false, List, [], ◌∷◌, ◌++◌, length, Result, Ok, refl, sym, ◌∙◌, subst, arith, cond}
+use Rattle.std.proofs.lemmas.List.{length-append}
 use Rattle.saphyr_scalar.specs.declared.scalar.fault.Refusal.{Refusal}
 use Rattle.saphyr_scalar.specs.Views.Cursor.{◌>>=◌}
 use Rattle.saphyr_scalar.proofs.Choices.{both_by}
 use Rattle.saphyr_scanner.specs.declared.queue.Opening.{Opening}
 use Rattle.saphyr_scanner.specs.declared.queue.Opening.TheVariants as opening
-use Rattle.saphyr_scanner.specs.Views.Tokens.{Piece, Remaining, none, refusal_alone}
-use Rattle.saphyr_scanner.specs.Steps.Queue.{Place, Queue}
-use Rattle.saphyr_scanner.specs.Steps.Core.{Core}
+use Rattle.saphyr_scanner.specs.Grammar.Tokens as tokens
+use Rattle.saphyr_scanner.specs.Views.Tokens.{Piece, Remaining, before, none, refusal_alone}
+use Rattle.saphyr_scanner.specs.Steps.Queue.{Place, Queue, empty_piece}
+use Rattle.saphyr_scanner.specs.Steps.Core.{Core, drop_far_key}
 use Rattle.saphyr_scanner.specs.Steps.Core as core
 use Rattle.saphyr_scanner.specs.Steps.State.{State, start}
 use Rattle.saphyr_scanner.specs.Steps.Fetch.{size, without_far_key, fetch_within, needs_token}
 use Rattle.saphyr_scanner.specs.Steps.Remaining.{before_place, hand_out, remaining_after, run, remaining, scan}
-use Rattle.saphyr_scanner.proofs.Filling.{less_read}
-use Rattle.saphyr_scanner.proofs.Effects.Readers.{Readers}
+use Rattle.saphyr_scalar.proofs.Given.{given_of}
+use Rattle.saphyr_scanner.proofs.Filling.{read, less_read}
+use Rattle.saphyr_scanner.proofs.Effects.Fetch as effects
+use Rattle.saphyr_scanner.proofs.Effects.Fetch.{read_fetched}
+use Rattle.saphyr_scanner.proofs.Effects.Readers.{Readers, ReaderEnds}
 use Rattle.marker_laws.specs.Beside.{Ahead, Gives, refused, given, Cores, cores, States, states}
-use Rattle.marker_laws.specs.UpTo.{Past, Fetched, on, marked, AlikeUpTo, same, token, marker}
+use Rattle.marker_laws.specs.UpTo.{open_behind, marker_token, Past, Reaches, starts, reads, hands, Fetched, on, marked, AlikeUpTo, same, token, marker}
 use Rattle.marker_laws.proofs.Ahead.{stands_at_line}
-use Rattle.marker_laws.proofs.Fetches.{holding, settled_same}
+use Rattle.marker_laws.proofs.Fetches.{holding}
 use Rattle.marker_laws.proofs.Markers.{read_same}
+use Rattle.marker_laws.proofs.OpenFlows.{IsBalanced, start_same, read_balanced}
 
-before_same : (limit : ℕ) (o : Opening) (t : Piece) (r w : Remaining) → AlikeUpTo limit r w
-    → AlikeUpTo limit (before_place o t r) (before_place o t w)
-before_same limit opening.Nothing t r w h = token t h
-before_same limit opening.Key t r w h = token _ (token t h)
-before_same limit opening.BlockMappingAndKey t r w h = token _ (token _ (token t h))
-before_same limit opening.FlowMappingAndKey t r w h = token _ (token _ (token t h))
+module _ (limit : ℕ) (v from : List ℕ) where
+  before_same : (k : ℕ) (o : Opening) (t : Piece) (r w : Remaining) → AlikeUpTo limit v from (open_behind t k) r w
+      → AlikeUpTo limit v from k (before_place o t r) (before_place o t w)
+  before_same k opening.Nothing t r w h = token t h
+  before_same k opening.Key t r w h = token _ (token t h)
+  before_same k opening.BlockMappingAndKey t r w h = token _ (token _ (token t h))
+  before_same k opening.FlowMappingAndKey t r w h =
+      let key = empty_piece t.span.start tokens.Key in
+      token (empty_piece t.span.start tokens.FlowMappingStart)
+      (subst (λ m. AlikeUpTo limit v from m (before key (before t r)) (before key (before t w)))
+      (sym (start_same k t.span.start)) (token key (token t h)))
 
-hands_same : (limit : ℕ) (ps : List Place) (n : ℕ) (c d : Core) (go ho : State → Remaining) → Cores c d
-    → ((queue : Queue) → AlikeUpTo limit (go (holding c queue)) (ho (holding d queue)))
-    → AlikeUpTo limit (hand_out ps go (holding c (record { places = ps; handed = n })))
-    (hand_out ps ho (holding d (record { places = ps; handed = n })))
-hands_same limit [] n c d go ho h k = k _
-hands_same limit (p ∷ ps) n _ _ go ho (cores c h) k =
-    let held = needs_token (holding c (record { places = p ∷ ps; handed = n })) in
-    both_by held held _ _ _ _ (AlikeUpTo limit) refl (λ _ _. k _)
-    (λ _ _. before_same limit p.opening p.piece _ _ (hands_same limit ps (n + 1) _ _ go ho (cores c h) k))
+  hands_same : (ps : List Place) (k n : ℕ) (c d : Core) (go ho : State → Remaining) → Cores from c d
+      → Reaches limit (v ++ from) (holding c (record { places = ps; handed = n }))
+      → IsBalanced k (holding c (record { places = ps; handed = n }))
+      → ((k : ℕ) (queue : Queue) → Reaches limit (v ++ from) (holding c queue) → IsBalanced k (holding c queue)
+      → (c.ended ≡ false → needs_token (holding c queue) ≡ true)
+      → AlikeUpTo limit v from k (go (holding c queue)) (ho (holding d queue)))
+      → AlikeUpTo limit v from k (hand_out ps go (holding c (record { places = ps; handed = n })))
+      (hand_out ps ho (holding d (record { places = ps; handed = n })))
+  hands_same [] k n c d go ho h comes opens next = next k _ comes opens (λ e. rw e refl)
+  hands_same (p ∷ ps) k n _ _ go ho (cores c h) comes opens next =
+      let held = needs_token (holding c (record { places = p ∷ ps; handed = n })) in
+      both_by held held _ _ _ _ (AlikeUpTo limit v from k) refl (λ needs _. next k _ comes opens (λ _. needs))
+      (λ free _. before_same k p.opening p.piece _ _
+      (hands_same ps (open_behind p.piece k) (n + 1) _ _ go ho (cores c h) (hands c p ps n comes free) opens next))
 
-after_same : (limit : ℕ) (a b : Result State Refusal) (go ho : State → Remaining) → Gives Fetched a b
-    → ((s t : State) → a ≡ Ok s → b ≡ Ok t → Fetched s t → AlikeUpTo limit (go s) (ho t))
-    → AlikeUpTo limit (remaining_after a go) (remaining_after b ho)
-after_same limit _ _ go ho (refused e) k = same (refusal_alone e)
-after_same limit _ _ go ho (given {x = s} {y = t} h) k = k s t refl refl h
+  after_same : (k : ℕ) (a b : Result State Refusal) (go ho : State → Remaining) → Gives (Fetched from) a b
+      → ((s t : State) → a ≡ Ok s → b ≡ Ok t → Fetched from s t → AlikeUpTo limit v from k (go s) (ho t))
+      → AlikeUpTo limit v from k (remaining_after a go) (remaining_after b ho)
+  after_same k _ _ go ho (refused e) next = same (refusal_alone e)
+  after_same k _ _ go ho (given {x = s} {y = t} h) next = next s t refl refl h
 
-marks : (limit n m : ℕ) (s t : State) → size s.core < n → size t.core < m → Past s t
-    → AlikeUpTo limit (run n limit s) (run m limit t)
-marks limit zero m s t a b h = absurd (omega (arith, a))
-marks limit (suc n) zero s t a b h = absurd (omega (arith, b))
-marks limit (suc n) (suc m) s t a b h = marker n m h
+  marks : (n m k line : ℕ) (s t : State) → size s.core < n → size t.core < m → Reaches limit (v ++ from) s
+      → IsBalanced k s → Past (marker_token (length v) line from) s t
+      → AlikeUpTo limit v from k (run n limit s) (run m limit t)
+  marks zero m k line s t a b comes opens h = absurd (omega (arith, a))
+  marks (suc n) zero k line s t a b comes opens h = absurd (omega (arith, b))
+  marks (suc n) (suc m) k line s t a b comes opens h = marker n m line s t comes h opens
 
-module _ (readers : Readers) (limit : ℕ) where
-  runs_same : (n m : ℕ) (x y : State) → size x.core < n → size y.core < m → States x y
-      → AlikeUpTo limit (run n limit x) (run m limit y)
-  runs_same zero m x y a b h = absurd (omega (arith, a))
-  runs_same (suc n) zero x y a b h = absurd (omega (arith, b))
-  runs_same (suc n) (suc m) _ _ a b (states queue {c = c} {d = d} h) =
-      hands_same limit queue.places queue.handed c d _ _ h (λ held.
-      going c d h (λ s t less less_too k. runs_same n m s t less less_too k) a b held)
+-- so many characters of a text are read, and left
+abbrev counted : State → ℕ
+counted s = s.core.cursor.mark.index + length s.core.cursor.rest
+
+counted_same : ReaderEnds → (limit : ℕ) (s t : State) → s.core.ended ≡ false → read limit s ≡ Ok t
+    → counted t ≡ counted s
+counted_same ends limit s t over e =
+    ((given_of (effects.Fetched s) (read limit s) t (read_fetched limit s over) e).grows ends).ahead.counted
+
+module _ (readers : Readers) (ends : ReaderEnds) (limit : ℕ) (v from : List ℕ) where
+  -- a scanner of the first text comes to this, has read and left as much as the text has, and has so many brackets open
+  abbrev Text : ℕ → State → Type 0
+  Text k s = (counted s ≡ length v + length from) × Reaches limit (v ++ from) s × IsBalanced k s
+
+  runs_same : (n m k : ℕ) (x y : State) → size x.core < n → size y.core < m → Text k x → States from x y
+      → AlikeUpTo limit v from k (run n limit x) (run m limit y)
+  runs_same zero m k x y a b here h = absurd (omega (arith, a))
+  runs_same (suc n) zero k x y a b here h = absurd (omega (arith, b))
+  runs_same (suc n) (suc m) k _ _ a b here (states queue {c = c} {d = d} h) =
+      hands_same limit v from queue.places k queue.handed c d _ _ h here.1 here.2 (λ k held comes opens needs.
+      going c d h (λ k s t less less_too there more. runs_same n m k s t less less_too there more) k a b held
+      (here.0, comes, opens) needs)
     where
-      next : (s t : State) → ((s t : State) → size s.core < n → size t.core < m → States s t
-          → AlikeUpTo limit (run n limit s) (run m limit t)) → size s.core < n → size t.core < m → Fetched s t
-          → AlikeUpTo limit (run n limit s) (run m limit t)
-      next s t more less less_too (on k) = more s t less less_too k
-      next s t more less less_too (marked k) = marks limit n m s t less less_too k
+      More : Type 0
+      More = (k : ℕ) (s t : State) → size s.core < n → size t.core < m → Text k s → States from s t
+          → AlikeUpTo limit v from k (run n limit s) (run m limit t)
 
-      going : (c d : Core) → Cores c d → ((s t : State) → size s.core < n → size t.core < m → States s t
-          → AlikeUpTo limit (run n limit s) (run m limit t)) → size c < suc n → size d < suc m → (held : Queue)
-          → AlikeUpTo limit
+      next : (k : ℕ) (s t : State) → More → size s.core < n → size t.core < m → Text k s → Fetched from s t
+          → AlikeUpTo limit v from k (run n limit s) (run m limit t)
+      next k s t more less less_too here (on h) = more k s t less less_too here h
+      next k s t more less less_too here (marked place line h left) =
+          let is : place ≡ length v = omega (arith, here.0, left) in
+          marks limit v from n m k line s t less less_too here.1 here.2
+          (subst (λ i. Past (marker_token i line from) s t) is h)
+
+      going : (c d : Core) → Cores from c d → More → (k : ℕ) → size c < suc n → size d < suc m → (held : Queue)
+          → Text k (holding c held) → (c.ended ≡ false → needs_token (holding c held) ≡ true)
+          → AlikeUpTo limit v from k
           (cond c.ended none (remaining_after (fetch_within limit (holding c held) >>= without_far_key) (run n limit)))
           (cond d.ended none (remaining_after (fetch_within limit (holding d held) >>= without_far_key) (run m limit)))
-      going _ _ (cores c {q = q} h) more a b held =
-          both_by c.ended c.ended _ _ _ _ (AlikeUpTo limit) refl (λ _ _. same none)
-          (λ over _. after_same limit _ _ (run n limit) (run m limit) (read_same limit _ _ (states held (cores c h)))
-          (λ s t i j k.
+      going _ _ (cores c {q = q} h) more k a b held here needs =
+          both_by c.ended c.ended _ _ _ _ (AlikeUpTo limit v from k) refl (λ _ _. same none)
+          (λ over _. after_same limit v from k _ _ (run n limit) (run m limit)
+          (read_same limit _ _ (states held (cores c h)))
+          (λ s t i j f.
           let less = less_read readers limit (holding c held) s over i in
           let less_too = less_read readers limit (holding _ held) t over j in
-          next s t more (omega (arith, less, a)) (omega (arith, less_too, b)) k))
+          let too = counted_same ends limit (holding c held) s over i in
+          next k s t more (omega (arith, less, a)) (omega (arith, less_too, b)) (
+            too ∙ here.0,
+            reads (holding c held) s here.1 (needs over) i,
+            read_balanced k limit (holding c held) s here.2 i,
+          ) f))
 
-  settled : (a b : Result State Refusal) → Gives States a b → AlikeUpTo limit
-      (remaining_after a (λ t. run (suc (size t.core)) limit t))
-      (remaining_after b (λ t. run (suc (size t.core)) limit t))
-  settled _ _ (refused e) = same (refusal_alone e)
-  settled _ _ (given {x = s} {y = t} h) =
-      runs_same (suc (size s.core)) (suc (size t.core)) s t (omega arith) (omega arith) h
-
-  pub scans_same : {r q : List ℕ} → Ahead true r q → AlikeUpTo limit (scan limit r) (scan limit q)
-  unfolding remaining
-  scans_same {r = r} {q = q} h =
-      settled _ _ (settled_same (start r) (start q)
-      (states _ (cores (core.core_at_start r) (stands_at_line _ refl h))))
+  pub scans_same : {q : List ℕ} → Ahead from true (v ++ from) q
+      → AlikeUpTo limit v from 0 (scan limit (v ++ from)) (scan limit q)
+  unfolding remaining drop_far_key
+  scans_same {q = q} h =
+      let all = length-append v from in
+      runs_same (suc (size (start (v ++ from)).core)) (suc (size (start q).core)) 0 (start (v ++ from)) (start q)
+      (omega arith) (omega arith) (omega (arith, all), starts, refl)
+      (states _ (cores (core.core_at_start (v ++ from)) (stands_at_line _ refl h)))

@@ -1,52 +1,83 @@
 -- The tokens of two texts that are the same up to a document marker at the start of a line.
-use Rattle.std.specs.Prelude.{◌≡◌, ℕ, suc, Bool, true, false, List}
-use Rattle.saphyr_scalar.specs.declared.scalar.position.Span.{Span}
+use Rattle.std.specs.Prelude.{◌≡◌, ◌<◌, ◌+◌, ◌==◌, ℕ, suc, true, false, List, [], ◌∷◌, ◌++◌, length, slice_index, None, Ok, if◌then◌else◌}
+use Rattle.saphyr_input.specs.Indicators.{full_stop}
+use Rattle.saphyr_scalar.specs.declared.scalar.position.Marker.{Marker}
+use Rattle.saphyr_scalar.specs.Views.Cursor.{◌>>=◌, along}
 use Rattle.saphyr_scanner.specs.Grammar.Tokens as tokens
 use Rattle.saphyr_scanner.specs.Grammar.Tokens.{Kind}
+use Rattle.saphyr_scanner.specs.TokensTaken.{collections_behind, no_collections, with_brackets}
 use Rattle.saphyr_scanner.specs.Views.Tokens.{Piece, Remaining, before}
 use Rattle.saphyr_scanner.specs.Steps.Core.{Core}
 use Rattle.saphyr_scanner.specs.Steps.Passing.{with_cursor}
-use Rattle.saphyr_scanner.specs.Steps.Queue.{Queue, with_piece}
-use Rattle.saphyr_scanner.specs.Steps.Fetch.{is_held}
+use Rattle.saphyr_scanner.specs.Steps.Queue.{Place, Queue, with_piece}
+use Rattle.saphyr_scanner.specs.Steps.Fetch.{fetch_within, is_held, needs_token, without_far_key}
 use Rattle.saphyr_scanner.specs.Steps.Remaining.{run}
-use Rattle.saphyr_scanner.specs.Steps.State.{State}
+use Rattle.saphyr_scanner.specs.Steps.State.{State, start}
 use Rattle.marker_laws.specs.Beside.{reading, States}
 
--- the token of a marker: of `...`, or of `---`
-abbrev pub marker_kind : Bool → Kind
-marker_kind true = tokens.DocumentEnd
-marker_kind false = tokens.DocumentStart
+-- what the token says of the marker with which a text begins: `...` or `---`
+abbrev pub marker_kind : List ℕ → Kind
+marker_kind from = if slice_index from 0 == full_stop then tokens.DocumentEnd else tokens.DocumentStart
 
--- a marker was read last, and all is the same but for what follows
-pub data Past : State → State → Type 0 where
-  past : (c : Core) (follows : List ℕ) (queue : Queue) (span : Span) (ends : Bool)
-      → Past (record { core = c; queue = with_piece (record { span = span; kind = marker_kind ends }) queue })
-      (record {
-        core = with_cursor (reading follows c.cursor) c;
-        queue = with_piece (record { span = span; kind = marker_kind ends }) queue;
-      })
+-- the token of this marker: it is three characters long, from the start of its line on
+abbrev pub marker_token : ℕ → ℕ → List ℕ → Piece
+marker_token index line from =
+    let start : Marker = record { index = index; line = line; col = 0 } in
+    record { span = record { start = start; end = along start 3 }; kind = marker_kind from }
 
--- behind one more token: at or before the marker, or right behind it
-pub data Fetched : State → State → Type 0 where
-  on : {s t : State} → States s t → Fetched s t
-  marked : {s t : State} → Past s t → Fetched s t
+-- how many brackets and braces are open behind a token, and behind those that are held
+abbrev pub open_behind : Piece → ℕ → ℕ
+open_behind t n = (collections_behind t.kind t.span (with_brackets n no_collections)).brackets
 
--- The tokens of two scanners are the same: all of them, with a refusal that ends them, or up to where both have read
--- the marker. What is held there, and the marker's token behind it, is the same.
-pub data AlikeUpTo (limit : ℕ) : Remaining → Remaining → Type 0 where
-  same : (r : Remaining) → AlikeUpTo limit r r
-  token : (t : Piece) {r w : Remaining} → AlikeUpTo limit r w → AlikeUpTo limit (before t r) (before t w)
-  marker : (n m : ℕ) {s t : State} → Past s t → AlikeUpTo limit (run (suc n) limit s) (run (suc m) limit t)
+abbrev pub open_behind_held : List Place → ℕ → ℕ
+open_behind_held [] n = n
+open_behind_held (p ∷ ps) n = open_behind_held ps (open_behind p.piece n)
+
+-- A marker with this token was read last, behind which no token of the innermost level may be a key, and all is the
+-- same but for what follows.
+pub data Past (token : Piece) : State → State → Type 0 where
+  past : (c : Core) (follows : List ℕ) (queue : Queue) → c.level.key ≡ None
+      → Past token (record { core = c; queue = with_piece token queue })
+      (record { core = with_cursor (reading follows c.cursor) c; queue = with_piece token queue })
+
+-- Behind one more token: at or before the marker, or right behind it. It stands at `index`: what the first text has
+-- before it and from there on is as much as is read of it and left.
+pub data Fetched (from : List ℕ) : State → State → Type 0 where
+  on : {s t : State} → States from s t → Fetched from s t
+  marked : (index line : ℕ) {s t : State} → Past (marker_token index line from) s t
+      → index + length from ≡ s.core.cursor.mark.index + length s.core.cursor.rest → Fetched from s t
+
+-- A scanner of the text comes to this: it reads a token where it needs one, and else hands out the first that it holds.
+pub data Reaches (limit : ℕ) (text : List ℕ) : State → Type 0 where
+  starts : Reaches limit text (start text)
+  reads : (s t : State) → Reaches limit text s → needs_token s ≡ true
+      → (fetch_within limit s >>= without_far_key) ≡ Ok t → Reaches limit text t
+  hands : (c : Core) (p : Place) (ps : List Place) (n : ℕ)
+      → Reaches limit text (record { core = c; queue = record { places = p ∷ ps; handed = n } })
+      → needs_token (record { core = c; queue = record { places = p ∷ ps; handed = n } }) ≡ false
+      → Reaches limit text (record { core = c; queue = record { places = ps; handed = n + 1 } })
+
+-- The tokens of `v ++ from`, and of another text with the same marker behind `v`, are the same: all of them, with a
+-- refusal that ends them, or up to where both scanners have read the marker. Then the tokens held are the same, with
+-- the marker's as the last, and behind them as many levels are around the innermost as brackets are open. The number is
+-- of those that are open before the tokens.
+pub data AlikeUpTo (limit : ℕ) (v from : List ℕ) : ℕ → Remaining → Remaining → Type 0 where
+  same : {n : ℕ} (r : Remaining) → AlikeUpTo limit v from n r r
+  token : {n : ℕ} (t : Piece) {r w : Remaining} → AlikeUpTo limit v from (open_behind t n) r w
+      → AlikeUpTo limit v from n (before t r) (before t w)
+  marker : {n : ℕ} (i j line : ℕ) (s t : State) → Reaches limit (v ++ from) s
+      → Past (marker_token (length v) line from) s t → length s.core.outer ≡ open_behind_held s.queue.places n
+      → AlikeUpTo limit v from n (run (suc i) limit s) (run (suc j) limit t)
 
 -- The same, with the marker's own token: all tokens, or up to and with the marker's, whatever follows; or else the
--- marker was read while the first token that was held could yet turn out to be a key, in a flow collection that is open.
-pub data AlikeThrough (limit : ℕ) : Remaining → Remaining → Type 0 where
-  alike : (r : Remaining) → AlikeThrough limit r r
-  next : (t : Piece) {r w : Remaining} → AlikeThrough limit r w → AlikeThrough limit (before t r) (before t w)
-  through : (span : Span) (ends : Bool) (r w : Remaining)
-      → AlikeThrough limit (before (record { span = span; kind = marker_kind ends }) r)
-      (before (record { span = span; kind = marker_kind ends }) w)
-  held : (n m : ℕ) (c : Core) (follows : List ℕ) (queue : Queue)
-      → is_held (record { core = c; queue = queue }) ≡ true
-      → AlikeThrough limit (run n limit (record { core = c; queue = queue }))
-      (run m limit (record { core = with_cursor (reading follows c.cursor) c; queue = queue }))
+-- tokens up to the marker leave a bracket open, and the first that is held may yet turn out to be a key.
+pub data AlikeThrough (limit : ℕ) (v from : List ℕ) : ℕ → Remaining → Remaining → Type 0 where
+  alike : {n : ℕ} (r : Remaining) → AlikeThrough limit v from n r r
+  next : {n : ℕ} (t : Piece) {r w : Remaining} → AlikeThrough limit v from (open_behind t n) r w
+      → AlikeThrough limit v from n (before t r) (before t w)
+  through : {n : ℕ} (line : ℕ) (r w : Remaining)
+      → AlikeThrough limit v from n (before (marker_token (length v) line from) r)
+      (before (marker_token (length v) line from) w)
+  held : {n : ℕ} (i j line : ℕ) (s t : State) → Reaches limit (v ++ from) s
+      → Past (marker_token (length v) line from) s t → 0 < open_behind_held s.queue.places n → is_held s ≡ true
+      → AlikeThrough limit v from n (run i limit s) (run j limit t)

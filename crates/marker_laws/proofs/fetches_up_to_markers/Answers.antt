@@ -2,4 +2,4 @@ use Rattle.marker_laws.proofs.Markers.{within_read}
 use Rattle.marker_laws.proofs.fetches_up_to_markers.Goals as goal
 
 pub returns : goal.returns
-returns c limit x y h = within_read limit x y h
+returns c limit from x y h = within_read limit x y h

@@ -1,13 +1,24 @@
-use Rattle.std.proofs.Common.{true}
+use Rattle.std.proofs.Common.{◌≡◌, ℕ, true, List, ◌++◌}
+use Rattle.saphyr_scanner.proofs.ReadersCounted.{reader_ends}
+use Rattle.saphyr_scanner.specs.Steps.Remaining.{scan}
+use Rattle.marker_laws.specs.Beside.{begins_line, Marked, here}
+use Rattle.marker_laws.specs.UpTo.{AlikeUpTo}
 use Rattle.marker_laws.proofs.Ahead.{text_ahead}
 use Rattle.marker_laws.proofs.Runs.{scans_same}
 use Rattle.marker_laws.proofs.Through.{through_marker}
 use Rattle.marker_laws.proofs.scans_up_to_markers.Goals as goal
+use Rattle.marker_laws.proofs.scans_up_to_markers.Goals.{After-spells_each_directive}
+
+scanned : After-spells_each_directive → (limit : ℕ) (v r q : List ℕ) → begins_line true v ≡ true → Marked r q
+    → AlikeUpTo limit v r 0 (scan limit (v ++ r)) (scan limit (v ++ q))
+scanned c limit v r q begins h =
+    scans_same c.takes_characters_off.ensures
+    (reader_ends c.reads_plain_values.ensures c.spells_each_quoted.ensures c.counts_each_block_scalar.ensures
+    c.spells_each_anchor.ensures c.spells_each_tag.ensures c.spells_each_directive.ensures) limit v r
+    (text_ahead true v (here h) begins)
 
 pub returns-clause-up_to : goal.returns-clause-up_to
-returns-clause-up_to c limit v r q begins h = scans_same c.takes_characters_off.ensures limit
-    (text_ahead true v h begins)
+returns-clause-up_to c limit v r q begins h = scanned c limit v r q begins h
 
 pub returns-clause-through : goal.returns-clause-through
-returns-clause-through c limit v r q begins h =
-    through_marker limit _ _ (scans_same c.takes_characters_off.ensures limit (text_ahead true v h begins))
+returns-clause-through c limit v r q begins h = through_marker limit v r 0 _ _ (scanned c limit v r q begins h)

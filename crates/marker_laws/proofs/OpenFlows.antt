@@ -1,0 +1,562 @@
+-- So many flow collections are open in a scanner as its tokens leave open.
+use Rattle.std.proofs.Common.{◌≡◌, ℕ, zero, suc, ◌+◌, ◌-◌, ◌<◌, ◌≤◌, Bool, true, false, List, [], ◌∷◌, ◌++◌, length, Option, Some, None, Result, Ok, Err, slice_index, refl, sym, ap, ◌∙◌, arith, subst, cond}
+use Rattle.std.specs.Prelude.{◌&&◌, ◌||◌, ◌==◌, not, nat_lt, nat_le}
+use Rattle.std.proofs.lemmas.Bool.{lt-ltb}
+use Rattle.std.proofs.lemmas.Bool.Decides.{nat_tests}
+use Rattle.saphyr_input.proofs.Basics.Booleans.{by_test}
+use Rattle.saphyr_input.specs.Classes.{is_alpha, is_bom, is_break, is_breakz, is_flow, is_z}
+use Rattle.saphyr_input.specs.Places.{is_document_start, is_document_end}
+use Rattle.saphyr_input.specs.Separation.{found_tabs, has_valid_yaml_ws}
+use Rattle.saphyr_input.specs.declared.input.SkipTabs.{SkipTabs}
+use Rattle.saphyr_input.specs.declared.input.SkipTabs.TheVariants as tabs
+use Rattle.saphyr_values.specs.declared.block.BlockStyle.{BlockStyle}
+use Rattle.saphyr_scalar.specs.declared.scalar.position.Marker.{Marker}
+use Rattle.saphyr_scalar.specs.declared.scalar.fault.Refusal.{Refusal}
+use Rattle.saphyr_scalar.specs.declared.scalar.style.ScalarStyle.{ScalarStyle}
+use Rattle.saphyr_scalar.specs.Views.Cursor.{Cursor, ◌>>=◌, separation, pass}
+use Rattle.saphyr_scalar.specs.Steps.Anchor as anchors
+use Rattle.saphyr_scalar.specs.Steps.Block as blocks
+use Rattle.saphyr_scalar.specs.Steps.Plain as words
+use Rattle.saphyr_scalar.specs.Steps.Quoted as quoted
+use Rattle.saphyr_scalar.specs.Steps.Tag as tags
+use Rattle.saphyr_scalar.specs.Steps.Directive as directives
+use Rattle.saphyr_scalar.specs.Spelling.Directive.{ReadDirective, version, tag_prefix, reserved}
+use Rattle.saphyr_scalar.specs.declared.scalar.position.Span.{Span}
+use Rattle.saphyr_scalar.proofs.Given.{Given, given_of}
+use Rattle.saphyr_scanner.specs.declared.engine.level.Context.{Context}
+use Rattle.saphyr_scanner.specs.declared.engine.level.Context.TheVariants as context
+use Rattle.saphyr_scanner.specs.declared.queue.Opening.{Opening}
+use Rattle.saphyr_values.specs.declared.block.BlockStyle.TheVariants as block_style
+use Rattle.saphyr_scanner.specs.Grammar.Tokens as tokens
+use Rattle.saphyr_scanner.specs.Grammar.Tokens.{Kind}
+use Rattle.saphyr_scanner.specs.Limits.{most_open}
+use Rattle.saphyr_scanner.specs.TokensTaken.{no_collections, with_brackets}
+use Rattle.saphyr_scanner.specs.Views.Tokens.{Piece}
+use Rattle.saphyr_scanner.specs.Steps.Core.{Core, Action, Put, Open, Step, StepResult, act, perform, at_mark, from_to, completed_step, in_block, least_column, save_key, remove_key, drop_far_key, is_too_far, go_deeper, is_further, roll, with_context}
+use Rattle.saphyr_scanner.specs.Steps.Level.{Candidate, Level, begins_pair, behind_colon, ends_pair, behind_entry, behind_question}
+use Rattle.saphyr_scanner.specs.Steps.Block as block
+use Rattle.saphyr_scanner.specs.Steps.Flow as flow
+use Rattle.saphyr_scanner.specs.Steps.Property as property
+use Rattle.saphyr_scanner.specs.Steps.Scalar as scalar
+use Rattle.saphyr_scanner.specs.Steps.Value as value
+use Rattle.saphyr_scanner.specs.Steps.Passing.{separate, pass_on, pass_gap, check_comment, check_comment_of, goes_on_behind, behind_gap}
+use Rattle.saphyr_scanner.specs.Steps.Queue.{Place, Queue, bare_place, with_piece, next, places_with_opening, empty_piece}
+use Rattle.saphyr_scanner.specs.Steps.Document as document
+use Rattle.saphyr_scanner.specs.Steps.Fetch.{flow_value_steps, step, state_behind_content, fetch_here, arrive, fetch, fetch_within, check_limit}
+use Rattle.saphyr_scanner.specs.Steps.State.{State, with_core, on_core, on_core_with, after_step}
+use Rattle.saphyr_scanner.specs.Steps.Unrolling.{unroll, end_blocks, end_block, is_right_of, with_outer_indent, go_less_deep}
+use Rattle.saphyr_scanner.proofs.Counted.{Ahead, separation_counted}
+use Rattle.saphyr_scanner.proofs.Filling.{read}
+use Rattle.saphyr_scanner.proofs.Steps.Choice.{cases}
+use Rattle.marker_laws.specs.UpTo.{open_behind, open_behind_held}
+use Rattle.marker_laws.proofs.Fetches.{holding}
+
+given_any : {X Y : Type 0} (P : Y → Type 0) (r : Result X Refusal) (f : X → Result Y Refusal)
+    → ((x : X) → Given P (f x)) → Given P (r >>= f)
+given_any P (Ok x) f h = h x
+given_any P (Err e) f h = tt
+
+given_then : {X Y : Type 0} (P : X → Type 0) (Q : Y → Type 0) (r : Result X Refusal) (f : X → Result Y Refusal)
+    → Given P r → ((x : X) → P x → Given Q (f x)) → Given Q (r >>= f)
+given_then P Q (Ok x) f h next = next x h
+given_then P Q (Err e) f h next = tt
+
+-- ## Cores
+
+-- so many are open
+abbrev Opens : ℕ → Core → Type 0
+Opens n c = length c.outer ≡ n
+
+-- and an action leaves so many
+abbrev counted : ℕ → List Action → ℕ
+counted n [] = n
+counted n (Put t ∷ others) = counted (open_behind t n) others
+counted n (Open k o ∷ others) = counted n others
+
+abbrev IsCounted : ℕ → Step → Type 0
+IsCounted n x = Opens (counted n x.actions) x.core
+
+abbrev Counted : ℕ → StepResult → Type 0
+Counted n r = Given (IsCounted n) r
+
+abbrev Beyond : ℕ → SkipTabs × Core → Type 0
+Beyond n x = Opens n x.1
+
+empty_span : (i : ℕ) → nat_lt i i ≡ false
+empty_span i = grind (arith, nat_tests)
+
+module _ (n : ℕ) where
+  -- the start and the end of a single pair
+  pub start_same : (m : Marker) → open_behind (empty_piece m tokens.FlowMappingStart) n ≡ n
+  start_same m =
+      let o = with_brackets n no_collections in
+      subst (λ b. (cond b (with_brackets (n + 1) o) o).brackets ≡ n) (sym (empty_span m.index)) refl
+
+  end_same : (m : Marker) → open_behind (empty_piece m tokens.FlowMappingEnd) n ≡ n
+  end_same m =
+      let o = with_brackets n no_collections in
+      subst (λ b. (cond b (with_brackets (n - 1) o) o).brackets ≡ n) (sym (empty_span m.index)) refl
+
+  save_opens : (k : ℕ) (c : Core) → Opens n c → Opens n (save_key k c)
+  save_opens k c e = by_test c.key_allowed _ _ (Opens n) (λ _. e) (λ _. e)
+
+  roll_opens : (column : ℕ) (c : Core) → Opens n c → Opens n (roll column c)
+  roll_opens column c e = by_test (is_further column c) _ _ (Opens n) (λ _. e) (λ _. e)
+
+  remove_opens : (c : Core) → Opens n c → Given (Opens n) (remove_key c)
+  unfolding remove_key
+  remove_opens c e = by_test (in_block c && c.required) _ _ (Given (Opens n)) (λ _. tt) (λ _. e)
+
+  drop_opens : (c : Core) → Opens n c → Given (Opens n) (drop_far_key c)
+  unfolding drop_far_key
+  drop_opens c e =
+      by_test (not (in_block c && is_too_far c.level.key c.cursor.mark)) _ _ (Given (Opens n)) (λ _. e)
+      (λ _. by_test c.required _ _ (Given (Opens n)) (λ _. tt) (λ _. e))
+
+  separate_opens : (c : Core) → Opens n c → Given (Beyond n) (separate c)
+  separate_opens c e = given_any (Beyond n) (separation tabs.Yes c.cursor) _ (λ x. e)
+
+  comment_opens : (o : Option Marker) (c : Core) → Opens n c → Given (Opens n) (check_comment_of o c)
+  comment_opens None c e = e
+  comment_opens (Some m) c e =
+      by_test (goes_on_behind m (record c { comment = None })) _ _ (Given (Opens n)) (λ _. tt) (λ _. e)
+
+  gap_opens : (c : Core) → Opens n c → Given (Opens n) (pass_gap c)
+  unfolding pass_gap check_comment
+  gap_opens c e = given_any (Opens n) _ _ (λ g. comment_opens c.comment (behind_gap c g) e)
+
+  -- ## Names, tags and scalars
+
+  alias_counted : (k : ℕ) (c : Core) → Opens n c → Counted n (property.alias_steps k c)
+  unfolding property.name_steps property.read_name
+  alias_counted k c e =
+      given_any (IsCounted n) (anchors.anchor (scalar.disallow_key (save_key k c)).cursor) _ (λ x. save_opens k c e)
+
+  anchor_counted : (k : ℕ) (c : Core) → Opens n c → Counted n (property.anchor_steps k c)
+  unfolding property.name_steps property.read_name
+  anchor_counted k c e =
+      given_any (IsCounted n) (anchors.anchor (scalar.disallow_key (save_key k c)).cursor) _ (λ x. save_opens k c e)
+
+  tag_counted : (k : ℕ) (c : Core) → Opens n c → Counted n (property.tag_steps k c)
+  unfolding property.tag_steps property.read_tag
+  tag_counted k c e =
+      let d = scalar.disallow_key (save_key k c) in
+      given_any (IsCounted n) (tags.tag (not (in_block d)) d.cursor) _ (λ x. save_opens k c e)
+
+  quotes_counted : (start : Marker) (style : ScalarStyle) (text : List ℕ) (c : Core) → Opens n c
+      → Counted n (scalar.behind_quotes start style text c)
+  unfolding scalar.behind_quotes
+  quotes_counted start style text c e =
+      given_then (Beyond n) (IsCounted n) (separate c) _ (separate_opens c e)
+      (λ x h. by_test (scalar.goes_on_behind_quotes start x.1) _ _ (Counted n)
+      (λ _. given_then (Opens n) (IsCounted n) (pass_gap x.1) _ (gap_opens x.1 h) (λ d i. i)) (λ _. tt))
+
+  double_counted : (k : ℕ) (c : Core) → Opens n c → Counted n (scalar.double_quoted_steps k c)
+  unfolding scalar.double_quoted_steps scalar.read_double_quoted
+  double_counted k c e =
+      let d = scalar.disallow_key (save_key k c) in
+      given_any (IsCounted n) (quoted.double_quoted (least_column d) d.cursor) _
+      (λ x. quotes_counted d.cursor.mark _ x.0 _ (save_opens k c e))
+
+  single_counted : (k : ℕ) (c : Core) → Opens n c → Counted n (scalar.single_quoted_steps k c)
+  unfolding scalar.single_quoted_steps scalar.read_single_quoted
+  single_counted k c e =
+      let d = scalar.disallow_key (save_key k c) in
+      given_any (IsCounted n) (quoted.single_quoted (least_column d) d.cursor) _
+      (λ x. quotes_counted d.cursor.mark _ x.0 _ (save_opens k c e))
+
+  plain_counted : (k : ℕ) (c : Core) → Opens n c → Counted n (scalar.plain_steps k c)
+  unfolding scalar.plain_steps scalar.read_plain
+  plain_counted k c e =
+      let d : Core = record (scalar.disallow_key (save_key k c)) { deeper = false } in
+      by_test (not (in_block d) && nat_lt d.cursor.mark.col d.indent) _ _ (Counted n) (λ _. tt)
+      (λ _. given_any (IsCounted n) (words.plain (not (in_block d)) d.indent d.cursor) _ (λ x. save_opens k c e))
+
+  block_scalar_counted : (style : BlockStyle) (k : ℕ) (c : Core) → Opens n c
+      → Counted n (scalar.block_scalar_steps style k c)
+  unfolding scalar.block_scalar_steps scalar.read_block
+  block_scalar_counted style k c e =
+      let d : Core = record (save_key k c) { key_allowed = true; deeper = false } in
+      given_any (IsCounted n) (blocks.block_scalar style d.indent d.cursor) _ (λ x. save_opens k c e)
+
+  -- ## Flow
+
+  opening_counted : (x : Context) (kind : Kind)
+      → ((a b : Marker) → a.index < b.index
+      → open_behind (record { span = record { start = a; end = b }; kind = kind }) n ≡ n + 1)
+      → (k : ℕ) (c : Core) → Opens n c → Counted n (flow.opening_steps x kind k c)
+  unfolding flow.opening_steps flow.open_collection
+  opening_counted x kind is k c e =
+      let d = go_deeper (save_key k c) in
+      let s = pass 1 d.cursor in
+      let P : SkipTabs × Core → Type 0 =
+      λ y. Opens (n + 1) y.1 × (d.cursor.mark.index + 1 ≤ y.1.cursor.mark.index) in
+      let more = save_opens k c e in
+      by_test (nat_le most_open (length d.outer)) _ _ (Counted n) (λ _. tt)
+      (λ _. given_then P (IsCounted n) (separate (pass_on 1 (flow.enter x d))) _
+      (given_then (λ (y : SkipTabs × Cursor). Ahead s y.1) P (separation tabs.Yes s) _ (separation_counted tabs.Yes s)
+      (λ y a. (omega (arith, more), a.later)))
+      (λ y h. h.0 ∙ sym (is d.cursor.mark y.1.cursor.mark (omega (arith, h.1)))))
+
+  left_opens : (ls : List Level) (c : Core) → length (flow.leave_to ls c).outer ≡ length ls - 1
+  left_opens [] c = refl
+  left_opens (l ∷ ls) c = omega arith
+
+  adjacent_opens : (m : ℕ) (c : Core) → Opens m c → Opens m (flow.allow_adjacent c)
+  adjacent_opens m c e = by_test (in_block c) _ _ (Opens m) (λ _. e) (λ _. e)
+
+  pair_counted : (ends : Bool) (m : Marker) (a : Action) → counted n (flow.behind_pair ends m a) ≡ counted n (a ∷ [])
+  pair_counted true m a = ap (λ k. counted k (a ∷ [])) (end_same m)
+  pair_counted false m a = refl
+
+  closing_counted : (ends : Bool) (kind : Kind)
+      → ((a b : Marker) → a.index < b.index
+      → open_behind (record { span = record { start = a; end = b }; kind = kind }) n ≡ n - 1)
+      → (c : Core) → Opens n c → Counted n (flow.closing_steps ends kind c)
+  unfolding flow.closing_steps flow.close_collection
+  closing_counted ends kind is c e =
+      let d = flow.leave c in
+      let s = pass 1 c.cursor in
+      let P : SkipTabs × Core → Type 0 =
+      λ y. Opens (n - 1) y.1 × (c.cursor.mark.index + 1 ≤ y.1.cursor.mark.index) in
+      let less : length d.outer ≡ n - 1 = left_opens c.outer c ∙ ap (λ k. k - 1) e in
+      by_test (in_block c) _ _ (Counted n) (λ _. tt)
+      (λ _. given_then P (IsCounted n) (separate (pass_on 1 d)) _
+      (subst (λ (z : Cursor). Given P (separation tabs.Yes (pass 1 z) >>= λ y. Ok (y.0, record d { cursor = y.1 })))
+      (sym (left_cursor c.outer))
+      (given_then (λ (y : SkipTabs × Cursor). Ahead s y.1) P (separation tabs.Yes s) _ (separation_counted tabs.Yes s)
+      (λ y a. (less, a.later))))
+      (λ y h. adjacent_opens _ y.1 (h.0 ∙ sym (pair_counted ends c.cursor.mark _
+      ∙ is c.cursor.mark y.1.cursor.mark (omega (arith, h.1))))))
+    where
+      left_cursor : (ls : List Level) → (flow.leave_to ls c).cursor ≡ c.cursor
+      left_cursor [] = refl
+      left_cursor (l ∷ ls) = refl
+
+  entry_counted : (c : Core) → Opens n c → Counted n (flow.flow_entry_steps c)
+  unfolding flow.flow_entry_steps flow.next_flow_entry
+  entry_counted c e =
+      given_then (Opens n) (IsCounted n) (remove_key c) _ (remove_opens c e)
+      (λ d h.
+      let f = pass_on 1 (with_context (behind_entry d.level.context) (record d { key_allowed = true })) in
+      given_then (Beyond n) (IsCounted n) (separate f) _ (separate_opens f h)
+      (λ x i. i ∙ sym (pair_counted (ends_pair d.level.context) d.cursor.mark _)))
+
+  -- ## Block collections
+
+  tab_opens : (x : SkipTabs × Core) → Opens n x.1 → Given (Opens n) (block.refuse_tab x)
+  tab_opens x e =
+      let c = x.1 in
+      by_test (found_tabs x.0 && block.is_dash_next c) _ _ (Given (Opens n)) (λ _. tt)
+      (λ _. by_test (is_break (slice_index c.cursor.rest 0) || is_flow (slice_index c.cursor.rest 0)) _ _ (Opens n)
+      (λ _. e) (λ _. e))
+
+  dash_opens : (c : Core) → Opens n c → Given (Opens n) (block.pass_dash c)
+  unfolding block.pass_dash
+  dash_opens c e =
+      given_then (Beyond n) (Opens n) (separate c) _ (separate_opens c e) tab_opens
+
+  block_entry_counted : (c : Core) → Opens n c → Counted n (block.block_entry_steps c)
+  unfolding block.block_entry_steps block.next_entry
+  block_entry_counted c e =
+      by_test (not (in_block c)) _ _ (Counted n) (λ _. tt)
+      (λ _. by_test (not c.key_allowed) _ _ (Counted n) (λ _. tt)
+      (λ _.
+      let d = roll c.cursor.mark.col (pass_on 1 c) in
+      given_then (Opens n) (IsCounted n) (block.pass_dash d >>= remove_key) _ (given_then (Opens n) (Opens n)
+      (block.pass_dash d) _ (dash_opens d (roll_opens c.cursor.mark.col (pass_on 1 c) e)) remove_opens)
+      (λ d h. h ∙ by_test (is_further c.cursor.mark.col c) _ _ (λ (os : List Action). n ≡ counted n os) (λ _. refl)
+      (λ _. refl))))
+
+  mark_opens : (b : Bool) (c : Core) → Opens n c → Given (Opens n) (block.behind_mark b c)
+  unfolding block.behind_mark
+  mark_opens b c e =
+      by_test (not b) _ _ (Given (Opens n)) (λ _. tt)
+      (λ _. by_test (slice_index c.cursor.rest 0 == 9) _ _ (Given (Opens n)) (λ _. tt) (λ _. e))
+
+  key_counted : (c : Core) → Opens n c → Counted n (block.key_steps c)
+  unfolding block.key_steps block.begin_key
+  key_counted c e =
+      by_test (in_block c && not c.key_allowed) _ _ (Counted n) (λ _. tt)
+      (λ _.
+      let d = with_context (behind_question c.level.context) (roll c.cursor.mark.col c) in
+      given_then (Opens n) (IsCounted n) (remove_key d >>= λ f. block.pass_question (record f {
+        key_allowed = in_block f;
+      })) _
+      (given_then (Opens n) (Opens n) (remove_key d) _ (remove_opens d (roll_opens c.cursor.mark.col c e))
+      (λ f h. mark_opens _ _ h))
+      (λ d h. h ∙ by_test (is_further c.cursor.mark.col c) _ _ (λ (os : List Action). n ≡ counted n os) (λ _. refl)
+      (λ _. refl)))
+
+  -- ## Values
+
+  lone_opens : (x : SkipTabs × Core) → Opens n x.1 → Given (Opens n) (value.refuse_lone_tab x)
+  lone_opens x e =
+      let d = x.1 in
+      by_test (in_block d && not (has_valid_yaml_ws x.0)
+      && ((slice_index d.cursor.rest 0 == 45) || is_alpha (slice_index d.cursor.rest 0))) _ _ (Given (Opens n))
+      (λ _. tt) (λ _. e)
+
+  check_opens : (c : Core) → Opens n c → Given (Opens n) (value.check_tab c)
+  unfolding value.check_tab
+  check_opens c e =
+      by_test (slice_index c.cursor.rest 0 == 9) _ _ (Given (Opens n))
+      (λ _. given_then (Beyond n) (Opens n) (separate c) _ (separate_opens c e) lone_opens)
+      (λ _. e)
+
+  value_counted_behind : (k : Option Candidate) (begins : Bool) (start : Marker) (c : Core) → Opens n c
+      → Counted n (value.behind_key k begins start c)
+  unfolding value.behind_key value.value_of_key value.value_alone value.opening_actions
+  value_counted_behind (Some k) begins start c e =
+      by_test (begins && nat_lt k.mark.line start.line) _ _ (Counted n) (λ _. tt)
+      (λ _. roll_opens k.mark.col c e)
+  value_counted_behind None begins start c e =
+      by_test (in_block c && not c.key_allowed) _ _ (Counted n) (λ _. tt)
+      (λ _. roll_opens start.col c e ∙ starts begins (is_further start.col c))
+    where
+      starts : (b f : Bool) → n ≡ counted n (cond b (at_mark start tokens.FlowMappingStart ∷ []) []
+          ++ (cond f (at_mark start tokens.BlockMappingStart ∷ []) [] ++ at_mark start tokens.Value ∷ []))
+      starts true true = sym (start_same start)
+      starts true false = sym (start_same start)
+      starts false true = refl
+      starts false false = refl
+
+  value_counted : (c : Core) → Opens n c → Counted n (value.value_steps c)
+  unfolding value.value_steps
+  value_counted c e =
+      let f = pass_on 1 (with_context (behind_colon c.level.context) c) in
+      given_then (Opens n) (IsCounted n) (value.check_tab f) _ (check_opens f e)
+      (λ d h. value_counted_behind d.level.key (begins_pair c.level.context) c.cursor.mark d h)
+
+  flow_value_counted : (second : ℕ) (c : Core) → Opens n c → Counted n (flow_value_steps second c)
+  unfolding flow_value_steps
+  flow_value_counted second c e =
+      by_test (not (c.cursor.mark.index == c.adjacent) && ((second == 91) || (second == 123))) _ _ (Counted n) (λ _. tt)
+      (λ _. value_counted c e)
+
+  -- ## What begins at a place
+
+  sequence_opens : (a b : Marker) → a.index < b.index
+      → open_behind (record { span = record { start = a; end = b }; kind = tokens.FlowSequenceStart }) n ≡ n + 1
+  sequence_opens a b l = refl
+
+  sequence_ends : (a b : Marker) → a.index < b.index
+      → open_behind (record { span = record { start = a; end = b }; kind = tokens.FlowSequenceEnd }) n ≡ n - 1
+  sequence_ends a b l = refl
+
+  mapping_opens : (a b : Marker) → a.index < b.index
+      → open_behind (record { span = record { start = a; end = b }; kind = tokens.FlowMappingStart }) n ≡ n + 1
+  mapping_opens a b l =
+      let o = with_brackets n no_collections in
+      subst (λ t. (cond t (with_brackets (n + 1) o) o).brackets ≡ n + 1) (sym (lt-ltb a.index b.index l)) refl
+
+  mapping_ends : (a b : Marker) → a.index < b.index
+      → open_behind (record { span = record { start = a; end = b }; kind = tokens.FlowMappingEnd }) n ≡ n - 1
+  mapping_ends a b l =
+      let o = with_brackets n no_collections in
+      subst (λ t. (cond t (with_brackets (n - 1) o) o).brackets ≡ n - 1) (sym (lt-ltb a.index b.index l)) refl
+
+  step_counted : (first second k : ℕ) (c : Core) → Opens n c → Counted n (step first second k c)
+  step_counted first second k c e =
+      cases (Counted n) first second k c (record {
+        sequence = λ _. opening_counted context.FlowSequence tokens.FlowSequenceStart sequence_opens k c e;
+        mapping = λ _. opening_counted context.FlowMapping tokens.FlowMappingStart mapping_opens k c e;
+        sequence_end = λ _. closing_counted (ends_pair c.level.context) tokens.FlowSequenceEnd sequence_ends c e;
+        mapping_end = λ _. closing_counted false tokens.FlowMappingEnd mapping_ends c e;
+        comma = λ _. entry_counted c e;
+        dash = λ _ _. block_entry_counted c e;
+        question = λ _ _. key_counted c e;
+        colon = λ _ _. value_counted c e;
+        beside = λ _ _. flow_value_counted second c e;
+        double = λ _. double_counted k c e;
+        single = λ _. single_counted k c e;
+        alias = λ _. alias_counted k c e;
+        anchor = λ _. anchor_counted k c e;
+        tag = λ _. tag_counted k c e;
+        literal = λ _ _. block_scalar_counted block_style.Literal k c e;
+        folded = λ _ _. block_scalar_counted block_style.Folded k c e;
+        reserved = tt;
+        plain = λ _. plain_counted k c e;
+      })
+
+-- ## The tokens that are held
+
+-- as many are open as the tokens leave open, where n are open before those that are held
+abbrev pub IsBalanced : ℕ → State → Type 0
+IsBalanced n s = Opens (open_behind_held s.queue.places n) s.core
+
+put_held : (ps : List Place) (t : Piece) (n : ℕ)
+    → open_behind_held (ps ++ bare_place t ∷ []) n ≡ open_behind t (open_behind_held ps n)
+put_held [] t n = refl
+put_held (p ∷ ps) t n = put_held ps t (open_behind p.piece n)
+
+opened_held : (k : ℕ) (o : Opening) (ps : List Place) (n : ℕ)
+    → open_behind_held (places_with_opening k o ps) n ≡ open_behind_held ps n
+opened_held k o [] n = refl
+opened_held zero o (p ∷ ps) n = refl
+opened_held (suc k) o (p ∷ ps) n = opened_held k o ps (open_behind p.piece n)
+
+performed_held : (actions : List Action) (q : Queue) (n : ℕ)
+    → open_behind_held (perform actions q).places n
+    ≡ counted (open_behind_held q.places n) actions
+performed_held [] q n = refl
+performed_held (Put t ∷ others) q n =
+    performed_held others (act (Put t) q) n ∙ ap (λ k. counted k others) (put_held q.places t n)
+performed_held (Open k o ∷ others) q n =
+    performed_held others (act (Open k o) q) n
+    ∙ ap (λ m. counted m others) (opened_held (k - q.handed) o q.places n)
+
+module _ (n : ℕ) where
+  stepped : (r : StepResult) (q : Queue) → Counted (open_behind_held q.places n) r
+      → Given (IsBalanced n) (after_step r q)
+  stepped (Ok x) q h = h ∙ sym (performed_held x.actions q n)
+  stepped (Err e) q h = tt
+
+  put_balanced : (t : Piece) (c d : Core) (q : Queue) → IsBalanced n (holding c q) → length d.outer ≡ length c.outer
+      → ((k : ℕ) → open_behind t k ≡ k) → IsBalanced n (holding d (with_piece t q))
+  put_balanced t c d q h same quiet = same ∙ h ∙ sym (put_held q.places t n ∙ quiet _)
+
+  on_core_balanced : (r : Result Core Refusal) (q : Queue)
+      → Given (Opens (open_behind_held q.places n)) r → Given (IsBalanced n) (on_core r q)
+  on_core_balanced (Ok c) q h = h
+  on_core_balanced (Err e) q h = tt
+
+  -- ## Block collections end
+
+  outer_indent_same : (is : List ℕ) (c : Core) → length (with_outer_indent is c).outer ≡ length c.outer
+  outer_indent_same [] c = refl
+  outer_indent_same (i ∷ is) c = refl
+
+  end_balanced : (m : Marker) (s : State) → IsBalanced n s → IsBalanced n (end_block m s)
+  end_balanced m s h =
+      put_balanced (empty_piece m tokens.BlockEnd) s.core (with_outer_indent s.core.outer_indents s.core) s.queue h
+      (outer_indent_same s.core.outer_indents s.core) (λ k. refl)
+
+  ends_balanced : (column : Option ℕ) (m : Marker) (is : List ℕ) (s : State) → IsBalanced n s
+      → IsBalanced n (end_blocks column m is s)
+  ends_balanced column m [] s h =
+      by_test (is_right_of column s.core.indent) _ _ (IsBalanced n) (λ _. end_balanced m s h) (λ _. h)
+  ends_balanced column m (i ∷ is) s h =
+      by_test (is_right_of column s.core.indent) _ _ (IsBalanced n)
+      (λ _. ends_balanced column m is (end_block m s) (end_balanced m s h)) (λ _. h)
+
+  less_same : (column : Option ℕ) (c : Core) → length (go_less_deep column c).outer ≡ length c.outer
+  less_same None c = refl
+  less_same (Some column) c = refl
+
+  unroll_balanced : (column : Option ℕ) (m : Marker) (s : State) → IsBalanced n s → IsBalanced n (unroll column m s)
+  unfolding unroll
+  unroll_balanced column m s h =
+      by_test (in_block s.core) _ _ (IsBalanced n)
+      (λ _. ends_balanced column m s.core.outer_indents (with_core (go_less_deep column s.core) s)
+      (less_same column s.core ∙ h)) (λ _. h)
+
+  -- ## Documents
+
+  content_balanced : (s : State) → IsBalanced n s → Given (IsBalanced n) (document.end_content s)
+  unfolding document.end_content
+  content_balanced s h =
+      let t = unroll None s.core.cursor.mark s in
+      on_core_balanced (remove_key t.core) t.queue
+      (remove_opens _ t.core (unroll_balanced None s.core.cursor.mark s h))
+
+  end_at_balanced : (m : Marker) (s : State) → IsBalanced n s → Given (IsBalanced n) (document.end_at m s)
+  unfolding document.end_at
+  end_at_balanced m s h =
+      let t = unroll None m s in
+      by_test s.core.required _ _ (Given (IsBalanced n)) (λ _. tt)
+      (λ _. put_balanced (empty_piece m tokens.StreamEnd) t.core (document.core_at_end t.core) t.queue
+      (unroll_balanced None m s h) refl (λ k. refl))
+
+  end_state_balanced : (s : State) → IsBalanced n s → Given (IsBalanced n) (document.state_behind_end s)
+  unfolding document.state_behind_end
+  end_state_balanced s h =
+      by_test (length s.core.cursor.rest == 0) _ _ (Given (IsBalanced n))
+      (λ _. end_at_balanced (document.end_mark s.core.cursor.mark) s h) (λ _. tt)
+
+  mark_balanced : (s : State) → IsBalanced n s → Given (IsBalanced n) (document.state_behind_byte_order_mark s)
+  unfolding document.state_behind_byte_order_mark
+  mark_balanced s h =
+      by_test (nat_lt 0 s.core.cursor.mark.col || not (in_block s.core)) _ _ (Given (IsBalanced n)) (λ _. tt)
+      (λ _. given_then (IsBalanced n) (IsBalanced n) (document.end_content s) _ (content_balanced s h)
+      (λ t i. put_balanced _ t.core (document.pass_mark t.core) t.queue i refl (λ k. refl)))
+
+  directive_quiet : (d : ReadDirective) (span : Span) (k : ℕ)
+      → open_behind (record { span = span; kind = document.directive_kind d }) k ≡ k
+  directive_quiet (version major minor) span k = refl
+  directive_quiet (tag_prefix handle prefix) span k = refl
+  directive_quiet (reserved name) span k = refl
+
+  directive_balanced : (s : State) → IsBalanced n s → Given (IsBalanced n) (document.state_behind_directive s)
+  unfolding document.state_behind_directive document.read_directive
+  directive_balanced s h =
+      given_then (IsBalanced n) (IsBalanced n) (document.end_content s) _ (content_balanced s h)
+      (λ t i. stepped (directives.directive t.core.cursor >>= λ x. completed_step
+      (from_to t.core.cursor.mark x.1 (document.directive_kind x.0) ∷ [])
+      (record t.core { cursor = x.2; key_allowed = false })) t.queue
+      (given_any (IsCounted (open_behind_held t.queue.places n)) (directives.directive t.core.cursor) _
+      (λ x. i ∙ sym (directive_quiet x.0 _ _))))
+
+  marker_balanced : (kind : Kind) → ((span : Span) (k : ℕ) → open_behind (record { span = span; kind = kind }) k ≡ k)
+      → (s : State) → IsBalanced n s → Given (IsBalanced n) (document.state_behind_marker kind s)
+  unfolding document.state_behind_marker
+  marker_balanced kind quiet s h =
+      given_then (IsBalanced n) (IsBalanced n) (document.end_content s) _ (content_balanced s h)
+      (λ t i. put_balanced _ t.core (document.pass_marker t.core) t.queue i refl (λ k. quiet _ k))
+
+  line_balanced : (s : State) (r : Result (SkipTabs × Core) Refusal)
+      → Given (Beyond (open_behind_held s.queue.places n)) r
+      → Given (IsBalanced n) (on_core_with r s >>= document.end_line)
+  unfolding document.end_line
+  line_balanced s (Ok x) h =
+      by_test (is_breakz (slice_index x.1.cursor.rest 0)) _ _ (Given (IsBalanced n)) (λ _. h) (λ _. tt)
+  line_balanced s (Err e) h = tt
+
+  document_end_balanced : (s : State) → IsBalanced n s
+      → Given (IsBalanced n) (document.state_behind_document_end s)
+  unfolding document.state_behind_document_end
+  document_end_balanced s h =
+      given_then (IsBalanced n) (IsBalanced n) (document.state_behind_marker tokens.DocumentEnd s) _
+      (marker_balanced tokens.DocumentEnd (λ span k. refl) s h)
+      (λ t i. line_balanced t (separate t.core) (separate_opens _ t.core i))
+
+  -- ## A token is read
+
+  here_balanced : (s : State) → IsBalanced n s → Given (IsBalanced n) (fetch_here s)
+  unfolding fetch_here state_behind_content
+  here_balanced s h =
+      let c = s.core in let t = c.cursor.rest in let start = c.cursor.mark.col == 0 in let P = Given (IsBalanced n) in
+      by_test (is_z (slice_index t 0)) _ _ P (λ _. end_state_balanced s h)
+      (λ _. by_test (is_bom (slice_index t 0)) _ _ P (λ _. mark_balanced s h)
+      (λ _. by_test (start && (slice_index t 0 == 37)) _ _ P (λ _. directive_balanced s h)
+      (λ _. by_test (start && is_document_start t) _ _ P
+      (λ _. marker_balanced tokens.DocumentStart (λ span k. refl) s h)
+      (λ _. by_test (start && is_document_end t) _ _ P (λ _. document_end_balanced s h)
+      (λ _. by_test (nat_lt c.cursor.mark.col (least_column c)) _ _ P (λ _. tt)
+      (λ _. stepped (step (slice_index t 0) (slice_index t 1) (next s.queue) c) s.queue (step_counted _ _ _ _ c h)))))))
+
+  arrive_balanced : (s : State) → IsBalanced n s → Given (IsBalanced n) (arrive s)
+  unfolding arrive
+  arrive_balanced s h =
+      let m = open_behind_held s.queue.places n in
+      given_then (IsBalanced n) (IsBalanced n) (on_core (pass_gap s.core >>= drop_far_key) s.queue) _
+      (on_core_balanced (pass_gap s.core >>= drop_far_key) s.queue
+      (given_then (Opens m) (Opens m) (pass_gap s.core) drop_far_key (gap_opens m s.core h) (drop_opens m)))
+      (λ t i. unroll_balanced (Some t.core.cursor.mark.col) t.core.cursor.mark t i)
+
+  fetch_balanced : (s : State) → IsBalanced n s → Given (IsBalanced n) (fetch s)
+  unfolding fetch
+  fetch_balanced s h =
+      by_test s.core.started _ _ (Given (IsBalanced n))
+      (λ _. given_then (IsBalanced n) (IsBalanced n) (arrive s) _ (arrive_balanced s h) here_balanced)
+      (λ _. put_balanced (empty_piece s.core.cursor.mark tokens.StreamStart) s.core (record s.core { started = true })
+      s.queue h refl (λ k. refl))
+
+  pub read_balanced : (limit : ℕ) (s t : State) → IsBalanced n s → read limit s ≡ Ok t → IsBalanced n t
+  unfolding fetch_within
+  read_balanced limit s t h e =
+      given_of (IsBalanced n) (read limit s) t
+      (given_then (IsBalanced n) (IsBalanced n) (fetch s >>= check_limit limit) _
+      (given_then (IsBalanced n) (IsBalanced n) (fetch s) _ (fetch_balanced s h)
+      (λ u i. by_test (nat_le u.core.cursor.mark.index limit) _ _ (Given (IsBalanced n)) (λ _. i) (λ _. tt)))
+      (λ u i. on_core_balanced (drop_far_key u.core) u.queue (drop_opens _ u.core i))) e

@@ -1,0 +1,65 @@
+-- The events of two texts that are the same up to a document marker at the start of a line.
+use Rattle.std.specs.Prelude.{◌≡◌, ◌⊎◌, ◌<◌, ℕ, Bool, true, List, [], ◌∷◌, ◌++◌, length, Some, None}
+use Rattle.saphyr_scalar.specs.declared.scalar.position.Span.{Span}
+use Rattle.saphyr_scanner.specs.Grammar.Tokens as tokens
+use Rattle.saphyr_scanner.specs.Grammar.Tokens.{Kind}
+use Rattle.saphyr_scanner.specs.Views.Tokens.{Piece, Remaining}
+use Rattle.saphyr_scanner.specs.Steps.Remaining.{run}
+use Rattle.saphyr_scanner.specs.Steps.State.{State}
+use Rattle.saphyr_scanner.specs.Steps.Fetch.{is_held}
+use Rattle.saphyr_machine.specs.Events.{Happening, DocumentStart, DocumentEnd}
+use Rattle.saphyr_machine.specs.Steps.Machine.{ending_refusal}
+use Rattle.saphyr_machine.specs.Answer.{Answer, ending_of}
+use Rattle.saphyr_machine.specs.Cursor.{at_start, keeping_tags, to_come}
+use Rattle.event_laws.specs.Exactly.{answer_of_tokens}
+use Rattle.marker_laws.specs.UpTo.{marker_kind, marker_token, open_behind, open_behind_held, Past, Reaches}
+
+-- the events of tokens, and the fault that ends them
+abbrev pub answer_of_all : Bool → Remaining → Answer
+answer_of_all keep tokens = to_come (keeping_tags keep (at_start tokens))
+
+-- how many brackets are open behind tokens, of so many before them
+abbrev pub open_behind_all : List Piece → ℕ → ℕ
+open_behind_all [] n = n
+open_behind_all (t ∷ ts) n = open_behind_all ts (open_behind t n)
+
+-- tokens in front of others
+abbrev pub before_all : List Piece → Remaining → Remaining
+before_all ts r = record { pieces = ts ++ r.pieces; refusal = r.refusal }
+
+-- the events of the first answer come first in the second
+abbrev pub ComeFirst : Answer → Answer → Type 0
+ComeFirst a b = (others : List (Happening × Span)) × (b.events ≡ a.events ++ others)
+
+-- the marker's own event
+abbrev pub own_event : Kind → Happening
+own_event tokens.DocumentStart = DocumentStart true
+own_event _ = DocumentEnd
+
+-- The last event is the marker's own. A `...` where no document is open has none.
+abbrev pub EndsWithMarker : Kind → List (Happening × Span) → Type 0
+EndsWithMarker kind es =
+    ((others : List (Happening × Span)) × (span : Span) × (es ≡ others ++ (own_event kind, span) ∷ []))
+    ⊎ (kind ≡ tokens.DocumentEnd)
+
+-- What two lists of tokens give: the same events and the same fault; or the events that the tokens up to and including
+-- the marker's give come first in both. The last of these is the marker's own, and these tokens have no fault but that
+-- more have to come. Or else the tokens up to the marker leave a bracket open, and the first token that is held may
+-- still turn out to be a key.
+pub data AnswersAlike (limit : ℕ) (v from : List ℕ) (keep : Bool) (r w : Remaining) : Type 0 where
+  same : answer_of_all keep r ≡ answer_of_all keep w → AnswersAlike limit v from keep r w
+  first : (front : List Piece) (line : ℕ) (others more : List Piece)
+      → r.pieces ≡ front ++ marker_token (length v) line from ∷ others
+      → w.pieces ≡ front ++ marker_token (length v) line from ∷ more
+      → (answer_of_tokens keep (front ++ marker_token (length v) line from ∷ [])).fault
+      ≡ Some (ending_of (ending_refusal None))
+      → EndsWithMarker (marker_kind from)
+      (answer_of_tokens keep (front ++ marker_token (length v) line from ∷ [])).events
+      → ComeFirst (answer_of_tokens keep (front ++ marker_token (length v) line from ∷ [])) (answer_of_all keep r)
+      → ComeFirst (answer_of_tokens keep (front ++ marker_token (length v) line from ∷ [])) (answer_of_all keep w)
+      → AnswersAlike limit v from keep r w
+  undecided : (front : List Piece) (i j line : ℕ) (s t : State) → Reaches limit (v ++ from) s
+      → Past (marker_token (length v) line from) s t
+      → 0 < open_behind_held s.queue.places (open_behind_all front 0) → is_held s ≡ true
+      → r ≡ before_all front (run i limit s) → w ≡ before_all front (run j limit t)
+      → AnswersAlike limit v from keep r w
