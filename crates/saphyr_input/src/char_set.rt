@@ -1,16 +1,16 @@
-//! Sets of characters, by which an input takes off runs in one piece.
+//! Sets of characters. An input takes off a run of such characters in one piece.
 ghost use Rattle.std.specs.Prelude.{◌≡◌, ℕ, Bool, false, IsTrue, refl};
 ghost use Rattle.saphyr_input.specs.Classes as class;
 ghost use Rattle.saphyr_input.specs.Fronts as spec;
 
 use crate::char_traits::{is_alpha, is_blank, is_yaml_non_break, is_yaml_non_space};
 
-/// A set of characters, without NUL, by which an input takes off runs.
+/// A set of characters without NUL, whose runs an input takes off.
 pub trait CharSet {
-    /// Whether a character is one of the set.
+    /// Whether a character is in the set.
     ghost test: { ℕ → Bool };
 
-    /// Whether the character is one of the set.
+    /// Whether the character is in the set.
     fn has(c: char) -> bool
         ensures { result ≡ test c };
 
@@ -18,16 +18,16 @@ pub trait CharSet {
     fn has_ascii(byte: u8) -> bool
         ensures { result ≡ spec.ascii_in test byte };
 
-    /// NUL, which every place past the end of an input shows, is none of the set.
+    /// NUL is not in the set, since each place past the end of an input reads as NUL.
     ghost without_nul: { test 0 ≡ false };
 }
 
-/// A set of which some characters may stand behind a single space, for the run to go on there.
+/// A set whose runs may contain single spaces, each before some of its characters.
 pub trait SpacedSet: CharSet {
-    /// Whether a run goes on with the character behind a space.
+    /// Whether a run goes on with the character after a space.
     ghost lead: { ℕ → Bool };
 
-    /// Whether each character whose UTF-8 begins with the byte is one with which a run goes on.
+    /// Whether a run goes on with each character whose UTF-8 begins with the byte.
     fn leads(byte: u8) -> bool
         ensures { IsTrue result → (c : ℕ) → spec.StandsFor byte c → IsTrue (lead c) };
 }
@@ -66,7 +66,7 @@ impl CharSet for Alpha {
 
     #[inline]
     fn has_ascii(byte: u8) -> bool {
-        // Most are small letters.
+        // For speed: most are small letters.
         matches!(byte, b'a'..=b'z') || is_alpha(byte as char)
     }
 }

@@ -1,8 +1,8 @@
-//! The sets of characters that a YAML reader asks about.
+//! The sets of characters that a YAML reader tests for.
 ghost use Rattle.std.specs.Prelude.{◌≡◌, ◌<◌, ◌↔◌, IsTrue};
 ghost use Rattle.saphyr_input.specs.Classes as spec;
 
-/// Whether the character is NUL, which every place past the end of an input shows.
+/// Whether the character is NUL. Each place past the end of an input reads as NUL.
 #[inline]
 pub fn is_z(c: char) -> bool
     ensures test { result ≡ spec.is_z c }
@@ -74,7 +74,7 @@ pub fn is_hex(c: char) -> bool
     c.is_ascii_hexdigit()
 }
 
-/// What a hexadecimal digit stands for.
+/// The value of a hexadecimal digit.
 #[inline]
 pub fn as_hex(c: char) -> u32
     requires { spec.IsHex c }
@@ -124,7 +124,7 @@ pub fn is_yaml_non_space(c: char) -> bool
     is_yaml_non_break(c) && !is_blank(c)
 }
 
-/// Whether the character may stand in an anchor's name (YAML 1.2.2, 6.9.2).
+/// Whether the character may occur in an anchor's name (YAML 1.2.2, 6.9.2).
 #[inline]
 pub fn is_anchor_char(c: char) -> bool
     ensures test { result ≡ spec.is_anchor_char c }
@@ -173,7 +173,7 @@ fn is_uri_mark(c: char) -> bool
     )
 }
 
-/// Whether the character may stand in a URI (YAML 1.2.2, 5.6).
+/// Whether the character may occur in a URI (YAML 1.2.2, 5.6).
 #[inline]
 pub fn is_uri_char(c: char) -> bool
     ensures test { result ≡ spec.is_uri_char c }
@@ -182,7 +182,7 @@ pub fn is_uri_char(c: char) -> bool
     is_word_char(c) || is_uri_mark(c)
 }
 
-/// Whether the character may stand in a tag's suffix: a URI's without `!` and the flow indicators (YAML 1.2.2, 5.6).
+/// Whether the character may occur in a tag's suffix: a URI's without `!` and the flow indicators (YAML 1.2.2, 5.6).
 #[inline]
 pub fn is_tag_char(c: char) -> bool
     ensures test { result ≡ spec.is_tag_char c }

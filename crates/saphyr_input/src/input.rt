@@ -17,15 +17,15 @@ pub use buffered::{BufferedInput, FaithfulClone};
 pub use cloning::CloneInput;
 use std::alloc::AllocError;
 
-/// The characters of a text, which a scanner takes off the front.
+/// The characters of a text. A scanner takes them off the front.
 ///
-/// An input is seen as the list of the characters that remain, `rest`, and as how many places of
-/// it are `loaded`, at most `window`. A call that looks at a place asks that the place is loaded.
-/// Past the end of the list every place may be loaded too, and reads as NUL; taking characters
+/// Contracts see an input as the list of the characters that remain, `rest`, and as how many
+/// places of it are `loaded`, at most `window`. A call that looks at a place requires that it is
+/// loaded. Places past the end of the list can be loaded too, and read as NUL. To take characters
 /// off there leaves the list empty. All counts are counts of characters.
 ///
-/// The first ten calls have no default body. Any implementation that meets their contracts serves
-/// the other calls by their default bodies, and may override these for speed.
+/// The first ten calls have no default body. An implementation that meets their contracts gets the
+/// other calls by their default bodies, and may override these for speed.
 pub trait Input {
     ghost use Rattle.saphyr_input.specs.Separation as separation;
 
@@ -38,7 +38,7 @@ pub trait Input {
     /// How many places can be loaded at once.
     ghost window: { ℕ };
 
-    /// Loads `count` places, and more where more are loaded already.
+    /// Loads at least `count` places. Places that are already loaded stay so.
     fn lookahead(&mut self, count: usize)
         requires { count ≤ window }
         ensures rest { rest self.new ≡ rest self.old }
@@ -62,15 +62,15 @@ pub trait Input {
         self.buflen() == 0
     }
 
-    /// Takes the first character off, past what can be loaded. At the end it gives NUL.
+    /// Takes the first character off an input with no loaded place. At the end it returns NUL.
     fn raw_read_ch(&mut self) -> char
         requires { loaded self.old ≡ 0 }
         ensures value { result ≡ slice_index (rest self.old) 0 }
         ensures rest { rest self.new ≡ drop 1 (rest self.old) }
         ensures loaded { loaded self.new ≡ 0 };
 
-    /// Takes the first character off where it is none of NUL, the breaks and the byte order mark.
-    /// Otherwise nothing is taken, and one place may be loaded.
+    /// The same, unless that character is NUL, a break or the byte order mark. Then nothing is taken, and one
+    /// place may be loaded.
     fn raw_read_non_breakz_ch(&mut self) -> Option<char>
         requires { loaded self.old ≡ 0 }
         ensures taken { is_some result ≡ class.is_yaml_non_break (slice_index (rest self.old) 0) }
@@ -84,7 +84,7 @@ pub trait Input {
         ensures rest { rest self.new ≡ drop 1 (rest self.old) }
         ensures loaded { loaded self.old ≤ loaded self.new + 1 };
 
-    /// Takes `count` characters off, as far as there are so many.
+    /// Takes `count` characters off, or all if there are fewer.
     fn skip_n(&mut self, count: usize)
         requires { count ≤ loaded self.old }
         ensures rest { rest self.new ≡ drop count (rest self.old) }
@@ -100,12 +100,12 @@ pub trait Input {
         requires { n < loaded self.now }
         ensures { result ≡ slice_index (rest self.now) n };
 
-    /// The first character, or `None` at the end: a NUL that stands in the text is `Some`.
+    /// The first character, or `None` at the end. A NUL in the text is `Some`.
     fn peek_opt(&self) -> Option<char>
         requires { 1 ≤ loaded self.now }
         ensures { result ≡ slice_get (rest self.now) 0 };
 
-    /// Loads one place, and gives what [`peek`](Input::peek) gives.
+    /// Loads one place, and returns what [`peek`](Input::peek) returns.
     fn look_ch(&mut self) -> char
         ensures value { result ≡ slice_index (rest self.old) 0 }
         ensures rest { rest self.new ≡ rest self.old }
@@ -132,7 +132,7 @@ pub trait Input {
         self.peek_nth(n) == c
     }
 
-    /// Whether the first two places read as these characters. NUL stands for the end too.
+    /// Whether the first two places read as these characters. At the end they read as NUL.
     fn next_2_are(&self, c1: char, c2: char) -> bool
         requires { 2 ≤ loaded self.now }
         ensures { result ≡ spec.next_2_are (rest self.now) c1 c2 }
@@ -140,7 +140,7 @@ pub trait Input {
         self.next_char_is(c1) && self.nth_char_is(1, c2)
     }
 
-    /// Whether the first three places read as these characters. NUL stands for the end too.
+    /// Whether the first three places read as these characters. At the end they read as NUL.
     fn next_3_are(&self, c1: char, c2: char, c3: char) -> bool
         requires { 3 ≤ loaded self.now }
         ensures { result ≡ spec.next_3_are (rest self.now) c1 c2 c3 }
@@ -148,8 +148,8 @@ pub trait Input {
         self.next_2_are(c1, c2) && self.nth_char_is(2, c3)
     }
 
-    /// Whether `---` or `...` comes next, and behind it a blank, a break, NUL or the end.
-    /// That it stands at the start of a line is for the caller to know.
+    /// Whether `---` or `...` comes next, and after it a blank, a break, NUL or the end. The
+    /// caller has to know whether this is the start of a line.
     fn next_is_document_indicator(&self) -> bool
         requires { 4 ≤ loaded self.now }
         ensures { result ≡ spec.is_document_indicator (rest self.now) }
@@ -157,7 +157,7 @@ pub trait Input {
         self.next_is_document_start() || self.next_is_document_end()
     }
 
-    /// Whether `---` comes next, and behind it a blank, a break, NUL or the end.
+    /// Whether `---` comes next, and after it a blank, a break, NUL or the end.
     fn next_is_document_start(&self) -> bool
         requires { 4 ≤ loaded self.now }
         ensures { result ≡ spec.is_document_start (rest self.now) }
@@ -165,7 +165,7 @@ pub trait Input {
         self.next_3_are('-', '-', '-') && is_blank_or_breakz(self.peek_nth(3))
     }
 
-    /// Whether `...` comes next, and behind it a blank, a break, NUL or the end.
+    /// Whether `...` comes next, and after it a blank, a break, NUL or the end.
     fn next_is_document_end(&self) -> bool
         requires { 4 ≤ loaded self.now }
         ensures { result ≡ spec.is_document_end (rest self.now) }
@@ -173,10 +173,10 @@ pub trait Input {
         self.next_3_are('.', '.', '.') && is_blank_or_breakz(self.peek_nth(3))
     }
 
-    /// Takes blanks off, and a comment behind them, up to a break, NUL, a byte order mark or the end.
+    /// Takes blanks off, and a comment after them, up to a break, NUL, a byte order mark or the end.
     ///
-    /// Gives how many characters were taken, and which blanks were met. A `#` before which no
-    /// blank was taken begins no comment: then nothing is taken, and the error says so.
+    /// Returns how many characters were taken, and which blanks were met. A `#` begins no comment
+    /// if no blank was taken before it: then nothing is taken, and the error says so.
     fn skip_ws_to_eol(&mut self, skip_tabs: SkipTabs) -> (usize, Result<SkipTabs, &'static str>)
         requires { separation.IsRequest skip_tabs }
         ensures count { result.0 ≡ separation.separation_len skip_tabs (rest self.old) }
@@ -210,8 +210,8 @@ pub trait Input {
         (count, Ok(SkipTabs::Result(tabs, spaces)))
     }
 
-    /// Whether a plain scalar, inside flow or outside, goes on with the first character, which is
-    /// to be no blank, break or NUL (YAML 1.2.2, 7.3.3).
+    /// Whether a plain scalar, inside flow or outside, goes on with the first character, which must
+    /// be no blank, break or NUL (YAML 1.2.2, 7.3.3).
     fn next_can_be_plain_scalar(&self, in_flow: bool) -> bool
         requires { 2 ≤ loaded self.now }
         ensures { result ≡ spec.can_be_plain in_flow (rest self.now) }
@@ -299,7 +299,7 @@ pub trait Input {
         is_alpha(self.peek())
     }
 
-    /// Takes characters off up to a break, NUL, a byte order mark or the end. Gives how many.
+    /// Takes characters off up to a break, NUL, a byte order mark or the end. Returns how many.
     fn skip_while_non_breakz(&mut self) -> usize
         ensures count { result ≡ prefix_len class.is_yaml_non_break (rest self.old) }
         ensures rest { rest self.new ≡ drop result (rest self.old) }
@@ -315,7 +315,7 @@ pub trait Input {
         count
     }
 
-    /// Takes blanks off. Gives how many.
+    /// Takes blanks off. Returns how many.
     fn skip_while_blank(&mut self) -> usize
         ensures count { result ≡ prefix_len class.is_blank (rest self.old) }
         ensures rest { rest self.new ≡ drop result (rest self.old) }
@@ -331,9 +331,9 @@ pub trait Input {
         count
     }
 
-    /// Moves digits, ASCII letters, `_` and `-` to the end of `out`. Gives how many.
+    /// Moves digits, ASCII letters, `_` and `-` to the end of `out`. Returns how many.
     ///
-    /// Where `out` can't grow, exactly the characters that were appended have been taken off.
+    /// If `out` can't grow, exactly the characters that were appended have been taken off.
     fn fetch_while_is_alpha(&mut self, out: &mut String) -> Result<usize, AllocError>
         ensures ok { IfOk result (λ n. spec.TransfersRun class.is_alpha n (rest self.old)
             (rest self.new) (string_bytes out.old) (string_bytes out.new)) }
@@ -353,9 +353,9 @@ pub trait Input {
     }
 
     /// Moves characters that are no blank, break, NUL or byte order mark to the end of `out`.
-    /// Gives how many.
+    /// Returns how many.
     ///
-    /// Where `out` can't grow, exactly the characters that were appended have been taken off.
+    /// If `out` can't grow, exactly the characters that were appended have been taken off.
     fn fetch_while_is_yaml_non_space(&mut self, out: &mut String) -> Result<usize, AllocError>
         ensures ok { IfOk result (λ n. spec.TransfersRun class.is_yaml_non_space n (rest self.old)
             (rest self.new) (string_bytes out.old) (string_bytes out.new)) }
@@ -374,9 +374,9 @@ pub trait Input {
         Ok(count)
     }
 
-    /// Moves characters of a set to the end of `out`. Gives how many.
+    /// Moves characters of a set to the end of `out`. Returns how many.
     ///
-    /// Where `out` can't grow, exactly the characters that were appended have been taken off.
+    /// If `out` can't grow, exactly the characters that were appended have been taken off.
     fn fetch_while<C: CharSet>(&mut self, out: &mut String) -> Result<usize, AllocError>
         ensures ok { IfOk result (λ n. spec.TransfersRun C.test n (rest self.old) (rest self.new)
             (string_bytes out.old) (string_bytes out.new)) }
@@ -396,7 +396,7 @@ pub trait Input {
     }
 
     /// Moves characters of a set to the end of `out`, and single spaces among them before some of
-    /// the set's characters. Gives how many. It may end at any space.
+    /// the set's characters. Returns how many. It may stop at any space.
     fn fetch_words<C: SpacedSet>(&mut self, out: &mut String) -> Result<usize, AllocError>
         ensures ok { IfOk result (λ n. spec.TransfersWords C.CharSet.test C.lead n (rest self.old)
             (rest self.new) (string_bytes out.old) (string_bytes out.new)) }
@@ -407,7 +407,7 @@ pub trait Input {
         self.fetch_while::<C>(out)
     }
 
-    /// Takes spaces off, but no more than `most`. Gives how many.
+    /// Takes spaces off, but no more than `most`. Returns how many.
     fn skip_spaces(&mut self, most: usize) -> usize
         ensures count { result ≡ spec.spaces_within most (rest self.old) }
         ensures rest { rest self.new ≡ drop result (rest self.old) }
@@ -427,7 +427,7 @@ pub trait Input {
     ghost wide: { 8 ≤ window };
 }
 
-/// What to do with tabs where white space is skipped, and what was met there.
+/// What to do with tabs in white space that is skipped, and what was met in it.
 #[derive(Clone, Copy, Debug, PartialEq, Eq)]
 pub enum SkipTabs {
     /// Tabs are skipped as spaces are.
@@ -449,16 +449,15 @@ impl SkipTabs {
         c == ' ' || c == '\t' && self == SkipTabs::Yes
     }
 
-    /// Whether tabs were met. False for a value that is no answer of
-    /// [`skip_ws_to_eol`](Input::skip_ws_to_eol).
+    /// Whether tabs were met. False for a value that [`skip_ws_to_eol`](Input::skip_ws_to_eol) doesn't return.
     pub fn found_tabs(self) -> bool
         ensures { result ≡ separation.found_tabs self }
     {
         matches!(self, SkipTabs::Result(true, _))
     }
 
-    /// Whether spaces were met, which YAML takes for white space everywhere. False for a value
-    /// that is no answer of [`skip_ws_to_eol`](Input::skip_ws_to_eol).
+    /// Whether spaces were met, which are white space everywhere in YAML. False for a value that
+    /// [`skip_ws_to_eol`](Input::skip_ws_to_eol) doesn't return.
     pub fn has_valid_yaml_ws(self) -> bool
         ensures { result ≡ separation.has_valid_yaml_ws self }
     {

@@ -1,6 +1,6 @@
-//! What a scanner holds while it goes through a text, and the steps that several kinds of tokens share.
-//! `fetch` chooses by the next characters; `block`, `flow`, `value`, `scalar`, `property` and `document` read the
-//! token; `level`, `key` and `indent` say what is open, and what may be a key.
+//! The state of a scanner, and the steps that several kinds of tokens share. `fetch` chooses by the next
+//! characters. `block`, `flow`, `value`, `scalar`, `property` and `document` read the token. `level`, `key` and
+//! `indent` say what is open, and what may be a key.
 
 mod block;
 mod cloning;
@@ -28,46 +28,46 @@ use saphyr_input::input::{Input, SkipTabs};
 use saphyr_scalar::{FaultText, Marker, Reader, Refusal, ScalarStyle, Span, Stop};
 use std::alloc::{AllocError, Global};
 
-/// What a scanner holds: the rest of the text, the tokens that were read and not handed out, and
+/// The state of a scanner: the rest of the text, the tokens that were read and not handed out, and
 /// what is open.
 ///
-/// Its steps are inlined into one another where each token passes them: a result is cleared before
-/// a call and copied behind it, which costs more than most steps do.
+/// The steps for every token are inlined. A call clears the place of its result first and copies
+/// the result after, which costs more than most steps.
 #[derive(Drop)]
 pub(crate) struct Engine<T: Input> {
     // The rest of the text, and the place that is reached.
     reader: Reader<T>,
     // The tokens that were read and not handed out.
     queue: Queue,
-    // The innermost flow collection, or what is outside of all, and the token there that may be a key.
+    // The innermost flow collection, or the outside of all, and the token there that may be a key.
     level: Level,
     // What is open around the level, the outermost first: at `b` in `[a, {b`, the outside and the sequence.
     outer: Vec<Level>,
-    // Whether the candidate outside flow has to be a key, since it stands at the column of the innermost
-    // block collection: `b` in the line behind `a: 1` is refused without its colon.
+    // Whether the candidate outside flow must be a key, since it is at the column of the innermost block
+    // collection: `b` on the line after `a: 1` is refused without its colon.
     required: bool,
-    // Whether the next token may begin a key; outside flow, also whether a `-`, a `?` or a colon that has no
-    // candidate may come. So it is at the start of a line and behind these three outside flow, and inside flow
-    // behind an opening bracket and a comma: `a: b: c` and `a: - b` are refused.
+    // Whether the next token may begin a key. Outside flow, also whether a `-`, a `?` or a colon without a candidate
+    // may come. It is true outside flow at the start of a line and after these three, and inside flow after an
+    // opening bracket and a comma: `a: b: c` and `a: - b` are refused.
     key_allowed: bool,
-    // The index at which a colon inside flow needs no blank behind it: where a quoted scalar or a flow
-    // collection has ended, and the blanks behind it. So `{"a":b}` is a pair, and `{a:b}` has the key `a:b` alone.
+    // The index at which a colon inside flow needs no blank after it: the end of a quoted scalar or a flow
+    // collection, and of the blanks after it. So `{"a":b}` is a pair, and `{a:b}` has only the key `a:b`.
     adjacent: usize,
-    // The first column to the right of the innermost block collection, 0 where none is open: 3 at `b` in `- a: b`.
+    // The first column to the right of the innermost block collection, or 0 if none is open: 3 at `b` in `- a: b`.
     indent: usize,
-    // Whether content has to stand at `indent` or right of it, as behind `a:`, and in the brackets of `- [`.
-    // Otherwise it may stand one column further left too, where the collection's next entry does.
+    // Whether content must be at `indent` or right of it, as after `a:` and in the brackets of `- [`. Otherwise it may
+    // also be one column further left, where the collection's next entry begins.
     deeper: bool,
     // What `indent` was around each block collection, the outermost first: 0 and 1 at `b` in `- a: b`.
     outer_indents: Vec<usize>,
-    // The comment that ended the last plain scalar. It is kept up to the next token, since content of the next line
-    // that would go on with the scalar is refused.
+    // The comment that ended the last plain scalar. It is kept up to the next token, to refuse content of the next line
+    // that would go on with the scalar.
     comment: Option<Marker>,
     // Whether the token of the stream's start was put into the queue.
     started: bool,
-    // Whether the token of the stream's end was.
+    // Whether the token of the stream's end was put into the queue.
     ended: bool,
-    // What ended the reading, once a call has answered by `false` that something did.
+    // What ended the reading, once a call has returned `false`.
     stop: Stop,
     // Where the memory of tokens and their texts comes from.
     alloc: Global,
@@ -129,7 +129,7 @@ impl<T: Input> Engine<T> {
         Self::refuse(text, self.reader.mark())
     }
 
-    // Keeps what ended the reading, and tells whether nothing did.
+    // Keeps what ended the reading. Returns whether nothing did.
     #[inline(always)]
     fn keep(&mut self, ended: Result<(), Stop>) -> bool
         ensures told { answer_of result self.new.stop ≡ ended }
@@ -187,7 +187,7 @@ impl<T: Input> Engine<T> {
         self.queue.put_indicator(self.alloc, span, indicator)
     }
 
-    // Puts an indicator for which no characters stand into the queue.
+    // Puts an indicator without characters into the queue.
     #[inline(always)]
     fn put_empty_indicator(&mut self, mark: Marker, indicator: Indicator) -> Result<(), AllocError>
         ensures { OnOk result (state self.new ≡ spec_state.with_action
@@ -236,7 +236,7 @@ impl<T: Input> Engine<T> {
         Ok(self.reader.skip_ws_to_eol(SkipTabs::Yes)?)
     }
 
-    // Passes what stands between two tokens.
+    // Passes what is between two tokens.
     #[inline(always)]
     #[tactic(auto, unfolding(crate::specs::Steps::Passing::pass_gap))]
     fn pass_gap(&mut self) -> Result<(), Stop>
@@ -250,7 +250,7 @@ impl<T: Input> Engine<T> {
         Ok(())
     }
 
-    // Refuses a comment that ended a plain scalar, where the next line could go on with it.
+    // Refuses a comment that ended a plain scalar, if the next line could go on with the scalar.
     #[inline(always)]
     #[tactic(auto, unfolding(crate::specs::Steps::Passing::check_comment))]
     fn check_comment(&mut self) -> Result<(), Stop>

@@ -1,4 +1,4 @@
-//! What stands between two tokens: blanks, breaks and comments (YAML 1.2.2, 6.7).
+//! What is between two tokens: blanks, breaks and comments (YAML 1.2.2, 6.7).
 
 ghost use Rattle.std.specs.Prelude.{◌≡◌, ◌||◌, false, slice_index};
 ghost use Rattle.saphyr_scalar.specs.Views.Reader.{cursor_of, GivesAs};
@@ -8,7 +8,7 @@ use saphyr_input::char_traits::{is_blank, is_bom, is_break, is_z};
 use saphyr_input::input::Input;
 use saphyr_scalar::{FaultText, Reader, Refusal};
 
-// Whether a tab stands on the line where indentation does, with the next character.
+// Whether a tab is in the line's indentation, including the next character.
 fn stands_behind_tab<T: Input>(reader: &Reader<T>, least: usize, tabbed: bool, c: char) -> bool
     ensures { result ≡ spec.is_tab_indentation least (cursor_of reader.now).mark
         (cursor_of reader.now).blank_so_far c || tabbed }
@@ -16,7 +16,7 @@ fn stands_behind_tab<T: Input>(reader: &Reader<T>, least: usize, tabbed: bool, c
     c == '\t' && reader.blank_so_far() && reader.mark().col < least || tabbed
 }
 
-// Behind a tab where indentation stands, nothing else may stand on the line.
+// After a tab in the indentation, nothing else may be on the line.
 #[tactic(auto, unfolding(crate::specs::Steps::Gap::stop))]
 fn end_gap<T: Input>(
     reader: &Reader<T>,
@@ -39,7 +39,7 @@ fn end_gap<T: Input>(
     Ok(broke)
 }
 
-// Passes blanks, breaks and comments one after the other, spaces and comments in one piece, as `skip_gap` says.
+// Passes blanks, breaks and comments one after the other, with spaces and comments in one piece, as `skip_gap` says.
 fn skip_gap_characters<T: Input>(reader: &mut Reader<T>, least: usize) -> Result<bool, Refusal>
     ensures { GivesAs spec.seen_gap_end (spec.whole_gap least) reader.old result reader.new }
 {
@@ -64,14 +64,14 @@ fn skip_gap_characters<T: Input>(reader: &mut Reader<T>, least: usize) -> Result
     }
 }
 
-// Passes blanks, breaks and comments, and tells whether a break was met.
+// Passes blanks, breaks and comments, and returns whether a break was met.
 //
-// A tab left of the column `least` is refused where content stands behind it on its line.
+// A tab left of the column `least` is refused if content follows it on its line.
 #[inline(always)]
 pub(crate) fn skip_gap<T: Input>(reader: &mut Reader<T>, least: usize) -> Result<bool, Refusal>
     ensures { GivesAs spec.seen_gap_end (spec.whole_gap least) reader.old result reader.new }
 {
-    // Most often the next token stands right here.
+    // Mostly the next token begins right here.
     let c = reader.look();
     if is_blank(c) || is_break(c) || c == '#' {
         return skip_gap_characters(reader, least);
@@ -79,7 +79,7 @@ pub(crate) fn skip_gap<T: Input>(reader: &mut Reader<T>, least: usize) -> Result
     Ok(false)
 }
 
-// Passes spaces, breaks and comments, and tells whether a space or a break was met.
+// Passes spaces, breaks and comments, and returns whether a space or a break was met.
 pub(crate) fn skip_spaces<T: Input>(reader: &mut Reader<T>) -> bool
     ensures { record { cursor = cursor_of reader.new; space = result }
         ≡ spec.spaces_at false (cursor_of reader.old) }

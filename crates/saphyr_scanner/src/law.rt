@@ -1,5 +1,5 @@
-//! Laws of the tokens of any text: that all are taken from it, how many there are, and where they and refusals stand.
-//! What a scanner promises rests on them.
+//! Laws of the tokens of any text: all are taken from it, how many there are, and the places of tokens and refusals. A
+//! scanner's promises depend on them.
 ghost use Rattle.std.specs.Prelude.{◌≡◌, ◌≤◌, List, [], ℕ, length, ◌+◌, ◌*◌, ◌<◌, ◌^◌, false, Ok, Some};
 ghost use Rattle.saphyr_input.specs.declared.input.SkipTabs.{SkipTabs};
 ghost use Rattle.saphyr_input.specs.declared.input.SkipTabs.TheVariants.{Yes};
@@ -22,8 +22,7 @@ use saphyr_scalar::scalar::{
     takes_quoted, takes_tag,
 };
 
-/// Each reader of a token takes characters off the text, so that scanning ends. Like all laws it does nothing when it
-/// runs.
+/// Each reader of a token takes characters off the text, so scanning ends. Like all laws it does nothing when it runs.
 pub fn takes_characters_off()
     ensures { Readers }
 {
@@ -35,7 +34,7 @@ pub fn takes_characters_off()
     takes_directive();
 }
 
-/// The spans of a text's tokens stand one behind the other, within the text.
+/// The spans of a text's tokens come one after the other, within the text.
 pub fn orders_spans()
     ensures { (limit : ℕ) (text : List ℕ) → AreInOrder (length text) 0 (scan limit text).pieces }
 {
@@ -47,7 +46,7 @@ pub fn orders_spans()
     spells_each_directive();
 }
 
-/// The end of the stream is the last token of a text, and no other is, unless a refusal ends the tokens
+/// The end of the stream is the last token of a text and comes only there, unless a refusal ends the tokens
 /// before it.
 pub fn ends_with_the_stream()
     ensures { (limit : ℕ) (text : List ℕ) → EndsWithStream (scan limit text) }
@@ -55,7 +54,7 @@ pub fn ends_with_the_stream()
     takes_characters_off();
 }
 
-/// A text has five tokens at most for each character that the limit allows, and ten.
+/// A text has at most ten tokens, and five more for each character that the limit allows.
 pub fn bounds_tokens()
     ensures { (limit : ℕ) (text : List ℕ) → length (scan limit text).pieces ≤ 5 * limit + 10 }
 {
@@ -68,7 +67,7 @@ pub fn bounds_tokens()
     takes_characters_off();
 }
 
-/// What is passed between two tokens is blanks, breaks and comments alone.
+/// Only blanks, breaks and comments are passed between two tokens.
 pub fn passes_separation()
     ensures gap { (least : ℕ) (s : Cursor) (g : gaps.GapEnd) → gaps.whole_gap least s ≡ Ok g
         → AreApart s g.cursor }
@@ -77,9 +76,9 @@ pub fn passes_separation()
         → AreApart s x.1 × LiesOnLine s x.1.mark }
 {}
 
-/// The tokens of a text are taken from it: up to the last token it is their spellings in order, parted
-/// by blanks, breaks and comments alone, and all of it is where no refusal ends them. A refusal that
-/// does stands at a place of the text.
+/// The tokens of a text are taken from it: up to the last token it is their spellings in order, with
+/// only blanks, breaks and comments between them. If no refusal ends them, this is the whole text. If
+/// one does, its place is in the text.
 pub fn takes_all_tokens()
     ensures { (limit : ℕ) (text : List ℕ) → length text < 2 ^ 63
         → AreTakenFrom text (scan limit text) }
@@ -110,7 +109,7 @@ pub fn places_taken_tokens()
         → AreTokens no_collections pieces (start_cursor text) end → AreAtPlaces text pieces }
 {}
 
-/// A refusal that ends the tokens of a text stands at a place of it.
+/// A refusal that ends the tokens of a text is at a place of it.
 pub fn refuses_at_places()
     ensures { (limit : ℕ) (text : List ℕ) → length text < 2 ^ 63 → (e : Refusal)
         → (scan limit text).refusal ≡ Some e → IsPlaceOf text e.mark }

@@ -1,4 +1,4 @@
-//! Tokens of YAML: what a text's tokens are, and which token lists stand for which forests of nodes.
+//! Tokens of YAML: what a text's tokens are, and which lists of tokens belong to which forests of nodes.
 #![tactic(auto)]
 
 mod engine;

@@ -1,4 +1,4 @@
-//! Tokens that wait to be handed out, and what is told in front of one that turns out to be a key.
+//! Tokens that wait to be handed out, and what comes in front of one that becomes a key.
 
 mod cloning;
 mod held;
@@ -18,13 +18,13 @@ use crate::token::{Token, TokenType};
 use saphyr_scalar::{ScalarStyle, Span, Spare, Stop};
 use std::alloc::{AllocError, Global};
 
-/// What stands in front of a token: nothing, or the tokens that make it a key.
-#[derive(Clone, Copy, Debug, PartialEq, Eq)]
+/// What comes in front of a token: nothing, or the tokens that make it a key.
+#[derive(Clone, Copy)]
 pub(crate) enum Opening {
     Nothing,
-    /// The token of a key, of a mapping that is open.
+    /// The token of a key, if its mapping is open.
     Key,
-    /// The same for the first key of a block mapping, behind the mapping's start.
+    /// The same for the first key of a block mapping, after the mapping's start.
     BlockMappingAndKey,
     /// The same for a pair in a flow sequence, as in `[a: b]`, which is a mapping of its own.
     FlowMappingAndKey,
@@ -32,15 +32,15 @@ pub(crate) enum Opening {
 
 /// The tokens that were read and not handed out, in places that are numbered from the text's start.
 ///
-/// A token that may yet turn out to be a key may have to get a mapping's start and a key before it. So it
-/// is held here until that is known, and with it all that was read behind it: in `[a, b]: c` the bracket and the
-/// tokens behind it wait for the colon. What makes a token a key is told at its own place: no token moves.
+/// A token that may still become a key may need a mapping's start and a key before it. So it is held here until
+/// that is known, with all tokens after it: in `[a, b]: c` the bracket and the tokens after it wait for the
+/// colon. The place of a token also says what makes it a key, so no token moves.
 #[derive(Drop)]
 pub(crate) struct Queue {
-    // The first two tokens of a queue that was empty. Most often no more are held at once.
+    // The first two tokens of a queue that was empty. Mostly no more are held at once.
     first: Slot,
     second: Slot,
-    // The tokens behind them in the order of the text.
+    // The tokens after them in the order of the text.
     held: Held,
     // How many places were handed out, which is the number of the first one here.
     handed: usize,
@@ -112,7 +112,7 @@ impl Queue {
         Ok(())
     }
 
-    // The same behind tokens that are held.
+    // The same after tokens that are held.
     #[inline(never)]
     #[tactic(auto, using(crate::proofs::Places::behind_slots))]
     fn put_behind(
@@ -123,12 +123,12 @@ impl Queue {
     ) -> Result<(), AllocError>
         ensures { OnOk result (queue self.new ≡ spec.with_piece (piece token) (queue self.old)) }
     {
-        // For speed the span stays where it is: most of it isn't kept.
+        // For speed the span is not moved: most of it isn't kept.
         let kind = token.kind;
         self.held.put(alloc, &token.span, kind, spare)
     }
 
-    /// Puts a scalar at the end. For speed it is apart from `put`: here the kind isn't told apart from others.
+    /// Puts a scalar at the end. It is separate from `put` for speed: there is no need to distinguish kinds.
     #[inline(always)]
     #[tactic(auto, using(crate::proofs::Places::behind_slots))]
     pub(crate) fn put_scalar(
@@ -156,7 +156,7 @@ impl Queue {
         Ok(())
     }
 
-    // The same behind tokens that are held.
+    // The same after tokens that are held.
     #[inline(never)]
     #[tactic(auto, using(crate::proofs::Places::behind_slots))]
     fn put_scalar_behind(
@@ -200,7 +200,7 @@ impl Queue {
         Ok(())
     }
 
-    // The same behind tokens that are held.
+    // The same after tokens that are held.
     #[inline(never)]
     #[tactic(auto, using(crate::proofs::Places::behind_slots))]
     fn put_indicator_behind(
@@ -215,7 +215,7 @@ impl Queue {
         self.held.put_indicator(alloc, span, indicator)
     }
 
-    /// Tells what stands in front of the token at a place.
+    /// Sets what comes in front of the token at a place.
     pub(crate) fn set_opening(&mut self, number: usize, opening: Opening)
         ensures { queue self.new ≡ spec.with_opening number opening (queue self.old) }
     {

@@ -1,4 +1,4 @@
-//! The scanner as its callers see it: it reads as far into the text as the next token needs.
+//! The scanner as its callers see it. It reads as far into the text as the next token needs.
 
 ghost use Rattle.std.specs.Prelude.{◌≡◌, length};
 ghost use Rattle.saphyr_scanner.specs.Steps.Remaining.{scan};
@@ -16,8 +16,8 @@ use std::marker::Model;
 
 /// The tokens of a text, one after the other.
 ///
-/// Contracts see a scanner as the tokens that it still has to give, and the refusal behind them,
-/// if one ends them.
+/// Contracts see a scanner as the tokens that are still to come, and the refusal after them, if one
+/// ends them.
 #[derive(Drop)]
 pub struct Scanner<T: Input> {
     engine: Engine<T>,
@@ -35,12 +35,12 @@ impl<T: Input> Model for Scanner<T> {
 }
 
 impl<T: Input> Scanner<T> {
-    /// The tokens of the input's text, which is to have at most `limit` characters: a longer one
-    /// is refused once a token has passed the limit, and that token is not given.
+    /// The tokens of the input's text. If it has more than `limit` characters, it is refused once
+    /// a token has passed the limit, and that token is not given.
     ///
-    /// The spans of the tokens stand one behind the other, within the text. The tokens are taken from
-    /// the text: up to the last it is their spellings in order, parted by blanks, breaks and comments. A
-    /// refusal that ends them stands at a place of the text.
+    /// The spans of the tokens come one after the other, within the text. The tokens are taken from the
+    /// text: up to the last it is their spellings in order, with only blanks, breaks and comments between
+    /// them. A refusal that ends them is at a place of the text.
     pub fn new(alloc: Global, input: T, limit: usize) -> Self
         ensures tokens { result ≡ scan limit (T.rest input) }
         ensures spans { AreInOrder (length (T.rest input)) 0 result.pieces }
@@ -54,9 +54,9 @@ impl<T: Input> Scanner<T> {
         }
     }
 
-    /// Hands out the next token, or `None` behind the last.
+    /// Hands out the next token, or `None` after the last.
     ///
-    /// After an error nothing is known of what a further call gives.
+    /// After an error, nothing is known of what a further call gives.
     pub fn next_token(&mut self) -> Result<Option<Token>, Stop>
         ensures { Hands result self.old self.new }
     {
@@ -68,19 +68,19 @@ impl<T: Input> Scanner<T> {
         })
     }
 
-    /// The same, with a place for the token, which is large to move: `true` says that the next token was
-    /// written there.
+    /// The same, with a place for the token, since a token is large to move: `true` says that the next token
+    /// was written there.
     #[inline(always)]
     pub fn next_token_into(&mut self, token: &mut Token) -> Result<bool, Stop>
         ensures { Hands (handed_token token.new result) self.old self.new }
     {
-        // A law, which does nothing when it runs.
+        // A law. It does nothing when it runs.
         takes_characters_off();
         self.engine.fill(self.limit)?;
         self.engine.take_into(token)
     }
 
-    /// Takes a text that is no longer wanted, whose memory the next one may be given in.
+    /// Takes a text that is no longer needed. The next one may use its memory.
     #[inline(always)]
     pub fn give_back(&mut self, text: String)
         ensures { self.new ≡ self.old }
@@ -92,7 +92,7 @@ impl<T: Input> Scanner<T> {
 impl<T: CloneInput> Scanner<T> {
     ghost use Rattle.std.specs.Prelude.{IfOk};
 
-    /// A scanner of its own with the same tokens still to give, unless memory runs out.
+    /// An independent scanner with the same tokens still to come, unless memory runs out.
     pub fn try_clone(&self) -> Result<Self, AllocError>
         ensures { IfOk result (λ copy. copy ≡ self.now) }
     {

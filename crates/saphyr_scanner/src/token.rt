@@ -1,12 +1,12 @@
-//! Tokens: the indicators, properties and scalars of a text in their order, and among them what no characters stand
-//! for, as the starts and the ends of block collections and a key without `?`.
+//! Tokens: the indicators, properties and scalars of a text in order, and among them tokens without characters, such as
+//! the starts and ends of block collections and a key without `?`.
 
 mod cloning;
 
 use saphyr_scalar::scalar::TagParts;
 use saphyr_scalar::{Marker, ScalarStyle, Span};
 
-/// The handle of a tag directive and the prefix that it stands for.
+/// The handle of a tag directive, and its prefix.
 #[derive(Clone, Debug, PartialEq, Eq, Drop)]
 pub struct TagPrefix {
     pub handle: String,
@@ -16,8 +16,8 @@ pub struct TagPrefix {
 /// What a token is.
 ///
 /// A tag and a tag directive have the handle as it is written, which is empty for `!` and
-/// `!<uri>`; percent escapes in suffixes and prefixes are decoded. Both are boxed, so that the
-/// tokens that are held in great numbers stay small.
+/// `!<uri>`. Percent escapes in suffixes and prefixes are decoded. Both are boxed to keep tokens
+/// small, since many may be held.
 #[derive(Debug, PartialEq, Eq, Drop)]
 pub enum TokenType {
     StreamStart,
@@ -51,7 +51,7 @@ pub enum TokenType {
     Scalar(ScalarStyle, String),
 }
 
-/// A token and where it stands.
+/// A token and its place.
 #[derive(Debug, PartialEq, Eq, Drop)]
 pub struct Token {
     pub span: Span,
@@ -59,7 +59,7 @@ pub struct Token {
 }
 
 impl Token {
-    /// The token at the start of each text, as a place for others.
+    /// The first token of each text, as a place for others.
     #[must_use]
     #[inline(always)]
     pub fn at_start() -> Token {

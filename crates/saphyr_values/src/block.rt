@@ -36,14 +36,14 @@ pub enum Ending {
     AtMark,
 }
 
-// Whether there are spaces alone.
+// Whether there are only spaces.
 fn is_all_spaces(text: &[char]) -> bool
     ensures { result ≡ list_all (λ c. c == space) text.now }
 {
     text.iter().all(|c| *c == ' ')
 }
 
-// Whether a line is of spaces alone, at most as many as the indentation.
+// Whether a line has only spaces, at most as many as the indentation.
 fn is_empty_line(indentation: usize, line: &[char]) -> bool
     ensures { result ≡ spec.is_empty_line indentation line.now }
 {
@@ -61,14 +61,14 @@ fn content<'a>(indentation: usize, line: &'a [char]) -> &'a [char]
     }
 }
 
-// Where the first break stands.
+// The index of the first break.
 fn break_position(text: &[char]) -> Option<usize>
     ensures { result ≡ position (λ c. c == line_feed) text.now }
 {
     text.iter().position(|c| *c == '\n')
 }
 
-// The first line that a break ends, and what stands behind the break.
+// The first line that a break ends, and what follows the break.
 fn split_line<'a>(text: &'a [char]) -> Option<(&'a [char], &'a [char])>
     ensures { MatchOption result (HasNoBreak text.now) (λ x. IsFirstLine text.now x.0.now x.1.now) }
 {
@@ -91,7 +91,7 @@ fn has_content(indentation: usize, lines: &[char]) -> bool
     false
 }
 
-// Whether a content line begins with white space, behind the indentation.
+// Whether a content line begins with white space, after the indentation.
 fn is_more_indented(text: &[char]) -> bool
     ensures { result ≡ spec.is_more_indented text.now }
 {
@@ -120,7 +120,7 @@ fn push_break_between(
     Ok(())
 }
 
-// Appends what the lines read as behind a content line, up to the last content.
+// Appends what the lines read as after a content line, up to the last content.
 fn push_contents_behind(
     value: &mut Vec<char>,
     style: BlockStyle,
@@ -190,7 +190,7 @@ fn empty_at_end(indentation: usize, lines: &[char]) -> usize
     count
 }
 
-// Appends what stays of the breaks at the end, where there is content.
+// If there is content, appends what is left of the breaks at the end.
 fn push_chomped(
     value: &mut Vec<char>,
     chomping: Chomping,
@@ -212,7 +212,7 @@ fn push_chomped(
     Ok(())
 }
 
-// How many lines breaks end.
+// How many lines end with a break.
 fn count_lines(lines: &[char]) -> usize
     ensures { result ≡ length (spec.ended_lines lines.now) }
 {
@@ -225,7 +225,7 @@ fn count_lines(lines: &[char]) -> usize
     count
 }
 
-// What stands behind the last break.
+// What follows the last break.
 fn last_line<'a>(text: &'a [char]) -> &'a [char]
     ensures { result.now ≡ spec.last_line text.now }
 {
@@ -236,7 +236,7 @@ fn last_line<'a>(text: &'a [char]) -> &'a [char]
     text
 }
 
-// What the lines read as, where the last content line has a break or lacks one.
+// What the lines read as, if the last content line has a break or lacks one.
 fn lines_value(
     alloc: Global,
     style: BlockStyle,
@@ -263,7 +263,7 @@ fn lines_value(
     Ok(value)
 }
 
-// Whether the last line counts, which no break ends.
+// Whether the last line, which no break ends, counts.
 fn is_counted(indentation: usize, lines: &[char], last: &[char], ending: Ending) -> bool
     ensures { result ≡ spec.is_counted indentation (spec.lines_of indentation lines.now) last.now
         ending }
@@ -281,14 +281,14 @@ fn is_counted(indentation: usize, lines: &[char], last: &[char], ending: Ending)
     }
 }
 
-// Whether the last content line is broken, or cut by the end as if it were.
+// Whether the last content line has a break, or the end cuts it off as if it had one.
 fn is_broken(indentation: usize, last: &[char], ending: Ending) -> bool
     ensures { result ≡ spec.is_broken indentation last.now ending }
 {
     is_empty_line(indentation, last) || ending == Ending::AtEnd
 }
 
-// Ends the last line with a break where it counts.
+// Ends the last line with a break if it counts.
 #[tactic(auto, using(crate::proofs::Lines::line_more))]
 fn end_last_line(text: &mut Vec<char>, indentation: usize, ending: Ending) -> Result<(), AllocError>
     ensures { OnOk result (spec.lines_of indentation text.new.items
@@ -300,10 +300,10 @@ fn end_last_line(text: &mut Vec<char>, indentation: usize, ending: Ending) -> Re
     Ok(())
 }
 
-/// The value of a block scalar (YAML 1.2.2, 8.1), from the text behind its header's line.
+/// The value of a block scalar (YAML 1.2.2, 8.1), from the text after its header's line.
 ///
-/// The indentation is how many spaces stand before each content line; a line with fewer of them that is not empty has
-/// lost as many characters. The ending says what stands behind the text, and matters only where no break ends it.
+/// The indentation is how many spaces are before each content line. A line with fewer of them that is not empty loses
+/// as many characters. The ending says what follows the text, and matters only if no break ends it.
 pub fn block_value(
     alloc: Global,
     style: BlockStyle,

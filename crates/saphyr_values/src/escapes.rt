@@ -8,7 +8,7 @@ use saphyr_input::char_traits::{as_hex, is_hex};
 
 const LARGEST_CHARACTER: u32 = 0x10FFFF;
 
-/// What a character behind a backslash stands for, where it is a whole escape.
+/// What a character after a backslash stands for, if the two are a whole escape.
 #[tactic(auto, unfolding(crate::specs::Escapes::short_escape))]
 pub fn short_escape(name: char) -> Option<char>
     ensures { result ≡ spec.short_escape name }
@@ -74,7 +74,7 @@ fn long_escape(text: &[char], count: usize) -> Option<(char, usize)>
     Some((c, count))
 }
 
-// The item that a text spells behind a backslash, and how many characters of the text that takes.
+// The item that a text spells after a backslash, and how many characters of the text that takes.
 pub(crate) fn escape(text: &[char]) -> Option<(Item, usize)>
     ensures value { result ≡ spec.escape text.now }
     ensures within { IfSome result (λ x. x.1 ≤ length text.now) }

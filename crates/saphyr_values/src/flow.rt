@@ -11,7 +11,7 @@ use crate::folding::{Item, folded};
 use saphyr_input::char_traits::is_blank;
 use std::alloc::{AllocError, Global};
 
-/// The two kinds of quotes round a scalar.
+/// The two kinds of quotes around a scalar.
 #[derive(Clone, Copy, Debug, PartialEq, Eq)]
 pub enum Quote {
     /// `'` (YAML 1.2.2, 7.3.2).
@@ -61,7 +61,7 @@ pub fn plain_value(alloc: Global, piece: &str) -> Result<String, AllocError>
     folded(alloc, &raw_items(alloc, &characters)?)
 }
 
-// The item that a character which does not stand for itself spells with the text behind it, and how many characters
+// The item that a character spells with the text after it, if it does not stand for itself, and how many characters
 // that takes.
 fn special_item(quote: Quote, c: char, text: &[char]) -> Option<(Item, usize)>
     ensures value { result ≡ spec.special_item quote c text.now }
@@ -104,7 +104,7 @@ fn is_closing(quote: Quote, c: char, others: &[char]) -> bool
     others.is_empty() && c == quote.mark()
 }
 
-// The items of a text behind the opening quote, up to the closing quote at its end.
+// The items of a text after the opening quote, up to the closing quote at its end.
 fn items_to_quote(
     alloc: Global,
     quote: Quote,
@@ -146,8 +146,8 @@ fn quoted_value(alloc: Global, quote: Quote, piece: &str) -> Result<Option<Strin
     Ok(Some(folded(alloc, &items)?))
 }
 
-/// The value of a single quoted scalar, quotes and all: `''` between them is a quote, and lines are folded (YAML 1.2.2,
-/// 7.3.2). None where the piece is no single quoted scalar.
+/// The value of a single quoted scalar, given with its quotes: `''` between them is a quote, and lines are folded (YAML
+/// 1.2.2, 7.3.2). `None` if the piece is no single quoted scalar.
 pub fn single_quoted_value(alloc: Global, piece: &str) -> Result<Option<String>, AllocError>
     ensures { IfOk result (λ text. option_map string_bytes text
         ≡ option_map encode_utf8_all
@@ -156,8 +156,8 @@ pub fn single_quoted_value(alloc: Global, piece: &str) -> Result<Option<String>,
     quoted_value(alloc, Quote::Single, piece)
 }
 
-/// The value of a double quoted scalar, quotes and all: escapes are replaced, and lines are folded (YAML 1.2.2, 7.3.1).
-/// None where the piece is no double quoted scalar.
+/// The value of a double quoted scalar, given with its quotes: escapes are replaced, and lines are folded (YAML 1.2.2,
+/// 7.3.1). `None` if the piece is no double quoted scalar.
 pub fn double_quoted_value(alloc: Global, piece: &str) -> Result<Option<String>, AllocError>
     ensures { IfOk result (λ text. option_map string_bytes text
         ≡ option_map encode_utf8_all
@@ -166,8 +166,8 @@ pub fn double_quoted_value(alloc: Global, piece: &str) -> Result<Option<String>,
     quoted_value(alloc, Quote::Double, piece)
 }
 
-/// The items that are read of a quoted scalar are those that its text spells, and a text that is none spells none. So
-/// no text spells two lists of items.
+/// The items that are read from a quoted scalar are those that its text spells, and a text that is no quoted scalar
+/// spells none. So no text spells two lists of items.
 pub fn quoted_items_are_spelled()
     ensures { (quote : Quote) (items : List Item) (text : List ℕ)
         → IsSpelledQuote quote items text ↔ (spec.quoted_items quote text ≡ Some items) }

@@ -6,7 +6,7 @@ ghost use Rattle.saphyr_values.specs.Folding as spec;
 use crate::characters::text_of;
 use std::alloc::{AllocError, Global};
 
-/// What stands in a flow scalar, escapes told apart.
+/// A part of a flow scalar, with escapes told apart.
 #[derive(Clone, Copy, Debug, PartialEq, Eq)]
 pub enum Item {
     /// A space or a tab that stands for itself.
@@ -17,11 +17,11 @@ pub enum Item {
     Escaped(char),
     /// A line break.
     Break,
-    /// A line break behind a backslash.
+    /// A line break after a backslash.
     EscapedBreak,
 }
 
-// Whether a raw break comes first, behind blanks or none.
+// Whether a raw break comes first, maybe after blanks.
 fn is_before_break(items: &[Item]) -> bool
     ensures { result ≡ spec.is_before_break items.now }
 {
@@ -36,7 +36,7 @@ fn is_before_break(items: &[Item]) -> bool
     false
 }
 
-// How many empty lines follow a break that stands before the items.
+// How many empty lines follow a break before the items.
 fn empty_lines(items: &[Item]) -> usize
     ensures { result ≡ spec.empty_lines items.now }
 {
@@ -115,9 +115,9 @@ pub fn folded(alloc: Global, items: &[Item]) -> Result<String, AllocError>
     text_of(alloc, &folded_characters(alloc, items)?)
 }
 
-/// Line folding, told without a state: between characters a raw break is a space, or a line feed for each empty line
-/// behind it; an escaped break is nothing but these line feeds; and no blank beside a raw break, or behind an escaped
-/// one, stays.
+/// Line folding, described without a state. Between characters a raw break is a space, or a line feed for each empty
+/// line after it. An escaped break is only these line feeds. No blank next to a raw break, or after an escaped one,
+/// stays.
 pub fn breaks_are_folded()
     ensures { (n : ℕ) (breaks : List Item) (c : ℕ) (others : List Item)
         → spec.FoldsBreaks n breaks c others }

@@ -1,7 +1,7 @@
-//! The values of scalars, computed plainly from their spellings.
+//! The values of scalars, computed in a simple way from their spellings.
 //!
-//! Each function here is the reading that the standard defines, in the standard's own steps. They are slow: a text is
-//! gone through several times.
+//! Each function here is a reading that the standard defines, in the standard's own steps. They are slow: they go
+//! through a text several times.
 #![tactic(auto)]
 
 mod block;

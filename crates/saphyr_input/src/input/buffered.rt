@@ -15,14 +15,14 @@ mod source;
 /// How many places can be loaded at once.
 const WINDOW: usize = 16;
 
-/// How many items are taken from an iterator at most.
+/// The most items that are taken from an iterator.
 const MOST_ITEMS: u64 = 4294967296;
 
-/// An iterator over characters whose clones give the same items as it would itself.
+/// An iterator over characters whose clones give the same items as itself.
 ///
-/// [`Clone`] alone doesn't say so, since what a clone is like is for each type to tell.
+/// [`Clone`] alone doesn't say so: each type says for itself what a clone is.
 pub trait FaithfulClone: Iterator<Item = char> + Clone {
-    /// What lists the items of an iterator lists those of its clone.
+    /// A list of the items of an iterator is one of those of its clone.
     ghost faithful: { (s t : Self) → Self.is_clone s t → (xs : List ℕ)
         → Lists Self.can_next Self.next_gives s xs → Lists Self.can_next Self.next_gives t xs };
 }
@@ -35,8 +35,8 @@ impl FaithfulClone for Chars<'_> {
 
 /// The characters of an iterator, up to its first `None`, as an [`Input`].
 ///
-/// At most 4,294,967,296 items are taken from the iterator, and it is never called again after
-/// its first `None`: what it would give later is no part of the text.
+/// At most 4,294,967,296 items are taken from the iterator, and it is never called after its
+/// first `None`. What it would give later is no part of the text.
 pub struct BufferedInput<I: Iterator<Item = char>> {
     source: Source<I>,
     // The characters of the loaded places, as far as the text goes.
@@ -48,7 +48,7 @@ pub struct BufferedInput<I: Iterator<Item = char>> {
     ghost exhausted: { length ring.items < loaded → items source ≡ [] },
 }
 
-// Written out, so that a crate with such an input calls it, in place of a copy that is checked there.
+// Written out, so that crates with such an input call it. A derived one would be copied there, and checked.
 impl<I: Iterator<Item = char> + Drop> Drop for BufferedInput<I> {
     fn drop(self) {
         let BufferedInput {
@@ -60,9 +60,9 @@ impl<I: Iterator<Item = char> + Drop> Drop for BufferedInput<I> {
 }
 
 impl<I: Iterator<Item = char>> BufferedInput<I> {
-    /// An input over the items of the iterator, which are to be one list up to the first `None`, as
-    /// those of a text's `chars` are by the law `lists_characters`. The iterator is not called yet.
-    /// An error says that there was no memory for the loaded places.
+    /// An input over the items of the iterator. Up to the first `None` they must be one list. The law
+    /// `lists_characters` shows this for those of a text's `chars`. The iterator is not called yet.
+    /// The call fails if there is no memory for the loaded places.
     pub fn new(alloc: Global, iter: I) -> Result<Self, AllocError>
         requires { Listed I.can_next I.next_gives iter }
         ensures rest { (xs : List ℕ) → Lists I.can_next I.next_gives iter xs
@@ -72,8 +72,8 @@ impl<I: Iterator<Item = char>> BufferedInput<I> {
         BufferedInput::with_limit(alloc, iter, MOST_ITEMS)
     }
 
-    /// The same with a limit of one's own, which is at most 4,294,967,296: so many items are taken from the
-    /// iterator at most, and the text ends behind them, as it does at a `None`.
+    /// The same with your own limit, which is at most 4,294,967,296. At most that many items are taken from the
+    /// iterator, and the text ends after them, as at a `None`.
     pub fn with_limit(alloc: Global, iter: I, limit: u64) -> Result<Self, AllocError>
         requires bounded { limit ≤ 4294967296 }
         requires listed { Listed I.can_next I.next_gives iter }
@@ -89,7 +89,7 @@ impl<I: Iterator<Item = char>> BufferedInput<I> {
         })
     }
 
-    // Loads one place more.
+    // Loads one more place.
     fn load(&mut self)
         requires { ⟦<BufferedInput<I> as Input>⟧.loaded self.old < 16 }
         ensures rest { ⟦<BufferedInput<I> as Input>⟧.rest self.new
@@ -185,7 +185,7 @@ impl<I: FaithfulClone> Clone for BufferedInput<I> {
     }
 }
 
-// A ring of its own with the same characters.
+// A copy of the ring with the same characters.
 fn clone_ring(ring: &HeapCircularBuffer<char>) -> Result<HeapCircularBuffer<char>, AllocError>
     ensures { IfOk result (λ copy. copy ≡ ring.now) }
 {

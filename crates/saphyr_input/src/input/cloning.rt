@@ -1,14 +1,14 @@
-//! Inputs of which a copy can be made in mid-text.
+//! Inputs that can be copied in the middle of a text.
 ghost use Rattle.std.specs.Prelude.{◌≡◌};
 
 use crate::input::Input;
 use crate::input::buffered::{BufferedInput, FaithfulClone};
 use crate::input::str::StrInput;
 
-/// An input whose clones have the same characters still to give, and as many places loaded.
+/// An input whose clones have the same characters left, and as many places loaded.
 ///
-/// [`Clone`] alone doesn't say so, since what a clone is like is for each type to tell. An input of
-/// one's own that is `Clone` needs an `impl` with a proof of this law, and no code.
+/// [`Clone`] alone doesn't say so: each type says for itself what a clone is. An input of your own that
+/// is `Clone` needs an `impl` with a proof of this law, and no code.
 pub trait CloneInput: Input + Clone {
     /// A clone has the characters and the loaded places of its source.
     ghost faithful: { (s t : Self) → Self.is_clone s t

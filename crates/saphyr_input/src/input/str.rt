@@ -22,7 +22,7 @@ const WINDOW: usize = 128;
 
 /// The rest of a text, as an input.
 ///
-/// Loading only counts places: the characters are read from the text itself.
+/// To load only counts places: the characters are read from the text itself.
 #[derive(Clone, Copy, Debug)]
 pub struct StrInput<'a> {
     rest: &'a str,
@@ -42,7 +42,7 @@ impl<'a> StrInput<'a> {
         }
     }
 
-    // Moves the first `count` characters to the end of `out`, in one piece. `rest` is what stands behind them.
+    // Moves the first `count` characters to the end of `out`, in one piece. `rest` is what follows them.
     #[inline]
     fn fetch(&mut self, count: usize, rest: &'a str, out: &mut String) -> Result<usize, AllocError>
         requires { chars rest.now ≡ drop count (chars self.old.rest.now) }
@@ -77,7 +77,7 @@ impl Input for StrInput<'_> {
 
     #[inline]
     fn lookahead(&mut self, count: usize) {
-        // The bytes are fewer than 2^64, and the characters no more.
+        // There are fewer than 2^64 bytes, and no more characters than bytes.
         let _ = self.rest.as_bytes();
         self.loaded = self.loaded.max(count);
     }
@@ -188,7 +188,7 @@ impl Input for StrInput<'_> {
 
     #[inline(always)]
     fn skip_ws_to_eol(&mut self, skip_tabs: SkipTabs) -> (usize, Result<SkipTabs, &'static str>) {
-        // The bytes are fewer than 2^64, and the characters no more.
+        // There are fewer than 2^64 bytes, and no more characters than bytes.
         let _ = self.rest.as_bytes();
         self.loaded = self.loaded.max(1);
         let (blanks, rest) = split_blanks(self.rest, skip_tabs);

@@ -3,6 +3,7 @@ use Rattle.std.proofs.Common.{◌≡◌, ℕ, zero, suc, ◌+◌, ◌<◌, ◌�
 use Rattle.std.specs.Prelude.{◌==◌, encode_utf8, Option, Some, None}
 use Rattle.std.proofs.lemmas.Bool.Decides.{nat_tests}
 use Rattle.std.proofs.lemmas.List.{append-nil}
+use Rattle.std.proofs.lemmas.Str.{encodes-append}
 use Rattle.saphyr_input.specs.Classes.{is_break, carriage_return, line_feed}
 use Rattle.saphyr_scalar.specs.declared.scalar.position.Marker.{Marker}
 use Rattle.saphyr_scalar.specs.declared.scalar.block.lines.EmptyLines.{EmptyLines}
@@ -28,6 +29,14 @@ feed_last (suc n) =
     append_assoc (encode_utf8 10) (encode_utf8_all (line_feeds n)) (encode_utf8 10)
     ∙ ap (λ t. encode_utf8 10 ++ t) (feed_last n ∙ sym (feed_first n))
     ∙ feed_first (suc n)
+
+-- line feeds behind others
+pub feeds_join : (text : List ℕ) (m n : ℕ)
+    → (text ++ encode_utf8_all (line_feeds m)) ++ encode_utf8_all (line_feeds n)
+    ≡ text ++ encode_utf8_all (line_feeds m ++ line_feeds n)
+feeds_join text m n =
+    append_assoc text (encode_utf8_all (line_feeds m)) (encode_utf8_all (line_feeds n))
+    ∙ ap (λ b. text ++ b) (sym (encodes-append (line_feeds m) (line_feeds n)))
 
 -- a space of the indentation
 pub space_on : (limit : Option ℕ) (lines : EmptyLines) (b : Bool) (m : Marker) (c : ℕ) (cs : List ℕ)

@@ -1,6 +1,7 @@
 -- What stands between the words of a quoted scalar, and its closing quote.
-use Rattle.std.proofs.Common.{◌≡◌, ℕ, Bool, true, false, List, [], ◌∷◌, ◌++◌, drop, slice_index, Result, Ok, refl, sym, ap, ◌∙◌, arith, subst, nat_eq, IsTrue, cond}
-use Rattle.std.specs.Prelude.{◌||◌, ◌&&◌, ◌==◌, not}
+use Rattle.std.proofs.Common.{◌≡◌, ℕ, ◌<◌, ◌≤◌, Bool, true, false, List, [], ◌∷◌, ◌++◌, length, length-drop, drop, slice_index, Result, Ok, Err, refl, sym, ap, ◌∙◌, arith, subst, nat_eq, IsTrue, cond}
+use Rattle.std.specs.Prelude.{◌||◌, ◌&&◌, ◌==◌, not, OnOk}
+use Rattle.std.specs.List.{prefix_len}
 use Rattle.std.proofs.lemmas.Bool.Decides.{nat_tests}
 use Rattle.std.proofs.lemmas.List.{append-nil}
 use Rattle.saphyr_input.specs.Classes.{is_z, is_blank, is_break, is_blank_or_breakz}
@@ -125,6 +126,21 @@ moved_on grown s u t cleared same empty e =
     subst (λ (x : Cursor). Moved is_blank [] grown x t) same
     (subst (λ (b : List ℕ). Moved is_blank b grown u t) empty m)
 
+-- behind a run no more remains
+pub moved_no_longer : (p : ℕ → Bool) (text grown : List ℕ) (s t : Cursor) → Moved p text grown s t
+    → length t.rest ≤ length s.rest
+moved_no_longer p text grown s t m =
+    omega (
+      arith,
+      ap (λ (x : List ℕ × Cursor). length x.1.rest) m.is,
+      length-drop (prefix_len p s.rest) s.rest,
+    )
+
+-- what was read on is shorter than what was longer before
+pub ok_shorter : {X E : Type 0} (r : Result X E) (n m k : ℕ) → m < k → OnOk r (n ≤ m) → OnOk r (n < k)
+ok_shorter (Ok x) n m k less no_longer = omega (arith, less, no_longer)
+ok_shorter (Err e) n m k less no_longer = tt
+
 -- blanks, and what stands behind them
 pub blanks_to_break : (q : Quote) (indent : ℕ) (start : Marker) (text grown : List ℕ) (s t u v : Cursor)
     → Moved is_blank [] grown s t → u ≡ t → is_break (slice_index t.rest 0) ≡ true → v ≡ pass_break u
@@ -188,6 +204,12 @@ at_closing Single indent start m cs h =
     not_second : (d : Bool) → IsTrue (not d) → d ≡ false
     not_second true h = absurd (cc)
     not_second false h = refl
+
+-- where a closing quote stands a character does
+pub closing_left : (q : Quote) (xs : List ℕ) → IsTrue (is_closing q xs) → 0 < length xs
+closing_left q (c ∷ cs) h = omega arith
+closing_left Single [] h = absurd (cc)
+closing_left Double [] h = absurd (cc)
 
 closing_mark : (q : Quote) (xs : List ℕ) → IsTrue (is_closing q xs) → slice_index xs 0 ≡ flow.mark q
 closing_mark Double xs h = sym (sym (eqb-true (slice_index xs 0) 34 h))

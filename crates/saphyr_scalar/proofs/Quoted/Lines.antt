@@ -1,8 +1,7 @@
 -- The breaks inside a quoted scalar, and the lines behind them.
-use Rattle.std.proofs.Common.{◌≡◌, ℕ, zero, suc, ◌+◌, ◌<◌, ◌≤◌, Bool, true, false, List, [], ◌∷◌, ◌++◌, length, drop, slice_index, Result, Ok, Err, refl, sym, ap, ◌∙◌, arith, subst, encode_utf8_all, nat_lt, cond, add-one, append_assoc}
-use Rattle.std.specs.Prelude.{◌&&◌, ◌==◌, encode_utf8}
+use Rattle.std.proofs.Common.{◌≡◌, ℕ, ◌+◌, ◌<◌, ◌≤◌, Bool, true, false, List, [], ◌∷◌, ◌++◌, length, drop, slice_index, Result, Ok, Err, refl, sym, ap, ◌∙◌, arith, subst, encode_utf8_all, nat_lt, cond, add-one}
+use Rattle.std.specs.Prelude.{◌&&◌, ◌==◌}
 use Rattle.std.proofs.lemmas.Bool.Decides.{nat_tests}
-use Rattle.std.proofs.lemmas.List.{append-nil}
 use Rattle.saphyr_input.specs.Classes.{is_z, is_blank, is_break}
 use Rattle.saphyr_input.specs.Places.{is_document_indicator}
 use Rattle.saphyr_scalar.specs.declared.scalar.position.Marker.{Marker}
@@ -10,21 +9,11 @@ use Rattle.saphyr_scalar.specs.declared.scalar.fault.Refusal.{Refusal}
 use Rattle.saphyr_scalar.specs.declared.scalar.fault.FaultText.TheVariants as fault
 use Rattle.saphyr_values.specs.declared.flow.Quote.{Quote}
 use Rattle.saphyr_scalar.specs.Views.Cursor.{Cursor, ◌>>=◌, refuse, along, pass_blanks, pass_break}
-use Rattle.saphyr_values.specs.Folding.{line_feeds}
 use Rattle.saphyr_scalar.proofs.Quoted.Inside.{front_twice, quoted_behind_gap, behind_no_gap, word_from, at_break}
 use Rattle.saphyr_scalar.specs.Steps.Quoted.{TextRead, with_front, mid_line, over_lines, no_gap, is_left, blank_in, folded_break, quoted_line, end_gap, inner_text, inner_text_at}
 use Rattle.saphyr_input.proofs.Basics.Booleans.{and_false}
 use Rattle.std.proofs.lemmas.Bool.{lt-ltb}
 use Rattle.saphyr_scalar.proofs.PassedBreaks.{break_shorter}
-
--- one line feed more
-pub one_more_feed : (n : ℕ) → encode_utf8_all (line_feeds (n + 1)) ≡ encode_utf8_all (line_feeds n) ++ encode_utf8 10
-one_more_feed n = ap (λ k. encode_utf8_all (line_feeds k)) (add-one n) ∙ again n
-  where
-    again : (n : ℕ) → encode_utf8_all (line_feeds (suc n)) ≡ encode_utf8_all (line_feeds n) ++ encode_utf8 10
-    again zero = append-nil (encode_utf8 10)
-    again (suc n) = ap (λ b. encode_utf8 10 ++ b) (again n)
-        ∙ sym (append_assoc (encode_utf8 10) (encode_utf8_all (line_feeds n)) (encode_utf8 10))
 
 -- a blank at the start of a line
 pub line_blank : (q : Quote) (indent : ℕ) (start : Marker) (escaped : Bool) (n : ℕ) (s : Cursor)

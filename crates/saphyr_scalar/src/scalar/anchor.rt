@@ -45,7 +45,7 @@ impl<T: Input> Reader<T> {
     }
 
     /// Takes off an anchor or an alias (YAML 1.2.2, 6.9.2 and 7.1), from its `&` or `*` on, and
-    /// gives its name.
+    /// returns its name.
     ///
     /// A name without characters is refused at the indicator.
     #[tactic(auto, unfolding(crate::specs::Steps::Anchor::anchor, crate::specs::Steps::Anchor::anchor_name_of))]

@@ -1,4 +1,4 @@
-//! Block scalars, taken off a text: their headers, and the lines behind them (YAML 1.2.2, 8.1).
+//! Block scalars, taken off a text: their headers, and the lines after them (YAML 1.2.2, 8.1).
 
 mod breaks;
 mod header;
@@ -8,32 +8,33 @@ mod lines;
 ghost use Rattle.std.specs.Prelude.{◌≡◌, ◌<◌, ◌≤◌, length, string_bytes, IfOk, encode_utf8_all};
 ghost use Rattle.saphyr_scalar.specs.Steps.Block as spec;
 
-use crate::scalar::block::breaks::{push_line_feeds, push_tail};
+use crate::scalar::block::breaks::push_tail;
 use crate::scalar::block::header::given_indentation;
 use crate::scalar::block::lines::EmptyLines;
 use crate::scalar::fault::{FaultText, Refusal, Stop};
 use crate::scalar::position::Span;
 use crate::scalar::reader::Reader;
+pub(crate) use breaks::push_line_feeds;
 pub use law::reads_block_texts;
 use saphyr_input::char_traits::is_z;
 use saphyr_input::input::Input;
 use saphyr_values::{BlockStyle, Chomping};
 use std::alloc::{AllocError, Global};
 
-/// The text of a block scalar, and where it stands.
+/// The text of a block scalar, and its place.
 #[derive(Debug, PartialEq, Eq, Drop)]
 pub struct BlockScalar {
     pub text: String,
-    /// From the place behind the indentation of the first content line to the place behind the
+    /// From the place after the indentation of the first content line to the place after the
     /// indentation of the line that ends the scalar. Without content it starts where it ends, or
-    /// at the header where the text ends there.
+    /// at the header if the text ends there.
     pub span: Span,
 }
 
 impl<T: Input> Reader<T> {
     ghost use Rattle.saphyr_scalar.specs.Views.Reader.{cursor_of, ReadsBy};
 
-    // Whether the text's end or a NUL cuts the last line behind its indentation.
+    // Whether the text's end or a NUL cuts off the last line after its indentation.
     #[tactic(auto, unfolding(crate::specs::Steps::Block::is_unfinished))]
     fn is_unfinished(&mut self, indentation: usize) -> bool
         ensures value { result ≡ spec.is_unfinished indentation (cursor_of self.old) }
@@ -65,7 +66,7 @@ impl<T: Input> Reader<T> {
         Ok(text)
     }
 
-    // Takes off the content lines, behind some empty lines, and gives the scalar.
+    // Takes off the content lines, after some empty lines, and returns the scalar.
     fn read_block_text(
         &mut self,
         alloc: Global,
@@ -89,7 +90,7 @@ impl<T: Input> Reader<T> {
         })
     }
 
-    // Takes off what stands behind the leading empty lines.
+    // Takes off what follows the leading empty lines.
     #[tactic(auto, unfolding(crate::specs::Steps::Block::content))]
     fn read_block_content(
         &mut self,
@@ -113,14 +114,14 @@ impl<T: Input> Reader<T> {
         self.read_block_text(alloc, style, chomping, indentation, leading)
     }
 
-    /// Takes off a block scalar, from its `|` or `>` on, up to the line behind it, of which it
-    /// takes the indentation (YAML 1.2.2, 8.1).
+    /// Takes off a block scalar (YAML 1.2.2, 8.1), from its `|` or `>` on, and the indentation of the
+    /// line after it.
     ///
-    /// `indent` is the first column to the right of the enclosing block collection, 0 where there
-    /// is none. Refused are: an indentation indicator 0, a header that does not end with its line,
-    /// and a tab right behind it, each at the header's start; a comment without white space before
-    /// it, a byte order mark in the header's line, and a first content line right of the enclosing
-    /// collection and left of the indentation, each where it stands.
+    /// `indent` is the first column to the right of the enclosing block collection, or 0 if there
+    /// is none. Refused at the header's start are an indentation indicator 0, a header that does
+    /// not end with its line, and a tab right after it. Refused at their own places are a comment
+    /// without white space before it, a byte order mark in the header's line, and a first content
+    /// line right of the enclosing collection and left of the indentation.
     #[tactic(auto, unfolding(crate::specs::Steps::Block::block_scalar, crate::specs::Steps::Block::behind_header, crate::specs::Steps::Block::behind_leading_lines))]
     pub fn read_block_scalar(
         &mut self,

@@ -1,4 +1,4 @@
-//! Which ASCII characters are of the sets whose runs scalars take off: a look at a table takes fewer instructions than
+//! Which ASCII characters are in the sets whose runs scalars take off. A look at a table takes fewer instructions than
 //! comparisons.
 
 ghost use Rattle.std.specs.Prelude.{◌≡◌, false, true};
@@ -35,8 +35,7 @@ pub(super) fn is_in_double(byte: u8) -> bool
     SETS_OF_BYTES[byte as usize] & 2 != 0
 }
 
-// Whether with the byte, an ASCII character but the colon, a word of a plain scalar goes on outside flow wherever it
-// stands.
+// Whether a word of a plain scalar outside flow always goes on with the byte, an ASCII character other than the colon.
 #[inline(always)]
 pub(super) fn is_in_plain_outside(byte: u8) -> bool
     ensures { result ≡ ascii_in (sets.in_plain false) byte }

@@ -1,7 +1,8 @@
 //! Directives, taken off a text to the ends of their lines (YAML 1.2.2, 6.8).
 
-ghost use Rattle.std.specs.Prelude.{◌≡◌, ℕ, ◌<◌, List, [], length, slice_index, string_bytes, Ok};
-ghost use Rattle.saphyr_input.specs.Indicators.{percent_sign};
+ghost use Rattle.std.specs.Prelude.{◌≡◌, ◌==◌, ◌||◌, ℕ, ◌<◌, List, [], length, slice_index, string_bytes, Ok};
+ghost use Rattle.saphyr_input.specs.Classes as class;
+ghost use Rattle.saphyr_input.specs.Indicators.{exclamation_mark, percent_sign};
 ghost use Rattle.saphyr_scalar.specs.Steps.Directive as spec;
 ghost use Rattle.saphyr_scalar.specs.Steps.Quoted as run;
 
@@ -24,11 +25,19 @@ pub enum Directive {
     Reserved(String),
 }
 
-/// A directive, and the place behind it on its line.
+/// A directive, and the place after it on its line.
 #[derive(Debug, PartialEq, Eq, Drop)]
 pub struct DirectiveLine {
     pub directive: Directive,
     pub end: Marker,
+}
+
+// Whether the prefix of a tag directive may begin with the character.
+#[inline(always)]
+fn begins_prefix(c: char) -> bool
+    ensures { result ≡ ((c == exclamation_mark) || class.is_tag_char c) }
+{
+    c == '!' || is_tag_char(c)
 }
 
 impl<T: Input> Reader<T> {
@@ -117,8 +126,32 @@ impl<T: Input> Reader<T> {
         Ok(Directive::Version(major, minor))
     }
 
+    // Takes off the `!` behind the word of a handle, and gives the handle: `!` alone where neither stands.
+    #[tactic(auto, unfolding(crate::specs::Steps::Directive::handle_behind_word))]
+    fn end_directive_handle(
+        &mut self,
+        alloc: Global,
+        word: &str,
+        start: Marker,
+    ) -> Result<String, Stop>
+        ensures { ReadsTextBy (λ s. spec.handle_behind_word start (word.now, s)) self.old result
+            self.new }
+    {
+        if self.look() == '!' {
+            self.skip_non_blank();
+            return Ok(named_handle(alloc, word)?);
+        }
+        if !word.is_empty() {
+            return Err(Stop::Refused(Refusal {
+                text: FaultText::TagDirectiveHandleEndExpected,
+                mark: start,
+            }));
+        }
+        Ok(String::from_str(alloc, "!")?)
+    }
+
     // Takes off the handle of a tag directive: `!`, `!!` or `!word!`.
-    #[tactic(auto, unfolding(crate::specs::Steps::Directive::handle, crate::specs::Steps::Directive::handle_behind_word))]
+    #[tactic(auto, unfolding(crate::specs::Steps::Directive::handle))]
     fn read_directive_handle(&mut self, alloc: Global, start: Marker) -> Result<String, Stop>
         ensures { ReadsTextBy (spec.handle start) self.old result self.new }
     {
@@ -131,26 +164,15 @@ impl<T: Input> Reader<T> {
         self.skip_non_blank();
         let mut word = String::new(alloc);
         self.read_tag_word(&mut word)?;
-        if self.look() == '!' {
-            self.skip_non_blank();
-            return Ok(named_handle(alloc, word.as_str())?);
-        }
-        if !word.is_empty() {
-            return Err(Stop::Refused(Refusal {
-                text: FaultText::TagDirectiveHandleEndExpected,
-                mark: start,
-            }));
-        }
-        Ok(String::from_str(alloc, "!")?)
+        self.end_directive_handle(alloc, word.as_str(), start)
     }
 
     // Takes off the prefix of a tag directive, with its escapes resolved.
-    #[tactic(auto, using(crate::proofs::Directives::Numbers::prefix_left), unfolding(crate::specs::Steps::Directive::prefix))]
+    #[tactic(auto, unfolding(crate::specs::Steps::Directive::prefix))]
     fn read_tag_prefix(&mut self, alloc: Global, start: Marker) -> Result<String, Stop>
         ensures { ReadsTextBy (spec.prefix start) self.old result self.new }
     {
-        let first = self.look();
-        if first != '!' && !is_tag_char(first) {
+        if !begins_prefix(self.look()) {
             return Err(Stop::Refused(Refusal {
                 text: FaultText::TagPrefixCharacter,
                 mark: start,
@@ -202,7 +224,7 @@ impl<T: Input> Reader<T> {
         Ok(Directive::Reserved(name))
     }
 
-    // Takes off the blanks, the comment and the break behind a directive.
+    // Takes off the blanks, the comment and the break after a directive.
     #[tactic(auto, unfolding(crate::specs::Steps::Directive::line_end))]
     fn end_directive_line(&mut self, start: Marker) -> Result<(), Refusal>
         ensures { PassesBy (spec.line_end start) self.old result self.new }
@@ -219,14 +241,14 @@ impl<T: Input> Reader<T> {
     }
 
     /// Takes off a directive (YAML 1.2.2, 6.8), from its `%` on to the end of its line: the blanks
-    /// and the comment behind it, and the break.
+    /// and the comment after it, and the break.
     ///
-    /// A name without characters, or with a byte order mark behind it, is refused behind the `%`,
-    /// and what stands behind the directive where it stands: a byte order mark, or a comment
-    /// before which there is no blank. All other faults are refused at the `%`: a version number
-    /// without digits or with more than nine, no dot between the two, a handle without its last
-    /// `!`, a prefix that begins with no character of tags, a percent escape that is no UTF-8, and
-    /// content behind the directive. The parameters of a reserved directive are passed over.
+    /// A name without characters, or with a byte order mark after it, is refused after the `%`.
+    /// After the directive, a byte order mark, or a comment without a blank before it, is refused
+    /// at its own place. All other faults are refused at the `%`: a version number without digits
+    /// or with more than nine, no dot between the two, a handle without its last `!`, a prefix
+    /// that begins with no character of tags, a percent escape that is not UTF-8, and content
+    /// after the directive. The parameters of a reserved directive are passed over.
     #[tactic(auto, unfolding(crate::specs::Steps::Directive::directive))]
     pub fn read_directive(&mut self, alloc: Global) -> Result<DirectiveLine, Stop>
         requires { slice_index (cursor_of self.old).rest 0 ≡ percent_sign }

@@ -1,4 +1,4 @@
-//! Laws: what the reader of directives promises in the standard's words: what is read is spelled so (YAML 1.2.2, 6.8).
+//! Laws of the reader of directives in the standard's words: what is read is spelled so (YAML 1.2.2, 6.8).
 
 ghost use Rattle.std.specs.Prelude.{◌≡◌, ℕ, ◌+◌, true, List, ◌++◌, length, Ok, slice_index};
 ghost use Rattle.saphyr_input.specs.Indicators.{percent_sign};
@@ -9,7 +9,7 @@ ghost use Rattle.saphyr_scalar.specs.Spelling.Directive.{ReadDirective, IsReadDi
 ghost use Rattle.saphyr_scalar.specs.Steps.Quoted.{mid_line};
 ghost use Rattle.saphyr_scalar.specs.declared.scalar.position.Marker.{Marker};
 
-/// What is read as a directive is spelled so, and what is left stands behind its line.
+/// What is read as a directive is spelled so, and what is left follows its line.
 pub fn spells_each_directive()
     ensures { (s u : Cursor) (d : ReadDirective) (end : Marker)
         → slice_index s.rest 0 ≡ percent_sign

@@ -1,4 +1,4 @@
-//! Why reading ends: a text is refused, for one of the reasons here, or there is no memory.
+//! Why reading ends: a text is refused for one of the reasons here, or memory ran out.
 
 ghost use Rattle.std.specs.Prelude.{◌≡◌, IfOk, string_bytes};
 ghost use Rattle.saphyr_scalar.specs.Faults.{Says};
@@ -8,7 +8,7 @@ use crate::scalar::position::Marker;
 use std::alloc::{AllocError, AllocFailed, Global};
 use std::fmt;
 
-/// Why a text is refused, as plain values: a variant for each text that a fault can print.
+/// Why a text is refused: a variant for each message of a fault.
 #[derive(Clone, Copy, Debug, PartialEq, Eq)]
 pub enum FaultText {
     UnprintableCharacter,
@@ -85,7 +85,7 @@ pub enum FaultText {
 impl FaultText {
     ghost use Rattle.saphyr_scalar.specs.Texts as spec;
 
-    // The text without the character that some texts show behind it.
+    // The text without the character that some texts show after it.
     fn words(self) -> &'static str
         ensures { result.now ≡ spec.words self }
     {
@@ -210,7 +210,7 @@ impl fmt::Display for FaultText {
     }
 }
 
-/// Why a text is refused, and where, as a plain value that reading hands on.
+/// Why a text is refused, and where, as a small value that functions pass on.
 #[derive(Clone, Copy, Debug, PartialEq, Eq)]
 pub struct Refusal {
     pub text: FaultText,

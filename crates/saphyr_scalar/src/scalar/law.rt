@@ -1,5 +1,5 @@
-//! Laws: what the readers of scalars promise in the standard's words (YAML 1.2.2, 7.3): what is read is spelled so
-//! and has that value. And that each reader takes characters off, so that a scanner comes to an end.
+//! Laws of the readers of scalars in the standard's words (YAML 1.2.2, 7.3): what is read is spelled so and has that
+//! value. And each reader takes characters off, so a scanner ends.
 
 ghost use Rattle.std.specs.Prelude.{◌≡◌, ℕ, ◌+◌, ◌-◌, ◌^◌, ◌<◌, ◌≤◌, ◌⊎◌, ◌++◌, Bool, Option, false, true, List, length, Ok, encode_utf8_all, slice_index};
 ghost use Rattle.saphyr_input.specs.Indicators.{exclamation_mark, percent_sign};
@@ -28,8 +28,8 @@ ghost use Rattle.saphyr_scalar.specs.Reading.Plain.{IsPlainReading};
 use crate::scalar::position::Marker;
 use saphyr_values::{Item, Quote};
 
-/// What is read as a quoted scalar is spelled so, what is left stands behind it, its text is the
-/// reading of what it spells, its lines folded, and its place is told of each character and break.
+/// What is read as a quoted scalar is spelled so, and what is left follows it. Its text is the reading of
+/// what it spells, with lines folded, and each character and break counts for its place.
 pub fn spells_each_quoted()
     ensures { (quote : Quote) (indent : ℕ) (s t : Cursor) (text : List ℕ)
         → slice_index s.rest 0 ≡ flow.mark quote → quoted quote indent s ≡ Ok (text, t)
@@ -37,9 +37,9 @@ pub fn spells_each_quoted()
         × (encode_utf8_all (folded items) ≡ text) × IsPassed s.mark s.rest t.mark t.rest }
 {}
 
-/// No later line of what is read as a quoted scalar begins with a document marker, and each begins
-/// with as many spaces as `indent` asks for, or has fewer and nothing else. Right behind an escaped
-/// break the closing quote may stand at any column.
+/// No later line of what is read as a quoted scalar begins with a document marker. Each begins with at
+/// least `indent` spaces, or has fewer and nothing else. Right after an escaped break the closing
+/// quote may be at any column.
 pub fn spells_quoted_lines()
     ensures { (quote : Quote) (indent : ℕ) (s t : Cursor) (text : List ℕ)
         → slice_index s.rest 0 ≡ flow.mark quote → quoted quote indent s ≡ Ok (text, t)
@@ -49,17 +49,16 @@ pub fn spells_quoted_lines()
         × HasIndentedLines indent quote is.0 items t.rest is.2 }
 {}
 
-/// What is read as a plain scalar is the reading of a piece of the text that is spelled as one, and
-/// behind that stand blanks and breaks alone, up to the place that is reached.
+/// What is read as a plain scalar is the reading of a piece of the text that is spelled as one. Only blanks
+/// and breaks follow it, up to the place that is reached.
 pub fn reads_plain_values()
     ensures { (in_flow : Bool) (indent : ℕ) (s t : Cursor) (text : List ℕ) (end : Marker)
         (comment : Option Marker) → plain in_flow indent s ≡ Ok (text, end, comment, t)
         → IsPlainReading in_flow s text end t }
 {}
 
-/// Each later line of what is read as a plain scalar begins with as many spaces as `indent` asks
-/// for, or has blanks alone. Inside flow it may begin with fewer spaces, but not with fewer and a
-/// tab.
+/// Each later line of what is read as a plain scalar begins with at least `indent` spaces, or has
+/// only blanks. Inside flow it may begin with fewer spaces, but not with fewer and a tab.
 pub fn indents_plain_lines()
     ensures { (in_flow : Bool) (indent : ℕ) (s t : Cursor) (text : List ℕ) (end : Marker)
         (comment : Option Marker) → plain in_flow indent s ≡ Ok (text, end, comment, t)
@@ -95,8 +94,8 @@ pub fn takes_block_scalar()
         → length t.rest < length s.rest }
 {}
 
-/// The span of a block scalar begins where the scalar stands or behind that, and ends at the place
-/// that is reached, whose index is further by as many characters as were taken off.
+/// The span of a block scalar begins at the scalar's place or after it, and ends at the place that is
+/// reached. The index of that place is higher by as many characters as were taken off.
 pub fn counts_each_block_scalar()
     ensures { (style : BlockStyle) (indent : ℕ) (s t : Cursor) (text : List ℕ) (span : Span)
         → 0 < length s.rest → block_scalar style indent s ≡ Ok (text, span, t)
@@ -124,8 +123,8 @@ pub fn takes_directive()
         → directive s ≡ Ok (d, end, t) → length t.rest < length s.rest }
 {}
 
-/// A block scalar is passed character by character, to its end and to the start of its span, which
-/// ends where the scalar does: on a line behind the header's, or at NUL or the end.
+/// Each character of a block scalar counts for its end and for the start of its span. The span ends
+/// with the scalar: on a line after the header's, or at NUL or the end.
 pub fn places_each_block_scalar()
     ensures { (style : BlockStyle) (indent : ℕ) (s t : Cursor) (text : List ℕ) (span : Span)
         → is_break (slice_index s.rest 0) ≡ false → 0 < length s.rest

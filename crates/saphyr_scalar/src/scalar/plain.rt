@@ -20,17 +20,17 @@ use std::alloc::Global;
 #[derive(Debug, PartialEq, Eq, Drop)]
 pub struct PlainScalar {
     pub text: String,
-    /// The place behind its last word.
+    /// The place after its last word.
     pub end: Marker,
-    /// The `#` of a comment that ended the scalar outside flow, where the next line is not to go
-    /// on with it.
+    /// The `#` of a comment that ended the scalar outside flow. The next line must not go on with
+    /// the scalar.
     pub comment: Option<Marker>,
 }
 
 impl<T: Input> Reader<T> {
     ghost use Rattle.saphyr_scalar.specs.Views.Reader.{cursor_of, GivesBy, ReadsBy};
 
-    // Whether another word of a plain scalar begins behind a gap.
+    // Whether another word of a plain scalar begins after a gap.
     #[inline(always)]
     #[tactic(auto, unfolding(crate::specs::Steps::Plain::next_word_starts))]
     fn next_plain_word_starts(&mut self, in_flow: bool, indent: usize) -> Result<bool, Refusal>
@@ -42,7 +42,7 @@ impl<T: Input> Reader<T> {
         self.plain_word_starts(in_flow)
     }
 
-    // The comment behind a scalar that keeps it from going on in the next line.
+    // The comment after a scalar that keeps it from going on in the next line.
     #[inline(always)]
     #[tactic(auto, unfolding(crate::specs::Steps::Plain::comment_of))]
     fn plain_comment(&mut self, in_flow: bool, tabbed: bool) -> Option<Marker>
@@ -56,8 +56,8 @@ impl<T: Input> Reader<T> {
         }
     }
 
-    // Moves what is left of a plain scalar behind a word to the end of its text, and takes off the
-    // blanks and breaks behind it.
+    // Moves what is left of a plain scalar after a word to the end of its text, and takes off the blanks
+    // and breaks after it.
     #[inline(never)]
     fn read_plain_rest(
         &mut self,
@@ -85,8 +85,8 @@ impl<T: Input> Reader<T> {
         }
     }
 
-    // Moves what is left of a plain scalar behind a line's break and maybe spaces to the end of its
-    // text, and takes off the blanks and breaks behind it.
+    // Moves what is left of a plain scalar after a line's break and maybe spaces to the end of its text,
+    // and takes off the blanks and breaks after it.
     #[inline(never)]
     fn read_plain_lines(
         &mut self,
@@ -117,7 +117,7 @@ impl<T: Input> Reader<T> {
         self.read_plain_rest(alloc, in_flow, indent, start, text)
     }
 
-    // Whether what stands here is left of where a scalar outside flow can go on.
+    // Whether this place is left of where a scalar outside flow can go on.
     #[inline(always)]
     fn is_left_of_plain(&mut self, in_flow: bool, indent: usize) -> bool
         ensures value { result ≡ lines.is_left_of_scalar in_flow indent (cursor_of self.old) }
@@ -126,8 +126,8 @@ impl<T: Input> Reader<T> {
         !in_flow && self.mark.col < indent && !is_blank_or_break(self.look())
     }
 
-    // Moves what is left of a plain scalar behind a word at a line's end, as `read_plain_rest` does.
-    // Mostly the next line begins left of `indent`: then nothing is left.
+    // Moves what is left of a plain scalar after a word at a line's end, as `read_plain_rest` does. Mostly
+    // the next line begins left of `indent`: then nothing is left.
     #[inline(always)]
     fn read_plain_break(
         &mut self,
@@ -157,18 +157,18 @@ impl<T: Input> Reader<T> {
         self.read_plain_lines(alloc, in_flow, indent, start, behind_word, text)
     }
 
-    /// Takes off a plain scalar, inside flow or outside, and the blanks and breaks behind it
-    /// (YAML 1.2.2, 7.3.3), and gives its text with its lines folded (6.5).
+    /// Takes off a plain scalar, inside flow or outside, and the blanks and breaks after it (YAML
+    /// 1.2.2, 7.3.3), and returns its text with its lines folded (6.5).
     ///
-    /// `indent` is the first column to the right of the enclosing block collection, 0 where there
+    /// `indent` is the first column to the right of the enclosing block collection, or 0 if there
     /// is none. The scalar ends before `: `, a comment, a document marker, NUL, a byte order mark
-    /// and the end, inside flow before a flow indicator and a colon before one, and outside flow
-    /// before a line whose content stands left of `indent`.
+    /// and the end. Inside flow it also ends before a flow indicator and a colon before one, and
+    /// outside flow before a line whose content is left of `indent`.
     ///
-    /// Inside flow a `-` before a flow indicator is refused where it stands. In a line behind the
-    /// first, a tab left of `indent` may stand only before a comment or nothing: another text is
-    /// refused at the scalar's start, and a byte order mark where it stands. Where no word of a
-    /// scalar begins, that is refused.
+    /// Inside flow a `-` before a flow indicator is refused at its own place. On a line after the
+    /// first, only a comment or nothing may follow a tab left of `indent`: other text is refused at
+    /// the scalar's start, and a byte order mark at its own place. If no word of a scalar begins
+    /// here, that is refused.
     pub fn read_plain(
         &mut self,
         alloc: Global,

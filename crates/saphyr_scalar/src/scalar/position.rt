@@ -1,4 +1,4 @@
-//! Places of a text, by which tokens, events and faults say where they stand.
+//! Places of a text, which tokens, events and faults have.
 
 ghost use Rattle.std.specs.Prelude.{◌≡◌, ◌+◌, ◌-◌, ◌<◌, ◌≤◌, ◌^◌, ◌==◌};
 ghost use Rattle.saphyr_scalar.specs.Views.Cursor as spec;
@@ -8,10 +8,10 @@ use std::fmt;
 /// A place in a text.
 ///
 /// The index counts all characters before the place, and the column those of its line, both from
-/// 0. Lines count from 1. A byte order mark at the start of a line counts for the index alone.
+/// 0. Lines count from 1. A byte order mark at the start of a line counts only for the index.
 ///
-/// Places of one text are in the order of their indexes. It prints as `line:column`, both counted
-/// from 1, as editors do.
+/// Places of one text are ordered by their indexes. A place prints as `line:column`, both counted
+/// from 1 as in editors.
 #[derive(Clone, Copy, Debug, PartialEq, Eq, PartialOrd, Ord, Default)]
 pub struct Marker {
     pub index: usize,
@@ -30,7 +30,7 @@ impl Marker {
         Marker { index, line, col }
     }
 
-    /// How many characters stand before the place.
+    /// How many characters of the text are before the place.
     #[inline]
     pub fn index(&self) -> usize
         ensures { result ≡ self.now.index }
@@ -54,7 +54,7 @@ impl Marker {
         self.col
     }
 
-    // So many characters further on the line.
+    // The place this many characters further on the line.
     #[inline]
     pub(crate) fn along(self, count: usize) -> Marker
         requires index { self.index + count < 2 ^ 64 }
@@ -68,7 +68,7 @@ impl Marker {
         }
     }
 
-    // The start of the next line, behind a break of so many characters.
+    // The start of the next line, after a break of this many characters.
     #[inline]
     pub(crate) fn next_line(self, count: usize) -> Marker
         requires { self.index + count < 2 ^ 64 }
@@ -94,17 +94,17 @@ impl fmt::Display for Marker {
     }
 }
 
-/// From one place of a text to another. An event's span may go on over a comment behind a scalar:
-/// `docs/SPANS.md` has what each event's span covers.
+/// From one place of a text to another. An event's span may include a comment after a scalar: `docs/SPANS.md` says
+/// what the span of each event covers.
 #[derive(Clone, Copy, Debug, PartialEq, Eq, Default)]
 pub struct Span {
     pub start: Marker,
-    /// The place behind the last character that is covered.
+    /// The place after the last character that is covered.
     pub end: Marker,
 }
 
 impl Span {
-    /// The span between two places, which may be one and the same.
+    /// The span between two places, which may be the same place.
     #[inline]
     pub fn new(start: Marker, end: Marker) -> Span
         ensures start { result.start ≡ start }

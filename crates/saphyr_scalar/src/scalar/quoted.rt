@@ -20,7 +20,7 @@ use std::alloc::Global;
 impl<T: Input> Reader<T> {
     ghost use Rattle.saphyr_scalar.specs.Views.Reader.{cursor_of, ReadsTextBy};
 
-    // Whether the closing quote stands here, and not the first of two single quotes.
+    // Whether the closing quote is here, and not the first of two single quotes.
     #[inline(always)]
     fn is_at_closing_quote(&mut self, quote: Quote) -> bool
         ensures value { result ≡ spec.is_closing quote (cursor_of self.old).rest }
@@ -60,8 +60,8 @@ impl<T: Input> Reader<T> {
         Ok(text)
     }
 
-    // Takes off a quoted scalar, from its opening quote to its closing one, and gives its text. Most
-    // are words on one line that stand for themselves: then that is all.
+    // Takes off a quoted scalar, from its opening quote to its closing one, and returns its text. Most
+    // have only words on one line without escapes: then that is all.
     #[inline(always)]
     fn read_quoted(&mut self, alloc: Global, quote: Quote, indent: usize) -> Result<String, Stop>
         requires { slice_index (cursor_of self.old).rest 0 ≡ flow.mark quote }
@@ -80,13 +80,12 @@ impl<T: Input> Reader<T> {
         self.read_quoted_rest(alloc, quote, indent, start, text)
     }
 
-    /// Takes off a double quoted scalar, from its opening quote to its closing one, and gives its
+    /// Takes off a double quoted scalar, from its opening quote to its closing one, and returns its
     /// text: escapes are replaced, and lines are folded (YAML 1.2.2, 7.3.1).
     ///
-    /// `indent` is the column that later lines have to reach. Refused at the opening quote are
-    /// faults in escapes, a later line that begins left of that column or with a document marker,
-    /// and a text that ends before the scalar does. A tab left of the column is refused where it
-    /// stands.
+    /// `indent` is the column that later lines must reach. Refused at the opening quote are faults
+    /// in escapes, a later line that begins left of that column or with a document marker, and a
+    /// text that ends before the scalar does. A tab left of the column is refused at its own place.
     pub fn read_double_quoted(&mut self, alloc: Global, indent: usize) -> Result<String, Stop>
         requires { slice_index (cursor_of self.old).rest 0 ≡ quotation_mark }
         ensures { ReadsTextBy (spec.double_quoted indent) self.old result self.new }
@@ -94,10 +93,10 @@ impl<T: Input> Reader<T> {
         self.read_quoted(alloc, Quote::Double, indent)
     }
 
-    /// Takes off a single quoted scalar, from its opening quote to its closing one, and gives its
+    /// Takes off a single quoted scalar, from its opening quote to its closing one, and returns its
     /// text: `''` is a quote, and lines are folded (YAML 1.2.2, 7.3.2).
     ///
-    /// It is refused as a double quoted one is, but for the faults in escapes.
+    /// It is refused like a double quoted one, except that it has no escapes.
     pub fn read_single_quoted(&mut self, alloc: Global, indent: usize) -> Result<String, Stop>
         requires { slice_index (cursor_of self.old).rest 0 ≡ apostrophe }
         ensures { ReadsTextBy (spec.single_quoted indent) self.old result self.new }

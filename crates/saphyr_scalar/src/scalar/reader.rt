@@ -18,19 +18,19 @@ use std::alloc::AllocError;
 /// The characters of a text, and the place that is reached in it.
 ///
 /// Contracts see a reader as a cursor: the text that remains, the place where it begins, and
-/// whether only blanks stand before that place on its line.
+/// whether only blanks are before that place on its line.
 #[derive(Drop)]
 pub struct Reader<T: Input> {
     pub(crate) input: T,
     pub(crate) mark: Marker,
     pub(crate) blank_so_far: bool,
-    /// What the next text is begun in. No contract sees it.
+    /// The memory for the next text. No contract sees it.
     pub spare: Spare,
     ghost fits: { mark.index + length (T.rest input) < 2 ^ 64 },
     ghost column: { mark.col ≤ mark.index },
 }
 
-// Whether the character is surely no blank, `#` or byte order mark, as most behind a token are.
+// If this is true, the character is no blank, `#` or byte order mark. This holds for most characters after a token.
 #[inline(always)]
 fn begins_no_separation(c: char) -> bool
     ensures skipped { IsTrue result → (tabs : SkipTabs) → separation.is_skipped tabs c ≡ false }
@@ -57,7 +57,7 @@ impl<T: Input> Reader<T> {
         }
     }
 
-    /// The input, for its tests of what stands next.
+    /// The input, for its tests of what comes next.
     #[inline]
     pub fn input(&self) -> &T
         ensures { result.now ≡ self.now.input }
@@ -74,7 +74,7 @@ impl<T: Input> Reader<T> {
         self.mark
     }
 
-    /// Whether only blanks stand before the place on its line.
+    /// Whether only blanks are before the place on its line.
     #[inline]
     pub fn blank_so_far(&self) -> bool
         ensures { result ≡ (cursor_of self.now).blank_so_far }
@@ -111,7 +111,7 @@ impl<T: Input> Reader<T> {
         self.skip_n_non_blank(1);
     }
 
-    /// Takes off `count` characters, of which none is a blank.
+    /// Takes off `count` characters, none of them a blank.
     #[inline]
     pub fn skip_n_non_blank(&mut self, count: usize)
         requires near { count ≤ 8 }
@@ -141,19 +141,19 @@ impl<T: Input> Reader<T> {
     pub fn skip_spaces(&mut self, most: usize)
         ensures { cursor_of self.new ≡ spec.pass_spaces most (cursor_of self.old) }
     {
-        // Where lines are empty, none stands here.
+        // On empty lines there is none.
         if self.look() == ' ' {
             let count = self.input.skip_spaces(most);
             self.mark = self.mark.along(count);
         }
     }
 
-    /// Takes off the break that stands first, if one does: CR LF, CR or LF.
+    /// Takes off a break, if one comes first: CR LF, CR or LF.
     #[inline(always)]
     pub fn skip_line_break(&mut self)
         ensures { cursor_of self.new ≡ spec.pass_break (cursor_of self.old) }
     {
-        // Most breaks are line feeds, which one look tells.
+        // Most breaks are line feeds, for which one look is enough.
         match self.input.look_ch() {
             '\n' => {
                 self.input.skip();
@@ -164,7 +164,7 @@ impl<T: Input> Reader<T> {
         }
     }
 
-    // The same of the first character, which was looked at.
+    // The same for the first character, which was looked at.
     #[inline(always)]
     pub(crate) fn skip_seen_break(&mut self, c: char)
         requires first { c ≡ slice_index (cursor_of self.old).rest 0 }
@@ -179,7 +179,7 @@ impl<T: Input> Reader<T> {
         }
     }
 
-    // Takes off CR, and an LF behind it.
+    // Takes off CR, and an LF after it.
     #[inline(never)]
     fn skip_carriage_return(&mut self)
         requires { slice_index (cursor_of self.old).rest 0 ≡ carriage_return }
@@ -195,7 +195,7 @@ impl<T: Input> Reader<T> {
         }
     }
 
-    // The place behind a break that was taken off.
+    // The place after a break that was taken off.
     #[inline]
     fn start_line(&mut self, count: usize)
         requires { (cursor_of self.old).mark.index + count + length (cursor_of self.old).rest
@@ -206,7 +206,7 @@ impl<T: Input> Reader<T> {
         self.blank_so_far = true;
     }
 
-    /// Takes off what stands before the next break, NUL, byte order mark or the end: a comment.
+    /// Takes off what comes before the next break, NUL, byte order mark or the end: a comment.
     #[tactic(auto, using(crate::proofs::Lengths::run_within))]
     pub fn skip_comment(&mut self)
         ensures { cursor_of self.new ≡ spec.pass_comment (cursor_of self.old) }
@@ -225,11 +225,11 @@ impl<T: Input> Reader<T> {
         self.mark.index += 1;
     }
 
-    /// Takes off blanks and a comment behind them, up to the end of the line, and gives the blanks
-    /// that were met.
+    /// Takes off blanks and a comment after them, up to the end of the line, and returns which blanks were
+    /// met.
     ///
-    /// A `#` before which no blank was taken begins no comment, and a byte order mark that does
-    /// not begin the line has no place here: both are refused where they stand.
+    /// A `#` without a blank before it begins no comment and is refused at its own place. So is a
+    /// byte order mark that is not at the start of the line.
     #[inline(always)]
     #[tactic(auto, using(crate::proofs::Lengths::separation_within), unfolding(crate::specs::Views::Cursor::separation, crate::specs::Views::Cursor::behind_separation))]
     pub fn skip_ws_to_eol(&mut self, skip_tabs: SkipTabs) -> Result<SkipTabs, Refusal>
@@ -267,7 +267,7 @@ impl<T: CloneInput> Reader<T> {
     ghost use Rattle.std.specs.Prelude.{IfOk};
     ghost use Rattle.saphyr_scalar.specs.Views.Reader.{cursor_of, loaded};
 
-    /// A reader of its own at the same place of the same text, unless memory runs out.
+    /// An independent reader at the same place of the same text, unless memory runs out.
     pub fn try_clone(&self) -> Result<Self, AllocError>
         ensures same { IfOk result (λ copy. cursor_of copy ≡ cursor_of self.now) }
         ensures loaded { IfOk result (λ copy. loaded copy ≡ loaded self.now) }

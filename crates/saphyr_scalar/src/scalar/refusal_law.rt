@@ -1,4 +1,4 @@
-//! Laws: where the readers refuse a text. By them each refusal of a scanner has its place in the text.
+//! Laws of where the readers refuse a text. By them the place of each refusal of a scanner is in the text.
 
 ghost use Rattle.std.specs.Prelude.{◌≡◌, ℕ, ◌<◌, Bool, false, length, Err, slice_index};
 ghost use Rattle.saphyr_input.specs.Indicators.{percent_sign};
@@ -17,7 +17,7 @@ ghost use Rattle.saphyr_values.specs.declared.flow.Quote.{Quote};
 ghost use Rattle.saphyr_scalar.specs.RefusedInside.{IsRefusedInside};
 ghost use Rattle.saphyr_scalar.specs.Steps.Tag.{tag};
 
-/// What is refused has a place: where its reader began, or one on the way from there.
+/// The place of a refusal is where its reader began, or one on the way from there.
 pub fn refuses_inside()
     ensures anchor { (s : Cursor) (e : Refusal) → anchor s ≡ Err e → e.mark ≡ s.mark }
     ensures tag { (in_flow : Bool) (s : Cursor) (e : Refusal) → tag in_flow s ≡ Err e

@@ -1,4 +1,4 @@
-//! Memory of texts that are no longer wanted, in which the next ones are begun.
+//! The memory of texts that are no longer needed, for the next ones.
 
 ghost use Rattle.std.specs.Prelude.{◌≡◌, [], IfOk, string_bytes};
 
@@ -8,13 +8,13 @@ use std::alloc::{AllocError, Global};
 /// piece of memory costs as much.
 pub(super) const FIRST_ROOM: usize = 24;
 
-/// How much room a text may have whose memory is kept. A long text is rare, and its memory would be held for
-/// short ones up to the end of the text.
+/// How much room a text may have whose memory is kept. A longer one is rare, and its memory would be held for
+/// short ones up to the end of the input.
 const MOST_ROOM: usize = 4096;
 
-/// The memory of a text that is no longer wanted, if there is one.
+/// The memory of a text that is no longer needed, if there is one.
 ///
-/// To take memory and give it back costs more than to read a short text. What is kept here says nothing of the
+/// To take memory and give it back costs more than to read a short text. What is kept here has no influence on the
 /// texts that are read.
 #[derive(Drop)]
 pub struct Spare {
@@ -44,7 +44,7 @@ impl Spare {
         self.begin_with(alloc, FIRST_ROOM)
     }
 
-    // The same, where new memory is to have so much room.
+    // The same, with this much room in new memory.
     #[inline(always)]
     pub(super) fn begin_with(&mut self, alloc: Global, room: usize) -> Result<String, AllocError>
         ensures { IfOk result (λ text. string_bytes text ≡ []) }

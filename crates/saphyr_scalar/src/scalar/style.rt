@@ -9,8 +9,8 @@ pub enum ScalarStyle {
     SingleQuoted,
     /// Between double quotes.
     DoubleQuoted,
-    /// Lines behind `|`, whose breaks are kept.
+    /// Lines after `|`, whose breaks are kept.
     Literal,
-    /// Lines behind `>`, which are folded.
+    /// Lines after `>`, which are folded.
     Folded,
 }

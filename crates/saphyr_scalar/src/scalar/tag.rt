@@ -28,7 +28,7 @@ pub struct TagParts {
     pub suffix: String,
 }
 
-// The characters that may stand in a uri, or in the suffix of a tag.
+// The characters that may occur in a uri, or in the suffix of a tag.
 #[derive(Clone, Copy)]
 pub(crate) enum UriSet {
     Uri,
@@ -36,7 +36,7 @@ pub(crate) enum UriSet {
 }
 
 impl UriSet {
-    // Whether the character is one of the set.
+    // Whether the character is in the set.
     #[inline]
     fn has(self, c: char) -> bool
         ensures { result ≡ spec.is_in_set self c }
@@ -48,7 +48,7 @@ impl UriSet {
     }
 }
 
-// The characters of a uri but for `%`, which begins an escape.
+// The characters of a uri without `%`, which begins an escape.
 pub(crate) struct PlainUri;
 
 impl CharSet for PlainUri {
@@ -65,7 +65,7 @@ impl CharSet for PlainUri {
     }
 }
 
-// The characters of a tag's suffix but for `%`.
+// The characters of a tag's suffix without `%`.
 pub(crate) struct PlainSuffix;
 
 impl CharSet for PlainSuffix {
@@ -82,7 +82,7 @@ impl CharSet for PlainSuffix {
     }
 }
 
-// How many bytes a character has in UTF-8 whose first byte is this one, 0 where none has.
+// How many bytes a character has whose UTF-8 begins with this byte, or 0 if there is none.
 #[tactic(auto, unfolding(crate::specs::Steps::Tag::utf8_width))]
 fn utf8_width(byte: u32) -> usize
     ensures value { result ≡ spec.utf8_width byte }
@@ -112,7 +112,7 @@ fn leading_bits(byte: u32) -> u32
     }
 }
 
-// The handle `!word!`, or `!!` of no word.
+// The handle `!word!`, or `!!` if the word is empty.
 pub(crate) fn named_handle(alloc: Global, word: &str) -> Result<String, AllocError>
     ensures { IfOk result (λ handle. string_bytes handle ≡ spec.handle_of word.now) }
 {
@@ -141,8 +141,8 @@ impl<T: Input> Reader<T> {
         Ok(as_hex(high) * 16 + as_hex(low))
     }
 
-    // Takes off the escape of a byte that is not the first of its character, and gives what it and
-    // the bytes before it say.
+    // Takes off the escape of a byte that is not the first of its character. Returns what it and the
+    // bytes before it say.
     #[tactic(auto, unfolding(crate::specs::Steps::Tag::trailing_byte))]
     fn read_trailing_byte(&mut self, value: u32, start: Marker) -> Result<u32, Refusal>
         requires { value < 2 ^ 24 }
@@ -159,7 +159,7 @@ impl<T: Input> Reader<T> {
         }
     }
 
-    // Takes off the escapes of so many bytes behind the first one of a character.
+    // Takes off the escapes of this many bytes after the first one of a character.
     #[tactic(auto, unfolding(crate::specs::Steps::Tag::trailing_bytes))]
     fn read_trailing_bytes(
         &mut self,
@@ -178,7 +178,7 @@ impl<T: Input> Reader<T> {
         Ok(value)
     }
 
-    // Takes off a percent escape, and gives the character that it stands for (YAML 1.2.2, 5.6).
+    // Takes off a percent escape, and returns its character (YAML 1.2.2, 5.6).
     #[tactic(auto, unfolding(crate::specs::Steps::Tag::percent_escape, crate::specs::Steps::Tag::behind_leading_byte, crate::specs::Steps::Tag::encoded_character))]
     fn read_percent_escape(&mut self, start: Marker) -> Result<char, Refusal>
         ensures { GivesBy (spec.percent_escape start) self.old result self.new }
@@ -215,7 +215,7 @@ impl<T: Input> Reader<T> {
         Ok(c)
     }
 
-    // Moves characters of a set that begin no escape to the end of a text, and gives how many. The
+    // Moves characters of a set that begin no escape to the end of a text, and returns how many. The
     // place stays.
     fn fetch_bare_characters(&mut self, set: UriSet, text: &mut String) -> Result<usize, AllocError>
         ensures run { IfOk result (λ n. TransfersRun (sets.is_bare set) n (cursor_of self.old).rest
@@ -286,7 +286,7 @@ impl<T: Input> Reader<T> {
         })
     }
 
-    // Takes off the suffix of a tag behind `!!` or `!word!`.
+    // Takes off the suffix of a tag after `!!` or `!word!`.
     #[tactic(auto, unfolding(crate::specs::Steps::Tag::named_tail, crate::specs::Steps::Tag::named_tag))]
     fn read_named_suffix(
         &mut self,
@@ -340,8 +340,8 @@ impl<T: Input> Reader<T> {
     /// Takes off a tag (YAML 1.2.2, 6.9.1), from its `!` on, inside flow or outside.
     ///
     /// All faults are refused at the `!`: a verbatim tag without its `>`, a handle `!!` or
-    /// `!word!` without a suffix, a percent escape that is no UTF-8, and a tag with anything but a
-    /// blank, a break or the end behind it, or in flow a flow indicator.
+    /// `!word!` without a suffix, a percent escape that is not UTF-8, and a tag that is not
+    /// followed by a blank, a break or the end, or in flow by a flow indicator.
     #[tactic(auto, unfolding(crate::specs::Steps::Tag::tag, crate::specs::Steps::Tag::tag_end))]
     pub fn read_tag(&mut self, alloc: Global, in_flow: bool) -> Result<TagParts, Stop>
         requires { slice_index (cursor_of self.old).rest 0 ≡ exclamation_mark }

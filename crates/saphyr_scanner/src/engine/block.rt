@@ -1,5 +1,5 @@
-//! The indicators `-` and `?`: entries of block sequences, and keys that are told as such
-//! (YAML 1.2.2, 8.2.1, 8.2.2 and 7.4.2).
+//! The indicators `-` and `?`: entries of block sequences, and explicit keys (YAML 1.2.2,
+//! 8.2.1, 8.2.2 and 7.4.2).
 
 ghost use Rattle.std.specs.Prelude.{◌≡◌, Ok, ◌<◌, length};
 ghost use Rattle.saphyr_scanner.specs.Steps.Block as block;
@@ -15,7 +15,7 @@ use saphyr_scalar::{FaultText, Stop};
 impl<T: Input> Engine<T> {
     ghost use Rattle.saphyr_scanner.specs.Views.Engine.{state, ActsBy, CarriesBy};
 
-    // Whether a `-` stands here as an indicator.
+    // Whether a `-` is an indicator here.
     fn is_dash_next(&mut self) -> bool
         ensures value { result ≡ block.is_dash_next (state self.old).core }
         ensures same { state self.new ≡ state self.old }
@@ -24,7 +24,7 @@ impl<T: Input> Engine<T> {
         self.reader.input().peek() == '-' && is_blank_or_breakz(self.reader.input().peek_nth(1))
     }
 
-    // A compact sequence has its `-` behind spaces alone.
+    // Only spaces may come before the `-` of a compact sequence.
     #[inline(always)]
     fn refuse_tab(&mut self, found: SkipTabs) -> Result<(), Stop>
         ensures { CarriesBy (λ c. block.refuse_tab (found, c)) self.old result self.new }
@@ -36,7 +36,7 @@ impl<T: Input> Engine<T> {
         Ok(())
     }
 
-    // Passes what stands behind `-` on its line.
+    // Passes what follows `-` on its line.
     #[inline(always)]
     #[tactic(auto, unfolding(crate::specs::Steps::Block::pass_dash))]
     fn pass_dash(&mut self) -> Result<(), Stop>
@@ -47,7 +47,7 @@ impl<T: Input> Engine<T> {
         Ok(())
     }
 
-    // Content on a later line, and flow collections, have to stand right of the `-`.
+    // Content on a later line, and flow collections, must be right of the `-`.
     fn deepen(&mut self)
         ensures { state self.new ≡ spec_state.with_core (block.deepen (state self.old).core)
             (state self.old) }
@@ -85,8 +85,41 @@ impl<T: Input> Engine<T> {
         Ok(())
     }
 
+    // Passes `?` and the blanks behind it, without which it is no indicator.
+    #[inline(always)]
+    #[tactic(auto, unfolding(crate::specs::Steps::Block::behind_mark))]
+    fn pass_question(&mut self) -> Result<(), Stop>
+        requires { 0 < length (state self.old).core.cursor.rest }
+        ensures { CarriesBy block.pass_question self.old result self.new }
+    {
+        self.reader.skip_non_blank();
+        if !skip_spaces(&mut self.reader) {
+            return Err(self.refuse_here(FaultText::WhitespaceExpected));
+        }
+        if self.reader.look() == '\t' {
+            return Err(self.refuse_here(FaultText::TabNotAllowed));
+        }
+        Ok(())
+    }
+
+    // A key begins with the `?` that stands here.
+    #[inline(always)]
+    #[tactic(auto, unfolding(crate::specs::Steps::Block::begin_key, crate::specs::Steps::Core::remove_key))]
+    fn begin_key(&mut self, column: usize) -> Result<(), Stop>
+        requires some { 0 < length (state self.old).core.cursor.rest }
+        requires here { column ≡ (state self.old).core.cursor.mark.col }
+        ensures { CarriesBy block.begin_key self.old result self.new }
+    {
+        self.roll(column)?;
+        self.level.context = self.level.context.behind_question();
+        self.remove_key()?;
+        self.key_allowed = self.in_block();
+        self.pass_question()?;
+        Ok(())
+    }
+
     // `?`.
-    #[tactic(auto, unfolding(crate::specs::Steps::Block::key_steps, crate::specs::Steps::Block::begin_key, crate::specs::Steps::Block::behind_mark, crate::specs::Steps::Core::remove_key))]
+    #[tactic(auto, unfolding(crate::specs::Steps::Block::key_steps))]
     pub(super) fn fetch_key(&mut self) -> Result<(), Stop>
         requires { 0 < length (state self.old).core.cursor.rest }
         ensures { ActsBy block.key_steps self.old result self.new }
@@ -98,17 +131,7 @@ impl<T: Input> Engine<T> {
         if self.is_further(start.col) {
             self.put_empty_indicator(start, Indicator::BlockMappingStart)?;
         }
-        self.roll(start.col)?;
-        self.level.context = self.level.context.behind_question();
-        self.remove_key()?;
-        self.key_allowed = self.in_block();
-        self.reader.skip_non_blank();
-        if !skip_spaces(&mut self.reader) {
-            return Err(self.refuse_here(FaultText::WhitespaceExpected));
-        }
-        if self.reader.look() == '\t' {
-            return Err(self.refuse_here(FaultText::TabNotAllowed));
-        }
+        self.begin_key(start.col)?;
         self.put_indicator_from(start, Indicator::Key)?;
         Ok(())
     }

@@ -1,7 +1,7 @@
-//! What stands between documents: directives, the markers `---` and `...`, and byte order marks; and the end of
-//! the text (YAML 1.2.2, 6.8 and chapter 9).
+//! What comes between documents: directives, the markers `---` and `...`, and byte order marks; and the end of the
+//! text (YAML 1.2.2, 6.8 and chapter 9).
 
-ghost use Rattle.std.specs.Prelude.{◌≡◌, ◌≤◌, ◌<◌, length, slice_index, None, IfOk};
+ghost use Rattle.std.specs.Prelude.{◌≡◌, ◌≤◌, ◌<◌, length, slice_index, None, IfOk, OnOk};
 ghost use Rattle.saphyr_input.specs.Indicators.{percent_sign};
 ghost use Rattle.saphyr_scanner.specs.Grammar.Tokens as tokens;
 ghost use Rattle.saphyr_scanner.specs.Steps.Document as document;
@@ -19,9 +19,11 @@ impl<T: Input> Engine<T> {
     ghost use Rattle.saphyr_scanner.specs.Views.Engine.{state, MovesBy};
 
     // Ends all block collections, and what may be a key.
-    #[tactic(auto, unfolding(crate::specs::Steps::Document::end_content))]
+    #[tactic(auto, using(crate::proofs::Blocks::unrolled_cursor), unfolding(crate::specs::Steps::Document::end_content, crate::specs::Steps::Core::remove_key))]
     fn end_content(&mut self) -> Result<(), Stop>
-        ensures { MovesBy document.end_content self.old result self.new }
+        ensures content { MovesBy document.end_content self.old result self.new }
+        ensures cursor { OnOk result
+            ((state self.new).core.cursor ≡ (state self.old).core.cursor) }
     {
         let mark = self.reader.mark();
         self.unroll(None, mark)?;
@@ -51,7 +53,7 @@ impl<T: Input> Engine<T> {
     }
 
     // `---` or `...`.
-    #[tactic(auto, using(crate::proofs::Blocks::unrolled_cursor), unfolding(crate::specs::Steps::Document::state_behind_marker, crate::specs::Steps::Document::end_content, crate::specs::Steps::Core::remove_key))]
+    #[tactic(auto, unfolding(crate::specs::Steps::Document::state_behind_marker))]
     pub(super) fn fetch_document_marker(&mut self, kind: TokenType) -> Result<(), Stop>
         requires { 3 ≤ length (state self.old).core.cursor.rest }
         ensures { MovesBy (document.state_behind_marker (kind_of kind)) self.old result self.new }
@@ -64,7 +66,7 @@ impl<T: Input> Engine<T> {
         Ok(())
     }
 
-    // `---`. For speed it is apart: a kind that is handed over has a place that is cleared for each token.
+    // `---`. It is separate for speed: a kind that is passed as an argument has a place that is cleared for each token.
     #[inline(never)]
     pub(super) fn fetch_document_start(&mut self) -> Result<(), Stop>
         requires { 3 ≤ length (state self.old).core.cursor.rest }
@@ -74,7 +76,7 @@ impl<T: Input> Engine<T> {
         self.fetch_document_marker(TokenType::DocumentStart)
     }
 
-    // `...` and what stands behind it on its line.
+    // `...` and what follows it on its line.
     #[tactic(auto, unfolding(crate::specs::Steps::Document::state_behind_document_end, crate::specs::Steps::Document::end_line))]
     pub(super) fn fetch_document_end(&mut self) -> Result<(), Stop>
         requires { 3 ≤ length (state self.old).core.cursor.rest }
@@ -91,7 +93,7 @@ impl<T: Input> Engine<T> {
 
     // `%` and the rest of a directive's line.
     #[inline(never)]
-    #[tactic(auto, using(crate::proofs::Blocks::unrolled_cursor), unfolding(crate::specs::Steps::Document::state_behind_directive, crate::specs::Steps::Document::read_directive, crate::specs::Steps::Document::end_content, crate::specs::Steps::Core::remove_key))]
+    #[tactic(auto, unfolding(crate::specs::Steps::Document::state_behind_directive, crate::specs::Steps::Document::read_directive))]
     pub(super) fn fetch_directive(&mut self) -> Result<(), Stop>
         requires { slice_index (state self.old).core.cursor.rest 0 ≡ percent_sign }
         ensures { MovesBy document.state_behind_directive self.old result self.new }
@@ -105,9 +107,9 @@ impl<T: Input> Engine<T> {
         Ok(())
     }
 
-    // A byte order mark, which has a place at the start of a line outside flow alone.
+    // A byte order mark. It is allowed only at the start of a line outside flow.
     #[inline(never)]
-    #[tactic(auto, using(crate::proofs::Blocks::unrolled_cursor), unfolding(crate::specs::Steps::Document::state_behind_byte_order_mark, crate::specs::Steps::Document::end_content, crate::specs::Steps::Core::remove_key))]
+    #[tactic(auto, unfolding(crate::specs::Steps::Document::state_behind_byte_order_mark))]
     pub(super) fn fetch_byte_order_mark(&mut self) -> Result<(), Stop>
         requires { 0 < length (state self.old).core.cursor.rest }
         ensures { MovesBy document.state_behind_byte_order_mark self.old result self.new }
@@ -124,7 +126,7 @@ impl<T: Input> Engine<T> {
     }
 }
 
-// Where the stream ends: at the end of the text, or on the next line where that ends no line.
+// The place of the stream's end: the end of the text, or the next line if the text's last line has no break.
 fn end_mark(mark: Marker) -> Marker
     ensures { result ≡ document.end_mark mark }
 {

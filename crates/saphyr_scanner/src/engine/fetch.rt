@@ -1,5 +1,5 @@
-//! Which token stands next, by its first characters (YAML 1.2.2, 5.3), and how many tokens are read before the
-//! first of them is handed out.
+//! Which token comes next, by its first characters (YAML 1.2.2, 5.3), and how many tokens are read before the first
+//! of them is handed out.
 
 ghost use Rattle.std.specs.Prelude.{◌≡◌, ◌<◌, ◌==◌, false, Ok, OnOk, length, slice_index, option_map};
 ghost use Rattle.saphyr_input.specs.Indicators.{
@@ -31,7 +31,7 @@ impl<T: Input> Engine<T> {
     ghost use Rattle.saphyr_scanner.specs.Views.Engine.{state, MovesBy, ActsBy, answer_of};
     ghost use Rattle.saphyr_scanner.specs.Views.Tokens.{piece, written_token};
 
-    // Comes to where the next token begins.
+    // Goes on to where the next token begins.
     #[tactic(auto, unfolding(crate::specs::Steps::Fetch::arrive))]
     fn arrive(&mut self) -> Result<(), Stop>
         ensures { MovesBy fetch.arrive self.old result self.new }
@@ -43,7 +43,7 @@ impl<T: Input> Engine<T> {
         Ok(())
     }
 
-    // Puts the token of the stream's start into the queue. For speed it is apart, since it comes once.
+    // Puts the token of the stream's start into the queue. It is separate for speed, since it comes once.
     #[inline(never)]
     fn start(&mut self) -> Result<(), AllocError>
         ensures { OnOk result (state self.new ≡ fetch.begin (state self.old)) }
@@ -67,8 +67,8 @@ impl<T: Input> Engine<T> {
         Ok(())
     }
 
-    // Puts the token that stands here into the queue.
-    #[tactic(auto, using(saphyr_input::proofs::Basics::Lists::some_left), unfolding(crate::specs::Steps::Fetch::fetch_here))]
+    // Puts the token that begins here into the queue.
+    #[tactic(auto, unfolding(crate::specs::Steps::Fetch::fetch_here))]
     fn fetch_here(&mut self) -> Result<(), Stop>
         ensures { MovesBy fetch.fetch_here self.old result self.new }
     {
@@ -130,8 +130,8 @@ impl<T: Input> Engine<T> {
         Ok(())
     }
 
-    // The same of characters that most tokens don't begin with. For speed it is apart: the results of its calls are
-    // cleared here, and not for each token.
+    // The same for characters with which few tokens begin. It is separate for speed: the places for the results of its
+    // calls are cleared here, and not for each token.
     #[inline(never)]
     #[tactic(auto, unfolding(crate::specs::Steps::Fetch::state_behind_content, crate::specs::Steps::Fetch::step))]
     fn fetch_rare(&mut self, c: char, next: char) -> Result<(), Stop>
@@ -162,14 +162,14 @@ impl<T: Input> Engine<T> {
         Ok(())
     }
 
-    // Whether a colon that no blank follows stands between a key and its value, inside flow.
+    // Whether a colon inside flow, with no blank after it, is between a key and its value.
     fn is_value_adjacent(&self, next: char) -> bool
         ensures { result ≡ fetch.is_value_adjacent next (state self.now).core }
     {
         !self.in_block() && (is_flow(next) || self.reader.mark().index == self.adjacent)
     }
 
-    // A colon inside flow that no blank follows.
+    // A colon inside flow with no blank after it.
     #[tactic(auto, unfolding(crate::specs::Steps::Fetch::flow_value_steps))]
     fn fetch_flow_value(&mut self, next: char) -> Result<(), Stop>
         requires { 0 < length (state self.old).core.cursor.rest }
@@ -203,8 +203,8 @@ impl<T: Input> Engine<T> {
         self.keep(ended)
     }
 
-    // Whether the first token of the queue may yet turn out to be a key, in whatever is open. Then it can't be
-    // handed out, nor what stands behind it: a mapping's start and a key may have to come before it.
+    // Whether the first token of the queue may still become a key, in anything that is open. Then neither it nor
+    // what follows it can be handed out: a mapping's start and a key may have to come before it.
     #[inline(always)]
     fn is_held(&self) -> bool
         ensures { result ≡ fetch.is_held (state self.now) }
@@ -221,7 +221,7 @@ impl<T: Input> Engine<T> {
         false
     }
 
-    // Whether the next token has to be read.
+    // Whether the next token must be read.
     #[inline(always)]
     fn needs_token(&self) -> bool
         ensures { result ≡ fetch.needs_token (state self.now) }
@@ -229,7 +229,7 @@ impl<T: Input> Engine<T> {
         !self.ended && (self.queue.is_empty() || self.is_held())
     }
 
-    // Puts the next token into the queue, where the text is not too long.
+    // Puts the next token into the queue, if the text is not too long.
     #[tactic(auto, unfolding(crate::specs::Steps::Fetch::fetch_within))]
     fn fetch_within(&mut self, limit: usize) -> Result<(), Stop>
         ensures { MovesBy (fetch.fetch_within limit) self.old result self.new }
@@ -241,7 +241,7 @@ impl<T: Input> Engine<T> {
         Ok(())
     }
 
-    // Whether the head of the queue can be handed out as things are, unless all were.
+    // Whether the head of the queue can be handed out now, unless all were.
     #[inline(always)]
     fn is_ready(&self) -> bool
         ensures { result ≡ fetch.is_ready (state self.now) }
@@ -255,7 +255,7 @@ impl<T: Input> Engine<T> {
     fn read_on(&mut self, limit: usize) -> Result<(), Stop>
         ensures { MovesBy (fetch.fill limit) self.old result self.new }
     {
-        // A law, which does nothing when it runs.
+        // A law. It does nothing when it runs.
         takes_characters_off();
         self.drop_far_key()?;
         while self.needs_token() {
@@ -265,8 +265,8 @@ impl<T: Input> Engine<T> {
         Ok(())
     }
 
-    // The same, with the stop kept, as a call of its own: a result is cleared before such a call and copied behind it,
-    // and an answer of one byte isn't.
+    // The same, with the stop kept, as a call of its own. The place of a result is cleared before such a call and
+    // copied after it, but a result of one byte isn't.
     #[inline(never)]
     fn reads_on(&mut self, limit: usize) -> bool
         ensures { MovesBy (fetch.fill limit) self.old (answer_of result self.new.stop) self.new }
@@ -275,7 +275,7 @@ impl<T: Input> Engine<T> {
         self.keep(ended)
     }
 
-    /// Has a token at the head of the queue that can be handed out, unless all were.
+    /// Reads until a token at the head of the queue can be handed out, unless all were.
     #[inline(always)]
     #[tactic(auto, using(crate::proofs::Filling::ready_as_is))]
     pub(crate) fn fill(&mut self, limit: usize) -> Result<(), Stop>
@@ -301,7 +301,7 @@ impl<T: Input> Engine<T> {
             .take_into(self.alloc, token, &mut self.reader.spare)
     }
 
-    /// Keeps the memory of a text that is no longer wanted for the next one.
+    /// Keeps the memory of a text that is no longer needed for the next one.
     #[inline(always)]
     pub(crate) fn give_back(&mut self, text: String)
         ensures { state self.new ≡ state self.old }

@@ -1,6 +1,7 @@
 //! Flow collections: their brackets, and the commas between their entries (YAML 1.2.2, 7.4).
 
-ghost use Rattle.std.specs.Prelude.{◌≡◌, Ok, false, ◌<◌, length};
+ghost use Rattle.std.specs.Prelude.{◌≡◌, Ok, false, ◌<◌, length, nat_le};
+ghost use Rattle.saphyr_scanner.specs.Limits.{most_open};
 ghost use Rattle.saphyr_scanner.specs.Steps.Flow as flow;
 ghost use Rattle.saphyr_scanner.specs.Steps.State as spec_state;
 
@@ -47,9 +48,36 @@ impl<T: Input> Engine<T> {
         self.key_allowed = false;
     }
 
+    // Whether as many flow collections are open as may be.
+    #[inline(always)]
+    fn is_full(&self) -> bool
+        ensures { result ≡ nat_le most_open (length (state self.now).core.outer) }
+    {
+        self.outer.len() >= MOST_OPEN
+    }
+
+    // The bracket that stands here opens a flow collection.
+    #[inline(always)]
+    #[tactic(auto, unfolding(crate::specs::Steps::Flow::open_collection))]
+    fn open_collection(&mut self, context: Context, indicator: Indicator) -> Result<(), Stop>
+        requires { 0 < length (state self.old).core.cursor.rest }
+        ensures { ActsBy (flow.open_collection context (indicator_kind indicator))
+            self.old result self.new }
+    {
+        if self.is_full() {
+            return Err(self.refuse_here(FaultText::RecursionLimit));
+        }
+        self.enter(context)?;
+        let start = self.reader.mark();
+        self.reader.skip_non_blank();
+        self.separate()?;
+        self.put_indicator_from(start, indicator)?;
+        Ok(())
+    }
+
     // `[` or `{`.
     #[inline(always)]
-    #[tactic(auto, unfolding(crate::specs::Steps::Flow::opening_steps, crate::specs::Steps::Flow::open_collection))]
+    #[tactic(auto, unfolding(crate::specs::Steps::Flow::opening_steps))]
     pub(super) fn fetch_flow_start(
         &mut self,
         context: Context,
@@ -61,18 +89,10 @@ impl<T: Input> Engine<T> {
     {
         self.save_key()?;
         self.go_deeper();
-        if self.outer.len() >= MOST_OPEN {
-            return Err(self.refuse_here(FaultText::RecursionLimit));
-        }
-        self.enter(context)?;
-        let start = self.reader.mark();
-        self.reader.skip_non_blank();
-        self.separate()?;
-        self.put_indicator_from(start, indicator)?;
-        Ok(())
+        self.open_collection(context, indicator)
     }
 
-    // The innermost flow collection ends with the bracket that stands here.
+    // The innermost flow collection ends with the bracket here.
     #[inline(always)]
     #[tactic(auto, unfolding(crate::specs::Steps::Flow::close_collection))]
     fn close_collection(&mut self, indicator: Indicator) -> Result<(), Stop>
@@ -91,7 +111,7 @@ impl<T: Input> Engine<T> {
         Ok(())
     }
 
-    // `]`. An open pair that has no bracket of its own ends before it.
+    // `]`. An open pair without brackets of its own ends before it.
     #[inline(always)]
     #[tactic(auto, unfolding(crate::specs::Steps::Flow::closing_steps, crate::specs::Steps::Flow::close_collection))]
     pub(super) fn fetch_sequence_end(&mut self) -> Result<(), Stop>
@@ -123,14 +143,13 @@ impl<T: Input> Engine<T> {
         Ok(())
     }
 
-    // `,`.
+    // The comma that stands here ends an entry.
     #[inline(always)]
-    #[tactic(auto, unfolding(crate::specs::Steps::Flow::flow_entry_steps, crate::specs::Steps::Flow::next_flow_entry, crate::specs::Steps::Core::remove_key))]
-    pub(super) fn fetch_flow_entry(&mut self) -> Result<(), Stop>
+    #[tactic(auto, unfolding(crate::specs::Steps::Flow::next_flow_entry))]
+    fn next_flow_entry(&mut self) -> Result<(), Stop>
         requires { 0 < length (state self.old).core.cursor.rest }
-        ensures { ActsBy flow.flow_entry_steps self.old result self.new }
+        ensures { ActsBy flow.next_flow_entry self.old result self.new }
     {
-        self.remove_key()?;
         self.key_allowed = true;
         let start = self.reader.mark();
         if self.level.context.ends_pair() {
@@ -141,5 +160,16 @@ impl<T: Input> Engine<T> {
         self.separate()?;
         self.put_indicator_from(start, Indicator::Entry)?;
         Ok(())
+    }
+
+    // `,`.
+    #[inline(always)]
+    #[tactic(auto, unfolding(crate::specs::Steps::Flow::flow_entry_steps, crate::specs::Steps::Core::remove_key))]
+    pub(super) fn fetch_flow_entry(&mut self) -> Result<(), Stop>
+        requires { 0 < length (state self.old).core.cursor.rest }
+        ensures { ActsBy flow.flow_entry_steps self.old result self.new }
+    {
+        self.remove_key()?;
+        self.next_flow_entry()
     }
 }

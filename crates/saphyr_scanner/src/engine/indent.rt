@@ -1,4 +1,4 @@
-//! Indentation: where block collections begin and end, for which no characters stand (YAML 1.2.2, 6.1 and 8.2).
+//! Indentation: where block collections begin and end, which no characters mark (YAML 1.2.2, 6.1 and 8.2).
 
 ghost use Rattle.std.specs.Prelude.{◌≡◌, Ok, ◌+◌, ◌<◌, ◌^◌};
 ghost use Rattle.saphyr_scanner.specs.Steps.Core as spec;
@@ -24,7 +24,7 @@ impl<T: Input> Engine<T> {
         }
     }
 
-    // Content has to stand one column further right than the block collection.
+    // Content must be at least one column further right than the block collection.
     pub(super) fn go_deeper(&mut self)
         ensures { state self.new ≡ spec_state.with_core (spec.go_deeper (state self.old).core)
             (state self.old) }
@@ -43,7 +43,6 @@ impl<T: Input> Engine<T> {
 
     // A block collection begins at a column, if one does.
     #[inline(always)]
-    #[tactic(auto, using(crate::proofs::Stacks::top_on))]
     pub(super) fn roll(&mut self, column: usize) -> Result<(), Stop>
         requires { column + 1 < 2 ^ 64 }
         ensures { CarriesBy (λ c. Ok (spec.roll column c)) self.old result self.new }
@@ -72,7 +71,7 @@ impl<T: Input> Engine<T> {
         Ok(())
     }
 
-    // Whether the innermost block collection stands to the right of a column; each does for `None`.
+    // Whether the innermost block collection is to the right of a column. For `None` each one is.
     fn is_right_of(&self, column: Option<usize>) -> bool
         ensures { result ≡ unrolling.is_right_of column (state self.now).core.indent }
     {
@@ -82,8 +81,8 @@ impl<T: Input> Engine<T> {
         }
     }
 
-    // At the column of the block collection its next entry stands, and left of it what is behind it: neither has
-    // to stand right of it.
+    // The next entry of the block collection is at its column, and what follows the collection is left of that. Neither
+    // must be right of it.
     fn go_less_deep(&mut self, column: Option<usize>)
         ensures { state self.new ≡ spec_state.with_core
             (unrolling.go_less_deep column (state self.old).core) (state self.old) }
@@ -96,7 +95,7 @@ impl<T: Input> Engine<T> {
 
     // The block collections to the right of a column end at a place, and all of them for `None`.
     #[inline(always)]
-    #[tactic(auto, using(crate::proofs::Blocks::none_ends), unfolding(crate::specs::Steps::Unrolling::unroll))]
+    #[tactic(auto, unfolding(crate::specs::Steps::Unrolling::unroll))]
     pub(super) fn unroll(&mut self, column: Option<usize>, mark: Marker) -> Result<(), Stop>
         ensures { MovesBy (λ s. Ok (unrolling.unroll column mark s)) self.old result self.new }
     {

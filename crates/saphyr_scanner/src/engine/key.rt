@@ -1,5 +1,5 @@
-//! Tokens that may turn out to be keys: that a key without `?` is one, the colon behind it tells
-//! (YAML 1.2.2, 7.4.2 and 8.2.2).
+//! Tokens that may become keys: a key without `?` is known by the colon after it (YAML 1.2.2, 7.4.2 and
+//! 8.2.2).
 
 ghost use Rattle.std.specs.Prelude.{◌≡◌, Ok, ◌<◌, length};
 ghost use Rattle.saphyr_scanner.specs.Steps.Core as spec;
@@ -9,14 +9,14 @@ use crate::engine::{Candidate, Engine};
 use saphyr_input::input::Input;
 use saphyr_scalar::{FaultText, Stop};
 
-// How far behind its start a key outside flow may have its colon.
+// How far after its start a key outside flow may have its colon.
 const LONGEST_KEY: usize = 1024;
 
 impl<T: Input> Engine<T> {
     ghost use Rattle.saphyr_scanner.specs.Views.Engine.{state, CarriesBy};
     ghost use Rattle.saphyr_scanner.specs.Steps.Queue.{next};
 
-    // The token that comes next may be a key, where one is allowed.
+    // The token that comes next may be a key, if one is allowed.
     #[inline(always)]
     pub(super) fn save_key(&mut self) -> Result<(), Stop>
         requires { 0 < length (state self.old).core.cursor.rest }
@@ -47,7 +47,7 @@ impl<T: Input> Engine<T> {
         }
     }
 
-    // The same, where a key that has to be one is refused.
+    // The same, but a candidate that must be a key is refused.
     #[inline(always)]
     #[tactic(auto, unfolding(crate::specs::Steps::Core::remove_key))]
     pub(super) fn remove_key(&mut self) -> Result<(), Stop>
@@ -74,7 +74,7 @@ impl<T: Input> Engine<T> {
         }
     }
 
-    // A candidate outside flow lapses on the next line, and where its colon would be too far.
+    // A candidate outside flow is dropped on the next line, and once its colon would be too far away.
     #[inline(always)]
     #[tactic(auto, unfolding(crate::specs::Steps::Core::drop_far_key))]
     pub(super) fn drop_far_key(&mut self) -> Result<(), Stop>

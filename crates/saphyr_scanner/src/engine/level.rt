@@ -1,4 +1,4 @@
-//! What is open at a place of the text, and which token there may be a key.
+//! What is open at a place of the text, and which token in it may be a key.
 
 ghost use Rattle.std.specs.Prelude.{◌≡◌, ◌<◌, ◌+◌, ◌^◌};
 ghost use Rattle.saphyr_scanner.specs.Steps.Level as spec;
@@ -6,19 +6,19 @@ ghost use Rattle.saphyr_scanner.specs.Steps.Level as spec;
 use saphyr_scalar::Marker;
 
 /// What is open.
-#[derive(Clone, Copy, Debug, PartialEq, Eq)]
+#[derive(Clone, Copy)]
 pub(crate) enum Context {
     /// Nothing, or block collections.
     Block,
     /// A flow mapping.
     FlowMapping,
-    /// A flow sequence with no pair open that has no bracket of its own.
+    /// A flow sequence, with no open pair that lacks brackets of its own.
     FlowSequence,
     /// A flow sequence with a pair that its colon began, as in `[a: b`.
     FlowPair,
     /// A flow sequence with a pair that `?` began, as in `[? a : b`.
     ExplicitFlowPair,
-    /// A flow sequence with a `?` behind the colon that began a pair, as in `[a: ? b`.
+    /// A flow sequence with a `?` after the colon that began a pair, as in `[a: ? b`.
     MarkedFlowPair,
 }
 
@@ -36,7 +36,7 @@ impl Context {
         }
     }
 
-    // Whether a pair is open that ends with its entry.
+    // Whether an open pair ends with its entry.
     pub(super) fn ends_pair(self) -> bool
         ensures { result ≡ spec.ends_pair self }
     {
@@ -49,7 +49,7 @@ impl Context {
         }
     }
 
-    // What is open behind a comma.
+    // What is open after a comma.
     pub(super) fn behind_entry(self) -> Context
         ensures { result ≡ spec.behind_entry self }
     {
@@ -63,7 +63,7 @@ impl Context {
         }
     }
 
-    // What is open behind `?`.
+    // What is open after `?`.
     pub(super) fn behind_question(self) -> Context
         ensures { result ≡ spec.behind_question self }
     {
@@ -74,7 +74,7 @@ impl Context {
         }
     }
 
-    // Whether a colon begins a pair that has no bracket of its own.
+    // Whether a colon begins a pair without brackets of its own.
     pub(super) fn begins_pair(self) -> bool
         ensures { result ≡ spec.begins_pair self }
     {
@@ -87,7 +87,7 @@ impl Context {
         }
     }
 
-    // What is open behind a colon.
+    // What is open after a colon.
     pub(super) fn behind_colon(self) -> Context
         ensures { result ≡ spec.behind_colon self }
     {
@@ -99,21 +99,21 @@ impl Context {
 }
 
 /// A token that may be a key, or begin one: the `[` of `[a, b]: c`, and the anchor of `&x a: b`.
-#[derive(Clone, Copy, Debug, PartialEq, Eq)]
+#[derive(Clone, Copy)]
 pub(crate) struct Candidate {
-    // Where it begins. Outside flow, its colon has to stand on this line.
+    // Where it begins. Outside flow, its colon must be on this line.
     pub(super) mark: Marker,
-    // The number of its place in the queue, where a colon has the key's token told in front of it.
+    // The number of its place in the queue. There a colon puts the key's token in front of it.
     pub(super) place: usize,
     ghost near: { mark.col + 1 < 2 ^ 64 },
 }
 
 /// What is open, and the token in it that may be a key.
-#[derive(Clone, Copy, Debug, PartialEq, Eq)]
+#[derive(Clone, Copy)]
 pub(crate) struct Level {
     // What is open.
     pub(super) context: Context,
-    // The token with which the last node began that may be a key, until its colon comes or can't come any more.
+    // The first token of the last node, if that may be a key, until its colon comes or can't come any more.
     pub(super) key: Option<Candidate>,
 }
 

@@ -1,4 +1,4 @@
-//! Scalars of all styles, and what may stand behind a quoted one (YAML 1.2.2, 7.3 and 8.1).
+//! Scalars of all styles, and what may follow a quoted one (YAML 1.2.2, 7.3 and 8.1).
 
 ghost use Rattle.std.specs.Prelude.{◌≡◌, ℕ, Ok, ◌<◌, ◌==◌, ◌||◌, IsTrue, true, false, length, slice_index, string_bytes};
 ghost use Rattle.saphyr_input.specs.Indicators.{
@@ -23,7 +23,7 @@ impl<T: Input> Engine<T> {
     ghost use Rattle.saphyr_scanner.specs.Views.Engine.{state, ActsBy};
     ghost use Rattle.saphyr_scanner.specs.Steps.Queue.{next};
 
-    // Whether the characters here may stand behind a quoted scalar that began at a place.
+    // Whether the characters here may follow a quoted scalar that began at a place.
     #[inline(always)]
     #[tactic(auto, unfolding(crate::specs::Steps::Scalar::goes_on_behind_quotes))]
     fn goes_on_behind_quotes(&mut self, start: Marker) -> bool
@@ -38,7 +38,7 @@ impl<T: Input> Engine<T> {
         }
     }
 
-    // Whether an indicator that may stand behind a quoted scalar inside flow stands here.
+    // Whether an indicator that may follow a quoted scalar inside flow is here.
     #[inline(always)]
     fn ends_at_indicator(&mut self) -> bool
         ensures flow { IsTrue result → spec.in_block (state self.old).core ≡ false }
@@ -50,7 +50,7 @@ impl<T: Input> Engine<T> {
         !self.in_block() && (c == ':' || c == ',' || c == ']' || c == '}')
     }
 
-    // What stands behind a quoted scalar.
+    // What follows a quoted scalar.
     #[inline(always)]
     #[tactic(auto, unfolding(crate::specs::Steps::Scalar::behind_quotes))]
     fn fetch_behind_quotes(
@@ -63,7 +63,7 @@ impl<T: Input> Engine<T> {
             self.old result self.new }
     {
         if self.ends_at_indicator() {
-            // For speed one look tells all: nothing stands between the two.
+            // For speed: often one look shows that nothing is between the two.
             let end = self.reader.mark();
             self.check_comment()?;
             self.adjacent = self.reader.mark().index;

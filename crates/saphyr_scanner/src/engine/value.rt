@@ -1,5 +1,5 @@
-//! The colon between a key and its value, which makes a key of what stands before it
-//! (YAML 1.2.2, 7.4.2 and 8.2.2).
+//! The colon between a key and its value, which makes a key of what comes before it (YAML
+//! 1.2.2, 7.4.2 and 8.2.2).
 
 ghost use Rattle.std.specs.Prelude.{◌≡◌, Ok, ◌+◌, ◌<◌, ◌^◌, length};
 ghost use Rattle.saphyr_scanner.specs.Steps.Value as value;
@@ -7,14 +7,28 @@ ghost use Rattle.saphyr_scanner.specs.Steps.Value as value;
 use crate::engine::{Candidate, Engine};
 use crate::queue::{Indicator, Opening};
 use saphyr_input::char_traits::is_alpha;
-use saphyr_input::input::Input;
+use saphyr_input::input::{Input, SkipTabs};
 use saphyr_scalar::{FaultText, Marker, Stop};
 
 impl<T: Input> Engine<T> {
     ghost use Rattle.saphyr_scanner.specs.Views.Engine.{state, candidate, ActsBy, CarriesBy};
 
-    // Passes what stands behind a colon, if that begins with a tab. Outside flow a space is wanted
-    // before a word.
+    // Outside flow there must be a space between a colon and a word, not a tab alone.
+    #[inline(always)]
+    fn refuse_lone_tab(&mut self, found: SkipTabs) -> Result<(), Stop>
+        ensures { CarriesBy (λ c. value.refuse_lone_tab (found, c)) self.old result self.new }
+    {
+        if !self.in_block() || found.has_valid_yaml_ws() {
+            return Ok(());
+        }
+        let c = self.reader.look();
+        if c == '-' || is_alpha(c) {
+            return Err(self.refuse_here(FaultText::ColonWithoutWhitespace));
+        }
+        Ok(())
+    }
+
+    // Passes what follows a colon, if that begins with a tab.
     #[inline(always)]
     #[tactic(auto, unfolding(crate::specs::Steps::Value::check_tab))]
     fn check_tab(&mut self) -> Result<(), Stop>
@@ -24,11 +38,7 @@ impl<T: Input> Engine<T> {
             return Ok(());
         }
         let found = self.separate()?;
-        let c = self.reader.look();
-        if self.in_block() && !found.has_valid_yaml_ws() && (c == '-' || is_alpha(c)) {
-            return Err(self.refuse_here(FaultText::ColonWithoutWhitespace));
-        }
-        Ok(())
+        self.refuse_lone_tab(found)
     }
 
     // `:`.
@@ -81,7 +91,7 @@ impl<T: Input> Engine<T> {
         Ok(())
     }
 
-    // The colon has no key on its line, or a key that `?` began.
+    // The colon has no key on its line, or its key began with `?`.
     #[tactic(auto, unfolding(crate::specs::Steps::Value::value_alone, crate::specs::Steps::Value::opening_actions))]
     fn fetch_value_alone(&mut self, begins_pair: bool, start: Marker) -> Result<(), Stop>
         requires { start.col + 1 < 2 ^ 64 }

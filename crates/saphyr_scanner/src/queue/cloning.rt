@@ -33,7 +33,7 @@ impl Clone for Place {
 }
 
 impl Queue {
-    // The same tokens, with what stands in front of each.
+    // The same tokens, with what comes in front of each.
     pub(crate) fn try_clone(&self) -> Result<Queue, AllocError>
         ensures { IfOk result (λ copy. queue copy ≡ queue self.now) }
     {

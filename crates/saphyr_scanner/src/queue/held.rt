@@ -51,7 +51,7 @@ impl Held {
         self.places.len()
     }
 
-    // Forgets the texts of tokens that were handed out, where no others are held.
+    // Forgets the texts of tokens that were handed out, if no others are held.
     #[inline(always)]
     fn clear_texts(&mut self)
         ensures { held_places self.new ≡ held_places self.old }
@@ -98,7 +98,7 @@ impl Held {
         Ok(())
     }
 
-    /// Tells what stands in front of the nth of the tokens, if there are so many.
+    /// Sets what comes in front of the nth of the tokens, if there are that many.
     pub(super) fn open(&mut self, nth: usize, opening: Opening)
         ensures { held_places self.new
             ≡ spec.places_with_opening nth opening (held_places self.old) }
@@ -131,7 +131,7 @@ impl Held {
         Ok(true)
     }
 
-    /// Takes off what is handed out next, and writes it into `token`: what stands in front of the first token, or that
+    /// Takes off what is handed out next, and writes it into `token`: what comes in front of the first token, or that
     /// token itself, which is counted.
     #[inline(always)]
     pub(super) fn take_into(

@@ -1,4 +1,4 @@
-//! Spans on one line. They are kept small, since the queue may hold all tokens of a text.
+//! Spans on one line, in a small form, since the queue may hold all tokens of a text.
 
 ghost use Rattle.std.specs.Prelude.{◌≡◌, IfSome};
 ghost use Rattle.saphyr_scanner.specs.Views.Places.{near_marker, near_span};
@@ -9,7 +9,7 @@ use saphyr_scalar::{Marker, Span};
 const MOST: usize = u32::MAX as usize;
 
 /// A place whose numbers fit into 32 bits.
-#[derive(Clone, Copy, Debug, PartialEq, Eq)]
+#[derive(Clone, Copy)]
 pub(super) struct NearMarker {
     index: u32,
     line: u32,
@@ -42,7 +42,7 @@ impl NearMarker {
         }
     }
 
-    /// The span that begins here and has so many characters on this line.
+    /// The span that begins here and has this many characters on this line.
     #[inline(always)]
     pub(super) fn span(self, length: u8) -> Span
         ensures { result ≡ near_span self length }
@@ -60,8 +60,8 @@ impl NearMarker {
     }
 }
 
-/// The place where a span begins, and the span's characters, if they stand on one line and their count fits
-/// into a byte.
+/// The place where a span begins and the number of its characters, if they are on one line and their number
+/// fits into a byte.
 #[inline(always)]
 pub(super) fn near(span: &Span) -> Option<(NearMarker, u8)>
     ensures { IfSome result (λ found. near_span found.0 found.1 ≡ span.now) }

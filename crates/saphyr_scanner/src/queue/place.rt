@@ -1,5 +1,4 @@
-//! A token that is held, and what stands in front of it. It is kept small, since the queue may hold all tokens of a
-//! text.
+//! A token that is held, and what comes in front of it, in a small form, since the queue may hold all tokens of a text.
 
 ghost use Rattle.std.specs.Prelude.{◌≡◌, ℕ, List, IfOk, OnOk, string_bytes};
 ghost use Rattle.saphyr_scanner.specs.Steps.Queue as spec;
@@ -23,8 +22,8 @@ use saphyr_scalar::scalar::TagParts;
 use saphyr_scalar::{Marker, ScalarStyle, Span, Spare};
 use std::alloc::{AllocError, Global};
 
-/// What the tokens of collections are, which have no text.
-#[derive(Clone, Copy, Debug, PartialEq, Eq)]
+/// The kinds of tokens of collections, which have no text.
+#[derive(Clone, Copy)]
 pub(crate) enum Indicator {
     SequenceStart,
     SequenceEnd,
@@ -60,8 +59,8 @@ impl Indicator {
     }
 }
 
-/// What a text on one line is.
-#[derive(Clone, Copy, Debug, PartialEq, Eq)]
+/// The kind of a token with a text on one line.
+#[derive(Clone, Copy)]
 pub(super) enum TextKind {
     Alias,
     Anchor,
@@ -85,11 +84,10 @@ impl TextKind {
     }
 }
 
-/// A token, and in front of it what is handed out before it.
+/// A token, and what is handed out before it.
 ///
-/// All but the last are tokens on one line, of which the place is kept, and how many characters they have. A text
-/// stands among those of all that are held. A place has 24 bytes, since the fields of one byte stand beside one
-/// another.
+/// All but the last are tokens on one line, kept as the place and the number of characters. A token's text is among
+/// those of all held tokens. A place has 24 bytes, since the fields of one byte are next to one another.
 #[derive(Drop)]
 pub(super) enum Place {
     Bare(Opening, Indicator, u8, NearMarker),
@@ -100,7 +98,7 @@ pub(super) enum Place {
 }
 
 impl Place {
-    /// The place of a token, with nothing in front of it. Its text is kept behind `texts`.
+    /// The place of a token, with nothing in front of it. Its text is appended to `texts`.
     #[inline(always)]
     pub(super) fn new(
         alloc: Global,
@@ -133,7 +131,7 @@ impl Place {
         Ok(Place::Bare(Opening::Nothing, indicator, length, start))
     }
 
-    /// The same of an indicator. On one line it has its place without its kind being made and told apart again.
+    /// The same for an indicator. On one line its kind need not be made and distinguished again.
     #[inline(always)]
     pub(super) fn of_indicator(
         alloc: Global,
@@ -149,7 +147,7 @@ impl Place {
         Ok(Place::Bare(Opening::Nothing, indicator, length, start))
     }
 
-    // The same of a token on one line that is none of the indicators.
+    // The same for a token on one line that is none of the indicators.
     #[inline(always)]
     fn of_text(
         alloc: Global,
@@ -179,7 +177,7 @@ impl Place {
         Ok(Place::Text(Opening::Nothing, what, length, start, place))
     }
 
-    // The same of any token.
+    // The same for any token.
     fn whole(alloc: Global, span: &Span, kind: TokenType) -> Result<Place, AllocError>
         ensures { (bytes : List ℕ) → IfOk result (IsBarePlaceOf bytes
             (record { span = span.now; kind = kind_of kind })) }
@@ -188,7 +186,7 @@ impl Place {
         Ok(Place::Whole(Opening::Nothing, token))
     }
 
-    /// What stands in front of the token.
+    /// What comes in front of the token.
     #[inline(always)]
     pub(super) fn opening(&self) -> Opening
         ensures { (bytes : List ℕ) → result ≡ (place bytes self.now).opening }
@@ -201,7 +199,7 @@ impl Place {
         }
     }
 
-    /// Tells what stands in front of the token.
+    /// Sets what comes in front of the token.
     #[inline(always)]
     pub(super) fn open(&mut self, before: Opening)
         ensures place { (bytes : List ℕ) → place bytes self.new
@@ -229,7 +227,7 @@ impl Place {
         }
     }
 
-    /// Writes the token into `token`, whose text stands among `texts`.
+    /// Writes the token into `token`. Its text is among `texts`.
     #[inline(always)]
     pub(super) fn write_into(
         self,
@@ -266,5 +264,5 @@ impl Place {
     }
 }
 
-// Texts that hold all their tokens have one for each byte or two.
+// Texts whose tokens are all held have one for each byte or two.
 const _: () = prove!(size_of::<Place>() == 24);

@@ -1,4 +1,4 @@
-//! A place for a token that is not held for long. Nothing is allocated for it, and its span is kept as it is.
+//! A place for a token that is held only briefly. Nothing is allocated for it, and its span is kept as it is.
 
 ghost use Rattle.std.specs.Prelude.{◌≡◌, ◌∷◌, ◌+◌, ◌<◌, ◌^◌, List, Some, true, false, IfOk};
 ghost use Rattle.saphyr_scanner.specs.Steps.Queue as spec;
@@ -14,7 +14,7 @@ use std::mem::{forget, replace};
 /// A place for a token.
 #[derive(Drop)]
 pub(super) struct Slot {
-    // Whether a token stands here.
+    // Whether a token is here.
     pub(super) is_full: bool,
     // The token, or one that was handed out.
     token: Token,
@@ -40,13 +40,13 @@ impl Slot {
         ensures place { slot_place self.new ≡ spec.bare_place (piece token) }
     {
         self.token.span = token.span;
-        // What stood here was taken: for speed no code for its drop stands here.
+        // What was here was taken. For speed there is no code to drop it.
         forget(replace(&mut self.token.kind, token.kind));
         self.opening = Opening::Nothing;
         self.is_full = true;
     }
 
-    /// Writes into `token` what is handed out next: what stands in front of the token here, or that token itself, which
+    /// Writes into `token` what is handed out next: what comes in front of the token here, or that token itself, which
     /// is counted.
     #[inline(always)]
     pub(super) fn take_into(&mut self, token: &mut Token, handed: &mut usize)

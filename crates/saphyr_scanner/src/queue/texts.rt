@@ -1,4 +1,4 @@
-//! The texts of the tokens that are held, behind one another in one piece of memory.
+//! The texts of the tokens that are held, one after another in one piece of memory.
 
 ghost use Rattle.std.specs.Prelude.{◌≡◌, [], IfOk, IfSome};
 ghost use Rattle.saphyr_scanner.specs.Views.Places.{GrowsBehind, IsHeldText, IsHeldAs, text_at};
@@ -6,8 +6,8 @@ ghost use Rattle.saphyr_scanner.specs.Views.Places.{GrowsBehind, IsHeldText, IsH
 use std::alloc::{AllocError, Global};
 use std::str;
 
-/// Where a text stands among those that are held, and how many bytes it has.
-#[derive(Clone, Copy, Debug, PartialEq, Eq)]
+/// Where a text is among those that are held, and how many bytes it has.
+#[derive(Clone, Copy)]
 pub(super) struct TextPlace {
     start: u32,
     count: u32,
@@ -28,7 +28,7 @@ impl Texts {
         }
     }
 
-    /// Keeps a text behind the others, if its place can be told by 32 bits.
+    /// Keeps a text after the others, if its place fits into 32 bits.
     #[inline(always)]
     pub(super) fn keep(&mut self, text: &str) -> Result<Option<TextPlace>, AllocError>
         ensures grows { GrowsBehind self.old.bytes.items self.new.bytes.items }
@@ -55,7 +55,7 @@ impl Texts {
         unsafe { str::from_utf8_unchecked(bytes) }
     }
 
-    /// Forgets all texts. Their memory stays for others.
+    /// Forgets all texts. Their memory is kept for others.
     #[inline(always)]
     pub(super) fn clear(&mut self)
         ensures { self.new.bytes.items ≡ [] }

@@ -9,7 +9,7 @@ use std::alloc::AllocError;
 #[derive(Drop)]
 pub(super) struct Source<I: Iterator<Item = char>> {
     iter: I,
-    // 0 from the first `None` of the iterator on.
+    // 0 after the first `None` of the iterator.
     left: u64,
     ghost bounded: { left ≤ 4294967296 },
     ghost listed: { Pending I.can_next I.next_gives left iter } by { Pending-prop I.can_next I.next_gives left iter },

@@ -1,4 +1,4 @@
-//! What stands at the front of a text, read by bytes as far as these are ASCII.
+//! Reads the front of a text, by bytes as far as these are ASCII.
 ghost use Rattle.std.specs.Prelude.{◌≡◌, ℕ, ◌+◌, ◌<◌, ◌≤◌, Bool, false, ◌==◌, IfNone, IfSome, refl, take, drop, slice_index};
 ghost use Rattle.std.specs.List.{prefix_len, list_any};
 ghost use Rattle.std.specs.Str.{chars};
@@ -19,7 +19,7 @@ pub(super) fn first_byte(text: &str) -> char
     text.as_bytes().first().copied().unwrap_or(0) as char
 }
 
-// The first character, or NUL at the end, and what stands behind it.
+// The first character, or NUL at the end, and what follows it.
 #[inline]
 pub(super) fn split_first(text: &str) -> (char, &str)
     ensures first { result.0 ≡ slice_index (chars text.now) 0 }
@@ -30,7 +30,7 @@ pub(super) fn split_first(text: &str) -> (char, &str)
     (first, rest.as_str())
 }
 
-// What stands behind the first `count` characters.
+// What follows the first `count` characters.
 #[inline]
 pub(super) fn behind(text: &str, count: usize) -> &str
     ensures { chars result.now ≡ drop count (chars text.now) }
@@ -71,7 +71,7 @@ pub(super) fn nth_char(text: &str, n: usize) -> char
     text.chars().nth(n).unwrap_or('\0')
 }
 
-// Whether the bytes begin with three of these marks, and behind them stands a blank, a break, NUL or the end.
+// Whether the bytes begin with three of these marks, and then a blank, a break, NUL or the end.
 #[inline]
 fn bytes_begin_with_marker(bytes: &[u8], mark: u8) -> bool
     requires { 0 < mark }
@@ -84,7 +84,7 @@ fn bytes_begin_with_marker(bytes: &[u8], mark: u8) -> bool
         && (bytes.len() == 3 || is_blank_or_breakz(bytes[3] as char))
 }
 
-// Whether three of these marks come first, and behind them a blank, a break, NUL or the end.
+// Whether three of these marks come first, and then a blank, a break, NUL or the end.
 #[inline]
 pub(super) fn is_marker(text: &str, mark: u8) -> bool
     requires some { 0 < mark }
@@ -100,7 +100,7 @@ fn ascii_len<C: CharSet>(bytes: &[u8]) -> usize
     ensures { result ≡ prefix_len (spec.ascii_in C.test) bytes.now }
 {
     let mut len = 0;
-    // Four bytes a turn, since the turn itself takes as many instructions as the look at a byte.
+    // Four bytes a turn, since a turn itself takes as many instructions as the test of a byte.
     'fours: while bytes.len() - len >= 4 {
         if !C::has_ascii(bytes[len]) {
             return len;
@@ -125,7 +125,7 @@ fn ascii_len<C: CharSet>(bytes: &[u8]) -> usize
     len
 }
 
-// The run of the class up to its first character that isn't ASCII: how long it is, and what stands behind it.
+// The run of the class up to its first character that isn't ASCII: how long it is, and what follows it.
 #[inline]
 pub(super) fn ascii_run<C: CharSet>(text: &str) -> (usize, &str)
     ensures part { result.0 + prefix_len C.test (chars result.1.now)
@@ -138,7 +138,7 @@ pub(super) fn ascii_run<C: CharSet>(text: &str) -> (usize, &str)
     (count, &text[count..])
 }
 
-// What stands behind the first character, if this is of the class and no ASCII character.
+// What follows the first character, if this is in the class and not ASCII.
 #[inline]
 fn strip_char<C: CharSet>(text: &str) -> Option<&str>
     requires { spec.ascii_in C.test (slice_index text.now 0) ≡ false }
@@ -147,7 +147,7 @@ fn strip_char<C: CharSet>(text: &str) -> Option<&str>
         ≡ 1 + prefix_len C.test (chars rest.now)) }
     ensures rest { IfSome result (λ rest. chars rest.now ≡ drop 1 (chars text.now)) }
 {
-    // An ASCII character would be of the run already.
+    // An ASCII character would already be in the run.
     let byte = text.as_bytes().first().copied().unwrap_or(0);
     if byte < 0x80 {
         return None;
@@ -156,13 +156,13 @@ fn strip_char<C: CharSet>(text: &str) -> Option<&str>
     if C::has(first) { Some(rest) } else { None }
 }
 
-// The longest run of the class: how many characters it has, and what stands behind it.
+// The longest run of the class: how many characters it has, and what follows it.
 #[inline]
 pub(super) fn run<C: CharSet>(text: &str) -> (usize, &str)
     ensures count { result.0 ≡ prefix_len C.test (chars text.now) }
     ensures rest { chars result.1.now ≡ drop result.0 (chars text.now) }
 {
-    // The bytes are fewer than 2^64, and the characters no more.
+    // There are fewer than 2^64 bytes, and no more characters than bytes.
     let _ = text.as_bytes();
     let (mut count, mut rest) = ascii_run::<C>(text);
     while let Some(after) = strip_char::<C>(rest) {
@@ -173,7 +173,7 @@ pub(super) fn run<C: CharSet>(text: &str) -> (usize, &str)
     (count, rest)
 }
 
-// What stands behind a space that comes first, if a character of the set for which a test is known stands there.
+// What follows a leading space, if that is a character of the set for which a test is known.
 #[inline]
 fn strip_space<C: SpacedSet>(text: &str) -> Option<&str>
     ensures some { IfSome result (λ rest. places.words_len C.CharSet.test C.lead (chars text.now)
@@ -188,14 +188,14 @@ fn strip_space<C: SpacedSet>(text: &str) -> Option<&str>
     }
 }
 
-// Words of a set, with single spaces between them: how many characters, and what stands behind them.
+// Words of a set, with single spaces between them: how many characters, and what follows them.
 #[inline]
 pub(super) fn words<C: SpacedSet>(text: &str) -> (usize, &str)
     ensures count { result.0 ≤ places.words_len C.CharSet.test C.lead (chars text.now) }
     ensures stops { C.CharSet.test (slice_index (chars result.1.now) 0) ≡ false }
     ensures rest { chars result.1.now ≡ drop result.0 (chars text.now) }
 {
-    // The bytes are fewer than 2^64, and the characters no more.
+    // There are fewer than 2^64 bytes, and no more characters than bytes.
     let _ = text.as_bytes();
     let (mut count, mut rest) = run::<C>(text);
     while let Some(after) = strip_space::<C>(rest) {
@@ -218,7 +218,7 @@ fn leading_spaces(bytes: &[u8], most: usize) -> usize
     count
 }
 
-// The spaces that come first, but no more than `most`: how many, and what stands behind them.
+// The leading spaces, but no more than `most`: how many, and what follows them.
 #[inline]
 pub(super) fn spaces(text: &str, most: usize) -> (usize, &str)
     ensures count { result.0 ≡ places.spaces_within most (chars text.now) }
@@ -228,7 +228,7 @@ pub(super) fn spaces(text: &str, most: usize) -> (usize, &str)
     (count, &text[count..])
 }
 
-// The blanks that come first: how many, and which were met.
+// The leading blanks: how many, and which were met.
 #[derive(Clone, Copy)]
 pub(super) struct Blanks {
     pub(super) count: usize,
@@ -236,7 +236,7 @@ pub(super) struct Blanks {
     pub(super) spaces: bool,
 }
 
-// The spaces that come first, and tabs among them where these are asked for.
+// The leading spaces, and the tabs among them if they are asked for.
 #[inline]
 fn leading_blanks(bytes: &[u8], with_tabs: bool) -> Blanks
     ensures count { result.count ≡ prefix_len (spec.is_passed_blank with_tabs) bytes.now }
@@ -262,7 +262,7 @@ fn leading_blanks(bytes: &[u8], with_tabs: bool) -> Blanks
     }
 }
 
-// The blanks that come first, and what stands behind them.
+// The leading blanks, and what follows them.
 #[inline]
 pub(super) fn split_blanks(text: &str, skip_tabs: SkipTabs) -> (Blanks, &str)
     ensures count { result.0.count ≡ separation.blank_len skip_tabs (chars text.now) }

@@ -1,5 +1,5 @@
-//! What the line breaks of block scalars are read as: kept or folded before a line, and chomped behind the last
-//! (YAML 1.2.2, 8.1.1.2 and 8.1.3).
+//! What the line breaks of block scalars are read as: kept or folded before a line, and chomped after the last (YAML
+//! 1.2.2, 8.1.1.2 and 8.1.3).
 
 ghost use Rattle.std.specs.Prelude.{◌≡◌, ◌+◌, ◌++◌, string_bytes, OnOk, encode_utf8_all};
 ghost use Rattle.saphyr_scalar.specs.Steps.Block as spec;
@@ -8,14 +8,14 @@ ghost use Rattle.saphyr_values.specs.Folding.{line_feeds};
 use saphyr_values::{BlockStyle, Chomping};
 use std::alloc::AllocError;
 
-// What stands behind the last content: whether a break ends its line, and the empty lines.
+// What follows the last content: whether a break ends its line, and the empty lines.
 #[derive(Clone, Copy)]
 pub(crate) struct BlockEnd {
     pub(crate) broken: bool,
     pub(crate) empty_lines: usize,
 }
 
-// Appends so many line feeds.
+// Appends this many line feeds.
 pub(crate) fn push_line_feeds(text: &mut String, count: usize) -> Result<(), AllocError>
     ensures { OnOk result (string_bytes text.new
         ≡ string_bytes text.old ++ encode_utf8_all (line_feeds count)) }
@@ -26,8 +26,8 @@ pub(crate) fn push_line_feeds(text: &mut String, count: usize) -> Result<(), All
     Ok(())
 }
 
-// Appends the breaks before a content line, by whether it and the content line above, where there
-// is one, begin with a blank.
+// Appends the breaks before a content line, by whether it and the content line above, if there is
+// one, begin with a blank.
 #[tactic(auto, using(crate::proofs::Block::Lines::feed_first))]
 pub(crate) fn push_break_before(
     text: &mut String,
@@ -50,7 +50,22 @@ pub(crate) fn push_break_before(
     push_line_feeds(text, empty_lines)
 }
 
-// Appends what stays of the breaks behind the last content.
+// How many line feeds are left of the breaks after the last content: for its line, and for the empty lines.
+fn kept_breaks(chomping: Chomping, unfinished: bool, end: BlockEnd) -> (usize, usize)
+    ensures { line_feeds result.0 ++ line_feeds result.1 ≡ spec.tail chomping unfinished end }
+{
+    match chomping {
+        Chomping::Strip => (0, 0),
+        Chomping::Clip => (usize::from(end.broken || unfinished), 0),
+        Chomping::Keep => (
+            usize::from(end.broken) + usize::from(unfinished),
+            end.empty_lines,
+        ),
+    }
+}
+
+// Appends what is left of the breaks after the last content.
+#[tactic(auto, using(crate::proofs::Block::Lines::feeds_join))]
 pub(crate) fn push_tail(
     text: &mut String,
     chomping: Chomping,
@@ -60,22 +75,7 @@ pub(crate) fn push_tail(
     ensures { OnOk result (string_bytes text.new
         ≡ string_bytes text.old ++ encode_utf8_all (spec.tail chomping unfinished end)) }
 {
-    match chomping {
-        Chomping::Strip => Ok(()),
-        Chomping::Clip => {
-            if end.broken || unfinished {
-                push_line_feeds(text, 1)?;
-            }
-            Ok(())
-        }
-        Chomping::Keep => {
-            if end.broken {
-                push_line_feeds(text, 1)?;
-            }
-            if unfinished {
-                push_line_feeds(text, 1)?;
-            }
-            push_line_feeds(text, end.empty_lines)
-        }
-    }
+    let (breaks, empty_lines) = kept_breaks(chomping, unfinished, end);
+    push_line_feeds(text, breaks)?;
+    push_line_feeds(text, empty_lines)
 }

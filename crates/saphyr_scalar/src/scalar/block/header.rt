@@ -10,7 +10,7 @@ use saphyr_input::char_traits::{is_breakz, is_digit};
 use saphyr_input::input::{Input, SkipTabs};
 use saphyr_values::Chomping;
 
-// What a header says: the indicator of the indentation is 0 where none stands.
+// What a header says. The indentation indicator is 0 if there is none.
 #[derive(Clone, Copy)]
 pub(crate) struct BlockHeader {
     pub(crate) chomping: Chomping,
@@ -31,7 +31,7 @@ pub(crate) fn given_indentation(indent: usize, indicator: usize) -> Option<usize
 impl<T: Input> Reader<T> {
     ghost use Rattle.saphyr_scalar.specs.Views.Reader.{cursor_of, GivesBy, PassesBy};
 
-    // Takes off the chomping indicator that stands first, where one does.
+    // Takes off a chomping indicator, if one comes first.
     #[tactic(auto, using(crate::proofs::Block::Lines::read_left), unfolding(crate::specs::Steps::Block::chomping))]
     fn read_chomping(&mut self) -> Option<Chomping>
         ensures { (result, cursor_of self.new) ≡ spec.chomping (cursor_of self.old) }
@@ -45,7 +45,7 @@ impl<T: Input> Reader<T> {
         Some(chomping)
     }
 
-    // Takes off the indentation indicator that stands first, and gives 0 where none does.
+    // Takes off an indentation indicator, if one comes first. Otherwise returns 0.
     #[tactic(auto, using(crate::proofs::Block::Lines::read_left), unfolding(crate::specs::Steps::Block::indicator))]
     fn read_indentation_indicator(&mut self, start: Marker) -> Result<usize, Refusal>
         ensures { GivesBy (spec.indicator start) self.old result self.new }
@@ -64,12 +64,11 @@ impl<T: Input> Reader<T> {
         Ok(c as usize - '0' as usize)
     }
 
-    // Takes off the end of a header's line.
-    #[tactic(auto, unfolding(crate::specs::Steps::Block::header_end, crate::specs::Steps::Block::header_break))]
-    fn end_block_header(&mut self, start: Marker) -> Result<(), Refusal>
-        ensures { PassesBy (spec.header_end start) self.old result self.new }
+    // Takes off the break of a header's line, behind which no tab may stand.
+    #[tactic(auto, unfolding(crate::specs::Steps::Block::header_break))]
+    fn skip_header_break(&mut self, start: Marker) -> Result<(), Refusal>
+        ensures { PassesBy (spec.header_break start) self.old result self.new }
     {
-        self.skip_ws_to_eol(SkipTabs::Yes)?;
         if !is_breakz(self.look()) {
             return Err(Refusal {
                 text: FaultText::BlockScalarHeaderEndExpected,
@@ -86,7 +85,16 @@ impl<T: Input> Reader<T> {
         Ok(())
     }
 
-    // The chomping, whose indicator may stand behind that of the indentation.
+    // Takes off the end of a header's line.
+    #[tactic(auto, unfolding(crate::specs::Steps::Block::header_end))]
+    fn end_block_header(&mut self, start: Marker) -> Result<(), Refusal>
+        ensures { PassesBy (spec.header_end start) self.old result self.new }
+    {
+        self.skip_ws_to_eol(SkipTabs::Yes)?;
+        self.skip_header_break(start)
+    }
+
+    // The chomping, whose indicator may follow that of the indentation.
     #[tactic(auto, unfolding(crate::specs::Steps::Block::last_chomping))]
     fn read_last_chomping(&mut self, first: Option<Chomping>) -> Chomping
         ensures { (result, cursor_of self.new) ≡ spec.last_chomping first (cursor_of self.old) }

@@ -1,5 +1,4 @@
-//! Laws: what the reader of block scalars promises in the standard's words (YAML 1.2.2, 8.1): what is read is a block
-//! scalar.
+//! Laws of the reader of block scalars in the standard's words (YAML 1.2.2, 8.1): what is read is a block scalar.
 
 ghost use Rattle.std.specs.Prelude.{◌≡◌, ℕ, ◌<◌, List, Ok, false, length, slice_index};
 ghost use Rattle.saphyr_input.specs.Classes.{is_break};
@@ -10,8 +9,8 @@ ghost use Rattle.saphyr_scalar.specs.Reading.BlockText.{IsBlockText};
 use crate::scalar::position::Span;
 use saphyr_values::BlockStyle;
 
-/// What is read as a block scalar is one: a header's line and lines, of which its text is the value.
-/// No content stands before its span.
+/// What is read as a block scalar is one: a header's line and lines whose value is its text. No
+/// content comes before its span.
 pub fn reads_block_texts()
     ensures { (style : BlockStyle) (indent : ℕ) (s t : Cursor) (text : List ℕ) (span : Span)
         → is_break (slice_index s.rest 0) ≡ false → 0 < length s.rest

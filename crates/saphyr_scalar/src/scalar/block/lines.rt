@@ -12,7 +12,7 @@ use saphyr_input::char_traits::{is_break, is_yaml_non_break};
 use saphyr_input::input::Input;
 use saphyr_values::BlockStyle;
 
-// Lines of spaces alone: how many breaks end them, and the column that the longest reaches.
+// Lines with only spaces: how many breaks end them, and the column that the longest reaches.
 #[derive(Clone, Copy)]
 pub(crate) struct EmptyLines {
     pub(crate) count: usize,
@@ -33,7 +33,7 @@ fn indentation_left(limit: Option<usize>, col: usize) -> usize
 impl<T: Input> Reader<T> {
     ghost use Rattle.saphyr_scalar.specs.Views.Reader.{cursor_of, loaded, WritesBy, AppendsBy};
 
-    // Takes off empty lines and the indentation behind them, which may have a limit.
+    // Takes off empty lines and the indentation after them, which may have a limit.
     pub(crate) fn skip_empty_block_lines(
         &mut self,
         limit: Option<usize>,
@@ -83,8 +83,8 @@ impl<T: Input> Reader<T> {
         Ok(())
     }
 
-    // Moves the content lines to the end of a text, behind some empty lines, and gives what stands
-    // behind the last content.
+    // Moves the content lines to the end of a text, after some empty lines, and returns what follows the
+    // last content.
     pub(crate) fn read_block_lines(
         &mut self,
         style: BlockStyle,

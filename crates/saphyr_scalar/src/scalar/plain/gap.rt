@@ -1,5 +1,5 @@
-//! What stands between two words of a plain scalar: blanks, or line breaks and empty lines, which are folded
-//! (YAML 1.2.2, 7.3.3 and 6.5).
+//! What is between two words of a plain scalar: blanks, or line breaks and empty lines, which are folded (YAML
+//! 1.2.2, 7.3.3 and 6.5).
 
 ghost use Rattle.std.specs.Prelude.{◌≡◌, ◌≤◌, ◌++◌, slice_index, string_bytes, OnOk, true};
 ghost use Rattle.saphyr_input.specs.Places as place;
@@ -36,8 +36,8 @@ pub(super) fn push_gap(text: &mut String, over_lines: bool, gap: &str) -> Result
 impl<T: Input> Reader<T> {
     ghost use Rattle.saphyr_scalar.specs.Views.Reader.{cursor_of, loaded, PassesBy, WritesBy};
 
-    // Whether the content of a line, behind its blanks, may stand there: where a tab stands in the
-    // indentation, only a comment may.
+    // Whether the content of a line, after its blanks, is allowed there. If a tab is in the indentation, only a
+    // comment is.
     #[tactic(auto, unfolding(crate::specs::Steps::Plain::content_behind_tab))]
     fn check_plain_tab(&mut self, start: Marker, tabbed: bool) -> Result<(), Refusal>
         ensures { PassesBy (spec.content_behind_tab start tabbed) self.old result self.new }
@@ -61,8 +61,8 @@ impl<T: Input> Reader<T> {
         Ok(())
     }
 
-    // Takes off `c`, a blank or a break of the lines behind a word, with a line feed for the break at
-    // the end of a text. Gives whether a tab stands in the indentation of the line that is reached.
+    // Takes off `c`, a blank or a break of the lines after a word, and appends a line feed for the break to
+    // a text. Returns whether a tab is in the indentation of the line that is reached.
     #[tactic(auto, using(crate::proofs::Plain::Lines::some_blank), unfolding(crate::specs::Steps::Plain::pass_white))]
     fn skip_plain_white(
         &mut self,
@@ -87,9 +87,9 @@ impl<T: Input> Reader<T> {
         Ok(tabbed || in_indentation)
     }
 
-    // Takes off blanks and breaks from the start of a line on, with a line feed for each line of
-    // them at the end of a text. Gives whether a tab stands in the indentation of the line that is
-    // reached, which is a comment or nothing then.
+    // Takes off blanks and breaks from the start of a line on, and appends a line feed for each such
+    // line to a text. Returns whether a tab is in the indentation of the line that is reached. Then
+    // that line is a comment or empty.
     pub(super) fn skip_empty_lines(
         &mut self,
         indent: usize,
@@ -113,9 +113,8 @@ impl<T: Input> Reader<T> {
         Ok(tabbed)
     }
 
-    // Takes off what stands behind a word, and puts it in place of a text: its blanks, or a line
-    // feed for each empty line. Gives whether a tab stands in the indentation of the line that is
-    // reached.
+    // Takes off what follows a word, and replaces a text by it: by the blanks, or a line feed for each
+    // empty line. Returns whether a tab is in the indentation of the line that is reached.
     #[inline]
     #[tactic(auto, unfolding(crate::specs::Steps::Plain::gap, crate::specs::Steps::Plain::gap_from))]
     pub(super) fn read_plain_gap(

@@ -13,7 +13,7 @@ use saphyr_input::char_traits::{is_blank_or_breakz, is_bom, is_flow};
 use saphyr_input::input::Input;
 use std::alloc::AllocError;
 
-// The characters of a plain scalar outside flow, without a colon, with which a word goes on wherever they stand.
+// The characters, without the colon, with which a word of a plain scalar outside flow always goes on.
 pub(crate) struct PlainOutside;
 
 impl CharSet for PlainOutside {
@@ -88,7 +88,7 @@ impl<T: Input> Reader<T> {
         Ok(self.is_in_plain_word(c, in_flow))
     }
 
-    // Whether a word goes on with c, the first character.
+    // Whether a word goes on with `c`, the first character.
     #[inline(always)]
     #[tactic(auto, unfolding(crate::specs::Steps::Plain::is_in_word))]
     fn is_in_plain_word(&mut self, c: char, in_flow: bool) -> bool
@@ -107,7 +107,7 @@ impl<T: Input> Reader<T> {
     }
 
     // Moves characters of words without colons, and single spaces between them, to the end of a
-    // text, and gives how many. The place stays.
+    // text, and returns how many. The place stays.
     #[inline(always)]
     fn fetch_plain_words(&mut self, in_flow: bool, text: &mut String) -> Result<usize, AllocError>
         ensures words { IfOk result (λ n. TransfersWords (sets.in_plain in_flow)
@@ -115,7 +115,7 @@ impl<T: Input> Reader<T> {
             (string_bytes text.old) (string_bytes text.new)) }
         ensures mark { (cursor_of self.new).mark ≡ (cursor_of self.old).mark }
     {
-        // For speed: colons may stand in a row, and a run of nothing before each costs more than this look.
+        // For speed: there may be several colons in a row, and an empty run before each costs more than this look.
         if self.look() == ':' {
             return Ok(0);
         }
@@ -126,8 +126,8 @@ impl<T: Input> Reader<T> {
         }
     }
 
-    // Moves the rest of a word to the end of a text, and words behind it before each of which a
-    // single space stands.
+    // Moves the rest of a word to the end of a text, and the words after it, each with a single space
+    // before it.
     pub(super) fn read_plain_words(
         &mut self,
         in_flow: bool,

@@ -1,11 +1,12 @@
-//! What stands between two words of a quoted scalar: blanks, or a line break, escaped or not, and the empty lines
-//! behind it (YAML 1.2.2, 7.3.1, 7.3.2 and 6.5).
+//! What is between two words of a quoted scalar: blanks, or a line break, escaped or not, and the empty lines after it
+//! (YAML 1.2.2, 7.3.1, 7.3.2 and 6.5).
 
 ghost use Rattle.std.specs.Prelude.{◌≡◌, ℕ, Bool, false, ◌==◌, ◌++◌, slice_index, string_bytes, encode_utf8_all, OnOk, IsTrue};
 ghost use Rattle.saphyr_input.specs.Classes as class;
 ghost use Rattle.saphyr_scalar.specs.Steps.Quoted as spec;
 ghost use Rattle.saphyr_values.specs.Flow as flow;
 
+use crate::scalar::block::push_line_feeds;
 use crate::scalar::fault::{FaultText, Refusal, Stop};
 use crate::scalar::position::Marker;
 use crate::scalar::reader::Reader;
@@ -14,7 +15,7 @@ use saphyr_input::input::Input;
 use saphyr_values::Quote;
 use std::alloc::AllocError;
 
-// Moves what a line break and the empty lines behind it read as to the end of a text.
+// Appends what a line break and the empty lines after it read as to a text.
 fn push_folded_break(text: &mut String, escaped: bool, empty_lines: usize) -> Result<(), AllocError>
     ensures { OnOk result (string_bytes text.new
         ≡ string_bytes text.old ++ encode_utf8_all (spec.folded_break escaped empty_lines)) }
@@ -22,10 +23,7 @@ fn push_folded_break(text: &mut String, escaped: bool, empty_lines: usize) -> Re
     if !escaped && empty_lines == 0 {
         return text.push(' ');
     }
-    for _ in 0..empty_lines {
-        text.push('\n')?;
-    }
-    Ok(())
+    push_line_feeds(text, empty_lines)
 }
 
 impl<T: Input> Reader<T> {
@@ -50,8 +48,7 @@ impl<T: Input> Reader<T> {
         Ok(())
     }
 
-    // Takes off the empty lines, and the blanks before what stands behind them, and counts those
-    // lines.
+    // Takes off the empty lines, and the blanks before what follows them. Returns how many lines.
     fn skip_quoted_lines(&mut self, indent: usize) -> Result<usize, Refusal>
         ensures same { (quote : Quote) → (start : Marker) → (escaped : Bool)
             → spec.ReadsFurther result
@@ -85,7 +82,7 @@ impl<T: Input> Reader<T> {
         }
     }
 
-    // Whether a word, or the closing quote, may stand here on a later line.
+    // Whether a word or the closing quote may be here on a later line.
     #[tactic(auto, unfolding(crate::specs::Steps::Quoted::quoted_line))]
     fn check_quoted_line(&mut self, indent: usize, start: Marker) -> Result<(), Refusal>
         ensures { PassesBy (spec.quoted_line indent start) self.old result self.new }
@@ -103,8 +100,8 @@ impl<T: Input> Reader<T> {
         Err(Refusal { text, mark: start })
     }
 
-    // Takes off the empty lines behind a break, and the blanks before what stands behind them, and
-    // moves what the break and they read as to the end of a text.
+    // Takes off the empty lines after a break, and the blanks before what follows them. Appends what the
+    // break and these lines read as to a text.
     fn read_quoted_lines(
         &mut self,
         escaped: bool,
@@ -126,8 +123,8 @@ impl<T: Input> Reader<T> {
         Ok(())
     }
 
-    // Takes off an escaped break and what stands behind it, up to the next word or the closing
-    // quote, and moves what it reads as to the end of a text.
+    // Takes off an escaped break and what follows it, up to the next word or the closing quote. Appends
+    // what this reads as to a text.
     fn read_escaped_break(
         &mut self,
         quote: Quote,
@@ -150,8 +147,8 @@ impl<T: Input> Reader<T> {
         self.read_quoted_lines(true, indent, start, text)
     }
 
-    // Takes off what stands between two words, up to the next word or the closing quote, and moves
-    // what it reads as to the end of a text.
+    // Takes off what is between two words, up to the next word or the closing quote. Appends what it
+    // reads as to a text.
     pub(super) fn read_quoted_gap(
         &mut self,
         quote: Quote,

@@ -84,7 +84,7 @@ impl SpacedSet for InDouble {
 impl<T: Input> Reader<T> {
     ghost use Rattle.saphyr_scalar.specs.Views.Reader.{cursor_of, GivesBy, ReadsOn, IsNoLonger};
 
-    // Moves words, and single spaces between them, to the end of a text, and gives how many
+    // Moves words, and single spaces between them, to the end of a text, and returns how many
     // characters. The place stays.
     #[inline(always)]
     fn fetch_literal_words(&mut self, quote: Quote, text: &mut String) -> Result<usize, AllocError>
@@ -117,8 +117,8 @@ impl<T: Input> Reader<T> {
         Ok(())
     }
 
-    // The same behind an escape: there mostly stands another, or the closing quote, and to look is cheaper than to
-    // move nothing.
+    // The same after an escape. Mostly another escape or the closing quote follows, and to look is cheaper than to move
+    // nothing.
     #[inline(always)]
     fn read_literal_words(&mut self, quote: Quote, text: &mut String) -> Result<(), AllocError>
         ensures { OnOk result
@@ -131,7 +131,7 @@ impl<T: Input> Reader<T> {
         self.take_literal_words(quote, text)
     }
 
-    // Takes off an escape, or a quote that two single ones stand for, if one is next.
+    // Takes off an escape, or two single quotes that stand for one, if they come next.
     #[tactic(auto, unfolding(crate::specs::Steps::Quoted::special))]
     fn read_quoted_special(&mut self, quote: Quote, start: Marker) -> Result<Option<char>, Refusal>
         ensures { GivesBy (spec.special quote start) self.old result self.new }

@@ -1,5 +1,17 @@
+use Rattle.std.proofs.Common.{◌≡◌, true, slice_index, sym, ap, ◌∙◌}
+use Rattle.saphyr_input.specs.Classes.{is_break}
+use Rattle.saphyr_scalar.specs.Views.Reader.{cursor_of}
+use Rattle.saphyr_scalar.proofs.Quoted.Lines.{break_on_shorter}
 use Rattle.saphyr_scanner.proofs.Gaps.{line_comment_passed}
 use Rattle.saphyr_scanner.proofs.gap.skip_spaces.Goals as goal
+
+pub loop-space-smaller-then-is_break : goal.loop-space-smaller-then-is_break
+loop-space-smaller-then-is_break g c =
+    let first = cursor_of c.loop-space.reader in
+    let breaks : is_break (slice_index first.rest 0) ≡ true =
+    ap is_break (sym c.look-c.ensures.value) ∙ sym c.is_break.ensures.test ∙ c.if-is_break.true in
+    break_on_shorter first (cursor_of c.look-c.new.self) (cursor_of c.skip_line_break.new.self) breaks
+    c.look-c.ensures.same c.skip_line_break.ensures
 
 pub loop-space-preserved : goal.loop-space-preserved
 loop-space-preserved g c =

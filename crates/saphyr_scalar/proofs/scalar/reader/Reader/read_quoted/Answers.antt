@@ -1,10 +1,10 @@
-use Rattle.std.proofs.Common.{◌≡◌, ℕ, List, [], IsTrue, Ok, string_bytes, sym, ap, ◌∙◌, subst}
+use Rattle.std.proofs.Common.{◌≡◌, ℕ, List, [], IsTrue, Ok, length, string_bytes, sym, ap, ◌∙◌, subst, arith}
 use Rattle.saphyr_values.specs.declared.flow.Quote.{Quote}
 use Rattle.saphyr_scalar.specs.Views.Cursor.{Cursor, pass}
 use Rattle.saphyr_scalar.specs.Steps.Quoted as spec
 use Rattle.saphyr_scalar.specs.Views.Reader.{cursor_of, Moves}
 use Rattle.saphyr_scalar.proofs.Quoted.Inside.{no_front}
-use Rattle.saphyr_scalar.proofs.Quoted.Gaps.{closing_closes}
+use Rattle.saphyr_scalar.proofs.Quoted.Gaps.{closing_closes, closing_left}
 use Rattle.saphyr_scalar.proofs.scalar.reader.Reader.read_quoted.Goals as goal
 
 -- the scalar is what was moved of it, and what is left
@@ -17,6 +17,15 @@ moved_and_left q indent s here there text grown same empty moved =
     ∙ ap (λ b. spec.with_front b (spec.inner_text_at q indent s.mark spec.no_gap here)) empty
     ∙ no_front (spec.inner_text_at q indent s.mark spec.no_gap here)
     ∙ ap (spec.inner_text_at q indent s.mark spec.no_gap) same
+
+pub skip_non_blank-requires-then-is_at_closing_quote : goal.skip_non_blank-requires-then-is_at_closing_quote
+skip_non_blank-requires-then-is_at_closing_quote g c =
+    omega (
+      arith,
+      closing_left c.args.quote (cursor_of c.take_literal_words.new.self).rest
+          (sym c.is_at_closing_quote.ensures.value ∙ c.if-is_at_closing_quote.true),
+      ap (λ (s : Cursor). length s.rest) c.is_at_closing_quote.ensures.same,
+    )
 
 pub returns-then-is_at_closing_quote : goal.returns-then-is_at_closing_quote
 returns-then-is_at_closing_quote g c =

@@ -1,10 +1,24 @@
-use Rattle.std.proofs.Common.{◌≡◌, false, sym, ap, ◌∙◌, arith}
+use Rattle.std.proofs.Common.{◌≡◌, true, false, slice_index, sym, ap, ◌∙◌, arith}
+use Rattle.saphyr_input.specs.Classes.{is_break}
 use Rattle.saphyr_scalar.specs.Views.Cursor.{Cursor}
 use Rattle.saphyr_scalar.specs.Steps.Block.{is_indentation}
 use Rattle.saphyr_scalar.specs.Views.Reader.{cursor_of}
-use Rattle.saphyr_scalar.proofs.SpaceRuns.{empty_over, none_left}
+use Rattle.saphyr_scalar.proofs.SpaceRuns.{empty_over, none_left, spaces_shorter}
 use Rattle.saphyr_scalar.proofs.Block.Lines.{break_turn, end_turn, break_index}
+use Rattle.saphyr_scalar.proofs.Quoted.Lines.{break_on_shorter}
 use Rattle.saphyr_scalar.proofs.scalar.reader.Reader.skip_empty_block_lines.Goals as goal
+
+pub loop-limit-smaller : goal.loop-limit-smaller
+loop-limit-smaller g c =
+    let spaced = cursor_of c.skip_spaces.new.self in
+    let breaks : is_break (slice_index spaced.rest 0) ≡ true =
+    ap is_break (sym c.look.ensures.value) ∙ sym c.is_break.ensures.test ∙ c.if-not-is_break.false in
+    omega (
+      arith,
+      break_on_shorter spaced (cursor_of c.look.new.self) (cursor_of c.skip_line_break.new.self) breaks
+          c.look.ensures.same c.skip_line_break.ensures,
+      spaces_shorter _ (cursor_of c.loop-limit.self) spaced c.skip_spaces.ensures,
+    )
 
 pub loop-limit-preserved : goal.loop-limit-preserved
 loop-limit-preserved g c =

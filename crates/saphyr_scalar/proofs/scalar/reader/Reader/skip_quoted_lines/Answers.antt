@@ -1,6 +1,8 @@
 use Rattle.std.proofs.Common.{◌≡◌, true, false, length, length-drop, slice_index, sym, ap, ◌∙◌, arith}
 use Rattle.std.specs.Prelude.{◌&&◌, ◌==◌}
 use Rattle.saphyr_input.specs.Classes as class
+use Rattle.std.proofs.lemmas.Bool.{false≢true}
+use Rattle.saphyr_input.proofs.Basics.Lists.{shows_character}
 use Rattle.saphyr_scalar.specs.Views.Cursor.{Cursor}
 use Rattle.saphyr_scalar.specs.Steps.Quoted.{is_left, over_lines, inner_text_at}
 use Rattle.saphyr_scalar.specs.Views.Reader.{cursor_of}
@@ -8,6 +10,36 @@ use Rattle.saphyr_scalar.proofs.SpaceRuns.{inside_over_spaces, spaces_shorter}
 use Rattle.saphyr_scalar.proofs.Quoted.Lines.{break_on, break_on_shorter, blank_on, tab_on, fits_right, fits_no_tab}
 use Rattle.saphyr_scalar.proofs.scalar.reader.Reader.skip_quoted_lines.Goals.{else-c-eq9-via-then-c-eq9+else-self-indent, else-c-eq9-via-else-c-eq9}
 use Rattle.saphyr_scalar.proofs.scalar.reader.Reader.skip_quoted_lines.Goals as goal
+
+pub loop-self-smaller-then-is_break : goal.loop-self-smaller-then-is_break
+loop-self-smaller-then-is_break g c =
+    let first = cursor_of c.loop-self.self in
+    let here = cursor_of c.skip_spaces.new.self in
+    let there = cursor_of c.look-c.new.self in
+    let behind = cursor_of c.skip_seen_break.new.self in
+    let breaks : class.is_break (slice_index here.rest 0) ≡ true =
+    ap class.is_break (sym c.look-c.ensures.value) ∙ sym c.is_break.ensures.test ∙ c.if-is_break.true in
+    omega (
+      arith,
+      break_on_shorter here there behind breaks c.look-c.ensures.same c.skip_seen_break.ensures,
+      spaces_shorter _ first here c.skip_spaces.ensures,
+    )
+
+pub loop-self-smaller : goal.loop-self-smaller
+loop-self-smaller g c =
+    let first = cursor_of c.loop-self.self in
+    let here = cursor_of c.skip_spaces.new.self in
+    let there = cursor_of c.look-c.new.self in
+    let blank : class.is_blank (slice_index here.rest 0) ≡ true =
+    ap class.is_blank (sym c.look-c.ensures.value) ∙ sym c.is_blank.ensures.test ∙ c.if-is_blank.true in
+    omega (
+      arith,
+      shows_character here.rest class.is_blank true blank (λ e. false≢true e),
+      ap (λ (s : Cursor). length s.rest) c.skip_blank.ensures,
+      length-drop 1 there.rest,
+      ap (λ (s : Cursor). length s.rest) c.look-c.ensures.same,
+      spaces_shorter _ first here c.skip_spaces.ensures,
+    )
 
 pub loop-self-preserved-then-is_break : goal.loop-self-preserved-then-is_break
 loop-self-preserved-then-is_break g c =
