@@ -47,7 +47,7 @@ impl Anchors {
     }
 
     #[tactic(auto, using(crate::proofs::Names::ids_given))]
-    /// Gives the next id to the name, which may have one already.
+    /// Gives the next id to the name, which may already have one.
     pub fn register(&mut self, name: String) -> Result<usize, Stop>
         ensures { Moves {Y = ℕ × spec.Anchors} (λ id. (id, self.new)) result
             (Ok (spec.next_id self.old, spec.with_anchor (string_bytes name) self.old)) }

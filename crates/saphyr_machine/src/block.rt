@@ -4,7 +4,7 @@ ghost use Rattle.saphyr_machine.specs.Steps.Block as spec;
 
 use crate::context::NodeContext;
 use crate::event::Event;
-use crate::machine::{Machine, refuse};
+use crate::machine::{Machine, place_of, refuse};
 use crate::state::State;
 use saphyr_input::input::Input;
 use saphyr_scalar::{FaultText, Span, Stop};
@@ -40,15 +40,15 @@ impl<T: Input> Machine<T> {
             TokenType::BlockEnd => {
                 self.pop();
                 next.0.write_over(Event::SequenceEnd);
-                next.1 = token.span;
+                next.1 = place_of(token);
             }
-            TokenType::BlockEntry => self.block_sequence_node(token.span, next)?,
-            _ => return Err(refuse(FaultText::SequenceEntryExpected, token.span.start)),
+            TokenType::BlockEntry => self.block_sequence_node(place_of(token), next)?,
+            _ => return Err(refuse(FaultText::SequenceEntryExpected, place_of(token).start)),
         }
         Ok(())
     }
 
-    // The node behind a `-`.
+    // The node after a `-`.
     #[inline(always)]
     #[tactic(auto, unfolding(crate::specs::Steps::Block::block_sequence_node))]
     fn block_sequence_node<'input>(
@@ -61,7 +61,7 @@ impl<T: Input> Machine<T> {
         let token = self.take()?;
         match token.kind {
             TokenType::BlockEntry | TokenType::BlockEnd => {
-                self.left_out(token, State::BlockSequenceEntry, dash, next)?
+                self.left_out(token, State::BlockSequenceEntry, dash, next)
             }
             _ => self.inside(State::BlockSequenceEntry, NodeContext::Block, token, next)?,
         }
@@ -78,7 +78,7 @@ impl<T: Input> Machine<T> {
     {
         let token = self.take()?;
         match token.kind {
-            TokenType::BlockEntry => self.indentless_sequence_node(token.span, next)?,
+            TokenType::BlockEntry => self.indentless_sequence_node(place_of(token), next)?,
             _ => {
                 let span = token.span;
                 self.put_back(token);
@@ -101,7 +101,7 @@ impl<T: Input> Machine<T> {
         let token = self.take()?;
         match token.kind {
             TokenType::BlockEntry | TokenType::Key | TokenType::Value | TokenType::BlockEnd => {
-                self.left_out(token, State::IndentlessSequenceEntry, dash, next)?
+                self.left_out(token, State::IndentlessSequenceEntry, dash, next)
             }
             _ => self.inside(
                 State::IndentlessSequenceEntry,
@@ -123,22 +123,25 @@ impl<T: Input> Machine<T> {
     {
         let token = self.take()?;
         match token.kind {
-            TokenType::Key => self.block_key_node(next)?,
+            TokenType::Key => {
+                let _ = place_of(token);
+                self.block_key_node(next)?
+            }
             TokenType::Value => {
                 let span = token.span;
-                self.left_out(token, State::BlockMappingValue, span, next)?
+                self.left_out(token, State::BlockMappingValue, span, next)
             }
             TokenType::BlockEnd => {
                 self.pop();
                 next.0.write_over(Event::MappingEnd);
-                next.1 = token.span;
+                next.1 = place_of(token);
             }
-            _ => return Err(refuse(FaultText::BlockMappingKeyExpected, token.span.start)),
+            _ => return Err(refuse(FaultText::BlockMappingKeyExpected, place_of(token).start)),
         }
         Ok(())
     }
 
-    // The node behind a key's token.
+    // The node after a key's token.
     #[tactic(auto, unfolding(crate::specs::Steps::Block::block_key_node))]
     fn block_key_node<'input>(&mut self, next: &mut (Event<'input>, Span)) -> Result<(), Stop>
         ensures { TellsBy spec.block_key_node self.old result next.new self.new }
@@ -147,7 +150,7 @@ impl<T: Input> Machine<T> {
         match token.kind {
             TokenType::Key | TokenType::Value | TokenType::BlockEnd => {
                 let span = token.span;
-                self.left_out(token, State::BlockMappingValue, span, next)?
+                self.left_out(token, State::BlockMappingValue, span, next)
             }
             _ => self.inside(
                 State::BlockMappingValue,
@@ -168,15 +171,17 @@ impl<T: Input> Machine<T> {
         ensures { TellsBy spec.block_mapping_value self.old result next.new self.new }
     {
         let token = self.take()?;
-        let span = token.span;
         match token.kind {
-            TokenType::Value => self.block_value_node(span, next)?,
-            _ => self.left_out(token, State::BlockMappingKey, span, next)?,
+            TokenType::Value => self.block_value_node(place_of(token), next)?,
+            _ => {
+                let span = token.span;
+                self.left_out(token, State::BlockMappingKey, span, next)
+            }
         }
         Ok(())
     }
 
-    // The node behind a value's token.
+    // The node after a value's token.
     #[tactic(auto, unfolding(crate::specs::Steps::Block::block_value_node))]
     fn block_value_node<'input>(
         &mut self,
@@ -188,7 +193,7 @@ impl<T: Input> Machine<T> {
         let token = self.take()?;
         match token.kind {
             TokenType::Key | TokenType::Value | TokenType::BlockEnd => {
-                self.left_out(token, State::BlockMappingKey, colon, next)?
+                self.left_out(token, State::BlockMappingKey, colon, next)
             }
             _ => self.inside(
                 State::BlockMappingKey,

@@ -14,7 +14,7 @@ use saphyr_scalar::Span;
 use saphyr_scanner::Token;
 use std::alloc::AllocError;
 
-// An equal token, where there is one.
+// An equal token, if there is one.
 fn copy_token(token: &Option<Token>) -> Result<Option<Token>, AllocError>
     ensures { IfOk result (λ copy. option_map piece copy ≡ option_map piece token.now) }
 {
@@ -24,7 +24,7 @@ fn copy_token(token: &Option<Token>) -> Result<Option<Token>, AllocError>
     })
 }
 
-// An equal event at the same place, where there is one.
+// An equal event at the same place, if there is one.
 fn copy_event<'input>(
     event: &Option<(Event<'input>, Span)>,
 ) -> Result<Option<(Event<'input>, Span)>, AllocError>
@@ -36,7 +36,7 @@ fn copy_event<'input>(
     })
 }
 
-// An equal fault, handed out or not as it was, where there is one.
+// An equal fault, handed out or not as it was, if there is one.
 fn copy_kept(kept: &Option<Kept>) -> Result<Option<Kept>, AllocError>
     ensures { IfOk result (λ copy. option_map kept_of copy ≡ option_map kept_of kept.now) }
 {
@@ -52,11 +52,11 @@ fn copy_kept(kept: &Option<Kept>) -> Result<Option<Kept>, AllocError>
 impl<T: CloneInput> Machine<T> {
     ghost use Rattle.saphyr_machine.specs.Views.Machines.{machine_of};
 
-    // A machine of its own that expects the same and reads the same tokens.
+    // An independent machine that expects the same and reads the same tokens.
     fn try_clone(&self) -> Result<Self, AllocError>
         ensures { IfOk result (λ copy. machine_of copy ≡ machine_of self.now) }
     {
-        // The scanner comes last, so that no copy of one is dropped here, which is dear to prove.
+        // The scanner comes last. So no copy of a scanner is dropped here, which would be expensive to prove.
         Ok(Machine {
             token: copy_token(&self.token)?,
             state: self.state,
@@ -73,11 +73,11 @@ impl<T: CloneInput> Machine<T> {
 impl<'input, T: CloneInput> EventReader<'input, T> {
     ghost use Rattle.saphyr_machine.specs.Views.Readers.{cursor};
 
-    /// A reader of its own that stands at the same place.
+    /// An independent reader at the same place.
     pub fn try_clone(&self) -> Result<Self, AllocError>
         ensures { IfOk result (λ copy. cursor copy ≡ cursor self.now) }
     {
-        // The machine comes last, as the scanner above.
+        // The machine comes last for the same reason.
         Ok(EventReader {
             current: copy_event(&self.current)?,
             kept: copy_kept(&self.kept)?,

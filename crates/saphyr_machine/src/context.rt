@@ -1,15 +1,14 @@
-//! Which block collections may stand where a node stands (YAML 1.2.2, 8.2.3).
+//! Which block collections a node may be, by its place (YAML 1.2.2, 8.2.3).
 
 ghost use Rattle.std.specs.Prelude.{◌≡◌};
 
-/// Where a node stands.
-#[derive(Clone, Copy, Debug, PartialEq, Eq)]
+/// The place of a node.
+#[derive(Clone, Copy)]
 pub enum NodeContext {
-    /// Inside a flow collection, where no block collection is.
+    /// Inside a flow collection, which contains no block collection.
     Flow,
     Block,
-    /// As a key or a value of a block mapping, where a block sequence may stand at the mapping's own
-    /// column.
+    /// A key or a value of a block mapping. It may be a block sequence at the mapping's own column.
     BlockMapping,
 }
 
@@ -25,7 +24,7 @@ impl NodeContext {
         }
     }
 
-    /// Whether a block sequence may stand at the column of the mapping around it.
+    /// Whether a block sequence may be at the column of the mapping around it.
     pub fn allows_indentless(self) -> bool
         ensures { result ≡ spec.allows_indentless self }
     {

@@ -8,7 +8,7 @@ ghost use Rattle.saphyr_machine.specs.Steps.Documents as spec;
 use crate::context::NodeContext;
 use crate::event::Event;
 use crate::handles::Handles;
-use crate::machine::{Machine, refuse};
+use crate::machine::{Machine, place_of, refuse, tell};
 use crate::prefixes::Prefixes;
 use crate::state::State;
 use saphyr_input::input::Input;
@@ -43,8 +43,8 @@ fn is_directive(kind: &TokenType) -> bool
 #[derive(Drop)]
 pub struct Declared {
     version: bool,
-    // Whether prefixes of an earlier document were kept. If none were, the prefixes have no other handles, and these
-    // aren't noted a second time: a text may have a million of them.
+    // Whether prefixes of an earlier document were kept. If none were, the handles of the prefixes are exactly the
+    // declared ones, and are not noted a second time: a text may have a million of them.
     apart: bool,
     handles: Handles,
 }
@@ -94,9 +94,11 @@ impl<T: Input> Machine<T> {
     ghost use Rattle.saphyr_scanner.specs.Views.Tokens.{piece};
     ghost use Rattle.saphyr_machine.specs.Views.Machines.{machine_of, TellsBy, TakesBy};
     ghost use Rattle.saphyr_machine.specs.Steps.Machine as machine;
+    ghost use Rattle.saphyr_machine.specs.Events as events;
+    ghost use Rattle.saphyr_machine.specs.declared.state.State.TheVariants.{DocumentEnd};
     ghost use Rattle.saphyr_machine.specs.Views.Documents.{declared_of as seen};
 
-    // Takes the first token behind ends of documents and byte order marks.
+    // Takes the first token after ends of documents and byte order marks.
     fn pass_ends(&mut self) -> Result<Token, Stop>
         ensures taken { TakesBy (spec.unpassed_token spec.is_end_or_mark) self.old result self.new }
         ensures room { IfOk result (λ t. self.new.token ≡ None) }
@@ -109,7 +111,7 @@ impl<T: Input> Machine<T> {
         }
     }
 
-    // Takes the first token behind byte order marks.
+    // Takes the first token after byte order marks.
     fn pass_marks(&mut self) -> Result<Token, Stop>
         ensures taken { TakesBy (spec.unpassed_token spec.is_mark) self.old result self.new }
         ensures room { IfOk result (λ t. self.new.token ≡ None) }
@@ -163,7 +165,7 @@ impl<T: Input> Machine<T> {
         }
     }
 
-    // Takes the first token behind the directives.
+    // Takes the first token after the directives.
     fn directives(&mut self) -> Result<Token, Stop>
         ensures { TakesBy (spec.directives spec.none_declared) self.old result self.new }
     {
@@ -189,11 +191,31 @@ impl<T: Input> Machine<T> {
         match token.kind {
             TokenType::StreamStart => {
                 self.state = State::ImplicitDocumentStart;
-                *next = (Event::StreamStart, token.span);
+                tell(next, Event::StreamStart, place_of(token));
                 Ok(())
             }
-            _ => Err(refuse(FaultText::DocumentStartExpected, token.span.start)),
+            _ => Err(refuse(FaultText::DocumentStartExpected, place_of(token).start)),
         }
+    }
+
+    // A document begins, with `---` where this is true, and goes on in the state.
+    #[inline(always)]
+    fn begin_document<'input>(
+        &mut self,
+        explicit: bool,
+        state: State,
+        span: Span,
+        next: &mut (Event<'input>, Span),
+    ) -> Result<(), Stop>
+        ensures { TellsBy (λ m. machine.told_event (events.DocumentStart explicit) span
+            (machine.with_state state (machine.push DocumentEnd (spec.without_anchors m))))
+            self.old result next.new self.new }
+    {
+        self.anchors.forget();
+        self.push(State::DocumentEnd)?;
+        self.state = state;
+        tell(next, Event::DocumentStart(explicit), span);
+        Ok(())
     }
 
     // A document with `---`, whose directives begin with the token.
@@ -210,16 +232,12 @@ impl<T: Input> Machine<T> {
         let token = self.directives()?;
         match token.kind {
             TokenType::DocumentStart => {
-                self.anchors.forget();
-                self.push(State::DocumentEnd)?;
-                self.state = State::DocumentContent;
-                *next = (Event::DocumentStart(true), token.span);
-                Ok(())
+                self.begin_document(true, State::DocumentContent, place_of(token), next)
             }
             TokenType::ByteOrderMark => {
-                Err(refuse(FaultText::MisplacedByteOrderMark, token.span.start))
+                Err(refuse(FaultText::MisplacedByteOrderMark, place_of(token).start))
             }
-            _ => Err(refuse(FaultText::DocumentStartExpected, token.span.start)),
+            _ => Err(refuse(FaultText::DocumentStartExpected, place_of(token).start)),
         }
     }
 
@@ -235,11 +253,7 @@ impl<T: Input> Machine<T> {
     {
         let span = token.span;
         self.put_back(token);
-        self.anchors.forget();
-        self.push(State::DocumentEnd)?;
-        self.state = State::BlockNode;
-        *next = (Event::DocumentStart(false), span);
-        Ok(())
+        self.begin_document(false, State::BlockNode, span, next)
     }
 
     // The start of a document that may begin without `---`, or the end of the stream.
@@ -254,7 +268,7 @@ impl<T: Input> Machine<T> {
         match token.kind {
             TokenType::StreamEnd => {
                 self.state = State::End;
-                *next = (Event::StreamEnd, token.span);
+                tell(next, Event::StreamEnd, place_of(token));
                 Ok(())
             }
             TokenType::VersionDirective(..)
@@ -277,14 +291,14 @@ impl<T: Input> Machine<T> {
         match token.kind {
             TokenType::StreamEnd => {
                 self.state = State::End;
-                *next = (Event::StreamEnd, token.span);
+                tell(next, Event::StreamEnd, place_of(token));
                 Ok(())
             }
             _ => self.explicit_document(token, next),
         }
     }
 
-    // What stands behind `---`.
+    // What follows `---`.
     #[tactic(auto, unfolding(crate::specs::Steps::Documents::document_content))]
     pub(super) fn document_content<'input>(
         &mut self,
@@ -304,15 +318,15 @@ impl<T: Input> Machine<T> {
                 let span = token.span;
                 self.put_back(token);
                 self.pop();
-                *next = (self.empty_scalar(), span);
+                tell(next, self.empty_scalar(), span);
                 Ok(())
             }
             _ => self.node(NodeContext::Block, token, next),
         }
     }
 
-    // Takes the token behind the byte order marks that end a document, of which the first has this
-    // place. Only a marker or the end may stand there.
+    // Takes the token after the byte order marks that end a document. The first of these has this place.
+    // Only a marker or the end may follow them.
     #[tactic(auto, unfolding(crate::specs::Steps::Documents::token_behind_marks))]
     fn behind_marks(&mut self, first: Marker) -> Result<Token, Stop>
         ensures taken { TakesBy (spec.token_behind_marks first) self.old result self.new }
@@ -325,7 +339,7 @@ impl<T: Input> Machine<T> {
         }
     }
 
-    // Takes the token behind a document and its byte order marks.
+    // Takes the token after a document and its byte order marks.
     #[tactic(auto, unfolding(crate::specs::Steps::Documents::token_behind_document))]
     fn behind_document(&mut self) -> Result<Token, Stop>
         ensures taken { TakesBy spec.token_behind_document self.old result self.new }
@@ -333,7 +347,7 @@ impl<T: Input> Machine<T> {
     {
         let token = self.take()?;
         match token.kind {
-            TokenType::ByteOrderMark => self.behind_marks(token.span.start),
+            TokenType::ByteOrderMark => self.behind_marks(place_of(token).start),
             _ => Ok(token),
         }
     }
@@ -352,18 +366,21 @@ impl<T: Input> Machine<T> {
             self.prefixes.forget();
         }
         match token.kind {
-            TokenType::DocumentEnd => self.state = State::ImplicitDocumentStart,
+            TokenType::DocumentEnd => {
+                let _ = place_of(token);
+                self.state = State::ImplicitDocumentStart;
+            }
             TokenType::VersionDirective(..)
             | TokenType::TagDirective(..)
             | TokenType::ReservedDirective(_) => {
-                return Err(refuse(FaultText::DocumentEndExpected, span.start));
+                return Err(refuse(FaultText::DocumentEndExpected, place_of(token).start));
             }
             _ => {
                 self.put_back(token);
                 self.state = State::DocumentStart;
             }
         }
-        *next = (Event::DocumentEnd, span);
+        tell(next, Event::DocumentEnd, span);
         Ok(())
     }
 }

@@ -1,4 +1,4 @@
-//! Events: the serialization of a text's nodes, step by step (YAML 1.2.2, 3.2.2).
+//! Events: the serialization of a text's nodes (YAML 1.2.2, 3.2.2).
 
 ghost use Rattle.std.specs.Prelude.{◌≡◌, false, IfOk, option_map};
 ghost use Rattle.saphyr_machine.specs.EventParts as parts;
@@ -10,22 +10,22 @@ use std::alloc::AllocError;
 use std::borrow::CowStr;
 use std::mem::{forget, replace};
 
-/// A step through a text: the stream, its documents, and their nodes in preorder.
+/// An event of a text. Together they are the stream, its documents, and the nodes of these in preorder.
 ///
-/// The number of a node is the id of its anchor, 0 where it has none.
+/// The number of a node is the id of its anchor, or 0 if it has none.
 #[derive(Debug, PartialEq, Eq, Drop)]
 pub enum Event<'input> {
-    /// No event, which a parser never gives.
+    /// No event. A parser never gives it.
     Nothing,
     /// The first event of a text.
     StreamStart,
     /// The last event of a text.
     StreamEnd,
-    /// A document begins, with a `---` where this is true.
+    /// A document begins. `true` says that it begins with a `---`.
     DocumentStart(bool),
     /// A document ends.
     DocumentEnd,
-    /// A node that stands for the one with this anchor id.
+    /// An alias of the node whose anchor has this id.
     Alias(usize),
     /// A scalar: its text, how it is written, its anchor id and its tag.
     Scalar(CowStr<'input>, ScalarStyle, usize, Option<Tag>),
@@ -33,7 +33,7 @@ pub enum Event<'input> {
     SequenceStart(usize, Option<Tag>),
     /// The innermost sequence ends.
     SequenceEnd,
-    /// A mapping begins: its anchor id and its tag. Its entries are keys and values in turn.
+    /// A mapping begins: its anchor id and its tag. Its keys and values take turns.
     MappingStart(usize, Option<Tag>),
     /// The innermost mapping ends.
     MappingEnd,
@@ -75,7 +75,7 @@ impl<'input> Event<'input> {
         }
     }
 
-    /// The id of a node's own anchor. An alias has none: its number is that of another node's.
+    /// The id of a node's own anchor. An alias has none: its number is the id of another node's anchor.
     pub fn anchor_id(&self) -> Option<usize>
         ensures { result ≡ parts.node_anchor (happening self.now) }
     {
@@ -111,7 +111,7 @@ impl<'input> Event<'input> {
         )
     }
 
-    // Whether it has a tag, which holds memory.
+    // Whether it has a tag. A tag holds memory.
     #[inline(always)]
     fn is_tagged(&self) -> bool
         ensures { result ≡ has_tag self.now }
@@ -123,8 +123,8 @@ impl<'input> Event<'input> {
         }
     }
 
-    // Lets go of an event that holds no memory: of what it may hold, the tag is asked for, and its text was
-    // taken out before. For speed no code for its drop stands here, which would read all of the event.
+    // Forgets an event that holds no memory: its text was taken out before, and it has no tag. This is for
+    // speed, since the code of a drop would read the whole event.
     #[inline(always)]
     fn let_go(self)
         requires { has_tag self ≡ false }
@@ -140,7 +140,7 @@ impl<'input> Event<'input> {
         *self = Event::Nothing;
     }
 
-    // Writes an event into this place, whose text was taken out. For speed nothing but a tag is looked for.
+    // Writes an event into this place, whose text was taken out before. For speed it only checks for a tag.
     #[inline(always)]
     pub(super) fn write_over(&mut self, event: Event<'input>)
         ensures { self.new ≡ event.entry }
@@ -152,7 +152,7 @@ impl<'input> Event<'input> {
     }
 }
 
-/// An equal tag, where there is one.
+/// An equal tag, if there is one.
 fn try_clone_any(tag: &Option<Tag>) -> Result<Option<Tag>, AllocError>
     ensures { IfOk result (λ copy. option_map resolved_tag copy ≡ option_map resolved_tag tag.now) }
 {

@@ -1,4 +1,4 @@
-//! What a parser answers where it has no event to give.
+//! What a parser returns if it has no event to give.
 
 ghost use Rattle.std.specs.Prelude.{◌≡◌, IfOk};
 ghost use Rattle.saphyr_machine.specs.Faults.{IsFaultOf, IsCopy};
@@ -7,7 +7,7 @@ use saphyr_scalar::{ScanError, Stop};
 use std::alloc::{AllocError, AllocFailed, Global};
 use thiserror::Error;
 
-/// Why the events of a text ended before its end, or why a call was refused.
+/// Why the events ended before the text's end, or why a call was refused.
 #[derive(Debug, PartialEq, Eq, Drop, Error)]
 pub enum Fault {
     /// The text is refused.
@@ -18,7 +18,7 @@ pub enum Fault {
     /// The receiver refused an event in this call.
     #[error("the receiver refused an event")]
     Receiver,
-    /// A document was begun that hasn't ended.
+    /// A document has begun and not ended.
     #[error("load was called inside a document")]
     InsideDocument,
 }

@@ -1,11 +1,11 @@
 //! The states inside flow collections (YAML 1.2.2, 7.4).
 
-ghost use Rattle.std.specs.Prelude.{◌≡◌, None};
+ghost use Rattle.std.specs.Prelude.{◌≡◌, None, Ok};
 ghost use Rattle.saphyr_machine.specs.Steps.Flow as spec;
 
 use crate::context::NodeContext;
 use crate::event::Event;
-use crate::machine::{Machine, refuse};
+use crate::machine::{Machine, place_of, refuse};
 use crate::state::State;
 use saphyr_input::input::Input;
 use saphyr_scalar::{FaultText, Marker, Span, Stop};
@@ -13,9 +13,9 @@ use saphyr_scanner::{Token, TokenType};
 
 impl<T: Input> Machine<T> {
     ghost use Rattle.saphyr_scanner.specs.Views.Tokens.{piece};
-    ghost use Rattle.saphyr_machine.specs.Views.Machines.{TellsBy};
+    ghost use Rattle.saphyr_machine.specs.Views.Machines.{machine_of, told_event_of, TellsBy};
 
-    // The first entry of a flow sequence, or the one behind a comma, or the end of the sequence.
+    // The first entry of a flow sequence, or the one after a comma, or the end of the sequence.
     #[inline(always)]
     #[tactic(auto, unfolding(crate::specs::Steps::Flow::flow_sequence_first_entry))]
     pub(super) fn flow_sequence_first_entry<'input>(
@@ -29,12 +29,12 @@ impl<T: Input> Machine<T> {
             TokenType::FlowSequenceEnd => {
                 self.pop();
                 next.0.write_over(Event::SequenceEnd);
-                next.1 = token.span;
+                next.1 = place_of(token);
             }
             TokenType::Key => {
                 self.state = State::FlowSequenceEntryMappingKey;
                 next.0.write_over(Event::MappingStart(0, None));
-                next.1 = token.span;
+                next.1 = place_of(token);
             }
             _ => self.inside(State::FlowSequenceEntry, NodeContext::Flow, token, next)?,
         }
@@ -55,15 +55,18 @@ impl<T: Input> Machine<T> {
             TokenType::FlowSequenceEnd => {
                 self.pop();
                 next.0.write_over(Event::SequenceEnd);
-                next.1 = token.span;
+                next.1 = place_of(token);
             }
-            TokenType::FlowEntry => self.flow_sequence_first_entry(next)?,
-            _ => return Err(refuse(FaultText::FlowSequenceEndExpected, token.span.start)),
+            TokenType::FlowEntry => {
+                let _ = place_of(token);
+                self.flow_sequence_first_entry(next)?
+            }
+            _ => return Err(refuse(FaultText::FlowSequenceEndExpected, place_of(token).start)),
         }
         Ok(())
     }
 
-    // The key of a pair of a flow sequence, behind its `?`. One that is left out leaves what follows it.
+    // The key of a pair of a flow sequence, after its `?`. If the key is left out, the next token is put back.
     #[tactic(auto, unfolding(crate::specs::Steps::Flow::flow_sequence_entry_mapping_key))]
     pub(super) fn flow_sequence_entry_mapping_key<'input>(
         &mut self,
@@ -75,7 +78,7 @@ impl<T: Input> Machine<T> {
         match token.kind {
             TokenType::Value | TokenType::FlowEntry | TokenType::FlowSequenceEnd => {
                 let span = token.span;
-                self.left_out(token, State::FlowSequenceEntryMappingValue, span, next)?
+                self.left_out(token, State::FlowSequenceEntryMappingValue, span, next)
             }
             _ => self.inside(
                 State::FlowSequenceEntryMappingValue,
@@ -97,7 +100,10 @@ impl<T: Input> Machine<T> {
     {
         let token = self.take()?;
         match token.kind {
-            TokenType::Value => self.flow_sequence_entry_mapping_node(next)?,
+            TokenType::Value => {
+                let _ = place_of(token);
+                self.flow_sequence_entry_mapping_node(next)?
+            }
             _ => {
                 let span = token.span;
                 self.left_out(
@@ -105,14 +111,14 @@ impl<T: Input> Machine<T> {
                     State::FlowSequenceEntryMappingEnd(span.end),
                     span,
                     next,
-                )?
+                )
             }
         }
         Ok(())
     }
 
-    // The node behind the colon of a pair of a flow sequence. The pair's end has its place behind the
-    // node's first token.
+    // The node after the colon of a pair of a flow sequence. The pair's end has its place after the node's
+    // first token.
     #[tactic(auto, unfolding(crate::specs::Steps::Flow::flow_sequence_entry_mapping_node))]
     fn flow_sequence_entry_mapping_node<'input>(
         &mut self,
@@ -126,7 +132,7 @@ impl<T: Input> Machine<T> {
         match token.kind {
             TokenType::FlowEntry | TokenType::FlowSequenceEnd => self.left_out(
                 token, state, span, next,
-            )?,
+            ),
             _ => self.inside(state, NodeContext::Flow, token, next)?,
         }
         Ok(())
@@ -138,9 +144,9 @@ impl<T: Input> Machine<T> {
         &mut self,
         place: Marker,
         next: &mut (Event<'input>, Span),
-    ) -> Result<(), Stop>
-        ensures { TellsBy (spec.flow_sequence_entry_mapping_end place) self.old result next.new
-            self.new }
+    )
+        ensures { spec.flow_sequence_entry_mapping_end place (machine_of self.old)
+            ≡ Ok (told_event_of (machine_of self.new) next.new) }
     {
         self.state = State::FlowSequenceEntry;
         let span = Span {
@@ -149,7 +155,6 @@ impl<T: Input> Machine<T> {
         };
         next.0.write_over(Event::MappingEnd);
         next.1 = span;
-        Ok(())
     }
 
     // The first pair of a flow mapping, or its end.
@@ -180,10 +185,10 @@ impl<T: Input> Machine<T> {
             TokenType::FlowMappingEnd => {
                 self.pop();
                 next.0.write_over(Event::MappingEnd);
-                next.1 = token.span;
+                next.1 = place_of(token);
             }
-            TokenType::FlowEntry => self.flow_mapping_pair_behind_comma(token.span, next)?,
-            _ => return Err(refuse(FaultText::FlowMappingEndExpected, token.span.start)),
+            TokenType::FlowEntry => self.flow_mapping_pair_behind_comma(place_of(token), next)?,
+            _ => return Err(refuse(FaultText::FlowMappingEndExpected, place_of(token).start)),
         }
         Ok(())
     }
@@ -203,7 +208,7 @@ impl<T: Input> Machine<T> {
         Ok(())
     }
 
-    // A pair begins with the token, or the mapping ends there, and its end has the span.
+    // A pair begins with the token, or the mapping ends there, and its end has this span.
     #[inline(always)]
     fn flow_mapping_pair<'input>(
         &mut self,
@@ -216,22 +221,26 @@ impl<T: Input> Machine<T> {
             self.old result next.new self.new }
     {
         match token.kind {
-            TokenType::Key => self.flow_key_node(next)?,
+            TokenType::Key => {
+                let _ = place_of(token);
+                self.flow_key_node(next)?
+            }
             TokenType::Value => {
                 let span = token.span;
-                self.left_out(token, State::FlowMappingValue, span, next)?
+                self.left_out(token, State::FlowMappingValue, span, next)
             }
             TokenType::FlowMappingEnd => {
                 self.pop();
                 next.0.write_over(Event::MappingEnd);
                 next.1 = end;
+                let _ = place_of(token);
             }
             _ => self.inside(State::FlowMappingEmptyValue, NodeContext::Flow, token, next)?,
         }
         Ok(())
     }
 
-    // The node behind a key's token.
+    // The node after a key's token.
     #[inline(always)]
     #[tactic(auto, unfolding(crate::specs::Steps::Flow::flow_key_node))]
     fn flow_key_node<'input>(&mut self, next: &mut (Event<'input>, Span)) -> Result<(), Stop>
@@ -241,7 +250,7 @@ impl<T: Input> Machine<T> {
         match token.kind {
             TokenType::Value | TokenType::FlowEntry | TokenType::FlowMappingEnd => {
                 let span = token.span;
-                self.left_out(token, State::FlowMappingValue, span, next)?
+                self.left_out(token, State::FlowMappingValue, span, next)
             }
             _ => self.inside(State::FlowMappingValue, NodeContext::Flow, token, next)?,
         }
@@ -258,15 +267,17 @@ impl<T: Input> Machine<T> {
         ensures { TellsBy spec.flow_mapping_value self.old result next.new self.new }
     {
         let token = self.take()?;
-        let span = token.span;
         match token.kind {
-            TokenType::Value => self.flow_value_node(span, next)?,
-            _ => self.left_out(token, State::FlowMappingKey, span, next)?,
+            TokenType::Value => self.flow_value_node(place_of(token), next)?,
+            _ => {
+                let span = token.span;
+                self.left_out(token, State::FlowMappingKey, span, next)
+            }
         }
         Ok(())
     }
 
-    // The node behind a value's token.
+    // The node after a value's token.
     #[inline(always)]
     #[tactic(auto, unfolding(crate::specs::Steps::Flow::flow_value_node))]
     fn flow_value_node<'input>(
@@ -279,14 +290,14 @@ impl<T: Input> Machine<T> {
         let token = self.take()?;
         match token.kind {
             TokenType::FlowEntry | TokenType::FlowMappingEnd => {
-                self.left_out(token, State::FlowMappingKey, colon, next)?
+                self.left_out(token, State::FlowMappingKey, colon, next)
             }
             _ => self.inside(State::FlowMappingKey, NodeContext::Flow, token, next)?,
         }
         Ok(())
     }
 
-    // The value of a pair that has a key alone.
+    // The value of a pair that has only a key.
     #[tactic(auto, unfolding(crate::specs::Steps::Flow::flow_mapping_empty_value))]
     pub(super) fn flow_mapping_empty_value<'input>(
         &mut self,
@@ -296,7 +307,7 @@ impl<T: Input> Machine<T> {
     {
         let token = self.take()?;
         let span = token.span;
-        self.left_out(token, State::FlowMappingKey, span, next)?;
+        self.left_out(token, State::FlowMappingKey, span, next);
         Ok(())
     }
 }

@@ -1,4 +1,4 @@
-//! The handles that a document's directives have declared, since none may be declared twice (YAML 1.2.2, 6.8.2).
+//! The handles that a document's directives have declared. None may be declared twice (YAML 1.2.2, 6.8.2).
 
 ghost use Rattle.std.specs.Prelude.{◌≡◌, Bool, ℕ, List, not, Ok, string_bytes};
 ghost use Rattle.saphyr_machine.specs.Steps.Machine as spec;

@@ -1,4 +1,4 @@
-//! A fault that is kept, to be answered again.
+//! A fault that is kept, to be returned again.
 
 ghost use Rattle.std.specs.Prelude.{◌≡◌, true};
 ghost use Rattle.saphyr_machine.specs.Faults.{is_own};

@@ -1,5 +1,5 @@
 //! The inner machine of `saphyr_parser`: it turns tokens into events, and reads at most one event ahead. Only
-//! `saphyr_parser` is to use it, whose `Parser` is what whoever wants events takes.
+//! `saphyr_parser` should use it. To read events, use the `Parser` of that crate.
 #![tactic(auto)]
 
 mod anchors;

@@ -1,4 +1,4 @@
-//! Events for a receiver, a document at a time or all of them.
+//! Hands events to a receiver, a document at a time or all of them.
 
 ghost use Rattle.std.specs.Prelude.{◌≡◌, None};
 ghost use Rattle.saphyr_machine.specs.Loading as spec;
@@ -11,7 +11,7 @@ use crate::receiver::SpannedEventReceiver;
 use saphyr_input::input::Input;
 use saphyr_scalar::Span;
 
-// Whether `load` stops behind the event.
+// Whether `load` stops after the event.
 fn is_last(event: &Event<'_>, multi: bool) -> bool
     ensures { result ≡ spec.is_last multi (happening event.now) }
 {
@@ -51,7 +51,7 @@ impl<'input, T: Input> EventReader<'input, T> {
         Some((event, span))
     }
 
-    // Tells the fault that ended the events, if one did.
+    // Returns the fault that ended the events, if one did.
     fn told_fault(&self) -> Result<(), Fault>
         ensures { spec.Tells result (cursor self.now).kept }
     {
@@ -64,7 +64,7 @@ impl<'input, T: Input> EventReader<'input, T> {
         }
     }
 
-    // Hands over one document, with what stands before it, or all that is left.
+    // Hands over one document, with what comes before it, or all that is left.
     fn load_part<R: SpannedEventReceiver<'input>>(
         &mut self,
         recv: &mut R,

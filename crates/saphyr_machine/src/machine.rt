@@ -1,7 +1,9 @@
-//! The machine that turns tokens into events: what it holds, and the moves that its states share. The states are
-//! read in `document`, `block` and `flow`, the nodes there in `node`, and `step` chooses among them.
+//! The machine that turns tokens into events: what it holds, and the moves that its states share. `document`,
+//! `block` and `flow` have the functions of the states, `node` reads the nodes, and `step` chooses the state's
+//! function.
 
 ghost use Rattle.std.specs.Prelude.{◌≡◌, None};
+ghost use Rattle.saphyr_scanner.specs.Views.Tokens.{piece};
 ghost use Rattle.saphyr_machine.specs.Events.{empty_scalar};
 ghost use Rattle.saphyr_machine.specs.Steps.Machine as spec;
 
@@ -17,22 +19,22 @@ use std::borrow::CowStr;
 
 /// What turns tokens into events.
 ///
-/// Its steps are inlined into one another, and write the event into a place that they are given, since
-/// tokens and events are large to move.
+/// Its steps are inlined, and write the event into a place that they are given, since tokens and events are
+/// large to move.
 #[derive(Drop)]
 pub struct Machine<T: Input> {
-    // What gives the tokens.
+    // Where the tokens come from.
     pub(super) scanner: Scanner<T>,
-    // A token that was taken and put back, which comes before those of the scanner.
+    // A token that was taken and put back. It comes before those of the scanner.
     pub(super) token: Option<Token>,
     // What is expected next.
     pub(super) state: State,
-    // What is expected behind each node that is open, the innermost last: the document's end and the sequence's
-    // next entry behind `[a, {`.
+    // What is expected after each node that is open, the innermost last. For example after `[a, {`: the document's end,
+    // and the sequence's next entry.
     pub(super) states: Vec<State>,
     // The anchors of the document, which its aliases name.
     pub(super) anchors: Anchors,
-    // What the directives of the document declare, and of those before where `keep_tags` is set.
+    // What the directives of the document declare and, if `keep_tags` is set, those of documents before it.
     pub(super) prefixes: Prefixes,
     // Whether prefixes hold for later documents too.
     pub(super) keep_tags: bool,
@@ -47,11 +49,26 @@ pub(super) fn refuse(text: FaultText, mark: Marker) -> Stop
     Stop::Refused(Refusal { text, mark })
 }
 
+// Where the token stands, which is let go of.
+#[inline(always)]
+pub(super) fn place_of(token: Token) -> Span
+    ensures { result ≡ (piece token).span }
+{
+    token.span
+}
+
+// Writes an event and its span into their place.
+#[inline(always)]
+pub(super) fn tell<'input>(next: &mut (Event<'input>, Span), event: Event<'input>, span: Span)
+    ensures { next.new ≡ (event.entry, span) }
+{
+    *next = (event, span);
+}
+
 impl<T: Input> Machine<T> {
     ghost use Rattle.std.specs.Prelude.{IfOk, IfNone, IfSome, Ok};
     ghost use Rattle.saphyr_scalar.specs.Views.Reader.{Moves};
-    ghost use Rattle.saphyr_scanner.specs.Views.Tokens.{piece};
-    ghost use Rattle.saphyr_machine.specs.Views.Machines.{machine_of, happening, TellsBy, TakesBy};
+    ghost use Rattle.saphyr_machine.specs.Views.Machines.{machine_of, happening, told_event_of, TakesBy};
 
     // A machine that has read nothing.
     pub(super) fn new(alloc: Global, scanner: Scanner<T>) -> Self
@@ -77,7 +94,7 @@ impl<T: Input> Machine<T> {
         ensures room { self.new.token ≡ None }
         ensures same { IfNone result (self.new ≡ self.old) }
     {
-        // Most often none was, and a test costs less than a move.
+        // Mostly there is none, and a test costs less than a move.
         if self.token.is_none() {
             return None;
         }
@@ -121,7 +138,7 @@ impl<T: Input> Machine<T> {
         self.token = Some(token);
     }
 
-    // Goes back to what is expected behind the node that has ended.
+    // Goes back to what is expected after the node that has ended.
     #[inline(always)]
     #[tactic(auto, using(crate::proofs::Stacks::top_off))]
     pub(super) fn pop(&mut self)
@@ -134,7 +151,7 @@ impl<T: Input> Machine<T> {
         };
     }
 
-    // What is expected behind the node that begins.
+    // What is expected after the node that begins.
     #[inline(always)]
     #[tactic(auto, using(crate::proofs::Stacks::top_on))]
     pub(super) fn push(&mut self, state: State) -> Result<(), Stop>
@@ -168,15 +185,14 @@ impl<T: Input> Machine<T> {
         state: State,
         span: Span,
         next: &mut (Event<'input>, Span),
-    ) -> Result<(), Stop>
+    )
         requires { self.old.token ≡ None }
-        ensures { TellsBy (spec.left_out_event (piece token) state span)
-            self.old result next.new self.new }
+        ensures { spec.left_out_event (piece token) state span (machine_of self.old)
+            ≡ Ok (told_event_of (machine_of self.new) next.new) }
     {
         self.put_back(token);
         self.state = state;
         next.0.write_over(self.empty_scalar());
         next.1 = span;
-        Ok(())
     }
 }

@@ -1,12 +1,12 @@
-//! The event with which a node begins: an alias, or properties and the content behind them
-//! (YAML 1.2.2, 6.9, 7.1, 7.5 and 8.2.3).
+//! The event with which a node begins: an alias, or properties and the content after them (YAML
+//! 1.2.2, 6.9, 7.1, 7.5 and 8.2.3).
 
 ghost use Rattle.std.specs.Prelude.{◌≡◌, None, string_bytes};
 ghost use Rattle.saphyr_machine.specs.Steps.Nodes as spec;
 
 use crate::context::NodeContext;
 use crate::event::Event;
-use crate::machine::{Machine, refuse};
+use crate::machine::{Machine, place_of, refuse, tell};
 use crate::state::State;
 use crate::tag::Tag;
 use saphyr_input::input::Input;
@@ -15,12 +15,12 @@ use saphyr_scalar::{FaultText, Marker, ScalarStyle, Span, Stop};
 use saphyr_scanner::{Token, TokenType};
 use std::borrow::CowStr;
 
-// What stands before the content of a node.
+// What comes before the content of a node.
 #[derive(Drop)]
 pub struct Properties {
     start: Marker,
     behind: Marker,
-    // The id of the anchor, 0 for none.
+    // The id of the anchor, or 0 for none.
     anchor: usize,
     tag: Option<Tag>,
 }
@@ -52,7 +52,7 @@ impl<T: Input> Machine<T> {
     ghost use Rattle.saphyr_machine.specs.Views.Machines.{machine_of, told_event_of, TellsBy};
     ghost use Rattle.saphyr_machine.specs.Views.Nodes.{properties as seen};
 
-    // Properties alone stand for an empty scalar.
+    // Properties without content are those of an empty scalar.
     fn without_content<'input>(
         &mut self,
         properties: Properties,
@@ -64,14 +64,18 @@ impl<T: Input> Machine<T> {
             self.old result next.new self.new }
     {
         if !properties.has_any() {
-            return Err(refuse(FaultText::NodeContentExpected, token.span.start));
+            return Err(refuse(FaultText::NodeContentExpected, place_of(token).start));
         }
         self.put_back(token);
         self.pop();
         let span = properties.up_to(properties.behind);
         let text = CowStr::Owned(String::new(self.alloc));
         let Properties { anchor, tag, .. } = properties;
-        *next = (Event::Scalar(text, ScalarStyle::Plain, anchor, tag), span);
+        tell(
+            next,
+            Event::Scalar(text, ScalarStyle::Plain, anchor, tag),
+            span,
+        );
         Ok(())
     }
 
@@ -89,7 +93,7 @@ impl<T: Input> Machine<T> {
         self.state = state;
         let span = properties.up_to(place);
         let Properties { anchor, tag, .. } = properties;
-        *next = (Event::SequenceStart(anchor, tag), span);
+        tell(next, Event::SequenceStart(anchor, tag), span);
     }
 
     #[inline(always)]
@@ -106,7 +110,7 @@ impl<T: Input> Machine<T> {
         self.state = state;
         let span = properties.up_to(place);
         let Properties { anchor, tag, .. } = properties;
-        *next = (Event::MappingStart(anchor, tag), span);
+        tell(next, Event::MappingStart(anchor, tag), span);
     }
 
     // The content of a node begins with the token.
@@ -129,7 +133,11 @@ impl<T: Input> Machine<T> {
                 self.pop();
                 let span = properties.up_to(span.end);
                 let Properties { anchor, tag, .. } = properties;
-                *next = (Event::Scalar(CowStr::Owned(text), style, anchor, tag), span);
+                tell(
+                    next,
+                    Event::Scalar(CowStr::Owned(text), style, anchor, tag),
+                    span,
+                );
                 Ok(())
             }
             TokenType::FlowSequenceStart => {
@@ -157,7 +165,7 @@ impl<T: Input> Machine<T> {
         }
     }
 
-    // The content of a node behind its properties.
+    // The content of a node after its properties.
     #[tactic(auto, unfolding(crate::specs::Steps::Nodes::next_content))]
     fn next_content<'input>(
         &mut self,
@@ -184,7 +192,7 @@ impl<T: Input> Machine<T> {
         match self.anchors.id_of(name) {
             Some(id) => {
                 self.pop();
-                *next = (Event::Alias(id), span);
+                tell(next, Event::Alias(id), span);
                 Ok(())
             }
             None => Err(refuse(FaultText::UnknownAnchor, span.start)),
@@ -205,19 +213,26 @@ impl<T: Input> Machine<T> {
     {
         let id = self.anchors.register(name)?;
         let Token { span, kind } = self.take()?;
-        let mut properties = Properties {
-            start: anchor.start,
-            behind: anchor.end,
-            anchor: id,
-            tag: None,
-        };
         match kind {
             TokenType::Tag(tag) => {
-                properties.tag = Some(self.resolve(Box::into_inner(tag), anchor.start)?);
-                properties.behind = span.end;
+                let tag = self.resolve(Box::into_inner(tag), anchor.start)?;
+                let properties = Properties {
+                    start: anchor.start,
+                    behind: span.end,
+                    anchor: id,
+                    tag: Some(tag),
+                };
                 self.next_content(properties, context, next)
             }
-            kind => self.content(properties, context, Token { span, kind }, next),
+            kind => {
+                let properties = Properties {
+                    start: anchor.start,
+                    behind: anchor.end,
+                    anchor: id,
+                    tag: None,
+                };
+                self.content(properties, context, Token { span, kind }, next)
+            }
         }
     }
 
@@ -236,23 +251,31 @@ impl<T: Input> Machine<T> {
     {
         let tag = self.resolve(tag, place.start)?;
         let Token { span, kind } = self.take()?;
-        let mut properties = Properties {
-            start: place.start,
-            behind: place.end,
-            anchor: 0,
-            tag: Some(tag),
-        };
         match kind {
             TokenType::Anchor(name) => {
-                properties.anchor = self.anchors.register(name)?;
-                properties.behind = span.end;
+                let anchor = self.anchors.register(name)?;
+                let properties = Properties {
+                    start: place.start,
+                    behind: span.end,
+                    anchor,
+                    tag: Some(tag),
+                };
                 self.next_content(properties, context, next)
             }
-            kind => self.content(properties, context, Token { span, kind }, next),
+            kind => {
+                let properties = Properties {
+                    start: place.start,
+                    behind: place.end,
+                    anchor: 0,
+                    tag: Some(tag),
+                };
+                self.content(properties, context, Token { span, kind }, next)
+            }
         }
     }
 
-    // A node that begins with an alias, an anchor or a tag, or that isn't there. It is kept apart, since it is rare.
+    // A node that begins with an alias, an anchor or a tag, or that is left out. These are rare, so they have a
+    // function of their own.
     #[inline(never)]
     #[tactic(auto, unfolding(crate::specs::Steps::Nodes::node))]
     fn rare_node<'input>(
@@ -281,8 +304,8 @@ impl<T: Input> Machine<T> {
         }
     }
 
-    // A node begins with the token. As most nodes have no properties, what is read of those by `content` is read
-    // here, and no `Properties` are made for it.
+    // A node begins with the token. Most nodes have no properties. Their content is read here and not by `content`,
+    // so no `Properties` are made for them.
     #[inline(always)]
     #[tactic(auto, unfolding(crate::specs::Steps::Nodes::node, crate::specs::Steps::Nodes::node_content))]
     pub(super) fn node<'input>(
@@ -333,8 +356,8 @@ impl<T: Input> Machine<T> {
         Ok(())
     }
 
-    // A node inside a collection, which goes on in the state behind it. Behind a scalar without properties it
-    // does so at once: its state need not be kept for later.
+    // A node inside a collection, which goes on in the given state after the node. After a scalar without
+    // properties it does so at once: the state need not be kept for later.
     #[inline(always)]
     #[tactic(auto, unfolding(crate::specs::Steps::Nodes::node, crate::specs::Steps::Nodes::node_content))]
     pub(super) fn inside<'input>(

@@ -1,4 +1,4 @@
-//! What the handles of tags stand for, by `%TAG` directives (YAML 1.2.2, 6.8.2).
+//! The prefixes that `%TAG` directives declare for the handles of tags (YAML 1.2.2, 6.8.2).
 
 ghost use Rattle.std.specs.Prelude.{◌≡◌, [], Ok, string_bytes, option_map};
 ghost use Rattle.saphyr_machine.specs.Steps.Machine as spec;
@@ -57,12 +57,13 @@ impl Prefixes {
     }
 
     #[tactic(auto, using(crate::proofs::Names::texts_given))]
-    /// Declares the prefix for the handle, in place of one that it may have.
+    /// Declares the prefix for the handle. It replaces an earlier one.
     pub fn declare(&mut self, handle: String, prefix: String) -> Result<(), Stop>
         ensures { Moves (λ _. self.new) result
             (Ok (spec.with_meaning (string_bytes handle) (string_bytes prefix) self.old)) }
     {
-        // Copies, since both were read into more room than they take, and a text may declare a million of them.
+        // Copies are kept: the texts that were read have more room than they need, and a text may declare a million of
+        // them.
         self.declared.insert(handle.clone()?, prefix.clone()?)?;
         Ok(())
     }

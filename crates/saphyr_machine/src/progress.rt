@@ -1,6 +1,6 @@
-//! What a step of a loop over the events gave, where what it gave has a place of its own.
+//! What one step of a loop over the events gave, if the caller has places for an event and a fault.
 
-/// An event or a fault, which was written into its place, or nothing.
+/// An event or a fault was written into its place, or the events are over.
 #[derive(Clone, Copy, Debug, PartialEq, Eq)]
 pub enum Progress {
     Event,

@@ -22,20 +22,20 @@ pub fn no_event<'input>() -> (Event<'input>, Span) {
     (Event::Nothing, Span::empty(start))
 }
 
-/// A machine, with what was read ahead of it and what is remembered of the events that were handed out.
+/// A machine, with what was read ahead and what is remembered of the events that were handed out.
 #[derive(Drop)]
 pub struct EventReader<'input, T: Input> {
     pub(super) machine: Machine<T>,
     // An event that was read and not yet handed out.
     pub(super) current: Option<(Event<'input>, Span)>,
     pub(super) kept: Option<Kept>,
-    // Whether a document was handed out whose end wasn't.
+    // Whether a document's start was handed out and its end was not.
     pub(super) inside: bool,
     // The span of the stream's end, once that was handed out.
     pub(super) finished: Option<Span>,
 }
 
-// Writes the event that was handed out into its place.
+// Writes the event that is handed out into its place.
 fn fill<'input>(
     handed: Option<Result<(Event<'input>, Span), Fault>>,
     next: &mut (Event<'input>, Span),
@@ -70,7 +70,8 @@ impl<'input, T: Input> EventReader<'input, T> {
         }
     }
 
-    /// Whether prefixes of tags hold for later documents too, from the next end of a document on that is read.
+    /// Sets whether prefixes of tags hold for later documents too. The setting takes effect from the next end of a
+    /// document that is read.
     #[inline(always)]
     pub fn keep_tags(&mut self, value: bool)
         ensures { cursor self.new ≡ spec.keeping_tags value (cursor self.old) }
@@ -90,12 +91,13 @@ impl<'input, T: Input> EventReader<'input, T> {
         match self.machine.read(&mut next) {
             Some(Ok(())) => self.current = Some(next),
             Some(Err(fault)) => {
+                drop(next);
                 self.kept = Some(Kept {
                     fault,
                     given: false,
                 });
             }
-            None => {}
+            None => drop(next),
         }
     }
 
@@ -112,7 +114,7 @@ impl<'input, T: Input> EventReader<'input, T> {
         }
     }
 
-    // Remembers what an event says of the place between events that stands behind it.
+    // Remembers what an event says of the place after it.
     #[inline(always)]
     pub(super) fn remember(&mut self, event: &Event<'input>, span: Span)
         ensures { cursor self.new
@@ -126,8 +128,8 @@ impl<'input, T: Input> EventReader<'input, T> {
         }
     }
 
-    // Gives the fault that ended the events, unless it was given before. Where it can't be copied, it is
-    // lost for the lack of memory.
+    // Gives the fault that ended the events, unless it was given before. If it can't be copied, it is lost,
+    // and `OutOfMemory` replaces it.
     fn give_fault(&mut self) -> Option<Result<(Event<'input>, Span), Fault>>
         ensures { calls.GivesFault (cursor self.old).kept result (cursor self.old)
             (cursor self.new) }
@@ -153,7 +155,7 @@ impl<'input, T: Input> EventReader<'input, T> {
         Some(Err(copy))
     }
 
-    // The same, where an event would be written into its place.
+    // The same for a caller that has a place for the event.
     #[inline(never)]
     fn give_fault_into(&mut self, next: &mut (Event<'input>, Span)) -> Option<Result<(), Fault>>
         ensures { calls.GivesFault (cursor self.old).kept (item_in next.new result)
@@ -174,7 +176,7 @@ impl<'input, T: Input> EventReader<'input, T> {
         self.give_fault()
     }
 
-    // The same, where an event is written into its place.
+    // The same, with the event written into its place.
     #[inline(never)]
     fn next_ahead_into(&mut self, next: &mut (Event<'input>, Span)) -> Option<Result<(), Fault>>
         requires { IfNone self.old.current (spec.IsKept (cursor self.old).kept) }
@@ -209,7 +211,7 @@ impl<'input, T: Input> EventReader<'input, T> {
         }
     }
 
-    // Hands out what was read ahead, where there is a place for an event and one for a fault.
+    // Hands out what was read ahead, into a place for an event or one for a fault.
     #[inline(never)]
     fn advance_ahead(&mut self, next: &mut (Event<'input>, Span), fault: &mut Fault) -> Progress
         requires { IfNone self.old.current (spec.IsKept (cursor self.old).kept) }
@@ -226,7 +228,7 @@ impl<'input, T: Input> EventReader<'input, T> {
         }
     }
 
-    // Keeps the fault that ended a reading, and gives it.
+    // Keeps the fault that ended a reading, and hands it out.
     #[inline(never)]
     fn end_with(&mut self, next: &mut (Event<'input>, Span), fault: &mut Fault) -> Progress
         requires { is_own fault.old ≡ true }
@@ -251,8 +253,8 @@ impl<'input, T: Input> EventReader<'input, T> {
         }
     }
 
-    /// Hands out the next event or fault, which is written into its place. A loop over the events goes by this: what
-    /// is answered has no room for a fault, which would be cleared on each turn.
+    /// Hands out the next event or fault, which is written into its place. Use this in a loop over the events: the
+    /// result has no room for a fault, which would be cleared on each turn.
     #[inline(always)]
     pub fn advance(&mut self, next: &mut (Event<'input>, Span), fault: &mut Fault) -> Progress
         ensures { calls.GivesNext (calls.item_at next.new fault.new result) (cursor self.old)
@@ -277,9 +279,16 @@ impl<'input, T: Input> EventReader<'input, T> {
         ensures { calls.GivesNext result (cursor self.old) (cursor self.new) }
     {
         let mut next = no_event();
-        match self.next_into(&mut next)? {
-            Ok(()) => Some(Ok(next)),
-            Err(fault) => Some(Err(fault)),
+        match self.next_into(&mut next) {
+            Some(Ok(())) => Some(Ok(next)),
+            Some(Err(fault)) => {
+                drop(next);
+                Some(Err(fault))
+            }
+            None => {
+                drop(next);
+                None
+            }
         }
     }
 }

@@ -1,19 +1,19 @@
-//! The states of the machine: how far it is in the stream, a document or a collection.
+//! The states of the machine: where it is in the stream, a document or a collection.
 
 use saphyr_scalar::Marker;
 
 /// What the machine expects next.
-#[derive(Clone, Copy, Debug, PartialEq, Eq)]
+#[derive(Clone, Copy)]
 pub enum State {
     /// The start of the stream, which is the first token.
     StreamStart,
-    /// A document that may begin without `---`, or the stream's end: at first, and behind `...`.
+    /// A document that may begin without `---`, or the stream's end: at first, and after `...`.
     ImplicitDocumentStart,
-    /// A document that begins with `---`, or the stream's end: behind a document without `...`.
+    /// A document that begins with `---`, or the stream's end: after a document without `...`.
     DocumentStart,
-    /// The node behind `---`, which may be left out.
+    /// The node after `---`, which may be left out.
     DocumentContent,
-    /// The end of a document, behind its node.
+    /// The end of a document, after its node.
     DocumentEnd,
     /// The node of a document without `---`.
     BlockNode,
@@ -29,11 +29,11 @@ pub enum State {
     FlowSequenceFirstEntry,
     /// The comma before an entry of a flow sequence, or the sequence's end.
     FlowSequenceEntry,
-    /// The key of a pair in a flow sequence behind its `?`: `a` in `[? a : b]`.
+    /// The key of a pair in a flow sequence after its `?`: `a` in `[? a : b]`.
     FlowSequenceEntryMappingKey,
     /// The value of such a pair, which may be left out.
     FlowSequenceEntryMappingValue,
-    /// The end of such a pair, which has no token, and where it stands.
+    /// The end of such a pair, which has no token, and the place of that end.
     FlowSequenceEntryMappingEnd(Marker),
     /// The first key of a flow mapping, or the mapping's end.
     FlowMappingFirstKey,
@@ -41,8 +41,8 @@ pub enum State {
     FlowMappingKey,
     /// The value of a key of a flow mapping, which may be left out.
     FlowMappingValue,
-    /// The value of a pair that has a key alone, as `a` in `{a, b: c}`.
+    /// The value of a pair that has only a key, such as `a` in `{a, b: c}`.
     FlowMappingEmptyValue,
-    /// Nothing, since the stream's end was told.
+    /// Nothing: the stream's end was given.
     End,
 }

@@ -1,4 +1,4 @@
-//! One step of the machine: its next event, by the state that it is in, or the fault that stands in its place.
+//! One step of the machine: the next event, by the machine's state, or the fault in its place.
 
 ghost use Rattle.std.specs.Prelude.{◌≡◌, ◌≢◌, ◌↔◌, IsTrue, false};
 ghost use Rattle.saphyr_machine.specs.Steps.Expected as spec;
@@ -24,7 +24,7 @@ impl<T: Input> Machine<T> {
     pub(super) fn is_done(&self) -> bool
         ensures { IsTrue result ↔ ((machine_of self.now).state ≡ End) }
     {
-        self.state == State::End
+        matches!(self.state, State::End)
     }
 
     // Reads the next event into its place, if there is one.
@@ -54,7 +54,7 @@ impl<T: Input> Machine<T> {
         *fault = Fault::new(self.alloc, stop);
     }
 
-    // Gives the text of the event that is written over back, for the memory of the next one.
+    // Gives back the text of the event that is overwritten, so the next one uses its memory.
     #[inline(always)]
     fn give_back<'input>(&mut self, place: &mut Event<'input>)
         ensures { machine_of self.new ≡ machine_of self.old }
@@ -113,7 +113,7 @@ impl<T: Input> Machine<T> {
             State::FlowSequenceEntryMappingKey => self.flow_sequence_entry_mapping_key(next)?,
             State::FlowSequenceEntryMappingValue => self.flow_sequence_entry_mapping_value(next)?,
             State::FlowSequenceEntryMappingEnd(place) => {
-                self.flow_sequence_entry_mapping_end(place, next)?
+                self.flow_sequence_entry_mapping_end(place, next)
             }
             State::FlowMappingFirstKey => self.flow_mapping_first_key(next)?,
             State::FlowMappingKey => self.flow_mapping_key(next)?,

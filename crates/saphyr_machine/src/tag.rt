@@ -6,9 +6,9 @@ ghost use Rattle.saphyr_machine.specs.Views.Events.{resolved_tag};
 use std::alloc::AllocError;
 use std::fmt;
 
-/// A node's tag. The handle is the prefix that the written handle stands for, and empty for `!` and `!<uri>`.
+/// A node's tag. The handle is the prefix that the written handle means. It is empty for `!` and `!<uri>`.
 ///
-/// Tags are ordered by their handles, and equal handles by the suffixes, each by its bytes.
+/// Tags are ordered by the bytes of their handles, and if these are equal by those of the suffixes.
 #[derive(Debug, PartialEq, Eq, PartialOrd, Ord, Hash, Drop)]
 pub struct Tag {
     pub handle: String,
@@ -16,8 +16,8 @@ pub struct Tag {
 }
 
 impl Tag {
-    /// Whether the tag is one of YAML's own, as `!!str` and `!!int` are unless their handle is declared
-    /// otherwise. The suffix is not asked.
+    /// Whether the tag's prefix is that of YAML's own tags. `!!str` and `!!int` have it unless a directive
+    /// declares `!!` otherwise. The suffix doesn't matter.
     #[must_use]
     pub fn is_yaml_core_schema(&self) -> bool
         ensures { IsTrue result ↔ (resolved_tag self.now).handle ≡ codes "tag:yaml.org,2002:" }

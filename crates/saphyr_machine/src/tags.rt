@@ -9,7 +9,7 @@ use saphyr_input::input::Input;
 use saphyr_scalar::scalar::TagParts;
 use saphyr_scalar::{FaultText, Marker, Stop};
 
-// Whether the handle has a word, and so has to be declared.
+// Whether the handle has a word, and so must be declared.
 fn is_named(handle: &str) -> bool
     ensures { result ≡ spec.is_named_handle handle.now }
 {
@@ -21,7 +21,7 @@ impl<T: Input> Machine<T> {
     ghost use Rattle.saphyr_scalar.specs.Views.Reader.{Moves};
     ghost use Rattle.saphyr_machine.specs.Views.Machines.{resolved_tag};
 
-    // The prefix that stands for the handle of a tag at this place.
+    // The prefix of the handle of a tag at this place.
     #[tactic(auto, unfolding(crate::specs::Steps::Tags::declared_prefix))]
     fn prefix_of(&self, handle: String, place: Marker) -> Result<String, Stop>
         ensures { Moves string_bytes result

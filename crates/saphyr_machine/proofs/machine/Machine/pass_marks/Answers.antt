@@ -2,7 +2,7 @@ use Rattle.std.proofs.Common.{rules}
 use Rattle.saphyr_scanner.specs.Views.Tokens.{piece}
 use Rattle.saphyr_machine.specs.Steps.Documents.{is_mark}
 use Rattle.saphyr_machine.specs.Views.Machines.{machine_of}
-use Rattle.saphyr_machine.proofs.Passing.{passes_on, stops_at, fails_at}
+use Rattle.saphyr_machine.proofs.Passing.{passes_on, stops_at, fails_at, shorter}
 use Rattle.saphyr_machine.proofs.machine.Machine.pass_marks.Goals as goal
 
 pub returns-in_err-token-clause-taken : goal.returns-in_err-token-clause-taken
@@ -21,3 +21,8 @@ loop-token-preserved g c =
     passes_on is_mark (machine_of c.args.self.now) (machine_of c.loop-token.self) (machine_of c.take.new.self)
     (piece c.in_ok-token.token) _ c.loop-token.invariant c.in_ok-token.ensures.taken c.is_mark.ensures
     c.if-not-is_mark.false
+
+pub loop-token-smaller : goal.loop-token-smaller
+loop-token-smaller g c =
+    shorter (machine_of c.loop-token.self) (machine_of c.take.new.self) (piece c.in_ok-token.token)
+    c.in_ok-token.ensures.taken

@@ -1,0 +1,27 @@
+use Rattle.std.proofs.Common.{◌≡◌, ◌∙◌, sym, ap, refl, false, length, List, ℕ, Some, None}
+use Rattle.std.specs.Prelude.{nat_eq, option_map, string_bytes}
+use Rattle.saphyr_machine.specs.Steps.Machine.{meaning}
+use Rattle.saphyr_machine.specs.Steps.Tags.{declared_prefix}
+use Rattle.saphyr_machine.proofs.machine.Machine.prefix_of.Goals as goal
+
+pub returns-in-Some : goal.returns-in-Some
+unfolding declared_prefix
+returns-in-Some g c =
+    let handle : List ℕ = string_bytes c.args.handle in
+    let some : nat_eq (length handle) 0 ≡ false =
+    ap (λ (n : ℕ). nat_eq n 0) (sym c.args.handle.bytes.ok.0) ∙ sym c.is_empty.ensures ∙ c.if-is_empty.false in
+    let is : meaning handle c.args.self.now.prefixes ≡ Some (string_bytes c.in-Some.prefix) =
+    sym (ap (λ (h : List ℕ). meaning h c.args.self.now.prefixes) c.as_str.ensures.value)
+    ∙ sym c.in_ok-prefix.ensures ∙ ap (option_map string_bytes) c.in-Some.is in
+    rw (some, is) refl
+
+pub returns-in-None : goal.returns-in-None
+unfolding declared_prefix
+returns-in-None g c =
+    let handle : List ℕ = string_bytes c.args.handle in
+    let some : nat_eq (length handle) 0 ≡ false =
+    ap (λ (n : ℕ). nat_eq n 0) (sym c.args.handle.bytes.ok.0) ∙ sym c.is_empty.ensures ∙ c.if-is_empty.false in
+    let is : meaning handle c.args.self.now.prefixes ≡ None =
+    sym (ap (λ (h : List ℕ). meaning h c.args.self.now.prefixes) c.as_str.ensures.value)
+    ∙ sym c.in_ok-prefix.ensures ∙ ap (option_map string_bytes) c.in-None.is in
+    rw (some, is) c.undeclared_prefix.ensures
