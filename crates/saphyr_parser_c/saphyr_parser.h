@@ -13,22 +13,22 @@
  *     }
  *     saphyr_free(&parser);
  *
- * What the caller owes. Nothing checks it, and all that the library promises rests on it:
+ * What the caller must do. Nothing checks these rules, and all that the library promises depends on them:
  *
- *  - A saphyr_parser and a saphyr_event are zeroed, as by {0}, before they are first passed to a call.
- *  - No pointer that is passed is NULL. That of a text may be read for its length, also where that is 0.
- *    Two pointers of one call do not lead to the same memory.
- *  - Nothing but these calls changes a saphyr_parser. It is not copied as a struct: saphyr_clone makes a copy.
- *  - A saphyr_parser is in one call at a time, and so is a saphyr_event. Between calls a parser may go from one
- *    thread to another, where a lock or the thread's start or end orders the calls.
- *  - The text stays where it is, unchanged, until every parser over it is freed: that of saphyr_new, and the
+ *  - Zero a saphyr_parser and a saphyr_event, as by {0}, before you first pass them to a call.
+ *  - Pass no NULL. The pointer of a text may be read for the text's length, and is not NULL even if that is 0.
+ *    No two pointers of one call point to the same memory.
+ *  - Change a saphyr_parser only by these calls. Don't copy it as a struct: saphyr_clone makes a copy.
+ *  - Use a saphyr_parser in one call at a time, and a saphyr_event too. Between calls a parser may go from one
+ *    thread to another, if a lock or the thread's start or end orders the calls.
+ *  - Keep the text where it is, unchanged, until every parser over it is freed: that of saphyr_new, and its
  *    clones.
- *  - malloc, realloc and free are those of one allocator. No call comes from a signal handler, or from the
- *    forked child of a process with threads.
+ *  - malloc, realloc and free belong to one allocator. Make no call from a signal handler, or from the forked
+ *    child of a process with threads.
  *
- * What the library owes. The texts of an event may be read until the next call with the same parser, and no
- * longer. Of saphyr_next the contract says that their addresses are those of the memory that the parser keeps
- * until then; of what saphyr_peek shows, and that no call in between writes there, the code is to be read.
+ * What the library does. The texts of an event may be read until the next call with the same parser, and no
+ * longer. For saphyr_next the contract says that their addresses are those of memory that the parser keeps until
+ * then. Only the code shows the same of saphyr_peek, and that no call in between writes there.
  */
 #ifndef SAPHYR_PARSER_H
 #define SAPHYR_PARSER_H
@@ -41,31 +41,31 @@
 extern "C" {
 #endif
 
-/* The version of these declarations, which saphyr_version answers: 1,000,000 for each major and 1,000 for each minor
-   one, and the patch's number. The shared library's name ends with it. */
+/* The version of these declarations, which saphyr_version returns: 1,000,000 times the major number, plus 1,000 times
+   the minor one, plus that of the patch. The shared library's name ends with it. */
 #define SAPHYR_VERSION 2000u
 
 /* The release that this header came with. Before the `+` is the version of the Rust crate whose events these are. */
 #define SAPHYR_PARSER_VERSION "0.3.3+rattle.2"
 
-/* What a call answers. Below 0 it could not do what was asked. */
+/* What a call returns. Below 0, the call failed. */
 enum saphyr_status {
     /* saphyr_new, saphyr_clone, saphyr_keep_tags: done. */
     SAPHYR_OK = 0,
-    /* saphyr_next, saphyr_peek: no event is left, since the end of the stream or a fault was handed out. */
+    /* saphyr_next, saphyr_peek: no event is left. The end of the stream or a fault was handed out before. */
     SAPHYR_END = 0,
     /* saphyr_next, saphyr_peek: the event is written. */
     SAPHYR_EVENT = 1,
-    /* saphyr_next, saphyr_peek: the text is no YAML. `value` says why, and `start` where. No event follows. */
+    /* saphyr_next, saphyr_peek: the text is refused. `value` says why, and `start` where. No event follows. */
     SAPHYR_REFUSED = -1,
-    /* Memory ran out. Where an event was asked for, none follows. */
+    /* Out of memory. From saphyr_next and saphyr_peek: no event follows. */
     SAPHYR_NO_MEMORY = -2,
-    /* saphyr_new: the text is not UTF-8. saphyr_valid_up_to says from which byte on. */
+    /* saphyr_new: the text is not UTF-8. saphyr_valid_up_to returns the index of the first wrong byte. */
     SAPHYR_NOT_UTF8 = -3,
     /* The handle is empty: no parser was made in it, or it was freed. */
     SAPHYR_NO_PARSER = -4,
-    /* saphyr_new: the text is not UTF-8, and begins with the byte order mark of UTF-16: FE FF, or FF FE without two
-       bytes of 0 behind, which make it that of UTF-32. */
+    /* saphyr_new: the text is not UTF-8, and begins with the byte order mark of UTF-16: FE FF, or FF FE without
+       two bytes of 0 after it. With these it is that of UTF-32. */
     SAPHYR_UTF16 = -5
 };
 
@@ -77,11 +77,11 @@ enum saphyr_kind {
     SAPHYR_STREAM_START = 1,
     /* The last event of a text. */
     SAPHYR_STREAM_END = 2,
-    /* A document begins: `is_explicit`. */
+    /* A document begins. `is_explicit` says whether by a `---`. */
     SAPHYR_DOCUMENT_START = 3,
     /* A document ends. */
     SAPHYR_DOCUMENT_END = 4,
-    /* A node that stands for the one with this `anchor`. */
+    /* An alias: it means the node whose anchor has the id `anchor`. */
     SAPHYR_ALIAS = 5,
     /* A scalar: `value`, `style`, `anchor`, and its tag. */
     SAPHYR_SCALAR = 6,
@@ -103,21 +103,21 @@ enum saphyr_style {
     SAPHYR_SINGLE_QUOTED = 1,
     /* Between double quotes. */
     SAPHYR_DOUBLE_QUOTED = 2,
-    /* Lines behind `|`, whose breaks are kept. */
+    /* Lines after `|`, whose breaks are kept. */
     SAPHYR_LITERAL = 3,
-    /* Lines behind `>`, which are folded. */
+    /* Lines after `>`, which are folded. */
     SAPHYR_FOLDED = 4
 };
 
 /* A handle: a parser of one text, or none. Start with {0}. */
 typedef struct saphyr_parser {
-    /* The library's own, and NULL where there is no parser. */
+    /* The library's own. NULL if there is no parser. */
     void *at;
 } saphyr_parser;
 
-/* Bytes in UTF-8. No NUL stands behind them, and some may stand among them. */
+/* Bytes in UTF-8. They may contain NUL, and no NUL follows them. */
 typedef struct saphyr_text {
-    /* The first byte. NULL where there is no text. An empty text has an address too, which is not to be read. */
+    /* The first byte, or NULL if there is no text. An empty text has an address too, which must not be read. */
     const uint8_t *at;
     /* How many bytes there are. */
     size_t len;
@@ -125,96 +125,95 @@ typedef struct saphyr_text {
 
 /* A place in the text. */
 typedef struct saphyr_marker {
-    /* How many characters stand before it in the text. A character may have several bytes. */
+    /* How many characters of the text are before it. A character may have several bytes. */
     size_t index;
     /* Its line, counted from 1. */
     size_t line;
-    /* How many characters stand before it on its line. */
+    /* How many characters of its line are before it. */
     size_t col;
 } saphyr_marker;
 
-/* An event, or a fault. Each call that takes one writes all of its fields, whatever it answers: 0 and NULL where
-   a field does not belong to the kind. */
+/* An event, or a fault. Each call that takes one writes all of its fields, whatever it returns: 0 and NULL if a
+   field does not belong to the kind. */
 typedef struct saphyr_event {
     /* A saphyr_kind. */
     int32_t kind;
     /* A saphyr_style, of a scalar. */
     int32_t style;
-    /* 1 where a document begins with a `---`, else 0. */
+    /* 1 if a document begins with a `---`, otherwise 0. */
     int32_t is_explicit;
-    /* 1 where a scalar or a collection has a tag, else 0. */
+    /* 1 if a scalar or a collection has a tag, otherwise 0. */
     int32_t has_tag;
-    /* The id of the node's anchor, 0 where it has none. Of an alias, the id of the anchor that it names. */
+    /* The id of the node's anchor, or 0 if it has none. Of an alias, the id of the anchor that it names. */
     size_t anchor;
     /* Where it begins. Of a fault, where it is. */
     saphyr_marker start;
-    /* Where its span ends, which goes on over the blanks and the comment behind a quoted scalar or a bracket:
-       docs/SPANS.md of the repository says of each event what its span covers. Of a fault, the start again. */
+    /* Where its span ends. The span of a quoted scalar or a bracket includes the blanks and the comment after it:
+       docs/SPANS.md of the repository says what the span of each event covers. Of a fault, the start again. */
     saphyr_marker end;
-    /* The text of a scalar, as it is meant: unfolded and unescaped. Of a fault, why the text is refused. */
+    /* The value of a scalar: folded and unescaped. Of a fault, why the text is refused. */
     saphyr_text value;
-    /* The prefix that the handle of the tag stands for; of `!` and `!<uri>` it is empty. */
+    /* The prefix that the tag's handle means. It is empty for `!` and `!<uri>`. */
     saphyr_text tag_handle;
     /* The rest of the tag. */
     saphyr_text tag_suffix;
 } saphyr_event;
 
 /*
- * Makes a parser of the `len` bytes at `text`, and puts it into `parser`. What `parser` held is freed, whatever
- * the answer. With `keep_tags` the prefixes of tags that a document declares hold for later documents too, as
- * they do not in YAML. A text of more than 4,294,967,295 characters is refused behind them. Of a text that comes in
- * pieces docs/FACES.md of the repository tells.
+ * Makes a parser of the `len` bytes at `text`, and puts it into `parser`. Frees what `parser` held, whatever it
+ * returns. With `keep_tags` the prefixes of tags that a document declares hold for later documents too; in YAML they
+ * do not. A text of more than 4,294,967,295 characters is refused after these. docs/FACES.md of the repository says how
+ * to parse a text that comes in pieces.
  *
- * Answers SAPHYR_OK; SAPHYR_NOT_UTF8, SAPHYR_UTF16 or SAPHYR_NO_MEMORY, and then `parser` is empty.
+ * Returns SAPHYR_OK; or SAPHYR_NOT_UTF8, SAPHYR_UTF16 or SAPHYR_NO_MEMORY, and then `parser` is empty.
  */
 int32_t saphyr_new(const uint8_t *text, size_t len, bool keep_tags, saphyr_parser *parser);
 
 /*
- * How many of the `len` bytes at `text` are UTF-8, from the front: `len` where all are, and else the index of the
- * first byte that is none.
+ * Returns how many of the `len` bytes at `text` are UTF-8, from the front: `len` if all are, otherwise the index of
+ * the first byte that is not.
  */
 size_t saphyr_valid_up_to(const uint8_t *text, size_t len);
 
 /*
- * Hands out the next event, and where a fault ends the events that fault, once. Behind the end of the stream
- * and behind a fault nothing is left.
+ * Hands out the next event. If a fault ends the events, hands out that fault, once. After the end of the stream
+ * or a fault nothing is left.
  *
- * Answers SAPHYR_EVENT, SAPHYR_END, SAPHYR_REFUSED, SAPHYR_NO_MEMORY or SAPHYR_NO_PARSER.
+ * Returns SAPHYR_EVENT, SAPHYR_END, SAPHYR_REFUSED, SAPHYR_NO_MEMORY or SAPHYR_NO_PARSER.
  */
 int32_t saphyr_next(saphyr_parser *parser, saphyr_event *event);
 
 /*
- * Shows what saphyr_next hands out next, and does not pass it. What was shown is shown again, until it is handed
- * out.
+ * Shows what saphyr_next hands out next, without handing it out. Until it is handed out, the same is shown again.
  *
- * Answers as saphyr_next does.
+ * Returns what saphyr_next returns.
  */
 int32_t saphyr_peek(saphyr_parser *parser, saphyr_event *event);
 
 /*
- * Makes a parser of its own at the same place of the events, and puts it into `copy`. What `copy` held is freed,
- * whatever the answer. Advancing one does not move the other. The texts of the event that `parser` gave last are
- * not to be read any more, and the copy has given none.
+ * Makes an independent parser at the same place of the events, and puts it into `copy`. Frees what `copy` held,
+ * whatever it returns. Advancing one does not move the other. The texts of the event that `parser` gave last must
+ * not be read any more, and the copy has given none.
  *
- * Answers SAPHYR_OK; SAPHYR_NO_PARSER or SAPHYR_NO_MEMORY, and then `copy` is empty. `parser` stays as it was.
+ * Returns SAPHYR_OK; or SAPHYR_NO_PARSER or SAPHYR_NO_MEMORY, and then `copy` is empty. `parser` stays as it was.
  */
 int32_t saphyr_clone(saphyr_parser *parser, saphyr_parser *copy);
 
 /*
- * Says whether the prefixes of tags hold for later documents too. It counts at each end of a document that is
- * read from then on.
+ * Sets whether the prefixes of tags hold for later documents too. The setting takes effect from the next end of a
+ * document that is read.
  *
- * Answers SAPHYR_OK or SAPHYR_NO_PARSER.
+ * Returns SAPHYR_OK or SAPHYR_NO_PARSER.
  */
 int32_t saphyr_keep_tags(saphyr_parser *parser, bool keep_tags);
 
 /*
- * Frees the parser with what its last event has, and leaves the handle empty. Of an empty one nothing is freed.
+ * Frees the parser and the texts of its last event, and leaves the handle empty. Does nothing to an empty handle.
  */
 void saphyr_free(saphyr_parser *parser);
 
 /*
- * The version of the library. A header with another SAPHYR_VERSION is not to be used with it.
+ * Returns the version of the library. Do not use it with a header that has another SAPHYR_VERSION.
  */
 uint32_t saphyr_version(void);
 

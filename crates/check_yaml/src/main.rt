@@ -1,9 +1,9 @@
-//! Checks files of YAML, and says what is wrong with them.
+//! Checks YAML files, and says what is wrong with them.
 //!
 //!     check_yaml [--events] [--quiet] [--max-depth N] [--max-nodes N] [FILE..]
 //!
-//! `-` stands for standard input. The status is 0 where all files are right, 1 where one has a fault or a
-//! warning, and 2 for a wrong call, or where a file can't be read or something can't be written.
+//! `-` names standard input. The status is 0 if all files are right and 1 if one has a fault or a warning. It is
+//! 2 if the call is wrong, a file can't be read or something can't be written.
 #![tactic(auto)]
 
 ghost use Rattle.std.specs.Prelude.{◌≡◌};
@@ -59,7 +59,7 @@ fn refuse(rt: &HostRuntime, text: &str) -> ExitCode
     ExitCode::from(2)
 }
 
-// Checks each file, and says why where one is not checked.
+// Checks each file. If one is not checked, says why.
 fn check_files(rt: &HostRuntime, options: Options, files: &[String]) -> ExitCode {
     let mut answers = Vec::new(rt.alloc());
     for name in files {

@@ -2,9 +2,8 @@
 //!
 //!     dump_events [FILE]
 //!
-//! Reads the file, or standard input where none is named. The status is 0 where all events were
-//! printed, 1 where the text is refused or can't be read or printed, and 2 for a call with more than
-//! one argument.
+//! Reads the file, or standard input if none is named. The status is 0 if all events were printed, 1 if
+//! the text is refused or can't be read or printed, and 2 if there is more than one argument.
 #![tactic(auto)]
 
 ghost use Rattle.std.specs.Prelude.{◌≡◌};
@@ -16,10 +15,10 @@ use std::fs::File;
 use std::io::{BufWriter, Read, Write};
 use std::process::ExitCode;
 
-/// How many bytes an argument has at most. Linux hands over no longer one.
+/// The most bytes of an argument. Linux allows no longer one.
 const LONGEST_ARGUMENT: usize = 131_072;
 
-// The arguments are counted and read without memory, so that their want is no call that isn't known.
+// The arguments are counted and read without requests for memory, so no request here can fail.
 fn main(rt: HostRuntime) -> ExitCode {
     if !matches!(rt.arg(2, &mut []), Err(FillError::NotPresent)) {
         return usage(&rt);
@@ -69,7 +68,7 @@ fn dump_from<R: Read>(rt: &HostRuntime, name: &str, source: &mut R) -> ExitCode 
     let mut err = rt.stderr();
     let status = match BufWriter::new(alloc, rt.stdout()) {
         Ok(mut out) => run_dump(alloc, name, source, &mut out, &mut err),
-        // Without memory for a buffer the lines are written as they come.
+        // If there is no memory for a buffer, the lines are written as they come.
         Err(_) => run_dump(alloc, name, source, &mut rt.stdout(), &mut err),
     };
     ExitCode::from(status)

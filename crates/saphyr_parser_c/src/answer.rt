@@ -1,4 +1,4 @@
-//! What is told of the next event or of the fault in its place, with the status of the call.
+//! Tells C the next event, or the fault in its place, with the status of the call.
 
 ghost use Rattle.std.specs.Prelude.{◌≡◌};
 ghost use Rattle.saphyr_parser.specs.Cursor.{event_of};

@@ -1,9 +1,9 @@
-//! How a text is encoded: how many bytes at its front are UTF-8, and whether it begins as UTF-16 does (YAML 1.2.2, 5.2).
+//! The encoding of a text: how many bytes at its front are UTF-8, and whether it begins as UTF-16 (YAML 1.2.2, 5.2).
 
 ghost use Rattle.std.specs.Prelude.{◌↔◌, IsTrue};
 ghost use Rattle.saphyr_parser_c.specs.Encoding.{BeginsAsUtf16, IsUtf8Front};
 
-/// How many bytes at the front are UTF-8: where not all are, the place of the first that is none.
+/// How many bytes at the front are UTF-8. If not all are, this is the place of the first that is not.
 pub fn utf8_front(text: &[u8]) -> usize
     ensures { IsUtf8Front text.now result }
 {

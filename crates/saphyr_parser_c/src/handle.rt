@@ -1,4 +1,4 @@
-//! A box in the form in which C keeps it between calls.
+//! A box as C keeps it between calls.
 
 ghost use Rattle.std.specs.Prelude.{◌≡◌};
 ghost use Rattle.std.specs.Option.{MatchOption};

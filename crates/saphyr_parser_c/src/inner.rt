@@ -1,4 +1,4 @@
-//! A parser with the event that it gave last, whose texts C may read until the next call.
+//! A parser with the event that it gave last. C may read the texts of that event until the next call.
 
 ghost use Rattle.std.specs.Prelude.{◌≡◌, IfOk, IsUtf8, MatchResult, None};
 ghost use Rattle.saphyr_parser_c.specs.Inner.{RefusesText};
@@ -27,7 +27,7 @@ fn unreadable(text: &[u8]) -> Status
 #[derive(Drop)]
 pub struct Inner {
     pub(super) parser: Parser<'static, StrInput<'static>>,
-    // What was handed out last: where an event and a fault stand, and which of them it was.
+    // What was handed out last: places for an event and for a fault, and which of them it was.
     pub(super) next: (Event<'static>, Span),
     pub(super) fault: Fault,
     pub(super) progress: Progress,
@@ -38,16 +38,23 @@ impl Inner {
     ghost use Rattle.saphyr_parser.specs.Cursor as cursor;
     ghost use Rattle.saphyr_parser_c.specs.Inner as spec;
 
-    // A parser that has handed out nothing here.
-    #[inline(always)]
-    fn fresh(parser: Parser<'static, StrInput<'static>>) -> Inner
-        ensures { (result.parser ≡ parser.entry) × (spec.handed result ≡ None) }
+    // A parser that has handed out nothing here, on the heap.
+    fn fresh(
+        alloc: Global,
+        parser: Parser<'static, StrInput<'static>>,
+    ) -> Result<Box<Inner, Global>, AllocError>
+        ensures { IfOk result
+            (λ b. (b.value.parser ≡ parser.entry) × (spec.handed b.value ≡ None)) }
     {
-        Inner {
+        let inner = Inner {
             parser,
             next: no_event(),
             fault: Fault::OutOfMemory,
             progress: Progress::Over,
+        };
+        match Box::new(alloc, inner) {
+            Ok(inner) => Ok(inner),
+            Err(_) => Err(AllocError),
         }
     }
 
@@ -64,13 +71,13 @@ impl Inner {
             return Err(unreadable(text));
         };
         let parser = Parser::new_from_str(alloc, text).keep_tags(keep_tags);
-        match Box::new(alloc, Inner::fresh(parser)) {
+        match Inner::fresh(alloc, parser) {
             Ok(inner) => Ok(inner),
             Err(_) => Err(Status::NoMemory),
         }
     }
 
-    /// Hands out what comes next, which stays here until the next call.
+    /// Hands out what comes next, and keeps it here until the next call.
     pub fn step(&mut self, alloc: Global, out: &mut CEvent) -> Status
         ensures { spec.HandsToC self.old result out.new self.new }
     {
@@ -95,16 +102,13 @@ impl Inner {
         tell_lent(self.parser.peek(), out)
     }
 
-    /// A parser of its own at the same place, on the heap.
+    /// An independent parser at the same place, on the heap.
     pub fn copy(&self, alloc: Global) -> Result<Box<Inner, Global>, AllocError>
         ensures { IfOk result
             (λ b. (b.value.parser ≡ self.now.parser) × (spec.handed b.value ≡ None)) }
     {
         let parser = self.parser.try_clone()?;
-        match Box::new(alloc, Inner::fresh(parser)) {
-            Ok(inner) => Ok(inner),
-            Err(_) => Err(AllocError),
-        }
+        Inner::fresh(alloc, parser)
     }
 
     /// Sets whether the prefixes of tags hold for later documents too.

@@ -1,5 +1,5 @@
-//! The parser for C: what `saphyr_parser.h` declares. C keeps a parser as a pointer, which is null where there is
-//! none; the parser and the event that it gave last stand on the heap behind it.
+//! The parser for C: what `saphyr_parser.h` declares. C keeps a parser as a pointer, which is null if there is none.
+//! It points to the heap, to the parser and the event that the parser gave last.
 #![tactic(auto)]
 
 ghost use Rattle.std.specs.Prelude.{◌≡◌, ◌↔◌, IsUtf8, negsuc, pos};
@@ -25,7 +25,7 @@ use status::Status;
 use std::alloc::Global;
 use std::mem;
 
-// Puts a parser, or none, in the place of what C holds, and frees that.
+// Replaces what C holds by a parser, or by none, and frees it.
 fn put(place: &mut Handle, handle: Handle)
     ensures { place.new.value ≡ handle.value }
 {
@@ -46,7 +46,7 @@ fn take(alloc: Global, place: &mut Handle) -> Option<Box<Inner, Global>>
     }
 }
 
-/// A parser of a text, which has to stay as it is until the parser is freed. What `out` held is freed.
+/// Makes a parser of a text, which must stay unchanged until the parser is freed. What `out` held is freed.
 #[unsafe(no_mangle)]
 pub extern "C" fn saphyr_new(
     alloc: Global,
@@ -73,7 +73,7 @@ pub extern "C" fn saphyr_new(
     }
 }
 
-/// How many bytes at the front of a text are UTF-8: where not all are, the place of the first that is none.
+/// How many bytes at the front of a text are UTF-8. If not all are, this is the place of the first that is not.
 #[unsafe(no_mangle)]
 pub extern "C" fn saphyr_valid_up_to(text: &'static [u8]) -> usize
     ensures { IsUtf8Front text.now result }
@@ -81,7 +81,7 @@ pub extern "C" fn saphyr_valid_up_to(text: &'static [u8]) -> usize
     utf8_front(text)
 }
 
-/// Hands out the next event, and where a fault ends the events that fault, once.
+/// Hands out the next event. If a fault ends the events, hands out that fault, once.
 #[unsafe(no_mangle)]
 pub extern "C" fn saphyr_next(alloc: Global, parser: &mut Handle, event: &mut CEvent) -> i32
     ensures { spec.Nexts parser.old.value result event.new parser.new.value }
@@ -99,7 +99,7 @@ pub extern "C" fn saphyr_next(alloc: Global, parser: &mut Handle, event: &mut CE
     }
 }
 
-/// Shows what `saphyr_next` gives next, and does not pass it.
+/// Shows what `saphyr_next` hands out next, without handing it out.
 #[unsafe(no_mangle)]
 pub extern "C" fn saphyr_peek(alloc: Global, parser: &mut Handle, event: &mut CEvent) -> i32
     ensures { spec.PeeksAt parser.old.value result event.new parser.new.value }
@@ -117,7 +117,7 @@ pub extern "C" fn saphyr_peek(alloc: Global, parser: &mut Handle, event: &mut CE
     }
 }
 
-/// A parser of its own at the same place of the events. What `copy` held is freed.
+/// Makes an independent parser at the same place of the events. What `copy` held is freed.
 #[unsafe(no_mangle)]
 pub extern "C" fn saphyr_clone(alloc: Global, parser: &mut Handle, copy: &mut Handle) -> i32
     ensures same { parser.new.value ≡ parser.old.value }
@@ -145,7 +145,7 @@ pub extern "C" fn saphyr_clone(alloc: Global, parser: &mut Handle, copy: &mut Ha
     }
 }
 
-/// Says whether the prefixes of tags hold for later documents too.
+/// Sets whether the prefixes of tags hold for later documents too.
 #[unsafe(no_mangle)]
 pub extern "C" fn saphyr_keep_tags(alloc: Global, parser: &mut Handle, keep_tags: bool) -> i32
     ensures { spec.KeepsTags keep_tags parser.old.value result parser.new.value }
@@ -160,7 +160,7 @@ pub extern "C" fn saphyr_keep_tags(alloc: Global, parser: &mut Handle, keep_tags
     }
 }
 
-/// Frees the parser, if there is one. The handle is null then.
+/// Frees the parser, if there is one. The handle is null after this.
 #[unsafe(no_mangle)]
 pub extern "C" fn saphyr_free(alloc: Global, parser: &mut Handle)
     ensures { parser.new.value ≡ none }

@@ -1,4 +1,4 @@
-//! The structure in which C reads an event or a fault, and its numbers.
+//! The structure of an event or a fault for C, and its numbers.
 
 ghost use Rattle.std.specs.Prelude.{◌≡◌, None, option_map};
 ghost use Rattle.std.specs.Ptr.{null_ptr};
@@ -8,7 +8,7 @@ ghost use Rattle.saphyr_parser_c.specs.Shown as spec;
 use saphyr_parser::{Event, Marker, ScalarStyle, Span, Tag};
 use std::ptr::null;
 
-/// A text that C may read until the next call with its parser. Null where there is none.
+/// A text that C may read until the next call with its parser. Null if there is none.
 #[repr(C)]
 #[derive(Drop)]
 pub struct CText {
@@ -82,7 +82,7 @@ fn no_text() -> CText
     }
 }
 
-/// An event of this kind between these places, of which nothing else is told.
+/// An event of this kind between these places, with all other fields 0.
 pub fn bare(kind: i32, start: Marker, end: Marker) -> CEvent
     ensures numbers { spec.HasNumbers (spec.fields_of_kind kind) start end result }
     ensures texts { spec.HasTexts (spec.fields_of_kind kind) result }

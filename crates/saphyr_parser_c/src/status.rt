@@ -1,10 +1,10 @@
-//! What a call answers, and its number in C.
+//! What a call returns, and its number in C.
 
 ghost use Rattle.std.specs.Prelude.{◌≡◌};
 ghost use Rattle.saphyr_parser_c.specs.Status.{code_of};
 
-/// What a call answers.
-#[derive(Clone, Copy, Debug, PartialEq, Eq)]
+/// What a call returns.
+#[derive(Clone, Copy)]
 pub enum Status {
     /// The call made or changed what it was asked to.
     Done,
@@ -20,7 +20,7 @@ pub enum Status {
     NotUtf8,
     /// The handle has no parser.
     NoParser,
-    /// The text is UTF-16.
+    /// The text begins as UTF-16.
     Utf16,
 }
 

@@ -1,4 +1,4 @@
-//! Where the texts of an event stand: those that the parser lends, and those that are kept for C.
+//! The addresses of the texts of an event: those that the parser lends, and those that are kept for C.
 
 ghost use Rattle.std.specs.Prelude.{◌≡◌, Some, None, option_map};
 ghost use Rattle.std.specs.Cow.{cow_str_bytes};
@@ -13,14 +13,14 @@ use std::alloc::Global;
 use std::borrow::CowStr;
 use std::mem;
 
-// Where the first byte stands. The contract gives no right to read it.
+// The address of the first byte. The contract gives no right to read it.
 fn address(bytes: &[u8]) -> *const u8
     ensures { result ≡ as_ptr bytes.entry }
 {
     bytes.as_ptr()
 }
 
-/// Where a text stands, and how long it is.
+/// The address and the length of a text.
 pub fn lent(text: &str) -> CText
     ensures { spec.HasText (Some text.now) result }
 {
@@ -30,7 +30,7 @@ pub fn lent(text: &str) -> CText
     }
 }
 
-// Tells where the texts of a tag stand.
+// Writes the addresses and lengths of the texts of a tag.
 fn lend_tag(tag: &Option<Tag>, out: &mut CEvent)
     ensures same { spec.IsSameButTag out.old out.new }
     ensures texts { spec.HasTagTexts None out.old
@@ -42,7 +42,7 @@ fn lend_tag(tag: &Option<Tag>, out: &mut CEvent)
     }
 }
 
-/// Tells where the texts of an event stand.
+/// Writes the addresses and lengths of the texts of an event.
 pub fn lend(event: &Event<'static>, out: &mut CEvent)
     ensures numbers { spec.HasSameNumbers out.old out.new }
     ensures texts { spec.HasTexts spec.no_fields out.old
@@ -65,7 +65,7 @@ pub fn lend(event: &Event<'static>, out: &mut CEvent)
     }
 }
 
-/// Where the bytes of a text that is kept stand, and how many there are. They are taken out for that, and put back.
+/// The address and the number of the bytes of a text that is kept. For this they are taken out and put back.
 pub fn kept(alloc: Global, text: &mut String) -> CText
     ensures stands { spec.StandsAt (string_vec text.new) result }
     ensures same { string_vec text.new ≡ string_vec text.old }
@@ -77,7 +77,7 @@ pub fn kept(alloc: Global, text: &mut String) -> CText
     CText { at, len }
 }
 
-// The same of a text that may be borrowed.
+// The same for a text that may be borrowed.
 fn kept_any(alloc: Global, text: &mut CowStr<'static>) -> CText
     ensures stands { spec.TextStands text.new result }
     ensures same { cow_str_bytes text.new ≡ cow_str_bytes text.old }
@@ -88,7 +88,7 @@ fn kept_any(alloc: Global, text: &mut CowStr<'static>) -> CText
     }
 }
 
-// Tells where the texts of a tag stand.
+// Writes the addresses and lengths of the texts of a tag.
 fn keep_tag(alloc: Global, tag: &mut Option<Tag>, out: &mut CEvent)
     ensures same { spec.IsSameButTag out.old out.new }
     ensures kept { option_map resolved_tag tag.new ≡ option_map resolved_tag tag.old }
@@ -100,7 +100,7 @@ fn keep_tag(alloc: Global, tag: &mut Option<Tag>, out: &mut CEvent)
     }
 }
 
-// Tells where the text of a scalar stands.
+// Writes the address and the length of the text of a scalar.
 fn keep_value(alloc: Global, event: &mut Event<'static>, out: &mut CEvent)
     ensures same { spec.IsSameButValue out.old out.new }
     ensures kept { happening event.new ≡ happening event.old }
@@ -111,7 +111,7 @@ fn keep_value(alloc: Global, event: &mut Event<'static>, out: &mut CEvent)
     }
 }
 
-// Tells where the texts of a node's tag stand.
+// Writes the addresses and lengths of the texts of a node's tag.
 fn keep_tag_of(alloc: Global, event: &mut Event<'static>, out: &mut CEvent)
     ensures same { spec.IsSameButTag out.old out.new }
     ensures value { spec.value_of event.new ≡ spec.value_of event.old }
@@ -134,7 +134,7 @@ fn keep_tag_of(alloc: Global, event: &mut Event<'static>, out: &mut CEvent)
     }
 }
 
-/// Tells where the texts of an event stand.
+/// Writes the addresses and lengths of the texts of an event.
 pub fn keep(alloc: Global, event: &mut Event<'static>, out: &mut CEvent)
     ensures numbers { spec.HasSameNumbers out.old out.new }
     ensures kept { happening event.new ≡ happening event.old }

@@ -30,7 +30,7 @@ pub enum Call {
 pub struct Options {
     /// The events are printed too.
     pub events: bool,
-    /// Nothing that is found is printed.
+    /// What is found is not printed.
     pub quiet: bool,
     pub limits: Limits,
 }
@@ -58,7 +58,7 @@ impl<X: Drop> From<AllocFailed<X>> for WrongCall {
     }
 }
 
-/// What the words behind the program's name ask for. Standard input is checked where no file is named.
+/// What the words after the program's name ask for. If no file is named, they ask to check standard input.
 pub fn parse_arguments(alloc: Global, words: &[String]) -> Result<Call, WrongCall> {
     let mut options = Options {
         events: false,
@@ -69,33 +69,94 @@ pub fn parse_arguments(alloc: Global, words: &[String]) -> Result<Call, WrongCal
         },
     };
     let mut files = Vec::new(alloc);
+    match take_words(alloc, words, &mut options, &mut files)? {
+        Asked::Help => Ok(Call::Help),
+        Asked::Version => Ok(Call::Version),
+        Asked::Check => Ok(Call::Check(options, files)),
+    }
+}
+
+/// What words ask for.
+#[derive(Clone, Copy)]
+enum Asked {
+    Help,
+    Version,
+    Check,
+}
+
+/// An option, or the name of a file.
+#[derive(Clone, Copy)]
+enum Word {
+    Help,
+    Version,
+    Events,
+    Quiet,
+    MaxDepth,
+    MaxNodes,
+    NoOption,
+    File,
+}
+
+/// What a word is.
+fn kind_of(word: &str) -> Word {
+    match word {
+        "--help" => Word::Help,
+        "--version" => Word::Version,
+        "--events" => Word::Events,
+        "--quiet" => Word::Quiet,
+        "--max-depth" => Word::MaxDepth,
+        "--max-nodes" => Word::MaxNodes,
+        _ if word.starts_with("-") && word != "-" => Word::NoOption,
+        _ => Word::File,
+    }
+}
+
+/// Takes the words in turn, into options and the names of files.
+fn take_words(
+    alloc: Global,
+    words: &[String],
+    options: &mut Options,
+    files: &mut Vec<String>,
+) -> Result<Asked, WrongCall> {
     let mut at = 0;
     while at < words.len() {
         let word = words[at].as_str();
         at += 1;
-        match word {
-            "--help" => return Ok(Call::Help),
-            "--version" => return Ok(Call::Version),
-            "--events" => options.events = true,
-            "--quiet" => options.quiet = true,
-            "--max-depth" => {
+        match kind_of(word) {
+            Word::Help => return Ok(Asked::Help),
+            Word::Version => return Ok(Asked::Version),
+            Word::Events => options.events = true,
+            Word::Quiet => options.quiet = true,
+            Word::MaxDepth => {
                 options.limits.depth = number(alloc, word, words.get(at))?;
                 at += 1;
             }
-            "--max-nodes" => {
+            Word::MaxNodes => {
                 options.limits.nodes = number(alloc, word, words.get(at))?;
                 at += 1;
             }
-            _ if word.starts_with("-") && word != "-" => {
-                return Err(WrongCall::NoSuchOption(String::from_str(alloc, word)?));
-            }
-            _ => files.push(String::from_str(alloc, word)?)?,
+            Word::NoOption => return Err(no_option(alloc, word)),
+            Word::File => add_file(alloc, word, files)?,
         }
     }
     if files.is_empty() {
-        files.push(String::from_str(alloc, "-")?)?;
+        add_file(alloc, "-", files)?;
     }
-    Ok(Call::Check(options, files))
+    Ok(Asked::Check)
+}
+
+/// The fault of a word that is no option.
+fn no_option(alloc: Global, word: &str) -> WrongCall {
+    match String::from_str(alloc, word) {
+        Ok(word) => WrongCall::NoSuchOption(word),
+        Err(_) => WrongCall::OutOfMemory,
+    }
+}
+
+/// Adds the name of a file.
+fn add_file(alloc: Global, name: &str, files: &mut Vec<String>) -> Result<(), WrongCall> {
+    files.push(String::from_str(alloc, name)?)?;
+    Ok(())
 }
 
 /// The number that an option asks for.

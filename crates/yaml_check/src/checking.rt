@@ -1,4 +1,4 @@
-//! A linter on the events of a text: each rule takes all of them in turn, with their places.
+//! A linter on the events of a text. Each rule takes all events in turn, with their places.
 ghost use Rattle.std.specs.Prelude.{◌≡◌, [], ◌++◌, IfOk, OnOk, option_to_list};
 ghost use Rattle.saphyr_parser.specs.Cursor.{to_come};
 ghost use Rattle.saphyr_parser.specs.Runs.{answer_of_text};
@@ -13,6 +13,7 @@ use crate::keys::Keys;
 use crate::sizes::Sizes;
 use saphyr_parser::{Event, Fault, Input, Marker, Parser};
 use std::alloc::{AllocError, Global};
+use std::mem::replace;
 
 /// How many nodes a text may have, and how many collections may be open at once, without a warning. An alias
 /// counts as one node, and so does a node that is left out.
@@ -33,7 +34,7 @@ struct Checker {
     warnings: Vec<Finding>,
 }
 
-/// The warnings on a text, and the parser's fault where it refuses the text.
+/// The warnings on a text, and the parser's fault if it refuses the text.
 pub fn check_text(alloc: Global, text: &str, limits: Limits) -> Result<Findings, AllocError>
     ensures fault { IfOk result (NamesFault (answer_of_text text.now)) }
     ensures warnings { IfOk result (NamesWarnings limits (answer_of_text text.now)) }
@@ -52,7 +53,8 @@ fn check_events<T: Input + Drop>(
 {
     let mut checker = Checker::new(alloc, limits);
     let ended = checker.take_all(parser);
-    let Checker { warnings, .. } = checker;
+    let warnings = replace(&mut checker.warnings, Vec::new(alloc));
+    drop(checker);
     match ended {
         Ok(()) => Ok(Findings {
             warnings,
@@ -62,7 +64,10 @@ fn check_events<T: Input + Drop>(
             warnings,
             fault: Some(error),
         }),
-        Err(_) => Err(AllocError),
+        Err(other) => {
+            drop((other, warnings));
+            Err(AllocError)
+        }
     }
 }
 
@@ -92,7 +97,9 @@ impl Checker {
     {
         for item in parser {
             let (event, span) = item?;
-            self.take(&event, span.start)?;
+            let taken = self.take(&event, span.start);
+            drop(event);
+            taken?;
         }
         Ok(())
     }
@@ -116,7 +123,7 @@ impl Checker {
         self.warn(many)
     }
 
-    /// Warns of a collection that is open inside as many as there may be.
+    /// Warns of a collection if as many as allowed are already open around it.
     fn too_deep(&self, event: &Event, place: Marker) -> Option<Finding>
         ensures { result ≡ warned.depth_warning (seen_of self.now) (happening event.now) place }
     {

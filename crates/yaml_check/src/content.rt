@@ -9,7 +9,7 @@ use saphyr_parser::{Event, Marker, ScalarStyle};
 /// Looks for documents without content.
 #[derive(Clone, Copy)]
 pub(crate) struct Content {
-    /// Where a document begins, right behind its start.
+    /// Where a document begins, right after its start.
     begun: Option<Marker>,
 }
 
@@ -40,7 +40,7 @@ impl Content {
     }
 }
 
-/// Whether a node is left out: no text, no anchor and no tag stand for it.
+/// Whether a node is left out: it has no text, no anchor and no tag.
 fn is_left_out(event: &Event) -> bool
     ensures { result ≡ spec.is_left_out (happening event.now) }
 {

@@ -6,12 +6,12 @@ ghost use Rattle.yaml_check.specs.Counting as spec;
 use crate::finding::{Finding, Warning};
 use saphyr_parser::{Event, Marker};
 
-/// Looks for the first node that is too many.
+/// Looks for the first node over the limit.
 #[derive(Clone, Copy)]
 pub(crate) struct Count {
     /// How many nodes there may be.
     most: usize,
-    /// How many more there may be, until there were too many.
+    /// How many more there may be. `None` once there were too many.
     left: Option<usize>,
 }
 
@@ -26,7 +26,7 @@ impl Count {
         }
     }
 
-    /// Takes an event, whose span starts here, and warns of the first node that is too many.
+    /// Takes an event, whose span starts here, and warns of the first node over the limit.
     pub(crate) fn take(&mut self, event: &Event, place: Marker) -> Option<Finding>
         ensures told { result
             ≡ spec.node_warning self.old.most self.old.left (happening event.now) place }

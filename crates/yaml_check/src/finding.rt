@@ -5,12 +5,12 @@ ghost use Rattle.yaml_check.specs.Checks.{IsClean};
 use saphyr_parser::{Marker, ScanError};
 use std::fmt;
 
-/// What may be wrong with a text that the parser takes.
+/// What may be wrong with a text that the parser accepts.
 #[derive(Clone, Copy, Debug)]
 pub enum Warning {
-    /// An equal key stands in the same mapping before, at this place.
+    /// The same mapping has an equal key before, at this place.
     SameKey(Marker),
-    /// The alias stands for more nodes than this, those that other aliases stand for counted too.
+    /// The alias stands for more nodes than this, including those that other aliases stand for.
     WideAlias(usize),
     NoContent,
     /// More collections than this are open at once.
@@ -18,7 +18,7 @@ pub enum Warning {
     TooManyNodes(usize),
 }
 
-/// A warning and where it belongs.
+/// A warning and its place.
 #[derive(Clone, Copy, Debug)]
 pub struct Finding {
     pub place: Marker,

@@ -1,4 +1,4 @@
-//! Keys that stand twice in a mapping.
+//! Keys that occur twice in a mapping.
 ghost use Rattle.std.specs.Prelude.{◌≡◌, None, IfOk, OnOk, option_map};
 ghost use Rattle.saphyr_parser.specs.Views.Events.{happening, resolved_tag};
 ghost use Rattle.yaml_check.specs.Keys as spec;
@@ -9,7 +9,7 @@ use std::alloc::{AllocError, Global};
 use std::collections::BTreeMap;
 use std::mem::replace;
 
-/// The text of a key, and its tag's name, empty where it has none.
+/// The text of a key, and its tag's name, which is empty if it has none.
 type Key = (String, String);
 
 /// What the next node is.
@@ -21,18 +21,18 @@ pub(crate) enum Next {
     Value,
 }
 
-/// A mapping with the keys that it has so far, or what else nodes stand in.
+/// A mapping with its keys so far, or something else that contains nodes.
 #[derive(Drop)]
 pub(crate) struct Level {
     next: Next,
-    /// Where each key stands first.
+    /// The first place of each key.
     keys: BTreeMap<Key, Marker>,
 }
 
 impl Level {
     ghost use Rattle.yaml_check.specs.KeysSeen as seen;
 
-    /// Nothing stands in it yet.
+    /// One with nothing in it yet.
     fn new(alloc: Global, next: Next) -> Level
         ensures { seen.level_of result ≡ spec.new_level next }
     {
@@ -53,7 +53,7 @@ impl Level {
         };
     }
 
-    /// Where an equal key stood before, if one did. Else the key is kept with its place.
+    /// The place of an equal key before, if there is one. Otherwise the key is kept with its place.
     fn add_key(&mut self, key: Key, place: Marker) -> Result<Option<Marker>, AllocError>
         ensures first { IfOk result (λ first.
             first ≡ spec.first_place (spec.key_bytes key) (seen.level_of self.old)) }
@@ -63,18 +63,20 @@ impl Level {
         let before = self.keys.get(&key).copied();
         if before.is_none() {
             self.keys.insert(key, place)?;
+            return Ok(before);
         }
+        drop(key);
         Ok(before)
     }
 }
 
-/// Looks for keys that stand twice in a mapping.
+/// Looks for keys that occur twice in a mapping.
 #[derive(Drop)]
 pub(crate) struct Keys {
     alloc: Global,
-    /// What the next node stands in.
+    /// What the next node is in.
     here: Level,
-    /// What that stands in, the innermost last.
+    /// What is around that, the innermost last.
     outer: Vec<Level>,
 }
 
@@ -91,7 +93,7 @@ impl Keys {
         }
     }
 
-    /// Takes an event, whose span starts here, and warns of a key that stood in its mapping before.
+    /// Takes an event, whose span starts here, and warns of a key that its mapping had before.
     pub(crate) fn take(
         &mut self,
         event: &Event,
@@ -124,7 +126,7 @@ impl Keys {
         }
     }
 
-    /// Takes a scalar. Where it is a key that stood before, tells where that was.
+    /// Takes a scalar. If it is a key that its mapping had before, tells where.
     fn take_scalar(
         &mut self,
         text: &str,
@@ -165,14 +167,14 @@ impl Keys {
         ensures { seen.keys_of self.new ≡ spec.keys_outside (seen.keys_of self.old) }
     {
         if let Some(level) = self.outer.pop() {
-            self.here = level;
+            drop(replace(&mut self.here, level));
             self.here.pass();
         }
     }
 }
 
-/// What a scalar is known by among the keys of a mapping, whatever its style: its text and the whole name of
-/// its tag.
+/// What identifies a scalar among the keys of a mapping, whatever its style: its text and the whole name of its
+/// tag.
 fn key_of(alloc: Global, text: &str, tag: &Option<Tag>) -> Result<Key, AllocError>
     ensures { IfOk result (λ key. spec.key_bytes key
         ≡ spec.key_of text.now (option_map resolved_tag tag.now)) }

@@ -1,4 +1,4 @@
-//! Laws of the definitions that the promises on warnings mean. Code needs none of them.
+//! Laws of the definitions that the promises on warnings use. No code needs them.
 ghost use Rattle.std.specs.Prelude.{◌≡◌, ℕ, List};
 ghost use Rattle.saphyr_parser.specs.Events.{Happening};
 ghost use Rattle.saphyr_parser.specs.Words.Marker.{Marker as Place};
@@ -9,7 +9,7 @@ ghost use Rattle.yaml_check.specs.EqualKeys.{IsRepeated};
 ghost use Rattle.yaml_check.specs.Meant.{AddsOneAtMost, IsCollectionInside, IsEmptyDocument, IsNodeBehind, IsWarned};
 ghost use Rattle.yaml_check.specs.WideAliases.{IsWideAlias};
 
-/// Of each document without content it is told where it begins, and of no other place.
+/// There is a warning at the start of each document without content, and nowhere else.
 pub fn tells_empty_documents()
     ensures some { (limits : Limits) (events : List (Happening × Span)) (place : Place)
         → IsWarned limits events place NoContent → IsEmptyDocument events place }
@@ -17,7 +17,7 @@ pub fn tells_empty_documents()
         → IsEmptyDocument events place → IsWarned limits events place NoContent }
 {}
 
-/// Of the first node that is too many it is told, and of no other.
+/// There is a warning about the first node over the limit, and about no other.
 pub fn tells_too_many_nodes()
     ensures some { (limits : Limits) (events : List (Happening × Span)) (place : Place) (most : ℕ)
         → IsWarned limits events place (TooManyNodes most)
@@ -27,7 +27,7 @@ pub fn tells_too_many_nodes()
         → IsWarned limits events place (TooManyNodes most) }
 {}
 
-/// Of each collection that begins inside as many as there may be it is told, and of no other.
+/// There is a warning about each collection that begins inside as many as allowed, and about no other.
 pub fn tells_deep_collections()
     ensures some { (limits : Limits) (events : List (Happening × Span)) (place : Place) (most : ℕ)
         → IsWarned limits events place (TooDeep most)
@@ -37,8 +37,8 @@ pub fn tells_deep_collections()
         → IsWarned limits events place (TooDeep most) }
 {}
 
-/// Of each key of a mapping that equals one before it in the same mapping it is told, with the place of the first that
-/// does, and of no other. Keys are equal where they are scalars with the same text and the same tag.
+/// There is a warning about each key that equals an earlier one of the same mapping, with the place of the first such
+/// key, and about no other. Keys are equal if they are scalars with the same text and the same tag.
 pub fn tells_equal_keys()
     ensures some { (limits : Limits) (events : List (Happening × Span)) (place first : Place)
         → IsWarned limits events place (SameKey first) → IsRepeated events first place }
@@ -46,8 +46,8 @@ pub fn tells_equal_keys()
         → IsRepeated events first place → IsWarned limits events place (SameKey first) }
 {}
 
-/// Of each alias that stands for more than 1,000,000 nodes it is told, and of no other. What aliases in its node stand
-/// for is counted too, and an alias in its own node stands for nodes without end.
+/// There is a warning about each alias that stands for more than 1,000,000 nodes, and about no other. What aliases in
+/// its node stand for is counted too, and an alias in its own node stands for infinitely many.
 pub fn tells_wide_aliases()
     ensures some { (limits : Limits) (events : List (Happening × Span)) (place : Place) (most : ℕ)
         → IsWarned limits events place (WideAlias most)
@@ -57,8 +57,8 @@ pub fn tells_wide_aliases()
         → IsWarned limits events place (WideAlias most) }
 {}
 
-/// To what is told of some events one more event adds at most one warning by each rule, behind those before. So none is
-/// told twice, and they come in the order of the events.
+/// One more event adds at most one warning by each rule, after those before. So no warning comes twice, and they come
+/// in the order of the events.
 pub fn adds_one_of_a_rule_at_most()
     ensures { (limits : Limits) (front : List (Happening × Span)) (e : Happening × Span) (rule : ℕ)
         → AddsOneAtMost limits front e rule }

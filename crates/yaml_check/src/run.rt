@@ -1,4 +1,4 @@
-//! The check of one file: it is read, checked and told of.
+//! The check of one file: reads it, checks it, and writes what is found.
 ghost use Rattle.std.specs.Prelude.{◌≡◌, ◌≤◌, ◌↔◌, IfSome};
 ghost use Rattle.saphyr_parser.specs.Runs.{answer_of_text, ReadsAll};
 ghost use Rattle.yaml_check.specs.Statuses as status;
@@ -21,8 +21,8 @@ pub enum Verdict {
     Wrong,
 }
 
-/// The status of a program that got these answers of files: 0 where all are right, 2 where one was not checked,
-/// and else 1.
+/// The status of a program with these results for its files: 0 if all are right, 2 if one was not checked,
+/// otherwise 1.
 #[must_use]
 pub fn status_of(answers: &[Result<Verdict, CheckFault>]) -> u8
     ensures right { (result ≡ 0) ↔ AreRight answers.now }
@@ -36,7 +36,7 @@ pub fn status_of(answers: &[Result<Verdict, CheckFault>]) -> u8
     status
 }
 
-/// The status where this file alone is checked.
+/// The status if only this file is checked.
 fn status_of_one(answer: Result<Verdict, CheckFault>) -> u8
     ensures { result ≡ status.status_of_one answer }
 {
@@ -93,7 +93,10 @@ fn read_source<R: Read>(alloc: Global, source: &mut R) -> Option<Vec<u8>>
     let mut bytes = Vec::new(alloc);
     match source.read_to_end(&mut bytes) {
         Ok(_count) => Some(bytes),
-        Err(_) => None,
+        Err(error) => {
+            drop((error, bytes));
+            None
+        }
     }
 }
 
@@ -117,7 +120,7 @@ fn judge_bytes<W: Write>(
     }
 }
 
-/// Tells of bytes that are no text. Those in front are one.
+/// Tells of bytes that are not UTF-8. The bytes before the wrong one are a text.
 fn tell_not_utf8<W: Write>(
     alloc: Global,
     name: &str,
@@ -129,11 +132,13 @@ fn tell_not_utf8<W: Write>(
 {
     let front = str::from_utf8(front).unwrap_or("");
     let told = report_not_utf8(alloc, name, front)?;
-    write_unless_quiet(out, told.as_str(), options)?;
+    let written = write_unless_quiet(out, told.as_str(), options);
+    drop(told);
+    written?;
     Ok(Verdict::Wrong)
 }
 
-/// Checks a text, and writes its events, where they are asked for, and what is found.
+/// Checks a text. Writes its events, if they are asked for, and what is found.
 fn judge<W: Write>(
     alloc: Global,
     name: &str,
@@ -145,16 +150,28 @@ fn judge<W: Write>(
 {
     let found = check_text(alloc, text, options.limits)?;
     if found.is_empty() {
+        drop(found);
         write_events(alloc, text, options, out)?;
         return Ok(Verdict::Right);
     }
-    let told = report(alloc, name, text, &found)?;
-    write_events(alloc, text, options, out)?;
-    write_unless_quiet(out, told.as_str(), options)?;
-    Ok(Verdict::Wrong)
+    let reported = report(alloc, name, text, &found);
+    drop(found);
+    let told = reported?;
+    match write_events(alloc, text, options, out) {
+        Ok(()) => {
+            let written = write_unless_quiet(out, told.as_str(), options);
+            drop(told);
+            written?;
+            Ok(Verdict::Wrong)
+        }
+        Err(fault) => {
+            drop(told);
+            Err(fault)
+        }
+    }
 }
 
-/// Writes what is told, unless nothing is to be.
+/// Writes what is found, unless the options forbid it.
 fn write_unless_quiet<W: Write>(out: &mut W, told: &str, options: Options) -> Result<(), CheckFault>
     ensures { WritesTold result (told_unless_quiet options told.now) (W.contents out.old)
         (W.contents out.new) }
@@ -180,7 +197,7 @@ fn write_bytes<W: Write>(out: &mut W, bytes: &[u8]) -> Result<(), CheckFault>
     Ok(())
 }
 
-/// Writes the lines of the events where they are asked for, as `dump_events` does.
+/// If the options ask for the events, writes their lines as `dump_events` does.
 fn write_events<W: Write>(
     alloc: Global,
     text: &str,
@@ -194,10 +211,18 @@ fn write_events<W: Write>(
         return Ok(());
     }
     let mut parser = Parser::new_from_str(alloc, text);
-    match dump(&mut parser, out) {
+    let dumped = dump(&mut parser, out);
+    drop(parser);
+    match dumped {
         Ok(()) => Ok(()),
-        Err(DumpFault::Parse(Fault::Scan(_error))) => Ok(()),
-        Err(DumpFault::Parse(_)) => Err(CheckFault::OutOfMemory),
+        Err(DumpFault::Parse(Fault::Scan(error))) => {
+            drop(error);
+            Ok(())
+        }
+        Err(DumpFault::Parse(fault)) => {
+            drop(fault);
+            Err(CheckFault::OutOfMemory)
+        }
         Err(DumpFault::Write) => Err(CheckFault::CantWrite),
     }
 }

@@ -11,21 +11,21 @@ use std::collections::BTreeMap;
 /// How many nodes an alias may stand for without a warning.
 const WIDE: usize = 1_000_000;
 
-/// A collection, or what else nodes stand in.
+/// A collection, or something else that contains nodes.
 #[derive(Clone, Copy)]
 pub(crate) struct Size {
-    /// The id of its anchor, 0 where it has none.
+    /// The id of its anchor, or 0 if it has none.
     anchor: usize,
-    /// How many nodes stand in it so far, with those that aliases stand for.
+    /// How many nodes it has so far, including those that aliases stand for.
     nodes: usize,
 }
 
 /// Looks for aliases that stand for many nodes.
 #[derive(Drop)]
 pub(crate) struct Sizes {
-    /// What the next node stands in.
+    /// What the next node is in.
     here: Size,
-    /// What that stands in, the innermost last.
+    /// What is around that, the innermost last.
     outer: Vec<Size>,
     /// How many nodes the node of each anchor stands for, once it has ended.
     known: BTreeMap<usize, usize>,
@@ -74,7 +74,7 @@ impl Sizes {
         }
     }
 
-    /// Passes an alias. One inside the node that it stands for has no end.
+    /// Passes an alias. An alias inside the node that it stands for is infinite.
     fn take_alias(&mut self, id: usize, place: Marker) -> Option<Finding>
         ensures told { result ≡ spec.wide_if (spec.size_at id (seen.sizes_of self.old)) place }
         ensures behind { seen.sizes_of self.new ≡ spec.with_nodes
@@ -91,7 +91,7 @@ impl Sizes {
         })
     }
 
-    /// Passes a node that has ended and stands for so many.
+    /// Passes a node that has ended and stands for this many.
     fn end_node(&mut self, id: usize, nodes: usize) -> Result<Option<Finding>, AllocError>
         ensures none { IfOk result (λ told. told ≡ None) }
         ensures behind { OnOk result (seen.sizes_of self.new

@@ -1,4 +1,4 @@
-//! What people read of what was found: the place, the text, the line and a caret.
+//! The findings as people read them: the place, the message, the line and a caret.
 ghost use Rattle.std.specs.Prelude.{◌≡◌, ◌++◌, [], IfOk, OnOk, string_bytes};
 ghost use Rattle.std.specs.Str.{chars};
 ghost use Rattle.yaml_check.specs.Texts.{error_line, name_and_place, warning_line};
@@ -9,16 +9,27 @@ use crate::view::View;
 use saphyr_parser::{Marker, ScanError};
 use std::alloc::{AllocError, Global};
 
-/// What is printed of the findings in a text of this name: the warnings, and the fault behind them.
+/// What is printed for the findings in a text of this name: the warnings, and the fault after them.
 pub fn report(alloc: Global, name: &str, text: &str, found: &Findings) -> Result<String, AllocError>
     ensures { IfOk result (λ told. IsReport name.now (chars text.now) found.now
         (string_bytes told)) }
 {
     let text = characters(alloc, text)?;
     let mut out = String::new(alloc);
-    tell_warnings(alloc, &mut out, name, &text, &found.warnings)?;
-    tell_fault(alloc, &mut out, name, &text, &found.fault)?;
-    Ok(out)
+    let warned = tell_warnings(alloc, &mut out, name, &text, &found.warnings);
+    if let Err(fault) = warned {
+        drop((text, out));
+        return Err(fault);
+    }
+    let told = tell_fault(alloc, &mut out, name, &text, &found.fault);
+    drop(text);
+    match told {
+        Ok(()) => Ok(out),
+        Err(fault) => {
+            drop(out);
+            Err(fault)
+        }
+    }
 }
 
 /// The characters of a text.
@@ -57,10 +68,12 @@ fn tell_warning(
         (string_bytes out.old) (string_bytes out.new)) }
 {
     let line = line_of_warning(alloc, finding.warning)?;
-    tell(out, name, text, finding.place, line.as_str())
+    let told = tell(out, name, text, finding.place, line.as_str());
+    drop(line);
+    told
 }
 
-/// Tells the fault, where there is one.
+/// Tells the fault, if there is one.
 fn tell_fault(
     alloc: Global,
     out: &mut String,
@@ -74,27 +87,29 @@ fn tell_fault(
     match fault {
         Some(error) => {
             let line = line_of_error(alloc, error.info.as_str())?;
-            tell(out, name, text, error.mark, line.as_str())
+            let told = tell(out, name, text, error.mark, line.as_str());
+            drop(line);
+            told
         }
         None => Ok(()),
     }
 }
 
-/// What is said of a warning.
+/// The message of a warning.
 fn line_of_warning(alloc: Global, warning: Warning) -> Result<String, AllocError>
     ensures { IfOk result (λ line. string_bytes line ≡ warning_line warning) }
 {
     format!(in alloc; "warning: {warning}\n")
 }
 
-/// What is said of a fault.
+/// The message of a fault.
 fn line_of_error(alloc: Global, text: &str) -> Result<String, AllocError>
     ensures { IfOk result (λ line. string_bytes line ≡ error_line text.now) }
 {
     format!(in alloc; "error: {text}\n")
 }
 
-/// Tells one thing: its place in the text of this name, a line that says what it is, and the place in its line.
+/// Tells one finding: its place in the text of this name, a line that says what it is, and its line with the caret.
 fn tell(
     out: &mut String,
     name: &str,
@@ -118,7 +133,7 @@ fn push_place(out: &mut String, name: &str, place: Marker) -> Result<(), AllocEr
     write!(out, "{name}:{place}: ")
 }
 
-/// What is printed of bytes of this name that are not UTF-8, of which the text that stands in front is.
+/// What is printed for bytes of this name that are not UTF-8, after a text that is.
 pub(crate) fn report_not_utf8(
     alloc: Global,
     name: &str,
@@ -131,7 +146,7 @@ pub(crate) fn report_not_utf8(
     Ok(out)
 }
 
-/// The place behind a text. CR LF, CR and LF are one break each.
+/// The place after a text. CR LF, CR and LF are one break each.
 fn place_behind(text: &[char]) -> Marker {
     let mut line = 1usize;
     let mut start = 0;

@@ -1,4 +1,4 @@
-//! The part of a line that is shown round a place: 200 columns at most, in which each character is visible.
+//! The part of a line that is shown around a place: at most 200 columns, in which each character is visible.
 ghost use Rattle.std.specs.Prelude.{◌≡◌, ◌+◌, ◌-◌, ◌<◌, ◌≤◌, ◌++◌, true, false, length, nat_lt, take, drop, replicate, OnOk, string_bytes};
 ghost use Rattle.std.specs.Char.Escape.{escape_default};
 ghost use Rattle.yaml_check.specs.Shown as shown;
@@ -7,25 +7,25 @@ use saphyr_parser::Marker;
 use std::alloc::AllocError;
 use unicode_width::UnicodeWidthChar;
 
-/// How many columns are shown at most, those that a cut takes included.
+/// The most columns that are shown, including those of a cut.
 const COLUMNS: usize = 200;
-/// How many of them stand before the place at most.
+/// The most of them that are before the place.
 const FRONT: usize = 120;
-/// What stands in place of what is cut off, on either side.
+/// What replaces the part that is cut off, on either side.
 const CUT: &str = "...";
 
-/// The characters of a line round a place.
+/// The characters of a line around a place.
 #[derive(Clone, Copy)]
 pub(crate) struct View<'a> {
     front: &'a [char],
     back: &'a [char],
     cut_before: bool,
     cut_behind: bool,
-    /// How many columns stand before the place.
+    /// How many columns are before the place.
     caret: usize,
 }
 
-/// Whether a character is shown by an escape: a control character, or one that moves others about unseen.
+/// Whether a character is shown by an escape: a control character, or an invisible one that moves others.
 #[tactic(auto, unfolding(crate::specs::Shown::is_hidden))]
 fn is_hidden(c: char) -> bool
     ensures { result ≡ shown.is_hidden c }
@@ -67,7 +67,7 @@ fn ends_line(c: char) -> bool
     c == '\n' || c == '\r'
 }
 
-/// Where the last of some characters begin that fit into so many columns, and how many columns they leave.
+/// The last of some characters that fit into this many columns: where they begin, and how many columns they leave.
 fn last_that_fit(characters: &[char], most: usize) -> (usize, usize)
     ensures within { result.0 ≤ length characters.now }
     ensures left { result.1 + shown.shown_columns (drop result.0 characters.now) ≡ most }
@@ -85,7 +85,7 @@ fn last_that_fit(characters: &[char], most: usize) -> (usize, usize)
     (start, left)
 }
 
-/// Where what is shown of the characters before a place begins, and how many columns that takes.
+/// Where the shown characters before a place begin, and how many columns they take.
 fn fit_front(line: &[char]) -> (usize, usize)
     ensures within { result.0 ≤ length line.now }
     ensures caret { result.1 ≡ length (shown.cut (nat_lt 0 result.0))
@@ -110,7 +110,7 @@ fn line_goes_on(rest: &[char]) -> bool
     }
 }
 
-/// How many characters of a line fit into so many columns, up to its break.
+/// How many characters of a line, up to its break, fit into this many columns.
 fn count_that_fit(characters: &[char], most: usize) -> usize
     ensures within { result ≤ length characters.now }
     ensures fits { shown.shown_columns (take result characters.now) ≤ most }
@@ -156,7 +156,7 @@ fn push_visible(out: &mut String, characters: &[char]) -> Result<(), AllocError>
     Ok(())
 }
 
-/// Appends so many spaces.
+/// Appends this many spaces.
 fn push_spaces(out: &mut String, count: usize) -> Result<(), AllocError>
     ensures { OnOk result (string_bytes out.new ≡ string_bytes out.old ++ replicate count 32) }
 {
@@ -169,7 +169,7 @@ fn push_spaces(out: &mut String, count: usize) -> Result<(), AllocError>
 impl<'a> View<'a> {
     ghost use Rattle.yaml_check.specs.Views.{IsView, excerpt};
 
-    /// What is shown round a place of a text.
+    /// What is shown around a place of a text.
     pub(crate) fn new(text: &'a [char], place: Marker) -> View<'a>
         ensures { IsView text.now (shown.place_index text.now place.index) place.col result }
     {
@@ -201,7 +201,7 @@ impl<'a> View<'a> {
     }
 }
 
-/// Appends what stands for what is cut off.
+/// Appends what replaces a part that is cut off.
 fn push_cut(out: &mut String, is_cut: bool) -> Result<(), AllocError>
     ensures { OnOk result (string_bytes out.new ≡ string_bytes out.old ++ shown.cut is_cut) }
 {

@@ -13,7 +13,7 @@ use Rattle.yaml_tree.specs.declared.walk.Turn.TheVariants.{Leave}
 use Rattle.yaml_tree.specs.Unloading.{node_events, both_events, unload_step}
 use Rattle.yaml_tree.specs.Walking.{IsCollectionEnd, BeginsNode, Turns}
 use Rattle.yaml_tree.specs.Expanding.{Sizes, Expanded, most, no_sizes, followed_by, expanded, expanded_items, expanded_pairs, expand_step}
-use Rattle.yaml_tree.specs.CounterSeen.{Count, with_nodes, begun, left_to, left, entered_layer, counted, counted_all, size_in, AreOpen, Holds}
+use Rattle.yaml_tree.specs.CounterSeen.{Count, with_nodes, begun, left_to, left, entered_layer, counted, counted_all, size_in, AreOpen, Holds, IsCounting}
 use Rattle.yaml_tree.proofs.LastItems.{none_is_last, same_last}
 
 -- ## The events of a node
@@ -152,12 +152,6 @@ end_counted (events.Alias id) c end = absurd end
 end_counted (events.Scalar text style id tag) c end = absurd end
 end_counted (events.SequenceStart id tag) c end = absurd end
 end_counted (events.MappingStart id tag) c end = absurd end
-
--- what a counter holds becomes the count of the tree behind the events that are left
-pub record IsCounting (root : Node) (to_come : List Happening) (counter : Counter) : Type 0 where
-  pub so_far : Count
-  pub holds : Holds counter so_far
-  pub whole : (counted_all to_come so_far).nodes ≡ (expanded root no_sizes).nodes
 
 pub counts_none : (root : Node) (to_come : List Happening) (counter : Counter)
     → Holds counter (record { nodes = 0; sizes = no_sizes; levels = [] }) → to_come ≡ node_events root

@@ -1,14 +1,14 @@
 -- The next document, and what a call answers.
-use Rattle.std.proofs.Common.{◌≡◌, ℕ, ◌<◌, List, [], ◌∷◌, ◌++◌, Option, Some, None, Bool, true, false, Result, Ok, Err, refl, sym, ap, subst, ◌∙◌, append_assoc, length-append, inl, inr, arith}
+use Rattle.std.proofs.Common.{◌≡◌, ◌<◌, List, [], ◌∷◌, ◌++◌, Option, Some, None, Bool, true, false, Result, Ok, Err, refl, sym, ap, subst, ◌∙◌, append_assoc, length-append, inl, inr, arith}
 use Rattle.std.specs.List.{flat_map}
 use Rattle.saphyr_scalar.specs.declared.scalar.position.Marker.{Marker}
 use Rattle.saphyr_scalar.specs.declared.scalar.position.Span.{Span}
 use Rattle.saphyr_parser.specs.Types.Fault.TheVariants as parse
 use Rattle.saphyr_parser.specs.Events.{Happening, StreamStart, StreamEnd, DocumentEnd}
-use Rattle.saphyr_parser.specs.Answer.{Answer, Ending, Refused, OutOfMemory, fault_alone}
+use Rattle.saphyr_parser.specs.Answer.{Answer, Ending, OutOfMemory, fault_alone}
 use Rattle.saphyr_parser.specs.Cursor.{EventCursor, Stays, count, to_come}
 use Rattle.saphyr_parser.specs.Calls.{Looks}
-use Rattle.saphyr_parser.specs.Nesting.{Nest, InStream, BehindStream, nest_before_stream, nest_behind_stream, nest_behind_all, happenings, IsWhole}
+use Rattle.saphyr_parser.specs.Nesting.{Nest, InStream, BehindStream, nest_before_stream, nest_behind_stream, nest_behind_all, happenings}
 use Rattle.yaml_tree.specs.declared.fault.TreeFault.{TreeFault}
 use Rattle.yaml_tree.specs.declared.fault.TreeFault.TheVariants as fault
 use Rattle.yaml_tree.specs.declared.tally.Limits.{Limits}
@@ -21,7 +21,9 @@ use Rattle.yaml_tree.specs.LoaderSeen.{Forbids}
 use Rattle.yaml_tree.specs.Loading.{Stops, RunsOut}
 use Rattle.yaml_tree.specs.DocumentLoading.{with_stream_start, NestOn, AtMost, EndNoDocument, PassesDocument, PassesNoDocument, LoadsDocument, LeavesLess, LeavesBehindLook, LeavesBehindDocument}
 use Rattle.yaml_tree.specs.DocumentSeen.{GoesOnBehind, TakesToEnd, TakesRest, StopsBehind, RunsOutBehind, FailsBehind, TakesPart, LeavesPart, nest_in_stream, HoldsLast}
-use Rattle.yaml_tree.proofs.Grounded.{leaves_stream}
+use Rattle.yaml_tree.proofs.Nests.{leaves_stream}
+use Rattle.yaml_tree.proofs.Loads.{no_nest, whole_is_complete, never_stops, some_fault, memory_is_no_refusal}
+use Rattle.yaml_tree.proofs.DocumentRead.{all_parts, stops_from, runs_out_from}
 use Rattle.yaml_tree.proofs.DocumentEnds.{ends, ends-append, ends_none, document_ends, no_document}
 
 -- ## What was taken before
@@ -113,7 +115,7 @@ finds_some limits before all left l at t (inr (nest, ds, is)) =
 -- ## The stream's end
 
 ends_never : (limits : Limits) (before : List Happening) (all left : Answer) (l : Loader)
-    (t : TakesRest limits before all left l) → AtMost StreamStart before
+    (t : TakesRest EndNoDocument limits before all left l) → AtMost StreamStart before
     → ends (before ++ happenings all.events) ≡ 0
 ends_never limits before all left l t at = omega (
   arith,
@@ -123,7 +125,7 @@ ends_never limits before all left l t at = omega (
 )
 
 finds_none : (limits : Limits) (before : List Happening) (all left : Answer) (l : Loader) (d : Document)
-    → AtMost StreamStart before → TakesRest limits before all left l → HoldsLast (Ok (Some d)) l.builder → ⊥
+    → AtMost StreamStart before → TakesRest EndNoDocument limits before all left l → HoldsLast (Ok (Some d)) l.builder → ⊥
 finds_none limits before all left l d at t (nest, ds, is) =
     let all_ends = ap ends (sym t.loader.written ∙ is)
     ∙ ends-append (StreamStart ∷ flat_map document_events ds) (document_events d) in
@@ -137,7 +139,7 @@ no_documents ds hs none is =
     is ∙ ap unload (no_document ds (omega (arith, none, all, split)))
 
 passes_none : (limits : Limits) (before : List Happening) (all left : Answer) (l : Loader)
-    (end : List Happening) → AtMost StreamStart before → TakesRest limits before all left l → AtMost StreamEnd end
+    (end : List Happening) → AtMost StreamStart before → TakesRest EndNoDocument limits before all left l → AtMost StreamEnd end
     → before ++ happenings all.events ≡ StreamStart ∷ end → PassesNoDocument all left
 passes_none limits before all left l end at t last is =
     let shared = shares before (happenings all.events) end at is in record {
@@ -151,7 +153,7 @@ passes_none limits before all left l end at t last is =
     }
 
 passes_stream : (limits : Limits) (before : List Happening) (all left : Answer) (l : Loader)
-    → AtMost StreamStart before → TakesRest limits before all left l → HoldsLast (Ok None) l.builder
+    → AtMost StreamStart before → TakesRest EndNoDocument limits before all left l → HoldsLast (Ok None) l.builder
     → PassesNoDocument all left
 passes_stream limits before all left l at t (inl (nest, is)) =
     passes_none limits before all left l [] at t (inl refl) (sym t.loader.written ∙ is)
@@ -162,11 +164,6 @@ passes_stream limits before all left l at t (inr (nest, ds, is)) =
 
 -- ## Events that don't nest
 
-whole_at : (f : Option Ending) (o : Option Nest) (n : Nest) → f ≡ None → o ≡ Some n → IsWhole f o
-    → n ≡ nest_behind_stream
-whole_at f o n e g w =
-    subst (λ (x : Option Nest). IsWhole None x) g (subst (λ (x : Option Ending). IsWhole x o) e w)
-
 not_whole : (before hs : List Happening) (f : Option Ending) (n : Nest) → with_stream_start hs ≡ before ++ hs
     → f ≡ None → nest_behind_all (before ++ hs) nest_before_stream ≡ Some n → (n ≡ nest_in_stream → ⊥)
     → (n ≡ nest_behind_stream → ⊥) → NestOn hs f → ⊥
@@ -175,10 +172,7 @@ not_whole before [] f n is e nested not_in not_behind w =
     ap (λ (es : List Happening). nest_behind_all es nest_before_stream) is ∙ nested in
     not_in (cc)
 not_whole before (h ∷ hs) f n is e nested not_in not_behind w = not_behind
-    (whole_at f _ n e (ap (λ (es : List Happening). nest_behind_all es nest_before_stream) is ∙ nested) w)
-
-whole_nowhere : (f : Option Ending) (o : Option Nest) → o ≡ None → IsWhole f o → ⊥
-whole_nowhere f o e w = subst (IsWhole f) e w
+    (whole_is_complete f _ n e (ap (λ (es : List Happening). nest_behind_all es nest_before_stream) is ∙ nested) w)
 
 not_nested : (before hs : List Happening) (f : Option Ending) → with_stream_start hs ≡ before ++ hs
     → nest_behind_all (before ++ hs) nest_before_stream ≡ None → NestOn hs f → ⊥
@@ -187,7 +181,7 @@ not_nested before [] f is none w =
     ap (λ (es : List Happening). nest_behind_all es nest_before_stream) is ∙ none in
     absurd (cc)
 not_nested before (h ∷ hs) f is none w =
-    whole_nowhere f _ (ap (λ (es : List Happening). nest_behind_all es nest_before_stream) is ∙ none) w
+    no_nest f _ (ap (λ (es : List Happening). nest_behind_all es nest_before_stream) is ∙ none) w
 
 -- ## What a call answers
 
@@ -220,38 +214,26 @@ own_stop f limits before hs place (inr e) same h =
 stops_in_document : (f : TreeFault) (limits : Limits) (before : List Happening) (all left : Answer)
     → AtMost StreamStart before
     → ((hs : List Happening) (place : Marker) → Forbids f limits (StreamStart ∷ hs) place → Forbids f limits hs place)
-    → StopsBehind f limits before all left
+    → StopsBehind EndNoDocument f limits before all left
     → (stop : Stops f limits all left) × EndNoDocument (happenings stop.taken)
+unfolding stops_from
 stops_in_document f limits before all left at same s = (
-  record {
-    taken = s.taken;
-    event = s.event;
-    split = s.split;
-    fault = s.fault;
-    within = own_counts limits before (happenings s.taken) at s.within;
-    why = own_stop f limits before (happenings s.taken ++ s.event.0 ∷ []) s.event.1.start at (same _ _)
-        (subst (λ (es : List Happening). Forbids f limits es s.event.1.start)
-        (append_assoc before (happenings s.taken) (s.event.0 ∷ [])) s.why);
-  },
+  stops_from EndNoDocument f limits before [] all all left (all_parts all) s
+      (λ hs. own_counts limits before hs at) (λ hs. own_stop f limits before hs s.event.1.start at (same hs _)),
   s.inside,
 )
 
 runs_out_in_document : (limits : Limits) (before : List Happening) (all : Answer) → AtMost StreamStart before
-    → RunsOutBehind limits before all → (lost : RunsOut limits all) × EndNoDocument (happenings lost.taken)
+    → RunsOutBehind EndNoDocument limits before all
+    → (lost : RunsOut limits all) × EndNoDocument (happenings lost.taken)
+unfolding runs_out_from
 runs_out_in_document limits before all at s = (
-  record {
-    taken = s.taken;
-    lost = s.lost;
-    split = s.split;
-    fault = s.fault;
-    some_lost = s.some_lost;
-    within = own_counts limits before (happenings s.taken) at s.within;
-  },
+  runs_out_from EndNoDocument limits before [] all all (all_parts all) s (λ hs. own_counts limits before hs at),
   s.inside,
 )
 
 pub fails_in_document : (f : TreeFault) (limits : Limits) (before : List Happening) (all left : Answer)
-    → AtMost StreamStart before → GoesOnBehind before all → FailsBehind limits before f all left
+    → AtMost StreamStart before → GoesOnBehind before all → FailsBehind EndNoDocument limits before f all left
     → LoadsDocument limits (Err f) all left
 fails_in_document (fault.Parse (parse.Scan e)) limits before all left at on h =
     ((h.0, own_counts limits before (happenings all.events) at h.2, h.3), h.1)
@@ -269,19 +251,6 @@ fails_in_document (fault.TooDeep place most) limits before all left at on h =
     stops_in_document (fault.TooDeep place most) limits before all left at (λ hs p w. w) h
 
 -- ## Lack of memory before the first event
-
-nothing_before : {X : Type 0} (xs ys : List X) (y : X) → [] ≡ xs ++ (y ∷ ys) → ⊥
-nothing_before [] ys y e = cc
-nothing_before (x ∷ xs) ys y e = cc
-
-never_stops : (f : TreeFault) (limits : Limits) (left : Answer) → Stops f limits (fault_alone OutOfMemory) left → ⊥
-never_stops f limits left s = nothing_before s.taken left.events s.event s.split
-
-some_fault : (f : Ending) → Some f ≡ None → ⊥
-some_fault f e = cc
-
-memory_is_no_refusal : (mark : Marker) (info : List ℕ) → Some OutOfMemory ≡ Some (Refused mark info) → ⊥
-memory_is_no_refusal mark info e = cc
 
 no_events_of : (xs ys : List (Happening × Span)) (d : Document) (start : List Happening) → [] ≡ xs ++ ys
     → happenings xs ≡ start ++ document_events d → ⊥

@@ -95,38 +95,35 @@ passed_more all passed left x others e f =
     e ∙ ap (λ l. passed ++ l) f ∙ sym (append_assoc passed (x ∷ []) others)
 
 -- the part that comes next begins
-record Begins (r : Rest) (node part : Node) : Type 0 where
-  left : IsRestOf r node
-  began : BeganLast r node part
+abbrev Begins : Rest → Node → Node → Type 0
+Begins r node part = IsRestOf r node × BeganLast r node part
 
-begins_item : (all left others : Bor (List Node)) (node item : Node) → IsRestOf (rest.Items all left) node
+pub begins_item : (all left others : Bor (List Node)) (node item : Node) → IsRestOf (rest.Items all left) node
     → left.now ≡ item ∷ others.now → Begins (rest.Items all others) node item
 begins_item all left others node item (is, passed, e) f =
-    let split = e ∙ ap (λ (l : List Node). passed ++ l) f in
-    record {
-      left = (is, passed ++ item ∷ [], passed_more all.now passed left.now item others.now e f);
-      began = record {
+    let split = e ∙ ap (λ (l : List Node). passed ++ l) f in (
+      (is, passed ++ item ∷ [], passed_more all.now passed left.now item others.now e f),
+      record {
         step = Index (length passed);
         is = one_step Index all.now passed item others.now split;
         leads = at_part (items_of_node node) all.now passed item others.now is split;
         behind = ap (λ (l : List Node). flat_map node_events l ++ SequenceEnd ∷ [])
             (sym (behind_part (items_of_node node) all.now passed item others.now is split));
-      };
-    }
+      },
+    )
 
 pair_end : List (Node × Node) → List Happening
 pair_end pairs = flat_map pair_events pairs ++ MappingEnd ∷ []
 
-begins_key : (all left others : Bor (List (Node × Node))) (value : Bor Node) (node : Node) (pair : Node × Node)
+pub begins_key : (all left others : Bor (List (Node × Node))) (value : Bor Node) (node : Node) (pair : Node × Node)
     → IsRestOf (rest.Pairs all left) node → left.now ≡ pair ∷ others.now → value.now ≡ pair.1
     → Begins (rest.Value value all others) node pair.0
 unfolding pair_end
 begins_key all left others value node pair (is, passed, e) f v =
     let split = e ∙ ap (λ (l : List (Node × Node)). passed ++ l) f in
-    let at = at_part (pairs_of_node node) all.now passed pair others.now is split in
-    record {
-      left = (is, passed, pair.0, split ∙ ap (λ (n : Node). passed ++ (pair.0, n) ∷ others.now) (sym v));
-      began = record {
+    let at = at_part (pairs_of_node node) all.now passed pair others.now is split in (
+      (is, passed, pair.0, split ∙ ap (λ (n : Node). passed ++ (pair.0, n) ∷ others.now) (sym v)),
+      record {
         step = Key (length passed);
         is = one_step Key all.now passed pair others.now split;
         leads = ap (option_map (λ (p : Node × Node). p.0)) at;
@@ -134,24 +131,23 @@ begins_key all left others value node pair (is, passed, e) f v =
             ∙ ap (λ (o : Option (Node × Node)). value_events o ++ pair_end others.now) (sym at)
             ∙ ap (λ (l : List (Node × Node)). value_events (part_at (length passed) (pairs_of_node node)) ++ pair_end l)
             (sym (behind_part (pairs_of_node node) all.now passed pair others.now is split));
-      };
-    }
+      },
+    )
 
-begins_value : (all others : Bor (List (Node × Node))) (value : Bor Node) (node : Node)
+pub begins_value : (all others : Bor (List (Node × Node))) (value : Bor Node) (node : Node)
     → IsRestOf (rest.Value value all others) node → Begins (rest.Pairs all others) node value.now
 unfolding pair_end
 begins_value all others value node (is, passed, key, e) =
-    let pair : Node × Node = (key, value.now) in
-    record {
-      left = (is, passed ++ pair ∷ [], e ∙ sym (append_assoc passed (pair ∷ []) others.now));
-      began = record {
+    let pair : Node × Node = (key, value.now) in (
+      (is, passed ++ pair ∷ [], e ∙ sym (append_assoc passed (pair ∷ []) others.now)),
+      record {
         step = Value (length passed);
         is = one_step Value all.now passed pair others.now e;
         leads = ap (option_map (λ (p : Node × Node). p.1))
             (at_part (pairs_of_node node) all.now passed pair others.now is e);
         behind = ap pair_end (sym (behind_part (pairs_of_node node) all.now passed pair others.now is e));
-      };
-    }
+      },
+    )
 
 -- ## A node begins
 
@@ -208,39 +204,14 @@ below_root o levels root h none = subst (λ (p : Option (Bor Node)). HasRoot p l
 stands_walk : (w : Walk) (root : Node) → w.root ≡ None → StandBelow w.levels.items root → IsWalkOf root w
 stands_walk w root none below = subst (λ (o : Option (Bor Node)). HasRoot o w.levels.items root) (sym none) below
 
-old_innermost : (old : Walk) (rests : List Rest) (r s : Rest) (root : Node) → old.root ≡ None
-    → old.levels.items ≡ rests ++ r ∷ [] → r ≡ s → IsWalkOf root old → IsLevel rests s root
-old_innermost old rests r s root none e is h = below_root old.root old.levels.items root h none rests s
-    (e ∙ ap (λ (q : Rest). rests ++ q ∷ []) is)
-
-opens : (old : Walk) (rests mid : List Rest) (r s t : Rest) (part root : Node) → old.root ≡ None
-    → old.levels.items ≡ rests ++ r ∷ [] → r ≡ s → mid ≡ rests ++ t ∷ []
-    → ((node : Node) → IsRestOf s node → Begins t node part) → IsWalkOf root old → LeadDown part mid root
-opens old rests mid r s t part root none e is f begins h =
-    let inner = old_innermost old rests r s root none e is h in
+pub opens : (old : Walk) (rests mid : List Rest) (r t : Rest) (part : Node) → old.root ≡ None
+    → old.levels.items ≡ rests ++ r ∷ [] → mid ≡ rests ++ t ∷ [] → ((node : Node) → IsRestOf r node → Begins t node part)
+    → (root : Node) → IsWalkOf root old → LeadDown part mid root
+opens old rests mid r t part none e f begins root h =
+    let inner = below_root old.root old.levels.items root h none rests r e in
     let next = begins inner.node inner.left in
     subst (λ (l : List Rest). LeadDown part l root) (sym f)
-    (leads_on rests t root inner.node part inner.leads next.left next.began)
-
-pub opens_item : (old : Walk) (rests mid : List Rest) (r : Rest) (all left others : Bor (List Node)) (item : Node)
-    → old.root ≡ None → old.levels.items ≡ rests ++ r ∷ [] → r ≡ rest.Items all left → left.now ≡ item ∷ others.now
-    → mid ≡ rests ++ rest.Items all others ∷ [] → (root : Node) → IsWalkOf root old → LeadDown item mid root
-opens_item old rests mid r all left others item none e is split f root = opens old rests mid r (rest.Items all left)
-    (rest.Items all others) item root none e is f (λ node of. begins_item all left others node item of split)
-
-pub opens_key : (old : Walk) (rests mid : List Rest) (r : Rest) (all left others : Bor (List (Node × Node)))
-    (value : Bor Node) (pair : Node × Node) → old.root ≡ None → old.levels.items ≡ rests ++ r ∷ []
-    → r ≡ rest.Pairs all left → left.now ≡ pair ∷ others.now → value.now ≡ pair.1
-    → mid ≡ rests ++ rest.Value value all others ∷ [] → (root : Node) → IsWalkOf root old → LeadDown pair.0 mid root
-opens_key old rests mid r all left others value pair none e is split v f root = opens old rests mid r
-    (rest.Pairs all left) (rest.Value value all others) pair.0 root none e is f
-    (λ node of. begins_key all left others value node pair of split v)
-
-pub opens_value : (old : Walk) (rests mid : List Rest) (r : Rest) (all others : Bor (List (Node × Node)))
-    (value : Bor Node) → old.root ≡ None → old.levels.items ≡ rests ++ r ∷ [] → r ≡ rest.Value value all others
-    → mid ≡ rests ++ rest.Pairs all others ∷ [] → (root : Node) → IsWalkOf root old → LeadDown value.now mid root
-opens_value old rests mid r all others value none e is f root = opens old rests mid r (rest.Value value all others)
-    (rest.Pairs all others) value.now root none e is f (begins_value all others value)
+    (leads_on rests t root inner.node part inner.leads next.0 next.1)
 
 pub begins_root : (old : Walk) (top : Bor Node) → old.root ≡ Some top → (root : Node) → IsWalkOf root old
     → LeadDown top.now old.levels.items root
@@ -280,5 +251,5 @@ enters_within (Err f) old new part mid behind ahead around before h below path n
 pub leaves_within : (old new : Walk) (r : Rest) → old.root ≡ None → new.root ≡ None
     → old.levels.items ≡ new.levels.items ++ r ∷ [] → (root : Node) → IsWalkOf root old → IsWalkOf root new
 leaves_within old new r none none_new e root h =
-    let inner = old_innermost old new.levels.items r r root none e refl h in
+    let inner = below_root old.root old.levels.items root h none new.levels.items r e in
     stands_walk new root none_new (stands_below new.levels.items root inner.node inner.leads)

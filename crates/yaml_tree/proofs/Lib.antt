@@ -3,11 +3,10 @@ pub mod Unloads
 pub mod Taking
 pub mod Loads
 pub mod Leaving
-pub mod Grounded
+pub mod Nests
 pub mod DocumentEnds
 pub mod DocumentRead
 pub mod DocumentFound
-pub mod Stuck
 pub mod OneByOne
 pub mod Copies
 pub mod Access

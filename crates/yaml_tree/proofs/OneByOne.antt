@@ -8,15 +8,14 @@ use Rattle.saphyr_parser.specs.Events.{Happening, Nothing, StreamStart, StreamEn
 use Rattle.saphyr_parser.specs.Answer.{Answer, Ending}
 use Rattle.saphyr_parser.specs.EventsTaken.{IsCut, AreTaken}
 use Rattle.saphyr_parser.specs.Nesting.{Nest, nest_before_stream, nest_behind_stream, nest_behind_all, happenings, IsStreamStart, BeginsStream, IsAtStart, IsWhole, IsNested}
-use Rattle.saphyr_parser.proofs.Nesting.{nest_behind_all-append, forest_nests, nests, starts}
+use Rattle.event_laws.proofs.Nesting.{nest_behind_all-append, forest_nests, nests, starts}
 use Rattle.yaml_tree.specs.declared.fault.TreeFault.TheVariants as fault
 use Rattle.yaml_tree.specs.declared.tally.Limits.{Limits}
 use Rattle.yaml_tree.specs.declared.document.Document.{Document}
 use Rattle.yaml_tree.specs.Unloading.{node_events, document_events, unload}
 use Rattle.yaml_tree.specs.DocumentLoading.{GoOnBetween, NestOn, AtMost, PassesDocument, PassesNoDocument, LoadsDocument, LoadsEach}
 use Rattle.yaml_tree.specs.DocumentSeen.{nest_in_stream}
-use Rattle.yaml_tree.proofs.Grounded.{leaves_stream}
-use Rattle.yaml_tree.proofs.Stuck.{never_ends}
+use Rattle.yaml_tree.proofs.Nests.{leaves_stream, never_ends}
 use Rattle.yaml_tree.proofs.DocumentFound.{two_nests}
 
 -- ## Behind a document

@@ -1,8 +1,8 @@
 -- A loader keeps the spans of the events that it takes.
-use Rattle.std.proofs.Common.{◌≡◌, ◌++◌, [], ◌∷◌, map, Some, None, Result, Ok, Err, IfOk, refl, sym, ap, subst, ◌∙◌, append-nil, inl, inr}
+use Rattle.std.proofs.Common.{◌≡◌, ◌++◌, [], ◌∷◌, map, Result, Ok, Err, IfOk, refl, sym, ap, subst, ◌∙◌, append-nil, inl, inr}
 use Rattle.saphyr_scalar.specs.declared.scalar.position.Span.{Span}
 use Rattle.saphyr_parser.specs.Events.{Happening}
-use Rattle.saphyr_parser.specs.Answer.{Answer, Ending, OutOfMemory, empty_answer, with_first_event}
+use Rattle.saphyr_parser.specs.Answer.{Answer, OutOfMemory, empty_answer, with_first_event}
 use Rattle.saphyr_parser.specs.Cursor.{EventCursor, Stays}
 use Rattle.saphyr_parser.specs.Nesting.{happenings}
 use Rattle.yaml_tree.specs.declared.fault.TreeFault.{TreeFault}
@@ -13,11 +13,12 @@ use Rattle.yaml_tree.specs.declared.spans.SpannedDocuments.{SpannedDocuments}
 use Rattle.yaml_tree.specs.declared.spanned_loading.SpannedLoader.{SpannedLoader}
 use Rattle.yaml_tree.specs.BuilderSeen.{Finishes}
 use Rattle.yaml_tree.specs.LoaderSeen.{HasTaken}
-use Rattle.yaml_tree.specs.Loading.{HasRead, TakesAll}
+use Rattle.yaml_tree.specs.Loading.{TakesAll}
 use Rattle.yaml_tree.specs.Leaving.{LeavesParser}
 use Rattle.yaml_tree.specs.Spanning.{KeptSpans, IsSpannedStream, all_spans, kept_behind, kept_behind_all}
 use Rattle.yaml_tree.specs.KeeperSeen.{kept_spans, documents_of}
-use Rattle.yaml_tree.proofs.Loads.{reads_none, reads_more}
+use Rattle.yaml_tree.proofs.Loads.{some_fault}
+use Rattle.yaml_tree.proofs.DocumentRead.{AnyEvents, HasRead, reads_nothing, reads_on}
 use Rattle.yaml_tree.proofs.Spanned.{kept_behind_all-append, keeps_stream}
 
 -- ## Event after event
@@ -29,16 +30,16 @@ pub record KeepsRead (limits : Limits) (all left : Answer) (first : SpanKeeper) 
 
 pub keeps_none : (limits : Limits) (all : Answer) (l : SpannedLoader) → HasTaken limits [] l.loader
     → KeepsRead limits all all l.keeper l
-unfolding reads_none
-keeps_none limits all l h = record { read = reads_none limits all l.loader h; kept = refl }
+unfolding reads_nothing
+keeps_none limits all l h = record { read = reads_nothing AnyEvents limits [] all l.loader tt h; kept = refl }
 
 pub keeps_more : (limits : Limits) (all a b : Answer) (e : Happening × Span) (first : SpanKeeper)
     (old new : SpannedLoader) (r : KeepsRead limits all a first old) → a ≡ with_first_event e b
     → HasTaken limits (happenings r.read.taken ++ e.0 ∷ []) new.loader
     → kept_spans new.keeper ≡ kept_behind e.0 e.1 (kept_spans old.keeper) → KeepsRead limits all b first new
-unfolding reads_more
+unfolding reads_on
 keeps_more limits all a b e first old new r h t k = record {
-  read = reads_more limits all a b e old.loader new.loader r.read h t;
+  read = reads_on AnyEvents limits [] all a b e old.loader new.loader r.read h tt t;
   kept = k ∙ ap (kept_behind e.0 e.1) r.kept
       ∙ sym (kept_behind_all-append r.read.taken (e ∷ []) (kept_spans first));
 }
@@ -52,9 +53,6 @@ keeps_all limits all a first l r e =
 
 -- ## The documents
 
-no_fault : (f : Ending) → Some f ≡ None → ⊥
-no_fault f e = cc
-
 pub tells_spans : (r : Result SpannedDocuments TreeFault) (limits : Limits) (all mid left : Answer)
     (l : SpannedLoader) (first : KeptSpans) → Stays all mid → TakesAll limits (Ok tt) mid left l.loader
     → kept_spans l.keeper ≡ kept_behind_all mid.events first → first.ended ≡ [] → first.nodes ≡ []
@@ -67,7 +65,7 @@ tells_spans (Ok s) limits all mid left l first (inl same) t k ended nodes finish
     (keeps_stream s.documents.items mid.events first (map all_spans s.spans.items)
     (finishes.0 ∙ t.0.written) ended nodes (spans ∙ ap (λ (x : KeptSpans). x.ended) k))
 tells_spans (Ok s) limits all mid left l first (inr lost) t k ended nodes finishes spans =
-    absurd (no_fault OutOfMemory (sym (ap (λ (x : Answer). x.fault) lost.1) ∙ t.1))
+    absurd (some_fault OutOfMemory (sym (ap (λ (x : Answer). x.fault) lost.1) ∙ t.1))
 
 -- an answer leaves the parser as that of its documents does
 pub leaves_alike : (r : Result SpannedDocuments TreeFault) (old new : EventCursor)

@@ -118,11 +118,11 @@ opens olds rests more r s node e f own = pushed rests olds r e
     ∙ ap (λ (l : List Happening). node_events node ++ l) (sym (pushed rests more s f))
 
 -- what is to be visited begins with a part of the innermost collection
-pub comes_next : (old : Walk) (rests mid : List Rest) (r s t : Rest) (node : Node) → old.root ≡ None
-    → old.levels.items ≡ rests ++ r ∷ [] → r ≡ t → mid ≡ rests ++ s ∷ []
-    → rest_events t ≡ node_events node ++ rest_events s → to_visit old ≡ node_events node ++ frames_events mid
-comes_next old rests mid r s t node none e is f own = visits_levels old none
-    ∙ opens old.levels.items rests mid r s node e f (ap rest_events is ∙ own)
+pub comes_next : (old : Walk) (rests mid : List Rest) (r s : Rest) (node : Node) → old.root ≡ None
+    → old.levels.items ≡ rests ++ r ∷ [] → mid ≡ rests ++ s ∷ []
+    → rest_events r ≡ node_events node ++ rest_events s → to_visit old ≡ node_events node ++ frames_events mid
+comes_next old rests mid r s node none e f own =
+    visits_levels old none ∙ opens old.levels.items rests mid r s node e f own
 
 pub comes_first : (old : Walk) (root : Bor Node) → old.root ≡ Some root
     → to_visit old ≡ node_events root.now ++ frames_events old.levels.items

@@ -7,7 +7,7 @@ use Rattle.saphyr_parser.specs.Events.{Happening, Alias, Scalar, SequenceStart, 
 use Rattle.yaml_tree.specs.declared.node.Node.{Node}
 use Rattle.yaml_tree.specs.declared.node.Node.TheOpen.{Node-F}
 use Rattle.yaml_tree.specs.declared.expanding.Counter.{Counter}
-use Rattle.yaml_tree.specs.Expanding.{Sizes, most, with_size}
+use Rattle.yaml_tree.specs.Expanding.{Sizes, most, no_sizes, with_size, expanded}
 
 -- The nodes so far of the innermost collection that is open, itself among them; and for each collection that is open,
 -- the innermost first, the id of its anchor and the nodes so far of what is around it.
@@ -69,3 +69,9 @@ pub record Holds (counter : Counter) (c : Count) : Type 0 where
   pub nodes : counter.nodes ≡ min most c.nodes
   pub sizes : (id : ℕ) → size_in counter.sizes id ≡ min most (c.sizes id)
   pub levels : AreOpen counter.levels.items c.levels
+
+-- what a counter holds becomes the count of the tree behind the events that are left
+pub record IsCounting (root : Node) (to_come : List Happening) (counter : Counter) : Type 0 where
+  pub so_far : Count
+  pub holds : Holds counter so_far
+  pub whole : (counted_all to_come so_far).nodes ≡ (expanded root no_sizes).nodes

@@ -48,55 +48,59 @@ pub record TakesToEnd (limits : Limits) (before : List Happening) (all left : An
   pub inside : EndNoDocument inner
   pub loader : HasTaken limits (before ++ happenings taken) l
 
--- It takes all others, of which none ends a document.
-pub record TakesRest (limits : Limits) (before : List Happening) (all left : Answer) (l : Loader) : Type 0 where
-  pub inside : EndNoDocument (happenings all.events)
+-- It takes all others, of which this holds.
+pub record TakesRest (Hold : List Happening → Type 0) (limits : Limits) (before : List Happening)
+    (all left : Answer) (l : Loader) : Type 0 where
+  pub inside : Hold (happenings all.events)
   pub fault : all.fault ≡ None
   pub nothing : left ≡ empty_answer
   pub loader : HasTaken limits (before ++ happenings all.events) l
 
--- The last event that was handed out could not be taken, and none before it ends a document.
-pub record StopsBehind (f : TreeFault) (limits : Limits) (before : List Happening) (all left : Answer) : Type 0 where
+-- The last event that was handed out could not be taken, and of those before it this holds.
+pub record StopsBehind (Hold : List Happening → Type 0) (f : TreeFault) (limits : Limits)
+    (before : List Happening) (all left : Answer) : Type 0 where
   pub taken : List (Happening × Span)
   pub event : Happening × Span
   pub split : all.events ≡ taken ++ (event ∷ left.events)
   pub fault : all.fault ≡ left.fault
-  pub inside : EndNoDocument (happenings taken)
+  pub inside : Hold (happenings taken)
   pub within : StayWithin limits (before ++ happenings taken) no_nodes
   pub why : Forbids f limits ((before ++ happenings taken) ++ event.0 ∷ []) event.1.start
 
--- the parser's memory ran out behind these events, of which none ends a document
-pub record RunsOutBehind (limits : Limits) (before : List Happening) (all : Answer) : Type 0 where
+-- the parser's memory ran out behind these events, of which this holds
+pub record RunsOutBehind (Hold : List Happening → Type 0) (limits : Limits) (before : List Happening)
+    (all : Answer) : Type 0 where
   pub taken : List (Happening × Span)
   pub lost : Answer
   pub split : all.events ≡ taken ++ lost.events
   pub fault : all.fault ≡ lost.fault
   pub some_lost : 0 < count lost
-  pub inside : EndNoDocument (happenings taken)
+  pub inside : Hold (happenings taken)
   pub within : StayWithin limits (before ++ happenings taken) no_nodes
 
--- A fault behind events that were taken before, and what it leaves.
-abbrev pub FailsBehind : Limits → List Happening → TreeFault → Answer → Answer → Type 0
-FailsBehind limits before (fault.Parse (parse.Scan e)) all left =
-    (all.fault ≡ Some (Refused e.mark (string_bytes e.info))) × EndNoDocument (happenings all.events)
+-- A fault behind events that were taken before, and what it leaves. Of those behind them this holds.
+abbrev pub FailsBehind : (List Happening → Type 0) → Limits → List Happening → TreeFault → Answer → Answer → Type 0
+FailsBehind Hold limits before (fault.Parse (parse.Scan e)) all left =
+    (all.fault ≡ Some (Refused e.mark (string_bytes e.info))) × Hold (happenings all.events)
     × StayWithin limits (before ++ happenings all.events) no_nodes × (left ≡ empty_answer)
-FailsBehind limits before (fault.Parse parse.OutOfMemory) all left =
-    RunsOutBehind limits before all × (left ≡ empty_answer)
-FailsBehind limits before (fault.Parse parse.Receiver) all left = ⊥
-FailsBehind limits before (fault.Parse parse.InsideDocument) all left = ⊥
-FailsBehind limits before fault.NotFresh all left =
+FailsBehind Hold limits before (fault.Parse parse.OutOfMemory) all left =
+    RunsOutBehind Hold limits before all × (left ≡ empty_answer)
+FailsBehind Hold limits before (fault.Parse parse.Receiver) all left = ⊥
+FailsBehind Hold limits before (fault.Parse parse.InsideDocument) all left = ⊥
+FailsBehind Hold limits before fault.NotFresh all left =
     nest_behind_all (before ++ happenings all.events) nest_before_stream ≡ None
-FailsBehind limits before (fault.TooManyNodes at most) all left =
-    StopsBehind (fault.TooManyNodes at most) limits before all left
-FailsBehind limits before (fault.TooDeep at most) all left =
-    StopsBehind (fault.TooDeep at most) limits before all left
-FailsBehind limits before fault.OutOfMemory all left = StopsBehind fault.OutOfMemory limits before all left
+FailsBehind Hold limits before (fault.TooManyNodes at most) all left =
+    StopsBehind Hold (fault.TooManyNodes at most) limits before all left
+FailsBehind Hold limits before (fault.TooDeep at most) all left =
+    StopsBehind Hold (fault.TooDeep at most) limits before all left
+FailsBehind Hold limits before fault.OutOfMemory all left =
+    StopsBehind Hold fault.OutOfMemory limits before all left
 
 -- Whether a document ended, or the stream did; or the fault.
 abbrev pub TakesPart : Limits → List Happening → Result Bool TreeFault → Answer → Answer → Loader → Type 0
 TakesPart limits before (Ok true) all left l = TakesToEnd limits before all left l
-TakesPart limits before (Ok false) all left l = TakesRest limits before all left l
-TakesPart limits before (Err f) all left l = FailsBehind limits before f all left
+TakesPart limits before (Ok false) all left l = TakesRest EndNoDocument limits before all left l
+TakesPart limits before (Err f) all left l = FailsBehind EndNoDocument limits before f all left
 
 -- less is left behind a document
 abbrev pub Shrinks : Result Bool TreeFault → Answer → Answer → Type 0

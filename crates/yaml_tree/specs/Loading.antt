@@ -67,13 +67,6 @@ abbrev pub BeginsSo : Bool → Answer → Answer → Type 0
 BeginsSo true all mid = Stays all mid × IsAtStart mid
 BeginsSo false all mid = IsLate all mid
 
--- a loader has taken events, and the others are left
-pub record HasRead (limits : Limits) (all left : Answer) (l : Loader) : Type 0 where
-  pub taken : List (Happening × Span)
-  pub split : all.events ≡ taken ++ left.events
-  pub fault : all.fault ≡ left.fault
-  pub loader : HasTaken limits (happenings taken) l
-
 -- a loader takes all events, or fails
 abbrev pub TakesAll : Limits → Result (Unit {0}) TreeFault → Answer → Answer → Loader → Type 0
 TakesAll limits (Ok u) all left l =

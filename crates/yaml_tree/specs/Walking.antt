@@ -114,6 +114,12 @@ pub record BeganLast (rest : Rest) (node part : Node) : Type 0 where
   pub leads : at_step step node ≡ Some part
   pub behind : rest_events rest ≡ behind_step step node
 
+-- The part that begins next, and what is left then; or only the collection's end is left.
+abbrev pub Splits : Rest → Option (Bor Node × Rest) → Type 0
+Splits rest None = (h : Happening) × IsCollectionEnd h × (rest_events rest ≡ h ∷ [])
+Splits rest (Some next) = (rest_events rest ≡ node_events next.0.now ++ rest_events next.1)
+    × ((node : Node) → IsRestOf rest node → IsRestOf next.1 node × BeganLast next.1 node next.0.now)
+
 -- The first of these collections is the one node, and each further one is the part of the one before it that began
 -- last; of the last collection that is the other node.
 abbrev pub LeadDown : Node → List Rest → Node → Type 0

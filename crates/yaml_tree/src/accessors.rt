@@ -51,7 +51,7 @@ impl Node {
         }
     }
 
-    /// How a scalar is written. A plain one may stand for a number or another value, a quoted one is a text.
+    /// How a scalar is written. A plain scalar may be a number or another value, and a quoted one is a text.
     #[must_use]
     pub fn style(&self) -> Option<ScalarStyle>
         ensures { result ≡ style_of_node self.now }
@@ -75,8 +75,8 @@ impl Node {
         }
     }
 
-    /// The id of a node's anchor. An alias has none of its own: `as_alias` has the id of the one that it
-    /// stands for.
+    /// The id of a node's anchor. An alias has none of its own: `as_alias` gives the id of the anchor that it
+    /// names.
     #[must_use]
     pub fn anchor(&self) -> Option<usize>
         ensures { result ≡ anchor_of_node self.now }
@@ -89,7 +89,7 @@ impl Node {
         }
     }
 
-    /// The id of the anchor that an alias stands for.
+    /// The id of the anchor that an alias names.
     #[must_use]
     pub fn as_alias(&self) -> Option<usize>
         ensures { result ≡ alias_of_node self.now }
@@ -122,8 +122,8 @@ impl Node {
         }
     }
 
-    /// The value in a mapping whose key is a scalar with this text, whatever its style and tag. Where several
-    /// are, the first.
+    /// The value in a mapping whose key is a scalar with this text, whatever its style and tag. If there are
+    /// several, the first.
     #[must_use]
     pub fn get(&self, key: &str) -> Option<&Node>
         ensures { option_copied result ≡ value_at_key key.now self.now }

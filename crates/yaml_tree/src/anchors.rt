@@ -9,11 +9,11 @@ use crate::walk::{Turn, Walk};
 use std::alloc::{AllocError, Global};
 
 impl Document {
-    /// The node with this anchor, for whoever follows an alias; where a tree that was not loaded has several, the
-    /// first in preorder. A text gives an id to one node alone.
+    /// The node with this anchor, so the node that an alias names. If there are several, the first in preorder; in a
+    /// tree that was loaded there is only one.
     ///
-    /// An alias may stand inside the node of its own anchor: a program that replaces aliases by their nodes has to
-    /// bound how often it does.
+    /// An alias may be inside the node of its own anchor. So a program that replaces aliases by their nodes must bound
+    /// how often it does.
     pub fn node_of_anchor(&self, alloc: Global, id: usize) -> Result<Option<&Node>, AllocError>
         ensures { IfOk result (λ found. FindsAnchor id self.now.root found) }
     {

@@ -14,7 +14,7 @@ use saphyr_parser::Event;
 use std::alloc::Global;
 use std::mem;
 
-/// The documents that the events so far make, with what has not ended, the outermost first.
+/// The documents of the events so far, and what has not ended, the outermost first.
 #[derive(Drop)]
 pub(crate) struct Builder {
     alloc: Global,
@@ -49,7 +49,7 @@ impl Builder {
         }
     }
 
-    // Takes the next event. Behind an error no more may be taken.
+    // Takes the next event. After an error no more may be taken.
     pub(crate) fn take(&mut self, event: Event) -> Result<(), TreeFault>
         ensures { Follows result (happening event.entry) self.old self.new }
     {
@@ -62,7 +62,10 @@ impl Builder {
             Event::Alias(id) => self.add(Node::Alias(id)),
             Event::Scalar(text, style, id, tag) => match text.into_owned(self.alloc) {
                 Ok(text) => self.add(Node::Scalar(text, style, id, tag)),
-                Err(_) => Err(TreeFault::OutOfMemory),
+                Err(_) => {
+                    drop(tag);
+                    Err(TreeFault::OutOfMemory)
+                }
             },
             Event::SequenceStart(id, tag) => {
                 self.begin(Open::Sequence(id, tag, Vec::new(self.alloc)))
@@ -80,16 +83,18 @@ impl Builder {
         ensures { Finishes result self }
     {
         if !self.outer.is_empty() {
+            drop(self);
             return Err(TreeFault::NotFresh);
         }
         self.innermost.into_documents()
     }
 
-    // The document that has ended last, or none where the stream has ended.
+    // The document that has ended last, or none if the stream has ended.
     pub(crate) fn last_document(self) -> Result<Option<Document>, TreeFault>
         ensures { HoldsLast result self }
     {
         if !self.outer.is_empty() {
+            drop(self);
             return Err(TreeFault::NotFresh);
         }
         self.innermost.into_last_document()
@@ -99,7 +104,8 @@ impl Builder {
         ensures { Follows result events.StreamStart self.old self.new }
     {
         let stream = mem::replace(&mut self.innermost, Open::Nothing);
-        self.innermost = stream.begun(self.alloc)?;
+        let begun = stream.begun(self.alloc)?;
+        drop(mem::replace(&mut self.innermost, begun));
         Ok(())
     }
 
@@ -107,7 +113,8 @@ impl Builder {
         ensures { Follows result events.StreamEnd self.old self.new }
     {
         let stream = mem::replace(&mut self.innermost, Open::Nothing);
-        self.innermost = stream.ended()?;
+        let ended = stream.ended()?;
+        drop(mem::replace(&mut self.innermost, ended));
         Ok(())
     }
 
@@ -116,7 +123,8 @@ impl Builder {
     {
         let document = self.end()?.into_document()?;
         let stream = mem::replace(&mut self.innermost, Open::Nothing);
-        self.innermost = stream.with_document(document)?;
+        let longer = stream.with_document(document)?;
+        drop(mem::replace(&mut self.innermost, longer));
         Ok(())
     }
 
@@ -140,7 +148,8 @@ impl Builder {
             (with_next_place place_behind_node (nest_of self.old)) self.old self.new }
     {
         let open = mem::replace(&mut self.innermost, Open::Nothing);
-        self.innermost = open.with_node(node)?;
+        let longer = open.with_node(node)?;
+        drop(mem::replace(&mut self.innermost, longer));
         Ok(())
     }
 
@@ -152,7 +161,10 @@ impl Builder {
         let around = mem::replace(&mut self.innermost, inner);
         match self.outer.push(around) {
             Ok(()) => Ok(()),
-            Err(_) => Err(TreeFault::OutOfMemory),
+            Err(fault) => {
+                drop(fault);
+                Err(TreeFault::OutOfMemory)
+            }
         }
     }
 

@@ -14,14 +14,14 @@ use crate::tally::Limits;
 use saphyr_parser::{Event, Input, Parser};
 use std::alloc::Global;
 
-/// Loads the next document, from a parser that stands before the stream or between documents. Behind the last
-/// one there is none, and a further call says so again.
+/// Loads the next document, from a parser before the stream or between documents. After the last one it returns
+/// `Ok(None)`, and so does each later call.
 ///
-/// It reads up to the end of the document, so that a fault in a later one is answered by a later call. The
-/// limits are on this document alone. Where a fault ends the events before, that fault is the answer, and the
-/// parser is at its end. Behind `TooManyNodes`, `TooDeep` and `OutOfMemory` the parser stands behind the event
-/// that could not be taken, and gives the others. Inside a document the answer is `NotFresh`, and no event is
-/// passed.
+/// It reads up to the end of the document, so a later call returns a fault in a later document. The limits are
+/// for this document alone. If a fault ends the events before the document's end, the call returns it, and the
+/// parser is at its end. After `TooManyNodes`, `TooDeep` and `OutOfMemory` the parser is after the event that
+/// could not be taken, and gives the events that follow. Inside a document the call returns `NotFresh`, and
+/// passes no event.
 pub fn load_document<'input, T: Input>(
     alloc: Global,
     parser: &mut Parser<'input, T>,
@@ -38,13 +38,13 @@ pub fn load_document<'input, T: Input>(
     }
 }
 
-// Where a parser stands.
+// The place of a parser.
 enum Place {
     // The stream's start comes next.
     BeforeStream,
     // A document comes next, or the stream's end, or a fault, or nothing.
     Between,
-    // An event comes next of a document that has begun.
+    // The next event is inside a document.
     Inside,
 }
 
@@ -61,7 +61,7 @@ fn find_place<'input, T: Input>(parser: &mut Parser<'input, T>) -> Place
     }
 }
 
-// Loads the next document by a loader that has taken what stands before it.
+// Loads the next document by a loader that has taken what comes before it.
 fn next_document<'input, T: Input>(
     mut loader: Loader,
     parser: &mut Parser<'input, T>,
@@ -73,6 +73,11 @@ fn next_document<'input, T: Input>(
         → AtMost StreamStart before → GoesOnBehind before (to_come parser.old)
         → LeavesBehindLook result parser.old parser.new }
 {
-    loader.take_document(parser)?;
-    loader.builder.last_document()
+    match loader.take_document(parser) {
+        Ok(_) => loader.builder.last_document(),
+        Err(fault) => {
+            drop(loader);
+            Err(fault)
+        }
+    }
 }

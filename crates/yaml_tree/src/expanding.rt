@@ -1,8 +1,9 @@
 //! How many nodes a document has once its aliases are expanded (YAML 1.2.2, 7.1).
 ghost use Rattle.std.specs.Prelude.{◌≡◌, ℕ, [], min, OnOk, IfOk};
-ghost use Rattle.yaml_tree.specs.declared.node.Node.{out-Node};
-ghost use Rattle.yaml_tree.specs.Expanding.{most, nodes_once_expanded, no_sizes};
-ghost use Rattle.yaml_tree.specs.CounterSeen.{Count, Holds, size_in, with_nodes, begun, left, entered_layer};
+ghost use Rattle.yaml_tree.specs.declared.node.Node.{Node, out-Node};
+ghost use Rattle.yaml_tree.specs.Walking.{to_visit};
+ghost use Rattle.yaml_tree.specs.Expanding.{most, nodes_once_expanded, no_sizes, expanded};
+ghost use Rattle.yaml_tree.specs.CounterSeen.{Count, Holds, IsCounting, size_in, with_nodes, begun, left, entered_layer};
 
 use crate::document::Document;
 use crate::node::Node;
@@ -11,10 +12,10 @@ use std::alloc::{AllocError, Global};
 use std::collections::BTreeMap;
 use std::mem;
 
-/// The nodes so far, with `u64::MAX` in the place of more.
+/// The nodes so far, at most `u64::MAX`.
 #[derive(Drop)]
 struct Counter {
-    /// Those of the innermost collection that is open, itself among them.
+    /// Those of the innermost collection that is open, including itself.
     nodes: u64,
     /// How many the node of each anchor has, once it has ended.
     sizes: BTreeMap<usize, u64>,
@@ -24,22 +25,18 @@ struct Counter {
 
 impl Document {
     /// How many nodes the document has once each alias is replaced by a copy of the node that it stands for, or
-    /// `u64::MAX` where there are more. Nothing is copied: a short text may ask for more nodes than memory holds.
+    /// `u64::MAX` if there are more. Nothing is copied: a short text may need more nodes than memory holds.
     ///
-    /// An alias inside the node that it stands for has no end, and counts as `u64::MAX`. So does one for which no
-    /// node with its id comes before it, which no text has; where several do, the last that ended counts.
+    /// An alias inside the node that it stands for is infinite, and counts as `u64::MAX`. So does an alias before
+    /// which no node has its id, which no text has. If several nodes have it, the last that ended counts.
     pub fn expanded_nodes(&self, alloc: Global) -> Result<u64, AllocError>
         ensures { IfOk result (λ nodes. nodes ≡ nodes_once_expanded self.now) }
     {
         let mut walk = Walk::new(alloc, &self.root, &[]);
         let mut counter = Counter::new(alloc);
-        'turns: loop {
-            match walk.turn()? {
-                Turn::Enter(node, _) => counter.enter(node)?,
-                Turn::Leave => counter.leave()?,
-                Turn::Over => return Ok(counter.nodes),
-            }
-        }
+        let counted = counter.count_all(&mut walk);
+        drop((walk, counter));
+        counted
     }
 }
 
@@ -51,6 +48,20 @@ impl Counter {
             nodes: 0,
             sizes: BTreeMap::new(alloc),
             levels: Vec::new(alloc),
+        }
+    }
+
+    // The nodes of a tree, of which a walk has still to visit these.
+    fn count_all(&mut self, walk: &mut Walk<'_>) -> Result<u64, AllocError>
+        ensures { (root : Node) → IsCounting root (to_visit walk.old) self.old
+            → IfOk result (λ nodes. nodes ≡ min most (expanded root no_sizes).nodes) }
+    {
+        'turns: loop {
+            match walk.turn()? {
+                Turn::Enter(node, _) => self.enter(node)?,
+                Turn::Leave => self.leave()?,
+                Turn::Over => return Ok(self.nodes),
+            }
         }
     }
 
@@ -88,7 +99,7 @@ impl Counter {
         Ok(())
     }
 
-    // A node with this anchor ended, which has so many.
+    // A node with this anchor ended, which has this many nodes.
     fn add(&mut self, id: usize, nodes: u64) -> Result<(), AllocError>
         ensures { OnOk result ((c : Count) (n : ℕ) → nodes ≡ min most n → Holds self.old c
             → Holds self.new (with_nodes id n c)) }

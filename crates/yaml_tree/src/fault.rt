@@ -21,7 +21,7 @@ pub enum TreeFault {
     /// There was no memory for the trees.
     #[error("out of memory")]
     OutOfMemory,
-    /// The parser's next event isn't the stream's start, or for `load_document` is one of a document that has begun.
+    /// The parser's next event isn't the stream's start. For `load_document`: the next event is inside a document.
     #[error("the parser has handed out events")]
     NotFresh,
 }
@@ -56,7 +56,7 @@ impl<X: Drop> From<AllocFailed<X>> for TreeFault {
     }
 }
 
-// A place as faults print it.
+// A place, as faults print it.
 #[derive(Clone, Copy)]
 struct PrintedPlace(Marker);
 

@@ -1,4 +1,4 @@
-//! A loader of the documents of a YAML text, as trees, on the events of `saphyr_parser` (YAML 1.2.2, 3.1.2).
+//! Loads the documents of a YAML text as trees, from the events of `saphyr_parser` (YAML 1.2.2, 3.1.2).
 #![tactic(auto)]
 
 mod accessors;

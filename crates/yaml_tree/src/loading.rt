@@ -17,9 +17,9 @@ use std::alloc::Global;
 
 /// Loads all documents of a text, from a parser that has handed out no event.
 ///
-/// It reads up to the end of the stream. Where a fault ends the events, that fault is the answer, and the
-/// parser is at its end. Behind `TooManyNodes`, `TooDeep` and `OutOfMemory` the parser stands behind the
-/// event that could not be taken, and gives the others. `NotFresh` passes no event.
+/// It reads up to the end of the stream. If a fault ends the events, the call returns it, and the parser is at
+/// its end. After `TooManyNodes`, `TooDeep` and `OutOfMemory` the parser is after the event that could not be
+/// taken, and gives the events that follow. `NotFresh` passes no event.
 pub fn load_documents<'input, T: Input>(
     alloc: Global,
     parser: &mut Parser<'input, T>,
@@ -32,8 +32,13 @@ pub fn load_documents<'input, T: Input>(
         return Err(TreeFault::NotFresh);
     }
     let mut loader = Loader::new(alloc, limits);
-    loader.take_all(parser)?;
-    loader.builder.finish()
+    match loader.take_all(parser) {
+        Ok(()) => loader.builder.finish(),
+        Err(fault) => {
+            drop(loader);
+            Err(fault)
+        }
+    }
 }
 
 // Whether the stream's start comes next, or a fault.
@@ -98,7 +103,7 @@ impl Loader {
         Ok(())
     }
 
-    // Takes events up to the end of a document. Whether one ended; where none did, the stream has.
+    // Takes events up to the end of a document. Returns whether a document ended; if not, the stream has.
     pub(crate) fn take_document<'input, T: Input>(
         &mut self,
         parser: &mut Parser<'input, T>,
@@ -125,12 +130,17 @@ impl Loader {
         Ok(false)
     }
 
-    // Takes an event whose span starts here. The limits are judged first.
+    // Takes an event whose span starts here. Checks the limits first.
     fn take(&mut self, event: Event, place: Marker) -> Result<(), TreeFault>
         ensures { (limits : Limits) (events : List Happening) → HasTaken limits events self.old
             → TakesLast result limits (events ++ happening event.entry ∷ []) place self.new }
     {
-        self.tally.count(&event, place)?;
-        self.builder.take(event)
+        match self.tally.count(&event, place) {
+            Ok(()) => self.builder.take(event),
+            Err(fault) => {
+                drop(event);
+                Err(fault)
+            }
+        }
     }
 }

@@ -7,11 +7,11 @@ use std::mem;
 
 /// A node of a tree.
 ///
-/// The first number is the id of its anchor, 0 where it has none. Anchors aren't followed, so that no part
-/// of a tree is shared or repeated. A node that is left out is a plain scalar with empty text.
+/// The first number is the id of its anchor, or 0 if it has none. Aliases aren't followed, so no part of a
+/// tree is shared or repeated. A node that is left out is a plain scalar with empty text.
 #[derive(Debug, PartialEq, Eq)]
 pub enum Node {
-    /// A node that stands for the one with this anchor id.
+    /// An alias of the node whose anchor has this id.
     Alias(usize),
     /// A scalar: its text, how it is written, its anchor id and its tag.
     Scalar(String, ScalarStyle, usize, Option<Tag>),
@@ -22,8 +22,8 @@ pub enum Node {
 }
 
 impl Drop for Node {
-    // The collections around a part hang in one another, each in the first place of the next inner one. So a
-    // deep tree needs no more stack than a flat one, and no memory.
+    // The collections around a part are chained, each in the first place of the next inner one. So a deep tree
+    // needs no more stack than a flat one, and no memory.
     fn drop(self) {
         let mut outer = Node::Alias(0);
         let mut part = self;
@@ -37,33 +37,51 @@ impl Drop for Node {
 }
 
 impl Node {
-    // What is left of the two once a leaf or an empty collection is dropped, or the first part of a
-    // collection has changed places with what is outer.
+    // What is left of the two after one step. It drops a leaf or an empty collection, or swaps the first part
+    // of a collection with what is outer.
     fn turned(self, outer: Node) -> Option<(Node, Node)>
         ensures { IfSome result (λ next. turns next.0 next.1 < turns outer self) }
     {
         match self {
             Node::Alias(_) => outer.next_part(),
-            Node::Scalar(_, _, _, _) => outer.next_part(),
-            Node::Seq(_, _, nodes) => turned_nodes(nodes, outer),
-            Node::Map(_, _, pairs) => turned_pairs(pairs, outer),
+            Node::Scalar(text, _, _, tag) => {
+                drop((text, tag));
+                outer.next_part()
+            }
+            Node::Seq(_, tag, nodes) => {
+                drop(tag);
+                turned_nodes(nodes, outer)
+            }
+            Node::Map(_, tag, pairs) => {
+                drop(tag);
+                turned_pairs(pairs, outer)
+            }
         }
     }
 
-    // What is outer then, and a part to drop next. Where only what is outer is left, that is all.
+    // What is outer after a step, and a part to drop next. If only what is outer is left, the step is the last.
     fn next_part(self) -> Option<(Node, Node)>
         ensures { IfSome result
             (λ next. node_weight next.0 + node_weight next.1 ≤ node_weight self) }
     {
         match self {
             Node::Alias(_) => None,
-            Node::Scalar(_, _, _, _) => None,
-            Node::Seq(_, _, nodes) => next_node(nodes),
-            Node::Map(_, _, pairs) => next_of_pairs(pairs),
+            Node::Scalar(text, _, _, tag) => {
+                drop((text, tag));
+                None
+            }
+            Node::Seq(_, tag, nodes) => {
+                drop(tag);
+                next_node(nodes)
+            }
+            Node::Map(_, tag, pairs) => {
+                drop(tag);
+                next_of_pairs(pairs)
+            }
         }
     }
 
-    // Whether no node stands inside.
+    // Whether no node is inside.
     fn is_bare(&self) -> bool
         ensures { IsTrue result ↔ IsBare self.now }
     {
@@ -80,9 +98,15 @@ impl Node {
     {
         match self {
             Node::Alias(_) => {}
-            Node::Scalar(_, _, _, _) => {}
-            Node::Seq(_, _, nodes) => nodes.destroy_empty(),
-            Node::Map(_, _, pairs) => pairs.destroy_empty(),
+            Node::Scalar(text, _, _, tag) => drop((text, tag)),
+            Node::Seq(_, tag, nodes) => {
+                drop(tag);
+                nodes.destroy_empty();
+            }
+            Node::Map(_, tag, pairs) => {
+                drop(tag);
+                pairs.destroy_empty();
+            }
         }
     }
 }

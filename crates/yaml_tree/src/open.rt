@@ -1,4 +1,5 @@
-//! What has begun and not ended, of a stream, a document or a collection.
+//! A stream, a document or a collection that has begun and not ended. Where one is dropped, the code says so by a call:
+//! a drop at the end of a scope takes several times as long to prove.
 ghost use Rattle.std.specs.Prelude.{◌≡◌, [], ◌∷◌};
 ghost use Rattle.saphyr_parser.specs.Events.{StreamStart, StreamEnd, DocumentEnd, SequenceEnd, MappingEnd};
 ghost use Rattle.yaml_tree.specs.Unloading.{node_events, document_events};
@@ -36,7 +37,10 @@ impl Open {
     {
         match self {
             Open::Nothing => Ok(Open::Stream(Vec::new(alloc))),
-            _ => Err(TreeFault::NotFresh),
+            other => {
+                drop(other);
+                Err(TreeFault::NotFresh)
+            }
         }
     }
 
@@ -47,7 +51,10 @@ impl Open {
     {
         match self {
             Open::Stream(documents) => Ok(Open::Ended(documents)),
-            _ => Err(TreeFault::NotFresh),
+            other => {
+                drop(other);
+                Err(TreeFault::NotFresh)
+            }
         }
     }
 
@@ -59,9 +66,15 @@ impl Open {
         match self {
             Open::Stream(mut documents) => match documents.push(document) {
                 Ok(()) => Ok(Open::Stream(documents)),
-                Err(_) => Err(TreeFault::OutOfMemory),
+                Err(fault) => {
+                    drop((fault, documents));
+                    Err(TreeFault::OutOfMemory)
+                }
             },
-            _ => Err(TreeFault::NotFresh),
+            other => {
+                drop((other, document));
+                Err(TreeFault::NotFresh)
+            }
         }
     }
 
@@ -73,20 +86,32 @@ impl Open {
         match self {
             Open::Document(explicit, root) => match root {
                 None => Ok(Open::Document(explicit, Some(node))),
-                Some(_) => Err(TreeFault::NotFresh),
+                Some(root) => {
+                    drop((root, node));
+                    Err(TreeFault::NotFresh)
+                }
             },
             Open::Sequence(id, tag, mut nodes) => match nodes.push(node) {
                 Ok(()) => Ok(Open::Sequence(id, tag, nodes)),
-                Err(_) => Err(TreeFault::OutOfMemory),
+                Err(fault) => {
+                    drop((fault, tag, nodes));
+                    Err(TreeFault::OutOfMemory)
+                }
             },
             Open::Mapping(id, tag, mut pairs, key) => match key {
                 None => Ok(Open::Mapping(id, tag, pairs, Some(node))),
                 Some(key) => match pairs.push((key, node)) {
                     Ok(()) => Ok(Open::Mapping(id, tag, pairs, None)),
-                    Err(_) => Err(TreeFault::OutOfMemory),
+                    Err(fault) => {
+                        drop((fault, tag, pairs));
+                        Err(TreeFault::OutOfMemory)
+                    }
                 },
             },
-            _ => Err(TreeFault::NotFresh),
+            other => {
+                drop((other, node));
+                Err(TreeFault::NotFresh)
+            }
         }
     }
 
@@ -96,7 +121,10 @@ impl Open {
     {
         match self {
             Open::Document(explicit, Some(root)) => Ok(Document { explicit, root }),
-            _ => Err(TreeFault::NotFresh),
+            other => {
+                drop(other);
+                Err(TreeFault::NotFresh)
+            }
         }
     }
 
@@ -106,7 +134,10 @@ impl Open {
     {
         match self {
             Open::Sequence(id, tag, nodes) => Ok(Node::Seq(id, tag, nodes)),
-            _ => Err(TreeFault::NotFresh),
+            other => {
+                drop(other);
+                Err(TreeFault::NotFresh)
+            }
         }
     }
 
@@ -116,7 +147,10 @@ impl Open {
     {
         match self {
             Open::Mapping(id, tag, pairs, None) => Ok(Node::Map(id, tag, pairs)),
-            _ => Err(TreeFault::NotFresh),
+            other => {
+                drop(other);
+                Err(TreeFault::NotFresh)
+            }
         }
     }
 
@@ -126,18 +160,31 @@ impl Open {
     {
         match self {
             Open::Ended(documents) => Ok(documents),
-            _ => Err(TreeFault::NotFresh),
+            other => {
+                drop(other);
+                Err(TreeFault::NotFresh)
+            }
         }
     }
 
-    // The document that has ended last, or none where the stream has ended.
+    // The document that has ended last, or none if the stream has ended.
     pub(crate) fn into_last_document(self) -> Result<Option<Document>, TreeFault>
         ensures { IsLastOf result self }
     {
         match self {
-            Open::Stream(mut documents) => Ok(documents.pop()),
-            Open::Ended(_) => Ok(None),
-            _ => Err(TreeFault::NotFresh),
+            Open::Stream(mut documents) => {
+                let last = documents.pop();
+                drop(documents);
+                Ok(last)
+            }
+            Open::Ended(documents) => {
+                drop(documents);
+                Ok(None)
+            }
+            other => {
+                drop(other);
+                Err(TreeFault::NotFresh)
+            }
         }
     }
 }

@@ -1,6 +1,7 @@
 //! Paths from a node to one inside (YAML 1.2.2, 3.2.1).
 ghost use Rattle.std.specs.Prelude.{◌≡◌, option_copied};
-ghost use Rattle.yaml_tree.specs.Following.{follow, at_step};
+ghost use Rattle.yaml_tree.specs.Accessing.{pairs_of_node};
+ghost use Rattle.yaml_tree.specs.Following.{follow, at_step, part_at};
 
 use crate::node::Node;
 
@@ -34,8 +35,15 @@ impl Node {
     {
         match step {
             Step::Index(index) => self.items()?.get(index),
-            Step::Key(index) => Some(&self.pairs()?.get(index)?.0),
-            Step::Value(index) => Some(&self.pairs()?.get(index)?.1),
+            Step::Key(index) => Some(&self.pair_at(index)?.0),
+            Step::Value(index) => Some(&self.pair_at(index)?.1),
         }
+    }
+
+    // A pair of a mapping.
+    fn pair_at(&self, index: usize) -> Option<&(Node, Node)>
+        ensures { option_copied result ≡ part_at index (pairs_of_node self.now) }
+    {
+        self.pairs()?.get(index)
     }
 }

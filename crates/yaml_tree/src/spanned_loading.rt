@@ -15,10 +15,10 @@ use crate::tally::Limits;
 use saphyr_parser::{Event, Input, Parser, Span};
 use std::alloc::Global;
 
-/// Loads all documents of a text as `load_documents` does, and keeps where each node stands.
+/// Loads all documents of a text as `load_documents` does, and keeps the place of each node.
 ///
-/// The spans of a document are those of its events, so that it has two for each collection. They take 48 bytes
-/// each, and as much again for room to grow at most.
+/// The spans of a document are those of its events, so each collection has two. Each takes 48 bytes, and at most as
+/// much again as room to grow.
 pub fn load_documents_with_spans<'input, T: Input>(
     alloc: Global,
     parser: &mut Parser<'input, T>,
@@ -34,8 +34,13 @@ pub fn load_documents_with_spans<'input, T: Input>(
         return Err(TreeFault::NotFresh);
     }
     let mut loader = SpannedLoader::new(alloc, limits);
-    loader.take_all(parser)?;
-    loader.finish()
+    match loader.take_all(parser) {
+        Ok(()) => loader.finish(),
+        Err(fault) => {
+            drop(loader);
+            Err(fault)
+        }
+    }
 }
 
 // A loader, and the spans of what it has taken.
@@ -82,7 +87,7 @@ impl SpannedLoader {
         Ok(())
     }
 
-    // Takes an event with its span. The limits are judged first.
+    // Takes an event with its span. Checks the limits first.
     fn take(&mut self, event: Event, span: Span) -> Result<(), TreeFault>
         ensures takes { (limits : Limits) (events : List Happening)
             → HasTaken limits events self.old.loader → TakesLast result limits
@@ -90,9 +95,19 @@ impl SpannedLoader {
         ensures keeps { OnOk result (kept_spans self.new.keeper
             ≡ kept_behind (happening event.entry) span (kept_spans self.old.keeper)) }
     {
-        self.loader.tally.count(&event, span.start)?;
-        self.keeper.keep(&event, span)?;
-        self.loader.builder.take(event)
+        match self.loader.tally.count(&event, span.start) {
+            Ok(()) => match self.keeper.keep(&event, span) {
+                Ok(()) => self.loader.builder.take(event),
+                Err(_) => {
+                    drop(event);
+                    Err(TreeFault::OutOfMemory)
+                }
+            },
+            Err(fault) => {
+                drop(event);
+                Err(fault)
+            }
+        }
     }
 
     // The documents of a stream that has ended.

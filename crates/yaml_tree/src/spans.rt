@@ -13,7 +13,7 @@ use std::mem;
 #[derive(Debug, PartialEq, Eq, Drop)]
 pub struct DocumentSpans {
     pub start: Span,
-    /// Those of its nodes' events. A collection has two: that of its start and, behind those of its parts, that
+    /// The spans of its nodes' events. A collection has two: that of its start and, after those of its parts, that
     /// of its end.
     pub nodes: Vec<Span>,
     pub end: Span,
@@ -50,7 +50,7 @@ impl SpanKeeper {
         }
     }
 
-    // Keeps the span of an event. Behind an error no more may be kept.
+    // Keeps the span of an event. After an error no more may be kept.
     pub(crate) fn keep(&mut self, event: &Event, span: Span) -> Result<(), AllocError>
         ensures { OnOk result (kept_spans self.new
             ≡ kept_behind (happening event.now) span (kept_spans self.old)) }

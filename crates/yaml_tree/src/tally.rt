@@ -5,8 +5,8 @@ ghost use Rattle.saphyr_parser.specs.Views.Events.{happening};
 use crate::fault::TreeFault;
 use saphyr_parser::{Event, Marker};
 
-/// How large the trees of a text may be: how many nodes they may have in all, an alias and a node that is
-/// left out counted as one each, and how many collections may be open at once.
+/// How large the trees of a text may be: how many nodes they may have in all, and how many collections may be
+/// open at once. An alias counts as one node, and so does a node that is left out.
 #[derive(Clone, Copy, Debug, PartialEq, Eq)]
 pub struct Limits {
     pub nodes: usize,

@@ -6,15 +6,15 @@ ghost use Rattle.std.specs.Option.{option_to_list};
 ghost use Rattle.std.specs.Iterator.{at_most};
 ghost use Rattle.yaml_tree.specs.Unloading.{node_events};
 ghost use Rattle.yaml_tree.specs.Walking.{to_visit, frames_events, Enters, Turns, Visits};
-ghost use Rattle.yaml_tree.specs.Walking.{path_of, step_in, last_step, IsWalkOf, LeadDown, StandBelow, TurnsWithin};
+ghost use Rattle.yaml_tree.specs.Walking.{path_of, step_in, last_step, Splits, IsWalkOf, LeadDown, StandBelow, TurnsWithin};
 
 use crate::node::Node;
 use crate::paths::Step;
 use saphyr_parser::Span;
 use std::alloc::{AllocError, Global};
 
-/// A node that is visited: the span of its event, that of its start where it is a collection, and how many
-/// collections stand around it.
+/// A node that is visited: the span of its event (of its start, if it is a collection), and how many collections are
+/// around it.
 #[derive(Clone, Copy)]
 pub struct Visit<'a> {
     pub node: &'a Node,
@@ -41,6 +41,23 @@ impl<'a> Rest<'a> {
             Rest::Value(_, all, left) => Some(Step::Key(last_of(all.len(), left.len())?)),
         }
     }
+
+    // The part that begins next, and what is left then.
+    fn next_part(self) -> Option<(&'a Node, Rest<'a>)>
+        ensures { Splits self.entry result }
+    {
+        match self {
+            Rest::Items(all, left) => match left.split_first() {
+                None => None,
+                Some((node, others)) => Some((node, Rest::Items(all, others))),
+            },
+            Rest::Pairs(all, left) => match left.split_first() {
+                None => None,
+                Some((pair, others)) => Some((&pair.0, Rest::Value(&pair.1, all, others))),
+            },
+            Rest::Value(value, all, others) => Some((value, Rest::Pairs(all, others))),
+        }
+    }
 }
 
 // The index of the last part before these.
@@ -51,16 +68,16 @@ fn last_of(all: usize, left: usize) -> Option<usize>
     all.checked_sub(left)?.checked_sub(1)
 }
 
-// An event of a tree: a node begins, with so many collections around it; or a collection ends.
+// An event of a tree: a node begins, with this many collections around it; or a collection ends.
 pub(crate) enum Turn<'a> {
     Enter(&'a Node, usize),
     Leave,
     Over,
 }
 
-/// A walk through a tree, from a node to each node inside, a node before its parts and a key before its value. It goes
-/// as far as its spans do. It needs memory as the tree is deep: where there is none a visit is `Err`, and nothing more
-/// comes behind it.
+/// A walk through a tree, from a node to each node inside: a node before its parts, and a key before its value. It goes
+/// as far as its spans do. It needs memory for each level of the tree. If there is none, a visit is `Err`, and nothing
+/// comes after it.
 #[derive(Drop)]
 pub struct Walk<'a> {
     root: Option<&'a Node>,
@@ -82,8 +99,8 @@ impl<'a> Walk<'a> {
         }
     }
 
-    /// The path from the root to the node that was visited last. Ask right behind the visit: where no visit comes any
-    /// more, the path leads to no node in particular.
+    /// The path from the root to the node that was visited last. Call this right after the visit: once no visit comes
+    /// any more, the path leads to no node in particular.
     pub fn path(&self, alloc: Global) -> Result<Vec<Step>, AllocError>
         ensures { IfOk result (λ path. path.items ≡ path_of self.now) }
     {
@@ -108,24 +125,13 @@ impl<'a> Walk<'a> {
         }
         match self.levels.pop() {
             None => Ok(Turn::Over),
-            Some(Rest::Items(all, left)) => match left.split_first() {
+            Some(rest) => match rest.next_part() {
                 None => Ok(Turn::Leave),
                 Some((node, others)) => {
-                    self.levels.push(Rest::Items(all, others))?;
+                    self.levels.push(others)?;
                     self.enter(node)
                 }
             },
-            Some(Rest::Pairs(all, left)) => match left.split_first() {
-                None => Ok(Turn::Leave),
-                Some((pair, others)) => {
-                    self.levels.push(Rest::Value(&pair.1, all, others))?;
-                    self.enter(&pair.0)
-                }
-            },
-            Some(Rest::Value(value, all, others)) => {
-                self.levels.push(Rest::Pairs(all, others))?;
-                self.enter(value)
-            }
         }
     }
 

@@ -13,19 +13,19 @@ returns-in_err-write_events g c = passes_fault _ _ _ _ _ _ _ c.from_residual-in_
 pub returns-in_err-told : goal.returns-in_err-told
 returns-in_err-told g c = passes_want _ _ _ _ _ c.from_residual-in_err-told.ensures.1
 
-pub returns-in_err-write_events-2 : goal.returns-in_err-write_events-2
-returns-in_err-write_events-2 g c = passes_fault _ _ _ _ _ _ _ c.from_residual-in_err-write_events-2.ensures.1
-    (lines_cut _ c.args.name.now c.args.options c.args.text.now _ _ c.in_err-write_events-2.ensures)
+pub returns-in-Err : goal.returns-in-Err
+returns-in-Err g c =
+    lines_cut c.in-Err.fault c.args.name.now c.args.options c.args.text.now _ _ c.in-Err.ensures
 
-pub returns-in_err-write_unless_quiet : goal.returns-in_err-write_unless_quiet
-returns-in_err-write_unless_quiet g c =
-    passes_fault _ _ _ _ _ _ _ c.from_residual-in_err-write_unless_quiet.ensures.1
+pub returns-in_err-written-in-Ok : goal.returns-in_err-written-in-Ok
+returns-in_err-written-in-Ok g c =
+    passes_fault _ _ _ _ _ _ _ c.from_residual-in_err-written-in-Ok.ensures.1
     (told_cut _ c.args.name.now c.args.options c.args.text.now c.as_str.result.now _ _ _ c.in_ok-found.found
     c.in_ok-found.ensures.fault c.in_ok-found.ensures.warnings (rw c.as_str.ensures.value c.in_ok-told.ensures)
-    c.in_ok-write_events-2.ensures c.in_err-write_unless_quiet.ensures)
+    c.in-Ok.ensures c.in_err-written-in-Ok.ensures)
 
-pub returns : goal.returns
-returns g c = record {
+pub returns-in_ok-written-in-Ok : goal.returns-in_ok-written-in-Ok
+returns-in_ok-written-in-Ok g c = record {
   found = c.in_ok-found.found;
   some = λ (clean : IsClean c.in_ok-found.found).
       let said : c.is_empty.result ≡ true = c.is_empty.ensures.1 clean in let empty = c.if-is_empty.false in
@@ -35,6 +35,6 @@ returns g c = record {
   told = c.as_str.result.now;
   report = rw c.as_str.ensures.value c.in_ok-told.ensures;
   middle = g.W.Write.contents c.write_events-2.new.out;
-  events = c.in_ok-write_events-2.ensures;
-  written = c.in_ok-write_unless_quiet.ensures;
+  events = c.in-Ok.ensures;
+  written = c.in_ok-written-in-Ok.ensures;
 }

@@ -1,7 +1,7 @@
 use Rattle.std.proofs.Common.{Bool, List, ℕ, Err, inl, inr}
 use Rattle.saphyr_parser.specs.Answer.{Answer}
 use Rattle.saphyr_parser.specs.EventsTaken.{AreTaken}
-use Rattle.saphyr_parser.proofs.Nesting.{nests, starts}
+use Rattle.event_laws.proofs.Nesting.{nests, starts}
 use Rattle.yaml_tree.specs.declared.fault.TreeFault.TheVariants as fault
 use Rattle.yaml_tree.specs.declared.tally.Limits.{Limits}
 use Rattle.yaml_tree.specs.Loading.{LoadsDocuments}

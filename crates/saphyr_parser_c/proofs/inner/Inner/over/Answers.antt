@@ -4,8 +4,8 @@ use Rattle.std.specs.Str.{chars}
 use Rattle.saphyr_parser_c.specs.Inner.{Promises}
 use Rattle.saphyr_parser_c.proofs.inner.Inner.over.Goals as goal
 
-pub returns-in-Ok-new : goal.returns-in-Ok-new
-returns-in-Ok-new c =
+pub returns-in-Ok-fresh : goal.returns-in-Ok-fresh
+returns-in-Ok-fresh c =
     let fresh = c.new_from_str.result in
     let made = c.new_from_str.ensures in
     let P : List ℕ → Type 0 = λ text. Promises (chars text) fresh in

@@ -1,12 +1,12 @@
-use Rattle.std.proofs.Common.{◌≡◌, Bool, Err, false, rules}
+use Rattle.std.proofs.Common.{◌≡◌, Bool, [], Err, false, rules}
 use Rattle.saphyr_parser.specs.Nesting.{happenings}
-use Rattle.yaml_tree.proofs.Loads.{reads_none}
 use Rattle.yaml_tree.proofs.Leaving.{hands_none, hands_both, leaves_rest, leaves_fault}
-use Rattle.yaml_tree.proofs.DocumentRead.{reads_document, reads_stream, fails_in_stream}
+use Rattle.yaml_tree.proofs.DocumentRead.{AnyEvents, reads_nothing, read_parts, reads_document, reads_stream, fails_in_stream}
+use Rattle.yaml_tree.specs.DocumentLoading.{EndNoDocument}
 use Rattle.yaml_tree.proofs.loading.Loader.take_all.Goals as goal
 
 pub loop-init : goal.loop-init
-loop-init g c = λ limits h. (reads_none limits _ _ h, hands_none _)
+loop-init g c = λ limits h. (reads_nothing AnyEvents limits [] _ _ tt h, hands_none _)
 
 pub loop-preserved : goal.loop-preserved
 loop-preserved g c = λ limits h.
@@ -21,7 +21,7 @@ returns-clause-takes g c = λ limits h.
     let before = c.loop.invariant limits h in
     let events = happenings before.0.taken in
     let takes = rw c.if-branch.false at (c.in_ok-take_document.ensures.takes limits events before.0.loader) in
-    reads_stream limits _ _ _ _ _ before.0 takes
+    reads_stream EndNoDocument limits before.0.taken _ _ _ _ (read_parts limits _ _ _ before.0) takes
 
 pub returns-clause-leaves : goal.returns-clause-leaves
 returns-clause-leaves g c = λ limits h.
@@ -34,7 +34,7 @@ pub returns-in_err-take_document-clause-takes : goal.returns-in_err-take_documen
 returns-in_err-take_document-clause-takes g c = λ limits h.
     let before = c.loop.invariant limits h in
     let answer : c.from_residual.result ≡ Err c.in_err-take_document.field-0.0 = search rules in
-    rw answer (fails_in_stream _ limits _ _ _ _ before.0
+    rw answer (fails_in_stream EndNoDocument _ limits before.0.taken _ _ _ (read_parts limits _ _ _ before.0)
     (c.in_err-take_document.ensures.takes limits (happenings before.0.taken) before.0.loader))
 
 pub returns-in_err-take_document-clause-leaves : goal.returns-in_err-take_document-clause-leaves

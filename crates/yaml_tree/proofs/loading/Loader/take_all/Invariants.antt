@@ -2,7 +2,7 @@ use Rattle.std.proofs.Common.{[]}
 use Rattle.saphyr_parser.specs.Cursor.{to_come, count}
 use Rattle.yaml_tree.specs.declared.tally.Limits.{Limits}
 use Rattle.yaml_tree.specs.LoaderSeen.{HasTaken}
-use Rattle.yaml_tree.specs.Loading.{HasRead}
+use Rattle.yaml_tree.proofs.DocumentRead.{HasRead}
 use Rattle.yaml_tree.specs.Leaving.{HasHandedOut}
 use Rattle.yaml_tree.proofs.loading.Loader.take_all.Given as goal
 

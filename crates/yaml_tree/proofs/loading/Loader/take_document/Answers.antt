@@ -1,20 +1,22 @@
 use Rattle.std.proofs.Common.{◌≡◌, ◌∷◌, ◌++◌, [], Bool, Err, false, true≢false, sym, ◌∙◌, rules}
 use Rattle.saphyr_parser.specs.Cursor.{event_of}
 use Rattle.saphyr_parser.specs.Nesting.{happenings}
+use Rattle.yaml_tree.specs.DocumentLoading.{EndNoDocument}
+use Rattle.yaml_tree.proofs.DocumentEnds.{none_more}
 use Rattle.yaml_tree.proofs.DocumentRead.{reads_nothing, reads_on, reads_end, fails_behind, refuses_behind, reads_rest}
 use Rattle.yaml_tree.proofs.Leaving.{hands_none, hands_more, hands_less, leaves_all, leaves_at}
 use Rattle.yaml_tree.proofs.loading.Loader.take_document.Goals as goal
 
 pub loop-read-init : goal.loop-read-init
-loop-read-init g c = (λ limits before h. reads_nothing limits before _ _ h, hands_none _)
+loop-read-init g c = (λ limits before h. reads_nothing EndNoDocument limits before _ _ tt h, hands_none _)
 
 pub loop-read-preserved : goal.loop-read-preserved
 loop-read-preserved g c = (
   λ limits before h.
       let read = c.loop-read.invariant.0 limits before h in
       let hands = rw c.in-Ok.is at c.in-Some.ensures.hands in
-      reads_on limits before _ _ _ (event_of (c.in-Ok.event, c.in-Ok.span)) _ _ read hands
-      (λ e. true≢false (sym (c.ends_document-last.ensures.1 e) ∙ c.if-last.false))
+      reads_on EndNoDocument limits before _ _ _ (event_of (c.in-Ok.event, c.in-Ok.span)) _ _ read hands
+      (none_more _ _ read.inside (λ e. true≢false (sym (c.ends_document-last.ensures.1 e) ∙ c.if-last.false)))
       (c.in_ok-take-in-Ok.ensures limits (before ++ happenings read.taken) read.loader),
   hands_more _ _ _ (event_of (c.in-Ok.event, c.in-Ok.span)) c.loop-read.invariant.1
       (rw c.in-Ok.is at c.in-Some.ensures.leaves),
@@ -42,7 +44,7 @@ returns-in_err-take-in-Ok-clause-takes g c = λ limits before h.
     let read = c.loop-read.invariant.0 limits before h in
     let hands = rw c.in-Ok.is at c.in-Some.ensures.hands in
     let answer : c.from_residual.result ≡ Err c.in_err-take-in-Ok.field-0.0 = search rules in
-    rw answer (fails_behind _ limits before _ _ _ (event_of (c.in-Ok.event, c.in-Ok.span)) _ read hands
+    rw answer (fails_behind EndNoDocument _ limits before _ _ _ (event_of (c.in-Ok.event, c.in-Ok.span)) _ read hands
     (c.in_err-take-in-Ok.ensures limits (before ++ happenings read.taken) read.loader))
 
 pub returns-in_err-take-in-Ok-clause-leaves : goal.returns-in_err-take-in-Ok-clause-leaves
@@ -58,7 +60,7 @@ returns-in_err-take-in-Ok-clause-leaves g c = λ limits before h.
 pub returns-in-Err-clause-takes : goal.returns-in-Err-clause-takes
 returns-in-Err-clause-takes g c = λ limits before h.
     let hands = rw c.in-Err.is at c.in-Some.ensures.hands in
-    refuses_behind c.in-Err.fault limits before _ _ _ _ (c.loop-read.invariant.0 limits before h) hands.0 hands.1
+    refuses_behind EndNoDocument c.in-Err.fault limits before _ _ _ _ (c.loop-read.invariant.0 limits before h) hands.0 hands.1
 
 pub returns-in-Err-clause-leaves : goal.returns-in-Err-clause-leaves
 returns-in-Err-clause-leaves g c = λ limits before h.
@@ -68,7 +70,7 @@ returns-in-Err-clause-leaves g c = λ limits before h.
 pub returns-clause-takes : goal.returns-clause-takes
 returns-clause-takes g c = λ limits before h.
     let hands = c.in_default.ensures.hands in
-    reads_rest limits before _ _ _ _ (c.loop-read.invariant.0 limits before h) hands.0 hands.1
+    reads_rest EndNoDocument limits before _ _ _ _ (c.loop-read.invariant.0 limits before h) hands.0 hands.1
 
 pub returns-clause-leaves : goal.returns-clause-leaves
 returns-clause-leaves g c = λ limits before h.

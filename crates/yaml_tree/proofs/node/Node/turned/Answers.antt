@@ -4,8 +4,8 @@ use Rattle.yaml_tree.proofs.node.Node.turned.Goals as goal
 pub returns-in-Alias : goal.returns-in-Alias
 returns-in-Alias c = next_turn _ _ _ c.next_part.ensures
 
-pub returns : goal.returns
-returns c = next_turn _ _ _ c.next_part-in-Scalar.ensures
+pub returns-in-Scalar : goal.returns-in-Scalar
+returns-in-Scalar c = next_turn _ _ _ c.next_part-in-Scalar.ensures
 
 pub returns-in-Seq : goal.returns-in-Seq
 returns-in-Seq c = rw (weight_of_nodes _ _ _ _ c.in-Seq.is) c.turned_nodes.ensures
