@@ -1,5 +1,5 @@
-//! Counts the scalars of a YAML text that standard input gives, in each way in which a parser can be
-//! read: an example of a crate over `saphyr_parser`.
+//! Counts the scalars of a YAML text from standard input, in each way to read a parser. An example of a
+//! crate that uses `saphyr_parser`.
 #![tactic(auto)]
 
 mod inputs;

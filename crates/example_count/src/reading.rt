@@ -1,4 +1,4 @@
-//! The ways in which a parser can be read, whatever input it has.
+//! The ways to read a parser, whatever its input.
 use crate::receivers::{Reach, ScalarCounter};
 use saphyr_parser::{CloneInput, Event, Fault, Input, Parser};
 
@@ -14,8 +14,8 @@ pub fn by_iterator<T: Input + Drop>(parser: Parser<'_, T>) -> Result<usize, Faul
     Ok(scalars)
 }
 
-/// A loop of one's own. That it ends is for `proofs/reading/by_next_event/Invariants.antt` to say: each turn takes
-/// one of the items that are still to come.
+/// A loop of your own. `proofs/reading/by_next_event/Invariants.antt` shows that it ends: each turn takes one of the
+/// items that are still to come.
 pub fn by_next_event<T: Input + Drop>(mut parser: Parser<'_, T>) -> Result<usize, Fault> {
     let mut scalars = 0usize;
     while let Some(item) = parser.next_event() {
@@ -30,7 +30,7 @@ pub fn by_next_event<T: Input + Drop>(mut parser: Parser<'_, T>) -> Result<usize
 /// A receiver gets the events.
 pub fn by_load<T: Input>(parser: &mut Parser<'_, T>) -> Result<usize, Fault> {
     let mut counter = ScalarCounter { scalars: 0 };
-    // A peek passes nothing: what it shows comes again.
+    // A peek hands out nothing: what it shows comes again.
     if parser.peek().is_some() {
         parser.load(&mut counter, true)?;
     }
@@ -43,4 +43,12 @@ pub fn last_index<T: CloneInput + Drop>(parser: &Parser<'_, T>) -> Result<usize,
     let mut reach = Reach { index: 0 };
     twin.load(&mut reach, true)?;
     Ok(reach.index)
+}
+
+/// The scalars, and the furthest index of an event.
+pub fn count_and_reach<T: CloneInput + Drop>(
+    parser: Parser<'_, T>,
+) -> Result<(usize, usize), Fault> {
+    let index = last_index(&parser)?;
+    Ok((by_iterator(parser)?, index))
 }

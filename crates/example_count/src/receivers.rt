@@ -1,4 +1,4 @@
-//! Receivers of events: what the parser's `load` hands events to.
+//! Receivers, to which the parser's `load` hands events.
 use saphyr_parser::{Event, EventReceiver, Refused, Span, SpannedEventReceiver};
 
 /// Counts the scalars among the events that it gets.

@@ -1,9 +1,10 @@
-//! An input of one's own, over the characters of a slice: an example, which `example_count` reads from.
+//! An example of an input of your own, over the characters of a slice. `example_count` reads from it, and so do tests.
+//! It has the smallest window that an input may have, and overrides no default body of the trait.
 #![tactic(auto)]
 
 ghost use Rattle.std.specs.Prelude.{◌≡◌, ◌≤◌};
 
-use saphyr_parser::Input;
+use saphyr_input::{CloneInput, Input};
 
 /// How many places can be loaded at once.
 const WINDOW: usize = 8;
@@ -17,7 +18,7 @@ pub struct Characters<'a> {
 }
 
 impl<'a> Characters<'a> {
-    /// The characters as an input of which nothing is loaded.
+    /// The characters as an input, with no place loaded.
     pub fn new(rest: &'a [char]) -> Self
         ensures rest { ⟦<Characters<'a> as Input>⟧.rest result ≡ rest.now }
         ensures loaded { ⟦<Characters<'a> as Input>⟧.loaded result ≡ 0 }
@@ -84,4 +85,10 @@ impl Input for Characters<'_> {
     fn peek_opt(&self) -> Option<char> {
         self.rest.first().copied()
     }
+}
+
+impl CloneInput for Characters<'_> {
+    ghost use Rattle.std.proofs.Common.{ap};
+
+    ghost faithful = { λ _ _ same. (ap (λ i. i.rest.now) same, ap (λ i. i.loaded) same) };
 }

@@ -1,4 +1,6 @@
 //! How the answers of a parser differ from a list.
+ghost use Rattle.std.specs.Prelude.{◌≡◌, is_ok};
+
 use std::alloc::{AllocError, Global};
 use thiserror::Error;
 
@@ -17,6 +19,16 @@ impl Difference {
         match String::from_str(alloc, text) {
             Ok(text) => Difference::Found(text),
             Err(error) => Difference::OutOfMemory(error),
+        }
+    }
+
+    /// What was found, with where that was.
+    pub fn found_in(alloc: Global, place: &str, found: Result<(), Self>) -> Result<(), Self>
+        ensures { is_ok result ≡ is_ok found }
+    {
+        match found {
+            Ok(()) => Ok(()),
+            Err(difference) => Err(difference.within(alloc, place)),
         }
     }
 

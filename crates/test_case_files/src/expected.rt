@@ -1,6 +1,6 @@
 //! The lines that a parser is to give.
-ghost use Rattle.std.specs.Prelude.{◌≡◌, OnOk, [], drop, is_ok, if◌then◌else◌};
-ghost use Rattle.test_case_files.specs.Lines.{Comes, item_of};
+ghost use Rattle.std.specs.Prelude.{◌≡◌, OnOk, [], drop, is_ok, if◌then◌else◌, string_bytes};
+ghost use Rattle.test_case_files.specs.Lines.{Comes, IsNext, item_of};
 
 use crate::difference::Difference;
 use crate::printing::push_item;
@@ -57,15 +57,7 @@ impl<'a> Expected<'a> {
         };
         self.shown.clear();
         push_item(&mut self.shown, item)?;
-        let line = &self.shown;
-        match self.lines.first() {
-            Some(wanted) if *wanted == *line => Ok(()),
-            Some(wanted) => {
-                let text = format!(in self.alloc; "{line:?} in place of {wanted:?}")?;
-                Err(Difference::Found(text))
-            }
-            None => Err(Difference::Found(format!(in self.alloc; "{line:?} is too much")?)),
-        }
+        is_first(self.alloc, &self.shown, self.lines)
     }
 
     /// The same, and the next line has come.
@@ -89,7 +81,18 @@ impl<'a> Expected<'a> {
         ensures comes { OnOk result (Comes item.entry self.old) }
         ensures rest { self.new ≡ (if is_ok result then drop 1 self.old else self.old) }
     {
-        match &item {
+        self.pass_item(&item)
+    }
+
+    /// The same of what is kept.
+    pub fn pass_item(
+        &mut self,
+        item: &Option<Result<(Event<'_>, Span), Fault>>,
+    ) -> Result<(), Difference>
+        ensures comes { OnOk result (Comes item.now self.old) }
+        ensures rest { self.new ≡ (if is_ok result then drop 1 self.old else self.old) }
+    {
+        match item {
             Some(item) => self.pass(Some(item.as_ref())),
             None => self.pass(None),
         }
@@ -105,5 +108,19 @@ impl<'a> Expected<'a> {
                 "{wanted:?} is missing"
             )?)),
         }
+    }
+}
+
+// The line is the first of these.
+fn is_first(alloc: Global, line: &String, lines: &[String]) -> Result<(), Difference>
+    ensures { OnOk result (IsNext (string_bytes line.now) lines.now) }
+{
+    match lines.first() {
+        Some(wanted) if *wanted == *line => Ok(()),
+        Some(wanted) => {
+            let text = format!(in alloc; "{line:?} in place of {wanted:?}")?;
+            Err(Difference::Found(text))
+        }
+        None => Err(Difference::Found(format!(in alloc; "{line:?} is too much")?)),
     }
 }

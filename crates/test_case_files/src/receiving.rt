@@ -1,6 +1,7 @@
 //! A receiver of events.
 ghost use Rattle.std.specs.Prelude.{◌≡◌, ◌^◌, ◌-◌, OnOk, IfErr, [], drop, false};
-ghost use Rattle.test_case_files.specs.Lines.{IsNext, line_of_fault};
+ghost use Rattle.saphyr_parser.specs.Views.Events.{happening};
+ghost use Rattle.test_case_files.specs.Lines.{IsNext, PassesLine, line_of_fault};
 
 use crate::difference::Difference;
 use crate::expected::Expected;
@@ -63,6 +64,23 @@ impl<'a> ComparingReceiver<'a> {
         self.expected.left()
     }
 
+    // Passes the line of an event, unless that is refused or differs.
+    fn take(&mut self, event: &(Event<'_>, Span)) -> Result<(), Refused>
+        ensures { PassesLine result (happening event.now.0) event.now.1 self.old self.new }
+    {
+        if self.before_refusal == 0 {
+            return Err(Refused);
+        }
+        self.before_refusal -= 1;
+        match self.expected.pass(Some(Ok(event))) {
+            Ok(()) => Ok(()),
+            Err(difference) => {
+                self.found = Some(difference);
+                Err(Refused)
+            }
+        }
+    }
+
     /// What has come is as expected. What differed is told once.
     pub fn check(&mut self) -> Result<(), Difference>
         ensures same { OnOk result (self.old.differs ≡ false) }
@@ -105,16 +123,6 @@ impl<'input> SpannedEventReceiver<'input> for ComparingReceiver<'_> {
     ghost receives = { λ s e r t. PassesLine r e.0 e.1 s t };
 
     fn on_event(&mut self, ev: Event<'input>, span: Span) -> Result<(), Refused> {
-        if self.before_refusal == 0 {
-            return Err(Refused);
-        }
-        self.before_refusal -= 1;
-        match self.expected.pass(Some(Ok(&(ev, span)))) {
-            Ok(()) => Ok(()),
-            Err(difference) => {
-                self.found = Some(difference);
-                Err(Refused)
-            }
-        }
+        self.take(&(ev, span))
     }
 }

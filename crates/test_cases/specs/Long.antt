@@ -20,11 +20,15 @@ abbrev pub DeepFlowAgrees : Type 0
 DeepFlowAgrees = IsDumpOf (times 10000 (codes "{a:") ++ times 10000 (codes "}"))
     (Some (codes "! ':' may not precede any of `[{` in flow mapping at byte 2 line 1 column 3")) (codes "+STR\n")
 
+-- the lines of 10,000 nested block sequences
+abbrev pub nested_lines : List ℕ
+nested_lines =
+    (((codes "+STR\n+DOC\n" ++ times 10000 (codes "+SEQ\n")) ++ codes "=VAL :a\n") ++ times 10000 (codes "-SEQ\n"))
+    ++ codes "-DOC\n-STR\n"
+
 -- 10,000 open block sequences
 abbrev pub DeepBlockAgrees : Type 0
-DeepBlockAgrees = IsDumpOf (times 10000 (codes "- ") ++ codes "a") None
-    ((((codes "+STR\n+DOC\n" ++ times 10000 (codes "+SEQ\n")) ++ codes "=VAL :a\n") ++ times 10000 (codes "-SEQ\n"))
-    ++ codes "-DOC\n-STR\n")
+DeepBlockAgrees = IsDumpOf (times 10000 (codes "- ") ++ codes "a") None nested_lines
 
 -- a key of 100,000 characters
 abbrev pub LongKeyAgrees : Type 0

@@ -59,10 +59,16 @@ impl Findings {
         ensures count { self.new.agreeing ≡ self.old.agreeing }
         ensures shown { OnOk result (0 < vec_len self.new.differences) }
     {
-        let text = match difference {
-            Difference::OutOfMemory(error) => return Err(error),
-            Difference::Found(text) => text,
-        };
+        match difference {
+            Difference::OutOfMemory(error) => Err(error),
+            Difference::Found(text) => self.put_text(alloc, name, text.as_str()),
+        }
+    }
+
+    fn put_text(&mut self, alloc: Global, name: &str, text: &str) -> Result<(), AllocError>
+        ensures count { self.new.agreeing ≡ self.old.agreeing }
+        ensures shown { OnOk result (0 < vec_len self.new.differences) }
+    {
         if self.differences.len() < MOST_SHOWN {
             self.differences.push(format!(in alloc; "{name}, {text}")?)?;
         }

@@ -5,10 +5,10 @@ ghost use Rattle.saphyr_scanner.specs.Steps.Remaining.{scan};
 ghost use Rattle.saphyr_parser.specs.Limits.{most_characters};
 ghost use Rattle.saphyr_parser.specs.Cursor.{at_start, keeping_tags};
 
+use example_input::Characters;
 use saphyr_parser::{CloneInput, Parser, StrInput, lists_characters};
 use std::alloc::Global;
 use test_case_files::{Case, Difference};
-use test_list_input::ListInput;
 
 /// A parser of the text of a case, from a string.
 pub fn parser_of<'a>(alloc: Global, case: &'a Case) -> Parser<'a, StrInput<'a>>
@@ -38,14 +38,35 @@ pub fn compare_inputs<C: Comparison>(
     ensures { OnOk result
         (C.agrees comparison.now (at_start (scan most_characters (chars text.now)))) }
 {
-    let of_text = comparison.compare(Parser::new_from_str(alloc, text));
-    of_text.map_err(|it| it.within(alloc, "from a string"))?;
+    let of_text = compare_text(alloc, text, comparison);
+    Difference::found_in(alloc, "from a string", of_text)?;
+    let of_iterator = compare_iterator(alloc, text, comparison);
+    Difference::found_in(alloc, "from an iterator", of_iterator)?;
+    Difference::found_in(alloc, "from a list", compare_list(alloc, text, comparison))
+}
+
+fn compare_text<C: Comparison>(alloc: Global, text: &str, comparison: &C) -> Result<(), Difference>
+    ensures { OnOk result
+        (C.agrees comparison.now (at_start (scan most_characters (chars text.now)))) }
+{
+    comparison.compare(Parser::new_from_str(alloc, text))
+}
+
+fn compare_iterator<C: Comparison>(
+    alloc: Global,
+    text: &str,
+    comparison: &C,
+) -> Result<(), Difference> {
     let iter = text.chars();
     lists_characters(&iter);
-    let of_iter = comparison.compare(Parser::new_from_iter(alloc, iter)?);
-    of_iter.map_err(|it| it.within(alloc, "from an iterator"))?;
+    comparison.compare(Parser::new_from_iter(alloc, iter)?)
+}
+
+fn compare_list<C: Comparison>(
+    alloc: Global,
+    text: &str,
+    comparison: &C,
+) -> Result<(), Difference> {
     let characters: Vec<char> = text.chars().collect(alloc)?;
-    let list = ListInput::new(characters.as_slice());
-    let of_list = comparison.compare(Parser::new(alloc, list));
-    of_list.map_err(|it| it.within(alloc, "from a list"))
+    comparison.compare(Parser::new(alloc, Characters::new(characters.as_slice())))
 }

@@ -1,6 +1,7 @@
 //! Texts that are long or deep.
-ghost use Rattle.std.specs.Prelude.{◌≡◌, ◌++◌, OnOk, string_bytes};
-ghost use Rattle.test_cases.specs.Long.{DeepBlockAgrees, DeepFlowAgrees, LongKeyAgrees, times};
+ghost use Rattle.std.specs.Prelude.{◌≡◌, ◌++◌, IfOk, None, OnOk, string_bytes};
+ghost use Rattle.test_cases.specs.Long as long;
+ghost use Rattle.test_cases.specs.Long.{DeepBlockAgrees, DeepFlowAgrees, LongKeyAgrees, IsDumpOf, times};
 
 use crate::inputs::{Comparison, compare_inputs};
 use crate::writing::{WHOLE, is_dumped};
@@ -14,10 +15,9 @@ pub fn compare(alloc: Global) -> Result<(), Difference>
     ensures block { OnOk result DeepBlockAgrees }
     ensures key { OnOk result LongKeyAgrees }
 {
-    nest_flow(alloc).map_err(|it| it.within(alloc, "deep flow mappings"))?;
-    nest_block(alloc).map_err(|it| it.within(alloc, "deep block sequences"))?;
-    take_key(alloc).map_err(|it| it.within(alloc, "a long key"))?;
-    Ok(())
+    Difference::found_in(alloc, "deep flow mappings", nest_flow(alloc))?;
+    Difference::found_in(alloc, "deep block sequences", nest_block(alloc))?;
+    Difference::found_in(alloc, "a long key", take_key(alloc))
 }
 
 // A colon may not stand before a brace, at the first of 10,000.
@@ -40,38 +40,64 @@ fn nest_flow(alloc: Global) -> Result<(), Difference>
 fn nest_block(alloc: Global) -> Result<(), Difference>
     ensures { OnOk result DeepBlockAgrees }
 {
-    let mut text = String::new(alloc);
-    push_many(&mut text, "- ", 10_000)?;
-    text.push_str("a")?;
-    let mut lines = String::from_str(alloc, "+STR\n+DOC\n")?;
-    push_many(&mut lines, "+SEQ\n", 10_000)?;
-    lines.push_str("=VAL :a\n")?;
+    let text = between(alloc, "", "- ", 10_000, "a")?;
+    let lines = nested_lines(alloc)?;
+    is_dump_of(alloc, text.as_str(), lines.as_str())
+}
+
+// The lines of 10,000 nested sequences.
+fn nested_lines(alloc: Global) -> Result<String, AllocError>
+    ensures { IfOk result (λ text. string_bytes text ≡ long.nested_lines) }
+{
+    let mut lines = between(alloc, "+STR\n+DOC\n", "+SEQ\n", 10_000, "=VAL :a\n")?;
     push_many(&mut lines, "-SEQ\n", 10_000)?;
     lines.push_str("-DOC\n-STR\n")?;
-    let dumped = Dumped {
-        alloc,
-        lines: lines.as_str(),
-        fault: None,
-    };
-    compare_inputs(alloc, text.as_str(), &dumped)
+    Ok(lines)
 }
 
 // A key inside a flow collection may be as long as one likes.
 fn take_key(alloc: Global) -> Result<(), Difference>
     ensures { OnOk result LongKeyAgrees }
 {
-    let mut text = String::from_str(alloc, "[")?;
-    push_many(&mut text, "a", 100_000)?;
-    text.push_str(": b]")?;
-    let mut lines = String::from_str(alloc, "+STR\n+DOC\n+SEQ\n+MAP\n=VAL :")?;
-    push_many(&mut lines, "a", 100_000)?;
-    lines.push_str("\n=VAL :b\n-MAP\n-SEQ\n-DOC\n-STR\n")?;
+    let text = between(alloc, "[", "a", 100_000, ": b]")?;
+    let begin = "+STR\n+DOC\n+SEQ\n+MAP\n=VAL :";
+    let lines = between(
+        alloc,
+        begin,
+        "a",
+        100_000,
+        "\n=VAL :b\n-MAP\n-SEQ\n-DOC\n-STR\n",
+    )?;
+    is_dump_of(alloc, text.as_str(), lines.as_str())
+}
+
+// The text gives these lines, and no fault.
+fn is_dump_of(alloc: Global, text: &str, lines: &str) -> Result<(), Difference>
+    ensures { OnOk result (IsDumpOf text.now None lines.now) }
+{
     let dumped = Dumped {
         alloc,
-        lines: lines.as_str(),
+        lines,
         fault: None,
     };
-    compare_inputs(alloc, text.as_str(), &dumped)
+    compare_inputs(alloc, text, &dumped)
+}
+
+// A piece, so many times, between two others.
+fn between(
+    alloc: Global,
+    front: &str,
+    piece: &str,
+    count: usize,
+    back: &str,
+) -> Result<String, AllocError>
+    ensures { IfOk result (λ text.
+        string_bytes text ≡ (front.now ++ times count piece.now) ++ back.now) }
+{
+    let mut text = String::from_str(alloc, front)?;
+    push_many(&mut text, piece, count)?;
+    text.push_str(back)?;
+    Ok(text)
 }
 
 fn push_many(text: &mut String, piece: &str, count: usize) -> Result<(), AllocError>

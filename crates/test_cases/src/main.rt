@@ -24,7 +24,7 @@ mod writing;
 use findings::{Subject, compare_all};
 use std::alloc::AllocError;
 use std::{fs, io};
-use test_case_files::{Difference, parse_cases};
+use test_case_files::{Case, Difference, parse_cases};
 use thiserror::Error;
 
 /// The names of the files.
@@ -52,16 +52,37 @@ fn main(rt: HostRuntime) -> Result<(), Failure> {
 }
 
 fn check_file(rt: &HostRuntime, name: &str, subject: Subject) -> Result<(), Failure> {
-    let alloc = rt.alloc();
-    let path = format!(in alloc; "{name}.txt")?;
-    let text = fs::read_to_string(rt, path.as_str())?;
-    let cases = parse_cases(alloc, text.as_str())?;
-    let found = compare_all(alloc, cases.as_slice(), subject)?;
-    for difference in &found.differences {
-        println!(rt; "{difference}")?;
-    }
+    let text = read_file(rt, name)?;
+    compare_text(rt, name, text.as_str(), subject)
+}
+
+fn read_file(rt: &HostRuntime, name: &str) -> Result<String, Failure> {
+    let path = format!(in rt.alloc(); "{name}.txt")?;
+    Ok(fs::read_to_string(rt, path.as_str())?)
+}
+
+fn compare_text(rt: &HostRuntime, name: &str, text: &str, subject: Subject) -> Result<(), Failure> {
+    let cases = parse_cases(rt.alloc(), text)?;
+    compare_cases(rt, name, cases.as_slice(), subject)
+}
+
+fn compare_cases(
+    rt: &HostRuntime,
+    name: &str,
+    cases: &[Case],
+    subject: Subject,
+) -> Result<(), Failure> {
+    let found = compare_all(rt.alloc(), cases, subject)?;
+    show(rt, found.differences.as_slice())?;
     let agreeing = found.agreeing;
     println!(rt; "{name}, {}: {agreeing} of {}", subject.name(), cases.len())?;
+    Ok(())
+}
+
+fn show(rt: &HostRuntime, differences: &[String]) -> io::Result<()> {
+    for difference in differences {
+        println!(rt; "{difference}")?;
+    }
     Ok(())
 }
 

@@ -34,11 +34,9 @@ fn refuse_at(alloc: Global, case: &Case, place: usize) -> Result<(), Difference>
     if !is_event(line) {
         return Ok(());
     }
-    let mut parser = parser_of(alloc, case);
     let (before, behind) = lines.split_at(place);
-    let refused = refuse_between(alloc, &mut parser, before, behind);
-    refused.map_err(|it| it.within(alloc, line.as_str()))?;
-    Ok(())
+    let refused = refuse_between(alloc, &mut parser_of(alloc, case), before, behind);
+    Difference::found_in(alloc, line.as_str(), refused)
 }
 
 fn is_event(line: &String) -> bool
@@ -100,8 +98,15 @@ fn ends_again<T: Input>(
     parser: &mut Parser<'_, T>,
     end: &[String],
 ) -> Result<(), Difference> {
-    let mut receiver = ComparingReceiver::new(alloc, end);
-    let answer = parser.load(&mut receiver, true);
+    loads(parser, &mut ComparingReceiver::new(alloc, end))
+}
+
+// `load` hands over and answers what the receiver expects.
+fn loads<T: Input>(
+    parser: &mut Parser<'_, T>,
+    receiver: &mut ComparingReceiver<'_>,
+) -> Result<(), Difference> {
+    let answer = parser.load(receiver, true);
     receiver.check_answer(answer)?;
     receiver.check_end()
 }

@@ -6,7 +6,7 @@ ghost use Rattle.test_cases.specs.Agreement.{TreesAgree};
 ghost use Rattle.test_cases.specs.Trees.{HasTrees, IsTold};
 
 use crate::inputs::parser_of;
-use crate::ways::{is_left, is_left_to_clone};
+use crate::ways::{gives_one, is_left, is_left_to_clone};
 use saphyr_parser::{CloneInput, Event, Fault, Input, Parser, ScanError, Span};
 use std::alloc::{AllocError, Global};
 use test_case_files::{Case, Difference};
@@ -36,7 +36,7 @@ fn compare_trees<T: CloneInput>(
         (ListAll lines.now (to_come parser.now) × HasTrees (to_come parser.now)) }
 {
     is_left_to_clone(alloc, parser, lines)?;
-    let given = Given::new(alloc, parser.try_clone()?)?;
+    let given = Given::new(alloc, parser)?;
     load_given(alloc, parser, lines, &given)
 }
 
@@ -48,10 +48,21 @@ fn load_given<T: CloneInput>(
 ) -> Result<(), Difference>
     ensures { OnOk result (HasTrees (to_come parser.now)) }
 {
-    load_all(alloc, &mut parser.try_clone()?, given, WIDE)?;
+    load_clone(alloc, parser, given)?;
     load_near(alloc, parser, lines, given)?;
     load_again(alloc, parser)?;
     load_late(alloc, parser, lines, given)
+}
+
+fn load_clone<T: CloneInput>(
+    alloc: Global,
+    parser: &Parser<'_, T>,
+    given: &Given<'_>,
+) -> Result<(), Difference>
+    ensures { OnOk result (HasTrees (to_come parser.now)) }
+{
+    let mut clone = parser.try_clone()?;
+    load_all(alloc, &mut clone, given, WIDE)
 }
 
 // Within limits as wide as the text needs, of one less and of nothing.
@@ -66,19 +77,21 @@ fn load_near<T: CloneInput>(
         for depth in [0, needed.depth.saturating_sub(1), needed.depth] {
             let limits = Limits { nodes, depth };
             let loaded = load_within(alloc, parser, lines, given, limits);
-            loaded.map_err(|it| within_limits(alloc, it, limits))?;
+            found_within(alloc, limits, loaded)?;
         }
     }
     Ok(())
 }
 
-// The difference, with the limits within which it was found.
-fn within_limits(alloc: Global, difference: Difference, limits: Limits) -> Difference {
+// What was found, with the limits within which it was.
+fn found_within(
+    alloc: Global,
+    limits: Limits,
+    found: Result<(), Difference>,
+) -> Result<(), Difference> {
     let Limits { nodes, depth } = limits;
-    match format!(in alloc; "{nodes} nodes, {depth} open collections") {
-        Ok(place) => difference.within(alloc, place.as_str()),
-        Err(error) => Difference::OutOfMemory(error),
-    }
+    let place = format!(in alloc; "{nodes} nodes, {depth} open collections")?;
+    Difference::found_in(alloc, place.as_str(), found)
 }
 
 // The answer within limits, and what is left behind it.
@@ -89,13 +102,28 @@ fn load_within<T: CloneInput>(
     given: &Given<'_>,
     limits: Limits,
 ) -> Result<(), Difference> {
-    let mut parser = parser.try_clone()?;
+    let mut clone = parser.try_clone()?;
+    load_limited(alloc, &mut clone, lines, given, limits)
+}
+
+fn load_limited<T: Input + Drop>(
+    alloc: Global,
+    parser: &mut Parser<'_, T>,
+    lines: &[String],
+    given: &Given<'_>,
+    limits: Limits,
+) -> Result<(), Difference> {
     match given.first_beyond(limits) {
         Some((place, wanted)) => {
-            is_refused(alloc, &mut parser, limits, &wanted)?;
-            is_left(alloc, &mut parser, lines.get(place..).unwrap_or(&[]))
+            is_refused(
+                alloc,
+                parser,
+                limits,
+                &wanted,
+                lines.get(place..).unwrap_or(&[]),
+            )
         }
-        None => load_all(alloc, &mut parser, given, limits),
+        None => load_all(alloc, parser, given, limits),
     }
 }
 
@@ -116,9 +144,13 @@ fn load_all<T: Input + Drop>(
 
 // A parser that has ended is not new.
 fn load_again<T: CloneInput>(alloc: Global, parser: &Parser<'_, T>) -> Result<(), Difference> {
-    let mut parser = parser.try_clone()?;
-    let _ = load_documents(alloc, &mut parser, WIDE);
-    is_late(alloc, &mut parser, &[])
+    let mut clone = parser.try_clone()?;
+    pass_documents(alloc, &mut clone);
+    is_late(alloc, &mut clone, &[])
+}
+
+fn pass_documents<T: Input>(alloc: Global, parser: &mut Parser<'_, T>) {
+    let _ = load_documents(alloc, parser, WIDE);
 }
 
 // Behind the first event nothing is passed, unless a fault comes next.
@@ -128,12 +160,21 @@ fn load_late<T: CloneInput>(
     lines: &[String],
     given: &Given<'_>,
 ) -> Result<(), Difference> {
-    let mut parser = parser.try_clone()?;
-    let _ = parser.next_event();
+    let mut clone = parser.try_clone()?;
+    let _ = gives_one(&mut clone);
+    load_rest(alloc, &mut clone, lines, given)
+}
+
+fn load_rest<T: Input + Drop>(
+    alloc: Global,
+    parser: &mut Parser<'_, T>,
+    lines: &[String],
+    given: &Given<'_>,
+) -> Result<(), Difference> {
     if given.events.len() == 1 {
-        return load_all(alloc, &mut parser, given, WIDE);
+        return load_all(alloc, parser, given, WIDE);
     }
-    is_late(alloc, &mut parser, lines.get(1..).unwrap_or(&[]))
+    is_late(alloc, parser, lines.get(1..).unwrap_or(&[]))
 }
 
 // The parser is not new, and what it has left are the lines.
@@ -142,31 +183,32 @@ fn is_late<T: Input + Drop>(
     parser: &mut Parser<'_, T>,
     lines: &[String],
 ) -> Result<(), Difference> {
-    is_refused(alloc, parser, WIDE, &TreeFault::NotFresh)?;
-    is_left(alloc, parser, lines)
+    is_refused(alloc, parser, WIDE, &TreeFault::NotFresh, lines)
 }
 
-// Within these limits this fault is answered.
-fn is_refused<T: Input>(
+// Within these limits this fault is answered, and these lines are left.
+fn is_refused<T: Input + Drop>(
     alloc: Global,
     parser: &mut Parser<'_, T>,
     limits: Limits,
     wanted: &TreeFault,
+    left: &[String],
 ) -> Result<(), Difference> {
-    match load_documents(alloc, parser, limits) {
-        Err(fault) => is_fault(alloc, &fault, wanted),
-        Ok(_) => {
-            let text = format!(in alloc; "documents in place of {wanted}")?;
-            Err(Difference::Found(text))
-        }
-    }
+    let loaded = load_documents(alloc, parser, limits);
+    is_fault(alloc, &loaded, wanted)?;
+    is_left(alloc, parser, left)
 }
 
-fn is_fault(alloc: Global, fault: &TreeFault, wanted: &TreeFault) -> Result<(), Difference> {
-    if *fault == *wanted {
-        return Ok(());
-    }
-    let text = format!(in alloc; "{fault} in place of {wanted}")?;
+fn is_fault(
+    alloc: Global,
+    loaded: &Result<Vec<Document>, TreeFault>,
+    wanted: &TreeFault,
+) -> Result<(), Difference> {
+    let text = match loaded {
+        Err(fault) if *fault == *wanted => return Ok(()),
+        Err(fault) => format!(in alloc; "{fault} in place of {wanted}")?,
+        Ok(_) => format!(in alloc; "documents in place of {wanted}")?,
+    };
     Err(Difference::Found(text))
 }
 
@@ -178,16 +220,33 @@ struct Given<'a> {
 }
 
 impl<'a> Given<'a> {
-    fn new<T: Input + Drop>(alloc: Global, parser: Parser<'a, T>) -> Result<Self, AllocError> {
-        let mut events = Vec::new(alloc);
-        let mut fault = None;
-        for item in parser {
-            match item {
-                Ok(event) => events.push(event)?,
-                Err(last) => fault = Some(last),
-            }
+    fn new<T: CloneInput>(alloc: Global, parser: &Parser<'a, T>) -> Result<Self, AllocError> {
+        let mut given = Given {
+            events: Vec::new(alloc),
+            fault: None,
+        };
+        given.take_clone(parser)?;
+        Ok(given)
+    }
+
+    fn take_clone<T: CloneInput>(&mut self, parser: &Parser<'a, T>) -> Result<(), AllocError> {
+        let mut clone = parser.try_clone()?;
+        self.take(&mut clone)
+    }
+
+    fn take<T: Input + Drop>(&mut self, parser: &mut Parser<'a, T>) -> Result<(), AllocError> {
+        for item in parser.by_ref() {
+            self.push(item)?;
         }
-        Ok(Given { events, fault })
+        Ok(())
+    }
+
+    fn push(&mut self, item: Result<(Event<'a>, Span), Fault>) -> Result<(), AllocError> {
+        match item {
+            Ok(event) => self.events.push(event)?,
+            Err(fault) => self.fault = Some(fault),
+        }
+        Ok(())
     }
 
     // The least limits within which the documents are loaded.
@@ -254,6 +313,10 @@ impl<'a> Given<'a> {
     // The documents have these events.
     fn are_all(&self, alloc: Global, documents: &[Document]) -> Result<(), Difference> {
         let events = events_of(alloc, documents)?;
+        self.are_given(alloc, events.as_slice())
+    }
+
+    fn are_given(&self, alloc: Global, events: &[Event<'_>]) -> Result<(), Difference> {
         if events.len() != self.events.len() {
             return Err(Difference::new(alloc, "more or fewer events"));
         }

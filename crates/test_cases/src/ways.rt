@@ -31,10 +31,8 @@ impl Comparison for Ways<'_> {
         ListAll w.case.now.lines.items (to_come (keeping_tags w.case.now.keeps_tags parser)) };
 
     fn compare<T: CloneInput>(&self, parser: Parser<'_, T>) -> Result<(), Difference> {
-        let lines = self.case.lines.as_slice();
         let mut parser = parser.keep_tags(self.case.keeps_tags);
-        by_other_ways(self.alloc, &parser, lines)?;
-        is_left(self.alloc, &mut parser, lines)
+        by_each_way(self.alloc, &mut parser, self.case.lines.as_slice())
     }
 }
 
@@ -46,7 +44,15 @@ pub fn is_left<T: Input + Drop>(
 ) -> Result<(), Difference>
     ensures { OnOk result (ListAll lines.now (to_come parser.old)) }
 {
-    let mut expected = Expected::new(alloc, lines);
+    is_passed(parser, &mut Expected::new(alloc, lines))
+}
+
+fn is_passed<T: Input + Drop>(
+    parser: &mut Parser<'_, T>,
+    expected: &mut Expected<'_>,
+) -> Result<(), Difference>
+    ensures { OnOk result (ListAll expected.old (to_come parser.old)) }
+{
     for item in parser.by_ref() {
         expected.pass_given(Some(item))?;
     }
@@ -65,18 +71,20 @@ pub fn is_left_to_clone<T: CloneInput>(
     is_left(alloc, &mut clone, lines)
 }
 
-// The ways that leave the parser as it is: each takes the events of a clone.
-fn by_other_ways<T: CloneInput>(
+// All ways but the last leave the parser as it is: each takes the events of a clone.
+fn by_each_way<T: CloneInput>(
     alloc: Global,
-    parser: &Parser<'_, T>,
+    parser: &mut Parser<'_, T>,
     lines: &[String],
-) -> Result<(), Difference> {
-    by_load(alloc, parser, lines).map_err(|it| it.within(alloc, "by load"))?;
-    by_peek(alloc, parser, lines).map_err(|it| it.within(alloc, "by peek"))?;
+) -> Result<(), Difference>
+    ensures { OnOk result (ListAll lines.now (to_come parser.old)) }
+{
+    Difference::found_in(alloc, "by load", by_load(alloc, parser, lines))?;
+    Difference::found_in(alloc, "by peek", by_peek(alloc, parser, lines))?;
     if lines.len() <= MOST_CLONED {
-        by_clones(alloc, parser, lines).map_err(|it| it.within(alloc, "by clones"))?;
+        Difference::found_in(alloc, "by clones", by_clones(alloc, parser, lines))?;
     }
-    Ok(())
+    is_left(alloc, parser, lines)
 }
 
 // `load` hands over the events, a document at a time, and answers the fault.
@@ -89,19 +97,18 @@ fn by_load<T: CloneInput>(
         → OnOk result (ListAll lines.now (to_come parser.now)) }
 {
     let mut clone = parser.try_clone()?;
-    load_each(alloc, &mut clone, lines)
+    load_each(alloc, &mut clone, &mut ComparingReceiver::new(alloc, lines))
 }
 
 fn load_each<T: CloneInput>(
     alloc: Global,
     parser: &mut Parser<'_, T>,
-    lines: &[String],
+    receiver: &mut ComparingReceiver<'_>,
 ) -> Result<(), Difference>
     ensures { StandsBetween parser.old
-        → OnOk result (ListAll lines.now (to_come parser.old)) }
+        → OnOk result (ListAll receiver.old.left (to_come parser.old)) }
 {
-    let mut receiver = ComparingReceiver::new(alloc, lines);
-    while loads_on(alloc, parser, &mut receiver)? {}
+    while loads_on(alloc, parser, receiver)? {}
     receiver.check_end()
 }
 
@@ -127,7 +134,14 @@ fn gives_more<T: CloneInput>(parser: &Parser<'_, T>) -> Result<bool, AllocError>
     ensures { IfOk result (λ more. HasMore more (to_come parser.now)) }
 {
     let mut clone = parser.try_clone()?;
-    Ok(clone.next_event().is_some())
+    Ok(gives_one(&mut clone))
+}
+
+/// Whether a parser gives anything more, which is passed.
+pub fn gives_one<T: Input>(parser: &mut Parser<'_, T>) -> bool
+    ensures { HasMore result (to_come parser.old) }
+{
+    parser.next_event().is_some()
 }
 
 fn load_document<T: Input>(
@@ -170,24 +184,22 @@ fn by_peek<T: CloneInput>(
     ensures { OnOk result (ListAll lines.now (to_come parser.now)) }
 {
     let mut clone = parser.try_clone()?;
-    peek_each(alloc, &mut clone, lines)
+    peek_each(&mut clone, &mut Expected::new(alloc, lines))
 }
 
 fn peek_each<T: Input + Drop>(
-    alloc: Global,
     parser: &mut Parser<'_, T>,
-    lines: &[String],
+    expected: &mut Expected<'_>,
 ) -> Result<(), Difference>
-    ensures { OnOk result (ListAll lines.now (to_come parser.old)) }
+    ensures { OnOk result (ListAll expected.old (to_come parser.old)) }
 {
-    let mut expected = Expected::new(alloc, lines);
-    for _line in lines {
-        is_shown(parser, &mut expected)?;
-        is_shown(parser, &mut expected)?;
-        pass_next(parser, &mut expected)?;
+    for _line in expected.left() {
+        is_shown(parser, expected)?;
+        is_shown(parser, expected)?;
+        pass_next(parser, expected)?;
     }
-    is_shown(parser, &mut expected)?;
-    is_left(alloc, parser, expected.left())
+    is_shown(parser, expected)?;
+    is_passed(parser, expected)
 }
 
 // `peek` shows the next line.
@@ -221,22 +233,21 @@ fn by_clones<T: CloneInput>(
     ensures { OnOk result (ListAll lines.now (to_come parser.now)) }
 {
     let mut clone = parser.try_clone()?;
-    clone_each(alloc, &mut clone, lines)
+    clone_each(alloc, &mut clone, &mut Expected::new(alloc, lines))
 }
 
 fn clone_each<T: CloneInput>(
     alloc: Global,
     parser: &mut Parser<'_, T>,
-    lines: &[String],
+    expected: &mut Expected<'_>,
 ) -> Result<(), Difference>
-    ensures { OnOk result (ListAll lines.now (to_come parser.old)) }
+    ensures { OnOk result (ListAll expected.old (to_come parser.old)) }
 {
-    let mut expected = Expected::new(alloc, lines);
-    for _line in lines {
+    for _line in expected.left() {
         clone_twice(alloc, parser, expected.left())?;
-        pass_next(parser, &mut expected)?;
+        pass_next(parser, expected)?;
     }
-    is_left(alloc, parser, expected.left())
+    is_passed(parser, expected)
 }
 
 fn clone_twice<T: CloneInput>(

@@ -4,7 +4,7 @@ ghost use Rattle.saphyr_parser.specs.Cursor.{to_come};
 ghost use Rattle.test_case_files.specs.Lines.{line_of_fault};
 ghost use Rattle.test_case_files.specs.Listings.{fault_line_of, case_answer};
 ghost use Rattle.test_cases.specs.Agreement.{DumpAgrees};
-ghost use Rattle.test_cases.specs.Dumped.{IsWritten};
+ghost use Rattle.test_cases.specs.Dumped.{IsDump, IsWritten};
 
 use crate::inputs::parser_of;
 use saphyr_parser::{DumpFault, Fault, Input, Parser, dump};
@@ -27,21 +27,33 @@ pub fn compare(alloc: Global, case: &Case) -> Result<(), Difference>
     ensures { OnOk result (DumpAgrees case.now) }
 {
     let text = printed(alloc, case.lines.as_slice())?;
+    compare_text(alloc, case, text.as_str())
+}
+
+fn compare_text(alloc: Global, case: &Case, text: &str) -> Result<(), Difference>
+    ensures { OnOk result
+        (IsDump (fault_line_of case.now.lines.items) text.now (case_answer case.now)) }
+{
     let by_bytes = Manner {
         at_a_time: 1,
         ..WHOLE
     };
-    if write_case(alloc, case, text.as_str(), by_bytes)? {
+    if write_case(alloc, case, text, by_bytes)? {
         return Err(Difference::new(alloc, "a writer that takes bytes fails"));
     }
-    fail_each(alloc, case, text.as_str(), WHOLE)?;
+    fail_all(alloc, case, text, by_bytes)
+}
+
+// Has the writes fail of a writer that takes each piece whole, and by an error and by nothing taken.
+fn fail_all(alloc: Global, case: &Case, text: &str, by_bytes: Manner) -> Result<(), Difference> {
+    fail_each(alloc, case, text, WHOLE)?;
     let silent = Manner {
         is_silent: true,
         ..WHOLE
     };
-    fail_each(alloc, case, text.as_str(), silent)?;
+    fail_each(alloc, case, text, silent)?;
     if text.len() <= MOST_CUT {
-        fail_each(alloc, case, text.as_str(), by_bytes)?;
+        fail_each(alloc, case, text, by_bytes)?;
     }
     Ok(())
 }

@@ -1,8 +1,6 @@
 //! What is printed of texts: each kind of finding, and how a line and its caret are shown.
 
 use std::alloc::{AllocError, Global};
-use std::process::Abort;
-use std::test::Fail;
 use yaml_check::{CheckFault, Limits, Options, Verdict, check_source};
 
 const FEW: Options = Options {
@@ -12,34 +10,32 @@ const FEW: Options = Options {
 };
 
 // What is printed of bytes that are called `f`, and behind it how they are judged.
-fn printed(alloc: Global, bytes: &[u8], options: Options) -> Result<String, AllocError> {
+fn printed(alloc: Global, bytes: &[u8], options: Options) -> Result<Vec<u8>, AllocError> {
     let mut source = bytes;
     let mut out = Vec::new(alloc);
-    let judged = match check_source(alloc, "f", &mut source, options, &mut out) {
+    let judged = check_source(alloc, "f", &mut source, options, &mut out);
+    out.extend_from_slice(word_of(judged).as_bytes())?;
+    Ok(out)
+}
+
+fn word_of(judged: Result<Verdict, CheckFault>) -> &'static str {
+    match judged {
         Ok(Verdict::Right) => "right",
         Ok(Verdict::Wrong) => "wrong",
         Err(CheckFault::CantRead) => "unread",
         Err(CheckFault::CantWrite) => "unwritten",
         Err(CheckFault::OutOfMemory) => "unknown",
-    };
-    let text = str::from_utf8(&out).unwrap_or("no text");
-    format!(in alloc; "{text}{judged}")
+    }
 }
 
-fn expect(
-    rt: &impl Abort,
-    alloc: Global,
-    bytes: &[u8],
-    options: Options,
-    wanted: &str,
-) -> Result<(), AllocError> {
+// Whether that is this.
+fn prints(alloc: Global, bytes: &[u8], options: Options, wanted: &str) -> Result<bool, AllocError> {
     let said = printed(alloc, bytes, options)?;
-    assert_eq!(rt; said.as_str(), wanted);
-    Ok(())
+    Ok(said.as_slice() == wanted.as_bytes())
 }
 
 #[test]
-fn right_texts(rt: HostRuntime) -> Result<(), Fail> {
+fn right_texts(rt: HostRuntime) {
     for text in [
         "",
         "a: 1\nb: {a: 2}\n",
@@ -56,13 +52,12 @@ fn right_texts(rt: HostRuntime) -> Result<(), Fail> {
         // As many nodes and collections as there may be.
         "[[a, b, c, d, e, f, g]]",
     ] {
-        expect(&rt, rt.alloc(), text.as_bytes(), FEW, "right")?;
+        assert!(rt; prints(rt.alloc(), text.as_bytes(), FEW, "right") == Ok(true));
     }
-    Ok(())
 }
 
 #[test]
-fn keys_that_stand_twice(rt: HostRuntime) -> Result<(), Fail> {
+fn keys_that_stand_twice(rt: HostRuntime) {
     for (text, wanted) in [
         (
             "a: 1\n'a': 2\n",
@@ -79,13 +74,12 @@ fn keys_that_stand_twice(rt: HostRuntime) -> Result<(), Fail> {
             !<tag:yaml.org,2002:str> a: 2\n^\nwrong",
         ),
     ] {
-        expect(&rt, rt.alloc(), text.as_bytes(), FEW, wanted)?;
+        assert!(rt; prints(rt.alloc(), text.as_bytes(), FEW, wanted) == Ok(true));
     }
-    Ok(())
 }
 
 #[test]
-fn other_warnings(rt: HostRuntime) -> Result<(), Fail> {
+fn other_warnings(rt: HostRuntime) {
     for (text, wanted) in [
         (
             "---",
@@ -110,13 +104,12 @@ fn other_warnings(rt: HostRuntime) -> Result<(), Fail> {
             \u{20}                        ^\nwrong",
         ),
     ] {
-        expect(&rt, rt.alloc(), text.as_bytes(), FEW, wanted)?;
+        assert!(rt; prints(rt.alloc(), text.as_bytes(), FEW, wanted) == Ok(true));
     }
-    Ok(())
 }
 
 #[test]
-fn faults(rt: HostRuntime) -> Result<(), Fail> {
+fn faults(rt: HostRuntime) {
     for (text, wanted) in [
         (
             "[a:[]]",
@@ -138,9 +131,8 @@ fn faults(rt: HostRuntime) -> Result<(), Fail> {
             f:2:4: error: while parsing node, found unknown anchor\na: *b\n   ^\nwrong",
         ),
     ] {
-        expect(&rt, rt.alloc(), text.as_bytes(), FEW, wanted)?;
+        assert!(rt; prints(rt.alloc(), text.as_bytes(), FEW, wanted) == Ok(true));
     }
-    Ok(())
 }
 
 // So many characters `x` in quotes, an alias without its anchor, and as many again.
@@ -149,47 +141,47 @@ fn long_line(alloc: Global, count: usize) -> Result<String, AllocError> {
     format!(in alloc; "[\"{many}\", *b, \"{many}\"]")
 }
 
-#[test]
-fn long_lines_are_cut(rt: HostRuntime) -> Result<(), Fail> {
-    let alloc = rt.alloc();
-    let text = long_line(alloc, 200)?;
-    let front = "x".repeat(alloc, 114)?;
-    let back = "x".repeat(alloc, 72)?;
-    let spaces = " ".repeat(alloc, 120)?;
-    let wanted = format!(in alloc;
+// What is to be printed of a line with 200 of each.
+fn cut_line(alloc: Global) -> Result<String, AllocError> {
+    let many = "x".repeat(alloc, 114)?;
+    let front = many.as_str();
+    let back = front.get(..72).unwrap_or("");
+    format!(in alloc;
         "f:1:206: error: while parsing node, found unknown anchor\n\
-        ...{front}\", *b, \"{back}...\n{spaces}^\nwrong"
-    )?;
-    expect(&rt, alloc, text.as_bytes(), FEW, wanted.as_str())?;
-    Ok(())
+        ...{front}\", *b, \"{back}...\n{:>121}\nwrong",
+        "^"
+    )
+}
+
+fn is_cut(alloc: Global) -> Result<bool, AllocError> {
+    let text = long_line(alloc, 200)?;
+    let wanted = cut_line(alloc)?;
+    prints(alloc, text.as_bytes(), FEW, wanted.as_str())
 }
 
 #[test]
-fn bytes_that_are_no_text(rt: HostRuntime) -> Result<(), Fail> {
+fn long_lines_are_cut(rt: HostRuntime) {
+    assert!(rt; is_cut(rt.alloc()) == Ok(true));
+}
+
+#[test]
+fn bytes_that_are_no_text(rt: HostRuntime) {
     let wanted = "f:2:4: error: the text is not UTF-8 from here on\nb: \n   ^\nwrong";
-    expect(&rt, rt.alloc(), b"a: 1\nb: \xff\n", FEW, wanted)?;
-    Ok(())
+    assert!(rt; prints(rt.alloc(), b"a: 1\nb: \xff\n", FEW, wanted) == Ok(true));
 }
 
 #[test]
-fn what_is_asked_for_is_printed(rt: HostRuntime) -> Result<(), Fail> {
-    let alloc = rt.alloc();
+fn what_is_asked_for_is_printed(rt: HostRuntime) {
     let events = Options {
         events: true,
         ..FEW
     };
-    let wanted = "+STR\n+DOC\n=VAL :a\n-DOC\n-STR\nright";
-    expect(&rt, alloc, b"a", events, wanted)?;
+    let right = "+STR\n+DOC\n=VAL :a\n-DOC\n-STR\nright";
+    assert!(rt; prints(rt.alloc(), b"a", events, right) == Ok(true));
     let quiet = Options {
         quiet: true,
         ..events
     };
-    expect(
-        &rt,
-        alloc,
-        b"---",
-        quiet,
-        "+STR\n+DOC\n=VAL :\n-DOC\n-STR\nwrong",
-    )?;
-    Ok(())
+    let wrong = "+STR\n+DOC\n=VAL :\n-DOC\n-STR\nwrong";
+    assert!(rt; prints(rt.alloc(), b"---", quiet, wrong) == Ok(true));
 }

@@ -1,11 +1,13 @@
 //! Forests taken to parts, one for each event, in the order of the events.
 
-ghost use Rattle.std.specs.Prelude.{◌≡◌, ◌++◌, IfOk, OnOk, encode_utf8_all, map, option_map};
+ghost use Rattle.std.specs.Prelude.{◌≡◌, ◌++◌, [], ◌∷◌, IfOk, OnOk, encode_utf8_all, map, option_map};
 ghost use Rattle.std.specs.Str.{chars};
 ghost use Rattle.saphyr_parser.specs.Anchors.{anchor_of};
 ghost use Rattle.saphyr_parser.specs.Preorder as spec;
-ghost use Rattle.saphyr_parser.specs.Preorder.{entry_parts, node_parts, pair_parts};
-ghost use Rattle.test_forest_events.specs.TreeSeen.{directive_view, document_view, node_view, nodes_view, pairs_view, part_view};
+ghost use Rattle.saphyr_parser.specs.Preorder.{document_parts, node_parts};
+ghost use Rattle.saphyr_scanner.specs.Grammar.Forest as forest;
+ghost use Rattle.saphyr_scanner.specs.Grammar.Forest.{Forest};
+ghost use Rattle.test_forest_events.specs.TreeSeen.{directive_view, document_view, node_view, nodes_view, pairs_view, part_view, properties_view};
 
 use crate::tree::{Directive, Document, Node, Properties};
 use saphyr_scalar::ScalarStyle;
@@ -64,14 +66,33 @@ pub fn parts<'a>(alloc: Global, forest: &'a [Document]) -> Result<Vec<Part<'a>>,
         ≡ spec.parts (map document_view forest.now)) }
 {
     let mut parts = Vec::new(alloc);
-    parts.push(Part::OpenStream)?;
+    push(&mut parts, Part::OpenStream)?;
     for document in forest {
-        parts.push(Part::OpenDocument(document.explicit, document.directives.as_slice()))?;
-        push_node(&mut parts, &document.node)?;
-        parts.push(Part::CloseDocument)?;
+        push_document(&mut parts, document)?;
     }
-    parts.push(Part::CloseStream)?;
+    push(&mut parts, Part::CloseStream)?;
     Ok(parts)
+}
+
+fn push_document<'a>(parts: &mut Vec<Part<'a>>, document: &'a Document) -> Result<(), AllocError>
+    ensures { OnOk result ((others : Forest) → map part_view parts.new.items
+        ++ document_parts others
+        ≡ map part_view parts.old.items ++ document_parts (document_view document.now ∷ others)) }
+{
+    push(
+        parts,
+        Part::OpenDocument(document.explicit, document.directives.as_slice()),
+    )?;
+    push_node(parts, &document.node)?;
+    push(parts, Part::CloseDocument)
+}
+
+fn push<'a>(parts: &mut Vec<Part<'a>>, part: Part<'a>) -> Result<(), AllocError>
+    ensures { OnOk result (map part_view parts.new.items
+        ≡ map part_view parts.old.items ++ part_view part.entry ∷ []) }
+{
+    parts.push(part)?;
+    Ok(())
 }
 
 /// Adds the parts of a node.
@@ -81,43 +102,44 @@ fn push_node<'a>(parts: &mut Vec<Part<'a>>, node: &'a Node) -> Result<(), AllocE
         ≡ map part_view parts.old.items ++ node_parts (node_view node.now)) }
 {
     match node {
-        Node::Alias(name) => parts.push(Part::Reference(name.as_str()))?,
+        Node::Alias(name) => push(parts, Part::Reference(name.as_str())),
         Node::Scalar(properties, style, text) => {
-            parts.push(Part::Leaf(properties, *style, text.as_str()))?
+            push(parts, Part::Leaf(properties, *style, text.as_str()))
         }
-        Node::Seq(properties, nodes) => {
-            parts.push(Part::OpenSequence(properties))?;
-            push_nodes(parts, nodes)?;
-            parts.push(Part::CloseSequence)?
-        }
-        Node::Map(properties, pairs) => {
-            parts.push(Part::OpenMapping(properties))?;
-            push_pairs(parts, pairs)?;
-            parts.push(Part::CloseMapping)?
-        }
+        Node::Seq(properties, nodes) => push_sequence(parts, properties, nodes),
+        Node::Map(properties, pairs) => push_mapping(parts, properties, pairs),
     }
-    Ok(())
 }
 
 #[cycle(push_node)]
-fn push_nodes<'a>(parts: &mut Vec<Part<'a>>, nodes: &'a Vec<Node>) -> Result<(), AllocError>
-    ensures { OnOk result (map part_view parts.new.items
-        ≡ map part_view parts.old.items ++ entry_parts (nodes_view nodes.now.items)) }
+fn push_sequence<'a>(
+    parts: &mut Vec<Part<'a>>,
+    properties: &'a Properties,
+    nodes: &'a Vec<Node>,
+) -> Result<(), AllocError>
+    ensures { OnOk result (map part_view parts.new.items ≡ map part_view parts.old.items
+        ++ node_parts (forest.Seq (properties_view properties.now) (nodes_view nodes.now.items))) }
 {
+    push(parts, Part::OpenSequence(properties))?;
     for node in nodes {
         push_node(parts, node)?;
     }
-    Ok(())
+    push(parts, Part::CloseSequence)
 }
 
 #[cycle(push_node)]
-fn push_pairs<'a>(parts: &mut Vec<Part<'a>>, pairs: &'a Vec<(Node, Node)>) -> Result<(), AllocError>
-    ensures { OnOk result (map part_view parts.new.items
-        ≡ map part_view parts.old.items ++ pair_parts (pairs_view pairs.now.items)) }
+fn push_mapping<'a>(
+    parts: &mut Vec<Part<'a>>,
+    properties: &'a Properties,
+    pairs: &'a Vec<(Node, Node)>,
+) -> Result<(), AllocError>
+    ensures { OnOk result (map part_view parts.new.items ≡ map part_view parts.old.items
+        ++ node_parts (forest.Map (properties_view properties.now) (pairs_view pairs.now.items))) }
 {
+    push(parts, Part::OpenMapping(properties))?;
     for pair in pairs {
         push_node(parts, &pair.0)?;
         push_node(parts, &pair.1)?;
     }
-    Ok(())
+    push(parts, Part::CloseMapping)
 }

@@ -1,5 +1,6 @@
 //! The prefixes that handles stand for, and tags with them.
 ghost use Rattle.std.specs.Prelude.{◌≡◌, IfOk, map, option_map, string_bytes};
+ghost use Rattle.std.specs.Str.{bytes_eq};
 ghost use Rattle.saphyr_scanner.specs.Grammar.Forest.{handle_bytes};
 ghost use Rattle.saphyr_parser.specs.Views.Events.{resolved_tag};
 ghost use Rattle.saphyr_parser.specs.TagResolution as spec;
@@ -18,7 +19,7 @@ fn handle_text(alloc: Global, handle: &Handle) -> Result<String, AllocError>
 {
     match handle {
         Handle::Primary => String::from_str(alloc, "!"),
-        #[tactic(auto, using(saphyr_parser::proofs::Turned::Tags::secondary_bytes))]
+        #[tactic(auto, using(event_laws::proofs::Turned::Tags::secondary_bytes))]
         Handle::Secondary => String::from_str(alloc, "!!"),
         Handle::Named(word) => {
             let word = owned(alloc, word.as_str())?;
@@ -28,6 +29,15 @@ fn handle_text(alloc: Global, handle: &Handle) -> Result<String, AllocError>
             Ok(text)
         }
     }
+}
+
+/// Whether a handle is written so.
+fn is_handle(alloc: Global, text: &str, handle: &Handle) -> Result<bool, AllocError>
+    ensures { IfOk result (λ same. same
+        ≡ bytes_eq text.now (handle_bytes (handle_view handle.now))) }
+{
+    let other = handle_text(alloc, handle)?;
+    Ok(text == other.as_str())
 }
 
 /// The prefix that directives declare for a handle.
@@ -42,8 +52,7 @@ fn prefix_in(
     let text = handle_text(alloc, handle)?;
     for directive in directives {
         if let Directive::TagPrefix(other, prefix) = directive {
-            let other_text = handle_text(alloc, other)?;
-            if text.as_str() == other_text.as_str() {
+            if is_handle(alloc, text.as_str(), other)? {
                 return Ok(Some(owned(alloc, prefix.as_str())?));
             }
         }

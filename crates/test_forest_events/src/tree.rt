@@ -3,7 +3,7 @@
 use saphyr_scalar::ScalarStyle;
 
 /// The handle of a tag: `!`, `!!`, or `!word!` with its word.
-#[derive(Debug, Drop)]
+#[derive(Drop)]
 pub enum Handle {
     Primary,
     Secondary,
@@ -11,7 +11,7 @@ pub enum Handle {
 }
 
 /// A tag as a text has it, its percent escapes decoded.
-#[derive(Debug, Drop)]
+#[derive(Drop)]
 pub enum WrittenTag {
     /// `!` alone.
     NonSpecific,
@@ -22,7 +22,7 @@ pub enum WrittenTag {
 }
 
 /// What may stand before a node.
-#[derive(Debug, Drop)]
+#[derive(Drop)]
 pub struct Properties {
     pub anchor: Option<String>,
     pub tag: Option<WrittenTag>,
@@ -38,7 +38,7 @@ pub enum Node {
 }
 
 /// A line before a document's `---`.
-#[derive(Debug, Drop)]
+#[derive(Drop)]
 pub enum Directive {
     Version(u32, u32),
     TagPrefix(Handle, String),

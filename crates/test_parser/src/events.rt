@@ -1,12 +1,14 @@
 //! What no clause says: that calls succeed, and which fault a text gets.
-use crate::telling::Call::{KeepTags, LoadPlaceless, Next, Peek};
-use crate::telling::{Call, expect};
-use std::test::Fail;
+use crate::telling::Call::{LoadPlaceless, Next, Peek};
+use crate::telling::{Calls, Row, expect_each};
 
-// Texts without documents, and what is told of them by `AT_EACH_END`.
-const WITHOUT_DOCUMENTS: &[(&str, &str)] = &[
+const AT_EACH_END: Calls = (&[Next, Peek, Next, Next, Peek], None);
+
+// Texts without documents.
+const WITHOUT_DOCUMENTS: &[Row] = &[
     (
         "",
+        AT_EACH_END,
         "> +STR @ 0,1,0 0,1,0
 > -STR @ 0,1,0 0,1,0
 > -STR @ 0,1,0 0,1,0
@@ -16,6 +18,7 @@ nothing
     ),
     (
         "# c",
+        AT_EACH_END,
         "> +STR @ 0,1,0 0,1,0
 > -STR @ 3,2,0 3,2,0
 > -STR @ 3,2,0 3,2,0
@@ -25,20 +28,18 @@ nothing
     ),
 ];
 
-const AT_EACH_END: &[Call] = &[Next, Peek, Next, Next, Peek];
-
 #[test]
-fn gives_the_events_of_a_text_without_documents(rt: HostRuntime) -> Result<(), Fail> {
-    for (text, lines) in WITHOUT_DOCUMENTS {
-        expect(&rt, rt.alloc(), text, AT_EACH_END, lines)?;
-    }
-    Ok(())
+fn gives_the_events_of_a_text_without_documents(rt: HostRuntime) {
+    expect_each(&rt, rt.alloc(), WITHOUT_DOCUMENTS);
 }
 
-// Texts with a fault behind the stream's start, and what is told of them by `AROUND_THE_FAULT`.
-const REFUSED: &[(&str, &str)] = &[
+const AROUND_THE_FAULT: Calls = (&[], Some(&[Next, Peek, Peek, Next, Next, LoadPlaceless]));
+
+// Texts with a fault behind the stream's start.
+const REFUSED: &[Row] = &[
     (
         "\0",
+        AROUND_THE_FAULT,
         "> +STR @ 0,1,0 0,1,0
 ! found unprintable character at byte 0 line 1 column 1
 ! found unprintable character at byte 0 line 1 column 1
@@ -49,6 +50,7 @@ nothing
     ),
     (
         "}",
+        AROUND_THE_FAULT,
         "> +STR @ 0,1,0 0,1,0
 ! misplaced bracket at byte 0 line 1 column 1
 ! misplaced bracket at byte 0 line 1 column 1
@@ -59,6 +61,7 @@ nothing
     ),
     (
         "a\0b",
+        AROUND_THE_FAULT,
         "> +STR @ 0,1,0 0,1,0
 ! found unprintable character at byte 1 line 1 column 2
 ! found unprintable character at byte 1 line 1 column 2
@@ -69,14 +72,9 @@ nothing
     ),
 ];
 
-const AROUND_THE_FAULT: &[Call] = &[KeepTags, Next, Peek, Peek, Next, Next, LoadPlaceless];
-
 #[test]
-fn gives_a_fault_once(rt: HostRuntime) -> Result<(), Fail> {
-    for (text, lines) in REFUSED {
-        expect(&rt, rt.alloc(), text, AROUND_THE_FAULT, lines)?;
-    }
-    Ok(())
+fn gives_a_fault_once(rt: HostRuntime) {
+    expect_each(&rt, rt.alloc(), REFUSED);
 }
 
 // Three documents that use a prefix of the first.
@@ -125,12 +123,15 @@ const KEPT_LATE: &str = "> +STR @ 0,1,0 0,1,0
 ! the handle wasn't declared at byte 59 line 4 column 5
 ";
 
+const BEFORE_THE_END: Calls = (&[Next, Next, Next, Next, Next, Next], Some(&[]));
+
+const BEHIND_A_PEEK: Calls = (&[Next, Next, Next, Next, Next, Next, Peek], Some(&[]));
+
 #[test]
-fn keeps_prefixes_from_an_end_that_is_not_yet_read(rt: HostRuntime) -> Result<(), Fail> {
-    let alloc = rt.alloc();
-    let before_the_end = &[Next, Next, Next, Next, Next, Next, KeepTags];
-    expect(&rt, alloc, PREFIXED, before_the_end, KEPT)?;
-    let behind_a_peek = &[Next, Next, Next, Next, Next, Next, Peek, KeepTags];
-    expect(&rt, alloc, PREFIXED, behind_a_peek, KEPT_LATE)?;
-    Ok(())
+fn keeps_prefixes_from_an_end_that_is_not_yet_read(rt: HostRuntime) {
+    const ROWS: &[Row] = &[
+        (PREFIXED, BEFORE_THE_END, KEPT),
+        (PREFIXED, BEHIND_A_PEEK, KEPT_LATE),
+    ];
+    expect_each(&rt, rt.alloc(), ROWS);
 }

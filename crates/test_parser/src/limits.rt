@@ -1,9 +1,8 @@
 //! Texts with limits on their characters.
 use crate::helpers::{expect_that, repeated};
-use crate::telling::lines_left;
-use saphyr_parser::{BufferedInput, Input, Parser, StrInput, lists_characters};
-use std::alloc::{AllocError, Global};
-use test_list_input::ListInput;
+use crate::telling::{Calls, told_by_iter, told_by_list, told_by_str, told_within};
+use std::alloc::Global;
+use std::process::Abort;
 
 // Texts that show one thing each.
 const TEXTS: &[&str] = &[
@@ -120,79 +119,50 @@ const THREE_CHARACTERS: &str = "> +STR @ 0,1,0 0,1,0
 > -STR @ 3,2,0 3,2,0
 ";
 
-// The lines of a text with a limit on its characters.
-fn lines_within(alloc: Global, text: &str, limit: usize) -> Result<String, AllocError> {
-    lines_left(alloc, Parser::with_limit(alloc, StrInput::new(text), limit))
-}
-
-// The same from an iterator.
-fn lines_of_iter_within(alloc: Global, text: &str, limit: usize) -> Result<String, AllocError> {
-    let iter = text.chars();
-    lists_characters(&iter);
-    let input = BufferedInput::new(alloc, iter)?;
-    lines_left(alloc, Parser::with_limit(alloc, input, limit))
-}
-
-// The same from a list of characters.
-fn lines_of_list_within(alloc: Global, text: &str, limit: usize) -> Result<String, AllocError> {
-    let characters: Vec<char> = text.chars().collect(alloc)?;
-    let input = ListInput::new(characters.as_slice());
-    lines_left(alloc, Parser::with_limit(alloc, input, limit))
-}
+// What a parser gives is asked of it alone.
+const NO_CALLS: Calls = (&[], None);
 
 // These are the lines, and behind them the text is too long or isn't.
-fn are_lines(made: &str, lines: &str, is_too_long: bool) -> bool {
-    match before_too_long(made) {
+fn are_lines(told: String, lines: &str, is_too_long: bool) -> bool {
+    let holds = match before_too_long(told.as_str()) {
         Some(before) => is_too_long && before == lines,
-        None => !is_too_long && made == lines,
-    }
-}
-
-fn are_told(made: Result<String, AllocError>, lines: &str, is_too_long: bool) -> bool {
-    match made {
-        Ok(made) => are_lines(made.as_str(), lines, is_too_long),
-        Err(_) => false,
-    }
+        None => !is_too_long && told.as_str() == lines,
+    };
+    drop(told);
+    holds
 }
 
 // Three characters of a text may be read, and each input gives these lines.
-fn are_told_by_each(alloc: Global, text: &str, lines: &str, is_too_long: bool) -> bool {
-    are_told(lines_within(alloc, text, 3), lines, is_too_long)
-        && are_told(lines_of_iter_within(alloc, text, 3), lines, is_too_long)
-        && are_told(lines_of_list_within(alloc, text, 3), lines, is_too_long)
+fn expect_by_each(rt: &impl Abort, alloc: Global, text: &str, lines: &str, is_too_long: bool) {
+    let by_str = told_within(alloc, text, 3, NO_CALLS);
+    expect_that(rt, are_lines(by_str, lines, is_too_long), text);
+    let by_iter = told_by_iter(alloc, text, 3, NO_CALLS);
+    expect_that(rt, are_lines(by_iter, lines, is_too_long), text);
+    let by_list = told_by_list(alloc, text, Some(3), NO_CALLS);
+    expect_that(rt, are_lines(by_list, lines, is_too_long), text);
 }
 
 #[test]
 fn refuses_a_text_past_the_limit(rt: HostRuntime) {
-    let alloc = rt.alloc();
     let start = "> +STR @ 0,1,0 0,1,0\n";
-    expect_that(
-        &rt,
-        are_told_by_each(alloc, "abc", THREE_CHARACTERS, false),
-        "abc",
-    );
-    expect_that(&rt, are_told_by_each(alloc, "abcd", start, true), "abcd");
+    expect_by_each(&rt, rt.alloc(), "abc", THREE_CHARACTERS, false);
+    expect_by_each(&rt, rt.alloc(), "abcd", start, true);
 }
 
 // The lines are all lines of the text, or a beginning of them and then that the text is too long.
-fn is_beginning(lines: &str, all: &str) -> bool {
-    match before_too_long(lines) {
+fn are_beginning(told: String, all: &str) -> bool {
+    let holds = match before_too_long(told.as_str()) {
         Some(before) => all.starts_with(before),
-        None => lines == all,
-    }
-}
-
-fn are_beginning(made: Result<String, AllocError>, all: &str) -> bool {
-    match made {
-        Ok(lines) => is_beginning(lines.as_str(), all),
-        Err(_) => false,
-    }
+        None => told.as_str() == all,
+    };
+    drop(told);
+    holds
 }
 
 // With each limit up to its length a text gives all these lines, or a beginning of them.
 fn gives_beginnings_of(alloc: Global, text: &str, all: &str) -> bool {
     for limit in 0..text.len() {
-        if !are_beginning(lines_within(alloc, text, limit), all) {
+        if !are_beginning(told_within(alloc, text, limit, NO_CALLS), all) {
             return false;
         }
     }
@@ -201,24 +171,16 @@ fn gives_beginnings_of(alloc: Global, text: &str, all: &str) -> bool {
 
 // With each limit up to its length a text gives what it gives without, or a beginning of that.
 fn gives_beginnings(alloc: Global, text: &str) -> bool {
-    match lines_left(alloc, Parser::new_from_str(alloc, text)) {
-        Ok(all) => gives_beginnings_of(alloc, text, all.as_str()),
-        Err(_) => false,
-    }
+    let all = told_by_str(alloc, text, NO_CALLS);
+    let holds = gives_beginnings_of(alloc, text, all.as_str());
+    drop(all);
+    holds
 }
 
 #[test]
 fn gives_a_beginning_up_to_each_limit(rt: HostRuntime) {
     for &text in TEXTS {
         expect_that(&rt, gives_beginnings(rt.alloc(), text), text);
-    }
-}
-
-// The same of a text made of pieces.
-fn gives_beginnings_of_pieces(alloc: Global, pieces: &[(&str, usize)]) -> bool {
-    match repeated(alloc, pieces) {
-        Ok(text) => gives_beginnings(alloc, text.as_str()),
-        Err(_) => false,
     }
 }
 
@@ -238,6 +200,9 @@ const LONG: &[(&str, &[(&str, usize)])] = &[
 #[test]
 fn gives_a_beginning_of_a_long_text(rt: HostRuntime) {
     for &(shown, pieces) in LONG {
-        expect_that(&rt, gives_beginnings_of_pieces(rt.alloc(), pieces), shown);
+        let text = repeated(rt.alloc(), pieces);
+        let holds = gives_beginnings(rt.alloc(), text.as_str());
+        drop(text);
+        expect_that(&rt, holds, shown);
     }
 }

@@ -1,10 +1,10 @@
 //! What `load` hands over and where it stops: at a document's end, at a fault, and where the receiver refuses.
+ghost use Rattle.std.specs.Prelude.{◌≡◌, ◌⊎◌};
 
 use crate::telling::Call::{Load, LoadAll, LoadPlaceless, LoadRefused, Next, Peek};
-use crate::telling::{expect, expect_of};
-use saphyr_parser::{BufferedInput, Parser};
-use std::alloc::{AllocError, Global};
-use std::test::Fail;
+use crate::telling::{Row, expect_each, expect_lines, told};
+use saphyr_parser::Parser;
+use std::alloc::Global;
 
 // Gives `a`, then `None`, then `b`. From the fourth place on `[`, `1`, then `None`, then `]`.
 #[derive(Drop)]
@@ -38,12 +38,14 @@ impl Iterator for Stutter {
     }
 }
 
-fn stuttering<'a>(alloc: Global) -> Result<Parser<'a, BufferedInput<Stutter>>, AllocError> {
-    Parser::new_from_iter(alloc, Stutter { place: 0 })
-}
-
-fn cut_short<'a>(alloc: Global) -> Result<Parser<'a, BufferedInput<Stutter>>, AllocError> {
-    Parser::new_from_iter(alloc, Stutter { place: 3 })
+// The lines of all that it gives from a place on.
+fn told_from(alloc: Global, place: u8) -> String
+    requires { (place ≡ 0) ⊎ (place ≡ 3) }
+{
+    match Parser::new_from_iter(alloc, Stutter { place }) {
+        Ok(parser) => told(alloc, parser, (&[LoadAll], None)),
+        Err(_) => String::new(alloc),
+    }
 }
 
 const TWO_DOCUMENTS: &str = "> +STR @ 0,1,0 0,1,0
@@ -62,13 +64,6 @@ loaded
 nothing
 ";
 
-#[test]
-fn loads_a_document_at_a_time(rt: HostRuntime) -> Result<(), Fail> {
-    let calls = &[Load, Load, Load, Load, Next];
-    expect(&rt, rt.alloc(), "a\n---\nb\n", calls, TWO_DOCUMENTS)?;
-    Ok(())
-}
-
 const COLLECTIONS: &str = "> +STR @ 0,1,0 0,1,0
 > +DOC @ 0,1,0 1,1,1
 > +MAP @ 0,1,0 1,1,1
@@ -86,11 +81,29 @@ loaded
 nothing
 ";
 
+const PEEKED: &str = "> +STR @ 0,1,0 0,1,0
+> +STR @ 0,1,0 0,1,0
+> -STR @ 0,1,0 0,1,0
+loaded
+";
+
 #[test]
-fn loads_all_with_their_spans(rt: HostRuntime) -> Result<(), Fail> {
-    let calls = &[LoadAll, Load, Next];
-    expect(&rt, rt.alloc(), "{\"a\":[1,true]}", calls, COLLECTIONS)?;
-    Ok(())
+fn loads_documents_with_their_spans(rt: HostRuntime) {
+    const ROWS: &[Row] = &[
+        (
+            "a\n---\nb\n",
+            (&[Load, Load, Load, Load, Next], None),
+            TWO_DOCUMENTS,
+        ),
+        (
+            "{\"a\":[1,true]}",
+            (&[LoadAll, Load, Next], None),
+            COLLECTIONS,
+        ),
+        ("", (&[Peek, LoadAll], None), PEEKED),
+        ("", (&[Peek, LoadPlaceless], None), PEEKED),
+    ];
+    expect_each(&rt, rt.alloc(), ROWS);
 }
 
 const UP_TO_NONE: &str = "> +STR @ 0,1,0 0,1,0
@@ -101,13 +114,6 @@ const UP_TO_NONE: &str = "> +STR @ 0,1,0 0,1,0
 loaded
 ";
 
-#[test]
-fn loads_an_iterator_up_to_its_first_none(rt: HostRuntime) -> Result<(), Fail> {
-    let alloc = rt.alloc();
-    expect_of(&rt, alloc, stuttering(alloc)?, &[LoadAll], UP_TO_NONE)?;
-    Ok(())
-}
-
 const ENDS_INSIDE: &str = "> +STR @ 0,1,0 0,1,0
 > +DOC @ 0,1,0 1,1,1
 > +SEQ @ 0,1,0 1,1,1
@@ -117,24 +123,9 @@ const ENDS_INSIDE: &str = "> +STR @ 0,1,0 0,1,0
 ";
 
 #[test]
-fn refuses_an_iterator_that_ends_inside_a_sequence(rt: HostRuntime) -> Result<(), Fail> {
-    let alloc = rt.alloc();
-    expect_of(&rt, alloc, cut_short(alloc)?, &[LoadAll], ENDS_INSIDE)?;
-    Ok(())
-}
-
-const PEEKED: &str = "> +STR @ 0,1,0 0,1,0
-> +STR @ 0,1,0 0,1,0
-> -STR @ 0,1,0 0,1,0
-loaded
-";
-
-#[test]
-fn loads_a_peeked_event(rt: HostRuntime) -> Result<(), Fail> {
-    let alloc = rt.alloc();
-    expect(&rt, alloc, "", &[Peek, LoadAll], PEEKED)?;
-    expect(&rt, alloc, "", &[Peek, LoadPlaceless], PEEKED)?;
-    Ok(())
+fn loads_an_iterator_up_to_its_first_none(rt: HostRuntime) {
+    expect_lines(&rt, told_from(rt.alloc(), 0), UP_TO_NONE);
+    expect_lines(&rt, told_from(rt.alloc(), 3), ENDS_INSIDE);
 }
 
 const REFUSED: &str = "> +STR @ 0,1,0 0,1,0
@@ -151,13 +142,6 @@ const REFUSED: &str = "> +STR @ 0,1,0 0,1,0
 > -STR @ 14,2,0 14,2,0
 ";
 
-#[test]
-fn stands_behind_a_refused_event(rt: HostRuntime) -> Result<(), Fail> {
-    let calls = &[LoadRefused(2), LoadAll];
-    expect(&rt, rt.alloc(), "{\"a\":[1,true]}", calls, REFUSED)?;
-    Ok(())
-}
-
 const ANSWERED: &str = "> +STR @ 0,1,0 0,1,0
 > +DOC @ 16,3,0 26,4,3
 > =VAL :scalar key @ 16,3,0 26,4,3
@@ -170,14 +154,6 @@ nothing
 nothing
 ";
 
-#[test]
-fn answers_a_fault_again(rt: HostRuntime) -> Result<(), Fail> {
-    let text = "\n# syntax error\nscalar\nkey: [1, 2]]\nkey1:a2\n";
-    let calls = &[Load, Load, Next, Next, Load, Next, Next];
-    expect(&rt, rt.alloc(), text, calls, ANSWERED)?;
-    Ok(())
-}
-
 const LATER: &str = "> +STR @ 0,1,0 0,1,0
 > +DOC @ 0,1,0 2,1,2
 > =VAL &1 :x @ 0,1,0 4,1,4
@@ -188,7 +164,19 @@ const LATER: &str = "> +STR @ 0,1,0 0,1,0
 ";
 
 #[test]
-fn loads_up_to_a_fault_in_a_later_document(rt: HostRuntime) -> Result<(), Fail> {
-    expect(&rt, rt.alloc(), "&a x\n--- *a", &[LoadAll], LATER)?;
-    Ok(())
+fn stands_behind_a_refused_event_and_a_fault(rt: HostRuntime) {
+    const ROWS: &[Row] = &[
+        (
+            "{\"a\":[1,true]}",
+            (&[LoadRefused(2), LoadAll], None),
+            REFUSED,
+        ),
+        (
+            "\n# syntax error\nscalar\nkey: [1, 2]]\nkey1:a2\n",
+            (&[Load, Load, Next, Next, Load, Next, Next], None),
+            ANSWERED,
+        ),
+        ("&a x\n--- *a", (&[LoadAll], None), LATER),
+    ];
+    expect_each(&rt, rt.alloc(), ROWS);
 }

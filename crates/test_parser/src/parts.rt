@@ -1,11 +1,11 @@
 //! What an event tells of itself: its node's anchor and tag, and whether something begins or ends.
+use crate::helpers::expect_that;
 use saphyr_parser::{Event, ScalarStyle, Tag};
 use std::alloc::{AllocError, Global};
 use std::borrow::CowStr;
-use std::test::Fail;
 
 // An event by its kind: a constant holds none.
-#[derive(Clone, Copy, Debug)]
+#[derive(Clone, Copy)]
 enum Kind {
     Nothing,
     StreamStart,
@@ -45,58 +45,72 @@ const TOLD: &[(Kind, usize, Option<&str>, &str)] = &[
 ];
 
 #[test]
-fn tells_of_each_event(rt: HostRuntime) -> Result<(), Fail> {
+fn tells_of_each_event(rt: HostRuntime) {
     for &(kind, id, suffix, line) in TOLD {
-        let event = event_of(rt.alloc(), kind, id, suffix)?;
-        let told = told_of(rt.alloc(), &event)?;
-        assert!(rt; told.as_str() == line, "{kind:?}: {told}");
+        expect_that(&rt, is_told(rt.alloc(), kind, id, suffix, line), line);
     }
-    Ok(())
 }
 
-fn event_of(
-    alloc: Global,
-    kind: Kind,
-    id: usize,
-    suffix: Option<&str>,
-) -> Result<Event<'static>, AllocError> {
-    let tag = match suffix {
-        Some(suffix) => Some(Tag {
-            handle: String::from_str(alloc, "!")?,
-            suffix: String::from_str(alloc, suffix)?,
-        }),
-        None => None,
+// Whether this is told of the event of a kind.
+fn is_told(alloc: Global, kind: Kind, id: usize, suffix: Option<&str>, line: &str) -> bool {
+    match tag_of(alloc, suffix) {
+        Ok(tag) => tells(alloc, event_of(kind, id, tag), line),
+        Err(_) => false,
+    }
+}
+
+// A local tag with this suffix, where there is one.
+fn tag_of(alloc: Global, suffix: Option<&str>) -> Result<Option<Tag>, AllocError> {
+    let Some(suffix) = suffix else {
+        return Ok(None);
     };
-    Ok(match kind {
-        Kind::Nothing => Event::Nothing,
+    let handle = String::from_str(alloc, "!")?;
+    let suffix = String::from_str(alloc, suffix)?;
+    Ok(Some(Tag { handle, suffix }))
+}
+
+fn event_of(kind: Kind, id: usize, tag: Option<Tag>) -> Event<'static> {
+    match kind {
+        Kind::Scalar => Event::Scalar(CowStr::Borrowed("x"), ScalarStyle::Plain, id, tag),
+        Kind::SequenceStart => Event::SequenceStart(id, tag),
+        Kind::MappingStart => Event::MappingStart(id, tag),
+        _ => {
+            drop(tag);
+            event_without_tag(kind, id)
+        }
+    }
+}
+
+fn event_without_tag(kind: Kind, id: usize) -> Event<'static> {
+    match kind {
         Kind::StreamStart => Event::StreamStart,
         Kind::StreamEnd => Event::StreamEnd,
         Kind::BareDocument => Event::DocumentStart(false),
         Kind::ExplicitDocument => Event::DocumentStart(true),
         Kind::DocumentEnd => Event::DocumentEnd,
         Kind::Alias => Event::Alias(id),
-        Kind::Scalar => Event::Scalar(CowStr::Borrowed("x"), ScalarStyle::Plain, id, tag),
-        Kind::SequenceStart => Event::SequenceStart(id, tag),
         Kind::SequenceEnd => Event::SequenceEnd,
-        Kind::MappingStart => Event::MappingStart(id, tag),
         Kind::MappingEnd => Event::MappingEnd,
-    })
+        _ => Event::Nothing,
+    }
 }
 
-// Whether something begins or ends, the anchor's id behind `&`, and the tag.
-fn told_of(alloc: Global, event: &Event<'_>) -> Result<String, AllocError> {
+fn tells(alloc: Global, event: Event<'_>, line: &str) -> bool {
     let mut told = String::new(alloc);
-    if event.is_start() {
-        told.push_str("begins")?;
-    }
-    if event.is_end() {
-        told.push_str("ends")?;
-    }
+    push_told(&mut told, &event);
+    drop(event);
+    told.as_str() == line
+}
+
+// Adds whether something begins or ends, the anchor's id behind `&`, and the tag.
+fn push_told(told: &mut String, event: &Event<'_>) {
+    let _ = told.push_str(if event.is_start() { "begins" } else { "" });
+    let _ = told.push_str(if event.is_end() { "ends" } else { "" });
     if let Some(id) = event.anchor_id() {
-        write!(told, "&{id}")?;
+        let _ = write!(told, "&{id}");
     }
     if let Some(tag) = event.tag() {
-        write!(told, "{}{}", tag.handle, tag.suffix)?;
+        let _ = told.push_str(tag.handle.as_str());
+        let _ = told.push_str(tag.suffix.as_str());
     }
-    Ok(told)
 }

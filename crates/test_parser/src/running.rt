@@ -7,36 +7,35 @@ ghost use Rattle.saphyr_parser.specs.Printed.{printed_line};
 use crate::helpers::{expect_that, repeated};
 use crate::writer::{Keeping, Manner, Source, WHOLE};
 use saphyr_parser::run_dump;
-use std::alloc::{AllocError, Global};
+use std::alloc::Global;
 use std::process::Abort;
-use std::test::Fail;
 
-// The status of a run over a source, named `f`, and whether it prints these lines and says this.
-fn run(
+// The status of a run over a source, named `f`, and whether it says this.
+fn run_into(
     alloc: Global,
-    source: Source<'_>,
-    lines: (Manner, &str),
-    message: (Manner, &str),
-) -> (u8, bool, bool) {
-    let mut source = source;
-    let mut out = Keeping::new(alloc, lines.0);
-    let mut err = Keeping::new(alloc, message.0);
-    let status = run_dump(alloc, "f", &mut source, &mut out, &mut err);
-    (status, out.has_taken(lines.1), err.has_taken(message.1))
+    mut source: Source<'_>,
+    out: &mut Keeping,
+    (manner, message): (Manner, &str),
+) -> (u8, bool) {
+    let mut err = Keeping::new(alloc, manner);
+    let status = run_dump(alloc, "f", &mut source, out, &mut err);
+    let has_message = err.has_taken(message);
+    drop(err);
+    (status, has_message)
 }
 
+// A source, the lines that a run prints of it, what it says, and how both are taken.
+type Run<'a> = (Source<'a>, (Manner, &'a str), (Manner, &'a str));
+
 // A run prints these lines and says this, and has the status 1 where it says something.
-fn expect_run(
-    rt: &impl Abort,
-    alloc: Global,
-    source: Source<'_>,
-    lines: (Manner, &str),
-    message: (Manner, &str),
-) {
-    let (status, has_lines, has_message) = run(alloc, source, lines, message);
+fn expect_run(rt: &impl Abort, alloc: Global, (source, (manner, lines), message): Run<'_>) {
+    let mut out = Keeping::new(alloc, manner);
+    let (status, has_message) = run_into(alloc, source, &mut out, message);
+    let has_lines = out.has_taken(lines);
+    drop(out);
     let wanted = if message.1.is_empty() { 0 } else { 1 };
-    expect_that(rt, status == wanted, lines.1);
-    expect_that(rt, has_lines, lines.1);
+    expect_that(rt, status == wanted, lines);
+    expect_that(rt, has_lines, lines);
     expect_that(rt, has_message, message.1);
 }
 
@@ -46,7 +45,7 @@ fn expect_of_bytes(rt: &impl Abort, alloc: Global, bytes: &[u8], lines: &str, me
         rest: bytes,
         is_broken: false,
     };
-    expect_run(rt, alloc, source, (WHOLE, lines), (WHOLE, message));
+    expect_run(rt, alloc, (source, (WHOLE, lines), (WHOLE, message)));
 }
 
 // The runs over texts that are taken, and their lines.
@@ -56,29 +55,29 @@ fn expect_runs(rt: &impl Abort, alloc: Global, rows: &[(&str, &str)]) {
     }
 }
 
-// The lines of a sequence of so many nodes with anchors, and of one more with this line.
-fn lines_behind_anchors(alloc: Global, count: usize, line: &str) -> Result<String, AllocError> {
-    let mut lines = String::from_str(alloc, "+STR\n+DOC\n+SEQ\n")?;
+// Adds the lines of so many nodes with anchors.
+fn push_anchors(lines: &mut String, count: usize) {
     for place in 0..count {
-        write!(lines, "=VAL &{} :x\n", place + 1)?;
+        let _ = write!(lines, "=VAL &{} :x\n", place + 1);
     }
-    lines.push_str(line)?;
-    lines.push_str("-SEQ\n-DOC\n-STR\n")?;
-    Ok(lines)
+}
+
+// The lines of a sequence of so many nodes with anchors, and of one more with this line.
+fn lines_behind_anchors(alloc: Global, count: usize, line: &str) -> String {
+    let mut lines = repeated(alloc, &[("+STR\n+DOC\n+SEQ\n", 1)]);
+    push_anchors(&mut lines, count);
+    let _ = lines.push_str(line);
+    let _ = lines.push_str("-SEQ\n-DOC\n-STR\n");
+    lines
 }
 
 // The line of a node in a sequence, behind so many nodes with anchors.
-fn expect_behind_anchors(
-    rt: &impl Abort,
-    alloc: Global,
-    count: usize,
-    node: &str,
-    line: &str,
-) -> Result<(), AllocError> {
-    let text = repeated(alloc, &[("- &a x\n", count), ("- ", 1), (node, 1)])?;
-    let lines = lines_behind_anchors(alloc, count, line)?;
+fn expect_behind_anchors(rt: &impl Abort, alloc: Global, count: usize, node: &str, line: &str) {
+    let text = repeated(alloc, &[("- &a x\n", count), ("- ", 1), (node, 1)]);
+    let lines = lines_behind_anchors(alloc, count, line);
     expect_of_bytes(rt, alloc, text.as_bytes(), lines.as_str(), "");
-    Ok(())
+    drop(text);
+    drop(lines);
 }
 
 // Nodes, each the only one of a text, and the text's lines.
@@ -98,18 +97,6 @@ fn computes_lines_of_no_text()
     ensures last_alias { printed_line (Alias 18446744073709551615)
         ≡ codes "=ALI *18446744073709551615\n" }
 {}
-
-#[test]
-fn prints_a_line_for_each_event(rt: HostRuntime) -> Result<(), Fail> {
-    computes_lines_of_no_text();
-    let alloc = rt.alloc();
-    expect_runs(&rt, alloc, NODES);
-    let yaml = "+MAP &23 <tag:yaml.org,2002:map>\n-MAP\n";
-    expect_behind_anchors(&rt, alloc, 22, "&a !!map {}", yaml)?;
-    expect_behind_anchors(&rt, alloc, 1, "*a", "=ALI *1\n")?;
-    expect_behind_anchors(&rt, alloc, 120, "*a", "=ALI *120\n")?;
-    Ok(())
-}
 
 // Scalars, each the only node of a text, and the text's lines.
 const SCALARS: &[(&str, &str)] = &[
@@ -131,12 +118,23 @@ const SCALARS: &[(&str, &str)] = &[
     ),
 ];
 
+// How many nodes with anchors come before a node, the node, and its line.
+const BEHIND_ANCHORS: &[(usize, &str, &str)] = &[
+    (
+        22,
+        "&a !!map {}",
+        "+MAP &23 <tag:yaml.org,2002:map>\n-MAP\n",
+    ),
+    (1, "*a", "=ALI *1\n"),
+    (120, "*a", "=ALI *120\n"),
+    (3, "&a !s >-\n  x", "=VAL &4 <!s> >x\n"),
+];
+
 #[test]
-fn prints_scalars(rt: HostRuntime) -> Result<(), Fail> {
-    let alloc = rt.alloc();
-    expect_runs(&rt, alloc, SCALARS);
-    expect_behind_anchors(&rt, alloc, 3, "&a !s >-\n  x", "=VAL &4 <!s> >x\n")?;
-    Ok(())
+fn prints_the_ids_of_anchors(rt: HostRuntime) {
+    for &(count, node, line) in BEHIND_ANCHORS {
+        expect_behind_anchors(&rt, rt.alloc(), count, node, line);
+    }
 }
 
 // What a program is run on, and what it prints and says.
@@ -150,6 +148,16 @@ const RUNS: &[(&[u8], &str, &str)] = &[
     ),
     (b"\xff", "", "dump_events: f is not UTF-8\n"),
     (b"# \xe2\x82", "", "dump_events: f is not UTF-8\n"),
+    (
+        b"[a:[]]",
+        "+STR\n",
+        "':' may not precede any of `[{` in flow mapping at byte 2 line 1 column 3\n",
+    ),
+    (
+        b"\n# syntax error\nscalar\nkey: [1, 2]]\nkey1:a2\n",
+        "+STR\n+DOC\n=VAL :scalar key\n",
+        "mapping values are not allowed in this context at byte 26 line 4 column 4\n",
+    ),
 ];
 
 #[test]
@@ -159,65 +167,60 @@ fn runs(rt: HostRuntime) {
     }
 }
 
-#[test]
-fn runs_where_reading_fails(rt: HostRuntime) {
-    let source = Source {
-        rest: b"# c",
-        is_broken: true,
-    };
-    let message = "dump_events: can't read f\n";
-    expect_run(&rt, rt.alloc(), source, (WHOLE, ""), (WHOLE, message));
-}
+const EMPTY: Source = Source {
+    rest: b"",
+    is_broken: false,
+};
+
+// A source behind whose first bytes reading fails.
+const BROKEN: Source = Source {
+    rest: b"# c",
+    is_broken: true,
+};
+
+const REFUSED: Source = Source {
+    rest: b"\0",
+    is_broken: false,
+};
+
+// A writer with little room.
+const FULL: Manner = Manner {
+    at_a_time: 1,
+    room: 7,
+    ..WHOLE
+};
+
+const SAYING: Manner = Manner {
+    at_a_time: 1,
+    room: 20,
+    ..WHOLE
+};
+
+// A writer that can't pass on the lines.
+const STUCK: Manner = Manner {
+    is_stuck: true,
+    ..WHOLE
+};
 
 #[test]
-fn runs_where_writing_fails(rt: HostRuntime) {
-    let full = Manner {
-        at_a_time: 1,
-        room: 7,
-        ..WHOLE
-    };
-    let source = Source {
-        rest: b"",
-        is_broken: false,
-    };
-    let message = "dump_events: can't write\n";
-    expect_run(
-        &rt,
-        rt.alloc(),
-        source,
-        (full, "+STR\n-S"),
-        (WHOLE, message),
-    );
-}
-
-// The run over a text, where the lines can't be passed on, and there is little room to say so.
-fn expect_stuck(rt: &impl Abort, alloc: Global, text: &str, lines: &str) {
-    let stuck = Manner {
-        is_stuck: true,
-        ..WHOLE
-    };
-    let full = Manner {
-        at_a_time: 1,
-        room: 20,
-        ..WHOLE
-    };
-    let source = Source {
-        rest: text.as_bytes(),
-        is_broken: false,
-    };
-    expect_run(
-        rt,
-        alloc,
-        source,
-        (stuck, lines),
-        (full, "dump_events: can't w"),
-    );
-}
-
-#[test]
-fn runs_where_lines_are_not_passed_on(rt: HostRuntime) {
-    expect_stuck(&rt, rt.alloc(), "", "+STR\n-STR\n");
-    expect_stuck(&rt, rt.alloc(), "\0", "+STR\n");
+fn runs_where_reading_or_writing_fails(rt: HostRuntime) {
+    const RUNS: &[Run] = &[
+        (BROKEN, (WHOLE, ""), (WHOLE, "dump_events: can't read f\n")),
+        (
+            EMPTY,
+            (FULL, "+STR\n-S"),
+            (WHOLE, "dump_events: can't write\n"),
+        ),
+        (
+            EMPTY,
+            (STUCK, "+STR\n-STR\n"),
+            (SAYING, "dump_events: can't w"),
+        ),
+        (REFUSED, (STUCK, "+STR\n"), (SAYING, "dump_events: can't w")),
+    ];
+    for &run in RUNS {
+        expect_run(&rt, rt.alloc(), run);
+    }
 }
 
 // Texts of flow collections and block collections, and of scalars, and their lines.
@@ -265,27 +268,9 @@ const TEXTS: &[(&str, &str)] = &[
 ];
 
 #[test]
-fn runs_on_collections_and_scalars(rt: HostRuntime) {
+fn prints_a_line_for_each_event(rt: HostRuntime) {
+    computes_lines_of_no_text();
+    expect_runs(&rt, rt.alloc(), NODES);
+    expect_runs(&rt, rt.alloc(), SCALARS);
     expect_runs(&rt, rt.alloc(), TEXTS);
-}
-
-// Refused texts, their lines, and what is said of them.
-const REFUSED: &[(&str, &str, &str)] = &[
-    (
-        "[a:[]]",
-        "+STR\n",
-        "':' may not precede any of `[{` in flow mapping at byte 2 line 1 column 3\n",
-    ),
-    (
-        "\n# syntax error\nscalar\nkey: [1, 2]]\nkey1:a2\n",
-        "+STR\n+DOC\n=VAL :scalar key\n",
-        "mapping values are not allowed in this context at byte 26 line 4 column 4\n",
-    ),
-];
-
-#[test]
-fn runs_on_refused_texts(rt: HostRuntime) {
-    for (text, lines, message) in REFUSED {
-        expect_of_bytes(&rt, rt.alloc(), text.as_bytes(), lines, message);
-    }
 }

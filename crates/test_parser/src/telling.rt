@@ -1,18 +1,22 @@
 //! What a parser tells, call by call, in the lines of cases: `> EVENT @ START END` for each event, `! FAULT` for a
 //! fault. Few functions then hold an event or a fault, of which each is dear to prove.
+//!
+//! What owns much is let go by `drop`, a call that is cheaper to prove than the end of a function.
+//!
+//! Where memory is lacking a piece of the lines is missing, so that they are not those that a test wants.
+use example_input::Characters;
 use saphyr_parser::{
-    Event, EventReceiver, Fault, Input, Marker, Parser, Refused, Span, SpannedEventReceiver,
-    lists_characters,
+    BufferedInput, Event, EventReceiver, Fault, Input, Marker, Parser, Refused, Span,
+    SpannedEventReceiver, StrInput, lists_characters,
 };
 use std::alloc::{AllocError, Global};
 use std::process::Abort;
+use std::str::Chars;
 use test_case_files::push_item;
-use test_list_input::ListInput;
 
 /// A call of a parser.
 #[derive(Clone, Copy)]
 pub enum Call {
-    KeepTags,
     Next,
     Peek,
     /// `load` up to the end of a document.
@@ -24,6 +28,9 @@ pub enum Call {
     /// The same with a receiver that takes so many events and refuses the next.
     LoadRefused(usize),
 }
+
+/// Calls, and then those behind `keep_tags(true)`, where there is one.
+pub type Calls<'a> = (&'a [Call], Option<&'a [Call]>);
 
 // Writes down what it takes, and refuses an event behind so many.
 #[derive(Drop)]
@@ -42,7 +49,8 @@ impl<'input> SpannedEventReceiver<'input> for Writing<'_> {
             return Err(Refused);
         }
         self.before_refusal -= 1;
-        push_line(self.lines, Some(Ok(&(ev, span)))).map_err(|_| Refused)
+        push_event(self.lines, (ev, span));
+        Ok(())
     }
 }
 
@@ -58,48 +66,44 @@ impl<'input> EventReceiver<'input> for Placeless<'_> {
     ghost takes = { λ _ _ _ _. ⊤ };
 
     fn on_event(&mut self, ev: Event<'input>) -> Result<(), Refused> {
-        let start = Span::empty(Marker::new(0, 1, 0));
-        push_line(self.lines, Some(Ok(&(ev, start)))).map_err(|_| Refused)
+        push_event(self.lines, (ev, Span::empty(Marker::new(0, 1, 0))));
+        Ok(())
     }
 }
 
 // Adds the line of what comes, or that nothing does.
-fn push_line(
-    lines: &mut String,
-    item: Option<Result<&(Event<'_>, Span), &Fault>>,
-) -> Result<(), AllocError> {
-    match item {
-        Some(item) => push_item(lines, item)?,
-        None => lines.push_str("nothing")?,
-    }
-    lines.push('\n')
+fn push_line(lines: &mut String, item: Option<Result<&(Event<'_>, Span), &Fault>>) {
+    let _ = match item {
+        Some(item) => push_item(lines, item),
+        None => lines.push_str("nothing"),
+    };
+    let _ = lines.push('\n');
+}
+
+// Adds the line of an event.
+fn push_event(lines: &mut String, event: (Event<'_>, Span)) {
+    push_line(lines, Some(Ok(&event)));
+    drop(event);
 }
 
 // Adds the line of what is handed out.
-fn push_given(
-    lines: &mut String,
-    item: Option<Result<(Event<'_>, Span), Fault>>,
-) -> Result<(), AllocError> {
+fn push_given(lines: &mut String, item: Option<Result<(Event<'_>, Span), Fault>>) {
     match &item {
         Some(item) => push_line(lines, Some(item.as_ref())),
         None => push_line(lines, None),
     }
-}
-
-// Adds the line of what `next_event` hands out.
-fn push_next<T: Input + Drop>(
-    lines: &mut String,
-    parser: &mut Parser<'_, T>,
-) -> Result<(), AllocError> {
-    push_given(lines, parser.next_event())
+    drop(item);
 }
 
 // Adds the answer of `load`.
-fn push_answer(lines: &mut String, answer: Result<(), Fault>) -> Result<(), AllocError> {
-    match answer {
-        Ok(()) => lines.push_str("loaded\n"),
-        Err(fault) => push_line(lines, Some(Err(&fault))),
+fn push_answer(lines: &mut String, answer: Result<(), Fault>) {
+    match &answer {
+        Ok(()) => {
+            let _ = lines.push_str("loaded\n");
+        }
+        Err(fault) => push_line(lines, Some(Err(fault))),
     }
+    drop(answer);
 }
 
 // Adds the lines of what `load` hands over, and its answer.
@@ -108,52 +112,26 @@ fn push_load<T: Input + Drop>(
     parser: &mut Parser<'_, T>,
     multi: bool,
     before_refusal: usize,
-) -> Result<(), AllocError> {
+) {
     let mut receiver = Writing {
         lines: &mut *lines,
         before_refusal,
     };
     let answer = parser.load(&mut receiver, multi);
-    push_answer(lines, answer)
+    push_answer(lines, answer);
 }
 
 // The same with a receiver of events alone.
-fn push_placeless<T: Input + Drop>(
-    lines: &mut String,
-    parser: &mut Parser<'_, T>,
-) -> Result<(), AllocError> {
+fn push_placeless<T: Input + Drop>(lines: &mut String, parser: &mut Parser<'_, T>) {
     let mut receiver = Placeless { lines: &mut *lines };
     let answer = parser.load(&mut receiver, true);
-    push_answer(lines, answer)
+    push_answer(lines, answer);
 }
 
-// Adds the lines of what a parser has left to give.
-fn push_left<T: Input + Drop>(lines: &mut String, parser: Parser<'_, T>) -> Result<(), AllocError> {
-    for item in parser {
-        push_given(lines, Some(item))?;
-    }
-    Ok(())
-}
-
-/// The lines of what a parser has left to give.
-pub fn lines_left<T: Input + Drop>(
-    alloc: Global,
-    parser: Parser<'_, T>,
-) -> Result<String, AllocError> {
-    let mut lines = String::new(alloc);
-    push_left(&mut lines, parser)?;
-    Ok(lines)
-}
-
-// Adds the lines of what a parser tells at a call. That tags are kept is for who owns it.
-fn push_call<T: Input + Drop>(
-    lines: &mut String,
-    parser: &mut Parser<'_, T>,
-    call: Call,
-) -> Result<(), AllocError> {
+// Adds the lines of what a parser tells at a call.
+fn push_call<T: Input + Drop>(lines: &mut String, parser: &mut Parser<'_, T>, call: Call) {
     match call {
-        Call::KeepTags => Ok(()),
-        Call::Next => push_next(lines, parser),
+        Call::Next => push_given(lines, parser.next_event()),
         Call::Peek => push_line(lines, parser.peek()),
         Call::Load => push_load(lines, parser, false, usize::MAX),
         Call::LoadAll => push_load(lines, parser, true, usize::MAX),
@@ -162,48 +140,118 @@ fn push_call<T: Input + Drop>(
     }
 }
 
+// Adds the lines of what a parser tells at each call.
+fn push_calls<T: Input + Drop>(lines: &mut String, parser: &mut Parser<'_, T>, calls: &[Call]) {
+    for &call in calls {
+        push_call(lines, parser, call);
+    }
+}
+
+// Adds the lines of what a parser has left to give.
+fn push_left<T: Input + Drop>(lines: &mut String, parser: Parser<'_, T>) {
+    for item in parser {
+        push_given(lines, Some(item));
+    }
+}
+
 // Adds the lines of what a parser tells at each call, and then of what it has left.
-fn push_calls<T: Input + Drop>(
+fn push_all<T: Input + Drop>(lines: &mut String, mut parser: Parser<'_, T>, calls: &[Call]) {
+    push_calls(lines, &mut parser, calls);
+    push_left(lines, parser);
+}
+
+// The same, with the calls behind `keep_tags(true)`.
+fn push_told<T: Input + Drop>(
     lines: &mut String,
     mut parser: Parser<'_, T>,
-    calls: &[Call],
-) -> Result<(), AllocError> {
-    for &call in calls {
-        if let Call::KeepTags = call {
-            parser = parser.keep_tags(true);
+    (calls, behind): Calls<'_>,
+) {
+    match behind {
+        Some(behind) => {
+            push_calls(lines, &mut parser, calls);
+            push_all(lines, parser.keep_tags(true), behind);
         }
-        push_call(lines, &mut parser, call)?;
+        None => push_all(lines, parser, calls),
     }
-    push_left(lines, parser)
 }
 
-/// At the calls a parser tells these lines, those that are left behind them included.
-pub fn expect_of<T: Input + Drop>(
-    rt: &impl Abort,
-    alloc: Global,
-    parser: Parser<'_, T>,
-    calls: &[Call],
-    lines: &str,
-) -> Result<(), AllocError> {
-    let mut told = String::new(alloc);
-    push_calls(&mut told, parser, calls)?;
-    assert_eq!(rt; told.as_str(), lines);
-    Ok(())
+/// The lines of what a parser tells at each call, and then of what it has left.
+pub fn told<T: Input + Drop>(alloc: Global, parser: Parser<'_, T>, calls: Calls<'_>) -> String {
+    let mut lines = String::new(alloc);
+    push_told(&mut lines, parser, calls);
+    lines
 }
 
-/// The same of a text from a string, from an iterator and from a list of characters.
-pub fn expect(
-    rt: &impl Abort,
-    alloc: Global,
-    text: &str,
-    calls: &[Call],
-    lines: &str,
-) -> Result<(), AllocError> {
-    expect_of(rt, alloc, Parser::new_from_str(alloc, text), calls, lines)?;
+// The lines of a parser over a text.
+fn told_of_str(alloc: Global, parser: Parser<'_, StrInput<'_>>, calls: Calls<'_>) -> String {
+    told(alloc, parser, calls)
+}
+
+/// The lines of a text at these calls.
+pub fn told_by_str(alloc: Global, text: &str, calls: Calls<'_>) -> String {
+    told_of_str(alloc, Parser::new_from_str(alloc, text), calls)
+}
+
+/// The same with a limit on its characters.
+pub fn told_within(alloc: Global, text: &str, limit: usize, calls: Calls<'_>) -> String {
+    told_of_str(
+        alloc,
+        Parser::with_limit(alloc, StrInput::new(text), limit),
+        calls,
+    )
+}
+
+fn characters_of<'a>(alloc: Global, text: &'a str) -> Result<BufferedInput<Chars<'a>>, AllocError> {
     let iter = text.chars();
     lists_characters(&iter);
-    expect_of(rt, alloc, Parser::new_from_iter(alloc, iter)?, calls, lines)?;
-    let characters: Vec<char> = text.chars().collect(alloc)?;
-    let list = ListInput::new(characters.as_slice());
-    expect_of(rt, alloc, Parser::new(alloc, list), calls, lines)
+    BufferedInput::new(alloc, iter)
+}
+
+/// The same from an iterator.
+pub fn told_by_iter(alloc: Global, text: &str, limit: usize, calls: Calls<'_>) -> String {
+    match characters_of(alloc, text) {
+        Ok(input) => told(alloc, Parser::with_limit(alloc, input, limit), calls),
+        Err(_) => String::new(alloc),
+    }
+}
+
+// The same from a list of characters, by `new` where there is no limit.
+fn told_of_list(
+    alloc: Global,
+    characters: &[char],
+    limit: Option<usize>,
+    calls: Calls<'_>,
+) -> String {
+    let list = Characters::new(characters);
+    let parser = match limit {
+        Some(limit) => Parser::with_limit(alloc, list, limit),
+        None => Parser::new(alloc, list),
+    };
+    told(alloc, parser, calls)
+}
+
+/// The same from a list of characters.
+pub fn told_by_list(alloc: Global, text: &str, limit: Option<usize>, calls: Calls<'_>) -> String {
+    match text.chars().collect::<Vec<char>>(alloc) {
+        Ok(characters) => told_of_list(alloc, characters.as_slice(), limit, calls),
+        Err(_) => String::new(alloc),
+    }
+}
+
+/// Stops the test where other lines were told.
+pub fn expect_lines(rt: &impl Abort, told: String, lines: &str) {
+    assert_eq!(rt; told.as_str(), lines);
+    drop(told);
+}
+
+/// A text, calls, and the lines that a parser tells at these, those that are left behind them included.
+pub type Row<'a> = (&'a str, Calls<'a>, &'a str);
+
+/// A parser tells these lines of each text from a string, from an iterator and from a list of characters.
+pub fn expect_each(rt: &impl Abort, alloc: Global, rows: &[Row]) {
+    for &(text, calls, lines) in rows {
+        expect_lines(rt, told_by_str(alloc, text, calls), lines);
+        expect_lines(rt, told_by_iter(alloc, text, usize::MAX, calls), lines);
+        expect_lines(rt, told_by_list(alloc, text, None, calls), lines);
+    }
 }

@@ -1,6 +1,5 @@
 //! What the tests share. A small function reads, compares and lets go, so that no test holds what owns memory.
 
-use saphyr_input::input::Input;
 use saphyr_scalar::Marker;
 use std::alloc::AllocError;
 use std::process::Abort;
@@ -24,15 +23,4 @@ pub(crate) fn is_text(made: Result<String, AllocError>, text: &str) -> bool {
         Ok(made) => made.as_str() == text,
         Err(_) => false,
     }
-}
-
-/// Whether just these characters remain of an input.
-pub(crate) fn remains<T: Input + Drop>(mut input: T, rest: &str) -> bool {
-    for c in rest.chars() {
-        if input.look_ch() != c || input.peek_opt() != Some(c) {
-            return false;
-        }
-        input.skip();
-    }
-    input.look_ch() == '\0' && input.peek_opt().is_none()
 }

@@ -6,8 +6,6 @@
 use saphyr_parser::{Event, Tag};
 use saphyr_scalar::ScalarStyle;
 use std::alloc::{AllocError, Global};
-use std::process::Abort;
-use std::test::Fail;
 use test_forest_events::forest_events;
 use test_forest_events::tree::{Directive, Document, Handle, Node, Properties, WrittenTag};
 
@@ -78,8 +76,8 @@ fn scalar(
     style: ScalarStyle,
     text: &str,
 ) -> Result<Node, AllocError> {
-    let properties = properties(alloc, property)?;
-    Ok(Node::Scalar(properties, style, String::from_str(alloc, text)?))
+    let text = String::from_str(alloc, text)?;
+    Ok(Node::Scalar(properties(alloc, property)?, style, text))
 }
 
 fn node(alloc: Global, leaf: Leaf) -> Result<Node, AllocError> {
@@ -99,7 +97,13 @@ fn sequence(alloc: Global, leaves: &[Leaf]) -> Result<Node, AllocError> {
 
 fn pair(alloc: Global, key: Leaf, leaves: &[Leaf]) -> Result<(Node, Node), AllocError> {
     let key = node(alloc, key)?;
-    Ok((key, sequence(alloc, leaves)?))
+    match sequence(alloc, leaves) {
+        Ok(value) => Ok((key, value)),
+        Err(fault) => {
+            drop(key);
+            Err(fault)
+        }
+    }
 }
 
 fn mapping(alloc: Global, key: Leaf, leaves: &[Leaf]) -> Result<Node, AllocError> {
@@ -149,7 +153,9 @@ fn forest(alloc: Global, entries: &[Entry]) -> Result<Vec<Document>, AllocError>
 // The events of a forest as they print, `None` where it has none.
 fn printed(alloc: Global, forest: &[Document], keep: bool) -> Result<String, AllocError> {
     let events = forest_events(alloc, forest, keep)?;
-    format!(in alloc; "{events:?}")
+    let text = format!(in alloc; "{events:?}");
+    drop(events);
+    text
 }
 
 // The same of the forest of a table.
@@ -158,17 +164,10 @@ fn told(alloc: Global, entries: &[Entry], keep: bool) -> Result<String, AllocErr
     printed(alloc, forest.as_slice(), keep)
 }
 
-// The forest of a table has these events, where prefixes are kept for later documents or aren't.
-fn expect(
-    rt: &impl Abort,
-    alloc: Global,
-    entries: &[Entry],
-    keep: bool,
-    events: &str,
-) -> Result<(), AllocError> {
+// Whether the forest of a table has these events, where prefixes are kept for later documents or aren't.
+fn tells(alloc: Global, entries: &[Entry], keep: bool, events: &str) -> Result<bool, AllocError> {
     let text = told(alloc, entries, keep)?;
-    assert_eq!(rt; text.as_str(), events);
-    Ok(())
+    Ok(text.as_str() == events)
 }
 
 const PLAIN: ScalarStyle = ScalarStyle::Plain;
@@ -186,12 +185,11 @@ const PAIR: &[Entry] = &[Entry {
 }];
 
 #[test]
-fn tells_nodes_in_preorder(rt: HostRuntime) -> Result<(), Fail> {
+fn tells_nodes_in_preorder(rt: HostRuntime) {
     let events = "Some([StreamStart, DocumentStart(false), MappingStart(0, None), \
         Scalar(\"a\", DoubleQuoted, 0, None), SequenceStart(0, None), Scalar(\"1\", Plain, 0, None), \
         Scalar(\"true\", Plain, 0, None), SequenceEnd, MappingEnd, DocumentEnd, StreamEnd])";
-    expect(&rt, rt.alloc(), PAIR, false, events)?;
-    Ok(())
+    assert!(rt; tells(rt.alloc(), PAIR, false, events) == Ok(true));
 }
 
 const REPEATED_ANCHOR: &[Entry] = &[Entry {
@@ -219,13 +217,12 @@ const ALIAS_OF_ANOTHER_DOCUMENT: &[Entry] = &[
 ];
 
 #[test]
-fn aliases_have_the_latest_anchor(rt: HostRuntime) -> Result<(), Fail> {
+fn aliases_have_the_latest_anchor(rt: HostRuntime) {
     let events = "Some([StreamStart, DocumentStart(false), SequenceStart(0, None), \
         Scalar(\"x\", Plain, 1, None), Alias(1), Scalar(\"y\", Plain, 2, None), Alias(2), \
         SequenceEnd, DocumentEnd, StreamEnd])";
-    expect(&rt, rt.alloc(), REPEATED_ANCHOR, false, events)?;
-    expect(&rt, rt.alloc(), ALIAS_OF_ANOTHER_DOCUMENT, false, "None")?;
-    Ok(())
+    assert!(rt; tells(rt.alloc(), REPEATED_ANCHOR, false, events) == Ok(true));
+    assert!(rt; tells(rt.alloc(), ALIAS_OF_ANOTHER_DOCUMENT, false, "None") == Ok(true));
 }
 
 const PRIMARY_HANDLE: &[Entry] = &[Entry {
@@ -235,11 +232,10 @@ const PRIMARY_HANDLE: &[Entry] = &[Entry {
 }];
 
 #[test]
-fn primary_handles_stand_for_themselves(rt: HostRuntime) -> Result<(), Fail> {
+fn primary_handles_stand_for_themselves(rt: HostRuntime) {
     let events = "Some([StreamStart, DocumentStart(false), \
         Scalar(\"x\", Plain, 0, Some(Tag { handle: \"!\", suffix: \"\u{e9}\" })), DocumentEnd, StreamEnd])";
-    expect(&rt, rt.alloc(), PRIMARY_HANDLE, false, events)?;
-    Ok(())
+    assert!(rt; tells(rt.alloc(), PRIMARY_HANDLE, false, events) == Ok(true));
 }
 
 const HANDLE_OF_THE_FIRST_DOCUMENT: &[Entry] = &[
@@ -256,15 +252,14 @@ const HANDLE_OF_THE_FIRST_DOCUMENT: &[Entry] = &[
 ];
 
 #[test]
-fn prefixes_hold_for_later_documents_where_kept(rt: HostRuntime) -> Result<(), Fail> {
+fn prefixes_hold_for_later_documents_where_kept(rt: HostRuntime) {
     let events = "Some([StreamStart, DocumentStart(true), \
         Scalar(\"a\", Plain, 0, Some(Tag { handle: \"tag:example.com,2011:\", suffix: \"A\" })), \
         DocumentEnd, DocumentStart(true), \
         Scalar(\"c\", Plain, 0, Some(Tag { handle: \"tag:example.com,2011:\", suffix: \"B\" })), \
         DocumentEnd, StreamEnd])";
-    expect(&rt, rt.alloc(), HANDLE_OF_THE_FIRST_DOCUMENT, false, "None")?;
-    expect(&rt, rt.alloc(), HANDLE_OF_THE_FIRST_DOCUMENT, true, events)?;
-    Ok(())
+    assert!(rt; tells(rt.alloc(), HANDLE_OF_THE_FIRST_DOCUMENT, false, "None") == Ok(true));
+    assert!(rt; tells(rt.alloc(), HANDLE_OF_THE_FIRST_DOCUMENT, true, events) == Ok(true));
 }
 
 fn resolved_tag(alloc: Global, handle: &str, suffix: &str) -> Result<Tag, AllocError> {
@@ -275,19 +270,17 @@ fn resolved_tag(alloc: Global, handle: &str, suffix: &str) -> Result<Tag, AllocE
     })
 }
 
-// A tag prints this, and is of YAML's core schema or isn't.
-fn expect_tag(
-    rt: &impl Abort,
-    alloc: Global,
-    (handle, suffix): (&str, &str),
-    text: &str,
-    is_core: bool,
-) -> Result<(), AllocError> {
+fn is_core(alloc: Global, (handle, suffix): (&str, &str)) -> Result<bool, AllocError> {
     let tag = resolved_tag(alloc, handle, suffix)?;
-    assert_eq!(rt; tag.is_yaml_core_schema(), is_core);
+    let is_core = tag.is_yaml_core_schema();
+    drop(tag);
+    Ok(is_core)
+}
+
+fn prints(alloc: Global, (handle, suffix): (&str, &str), text: &str) -> Result<bool, AllocError> {
+    let tag = resolved_tag(alloc, handle, suffix)?;
     let printed = tag.to_string(alloc)?;
-    assert_eq!(rt; printed.as_str(), text);
-    Ok(())
+    Ok(printed.as_str() == text)
 }
 
 fn is_less(
@@ -301,7 +294,9 @@ fn is_less(
 
 fn has_copy(event: &Event<'_>) -> Result<bool, AllocError> {
     let copy = event.try_clone()?;
-    Ok(copy == *event)
+    let is_same = copy == *event;
+    drop(copy);
+    Ok(is_same)
 }
 
 const LOCAL: (&str, &str) = ("!", "foo");
@@ -309,18 +304,23 @@ const LOCAL: (&str, &str) = ("!", "foo");
 const CORE: (&str, &str) = ("tag:yaml.org,2002:", "str");
 
 #[test]
-fn prints_tags(rt: HostRuntime) -> Result<(), Fail> {
+fn prints_tags(rt: HostRuntime) {
     let alloc = rt.alloc();
-    expect_tag(&rt, alloc, LOCAL, "!foo", false)?;
-    expect_tag(&rt, alloc, CORE, "tag:yaml.org,2002:!str", true)?;
-    assert!(rt; is_less(alloc, LOCAL, CORE)?);
-    Ok(())
+    assert!(rt; prints(alloc, LOCAL, "!foo") == Ok(true));
+    assert!(rt; is_core(alloc, LOCAL) == Ok(false));
+    assert!(rt; prints(alloc, CORE, "tag:yaml.org,2002:!str") == Ok(true));
+    assert!(rt; is_core(alloc, CORE) == Ok(true));
+    assert!(rt; is_less(alloc, LOCAL, CORE) == Ok(true));
+}
+
+fn tagged_event_has_copy(alloc: Global) -> Result<bool, AllocError> {
+    let event = Event::SequenceStart(1, Some(resolved_tag(alloc, CORE.0, CORE.1)?));
+    let has_copy = has_copy(&event);
+    drop(event);
+    has_copy
 }
 
 #[test]
-fn events_have_copies(rt: HostRuntime) -> Result<(), Fail> {
-    let tag = resolved_tag(rt.alloc(), CORE.0, CORE.1)?;
-    let event = Event::SequenceStart(1, Some(tag));
-    assert!(rt; has_copy(&event)?);
-    Ok(())
+fn events_have_copies(rt: HostRuntime) {
+    assert!(rt; tagged_event_has_copy(rt.alloc()) == Ok(true));
 }

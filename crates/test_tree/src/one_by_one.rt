@@ -2,8 +2,6 @@
 
 use saphyr_parser::{Parser, StrInput};
 use std::alloc::{AllocError, Global};
-use std::process::Abort;
-use std::test::Fail;
 use yaml_tree::{Limits, TreeFault, load_document};
 
 const WIDE: Limits = Limits { nodes: 9, depth: 9 };
@@ -15,38 +13,52 @@ fn next_answer(
     limits: Limits,
 ) -> Result<String, AllocError> {
     match load_document(alloc, parser, limits) {
-        Ok(document) => format!(in alloc; "{document:?}"),
-        Err(fault) => format!(in alloc; "{fault}"),
+        Ok(document) => {
+            let text = format!(in alloc; "{document:?}");
+            drop(document);
+            text
+        }
+        Err(fault) => {
+            let text = format!(in alloc; "{fault}");
+            drop(fault);
+            text
+        }
     }
 }
 
-fn expect_answers(
-    rt: &impl Abort,
+// Whether that is this.
+fn is_next_answer(
     alloc: Global,
     parser: &mut Parser<'_, StrInput<'_>>,
     limits: Limits,
-    answers: &[&str],
-) -> Result<(), AllocError> {
-    for wanted in answers {
-        let answer = next_answer(alloc, parser, limits)?;
-        assert_eq!(rt; answer.as_str(), *wanted);
-    }
-    Ok(())
+    wanted: &str,
+) -> Result<bool, AllocError> {
+    let answer = next_answer(alloc, parser, limits)?;
+    Ok(answer.as_str() == wanted)
 }
 
-// Behind so many events of a text, calls within these limits answer what is printed so.
-fn expect(
-    rt: &impl Abort,
+// Whether calls, behind so many events of a text and within these limits, answer what is printed so.
+fn are_answers(
     alloc: Global,
     (text, events): (&str, usize),
     limits: Limits,
-    answers: &[&str],
-) -> Result<(), AllocError> {
+    wanted: &[&str],
+) -> Result<bool, AllocError> {
     let mut parser = Parser::new_from_str(alloc, text);
-    for _ in 0..events {
-        let _event = parser.next_event();
+    pass(&mut parser, events);
+    for answer in wanted {
+        if !is_next_answer(alloc, &mut parser, limits, answer)? {
+            return Ok(false);
+        }
     }
-    expect_answers(rt, alloc, &mut parser, limits, answers)
+    Ok(true)
+}
+
+// Takes so many events.
+fn pass(parser: &mut Parser<'_, StrInput<'_>>, events: usize) {
+    for _ in 0..events {
+        drop(parser.next_event());
+    }
 }
 
 const A: &str = "Some(Document { explicit: false, root: Scalar(\"a\", Plain, 0, None) })";
@@ -59,61 +71,43 @@ const EMPTY: &str = "Some(Document { explicit: true, root: Scalar(\"\", Plain, 0
 const LATE: &str = "the parser has handed out events";
 
 #[test]
-fn streams_of_few_documents(rt: HostRuntime) -> Result<(), Fail> {
-    let alloc = rt.alloc();
-    expect(&rt, alloc, ("", 0), WIDE, &["None", "None"])?;
-    expect(&rt, alloc, ("a", 0), WIDE, &[A, "None", "None"])?;
-    expect(
-        &rt,
-        alloc,
-        ("a\n--- [b]\n---\n", 0),
-        WIDE,
-        &[A, B, EMPTY, "None", "None"],
-    )?;
-    Ok(())
+fn streams_of_few_documents(rt: HostRuntime) {
+    let three = "a\n--- [b]\n---\n";
+    assert!(rt; are_answers(rt.alloc(), ("", 0), WIDE, &["None", "None"]) == Ok(true));
+    assert!(rt; are_answers(rt.alloc(), ("a", 0), WIDE, &[A, "None", "None"]) == Ok(true));
+    assert!(rt;
+        are_answers(rt.alloc(), (three, 0), WIDE, &[A, B, EMPTY, "None", "None"]) == Ok(true)
+    );
 }
 
 #[test]
-fn a_fault_comes_behind_the_documents_before_it(rt: HostRuntime) -> Result<(), Fail> {
+fn a_fault_comes_behind_the_documents_before_it(rt: HostRuntime) {
     let fault = "mapping values are not allowed in this context at byte 16 line 4 column 4";
     let text = "a\n---\nscalar\nkey: v\n";
-    expect(&rt, rt.alloc(), (text, 0), WIDE, &[A, fault, "None"])?;
-    Ok(())
+    assert!(rt; are_answers(rt.alloc(), (text, 0), WIDE, &[A, fault, "None"]) == Ok(true));
 }
 
 #[test]
-fn parsers_between_documents_and_inside(rt: HostRuntime) -> Result<(), Fail> {
+fn parsers_between_documents_and_inside(rt: HostRuntime) {
     for (events, answers) in [
         (1, [A, B]),
         (2, [LATE, LATE]),
         (3, [LATE, LATE]),
         (4, [B, "None"]),
     ] {
-        expect(&rt, rt.alloc(), ("a\n--- [b]\n", events), WIDE, &answers)?;
+        assert!(rt; are_answers(rt.alloc(), ("a\n--- [b]\n", events), WIDE, &answers) == Ok(true));
     }
-    Ok(())
 }
 
 #[test]
-fn limits_are_on_each_document(rt: HostRuntime) -> Result<(), Fail> {
+fn limits_are_on_each_document(rt: HostRuntime) {
     let text = "--- [b]\n--- [b]\n--- [[]]\n";
+    let two = Limits { nodes: 2, depth: 1 };
     let deep = "more than 1 open collections at byte 21 line 3 column 6";
-    expect(
-        &rt,
-        rt.alloc(),
-        (text, 0),
-        Limits { nodes: 2, depth: 1 },
-        &[B, B, deep, LATE],
-    )?;
+    assert!(rt; are_answers(rt.alloc(), (text, 0), two, &[B, B, deep, LATE]) == Ok(true));
+    let one = Limits { nodes: 1, depth: 1 };
     let many = "more than 1 nodes at byte 5 line 1 column 6";
-    expect(
-        &rt,
-        rt.alloc(),
-        (text, 0),
-        Limits { nodes: 1, depth: 1 },
-        &[many, LATE],
-    )?;
-    Ok(())
+    assert!(rt; are_answers(rt.alloc(), (text, 0), one, &[many, LATE]) == Ok(true));
 }
 
 // How many documents of a text a `---` begins.
@@ -129,8 +123,7 @@ fn count_explicit(alloc: Global, text: &str, limits: Limits) -> Result<usize, Tr
 }
 
 #[test]
-fn a_loop_over_documents(rt: HostRuntime) -> Result<(), Fail> {
-    let count = count_explicit(rt.alloc(), "a\n--- [b]\n---\n", WIDE)?;
-    assert_eq!(rt; count, 2);
-    Ok(())
+fn a_loop_over_documents(rt: HostRuntime) {
+    let count = count_explicit(rt.alloc(), "a\n--- [b]\n---\n", WIDE).expect(&rt, "no fault");
+    assert!(rt; count == 2);
 }

@@ -1,10 +1,10 @@
 //! The events of documents, in the order in which a text has them (YAML 1.2.2, 3.1.1).
-ghost use Rattle.std.specs.Prelude.{◌≡◌, ◌++◌, IfOk, OnOk, map, option_map};
-ghost use Rattle.std.specs.List.{flat_map};
+ghost use Rattle.std.specs.Prelude.{◌≡◌, ◌++◌, [], ◌∷◌, IfOk, OnOk, map, option_map};
 ghost use Rattle.saphyr_parser.specs.Views.Events.{happening, resolved_tag};
-ghost use Rattle.yaml_tree.specs.Unloading.{document_events, node_events, pair_events, unload};
+ghost use Rattle.yaml_tree.specs.declared.node.Node.{Map, Scalar, Seq};
+ghost use Rattle.yaml_tree.specs.Unloading.{document_events, node_events, unload};
 
-use saphyr_parser::{Event, Tag};
+use saphyr_parser::{Event, ScalarStyle, Tag};
 use std::alloc::{AllocError, Global};
 use std::borrow::CowStr;
 use yaml_tree::{Document, Node};
@@ -14,11 +14,11 @@ pub fn events_of<'a>(alloc: Global, documents: &'a [Document]) -> Result<Vec<Eve
     ensures { IfOk result (λ events. map happening events.items ≡ unload documents.now) }
 {
     let mut events = Vec::new(alloc);
-    events.push(Event::StreamStart)?;
+    push(&mut events, Event::StreamStart)?;
     for document in documents {
         push_document(&mut events, document)?;
     }
-    events.push(Event::StreamEnd)?;
+    push(&mut events, Event::StreamEnd)?;
     Ok(events)
 }
 
@@ -26,10 +26,9 @@ fn push_document<'a>(events: &mut Vec<Event<'a>>, document: &'a Document) -> Res
     ensures { OnOk result (map happening events.new.items
         ≡ map happening events.old.items ++ document_events document.now) }
 {
-    events.push(Event::DocumentStart(document.explicit))?;
+    push(events, Event::DocumentStart(document.explicit))?;
     push_node(events, &document.root)?;
-    events.push(Event::DocumentEnd)?;
-    Ok(())
+    push(events, Event::DocumentEnd)
 }
 
 #[cycle(pushing)]
@@ -38,48 +37,68 @@ fn push_node<'a>(events: &mut Vec<Event<'a>>, node: &'a Node) -> Result<(), Allo
         ≡ map happening events.old.items ++ node_events node.now) }
 {
     match node {
-        Node::Alias(id) => events.push(Event::Alias(*id))?,
-        Node::Scalar(text, style, id, tag) => {
-            let text = CowStr::Borrowed(text.as_str());
-            events.push(Event::Scalar(text, *style, *id, copy_tag(tag)?))?;
-        }
-        Node::Seq(id, tag, nodes) => {
-            events.push(Event::SequenceStart(*id, copy_tag(tag)?))?;
-            push_nodes(events, nodes)?;
-            events.push(Event::SequenceEnd)?;
-        }
-        Node::Map(id, tag, pairs) => {
-            events.push(Event::MappingStart(*id, copy_tag(tag)?))?;
-            push_pairs(events, pairs)?;
-            events.push(Event::MappingEnd)?;
-        }
+        Node::Alias(id) => push(events, Event::Alias(*id)),
+        Node::Scalar(text, style, id, tag) => push_scalar(events, text, *style, *id, tag),
+        Node::Seq(id, tag, nodes) => push_sequence(events, *id, tag, nodes),
+        Node::Map(id, tag, pairs) => push_mapping(events, *id, tag, pairs),
     }
-    Ok(())
 }
 
 #[cycle(pushing)]
-fn push_nodes<'a>(events: &mut Vec<Event<'a>>, nodes: &'a Vec<Node>) -> Result<(), AllocError>
+fn push_sequence<'a>(
+    events: &mut Vec<Event<'a>>,
+    id: usize,
+    tag: &Option<Tag>,
+    nodes: &'a Vec<Node>,
+) -> Result<(), AllocError>
     ensures { OnOk result (map happening events.new.items
-        ≡ map happening events.old.items ++ flat_map node_events nodes.now.items) }
+        ≡ map happening events.old.items ++ node_events (Seq id tag.now nodes.now)) }
 {
+    push(events, Event::SequenceStart(id, copy_tag(tag)?))?;
     for node in nodes {
         push_node(events, node)?;
     }
-    Ok(())
+    push(events, Event::SequenceEnd)
 }
 
 #[cycle(pushing)]
-fn push_pairs<'a>(
+fn push_mapping<'a>(
     events: &mut Vec<Event<'a>>,
+    id: usize,
+    tag: &Option<Tag>,
     pairs: &'a Vec<(Node, Node)>,
 ) -> Result<(), AllocError>
     ensures { OnOk result (map happening events.new.items
-        ≡ map happening events.old.items ++ flat_map pair_events pairs.now.items) }
+        ≡ map happening events.old.items ++ node_events (Map id tag.now pairs.now)) }
 {
+    push(events, Event::MappingStart(id, copy_tag(tag)?))?;
     for (key, value) in pairs {
         push_node(events, key)?;
         push_node(events, value)?;
     }
+    push(events, Event::MappingEnd)
+}
+
+fn push_scalar<'a>(
+    events: &mut Vec<Event<'a>>,
+    text: &'a String,
+    style: ScalarStyle,
+    id: usize,
+    tag: &Option<Tag>,
+) -> Result<(), AllocError>
+    ensures { OnOk result (map happening events.new.items
+        ≡ map happening events.old.items ++ node_events (Scalar text.now style id tag.now)) }
+{
+    let text = CowStr::Borrowed(text.as_str());
+    push(events, Event::Scalar(text, style, id, copy_tag(tag)?))
+}
+
+// Where there is no memory the event is let go, and that is proved here once.
+fn push<'a>(events: &mut Vec<Event<'a>>, event: Event<'a>) -> Result<(), AllocError>
+    ensures { OnOk result (map happening events.new.items
+        ≡ map happening events.old.items ++ happening event.entry ∷ []) }
+{
+    events.push(event)?;
     Ok(())
 }
 

@@ -2,15 +2,14 @@
 
 use saphyr_parser::{Event, Parser, ScalarStyle};
 use std::alloc::{AllocError, Global};
-use std::test::Fail;
 use yaml_tree::{Document, Limits, Node, TreeFault, load_documents};
 
 const LIMITS: Limits = Limits {
-    nodes: 100,
-    depth: 10,
+    nodes: 200_000,
+    depth: 100_000,
 };
 
-fn load(alloc: Global, text: &str) -> Result<Vec<Document>, TreeFault> {
+pub(crate) fn load(alloc: Global, text: &str) -> Result<Vec<Document>, TreeFault> {
     let mut parser = Parser::new_from_str(alloc, text);
     load_documents(alloc, &mut parser, LIMITS)
 }
@@ -19,35 +18,61 @@ fn port_of(document: &Document) -> Option<&str> {
     document.root.get("server")?.get("port")?.as_str()
 }
 
-#[test]
-fn values_by_their_keys(rt: HostRuntime) -> Result<(), Fail> {
-    let text = "server:\n  ? [port]\n  : 1\n  port: 8080\n  'port': 9\n";
-    let documents = load(rt.alloc(), text)?;
-    let document = documents.first().ok_or("no document")?;
-    assert!(rt; port_of(document) == Some("8080"));
-    assert!(rt; document.root.get("port").is_none());
-    let server = document.root.get("server").ok_or("no server")?;
-    assert!(rt; server.is_mapping());
-    assert_eq!(rt; server.pairs().ok_or("no mapping")?.len(), 3);
-    assert!(rt; server.items().is_none());
-    Ok(())
+// How many pairs a document's server has, where it is a mapping and no sequence.
+fn pairs_of_server(document: &Document) -> Option<usize> {
+    let server = document.root.get("server")?;
+    if !server.is_mapping() || server.items().is_some() {
+        return None;
+    }
+    Some(server.pairs()?.len())
 }
 
 #[test]
-fn what_a_node_has(rt: HostRuntime) -> Result<(), Fail> {
-    let documents = load(rt.alloc(), "[&a !t 'x', *a, [], y]")?;
-    let root = &documents.first().ok_or("no document")?.root;
-    assert!(rt; root.is_sequence() && root.anchor().is_none() && root.tag().is_none());
-    let items = root.items().ok_or("no sequence")?;
-    let first: &Node = items.first().ok_or("no item")?;
-    assert!(rt; first.is_scalar() && first.style() == Some(ScalarStyle::SingleQuoted));
-    assert_eq!(rt; first.anchor(), Some(1));
-    let tag = first.tag().ok_or("no tag")?;
-    assert_eq!(rt; tag.suffix.as_str(), "t");
-    let second = items.get(1).ok_or("no alias")?;
-    assert!(rt; second.is_alias() && second.as_alias() == Some(1) && second.anchor().is_none());
-    assert!(rt; second.as_str().is_none() && first.as_alias().is_none());
-    Ok(())
+fn values_by_their_keys(rt: HostRuntime) {
+    let text = "server:\n  ? [port]\n  : 1\n  port: 8080\n  'port': 9\n";
+    let documents = load(rt.alloc(), text).expect(&rt, "documents");
+    let document = documents.first().expect(&rt, "a document");
+    assert!(rt; port_of(document) == Some("8080"));
+    assert!(rt; document.root.get("port").is_none());
+    assert!(rt; pairs_of_server(document) == Some(3));
+}
+
+fn is_bare_sequence(node: &Node) -> bool {
+    node.is_sequence() && node.anchor().is_none() && node.tag().is_none()
+}
+
+// Whether this is an alias of the anchor with this id, and nothing else.
+fn is_bare_alias(node: &Node, id: usize) -> bool {
+    node.is_alias()
+        && node.as_alias() == Some(id)
+        && node.anchor().is_none()
+        && node.as_str().is_none()
+}
+
+// Whether this is a scalar in single quotes, whose anchor has this id.
+fn is_anchored_scalar(node: &Node, id: usize) -> bool {
+    node.is_scalar()
+        && node.style() == Some(ScalarStyle::SingleQuoted)
+        && node.anchor() == Some(id)
+        && node.as_alias().is_none()
+}
+
+// The suffix of a node's tag.
+fn suffix_of(node: &Node) -> Option<&str> {
+    Some(node.tag()?.suffix.as_str())
+}
+
+#[test]
+fn what_a_node_has(rt: HostRuntime) {
+    let documents = load(rt.alloc(), "[&a !t 'x', *a, [], y]").expect(&rt, "documents");
+    let root = &documents.first().expect(&rt, "a document").root;
+    let items = root.items().expect(&rt, "a sequence");
+    let first = items.first().expect(&rt, "a scalar");
+    let second = items.get(1).expect(&rt, "an alias");
+    assert!(rt; is_bare_sequence(root));
+    assert!(rt; is_anchored_scalar(first, 1));
+    assert!(rt; suffix_of(first) == Some("t"));
+    assert!(rt; is_bare_alias(second, 1));
 }
 
 // The node that another stands for, where that is an alias.
@@ -62,39 +87,68 @@ fn followed<'a>(
     }
 }
 
-#[test]
-fn aliases_are_followed_by_whoever_wants(rt: HostRuntime) -> Result<(), Fail> {
-    let alloc = rt.alloc();
-    let documents = load(alloc, "[&a x, &b {k: &c [*a]}, *b, *a]")?;
-    let document = documents.first().ok_or("no document")?;
-    let items = document.root.items().ok_or("no sequence")?;
-    let third = items.get(2).ok_or("no alias")?;
-    let node = followed(alloc, document, third)?.ok_or("no node")?;
-    assert!(rt; node.is_mapping() && node.anchor() == Some(2));
-    let inner = document.node_of_anchor(alloc, 3)?.ok_or("no node")?;
-    assert!(rt; inner.is_sequence());
-    assert!(rt; document.node_of_anchor(alloc, 0)?.is_none());
-    assert!(rt; document.node_of_anchor(alloc, 4)?.is_none());
-    Ok(())
+// The anchor of the mapping that an item of a sequence stands for.
+fn mapping_behind(alloc: Global, document: &Document, index: usize) -> Option<usize> {
+    let item = document.root.items()?.get(index)?;
+    match followed(alloc, document, item) {
+        Ok(Some(node)) if node.is_mapping() => node.anchor(),
+        _ => None,
+    }
 }
 
-// The texts of the scalars of a stream, by a loop over its events.
-fn texts_of(alloc: Global, text: &str) -> Result<Vec<String>, TreeFault> {
-    let mut texts = Vec::new(alloc);
-    for item in Parser::new_from_str(alloc, text) {
-        let (event, _span) = item?;
-        if let Event::Scalar(text, _, _, _) = &event {
-            texts.push(String::from_str(alloc, text.as_str())?)?;
+// Whether the node with this anchor is a sequence, where there is one.
+fn is_sequence_at(
+    alloc: Global,
+    document: &Document,
+    id: usize,
+) -> Result<Option<bool>, AllocError> {
+    match document.node_of_anchor(alloc, id)? {
+        Some(node) => Ok(Some(node.is_sequence())),
+        None => Ok(None),
+    }
+}
+
+#[test]
+fn aliases_are_followed_by_whoever_wants(rt: HostRuntime) {
+    let alloc = rt.alloc();
+    let documents = load(alloc, "[&a x, &b {k: &c [*a]}, *b, *a]").expect(&rt, "documents");
+    let document = documents.first().expect(&rt, "a document");
+    assert!(rt; mapping_behind(alloc, document, 2) == Some(2));
+    for (id, is_sequence) in [(0, None), (3, Some(true)), (4, None)] {
+        assert!(rt; is_sequence_at(alloc, document, id) == Ok(is_sequence));
+    }
+}
+
+// How many scalars are among so many events of a text.
+fn count_scalars(alloc: Global, text: &str, events: usize) -> Result<usize, TreeFault> {
+    let mut parser = Parser::new_from_str(alloc, text);
+    let mut count = 0usize;
+    for _ in 0..events {
+        if let Some(item) = parser.next_event() {
+            let (event, _span) = item?;
+            let is_scalar = matches!(&event, Event::Scalar(..));
+            drop(event);
+            count = count.saturating_add(usize::from(is_scalar));
         }
     }
-    Ok(texts)
+    Ok(count)
+}
+
+// Whether the parser's fault comes through.
+fn ends_by_fault(alloc: Global, text: &str) -> bool {
+    match count_scalars(alloc, text, 9) {
+        Ok(_) => false,
+        Err(fault) => {
+            let is_parsers = matches!(&fault, TreeFault::Parse(_));
+            drop(fault);
+            is_parsers
+        }
+    }
 }
 
 #[test]
-fn faults_by_the_question_mark(rt: HostRuntime) -> Result<(), Fail> {
-    let texts = texts_of(rt.alloc(), "[a, b]")?;
-    assert_eq!(rt; texts.len(), 2);
-    let fault = texts_of(rt.alloc(), "[a").err().ok_or("no fault")?;
-    assert!(rt; matches!(fault, TreeFault::Parse(_)));
-    Ok(())
+fn faults_by_the_question_mark(rt: HostRuntime) {
+    let counted = count_scalars(rt.alloc(), "[a, b]", 9).expect(&rt, "no fault");
+    assert!(rt; counted == 2);
+    assert!(rt; ends_by_fault(rt.alloc(), "[a"));
 }

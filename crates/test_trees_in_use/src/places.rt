@@ -1,93 +1,111 @@
 //! Where nodes stand in their text.
 
-use saphyr_parser::{Marker, Parser};
+use saphyr_parser::{Marker, Parser, Span};
 use std::alloc::{AllocError, Global};
-use std::test::Fail;
-use yaml_tree::{Limits, SpannedDocuments, TreeFault, Walk, load_documents_with_spans};
+use yaml_tree::{Limits, Node, SpannedDocuments, TreeFault, Walk, load_documents_with_spans};
 
-fn load(alloc: Global, text: &str, limits: Limits) -> Result<SpannedDocuments, TreeFault> {
+pub(crate) fn load(
+    alloc: Global,
+    text: &str,
+    limits: Limits,
+) -> Result<SpannedDocuments, TreeFault> {
     let mut parser = Parser::new_from_str(alloc, text);
     load_documents_with_spans(alloc, &mut parser, limits)
 }
 
-const LIMITS: Limits = Limits {
+pub(crate) const LIMITS: Limits = Limits {
     nodes: 100,
     depth: 10,
 };
+
+// Where the first alias of a tree stands.
+fn alias_of(alloc: Global, root: &Node, spans: &[Span]) -> Result<Option<Marker>, AllocError> {
+    for visit in Walk::new(alloc, root, spans) {
+        let visit = visit?;
+        if visit.node.is_alias() {
+            return Ok(Some(visit.span.start));
+        }
+    }
+    Ok(None)
+}
 
 // Where the first alias of a text stands.
 fn first_alias(alloc: Global, text: &str) -> Result<Option<Marker>, TreeFault> {
     let loaded = load(alloc, text, LIMITS)?;
     for (document, spans) in loaded.documents.iter().zip(loaded.spans.iter()) {
-        for visit in Walk::new(alloc, &document.root, spans.nodes.as_slice()) {
-            let visit = visit?;
-            if visit.node.is_alias() {
-                return Ok(Some(visit.span.start));
-            }
+        if let Some(place) = alias_of(alloc, &document.root, spans.nodes.as_slice())? {
+            return Ok(Some(place));
         }
     }
     Ok(None)
 }
 
 #[test]
-fn nodes_by_their_places(rt: HostRuntime) -> Result<(), Fail> {
-    let alloc = rt.alloc();
-    let place = first_alias(alloc, "- &a x\n---\nk: [&a y, *a]\n")?.ok_or("no alias")?;
-    assert!(rt; place == Marker::new(21, 3, 10));
-    assert!(rt; first_alias(alloc, "a")?.is_none());
-    Ok(())
+fn nodes_by_their_places(rt: HostRuntime) {
+    let place = first_alias(rt.alloc(), "- &a x\n---\nk: [&a y, *a]\n").expect(&rt, "no fault");
+    assert!(rt; place == Some(Marker::new(21, 3, 10)));
+    let place = first_alias(rt.alloc(), "a").expect(&rt, "no fault");
+    assert!(rt; place.is_none());
 }
 
-// One line for each node of a text's first document: its depth, and where its event starts and ends.
-fn lines_of(alloc: Global, text: &str) -> Result<String, TreeFault> {
-    let loaded = load(alloc, text, LIMITS)?;
-    let mut lines = String::new(alloc);
-    if let (Some(document), Some(spans)) = (loaded.documents.first(), loaded.spans.first()) {
-        for visit in Walk::new(alloc, &document.root, spans.nodes.as_slice()) {
-            let visit = visit?;
-            let depth = visit.depth;
-            let start = visit.span.start.index;
-            let end = visit.span.end.index;
-            let line = format!(in alloc; "{depth} {start}..{end}\n")?;
-            lines.push_str(line.as_str())?;
+// The root of the first document, and the spans of its nodes.
+pub(crate) fn first_of(loaded: &SpannedDocuments) -> Option<(&Node, &[Span])> {
+    let document = loaded.documents.first()?;
+    Some((&document.root, loaded.spans.first()?.nodes.as_slice()))
+}
+
+// Whether a walk through a tree visits nodes at these depths, whose events start and end here.
+fn makes_visits(
+    alloc: Global,
+    root: &Node,
+    spans: &[Span],
+    wanted: &[(usize, usize, usize)],
+) -> Result<bool, AllocError> {
+    let mut left = wanted.iter();
+    for visit in Walk::new(alloc, root, spans) {
+        let visit = visit?;
+        let place = (visit.depth, visit.span.start.index, visit.span.end.index);
+        if left.next() != Some(&place) {
+            return Ok(false);
         }
     }
-    Ok(lines)
+    Ok(left.next().is_none())
 }
 
 #[test]
-fn each_node_has_the_span_of_its_event(rt: HostRuntime) -> Result<(), Fail> {
-    let lines = lines_of(rt.alloc(), "{a: [b, {}], ? [] : c}")?;
-    let expected = "0 0..1\n1 1..2\n1 4..5\n2 5..6\n2 8..9\n1 15..16\n1 20..21\n";
-    assert_eq!(rt; lines.as_str(), expected);
-    Ok(())
+fn each_node_has_the_span_of_its_event(rt: HostRuntime) {
+    let loaded = load(rt.alloc(), "{a: [b, {}], ? [] : c}", LIMITS).expect(&rt, "documents");
+    let (root, spans) = first_of(&loaded).expect(&rt, "a document");
+    let wanted = [
+        (0, 0, 1),
+        (1, 1, 2),
+        (1, 4, 5),
+        (2, 5, 6),
+        (2, 8, 9),
+        (1, 15, 16),
+        (1, 20, 21),
+    ];
+    assert!(rt; makes_visits(rt.alloc(), root, spans, &wanted) == Ok(true));
 }
 
-// As many times this text.
-fn repeated(alloc: Global, part: &str, count: usize) -> Result<String, AllocError> {
-    let mut text = String::new(alloc);
-    for _ in 0..count {
-        text.push_str(part)?;
+// How deep the last node of a tree stands.
+fn last_depth(alloc: Global, root: &Node, spans: &[Span]) -> Result<usize, AllocError> {
+    let mut depth = 0;
+    for visit in Walk::new(alloc, root, spans) {
+        depth = visit?.depth;
     }
-    Ok(text)
+    Ok(depth)
 }
 
 #[test]
-fn deep_trees(rt: HostRuntime) -> Result<(), Fail> {
-    let alloc = rt.alloc();
-    let text = repeated(alloc, "- ", 100_000)?;
+fn deep_trees(rt: HostRuntime) {
+    let text = "- ".repeat(rt.alloc(), 100_000).expect(&rt, "a text");
     let limits = Limits {
         nodes: 100_001,
         depth: 100_000,
     };
-    let loaded = load(alloc, text.as_str(), limits)?;
-    let document = loaded.documents.first().ok_or("no document")?;
-    let spans = loaded.spans.first().ok_or("no spans")?;
-    assert_eq!(rt; spans.nodes.len(), 200_001);
-    let mut deepest = 0;
-    for visit in Walk::new(alloc, &document.root, spans.nodes.as_slice()) {
-        deepest = visit?.depth;
-    }
-    assert_eq!(rt; deepest, 100_000);
-    Ok(())
+    let loaded = load(rt.alloc(), text.as_str(), limits).expect(&rt, "documents");
+    let (root, spans) = first_of(&loaded).expect(&rt, "a document");
+    assert!(rt; spans.len() == 200_001);
+    assert!(rt; last_depth(rt.alloc(), root, spans) == Ok(100_000));
 }

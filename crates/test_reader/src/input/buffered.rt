@@ -1,37 +1,15 @@
 //! Iterators as inputs: up to the first `None`, up to the limit, and cloned in mid-text.
 
-ghost use Rattle.std.specs.Prelude.{◌≡◌, ◌+◌, ◌<◌, ◌≤◌, ◌==◌, None, Some, [], ◌∷◌, take, if◌then◌else◌, IfOk};
-ghost use Rattle.std.specs.Str.{chars};
+ghost use Rattle.std.specs.Prelude.{◌≡◌, ◌+◌, ◌<◌, ◌≤◌, ◌==◌, None, Some, if◌then◌else◌};
 
-use crate::helpers::{expect, remains};
+use crate::helpers::expect;
+use crate::input::steps::{Step, characters_of, iter_follows};
 use saphyr_input::BufferedInput;
 use saphyr_input::input::Input;
 use saphyr_input::law::lists_characters;
 use std::alloc::{AllocError, Global};
 use std::cell::Cell;
 use std::str::Chars;
-
-fn characters_of<'a>(alloc: Global, text: &'a str) -> Result<BufferedInput<Chars<'a>>, AllocError>
-    ensures rest { IfOk result (λ input. ⟦<BufferedInput<Chars<'a>> as Input>⟧.rest input
-        ≡ take 4294967296 (chars text.now)) }
-    ensures loaded { IfOk result (λ input. ⟦<BufferedInput<Chars<'a>> as Input>⟧.loaded input ≡ 0) }
-{
-    let iter = text.chars();
-    lists_characters(&iter);
-    BufferedInput::new(alloc, iter)
-}
-
-fn first_characters_of<'a>(
-    alloc: Global,
-    text: &'a str,
-    limit: u64,
-) -> Result<BufferedInput<Chars<'a>>, AllocError>
-    requires { limit ≤ 4294967296 }
-{
-    let iter = text.chars();
-    lists_characters(&iter);
-    BufferedInput::with_limit(alloc, iter, limit)
-}
 
 // Gives `a`, then `None`, then `b`, and counts the calls.
 #[derive(Drop)]
@@ -60,116 +38,98 @@ impl Iterator for Stutter<'_> {
     }
 }
 
-fn stuttering<'a>(
-    alloc: Global,
-    calls: &'a Cell<u8>,
-) -> Result<BufferedInput<Stutter<'a>>, AllocError>
-    ensures { IfOk result (λ input. ⟦<BufferedInput<Stutter<'a>> as Input>⟧.rest input ≡ 97 ∷ []) }
-{
+type StutterInput<'a> = BufferedInput<Stutter<'a>>;
+
+fn stuttering<'a>(alloc: Global, calls: &'a Cell<u8>) -> Result<StutterInput<'a>, AllocError> {
     BufferedInput::new(alloc, Stutter { place: 0, calls })
 }
 
-// Whether just its own characters remain of the input over a text.
-fn remains_whole(alloc: Global, text: &str) -> bool {
-    match characters_of(alloc, text) {
-        Ok(input) => remains(input, text),
-        Err(_) => false,
-    }
-}
-
-#[test]
-fn reads_a_long_text(rt: HostRuntime) {
-    let text = "né: a text of more than sixteen characters\n- and 日本\0!";
-    expect(&rt, remains_whole(rt.alloc(), text), text);
-}
-
-#[test]
-fn looks_ahead_and_past_the_end(rt: HostRuntime) -> Result<(), AllocError> {
-    let text = "abé\ncd";
-    let mut input = characters_of(rt.alloc(), text)?;
-    expect(&rt, input.raw_read_ch() == 'a', text);
-    expect(&rt, input.raw_read_ch() == 'b', text);
-    expect(&rt, input.raw_read_non_breakz_ch() == Some('é'), text);
-    input.lookahead(5);
-    expect(&rt, input.buflen() == 5, text);
-    expect(&rt, input.peek() == '\n', text);
-    expect(&rt, input.peek_nth(2) == 'd', text);
-    expect(&rt, input.peek_nth(3) == '\0', text);
-    input.skip_n(2);
-    expect(&rt, input.peek_opt() == Some('d'), text);
-    input.skip_n(3);
-    expect(&rt, input.look_ch() == '\0', text);
-    Ok(())
-}
-
-// What a reading up to a break takes off a text, and what comes next.
-fn read_and_next(alloc: Global, text: &str) -> Result<(Option<char>, Option<char>), AllocError> {
-    let mut input = characters_of(alloc, text)?;
-    let read = input.raw_read_non_breakz_ch();
-    input.lookahead(1);
-    Ok((read, input.peek_opt()))
-}
-
-#[test]
-fn keeps_a_break(rt: HostRuntime) -> Result<(), AllocError> {
-    const ROWS: &[(&str, Option<char>)] = &[
-        ("\n-", Some('\n')),
-        ("\0-", Some('\0')),
-        ("\u{FEFF}-", Some('\u{FEFF}')),
-        ("", None),
-    ];
-    for &(text, kept) in ROWS {
-        let (read, next) = read_and_next(rt.alloc(), text)?;
-        expect(&rt, read.is_none() && next == kept, text);
-    }
-    Ok(())
-}
-
-#[test]
-fn stops_at_the_first_none(rt: HostRuntime) -> Result<(), AllocError> {
-    let calls = Cell::new(0);
-    let mut input = stuttering(rt.alloc(), &calls)?;
-    expect(&rt, input.look_ch() == 'a', "a");
-    expect(&rt, calls.get() == 1, "one call");
+// Takes the next character off. Whether it is this.
+fn gives(input: &mut StutterInput<'_>, c: char) -> bool {
+    let next = input.look_ch();
     input.skip();
-    for _ in 0..3 {
-        expect(&rt, input.look_ch() == '\0', "behind a");
-        input.skip();
+    next == c
+}
+
+// Whether the input gives `a` and then nothing, where the iterator is asked twice.
+fn stops(mut input: StutterInput<'_>, calls: &Cell<u8>) -> bool {
+    for (c, count) in [('a', 1), ('\0', 2), ('\0', 2), ('\0', 2)] {
+        if !gives(&mut input, c) || calls.get() != count {
+            return false;
+        }
     }
-    expect(&rt, calls.get() == 2, "no call after the first None");
-    Ok(())
+    true
 }
 
-// Whether as much is loaded of a copy as of its input, and these characters remain of both.
-fn are_alike<T: Input + Drop>(copy: T, input: T, rest: &str) -> bool {
-    let is_loaded = copy.buflen() == input.buflen();
-    let copy_remains = remains(copy, rest);
-    let input_remains = remains(input, rest);
-    is_loaded && copy_remains && input_remains
-}
-
-fn is_copied(input: BufferedInput<Chars<'_>>, rest: &str) -> bool {
-    match input.clone() {
-        Ok(copy) => are_alike(copy, input, rest),
+fn is_stopped(alloc: Global, calls: &Cell<u8>) -> bool {
+    match stuttering(alloc, calls) {
+        Ok(input) => stops(input, calls),
         Err(_) => false,
     }
 }
 
 #[test]
-fn clones_in_mid_text(rt: HostRuntime) -> Result<(), AllocError> {
-    let mut input = characters_of(rt.alloc(), "one two three four five")?;
+fn stops_at_the_first_none(rt: HostRuntime) {
+    expect(&rt, is_stopped(rt.alloc(), &Cell::new(0)), "a");
+}
+
+fn first_characters_of<'a>(
+    alloc: Global,
+    text: &'a str,
+    limit: u64,
+) -> Result<BufferedInput<Chars<'a>>, AllocError>
+    requires { limit ≤ 4294967296 }
+{
+    let iter = text.chars();
+    lists_characters(&iter);
+    BufferedInput::with_limit(alloc, iter, limit)
+}
+
+// Whether a text within a limit answers these steps.
+fn is_within(alloc: Global, text: &str, limit: u64, steps: &[Step]) -> bool
+    requires { limit ≤ 4294967296 }
+{
+    match first_characters_of(alloc, text, limit) {
+        Ok(input) => iter_follows(alloc, input, steps),
+        Err(_) => false,
+    }
+}
+
+#[test]
+fn stops_at_the_limit(rt: HostRuntime) {
+    const STEPS: &[Step] = &[Step::Load(4), Step::PeekNth(2, 'c'), Step::PeekNth(3, '\0')];
+    expect(&rt, is_within(rt.alloc(), "abcdef", 3, STEPS), "abcdef");
+}
+
+// A copy of an input of which six places are loaded and four are taken off, and the input.
+fn copy_behind<'a>(
+    input: &mut BufferedInput<Chars<'a>>,
+) -> Result<BufferedInput<Chars<'a>>, AllocError> {
     input.lookahead(6);
     input.skip_n(4);
-    let rest = "two three four five";
-    expect(&rt, is_copied(input, rest), rest);
-    Ok(())
+    input.clone()
+}
+
+// Whether a copy and its input answer these steps, with as much loaded.
+fn is_copied(alloc: Global, mut input: BufferedInput<Chars<'_>>, steps: &[Step]) -> bool {
+    match copy_behind(&mut input) {
+        Ok(copy) => {
+            copy.buflen() == input.buflen()
+                && iter_follows(alloc, copy, steps)
+                && iter_follows(alloc, input, steps)
+        }
+        Err(_) => false,
+    }
 }
 
 #[test]
-fn stops_at_the_limit(rt: HostRuntime) -> Result<(), AllocError> {
-    let mut input = first_characters_of(rt.alloc(), "abcdef", 3)?;
-    input.lookahead(4);
-    expect(&rt, input.peek_nth(2) == 'c', "abc");
-    expect(&rt, input.peek_nth(3) == '\0', "abc");
-    Ok(())
+fn clones_in_mid_text(rt: HostRuntime) {
+    const STEPS: &[Step] = &[Step::Rest("two three four five")];
+    let alloc = rt.alloc();
+    let text = "one two three four five";
+    let holds = match characters_of(alloc, text) {
+        Ok(input) => is_copied(alloc, input, STEPS),
+        Err(_) => false,
+    };
+    expect(&rt, holds, text);
 }

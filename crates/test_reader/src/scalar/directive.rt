@@ -2,68 +2,64 @@
 
 use crate::told::{Row, expect_told};
 
-#[test]
-fn reads_versions(rt: HostRuntime) {
-    const ROWS: &[Row] = &[
-        (0, "%YAML 1.2\n---", "YAML 1.2 @ 9,1,9 > 10,2,0 blank"),
-        (0, "%YAML 1.2", "YAML 1.2 @ 9,1,9 > 9,1,9"),
-        (
-            0,
-            "%YAML \t10.03 # c\r\n#",
-            "YAML 10.3 @ 12,1,12 > 18,2,0 blank",
-        ),
-        (
-            0,
-            "%YAML 123456789.999999999 \t\r---",
-            "YAML 123456789.999999999 @ 25,1,25 > 28,2,0 blank",
-        ),
-        (0, "%YAML 1.2\0\n", "YAML 1.2 @ 9,1,9 > 9,1,9"),
-    ];
-    expect_told(&rt, rt.alloc(), false, ROWS);
-}
+const VERSIONS: &[Row] = &[
+    (0, "%YAML 1.2\n---", "YAML 1.2 @ 9,1,9 > 10,2,0 blank"),
+    (0, "%YAML 1.2", "YAML 1.2 @ 9,1,9 > 9,1,9"),
+    (
+        0,
+        "%YAML \t10.03 # c\r\n#",
+        "YAML 10.3 @ 12,1,12 > 18,2,0 blank",
+    ),
+    (
+        0,
+        "%YAML 123456789.999999999 \t\r---",
+        "YAML 123456789.999999999 @ 25,1,25 > 28,2,0 blank",
+    ),
+    (0, "%YAML 1.2\0\n", "YAML 1.2 @ 9,1,9 > 9,1,9"),
+];
+
+const TAG_PREFIXES: &[Row] = &[
+    (
+        0,
+        "%TAG !prefix! tag:example.com,2011:\n--- !prefix!A",
+        "TAG !prefix! tag:example.com,2011: @ 35,1,35 > 36,2,0 blank",
+    ),
+    (
+        0,
+        "%TAG ! tag:x,2000:\n",
+        "TAG ! tag:x,2000: @ 18,1,18 > 19,2,0 blank",
+    ),
+    (
+        0,
+        "%TAG !e! tag:a,2000:\n%TAG",
+        "TAG !e! tag:a,2000: @ 20,1,20 > 21,2,0 blank",
+    ),
+    (
+        0,
+        "%TAG \t!!  !foo%C3%A9! # c",
+        "TAG !! !fooé! @ 21,1,21 > 25,1,25",
+    ),
+    (
+        0,
+        "%TAG !e!tag:x#c\r\n",
+        "TAG !e! tag:x#c @ 15,1,15 > 17,2,0 blank",
+    ),
+    (0, "%TAG ! %2C,[\n", "TAG ! ,,[ @ 12,1,12 > 13,2,0 blank"),
+];
+
+// Directives that are passed over.
+const RESERVED: &[Row] = &[
+    (0, "%FOO bar # baz\n", "FOO @ 14,1,14 > 15,2,0 blank"),
+    (0, "%YAML1.2\n", "YAML1.2 @ 8,1,8 > 9,2,0 blank"),
+    (0, "%TAGS\t", "TAGS @ 6,1,6 > 6,1,6"),
+    (0, "%yaml#1,[%é\r\n", "yaml#1,[%é @ 11,1,11 > 13,2,0 blank"),
+];
 
 #[test]
-fn reads_tag_prefixes(rt: HostRuntime) {
-    const ROWS: &[Row] = &[
-        (
-            0,
-            "%TAG !prefix! tag:example.com,2011:\n--- !prefix!A",
-            "TAG !prefix! tag:example.com,2011: @ 35,1,35 > 36,2,0 blank",
-        ),
-        (
-            0,
-            "%TAG ! tag:x,2000:\n",
-            "TAG ! tag:x,2000: @ 18,1,18 > 19,2,0 blank",
-        ),
-        (
-            0,
-            "%TAG !e! tag:a,2000:\n%TAG",
-            "TAG !e! tag:a,2000: @ 20,1,20 > 21,2,0 blank",
-        ),
-        (
-            0,
-            "%TAG \t!!  !foo%C3%A9! # c",
-            "TAG !! !fooé! @ 21,1,21 > 25,1,25",
-        ),
-        (
-            0,
-            "%TAG !e!tag:x#c\r\n",
-            "TAG !e! tag:x#c @ 15,1,15 > 17,2,0 blank",
-        ),
-        (0, "%TAG ! %2C,[\n", "TAG ! ,,[ @ 12,1,12 > 13,2,0 blank"),
-    ];
-    expect_told(&rt, rt.alloc(), false, ROWS);
-}
-
-#[test]
-fn passes_reserved_directives(rt: HostRuntime) {
-    const ROWS: &[Row] = &[
-        (0, "%FOO bar # baz\n", "FOO @ 14,1,14 > 15,2,0 blank"),
-        (0, "%YAML1.2\n", "YAML1.2 @ 8,1,8 > 9,2,0 blank"),
-        (0, "%TAGS\t", "TAGS @ 6,1,6 > 6,1,6"),
-        (0, "%yaml#1,[%é\r\n", "yaml#1,[%é @ 11,1,11 > 13,2,0 blank"),
-    ];
-    expect_told(&rt, rt.alloc(), false, ROWS);
+fn reads_directives(rt: HostRuntime) {
+    expect_told(&rt, rt.alloc(), false, VERSIONS);
+    expect_told(&rt, rt.alloc(), false, TAG_PREFIXES);
+    expect_told(&rt, rt.alloc(), false, RESERVED);
 }
 
 #[test]

@@ -84,13 +84,23 @@ fn are_measured() -> bool {
     span.len() == 6 && !span.is_empty() && Span::empty(end).is_empty()
 }
 
+fn has_parts(mark: Marker, (index, line, col): Place) -> bool {
+    mark.index() == index && mark.line() == line && mark.col() == col
+}
+
+fn are_defaults(mark: Marker, span: Span) -> bool {
+    mark == Marker::new(0, 0, 0) && span == Span::empty(mark)
+}
+
 #[test]
 fn measures_spans(rt: HostRuntime) {
-    let end = Marker::new(9, 2, 1);
     assert!(rt; are_measured());
-    assert!(rt; end.index() == 9 && end.line() == 2 && end.col() == 1);
-    assert!(rt; Marker::default() == Marker::new(0, 0, 0));
-    assert!(rt; Span::default() == Span::empty(Marker::default()));
+    assert!(rt; has_parts(Marker::new(9, 2, 1), (9, 2, 1)));
+    assert!(rt; are_defaults(Marker::default(), Span::default()));
+}
+
+fn is_printed(alloc: Global, mark: Marker, text: &str) -> bool {
+    is_text(format!(in alloc; "{mark}"), text)
 }
 
 // A place as it is printed, and that it comes behind the one before.
@@ -106,8 +116,8 @@ fn prints_and_orders_places(rt: HostRuntime) {
     let mut before = Marker::default();
     for &(place, text) in ROWS {
         let mark = marker(place);
-        expect(&rt, is_text(format!(in rt.alloc(); "{mark}"), text), text);
-        assert!(rt; before <= mark && mark >= before);
+        expect(&rt, is_printed(rt.alloc(), mark, text), text);
+        expect(&rt, before <= mark && mark >= before, text);
         before = mark;
     }
 }

@@ -45,72 +45,65 @@ fn expect_values(
     }
 }
 
-#[test]
-fn breaks_are_normalized(rt: HostRuntime) {
-    const ROWS: &[(&str, Option<&str>)] = &[
-        ("a\r\nb\rc\n\r", Some("a\nb\nc\n\n")),
-        ("\r\r\n", Some("\n\n")),
-        ("é", Some("é")),
-    ];
-    expect_values(&rt, rt.alloc(), Spelling::Lines, ROWS);
-}
+// Breaks are normalized.
+const LINES: &[(&str, Option<&str>)] = &[
+    ("a\r\nb\rc\n\r", Some("a\nb\nc\n\n")),
+    ("\r\r\n", Some("\n\n")),
+    ("é", Some("é")),
+];
+
+const PLAIN: &[(&str, Option<&str>)] = &[
+    ("a\n\nb", Some("a\nb")),
+    ("1 2", Some("1 2")),
+    ("scalar\nkey", Some("scalar key")),
+    ("a \t\r\n  b", Some("a b")),
+    ("a\n\n \n\nb\\n", Some("a\n\n\nb\\n")),
+];
+
+const SINGLE_QUOTED: &[(&str, Option<&str>)] = &[
+    ("'it''s'", Some("it's")),
+    ("''", Some("")),
+    ("''''", Some("'")),
+    ("' a \n\n b\\n '", Some(" a\nb\\n ")),
+    ("'it's'", None),
+    ("'''", None),
+    ("'", None),
+    ("a'", None),
+    ("\"a\"", None),
+    ("", None),
+];
+
+const DOUBLE_QUOTED: &[(&str, Option<&str>)] = &[
+    ("\"a \\\n  b\n\n c\"", Some("a b\nc")),
+    ("\"a\\\n\n\n b\\ \n\"", Some("a\n\nb  ")),
+    (
+        "\"\\0\\a\\b\\t\\\t\\n\\v\\f\\r\\e\"",
+        Some("\0\x07\x08\t\t\n\x0b\x0c\r\x1b"),
+    ),
+    (
+        "\"\\ \\\"\\/\\\\\\N\\_\\L\\P\"",
+        Some(" \"/\\\u{85}\u{a0}\u{2028}\u{2029}"),
+    ),
+    ("\"\\x41\\u20aC\\U0001F600\"", Some("A€😀")),
+    ("\"\\U0010FFFF\"", Some("􏿿")),
+    ("\"\\ud83d\\ude00\"", None),
+    ("\"\\U00110000\"", None),
+    ("\"\\UFFFFFFFF\"", None),
+    ("\"\\x4\"", None),
+    ("\"\\u004g\"", None),
+    ("\"\\q\"", None),
+    ("\"a\"b\"", None),
+    ("\"a\\\"", None),
+    ("\"a", None),
+    ("\"", None),
+];
 
 #[test]
-fn plain_scalars(rt: HostRuntime) {
-    const ROWS: &[(&str, Option<&str>)] = &[
-        ("a\n\nb", Some("a\nb")),
-        ("1 2", Some("1 2")),
-        ("scalar\nkey", Some("scalar key")),
-        ("a \t\r\n  b", Some("a b")),
-        ("a\n\n \n\nb\\n", Some("a\n\n\nb\\n")),
-    ];
-    expect_values(&rt, rt.alloc(), Spelling::Plain, ROWS);
-}
-
-#[test]
-fn single_quoted_scalars(rt: HostRuntime) {
-    const ROWS: &[(&str, Option<&str>)] = &[
-        ("'it''s'", Some("it's")),
-        ("''", Some("")),
-        ("''''", Some("'")),
-        ("' a \n\n b\\n '", Some(" a\nb\\n ")),
-        ("'it's'", None),
-        ("'''", None),
-        ("'", None),
-        ("a'", None),
-        ("\"a\"", None),
-        ("", None),
-    ];
-    expect_values(&rt, rt.alloc(), Spelling::SingleQuoted, ROWS);
-}
-
-#[test]
-fn double_quoted_scalars(rt: HostRuntime) {
-    const ROWS: &[(&str, Option<&str>)] = &[
-        ("\"a \\\n  b\n\n c\"", Some("a b\nc")),
-        ("\"a\\\n\n\n b\\ \n\"", Some("a\n\nb  ")),
-        (
-            "\"\\0\\a\\b\\t\\\t\\n\\v\\f\\r\\e\"",
-            Some("\0\x07\x08\t\t\n\x0b\x0c\r\x1b"),
-        ),
-        (
-            "\"\\ \\\"\\/\\\\\\N\\_\\L\\P\"",
-            Some(" \"/\\\u{85}\u{a0}\u{2028}\u{2029}"),
-        ),
-        ("\"\\x41\\u20aC\\U0001F600\"", Some("A€😀")),
-        ("\"\\U0010FFFF\"", Some("􏿿")),
-        ("\"\\ud83d\\ude00\"", None),
-        ("\"\\U00110000\"", None),
-        ("\"\\UFFFFFFFF\"", None),
-        ("\"\\x4\"", None),
-        ("\"\\u004g\"", None),
-        ("\"\\q\"", None),
-        ("\"a\"b\"", None),
-        ("\"a\\\"", None),
-        ("\"a", None),
-        ("\"", None),
-    ];
-    expect_values(&rt, rt.alloc(), Spelling::DoubleQuoted, ROWS);
+fn reads_spellings(rt: HostRuntime) {
+    expect_values(&rt, rt.alloc(), Spelling::Lines, LINES);
+    expect_values(&rt, rt.alloc(), Spelling::Plain, PLAIN);
+    expect_values(&rt, rt.alloc(), Spelling::SingleQuoted, SINGLE_QUOTED);
+    expect_values(&rt, rt.alloc(), Spelling::DoubleQuoted, DOUBLE_QUOTED);
 }
 
 #[test]

@@ -3,7 +3,6 @@ use Rattle.std.proofs.lemmas.Iterator.{YieldsList-from_chars}
 use Rattle.std.proofs.lemmas.Iterator.Consumers.{YieldsList-end}
 use Rattle.std.proofs.lemmas.List.{map-id}
 use Rattle.std.specs.List.{flat_map}
-use Rattle.std.specs.Str.{chars}
 use Rattle.test_case_files.specs.Lines.{character_text}
 use Rattle.test_case_files.proofs.printing.push_escaped.Goals as goal
 

@@ -1,5 +1,4 @@
 use Rattle.std.proofs.Common.{ap, true, subst}
-use Rattle.saphyr_parser.specs.Types.Fault.{Fault}
 use Rattle.saphyr_parser.specs.Loading.{portion_to_send, Loads}
 use Rattle.test_case_files.specs.Lines.{Comparing}
 use Rattle.test_cases.proofs.Loading.{refused_ends, takes}

@@ -4,4 +4,4 @@ use Rattle.test_cases.proofs.ways.clone_each.Given as goal
 
 -- What is left is all that was there, but for the lines that have come.
 abbrev pub invariant-loop-line : goal.invariant-loop-line
-invariant-loop-line g l = ListAll l.expected (to_come l.parser) → ListAll l.lines (to_come l.fn.parser)
+invariant-loop-line g l = ListAll l.expected (to_come l.parser) → ListAll l.fn.expected (to_come l.fn.parser)

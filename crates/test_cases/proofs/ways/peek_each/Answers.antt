@@ -13,6 +13,6 @@ loop-line-preserved g c = λ rest.
     (lists_stayed _ _ _ c.is_shown.ensures.stays (lists_stayed _ _ _ c.is_shown-in-loop-line.ensures.stays all)))
 
 pub returns : goal.returns
-returns g c = on_ok_weaker c.is_left.result (λ all. c.loop-line.invariant
-    (subst (λ lines. ListAll lines (to_come c.loop-line.parser)) (c.left.ensures ∙ c.is_shown-2.ensures.same)
-    (lists_stayed _ _ _ c.is_shown-2.ensures.stays all))) c.is_left.ensures
+returns g c = on_ok_weaker c.is_passed.result (λ all. c.loop-line.invariant
+    (subst (λ lines. ListAll lines (to_come c.loop-line.parser)) c.is_shown-2.ensures.same
+    (lists_stayed _ _ _ c.is_shown-2.ensures.stays all))) c.is_passed.ensures

@@ -1,12 +1,26 @@
+use Rattle.std.proofs.Common.{◌++◌, map, ap, ◌∙◌}
+use Rattle.std.specs.List.{flat_map}
+use Rattle.std.proofs.lemmas.List.{take_all}
+use Rattle.std.proofs.lemmas.Result.{on_ok_weaker}
+use Rattle.saphyr_parser.specs.Views.Events.{happening}
+use Rattle.yaml_tree.specs.Unloading.{node_events, pair_events}
 use Rattle.test_tree_events.proofs.Pushed.{pushed_sequence, pushed_mapping}
 use Rattle.test_tree_events.proofs.unloading.+pushing.Goals as goal
 
-pub push_node-returns-in_ok-push-in-Seq-2 : goal.push_node-returns-in_ok-push-in-Seq-2
-push_node-returns-in_ok-push-in-Seq-2 t c =
-    pushed_sequence c.args.node.now _ _ _ _ _ _ _ _ c.in-Seq.is c.in_ok-copy_tag-in-Seq.ensures
-    c.in_ok-push-in-Seq.ensures.items c.in_ok-push_nodes-in-Seq.ensures c.in_ok-push-in-Seq-2.ensures.items
+pub push_sequence-returns : goal.push_sequence-returns
+push_sequence-returns t c =
+    let filled = c.loop-node.invariant
+    ∙ ap (λ nodes. map happening c.push.new.events.items ++ flat_map node_events nodes)
+    (take_all _ _ c.loop-node-test.false ∙ c.deref-node-items.ensures.value) in
+    on_ok_weaker c.push-2.result (λ is.
+    pushed_sequence c.args.id c.args.tag.now c.in_ok-copy_tag.field-0 c.args.nodes.now _ _ _ _
+    c.in_ok-copy_tag.ensures c.in_ok-push.ensures filled is) c.push-2.ensures
 
-pub push_node-returns-in_ok-push-in-Map-2 : goal.push_node-returns-in_ok-push-in-Map-2
-push_node-returns-in_ok-push-in-Map-2 t c =
-    pushed_mapping c.args.node.now _ _ _ _ _ _ _ _ c.in-Map.is c.in_ok-copy_tag-in-Map.ensures
-    c.in_ok-push-in-Map.ensures.items c.in_ok-push_pairs-in-Map.ensures c.in_ok-push-in-Map-2.ensures.items
+pub push_mapping-returns : goal.push_mapping-returns
+push_mapping-returns t c =
+    let filled = c.loop-key.invariant
+    ∙ ap (λ pairs. map happening c.push.new.events.items ++ flat_map pair_events pairs)
+    (take_all _ _ c.loop-key-test.false ∙ c.deref-key-items.ensures.value) in
+    on_ok_weaker c.push-2.result (λ is.
+    pushed_mapping c.args.id c.args.tag.now c.in_ok-copy_tag.field-0 c.args.pairs.now _ _ _ _
+    c.in_ok-copy_tag.ensures c.in_ok-push.ensures filled is) c.push-2.ensures

@@ -37,6 +37,3 @@ lists_one s e = (
 
 pub new-requires : goal.new-requires
 new-requires c = (97 ∷ [], lists_one (record { place = 0; calls = c.args.calls }) refl)
-
-pub returns : goal.returns
-returns c = c.new.ensures.rest (97 ∷ []) (lists_one (record { place = 0; calls = c.args.calls }) refl)

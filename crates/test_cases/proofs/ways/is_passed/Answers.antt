@@ -1,6 +1,6 @@
 use Rattle.std.proofs.Common.{Some}
 use Rattle.test_case_files.proofs.Listings.{lists_more}
-use Rattle.test_cases.proofs.ways.is_left.Goals as goal
+use Rattle.test_cases.proofs.ways.is_passed.Goals as goal
 
 pub loop-item-preserved : goal.loop-item-preserved
 loop-item-preserved g c = λ rest. c.loop-item.invariant
