@@ -1,12 +1,12 @@
 #!/usr/bin/env bash
-# Makes a release of the library that `rt lib` left in crates/saphyr_parser_c/out, for users of C and Rust, who then
-# need neither the kit nor this repository.
+# Makes a release of the library that `rt lib` left in crates/saphyr_parser_c/out. With it, users of C and Rust need
+# neither the kit nor this repository.
 #
 #     ./release.sh [FOLDER]                     # FOLDER/saphyr_parser-VERSION-x86_64-linux and its .tar.gz, in out/
 #     PREFIX=/usr/local ./release.sh install    # the same files under a prefix, with DESTDIR before it
 #
-# SAPHYR_PARSER_LIB may name another folder with libsaphyr_parser_c.a and liblibc_c.a. The program dump_events comes
-# along where `rt ci`, or `rt run` in its crate, left it.
+# SAPHYR_PARSER_LIB may name another folder with libsaphyr_parser_c.a and liblibc_c.a. If `rt ci`, or
+# `rt run` in its crate, left the program dump_events, the release has it too.
 set -euo pipefail
 top=$(realpath "$(dirname "$0")")
 built=$(realpath -m "${SAPHYR_PARSER_LIB:-$top/crates/saphyr_parser_c/out}")
@@ -38,7 +38,7 @@ take() {
 }
 
 # Leaves in $work both forms of the library: an archive with the kit's calls for memory in it, and the shared one,
-# which exports the header's calls alone.
+# which exports only the header's calls.
 make_libraries() {
     local rt
     rt=$(readlink -f "$(command -v rt || echo /)")
@@ -53,13 +53,13 @@ make_libraries() {
     cd "$top"
 }
 
-# Puts FILE of release/ into a folder, with what differs from release to release.
+# Puts FILE of release/ into a folder, and fills in what differs from release to release.
 fill_in() {
     sed "s/@VERSION@/$version/g; s/@INTERFACE@/$interface/g; s/@SHARED@/$shared/g" "release/$1.in" >"$work/$1"
     install -Dm644 -t "$2" "$work/$1"
 }
 
-# Leaves the words of a page's links that lead to what a release hasn't, and takes the links.
+# Replaces a page's links to what a release doesn't have by their words.
 cut_links() {
     local page target
     for page; do

@@ -1,10 +1,11 @@
-//! Tells Cargo where the proved library lies.
+//! Tells Cargo where the proved library is.
 //!
-//! It is looked for in the folder that `SAPHYR_PARSER_LIB` names; where that isn't set, where `rt lib` left it in the
-//! repository, and in the release that this crate is a part of. A release has it as one archive. In the repository it
-//! is two: the library, and the small one of the kit that it calls for memory, which lies beside the command `rt`.
+//! It looks in the folder that `SAPHYR_PARSER_LIB` names. If that isn't set, it looks where `rt lib` left the library
+//! in the repository, and in the release that this crate is a part of. A release has the library as one archive. In the
+//! repository there are two: the library, and the kit's small one for requests for memory, which is next to the command
+//! `rt`.
 //!
-//! Without the library there is a warning, so that what needs no linking works: `cargo check`, `clippy` and `doc`.
+//! Without the library it only warns, so that what needs no linking works: `cargo check`, `clippy` and `doc`.
 
 use std::env;
 use std::fs::read_link;
@@ -36,7 +37,7 @@ fn main() {
     println!("cargo:rerun-if-changed={RELEASED}");
 }
 
-/// Where the library is looked for.
+/// The folders to look in.
 fn folders() -> Vec<PathBuf> {
     let package = Path::new(env!("CARGO_MANIFEST_DIR"));
     match env::var_os(VARIABLE).filter(|it| !it.is_empty()) {
@@ -53,7 +54,7 @@ fn where_cargo_runs() -> PathBuf {
     read_link(format!("/proc/{}/cwd", parent_id())).unwrap_or_default()
 }
 
-/// The archives that make up the library, where the folder has it.
+/// The archives that make up the library, if the folder has it.
 fn archives_of(folder: &Path) -> Option<Vec<PathBuf>> {
     let (released, built) = (folder.join(RELEASED), folder.join(BUILT));
     if released.is_file() {
@@ -67,7 +68,7 @@ fn archives_of(folder: &Path) -> Option<Vec<PathBuf>> {
     built.is_file().then(|| vec![built, of_the_kit])
 }
 
-/// Has the program linked with an archive.
+/// Links the program with an archive.
 fn link(archive: &Path) {
     let (Some(folder), Some(file)) = (archive.parent(), archive.file_stem()) else {
         return;

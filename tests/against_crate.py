@@ -33,7 +33,7 @@ KNOWN = [
         lambda text, theirs, ours: "unknown anchor" in ours[-1] and "unknown anchor" not in theirs[-1],
     ),
     (
-        "In a flow sequence, behind a pair with `?`, a pair without `?` has the spans of such pairs",
+        "In a flow sequence, after a pair with `?`, a pair without `?` has the spans of such pairs",
         lambda text, theirs, ours: re.search(r"[\[,]\s*(#[^\n]*\n\s*)*\?(\s|$)", text),
     ),
     (
@@ -53,7 +53,7 @@ KNOWN = [
         lambda text, theirs, ours: re.search(r"[|>]", text) and re.search(r"\n *(\0.*)?$", text, re.S),
     ),
     (
-        "Behind a tab too, a comment ends a plain scalar.",
+        "After a tab too, a comment ends a plain scalar.",
         lambda text, theirs, ours: re.search(r"\t *#", text),
     ),
     (

@@ -1,5 +1,5 @@
 //! Prints the scalars of each document of a YAML text from standard input, a line for each document, as soon as its end
-//! is there. So of a program that writes documents one by one into a pipe, the lines come one by one.
+//! is there. If a program writes documents one by one into a pipe, the lines come one by one.
 //!
 //!     documents
 
@@ -24,7 +24,8 @@ impl<'input> EventReceiver<'input> for Scalars {
     }
 }
 
-/// The characters of a reader, each as soon as its bytes are there. What is no UTF-8, or can't be read, ends them.
+/// The characters of a reader, each as soon as its bytes are there. Bytes that are not UTF-8, or can't be read, end
+/// them.
 fn characters(mut reader: impl BufRead) -> impl Iterator<Item = char> {
     std::iter::from_fn(move || {
         let mut bytes = [0; 4];

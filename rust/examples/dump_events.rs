@@ -27,7 +27,7 @@ fn main() -> ExitCode {
     }
 }
 
-/// Writes the lines up to the end or to a fault, which is answered.
+/// Writes the lines up to the end or to a fault, and returns the fault.
 fn dump(text: &str, out: &mut impl Write) -> Result<(), String> {
     for item in Parser::new_from_str(text) {
         match item {

@@ -48,13 +48,13 @@ pub fn is_flow(c: char) -> bool {
     matches!(c, ',' | '[' | ']' | '{' | '}')
 }
 
-/// Whether it may stand within a line: it breaks none, and is neither NUL nor a byte order mark.
+/// Whether it may occur within a line: it breaks none, and is neither NUL nor a byte order mark.
 #[must_use]
 pub(crate) fn is_yaml_non_break(c: char) -> bool {
     !is_breakz(c) && c != '\u{FEFF}'
 }
 
-/// Whether it may stand within a word: such a character that is no space and no tab.
+/// Whether it may occur within a word: as within a line, and it is no space and no tab.
 #[must_use]
 pub(crate) fn is_yaml_non_space(c: char) -> bool {
     is_yaml_non_break(c) && !is_blank(c)

@@ -1,4 +1,4 @@
-//! Bytes that are no text.
+//! Bytes that are not UTF-8.
 
 use std::error::Error;
 use std::fmt;
@@ -15,7 +15,7 @@ impl NotUtf8 {
         NotUtf8 { index, is_utf16 }
     }
 
-    /// The index of the first byte that is no UTF-8: how many bytes before it are.
+    /// The index of the first byte that is not UTF-8, so how many bytes before it are.
     #[must_use]
     pub fn index(&self) -> usize {
         self.index

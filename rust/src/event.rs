@@ -1,4 +1,4 @@
-//! Events, and who receives them.
+//! Events, and the traits of their receivers.
 
 use crate::scanner::{ScalarStyle, Span};
 use std::borrow::Cow;
@@ -7,7 +7,7 @@ use std::fmt;
 /// What happens in a text.
 ///
 /// The node of a document, and each node inside, is an alias, a scalar, or a collection from its start to its end. In a
-/// mapping keys and values take turns. A node's number is the id of its anchor, and 0 where it has none.
+/// mapping keys and values take turns. A node's number is the id of its anchor, or 0 if it has none.
 #[derive(Clone, Debug, PartialEq, Eq)]
 pub enum Event<'input> {
     /// Nothing. No parser gives it.
@@ -16,11 +16,11 @@ pub enum Event<'input> {
     StreamStart,
     /// The text ends. The last event.
     StreamEnd,
-    /// A document begins; with `true` a `---` says so.
+    /// A document begins. `true` says that it begins with a `---`.
     DocumentStart(bool),
     /// A document ends.
     DocumentEnd,
-    /// A node that stands for the one with this anchor.
+    /// An alias of the node with this anchor.
     Alias(
         /// The id of the anchor.
         usize,
@@ -52,17 +52,17 @@ pub enum Event<'input> {
     MappingEnd,
 }
 
-/// A tag, resolved: the prefix for which its handle stands, and what is written behind the handle.
+/// A resolved tag: the prefix that its handle means, and what is written after the handle.
 #[derive(Clone, Debug, PartialEq, Eq, PartialOrd, Ord, Hash)]
 pub struct Tag {
     /// The prefix: `tag:yaml.org,2002:` for `!!`, or what a directive says.
     pub handle: String,
-    /// What stands behind the handle, with its escapes resolved.
+    /// What is written after the handle, with its escapes resolved.
     pub suffix: String,
 }
 
 impl Tag {
-    /// Whether its prefix is that of YAML's own tags, as of `!!str`.
+    /// Whether its prefix is that of YAML's own tags, such as `!!str`.
     #[must_use]
     pub fn is_yaml_core_schema(&self) -> bool {
         self.handle == "tag:yaml.org,2002:"
@@ -76,7 +76,7 @@ impl fmt::Display for Tag {
     }
 }
 
-/// Who is sent events by [`Parser::load`](crate::Parser::load).
+/// A receiver of the events that [`Parser::load`](crate::Parser::load) sends.
 ///
 /// ```
 /// use saphyr_parser::{Event, EventReceiver, Parser};
@@ -98,7 +98,7 @@ pub trait EventReceiver<'input> {
     fn on_event(&mut self, ev: Event<'input>);
 }
 
-/// Who is sent events with their places. Each [`EventReceiver`] is one, which does without the places.
+/// A receiver of events with their places. Each [`EventReceiver`] is one, and ignores the places.
 pub trait SpannedEventReceiver<'input> {
     /// Takes the next event.
     fn on_event(&mut self, ev: Event<'input>, span: Span);

@@ -1,11 +1,11 @@
-//! The static library's calls, each behind a safe one.
+//! Safe functions over the calls of the static library.
 //!
-//! This is the crate's only file with `unsafe` in it. What the library asks of its callers stands in `saphyr_parser.h`,
-//! beside its sources: a parser and an event are zeroed at first, a pointer that is passed is not null, one call at a
-//! time uses a parser, and the text stays unchanged where it is until the parser over it is freed. What it gives is
-//! that the texts of an event are UTF-8, and may be read until the next call with the same parser. Here they are copied
-//! right behind the call that wrote them, so that none is left when the next one comes. A text that stands in the
-//! parser's own as it is, is borrowed from there instead.
+//! This is the crate's only file with `unsafe` in it. `saphyr_parser.h`, next to the library's sources, says what a
+//! caller must do: zero a parser and an event first, pass no null pointer, use a parser in one call at a time, and keep
+//! the text unchanged where it is until the parser over it is freed. In return, the texts of an event are UTF-8, and
+//! may be read until the next call with the same parser. This file copies them right after the call that wrote them, so
+//! none is left when the next call comes. If the parser's own text contains such a text as it is, it is borrowed from
+//! there instead.
 
 use crate::encoding::NotUtf8;
 use crate::event::{Event, Tag};
@@ -79,7 +79,7 @@ extern "C" {
     fn saphyr_version() -> u32;
 }
 
-/// The text that bytes are in UTF-8, or that they are none.
+/// The bytes as a text, or the fault that they are not UTF-8.
 pub fn checked(bytes: &[u8]) -> Result<&str, NotUtf8> {
     // SAFETY: the bytes may be read for their length.
     let index = unsafe { saphyr_valid_up_to(bytes.as_ptr(), bytes.len()) };
@@ -93,7 +93,7 @@ pub fn checked(bytes: &[u8]) -> Result<&str, NotUtf8> {
     Err(NotUtf8::new(index, status == UTF16))
 }
 
-/// A text that stays where it is, whoever is moved: borrowed, or shared by a parser and its clones.
+/// A text that stays where it is when its owner moves: borrowed, or shared by a parser and its clones.
 #[derive(Clone)]
 pub enum Text<'input> {
     Borrowed(&'input str),
@@ -109,16 +109,16 @@ impl Text<'_> {
     }
 }
 
-/// What a parser gives: an event, the fault that ends the events, or `None` behind them.
+/// What a parser gives: an event, the fault that ends the events, or `None` after them.
 pub type Item<'input> = Option<Result<(Event<'input>, Span), ScanError>>;
 
 /// A parser of the library, and the text that it reads.
 pub struct Face<'input> {
-    /// Has a parser, always, but for the call that clones it, which empties it and puts the parser back.
+    /// Always has a parser, except during the call that clones it: that empties it and puts the parser back.
     handle: Cell<Handle>,
-    /// What the library wrote last. Its texts are read right behind the call alone.
+    /// What the library wrote last. Its texts are read only right after the call.
     record: Record,
-    /// Dropped when the parser was freed.
+    /// Dropped after the parser is freed.
     text: Text<'input>,
     reached: Reached,
 }
@@ -131,7 +131,7 @@ struct Reached {
 }
 
 impl Reached {
-    /// Goes on to a later place of the text, and says how many bytes stand before it.
+    /// Goes on to a later place of the text, and returns how many bytes are before it.
     fn go_on(&mut self, text: &str, index: usize) -> Option<usize> {
         let more = index.checked_sub(self.characters)?;
         let rest = text.get(self.bytes..)?;
@@ -147,8 +147,8 @@ impl Reached {
     }
 }
 
-// SAFETY: the library keeps nothing outside of the handle, and asks for one call at a time, on whichever thread. So it
-// is, since a `Face` is no `Sync`: its handle is in a `Cell`.
+// SAFETY: the library keeps nothing outside of the handle, and allows calls from any thread, one at a time. A `Face` is
+// not `Sync`, since its handle is in a `Cell`, so no two calls happen at once.
 unsafe impl Send for Face<'_> {}
 
 impl<'input> Face<'input> {
@@ -191,14 +191,14 @@ impl<'input> Face<'input> {
     /// The fault in place of an event, if there is one.
     ///
     /// # Safety
-    /// A call answered this and wrote the record, and no other came since with the parser.
+    /// A call returned this status and wrote the record, and no other call with the parser came since.
     #[cold]
     unsafe fn ending(&self, status: i32) -> Option<ScanError> {
         if status != REFUSED {
             expect(status, END);
             return None;
         }
-        // SAFETY: as of this function.
+        // SAFETY: the caller ensures what this function requires.
         let info = unsafe { self.record.value.text() };
         Some(ScanError::new_str(marker(&self.record.start), info))
     }
@@ -206,7 +206,7 @@ impl<'input> Face<'input> {
     /// The event that a call wrote.
     ///
     /// # Safety
-    /// The call wrote the record, and no other came since with the parser.
+    /// The call wrote the record, and no other call with the parser came since.
     #[inline]
     unsafe fn event(&mut self) -> Event<'input> {
         let anchor = self.record.anchor;
@@ -218,26 +218,27 @@ impl<'input> Face<'input> {
             5 => Event::Alias(anchor),
             6 => {
                 let style = style(self.record.style);
-                // SAFETY: as of this function.
+                // SAFETY: the caller ensures what this function requires.
                 let (value, tag) = unsafe { (self.value(style), tag_of(&self.record)) };
                 Event::Scalar(value, style, anchor, tag)
             }
-            // SAFETY: as of this function.
+            // SAFETY: the caller ensures what this function requires.
             7 => Event::SequenceStart(anchor, unsafe { tag_of(&self.record) }),
             8 => Event::SequenceEnd,
-            // SAFETY: as of this function.
+            // SAFETY: the caller ensures what this function requires.
             9 => Event::MappingStart(anchor, unsafe { tag_of(&self.record) }),
             10 => Event::MappingEnd,
             _ => Event::Nothing,
         }
     }
 
-    /// The text of the scalar that a call wrote, borrowed where it stands at its place in the text as it is.
+    /// The text of the scalar that a call wrote. It is borrowed if the parser's text has it as it is at the scalar's
+    /// place.
     ///
     /// # Safety
     /// The same as of `event`.
     unsafe fn value(&mut self, style: ScalarStyle) -> Cow<'input, str> {
-        // SAFETY: as of this function.
+        // SAFETY: the caller ensures what this function requires.
         let value = unsafe { self.record.value.text() };
         let Text::Borrowed(text) = self.text else {
             return Cow::Owned(value.to_owned());
@@ -255,7 +256,7 @@ impl<'input> Face<'input> {
         }
     }
 
-    /// Says whether prefixes of tags hold for later documents too.
+    /// Sets whether prefixes of tags hold for later documents too.
     pub fn keep_tags(&mut self, value: bool) {
         // SAFETY: the handle has a parser, which no other call uses.
         let status = unsafe { saphyr_keep_tags(self.handle.get_mut(), value) };
@@ -306,13 +307,13 @@ impl Record {
 /// The tag of the event that a call wrote.
 ///
 /// # Safety
-/// The call wrote the record, and no other came since with the same parser.
+/// The call wrote the record, and no other call with the same parser came since.
 #[inline]
 unsafe fn tag_of(record: &Record) -> Option<Cow<'static, Tag>> {
     if record.has_tag == 0 {
         return None;
     }
-    // SAFETY: as of this function.
+    // SAFETY: the caller ensures what this function requires.
     Some(Cow::Owned(unsafe { copy_of_tag(record) }))
 }
 
@@ -322,7 +323,7 @@ unsafe fn tag_of(record: &Record) -> Option<Cow<'static, Tag>> {
 /// The same as of `tag_of`.
 #[cold]
 unsafe fn copy_of_tag(record: &Record) -> Tag {
-    // SAFETY: as of this function.
+    // SAFETY: the caller ensures what this function requires.
     let (handle, suffix) = unsafe { (record.tag_handle.text(), record.tag_suffix.text()) };
     Tag {
         handle: handle.to_owned(),
@@ -334,7 +335,7 @@ impl Bytes {
     /// The text that a call wrote, or an empty one.
     ///
     /// # Safety
-    /// The call wrote the record that has it, and no other comes with the same parser while the text is read.
+    /// The call wrote the record that has it, and no other call with the same parser comes while the text is read.
     unsafe fn text<'a>(&self) -> &'a str {
         if self.len == 0 {
             return "";
@@ -358,7 +359,7 @@ fn marker(place: &Place) -> Marker {
     Marker::new(place.index, place.line, place.col)
 }
 
-/// Goes on where the status is this one. Where memory ran out the process ends, as it does where a `Vec` can't grow.
+/// Goes on if the status is this one. If memory ran out the process ends, as it does if a `Vec` can't grow.
 fn expect(status: i32, expected: i32) {
     if status == NO_MEMORY {
         handle_alloc_error(Layout::new::<Record>());

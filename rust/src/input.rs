@@ -1,7 +1,7 @@
 //! Where the characters of a text come from.
 //!
-//! A parser reads its input one character at a time, so an input of one's own is asked for `lookahead(1)`, `peek_opt` and
-//! `skip` alone. The other calls of the trait are there for those who call them.
+//! A parser reads its input one character at a time. So it calls only `lookahead(1)`, `peek_opt` and `skip` of an input
+//! of your own. The other calls of the trait are there for other callers.
 
 pub(crate) mod buffered;
 pub(crate) mod str;
@@ -13,10 +13,10 @@ pub use buffered::BufferedInput;
 
 use crate::char_traits::{is_yaml_non_break, is_yaml_non_space};
 
-/// A source of characters, with a window on the next of them.
+/// A source of characters, with a window on the next ones.
 ///
-/// A call that looks at characters asks that they were loaded by `lookahead` before. Behind the last character there is
-/// NUL, without end, which `peek_opt` alone tells from a NUL of the text.
+/// Before a call looks at characters, `lookahead` must have loaded them. After the last character comes NUL, without
+/// end. Only `peek_opt` tells it from a NUL of the text.
 pub trait Input {
     /// Loads the next `count` characters, if they are not yet loaded.
     fn lookahead(&mut self, count: usize);
@@ -39,7 +39,7 @@ pub trait Input {
     #[must_use]
     fn raw_read_ch(&mut self) -> char;
 
-    /// The same of a character that may stand within a line. Another is left, or is loaded then.
+    /// The same for a character that may occur within a line. Any other character is left, or is loaded.
     #[must_use]
     fn raw_read_non_breakz_ch(&mut self) -> Option<char>;
 
@@ -53,11 +53,11 @@ pub trait Input {
     #[must_use]
     fn peek(&self) -> char;
 
-    /// The character behind the next `n`.
+    /// The character after the next `n`.
     #[must_use]
     fn peek_nth(&self, n: usize) -> char;
 
-    /// The next character, or `None` behind the last.
+    /// The next character, or `None` after the last.
     #[must_use]
     fn peek_opt(&self) -> Option<char>;
 
@@ -74,7 +74,7 @@ pub trait Input {
         self.peek() == c
     }
 
-    /// Whether `c` stands behind the next `n` characters.
+    /// Whether `c` comes after the next `n` characters.
     #[must_use]
     fn nth_char_is(&self, n: usize, c: char) -> bool {
         self.peek_nth(n) == c
@@ -92,28 +92,28 @@ pub trait Input {
         self.next_2_are(c1, c2) && self.nth_char_is(2, c3)
     }
 
-    /// Whether a line `---` or `...` begins here. Four characters are to be loaded.
+    /// Whether a line `---` or `...` begins here. Four characters must be loaded.
     #[must_use]
     fn next_is_document_indicator(&self) -> bool {
         self.next_is_document_start() || self.next_is_document_end()
     }
 
-    /// Whether a line `---` begins here. Four characters are to be loaded.
+    /// Whether a line `---` begins here. Four characters must be loaded.
     #[must_use]
     fn next_is_document_start(&self) -> bool {
         self.next_3_are('-', '-', '-') && is_blank_or_breakz(self.peek_nth(3))
     }
 
-    /// Whether a line `...` begins here. Four characters are to be loaded.
+    /// Whether a line `...` begins here. Four characters must be loaded.
     #[must_use]
     fn next_is_document_end(&self) -> bool {
         self.next_3_are('.', '.', '.') && is_blank_or_breakz(self.peek_nth(3))
     }
 
-    /// Passes blanks up to the end of the line, and a comment behind them. Tabs are passed with `SkipTabs::Yes` alone.
+    /// Passes blanks up to the end of the line, and a comment after them. Passes tabs only with `SkipTabs::Yes`.
     ///
-    /// Answers how many characters were passed, and which blanks there were; or the fault of a comment that stands
-    /// behind no blank, before which it stops.
+    /// Returns how many characters were passed, and which blanks there were. Stops before a comment that follows no
+    /// blank, and returns that fault.
     fn skip_ws_to_eol(&mut self, skip_tabs: SkipTabs) -> (usize, Result<SkipTabs, &'static str>) {
         let (mut spaces, mut tabs) = (0, 0);
         loop {
@@ -137,7 +137,7 @@ pub trait Input {
         (passed, Ok(SkipTabs::Result(tabs > 0, spaces > 0)))
     }
 
-    /// Whether the next character, which is no blank, may be one of a plain scalar. Two are to be loaded.
+    /// Whether the next character, which is no blank, may be one of a plain scalar. Two must be loaded.
     #[must_use]
     fn next_can_be_plain_scalar(&self, in_flow: bool) -> bool {
         let ends_key = |c| is_blank_or_breakz(c) || in_flow && is_flow(c);
@@ -202,29 +202,29 @@ pub trait Input {
         is_alpha(self.peek())
     }
 
-    /// Passes the characters up to a break, NUL or a byte order mark, and answers how many there were.
+    /// Passes the characters up to a break, NUL or a byte order mark, and returns how many there were.
     fn skip_while_non_breakz(&mut self) -> usize {
         skip_while(self, is_yaml_non_break, |_| ())
     }
 
-    /// Passes blanks, and answers how many there were.
+    /// Passes blanks, and returns how many there were.
     fn skip_while_blank(&mut self) -> usize {
         skip_while(self, is_blank, |_| ())
     }
 
-    /// Takes letters, digits, `_` and `-` into `out`, and answers how many there were.
+    /// Takes letters, digits, `_` and `-` into `out`, and returns how many there were.
     fn fetch_while_is_alpha(&mut self, out: &mut String) -> usize {
         skip_while(self, is_alpha, |c| out.push(c))
     }
 
-    /// Takes the characters up to a blank, a break, NUL or a byte order mark into `out`, and answers how many there
+    /// Takes the characters up to a blank, a break, NUL or a byte order mark into `out`, and returns how many there
     /// were.
     fn fetch_while_is_yaml_non_space(&mut self, out: &mut String) -> usize {
         skip_while(self, is_yaml_non_space, |c| out.push(c))
     }
 }
 
-/// Hands over and passes the next characters that are of a kind, and answers how many there were.
+/// Hands over and passes the next characters that are of a kind, and returns how many there were.
 fn skip_while<T: Input + ?Sized>(
     input: &mut T,
     is_taken: impl Fn(char) -> bool,
@@ -239,7 +239,7 @@ fn skip_while<T: Input + ?Sized>(
     passed
 }
 
-/// What [`Input::skip_ws_to_eol`] is asked about tabs, and what it answers.
+/// What [`Input::skip_ws_to_eol`] does with tabs, and what it returns.
 #[derive(Clone, Copy, Debug, PartialEq, Eq)]
 pub enum SkipTabs {
     /// Tabs are passed.

@@ -1,8 +1,8 @@
-//! A parser of YAML 1.2 into events, proved, with the names of the crate `saphyr-parser` 0.3.3.
+//! A proved parser of YAML 1.2 into events, with the names of the crate `saphyr-parser` 0.3.3.
 //!
-//! The events come from a static library that was proved to give them, which is written in Rattle. This crate hands
-//! them on under the names that users of `saphyr-parser` know: a crate that depends on that one changes a line of its
-//! manifest.
+//! The events come from a static library, which is written in Rattle and proved to give them. This crate hands them on
+//! under the names that users of `saphyr-parser` know. A crate that depends on `saphyr-parser` changes one line of its
+//! manifest to use this one.
 //!
 //! ```
 //! use saphyr_parser::{Event, Parser, ScanError};
@@ -22,7 +22,7 @@
 //! assert_eq!(refused.to_string(), "while parsing a flow sequence, expected ',' or ']' at byte 5 line 2 column 1");
 //! ```
 //!
-//! Where memory runs out the process ends, as it does where a `Vec` can't grow.
+//! If memory runs out the process ends, as it does if a `Vec` can't grow.
 
 #![warn(missing_docs)]
 #![deny(unsafe_code)]

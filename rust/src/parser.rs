@@ -22,7 +22,7 @@ enum Source<'input, T> {
     Parts(Parts<T>),
 }
 
-/// Where a parser stands among the documents of its text.
+/// Where a parser is among the documents of its text.
 #[derive(Clone, Copy, Debug, PartialEq, Eq)]
 enum Stand {
     Between,
@@ -31,10 +31,10 @@ enum Stand {
     Behind(Span),
 }
 
-/// A parser of a text, which gives its events one after the other.
+/// A parser of a text. It gives the events one after the other.
 ///
-/// `T` is the kind of input that the characters come from. A text in memory is read as far as each event needs. Of an
-/// input the characters are read up to a line of `---` or `...` that ends the document, before its first event is given.
+/// `T` is the kind of input that the characters come from. A text in memory is read as far as each event needs. Before
+/// the first event of a document is given, an input is read up to the line of `---` or `...` that ends the document.
 pub struct Parser<'input, T: Input> {
     source: Source<'input, T>,
     keep_tags: bool,
@@ -55,7 +55,7 @@ impl<'input> Parser<'input, StrInput<'input>> {
     /// A parser of a text in UTF-8, as bytes.
     ///
     /// # Errors
-    /// That the bytes are not UTF-8, with the index of the first that is none.
+    /// The bytes are not UTF-8. The error has the index of the first wrong byte.
     pub fn new_from_bytes(bytes: &'input [u8]) -> Result<Self, NotUtf8> {
         checked(bytes).map(Parser::new_from_str)
     }
@@ -88,9 +88,9 @@ impl<'input, T: Input> Parser<'input, T> {
         }
     }
 
-    /// Whether the prefixes of tags hold for later documents too, as they don't in YAML.
+    /// Sets whether the prefixes of tags hold for later documents too. In YAML they don't.
     ///
-    /// The setting counts at each end of a document that is read from then on.
+    /// The setting takes effect from the next end of a document that is read.
     #[must_use]
     pub fn keep_tags(mut self, value: bool) -> Self {
         self.keep_tags = value;
@@ -100,10 +100,10 @@ impl<'input, T: Input> Parser<'input, T> {
         self
     }
 
-    /// Shows the item that [`Parser::next_event`] will hand out, and doesn't pass it.
+    /// Shows the item that [`Parser::next_event`] hands out next, without handing it out.
     ///
     /// # Errors
-    /// The fault that ends the events, up to where it is handed out.
+    /// The fault that ends the events, until it is handed out.
     pub fn peek(&mut self) -> Option<Result<&(Event<'input>, Span), ScanError>> {
         if self.has_ended() {
             return self.unsent_fault().map(Err);
@@ -120,7 +120,7 @@ impl<'input, T: Input> Parser<'input, T> {
         self.peeked.as_ref().map(Ok)
     }
 
-    /// Hands out the next event, and where a fault ends the events that fault, once.
+    /// Hands out the next event. If a fault ends the events, hands out that fault, once.
     ///
     /// # Errors
     /// The fault that ends the events.
@@ -133,7 +133,7 @@ impl<'input, T: Input> Parser<'input, T> {
         }
     }
 
-    /// Hands out the next event or the fault, where neither the stream's end nor a fault was read.
+    /// Hands out the next event or the fault, if neither the stream's end nor a fault was read before.
     #[inline]
     fn give(&mut self) -> Option<ParseResult<'input>> {
         let item = self.pass();
@@ -151,12 +151,12 @@ impl<'input, T: Input> Parser<'input, T> {
         Some(Err(fault))
     }
 
-    /// Hands events to a receiver: those up to the end of a document or, with `multi` or where no document is left, up
-    /// to the end of the stream. Behind that end, it alone is handed over.
+    /// Hands events to a receiver: those up to the end of a document or, with `multi` or if no document is left, up to
+    /// the end of the stream. If that end was handed out before, only it is handed over.
     ///
     /// # Errors
-    /// The fault that ends the events, each time. Inside a document, that no document begins there: nothing is handed
-    /// over or passed then.
+    /// The fault that ends the events, each time. If the parser is inside a document, the fault says that no document
+    /// begins there, and nothing is handed over or passed.
     pub fn load<R: SpannedEventReceiver<'input>>(
         &mut self,
         recv: &mut R,
@@ -190,13 +190,13 @@ impl<'input, T: Input> Parser<'input, T> {
         self.fault.is_some() || matches!(self.stand, Stand::Behind(_))
     }
 
-    /// The fault that is still to be handed out.
+    /// The fault that was not handed out yet.
     fn unsent_fault(&self) -> Option<ScanError> {
         let (fault, was_sent) = self.fault.as_ref()?;
         (!was_sent).then(|| fault.clone())
     }
 
-    /// Passes the next event, where neither the stream's end nor a fault was read. A fault is kept.
+    /// Passes the next event, if neither the stream's end nor a fault was read before. A fault is kept.
     #[inline]
     fn pass(&mut self) -> Option<ParseResult<'input>> {
         let item = if self.peeked.is_some() {
@@ -214,7 +214,7 @@ impl<'input, T: Input> Parser<'input, T> {
         item
     }
 
-    /// That no document begins where the parser stands; or the fault that comes next.
+    /// The fault that no document begins here, or the fault that comes next.
     fn no_document(&mut self) -> ScanError {
         match self.peek() {
             Some(Ok((_, span))) => {
@@ -249,7 +249,7 @@ impl<'input, T: Input> Iterator for Parser<'input, T> {
 }
 
 impl<T: Input + Clone> Clone for Parser<'_, T> {
-    /// A parser of its own at the same place. Before the first event, the input is cloned.
+    /// An independent parser at the same place. Before the first event, the input is cloned.
     fn clone(&self) -> Self {
         Parser {
             source: self.source.clone(),

@@ -1,12 +1,13 @@
-//! A text that is read part by part, as far as events need.
+//! Reads a text part by part, as far as events need.
 //!
-//! Whatever a line of a document marker stands in, it ends the document. So the documents up to such a line have the
-//! same events whatever follows, and the library parses them as a text of their own. The part ends with the marker, as
-//! all of the text has it there, and what the marker alone gives is left to the next part. Places and anchors count on.
+//! A line of a document marker ends the document, whatever is open there. So the documents up to such a line have the
+//! same events whatever follows, and the library parses them as a text of their own, a part. The part ends with the
+//! marker, as in the whole text. What the marker alone gives is left to the next part. Places and anchors go on
+//! counting.
 //!
-//! Where the part is refused, the fault may depend on what follows: the tokens of brackets that stay open are held, and
-//! a later fault of theirs comes first. So a part is parsed once before its events are handed out, and where it is
-//! refused once more with something behind it. If that gives another fault, more is read.
+//! If the part is refused, the fault may depend on what follows: the tokens of brackets that stay open are held, and a
+//! later fault in them comes first. So each part is parsed once before its events are handed out. If it is refused, it
+//! is parsed once more with something after it. If that gives another fault, more is read.
 
 mod cutter;
 
@@ -23,10 +24,10 @@ const START: &str = "---";
 /// What shows whether a fault depends on what follows: a comment, and a character that begins no token.
 const PROBE: &str = "\n#\n@";
 
-/// A parser over an input, of which it reads a part at a time.
+/// A parser over an input. It reads a part at a time.
 #[derive(Clone)]
 pub struct Parts<T> {
-    /// Where the characters come from. It is gone where reading it panicked.
+    /// Where the characters come from. It is gone if reading it panicked.
     input: Option<T>,
     /// The characters that were read and belong to no part yet.
     ahead: String,
@@ -46,19 +47,19 @@ struct Part {
     text: Arc<String>,
     /// How many bytes of the text are the part's own.
     len: usize,
-    /// How many characters stand before the marker of the next part, where one stands behind this part.
+    /// How many characters are before the marker of the next part, if one follows this part.
     marker: Option<usize>,
     is_last: bool,
 }
 
-/// What stands before a part.
+/// What comes before a part.
 #[derive(Clone, Copy, Default)]
 struct Origin {
     characters: usize,
     lines: usize,
     /// The id of the last anchor.
     anchor: usize,
-    /// That of the last anchor up to where events were handed out.
+    /// The id of the last anchor among the events that were handed out.
     latest: usize,
 }
 
@@ -98,7 +99,7 @@ impl<T: Input> Parts<T> {
         }
     }
 
-    /// The part that is read. Where prefixes of tags are to hold for later documents too, it is all that is left.
+    /// The part that is read. If prefixes of tags hold for later documents too, it is all that is left.
     fn part(&mut self, keep_tags: bool) -> &mut Part {
         let is_new = match &self.part {
             None => true,
@@ -148,14 +149,14 @@ impl<T: Input> Parts<T> {
                 let marker = is_before_marker.then(|| text.chars().count());
                 break Part::new(text, marker, false);
             }
-            // So each character is parsed a few times at most.
+            // So each character is parsed only a few times.
             least = 2 * at;
         };
         self.input = Some(input);
         part
     }
 
-    /// A part in place of one whose events were handed out in part: that, and all that is left.
+    /// Replaces a part whose events were partly handed out by one with all that is left.
     fn read_on(&mut self, part: &Part) -> Part {
         self.ahead.insert_str(0, &part.text[..part.len]);
         let mut whole = self.read(true);
@@ -165,7 +166,7 @@ impl<T: Input> Parts<T> {
         whole
     }
 
-    /// Goes on behind the part.
+    /// Goes on after the part.
     fn pass(&mut self) {
         if let Some(part) = self.part.take() {
             self.from.pass(&part.text[..part.len]);
@@ -263,7 +264,7 @@ impl Origin {
         event
     }
 
-    /// Goes on behind a part, which begins and ends with a line.
+    /// Goes on after a part, which begins and ends with a line.
     fn pass(&mut self, text: &str) {
         let in_pairs = text.matches("\r\n").count();
         self.characters += text.chars().count();

@@ -12,16 +12,15 @@ pub enum ScalarStyle {
     SingleQuoted,
     /// Between double quotes.
     DoubleQuoted,
-    /// A block behind `|`, whose lines are kept.
+    /// A block after `|`, whose lines are kept.
     Literal,
-    /// A block behind `>`, whose lines are joined.
+    /// A block after `>`, whose lines are joined.
     Folded,
 }
 
 /// A place between two characters of a text.
 ///
-/// Places of one text are in the order of their indexes. A place prints as `line:column`, both counted from 1, as
-/// editors do.
+/// Places of one text are ordered by their indexes. A place prints as `line:column`, both counted from 1 as in editors.
 #[derive(Clone, Copy, Debug, Default, PartialEq, Eq, PartialOrd, Ord)]
 pub struct Marker {
     index: usize,
@@ -36,7 +35,7 @@ impl Marker {
         Marker { index, line, col }
     }
 
-    /// How many characters stand before it.
+    /// How many characters are before it.
     #[must_use]
     pub fn index(&self) -> usize {
         self.index
@@ -48,7 +47,7 @@ impl Marker {
         self.line
     }
 
-    /// How many characters stand before it on its line.
+    /// How many characters of its line are before it.
     #[must_use]
     pub fn col(&self) -> usize {
         self.col
@@ -61,12 +60,13 @@ impl fmt::Display for Marker {
     }
 }
 
-/// A piece of a text, from one place up to another. `docs/SPANS.md` of the repository says what each event's covers.
+/// A piece of a text, from one place up to another. `docs/SPANS.md` of the repository says what the span of each event
+/// covers.
 #[derive(Clone, Copy, Debug, Default, PartialEq, Eq)]
 pub struct Span {
     /// Where it begins.
     pub start: Marker,
-    /// The place behind it.
+    /// The place after it.
     pub end: Marker,
 }
 
@@ -113,7 +113,7 @@ impl ScanError {
         ScanError { mark: loc, info }
     }
 
-    /// The same, of a text that is copied.
+    /// The same, with a copy of the text.
     #[must_use]
     pub fn new_str(loc: Marker, info: &str) -> ScanError {
         ScanError::new(loc, info.to_owned())
@@ -134,7 +134,7 @@ impl ScanError {
 
 impl fmt::Display for ScanError {
     fn fmt(&self, f: &mut fmt::Formatter<'_>) -> fmt::Result {
-        // The largest column has a successor in these numbers.
+        // A `u128` holds the successor of the largest column too.
         let column = self.mark.col as u128 + 1;
         write!(
             f,

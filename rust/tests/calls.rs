@@ -1,4 +1,4 @@
-//! What the calls of a parser answer beside a case's list, and what values of the crate print.
+//! What the calls of a parser return besides a case's list, and what values of the crate print.
 
 use saphyr_parser::input::{
     is_alpha, is_blank_or_breakz, is_breakz, is_digit, is_flow, is_z, SkipTabs,
@@ -11,7 +11,7 @@ use std::borrow::Cow;
 use std::error::Error;
 use std::thread;
 
-/// The short names of the events that it is sent.
+/// The short names of the events that it receives.
 #[derive(Default)]
 struct Outline(String);
 
@@ -33,7 +33,7 @@ impl<'input> EventReceiver<'input> for Outline {
     }
 }
 
-/// What one call of `load` sends and answers.
+/// What one call of `load` sends and returns.
 fn loaded<T: Input>(parser: &mut Parser<'_, T>, multi: bool) -> (String, Result<(), ScanError>) {
     let mut outline = Outline::default();
     let answer = parser.load(&mut outline, multi);
@@ -189,7 +189,7 @@ fn moves() {
     assert_eq!(shared, 8);
 }
 
-/// The events may live as long as is asked, and no shorter than the text.
+/// The events may live for any lifetime that is asked for, at least as long as the text.
 #[test]
 fn gives_events_of_their_own() {
     fn events(text: &str) -> Vec<Event<'static>> {
@@ -243,7 +243,7 @@ fn prints_tags() {
     assert!(parser.starts_with("Parser {"), "{parser}");
 }
 
-/// What the calls of an input answer. Each row has a call on a text, its answer, and what it leaves.
+/// What the calls of an input return. Each row has a call on a text, its result, and what it leaves.
 fn check_input<T: Input>(make: impl Fn(&'static str) -> T) {
     let left = |mut input: T| {
         let mut rest = String::new();

@@ -1,4 +1,4 @@
-//! Each case of the repository's files, from a string, an iterator and an input of one's own, and by each way to take
+//! Each case of the repository's files, from a string, an iterator and an input of your own, and by each way to take
 //! events.
 
 use saphyr_parser::{
@@ -22,7 +22,7 @@ struct Case {
     lines: Vec<String>,
 }
 
-/// The cases of a file. Of a line that stands for others with its escapes, the escapes are resolved.
+/// The cases of a file. If a line stands for several by its escapes, these are resolved.
 fn cases_of(file: &Path) -> Vec<Case> {
     let mut cases: Vec<Case> = Vec::new();
     for line in fs::read_to_string(file).unwrap().split_terminator('\n') {
@@ -137,7 +137,7 @@ fn escaped(text: &str) -> String {
         .fold(text.to_owned(), |text, (from, to)| text.replace(from, to))
 }
 
-/// An input of one's own, with the calls that have no default, and a window of eight.
+/// An input of your own, with only the calls that have no default, and a window of eight.
 #[derive(Clone)]
 struct ListInput<'a> {
     rest: &'a [char],
@@ -256,7 +256,7 @@ fn compare<T: Input + Clone>(parser: Parser<'_, T>, case: &Case) {
     assert_eq!(all(parser), case.lines, "{}", case.name);
 }
 
-/// The characters of bytes that come in pieces, each as soon as all of it is there.
+/// The characters of bytes that come in pieces. Each comes as soon as all of it is there.
 fn in_pieces(bytes: &[u8], count: usize) -> impl Iterator<Item = char> + '_ {
     let mut held = Vec::new();
     bytes.chunks(count).flat_map(move |piece| {
@@ -300,8 +300,8 @@ fn all_cases() -> Vec<Case> {
     cases
 }
 
-/// An iterator is read a document at a time, and a string as a whole: what stands in a text before a marker and behind
-/// it is that of any case.
+/// An iterator is read a document at a time, and a string as a whole. What the text has before and after a marker is
+/// that of any case.
 #[test]
 fn reads_documents_behind_one_another() {
     let cases = all_cases();

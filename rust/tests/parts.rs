@@ -6,7 +6,7 @@ use std::io::{BufReader, Read, Write};
 use std::os::unix::net::UnixStream;
 use std::time::Duration;
 
-/// The scalars that it is sent.
+/// The scalars that it receives.
 #[derive(Default)]
 struct Scalars(Vec<String>);
 
@@ -59,7 +59,7 @@ fn reads_no_further_than_a_document() {
         len
     });
     let read = read_at_ends(&five.concat());
-    // Behind a document `---` and the character behind it are read, and behind the last one nothing is left.
+    // After a document, `---` and the next character are read, and after the last one nothing is left.
     assert_eq!(read[..4], before.map(|it| it + 4)[..4]);
     assert_eq!(read[4], before[4]);
     assert_eq!(
@@ -106,7 +106,7 @@ fn gives_documents_without_an_end() {
     assert_eq!(fault.to_string(), said);
 }
 
-/// The items of a parser whose setting of `keep_tags` is changed behind so many events, and behind a peek.
+/// The items of a parser whose setting of `keep_tags` is changed after this many events, and after a peek.
 fn switched<T: Input>(
     mut parser: Parser<'_, T>,
     begun: usize,
@@ -139,7 +139,7 @@ fn keeps_tags_of_an_iterator_from_an_end_on() {
         .any(Result::is_err));
 }
 
-/// Random texts of these pieces, in which markers stand everywhere, have the same events as a whole and part by part.
+/// Random texts of these pieces, with markers everywhere, have the same events as a whole and part by part.
 #[test]
 fn reads_random_texts_alike() {
     let words = "\n---\n|\n--- |\n...\n|\n... # c\n|\r---\r|\r...\r|\r\n...\r\n|---\t|... |\n|\n\n| |  |\t|\r|a|b: \

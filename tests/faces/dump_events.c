@@ -3,7 +3,7 @@
  *
  *     dump_events [FILE]
  *
- * The status is 0 where all events were printed, and 1 where the text is refused or can't be read.
+ * The status is 0 if all events were printed, and 1 if the text is refused or can't be read.
  */
 #include "printing.h"
 

@@ -1,5 +1,5 @@
 /*
- * Events of a text that comes in pieces, whatever their cuts: over the calls of saphyr_parser.h, to copy.
+ * The events of a text that comes in pieces, cut anywhere. Uses the calls of saphyr_parser.h, and is made to be copied.
  *
  *     struct pieces pieces = {0};
  *     saphyr_event event = {0};
@@ -11,17 +11,17 @@
  *             ... event.kind ...
  *     pieces_free(&pieces);
  *
- * Whatever a line of a document marker stands in, it ends the document. So the documents up to such a line have the
- * same events whatever follows, and are parsed as a text of their own, a part. A part ends before a line of `---`,
- * where something stands before it and no directive may be its own, and behind a line of `...`. It is parsed with the
- * marker behind it, as all of the text has it there, and what the marker alone gives is left to the next part. Places
- * and anchors count on.
+ * A line of a document marker ends the document, whatever is open there. So the documents up to such a line have the
+ * same events whatever follows, and are parsed as a text of their own, a part. A part ends after a line of `...`. It
+ * also ends before a line of `---`, if something comes before that line in the part and no directive may belong to it.
+ * The part is parsed with the marker after it, as in the whole text. What the marker alone gives is left to the next
+ * part. Places and anchors go on counting.
  *
- * Where the part is refused, the fault may depend on what follows: the tokens of brackets that stay open are held, and
- * a later fault of theirs comes first. So a part is parsed once before its events are handed out, and where it is
- * refused once more with something behind it. If that gives another fault, more bytes are wanted.
+ * If the part is refused, the fault may depend on what follows: the tokens of brackets that stay open are held, and a
+ * later fault in them comes first. So each part is parsed once before its events are handed out. If it is refused, it
+ * is parsed once more with something after it. If that gives another fault, more bytes are needed.
  *
- * Bytes that are not UTF-8 are told when their part is begun, behind the events of the parts before.
+ * Bytes that are not UTF-8 are reported when their part begins, after the events of the parts before.
  */
 #ifndef PIECES_H
 #define PIECES_H
@@ -31,25 +31,25 @@
 #include <stdlib.h>
 #include <string.h>
 
-/* What pieces_next answers where more bytes are wanted, beside what saphyr_next answers and saphyr_new does. */
+/* What pieces_next returns if more bytes are needed. It also returns what saphyr_next and saphyr_new return. */
 enum { PIECES_MORE = 2 };
 
-/* What stands on a line so far. */
+/* What a line has so far. */
 enum pieces_line { LINE_START, LINE_DASHES, LINE_DOTS, LINE_CLOSED, LINE_CLOSED_BY_CR, LINE_OTHER };
 
 struct pieces {
-    /* The bytes that came, where the part starts among them, how many there are, and for how many there is room. */
+    /* The bytes that came; where the part starts among them, how many they are, and for how many there is room. */
     uint8_t *text;
     size_t start, len, room;
     bool has_all, lacks_memory;
-    /* Where the next byte is that wasn't looked at, where its line begins, and what stands on that so far. No part ends
-       before the last place. */
+    /* The next byte to look at, and where its line begins. No part ends before `least`. Then what the line has so
+       far. */
     size_t place, line, least;
     enum pieces_line state;
     int marks;
-    /* Whether a line that may be a directive stands behind the last `---`. */
+    /* Whether a line after the last `---` may be a directive. */
     bool has_directive;
-    /* The parser of the part and the part's end, where it was found; whether `---` stands there, or nothing more. */
+    /* The parser of the part, and the part's end once it is found; whether `---` follows there, or nothing more. */
     saphyr_parser parser;
     size_t end;
     bool has_part, is_before_marker, is_last, has_begun;
@@ -63,7 +63,7 @@ static inline void pieces_free(struct pieces *in) {
     memset(in, 0, sizeof *in);
 }
 
-/* Takes the next bytes, where pieces_next wants more. No byte says that none follow. */
+/* Takes the next bytes, if pieces_next needs more. A length of 0 says that no more follow. */
 static inline void pieces_add(struct pieces *in, const uint8_t *bytes, size_t len) {
     in->has_all |= len == 0;
     if (in->start > in->len - in->start) {
@@ -90,7 +90,7 @@ static inline void pieces_add(struct pieces *in, const uint8_t *bytes, size_t le
     }
 }
 
-/* Looks at a byte. Whether the part may end. */
+/* Looks at the next byte. Returns whether the part may end. */
 static inline bool pieces_look(struct pieces *in, uint8_t byte) {
     enum pieces_line old = in->state;
     size_t line = in->line;
@@ -119,13 +119,13 @@ static inline bool pieces_look(struct pieces *in, uint8_t byte) {
         in->state = byte == '-' ? LINE_DASHES : LINE_DOTS;
         in->marks = 1;
     } else if (old == LINE_START) {
-        /* The byte EF may begin a byte order mark, behind which a directive may stand. */
+        /* The byte EF may begin a byte order mark, and a directive may follow that. */
         in->has_directive |= byte == '%' || byte == 0xef;
     }
     return may_end;
 }
 
-/* What ends the events of a text, and how many there are. The fault's text is not to be read. */
+/* What ends the events of a text, and how many events there are. The text of the fault must not be read. */
 static inline int32_t pieces_ending(const uint8_t *text, size_t len, size_t *events, saphyr_event *last) {
     saphyr_parser parser = {0};
     int32_t status = saphyr_new(text, len, false, &parser);
@@ -164,7 +164,7 @@ static inline int32_t pieces_begin(struct pieces *in) {
     while (!has_ended && in->place < in->len) {
         has_ended = pieces_look(in, in->text[in->place]) && in->end >= in->least;
         if (has_ended && !pieces_is_decided(in)) {
-            /* So each byte is parsed a few times at most. */
+            /* So each byte is parsed only a few times. */
             in->least = in->end + (in->end - in->start);
             has_ended = false;
         }
@@ -184,7 +184,7 @@ static inline int32_t pieces_begin(struct pieces *in) {
     return in->lacks_memory ? SAPHYR_NO_MEMORY : saphyr_new(in->text + in->start, len, false, &in->parser);
 }
 
-/* Goes on behind the part, which ends with a line. What was looked at behind it is looked at again. */
+/* Goes on after the part, which ends with a line. The bytes after it are looked at again. */
 static inline void pieces_end(struct pieces *in) {
     saphyr_free(&in->parser);
     for (size_t at = in->start; at < in->end; at++) {
@@ -216,7 +216,7 @@ static inline bool pieces_is_behind(const struct pieces *in, const saphyr_event 
             event->start.index >= in->characters_behind - in->characters);
 }
 
-/* As saphyr_next; or PIECES_MORE, and then the next bytes are to be added. */
+/* Like saphyr_next; or returns PIECES_MORE, and then the caller must add the next bytes. */
 static inline int32_t pieces_next(struct pieces *in, saphyr_event *event) {
     for (;;) {
         int32_t status = in->lacks_memory ? SAPHYR_NO_MEMORY : in->has_part ? SAPHYR_OK : pieces_begin(in);

@@ -1,4 +1,4 @@
-/* The line of an event, as `dump_events` prints it, and what reads a whole file. */
+/* Prints the line of an event as `dump_events` does, and reads whole files. */
 #ifndef PRINTING_H
 #define PRINTING_H
 
@@ -8,7 +8,7 @@
 #include <stdlib.h>
 #include <string.h>
 
-/* Lines on their way to a file: what is used of the bytes is not written yet. */
+/* Lines on their way to a file. The first `used` bytes are not written yet. */
 struct printer {
     FILE *file;
     size_t used;
@@ -61,7 +61,7 @@ static inline void print_number(struct printer *out, const char *before, size_t 
     out->used += (size_t)sprintf(out->bytes + out->used, "%s%zu", before, number);
 }
 
-/* The letter that stands behind a backslash for a byte of a scalar's text, or 0 where it stands for itself. */
+/* The letter that follows the backslash in the escape of a byte, or 0 if the byte is printed as it is. */
 static inline char escape_of(uint8_t byte) {
     switch (byte) {
     case '\\': return '\\';
@@ -81,7 +81,7 @@ static inline bool may_need_escapes(uint64_t word) {
     return ((less | equal) & (each * 0x80)) != 0;
 }
 
-/* Spells a piece of a scalar's text, of which a byte takes two at most, and says where that ends. */
+/* Spells a piece of a scalar's text, at most two bytes for each byte. Returns where the spelling ends. */
 static inline char *spell(char *to, const uint8_t *at, const uint8_t *end) {
     while (at < end) {
         uint64_t word;
@@ -154,7 +154,7 @@ static inline void print_fault(FILE *out, const saphyr_event *fault) {
     fprintf(out, " at byte %zu line %zu column %zu", at->index, at->line, at->col + 1);
 }
 
-/* All bytes of a file, and how many there are; NULL where there is no memory for them. */
+/* All bytes of a file, and how many there are; or NULL if there is no memory for them. */
 static inline uint8_t *read_all(FILE *file, size_t *len) {
     size_t room = 1 << 16, got;
     uint8_t *text = malloc(room);

@@ -4,7 +4,7 @@ use crate::char_traits::is_yaml_non_break;
 use crate::input::Input;
 use std::collections::VecDeque;
 
-/// How many characters may be loaded, as callers are told.
+/// How many characters may be loaded, by `bufmaxlen`.
 const WINDOW: usize = 16;
 
 /// The characters that an iterator gives up to its first `None`.
@@ -12,7 +12,7 @@ const WINDOW: usize = 16;
 pub struct BufferedInput<T: Iterator<Item = char>> {
     source: T,
     has_ended: bool,
-    /// The characters that are loaded. Behind the last of the text there is `None`.
+    /// The characters that are loaded. After the last of the text there is `None`.
     loaded: VecDeque<Option<char>>,
 }
 

@@ -3,7 +3,7 @@
 use crate::char_traits::is_yaml_non_break;
 use crate::input::Input;
 
-/// How many characters may be loaded, as callers are told. The text is there as a whole.
+/// How many characters may be loaded, by `bufmaxlen`. The whole text is there anyway.
 const WINDOW: usize = 128;
 
 /// The characters of a text.

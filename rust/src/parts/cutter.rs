@@ -1,11 +1,11 @@
-//! Where a text may be cut: behind documents that have ended, whatever follows.
+//! Where a text may be cut: after documents that have ended, whatever follows.
 
 use crate::char_traits::{is_blank, is_break};
 
 /// Goes over the characters of a part, and finds where it may end.
 ///
-/// A part ends before a line of `---`, where something stands before it and no directive may be its own, and behind a
-/// line of `...`. Where a line isn't known to be one of these, the part only ends later than it could.
+/// A part ends after a line of `...`. It also ends before a line of `---`, if something comes before that line in the
+/// part and no directive may belong to it. A line that is not recognized only makes the part end later than it could.
 #[derive(Default)]
 pub struct Cutter {
     /// How many bytes were passed.
@@ -13,26 +13,26 @@ pub struct Cutter {
     /// Where the line began.
     line: usize,
     state: State,
-    /// Whether a line that may be a directive stands behind the last `---`.
+    /// Whether a line after the last `---` may be a directive.
     has_directive: bool,
 }
 
-/// What stands on a line so far.
+/// What a line has so far.
 #[derive(Clone, Copy, Default)]
 enum State {
     #[default]
     Nothing,
-    /// So many of the characters of a marker.
+    /// This many characters of a marker.
     Begun(char, usize),
-    /// A line of `...`, with what stands behind.
+    /// A line of `...`, and what follows on it.
     Ended,
-    /// The same, with CR behind it, which LF may follow.
+    /// The same, with a CR after it, which LF may follow.
     EndedByCr,
     Other,
 }
 
 impl Cutter {
-    /// Passes a character. Where the part may end here, answers how many bytes it has then.
+    /// Passes a character. If the part may end here, returns how many bytes it has then.
     pub fn push(&mut self, c: char) -> Option<usize> {
         let (before, line) = (self.passed, self.line);
         self.passed += c.len_utf8();
@@ -73,7 +73,7 @@ impl Cutter {
 }
 
 impl State {
-    /// What stands on a line where no marker does.
+    /// What a line has that has no marker.
     fn behind(c: char) -> State {
         if is_break(c) {
             State::Nothing
