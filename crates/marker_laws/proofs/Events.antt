@@ -17,14 +17,11 @@ use Rattle.event_laws.specs.More as more_tokens
 use Rattle.event_laws.proofs.Longer.{More, longer}
 use Rattle.event_laws.proofs.Promises.CommonBeginnings.{IsLastToldBy, GoesOn, goes_on}
 use Rattle.event_laws.proofs.Promises.ClosedTokens.{ended_by, marker_ends, start}
+use Rattle.marker_laws.proofs.Between.{next_between}
 use Rattle.marker_laws.specs.UpTo.{marker_kind, marker_token, open_behind, open_behind_held, AlikeThrough}
 use Rattle.marker_laws.specs.UpTo as up_to
-use Rattle.marker_laws.specs.EventsUpTo.{answer_of_all, open_behind_all, before_all, ComeFirst, own_event, EndsWithMarker, AnswersAlike}
+use Rattle.marker_laws.specs.EventsUpTo.{answer_of_all, open_behind_all, before_all, BeginBetween, EndWith, ComeFirst, own_event, AnswersAlike}
 use Rattle.marker_laws.specs.EventsUpTo as events_up_to
-
--- an answer comes first in itself
-itself : (a b : Answer) → b ≡ a → ComeFirst a b
-itself a b e = ([], ap (λ (v : Answer). v.events) e ∙ sym (append-nil a.events))
 
 -- the marker of a token
 abbrev IsMarker : DocumentMarker → Kind → Type 0
@@ -40,8 +37,17 @@ marker_of from = by (slice_index from 0 == full_stop)
 -- The answers are the same; or the first one's tokens, of which the last is the marker's, end too early for it, and its
 -- events come first.
 abbrev GoesOnFrom : Kind → Answer → Answer → Type 0
-GoesOnFrom kind a b = (b ≡ a)
-    ⊎ ((a.fault ≡ Some (ending_of (ending_refusal None))) × EndsWithMarker kind a.events × ComeFirst a b)
+GoesOnFrom kind a b = (b ≡ a) ⊎ ((a.fault ≡ Some (ending_of (ending_refusal None))) × ComeFirst kind a b)
+
+-- an answer comes first in itself, where it does in another
+itself : (kind : Kind) (a b c : Answer) → b ≡ a → ComeFirst kind a c → ComeFirst kind a b
+itself kind a b c e h =
+    ([], ap (λ (v : Answer). v.events) e ∙ sym (append-nil a.events), alone h.2)
+  where
+    alone : EndWith (own_event kind) a.events ⊎ ((kind ≡ tokens.DocumentEnd) × BeginBetween h.0)
+        → EndWith (own_event kind) a.events ⊎ ((kind ≡ tokens.DocumentEnd) × BeginBetween [])
+    alone (inl l) = inl l
+    alone (inr n) = inr (n.0, tt)
 
 one_more : (front : List Piece) (t : Piece) (n : ℕ)
     → open_behind_all (front ++ t ∷ []) n ≡ open_behind t (open_behind_all front n)
@@ -53,9 +59,9 @@ none_left [] x e = cc
 none_left (t ∷ ts) x e = cc
 
 own : (w : DocumentMarker) (kind : Kind) (es os : List (Happening × Span)) (s : Span) → IsMarker w kind
-    → es ≡ os ++ (marker_event w, s) ∷ [] → EndsWithMarker kind es
-own Starts kind es os s i h = rw i (inl (os, s, h))
-own Ends kind es os s i h = rw i (inl (os, s, h))
+    → es ≡ os ++ (marker_event w, s) ∷ [] → EndWith (own_event kind) es
+own Starts kind es os s i h = rw i (os, s, h)
+own Ends kind es os s i h = rw i (os, s, h)
 
 module _ (keep : Bool) (w : DocumentMarker) (ts us : List Piece) (x : Piece) (e : Option Refusal)
     (is : IsMarker w x.kind)
@@ -66,19 +72,24 @@ module _ (keep : Bool) (w : DocumentMarker) (ts us : List Piece) (x : Piece) (e 
     abbrev m : Machine
     m = start keep (ts ++ x ∷ []) None
 
-    ends_so : (k : Machine) (es : List (Happening × Span)) → IsLastToldBy z m k es → EndsWithMarker x.kind es
+    ends_so : (k : Machine) (es : List (Happening × Span)) → IsLastToldBy z m k es
+        → EndWith (own_event x.kind) es
+        ⊎ ((x.kind ≡ tokens.DocumentEnd) × BeginBetween (remaining_answer (longer z k)).events)
     ends_so k es (inl (inl h)) = absurd h
-    ends_so k es (inl (inr h)) = inr (is ∙ ap more_tokens.marker_token h.0)
+    ends_so k es (inl (inr h)) = inr (is ∙ ap more_tokens.marker_token h.0, next_between (longer z k) h.1)
     ends_so k es (inr (inl h)) = absurd (none_left ts x h.0)
-    ends_so k es (inr (inr h)) = own w x.kind es h.0 h.1 is h.2
+    ends_so k es (inr (inr h)) = inl (own w x.kind es h.0 h.1 is h.2)
 
     goes_so : (a b : Answer) → GoesOn z None m a b → GoesOnFrom x.kind a b
     goes_so a b (inl y) = inl y
     goes_so a b (inr y) =
         inr (
           y.0,
-          ends_so y.1.0 a.events y.1.3,
-          ((remaining_answer (longer z y.1.0)).events, ap (λ (v : Answer). v.events) y.1.2),
+          (
+            (remaining_answer (longer z y.1.0)).events,
+            ap (λ (v : Answer). v.events) y.1.2,
+            ends_so y.1.0 a.events y.1.3,
+          ),
         )
 
     goes_behind : GoesOnFrom x.kind (answer_of_tokens keep (ts ++ x ∷ []))
@@ -114,11 +125,11 @@ module _ (limit : ℕ) (v from : List ℕ) (keep : Bool) where
       → q.pieces ≡ front ++ marker_token (length v) line from ∷ more → AnswersAlike limit v from keep r q)
   both_begin front line r q (inl x) (inl y) others more h k = events_up_to.same (x ∙ sym y)
   both_begin front line r q (inl x) (inr y) others more h k =
-      events_up_to.first front line others more h k y.0 y.1 (itself _ _ x) y.2
+      events_up_to.first front line others more h k y.0 (itself kind _ _ (answer_of_all keep q) x y.1) y.1
   both_begin front line r q (inr x) (inl y) others more h k =
-      events_up_to.first front line others more h k x.0 x.1 x.2 (itself _ _ y)
+      events_up_to.first front line others more h k x.0 x.1 (itself kind _ _ (answer_of_all keep r) y x.1)
   both_begin front line r q (inr x) (inr y) others more h k =
-      events_up_to.first front line others more h k x.0 x.1 x.2 y.2
+      events_up_to.first front line others more h k x.0 x.1 y.1
 
   pub answers_alike : (front : List Piece) (n : ℕ) (r q : Remaining) → n ≡ open_behind_all front 0
       → AlikeThrough limit v from n r q → AnswersAlike limit v from keep (before_all front r) (before_all front q)

@@ -17,4 +17,5 @@ pub mod Markers
 pub mod OpenFlows
 pub mod Runs
 pub mod Through
+pub mod Between
 pub mod Events

@@ -7,7 +7,7 @@ use Rattle.saphyr_scanner.specs.Views.Tokens.{Piece, Remaining}
 use Rattle.saphyr_scanner.specs.Steps.Remaining.{run}
 use Rattle.saphyr_scanner.specs.Steps.State.{State}
 use Rattle.saphyr_scanner.specs.Steps.Fetch.{is_held}
-use Rattle.saphyr_machine.specs.Events.{Happening, DocumentStart, DocumentEnd}
+use Rattle.saphyr_machine.specs.Events.{Happening, StreamEnd, DocumentStart, DocumentEnd}
 use Rattle.saphyr_machine.specs.Steps.Machine.{ending_refusal}
 use Rattle.saphyr_machine.specs.Answer.{Answer, ending_of}
 use Rattle.saphyr_machine.specs.Cursor.{at_start, keeping_tags, to_come}
@@ -27,25 +27,35 @@ open_behind_all (t ∷ ts) n = open_behind_all ts (open_behind t n)
 abbrev pub before_all : List Piece → Remaining → Remaining
 before_all ts r = record { pieces = ts ++ r.pieces; refusal = r.refusal }
 
--- the events of the first answer come first in the second
-abbrev pub ComeFirst : Answer → Answer → Type 0
-ComeFirst a b = (others : List (Happening × Span)) × (b.events ≡ a.events ++ others)
-
 -- the marker's own event
 abbrev pub own_event : Kind → Happening
 own_event tokens.DocumentStart = DocumentStart true
 own_event _ = DocumentEnd
 
--- The last event is the marker's own. A `...` where no document is open has none.
-abbrev pub EndsWithMarker : Kind → List (Happening × Span) → Type 0
-EndsWithMarker kind es =
-    ((others : List (Happening × Span)) × (span : Span) × (es ≡ others ++ (own_event kind, span) ∷ []))
-    ⊎ (kind ≡ tokens.DocumentEnd)
+-- Where no document is open, a document starts or the stream ends next, if anything comes.
+abbrev pub IsBetween : Happening → Type 0
+IsBetween StreamEnd = Unit {0}
+IsBetween (DocumentStart explicit) = Unit {0}
+IsBetween _ = ⊥
+
+abbrev pub BeginBetween : List (Happening × Span) → Type 0
+BeginBetween [] = Unit {0}
+BeginBetween (e ∷ es) = IsBetween e.0
+
+-- the last event is this one
+abbrev pub EndWith : Happening → List (Happening × Span) → Type 0
+EndWith what es = (others : List (Happening × Span)) × (span : Span) × (es ≡ others ++ (what, span) ∷ [])
+
+-- The events of the first answer come first in the second. The last of them is the marker's own; or the marker is a
+-- `...` where no document is open, which has no event.
+abbrev pub ComeFirst : Kind → Answer → Answer → Type 0
+ComeFirst kind a b =
+    (others : List (Happening × Span)) × (b.events ≡ a.events ++ others)
+    × (EndWith (own_event kind) a.events ⊎ ((kind ≡ tokens.DocumentEnd) × BeginBetween others))
 
 -- What two lists of tokens give: the same events and the same fault; or the events that the tokens up to and including
--- the marker's give come first in both. The last of these is the marker's own, and these tokens have no fault but that
--- more have to come. Or else the tokens up to the marker leave a bracket open, and the first token that is held may
--- still turn out to be a key.
+-- the marker's give come first in both, and these tokens have no fault but that more have to come. Or else the tokens up
+-- to the marker leave a bracket open, and the first token that is held may still turn out to be a key.
 pub data AnswersAlike (limit : ℕ) (v from : List ℕ) (keep : Bool) (r w : Remaining) : Type 0 where
   same : answer_of_all keep r ≡ answer_of_all keep w → AnswersAlike limit v from keep r w
   first : (front : List Piece) (line : ℕ) (others more : List Piece)
@@ -53,10 +63,10 @@ pub data AnswersAlike (limit : ℕ) (v from : List ℕ) (keep : Bool) (r w : Rem
       → w.pieces ≡ front ++ marker_token (length v) line from ∷ more
       → (answer_of_tokens keep (front ++ marker_token (length v) line from ∷ [])).fault
       ≡ Some (ending_of (ending_refusal None))
-      → EndsWithMarker (marker_kind from)
-      (answer_of_tokens keep (front ++ marker_token (length v) line from ∷ [])).events
-      → ComeFirst (answer_of_tokens keep (front ++ marker_token (length v) line from ∷ [])) (answer_of_all keep r)
-      → ComeFirst (answer_of_tokens keep (front ++ marker_token (length v) line from ∷ [])) (answer_of_all keep w)
+      → ComeFirst (marker_kind from) (answer_of_tokens keep (front ++ marker_token (length v) line from ∷ []))
+      (answer_of_all keep r)
+      → ComeFirst (marker_kind from) (answer_of_tokens keep (front ++ marker_token (length v) line from ∷ []))
+      (answer_of_all keep w)
       → AnswersAlike limit v from keep r w
   undecided : (front : List Piece) (i j line : ℕ) (s t : State) → Reaches limit (v ++ from) s
       → Past (marker_token (length v) line from) s t
