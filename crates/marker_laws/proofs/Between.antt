@@ -12,11 +12,11 @@ use Rattle.saphyr_machine.specs.Steps.Expected.{event_step, event_step_at}
 use Rattle.saphyr_machine.specs.Answer.{Answer, answer_of_step, remaining_answer}
 use Rattle.saphyr_machine.proofs.Unroll.{unroll}
 use Rattle.event_laws.proofs.Beside.Documents.{IsBetweenDocuments}
-use Rattle.marker_laws.specs.EventsUpTo.{IsBetween, BeginBetween}
+use Rattle.marker_laws.specs.EventsUpTo.{IsOutsideDocuments, BeginOutsideDocuments}
 
 -- where a step tells an event, a document starts or the stream ends
 abbrev TellsBetween : Result Told Refusal → Type 0
-TellsBetween (Ok x) = IsBetween x.what
+TellsBetween (Ok x) = IsOutsideDocuments x.what
 TellsBetween (Err e) = Unit {0}
 
 behind_token : (r : Result (Piece × Machine) Refusal) (go : Kind → Piece → Machine → Result Told Refusal)
@@ -58,12 +58,13 @@ not_over state.ImplicitDocumentStart i = λ e. absurd (cc)
 not_over state.DocumentStart i = λ e. absurd (cc)
 not_over _ i = absurd i
 
-begins_between : (r : Result Told Refusal) → TellsBetween r → BeginBetween (answer_of_step r remaining_answer).events
+begins_between : (r : Result Told Refusal) → TellsBetween r
+    → BeginOutsideDocuments (answer_of_step r remaining_answer).events
 begins_between (Ok x) h = h
 begins_between (Err e) h = tt
 
-pub next_between : (m : Machine) → IsBetweenDocuments m.state → BeginBetween (remaining_answer m).events
+pub next_between : (m : Machine) → IsBetweenDocuments m.state → BeginOutsideDocuments (remaining_answer m).events
 unfolding event_step
 next_between m i =
-    subst (λ (a : Answer). BeginBetween a.events) (sym (unroll m (not_over m.state i)))
+    subst (λ (a : Answer). BeginOutsideDocuments a.events) (sym (unroll m (not_over m.state i)))
     (begins_between (event_step_at m.state m) (step_between m.state m i))

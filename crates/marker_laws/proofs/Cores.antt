@@ -28,10 +28,6 @@ pub at_before : {from : List ℕ} (c : Core) (s t : Cursor) → Before from s t
     → Cores from (with_cursor s c) (with_cursor t c)
 at_before c _ _ (before s h) = cores (with_cursor s c) (stands_before s.mark h)
 
-pub of_twins : {from : List ℕ} (s : Cursor) (q : List ℕ) → Stands from s.mark s.rest q → (c d : Core) → Twins s q c d
-    → Cores from c d
-of_twins s q h _ _ (twins c) = cores (with_cursor s c) h
-
 -- ## Keys and indentation
 
 pub save_twins : (s : Cursor) (q : List ℕ) (n : ℕ) (c d : Core) → Twins s q c d

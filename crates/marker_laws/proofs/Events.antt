@@ -18,9 +18,9 @@ use Rattle.event_laws.proofs.Longer.{More, longer}
 use Rattle.event_laws.proofs.Promises.CommonBeginnings.{IsLastToldBy, GoesOn, goes_on}
 use Rattle.event_laws.proofs.Promises.ClosedTokens.{ended_by, marker_ends, start}
 use Rattle.marker_laws.proofs.Between.{next_between}
-use Rattle.marker_laws.specs.UpTo.{marker_kind, marker_token, open_behind, open_behind_held, AlikeThrough}
+use Rattle.marker_laws.specs.UpTo.{marker_kind, marker_piece, brackets_behind, brackets_behind_held, AlikeThrough}
 use Rattle.marker_laws.specs.UpTo as up_to
-use Rattle.marker_laws.specs.EventsUpTo.{answer_of_all, open_behind_all, before_all, BeginBetween, EndWith, ComeFirst, own_event, AnswersAlike}
+use Rattle.marker_laws.specs.EventsUpTo.{answer_of_all, brackets_behind_all, before_all, BeginOutsideDocuments, EndWith, ComeFirst, own_event, AnswersAlike}
 use Rattle.marker_laws.specs.EventsUpTo as events_up_to
 
 -- the marker of a token
@@ -44,15 +44,15 @@ itself : (kind : Kind) (a b c : Answer) → b ≡ a → ComeFirst kind a c → C
 itself kind a b c e h =
     ([], ap (λ (v : Answer). v.events) e ∙ sym (append-nil a.events), alone h.2)
   where
-    alone : EndWith (own_event kind) a.events ⊎ ((kind ≡ tokens.DocumentEnd) × BeginBetween h.0)
-        → EndWith (own_event kind) a.events ⊎ ((kind ≡ tokens.DocumentEnd) × BeginBetween [])
+    alone : EndWith (own_event kind) a.events ⊎ ((kind ≡ tokens.DocumentEnd) × BeginOutsideDocuments h.0)
+        → EndWith (own_event kind) a.events ⊎ ((kind ≡ tokens.DocumentEnd) × BeginOutsideDocuments [])
     alone (inl l) = inl l
     alone (inr n) = inr (n.0, tt)
 
 one_more : (front : List Piece) (t : Piece) (n : ℕ)
-    → open_behind_all (front ++ t ∷ []) n ≡ open_behind t (open_behind_all front n)
+    → brackets_behind_all (front ++ t ∷ []) n ≡ brackets_behind t (brackets_behind_all front n)
 one_more [] t n = refl
-one_more (s ∷ ts) t n = one_more ts t (open_behind s n)
+one_more (s ∷ ts) t n = one_more ts t (brackets_behind s n)
 
 none_left : (ts : List Piece) (x : Piece) → ts ++ x ∷ [] ≡ [] → ⊥
 none_left [] x e = cc
@@ -74,7 +74,7 @@ module _ (keep : Bool) (w : DocumentMarker) (ts us : List Piece) (x : Piece) (e 
 
     ends_so : (k : Machine) (es : List (Happening × Span)) → IsLastToldBy z m k es
         → EndWith (own_event x.kind) es
-        ⊎ ((x.kind ≡ tokens.DocumentEnd) × BeginBetween (remaining_answer (longer z k)).events)
+        ⊎ ((x.kind ≡ tokens.DocumentEnd) × BeginOutsideDocuments (remaining_answer (longer z k)).events)
     ends_so k es (inl (inl h)) = absurd h
     ends_so k es (inl (inr h)) = inr (is ∙ ap more_tokens.marker_token h.0, next_between (longer z k) h.1)
     ends_so k es (inr (inl h)) = absurd (none_left ts x h.0)
@@ -109,20 +109,20 @@ module _ (limit : ℕ) (v from : List ℕ) (keep : Bool) where
   regrouped front x r = ap (λ ts. let v : Remaining = record { pieces = ts; refusal = r.refusal } in v)
       (append_assoc front (x ∷ []) r.pieces)
 
-  behind : (front : List Piece) (line : ℕ) (r : Remaining) → let x = marker_token (length v) line from in
+  behind : (front : List Piece) (line : ℕ) (r : Remaining) → let x = marker_piece (length v) line from in
       GoesOnFrom kind (answer_of_tokens keep (front ++ x ∷ [])) (answer_of_all keep (before_all front (before x r)))
   behind front line r =
-      let x = marker_token (length v) line from in
+      let x = marker_piece (length v) line from in
       subst (λ v. GoesOnFrom kind (answer_of_tokens keep (front ++ x ∷ [])) (answer_of_all keep v))
       (regrouped front x r)
       (goes_behind keep w.0 front r.pieces x r.refusal w.1)
 
   -- what two lists give that begin with the same tokens, of which the last is the marker's
   both_begin : (front : List Piece) (line : ℕ) (r q : Remaining)
-      → (let a = answer_of_tokens keep (front ++ marker_token (length v) line from ∷ []) in
+      → (let a = answer_of_tokens keep (front ++ marker_piece (length v) line from ∷ []) in
       GoesOnFrom kind a (answer_of_all keep r) → GoesOnFrom kind a (answer_of_all keep q)
-      → (others more : List Piece) → r.pieces ≡ front ++ marker_token (length v) line from ∷ others
-      → q.pieces ≡ front ++ marker_token (length v) line from ∷ more → AnswersAlike limit v from keep r q)
+      → (others more : List Piece) → r.pieces ≡ front ++ marker_piece (length v) line from ∷ others
+      → q.pieces ≡ front ++ marker_piece (length v) line from ∷ more → AnswersAlike limit v from keep r q)
   both_begin front line r q (inl x) (inl y) others more h k = events_up_to.same (x ∙ sym y)
   both_begin front line r q (inl x) (inr y) others more h k =
       events_up_to.first front line others more h k y.0 (itself kind _ _ (answer_of_all keep q) x y.1) y.1
@@ -131,16 +131,16 @@ module _ (limit : ℕ) (v from : List ℕ) (keep : Bool) where
   both_begin front line r q (inr x) (inr y) others more h k =
       events_up_to.first front line others more h k x.0 x.1 y.1
 
-  pub answers_alike : (front : List Piece) (n : ℕ) (r q : Remaining) → n ≡ open_behind_all front 0
+  pub answers_alike : (front : List Piece) (n : ℕ) (r q : Remaining) → n ≡ brackets_behind_all front 0
       → AlikeThrough limit v from n r q → AnswersAlike limit v from keep (before_all front r) (before_all front q)
   answers_alike front n _ _ is (up_to.alike r) = events_up_to.same refl
   answers_alike front n _ _ is (up_to.next t {r = r} {w = q} h) =
       subst (λ u. AnswersAlike limit v from keep u (before_all front (before t q))) (regrouped front t r)
       (subst (λ u. AnswersAlike limit v from keep (before_all (front ++ t ∷ []) r) u) (regrouped front t q)
-      (answers_alike (front ++ t ∷ []) (open_behind t n) r q
-      (ap (open_behind t) is ∙ sym (one_more front t 0)) h))
+      (answers_alike (front ++ t ∷ []) (brackets_behind t n) r q
+      (ap (brackets_behind t) is ∙ sym (one_more front t 0)) h))
   answers_alike front n _ _ is (up_to.through line r q) =
       both_begin front line _ _ (behind front line r) (behind front line q) r.pieces q.pieces refl refl
   answers_alike front n _ _ is (up_to.held i j line s t h p o e) =
       events_up_to.undecided front i j line s t h p
-      (subst (λ k. 0 < open_behind_held s.queue.places k) is o) e refl refl
+      (subst (λ k. 0 < brackets_behind_held s.queue.places k) is o) e refl refl

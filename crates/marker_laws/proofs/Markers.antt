@@ -19,7 +19,7 @@ use Rattle.saphyr_scanner.specs.Steps.Passing.{separate, with_cursor}
 use Rattle.saphyr_scanner.specs.Steps.Queue.{Queue, with_piece}
 use Rattle.saphyr_scanner.specs.Steps.State.{State, on_core_with}
 use Rattle.marker_laws.specs.Beside.{Marked, Ahead, here, dashes, dots, character, Gives, refused, given, cores, States, states}
-use Rattle.marker_laws.specs.UpTo.{marker_token, past, Fetched, on, marked}
+use Rattle.marker_laws.specs.UpTo.{marker_piece, past, Fetched, on, marked}
 use Rattle.marker_laws.proofs.Ahead.{told, dots_told}
 use Rattle.marker_laws.proofs.Dots.{Leaves, leaves, left_first, separation_alike}
 use Rattle.marker_laws.proofs.Results.{both_then, both_are, choose}
@@ -35,9 +35,9 @@ at_line i l = record { index = i; line = l; col = 0 }
 data Dotted (i l : ℕ) (r q : List ℕ) : State → State → Type 0 where
   dotted : (c : Core) (queue : Queue) → c.level.key ≡ None → Dotted i l r q
       (holding (with_cursor (mid_line (along (at_line i l) 3) r) c)
-      (with_piece (marker_token i l (46 ∷ [])) queue))
+      (with_piece (marker_piece i l (46 ∷ [])) queue))
       (holding (with_cursor (mid_line (along (at_line i l) 3) q) c)
-      (with_piece (marker_token i l (46 ∷ [])) queue))
+      (with_piece (marker_piece i l (46 ∷ [])) queue))
 
 dots_put : (r q : List ℕ) (i l : ℕ) (k : Bool) (v w : State)
     → Ended (line_cursor k (at_line i l) (46 ∷ 46 ∷ 46 ∷ r)) (46 ∷ 46 ∷ 46 ∷ q) v w → Gives (Dotted i l r q)
@@ -52,7 +52,7 @@ module _ (i l d : ℕ) (x y tail : List ℕ) where
   -- the rest of the line, or what is refused there
   line_ends : (c : Core) (queue : Queue) → c.level.key ≡ None → (a b : Result (SkipTabs × Cursor) Refusal)
       → Gives (Leaves marker_end d x y (tail ++ d ∷ x) (tail ++ d ∷ y)) a b
-      → let held = with_piece (marker_token i l (46 ∷ [])) queue in
+      → let held = with_piece (marker_piece i l (46 ∷ [])) queue in
       Gives (Fetched (46 ∷ 46 ∷ 46 ∷ (tail ++ d ∷ x)))
       (on_core_with (a >>= λ z. Ok (z.0, with_cursor z.1 c))
       (holding (with_cursor (mid_line marker_end (tail ++ d ∷ x)) c) held) >>= document.end_line)

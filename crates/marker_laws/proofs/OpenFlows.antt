@@ -45,10 +45,11 @@ use Rattle.saphyr_scanner.specs.Steps.Document as document
 use Rattle.saphyr_scanner.specs.Steps.Fetch.{flow_value_steps, step, state_behind_content, fetch_here, arrive, fetch, fetch_within, check_limit}
 use Rattle.saphyr_scanner.specs.Steps.State.{State, with_core, on_core, on_core_with, after_step}
 use Rattle.saphyr_scanner.specs.Steps.Unrolling.{unroll, end_blocks, end_block, is_right_of, with_outer_indent, go_less_deep}
+use Rattle.saphyr_scanner.proofs.Taken.InPlace.{no_text}
 use Rattle.saphyr_scanner.proofs.Counted.{Ahead, separation_counted}
 use Rattle.saphyr_scanner.proofs.Filling.{read}
 use Rattle.saphyr_scanner.proofs.Steps.Choice.{cases}
-use Rattle.marker_laws.specs.UpTo.{open_behind, open_behind_held}
+use Rattle.marker_laws.specs.UpTo.{brackets_behind, brackets_behind_held}
 use Rattle.marker_laws.proofs.Fetches.{holding}
 
 given_any : {X Y : Type 0} (P : Y → Type 0) (r : Result X Refusal) (f : X → Result Y Refusal)
@@ -70,7 +71,7 @@ Opens n c = length c.outer ≡ n
 -- and an action leaves so many
 abbrev counted : ℕ → List Action → ℕ
 counted n [] = n
-counted n (Put t ∷ others) = counted (open_behind t n) others
+counted n (Put t ∷ others) = counted (brackets_behind t n) others
 counted n (Open k o ∷ others) = counted n others
 
 abbrev IsCounted : ℕ → Step → Type 0
@@ -82,20 +83,17 @@ Counted n r = Given (IsCounted n) r
 abbrev Beyond : ℕ → SkipTabs × Core → Type 0
 Beyond n x = Opens n x.1
 
-empty_span : (i : ℕ) → nat_lt i i ≡ false
-empty_span i = grind (arith, nat_tests)
-
 module _ (n : ℕ) where
   -- the start and the end of a single pair
-  pub start_same : (m : Marker) → open_behind (empty_piece m tokens.FlowMappingStart) n ≡ n
+  pub start_same : (m : Marker) → brackets_behind (empty_piece m tokens.FlowMappingStart) n ≡ n
   start_same m =
       let o = with_brackets n no_collections in
-      subst (λ b. (cond b (with_brackets (n + 1) o) o).brackets ≡ n) (sym (empty_span m.index)) refl
+      subst (λ b. (cond b (with_brackets (n + 1) o) o).brackets ≡ n) (sym (no_text m.index)) refl
 
-  end_same : (m : Marker) → open_behind (empty_piece m tokens.FlowMappingEnd) n ≡ n
+  end_same : (m : Marker) → brackets_behind (empty_piece m tokens.FlowMappingEnd) n ≡ n
   end_same m =
       let o = with_brackets n no_collections in
-      subst (λ b. (cond b (with_brackets (n - 1) o) o).brackets ≡ n) (sym (empty_span m.index)) refl
+      subst (λ b. (cond b (with_brackets (n - 1) o) o).brackets ≡ n) (sym (no_text m.index)) refl
 
   save_opens : (k : ℕ) (c : Core) → Opens n c → Opens n (save_key k c)
   save_opens k c e = by_test c.key_allowed _ _ (Opens n) (λ _. e) (λ _. e)
@@ -183,7 +181,7 @@ module _ (n : ℕ) where
 
   opening_counted : (x : Context) (kind : Kind)
       → ((a b : Marker) → a.index < b.index
-      → open_behind (record { span = record { start = a; end = b }; kind = kind }) n ≡ n + 1)
+      → brackets_behind (record { span = record { start = a; end = b }; kind = kind }) n ≡ n + 1)
       → (k : ℕ) (c : Core) → Opens n c → Counted n (flow.opening_steps x kind k c)
   unfolding flow.opening_steps flow.open_collection
   opening_counted x kind is k c e =
@@ -211,7 +209,7 @@ module _ (n : ℕ) where
 
   closing_counted : (ends : Bool) (kind : Kind)
       → ((a b : Marker) → a.index < b.index
-      → open_behind (record { span = record { start = a; end = b }; kind = kind }) n ≡ n - 1)
+      → brackets_behind (record { span = record { start = a; end = b }; kind = kind }) n ≡ n - 1)
       → (c : Core) → Opens n c → Counted n (flow.closing_steps ends kind c)
   unfolding flow.closing_steps flow.close_collection
   closing_counted ends kind is c e =
@@ -337,21 +335,21 @@ module _ (n : ℕ) where
   -- ## What begins at a place
 
   sequence_opens : (a b : Marker) → a.index < b.index
-      → open_behind (record { span = record { start = a; end = b }; kind = tokens.FlowSequenceStart }) n ≡ n + 1
+      → brackets_behind (record { span = record { start = a; end = b }; kind = tokens.FlowSequenceStart }) n ≡ n + 1
   sequence_opens a b l = refl
 
   sequence_ends : (a b : Marker) → a.index < b.index
-      → open_behind (record { span = record { start = a; end = b }; kind = tokens.FlowSequenceEnd }) n ≡ n - 1
+      → brackets_behind (record { span = record { start = a; end = b }; kind = tokens.FlowSequenceEnd }) n ≡ n - 1
   sequence_ends a b l = refl
 
   mapping_opens : (a b : Marker) → a.index < b.index
-      → open_behind (record { span = record { start = a; end = b }; kind = tokens.FlowMappingStart }) n ≡ n + 1
+      → brackets_behind (record { span = record { start = a; end = b }; kind = tokens.FlowMappingStart }) n ≡ n + 1
   mapping_opens a b l =
       let o = with_brackets n no_collections in
       subst (λ t. (cond t (with_brackets (n + 1) o) o).brackets ≡ n + 1) (sym (lt-ltb a.index b.index l)) refl
 
   mapping_ends : (a b : Marker) → a.index < b.index
-      → open_behind (record { span = record { start = a; end = b }; kind = tokens.FlowMappingEnd }) n ≡ n - 1
+      → brackets_behind (record { span = record { start = a; end = b }; kind = tokens.FlowMappingEnd }) n ≡ n - 1
   mapping_ends a b l =
       let o = with_brackets n no_collections in
       subst (λ t. (cond t (with_brackets (n - 1) o) o).brackets ≡ n - 1) (sym (lt-ltb a.index b.index l)) refl
@@ -383,22 +381,22 @@ module _ (n : ℕ) where
 
 -- as many are open as the tokens leave open, where n are open before those that are held
 abbrev pub IsBalanced : ℕ → State → Type 0
-IsBalanced n s = Opens (open_behind_held s.queue.places n) s.core
+IsBalanced n s = Opens (brackets_behind_held s.queue.places n) s.core
 
 put_held : (ps : List Place) (t : Piece) (n : ℕ)
-    → open_behind_held (ps ++ bare_place t ∷ []) n ≡ open_behind t (open_behind_held ps n)
+    → brackets_behind_held (ps ++ bare_place t ∷ []) n ≡ brackets_behind t (brackets_behind_held ps n)
 put_held [] t n = refl
-put_held (p ∷ ps) t n = put_held ps t (open_behind p.piece n)
+put_held (p ∷ ps) t n = put_held ps t (brackets_behind p.piece n)
 
 opened_held : (k : ℕ) (o : Opening) (ps : List Place) (n : ℕ)
-    → open_behind_held (places_with_opening k o ps) n ≡ open_behind_held ps n
+    → brackets_behind_held (places_with_opening k o ps) n ≡ brackets_behind_held ps n
 opened_held k o [] n = refl
 opened_held zero o (p ∷ ps) n = refl
-opened_held (suc k) o (p ∷ ps) n = opened_held k o ps (open_behind p.piece n)
+opened_held (suc k) o (p ∷ ps) n = opened_held k o ps (brackets_behind p.piece n)
 
 performed_held : (actions : List Action) (q : Queue) (n : ℕ)
-    → open_behind_held (perform actions q).places n
-    ≡ counted (open_behind_held q.places n) actions
+    → brackets_behind_held (perform actions q).places n
+    ≡ counted (brackets_behind_held q.places n) actions
 performed_held [] q n = refl
 performed_held (Put t ∷ others) q n =
     performed_held others (act (Put t) q) n ∙ ap (λ k. counted k others) (put_held q.places t n)
@@ -407,17 +405,17 @@ performed_held (Open k o ∷ others) q n =
     ∙ ap (λ m. counted m others) (opened_held (k - q.handed) o q.places n)
 
 module _ (n : ℕ) where
-  stepped : (r : StepResult) (q : Queue) → Counted (open_behind_held q.places n) r
+  stepped : (r : StepResult) (q : Queue) → Counted (brackets_behind_held q.places n) r
       → Given (IsBalanced n) (after_step r q)
   stepped (Ok x) q h = h ∙ sym (performed_held x.actions q n)
   stepped (Err e) q h = tt
 
   put_balanced : (t : Piece) (c d : Core) (q : Queue) → IsBalanced n (holding c q) → length d.outer ≡ length c.outer
-      → ((k : ℕ) → open_behind t k ≡ k) → IsBalanced n (holding d (with_piece t q))
+      → ((k : ℕ) → brackets_behind t k ≡ k) → IsBalanced n (holding d (with_piece t q))
   put_balanced t c d q h same quiet = same ∙ h ∙ sym (put_held q.places t n ∙ quiet _)
 
   on_core_balanced : (r : Result Core Refusal) (q : Queue)
-      → Given (Opens (open_behind_held q.places n)) r → Given (IsBalanced n) (on_core r q)
+      → Given (Opens (brackets_behind_held q.places n)) r → Given (IsBalanced n) (on_core r q)
   on_core_balanced (Ok c) q h = h
   on_core_balanced (Err e) q h = tt
 
@@ -482,7 +480,7 @@ module _ (n : ℕ) where
       (λ t i. put_balanced _ t.core (document.pass_mark t.core) t.queue i refl (λ k. refl)))
 
   directive_quiet : (d : ReadDirective) (span : Span) (k : ℕ)
-      → open_behind (record { span = span; kind = document.directive_kind d }) k ≡ k
+      → brackets_behind (record { span = span; kind = document.directive_kind d }) k ≡ k
   directive_quiet (version major minor) span k = refl
   directive_quiet (tag_prefix handle prefix) span k = refl
   directive_quiet (reserved name) span k = refl
@@ -494,10 +492,11 @@ module _ (n : ℕ) where
       (λ t i. stepped (directives.directive t.core.cursor >>= λ x. completed_step
       (from_to t.core.cursor.mark x.1 (document.directive_kind x.0) ∷ [])
       (record t.core { cursor = x.2; key_allowed = false })) t.queue
-      (given_any (IsCounted (open_behind_held t.queue.places n)) (directives.directive t.core.cursor) _
+      (given_any (IsCounted (brackets_behind_held t.queue.places n)) (directives.directive t.core.cursor) _
       (λ x. i ∙ sym (directive_quiet x.0 _ _))))
 
-  marker_balanced : (kind : Kind) → ((span : Span) (k : ℕ) → open_behind (record { span = span; kind = kind }) k ≡ k)
+  marker_balanced : (kind : Kind) → ((span : Span) (k : ℕ)
+      → brackets_behind (record { span = span; kind = kind }) k ≡ k)
       → (s : State) → IsBalanced n s → Given (IsBalanced n) (document.state_behind_marker kind s)
   unfolding document.state_behind_marker
   marker_balanced kind quiet s h =
@@ -505,7 +504,7 @@ module _ (n : ℕ) where
       (λ t i. put_balanced _ t.core (document.pass_marker t.core) t.queue i refl (λ k. quiet _ k))
 
   line_balanced : (s : State) (r : Result (SkipTabs × Core) Refusal)
-      → Given (Beyond (open_behind_held s.queue.places n)) r
+      → Given (Beyond (brackets_behind_held s.queue.places n)) r
       → Given (IsBalanced n) (on_core_with r s >>= document.end_line)
   unfolding document.end_line
   line_balanced s (Ok x) h =
@@ -538,7 +537,7 @@ module _ (n : ℕ) where
   arrive_balanced : (s : State) → IsBalanced n s → Given (IsBalanced n) (arrive s)
   unfolding arrive
   arrive_balanced s h =
-      let m = open_behind_held s.queue.places n in
+      let m = brackets_behind_held s.queue.places n in
       given_then (IsBalanced n) (IsBalanced n) (on_core (pass_gap s.core >>= drop_far_key) s.queue) _
       (on_core_balanced (pass_gap s.core >>= drop_far_key) s.queue
       (given_then (Opens m) (Opens m) (pass_gap s.core) drop_far_key (gap_opens m s.core h) (drop_opens m)))

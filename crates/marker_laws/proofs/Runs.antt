@@ -20,14 +20,14 @@ use Rattle.saphyr_scanner.proofs.Effects.Fetch as effects
 use Rattle.saphyr_scanner.proofs.Effects.Fetch.{read_fetched}
 use Rattle.saphyr_scanner.proofs.Effects.Readers.{Readers, ReaderEnds}
 use Rattle.marker_laws.specs.Beside.{Ahead, Gives, refused, given, Cores, cores, States, states}
-use Rattle.marker_laws.specs.UpTo.{open_behind, marker_token, Past, Reaches, starts, reads, hands, Fetched, on, marked, AlikeUpTo, same, token, marker}
+use Rattle.marker_laws.specs.UpTo.{brackets_behind, marker_piece, Past, Reaches, starts, reads, hands, Fetched, on, marked, AlikeUpTo, same, token, marker}
 use Rattle.marker_laws.proofs.Ahead.{stands_at_line}
 use Rattle.marker_laws.proofs.Fetches.{holding}
 use Rattle.marker_laws.proofs.Markers.{read_same}
 use Rattle.marker_laws.proofs.OpenFlows.{IsBalanced, start_same, read_balanced}
 
 module _ (limit : ℕ) (v from : List ℕ) where
-  before_same : (k : ℕ) (o : Opening) (t : Piece) (r w : Remaining) → AlikeUpTo limit v from (open_behind t k) r w
+  before_same : (k : ℕ) (o : Opening) (t : Piece) (r w : Remaining) → AlikeUpTo limit v from (brackets_behind t k) r w
       → AlikeUpTo limit v from k (before_place o t r) (before_place o t w)
   before_same k opening.Nothing t r w h = token t h
   before_same k opening.Key t r w h = token _ (token t h)
@@ -51,7 +51,7 @@ module _ (limit : ℕ) (v from : List ℕ) where
       let held = needs_token (holding c (record { places = p ∷ ps; handed = n })) in
       both_by held held _ _ _ _ (AlikeUpTo limit v from k) refl (λ needs _. next k _ comes opens (λ _. needs))
       (λ free _. before_same k p.opening p.piece _ _
-      (hands_same ps (open_behind p.piece k) (n + 1) _ _ go ho (cores c h) (hands c p ps n comes free) opens next))
+      (hands_same ps (brackets_behind p.piece k) (n + 1) _ _ go ho (cores c h) (hands c p ps n comes free) opens next))
 
   after_same : (k : ℕ) (a b : Result State Refusal) (go ho : State → Remaining) → Gives (Fetched from) a b
       → ((s t : State) → a ≡ Ok s → b ≡ Ok t → Fetched from s t → AlikeUpTo limit v from k (go s) (ho t))
@@ -60,7 +60,7 @@ module _ (limit : ℕ) (v from : List ℕ) where
   after_same k _ _ go ho (given {x = s} {y = t} h) next = next s t refl refl h
 
   marks : (n m k line : ℕ) (s t : State) → size s.core < n → size t.core < m → Reaches limit (v ++ from) s
-      → IsBalanced k s → Past (marker_token (length v) line from) s t
+      → IsBalanced k s → Past (marker_piece (length v) line from) s t
       → AlikeUpTo limit v from k (run n limit s) (run m limit t)
   marks zero m k line s t a b comes opens h = absurd (omega (arith, a))
   marks (suc n) zero k line s t a b comes opens h = absurd (omega (arith, b))
@@ -99,7 +99,7 @@ module _ (readers : Readers) (ends : ReaderEnds) (limit : ℕ) (v from : List �
       next k s t more less less_too here (marked place line h left) =
           let is : place ≡ length v = omega (arith, here.0, left) in
           marks limit v from n m k line s t less less_too here.1 here.2
-          (subst (λ i. Past (marker_token i line from) s t) is h)
+          (subst (λ i. Past (marker_piece i line from) s t) is h)
 
       going : (c d : Core) → Cores from c d → More → (k : ℕ) → size c < suc n → size d < suc m → (held : Queue)
           → Text k (holding c held) → (c.ended ≡ false → needs_token (holding c held) ≡ true)

@@ -13,7 +13,7 @@ use Rattle.saphyr_scanner.specs.Steps.Fetch.{needs_token, is_held, any_holds}
 use Rattle.saphyr_scanner.specs.Steps.Level.{Candidate, Level, is_place}
 use Rattle.saphyr_scanner.specs.Steps.Remaining.{before_place, run}
 use Rattle.marker_laws.specs.Beside.{reading}
-use Rattle.marker_laws.specs.UpTo.{open_behind, marker_token, Reaches, hands, Past, past, AlikeUpTo, AlikeThrough}
+use Rattle.marker_laws.specs.UpTo.{brackets_behind, marker_piece, Reaches, hands, Past, past, AlikeUpTo, AlikeThrough}
 use Rattle.marker_laws.specs.UpTo as up_to
 use Rattle.marker_laws.proofs.Fetches.{holding}
 use Rattle.marker_laws.proofs.OpenFlows.{IsBalanced, start_same}
@@ -31,7 +31,8 @@ flow_open place None [] gone e = absurd (cc)
 flow_open place (Some k) [] gone e = absurd (cc)
 
 module _ (limit : ℕ) (v from : List ℕ) where
-  before_through : (k : ℕ) (o : Opening) (t : Piece) (r w : Remaining) → AlikeThrough limit v from (open_behind t k) r w
+  before_through : (k : ℕ) (o : Opening) (t : Piece) (r w : Remaining)
+      → AlikeThrough limit v from (brackets_behind t k) r w
       → AlikeThrough limit v from k (before_place o t r) (before_place o t w)
   before_through k opening.Nothing t r w h = up_to.next t h
   before_through k opening.Key t r w h = up_to.next _ (up_to.next t h)
@@ -44,7 +45,7 @@ module _ (limit : ℕ) (v from : List ℕ) where
 
   module _ (i j line : ℕ) (c : Core) (follows : List ℕ) (gone : c.level.key ≡ None) where
     abbrev behind : Queue → Queue
-    behind queue = with_piece (marker_token (length v) line from) queue
+    behind queue = with_piece (marker_piece (length v) line from) queue
 
     held : (k : ℕ) (queue : Queue) → Reaches limit (v ++ from) (holding c (behind queue))
         → IsBalanced k (holding c (behind queue)) → is_held (holding c (behind queue)) ≡ true
@@ -67,10 +68,10 @@ module _ (limit : ℕ) (v from : List ℕ) where
         by_held (AlikeThrough limit v from k) (needs_token (holding c (behind queue))) _ _ _ _
         (λ e. held k queue comes opens (and_parts (not c.ended) _ e).1)
         (λ free. before_through k p.opening p.piece _ _
-        (handed ps (open_behind p.piece k) (n + 1) (hands c p _ n comes free) opens))
+        (handed ps (brackets_behind p.piece k) (n + 1) (hands c p _ n comes free) opens))
 
   pub through_marker : (k : ℕ) (r w : Remaining) → AlikeUpTo limit v from k r w → AlikeThrough limit v from k r w
   through_marker k _ _ (up_to.same r) = up_to.alike r
-  through_marker k _ _ (up_to.token t {r = r} {w = w} h) = up_to.next t (through_marker (open_behind t k) r w h)
+  through_marker k _ _ (up_to.token t {r = r} {w = w} h) = up_to.next t (through_marker (brackets_behind t k) r w h)
   through_marker k _ _ (up_to.marker i j line _ _ comes (past c follows queue gone) opens) =
       handed i j line c follows gone queue.places k queue.handed comes opens

@@ -12,16 +12,16 @@ use Rattle.saphyr_machine.specs.Steps.Machine.{ending_refusal}
 use Rattle.saphyr_machine.specs.Answer.{Answer, ending_of}
 use Rattle.saphyr_machine.specs.Cursor.{at_start, keeping_tags, to_come}
 use Rattle.event_laws.specs.Exactly.{answer_of_tokens}
-use Rattle.marker_laws.specs.UpTo.{marker_kind, marker_token, open_behind, open_behind_held, Past, Reaches}
+use Rattle.marker_laws.specs.UpTo.{marker_kind, marker_piece, brackets_behind, brackets_behind_held, Past, Reaches}
 
 -- the events of tokens, and the fault that ends them
 abbrev pub answer_of_all : Bool → Remaining → Answer
 answer_of_all keep tokens = to_come (keeping_tags keep (at_start tokens))
 
 -- how many brackets are open behind tokens, of so many before them
-abbrev pub open_behind_all : List Piece → ℕ → ℕ
-open_behind_all [] n = n
-open_behind_all (t ∷ ts) n = open_behind_all ts (open_behind t n)
+abbrev pub brackets_behind_all : List Piece → ℕ → ℕ
+brackets_behind_all [] n = n
+brackets_behind_all (t ∷ ts) n = brackets_behind_all ts (brackets_behind t n)
 
 -- tokens in front of others
 abbrev pub before_all : List Piece → Remaining → Remaining
@@ -33,14 +33,14 @@ own_event tokens.DocumentStart = DocumentStart true
 own_event _ = DocumentEnd
 
 -- Where no document is open, a document starts or the stream ends next, if anything comes.
-abbrev pub IsBetween : Happening → Type 0
-IsBetween StreamEnd = Unit {0}
-IsBetween (DocumentStart explicit) = Unit {0}
-IsBetween _ = ⊥
+abbrev pub IsOutsideDocuments : Happening → Type 0
+IsOutsideDocuments StreamEnd = Unit {0}
+IsOutsideDocuments (DocumentStart explicit) = Unit {0}
+IsOutsideDocuments _ = ⊥
 
-abbrev pub BeginBetween : List (Happening × Span) → Type 0
-BeginBetween [] = Unit {0}
-BeginBetween (e ∷ es) = IsBetween e.0
+abbrev pub BeginOutsideDocuments : List (Happening × Span) → Type 0
+BeginOutsideDocuments [] = Unit {0}
+BeginOutsideDocuments (e ∷ es) = IsOutsideDocuments e.0
 
 -- the last event is this one
 abbrev pub EndWith : Happening → List (Happening × Span) → Type 0
@@ -51,25 +51,25 @@ EndWith what es = (others : List (Happening × Span)) × (span : Span) × (es �
 abbrev pub ComeFirst : Kind → Answer → Answer → Type 0
 ComeFirst kind a b =
     (others : List (Happening × Span)) × (b.events ≡ a.events ++ others)
-    × (EndWith (own_event kind) a.events ⊎ ((kind ≡ tokens.DocumentEnd) × BeginBetween others))
+    × (EndWith (own_event kind) a.events ⊎ ((kind ≡ tokens.DocumentEnd) × BeginOutsideDocuments others))
 
 -- What two lists of tokens give: the same events and the same fault; or the events that the tokens up to and including
--- the marker's give come first in both, and these tokens have no fault but that more have to come. Or else the tokens up
--- to the marker leave a bracket open, and the first token that is held may still turn out to be a key.
+-- the marker's give come first in both, and these tokens have no fault but that more have to come. Or else the tokens
+-- up to the marker leave a bracket open, and the first token that is held may still turn out to be a key.
 pub data AnswersAlike (limit : ℕ) (v from : List ℕ) (keep : Bool) (r w : Remaining) : Type 0 where
   same : answer_of_all keep r ≡ answer_of_all keep w → AnswersAlike limit v from keep r w
   first : (front : List Piece) (line : ℕ) (others more : List Piece)
-      → r.pieces ≡ front ++ marker_token (length v) line from ∷ others
-      → w.pieces ≡ front ++ marker_token (length v) line from ∷ more
-      → (answer_of_tokens keep (front ++ marker_token (length v) line from ∷ [])).fault
+      → r.pieces ≡ front ++ marker_piece (length v) line from ∷ others
+      → w.pieces ≡ front ++ marker_piece (length v) line from ∷ more
+      → (answer_of_tokens keep (front ++ marker_piece (length v) line from ∷ [])).fault
       ≡ Some (ending_of (ending_refusal None))
-      → ComeFirst (marker_kind from) (answer_of_tokens keep (front ++ marker_token (length v) line from ∷ []))
+      → ComeFirst (marker_kind from) (answer_of_tokens keep (front ++ marker_piece (length v) line from ∷ []))
       (answer_of_all keep r)
-      → ComeFirst (marker_kind from) (answer_of_tokens keep (front ++ marker_token (length v) line from ∷ []))
+      → ComeFirst (marker_kind from) (answer_of_tokens keep (front ++ marker_piece (length v) line from ∷ []))
       (answer_of_all keep w)
       → AnswersAlike limit v from keep r w
   undecided : (front : List Piece) (i j line : ℕ) (s t : State) → Reaches limit (v ++ from) s
-      → Past (marker_token (length v) line from) s t
-      → 0 < open_behind_held s.queue.places (open_behind_all front 0) → is_held s ≡ true
+      → Past (marker_piece (length v) line from) s t
+      → 0 < brackets_behind_held s.queue.places (brackets_behind_all front 0) → is_held s ≡ true
       → r ≡ before_all front (run i limit s) → w ≡ before_all front (run j limit t)
       → AnswersAlike limit v from keep r w

@@ -20,18 +20,18 @@ abbrev pub marker_kind : List ℕ → Kind
 marker_kind from = if slice_index from 0 == full_stop then tokens.DocumentEnd else tokens.DocumentStart
 
 -- the token of this marker: it is three characters long, from the start of its line on
-abbrev pub marker_token : ℕ → ℕ → List ℕ → Piece
-marker_token index line from =
+abbrev pub marker_piece : ℕ → ℕ → List ℕ → Piece
+marker_piece index line from =
     let start : Marker = record { index = index; line = line; col = 0 } in
     record { span = record { start = start; end = along start 3 }; kind = marker_kind from }
 
 -- how many brackets and braces are open behind a token, and behind those that are held
-abbrev pub open_behind : Piece → ℕ → ℕ
-open_behind t n = (collections_behind t.kind t.span (with_brackets n no_collections)).brackets
+abbrev pub brackets_behind : Piece → ℕ → ℕ
+brackets_behind t n = (collections_behind t.kind t.span (with_brackets n no_collections)).brackets
 
-abbrev pub open_behind_held : List Place → ℕ → ℕ
-open_behind_held [] n = n
-open_behind_held (p ∷ ps) n = open_behind_held ps (open_behind p.piece n)
+abbrev pub brackets_behind_held : List Place → ℕ → ℕ
+brackets_behind_held [] n = n
+brackets_behind_held (p ∷ ps) n = brackets_behind_held ps (brackets_behind p.piece n)
 
 -- A marker with this token was read last, behind which no token of the innermost level may be a key, and all is the
 -- same but for what follows.
@@ -44,7 +44,7 @@ pub data Past (token : Piece) : State → State → Type 0 where
 -- before it and from there on is as much as is read of it and left.
 pub data Fetched (from : List ℕ) : State → State → Type 0 where
   on : {s t : State} → States from s t → Fetched from s t
-  marked : (index line : ℕ) {s t : State} → Past (marker_token index line from) s t
+  marked : (index line : ℕ) {s t : State} → Past (marker_piece index line from) s t
       → index + length from ≡ s.core.cursor.mark.index + length s.core.cursor.rest → Fetched from s t
 
 -- A scanner of the text comes to this: it reads a token where it needs one, and else hands out the first that it holds.
@@ -63,21 +63,21 @@ pub data Reaches (limit : ℕ) (text : List ℕ) : State → Type 0 where
 -- of those that are open before the tokens.
 pub data AlikeUpTo (limit : ℕ) (v from : List ℕ) : ℕ → Remaining → Remaining → Type 0 where
   same : {n : ℕ} (r : Remaining) → AlikeUpTo limit v from n r r
-  token : {n : ℕ} (t : Piece) {r w : Remaining} → AlikeUpTo limit v from (open_behind t n) r w
+  token : {n : ℕ} (t : Piece) {r w : Remaining} → AlikeUpTo limit v from (brackets_behind t n) r w
       → AlikeUpTo limit v from n (before t r) (before t w)
   marker : {n : ℕ} (i j line : ℕ) (s t : State) → Reaches limit (v ++ from) s
-      → Past (marker_token (length v) line from) s t → length s.core.outer ≡ open_behind_held s.queue.places n
+      → Past (marker_piece (length v) line from) s t → length s.core.outer ≡ brackets_behind_held s.queue.places n
       → AlikeUpTo limit v from n (run (suc i) limit s) (run (suc j) limit t)
 
 -- The same, with the marker's own token: all tokens, or up to and with the marker's, whatever follows; or else the
 -- tokens up to the marker leave a bracket open, and the first that is held may yet turn out to be a key.
 pub data AlikeThrough (limit : ℕ) (v from : List ℕ) : ℕ → Remaining → Remaining → Type 0 where
   alike : {n : ℕ} (r : Remaining) → AlikeThrough limit v from n r r
-  next : {n : ℕ} (t : Piece) {r w : Remaining} → AlikeThrough limit v from (open_behind t n) r w
+  next : {n : ℕ} (t : Piece) {r w : Remaining} → AlikeThrough limit v from (brackets_behind t n) r w
       → AlikeThrough limit v from n (before t r) (before t w)
   through : {n : ℕ} (line : ℕ) (r w : Remaining)
-      → AlikeThrough limit v from n (before (marker_token (length v) line from) r)
-      (before (marker_token (length v) line from) w)
+      → AlikeThrough limit v from n (before (marker_piece (length v) line from) r)
+      (before (marker_piece (length v) line from) w)
   held : {n : ℕ} (i j line : ℕ) (s t : State) → Reaches limit (v ++ from) s
-      → Past (marker_token (length v) line from) s t → 0 < open_behind_held s.queue.places n → is_held s ≡ true
+      → Past (marker_piece (length v) line from) s t → 0 < brackets_behind_held s.queue.places n → is_held s ≡ true
       → AlikeThrough limit v from n (run i limit s) (run j limit t)
