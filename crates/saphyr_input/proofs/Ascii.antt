@@ -118,7 +118,7 @@ ascii_in_class p c h = grind (arith, nat_tests)
 failing_char : (p : ℕ → Bool) (c : ℕ) → IsAsciiClass p → ascii_in p c ≡ false → p c ≡ false
 failing_char p c h f = elim (cases_lt c 128) [ inl lt ↦ grind (arith, nat_tests) | inr ge ↦ h c ge ]
 
--- the byte behind them fails, and so does its character, if it is ASCII
+-- the byte after them fails, and so does its character, if it is ASCII
 failing_next : (p : ℕ → Bool) (bs : List ℕ) (n : ℕ) → n ≡ prefix_len (ascii_in p) bs → n ≤ length bs → IsAsciiClass p
     → PastAscii bs n → prefix_len p (chars (drop n bs)) ≡ 0
 failing_next p bs n e l h s =
@@ -170,7 +170,7 @@ marks_fit bs (suc n) mark some h = elim (cases_lt n (length bs)) [
   | inr ge ↦ absurd (omega (arith, some, h n (omega arith), get_or_past bs n 0 ge))
 ]
 
--- a test of the place behind n equal marks, on the byte and on the character
+-- a test of the place after n equal marks, on the byte and on the character
 test_at : (p : ℕ → Bool) (bs : List ℕ) (n mark : ℕ) → IsUtf8 bs → IsAsciiClass p → mark < 128 → 0 < mark
     → ((k : ℕ) → k < n → get_or bs k 0 ≡ mark) → p (get_or bs n 0) ≡ p (get_or (chars bs) n 0)
 test_at p bs n mark u a l some h =

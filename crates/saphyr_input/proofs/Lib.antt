@@ -8,3 +8,5 @@ pub mod Sets
 pub mod SkippedBlanks
 pub mod Texts
 pub mod WordRuns
+pub mod Ring
+pub mod AsciiLen

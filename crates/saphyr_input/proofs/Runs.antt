@@ -1,5 +1,5 @@
 -- The longest run from the front, taken off a character at a time.
-use Rattle.std.proofs.Common.{◌≡◌, ℕ, ◌+◌, ◌^◌, ◌<◌, ◌≤◌, Bool, true, false, List, [], ◌∷◌, ◌++◌, length, take, drop, get_or, refl, ap, ◌∙◌, arith, add-one, add-zero, encode_utf8_all, append_assoc}
+use Rattle.std.proofs.Common.{◌≡◌, ℕ, ◌+◌, ◌^◌, ◌<◌, ◌≤◌, Bool, true, false, List, [], ◌∷◌, ◌++◌, length, take, drop, get_or, max, min, refl, ap, ◌∙◌, arith, add-one, add-zero, encode_utf8_all, append_assoc}
 use Rattle.std.specs.Prelude.{encode_utf8}
 use Rattle.std.specs.List.{prefix_len}
 use Rattle.std.proofs.lemmas.List.{drop-drop, get_or-drop, append-nil}
@@ -90,3 +90,39 @@ pub transfers_all : (p : ℕ → Bool) (start now text grown : List ℕ) (n c lo
     → TransfersRun p n start now text grown
 transfers_all p start now text grown n c loaded h r e =
     record { count = runs_all p start now n c loaded h r; transfers = record { taken = r.ran.left; appended = e } }
+
+-- A turn of such a loop. These are lemmas on their own since a tactic reads little here, and much at a goal.
+
+pub run_counts : (p : ℕ → Bool) (start now : List ℕ) (n c loaded : ℕ) → p 0 ≡ false → p c ≡ true
+    → TakesRun p start now n c loaded → n + 1 < 2 ^ 64
+run_counts p start now n c loaded z h r =
+    let one = goes p now z (rw (← r.read) h) in
+    omega (arith, one.total, r.ran.total, r.countable)
+
+pub run_shorter : (p : ℕ → Bool) (start now after : List ℕ) (n c loaded : ℕ) → p 0 ≡ false → p c ≡ true
+    → TakesRun p start now n c loaded → after ≡ drop 1 now → length after < length now
+run_shorter p start now after n c loaded z h r taken =
+    let one = goes p now z (rw (← r.read) h) in
+    rw taken (omega (arith, one.total))
+
+pub one_ready : (more loaded : ℕ) → more ≡ max 1 loaded → 1 ≤ more
+one_ready more loaded is = omega arith
+
+-- a run that is taken off up to a number of characters
+
+pub first_shorter : (p : ℕ → Bool) (now seen after : List ℕ) → p 0 ≡ false → p (get_or now 0 0) ≡ true → seen ≡ now
+    → after ≡ drop 1 seen → length after < length now
+first_shorter p now seen after z h same taken =
+    let one = goes p now z h in
+    rw (taken, same) (omega (arith, one.total))
+
+pub one_within : (n most : ℕ) → n < most → n + 1 ≤ most
+one_within n most less = omega arith
+
+pub most_ran : (p : ℕ → Bool) (start now : List ℕ) (n most : ℕ) → Ran p start now n → n ≤ most → most ≤ n
+    → n ≡ min most (prefix_len p start)
+most_ran p start now n most r limit least = omega (arith, r.run)
+
+pub all_ran : (p : ℕ → Bool) (start now : List ℕ) (n most : ℕ) → Ran p start now n → n ≤ most
+    → p (get_or now 0 0) ≡ false → n ≡ min most (prefix_len p start)
+all_ran p start now n most r limit stops = omega (arith, ran_all p start now n stops r)

@@ -1,15 +1,18 @@
 -- How long white space and its comment are, told at the end of the white space.
-use Rattle.std.proofs.Common.{◌≡◌, ℕ, ◌+◌, ◌<◌, ◌^◌, Bool, true, false, List, length, take, get_or, refl, sym, ap, ◌∙◌, cond, arith, nat_eq, ◌||◌, add-zero}
+use Rattle.std.proofs.Common.{◌≡◌, ℕ, ◌+◌, ◌<◌, ◌^◌, Bool, true, false, List, length, take, drop, get_or, refl, sym, ap, ◌∙◌, cond, arith, nat_eq, ◌||◌, add-zero}
+use Rattle.std.specs.Prelude.{◌==◌}
 use Rattle.std.specs.List.{prefix_len, list_any}
 use Rattle.std.proofs.lemmas.List.{get_or-drop}
 use Rattle.std.proofs.lemmas.List.Folds.{list_any_more}
 use Rattle.std.proofs.lemmas.List.Sums.{prefix_len-le-length}
+use Rattle.std.proofs.lemmas.Bool.{eqb-true}
 use Rattle.std.proofs.lemmas.Bool.Decides.{nat_tests}
 use Rattle.saphyr_input.specs.Indicators.{number_sign}
 use Rattle.saphyr_input.specs.Classes as class
 use Rattle.saphyr_input.specs.Separation as separation
 use Rattle.saphyr_input.specs.declared.input.SkipTabs.{SkipTabs}
 use Rattle.saphyr_input.specs.declared.input.SkipTabs.TheVariants.{Yes, No, Result}
+use Rattle.saphyr_input.proofs.Basics.Booleans.{and_true_left, and_true_right}
 use Rattle.saphyr_input.proofs.Runs.{TakesRun, goes, runs_all}
 
 -- nothing skips NUL
@@ -40,7 +43,7 @@ module _ (tabs : SkipTabs) (start now : List ℕ) (n c loaded : ℕ)
       ≡ cond (nat_eq n 0) 0 (n + cond (nat_eq c 35) (prefix_len class.is_yaml_non_break now) 0)
   told = rw (← ended, ← runs.ran.left, ← runs.read) refl
 
-  -- a comment behind the white space
+  -- a comment after the white space
   pub with_comment : (m : ℕ) → (n ≡ 0 → ⊥) → c ≡ number_sign → m ≡ prefix_len class.is_yaml_non_break now
       → n + m ≡ separation.separation_len tabs start
   with_comment m some hash e =
@@ -48,7 +51,7 @@ module _ (tabs : SkipTabs) (start now : List ℕ) (n c loaded : ℕ)
       let is : nat_eq c 35 ≡ true = rw hash refl in
       rw (told, many, is, e) refl
 
-  -- no comment behind the white space
+  -- no comment after the white space
   pub without_comment : (c ≡ number_sign → ⊥) → n ≡ separation.separation_len tabs start
   without_comment none =
       let other : nat_eq c 35 ≡ false = grind (arith, nat_tests) in
@@ -65,3 +68,31 @@ module _ (tabs : SkipTabs) (start now : List ℕ) (n c loaded : ℕ)
   -- all of it is in the text
   pub within : (m : ℕ) → m ≡ prefix_len class.is_yaml_non_break now → n + m < 2 ^ 64
   within m e = omega (arith, runs.ran.total, runs.countable, prefix_len-le-length class.is_yaml_non_break now, e)
+
+  -- where nothing is skipped
+
+  pub still_there : n ≡ 0 → now ≡ drop 0 start
+  still_there none = runs.ran.left ∙ ap (λ (k : ℕ). drop k start) none
+
+  first_is : n ≡ 0 → c ≡ get_or start 0 0
+  first_is none = runs.read ∙ ap (λ (xs : List ℕ). get_or xs 0 0) (still_there none)
+
+  pub none_long : n ≡ 0 → 0 ≡ separation.separation_len tabs start
+  none_long none =
+      let len : separation.blank_len tabs start ≡ 0 = sym ended ∙ none in
+      rw len refl
+
+  pub bare_is : n ≡ 0 → c ≡ number_sign → separation.is_bare_comment tabs start ≡ true
+  bare_is none hash =
+      let len : separation.blank_len tabs start ≡ 0 = sym ended ∙ none in
+      let first : get_or start 0 0 ≡ 35 = sym (first_is none) ∙ hash in
+      rw (len, first) refl
+
+  pub bare_says : separation.is_bare_comment tabs start ≡ true → (n ≡ 0) × (c ≡ number_sign)
+  bare_says h =
+      let a = separation.blank_len tabs start == 0 in
+      let b = get_or start 0 0 == 35 in
+      let none : n ≡ 0 = ended ∙ eqb-true _ 0 (and_true_left a b h) in (
+        none,
+        first_is none ∙ eqb-true _ 35 (and_true_right a b h),
+      )

@@ -52,7 +52,7 @@ blanks_are t b bs n tabs spaces u same e f g =
       found = rw (f, g, front) refl;
     }
 
--- the blanks and the comment behind them are no longer than the text
+-- the blanks and the comment after them are no longer than the text
 pub two_runs_fit : (p q : ℕ → Bool) (bs rs : List ℕ) (n k : ℕ) → IsUtf8 bs → n ≡ prefix_len p (chars bs)
     → chars rs ≡ drop n (chars bs) → k ≡ prefix_len q (chars rs) → n + k ≤ length bs
 two_runs_fit p q bs rs n k u a b c =

@@ -14,7 +14,7 @@ passed : (s : Chars) (r : Option ℕ) (t : Chars) → IsUtf8 s.rest.now → char
 passed s None t u h = rw (h.0.1, nil_from_length s.rest.now h.0.0, chars-nil) refl
 passed s (Some c) t u h = rw (chars_past_char s.rest.now t.rest.now c u h.0) refl
 
--- behind the first character of a text
+-- after the first character of a text
 pub passed_from : (bs : List ℕ) (s : Chars) (r : Option ℕ) (t : Chars) → IsUtf8 bs → s.rest.now ≡ bs → chars_steps s r t
     → chars t.rest.now ≡ drop 1 (chars bs)
 passed_from bs s r t u e h =
@@ -27,7 +27,7 @@ pub id_map : (o : Option ℕ) {p : Option ℕ} → option_map (λ c. c) o ≡ p 
 id_map None e = e
 id_map (Some x) e = e
 
--- rs stands behind the first n characters of bs
+-- rs comes after the first n characters of bs
 pub record Front (bs rs : List ℕ) (n : ℕ) : Type 0 where
   pub fits : length rs ≤ length bs
   pub boundary : IsCharBoundary bs (length bs - length rs)

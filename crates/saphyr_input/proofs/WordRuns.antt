@@ -43,7 +43,7 @@ words_on p q (c ∷ cs) =
     (λ h. rw one (omega (arith, word_step p q c cs h, words_on p q cs)))
     (λ h. omega arith)
 
--- and go on behind a single space
+-- and go on after a single space
 pub words_over_space : (p q : Set) (cs : List ℕ) → q (slice_index cs 0) ≡ true
     → words_len p q (space ∷ cs) ≡ 1 + words_len p q cs
 unfolding words_len
@@ -78,7 +78,7 @@ pub words_ok : {E : Type 0} (p q : Set) (r : Result ℕ E) (before after text gr
 words_ok p q (Ok n) before after text grown z t = run_is_words p q n before after text grown z t
 words_ok p q (Err e) before after text grown z t = t
 
--- a single space comes first, and behind it a byte of which a test is known
+-- a single space comes first, and after it a byte of which a test is known
 pub record SpaceFirst (p q : Set) (bs : List ℕ) : Type 0 where
   pub past : PastAscii bs 1
   pub words : words_len p q (chars bs) ≡ 1 + words_len p q (chars (drop 1 bs))
@@ -130,6 +130,9 @@ words_more p q start now next last n k z a b c d e f =
       behind = f ∙ ap (drop k) d ∙ drop-drop k 1 now ∙ ap (drop (1 + k)) b ∙ drop-drop (1 + k) n start;
       stops = more.stops;
     }
+
+pub words_less : (n k now last all : ℕ) → n + now ≡ all → n + (1 + k) + last ≡ all → last < now
+words_less n k now last all a b = omega arith
 
 -- spaces, in the bytes and in the characters
 

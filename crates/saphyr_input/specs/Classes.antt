@@ -1,5 +1,5 @@
 -- The sets of characters that a YAML reader asks about, on Unicode scalar values.
--- Each stands here twice: in small letters as a test that computes, and as the fact that the test decides.
+-- Each is here twice: in small letters as a test that computes, and as the fact that the test decides.
 use Rattle.std.specs.Prelude.{◌≡◌, ◌≢◌, ℕ, ◌-◌, ◌≤◌, Bool, ◌||◌, ◌&&◌, ◌==◌, not, nat_le, if◌then◌else◌, codes, Contains, ◌⊎◌, List}
 use Rattle.std.specs.List.{list_any}
 use Rattle.saphyr_input.specs.Indicators.{exclamation_mark, low_line}

@@ -1,4 +1,4 @@
--- What stands at the front of a text, told by its first bytes.
+-- What is at the front of a text, told by its first bytes.
 use Rattle.std.specs.Prelude.{◌≡◌, ℕ, ◌≤◌, Bool, true, false, ◌&&◌, ◌==◌, nat_lt, List, slice_index, ◌⊎◌}
 use Rattle.saphyr_input.specs.Classes.{is_blank, is_blank_or_breakz, space}
 use Rattle.saphyr_input.specs.Places.{next_3_are}

@@ -1,5 +1,5 @@
 -- Characters by name: the indicators (YAML 1.2.2, 5.3), and others that a step asks for. Breaks, white space and the
--- byte order mark (5.2, 5.4, 5.5) stand in `Classes`.
+-- byte order mark (5.2, 5.4, 5.5) are in `Classes`.
 use Rattle.std.specs.Prelude.{ℕ}
 
 -- ## Indicators, in the order of 5.3

@@ -22,7 +22,7 @@ is_skipped (Result _ _) c = c == space
 abbrev pub blank_len : SkipTabs → List ℕ → ℕ
 blank_len tabs xs = prefix_len (is_skipped tabs) xs
 
--- the length of the comment that stands first, 0 where none does
+-- the length of the comment at the front, 0 if there is none
 abbrev pub comment_len : List ℕ → ℕ
 comment_len xs = if slice_index xs 0 == number_sign then prefix_len is_yaml_non_break xs else 0
 

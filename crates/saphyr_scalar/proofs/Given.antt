@@ -1,4 +1,4 @@
--- What a step gives, if it is not refused: its value, and where it stands.
+-- What a step gives, if it is not refused: its value, and where it is.
 use Rattle.std.proofs.Common.{◌≡◌, ℕ, Bool, List, Result, Ok, Err, refl, subst}
 use Rattle.saphyr_scalar.specs.declared.scalar.position.Marker.{Marker}
 use Rattle.saphyr_scalar.specs.declared.scalar.fault.Refusal.{Refusal}
@@ -38,6 +38,6 @@ text_given_at text m xs = Ok (text, mid_line m xs)
 abbrev pub number_given : ℕ → Cursor → Result (ℕ × Cursor) Refusal
 number_given n s = Ok (n, s)
 
--- the place in a text, where only blanks stand before it on its line or others do
+-- the place in a text, and whether only blanks come before it on its line
 abbrev pub cursor_at : List ℕ → Marker → Bool → Cursor
 cursor_at xs m blank = record { rest = xs; mark = m; blank_so_far = blank }

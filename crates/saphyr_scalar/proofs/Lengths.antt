@@ -1,15 +1,19 @@
 -- What is taken off a text is no longer than the text.
-use Rattle.std.proofs.Common.{◌≡◌, ℕ, ◌≤◌, Bool, true, false, List, [], ◌∷◌, length, drop, arith}
+use Rattle.std.proofs.Common.{◌≡◌, ℕ, ◌+◌, ◌^◌, ◌<◌, ◌≤◌, Bool, true, false, List, [], ◌∷◌, length, drop, ap, ◌∙◌, arith, subst}
 use Rattle.std.specs.Prelude.{◌&&◌, ◌==◌}
 use Rattle.std.specs.List.{prefix_len}
 use Rattle.std.proofs.lemmas.List.{length-drop}
 use Rattle.std.proofs.lemmas.List.Sums.{prefix_len-le-length}
 use Rattle.std.proofs.lemmas.Bool.Decides.{nat_tests}
 use Rattle.saphyr_input.specs.Classes.{is_yaml_non_break}
-use Rattle.saphyr_input.specs.Places.{next_2_are}
+use Rattle.saphyr_input.specs.Places.{next_2_are, words_len}
 use Rattle.saphyr_input.specs.Separation.{blank_len, comment_len, separation_len, is_skipped}
 use Rattle.saphyr_input.specs.declared.input.SkipTabs.{SkipTabs}
+use Rattle.saphyr_scalar.specs.declared.scalar.position.Marker.{Marker}
+use Rattle.saphyr_scalar.specs.Views.Cursor.{Cursor, along}
 use Rattle.saphyr_input.proofs.Basics.Booleans.{clash, and_false}
+use Rattle.saphyr_input.proofs.WordRuns.{words_within}
+use Rattle.saphyr_input.proofs.Runs.{goes, TakesRun}
 
 -- a run is no longer than the text
 pub run_within : (p : ℕ → Bool) (xs : List ℕ) → prefix_len p xs ≤ length xs
@@ -34,3 +38,90 @@ separation_within tabs xs =
       comment_within (drop (blank_len tabs xs) xs),
       length-drop (blank_len tabs xs) xs,
     )
+
+-- The place after n characters of a text, and what is left of it. These are lemmas on their own since a tactic reads
+-- little here, and much at a goal.
+
+pub below_at_most : (a b c : ℕ) → a < b → b ≤ c → a < c
+below_at_most a b c less most = omega arith
+
+pub at_most_below : (a b c : ℕ) → a ≤ b → b < c → a < c
+at_most_below a b c most less = omega arith
+
+pub none_before : (n : ℕ) → 0 ≤ n
+none_before n = omega arith
+
+pub less_left : (k : ℕ) (s t u : Cursor) → k < length u.rest → u ≡ t → length t.rest ≤ length s.rest
+    → k < length s.rest
+less_left k s t u less same most =
+    below_at_most k (length t.rest) (length s.rest) (subst (λ (x : Cursor). k < length x.rest) same less) most
+
+pub countable : (at : ℕ) (xs : List ℕ) → at + length xs < 2 ^ 64 → length xs < 2 ^ 64
+countable at xs fits = omega arith
+
+pub place_fits : (xs : List ℕ) (at n : ℕ) → at + length xs < 2 ^ 64 → n ≤ length xs → at + n < 2 ^ 64
+place_fits xs at n fits within = omega arith
+
+pub place_left : (xs now : List ℕ) (m t : Marker) (n : ℕ) → m.index + length xs < 2 ^ 64 → n ≤ length xs
+    → now ≡ drop n xs → t ≡ along m n → t.index + length now < 2 ^ 64
+place_left xs now m t n fits within left moved = rw (moved, left, length-drop) (omega arith)
+
+pub column_left : (m t : Marker) (n : ℕ) → m.col ≤ m.index → t ≡ along m n → t.col ≤ t.index
+column_left m t n column moved = rw moved (omega arith)
+
+-- the same after a run
+
+pub within_run : (p : ℕ → Bool) (xs : List ℕ) (n : ℕ) → n ≡ prefix_len p xs → n ≤ length xs
+within_run p xs n is = rw is (run_within p xs)
+
+pub within_separation : (tabs : SkipTabs) (xs : List ℕ) (n : ℕ) → n ≡ separation_len tabs xs → n ≤ length xs
+within_separation tabs xs n is = rw is (separation_within tabs xs)
+
+-- where a part of a text was taken off, and memory ran out
+pub part_left : (xs now : List ℕ) (at n : ℕ) → at + length xs < 2 ^ 64 → now ≡ drop n xs → at + length now < 2 ^ 64
+part_left xs now at n fits left = rw (left, length-drop) (omega arith)
+
+-- a run that is taken off a character at a time
+
+pub run_counts : (p : ℕ → Bool) (start now : List ℕ) (n c loaded : ℕ) → p 0 ≡ false → p c ≡ true
+    → TakesRun p start now n c loaded → n + 1 < 2 ^ 64
+run_counts p start now n c loaded z h r =
+    let one = goes p now z (rw (← r.read) h) in
+    omega (arith, one.total, r.ran.total, r.countable)
+
+pub run_shorter : (p : ℕ → Bool) (start now after : List ℕ) (n c loaded : ℕ) → p 0 ≡ false → p c ≡ true
+    → TakesRun p start now n c loaded → after ≡ drop 1 now → length after < length now
+run_shorter p start now after n c loaded z h r taken =
+    let one = goes p now z (rw (← r.read) h) in
+    rw taken (omega (arith, one.total))
+
+pub run_place_fits : (p : ℕ → Bool) (start now : List ℕ) (n c loaded : ℕ) (m t : Marker)
+    → TakesRun p start now n c loaded → t ≡ m → m.index + length start < 2 ^ 64 → t.index + n < 2 ^ 64
+run_place_fits p start now n c loaded m t r same fits = rw same (omega (arith, r.ran.total, fits))
+
+pub run_left : (p : ℕ → Bool) (start now : List ℕ) (n c loaded : ℕ) (m t u : Marker)
+    → TakesRun p start now n c loaded → t ≡ m → u ≡ along t n → m.index + length start < 2 ^ 64
+    → u.index + length now < 2 ^ 64
+run_left p start now n c loaded m t u r same moved fits = rw (moved, same) (omega (arith, r.ran.total, fits))
+
+-- a run that is taken off in one piece, where the place stays
+
+pub fetched_fits : (p : ℕ → Bool) (xs : List ℕ) (n : ℕ) (m t : Marker) → m.index + length xs < 2 ^ 64
+    → n ≡ prefix_len p xs → t ≡ m → t.index + n < 2 ^ 64
+fetched_fits p xs n m t fits is same = rw same (place_fits xs m.index n fits (within_run p xs n is))
+
+pub fetched_left : (p : ℕ → Bool) (xs now : List ℕ) (n : ℕ) (m t u : Marker) → m.index + length xs < 2 ^ 64
+    → n ≡ prefix_len p xs → now ≡ drop n xs → t ≡ m → u ≡ along t n → u.index + length now < 2 ^ 64
+fetched_left p xs now n m t u fits is left same moved =
+    place_left xs now m u n fits (within_run p xs n is) left (moved ∙ ap (λ k. along k n) same)
+
+-- words that are taken off in one piece
+
+pub words_place_fits : (p q : ℕ → Bool) (xs : List ℕ) (n : ℕ) (m t : Marker) → m.index + length xs < 2 ^ 64
+    → n ≤ words_len p q xs → t ≡ m → t.index + n < 2 ^ 64
+words_place_fits p q xs n m t fits within same = rw same (omega (arith, words_within p q xs))
+
+pub words_left : (p q : ℕ → Bool) (xs now : List ℕ) (n : ℕ) (m t u : Marker) → m.index + length xs < 2 ^ 64
+    → n ≤ words_len p q xs → now ≡ drop n xs → t ≡ m → u ≡ along t n → u.index + length now < 2 ^ 64
+words_left p q xs now n m t u fits within left same moved =
+    rw (moved, same, left, length-drop) (omega (arith, words_within p q xs))

@@ -1,4 +1,4 @@
--- Where neither a blank nor a comment nor a byte order mark stands, nothing separates.
+-- Where neither a blank nor a comment nor a byte order mark is, nothing separates.
 use Rattle.std.proofs.Common.{◌≡◌, ℕ, Bool, false, List, [], ◌∷◌, slice_index, Ok, refl, sym, ap, ◌∙◌}
 use Rattle.std.specs.Prelude.{◌+◌, ◌==◌, nat_lt}
 use Rattle.std.specs.List.{prefix_len}

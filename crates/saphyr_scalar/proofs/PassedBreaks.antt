@@ -15,13 +15,13 @@ use Rattle.saphyr_scalar.specs.Passing.{IsPassed}
 use Rattle.saphyr_scalar.specs.Steps.Quoted.{break_len}
 use Rattle.saphyr_input.proofs.Basics.Booleans.{and_true_left, and_true_right}
 
--- what is passed from here on, and from a CR on that stands before, where an LF stands first
+-- what is passed from here on, and from a CR on that comes before, where an LF comes first
 pub record PassesBreak (m : Marker) (t : List ℕ) (r : Cursor) : Type 0 where
   pub here : IsPassed m t r.mark r.rest
   pub behind_return : (slice_index t 0 == line_feed) ≡ true → (k : Marker) → next_line m 1 ≡ next_line k 2
       → IsPassed k (carriage_return ∷ t) r.mark r.rest
 
--- the place behind one character, which may end its line
+-- the place after one character, which may end its line
 abbrev pub behind_one : Marker → ℕ → List ℕ → Marker
 behind_one m c cs = if ends_line c cs then next_line m 1 else along m 1
 

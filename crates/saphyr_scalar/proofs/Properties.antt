@@ -1,4 +1,6 @@
 -- Anchors, tags and percent escapes: each spelled one is read, and what is read is spelled so.
+pub mod TagSteps
+pub mod ByteSteps
 pub mod AnchorsRead
 pub mod BytesSpelled
 pub mod EscapedBytes

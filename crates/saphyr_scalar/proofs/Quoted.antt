@@ -4,6 +4,7 @@ pub mod Refused
 pub mod Gaps
 pub mod GapBytes
 pub mod Lines
+pub mod LineTurns
 pub mod Parts
 pub mod Pieces
 pub mod Inside

@@ -1,4 +1,4 @@
--- A run that was put behind a text.
+-- A run that was put after a text.
 use Rattle.std.proofs.Common.{◌≡◌, ℕ, suc, ◌+◌, Bool, false, List, [], ◌∷◌, ◌++◌, length, take, slice_index, refl, ap, ◌∙◌, arith, encode_utf8_all}
 use Rattle.std.specs.List.{prefix_len}
 use Rattle.std.proofs.Math.Seq.{take-append_seam, drop-append_seam}

@@ -1,6 +1,6 @@
--- Spaces that are taken off in one piece: behind a plain scalar's word, between quotes, and before a block scalar's
+-- Spaces that are taken off in one piece: after a plain scalar's word, between quotes, and before a block scalar's
 -- lines.
-use Rattle.std.proofs.Common.{◌≡◌, ℕ, zero, suc, ◌+◌, ◌-◌, ◌^◌, ◌<◌, ◌≤◌, Bool, true, false, List, [], ◌∷◌, length, length-drop, drop, slice_index, refl, sym, ap, ◌∙◌, arith}
+use Rattle.std.proofs.Common.{◌≡◌, ℕ, zero, suc, ◌+◌, ◌-◌, ◌^◌, ◌<◌, ◌≤◌, Bool, true, false, List, [], ◌∷◌, length, length-drop, drop, slice_index, refl, sym, ap, ◌∙◌, arith, subst}
 use Rattle.std.specs.Prelude.{◌==◌, nat_lt, Option, Some, None}
 use Rattle.std.specs.List.{prefix_len}
 use Rattle.std.proofs.lemmas.Bool.Decides.{nat_tests}
@@ -27,8 +27,18 @@ is_space c = c == 32
 pub spaces_fit : (most : ℕ) (xs : List ℕ) → spaces_within most xs ≤ length xs
 spaces_fit most xs = omega (arith, prefix_len-le-length is_space xs)
 
+pub within_spaces : (most : ℕ) (xs : List ℕ) (n : ℕ) → n ≡ spaces_within most xs → n ≤ length xs
+within_spaces most xs n is = rw is (spaces_fit most xs)
+
 pub spaces_shorter : (most : ℕ) (s u : Cursor) → u ≡ pass_spaces most s → length u.rest ≤ length s.rest
 spaces_shorter most s u e = rw (ap (λ (x : Cursor). x.rest) e, length-drop) (omega arith)
+
+-- less is left after a turn that begins with spaces
+pub turn_shorter : (n most : ℕ) (first here there : Cursor) → here ≡ pass_spaces most first → there ≡ here
+    → n < length there.rest → n < length first.rest
+turn_shorter n most first here there spaces same less =
+    let left : n < length here.rest = subst (λ (s : Cursor). n < length s.rest) same less in
+    omega (arith, left, spaces_shorter most first here spaces)
 
 -- What takes no notice of a space takes none of a run of them. `read m xs` is what is read at m, and `fits m` says
 -- where a space goes without notice, for so many spaces.
@@ -55,7 +65,7 @@ Always m n = Unit {0}
 few : (most : ℕ) (xs : List ℕ) → spaces_within most xs ≤ prefix_len is_space xs
 few most xs = omega arith
 
--- behind a plain scalar's word
+-- after a plain scalar's word
 
 lines_space : (i : ℕ) (a : Marker) (t : Bool) (f : List ℕ) (m : Marker) (cs : List ℕ)
     → lines i a t f (along m 1) cs ≡ lines i a t f m (space ∷ cs)

@@ -1,4 +1,4 @@
--- Where a refusal stands (YAML 1.2.2, 5.4).
+-- Where a refusal is (YAML 1.2.2, 5.4).
 use Rattle.std.specs.Prelude.{ℕ, List}
 use Rattle.saphyr_scalar.specs.declared.scalar.fault.Refusal.{Refusal}
 use Rattle.saphyr_scalar.specs.Views.Cursor.{Cursor}

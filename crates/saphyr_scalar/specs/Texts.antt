@@ -3,7 +3,7 @@ use Rattle.std.specs.Prelude.{ℕ, List, ◌++◌, codes, encode_utf8}
 use Rattle.saphyr_scalar.specs.declared.scalar.fault.FaultText.{FaultText}
 use Rattle.saphyr_scalar.specs.declared.scalar.fault.FaultText.TheVariants.{UnprintableCharacter, MisplacedByteOrderMark, ContentAfterDocumentEnd, InvalidIndentation, UnexpectedCharacter, KeyWithoutColon, KeyExpected, TabInBlockIndentation, CommentInsideText, WhitespaceExpected, DirectiveEndExpected, VersionDigitOrDotExpected, DirectiveNameExpected, DirectiveNameCharacter, VersionNumberTooLong, VersionNumberExpected, TagDirectiveEndExpected, TagEndExpected, TagHandleStartExpected, TagDirectiveHandleEndExpected, TagPrefixCharacter, VerbatimTagEndExpected, TagSuffixExpected, TagEscape, TagEscapeLeadingByte, TagEscapeTrailingByte, TagEscapeCodePoint, AnchorNameExpected, MisplacedBracket, RecursionLimit, DashInsideFlow, SequenceEntryNotAllowed, AnchorIndentation, DashWithoutWhitespace, BlockScalarIndicatorZero, BlockScalarHeaderEndExpected, BlockScalarTabFirst, BlockScalarLineIndentation, DocumentIndicatorInsideQuotes, EndInsideQuotes, QuotedIndentation, TabAsIndentation, ContentAfterQuotes, UnknownEscape, HexadecimalDigitExpected, EscapedCodePoint, FlowIndentation, PlainDashBeforeFlow, TabInsidePlain, PlainEnd, KeyNotAllowed, TabNotAllowed, ColonBeforeFlow, ColonWithoutWhitespace, MisplacedColon, ValueNotAllowed, CommentWithoutWhitespace, DuplicateVersionDirective, DuplicateTagDirective, DocumentStartExpected, DocumentEndExpected, UnknownAnchor, NodeContentExpected, BlockMappingKeyExpected, FlowMappingEndExpected, FlowSequenceEndExpected, SequenceEntryExpected, UndeclaredHandle, TextTooLong}
 
--- the text without the character that one of them shows behind it
+-- the text without the character that one of them shows after it
 abbrev pub words : FaultText → List ℕ
 words UnprintableCharacter = codes "found unprintable character"
 words MisplacedByteOrderMark = codes "a byte order mark must not appear inside a document"

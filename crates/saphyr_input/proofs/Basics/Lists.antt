@@ -1,4 +1,4 @@
--- Texts as lists of numbers: what stands first, what is left behind some, and runs. Std has the others, in
+-- Texts as lists of numbers: what comes first, what is left after some, and runs. Std has the others, in
 -- `lemmas.List`.
 use Rattle.std.proofs.Common.{◌≡◌, ◌≢◌, ℕ, suc, ◌+◌, ◌<◌, ◌≤◌, Bool, false, List, [], ◌∷◌, length, drop, slice_index, refl, arith}
 use Rattle.std.specs.List.{prefix_len}
@@ -48,7 +48,7 @@ fourth_is (c ∷ []) = refl
 fourth_is (c ∷ d ∷ []) = refl
 fourth_is (c ∷ d ∷ e ∷ cs) = refl
 
--- behind a run stands what is not in it
+-- after a run is what is not in it
 pub run_ends : (p : ℕ → Bool) (xs : List ℕ) → p 0 ≡ false → p (slice_index (drop (prefix_len p xs) xs) 0) ≡ false
 run_ends p [] z = z
 run_ends p (c ∷ cs) z =

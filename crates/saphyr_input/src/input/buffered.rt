@@ -149,7 +149,6 @@ impl<I: Iterator<Item = char>> Input for BufferedInput<I> {
         self.loaded -= 1;
     }
 
-    #[tactic(auto, using(crate::proofs::Listing::skipped_more))]
     fn skip_n(&mut self, count: usize) {
         for _ in 0..count {
             self.skip();

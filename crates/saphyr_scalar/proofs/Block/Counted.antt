@@ -1,4 +1,4 @@
--- What is read as a block scalar is counted: the index moves on by as many characters as are taken. Its span stands
+-- What is read as a block scalar is counted: the index moves on by as many characters as are taken. Its span is
 -- within.
 use Rattle.std.proofs.Common.{◌≡◌, ℕ, ◌+◌, ◌≤◌, ◌<◌, Bool, true, false, List, [], ◌∷◌, length, drop, Ok, refl, arith}
 use Rattle.std.specs.Prelude.{◌&&◌, slice_index, not, ◌==◌, nat_lt, nat_le, max, Option, Some, None, unwrap_or}
@@ -158,7 +158,7 @@ mutual
 
 -- ## The scalar
 
--- the span stands between `low` and the place that is reached
+-- the span is between `low` and the place that is reached
 abbrev SpanStands : ℕ → ℕ → List ℕ × Span × Cursor → Type 0
 SpanStands low n x = (low ≤ x.1.start.index) × (x.1.start.index ≤ x.1.end.index) × (x.1.end ≡ x.2.mark)
     × (x.2.mark.index + length x.2.rest ≡ n)

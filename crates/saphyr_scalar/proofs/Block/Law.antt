@@ -45,7 +45,7 @@ begun_by_empty_lines limit before m (x ∷ cs) =
 z_is_none : (x : ℕ) → is_z x ≡ true → is_yaml_non_break x ≡ false
 z_is_none x h = ap is_yaml_non_break (z_is_nul x h)
 
--- what was taken off behind a header, and the value of it
+-- what was taken off after a header, and the value of it
 pub record Behind (st : BlockStyle) (c : Chomping) (i : ℕ) (u : Cursor) (text : List ℕ) (t : Cursor) : Type 0 where
   pub lines : List ℕ
   pub taken : u.rest ≡ lines ++ t.rest
@@ -103,7 +103,7 @@ led limit indent u col blank =
     let P : EmptyLines × Cursor → Type 0 = λ x. Led (unwrap_or limit (max x.0.widest indent)) u x.1 x.0.count in
     subst P (ap (λ b. pass_empty_lines limit no_lines b m xs) (sym blank)) here
 
--- what is read of a block scalar: its text, its span, and what stands behind it
+-- what is read of a block scalar: its text, its span, and what comes after it
 abbrev pub Read : Type 0
 Read = List ℕ × Span × Cursor
 

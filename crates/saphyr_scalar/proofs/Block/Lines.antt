@@ -30,7 +30,7 @@ feed_last (suc n) =
     ∙ ap (λ t. encode_utf8 10 ++ t) (feed_last n ∙ sym (feed_first n))
     ∙ feed_first (suc n)
 
--- line feeds behind others
+-- line feeds after others
 pub feeds_join : (text : List ℕ) (m n : ℕ)
     → (text ++ encode_utf8_all (line_feeds m)) ++ encode_utf8_all (line_feeds n)
     ≡ text ++ encode_utf8_all (line_feeds m ++ line_feeds n)
@@ -63,7 +63,7 @@ pub stops : (limit : Option ℕ) (lines : EmptyLines) (s : Cursor)
     → pass_empty_lines_at limit lines s ≡ (with_column lines s.mark.col, s)
 stops limit lines s h k = stopped limit lines s.blank_so_far s.mark s.rest h k
 
--- what stands behind a CR, which an LF may follow
+-- what comes after a CR, which an LF may follow
 pub behind_cr : (m : Marker) (b : Bool) (cs : List ℕ) (P : Cursor → Type 0)
     → ((ds : List ℕ) → cs ≡ line_feed ∷ ds → P (line_cursor true (next_line m 2) ds))
     → ((slice_index cs 0 == line_feed) ≡ false → P (line_cursor true (next_line m 1) cs))

@@ -1,4 +1,4 @@
--- Where a block scalar stands: its text is passed character by character, and it ends behind its first line, or at the
+-- Where a block scalar is: its text is passed character by character, and it ends after its first line, or at the
 -- end.
 use Rattle.std.proofs.Common.{◌≡◌, ℕ, ◌+◌, ◌<◌, ◌⊎◌, Bool, true, false, List, [], ◌∷◌, length, Ok, refl, sym, ap, ◌∙◌, arith, inl, inr}
 use Rattle.std.specs.Prelude.{◌&&◌, slice_index, ◌==◌, nat_lt, nat_le, min, max, Option, Some, None, unwrap_or}
@@ -109,7 +109,7 @@ none_at_end limit before b m (c ∷ cs) e =
     sym nul ∙ g in omega arith))
     (λ _. by_test (is_break c) _ _ P (λ f. absurd (let g : is_break c ≡ false = ap is_break nul in cc)) (λ _. e)))
 
--- the lines behind a place of a later line, or at the end
+-- the lines after a place of a later line, or at the end
 lines_behind_line : (s h t : Cursor) → IsPassed h.mark h.rest t.mark t.rest
     → (h.mark.line ≡ min (s.mark.line + 1) top) ⊎ (is_z (slice_index h.rest 0) ≡ true)
     → (is_z (slice_index h.rest 0) ≡ true → is_z (slice_index t.rest 0) ≡ true)

@@ -1,4 +1,4 @@
--- Where the header of a block scalar stands: its line is passed character by character, and its break, where one ends
+-- Where the header of a block scalar is: its line is passed character by character, and its break, where one ends
 -- it.
 use Rattle.std.proofs.Common.{◌≡◌, ℕ, suc, ◌+◌, ◌≤◌, ◌⊎◌, Bool, true, false, List, [], ◌∷◌, length, drop, Result, Ok, Err, refl, sym, ap, ◌∙◌, arith, subst, inl, inr}
 use Rattle.std.specs.Prelude.{◌&&◌, slice_index, not, ◌==◌, nat_lt, min, Option, Some, None}

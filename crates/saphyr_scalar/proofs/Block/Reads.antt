@@ -155,7 +155,7 @@ refused_gave r y e = absurd (cc)
 pub same_gift : {A : Type 0} (x y : A) → gave x ≡ gave y → x ≡ y
 same_gift x y e = cc
 
--- behind a header: a line begins, or the text ends there
+-- after a header: a line begins, or the text ends there
 abbrev pub IsBehindHeaderLine : Cursor → Type 0
 IsBehindHeaderLine u = ((u.mark.col ≡ 0) × (u.blank_so_far ≡ true))
     ⊎ ((is_z (slice_index u.rest 0) ≡ true) × (u.blank_so_far ≡ false))

@@ -41,7 +41,7 @@ pub plain_spaces : (n : ℕ) → IsUnbroken (spaces n)
 plain_spaces zero = refl
 plain_spaces (suc n) = plain_spaces n
 
--- the first line of a text and the lines behind its break
+-- the first line of a text and the lines after its break
 pub record FirstLine (line others : List ℕ) : Type 0 where
   pub ended : ended_lines (line ++ line_feed ∷ others) ≡ line ∷ ended_lines others
   pub last : last_line (line ++ line_feed ∷ others) ≡ last_line others
@@ -87,7 +87,7 @@ content_of (suc i) text = content_of i text
 pub line_content : (i : ℕ) (text : List ℕ) → 0 < length text → line_of i (spaces i ++ text) ≡ Content text
 line_content i text h = rw (full_content i text h, content_of i text) refl
 
--- of two lists whose first characters are asked about, one goes on behind what is taken off the other
+-- of two lists whose first characters are asked about, one goes on after what is taken off the other
 pub normal_half : (c : ℕ) (cs taken rest : List ℕ) → is_cr_lf c cs ≡ true → cs ≡ taken ++ rest
     → is_break (slice_index rest 0) ≡ false → normalized (c ∷ taken) ≡ normalized taken
 normal_half c cs [] rest h e clear =
@@ -114,17 +114,17 @@ normalized_break c cs taken rest half h e =
     (λ k. rw (not_feed cs taken rest k e) refl)
     half
 
--- The last line, behind content: spaces count where they reach the indentation.
+-- The last line, after content: spaces count where they reach the indentation.
 abbrev pub is_counted_behind : ℕ → List ℕ → Ending → Bool
 is_counted_behind i last ending =
     if is_empty_line i last then is_at_end ending && not (length last == 0) && (length last == i) else true
 
--- the lines of a text behind content
+-- the lines of a text after content
 abbrev pub lines_behind : ℕ → List (List ℕ) → List ℕ → Ending → List Line
 lines_behind i lines last ending =
     map (line_of i) lines ++ (if is_counted_behind i last ending then line_of i last ∷ [] else [])
 
--- what a text reads as, behind the content line `above` and k empty lines
+-- what a text reads as, after the content line `above` and k empty lines
 abbrev pub value_of_lines : BlockStyle → Chomping → ℕ → List ℕ → ℕ → List (List ℕ) → List ℕ → Ending → List ℕ
 value_of_lines st c i above k lines last ending =
     contents_behind st above k (lines_behind i lines last ending)

@@ -69,7 +69,7 @@ between_skips st i ab lines b m (c ∷ cs) =
     ∙ between_skips st i ab (with_empty_line lines m.col) true (next_line m 1) cs)
     (λ _. refl)))
 
--- behind the empty lines and the indentation
+-- after the empty lines and the indentation
 abbrev pub Stopped : Option ℕ → EmptyLines × Cursor → Type 0
 Stopped limit r = (is_indentation limit r.1.mark.col (slice_index r.1.rest 0) ≡ false)
     × (is_break (slice_index r.1.rest 0) ≡ false)
@@ -104,7 +104,7 @@ shorter limit lines b m (c ∷ cs) =
     (λ h. omega (arith, shorter limit (with_empty_line lines m.col) true (next_line m 1) cs))
     (λ h2. omega arith)))
 
--- what was left behind empty lines
+-- what was left after empty lines
 pub record Skipped (st : BlockStyle) (i : ℕ) (ab : Option Bool) (before after : EmptyLines) (s t : Cursor) : Type
     0 where
   pub same : between_at st i ab before.count s ≡ between_at st i ab after.count t
@@ -308,7 +308,7 @@ break_shorter b m xs =
     (λ _. by_test (is_break (slice_index xs 0)) _ _ (λ (s : Cursor). length s.rest ≤ length xs)
     (λ _. rw length-drop (omega arith)) (λ _. omega arith))
 
--- the break behind a line
+-- the break after a line
 pub broken : (st : BlockStyle) (i : ℕ) (more : Bool) (text : List ℕ) (end look t : Cursor) (c : ℕ) → look ≡ end
     → c ≡ slice_index end.rest 0 → is_break c ≡ true → t ≡ pass_break look
     → (with_lines text (between_at st i (Some more) 0 t) ≡ with_lines text (line_at st i more end))

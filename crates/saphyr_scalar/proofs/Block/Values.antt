@@ -63,7 +63,7 @@ unfinished_spaces i s h =
     rw (empty_spaces i s.mark.col h, length-replicate, at_end_of (is_z (slice_index s.rest 0)))
     (counted_spaces i s.mark.col (is_z (slice_index s.rest 0)) h)
 
--- what was read of the lines behind content: k empty lines and j spaces stand before xs, in its line
+-- what was read of the lines after content: k empty lines and j spaces come before xs, in its line
 pub record BetweenRead (st : BlockStyle) (c : Chomping) (i : ℕ) (more : Bool) (k j : ℕ) (xs : List ℕ) (r : LinesRead) :
     Type 0 where
   pub taken : List ℕ
@@ -74,7 +74,7 @@ pub record BetweenRead (st : BlockStyle) (c : Chomping) (i : ℕ) (more : Bool) 
       → r.0 ++ tail c (is_unfinished i r.2) r.1
       ≡ value_behind st c i above k (spaces j ++ normalized taken) (ending r.2)
 
--- The lines end in the line that was begun, or its break is behind it and others follow.
+-- The lines end in the line that was begun, or its break is after it and others follow.
 abbrev pub CutLine : Chomping → ℕ → List ℕ → List ℕ → LinesRead → Type 0
 CutLine c i content text r =
     (text ≡ content) × (r.0 ++ tail c (is_unfinished i r.2) r.1
@@ -86,7 +86,7 @@ BrokenLine st c i more content text r =
     × ((above : List ℕ) → is_more_indented above ≡ more
     → r.0 ++ tail c (is_unfinished i r.2) r.1 ≡ content ++ value_behind st c i above 0 others (ending r.2))
 
--- what was read of a line's content, up to its end, and the lines behind it
+-- what was read of a line's content, up to its end, and the lines after it
 pub record LineRead (st : BlockStyle) (c : Chomping) (i : ℕ) (more : Bool) (xs : List ℕ) (r : LinesRead) : Type 0 where
   pub taken : List ℕ
   pub split : xs ≡ taken ++ r.2.rest

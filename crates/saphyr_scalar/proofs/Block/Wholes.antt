@@ -66,7 +66,7 @@ whole_cut st c i k x e some =
       append_assoc,
     ) refl
 
--- lines stand behind the first content line
+-- lines come after the first content line
 whole_broken : (st : BlockStyle) (c : Chomping) (i k : ℕ) (x text : List ℕ) (e : Ending)
     → whole st c i (empties k ++ (Content x ∷ lines_of i text)) (last_line text) e
     ≡ line_feeds k ++ (x ++ value_behind st c i x 0 text e)
@@ -142,7 +142,7 @@ pub block_value_of : (st : BlockStyle) (c : Chomping) (i : ℕ) (text last : Lis
 block_value_of st c i text last lines e p q =
     ap (λ ls. whole st c i ls (last_line text) e) p ∙ ap (λ l. whole st c i lines l e) q
 
--- what was read of the lines from the first content line on, where k empty lines and j spaces stand before xs
+-- what was read of the lines from the first content line on, where k empty lines and j spaces come before xs
 pub record FirstRead (st : BlockStyle) (c : Chomping) (i k j : ℕ) (xs : List ℕ) (r : LinesRead) : Type 0 where
   pub taken : List ℕ
   pub split : xs ≡ taken ++ r.2.rest
@@ -241,7 +241,7 @@ by_bool : (b : Bool) (P : Type 0) → (b ≡ true → P) → (b ≡ false → P)
 by_bool true P here other = here refl
 by_bool false P here other = other refl
 
--- from behind the leading empty lines on
+-- from after the leading empty lines on
 pub first_read : (st : BlockStyle) (c : Chomping) (i k : ℕ) (b : Bool) (m : Marker) (xs : List ℕ) → m.col ≤ i
     → is_indentation (Some i) m.col (slice_index xs 0) ≡ false → is_break (slice_index xs 0) ≡ false
     → is_z (slice_index xs 0) ≡ false

@@ -1,11 +1,12 @@
 -- Version numbers, read a digit at a time, and where a prefix begins.
-use Rattle.std.proofs.Common.{◌≡◌, ℕ, suc, ◌+◌, ◌-◌, ◌*◌, ◌^◌, ◌<◌, ◌≤◌, true, List, [], ◌∷◌, length, drop, slice_index, refl, sym, arith}
+use Rattle.std.proofs.Common.{◌≡◌, ℕ, suc, ◌+◌, ◌-◌, ◌*◌, ◌^◌, ◌<◌, ◌≤◌, true, List, [], ◌∷◌, length, drop, slice_index, refl, sym, ap, ◌∙◌, arith}
 use Rattle.std.specs.Prelude.{◌||◌, ◌==◌, nat_lt}
 use Rattle.std.proofs.Math.Nat.{pow-le-pow_right}
 use Rattle.std.proofs.lemmas.Grind.{pow_more}
 use Rattle.std.proofs.lemmas.Bool.Decides.{nat_tests}
 use Rattle.saphyr_input.specs.Indicators.{exclamation_mark}
 use Rattle.saphyr_input.specs.Classes.{is_digit, is_tag_char}
+use Rattle.saphyr_input.proofs.Basics.Lists.{drop_one_shorter}
 use Rattle.saphyr_scalar.specs.declared.scalar.position.Marker.{Marker}
 use Rattle.saphyr_scalar.specs.Views.Cursor.{Cursor, along, pass}
 use Rattle.saphyr_scalar.specs.Steps.Directive.{number_from}
@@ -26,6 +27,21 @@ digits_fit n v c lt h few =
     let le : 10 ^ (n + 1) ≤ 10 ^ 9 = pow-le-pow_right some more in
     omega (arith, digits_below n v c lt h, le)
 
+pub digit_from : (c : ℕ) → is_digit c ≡ true → 48 ≤ c
+digit_from c h = grind (arith, nat_tests)
+
+pub shifted_fits : (n v c : ℕ) → v < 10 ^ n → is_digit c ≡ true → n < 9 → v * 10 < 2 ^ 32
+shifted_fits n v c lt h few = omega (arith, digits_fit n v c lt h few)
+
+pub below_nine : (n : ℕ) → n ≤ 9 → (n ≡ 9 → ⊥) → n < 9
+below_nine n few other = omega arith
+
+pub nine_at_most : (n : ℕ) → n < 9 → n + 1 ≤ 9
+nine_at_most n few = omega arith
+
+pub counts_on : (n : ℕ) → n ≤ 9 → n + 1 < 2 ^ 64
+counts_on n few = omega arith
+
 digit_first : (start : Marker) (n v : ℕ) (m : Marker) (xs : List ℕ) → is_digit (slice_index xs 0) ≡ true → n < 9
     → number_from start n v m xs ≡ number_from start (suc n) (v * 10 + (slice_index xs 0 - 48)) (along m 1) (drop 1 xs)
 unfolding number_from
@@ -40,6 +56,15 @@ digit_on start n v c s t u read h few passed same =
     let one : n + 1 ≡ suc n = omega arith in
     let digit : is_digit (slice_index s.rest 0) ≡ true = rw (← read) h in
     rw (one, read, same, passed) (sym (digit_first start n v s.mark s.rest digit few))
+
+-- a place that shows a digit is a character
+pub digit_left : (c : ℕ) (xs : List ℕ) → c ≡ slice_index xs 0 → is_digit c ≡ true → 0 < length xs
+digit_left c [] read h = absurd (let none : is_digit 0 ≡ true = ap is_digit (sym read) ∙ h in cc)
+digit_left c (x ∷ xs) read h = omega arith
+
+pub digit_shorter : (c : ℕ) (s t u : Cursor) → c ≡ slice_index s.rest 0 → is_digit c ≡ true → t ≡ pass 1 s → u ≡ t
+    → length u.rest < length s.rest
+digit_shorter c s t u read h passed same = rw (same, passed) (drop_one_shorter s.rest (digit_left c s.rest read h))
 
 -- a place that shows a character that a prefix may begin with is a character
 pub prefix_left : (xs : List ℕ) → ((slice_index xs 0 == exclamation_mark) || is_tag_char (slice_index xs 0)) ≡ true

@@ -1,5 +1,5 @@
--- Separation is refused behind what is passed of it, and a directive where it begins, at its name, or in the separation
--- behind it.
+-- Separation is refused after what is passed of it, and a directive where it begins, at its name, or in the separation
+-- after it.
 use Rattle.std.proofs.Common.{◌≡◌, ℕ, suc, ◌+◌, ◌-◌, ◌*◌, List, [], ◌∷◌, ◌++◌, length, length-append, append_assoc, arith, drop, slice_index, Ok, refl, sym, ap, ◌∙◌, subst, nat_lt, codes, encode_utf8, encode_utf8_all}
 use Rattle.std.specs.Prelude.{◌||◌, ◌&&◌, ◌==◌, bytes_eq}
 use Rattle.saphyr_input.specs.Indicators.{percent_sign}
@@ -109,7 +109,7 @@ end_refused s t p =
     (λ x _. by_test (is_breakz (slice_index x.1.rest 0)) _ _ (Refused (IsRefusedInside s)) (λ _. tt)
     (λ _. (s.rest, nothing s.mark s.rest)))
 
--- the place behind what a directive says
+-- the place after what a directive says
 value_passed : (m : Marker) (ys : List ℕ) (x : List ℕ × Cursor) (d : ReadDirective × Cursor)
     → name (mid_line (along m 1) ys) ≡ Ok x → value m x ≡ Ok d → IsPassed m (percent_sign ∷ ys) d.1.mark d.1.rest
 value_passed m ys x d h k =

@@ -1,4 +1,4 @@
--- What stands behind a directive on its line is passed: blanks, and behind some a comment.
+-- What comes after a directive on its line is passed: blanks, and after some a comment.
 use Rattle.std.proofs.Common.{◌≡◌, ℕ, suc, ◌+◌, true, false, List, [], ◌∷◌, ◌++◌, length, length-append, append_assoc, drop, slice_index, nat_eq, nat_lt, cond, Ok, refl, sym, ap, ◌∙◌, arith, inl, inr}
 use Rattle.std.specs.Prelude.{◌⊎◌}
 use Rattle.std.proofs.Math.Seq.{drop-append_seam}

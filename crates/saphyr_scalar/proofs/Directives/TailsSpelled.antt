@@ -1,4 +1,4 @@
--- What is passed behind a directive on its line is spelled so: blanks, and behind some a comment.
+-- What is passed after a directive on its line is spelled so: blanks, and after some a comment.
 use Rattle.std.proofs.Common.{◌≡◌, ◌≢◌, ℕ, suc, ◌+◌, true, false, List, [], ◌∷◌, ◌++◌, length, length-append, append_assoc, take, drop, slice_index, nat_eq, nat_lt, cond, Ok, Err, refl, sym, ap, ◌∙◌, arith, subst, inl, inr}
 use Rattle.std.specs.Prelude.{◌&&◌}
 use Rattle.std.specs.List.{prefix_len}

@@ -1,4 +1,4 @@
--- What is read behind a directive's name is spelled so.
+-- What is read after a directive's name is spelled so.
 use Rattle.std.proofs.Common.{◌≡◌, ◌≢◌, ℕ, suc, ◌+◌, true, false, List, [], ◌∷◌, ◌++◌, length, length-append, append_assoc, take, drop, slice_index, cond, Result, Ok, refl, sym, ap, ◌∙◌, arith, subst, encode_utf8_all, inl, inr, lit<, IsTrue}
 use Rattle.std.specs.Prelude.{◌⊎◌, codes, bytes_eq}
 use Rattle.std.specs.List.{prefix_len}

@@ -81,7 +81,7 @@ digits_spelled start n v m (c ∷ cs) w u le =
 pub some_of_length : (t : List ℕ) → 0 < length t → t ≢ []
 some_of_length t lt e = let k : length t ≡ 0 = ap (λ (u : List ℕ). length u) e in absurd (omega arith)
 
--- where a blank or a break stands first, there are blanks before what begins otherwise
+-- where a blank or a break comes first, there are blanks before what begins otherwise
 pub gap_some : (p : ℕ → Bool) (xs gap behind : List ℕ) → ((c : ℕ) → is_blank_or_breakz c ≡ true → p c ≡ false)
     → is_blank_or_breakz (slice_index xs 0) ≡ true → xs ≡ gap ++ behind → p (slice_index behind 0) ≡ true → gap ≢ []
 gap_some p xs gap behind apart first text begins none =

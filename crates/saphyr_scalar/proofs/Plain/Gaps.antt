@@ -1,4 +1,4 @@
--- What stands behind a plain scalar's word, and how much of the text it takes.
+-- What comes after a plain scalar's word, and how much of the text it takes.
 use Rattle.std.proofs.Common.{◌≡◌, ℕ, suc, ◌+◌, ◌≤◌, Bool, true, false, List, [], ◌∷◌, ◌++◌, length, drop, length-drop, slice_index, Result, Ok, Err, refl, sym, ap, subst, ◌∙◌, arith}
 use Rattle.std.specs.Prelude.{◌||◌, ◌&&◌, ◌==◌, not, nat_lt, if◌then◌else◌}
 use Rattle.std.specs.List.{prefix_len}
@@ -119,7 +119,7 @@ gap_end i a s g =
 
 -- What the call that reads a gap leaves.
 
--- only blanks stand before the place that is reached over lines
+-- only blanks come before the place that is reached over lines
 lines_blank : (i : ℕ) (a : Marker) (t : Bool) (f : List ℕ) (m : Marker) (xs : List ℕ) (g : PlainGap)
     → lines i a t f m xs ≡ Ok g → g.behind.blank_so_far ≡ true
 unfolding lines

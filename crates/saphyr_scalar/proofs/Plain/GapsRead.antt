@@ -28,7 +28,7 @@ use Rattle.std.proofs.lemmas.List.Sums.{prefix_len-le-length}
 use Rattle.saphyr_input.proofs.Basics.Characters.{blank_no_break}
 use Rattle.saphyr_scalar.proofs.PassedBreaks.{behind_one}
 
--- xs begins with a run of blanks and breaks with k breaks, from m on, and rest stands behind it, at `end`. P holds of
+-- xs begins with a run of blanks and breaks with k breaks, from m on, and rest comes after it, at `end`. P holds of
 -- each line that begins in it.
 pub record Run (P : List ℕ → Type 0) (xs rest : List ℕ) (m end : Marker) (k : ℕ) : Type 0 where
   white : List ℕ
@@ -59,7 +59,7 @@ more_run P c cs rest m end k white none line r =
 other_no_feed : (c : ℕ) → is_blank_or_break c ≡ false → (c == line_feed) ≡ false
 other_no_feed = ink_no_feed
 
--- the lines behind a word's line
+-- the lines after a word's line
 
 record LinesRun (i : ℕ) (xs : List ℕ) (m : Marker) (f : List ℕ) (g : PlainGap) : Type 0 where
   breaks : ℕ

@@ -47,7 +47,7 @@ pub later_weaken : (P Q : List ℕ → Type 0) → ((line : List ℕ) → P line
 later_weaken P Q f [] behind h = tt
 later_weaken P Q f (c ∷ v) behind h = (λ e. f (v ++ behind) (h.0 e), later_weaken P Q f v behind h.1)
 
--- Where another word begins behind a gap.
+-- Where another word begins after a gap.
 pub record GoesOn (f : Bool) (i : ℕ) (s : Cursor) : Type 0 where
   pub word : is_in_word f s.rest ≡ true
   pub comment : slice_index s.rest 0 ≢ number_sign
@@ -61,7 +61,7 @@ IsLine i s line = (f : Bool) → GoesOn f i s → IsTrue (is_plain_line f i line
 abbrev IsOn : Bool → ℕ → List ℕ → Type 0
 IsOn f n xs = (nat_le n (indentation xs) || is_blank_line xs || (f && not (behind_indentation xs == tab))) ≡ true
 
--- where a tab stands in the indentation only blanks follow
+-- where a tab is in the indentation only blanks follow
 abbrev IsOnLine : Bool → Bool → ℕ → List ℕ → Type 0
 IsOnLine f true n xs = is_blank_line xs ≡ true
 IsOnLine f false n xs = IsOn f n xs
@@ -103,7 +103,7 @@ tab_on_line f false i m k xs = by_left (nat_lt m.col i) refl
 break_on_line : (f t : Bool) (n c : ℕ) (cs : List ℕ) → is_break c ≡ true → IsOnLine f t n (c ∷ cs)
 break_on_line f t n c cs h = blank f t n (c ∷ cs) (or_left (is_break c) (is_blank c && is_blank_line cs) h)
 
--- a tab stands before a comment or the end alone
+-- a tab comes before a comment or the end alone
 tabbed_content : (a : Marker) (f : List ℕ) (s : Cursor) (g : PlainGap) → reached_gap a true f s ≡ Ok g
     → ((slice_index s.rest 0 == number_sign) || is_z (slice_index s.rest 0)) ≡ true
 unfolding content_behind_tab
@@ -175,7 +175,7 @@ white_on_line f i t m c cs white h = either (is_blank c) (is_break c) (IsOnLine 
     or_no true = refl
     or_no false = refl
 
--- from any place in the blanks and breaks behind a word's line on
+-- from any place in the blanks and breaks after a word's line on
 pub lines_on_line : (f : Bool) (i : ℕ) (a : Marker) (t : Bool) (feeds : List ℕ) (m : Marker) (xs : List ℕ)
     (g : PlainGap)
     → lines i a t feeds m xs ≡ Ok g → GoesOn f i g.behind → IsOnLine f t (i - m.col) xs
@@ -201,7 +201,7 @@ lines_is_line i a feeds m xs g start e f on =
 pub break_to_start : (s : Cursor) → is_break (slice_index s.rest 0) ≡ true → (pass_break s).mark.col ≡ 0
 break_to_start s breaks = rw (by_break_len s breaks) refl
 
--- and one that begins behind a character of them
+-- and one that begins after a character of them
 pub line_begins : (i : ℕ) (a : Marker) (t : Bool) (feeds : List ℕ) (m : Marker) (c : ℕ) (cs : List ℕ) (g : PlainGap)
     → IsTrue (ends_line c cs)
     → lines i a (is_blank c && (t || ((c == tab) && nat_lt m.col i))) feeds (behind_one m c cs) cs ≡ Ok g
@@ -214,7 +214,7 @@ line_begins i a t feeds m c cs g ends e =
     lines_is_line i a feeds (next_line m 1) cs g refl
     (subst (λ n. there false n) ends (subst (λ b. there b (ends_line c cs)) no_blank e))
 
--- behind a gap a word begins
+-- after a gap a word begins
 no_answer : (s t : Cursor) → (let x : Result (Bool × Cursor) Refusal = Ok (false, s) in x ≡ Ok (true, t)) → ⊥
 no_answer s t e = let pair : ◌≡◌ {A = Bool × Cursor} (false, s) (true, t) =
     cc in absurd (false≢true (ap (λ (x : Bool × Cursor). x.0) pair))

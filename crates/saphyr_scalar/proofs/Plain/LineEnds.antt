@@ -1,4 +1,4 @@
--- Where a word of a plain scalar ends its line, and what is left behind that.
+-- Where a word of a plain scalar ends its line, and what is left after that.
 use Rattle.std.proofs.Common.{◌≡◌, ℕ, Bool, true, false, List, [], ◌∷◌, ◌++◌, slice_index, Result, Ok, refl, sym, ap, ◌∙◌}
 use Rattle.std.specs.Prelude.{◌&&◌, ◌==◌, not, nat_lt, None, if◌then◌else◌}
 use Rattle.std.specs.List.{prefix_len}
@@ -42,7 +42,7 @@ break_gap i a s line breaks =
     break_cases (slice_index s.rest 0) breaks (λ c. is_blank c ≡ false) refl refl in
     ap (λ (x : List ℕ × Cursor). gap_from i a x.0 x.1) (no_blanks s line blank) ∙ from_break i a s breaks
 
--- behind the break, and spaces behind it
+-- after the break, and spaces after it
 pub word_to_line : (f : Bool) (i : ℕ) (a : Marker) (text : List ℕ) (most : ℕ) (s v u : Cursor)
     → is_in_word f s.rest ≡ false → s.blank_so_far ≡ false → is_break (slice_index s.rest 0) ≡ true
     → v ≡ pass_break s → u ≡ pass_spaces most v
@@ -63,7 +63,7 @@ all_three true true false h = absurd (cc)
 all_three true false c h = absurd (cc)
 all_three false b c h = absurd (cc)
 
--- no white space stands at a line's first place
+-- no white space is at a line's first place
 line_there : (i : ℕ) (a m : Marker) (xs : List ℕ) → is_blank_or_break (slice_index xs 0) ≡ false
     → lines i a false [] m xs ≡ Ok (seen_gap false [] (line_front m xs))
 unfolding lines content_behind_tab
@@ -83,7 +83,7 @@ no_comment : (f : Bool) (u : Cursor) → u.blank_so_far ≡ true → comment_of 
 unfolding comment_of
 no_comment f u blank = rw (blank, and_false (not f && (slice_index u.rest 0 == 35))) refl
 
--- behind a gap no word begins
+-- after a gap no word begins
 pub gap_no_turn : (f : Bool) (i : ℕ) (a end : Marker) (text : List ℕ) (g : PlainGap) (u : Cursor)
     → next_word_starts f i g.behind ≡ Ok (false, u)
     → with_text text (plain_behind_gap f i a end g) ≡ Ok (text, end, comment_of f g.tabbed u, u)
@@ -103,7 +103,7 @@ gap_turn f i a end text joined g u h j =
     (x >>= λ b. if b.0 then with_text g.text (word f i a b.1.mark b.1.rest) else scalar_end f end g)) h
     ∙ text_twice text g.text _)
 
--- what stands left of the indentation ends the scalar
+-- what is left of the indentation ends the scalar
 pub left_ends : (f : Bool) (i : ℕ) (a end : Marker) (text : List ℕ) (u : Cursor) → u.blank_so_far ≡ true
     → is_left_of_scalar f i u ≡ true → with_text text (scalar_behind_line f i a end u) ≡ Ok (text, end, None, u)
 left_ends f i a end text u blank left =

@@ -1,4 +1,4 @@
--- The blanks and breaks behind a plain scalar's word, read a piece at a time.
+-- The blanks and breaks after a plain scalar's word, read a piece at a time.
 use Rattle.std.proofs.Common.{◌≡◌, ℕ, ◌+◌, ◌<◌, Bool, true, false, List, [], ◌∷◌, ◌++◌, length, drop, length-drop, slice_index, Result, Ok, Err, refl, sym, ap, ◌∙◌, arith, subst}
 use Rattle.std.specs.Prelude.{◌||◌, ◌&&◌, ◌==◌, nat_lt}
 use Rattle.std.proofs.lemmas.Bool.Decides.{nat_tests}
@@ -17,7 +17,7 @@ pub some_blank : (xs : List ℕ) → is_blank (slice_index xs 0) ≡ true → 0 
 some_blank [] h = absurd (cc)
 some_blank (c ∷ cs) h = omega arith
 
--- whether a tab stands in the indentation, once a character of the line more is read
+-- whether a tab is in the indentation, once a character of the line more is read
 abbrev pub tabbed_by : ℕ → Bool → Marker → ℕ → Bool
 tabbed_by indent tabbed m c = tabbed || ((c == tab) && nat_lt m.col indent)
 
@@ -50,7 +50,7 @@ lines_two i a t f m cs =
     lines_first_of_two i a t f m cs ∙ lines_feed i a false f (along m 1) cs
     ∙ ap (λ n. lines i a false (f ++ 10 ∷ []) (record (next_line m 2) { index = n }) cs) two
 
--- behind a break
+-- after a break
 abbrev Behind : ℕ → Marker → Bool → List ℕ → Cursor → Type 0
 Behind i a t f s = lines i a t f s.mark s.rest ≡ lines i a false (f ++ 10 ∷ []) (pass_break s).mark (pass_break s).rest
 

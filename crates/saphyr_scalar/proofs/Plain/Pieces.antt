@@ -135,7 +135,7 @@ all_word f i a m (c ∷ cs) =
     (λ h. rw one (more_part f i a m c cs (word_len f cs) h (all_word f i a (along m 1) cs)))
     (λ h. no_part f i a m (c ∷ cs))
 
--- the character behind a word is not of it
+-- the character after a word is not of it
 pub word_stops : (f : Bool) (xs : List ℕ) → is_in_word f (drop (word_len f xs) xs) ≡ false
 word_stops f [] = not_in_word f
 word_stops f (c ∷ cs) =
@@ -143,7 +143,7 @@ word_stops f (c ∷ cs) =
     by_test (is_in_word f (c ∷ cs)) (1 + word_len f cs) 0 (λ n. is_in_word f (drop n (c ∷ cs)) ≡ false)
     (λ _. rw one (word_stops f cs)) (λ h. h)
 
--- behind a gap
+-- after a gap
 abbrev pub plain_behind_gap : Bool → ℕ → Marker → Marker → PlainGap → PlainScalarRead
 plain_behind_gap f i a end g =
     next_word_starts f i g.behind >>= λ b. if b.0 then with_text g.text
@@ -226,7 +226,7 @@ pub some_count : (n : ℕ) → (n == 0) ≡ false → n ≡ suc (pred n)
 some_count zero e = absurd (cc)
 some_count (suc n) e = refl
 
--- what an end of a text is, by the count of what stands before it
+-- what an end of a text is, by the count of what comes before it
 pub dropped_at_end : (xs : List ℕ) (g : PlainGap) → IsEnd xs g.behind.rest → (n : ℕ) → gap_len xs g ≡ n → drop n xs
     ≡ g.behind.rest
 dropped_at_end xs g e n h = let same : e.taken ≡ n = omega (arith, e.count, h) in ap (λ k. drop k xs) (sym same)
@@ -252,14 +252,14 @@ word_over f i a m (c ∷ cs) h =
 
 -- What the calls that read a part leave.
 
--- words that were put behind a text end on their line
+-- words that were put after a text end on their line
 moved_at : (f : Bool) (text grown : List ℕ) (s t : Cursor) → PlainWordsMoved f text grown s t
     → mid_line t.mark t.rest ≡ t
 moved_at f text grown s t m =
     let there : Bool → Cursor = λ b. record { rest = t.rest; mark = t.mark; blank_so_far = b } in ap there
     (sym m.on_line)
 
--- behind a word that was read
+-- after a word that was read
 pub moved_behind_word : (f : Bool) (i : ℕ) (a : Marker) (text grown : List ℕ) (s t : Cursor)
     → PlainWordsMoved f text grown s t
     → with_text text (word f i a s.mark s.rest) ≡ with_text grown (gap i a t >>= plain_behind_gap f i a t.mark)
@@ -273,7 +273,7 @@ pub gap_refused : (f : Bool) (i : ℕ) (a : Marker) (text grown : List ℕ) (s t
 gap_refused f i a text grown s t r m h =
     moved_behind_word f i a text grown s t m ∙ ap (λ x. with_text grown (x >>= plain_behind_gap f i a t.mark)) h
 
--- a gap behind a word
+-- a gap after a word
 pub record GapMoved (f : Bool) (i : ℕ) (a : Marker) (text grown : List ℕ) (s t : Cursor) (g : PlainGap) : Type 0 where
   pub moved : PlainWordsMoved f text grown s t
   pub is : gap i a t ≡ Ok g
@@ -293,7 +293,7 @@ turn_refused f i a text grown s t g r m h =
     ∙ ap (λ x. with_text grown
     (x >>= λ b. if b.0 then with_text g.text (word f i a b.1.mark b.1.rest) else scalar_end f t.mark g)) h
 
--- no word behind the gap
+-- no word after the gap
 pub no_turn : (f : Bool) (i : ℕ) (a : Marker) (text grown : List ℕ) (s t : Cursor) (g : PlainGap) (u : Cursor)
     → GapMoved f i a text grown s t g → next_word_starts f i g.behind ≡ Ok (false, u)
     → with_text text (word f i a s.mark s.rest) ≡ Ok (grown, t.mark, comment_of f g.tabbed u, u)
@@ -304,7 +304,7 @@ no_turn f i a text grown s t g u m h =
     ∙ ap (λ x. Ok (x, t.mark, comment_of f g.tabbed g.behind, g.behind)) (append-nil grown)
     ∙ ap (λ x. Ok (grown, t.mark, comment_of f g.tabbed x, x)) (sym (goes_says f i false g.behind u h).same)
 
--- another word behind the gap
+-- another word after the gap
 pub turn : (f : Bool) (i : ℕ) (a : Marker) (text grown joined : List ℕ) (s t : Cursor) (g : PlainGap) (u : Cursor)
     → GapMoved f i a text grown s t g → next_word_starts f i g.behind ≡ Ok (true, u)
     → joined ≡ grown ++ g.text → with_text joined (word f i a u.mark u.rest) ≡ with_text text (word f i a s.mark s.rest)

@@ -1,4 +1,4 @@
--- A plain scalar is refused where it begins, where a word of it would begin, or behind the blanks of a line.
+-- A plain scalar is refused where it begins, where a word of it would begin, or after the blanks of a line.
 use Rattle.std.proofs.Common.{◌≡◌, ℕ, zero, suc, Bool, true, false, List, [], ◌∷◌, ◌++◌, drop, slice_index, Result, Ok, Err, refl, sym, ap, ◌∙◌, subst, inl, inr, nat_lt, encode_utf8}
 use Rattle.std.specs.Prelude.{◌⊎◌, ◌&&◌, ◌||◌, ◌==◌, not, pred, if◌then◌else◌}
 use Rattle.std.specs.List.{prefix_len}
@@ -22,7 +22,7 @@ use Rattle.std.proofs.lemmas.Bool.{or_left}
 use Rattle.saphyr_input.proofs.Basics.Booleans.{by_test}
 use Rattle.saphyr_input.proofs.Basics.Characters.{blank_no_break}
 
--- ## The lines behind a word's line
+-- ## The lines after a word's line
 
 -- passed up to where the gap ends, or refused at the scalar's start or up to where it is refused
 abbrev TellsGap : Marker → Marker → List ℕ → Result PlainGap Refusal → Type 0
@@ -47,7 +47,7 @@ reached_told start tabbed feeds m t here =
     (λ _. by_test (tabbed && not ((slice_index t 0 == 35) || is_z (slice_index t 0))) _ _ P (λ _. inl refl)
     (λ _. here true))
 
--- a character, of a break or none, before what is told from the place behind it on
+-- a character, of a break or none, before what is told from the place after it on
 one_told : (start m : Marker) (c : ℕ) (cs : List ℕ) (f : Marker → Result PlainGap Refusal)
     → ((k : Marker) → TellsGap start k cs (f k)) → TellsGap start m (c ∷ cs) (f (behind_one m c cs))
 one_told start m c cs f others = on (is_cr_lf c cs) refl (is_break c) refl

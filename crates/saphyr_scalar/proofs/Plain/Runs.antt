@@ -1,4 +1,4 @@
--- What stands between the words of a plain scalar, and what it is read as.
+-- What is between the words of a plain scalar, and what it is read as.
 use Rattle.std.proofs.Common.{◌≡◌, ℕ, zero, suc, ◌+◌, Bool, true, false, List, [], ◌∷◌, ◌++◌, length, map, slice_index, refl, sym, ap, ◌∙◌, arith, subst, IsTrue, append_assoc, cond}
 use Rattle.std.specs.Prelude.{◌||◌, ◌&&◌, ◌==◌, not, if◌then◌else◌}
 use Rattle.std.proofs.lemmas.List.{map-append}

@@ -1,5 +1,5 @@
 -- Words of a plain scalar, and single spaces between them, taken off in one piece.
-use Rattle.std.proofs.Common.{◌≡◌, ℕ, zero, suc, ◌+◌, ◌<◌, ◌≤◌, Bool, true, false, List, [], ◌∷◌, ◌++◌, length, length-drop, take, drop, slice_index, Result, Ok, refl, sym, ap, ◌∙◌, arith, encode_utf8_all, cond}
+use Rattle.std.proofs.Common.{◌≡◌, ℕ, zero, suc, ◌+◌, ◌^◌, ◌<◌, ◌≤◌, Bool, true, false, List, [], ◌∷◌, ◌++◌, length, length-drop, take, drop, slice_index, Result, Ok, refl, sym, ap, ◌∙◌, arith, encode_utf8_all, cond}
 use Rattle.std.specs.Prelude.{◌&&◌, ◌||◌, ◌==◌, not, encode_utf8}
 use Rattle.std.specs.List.{prefix_len}
 use Rattle.std.proofs.lemmas.Bool.Decides.{nat_tests}
@@ -45,7 +45,7 @@ set_content f c h = content_of c (second (c == 58) (is_blank_or_breakz c) (is_bo
     second true b d e h = absurd (cc)
     second false true d e h = absurd (cc)
 
--- a word that begins behind a space
+-- a word that begins after a space
 record LeadsWord (f : Bool) (cs : List ℕ) : Type 0 where
   set : in_plain f (slice_index cs 0) ≡ true
   hash : (slice_index cs 0 == number_sign) ≡ false
@@ -154,7 +154,7 @@ words_piece f i a m (suc n) (c ∷ cs) l =
     (words_piece f i a (along m 1) n cs (omega (arith, less))))
     (λ _ less. absurd (omega (arith, less))) l
 
--- n characters of words at s were put behind a text, and t is left, whose place is not told yet
+-- n characters of words at s were put after a text, and t is left, whose place is not told yet
 pub record WordsRan (f : Bool) (text grown : List ℕ) (s t : Cursor) (n : ℕ) : Type 0 where
   pub same : (i : ℕ) (a : Marker)
       → with_text grown (word f i a (along s.mark n) t.rest) ≡ with_text text (word f i a s.mark s.rest)
@@ -223,3 +223,23 @@ words_done f text grown s t n m r stops place = record {
         → length t.rest < length s.rest
     some zero left total goes = let still = ap (is_in_word f) left in absurd (cc)
     some (suc k) left total goes = omega (arith, total)
+
+-- how many characters that is, the place after them and what is left
+
+pub ran_fits : (f : Bool) (text grown : List ℕ) (s t : Cursor) (n : ℕ) → WordsRan f text grown s t n
+    → s.mark.index + length s.rest < 2 ^ 64 → n < 2 ^ 64
+ran_fits f text grown s t n r fits = omega (arith, r.total, fits)
+
+pub ran_place_fits : (f : Bool) (text grown : List ℕ) (s t : Cursor) (n : ℕ) → WordsRan f text grown s t n
+    → s.mark.index + length s.rest < 2 ^ 64 → t.mark.index + n < 2 ^ 64
+ran_place_fits f text grown s t n r fits = omega (arith, r.total, fits, ap (λ (m : Marker). m.index) r.mark)
+
+pub ran_left : (f : Bool) (text grown : List ℕ) (s t : Cursor) (n : ℕ) (m : Marker) → WordsRan f text grown s t n
+    → s.mark.index + length s.rest < 2 ^ 64 → m ≡ along t.mark n → m.index + length t.rest < 2 ^ 64
+ran_left f text grown s t n m r fits moved =
+    let index : m.index ≡ t.mark.index + n = ap (λ (m : Marker). m.index) moved in
+    omega (arith, r.total, fits, ap (λ (m : Marker). m.index) r.mark)
+
+pub ran_less : (f : Bool) (text grown more : List ℕ) (s t u : Cursor) (n k : ℕ) → WordsRan f text grown s t n
+    → WordsRan f text more s u (n + k + 1) → length u.rest < length t.rest
+ran_less f text grown more s t u n k r on = omega (arith, r.total, on.total)

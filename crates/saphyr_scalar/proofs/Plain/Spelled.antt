@@ -266,7 +266,7 @@ white_safe (c ∷ v) next behind are h =
     let w = white_character c (v ++ next) are.0 in
     (white_no_flow c are.0, λ e. absurd (w.no_colon e), white_safe v next behind are.1 h)
 
--- what stands behind a word
+-- what comes after a word
 pub word_follows : (f : Bool) (xs : List ℕ) → is_in_word f xs ≡ false → IsTrue (ends_piece (slice_index xs 0))
 unfolding is_in_word
 word_follows f xs h =

@@ -126,7 +126,7 @@ last_word f i m xs g goes begins w r =
       later = later_ink (IsPlainLine f i) (w.first ∷ w.others) (r.white ++ g.behind.rest) w.ink;
     }
 
--- a word, a gap and what is read behind it
+-- a word, a gap and what is read after it
 pub word_more : (f : Bool) (i : ℕ) (m : Marker) (xs : List ℕ) (g : PlainGap) (x : Read) → is_in_word f xs ≡ true
     → Begins m xs → Front f xs → GoesOn f i g.behind
     → (let n = word_len f xs in GapReads i (drop n xs) (along m n) g) → WordReads f i g.behind.mark g.behind.rest x

@@ -66,7 +66,7 @@ no_bare_nul : (set : UriSet) → is_bare set 0 ≡ false
 no_bare_nul Uri = refl
 no_bare_nul Suffix = refl
 
--- behind the run stands an escape or no character of the set
+-- after the run is an escape or no character of the set
 pub bare_stops : (set : UriSet) (text grown : List ℕ) (n : ℕ) (xs left : List ℕ)
     → TransfersRun (is_bare set) n xs left text grown → (slice_index left 0 ≡ percent_sign → ⊥)
     → is_in_set set (slice_index left 0) ≡ false

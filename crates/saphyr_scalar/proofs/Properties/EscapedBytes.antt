@@ -12,7 +12,7 @@ abbrev pub AreTrailing : List ℕ → Type 0
 AreTrailing [] = Unit {0}
 AreTrailing (b ∷ bs) = (is_trailing b ≡ true) × AreTrailing bs
 
--- what trailing bytes say, behind those that say v
+-- what trailing bytes say, after those that say v
 abbrev pub joined_bytes : ℕ → List ℕ → ℕ
 joined_bytes v [] = v
 joined_bytes v (b ∷ bs) = joined_bytes (v * 64 + (b - 0x80)) bs

@@ -54,7 +54,7 @@ trailing_read start m (b ∷ bs) v t y (tail, tails) (percent_escape, more, is_b
     ∙ ap (λ k. number_given (joined_bytes (v * 64 + (b - 0x80)) bs) (mid_line k y))
     (along_more m 3 (length more) (length t) len)
 
--- the bytes behind the first one are read, and the character that they all stand for
+-- the bytes after the first one are read, and the character that they all stand for
 leading_read : (start : Marker) (b n c : ℕ) (s t : Cursor) → utf8_width b ≡ suc n
     → trailing_bytes start n (leading_bits b) s ≡ Ok (c, t) → is_encoded (suc n) c ≡ true
     → behind_leading_byte start b s ≡ Ok (c, t)

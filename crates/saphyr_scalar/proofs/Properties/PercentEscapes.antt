@@ -64,7 +64,7 @@ places_added : (m : Marker) (xs : List ℕ) (a b n : ℕ) → n ≡ a + b
 places_added m xs a b n e = ap (λ x. mid_line x (drop b (drop a xs))) (along_more m a b n e)
     ∙ ap (mid_line (along m n)) (drop_more b a n xs e)
 
--- what is read behind a place is read behind the one before it
+-- what is read after a place is read after the one before it
 then_further : (m : Marker) (xs : List ℕ) (a b n : ℕ) (r : Result (ℕ × Cursor) Refusal) → n ≡ a + b
     → EscapeEnds (along m a) (drop a xs) b r → EscapeEnds m xs n r
 then_further m xs a b n r e h x is = h x is ∙ places_added m xs a b n e
@@ -192,7 +192,7 @@ pub has_left : (set : UriSet) (xs : List ℕ) → is_in_set set (slice_index xs 
 has_left set [] h = absurd (no_nul set h)
 has_left set (c ∷ cs) h = omega arith
 
--- one character and what is read behind it
+-- one character and what is read after it
 pub decoded_one_more : (set : UriSet) (start m : Marker) (xs : List ℕ) → is_in_set set (slice_index xs 0) ≡ true
     → decoded_characters set start 0 m xs
     ≡ (uri_character start (mid_line m xs) >>= λ x. with_front (encode_utf8 x.0) (decoded_at set start x.1))
@@ -216,7 +216,7 @@ from_state : (set : UriSet) (start : Marker) (s : Cursor) → is_in_set set (sli
 from_state set start s h = decoded_one_more set start s.mark s.rest h ∙ ap (reads_on set start)
     (sym (from_here start s))
 
--- a character that was put behind a text
+-- a character that was put after a text
 pub character_on : (set : UriSet) (start : Marker) (text : List ℕ) (s t : Cursor) (c : ℕ)
     → is_in_set set (slice_index s.rest 0) ≡ true → uri_character start s ≡ Ok (c, t)
     → with_front (text ++ encode_utf8 c) (decoded_at set start t) ≡ with_front text (decoded_at set start s)
@@ -243,7 +243,7 @@ ends_at set start m [] h =
     ap (λ (x : Marker). let r : Result (List ℕ × Cursor) Refusal = Ok ([], mid_line x []) in r) (along_none m)
 ends_at set start m (c ∷ cs) h = rw h refl
 
--- no character of the set stands next
+-- no character of the set is next
 pub characters_end : (set : UriSet) (start : Marker) (text : List ℕ) (s : Cursor)
     → is_in_set set (slice_index s.rest 0) ≡ false
     → with_front text (decoded_at set start s) ≡ Ok (text, mid_line s.mark s.rest)

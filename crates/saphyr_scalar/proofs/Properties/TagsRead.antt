@@ -120,7 +120,7 @@ alpha_on start m (c ∷ cs) =
     ∙ sym (alpha_first start m c cs h)))
     (λ h. no_front _ ∙ ap (λ k. decoded_characters Suffix start 0 k (c ∷ cs)) (along_none m))
 
--- no `!` stands behind the word that a suffix begins with
+-- no `!` comes after the word that a suffix begins with
 abbrev NoMark : List ℕ → Type 0
 NoMark u = nat_eq (slice_index (drop (prefix_len is_alpha u) u) 0) 33 ≡ false
 
@@ -144,7 +144,7 @@ no_second_mark (c ∷ v) t x (character, more, inr (scalar, escaped), others, e)
     let first = escape_first c character (more ++ x) scalar escaped in
     subst NoMark (sym whole) (at_once (character ++ (more ++ x)) (rw first refl) (rw first refl))
 
--- no `<` stands behind the `!` of a tag with a handle
+-- no `<` comes after the `!` of a tag with a handle
 suffix_first : (v t x : List ℕ) → IsDecoded is_tag_char v t → StopsTag (slice_index x 0)
     → nat_eq (slice_index (t ++ x) 0) 60 ≡ false
 suffix_first [] t x e stop = rw e stop.no_uri
@@ -162,7 +162,7 @@ then_primary r = r >>= λ y. Ok (primary_tag y)
 abbrev primary_given : List ℕ → Cursor → Result TagRead Refusal
 primary_given v s = Ok (primary_tag (v, s))
 
--- a suffix behind `!`
+-- a suffix after `!`
 primary_read : (m : Marker) (v back x : List ℕ) → IsDecoded is_tag_char v back → StopsTag (slice_index x 0)
     → shorthand_tag (mid_line m (exclamation_mark ∷ (back ++ x))) ≡ Ok
     (primary_tag (encode_utf8_all v, mid_line (along m (1 + length back)) x))
@@ -205,7 +205,7 @@ behind_named start m word v back x some is stop =
     ∙ ap (λ k. parts_given (handle_of word) (encode_utf8_all v) (mid_line k x))
     (along_more m 1 (length back) (1 + length back) refl)
 
--- a suffix behind `!!` or `!word!`
+-- a suffix after `!!` or `!word!`
 named_read : (m : Marker) (w v back x : List ℕ) → AreIn is_alpha w → v ≢ [] → IsDecoded is_tag_char v back
     → StopsTag (slice_index x 0)
     → shorthand_tag (mid_line m (exclamation_mark ∷ (w ++ (exclamation_mark ∷ (back ++ x)))))

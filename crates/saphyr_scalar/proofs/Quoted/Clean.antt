@@ -26,7 +26,7 @@ IsCleanText n q t items x =
 abbrev pub IsClear : List ℕ → Type 0
 IsClear t = IsFalse (is_document_indicator t)
 
--- a line behind a break, and behind an escaped one
+-- a line after a break, and after an escaped one
 abbrev pub IsReached : ℕ → List ℕ → Type 0
 IsReached n line = IsTrue (is_quoted_line n line)
 

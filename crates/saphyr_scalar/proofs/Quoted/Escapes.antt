@@ -1,5 +1,6 @@
 -- Escapes of double quoted scalars, a step at a time.
 use Rattle.std.proofs.Common.{◌≡◌, ℕ, zero, suc, ◌+◌, ◌-◌, ◌*◌, ◌^◌, ◌<◌, ◌≤◌, true, false, List, [], ◌∷◌, length, drop, slice_index, Ok, refl, sym, ap, ◌∙◌, arith, subst, nat_eq}
+use Rattle.std.proofs.lemmas.Bool.{false≢true}
 use Rattle.std.proofs.lemmas.Bool.Decides.{nat_tests}
 use Rattle.std.specs.Prelude.{Option, Some, None, unwrap_or}
 use Rattle.std.proofs.Math.Nat.{pow-le-pow_right}
@@ -13,6 +14,7 @@ use Rattle.saphyr_scalar.specs.Views.Cursor.{Cursor, refuse, along, pass}
 use Rattle.saphyr_scalar.proofs.Moving.{along_none, along_more, drop_more}
 use Rattle.saphyr_scalar.specs.Steps.Quoted.{mid_line, digits, hex_digit_count, character, escape_by_number, escape_of, escaped_character}
 use Rattle.saphyr_input.proofs.Basics.Booleans.{by_test}
+use Rattle.saphyr_input.proofs.Basics.Lists.{shows_character}
 use Rattle.saphyr_scalar.proofs.EscapeEnds.{EscapeEnds, refused_ends, read, then_ends}
 
 -- no digit is left
@@ -51,6 +53,18 @@ digits_fit i v d lt small few =
     let some : 0 < 16 = omega arith in
     let le : 16 ^ (i + 1) ≤ 16 ^ 8 = pow-le-pow_right some more in
     omega (arith, digits_below i v d lt small, le)
+
+pub shift_fits : (i v : ℕ) → v < 16 ^ i → i < 8 → v * 16 < 2 ^ 32
+shift_fits i v lt few = let none : 0 < 16 = omega arith in omega (arith, digits_fit i v 0 lt none few)
+
+pub below_eight : (i n : ℕ) → i < n → n ≤ 8 → i < 8
+below_eight i n lt few = omega arith
+
+-- a place that shows a digit is a character
+pub digit_is_left : (c : ℕ) (s t : Cursor) → c ≡ slice_index s.rest 0 → t ≡ s → is_hex c ≡ true → 0 < length t.rest
+digit_is_left c s t read same hex =
+    subst (λ (x : Cursor). 0 < length x.rest) (sym same)
+    (shows_character s.rest is_hex true (ap is_hex (sym read) ∙ hex) (λ e. false≢true e))
 
 two_left : (xs : List ℕ) → (slice_index xs 0 ≡ 0 → ⊥) → (slice_index xs 1 ≡ 0 → ⊥) → 2 ≤ length xs
 two_left [] a b = absurd (a refl)

@@ -1,4 +1,4 @@
--- The bytes of a gap in a quoted scalar, and of the items behind it.
+-- The bytes of a gap in a quoted scalar, and of the items after it.
 use Rattle.std.proofs.Common.{◌≡◌, ℕ, suc, ◌+◌, Bool, true, false, List, [], ◌∷◌, ◌++◌, refl, sym, ap, ◌∙◌, arith, encode_utf8_all, cond, append_assoc, zero-add, add-zero}
 use Rattle.std.specs.Prelude.{encode_utf8}
 use Rattle.std.proofs.lemmas.Str.{encodes-append}
@@ -7,7 +7,7 @@ use Rattle.saphyr_values.specs.declared.folding.Item.TheVariants.{Blank, Raw, Es
 use Rattle.saphyr_values.specs.Folding.{is_before_break, empty_lines, line_feeds, raw_break, folded_from}
 use Rattle.saphyr_scalar.specs.Steps.Quoted.{QuotedGap, on_line, over_lines, no_gap, break_in, folded_break}
 
--- the bytes of items behind a gap
+-- the bytes of items after a gap
 abbrev pub gap_bytes : QuotedGap → List Item → List ℕ
 gap_bytes (on_line bytes) items = cond (is_before_break items) [] bytes ++ encode_utf8_all (folded_from false items)
 gap_bytes (over_lines escaped n) items =
@@ -66,7 +66,7 @@ escaped_bytes (over_lines escaped n) c items =
     ap (λ b. encode_utf8_all (folded_break escaped n) ++ (encode_utf8 c ++ b)) (no_gap_bytes items)
     ∙ no_line_more escaped n _
 
--- the bytes behind an escaped break
+-- the bytes after an escaped break
 escaped_break_line : (items : List Item)
     → gap_bytes (over_lines true 0) items ≡ encode_utf8_all (line_feeds (empty_lines items) ++ folded_from true items)
 escaped_break_line items =

@@ -1,4 +1,4 @@
--- What stands between the words of a quoted scalar, and its closing quote.
+-- What is between the words of a quoted scalar, and its closing quote.
 use Rattle.std.proofs.Common.{◌≡◌, ℕ, ◌<◌, ◌≤◌, Bool, true, false, List, [], ◌∷◌, ◌++◌, length, length-drop, drop, slice_index, Result, Ok, Err, refl, sym, ap, ◌∙◌, arith, subst, nat_eq, IsTrue, cond}
 use Rattle.std.specs.Prelude.{◌||◌, ◌&&◌, ◌==◌, not, OnOk}
 use Rattle.std.specs.List.{prefix_len}
@@ -126,7 +126,7 @@ moved_on grown s u t cleared same empty e =
     subst (λ (x : Cursor). Moved is_blank [] grown x t) same
     (subst (λ (b : List ℕ). Moved is_blank b grown u t) empty m)
 
--- behind a run no more remains
+-- after a run no more remains
 pub moved_no_longer : (p : ℕ → Bool) (text grown : List ℕ) (s t : Cursor) → Moved p text grown s t
     → length t.rest ≤ length s.rest
 moved_no_longer p text grown s t m =
@@ -141,7 +141,7 @@ pub ok_shorter : {X E : Type 0} (r : Result X E) (n m k : ℕ) → m < k → OnO
 ok_shorter (Ok x) n m k less no_longer = omega (arith, less, no_longer)
 ok_shorter (Err e) n m k less no_longer = tt
 
--- blanks, and what stands behind them
+-- blanks, and what comes after them
 pub blanks_to_break : (q : Quote) (indent : ℕ) (start : Marker) (text grown : List ℕ) (s t u v : Cursor)
     → Moved is_blank [] grown s t → u ≡ t → is_break (slice_index t.rest 0) ≡ true → v ≡ pass_break u
     → with_front text (inner_text_at q indent start (over_lines false 0) v)
@@ -205,7 +205,7 @@ at_closing Single indent start m cs h =
     not_second true h = absurd (cc)
     not_second false h = refl
 
--- where a closing quote stands a character does
+-- where a closing quote is, there is a character
 pub closing_left : (q : Quote) (xs : List ℕ) → IsTrue (is_closing q xs) → 0 < length xs
 closing_left q (c ∷ cs) h = omega arith
 closing_left Single [] h = absurd (cc)

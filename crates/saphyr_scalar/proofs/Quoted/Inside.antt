@@ -86,7 +86,7 @@ stands q indent start m c cs h =
     let is = literal_content q c h in
     behind_no_gap q indent start m c cs is.blank is.break is.nul ∙ rw h refl
 
--- what was read of a word, and what is read behind it
+-- what was read of a word, and what is read after it
 abbrev pub WordPiece : Quote → ℕ → Marker → Marker → List ℕ → ℕ → Type 0
 WordPiece q indent start m xs n =
     inner_text q indent start no_gap 0 m xs
@@ -137,7 +137,7 @@ unfolding inner_text end_gap
 at_end q indent start bytes m [] h = refl
 at_end q indent start bytes m (c ∷ cs) h = rw h refl
 
--- a word behind blanks
+-- a word after blanks
 pub flushed : (q : Quote) (indent : ℕ) (start : Marker) (bytes : List ℕ) (m : Marker) (c : ℕ) (cs : List ℕ)
     → IsQuotedInk c
     → inner_text q indent start (on_line bytes) 0 m (c ∷ cs) ≡ with_front bytes (inner_text q indent start no_gap 0 m
@@ -190,7 +190,7 @@ pub slash_left : (xs : List ℕ) → slice_index xs 0 ≡ backslash → 0 < leng
 slash_left [] h = absurd (cc)
 slash_left (c ∷ cs) h = omega arith
 
--- a run that was put behind a text
+-- a run that was put after a text
 pub record Moved (p : ℕ → Bool) (text grown : List ℕ) (s t : Cursor) : Type 0 where
   pub is : with_run p text s ≡ (grown, t)
 

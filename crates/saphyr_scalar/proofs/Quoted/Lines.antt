@@ -1,4 +1,4 @@
--- The breaks inside a quoted scalar, and the lines behind them.
+-- The breaks inside a quoted scalar, and the lines after them.
 use Rattle.std.proofs.Common.{◌≡◌, ℕ, ◌+◌, ◌<◌, ◌≤◌, Bool, true, false, List, [], ◌∷◌, ◌++◌, length, drop, slice_index, Result, Ok, Err, refl, sym, ap, ◌∙◌, arith, subst, encode_utf8_all, nat_lt, cond, add-one}
 use Rattle.std.specs.Prelude.{◌&&◌, ◌==◌}
 use Rattle.std.proofs.lemmas.Bool.Decides.{nat_tests}
@@ -43,7 +43,7 @@ line_tab q indent start escaped n s h left = refuses s.mark s.rest h left
     refuses m [] h left = absurd (cc)
     refuses m (c ∷ cs) h left = rw (h, left) refl
 
--- a break behind another
+-- a break after another
 pub line_break : (q : Quote) (indent : ℕ) (start : Marker) (escaped : Bool) (n : ℕ) (s : Cursor)
     → is_break (slice_index s.rest 0) ≡ true
     → inner_text_at q indent start (over_lines escaped (n + 1)) (pass_break s)
@@ -155,7 +155,7 @@ begins_with_ink : (q : Quote) (indent : ℕ) (start : Marker) (escaped : Bool) (
 begins_with_ink q indent start escaped n s blank break =
     begins_at q indent start s.mark escaped n s.blank_so_far s.rest blank break
 
--- a word that may stand on a later line
+-- a word that may be on a later line
 pub begins_word : (q : Quote) (indent : ℕ) (start : Marker) (escaped : Bool) (n : ℕ) (text : List ℕ) (s t : Cursor)
     → is_blank (slice_index s.rest 0) ≡ false → is_break (slice_index s.rest 0) ≡ false
     → quoted_line indent start s ≡ Ok t

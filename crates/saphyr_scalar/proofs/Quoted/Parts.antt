@@ -17,7 +17,7 @@ use Rattle.std.proofs.lemmas.Bool.{eqb-true}
 use Rattle.saphyr_input.specs.Indicators.{apostrophe, backslash}
 use Rattle.saphyr_input.proofs.Basics.Booleans.{clash, and_true_left, and_true_right, and_false, by_test}
 
--- A run that was put behind a text.
+-- A run that was put after a text.
 
 pub blanks_moved : (q : Quote) (indent : ℕ) (start : Marker) (bytes grown : List ℕ) (s t : Cursor)
     → Moved is_blank bytes grown s t
@@ -34,7 +34,7 @@ bind_twice : {A B C E : Type 0} (r : Result A E) (f : A → B) (g : B → Result
 bind_twice (Ok x) f g = refl
 bind_twice (Err e) f g = refl
 
--- an escape and what is read behind it
+-- an escape and what is read after it
 pub at_escape : (indent : ℕ) (start m : Marker) (cs : List ℕ) → is_break (slice_index cs 0) ≡ false
     → inner_text Double indent start no_gap 0 m (backslash ∷ cs)
     ≡ (escaped_character start (mid_line m (backslash ∷ cs)) >>= λ e. with_front (encode_utf8 e.0)
@@ -60,7 +60,7 @@ pub at_two_quotes : (indent : ℕ) (start m : Marker) (cs : List ℕ)
 unfolding is_literal special inner_text
 at_two_quotes indent start m cs = behind_no_gap Single indent start m 39 (39 ∷ cs) refl refl refl
 
--- where an escape stands, and what follows it is no break
+-- where an escape is, and what follows it is no break
 pub record StartsEscape (xs : List ℕ) : Type 0 where
   pub cs : List ℕ
   pub cut : xs ≡ backslash ∷ cs

@@ -100,7 +100,7 @@ break_piece (c ∷ cs) p x h =
     returns true is b = both_piece cs p x b is
     returns false is b = return_piece cs p x is b
 
--- the piece of what stands behind the opening quote
+-- the piece of what comes after the opening quote
 record TextPiece (q : Quote) (xs : List ℕ) (items : List Item) (x : List ℕ) : Type 0 where
   piece : List ℕ
   begins : Begins piece xs x

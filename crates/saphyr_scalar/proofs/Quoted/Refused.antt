@@ -67,7 +67,7 @@ quoted_gap_refused indent start (on_line bytes) s =
 quoted_gap_refused indent start (over_lines escaped n) s =
     refused_bind (λ e. e.mark ≡ start) (quoted_line indent start s) _ (word_refused indent start s) (λ _ _. tt)
 
--- a tab is refused where it stands
+-- a tab is refused where it is
 blank_refused : (indent : ℕ) (gap : QuotedGap) (m : Marker) (c : ℕ) → RefusedAt m (blank_in indent gap m c)
 unfolding blank_in
 blank_refused indent (on_line bytes) m c = tt
@@ -76,7 +76,7 @@ blank_refused indent (over_lines escaped n) m c =
 
 -- ## A character of several characters
 
--- its characters are passed; where none stands, a break does behind a backslash, or the closing quote
+-- its characters are passed; if there is none, a break comes after a backslash, or the closing quote
 abbrev SpecialTold : Quote → Marker → Marker → ℕ → List ℕ → Result (Option ℕ × Cursor) Refusal → Type 0
 SpecialTold q start m c cs (Ok (Some d, t)) = IsPassed m (c ∷ cs) t.mark (drop (special_len q (slice_index cs 0)) cs)
 SpecialTold q start m c cs (Ok (None, t)) =

@@ -92,7 +92,7 @@ digits_spelled start (suc n) v t w s e =
       passes = λ n u p. passing.character t.mark c cs n u (hex_no_break c hex) (d.passes n u p);
     }
 
--- an escape that was read, behind its backslash
+-- an escape that was read, after its backslash
 pub record Escape (m : Marker) (e : ℕ) (xs : List ℕ) (c : ℕ) (s : Cursor) : Type 0 where
   pub grows : (n : ℕ) (items : List Item) (x : List ℕ) → quotes.IsCleanText n Double s.rest items x
       → quotes.IsCleanText n Double (backslash ∷ e ∷ xs) (Escaped c ∷ items) x

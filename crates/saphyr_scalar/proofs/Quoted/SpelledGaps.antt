@@ -1,4 +1,4 @@
--- Blanks and breaks of a quoted scalar that is read are spelled so, and so is what is read behind them.
+-- Blanks and breaks of a quoted scalar that is read are spelled so, and so is what is read after them.
 use Rattle.std.proofs.Common.{◌≡◌, ℕ, ◌+◌, ◌-◌, ◌≤◌, Bool, true, false, List, ◌∷◌, ◌++◌, length, length-drop, drop, Result, refl, sym, ap, ◌∙◌, arith, subst, IsTrue}
 use Rattle.std.specs.Prelude.{◌&&◌, ◌==◌, nat_le, encode_utf8}
 use Rattle.std.proofs.lemmas.Bool.{le-leb, leb-true, ltb-false, or_left, or_right}
@@ -88,7 +88,7 @@ space_reached n k cs le h =
     (λ a. let e = leb-true k (indentation cs) a in enough n (32 ∷ cs) (omega (arith, e, le)))
     (λ a. or_right (nat_le n (indentation (32 ∷ cs))) (is_break (behind_indentation (32 ∷ cs))) a)
 
--- a blank of a later line, where no tab stands left of the column
+-- a blank of a later line, where no tab is left of the column
 blank_reached : (indent : ℕ) (m : Marker) (c : ℕ) (cs : List ℕ) → is_blank c ≡ true
     → ((c == tab) && is_left indent m) ≡ false → quotes.IsReached (indent - (m.col + 1)) cs
     → quotes.IsReached (indent - m.col) (c ∷ cs)

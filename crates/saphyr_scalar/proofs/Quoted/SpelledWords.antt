@@ -117,7 +117,7 @@ quote_word n indent start m (d ∷ cs) y s le known g = cases (d == 39)
           passed = two_passed m cs s.mark s.rest r.passed;
         }
 
--- What stands behind an escaped break, at a line's start: where it is the closing quote it may stand at any column.
+-- What comes after an escaped break, at a line's start: where it is the closing quote it may be at any column.
 record Further (indent : ℕ) (m : Marker) (xs y : List ℕ) (s : Cursor) : Type 0 where
   items : List Item
   is : quotes.IsCleanText indent Double xs items s.rest

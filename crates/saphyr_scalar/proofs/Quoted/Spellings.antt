@@ -17,7 +17,7 @@ use Rattle.saphyr_scalar.proofs.Quoted.Parts.{at_escape}
 use Rattle.saphyr_scalar.proofs.Quoted.Gaps.{at_closing}
 use Rattle.saphyr_scalar.proofs.Given.{text_given_at}
 
--- where digits stand, they are read
+-- where digits are, they are read
 digits_read : (start m : Marker) (v : ℕ) (ds t : List ℕ) → AreIn is_hex ds
     → digits start (length ds) v (mid_line m (ds ++ t)) ≡ Ok (
       spelling.hexadecimal_from v ds,
@@ -88,7 +88,7 @@ number_read start m e c ds t h =
     let none : short_escape e ≡ None = no_letter e (length ds) (short_escape e) refl h.count in
     rw (none, h.count, digits_read start (along m 2) 0 ds t h.hex, h.value, h.scalar) refl
 
--- A spelled text is read, behind blanks on the line whose bytes are b.
+-- A spelled text is read, after blanks on the line whose bytes are b.
 abbrev pub ReadsInside : ℕ → Marker → List ℕ → Marker → List ℕ → List ℕ → List ℕ → ℕ → Type 0
 ReadsInside indent start b m t v x n =
     inner_text Double indent start (on_line b) 0 m t ≡ Ok (b ++ encode_utf8_all v, mid_line (along m n) x)
@@ -104,7 +104,7 @@ closed_reads : (indent : ℕ) (start : Marker) (b : List ℕ) (m : Marker) (x : 
 closed_reads indent start b m x =
     flushed Double indent start b m 34 x quote_content ∙ ap (with_front b) (at_closing Double indent start m x refl)
 
--- an escape, and what is read behind it
+-- an escape, and what is read after it
 escape_reads : (indent : ℕ) (start : Marker) (b : List ℕ) (m : Marker) (e c : ℕ) (t v x rest : List ℕ) (k n : ℕ)
     → is_break e ≡ false → escaped_character start (mid_line m (backslash ∷ e ∷ t)) ≡ Ok (c, mid_line (along m k) rest)
     → ReadsInside indent start [] (along m k) rest v x n
@@ -160,7 +160,7 @@ inside_read indent start b m _ _ _ (spelling.numbered e c ds t v x h r) =
     (no_break_digits e (length ds) h.count) place
     (inside_read indent start [] (along m k) t v x r)
 
--- A double quoted scalar that is spelled on one line is read: its characters, and what stands behind it.
+-- A double quoted scalar that is spelled on one line is read: its characters, and what comes after it.
 pub double_quoted_read : (indent : ℕ) (s : Cursor) (v x : List ℕ) → spelling.IsDoubleQuoted s.rest v x
     → (n : ℕ) × (double_quoted indent s ≡ Ok (encode_utf8_all v, mid_line (along s.mark n) x))
 unfolding quoted

@@ -15,7 +15,7 @@ ending s = if is_z (slice_index s.rest 0) then AtEnd else AtMark
 abbrev pub spaces : ℕ → List ℕ
 spaces n = replicate n space
 
--- a line of a scalar: an empty one, or content behind the indentation
+-- a line of a scalar: an empty one, or content after the indentation
 abbrev pub IsReadLine : ℕ → List ℕ → Type 0
 IsReadLine i line = (is_empty_line i line ≡ true) ⊎ ((text : List ℕ) × (line ≡ spaces i ++ text))
 

@@ -33,16 +33,16 @@ abbrev pub AreIndicators : ℕ → Chomping → List ℕ → Type 0
 AreIndicators n chomping t =
     (n ≤ 9) × ((t ≡ digit_of n ++ chomping_of chomping) ⊎ (t ≡ chomping_of chomping ++ digit_of n))
 
--- 5.4: a whole break, which stands before a text
+-- 5.4: a whole break, before a text
 abbrev pub IsBreakBefore : List ℕ → List ℕ → Type 0
 IsBreakBefore behind t = (t ≡ codes "\n") ⊎ (t ≡ codes "\r\n") ⊎ ((t ≡ codes "\r") × (slice_index behind 0 ≢ line_feed))
 
--- what ends a header's line: its break, behind which no tab stands, or nothing before a NUL or the end
+-- what ends a header's line: its break, after which no tab is, or nothing before a NUL or the end
 abbrev pub EndsHeader : List ℕ → List ℕ → Type 0
 EndsHeader behind t = (IsBreakBefore behind t × (slice_index behind 0 ≢ tab))
     ⊎ ((t ≡ []) × IsTrue (is_z (slice_index behind 0)))
 
--- a header's line: `|` or `>`, the indicators, blanks and behind some a comment, and the line's end
+-- a header's line: `|` or `>`, the indicators, blanks and after some a comment, and the line's end
 abbrev pub IsHeaderLine : ℕ → Chomping → List ℕ → List ℕ → Type 0
 IsHeaderLine n chomping behind t =
     (mark : ℕ) × (indicators : List ℕ) × (tail : List ℕ) × (end : List ℕ) × AreIndicators n chomping indicators
@@ -68,7 +68,7 @@ AreNotWider indent column i = (i ≤ column) ⊎ (column < indent)
 
 -- Where no digit gives it, the indentation is told by the lines of spaces up to the first other character, with which
 -- the content begins: it is that of the widest of them, and at least `indent`, the first column to the right of the
--- enclosing block collection. None is wider than the line of the content, which has none where that character stands left
+-- enclosing block collection. None is wider than the line of the content, which has none where that character is left
 -- of `indent`, or where a NUL or the end is.
 abbrev pub IsFound : ℕ → List ℕ → ℕ → Type 0
 IsFound indent behind i =
@@ -83,7 +83,7 @@ IsIndentationFrom indent (suc n) behind i = i ≡ min (indent - 1 + suc n) (2 ^ 
 
 -- ## The lines (8.1.2)
 
--- Inside the lines stands no NUL and no byte order mark, and at the start of none a document marker.
+-- Inside the lines is no NUL and no byte order mark, and at the start of none a document marker.
 abbrev pub AreInside : Bool → List ℕ → List ℕ → Type 0
 AreInside starts [] behind = Unit {0}
 AreInside starts (c ∷ cs) behind =
@@ -104,8 +104,8 @@ pub record IsBehindLines (i : ℕ) (t : Cursor) : Type 0 where
 
 -- ## The scalar
 
--- From s on a block scalar stands with this text: a header's line, and lines, up to t. Before the place `start`, on the
--- way, stands no content: it is that of the header, or stands behind its line.
+-- From s on there is a block scalar with this text: a header's line, and lines, up to t. Before the place `start`, on the
+-- way, is no content: it is that of the header, or comes after its line.
 pub record IsBlockText (style : BlockStyle) (indent : ℕ) (s : Cursor) (text : List ℕ) (start : Marker) (t : Cursor) :
     Type 0 where
   pub digit : ℕ

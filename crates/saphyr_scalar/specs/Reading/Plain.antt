@@ -1,4 +1,4 @@
--- What is read as a plain scalar (YAML 1.2.2, 7.3.3): a piece of the text, its reading, and what stands behind it.
+-- What is read as a plain scalar (YAML 1.2.2, 7.3.3): a piece of the text, its reading, and what comes after it.
 use Rattle.std.specs.Prelude.{◌≡◌, ◌≢◌, ℕ, Bool, true, ◌||◌, ◌==◌, List, [], ◌∷◌, ◌++◌, slice_index, IsTrue, IsFalse, if◌then◌else◌, encode_utf8_all}
 use Rattle.saphyr_input.specs.Classes.{nul, byte_order_mark, is_blank_or_breakz, is_bom, is_flow}
 use Rattle.saphyr_input.specs.Breaks.{normalized}
@@ -10,13 +10,13 @@ use Rattle.saphyr_scalar.specs.Views.Cursor.{Cursor, along, next_line}
 use Rattle.saphyr_values.specs.Flow.{plain_value}
 use Rattle.saphyr_scalar.specs.Spelling.LineBreaks.{ends_line}
 
--- the place behind a text that begins at a place: a line more behind each break, and else a column more
+-- the place after a text that begins at a place: a line more after each break, and else a column more
 abbrev pub end_of_text : Marker → List ℕ → Marker
 end_of_text m [] = m
 end_of_text m (c ∷ cs) = end_of_text (if ends_line c cs then next_line m 1 else along m 1) cs
 
--- How a piece of a plain scalar is spelled from the place m on, where `behind` stands behind it: no NUL and no byte
--- order mark, no `#` at its start or behind a blank or break, no colon before a blank, break, NUL or the end, and no
+-- How a piece of a plain scalar is spelled from the place m on, where `behind` comes after it: no NUL and no byte
+-- order mark, no `#` at its start or after a blank or break, no colon before a blank, break, NUL or the end, and no
 -- document marker at a line's start.
 abbrev pub IsSpelledPlain : Marker → Bool → List ℕ → List ℕ → Type 0
 IsSpelledPlain m apart [] behind = Unit {0}
@@ -26,17 +26,17 @@ IsSpelledPlain m apart (c ∷ cs) behind =
     × (m.col ≡ 0 → IsFalse (is_document_indicator (c ∷ (cs ++ behind))))
     × IsSpelledPlain (if ends_line c (cs ++ behind) then next_line m 1 else along m 1) (is_blank_or_break c) cs behind
 
--- 7.3.3: inside flow a piece has no flow indicator, and no colon before one. `behind` stands behind it.
+-- 7.3.3: inside flow a piece has no flow indicator, and no colon before one. `behind` comes after it.
 abbrev pub IsSafeInFlow : List ℕ → List ℕ → Type 0
 IsSafeInFlow [] behind = Unit {0}
 IsSafeInFlow (c ∷ cs) behind =
     IsFalse (is_flow c) × (c ≡ colon → IsFalse (is_flow (slice_index (cs ++ behind) 0))) × IsSafeInFlow cs behind
 
--- what may stand behind a plain scalar: a blank, a break, NUL, a byte order mark, a colon, a flow indicator or the end
+-- what may come after a plain scalar: a blank, a break, NUL, a byte order mark, a colon, a flow indicator or the end
 abbrev pub ends_piece : ℕ → Bool
 ends_piece c = is_blank_or_breakz c || is_bom c || (c == colon) || is_flow c
 
--- The text is the reading of a piece at the place s that ends at `end`, and t is the place behind the blanks and breaks
+-- The text is the reading of a piece at the place s that ends at `end`, and t is the place after the blanks and breaks
 -- that follow it.
 pub record IsPlainReading (in_flow : Bool) (s : Cursor) (text : List ℕ) (end : Marker) (t : Cursor) : Type 0 where
   pub piece : List ℕ

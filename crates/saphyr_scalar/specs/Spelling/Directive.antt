@@ -1,4 +1,4 @@
--- How directives are spelled (YAML 1.2.2, 6.8), and what may stand behind one on its line.
+-- How directives are spelled (YAML 1.2.2, 6.8), and what may come after one on its line.
 use Rattle.std.specs.Prelude.{◌≡◌, ◌≢◌, ℕ, ◌+◌, ◌-◌, ◌*◌, ◌≤◌, ◌||◌, ◌==◌, ◌⊎◌, List, [], ◌∷◌, ◌++◌, length, slice_index, IsTrue, IsFalse, codes, encode_utf8_all}
 use Rattle.saphyr_input.specs.Classes.{is_alpha, is_blank, is_digit, is_yaml_non_space, is_yaml_non_break}
 use Rattle.saphyr_input.specs.Indicators.{exclamation_mark}
@@ -14,7 +14,7 @@ pub data ReadDirective : Type 0 where
 abbrev pub AreSomeBlanks : List ℕ → Type 0
 AreSomeBlanks t = (t ≢ []) × AreIn is_blank t
 
--- what decimal digits stand for, behind those that stand for v
+-- what decimal digits stand for, after those that stand for v
 abbrev pub decimal_from : ℕ → List ℕ → ℕ
 decimal_from v [] = v
 decimal_from v (d ∷ ds) = decimal_from (v * 10 + (d - 48)) ds
@@ -42,7 +42,7 @@ abbrev pub IsWholeHandle : List ℕ → List ℕ → Type 0
 IsWholeHandle handle behind =
     handle ≡ codes "!" → IsFalse (is_alpha (slice_index behind 0) || (slice_index behind 0 == exclamation_mark))
 
--- A tag directive as it is read: no blank has to stand between a handle and its prefix.
+-- A tag directive as it is read: no blank has to be between a handle and its prefix.
 abbrev pub IsReadTagDirective : List ℕ → List ℕ → List ℕ → Type 0
 IsReadTagDirective handle prefix t =
     (first second written : List ℕ) × AreSomeBlanks first × AreIn is_blank second × IsHandleText handle
@@ -67,7 +67,7 @@ IsReservedDirective name t =
 abbrev pub IsTailComment : List ℕ → List ℕ → Type 0
 IsTailComment blanks t = (words : List ℕ) × (blanks ≢ []) × AreIn is_yaml_non_break words × (t ≡ codes "#" ++ words)
 
--- the blanks and the comment behind a directive
+-- the blanks and the comment after a directive
 abbrev pub IsLineTail : List ℕ → Type 0
 IsLineTail t = (blanks comment : List ℕ) × AreIn is_blank blanks × ((comment ≡ []) ⊎ IsTailComment blanks comment)
     × (t ≡ blanks ++ comment)

@@ -7,8 +7,8 @@ use Rattle.saphyr_scalar.specs.Spelling.Quoted.{IsText, closed, itself, broken, 
 use Rattle.saphyr_values.specs.declared.folding.Item.{Item}
 use Rattle.saphyr_values.specs.declared.flow.Quote.{Quote}
 
--- Each later line of a scalar begins with `least` spaces at least, or has fewer and nothing else. Behind an escaped
--- break the closing quote may stand first.
+-- Each later line of a scalar begins with `least` spaces at least, or has fewer and nothing else. After an escaped
+-- break the closing quote may come first.
 abbrev pub HasIndentedLines : ℕ → (q : Quote) (t : List ℕ) (items : List Item) (x : List ℕ) → IsText q t items x
     → Type 0
 HasIndentedLines least _ _ _ _ (closed q x h) = Unit {0}

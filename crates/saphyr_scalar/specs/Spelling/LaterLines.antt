@@ -9,7 +9,7 @@ abbrev pub indentation : List ℕ → ℕ
 indentation [] = 0
 indentation (c ∷ cs) = if c == space then 1 + indentation cs else 0
 
--- the character behind them
+-- the character after them
 abbrev pub behind_indentation : List ℕ → ℕ
 behind_indentation [] = nul
 behind_indentation (c ∷ cs) = if c == space then behind_indentation cs else c
@@ -32,7 +32,7 @@ IsPlainLine in_flow least line = IsTrue (is_plain_line in_flow least line)
 abbrev pub is_quoted_line : ℕ → List ℕ → Bool
 is_quoted_line least line = nat_le least (indentation line) || is_break (behind_indentation line)
 
--- each line of a piece but its first is so, with what stands behind the piece
+-- each line of a piece but its first is so, with what comes after the piece
 abbrev pub AreLaterLines : (List ℕ → Type 0) → List ℕ → List ℕ → Type 0
 AreLaterLines IsLine [] behind = Unit {0}
 AreLaterLines IsLine (c ∷ cs) behind =

@@ -3,7 +3,7 @@ use Rattle.std.specs.Prelude.{ℕ, Bool, ◌&&◌, ◌==◌, not, List, slice_in
 use Rattle.saphyr_input.specs.Classes.{is_break, line_feed, carriage_return}
 use Rattle.saphyr_input.specs.Places.{next_2_are}
 
--- how many characters the break that stands first has (5.4)
+-- how many characters the break at the front has (5.4)
 abbrev pub break_len : List ℕ → ℕ
 break_len xs = if next_2_are xs carriage_return line_feed then 2 else 1
 

@@ -1,5 +1,5 @@
 -- The spellings of double quoted scalars on one line (YAML 1.2.2, 7.3.1 and 5.7).
--- Each relation is between what stands at a place, what it stands for, and what stands behind it.
+-- Each relation is between what is at a place, what it stands for, and what comes after it.
 use Rattle.std.specs.Prelude.{◌≡◌, ℕ, ◌+◌, ◌*◌, Bool, ◌&&◌, ◌==◌, not, List, [], ◌∷◌, ◌++◌, length, Some, IsTrue}
 use Rattle.saphyr_input.specs.Classes.{is_breakz, is_hex, hex_value}
 use Rattle.saphyr_input.specs.Indicators.{backslash, quotation_mark}
@@ -10,19 +10,19 @@ use Rattle.saphyr_values.specs.Escapes.{short_escape, digit_count, is_scalar_val
 abbrev pub stands_in_double_quotes : ℕ → Bool
 stands_in_double_quotes c = not (is_breakz c) && not (c == quotation_mark) && not (c == backslash)
 
--- what digits stand for, behind those that stand for v
+-- what digits stand for, after those that stand for v
 abbrev pub hexadecimal_from : ℕ → List ℕ → ℕ
 hexadecimal_from v [] = v
 hexadecimal_from v (d ∷ ds) = hexadecimal_from (v * 16 + hex_value d) ds
 
--- a character, by the digits behind the letter e
+-- a character, by the digits after the letter e
 pub record IsNumber (e c : ℕ) (ds : List ℕ) : Type 0 where
   pub count : digit_count e ≡ Some (length ds)
   pub hex : AreIn is_hex ds
   pub value : hexadecimal_from 0 ds ≡ c
   pub scalar : IsTrue (is_scalar_value c)
 
--- what stands behind the opening quote, up to the closing one, its characters, and what stands behind that
+-- what comes after the opening quote, up to the closing one, its characters, and what comes after that
 pub data IsInside : List ℕ → List ℕ → List ℕ → Type 0 where
   closed : (x : List ℕ) → IsInside (quotation_mark ∷ x) [] x
   itself : (c : ℕ) (t v x : List ℕ) → IsTrue (stands_in_double_quotes c) → IsInside t v x → IsInside (c ∷ t) (c ∷ v) x

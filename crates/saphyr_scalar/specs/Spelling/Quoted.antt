@@ -1,5 +1,5 @@
--- The spellings of quoted scalars over several lines (YAML 1.2.2, 7.3.1 and 7.3.2), with their breaks as they stand.
--- Each relation is between what stands at a place, the items that it spells, and what stands behind it.
+-- The spellings of quoted scalars over several lines (YAML 1.2.2, 7.3.1 and 7.3.2), with their breaks as they are.
+-- Each relation is between what is at a place, the items that it spells, and what comes after it.
 use Rattle.std.specs.Prelude.{◌≡◌, ℕ, Bool, ◌&&◌, not, List, [], ◌∷◌, ◌++◌, drop, slice_index, Some, IsTrue}
 use Rattle.saphyr_input.specs.Classes.{is_break, is_breakz}
 use Rattle.saphyr_values.specs.Flow.{mark, is_special, raw_item, apostrophe, backslash}
@@ -16,7 +16,7 @@ use Rattle.saphyr_values.specs.declared.flow.Quote.TheVariants.{Single, Double}
 abbrev pub stands_for_itself : Quote → ℕ → Bool
 stands_for_itself quote c = not (is_breakz c) && not (is_special quote c)
 
--- what stands behind the opening quote, up to the closing one
+-- what comes after the opening quote, up to the closing one
 pub data IsText : Quote → List ℕ → List Item → List ℕ → Type 0 where
   closed : (q : Quote) (x : List ℕ) → IsTrue (is_closing q (mark q ∷ x)) → IsText q (mark q ∷ x) [] x
   itself : (q : Quote) (c : ℕ) (t : List ℕ) (items : List Item) (x : List ℕ) → IsTrue (stands_for_itself q c)

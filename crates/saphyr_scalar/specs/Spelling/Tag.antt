@@ -59,7 +59,7 @@ abbrev pub IsTagText : List ℕ → List ℕ → List ℕ → Type 0
 IsTagText t handle suffix =
     IsNonSpecificTag t handle suffix ⊎ (IsVerbatimTag t handle suffix ⊎ IsShorthandTag t handle suffix)
 
--- what may stand behind a tag: a blank, a break, NUL or the end, and in flow a flow indicator
+-- what may come after a tag: a blank, a break, NUL or the end, and in flow a flow indicator
 abbrev pub EndsTag : Bool → List ℕ → Type 0
 EndsTag in_flow x = IsTrue (is_blank_or_breakz (slice_index x 0) || (in_flow && is_flow (slice_index x 0)))
 

@@ -11,6 +11,6 @@ use Rattle.saphyr_scalar.specs.Steps.Quoted.{with_run}
 unfoldable pub anchor_name_of : Marker → List ℕ × Cursor → Result (List ℕ × Cursor) Refusal
 anchor_name_of start x = if length x.0 == 0 then refuse fault.AnchorNameExpected start else Ok x
 
--- the name behind the `&` or the `*`, and what stands behind the name
+-- the name after the `&` or the `*`, and what comes after the name
 unfoldable pub anchor : Cursor → Result (List ℕ × Cursor) Refusal
 anchor s = anchor_name_of s.mark (with_run is_anchor_char [] (pass 1 s))

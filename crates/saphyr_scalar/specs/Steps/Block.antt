@@ -20,21 +20,21 @@ use Rattle.saphyr_scalar.specs.declared.scalar.block.breaks.BlockEnd.{BlockEnd}
 use Rattle.saphyr_scalar.specs.Views.Cursor.{Cursor, ◌>>=◌, refuse, along, next_line, pass, pass_break, pass_comment, separation}
 use Rattle.saphyr_values.specs.Folding.{line_feeds, raw_break}
 
--- 8.1.1.2: the chomping indicator that stands first, where one does, and what stands behind it
+-- 8.1.1.2: the chomping indicator at the front, if there is one, and what comes after it
 unfoldable pub chomping : Cursor → Option Chomping × Cursor
 chomping s =
     if slice_index s.rest 0 == plus_sign then (Some Keep, pass 1 s)
     else if slice_index s.rest 0 == hyphen then (Some Strip, pass 1 s)
     else (None, s)
 
--- 8.1.1.1: the indentation indicator that stands first, 0 where none does
+-- 8.1.1.1: the indentation indicator at the front, 0 if there is none
 unfoldable pub indicator : Marker → Cursor → Result (ℕ × Cursor) Refusal
 indicator start s =
     if not (is_digit (slice_index s.rest 0)) then Ok (0, s)
     else if slice_index s.rest 0 == 48 then refuse fault.BlockScalarIndicatorZero start
     else Ok (slice_index s.rest 0 - 48, pass 1 s)
 
--- the break of a header's line, behind which no tab stands
+-- the break of a header's line, after which no tab comes
 unfoldable pub header_break : Marker → Cursor → Result Cursor Refusal
 header_break start s =
     if not (is_breakz (slice_index s.rest 0)) then refuse fault.BlockScalarHeaderEndExpected start
@@ -45,7 +45,7 @@ header_break start s =
 unfoldable pub header_end : Marker → Cursor → Result Cursor Refusal
 header_end start s = separation Yes s >>= λ x. header_break start x.1
 
--- the chomping behind an indentation indicator, where none stood before it: the last break stays without an indicator
+-- the chomping after an indentation indicator, where none was before it: the last break stays without an indicator
 unfoldable pub last_chomping : Option Chomping → Cursor → Chomping × Cursor
 last_chomping (Some first) s = (first, s)
 last_chomping None s = (unwrap_or (chomping s).0 Clip, (chomping s).1)
@@ -62,7 +62,7 @@ unfoldable pub header : Cursor → Result (BlockHeader × Cursor) Refusal
 header s = indicator s.mark (chomping (pass 1 s)).1 >>= λ x. header_behind s.mark x.0
     (last_chomping (chomping (pass 1 s)).0 x.1)
 
--- the place in the text cs, where only blanks stand before it on its line or others do
+-- the place in the text cs, and whether only blanks come before it on its line
 abbrev pub line_cursor : Bool → Marker → List ℕ → Cursor
 line_cursor b m cs = record { rest = cs; mark = m; blank_so_far = b }
 
@@ -88,7 +88,7 @@ inside_break m = record { index = m.index + 1; line = m.line; col = m.col }
 abbrev pub EmptyLinesRead : Type 0
 EmptyLinesRead = EmptyLines
 
--- empty lines, and behind them a line's spaces up to a column, where the widest of all is kept
+-- empty lines, and after them a line's spaces up to a column, where the widest of all is kept
 abbrev pub with_column : EmptyLines → ℕ → EmptyLines
 with_column lines col = record { count = lines.count; widest = max lines.widest col }
 
@@ -96,7 +96,7 @@ with_column lines col = record { count = lines.count; widest = max lines.widest 
 abbrev pub with_empty_line : EmptyLines → ℕ → EmptyLines
 with_empty_line lines col = record { count = lines.count + 1; widest = max lines.widest col }
 
--- Empty lines, which have spaces alone, and the indentation behind them. Some were met before.
+-- Empty lines, which have spaces alone, and the indentation after them. Some were met before.
 unfoldable pub pass_empty_lines : Option ℕ → EmptyLines → Bool → Marker → List ℕ → EmptyLines × Cursor
 pass_empty_lines limit lines b m [] = (with_column lines m.col, line_cursor b m [])
 pass_empty_lines limit lines b m (c ∷ cs) =
@@ -120,7 +120,7 @@ break_before style None lines below = line_feeds lines
 break_before Literal (Some above) lines below = line_feeds (lines + 1)
 break_before Folded (Some above) lines below = if above || below then line_feeds (lines + 1) else raw_break lines
 
--- what is read of the lines: the text up to the last content, the breaks behind it, and what stands behind these
+-- what is read of the lines: the text up to the last content, the breaks after it, and what comes after these
 abbrev pub LinesRead : Type 0
 LinesRead = List ℕ × BlockEnd × Cursor
 
@@ -130,8 +130,8 @@ lines_behind_text text read = (text ++ read.0, read.1, read.2)
 abbrev pub lines_ended : Bool → ℕ → Cursor → LinesRead
 lines_ended broken lines s = ([], record { broken = broken; empty_lines = lines }, s)
 
--- The content lines. `between` stands in the indentation of a line, behind the content line `above`, if there is one,
--- and some empty lines; `line` stands inside the content of a line that is more indented or not.
+-- The content lines. `between` is in the indentation of a line, after the content line `above`, if there is one,
+-- and some empty lines; `line` is inside the content of a line that is more indented or not.
 unfoldable mutual
   pub between : BlockStyle → ℕ → Option Bool → ℕ → Bool → Marker → List ℕ → LinesRead
   between style i above lines b m [] = lines_ended (is_some above) lines (line_cursor b m [])
@@ -158,30 +158,30 @@ between_at style i above lines s = between style i above lines s.blank_so_far s.
 abbrev pub line_at : BlockStyle → ℕ → Bool → Cursor → LinesRead
 line_at style i more s = line style i more s.blank_so_far s.mark s.rest
 
--- the rest of the line is put behind a text
+-- the rest of the line is put after a text
 abbrev pub with_line : List ℕ → Cursor → List ℕ × Cursor
 with_line text s = (text ++ encode_utf8_all (take (prefix_len is_yaml_non_break s.rest) s.rest), pass_comment s)
 
--- the lines behind a text
+-- the lines after a text
 abbrev pub with_lines : List ℕ → LinesRead → List ℕ × BlockEnd × Cursor
 with_lines text read = (text ++ encode_utf8_all read.0, read.1, read.2)
 
--- the lines behind a text, from the first on, behind some empty lines
+-- the lines after a text, from the first on, after some empty lines
 abbrev pub lines_onto : BlockStyle → ℕ → ℕ → List ℕ → Cursor → Result (List ℕ × BlockEnd × Cursor) Refusal
 lines_onto style i leading text s = Ok (with_lines text (between_at style i None leading s))
 
--- what contracts see of the lines behind a text and of the reader behind them
+-- what contracts see of the lines after a text and of the reader after them
 abbrev pub seen_lines : BlockEnd → List ℕ → Cursor → List ℕ × BlockEnd × Cursor
 seen_lines end text s = (text, end, s)
 
--- 8.1.1.2: what stays of the breaks behind the last content. The last line may lack a break and count as if it had one.
+-- 8.1.1.2: what stays of the breaks after the last content. The last line may lack a break and count as if it had one.
 abbrev pub tail : Chomping → Bool → BlockEnd → List ℕ
 tail Strip unfinished end = []
 tail Clip unfinished end = if end.broken || unfinished then line_feeds 1 else []
 tail Keep unfinished end =
     (if end.broken then line_feeds 1 else []) ++ (if unfinished then line_feeds 1 else []) ++ line_feeds end.empty_lines
 
--- The text's end or a NUL stands at the indentation of a line or behind it, so that it cuts the last line.
+-- The text's end or a NUL is at the indentation of a line or after it, so that it cuts the last line.
 unfoldable pub is_unfinished : ℕ → Cursor → Bool
 is_unfinished i s = is_z (slice_index s.rest 0) && nat_le (max i 1) s.mark.col
 
@@ -196,11 +196,11 @@ tail_alone Keep lines s =
 unfoldable pub given_indentation : ℕ → ℕ → Option ℕ
 given_indentation indent n = if n == 0 then None else Some (min (indent - 1 + n) (2 ^ 64 - 1))
 
--- what is read of a scalar: its text, its span, and what stands behind it
+-- what is read of a scalar: its text, its span, and what comes after it
 abbrev pub BlockScalarRead : Type 0
 BlockScalarRead = Result (List ℕ × Span × Cursor) Refusal
 
--- what contracts see of a scalar and of the reader behind it
+-- what contracts see of a scalar and of the reader after it
 abbrev pub seen_block_scalar : BlockScalar → Cursor → List ℕ × Span × Cursor
 seen_block_scalar scalar s = (string_bytes scalar.text, scalar.span, s)
 
@@ -211,13 +211,13 @@ chomped_lines c i start x =
 abbrev pub content_lines : BlockStyle → Chomping → ℕ → ℕ → Cursor → BlockScalarRead
 content_lines style c i lines s = chomped_lines c i s.mark (between_at style i None lines s)
 
--- the content lines, from the first on, behind some empty lines
+-- the content lines, from the first on, after some empty lines
 unfoldable pub content : BlockStyle → Chomping → ℕ → ℕ → ℕ → Cursor → BlockScalarRead
 content style c indent i lines s =
     if nat_lt s.mark.col i && nat_le indent s.mark.col then refuse fault.BlockScalarLineIndentation s.mark
     else content_lines style c i lines s
 
--- what stands behind the leading empty lines
+-- what comes after the leading empty lines
 unfoldable pub behind_leading_lines : BlockStyle → ℕ → Marker → Chomping → Option ℕ → EmptyLines × Cursor
     → BlockScalarRead
 behind_leading_lines style indent start c limit x =
@@ -234,7 +234,7 @@ behind_header style indent start x =
     behind_leading_lines style indent start x.0.chomping (given_indentation indent x.0.indicator)
     (pass_empty_lines_at (given_indentation indent x.0.indicator) no_lines x.1)
 
--- A block scalar, from its `|` or `>` on: its text, its span, and what stands behind it.
+-- A block scalar, from its `|` or `>` on: its text, its span, and what comes after it.
 -- `indent` is the first column to the right of the enclosing block collection.
 unfoldable pub block_scalar : BlockStyle → ℕ → Cursor → BlockScalarRead
 block_scalar style indent s = header s >>= behind_header style indent s.mark

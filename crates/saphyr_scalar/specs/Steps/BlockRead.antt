@@ -9,7 +9,7 @@ use Rattle.saphyr_values.specs.Block.{block_value}
 use Rattle.saphyr_scalar.specs.Reading.BlockLines.{ending, HasLines}
 use Rattle.saphyr_scalar.specs.Steps.Block as block
 
--- 8.1.1.1: the indentation, from the text behind the header's line
+-- 8.1.1.1: the indentation, from the text after the header's line
 abbrev pub indentation_of : ℕ → BlockHeader → Cursor → ℕ
 indentation_of indent h s =
     unwrap_or (block.given_indentation indent h.indicator)
@@ -22,7 +22,7 @@ pub record EndsLines (i : ℕ) (s : Cursor) : Type 0 where
   pub no_content : block.line_starts i s.mark.col s.rest ≡ false
   pub whole_line : i < s.mark.col → is_yaml_non_break (slice_index s.rest 0) ≡ false
 
--- From s a scalar with this text was read, and t stands behind it: behind the header come the lines, and the
+-- From s a scalar with this text was read, and t comes after it: after the header come the lines, and the
 -- indentation of the line that ends them.
 pub record IsRead (style : BlockStyle) (indent : ℕ) (s : Cursor) (text : List ℕ) (t : Cursor) : Type 0 where
   pub header : BlockHeader

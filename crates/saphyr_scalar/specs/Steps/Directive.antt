@@ -21,11 +21,11 @@ directive_of (variant.Version major minor) = version major minor
 directive_of (variant.TagPrefix handle prefix) = tag_prefix (string_bytes handle) (string_bytes prefix)
 directive_of (variant.Reserved name) = reserved (string_bytes name)
 
--- what contracts see of a directive and of the reader behind it
+-- what contracts see of a directive and of the reader after it
 abbrev pub seen_directive : declared.Directive → Cursor → ReadDirective × Cursor
 seen_directive d s = (directive_of d, s)
 
--- what contracts see of a directive with its place, and of the reader behind its line
+-- what contracts see of a directive with its place, and of the reader after its line
 abbrev pub seen_directive_line : DirectiveLine → Cursor → ReadDirective × Marker × Cursor
 seen_directive_line line s = (directive_of line.directive, line.end, s)
 
@@ -116,6 +116,6 @@ line_end start s =
     separation Yes s >>= λ x. if is_breakz (slice_index x.1.rest 0) then Ok (pass_break x.1) else refuse
     fault.DirectiveEndExpected start
 
--- A directive, from its `%` on: what it says, the place behind it, and what stands behind its line.
+-- A directive, from its `%` on: what it says, the place after it, and what comes after its line.
 unfoldable pub directive : Cursor → Result (ReadDirective × Marker × Cursor) Refusal
 directive s = name (pass 1 s) >>= λ x. value s.mark x >>= λ d. line_end s.mark d.1 >>= λ t. Ok (d.0, d.1.mark, t)

@@ -28,18 +28,18 @@ word_starts in_flow s =
     fault.PlainDashBeforeFlow s.mark
     else Ok (is_in_word in_flow s.rest, s)
 
--- What stands behind a word: what it reads as where another word follows, whether a tab stands in the indentation of
--- the line that is reached, and what stands behind it.
+-- What comes after a word: what it reads as where another word follows, whether a tab is in the indentation of
+-- the line that is reached, and what comes after it.
 pub record PlainGap : Type 0 where
   pub text : List ℕ
   pub tabbed : Bool
   pub behind : Cursor
 
--- what contracts see of a gap: whether a tab stands in the indentation, a text, and the reader behind the gap
+-- what contracts see of a gap: whether a tab is in the indentation, a text, and the reader after the gap
 abbrev pub seen_gap : Bool → List ℕ → Cursor → PlainGap
 seen_gap tabbed text s = record { text = text; tabbed = tabbed; behind = s }
 
--- behind a line's blanks, where a tab stands in its indentation: only a comment may, or nothing
+-- after a line's blanks, where a tab is in its indentation: only a comment may, or nothing
 unfoldable pub content_behind_tab : Marker → Bool → Cursor → Result Cursor Refusal
 content_behind_tab start tabbed s =
     if tabbed && is_bom (slice_index s.rest 0) then refuse fault.MisplacedByteOrderMark s.mark
@@ -47,7 +47,7 @@ content_behind_tab start tabbed s =
     refuse fault.TabInsidePlain start
     else Ok s
 
--- the gap up to what stands on the line that is reached
+-- the gap up to what is on the line that is reached
 abbrev pub reached_gap : Marker → Bool → List ℕ → Cursor → Result PlainGap Refusal
 reached_gap start tabbed feeds s =
     content_behind_tab start tabbed s >>= λ t. Ok (record { text = feeds; tabbed = tabbed; behind = t })
@@ -56,7 +56,7 @@ reached_gap start tabbed feeds s =
 abbrev pub line_front : Marker → List ℕ → Cursor
 line_front m cs = record { rest = cs; mark = m; blank_so_far = true }
 
--- a blank or a break of the lines behind a word is passed
+-- a blank or a break of the lines after a word is passed
 unfoldable pub pass_white : ℕ → Bool → List ℕ → Cursor → Bool × List ℕ × Cursor
 pass_white indent tabbed feeds s =
     if is_break (slice_index s.rest 0) then (false, feeds ++ line_feed ∷ [], pass_break s)
@@ -87,45 +87,45 @@ feeds_onto indent start feeds s = lines indent start false feeds s.mark s.rest
 abbrev pub folded_gap : PlainGap → PlainGap
 folded_gap g = record g { text = if length g.text == 0 then space ∷ [] else g.text }
 
--- what stands between two words reads as: a break before no empty line as a space
+-- what is between two words reads as: a break before no empty line as a space
 abbrev pub gap_text : Bool → List ℕ → List ℕ
 gap_text over_lines text = if over_lines && (length text == 0) then space ∷ [] else text
 
--- what contracts see of a gap behind a word: its blanks, or a line feed for each empty line
+-- what contracts see of a gap after a word: its blanks, or a line feed for each empty line
 abbrev pub seen_word_gap : Bool → List ℕ → Cursor → PlainGap
 seen_word_gap tabbed text s = seen_gap tabbed (gap_text s.blank_so_far text) s
 
--- a line behind a word's line begins
+-- a line after a word's line begins
 abbrev pub next_lines : ℕ → Marker → Cursor → Result PlainGap Refusal
 next_lines indent start s = feeds_onto indent start [] s >>= λ g. Ok (folded_gap g)
 
--- behind the blanks on a word's line
+-- after the blanks on a word's line
 unfoldable pub gap_from : ℕ → Marker → List ℕ → Cursor → Result PlainGap Refusal
 gap_from indent start blanks s =
     if is_break (slice_index s.rest 0) then next_lines indent start (pass_break s)
     else Ok (record { text = blanks; tabbed = false; behind = s })
 
--- behind a word
+-- after a word
 unfoldable pub gap : ℕ → Marker → Cursor → Result PlainGap Refusal
 gap indent start s = gap_from indent start (with_run is_blank [] s).0 (with_run is_blank [] s).1
 
--- whether another word of the scalar begins behind a gap: outside flow, none does left of the indentation
+-- whether another word of the scalar begins after a gap: outside flow, none begins left of the indentation
 unfoldable pub next_word_starts : Bool → ℕ → Cursor → Result (Bool × Cursor) Refusal
 next_word_starts in_flow indent s =
     if s.blank_so_far && not in_flow && nat_lt s.mark.col indent then Ok (false, s) else word_starts in_flow s
 
--- The comment that keeps a scalar outside flow from going on in the next line: one behind a word on its line, or
--- behind a tab in the indentation.
+-- The comment that keeps a scalar outside flow from going on in the next line: one after a word on its line, or
+-- after a tab in the indentation.
 unfoldable pub comment_of : Bool → Bool → Cursor → Option Marker
 comment_of in_flow tabbed s =
     if not in_flow && (slice_index s.rest 0 == number_sign) && (tabbed || not s.blank_so_far) then Some s.mark else None
 
--- what is read of a scalar: its text, the place behind its last word, a comment that keeps it from going on, and what
--- stands behind it
+-- what is read of a scalar: its text, the place after its last word, a comment that keeps it from going on, and what
+-- comes after it
 abbrev pub PlainScalarRead : Type 0
 PlainScalarRead = Result (List ℕ × Marker × Option Marker × Cursor) Refusal
 
--- what contracts see of a scalar and of the reader behind it
+-- what contracts see of a scalar and of the reader after it
 abbrev pub seen_plain_scalar : PlainScalar → Cursor → List ℕ × Marker × Option Marker × Cursor
 seen_plain_scalar scalar s = (string_bytes scalar.text, scalar.end, scalar.comment, s)
 
@@ -133,7 +133,7 @@ seen_plain_scalar scalar s = (string_bytes scalar.text, scalar.end, scalar.comme
 abbrev pub with_text : List ℕ → PlainScalarRead → PlainScalarRead
 with_text text read = read >>= λ x. Ok (text ++ x.0, x.1, x.2, x.3)
 
--- what is read of a scalar behind its last word, which ended at `end`
+-- what is read of a scalar after its last word, which ended at `end`
 abbrev pub scalar_end : Bool → Marker → PlainGap → PlainScalarRead
 scalar_end in_flow end g = Ok ([], end, comment_of in_flow g.tabbed g.behind, g.behind)
 
@@ -142,7 +142,7 @@ abbrev pub gap_len : List ℕ → PlainGap → ℕ
 gap_len xs g = length xs - length g.behind.rest
 
 unfoldable mutual
-  -- Behind a word that ended at `end`: so many characters of the gap g are still to be passed.
+  -- After a word that ended at `end`: so many characters of the gap g are still to be passed.
   pub word_behind_gap : Bool → ℕ → Marker → Marker → PlainGap → ℕ → List ℕ → PlainScalarRead
   word_behind_gap in_flow indent start end g left [] = scalar_end in_flow end g
   word_behind_gap in_flow indent start end g zero (c ∷ cs) = next_word_starts in_flow indent g.behind >>= λ b.
@@ -159,8 +159,8 @@ unfoldable mutual
       if gap_len (c ∷ cs) g == 0 then scalar_end in_flow m g else word_behind_gap in_flow indent start m g
       (pred (gap_len (c ∷ cs) g)) cs
 
--- A plain scalar: its text, the place behind its last word, a comment that keeps it from going on, and what stands
--- behind it. `indent` is the first column to the right of the enclosing block collection.
+-- A plain scalar: its text, the place after its last word, a comment that keeps it from going on, and what is
+-- after it. `indent` is the first column to the right of the enclosing block collection.
 unfoldable pub plain : Bool → ℕ → Cursor → PlainScalarRead
 plain in_flow indent s = word_starts in_flow s >>= λ b.
     if b.0 then word in_flow indent s.mark b.1.mark b.1.rest else refuse fault.PlainEnd s.mark

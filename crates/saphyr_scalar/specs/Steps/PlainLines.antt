@@ -1,17 +1,17 @@
--- What is left of a plain scalar behind the line on which a word of it ended.
+-- What is left of a plain scalar after the line on which a word of it ended.
 use Rattle.std.specs.Prelude.{ℕ, Bool, ◌&&◌, not, nat_lt, slice_index, if◌then◌else◌}
 use Rattle.saphyr_input.specs.Places.{is_blank_or_break}
 use Rattle.saphyr_scalar.specs.declared.scalar.position.Marker.{Marker}
 use Rattle.saphyr_scalar.specs.Views.Cursor.{Cursor, ◌>>=◌}
 use Rattle.saphyr_scalar.specs.Steps.Plain.{PlainScalarRead, next_lines, next_word_starts, with_text, word, scalar_end}
 
--- what is read behind the line of a word that ended at `end`
+-- what is read after the line of a word that ended at `end`
 abbrev pub scalar_behind_line : Bool → ℕ → Marker → Marker → Cursor → PlainScalarRead
 scalar_behind_line in_flow indent start end s =
     next_lines indent start s >>= λ g. next_word_starts in_flow indent g.behind >>= λ b.
     if b.0 then with_text g.text (word in_flow indent start b.1.mark b.1.rest) else scalar_end in_flow end g
 
--- outside flow, neither a blank nor a break stands left of the indentation
+-- outside flow, neither a blank nor a break is left of the indentation
 abbrev pub is_left_of_scalar : Bool → ℕ → Cursor → Bool
 is_left_of_scalar in_flow indent s =
     not in_flow && nat_lt s.mark.col indent && not (is_blank_or_break (slice_index s.rest 0))

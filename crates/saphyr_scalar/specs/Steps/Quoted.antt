@@ -20,7 +20,7 @@ use Rattle.saphyr_values.specs.Folding.{raw_break, line_feeds}
 unfoldable pub is_literal : Quote → ℕ → Bool
 is_literal quote c = not (is_blank_or_breakz c) && not (flow.is_special quote c)
 
--- n hexadecimal digits behind those that stand for v
+-- n hexadecimal digits after those that stand for v
 unfoldable pub digits : Marker → ℕ → ℕ → Cursor → Result (ℕ × Cursor) Refusal
 digits start zero v s = Ok (v, s)
 digits start (suc n) v s =
@@ -31,7 +31,7 @@ digits start (suc n) v s =
 unfoldable pub character : Marker → ℕ → Cursor → Result (ℕ × Cursor) Refusal
 character start v s = if is_scalar_value v then Ok (v, s) else refuse fault.EscapedCodePoint start
 
--- the character of the digits behind an escape's letter, which asks for so many
+-- the character of the digits after an escape's letter, which asks for so many
 unfoldable pub escape_by_number : Marker → Option ℕ → Cursor → Result (ℕ × Cursor) Refusal
 escape_by_number start None s = refuse fault.UnknownEscape start
 escape_by_number start (Some n) s = digits start n 0 (pass 2 s) >>= λ x. character start x.0 x.1
@@ -44,7 +44,7 @@ escape_of start None letter s = escape_by_number start (digit_count letter) s
 unfoldable pub escaped_character : Marker → Cursor → Result (ℕ × Cursor) Refusal
 escaped_character start s = escape_of start (short_escape (slice_index s.rest 1)) (slice_index s.rest 1) s
 
--- the bytes of a text, and what stands behind what was taken off, or a fault
+-- the bytes of a text, and what comes after what was taken off, or a fault
 abbrev pub TextRead : Type 0
 TextRead = Result (List ℕ × Cursor) Refusal
 
@@ -56,7 +56,7 @@ with_front front read = read >>= λ x. Ok (front ++ x.0, x.1)
 abbrev pub mid_line : Marker → List ℕ → Cursor
 mid_line m cs = record { rest = cs; mark = m; blank_so_far = false }
 
--- The character of a spelling of several characters, where one stands: an escape between double quotes, two single
+-- The character of a spelling of several characters, where one is: an escape between double quotes, two single
 -- quotes between single ones.
 unfoldable pub special : Quote → Marker → Cursor → Result (Option ℕ × Cursor) Refusal
 special Single start s =
@@ -70,12 +70,12 @@ special Double start s =
 abbrev pub hex_digit_count : ℕ → ℕ
 hex_digit_count letter = unwrap_or (digit_count letter) 0
 
--- how many characters such a spelling has behind its first one
+-- how many characters such a spelling has after its first one
 abbrev pub special_len : Quote → ℕ → ℕ
 special_len Single next = 1
 special_len Double next = suc (hex_digit_count next)
 
--- What stands between two words of a scalar: blanks on a line, with their bytes, or a break, escaped or not, and behind
+-- What is between two words of a scalar: blanks on a line, with their bytes, or a break, escaped or not, and after
 -- it so many empty lines.
 pub data QuotedGap : Type 0 where
   on_line : (bytes : List ℕ) → QuotedGap
@@ -103,7 +103,7 @@ break_in (over_lines escaped n) = over_lines escaped (suc n)
 abbrev pub folded_break : Bool → ℕ → List ℕ
 folded_break escaped n = if escaped then line_feeds n else raw_break n
 
--- a word or the closing quote on a later line: no document marker stands there, and nothing left of the indentation
+-- a word or the closing quote on a later line: no document marker is there, and nothing left of the indentation
 unfoldable pub quoted_line : ℕ → Marker → Cursor → Result Cursor Refusal
 quoted_line indent start s =
     if (s.mark.col == 0) && is_document_indicator s.rest then refuse fault.DocumentIndicatorInsideQuotes start
@@ -118,7 +118,7 @@ end_gap indent start (on_line bytes) s =
 end_gap indent start (over_lines escaped n) s =
     quoted_line indent start s >>= λ t. Ok (encode_utf8_all (folded_break escaped n))
 
--- what an escaped break begins: right before the closing quote nothing, and there the quote may stand anywhere
+-- what an escaped break begins: right before the closing quote nothing, and there the quote may be anywhere
 abbrev pub escaped_gap : Quote → ℕ → QuotedGap
 escaped_gap quote c = if c == flow.mark quote then no_gap else over_lines true 0
 
@@ -126,8 +126,8 @@ abbrev pub if_some : {X : Type 0} → Option ℕ → (ℕ → X) → X → X
 if_some (Some c) f x = f c
 if_some None f x = x
 
--- The text behind the quote at `start`: its bytes, and what stands behind the closing quote. `gap` stands before it.
--- The next k characters are taken off already, and m is the place behind them.
+-- The text after the quote at `start`: its bytes, and what comes after the closing quote. `gap` comes before it.
+-- The next k characters are taken off already, and m is the place after them.
 unfoldable pub inner_text : Quote → ℕ → Marker → QuotedGap → ℕ → Marker → List ℕ → TextRead
 inner_text quote indent start gap k m [] = refuse fault.EndInsideQuotes start
 inner_text quote indent start gap zero m (c ∷ cs) =
@@ -160,11 +160,11 @@ single_quoted indent s = quoted Single indent s
 
 -- What calls that read a part of a scalar leave.
 
--- the longest run of p is put behind a text
+-- the longest run of p is put after a text
 abbrev pub with_run : (ℕ → Bool) → List ℕ → Cursor → List ℕ × Cursor
 with_run p text s = (text ++ encode_utf8_all (take (prefix_len p s.rest) s.rest), pass (prefix_len p s.rest) s)
 
--- a break behind a backslash
+-- a break after a backslash
 abbrev pub is_escaped_break : Quote → List ℕ → Bool
 is_escaped_break Single xs = false
 is_escaped_break Double xs = (slice_index xs 0 == backslash) && is_break (slice_index xs 1)
@@ -178,7 +178,7 @@ abbrev pub ReadsFurther : {X : Type 0} → Result X Refusal → (X → TextRead)
 ReadsFurther (Ok x) now before = now x ≡ before
 ReadsFurther (Err e) now before = before ≡ Err e
 
--- Words were put behind a text, up to a character that does not stand for itself.
+-- Words were put after a text, up to a character that does not stand for itself.
 pub record QuotedWordsMoved (quote : Quote) (text grown : List ℕ) (s t : Cursor) : Type 0 where
   pub same : (indent : ℕ) (start : Marker)
       → with_front grown (inner_text_at quote indent start no_gap t)

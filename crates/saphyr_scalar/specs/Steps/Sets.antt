@@ -12,11 +12,11 @@ use Rattle.saphyr_scalar.specs.Steps.Tag as tag
 abbrev pub is_content : ℕ → Bool
 is_content c = not (is_blank_or_breakz c)
 
--- with such a character a word of a plain scalar goes on wherever it stands (YAML 1.2.2, 7.3.3): all but the colon
+-- with such a character a word of a plain scalar goes on wherever it is (YAML 1.2.2, 7.3.3): all but the colon
 abbrev pub in_plain : Bool → ℕ → Bool
 in_plain in_flow c = not (c == colon) && not (is_blank_or_breakz c) && not (is_bom c) && not (in_flow && is_flow c)
 
--- and with such a one behind a space: neither a comment nor a lone `-` begins there
+-- and with such a one after a space: neither a comment nor a lone `-` begins there
 abbrev pub leads_plain : Bool → ℕ → Bool
 leads_plain in_flow c = in_plain in_flow c && not (c == number_sign) && not (c == hyphen)
 

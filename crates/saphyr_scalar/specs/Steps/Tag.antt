@@ -22,7 +22,7 @@ abbrev pub is_in_set : UriSet → ℕ → Bool
 is_in_set Uri c = is_uri_char c
 is_in_set Suffix c = is_tag_char c
 
--- the byte of two hexadecimal digits behind a `%`
+-- the byte of two hexadecimal digits after a `%`
 abbrev pub byte_value : List ℕ → ℕ
 byte_value xs = hex_value (slice_index xs 1) * 16 + hex_value (slice_index xs 2)
 
@@ -51,13 +51,13 @@ leading_bits b = if nat_lt b 0xC0 then b else if nat_lt b 0xE0 then b - 0xC0 els
 abbrev pub is_trailing : ℕ → Bool
 is_trailing b = nat_le 0x80 b && nat_lt b 0xC0
 
--- one byte behind those that say v
+-- one byte after those that say v
 unfoldable pub trailing_byte : Marker → ℕ → Cursor → Result (ℕ × Cursor) Refusal
 trailing_byte start v s =
     escaped_byte start s >>= λ b. if is_trailing b.0 then Ok (v * 64 + (b.0 - 0x80), b.1) else refuse
     fault.TagEscapeTrailingByte start
 
--- n bytes behind those that say v
+-- n bytes after those that say v
 unfoldable pub trailing_bytes : Marker → ℕ → ℕ → Cursor → Result (ℕ × Cursor) Refusal
 trailing_bytes start zero v s = Ok (v, s)
 trailing_bytes start (suc n) v s = trailing_byte start v s >>= λ x. trailing_bytes start n x.0 x.1
@@ -84,11 +84,11 @@ unfoldable pub uri_character : Marker → Cursor → Result (ℕ × Cursor) Refu
 uri_character start s = if slice_index s.rest 0 == percent_sign then percent_escape start s
     else Ok (slice_index s.rest 0, pass 1 s)
 
--- how many characters of it stand behind its first one
+-- how many characters of it come after its first one
 abbrev pub uri_tail : List ℕ → ℕ
 uri_tail xs = if slice_index xs 0 == percent_sign then 3 * utf8_width (byte_value xs) - 1 else 0
 
--- Characters of the set, with their escapes resolved: their bytes, and what stands behind them.
+-- Characters of the set, with their escapes resolved: their bytes, and what comes after them.
 -- The next k characters are those of an escape, which is read already.
 unfoldable pub decoded_characters : UriSet → Marker → ℕ → Marker → List ℕ → Result (List ℕ × Cursor) Refusal
 decoded_characters set start k m [] = Ok ([], mid_line (along m k) [])
@@ -101,15 +101,15 @@ decoded_characters set start (suc k) m (c ∷ cs) = decoded_characters set start
 abbrev pub decoded_at : UriSet → Marker → Cursor → Result (List ℕ × Cursor) Refusal
 decoded_at set start s = decoded_characters set start zero s.mark s.rest
 
--- the same behind a text
+-- the same after a text
 abbrev pub decoded_onto : UriSet → Marker → List ℕ → Cursor → Result (List ℕ × Cursor) Refusal
 decoded_onto set start text s = with_front text (decoded_at set start s)
 
--- a tag's handle as it is written, its suffix, and what stands behind it
+-- a tag's handle as it is written, its suffix, and what comes after it
 abbrev pub TagRead : Type 0
 TagRead = List ℕ × List ℕ × Cursor
 
--- what contracts see of a tag and of the reader behind it
+-- what contracts see of a tag and of the reader after it
 abbrev pub seen_tag : TagParts → Cursor → TagRead
 seen_tag tag s = (string_bytes tag.handle, string_bytes tag.suffix, s)
 
@@ -125,18 +125,18 @@ verbatim_tag s = decoded_at Uri s.mark (pass 2 s) >>= λ x. verbatim_end s.mark 
 abbrev pub handle_of : List ℕ → List ℕ
 handle_of word = codes "!" ++ word ++ codes "!"
 
--- a suffix behind `!!` or `!word!`, which has a character
+-- a suffix after `!!` or `!word!`, which has a character
 unfoldable pub named_tag : Marker → List ℕ → List ℕ × Cursor → Result TagRead Refusal
 named_tag start word x = if length x.0 == 0 then refuse fault.TagSuffixExpected start else Ok (handle_of word, x.0, x.1)
 
 unfoldable pub named_tail : Marker → List ℕ → Cursor → Result TagRead Refusal
 named_tail start word s = decoded_at Suffix start s >>= λ x. named_tag start word x
 
--- a suffix behind `!`; where there is none, the tag is the non-specific one
+-- a suffix after `!`; where there is none, the tag is the non-specific one
 unfoldable pub primary_tag : List ℕ × Cursor → TagRead
 primary_tag x = if length x.0 == 0 then ([], codes "!", x.1) else (codes "!", x.0, x.1)
 
--- behind `!` and a word
+-- after `!` and a word
 unfoldable pub tag_behind_word : Marker → List ℕ × Cursor → Result TagRead Refusal
 tag_behind_word start w =
     if slice_index w.1.rest 0 == exclamation_mark then named_tail start w.0 (pass 1 w.1)

@@ -16,7 +16,7 @@ abbrev pub ◌>>=◌ : {A B E : Type 0} → Result A E → (A → Result B E) �
 (Ok x) >>= f = f x
 (Err e) >>= f = Err e
 
--- the text that remains, the place where it begins, and whether only blanks stand before it on its line
+-- the text that remains, the place where it begins, and whether only blanks come before it on its line
 pub record Cursor : Type 0 where
   pub rest : List ℕ
   pub mark : Marker
@@ -33,7 +33,7 @@ refuse text mark = Err (record { text = text; mark = mark })
 abbrev pub along : Marker → ℕ → Marker
 along m n = record { index = m.index + n; line = m.line; col = m.col + n }
 
--- The line behind a break of n characters. Lines are counted up to the last number that can be.
+-- The line after a break of n characters. Lines are counted up to the last number that can be.
 abbrev pub next_line : Marker → ℕ → Marker
 next_line m n = record { index = m.index + n; line = min (m.line + 1) (2 ^ 64 - 1); col = 0 }
 
@@ -49,7 +49,7 @@ pass_spaces most s = pass_blanks (spaces_within most s.rest) s
 abbrev pub pass : ℕ → Cursor → Cursor
 pass n s = record { rest = drop n s.rest; mark = along s.mark n; blank_so_far = false }
 
--- a line begins, behind a break of n characters that was taken off
+-- a line begins, after a break of n characters that was taken off
 abbrev pub begin_line : ℕ → Cursor → Cursor
 begin_line n s = record { rest = s.rest; mark = next_line s.mark n; blank_so_far = true }
 
@@ -57,7 +57,7 @@ begin_line n s = record { rest = s.rest; mark = next_line s.mark n; blank_so_far
 abbrev pub pass_line : ℕ → Cursor → Cursor
 pass_line n s = record { rest = drop n s.rest; mark = next_line s.mark n; blank_so_far = true }
 
--- the break that stands first is passed, if one does (YAML 1.2.2, 5.4)
+-- the break at the front is passed, if there is one (YAML 1.2.2, 5.4)
 abbrev pub pass_break : Cursor → Cursor
 pass_break s =
     if next_2_are s.rest carriage_return line_feed then pass_line 2 s
@@ -77,7 +77,7 @@ pass_byte_order_mark s =
       blank_so_far = s.blank_so_far;
     }
 
--- what stands behind white space and a comment: a byte order mark is refused behind a line's start
+-- what comes after white space and a comment: a byte order mark is refused after a line's start
 unfoldable pub behind_separation : SkipTabs → List ℕ → Cursor → Result (SkipTabs × Cursor) Refusal
 behind_separation tabs text s =
     if nat_lt 0 s.mark.col && is_bom (slice_index s.rest 0) then refuse fault.MisplacedByteOrderMark s.mark

@@ -33,7 +33,6 @@ impl<T: Input> Reader<T> {
     ghost use Rattle.saphyr_scalar.specs.Views.Reader.{cursor_of, ReadsTextBy, AppendsBy};
 
     // Moves the characters of a name to the end of a text.
-    #[tactic(auto, using(crate::proofs::Lengths::run_within))]
     fn read_anchor_characters(&mut self, text: &mut String) -> Result<(), Stop>
         ensures { AppendsBy (run.with_run class.is_anchor_char) text.old self.old result text.new
             self.new }

@@ -22,7 +22,7 @@ use saphyr_values::{BlockStyle, Chomping};
 use std::alloc::{AllocError, Global};
 
 /// The text of a block scalar, and its place.
-#[derive(Debug, PartialEq, Eq, Drop)]
+#[derive(Drop)]
 pub struct BlockScalar {
     pub text: String,
     /// From the place after the indentation of the first content line to the place after the

@@ -15,7 +15,7 @@ use saphyr_input::input::{Input, SkipTabs};
 use std::alloc::Global;
 
 /// What a directive says (YAML 1.2.2, 6.8).
-#[derive(Debug, PartialEq, Eq, Drop)]
+#[derive(Drop)]
 pub enum Directive {
     /// The major and the minor number of `%YAML`.
     Version(u32, u32),
@@ -26,7 +26,7 @@ pub enum Directive {
 }
 
 /// A directive, and the place after it on its line.
-#[derive(Debug, PartialEq, Eq, Drop)]
+#[derive(Drop)]
 pub struct DirectiveLine {
     pub directive: Directive,
     pub end: Marker,
@@ -44,7 +44,6 @@ impl<T: Input> Reader<T> {
     ghost use Rattle.saphyr_scalar.specs.Views.Reader.{cursor_of, GivesAs, GivesBy, PassesBy, ReadsBy, ReadsTextBy};
 
     // Takes blanks off.
-    #[tactic(auto, using(crate::proofs::Lengths::run_within))]
     fn skip_blanks(&mut self)
         ensures { cursor_of self.new ≡ spec.pass_all_blanks (cursor_of self.old) }
     {
@@ -53,7 +52,7 @@ impl<T: Input> Reader<T> {
     }
 
     // Takes off the name of a directive.
-    #[tactic(auto, using(crate::proofs::Lengths::run_within), unfolding(crate::specs::Steps::Directive::name, crate::specs::Steps::Directive::directive_name_of))]
+    #[tactic(auto, unfolding(crate::specs::Steps::Directive::name, crate::specs::Steps::Directive::directive_name_of))]
     fn read_directive_name(&mut self, alloc: Global) -> Result<String, Stop>
         ensures { ReadsTextBy spec.name self.old result self.new }
     {

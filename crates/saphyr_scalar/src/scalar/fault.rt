@@ -9,7 +9,7 @@ use std::alloc::{AllocError, AllocFailed, Global};
 use std::fmt;
 
 /// Why a text is refused: a variant for each message of a fault.
-#[derive(Clone, Copy, Debug, PartialEq, Eq)]
+#[derive(Clone, Copy, Debug)]
 pub enum FaultText {
     UnprintableCharacter,
     MisplacedByteOrderMark,
@@ -211,7 +211,7 @@ impl fmt::Display for FaultText {
 }
 
 /// Why a text is refused, and where, as a small value that functions pass on.
-#[derive(Clone, Copy, Debug, PartialEq, Eq)]
+#[derive(Clone, Copy)]
 pub struct Refusal {
     pub text: FaultText,
     pub mark: Marker,
@@ -291,7 +291,7 @@ impl fmt::Display for ScanError {
 }
 
 /// What ends a reading: the text is refused, or memory ran out.
-#[derive(Clone, Copy, Debug, PartialEq, Eq)]
+#[derive(Clone, Copy)]
 pub enum Stop {
     Refused(Refusal),
     OutOfMemory,

@@ -17,7 +17,7 @@ use saphyr_input::input::Input;
 use std::alloc::Global;
 
 /// The text of a plain scalar, and how it ended.
-#[derive(Debug, PartialEq, Eq, Drop)]
+#[derive(Drop)]
 pub struct PlainScalar {
     pub text: String,
     /// The place after its last word.

@@ -137,7 +137,6 @@ impl<T: Input> Reader<T> {
 
     /// Takes off spaces, but no more than `most`.
     #[inline(always)]
-    #[tactic(auto, using(crate::proofs::SpaceRuns::spaces_fit))]
     pub fn skip_spaces(&mut self, most: usize)
         ensures { cursor_of self.new ≡ spec.pass_spaces most (cursor_of self.old) }
     {
@@ -207,7 +206,6 @@ impl<T: Input> Reader<T> {
     }
 
     /// Takes off what comes before the next break, NUL, byte order mark or the end: a comment.
-    #[tactic(auto, using(crate::proofs::Lengths::run_within))]
     pub fn skip_comment(&mut self)
         ensures { cursor_of self.new ≡ spec.pass_comment (cursor_of self.old) }
     {
@@ -231,7 +229,7 @@ impl<T: Input> Reader<T> {
     /// A `#` without a blank before it begins no comment and is refused at its own place. So is a
     /// byte order mark that is not at the start of the line.
     #[inline(always)]
-    #[tactic(auto, using(crate::proofs::Lengths::separation_within), unfolding(crate::specs::Views::Cursor::separation, crate::specs::Views::Cursor::behind_separation))]
+    #[tactic(auto, unfolding(crate::specs::Views::Cursor::separation, crate::specs::Views::Cursor::behind_separation))]
     pub fn skip_ws_to_eol(&mut self, skip_tabs: SkipTabs) -> Result<SkipTabs, Refusal>
         requires { separation.IsRequest skip_tabs }
         ensures { GivesBy (spec.separation skip_tabs) self.old result self.new }

@@ -252,7 +252,6 @@ impl<T: Input> Reader<T> {
     }
 
     // Moves the characters of a handle's word to the end of a text.
-    #[tactic(auto, using(crate::proofs::Lengths::run_within))]
     pub(crate) fn read_tag_word(&mut self, text: &mut String) -> Result<(), Stop>
         ensures { AppendsBy (run.with_run class.is_alpha) text.old self.old result text.new
             self.new }

@@ -68,7 +68,7 @@ chosen : (o : Option Chomping) → mark_of o ≡ chomping_of (unwrap_or o Clip)
 chosen None = refl
 chosen (Some c) = refl
 
--- the indicators, by whether a chomping indicator stood first
+-- the indicators, by whether a chomping indicator was first
 both_told : (o : Option Chomping) (n : ℕ) (r a : List ℕ) (b : Cursor) → n ≤ 9 → r ≡ mark_of o ++ a
     → a ≡ digit_of n ++ b.rest
     → (t : List ℕ) × AreIndicators n (last_chomping o b).0 t × (r ≡ t ++ (last_chomping o b).1.rest)

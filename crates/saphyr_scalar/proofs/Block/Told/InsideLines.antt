@@ -1,4 +1,4 @@
--- Inside the lines of a block scalar stands no NUL and no byte order mark, and at the start of none a document marker.
+-- Inside the lines of a block scalar is no NUL and no byte order mark, and at the start of none a document marker.
 use Rattle.std.proofs.Common.{◌≡◌, ◌⊎◌, ℕ, ◌+◌, Bool, true, false, List, [], ◌∷◌, ◌++◌, slice_index, refl, sym, ap, arith, subst, inl, inr}
 use Rattle.std.specs.Prelude.{◌||◌, ◌&&◌, ◌==◌, not, Option, Some, IsTrue, IsFalse}
 use Rattle.std.proofs.lemmas.Bool.Decides.{nat_tests}
@@ -92,7 +92,7 @@ starts_clear i col xs = parts (col == i) (is_yaml_non_break (slice_index xs 0)) 
 abbrev At : Marker → Type 0
 At m = m.col ≡ 0
 
--- a character of a line's content, at its start and behind that
+-- a character of a line's content, at its start and after that
 content_more : (A : Type 0) (c : ℕ) (cs rest : List ℕ) → is_yaml_non_break c ≡ true
     → (A → IsFalse (is_document_indicator (c ∷ cs))) → Within ⊥ cs rest → Within A (c ∷ cs) rest
 content_more A c cs rest e none w =

@@ -146,7 +146,7 @@ same_lines A xs rest lines e starts h w =
     let same : w.taken ≡ lines = append_cancel_right w.taken lines rest (sym w.is ∙ e) in
     subst (λ t. AreInside starts t rest) same (w.inside starts h)
 
--- what was read behind the header, and where the span begins
+-- what was read after the header, and where the span begins
 record BlockParts (style : BlockStyle) (indent : ℕ) (s : Cursor) (h : BlockHeader) (first : List ℕ) (u : Cursor)
     (y : Read) :
     Type 0 where
@@ -186,7 +186,7 @@ put_together style indent s h first u t text span e l p = record {
   no_content = p.no_content;
 }
 
--- behind a header's line
+-- after a header's line
 behind_header_line : (style : BlockStyle) (indent : ℕ) (s : Cursor) (h : BlockHeader) (first : List ℕ) (u : Cursor)
     (y : Read)
     → s.rest ≡ first ++ u.rest → IsPassed s.mark s.rest u.mark u.rest → u.mark.col ≡ 0 → u.blank_so_far ≡ true

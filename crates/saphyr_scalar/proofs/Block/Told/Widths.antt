@@ -33,7 +33,7 @@ one_line_more j text =
     let f = first_line (spaces j) text (plain_spaces j) in
     rw (f.ended, f.last, length-replicate) refl
 
--- What is taken off as leading lines, behind j spaces of the first: spaces and breaks, and how far their lines reach.
+-- What is taken off as leading lines, after j spaces of the first: spaces and breaks, and how far their lines reach.
 record Width (j : ℕ) (before : EmptyLines) (xs : List ℕ) (r : EmptyLines × Cursor) : Type 0 where
   leading : List ℕ
   is : xs ≡ leading ++ r.1.rest
@@ -119,7 +119,7 @@ widths before b m (x ∷ cs) =
     (λ h. width_break m.col x before cs _ h1 h (widths (with_empty_line before m.col) true (next_line m 1) cs))
     (λ h2. width_stop before b m (x ∷ cs) (rw (h0, h2) refl))))
 
--- no line of spaces is wider than what begins behind them
+-- no line of spaces is wider than what begins after them
 abbrev pub Fits : ℕ → ℕ → ℕ → List ℕ → Type 0
 Fits indent column i others = IsTrue (is_z (slice_index others 0)) ⊎ AreNotWider indent column i
 

@@ -46,7 +46,7 @@ impl<T: Input> Reader<T> {
     }
 
     // Takes off an indentation indicator, if one comes first. Otherwise returns 0.
-    #[tactic(auto, using(crate::proofs::Block::Lines::read_left), unfolding(crate::specs::Steps::Block::indicator))]
+    #[tactic(auto, unfolding(crate::specs::Steps::Block::indicator))]
     fn read_indentation_indicator(&mut self, start: Marker) -> Result<usize, Refusal>
         ensures { GivesBy (spec.indicator start) self.old result self.new }
     {

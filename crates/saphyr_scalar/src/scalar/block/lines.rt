@@ -74,7 +74,6 @@ impl<T: Input> Reader<T> {
     }
 
     // Moves the rest of a line to the end of a text.
-    #[tactic(auto, using(crate::proofs::Lengths::run_within))]
     fn read_block_line(&mut self, text: &mut String) -> Result<(), Stop>
         ensures { AppendsBy spec.with_line text.old self.old result text.new self.new }
     {

@@ -63,7 +63,7 @@ impl<T: Input> Reader<T> {
 
     // Takes off `c`, a blank or a break of the lines after a word, and appends a line feed for the break to
     // a text. Returns whether a tab is in the indentation of the line that is reached.
-    #[tactic(auto, using(crate::proofs::Plain::Lines::some_blank), unfolding(crate::specs::Steps::Plain::pass_white))]
+    #[tactic(auto, unfolding(crate::specs::Steps::Plain::pass_white))]
     fn skip_plain_white(
         &mut self,
         c: char,

@@ -1,5 +1,5 @@
 use Rattle.std.proofs.Common.{arith, rules}
-use Rattle.saphyr_input.proofs.WordRuns.{words_fit, words_begin, words_more}
+use Rattle.saphyr_input.proofs.WordRuns.{words_fit, words_begin, words_more, words_less}
 use Rattle.saphyr_input.proofs.input.str.text.words.Goals as goal
 
 pub loop-after-init : goal.loop-after-init
@@ -28,7 +28,7 @@ loop-after-smaller g c =
     let h = words_more g.C.CharSet.test g.C.SpacedSet.lead _ _ _ _ _ _ g.met.C.CharSet.without_nul
     c.loop-after.invariant.ran.run c.loop-after.invariant.ran.behind c.in-Some.ensures.some c.in-Some.ensures.rest
     c.run-word.ensures.count c.run-word.ensures.rest in
-    omega (arith, h.run, c.loop-after.invariant.ran.run)
+    words_less c.loop-after.count _ _ _ _ c.loop-after.invariant.ran.run h.run
 
 pub loop-after-preserved : goal.loop-after-preserved
 loop-after-preserved g c =

@@ -1,6 +1,7 @@
 use Rattle.std.proofs.Common.{◌≡◌, true, refl, ◌∙◌, sym, arith}
 use Rattle.saphyr_input.specs.Classes as class
 use Rattle.saphyr_input.proofs.Runs.{runs_more, runs_text}
+use Rattle.saphyr_scalar.proofs.Lengths.{run_counts, run_shorter, run_place_fits, run_left, column_left}
 use Rattle.saphyr_scalar.proofs.scalar.reader.Reader.read_blanks.Goals as goal
 
 pub loop-c-preserved : goal.loop-c-preserved
@@ -14,3 +15,29 @@ loop-c-preserved g c =
           c.in_ok-push.ensures.bytes;
       mark = c.loop-c.invariant.mark;
     }
+
+pub overflow_add-count : goal.overflow_add-count
+overflow_add-count g c =
+    let passes : class.is_blank c.loop-c.c ≡ true = sym c.is_blank.ensures.test ∙ c.loop-c-test.true in
+    record { fits = run_counts class.is_blank _ _ _ _ _ refl passes c.loop-c.invariant.runs }
+
+pub loop-c-smaller : goal.loop-c-smaller
+loop-c-smaller g c =
+    let passes : class.is_blank c.loop-c.c ≡ true = sym c.is_blank.ensures.test ∙ c.loop-c-test.true in
+    run_shorter class.is_blank _ _ _ _ _ _ refl passes c.loop-c.invariant.runs
+    (c.look_ch-c-in-loop-c.ensures.rest ∙ c.skip.ensures.rest)
+
+pub along-self-requires-clause-index : goal.along-self-requires-clause-index
+along-self-requires-clause-index g c =
+    run_place_fits class.is_blank _ _ _ _ _ c.args.self.now.mark _ c.loop-c.invariant.runs c.loop-c.invariant.mark
+    c.args.self.now.fits
+
+pub along-self-requires-clause-col : goal.along-self-requires-clause-col
+along-self-requires-clause-col g c = c.loop-c.self.column
+
+pub invariant_of-self-2 : goal.invariant_of-self-2
+invariant_of-self-2 g c = record {
+  fits = run_left class.is_blank _ _ _ _ _ c.args.self.now.mark c.loop-c.self.mark _ c.loop-c.invariant.runs
+      c.loop-c.invariant.mark c.along-self.ensures c.args.self.now.fits;
+  column = column_left c.loop-c.self.mark _ _ c.loop-c.self.column c.along-self.ensures;
+}

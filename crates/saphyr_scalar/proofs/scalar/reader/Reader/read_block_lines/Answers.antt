@@ -1,5 +1,6 @@
-use Rattle.std.proofs.Common.{ap, sym, ◌∙◌, Ok, string_bytes, arith}
+use Rattle.std.proofs.Common.{ap, sym, ◌∙◌, Ok, string_bytes}
 use Rattle.saphyr_scalar.specs.Views.Reader.{cursor_of}
+use Rattle.saphyr_scalar.proofs.Lengths.{at_most_below, none_before}
 use Rattle.saphyr_scalar.proofs.Block.Turns.{skipped, turn, broken, cut, last}
 use Rattle.saphyr_scalar.proofs.scalar.reader.Reader.read_block_lines.Goals as goal
 
@@ -54,7 +55,7 @@ loop-style-smaller g c =
     let next = broken c.args.style c.args.indentation below grown end (cursor_of c.look.new.self)
     (cursor_of c.skip_line_break.new.self) c.look.result c.look.ensures.same c.look.ensures.value
     (sym c.is_break.ensures.test ∙ c.if-not-is_break.false) c.skip_line_break.ensures in
-    omega (arith, one.2, next.1)
+    at_most_below _ _ _ next.1 one.2
 
 pub loop-style-preserved : goal.loop-style-preserved
 loop-style-preserved g c =
@@ -75,4 +76,4 @@ loop-style-preserved g c =
     let next = broken c.args.style c.args.indentation below grown end (cursor_of c.look.new.self)
     (cursor_of c.skip_line_break.new.self) c.look.result c.look.ensures.same c.look.ensures.value
     (sym c.is_break.ensures.test ∙ c.if-not-is_break.false) c.skip_line_break.ensures in
-    record { same = next.0 ∙ sym one.0 ∙ c.loop-style.invariant.same; few = omega arith }
+    record { same = next.0 ∙ sym one.0 ∙ c.loop-style.invariant.same; few = none_before _ }

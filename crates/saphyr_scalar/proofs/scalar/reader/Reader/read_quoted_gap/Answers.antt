@@ -1,7 +1,8 @@
-use Rattle.std.proofs.Common.{◌≡◌, ◌<◌, true, false, [], ◌++◌, length, slice_index, string_bytes, sym, ap, ◌∙◌, arith}
+use Rattle.std.proofs.Common.{◌≡◌, ◌<◌, true, false, [], ◌++◌, length, slice_index, string_bytes, sym, ap, ◌∙◌}
 use Rattle.saphyr_input.specs.Classes as class
 use Rattle.saphyr_scalar.specs.Steps.Quoted as spec
 use Rattle.saphyr_scalar.specs.Views.Reader.{cursor_of}
+use Rattle.saphyr_scalar.proofs.Lengths.{below_at_most}
 use Rattle.saphyr_scalar.proofs.Quoted.Gaps.{moved_on, moved_no_longer, ok_shorter, blanks_to_break, blanks_to_end, blanks_to_word, reads_from}
 use Rattle.saphyr_scalar.proofs.Quoted.Lines.{break_on_shorter}
 use Rattle.saphyr_scalar.proofs.scalar.reader.Reader.read_quoted_gap.Goals as goal
@@ -35,12 +36,9 @@ returns-then-is_break-clause-shorter g c =
     let breaks : class.is_break (slice_index blanks.rest 0) ≡ true =
     ap class.is_break (sym c.look-c.ensures.value) ∙ sym c.is_break.ensures.test ∙ c.if-is_break.true in
     let less : length behind.rest < length here.rest =
-    omega (
-      arith,
-      break_on_shorter blanks (cursor_of c.look-c.new.self) behind breaks c.look-c.ensures.same
-          c.skip_line_break.ensures,
-      moved_no_longer class.is_blank [] grown here blanks moved,
-    ) in
+    below_at_most _ _ _
+    (break_on_shorter blanks (cursor_of c.look-c.new.self) behind breaks c.look-c.ensures.same c.skip_line_break.ensures)
+    (moved_no_longer class.is_blank [] grown here blanks moved) in
     ok_shorter c.read_quoted_lines.result (length (cursor_of c.read_quoted_lines.new.self).rest) (length behind.rest)
     (length here.rest) less c.read_quoted_lines.ensures.shorter
 

@@ -1,8 +1,10 @@
-use Rattle.std.proofs.Common.{◌≡◌, false, length, slice_index, string_bytes, sym, ap, ◌∙◌, arith}
+use Rattle.std.proofs.Common.{◌≡◌, false, slice_index, string_bytes, sym, ap, ◌∙◌}
 use Rattle.saphyr_scalar.specs.Views.Cursor.{Cursor, along}
 use Rattle.saphyr_scalar.specs.Steps.Quoted.{with_front}
 use Rattle.saphyr_scalar.specs.Steps.Tag as spec
 use Rattle.saphyr_scalar.specs.Views.Reader.{cursor_of}
+use Rattle.saphyr_scalar.specs.Steps.Sets.{is_bare}
+use Rattle.saphyr_scalar.proofs.Lengths.{less_left, fetched_fits, fetched_left, column_left}
 use Rattle.saphyr_scalar.proofs.Plain.Pieces.{moves_refused}
 use Rattle.saphyr_scalar.proofs.Properties.BareCharacters.{bare_moved, bare_stops, bare_shorter, escape_in_set, escape_is_character}
 use Rattle.saphyr_scalar.proofs.Properties.PercentEscapes.{has_left, character_on, character_refused, character_shorter, characters_end}
@@ -45,13 +47,8 @@ loop-count-smaller g c =
     let in_set = escape_in_set set (slice_index here.rest 0) escape in
     let less = character_shorter start here (cursor_of c.read_percent_escape.new.self) c.in_ok-c.c
     (has_left set here.rest in_set) (escape_is_character start here escape ∙ c.in_ok-c.ensures) in
-    omega (
-      arith,
-      less,
-      ap (λ (s : Cursor). length s.rest) same,
-      bare_shorter set _ _ c.in_ok-count.count _ _
-          c.in_ok-count.ensures.run,
-    )
+    less_left _ (cursor_of c.loop-count.self) _ here less same
+    (bare_shorter set _ _ c.in_ok-count.count _ _ c.in_ok-count.ensures.run)
 
 pub loop-count-preserved : goal.loop-count-preserved
 loop-count-preserved g c =
@@ -90,3 +87,22 @@ returns g c =
     ∙ bare_stops set _ _ c.in_ok-count.count _ _ c.in_ok-count.ensures.run
     (λ is. c.if-look-ne37.true (c.look.ensures.value ∙ is)) in
     sym reached ∙ characters_end set start grown here ends
+
+pub along-self-requires-clause-index : goal.along-self-requires-clause-index
+along-self-requires-clause-index g c =
+    fetched_fits (is_bare c.args.set) _ _ c.loop-count.self.mark _ c.loop-count.self.fits
+    c.in_ok-count.ensures.run.count c.fetch_bare_characters.ensures.mark
+
+pub along-self-requires-clause-col : goal.along-self-requires-clause-col
+along-self-requires-clause-col g c = c.fetch_bare_characters.new.self.column
+
+pub invariant_of-self : goal.invariant_of-self
+invariant_of-self g c = record {
+  fits = fetched_left (is_bare c.args.set) _ _ _ c.loop-count.self.mark _ _ c.loop-count.self.fits
+      c.in_ok-count.ensures.run.count c.in_ok-count.ensures.run.transfers.taken c.fetch_bare_characters.ensures.mark
+      c.along-self.ensures;
+  column = column_left _ _ _ c.fetch_bare_characters.new.self.column c.along-self.ensures;
+}
+
+pub invariant_of-self-2 : goal.invariant_of-self-2
+invariant_of-self-2 g c = record { fits = c.look.new.self.fits; column = c.look.new.self.column }

@@ -1,9 +1,9 @@
-use Rattle.std.proofs.Common.{◌≡◌, true, false, length, slice_index, string_bytes, sym, ap, ◌∙◌, arith}
+use Rattle.std.proofs.Common.{◌≡◌, true, false, slice_index, string_bytes, sym, ap, ◌∙◌}
 use Rattle.saphyr_input.specs.Places.{is_blank_or_break}
 use Rattle.saphyr_scalar.specs.Views.Cursor.{Cursor}
 use Rattle.saphyr_scalar.specs.Steps.Plain as spec
 use Rattle.saphyr_scalar.specs.Views.Reader.{cursor_of}
-use Rattle.saphyr_scalar.proofs.SpaceRuns.{lines_over, spaces_shorter}
+use Rattle.saphyr_scalar.proofs.SpaceRuns.{lines_over, turn_shorter}
 use Rattle.saphyr_scalar.proofs.Plain.Pieces.{moves_refused}
 use Rattle.saphyr_scalar.proofs.Plain.Lines.{past_of, white_on, white_blank, white_shorter, line_over, refused_by, taken_by}
 use Rattle.saphyr_scalar.proofs.scalar.reader.Reader.skip_empty_lines.Goals as goal
@@ -17,12 +17,8 @@ loop-c-smaller g c =
     ∙ c.if-not-is_blank_or_break.false in
     let past = past_of c.args.indent c.loop-c.tabbed (string_bytes c.loop-c.feeds) here _
     (string_bytes c.skip_plain_white.new.feeds) (cursor_of c.skip_plain_white.new.self) c.in_ok-tabbed.ensures in
-    omega (
-      arith,
-      white_shorter _ _ _ here _ _ _ goes past,
-      ap (λ (s : Cursor). length s.rest) c.look-c.ensures.same,
-      spaces_shorter _ (cursor_of c.loop-c.self) (cursor_of c.skip_spaces.new.self) c.skip_spaces.ensures,
-    )
+    turn_shorter _ _ (cursor_of c.loop-c.self) (cursor_of c.skip_spaces.new.self) here c.skip_spaces.ensures
+    c.look-c.ensures.same (white_shorter _ _ _ here _ _ _ goes past)
 
 pub loop-c-preserved : goal.loop-c-preserved
 loop-c-preserved g c =

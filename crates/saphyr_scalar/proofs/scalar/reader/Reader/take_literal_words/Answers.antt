@@ -1,24 +1,24 @@
-use Rattle.std.proofs.Common.{ap, ◌∙◌, arith}
-use Rattle.saphyr_input.proofs.WordRuns.{words_within}
-use Rattle.saphyr_scalar.specs.declared.scalar.position.Marker.{Marker}
+use Rattle.std.proofs.Common.{ap, ◌∙◌}
 use Rattle.saphyr_scalar.specs.Views.Cursor.{along}
 use Rattle.saphyr_scalar.specs.Steps.Quoted.{is_literal}
 use Rattle.saphyr_scalar.specs.Steps.Sets.{is_content}
 use Rattle.saphyr_scalar.specs.Views.Reader.{cursor_of}
+use Rattle.saphyr_scalar.proofs.Lengths.{words_place_fits, words_left, column_left}
 use Rattle.saphyr_scalar.proofs.Quoted.Words.{words_moved}
 use Rattle.saphyr_scalar.proofs.scalar.reader.Reader.take_literal_words.Goals as goal
 
 pub along-self-requires-clause-index : goal.along-self-requires-clause-index
 along-self-requires-clause-index g c =
-    omega (
-      arith,
-      c.in_ok-count.ensures.words.within,
-      words_within (is_literal c.args.quote) is_content
-          (cursor_of c.args.self.now).rest,
-      c.args.self.now.fits,
-      ap (λ (m : Marker). m.index)
-          c.fetch_literal_words.ensures.mark,
-    )
+    words_place_fits (is_literal c.args.quote) is_content _ _ c.args.self.now.mark _ c.args.self.now.fits
+    c.in_ok-count.ensures.words.within c.fetch_literal_words.ensures.mark
+
+pub invariant_of-self : goal.invariant_of-self
+invariant_of-self g c = record {
+  fits = words_left (is_literal c.args.quote) is_content _ _ _ c.args.self.now.mark _ _ c.args.self.now.fits
+      c.in_ok-count.ensures.words.within c.in_ok-count.ensures.words.transfers.taken
+      c.fetch_literal_words.ensures.mark c.along-self.ensures;
+  column = column_left _ _ _ c.fetch_literal_words.new.self.column c.along-self.ensures;
+}
 
 pub returns : goal.returns
 returns g c =

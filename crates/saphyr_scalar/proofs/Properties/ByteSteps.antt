@@ -1,0 +1,51 @@
+-- The escape of a byte that was taken off, where each place is told again.
+use Rattle.std.proofs.Common.{◌≡◌, ℕ, ◌+◌, ◌*◌, ◌^◌, ◌<◌, ◌≤◌, true, List, [], ◌∷◌, length, slice_index, Result, Ok, refl, sym, ap, ◌∙◌, arith}
+use Rattle.std.specs.Prelude.{◌==◌}
+use Rattle.std.proofs.lemmas.Bool.{false≢true}
+use Rattle.std.proofs.lemmas.Bool.Decides.{nat_tests}
+use Rattle.saphyr_input.specs.Classes.{is_hex, hex_value}
+use Rattle.saphyr_input.specs.Indicators.{percent_sign}
+use Rattle.saphyr_scalar.specs.declared.scalar.position.Marker.{Marker}
+use Rattle.saphyr_scalar.specs.declared.scalar.fault.Refusal.{Refusal}
+use Rattle.saphyr_scalar.specs.Views.Cursor.{Cursor, pass}
+use Rattle.saphyr_scalar.specs.Steps.Tag.{byte_value, escaped_byte}
+
+-- the three characters that are shown: `%`, and two digits with their values
+pub record ShowsByte (xs : List ℕ) (a b : ℕ) : Type 0 where
+  pub first : slice_index xs 0 ≡ percent_sign
+  pub high : is_hex (slice_index xs 1) ≡ true
+  pub low : is_hex (slice_index xs 2) ≡ true
+  pub high_is : a ≡ hex_value (slice_index xs 1)
+  pub low_is : b ≡ hex_value (slice_index xs 2)
+
+byte_is : (a b c d : ℕ) → a ≡ c → b ≡ d → c * 16 + d ≡ a * 16 + b
+byte_is a b c d e f = rw (e, f) refl
+
+pub byte_on : (start : Marker) (s u t : Cursor) (a b : ℕ) → ShowsByte u.rest a b → u ≡ s → t ≡ pass 3 u
+    → escaped_byte start s ≡ Ok (a * 16 + b, t)
+unfolding escaped_byte
+byte_on start s u t a b shows same on =
+    let percent : (slice_index u.rest 0 == 37) ≡ true = test _ shows.first in
+    let here : escaped_byte start u ≡ Ok (byte_value u.rest, pass 3 u) = rw (percent, shows.high, shows.low) refl in
+    ap (escaped_byte start) (sym same) ∙ here
+    ∙ ap (λ n. let r : Result (ℕ × Cursor) Refusal = Ok (n, pass 3 u) in r)
+    (byte_is a b _ _ shows.high_is shows.low_is)
+    ∙ ap (λ x. let r : Result (ℕ × Cursor) Refusal = Ok (a * 16 + b, x) in r) (sym on)
+  where
+    test : (x : ℕ) → x ≡ 37 → (x == 37) ≡ true
+    test x h = grind (arith, nat_tests)
+
+pub three_left : (xs : List ℕ) → is_hex (slice_index xs 2) ≡ true → 3 ≤ length xs
+three_left [] h = absurd (false≢true h)
+three_left (x ∷ []) h = absurd (false≢true h)
+three_left (x ∷ y ∷ []) h = absurd (false≢true h)
+three_left (x ∷ y ∷ z ∷ xs) h = omega arith
+
+pub high_fits : (a : ℕ) → a < 16 → a * 16 < 2 ^ 32
+high_fits a small = omega arith
+
+pub byte_fits : (a b : ℕ) → a < 16 → b < 16 → a * 16 + b < 2 ^ 32
+byte_fits a b high low = omega arith
+
+pub byte_small : (a b : ℕ) → a < 16 → b < 16 → a * 16 + b < 256
+byte_small a b high low = omega arith

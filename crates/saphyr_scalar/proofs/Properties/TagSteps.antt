@@ -1,0 +1,106 @@
+-- The steps of a tag with a handle and a suffix, where each place is told again.
+use Rattle.std.proofs.Common.{◌≡◌, ℕ, ◌<◌, true, false, List, [], ◌∷◌, length, slice_index, Result, Ok, Err, refl, sym, ap, ◌∙◌, arith}
+use Rattle.std.specs.Prelude.{◌==◌, codes}
+use Rattle.std.specs.Result.{IsErrAnd}
+use Rattle.std.proofs.lemmas.Bool.{eqb-true}
+use Rattle.std.proofs.lemmas.Bool.Decides.{nat_tests}
+use Rattle.saphyr_input.specs.Classes.{is_alpha}
+use Rattle.saphyr_input.specs.Indicators.{exclamation_mark}
+use Rattle.saphyr_scalar.specs.declared.scalar.fault.Refusal.{Refusal}
+use Rattle.saphyr_scalar.specs.declared.scalar.fault.Stop.{Stop}
+use Rattle.saphyr_scalar.specs.declared.scalar.tag.UriSet.TheVariants.{Suffix}
+use Rattle.saphyr_scalar.specs.Views.Cursor.{Cursor, ◌>>=◌, pass}
+use Rattle.saphyr_scalar.specs.Views.Reader.{Moves, Fails}
+use Rattle.saphyr_scalar.specs.Steps.Quoted.{TextRead, with_run}
+use Rattle.saphyr_scalar.specs.Steps.Tag.{TagRead, decoded_onto, named_tail, primary_tag, tag_behind_word, shorthand_tag}
+use Rattle.saphyr_scalar.proofs.Plain.Pieces.{moves_failed}
+
+-- a call that is never refused stopped since memory ran out
+pub moves_unrefused : {X Y Z : Type 0} (view : X → Y) (r : Result X Stop) (f : Result Y Refusal) (z : Z) (e : Stop)
+    → IsErrAnd r (λ x. x ≡ e) → Fails {Y = Z} e (Ok z) → Moves view r f
+moves_unrefused {X} {Y} {Z} view r f z e is b = moves_failed view r f (Ok z) e is b (λ d h. never z d h)
+  where
+    never : (z : Z) (d : Refusal) → ◌≡◌ {A = Result Z Refusal} (Ok z) (Err d) → f ≡ Err d
+    never z d h = absurd (cc)
+
+-- `!` and a word were taken off
+pub record BehindWord (s look : Cursor) (word : List ℕ) (c : ℕ) : Type 0 where
+  pub is : with_run is_alpha [] (pass 1 s) ≡ (word, look)
+  pub read : c ≡ slice_index look.rest 0
+
+pub behind_word : (s here there look : Cursor) (old word : List ℕ) (c : ℕ) → here ≡ pass 1 s → old ≡ []
+    → ◌≡◌ {A = TextRead} (Ok (with_run is_alpha old here)) (Ok (word, there)) → c ≡ slice_index there.rest 0
+    → look ≡ there → BehindWord s look word c
+behind_word s here there look old word c first empty run read same =
+    let pair : ◌≡◌ {A = List ℕ × Cursor} (with_run is_alpha old here) (word, there) = cc in
+    record {
+      is = ap (with_run is_alpha []) (sym first) ∙ ap (λ b. with_run is_alpha b here) (sym empty) ∙ pair
+          ∙ ap (λ x. let w : List ℕ × Cursor = (word, x) in w) (sym same);
+      read = read ∙ ap (λ (x : Cursor). slice_index x.rest 0) (sym same);
+    }
+
+pub mark_left : (s look : Cursor) (word : List ℕ) (c : ℕ) → BehindWord s look word c → c ≡ exclamation_mark
+    → 0 < length look.rest
+mark_left s look word c b is = some look.rest (sym b.read ∙ is)
+  where
+    some : (xs : List ℕ) → slice_index xs 0 ≡ 33 → 0 < length xs
+    some [] h = absurd (cc)
+    some (x ∷ xs) h = omega arith
+
+-- a second `!` follows
+pub named_from : (s look behind : Cursor) (word : List ℕ) (c : ℕ) → BehindWord s look word c → c ≡ exclamation_mark
+    → behind ≡ pass 1 look → named_tail s.mark word behind ≡ shorthand_tag s
+unfolding shorthand_tag tag_behind_word
+named_from s look behind word c b is on =
+    let bang : (slice_index look.rest 0 == 33) ≡ true = test _ (sym b.read ∙ is) in
+    ap (named_tail s.mark word) on ∙ sym (ap (tag_behind_word s.mark) b.is ∙ rw bang refl)
+  where
+    test : (x : ℕ) → x ≡ 33 → (x == 33) ≡ true
+    test x h = grind (arith, nat_tests)
+
+abbrev primary : Result (List ℕ × Cursor) Refusal → Result TagRead Refusal
+primary r = r >>= λ x. Ok (primary_tag x)
+
+-- none does
+primary_from : (s look : Cursor) (word : List ℕ) (c : ℕ) → BehindWord s look word c → (c ≡ exclamation_mark → ⊥)
+    → shorthand_tag s ≡ primary (decoded_onto Suffix s.mark word look)
+unfolding shorthand_tag tag_behind_word
+primary_from s look word c b other =
+    let bang : (slice_index look.rest 0 == 33) ≡ false = test _ (λ h. other (b.read ∙ h)) in
+    ap (tag_behind_word s.mark) b.is ∙ rw bang refl
+  where
+    test : (x : ℕ) → (x ≡ 33 → ⊥) → (x == 33) ≡ false
+    test x h = grind (arith, nat_tests)
+
+pub primary_refused : (s look : Cursor) (word : List ℕ) (c : ℕ) (r : Refusal) → BehindWord s look word c
+    → (c ≡ exclamation_mark → ⊥) → decoded_onto Suffix s.mark word look ≡ Err r → shorthand_tag s ≡ Err r
+primary_refused s look word c r b other h = primary_from s look word c b other ∙ ap primary h
+
+no_suffix : (suffix : List ℕ) (t : Cursor) → (length suffix == 0) ≡ true
+    → primary_tag (suffix, t) ≡ (suffix, codes "!", t)
+unfolding primary_tag
+no_suffix [] t h = refl
+no_suffix (x ∷ xs) t h = absurd (omega (arith, eqb-true (length (x ∷ xs)) 0 h))
+
+some_suffix : (suffix : List ℕ) (t : Cursor) → (length suffix == 0) ≡ false
+    → primary_tag (suffix, t) ≡ (codes "!", suffix, t)
+unfolding primary_tag
+some_suffix suffix t h = rw h refl
+
+abbrev tag_read : List ℕ → List ℕ → Cursor → Result TagRead Refusal
+tag_read handle suffix t = Ok (handle, suffix, t)
+
+pub alone_read : (s look t : Cursor) (word suffix mark : List ℕ) (c : ℕ) → BehindWord s look word c
+    → (c ≡ exclamation_mark → ⊥) → decoded_onto Suffix s.mark word look ≡ Ok (suffix, t)
+    → (length suffix == 0) ≡ true → mark ≡ codes "!" → shorthand_tag s ≡ Ok (suffix, mark, t)
+alone_read s look t word suffix mark c b other h none is =
+    primary_from s look word c b other ∙ ap primary h ∙ ap (λ (x : TagRead). tag_read x.0 x.1 x.2) (no_suffix suffix t none)
+    ∙ ap (λ m. tag_read suffix m t) (sym is)
+
+pub primary_read : (s look t : Cursor) (word suffix mark : List ℕ) (c : ℕ) → BehindWord s look word c
+    → (c ≡ exclamation_mark → ⊥) → decoded_onto Suffix s.mark word look ≡ Ok (suffix, t)
+    → (length suffix == 0) ≡ false → mark ≡ codes "!" → shorthand_tag s ≡ Ok (mark, suffix, t)
+primary_read s look t word suffix mark c b other h some is =
+    primary_from s look word c b other ∙ ap primary h
+    ∙ ap (λ (x : TagRead). tag_read x.0 x.1 x.2) (some_suffix suffix t some)
+    ∙ ap (λ m. tag_read m suffix t) (sym is)

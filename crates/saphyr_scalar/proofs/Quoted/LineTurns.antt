@@ -1,0 +1,75 @@
+-- A turn over a line after a break inside a quoted scalar: its spaces, and then a blank or a break. Lemmas on their
+-- own, since a tactic reads little here and much at a goal.
+use Rattle.std.proofs.Common.{◌≡◌, ℕ, ◌+◌, ◌^◌, ◌<◌, ◌≤◌, true, length, slice_index, refl, sym, ap, arith, subst}
+use Rattle.std.proofs.lemmas.Bool.{false≢true}
+use Rattle.saphyr_input.specs.Classes.{is_blank, is_break}
+use Rattle.saphyr_input.specs.Places.{spaces_within}
+use Rattle.saphyr_input.proofs.Basics.Lists.{shows_character, drop_one_shorter}
+use Rattle.saphyr_scalar.specs.Views.Cursor.{Cursor, pass_spaces, pass_blanks, pass_break}
+use Rattle.saphyr_scalar.proofs.Lengths.{below_at_most}
+use Rattle.saphyr_scalar.proofs.SpaceRuns.{spaces_shorter}
+use Rattle.saphyr_scalar.proofs.Quoted.Lines.{break_on_shorter}
+
+pub break_turn_shorter : (most : ℕ) (first here there behind : Cursor) → here ≡ pass_spaces most first
+    → is_break (slice_index here.rest 0) ≡ true → there ≡ here → behind ≡ pass_break there
+    → length behind.rest < length first.rest
+break_turn_shorter most first here there behind spaces breaks same on =
+    below_at_most _ _ _ (break_on_shorter here there behind breaks same on) (spaces_shorter most first here spaces)
+
+pub blank_left : (here there : Cursor) → is_blank (slice_index here.rest 0) ≡ true → there ≡ here
+    → 0 < length there.rest
+blank_left here there blank same =
+    subst (λ (s : Cursor). 0 < length s.rest) (sym same)
+    (shows_character here.rest is_blank true blank (λ e. false≢true e))
+
+pub blank_turn_shorter : (most : ℕ) (first here there behind : Cursor) → here ≡ pass_spaces most first
+    → is_blank (slice_index here.rest 0) ≡ true → there ≡ here → behind ≡ pass_blanks 1 there
+    → length behind.rest < length first.rest
+blank_turn_shorter most first here there behind spaces blank same on =
+    let less : length behind.rest < length here.rest =
+    subst (λ (s : Cursor). length s.rest < length here.rest) (sym on)
+    (subst (λ (s : Cursor). length (pass_blanks 1 s).rest < length here.rest) (sym same)
+    (drop_one_shorter here.rest (blank_left here here blank refl))) in
+    below_at_most _ _ _ less (spaces_shorter most first here spaces)
+
+-- the lines that are counted, and what is left, are no more than there was
+
+pub counted_less : (k first behind all : ℕ) → k + first ≤ all → behind < first → k + 1 + behind ≤ all
+counted_less k first behind all counted less = omega arith
+
+pub counted_on : (k first behind all : ℕ) → k + first ≤ all → behind < first → k + behind ≤ all
+counted_on k first behind all counted less = omega arith
+
+pub count_fits : (k first behind all at : ℕ) → k + first ≤ all → behind < first → at + all < 2 ^ 64 → k + 1 < 2 ^ 64
+count_fits k first behind all at counted less fits = omega arith
+
+pub no_longer : (most k all : ℕ) (first here there : Cursor) → k + length first.rest ≤ all
+    → here ≡ pass_spaces most first → there ≡ here → length there.rest ≤ all
+no_longer most k all first here there counted spaces same =
+    subst (λ (s : Cursor). length s.rest ≤ all) (sym same)
+    (at_most _ _ k all (spaces_shorter most first here spaces) counted)
+  where
+    at_most : (a b k n : ℕ) → a ≤ b → k + b ≤ n → a ≤ n
+    at_most a b k n l m = omega arith
+
+-- no more lines are counted than characters before a place
+
+pub few_over_spaces : (k most : ℕ) (first here : Cursor) → k ≤ first.mark.index → here ≡ pass_spaces most first
+    → k ≤ here.mark.index
+few_over_spaces k most first here few spaces =
+    let on : here.mark.index ≡ first.mark.index + spaces_within most first.rest =
+    ap (λ (s : Cursor). s.mark.index) spaces in
+    omega (arith, few, on)
+
+pub few_at : (k most : ℕ) (first here there : Cursor) → k ≤ first.mark.index → here ≡ pass_spaces most first
+    → there ≡ here → k ≤ there.mark.index
+few_at k most first here there few spaces same =
+    subst (λ (s : Cursor). k ≤ s.mark.index) (sym same) (few_over_spaces k most first here few spaces)
+
+-- a break that comes after them can be counted too
+pub few_in_text : (k most : ℕ) (first here there : Cursor) → k ≤ first.mark.index
+    → first.mark.index + length first.rest < 2 ^ 64 → here ≡ pass_spaces most first → there ≡ here
+    → is_break (slice_index here.rest 0) ≡ true → k + 1 < 2 ^ 64
+few_in_text k most first here there few fits spaces same breaks =
+    let some : 1 ≤ length here.rest = shows_character here.rest is_break true breaks (λ e. false≢true e) in
+    omega (arith, some, spaces_shorter most first here spaces)
