@@ -53,7 +53,7 @@ pub part_all : (es : List (Happening × Span)) (f : Option Ending) → portion t
 part_all [] f = refl
 part_all (e ∷ es) f = ap (with_event e) (part_all es f)
 
--- what is left of a part behind its first event
+-- what is left of a part after its first event
 abbrev pub behind_first : Bool → Happening × Span → Portion → Portion
 behind_first last e p = if last then (record { sent = e ∷ []; fault = None }) else with_event e p
 

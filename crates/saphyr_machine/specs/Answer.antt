@@ -18,7 +18,7 @@ pub data Ending : Type 0 where
   Refused : Marker → List ℕ → Ending
   OutOfMemory : Ending
 
--- The events still to come, and the fault behind them, if one ends them.
+-- The events still to come, and the fault after them, if one ends them.
 pub record Answer : Type 0 where
   pub events : List (Happening × Span)
   pub fault : Option Ending

@@ -26,7 +26,7 @@ item_at next fault progress.Over = None
 
 -- ## A reading
 
--- What one reading gives, and the machine that it leaves: an event, by one step; the fault that ends the events, behind
+-- What one reading gives, and the machine that it leaves: an event, by one step; the fault that ends the events, after
 -- which the machine isn't read again; or nothing, once the stream is over.
 abbrev pub Reads : Option (Result (Event × Span) Fault) → Machine → Machine → Type 0
 Reads None old new = (old.state ≡ state.End) × (new ≡ old)
@@ -155,7 +155,7 @@ pub record Peeks (old : EventCursor) (shown : Option (Result (Bor (Event × Span
 
 -- ## What holds of each parser
 
--- behind the end of the stream nothing is read
+-- after the end of the stream nothing is read
 abbrev pub LeavesEnd : Happening → State → Type 0
 LeavesEnd events.StreamEnd s = s ≡ state.End
 LeavesEnd _ s = Unit {0}
@@ -169,7 +169,7 @@ abbrev pub HasFinished : Option Span → EventCursor → Type 0
 HasFinished None c = Unit {0}
 HasFinished (Some span) c = (c.current ≡ None) × (c.kept ≡ None) × (c.machine.state ≡ state.End)
 
--- No fault is kept behind an event that was read ahead, and nothing is read behind the end of the stream.
+-- No fault is kept after an event that was read ahead, and nothing is read after the end of the stream.
 pub record IsSound (c : EventCursor) : Type 0 where
   pub ahead : IsAhead c.current c.kept c.machine.state
   pub finished : HasFinished c.finished c

@@ -76,7 +76,7 @@ Refuses fault.OutOfMemory a = 0 < count a
 Refuses fault.Receiver a = ⊥
 Refuses fault.InsideDocument a = ⊥
 
--- What is handed out, and what remains; behind a fault nothing does.
+-- What is handed out, and what remains; nothing remains after a fault.
 abbrev pub HandsOutNext : Option (Result (Event × Span) Fault) → Answer → Answer → Type 0
 HandsOutNext None old new = (old ≡ empty_answer) × (new ≡ empty_answer)
 HandsOutNext (Some (Ok e)) old new = old ≡ with_first_event (event_of e) new
@@ -96,7 +96,7 @@ abbrev pub IsKept : Option Kept → Type 0
 IsKept None = ⊥
 IsKept (Some k) = Unit {0}
 
--- a fault that is kept wasn't given yet, and no event stands before it
+-- a fault that is kept wasn't given yet, and no event comes before it
 abbrev pub IsUntold : Option (Happening × Span) → Option Kept → Type 0
 IsUntold current None = Unit {0}
 IsUntold None (Some k) = k.given ≡ false

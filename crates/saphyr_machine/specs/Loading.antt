@@ -14,12 +14,12 @@ use Rattle.saphyr_machine.specs.Calls.{Advances, AdvancesOver, Looks}
 
 -- ## Which events one call hands over
 
--- the events that one call hands over, and the fault that it meets behind them, if it meets one
+-- the events that one call hands over, and the fault that it meets after them, if it meets one
 pub record Portion : Type 0 where
   pub sent : List (Happening × Span)
   pub fault : Option Ending
 
--- A call stops behind the end of a document, unless all documents are asked for.
+-- A call stops after the end of a document, unless all documents are asked for.
 abbrev pub is_last : Bool → Happening → Bool
 is_last false events.DocumentEnd = true
 is_last multi _ = false
@@ -27,7 +27,7 @@ is_last multi _ = false
 abbrev pub with_event : Happening × Span → Portion → Portion
 with_event e p = record { sent = e ∷ p.sent; fault = p.fault }
 
--- of the events still to come, and the fault behind them
+-- of the events still to come, and the fault after them
 abbrev pub portion : Bool → List (Happening × Span) → Option Ending → Portion
 portion multi [] fault = record { sent = []; fault = fault }
 portion multi (e ∷ es) fault =
@@ -37,7 +37,7 @@ portion multi (e ∷ es) fault =
 abbrev pub portion_to_send : Bool → EventCursor → Portion
 portion_to_send multi c = portion multi (to_come c).events (to_come c).fault
 
--- ## Where the parser stands behind events
+-- ## Where the parser is after events
 
 abbrev pub inside_over : List (Happening × Span) → Bool → Bool
 inside_over [] inside = inside
@@ -58,7 +58,7 @@ pub record PassedOver (old : EventCursor) (passed : List (Happening × Span)) (n
   pub fault : (to_come old).fault ≡ (to_come new).fault
   pub remembered : Remembered old passed new
 
--- behind these events a fault was met in reading ahead
+-- after these events a fault was met in reading ahead
 abbrev pub MeetsBehind : List (Happening × Span) → EventCursor → EventCursor → Type 0
 MeetsBehind es old new = (middle : EventCursor) × AdvancesOver es old middle × Looks middle new
 
@@ -84,7 +84,7 @@ module _ {R : Type 0} (receives : R → Happening × Span → Result (Unit {0}) 
   Sends r [] s = s ≡ r
   Sends r (e ∷ es) s = (q : R) × receives r e (Ok tt) q × Sends q es s
 
-  -- the receiver refused one of the events, behind which the parser stands
+  -- the receiver refused one of the events, after which the parser is
   pub record Stopped (p : Portion) (old : EventCursor) (first last : R) (new : EventCursor) : Type 0 where
     pub sent : List (Happening × Span)
     pub event : Happening × Span
@@ -98,7 +98,7 @@ module _ {R : Type 0} (receives : R → Happening × Span → Result (Unit {0}) 
     pub kept : new.kept ≡ None
 
   -- Memory ran out: in reading, before something that was still to be sent or told, which is kept as a fault of its
-  -- own; or while the fault behind all events was copied.
+  -- own; or while the fault after all events was copied.
   pub record Lost (p : Portion) (old : EventCursor) (first last : R) (new : EventCursor) : Type 0 where
     pub sent : List (Happening × Span)
     pub unsent : List (Happening × Span)

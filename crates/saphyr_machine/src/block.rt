@@ -4,7 +4,7 @@ ghost use Rattle.saphyr_machine.specs.Steps.Block as spec;
 
 use crate::context::NodeContext;
 use crate::event::Event;
-use crate::machine::{Machine, place_of, refuse};
+use crate::machine::{Machine, place_of, refuse, tell};
 use crate::state::State;
 use saphyr_input::input::Input;
 use saphyr_scalar::{FaultText, Span, Stop};
@@ -39,8 +39,7 @@ impl<T: Input> Machine<T> {
         match token.kind {
             TokenType::BlockEnd => {
                 self.pop();
-                next.0.write_over(Event::SequenceEnd);
-                next.1 = place_of(token);
+                tell(next, Event::SequenceEnd, place_of(token));
             }
             TokenType::BlockEntry => self.block_sequence_node(place_of(token), next)?,
             _ => return Err(refuse(FaultText::SequenceEntryExpected, place_of(token).start)),
@@ -83,8 +82,7 @@ impl<T: Input> Machine<T> {
                 let span = token.span;
                 self.put_back(token);
                 self.pop();
-                next.0.write_over(Event::SequenceEnd);
-                next.1 = span;
+                tell(next, Event::SequenceEnd, span);
             }
         }
         Ok(())
@@ -133,8 +131,7 @@ impl<T: Input> Machine<T> {
             }
             TokenType::BlockEnd => {
                 self.pop();
-                next.0.write_over(Event::MappingEnd);
-                next.1 = place_of(token);
+                tell(next, Event::MappingEnd, place_of(token));
             }
             _ => return Err(refuse(FaultText::BlockMappingKeyExpected, place_of(token).start)),
         }

@@ -18,10 +18,10 @@ use std::alloc::AllocError;
 fn copy_token(token: &Option<Token>) -> Result<Option<Token>, AllocError>
     ensures { IfOk result (λ copy. option_map piece copy ≡ option_map piece token.now) }
 {
-    Ok(match token {
-        Some(token) => Some(token.try_clone()?),
-        None => None,
-    })
+    match token {
+        Some(token) => Ok(Some(token.try_clone()?)),
+        None => Ok(None),
+    }
 }
 
 // An equal event at the same place, if there is one.
@@ -30,23 +30,23 @@ fn copy_event<'input>(
 ) -> Result<Option<(Event<'input>, Span)>, AllocError>
     ensures { IfOk result (λ copy. option_map event_of copy ≡ option_map event_of event.now) }
 {
-    Ok(match event {
-        Some((event, span)) => Some((event.try_clone()?, *span)),
-        None => None,
-    })
+    match event {
+        Some((event, span)) => Ok(Some((event.try_clone()?, *span))),
+        None => Ok(None),
+    }
 }
 
 // An equal fault, handed out or not as it was, if there is one.
 fn copy_kept(kept: &Option<Kept>) -> Result<Option<Kept>, AllocError>
     ensures { IfOk result (λ copy. option_map kept_of copy ≡ option_map kept_of kept.now) }
 {
-    Ok(match kept {
-        Some(kept) => Some(Kept {
+    match kept {
+        Some(kept) => Ok(Some(Kept {
             fault: kept.fault.try_clone()?,
             given: kept.given,
-        }),
-        None => None,
-    })
+        })),
+        None => Ok(None),
+    }
 }
 
 impl<T: CloneInput> Machine<T> {
@@ -56,17 +56,27 @@ impl<T: CloneInput> Machine<T> {
     fn try_clone(&self) -> Result<Self, AllocError>
         ensures { IfOk result (λ copy. machine_of copy ≡ machine_of self.now) }
     {
+        let states = Vec::from_slice(self.alloc, &self.states)?;
+        let anchors = self.anchors.try_clone()?;
+        let prefixes = self.prefixes.try_clone()?;
+        let token = copy_token(&self.token)?;
         // The scanner comes last. So no copy of a scanner is dropped here, which would be expensive to prove.
-        Ok(Machine {
-            token: copy_token(&self.token)?,
-            state: self.state,
-            states: Vec::from_slice(self.alloc, &self.states)?,
-            anchors: self.anchors.try_clone()?,
-            prefixes: self.prefixes.try_clone()?,
-            keep_tags: self.keep_tags,
-            alloc: self.alloc,
-            scanner: self.scanner.try_clone()?,
-        })
+        match self.scanner.try_clone() {
+            Ok(scanner) => Ok(Machine {
+                scanner,
+                token,
+                state: self.state,
+                states,
+                anchors,
+                prefixes,
+                keep_tags: self.keep_tags,
+                alloc: self.alloc,
+            }),
+            Err(e) => {
+                drop(token);
+                Err(e)
+            }
+        }
     }
 }
 
@@ -77,13 +87,28 @@ impl<'input, T: CloneInput> EventReader<'input, T> {
     pub fn try_clone(&self) -> Result<Self, AllocError>
         ensures { IfOk result (λ copy. cursor copy ≡ cursor self.now) }
     {
+        let kept = copy_kept(&self.kept)?;
+        let current = match copy_event(&self.current) {
+            Ok(current) => current,
+            Err(e) => {
+                drop(kept);
+                return Err(e);
+            }
+        };
         // The machine comes last for the same reason.
-        Ok(EventReader {
-            current: copy_event(&self.current)?,
-            kept: copy_kept(&self.kept)?,
-            inside: self.inside,
-            finished: self.finished,
-            machine: self.machine.try_clone()?,
-        })
+        match self.machine.try_clone() {
+            Ok(machine) => Ok(EventReader {
+                machine,
+                current,
+                kept,
+                inside: self.inside,
+                finished: self.finished,
+            }),
+            Err(e) => {
+                drop(current);
+                drop(kept);
+                Err(e)
+            }
+        }
     }
 }

@@ -108,6 +108,7 @@ impl<T: Input> Machine<T> {
             if !is_end_or_mark(&token.kind) {
                 return Ok(token);
             }
+            let _ = place_of(token);
         }
     }
 
@@ -121,6 +122,7 @@ impl<T: Input> Machine<T> {
             if !is_mark(&token.kind) {
                 return Ok(token);
             }
+            let _ = place_of(token);
         }
     }
 
@@ -156,12 +158,18 @@ impl<T: Input> Machine<T> {
     {
         let Token { span, kind } = token;
         match kind {
-            TokenType::VersionDirective(_major, _minor) => declared.add_version(span.start),
+            TokenType::VersionDirective(_major, _minor) => {
+                drop(kind);
+                declared.add_version(span.start)
+            }
             TokenType::TagDirective(tag) => {
                 let TagPrefix { handle, prefix } = Box::into_inner(tag);
                 self.tag_directive(handle, prefix, span.start, declared)
             }
-            _ => Ok(()),
+            kind => {
+                drop(kind);
+                Ok(())
+            }
         }
     }
 
@@ -335,7 +343,10 @@ impl<T: Input> Machine<T> {
         let token = self.pass_marks()?;
         match token.kind {
             TokenType::DocumentStart | TokenType::DocumentEnd | TokenType::StreamEnd => Ok(token),
-            _ => Err(refuse(FaultText::MisplacedByteOrderMark, first)),
+            _ => {
+                drop(token);
+                Err(refuse(FaultText::MisplacedByteOrderMark, first))
+            }
         }
     }
 

@@ -46,21 +46,28 @@ impl<'input> Event<'input> {
     pub fn try_clone(&self) -> Result<Event<'input>, AllocError>
         ensures { IfOk result (λ event. happening event ≡ happening self.now) }
     {
-        Ok(match self {
-            Event::Nothing => Event::Nothing,
-            Event::StreamStart => Event::StreamStart,
-            Event::StreamEnd => Event::StreamEnd,
-            Event::DocumentStart(explicit) => Event::DocumentStart(*explicit),
-            Event::DocumentEnd => Event::DocumentEnd,
-            Event::Alias(id) => Event::Alias(*id),
+        match self {
+            Event::Nothing => Ok(Event::Nothing),
+            Event::StreamStart => Ok(Event::StreamStart),
+            Event::StreamEnd => Ok(Event::StreamEnd),
+            Event::DocumentStart(explicit) => Ok(Event::DocumentStart(*explicit)),
+            Event::DocumentEnd => Ok(Event::DocumentEnd),
+            Event::Alias(id) => Ok(Event::Alias(*id)),
             Event::Scalar(text, style, id, tag) => {
-                Event::Scalar(text.clone()?, *style, *id, try_clone_any(tag)?)
+                let text = text.clone()?;
+                match try_clone_any(tag) {
+                    Ok(tag) => Ok(Event::Scalar(text, *style, *id, tag)),
+                    Err(e) => {
+                        drop(text);
+                        Err(e)
+                    }
+                }
             }
-            Event::SequenceStart(id, tag) => Event::SequenceStart(*id, try_clone_any(tag)?),
-            Event::SequenceEnd => Event::SequenceEnd,
-            Event::MappingStart(id, tag) => Event::MappingStart(*id, try_clone_any(tag)?),
-            Event::MappingEnd => Event::MappingEnd,
-        })
+            Event::SequenceStart(id, tag) => Ok(Event::SequenceStart(*id, try_clone_any(tag)?)),
+            Event::SequenceEnd => Ok(Event::SequenceEnd),
+            Event::MappingStart(id, tag) => Ok(Event::MappingStart(*id, try_clone_any(tag)?)),
+            Event::MappingEnd => Ok(Event::MappingEnd),
+        }
     }
 
     /// The tag of a node that has one.
@@ -156,8 +163,8 @@ impl<'input> Event<'input> {
 fn try_clone_any(tag: &Option<Tag>) -> Result<Option<Tag>, AllocError>
     ensures { IfOk result (λ copy. option_map resolved_tag copy ≡ option_map resolved_tag tag.now) }
 {
-    Ok(match tag {
-        Some(tag) => Some(tag.try_clone()?),
-        None => None,
-    })
+    match tag {
+        Some(tag) => Ok(Some(tag.try_clone()?)),
+        None => Ok(None),
+    }
 }

@@ -5,7 +5,7 @@ ghost use Rattle.saphyr_machine.specs.Steps.Flow as spec;
 
 use crate::context::NodeContext;
 use crate::event::Event;
-use crate::machine::{Machine, place_of, refuse};
+use crate::machine::{Machine, place_of, refuse, tell};
 use crate::state::State;
 use saphyr_input::input::Input;
 use saphyr_scalar::{FaultText, Marker, Span, Stop};
@@ -28,13 +28,11 @@ impl<T: Input> Machine<T> {
         match token.kind {
             TokenType::FlowSequenceEnd => {
                 self.pop();
-                next.0.write_over(Event::SequenceEnd);
-                next.1 = place_of(token);
+                tell(next, Event::SequenceEnd, place_of(token));
             }
             TokenType::Key => {
                 self.state = State::FlowSequenceEntryMappingKey;
-                next.0.write_over(Event::MappingStart(0, None));
-                next.1 = place_of(token);
+                tell(next, Event::MappingStart(0, None), place_of(token));
             }
             _ => self.inside(State::FlowSequenceEntry, NodeContext::Flow, token, next)?,
         }
@@ -54,8 +52,7 @@ impl<T: Input> Machine<T> {
         match token.kind {
             TokenType::FlowSequenceEnd => {
                 self.pop();
-                next.0.write_over(Event::SequenceEnd);
-                next.1 = place_of(token);
+                tell(next, Event::SequenceEnd, place_of(token));
             }
             TokenType::FlowEntry => {
                 let _ = place_of(token);
@@ -153,8 +150,7 @@ impl<T: Input> Machine<T> {
             start: place,
             end: place,
         };
-        next.0.write_over(Event::MappingEnd);
-        next.1 = span;
+        tell(next, Event::MappingEnd, span);
     }
 
     // The first pair of a flow mapping, or its end.
@@ -184,8 +180,7 @@ impl<T: Input> Machine<T> {
         match token.kind {
             TokenType::FlowMappingEnd => {
                 self.pop();
-                next.0.write_over(Event::MappingEnd);
-                next.1 = place_of(token);
+                tell(next, Event::MappingEnd, place_of(token));
             }
             TokenType::FlowEntry => self.flow_mapping_pair_behind_comma(place_of(token), next)?,
             _ => return Err(refuse(FaultText::FlowMappingEndExpected, place_of(token).start)),
@@ -231,8 +226,7 @@ impl<T: Input> Machine<T> {
             }
             TokenType::FlowMappingEnd => {
                 self.pop();
-                next.0.write_over(Event::MappingEnd);
-                next.1 = end;
+                tell(next, Event::MappingEnd, end);
                 let _ = place_of(token);
             }
             _ => self.inside(State::FlowMappingEmptyValue, NodeContext::Flow, token, next)?,

@@ -57,12 +57,13 @@ pub(super) fn place_of(token: Token) -> Span
     token.span
 }
 
-// Writes an event and its span into their place.
+// Writes an event and its span over an event whose text was taken out before.
 #[inline(always)]
 pub(super) fn tell<'input>(next: &mut (Event<'input>, Span), event: Event<'input>, span: Span)
     ensures { next.new ≡ (event.entry, span) }
 {
-    *next = (event, span);
+    next.0.write_over(event);
+    next.1 = span;
 }
 
 impl<T: Input> Machine<T> {
@@ -125,8 +126,13 @@ impl<T: Input> Machine<T> {
         ensures room { IfOk result (λ t. self.new.token ≡ None) }
     {
         let mut token = Token::at_start();
-        self.take_into(&mut token)?;
-        Ok(token)
+        match self.take_into(&mut token) {
+            Ok(()) => Ok(token),
+            Err(stop) => {
+                drop(token);
+                Err(stop)
+            }
+        }
     }
 
     // Leaves the token to be read again.
@@ -192,7 +198,6 @@ impl<T: Input> Machine<T> {
     {
         self.put_back(token);
         self.state = state;
-        next.0.write_over(self.empty_scalar());
-        next.1 = span;
+        tell(next, self.empty_scalar(), span);
     }
 }

@@ -64,6 +64,7 @@ impl<T: Input> Machine<T> {
             self.old result next.new self.new }
     {
         if !properties.has_any() {
+            drop(properties);
             return Err(refuse(FaultText::NodeContentExpected, place_of(token).start));
         }
         self.put_back(token);
@@ -176,8 +177,13 @@ impl<T: Input> Machine<T> {
         ensures { TellsBy (spec.next_content (seen properties) context)
             self.old result next.new self.new }
     {
-        let token = self.take()?;
-        self.content(properties, context, token, next)
+        match self.take() {
+            Ok(token) => self.content(properties, context, token, next),
+            Err(stop) => {
+                drop(properties);
+                Err(stop)
+            }
+        }
     }
 
     #[tactic(auto, unfolding(crate::specs::Steps::Nodes::alias_node))]
@@ -250,18 +256,29 @@ impl<T: Input> Machine<T> {
             self.old result next.new self.new }
     {
         let tag = self.resolve(tag, place.start)?;
-        let Token { span, kind } = self.take()?;
-        match kind {
-            TokenType::Anchor(name) => {
-                let anchor = self.anchors.register(name)?;
-                let properties = Properties {
-                    start: place.start,
-                    behind: span.end,
-                    anchor,
-                    tag: Some(tag),
-                };
-                self.next_content(properties, context, next)
+        let Token { span, kind } = match self.take() {
+            Ok(token) => token,
+            Err(stop) => {
+                drop(tag);
+                return Err(stop);
             }
+        };
+        match kind {
+            TokenType::Anchor(name) => match self.anchors.register(name) {
+                Ok(anchor) => {
+                    let properties = Properties {
+                        start: place.start,
+                        behind: span.end,
+                        anchor,
+                        tag: Some(tag),
+                    };
+                    self.next_content(properties, context, next)
+                }
+                Err(stop) => {
+                    drop(tag);
+                    Err(stop)
+                }
+            },
             kind => {
                 let properties = Properties {
                     start: place.start,
@@ -320,36 +337,30 @@ impl<T: Input> Machine<T> {
         let Token { span, kind } = token;
         match kind {
             TokenType::Scalar(style, text) => {
+                let event = Event::Scalar(CowStr::Owned(text), style, 0, None);
                 self.pop();
-                next.0
-                    .write_over(Event::Scalar(CowStr::Owned(text), style, 0, None));
-                next.1 = span;
+                tell(next, event, span);
             }
             TokenType::FlowSequenceStart => {
                 self.state = State::FlowSequenceFirstEntry;
-                next.0.write_over(Event::SequenceStart(0, None));
-                next.1 = span;
+                tell(next, Event::SequenceStart(0, None), span);
             }
             TokenType::FlowMappingStart => {
                 self.state = State::FlowMappingFirstKey;
-                next.0.write_over(Event::MappingStart(0, None));
-                next.1 = span;
+                tell(next, Event::MappingStart(0, None), span);
             }
             TokenType::BlockSequenceStart if context.allows_block() => {
                 self.state = State::BlockSequenceEntry;
-                next.0.write_over(Event::SequenceStart(0, None));
-                next.1 = span;
+                tell(next, Event::SequenceStart(0, None), span);
             }
             TokenType::BlockMappingStart if context.allows_block() => {
                 self.state = State::BlockMappingKey;
-                next.0.write_over(Event::MappingStart(0, None));
-                next.1 = span;
+                tell(next, Event::MappingStart(0, None), span);
             }
             TokenType::BlockEntry if context.allows_indentless() => {
                 self.put_back(Token { span, kind });
                 self.state = State::IndentlessSequenceEntry;
-                next.0.write_over(Event::SequenceStart(0, None));
-                next.1 = span;
+                tell(next, Event::SequenceStart(0, None), span);
             }
             kind => self.rare_node(context, Token { span, kind }, next)?,
         }
@@ -374,15 +385,17 @@ impl<T: Input> Machine<T> {
         let Token { span, kind } = token;
         match kind {
             TokenType::Scalar(style, text) => {
+                let event = Event::Scalar(CowStr::Owned(text), style, 0, None);
                 self.state = state;
-                next.0
-                    .write_over(Event::Scalar(CowStr::Owned(text), style, 0, None));
-                next.1 = span;
+                tell(next, event, span);
             }
-            kind => {
-                self.push(state)?;
-                self.node(context, Token { span, kind }, next)?;
-            }
+            kind => match self.push(state) {
+                Ok(()) => self.node(context, Token { span, kind }, next)?,
+                Err(stop) => {
+                    drop(kind);
+                    return Err(stop);
+                }
+            },
         }
         Ok(())
     }

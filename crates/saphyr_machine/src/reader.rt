@@ -44,7 +44,7 @@ fn fill<'input>(
 {
     match handed? {
         Ok(item) => {
-            *next = item;
+            drop(replace(next, item));
             Some(Ok(()))
         }
         Err(fault) => Some(Err(fault)),
@@ -89,13 +89,10 @@ impl<'input, T: Input> EventReader<'input, T> {
         }
         let mut next = no_event();
         match self.machine.read(&mut next) {
-            Some(Ok(())) => self.current = Some(next),
+            Some(Ok(())) => drop(self.current.replace(next)),
             Some(Err(fault)) => {
                 drop(next);
-                self.kept = Some(Kept {
-                    fault,
-                    given: false,
-                });
+                self.keep(fault, false);
             }
             None => drop(next),
         }
@@ -128,6 +125,15 @@ impl<'input, T: Input> EventReader<'input, T> {
         }
     }
 
+    // Keeps the fault that ended the events, which was given or not.
+    fn keep(&mut self, fault: Fault, given: bool)
+        requires { is_own fault ≡ true }
+        ensures { cursor self.new ≡ record (cursor self.old)
+            { kept = Some (record { fault = spec.ending_of_fault fault; given = given }) } }
+    {
+        drop(self.kept.replace(Kept { fault, given }));
+    }
+
     // Gives the fault that ended the events, unless it was given before. If it can't be copied, it is lost,
     // and `OutOfMemory` replaces it.
     fn give_fault(&mut self) -> Option<Result<(Event<'input>, Span), Fault>>
@@ -138,21 +144,20 @@ impl<'input, T: Input> EventReader<'input, T> {
             return None;
         };
         if kept.given {
-            self.kept = Some(kept);
+            self.keep(kept.fault, true);
             return None;
         }
-        let Ok(copy) = kept.fault.try_clone() else {
-            self.kept = Some(Kept {
-                fault: Fault::OutOfMemory,
-                given: true,
-            });
-            return Some(Err(Fault::OutOfMemory));
-        };
-        self.kept = Some(Kept {
-            fault: kept.fault,
-            given: true,
-        });
-        Some(Err(copy))
+        match kept.fault.try_clone() {
+            Ok(copy) => {
+                self.keep(kept.fault, true);
+                Some(Err(copy))
+            }
+            Err(_) => {
+                drop(kept);
+                self.keep(Fault::OutOfMemory, true);
+                Some(Err(Fault::OutOfMemory))
+            }
+        }
     }
 
     // The same for a caller that has a place for the event.
@@ -196,18 +201,16 @@ impl<'input, T: Input> EventReader<'input, T> {
         if self.current.is_some() || self.kept.is_some() {
             return self.next_ahead_into(next);
         }
-        match self.machine.read(next)? {
-            Ok(()) => {
+        match self.machine.read(next) {
+            Some(Ok(())) => {
                 self.remember(&next.0, next.1);
                 Some(Ok(()))
             }
-            Err(fault) => {
-                self.kept = Some(Kept {
-                    fault,
-                    given: false,
-                });
+            Some(Err(fault)) => {
+                self.keep(fault, false);
                 self.give_fault_into(next)
             }
+            None => None,
         }
     }
 
@@ -221,7 +224,7 @@ impl<'input, T: Input> EventReader<'input, T> {
         match self.next_ahead_into(next) {
             Some(Ok(())) => Progress::Event,
             Some(Err(told)) => {
-                *fault = told;
+                drop(replace(fault, told));
                 Progress::Fault
             }
             None => Progress::Over,
@@ -239,14 +242,11 @@ impl<'input, T: Input> EventReader<'input, T> {
             { kept = Some (record { fault = spec.ending_of_fault fault.old; given = false }) })
             (cursor self.new) }
     {
-        self.kept = Some(Kept {
-            fault: replace(fault, Fault::OutOfMemory),
-            given: false,
-        });
+        self.keep(replace(fault, Fault::OutOfMemory), false);
         match self.give_fault_into(next) {
             Some(Ok(())) => Progress::Event,
             Some(Err(told)) => {
-                *fault = told;
+                drop(replace(fault, told));
                 Progress::Fault
             }
             None => Progress::Over,

@@ -12,14 +12,14 @@ use Rattle.saphyr_machine.specs.Calls.{Advances, AdvancesOver, FailsWith, IsOver
 use Rattle.saphyr_parser.specs.Printed.{printed_line, printed_lines}
 use Rattle.saphyr_parser.specs.Written.{TakesSome}
 
--- The lines of some events were taken, and those behind are left.
+-- The lines of some events were taken, and those after are left.
 pub record Prints (all left : Answer) (old new : Option (List ℕ)) : Type 0 where
   pub printed : List (Happening × Span)
   pub split : all.events ≡ printed ++ left.events
   pub fault : all.fault ≡ left.fault
   pub taken : Appends old new (printed_lines printed)
 
--- The lines of some events were taken, and of one more line a beginning that isn't all of it. The events behind are
+-- The lines of some events were taken, and of one more line a beginning that isn't all of it. The events after are
 -- left.
 pub record Cuts (all left : Answer) (old new : Option (List ℕ)) : Type 0 where
   pub printed : List (Happening × Span)
@@ -47,13 +47,13 @@ Dumps (Err dump.Write) all left old new = Cuts all left old new
 
 -- ## The parser that is left
 
--- The lines of these events were taken, behind which the second parser stands.
+-- The lines of these events were taken, after which the second parser is.
 pub record PrintsUpTo (first last : EventCursor) (old new : Option (List ℕ)) : Type 0 where
   pub printed : List (Happening × Span)
   pub over : AdvancesOver printed first last
   pub taken : Appends old new (printed_lines printed)
 
--- The line of one more event was taken in part alone, behind which the second parser stands.
+-- The line of one more event was taken in part alone, after which the second parser is.
 pub record CutsAt (first last : EventCursor) (old new : Option (List ℕ)) : Type 0 where
   pub middle : EventCursor
   pub written : Option (List ℕ)
@@ -62,7 +62,7 @@ pub record CutsAt (first last : EventCursor) (old new : Option (List ℕ)) : Typ
   pub advances : Advances event middle last
   pub cut : TakesSome written new (printed_line event.0)
 
--- The parser that a call of `dump` leaves: behind all events, behind the fault that was met, or behind the event
+-- The parser that a call of `dump` leaves: after all events, after the fault that was met, or after the event
 -- whose line was cut.
 abbrev pub Leaves : Result (Unit {0}) DumpFault → EventCursor → EventCursor → Option (List ℕ) → Option (List ℕ) → Type 0
 Leaves (Ok u) first last old new = AdvancesOver (to_come first).events first last × IsOver last

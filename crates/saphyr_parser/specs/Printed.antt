@@ -7,7 +7,7 @@ use Rattle.saphyr_scalar.specs.declared.scalar.position.Span.{Span}
 use Rattle.saphyr_scanner.specs.Grammar.Forest.{Style, Plain, SingleQuoted, DoubleQuoted, Literal, Folded}
 use Rattle.saphyr_machine.specs.Events.{ResolvedTag, Happening, Nothing, StreamStart, StreamEnd, DocumentStart, DocumentEnd, Alias, Scalar, SequenceStart, SequenceEnd, MappingStart, MappingEnd}
 
--- A byte of a scalar's text: a backslash, LF, CR, a backspace and a tab are escaped, and all else stands as it is.
+-- A byte of a scalar's text: a backslash, LF, CR, a backspace and a tab are escaped, and all else is as it is.
 abbrev pub printed_byte : ℕ → List ℕ
 printed_byte byte = if byte == backslash then codes "\\\\" else
     (if byte == line_feed then codes "\\n" else
@@ -18,7 +18,7 @@ abbrev pub printed_bytes : List ℕ → List ℕ
 printed_bytes [] = []
 printed_bytes (byte ∷ bytes) = printed_byte byte ++ printed_bytes bytes
 
--- the bytes of a text from one place up to another stand as they are
+-- the bytes of a text from one place up to another are as they are
 abbrev pub ArePlain : List ℕ → ℕ → ℕ → Type 0
 ArePlain text start end =
     (i : ℕ) → start ≤ i → i < end → printed_byte (slice_index text i) ≡ slice_index text i ∷ []

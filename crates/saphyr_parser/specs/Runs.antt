@@ -29,7 +29,7 @@ pub record TakesBeginning (old new : Option (List ℕ)) (bytes : List ℕ) : Typ
   pub split : bytes ≡ front ++ back
   pub taken : Appends old new front
 
--- What a run does with a text that it has read, and what the writer holds before and behind.
+-- What a run does with a text that it has read, and what the writer holds before and after.
 abbrev pub PrintsText : Result (Unit {0}) RunFault → Answer → Option (List ℕ) → Option (List ℕ) → Type 0
 PrintsText (Ok u) a old new = (a.fault ≡ None) × Appends old new (printed_lines a.events)
 PrintsText (Err (run.Parse (fault.Scan e))) a old new =
@@ -44,7 +44,7 @@ PrintsText (Err run.NotUtf8) a old new = ⊥
 abbrev pub DumpsText : Result (Unit {0}) DumpFault → Answer → Option (List ℕ) → Option (List ℕ) → Type 0
 DumpsText dumped a old new = (left : Answer) × Dumps dumped a left old new
 
--- How a call of `dump` makes a run end. The lines that the writer holds may be lost behind a fault too.
+-- How a call of `dump` makes a run end. The lines that the writer holds may be lost after a fault too.
 abbrev pub Becomes : Result (Unit {0}) DumpFault → Result (Unit {0}) RunFault → Type 0
 Becomes (Ok u) (Ok v) = Unit {0}
 Becomes (Err (dump.Parse f)) (Err (run.Parse g)) = g ≡ f
@@ -61,7 +61,7 @@ ReadsText outcome unread left old new =
     (bytes : List ℕ) × ReadsAll unread left bytes × IsUtf8 bytes × PrintsText outcome (answer_of_text bytes) old new
 
 -- What a run does with what it reads: the bytes that the reader has left, and those that the writer holds, before and
--- behind.
+-- after.
 abbrev pub PrintsSource : Result (Unit {0}) RunFault → Option (List ℕ) → Option (List ℕ) → Option (List ℕ)
     → Option (List ℕ) → Type 0
 PrintsSource (Err run.CantRead) unread left old new = Keeps old new
@@ -100,7 +100,7 @@ status_of (Ok u) = 0
 status_of (Err f) = 1
 
 -- A run with its status and the name of its input: what it reads, what it prints and what it complains of, where the
--- bytes are known that are unread and left, printed before and behind, and complained of before and behind.
+-- bytes are known that are unread and left, printed before and after, and complained of before and after.
 pub record Runs (status : ℕ) (name : List ℕ) (unread left printed now_printed said now_said : Option (List ℕ)) : Type
     0 where
   pub outcome : Result (Unit {0}) RunFault

@@ -1,4 +1,4 @@
--- What steps add to the queue: few tokens, and the end of the stream behind all others.
+-- What steps add to the queue: few tokens, and the end of the stream after all others.
 pub mod Queue
 pub mod StreamEnds
 pub mod Bound

@@ -17,7 +17,7 @@ use Rattle.saphyr_input.proofs.Basics.Lists.{shows_character}
 use Rattle.saphyr_input.proofs.Basics.Booleans.{by_test}
 use Rattle.saphyr_scalar.proofs.Given.{Given}
 
--- t stands at the place of s or behind it, and each character between them is counted
+-- t is at the place of s or after it, and each character between them is counted
 pub record Ahead (s t : Cursor) : Type 0 where
   pub later : s.mark.index ≤ t.mark.index
   pub counted : t.mark.index + length t.rest ≡ s.mark.index + length s.rest
@@ -32,7 +32,7 @@ ahead_ahead s t u a b = record {
   counted = omega (arith, a.counted, b.counted);
 }
 
--- n characters that stand there are passed
+-- n characters that are there are passed
 pub taken_off : (s t : Cursor) (n : ℕ) → t.mark.index ≡ s.mark.index + n → t.rest ≡ drop n s.rest → n ≤ length s.rest
     → Ahead s t
 taken_off s t n i r h =
@@ -54,7 +54,7 @@ break_within : (t : List ℕ) → is_break (slice_index t 0) ≡ true → break_
 break_within t e = by_test (next_2_are t 13 10) 2 1 (λ n. n ≤ length t) (two_shown t)
     (λ _. shows_character t is_break true e (λ k. absurd (cc)))
 
--- the break that stands first is passed, if one does
+-- the break at the front is passed, if there is one
 pub pass_break_counted : (s : Cursor) → Ahead s (pass_break s)
 pass_break_counted s =
     by_test (next_2_are s.rest 13 10) _ _ (Ahead s) (λ e. taken_off s (pass_line 2 s) 2 refl refl (two_shown s.rest e))
@@ -80,7 +80,7 @@ passed_at _ _ _ _ (line_break m t k u h p) =
 pub passed_over : (s t : Cursor) → IsPassed s.mark s.rest t.mark t.rest → Ahead s t
 passed_over s t p = let q = passed_at s.mark s.rest t.mark t.rest p in record { later = q.0; counted = q.1 }
 
--- ## What stands between two tokens
+-- ## What is between two tokens
 
 pub separation_counted : (tabs : SkipTabs) (s : Cursor)
     → Given (λ (x : SkipTabs × Cursor). Ahead s x.1) (separation tabs s)
@@ -137,4 +137,4 @@ gap_counted l broke tabbed s =
     ahead_of (Ok p) h = record { later = h.0; counted = h.1 }
     ahead_of (Err e) h = tt
 
--- ## Behind `?`
+-- ## After `?`

@@ -1,4 +1,4 @@
--- What stands between two tokens is refused at a place of it.
+-- What is between two tokens is refused at a place of it.
 use Rattle.std.proofs.Common.{◌≡◌, ℕ, Bool, true, false, List, [], ◌∷◌, Result, Ok, Err, refl, sym, ap, subst, inl, inr}
 use Rattle.std.specs.Prelude.{◌&&◌, ◌||◌, ◌==◌, not, slice_index}
 use Rattle.saphyr_input.specs.Classes.{is_bom, is_blank, is_break, is_yaml_non_break, is_z, carriage_return, line_feed}
@@ -13,7 +13,7 @@ use Rattle.saphyr_scanner.proofs.Reached.{single, double}
 use Rattle.std.proofs.lemmas.Bool.{eqb-true, and_parts, or_cases}
 use Rattle.saphyr_input.proofs.Basics.Booleans.{by_test, or_false_right}
 
--- a refusal, if there is one, stands at a place on the way from m
+-- a refusal, if there is one, is at a place on the way from m
 abbrev pub Refused : Marker → List ℕ → Result GapEnd Refusal → Type 0
 Refused m t (Ok p) = Unit {0}
 Refused m t (Err e) = (u : List ℕ) × IsReached m t e.mark u
@@ -29,7 +29,7 @@ stop_refused m blank broke tabbed t =
     by_test (tabbed && is_bom (slice_index t 0)) _ _ (Refused m t) (λ _. (t, taken.nothing m t))
     (λ _. by_test (tabbed && not (is_z (slice_index t 0))) _ _ (Refused m t) (λ _. (t, taken.nothing m t)) (λ _. tt))
 
--- between tokens, in a comment, and behind a CR before LF
+-- between tokens, in a comment, and after a CR before LF
 record Places (l : ℕ) (t : List ℕ) (m : Marker) (blank broke tabbed : Bool) : Type 0 where
   between : Refused m t (end_of_gap l m blank broke tabbed t)
   inside : Refused m t (end_of_gap_in_comment l m blank broke tabbed t)

@@ -1,4 +1,4 @@
--- What stands between two tokens: its comments and spaces, and where it ends.
+-- What is between two tokens: its comments and spaces, and where it ends.
 use Rattle.std.proofs.Common.{◌≡◌, ℕ, ◌+◌, ◌≤◌, Bool, true, false, List, [], ◌∷◌, drop, get_or, slice_index, refl, sym, ap, ◌∙◌, arith, nat_eq, zero, suc, Result, Ok}
 use Rattle.std.specs.Prelude.{◌==◌, ◌||◌, nat_lt}
 use Rattle.std.specs.List.{prefix_len}
@@ -35,7 +35,7 @@ one_further : (l : ℕ) (m : Marker) (blank broke tabbed : Bool) (n c : ℕ) (cs
     ≡ end_of_gap l (along m (1 + n)) blank broke tabbed (drop (1 + n) (c ∷ cs))
 one_further l m blank broke tabbed n c cs = let one : 1 + n ≡ suc n = omega arith in rw (along-along m 1 n, one) refl
 
--- behind the `#`, the rest of the comment is passed
+-- after the `#`, the rest of the comment is passed
 behind_sign : (l : ℕ) (t : List ℕ) (m : Marker) (blank broke tabbed : Bool)
     → end_of_gap_in_comment l m blank broke tabbed t
     ≡ end_of_gap l (along m (prefix_len is_yaml_non_break t)) blank broke tabbed
@@ -115,7 +115,7 @@ spaces_passed l most broke tabbed before read after all same passed known =
     (over_spaces l before.blank_so_far broke tabbed before.mark (spaces_within most before.rest) before.rest
     (omega arith) ∙ known)
 
--- ## The same behind `?`
+-- ## The same after `?`
 
 spaces_further : (m : Marker) (blank space : Bool) (n c : ℕ) (cs : List ℕ)
     → end_of_spaces (along (along m 1) n) blank space (drop n cs)
@@ -176,25 +176,25 @@ gap_of_nothing least m blank (c ∷ cs) a b e =
     let feed : (c == 10) ≡ false = or_false_left (c == 10) (c == 13) b in
     rw (a, return, feed, e) refl
 
--- where a token stands right here, nothing is passed
+-- where a token is right here, nothing is passed
 pub nothing_passed : (least : ℕ) (s t : Cursor) (c : ℕ) → c ≡ slice_index s.rest 0 → t ≡ s → is_blank c ≡ false
     → is_break c ≡ false → (c == number_sign) ≡ false → whole_gap least s ≡ Ok (record { cursor = t; broke = false })
 nothing_passed least s t c e same a b d =
     gap_of_nothing least s.mark s.blank_so_far s.rest (rw (sym e) a) (rw (sym e) b) (rw (sym e) d)
     ∙ ap (λ (u : Cursor). Ok (record { cursor = u; broke = false })) (sym same)
 
--- a gap that stops where no tab stands in the indentation
+-- a gap that stops where no tab is in the indentation
 pub stop_here : (m : Marker) (blank now : Bool) (t : List ℕ)
     → stop m blank now false t
     ≡ Ok (record { cursor = record { rest = t; mark = m; blank_so_far = blank }; broke = now })
 unfolding stop
 stop_here m blank now t = refl
 
--- where no block collection is open, no tab stands in its indentation
+-- where no block collection is open, no tab is in its indentation
 pub no_tab_indentation : (m : Marker) (blank : Bool) (c : ℕ) → (is_tab_indentation 0 m blank c || false) ≡ false
 no_tab_indentation m blank c = grind (arith, nat_tests)
 
--- behind blanks stands neither a comment nor a byte order mark
+-- after blanks is neither a comment nor a byte order mark
 pub separated : (text : List ℕ) (t : Cursor) → (slice_index text 0 == number_sign) ≡ false
     → is_bom (slice_index t.rest 0) ≡ false → behind_separation Yes text t ≡ Ok (found_blanks Yes text, t)
 unfolding behind_separation

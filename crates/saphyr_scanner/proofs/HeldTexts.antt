@@ -1,4 +1,4 @@
--- Texts that are held stay as they are when others are put behind them.
+-- Texts that are held stay as they are when others are put after them.
 use Rattle.std.proofs.Common.{◌≡◌, ℕ, ◌+◌, ◌-◌, ◌≤◌, ◌<◌, List, [], ◌∷◌, ◌++◌, length, drop, get_or, refl, sym, ap, subst, arith, ◌∙◌, Option, Some, None, false}
 use Rattle.std.specs.Prelude as std
 use Rattle.std.specs.Prelude.{map, nat_lt, slice_index_or, slice_range, IsUtf8, option_to_list}
@@ -59,7 +59,7 @@ map_push : (bytes : List ℕ) (ps : List Place) (p : Place)
 map_push bytes [] p = refl
 map_push bytes (q ∷ ps) p = ap (λ qs. place bytes q ∷ qs) (map_push bytes ps p)
 
--- behind the places stands that of a token, whose text stands behind theirs
+-- after the places is that of a token, whose text comes after theirs
 pub place_put : (old new : List ℕ) (ps : List Place) (p : Place) (t : Piece)
     → GrowsBehind old new → All (HasHeldText old) ps → IsBarePlaceOf new t p
     → All (HasHeldText new) (ps ++ p ∷ [])

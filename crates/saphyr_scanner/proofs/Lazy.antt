@@ -39,7 +39,7 @@ above_next h c k e = let n =
 
 -- ## The tokens that a state still gives, where the first places were handed out
 
--- these tokens, in front of others
+-- these tokens, before others
 abbrev pub onto : List Piece → Remaining → Remaining
 onto [] r = r
 onto (t ∷ ts) r = before t (onto ts r)
@@ -95,7 +95,7 @@ all_out laws limit n c free h (p ∷ ps) k =
     handed_next (behind n limit) c p ps k (free k) (flat ps) _ (all_out laws limit n c free h ps (k + 1))
     ∙ ap (λ i. onto (flat (p ∷ ps)) (rest limit (holding c [] i))) e
 
--- the tokens that come behind a state, whose places were all handed out
+-- the tokens that come after a state, whose places were all handed out
 abbrev others : ℕ → State → Remaining
 others limit d = rest limit (holding d.core [] (length d.queue.places))
 
@@ -111,7 +111,7 @@ gives : (limit : ℕ) (d : State) (hs : List Place) (t : State) (g : GivesRest l
 gives limit d hs t g zero h = absurd (omega (arith, h))
 gives limit d hs t g (suc n) h = g.tokens n h
 
--- what comes behind a token that is read, wherever the places are parted
+-- what comes after a token that is read, wherever the places are parted
 abbrev Hypothesis : ℕ → State → State → Type 0
 Hypothesis limit d s = (hs : List Place) (t : State) → Goes hs s t → GivesRest limit d hs t
 

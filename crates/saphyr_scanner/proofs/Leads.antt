@@ -28,7 +28,7 @@ pub data LeadsTo (limit : ℕ) (d : State) : State → Type 0 where
   onward : (s t u : State) → s.core.ended ≡ false → fetch_within limit s ≡ Ok t → without_far_key t ≡ Ok u
       → LeadsTo limit d u → LeadsTo limit d s
 
--- one run behind another
+-- one run after another
 pub leads_on : {limit : ℕ} {d m : State} {s : State} → LeadsTo limit m s → LeadsTo limit d m → LeadsTo limit d s
 leads_on stay k = k
 leads_on (onward s t u going is settles l) k = onward s t u going is settles (leads_on l k)

@@ -1,4 +1,4 @@
--- Blanks and a comment behind a token on its line.
+-- Blanks and a comment after a token on its line.
 use Rattle.std.proofs.Common.{◌≡◌, ℕ, suc, ◌+◌, ◌⊎◌, ◌≢◌, false, List, [], ◌∷◌, ◌++◌, length, drop, take, refl, sym, ap, ◌∙◌, arith, subst, inl, inr, append_assoc}
 use Rattle.std.specs.Prelude.{◌&&◌, ◌==◌, slice_index, nat_lt}
 use Rattle.std.specs.List.{prefix_len}
@@ -59,7 +59,7 @@ comment_apart : (m : Marker) (words t : List ℕ) → AreIn is_yaml_non_break wo
 comment_apart m words t are e =
     taken.comment m words t (along m (1 + length words)) t are e (taken.nothing (along m (1 + length words)) t)
 
--- blanks, and behind some a comment
+-- blanks, and after some a comment
 tail_of : (m : Marker) (blanks comment x : List ℕ) → AreIn is_blank blanks
     → ((comment ≡ []) ⊎ IsTailComment blanks comment)
     → (IsTailComment blanks comment → is_yaml_non_break (slice_index x 0) ≡ false)

@@ -1,3 +1,3 @@
--- Tokens stand in order, by their places.
+-- Tokens are in order, by their places.
 pub mod Queue
 pub mod Run

@@ -11,7 +11,7 @@ use Rattle.saphyr_scanner.proofs.Queues.{place_with_front}
 use Rattle.saphyr_scanner.specs.Views.Places.{HasHeldText, IsHeldText, place, text_place}
 use Rattle.saphyr_scanner.specs.Views.Queue.{in_slot, slot_place}
 
--- where `r` is `q`, which stood at that place, with this in front of it
+-- where `r` is `q`, which was at that place, with this before it
 pub with_opening_is_set : (bytes : List ℕ) (n : ℕ) (o : Opening) (ps : List declared.Place) (q r : declared.Place)
     → q ≡ slice_index_or ps n q → place bytes r ≡ place_with_front o (place bytes q).piece
     → map (place bytes) (set ps n r) ≡ places_with_opening n o (map (place bytes) ps)

@@ -1,4 +1,4 @@
--- Behind a plain scalar no break stands, and a comment that keeps it from going on stands there.
+-- After a plain scalar no break is, and a comment that keeps it from going on is there.
 use Rattle.std.proofs.Common.{◌≡◌, ℕ, zero, suc, ◌⊎◌, Bool, false, List, [], ◌∷◌, ◌++◌, Option, Some, None, Result, Ok, Err, refl, inl, inr, cond}
 use Rattle.std.specs.Prelude.{◌&&◌, ◌||◌, ◌==◌, not, nat_lt, pred, slice_index}
 use Rattle.saphyr_input.specs.Classes.{is_break, is_blank, is_bom, is_z, tab}

@@ -41,7 +41,7 @@ pub place_kinds_append : (a b : List Place) → place_kinds (a ++ b) ≡ place_k
 place_kinds_append a b = ap (map (λ (t : Piece). t.kind)) (flat_append a b)
     ∙ map-append (λ (t : Piece). t.kind) (flat a) (flat b)
 
--- the place before the others that come behind it is opened
+-- the place before the others that come after it is opened
 pub with_opening_seam : (o : Opening) (ps : List Place) (p : Place) (qs : List Place)
     → places_with_opening (length ps) o (ps ++ p ∷ qs) ≡ ps ++ record { opening = o; piece = p.piece } ∷ qs
 with_opening_seam o [] p qs = refl

@@ -1,4 +1,4 @@
--- Behind a quoted scalar inside flow an indicator most often stands at once, and nothing is passed before it.
+-- After a quoted scalar inside flow an indicator most often comes at once, and nothing is passed before it.
 use Rattle.std.proofs.Common.{◌≡◌, ℕ, Bool, true, false, List, [], ◌∷◌, slice_index, refl, arith}
 use Rattle.std.specs.Prelude.{◌==◌, ◌||◌}
 use Rattle.std.proofs.lemmas.Bool.Decides.{nat_tests}
@@ -16,7 +16,7 @@ use Rattle.saphyr_scanner.specs.Steps.Passing.{check_comment, pass_gap}
 use Rattle.saphyr_scanner.specs.Steps.Scalar.{adjacent_here, behind_quotes, goes_on_behind_quotes}
 use Rattle.saphyr_scanner.proofs.Gaps.{nothing_passed}
 
--- the indicators that may stand behind a quoted scalar inside flow
+-- the indicators that may come after a quoted scalar inside flow
 abbrev pub is_entry_end : ℕ → Bool
 is_entry_end x = (x == colon) || (x == comma) || (x == right_bracket) || (x == right_brace)
 

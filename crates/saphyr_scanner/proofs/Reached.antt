@@ -71,7 +71,7 @@ passed_reached _ _ _ _ (passing.line_break m t n u e p) =
 
 -- ## Pieces of plain scalars
 
--- no break of two characters is cut between the piece and what stands behind it
+-- no break of two characters is cut between the piece and what comes after it
 abbrev pub Uncut : List ℕ → List ℕ → Type 0
 Uncut [] u = Unit {0}
 Uncut (c ∷ []) u = (is_break c ≡ false) ⊎ (is_break (slice_index u 0) ≡ false)

@@ -49,7 +49,7 @@ plain_counted f s t text end r =
 
 -- ## Names and tags
 
--- what stands behind a text of the line
+-- what comes after a text of the line
 ahead_behind_text : (s t : Cursor) (text : List ℕ) → s.rest ≡ text ++ t.rest
     → t ≡ mid_line (along s.mark (length text)) t.rest
     → Ahead s t

@@ -40,7 +40,7 @@ place_first : (limit : ℕ) (c : Core) (p : Place) (ps : List Place) (n : ℕ) �
     → rest limit (holding c (p ∷ ps) n) ≡ before_place p.opening p.piece (rest limit (holding c ps (n + 1)))
 place_first limit c p ps n ready = cond-false (needs_token (holding c (p ∷ ps) n)) _ _ ready
 
--- Whether a token has to be read does not depend on what stands in front of the first one.
+-- Whether a token has to be read does not depend on what comes before the first one.
 place_taken : (limit : ℕ) (c : Core) (o : Opening) (t : Piece) (ps : List Place) (n : ℕ)
     → needs_token (holding c (place_with_front o t ∷ ps) n) ≡ false
     → TakesToken limit (holding c (place_with_front o t ∷ ps) n) (take_token (holding c (place_with_front o t ∷ ps) n))

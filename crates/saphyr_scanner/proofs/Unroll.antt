@@ -12,7 +12,7 @@ use Rattle.saphyr_scanner.proofs.Filling.{read, going, smaller_read, less_read, 
 use Rattle.saphyr_scalar.proofs.Given.{bind_ok}
 use Rattle.std.proofs.lemmas.Bool.{cond-true, cond-false}
 
--- what comes behind the tokens that can be handed out
+-- what comes after the tokens that can be handed out
 abbrev pub behind : ℕ → ℕ → State → Remaining
 behind n limit t = cond t.core.ended none (remaining_after (read limit t) (run n limit))
 
@@ -31,7 +31,7 @@ remaining_after_so : (r : Result State Refusal) (f g : State → Remaining) → 
 remaining_after_so (Ok u) f g h = h u refl
 remaining_after_so (Err e) f g h = refl
 
--- a token less is to be read behind each
+-- a token less is to be read after each
 pub enough : Readers → (limit n m : ℕ) (s : State) → size s.core < n → size s.core < m → run n limit s ≡ run m limit s
 enough laws limit zero m s a b = absurd (omega (arith, a))
 enough laws limit (suc n) zero s a b = absurd (omega (arith, b))

@@ -1,4 +1,4 @@
--- Where the tokens of a text stand.
+-- Where the tokens of a text are.
 use Rattle.std.specs.Prelude.{ℕ, List, [], ◌∷◌}
 use Rattle.saphyr_scanner.specs.Views.Tokens.{Piece}
 use Rattle.saphyr_scanner.specs.TokensTaken.{IsPlaceOf}

@@ -1,6 +1,6 @@
--- Which tokens may stand where, told of the tokens alone: a single pair of a flow sequence has its start, its colon and
--- its end, an implicit key has its colon, a block collection has an entry, and its properties stand on a line before it
--- (YAML 1.2.2, 7.4, 7.5 and 8.2). A colon without an implicit key stands at its mapping's column.
+-- Which tokens may be where, told of the tokens alone: a single pair of a flow sequence has its start, its colon and
+-- its end, an implicit key has its colon, a block collection has an entry, and its properties are on a line before it
+-- (YAML 1.2.2, 7.4, 7.5 and 8.2). A colon without an implicit key is at its mapping's column.
 use Rattle.std.specs.Prelude.{ℕ, ◌+◌, ◌==◌, Bool, true, false, not, nat_le, nat_lt, ◌||◌, ◌&&◌, if◌then◌else◌, List, [], ◌∷◌, Option, Some, None, IsTrue}
 use Rattle.saphyr_scalar.specs.declared.scalar.position.Marker.{Marker}
 use Rattle.saphyr_scalar.specs.declared.scalar.position.Span.{Span}
@@ -25,7 +25,7 @@ pub record Enclosed : Type 0 where
   pub enclosure : Enclosure
   pub key : Option Marker
 
--- what began right in front of a token: a block collection, a node, whose anchor or tag ends on a line, or an implicit
+-- what began right before a token: a block collection, a node, whose anchor or tag ends on a line, or an implicit
 -- key
 pub data Begun : Type 0 where
   Nothing : Begun
@@ -113,7 +113,7 @@ behind_pair_colon e = e
 abbrev pub has_text : Span → Bool
 has_text span = nat_lt span.start.index span.end.index
 
--- what encloses the token behind
+-- what encloses the token after
 abbrev pub enclosures_behind : Kind → Span → Enclosures → Enclosures
 enclosures_behind tokens.BlockSequenceStart span all = begun_at BlockSequence span.start.col all
 enclosures_behind tokens.BlockMappingStart span all = begun_at BlockMapping span.start.col all
@@ -132,7 +132,7 @@ enclosures_behind (tokens.Anchor name) span all = with_begun (Property span.end.
 enclosures_behind (tokens.Tag handle suffix) span all = with_begun (Property span.end.line) all
 enclosures_behind _ span all = with_begun Nothing all
 
--- ## What may stand there
+-- ## What may come there
 
 abbrev pub is_pair : Enclosure → Bool
 is_pair PairKey = true
@@ -145,7 +145,7 @@ may_begin_pair Sequence = true
 may_begin_pair PairValue = true
 may_begin_pair _ = false
 
--- only behind its colon a single pair ends
+-- only after its colon a single pair ends
 abbrev pub may_end_pair : Enclosure → Bool
 may_end_pair PairValue = true
 may_end_pair _ = false
@@ -165,7 +165,7 @@ is_at_column column [] = false
 is_at_column column (innermost ∷ columns) = column == innermost
 
 -- Where no key's colon is to come. A single pair ends before the next entry and before `]`. (Of `[a: b}` and `{]` the
--- tokens come before the parser refuses them.) 8.2.2: outside brackets a colon without a key, and that of a `?`, stands
+-- tokens come before the parser refuses them.) 8.2.2: outside brackets a colon without a key, and that of a `?`, is
 -- at the column of its mapping.
 abbrev pub fits : Enclosure → List ℕ → Kind → Span → Bool
 fits e columns tokens.FlowMappingStart span = has_text span || may_begin_pair e
@@ -177,7 +177,7 @@ fits e columns tokens.Value span = is_in_brackets e || is_at_column span.start.c
 fits e columns _ span = true
 
 -- 7.4: a token of a node that may be an implicit key: properties, an alias, a scalar, or the start of a flow
--- collection, which encloses what stands in it
+-- collection, which encloses what is in it
 abbrev pub is_of_flow_node : Kind → Span → Bool
 is_of_flow_node (tokens.Alias name) span = true
 is_of_flow_node (tokens.Anchor name) span = true
@@ -187,8 +187,8 @@ is_of_flow_node tokens.FlowSequenceStart span = true
 is_of_flow_node tokens.FlowMappingStart span = has_text span
 is_of_flow_node _ span = false
 
--- 7.4.2, 8.2.2: A block mapping's colon stands on the line where the key began, at most 1,024 characters behind. A
--- single pair's stands on the key's line, and one in braces anywhere behind.
+-- 7.4.2, 8.2.2: A block mapping's colon is on the line where the key began, at most 1,024 characters after. A
+-- single pair's is on the key's line, and one in braces anywhere after.
 abbrev pub is_near : Enclosure → Marker → Marker → Bool
 is_near Block key colon = nat_le colon.line key.line && nat_le colon.index (key.index + 1024)
 is_near PairKey key colon = nat_le colon.line key.line
@@ -204,8 +204,8 @@ fits_at e None columns kind span = fits e columns kind span
 fits_at e (Some key) columns kind span = fits_in_key e key kind span
 
 -- 8.2: A block sequence begins with `-`, and a block mapping with a key or a colon. The properties of a block
--- collection stand on a line before it, also where the `-` of a sequence stands at its mapping's column. 7.4, 8.2.2:
--- behind the start of an implicit key stands a token of its node.
+-- collection are on a line before it, also where the `-` of a sequence is at its mapping's column. 7.4, 8.2.2:
+-- after the start of an implicit key is a token of its node.
 abbrev pub may_follow : Begun → Kind → Span → Bool
 may_follow Nothing kind span = true
 may_follow BlockSequence tokens.BlockEntry span = true
@@ -224,7 +224,7 @@ abbrev pub may_stand : Enclosures → Kind → Span → Bool
 may_stand all kind span =
     may_follow all.begun kind span && fits_at all.inner.enclosure all.inner.key all.columns kind span
 
--- each token may stand where it does
+-- each token may be where it is
 abbrev pub AreInPlace : Enclosures → List Piece → Type 0
 AreInPlace all [] = Unit {0}
 AreInPlace all (p ∷ ps) = IsTrue (may_stand all p.kind p.span) × AreInPlace (enclosures_behind p.kind p.span all) ps

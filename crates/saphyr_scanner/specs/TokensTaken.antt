@@ -1,6 +1,6 @@
 -- Which tokens are taken from a text: up to the last token the text is the spellings of the tokens in order, parted by
 -- blanks, breaks and comments alone (YAML 1.2.2, chapters 5 to 9). Nothing else is passed over.
--- A place is a cursor, of which what stands there and its line and column count here.
+-- A place is a cursor, of which what is there and its line and column count here.
 use Rattle.std.specs.Prelude.{◌≡◌, ℕ, ◌+◌, ◌-◌, ◌≤◌, ◌<◌, Bool, true, false, not, nat_lt, if◌then◌else◌, ◌&&◌, ◌||◌, ◌==◌, ◌⊎◌, List, [], ◌∷◌, ◌++◌, length, drop, slice_index, Option, Some, None, IsTrue, IsFalse, codes, encode_utf8_all}
 use Rattle.saphyr_input.specs.Classes.{is_blank, is_break, is_breakz, is_blank_or_breakz, is_flow, is_yaml_non_break, is_anchor_char, is_one_of, byte_order_mark}
 use Rattle.saphyr_input.specs.Places.{is_document_start, is_document_end, is_document_indicator, is_blank_or_break}
@@ -49,7 +49,7 @@ pub data IsReached : Marker → List ℕ → Marker → List ℕ → Type 0 wher
   line_break : (m : Marker) (t : List ℕ) (n : Marker) (u : List ℕ) → IsTrue (is_break (slice_index t 0))
       → IsReached (next_line m (break_len t)) (drop (break_len t) t) n u → IsReached m t n u
 
--- a place, or behind the last line, which no break ends, the start of the next
+-- a place, or after the last line, which no break ends, the start of the next
 abbrev pub IsPlaceOrEnd : Cursor → Marker → Type 0
 IsPlaceOrEnd s m = (m ≡ s.mark) ⊎ ((s.rest ≡ []) × (m ≡ next_line s.mark 0))
 
@@ -58,9 +58,9 @@ abbrev pub IsPlaceOf : List ℕ → Marker → Type 0
 IsPlaceOf text m = (s : Cursor) × IsReached (start_cursor text).mark text s.mark s.rest × IsPlaceOrEnd s m
     × (m.index ≤ length text)
 
--- ## What stands between tokens (6.6, 6.7)
+-- ## What is between tokens (6.6, 6.7)
 
--- blanks, breaks and comments. A comment is all of the line behind its `#`, up to a NUL or a byte order mark.
+-- blanks, breaks and comments. A comment is all of the line after its `#`, up to a NUL or a byte order mark.
 pub data IsPassedOver : Marker → List ℕ → Marker → List ℕ → Type 0 where
   nothing : (m : Marker) (t : List ℕ) → IsPassedOver m t m t
   blank : (m : Marker) (c : ℕ) (t : List ℕ) (n : Marker) (u : List ℕ) → IsTrue (is_blank c)
@@ -74,7 +74,7 @@ pub data IsPassedOver : Marker → List ℕ → Marker → List ℕ → Type 0 w
 abbrev pub AreApart : Cursor → Cursor → Type 0
 AreApart s t = IsPassedOver s.mark s.rest t.mark t.rest
 
--- from s blanks, and behind some a comment, reach up to the place m of its line
+-- from s blanks, and after some a comment, reach up to the place m of its line
 abbrev pub LiesOnLine : Cursor → Marker → Type 0
 LiesOnLine s m = (tail behind : List ℕ) × IsLineTail tail × (s.rest ≡ tail ++ behind) × (m ≡ along s.mark (length tail))
 
@@ -84,8 +84,8 @@ LiesOnLine s m = (tail behind : List ℕ) × IsLineTail tail × (s.rest ≡ tail
 abbrev pub HasNoText : Span → Cursor → Cursor → Type 0
 HasNoText span s t = (span.end ≡ span.start) × IsPlaceOrEnd s span.start × (t ≡ s)
 
--- 8.2: The start of a block collection stands right of the column of the collection around it, where the text of the
--- next token begins that has one: neither a blank, a break nor a comment stands there.
+-- 8.2: The start of a block collection is right of the column of the collection around it, where the text of the
+-- next token begins that has one: neither a blank, a break nor a comment is there.
 abbrev pub begins_text : ℕ → Bool
 begins_text c = not (is_blank_or_break c) && not (c == number_sign)
 
@@ -97,7 +97,7 @@ IsBlockStart indent span s t = (span.end ≡ span.start) × (span.start ≡ s.ma
 abbrev pub IsAtColumn : ℕ → Marker → Type 0
 IsAtColumn indent m = indent ≡ m.col + 1
 
--- 7.4, 8.2.2: the start of a key without a `?` stands where its text begins, outside flow at the column of its mapping
+-- 7.4, 8.2.2: the start of a key without a `?` is where its text begins, outside flow at the column of its mapping
 abbrev pub IsKeyStart : Bool → ℕ → Span → Cursor → Cursor → Type 0
 IsKeyStart in_flow indent span s t = (span.end ≡ span.start) × (span.start ≡ s.mark) × (t ≡ s)
     × IsTrue (begins_text (slice_index s.rest 0)) × (in_flow ≡ false → IsAtColumn indent s.mark)
@@ -111,7 +111,7 @@ BeginsNoContent text =
 abbrev pub IsContentEnd : Cursor → Type 0
 IsContentEnd s = (s.rest ≡ []) ⊎ ((s.mark.col ≡ 0) × BeginsNoContent s.rest)
 
--- 8.2: the end of the innermost block collection stands where the text goes on left of its column, or where the content
+-- 8.2: the end of the innermost block collection is where the text goes on left of its column, or where the content
 -- ends. Before it neither a blank, a break nor a comment is left.
 abbrev pub IsBlockEnd : ℕ → Span → Cursor → Cursor → Type 0
 IsBlockEnd indent span s t =
@@ -145,14 +145,14 @@ IsNameToken indicator bytes span s t =
     (name : List ℕ) × IsAnchorName name × (bytes ≡ encode_utf8_all name) × IsSpan span (indicator ∷ name) s t
     × IsFalse (is_anchor_char (slice_index t.rest 0))
 
--- 6.9, 6.9.1: a tag, behind which stands a blank, a break, NUL, the end, or inside flow a flow indicator. A verbatim
+-- 6.9, 6.9.1: a tag, after which is a blank, a break, NUL, the end, or inside flow a flow indicator. A verbatim
 -- tag's uri may be empty.
 abbrev pub IsTagToken : Bool → List ℕ → List ℕ → Span → Cursor → Cursor → Type 0
 IsTagToken in_flow front back span s t =
     (text handle suffix : List ℕ) × IsTagText text handle suffix × (front ≡ encode_utf8_all handle)
     × (back ≡ encode_utf8_all suffix) × IsSpan span text s t × EndsTag in_flow t.rest
 
--- 6.8: a directive at the start of a line, on which nothing else stands but a comment
+-- 6.8: a directive at the start of a line, on which nothing else is but a comment
 abbrev pub IsDirectiveToken : ReadDirective → Span → Cursor → Cursor → Type 0
 IsDirectiveToken d span s t =
     (text tail behind : List ℕ) × (s.mark.col ≡ 0) × IsReadDirective d text × IsSpan span text s t
@@ -160,22 +160,22 @@ IsDirectiveToken d span s t =
 
 -- ## Indicators (5.3)
 
--- the indicator c stands from s to t
+-- the indicator c is from s to t
 abbrev pub TakesCharacter : ℕ → Cursor → Cursor → Type 0
 TakesCharacter c s t = (s.rest ≡ c ∷ t.rest) × (t.mark ≡ along s.mark 1)
 
--- 7.4: a bracket or a comma, behind which the span has only blanks and a comment
+-- 7.4: a bracket or a comma, after which the span has only blanks and a comment
 abbrev pub IsFlowIndicator : ℕ → Span → Cursor → Cursor → Type 0
 IsFlowIndicator c span s t = TakesCharacter c s t × (span.start ≡ s.mark) × LiesOnLine t span.end
 
--- 8.2.1: `-` at the column of its collection, whose span is empty and stands behind the blanks and the comment that
+-- 8.2.1: `-` at the column of its collection, whose span is empty and comes after the blanks and the comment that
 -- follow
 abbrev pub IsDash : ℕ → Span → Cursor → Cursor → Type 0
 IsDash indent span s t =
     TakesCharacter hyphen s t × IsTrue (is_blank_or_breakz (slice_index t.rest 0)) × LiesOnLine t span.start
     × (span.end ≡ span.start) × IsAtColumn indent s.mark
 
--- 7.4.2, 8.2.2: `?`, whose span goes on over blanks, breaks and comments. Outside flow it stands at the column of its
+-- 7.4.2, 8.2.2: `?`, whose span goes on over blanks, breaks and comments. Outside flow it is at the column of its
 -- mapping.
 abbrev pub IsQuestionMark : Bool → ℕ → Span → Cursor → Cursor → Type 0
 IsQuestionMark in_flow indent span s t =
@@ -183,13 +183,13 @@ IsQuestionMark in_flow indent span s t =
     × ((behind : List ℕ) × IsPassedOver t.mark t.rest span.end behind)
     × (in_flow ≡ false → IsAtColumn indent s.mark)
 
--- what may stand behind a colon inside flow whatever stands before it: a blank, a break, NUL, the end or a flow
+-- what may come after a colon inside flow whatever comes before it: a blank, a break, NUL, the end or a flow
 -- indicator
 abbrev pub parts_colon : ℕ → Bool
 parts_colon c = is_blank_or_breakz c || is_flow c
 
--- 7.4.2, 8.2.2: `:`, before which the span stands, empty. Outside flow a blank, a break, NUL or the end follows. Inside
--- flow it is parted too, but behind a text that ends like JSON.
+-- 7.4.2, 8.2.2: `:`, before which the span is, empty. Outside flow a blank, a break, NUL or the end follows. Inside
+-- flow it is parted too, but after a text that ends like JSON.
 abbrev pub IsColon : Bool → Bool → Span → Cursor → Cursor → Type 0
 IsColon in_flow ends_json span s t =
     TakesCharacter colon s t × (in_flow ≡ false → IsTrue (is_blank_or_breakz (slice_index t.rest 0)))
@@ -198,7 +198,7 @@ IsColon in_flow ends_json span s t =
 
 -- ## Scalars (7.3, 8.1)
 
--- From quote to quote, behind which the span has only blanks and a comment. No later line begins with a document
+-- From quote to quote, after which the span has only blanks and a comment. No later line begins with a document
 -- marker, or left of the column of the innermost open block collection.
 abbrev pub IsQuotedToken : Quote → ℕ → List ℕ → Span → Cursor → Cursor → Type 0
 IsQuotedToken quote indent value span s t =
@@ -210,7 +210,7 @@ IsQuotedToken quote indent value span s t =
 abbrev pub may_begin_plain : ℕ → Bool
 may_begin_plain c = not (is_one_of (codes ",[]{}#&*!'\"%@`") c)
 
--- Where a token stands: whether inside brackets, the first column right of the innermost open block collection, 0 at
+-- Where a token is: whether inside brackets, the first column right of the innermost open block collection, 0 at
 -- the root, and whether the text before ends like JSON.
 pub record Surroundings : Type 0 where
   pub in_flow : Bool
@@ -219,8 +219,8 @@ pub record Surroundings : Type 0 where
 
 -- The span is the piece that is read. It begins with neither a blank nor a break, with `-`, `?` or `:` only where no
 -- blank, break or NUL follows, and with `|` or `>`, which begin a block scalar outside flow, only inside flow. Where
--- blanks and breaks behind it are passed no break stands behind those, so that none of two characters is cut. Outside
--- flow its later lines stand right of the column of the innermost open block collection; inside flow no tab stands left
+-- blanks and breaks after it are passed no break comes after those, so that none of two characters is cut. Outside
+-- flow its later lines are right of the column of the innermost open block collection; inside flow no tab is left
 -- of that.
 pub record IsPlainToken (in_flow : Bool) (indent : ℕ) (value : List ℕ) (span : Span) (s t : Cursor) : Type 0 where
   pub start : span.start ≡ s.mark
@@ -237,9 +237,9 @@ abbrev pub block_indicator : BlockStyle → ℕ
 block_indicator block_style.Literal = vertical_bar
 block_indicator block_style.Folded = greater_than
 
--- The least_column that is given counts from the innermost open block collection, whose content stands right of its
+-- The least_column that is given counts from the innermost open block collection, whose content is right of its
 -- column.
--- The span begins before the first content, and ends behind the lines.
+-- The span begins before the first content, and ends after the lines.
 pub record IsBlockScalarToken (style : BlockStyle) (indent : ℕ) (value : List ℕ) (span : Span) (s t : Cursor) : Type
     0 where
   pub begins : slice_index s.rest 0 ≡ block_indicator style
@@ -284,7 +284,7 @@ IsToken at (tokens.Anchor name) span s t = IsNameToken ampersand name span s t
 IsToken at (tokens.Tag handle suffix) span s t = IsTagToken at.in_flow handle suffix span s t
 IsToken at (tokens.Scalar style value) span s t = IsScalarToken style at value span s t
 
--- What is open where a token stands: the columns of the block collections, the innermost first, and how many brackets
+-- What is open where a token is: the columns of the block collections, the innermost first, and how many brackets
 -- and braces. And whether the text before ends like JSON: its last token that has a text is a quoted scalar, or the end
 -- of a flow collection.
 pub record Collections : Type 0 where
@@ -321,7 +321,7 @@ ends_json_behind tokens.BlockEntry span ends_json = false
 ends_json_behind tokens.Value span ends_json = false
 ends_json_behind _ span ends_json = if has_text span then false else ends_json
 
--- What is open behind a token. The start and the end of a single pair have no text, and open and close no bracket.
+-- What is open after a token. The start and the end of a single pair have no text, and open and close no bracket.
 abbrev pub collections_behind : Kind → Span → Collections → Collections
 collections_behind tokens.BlockSequenceStart span opened = with_columns (span.start.col ∷ opened.columns) opened
 collections_behind tokens.BlockMappingStart span opened = with_columns (span.start.col ∷ opened.columns) opened
@@ -349,7 +349,7 @@ surroundings_in opened = record {
   ends_json = opened.ends_json;
 }
 
--- tokens from one place to another, the first of which stands where these collections are open
+-- tokens from one place to another, the first of which is where these collections are open
 abbrev pub AreTokens : Collections → List Piece → Cursor → Cursor → Type 0
 AreTokens opened [] s u = u ≡ s
 AreTokens opened (p ∷ ps) s u =
@@ -361,7 +361,7 @@ abbrev pub IsEndOf : List ℕ → Option Refusal → Cursor → Type 0
 IsEndOf text None u = u.rest ≡ []
 IsEndOf text (Some e) u = IsPlaceOf text e.mark
 
--- the tokens, and the refusal if one ends them, are taken from the text, and each token may stand where it does
+-- the tokens, and the refusal if one ends them, are taken from the text, and each token may be where it is
 abbrev pub AreTakenFrom : List ℕ → Remaining → Type 0
 AreTakenFrom text r =
     (end : Cursor) × AreTokens no_collections r.pieces (start_cursor text) end × AreInPlace not_enclosed r.pieces

@@ -25,7 +25,7 @@ abbrev pub items_from : Quote → List ℕ → Option (Item × ℕ) → Option (
 items_from quote others first =
     option_and_then (λ first. option_map (λ items. first.0 ∷ items) (items_to_quote quote (pred first.1) others)) first
 
--- an item that stands first, before the closing quote
+-- an item that comes first, before the closing quote
 pub one_item : (quote : Quote) (c : ℕ) (others : List ℕ) (item : Item) (len : ℕ)
     → is_closing_at_end quote c others ≡ false → first_item quote (c ∷ others) ≡ Some (item, len) → 0 < len
     → items_to_quote quote zero (c ∷ others)
@@ -36,7 +36,7 @@ one_item quote c others item (suc n) unclosed first some =
     (items_from quote others (first_item quote (c ∷ others))) unclosed
     ∙ ap (items_from quote others) first ∙ ap (option_map (λ items. item ∷ items)) (passed_over quote n others)
 
--- the same behind the items before it
+-- the same after the items before it
 pub next_item : (quote : Quote) (text : List ℕ) (c : ℕ) (others behind : List ℕ) (front : List Item) (item : Item)
     (len : ℕ)
     → text ≡ c ∷ others → is_closing_at_end quote c others ≡ false → first_item quote text ≡ Some (item, len) → 0 < len

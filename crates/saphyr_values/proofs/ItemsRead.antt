@@ -53,7 +53,7 @@ long_first c digits back h =
     let enough : nat_le (length digits) (length (digits ++ back)) ≡ true = grind (arith, nat_tests) in
     rw (enough, take-append_seam, h) refl
 
--- what stands behind a backslash
+-- what comes after a backslash
 escape_first : (item : Item) (text back : List ℕ) → IsEscape item text
     → escape (text ++ back) ≡ Some (item, length text)
 escape_first (Escaped c) text back (inl (name, h, e)) =
@@ -75,7 +75,7 @@ escape_first (Blank c) text back h = absurd h
 escape_first (Raw c) text back h = absurd h
 escape_first Break text back h = absurd h
 
--- what is read first where a spelling stands, and that it has a first character
+-- what is read first where a spelling is, and that it has a first character
 abbrev pub IsReadFirst : Quote → Item → List ℕ → List ℕ → Type 0
 IsReadFirst quote item back front =
     (first_item quote (front ++ back) ≡ Some (item, length front))

@@ -25,7 +25,7 @@ kept_behind above n (Content text ∷ lines) =
     (append_assoc text rest end ∙ ap (λ (t : List ℕ). text ++ t) (kept_behind text zero lines))
     ∙ ap (λ (k : ℕ). line_feeds k ++ (text ++ (line_feed ∷ each_line lines))) (add-one n)
 
--- behind content it does not matter what stood before it
+-- after content it does not matter what was before it
 same_end : (m n : ℕ) (lines : List Line) → has_content lines ≡ true → empty_at_end m lines ≡ empty_at_end n lines
 same_end m n [] h = absurd (cc)
 same_end m n (Empty ∷ lines) h = same_end (suc m) (suc n) lines h

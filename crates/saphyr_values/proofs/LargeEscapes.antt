@@ -1,4 +1,4 @@
--- Hexadecimal digits behind a number that is too large.
+-- Hexadecimal digits after a number that is too large.
 use Rattle.std.proofs.Common.{◌≡◌, ℕ, ◌+◌, ◌*◌, ◌<◌, Bool, true, false, List, [], ◌∷◌, Option, None, refl, arith, cond}
 use Rattle.std.proofs.lemmas.Bool.Decides.{nat_tests}
 use Rattle.saphyr_input.specs.Classes.{is_hex, hex_value}

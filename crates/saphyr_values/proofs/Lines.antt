@@ -8,7 +8,7 @@ use Rattle.saphyr_input.specs.Classes.{line_feed}
 use Rattle.saphyr_values.specs.Block.{line_of, lines_of}
 use Rattle.saphyr_values.specs.Lines.{before_first_line, ended_lines, last_line, has_break, HasNoBreak, IsFirstLine}
 
--- how many characters stand before the first break
+-- how many characters come before the first break
 abbrev pub line_len : List ℕ → ℕ
 line_len text = prefix_len (λ c. not (c == line_feed)) text
 

@@ -1,4 +1,4 @@
--- The reading of block scalars (YAML 1.2.2, 8.1), over the text behind the header's line. Its breaks are normalized.
+-- The reading of block scalars (YAML 1.2.2, 8.1), over the text after the header's line. Its breaks are normalized.
 use Rattle.std.specs.Prelude.{ℕ, zero, suc, ◌+◌, Bool, true, false, nat_le, not, ◌&&◌, ◌||◌, ◌==◌, if◌then◌else◌, List, [], ◌∷◌, ◌++◌, map, drop, length, slice_index}
 use Rattle.std.specs.List.{list_all}
 use Rattle.saphyr_input.specs.Classes.{line_feed, space, is_blank}
@@ -29,7 +29,7 @@ has_content [] = false
 has_content (Empty ∷ lines) = has_content lines
 has_content (Content text ∷ lines) = true
 
--- 8.1.3: a content line that begins with white space, behind the indentation
+-- 8.1.3: a content line that begins with white space, after the indentation
 abbrev pub is_more_indented : List ℕ → Bool
 is_more_indented text = is_blank (slice_index text 0)
 
@@ -40,7 +40,7 @@ break_between Literal above empty_lines below = line_feeds (empty_lines + 1)
 break_between Folded above empty_lines below =
     if is_more_indented above || is_more_indented below then line_feeds (empty_lines + 1) else raw_break empty_lines
 
--- what the lines read as behind the content line `above` and some empty lines, up to the last content
+-- what the lines read as after the content line `above` and some empty lines, up to the last content
 abbrev pub contents_behind : BlockStyle → List ℕ → ℕ → List Line → List ℕ
 contents_behind style above empty_lines [] = []
 contents_behind style above empty_lines (Empty ∷ lines) = contents_behind style above (suc empty_lines) lines
@@ -53,13 +53,13 @@ contents style [] = []
 contents style (Empty ∷ lines) = line_feed ∷ contents style lines
 contents style (Content first ∷ lines) = first ++ contents_behind style first zero lines
 
--- how many empty lines end the lines, of which some stand before them
+-- how many empty lines end the lines, of which some come before them
 abbrev pub empty_at_end : ℕ → List Line → ℕ
 empty_at_end before [] = before
 empty_at_end before (Empty ∷ lines) = empty_at_end (suc before) lines
 empty_at_end before (Content text ∷ lines) = empty_at_end zero lines
 
--- 8.1.1.2: what stays of the break of the last content line, which may lack one, and of the empty lines behind it
+-- 8.1.1.2: what stays of the break of the last content line, which may lack one, and of the empty lines after it
 abbrev pub chomped : Chomping → Bool → ℕ → List ℕ
 chomped Strip broken empty_lines = []
 chomped Clip broken empty_lines = if broken then line_feed ∷ [] else []
@@ -82,8 +82,8 @@ is_at_end AtEnd = true
 is_at_end AtMark = false
 
 -- Whether the last line, which no break ends, counts. One of spaces, at most as many as the indentation, counts at the
--- end alone, and only where it has a space: behind content where it reaches the indentation, and without content where
--- it stands alone behind the header's line.
+-- end alone, and only where it has a space: after content where it reaches the indentation, and without content where
+-- it is alone after the header's line.
 abbrev pub is_counted : ℕ → List Line → List ℕ → Ending → Bool
 is_counted indentation lines last ending =
     if is_empty_line indentation last then
@@ -107,7 +107,7 @@ counted_lines indentation text ending =
     ++ (if is_counted indentation (lines_of indentation text) (last_line text) ending then line_of indentation
     (last_line text) ∷ [] else [])
 
--- the value of a block scalar, from the text behind its header's line
+-- the value of a block scalar, from the text after its header's line
 abbrev pub block_value : BlockStyle → Chomping → ℕ → List ℕ → Ending → List ℕ
 block_value style chomping indentation text ending =
     lines_value style chomping (is_broken indentation (last_line text) ending) (counted_lines indentation text ending)

@@ -4,7 +4,7 @@ use Rattle.saphyr_input.specs.Classes.{line_feed, is_from, is_hex, hex_value}
 use Rattle.saphyr_values.specs.declared.folding.Item.{Item}
 use Rattle.saphyr_values.specs.declared.folding.Item.TheVariants.{Escaped, EscapedBreak}
 
--- what a character behind a backslash stands for, where it is a whole escape
+-- what a character after a backslash stands for, where it is a whole escape
 unfoldable pub short_escape : ℕ → Option ℕ
 short_escape name =
     if name == 0x30 then Some 0x00  -- 0
@@ -42,7 +42,7 @@ is_scalar_value n = nat_lt n 0xD800 || is_from 0xE000 0x10FFFF n
 abbrev pub IsScalarValue : ℕ → Type 0
 IsScalarValue n = (n < 0xD800) ⊎ ((0xDFFF < n) × (n ≤ 0x10FFFF))
 
--- the character whose number hexadecimal digits spell, behind those that spell `number`
+-- the character whose number hexadecimal digits spell, after those that spell `number`
 abbrev pub hex_character : ℕ → List ℕ → Option ℕ
 hex_character number [] = if is_scalar_value number then Some number else None
 hex_character number (d ∷ ds) = if is_hex d then hex_character (number * 16 + hex_value d) ds else None
@@ -56,7 +56,7 @@ abbrev pub escape_named : Option ℕ → Option (ℕ × ℕ) → Option (Item ×
 escape_named (Some c) long = Some (Escaped c, 1)
 escape_named None long = option_map (λ x. (Escaped x.0, x.1 + 1)) long
 
--- the item that a text spells behind a backslash, and how many characters of the text that takes
+-- the item that a text spells after a backslash, and how many characters of the text that takes
 abbrev pub escape : List ℕ → Option (Item × ℕ)
 escape [] = None
 escape (name ∷ text) =

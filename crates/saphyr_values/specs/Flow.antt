@@ -41,7 +41,7 @@ abbrev pub is_closing_at_end : Quote → ℕ → List ℕ → Bool
 is_closing_at_end quote c [] = c == mark quote
 is_closing_at_end quote c (d ∷ text) = false
 
--- The items of a text behind the opening quote, up to the closing quote at its end.
+-- The items of a text after the opening quote, up to the closing quote at its end.
 -- `taken` is how many characters at the front belong to the item before.
 abbrev pub items_to_quote : Quote → ℕ → List ℕ → Option (List Item)
 items_to_quote quote taken [] = None

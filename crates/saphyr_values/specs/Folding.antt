@@ -4,7 +4,7 @@ use Rattle.saphyr_input.specs.Classes.{line_feed, space}
 use Rattle.saphyr_values.specs.declared.folding.Item.{Item}
 use Rattle.saphyr_values.specs.declared.folding.Item.TheVariants.{Blank, Raw, Escaped, Break, EscapedBreak}
 
--- whether a raw break comes first, behind blanks or none
+-- whether a raw break comes first, after blanks or none
 abbrev pub is_before_break : List Item → Bool
 is_before_break [] = false
 is_before_break (Blank c ∷ items) = is_before_break items
@@ -13,7 +13,7 @@ is_before_break (Raw c ∷ items) = false
 is_before_break (Escaped c ∷ items) = false
 is_before_break (EscapedBreak ∷ items) = false
 
--- How many empty lines follow a break that stands before the items: lines of blanks alone that a raw break ends.
+-- How many empty lines follow a break that comes before the items: lines of blanks alone that a raw break ends.
 abbrev pub empty_lines : List Item → ℕ
 empty_lines [] = zero
 empty_lines (Blank c ∷ items) = empty_lines items
@@ -54,7 +54,7 @@ AreBlankItems (Escaped c ∷ items) = ⊥
 AreBlankItems (Break ∷ items) = ⊥
 AreBlankItems (EscapedBreak ∷ items) = ⊥
 
--- so many raw breaks, with any blanks before, between and behind them
+-- so many raw breaks, with any blanks before, between and after them
 abbrev pub AreBreaks : ℕ → List Item → Type 0
 AreBreaks zero items = AreBlankItems items
 AreBreaks (suc n) items =

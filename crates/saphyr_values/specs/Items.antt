@@ -22,7 +22,7 @@ abbrev pub IsLongEscape : ℕ → List ℕ → Type 0
 IsLongEscape c text = (name : ℕ) × (digits : List ℕ) × (digit_count name ≡ Some (length digits))
     × (hex_character 0 digits ≡ Some c) × (text ≡ name ∷ digits)
 
--- what stands behind a backslash
+-- what comes after a backslash
 abbrev pub IsEscape : Item → List ℕ → Type 0
 IsEscape (Escaped c) text = IsShortEscape c text ⊎ IsLongEscape c text
 IsEscape EscapedBreak text = text ≡ line_feed ∷ []

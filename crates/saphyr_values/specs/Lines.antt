@@ -19,7 +19,7 @@ ended_lines (c ∷ cs) = before_lines c (ended_lines cs)
 abbrev pub has_break : List ℕ → Bool
 has_break text = list_any (λ c. c == line_feed) text
 
--- what stands behind a text's last break, or all of it where there is none
+-- what comes after a text's last break, or all of it where there is none
 abbrev pub last_line : List ℕ → List ℕ
 last_line [] = []
 last_line (c ∷ cs) = (if has_break (c ∷ cs) then [] else c ∷ []) ++ last_line cs
@@ -27,7 +27,7 @@ last_line (c ∷ cs) = (if has_break (c ∷ cs) then [] else c ∷ []) ++ last_l
 abbrev pub HasNoBreak : List ℕ → Type 0
 HasNoBreak text = (ended_lines text ≡ []) × (last_line text ≡ text)
 
--- a text's first line, up to a break, and what stands behind it
+-- a text's first line, up to a break, and what comes after it
 pub record IsFirstLine (text line others : List ℕ) : Type 0 where
   pub ended : ended_lines text ≡ line ∷ ended_lines others
   pub last : last_line text ≡ last_line others

@@ -59,7 +59,7 @@ module _ (w : Walk) where
   IsFailed None = Unit {0}
   IsFailed (Some e) = (f : Refusal) × (e ≡ ending_of f) × w.Fails f
 
-  -- the spans of all events, and the fault behind them
+  -- the spans of all events, and the fault after them
   pub record Holds (a : Answer) : Type 0 where
     pub spans : All (λ (e : Happening × Span). w.Spans e.1.start e.1.end) a.events
     pub fault : IsFailed a.fault

@@ -105,7 +105,7 @@ module _ (w : Walk) where
   unfolding block_value_node
   value_nodes s m i a = taken w m _ a (λ t k b. value_nodes_at t.kind s t k i b)
 
-  -- a key behind a token that is no value
+  -- a key after a token that is no value
   left_key : {k : Kind} (t : Piece) (m : Machine) → is_value k ≡ false → Taken w 11 k t m
       → StepGives w (left_out_event t state.BlockMappingKey t.span m)
   left_key t m e a = (

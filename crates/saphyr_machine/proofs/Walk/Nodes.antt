@@ -91,7 +91,7 @@ module _ (w : Walk) where
   no_content p t m l s a =
       either (has_property p) _ _ (λ e. (s, left w (put_back t m) (put w m (l e) a))) (refused w m a)
 
-  -- properties, if there are any, stand before the token
+  -- properties, if there are any, come before the token
   contents_at : {d : ℕ} (k : Kind) (p : NodeProperties) (c : NodeContext) (t : Piece) (m : Machine)
       → (has_property p ≡ true → 10 ≤ d) → room c ≤ d → w.Spans p.start p.behind → w.Spans p.behind t.span.start
       → Taken w d k t m → StepGives w (node_content_at k p c t m)
@@ -127,7 +127,7 @@ module _ (w : Walk) where
           (no_content p t m l s a)
       by _ a = no_content p t m l s a
 
-  -- behind properties
+  -- after properties
   contents : {k : Kind} (p : NodeProperties) (c : NodeContext) (t : Piece) (m : Machine) → w.Spans p.start p.behind
       → w.Spans p.behind t.span.start → Taken w 11 k t m → StepGives w (node_content p c t m)
   unfolding node_content

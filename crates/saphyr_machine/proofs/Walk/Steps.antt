@@ -17,12 +17,12 @@ abbrev pub is_end : Kind → Bool
 is_end tokens.StreamEnd = true
 is_end _ = false
 
--- The room counts what may still be done, as weights do: a token that is taken gives 10, what is expected behind a node
+-- The room counts what may still be done, as weights do: a token that is taken gives 10, what is expected after a node
 -- takes its weight, and a step ends where 10 are left.
 pub record Walk : Type 1 where
   -- from one place up to another
   pub Spans : Marker → Marker → Type 0
-  -- tokens that stand from a place on, with a room and what ends them
+  -- tokens that are from a place on, with a room and what ends them
   pub Ahead : Marker → ℕ → Option Refusal → List Piece → Type 0
   -- the same between two steps, where a state is expected
   pub Rests : State → ℕ → Option Refusal → List Piece → Type 0
@@ -55,7 +55,7 @@ abbrev pub HavePlaces : (Marker → Marker → Type 0) → List State → Type 0
 HavePlaces S [] = Unit {0}
 HavePlaces S (s ∷ ss) = HasPlace S s × HavePlaces S ss
 
--- tokens with what is expected behind the nodes that are open, and the room beside that
+-- tokens with what is expected after the nodes that are open, and the room beside that
 pub record On (w : Walk) (low : Marker) (d : ℕ) (r : Option Refusal) (ts : List Piece) (ss : List State) : Type 0 where
   pub pieces : w.Ahead low (d + total_weight ss) r ts
   pub places : HavePlaces w.Spans ss
@@ -120,7 +120,7 @@ module _ (w : Walk) where
     places = a.1.places;
   }
 
-  -- what is expected behind a node that is opened takes some of the room
+  -- what is expected after a node that is opened takes some of the room
   pub pushed : {low : Marker} {c d : ℕ} {r : Option Refusal} {ts : List Piece} {ss : List State} (s : State)
       → HasPlace w.Spans s → weight s + c ≤ d → On w low d r ts ss → On w low c r ts (s ∷ ss)
   pushed s p l a = record { pieces = w.less _ _ _ _ _ (omega (arith, l)) a.pieces; places = (p, a.places) }

@@ -19,7 +19,7 @@ block_node m = do
 
 -- ## Sequences
 
--- behind a `-` with this span
+-- after a `-` with this span
 abbrev pub block_sequence_node_at : Kind → Span → Piece → Machine → Result Told Refusal
 block_sequence_node_at BlockEntry s t m = left_out_event t state.BlockSequenceEntry s m
 block_sequence_node_at BlockEnd s t m = left_out_event t state.BlockSequenceEntry s m
@@ -65,7 +65,7 @@ indentless_sequence_entry m = do
 
 -- ## Mappings
 
--- behind a key's token; a key that is left out has the span of what follows
+-- after a key's token; a key that is left out has the span of what follows
 abbrev pub block_key_node_at : Kind → Piece → Machine → Result Told Refusal
 block_key_node_at Key t m = left_out_event t state.BlockMappingValue t.span m
 block_key_node_at Value t m = left_out_event t state.BlockMappingValue t.span m
@@ -88,7 +88,7 @@ block_mapping_key m = do
   t ← taken_token m
   block_mapping_key_at t.0.kind t.0 t.1
 
--- behind a value's token with this span
+-- after a value's token with this span
 abbrev pub block_value_node_at : Kind → Span → Piece → Machine → Result Told Refusal
 block_value_node_at Key s t m = left_out_event t state.BlockMappingKey s m
 block_value_node_at Value s t m = left_out_event t state.BlockMappingKey s m

@@ -77,7 +77,7 @@ directives_from (t ∷ ts) d m =
     if is_directive t.kind then directive_at t.kind t d (with_pieces ts m) >>= (λ s. directives_from ts s.0 s.1)
     else Ok (t, with_pieces ts m)
 
--- the first token behind the directives
+-- the first token after the directives
 unfoldable pub directives : Declared → Machine → Result (Piece × Machine) Refusal
 directives d m = directives_from m.tokens.pieces d m
 
@@ -158,7 +158,7 @@ document_content m = do
   t ← taken_token m
   document_content_at t.0.kind t.0 t.1
 
--- behind the byte order marks at the end of a document, of which the first has this place
+-- after the byte order marks at the end of a document, of which the first has this place
 abbrev pub token_behind_marks_at : Kind → Marker → Piece → Machine → Result (Piece × Machine) Refusal
 token_behind_marks_at tokens.DocumentStart place t m = Ok (t, m)
 token_behind_marks_at tokens.DocumentEnd place t m = Ok (t, m)
@@ -174,7 +174,7 @@ abbrev pub token_behind_document_at : Kind → Piece → Machine → Result (Pie
 token_behind_document_at tokens.ByteOrderMark t m = token_behind_marks t.span.start m
 token_behind_document_at _ t m = Ok (t, m)
 
--- the token that stands behind a document and its byte order marks
+-- the token that comes after a document and its byte order marks
 unfoldable pub token_behind_document : Machine → Result (Piece × Machine) Refusal
 token_behind_document m = do
   t ← taken_token m

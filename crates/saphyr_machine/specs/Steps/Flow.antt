@@ -50,7 +50,7 @@ flow_sequence_entry_mapping_key m = do
   t ← taken_token m
   flow_sequence_entry_mapping_key_at t.0.kind t.0 t.1
 
--- behind the colon of such a pair; the pair ends behind the first token of its value
+-- after the colon of such a pair; the pair ends after the first token of its value
 abbrev pub flow_sequence_entry_mapping_node_at : Kind → Piece → Machine → Result Told Refusal
 flow_sequence_entry_mapping_node_at FlowEntry t m = left_out_event t
     (state.FlowSequenceEntryMappingEnd t.span.end) t.span m
@@ -78,7 +78,7 @@ flow_sequence_entry_mapping_end place m = told_event MappingEnd (record { start 
 
 -- ## Mappings
 
--- behind a key's token
+-- after a key's token
 abbrev pub flow_key_node_at : Kind → Piece → Machine → Result Told Refusal
 flow_key_node_at Value t m = left_out_event t state.FlowMappingValue t.span m
 flow_key_node_at FlowEntry t m = left_out_event t state.FlowMappingValue t.span m
@@ -117,7 +117,7 @@ flow_mapping_key m = do
   t ← taken_token m
   flow_mapping_key_at t.0.kind t.0 t.1
 
--- behind a value's token with this span
+-- after a value's token with this span
 abbrev pub flow_value_node_at : Kind → Span → Piece → Machine → Result Told Refusal
 flow_value_node_at FlowEntry s t m = left_out_event t state.FlowMappingKey s m
 flow_value_node_at FlowMappingEnd s t m = left_out_event t state.FlowMappingKey s m

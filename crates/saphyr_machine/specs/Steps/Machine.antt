@@ -61,7 +61,7 @@ with_anchor name a = record { ids = with_meaning name (next_id a) a.ids; last = 
 
 -- ## The state
 
--- the tokens still to be read, what is expected now, and what is expected behind each node that is open, the innermost
+-- the tokens still to be read, what is expected now, and what is expected after each node that is open, the innermost
 -- first
 pub record Machine : Type 0 where
   pub tokens : Remaining
@@ -107,7 +107,7 @@ abbrev pub pop_from : List State → Machine → Machine
 pop_from [] m = record m { state = state.End; states = [] }
 pop_from (s ∷ ss) m = record m { state = s; states = ss }
 
--- what is expected behind the node that has ended
+-- what is expected after the node that has ended
 abbrev pub pop : Machine → Machine
 pop m = pop_from m.states m
 

@@ -17,7 +17,7 @@ use Rattle.saphyr_machine.specs.Steps.Machine.{◌>>=◌, Machine, Told, told_ev
 use Rattle.saphyr_machine.specs.Steps.Contexts.{allows_block, allows_indentless}
 use Rattle.saphyr_machine.specs.Steps.Tags.{resolved_tag_at}
 
--- from where to where properties stand, the id of their anchor, 0 for none, and their tag
+-- from where to where properties are, the id of their anchor, 0 for none, and their tag
 pub record NodeProperties : Type 0 where
   pub start : Marker
   pub behind : Marker
@@ -73,7 +73,7 @@ node_content_at _ p c t m = node_without_content p t m
 unfoldable pub node_content : NodeProperties → NodeContext → Piece → Machine → Result Told Refusal
 node_content p c t m = node_content_at t.kind p c t m
 
--- the content of a node behind its properties
+-- the content of a node after its properties
 unfoldable pub next_content : NodeProperties → NodeContext → Machine → Result Told Refusal
 next_content p c m = do
   t ← taken_token m
@@ -89,7 +89,7 @@ alias_node name s m = alias_of (meaning name m.anchors.ids) s m
 abbrev pub register : List ℕ → Machine → Machine
 register name m = record m { anchors = with_anchor name m.anchors }
 
--- behind an anchor that got the id
+-- after an anchor that got the id
 abbrev pub node_behind_anchor_at : Kind → ℕ → Span → NodeContext → Piece → Machine → Result Told Refusal
 node_behind_anchor_at (tokens.Tag handle suffix) id s c t m = do
   tag ← resolved_tag_at m.prefixes handle suffix s.start
@@ -102,7 +102,7 @@ node_behind_anchor name s c m = do
   t ← taken_token (register name m)
   node_behind_anchor_at t.0.kind (next_id m.anchors) s c t.0 t.1
 
--- behind a tag
+-- after a tag
 abbrev pub node_behind_tag_at : Kind → ResolvedTag → Span → NodeContext → Piece → Machine → Result Told Refusal
 node_behind_tag_at (tokens.Anchor name) tag s c t m =
     next_content (record { start = s.start; behind = t.span.end; anchor = next_id m.anchors; tag = Some tag }) c
@@ -126,6 +126,6 @@ node_at _ c t m = node_content (no_node_properties t.span.start) c t m
 unfoldable pub node : NodeContext → Piece → Machine → Result Told Refusal
 node c t m = node_at t.kind c t m
 
--- a node inside a collection, which goes on in the state behind it
+-- a node inside a collection, which goes on in the state after it
 abbrev pub node_inside : State → NodeContext → Piece → Machine → Result Told Refusal
 node_inside s c t m = node c t (push s m)

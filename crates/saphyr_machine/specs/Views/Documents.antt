@@ -5,7 +5,7 @@ use Rattle.saphyr_machine.specs.declared.document.Declared as code
 use Rattle.saphyr_machine.specs.Steps.Machine.{Names}
 use Rattle.saphyr_machine.specs.Steps.Documents.{Declared}
 
--- The handles of a document's directives stand apart, or, where no prefix was declared before, they are those of the
+-- The handles of a document's directives are apart, or, where no prefix was declared before, they are those of the
 -- prefixes.
 abbrev pub handles_of : Bool → List (List ℕ) → Names (List ℕ) → List (List ℕ)
 handles_of apart handles prefixes = if apart then handles else keys_of prefixes

@@ -1,4 +1,4 @@
--- What holds of each parser behind a call of `load`.
+-- What holds of each parser after a call of `load`.
 use Rattle.std.proofs.Common.{◌≡◌, Bool, true, false, Option, Some, None, Result, Ok, Err, refl, sym, subst}
 use Rattle.saphyr_scalar.specs.declared.scalar.position.Span.{Span}
 use Rattle.saphyr_machine.specs.declared.fault.Fault.{Fault}

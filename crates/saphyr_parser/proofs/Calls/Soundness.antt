@@ -1,4 +1,4 @@
--- What holds of each parser: at its start, and behind each call.
+-- What holds of each parser: at its start, and after each call.
 use Rattle.std.proofs.Common.{◌≡◌, Bool, List, [], ◌∷◌, Option, Some, None, Result, Ok, Err, refl, sym, ap, subst, arith}
 use Rattle.std.specs.Borrow.{Bor}
 use Rattle.saphyr_scalar.specs.declared.scalar.position.Span.{Span}
@@ -18,7 +18,7 @@ use Rattle.saphyr_machine.proofs.Calls.Handing.{goes_on}
 use Rattle.saphyr_machine.proofs.Calls.Looking.{looks_stays, shows_head}
 use Rattle.saphyr_parser.proofs.Calls.StreamEnds.{closes}
 
--- ## Behind an event
+-- ## After an event
 
 abbrev IfEnd : Happening → Type 0 → Type 0
 IfEnd StreamEnd P = P
@@ -90,7 +90,7 @@ sound_over [] old new same s = subst IsSound (sym same) s
 sound_over (e ∷ es) old new (middle, first, others) s =
     sound_over es middle new others (sound_advances e old middle first s)
 
--- ## Behind a fault
+-- ## After a fault
 
 not_none : (f : Fault) → Refuses f empty_answer → ⊥
 not_none (fault.Scan e) h =
@@ -125,7 +125,7 @@ sound_gives None old new (done, same) s = subst IsSound (sym same) s
 sound_gives (Some (Ok e)) old new h s = sound_advances (event_of e) old new h s
 sound_gives (Some (Err f)) old new h s = sound_fails f old new h s
 
--- ## Behind a look
+-- ## After a look
 
 no_end : (f : Ending) → Ends f empty_answer → ⊥
 no_end (answer.Refused mark text) h =

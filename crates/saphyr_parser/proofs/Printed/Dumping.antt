@@ -36,7 +36,7 @@ prints_more a b c old mid new e p h q = record {
   taken = rw (lines_push p.printed e) (Appends-trans old mid new _ _ p.taken q);
 }
 
--- the events that were passed stand before those that are left
+-- the events that were passed come before those that are left
 prints_of : (a b : EventCursor) (old new : Option (List ℕ)) → PrintsUpTo a b old new
     → Prints (to_come a) (to_come b) old new
 prints_of a b old new p =

@@ -45,7 +45,7 @@ pub plain_lost : (a b c : Option (List ℕ)) (text rest plain others : List ℕ)
 plain_lost a b c text rest plain others e p up q =
     loses_piece a b c _ _ _ _ (printed_behind_plain rest plain others e p) up q
 
--- the escape of the next byte is put behind those of the bytes before it
+-- the escape of the next byte is put after those of the bytes before it
 next_escape : (text : List ℕ) (read : ℕ) → read < length text
     → printed_bytes (take (read + 1) text) ≡ printed_bytes (take read text) ++ printed_byte (slice_index text read)
 next_escape text read l =

@@ -32,7 +32,7 @@ line_of front text rest k e l =
     ∙ ap (λ xs. xs ++ text) (take-append_seam front rest))
     ∙ append_assoc front text (10 ∷ [])
 
--- the front and the text were copied into the array, and the line's end stands behind them
+-- the front and the text were copied into the array, and the line's end comes after them
 pub line_filled : (front text one two zeros : List ℕ) → one ≡ front → two ≡ text
     → length front + length text < length zeros
     → take (length front + length text + 1)

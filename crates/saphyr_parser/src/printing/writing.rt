@@ -11,7 +11,7 @@ use std::io::Write;
 use std::simd::prelude::*;
 
 /// The writer returned an error, or took none of some bytes.
-#[derive(Clone, Copy, Debug)]
+#[derive(Clone, Copy)]
 pub struct Unwritten;
 
 // Writes all bytes. Most writers take them at once, and that case is inlined.

@@ -30,7 +30,7 @@ place_counted opening.Key t r = omega arith
 place_counted opening.BlockMappingAndKey t r = omega arith
 place_counted opening.FlowMappingAndKey t r = omega arith
 
--- the tokens of the places, and those behind them
+-- the tokens of the places, and those after them
 handed_counted : (m n : ℕ) (go : State → Remaining) (c : Core)
     → ((k : ℕ) (ps : List Place) → length (go (holding c ps k)).pieces + m ≤ tokens_in ps + n)
     → (k : ℕ) (ps : List Place) → length (hand_out ps go (holding c ps k)).pieces + m ≤ tokens_in ps + n

@@ -36,7 +36,7 @@ abbrev pub tokens_in : List Place → ℕ
 tokens_in [] = 0
 tokens_in (p ∷ ps) = tokens_at p.opening + tokens_in ps
 
--- how many more there are behind an action, at most
+-- how many more there are after an action, at most
 abbrev pub added : List Action → ℕ
 added [] = 0
 added (Put t ∷ others) = 1 + added others

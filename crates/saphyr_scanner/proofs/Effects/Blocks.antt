@@ -43,7 +43,7 @@ reaches_on s t u a p = reaches_reaches s t u a (apart_reached t.mark t.rest u.ma
 
 -- ## `-`
 
--- behind what follows a `-` on its line, where no key is left
+-- after what follows a `-` on its line, where no key is left
 abbrev Behind : Core → Core → Type 0
 Behind c d = Same (forget_key c) d × OnLine c.cursor d.cursor
 
@@ -64,7 +64,7 @@ dash_walked b s c a =
     (λ _ _. at_reach s d.cursor (there d g.1))
     (λ _. ((ap (λ (l : Level). record { context = l.context; key = None }) g.0.0, g.0.1, g.0.2), g.1)))
 
--- from c, which stands before the `-`, at the column of its collection, which may have begun
+-- from c, which comes before the `-`, at the column of its collection, which may have begun
 dash : {A : Type 0} (g : Begun) (c d : Core) → slice_index c.cursor.rest 0 ≡ hyphen
     → is_blank_or_breakz (slice_index c.cursor.rest 1) ≡ true → in_block c ≡ true → c.key_allowed ≡ true
     → IsAtColumn c.indent c.cursor.mark
@@ -140,7 +140,7 @@ block_entry_does c deep first second =
 
 -- ## `?`
 
--- behind what follows a `?`, where no key is left
+-- after what follows a `?`, where no key is left
 abbrev Asked : Core → Core → Type 0
 Asked c d = Same (forget_key c) d × AreApart (pass 1 c.cursor) d.cursor
 
@@ -158,7 +158,7 @@ question_walked A c a =
     (λ _. by_test (not t.space) _ _ P (λ _ _. there)
     (λ _. by_test (slice_index t.cursor.rest 0 == 9) _ _ P (λ _ _. there) (λ _. ((refl, refl, λ n. n), p))))
 
--- what encloses the tokens behind a `?`
+-- what encloses the tokens after a `?`
 question_encloses : (x : Context) (outside : Outside)
     → free (enclosure_of (behind_question x)) outside
     ≡ free (place.behind_question (enclosure_of x)) outside
@@ -166,7 +166,7 @@ question_encloses context.FlowSequence outside = refl
 question_encloses context.FlowPair outside = refl
 question_encloses _ outside = refl
 
--- From c, which stands before the `?`, outside flow at the column of its mapping, which may have begun. The context
+-- From c, which comes before the `?`, outside flow at the column of its mapping, which may have begun. The context
 -- before was x.
 question : {A : Type 0} (g : Begun) (x : Context) (c d : Core) → c.level.context ≡ behind_question x
     → c.level.key ≡ None → slice_index c.cursor.rest 0 ≡ question_mark

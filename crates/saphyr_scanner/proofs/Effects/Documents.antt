@@ -82,7 +82,7 @@ pub record Documented (s t : State) : Type 0 where
   pub holds : TextLaws → (opened : Setting) (from : Cursor) → HoldsState opened from s → HoldsState opened from t
   pub comment : NoComment s.core t.core
 
--- behind the content, a step that saves no key
+-- after the content, a step that saves no key
 documented : (s t : State) (x : Step) → Content s t → NoComment t.core x.core
     → Does (Unit {0}) None 1 5 t.core x.core x.actions
     → Documented s (record { core = x.core; queue = perform x.actions t.queue })
@@ -93,7 +93,7 @@ documented s t x c m d = record {
   comment = λ n. m (c.comment n);
 }
 
--- the token of a text that stands here
+-- the token of a text that is here
 spelled : {A : Type 0} (c d : Core) → c.level.key ≡ None → (kind : Kind) (text : List ℕ)
     → c.cursor.rest ≡ text ++ d.cursor.rest
     → d.cursor.mark.index ≡ c.cursor.mark.index + length text → 0 < length text → is_quiet kind ≡ true

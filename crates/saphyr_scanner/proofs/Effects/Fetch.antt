@@ -48,7 +48,7 @@ deep_of : (deeper : Bool) (i col : ℕ) → nat_lt col (cond deeper i (i - 1)) �
 deep_of true i col e = let h = ltb-false col i e in omega (arith, h)
 deep_of false i col e = let h = ltb-false col (i - 1) e in omega (arith, h)
 
--- no token stands where the line is not indented enough
+-- no token is where the line is not indented enough
 pub deep_here : (c : Core) → nat_lt c.cursor.mark.col (least_column c) ≡ false → IsDeep c
 deep_here c e _ = deep_of c.deeper c.indent c.cursor.mark.col e
 
@@ -215,7 +215,7 @@ here_fetched s going =
     (λ e. of_advances s _ going (after_step_fetches _ s (step (slice_index t 0) (slice_index t 1) (next s.queue) s.core)
     (step_effect (slice_index t 0) (slice_index t 1) (next s.queue) s.core h refl refl (deep_here s.core e)))))))))
 
--- what stands before the next token is passed
+-- what comes before the next token is passed
 pub arrival_goes : (c : Core) → Given (Goes 0 c.cursor c) (pass_gap c >>= drop_far_key)
 arrival_goes c =
     given_bind (Goes 0 c.cursor c) (pass_gap c) drop_far_key

@@ -46,7 +46,7 @@ pub record Bracket (x : ℕ) (kind : Kind) : Type 0 where
   pub unbound : is_unbound kind ≡ true
   pub is : (i : Surroundings) (span : Span) (s t : Cursor) → IsFlowIndicator x span s t → IsToken i kind span s t
 
--- how many brackets are open behind one of more than no characters
+-- how many brackets are open after one of more than no characters
 abbrev pub Counts : (ℕ → ℕ) → Kind → Type 0
 Counts count kind = (span : Span) → span.start.index < span.end.index → (opened : Collections)
     → (open_behind kind span opened).brackets ≡ count opened.brackets
@@ -66,7 +66,7 @@ sequence_closes span l opened = refl
 pub mapping_closes : Counts (λ n. n - 1) tokens.FlowMappingEnd
 mapping_closes span l opened = rw (has_some span l) refl
 
--- what encloses the tokens behind one that opens
+-- what encloses the tokens after one that opens
 pub record Enters (kind : Kind) (x : Context) (span : Span) : Type 0 where
   pub encloses : (all : Enclosures) → enclosures_behind kind span all ≡ place.entered (enclosure_of x) all
   pub depth : (d : ℕ) → deeper kind span d ≡ suc d
@@ -90,7 +90,7 @@ mapping_enters span l =
       fits = λ e columns. rw some refl;
     }
 
--- what encloses the tokens behind one that closes
+-- what encloses the tokens after one that closes
 pub record Leaves (kind : Kind) (span : Span) : Type 0 where
   pub encloses : (all : Enclosures) → enclosures_behind kind span all ≡ place.left_for all.outer all.columns
   pub depth : (d : ℕ) → deeper kind span (suc d) ≡ d
@@ -117,7 +117,7 @@ left_ended : (ends : Bool) (all : Enclosures)
 left_ended true all = refl
 left_ended false all = refl
 
--- a bracket that closes may stand behind the pair's end
+-- a bracket that closes may come after the pair's end
 abbrev pub EndsPair : Bool → Context → Type 0
 EndsPair ends x = ends ≡ true → IsTrue (may_end_pair (enclosure_of x))
 
@@ -262,7 +262,7 @@ start_does i kind x b starts counts enters flows n c f =
 
 -- ## The end of a collection or an entry
 
--- what is put into two that are the same leaves them the same, where they stand
+-- what is put into two that are the same leaves them the same, at the same place
 record Respected (x y v w : Core) : Type 0 where
   same : Same v w
   before : v.cursor ≡ x.cursor
@@ -294,7 +294,7 @@ adjacent_respected x y s e = by (in_block x) (in_block y) (ap (λ (l : Level). i
       allows = refl;
     }
 
--- behind a bracket or a comma, which leaves d behind c, and before it the end of a pair
+-- after a bracket or a comma, which leaves d after c, and before it the end of a pair
 bracket_walked : (x : ℕ) (kind : Kind) → Bracket x kind → (c d : Core) (ends : Bool) → slice_index c.cursor.rest 0 ≡ x
     → d.cursor ≡ c.cursor → NoComment c d → EndsPair ends c.level.context
     → (f : Core → Core) → ((x y : Core) → Same x y → y.cursor ≡ x.cursor → Respected x y (f x) (f y))
@@ -384,7 +384,7 @@ entry_block : (x : Context) → is_block (behind_entry x) ≡ is_block x
 entry_block context.Block = refl
 entry_block _ = refl
 
--- behind a comma
+-- after a comma
 entry_encloses : (x : Context) (outside : Outside) (span : Span)
     → free (enclosure_of (behind_entry x)) outside
     ≡ enclosures_behind tokens.FlowEntry span (ended (ends_pair x) (free (enclosure_of x) outside))

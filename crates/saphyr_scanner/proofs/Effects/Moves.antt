@@ -62,7 +62,7 @@ pub encloses : {A : Type 0} {x y z : Enclosures} {n : Option ℕ} {k w : ℕ} {c
 encloses {A} {x} {y} {z} {n} {k} {w} {c} {d} {actions} e a =
     let P : Enclosures → Type 0 = λ v. DoesWithin A x v n k w c d actions in subst P (sym e) a
 
--- ## One behind another
+-- ## One after another
 
 put_lower : (high mid low : ℕ) (actions : List Action) → low ≤ mid → PutsInOrder high mid actions
     → PutsInOrder high low actions
@@ -101,7 +101,7 @@ perform_append (a ∷ others) back q = perform_append others back (act a q)
 abbrev pub NoComment : Core → Core → Type 0
 NoComment c d = c.comment ≡ None → d.comment ≡ None
 
--- one move and another behind it, where the first notes no comment
+-- one move and another after it, where the first notes no comment
 pub and_then : {A : Type 0} {x y z : Enclosures} {n : Option ℕ} {k l v w : ℕ} {c d e : Core}
     {front back : List Action} → NoComment c d → DoesWithin A x y n k v c d front → DoesWithin A y z None l w d e back
     → DoesWithin A x z n (k + l) (v + w) c e (front ++ back)
@@ -150,9 +150,6 @@ Same c d = (d.level ≡ c.level) × (around d ≡ around c) × NoComment c d
 
 pub same : (c : Core) → Same c c
 same c = (refl, refl, λ n. n)
-
-pub same_same : (c d e : Core) → Same c d → Same d e → Same c e
-same_same c d e a b = (b.0 ∙ a.0, b.1 ∙ a.1, λ n. b.2 (a.2 n))
 
 lesser_above : (h : ℕ) (l m : Level) → Lesser l m → KeyAbove h l.key → KeyAbove h m.key
 lesser_above h l m e a = by e.key

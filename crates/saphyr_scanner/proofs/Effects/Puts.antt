@@ -60,7 +60,7 @@ empty_reading c kind is = record {
   token = λ _. (c.cursor, (λ b _. is b), taken.nothing c.cursor.mark c.cursor.rest);
 }
 
--- an indicator stands here
+-- an indicator is here
 pub record IndicatorStands (x : ℕ) (s : Cursor) : Type 0 where
   pub some : (x == 0) ≡ false
   pub unbroken : is_break x ≡ false
@@ -69,7 +69,7 @@ pub record IndicatorStands (x : ℕ) (s : Cursor) : Type 0 where
 pub passes : (x : ℕ) (s : Cursor) → IndicatorStands x s → Reaches s (pass 1 s)
 passes x s h = character_reached x s (pass 1 s) h.unbroken (indicator_is_passed x s h.some h.is)
 
--- its token, with separation behind it
+-- its token, with separation after it
 pub indicated : (x : ℕ) (c : Core) (u : Cursor) (t : Piece) → IndicatorStands x c.cursor → AreApart (pass 1 c.cursor) u
     → c.cursor.mark.index ≤ t.span.start.index → t.span.start.index ≤ t.span.end.index
     → t.span.end.index ≤ u.mark.index
@@ -111,7 +111,7 @@ putting within behind n k v c d t r e s f m few above holds = record {
   noted = m;
 }
 
--- a key may begin here, where no properties stand last
+-- a key may begin here, where no properties are last
 abbrev pub freed : Core → Core
 freed c = record c { key_allowed = true }
 

@@ -45,7 +45,7 @@ pub record ReadsUpTo (s : Cursor) (m : Marker) (t : Cursor) : Type 0 where
   pub begins : s.mark.index ≤ m.index
   pub ends : m.index ≤ t.mark.index
 
--- where a span stands that was read from s on
+-- where a span is that was read from s on
 pub record ReadsSpan (s : Cursor) (span : Span) (t : Cursor) : Type 0 where
   pub ahead : Ahead s t
   pub begins : s.mark.index ≤ span.start.index
@@ -70,7 +70,7 @@ pub record ReaderEnds : Type 0 where
 
 -- ## What it reads, and where it refuses
 
--- where a block scalar stands, and that it ends behind its line or at the end
+-- where a block scalar is, and that it ends after its line or at the end
 pub record BlockPlace (s : Cursor) (span : Span) (t : Cursor) : Type 0 where
   pub passes : IsPassed s.mark s.rest t.mark t.rest
   pub end : span.end ≡ t.mark

@@ -233,7 +233,7 @@ no_literal true true y e f g = absurd (cc)
 no_literal true false true e f g = absurd (cc)
 no_literal true false false e f g = refl
 
--- where no indicator stands a plain scalar may begin
+-- where no indicator is a plain scalar may begin
 pub plain_start : (first second : ℕ) (c : Core) → slice_index c.cursor.rest 0 ≡ first
     → slice_index c.cursor.rest 1 ≡ second → NoIndicator first second c → PlainStart (not (in_block c)) c.cursor
 plain_start first second c f g n =
@@ -300,7 +300,7 @@ indicator_begins : (style : BlockStyle) (x : ℕ) → x ≡ taken.block_indicato
 indicator_begins block_style.Literal x e = ap is_break e
 indicator_begins block_style.Folded x e = ap is_break e
 
--- A key may be too far behind one.
+-- A key may be too far after one.
 pub block_does : (style : BlockStyle) (n : ℕ) (c : Core) → in_block c ≡ true → 0 < length c.cursor.rest
     → slice_index c.cursor.rest 0 ≡ taken.block_indicator style
     → Walked (Premises c) (Stepped n c) c.cursor (scalar.block_scalar_steps style n c)

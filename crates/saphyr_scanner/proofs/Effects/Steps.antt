@@ -1,6 +1,6 @@
--- What a step does, in one statement: what it takes off the text, that its tokens stand in order between the place
+-- What a step does, in one statement: what it takes off the text, that its tokens are in order between the place
 -- where it begins and the one that is reached, that they are few, that none is the end of the stream, and that what may
--- be a key behind it might be one before, or is its own token.
+-- be a key after it might be one before, or is its own token.
 use Rattle.std.proofs.Common.{◌≡◌, ℕ, ◌+◌, ◌≤◌, false, refl, arith}
 use Rattle.std.specs.Prelude.{◌&&◌, not, Option, Some, None}
 use Rattle.saphyr_input.specs.declared.input.SkipTabs.{SkipTabs}

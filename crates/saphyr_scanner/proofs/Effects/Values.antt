@@ -39,7 +39,7 @@ use Rattle.saphyr_input.proofs.Basics.Booleans.{by_test}
 use Rattle.saphyr_input.proofs.Basics.Lists.{second_is}
 use Rattle.std.proofs.lemmas.Bool.{not-false, ltb-false, le-leb, eq-eqb, not-true}
 
--- behind the colon, where what is known stays
+-- after the colon, where what is known stays
 abbrev Behind : Core → Core → Type 0
 Behind c d = Same c d × AreApart (pass 1 c.cursor) d.cursor × (d.key_allowed ≡ c.key_allowed)
 
@@ -98,7 +98,7 @@ key_same c d o s e = ap (λ (l : Level). l.key) (sym s.0) ∙ e
 
 -- ## The colon
 
--- what encloses the tokens behind a colon
+-- what encloses the tokens after a colon
 abbrev behind_value : Enclosures → Enclosures
 behind_value all = turned_to (behind_pair_colon all.inner.enclosure) all
 
@@ -109,7 +109,7 @@ IsParted c =
     × (in_block c ≡ false
     → (c.cursor.mark.index ≡ c.adjacent) ⊎ IsTrue (parts_colon (slice_index c.cursor.rest 1)))
 
--- from e, which stands before the colon, where no key is a candidate
+-- from e, which comes before the colon, where no key is a candidate
 colon_does : {A : Type 0} (within : Enclosures) (e d : Core) (u : Cursor) → slice_index e.cursor.rest 0 ≡ colon
     → IsParted e → AreApart (pass 1 e.cursor) u → Same e d → d.cursor ≡ u → e.level.key ≡ None
     → (A → FitsWithin within (empty_piece e.cursor.mark tokens.Value))
@@ -133,7 +133,7 @@ colon_does within e d u first parted a s there none fit =
     ))))
     (still_within (behind_value within) (freed (with_cursor u e)) d s there (λ _. inl refl))
 
--- where a key is open the colon stands near it
+-- where a key is open the colon is near it
 near_colon : (x : Context) (k : Candidate) (m : Marker) → (is_block x && is_too_far (Some k) m) ≡ false
     → begins_pair x ≡ false → IsTrue (is_near (enclosure_of x) k.mark m)
 near_colon context.Block k m far e =
@@ -171,7 +171,7 @@ pair_near : (begins : Bool) (k m : Marker) → (begins && nat_lt k.line m.line) 
 pair_near true k m e b = le-leb m.line k.line (ltb-false k.line m.line e)
 pair_near false k m e b = absurd (cc)
 
--- what encloses the tokens behind the colon
+-- what encloses the tokens after the colon
 behind_alone : (x : Context) → begins_pair x ≡ false
     → enclosure_of (behind_colon x) ≡ behind_pair_colon (enclosure_of x)
 behind_alone context.FlowSequence e = absurd (cc)
@@ -205,7 +205,7 @@ pair_may_begin context.ExplicitFlowPair e = absurd (cc)
 pair_may_begin context.MarkedFlowPair e = absurd (cc)
 pair_may_begin context.FlowMapping e = absurd (cc)
 
--- What a colon does from c, where it turned the context to that behind the colon, and x enclosed the tokens before.
+-- What a colon does from c, where it turned the context to that after the colon, and x enclosed the tokens before.
 abbrev Valued : Core → Context → Core → Step → Type 0
 Valued b x c y =
     DoesWithin (IsArrival b) (free (enclosure_of x) (outside_of c)) (enclosures_of y.core) None 1 5 c y.core y.actions
@@ -214,7 +214,7 @@ colon_block : (x : Context) → is_block (behind_colon x) ≡ is_block x
 colon_block context.FlowSequence = refl
 colon_block _ = refl
 
--- d is behind the colon
+-- d is after the colon
 record Turned (b : Core) (x : Context) (c d : Core) : Type 0 where
   first : slice_index c.cursor.rest 0 ≡ colon
   parted : IsParted c
@@ -309,7 +309,7 @@ innermost_column column zero is e = absurd (omega (arith, e))
 innermost_column column (suc i) [] e = eq-eqb column i (omega (arith, e))
 innermost_column column (suc i) (j ∷ is) e = eq-eqb column i (omega (arith, e))
 
--- where no block collection begins outside brackets the colon stands at the column of the innermost
+-- where no block collection begins outside brackets the colon is at the column of the innermost
 alone_fits : (b : Core) (x : Context) (c d : Core) (e : Enclosure) → Turned b x c d
     → (is_block x ≡ false → IsTrue (is_in_brackets e)) → is_further c.cursor.mark.col d ≡ false → IsDeep c
     → IsTrue (is_in_brackets e || is_at_column c.cursor.mark.col (outside_of c).columns)

@@ -89,7 +89,7 @@ abbrev pub Doing : Option ℕ → Core → Step → Type 0
 Doing n c x = Does (IsArrival c) n 1 5 c x.core x.actions
 
 -- What is known of each step, where its token has the place of this number: of the text taken off, the order and the
--- count of its tokens, and the candidates; that its tokens are taken from the text; and that a comment it notes stands
+-- count of its tokens, and the candidates; that its tokens are taken from the text; and that a comment it notes is
 -- where the text goes on.
 pub record Stepped (n : ℕ) (c : Core) (x : Step) : Type 0 where
   pub effect : EffectAt n c x
@@ -125,7 +125,7 @@ unsaved_step A n c s r h =
 
 -- ## What is passed
 
--- the refusal stands where the text was reached
+-- the refusal is where the text was reached
 pub at_reach : (s t : Cursor) → Reaches s t → At s t.mark
 at_reach s t a = at_further s t t.mark a (at_here t)
 

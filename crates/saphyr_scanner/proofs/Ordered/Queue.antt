@@ -1,4 +1,4 @@
--- The places of the queue stand in order, and what a step does to it keeps them so.
+-- The places of the queue are in order, and what a step does to it keeps them so.
 use Rattle.std.proofs.Common.{◌≡◌, ℕ, zero, suc, ◌-◌, ◌≤◌, List, [], ◌∷◌, ◌++◌, sym, ap, arith, subst}
 use Rattle.saphyr_scanner.specs.declared.queue.Opening.{Opening}
 use Rattle.saphyr_scanner.specs.Views.Tokens.{Piece}
@@ -37,7 +37,7 @@ place_put : (n m low : ℕ) (ps : List Place) (t : Piece) → PlacesInOrder n lo
 place_put n m low [] t h a b c = (omega (arith, h, a), b, c)
 place_put n m low (p ∷ ps) t h a b c = (h.0, h.1, place_put n m p.piece.span.end.index ps t h.2 a b c)
 
--- What stands in front of a token has its place.
+-- What comes before a token has its place.
 place_opened : (n low k : ℕ) (o : Opening) (ps : List Place) → PlacesInOrder n low ps
     → PlacesInOrder n low (places_with_opening k o ps)
 place_opened n low k o [] h = h

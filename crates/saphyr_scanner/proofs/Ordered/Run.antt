@@ -1,4 +1,4 @@
--- The tokens of a text stand in order.
+-- The tokens of a text are in order.
 use Rattle.std.proofs.Common.{◌≡◌, ℕ, zero, suc, ◌+◌, ◌≤◌, List, [], ◌∷◌, length, Result, Ok, Err, refl, arith}
 use Rattle.saphyr_scalar.specs.declared.scalar.fault.Refusal.{Refusal}
 use Rattle.saphyr_scalar.specs.Views.Cursor.{◌>>=◌}
@@ -23,7 +23,7 @@ use Rattle.saphyr_scanner.proofs.Queues.{holding}
 abbrev FollowsInOrder : ℕ → ℕ → Remaining → Type 0
 FollowsInOrder n low r = AreInOrder n low r.pieces
 
--- what stands in front of a token, and the token
+-- what comes before a token, and the token
 place_first : (n low : ℕ) (o : Opening) (t : Piece) (r : Remaining) → low ≤ t.span.start.index
     → t.span.start.index ≤ t.span.end.index → FollowsInOrder n t.span.end.index r
     → FollowsInOrder n low (before_place o t r)

@@ -19,7 +19,7 @@ use Rattle.saphyr_scanner.specs.Steps.Value as value
 use Rattle.std.proofs.lemmas.Bool.{eqb-true, and_parts}
 use Rattle.saphyr_input.specs.Indicators.{ampersand, apostrophe, asterisk, at_sign, exclamation_mark, grave_accent, greater_than, hyphen, left_brace, left_bracket, percent_sign, question_mark, quotation_mark, right_brace, right_bracket, vertical_bar}
 
--- no indicator stands here
+-- no indicator is here
 pub record NoIndicator (first second : ℕ) (c : Core) : Type 0 where
   pub sequence : (first == left_bracket) ≡ false
   pub mapping : (first == left_brace) ≡ false

@@ -31,7 +31,7 @@ use Rattle.std.proofs.lemmas.Bool.{not-true, le-ltb, ltb-false, eqb-true}
 
 -- ## What is passed
 
--- a key may begin only where one might before, or behind a break, which ends a line
+-- a key may begin only where one might before, or after a break, which ends a line
 abbrev AllowsBehind : Core → Core → Type 0
 AllowsBehind c d = d.key_allowed ≡ true → (c.key_allowed ≡ true)
     ⊎ (c.cursor.mark.line ≤ top → d.cursor.mark.line < top → c.cursor.mark.line < d.cursor.mark.line)

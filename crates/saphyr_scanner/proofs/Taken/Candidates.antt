@@ -12,7 +12,7 @@ abbrev pub LevelsAbove : ℕ → List Level → Type 0
 LevelsAbove h [] = Unit {0}
 LevelsAbove h (l ∷ ls) = KeyAbove h l.key × LevelsAbove h ls
 
--- no candidate stands at a place before the one of this number
+-- no candidate is at a place before the one of this number
 abbrev pub Above : ℕ → Core → Type 0
 Above h c = KeyAbove h c.level.key × LevelsAbove h c.outer
 

@@ -163,7 +163,7 @@ quiet_opens t c d e i o n opened h =
 pub next_put : (t : Piece) (q : Queue) → next (with_piece t q) ≡ next q + 1
 next_put t q = let l = length-append q.places (bare_place t ∷ []) in omega (arith, l)
 
--- where the next token of a scanner stands, and whether the text before ends like JSON
+-- where the next token of a scanner is, and whether the text before ends like JSON
 abbrev pub surroundings : Bool → Core → Surroundings
 surroundings ends_json c = record { in_flow = not (in_block c); indent = c.indent; ends_json = ends_json }
 
@@ -178,7 +178,7 @@ some_outer : (ls : List Level) → is_empty_list ls ≡ false → 0 < length ls
 some_outer [] e = absurd (cc)
 some_outer (l ∷ ls) e = omega arith
 
--- a token is put behind the others
+-- a token is put after the others
 pub holds_put : (within : Enclosures) (opened : Setting) (from : Cursor) (c d : Core) (q : Queue) (t : Piece)
     (here behind : Cursor)
     → AreApart c.cursor here → IsTokenThere c t here behind
@@ -192,7 +192,7 @@ holds_put within opened from c d q t here behind a is b o adjoins f parted h =
     (λ e k. subst (P e) (sym (open_in_flow within opened from c q h))
     (is e (λ i n. k.1 i (some_outer c.outer (sym h.keys.0 ∙ n))))) b o adjoins f parted h.taken
 
--- a quiet token from here to behind, and separation to the place that is reached
+-- a quiet token from here to after, and separation to the place that is reached
 pub quiet_put : (within : Enclosures) (opened : Setting) (from : Cursor) (c d : Core) (q : Queue) (t : Piece)
     (here behind : Cursor)
     → is_quiet t.kind ≡ true → KeepsBrackets t → KeepsDepth t → IsFreeOr t c.level.key → FitsWithin within t
@@ -216,7 +216,7 @@ quiet_put within opened from c d q t here behind e f depth own fit parted a is b
       k);
 }
 
--- any token, behind which no key is a candidate
+-- any token, after which no key is a candidate
 pub loud_put : (within : Enclosures) (opened : Setting) (from : Cursor) (c d : Core) (q : Queue) (t : Piece)
     (here behind : Cursor)
     → AreApart c.cursor here → IsTokenThere c t here behind
@@ -255,7 +255,7 @@ saved_enclosures n c d s =
     [ inl e ↦ ap (λ (l : Level). l.context) e | inr e ↦ ap (λ (l : Level). l.context) e.0 ]) s.outer s.indent
     s.outer_indents
 
--- what the new token is put behind, where a key was saved
+-- what the new token is put after, where a key was saved
 pub saved_taken : (opened : Setting) (from : Cursor) (n : ℕ) (c d : Core) (q : Queue) → Saved n c d
     → d.adjacent ≡ c.adjacent → AllowsKey c d → Taken opened from c q → Taken opened from d q
 saved_taken opened from n c d q s e allows h =

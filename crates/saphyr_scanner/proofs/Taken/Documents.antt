@@ -1,4 +1,4 @@
--- What is held behind a document's content and at the stream's end, and which texts are tokens of markers and
+-- What is held after a document's content and at the stream's end, and which texts are tokens of markers and
 -- directives.
 use Rattle.std.proofs.Common.{◌≡◌, ℕ, Bool, true, false, List, [], ◌∷◌, ◌++◌, length, drop, None, refl, sym, ap, ◌∙◌, arith, subst, inl, inr, IsTrue}
 use Rattle.std.specs.Prelude.{◌&&◌, ◌==◌, slice_index, codes}

@@ -1,4 +1,4 @@
--- What is known of the tokens that a scanner holds: they are taken from the text, and each may stand where it does.
+-- What is known of the tokens that a scanner holds: they are taken from the text, and each may be where it is.
 use Rattle.std.proofs.Common.{◌≡◌, ℕ, zero, suc, ◌+◌, List, [], ◌∷◌, ◌++◌, length, None, refl, sym, ap, ◌∙◌, arith, subst, IsTrue, ◌≤◌, ◌<◌, ◌⊎◌, Bool, true, inl, inr, false}
 use Rattle.std.specs.Prelude.{nat_lt, not, ◌&&◌}
 use Rattle.saphyr_scalar.specs.Views.Cursor.{Cursor}
@@ -28,7 +28,7 @@ use Rattle.saphyr_input.proofs.Basics.Booleans.{by_test}
 
 -- ## The open collections
 
--- the first columns to the right of the open block collections, and 0 behind them
+-- the first columns to the right of the open block collections, and 0 after them
 abbrev pub Stack : List ℕ → ℕ → List ℕ → Type 0
 Stack [] i is = (i ≡ 0) × (is ≡ [])
 Stack (column ∷ columns) i [] = ⊥
@@ -39,11 +39,11 @@ stack_indent [] i is h = sym h.0
 stack_indent (column ∷ columns) i [] h = absurd h
 stack_indent (column ∷ columns) i (j ∷ is) h = sym h.0
 
--- what is open where the scanner stands
+-- what is open where the scanner is
 abbrev pub Stands : Collections → Core → Type 0
 Stands opened c = Stack opened.columns c.indent c.outer_indents × (opened.brackets ≡ length c.outer)
 
--- where the next token of a scanner stands, and whether the text before ends like JSON
+-- where the next token of a scanner is, and whether the text before ends like JSON
 abbrev pub surroundings_of : Bool → Core → Surroundings
 surroundings_of ends_json c =
     record { in_flow = nat_lt 0 (length c.outer); indent = c.indent; ends_json = ends_json }
@@ -100,9 +100,9 @@ began_at g e column c =
     λ columns. with_begun g (free e (record { enclosed = enclosed_by c.outer; columns = columns })) in
     ap From (sym (columns_entered column c.indent c.outer_indents))
 
--- ## Where a colon may stand with nothing behind it
+-- ## Where a colon may be with nothing after it
 
--- inside flow the place that is kept for such a colon stands behind a text that ends like JSON, if the scanner is there
+-- inside flow the place that is kept for such a colon comes after a text that ends like JSON, if the scanner is there
 abbrev pub KeepsPlace : Bool → Core → Type 0
 KeepsPlace ends_json c =
     (c.adjacent ≤ c.cursor.mark.index)
@@ -113,7 +113,7 @@ pub keeps_further : (ends_json : Bool) (c d : Core) → c.cursor.mark.index ≤ 
 keeps_further ends_json c d l e n k =
     (omega (arith, l, e, k.0), λ h s. k.1 (omega (arith, l, e, k.0, h)) (omega (arith, n, s)))
 
--- with a token the place stays, or is the one behind it, which ends like JSON
+-- with a token the place stays, or is the one after it, which ends like JSON
 abbrev pub EndsJson : Piece → Type 0
 EndsJson t = (b : Bool) → ends_json_behind t.kind t.span b ≡ true
 
@@ -171,7 +171,7 @@ abbrev pub setting_behind : List Piece → Setting → Setting
 setting_behind ps opened =
     record { collections = open_all ps opened.collections; enclosures = all_behind ps opened.enclosures }
 
--- The tokens are taken from the text, and what encloses the next token is known. Where properties stand last no key may
+-- The tokens are taken from the text, and what encloses the next token is known. Where properties are last no key may
 -- begin on their line.
 pub record TakenWithin (within : Enclosures) (opened : Setting) (from : Cursor) (c : Core) (q : Queue) : Type 0 where
   pub last : Cursor
@@ -197,7 +197,7 @@ taken_within v w opened from c q e h =
 abbrev pub AllowsKey : Core → Core → Type 0
 AllowsKey c d = d.key_allowed ≡ true → (c.key_allowed ≡ true) ⊎ (c.cursor.mark.line < d.cursor.mark.line)
 
--- the text goes on behind separation
+-- the text goes on after separation
 pub taken_further : (within : Enclosures) (opened : Setting) (from : Cursor) (c d : Core) (q : Queue)
     → AreApart c.cursor d.cursor → d.indent ≡ c.indent → d.outer_indents ≡ c.outer_indents
     → length d.outer ≡ length c.outer → d.adjacent ≡ c.adjacent → AllowsKey c d
@@ -232,7 +232,7 @@ flat_put t q = flat_append q.places (bare_place t ∷ [])
 abbrev pub Opens : Piece → Core → Core → Type 0
 Opens t c d = (opened : Collections) → Stands opened c → Stands (open_behind t.kind t.span opened) d
 
--- the token may stand where it comes
+-- the token may be where it comes
 abbrev pub FitsWithin : Enclosures → Piece → Type 0
 FitsWithin within t = IsTrue (may_stand within t.kind t.span)
 
@@ -250,7 +250,7 @@ is_property (tokens.Anchor name) = true
 is_property (tokens.Tag handle suffix) = true
 is_property _ = false
 
--- a block collection and an entry begin where a key may, and behind properties no key may begin
+-- a block collection and an entry begin where a key may, and after properties no key may begin
 abbrev pub IsParted : Piece → Core → Core → Type 0
 IsParted t c d = (begins_block t.kind ≡ true → (c.key_allowed ≡ true) × (t.span.start.line ≡ c.cursor.mark.line))
     × (is_property t.kind ≡ true → d.key_allowed ≡ false)
@@ -313,7 +313,7 @@ calmed_fits (place.Property line) tokens.BlockEntry span fit h past =
 calmed_fits (place.Property line) _ span fit h past = h
 calmed_fits _ kind span fit h past = h
 
--- what encloses the token behind does not rest on what has begun in front
+-- what encloses the token after does not rest on what has begun in front
 behind_begun : (kind : Kind) (span : Span) (g : Begun) (all : Enclosures)
     → enclosures_behind kind span (with_begun g all) ≡ enclosures_behind kind span all
 behind_begun tokens.BlockSequenceStart span g all = refl
@@ -334,7 +334,7 @@ begun_past (tokens.Tag handle suffix) span n allowed f e = absurd (let no = f re
 begun_past tokens.Key span n allowed f e = by_test (has_text span) _ _ (λ g. IsPast g n) (λ _. tt) (λ _. tt)
 begun_past _ span n allowed f e = tt
 
--- a token is put behind the others
+-- a token is put after the others
 pub taken_put : (within : Enclosures) (opened : Setting) (from : Cursor) (c d : Core) (q : Queue) (t : Piece)
     (here behind : Cursor)
     → AreApart c.cursor here

@@ -1,4 +1,4 @@
--- Tokens that may stand where they do, one part behind the other, and the same tokens within other enclosures.
+-- Tokens that may be where they are, one part after the other, and the same tokens within other enclosures.
 use Rattle.std.proofs.Common.{◌≡◌, ℕ, zero, suc, ◌+◌, ◌-◌, Bool, true, false, List, [], ◌∷◌, ◌++◌, length, Option, Some, None, refl, sym, ap, ◌∙◌, arith, subst, IsTrue, ◌≤◌, ◌<◌}
 use Rattle.std.specs.Prelude.{◌||◌, ◌&&◌, nat_lt, if◌then◌else◌}
 use Rattle.std.proofs.lemmas.Bool.Decides.{nat_tests}
@@ -17,9 +17,9 @@ use Rattle.saphyr_scanner.specs.TokensInPlace as place
 use Rattle.saphyr_scanner.specs.TokensInPlace.{Enclosure, Enclosed, Begun, Enclosures, with_begun, begun_at, turned_to, awaiting_colon, has_text, enclosures_behind, may_begin_pair, may_begin_key, is_in_brackets, is_of_flow_node, fits_at, may_follow, may_stand, AreInPlace}
 use Rattle.saphyr_scanner.proofs.Leads.{place_pieces}
 
--- ## One part behind the other
+-- ## One part after the other
 
--- what encloses the token behind these
+-- what encloses the token after these
 abbrev pub all_behind : List Piece → Enclosures → Enclosures
 all_behind [] all = all
 all_behind (p ∷ ps) all = all_behind ps (enclosures_behind p.kind p.span all)
@@ -42,7 +42,7 @@ in_place_parts (p ∷ ps) qs all h =
 
 -- ## How deep tokens lead
 
--- how many brackets and braces are open behind a token, of which so many are before
+-- how many brackets and braces are open after a token, of which so many are before
 abbrev pub deeper : Kind → Span → ℕ → ℕ
 deeper tokens.FlowSequenceStart span d = suc d
 deeper tokens.FlowSequenceEnd span d = d - 1
@@ -207,7 +207,7 @@ abbrev pub AreQuiet : List Piece → Type 0
 AreQuiet [] = Unit {0}
 AreQuiet (p ∷ ps) = (is_quiet p.kind ≡ true) × AreQuiet ps
 
--- what has begun behind a token
+-- what has begun after a token
 abbrev pub begun_by : Kind → Span → Begun
 begun_by tokens.BlockSequenceStart span = place.BlockSequence
 begun_by tokens.BlockMappingStart span = place.BlockMapping
@@ -240,7 +240,7 @@ abbrev AreBrackets : List Enclosed → Type 0
 AreBrackets [] = Unit {0}
 AreBrackets (t ∷ ts) = IsTrue (is_in_brackets t.enclosure) × AreBrackets ts
 
--- what the innermost are behind a token
+-- what the innermost are after a token
 record Top (kind : Kind) (span : Span) (ts : List Enclosed) : Type 0 where
   top : List Enclosed
   brackets : AreBrackets top
@@ -425,7 +425,7 @@ node_retold t ps g f b c takes q h k =
       behind = ap (all_behind ps) (u.behind f c) ∙ r.behind ∙ no_top r.top r.last c r.depth;
     }
 
--- no block collection has begun in front of such a node
+-- no block collection has begun before such a node
 pub node_taken : (t : Piece) (ps : List Piece) (d : ℕ) (all : Enclosures) → AreInside 0 (t ∷ ps) d
     → AreInPlace all (t ∷ ps) → takes_node all.begun ≡ true
 node_taken t ps d all h k =
@@ -435,7 +435,7 @@ node_taken t ps d all h k =
 
 -- ## Properties right in front
 
--- what encloses, but for properties that stand right in front
+-- what encloses, but for properties that come right before
 abbrev pub calmed : Begun → Begun
 calmed (place.Property line) = place.Nothing
 calmed g = g
@@ -443,7 +443,7 @@ calmed g = g
 abbrev pub calm : Enclosures → Enclosures
 calm all = with_begun (calmed all.begun) all
 
--- properties that stand right in front end before a line
+-- properties that come right before end before a line
 abbrev pub IsPast : Begun → ℕ → Type 0
 IsPast (place.Property line) n = line < n
 IsPast _ n = Unit {0}
@@ -502,7 +502,7 @@ free e outside = record {
   columns = outside.columns;
 }
 
--- the tokens of a candidate, with what has begun right in front of it
+-- the tokens of a candidate, with what has begun right before it
 pub record Opened (o : Opening) (t : Piece) (back : List Piece) (g : Begun) (all : Enclosures) : Type 0 where
   pub last : Begun
   pub before : all_behind (t ∷ back) (with_begun g all) ≡ with_begun last all
@@ -551,7 +551,7 @@ opened_in_place opening.FlowMappingAndKey t back g e outside m f l q h k =
     or_true true = refl
     or_true false = refl
 
--- in front of the tokens inside a key no depth changes
+-- before the tokens inside a key no depth changes
 pub inside_opened : (d : ℕ) (o : Opening) (t : Piece) (back : List Piece) (e : ℕ) → AreInside (suc d) (t ∷ back) e
     → AreInside (suc d) (place_pieces o t ++ back) e
 inside_opened d opening.Nothing t back e h = h

@@ -1,5 +1,5 @@
--- What is passed with a token: a character at least; or the text ends like JSON behind it; or it is one without a text,
--- which changes neither that nor the open brackets; or it stands outside flow.
+-- What is passed with a token: a character at least; or the text ends like JSON after it; or it is one without a text,
+-- which changes neither that nor the open brackets; or it is outside flow.
 use Rattle.std.proofs.Common.{◌≡◌, ℕ, ◌<◌, ◌⊎◌, Bool, true, false, List, [], ◌∷◌, ◌++◌, length, refl, ap, ◌∙◌, arith, inl, inr}
 use Rattle.std.specs.Prelude.{nat_lt, if◌then◌else◌}
 use Rattle.std.proofs.lemmas.Bool.{ltb-true}
@@ -16,7 +16,7 @@ use Rattle.saphyr_scanner.specs.TokensInPlace.{has_text}
 use Rattle.saphyr_scanner.proofs.Taken.InPlace.{no_text}
 use Rattle.saphyr_scanner.proofs.Taken.Later.{plain_later}
 
--- as many brackets are open behind it
+-- as many brackets are open after it
 abbrev pub LeavesBrackets : Kind → Span → Type 0
 LeavesBrackets kind span = (opened : Collections) → (open_behind kind span opened).brackets ≡ opened.brackets
 

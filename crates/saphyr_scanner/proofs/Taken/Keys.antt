@@ -23,7 +23,7 @@ use Rattle.saphyr_scanner.proofs.Taken.Held.{stack_indent, Stands, Setting, Keep
 -- ## Candidates
 
 -- A candidate is a token of the queue, from which the tokens lead as deep as its level is enclosed by others. No block
--- collection began or ended since, and no block scalar came. Properties right in front of it end on an earlier line.
+-- collection began or ended since, and no block scalar came. Properties right before it end on an earlier line.
 pub record Key (all : Enclosures) (d b : ℕ) (q : Queue) (block : Bool) (i : ℕ) (k : Candidate) : Type 0 where
   pub front : List Place
   pub back : List Place
@@ -50,7 +50,7 @@ lower b (Some k) = k.place
 abbrev pub IsNested : Level → List Level → Type 0
 IsNested l ls = is_block l.context ≡ is_empty_list ls
 
--- candidates further out stand further in front, and deeper lead the tokens behind them
+-- candidates further out are further in front, and deeper lead the tokens after them
 abbrev pub KeysFrom : Enclosures → ℕ → ℕ → Queue → ℕ → List Level → Type 0
 KeysFrom all d b q i [] = Unit {0}
 KeysFrom all d b q i (l ∷ ls) = IsNested l ls × KeyOf all d b q (is_block l.context) i l.key
@@ -94,9 +94,9 @@ keys_weaken all d a b q i (l ∷ ls) h x = (
     rest None z go = go z
     rest (Some k) z go = z
 
--- ## A token is put behind candidates
+-- ## A token is put after candidates
 
--- behind each candidate the token leads from the depth of its level to another
+-- after each candidate the token leads from the depth of its level to another
 abbrev pub ForKey : Option Candidate → Type 0 → Type 0
 ForKey None P = Unit {0}
 ForKey (Some k) P = P
@@ -117,7 +117,7 @@ keeps_outer : (t : Piece) (ls : List Level) (d : ℕ) → KeepsDepth t → Leads
 keeps_outer t [] d n = tt
 keeps_outer t (l ∷ ls) d n = (for_key l.key _ (n (suc d)), keeps_outer t ls (suc d) n)
 
--- no token but those of a node stands behind a candidate of its own level
+-- no token but those of a node comes after a candidate of its own level
 abbrev pub IsFreeOr : Piece → Option Candidate → Type 0
 IsFreeOr t k = (k ≡ None) ⊎ IsTrue (is_of_flow_node t.kind t.span)
 
@@ -176,7 +176,7 @@ keys_put all d e b q i (l ∷ ls) t f g x = (
   keys_put all (suc d) (suc e) (lower b l.key) q i ls t f g.1 x.2,
 )
 
--- ## What stands in front of a token
+-- ## What comes before a token
 
 quiet_opened : (n : ℕ) (o : Opening) (ps : List Place) → opens_block o ≡ false → AreQuiet (flat ps)
     → AreQuiet (flat (places_with_opening n o ps))
@@ -205,7 +205,7 @@ quiet_opened (suc n) o (p ∷ ps) e h = further p.opening h (λ x. quiet_opened 
     further opening.FlowMappingAndKey x go = (x.0, (x.1.0, (x.1.1.0, go x.1.1.1)))
     further opening.BlockMappingAndKey x go = (x.0, (x.1.0, (x.1.1.0, go x.1.1.1)))
 
--- the places behind one that stands further in front than another
+-- the places after one that is further in front than another
 behind_front : (front other : List Place) (p r : Place) (back rest : List Place)
     → other ++ r ∷ rest ≡ front ++ p ∷ back → length other < length front
     → (mid : List Place) × (rest ≡ mid ++ p ∷ back) × (length front ≡ length other + suc (length mid))
@@ -281,7 +281,7 @@ keys_open all d a q block i k z e b j (l ∷ ls) w f h deep x =
       keys_open all d a q block i k z (suc e) (lower b l.key) j ls w f (omega (arith, n, h)) (omega (arith, deep)) x.2,
     )
 
--- The tokens behind a candidate of the innermost level leave its enclosures as they are, and those behind the key's
+-- The tokens after a candidate of the innermost level leave its enclosures as they are, and those after the key's
 -- start await its colon.
 record InPlaceOpened (e : Enclosure) (outside : Outside) (all : Enclosures) (o : Opening) (front : List Place)
     (t : Piece) (back : List Place) : Type 0 where
@@ -438,7 +438,7 @@ taken_open e outside opened from c d q b block k o x f near right left outer m t
 
 -- ## Where the next token begins
 
--- not too far behind the candidate outside flow
+-- not too far after the candidate outside flow
 abbrev pub IsNear : Core → Type 0
 IsNear c = (in_block c && is_too_far c.level.key c.cursor.mark) ≡ false
 

@@ -1,4 +1,4 @@
--- Tokens that change nothing of what encloses those behind, but for properties that stand right in front.
+-- Tokens that change nothing of what encloses those after, but for properties that come right before.
 use Rattle.std.proofs.Common.{◌≡◌, ℕ, Bool, true, false, List, refl, IsTrue}
 use Rattle.saphyr_scalar.specs.declared.scalar.position.Span.{Span}
 use Rattle.saphyr_scanner.specs.Grammar.Tokens as tokens
@@ -13,7 +13,7 @@ use Rattle.saphyr_scanner.proofs.Taken.Keys.{KeepsDepth}
 abbrev pub KeepsBrackets : Piece → Type 0
 KeepsBrackets t = (opened : Collections) → (open_behind t.kind t.span opened).brackets ≡ opened.brackets
 
--- A token that neither opens nor closes a bracket, a block collection, a single pair or an implicit key, and may stand
+-- A token that neither opens nor closes a bracket, a block collection, a single pair or an implicit key, and may be
 -- anywhere.
 pub record Neutral (t : Piece) : Type 0 where
   pub brackets : KeepsBrackets t

@@ -20,7 +20,7 @@ use Rattle.saphyr_scalar.proofs.Passings.{digits_passed, one_place}
 use Rattle.saphyr_scalar.proofs.Quoted.Spellings.{no_break_simple, no_break_digits}
 use Rattle.saphyr_scanner.proofs.Taken.Later.{top, piece_later, passed_later}
 
--- what stands behind a piece ends no line more of it
+-- what comes after a piece ends no line more of it
 ends_before : (c : ℕ) (cs u : List ℕ) → IsTrue (ends_line c (cs ++ u)) → ends_line c cs ≡ true
 ends_before c [] u e =
     let breaks = and_true_left (is_break c) (not ((c == 13) && (slice_index u 0 == 10))) e in

@@ -1,4 +1,4 @@
--- Tokens that are taken from a text, one part behind the other.
+-- Tokens that are taken from a text, one part after the other.
 use Rattle.std.proofs.Common.{◌≡◌, ℕ, zero, suc, ◌+◌, ◌⊎◌, Bool, true, false, List, [], ◌∷◌, ◌++◌, length, refl, sym, ap, ◌∙◌, arith, subst, inl, inr, IsTrue, ◌≤◌, ◌<◌}
 use Rattle.std.specs.Prelude.{◌-◌, slice_index, if◌then◌else◌, nat_lt}
 use Rattle.std.proofs.lemmas.Bool.{lt-ltb}
@@ -24,7 +24,7 @@ use Rattle.saphyr_scanner.proofs.Taken.OnLine.{plain_on_line, quoted_on_line}
 use Rattle.saphyr_scanner.proofs.Taken.InPlace.{no_text, deeper, AreInside, inside_first, inside_rest}
 pub use Rattle.saphyr_scanner.proofs.Taken.InPlace.{is_quiet, AreQuiet}
 
--- what is open behind tokens
+-- what is open after tokens
 abbrev pub open_all : List Piece → Collections → Collections
 open_all [] opened = opened
 open_all (p ∷ ps) opened = open_all ps (open_behind p.kind p.span opened)
@@ -40,7 +40,7 @@ tokens_append opened [] qs s t u h k = let P : Cursor → Type 0 = λ x. AreToke
 tokens_append opened (p ∷ ps) qs s t u h k =
     (h.0, h.1, h.2, h.3, tokens_append (open_behind p.kind p.span opened) ps qs h.1 t u h.4 k)
 
--- what stands between, where tokens are parted
+-- what is between, where tokens are parted
 pub record Parted (opened : Collections) (ps qs : List Piece) (s u : Cursor) : Type 0 where
   pub between : Cursor
   pub front : AreTokens opened ps s between
@@ -90,7 +90,7 @@ quiet_token f b i j tokens.Key span s t q (inr e) le small (inr h) = inr (h.0, h
 quiet_token f b i j tokens.Key span s t q (inr e) le small (inl h) = inl (h.0, h.1, h.2, h.3, λ g. absurd (cc))
 quiet_token f b i j _ span s t q w le small h = h
 
--- the columns stay behind a quiet token
+-- the columns stay after a quiet token
 pub quiet_open : (kind : Kind) (span : Span) (opened : Collections) → is_quiet kind ≡ true
     → (open_behind kind span opened).columns ≡ opened.columns
 quiet_open tokens.BlockSequenceStart span opened q = absurd (cc)
@@ -263,7 +263,7 @@ abbrev pub Begins : Piece → Type 0
 Begins t = (i : Surroundings) (s u : Cursor) → IsToken i t.kind t.span s u
     → (t.span.start ≡ s.mark) × IsTrue (begins_text (slice_index s.rest 0))
 
--- what stands in front of a token
+-- what comes before a token
 abbrev pub opens_block : Opening → Bool
 opens_block opening.BlockMappingAndKey = true
 opens_block _ = false
@@ -343,7 +343,7 @@ opening_open opened opening.BlockMappingAndKey t back q =
     ∙ ap (open_all (t ∷ back)) (key_starts t.span.start (with_column t.span.start.col opened))
     ∙ quiet_all t.span.start.col (t ∷ back) opened (q refl)
 
--- a token in the queue, in front of which nothing stands, is opened
+-- a token in the queue, before which nothing is, is opened
 pub place_tokens : (opened : Collections) (o : Opening) (front : List Place) (t : Piece) (back : List Place)
     (s u : Cursor) → Begins t → (opens_block o ≡ true → AreQuiet (t ∷ flat back))
     → (opens_block o ≡ true → EndsOnLine t.span.start u)

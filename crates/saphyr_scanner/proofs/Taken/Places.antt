@@ -35,7 +35,7 @@ at_here s = (s, taken.nothing s.mark s.rest, inl refl)
 pub at_further : (s t : Cursor) (m : Marker) → Reaches s t → At t m → At s m
 at_further s t m a b = (b.0, reaches_reaches s t b.0 a b.1, b.2)
 
--- a place that is reached, with what stands there
+-- a place that is reached, with what is there
 pub at_reached : (s : Cursor) (m : Marker) (u : List ℕ) → IsReached s.mark s.rest m u → At s m
 at_reached s m u a = (record { rest = u; mark = m; blank_so_far = true }, a, inl refl)
 
@@ -197,7 +197,7 @@ at_behind s t m r e = at_further s t m r (here_at t m e)
 same_end : (s : Cursor) (span : Span) → span.end ≡ span.start → At s span.start → At s span.end
 same_end s span e a = subst (At s) (sym e) a
 
--- a plain scalar's span ends before the blanks and breaks behind it
+-- a plain scalar's span ends before the blanks and breaks after it
 plain_to : (f : Bool) (s t : Cursor) (text : List ℕ) (end : Marker) → IsPlainReading f s text end t → At s end
 plain_to f s t text end r =
     let w = r.white ++ t.rest in
@@ -209,7 +209,7 @@ plain_to f s t text end r =
     a in
     at_reached s end w (subst (λ l. IsReached s.mark l end w) (sym r.is) b)
 
--- an end on the line behind a token
+-- an end on the line after a token
 line_to : (s t : Cursor) (m : Marker) → Reaches s t → LiesOnLine t m → At s m
 line_to s t m r o = at_further s t m r (line_at t m o)
 

@@ -1,4 +1,4 @@
--- The tokens of a text are taken from it, and a refusal that ends them stands at a place of it.
+-- The tokens of a text are taken from it, and a refusal that ends them is at a place of it.
 use Rattle.std.proofs.Common.{◌≡◌, ℕ, zero, suc, ◌+◌, ◌^◌, ◌<◌, Bool, true, false, List, [], ◌∷◌, ◌++◌, length, drop, Option, Some, None, Result, Ok, Err, refl, sym, ap, ◌∙◌, arith, subst, inl}
 use Rattle.std.specs.Prelude.{◌&&◌, ◌==◌, not}
 use Rattle.saphyr_scalar.specs.declared.scalar.fault.Refusal.{Refusal}

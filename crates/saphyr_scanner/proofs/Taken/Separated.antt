@@ -35,7 +35,7 @@ given_map P Q (Err e) f h = tt
 abbrev To : Marker → List ℕ → Marker → List ℕ → Type 0
 To n u m t = IsPassedOver m t n u
 
--- inside a comment, from behind its first characters on
+-- inside a comment, from after its first characters on
 record Comment (m : Marker) (t : List ℕ) (n : Marker) (u : List ℕ) : Type 0 where
   words : List ℕ
   behind : List ℕ
@@ -101,7 +101,7 @@ stop_apart m blank broke tabbed t =
     by_test (tabbed && is_bom (slice_index t 0)) _ _ P (λ _. tt)
     (λ _. by_test (tabbed && not (is_z (slice_index t 0))) _ _ P (λ _. tt) (λ _. taken.nothing m t))
 
--- What is passed from here on: between tokens, in a comment, and behind a CR before LF.
+-- What is passed from here on: between tokens, in a comment, and after a CR before LF.
 record Gaps (l : ℕ) (t : List ℕ) (m : Marker) (blank broke tabbed : Bool) : Type 0 where
   between : Given (λ (p : GapEnd). To p.cursor.mark p.cursor.rest m t) (end_of_gap l m blank broke tabbed t)
   inside : Given (λ (p : GapEnd). Comment m t p.cursor.mark p.cursor.rest)
@@ -182,7 +182,7 @@ pub gap_apart : (l : ℕ) (broke tabbed : Bool) (s : Cursor)
     → Given (λ (p : GapEnd). AreApart s p.cursor) (end_of_gap l s.mark s.blank_so_far broke tabbed s.rest)
 gap_apart l broke tabbed s = (all_gaps l s.rest s.mark s.blank_so_far broke tabbed).between
 
--- ## Where the text goes on behind separation a text begins
+-- ## Where the text goes on after separation a text begins
 
 abbrev pub BeginsText : GapEnd → Type 0
 BeginsText p = IsTrue (begins_text (slice_index p.cursor.rest 0))
@@ -283,7 +283,7 @@ pub gap_breaks : (l : ℕ) (broke tabbed : Bool) (s : Cursor)
     → Given (Breaks s.mark broke) (end_of_gap l s.mark s.blank_so_far broke tabbed s.rest)
 gap_breaks l broke tabbed s = (all_break l s.rest s.mark s.blank_so_far broke tabbed).between
 
--- ## Behind `?`
+-- ## After `?`
 
 record Spacing (t : List ℕ) (m : Marker) (blank space : Bool) : Type 0 where
   between : To (end_of_spaces m blank space t).cursor.mark (end_of_spaces m blank space t).cursor.rest m t

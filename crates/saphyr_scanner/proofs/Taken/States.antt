@@ -1,4 +1,4 @@
--- What is known between tokens: behind a block scalar a candidate is too far in front to be a key.
+-- What is known between tokens: after a block scalar a candidate is too far in front to be a key.
 use Rattle.std.proofs.Common.{◌≡◌, ℕ, zero, suc, ◌^◌, ◌≤◌, ◌<◌, ◌⊎◌, Bool, true, false, List, [], ◌∷◌, length, Option, Ok, Some, None, refl, sym, ap, ◌∙◌, arith, subst, inl, inr, IsTrue}
 use Rattle.std.specs.Prelude.{◌-◌, ◌&&◌, slice_index, nat_lt}
 use Rattle.saphyr_input.specs.Classes.{is_z}
@@ -42,7 +42,7 @@ pub line_small : (text : List ℕ) (s : Cursor) → length text < 2 ^ 63 → Lat
     → s.mark.line < top
 line_small text s h l = omega (arith, l.slow, l.counted)
 
--- where a candidate stands
+-- where a candidate is
 pub record CandidateStands (k : Candidate) (c : Core) : Type 0 where
   pub text : List ℕ
   pub small : k.mark.line ≤ top
@@ -78,7 +78,7 @@ key_stands opened from c q b block i k l h x =
     let N : Marker → Type 0 = λ m. Later m here.rest c.cursor.mark c.cursor.rest in
     record { text = here.rest; small = subst M same (first.lines l).1; later = subst N same all }
 
--- ## What is known behind a token
+-- ## What is known after a token
 
 -- at NUL and the end of the text no candidate counts
 abbrev pub Live : Enclosures → Core → Queue → Type 0
@@ -114,7 +114,7 @@ far_of : (c : Core) (o : Option Candidate) → c.level.key ≡ o → in_block c 
     → k.mark.line < c.cursor.mark.line → (in_block c && is_too_far c.level.key c.cursor.mark) ≡ true
 far_of c o e b k f l = rw b (ap (λ x. is_too_far x c.cursor.mark) (e ∙ f) ∙ too_far k c.cursor.mark l)
 
--- a saved key stands here or before
+-- a saved key is here or before
 key_line : (opened : Setting) (from : Cursor) (q : Queue) (c d : Core) → from.mark.line ≤ top → Saved (next q) c d
     → HoldsTaken opened from c q → (k : Candidate) → d.level.key ≡ Some k → k.mark.line ≤ d.cursor.mark.line
 key_line opened from q c d l s h k i = by s.level
@@ -251,7 +251,7 @@ outer_indent_columns column is c e = by is c.indent (positive column c.indent e)
     by [] (suc i) l = refl
     by (j ∷ is) (suc i) l = refl
 
--- what encloses the tokens behind an end
+-- what encloses the tokens after an end
 ended_enclosures : (column : Option ℕ) (m : Marker) (s : State) → is_right_of column s.core.indent ≡ true
     → enclosures_of (end_block m s).core ≡ block_ended (enclosures_of s.core)
 ended_enclosures column m s e =
@@ -266,12 +266,12 @@ ended_enclosures column m s e =
 abbrev pub TakenState : Setting → Cursor → State → Type 0
 TakenState opened from s = Taken opened from s.core s.queue
 
--- why block collections end here: what stands here is at the column that is given, or no content
+-- why block collections end here: what is here is at the column that is given, or no content
 abbrev pub EndsBlocks : Option ℕ → Cursor → Type 0
 EndsBlocks None s = IsContentEnd s
 EndsBlocks (Some column) s = column ≡ s.mark.col
 
--- at a place behind separation
+-- at a place after separation
 abbrev pub BlocksEnd : Option ℕ → Marker → Cursor → Type 0
 BlocksEnd column m s = IsPlaceOrEnd s m × IsTrue (begins_text (slice_index s.rest 0)) × EndsBlocks column s
 

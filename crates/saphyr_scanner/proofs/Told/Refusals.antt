@@ -40,7 +40,7 @@ told_further P s t (Err e) a h = at_further s t e.mark a h
 abbrev pub Goes : Cursor → Core → Type 0
 Goes s d = Reaches s d.cursor × (d.comment ≡ None)
 
--- a comment that is kept stands where the text goes on
+-- a comment that is kept is where the text goes on
 abbrev pub Noted : Core → Type 0
 Noted c = IsNoted c.comment c.cursor
 

@@ -17,7 +17,7 @@ pub data Handle : Type 0 where
   Named : List ℕ → Handle
 
 -- A tag (6.9.1): `!` alone, `!<uri>`, or a handle with a suffix.
--- The uri and the suffix are decoded: a percent escape stands as the character that it encodes.
+-- The uri and the suffix are decoded: a percent escape is as the character that it encodes.
 pub data Tag : Type 0 where
   NonSpecific : Tag
   Verbatim : List ℕ → Tag

@@ -3,8 +3,8 @@ use Rattle.std.specs.Prelude.{◌≡◌, ◌⊎◌, Bool, true, false, List, [],
 use Rattle.saphyr_scanner.specs.Grammar.Forest.{Style, Plain, Properties, HasProperty, no_properties, Node, Alias, Scalar, Seq, Map, Nodes, NoNode, MoreNodes, Pairs, NoPair, MorePairs, left_out, AreCompatible, Document, Forest}
 use Rattle.saphyr_scanner.specs.Grammar.Tokens.{Kind, StreamStart, StreamEnd, DocumentStart, DocumentEnd, ByteOrderMark, BlockSequenceStart, BlockMappingStart, BlockEnd, FlowSequenceStart, FlowSequenceEnd, FlowMappingStart, FlowMappingEnd, BlockEntry, FlowEntry, Key, Value, alias_token, anchor_token, tag_token, scalar_token, directive_token}
 
--- Where a node stands: inside a flow collection, where no block collection is; in block style; or as a key or a value
--- of a block mapping, where a block sequence may stand at the mapping's own column (8.2.2).
+-- Where a node is: inside a flow collection, where no block collection is; in block style; or as a key or a value
+-- of a block mapping, where a block sequence may be at the mapping's own column (8.2.2).
 pub data Context : Type 0 where
   InFlow : Context
   InBlock : Context
@@ -30,7 +30,7 @@ AreBoth (Some anchor) (Some tag) t = (t ≡ anchor ∷ tag ∷ []) ⊎ (t ≡ ta
 abbrev pub YieldProperties : Properties → List Kind → Type 0
 YieldProperties p t = AreBoth (option_map anchor_token p.anchor) (option_map tag_token p.tag) t
 
--- a scalar behind its properties, which may stand alone for an empty one
+-- a scalar after its properties, which may be alone for an empty one
 abbrev pub YieldsScalar : Properties → Style → List ℕ → List Kind → Type 0
 YieldsScalar p style value t =
     (t ≡ scalar_token style value ∷ []) ⊎ (HasProperty p × (style ≡ Plain) × (value ≡ []) × (t ≡ []))
@@ -39,7 +39,7 @@ YieldsScalar p style value t =
 abbrev pub YieldsOptional : Node → (List Kind → Type 0) → List Kind → Type 0
 YieldsOptional node N t = ((node ≡ left_out) × (t ≡ [])) ⊎ N t
 
--- ## Collections, whose entries are those of Flow or of Block, behind their properties
+-- ## Collections, whose entries are those of Flow or of Block, after their properties
 
 abbrev pub IsBetween : Kind → Kind → (List Kind → Type 0) → List Kind → Type 0
 IsBetween opening closing Inside t = (inside : List Kind) × Inside inside × (t ≡ opening ∷ (inside ++ closing ∷ []))
@@ -61,7 +61,7 @@ YieldsMapping context Flow Block t =
     IsBetween FlowMappingStart FlowMappingEnd Flow t
     ⊎ (AllowsBlock context × IsBetween BlockMappingStart BlockEnd Block t)
 
--- behind the last entry of a flow collection: nothing, or a comma
+-- after the last entry of a flow collection: nothing, or a comma
 abbrev pub IsListEnd : List Kind → Type 0
 IsListEnd t = (t ≡ []) ⊎ (t ≡ FlowEntry ∷ [])
 
@@ -91,7 +91,7 @@ abbrev pub BeginsWithValue : List Kind → Type 0
 BeginsWithValue (Value ∷ _) = Unit {0}
 BeginsWithValue _ = ⊥
 
--- An entry of a block mapping (8.2.2), with the tokens of the other entries behind it. A value belongs to the key
+-- An entry of a block mapping (8.2.2), with the tokens of the other entries after it. A value belongs to the key
 -- before it, where that has none yet.
 abbrev pub YieldsBlockPair : Node → Node → (List Kind → Type 0) → (List Kind → Type 0) → List Kind → List Kind → Type 0
 YieldsBlockPair key value K V others t =
@@ -174,7 +174,7 @@ YieldsExplicitDocument d t =
     × YieldsOptional d.node (YieldsNode d.node InBlock) node
     × (t ≡ map directive_token d.directives ++ DocumentStart ∷ node)
 
--- A document. One that stands behind another without `...` between is explicit and has no directives.
+-- A document. One that comes after another without `...` between is explicit and has no directives.
 abbrev pub YieldsDocument : Document → Bool → List Kind → Type 0
 YieldsDocument d free t =
     (IsTrue free × YieldsBareDocument d t) ⊎ ((IsTrue free ⊎ (d.directives ≡ [])) × YieldsExplicitDocument d t)
@@ -187,7 +187,7 @@ abbrev pub AreEndsAndMarks : List Kind → Type 0
 AreEndsAndMarks [] = Unit {0}
 AreEndsAndMarks (k ∷ others) = ((k ≡ DocumentEnd) ⊎ (k ≡ ByteOrderMark)) × AreEndsAndMarks others
 
--- Behind a document: byte order marks, optionally `...` and any number of `...` and marks, and what Others tells, which
+-- After a document: byte order marks, optionally `...` and any number of `...` and marks, and what Others tells, which
 -- is given whether there was a `...`.
 abbrev pub YieldsBehindDocument : (Bool → List Kind → Type 0) → List Kind → Type 0
 YieldsBehindDocument Others t =

@@ -15,20 +15,20 @@ use Rattle.saphyr_scanner.specs.Steps.Level.{behind_question}
 use Rattle.saphyr_scanner.specs.Steps.Core.{Core, Action, StepResult, completed_step, at_mark, up_to_here, in_block, remove_key, with_context, go_deeper, is_further, roll}
 use Rattle.saphyr_scanner.specs.Steps.Passing.{separate, pass_on, with_cursor}
 
--- a `-` stands here as an indicator
+-- a `-` is here as an indicator
 abbrev pub is_dash_next : Core → Bool
 is_dash_next c = (slice_index c.cursor.rest 0 == hyphen) && is_blank_or_breakz (slice_index c.cursor.rest 1)
 
--- Content on a later line, and flow collections, have to stand right of the `-`.
+-- Content on a later line, and flow collections, have to be right of the `-`.
 abbrev pub deepen : Core → Core
 deepen c = if is_break (slice_index c.cursor.rest 0) || is_flow (slice_index c.cursor.rest 0) then go_deeper c else c
 
--- a compact sequence has its `-` behind spaces alone
+-- a compact sequence has its `-` after spaces alone
 abbrev pub refuse_tab : SkipTabs × Core → Result Core Refusal
 refuse_tab x = if found_tabs x.0 && is_dash_next x.1 then refuse fault.DashWithoutWhitespace x.1.cursor.mark else Ok
     (deepen x.1)
 
--- what stands behind `-` on its line
+-- what comes after `-` on its line
 unfoldable pub pass_dash : Core → Result Core Refusal
 pass_dash c = separate c >>= refuse_tab
 
@@ -50,7 +50,7 @@ block_entry_steps c =
     else if not c.key_allowed then refuse fault.SequenceEntryNotAllowed c.cursor.mark
     else next_entry c
 
--- Something has to stand behind `?`, and no tab before its content.
+-- Something has to come after `?`, and no tab before its content.
 unfoldable pub behind_mark : Bool → Core → Result Core Refusal
 behind_mark space c =
     if not space then refuse fault.WhitespaceExpected c.cursor.mark

@@ -12,7 +12,7 @@ use Rattle.saphyr_scanner.specs.Steps.Level.{Candidate, Level, at_root, is_block
 use Rattle.saphyr_scanner.specs.Steps.Queue.{Queue, with_piece, with_opening, empty_piece}
 
 -- `indent` is the first column to the right of the innermost block collection, 0 where there is none. `deeper` tells
--- that content has to stand one column further right.
+-- that content has to be one column further right.
 pub record Core : Type 0 where
   pub cursor : Cursor
   pub level : Level
@@ -94,7 +94,7 @@ with_key k c = record c { level = record { context = c.level.context; key = k } 
 
 -- ## Keys (7.4.2, 8.2.2)
 
--- The token that comes next may be a key. It has to be one where it stands at the column of the block mapping.
+-- The token that comes next may be a key. It has to be one where it is at the column of the block mapping.
 abbrev pub save_key : ℕ → Core → Core
 save_key n c =
     if c.key_allowed then
@@ -128,7 +128,7 @@ drop_far_key c =
 abbrev pub least_column : Core → ℕ
 least_column c = if c.deeper then c.indent else c.indent - 1
 
--- content has to stand one column further right than the block collection
+-- content has to be one column further right than the block collection
 abbrev pub go_deeper : Core → Core
 go_deeper c = record c { deeper = (in_block c && nat_lt 0 c.indent) || c.deeper }
 

@@ -22,7 +22,7 @@ remove_key_of s = on_core (remove_key s.core) s.queue
 unfoldable pub end_content : State → Result State Refusal
 end_content s = remove_key_of (unroll None s.core.cursor.mark s)
 
--- The place of the end of the stream: the end of the text, where it ends a line, else the line behind it.
+-- The place of the end of the stream: the end of the text, where it ends a line, else the line after it.
 abbrev pub end_mark : Marker → Marker
 end_mark m = if m.col == 0 then m else next_line m 0
 
@@ -57,7 +57,7 @@ end_line x =
     if is_breakz (slice_index x.1.core.cursor.rest 0) then Ok x.1 else refuse fault.ContentAfterDocumentEnd
     x.1.core.cursor.mark
 
--- `...`, and what stands behind it on its line
+-- `...`, and what comes after it on its line
 unfoldable pub state_behind_document_end : State → Result State Refusal
 state_behind_document_end s = state_behind_marker tokens.DocumentEnd s >>= λ t. on_core_with
     (separate t.core) t >>= end_line

@@ -26,7 +26,7 @@ use Rattle.saphyr_values.specs.declared.block.BlockStyle.TheVariants as block_st
 
 -- ## What begins here
 
--- a colon that no blank follows stands between a key and its value, inside flow
+-- a colon that no blank follows is between a key and its value, inside flow
 abbrev pub is_value_adjacent : ℕ → Core → Bool
 is_value_adjacent second c = not (in_block c) && (is_flow second || (c.cursor.mark.index == c.adjacent))
 

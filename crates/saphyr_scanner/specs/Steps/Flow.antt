@@ -33,7 +33,7 @@ open_collection x kind c =
 unfoldable pub opening_steps : Context → Kind → ℕ → Core → StepResult
 opening_steps x kind n c = open_collection x kind (go_deeper (save_key n c))
 
--- behind a collection inside flow, which may be a key, its colon may stand at once
+-- after a collection inside flow, which may be a key, its colon may come at once
 abbrev pub allow_adjacent : Core → Core
 allow_adjacent c = if in_block c then c else record c { adjacent = c.cursor.mark.index }
 

@@ -1,4 +1,4 @@
--- What stands between two tokens: blanks, breaks and comments (YAML 1.2.2, 6.7).
+-- What is between two tokens: blanks, breaks and comments (YAML 1.2.2, 6.7).
 use Rattle.std.specs.Prelude.{ℕ, Bool, true, false, ◌||◌, ◌&&◌, ◌==◌, not, nat_lt, List, [], ◌∷◌, slice_index, Result, Ok, if◌then◌else◌}
 use Rattle.saphyr_input.specs.Classes.{is_blank, is_break, is_bom, is_z, is_yaml_non_break, carriage_return, line_feed, space, tab}
 use Rattle.saphyr_input.specs.Indicators.{number_sign}
@@ -12,11 +12,11 @@ pub record GapEnd : Type 0 where
   pub cursor : Cursor
   pub broke : Bool
 
--- what contracts see of a gap that was passed: whether a break was met, and the reader behind it
+-- what contracts see of a gap that was passed: whether a break was met, and the reader after it
 abbrev pub seen_gap_end : Bool → Cursor → GapEnd
 seen_gap_end broke s = record { cursor = s; broke = broke }
 
--- `tabbed` tells that a tab stood on the line where indentation does, so that nothing else may stand there.
+-- `tabbed` tells that a tab was in the indentation of the line, so that nothing else may be on it.
 unfoldable pub stop : Marker → Bool → Bool → Bool → List ℕ → Result GapEnd Refusal
 stop m blank broke tabbed text =
     if tabbed && is_bom (slice_index text 0) then refuse fault.MisplacedByteOrderMark m
@@ -41,7 +41,7 @@ abbrev mutual
       else if c == number_sign then end_of_gap_in_comment least (along m 1) blank broke tabbed cs
       else stop m blank broke tabbed (c ∷ cs)
 
-  -- behind the `#` of a comment
+  -- after the `#` of a comment
   pub end_of_gap_in_comment : ℕ → Marker → Bool → Bool → Bool → List ℕ → Result GapEnd Refusal
   end_of_gap_in_comment least m blank broke tabbed [] = stop m blank broke tabbed []
   end_of_gap_in_comment least m blank broke tabbed (c ∷ cs) =
@@ -54,11 +54,11 @@ abbrev mutual
 abbrev pub gap_at : ℕ → Bool → Bool → Cursor → Result GapEnd Refusal
 gap_at least broke tabbed s = end_of_gap least s.mark s.blank_so_far broke tabbed s.rest
 
--- what stands between two tokens is passed, where content has to reach a column
+-- what is between two tokens is passed, where content has to reach a column
 abbrev pub whole_gap : ℕ → Cursor → Result GapEnd Refusal
 whole_gap least s = gap_at least false false s
 
--- ## Behind `?`: spaces, breaks and comments (8.2.2), of which something has to stand there
+-- ## After `?`: spaces, breaks and comments (8.2.2), of which something has to be there
 
 pub record SpacesEnd : Type 0 where
   pub cursor : Cursor

@@ -29,13 +29,13 @@ ends_pair context.FlowPair = true
 ends_pair context.MarkedFlowPair = true
 ends_pair _ = false
 
--- what is open behind a comma
+-- what is open after a comma
 abbrev pub behind_entry : Context → Context
 behind_entry context.Block = context.Block
 behind_entry context.FlowMapping = context.FlowMapping
 behind_entry _ = context.FlowSequence
 
--- what is open behind `?`
+-- what is open after `?`
 abbrev pub behind_question : Context → Context
 behind_question context.FlowSequence = context.ExplicitFlowPair
 behind_question context.FlowPair = context.MarkedFlowPair
@@ -47,7 +47,7 @@ begins_pair context.FlowSequence = true
 begins_pair context.FlowPair = true
 begins_pair _ = false
 
--- what is open behind a colon
+-- what is open after a colon
 abbrev pub behind_colon : Context → Context
 behind_colon context.FlowSequence = context.FlowPair
 behind_colon x = x

@@ -1,4 +1,4 @@
--- What a scanner passes between tokens and behind them.
+-- What a scanner passes between tokens and after them.
 use Rattle.std.specs.Prelude.{ℕ, ◌-◌, Bool, false, ◌||◌, ◌&&◌, ◌==◌, not, nat_lt, nat_le, Option, Some, None, Result, Ok, slice_index, if◌then◌else◌}
 use Rattle.saphyr_input.specs.Classes.{is_z}
 use Rattle.saphyr_input.specs.Places.{can_be_plain, is_document_indicator}
@@ -39,10 +39,10 @@ check_comment_of (Some m) c = let d =
 unfoldable pub check_comment : Core → Result Core Refusal
 check_comment c = check_comment_of c.comment c
 
--- Behind a break a key may stand, outside flow.
+-- After a break a key may be, outside flow.
 abbrev pub behind_gap : Core → GapEnd → Core
 behind_gap c g = record c { cursor = g.cursor; key_allowed = (g.broke && in_block c) || c.key_allowed }
 
--- what stands between two tokens is passed
+-- what is between two tokens is passed
 unfoldable pub pass_gap : Core → Result Core Refusal
 pass_gap c = gap.whole_gap (least_column c) c.cursor >>= λ g. check_comment (behind_gap c g)

@@ -7,7 +7,7 @@ use Rattle.saphyr_scanner.specs.Grammar.Tokens as tokens
 use Rattle.saphyr_scanner.specs.Grammar.Tokens.{Kind}
 use Rattle.saphyr_scanner.specs.Views.Tokens.{Piece}
 
--- a token, and what stands in front of it
+-- a token, and what comes before it
 pub record Place : Type 0 where
   pub opening : Opening
   pub piece : Piece
@@ -37,7 +37,7 @@ bare_place t = record { opening = opening.Nothing; piece = t }
 abbrev pub with_piece : Piece → Queue → Queue
 with_piece t q = record q { places = q.places ++ bare_place t ∷ [] }
 
--- at the nth of the places stands this in front of the token
+-- this comes before the token at the nth of the places
 abbrev pub places_with_opening : ℕ → Opening → List Place → List Place
 places_with_opening n o [] = []
 places_with_opening zero o (p ∷ ps) = record { opening = o; piece = p.piece } ∷ ps
@@ -59,7 +59,7 @@ take_first (p ∷ ps) q = (Some p.piece, record { places = ps; handed = q.handed
 abbrev pub take_place : Queue → Option Piece × Queue
 take_place q = take_first q.places q
 
--- a token in front of the first place's own, and what is left there
+-- a token before the first place's own, and what is left there
 abbrev pub take_front : Kind → Opening → Place → List Place → Queue → Option Piece × Queue
 take_front kind left p ps q =
     (Some (empty_piece p.piece.span.start kind), record q { places = record { opening = left; piece = p.piece } ∷ ps })
@@ -70,7 +70,7 @@ take_of opening.Key p ps q = take_front tokens.Key opening.Nothing p ps q
 take_of opening.BlockMappingAndKey p ps q = take_front tokens.BlockMappingStart opening.Key p ps q
 take_of opening.FlowMappingAndKey p ps q = take_front tokens.FlowMappingStart opening.Key p ps q
 
--- the same of a first place, those behind it, and how many were handed out before them
+-- the same of a first place, those after it, and how many were handed out before them
 abbrev pub take_first_of : Place → List Place → ℕ → Option Piece × Queue
 take_first_of p ps n = take_of p.opening p ps (record { places = p ∷ ps; handed = n })
 

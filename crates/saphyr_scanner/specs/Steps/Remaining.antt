@@ -11,7 +11,7 @@ use Rattle.saphyr_scanner.specs.Steps.Queue.{Place, empty_piece}
 use Rattle.saphyr_scanner.specs.Steps.State.{State, start}
 use Rattle.saphyr_scanner.specs.Steps.Fetch.{needs_token, fetch_within, without_far_key, size}
 
--- the tokens of a place, in front of others
+-- the tokens of a place, before others
 abbrev pub before_place : Opening → Piece → Remaining → Remaining
 before_place opening.Nothing t r = before t r
 before_place opening.Key t r = before (empty_piece t.span.start tokens.Key) (before t r)
@@ -25,7 +25,7 @@ before_place opening.FlowMappingAndKey t r =
 abbrev pub without_first : List Place → State → State
 without_first ps s = record { core = s.core; queue = record { places = ps; handed = s.queue.handed + 1 } }
 
--- The tokens of the queue, up to the first that may yet turn out to be a key; `go` gives those behind.
+-- The tokens of the queue, up to the first that may yet turn out to be a key; `go` gives those after.
 abbrev pub hand_out : List Place → (State → Remaining) → State → Remaining
 hand_out [] go s = go s
 hand_out (p ∷ ps) go s =

@@ -20,7 +20,7 @@ use Rattle.saphyr_scanner.specs.Steps.Passing.{separate, pass_gap, with_cursor}
 abbrev pub disallow_key : Core → Core
 disallow_key c = record c { key_allowed = false }
 
--- What may stand behind a quoted scalar that began at a place: the line's end, a colon (outside flow on the scalar's
+-- What may come after a quoted scalar that began at a place: the line's end, a colon (outside flow on the scalar's
 -- own line), and what ends an entry in flow.
 unfoldable pub goes_on_behind_quotes : Marker → Core → Bool
 goes_on_behind_quotes start c =
@@ -28,7 +28,7 @@ goes_on_behind_quotes start c =
     if in_block c then is_breakz x || ((x == colon) && (start.line == c.cursor.mark.line))
     else is_breakz x || (x == colon) || (x == comma) || (x == right_bracket) || (x == right_brace)
 
--- Where a colon may stand right behind a quoted scalar, also on a later line.
+-- Where a colon may come right after a quoted scalar, even on a later line.
 abbrev pub adjacent_here : Core → Core
 adjacent_here c = record c { adjacent = c.cursor.mark.index }
 
@@ -39,7 +39,7 @@ behind_quoted_line start style text c =
     (adjacent_here d))
     else refuse fault.ContentAfterQuotes c.cursor.mark
 
--- what stands behind a quoted scalar
+-- what comes after a quoted scalar
 unfoldable pub behind_quotes : Marker → ScalarStyle → List ℕ → Core → StepResult
 behind_quotes start style text c = separate c >>= λ d. behind_quoted_line start style text d.1
 
@@ -59,7 +59,7 @@ read_single_quoted c = quoted.single_quoted (least_column c) c.cursor >>= λ x. 
 unfoldable pub single_quoted_steps : ℕ → Core → StepResult
 single_quoted_steps n c = read_single_quoted (disallow_key (save_key n c))
 
--- behind a plain scalar: a key may begin where its line has ended, and a comment may have ended it
+-- after a plain scalar: a key may begin where its line has ended, and a comment may have ended it
 abbrev pub behind_plain : Option Marker → Cursor → Core → Core
 behind_plain comment s c = record c { cursor = s; key_allowed = s.blank_so_far; comment = comment }
 
@@ -82,6 +82,6 @@ read_block style c =
     blocks.block_scalar style c.indent c.cursor >>= λ x. completed_step
     (from_to x.1.start x.1.end (tokens.Scalar (style_of style) x.0) ∷ []) (with_cursor x.2 c)
 
--- a block scalar, behind which a key may begin
+-- a block scalar, after which a key may begin
 unfoldable pub block_scalar_steps : BlockStyle → ℕ → Core → StepResult
 block_scalar_steps style n c = read_block style (record (save_key n c) { key_allowed = true; deeper = false })

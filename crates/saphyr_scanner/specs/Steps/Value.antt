@@ -26,14 +26,14 @@ refuse_lone_tab x =
 unfoldable pub check_tab : Core → Result Core Refusal
 check_tab c = if slice_index c.cursor.rest 0 == tab then (separate c >>= refuse_lone_tab) else Ok c
 
--- what stands in front of the key
+-- what comes before the key
 abbrev pub opening_of : Bool → ℕ → Core → Opening
 opening_of begins column c =
     if begins then opening.FlowMappingAndKey
     else if is_further column c then opening.BlockMappingAndKey
     else opening.Key
 
--- the value of a key that stands before the colon
+-- the value of a key that comes before the colon
 unfoldable pub value_of_key : Candidate → Bool → Marker → Core → StepResult
 value_of_key k begins start c =
     if begins && nat_lt k.mark.line start.line then refuse fault.MisplacedColon start

@@ -53,15 +53,15 @@ text_kind text.DoubleQuoted bs = tokens.Scalar style.DoubleQuoted bs
 abbrev pub text_at : List ℕ → TextPlace → List ℕ
 text_at bytes t = slice_range bytes t.start (t.start + t.count)
 
--- At the place a text stands.
+-- At the place a text is.
 abbrev pub IsHeldText : List ℕ → TextPlace → Type 0
 IsHeldText bytes t = (t.start + t.count ≤ length bytes) × ∥ IsUtf8 (text_at bytes t) ∥₁
 
--- At the place this text stands.
+-- At the place this text is.
 abbrev pub IsHeldAs : List ℕ → List ℕ → TextPlace → Type 0
 IsHeldAs bytes text t = IsHeldText bytes t × (text_at bytes t ≡ text)
 
--- What stood before stands there still, maybe with more behind it.
+-- What was before is there still, maybe with more after it.
 abbrev pub GrowsBehind : List ℕ → List ℕ → Type 0
 GrowsBehind old new = take (length old) new ≡ old
 
@@ -88,7 +88,7 @@ place bytes (Tagged o n m tag) =
     on_line o m n (tokens.Tag (string_bytes tag.value.handle) (string_bytes tag.value.suffix))
 place bytes (Whole o t) = record { opening = o; piece = piece t.value }
 
--- It is the place of this token, with nothing in front of it.
+-- It is the place of this token, with nothing before it.
 abbrev pub IsBarePlaceOf : List ℕ → Piece → declared_place.Place → Type 0
 IsBarePlaceOf bytes t p = HasHeldText bytes p × (place bytes p ≡ bare_place t)
 

@@ -13,7 +13,7 @@ use Rattle.saphyr_scanner.specs.Steps.Queue.{Place, Queue}
 abbrev pub slot_place : Slot → Place
 slot_place s = record { opening = s.opening; piece = piece s.token }
 
--- the place in a slot, if there is one, and those behind it
+-- the place in a slot, if there is one, and those after it
 abbrev pub in_slot : Slot → List Place → List Place
 in_slot s ps = if s.is_full then slot_place s ∷ ps else ps
 

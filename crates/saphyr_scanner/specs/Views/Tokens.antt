@@ -43,7 +43,7 @@ pub record Piece : Type 0 where
 abbrev pub piece : Token → Piece
 piece t = record { span = t.span; kind = kind_of t.kind }
 
--- the tokens still to come, and the refusal behind them, if one ends them
+-- the tokens still to come, and the refusal after them, if one ends them
 pub record Remaining : Type 0 where
   pub pieces : List Piece
   pub refusal : Option Refusal
@@ -67,7 +67,7 @@ abbrev pub handed_token : Token → Result Bool Stop → Result (Option Token) S
 handed_token t (Ok is_written) = Ok (written_token is_written t)
 handed_token t (Err e) = Err e
 
--- what a call for the next token hands out, and what remains; behind a refusal nothing is known
+-- what a call for the next token hands out, and what remains; after a refusal nothing is known
 abbrev pub Hands : Result (Option Token) Stop → Remaining → Remaining → Type 0
 Hands (Ok (Some t)) old new = old ≡ before (piece t) new
 Hands (Ok None) old new = (old ≡ none) × (new ≡ none)

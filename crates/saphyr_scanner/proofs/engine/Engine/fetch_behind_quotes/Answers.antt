@@ -1,4 +1,4 @@
--- An indicator stands right behind a quoted scalar inside flow.
+-- An indicator comes right after a quoted scalar inside flow.
 use Rattle.std.proofs.Common.{rules, refl}
 use Rattle.std.specs.Prelude.{string_bytes}
 use Rattle.saphyr_scanner.specs.Views.Engine.{core}

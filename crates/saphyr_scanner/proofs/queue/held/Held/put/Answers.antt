@@ -1,4 +1,4 @@
--- A token is put behind those that are held, and its text behind theirs.
+-- A token is put after those that are held, and its text after theirs.
 use Rattle.std.proofs.Common.{List, ◌∷◌, [], ◌++◌, ap, ◌∙◌}
 use Rattle.std.specs.Prelude.{map}
 use Rattle.std.proofs.lemmas.List.Elements.{All-same}

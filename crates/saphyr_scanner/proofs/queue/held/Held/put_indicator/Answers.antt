@@ -1,4 +1,4 @@
--- An indicator is put behind the tokens that are held, and no text with it.
+-- An indicator is put after the tokens that are held, and no text with it.
 use Rattle.std.proofs.Common.{List, ◌∷◌, [], ◌++◌, ap, ◌∙◌}
 use Rattle.std.specs.Prelude.{map}
 use Rattle.std.proofs.lemmas.List.Elements.{All-same}

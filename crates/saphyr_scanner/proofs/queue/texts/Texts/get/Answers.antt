@@ -1,4 +1,4 @@
--- What stands at the place of a text is a text.
+-- What is at the place of a text is a text.
 use Rattle.std.proofs.Common.{List, ℕ, ◌+◌, sym, subst}
 use Rattle.std.specs.Prelude.{slice_range, IsUtf8}
 use Rattle.std.proofs.lemmas.Str.{IsUtf8-had}
