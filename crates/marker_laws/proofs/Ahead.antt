@@ -1,4 +1,4 @@
--- What two texts show that are the same up to a document marker, and what is left of them behind a run.
+-- What two texts show that are the same up to a document marker, and what is left of them after a run.
 use Rattle.std.proofs.Common.{◌≡◌, ℕ, suc, ◌+◌, Bool, true, false, List, [], ◌∷◌, ◌++◌, take, drop, slice_index, refl, sym, ap, ◌∙◌, arith, subst}
 use Rattle.std.specs.Prelude.{◌&&◌, ◌==◌}
 use Rattle.std.specs.List.{prefix_len}
@@ -79,13 +79,13 @@ pub told_too : {r q : List ℕ} → Marked r q → is_document_indicator q ≡ t
 told_too (dashes d {y = y} e) = dashes_told d y e
 told_too (dots tail d _ y white e) = indicated (tail ++ d ∷ y) (dots_told tail d y white)
 
--- where no indicator stands
+-- where no indicator is
 pub unmarked : {from : List ℕ} {b : Bool} (k : Bool) {r q : List ℕ} → Ahead from b r q
     → is_document_indicator r ≡ false → Ahead from k r q
 unmarked k (here h) f = let t = told h in absurd (cc)
 unmarked k (character c h) f = character c h
 
--- where a character of a class stands that has none of a marker's
+-- where a character of a class is that has none of a marker's
 pub other_first : {from : List ℕ} {b : Bool} (k : Bool) (p : ℕ → Bool) → p 45 ≡ false → p 46 ≡ false → {r q : List ℕ}
     → Ahead from b r q
     → p (slice_index r 0) ≡ true → Ahead from k r q
@@ -93,7 +93,7 @@ other_first k p x y (here (dashes d e)) f = absurd (cc)
 other_first k p x y (here (dots tail d _ _ white e)) f = absurd (cc)
 other_first k p x y (character c h) f = character c h
 
--- behind the first character, which is no break
+-- after the first character, which is no break
 pub past_first : {from : List ℕ} {b : Bool} (k : Bool) {r q : List ℕ} → Ahead from b r q → b ≡ false
     → is_break (slice_index r 0) ≡ false
     → Ahead from k (drop 1 r) (drop 1 q)
@@ -106,7 +106,7 @@ past_first k (character c h) f g = inside k h g
 pub stands_before : {from : List ℕ} (m : Marker) {r q : List ℕ} → Ahead from false r q → Stands from m r q
 stands_before m h = record { flag = false; ahead = h; fits = λ e i. absurd (cc) }
 
--- where the marker itself stands first
+-- where the marker itself comes first
 pub stands_here : (m : Marker) {from q : List ℕ} → Marked from q
     → (true ≡ true → is_document_indicator from ≡ true → (m.col == 0) ≡ true) → Stands from m from q
 stands_here m h f = record { flag = true; ahead = here h; fits = f }
@@ -122,7 +122,7 @@ pub stands_in_column : {from : List ℕ} (m n : Marker) {r q : List ℕ} → n.c
 stands_in_column m n e h =
     record { flag = h.flag; ahead = h.ahead; fits = λ f i. ap (λ k. k == 0) e ∙ h.fits f i }
 
--- where no indicator stands, or not at the start of a line, no marker does
+-- where no indicator is, or not at the start of a line, there is no marker
 unmarked_by : {from : List ℕ} (m : Marker) {b : Bool} {r q : List ℕ} → Ahead from b r q
     → (b ≡ true → is_document_indicator r ≡ true → (m.col == 0) ≡ true)
     → ((m.col == 0) && is_document_indicator r) ≡ false → Ahead from false r q

@@ -1,5 +1,5 @@
 -- What a machine tells next where no document is open.
-use Rattle.std.proofs.Common.{◌≢◌, Result, Ok, Err, sym, subst}
+use Rattle.std.proofs.Common.{Result, Ok, Err, sym, subst}
 use Rattle.saphyr_scalar.specs.declared.scalar.fault.Refusal.{Refusal}
 use Rattle.saphyr_scanner.specs.Grammar.Tokens as tokens
 use Rattle.saphyr_scanner.specs.Grammar.Tokens.{Kind}
@@ -53,11 +53,6 @@ step_between state.ImplicitDocumentStart m i = behind_token _ document.implicit_
 step_between state.DocumentStart m i = behind_token _ document.explicit_start_at start_at
 step_between _ m i = absurd i
 
-not_over : (s : State) → IsBetweenDocuments s → s ≢ state.End
-not_over state.ImplicitDocumentStart i = λ e. absurd (cc)
-not_over state.DocumentStart i = λ e. absurd (cc)
-not_over _ i = absurd i
-
 begins_between : (r : Result Told Refusal) → TellsBetween r
     → BeginOutsideDocuments (answer_of_step r remaining_answer).events
 begins_between (Ok x) h = h
@@ -66,5 +61,5 @@ begins_between (Err e) h = tt
 pub next_between : (m : Machine) → IsBetweenDocuments m.state → BeginOutsideDocuments (remaining_answer m).events
 unfolding event_step
 next_between m i =
-    subst (λ (a : Answer). BeginOutsideDocuments a.events) (sym (unroll m (not_over m.state i)))
+    subst (λ (a : Answer). BeginOutsideDocuments a.events) (sym (unroll m (λ e. subst IsBetweenDocuments e i)))
     (begins_between (event_step_at m.state m) (step_between m.state m i))

@@ -15,6 +15,7 @@ use Rattle.saphyr_scalar.specs.Steps.Block.{BlockHeaderRead, EmptyLinesRead, cho
 use Rattle.saphyr_scalar.specs.Views.Cursor.{Cursor, ◌>>=◌, refuse, along, next_line, pass, pass_break}
 use Rattle.saphyr_scalar.proofs.Choices.{both_by}
 use Rattle.saphyr_scalar.proofs.NoBreaks.{class_no_break}
+use Rattle.scalar_laws.proofs.Breaks.Blocks.{no_indentation}
 use Rattle.marker_laws.specs.Beside.{Ahead, here, dashes, dots, character, reading, Before, before, Beside, beside, Gives, refused, given, Pairs, pairs, Triples, triples}
 use Rattle.marker_laws.proofs.Ahead.{first_same, indicator_same, told, told_too, stands_before, stands_here}
 use Rattle.marker_laws.proofs.Results.{both_then, choose, by_first}
@@ -107,10 +108,6 @@ unfolding header
 header_same s h k = behind_chomping s.mark _ _ (chomping_same _ _ (one_before s h k))
 
 -- ## Indentation
-
-no_indentation : (limit : Option ℕ) (col c : ℕ) → (c == space) ≡ false → is_indentation limit col c ≡ false
-no_indentation None col c h = h
-no_indentation (Some l) col c h = rw h refl
 
 indentation_free : (limit : Option ℕ) (col c : ℕ) → is_indentation limit col c ≡ true → is_break c ≡ false
 indentation_free None col c h = class_no_break (λ x. x == space) refl refl c h

@@ -10,13 +10,13 @@ use Rattle.saphyr_scalar.proofs.Choices.{both_by}
 use Rattle.saphyr_scanner.specs.Steps.Core.{Core, in_block, with_key, save_key, forget_key, remove_key, is_too_far, drop_far_key, least_column, go_deeper, is_further, enter_block, roll}
 use Rattle.saphyr_scanner.specs.Steps.Gap.{GapEnd}
 use Rattle.saphyr_scanner.specs.Steps.Passing.{with_cursor, pass_on, separate, goes_on_behind, check_comment_of, check_comment, behind_gap, pass_gap}
-use Rattle.marker_laws.specs.Beside.{Ahead, Stands, reading, Before, before, Beside, beside, Gives, refused, given, Pairs, pairs, Cores, cores}
+use Rattle.marker_laws.specs.Beside.{Ahead, reading, Before, before, Beside, beside, Gives, refused, given, Pairs, pairs, Cores, cores}
 use Rattle.marker_laws.proofs.Ahead.{first_same, second_same, indicator_same, past_first, stands_before}
 use Rattle.marker_laws.proofs.Results.{both_then, choose}
 use Rattle.marker_laws.proofs.Separations.{separation_beside}
 use Rattle.marker_laws.proofs.Gaps.{Gaps, gaps, gap_same}
 
--- what two scanners know that are the same but for what stands behind the marker, with the cursor at a place
+-- what two scanners know that are the same but for what comes after the marker, with the cursor at a place
 pub data Twins (s : Cursor) (q : List ℕ) : Core → Core → Type 0 where
   twins : (c : Core) → Twins s q (with_cursor s c) (with_cursor (reading q s) c)
 

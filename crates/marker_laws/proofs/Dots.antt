@@ -1,4 +1,4 @@
--- What stands behind `...` on its line is passed alike, or refused: it is the same up to a break.
+-- What comes after `...` on its line is passed alike, or refused: it is the same up to a break.
 use Rattle.std.proofs.Common.{◌≡◌, ℕ, suc, ◌+◌, ◌≤◌, Bool, true, false, List, [], ◌∷◌, ◌++◌, length, drop, slice_index, refl, sym, ap, ◌∙◌, arith, subst}
 use Rattle.std.specs.Prelude.{◌&&◌, ◌==◌, nat_lt}
 use Rattle.std.specs.List.{prefix_len}
@@ -83,7 +83,7 @@ module _ (d : ℕ) (x y : List ℕ) (break : is_break d ≡ true) where
             ∙ ap (drop (comment_len (h.left ++ d ∷ y))) h.second ∙ k.second;
       }))
 
--- two readers inside the line, behind the same
+-- two readers inside the line, after the same
 pub data Leaves (m : Marker) (d : ℕ) (x y r q : List ℕ) : SkipTabs × Cursor → SkipTabs × Cursor → Type 0 where
   leaves : (j k : SkipTabs) (n : ℕ) (left : List ℕ) → n ≤ length r → drop n r ≡ left ++ d ∷ x → drop n q ≡ left ++ d ∷ y
       → Leaves m d x y r q (j, pass_blanks n (mid_line m r)) (k, pass_blanks n (mid_line m q))

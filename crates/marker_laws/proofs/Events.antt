@@ -103,7 +103,7 @@ module _ (limit : ℕ) (v from : List ℕ) (keep : Bool) where
   w : (d : DocumentMarker) × IsMarker d kind
   w = marker_of from
 
-  -- tokens behind the marker's
+  -- tokens after the marker's
   regrouped : (front : List Piece) (x : Piece) (r : Remaining)
       → record { pieces = (front ++ x ∷ []) ++ r.pieces; refusal = r.refusal } ≡ before_all front (before x r)
   regrouped front x r = ap (λ ts. let v : Remaining = record { pieces = ts; refusal = r.refusal } in v)

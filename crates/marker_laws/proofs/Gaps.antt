@@ -1,4 +1,4 @@
--- What stands between two tokens is passed alike: no marker is passed.
+-- What is between two tokens is passed alike: no marker is passed.
 use Rattle.std.proofs.Common.{◌≡◌, ℕ, Bool, true, false, List, ◌∷◌, slice_index, refl, ap}
 use Rattle.std.specs.Prelude.{◌&&◌, ◌||◌, ◌==◌, not}
 use Rattle.std.proofs.lemmas.Bool.{and_parts}
@@ -83,7 +83,7 @@ pub gap_same : {from : List ℕ} (least : ℕ) (s : Cursor) {q : List ℕ} → S
     → Gives (Gaps from) (whole_gap least s) (whole_gap least (reading q s))
 gap_same least s h = between_same least s.mark s.blank_so_far false false h.ahead h.fits
 
--- ## Behind `?`
+-- ## After `?`
 
 pub data Spaces (from : List ℕ) : SpacesEnd → SpacesEnd → Type 0 where
   spaces : (space : Bool) {s t : Cursor} → Beside from s t

@@ -26,7 +26,7 @@ use Rattle.marker_laws.proofs.Results.{both_then, choose, by_first}
 use Rattle.marker_laws.proofs.Gaps.{Spaces, spaces, spaces_beside}
 use Rattle.marker_laws.proofs.Cores.{Twins, twins, save_twins, remove_twins, remove_cores, deeper_twins, roll_twins, roll_cores, pass_twins, separate_same}
 
--- ## What a step puts behind what it passed
+-- ## What a step puts after what it passed
 
 put_here : {from : List ℕ} (put : Marker → List Action) (x y : SkipTabs × Core) → Pairs (Cores from) x y
     → Gives (Steps from) (completed_step (put x.1.cursor.mark) x.1) (completed_step (put y.1.cursor.mark) y.1)

@@ -5,7 +5,7 @@ use Rattle.std.proofs.lemmas.Bool.{eqb-true}
 use Rattle.saphyr_input.specs.Places.{is_document_indicator}
 use Rattle.saphyr_scalar.specs.declared.scalar.position.Marker.{Marker}
 
--- a place whose flag tells where a marker may stand
+-- a place whose flag tells where a marker may be
 abbrev pub Fits : Bool → List ℕ → Marker → Type 0
 Fits b r m = b ≡ true → is_document_indicator r ≡ true → (m.col == 0) ≡ true
 

@@ -1,4 +1,4 @@
--- The marker is fetched alike, with the break behind `...`, and so is all that comes before it.
+-- The marker is fetched alike, with the break after `...`, and so is all that comes before it.
 use Rattle.std.proofs.Common.{◌≡◌, ℕ, Bool, true, false, List, [], ◌∷◌, ◌++◌, drop, slice_index, None, Result, Ok, refl, sym, ap, subst, arith}
 use Rattle.std.specs.Prelude.{◌==◌, nat_le}
 use Rattle.std.proofs.lemmas.Bool.{eqb-true}
@@ -25,13 +25,13 @@ use Rattle.marker_laws.proofs.Dots.{Leaves, leaves, left_first, separation_alike
 use Rattle.marker_laws.proofs.Results.{both_then, both_are, choose}
 use Rattle.marker_laws.proofs.Fetches.{holding, Ended, ended, content_ends, here_same, arrive_same, within_same, settled_same}
 
--- ## Behind `...`
+-- ## After `...`
 
 -- the start of a line
 abbrev at_line : ℕ → ℕ → Marker
 at_line i l = record { index = i; line = l; col = 0 }
 
--- behind the three dots
+-- after the three dots
 data Dotted (i l : ℕ) (r q : List ℕ) : State → State → Type 0 where
   dotted : (c : Core) (queue : Queue) → c.level.key ≡ None → Dotted i l r q
       (holding (with_cursor (mid_line (along (at_line i l) 3) r) c)

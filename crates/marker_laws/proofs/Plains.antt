@@ -1,5 +1,5 @@
 -- Plain scalars are read alike: none goes on at a marker.
-use Rattle.std.proofs.Common.{◌≡◌, ℕ, zero, suc, ◌<◌, Bool, true, false, List, [], ◌∷◌, ◌++◌, length, drop, slice_index, refl, sym, ap, ◌∙◌, arith, subst, cond, encode_utf8, Ok}
+use Rattle.std.proofs.Common.{◌≡◌, ℕ, ◌<◌, Bool, true, false, List, [], ◌∷◌, ◌++◌, length, slice_index, refl, sym, ap, ◌∙◌, arith, subst, cond, encode_utf8, Ok}
 use Rattle.std.specs.Prelude.{◌&&◌, ◌||◌, ◌==◌, not, nat_lt, Option}
 use Rattle.std.proofs.lemmas.Bool.{and_parts, not-false}
 use Rattle.saphyr_input.specs.Classes.{is_break, is_blank, is_blank_or_breakz, is_z, is_bom, is_flow, tab, line_feed}
@@ -9,10 +9,11 @@ use Rattle.saphyr_scalar.specs.declared.scalar.fault.FaultText.TheVariants as fa
 use Rattle.saphyr_scalar.specs.Views.Cursor.{Cursor, refuse, along, next_line}
 use Rattle.saphyr_scalar.specs.Steps.Quoted.{mid_line}
 use Rattle.saphyr_scalar.specs.Steps.Plain.{is_in_word, word_starts, PlainGap, content_behind_tab, reached_gap, line_front, ends_line, lines, next_lines, folded_gap, gap_from, gap, next_word_starts, comment_of, PlainScalarRead, with_text, scalar_end, word, plain}
-use Rattle.saphyr_scalar.proofs.Plain.Gaps.{IsEnd, gap_end}
+use Rattle.saphyr_scalar.proofs.Plain.Gaps.{gap_end}
 use Rattle.saphyr_scalar.proofs.Plain.Pieces.{goes_says, word_on, plain_behind_gap, word_over}
 use Rattle.saphyr_scalar.proofs.NoBreaks.{class_no_break}
 use Rattle.scalar_laws.proofs.Breaks.Results.{by_ends}
+use Rattle.scalar_laws.proofs.Breaks.PlainScalars.{word_behind}
 use Rattle.marker_laws.specs.Beside.{Ahead, here, dashes, dots, character, Stands, reading, Before, before, Beside, beside, Gives, refused, given, Pairs, pairs, PlainReads, plain_reads}
 use Rattle.marker_laws.proofs.Ahead.{first_same, second_same, indicator_same, inside, unmarked_here, stands_before, stands_here}
 use Rattle.marker_laws.proofs.Results.{both_then, both_then_known, both_are, choose, by_first, beside_before}
@@ -26,7 +27,7 @@ in_word_same : {from : List ℕ} (f : Bool) {b : Bool} {r q : List ℕ} → Ahea
 unfolding is_in_word
 in_word_same f h = let a = first_same h in let b = second_same h in rw (a, b) refl
 
--- whether a word begins: where one does, no marker stands
+-- whether a word begins: where one does, there is no marker
 data Starts (from : List ℕ) : Bool × Cursor → Bool × Cursor → Type 0 where
   begins : (b : Bool) {s t : Cursor} → Before from s t → Starts from (b, s) (b, t)
   stays : {s t : Cursor} → Beside from s t → Starts from (false, s) (false, t)
@@ -169,18 +170,6 @@ front_same {from = from} u r q e = both_then (PlainReads from) (PlainReads from)
     by : (x y : List ℕ × Marker × Option Marker × Cursor) → PlainReads from x y
         → Gives (PlainReads from) (Ok (u ++ x.0, x.1, x.2, x.3)) (Ok (u ++ y.0, y.1, y.2, y.3))
     by _ _ (plain_reads text m o h) = given (plain_reads (u ++ text) m o h)
-
--- another word stands behind what ends one
-word_behind : (f : Bool) (xs ys : List ℕ) → IsEnd xs ys → is_in_word f xs ≡ false → is_in_word f ys ≡ true
-    → length ys < length xs
-word_behind f xs ys end stops goes = by end.taken refl
-  where
-    by : (n : ℕ) → end.taken ≡ n → length ys < length xs
-    by zero e =
-        let same : ys ≡ xs = end.is ∙ ap (λ n. drop n xs) e in
-        let other : true ≡ false = sym goes ∙ ap (is_in_word f) same ∙ stops in
-        absurd (cc)
-    by (suc n) e = omega (arith, end.count, e)
 
 abbrev SameWord : List ℕ → Bool → ℕ → Marker → Cursor → Cursor → Type 0
 SameWord from f i a s t = Before from s t

@@ -5,7 +5,7 @@ use Rattle.std.proofs.lemmas.Bool.{and_parts, not-true, eqb-true}
 use Rattle.std.proofs.lemmas.List.{length-drop}
 use Rattle.saphyr_input.specs.Classes.{is_break, is_blank, is_z, is_hex, hex_value}
 use Rattle.saphyr_input.specs.Places.{next_2_are, is_document_indicator}
-use Rattle.saphyr_input.proofs.Basics.Booleans.{and_true_right, by_test}
+use Rattle.saphyr_input.proofs.Basics.Booleans.{and_true_right}
 use Rattle.saphyr_values.specs.declared.flow.Quote.{Quote}
 use Rattle.saphyr_values.specs.declared.flow.Quote.TheVariants.{Single, Double}
 use Rattle.saphyr_values.specs.Escapes.{digit_count, is_scalar_value, short_escape}
@@ -17,9 +17,9 @@ use Rattle.saphyr_scalar.specs.Views.Cursor.{Cursor, ◌>>=◌, refuse, along, n
 use Rattle.saphyr_scalar.specs.Steps.Quoted.{is_literal, hex_digit_count, digits, escape_by_number, escape_of, escaped_character, TextRead, mid_line, with_front, special, special_len, QuotedGap, on_line, over_lines, no_gap, is_left, blank_in, break_in, quoted_line, end_gap, escaped_gap, break_len, if_some, inner_text, inner_text_at, quoted}
 use Rattle.saphyr_scalar.specs.Steps.Quoted as quotes
 use Rattle.saphyr_scalar.proofs.Quoted.Inside.{passed_over, word_from, quoted_behind_gap}
-use Rattle.saphyr_scalar.proofs.Quoted.Escapes.{escape_place}
 use Rattle.saphyr_scalar.proofs.NoBreaks.{class_no_break}
 use Rattle.scalar_laws.proofs.Breaks.Results.{by_ends}
+use Rattle.scalar_laws.proofs.Breaks.Quotes.{special_left}
 use Rattle.marker_laws.specs.Beside.{Marked, Ahead, here, dashes, dots, character, reading, Before, before, Gives, refused, given, Pairs, pairs}
 use Rattle.marker_laws.proofs.Ahead.{first_same, second_same, indicator_same, inside, told, told_too}
 use Rattle.marker_laws.proofs.Results.{both_then, both_then_known, both_are, choose, by_first}
@@ -94,48 +94,9 @@ special_same {from = from} Double a s {q = q} e =
     (class_no_break (λ c. c == 92) refl refl (slice_index s.rest 0) w.0) (not-true _ w.1)) some_of)
     (λ _. given (pairs None (before s e)))
 
--- ## What such a spelling leaves
-
-abbrev LeavesRest : List ℕ → Result (Option ℕ × Cursor) Refusal → Type 0
-LeavesRest r read = (d : ℕ) (s : Cursor) → read ≡ Ok (Some d, s) → s.rest ≡ r
-
-leaves_none : (r : List ℕ) (s : Cursor) → LeavesRest r (Ok (None, s))
-leaves_none r s d t read =
-    let pair : ◌≡◌ {A = Option ℕ × Cursor} (None, s) (Some d, t) = cc in
-    let first : ◌≡◌ {A = Option ℕ} None (Some d) = ap (λ (x : Option ℕ × Cursor). x.0) pair in absurd (cc)
-
-leaves_some : (r : List ℕ) (d : ℕ) (s : Cursor) → s.rest ≡ r → LeavesRest r (Ok (Some d, s))
-leaves_some r d s e c t read = subst (λ (k : Result (Option ℕ × Cursor) Refusal). Left k) read e
-  where
-    Left : Result (Option ℕ × Cursor) Refusal → Type 0
-    Left (Ok y) = y.1.rest ≡ r
-    Left (Err y) = ⊥
-
-escape_left : (a m : Marker) (c : ℕ) (cs : List ℕ) (r : Result (ℕ × Cursor) Refusal)
-    → escaped_character a (mid_line m (c ∷ cs)) ≡ r
-    → LeavesRest (drop (2 + hex_digit_count (slice_index cs 0)) (c ∷ cs)) (r >>= λ e. Ok (Some e.0, e.1))
-escape_left a m c cs (Ok e) is = leaves_some _ e.0 e.1 (ap (λ (t : Cursor). t.rest) (escape_place a m (c ∷ cs) e is))
-escape_left a m c cs (Err e) is = λ d s read. absurd (cc)
-
-special_left : (quote : Quote) (a m : Marker) (c : ℕ) (cs : List ℕ)
-    → LeavesRest (drop (special_len quote (slice_index cs 0)) cs) (special quote a (mid_line m (c ∷ cs)))
-unfolding special
-special_left Single a m c cs =
-    by_test (next_2_are (c ∷ cs) 39 39) _ _ (LeavesRest (drop 1 cs))
-    (λ _. leaves_some _ 39 (pass 2 (mid_line m (c ∷ cs))) refl)
-    (λ _. leaves_none _ _)
-special_left Double a m c cs =
-    let k = hex_digit_count (slice_index cs 0) in
-    let two : 2 + k ≡ suc (suc k) = omega arith in
-    by_test ((c == 92) && not (is_break (slice_index cs 0))) _ _ (LeavesRest (drop (suc k) cs))
-    (λ _. subst (λ n. LeavesRest (drop n (c ∷ cs))
-    (escaped_character a (mid_line m (c ∷ cs)) >>= λ e. Ok (Some e.0, e.1))) two
-    (escape_left a m c cs (escaped_character a (mid_line m (c ∷ cs))) refl))
-    (λ _. leaves_none _ _)
-
 -- ## Gaps
 
--- a gap over a break, behind which a marker is looked for
+-- a gap over a break, after which a marker is looked for
 is_over : QuotedGap → Bool
 is_over (on_line bytes) = false
 is_over (over_lines escaped n) = true
@@ -145,7 +106,7 @@ unfolding is_over
 over_break (on_line bytes) = refl
 over_break (over_lines escaped n) = refl
 
--- a marker stands at the start of a line, behind a gap over a break
+-- a marker is at the start of a line, after a gap over a break
 abbrev Looked : Bool → List ℕ → Marker → QuotedGap → Type 0
 Looked b r m gap = b ≡ true → is_document_indicator r ≡ true → ((m.col == 0) ≡ true) × (is_over gap ≡ true)
 
@@ -223,7 +184,7 @@ gap_same i a (over_lines escaped n) s {q = q} h =
 
 -- ## Scalars
 
--- two readers behind a gap
+-- two readers after a gap
 data Reads (from : List ℕ) : QuotedGap → Cursor → Cursor → Type 0 where
   reads : (gap : QuotedGap) (s : Cursor) {q : List ℕ} {b : Bool} → Ahead from b s.rest q → Looked b s.rest s.mark gap
       → Reads from gap s (reading q s)
@@ -244,7 +205,7 @@ module _ (from : List ℕ) (quote : Quote) (i : ℕ) (a : Marker) where
   on_from gap m {r = r} {q = q} k less h f others =
       others (mid_line m r) (mid_line m q) less gap (reads gap (mid_line m r) h f)
 
-  -- behind a spelling of several characters
+  -- after a spelling of several characters
   behind_special : (r q : List ℕ) (u v : Cursor) → u.rest ≡ drop (special_len quote (slice_index r 0)) r
       → v.rest ≡ drop (special_len quote (slice_index q 0)) q → Before from u v → Others (suc (length r))
       → Gives (Pairs (Before from)) (inner_text quote i a no_gap (special_len quote (slice_index r 0)) u.mark r)
@@ -259,7 +220,7 @@ module _ (from : List ℕ) (quote : Quote) (i : ℕ) (a : Marker) where
       ∙ ap (inner_text quote i a no_gap 0 u.mark) (sym other))
       (on_from no_gap u.mark (suc (length r)) less e (looked_on u.rest u.mark no_gap refl) others)
 
-  -- behind a break or one character, at the start of a line
+  -- after a break or one character, at the start of a line
   behind_break : (m : Marker) (gap : QuotedGap) (k n : ℕ) (r q : List ℕ) {b : Bool} → Ahead from b (drop k r) (drop k q)
       → Looked b (drop k r) m gap → length r < n → Others n
       → Gives (Pairs (Before from)) (inner_text quote i a gap k m r) (inner_text quote i a gap k m q)
@@ -268,7 +229,7 @@ module _ (from : List ℕ) (quote : Quote) (i : ℕ) (a : Marker) where
       both_are (Pairs (Before from)) _ _ _ _ (passed_over quote i a gap k m r) (passed_over quote i a gap k m q)
       (on_from gap m n (omega (arith, len, less)) h f others)
 
-  -- behind an escaped break
+  -- after an escaped break
   behind_escaped : (m : Marker) {b : Bool} {r q : List ℕ} → Ahead from b r q → b ≡ false → Others (suc (length r))
       → Gives (Pairs (Before from))
       (inner_text quote i a (escaped_gap quote (slice_index (drop (break_len r) r) 0)) (break_len r)
@@ -333,11 +294,7 @@ module _ (from : List ℕ) (quote : Quote) (i : ℕ) (a : Marker) where
       (λ _. both_then_known (Pairs (Before from)) (Pairs (Before from)) _ _ _ _
       (special_same quote a (mid_line m (c ∷ r)) (character {b = false} c h)) (λ x y first second is.
       from_special m c ink h others x y
-      (λ d some. special_left quote a m c r d x.1 (first ∙ ap (λ (o : Option ℕ). answer (o, x.1)) some))
-      (λ d some. special_left quote a m c q d y.1 (second ∙ ap (λ (o : Option ℕ). answer (o, y.1)) some)) is))
-    where
-      answer : Option ℕ × Cursor → Result (Option ℕ × Cursor) Refusal
-      answer x = Ok x
+      (λ d. special_left quote a m c r x d first) (λ d. special_left quote a m c q y d second) is))
 
   inside_by : (m : Marker) (gap : QuotedGap) {b : Bool} {r q : List ℕ} → Ahead from b r q → Looked b r m gap
       → Others (length r)

@@ -6,7 +6,7 @@ use Rattle.saphyr_scalar.proofs.Choices.{both_by}
 use Rattle.marker_laws.specs.Beside.{Ahead, Stands, reading, Beside, beside, Before, before, Gives, refused, given, Pairs, pairs}
 use Rattle.marker_laws.proofs.Ahead.{first_same, stands_before}
 
--- one step behind another
+-- one step after another
 pub both_then : {X Y : Type 0} (R : X → X → Type 0) (Q : Y → Y → Type 0) {r q : Result X Refusal}
     {f g : X → Result Y Refusal} → Gives R r q → ((x y : X) → R x y → Gives Q (f x) (g y)) → Gives Q (r >>= f) (q >>= g)
 both_then R Q (refused e) next = refused e

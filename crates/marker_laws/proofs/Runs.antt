@@ -24,7 +24,8 @@ use Rattle.marker_laws.specs.UpTo.{brackets_behind, marker_piece, Past, Reaches,
 use Rattle.marker_laws.proofs.Ahead.{stands_at_line}
 use Rattle.marker_laws.proofs.Fetches.{holding}
 use Rattle.marker_laws.proofs.Markers.{read_same}
-use Rattle.marker_laws.proofs.OpenFlows.{IsBalanced, start_same, read_balanced}
+use Rattle.marker_laws.proofs.OpenFlows.Steps.{start_same}
+use Rattle.marker_laws.proofs.OpenFlows.Held.{IsBalanced, read_balanced}
 
 module _ (limit : ℕ) (v from : List ℕ) where
   before_same : (k : ℕ) (o : Opening) (t : Piece) (r w : Remaining) → AlikeUpTo limit v from (brackets_behind t k) r w

@@ -24,7 +24,7 @@ past_feed (here (dots tail d _ _ white e)) f = absurd (cc)
 past_feed {from = from} (character c {r = r} {q = q} h) f =
     let e : is_break c ≡ true = rw f refl in subst (λ z. Ahead from z r q) e h
 
--- behind CR LF or a break
+-- after CR LF or a break
 break_at : {from : List ℕ} (m : Marker) (k : Bool) {b : Bool} {r q : List ℕ} → Ahead from b r q → Stands from m r q
     → Beside from (pass_break (line_cursor k m r)) (pass_break (line_cursor k m q))
 break_at m k (here (dashes d e)) h = beside (line_cursor k m _) h

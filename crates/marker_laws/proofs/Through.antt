@@ -16,7 +16,8 @@ use Rattle.marker_laws.specs.Beside.{reading}
 use Rattle.marker_laws.specs.UpTo.{brackets_behind, marker_piece, Reaches, hands, Past, past, AlikeUpTo, AlikeThrough}
 use Rattle.marker_laws.specs.UpTo as up_to
 use Rattle.marker_laws.proofs.Fetches.{holding}
-use Rattle.marker_laws.proofs.OpenFlows.{IsBalanced, start_same}
+use Rattle.marker_laws.proofs.OpenFlows.Steps.{start_same}
+use Rattle.marker_laws.proofs.OpenFlows.Held.{IsBalanced}
 
 by_held : {X : Type 0} (P : X → X → Type 0) (b : Bool) (x y z w : X) → (b ≡ true → P (cond b x y) (cond b z w))
     → (b ≡ false → P y w) → P (cond b x y) (cond b z w)

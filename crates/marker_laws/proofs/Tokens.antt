@@ -29,7 +29,7 @@ use Rattle.marker_laws.proofs.Plains.{plain_same}
 use Rattle.marker_laws.proofs.Blocks.{block_same}
 use Rattle.marker_laws.proofs.Cores.{Twins, twins, at_beside, at_before, save_twins, separate_same, gap_cores}
 
--- ## What a step puts behind what it read
+-- ## What a step puts after what it read
 
 named : {from : List ℕ} (token : List ℕ → Kind) (m : Marker) (c : Core) (x y : List ℕ × Cursor)
     → Pairs (Before from) x y → Gives (Steps from)
@@ -65,7 +65,7 @@ plainly : {from : List ℕ} (m : Marker) (c : Core) (x y : List ℕ × Marker ×
 plainly m c _ _ (plain_reads text end comment (beside u e)) =
     given (steps _ (cores (scalar.behind_plain comment u c) e))
 
--- ## Behind quotes
+-- ## After quotes
 
 adjacent_put : {from : List ℕ} (actions : List Action) (c d : Core) → Cores from c d
     → Gives (Steps from) (completed_step actions (scalar.adjacent_here c))

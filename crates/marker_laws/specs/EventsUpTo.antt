@@ -18,12 +18,12 @@ use Rattle.marker_laws.specs.UpTo.{marker_kind, marker_piece, brackets_behind, b
 abbrev pub answer_of_all : Bool → Remaining → Answer
 answer_of_all keep tokens = to_come (keeping_tags keep (at_start tokens))
 
--- how many brackets are open behind tokens, of so many before them
+-- how many brackets are open after tokens, of so many before them
 abbrev pub brackets_behind_all : List Piece → ℕ → ℕ
 brackets_behind_all [] n = n
 brackets_behind_all (t ∷ ts) n = brackets_behind_all ts (brackets_behind t n)
 
--- tokens in front of others
+-- tokens before others
 abbrev pub before_all : List Piece → Remaining → Remaining
 before_all ts r = record { pieces = ts ++ r.pieces; refusal = r.refusal }
 

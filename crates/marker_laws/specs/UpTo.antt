@@ -25,7 +25,7 @@ marker_piece index line from =
     let start : Marker = record { index = index; line = line; col = 0 } in
     record { span = record { start = start; end = along start 3 }; kind = marker_kind from }
 
--- how many brackets and braces are open behind a token, and behind those that are held
+-- how many brackets and braces are open after a token, and after those that are held
 abbrev pub brackets_behind : Piece → ℕ → ℕ
 brackets_behind t n = (collections_behind t.kind t.span (with_brackets n no_collections)).brackets
 
@@ -33,14 +33,14 @@ abbrev pub brackets_behind_held : List Place → ℕ → ℕ
 brackets_behind_held [] n = n
 brackets_behind_held (p ∷ ps) n = brackets_behind_held ps (brackets_behind p.piece n)
 
--- A marker with this token was read last, behind which no token of the innermost level may be a key, and all is the
+-- A marker with this token was read last, after which no token of the innermost level may be a key, and all is the
 -- same but for what follows.
 pub data Past (token : Piece) : State → State → Type 0 where
   past : (c : Core) (follows : List ℕ) (queue : Queue) → c.level.key ≡ None
       → Past token (record { core = c; queue = with_piece token queue })
       (record { core = with_cursor (reading follows c.cursor) c; queue = with_piece token queue })
 
--- Behind one more token: at or before the marker, or right behind it. It stands at `index`: what the first text has
+-- After one more token: at or before the marker, or right after it. It is at `index`: what the first text has
 -- before it and from there on is as much as is read of it and left.
 pub data Fetched (from : List ℕ) : State → State → Type 0 where
   on : {s t : State} → States from s t → Fetched from s t
@@ -57,9 +57,9 @@ pub data Reaches (limit : ℕ) (text : List ℕ) : State → Type 0 where
       → needs_token (record { core = c; queue = record { places = p ∷ ps; handed = n } }) ≡ false
       → Reaches limit text (record { core = c; queue = record { places = ps; handed = n + 1 } })
 
--- The tokens of `v ++ from`, and of another text with the same marker behind `v`, are the same: all of them, with a
+-- The tokens of `v ++ from`, and of another text with the same marker after `v`, are the same: all of them, with a
 -- refusal that ends them, or up to where both scanners have read the marker. Then the tokens held are the same, with
--- the marker's as the last, and behind them as many levels are around the innermost as brackets are open. The number is
+-- the marker's as the last, and after them as many levels are around the innermost as brackets are open. The number is
 -- of those that are open before the tokens.
 pub data AlikeUpTo (limit : ℕ) (v from : List ℕ) : ℕ → Remaining → Remaining → Type 0 where
   same : {n : ℕ} (r : Remaining) → AlikeUpTo limit v from n r r
@@ -69,7 +69,7 @@ pub data AlikeUpTo (limit : ℕ) (v from : List ℕ) : ℕ → Remaining → Rem
       → Past (marker_piece (length v) line from) s t → length s.core.outer ≡ brackets_behind_held s.queue.places n
       → AlikeUpTo limit v from n (run (suc i) limit s) (run (suc j) limit t)
 
--- The same, with the marker's own token: all tokens, or up to and with the marker's, whatever follows; or else the
+-- The same, with the marker's own token: all tokens, or up to and including the marker's, whatever follows; or else the
 -- tokens up to the marker leave a bracket open, and the first that is held may yet turn out to be a key.
 pub data AlikeThrough (limit : ℕ) (v from : List ℕ) : ℕ → Remaining → Remaining → Type 0 where
   alike : {n : ℕ} (r : Remaining) → AlikeThrough limit v from n r r

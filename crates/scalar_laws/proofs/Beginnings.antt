@@ -44,7 +44,7 @@ behind_in set t a b e h = back_in set a b (subst (λ (u : List ℕ). AreIn set u
 pub before_in : (set : ℕ → Bool) (t a b : List ℕ) → t ≡ a ++ b → AreIn set t → AreIn set a
 before_in set t a b e h = front_in set a b (subst (λ (u : List ℕ). AreIn set u) e h)
 
--- a character outside the set stands nowhere
+-- a character outside the set is nowhere
 pub lacks : (set : ℕ → Bool) (c : ℕ) (t a b : List ℕ) → set c ≡ false → t ≡ a ++ (c ∷ b) → AreIn set t → ⊥
 lacks set c t a b n e h = let f : set c ≡ true = (behind_in set t a (c ∷ b) e h).0 in cc
 
@@ -88,7 +88,7 @@ begins_along a b e h = rw e h
 pub filler : (t : List ℕ) → IsFiller t → (t ≡ []) ⊎ Begins IsFirst t
 filler t (pieces, h, f) = begins_along t (joined_pieces pieces) f (begins_lines pieces h)
 
--- a text behind filler begins so, or there is none
+-- a text after filler begins so, or there is none
 pub behind_filler : (t a b : List ℕ) → IsFiller a → t ≡ a ++ b → (t ≡ b) ⊎ Begins IsFirst t
 behind_filler t a b h d = split t a b d (filler a h)
   where

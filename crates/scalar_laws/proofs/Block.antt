@@ -4,4 +4,3 @@ pub mod EmptyBodies
 pub mod Headers
 pub mod LeadingLines
 pub mod PlacedValues
-pub mod Places

@@ -1,6 +1,5 @@
 -- Quoted scalars: each spelled one is read.
 pub mod Counted
-pub mod GapsRead
 pub mod IndentedLines
 pub mod OnLine
 pub mod Reads

@@ -1,4 +1,4 @@
--- A text and its normalized text (YAML 1.2.2, 5.4), read side by side: whether they stand at places that are alike, and
+-- A text and its normalized text (YAML 1.2.2, 5.4), read side by side: whether they are at places that are alike, and
 -- whether a reader gives the same of both.
 use Rattle.std.specs.Prelude.{◌≡◌, ℕ, Bool, false, List, drop, slice_index, Option, Some, None, Result, Ok, Err}
 use Rattle.saphyr_input.specs.Breaks.{normalized}
@@ -18,14 +18,14 @@ use Rattle.saphyr_scalar.specs.Steps.Anchor.{anchor}
 use Rattle.saphyr_scalar.specs.Steps.Directive.{directive}
 use Rattle.saphyr_scalar.specs.Spelling.Directive.{ReadDirective}
 
--- A place of the text and one of the normalized text: on the same line, in the same column, and what stands behind the
--- first is, normalized, what stands behind the second.
+-- A place of the text and one of the normalized text: on the same line, in the same column, and what comes after the
+-- first is, normalized, what comes after the second.
 pub record AreMarksAlike (text : List ℕ) (m n : Marker) : Type 0 where
   pub line : m.line ≡ n.line
   pub col : m.col ≡ n.col
   pub rest : normalized (drop m.index text) ≡ drop n.index (normalized text)
 
--- a reader of the text and one of the normalized text that stand at such places
+-- a reader of the text and one of the normalized text that are at such places
 pub record AreAlike (text : List ℕ) (s t : Cursor) : Type 0 where
   pub line : s.mark.line ≡ t.mark.line
   pub col : s.mark.col ≡ t.mark.col
@@ -34,7 +34,7 @@ pub record AreAlike (text : List ℕ) (s t : Cursor) : Type 0 where
   pub here : drop s.mark.index text ≡ s.rest
   pub there : drop t.mark.index (normalized text) ≡ t.rest
 
--- Both give something, and what they give stands in a relation, or both refuse for the same reason.
+-- Both give something, and what they give is in a relation, or both refuse for the same reason.
 abbrev pub GiveAlike : {X : Type 0} → (X → X → Type 0) → Result X Refusal → Result X Refusal → Type 0
 GiveAlike R (Ok x) (Ok y) = R x y
 GiveAlike R (Err e) (Err f) = e.text ≡ f.text
@@ -52,25 +52,25 @@ AreNoted text None None = Unit {0}
 AreNoted text (Some m) None = ⊥
 AreNoted text None (Some n) = ⊥
 
--- plain scalars: the text, the place behind the last word, a comment, and what stands behind
+-- plain scalars: the text, the place after the last word, a comment, and what comes after
 abbrev pub ArePlainAlike : List ℕ → List ℕ × Marker × Option Marker × Cursor → List ℕ × Marker × Option Marker × Cursor
     → Type 0
 ArePlainAlike text x y = (x.0 ≡ y.0) × AreMarksAlike text x.1 y.1 × AreNoted text x.2 y.2 × AreAlike text x.3 y.3
 
--- block scalars: the text, the span, and what stands behind
+-- block scalars: the text, the span, and what comes after
 abbrev pub AreBlocksAlike : List ℕ → List ℕ × Span × Cursor → List ℕ × Span × Cursor → Type 0
 AreBlocksAlike text x y = (x.0 ≡ y.0) × AreMarksAlike text x.1.start y.1.start × AreMarksAlike text x.1.end y.1.end
     × AreAlike text x.2 y.2
 
--- tags: the handle, the suffix, and what stands behind
+-- tags: the handle, the suffix, and what comes after
 abbrev pub AreTagsAlike : List ℕ → List ℕ × List ℕ × Cursor → List ℕ × List ℕ × Cursor → Type 0
 AreTagsAlike text x y = (x.0 ≡ y.0) × (x.1 ≡ y.1) × AreAlike text x.2 y.2
 
--- directives: what one says, the place behind it, and what stands behind its line
+-- directives: what one says, the place after it, and what comes after its line
 abbrev pub AreDirectivesAlike : List ℕ → ReadDirective × Marker × Cursor → ReadDirective × Marker × Cursor → Type 0
 AreDirectivesAlike text x y = (x.0 ≡ y.0) × AreMarksAlike text x.1 y.1 × AreAlike text x.2 y.2
 
--- What stands at any place is read alike, and so is what begins with a character that is no break.
+-- What is at any place is read alike, and so is what begins with a character that is no break.
 pub record ReadsAlike (text : List ℕ) (s t : Cursor) : Type 0 where
   pub separation : (tabs : SkipTabs) → GiveAlike (AreSame text) (separation tabs s) (separation tabs t)
   pub line_break : AreAlike text (pass_break s) (pass_break t)

@@ -1,14 +1,11 @@
 -- An alias has no properties: `&a *b` stands for no node.
-use Rattle.std.proofs.Common.{◌≡◌, ◌≢◌, ℕ, Bool, false, List, [], ◌∷◌, ◌++◌, Option, Some, None, inl, inr, refl, sym}
-use Rattle.std.proofs.Common.{◌∙◌, arith, codes, ap, subst, append_assoc, append-nil}
+use Rattle.std.proofs.Common.{◌≡◌, ◌≢◌, ℕ, Bool, false, List, [], ◌∷◌, ◌++◌, Option, Some, None, inl, inr, refl, sym, ◌∙◌, arith, codes, ap, subst, append_assoc, append-nil}
 use Rattle.saphyr_input.specs.Classes.{is_one_of, is_blank, is_anchor_char}
 use Rattle.saphyr_scalar.specs.Reading.BlockLines.{spaces}
 use Rattle.saphyr_scalar.specs.Spelling.Tag.{AreIn}
 use Rattle.scalar_laws.specs.Spelling.Spaces.{joined_pieces, AreEach, IsSeparationLine, IsSeparation}
 use Rattle.scalar_laws.proofs.Beginnings.{heads, tails, behind_in, before_in, lacks}
-use Rattle.saphyr_scanner.specs.Grammar.Forest.{Style, Plain, SingleQuoted, DoubleQuoted, Literal, Folded, Properties}
-use Rattle.saphyr_scanner.specs.Grammar.Forest.{Node, Alias, Scalar, Seq, Map, Tag, NonSpecific, Verbatim, Shorthand}
-use Rattle.saphyr_scanner.specs.Grammar.Forest.{Handle, Primary, Secondary, Named}
+use Rattle.saphyr_scanner.specs.Grammar.Forest.{Style, Plain, SingleQuoted, DoubleQuoted, Literal, Folded, Properties, Node, Alias, Scalar, Seq, Map, Tag, NonSpecific, Verbatim, Shorthand, Handle, Primary, Secondary, Named}
 use Rattle.yaml_laws.specs.Grammar.TagSpelling.{IsHandle, IsTag}
 use Rattle.yaml_laws.specs.Grammar.FlowScalars.{begins_plain, IsFirstWord, IsFlowScalar}
 use Rattle.yaml_laws.specs.Grammar.FlowNodes.{AreProperties, IsScalarNode, IsOpening, IsFlowNode}
@@ -59,7 +56,7 @@ blanks_alone indent t (lines, blanks, (pieces, h, f), b, e) i =
     let same : blanks ≡ t = sym (rw none at e) in
     subst (λ (u : List ℕ). AreIn is_blank u) same b
 
--- ## The anchor goes on to the blank, and behind it no content begins
+-- ## The anchor goes on to the blank, and after it no content begins
 
 word_begins_plain : (in_flow : Bool) (c : ℕ) (rest first others : List ℕ) → begins_plain c ≡ false
     → IsFirstWord in_flow first
@@ -97,7 +94,7 @@ no_blanks (c ∷ d ∷ ds) content (h, (i, j)) n e =
     let g : is_blank d ≡ false = ap (λ v. is_blank v) f in
     cc
 
--- the text that behind properties alone is the rest of the name or blanks and content
+-- the text that after properties alone is the rest of the name or blanks and content
 behind_anchor : (indent : ℕ) (anchor : Option (List ℕ)) (x : Option Tag) (t others : List ℕ)
     → AreProperties anchor x indent t
     → codes "&a *b" ≡ t ++ others → codes " *b" ≡ others

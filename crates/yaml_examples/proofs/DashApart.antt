@@ -1,11 +1,9 @@
 -- A lone `-` with a blank before its colon is no key: `- : a` is an entry of a sequence.
-use Rattle.std.proofs.Common.{◌≡◌, ℕ, ◌==◌, Bool, List, [], ◌++◌, ◌⊎◌, inl, inr, refl, sym, ◌∙◌, ap, arith, codes}
-use Rattle.std.proofs.Common.{subst}
+use Rattle.std.proofs.Common.{◌≡◌, ℕ, ◌==◌, Bool, List, [], ◌++◌, ◌⊎◌, inl, inr, refl, sym, ◌∙◌, ap, arith, codes, subst}
 use Rattle.saphyr_input.specs.Indicators.{hyphen}
 use Rattle.saphyr_scalar.specs.Spelling.Tag.{AreIn}
 use Rattle.scalar_laws.proofs.Beginnings.{heads, Begins, front_of, before_in, lacks}
-use Rattle.saphyr_scanner.specs.Grammar.Forest.{Style, Plain, SingleQuoted, DoubleQuoted, Literal, Folded, Properties}
-use Rattle.saphyr_scanner.specs.Grammar.Forest.{Node, Alias, Scalar, Seq, Map}
+use Rattle.saphyr_scanner.specs.Grammar.Forest.{Style, Plain, SingleQuoted, DoubleQuoted, Literal, Folded, Properties, Node, Alias, Scalar, Seq, Map}
 use Rattle.yaml_laws.specs.Grammar.FlowScalars.{IsPlain, IsFlowScalar}
 use Rattle.yaml_laws.specs.Grammar.FlowNodes.{IsScalarNode, IsFlowNode, IsKeyText}
 use Rattle.yaml_examples.proofs.YamlRefused.{IsPropertyMark, properties, before}
@@ -38,7 +36,8 @@ flow_scalar Folded v in_flow indent t is h = absurd h
 dash_is_no_scalar : (p : Properties) (style : Style) (v : List ℕ) (in_flow : Bool) (indent : ℕ) (t : List ℕ)
     → codes "-" ≡ t
     → IsScalarNode p style v in_flow indent t → ⊥
-dash_is_no_scalar p style v in_flow indent t is (inl (e, f, h)) = dash_is_no_mark t is (properties indent p.anchor p.tag t h)
+dash_is_no_scalar p style v in_flow indent t is (inl (e, f, h)) = dash_is_no_mark t is (properties indent p.anchor
+    p.tag t h)
 dash_is_no_scalar p style v in_flow indent t is (inr (front, content, b, h, e)) = by_front (before p indent front b)
   where
     by_front : (front ≡ []) ⊎ Begins IsPropertyMark front → ⊥

@@ -1,13 +1,11 @@
 -- A small text that two laws derive.
 use Rattle.std.proofs.Common.{ℕ, [], ◌∷◌, refl, codes}
 use Rattle.saphyr_scanner.specs.Examples.Forests.{plain_node}
-use Rattle.saphyr_scanner.specs.Grammar.Forest.{no_properties, Seq, Map, NoNode, MoreNodes, NoPair, MorePairs, left_out}
-use Rattle.saphyr_scanner.specs.Grammar.Forest.{bare}
+use Rattle.saphyr_scanner.specs.Grammar.Forest.{no_properties, Seq, Map, NoNode, MoreNodes, NoPair, MorePairs, left_out, bare}
 use Rattle.yaml_laws.specs.Grammar.Yaml.{IsYamlText}
 use Rattle.yaml_examples.proofs.Pieces.Spaces.{no_filler, filler, comment_line, text_end}
 use Rattle.yaml_examples.proofs.Pieces.Scalars.{letter_a, letter_b, letter_c}
-use Rattle.yaml_examples.proofs.Pieces.Block.{line, nothing, lead_at_start, behind_dash, sequence, dash, next_dash}
-use Rattle.yaml_examples.proofs.Pieces.Block.{no_dash, mapping, first_pair, no_pair, letter}
+use Rattle.yaml_examples.proofs.Pieces.Block.{line, nothing, lead_at_start, behind_dash, sequence, dash, next_dash, no_dash, mapping, first_pair, no_pair, letter}
 use Rattle.yaml_examples.proofs.Pieces.Streams.{document}
 
 -- block collections in the entries of a block sequence

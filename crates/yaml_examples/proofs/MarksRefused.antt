@@ -1,7 +1,6 @@
--- Behind a byte order mark that no `...` line precedes stands no bare document; behind a block scalar stands no mark
--- behind a space.
-use Rattle.std.proofs.Common.{◌≡◌, ℕ, ◌⊎◌, Bool, true, false, ◌==◌, not, List, [], ◌∷◌, ◌++◌}
-use Rattle.std.proofs.Common.{inl, inr, refl, sym, ◌∙◌, arith, codes, ap, subst}
+-- After a byte order mark that no `...` line precedes is no bare document; after a block scalar is no mark
+-- after a space.
+use Rattle.std.proofs.Common.{◌≡◌, ℕ, ◌⊎◌, Bool, true, false, ◌==◌, not, List, [], ◌∷◌, ◌++◌, inl, inr, refl, sym, ◌∙◌, arith, codes, ap, subst}
 use Rattle.std.proofs.lemmas.Bool.{false≢true}
 use Rattle.std.proofs.lemmas.Bool.Decides.{nat_tests}
 use Rattle.std.proofs.Math.Bool.{or-true}
@@ -82,11 +81,12 @@ bare_behind_mark room forest (marks, others, (pieces, each, joins), is, e) =
     (before_in is_mark_or_b (codes "\u{feff}b") marks others e all) in
     let front = subst (λ (x : List ℕ). AreIn is_mark_or_blank x) (sym joins) (marks_are pieces each first) in
     let back = behind_is_blank room forest others is (behind_in is_mark_or_b (codes "\u{feff}b") marks others e all) in
-    let whole = subst (λ (x : List ℕ). AreIn is_mark_or_blank x) (sym e) (both_in is_mark_or_blank marks others front back)
+    let whole = subst (λ (x : List ℕ). AreIn is_mark_or_blank x) (sym e) (both_in is_mark_or_blank marks others front
+    back)
     in
     false≢true whole.1.0
 
--- behind a block scalar stands no byte order mark behind a space
+-- after a block scalar is no byte order mark after a space
 pub mark_behind_space : (i : ℕ) → IsBehindScalar 0 i (codes " \u{feff}") → ⊥
 mark_behind_space i (inl e) = cc
 mark_behind_space i (inr (inl (inl h))) = absurd (let e : false ≡ true = h in cc)

@@ -1,27 +1,21 @@
--- Near misses of YAML's grammar: what stands where another character must.
-use Rattle.std.proofs.Common.{◌≡◌, ◌≢◌, ℕ, zero, suc, ◌≤◌, ◌⊎◌, Bool, true, false, ◌==◌, not, List, [], ◌∷◌, ◌++◌, IsTrue, IsFalse}
-use Rattle.std.proofs.Common.{inl, inr, refl, sym, ◌∙◌, arith, codes, ap, subst, slice_index, append_assoc}
+-- Near misses of YAML's grammar: what is where another character must.
+use Rattle.std.proofs.Common.{◌≡◌, ◌≢◌, ℕ, zero, suc, ◌≤◌, ◌⊎◌, Bool, true, false, ◌==◌, not, List, [], ◌∷◌, ◌++◌, IsTrue, IsFalse, inl, inr, refl, sym, ◌∙◌, arith, codes, ap, subst, slice_index, append_assoc}
 use Rattle.std.proofs.lemmas.Bool.{false≢true}
 use Rattle.saphyr_input.specs.Classes.{is_alpha, is_blank, is_bom, line_feed, tab}
 use Rattle.saphyr_values.specs.declared.block.Chomping.{Chomping}
 use Rattle.saphyr_scalar.specs.Reading.BlockLines.{spaces}
 use Rattle.saphyr_scalar.specs.Spelling.Tag.{AreIn}
 use Rattle.saphyr_values.specs.Block.{Line}
-use Rattle.scalar_laws.specs.Spelling.Block.{IsIndicator, no_digit, digit, IsChomping, strip, clip, keep, no_comment}
-use Rattle.scalar_laws.specs.Spelling.Block.{comment, no_comment_at_end, comment_at_end, IsHeader, digit_first, chomping_first, IsBlockScalar}
+use Rattle.scalar_laws.specs.Spelling.Block.{IsIndicator, no_digit, digit, IsChomping, strip, clip, keep, no_comment, comment, no_comment_at_end, comment_at_end, IsHeader, digit_first, chomping_first, IsBlockScalar}
 use Rattle.scalar_laws.specs.Spelling.Block as block
 use Rattle.scalar_laws.specs.Spelling.Plain.{is_word_ink, IsWordIn}
 use Rattle.scalar_laws.specs.Spelling.Spaces.{joined_pieces, AreEach, IsLineRest, IsLineEnd, IsEol, IsFiller}
-use Rattle.scalar_laws.proofs.Beginnings.{no_feed_no_filler, heads, tails, Begins, behind_in, before_in, lacks}
-use Rattle.scalar_laws.proofs.Beginnings.{IsFirst, no_first, behind_filler}
+use Rattle.scalar_laws.proofs.Beginnings.{no_feed_no_filler, heads, tails, Begins, behind_in, before_in, lacks, IsFirst, no_first, behind_filler}
 use Rattle.saphyr_scanner.specs.Grammar.Forest.{Properties, Node, Seq, Nodes, NoNode, MoreNodes}
 use Rattle.yaml_laws.specs.Grammar.FlowScalars.{begins_plain, IsFirstWord, IsWordGap, IsFurtherWord, IsPlain}
 use Rattle.yaml_laws.specs.Grammar.FlowNodes.{IsOnLine, IsFlowNode}
-use Rattle.yaml_laws.specs.Grammar.BlockNodes.{BehindKey, IsGapAt, is_lone_tab, IsFlowInBlock, EndsContent, IsBehindScalar, IsLead}
-use Rattle.yaml_laws.specs.Grammar.BlockNodes.{IsEntryIndentation}
+use Rattle.yaml_laws.specs.Grammar.BlockNodes.{BehindKey, IsGapAt, is_lone_tab, IsFlowInBlock, EndsContent, IsBehindScalar, IsLead, IsEntryIndentation, has_tab_ahead, IsImplicitPair, IsKeylessPair, IsKeyAlone, IsBlockNode, AreOtherEntries}
 use Rattle.yaml_laws.proofs.Flow.Inks.{BeginsInk, node_ink}
-use Rattle.yaml_laws.specs.Grammar.BlockNodes.{has_tab_ahead, IsImplicitPair, IsKeylessPair, IsKeyAlone, IsBlockNode}
-use Rattle.yaml_laws.specs.Grammar.BlockNodes.{AreOtherEntries}
 use Rattle.saphyr_input.specs.Places.{is_document_indicator}
 use Rattle.std.proofs.Math.Bool.{or-true}
 use Rattle.std.specs.Prelude.{◌||◌, ◌&&◌}
@@ -120,7 +114,7 @@ no_indicator in_flow (c ∷ cs) others (h, b, x, y, z) e =
 pub indicator_first : (in_flow : Bool) (indent : ℕ) → IsPlain in_flow indent (codes "@a") → ⊥
 indicator_first in_flow indent (first, others, h, m, e) = no_indicator in_flow first others h e
 
--- ## Block scalars: behind the header's digit stands no other
+-- ## Block scalars: after the header's digit is no other
 
 header_ends_with_break : (c : ℕ) (rest d x : List ℕ) → is_blank c ≡ false → c ≢ line_feed → block.IsHeaderEnd d x
     → d ≡ c ∷ rest → ⊥
@@ -237,7 +231,7 @@ no_tab (suc m) front others e d =
     let f : codes "\t- b" ≡ 32 ∷ (spaces m ++ (45 ∷ others)) = rw e at d in
     let g : 32 ≡ 9 = heads 9 32 (codes "- b") (spaces m ++ (45 ∷ others)) f in omega (arith, g)
 
--- on one line no filler stands
+-- one line has no filler
 on_one_line : (m : ℕ) (front others : List ℕ) → IsEntryIndentation m front → codes "\t- b" ≡ front ++ (hyphen ∷ others)
     → front ≡ spaces m
 on_one_line m front others (filling, h, e) d =
@@ -299,7 +293,7 @@ sequence_behind_colon room key p nodes m behind (value, out, h, e) =
     (subst (λ (x : List ℕ). AreIn is_no_bracket_and_no_feed x) (tails 58 58 (codes " - a") value e)
     (refl, (refl, (refl, (refl, tt)))))
 
--- whether a document marker or a byte order mark stands here, or anywhere
+-- whether a document marker or a byte order mark is here, or anywhere
 abbrev ends_content : List ℕ → Bool
 ends_content t = is_document_indicator t || is_bom (slice_index t 0)
 
@@ -316,7 +310,7 @@ marker_in [] [] h = h
 marker_in [] (c ∷ cs) h = rw h refl
 marker_in (c ∷ cs) b h = rw (marker_in cs b h) (or-true (ends_content (c ∷ (cs ++ b))))
 
--- behind a tab alone, a word
+-- after a tab alone, a word
 pub lone_tab : (room m : ℕ) (node : Node) (behind : List ℕ)
     → IsFlowInBlock room node (BehindKey m) (codes "\ta") behind → ⊥
 lone_tab room m node behind (gap, text, end, gap_is, is, apart, end_is, e) = by_gap gap gap_is apart e
@@ -435,7 +429,7 @@ entry_left room NoNode m behind e = cc
 entry_left room (MoreNodes node nodes) m behind (front, entry, others, i, h, g, e) =
     no_left m front (45 ∷ (entry ++ others)) (indentation (suc m) front i) e
 
--- behind a key on its line stand spaces and the colon
+-- after a key on its line are spaces and the colon
 before_colon : (c : ℕ) (rest between value : List ℕ) → is_blank c ≡ false → c ≢ colon → AreIn is_blank between
     → c ∷ rest ≡ between ++ (colon ∷ value) → ⊥
 before_colon c rest [] value x y are e = y (sym (heads c 58 rest value e))

@@ -1,20 +1,11 @@
--- No forest has the tokens of a flow sequence with a scalar right behind it, inside braces: a comma, a value or the
--- closing brace stands behind a key there.
-use Rattle.std.proofs.Common.{◌≡◌, ℕ, ◌⊎◌, Bool, true, false, List, [], ◌∷◌, ◌++◌, Option, Some, None, option_map, map}
-use Rattle.std.proofs.Common.{inl, inr, refl, sym, ap, ◌∙◌, append_assoc}
-use Rattle.saphyr_scanner.specs.Grammar.Forest.{Style, Tag, NonSpecific, Verbatim, Shorthand, Directive, Version}
-use Rattle.saphyr_scanner.specs.Grammar.Forest.{TagPrefix, Reserved, HasOne, Node, Nodes, NoNode, MoreNodes, Pairs}
-use Rattle.saphyr_scanner.specs.Grammar.Forest.{NoPair, MorePairs, Document, Forest}
+-- No forest has the tokens of a flow sequence with a scalar right after it, inside braces: a comma, a value or the
+-- closing brace comes after a key there.
+use Rattle.std.proofs.Common.{◌≡◌, ℕ, ◌⊎◌, Bool, true, false, List, [], ◌∷◌, ◌++◌, Option, Some, None, option_map, map, inl, inr, refl, sym, ap, ◌∙◌, append_assoc}
+use Rattle.saphyr_scanner.specs.Grammar.Forest.{Style, Tag, NonSpecific, Verbatim, Shorthand, Directive, Version, TagPrefix, Reserved, HasOne, Node, Nodes, NoNode, MoreNodes, Pairs, NoPair, MorePairs, Document, Forest}
 use Rattle.saphyr_scanner.specs.Grammar.Forest as forest
-use Rattle.saphyr_scanner.specs.Grammar.Tokens.{Kind, StreamStart, StreamEnd, DocumentStart, FlowSequenceStart}
-use Rattle.saphyr_scanner.specs.Grammar.Tokens.{FlowSequenceEnd, FlowMappingStart, FlowMappingEnd, FlowEntry, Key, Value}
-use Rattle.saphyr_scanner.specs.Grammar.Tokens.{BlockSequenceStart, BlockMappingStart, anchor_token, tag_token}
-use Rattle.saphyr_scanner.specs.Grammar.Tokens.{alias_token, scalar_token, directive_token}
+use Rattle.saphyr_scanner.specs.Grammar.Tokens.{Kind, StreamStart, StreamEnd, DocumentStart, FlowSequenceStart, FlowSequenceEnd, FlowMappingStart, FlowMappingEnd, FlowEntry, Key, Value, BlockSequenceStart, BlockMappingStart, anchor_token, tag_token, alias_token, scalar_token, directive_token}
 use Rattle.saphyr_scanner.specs.Grammar.Tokens as tokens
-use Rattle.saphyr_scanner.specs.Grammar.TokenGrammar.{InFlow, InBlock, AreBoth, YieldsSequence, YieldsFlowPair, YieldsNode}
-use Rattle.saphyr_scanner.specs.Grammar.TokenGrammar.{YieldsPairEntry, YieldBlockEntries, Yields}
-use Rattle.saphyr_scanner.specs.Grammar.TokenGrammar.{YieldFlowEntries, YieldFlowPairs, YieldOtherFlowPairs}
-use Rattle.saphyr_scanner.specs.Grammar.TokenGrammar.{YieldDocuments, AreEndsAndMarks}
+use Rattle.saphyr_scanner.specs.Grammar.TokenGrammar.{InFlow, InBlock, AreBoth, YieldsSequence, YieldsFlowPair, YieldsNode, YieldsPairEntry, YieldBlockEntries, Yields, YieldFlowEntries, YieldFlowPairs, YieldOtherFlowPairs, YieldDocuments, AreEndsAndMarks}
 
 -- ## First tokens
 
@@ -62,7 +53,8 @@ HasNone _ _ = ⊥
 no_property : (k j : Kind) → is_property k ≡ false → is_property j ≡ true → k ≡ j → ⊥
 no_property k j a b e = let f : false ≡ true = sym a ∙ ap (λ x. is_property x) e ∙ b in cc
 
-none_before : (k : Kind) (s : List Kind) (anchor : Option (List ℕ)) (tag : Option Tag) (front content t more : List Kind)
+none_before : (k : Kind) (s : List Kind) (anchor : Option (List ℕ)) (tag : Option Tag) (front content t more : List
+    Kind)
     → is_property k ≡ false → AreBoth (option_map anchor_token anchor) (option_map tag_token tag) front
     → t ≡ front ++ content → k ∷ s ≡ t ++ more → HasNone anchor tag × (k ∷ s ≡ content ++ more)
 none_before k s None None front content t more n h e f =
@@ -123,7 +115,7 @@ no_pair (forest.Map p (MorePairs key value NoPair)) s t more (e, inl (front, bac
 no_pair (forest.Map p (MorePairs key value NoPair)) s t more (e, inr (d, (node, k, g))) f =
     let x = begins_so FlowSequenceEnd Key s t node more g f in cc
 
--- behind an opening and a closing bracket
+-- after an opening and a closing bracket
 brackets : (n : Node) (s t more : List Kind) → YieldsNode n InFlow t
     → FlowSequenceStart ∷ FlowSequenceEnd ∷ s ≡ t ++ more → s ≡ more
 brackets (forest.Alias name) s t more h f =
@@ -158,7 +150,7 @@ brackets (forest.Map p pairs) s t more (properties, content, ps, inr h, e) f = a
 -- ## Inside braces
 
 module _ (style : Style) (value : List ℕ) where
-  -- behind the closing bracket
+  -- after the closing bracket
   abbrev behind_bracket : List Kind
   behind_bracket = tokens.Scalar style value ∷ FlowMappingEnd ∷ StreamEnd ∷ []
 
@@ -221,7 +213,8 @@ module _ (style : Style) (value : List ℕ) where
       let g = none_before FlowMappingStart behind_brace p.anchor p.tag properties content t behind refl ps e f in
       let x = begins_so FlowMappingStart BlockMappingStart behind_brace content _ behind d g.1 in cc
 
-  no_directive : (ds : List Directive) (t node behind : List Kind) → t ≡ map directive_token ds ++ (DocumentStart ∷ node)
+  no_directive : (ds : List Directive) (t node behind : List Kind) → t ≡ map directive_token ds ++
+      (DocumentStart ∷ node)
       → FlowMappingStart ∷ behind_brace ≡ t ++ behind → ⊥
   no_directive [] t node behind e f =
       let x = begins_so FlowMappingStart DocumentStart behind_brace t node behind e f in cc

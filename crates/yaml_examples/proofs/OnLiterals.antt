@@ -3,143 +3,44 @@
 use Rattle.std.specs.Prelude.{⊤}
 use Rattle.saphyr_input.specs.Places.{words_len}
 use Rattle.saphyr_values.specs.Escapes.{short_escape}
-use Rattle.saphyr_scalar.specs.Steps.Directive.{directive_name_of, name, number_end, number_from, behind_major}
-use Rattle.saphyr_scalar.specs.Steps.Directive.{version_directive, handle_behind_word, handle, prefix, behind_prefix}
-use Rattle.saphyr_scalar.specs.Steps.Directive.{tag_directive, value, line_end, directive}
+use Rattle.saphyr_scalar.specs.Steps.Directive.{directive_name_of, name, number_end, number_from, behind_major, version_directive, handle_behind_word, handle, prefix, behind_prefix, tag_directive, value, line_end, directive}
 use Rattle.saphyr_scalar.specs.Steps.Anchor.{anchor_name_of, anchor}
-use Rattle.saphyr_scalar.specs.Steps.Quoted.{is_literal, digits, character, escape_by_number, escape_of}
-use Rattle.saphyr_scalar.specs.Steps.Quoted.{escaped_character, special, blank_in, quoted_line, end_gap, inner_text}
-use Rattle.saphyr_scalar.specs.Steps.Quoted.{quoted}
-use Rattle.saphyr_scalar.specs.Steps.Plain.{is_in_word, word_starts, content_behind_tab, pass_white, lines, gap_from}
-use Rattle.saphyr_scalar.specs.Steps.Plain.{gap, next_word_starts, comment_of, plain, word_behind_gap, word}
-use Rattle.saphyr_scalar.specs.Steps.Block.{chomping, indicator, header_break, header_end, last_chomping, header_behind}
-use Rattle.saphyr_scalar.specs.Steps.Block.{header, pass_empty_lines, line_starts, is_unfinished, tail_alone}
-use Rattle.saphyr_scalar.specs.Steps.Block.{given_indentation, chomped_lines, content, behind_leading_lines}
-use Rattle.saphyr_scalar.specs.Steps.Block.{behind_header, block_scalar, between, line}
-use Rattle.saphyr_scalar.specs.Steps.Tag.{escaped_byte, utf8_width, leading_bits, trailing_byte, trailing_bytes}
-use Rattle.saphyr_scalar.specs.Steps.Tag.{encoded_character, behind_leading_byte, percent_escape, uri_character}
-use Rattle.saphyr_scalar.specs.Steps.Tag.{decoded_characters, verbatim_end, verbatim_tag, named_tag, named_tail}
-use Rattle.saphyr_scalar.specs.Steps.Tag.{primary_tag, tag_behind_word, shorthand_tag, tag_end, tag}
+use Rattle.saphyr_scalar.specs.Steps.Quoted.{is_literal, digits, character, escape_by_number, escape_of, escaped_character, special, blank_in, quoted_line, end_gap, inner_text, quoted}
+use Rattle.saphyr_scalar.specs.Steps.Plain.{is_in_word, word_starts, content_behind_tab, pass_white, lines, gap_from, gap, next_word_starts, comment_of, plain, word_behind_gap, word}
+use Rattle.saphyr_scalar.specs.Steps.Block.{chomping, indicator, header_break, header_end, last_chomping, header_behind, header, pass_empty_lines, line_starts, is_unfinished, tail_alone, given_indentation, chomped_lines, content, behind_leading_lines, behind_header, block_scalar, between, line}
+use Rattle.saphyr_scalar.specs.Steps.Tag.{escaped_byte, utf8_width, leading_bits, trailing_byte, trailing_bytes, encoded_character, behind_leading_byte, percent_escape, uri_character, decoded_characters, verbatim_end, verbatim_tag, named_tag, named_tail, primary_tag, tag_behind_word, shorthand_tag, tag_end, tag}
 use Rattle.saphyr_scalar.specs.Views.Cursor.{behind_separation, separation}
 use Rattle.saphyr_scanner.specs.Steps.Property.{read_name, name_steps, read_tag, tag_steps}
-use Rattle.saphyr_scanner.specs.Steps.Flow.{open_collection, opening_steps, close_collection, closing_steps}
-use Rattle.saphyr_scanner.specs.Steps.Flow.{next_flow_entry, flow_entry_steps}
-use Rattle.saphyr_scanner.specs.Steps.Fetch.{flow_value_steps, step, state_behind_content, fetch_here, arrive, fetch}
-use Rattle.saphyr_scanner.specs.Steps.Fetch.{fetch_within, fill}
-use Rattle.saphyr_scanner.specs.Steps.Scalar.{goes_on_behind_quotes, behind_quotes, read_double_quoted}
-use Rattle.saphyr_scanner.specs.Steps.Scalar.{double_quoted_steps, read_single_quoted, single_quoted_steps, read_plain}
-use Rattle.saphyr_scanner.specs.Steps.Scalar.{plain_steps, read_block, block_scalar_steps}
+use Rattle.saphyr_scanner.specs.Steps.Flow.{open_collection, opening_steps, close_collection, closing_steps, next_flow_entry, flow_entry_steps}
+use Rattle.saphyr_scanner.specs.Steps.Fetch.{flow_value_steps, step, state_behind_content, fetch_here, arrive, fetch, fetch_within, fill}
+use Rattle.saphyr_scanner.specs.Steps.Scalar.{goes_on_behind_quotes, behind_quotes, read_double_quoted, double_quoted_steps, read_single_quoted, single_quoted_steps, read_plain, plain_steps, read_block, block_scalar_steps}
 use Rattle.saphyr_scanner.specs.Steps.Unrolling.{unroll}
 use Rattle.saphyr_scanner.specs.Steps.Remaining.{remaining}
 use Rattle.saphyr_scanner.specs.Steps.Gap.{stop}
-use Rattle.saphyr_scanner.specs.Steps.Value.{check_tab, value_of_key, opening_actions, value_alone, behind_key}
-use Rattle.saphyr_scanner.specs.Steps.Value.{value_steps}
-use Rattle.saphyr_scanner.specs.Steps.Document.{end_content, end_at, state_behind_end, state_behind_marker, end_line}
-use Rattle.saphyr_scanner.specs.Steps.Document.{state_behind_document_end, state_behind_byte_order_mark, read_directive}
-use Rattle.saphyr_scanner.specs.Steps.Document.{state_behind_directive}
+use Rattle.saphyr_scanner.specs.Steps.Value.{check_tab, value_of_key, opening_actions, value_alone, behind_key, value_steps}
+use Rattle.saphyr_scanner.specs.Steps.Document.{end_content, end_at, state_behind_end, state_behind_marker, end_line, state_behind_document_end, state_behind_byte_order_mark, read_directive, state_behind_directive}
 use Rattle.saphyr_scanner.specs.Steps.Core.{remove_key, drop_far_key}
-use Rattle.saphyr_scanner.specs.Steps.Block.{pass_dash, next_entry, block_entry_steps, behind_mark, begin_key}
-use Rattle.saphyr_scanner.specs.Steps.Block.{key_steps}
+use Rattle.saphyr_scanner.specs.Steps.Block.{pass_dash, next_entry, block_entry_steps, behind_mark, begin_key, key_steps}
 use Rattle.saphyr_scanner.specs.Steps.Passing.{goes_on_behind, check_comment, pass_gap}
 use Rattle.saphyr_scanner.specs.Views.Queue.{held_places}
 
-unfoldable tags : ⊤
-unfolding anchor_name_of anchor escaped_byte utf8_width leading_bits trailing_byte trailing_bytes encoded_character
-tags = tt
-
-unfoldable more_tags : ⊤
-unfolding behind_leading_byte percent_escape uri_character decoded_characters verbatim_end verbatim_tag named_tag
-more_tags = tt
-
-unfoldable last_tags : ⊤
-unfolding named_tail primary_tag tag_behind_word shorthand_tag tag_end tag
-last_tags = tt
-
-unfoldable directives : ⊤
-unfolding directive_name_of name number_end number_from behind_major version_directive handle_behind_word handle
-directives = tt
-
-unfoldable more_directives : ⊤
-unfolding prefix behind_prefix tag_directive value line_end directive
-more_directives = tt
-
-unfoldable quoted_scalars : ⊤
-unfolding short_escape is_literal digits character escape_by_number escape_of escaped_character special blank_in
-quoted_scalars = tt
-
-unfoldable more_quoted_scalars : ⊤
-unfolding quoted_line end_gap inner_text quoted
-more_quoted_scalars = tt
-
-unfoldable plain_scalars : ⊤
-unfolding words_len is_in_word word_starts content_behind_tab pass_white lines gap_from gap next_word_starts
-plain_scalars = tt
-
-unfoldable more_plain_scalars : ⊤
-unfolding comment_of plain word_behind_gap word
-more_plain_scalars = tt
-
-unfoldable block_scalars : ⊤
-unfolding chomping indicator header_break header_end last_chomping header_behind header pass_empty_lines line_starts
-block_scalars = tt
-
-unfoldable more_block_scalars : ⊤
-unfolding is_unfinished tail_alone given_indentation chomped_lines content behind_leading_lines behind_header
-more_block_scalars = tt
-
-unfoldable last_block_scalars : ⊤
-unfolding block_scalar between line
-last_block_scalars = tt
-
-unfoldable gaps : ⊤
-unfolding behind_separation separation unroll stop remove_key drop_far_key goes_on_behind check_comment pass_gap
-gaps = tt
-
-unfoldable scalar_tokens : ⊤
-unfolding read_name name_steps read_tag tag_steps goes_on_behind_quotes behind_quotes read_double_quoted
-scalar_tokens = tt
-
-unfoldable more_scalar_tokens : ⊤
-unfolding double_quoted_steps read_single_quoted single_quoted_steps read_plain plain_steps read_block
-more_scalar_tokens = tt
-
-unfoldable last_scalar_tokens : ⊤
-unfolding block_scalar_steps
-last_scalar_tokens = tt
-
-unfoldable entries : ⊤
-unfolding open_collection opening_steps close_collection closing_steps next_flow_entry flow_entry_steps pass_dash
-entries = tt
-
-unfoldable more_entries : ⊤
-unfolding next_entry block_entry_steps behind_mark begin_key key_steps
-more_entries = tt
-
-unfoldable values : ⊤
-unfolding check_tab value_of_key opening_actions value_alone behind_key value_steps
-values = tt
-
-unfoldable documents : ⊤
-unfolding end_content end_at state_behind_end state_behind_marker end_line state_behind_document_end
-documents = tt
-
-unfoldable more_documents : ⊤
-unfolding state_behind_byte_order_mark read_directive state_behind_directive
-more_documents = tt
-
-unfoldable fetches : ⊤
-unfolding flow_value_steps step state_behind_content fetch_here arrive fetch fetch_within fill remaining held_places
-fetches = tt
-
-unfoldable readers : ⊤
-unfolding tags more_tags last_tags directives more_directives quoted_scalars more_quoted_scalars plain_scalars
-readers = tt
-
-unfoldable steps : ⊤
-unfolding more_plain_scalars block_scalars more_block_scalars last_block_scalars gaps scalar_tokens more_scalar_tokens
-steps = tt
-
 -- what an answer unfolds to compute the tokens of a text
 unfoldable pub scanner_on_literals : ⊤
-unfolding readers steps last_scalar_tokens entries more_entries values documents more_documents fetches
+unfolding anchor_name_of anchor escaped_byte utf8_width leading_bits trailing_byte trailing_bytes encoded_character
+    behind_leading_byte percent_escape uri_character decoded_characters verbatim_end verbatim_tag named_tag
+    named_tail primary_tag tag_behind_word shorthand_tag tag_end tag directive_name_of name number_end number_from
+    behind_major version_directive handle_behind_word handle prefix behind_prefix tag_directive value line_end
+    directive short_escape is_literal digits character escape_by_number escape_of escaped_character special blank_in
+    quoted_line end_gap inner_text quoted words_len is_in_word word_starts content_behind_tab pass_white lines
+    gap_from gap next_word_starts comment_of plain word_behind_gap word chomping indicator header_break header_end
+    last_chomping header_behind header pass_empty_lines line_starts is_unfinished tail_alone given_indentation
+    chomped_lines content behind_leading_lines behind_header block_scalar between line behind_separation separation
+    unroll stop remove_key drop_far_key goes_on_behind check_comment pass_gap read_name name_steps read_tag
+    tag_steps goes_on_behind_quotes behind_quotes read_double_quoted double_quoted_steps read_single_quoted
+    single_quoted_steps read_plain plain_steps read_block block_scalar_steps open_collection opening_steps
+    close_collection closing_steps next_flow_entry flow_entry_steps pass_dash next_entry block_entry_steps
+    behind_mark begin_key key_steps check_tab value_of_key opening_actions value_alone behind_key value_steps
+    end_content end_at state_behind_end state_behind_marker end_line state_behind_document_end
+    state_behind_byte_order_mark read_directive state_behind_directive flow_value_steps step state_behind_content
+    fetch_here arrive fetch fetch_within fill remaining held_places
 scanner_on_literals = tt

@@ -1,25 +1,17 @@
 -- The line `---` stands for nothing but one document whose node is left out.
-use Rattle.std.proofs.Common.{◌≡◌, ◌≢◌, ℕ, zero, suc, ◌⊎◌, Bool, true, false, ◌==◌, List, [], ◌∷◌, ◌++◌, inl, inr, refl}
-use Rattle.std.proofs.Common.{◌∙◌, arith, codes, ap, sym, subst, append_assoc, IsFalse}
+use Rattle.std.proofs.Common.{◌≡◌, ◌≢◌, ℕ, zero, suc, ◌⊎◌, Bool, true, false, ◌==◌, List, [], ◌∷◌, ◌++◌, inl, inr, refl, ◌∙◌, arith, codes, ap, sym, subst, append_assoc, IsFalse}
 use Rattle.saphyr_input.specs.Indicators.{hyphen, percent_sign}
 use Rattle.saphyr_input.specs.Classes.{line_feed}
 use Rattle.saphyr_scalar.specs.Reading.BlockLines.{spaces}
 use Rattle.saphyr_scalar.specs.Spelling.Tag.{AreIn}
 use Rattle.scalar_laws.specs.Spelling.Plain.{is_word_ink}
 use Rattle.scalar_laws.specs.Spelling.Spaces.{joined_pieces, IsFiller, IsFillerText, IsEol}
-use Rattle.scalar_laws.proofs.Beginnings.{heads, tails, Begins, front_of, behind_in, before_in, lacks, IsFirst}
-use Rattle.scalar_laws.proofs.Beginnings.{no_first, filler_text, behind_filler}
-use Rattle.saphyr_scanner.specs.Grammar.Forest.{Style, Plain, SingleQuoted, DoubleQuoted, Literal, Folded, Properties}
-use Rattle.saphyr_scanner.specs.Grammar.Forest.{Node, Alias, Scalar, Seq, Map, Nodes, NoNode, MoreNodes, Pairs, NoPair}
-use Rattle.saphyr_scanner.specs.Grammar.Forest.{MorePairs, left_out, Directive, Version, TagPrefix, Reserved, Document}
-use Rattle.saphyr_scanner.specs.Grammar.Forest.{Forest}
+use Rattle.scalar_laws.proofs.Beginnings.{heads, tails, Begins, front_of, behind_in, before_in, lacks, IsFirst, no_first, filler_text, behind_filler}
+use Rattle.saphyr_scanner.specs.Grammar.Forest.{Style, Plain, SingleQuoted, DoubleQuoted, Literal, Folded, Properties, Node, Alias, Scalar, Seq, Map, Nodes, NoNode, MoreNodes, Pairs, NoPair, MorePairs, left_out, Directive, Version, TagPrefix, Reserved, Document, Forest}
 use Rattle.yaml_laws.specs.Grammar.FlowScalars.{IsFirstWord, IsFlowScalar}
 use Rattle.yaml_laws.specs.Grammar.FlowNodes.{IsScalarNode, IsOpening, IsFlowNode}
-use Rattle.yaml_laws.specs.Grammar.BlockNodes.{Position, BehindDash, AtStart, BehindMarker, IsLead, IsFlowInBlock}
-use Rattle.yaml_laws.specs.Grammar.BlockNodes.{IsStyled, IsScalarInBlock, IsBlockNode, AreEntries, ArePairs}
-use Rattle.yaml_laws.specs.Grammar.Yaml.{IsDirective, AreDirectives, has_marker, IsExplicitDocument, IsDocument}
-use Rattle.yaml_laws.specs.Grammar.Yaml.{IsBehindMarks, IsBehindDocument, AreDocuments, IsYamlText}
-use Rattle.yaml_laws.specs.Grammar.Yaml.{IsDocumentPrefix, no_prefix, mark_prefix, end_prefix}
+use Rattle.yaml_laws.specs.Grammar.BlockNodes.{Position, BehindDash, AtStart, BehindMarker, IsLead, IsFlowInBlock, IsStyled, IsScalarInBlock, IsBlockNode, AreEntries, ArePairs}
+use Rattle.yaml_laws.specs.Grammar.Yaml.{IsDirective, AreDirectives, has_marker, IsExplicitDocument, IsDocument, IsBehindMarks, IsBehindDocument, AreDocuments, IsYamlText, IsDocumentPrefix, no_prefix, mark_prefix, end_prefix}
 use Rattle.yaml_laws.proofs.Examples.MarkerAlone.{only}
 use Rattle.yaml_examples.proofs.YamlRefused.{properties, IsPropertyMark}
 
@@ -83,7 +75,7 @@ no_lead p column least m t (inl (before, end, filling, l, c, (rest, r, f), g, e)
 no_lead p column least m t (inr (e, (zero, l, f, g))) h = omega arith
 no_lead p column least m t (inr (e, (suc n, l, f, g))) h = lacks (is 45) 32 t [] (spaces n) refl g h
 
--- behind a dash
+-- after a dash
 no_entry : (room : ℕ) (x : Node) (column : ℕ) (t behind : List ℕ) → IsBlockNode room x (BehindDash column) t behind
     → behind ≢ [] → IsAll 45 t → ⊥
 no_entry room (Alias name) column t behind h n i = no_flow room (Alias name) (BehindDash column) t behind h n i
@@ -125,7 +117,7 @@ no_bare room (Map p pairs) t behind (inl h) n i = no_flow room (Map p pairs) AtS
 no_bare room (Map p pairs) t behind (inr (m, lead, entries, l, h, e)) n i =
     no_pairs 45 room pairs m entries behind refl refl h (behind_in (is 45) t lead entries e i)
 
--- A beginning of the line on which no document marker stands is of dashes alone, and before a dash.
+-- A beginning of the line on which no document marker is is of dashes alone, and before a dash.
 bare_front : (t behind : List ℕ) → codes "---\n" ≡ t ++ behind → IsFalse (has_marker true t)
     → (behind ≢ []) × IsAll 45 t
 bare_front [] behind e n = ((λ f. let g : codes "---\n" ≡ [] = e ∙ f in cc), tt)
@@ -189,7 +181,8 @@ no_content Folded value in_flow indent t s h = s
 
 no_flow_scalar : (p : Properties) (style : Style) (value : List ℕ) (in_flow : Bool) (indent : ℕ) (t : List ℕ)
     → IsScalarNode p style value in_flow indent t → IsAll 10 t → ⊥
-no_flow_scalar p style value in_flow indent t (inl (e, f, h)) i = no_first_mark t (properties indent p.anchor p.tag t h) i
+no_flow_scalar p style value in_flow indent t (inl (e, f, h)) i =
+    no_first_mark t (properties indent p.anchor p.tag t h) i
 no_flow_scalar p style value in_flow indent t (inr (before, content, b, c, e)) i =
     no_content style value in_flow indent content c (behind_in (is 10) t before content e i)
 
@@ -248,7 +241,7 @@ directives_begin [] t e = inl (refl, e)
 directives_begin (d ∷ ds) t (directive, filling, more, h, f, o, e) =
     inr (front_of (λ c. c ≡ 37) directive (codes "\n" ++ (filling ++ more)) t (percent d directive h) e)
 
--- behind three dashes, the line feed is that of the node or stands behind it
+-- after three dashes, the line feed is that of the node or comes after it
 behind_dashes : (t directives node others : List ℕ) → directives ≡ [] → t ≡ directives ++ (codes "---" ++ node)
     → codes "---\n" ≡ t ++ others → codes "\n" ≡ node ++ others
 behind_dashes t directives node others d e f =
@@ -263,7 +256,7 @@ no_percent t directives others more (c, cs, m, d) e f =
     let g : codes "---\n" ≡ c ∷ ((cs ++ more) ++ others) = rw (e, d) at f in
     let h : c ≡ 45 = heads 45 c (codes "--\n") ((cs ++ more) ++ others) g in omega (arith, m, h)
 
--- ## Behind it stands no other document
+-- ## After it is no other document
 
 no_document : (room : ℕ) (d : Document) (t behind : List ℕ) → IsExplicitDocument (IsBlockNode room) d t behind
     → IsAll 10 t → ⊥
@@ -361,7 +354,8 @@ one_forest room forest (prefix, others, p, h, e) = by_prefix prefix others p h e
         (e ∙ append_assoc filling (c ∷ t) behind))
       where
         by_filler : (codes "---\n" ≡ c ∷ (t ++ behind)) ⊎ Begins IsFirst (codes "---\n") → ⊥
-        by_filler (inl g) = let k : true ≡ false = sym (ap (λ x. 45 == x) (heads 45 c (codes "--\n") (t ++ behind) g)) ∙ n in cc
+        by_filler (inl g) =
+            let k : true ≡ false = sym (ap (λ x. 45 == x) (heads 45 c (codes "--\n") (t ++ behind) g)) ∙ n in cc
         by_filler (inr (c, cs, h, g)) =
             no_first 45 c (codes "--\n") cs refl (λ y. omega arith) (λ y. omega arith) h g
 

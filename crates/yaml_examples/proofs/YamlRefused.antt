@@ -1,27 +1,22 @@
 -- Near misses of YAML's grammar. The entries of a flow sequence begin with no comma, so `[,]` stands for no
 -- sequence.
-use Rattle.std.proofs.Common.{◌≡◌, ◌≢◌, ℕ, ◌⊎◌, Bool, true, false, List, [], ◌∷◌, ◌++◌, Option, Some, None, inl, inr}
-use Rattle.std.proofs.Common.{refl, arith, codes, ap, ◌==◌, slice_index, IsTrue}
+use Rattle.std.proofs.Common.{◌≡◌, ◌≢◌, ℕ, ◌⊎◌, true, false, List, [], ◌∷◌, ◌++◌, Option, Some, None, inl, inr, refl, sym, ◌∙◌, arith, codes, ap, ◌==◌, slice_index, IsTrue}
 use Rattle.std.specs.Prelude.{not}
 use Rattle.saphyr_input.specs.Indicators.{comma, left_bracket}
 use Rattle.saphyr_input.specs.Classes.{byte_order_mark, is_blank}
 use Rattle.saphyr_scalar.specs.Reading.BlockLines.{spaces}
 use Rattle.saphyr_scalar.specs.Spelling.Tag.{AreIn}
 use Rattle.scalar_laws.specs.Spelling.Spaces.{AreEach, joined_pieces, IsSeparationLine, IsSeparation}
-use Rattle.scalar_laws.proofs.Beginnings.{behind_first, heads, Begins, front_of, before_in, lacks}
-use Rattle.scalar_laws.proofs.Beginnings.{no_feed_no_filler}
-use Rattle.saphyr_scanner.specs.Grammar.Forest.{Style, Plain, SingleQuoted, DoubleQuoted, Literal, Folded, Handle}
-use Rattle.saphyr_scanner.specs.Grammar.Forest.{Primary, Secondary, Named, Tag, NonSpecific, Verbatim, Shorthand}
-use Rattle.saphyr_scanner.specs.Grammar.Forest.{Properties, Node, Alias, Scalar, Seq, Map, Nodes, NoNode, MoreNodes}
-use Rattle.saphyr_scanner.specs.Grammar.Forest.{NoPair, MorePairs, Document, Version, AreCompatible}
+use Rattle.scalar_laws.proofs.Beginnings.{behind_first, heads, Begins, front_of, before_in, lacks, no_feed_no_filler}
+use Rattle.saphyr_scanner.specs.Grammar.Forest.{Handle, Primary, Secondary, Named, Tag, NonSpecific, Verbatim, Shorthand, Properties, Alias, Seq, Nodes, NoNode, MoreNodes, Document, Version, AreCompatible}
+use Rattle.std.proofs.lemmas.Bool.{eq-eqb}
+use Rattle.yaml_laws.proofs.Flow.Inks as inks
+use Rattle.yaml_laws.proofs.Flow.Items.{item_begins}
 use Rattle.yaml_laws.specs.Grammar.TagSpelling.{IsHandle, IsTag}
-use Rattle.yaml_laws.specs.Grammar.FlowScalars.{begins_plain, IsFirstWord, IsPlain, IsPlainKey, IsFlowScalar}
-use Rattle.yaml_laws.specs.Grammar.FlowNodes.{IsAnchor, AreProperties, IsBeforeContent, IsScalarNode}
-use Rattle.yaml_laws.specs.Grammar.FlowNodes.{IsPlainKeyNode, IsColonAndValue, IsSinglePairText, IsSinglePair}
-use Rattle.yaml_laws.specs.Grammar.FlowNodes.{IsOpening, IsBeforeColon, IsFlowNode, AreItems, IsPairItem}
+use Rattle.yaml_laws.specs.Grammar.FlowScalars.{IsFirstWord}
+use Rattle.yaml_laws.specs.Grammar.FlowNodes.{IsAnchor, AreProperties, IsBeforeContent, IsBeforeColon, IsFlowNode, AreItems}
 use Rattle.yaml_laws.specs.Grammar.BlockNodes.{IsBlockNode}
-use Rattle.yaml_laws.specs.Grammar.Yaml.{IsBareDocument}
-use Rattle.yaml_laws.specs.Grammar.Yaml.{IsDocumentPrefix, no_prefix, mark_prefix, end_prefix}
+use Rattle.yaml_laws.specs.Grammar.Yaml.{IsBareDocument, IsDocumentPrefix, no_prefix, mark_prefix, end_prefix}
 
 abbrev NoComma : List ℕ → Type 0
 NoComma t = Begins (λ c. c ≢ 44) t
@@ -58,122 +53,27 @@ properties indent (Some name) (Some x) t (front, gap, written, a, b, s, inl e) =
 properties indent (Some name) (Some x) t (front, gap, written, a, b, s, inr e) =
     front_of IsPropertyMark written (gap ++ front) t (tag x written b) e
 
-mark_is_no_comma : (c : ℕ) → IsPropertyMark c → c ≢ comma
-mark_is_no_comma c (inl e) f = omega arith
-mark_is_no_comma c (inr e) f = omega arith
-
 no_bracket : (c : ℕ) → IsPropertyMark c → c ≢ left_bracket
 no_bracket c (inl e) f = omega arith
 no_bracket c (inr e) f = omega arith
 
-mark_has_no_comma_in : (t : List ℕ) → Begins IsPropertyMark t → NoComma t
-mark_has_no_comma_in t (c, cs, h, e) = (c, cs, mark_is_no_comma c h, e)
-
--- before content stands nothing, or properties first
+-- before content is nothing, or properties first
 pub before : (p : Properties) (indent : ℕ) (t : List ℕ) → IsBeforeContent p indent t
     → (t ≡ []) ⊎ Begins IsPropertyMark t
 before p indent t (inl (e, f)) = inl f
 before p indent t (inr (front, separation, h, n, s, e)) =
     inr (front_of IsPropertyMark front separation t (properties indent p.anchor p.tag front h) e)
 
-mark_has_no_comma : (t : List ℕ) → (t ≡ []) ⊎ Begins IsPropertyMark t → (t ≡ []) ⊎ NoComma t
-mark_has_no_comma t (inl e) = inl e
-mark_has_no_comma t (inr h) = inr (mark_has_no_comma_in t h)
-
--- ## Scalars and nodes
-
-comma_is_no_plain : (c : ℕ) → c ≡ comma → IsTrue (begins_plain c) → ⊥
-comma_is_no_plain c e h = let f : begins_plain c ≡ false = ap (λ x. begins_plain x) e in cc
-
-first_word : (in_flow : Bool) (w : List ℕ) → IsFirstWord in_flow w → NoComma w
-first_word in_flow [] (h, b, x, y, z) = absurd (h.some refl)
-first_word in_flow (c ∷ cs) (h, b, x, y, z) = (c, cs, (λ e. comma_is_no_plain c e b), refl)
-
-plain : (in_flow : Bool) (indent : ℕ) (t : List ℕ) → IsPlain in_flow indent t → NoComma t
-plain in_flow indent t (w, others, h, m, e) = front_of (λ c. c ≢ 44) w others t (first_word in_flow w h) e
-
-flow_scalar : (style : Style) (v : List ℕ) (in_flow : Bool) (indent : ℕ) (t : List ℕ)
-    → IsFlowScalar style v in_flow indent t → NoComma t
-flow_scalar Plain v in_flow indent t (h, e) = plain in_flow indent t h
-flow_scalar SingleQuoted v in_flow indent t (inside, items, s, f, e, d) = (39, inside, (λ x. omega arith), d)
-flow_scalar DoubleQuoted v in_flow indent t (inside, items, s, f, e, d) = (34, inside, (λ x. omega arith), d)
-flow_scalar Literal v in_flow indent t h = absurd h
-flow_scalar Folded v in_flow indent t h = absurd h
-
-scalar_has_no_comma : (p : Properties) (style : Style) (v : List ℕ) (in_flow : Bool) (indent : ℕ) (t : List ℕ)
-    → IsScalarNode p style v in_flow indent t → NoComma t
-scalar_has_no_comma p style v in_flow indent t (inl (e, f, h)) = mark_has_no_comma_in t (properties indent p.anchor p.tag t h)
-scalar_has_no_comma p style v in_flow indent t (inr (front, content, b, h, e)) =
-    no_comma_behind front content t (mark_has_no_comma front (before p indent front b))
-    (flow_scalar style v in_flow indent content h) e
-
-plain_key_word : (in_flow : Bool) (indent : ℕ) (t : List ℕ) → IsPlainKey in_flow indent t → NoComma t
-plain_key_word in_flow indent [] (inl ((some, ink, sign), b)) = absurd (some refl)
-plain_key_word in_flow indent (c ∷ cs) (inl (word, b)) = (c, cs, (λ e. comma_is_no_plain c e b), refl)
-plain_key_word in_flow indent t (inr (first, dashes, gap, word, h, lone, g, last, e)) =
-    front_of (λ c. c ≢ 44) first (dashes ++ (gap ++ word)) t (plain in_flow indent first h) e
-
-plain_key : (x : Node) (in_flow : Bool) (indent : ℕ) (t : List ℕ) → IsPlainKeyNode x in_flow indent t → NoComma t
-plain_key (Alias name) in_flow indent t h = absurd h
-plain_key (Seq p nodes) in_flow indent t h = absurd h
-plain_key (Map p pairs) in_flow indent t h = absurd h
-plain_key (Scalar p style v) in_flow indent t (front, content, q, b, h, d, e) =
-    no_comma_behind front content t (mark_has_no_comma front (before p indent front b))
-    (plain_key_word in_flow indent content h) e
-
-opening : (p : Properties) (c indent : ℕ) (t : List ℕ) → c ≢ comma → IsOpening p (c ∷ []) indent t → NoComma t
-opening p c indent t n (front, separation, b, s, e) =
-    no_comma_behind front (c ∷ separation) t (mark_has_no_comma front (before p indent front b))
-    (c, separation, n, refl) e
-
-flow_node : (room : ℕ) (x : Node) (in_flow : Bool) (indent : ℕ) (t : List ℕ) → IsFlowNode room x in_flow indent t
-    → NoComma t
-flow_node room (Alias name) in_flow indent t (h, e) = (42, name, (λ x. omega arith), e)
-flow_node room (Scalar p style v) in_flow indent t h = scalar_has_no_comma p style v in_flow indent t h
-flow_node room (Seq p nodes) in_flow indent t (left, o, inside, r, h, i, e) =
-    front_of (λ c. c ≢ 44) o (inside ++ codes "]") t (opening p 91 indent o (λ x. omega arith) h) e
-flow_node room (Map p pairs) in_flow indent t (left, o, inside, r, h, i, e) =
-    front_of (λ c. c ≢ 44) o (inside ++ codes "}") t (opening p 123 indent o (λ x. omega arith) h) e
-
 -- ## Entries
 
-value_has_no_comma : (adjacent : Bool) (v : Node) (V : List ℕ → Type 0) (indent : ℕ) (t : List ℕ)
-    → IsColonAndValue adjacent v V indent t → NoComma t
-value_has_no_comma adjacent v V indent t (inl (e, f)) = (58, [], (λ x. omega arith), f)
-value_has_no_comma adjacent v V indent t (inr (separation, text, s, a, h, e)) =
-    (58, separation ++ text, (λ x. omega arith), e)
-
-pair_text : (room : ℕ) (k v : Node) (indent : ℕ) (t : List ℕ)
-    → IsSinglePairText k v (IsFlowNode room k true indent) (IsFlowNode room v true indent) indent t → NoComma t
-pair_text room k v indent t (inl (key, blanks, value, inl h, l, b, n, c, e)) =
-    front_of (λ c. c ≢ 44) key (blanks ++ value) t (flow_node room k true indent key h) e
-pair_text room k v indent t (inl (key, blanks, value, inr (h, none), l, b, n, c, e)) =
-    front_of (λ c. c ≢ 44) key (blanks ++ value) t (plain_key k true indent key h) e
-pair_text room k v indent t (inr (inl (e, h))) = value_has_no_comma false v (IsFlowNode room v true indent) indent t h
-pair_text room k v indent t (inr (inr (separation, pair, s, h, e))) = (63, separation ++ pair, (λ x. omega arith), e)
-
-pair : (room : ℕ) (k v : Node) (indent : ℕ) (t : List ℕ)
-    → IsSinglePair k v (IsFlowNode room k true indent) (IsFlowNode room v true indent) indent t → NoComma t
-pair room k v indent t (inl (separation, a, b, s, e)) = (63, separation, (λ x. omega arith), e)
-pair room k v indent t (inr (piece, separation, h, s, e)) =
-    front_of (λ c. c ≢ 44) piece separation t (pair_text room k v indent piece h) e
-
-pair_item : (room : ℕ) (x : Node) (indent : ℕ) (t : List ℕ) → IsPairItem room x indent t → NoComma t
-pair_item room (Alias name) indent t h = absurd h
-pair_item room (Scalar p style v) indent t h = absurd h
-pair_item room (Seq p nodes) indent t h = absurd h
-pair_item room (Map p NoPair) indent t h = absurd h
-pair_item room (Map p (MorePairs k v NoPair)) indent t (e, h) = pair room k v indent t h
-pair_item room (Map p (MorePairs k v (MorePairs a b ps))) indent t h = absurd h
+no_comma : (t : List ℕ) → inks.Begins t → NoComma t
+no_comma t b = (b.first, b.others, λ e. absurd (let k : true ≡ false = sym (eq-eqb b.first 44 e) ∙ b.comma in cc), b.is)
 
 pub no_entry_begins_with_a_comma : (room : ℕ) (nodes : Nodes) (indent : ℕ) (t : List ℕ) → AreItems room nodes indent t
     → (t ≡ []) ⊎ NoComma t
 no_entry_begins_with_a_comma room NoNode indent t e = inl e
-no_entry_begins_with_a_comma room (MoreNodes x xs) indent t (item, others, inl (piece, separation, h, s, e), o, d) =
-    inr (front_of (λ c. c ≢ 44) item others t
-    (front_of (λ c. c ≢ 44) piece separation item (flow_node room x true indent piece h) e) d)
-no_entry_begins_with_a_comma room (MoreNodes x xs) indent t (item, others, inr h, o, d) =
-    inr (front_of (λ c. c ≢ 44) item others t (pair_item room x indent item h) d)
+no_entry_begins_with_a_comma room (MoreNodes x xs) indent t (item, others, h, o, d) =
+    inr (front_of (λ c. c ≢ 44) item others t (no_comma item (item_begins indent room x item h)) d)
 
 -- ## Separation
 
@@ -268,7 +168,7 @@ marker_inside room d behind (e, f, h) = cc
 pub two_versions : (major minor : ℕ) → AreCompatible (Version 1 2 ∷ Version major minor ∷ []) → ⊥
 two_versions major minor ((h, x), y) = h
 
--- no byte order mark stands behind a blank on its line
+-- no byte order mark comes after a blank on its line
 pub mark_behind_blank : (behind : List ℕ) → IsDocumentPrefix (codes " \u{feff}") behind → ⊥
 mark_behind_blank behind h = by_text (codes " \u{feff}") behind h refl
   where

@@ -1,15 +1,11 @@
 -- A text and its normalized text, scanned side by side.
 pub mod Normal
 pub mod Places
-pub mod Steps
 pub mod Gaps
 pub mod Forward
 pub mod Cores
-pub mod Passing
 pub mod States
 pub mod Indicators
 pub mod Scalars
 pub mod Documents
-pub mod Fetches
 pub mod Runs
-pub mod YamlTexts

@@ -4,12 +4,9 @@ pub mod Places
 pub mod Gaps
 pub mod GapSteps
 pub mod Fillers
-pub mod Arrivals
 pub mod Separates
 pub mod Joins
 pub mod Brackets
-pub mod Commas
-pub mod Colons
 pub mod Values
 pub mod Spaces
 pub mod Questions
@@ -19,13 +16,9 @@ pub mod Pairs
 pub mod MarkedPairs
 pub mod Entries
 pub mod Items
-pub mod Braces
 pub mod NodesPass
 pub mod Collections
-pub mod Fronts
-pub mod Low
 pub mod Tokens
-pub mod Tags
 pub mod Names
 pub mod Ends
 pub mod Properties
@@ -34,7 +27,6 @@ pub mod Quotes
 pub mod WordGaps
 pub mod Words
 pub mod PlainEnds
-pub mod Noted
 pub mod Plains
 pub mod NoDashes
 pub mod Contents

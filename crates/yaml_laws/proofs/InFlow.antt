@@ -10,5 +10,4 @@ pub mod KeyScalars
 pub mod KeyCollections
 pub mod KeyFirsts
 pub mod KeyNodes
-pub mod KeyBrackets
 pub mod Keys

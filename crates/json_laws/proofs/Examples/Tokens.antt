@@ -4,8 +4,7 @@ use lib.Utf8.{encode}
 use Rattle.saphyr_scanner.specs.Grammar.Forest.{Style, no_properties, Scalar}
 use Rattle.saphyr_scanner.specs.Grammar.Tokens.{scalar_token}
 use Rattle.saphyr_scanner.specs.Grammar.TokenGrammar.{Context, InFlow, InBlock, InBlockMapping, YieldsNode, Yields}
-use Rattle.saphyr_scanner.specs.Examples.Forests.{json_array, json_object, json_forest, json_text_tokens}
-use Rattle.saphyr_scanner.specs.Examples.Forests.{block_sequence, block_mapping, block_forest, block_tokens}
+use Rattle.saphyr_scanner.specs.Examples.Forests.{json_array, json_object, json_forest, json_text_tokens, block_sequence, block_mapping, block_forest, block_tokens}
 use Rattle.json_laws.proofs.AllTokens.{bare_yields}
 
 -- a scalar without properties is its token

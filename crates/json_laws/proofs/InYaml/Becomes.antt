@@ -15,7 +15,7 @@ pub record Becomes (P : List ℕ → Type 0) (t x : List ℕ) : Type 0 where
   pub normal : normalized (t ++ x) ≡ text ++ normalized x
   pub holds : P text
 
--- one piece and another behind it
+-- one piece and another after it
 abbrev pub Both : (List ℕ → Type 0) → (List ℕ → Type 0) → List ℕ → Type 0
 Both P Q t = (front back : List ℕ) × P front × Q back × (t ≡ front ++ back)
 

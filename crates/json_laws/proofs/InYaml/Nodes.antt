@@ -11,6 +11,7 @@ use Rattle.json_laws.proofs.InYaml.Calm.{IsCalm, is_no_break}
 use Rattle.json_laws.proofs.InYaml.Becomes.{Becomes, Both, become_both, becomes_so, stays, white_becomes}
 use Rattle.json_laws.proofs.InYaml.Words.{word_plain, word_no_break, word_calm}
 use Rattle.json_laws.proofs.InYaml.Quotes.{string_quoted, string_no_break, string_calm}
+use Rattle.yaml_laws.proofs.InBlock.Mappings.{pair_text}
 use Rattle.json_laws.proofs.InYaml.Parts.{IsPadded, IsName, IsTail, AreItemAndOthers, item_and_others, first_items, other_items, ArePairAndOthers, pair_and_others, first_pairs, other_pairs, sequence_padded, mapping_padded}
 
 -- ## Room
@@ -77,12 +78,9 @@ name_becomes room (Map p pairs) t x h = elim h [ ]
 
 -- ## Marks
 
--- a mark with white space round it, and what stands behind
+-- a mark with white space round it, and what comes after
 abbrev Marked : List ℕ → (List ℕ → Type 0) → List ℕ → Type 0
 Marked mark P t = (w v core : List ℕ) × AreIn is_white w × AreIn is_white v × P core × (t ≡ w ++ (mark ++ (v ++ core)))
-
-mark_regrouped : (w k v t : List ℕ) → (w ++ (k ++ v)) ++ t ≡ w ++ (k ++ (v ++ t))
-mark_regrouped w k v t = simp append_assoc
 
 marked_so : (mark : List ℕ) (P : List ℕ → Type 0) (n : List ℕ)
     → Both (AreIn is_white) (Both (λ m. m ≡ mark) (Both (AreIn is_white) P)) n
@@ -104,7 +102,7 @@ mark_becomes : {P : List ℕ → Type 0} (c : ℕ) (structural t x : List ℕ) �
     → Becomes (Marked (c ∷ []) P) (structural ++ t) x
 mark_becomes {P} c structural t x no_break (w, v, wh, vh, is) p =
     let whole : structural ++ t ≡ w ++ ((c ∷ []) ++ (v ++ t)) = ap (λ (y : List ℕ). y ++ t) is
-    ∙ mark_regrouped w (c ∷ []) v t in
+    ∙ pair_text w (c ∷ []) v t in
     subst (λ (y : List ℕ). Becomes (Marked (c ∷ []) P) y x) (sym whole)
     (becomes_so (marked_so (c ∷ []) P)
     (become_both w ((c ∷ []) ++ (v ++ t)) x (white_becomes w (((c ∷ []) ++ (v ++ t)) ++ x) wh)
@@ -142,7 +140,7 @@ enclosed_so left right Q n (b, r, bh, (o, s, o_is, (a, v, ah, (u, w, uh, (k, d, 
       (e4 ∙ ap (λ (y : List ℕ). y ++ d) k_is)))),
 )
 
--- the entries, with white space behind them, become so before any text
+-- the entries, with white space after them, become so before any text
 abbrev BecomeInside : (List ℕ → Type 0) → List ℕ → Type 0
 BecomeInside Q t = (c y : List ℕ) → IsWhiteSpace c → Becomes Q (t ++ c) y
 
@@ -150,7 +148,8 @@ enclosed_becomes : {Q : List ℕ → Type 0} (o k : ℕ) (opening inside closing
     → IsTrue (is_no_break k) → IsStructural (o ∷ []) opening → IsStructural (k ∷ []) closing
     → t ≡ opening ++ (inside ++ closing) → BecomeInside Q inside
     → Becomes (Enclosed (o ∷ []) (k ∷ []) Q) t x
-enclosed_becomes {Q} o k opening inside closing t x o_stays k_stays (b, a, bh, ah, opening_is) (c, d, ch, dh, closing_is)
+enclosed_becomes {Q} o k opening inside closing t x o_stays k_stays (b, a, bh, ah, opening_is)
+    (c, d, ch, dh, closing_is)
     is entries =
     let last = (k ∷ []) ++ d in
     let whole : t ≡ b ++ ((o ∷ []) ++ (a ++ ((inside ++ c) ++ last))) =
@@ -257,10 +256,7 @@ behind_two : (a b c : List ℕ) (t : List ℕ) → t ≡ a ++ b → t ++ c ≡ a
 behind_two a b c t e = ap (λ (y : List ℕ). y ++ c) e ∙ append_assoc a b c
 
 behind_three : (a b c d t : List ℕ) → t ≡ a ++ (b ++ c) → t ++ d ≡ a ++ (b ++ (c ++ d))
-behind_three a b c d t e = ap (λ (y : List ℕ). y ++ d) e ∙ regrouped a b c d
-  where
-    regrouped : (a b c d : List ℕ) → (a ++ (b ++ c)) ++ d ≡ a ++ (b ++ (c ++ d))
-    regrouped a b c d = simp append_assoc
+behind_three a b c d t e = ap (λ (y : List ℕ). y ++ d) e ∙ pair_text a b c d
 
 behind_four : (a b c d f t : List ℕ) → t ≡ a ++ (b ++ (c ++ d)) → t ++ f ≡ a ++ (b ++ (c ++ (d ++ f)))
 behind_four a b c d f t e = ap (λ (y : List ℕ). y ++ f) e ∙ regrouped a b c d f
@@ -305,7 +301,8 @@ mutual
       (element_becomes room node nodes element others
       (λ x. value_becomes room node true element x first (first_least (open_collections node) (open_in_nodes nodes) room
       fits))
-      (other_elements_become room nodes others more (second_least (open_collections node) (open_in_nodes nodes) room fits))
+      (other_elements_become room nodes others more (second_least (open_collections node) (open_in_nodes nodes) room
+      fits))
       c y white))
 
   other_elements_become : (room : ℕ) (nodes : Nodes) (t : List ℕ) → AreOtherElements nodes t
@@ -320,7 +317,8 @@ mutual
       (element_becomes room node nodes element others
       (λ x. value_becomes room node true element x first (first_least (open_collections node) (open_in_nodes nodes) room
       fits))
-      (other_elements_become room nodes others more (second_least (open_collections node) (open_in_nodes nodes) room fits))
+      (other_elements_become room nodes others more (second_least (open_collections node) (open_in_nodes nodes) room
+      fits))
       c y white)))
 
   members_become : (room : ℕ) (pairs : Pairs) (t : List ℕ) → AreMembers pairs t → open_in_pairs pairs ≤ room

@@ -1,8 +1,9 @@
 -- The parts of a text of JSON, joined to items and pairs of YAML's grammar: white space of both sides of a mark comes
--- together, and that behind a value belongs to the value's item.
+-- together, and that after a value belongs to the value's item.
 use Rattle.std.proofs.Common.{◌≡◌, ℕ, suc, Bool, true, not, List, [], ◌++◌, refl, sym, ap, ◌∙◌, append_assoc, codes, IsTrue, subst, inl, inr}
 use Rattle.saphyr_scalar.specs.Spelling.Tag.{AreIn}
 use Rattle.saphyr_scanner.specs.Grammar.Forest.{Properties, no_properties, Node, Seq, Map, Nodes, MoreNodes, Pairs, MorePairs}
+use Rattle.scalar_laws.specs.Spelling.Spaces.{IsSeparation}
 use Rattle.yaml_laws.specs.Grammar.FlowNodes.{needs_separation, allows_adjacent, IsComma, IsPair, IsBeforeSeparation, IsFlowNode, AreItems, AreOtherItems, AreFlowPairs, AreOtherFlowPairs}
 use Rattle.json_laws.proofs.InYaml.White.{is_white, white_separates}
 use Rattle.json_laws.proofs.InYaml.Calm.{IsCalm, calm_both, calm_character, white_calm}
@@ -26,7 +27,7 @@ pub record IsName (room : ℕ) (node : Node) (t : List ℕ) : Type 0 where
   pub apart : IsTrue (not (needs_separation node))
   pub calm : IsCalm t
 
--- white space, and what stands behind it
+-- white space, and what comes after it
 pub record IsTail (P : List ℕ → Type 0) (t : List ℕ) : Type 0 where
   pub before : List ℕ
   pub core : List ℕ
@@ -37,7 +38,7 @@ pub record IsTail (P : List ℕ → Type 0) (t : List ℕ) : Type 0 where
 
 -- ## Items
 
--- an item, with the white space behind it, and the other items
+-- an item, with the white space after it, and the other items
 pub record AreItemAndOthers (room : ℕ) (node : Node) (nodes : Nodes) (t : List ℕ) : Type 0 where
   pub item : List ℕ
   pub others : List ℕ
@@ -90,7 +91,7 @@ comma w h = (w, white_separates w h, refl)
 comma_calm : (w : List ℕ) → AreIn is_white w → IsCalm (codes "," ++ w)
 comma_calm w h = calm_both (codes ",") w (calm_character 44 refl refl) (white_calm w h)
 
-mark_regrouped : (k w b c : List ℕ) → k ++ (w ++ (b ++ c)) ≡ (k ++ (w ++ b)) ++ c
+pub mark_regrouped : (k w b c : List ℕ) → k ++ (w ++ (b ++ c)) ≡ (k ++ (w ++ b)) ++ c
 mark_regrouped k w b c = simp append_assoc
 
 pub other_items : (room : ℕ) (node : Node) (nodes : Nodes) (w v t : List ℕ) → AreIn is_white w → AreIn is_white v
@@ -119,7 +120,7 @@ other_items room node nodes w v t wh vh h =
 
 -- ## Pairs
 
--- a pair, with the white space behind it, and the other pairs
+-- a pair, with the white space after it, and the other pairs
 pub record ArePairAndOthers (room : ℕ) (key value : Node) (pairs : Pairs) (t : List ℕ) : Type 0 where
   pub pair : List ℕ
   pub others : List ℕ
@@ -223,56 +224,54 @@ bracket_calm : (o g c k : List ℕ) → IsCalm o → AreIn is_white g → IsCalm
 bracket_calm o g c k p white q r =
     calm_both (o ++ g) (c ++ k) (calm_both o g p (white_calm g white)) (calm_both c k q r)
 
-pub sequence_padded : (room left : ℕ) (p : Properties) (nodes : Nodes) (in_flow : Bool) (b a t d : List ℕ)
-    → room ≡ suc left → p ≡ no_properties → AreIn is_white b → AreIn is_white a → IsTail (AreItems left nodes 0) t → AreIn is_white d
-    → IsPadded room (Seq p nodes) in_flow (b ++ (codes "[" ++ (a ++ (t ++ (codes "]" ++ d)))))
-sequence_padded room left p nodes in_flow b a t d some none bh ah h dh =
+collection_padded : (room : ℕ) (node : Node) (in_flow : Bool) (Text : List ℕ → Type 0) (o k b a t d : List ℕ)
+    → IsCalm o → IsCalm k → AreIn is_white b → AreIn is_white a → IsTail Text t → AreIn is_white d
+    → ((gap core : List ℕ) → IsSeparation 0 gap → Text core
+    → IsFlowNode room node in_flow 0 ((o ++ gap) ++ (core ++ k)))
+    → IsPadded room node in_flow (b ++ (o ++ (a ++ (t ++ (k ++ d)))))
+collection_padded room node in_flow Text o k b a t d oc kc bh ah h dh flow =
     let gap = a ++ h.before in
     let white = white_both a h.before ah h.white in
     record {
       before = b;
-      core = (codes "[" ++ gap) ++ (h.core ++ codes "]");
+      core = (o ++ gap) ++ (h.core ++ k);
       after = d;
-      is = ap (λ (x : List ℕ). b ++ (codes "[" ++ (a ++ (x ++ (codes "]" ++ d))))) h.is
-          ∙ collection_regrouped b (codes "[") a h.before h.core (codes "]") d;
+      is = ap (λ (x : List ℕ). b ++ (o ++ (a ++ (x ++ (k ++ d))))) h.is
+          ∙ collection_regrouped b o a h.before h.core k d;
       white_before = bh;
       white_after = dh;
-      flow = (
-        left,
-        codes "[" ++ gap,
-        h.core,
-        some,
-        ([], gap, inl (none, refl), white_separates gap white, refl),
-        h.holds,
-        refl,
-      );
-      calm = bracket_calm (codes "[") gap h.core (codes "]") (calm_character 91 refl refl) white h.calm
-          (calm_character 93 refl refl);
+      flow = flow gap h.core (white_separates gap white) h.holds;
+      calm = bracket_calm o gap h.core k oc white h.calm kc;
     }
 
+pub sequence_padded : (room left : ℕ) (p : Properties) (nodes : Nodes) (in_flow : Bool) (b a t d : List ℕ)
+    → room ≡ suc left → p ≡ no_properties → AreIn is_white b → AreIn is_white a → IsTail (AreItems left nodes 0) t
+    → AreIn is_white d → IsPadded room (Seq p nodes) in_flow (b ++ (codes "[" ++ (a ++ (t ++ (codes "]" ++ d)))))
+sequence_padded room left p nodes in_flow b a t d some none bh ah h dh =
+    collection_padded room (Seq p nodes) in_flow (AreItems left nodes 0) (codes "[") (codes "]") b a t d
+    (calm_character 91 refl refl) (calm_character 93 refl refl) bh ah h dh
+    (λ gap core parts items. (
+      left,
+      codes "[" ++ gap,
+      core,
+      some,
+      ([], gap, inl (none, refl), parts, refl),
+      items,
+      refl,
+    ))
+
 pub mapping_padded : (room left : ℕ) (p : Properties) (pairs : Pairs) (in_flow : Bool) (b a t d : List ℕ)
-    → room ≡ suc left → p ≡ no_properties → AreIn is_white b → AreIn is_white a → IsTail (AreFlowPairs left pairs 0) t → AreIn is_white d
-    → IsPadded room (Map p pairs) in_flow (b ++ (codes "{" ++ (a ++ (t ++ (codes "}" ++ d)))))
+    → room ≡ suc left → p ≡ no_properties → AreIn is_white b → AreIn is_white a → IsTail (AreFlowPairs left pairs 0) t
+    → AreIn is_white d → IsPadded room (Map p pairs) in_flow (b ++ (codes "{" ++ (a ++ (t ++ (codes "}" ++ d)))))
 mapping_padded room left p pairs in_flow b a t d some none bh ah h dh =
-    let gap = a ++ h.before in
-    let white = white_both a h.before ah h.white in
-    record {
-      before = b;
-      core = (codes "{" ++ gap) ++ (h.core ++ codes "}");
-      after = d;
-      is = ap (λ (x : List ℕ). b ++ (codes "{" ++ (a ++ (x ++ (codes "}" ++ d))))) h.is
-          ∙ collection_regrouped b (codes "{") a h.before h.core (codes "}") d;
-      white_before = bh;
-      white_after = dh;
-      flow = (
-        left,
-        codes "{" ++ gap,
-        h.core,
-        some,
-        ([], gap, inl (none, refl), white_separates gap white, refl),
-        h.holds,
-        refl,
-      );
-      calm = bracket_calm (codes "{") gap h.core (codes "}") (calm_character 123 refl refl) white h.calm
-          (calm_character 125 refl refl);
-    }
+    collection_padded room (Map p pairs) in_flow (AreFlowPairs left pairs 0) (codes "{") (codes "}") b a t d
+    (calm_character 123 refl refl) (calm_character 125 refl refl) bh ah h dh
+    (λ gap core parts pairs. (
+      left,
+      codes "{" ++ gap,
+      core,
+      some,
+      ([], gap, inl (none, refl), parts, refl),
+      pairs,
+      refl,
+    ))

@@ -102,7 +102,7 @@ string_quoted indent value t h =
       h.2,
     )
 
--- ## No break and no marker stands in it
+-- ## No break and no marker is in it
 
 hex_no_break : (d : ℕ) → IsHex d → is_no_break d ≡ true
 hex_no_break d h = grind (arith, nat_tests)

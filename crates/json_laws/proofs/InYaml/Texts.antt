@@ -10,7 +10,7 @@ use Rattle.json_laws.specs.Grammar.Json.{IsJsonText, IsJson}
 use Rattle.json_laws.proofs.InYaml.White.{is_white, white_gap, white_ends}
 use Rattle.json_laws.proofs.InYaml.Calm.{IsCalm, calm_both, white_calm}
 use Rattle.json_laws.proofs.InYaml.Becomes.{Becomes, Both, become_both, white_both, white_becomes}
-use Rattle.json_laws.proofs.InYaml.Parts.{IsPadded}
+use Rattle.json_laws.proofs.InYaml.Parts.{IsPadded, mark_regrouped}
 use Rattle.json_laws.proofs.InYaml.Nodes.{first_least, value_becomes}
 
 -- a node in flow style is one at block level
@@ -20,9 +20,6 @@ flow_node room (Alias name) t behind h = h
 flow_node room (Scalar p style value) t behind h = inr (inl h)
 flow_node room (Seq p nodes) t behind h = inl h
 flow_node room (Map p pairs) t behind h = inl h
-
-regrouped : (g c a o : List ℕ) → g ++ (c ++ (a ++ o)) ≡ (g ++ (c ++ a)) ++ o
-regrouped g c a o = simp append_assoc
 
 -- white space round a node in flow style, which is that of a bare document
 node_yaml : (room : ℕ) (node : Node) (gap core w : List ℕ) → AreIn is_white gap → IsFlowNode room node false 0 core
@@ -36,7 +33,7 @@ node_yaml room node gap core w gap_white flow calm white =
     let unmarked : has_marker true document ≡ false = subst (λ (x : List ℕ). has_marker true x ≡ false)
     (append-nil document) no_marker in
     let is : gap ++ (core ++ w) ≡ document ++ e.others = ap (λ (x : List ℕ). gap ++ (core ++ x)) e.is
-    ∙ regrouped gap core e.end e.others in
+    ∙ mark_regrouped gap core e.end e.others in
     let stands = flow_node room node document e.others
     (gap, core, e.end, white_gap gap gap_white, flow, refl, e.ends, refl) in (
       [],
@@ -73,7 +70,8 @@ text_yaml : (room : ℕ) (node : Node) (text : List ℕ) → IsJsonText node tex
 text_yaml room node text (before, value, after, bh, h, ah, is) fits =
     let r : Becomes (IsRoot room node) (before ++ (value ++ after)) [] =
     become_both before (value ++ after) [] (white_becomes before ((value ++ after) ++ []) bh)
-    (become_both value after [] (value_becomes room node false value (after ++ []) h fits) (white_becomes after [] ah)) in
+    (become_both value after [] (value_becomes room node false value (after ++ []) h fits) (white_becomes after []
+    ah)) in
     let same : normalized text ≡ r.text =
     ap normalized (is ∙ sym (append-nil (before ++ (value ++ after)))) ∙ r.normal ∙ append-nil r.text in
     subst (IsYaml room (bare node ∷ [])) (sym same) (root_yaml room node r.text r.holds)

@@ -1,4 +1,4 @@
--- Blanks and line feeds are white space of YAML's grammar, wherever they stand: separation, filler, what stands
+-- Blanks and line feeds are white space of YAML's grammar, wherever they are: separation, filler, what is
 -- before a document's node, and the end of its line with what follows that.
 use Rattle.std.proofs.Common.{◌≡◌, ℕ, Bool, true, false, List, [], ◌∷◌, ◌++◌, refl, sym, ap, ◌∙◌, arith, subst, append_assoc, append-nil, codes, inl, inr}
 use Rattle.std.specs.Prelude.{◌||◌, ◌==◌}
@@ -16,7 +16,7 @@ is_white c = is_blank c || (c == line_feed)
 abbrev IsBlankLine : List ℕ → Type 0
 IsBlankLine t = (blanks : List ℕ) × AreIn is_blank blanks × (t ≡ blanks ++ codes "\n")
 
--- lines of blanks, and the blanks behind them
+-- lines of blanks, and the blanks after them
 record Lines (w : List ℕ) : Type 0 where
   pieces : List (List ℕ)
   each : AreEach IsBlankLine pieces
@@ -145,7 +145,7 @@ line_white blanks t h e = subst (AreIn is_white) (sym e) (both blanks h)
     both [] h = (refl, tt)
     both (c ∷ cs) h = (rw h.0 refl, both cs h.1)
 
--- behind the node of a text
+-- after the node of a text
 pub white_ends : (w : List ℕ) → AreIn is_white w → Ending w
 white_ends w h = let l = lines w h in by_pieces l.pieces l.each l.last l.blanks l.is
   where

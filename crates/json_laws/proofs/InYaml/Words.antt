@@ -118,5 +118,6 @@ no_marker c cs (inr h) dash rest =
 pub word_calm : (t : List ℕ) → IsWord t → IsCalm t
 word_calm t h =
     let b = word_begins t h in
-    subst IsCalm (sym b.is) (calm_line b.first b.others (subst (AreIn is_no_break) b.is (word_no_break t (word_safe t h)))
+    subst IsCalm (sym b.is) (calm_line b.first b.others (subst (AreIn is_no_break) b.is (word_no_break t
+    (word_safe t h)))
     (no_marker b.first b.others b.kind b.dash))

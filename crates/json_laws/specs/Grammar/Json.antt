@@ -43,7 +43,7 @@ IsJsonNumber t = (minus integer fraction exponent : List ℕ) × ((minus ≡ [])
 
 -- ## Strings (section 7)
 
--- The letter behind `\` and the character that both stand for: `"`, `\`, `/`, `b` backspace, `f` form feed,
+-- The letter after `\` and the character that both stand for: `"`, `\`, `/`, `b` backspace, `f` form feed,
 -- `n` line feed, `r` carriage return, `t` tab.
 abbrev pub IsJsonEscape : ℕ → ℕ → Type 0
 IsJsonEscape letter c =

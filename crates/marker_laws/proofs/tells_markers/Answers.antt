@@ -16,7 +16,7 @@ returns-clause-end c x y = dots [] 10 x y refl refl
 pub returns-clause-comment : goal.returns-clause-comment
 returns-clause-comment c x y = dots (codes " # c") 10 x y refl refl
 
--- a character is known behind the marker
+-- a character is known after the marker
 known : {r q : List ℕ} → Marked r q → 3 < length r
 known (dashes d e) = omega arith
 known (dots [] d x y white e) = omega arith
@@ -28,7 +28,7 @@ returns-clause-start_alone c q h = omega (arith, known h)
 pub returns-clause-longer : goal.returns-clause-longer
 returns-clause-longer c q h = let e = told h in cc
 
--- and a break behind `...`
+-- and a break after `...`
 some_break : (line : List ℕ) (d : ℕ) (x : List ℕ) → is_break d ≡ true → list_any is_break (line ++ d ∷ x) ≡ true
 some_break [] d x e = rw e refl
 some_break (c ∷ line) d x e = rw (some_break line d x e) (or-true (is_break c))

@@ -19,9 +19,8 @@ use Rattle.saphyr_values.specs.Folding.{line_feeds}
 use Rattle.saphyr_scalar.proofs.Block.Reads.{same_gift}
 use Rattle.saphyr_scalar.proofs.Block.Law.{values_of_lines}
 use Rattle.saphyr_scalar.proofs.Block.Turns.{no_line_at}
-use Rattle.scalar_laws.proofs.Block.Places.{Left, none_starts, no_break_at, nothing_behind}
+use Rattle.scalar_laws.proofs.Block.PlacedValues.{Left, none_starts, no_break_at, nothing_behind, Value}
 use Rattle.scalar_laws.proofs.Block.EmptyBodies.{Passed, no_space_behind, no_indentation, empty_passed, spaces_passed, empty_lines_alone}
-use Rattle.scalar_laws.proofs.Block.PlacedValues.{Value}
 use Rattle.scalar_laws.proofs.Block.LeadingLines.{IsLimit, Led, led_on}
 use Rattle.scalar_laws.proofs.Block.Headers.{header_read}
 use Rattle.saphyr_input.proofs.Basics.Booleans.{and_false, clash, by_test}
@@ -54,7 +53,7 @@ no_z x h = parts (nat_eq x 10) (nat_eq x 13) (nat_eq x 0) _ h
     parts false false true e k = absurd (cc)
     parts false false false e k = refl
 
--- what was read behind the header, with the leading empty lines
+-- what was read after the header, with the leading empty lines
 record ScalarRead (st : BlockStyle) (c : Chomping) (indent i n : ℕ) (others : List ℕ) (start : Marker)
     (limit : Option ℕ) (ls : List Line) (r : EmptyLinesRead × Cursor) : Type 0 where
   text : List ℕ
@@ -132,7 +131,7 @@ end_read st c indent i n others start limit ls r no_content z rest column stays 
     none_value : (ls : List Line) → has_content ls ≡ false → chomped_alone c (length ls) ≡ lines_value st c true ls
     none_value ls h = rw h refl
 
--- the breaks of empty lines stay, but for a last line of spaces that stands alone
+-- the breaks of empty lines stay, but for a last line of spaces that is alone
 plain_tail : (c : Chomping) (k : ℕ) (s : Cursor) → ((k == 0) && s.blank_so_far && nat_lt 0 s.mark.col) ≡ false
     → tail_alone c k s ≡ chomped_alone c k
 unfolding tail_alone
@@ -303,7 +302,7 @@ some_behind : (j c : ℕ) (cs : List ℕ) → spaces j ++ (c ∷ cs) ≢ []
 some_behind zero c cs e = cc
 some_behind (suc j) c cs e = cc
 
--- nothing stands behind the header
+-- nothing comes after the header
 body_some : {i : ℕ} {is_given : Bool} {x : List ℕ} {ls : List Line} {t : List ℕ} → IsBody i is_given x ls t → t ≢ []
 body_some {i} (leading j ls t low h) e = some_behind j 10 t e
 body_some {i} (first c cs ls t some h k) e = some_behind i c (cs ++ (10 ∷ t)) e
@@ -318,7 +317,7 @@ nothing_passed : (limit : Option ℕ) (b : Bool) (m : Marker)
 unfolding pass_empty_lines
 nothing_passed limit b m = refl
 
--- what is read behind the header's line
+-- what is read after the header's line
 lines_read : (st : BlockStyle) (c : Chomping) (indent i n d : ℕ) (is_given : Bool) (ls : List Line) (start : Marker)
     (b : Bool) (m : Marker) (x body others : List ℕ) → IsIndentation indent i d is_given → IsBehind i n x others
     → IsBody i is_given x ls body ⊎ IsEmptyBody indent i n x ls body
@@ -334,13 +333,15 @@ lines_read st c indent i n d is_given ls start b m x body others ind h (inl is) 
     content_read st c indent i n others start limit ls r l (found_as indent i d r.0.widest is_given ind l.widest)
 lines_read st c indent i n d is_given ls start b m x body others ind h (inl is) (inr (e, dark)) =
     absurd (body_some is e)
-lines_read st c indent i n d is_given _ start b m x _ others ind h (inr (empty_lines ls body are cond)) (inl (col, blank)) =
+lines_read st c indent i n d is_given _ start b m x _ others ind h (inr (empty_lines ls body are cond)) (inl
+    (col, blank)) =
     let limit = given_indentation indent d in
     empty_read st c indent i n d is_given x others start ls (pass_empty_lines limit no_lines b m body)
     (empty_lines_alone are) ind h
     (empty_passed i n is_given limit x others no_lines b m ls body (limit_of indent i d is_given ind) col (omega arith)
     h are) cond
-lines_read st c indent i n d is_given _ start b m x _ others ind h (inr (empty_lines ls body are cond)) (inr (e, dark)) =
+lines_read st c indent i n d is_given _ start b m x _ others ind h (inr (empty_lines ls body are cond)) (inr
+    (e, dark)) =
     nothing_read are e
   where
     nothing_read : {ls : List Line} {t : List ℕ} → AreEmptyLines i x ls t → t ≡ []

@@ -13,10 +13,10 @@ use Rattle.saphyr_scalar.specs.Reading.BlockLines.{spaces}
 use Rattle.saphyr_scalar.proofs.Block.Lines.{stops}
 use Rattle.saphyr_values.specs.Block.{Line, Empty, has_content}
 use Rattle.scalar_laws.specs.Spelling.Block.{AreEmptyLines, no_empty_lines, empty_line, empty_line_and_spaces, IsBehind}
-use Rattle.scalar_laws.proofs.Block.Places.{nothing_behind, no_break_at}
+use Rattle.scalar_laws.proofs.Block.PlacedValues.{nothing_behind, no_break_at}
 use Rattle.scalar_laws.proofs.Block.LeadingLines.{IsLimit, e_spaces, e_feed}
 
--- Empty lines were taken off, and spaces behind them: all the scalar has, and all before `others`.
+-- Empty lines were taken off, and spaces after them: all the scalar has, and all before `others`.
 pub record Passed (i n : ℕ) (others : List ℕ) (before : EmptyLinesRead) (ls : List Line)
     (r : EmptyLinesRead × Cursor) : Type 0 where
   pub rest : r.1.rest ≡ others
@@ -25,7 +25,7 @@ pub record Passed (i n : ℕ) (others : List ℕ) (before : EmptyLinesRead) (ls 
   pub within : r.1.mark.col ≤ r.0.widest
   pub column : (r.1.mark.col ≡ n) ⊎ ((others ≡ []) × (1 ≤ length ls))
 
--- what stands behind n spaces is no space: to the left of the column, or at it where no content begins
+-- what comes after n spaces is no space: to the left of the column, or at it where no content begins
 pub no_space_behind : (i n : ℕ) (x others : List ℕ) → IsBehind i n x others → slice_index others 0 ≢ 32
 no_space_behind i n x others h e = by_column (nat_lt n i) refl
   where
@@ -46,7 +46,7 @@ pub no_indentation : (limit : Option ℕ) (col c : ℕ) → c ≢ 32 → is_inde
 no_indentation None col c h = ne_eqb c 32 h
 no_indentation (Some limit) col c h = rw (ne_eqb c 32 h) refl
 
--- spaces, and behind them what is no more of the indentation
+-- spaces, and after them what is no more of the indentation
 stopped : (i n : ℕ) (given : Bool) (limit : Option ℕ) (others : List ℕ) (before : EmptyLinesRead) (b : Bool)
     (m : Marker) → IsLimit i given limit → m.col + n ≤ i → slice_index others 0 ≢ 32
     → is_break (slice_index others 0) ≡ false

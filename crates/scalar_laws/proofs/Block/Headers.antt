@@ -1,4 +1,4 @@
--- Where the header of a block scalar stands, it is taken off.
+-- Where the header of a block scalar is, it is taken off.
 use Rattle.std.proofs.Common.{◌≡◌, ◌≢◌, ℕ, suc, ◌+◌, ◌-◌, ◌≤◌, true, false, List, [], ◌∷◌, ◌++◌, length, drop, slice_index, Result, Ok, refl, ap, ◌∙◌, arith, subst, add-zero, nat_eq, nat_lt, inl, inr}
 use Rattle.std.specs.Prelude.{◌&&◌, not, ◌⊎◌, Option, Some, None, unwrap_or}
 use Rattle.std.specs.List.{prefix_len}
@@ -21,7 +21,7 @@ use Rattle.scalar_laws.specs.Spelling.Block.{IsIndicator, no_digit, digit, IsCho
 use Rattle.saphyr_input.proofs.Basics.Booleans.{and_false, clash, by_test, either}
 use Rattle.saphyr_input.proofs.Basics.Numbers.{one_and}
 
--- what is left behind white space
+-- what is left after white space
 behind_read : (text : List ℕ) (v : Cursor) → is_bom (slice_index v.rest 0) ≡ false → is_bare_comment Yes text ≡ false
     → behind_separation Yes text v ≡ Ok (found_blanks Yes text, v)
 unfolding behind_separation
@@ -76,7 +76,7 @@ end_passed start v e =
     by_test (not (is_breakz (slice_index v.rest 0))) _ _ Goal (λ h. clash _ h yes)
     (λ _. by_test (nat_eq (slice_index (pass_break v).rest 0) 9) _ _ Goal (λ h. clash _ h no) (λ _. ap Ok passed))
 
--- behind a header's line a line begins, or nothing is left behind the header
+-- after a header's line a line begins, or nothing is left after the header
 abbrev pub IsBehindLine : Cursor → List ℕ → Type 0
 IsBehindLine u x = ((u.mark.col ≡ 0) × (u.blank_so_far ≡ true)) ⊎ ((x ≡ []) × (u.blank_so_far ≡ false))
 
@@ -309,7 +309,7 @@ front s c cs e = ap (λ (xs : List ℕ). slice_index xs 0) e
 first_of_text : (s : Cursor) (a : List ℕ) → s.rest ≡ a → slice_index s.rest 0 ≡ slice_index a 0
 first_of_text s a e = ap (λ (xs : List ℕ). slice_index xs 0) e
 
--- behind a chomping indicator
+-- after a chomping indicator
 some_first : (n : ℕ) (c : Chomping) (b d x : List ℕ) (s v : Cursor) → chomping (pass 1 s) ≡ (Some c, v) → v.rest ≡ b
     → IsIndicator n b d → IsHeaderEnd d x → slice_index x 0 ≢ 9 → v.blank_so_far ≡ false → HeaderRead n c x s
 some_first _ c _ d x s v e rest (no_digit y) l tab dark =
@@ -322,7 +322,7 @@ some_first _ c _ d x s v e rest (digit k y low high) l tab dark =
     (indicator_digit s.mark v k (front v (48 + k) y rest) low high) (last_chosen c (pass 1 v)) (ap (drop 1) rest) l
     tab refl
 
--- behind the indentation indicator, where no chomping indicator stood before it
+-- after the indentation indicator, where no chomping indicator was before it
 last_read : (n : ℕ) (c : Chomping) (b d x : List ℕ) (s t : Cursor) → chomping (pass 1 s) ≡ (None, pass 1 s)
     → indicator s.mark (pass 1 s) ≡ Ok (n, t) → t.rest ≡ b → IsChomping c b d → IsHeaderEnd d x → slice_index x 0 ≢ 9
     → t.blank_so_far ≡ false → HeaderRead n c x s

@@ -1,4 +1,4 @@
--- Where the leading empty lines of a block scalar stand, they are taken off, with the indentation of its first content
+-- Where the leading empty lines of a block scalar are, they are taken off, with the indentation of its first content
 -- line.
 use Rattle.std.proofs.Common.{◌≡◌, ◌≢◌, ℕ, zero, suc, ◌+◌, ◌<◌, ◌≤◌, Bool, true, false, List, [], ◌∷◌, ◌++◌, slice_index, refl, sym, ap, ◌∙◌, arith, subst, nat_eq, nat_lt, append_assoc}
 use Rattle.std.specs.Prelude.{max, Option, Some, None}
@@ -19,8 +19,7 @@ use Rattle.saphyr_values.specs.Folding.{line_feeds}
 use Rattle.saphyr_input.proofs.Basics.Booleans.{and_false}
 use Rattle.std.proofs.lemmas.Bool.{ne_eqb}
 use Rattle.saphyr_input.proofs.Basics.Characters.{non_break_no_break}
-use Rattle.scalar_laws.proofs.Block.Places.{space_left, Left, nothing_behind, content_left, last_left, lines_left}
-use Rattle.scalar_laws.proofs.Block.PlacedValues.{Value, content_value, last_value, lines_value_left}
+use Rattle.scalar_laws.proofs.Block.PlacedValues.{space_left, Left, nothing_behind, content_left, last_left, lines_left, Value, content_value, last_value, lines_value_left}
 
 -- the indentation that is given, or is to be found
 abbrev pub IsLimit : ℕ → Bool → Option ℕ → Type 0
@@ -39,7 +38,8 @@ limit_space : (i : ℕ) (given : Bool) (limit : Option ℕ) (col : ℕ) → IsLi
 limit_space i given None col h less = refl
 limit_space i given (Some limit) col h less = space_left limit col (omega arith)
 
-pub e_spaces : (i : ℕ) (given : Bool) (limit : Option ℕ) (lines : EmptyLinesRead) (b : Bool) (j : ℕ) (m : Marker) (t : List ℕ)
+pub e_spaces : (i : ℕ) (given : Bool) (limit : Option ℕ) (lines : EmptyLinesRead) (b : Bool) (j : ℕ) (m : Marker)
+    (t : List ℕ)
     → IsLimit i given limit → m.col + j ≤ i
     → pass_empty_lines limit lines b m (spaces j ++ t) ≡ pass_empty_lines limit lines b (along m j) t
 e_spaces i given limit lines b zero m t l h = ap (λ x. pass_empty_lines limit lines b x t) (sym (along_none m))
@@ -62,7 +62,7 @@ limit_stops i given None col c l h e = ne_eqb c 32 (h l)
 limit_stops i given (Some limit) col c l h e =
     let right : nat_lt col limit ≡ false = grind (arith, nat_tests) in rw right (and_false (nat_eq c 32))
 
--- the first content line, with what stands behind it
+-- the first content line, with what comes after it
 abbrev pub FirstValue : BlockStyle → Chomping → List ℕ → List Line → List ℕ
 FirstValue st c text ls = text ++ (contents_behind st text 0 ls ++ reading.chomped c true (empty_at_end 0 ls))
 
@@ -80,7 +80,8 @@ pub record Led (st : BlockStyle) (c : Chomping) (i n : ℕ) (others : List ℕ) 
   pub some : has_content ls ≡ true
   pub whole : (e : ℕ) → contents st ls ++ reading.chomped c true (empty_at_end e ls) ≡ line_feeds d ++ later
 
-led_at : (st : BlockStyle) (c : Chomping) (i n : ℕ) (given : Bool) (limit : Option ℕ) (before : EmptyLinesRead) (b : Bool)
+led_at : (st : BlockStyle) (c : Chomping) (i n : ℕ) (given : Bool) (limit : Option ℕ) (before : EmptyLinesRead)
+    (b : Bool)
     (m : Marker) (x : ℕ) (cs t others : List ℕ) (ls : List Line) → IsLimit i given limit → (given ≡ false → x ≢ space)
     → m.col ≡ i → before.widest ≤ i
     → is_yaml_non_break x ≡ true → ((k : ℕ) → Left n others (between st i None k b m (x ∷ t)))
@@ -105,7 +106,8 @@ led_at st c i n given limit before b m x cs t others ls l h col wide solid left 
           (reading.chomped c true (empty_at_end 0 ls));
     })
 
-led_more : (st : BlockStyle) (c : Chomping) (i n : ℕ) (others : List ℕ) (before : EmptyLinesRead) (w : ℕ) (ls : List Line)
+led_more : (st : BlockStyle) (c : Chomping) (i n : ℕ) (others : List ℕ) (before : EmptyLinesRead) (w : ℕ)
+    (ls : List Line)
     (r : EmptyLinesRead × Cursor) → Led st c i n others (with_empty_line before w) ls r → Led st c i n others before
     (Empty ∷ ls) r
 led_more st c i n others before w ls r l = record {

@@ -1,13 +1,13 @@
--- Where the lines of a block scalar stand, what is read has their value, with the breaks at their end.
-use Rattle.std.proofs.Common.{◌≡◌, ℕ, suc, ◌+◌, ◌<◌, ◌≤◌, Bool, true, false, List, [], ◌∷◌, ◌++◌, length, slice_index, refl, sym, ap, ◌∙◌, arith}
-use Rattle.std.specs.Prelude.{◌&&◌, max, Option, Some}
+-- Where the lines of a block scalar are, what is read has their value, with the breaks at their end.
+use Rattle.std.proofs.Common.{◌≡◌, ℕ, suc, ◌+◌, ◌<◌, ◌≤◌, Bool, true, false, List, [], ◌∷◌, ◌++◌, length, slice_index, refl, sym, ap, ◌∙◌, arith, nat_le, append_assoc, add-one, ◌≢◌, zero, subst, nat_eq, nat_lt, inl, inr}
+use Rattle.std.specs.Prelude.{◌&&◌, max, Option, Some, not, is_some, ◌⊎◌}
 use Rattle.std.proofs.lemmas.Bool.Decides.{nat_tests}
 use Rattle.std.proofs.lemmas.List.{append-nil}
-use Rattle.saphyr_input.specs.Classes.{is_blank, line_feed}
+use Rattle.saphyr_input.specs.Classes.{is_blank, line_feed, is_z, is_break, is_yaml_non_break, carriage_return}
 use Rattle.saphyr_values.specs.declared.block.BlockStyle.{BlockStyle}
 use Rattle.saphyr_scalar.specs.declared.scalar.position.Marker.{Marker}
 use Rattle.saphyr_scalar.specs.Views.Cursor.{Cursor, along, next_line}
-use Rattle.saphyr_scalar.specs.Steps.Block.{line_cursor, break_before, LinesRead, lines_behind_text, between, tail, is_unfinished}
+use Rattle.saphyr_scalar.specs.Steps.Block.{line_cursor, break_before, LinesRead, lines_behind_text, between, tail, is_unfinished, is_indentation, line_starts, lines_ended, line}
 use Rattle.saphyr_scalar.specs.Reading.BlockLines.{spaces}
 use Rattle.saphyr_scalar.proofs.Block.Values.{cut_tail, same_break}
 use Rattle.scalar_laws.specs.Spelling.Block.{IsContent, AreLines, no_lines, empty, content, last, last_empty, left_of, IsBehind}
@@ -15,9 +15,188 @@ use Rattle.saphyr_values.specs.declared.block.Chomping.{Chomping}
 use Rattle.saphyr_values.specs.declared.block.Chomping.TheVariants.{Strip, Clip, Keep}
 use Rattle.saphyr_values.specs.Block as reading
 use Rattle.saphyr_values.specs.Block.{Line, is_more_indented, contents_behind, empty_at_end}
-use Rattle.saphyr_input.specs.Classes.{is_z}
-use Rattle.std.proofs.Common.{nat_le, append_assoc, add-one}
-use Rattle.scalar_laws.proofs.Block.Places.{spaces_on, feed_on, line_feed_on, line_end_on, spaces_end, behind_same, begun_on}
+use Rattle.saphyr_input.specs.Places.{is_document_indicator}
+use Rattle.saphyr_scalar.specs.Spelling.Tag.{AreIn}
+use Rattle.saphyr_scalar.proofs.Moving.{along_none, along_more}
+use Rattle.saphyr_scalar.proofs.Block.Turns.{line_begins, line_on, no_line_at}
+use Rattle.saphyr_input.proofs.Basics.Booleans.{and_false}
+use Rattle.std.proofs.lemmas.Bool.{ne_eqb}
+
+-- the spaces of an indentation
+pub space_left : (i col : ℕ) → col < i → is_indentation (Some i) col 32 ≡ true
+space_left i col h = let left : nat_lt col i ≡ true = grind (arith, nat_tests) in rw left refl
+
+one_space : (st : BlockStyle) (i : ℕ) (ab : Option Bool) (k : ℕ) (b : Bool) (m : Marker) (t : List ℕ) → m.col < i
+    → between st i ab k b m (32 ∷ t) ≡ between st i ab k b (along m 1) t
+unfolding between
+one_space st i ab k b m t h = rw (space_left i m.col h) refl
+
+pub spaces_on : (st : BlockStyle) (i : ℕ) (ab : Option Bool) (k : ℕ) (b : Bool) (j : ℕ) (m : Marker) (t : List ℕ)
+    → m.col + j ≤ i → between st i ab k b m (spaces j ++ t) ≡ between st i ab k b (along m j) t
+spaces_on st i ab k b zero m t h = ap (λ x. between st i ab k b x t) (sym (along_none m))
+spaces_on st i ab k b (suc j) m t h =
+    one_space st i ab k b m (spaces j ++ t) (omega arith) ∙ spaces_on st i ab k b j (along m 1) t (omega arith)
+    ∙ ap (λ x. between st i ab k b x t) (along_more m 1 j (suc j) (omega arith))
+
+pub feed_on : (st : BlockStyle) (i : ℕ) (ab : Option Bool) (k : ℕ) (b : Bool) (m : Marker) (t : List ℕ)
+    → between st i ab k b m (line_feed ∷ t) ≡ between st i ab (k + 1) true (next_line m 1) t
+unfolding between
+feed_on st i ab k b m t = refl
+
+-- a line's content
+content_on : (st : BlockStyle) (i : ℕ) (more b : Bool) (m : Marker) (cs t : List ℕ) → AreIn is_yaml_non_break cs
+    → line st i more b m (cs ++ t) ≡ lines_behind_text cs (line st i more b (along m (length cs)) t)
+content_on st i more b m [] t h = ap (λ x. line st i more b x t) (sym (along_none m))
+content_on st i more b m (c ∷ cs) t h =
+    line_on st i more b m c (cs ++ t) h.0
+    ∙ ap (lines_behind_text (c ∷ [])) (content_on st i more b (along m 1) cs t h.1)
+    ∙ ap (λ x. lines_behind_text (c ∷ cs) (line st i more b x t))
+    (along_more m 1 (length cs) (length (c ∷ cs)) (omega arith))
+
+pub line_feed_on : (st : BlockStyle) (i : ℕ) (more b : Bool) (m : Marker) (t : List ℕ)
+    → line st i more b m (line_feed ∷ t) ≡ between st i (Some more) 0 true (next_line m 1) t
+unfolding line
+line_feed_on st i more b m t = refl
+
+pub line_end_on : (st : BlockStyle) (i : ℕ) (more b : Bool) (m : Marker)
+    → line st i more b m [] ≡ lines_ended false 0 (line_cursor b m [])
+unfolding line
+line_end_on st i more b m = refl
+
+starts_here : (i col c : ℕ) (cs : List ℕ) → col ≡ i → is_yaml_non_break c ≡ true
+    → (i ≡ 0 → is_document_indicator (c ∷ cs) ≡ false) → line_starts i col (c ∷ cs) ≡ true
+unfolding line_starts
+starts_here i col c cs e h k =
+    let at : nat_eq col i ≡ true = grind (arith, nat_tests) in
+    rw (at, h) (by_zero (nat_eq i 0) refl)
+  where
+    by_zero : (a : Bool) → nat_eq i 0 ≡ a → not (a && is_document_indicator (c ∷ cs)) ≡ true
+    by_zero true z = let zero_is : i ≡ 0 = grind (arith, nat_tests) in rw (k zero_is) refl
+    by_zero false z = refl
+
+-- what is left after the lines: the place after n spaces, or the text's end
+abbrev pub Left : ℕ → List ℕ → LinesRead → Type 0
+Left n others r = (r.2.rest ≡ others) × ((r.2.mark.col ≡ n) ⊎ (others ≡ []))
+
+space_off : (i n x : ℕ) → (n < i → x ≢ 32) → is_indentation (Some i) n x ≡ false
+space_off i n x h = by_left (nat_lt n i) refl
+  where
+    by_left : (a : Bool) → nat_lt n i ≡ a → (nat_eq x 32 && nat_lt n i) ≡ false
+    by_left true e =
+        let less : n < i = grind (arith, nat_tests) in
+        rw (ne_eqb x 32 (h less)) refl
+    by_left false e = rw e (and_false (nat_eq x 32))
+
+pub none_starts : (i n : ℕ) (xs : List ℕ)
+    → (n ≡ i → (is_yaml_non_break (slice_index xs 0) ≡ false) ⊎ ((i ≡ 0) × (is_document_indicator xs ≡ true)))
+    → line_starts i n xs ≡ false
+unfolding line_starts
+none_starts i n xs h = by_column (nat_eq n i) refl
+  where
+    by_end : (is_yaml_non_break (slice_index xs 0) ≡ false) ⊎ ((i ≡ 0) × (is_document_indicator xs ≡ true))
+        → (is_yaml_non_break (slice_index xs 0) && not (nat_eq i 0 && is_document_indicator xs)) ≡ false
+    by_end (inl e) = rw e refl
+    by_end (inr e) = rw (e.0, e.1) (and_false (is_yaml_non_break (slice_index xs 0)))
+
+    by_column : (a : Bool) → nat_eq n i ≡ a
+        → (a && is_yaml_non_break (slice_index xs 0) && not (nat_eq i 0 && is_document_indicator xs)) ≡ false
+    by_column true e = by_end (h (grind (arith, nat_tests)))
+    by_column false e = refl
+
+pub no_break_at : (x : ℕ) → x ≢ line_feed → x ≢ carriage_return → is_break x ≡ false
+no_break_at x a d = rw (ne_eqb x 10 a, ne_eqb x 13 d) refl
+
+pub behind_same : (st : BlockStyle) (i : ℕ) (ab : Option Bool) (k : ℕ) (b : Bool) (m : Marker) (n : ℕ)
+    (x others : List ℕ)
+    → m.col ≡ 0 → IsBehind i n x others → between st i ab k b m x
+    ≡ lines_ended (is_some ab) k (line_cursor b (along m n) others)
+behind_same st i ab k b m n x others col h =
+    let at : m.col + n ≡ n = omega arith in
+    let within : m.col + n ≤ i = omega (arith, h.within) in
+    let space : is_indentation (Some i) (m.col + n) (slice_index others 0) ≡ false =
+    ap (λ j. is_indentation (Some i) j (slice_index others 0)) at
+    ∙ space_off i n (slice_index others 0) h.no_space in
+    let starts : line_starts i (m.col + n) others ≡ false = ap (λ j. line_starts i j others) at
+    ∙ none_starts i n others h.no_content in
+    ap (between st i ab k b m) h.is ∙ spaces_on st i ab k b n m others within
+    ∙ no_line_at st i ab k b (along m n) others space (no_break_at (slice_index others 0) h.no_break h.no_return) starts
+
+behind_left : (st : BlockStyle) (i : ℕ) (ab : Option Bool) (k : ℕ) (b : Bool) (m : Marker) (n : ℕ) (x others : List ℕ)
+    → m.col ≡ 0 → IsBehind i n x others → Left n others (between st i ab k b m x)
+behind_left st i ab k b m n x others col h =
+    subst (Left n others) (sym (behind_same st i ab k b m n x others col h)) (refl, inl (omega arith))
+
+pub nothing_behind : (i n : ℕ) (x others : List ℕ) → x ≡ [] → IsBehind i n x others → others ≡ []
+nothing_behind i zero x others e h = sym h.is ∙ e
+nothing_behind i (suc n) x others e h = let no : 32 ∷ (spaces n ++ others) ≡ [] = sym h.is ∙ e in absurd (cc)
+
+-- a content line, from its first character on
+pub begun_on : (st : BlockStyle) (i : ℕ) (ab : Option Bool) (k : ℕ) (b : Bool) (m : Marker) (c : ℕ) (cs t : List ℕ)
+    → m.col ≡ i → IsContent i c cs t
+    → between st i ab k b m (c ∷ (cs ++ t))
+    ≡ lines_behind_text (break_before st ab k (is_blank c))
+    (lines_behind_text (c ∷ cs) (line st i (is_blank c) b (along m (length (c ∷ cs))) t))
+begun_on st i ab k b m c cs t col h =
+    line_begins st i ab k b m (c ∷ (cs ++ t)) (starts_here i m.col c (cs ++ t) col h.all.0 h.no_marker)
+    ∙ ap (lines_behind_text (break_before st ab k (is_blank c))) (content_on st i (is_blank c) b m (c ∷ cs) t h.all)
+
+pub content_left : (st : BlockStyle) (i n : ℕ) (ab : Option Bool) (k : ℕ) (b : Bool) (m : Marker) (c : ℕ)
+    (cs t others : List ℕ) → m.col ≡ i → IsContent i c cs (line_feed ∷ t)
+    → ((more : Bool) (p : Marker) → p.col ≡ 0 → Left n others (between st i (Some more) 0 true p t))
+    → Left n others (between st i ab k b m (c ∷ (cs ++ (line_feed ∷ t))))
+content_left st i n ab k b m c cs t others col h after =
+    let p = along m (length (c ∷ cs)) in
+    let same = begun_on st i ab k b m c cs (10 ∷ t) col h
+    ∙ ap (λ r. lines_behind_text (break_before st ab k (is_blank c)) (lines_behind_text (c ∷ cs) r))
+    (line_feed_on st i (is_blank c) b p t) in
+    subst (Left n others) (sym same) (after (is_blank c) (next_line p 1) refl)
+
+pub last_left : (st : BlockStyle) (i n : ℕ) (ab : Option Bool) (k : ℕ) (b : Bool) (m : Marker) (c : ℕ)
+    (cs others : List ℕ)
+    → m.col ≡ i → IsContent i c cs [] → others ≡ []
+    → Left n others (between st i ab k b m (c ∷ cs))
+last_left st i n ab k b m c cs others col h none =
+    let p = along m (length (c ∷ cs)) in
+    let whole : cs ++ [] ≡ cs = append-nil cs in
+    let same = ap (λ ys. between st i ab k b m (c ∷ ys)) (sym whole) ∙ begun_on st i ab k b m c cs [] col h
+    ∙ ap (λ r. lines_behind_text (break_before st ab k (is_blank c)) (lines_behind_text (c ∷ cs) r))
+    (line_end_on st i (is_blank c) b p) in
+    subst (Left n others) (sym same) (sym none, inr none)
+
+-- spaces up to the text's end
+pub spaces_end : (st : BlockStyle) (i : ℕ) (ab : Option Bool) (k : ℕ) (b : Bool) (j : ℕ) (m : Marker) → m.col + j ≤ i
+    → between st i ab k b m (spaces j) ≡ lines_ended (is_some ab) k (line_cursor b (along m j) [])
+unfolding between
+spaces_end st i ab k b j m at =
+    ap (between st i ab k b m) (sym (append-nil (spaces j))) ∙ spaces_on st i ab k b j m [] at
+
+spaces_left : (st : BlockStyle) (i n : ℕ) (ab : Option Bool) (k : ℕ) (b : Bool) (j : ℕ) (m : Marker) (others : List ℕ)
+    → m.col + j ≤ i → others ≡ [] → Left n others (between st i ab k b m (spaces j))
+spaces_left st i n ab k b j m others at none =
+    subst (Left n others) (sym (spaces_end st i ab k b j m at)) (sym none, inr none)
+
+pub lines_left : (st : BlockStyle) (i n : ℕ) (x : List ℕ) (ab : Option Bool) (k : ℕ) (b : Bool) (m : Marker)
+    (ls : List Line) (t others : List ℕ) → m.col ≡ 0 → AreLines i x ls t → IsBehind i n x others
+    → Left n others (between st i ab k b m t)
+lines_left st i n x ab k b m _ _ others col no_lines h = behind_left st i ab k b m n x others col h
+lines_left st i n x ab k b m _ _ others col (empty j ls t within l) h =
+    let at : m.col + j ≤ i = omega arith in
+    let same = spaces_on st i ab k b j m (10 ∷ t) at ∙ feed_on st i ab k b (along m j) t in
+    subst (Left n others) (sym same)
+    (lines_left st i n x ab (k + 1) true (next_line (along m j) 1) ls t others refl l h)
+lines_left st i n x ab k b m _ _ others col (content c cs ls t ic l) h =
+    let at : m.col + i ≤ i = omega arith in
+    subst (Left n others) (sym (spaces_on st i ab k b i m (c ∷ (cs ++ (10 ∷ t))) at))
+    (content_left st i n ab k b (along m i) c cs t others (omega arith) ic
+    (λ more p e. lines_left st i n x (Some more) 0 true p ls t others e l h))
+lines_left st i n x ab k b m _ _ others col (last c cs ic none) h =
+    let at : m.col + i ≤ i = omega arith in
+    subst (Left n others) (sym (spaces_on st i ab k b i m (c ∷ cs) at))
+    (last_left st i n ab k b (along m i) c cs others (omega arith) ic (nothing_behind i n x others none h))
+lines_left st i n x ab k b m _ _ others col (last_empty some none) h =
+    spaces_left st i n ab k b i m others (omega arith) (nothing_behind i n x others none h)
+lines_left st i n x ab k b m _ _ others col (left_of j less none) h =
+    spaces_left st i n ab k b j m others (omega arith) (nothing_behind i n x others none h)
 
 -- what the lines read as, with the breaks at their end
 abbrev pub Value : Chomping → ℕ → LinesRead → List ℕ

@@ -81,11 +81,12 @@ header_alike text s t h e =
 
 -- ## Empty lines
 
-no_indentation : (limit : Option ℕ) (col c : ℕ) → (c == space) ≡ false → is_indentation limit col c ≡ false
+pub no_indentation : (limit : Option ℕ) (col c : ℕ) → (c == space) ≡ false → is_indentation limit col c ≡ false
 no_indentation None col c h = h
 no_indentation (Some l) col c h = rw h refl
 
-empty_alike : (text : List ℕ) (limit : Option ℕ) (l k : EmptyLinesRead) (a b : Bool) (m n : Marker) {r q : List ℕ} → l ≡ k
+empty_alike : (text : List ℕ) (limit : Option ℕ) (l k : EmptyLinesRead) (a b : Bool) (m n : Marker) {r q : List ℕ}
+    → l ≡ k
     → a ≡ b → Normal r q → Places text r q m n
     → AreSame text (pass_empty_lines limit l a m r) (pass_empty_lines limit k b n q)
 unfolding pass_empty_lines

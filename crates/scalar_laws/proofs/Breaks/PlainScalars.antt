@@ -151,8 +151,8 @@ front_alike text u v r q same e =
     both_then (ArePlainAlike text) (ArePlainAlike text) r q _ _ e
     (λ x y _ _ is. (rw (same, is.0) refl, is.1, is.2, is.3))
 
--- another word stands behind what ends one
-word_behind : (f : Bool) (xs ys : List ℕ) → IsEnd xs ys → is_in_word f xs ≡ false → is_in_word f ys ≡ true
+-- another word comes after what ends one
+pub word_behind : (f : Bool) (xs ys : List ℕ) → IsEnd xs ys → is_in_word f xs ≡ false → is_in_word f ys ≡ true
     → length ys < length xs
 word_behind f xs ys end stops goes = by end.taken refl
   where

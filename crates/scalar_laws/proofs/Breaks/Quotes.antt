@@ -122,7 +122,7 @@ special_alike text Double a b s t e =
 
 -- ## What such a spelling leaves
 
-abbrev LeavesRest : List ℕ → Result (Option ℕ × Cursor) Refusal → Type 0
+abbrev pub LeavesRest : List ℕ → Result (Option ℕ × Cursor) Refusal → Type 0
 LeavesRest r read = (x : Option ℕ × Cursor) (d : ℕ) → read ≡ Ok x → x.0 ≡ Some d → x.1.rest ≡ r
 
 leaves_none : (r : List ℕ) (s : Cursor) → LeavesRest r (Ok (None, s))
@@ -141,7 +141,7 @@ escape_left : (a m : Marker) (c : ℕ) (cs : List ℕ) (r : Result (ℕ × Curso
 escape_left a m c cs (Ok e) is = leaves_some _ e.0 e.1 (ap (λ (t : Cursor). t.rest) (escape_place a m (c ∷ cs) e is))
 escape_left a m c cs (Err e) is = λ x d read some. absurd (cc)
 
-special_left : (quote : Quote) (a m : Marker) (c : ℕ) (cs : List ℕ)
+pub special_left : (quote : Quote) (a m : Marker) (c : ℕ) (cs : List ℕ)
     → LeavesRest (drop (special_len quote (slice_index cs 0)) cs) (special quote a (mid_line m (c ∷ cs)))
 unfolding special
 special_left Single a m c cs =
@@ -194,7 +194,7 @@ blank_alike i (over_lines escaped k) m n c e =
 
 -- ## Scalars
 
--- the break that stands first, or one character
+-- the break that comes first, or one character
 break_left : {r q : List ℕ} → Normal r q → Normal (drop (break_len r) r) (drop (break_len q) q)
 break_left nothing = nothing
 break_left (character c h n) = rw (no_return c h) n
@@ -225,7 +225,7 @@ module _ (text : List ℕ) (quote : Quote) (i : ℕ) (a b : Marker) where
   abbrev Others : ℕ → Type 0
   Others k = (x y : Cursor) → length x.rest < k → SameInside text quote i a b x y
 
-  -- behind a spelling of several characters
+  -- after a spelling of several characters
   behind_special : (r q : List ℕ) (u v : Cursor) → u.rest ≡ drop (special_len quote (slice_index r 0)) r
       → v.rest ≡ drop (special_len quote (slice_index q 0)) q → AreAlike text u v → Others (suc (length r))
       → GiveAlike (AreSame text) (inner_text quote i a no_gap (special_len quote (slice_index r 0)) u.mark r)
@@ -240,7 +240,7 @@ module _ (text : List ℕ) (quote : Quote) (i : ℕ) (a b : Marker) where
       ∙ ap (inner_text quote i b no_gap 0 v.mark) (sym other))
       (others u v less no_gap is)
 
-  -- behind an escaped break
+  -- after an escaped break
   behind_escaped : (m n : Marker) {r q : List ℕ} → Normal r q → Places text r q m n → Others (suc (length r))
       → let k = break_len r in let l = break_len q in GiveAlike (AreSame text)
       (inner_text quote i a (escaped_gap quote (slice_index (drop k r) 0)) k (next_line m k) r)

@@ -1,4 +1,4 @@
--- What two readers give alike: refusals, and steps one behind another.
+-- What two readers give alike: refusals, and steps one after another.
 use Rattle.std.proofs.Common.{◌≡◌, ℕ, zero, suc, ◌<◌, ◌≤◌, length, refl, sym, subst, arith, Result, Ok, Err}
 use Rattle.saphyr_scalar.specs.declared.scalar.fault.Refusal.{Refusal}
 use Rattle.saphyr_scalar.specs.Views.Cursor.{Cursor, ◌>>=◌}

@@ -1,4 +1,4 @@
--- A text and its normalized text, side by side: their characters, and the places where they stand.
+-- A text and its normalized text, side by side: their characters, and the places where they are.
 use Rattle.std.proofs.Common.{◌≡◌, ℕ, suc, ◌+◌, Bool, true, false, List, [], ◌∷◌, take, drop, slice_index, refl, sym, ap, ◌∙◌, arith, subst}
 use Rattle.std.specs.Prelude.{◌&&◌, ◌==◌}
 use Rattle.std.specs.List.{prefix_len}
@@ -34,7 +34,7 @@ normalized_is (feed n) = rw (normalized_is n) refl
 normalized_is (return h n) = rw (h, normalized_is n) refl
 normalized_is (pair n) = rw (normalized_is n) refl
 
--- behind a CR
+-- after a CR
 at_return : (cs : List ℕ) → Normal cs (normalized cs) → Normal (drop 1 cs) (normalized (drop 1 cs))
     → Normal (carriage_return ∷ cs) (normalized (carriage_return ∷ cs))
 at_return [] here behind = return refl here
@@ -67,7 +67,7 @@ normal_by_two (c ∷ cs) = (normal_behind_character c cs (normal_by_two cs).0 (n
 pub normal : (r q : List ℕ) → normalized r ≡ q → Normal r q
 normal r q e = subst (Normal r) e (normal_by_two r).0
 
--- ## What stands next
+-- ## What is next
 
 -- a class that has both breaks or neither
 pub first_in : (p : ℕ → Bool) → p 13 ≡ p 10 → {r q : List ℕ} → Normal r q → p (slice_index r 0) ≡ p (slice_index q 0)
@@ -95,7 +95,7 @@ pub second_in : (p : ℕ → Bool) → p 13 ≡ p 10 → {r q : List ℕ} → is
     → p (slice_index r 1) ≡ p (slice_index q 1)
 second_in p e {r = r} {q = q} h n = ap p (sym (second_is r)) ∙ first_in p e (past_first h n) ∙ ap p (second_is q)
 
--- a character, and a test of what stands behind it
+-- a character, and a test of what comes after it
 pub behind_first : (p : ℕ → Bool) → p 13 ≡ false → p 10 ≡ false → (f : List ℕ → Bool)
     → ((r q : List ℕ) → Normal r q → f r ≡ f q)
     → {r q : List ℕ} → Normal r q → (p (slice_index r 0) && f (drop 1 r)) ≡ (p (slice_index q 0) && f (drop 1 q))
@@ -137,7 +137,7 @@ run_same p a b (pair n) = record { len = rw (a, b) refl; text = rw (a, b) refl; 
 
 -- ## Places
 
--- where the texts r and q stand, in a text and in its normalized text
+-- where the texts r and q are, in a text and in its normalized text
 pub record Places (text r q : List ℕ) (m n : Marker) : Type 0 where
   pub line : m.line ≡ n.line
   pub col : m.col ≡ n.col

@@ -121,7 +121,7 @@ first_starts f m b c cs x safe hash dot dash = test (c == 45) (λ is. dashed (is
         (safe_in_word f 45 (d.0 ∷ (d.1 ++ x)) refl) in
         subst (λ y. Goal y cs) is (subst (λ ys. Goal 45 ys) (sym d.2) one)
 
--- behind the word
+-- after the word
 
 comment_stops : (f : Bool) (i : ℕ) (s : Cursor) → slice_index s.rest 0 ≡ number_sign
     → next_word_starts f i s ≡ Ok (false, s)
@@ -158,7 +158,7 @@ stops_plain f i s h =
     (λ h. ⊎_elim (λ e. comment_stops f i s e)
     (λ h. ⊎_elim (λ e. marker_stops f i s e.0 e.1) (λ e. left_stops f i s e.0 e.1 e.2) h) h) h
 
--- the character behind the word is not of it
+-- the character after the word is not of it
 word_stops : (f : Bool) (i : ℕ) (e : Marker) (x : List ℕ) → 0 < e.col → EndsPlain f i e x → is_in_word f x ≡ false
 word_stops f i e x some h = test (is_blank_or_break (slice_index x 0)) refl
   where
@@ -169,7 +169,7 @@ word_stops f i e x some h = test (is_blank_or_break (slice_index x 0)) refl
         ⊎_elim (λ g. g) (λ g. ⊎_elim (λ g. absurd (h.apart g))
         (λ g. ⊎_elim (λ g. absurd (omega (arith, g.0))) (λ g. absurd (false≢true g.1)) g) g) stops
 
--- the end of the last word, behind which blanks and breaks and what ends the scalar stand
+-- the end of the last word, after which blanks and breaks and what ends the scalar are
 pub word_ends : (f : Bool) (i : ℕ) (a e : Marker) (x : List ℕ) → 0 < e.col → EndsPlain f i e x
     → let behind = past_white e false x in word f i a e x ≡ Ok ([], e, comment_of f (is_tabbed i x) behind, behind)
 word_ends f i a e x some ends =
@@ -180,7 +180,7 @@ word_ends f i a e x some ends =
     ∙ ap (λ r. r >>= λ b. if b.0 then with_text gap_is.text (word f i a b.1.mark b.1.rest) else scalar_end f e
     (record { text = gap_is.text; tabbed = is_tabbed i x; behind = behind })) (stops_plain f i behind ends.stops)
 
--- A plain scalar of one word, where blanks and breaks and what ends it stand behind it, is read.
+-- A plain scalar of one word, where blanks and breaks and what ends it come after it, is read.
 pub plain_word_read : (f : Bool) (i : ℕ) (s : Cursor) (w x : List ℕ) → s.rest ≡ w ++ x → IsPlainWord w
     → EndsPlain f i (along s.mark (length w)) x
     → let behind = past_white (along s.mark (length w)) false x in plain f i s

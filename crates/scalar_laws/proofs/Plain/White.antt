@@ -1,4 +1,4 @@
--- The blanks and breaks behind a plain scalar's last word.
+-- The blanks and breaks after a plain scalar's last word.
 use Rattle.std.proofs.Common.{◌≡◌, ℕ, suc, ◌+◌, Bool, true, false, List, [], ◌∷◌, ◌++◌, drop, slice_index, Result, Ok, refl, sym, ap, ◌∙◌, arith, subst, ◌⊎◌, inl, inr, cond}
 use Rattle.std.specs.Prelude.{◌||◌, ◌&&◌, ◌==◌, nat_lt, if◌then◌else◌}
 use Rattle.std.specs.List.{prefix_len}
@@ -27,7 +27,7 @@ pub record LeavesGap (r : Result PlainGap Refusal) (t : Bool) (s : Cursor) : Typ
   pub text : List ℕ
   pub is : r ≡ Ok (seen_gap t text s)
 
--- what may be reached, where a tab stands in its indentation or none
+-- what may be reached, where a tab is in its indentation or none
 abbrev pub MayStand : Bool → List ℕ → Type 0
 MayStand t xs = (t ≡ false) ⊎ (stands_behind_tab xs ≡ true)
 
@@ -41,7 +41,7 @@ is_reached a false f s h = refl
 is_reached a true f s (inl e) = absurd (cc)
 is_reached a true f s (inr e) = rw (no_byte_order_mark (slice_index s.rest 0) e, e) refl
 
--- the flag behind a blank or a break
+-- the flag after a blank or a break
 abbrev pub flag_on : ℕ → ℕ → Bool → ℕ → Bool
 flag_on i k t c = is_blank c && (t || ((c == tab) && nat_lt k i))
 
@@ -54,7 +54,7 @@ pub tabbed_stop : (i k : ℕ) (t : Bool) (xs : List ℕ) → is_blank_or_break (
 tabbed_stop i k t [] h = refl
 tabbed_stop i k t (c ∷ cs) h = rw h refl
 
--- nothing stands left of the first column
+-- nothing is left of the first column
 off : (a b : Bool) → (a && (false || (b && false))) ≡ false
 off true true = refl
 off true false = refl
@@ -74,7 +74,7 @@ root_untabbed : (k : ℕ) (xs : List ℕ) → reaches_tabbed 0 k false xs ≡ fa
 root_untabbed k [] = refl
 root_untabbed k (c ∷ cs) = root_kind k c cs (is_blank_or_break c) refl (λ n. root_untabbed n cs)
 
--- where nothing encloses a scalar no tab stands in its indentation
+-- where nothing encloses a scalar no tab is in its indentation
 pub untabbed_root : (xs : List ℕ) → is_tabbed 0 xs ≡ false
 untabbed_root xs = root_untabbed 0 (behind_blanks xs)
 

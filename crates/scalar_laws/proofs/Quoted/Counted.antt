@@ -32,7 +32,7 @@ some_counts : (n : ℕ) (o : Option ℕ) (f : ℕ → TextRead) (x : TextRead) �
 some_counts n (Some d) f x h k = h d refl
 some_counts n None f x h k = k
 
--- a place behind a spelling of several characters, where one was read
+-- a place after a spelling of several characters, where one was read
 abbrev IsBehindSpelling : ℕ → Result (Option ℕ × Cursor) Refusal → Type 0
 IsBehindSpelling n r = (x : Option ℕ × Cursor) (d : ℕ) → r ≡ Ok x → x.0 ≡ Some d → x.1.mark.index ≡ n
 
@@ -121,7 +121,7 @@ behind_quote_counts quote indent m (c ∷ cs) text t read =
     read_counts (m.index + length (c ∷ cs)) _ text t read
     (inside_counts quote indent m no_gap zero (along m 1) cs (m.index + length (c ∷ cs)) (omega arith))
 
--- index and length of what is left together are the same behind a quoted scalar as before it
+-- index and length of what is left together are the same after a quoted scalar as before it
 pub quoted_counts : (quote : Quote) (indent : ℕ) (s t : Cursor) (text : List ℕ) → quoted quote indent s ≡ Ok (text, t)
     → t.mark.index + length t.rest ≡ s.mark.index + length s.rest
 unfolding quoted

@@ -1,4 +1,4 @@
--- Where a gap over lines stands within a line's white space, what stands behind it is indented.
+-- Where a gap over lines is within a line's white space, what comes after it is indented.
 use Rattle.std.proofs.Common.{◌≡◌, ℕ, suc, ◌+◌, ◌≤◌, true, false, List, ◌∷◌, drop, slice_index, refl, arith, subst, IsTrue, inl, inr, ◌⊎◌}
 use Rattle.std.specs.Prelude.{◌==◌}
 use Rattle.saphyr_input.specs.Classes.{is_break, tab}
@@ -42,7 +42,7 @@ behind_space indent m t h = record {
     by_case (inl le) = inl (omega (arith, space_more t))
     by_case (inr b) = inr (subst (λ (n : ℕ). is_break (slice_index (drop n (32 ∷ t)) 0) ≡ true) (space_more t) b)
 
--- a character that is no space stands at or right of the indentation, or it is a break
+-- a character that is no space is at or right of the indentation, or it is a break
 pub right_of : (indent : ℕ) (m : Marker) (c : ℕ) (t : List ℕ) → (c == 32) ≡ false → is_break c ≡ false
     → Indented indent m (c ∷ t) → indent ≤ m.col
 right_of indent m c t space break h = by_case h.far

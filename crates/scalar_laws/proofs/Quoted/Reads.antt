@@ -19,8 +19,7 @@ use Rattle.saphyr_scalar.proofs.Quoted.GapBytes.{no_gap_bytes}
 use Rattle.saphyr_scalar.proofs.Given.{text_given_at}
 use Rattle.scalar_laws.specs.Spelling.QuotedLines.{AreOnLine, LinesFit}
 use Rattle.scalar_laws.proofs.Quoted.IndentedLines.{line_indented}
-use Rattle.scalar_laws.proofs.Quoted.WordsRead.{with_gap, mark_content, closed_read, two_quotes_read, escape_read, escaped_break_read, same_at_quote}
-use Rattle.scalar_laws.proofs.Quoted.GapsRead.{ReadsBehindBlank, itself_read, broken_read}
+use Rattle.scalar_laws.proofs.Quoted.WordsRead.{with_gap, mark_content, closed_read, two_quotes_read, escape_read, escaped_break_read, same_at_quote, ReadsBehindBlank, itself_read, broken_read}
 
 inside_read : (indent : ℕ) (start : Marker) (q : Quote) (t : List ℕ) (items : List Item) (x : List ℕ)
     (r : quotes.IsText q t items x) → LinesFit indent q t items x r → (m : Marker)
@@ -61,7 +60,7 @@ inside_read indent start _ _ _ _ (quotes.escaped_break t items x h r) fit m = λ
     (escaped_break_read indent start m t items x h b
     (same_at_quote indent start place (drop (break_len t) t) line ∙ b.is))
 
--- A quoted scalar that is spelled so is read, and the places behind its characters are passed one after another.
+-- A quoted scalar that is spelled so is read, and the places after its characters are passed one after another.
 pub quoted_read : (q : Quote) (indent : ℕ) (s : Cursor) (items : List Item) (x : List ℕ)
     (is : quotes.IsQuotedText q s.rest items x) → LinesFit indent q is.0 items x is.2
     → (m : Marker) × IsPassed s.mark s.rest m x × (quoted q indent s ≡ Ok

@@ -1,5 +1,5 @@
 -- The spellings of block scalars (YAML 1.2.2, 8.1), in texts whose breaks are line feeds.
--- Each relation is between what stands at a place and what stands behind it.
+-- Each relation is between what is at a place and what comes after it.
 use Rattle.std.specs.Prelude.{◌≡◌, ◌≢◌, ℕ, ◌+◌, ◌-◌, ◌^◌, ◌<◌, ◌≤◌, Ok, encode_utf8_all, Bool, true, false, List, [], ◌∷◌, ◌++◌, slice_index, ◌⊎◌}
 use Rattle.saphyr_input.specs.Classes.{is_blank, is_yaml_non_break, is_z, carriage_return, line_feed, space, tab}
 use Rattle.saphyr_input.specs.Places.{is_document_indicator}
@@ -25,7 +25,7 @@ pub data IsChomping : Chomping → List ℕ → List ℕ → Type 0 where
   clip : (x : List ℕ) → IsChomping Clip x x
   keep : (x : List ℕ) → IsChomping Keep (plus_sign ∷ x) x
 
--- 6.6 [77]: blanks, and behind some blanks a comment, up to a line feed or to the text's end
+-- 6.6 [77]: blanks, and after some blanks a comment, up to a line feed or to the text's end
 pub data IsHeaderEnd : List ℕ → List ℕ → Type 0 where
   no_comment : (blanks x : List ℕ) → AreIn is_blank blanks → IsHeaderEnd (blanks ++ (line_feed ∷ x)) x
   comment : (blank : ℕ) (blanks text x : List ℕ) → AreIn is_blank (blank ∷ blanks) → AreIn is_yaml_non_break text
@@ -39,7 +39,7 @@ pub record IsContent (i : ℕ) (c : ℕ) (cs x : List ℕ) : Type 0 where
   pub all : AreIn is_yaml_non_break (c ∷ cs)
   pub no_marker : i ≡ 0 → is_document_indicator ((c ∷ cs) ++ x) ≡ false
 
--- 8.1.2, 8.1.3 [171] to [173], [175] to [182]: lines, each empty or content behind the indentation i; the last one may
+-- 8.1.2, 8.1.3 [171] to [173], [175] to [182]: lines, each empty or content after the indentation i; the last one may
 -- lack a break at the text's end. Spaces alone are then an empty line where they reach the indentation, and none left
 -- of it.
 pub data AreLines (i : ℕ) (x : List ℕ) : List Line → List ℕ → Type 0 where
@@ -53,7 +53,7 @@ pub data AreLines (i : ℕ) (x : List ℕ) : List Line → List ℕ → Type 0 w
   last_empty : 1 ≤ i → x ≡ [] → AreLines i x (Empty ∷ []) (spaces i)
   left_of : (j : ℕ) → j < i → x ≡ [] → AreLines i x [] (spaces j)
 
--- what ends the lines: n spaces, and behind them no more of the indentation and no line
+-- what ends the lines: n spaces, and after them no more of the indentation and no line
 pub record IsBehind (i n : ℕ) (x others : List ℕ) : Type 0 where
   pub is : x ≡ spaces n ++ others
   pub within : n ≤ i
@@ -64,7 +64,7 @@ pub record IsBehind (i n : ℕ) (x others : List ℕ) : Type 0 where
   pub no_content : n ≡ i → (is_yaml_non_break (slice_index others 0) ≡ false)
       ⊎ ((i ≡ 0) × (is_document_indicator others ≡ true))
 
--- 8.1.1.1, 8.1.2, 8.1.3 [171], [173], [182]: a text with a content line, behind empty ones or none; where no indicator
+-- 8.1.1.1, 8.1.2, 8.1.3 [171], [173], [182]: a text with a content line, after empty ones or none; where no indicator
 -- gives the indentation, its content begins with no space
 pub data IsBody (i : ℕ) (given : Bool) (x : List ℕ) : List Line → List ℕ → Type 0 where
   leading : (j : ℕ) (ls : List Line) (t : List ℕ) → j ≤ i → IsBody i given x ls t
@@ -75,7 +75,7 @@ pub data IsBody (i : ℕ) (given : Bool) (x : List ℕ) : List Line → List ℕ
   first_and_last : (c : ℕ) (cs : List ℕ) → (given ≡ false → c ≢ space) → IsContent i c cs [] → x ≡ []
       → IsBody i given x (Content (c ∷ cs) ∷ []) (spaces i ++ (c ∷ cs))
 
--- 8.1.1.2 [166] to [168]: empty lines; at the text's end spaces may stand behind them, which are no line
+-- 8.1.1.2 [166] to [168]: empty lines; at the text's end spaces may come after them, which are no line
 pub data AreEmptyLines (i : ℕ) (x : List ℕ) : List Line → List ℕ → Type 0 where
   no_empty_lines : AreEmptyLines i x [] x
   empty_line : (j : ℕ) (ls : List Line) (t : List ℕ) → j ≤ i → AreEmptyLines i x ls t
@@ -83,15 +83,15 @@ pub data AreEmptyLines (i : ℕ) (x : List ℕ) : List Line → List ℕ → Typ
   empty_line_and_spaces : (j k : ℕ) → j ≤ i → k ≤ i → x ≡ []
       → AreEmptyLines i x (Empty ∷ []) (spaces j ++ (line_feed ∷ spaces k))
 
--- 8.1.1.1, 8.1.1.2 [166] to [169]: a text without content: empty lines or none, or at the text's end spaces alone, which
--- are one. A line behind it begins left of `indent`, behind n spaces, or the indentation is 0, where a document marker is
+-- 8.1.1.1, 8.1.1.2 [166] to [169]: a text without content: empty lines or none, or at the text's end spaces alone,
+-- which are one. A line after it begins left of `indent`, after n spaces, or the indentation is 0, where a document marker is
 -- no content.
 pub data IsEmptyBody (indent i n : ℕ) (x : List ℕ) : List Line → List ℕ → Type 0 where
   empty_lines : (ls : List Line) (t : List ℕ) → AreEmptyLines i x ls t → (n < indent) ⊎ ((i ≡ 0) ⊎ (x ≡ []))
       → IsEmptyBody indent i n x ls t
   spaces_alone : (j : ℕ) → 1 ≤ j → j ≤ i → x ≡ [] → IsEmptyBody indent i n x (Empty ∷ []) (spaces j)
 
--- 8.1.1 [162]: a header, with its line; its indicators stand in either order
+-- 8.1.1 [162]: a header, with its line; its indicators are in either order
 pub data IsHeader (n : ℕ) (chomping : Chomping) (x : List ℕ) : List ℕ → Type 0 where
   digit_first : (mark : ℕ) (a b d : List ℕ) → IsIndicator n a b → IsChomping chomping b d → IsHeaderEnd d x
       → IsHeader n chomping x (mark ∷ a)
@@ -104,7 +104,7 @@ pub data IsIndentation (indent i : ℕ) : ℕ → Bool → Type 0 where
   found : indent ≤ i → IsIndentation indent i 0 false
   given : (d : ℕ) → 1 ≤ d → i ≡ indent - 1 + d → i < 2 ^ 64 → IsIndentation indent i d true
 
--- A scalar stands before what ends it: n spaces, and others behind them.
+-- A scalar comes before what ends it: n spaces, and others after them.
 pub record IsBlockScalar (indent i n : ℕ) (chomping : Chomping) (ls : List Line) (t body others : List ℕ) : Type 0 where
   pub digit : ℕ
   pub is_given : Bool
@@ -115,7 +115,7 @@ pub record IsBlockScalar (indent i n : ℕ) (chomping : Chomping) (ls : List Lin
   pub lines : IsBody i is_given behind ls body ⊎ IsEmptyBody indent i n behind ls body
   pub ends : IsBehind i n behind others
 
--- It was read from s: its lines, and the spaces of what ends them, are taken off. Its span starts behind the
+-- It was read from s: its lines, and the spaces of what ends them, are taken off. Its span starts after the
 -- indentation of the first content line, where it has one, and ends where reading did.
 pub record IsTaken (style : BlockStyle) (indent i n : ℕ) (chomping : Chomping) (ls : List Line) (s : Cursor)
     (body others : List ℕ) : Type 0 where

@@ -1,4 +1,4 @@
--- How plain scalars are spelled (YAML 1.2.2, 7.3.3), and what may stand behind them.
+-- How plain scalars are spelled (YAML 1.2.2, 7.3.3), and what may come after them.
 use Rattle.std.specs.Prelude.{◌≡◌, ◌≢◌, ℕ, ◌+◌, ◌<◌, ◌≤◌, Bool, true, false, ◌||◌, ◌&&◌, ◌==◌, not, nat_lt, List, [], ◌∷◌, ◌++◌, length, drop, slice_index, IsTrue, IsFalse, ◌⊎◌, if◌then◌else◌}
 use Rattle.std.specs.List.{prefix_len}
 use Rattle.saphyr_input.specs.Classes.{is_blank, is_break, is_blank_or_breakz, is_flow, is_bom, is_z, tab}
@@ -25,11 +25,11 @@ pub record IsPlainWord (w : List ℕ) : Type 0 where
   pub no_dot : first ≢ full_stop
   pub dash : first ≡ hyphen → (second : ℕ) × (more : List ℕ) × (others ≡ second ∷ more) × (second ≢ hyphen)
 
--- the characters behind the blanks
+-- the characters after the blanks
 abbrev pub behind_blanks : List ℕ → List ℕ
 behind_blanks xs = drop (prefix_len is_blank xs) xs
 
--- what stands behind the blanks and breaks at a place
+-- what comes after the blanks and breaks at a place
 abbrev pub past_white : Marker → Bool → List ℕ → Cursor
 past_white m blank_so_far [] = record { rest = []; mark = m; blank_so_far = blank_so_far }
 past_white m blank_so_far (c ∷ cs) =
@@ -37,8 +37,8 @@ past_white m blank_so_far (c ∷ cs) =
     (blank_so_far || is_break c) cs
     else record { rest = c ∷ cs; mark = m; blank_so_far = blank_so_far }
 
--- Whether a tab stands left of the indentation on the line that is reached behind the blanks and breaks at the front,
--- from the column on. `tabbed` tells that one stands before them on their line.
+-- Whether a tab is left of the indentation on the line that is reached after the blanks and breaks at the front,
+-- from the column on. `tabbed` tells that one comes before them on their line.
 abbrev pub reaches_tabbed : ℕ → ℕ → Bool → List ℕ → Bool
 reaches_tabbed indent col tabbed [] = tabbed
 reaches_tabbed indent col tabbed (c ∷ cs) =
@@ -46,15 +46,15 @@ reaches_tabbed indent col tabbed (c ∷ cs) =
     (is_blank c && (tabbed || ((c == tab) && nat_lt col indent))) cs
     else tabbed
 
--- the same behind a word, of the lines behind its own
+-- the same after a word, of the lines after its own
 abbrev pub is_tabbed : ℕ → List ℕ → Bool
 is_tabbed indent xs = reaches_tabbed indent 0 false (behind_blanks xs)
 
--- Behind a tab in the indentation a comment may stand, or the text's end.
+-- After a tab in the indentation a comment may be, or the text's end.
 abbrev pub stands_behind_tab : List ℕ → Bool
 stands_behind_tab xs = (slice_index xs 0 == number_sign) || is_z (slice_index xs 0)
 
--- no word goes on, a comment or a document marker stands, or outside flow content left of the scalar's indentation
+-- no word goes on, a comment or a document marker is, or outside flow content left of the scalar's indentation
 abbrev pub StopsPlain : Bool → ℕ → Cursor → Type 0
 StopsPlain in_flow indent s =
     (is_in_word in_flow s.rest ≡ false)
@@ -62,8 +62,8 @@ StopsPlain in_flow indent s =
     ⊎ (((s.mark.col ≡ 0) × IsTrue (is_document_indicator s.rest))
     ⊎ ((in_flow ≡ false) × IsTrue s.blank_so_far × (s.mark.col < indent))))
 
--- What may stand behind the last word of a scalar, which ends at `end`: blanks and breaks, and then what ends the
--- scalar. Where a tab stands in the indentation of the line of that, it is a comment or the text's end.
+-- What may come after the last word of a scalar, which ends at `end`: blanks and breaks, and then what ends the
+-- scalar. Where a tab is in the indentation of the line of that, it is a comment or the text's end.
 pub record EndsPlain (in_flow : Bool) (indent : ℕ) (end : Marker) (xs : List ℕ) : Type 0 where
   pub stops : StopsPlain in_flow indent (past_white end false xs)
   pub apart : slice_index xs 0 ≢ number_sign
@@ -87,14 +87,14 @@ pub record IsWordIn (in_flow : Bool) (w : List ℕ) : Type 0 where
   pub no_comment : slice_index w 0 ≢ number_sign
   pub no_lone_dash : in_flow ≡ true → w ≢ hyphen ∷ []
 
--- the same before what stands behind the word: a colon stands before a character of a word
+-- the same before what comes after the word: a colon comes before a character of a word
 abbrev pub AreInkBefore : Bool → List ℕ → List ℕ → Type 0
 AreInkBefore in_flow [] behind = Unit {0}
 AreInkBefore in_flow (c ∷ cs) behind =
     IsTrue (is_word_ink in_flow c) × (c ≡ colon → IsTrue (is_word_ink in_flow (slice_index (cs ++ behind) 0)))
     × AreInkBefore in_flow cs behind
 
--- a word before what stands behind it: its last character may be a colon, and inside flow it is no `-` before a flow
+-- a word before what comes after it: its last character may be a colon, and inside flow it is no `-` before a flow
 -- indicator
 pub record IsWordBefore (in_flow : Bool) (w behind : List ℕ) : Type 0 where
   pub some : w ≢ []
@@ -108,15 +108,15 @@ abbrev pub has_line_end : List ℕ → Bool
 has_line_end [] = false
 has_line_end (c ∷ cs) = is_break c || has_line_end cs
 
--- Blanks and breaks between two words, from m on. Where a line ends in them outside flow, the next word stands right of
--- the scalar's indentation, and no tab stands in the indentation of its line.
+-- Blanks and breaks between two words, from m on. Where a line ends in them outside flow, the next word is right of
+-- the scalar's indentation, and no tab is in the indentation of its line.
 pub record IsPlainGap (in_flow : Bool) (indent : ℕ) (m : Marker) (gap : List ℕ) : Type 0 where
   pub some : gap ≢ []
   pub white : AreIn is_blank_or_break gap
   pub tabs : IsFalse (is_tabbed indent gap)
   pub indented : (in_flow ≡ true) ⊎ ((has_line_end gap ≡ false) ⊎ (indent ≤ (end_of_text m gap).col))
 
--- gaps and the words behind them
+-- gaps and the words after them
 abbrev pub words_text : List (List ℕ × List ℕ) → List ℕ
 words_text [] = []
 words_text (p ∷ ps) = p.0 ++ (p.1 ++ words_text ps)

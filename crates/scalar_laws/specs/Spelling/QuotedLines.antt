@@ -9,7 +9,7 @@ use Rattle.saphyr_values.specs.declared.folding.Item.{Item}
 use Rattle.saphyr_values.specs.declared.folding.Item.TheVariants.{Blank, Raw, Escaped, Break, EscapedBreak}
 use Rattle.saphyr_values.specs.declared.flow.Quote.{Quote}
 
--- how many spaces stand first
+-- how many spaces come first
 abbrev pub space_count : List ℕ → ℕ
 space_count t = prefix_len (λ c. c == space) t
 

@@ -7,7 +7,7 @@ use Rattle.saphyr_scalar.specs.Spelling.Tag.{AreIn}
 
 -- ## Any number of pieces
 
--- the pieces one behind the other
+-- the pieces one after the other
 abbrev pub joined_pieces : List (List ℕ) → List ℕ
 joined_pieces [] = []
 joined_pieces (piece ∷ pieces) = piece ++ joined_pieces pieces
@@ -30,13 +30,13 @@ AreSpaces least t = (n : ℕ) × (least ≤ n) × (t ≡ spaces n)
 abbrev pub IsComment : List ℕ → Type 0
 IsComment t = (words : List ℕ) × AreIn is_yaml_non_break words × (t ≡ codes "#" ++ words)
 
--- no comment, or one behind white space, which parts it from what stands before
+-- no comment, or one after white space, which parts it from what comes before
 abbrev pub IsCommentBehind : List ℕ → List ℕ → Type 0
 IsCommentBehind white t = (t ≡ []) ⊎ ((white ≢ []) × IsComment t)
 
 -- ## Ends of lines
 
--- 6.6 [77]: what may stand behind a token on its line: blanks, and behind some blanks a comment
+-- 6.6 [77]: what may come after a token on its line: blanks, and after some blanks a comment
 abbrev pub IsLineRest : List ℕ → Type 0
 IsLineRest t = (blanks comment : List ℕ) × AreIn is_blank blanks × IsCommentBehind blanks comment
     × (t ≡ blanks ++ comment)
@@ -67,11 +67,11 @@ IsLastFiller t = (filler text : List ℕ) × IsFiller filler × IsFillerText tex
 
 -- ## Separation
 
--- 6.3 [69]: what stands before the content of a line of its own: its indentation, and any blanks
+-- 6.3 [69]: what comes before the content of a line of its own: its indentation, and any blanks
 abbrev pub IsLinePrefix : ℕ → List ℕ → Type 0
 IsLinePrefix indent t = (front blanks : List ℕ) × AreSpaces indent front × AreIn is_blank blanks × (t ≡ front ++ blanks)
 
--- 6.7 [80], [81] in block style: blanks, or the end of the line, filler, and what stands before the next line's content
+-- 6.7 [80], [81] in block style: blanks, or the end of the line, filler, and what comes before the next line's content
 abbrev pub IsNextLine : ℕ → List ℕ → Type 0
 IsNextLine indent t = (end filler front : List ℕ) × IsLineEnd end × IsFiller filler × IsLinePrefix indent front
     × (t ≡ end ++ (filler ++ front))
@@ -79,7 +79,7 @@ IsNextLine indent t = (end filler front : List ℕ) × IsLineEnd end × IsFiller
 abbrev pub IsGap : ℕ → List ℕ → Type 0
 IsGap indent t = ((t ≢ []) × AreIn is_blank t) ⊎ IsNextLine indent t
 
--- 6.7 [81] in flow style: blanks, a comment behind some blank or none, the break, filler and the next line's
+-- 6.7 [81] in flow style: blanks, a comment after some blank or none, the break, filler and the next line's
 -- indentation
 abbrev pub IsSeparationLine : ℕ → List ℕ → Type 0
 IsSeparationLine indent t =

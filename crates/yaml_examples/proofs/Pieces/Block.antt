@@ -1,24 +1,18 @@
 -- Block collections, their entries and pairs, and nodes in flow style at their places.
-use Rattle.std.proofs.Common.{◌≢◌, ℕ, suc, ◌+◌, ◌≤◌, false, not, ◌==◌, List, [], ◌∷◌, ◌++◌, length, inl, inr, refl, arith}
-use Rattle.std.proofs.Common.{codes, slice_index, IsTrue, IsFalse}
+use Rattle.std.proofs.Common.{◌≢◌, ℕ, suc, ◌+◌, ◌≤◌, false, not, ◌==◌, List, [], ◌∷◌, ◌++◌, length, inl, inr, refl, arith, codes, slice_index, IsTrue, IsFalse}
 use Rattle.std.specs.List.{list_all}
 use Rattle.saphyr_input.specs.Indicators.{colon, hyphen, question_mark}
-use Rattle.saphyr_input.specs.Classes.{is_blank, line_feed}
+use Rattle.saphyr_input.specs.Classes.{is_blank, line_feed, is_alpha}
 use Rattle.saphyr_scalar.specs.Reading.BlockLines.{spaces}
-use Rattle.saphyr_scanner.specs.Grammar.Forest.{Properties, no_properties, Node, Alias, Scalar, Seq, Map, Nodes, NoNode}
-use Rattle.saphyr_scanner.specs.Grammar.Forest.{MoreNodes, Pairs, NoPair, MorePairs, left_out}
+use Rattle.saphyr_scanner.specs.Grammar.Forest.{Properties, no_properties, Node, Alias, Scalar, Seq, Map, Nodes, NoNode, MoreNodes, Pairs, NoPair, MorePairs, left_out}
 use Rattle.saphyr_scanner.specs.Examples.Forests.{plain_node}
 use Rattle.yaml_laws.specs.Grammar.FlowNodes.{needs_separation}
-use Rattle.yaml_laws.specs.Grammar.BlockNodes.{Position, BehindDash, BehindMark, BehindKey, AtStart, indent_at}
-use Rattle.yaml_laws.specs.Grammar.BlockNodes.{sequence_indent_at, is_start, IsLead, IsFlowInBlock}
-use Rattle.yaml_laws.specs.Grammar.BlockNodes.{IsBehindQuestion, is_value_ahead, IsBlockPair, IsBlockNode, AreEntries}
-use Rattle.yaml_laws.specs.Grammar.BlockNodes.{AreOtherEntries, ArePairs, AreOtherPairs, IsCollectionFront}
-use Rattle.saphyr_input.specs.Classes.{is_alpha}
+use Rattle.yaml_laws.specs.Grammar.BlockNodes.{Position, BehindDash, BehindMark, BehindKey, AtStart, indent_at, sequence_indent_at, is_start, IsLead, IsFlowInBlock, IsBehindQuestion, is_value_ahead, IsBlockPair, IsBlockNode, AreEntries, AreOtherEntries, ArePairs, AreOtherPairs, IsCollectionFront}
 use Rattle.yaml_examples.proofs.Pieces.Spaces.{each, Rest, Filler, End, feed, text_end, Gap, space}
 use Rattle.yaml_examples.proofs.Pieces.Scalars.{Front, FrontAt, FlowText, IsLetter, word}
 use Rattle.yaml_examples.proofs.Pieces.Flow.{KeyText, node_key}
 
--- a node at its place, before what stands behind it
+-- a node at its place, before what comes after it
 pub record BlockText (room : ℕ) (node : Node) (place : Position) (t behind : List ℕ) : Type 0 where
   pub holds : IsBlockNode room node place t behind
 
@@ -40,7 +34,7 @@ flow {room} {node} {place} {gap} {t} {end} {behind} g h e =
           (gap, t, end, g.holds, h.holds, apart, e.holds, refl);
     }
 
--- a word of one letter behind an indicator, up to the end of its line
+-- a word of one letter after an indicator, up to the end of its line
 pub line : {c room : ℕ} {place : Position} {behind : List ℕ} → IsLetter c
     → BlockText room (plain_node (c ∷ [])) place (32 ∷ c ∷ line_feed ∷ []) behind
 line l = flow space (word l) feed
@@ -75,7 +69,7 @@ below {rest = rest} {lines} m r f h = record {
   holds = inl ([], rest ++ codes "\n", lines, h, inl (refl, refl), (rest, r.holds, refl), f.holds, refl);
 }
 
--- the same, behind properties
+-- the same, after properties
 below_front :
     (p : Properties) (place : Position) (least m : ℕ) (front rest lines : List ℕ) → IsCollectionFront p place front
     → Rest rest → Filler lines → least ≤ m
@@ -97,12 +91,13 @@ below_behind {p} {place} {least} {front} {rest} {lines} m c r f h =
     below_front p place least m (32 ∷ front) rest lines
     (inr (codes " ", front, inl ((λ e. cc), (refl, tt)), c.holds (indent_at place), refl)) r f h
 
--- the same, where something else than a space stands before the properties
+-- the same, where something else than a space comes before the properties
 pub below_properties : {p : Properties} {place : Position} {least : ℕ} {gap front rest lines : List ℕ} (m : ℕ)
     → Gap place gap → Front p front → Rest rest → Filler lines → least ≤ m
     → Lead p place least m ((gap ++ front) ++ ((rest ++ codes "\n") ++ (lines ++ spaces m)))
 below_properties {p} {place} {least} {gap} {front} {rest} {lines} m g c r f h =
-    below_front p place least m (gap ++ front) rest lines (inr (gap, front, g.holds, c.holds (indent_at place), refl)) r f h
+    below_front p place least m (gap ++ front) rest lines (inr (gap, front, g.holds, c.holds (indent_at place), refl))
+    r f h
 
 -- ## Sequences
 
@@ -122,7 +117,7 @@ pub dash : {room m : ℕ} {node : Node} {nodes : Nodes} {entry others behind : L
     → Entries room (MoreNodes node nodes) m (hyphen ∷ (entry ++ others)) behind
 dash {entry = entry} {others} h g = record { holds = (entry, others, h.holds, g.holds, refl) }
 
--- a further entry behind filler
+-- a further entry after filler
 pub next_dash : {room m : ℕ} {node : Node} {nodes : Nodes} {lines entry others behind : List ℕ} → Filler lines
     → BlockText room node (BehindDash m) entry (others ++ behind) → MoreEntries room nodes m others behind
     → MoreEntries room (MoreNodes node nodes) m ((lines ++ spaces m) ++ (hyphen ∷ (entry ++ others))) behind
@@ -176,7 +171,7 @@ next_pair {m = m} {lines = lines} {pair} {others} f h g = record {
 pub no_pair : {room m : ℕ} {behind : List ℕ} → MoreBlockPairs room NoPair m [] behind
 no_pair = record { holds = refl }
 
--- a key, its colon right behind it, and a value
+-- a key, its colon right after it, and a value
 pub pair_by_colon : {room m : ℕ} {key value : Node} {t v behind : List ℕ} → KeyOnLine room key m t []
     → BlockText room value (BehindKey m) v behind → IsTrue (not (needs_separation key))
     → BlockPair room key value m (t ++ (colon ∷ v)) behind
@@ -196,7 +191,8 @@ pair_by_colon {t = t} {v} k h n = record {
 }
 
 -- the same with blanks before the colon
-colon_behind : {room m : ℕ} {key value : Node} {t v behind : List ℕ} (w : List ℕ) → IsTrue (list_all is_blank w) → w ≢ []
+colon_behind : {room m : ℕ} {key value : Node} {t v behind : List ℕ} (w : List ℕ) → IsTrue (list_all is_blank w)
+    → w ≢ []
     → KeyOnLine room key m t w → BlockText room value (BehindKey m) v behind
     → BlockPair room key value m (t ++ (w ++ (colon ∷ v))) behind
 colon_behind {t = t} {v} w are some k h = record {
@@ -238,7 +234,7 @@ pub asked : {room m : ℕ} {key : Node} {t behind : List ℕ} → BlockText room
     → BlockPair room key left_out m (question_mark ∷ t) behind
 asked {t = t} h q n = record { holds = inr (inl (t, refl, q, h.holds, n, refl)) }
 
--- a `?` and a key, and behind filler a `:` and a value
+-- a `?` and a key, and after filler a `:` and a value
 pub asked_pair : {room m : ℕ} {key value : Node} {t lines v behind : List ℕ}
     → BlockText room key (BehindMark m) t ((lines ++ (spaces m ++ codes ":")) ++ (v ++ behind)) → Filler lines
     → BlockText room value (BehindMark m) v behind

@@ -1,6 +1,5 @@
 -- Block scalars.
-use Rattle.std.proofs.Common.{◌≡◌, ◌≢◌, ℕ, zero, suc, ◌<◌, ◌≤◌, Bool, true, false, List, [], ◌∷◌, ◌++◌, slice_index}
-use Rattle.std.proofs.Common.{inl, inr, refl, sym, arith, codes, ap, subst}
+use Rattle.std.proofs.Common.{◌≡◌, ◌≢◌, ℕ, zero, suc, ◌<◌, ◌≤◌, Bool, true, false, List, [], ◌∷◌, ◌++◌, slice_index, inl, inr, refl, sym, arith, codes, ap, subst}
 use Rattle.std.proofs.lemmas.List.{append-nil, append_assoc}
 use Rattle.saphyr_input.specs.Indicators.{greater_than, vertical_bar}
 use Rattle.saphyr_input.specs.Classes.{is_one_of, is_z, line_feed, tab}
@@ -9,8 +8,7 @@ use Rattle.saphyr_values.specs.declared.block.Chomping.{Chomping}
 use Rattle.saphyr_values.specs.declared.block.Chomping.TheVariants.{Clip}
 use Rattle.saphyr_values.specs.Block.{Line, Content, lines_value}
 use Rattle.saphyr_scalar.specs.Reading.BlockLines.{spaces}
-use Rattle.scalar_laws.specs.Spelling.Block.{no_digit, clip, no_comment, IsBehind, digit_first, first, no_lines}
-use Rattle.scalar_laws.specs.Spelling.Block.{found, IsBlockScalar}
+use Rattle.scalar_laws.specs.Spelling.Block.{no_digit, clip, no_comment, IsBehind, digit_first, first, no_lines, found, IsBlockScalar}
 use Rattle.scalar_laws.specs.Spelling.Spaces.{IsNextLine}
 use Rattle.saphyr_scanner.specs.Grammar.Forest.{Properties, no_properties, Literal, Folded, Scalar}
 use Rattle.yaml_laws.specs.Grammar.BlockNodes.{Position, indent_at, IsBehindScalar, IsScalarFront}
@@ -24,7 +22,7 @@ is_white c = is_one_of (codes " \n\r") c
 no_white : (c : ℕ) → is_white c ≡ false → (d : ℕ) → is_white d ≡ true → c ≢ d
 no_white c h d g e = let f : is_white c ≡ is_white d = ap (λ x. is_white x) e in cc
 
--- what ends the lines begins with no space and no break, and stands left of them
+-- what ends the lines begins with no space and no break, and is left of them
 pub ends : (i n : ℕ) (others : List ℕ) → n < i → is_one_of (codes " \n\r") (slice_index others 0) ≡ false
     → (is_z (slice_index others 0) ≡ true → n ≡ 0) → IsBehind i n (spaces n ++ others) others
 ends i n others less none z = record {
@@ -37,7 +35,7 @@ ends i n others less none z = record {
   no_content = λ e. absurd (let f : ⊥ = omega (arith, less, e) in f);
 }
 
--- what stands before a header
+-- what comes before a header
 pub record ScalarFront (p : Properties) (indent : ℕ) (t : List ℕ) : Type 0 where
   pub holds : IsScalarFront p indent t
 
@@ -67,7 +65,7 @@ pub front_and_tab : {p : Properties} {indent : ℕ} {front : List ℕ} → Front
 front_and_tab {indent = indent} {front} h =
     record { holds = inr (front, codes "\t", h.holds indent, inl ((λ e. cc), (refl, tt)), refl) }
 
--- a literal scalar behind an indicator and a space
+-- a literal scalar after an indicator and a space
 pub literal_scalar : {room : ℕ} {place : Position} {p : Properties} {value front others behind : List ℕ} (i n : ℕ)
     (chomping : Chomping) (lines : List Line) (t body : List ℕ) → ScalarFront p (indent_at place) front
     → (s : IsBlockScalar (indent_at place) i n chomping lines ((vertical_bar ∷ t) ++ behind) body others)

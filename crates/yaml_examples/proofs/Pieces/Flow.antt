@@ -1,20 +1,15 @@
 -- Collections in flow style, their items and pairs.
-use Rattle.std.proofs.Common.{◌≡◌, ◌≢◌, ℕ, suc, Bool, true, false, not, ◌==◌, List, [], ◌∷◌, ◌++◌, inl, inr, refl, sym}
-use Rattle.std.proofs.Common.{◌⊎◌, codes, ap, IsTrue}
+use Rattle.std.proofs.Common.{◌≡◌, ◌≢◌, ℕ, suc, Bool, true, false, not, ◌==◌, List, [], ◌∷◌, ◌++◌, inl, inr, refl, sym, ◌⊎◌, codes, ap, IsTrue}
 use Rattle.std.specs.List.{list_all}
 use Rattle.std.proofs.lemmas.List.{append-nil}
 use Rattle.saphyr_input.specs.Indicators.{colon, left_brace, left_bracket, question_mark, number_sign}
 use Rattle.saphyr_input.specs.Classes.{line_feed, space}
 use Rattle.saphyr_values.specs.Flow.{plain_value}
 use Rattle.scalar_laws.specs.Spelling.Plain.{is_word_ink}
-use Rattle.saphyr_scanner.specs.Grammar.Forest.{no_properties, Node, Seq, Map, Nodes, NoNode, MoreNodes, Pairs, NoPair}
-use Rattle.saphyr_scanner.specs.Grammar.Forest.{MorePairs, left_out}
+use Rattle.saphyr_scanner.specs.Grammar.Forest.{no_properties, Node, Seq, Map, Nodes, NoNode, MoreNodes, Pairs, NoPair, MorePairs, left_out}
 use Rattle.saphyr_scanner.specs.Examples.Forests.{plain_node}
 use Rattle.yaml_laws.specs.Grammar.FlowScalars.{begins_plain, IsPlainKey}
-use Rattle.yaml_laws.specs.Grammar.FlowNodes.{needs_separation, allows_adjacent, IsColonAndValue, IsBeforeColon}
-use Rattle.yaml_laws.specs.Grammar.FlowNodes.{IsKeyText, IsKeyAndValue, IsExplicitPair, IsPair, IsPairText}
-use Rattle.yaml_laws.specs.Grammar.FlowNodes.{IsBeforeSeparation, IsPairItem, IsFlowNode, AreItems, AreOtherItems}
-use Rattle.yaml_laws.specs.Grammar.FlowNodes.{AreFlowPairs, AreOtherFlowPairs, IsValueAlone}
+use Rattle.yaml_laws.specs.Grammar.FlowNodes.{needs_separation, allows_adjacent, IsColonAndValue, IsBeforeColon, IsKeyText, IsKeyAndValue, IsExplicitPair, IsPair, IsPairText, IsBeforeSeparation, IsPairItem, IsFlowNode, AreItems, AreOtherItems, AreFlowPairs, AreOtherFlowPairs, IsValueAlone}
 use Rattle.yaml_examples.proofs.Pieces.Spaces.{each, Apart, tight, blank}
 use Rattle.yaml_examples.proofs.Pieces.Scalars.{FlowText}
 
@@ -44,7 +39,7 @@ sign_key {in_flow = in_flow} c cs h b e =
 
 -- ## Values
 
--- a colon and a value; the flag tells whether the value may stand at once
+-- a colon and a value; the flag tells whether the value may come at once
 pub record Value (adjacent : Bool) (room : ℕ) (value : Node) (indent : ℕ) (t : List ℕ) : Type 0 where
   pub holds : IsColonAndValue adjacent value (IsFlowNode room value true indent) indent t
 
@@ -74,7 +69,7 @@ pub keyed : {room indent : ℕ} {key value : Node} {t gap v : List ℕ} → KeyT
     → KeyAndValue room key value indent (t ++ (gap ++ v))
 keyed {t = t} {gap} {v} k g h b = record { holds = (t, gap, v, k.holds, g.holds, b, h.holds, refl) }
 
--- what stands behind a `?` and a blank
+-- what comes after a `?` and a blank
 pub record BehindQuestion (room : ℕ) (key value : Node) (indent : ℕ) (t : List ℕ) : Type 0 where
   pub holds : ((value ≡ left_out) × IsFlowNode room key true indent t)
       ⊎ (IsValueAlone key value (IsFlowNode room value true indent) indent t

@@ -1,6 +1,5 @@
 -- Nodes in flow style that are no collections: aliases, properties and scalars.
-use Rattle.std.proofs.Common.{◌≡◌, ◌≢◌, ℕ, ◌<◌, ◌≤◌, Bool, true, false, not, ◌==◌, List, [], ◌∷◌, ◌++◌, Some, None, inl}
-use Rattle.std.proofs.Common.{inr, refl, sym, arith, codes, ap, IsTrue}
+use Rattle.std.proofs.Common.{◌≡◌, ◌≢◌, ℕ, ◌<◌, ◌≤◌, Bool, true, false, not, ◌==◌, List, [], ◌∷◌, ◌++◌, Some, None, inl, inr, refl, sym, arith, codes, ap, IsTrue}
 use Rattle.std.specs.List.{list_all}
 use Rattle.saphyr_values.specs.declared.folding.Item.{Item}
 use Rattle.saphyr_values.specs.declared.flow.Quote.TheVariants.{Single, Double}
@@ -15,12 +14,10 @@ use Rattle.scalar_laws.specs.Spelling.Plain.{is_word_ink, IsWordIn}
 use Rattle.scalar_laws.specs.Spelling.QuotedLines.{LinesFit}
 use Rattle.scalar_laws.specs.Spelling.Spaces.{AreMany, IsLinePrefix, IsNextLine}
 use Rattle.scalar_laws.proofs.Beginnings.{decodes_itself}
-use Rattle.saphyr_scanner.specs.Grammar.Forest.{Style, Plain, SingleQuoted, DoubleQuoted, Handle, Tag, NonSpecific}
-use Rattle.saphyr_scanner.specs.Grammar.Forest.{Verbatim, Shorthand, Properties, no_properties, Node, Alias, Scalar}
+use Rattle.saphyr_scanner.specs.Grammar.Forest.{Style, Plain, SingleQuoted, DoubleQuoted, Handle, Tag, NonSpecific, Verbatim, Shorthand, Properties, no_properties, Node, Alias, Scalar}
 use Rattle.saphyr_scanner.specs.Examples.Forests.{plain_node}
 use Rattle.yaml_laws.specs.Grammar.TagSpelling.{IsHandle, IsTag}
-use Rattle.yaml_laws.specs.Grammar.FlowScalars.{begins_plain, IsFirstWord, IsWordGap, IsFurtherWord}
-use Rattle.yaml_laws.specs.Grammar.FlowScalars.{IsPlain, IsFlowScalar}
+use Rattle.yaml_laws.specs.Grammar.FlowScalars.{begins_plain, IsFirstWord, IsWordGap, IsFurtherWord, IsPlain, IsFlowScalar}
 use Rattle.yaml_laws.specs.Grammar.FlowNodes.{IsProperties, IsFlowNode}
 use Rattle.yaml_examples.proofs.Pieces.Spaces.{each, Apart}
 
@@ -196,7 +193,7 @@ single_quoted c h e = record {
 
 -- ## Scalars on several lines
 
--- what stands between two words, and the words behind the first
+-- what is between two words, and the words after the first
 pub record WordGap (indent : ℕ) (t : List ℕ) : Type 0 where
   pub holds : IsWordGap indent t
 
@@ -206,7 +203,7 @@ pub record MoreWords (in_flow : Bool) (indent : ℕ) (t : List ℕ) : Type 0 whe
 pub space_gap : {indent : ℕ} → WordGap indent (codes " ")
 space_gap = record { holds = inl ((λ e. cc), (refl, tt)) }
 
--- a line's end, an empty line, and what stands before the next word, all of blanks
+-- a line's end, an empty line, and what comes before the next word, all of blanks
 pub empty_line_gap : (blanks line front : List ℕ) → IsTrue (list_all is_blank blanks) → IsTrue (list_all is_blank line)
     → IsTrue (list_all is_blank front) → WordGap 0 (blanks ++ (codes "\n" ++ ((line ++ codes "\n") ++ front)))
 empty_line_gap blanks line front h g f = record {
@@ -265,7 +262,7 @@ pub words : {c indent : ℕ} {in_flow : Bool} {value others : List ℕ} → IsLe
 words {c} {in_flow = in_flow} {others = others} l w e =
     record { holds = ((c ∷ [], others, first_word l in_flow, w.holds, refl), e) }
 
--- a text behind its opening quote
+-- a text after its opening quote
 pub single_quoted_lines : {indent : ℕ} {in_flow : Bool} {value : List ℕ} {items : List Item} (inside : List ℕ)
     (s : IsText Single inside items []) → LinesFit indent Single inside items [] s → value ≡ folded items
     → ScalarText SingleQuoted value in_flow indent (apostrophe ∷ inside)

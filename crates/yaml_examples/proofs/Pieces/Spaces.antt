@@ -1,6 +1,5 @@
 -- White space of small texts: ends of lines, filler, and separation. A piece is a text with what holds of it.
-use Rattle.std.proofs.Common.{◌≡◌, ℕ, ◌≤◌, Bool, List, [], ◌∷◌, ◌++◌, inl, inr, refl, sym, ◌∙◌, codes, ap}
-use Rattle.std.proofs.Common.{IsTrue, false}
+use Rattle.std.proofs.Common.{◌≡◌, ℕ, ◌≤◌, Bool, List, [], ◌∷◌, ◌++◌, inl, inr, refl, sym, ◌∙◌, codes, ap, IsTrue, false}
 use Rattle.std.specs.Prelude.{◌&&◌, ◌==◌}
 use Rattle.std.specs.List.{list_all}
 use Rattle.std.proofs.lemmas.List.{append-nil, append_assoc}
@@ -17,7 +16,7 @@ each set [] h = tt
 each set (c ∷ cs) h =
     (and_true_left (set c) (list_all set cs) h, each set cs (and_true_right (set c) (list_all set cs) h))
 
--- ## Behind a token on its line
+-- ## After a token on its line
 
 pub record Rest (t : List ℕ) : Type 0 where
   pub holds : IsLineRest t
@@ -107,7 +106,7 @@ tight = apart [] refl
 pub blank : {indent : ℕ} → Apart indent (codes " ")
 blank = apart (codes " ") refl
 
--- up to a further line, with its indentation and blanks behind that
+-- up to a further line, with its indentation and blanks after that
 pub lines_apart : {indent : ℕ} {rest lines : List ℕ} (front : List ℕ) → Rest rest → Filler lines
     → IsTrue (list_all is_blank front)
     → Apart indent ((rest ++ (codes "\n" ++ (lines ++ spaces indent))) ++ front)
@@ -128,7 +127,7 @@ lines_apart {indent} {rest} {lines} front r f h =
 
 -- ## Before a node in block style
 
--- where tabs alone stand, no colon is before them
+-- where tabs alone are, no colon is before them
 pub record Gap (place : Position) (t : List ℕ) : Type 0 where
   pub holds : IsGapAt place t
   pub word : (a : Bool) → (is_behind_colon place && (list_all (λ c. c == tab) t && a)) ≡ false

@@ -1,6 +1,5 @@
 -- Documents and streams.
-use Rattle.std.proofs.Common.{◌≡◌, ◌≢◌, ℕ, ◌+◌, ◌-◌, Bool, true, false, ◌||◌, ◌==◌, List, [], ◌∷◌, ◌++◌, inl, inr, refl, ◌∙◌, append_assoc}
-use Rattle.std.proofs.Common.{sym, arith, codes, ap, ◌&&◌, IsTrue, IsFalse}
+use Rattle.std.proofs.Common.{◌≡◌, ◌≢◌, ℕ, ◌+◌, ◌-◌, Bool, true, false, ◌||◌, ◌==◌, List, [], ◌∷◌, ◌++◌, inl, inr, refl, ◌∙◌, append_assoc, sym, arith, codes, ap, ◌&&◌, IsTrue, IsFalse}
 use Rattle.std.proofs.lemmas.List.{append-nil}
 use Rattle.std.proofs.lemmas.Bool.{false≢true}
 use Rattle.saphyr_input.specs.Indicators.{exclamation_mark, full_stop, percent_sign}
@@ -9,25 +8,23 @@ use Rattle.saphyr_input.specs.Classes.{byte_order_mark, is_digit, is_tag_char, i
 use Rattle.saphyr_scalar.specs.Spelling.Tag.{IsHandleText, IsPrefix}
 use Rattle.saphyr_scalar.specs.Spelling.Directive.{AreSomeBlanks, IsVersionNumber, IsLineTail}
 use Rattle.scalar_laws.proofs.Beginnings.{decodes_itself}
-use Rattle.saphyr_scanner.specs.Grammar.Forest.{Handle, Directive, Version, TagPrefix, Reserved, AreCompatible, bare}
-use Rattle.saphyr_scanner.specs.Grammar.Forest.{Node, Document, Forest}
+use Rattle.saphyr_scanner.specs.Grammar.Forest.{Handle, Directive, Version, TagPrefix, Reserved, AreCompatible, bare, Node, Document, Forest}
 use Rattle.yaml_laws.specs.Grammar.BlockNodes.{AtStart, BehindMarker, IsBlockNode}
 use Rattle.yaml_laws.specs.Grammar.Yaml as yaml
-use Rattle.yaml_laws.specs.Grammar.Yaml.{IsDirective, AreDirectives, IsDocument, IsDocumentPrefix}
-use Rattle.yaml_laws.specs.Grammar.Yaml.{IsMarkBehindFiller, IsBehindDocument, AreDocuments, has_marker, IsYaml, IsYamlText}
+use Rattle.yaml_laws.specs.Grammar.Yaml.{IsDirective, AreDirectives, IsDocument, IsDocumentPrefix, IsMarkBehindFiller, IsBehindDocument, AreDocuments, has_marker, IsYaml, IsYamlText}
 use Rattle.yaml_laws.specs.Grammar.TagSpelling.{IsHandle}
 use Rattle.yaml_examples.proofs.Pieces.Spaces.{Filler, no_filler, LastFiller, no_more, End}
 use Rattle.yaml_examples.proofs.Pieces.Block.{BlockText}
 use Rattle.scalar_laws.specs.Spelling.Spaces.{AreMany, joined_pieces}
 
--- a document, before what stands behind it
+-- a document, before what comes after it
 pub record DocumentText (room : ℕ) (d : Document) (free : Bool) (t behind : List ℕ) : Type 0 where
   pub holds : IsDocument (IsBlockNode room) d free t behind
 
 pub record Documents (room : ℕ) (forest : Forest) (free : Bool) (t : List ℕ) : Type 0 where
   pub holds : AreDocuments (IsBlockNode room) forest free t
 
--- what stands behind a document
+-- what comes after a document
 pub record Behind (room : ℕ) (forest : Forest) (t : List ℕ) : Type 0 where
   pub holds : IsBehindDocument (AreDocuments (IsBlockNode room) forest) t
 
@@ -72,7 +69,7 @@ no_marks = ([], tt, refl)
 pub at_once : {room : ℕ} {forest : Forest} {t : List ℕ} → Documents room forest false t → Behind room forest t
 at_once {t = t} h = record { holds = ([], t, no_marks, inl h.holds, refl) }
 
--- a byte order mark behind filler, and what follows it
+-- a byte order mark after filler, and what follows it
 pub marked : {room : ℕ} {forest : Forest} {lines t : List ℕ} → Filler lines → Behind room forest t
     → Behind room forest (lines ++ (byte_order_mark ∷ t))
 marked {room} {forest} {lines} {t} f h = record { holds = with_mark h.holds }
@@ -95,25 +92,25 @@ marked {room} {forest} {lines} {t} f h = record { holds = with_mark h.holds }
 pub finish : {room : ℕ} → Behind room [] []
 finish = at_once (end_of_stream no_more)
 
--- what may stand where a document is free
+-- what may be where a document is free
 pub record Prefix (t behind : List ℕ) : Type 0 where
   pub holds : IsDocumentPrefix t behind
 
 pub no_prefix : {behind : List ℕ} → Prefix [] behind
 no_prefix {behind} = record { holds = yaml.no_prefix behind }
 
--- a byte order mark behind filler, and what follows it
+-- a byte order mark after filler, and what follows it
 pub mark : {lines others behind : List ℕ} → Filler lines → Prefix others behind
     → Prefix (lines ++ (byte_order_mark ∷ others)) behind
 mark {lines} {others} {behind} f p = record { holds = yaml.mark_prefix lines others behind f.holds p.holds }
 
--- a `...` line behind filler, and what follows it
+-- a `...` line after filler, and what follows it
 pub dots_before : {lines end others behind : List ℕ} → Filler lines → End end (others ++ behind) → Prefix others behind
     → Prefix (lines ++ (codes "..." ++ (end ++ others))) behind
 dots_before {lines} {end} {others} {behind} f e p =
     record { holds = yaml.end_prefix lines end others behind f.holds e.holds p.holds }
 
--- behind filler a `...` line
+-- after filler a `...` line
 pub dots : {room : ℕ} {forest : Forest} {lines end prefix others : List ℕ} → Filler lines → End end (prefix ++ others)
     → Prefix prefix others → Documents room forest true others
     → Behind room forest ((lines ++ (codes "..." ++ (end ++ prefix))) ++ others)
@@ -207,7 +204,7 @@ tag_prefix handle written h t p = record {
   );
 }
 
--- a prefix of one character, and behind it no more or one of those of a uri
+-- a prefix of one character, and after it no more or one of those of a uri
 pub prefix_of_one : (c : ℕ) → IsTrue (is_tag_char c || (c == exclamation_mark)) → c ≢ percent_sign
     → IsPrefix (c ∷ []) (c ∷ [])
 prefix_of_one c h n = (c ∷ [], [], inl (h, n, refl), refl, refl)

@@ -2,27 +2,16 @@ use Rattle.std.proofs.Common.{◌∷◌, [], true, false, not, inl, inr, refl, a
 use Rattle.std.proofs.lemmas.Bool.{false≢true}
 use Rattle.saphyr_values.specs.declared.block.Chomping.TheVariants.{Strip, Clip, Keep}
 use Rattle.saphyr_values.specs.Block.{Empty, Content}
-use Rattle.scalar_laws.specs.Spelling.Block.{digit, strip, no_comment, comment, no_lines, empty, content, first}
-use Rattle.scalar_laws.specs.Spelling.Block.{digit_first, chomping_first, given, no_digit, clip, keep, found, last_empty, no_empty_lines, empty_line, empty_lines}
-use Rattle.scalar_laws.specs.Spelling.Block.{no_comment_at_end}
+use Rattle.scalar_laws.specs.Spelling.Block.{digit, strip, no_comment, comment, no_lines, empty, content, first, digit_first, chomping_first, given, no_digit, clip, keep, found, last_empty, no_empty_lines, empty_line, empty_lines, no_comment_at_end}
 use Rattle.scalar_laws.specs.Spelling.Spaces.{IsLastFiller}
 use Rattle.saphyr_scanner.specs.Limits.{most_open}
-use Rattle.yaml_examples.proofs.Pieces.Spaces.{feed, text_end, feed_behind, end_behind, blanks, blank_line}
-use Rattle.yaml_examples.proofs.Pieces.Spaces.{comment_line, no_filler, filler, last_filler_line, tight, lines_apart, space}
-use Rattle.yaml_examples.proofs.Pieces.Spaces.{blank, lines_down, lines_down_and_tab, no_gap, space_and_tab, tab_alone}
+use Rattle.yaml_examples.proofs.Pieces.Spaces.{feed, text_end, feed_behind, end_behind, blanks, blank_line, comment_line, no_filler, filler, last_filler_line, tight, lines_apart, space, blank, lines_down, lines_down_and_tab, no_gap, space_and_tab, tab_alone}
 use Rattle.yaml_examples.proofs.Pieces.Spaces as spaces
-use Rattle.yaml_examples.proofs.Pieces.Scalars.{front_at, anchor_x_and_tab, anchor_x_below, with_front, anchor_x, alias_x, tag_t, tagged, scalar, letter_a, letter_b}
-use Rattle.yaml_examples.proofs.Pieces.Scalars.{letter_c, letter_d, letter_k, plain, plain_word, word, single_quoted}
+use Rattle.yaml_examples.proofs.Pieces.Scalars.{front_at, anchor_x_and_tab, anchor_x_below, with_front, anchor_x, alias_x, tag_t, tagged, scalar, letter_a, letter_b, letter_c, letter_d, letter_k, plain, plain_word, word, single_quoted}
 use Rattle.yaml_examples.proofs.Pieces.Flow.{node_key, plain_key, sign_key, item, item_list, no_comma, comma, brackets}
-use Rattle.yaml_examples.proofs.Pieces.Block.{flow, line, last, nothing, lead_at_start, behind_question_mark, below}
-use Rattle.yaml_examples.proofs.Pieces.Block.{below_first, below_behind, below_properties, sequence, dash, next_dash}
-use Rattle.yaml_examples.proofs.Pieces.Block.{no_dash}
-use Rattle.yaml_examples.proofs.Pieces.Block.{letter_key, mapping, first_pair, next_pair, no_pair, pair_by_colon, colon_apart}
-use Rattle.yaml_examples.proofs.Pieces.Block.{colon_behind_tab}
-use Rattle.yaml_examples.proofs.Pieces.Block.{letter, unkeyed, asked, asked_pair}
+use Rattle.yaml_examples.proofs.Pieces.Block.{flow, line, last, nothing, lead_at_start, behind_question_mark, below, below_first, below_behind, below_properties, sequence, dash, next_dash, no_dash, letter_key, mapping, first_pair, next_pair, no_pair, pair_by_colon, colon_apart, colon_behind_tab, letter, unkeyed, asked, asked_pair}
 use Rattle.yaml_examples.proofs.Pieces.BlockScalars.{ends, no_front, front_above, front_and_tab, literal_scalar, folded_scalar, literal_a}
-use Rattle.yaml_examples.proofs.Pieces.Streams.{bare_document, explicit, end_of_stream, documents, at_once, finish}
-use Rattle.yaml_examples.proofs.Pieces.Streams.{stream, document}
+use Rattle.yaml_examples.proofs.Pieces.Streams.{bare_document, explicit, end_of_stream, documents, at_once, finish, stream, document}
 use Rattle.yaml_examples.proofs.Derived.{compact}
 use Rattle.yaml_examples.proofs.derives_block.Goals as goal
 
@@ -158,7 +147,13 @@ returns-clause-indicator c =
       header = digit_first 124 _ _ _ (digit 1 _ (omega arith) (omega arith)) (strip _) (no_comment [] _ tt);
       no_tab = λ e. omega arith;
       indentation = given 1 (omega arith) refl (omega arith);
-      lines = inl (first 32 _ _ _ (λ e f. false≢true (ap not e)) (record { all = (refl, (refl, tt)); no_marker = λ e. refl })
+      lines = inl (first 32 _ _ _ (λ e f. false≢true (ap not e)) (record {
+        all = (
+          refl,
+          (refl, tt),
+        );
+        no_marker = λ e. refl;
+      })
           no_lines);
       ends = ends 1 0 [] (omega arith) refl (λ e. refl);
     }) refl (inl refl) refl)) no_pair)) refl refl

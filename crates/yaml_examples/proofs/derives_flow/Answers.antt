@@ -6,17 +6,9 @@ use Rattle.saphyr_values.specs.declared.flow.Quote.TheVariants.{Single, Double}
 use Rattle.saphyr_scalar.specs.Spelling.Quoted.{IsText, closed, itself, broken, two_quotes}
 use Rattle.scalar_laws.specs.Spelling.QuotedLines.{IsLine}
 use Rattle.saphyr_scanner.specs.Limits.{most_open}
-use Rattle.yaml_examples.proofs.Pieces.Spaces.{no_filler, comment, blanks, apart, tight, blank, lines_apart, no_gap}
-use Rattle.yaml_examples.proofs.Pieces.Spaces.{text_end, feed_behind}
-use Rattle.yaml_examples.proofs.Pieces.Scalars.{anchor_x_before, anchor_x_behind, alias_x, tag_t, verbatim_u, tagged}
-use Rattle.yaml_examples.proofs.Pieces.Scalars.{scalar, with_front, front_alone, letter_a, letter_b, letter_c}
-use Rattle.yaml_examples.proofs.Pieces.Scalars.{letter_d, plain, word, double_quoted, space_gap, empty_line_gap}
-use Rattle.yaml_examples.proofs.Pieces.Scalars.{no_word, next_word, dash_and_word, words, single_quoted_lines, double_quoted_lines}
-use Rattle.yaml_examples.proofs.Pieces.Flow.{node_key, sign_key, colon_alone, value_behind_colon, colon_at_once, keyed, key_asked}
-use Rattle.yaml_examples.proofs.Pieces.Flow.{value_asked, pair_asked, item, item_apart, pair_item, value_item}
-use Rattle.yaml_examples.proofs.Pieces.Flow.{asked_item, mark_item, no_items, item_list, no_comma, last_comma, comma}
-use Rattle.yaml_examples.proofs.Pieces.Flow.{brackets, key_pair, pair, value_pair, asked_pair, no_pairs, pairs}
-use Rattle.yaml_examples.proofs.Pieces.Flow.{no_pair_behind, comma_pair, braces}
+use Rattle.yaml_examples.proofs.Pieces.Spaces.{no_filler, comment, blanks, apart, tight, blank, lines_apart, no_gap, text_end, feed_behind}
+use Rattle.yaml_examples.proofs.Pieces.Scalars.{anchor_x_before, anchor_x_behind, alias_x, tag_t, verbatim_u, tagged, scalar, with_front, front_alone, letter_a, letter_b, letter_c, letter_d, plain, word, double_quoted, space_gap, empty_line_gap, no_word, next_word, dash_and_word, words, single_quoted_lines, double_quoted_lines}
+use Rattle.yaml_examples.proofs.Pieces.Flow.{node_key, sign_key, colon_alone, value_behind_colon, colon_at_once, keyed, key_asked, value_asked, pair_asked, item, item_apart, pair_item, value_item, asked_item, mark_item, no_items, item_list, no_comma, last_comma, comma, brackets, key_pair, pair, value_pair, asked_pair, no_pairs, pairs, no_pair_behind, comma_pair, braces}
 use Rattle.yaml_examples.proofs.Pieces.Block.{flow}
 use Rattle.yaml_examples.proofs.Pieces.Streams.{document}
 use Rattle.yaml_examples.proofs.derives_flow.Goals as goal

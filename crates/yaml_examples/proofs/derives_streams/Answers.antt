@@ -5,20 +5,12 @@ use Rattle.saphyr_values.specs.declared.block.Chomping.TheVariants.{Keep}
 use Rattle.saphyr_values.specs.Block.{Empty, Content}
 use Rattle.scalar_laws.specs.Spelling.Block.{no_digit, keep, no_comment, no_lines, empty, first, digit_first, found}
 use Rattle.saphyr_scanner.specs.Limits.{most_open}
-use Rattle.yaml_examples.proofs.Pieces.Spaces.{feed, text_end, feed_behind, blanks, comment, blank_line, comment_line}
-use Rattle.yaml_examples.proofs.Pieces.Spaces.{no_filler, filler, last_filler_line, no_more, tight, lines_apart, no_gap, space}
-use Rattle.yaml_examples.proofs.Pieces.Spaces.{lines_down}
-use Rattle.yaml_examples.proofs.Pieces.Scalars.{anchor_x, alias_x, mark_alone, tagged, front_alone, letter_a}
-use Rattle.yaml_examples.proofs.Pieces.Scalars.{letter_b, letter_c, word}
+use Rattle.yaml_examples.proofs.Pieces.Spaces.{feed, text_end, feed_behind, blanks, comment, blank_line, comment_line, no_filler, filler, last_filler_line, no_more, tight, lines_apart, no_gap, space, lines_down}
+use Rattle.yaml_examples.proofs.Pieces.Scalars.{anchor_x, alias_x, mark_alone, tagged, front_alone, letter_a, letter_b, letter_c, word}
 use Rattle.yaml_examples.proofs.Pieces.Flow.{item, item_apart, item_list, no_comma, comma, brackets}
 use Rattle.yaml_examples.proofs.Pieces.Block.{flow, line, last, nothing, below_behind, sequence, dash, no_dash, lead_at_start, mapping, first_pair, no_pair, letter}
 use Rattle.yaml_examples.proofs.Pieces.BlockScalars.{no_front, literal_scalar, literal_a}
-use Rattle.yaml_examples.proofs.Pieces.Streams.{bare_document, explicit, directed, end_of_stream, documents, at_once}
-use Rattle.yaml_examples.proofs.Pieces.Streams.{documents_behind, marked}
-use Rattle.yaml_examples.proofs.Pieces.Streams.{finish, no_prefix, mark, dots_before, dots, stream, prefixed_stream}
-use Rattle.yaml_examples.proofs.Pieces.Streams.{document}
-use Rattle.yaml_examples.proofs.Pieces.Streams.{no_directive, directive, version, tag_prefix, prefix_of_one}
-use Rattle.yaml_examples.proofs.Pieces.Streams.{prefix_of_two, same, reserved_x}
+use Rattle.yaml_examples.proofs.Pieces.Streams.{bare_document, explicit, directed, end_of_stream, documents, at_once, documents_behind, marked, finish, no_prefix, mark, dots_before, dots, stream, prefixed_stream, document, no_directive, directive, version, tag_prefix, prefix_of_one, prefix_of_two, same, reserved_x}
 use Rattle.yaml_examples.proofs.derives_streams.Goals as goal
 
 pub returns-clause-nothing : goal.returns-clause-nothing

@@ -1,5 +1,4 @@
-use Rattle.yaml_examples.proofs.YamlRefused.{comma_alone, comma_first, alias_key, colon_at_end, marker_inside}
-use Rattle.yaml_examples.proofs.YamlRefused.{two_versions, mark_behind_blank}
+use Rattle.yaml_examples.proofs.YamlRefused.{comma_alone, comma_first, alias_key, colon_at_end, marker_inside, two_versions, mark_behind_blank}
 use Rattle.yaml_examples.proofs.MarksRefused.{bare_behind_mark}
 use Rattle.yaml_examples.proofs.refuses_near_misses.Goals as goal
 

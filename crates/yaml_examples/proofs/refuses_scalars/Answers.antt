@@ -1,5 +1,4 @@
-use Rattle.yaml_examples.proofs.NearMisses.{dash_and_blank, last_dash, indicator_first, lone_colon, two_digits}
-use Rattle.yaml_examples.proofs.NearMisses.{comment_without_blank, spaces_before_marker}
+use Rattle.yaml_examples.proofs.NearMisses.{dash_and_blank, last_dash, indicator_first, lone_colon, two_digits, comment_without_blank, spaces_before_marker}
 use Rattle.yaml_examples.proofs.AliasAlone.{alias_alone}
 use Rattle.yaml_examples.proofs.DashApart.{dash_apart}
 use Rattle.yaml_examples.proofs.refuses_scalars.Goals as goal

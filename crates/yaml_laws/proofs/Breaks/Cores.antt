@@ -13,14 +13,13 @@ use Rattle.saphyr_scanner.specs.Steps.Core.{Core, in_block, is_too_far, save_key
 use Rattle.saphyr_scanner.specs.Steps.Level.{Candidate, Level}
 use Rattle.saphyr_scanner.specs.Steps.Passing.{separate, pass_on, with_cursor}
 use Rattle.yaml_laws.proofs.Breaks.Forward.{Forward, Forwards, both_ahead, separation_forward}
-use Rattle.yaml_laws.proofs.Breaks.Places.{reindexed, near, Even, even_here, even_even, even_far, Ahead, ahead_ahead, Stand, stand_alike, alike_is, Low}
-use Rattle.yaml_laws.proofs.Breaks.Steps.{choose, both_choose, both_so, character_ahead}
+use Rattle.yaml_laws.proofs.Breaks.Places.{reindexed, near, Even, even_here, even_even, even_far, Ahead, ahead_ahead, Stand, stand_alike, alike_is, Low, choose, both_choose, both_so, character_ahead}
 use Rattle.saphyr_input.proofs.Basics.Characters.{no_return}
 use Rattle.saphyr_scalar.proofs.Given.{cursor_at}
 
 -- ## The other scanner
 
--- The indexes that it has: of its cursor, of the candidates of its levels, of where a colon may stand at once, and of
+-- The indexes that it has: of its cursor, of the candidates of its levels, of where a colon may come at once, and of
 -- a comment.
 pub record Indexes : Type 0 where
   pub at : ℕ
@@ -71,7 +70,7 @@ abbrev pub LevelsEven : Marker → ℕ → List ℕ → List Level → Type 0
 LevelsEven m j is [] = Unit {0}
 LevelsEven m j is (l ∷ ls) = KeyEven m j (first is) l.key × LevelsEven m j (others is) ls
 
--- the same of what the levels are, and of where a colon may stand at once
+-- the same of what the levels are, and of where a colon may come at once
 pub record TwinParts (text : List ℕ) (s : Cursor) (k : Option Candidate) (ls : List Level) (a : ℕ)
     (x : Indexes) : Type 0 where
   pub ahead : Ahead text (start_cursor text) 0 s x.at
@@ -171,7 +170,7 @@ pub forgotten : (text : List ℕ) (c : Core) (x : Indexes) → Twin text c x
     → TwinParts text c.cursor None c.outer c.adjacent x
 forgotten text c x t = record { ahead = t.ahead; key = tt; outer = t.outer; line = t.line; adjacent = t.adjacent }
 
--- a colon may stand at once where both stand
+-- a colon may come at once where both are
 pub here_adjacent : (text : List ℕ) (c : Core) (x : Indexes) → Twin text c x
     → TwinParts text c.cursor c.level.key c.outer c.cursor.mark.index (record x { adjacent = x.at })
 here_adjacent text c x t = record {
@@ -286,7 +285,7 @@ separate_alike text c x laws t =
     (separation_forward (near x.at c.cursor) b h) w.1 in
     (w.0, (going_to b.1.mark.index x, ap (λ s. with_cursor s (near_core x c)) v.0, v.1)))
 
--- behind a separation
+-- after a separation
 pub separate_then : {Y : Type 0}
     → (text : List ℕ) (R : Y → Y → Type 0) (c : Core) (x : Indexes) (f g : SkipTabs × Core → Result Y Refusal)
     → Laws text → Twin text c x
@@ -298,7 +297,7 @@ separate_then {Y} text R c x f g laws t go =
     (λ y u. let P : SkipTabs → Type 0 = λ k. GiveAlike R (f (a.0, a.1)) (g (k, near_core y a.1)) in subst P w.0
     (go a.0 a.1 y u)))
 
--- behind a character and a separation
+-- after a character and a separation
 pub pass_then : {Y : Type 0}
     → (text : List ℕ) (R : Y → Y → Type 0) (c : Core) (x : Indexes) (f g : SkipTabs × Core → Result Y Refusal)
     → Laws text → Twin text c x → Inked c.cursor.rest

@@ -22,10 +22,9 @@ use Rattle.saphyr_scanner.specs.Steps.State.{State, on_core, on_core_with}
 use Rattle.saphyr_scanner.specs.Steps.Unrolling.{unroll}
 use Rattle.yaml_laws.proofs.Breaks.Cores.{Indexes, near_core, Cores, Twin, Laws, Still, Inked, of_cores, remove_still, Separated, separate_alike, still_inked, twin_reads, twin_stands, twin_moves, read_twin, going_to}
 use Rattle.yaml_laws.proofs.Breaks.Normal.{first_is, normal_none}
-use Rattle.yaml_laws.proofs.Breaks.Places.{reindexed, near, Ahead, ahead_ahead, ahead_stands, Stand, one_less}
+use Rattle.yaml_laws.proofs.Breaks.Places.{reindexed, near, Ahead, ahead_ahead, ahead_stands, Stand, one_less, both_choose, character_ahead}
 use Rattle.yaml_laws.proofs.Breaks.Scalars.{Begins, begins_still, begins_near, no_break_here}
 use Rattle.yaml_laws.proofs.Breaks.States.{SameQueues, same_act, States, Ended, SameSteps, holding, unroll_same, after_step_same}
-use Rattle.yaml_laws.proofs.Breaks.Steps.{both_choose, character_ahead}
 use Rattle.saphyr_input.proofs.Basics.Characters.{no_return}
 use Rattle.saphyr_scalar.proofs.Given.{cursor_at}
 use Rattle.std.proofs.lemmas.Bool.{and_parts, eqb-true}
@@ -52,7 +51,7 @@ content_ends text c x q r t e =
     by (Err d) (Ok k) f g h s m i = absurd i
     by (Err d) (Err k) f g h s m i = i
 
--- behind the end of a document's content
+-- after the end of a document's content
 content_then : (text : List ℕ) (R : State → State → Type 0) (c : Core) (x : Indexes) (q r : Queue)
     (f g : State → Result State Refusal) → Twin text c x → SameQueues q r
     → ((d : Core) (y : Indexes) (u v : Queue) → Twin text d y → d.cursor ≡ c.cursor → SameQueues u v → GiveAlike R

@@ -155,7 +155,7 @@ line_forward s t text is e =
     let k = length-append text t.rest in
     forward_along s t (length text) (ap (λ (u : Cursor). u.mark) e) (omega (arith, l, k))
 
--- and a break behind it, or none
+-- and a break after it, or none
 pub break_forward : (s t : Cursor) (text tail behind : List ℕ) → s.rest ≡ text ++ (tail ++ behind)
     → t ≡ pass_break (mid_line (along s.mark (length text + length tail)) behind) → Forward s t
 break_forward s t text tail behind is e =

@@ -1,6 +1,6 @@
--- What stands between two tokens is passed alike in a text and in its normalized text.
-use Rattle.std.proofs.Common.{◌≡◌, ℕ, ◌+◌, ◌≤◌, Bool, true, false, List, [], ◌∷◌, length, Result, refl, sym, ap, ◌∙◌, arith}
-use Rattle.std.specs.Prelude.{◌==◌, ◌^◌, ◌&&◌, ◌||◌, not, slice_index}
+-- What is between two tokens is passed alike in a text and in its normalized text.
+use Rattle.std.proofs.Common.{◌≡◌, ℕ, ◌+◌, ◌≤◌, Bool, true, false, List, [], ◌∷◌, length, Result, refl, sym, ap, ◌∙◌, arith, Option, Some, None, cond}
+use Rattle.std.specs.Prelude.{◌==◌, ◌^◌, ◌&&◌, ◌||◌, not, slice_index, ◌-◌, nat_lt, nat_le}
 use Rattle.saphyr_input.specs.Breaks.{normalized}
 use Rattle.saphyr_input.specs.Classes.{is_blank, is_bom, is_break, is_yaml_non_break, is_z, carriage_return, line_feed}
 use Rattle.saphyr_scalar.specs.declared.scalar.position.Marker.{Marker}
@@ -9,11 +9,16 @@ use Rattle.saphyr_scalar.specs.Views.Cursor.{Cursor, along, next_line}
 use Rattle.scalar_laws.proofs.Breaks.Sides.{Normal, normalized_is, nothing, character, feed, return, pair}
 use Rattle.scalar_laws.specs.Alike.{GiveAlike}
 use Rattle.saphyr_scanner.specs.Steps.Gap.{GapEnd, SpacesEnd, stop, end_of_gap, end_of_gap_in_comment, end_of_spaces, end_of_spaces_in_comment, is_tab_indentation}
-use Rattle.yaml_laws.proofs.Breaks.Normal.{beside}
-use Rattle.yaml_laws.proofs.Breaks.Places.{reindexed, near, Ahead, Stand, Low, ahead_ahead, ahead_stands, stand_here}
-use Rattle.yaml_laws.proofs.Breaks.Steps.{choose, both_choose, both_so, line_from, character_ahead, two_ahead, single_ahead}
+use Rattle.yaml_laws.proofs.Breaks.Normal.{beside, first_is, indicator_so, plain_so}
+use Rattle.yaml_laws.proofs.Breaks.Places.{reindexed, near, Ahead, Stand, Low, ahead_ahead, ahead_stands, stand_here, choose, both_choose, both_so, line_from, character_ahead, two_ahead, single_ahead}
 use Rattle.saphyr_input.proofs.Basics.Characters.{no_return}
 use Rattle.saphyr_scalar.proofs.Given.{cursor_at}
+use Rattle.saphyr_input.specs.Places.{can_be_plain, is_document_indicator}
+use Rattle.scalar_laws.proofs.Breaks.Results.{both_then}
+use Rattle.saphyr_scanner.specs.Steps.Gap as gaps
+use Rattle.saphyr_scanner.specs.Steps.Core.{Core, in_block, least_column, drop_far_key}
+use Rattle.saphyr_scanner.specs.Steps.Passing.{pass_gap, check_comment, goes_on_behind, behind_gap, check_comment_of}
+use Rattle.yaml_laws.proofs.Breaks.Cores.{Indexes, near_core, near_comment, Cores, Twin, Laws, twin_low, twin_stands, twin_moves, going_to, Still, drop_still}
 
 -- from s on the same is passed in both texts, up to no break
 abbrev pub PassesAlike : List ℕ → Cursor → ℕ → GapEnd → GapEnd → Type 0
@@ -117,7 +122,7 @@ gap_alike text least s i broke tabbed low x =
     (all_gaps text least s.rest (normalized s.rest)
     (beside s.rest) s.mark i s.blank_so_far broke tabbed low x).between
 
--- ## Behind `?`
+-- ## After `?`
 
 abbrev pub Spaces : List ℕ → Cursor → ℕ → SpacesEnd → SpacesEnd → Type 0
 Spaces text s i g h = (j : ℕ) × (h ≡ record { cursor = near j g.cursor; space = g.space }) × Ahead text s i g.cursor j
@@ -198,3 +203,49 @@ pub spaces_alike : (text : List ℕ) (s : Cursor) (i : ℕ) (space : Bool) → L
     (end_of_spaces (near i s).mark s.blank_so_far space (normalized s.rest))
 spaces_alike text s i space low x =
     (all_spaces text s.rest (normalized s.rest) (beside s.rest) s.mark i s.blank_so_far space low x).between
+
+-- no break is where both go on
+abbrev pub Rested : List ℕ → Core → Core → Type 0
+Rested text c d = Cores text c d × (is_break (slice_index c.cursor.rest 0) ≡ false)
+
+goes_same : (m : Marker) (i : ℕ) (c : Core) (x : Indexes)
+    → goes_on_behind (reindexed i m) (near_core x c) ≡ goes_on_behind m c
+unfolding goes_on_behind
+goes_same m i c x =
+    let t = c.cursor.rest in
+    let F : Bool → Bool → Bool → Bool = λ z d p.
+    in_block c && (c.cursor.mark.line - m.line == 1) &&
+    (cond c.deeper (nat_lt c.indent c.cursor.mark.col) (nat_le c.indent c.cursor.mark.col)) && not z
+    && not ((c.cursor.mark.col == 0) && d) && p in
+    ap (λ z. F z (is_document_indicator (normalized t)) (can_be_plain false (normalized t))) (first_is is_z refl t)
+    ∙ ap (λ d. F (is_z (slice_index t 0)) d (can_be_plain false (normalized t))) (indicator_so t)
+    ∙ ap (λ p. F (is_z (slice_index t 0)) (is_document_indicator t) p) (plain_so false t)
+
+checked : (text : List ℕ) (o : Option Marker) (c : Core) (x : Indexes) → Twin text c x
+    → is_break (slice_index c.cursor.rest 0) ≡ false
+    → GiveAlike (Rested text) (check_comment_of o c) (check_comment_of (near_comment x.comment o) (near_core x c))
+checked text None c x t k = ((x, refl, t), k)
+checked text (Some m) c x t k =
+    let d : Core = record c { comment = None } in
+    both_choose (Rested text) (goes_on_behind m d) (goes_on_behind (reindexed x.comment m) (near_core x d)) _ _ _ _
+    (goes_same m x.comment d x) (λ _. refl) (λ _. ((x, refl, t), k))
+
+pub gap_rests : (text : List ℕ) (c : Core) (x : Indexes) → Laws text → Twin text c x
+    → GiveAlike (Rested text) (pass_gap c) (pass_gap (near_core x c))
+unfolding pass_gap check_comment
+gap_rests text c x laws t =
+    both_then (PassesAlike text c.cursor x.at) (Rested text) (gaps.whole_gap (least_column c) c.cursor)
+    (gaps.whole_gap (least_column c) (near x.at c.cursor)) _ _
+    (gap_alike text (least_column c) c.cursor x.at false false (twin_low text c x laws t) (twin_stands text c x t))
+    (λ g h e f w.
+    let P : gaps.GapEnd → Type 0 = λ h. GiveAlike (Rested text) (check_comment (behind_gap c g))
+    (check_comment (behind_gap (near_core x c) h)) in
+    let moved = twin_moves text c x g.cursor w.0 t w.2 in
+    rw w.1 (checked text c.comment (behind_gap c g) (going_to w.0 x) moved w.3))
+
+pub dropped_rest : (text : List ℕ) (c : Core) (x : Indexes) → Twin text c x
+    → is_break (slice_index c.cursor.rest 0) ≡ false
+    → GiveAlike (Rested text) (drop_far_key c) (drop_far_key (near_core x c))
+dropped_rest text c x t k =
+    both_so (Still text c.cursor) (Rested text) (drop_far_key c) (drop_far_key (near_core x c))
+    (λ a b h. (h.0, ap (λ (s : Cursor). is_break (slice_index s.rest 0)) h.1 ∙ k)) (drop_still text c x t)

@@ -23,9 +23,8 @@ use Rattle.saphyr_scanner.specs.Limits.{most_open}
 use Rattle.yaml_laws.proofs.Breaks.Cores.{Indexes, near_core, near_key, near_levels, first, others, LevelsEven, Cores, Twin, Laws, Still, Inked, of_cores, of_still, core_then, still_then, same_length, save_still, remove_still, roll_still, forgotten, separate_then, pass_then, still_pass_then, still_inked, pass_twin, pass_near, pass_ahead, twin_low, twin_stands, twin_moves, going_to, here_adjacent}
 use Rattle.yaml_laws.proofs.Breaks.Gaps.{spaces_alike}
 use Rattle.yaml_laws.proofs.Breaks.Normal.{first_is, second_is}
-use Rattle.yaml_laws.proofs.Breaks.Places.{reindexed, near, even_index, ahead_ahead, ahead_stands, low_ahead}
+use Rattle.yaml_laws.proofs.Breaks.Places.{reindexed, near, even_index, ahead_ahead, ahead_stands, low_ahead, choose, both_choose, both_so}
 use Rattle.yaml_laws.proofs.Breaks.States.{SameActions, SameSteps}
-use Rattle.yaml_laws.proofs.Breaks.Steps.{choose, both_choose, both_so}
 use Rattle.std.proofs.lemmas.Bool.{eqb-true}
 use Rattle.saphyr_input.specs.Indicators.{hyphen, left_brace, left_bracket}
 

@@ -1,13 +1,20 @@
--- A text beside its normalized text: how long both are, and what stands first in them.
-use Rattle.std.proofs.Common.{◌≡◌, ℕ, ◌≤◌, Bool, true, false, List, length, refl, sym, ap, ◌∙◌, arith, cond}
-use Rattle.std.specs.Prelude.{◌==◌, ◌&&◌, ◌||◌, not, slice_index}
+-- A text beside its normalized text: how long both are, and what comes first in them.
+use Rattle.std.proofs.Common.{◌≡◌, ℕ, ◌≤◌, Bool, true, false, List, length, refl, sym, ap, ◌∙◌, arith, cond, Option, Some, None}
+use Rattle.std.specs.Prelude.{◌==◌, ◌&&◌, ◌||◌, not, slice_index, option_map}
 use Rattle.std.proofs.lemmas.Bool.Decides.{nat_tests}
 use Rattle.saphyr_input.specs.Breaks.{normalized}
-use Rattle.saphyr_input.specs.Classes.{is_blank_or_breakz, is_break, is_flow, byte_order_mark}
+use Rattle.saphyr_input.specs.Classes.{is_blank_or_breakz, is_break, is_flow, byte_order_mark, carriage_return}
 use Rattle.saphyr_input.specs.Places.{is_document_start, is_document_end, is_document_indicator, can_be_plain}
 use Rattle.scalar_laws.proofs.Breaks.Sides.{Normal, normal, first_in, second_in, nothing, character, feed, return, pair}
 use Rattle.scalar_laws.proofs.Breaks.Separations.{marker_alike, indicator_alike}
 use Rattle.std.proofs.lemmas.Bool.{eqb-true}
+use Rattle.saphyr_scalar.specs.Spelling.Tag.{AreIn}
+use Rattle.saphyr_scalar.specs.declared.scalar.fault.Refusal.{Refusal}
+use Rattle.saphyr_scanner.specs.Steps.Remaining.{Scans}
+use Rattle.saphyr_scanner.specs.Views.Tokens.{Remaining}
+use Rattle.saphyr_scanner.specs.Grammar.Tokens.{Kind}
+use Rattle.yaml_laws.specs.SameKinds.{HaveSameKinds}
+use Rattle.saphyr_input.proofs.Basics.Characters.{no_return}
 
 pub beside : (t : List ℕ) → Normal t (normalized t)
 beside t = normal t (normalized t) refl
@@ -66,3 +73,24 @@ plain_so f t =
     ap (λ d. cond d (p (slice_index n 1)) (q (slice_index n 0))) (first_is (λ c. c == 58) refl t)
     ∙ chosen (slice_index t 0 == 58) (p (slice_index t 1)) (q (slice_index t 0)) (p (slice_index n 1))
     (q (slice_index n 0)) (λ e. second_is p refl t (inside e)) (λ _. first_is q refl t)
+
+abbrev HasNoReturn : List ℕ → Type 0
+HasNoReturn t = AreIn (λ c. not (c == carriage_return)) t
+
+pub no_return_left : {t n : List ℕ} → Normal t n → HasNoReturn n
+no_return_left nothing = tt
+no_return_left (character c e h) = (ap not (no_return c e), no_return_left h)
+no_return_left (feed h) = (refl, no_return_left h)
+no_return_left (return e h) = (refl, no_return_left h)
+no_return_left (pair h) = (refl, no_return_left h)
+
+none_if : {X Y : Type 0} → (f : X → Y) (o : Option X) → option_map f o ≡ None → o ≡ None
+none_if f None e = refl
+none_if f (Some x) e = absurd (cc)
+
+pub scans_too : (ts : List Kind) (r q : Remaining) → HaveSameKinds r q → Scans ts q → Scans ts r
+scans_too ts r q h s = (
+  none_if (λ (e : Refusal). e.text) r.refusal
+      (h.refusals ∙ ap (λ o. option_map (λ (e : Refusal). e.text) o) s.0),
+  h.kinds ∙ s.1,
+)

@@ -28,10 +28,9 @@ use Rattle.saphyr_scanner.specs.Steps.Scalar as scalar
 use Rattle.saphyr_scanner.specs.TokensTaken.{block_indicator}
 use Rattle.yaml_laws.proofs.Breaks.Cores.{Indexes, near_core, near_comment, Cores, Twin, Laws, Inked, here_adjacent, of_cores, of_still, save_still, separate_then, still_inked, twin_reads, read_twin, going_to}
 use Rattle.yaml_laws.proofs.Breaks.Normal.{first_is}
-use Rattle.yaml_laws.proofs.Breaks.Passing.{Rested, gap_rests}
-use Rattle.yaml_laws.proofs.Breaks.Places.{reindexed, near}
+use Rattle.yaml_laws.proofs.Breaks.Gaps.{Rested, gap_rests}
+use Rattle.yaml_laws.proofs.Breaks.Places.{reindexed, near, both_choose}
 use Rattle.yaml_laws.proofs.Breaks.States.{SameSteps}
-use Rattle.yaml_laws.proofs.Breaks.Steps.{both_choose}
 use Rattle.saphyr_input.proofs.Basics.Characters.{no_return}
 
 -- the first character of a text

@@ -12,7 +12,7 @@ use Rattle.saphyr_scanner.specs.Steps.Core.{Core, Action, Put, Open, Step, act, 
 use Rattle.saphyr_scanner.specs.Steps.State.{State, on_core, after_step}
 use Rattle.saphyr_scanner.specs.Steps.Unrolling.{unroll, end_blocks, end_block, is_right_of, with_outer_indent, go_less_deep}
 use Rattle.yaml_laws.proofs.Breaks.Cores.{Indexes, near_core, Cores, Twin}
-use Rattle.yaml_laws.proofs.Breaks.Steps.{choose}
+use Rattle.yaml_laws.proofs.Breaks.Places.{choose}
 
 -- ## Tokens
 

@@ -41,7 +41,7 @@ directive_here m e blank r d u k a ad ps col is = rw (eq-eqb m.col 0 col, is) re
 
 -- ## How a directive is read
 
--- A directive is read where its line's break and o stand behind it.
+-- A directive is read where its line's break and o come after it.
 record ReadsAs (d : forest.Directive) (t : List ℕ) : Type 0 where
   said : ReadDirective
   end : Marker → Marker
@@ -138,7 +138,7 @@ lines_text : (directive filler more y : List ℕ)
     → (directive ++ (line_feed ∷ (filler ++ more))) ++ y ≡ directive ++ (line_feed ∷ (filler ++ (more ++ y)))
 lines_text directive filler more y = simp append_assoc
 
--- directive lines, and what stands behind them
+-- directive lines, and what comes after them
 pub reads_directives : {limit : ℕ} {start : State} → ReaderPromises
     → (ds : List forest.Directive) (t y : List ℕ) (ts : List Kind) → AreDirectives ds t
     → StandsInStream limit start true (Lined false (t ++ y)) (t ++ y) ts

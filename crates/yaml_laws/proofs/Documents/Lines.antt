@@ -17,7 +17,7 @@ use Rattle.yaml_laws.proofs.InBlock.Lines.{IsLined, one_lined, moved_lined}
 
 -- ## The end of a line
 
--- The rest of a line stands at m, and behind it nothing or a break, and then o at a line's start.
+-- The rest of a line is at m, and after it nothing or a break, and then o at a line's start.
 pub record EndsWithLine (m : Marker) (t o : List ℕ) : Type 0 where
   pub rest : List ℕ
   pub more : List ℕ
@@ -75,7 +75,7 @@ pub break_ends : (more : List ℕ) → EndsLine more → is_breakz (slice_index 
 break_ends more (inl e) = ap (λ (t : List ℕ). is_breakz (slice_index t 0)) e
 break_ends more (inr e) = ap is_breakz e
 
--- ## What stands first
+-- ## What comes first
 
 breakz_parts : (c : ℕ) → is_breakz c ≡ true → is_blank_or_breakz c ≡ true
 breakz_parts c h = grind (arith, nat_tests)
@@ -100,7 +100,7 @@ eol_first m t o e = subst (λ (x : List ℕ). is_blank_or_breakz (slice_index x 
 
 -- ## Filler is passed
 
--- behind filler that begins at a line's start stands a line's start
+-- after filler that begins at a line's start is a line's start
 pub filler_line : (m : Marker) (w : List ℕ) → IsFiller w → m.col ≡ 0 → (moved m w).col ≡ 0
 filler_line m w h col = subst (λ (x : List ℕ). (moved m x).col ≡ 0) (sym h.2) (pieces m h.0 h.1 col)
   where

@@ -19,8 +19,7 @@ use Rattle.saphyr_scanner.specs.Steps.Queue.{Place, bare_place}
 use Rattle.saphyr_scanner.specs.Steps.Core.{remove_key}
 use Rattle.saphyr_scanner.specs.Steps.Level.{Candidate}
 use Rattle.saphyr_scanner.specs.Steps.Passing.{with_cursor}
-use Rattle.saphyr_scanner.specs.Steps.State.{on_core_with}
-use Rattle.saphyr_scanner.specs.Steps.State.{State}
+use Rattle.saphyr_scanner.specs.Steps.State.{on_core_with, State}
 use Rattle.saphyr_scanner.specs.Steps.Unrolling.{unroll}
 use Rattle.saphyr_scanner.specs.Steps.Document.{end_content, state_behind_marker, end_line, state_behind_document_end, state_behind_byte_order_mark}
 use Rattle.saphyr_scanner.specs.Steps.Fetch.{fetch_here}
@@ -93,7 +92,7 @@ reads_start {limit = limit} r v h =
 
 -- ## A byte order mark
 
--- behind a byte order mark, which has no column
+-- after a byte order mark, which has no column
 abbrev pub beyond_byte_order_mark : Marker → Marker
 beyond_byte_order_mark m = record { index = m.index + 1; line = m.line; col = m.col }
 

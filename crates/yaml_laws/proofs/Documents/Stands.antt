@@ -17,54 +17,55 @@ use Rattle.saphyr_scanner.specs.Steps.State.{State, on_core}
 use Rattle.saphyr_scanner.specs.Steps.Unrolling.{unroll}
 use Rattle.saphyr_scanner.specs.Steps.Fetch.{fetch_here, arrive, fetch}
 use Rattle.saphyr_scanner.proofs.Leads.{LeadsTo}
-use Rattle.yaml_laws.proofs.InFlow.States.{alone}
+use Rattle.yaml_laws.proofs.InFlow.States.{alone, noted}
 use Rattle.yaml_laws.proofs.InBlock.States.{crosses, GoesOnAs}
 use Rattle.yaml_laws.proofs.InBlock.Follows.{goes_on}
 use Rattle.yaml_laws.proofs.InBlock.Lines.{IsLined}
-use Rattle.yaml_laws.proofs.Flow.States.{past, EndsDocument, noted, is_filler_rest}
+use Rattle.yaml_laws.proofs.Flow.States.{past, EndsDocument, is_filler_rest}
 use Rattle.yaml_laws.proofs.Flow.Gaps.{gap_past, no_tab_before}
 use Rattle.yaml_laws.proofs.Flow.GapSteps.{past_low, past_inked}
-use Rattle.yaml_laws.proofs.Flow.Arrivals.{passes_gap, within_index}
+use Rattle.yaml_laws.proofs.Flow.Tokens.{passes_gap, within_index}
 use Rattle.saphyr_scalar.proofs.Given.{cursor_at}
 use Rattle.std.proofs.lemmas.Bool.{eq-eqb}
 use Rattle.saphyr_scanner.proofs.Queues.{place_kinds, place_kinds_append, queue_of}
 use Rattle.saphyr_scanner.proofs.Root.{core_at, state_at, drops_key, none_unrolls, comes}
 use Rattle.yaml_laws.proofs.Flow.Inks.{mark_no_plain}
 
--- ## Behind a comment that ended a plain scalar
+-- ## After a comment that ended a plain scalar
 
-no_document_begins : (a b c d e f : Bool) → (d ≡ true) ⊎ ((e ≡ true) ⊎ (f ≡ false))
-    → (a && b && c && not d && not e && f) ≡ false
-no_document_begins false b c d e f h = refl
-no_document_begins true false c d e f h = refl
-no_document_begins true true false d e f h = refl
-no_document_begins true true true true e f h = refl
-no_document_begins true true true false true f h = refl
-no_document_begins true true true false false f (inl e) = absurd (cc)
-no_document_begins true true true false false f (inr (inl e)) = absurd (cc)
-no_document_begins true true true false false f (inr (inr e)) = e
+pub none_of : (a b c d e g : Bool) → (c ≡ false) ⊎ ((d ≡ false) ⊎ ((e ≡ false) ⊎ (g ≡ false)))
+    → (a && b && c && d && e && g) ≡ false
+none_of false b c d e g h = refl
+none_of true false c d e g h = refl
+none_of true true false d e g h = refl
+none_of true true true false e g h = refl
+none_of true true true true false g h = refl
+none_of true true true true true g (inl h) = absurd (cc)
+none_of true true true true true g (inr (inl h)) = absurd (cc)
+none_of true true true true true g (inr (inr (inl h))) = absurd (cc)
+none_of true true true true true g (inr (inr (inr h))) = h
 
-document_ends_by_test : (m : Marker) (y : List ℕ) → EndsDocument m y
-    → (is_z (slice_index y 0) ≡ true)
-    ⊎ ((((m.col == 0) && is_document_indicator y) ≡ true) ⊎ (can_be_plain false y ≡ false))
-document_ends_by_test m y (inl e) = inl (ap (λ (t : List ℕ). is_z (slice_index t 0)) e)
-document_ends_by_test m y (inr (col, inl h)) = inr (inl (rw (eq-eqb m.col 0 col) h))
+pub document_ends_by_test : (m : Marker) (y : List ℕ) → EndsDocument m y
+    → (not (is_z (slice_index y 0)) ≡ false)
+    ⊎ ((not ((m.col == 0) && is_document_indicator y) ≡ false) ⊎ (can_be_plain false y ≡ false))
+document_ends_by_test m y (inl e) = inl (ap (λ (t : List ℕ). not (is_z (slice_index t 0))) e)
+document_ends_by_test m y (inr (col, inl h)) = inr (inl (rw (eq-eqb m.col 0 col) (ap not h)))
 document_ends_by_test m y (inr (col, inr h)) = inr (inr (mark_no_plain y h))
 
 none_goes_on : (comment : Marker) (c : Core) → EndsDocument c.cursor.mark c.cursor.rest
     → goes_on_behind comment c ≡ false
 unfolding goes_on_behind
 none_goes_on comment c h =
-    no_document_begins (in_block c) (c.cursor.mark.line - comment.line == 1)
+    none_of (in_block c) (c.cursor.mark.line - comment.line == 1)
     (if c.deeper then nat_lt c.indent c.cursor.mark.col else nat_le c.indent c.cursor.mark.col)
-    (is_z (slice_index c.cursor.rest 0))
-    ((c.cursor.mark.col == 0) && is_document_indicator c.cursor.rest) (can_be_plain false c.cursor.rest)
-    (document_ends_by_test c.cursor.mark c.cursor.rest h)
+    (not (is_z (slice_index c.cursor.rest 0)))
+    (not ((c.cursor.mark.col == 0) && is_document_indicator c.cursor.rest)) (can_be_plain false c.cursor.rest)
+    (inr (document_ends_by_test c.cursor.mark c.cursor.rest h))
 
 none_less : 0 ≤ 0
 none_less = omega arith
 
--- What stands between two documents is passed, up to the place m, where y stands.
+-- What is between two documents is passed, up to the place m, where y is.
 record PassesNoted (co : Option Marker) (s : Cursor) (k : Option Candidate) (a : Bool) (ad : ℕ) (m : Marker)
     (y : List ℕ) : Type 0 where
   blank : Bool
@@ -97,7 +98,7 @@ passes_noted (Some comment) s k a ad m y here (inr h) =
       is = ap (λ r. r >>= λ (p : GapEnd). check_comment (behind_gap c p)) there ∙ goes;
     }
 
--- the text y begins with the next token, which stands at m
+-- the text y begins with the next token, which is at m
 record Reaches (co : Option Marker) (s : Cursor) (k : Option Candidate) (a : Bool) (ad : ℕ) (ps : List Place)
     (m : Marker) (y : List ℕ) : Type 0 where
   blank : Bool
@@ -124,7 +125,7 @@ reaches co s k a ad ps m y text h =
           ∙ ap Ok (none_unrolls m.col m false there context.Block d.left [] g.allowed ad ps);
     }
 
--- What begins at m is read, and the cursor is t behind it.
+-- What begins at m is read, and the cursor is t after it.
 pub reads_here : (limit : ℕ) (co : Option Marker) (s : Cursor) (k : Option Candidate) (a : Bool) (ad : ℕ)
     (ps : List Place) (m : Marker) (y : List ℕ)
     → past 0 s.mark s.rest ≡ (m, y) → (co ≡ None) ⊎ EndsDocument m y
@@ -153,17 +154,17 @@ AtLine o m = (m.col ≡ 0) ⊎ (o ≡ [])
 abbrev pub Lined : Bool → List ℕ → Marker → Bool → Type 0
 Lined opened o m b = AtLine o m × (opened ≡ true → (b ≡ true) ⊎ (o ≡ []))
 
--- behind a line's start
+-- after a line's start
 abbrev pub OffLine : Marker → Type 0
 OffLine m = (m.col == 0) ≡ false
 
--- behind `---`, where a key may begin on a later line
+-- after `---`, where a key may begin on a later line
 abbrev pub BehindStart : List ℕ → Marker → Bool → Type 0
 BehindStart o m b = OffLine m × (b ≡ crosses o)
 
--- The scanner has read these tokens, and stands where the text o does, at a place of which P holds. Where it is free no
--- plain scalar was ended by a comment. P is told too whether a key may begin at the next token. No colon may stand at
--- once behind that.
+-- The scanner has read these tokens, and is where the text o does, at a place of which P holds. Where it is free no
+-- plain scalar was ended by a comment. P is told too whether a key may begin at the next token. No colon may be at
+-- once after that.
 pub record StandsInStream (limit : ℕ) (start : State) (free : Bool) (P : Marker → Bool → Type 0)
     (o : List ℕ) (ts : List Kind) : Type 0 where
   pub there : Cursor
@@ -189,7 +190,7 @@ pub passable : (free : Bool) (co : Option Marker) (m : Marker) (y : List ℕ) �
 passable free co m y quiet (inl e) = inl (quiet e)
 passable free co m y quiet (inr h) = inr h
 
--- a token that stands right here is read
+-- a token that is right here is read
 pub reads_token : {limit : ℕ} {start : State} {free : Bool} {P : Marker → Bool → Type 0} {y : List ℕ} {ts : List Kind}
     (v : StandsInStream limit start free P y ts) → past 0 v.mark y ≡ (v.mark, y) → (free ≡ true) ⊎ EndsDocument v.mark y
     → (t : Bool → Cursor) (b : Bool) (piece : Piece)
@@ -227,35 +228,13 @@ reads_token {limit = limit} {y = y} {ts = ts} v here may t b piece is Q n o fits
       lined = lined;
     }
 
--- where a document is free one may stand that needn't be
-pub unfree : {limit : ℕ} {start : State} {o : List ℕ} {ts : List Kind}
-    → StandsInStream limit start true (Lined true o) o ts → StandsInStream limit start false (Lined false o) o ts
-unfree v =
-    record {
-      there = v.there;
-      key = v.key;
-      allowed = v.allowed;
-      adjacent = v.adjacent;
-      comment = v.comment;
-      places = v.places;
-      mark = v.mark;
-      none = λ _. v.none refl;
-      follows = v.follows;
-      fits = v.fits;
-      line = (v.line.0, λ _. v.line.1 refl);
-      count = v.count;
-      are = v.are;
-      quiet = λ _. v.quiet refl;
-      low = v.low;
-      lined = v.lined;
-    }
-
--- what holds no token is passed
-pub passes_over : {limit : ℕ} {start : State} {free : Bool} {P : Marker → Bool → Type 0} {o : List ℕ} {ts : List Kind}
-    (v : StandsInStream limit start free P o ts) (Q : Marker → Bool → Type 0) (n : Marker) (y : List ℕ)
+-- the same place told otherwise, where it is free only if it was
+goes_over : {limit : ℕ} {start : State} {was : Bool} {P : Marker → Bool → Type 0} {o : List ℕ} {ts : List Kind}
+    (v : StandsInStream limit start was P o ts) (free : Bool) → (free ≡ true → was ≡ true)
+    → (Q : Marker → Bool → Type 0) (n : Marker) (y : List ℕ)
     → past 0 v.mark o ≡ past 0 n y → n.index + length y ≤ limit → Q n (crosses v.there.rest || v.allowed) → IsLined n
     → StandsInStream limit start free Q y ts
-passes_over v Q n y fits count line lined =
+goes_over v free was Q n y fits count line lined =
     record {
       there = v.there;
       key = v.key;
@@ -265,12 +244,25 @@ passes_over v Q n y fits count line lined =
       places = v.places;
       mark = n;
       follows = v.follows;
-      none = v.none;
+      none = λ e. v.none (was e);
       fits = v.fits ∙ fits;
       line = line;
       count = count;
       are = v.are;
-      quiet = v.quiet;
+      quiet = λ e. v.quiet (was e);
       low = subst (λ (q : Marker × List ℕ). v.adjacent ≤ q.0.index) fits v.low;
       lined = lined;
     }
+
+-- what holds no token is passed
+pub passes_over : {limit : ℕ} {start : State} {free : Bool} {P : Marker → Bool → Type 0} {o : List ℕ} {ts : List Kind}
+    (v : StandsInStream limit start free P o ts) (Q : Marker → Bool → Type 0) (n : Marker) (y : List ℕ)
+    → past 0 v.mark o ≡ past 0 n y → n.index + length y ≤ limit → Q n (crosses v.there.rest || v.allowed) → IsLined n
+    → StandsInStream limit start free Q y ts
+passes_over {free = free} v Q n y fits count line lined = goes_over v free (λ e. e) Q n y fits count line lined
+
+-- where a document is free one may be that needn't be
+pub unfree : {limit : ℕ} {start : State} {o : List ℕ} {ts : List Kind}
+    → StandsInStream limit start true (Lined true o) o ts → StandsInStream limit start false (Lined false o) o ts
+unfree {o = o} v =
+    goes_over v false (λ _. refl) (Lined false o) v.mark o refl v.count (v.line.0, λ _. v.line.1 refl) v.lined

@@ -1,14 +1,14 @@
--- The brackets and braces of a text in flow style are read.
-use Rattle.std.proofs.Common.{◌≡◌, ◌⊎◌, ℕ, ◌<◌, ◌≤◌, Bool, true, false, List, [], ◌∷◌, ◌++◌, length, slice_index, Result, Ok, Err, refl, sym, ap, ◌∙◌, arith, subst, append_assoc, cond, IsTrue}
-use Rattle.std.specs.Prelude.{◌&&◌, ◌==◌, Option, None}
+-- The brackets, braces and commas of a text in flow style are read.
+use Rattle.std.proofs.Common.{◌≡◌, ◌⊎◌, ℕ, ◌<◌, ◌≤◌, Bool, true, false, List, [], ◌∷◌, ◌++◌, length, slice_index, Result, Ok, Err, refl, sym, ap, ◌∙◌, arith, subst, append_assoc, cond, IsTrue, inl}
+use Rattle.std.specs.Prelude.{◌&&◌, ◌==◌, Option, None, if◌then◌else◌}
 use Rattle.std.specs.List.{list_all}
-use Rattle.saphyr_input.specs.Indicators.{percent_sign}
+use Rattle.saphyr_input.specs.Indicators.{percent_sign, comma}
 use Rattle.saphyr_input.specs.Classes.{is_blank, is_z, line_feed}
 use Rattle.saphyr_input.specs.declared.input.SkipTabs.{SkipTabs}
 use Rattle.saphyr_input.specs.declared.input.SkipTabs.TheVariants.{Yes}
 use Rattle.saphyr_scalar.specs.declared.scalar.position.Marker.{Marker}
 use Rattle.saphyr_scalar.specs.declared.scalar.fault.Refusal.{Refusal}
-use Rattle.saphyr_scalar.specs.Views.Cursor.{Cursor, along, separation}
+use Rattle.saphyr_scalar.specs.Views.Cursor.{Cursor, along, separation, ◌>>=◌}
 use Rattle.saphyr_scalar.specs.Spelling.Tag.{AreIn}
 use Rattle.saphyr_scalar.proofs.Given.{cursor_at}
 use Rattle.scalar_laws.specs.Spelling.Spaces.{IsSeparation}
@@ -17,24 +17,31 @@ use Rattle.saphyr_scanner.specs.Grammar.Tokens as tokens
 use Rattle.saphyr_scanner.specs.Grammar.Tokens.{Kind}
 use Rattle.saphyr_scanner.specs.Views.Tokens.{Piece}
 use Rattle.saphyr_scanner.specs.Steps.Queue.{Place, bare_place, empty_piece}
-use Rattle.saphyr_scanner.specs.Steps.Core.{Core, from_to, perform}
-use Rattle.saphyr_scanner.specs.Steps.Level.{Candidate, Level, is_block}
+use Rattle.saphyr_scanner.specs.Steps.Core.{Core, from_to, perform, up_to_here, completed_step, remove_key}
+use Rattle.saphyr_scanner.specs.Steps.Level.{Candidate, Level, is_block, behind_entry, ends_pair}
 use Rattle.saphyr_scanner.specs.Steps.Flow as flow
-use Rattle.saphyr_scanner.specs.Steps.Flow.{close_collection, behind_pair}
+use Rattle.saphyr_scanner.specs.Steps.Flow.{close_collection, behind_pair, next_flow_entry}
 use Rattle.saphyr_scanner.specs.Steps.Fetch.{step}
 use Rattle.saphyr_scanner.specs.Limits.{most_open}
-use Rattle.yaml_laws.proofs.InFlow.States.{Around, core_at, state_at, Calm, placed_right, opening_steps_open, open_collection_gives, close_collection_gives, deepened, bracket_deepens, as_before, FlowMoment, moment, moment_with}
+use Rattle.yaml_laws.proofs.InFlow.States.{Around, core_at, state_at, Calm, placed_right, opening_steps_open, open_collection_gives, close_collection_gives, deepened, bracket_deepens, as_before, FlowMoment, moment, moment_with, required_at, moment_in}
 use Rattle.yaml_laws.proofs.Flow.States.{IsFresh, Since, moved, past, IsClear, IsInk, IsParted, Known, fresh_key, PassesPiece, FitsAround, StandsBefore, key_behind}
 use Rattle.yaml_laws.proofs.Flow.Places.{moved_index, right_one, clear_here}
-use Rattle.yaml_laws.proofs.Flow.GapSteps.{past_ink, past_low}
-use Rattle.yaml_laws.proofs.Flow.Arrivals.{BeginsToken, arrives, step_comes, within_index}
-use Rattle.yaml_laws.proofs.Flow.Tokens.{saved_since}
+use Rattle.yaml_laws.proofs.Flow.GapSteps.{past_ink, past_low, less_on}
+use Rattle.yaml_laws.proofs.Flow.Tokens.{BeginsToken, arrives, step_comes, within_index, saved_since}
 use Rattle.yaml_laws.proofs.Flow.Separates.{separates}
-use Rattle.yaml_laws.proofs.Flow.Joins.{step_passes}
+use Rattle.yaml_laws.proofs.Flow.Joins.{step_passes, separation_joins, knowing}
 use Rattle.yaml_laws.proofs.InBlock.Crossings.{fresh_in_flow}
 use Rattle.saphyr_input.proofs.Basics.Numbers.{le_next}
 use Rattle.saphyr_scanner.proofs.Queues.{token_place, place_kinds, queue_of}
 use Rattle.saphyr_scanner.proofs.Levels.{saved, level_of}
+use Rattle.saphyr_scanner.specs.declared.engine.level.Context.TheVariants as context
+use Rattle.saphyr_scanner.specs.Steps.Passing.{with_cursor}
+use Rattle.std.proofs.lemmas.Bool.{true≢false}
+use Rattle.saphyr_scanner.proofs.Steps.Choice.{comma_begins}
+use Rattle.yaml_laws.specs.Grammar.FlowNodes.{IsComma}
+use Rattle.scalar_laws.proofs.Breaks.Sides.{no_feed}
+use Rattle.yaml_laws.proofs.Flow.Inks.{BeginsInk, is_start, start_ink, start_nul, start_directive}
+use Rattle.yaml_laws.proofs.Flow.Pieces.{fits_front, fits_so, end_ink, parted_by}
 
 -- a character that is a token
 pub record IsTokenMark (c : ℕ) : Type 0 where
@@ -42,6 +49,11 @@ pub record IsTokenMark (c : ℕ) : Type 0 where
   pub nul : is_z c ≡ false
   pub directive : (c == percent_sign) ≡ false
   pub feed : (c == line_feed) ≡ false
+
+pub token_mark : (c : ℕ) → is_start c ≡ true → IsTokenMark c
+token_mark c h =
+    let ink = start_ink c h in
+    record { ink = ink; nul = start_nul c h; directive = start_directive c h; feed = no_feed c ink.break }
 
 pub mark_begins : (m : Marker) (c : ℕ) (o : List ℕ) → IsTokenMark c → IsClear m (c ∷ []) o → BeginsToken m (c ∷ o)
 mark_begins m c o h clear =
@@ -60,7 +72,7 @@ one_on m c ad low = let i = moved_index m (c ∷ []) in omega (arith, i, low)
 
 -- ## An opening bracket
 
--- behind an opening bracket
+-- after an opening bracket
 abbrev pub opened_collection : Marker → Known
 opened_collection m key allowed adjacent new =
     fresh_key m key allowed adjacent new × ((piece : Piece) × (new ≡ bare_place piece ∷ []))
@@ -84,7 +96,7 @@ open_passes around y in_flow kind ch mark begins m o fits parted now low calm be
     fits.right fits.calm in
     let key = saved v.allowed (length now.places) m v.key in
     let p = separates around.indent (cursor_at o (along m 1) false) parted.separation parted.first parted.others
-    parted.is parted.parts (le_next around.indent m.col fits.right) parted.ink in
+    parted.is parted.parts (le_next around.indent m.col fits.right) parted.ends in
     let stepped = λ (d : Bool). begins (slice_index o 0) (length now.places)
     (core_at around d (cursor_at (ch ∷ o) m v.blank) now.context v.key now.outer v.allowed now.adjacent)
     ∙ opening_steps_open y kind (length now.places) around d (cursor_at (ch ∷ o) m v.blank) now.context v.key now.outer
@@ -94,7 +106,7 @@ open_passes around y in_flow kind ch mark begins m o fits parted now low calm be
     let below = fits.below in
     let new = token_place m p.there.mark kind ∷ [] in
     let next = moment p.there y None (level_of now.context key ∷ now.outer) true now.adjacent now.places in
-    let came = step_comes around now m (ch ∷ o) v (mark_begins m ch o mark fits.clear) (moment_with new next)
+    let came = step_comes around now m (ch ∷ o) v (mark_begins m ch o mark fits.clear) None (moment_with new next)
     (from_to m p.there.mark kind ∷ []) (deepened around now.context) (bracket_deepens around now.context)
     stepped refl (within_index around.indent around.limit p.there (along m 1) o p.lands (omega (arith, below))) in (
       key,
@@ -116,7 +128,7 @@ abbrev pub pending : Bool → List Kind
 pending true = tokens.FlowMappingEnd ∷ []
 pending false = []
 
--- the places that a mark makes, behind the end of such a pair
+-- the places that a mark makes, after the end of such a pair
 abbrev pub mark_places : Bool → Marker → Marker → Kind → List Place
 mark_places true m e kind = bare_place (empty_piece m tokens.FlowMappingEnd) ∷ token_place m e kind ∷ []
 mark_places false m e kind = token_place m e kind ∷ []
@@ -132,7 +144,7 @@ pub mark_kinds : (ends : Bool) (m e : Marker) (kind : Kind)
 mark_kinds true m e kind = refl
 mark_kinds false m e kind = refl
 
--- Behind a collection the key is that of the level around it. Where blanks alone stand before a colon, it may stand at
+-- After a collection the key is that of the level around it. Where blanks alone come before a colon, it may be at
 -- once.
 pub record IsCollectionClosed (indent : ℕ) (x : Context) (j : Option Candidate) (m : Marker) (o : List ℕ)
     (key : Option Candidate)
@@ -159,7 +171,7 @@ abbrev reached : Marker → Result (SkipTabs × Cursor) Refusal → Marker
 reached m (Ok x) = x.1.mark
 reached m (Err e) = m
 
--- what blanks and a comment behind a token give is one place
+-- what blanks and a comment after a token give is one place
 one_place : (indent : ℕ) (s : Cursor) (found : SkipTabs) (there : Cursor) → separation Yes s ≡ Ok (found, there)
     → (w more : List ℕ) → s.rest ≡ w ++ (58 ∷ more) → IsSeparation indent w → indent ≤ s.mark.col
     → IsTrue (list_all is_blank w) → there.mark ≡ moved s.mark w
@@ -203,7 +215,7 @@ close_passes around y flows ends kind ch mark begins m o fits found there is lan
     let below = fits.below in
     let new = mark_places ends m there.mark kind in
     let next = moment there x j ls false (cond (is_block x) now.adjacent there.mark.index) now.places in
-    let came = step_comes around inside m (ch ∷ o) v (mark_begins m ch o mark fits.clear) (moment_with new next)
+    let came = step_comes around inside m (ch ∷ o) v (mark_begins m ch o mark fits.clear) None (moment_with new next)
     (behind_pair ends m (from_to m there.mark kind)) (λ d. d)
     (as_before around) stepped (mark_puts ends now.places m there.mark kind)
     (within_index around.indent around.limit there (along m 1) o lands (omega (arith, below))) in
@@ -225,3 +237,108 @@ close_passes around y flows ends kind ch mark begins m o fits found there is lan
           (lands ∙ ap (λ (q : Marker). past around.indent q o) here)
           (past_low around.indent there.mark there.rest));
     })
+
+in_flow : (y : Context) → is_block y ≡ false → is_block (behind_entry y) ≡ false
+in_flow context.Block e = absurd (true≢false e)
+in_flow context.FlowSequence e = refl
+in_flow context.FlowMapping e = refl
+in_flow context.FlowPair e = refl
+in_flow context.ExplicitFlowPair e = refl
+in_flow context.MarkedFlowPair e = refl
+
+next_entry_gives : (around : Around) (d : Bool) (o : List ℕ) (m : Marker) (b : Bool) (y : Context)
+    (k : Option Candidate)
+    (ls : List Level) (a : Bool) (ad : ℕ) → is_block y ≡ false → (found : SkipTabs) (there : Cursor)
+    → separation Yes (cursor_at o (along m 1) false) ≡ Ok (found, there)
+    → next_flow_entry (core_at around d (cursor_at (comma ∷ o) m b) y k ls a ad)
+    ≡ completed_step (behind_pair (ends_pair y) m (from_to m there.mark tokens.FlowEntry))
+    (core_at around d there (behind_entry y) k ls true ad)
+unfolding next_flow_entry
+next_entry_gives around d o m b y k ls a ad flows found there is =
+    let c : Core = record (core_at around d (cursor_at o (along m 1) false) (behind_entry y) k ls true ad)
+    { required = required_at around y } in
+    let same : required_at around y ≡ required_at around (behind_entry y) =
+    ap (λ (q : Bool). if q then around.pending else around.required) (flows ∙ sym (in_flow y flows)) in
+    ap (λ q. (q >>= λ (e : SkipTabs × Cursor). Ok (e.0, with_cursor e.1 c)) >>= λ (e : SkipTabs × Core). completed_step
+    (behind_pair (ends_pair y) m (up_to_here m tokens.FlowEntry e.1)) e.1) is
+    ∙ ap (λ (q : Bool). completed_step (behind_pair (ends_pair y) m (from_to m there.mark tokens.FlowEntry))
+    (record (core_at around d there (behind_entry y) k ls true ad) { required = q })) same
+
+removes : (around : Around) (d : Bool) (o : List ℕ) (m : Marker) (b : Bool) (y : Context) (k : Option Candidate)
+    (ls : List Level) (a : Bool) (ad : ℕ) → is_block y ≡ false
+    → flow.flow_entry_steps (core_at around d (cursor_at (comma ∷ o) m b) y k ls a ad)
+    ≡ next_flow_entry (core_at around d (cursor_at (comma ∷ o) m b) y None ls a ad)
+unfolding flow.flow_entry_steps remove_key
+removes around d o m b context.Block k ls a ad e = absurd (true≢false e)
+removes around d o m b context.FlowSequence k ls a ad e = refl
+removes around d o m b context.FlowMapping k ls a ad e = refl
+removes around d o m b context.FlowPair k ls a ad e = refl
+removes around d o m b context.ExplicitFlowPair k ls a ad e = refl
+removes around d o m b context.MarkedFlowPair k ls a ad e = refl
+
+comma_is_mark : IsTokenMark 44
+comma_is_mark = record {
+  ink = record { blank = refl; break = refl; comment = refl; byte_order_mark = refl };
+  nul = refl;
+  directive = refl;
+  feed = refl;
+}
+
+-- A comma ends a pair that has no bracket of its own, and after it a key may begin.
+pub comma_passes : (around : Around) (y : Context) → is_block y ≡ false → (m : Marker) (o : List ℕ)
+    → FitsAround around m (comma ∷ []) o → IsParted around.indent o → (now : FlowMoment) → now.adjacent ≤ m.index
+    → StandsBefore around now m (comma ∷ o)
+    → PassesPiece around (state_at around (moment_in y now)) (fresh_key (moved m (comma ∷ []))) (behind_entry y)
+    now.outer
+    now.places (moved m (comma ∷ [])) o (pending (ends_pair y) ++ tokens.FlowEntry ∷ [])
+comma_passes around y flows m o fits parted now before text =
+    let v = arrives around (moment_in y now) m (44 ∷ o) (text ∙ past_ink around.indent m 44 o comma_is_mark.ink) refl
+    fits.right fits.calm in
+    let p = separates around.indent (cursor_at o (along m 1) false) parted.separation parted.first parted.others
+    parted.is parted.parts (le_next around.indent m.col fits.right) parted.ends in
+    let stepped = λ (d : Bool). comma_begins (slice_index o 0) (length now.places)
+    (core_at around d (cursor_at (44 ∷ o) m v.blank) y v.key now.outer v.allowed now.adjacent)
+    ∙ removes around d o m v.blank y v.key now.outer v.allowed now.adjacent flows
+    ∙ next_entry_gives around d o m v.blank y None now.outer v.allowed now.adjacent flows p.found p.there p.is in
+    let below = fits.below in
+    let new = mark_places (ends_pair y) m p.there.mark tokens.FlowEntry in
+    let next = moment p.there (behind_entry y) None now.outer true now.adjacent now.places in
+    let came = step_comes around (moment_in y now) m (44 ∷ o) v (mark_begins m 44 o comma_is_mark fits.clear) None
+    (moment_with new next) (behind_pair (ends_pair y) m
+    (from_to m p.there.mark tokens.FlowEntry)) (λ d. d) (as_before around) stepped
+    (mark_puts (ends_pair y) now.places m p.there.mark tokens.FlowEntry)
+    (within_index around.indent around.limit p.there (along m 1) o p.lands (omega (arith, below))) in
+    step_passes next new (moved m (44 ∷ [])) o (pending (ends_pair y)
+    ++ tokens.FlowEntry ∷ []) (fresh_key (moved m (44 ∷ []))) came (right_one around.indent m 44 refl fits.right)
+    (p.lands ∙ ap (λ (q : Marker). past around.indent q o) (mark_moved m 44 comma_is_mark))
+    (fresh_in_flow (behind_entry y) o true p.there (in_flow y flows))
+    (mark_kinds (ends_pair y) m p.there.mark tokens.FlowEntry)
+    (came.same (in_flow y flows), refl, one_on m 44 now.adjacent before)
+
+-- with the separation after it
+pub comma_behind : (around : Around) (y z : Context) → is_block y ≡ false → behind_entry y ≡ z
+    → (m : Marker) (comma o : List ℕ) → IsComma around.indent comma → FitsAround around m comma o → BeginsInk o
+    → (now : FlowMoment) → now.adjacent ≤ (past around.indent m (comma ++ o)).0.index
+    → StandsBefore around now m (comma ++ o)
+    → PassesPiece around (state_at around (moment_in y now)) (fresh_key (moved m comma)) z now.outer now.places
+    (moved m comma) o (pending (ends_pair y) ++ tokens.FlowEntry ∷ [])
+comma_behind around y z flows back m comma o (separation, parts, e) fits b now before text =
+    let whole = fits_so m comma ((44 ∷ []) ++ separation) o e fits in
+    let f = fits_front m (44 ∷ []) separation o whole in
+    let texts : comma ++ o ≡ 44 ∷ (separation ++ o) = ap (λ (t : List ℕ). t ++ o) e in
+    let parted = parted_by around.indent separation o parts b in
+    let here : past around.indent m (comma ++ o) ≡ (m, 44 ∷ (separation ++ o)) =
+    ap (past around.indent m) texts ∙ past_ink around.indent m 44 (separation ++ o) (end_ink 44 (inl refl)) in
+    let low : now.adjacent ≤ m.index = subst (λ (q : Marker × List ℕ). now.adjacent ≤ q.0.index) here before in
+    let p = separation_joins (moved m (44 ∷ [])) separation o parts
+    (comma_passes around y flows m (separation ++ o) f parted now low (text ∙ ap (past around.indent m) texts)) in
+    let q = knowing p (fresh_key (moved m (44 ∷ separation)))
+    (p.knows.0, p.knows.1, less_on p.adjacent (moved m (44 ∷ [])) separation p.knows.2) in
+    let start = state_at around (moment_in y now) in
+    let ts = pending (ends_pair y) ++ tokens.FlowEntry ∷ [] in
+    let r = subst (λ (t : List ℕ). PassesPiece around start (fresh_key (moved m t)) (behind_entry y) now.outer
+    now.places
+    (moved m t) o ts) (sym e) q in
+    subst (λ (x : Context). PassesPiece around start (fresh_key (moved m comma)) x now.outer now.places (moved m comma)
+    o ts)
+    back r

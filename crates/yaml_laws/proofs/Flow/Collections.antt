@@ -1,6 +1,6 @@
 -- Collections in brackets and braces, given the run over what is inside them.
 pub mod Runs
-use Rattle.std.proofs.Common.{◌≡◌, ℕ, ◌<◌, ◌≤◌, Bool, true, false, List, [], ◌∷◌, ◌++◌, length, Ok, sym, ap, ◌∙◌, subst, append_assoc, IsTrue}
+use Rattle.std.proofs.Common.{◌≡◌, ℕ, ◌<◌, ◌≤◌, Bool, true, false, List, [], ◌∷◌, ◌++◌, length, Ok, refl, sym, ap, ◌∙◌, subst, append_assoc, IsTrue, inl, inr}
 use Rattle.std.specs.Prelude.{Option, None}
 use Rattle.std.specs.List.{list_all}
 use Rattle.saphyr_input.specs.Indicators.{colon}
@@ -13,11 +13,12 @@ use Rattle.saphyr_scalar.proofs.Given.{cursor_at}
 use Rattle.scalar_laws.specs.Spelling.Spaces.{IsSeparation}
 use Rattle.saphyr_scanner.specs.declared.engine.level.Context.{Context}
 use Rattle.saphyr_scanner.specs.declared.engine.level.Context.TheVariants as context
+use Rattle.saphyr_scanner.specs.Grammar.Tokens as tokens
 use Rattle.saphyr_scanner.specs.Grammar.Tokens.{Kind}
 use Rattle.saphyr_scanner.specs.Views.Tokens.{Piece}
 use Rattle.saphyr_scanner.specs.Steps.Queue.{Place, bare_place}
 use Rattle.saphyr_scanner.specs.Steps.Core.{Core}
-use Rattle.saphyr_scanner.specs.Steps.Level.{Candidate, Level, is_block, ends_pair}
+use Rattle.saphyr_scanner.specs.Steps.Level.{Candidate, Level, is_block, behind_entry, ends_pair}
 use Rattle.saphyr_scanner.specs.Steps.Flow as flow
 use Rattle.saphyr_scanner.specs.Steps.Flow.{close_collection}
 use Rattle.saphyr_scanner.specs.Steps.State.{State}
@@ -30,15 +31,18 @@ use Rattle.yaml_laws.proofs.Flow.GapSteps.{past_ink, less_on}
 use Rattle.yaml_laws.proofs.Flow.Fillers.{rest_past}
 use Rattle.yaml_laws.proofs.Flow.Separates.{separates, separates_rest}
 use Rattle.yaml_laws.proofs.Flow.Joins.{join, separation_joins}
-use Rattle.yaml_laws.proofs.Flow.Brackets.{IsTokenMark, open_passes, pending, close_passes}
+use Rattle.yaml_laws.proofs.Flow.Brackets.{IsTokenMark, open_passes, pending, close_passes, token_mark}
 use Rattle.yaml_laws.proofs.InBlock.Crossings.{fresh_in_flow, line_rest_crosses}
-use Rattle.yaml_laws.proofs.Flow.Pieces.{fits_front, fits_back, fits_before}
+use Rattle.yaml_laws.proofs.Flow.Pieces.{EndsEntry, fits_front, fits_back, fits_before}
 use Rattle.saphyr_input.proofs.Basics.Numbers.{le_next}
+use Rattle.std.proofs.lemmas.Bool.{true≢false}
+use Rattle.saphyr_scanner.proofs.Steps.Choice.{begins_sequence, begins_mapping}
 use Rattle.saphyr_scanner.proofs.Levels.{level_of}
+use Rattle.yaml_laws.proofs.Flow.Inks.{is_start}
 
--- ## Behind the closing bracket
+-- ## After the closing bracket
 
--- what blanks and a comment behind a bracket at m give
+-- what blanks and a comment after a bracket at m give
 pub record EndsAt (indent : ℕ) (x : Context) (m : Marker) (o : List ℕ) : Type 0 where
   pub found : SkipTabs
   pub there : Cursor
@@ -50,7 +54,7 @@ pub ends_inside : (indent : ℕ) (x : Context) (m : Marker) (o : List ℕ) → i
     → indent ≤ m.col → EndsAt indent x m o
 ends_inside indent x m o flow h right =
     let p = separates indent (cursor_at o (along m 1) false) h.separation h.first h.others h.is h.parts
-    (le_next indent m.col right) h.ink in
+    (le_next indent m.col right) h.ends in
     record {
       found = p.found;
       there = p.there;
@@ -74,14 +78,13 @@ ends_root indent m e o h right =
 
 -- ## The brackets and what is inside
 
--- the run over what is inside, up to the closing bracket ch
-pub record InsidePasses (around : Around) (start : Bool → State) (Is : List Kind → Type 0) (ch : ℕ) (kind : Kind)
+-- The run over something inside brackets of the context inner. A pair that has no bracket of its own is open after it,
+-- and ends with what comes after.
+pub record InsidePasses (around : Around) (start : Bool → State) (inner : Context) (Is : List Kind → Type 0)
     (ls : List Level) (ps : List Place) (m : Marker) (o : List ℕ) : Type 0 where
   pub inside : Context
   pub flows : is_block inside ≡ false
-  pub closes : (second i : ℕ) (d : Bool) (s : Cursor) (k : Option Candidate) (ms : List Level) (a : Bool) (ad : ℕ)
-      → step ch second i (core_at around d s inside k ms a ad)
-      ≡ close_collection (ends_pair inside) kind (core_at around d s inside k ms a ad)
+  pub back : behind_entry inside ≡ inner
   pub tokens : List Kind
   pub are : Is (tokens ++ pending (ends_pair inside))
   pub passes : PassesPiece around start (ended around.indent m o) inside ls ps m o tokens
@@ -96,11 +99,84 @@ pub record Brackets : Type 0 where
 
 pub record AreBrackets (b : Brackets) : Type 0 where
   pub flows : is_block b.context ≡ false
-  pub opening_mark : IsTokenMark b.opening
+  pub back : behind_entry b.context ≡ b.context
+  pub none : ends_pair b.context ≡ false
+  pub ends : EndsEntry b.closing
+  pub start : is_start b.opening ≡ true
   pub closing_mark : IsTokenMark b.closing
   pub begins : (second i : ℕ) (c : Core) → step b.opening second i c ≡ flow.opening_steps b.context b.opens i c
+  pub shuts : (around : Around) (z : Context) → is_block z ≡ false → behind_entry z ≡ b.context → (second i : ℕ)
+      (d : Bool) (s : Cursor) (k : Option Candidate) (ms : List Level) (a : Bool) (ad : ℕ)
+      → step b.closing second i (core_at around d s z k ms a ad)
+      ≡ close_collection (ends_pair z) b.closes (core_at around d s z k ms a ad)
 
--- Behind a collection: as behind a node, of which blanks alone stand before a colon that may stand at once.
+abbrev pub square : Brackets
+square = record {
+  context = context.FlowSequence;
+  opening = 91;
+  closing = 93;
+  opens = tokens.FlowSequenceStart;
+  closes = tokens.FlowSequenceEnd;
+}
+
+abbrev pub curly : Brackets
+curly = record {
+  context = context.FlowMapping;
+  opening = 123;
+  closing = 125;
+  opens = tokens.FlowMappingStart;
+  closes = tokens.FlowMappingEnd;
+}
+
+shuts_square : (around : Around) (z : Context) → is_block z ≡ false → behind_entry z ≡ context.FlowSequence
+    → (second i : ℕ) (d : Bool) (s : Cursor) (k : Option Candidate) (ms : List Level) (a : Bool) (ad : ℕ)
+    → step 93 second i (core_at around d s z k ms a ad)
+    ≡ close_collection (ends_pair z) tokens.FlowSequenceEnd (core_at around d s z k ms a ad)
+unfolding step flow.closing_steps
+shuts_square around context.Block e back second i d s k ms a ad = absurd (true≢false e)
+shuts_square around context.FlowSequence e back second i d s k ms a ad = refl
+shuts_square around context.FlowMapping e back second i d s k ms a ad = refl
+shuts_square around context.FlowPair e back second i d s k ms a ad = refl
+shuts_square around context.ExplicitFlowPair e back second i d s k ms a ad = refl
+shuts_square around context.MarkedFlowPair e back second i d s k ms a ad = refl
+
+shuts_curly : (around : Around) (z : Context) → is_block z ≡ false → behind_entry z ≡ context.FlowMapping
+    → (second i : ℕ) (d : Bool) (s : Cursor) (k : Option Candidate) (ms : List Level) (a : Bool) (ad : ℕ)
+    → step 125 second i (core_at around d s z k ms a ad)
+    ≡ close_collection (ends_pair z) tokens.FlowMappingEnd (core_at around d s z k ms a ad)
+unfolding step flow.closing_steps
+shuts_curly around context.Block e back second i d s k ms a ad = absurd (true≢false e)
+shuts_curly around context.FlowSequence e back second i d s k ms a ad = absurd (cc)
+shuts_curly around context.FlowMapping e back second i d s k ms a ad = refl
+shuts_curly around context.FlowPair e back second i d s k ms a ad = absurd (cc)
+shuts_curly around context.ExplicitFlowPair e back second i d s k ms a ad = absurd (cc)
+shuts_curly around context.MarkedFlowPair e back second i d s k ms a ad = absurd (cc)
+
+pub are_square : AreBrackets square
+are_square = record {
+  flows = refl;
+  back = refl;
+  none = refl;
+  ends = inr (inl refl);
+  start = refl;
+  closing_mark = token_mark 93 refl;
+  begins = begins_sequence;
+  shuts = shuts_square;
+}
+
+pub are_curly : AreBrackets curly
+are_curly = record {
+  flows = refl;
+  back = refl;
+  none = refl;
+  ends = inr (inr refl);
+  start = refl;
+  closing_mark = token_mark 125 refl;
+  begins = begins_mapping;
+  shuts = shuts_curly;
+}
+
+-- After a collection: as after a node, of which blanks alone come before a colon that may come at once.
 pub record IsBracketed (indent : ℕ) (x : Context) (kept : KeptKey) (m : Marker) (o : List ℕ) (key : Option Candidate)
     (adjacent : ℕ) (new : List Place) : Type 0 where
   pub piece : Piece
@@ -125,10 +201,10 @@ abbrev pub RunsInside : Around → (List Kind → Type 0) → Brackets → Conte
 RunsInside around Is b x ls m inside o =
     (j : Option Candidate) (now : FlowMoment) → now.key ≡ None → now.allowed ≡ true → now.adjacent < m.index
     → around.indent ≤ m.col → StandsBefore around now m (inside ++ (b.closing ∷ o))
-    → InsidePasses around (state_at around (record now { context = b.context; outer = level_of x j ∷ ls })) Is b.closing
-    b.closes (level_of x j ∷ ls) now.places (moved m inside) (b.closing ∷ o)
+    → InsidePasses around (state_at around (record now { context = b.context; outer = level_of x j ∷ ls })) b.context Is
+    (level_of x j ∷ ls) now.places (moved m inside) (b.closing ∷ o)
 
--- the run over a collection whose text t stands at m before o
+-- the run over a collection whose text t is at m before o
 pub record BracketsPass (around : Around) (now : FlowMoment) (Is : List Kind → Type 0) (b : Brackets) (m : Marker)
     (t o : List ℕ) : Type 0 where
   pub inside : List Kind
@@ -137,7 +213,7 @@ pub record BracketsPass (around : Around) (now : FlowMoment) (Is : List Kind →
       (bracketed around.indent now.context (keeping now m t) (moved m t) o) now.context now.outer now.places (moved m t)
       o (b.opens ∷ (inside ++ b.closes ∷ []))
 
--- a token of its own is the first, and no colon may stand at once from n on
+-- a token of its own is the first, and no colon may come at once from n on
 abbrev starts_with : Piece → ℕ → Known
 starts_with piece n key allowed adjacent new = ((others : List Place) × (new ≡ bare_place piece ∷ others))
     × (adjacent ≤ n)
@@ -166,7 +242,7 @@ brackets_pass around Is b are m w inside o fits parts parted now low calm before
     let here = moved m (b.opening ∷ w) in
     let texts : bracket_text b w inside ++ o ≡ b.opening ∷ (w ++ (inside ++ (b.closing ∷ o))) =
     append_assoc (b.opening ∷ w) (inside ++ close) o ∙ ap (λ (t : List ℕ). b.opening ∷ (w ++ t)) follow in
-    let opened = open_passes around b.context are.flows b.opens b.opening are.opening_mark are.begins m
+    let opened = open_passes around b.context are.flows b.opens b.opening (token_mark b.opening are.start) are.begins m
     (w ++ (inside ++ (b.closing ∷ o))) opening_fits parted
     now low calm before (text ∙ ap (past around.indent m) texts) in
     let j = opened.0 in
@@ -182,7 +258,8 @@ brackets_pass around Is b are m w inside o fits parts parted now low calm before
     (past_ink around.indent at_end b.closing o are.closing_mark.ink) r.passes.knows in
     let q = join p r.passes (starts_with piece at_end.index)
     ((r.passes.new, ap (λ (z : List Place). z ++ r.passes.new) p.knows.1.1), first_ended) in
-    let c = close_passes around r.inside r.flows (ends_pair r.inside) b.closes b.closing are.closing_mark r.closes
+    let c = close_passes around r.inside r.flows (ends_pair r.inside) b.closes b.closing are.closing_mark
+    (are.shuts around r.inside r.flows r.back)
     at_end o closing_fits at_close.found at_close.there at_close.is at_close.lands
     j now.context now.outer (after q) at_close.fresh calm q.knows.1 q.fits in
     let end = moved at_end close in

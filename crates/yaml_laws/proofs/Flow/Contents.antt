@@ -1,6 +1,6 @@
--- The content of a scalar in flow style is passed, behind its properties or without any.
+-- The content of a scalar in flow style is passed, after its properties or without any.
 use Rattle.std.proofs.Common.{◌≡◌, ℕ, ◌<◌, ◌≤◌, true, false, List, [], ◌∷◌, ◌++◌, slice_index, refl, sym, ap, ◌∙◌, arith, subst, IsTrue, inl, inr}
-use Rattle.std.specs.Prelude.{◌==◌, Option}
+use Rattle.std.specs.Prelude.{◌==◌}
 use Rattle.std.proofs.lemmas.Bool.Decides.{nat_tests}
 use Rattle.saphyr_input.specs.Classes.{is_blank, is_blank_or_breakz}
 use Rattle.std.proofs.lemmas.Bool.{false≢true}
@@ -9,18 +9,14 @@ use Rattle.saphyr_scalar.specs.declared.scalar.position.Marker.{Marker}
 use Rattle.saphyr_values.specs.declared.flow.Quote.{Quote}
 use Rattle.saphyr_values.specs.declared.flow.Quote.TheVariants.{Single, Double}
 use Rattle.scalar_laws.specs.Spelling.Spaces.{IsSeparation}
-use Rattle.saphyr_scanner.specs.declared.engine.level.Context.{Context}
 use Rattle.saphyr_scanner.specs.Grammar.Tokens.{scalar_token}
-use Rattle.saphyr_scanner.specs.Views.Tokens.{Piece}
-use Rattle.saphyr_scanner.specs.Steps.Queue.{Place, bare_place}
-use Rattle.saphyr_scanner.specs.Steps.Level.{Candidate, is_block}
+use Rattle.saphyr_scanner.specs.Steps.Level.{is_block}
 use Rattle.saphyr_scanner.specs.Grammar.Forest.{Style, Plain, SingleQuoted, DoubleQuoted, Literal, Folded, Properties, Node, Scalar}
-use Rattle.yaml_laws.specs.Grammar.FlowNodes.{allows_adjacent}
 use Rattle.saphyr_values.specs.Flow.{plain_value}
 use Rattle.yaml_laws.specs.Grammar.FlowScalars.{IsPlainKey, IsQuoted, IsFlowScalar}
 use Rattle.yaml_laws.proofs.InFlow.States.{Around, state_at, FlowMoment, root_moment}
 use Rattle.yaml_laws.proofs.InFlow.Tabs.{lands_on_ink}
-use Rattle.yaml_laws.proofs.Flow.States.{moved, past, IsBehindNode, IsBehindRoot, ReaderPromises, Known, PassesPiece, Closes, FitsAround, StandsBefore, key_behind}
+use Rattle.yaml_laws.proofs.Flow.States.{moved, past, IsBehindNode, IsBehindRoot, ReaderPromises, PassesPiece, Closes, FitsAround, after_node, StandsBefore, key_behind}
 use Rattle.yaml_laws.proofs.Flow.GapSteps.{past_ink, less_behind}
 use Rattle.yaml_laws.proofs.Flow.Fillers.{separation_past}
 use Rattle.yaml_laws.proofs.Flow.Joins.{closes_unnoted, knowing}
@@ -31,25 +27,12 @@ use Rattle.yaml_laws.proofs.Flow.Plains.{plain_passes, plain_key_passes, plain_c
 use Rattle.yaml_laws.proofs.Flow.Words.{plain_right, key_right}
 use Rattle.yaml_laws.proofs.Flow.Quoted.{quoted_right}
 
--- What is known behind the content of a node, which ends at m before o: it is one token.
-pub record IsBehindContent (indent : ℕ) (x : Context) (kept : Option Candidate) (node : Node) (m : Marker) (o : List ℕ)
-    (key : Option Candidate) (adjacent : ℕ) (new : List Place) : Type 0 where
-  pub piece : Piece
-  pub is : new ≡ bare_place piece ∷ []
-  pub keeps : is_block x ≡ false → key ≡ kept
-  pub near : (separation more : List ℕ) → o ≡ separation ++ (colon ∷ more) → IsSeparation indent separation
-      → IsTrue (allows_adjacent node separation) → adjacent ≡ (moved m separation).index
-  pub low : adjacent ≤ (past indent m o).0.index
-
-abbrev pub behind_content : ℕ → Context → Option Candidate → Node → Marker → List ℕ → Known
-behind_content indent x kept node m o key allowed adjacent new = IsBehindContent indent x kept node m o key adjacent new
-
 -- what is shown of the content of a scalar inside flow
 abbrev pub PassesContent : Around → Node → Style → List ℕ → List ℕ → List ℕ → Marker → Type 0
 PassesContent around node style value t o m =
     (now : FlowMoment) → is_block now.context ≡ false → now.adjacent < m.index → StandsBefore around now m (t ++ o)
     → PassesPiece around (state_at around now)
-    (behind_content around.indent now.context (key_behind now m) node (moved m t) o) now.context now.outer now.places
+    (after_node around.indent now.context (key_behind now m) node (moved m t) o) now.context now.outer now.places
     (moved m t) o (scalar_token style value ∷ [])
 
 -- ## Quotes
@@ -84,14 +67,15 @@ quotes_pass reads around node quote value t o m h fits behind now flow low text 
     let q = quoted_passes reads around quote value t o m h fits
     (node_apart node (slice_index o 0) (behind_node_first around.indent node o behind)) now
     (flow_ends_quotes around node m (moved m t) o now.context flow behind right) text in
-    knowing q (behind_content around.indent now.context (key_behind now m) node (moved m t) o)
+    knowing q (after_node around.indent now.context (key_behind now m) node (moved m t) o)
     (record {
       piece = q.knows.piece;
+      others = [];
       is = q.knows.is;
       keeps = q.knows.keeps;
-      near = λ separation more is parts allows. q.knows.tells
+      near = λ _ separation more is parts allows. q.knows.tells
           ∙ colon_place around.indent (moved m t) o separation more is parts right;
-      low = same_low q.adjacent (past around.indent (moved m t) o).0.index q.knows.tells;
+      low = λ _. same_low q.adjacent (past around.indent (moved m t) o).0.index q.knows.tells;
     })
 
 -- what is shown of the content of a document's node
@@ -128,15 +112,16 @@ plains_pass reads around p value t o m h fits behind now flow low text =
     let q = plain_passes reads around t o m h.0 fits
     (ends_in_flow around.indent node (moved m t) o (λ w. refl) behind right) inked now flow low text in
     subst (λ (v : List ℕ). PassesPiece around (state_at around now)
-    (behind_content around.indent now.context (key_behind now m) node (moved m t) o) now.context now.outer now.places
+    (after_node around.indent now.context (key_behind now m) node (moved m t) o) now.context now.outer now.places
     (moved m t) o (scalar_token Plain v ∷ [])) (sym h.1)
-    (knowing q (behind_content around.indent now.context (key_behind now m) node (moved m t) o)
+    (knowing q (after_node around.indent now.context (key_behind now m) node (moved m t) o)
     (record {
       piece = q.knows.piece;
+      others = [];
       is = q.knows.is;
       keeps = q.knows.keeps;
-      near = λ separation more is parts allows. absurd (false≢true allows);
-      low = subst (λ (n : ℕ). n ≤ (past around.indent (moved m t) o).0.index) (sym q.knows.tells)
+      near = λ _ separation more is parts allows. absurd (false≢true allows);
+      low = λ _. subst (λ (n : ℕ). n ≤ (past around.indent (moved m t) o).0.index) (sym q.knows.tells)
           (less_behind around.indent now.adjacent m t o low);
     }))
 
@@ -151,15 +136,16 @@ key_content_passes reads around p value t r m stands h fits behind now flow low 
     let q = plain_key_passes reads around t r m h fits
     (ends_in_flow around.indent node (moved m t) (58 ∷ r) (λ w. refl) behind right) now flow low text in
     subst (λ (v : List ℕ). PassesPiece around (state_at around now)
-    (behind_content around.indent now.context (key_behind now m) node (moved m t) (58 ∷ r)) now.context now.outer
+    (after_node around.indent now.context (key_behind now m) node (moved m t) (58 ∷ r)) now.context now.outer
     now.places (moved m t) (58 ∷ r) (scalar_token Plain v ∷ [])) (sym stands)
-    (knowing q (behind_content around.indent now.context (key_behind now m) node (moved m t) (58 ∷ r))
+    (knowing q (after_node around.indent now.context (key_behind now m) node (moved m t) (58 ∷ r))
     (record {
       piece = q.knows.piece;
+      others = [];
       is = q.knows.is;
       keeps = q.knows.keeps;
-      near = λ separation more is parts allows. absurd (false≢true allows);
-      low = subst (λ (n : ℕ). n ≤ (past around.indent (moved m t) (58 ∷ r)).0.index) (sym q.knows.tells)
+      near = λ _ separation more is parts allows. absurd (false≢true allows);
+      low = λ _. subst (λ (n : ℕ). n ≤ (past around.indent (moved m t) (58 ∷ r)).0.index) (sym q.knows.tells)
           (less_behind around.indent now.adjacent m t (58 ∷ r) low);
     }))
 

@@ -1,4 +1,4 @@
--- What stands first behind a piece of a text in flow style.
+-- What comes first after a piece of a text in flow style.
 use Rattle.std.proofs.Common.{◌≡◌, ◌≢◌, ℕ, Bool, true, false, List, [], ◌∷◌, ◌++◌, slice_index, refl, sym, ap, ◌∙◌, arith, subst, append_assoc, IsTrue, ◌⊎◌, inl, inr}
 use Rattle.std.specs.Prelude.{◌||◌, ◌&&◌, not}
 use Rattle.std.proofs.lemmas.Bool.Decides.{nat_tests}
@@ -27,7 +27,7 @@ blanks_white : (w : List ℕ) → AreIn is_blank w → BeginsWhite w
 blanks_white [] h = tt
 blanks_white (c ∷ cs) h = blank_white c h.0
 
--- a comment stands behind white space alone
+-- a comment comes after white space alone
 behind_white : (w comment more : List ℕ) → BeginsWhite w → IsCommentBehind w comment → BeginsWhite more
     → BeginsWhite (w ++ (comment ++ more))
 behind_white (c ∷ cs) comment more h k g = h
@@ -56,7 +56,7 @@ rest_white rest more h k =
     subst BeginsWhite (sym (ap (λ (y : List ℕ). y ++ more) h.4 ∙ append_assoc h.0 h.1 more))
     (behind_white h.0 h.1 more (blanks_white h.0 h.2) h.3 k)
 
--- ## The first character behind a node
+-- ## The first character after a node
 
 white_breakz : (c : ℕ) → IsTrue (is_blank_or_break c) → IsTrue (is_blank_or_breakz c)
 white_breakz c h = grind (arith, nat_tests)
@@ -65,7 +65,7 @@ pub first_white : (w : List ℕ) → BeginsWhite w → IsTrue (is_blank_or_break
 first_white [] h = refl
 first_white (c ∷ cs) h = white_breakz c h
 
--- behind a document's node: a blank, a break or the end
+-- after a document's node: a blank, a break or the end
 pub root_first : (indent : ℕ) (m : Marker) (o : List ℕ) → IsBehindRoot indent m o
     → IsTrue (is_blank_or_breakz (slice_index o 0))
 root_first indent m o h =
@@ -79,7 +79,7 @@ root_first indent m o h =
     ends (c ∷ cs) (inl e) = absurd (cc)
     ends (c ∷ cs) (inr e) = feed c e
 
--- behind separation that is not empty
+-- after separation that is not empty
 pub ends_behind_separation : (indent : ℕ) (w y : List ℕ) → IsSeparation indent w → w ≢ []
     → IsTrue (is_blank_or_breakz (slice_index (w ++ y) 0))
 ends_behind_separation indent w y h some = by_first w some (separation_white indent w h)
@@ -88,7 +88,7 @@ ends_behind_separation indent w y h some = by_first w some (separation_white ind
     by_first [] some k = absurd (some refl)
     by_first (c ∷ cs) some k = white_breakz c k
 
--- the character right behind a node inside flow
+-- the character right after a node inside flow
 abbrev pub EndsHere : Node → ℕ → Type 0
 EndsHere node c = IsTrue (is_blank_or_breakz c)
     ⊎ ((c ≡ 44) ⊎ ((c ≡ 93) ⊎ ((c ≡ 125) ⊎ ((c ≡ 58) × IsTrue (not (needs_separation node))))))
@@ -133,7 +133,7 @@ tag_ends_name in_flow o h =
 pub white_ends_tag : (in_flow : Bool) (o : List ℕ) → IsTrue (is_blank_or_breakz (slice_index o 0)) → EndsTag in_flow o
 white_ends_tag in_flow o h = or_left (is_blank_or_breakz (slice_index o 0)) (in_flow && is_flow (slice_index o 0)) h
 
--- behind a node that needs separation before a colon
+-- after a node that needs separation before a colon
 pub node_ends_tag : (indent : ℕ) (node : Node) (o : List ℕ) → IsTrue (needs_separation node)
     → IsBehindNode indent node o → EndsTag true o
 node_ends_tag indent node o needs h = by_first (slice_index o 0) (behind_node_first indent node o h)

@@ -1,7 +1,6 @@
 -- The entries of braces and of brackets inside flow.
 use Rattle.std.proofs.Common.{◌≡◌, ℕ, ◌+◌, ◌<◌, ◌≤◌, Bool, true, false, List, [], ◌∷◌, ◌++◌, length, refl, sym, ap, ◌∙◌, subst, append_assoc, append-nil, ◌⊎◌, inl, inr}
 use Rattle.std.specs.Prelude.{None}
-use Rattle.saphyr_input.specs.Indicators.{comma, right_brace, right_bracket}
 use Rattle.saphyr_input.specs.Classes.{is_blank}
 use Rattle.saphyr_scalar.specs.declared.scalar.position.Marker.{Marker}
 use Rattle.saphyr_scalar.specs.Views.Cursor.{along}
@@ -13,7 +12,7 @@ use Rattle.saphyr_scanner.specs.Grammar.Tokens as tokens
 use Rattle.saphyr_scanner.specs.Grammar.Tokens.{Kind}
 use Rattle.saphyr_scanner.specs.Grammar.TokenGrammar as grammar
 use Rattle.saphyr_scanner.specs.Steps.Queue.{Place}
-use Rattle.saphyr_scanner.specs.Steps.Level.{Level, is_block, behind_entry, ends_pair}
+use Rattle.saphyr_scanner.specs.Steps.Level.{Level}
 use Rattle.saphyr_scanner.specs.Steps.State.{State}
 use Rattle.saphyr_scanner.specs.Grammar.Forest.{no_properties, Node, Map, NoPair, MorePairs}
 use Rattle.saphyr_scanner.specs.Limits.{most_open}
@@ -24,18 +23,28 @@ use Rattle.yaml_laws.proofs.Flow.Places.{moved_append, moved_along}
 use Rattle.yaml_laws.proofs.Flow.Fillers.{separation_past}
 use Rattle.yaml_laws.proofs.Flow.Separates.{blanks_moved}
 use Rattle.yaml_laws.proofs.Flow.Joins.{separation_joins, knowing}
-use Rattle.yaml_laws.proofs.Flow.Brackets.{pending}
-use Rattle.yaml_laws.proofs.Flow.Pieces.{fits_front, fits_so, IsBehindEntry, entry_behind, wider_entry}
-use Rattle.yaml_laws.proofs.Flow.Pairs.{TellsPiece, told_at, told_so, key_passes, alone_passes}
+use Rattle.yaml_laws.proofs.Flow.Pieces.{EndsEntry, fits_front, fits_so, IsBehindEntry, entry_behind, wider_entry}
+use Rattle.yaml_laws.proofs.Flow.Pairs.{TellsPiece, told_so, key_passes, alone_passes}
+use Rattle.yaml_laws.proofs.Flow.Collections.{InsidePasses}
 use Rattle.yaml_laws.proofs.Flow.MarkedPairs.{MarkedTokens, IsMarked, explicit_passes, lone_passes}
 
--- ## In braces
+-- ## A piece before the end of an entry
 
-in_braces : IsMarked context.FlowMapping context.FlowMapping
-in_braces = record { flows = refl; question = refl; inside = refl; no_pair = refl; colon = refl }
+-- A text of Text before what ends an entry, where a key may begin, is passed in brackets of the context inner.
+abbrev pub PassesText : Around → Context → ℕ → (List ℕ → Type 0) → (List Kind → Type 0) → Type 0
+PassesText around inner room Text Is =
+    (m : Marker) (t o : List ℕ) → FitsAround around m t o → IsBehindEntry around.indent o → Text t
+    → (now : FlowMoment) → now.key ≡ None → now.allowed ≡ true → room + length now.outer ≤ most_open
+    → now.adjacent < m.index → StandsBefore around now m (t ++ o)
+    → InsidePasses around (state_at around (moment_in inner now)) inner Is now.outer now.places (moved m t) o
 
-in_brackets : IsMarked context.FlowSequence context.ExplicitFlowPair
-in_brackets = record { flows = refl; question = refl; inside = refl; no_pair = refl; colon = refl }
+-- the same of an entry, with the separation after it
+abbrev pub PassesEntry : Around → Context → ℕ → (List ℕ → Type 0) → (List Kind → Type 0) → Type 0
+PassesEntry around inner room Text Is =
+    (m : Marker) (t : List ℕ) (c : ℕ) (cs : List ℕ) → FitsAround around m t (c ∷ cs) → EndsEntry c → Text t
+    → (now : FlowMoment) → now.key ≡ None → now.allowed ≡ true → room + length now.outer ≤ most_open
+    → now.adjacent < m.index → StandsBefore around now m (t ++ (c ∷ cs))
+    → InsidePasses around (state_at around (moment_in inner now)) inner Is now.outer now.places (moved m t) (c ∷ cs)
 
 ended_behind : {around : Around} {start : Bool → State} {x : Context} {ls : List Level} {ps : List Place}
     {ts : List Kind} (m : Marker) (w o : List ℕ) → IsSeparation around.indent w
@@ -47,10 +56,47 @@ ended_behind {around = around} m w o parts p =
     (subst (λ (r : Marker × List ℕ). q.adjacent ≤ r.0.index) (separation_past around.indent m w o parts p.right)
     q.knows)
 
-told_behind : {around : Around} {start : Bool → State} {Is : List Kind → Type 0} {x : Context} {ls : List Level}
-    {ps : List Place} (m : Marker) (w o : List ℕ) → IsSeparation around.indent w
-    → TellsPiece around start Is x ls ps m (w ++ o) → TellsPiece around start Is x ls ps (moved m w) o
-told_behind m w o parts t = record { tokens = t.tokens; are = t.are; passes = ended_behind m w o parts t.passes }
+before_separation : {around : Around} {inner : Context} (room : ℕ) {Text : List ℕ → Type 0} {Is : List Kind → Type 0}
+    → PassesText around inner room Text Is → PassesEntry around inner room (IsBeforeSeparation Text around.indent) Is
+before_separation {around} {inner} room {Is = Is} passes m t c cs fits ends (piece, w, h, parts, e) now no_candidate
+    fresh low
+    before text =
+    let f = fits_front m piece w (c ∷ cs) (fits_so m t (piece ++ w) (c ∷ cs) e fits) in
+    let texts = ap (λ (x : List ℕ). x ++ (c ∷ cs)) e ∙ append_assoc piece w (c ∷ cs) in
+    let p = passes m piece (w ++ (c ∷ cs)) f (wider_entry around.indent w cs c parts ends) h now no_candidate fresh low
+    before (text ∙ ap (past around.indent m) texts) in
+    let start = state_at around (moment_in inner now) in
+    subst (λ (k : Marker). InsidePasses around start inner Is now.outer now.places k (c ∷ cs))
+    (sym (moved_append m piece w) ∙ ap (moved m) (sym e))
+    (record {
+      inside = p.inside;
+      flows = p.flows;
+      back = p.back;
+      tokens = p.tokens;
+      are = p.are;
+      passes = ended_behind (moved m piece) w (c ∷ cs) parts p.passes;
+    })
+
+-- what is told of a piece in braces
+in_mapping : {around : Around} {start : Bool → State} {Is : List Kind → Type 0} {ls : List Level} {ps : List Place}
+    {m : Marker} {o : List ℕ} → TellsPiece around start Is context.FlowMapping ls ps m o
+    → InsidePasses around start context.FlowMapping Is ls ps m o
+in_mapping {Is = Is} p = record {
+  inside = context.FlowMapping;
+  flows = refl;
+  back = refl;
+  tokens = p.tokens;
+  are = subst Is (sym (append-nil p.tokens)) p.are;
+  passes = p.passes;
+}
+
+-- ## In braces
+
+in_braces : IsMarked context.FlowMapping context.FlowMapping
+in_braces = record { flows = refl; question = refl; inside = refl; no_pair = refl; colon = refl }
+
+in_brackets : IsMarked context.FlowSequence context.ExplicitFlowPair
+in_brackets = record { flows = refl; question = refl; inside = refl; no_pair = refl; colon = refl }
 
 abbrev pub PairInBraces : Node → Node → List Kind → Type 0
 PairInBraces key value t =
@@ -61,59 +107,44 @@ marked_in_braces key value t (inl h) = inl h
 marked_in_braces key value t (inr h) = inr (inl h)
 
 pair_text_passes : {around : Around} (room : ℕ) (key value : Node) → PassesNode around room key
-    → PassesNode around room value → (m : Marker) (t o : List ℕ) → FitsAround around m t o
-    → IsBehindEntry around.indent o
-    → IsPairText key value (IsFlowNode room key true around.indent) (IsFlowNode room value true around.indent)
-    around.indent t → (now : FlowMoment) → now.key ≡ None → now.allowed ≡ true
-    → room + length now.outer ≤ most_open → now.adjacent < m.index → StandsBefore around now m (t ++ o)
-    → TellsPiece around (state_at around (moment_in context.FlowMapping now)) (PairInBraces key value)
-    context.FlowMapping now.outer now.places (moved m t) o
+    → PassesNode around room value → PassesText around context.FlowMapping room
+    (IsPairText key value (IsFlowNode room key true around.indent) (IsFlowNode room value true around.indent)
+    around.indent) (PairInBraces key value)
 pair_text_passes {around} room key value K V m t o fits ends (inl (none, h)) now no_candidate fresh low before text =
     let n = K m t o (inl h) fits (entry_behind around.indent key o ends) (moment_in context.FlowMapping now)
     before refl low text in
-    record {
+    in_mapping (record {
       tokens = n.tokens;
       are = inr (inr (inr (none, n.are)));
       passes = knowing n.passes (ended around.indent (moved m t) o) (n.passes.knows.low refl);
-    }
+    })
 pair_text_passes room key value K V m t o fits ends (inr (inl h)) now no_candidate fresh low before text =
-    told_so (λ ts (ks, vs, are, others, is).
+    in_mapping (told_so (λ ts (ks, vs, are, others, is).
     inl (tokens.Key ∷ ks, tokens.Value ∷ vs, (ks, inr are, refl), (vs, others, refl), is))
     (key_passes room key value K V context.FlowMapping refl m t o fits ends h (λ e. absurd (none e)) now
-    fresh low before text)
+    fresh low before text))
   where
     none : false ≡ true → ⊥
     none e = cc
 pair_text_passes room key value K V m t o fits ends (inr (inr (inl h))) now no_candidate fresh low before text =
-    told_so (λ ts v. inr (inr (inl (h.0, v))))
-    (alone_passes room key value V context.FlowMapping refl m t o fits ends h now no_candidate low before text)
+    in_mapping (told_so (λ ts v. inr (inr (inl (h.0, v))))
+    (alone_passes room key value V context.FlowMapping refl m t o fits ends h now no_candidate low before text))
 pair_text_passes room key value K V m t o fits ends (inr (inr (inr h))) now no_candidate fresh low before text =
-    told_so (marked_in_braces key value)
+    in_mapping (told_so (marked_in_braces key value)
     (explicit_passes room key value K V context.FlowMapping context.FlowMapping in_braces m t o fits ends h now low
-    before text)
+    before text))
 
--- a pair in braces, with the separation behind it
+-- a pair in braces, with the separation after it
 pub pair_passes : {around : Around} (room : ℕ) (key value : Node) → PassesNode around room key
-    → PassesNode around room value → (m : Marker) (t : List ℕ) (c : ℕ) (cs : List ℕ) → FitsAround around m t (c ∷ cs)
-    → (c ≡ comma) ⊎ ((c ≡ right_bracket) ⊎ (c ≡ right_brace))
-    → IsPair key value (IsFlowNode room key true around.indent) (IsFlowNode room value true around.indent) around.indent
-    t → (now : FlowMoment) → now.key ≡ None → now.allowed ≡ true
-    → room + length now.outer ≤ most_open → now.adjacent < m.index → StandsBefore around now m (t ++ (c ∷ cs))
-    → TellsPiece around (state_at around (moment_in context.FlowMapping now)) (PairInBraces key value)
-    context.FlowMapping now.outer now.places (moved m t) (c ∷ cs)
+    → PassesNode around room value → PassesEntry around context.FlowMapping room
+    (IsPair key value (IsFlowNode room key true around.indent) (IsFlowNode room value true around.indent) around.indent)
+    (PairInBraces key value)
 pair_passes room key value K V m t c cs fits ends (inl h) now no_candidate fresh low before text =
-    told_so (marked_in_braces key value)
-    (lone_passes key value context.FlowMapping context.FlowMapping in_braces m t c cs fits ends h now before text)
-pair_passes {around} room key value K V m t c cs fits ends (inr (piece, separation, h, parts, e)) now
-    no_candidate fresh low before text =
-    let f = fits_front m piece separation (c ∷ cs) (fits_so m t (piece ++ separation) (c ∷ cs) e fits) in
-    let texts = ap (λ (x : List ℕ). x ++ (c ∷ cs)) e ∙ append_assoc piece separation (c ∷ cs) in
-    told_at (moved (moved m piece) separation) (moved m t)
-    (sym (moved_append m piece separation) ∙ ap (moved m) (sym e))
-    (told_behind (moved m piece) separation (c ∷ cs) parts
-    (pair_text_passes room key value K V m piece (separation ++ (c ∷ cs)) f
-    (wider_entry around.indent separation cs c parts ends) h now no_candidate fresh low before
-    (text ∙ ap (past around.indent m) texts)))
+    in_mapping (told_so (marked_in_braces key value)
+    (lone_passes key value context.FlowMapping context.FlowMapping in_braces m t c cs fits ends h now before text))
+pair_passes room key value K V m t c cs fits ends (inr h) now no_candidate fresh low before text =
+    before_separation room (pair_text_passes room key value K V) m t c cs fits ends h now no_candidate fresh low
+    before text
 
 -- ## In brackets
 
@@ -121,62 +152,22 @@ pair_passes {around} room key value K V m t c cs fits ends (inr (piece, separati
 abbrev pub IsEntry : Node → List Kind → Type 0
 IsEntry node t = grammar.YieldsNode node grammar.InFlow t ⊎ grammar.YieldsPairEntry node t
 
--- The run over an entry of brackets. A pair that has no bracket of its own is open behind it, and ends with what stands
--- behind the entry.
-pub record ItemPasses (around : Around) (start : Bool → State) (Is : List Kind → Type 0) (ls : List Level)
-    (ps : List Place) (m : Marker) (o : List ℕ) : Type 0 where
-  pub inside : Context
-  pub flows : is_block inside ≡ false
-  pub back : behind_entry inside ≡ context.FlowSequence
-  pub tokens : List Kind
-  pub are : Is (tokens ++ pending (ends_pair inside))
-  pub passes : PassesPiece around start (ended around.indent m o) inside ls ps m o tokens
-
-item_at : {around : Around} {start : Bool → State} {Is : List Kind → Type 0} {ls : List Level} {ps : List Place}
-    {o : List ℕ} (m n : Marker) → m ≡ n → ItemPasses around start Is ls ps m o
-    → ItemPasses around start Is ls ps n o
-item_at {around} {start} {Is} {ls} {ps} {o} m n e t = subst (λ (k : Marker). ItemPasses around start Is ls ps k o) e t
-
-item_behind : {around : Around} {start : Bool → State} {Is : List Kind → Type 0} {ls : List Level} {ps : List Place}
-    (m : Marker) (w o : List ℕ) → IsSeparation around.indent w → ItemPasses around start Is ls ps m (w ++ o)
-    → ItemPasses around start Is ls ps (moved m w) o
-item_behind m w o parts t =
-    record {
-      inside = t.inside;
-      flows = t.flows;
-      back = t.back;
-      tokens = t.tokens;
-      are = t.are;
-      passes = ended_behind m w o parts t.passes;
-    }
-
--- a node, with the separation behind it
+-- a node, with the separation after it
 pub node_item_passes : {around : Around} (room : ℕ) (node : Node) → PassesNode around room node
-    → (m : Marker) (t : List ℕ) (c : ℕ) (cs : List ℕ) → FitsAround around m t (c ∷ cs)
-    → (c ≡ comma) ⊎ ((c ≡ right_bracket) ⊎ (c ≡ right_brace))
-    → IsBeforeSeparation (IsFlowNode room node true around.indent) around.indent t
-    → (now : FlowMoment) → room + length now.outer ≤ most_open → now.adjacent < m.index
-    → StandsBefore around now m (t ++ (c ∷ cs))
-    → ItemPasses around (state_at around (moment_in context.FlowSequence now)) (IsEntry node) now.outer now.places
-    (moved m t) (c ∷ cs)
-node_item_passes {around} room node N m t c cs fits ends (piece, separation, h, parts, e) now low before text =
-    let o = separation ++ (c ∷ cs) in
-    let f = fits_front m piece separation (c ∷ cs) (fits_so m t (piece ++ separation) (c ∷ cs) e fits) in
-    let texts = ap (λ (x : List ℕ). x ++ (c ∷ cs)) e ∙ append_assoc piece separation (c ∷ cs) in
-    let n = N m piece o (inl h) f
-    (entry_behind around.indent node o (wider_entry around.indent separation cs c parts ends))
-    (moment_in context.FlowSequence now) before refl low (text ∙ ap (past around.indent m) texts) in
-    item_at (moved (moved m piece) separation) (moved m t)
-    (sym (moved_append m piece separation) ∙ ap (moved m) (sym e))
-    (item_behind (moved m piece) separation (c ∷ cs) parts
-    (record {
+    → PassesEntry around context.FlowSequence room
+    (IsBeforeSeparation (IsFlowNode room node true around.indent) around.indent) (IsEntry node)
+node_item_passes {around} room node N =
+    before_separation room (λ m t o fits ends h now no_candidate fresh low before text.
+    let n = N m t o (inl h) fits (entry_behind around.indent node o ends) (moment_in context.FlowSequence now) before
+    refl low text in
+    record {
       inside = context.FlowSequence;
       flows = refl;
       back = refl;
       tokens = n.tokens;
       are = inl (subst (grammar.YieldsNode node grammar.InFlow) (sym (append-nil n.tokens)) n.are);
-      passes = knowing n.passes (ended around.indent (moved m piece) o) (n.passes.knows.low refl);
-    }))
+      passes = knowing n.passes (ended around.indent (moved m t) o) (n.passes.knows.low refl);
+    })
 
 -- the mapping of one pair
 abbrev pub single : Node → Node → Node
@@ -200,13 +191,9 @@ same_line m node blanks h are =
     (sym (blanks_moved (moved m node) blanks are ∙ ap (λ (k : Marker). along k (length blanks)) (moved_along m node h)))
 
 single_text_passes : {around : Around} (room : ℕ) (key value : Node) → PassesNode around room key
-    → PassesNode around room value → (m : Marker) (t o : List ℕ) → FitsAround around m t o
-    → IsBehindEntry around.indent o
-    → IsSinglePairText key value (IsFlowNode room key true around.indent) (IsFlowNode room value true around.indent)
-    around.indent t → (now : FlowMoment) → now.key ≡ None → now.allowed ≡ true
-    → room + length now.outer ≤ most_open → now.adjacent < m.index → StandsBefore around now m (t ++ o)
-    → ItemPasses around (state_at around (moment_in context.FlowSequence now)) (IsEntry (single key value)) now.outer
-    now.places (moved m t) o
+    → PassesNode around room value → PassesText around context.FlowSequence room
+    (IsSinglePairText key value (IsFlowNode room key true around.indent) (IsFlowNode room value true around.indent)
+    around.indent) (IsEntry (single key value))
 single_text_passes {around} room key value K V m t o fits ends (inl (node, blanks, colon, h, line, are, apart, c, e))
     now no_candidate fresh low before text =
     let pair : IsKeyAndValue key value (IsFlowNode room key true around.indent)
@@ -241,15 +228,11 @@ single_text_passes {around} room key value K V m t o fits ends (inr (inr h)) now
       passes = p.passes;
     }
 
--- a pair in brackets, with the separation behind it
+-- a pair in brackets, with the separation after it
 pub single_passes : {around : Around} (room : ℕ) (key value : Node) → PassesNode around room key
-    → PassesNode around room value → (m : Marker) (t : List ℕ) (c : ℕ) (cs : List ℕ) → FitsAround around m t (c ∷ cs)
-    → (c ≡ comma) ⊎ ((c ≡ right_bracket) ⊎ (c ≡ right_brace))
-    → IsSinglePair key value (IsFlowNode room key true around.indent) (IsFlowNode room value true around.indent)
-    around.indent t → (now : FlowMoment) → now.key ≡ None → now.allowed ≡ true
-    → room + length now.outer ≤ most_open → now.adjacent < m.index → StandsBefore around now m (t ++ (c ∷ cs))
-    → ItemPasses around (state_at around (moment_in context.FlowSequence now)) (IsEntry (single key value)) now.outer
-    now.places (moved m t) (c ∷ cs)
+    → PassesNode around room value → PassesEntry around context.FlowSequence room
+    (IsSinglePair key value (IsFlowNode room key true around.indent) (IsFlowNode room value true around.indent)
+    around.indent) (IsEntry (single key value))
 single_passes room key value K V m t c cs fits ends (inl h) now no_candidate fresh low before text =
     let p = lone_passes key value context.FlowSequence context.ExplicitFlowPair in_brackets m t c cs fits ends h now
     before text in
@@ -261,13 +244,6 @@ single_passes room key value K V m t c cs fits ends (inl h) now no_candidate fre
       are = inr (refl, subst (MarkedTokens key value) (sym (append-nil p.tokens)) p.are);
       passes = p.passes;
     }
-single_passes {around} room key value K V m t c cs fits ends (inr (piece, separation, h, parts, e)) now
-    no_candidate fresh low before text =
-    let f = fits_front m piece separation (c ∷ cs) (fits_so m t (piece ++ separation) (c ∷ cs) e fits) in
-    let texts = ap (λ (x : List ℕ). x ++ (c ∷ cs)) e ∙ append_assoc piece separation (c ∷ cs) in
-    item_at (moved (moved m piece) separation) (moved m t)
-    (sym (moved_append m piece separation) ∙ ap (moved m) (sym e))
-    (item_behind (moved m piece) separation (c ∷ cs) parts
-    (single_text_passes room key value K V m piece (separation ++ (c ∷ cs)) f
-    (wider_entry around.indent separation cs c parts ends) h now no_candidate fresh low before
-    (text ∙ ap (past around.indent m) texts)))
+single_passes room key value K V m t c cs fits ends (inr h) now no_candidate fresh low before text =
+    before_separation room (single_text_passes room key value K V) m t c cs fits ends h now no_candidate fresh low
+    before text

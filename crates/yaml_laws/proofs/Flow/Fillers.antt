@@ -8,7 +8,7 @@ use Rattle.saphyr_scalar.specs.Views.Cursor.{Cursor, along, next_line}
 use Rattle.saphyr_scalar.specs.Spelling.Tag.{AreIn}
 use Rattle.saphyr_scalar.specs.Reading.BlockLines.{spaces}
 use Rattle.scalar_laws.specs.Spelling.Plain.{past_white}
-use Rattle.scalar_laws.specs.Spelling.Spaces.{joined_pieces, AreEach, AreMany, AreSpaces, IsComment, IsCommentBehind, IsLineRest, IsFillerText, IsFillerLine, IsFiller, IsLastFiller, IsSeparationLine, IsSeparation}
+use Rattle.scalar_laws.specs.Spelling.Spaces.{joined_pieces, AreEach, AreMany, IsComment, IsCommentBehind, IsLineRest, IsFillerText, IsFillerLine, IsFiller, IsLastFiller, IsSeparationLine, IsSeparation}
 use Rattle.yaml_laws.proofs.Flow.States.{moved, is_left_tab, is_filler_rest, is_comment_rest, past, past_comment}
 use Rattle.yaml_laws.proofs.Flow.Places.{moved_append}
 use Rattle.yaml_laws.proofs.Flow.Gaps.{stops_tab, stop_blank}
@@ -16,7 +16,7 @@ use Rattle.saphyr_input.proofs.Basics.Numbers.{le_next}
 use Rattle.saphyr_input.proofs.Basics.Characters.{blank_no_break, non_break_feed_fails, return_breaks}
 use Rattle.saphyr_input.proofs.Basics.Booleans.{and_false, clash}
 
--- what is passed wherever it stands and whatever stands behind it: a tab in it stands on a line without a token
+-- what is passed wherever it is and whatever comes after it: a tab in it is on a line without a token
 abbrev pub IsPast : ℕ → List ℕ → Type 0
 IsPast column w = (m : Marker) (y : List ℕ) → past column m (w ++ y) ≡ past column (moved m w) y
 
@@ -25,7 +25,7 @@ pub record PassesRight (column : ℕ) (m : Marker) (w : List ℕ) : Type 0 where
   pub right : column ≤ (moved m w).col
   pub is : (y : List ℕ) → past column m (w ++ y) ≡ past column (moved m w) y
 
--- what is passed wherever it stands not left of the column
+-- what is passed wherever it is not left of the column
 abbrev pub IsPastRight : ℕ → List ℕ → Type 0
 IsPastRight column w = (m : Marker) → column ≤ m.col → PassesRight column m w
 
@@ -98,9 +98,6 @@ spaces_column m (suc n) = let on = spaces_column (along m 1) n in further (moved
     further : (a b n : ℕ) → a ≡ b + 1 + n → a ≡ b + suc n
     further a b n e = omega (arith, e)
 
-pub are_spaces_past : (column least : ℕ) (w : List ℕ) → AreSpaces least w → IsPast column w
-are_spaces_past column least w h = subst (IsPast column) (sym h.2) (spaces_past column h.0)
-
 -- ## Comments
 
 -- a line's end, with its break or the text's end
@@ -153,7 +150,7 @@ rest_past column m rest more h ends right =
     front_past column m rest h.0 h.1 more (λ y. (blanks_past column h.0 h.2 m right).is y) (behind_is h.0 h.1 h.3) h.4
     ends
 
--- wherever it stands, a line without a token is passed
+-- wherever it is, a line without a token is passed
 words_rest : (words more : List ℕ) → AreIn is_yaml_non_break words → EndsLine more
     → is_comment_rest (words ++ more) ≡ true
 words_rest [] [] h ends = refl
@@ -267,12 +264,12 @@ pub separation_past : (column : ℕ) (m : Marker) (w y : List ℕ) → IsSeparat
     → past column m (w ++ y) ≡ past column (moved m w) y
 separation_past column m w y h low = (separation_right column w h m low).is y
 
--- behind separation
+-- after separation
 pub right_behind : (column : ℕ) (m : Marker) (w : List ℕ) → IsSeparation column w → column ≤ m.col
     → column ≤ (moved m w).col
 right_behind column m w h low = (separation_right column w h m low).right
 
--- ## Behind a plain scalar
+-- ## After a plain scalar
 
 abbrev WhitePast : ℕ → Marker → Bool → List ℕ → Type 0
 WhitePast column m b t =

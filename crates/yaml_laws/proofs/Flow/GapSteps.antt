@@ -13,7 +13,7 @@ use Rattle.yaml_laws.proofs.Flow.Gaps.{stops_tab}
 
 -- ## By the characters that are passed
 
--- P holds of each place and what is behind it, where it does where nothing is passed, and behind each character.
+-- P holds of each place and what is after it, where it does where nothing is passed, and after each character.
 pub record GapCases (column : ℕ) (P : Marker → List ℕ → Marker × List ℕ → Type 0) : Type 0 where
   pub stays : (m : Marker) (t : List ℕ) → past column m t ≡ (m, t) → P m t (m, t)
   pub onward : (m : Marker) (c : ℕ) (cs : List ℕ) (r : Marker × List ℕ) → P (along m 1) cs r → P m (c ∷ cs) r
@@ -94,7 +94,7 @@ mutual
       (comment_by_steps column P steps (along m 1) cs) (by_steps column P steps (along m 1) cs)
       (by_steps column P steps (next_line m 1) cs)
 
--- nothing more is passed behind what is passed
+-- nothing more is passed after what is passed
 pub past_again : (column : ℕ) (m : Marker) (t : List ℕ)
     → past column (past column m t).0 (past column m t).1 ≡ past column m t
 past_again column m t = by_steps column (λ m t r. past column r.0 r.1 ≡ r)
@@ -133,7 +133,7 @@ past_low column m t =
     let short = past_shorter column m t in
     omega (arith, count, short)
 
--- what comes before a piece comes before what stands behind it
+-- what comes before a piece comes before what comes after it
 pub less_on : (ad : ℕ) (m : Marker) (p : List ℕ) → ad < m.index → ad < (moved m p).index
 less_on ad m p low = let i = moved_index m p in omega (arith, i, low)
 

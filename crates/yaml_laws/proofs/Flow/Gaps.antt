@@ -1,4 +1,4 @@
--- What is passed between two tokens of a text in flow style, and the place behind it.
+-- What is passed between two tokens of a text in flow style, and the place after it.
 use Rattle.std.proofs.Common.{◌≡◌, ℕ, ◌≤◌, Bool, true, false, List, [], ◌∷◌, slice_index, refl, sym, ap, ◌∙◌, arith, subst}
 use Rattle.std.specs.Prelude.{◌||◌, ◌&&◌, ◌==◌, not, nat_lt}
 use Rattle.std.proofs.lemmas.Bool.Decides.{nat_tests}
@@ -11,10 +11,10 @@ use Rattle.saphyr_input.proofs.Basics.Booleans.{clash, and_true_left, and_true_r
 use Rattle.std.proofs.lemmas.Bool.{or_parts}
 use Rattle.saphyr_input.specs.Indicators.{number_sign}
 
--- ## The gap before a token is what is behind it
+-- ## The gap before a token is what is after it
 
--- The gap, where no column that content has to reach is right of the one told, and no tab stands left of that on the
--- line of a token. A tab may stand before it where no token stands on the rest of the line.
+-- The gap, where no column that content has to reach is right of the one told, and no tab is left of that on the
+-- line of a token. A tab may come before it where no token is on the rest of the line.
 pub record GapPast (column : ℕ) (m : Marker) (blank broke : Bool) (t : List ℕ) : Type 0 where
   pub still_blank : Bool
   pub now_broke : Bool
@@ -71,7 +71,7 @@ feed_rest (c ∷ cs) e = subst (λ (z : ℕ). is_filler_rest (z ∷ cs) ≡ true
     feed : (c : ℕ) → (c == line_feed) ≡ true → c ≡ line_feed
     feed c e = grind (arith, nat_tests)
 
--- behind a blank, or CR before LF
+-- after a blank, or CR before LF
 pub rest_on : (c : ℕ) (cs : List ℕ) → (is_blank c || ((c == carriage_return) && (slice_index cs 0 == line_feed))) ≡ true
     → is_filler_rest (c ∷ cs) ≡ true → is_filler_rest cs ≡ true
 rest_on c cs e h = by_blank (is_blank c) refl e
@@ -81,7 +81,7 @@ rest_on c cs e h = by_blank (is_blank c) refl e
     by_blank true f k = let same : is_filler_rest (c ∷ cs) ≡ is_filler_rest cs = rw f refl in sym same ∙ h
     by_blank false f k = feed_rest cs (and_true_right (c == 13) (slice_index cs 0 == 10) k)
 
--- behind the sign of a comment
+-- after the sign of a comment
 pub rest_sign : (c : ℕ) (cs : List ℕ)
     → (is_blank c || ((c == carriage_return) && (slice_index cs 0 == line_feed))) ≡ false
     → is_break c ≡ false → (c == number_sign) ≡ true → is_filler_rest (c ∷ cs) ≡ true → is_comment_rest cs ≡ true
@@ -96,7 +96,7 @@ pub no_rest : (c : ℕ) (cs : List ℕ)
     → is_break c ≡ false → (c == number_sign) ≡ false → is_filler_rest (c ∷ cs) ≡ false
 no_rest c cs e f g = rw ((or_parts (is_blank c) ((c == 13) && (slice_index cs 0 == 10)) e).0, f, g) refl
 
--- behind a character of a comment, and where one ends
+-- after a character of a comment, and where one ends
 pub word_rest : (c : ℕ) (cs : List ℕ) → is_yaml_non_break c ≡ true → is_comment_rest (c ∷ cs) ≡ true
     → is_comment_rest cs ≡ true
 word_rest c cs e h = let same : is_comment_rest (c ∷ cs) ≡ is_comment_rest cs = rw e refl in sym same ∙ h
@@ -109,11 +109,11 @@ pub no_comment_rest : (c : ℕ) (cs : List ℕ) → is_yaml_non_break c ≡ fals
     → is_comment_rest (c ∷ cs) ≡ false
 no_comment_rest c cs e f = rw (e, f) refl
 
--- no tab stands before
+-- no tab comes before
 pub no_tab_before : (b : Bool) → false ≡ true → b ≡ true
 no_tab_before b e = absurd (cc)
 
--- a tab that ends nothing stands on such a rest, or right of a lower column
+-- a tab that ends nothing is on such a rest, or right of a lower column
 pub tab_rest : (column low : ℕ) (m : Marker) (blank : Bool) (c : ℕ) (cs : List ℕ) (tab : Bool)
     → stops_tab column m c cs ≡ false → low ≤ column
     → (is_blank c || ((c == carriage_return) && (slice_index cs 0 == line_feed))) ≡ true
@@ -138,7 +138,7 @@ unfolding stop
 stop_ends m blank broke true = refl
 stop_ends m blank broke false = refl
 
--- none stands before a token
+-- none comes before a token
 stop_plain : (m : Marker) (blank broke tab rest : Bool) (t : List ℕ) → rest ≡ false → (tab ≡ true → rest ≡ true)
     → stop m blank broke tab t ≡ stop m blank broke false t
 stop_plain m blank broke true rest t e h = absurd (clash rest (h refl) e)

@@ -1,20 +1,20 @@
 -- The first characters of the nodes of a text in flow style.
-use Rattle.std.proofs.Common.{◌≡◌, ◌≢◌, ℕ, Bool, true, false, List, [], ◌∷◌, ◌++◌, refl, sym, ap, ◌∙◌, arith, subst, append_assoc, IsTrue, inl, inr, codes}
-use Rattle.std.specs.Prelude.{◌==◌, slice_index, Option, Some, None}
+use Rattle.std.proofs.Common.{◌≡◌, ◌≢◌, ℕ, Bool, true, false, List, [], ◌∷◌, ◌++◌, refl, sym, ap, ◌∙◌, arith, subst, append_assoc, IsTrue, inl, inr, codes, ◌≤◌}
+use Rattle.std.specs.Prelude.{◌==◌, ◌&&◌, not, slice_index, Option, Some, None}
 use Rattle.std.proofs.lemmas.Bool.Decides.{nat_tests}
-use Rattle.saphyr_input.specs.Indicators.{number_sign}
-use Rattle.saphyr_input.specs.Classes.{is_blank, is_break, is_bom, byte_order_mark}
-use Rattle.saphyr_values.specs.declared.flow.Quote.{Quote}
-use Rattle.saphyr_values.specs.declared.flow.Quote.TheVariants.{Single, Double}
-use Rattle.saphyr_values.specs.Flow.{mark}
-use Rattle.saphyr_scalar.specs.Spelling.Tag.{AreIn}
-use Rattle.scalar_laws.specs.Spelling.Plain.{is_word_ink, IsWordIn}
+use Rattle.saphyr_input.specs.Indicators.{comma, number_sign, percent_sign}
+use Rattle.saphyr_input.specs.Classes.{is_blank, is_break, is_bom, is_z, byte_order_mark}
+use Rattle.scalar_laws.specs.Spelling.Plain.{is_word_ink}
 use Rattle.saphyr_scanner.specs.Grammar.Forest.{Style, Plain, SingleQuoted, DoubleQuoted, Literal, Folded, Handle, Primary, Secondary, Named, Tag, NonSpecific, Verbatim, Shorthand, Properties, Node, Alias, Scalar, Seq, Map}
 use Rattle.yaml_laws.specs.Grammar.TagSpelling.{IsHandle, IsTag}
-use Rattle.yaml_laws.specs.Grammar.FlowScalars.{IsPlainKey, IsFlowScalar}
+use Rattle.yaml_laws.specs.Grammar.FlowScalars.{begins_plain, IsFirstWord, IsPlainKey, IsFlowScalar}
 use Rattle.yaml_laws.specs.Grammar.FlowNodes.{IsAnchor, AreProperties, IsProperties, IsBeforeContent, IsPlainKeyNode, IsKeyText, IsFlowNode}
-use Rattle.yaml_laws.proofs.Flow.States.{IsInk}
+use Rattle.yaml_laws.proofs.Flow.States.{IsInk, moved, past}
 use Rattle.saphyr_input.specs.Places.{can_be_plain}
+use Rattle.saphyr_input.proofs.Basics.Booleans.{other_than}
+use Rattle.saphyr_scalar.specs.declared.scalar.position.Marker.{Marker}
+use Rattle.yaml_laws.proofs.Flow.Places.{moved_index}
+use Rattle.yaml_laws.proofs.Flow.GapSteps.{past_ink, past_low}
 
 -- a text begins with a character that begins a token
 pub record BeginsInk (t : List ℕ) : Type 0 where
@@ -26,7 +26,7 @@ pub record BeginsInk (t : List ℕ) : Type 0 where
 pub begins_with : (c : ℕ) (cs t : List ℕ) → t ≡ c ∷ cs → IsInk c → BeginsInk t
 begins_with c cs t e h = record { first = c; others = cs; is = e; ink = h }
 
--- whatever stands behind
+-- whatever comes after
 pub ink_front : (a t o : List ℕ) → t ≡ a ++ o → BeginsInk a → BeginsInk t
 ink_front a t o e b = record {
   first = b.first;
@@ -34,6 +34,74 @@ ink_front a t o e b = record {
   is = e ∙ ap (λ (x : List ℕ). x ++ o) b.is;
   ink = b.ink;
 }
+
+-- a piece whose first character begins a token, which is neither the end, a directive nor a comma
+pub record Begins (p : List ℕ) : Type 0 where
+  pub first : ℕ
+  pub others : List ℕ
+  pub is : p ≡ first ∷ others
+  pub ink : IsInk first
+  pub nul : is_z first ≡ false
+  pub directive : (first == percent_sign) ≡ false
+  pub comma : (first == comma) ≡ false
+
+-- whether a character is such a one
+abbrev pub is_start : ℕ → Bool
+is_start c = not (is_blank c) && not (is_break c) && not (c == number_sign) && not (is_bom c) && not (is_z c)
+    && not (c == percent_sign) && not (c == comma)
+
+pub start_ink : (c : ℕ) → is_start c ≡ true → IsInk c
+start_ink c h =
+    record { blank = blank c h; break = break c h; comment = comment c h; byte_order_mark = byte_order_mark c h }
+  where
+    blank : (c : ℕ) → is_start c ≡ true → is_blank c ≡ false
+    blank c h = grind (arith, nat_tests)
+
+    break : (c : ℕ) → is_start c ≡ true → is_break c ≡ false
+    break c h = grind (arith, nat_tests)
+
+    comment : (c : ℕ) → is_start c ≡ true → (c == number_sign) ≡ false
+    comment c h = grind (arith, nat_tests)
+
+    byte_order_mark : (c : ℕ) → is_start c ≡ true → is_bom c ≡ false
+    byte_order_mark c h = grind (arith, nat_tests)
+
+pub start_nul : (c : ℕ) → is_start c ≡ true → is_z c ≡ false
+start_nul c h = grind (arith, nat_tests)
+
+pub start_directive : (c : ℕ) → is_start c ≡ true → (c == percent_sign) ≡ false
+start_directive c h = grind (arith, nat_tests)
+
+start_comma : (c : ℕ) → is_start c ≡ true → (c == comma) ≡ false
+start_comma c h = grind (arith, nat_tests)
+
+pub starts : (c : ℕ) (cs t : List ℕ) → t ≡ c ∷ cs → is_start c ≡ true → Begins t
+starts c cs t e h =
+    record {
+      first = c;
+      others = cs;
+      is = e;
+      ink = start_ink c h;
+      nul = start_nul c h;
+      directive = start_directive c h;
+      comma = start_comma c h;
+    }
+
+-- whatever comes after
+pub begins_front : (a t o : List ℕ) → t ≡ a ++ o → Begins a → Begins t
+begins_front a t o e b =
+    record {
+      first = b.first;
+      others = b.others ++ o;
+      is = e ∙ ap (λ (x : List ℕ). x ++ o) b.is;
+      ink = b.ink;
+      nul = b.nul;
+      directive = b.directive;
+      comma = b.comma;
+    }
+
+pub inked : (t : List ℕ) → Begins t → BeginsInk t
+inked t b = record { first = b.first; others = b.others; is = b.is; ink = b.ink }
 
 -- ## A byte order mark
 
@@ -46,43 +114,43 @@ mark_no_plain y h = rw (bom_is (slice_index y 0) h) refl
 
 -- ## First characters
 
-pub anchor_ink : (name t : List ℕ) → IsAnchor name t → BeginsInk t
-anchor_ink name t h = begins_with 38 name t h.1
-    (record { blank = refl; break = refl; comment = refl; byte_order_mark = refl })
+pub anchor_begins : (name t : List ℕ) → IsAnchor name t → Begins t
+anchor_begins name t h = starts 38 name t h.1 refl
 
-exclamation : IsInk 33
-exclamation = record { blank = refl; break = refl; comment = refl; byte_order_mark = refl }
+handle_begins : (handle : Handle) (t : List ℕ) → IsHandle handle t → Begins t
+handle_begins Primary t h = starts 33 [] t h refl
+handle_begins Secondary t h = starts 33 (33 ∷ []) t h refl
+handle_begins (Named word) t h = starts 33 (word ++ codes "!") t h.2 refl
 
-handle_ink : (handle : Handle) (t : List ℕ) → IsHandle handle t → BeginsInk t
-handle_ink Primary t h = begins_with 33 [] t h exclamation
-handle_ink Secondary t h = begins_with 33 (33 ∷ []) t h exclamation
-handle_ink (Named word) t h = begins_with 33 (word ++ codes "!") t h.2 exclamation
+pub tag_begins : (tag : Tag) (t : List ℕ) → IsTag tag t → Begins t
+tag_begins NonSpecific t h = starts 33 [] t h refl
+tag_begins (Verbatim uri) t h = starts 33 (60 ∷ (h.0 ++ codes ">")) t h.3 refl
+tag_begins (Shorthand handle suffix) t h = begins_front h.0 t h.1 h.5 (handle_begins handle h.0 h.2)
 
-pub tag_ink : (tag : Tag) (t : List ℕ) → IsTag tag t → BeginsInk t
-tag_ink NonSpecific t h = begins_with 33 [] t h exclamation
-tag_ink (Verbatim uri) t h = begins_with 33 (60 ∷ (h.0 ++ codes ">")) t h.3 exclamation
-tag_ink (Shorthand handle suffix) t h = ink_front h.0 t h.1 h.5 (handle_ink handle h.0 h.2)
+are_properties_begin : (indent : ℕ) (anchor : Option (List ℕ)) (tag : Option Tag) (t : List ℕ)
+    → AreProperties anchor tag indent t → Begins t
+are_properties_begin indent None None t h = absurd h
+are_properties_begin indent (Some name) None t h = anchor_begins name t h
+are_properties_begin indent None (Some tag) t h = tag_begins tag t h
+are_properties_begin indent (Some name) (Some tag) t (anchor, between, written, a, w, s, inl e) =
+    begins_front anchor t (between ++ written) e (anchor_begins name anchor a)
+are_properties_begin indent (Some name) (Some tag) t (anchor, between, written, a, w, s, inr e) =
+    begins_front written t (between ++ anchor) e (tag_begins tag written w)
 
-are_properties_ink : (indent : ℕ) (anchor : Option (List ℕ)) (tag : Option Tag) (t : List ℕ)
-    → AreProperties anchor tag indent t → BeginsInk t
-are_properties_ink indent None None t h = absurd h
-are_properties_ink indent (Some name) None t h = anchor_ink name t h
-are_properties_ink indent None (Some tag) t h = tag_ink tag t h
-are_properties_ink indent (Some name) (Some tag) t (anchor, between, written, a, w, s, inl e) =
-    ink_front anchor t (between ++ written) e (anchor_ink name anchor a)
-are_properties_ink indent (Some name) (Some tag) t (anchor, between, written, a, w, s, inr e) =
-    ink_front written t (between ++ anchor) e (tag_ink tag written w)
+properties_begin : (p : Properties) (indent : ℕ) (t : List ℕ) → IsProperties p indent t → Begins t
+properties_begin p indent t h = are_properties_begin indent p.anchor p.tag t h
 
 pub properties_ink : (p : Properties) (indent : ℕ) (t : List ℕ) → IsProperties p indent t → BeginsInk t
-properties_ink p indent t h = are_properties_ink indent p.anchor p.tag t h
+properties_ink p indent t h = inked t (properties_begin p indent t h)
 
--- properties and what stands behind them, or that alone
-pub front_ink : (indent : ℕ) (p : Properties) (front t o : List ℕ) → IsBeforeContent p indent front → t ≡ front ++ o
-    → BeginsInk o → BeginsInk t
-front_ink indent p front t o (inl (none, e)) is b = subst BeginsInk (sym (is ∙ ap (λ (x : List ℕ). x ++ o) e)) b
-front_ink indent p front t o (inr (properties, separation, h, some, parts, e)) is b =
-    ink_front properties t (separation ++ o) (is ∙ ap (λ (x : List ℕ). x ++ o) e ∙ append_assoc properties separation o)
-    (properties_ink p indent properties h)
+-- properties and what comes after them, or that alone
+front_begins : (indent : ℕ) (p : Properties) (front t o : List ℕ) → IsBeforeContent p indent front → t ≡ front ++ o
+    → Begins o → Begins t
+front_begins indent p front t o (inl (none, e)) is b = subst Begins (sym (is ∙ ap (λ (x : List ℕ). x ++ o) e)) b
+front_begins indent p front t o (inr (properties, separation, h, some, parts, e)) is b =
+    begins_front properties t (separation ++ o)
+    (is ∙ ap (λ (x : List ℕ). x ++ o) e ∙ append_assoc properties separation o)
+    (properties_begin p indent properties h)
 
 -- ## Scalars
 
@@ -110,67 +178,91 @@ word_ink in_flow c h n =
     sign : (c : ℕ) → c ≢ number_sign → (c == number_sign) ≡ false
     sign c n = grind (arith, nat_tests)
 
-words_ink : (in_flow : Bool) (w : List ℕ) → IsWordIn in_flow w → BeginsInk w
-words_ink in_flow [] h = absurd (h.some refl)
-words_ink in_flow (c ∷ cs) h = begins_with c cs (c ∷ cs) refl (word_ink in_flow c h.ink.0 h.no_comment)
-
-quote_ink : (quote : Quote) → IsInk (mark quote)
-quote_ink Single = record { blank = refl; break = refl; comment = refl; byte_order_mark = refl }
-quote_ink Double = record { blank = refl; break = refl; comment = refl; byte_order_mark = refl }
-
-scalar_ink : (indent : ℕ) (style : Style) (value : List ℕ) (in_flow : Bool) (t : List ℕ)
-    → IsFlowScalar style value in_flow indent t → BeginsInk t
-scalar_ink indent Plain value in_flow t h = let p = h.0 in ink_front p.0 t p.1 p.4 (words_ink in_flow p.0 p.2.0)
-scalar_ink indent SingleQuoted value in_flow t h = begins_with (mark Single) h.0 t h.5 (quote_ink Single)
-scalar_ink indent DoubleQuoted value in_flow t h = begins_with (mark Double) h.0 t h.5 (quote_ink Double)
-scalar_ink indent Literal value in_flow t h = absurd h
-scalar_ink indent Folded value in_flow t h = absurd h
-
-pub plain_key_ink : (in_flow : Bool) (indent : ℕ) (t : List ℕ) → IsPlainKey in_flow indent t → BeginsInk t
-plain_key_ink in_flow indent t (inl ((some, ink, no_comment), begins)) =
-    by_word t some ink no_comment
+word_starts : (in_flow : Bool) (c : ℕ) (cs : List ℕ) → IsTrue (is_word_ink in_flow c) → c ≢ number_sign
+    → IsTrue (begins_plain c) → Begins (c ∷ cs)
+word_starts in_flow c cs h n b =
+    record {
+      first = c;
+      others = cs;
+      is = refl;
+      ink = word_ink in_flow c h n;
+      nul = nul in_flow c h;
+      directive = other_than begins_plain 37 c refl b;
+      comma = other_than begins_plain 44 c refl b;
+    }
   where
-    by_word : (w : List ℕ) → w ≢ [] → AreIn (is_word_ink in_flow) w → slice_index w 0 ≢ number_sign → BeginsInk w
-    by_word [] some ink no_comment = absurd (some refl)
-    by_word (c ∷ cs) some ink no_comment = begins_with c cs (c ∷ cs) refl (word_ink in_flow c ink.0 no_comment)
-plain_key_ink in_flow indent t (inr (plain, dashes, gap, word, h, lone, gapped, last, e)) =
-    ink_front plain t (dashes ++ (gap ++ word)) e (ink_front h.0 plain h.1 h.4 (words_ink in_flow h.0 h.2.0))
+    nul : (in_flow : Bool) (c : ℕ) → IsTrue (is_word_ink in_flow c) → is_z c ≡ false
+    nul true c h = grind (arith, nat_tests)
+    nul false c h = grind (arith, nat_tests)
+
+words_begin : (in_flow : Bool) (w : List ℕ) → IsFirstWord in_flow w → Begins w
+words_begin in_flow [] h = absurd (h.0.some refl)
+words_begin in_flow (c ∷ cs) h = word_starts in_flow c cs h.0.ink.0 h.0.no_comment h.1
+
+pub scalar_begins : (indent : ℕ) (style : Style) (value : List ℕ) (in_flow : Bool) (t : List ℕ)
+    → IsFlowScalar style value in_flow indent t → Begins t
+scalar_begins indent Plain value in_flow t h = let p = h.0 in begins_front p.0 t p.1 p.4 (words_begin in_flow p.0 p.2)
+scalar_begins indent SingleQuoted value in_flow t h = starts 39 h.0 t h.5 refl
+scalar_begins indent DoubleQuoted value in_flow t h = starts 34 h.0 t h.5 refl
+scalar_begins indent Literal value in_flow t h = absurd h
+scalar_begins indent Folded value in_flow t h = absurd h
+
+plain_key_begins : (in_flow : Bool) (indent : ℕ) (t : List ℕ) → IsPlainKey in_flow indent t → Begins t
+plain_key_begins in_flow indent [] (inl ((some, ink, no_comment), begins)) = absurd (some refl)
+plain_key_begins in_flow indent (c ∷ cs) (inl ((some, ink, no_comment), begins)) =
+    word_starts in_flow c cs ink.0 no_comment begins
+plain_key_begins in_flow indent t (inr (plain, dashes, gap, word, h, lone, gapped, last, e)) =
+    begins_front plain t (dashes ++ (gap ++ word)) e
+    (begins_front h.0 plain h.1 h.4 (words_begin in_flow h.0 h.2))
 
 -- ## Nodes
 
-bracket_ink : IsInk 91
-bracket_ink = record { blank = refl; break = refl; comment = refl; byte_order_mark = refl }
-
-brace_ink : IsInk 123
-brace_ink = record { blank = refl; break = refl; comment = refl; byte_order_mark = refl }
+pub node_begins : (indent room : ℕ) (node : Node) (in_flow : Bool) (t : List ℕ)
+    → IsFlowNode room node in_flow indent t → Begins t
+node_begins indent room (Alias name) in_flow t h = starts 42 name t h.1 refl
+node_begins indent room (Scalar p style value) in_flow t (inl h) = properties_begin p indent t h.2
+node_begins indent room (Scalar p style value) in_flow t (inr (front, content, f, s, e)) =
+    front_begins indent p front t content f e (scalar_begins indent style value in_flow content s)
+node_begins indent room (Seq p nodes) in_flow t (left, opening, inside, r, (front, w, f, parts, e), items, is) =
+    begins_front opening t (inside ++ codes "]") is
+    (front_begins indent p front opening (91 ∷ w) f e (starts 91 w (91 ∷ w) refl refl))
+node_begins indent room (Map p pairs) in_flow t (left, opening, inside, r, (front, w, f, parts, e), items, is) =
+    begins_front opening t (inside ++ codes "}") is
+    (front_begins indent p front opening (123 ∷ w) f e (starts 123 w (123 ∷ w) refl refl))
 
 pub node_ink : (indent room : ℕ) (node : Node) (in_flow : Bool) (t : List ℕ) → IsFlowNode room node in_flow indent t
     → BeginsInk t
-node_ink indent room (Alias name) in_flow t h =
-    begins_with 42 name t h.1 (record { blank = refl; break = refl; comment = refl; byte_order_mark = refl })
-node_ink indent room (Scalar p style value) in_flow t (inl h) = properties_ink p indent t h.2
-node_ink indent room (Scalar p style value) in_flow t (inr (front, content, f, s, e)) =
-    front_ink indent p front t content f e (scalar_ink indent style value in_flow content s)
-node_ink indent room (Seq p nodes) in_flow t (left, opening, inside, r, (front, separation, f, parts, e), items, is) =
-    ink_front opening t (inside ++ codes "]") is
-    (front_ink indent p front opening (91 ∷ separation) f e
-    (begins_with 91 separation (91 ∷ separation) refl bracket_ink))
-node_ink indent room (Map p pairs) in_flow t (left, opening, inside, r, (front, separation, f, parts, e), items, is) =
-    ink_front opening t (inside ++ codes "}") is
-    (front_ink indent p front opening (123 ∷ separation) f e
-    (begins_with 123 separation (123 ∷ separation) refl brace_ink))
+node_ink indent room node in_flow t h = inked t (node_begins indent room node in_flow t h)
 
 -- ## Keys
 
-pub plain_key_node_ink : (in_flow : Bool) (indent : ℕ) (node : Node) (t : List ℕ) → IsPlainKeyNode node in_flow indent t
-    → BeginsInk t
-plain_key_node_ink in_flow indent (Alias name) t h = absurd h
-plain_key_node_ink in_flow indent (Seq p nodes) t h = absurd h
-plain_key_node_ink in_flow indent (Map p pairs) t h = absurd h
-plain_key_node_ink in_flow indent (Scalar p style value) t (front, content, plain, before, g, is, e) =
-    front_ink indent p front t content before e (plain_key_ink in_flow indent content g)
+plain_key_node_begins : (in_flow : Bool) (indent : ℕ) (node : Node) (t : List ℕ)
+    → IsPlainKeyNode node in_flow indent t → Begins t
+plain_key_node_begins in_flow indent (Alias name) t h = absurd h
+plain_key_node_begins in_flow indent (Seq p nodes) t h = absurd h
+plain_key_node_begins in_flow indent (Map p pairs) t h = absurd h
+plain_key_node_begins in_flow indent (Scalar p style value) t (front, content, plain, before, g, is, e) =
+    front_begins indent p front t content before e (plain_key_begins in_flow indent content g)
 
-pub key_text_ink : (indent room : ℕ) (key : Node) (t separation : List ℕ)
-    → IsKeyText (IsFlowNode room key true indent) key true indent t separation → BeginsInk t
-key_text_ink indent room key t separation (inl h) = node_ink indent room key true t h
-key_text_ink indent room key t separation (inr (h, none)) = plain_key_node_ink true indent key t h
+pub plain_key_node_ink : (in_flow : Bool) (indent : ℕ) (node : Node) (t : List ℕ)
+    → IsPlainKeyNode node in_flow indent t → BeginsInk t
+plain_key_node_ink in_flow indent node t h = inked t (plain_key_node_begins in_flow indent node t h)
+
+pub key_text_begins : (in_flow : Bool) (indent room : ℕ) (key : Node) (t separation : List ℕ)
+    → IsKeyText (IsFlowNode room key in_flow indent) key in_flow indent t separation → Begins t
+key_text_begins in_flow indent room key t separation (inl h) = node_begins indent room key in_flow t h
+key_text_begins in_flow indent room key t separation (inr (h, none)) = plain_key_node_begins in_flow indent key t h
+
+pub start_low : (column ad : ℕ) (m : Marker) (p o : List ℕ) → BeginsInk p → ad ≤ (past column m (p ++ o)).0.index
+    → ad ≤ m.index
+start_low column ad m p o b low =
+    let front : p ++ o ≡ b.first ∷ (b.others ++ o) = ap (λ (t : List ℕ). t ++ o) b.is in
+    let here : past column m (p ++ o) ≡ (m, p ++ o) = ap (past column m) front
+    ∙ past_ink column m b.first (b.others ++ o) b.ink ∙ ap (λ (t : List ℕ). (m, t)) (sym front) in
+    subst (λ (q : Marker × List ℕ). ad ≤ q.0.index) here low
+
+pub behind_low : (column ad : ℕ) (m : Marker) (p o : List ℕ) → ad ≤ m.index → ad ≤ (past column (moved m p) o).0.index
+behind_low column ad m p o low =
+    let i = moved_index m p in
+    let on = past_low column (moved m p) o in
+    omega (arith, i, on, low)

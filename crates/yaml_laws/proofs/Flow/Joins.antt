@@ -1,4 +1,4 @@
--- Runs over pieces of a text in flow style, one behind the other.
+-- Runs over pieces of a text in flow style, one after the other.
 use Rattle.std.proofs.Common.{◌≡◌, inl, inr, sym, ℕ, ◌≤◌, Bool, List, [], ◌++◌, refl, ap, ◌∙◌, append_assoc, append-nil}
 use Rattle.std.specs.Prelude.{Option, Some, None}
 use Rattle.saphyr_scalar.specs.declared.scalar.position.Marker.{Marker}
@@ -11,18 +11,17 @@ use Rattle.saphyr_scanner.specs.Steps.Level.{Candidate, Level}
 use Rattle.saphyr_scanner.specs.Steps.State.{State}
 use Rattle.saphyr_scanner.proofs.Queues.{place_kinds, place_kinds_append}
 use Rattle.yaml_laws.proofs.InFlow.States.{Around, state_at, runs_to_itself, chains, ComesAround, FlowMoment, moment_with}
-use Rattle.yaml_laws.proofs.Flow.States.{moved, past, IsFresh, Since, Known, PassesPiece, Closes, after, StandsBefore}
+use Rattle.yaml_laws.proofs.Flow.States.{moved, past, IsFresh, Since, Known, PassesNoting, PassesPiece, Closes, after, StandsBefore}
 use Rattle.yaml_laws.proofs.Flow.Places.{moved_append}
 use Rattle.yaml_laws.proofs.Flow.Fillers.{separation_past, right_behind}
 use Rattle.yaml_laws.proofs.InBlock.Crossings.{separation_crosses}
 
--- a piece, and another behind it
-pub join : {around : Around} {start : Bool → State} {known more : Known} {x y : Context} {ls ms : List Level}
-    {ps : List Place} {m e : Marker} {o z : List ℕ} {ts us : List Kind}
+-- a piece, and another after it
+pub join : {comment : Option Marker} {around : Around} {start : Bool → State} {known more : Known} {x y : Context}
+    {ls ms : List Level} {ps : List Place} {m e : Marker} {o z : List ℕ} {ts us : List Kind}
     → (p : PassesPiece around start known x ls ps m o ts)
-    → (q : PassesPiece around (state_at around (after p)) more y ms (ps ++ p.new)
-    e z us) → (all : Known) → all q.key q.allowed q.adjacent (p.new ++ q.new)
-    → PassesPiece around start all y ms ps e z (ts ++ us)
+    → (q : PassesNoting comment around (state_at around (after p)) more y ms (ps ++ p.new) e z us) → (all : Known)
+    → all q.key q.allowed q.adjacent (p.new ++ q.new) → PassesNoting comment around start all y ms ps e z (ts ++ us)
 join {ps = ps} {ts = ts} {us = us} p q all knows =
     record {
       there = q.there;
@@ -38,7 +37,7 @@ join {ps = ps} {ts = ts} {us = us} p q all knows =
       knows = knows;
     }
 
--- what may be a key behind two texts with separation between
+-- what may be a key after two texts with separation between
 pub since_join : (k : Option Candidate) (m : Marker) (a w b : List ℕ) (j key : Option Candidate) → Since k m a j
     → Since j (moved (moved m a) w) b key → Since k m (a ++ (w ++ b)) key
 since_join k m a w b j key f (inl e) = inl e
@@ -68,52 +67,15 @@ since_join k m a w b j key f (inr (inr (front, back, place, is, g))) =
       g ∙ ap (λ (n : Marker). Some (let c : Candidate = record { mark = n; place = place } in c)) here,
     ))
 
--- a document's node, behind a piece that stands before it
+-- a document's node, after a piece that comes before it
 pub join_root : {around : Around} {start : Bool → State} {known : Known} {ps : List Place} {m e : Marker} {o z : List ℕ}
     {ts us : List Kind} → (p : PassesPiece around start known context.Block [] ps m o ts)
     {j k : Option Candidate} {first next : Marker} {t u : List ℕ}
-    → (q : Closes around (state_at around (after p)) j next
-    u (ps ++ p.new) e z us) → Since k first t q.key → Closes around start k first t ps e z (ts ++ us)
-join_root {ps = ps} {ts = ts} p q late =
-    record {
-      there = q.there;
-      key = q.key;
-      allowed = q.allowed;
-      adjacent = q.adjacent;
-      comment = q.comment;
-      right = q.right;
-      new = p.new ++ q.new;
-      leads = rw (← append_assoc ps p.new q.new) (chains p.leads q.leads);
-      fits = q.fits;
-      are = place_kinds_append p.new q.new ∙ ap (λ x. x ++ place_kinds q.new) p.are ∙ ap (λ x. ts ++ x) q.are;
-      low = q.low;
-      late = late;
-      fresh = q.fresh;
-    }
+    → (q : Closes around (state_at around (after p)) j next u (ps ++ p.new) e z us) → Since k first t q.run.key
+    → Closes around start k first t ps e z (ts ++ us)
+join_root p q late = record { comment = q.comment; run = join p q.run _ (q.run.knows.0, late) }
 
--- a document's node behind which no comment is noted
-pub closes_unnoted : {around : Around} {start : Bool → State} {known : Known} {ps : List Place} {m : Marker}
-    {o : List ℕ}
-    {ts : List Kind} → (p : PassesPiece around start known context.Block [] ps m o ts)
-    → p.adjacent ≤ (past around.indent m o).0.index → {k : Option Candidate} {first : Marker} {t : List ℕ}
-    → Since k first t p.key → Closes around start k first t ps m o ts
-closes_unnoted p low late = record {
-  there = p.there;
-  key = p.key;
-  allowed = p.allowed;
-  adjacent = p.adjacent;
-  comment = None;
-  new = p.new;
-  leads = p.leads;
-  right = p.right;
-  fits = p.fits;
-  are = p.are;
-  low = low;
-  late = late;
-  fresh = p.fresh;
-}
-
--- the separation behind a piece
+-- the separation after a piece
 pub separation_joins : {around : Around} {start : Bool → State} {known : Known} {x : Context} {ls : List Level}
     {ps : List Place}
     {ts : List Kind} → (m : Marker) (w o : List ℕ) → IsSeparation around.indent w
@@ -152,12 +114,21 @@ knowing p other h =
       knows = h;
     }
 
+-- a document's node after which no comment is noted
+abbrev pub closes_unnoted : {around : Around} {start : Bool → State} {known : Known} {ps : List Place} {m : Marker}
+    {o : List ℕ}
+    {ts : List Kind} → (p : PassesPiece around start known context.Block [] ps m o ts)
+    → p.adjacent ≤ (past around.indent m o).0.index → {k : Option Candidate} {first : Marker} {t : List ℕ}
+    → Since k first t p.key → Closes around start k first t ps m o ts
+closes_unnoted p low late = record { comment = None; run = knowing p _ (low, late) }
+
 -- one step
-pub step_passes : {around : Around} {start : Bool → State} (next : FlowMoment) (new : List Place) (m : Marker)
-    (o : List ℕ) (ts : List Kind) (known : Known) → (c : ComesAround around start (moment_with new next))
+pub step_passes : {comment : Option Marker} {around : Around} {start : Bool → State} (next : FlowMoment)
+    (new : List Place) (m : Marker) (o : List ℕ) (ts : List Kind) (known : Known)
+    → (c : ComesAround around start comment (moment_with new next))
     → around.indent ≤ m.col → StandsBefore around next m o → IsFresh next.context o next.allowed next.cursor
     → place_kinds new ≡ ts → known c.key next.allowed next.adjacent new
-    → PassesPiece around start known next.context next.outer next.places m o ts
+    → PassesNoting comment around start known next.context next.outer next.places m o ts
 step_passes next new m o ts known c right fits fresh are knows =
     record {
       there = next.cursor;

@@ -1,7 +1,7 @@
 -- Pairs that a `?` begins, inside flow.
 use Rattle.std.proofs.Common.{◌≡◌, ℕ, ◌+◌, ◌<◌, ◌≤◌, Bool, true, false, List, [], ◌∷◌, ◌++◌, length, refl, sym, ap, ◌∙◌, arith, subst, append_assoc, ◌⊎◌, inl, inr}
 use Rattle.std.specs.Prelude.{None}
-use Rattle.saphyr_input.specs.Indicators.{comma, question_mark, right_brace, right_bracket}
+use Rattle.saphyr_input.specs.Indicators.{question_mark}
 use Rattle.saphyr_scalar.specs.declared.scalar.position.Marker.{Marker}
 use Rattle.saphyr_scanner.specs.declared.engine.level.Context.{Context}
 use Rattle.saphyr_scanner.specs.Grammar.Tokens as tokens
@@ -12,14 +12,14 @@ use Rattle.saphyr_scanner.specs.Grammar.Forest.{Node, left_out}
 use Rattle.saphyr_scanner.specs.Limits.{most_open}
 use Rattle.yaml_laws.specs.Grammar.FlowNodes.{IsColonAndValue, IsKeyAndValue, IsValueAlone, IsBehindMark, IsExplicitPair, IsLoneMark, IsFlowNode}
 use Rattle.yaml_laws.proofs.InFlow.States.{Around, state_at, FlowMoment, moment_in}
-use Rattle.yaml_laws.proofs.Flow.States.{FitsAround, moved, past, IsInk, IsParted, PassesPiece, no_key, ended, PassesNode, after, StandsBefore}
+use Rattle.yaml_laws.proofs.Flow.States.{FitsAround, moved, past, IsInk, PassesPiece, no_key, ended, PassesNode, after, StandsBefore}
 use Rattle.yaml_laws.proofs.Flow.Places.{moved_append}
 use Rattle.yaml_laws.proofs.Flow.GapSteps.{past_low, less_on}
 use Rattle.yaml_laws.proofs.Flow.Joins.{join, separation_joins, knowing}
 use Rattle.yaml_laws.proofs.Flow.Values.{alone_kinds}
 use Rattle.yaml_laws.proofs.Flow.Questions.{mark_passes}
-use Rattle.yaml_laws.proofs.Flow.Inks.{BeginsInk, begins_with, ink_front, node_ink, key_text_ink}
-use Rattle.yaml_laws.proofs.Flow.Pieces.{fits_front, fits_back, fits_so, IsBehindEntry, end_ink, entry_behind}
+use Rattle.yaml_laws.proofs.Flow.Inks.{Begins, starts, begins_front, node_begins, key_text_begins, begins_with}
+use Rattle.yaml_laws.proofs.Flow.Pieces.{EndsEntry, fits_front, fits_back, fits_so, IsBehindEntry, end_ink, entry_behind, parted_by}
 use Rattle.yaml_laws.proofs.Flow.Pairs.{TellsPiece, told_at, told_so, PairTokens, AloneTokens, alone_passes, marked_key_passes}
 
 -- the tokens of such a pair
@@ -28,7 +28,7 @@ MarkedTokens key value t =
     grammar.YieldsSinglePair key value (grammar.YieldsNode key grammar.InFlow) (grammar.YieldsNode value grammar.InFlow)
     t
 
--- what a `?` begins, in a context y, where what stands behind it is in the context z
+-- what a `?` begins, in a context y, where what comes after it is in the context z
 pub record IsMarked (y z : Context) : Type 0 where
   pub flows : is_block y ≡ false
   pub question : behind_question y ≡ z
@@ -36,7 +36,7 @@ pub record IsMarked (y z : Context) : Type 0 where
   pub no_pair : begins_pair z ≡ false
   pub colon : behind_colon z ≡ z
 
--- the `?` and the separation behind it
+-- the `?` and the separation after it
 mark_behind : (around : Around) (y z : Context) → IsMarked y z → (m : Marker) (separation o : List ℕ)
     → FitsAround around m (question_mark ∷ separation) o → IsBehindMark around.indent separation
     → (first : ℕ) (others : List ℕ)
@@ -46,15 +46,7 @@ mark_behind : (around : Around) (y z : Context) → IsMarked y z → (m : Marker
     now.places
     (moved m (question_mark ∷ separation)) o (tokens.Key ∷ [])
 mark_behind around y z c m separation o fits (some, parts, tabs) first others is ink now before text =
-    let parted : IsParted around.indent (separation ++ o) =
-    record {
-      separation = separation;
-      first = first;
-      others = others;
-      is = ap (λ (t : List ℕ). separation ++ t) is;
-      parts = parts;
-      ink = ink;
-    } in
+    let parted = parted_by around.indent separation o parts (begins_with first others o is ink) in
     let f = fits_front m (63 ∷ []) separation o fits in
     let p = mark_passes around y c.flows m (separation ++ o) f parted some tabs now before text in
     let start = state_at around (moment_in y now) in
@@ -63,26 +55,24 @@ mark_behind around y z c m separation o fits (some, parts, tabs) first others is
     (moved m (63 ∷ separation)) o (tokens.Key ∷ [])) c.question (knowing q (no_key (moved m (63 ∷ separation)))
     (q.knows.0, q.knows.1, less_on q.adjacent (moved m (63 ∷ [])) separation q.knows.2))
 
--- ## A key, a value or both behind the mark
+-- ## A key, a value or both after the mark
 
-colon_ink : (indent : ℕ) (adjacent : Bool) (value : Node) (V : List ℕ → Type 0) (t : List ℕ)
-    → IsColonAndValue adjacent value V indent t → BeginsInk t
-colon_ink indent adjacent value V t (inl (none, e)) =
-    begins_with 58 [] t e (record { blank = refl; break = refl; comment = refl; byte_order_mark = refl })
-colon_ink indent adjacent value V t (inr (separation, node, parts, apart, h, e)) =
-    begins_with 58 (separation ++ node) t e
-    (record { blank = refl; break = refl; comment = refl; byte_order_mark = refl })
+colon_begins : (indent : ℕ) (adjacent : Bool) (value : Node) (V : List ℕ → Type 0) (t : List ℕ)
+    → IsColonAndValue adjacent value V indent t → Begins t
+colon_begins indent adjacent value V t (inl (none, e)) = starts 58 [] t e refl
+colon_begins indent adjacent value V t (inr (separation, node, parts, apart, h, e)) =
+    starts 58 (separation ++ node) t e refl
 
-pub alone_ink : (indent : ℕ) (key value : Node) (V : List ℕ → Type 0) (t : List ℕ) → IsValueAlone key value V indent t
-    → BeginsInk t
-alone_ink indent key value V t h = colon_ink indent false value V t h.1
+pub alone_begins : (indent : ℕ) (key value : Node) (V : List ℕ → Type 0) (t : List ℕ)
+    → IsValueAlone key value V indent t → Begins t
+alone_begins indent key value V t h = colon_begins indent false value V t h.1
 
-pub key_ink : (indent room : ℕ) (key value : Node) (V : List ℕ → Type 0) (t : List ℕ)
-    → IsKeyAndValue key value (IsFlowNode room key true indent) V indent t → BeginsInk t
-key_ink indent room key value V t (node, separation, colon, h, parts, apart, c, e) =
-    ink_front node t (separation ++ colon) e (key_text_ink indent room key node separation h)
+pub key_begins : (indent room : ℕ) (key value : Node) (V : List ℕ → Type 0) (t : List ℕ)
+    → IsKeyAndValue key value (IsFlowNode room key true indent) V indent t → Begins t
+key_begins indent room key value V t (node, separation, colon, h, parts, apart, c, e) =
+    begins_front node t (separation ++ colon) e (key_text_begins true indent room key node separation h)
 
--- what stands behind the separation of a mark
+-- what comes after the separation of a mark
 abbrev Inside : ℕ → ℕ → Node → Node → List ℕ → Type 0
 Inside indent room key value t =
     ((value ≡ left_out) × IsFlowNode room key true indent t)
@@ -90,12 +80,14 @@ Inside indent room key value t =
     ⊎ IsKeyAndValue key value (IsFlowNode room key true indent)
     (IsFlowNode room value true indent) indent t)
 
-inside_ink : (indent room : ℕ) (key value : Node) (t : List ℕ) → Inside indent room key value t → BeginsInk t
-inside_ink indent room key value t (inl h) = node_ink indent room key true t h.1
-inside_ink indent room key value t (inr (inl h)) = alone_ink indent key value (IsFlowNode room value true indent) t h
-inside_ink indent room key value t (inr (inr h)) = key_ink indent room key value (IsFlowNode room value true indent) t h
+inside_begins : (indent room : ℕ) (key value : Node) (t : List ℕ) → Inside indent room key value t → Begins t
+inside_begins indent room key value t (inl h) = node_begins indent room key true t h.1
+inside_begins indent room key value t (inr (inl h)) =
+    alone_begins indent key value (IsFlowNode room value true indent) t h
+inside_begins indent room key value t (inr (inr h)) =
+    key_begins indent room key value (IsFlowNode room value true indent) t h
 
--- the tokens behind the mark's
+-- the tokens after the mark's
 abbrev InsideTokens : Node → Node → List Kind → Type 0
 InsideTokens key value t = MarkedTokens key value (tokens.Key ∷ t)
 
@@ -159,7 +151,7 @@ pub explicit_passes : {around : Around} (room : ℕ) (key value : Node) → Pass
     → TellsPiece around (state_at around (moment_in y now)) (MarkedTokens key value) z now.outer now.places (moved m t)
     o
 explicit_passes {around} room key value K V y z c m t o fits ends (separation, pair, mark, h, e) now low before text =
-    let b = inside_ink around.indent room key value pair h in
+    let b = inside_begins around.indent room key value pair h in
     let is : t ≡ (63 ∷ separation) ++ pair = e in
     let whole = fits_so m t ((63 ∷ separation) ++ pair) o is fits in
     let texts : t ++ o ≡ 63 ∷ (separation ++ (pair ++ o)) = ap (λ (x : List ℕ). x ++ o) is
@@ -182,8 +174,7 @@ upto a b c h k = omega (arith, h, k)
 
 -- a `?` alone
 pub lone_passes : {around : Around} (key value : Node) (y z : Context) → IsMarked y z
-    → (m : Marker) (t : List ℕ) (c : ℕ) (cs : List ℕ) → FitsAround around m t (c ∷ cs)
-    → (c ≡ comma) ⊎ ((c ≡ right_bracket) ⊎ (c ≡ right_brace))
+    → (m : Marker) (t : List ℕ) (c : ℕ) (cs : List ℕ) → FitsAround around m t (c ∷ cs) → EndsEntry c
     → IsLoneMark key value around.indent t → (now : FlowMoment) → now.adjacent < m.index
     → StandsBefore around now m (t ++ (c ∷ cs))
     → TellsPiece around (state_at around (moment_in y now)) (MarkedTokens key value) z now.outer now.places (moved m t)

@@ -1,17 +1,17 @@
 -- The anchors, aliases and tags of a text in flow style are passed.
-use Rattle.std.proofs.Common.{◌≡◌, ℕ, ◌+◌, ◌≤◌, Bool, false, List, [], ◌∷◌, ◌++◌, length, slice_index, refl, sym, ap, ◌∙◌, arith, subst, encode_utf8_all}
+use Rattle.std.proofs.Common.{◌≡◌, ℕ, ◌+◌, ◌≤◌, Bool, true, false, List, [], ◌∷◌, ◌++◌, length, slice_index, refl, sym, ap, ◌∙◌, arith, subst, encode_utf8_all, IsTrue, inl, inr}
 use Rattle.std.specs.Prelude.{◌==◌, not, Option}
-use Rattle.saphyr_input.specs.Indicators.{ampersand, asterisk}
-use Rattle.saphyr_input.specs.Classes.{is_break, is_anchor_char, line_feed}
+use Rattle.saphyr_input.specs.Indicators.{exclamation_mark}
+use Rattle.saphyr_input.specs.Classes.{is_break, is_anchor_char, line_feed, is_alpha}
 use Rattle.saphyr_scalar.specs.declared.scalar.position.Marker.{Marker}
 use Rattle.saphyr_scalar.specs.Views.Cursor.{Cursor, ◌>>=◌, along}
 use Rattle.saphyr_scalar.specs.Steps.Quoted.{mid_line}
-use Rattle.saphyr_scalar.specs.Spelling.Tag.{AreIn, IsAnchorName, IsTagText, EndsTag}
+use Rattle.saphyr_scalar.specs.Spelling.Tag.{AreIn, IsAnchorName, IsTagText, EndsTag, IsHandleText}
 use Rattle.saphyr_scalar.proofs.NoBreaks.{NoBreaks}
 use Rattle.saphyr_scanner.specs.declared.engine.level.Context.{Context}
 use Rattle.saphyr_scanner.specs.Grammar.Tokens as tokens
 use Rattle.saphyr_scanner.specs.Grammar.Tokens.{Kind, alias_token, anchor_token, tag_token}
-use Rattle.saphyr_scanner.specs.Grammar.Forest.{Tag}
+use Rattle.saphyr_scanner.specs.Grammar.Forest.{Tag, Handle, Primary, Secondary, Named, handle_text, NonSpecific, Verbatim, Shorthand}
 use Rattle.saphyr_scanner.specs.Steps.Core.{Core, from_to, completed_step}
 use Rattle.saphyr_scanner.specs.Steps.Level.{Candidate, Level, is_block}
 use Rattle.saphyr_scanner.specs.Steps.Passing.{with_cursor}
@@ -25,11 +25,58 @@ use Rattle.yaml_laws.specs.Grammar.FlowNodes.{IsAnchor, IsAlias}
 use Rattle.yaml_laws.proofs.InFlow.States.{Around, core_at, Placed, placed_right, saves_key, as_before, FlowMoment}
 use Rattle.yaml_laws.proofs.Flow.States.{moved, ReaderPromises, FitsAround, StandsBefore}
 use Rattle.yaml_laws.proofs.Flow.Places.{moved_along, right_along}
-use Rattle.yaml_laws.proofs.Flow.Tokens.{Begins, token_passes, PassesToken}
-use Rattle.yaml_laws.proofs.Flow.Tags.{tag_read, tag_first}
+use Rattle.yaml_laws.proofs.Flow.Tokens.{token_passes, PassesToken}
 use Rattle.saphyr_scalar.proofs.Given.{cursor_at}
 use Rattle.saphyr_input.proofs.Basics.Characters.{no_break_no_feed}
 use Rattle.saphyr_scanner.proofs.Levels.{saved}
+use lib.Utf8.{encode}
+use Rattle.saphyr_scanner.specs.Grammar.Characters.{AreAll}
+use Rattle.yaml_laws.specs.Grammar.TagSpelling as spelling
+use Rattle.yaml_laws.proofs.Flow.Inks.{is_start, starts, tag_begins}
+
+letters_read : (word : List ℕ) → AreAll (λ c. IsTrue (is_alpha c)) word → AreIn is_alpha word
+letters_read [] h = tt
+letters_read (c ∷ others) h = (h.0, letters_read others h.1)
+
+pub handle_read : (handle : Handle) (t : List ℕ) → spelling.IsHandle handle t
+    → IsHandleText t × (t ≡ handle_text handle)
+handle_read Primary t h = (inl h, h)
+handle_read Secondary t h = (inr ([], tt, h), h)
+handle_read (Named word) t h = (inr (word, letters_read word h.1, h.2), h.2)
+
+-- a tag as it is read, and its token
+pub record IsReadTag (tag : Tag) (t : List ℕ) : Type 0 where
+  pub handle : List ℕ
+  pub suffix : List ℕ
+  pub is : IsTagText t handle suffix
+  pub token : tokens.Tag (encode_utf8_all handle) (encode_utf8_all suffix) ≡ tag_token tag
+
+mark_encoded : tokens.Tag [] (encode_utf8_all (exclamation_mark ∷ [])) ≡ tag_token NonSpecific
+unfolding encode
+mark_encoded = refl
+
+pub tag_read : (tag : Tag) (t : List ℕ) → spelling.IsTag tag t → IsReadTag tag t
+tag_read NonSpecific t h = record { handle = []; suffix = 33 ∷ []; is = inl (h, refl, refl); token = mark_encoded }
+tag_read (Verbatim uri) t h = record { handle = []; suffix = uri; is = inr (inl (h.0, h.2, refl, h.3)); token = refl }
+tag_read (Shorthand handle suffix) t h =
+    let r = handle_read handle h.0 h.2 in
+    record {
+      handle = h.0;
+      suffix = suffix;
+      is = inr (inr (h.1, r.0, h.3, h.4, h.5));
+      token = ap (λ (front : List ℕ). tokens.Tag (encode_utf8_all front) (encode_utf8_all suffix)) r.1;
+    }
+
+handle_first : (t back : List ℕ) → IsHandleText t → (others : List ℕ) × (t ++ back ≡ exclamation_mark ∷ others)
+handle_first t back (inl h) = (back, ap (λ (y : List ℕ). y ++ back) h)
+handle_first t back (inr h) = ((h.0 ++ 33 ∷ []) ++ back, ap (λ (y : List ℕ). y ++ back) h.2)
+
+-- a tag begins with `!`
+pub tag_first : (t handle suffix : List ℕ) → IsTagText t handle suffix
+    → (others : List ℕ) × (t ≡ exclamation_mark ∷ others)
+tag_first t handle suffix (inl h) = ([], h.0)
+tag_first t handle suffix (inr (inl h)) = (60 ∷ (h.0 ++ 62 ∷ []), h.3)
+tag_first t handle suffix (inr (inr h)) = let f = handle_first handle h.0 h.1 in (f.0, h.4 ∙ f.1)
 
 -- on its line what has no break has no line feed
 pub unbroken_on_line : (t : List ℕ) → NoBreaks t → AreIn (λ c. not (c == line_feed)) t
@@ -42,7 +89,7 @@ unbroken_along m t h = moved_along m t (unbroken_on_line t h)
 pub unbroken_right : (column : ℕ) (m : Marker) (t : List ℕ) → NoBreaks t → column ≤ m.col → column ≤ (moved m t).col
 unbroken_right column m t h low = right_along column m t (unbroken_on_line t h) low
 
--- no key may begin behind the token, and the place where a colon may stand at once is still the same
+-- no key may begin after the token, and the place where a colon may come at once is still the same
 abbrev pub closes_key : ℕ → Bool → ℕ → Type 0
 closes_key ad allowed adjacent = (allowed ≡ false) × (adjacent ≡ ad)
 
@@ -70,17 +117,19 @@ name_step reads around d token_of n m b indicator name o e h ends x k ls a ad pl
     ∙ ap (λ q. q >>= token) (reads.anchor s indicator name o refl h ends)
     ∙ ap (λ (end : Marker). token (encode_utf8_all name, mid_line end o)) (named_along m indicator name e h)
 
-name_passes : ReaderPromises → (around : Around) (token_of : List ℕ
-    → Kind) (indicator : ℕ) (name o : List ℕ) (m : Marker)
-    → ((second n : ℕ) (c : Core) → step indicator second n c ≡ property.name_steps token_of n c)
-    → Begins (indicator ∷ name) → is_break indicator ≡ false → IsAnchorName name
-    → is_anchor_char (slice_index o 0) ≡ false → FitsAround around m (indicator ∷ name) o
-    → (now : FlowMoment) → StandsBefore around now m ((indicator ∷ name) ++ o) → PassesToken around
-    (closes_key now.adjacent) now m (indicator ∷ name) o (token_of (encode_utf8_all name))
-name_passes reads around token_of indicator name o m begins first break h ends fits now text =
+name_passes : ReaderPromises → (around : Around) (token_of : List ℕ → Kind) (indicator : ℕ) (name t o : List ℕ)
+    (m : Marker) → ((second n : ℕ) (c : Core) → step indicator second n c ≡ property.name_steps token_of n c)
+    → is_start indicator ≡ true → is_break indicator ≡ false → IsAnchorName name → t ≡ indicator ∷ name
+    → is_anchor_char (slice_index o 0) ≡ false → FitsAround around m t o → (now : FlowMoment)
+    → StandsBefore around now m (t ++ o)
+    → PassesToken around (closes_key now.adjacent) now m t o (token_of (encode_utf8_all name))
+name_passes reads around token_of indicator name t o m begins start break h is ends whole now stands =
     let kind = token_of (encode_utf8_all name) in
     let end = moved m (indicator ∷ name) in
-    token_passes around (closes_key now.adjacent) kind (indicator ∷ name) o m first fits
+    subst (λ (p : List ℕ). FitsAround around m p o → StandsBefore around now m (p ++ o)
+    → PassesToken around (closes_key now.adjacent) now m p o kind) (sym is) (λ fits text.
+    token_passes around (closes_key now.adjacent) kind (indicator ∷ name) o m
+    (starts indicator name (indicator ∷ name) refl start) fits
     (unbroken_right around.indent m (indicator ∷ name) (break, name_no_break name h) fits.right) now text
     (λ b j e. record {
       there = mid_line end o;
@@ -96,7 +145,7 @@ name_passes reads around token_of indicator name o m begins first break h ends f
       fits = refl;
       fresh = λ _ e. e;
       tells = (refl, refl);
-    })
+    })) whole stands
 
 pub begins_anchor : (second n : ℕ) (c : Core) → step 38 second n c ≡ property.anchor_steps n c
 unfolding step
@@ -106,47 +155,19 @@ pub begins_alias : (second n : ℕ) (c : Core) → step 42 second n c ≡ proper
 unfolding step
 begins_alias second n c = refl
 
-pub anchor_first : (name : List ℕ) → Begins (ampersand ∷ name)
-anchor_first name = record {
-  first = 38;
-  others = name;
-  is = refl;
-  ink = record { blank = refl; break = refl; comment = refl; byte_order_mark = refl };
-  nul = refl;
-  directive = refl;
-}
-
-pub alias_first : (name : List ℕ) → Begins (asterisk ∷ name)
-alias_first name = record {
-  first = 42;
-  others = name;
-  is = refl;
-  ink = record { blank = refl; break = refl; comment = refl; byte_order_mark = refl };
-  nul = refl;
-  directive = refl;
-}
-
 pub anchor_passes : ReaderPromises → (around : Around) (name t o : List ℕ) (m : Marker) → IsAnchor name t
     → is_anchor_char (slice_index o 0) ≡ false → FitsAround around m t o → (now : FlowMoment)
-    → StandsBefore around now m
-    (t ++ o) → PassesToken around (closes_key now.adjacent) now m t o (anchor_token name)
-anchor_passes reads around name t o m h ends fits now text =
-    subst (λ (p : List ℕ). FitsAround around m p o → StandsBefore around now m (p ++ o)
-    → PassesToken around (closes_key now.adjacent) now m p o (anchor_token name))
-    (sym h.1) (λ f e. name_passes reads around tokens.Anchor 38 name o m begins_anchor (anchor_first name) refl h.0 ends
-    f now
-    e) fits text
+    → StandsBefore around now m (t ++ o)
+    → PassesToken around (closes_key now.adjacent) now m t o (anchor_token name)
+anchor_passes reads around name t o m h =
+    name_passes reads around tokens.Anchor 38 name t o m begins_anchor refl refl h.0 h.1
 
 pub alias_token_passes : ReaderPromises → (around : Around) (name t o : List ℕ) (m : Marker) → IsAlias name t
     → is_anchor_char (slice_index o 0) ≡ false → FitsAround around m t o → (now : FlowMoment)
-    → StandsBefore around now m
-    (t ++ o) → PassesToken around (closes_key now.adjacent) now m t o (alias_token name)
-alias_token_passes reads around name t o m h ends fits now text =
-    subst (λ (p : List ℕ). FitsAround around m p o → StandsBefore around now m (p ++ o)
-    → PassesToken around (closes_key now.adjacent) now m p o (alias_token name))
-    (sym h.1) (λ f e. name_passes reads around tokens.Alias 42 name o m begins_alias (alias_first name) refl h.0 ends f
-    now e)
-    fits text
+    → StandsBefore around now m (t ++ o)
+    → PassesToken around (closes_key now.adjacent) now m t o (alias_token name)
+alias_token_passes reads around name t o m h =
+    name_passes reads around tokens.Alias 42 name t o m begins_alias refl refl h.0 h.1
 
 -- ## Tags
 
@@ -179,14 +200,7 @@ pub tag_passes : ReaderPromises → (around : Around) (tag : Tag) (t o : List �
 tag_passes reads around tag t o m h fits now ends text =
     let r = tag_read tag t h in
     let f = tag_first t r.handle r.suffix r.is in
-    let first : Begins t = record {
-      first = 33;
-      others = f.0;
-      is = f.1;
-      ink = record { blank = refl; break = refl; comment = refl; byte_order_mark = refl };
-      nul = refl;
-      directive = refl;
-    } in
+    let first = tag_begins tag t h in
     let at_first : slice_index (t ++ o) 0 ≡ 33 = ap (λ (p : List ℕ). slice_index (p ++ o) 0) f.1 in
     let second = slice_index (t ++ o) 1 in
     let end = moved m t in

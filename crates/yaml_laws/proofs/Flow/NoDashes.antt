@@ -8,7 +8,7 @@ use Rattle.yaml_laws.specs.Grammar.FlowScalars.{IsFlowScalar}
 use Rattle.yaml_laws.specs.Grammar.TagSpelling.{IsTag}
 use Rattle.yaml_laws.specs.Grammar.FlowNodes.{IsAnchor, AreProperties, IsBeforeContent, IsFlowNode}
 use Rattle.yaml_laws.proofs.Flow.Plains.{word_begins, lone_test}
-use Rattle.yaml_laws.proofs.Flow.Tags.{tag_read, tag_first}
+use Rattle.yaml_laws.proofs.Flow.Names.{tag_read, tag_first}
 
 abbrev pub NoDash : List ℕ → Type 0
 NoDash y = ((slice_index y 0 == hyphen) && is_blank_or_breakz (slice_index y 1)) ≡ false

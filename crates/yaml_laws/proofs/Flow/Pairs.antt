@@ -20,10 +20,9 @@ use Rattle.yaml_laws.proofs.Flow.Places.{moved_append, right_one}
 use Rattle.yaml_laws.proofs.Flow.GapSteps.{past_ink, less_on, less_behind}
 use Rattle.yaml_laws.proofs.Flow.Fillers.{separation_past, right_behind}
 use Rattle.yaml_laws.proofs.Flow.Joins.{join, separation_joins, knowing}
-use Rattle.yaml_laws.proofs.Flow.Colons.{key_kinds, colon_flows}
-use Rattle.yaml_laws.proofs.Flow.Values.{key_at, colon_passes, alone_kinds, value_passes}
-use Rattle.yaml_laws.proofs.Flow.Inks.{node_ink}
-use Rattle.yaml_laws.proofs.Flow.Pieces.{fits_front, fits_back, fits_so, fits_before, IsBehindEntry, entry_behind, entry_parted, ink_parted, white_ends_colon, entry_ends_colon}
+use Rattle.yaml_laws.proofs.Flow.Values.{key_kinds, colon_flows, key_at, colon_passes, alone_kinds, value_passes}
+use Rattle.yaml_laws.proofs.Flow.Inks.{ink_front, node_ink}
+use Rattle.yaml_laws.proofs.Flow.Pieces.{fits_front, fits_back, fits_so, fits_before, IsBehindEntry, entry_behind, entry_parted, parted_by, white_ends_colon, entry_ends_colon}
 
 -- The tokens of a piece, of which something is told, and the run over its text.
 pub record TellsPiece (around : Around) (start : Bool → State) (Is : List Kind → Type 0) (x : Context) (ls : List Level)
@@ -49,7 +48,7 @@ ValueTokens value vs = grammar.YieldsOptional value (grammar.YieldsNode value gr
 
 -- ## The value
 
--- what stands behind a colon, up to the value's end
+-- what comes after a colon, up to the value's end
 abbrev pub IsValueText : ℕ → ℕ → Node → List ℕ → Type 0
 IsValueText indent room value rest =
     ((value ≡ left_out) × (rest ≡ []))
@@ -89,7 +88,7 @@ value_behind {around} {start} {ls} {ps} {ts} room value V y flows m rest o fits 
       passes = join q n.passes (ended around.indent (moved (moved m separation) node) o) (n.passes.knows.low flows);
     })
 
--- a colon and what stands behind it
+-- a colon and what comes after it
 pub record IsColonText (indent room : ℕ) (adjacent : Bool) (value : Node) (colon o : List ℕ) : Type 0 where
   pub rest : List ℕ
   pub is : colon ≡ 58 ∷ rest
@@ -114,7 +113,8 @@ is_colon_text indent room adjacent value colon o ends (inr (separation, node, pa
       rest = separation ++ node;
       is = e;
       parted = subst (IsParted indent) assoc
-          (ink_parted indent separation node o parts (node_ink indent room value true node h));
+          (parted_by indent separation (node ++ o) parts
+          (ink_front node (node ++ o) o refl (node_ink indent room value true node h)));
       ends = by_part apart;
       value_text = inr (separation, node, parts, h, refl);
     }
@@ -246,19 +246,19 @@ alone_passes {around} room key value V y flows m t o fits ends (none, c) now no_
     by_end c (inl h) = absurd (cc)
     by_end c (inr h) = inr h
 
--- ## A key and a value behind a mark
+-- ## A key and a value after a mark
 
 regrouped_alone : (begins : Bool) (ks vs : List Kind) → begins ≡ false
     → (ks ++ (alone_kinds begins ++ tokens.Value ∷ [])) ++ vs ≡ ks ++ tokens.Value ∷ vs
 regrouped_alone begins ks vs e =
     ap (λ (b : Bool). (ks ++ (alone_kinds b ++ tokens.Value ∷ [])) ++ vs) e ∙ append_assoc ks (tokens.Value ∷ []) vs
 
--- before a colon: no key is kept, and the colon may stand at once, or what stands behind it ends it
+-- before a colon: no key is kept, and the colon may come at once, or what comes after it ends it
 abbrev at_colon : Marker → ℕ → Known
 at_colon here second key allowed adjacent new =
     (key ≡ None) × ((here.index ≡ adjacent) ⊎ IsTrue (ends_colon second)) × (adjacent ≤ here.index)
 
--- behind `?` no key is kept
+-- after `?` no key is kept
 pub marked_key_passes : {around : Around} (room : ℕ) (key value : Node) → PassesNode around room key
     → PassesNode around room value → (y : Context) → is_block y ≡ false → begins_pair y ≡ false
     → (m : Marker) (t o : List ℕ) → FitsAround around m t o → IsBehindEntry around.indent o

@@ -1,15 +1,14 @@
--- Pieces of a text in flow style in parts, and what stands behind them.
+-- Pieces of a text in flow style in parts, and what comes after them.
 use Rattle.std.proofs.Common.{◌≡◌, ◌≢◌, ℕ, ◌+◌, ◌≤◌, true, List, [], ◌∷◌, ◌++◌, length, slice_index, refl, sym, ap, arith, subst, append_assoc, IsTrue, ◌⊎◌, inl, inr}
 use Rattle.std.specs.Prelude.{◌||◌, ◌==◌}
 use Rattle.std.proofs.lemmas.Bool.Decides.{nat_tests}
-use Rattle.saphyr_input.specs.Indicators.{colon, comma, right_brace, right_bracket}
+use Rattle.saphyr_input.specs.Indicators.{comma, right_brace, right_bracket}
 use Rattle.saphyr_input.specs.Classes.{is_blank, is_blank_or_breakz, line_feed}
 use Rattle.saphyr_scalar.specs.declared.scalar.position.Marker.{Marker}
 use Rattle.scalar_laws.specs.Spelling.Spaces.{IsSeparation}
 use Rattle.saphyr_scanner.specs.Grammar.Forest.{Node}
-use Rattle.yaml_laws.specs.Grammar.FlowNodes.{IsBeforeColon, allows_adjacent}
 use Rattle.yaml_laws.proofs.InFlow.States.{Around}
-use Rattle.yaml_laws.proofs.Flow.States.{moved, IsInk, IsParted, ends_colon, IsBehindNode, FitsAround}
+use Rattle.yaml_laws.proofs.Flow.States.{moved, IsInk, IsBehind, IsParted, EndsNode, ends_colon, IsBehindNode, FitsAround}
 use Rattle.yaml_laws.proofs.Flow.Places.{moved_count, clear_front, clear_back}
 use Rattle.yaml_laws.proofs.Flow.Spaces.{separation_begins}
 use Rattle.yaml_laws.proofs.Flow.Inks.{BeginsInk}
@@ -42,18 +41,30 @@ pub fits_before : {around : Around} (m : Marker) (p o q : List ℕ) → o ≡ q 
     → FitsAround around m p q
 fits_before {around} m p o q e h = subst (FitsAround around m p) e h
 
--- ## What stands behind
+-- ## What comes after
+
+-- a comma or a closing bracket
+abbrev pub EndsEntry : ℕ → Type 0
+EndsEntry c = (c ≡ comma) ⊎ ((c ≡ right_bracket) ⊎ (c ≡ right_brace))
 
 -- separation, and what ends an entry
-pub record IsBehindEntry (indent : ℕ) (o : List ℕ) : Type 0 where
-  pub separation : List ℕ
-  pub first : ℕ
-  pub others : List ℕ
-  pub is : o ≡ separation ++ (first ∷ others)
-  pub parts : IsSeparation indent separation
-  pub ends : (first ≡ comma) ⊎ ((first ≡ right_bracket) ⊎ (first ≡ right_brace))
+abbrev pub IsBehindEntry : ℕ → List ℕ → Type 0
+IsBehindEntry indent o = IsBehind indent (λ w c cs. EndsEntry c) o
 
-pub end_ink : (c : ℕ) → (c ≡ comma) ⊎ ((c ≡ right_bracket) ⊎ (c ≡ right_brace)) → IsInk c
+-- what comes after, told otherwise
+pub behind_so : {indent : ℕ} {P Q : List ℕ → ℕ → List ℕ → Type 0} {o : List ℕ}
+    → ((w : List ℕ) (c : ℕ) (cs : List ℕ) → P w c cs → Q w c cs) → IsBehind indent P o → IsBehind indent Q o
+behind_so f h =
+    record {
+      separation = h.separation;
+      first = h.first;
+      others = h.others;
+      is = h.is;
+      parts = h.parts;
+      ends = f h.separation h.first h.others h.ends;
+    }
+
+pub end_ink : (c : ℕ) → EndsEntry c → IsInk c
 end_ink c (inl e) = subst IsInk (sym e) (record { blank = refl; break = refl; comment = refl; byte_order_mark = refl })
 end_ink c (inr (inl e)) =
     subst IsInk (sym e) (record { blank = refl; break = refl; comment = refl; byte_order_mark = refl })
@@ -61,52 +72,32 @@ end_ink c (inr (inr e)) =
     subst IsInk (sym e) (record { blank = refl; break = refl; comment = refl; byte_order_mark = refl })
 
 pub entry_behind : (indent : ℕ) (node : Node) (o : List ℕ) → IsBehindEntry indent o → IsBehindNode indent node o
-entry_behind indent node o h =
-    record {
-      separation = h.separation;
-      first = h.first;
-      others = h.others;
-      is = h.is;
-      parts = h.parts;
-      ends = by_end h.ends;
-    }
+entry_behind indent node o h = behind_so by_end h
   where
-    by_end : (h.first ≡ comma) ⊎ ((h.first ≡ right_bracket) ⊎ (h.first ≡ right_brace))
-        → (h.first ≡ comma) ⊎ ((h.first ≡ right_bracket)
-        ⊎ ((h.first ≡ right_brace) ⊎ ((h.first ≡ colon) × IsBeforeColon node h.separation
-        × (IsTrue (allows_adjacent node h.separation) ⊎ IsTrue (ends_colon (slice_index h.others 0))))))
-    by_end (inl e) = inl e
-    by_end (inr (inl e)) = inr (inl e)
-    by_end (inr (inr e)) = inr (inr (inl e))
+    by_end : (w : List ℕ) (c : ℕ) (cs : List ℕ) → EndsEntry c → EndsNode node w c cs
+    by_end w c cs (inl e) = inl e
+    by_end w c cs (inr (inl e)) = inr (inl e)
+    by_end w c cs (inr (inr e)) = inr (inr (inl e))
 
 pub entry_parted : (indent : ℕ) (o : List ℕ) → IsBehindEntry indent o → IsParted indent o
-entry_parted indent o h =
-    record {
-      separation = h.separation;
-      first = h.first;
-      others = h.others;
-      is = h.is;
-      parts = h.parts;
-      ink = end_ink h.first h.ends;
-    }
+entry_parted indent o h = behind_so (λ w c cs e. end_ink c e) h
 
 -- more separation before what ends an entry
-pub wider_entry : (indent : ℕ) (w c_others : List ℕ) (c : ℕ) → IsSeparation indent w
-    → (c ≡ comma) ⊎ ((c ≡ right_bracket) ⊎ (c ≡ right_brace))
-    → IsBehindEntry indent (w ++ (c ∷ c_others))
+pub wider_entry : (indent : ℕ) (w others : List ℕ) (c : ℕ) → IsSeparation indent w → EndsEntry c
+    → IsBehindEntry indent (w ++ (c ∷ others))
 wider_entry indent w others c parts ends =
     record { separation = w; first = c; others = others; is = refl; parts = parts; ends = ends }
 
 -- separation before some ink
-pub ink_parted : (indent : ℕ) (w t o : List ℕ) → IsSeparation indent w → BeginsInk t → IsParted indent (w ++ (t ++ o))
-ink_parted indent w t o parts b =
+abbrev pub parted_by : (indent : ℕ) (w t : List ℕ) → IsSeparation indent w → BeginsInk t → IsParted indent (w ++ t)
+parted_by indent w t parts b =
     record {
       separation = w;
       first = b.first;
-      others = b.others ++ o;
-      is = ap (λ (x : List ℕ). w ++ (x ++ o)) b.is;
+      others = b.others;
+      is = ap (λ (x : List ℕ). w ++ x) b.is;
       parts = parts;
-      ink = b.ink;
+      ends = b.ink;
     }
 
 white_ends : (c : ℕ) → (is_blank c ≡ true) ⊎ (c ≡ line_feed) → IsTrue (ends_colon c)
@@ -117,19 +108,19 @@ white_ends c (inl h) = blank c h
     blank c h = grind (arith, nat_tests)
 white_ends c (inr e) = subst (λ (z : ℕ). IsTrue (ends_colon z)) (sym e) refl
 
--- behind separation that is not empty
+-- after separation that is not empty
 pub white_ends_colon : (indent : ℕ) (w y : List ℕ) → IsSeparation indent w → w ≢ []
     → IsTrue (ends_colon (slice_index (w ++ y) 0))
 white_ends_colon indent w y parts some =
     let b = separation_begins indent w parts some in
     subst (λ (t : List ℕ). IsTrue (ends_colon (slice_index (t ++ y) 0))) (sym b.is) (white_ends b.first b.white)
 
--- where nothing stands behind a colon
+-- where nothing comes after a colon
 pub entry_ends_colon : (indent : ℕ) (o : List ℕ) → IsBehindEntry indent o → IsTrue (ends_colon (slice_index o 0))
 entry_ends_colon indent o h =
     subst (λ (t : List ℕ). IsTrue (ends_colon (slice_index t 0))) (sym h.is) (by_separation h.separation h.parts)
   where
-    end : (c : ℕ) → (c ≡ comma) ⊎ ((c ≡ right_bracket) ⊎ (c ≡ right_brace)) → IsTrue (ends_colon c)
+    end : (c : ℕ) → EndsEntry c → IsTrue (ends_colon c)
     end c (inl e) = subst (λ (z : ℕ). IsTrue (ends_colon z)) (sym e) refl
     end c (inr (inl e)) = subst (λ (z : ℕ). IsTrue (ends_colon z)) (sym e) refl
     end c (inr (inr e)) = subst (λ (z : ℕ). IsTrue (ends_colon z)) (sym e) refl

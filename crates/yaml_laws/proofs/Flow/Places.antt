@@ -1,4 +1,4 @@
--- Places behind the pieces of a text, and pieces that no document marker begins a line of.
+-- Places after the pieces of a text, and pieces that no document marker begins a line of.
 use Rattle.std.proofs.Common.{◌≡◌, ℕ, suc, ◌+◌, ◌≤◌, Bool, true, false, List, [], ◌∷◌, ◌++◌, length, refl, sym, ap, ◌∙◌, arith, subst, append_assoc, IsTrue}
 use Rattle.std.specs.Prelude.{◌&&◌, ◌==◌, not, if◌then◌else◌}
 use Rattle.std.proofs.lemmas.Bool.Decides.{nat_tests}
@@ -14,7 +14,7 @@ use Rattle.saphyr_input.proofs.Basics.Booleans.{by_test}
 use Rattle.std.proofs.lemmas.Bool.{or_parts, or_from}
 use Rattle.scalar_laws.proofs.Beginnings.{front_in, back_in}
 
--- behind one character
+-- after one character
 abbrev pub behind_character : Marker → ℕ → Marker
 behind_character m c = if c == line_feed then next_line m 1 else along m 1
 
@@ -51,7 +51,7 @@ moved_along m (c ∷ cs) h =
     never true e k = absurd (cc)
     never false e k = cc
 
--- what stands right of a column goes on there
+-- what is right of a column goes on there
 pub right_along : (column : ℕ) (m : Marker) (p : List ℕ) → AreIn (λ c. not (c == line_feed)) p → column ≤ m.col
     → column ≤ (moved m p).col
 right_along column m p h low =

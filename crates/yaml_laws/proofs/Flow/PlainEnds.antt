@@ -1,4 +1,4 @@
--- What stands behind a node in flow style ends a plain scalar.
+-- What comes after a node in flow style ends a plain scalar.
 use Rattle.std.proofs.Common.{◌≡◌, ◌≢◌, ℕ, ◌<◌, ◌≤◌, Bool, true, false, List, [], ◌∷◌, slice_index, refl, sym, ap, ◌∙◌, arith, subst, IsTrue, ◌⊎◌, inl, inr}
 use Rattle.std.specs.Prelude.{◌||◌, ◌&&◌, ◌==◌, if◌then◌else◌}
 use Rattle.std.proofs.lemmas.Bool.{false≢true}
@@ -21,7 +21,7 @@ use Rattle.yaml_laws.proofs.Flow.Quotes.{ends_node_ink}
 use Rattle.saphyr_input.proofs.Basics.Booleans.{by_test}
 use Rattle.yaml_laws.proofs.Flow.Inks.{bom_is}
 
--- ## Behind the blanks and breaks
+-- ## After the blanks and breaks
 
 abbrev StopsWhite : List ℕ → Type 0
 StopsWhite [] = Unit {0}
@@ -101,7 +101,7 @@ colon_stops : (others : List ℕ) → IsTrue (ends_colon (slice_index others 0))
 unfolding is_in_word
 colon_stops others h = rw (colon_ends (slice_index others 0) h) refl
 
--- a node that lets no value stand right behind its colon
+-- a node that lets no value come right after its colon
 abbrev pub ParsColon : Node → Type 0
 ParsColon node = (w : List ℕ) → allows_adjacent node w ≡ false
 

@@ -21,17 +21,16 @@ use Rattle.saphyr_scanner.specs.Steps.Scalar as scalar
 use Rattle.saphyr_scanner.specs.Steps.Scalar.{read_plain, disallow_key, behind_plain}
 use Rattle.saphyr_scanner.specs.Steps.Fetch.{step, is_value_adjacent}
 use Rattle.yaml_laws.specs.Grammar.FlowScalars.{begins_plain, IsPlain, IsPlainKey}
-use Rattle.yaml_laws.proofs.InFlow.States.{Around, core_at, state_at, Placed, placed_right, plain_placed, saves_key, none_deeper, FlowMoment, moment, root_moment}
-use Rattle.yaml_laws.proofs.Flow.States.{moved, past, IsClear, IsInk, ReaderPromises, Closes, FitsAround, StandsBefore}
+use Rattle.yaml_laws.proofs.InFlow.States.{Around, core_at, state_at, Placed, placed_right, plain_placed, saves_key, none_deeper, FlowMoment, moment, moment_with, root_moment}
+use Rattle.yaml_laws.proofs.Flow.States.{moved, past, IsClear, ReaderPromises, Closes, FitsAround, StandsBefore}
+use Rattle.yaml_laws.proofs.Flow.Joins.{step_passes}
 use Rattle.yaml_laws.proofs.Flow.Places.{moved_count}
 use Rattle.yaml_laws.proofs.Flow.Fillers.{white_past}
 use Rattle.yaml_laws.proofs.Flow.GapSteps.{past_ink}
-use Rattle.yaml_laws.proofs.Flow.Arrivals.{arrives, within_index}
-use Rattle.yaml_laws.proofs.Flow.Low.{behind_low}
-use Rattle.yaml_laws.proofs.Flow.Tokens.{Begins, saved_since, begins_past, begins_inked, begins_token, adjacent_at, token_passes, PassesToken}
+use Rattle.yaml_laws.proofs.Flow.Tokens.{arrives, step_comes, within_index, saved_since, begins_past, begins_inked, begins_token, adjacent_at, token_passes, PassesToken}
+use Rattle.yaml_laws.proofs.Flow.Inks.{start_ink, behind_low, Begins}
 use Rattle.yaml_laws.proofs.Flow.WordGaps.{passed_moved, normalized_same}
 use Rattle.yaml_laws.proofs.Flow.Words.{ink_other, ink_no_break, colon_is_ink, plain_text, key_text, plain_right, key_right}
-use Rattle.yaml_laws.proofs.Flow.Noted.{noted_step_comes}
 use Rattle.yaml_laws.proofs.InBlock.Crossings.{white_crosses}
 use Rattle.saphyr_input.proofs.Basics.Booleans.{other_than, and_false}
 use Rattle.saphyr_scalar.proofs.Given.{cursor_at}
@@ -42,7 +41,7 @@ use Rattle.saphyr_scanner.proofs.Levels.{saved}
 
 -- ## The first two characters
 
--- the first word of a plain scalar begins a text, before what stands behind it
+-- the first word of a plain scalar begins a text, before what comes after it
 pub record BeginsWord (f : Bool) (t o : List ℕ) : Type 0 where
   pub first : ℕ
   pub others : List ℕ
@@ -82,7 +81,7 @@ word_begins f indent t o (word, others, (is_word, begins, no_dash, no_mark, no_c
           further = λ _. ink.2.0;
         }
 
--- the first word of a key, which stands before the key's colon
+-- the first word of a key, which comes before the key's colon
 pub key_begins : (f : Bool) (indent : ℕ) (t r : List ℕ) → IsPlainKey f indent t → BeginsWord f t (58 ∷ r)
 key_begins f indent t r (inl ((some, ink, sign), begins)) = by_word t some ink sign begins
   where
@@ -142,6 +141,7 @@ token_begins f t o b =
       };
       nul = no_nul b.first ink.blank_or_breakz;
       directive = other_than begins_plain 37 b.first refl b.begins;
+      comma = other_than begins_plain 44 b.first refl b.begins;
     }
 
 -- a character before a word's second one
@@ -153,7 +153,7 @@ lone_test f first d second h = by_first (first == d) refl
     by_first true e = rw e ((ink_other f second (h (eqb-true first d e))).blank_or_breakz)
     by_first false e = rw e refl
 
--- no value stands where a colon is part of a word
+-- no value is where a colon is part of a word
 value_test : (block : Bool) (first second i ad : ℕ) → (first ≡ 58 → IsTrue (is_word_ink (not block) second))
     → (block ≡ true) ⊎ (ad < i)
     → ((first == 58) && (not block && (is_flow second || (i == ad)))) ≡ false
@@ -264,7 +264,7 @@ plain_dispatches around d s n t o x w k ls a ad low =
     second_ink f t o w e =
         subst (λ (y : List ℕ). IsTrue (is_word_ink f (slice_index (y ++ o) 1))) (sym w.is) (w.further e)
 
--- The premises of a step over a plain scalar: outside flow, or where no colon may stand at once.
+-- The premises of a step over a plain scalar: outside flow, or where no colon may come at once.
 pub plain_step : ReaderPromises → (around : Around) (d : Bool) (n : ℕ) (m : Marker) (b : Bool) (t o : List ℕ)
     (x : Context)
     → BeginsWord (not (is_block x)) t o → IsPlainText (not (is_block x)) around.indent m t o → IsClear m t o
@@ -337,10 +337,8 @@ plain_key_passes reads around t r m h fits ends =
     text_passes reads around t (58 ∷ r) m (key_begins true around.indent t r h)
     (key_text true around.indent m t r h fits.clear ends) fits
     (key_right true around.indent m t r h fits.clear fits.right)
-    (ap (λ (z : Marker × List ℕ). is_blank (slice_index z.1 0)) (past_ink around.indent (moved m t) 58 r colon_ink))
-  where
-    colon_ink : IsInk 58
-    colon_ink = record { blank = refl; break = refl; comment = refl; byte_order_mark = refl }
+    (ap (λ (z : Marker × List ℕ). is_blank (slice_index z.1 0))
+    (past_ink around.indent (moved m t) 58 r (start_ink 58 refl)))
 
 -- ## A document's node
 
@@ -361,26 +359,21 @@ plain_closes reads around t o m h fits ends inked now before text =
     let below = fits.below in
     let low = within_index around.indent around.limit u (moved m t) o lands (omega (arith, count, below)) in
     let new = token_place m (moved m t) (plain_token t) ∷ [] in
+    let comment = comment_of false (is_tabbed around.indent o) u in
+    let next = moment u context.Block (saved v.allowed (length now.places) m v.key) [] u.blank_so_far now.adjacent
+    now.places in
     let stepped = λ (d : Bool). plain_step reads around d (length now.places) m v.blank t o context.Block w
     (plain_text false around.indent m t o h fits.clear ends) fits.clear v.key [] v.allowed now.adjacent (inl refl)
     (placed_right context.Block v.allowed fits.calm fits.right) in
-    let came = noted_step_comes around now m (t ++ o) v (begins_token m t o f fits.clear)
-    (comment_of false (is_tabbed around.indent o) u) (moment u context.Block (saved v.allowed (length now.places) m
-    v.key) [] u.blank_so_far now.adjacent
-    (now.places ++ new)) (from_to m (moved m t) (plain_token t) ∷ []) (λ d. false) (none_deeper around) stepped refl
+    let came = step_comes around (root_moment now) m (t ++ o) v (begins_token m t o f fits.clear) comment
+    (moment_with new next) (from_to m (moved m t) (plain_token t) ∷ []) (λ d. false) (none_deeper around) stepped refl
     low in
     record {
-      there = u;
-      key = came.key;
-      allowed = u.blank_so_far;
-      adjacent = now.adjacent;
-      comment = comment_of false (is_tabbed around.indent o) u;
-      new = new;
-      leads = came.leads;
-      right = plain_right false around.indent m t o h fits.clear fits.right;
-      fits = lands;
-      are = refl;
-      low = behind_low around.indent now.adjacent m t o before;
-      late = saved_since v.allowed (length now.places) m now.key v.key t came.key v.kept came.kept;
-      fresh = λ _ e. white_crosses (moved m t) false o e;
+      comment = comment;
+      run = step_passes next new (moved m t) o (scalar_token Plain (plain_value t) ∷ []) _ came
+          (plain_right false around.indent m t o h fits.clear fits.right) lands
+          (λ _ e. white_crosses (moved m t) false o e) refl (
+            behind_low around.indent now.adjacent m t o before,
+            saved_since v.allowed (length now.places) m now.key v.key t came.key v.kept came.kept,
+          );
     }

@@ -29,15 +29,14 @@ use Rattle.yaml_laws.proofs.Flow.GapSteps.{less_behind}
 use Rattle.yaml_laws.proofs.Flow.Fillers.{spaces_are_blank, separation_past, right_behind}
 use Rattle.yaml_laws.proofs.Flow.Pieces.{fits_front, fits_back}
 use Rattle.yaml_laws.proofs.Flow.Joins.{since_join, join, closes_unnoted, knowing}
-use Rattle.yaml_laws.proofs.Flow.Inks.{node_ink}
-use Rattle.yaml_laws.proofs.Flow.Low.{start_low, behind_low}
+use Rattle.yaml_laws.proofs.Flow.Inks.{node_ink, start_low, behind_low}
 use Rattle.yaml_laws.proofs.Flow.Tokens.{after_token}
 use Rattle.yaml_laws.proofs.Flow.Names.{closes_key, anchor_passes, alias_token_passes, tag_passes}
 use Rattle.yaml_laws.proofs.Flow.Ends.{tag_ends_name, white_ends_tag, node_ends_tag, root_first}
 
--- ## What is known behind properties
+-- ## What is known after properties
 
--- as IsAfterProperties, and the place where a colon may stand at once is still the same
+-- as IsAfterProperties, and the place where a colon may come at once is still the same
 pub record IsBehindProperties (x : Context) (kept : KeptKey) (ad : ℕ) (key : Option Candidate) (allowed : Bool)
     (adjacent : ℕ) (new : List Place) : Type 0 where
   pub properties : IsAfterProperties x kept.kept key allowed new
@@ -157,7 +156,7 @@ blank_first (c ∷ cs) y h = apart c h.1.0
     apart : (c : ℕ) → IsTrue (is_blank c) → IsTrue (is_blank_or_breakz c)
     apart c h = grind (arith, nat_tests)
 
--- behind a token: a blank or a break
+-- after a token: a blank or a break
 pub gap_first : (indent : ℕ) (w y : List ℕ) → IsGap indent w → IsTrue (is_blank_or_breakz (slice_index (w ++ y) 0))
 gap_first indent w y (inl h) = blank_first w y h
 gap_first indent w y (inr (end, filler, front, (rest, rest_is, end_is), filler_is, prefix, e)) =
@@ -196,7 +195,8 @@ anchor_and_tag : ReaderPromises → (around : Around) (name : List ℕ) (tag : T
     → ReadsProperties around (Some name) (Some tag) m (a ++ (w ++ b)) o now
 anchor_and_tag reads around name tag m a w b o h spaced g now ends fits text =
     let behind = (w ++ b) ++ o in
-    let p = anchor_passes reads around name a behind m h (tag_ends_name true behind (gap_ends_tag around.indent true w b o spaced))
+    let p = anchor_passes reads around name a behind m h (tag_ends_name true behind (gap_ends_tag around.indent true w
+    b o spaced))
     (fits_front m a (w ++ b) o fits) now (text ∙ ap (past around.indent m) (append_assoc a (w ++ b) o)) in
     record {
       tokens = anchor_token name ∷ tag_token tag ∷ [];

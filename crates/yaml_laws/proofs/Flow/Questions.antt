@@ -23,10 +23,10 @@ use Rattle.yaml_laws.proofs.Flow.Places.{right_one}
 use Rattle.yaml_laws.proofs.Flow.States.{moved, past, IsInk, IsParted, no_key, PassesPiece, FitsAround, StandsBefore}
 use Rattle.yaml_laws.proofs.Flow.GapSteps.{past_ink}
 use Rattle.yaml_laws.proofs.Flow.Fillers.{separation_past}
-use Rattle.yaml_laws.proofs.Flow.Arrivals.{arrives, step_comes, within_index}
+use Rattle.yaml_laws.proofs.Flow.Tokens.{arrives, step_comes, within_index}
 use Rattle.yaml_laws.proofs.Flow.Joins.{step_passes}
 use Rattle.yaml_laws.proofs.InBlock.Crossings.{fresh_in_flow}
-use Rattle.yaml_laws.proofs.Flow.Brackets.{IsTokenMark, mark_begins, mark_moved, one_on}
+use Rattle.yaml_laws.proofs.Flow.Brackets.{IsTokenMark, mark_begins, mark_moved, one_on, token_mark}
 use Rattle.yaml_laws.proofs.Flow.Spaces.{separation_begins, spaces_passed}
 use Rattle.saphyr_input.proofs.Basics.Numbers.{le_next}
 use Rattle.saphyr_input.proofs.Basics.Characters.{ink_no_tab}
@@ -35,12 +35,7 @@ use Rattle.saphyr_input.specs.Indicators.{question_mark}
 use Rattle.saphyr_scanner.proofs.Queues.{token_place}
 
 question : IsTokenMark 63
-question = record {
-  ink = record { blank = refl; break = refl; comment = refl; byte_order_mark = refl };
-  nul = refl;
-  directive = refl;
-  feed = refl;
-}
+question = token_mark 63 refl
 
 white_first : (indent : ℕ) (w y : List ℕ) → IsSeparation indent w → w ≢ []
     → is_blank_or_breakz (slice_index (w ++ y) 0) ≡ true
@@ -102,7 +97,7 @@ key_of around d s context.FlowPair k ls a ad e = refl
 key_of around d s context.ExplicitFlowPair k ls a ad e = refl
 key_of around d s context.MarkedFlowPair k ls a ad e = refl
 
--- A `?` before separation without a tab: the key behind it is not kept.
+-- A `?` before separation without a tab: the key after it is not kept.
 pub mark_passes : (around : Around) (y : Context) → is_block y ≡ false → (m : Marker) (o : List ℕ)
     → FitsAround around m (question_mark ∷ []) o
     → (parted : IsParted around.indent o) → parted.separation ≢ [] → has_tab_outside false parted.separation ≡ false
@@ -118,7 +113,7 @@ mark_passes around y flows m o fits parted some tabs now before text =
     let c = parted.first in
     let cs = parted.others in
     let seen = cursor_at (63 ∷ o) m v.blank in
-    let p = spaces_passed around.indent (along m 1) false w c cs parted.parts on some tabs parted.ink in
+    let p = spaces_passed around.indent (along m 1) false w c cs parted.parts on some tabs parted.ends in
     let n = moved (along m 1) w in
     let there = cursor_at (c ∷ cs) n p.still_blank in
     let white : is_blank_or_breakz (slice_index o 0) ≡ true = ap (λ (t : List ℕ). is_blank_or_breakz (slice_index t 0))
@@ -127,7 +122,7 @@ mark_passes around y flows m o fits parted some tabs now before text =
     now.outer v.allowed now.adjacent) white ∙ key_of around d seen y v.key now.outer v.allowed now.adjacent flows
     ∙ ap (λ q. q >>= λ (e : Core). completed_step (up_to_here m tokens.Key e ∷ []) e)
     (begins_key around d seen y v.key now.outer v.allowed now.adjacent flows
-    ∙ passes_mark around d o m v.blank (behind_question y) now.outer now.adjacent n p.still_blank c cs parted.ink
+    ∙ passes_mark around d o m v.blank (behind_question y) now.outer now.adjacent n p.still_blank c cs parted.ends
     (ap (end_of_spaces (along m 1) false false) parted.is ∙ p.is)) in
     let lands : past around.indent there.mark there.rest ≡ past around.indent (along m 1) o =
     sym (ap (past around.indent (along m 1)) parted.is
@@ -135,7 +130,7 @@ mark_passes around y flows m o fits parted some tabs now before text =
     let below = fits.below in
     let new = token_place m n tokens.Key ∷ [] in
     let next = moment there (behind_question y) None now.outer false now.adjacent now.places in
-    let came = step_comes around (moment_in y now) m (63 ∷ o) v (mark_begins m 63 o question fits.clear)
+    let came = step_comes around (moment_in y now) m (63 ∷ o) v (mark_begins m 63 o question fits.clear) None
     (moment_with new next) (from_to m n tokens.Key ∷ []) (λ d. d) (as_before around) stepped refl
     (within_index around.indent around.limit there (along m 1) o lands (omega (arith, below))) in
     step_passes next new (moved m (63 ∷ [])) o (tokens.Key ∷ [])

@@ -1,4 +1,4 @@
--- The quoted scalars of a text in flow style are read, whatever stands behind them.
+-- The quoted scalars of a text in flow style are read, whatever comes after them.
 use Rattle.std.proofs.Common.{◌≡◌, ℕ, suc, ◌+◌, ◌≤◌, Bool, true, false, List, [], ◌∷◌, ◌++◌, drop, slice_index, Ok, refl, sym, ap, ◌∙◌, arith, subst, append_assoc, IsTrue, IsFalse, ◌⊎◌, inl, inr, encode_utf8_all}
 use Rattle.std.specs.Prelude.{◌&&◌, ◌==◌, not}
 use Rattle.std.proofs.lemmas.Bool.{false≢true}
@@ -50,7 +50,7 @@ breaks m (c ∷ cs) o clear h =
       first = refl;
     }) clear
 
--- ## What stands behind does not matter
+-- ## What comes after does not matter
 
 has_first : (t : List ℕ) → IsTrue (is_break (slice_index t 0)) → (c : ℕ) × (cs : List ℕ) × (t ≡ c ∷ cs)
 has_first [] h = absurd (false≢true h)
@@ -69,7 +69,7 @@ text_first _ _ _ _ (escaped_break t items x h r) = (backslash, t, refl)
 unmarked_at_start : (n : ℕ) (b : Bool) → n ≡ 0 → ((n == 0) && b) ≡ false → b ≡ false
 unmarked_at_start n b e h = subst (λ (k : ℕ). ((k == 0) && b) ≡ false) e h
 
--- more text behind a line takes none of its spaces away
+-- more text after a line takes none of its spaces away
 more_spaces : (u o : List ℕ) → space_count u ≤ space_count (u ++ o)
 more_spaces [] o = omega arith
 more_spaces (c ∷ cs) o = by_space (c == space) refl (more_spaces cs o)
@@ -82,7 +82,7 @@ more_spaces (c ∷ cs) o = by_space (c == space) refl (more_spaces cs o)
         further a b h = omega (arith, h)
     by_space false e on = rw e (omega arith)
 
--- nor a break behind them
+-- nor a break after them
 still_broken : (u o : List ℕ) → IsTrue (is_break (slice_index (drop (space_count u) u) 0))
     → IsTrue (is_break (slice_index (drop (space_count (u ++ o)) (u ++ o)) 0))
 still_broken [] o h = absurd (false≢true h)
@@ -186,7 +186,7 @@ extends low indent below _ _ _ _ (escaped_break t items x h r) fit o m clear end
       (break_line low indent below Double t items x o n r b fit.0, more.1),
     )
 
--- ## The place behind a text
+-- ## The place after a text
 
 feed : (c : ℕ) → (c == line_feed) ≡ true → c ≡ line_feed
 feed c e = grind (arith, nat_tests)

@@ -27,9 +27,8 @@ use Rattle.yaml_laws.proofs.InFlow.Tabs.{lands_on_ink}
 use Rattle.yaml_laws.proofs.Flow.States.{moved, past, crosses, IsClear, IsInk, EndsNode, IsBehindNode, IsBehindRoot, ReaderPromises, FitsAround, StandsBefore}
 use Rattle.yaml_laws.proofs.Flow.GapSteps.{past_again, past_ink}
 use Rattle.yaml_laws.proofs.Flow.Fillers.{EndsLine, rest_past, separation_past}
-use Rattle.yaml_laws.proofs.Flow.Arrivals.{PassesGap, passes_gap}
+use Rattle.yaml_laws.proofs.Flow.Tokens.{PassesGap, passes_gap, adjacent_at, token_passes, PassesToken}
 use Rattle.yaml_laws.proofs.Flow.Separates.{separates, separates_rest}
-use Rattle.yaml_laws.proofs.Flow.Tokens.{Begins, adjacent_at, token_passes, PassesToken}
 use Rattle.yaml_laws.proofs.Flow.Quoted.{quoted_read, quoted_right}
 use Rattle.yaml_laws.proofs.InBlock.Crossings.{line_rest_crosses}
 use Rattle.std.proofs.lemmas.Bool.{or_left}
@@ -37,10 +36,11 @@ use Rattle.saphyr_input.specs.Indicators.{apostrophe}
 use Rattle.saphyr_scalar.proofs.Given.{cursor_at}
 use Rattle.saphyr_input.proofs.Basics.Booleans.{clash}
 use Rattle.saphyr_scanner.proofs.Levels.{saved}
+use Rattle.yaml_laws.proofs.Flow.Inks.{Begins, starts}
 
--- ## Behind the closing quote
+-- ## After the closing quote
 
--- what the scanner looks for behind a scalar that began at `start` is there
+-- what the scanner looks for after a scalar that began at `start` is there
 pub record EndsQuotes (around : Around) (start : Marker) (s : Cursor) (x : Context) : Type 0 where
   pub found : SkipTabs
   pub there : Cursor
@@ -173,24 +173,8 @@ quoted_step reads around d Double n m b value t o h clear ends x k ls a ad c fir
     clear ends)
 
 pub quote_first : (quote : Quote) (inside : List ℕ) → Begins (mark quote ∷ inside)
-quote_first Single inside =
-    record {
-      first = 39;
-      others = inside;
-      is = refl;
-      ink = record { blank = refl; break = refl; comment = refl; byte_order_mark = refl };
-      nul = refl;
-      directive = refl;
-    }
-quote_first Double inside =
-    record {
-      first = 34;
-      others = inside;
-      is = refl;
-      ink = record { blank = refl; break = refl; comment = refl; byte_order_mark = refl };
-      nul = refl;
-      directive = refl;
-    }
+quote_first Single inside = starts 39 inside (39 ∷ inside) refl refl
+quote_first Double inside = starts 34 inside (34 ∷ inside) refl refl
 
 pub quoted_passes : ReaderPromises → (around : Around) (quote : Quote) (value t o : List ℕ) (m : Marker)
     → IsQuoted quote around.indent value t → FitsAround around m t o

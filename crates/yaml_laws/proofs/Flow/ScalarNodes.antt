@@ -23,8 +23,7 @@ use Rattle.yaml_laws.proofs.Flow.GapSteps.{less_behind}
 use Rattle.yaml_laws.proofs.Flow.Fillers.{separation_past, right_behind}
 use Rattle.yaml_laws.proofs.Flow.Pieces.{fits_front, fits_back}
 use Rattle.yaml_laws.proofs.Flow.Joins.{since_join, join, join_root, closes_unnoted, knowing}
-use Rattle.yaml_laws.proofs.Flow.Inks.{node_ink}
-use Rattle.yaml_laws.proofs.Flow.Low.{start_low, behind_low}
+use Rattle.yaml_laws.proofs.Flow.Inks.{node_ink, start_low, behind_low}
 use Rattle.yaml_laws.proofs.Flow.Ends.{white_ends_tag, node_ends_tag, ends_behind_separation, root_first}
 use Rattle.yaml_laws.proofs.Flow.Properties.{closed_saved, properties_read}
 use Rattle.yaml_laws.proofs.Flow.Contents.{content_passes, content_closes, PassesContent, key_content_passes}
@@ -71,7 +70,8 @@ empty_passes reads around p m t o h fits behind now low flow text =
     }
 
 empty_closes : ReaderPromises → (around : Around) (p : Properties) (m : Marker) (t o : List ℕ)
-    → IsProperties p around.indent t → FitsAround around m t o → IsBehindRoot around.indent (moved m t) o → (now : FlowMoment) → now.adjacent ≤ m.index
+    → IsProperties p around.indent t → FitsAround around m t o → IsBehindRoot around.indent (moved m t) o
+    → (now : FlowMoment) → now.adjacent ≤ m.index
     → StandsBefore around now m (t ++ o) → RootCloses around now (Scalar p Plain []) m t o
 empty_closes reads around p m t o h fits behind now before text =
     let ends = white_ends_tag false o (root_first around.indent (moved m t) o behind) in
@@ -96,7 +96,7 @@ bare_are p style value place e = (
   refl,
 )
 
--- how the content of a node is passed, wherever it stands
+-- how the content of a node is passed, wherever it is
 abbrev ContentPasses : Around → Properties → Style → List ℕ → List ℕ → List ℕ → Type 0
 ContentPasses around p style value t o =
     (m : Marker) → FitsAround around m t o → IsBehindNode around.indent (Scalar p style value) o
@@ -109,22 +109,13 @@ bare_scalar_passes : ReaderPromises → (around : Around) (p : Properties) (styl
     → (now : FlowMoment) → now.adjacent < m.index → is_block now.context ≡ false → StandsBefore around now m (t ++ o)
     → NodePasses around now (Scalar p style value) m t o
 bare_scalar_passes reads around p style value t o m e h fits behind now low flow text =
-    let q = h m fits behind now flow low text in
     record {
       tokens = scalar_token style value ∷ [];
       are = bare_are p style value grammar.InFlow e;
-      passes = knowing q (after_node around.indent now.context (key_behind now m) (Scalar p style value) (moved m t) o)
-          (record {
-            piece = q.knows.piece;
-            others = [];
-            is = q.knows.is;
-            keeps = q.knows.keeps;
-            near = λ e. q.knows.near;
-            low = λ e. q.knows.low;
-          });
+      passes = h m fits behind now flow low text;
     }
 
--- ## Content behind properties
+-- ## Content after properties
 
 -- properties a, separation w and content b
 record Behind (around : Around) (m : Marker) (a w b o : List ℕ) : Type 0 where
@@ -180,7 +171,6 @@ full_passes reads around p style value a w b o m h some parts g fits behind now 
     ∙ separation_past around.indent (moved m a) w (b ++ o) parts q.right in
     let c = g n (d.behind q.right) behind (after q) flow lower here in
     let known = q.knows.properties in
-    let near = c.knows.near in
     record {
       tokens = r.tokens ++ scalar_token style value ∷ [];
       are = full_are p style value r.tokens grammar.InFlow r.are;
@@ -194,13 +184,14 @@ full_passes reads around p style value a w b o m h some parts g fits behind now 
             is = ap (λ (z : List Place). z ++ c.new) known.is;
             keeps = λ f. c.knows.keeps f ∙ closed_saved q.allowed (length (now.places ++ q.new)) n q.key known.closed
                 ∙ known.keeps f;
-            near = λ f. near;
-            low = λ f. c.knows.low;
+            near = c.knows.near;
+            low = c.knows.low;
           }));
     }
 
 full_closes : ReaderPromises → (around : Around) (p : Properties) (style : Style) (value a w b o : List ℕ) (m : Marker)
-    → IsProperties p around.indent a → w ≢ [] → IsSeparation around.indent w → IsFlowScalar style value false around.indent b
+    → IsProperties p around.indent a → w ≢ [] → IsSeparation around.indent w
+    → IsFlowScalar style value false around.indent b
     → FitsAround around m (a ++ (w ++ b)) o → IsBehindRoot around.indent (moved m (a ++ (w ++ b))) o
     → (now : FlowMoment) → now.adjacent ≤ m.index → StandsBefore around now m ((a ++ (w ++ b)) ++ o)
     → RootCloses around now (Scalar p style value) m (a ++ (w ++ b)) o
@@ -225,7 +216,7 @@ full_closes reads around p style value a w b o m h some parts g fits behind now 
       are = full_are p style value r.tokens grammar.InBlock r.are;
       closes = subst (λ (z : Marker). Closes around (state_at around (root_moment now)) now.key m
           (a ++ (w ++ b)) now.places z o (r.tokens ++ scalar_token style value ∷ [])) d.place
-          (join_root q c (since_join now.key m a w b q.key c.key q.knows.since c.late));
+          (join_root q c (since_join now.key m a w b q.key c.run.key q.knows.since c.run.knows.1));
     }
 
 -- ## All scalars

@@ -1,4 +1,4 @@
--- Blanks and a comment behind a token of a text in flow style are passed, up to the end of the line.
+-- Blanks and a comment after a token of a text in flow style are passed, up to the end of the line.
 use Rattle.std.proofs.Common.{◌≡◌, ◌≢◌, ℕ, ◌+◌, ◌<◌, ◌≤◌, Bool, true, false, List, [], ◌∷◌, ◌++◌, length, drop, slice_index, Ok, refl, sym, ap, ◌∙◌, arith, subst, append_assoc, append-nil, IsTrue, ◌⊎◌, inl, inr, cond}
 use Rattle.std.specs.Prelude.{◌==◌, not}
 use Rattle.std.specs.List.{prefix_len}
@@ -144,7 +144,7 @@ front_moved m blanks comment h k =
 
 -- ## What is passed before the character that begins a token
 
--- behind a token, where y stands behind the separation w
+-- after a token, where y comes after the separation w
 pub record Separates (column : ℕ) (s : Cursor) (w y : List ℕ) : Type 0 where
   pub found : SkipTabs
   pub there : Cursor

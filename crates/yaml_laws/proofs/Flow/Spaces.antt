@@ -1,4 +1,4 @@
--- What stands behind a `?` in flow style is passed.
+-- What comes after a `?` in flow style is passed.
 use Rattle.std.proofs.Common.{◌≡◌, ◌≢◌, ℕ, ◌≤◌, Bool, true, false, List, [], ◌∷◌, ◌++◌, length, slice_index, refl, sym, ap, ◌∙◌, arith, append_assoc, ◌⊎◌, inl, inr}
 use Rattle.std.specs.Prelude.{◌||◌, ◌&&◌, ◌==◌, not, nat_lt}
 use Rattle.std.proofs.lemmas.Bool.Decides.{nat_tests}
@@ -33,7 +33,7 @@ record Comment (m : Marker) (blank space : Bool) (w y : List ℕ) (n : Marker) :
   is : end_of_spaces_in_comment m blank space (w ++ y) ≡ spaces_end n still_blank some y
   has : space ≡ true → some ≡ true
 
--- what is outside comments behind a character
+-- what is outside comments after a character
 outside : (d : ℕ) (ds : List ℕ) (sign : Bool) → (d == number_sign) ≡ sign → has_tab_outside false (d ∷ ds) ≡ false
     → has_tab_outside sign ds ≡ false
 outside d ds sign e h = ap (λ (b : Bool). has_tab_outside b ds) (sym e)
@@ -251,7 +251,7 @@ separation_begins column w (lines, blanks, (pieces, each, lines_are), are, e) so
 is_space : (c : ℕ) → is_blank c ≡ true → (c == tab) ≡ false → c ≡ 32
 is_space c h k = grind (arith, nat_tests)
 
--- where separation without a tab outside comments stands, and a token behind it
+-- where separation without a tab outside comments is, and a token after it
 pub record PassesSpaces (m : Marker) (blank : Bool) (w y : List ℕ) : Type 0 where
   pub still_blank : Bool
   pub is : end_of_spaces m blank false (w ++ y) ≡ spaces_end (moved m w) still_blank true y

@@ -1,4 +1,4 @@
--- What is said of a piece of a text in flow style, and of the states before it and behind it, whatever block
+-- What is said of a piece of a text in flow style, and of the states before it and after it, whatever block
 -- collections are open.
 use Rattle.std.proofs.Common.{◌≡◌, ℕ, ◌+◌, ◌<◌, ◌≤◌, Bool, true, false, List, [], ◌∷◌, ◌++◌, length, slice_index, IsTrue, ◌⊎◌, Ok, encode_utf8_all}
 use Rattle.std.specs.Prelude.{◌||◌, ◌&&◌, ◌==◌, not, nat_lt, Option, Some, None, if◌then◌else◌}
@@ -41,12 +41,12 @@ use Rattle.saphyr_scanner.specs.Limits.{most_open}
 use Rattle.saphyr_scanner.proofs.Queues.{place_kinds}
 use Rattle.saphyr_scanner.proofs.Levels.{saved}
 use Rattle.yaml_laws.specs.Grammar.FlowNodes.{IsPlainKeyNode, IsBeforeColon, allows_adjacent, IsFlowNode}
-use Rattle.yaml_laws.proofs.InFlow.States.{Around, FlowMoment, moment, state_at, RunsTo, root_moment}
+use Rattle.yaml_laws.proofs.InFlow.States.{Around, FlowMoment, moment, state_at, noted, RunsTo, root_moment}
 use Rattle.yaml_laws.specs.Grammar.BlockNodes.{EndsContent}
 
 -- ## Places in a text
 
--- the place behind a text whose breaks are line feeds
+-- the place after a text whose breaks are line feeds
 abbrev pub moved : Marker → List ℕ → Marker
 moved m [] = m
 moved m (c ∷ cs) = moved (if c == line_feed then next_line m 1 else along m 1) cs
@@ -55,19 +55,19 @@ moved m (c ∷ cs) = moved (if c == line_feed then next_line m 1 else along m 1)
 abbrev pub is_left_tab : ℕ → Marker → ℕ → Bool
 is_left_tab column m c = (c == 9) && nat_lt m.col column
 
--- Whether no token stands on the rest of a line: blanks, a comment or none, and a break or the text's end.
+-- Whether no token is on the rest of a line: blanks, a comment or none, and a break or the text's end.
 abbrev mutual
   pub is_filler_rest : List ℕ → Bool
   is_filler_rest [] = true
   is_filler_rest (c ∷ cs) = if is_blank c then is_filler_rest cs else is_break c || ((c == 35) && is_comment_rest cs)
 
-  -- behind the `#` of a comment
+  -- after the `#` of a comment
   pub is_comment_rest : List ℕ → Bool
   is_comment_rest [] = true
   is_comment_rest (c ∷ cs) = if is_yaml_non_break c then is_comment_rest cs else is_break c
 
--- The place and the text behind the blanks, breaks and comments at a place, up to a tab left of a column on the line of
--- a token, which may not stand in indentation. Two places before the same token have the same.
+-- The place and the text after the blanks, breaks and comments at a place, up to a tab left of a column on the line of
+-- a token, which may not be in indentation. Two places before the same token have the same.
 abbrev mutual
   pub past : ℕ → Marker → List ℕ → Marker × List ℕ
   past column m [] = (m, [])
@@ -78,7 +78,7 @@ abbrev mutual
       else if c == 35 then past_comment column (along m 1) cs
       else (m, c ∷ cs)
 
-  -- behind the `#` of a comment
+  -- after the `#` of a comment
   pub past_comment : ℕ → Marker → List ℕ → Marker × List ℕ
   past_comment column m [] = (m, [])
   past_comment column m (c ∷ cs) =
@@ -87,12 +87,12 @@ abbrev mutual
       else if is_break c then past column (next_line m 1) cs
       else (m, c ∷ cs)
 
--- the text that stands at m has the same next token as what is left at a moment
+-- the text that is at m has the same next token as what is left at a moment
 abbrev pub StandsBefore : Around → FlowMoment → Marker → List ℕ → Type 0
 StandsBefore around now m t =
     past around.indent now.cursor.mark now.cursor.rest ≡ past around.indent m t
 
--- Whether a break stands before the next token (the text's end): what `gap` knows where it stops.
+-- Whether a break comes before the next token (the text's end): what `gap` knows where it stops.
 abbrev mutual
   pub crosses : List ℕ → Bool
   crosses [] = false
@@ -110,7 +110,7 @@ abbrev mutual
       else if is_break c then true
       else false
 
--- whether a document marker begins a line of a text before `behind`, where the text stands at a line's start or
+-- whether a document marker begins a line of a text before `behind`, where the text is at a line's start or
 -- elsewhere
 abbrev pub marks_line : Bool → List ℕ → List ℕ → Bool
 marks_line at_start [] behind = false
@@ -122,7 +122,7 @@ pub record IsClear (m : Marker) (piece behind : List ℕ) : Type 0 where
   pub no_return : AreIn (λ c. not (c == carriage_return)) piece
   pub no_marker : marks_line (m.col == 0) piece behind ≡ false
 
--- ## What stands behind
+-- ## What comes after
 
 -- a character that begins neither a blank, a break nor a comment, and is no byte order mark
 pub record IsInk (c : ℕ) : Type 0 where
@@ -131,34 +131,33 @@ pub record IsInk (c : ℕ) : Type 0 where
   pub comment : (c == number_sign) ≡ false
   pub byte_order_mark : is_bom c ≡ false
 
--- separation, and a character behind it that begins a token
-pub record IsParted (indent : ℕ) (o : List ℕ) : Type 0 where
+-- separation, and a character after it, of which Ends tells
+pub record IsBehind (indent : ℕ) (Ends : List ℕ → ℕ → List ℕ → Type 0) (o : List ℕ) : Type 0 where
   pub separation : List ℕ
   pub first : ℕ
   pub others : List ℕ
   pub is : o ≡ separation ++ (first ∷ others)
   pub parts : IsSeparation indent separation
-  pub ink : IsInk first
+  pub ends : Ends separation first others
 
--- what may stand behind a colon that stands right behind no quote or bracket
+-- separation, and a character after it that begins a token
+abbrev pub IsParted : ℕ → List ℕ → Type 0
+IsParted indent o = IsBehind indent (λ w c cs. IsInk c) o
+
+-- what may come after a colon that comes right after no quote or bracket
 abbrev pub ends_colon : ℕ → Bool
 ends_colon c = is_blank_or_breakz c || (c == 44) || (c == 93) || (c == 125)
 
--- what ends a node inside flow, behind separation: a comma, a closing bracket, or the colon of a key
+-- what ends a node inside flow, after separation: a comma, a closing bracket, or the colon of a key
 abbrev pub EndsNode : Node → List ℕ → ℕ → List ℕ → Type 0
 EndsNode node separation c others =
     (c ≡ 44) ⊎ ((c ≡ 93) ⊎ ((c ≡ 125)
     ⊎ ((c ≡ 58) × IsBeforeColon node separation
     × (IsTrue (allows_adjacent node separation) ⊎ IsTrue (ends_colon (slice_index others 0))))))
 
--- what stands behind a node inside flow
-pub record IsBehindNode (indent : ℕ) (node : Node) (o : List ℕ) : Type 0 where
-  pub separation : List ℕ
-  pub first : ℕ
-  pub others : List ℕ
-  pub is : o ≡ separation ++ (first ∷ others)
-  pub parts : IsSeparation indent separation
-  pub ends : EndsNode node separation first others
+-- what comes after a node inside flow
+abbrev pub IsBehindNode : ℕ → Node → List ℕ → Type 0
+IsBehindNode indent node o = IsBehind indent (EndsNode node) o
 
 -- the text's end, or at a line's start what ends a document's content
 abbrev pub EndsDocument : Marker → List ℕ → Type 0
@@ -172,7 +171,7 @@ pub record IsLeft (column : ℕ) (m : Marker) (y : List ℕ) : Type 0 where
   pub is : y ≡ first ∷ others
   pub blank : is_blank first ≡ false
 
--- What stands behind a node at block level, from its end m on: the rest of its line, and behind filler the text's end,
+-- What comes after a node at block level, from its end m on: the rest of its line, and after filler the text's end,
 -- a document marker at a line's start, or a token left of the node.
 pub record IsBehindRoot (indent : ℕ) (m : Marker) (o : List ℕ) : Type 0 where
   pub rest : List ℕ
@@ -231,21 +230,21 @@ pub record ReaderPromises : Type 0 where
 
 -- ## What may be a key
 
--- What may be a key behind a text that stands at m: nothing, what could be one before it, or what begins in it.
+-- What may be a key after a text that is at m: nothing, what could be one before it, or what begins in it.
 abbrev pub Since : Option Candidate → Marker → List ℕ → Option Candidate → Type 0
 Since k m t key =
     (key ≡ None) ⊎ ((key ≡ k)
     ⊎ ((front back : List ℕ) × (place : ℕ) × (t ≡ front ++ back)
     × (key ≡ Some (record { mark = moved m front; place = place }))))
 
--- what is kept inside flow behind a text, and what could be a key before it, and where the text stands
+-- what is kept inside flow after a text, and what could be a key before it, and where the text is
 pub record KeptKey : Type 0 where
   pub kept : Option Candidate
   pub before : Option Candidate
   pub from : Marker
   pub over : List ℕ
 
--- the key behind a token at m, where a key may begin
+-- the key after a token at m, where a key may begin
 abbrev pub key_behind : FlowMoment → Marker → Option Candidate
 key_behind now m = saved now.allowed (length now.places) m now.key
 
@@ -254,77 +253,61 @@ keeping now m t = record { kept = key_behind now m; before = now.key; from = m; 
 
 -- ## Where a key may begin
 
--- Behind a piece at block level, where a break stands before the next token, a key may begin, or the break is still
+-- After a piece at block level, where a break comes before the next token, a key may begin, or the break is still
 -- ahead.
 abbrev pub IsFresh : Context → List ℕ → Bool → Cursor → Type 0
 IsFresh x o allowed there = is_block x ≡ true → crosses o ≡ true → (allowed || crosses there.rest) ≡ true
 
 -- ## Runs over a piece
 
--- what is known behind a piece: of the key, whether one may begin, where a colon may stand at once, and the new places
+-- what is known after a piece: of the key, whether one may begin, where a colon may come at once, and the new places
 abbrev pub Known : Type 1
 Known = Option Candidate → Bool → ℕ → List Place → Type 0
 
--- From a state the scanner comes, behind a piece, to where the text o stands at m, or further within the separation at
--- its front. The places of the piece hold these tokens.
-pub record PassesPiece (around : Around) (start : Bool → State) (known : Known) (x : Context) (ls : List Level)
-    (ps : List Place) (m : Marker) (o : List ℕ) (ts : List Kind) : Type 0 where
+-- From a state the scanner comes, after a piece, to where the text o is at m, or further within the separation at
+-- its front. The places of the piece hold these tokens. Outside flow a comment may have ended the piece.
+pub record PassesNoting (comment : Option Marker) (around : Around) (start : Bool → State) (known : Known) (x : Context)
+    (ls : List Level) (ps : List Place) (m : Marker) (o : List ℕ) (ts : List Kind) : Type 0 where
   pub there : Cursor
   pub key : Option Candidate
   pub allowed : Bool
   pub adjacent : ℕ
   pub new : List Place
-  pub leads : RunsTo around (state_at around (moment there x key ls allowed adjacent (ps ++ new))) start
+  pub leads : RunsTo around
+      (λ d. noted comment (state_at around (moment there x key ls allowed adjacent (ps ++ new)) d)) start
   pub right : around.indent ≤ m.col
   pub fits : past around.indent there.mark there.rest ≡ past around.indent m o
   pub fresh : IsFresh x o allowed there
   pub are : place_kinds new ≡ ts
   pub knows : known key allowed adjacent new
 
--- the moment behind a piece
+-- the same where no comment has
+abbrev pub PassesPiece : Around → (Bool → State) → Known → Context → List Level → List Place → Marker → List ℕ
+    → List Kind → Type 0
+PassesPiece around start known x ls ps m o ts = PassesNoting None around start known x ls ps m o ts
+
+-- the moment after a piece
 abbrev pub after : {around : Around} {start : Bool → State} {known : Known} {x : Context} {ls : List Level}
     {ps : List Place} {m : Marker} {o : List ℕ} {ts : List Kind} → PassesPiece around start known x ls ps m o ts
     → FlowMoment
 after {x = x} {ls = ls} {ps = ps} p = moment p.there x p.key ls p.allowed p.adjacent (ps ++ p.new)
 
--- a state with the comment that ended a plain scalar outside flow
-abbrev pub noted : Option Marker → State → State
-noted comment s = record s { core = record s.core { comment = comment } }
+-- ## What is known after a piece
 
--- the same of a document's node
-pub record Closes (around : Around) (start : Bool → State) (k : Option Candidate) (first : Marker) (t : List ℕ)
-    (ps : List Place) (m : Marker) (o : List ℕ) (ts : List Kind) : Type 0 where
-  pub there : Cursor
-  pub key : Option Candidate
-  pub allowed : Bool
-  pub adjacent : ℕ
-  pub comment : Option Marker
-  pub new : List Place
-  pub leads : RunsTo around (λ d. noted comment
-      (state_at around (moment there context.Block key [] allowed adjacent (ps ++ new)) d)) start
-  pub right : around.indent ≤ m.col
-  pub fits : past around.indent there.mark there.rest ≡ past around.indent m o
-  pub are : place_kinds new ≡ ts
-  pub low : adjacent ≤ (past around.indent m o).0.index
-  pub late : Since k first t key
-  pub fresh : IsFresh context.Block o allowed there
-
--- ## What is known behind a piece
-
--- a key may begin and none is kept, and no colon may stand at once from m on
+-- a key may begin and none is kept, and no colon may come at once from m on
 abbrev pub fresh_key : Marker → Known
 fresh_key m key allowed adjacent new = (key ≡ None) × (allowed ≡ true) × (adjacent < m.index)
 
--- no key may begin and none is kept, and no colon may stand at once from m on
+-- no key may begin and none is kept, and no colon may come at once from m on
 abbrev pub no_key : Marker → Known
 no_key m key allowed adjacent new = (key ≡ None) × (allowed ≡ false) × (adjacent < m.index)
 
--- before m and o, no colon may stand at once behind the next token
+-- before m and o, no colon may come at once after the next token
 abbrev pub ended : ℕ → Marker → List ℕ → Known
 ended indent m o key allowed adjacent new = adjacent ≤ (past indent m o).0.index
 
--- Behind a node that ends at m before o: its first token has nothing in front of it, inside flow the key is as told,
--- and where a colon may stand at once, the place of that is kept.
+-- After a node that ends at m before o: its first token has nothing before it, inside flow the key is as told,
+-- and where a colon may come at once, the place of that is kept.
 pub record IsAfterNode (indent : ℕ) (x : Context) (kept : Option Candidate) (node : Node) (m : Marker) (o : List ℕ)
     (key : Option Candidate) (adjacent : ℕ) (new : List Place) : Type 0 where
   pub piece : Piece
@@ -339,7 +322,17 @@ pub record IsAfterNode (indent : ℕ) (x : Context) (kept : Option Candidate) (n
 abbrev pub after_node : ℕ → Context → Option Candidate → Node → Marker → List ℕ → Known
 after_node indent x kept node m o key allowed adjacent new = IsAfterNode indent x kept node m o key adjacent new
 
--- behind properties, which keep the key that begins with them
+-- after a document's node: what may be a key since k, after the text t, which is at first
+abbrev pub closed : ℕ → Option Candidate → Marker → List ℕ → Marker → List ℕ → Known
+closed indent k first t m o key allowed adjacent new = (adjacent ≤ (past indent m o).0.index) × Since k first t key
+
+-- a document's node is passed
+pub record Closes (around : Around) (start : Bool → State) (k : Option Candidate) (first : Marker) (t : List ℕ)
+    (ps : List Place) (m : Marker) (o : List ℕ) (ts : List Kind) : Type 0 where
+  pub comment : Option Marker
+  pub run : PassesNoting comment around start (closed around.indent k first t m o) context.Block [] ps m o ts
+
+-- after properties, which keep the key that begins with them
 pub record IsAfterProperties (x : Context) (kept key : Option Candidate) (allowed : Bool) (new : List Place) : Type
     0 where
   pub piece : Piece
@@ -350,7 +343,7 @@ pub record IsAfterProperties (x : Context) (kept key : Option Candidate) (allowe
 
 -- ## What is shown of nodes
 
--- The tokens of a node, and the run over its text t, which stands at m before o.
+-- The tokens of a node, and the run over its text t, which is at m before o.
 pub record NodePasses (around : Around) (now : FlowMoment) (node : Node) (m : Marker) (t o : List ℕ) : Type 0 where
   pub tokens : List Kind
   pub are : grammar.YieldsNode node grammar.InFlow tokens
@@ -364,7 +357,7 @@ pub record RootCloses (around : Around) (now : FlowMoment) (node : Node) (m : Ma
   pub are : grammar.YieldsNode node grammar.InBlock tokens
   pub closes : Closes around (state_at around (root_moment now)) now.key m t now.places (moved m t) o tokens
 
--- a node inside flow, or a plain scalar that is a key, with its colon right behind it
+-- a node inside flow, or a plain scalar that is a key, with its colon right after it
 abbrev pub IsNodeOrKey : ℕ → Node → ℕ → List ℕ → List ℕ → Type 0
 IsNodeOrKey room node indent p o =
     IsFlowNode room node true indent p ⊎ (IsPlainKeyNode node true indent p × ((r : List ℕ) × (o ≡ 58 ∷ r)))

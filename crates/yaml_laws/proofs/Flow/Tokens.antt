@@ -1,34 +1,170 @@
--- A token of a text in flow style is passed in one step.
-use Rattle.std.proofs.Common.{◌≡◌, ◌⊎◌, inl, inr, ℕ, ◌≤◌, Bool, true, false, List, [], ◌∷◌, ◌++◌, length, slice_index, refl, sym, ap, ◌∙◌, arith, subst}
-use Rattle.std.specs.Prelude.{◌==◌, Option, None}
+-- The next token of a text in flow style is reached, and read and passed by a step.
+use Rattle.std.proofs.Common.{◌≡◌, ◌⊎◌, inl, inr, ℕ, ◌≤◌, Bool, true, false, List, [], ◌∷◌, ◌++◌, length, slice_index, refl, sym, ap, ◌∙◌, arith, subst, ◌+◌, Ok}
+use Rattle.std.specs.Prelude.{◌==◌, Option, None, ◌||◌, ◌&&◌, Some}
 use Rattle.saphyr_input.specs.Indicators.{percent_sign}
-use Rattle.saphyr_input.specs.Classes.{is_blank, is_z}
+use Rattle.saphyr_input.specs.Classes.{is_blank, is_z, is_bom}
 use Rattle.saphyr_scalar.specs.declared.scalar.position.Marker.{Marker}
-use Rattle.saphyr_scalar.specs.Views.Cursor.{Cursor}
+use Rattle.saphyr_scalar.specs.Views.Cursor.{Cursor, ◌>>=◌}
 use Rattle.saphyr_scanner.specs.declared.engine.level.Context.{Context}
 use Rattle.saphyr_scanner.specs.Grammar.Tokens.{Kind}
 use Rattle.saphyr_scanner.specs.Views.Tokens.{Piece}
-use Rattle.saphyr_scanner.specs.Steps.Queue.{Place, bare_place}
-use Rattle.saphyr_scanner.specs.Steps.Core.{from_to, completed_step}
+use Rattle.saphyr_scanner.specs.Steps.Queue.{Place, bare_place, Queue}
+use Rattle.saphyr_scanner.specs.Steps.Core.{from_to, completed_step, Action, perform, drop_far_key}
 use Rattle.saphyr_scanner.specs.Steps.Level.{Candidate, Level, is_block}
-use Rattle.saphyr_scanner.specs.Steps.Fetch.{step}
-use Rattle.yaml_laws.proofs.InFlow.States.{Around, core_at, state_at, Deepens, FlowMoment, moment}
-use Rattle.yaml_laws.proofs.Flow.States.{moved, past, IsClear, IsInk, IsFresh, Since, KeptKey, keeping, Known, PassesPiece, FitsAround, StandsBefore}
+use Rattle.saphyr_scanner.specs.Steps.Fetch.{step, state_behind_content, fetch_here, arrive, fetch}
+use Rattle.yaml_laws.proofs.InFlow.States.{Around, core_at, state_at, Deepens, FlowMoment, moment, noted_core, noted, least, least_low, not_left, drops_far_key, key_left, left_in_flow, left_or_none, none_unrolls, ComesAround, comes}
+use Rattle.yaml_laws.proofs.Flow.States.{moved, past, IsClear, IsFresh, Since, KeptKey, keeping, Known, PassesPiece, FitsAround, StandsBefore, crosses, is_filler_rest}
+use Rattle.yaml_laws.proofs.Flow.Inks.{Begins}
 use Rattle.yaml_laws.proofs.Flow.Places.{moved_count, clear_here}
-use Rattle.yaml_laws.proofs.Flow.GapSteps.{past_ink}
-use Rattle.yaml_laws.proofs.Flow.Arrivals.{BeginsToken, arrives, step_comes, within_index}
+use Rattle.yaml_laws.proofs.Flow.GapSteps.{past_ink, past_count}
 use Rattle.saphyr_scalar.proofs.Given.{cursor_at}
-use Rattle.saphyr_scanner.proofs.Queues.{token_place}
+use Rattle.saphyr_scanner.proofs.Queues.{token_place, queue_of}
 use Rattle.saphyr_scanner.proofs.Levels.{saved}
+use Rattle.std.proofs.Math.Nat.{zero-add}
+use Rattle.saphyr_input.specs.Places.{is_document_indicator, is_document_start, is_document_end}
+use Rattle.saphyr_scanner.specs.Steps.Gap.{GapEnd, stop}
+use Rattle.saphyr_scanner.specs.Steps.Passing.{pass_gap, check_comment, behind_gap}
+use Rattle.saphyr_scanner.specs.Steps.State.{State, on_core, after_step}
+use Rattle.saphyr_scanner.specs.Steps.Unrolling.{unroll}
+use Rattle.yaml_laws.proofs.Flow.Gaps.{gap_past, no_tab_before}
+use Rattle.yaml_laws.proofs.InBlock.Gaps.{gap_broke}
+use Rattle.saphyr_input.proofs.Basics.Booleans.{and_false, and_or_false}
+use Rattle.saphyr_scanner.proofs.Gaps.{stop_here}
 
--- a piece whose first character begins a token
-pub record Begins (p : List ℕ) : Type 0 where
-  pub first : ℕ
-  pub others : List ℕ
-  pub is : p ≡ first ∷ others
-  pub ink : IsInk first
-  pub nul : is_z first ≡ false
-  pub directive : (first == percent_sign) ≡ false
+-- What is between two tokens is passed, up to the place m, where y is.
+pub record PassesGap (around : Around) (s : Cursor) (x : Context) (k : Option Candidate) (ls : List Level) (a : Bool)
+    (ad : ℕ) (m : Marker) (y : List ℕ) : Type 0 where
+  pub blank : Bool
+  pub allowed : Bool
+  pub is : (d : Bool) → pass_gap (core_at around d s x k ls a ad)
+      ≡ Ok (core_at around d (cursor_at y m blank) x k ls allowed ad)
+  pub same : is_block x ≡ false → allowed ≡ a
+  pub fresh : is_block x ≡ true → crosses s.rest ≡ true → allowed ≡ true
+
+pub passes_gap : (around : Around) (s : Cursor) (x : Context) (k : Option Candidate) (ls : List Level) (a : Bool)
+    (ad : ℕ) (m : Marker) (y : List ℕ) → past around.indent s.mark s.rest ≡ (m, y)
+    → is_blank (slice_index y 0) ≡ false → PassesGap around s x k ls a ad m y
+unfolding pass_gap check_comment
+passes_gap around s x k ls a ad m y here inked =
+    let g = gap_past around.indent s.mark s.blank_so_far false s.rest in
+    let stands = ap (λ (p : Marker × List ℕ). is_blank (slice_index p.1 0)) here ∙ inked in
+    record {
+      blank = g.still_blank;
+      allowed = (g.now_broke && is_block x) || a;
+      is = λ d. let there = g.is stands (least around.indent d) (least_low around.indent d) false
+          (no_tab_before (is_filler_rest s.rest))
+          ∙ ap (λ (p : Marker × List ℕ). stop p.0 g.still_blank g.now_broke false p.1) here
+          ∙ stop_here m g.still_blank g.now_broke y in
+          ap (λ r. r >>= λ (p : GapEnd). check_comment (behind_gap (core_at around d s x k ls a ad) p)) there;
+      same = λ e. rw e (ap (λ (b : Bool). b || a) (and_false g.now_broke));
+      fresh = λ e h. let passed =
+          g.is stands 0 (none_less around.indent) false (no_tab_before (is_filler_rest s.rest))
+          ∙ stop_here (past around.indent s.mark s.rest).0 g.still_blank g.now_broke
+          (past around.indent s.mark s.rest).1 in
+          rw (gap_broke 0 s.mark s.blank_so_far s.rest _ passed ∙ h, e) refl;
+    }
+  where
+    none_less : (n : ℕ) → 0 ≤ n
+    none_less n = omega arith
+
+-- the text y begins with the next token, which is at m
+pub record Arrives (around : Around) (now : FlowMoment) (m : Marker) (y : List ℕ) : Type 0 where
+  pub blank : Bool
+  pub key : Option Candidate
+  pub allowed : Bool
+  pub is : (d : Bool) → arrive (state_at around now d)
+      ≡ Ok (state_at around (record now { cursor = cursor_at y m blank; key = key; allowed = allowed }) d)
+  pub right : around.indent ≤ m.col
+  pub calm : around.pending ≡ false
+  pub same : is_block now.context ≡ false → (key ≡ now.key) × (allowed ≡ now.allowed)
+  pub kept : (key ≡ None) ⊎ (key ≡ now.key)
+
+pub arrives : (around : Around) (now : FlowMoment) (m : Marker) (y : List ℕ) → past around.indent now.cursor.mark
+    now.cursor.rest ≡ (m, y) → is_blank (slice_index y 0) ≡ false → around.indent ≤ m.col → around.pending ≡ false
+    → Arrives around now m y
+unfolding arrive
+arrives around now m y text inked right calm =
+    let g = passes_gap around now.cursor now.context now.key now.outer now.allowed now.adjacent m y text inked in
+    let there = cursor_at y m g.blank in
+    let left = key_left now.context now.key m in
+    record {
+      blank = g.blank;
+      key = left;
+      allowed = g.allowed;
+      is = λ d. let reached = ap (λ r. r >>= drop_far_key) (g.is d) ∙ drops_far_key around None d there now.context
+          now.key
+          now.outer g.allowed now.adjacent calm in
+          ap (λ r. on_core r (queue_of now.places) >>= λ (t : State). Ok
+          (unroll (Some t.core.cursor.mark.col) t.core.cursor.mark t)) reached
+          ∙ ap Ok (none_unrolls around m.col m there now.context left now.outer g.allowed now.adjacent now.places d
+          right);
+      right = right;
+      calm = calm;
+      same = λ e. (left_in_flow now.context now.key m e, g.same e);
+      kept = left_or_none now.context now.key m;
+    }
+
+-- neither the end nor something else that is at the start of a line alone
+pub record BeginsToken (m : Marker) (t : List ℕ) : Type 0 where
+  pub nul : is_z (slice_index t 0) ≡ false
+  pub byte_order_mark : is_bom (slice_index t 0) ≡ false
+  pub directive : (slice_index t 0 == percent_sign) ≡ false
+  pub marker : ((m.col == 0) && is_document_indicator t) ≡ false
+
+pub begins_here : (around : Around) (d : Bool) (now : FlowMoment) → BeginsToken now.cursor.mark now.cursor.rest
+    → around.indent ≤ now.cursor.mark.col → fetch_here (state_at around now d)
+    ≡ state_behind_content (slice_index now.cursor.rest 0) (slice_index now.cursor.rest 1) (state_at around now d)
+unfolding fetch_here
+begins_here around d now h right =
+    let n = and_or_false (now.cursor.mark.col == 0) (is_document_start now.cursor.rest)
+    (is_document_end now.cursor.rest) h.marker in
+    rw (
+      h.nul,
+      h.byte_order_mark,
+      h.directive,
+      and_false (now.cursor.mark.col == 0),
+      n.0,
+      n.1,
+      not_left around.indent now.cursor.mark.col d right,
+    ) refl
+
+-- what the step at the next token's first characters gives
+pub step_comes : (around : Around) (now : FlowMoment) (m : Marker) (y : List ℕ) (v : Arrives around now m y)
+    → BeginsToken m y → (comment : Option Marker) (next : FlowMoment) (actions : List Action) (to : Bool → Bool)
+    → Deepens around to
+    → ((d : Bool) → step (slice_index y 0) (slice_index y 1) (length now.places)
+    (core_at around d (cursor_at y m v.blank) now.context v.key now.outer v.allowed now.adjacent)
+    ≡ completed_step actions (noted_core comment
+    (core_at around (to d) next.cursor next.context next.key next.outer next.allowed next.adjacent)))
+    → perform actions (queue_of now.places) ≡ queue_of next.places → next.cursor.mark.index ≤ around.limit
+    → ComesAround around (state_at around now) comment next
+unfolding fetch state_behind_content
+step_comes around now m y v h comment next actions to deepens is done low =
+    let seen = cursor_at y m v.blank in
+    comes around (state_at around now) comment next to deepens (λ d. refl)
+    (λ d. let c = core_at around d seen now.context v.key now.outer v.allowed now.adjacent in
+    let there = ap (λ r. r >>= fetch_here) (v.is d) ∙ begins_here around d (record now {
+      cursor = seen;
+      key = v.key;
+      allowed = v.allowed;
+    }) h v.right in
+    let at_place = ap (λ (n : ℕ). after_step (step (slice_index y 0) (slice_index y 1) n c) (queue_of now.places))
+    (zero-add (length now.places)) in
+    let made = ap (λ r. after_step r (queue_of now.places)) (is d)
+    ∙ ap (λ (q : Queue). Ok (let r : State =
+    record (noted comment (state_at around next (to d))) { queue = q } in r)) done in
+    there ∙ at_place ∙ made) low v.calm
+
+-- a place before the same token is within the limit
+pub within_index : (column limit : ℕ) (t : Cursor) (m : Marker) (o : List ℕ)
+    → past column t.mark t.rest ≡ past column m o → m.index + length o ≤ limit → t.mark.index ≤ limit
+within_index column limit t m o e h =
+    let here = past_count column t.mark t.rest in
+    let there = past_count column m o in
+    let same : (past column t.mark t.rest).0.index + length (past column t.mark t.rest).1
+    ≡ (past column m o).0.index + length (past column m o).1 =
+    ap (λ (p : Marker × List ℕ). p.0.index + length p.1) e in
+    omega (arith, here, there, same, h)
 
 pub begins_past : (column : ℕ) (m : Marker) (p o : List ℕ) → Begins p → past column m (p ++ o) ≡ (m, p ++ o)
 begins_past column m p o b =
@@ -46,8 +182,8 @@ begins_token m p o b clear =
     record { nul = b.nul; byte_order_mark = b.ink.byte_order_mark; directive = b.directive; marker = here } in
     subst (BeginsToken m) (sym front) token
 
--- A step over a token that stands at m: y is what stands there, and behind the token o stands at n. `says` tells
--- whether a key may begin behind it, and where a colon may stand at once.
+-- A step over a token that is at m: y is what is there, and after the token o is at n. `says` tells
+-- whether a key may begin after it, and where a colon may come at once.
 pub record TokenStep (around : Around) (says : Bool → ℕ → Type 0) (kind : Kind) (y : List ℕ) (m n : Marker) (o : List ℕ)
     (x : Context) (ls : List Level) (ad place : ℕ) (b : Bool) (j : Option Candidate)
     (e : Bool) : Type 0 where
@@ -63,7 +199,7 @@ pub record TokenStep (around : Around) (says : Bool → ℕ → Type 0) (kind : 
   pub fresh : IsFresh x o allowed there
   pub tells : says allowed adjacent
 
--- what is known behind a token
+-- what is known after a token
 pub record IsAfterToken (says : Bool → ℕ → Type 0) (x : Context) (kept : KeptKey) (key : Option Candidate)
     (allowed : Bool)
     (adjacent : ℕ) (new : List Place) : Type 0 where
@@ -73,14 +209,14 @@ pub record IsAfterToken (says : Bool → ℕ → Type 0) (x : Context) (kept : K
   pub since : Since kept.before kept.from kept.over key
   pub tells : says allowed adjacent
 
--- a colon may stand at once at this place alone
+-- a colon may come at once at this place alone
 abbrev pub adjacent_at : ℕ → Bool → ℕ → Type 0
 adjacent_at n allowed adjacent = adjacent ≡ n
 
 abbrev pub after_token : (Bool → ℕ → Type 0) → Context → KeptKey → Known
 after_token says x kept key allowed adjacent new = IsAfterToken says x kept key allowed adjacent new
 
--- the run over a token p, which stands at m before o
+-- the run over a token p, which is at m before o
 abbrev pub PassesToken : Around → (Bool → ℕ → Type 0) → FlowMoment → Marker → List ℕ → List ℕ → Kind → Type 0
 PassesToken around says now m p o kind =
     PassesPiece around (state_at around now) (after_token says now.context (keeping now m p)) now.context now.outer
@@ -90,7 +226,7 @@ pub same_saved : (n : ℕ) (m : Marker) (a b : Bool) (k j : Option Candidate) �
     → saved b n m j ≡ saved a n m k
 same_saved n m a b k j e = rw (e.0, e.1) refl
 
--- the candidate behind a token is what was one, or the token
+-- the candidate after a token is what was one, or the token
 pub saved_since : (e : Bool) (n : ℕ) (m : Marker) (k j : Option Candidate) (p : List ℕ) (key : Option Candidate)
     → (j ≡ None) ⊎ (j ≡ k) → (key ≡ None) ⊎ (key ≡ saved e n m j) → Since k m p key
 saved_since e n m k j p key h (inl g) = inl g
@@ -112,7 +248,7 @@ token_passes around says kind p o m f fits right now text steps =
     let below = fits.below in
     let low = within_index around.indent around.limit w.there (moved m p) o w.fits (omega (arith, count, below)) in
     let new = token_place m w.end kind ∷ [] in
-    let came = step_comes around now m (p ++ o) v (begins_token m p o f fits.clear) (moment w.there now.context
+    let came = step_comes around now m (p ++ o) v (begins_token m p o f fits.clear) None (moment w.there now.context
     (saved v.allowed (length now.places) m v.key) now.outer w.allowed w.adjacent
     (now.places ++ new)) (from_to m w.end kind ∷ []) w.to w.deepens w.is refl low in
     record {

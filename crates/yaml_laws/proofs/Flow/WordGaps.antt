@@ -99,7 +99,7 @@ no_line_end (c ∷ cs) h = rw (blank_no_break c h.0) (no_line_end cs h.1)
     blank_no_break : (c : ℕ) → IsTrue (is_blank c) → is_break c ≡ false
     blank_no_break c h = grind (arith, nat_tests)
 
--- spaces fit wherever they stand
+-- spaces fit wherever they are
 spaces_fit : (indent n k : ℕ) (y : List ℕ) → IsFalse (reaches_tabbed indent (n + k) false y)
     → IsFalse (reaches_tabbed indent n false (spaces k ++ y))
 spaces_fit indent n zero y h = subst (λ (i : ℕ). IsFalse (reaches_tabbed indent i false y)) (none n) h
@@ -171,7 +171,7 @@ lines_fit indent (t ∷ ts) y h fits =
     subst (λ (x : List ℕ). IsFalse (reaches_tabbed indent 0 false x)) (sym (append_assoc t (joined_pieces ts) y))
     (line_fits indent t (joined_pieces ts ++ y) h.0 (lines_fit indent ts y h.1 fits))
 
--- what stands between two words
+-- what is between two words
 pub record Gapped (indent : ℕ) (m : Marker) (t : List ℕ) : Type 0 where
   pub some : t ≢ []
   pub white : AreIn is_blank_or_break t

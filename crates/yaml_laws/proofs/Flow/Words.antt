@@ -56,7 +56,7 @@ lone_dash c f second h = by_flow f h
     by_flow false h = refl
     by_flow true h = rw (h refl) (and_false (c == 45))
 
--- a word stands before anything
+-- a word comes before anything
 pub word_before : (f : Bool) (w y : List ℕ) → IsWordIn f w → IsWordBefore f w y
 word_before f w y h = record {
   some = h.some;
@@ -89,7 +89,7 @@ pub colon_is_ink : (f : Bool) → IsTrue (is_word_ink f 58)
 colon_is_ink true = refl
 colon_is_ink false = refl
 
--- a key's last word stands before the key's colon
+-- a key's last word comes before the key's colon
 pub last_before : (f : Bool) (w r : List ℕ) → IsLastWord f w → IsWordBefore f w (colon ∷ r)
 last_before f w r (some, ink, no_comment) =
     record { some = some; ink = inks w ink; no_comment = no_comment; no_lone_dash = by_word w some ink }
@@ -118,7 +118,7 @@ no_marker : (m : Marker) (w o : List ℕ) → w ≢ [] → IsClear m w o → IsN
 no_marker m [] o some clear = absurd (some refl)
 no_marker m (c ∷ cs) o some clear = marked m.col (is_document_indicator (c ∷ (cs ++ o))) (clear_here m c cs o clear)
 
--- ## The words behind the first
+-- ## The words after the first
 
 record IsFurther (f : Bool) (indent : ℕ) (m : Marker) (t o : List ℕ) : Type 0 where
   words : List (List ℕ × List ℕ)
@@ -126,7 +126,7 @@ record IsFurther (f : Bool) (indent : ℕ) (m : Marker) (t o : List ℕ) : Type 
   further : AreFurtherWords f indent m words o
   right : indent ≤ m.col → indent ≤ (moved m t).col
 
--- behind a word
+-- after a word
 behind_word : (m : Marker) (word more o : List ℕ) → NoBreaks word → IsClear m (word ++ more) o
     → IsClear (along m (length word)) more o
 behind_word m word more o unbroken clear =
@@ -176,7 +176,7 @@ one_further f indent m gap word more o gapped is_word clear rest =
 blank_is_apart : (c : ℕ) → IsTrue (is_blank c) → is_flow c ≡ false
 blank_is_apart c h = grind (arith, nat_tests)
 
--- what stands between words begins with no flow indicator
+-- what is between words begins with no flow indicator
 gap_is_apart : (indent : ℕ) (gap more : List ℕ) → IsWordGap indent gap → is_flow (slice_index (gap ++ more) 0) ≡ false
 gap_is_apart indent gap more (inl (some, are)) = by_first gap some are
   where
@@ -191,7 +191,7 @@ gap_is_apart indent gap more (inr (blanks, lines, front, are, ls, prefix, is)) =
     by_first [] are = refl
     by_first (c ∷ cs) are = blank_is_apart c are.0
 
--- a lone `-` stands before what begins with no flow indicator
+-- a lone `-` comes before what begins with no flow indicator
 dash_before : (f : Bool) (y : List ℕ) → is_flow (slice_index y 0) ≡ false → IsWordBefore f (hyphen ∷ []) y
 dash_before f y apart = record {
   some = λ e. cc;
@@ -204,7 +204,7 @@ dash_before f y apart = record {
     dash_is_ink true = refl
     dash_is_ink false = refl
 
--- lone `-` and their gaps, and what stands behind them
+-- lone `-` and their gaps, and what comes after them
 dashes_further : (f : Bool) (indent : ℕ) (pieces : List (List ℕ)) → AreEach (IsLoneDash indent) pieces
     → (last o : List ℕ) → is_flow (slice_index (last ++ o) 0) ≡ false
     → ((m : Marker) → IsClear m last o → IsFurther f indent m last o)
@@ -231,7 +231,7 @@ dashes_further f indent (p ∷ ps) ((gap, gapped, is), others) last o apart ends
         subst (λ (t : List ℕ). is_flow (slice_index t 0) ≡ false) (sym text)
         (gap_is_apart indent gap ((45 ∷ []) ++ ((joined_pieces qs ++ last) ++ o)) gapped)
 
--- words, and what stands behind them
+-- words, and what comes after them
 further_words : (f : Bool) (indent : ℕ) (pieces : List (List ℕ)) → AreEach (IsFurtherWord f indent) pieces
     → (last o : List ℕ) → ((m : Marker) → IsClear m last o → IsFurther f indent m last o)
     → (m : Marker) → IsClear m (joined_pieces pieces ++ last) o → IsFurther f indent m (joined_pieces pieces ++ last) o

@@ -1,4 +1,4 @@
--- What stands behind an indicator, and behind the indicator of a node at block level.
+-- What comes after an indicator, and after the indicator of a node at block level.
 use Rattle.std.proofs.Common.{◌≡◌, ◌≢◌, ℕ, zero, suc, ◌+◌, ◌≤◌, Bool, true, false, List, [], ◌∷◌, ◌++◌, length, slice_index, refl, sym, ap, ◌∙◌, arith, subst, append_assoc, append-nil, ◌⊎◌, inl, inr, IsTrue, IsFalse}
 use Rattle.std.specs.Prelude.{◌||◌, ◌&&◌, ◌==◌, not, take, Option, Some, None}
 use Rattle.std.specs.List.{list_all, list_any, prefix_len}
@@ -22,8 +22,8 @@ use Rattle.yaml_laws.proofs.Flow.States.{IsInk, moved, past}
 use Rattle.yaml_laws.proofs.Documents.Lines.{rest_first}
 use Rattle.yaml_laws.proofs.Flow.Fillers.{spaces_are_blank, blanks_past, behind_is, front_past}
 use Rattle.yaml_laws.proofs.Flow.Separates.{line_stops, ink_stops, front_moved}
-use Rattle.yaml_laws.proofs.Flow.Inks.{BeginsInk}
-use Rattle.yaml_laws.proofs.Flow.Tags.{tag_read, tag_first}
+use Rattle.yaml_laws.proofs.Flow.Inks.{BeginsInk, ink_front}
+use Rattle.yaml_laws.proofs.Flow.Names.{tag_read, tag_first}
 use Rattle.yaml_laws.proofs.InBlock.States.{tabbed, crosses}
 use Rattle.yaml_laws.proofs.InBlock.Skips.{IsSkipped, blanks_cross, rest_crosses, last_crosses, IsClean, IsCleanIn, blanks_pass, skipped_clean, skipped_untabbed, blanks_untabbed, lines_clean, skipped_append, spaces_skipped, line_end_skipped, filler_skipped, rest_ends_clean}
 use Rattle.yaml_laws.proofs.InBlock.Entries.{BeginsWhite, IsBehindIndicator}
@@ -31,7 +31,7 @@ use Rattle.yaml_laws.proofs.InBlock.Statements.{ReadsLeaves}
 use Rattle.saphyr_input.proofs.Basics.Booleans.{clash, and_false}
 use Rattle.yaml_laws.proofs.InBlock.Texts.{ink_clean}
 
--- ## Behind an indicator
+-- ## After an indicator
 
 along_front : (m : Marker) (blanks comment : List ℕ) → AreIn is_blank blanks → (comment ≡ []) ⊎ IsComment comment
     → along m (length (blanks ++ comment)) ≡ moved m (blanks ++ comment)
@@ -92,7 +92,7 @@ dash_is_alpha c = by_dash (c == hyphen) refl
 blank_apart : (c : ℕ) → IsTrue (is_blank c) → is_blank_or_breakz c ≡ true
 blank_apart c h = grind (arith, nat_tests)
 
--- Blanks and a token. Behind a tab it is no `-` of a compact sequence and, behind a colon and tabs alone, no word.
+-- Blanks and a token. After a tab it is no `-` of a compact sequence and, after a colon and tabs alone, no word.
 blanks_behind : {colon : Bool} {indent : ℕ} (w : List ℕ) (c : ℕ) (cs : List ℕ) → AreIn is_blank w → w ≢ [] → IsInk c
     → (list_any (λ b. b == tab) w && ((c == hyphen) && is_blank_or_breakz (slice_index cs 0))) ≡ false
     → (colon ≡ true → (list_all (λ b. b == tab) w && is_alpha c) ≡ false)
@@ -208,12 +208,12 @@ eol_behind {colon} {indent} t o (inl (rest, h, is)) clean =
 eol_behind {colon} {indent} t o (inr (h, e)) clean =
     subst (IsBehindIndicator colon indent) (sym (ap (λ (x : List ℕ). t ++ x) e ∙ append-nil t)) (last_behind t h)
 
--- behind the end of a line
+-- after the end of a line
 line_end_behind : {colon : Bool} {indent : ℕ} (t o : List ℕ) → IsLineEnd t → IsCleanIn indent o
     → IsBehindIndicator colon indent (t ++ o)
 line_end_behind t o h clean = eol_behind t o (inl h) clean
 
--- ## Behind the indicator of a node
+-- ## After the indicator of a node
 
 next_line_behind : {colon : Bool} (indent : ℕ) (t : List ℕ) (c : ℕ) (cs : List ℕ) → IsNextLine indent t → IsInk c
     → IsBehindIndicator colon indent (t ++ (c ∷ cs))
@@ -241,12 +241,7 @@ ink_so {colon} {indent} w t b h =
     subst (λ (x : List ℕ). IsBehindIndicator colon indent (w ++ x)) (sym b.is) (h b.first b.others b.ink)
 
 pub further_ink : (t o : List ℕ) → BeginsInk t → BeginsInk (t ++ o)
-further_ink t o b = record {
-  first = b.first;
-  others = b.others ++ o;
-  is = ap (λ (x : List ℕ). x ++ o) b.is;
-  ink = b.ink;
-}
+further_ink t o b = ink_front t (t ++ o) o refl b
 
 -- a text that begins with no word and no `-`
 pub record BeginsApart (t : List ℕ) : Type 0 where
@@ -391,7 +386,8 @@ flow_behind leaves node place t o out (gap, text, end, gap_is, is, apart, end_is
     let begins : (text ++ end) ++ o ≡ b.first ∷ behind = ap (λ (x : List ℕ). (x ++ end) ++ o) b.is in
     let dash : ((b.first == 45) && is_blank_or_breakz (slice_index behind 0)) ≡ false =
     subst (λ (x : List ℕ). ((slice_index x 0 == 45) && is_blank_or_breakz (slice_index x 1)) ≡ false)
-    (sym (append_assoc text end o) ∙ begins) (leaves.flow_dash node most_open (indent_at place) false text (end ++ o) is)
+    (sym (append_assoc text end o) ∙ begins) (leaves.flow_dash node most_open (indent_at place) false text
+    (end ++ o) is)
     in
     let first : slice_index text 0 ≡ b.first = ap (λ (x : List ℕ). slice_index x 0) b.is in
     subst (IsBehindIndicator (is_behind_colon place) (indent_at place)) (sym whole)
@@ -421,7 +417,7 @@ scalar_apart p style value indent front t o (inl (none, e)) is =
     header_apart SingleQuoted value indent t o h = absurd h
     header_apart DoubleQuoted value indent t o h = absurd h
 
--- what stands behind the indicator of a node that isn't at a document's start
+-- what comes after the indicator of a node that isn't at a document's start
 pub node_behind : {limit : ℕ} → ReadsLeaves limit → (node : Node) (place : Position) (t o : List ℕ)
     → IsFalse (is_start place) → IsBlockNode most_open node place t o → IsClean o
     → IsBehindIndicator (is_behind_colon place) (indent_at place) (t ++ o)

@@ -1,5 +1,5 @@
--- A text of YAML's grammar ends with the line of a document marker: whatever follows, the tokens up to and with the
--- marker's own come first.
+-- A text of YAML's grammar ends with the line of a document marker: whatever follows, the tokens up to and including
+-- the marker's own come first.
 use Rattle.std.proofs.Common.{◌≡◌, ℕ, ◌≤◌, ◌<◌, ◌^◌, true, false, List, [], ◌∷◌, ◌++◌, length, slice_index, refl, sym, ap, ◌∙◌, subst, append_assoc, append-nil, ◌⊎◌, inl, inr, arith}
 use Rattle.std.specs.Prelude.{map, ◌==◌}
 use Rattle.saphyr_input.specs.Indicators.{full_stop}
@@ -33,22 +33,20 @@ use Rattle.yaml_laws.proofs.InBlock.FurtherScalars.{EndsFed, fed_front}
 use Rattle.scalar_laws.proofs.Beginnings.{back_in}
 use Rattle.yaml_laws.proofs.InBlock.Statements.{ReadsLeaves}
 use Rattle.yaml_laws.proofs.InBlock.Documents.Ends.{AreBlockDocuments, HasNoReturn, OpensMarker, opens_marker, marks_text}
-use Rattle.yaml_laws.proofs.InBlock.Firsts.{HasToken, token_front, node_token, documents_token}
+use Rattle.yaml_laws.proofs.InBlock.Stops.{HasToken, token_front, node_token, documents_token, StopsAt, one_stop, token_stops, marker_stops, end_stops, mark_stops, mark_prefix_stops, end_prefix_stops, documents_stop}
 use Rattle.yaml_laws.proofs.InBlock.Markers.HandedMarkers.{Handed, hands_start, hands_end}
-use Rattle.yaml_laws.proofs.InBlock.Stops.{StopsAt, one_stop, token_stops, marker_stops, end_stops, mark_stops, mark_prefix_stops, end_prefix_stops, documents_stop}
 use Rattle.yaml_laws.proofs.InBlock.YamlTexts.{leaves}
 use Rattle.yaml_laws.proofs.InBlock.ScalarTexts.{ReadsBlocks}
 use Rattle.yaml_laws.proofs.InBlock.Streams.{begins}
 use Rattle.yaml_laws.proofs.InBlock.Markers.AtMarkers.{Closes, closes_on, YieldsAhead, IsMarkerRest, StartsHere, EndsHere, Found, passes_end, passes_mark}
 use Rattle.yaml_laws.proofs.InBlock.Markers.ToMarkers.{closes_stream}
-use Rattle.yaml_laws.proofs.Breaks.YamlTexts.{no_return_left}
-use Rattle.yaml_laws.proofs.Breaks.Normal.{beside, normal_shorter}
+use Rattle.yaml_laws.proofs.Breaks.Normal.{no_return_left, beside, normal_shorter}
 use Rattle.saphyr_input.proofs.Basics.Lists.{cons_not_empty}
 use Rattle.saphyr_scanner.proofs.Queues.{holding}
 
 -- ## The marker on the last line
 
--- behind the marker of the last line
+-- after the marker of the last line
 abbrev last_rest : List ℕ → List ℕ
 last_rest tail = tail ++ line_feed ∷ []
 
@@ -62,7 +60,7 @@ rest_stops : (tail : List ℕ) → IsLineRest tail → StopsAt (last_rest tail) 
 rest_stops tail h = subst (λ (x : List ℕ). StopsAt x []) (append-nil (last_rest tail))
     (end_stops (last_rest tail) [] [] (inl (tail, h, refl)) (λ m. refl))
 
--- behind `...` stand no byte order mark, no other `...` and no documents
+-- after `...` are no byte order mark, no other `...` and no documents
 none_behind : {limit : ℕ} → ReadsLeaves limit → (tail : List ℕ) → IsLineRest tail
     → (ds : Forest) (end prefix others : List ℕ) → IsEol end (prefix ++ others) → IsDocumentPrefix prefix others
     → AreBlockDocuments ds true others → end ++ (prefix ++ others) ≡ last_rest tail → ds ≡ []
@@ -101,7 +99,7 @@ last_end leaves tail more tail_is ds free opened end prefix others ts end_is pre
       handed = hands_end (last_rest tail) more v (inl (tail, tail_is, refl));
     }
 
--- behind `---` no node stands, and no document behind that
+-- after `---` no node is, and no document after that
 no_node : {limit : ℕ} → ReadsLeaves limit → (tail : List ℕ) → IsLineRest tail
     → (n : Node) (ds : Forest) (node others : List ℕ) → IsBlockNode most_open n BehindMarker node others
     → yaml.IsBehindDocument (AreBlockDocuments ds) others → node ++ others ≡ last_rest tail
@@ -157,7 +155,7 @@ last_marker start leaves Ends tail more tail_is = last_end leaves tail more tail
 abbrev marker_line : DocumentMarker → List ℕ → List ℕ
 marker_line marker tail = marker_text marker ++ last_rest tail
 
--- What stands before documents begins with a byte order mark, behind which `rest` stands.
+-- What comes before documents begins with a byte order mark, after which `rest` is.
 record MarkFirst (prefix others rest : List ℕ) : Type 0 where
   filler : List ℕ
   next : List ℕ
@@ -192,11 +190,11 @@ mark_first leaves ds _ _ rest (end_prefix filler end next others filler_is end_i
     no_dot : (cs ds : List ℕ) → full_stop ∷ cs ≡ byte_order_mark ∷ ds → ⊥
     no_dot cs ds e = let k : true ≡ false = ap (λ (x : List ℕ). slice_index x 0 == 46) e in cc
 
--- the marks, and the last line behind them
+-- the marks, and the last line after them
 abbrev marked_line : DocumentMarker → List (List ℕ) → List ℕ → List ℕ
 marked_line marker marks tail = joined_pieces marks ++ marker_line marker tail
 
--- the stream, or what stands behind a `...` line, is of the marks and the last line
+-- the stream, or what comes after a `...` line, is of the marks and the last line
 closes_marks : {limit : ℕ} {start : State} → ReaderPromises → ReadsLeaves limit
     → (marker : DocumentMarker) (marks : List (List ℕ)) (tail more : List ℕ) → AreEach IsMarkBehindFiller marks
     → IsLineRest tail
@@ -222,13 +220,13 @@ closes_marks {limit = limit} {start = start} readers leaves marker (piece ∷ ma
     (λ us s. closes_marks readers leaves marker marks tail more are tail_is ds k.next others us k.next_is h clean s
     k.left)
 
--- ## Byte order marks behind a `...` line
+-- ## Byte order marks after a `...` line
 
 -- the end of a line with its break
 abbrev IsWholeEnd : List ℕ → Type 0
 IsWholeEnd end = (rest : List ℕ) × IsLineRest rest × (end ≡ rest ++ 10 ∷ [])
 
--- what stands behind the `...`
+-- what comes after the `...`
 abbrev mark_rest : List ℕ → List ℕ → List ℕ → List ℕ
 mark_rest end filler line = end ++ (filler ++ (byte_order_mark ∷ line))
 
@@ -289,7 +287,7 @@ before_line : (front : List ℕ) → IsBeforeLine front → opens_line true fron
 before_line front (inl e) = ap (opens_line true) e
 before_line front (inr (others, e)) = ap (opens_line true) e ∙ feed_opens true others
 
--- a `...` line, and behind it the last line
+-- a `...` line, and after it the last line
 line_behind : (others rest line : List ℕ)
     → others ++ (full_stop ∷ full_stop ∷ full_stop ∷ ((rest ++ line_feed ∷ []) ++ line))
     ≡ ((others ++ (full_stop ∷ full_stop ∷ full_stop ∷ rest)) ++ line_feed ∷ []) ++ line
@@ -300,7 +298,7 @@ mark_text : (others rest marks line : List ℕ)
     ≡ others ++ (full_stop ∷ full_stop ∷ full_stop ∷ ((rest ++ line_feed ∷ []) ++ (marks ++ line)))
 mark_text others rest marks line = simp append_assoc
 
--- where the last line, perhaps with byte order marks, stands behind a `...` line
+-- where the last line, perhaps with byte order marks, comes after a `...` line
 closes_behind_end : {limit : ℕ} {start : State} → ReaderPromises → ReadsLeaves limit
     → (marker : DocumentMarker) (earlier rest : List ℕ) (marks : List (List ℕ)) (tail more : List ℕ)
     → IsBeforeLine earlier → IsLineRest rest → AreEach IsMarkBehindFiller marks → IsLineRest tail
@@ -326,7 +324,8 @@ closes_behind_end readers leaves marker earlier rest (piece ∷ marks) tail more
     let whole : IsWholeEnd end = (rest, rest_is, refl) in
     closes_stream readers leaves Ends (mark_rest end filler (marked_line marker marks tail)) more
     (mark_rest_is marker end filler marks tail whole)
-    (mark_end readers leaves marker end filler marks tail more whole filler_is are tail_is) ds prefix others ts prefix_is
+    (mark_end readers leaves marker end filler marks tail more whole filler_is are tail_is) ds prefix others ts
+    prefix_is
     h clean v
     (record {
       front = earlier;
@@ -335,7 +334,7 @@ closes_behind_end readers leaves marker earlier rest (piece ∷ marks) tail more
       line = before_line earlier before;
     })
 
--- behind a front at whose end a line begins, perhaps with byte order marks
+-- after a front at whose end a line begins, perhaps with byte order marks
 closes_last : {limit : ℕ} {start : State} → ReaderPromises → ReadsLeaves limit
     → (marker : DocumentMarker) (front tail more : List ℕ)
     → IsLineRest tail → (ds : Forest) (prefix others : List ℕ) (ts : List Kind) → IsDocumentPrefix prefix others
@@ -364,7 +363,7 @@ in_stream : (forest : Forest) (t : List Kind) → YieldsAhead forest t → Yield
 in_stream forest t (marks, others, are, told, e) =
     (marks, others, are, told, ap (λ (x : List Kind). tokens.StreamStart ∷ x) e)
 
--- From the start of the text, whatever follows, the scanner comes behind the marker, and holds nothing back.
+-- From the start of the text, whatever follows, the scanner comes after the marker, and holds nothing back.
 closed_leads : ReaderPromises → (limit : ℕ) → ReadsLeaves limit
     → (marker : DocumentMarker) (forest : Forest) (text more : List ℕ)
     → HasNoReturn text → EndsWithMarker IsLineRest marker text → IsYaml most_open forest text
@@ -387,7 +386,7 @@ onto_kinds : (ts : List Piece) (r : Remaining)
 onto_kinds [] r = refl
 onto_kinds (t ∷ ts) r = ap (λ ks. t.kind ∷ ks) (onto_kinds ts r)
 
--- they come first, whatever the text behind the marker's line gives
+-- they come first, whatever the text after the marker's line gives
 closed_begins : Readers → ReaderPromises → (limit : ℕ) → ReadsLeaves limit
     → (marker : DocumentMarker) (forest : Forest) (text more : List ℕ) → HasNoReturn text
     → EndsWithMarker IsLineRest marker text → IsYaml most_open forest text → length (text ++ more) ≤ limit

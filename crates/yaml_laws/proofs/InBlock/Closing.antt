@@ -21,7 +21,7 @@ use Rattle.yaml_laws.proofs.InBlock.States.{Frame, frame_at_column, moment_at, s
 use Rattle.yaml_laws.proofs.InBlock.Follows.{goes_alike, arrives_at, stays_open}
 use Rattle.saphyr_input.proofs.Basics.Numbers.{zero_below_next}
 use Rattle.saphyr_input.proofs.Basics.Booleans.{and_false}
-use Rattle.std.proofs.lemmas.Bool.{ltb-true, eq-eqb}
+use Rattle.std.proofs.lemmas.Bool.{ltb-true, eq-eqb, eqb-true}
 use Rattle.saphyr_input.specs.Indicators.{full_stop, hyphen, percent_sign}
 use Rattle.saphyr_scanner.proofs.Queues.{place_kinds, place_kinds_append}
 use Rattle.yaml_laws.proofs.Flow.Inks.{bom_is}
@@ -67,28 +67,12 @@ record IsMarkerSign (c : ℕ) : Type 0 where
   directive : (c == percent_sign) ≡ false
 
 dash_sign : (c : ℕ) → (c == hyphen) ≡ true → IsMarkerSign c
-dash_sign c h = record { nul = nul c h; byte_order_mark = mark c h; directive = directive c h }
-  where
-    nul : (c : ℕ) → (c == hyphen) ≡ true → is_z c ≡ false
-    nul c h = grind (arith, nat_tests)
-
-    mark : (c : ℕ) → (c == hyphen) ≡ true → is_bom c ≡ false
-    mark c h = grind (arith, nat_tests)
-
-    directive : (c : ℕ) → (c == hyphen) ≡ true → (c == percent_sign) ≡ false
-    directive c h = grind (arith, nat_tests)
+dash_sign c h =
+    subst IsMarkerSign (sym (eqb-true c 45 h)) (record { nul = refl; byte_order_mark = refl; directive = refl })
 
 dot_sign : (c : ℕ) → (c == full_stop) ≡ true → IsMarkerSign c
-dot_sign c h = record { nul = nul c h; byte_order_mark = mark c h; directive = directive c h }
-  where
-    nul : (c : ℕ) → (c == full_stop) ≡ true → is_z c ≡ false
-    nul c h = grind (arith, nat_tests)
-
-    mark : (c : ℕ) → (c == full_stop) ≡ true → is_bom c ≡ false
-    mark c h = grind (arith, nat_tests)
-
-    directive : (c : ℕ) → (c == full_stop) ≡ true → (c == percent_sign) ≡ false
-    directive c h = grind (arith, nat_tests)
+dot_sign c h =
+    subst IsMarkerSign (sym (eqb-true c 46 h)) (record { nul = refl; byte_order_mark = refl; directive = refl })
 
 first_of : (a b c d : Bool) → ((a && b && c) && d) ≡ true → a ≡ true
 first_of true b c d h = refl
@@ -194,7 +178,7 @@ pub stream_ends : (f : Frame) (m : Marker) (blank : Bool) (key : Option Candidat
 unfolding fetch_here document.state_behind_end document.end_at
 stream_ends f m blank key a ad deeper ps = refl
 
--- A collection ends at the end of its document, where the next token stands no further left.
+-- A collection ends at the end of its document, where the next token is no further left.
 ends_here : (f : Frame) (c : ℕ) (m : Marker) (y : List ℕ) (blank : Bool) (key : Option Candidate) (a : Bool) (ad : ℕ)
     (deeper other : Bool) (ps : List Place) → EndsDocument m y
     → fetch_here (state_of (frame_at_column c f) (moment_at m y blank key a ad deeper) ps)
@@ -226,7 +210,7 @@ ended_kinds : (ps : List Place) (m : Marker) (ts : List Kind) → place_kinds ps
     → place_kinds (ps ++ end_place m ∷ []) ≡ ts ++ tokens.BlockEnd ∷ []
 ended_kinds ps m ts e = place_kinds_append ps (end_place m ∷ []) ∙ ap (λ (x : List Kind). x ++ tokens.BlockEnd ∷ []) e
 
--- The block collection at a column ends before the token at m, which stands to its left or ends the document.
+-- The block collection at a column ends before the token at m, which is to its left or ends the document.
 pub closes_block : {limit : ℕ} {start : State} {ts : List Kind} (f : Frame) (c : ℕ) (m : Marker) (y : List ℕ)
     → f.indent ≤ c → EndsDocument m y ⊎ (m.col < c) → (v : At limit start (frame_at_column c f) m y ts)
     → (w : At limit start f m y (ts ++ tokens.BlockEnd ∷ [])) × (w.key ≡ v.key) × (w.allowed ≡ v.allowed)

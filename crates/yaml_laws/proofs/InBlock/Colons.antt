@@ -22,11 +22,11 @@ use Rattle.saphyr_scanner.specs.Grammar.Tokens.{Kind}
 use Rattle.saphyr_scanner.specs.Steps.Value as value
 use Rattle.saphyr_scanner.specs.Steps.Fetch.{fetch, fetch_here, state_behind_content, step}
 use Rattle.yaml_laws.specs.Grammar.BlockNodes as yaml
-use Rattle.yaml_laws.proofs.Flow.Colons.{pair_places, performs}
+use Rattle.yaml_laws.proofs.Flow.Values.{pair_places, performs}
 use Rattle.yaml_laws.proofs.Flow.States.{past}
 use Rattle.yaml_laws.proofs.InBlock.States.{Frame, Moment, moment_at, moment_with, core_of, state_of, tabbed, IsUntabbed, crosses, GoesOnAs, At, Before}
 use Rattle.yaml_laws.proofs.InBlock.Follows.{steps_from, begins_here, deeper_at, lands_key}
-use Rattle.yaml_laws.proofs.InBlock.Entries.{IsBehindIndicator, front_end, separates, frame_behind, steps_on, least_within, before_next}
+use Rattle.yaml_laws.proofs.InBlock.Entries.{IsBehindIndicator, front_end, separates, frame_behind, steps_on, start_places, start_performs, start_kinds, start_are, least_within, before_next}
 use Rattle.saphyr_scalar.proofs.Given.{cursor_at}
 use Rattle.saphyr_input.proofs.Basics.Numbers.{le_next, zero_below_next}
 use Rattle.std.proofs.Math.Bool.{or-true}
@@ -34,9 +34,9 @@ use Rattle.saphyr_input.specs.Indicators.{colon}
 use Rattle.saphyr_scanner.proofs.Queues.{place_kinds, place_kinds_append, queue_of}
 use Rattle.yaml_laws.proofs.InBlock.Questions.{colon_begins, key_kinds}
 
--- ## Behind a colon
+-- ## After a colon
 
--- What stands behind a colon on its line is passed, where a tab stands first; else nothing is.
+-- What comes after a colon on its line is passed, where a tab comes first; else nothing is.
 record PassesColon (indent : ℕ) (o : List ℕ) (h : IsBehindIndicator true indent o) (m : Marker) : Type 0 where
   mark : Marker
   rest : List ℕ
@@ -87,19 +87,11 @@ passes_colon indent o h m = by_tab (slice_index o 0 == 9) refl
       clean = λ least low. h.clean least low (front_end h m);
     }
 
--- ## `:` behind `?`, or without a key
+-- ## `:` after `?`, or without a key
 
--- behind a `:` of its own
+-- after a `:` of its own
 abbrev behind_value : Marker → List ℕ → ℕ → Moment
-behind_value n o ad = record {
-  cursor = cursor_at o n false;
-  key = None;
-  allowed = true;
-  adjacent = ad;
-  deeper = true;
-  required = false;
-  comment = None;
-}
+behind_value n o ad = moment_at n o false None true ad true
 
 some_further : (i k : ℕ) (b : Bool) → nat_le i k ≡ b → nat_lt 0 i ≡ true ⊎ (b ≡ true)
 some_further i k true e = inr refl
@@ -109,7 +101,8 @@ some_further i k false e = inl (positive i k e)
     positive i k e = grind (arith, nat_tests)
 
 value_step : (f : Frame) (m : Marker) (o : List ℕ) (h : IsBehindIndicator true (suc m.col) o)
-    (p : PassesColon (suc m.col) o h (along m 1)) (blank : Bool) (ad : ℕ) (deeper further : Bool) → nat_le f.indent m.col ≡ further → (i : ℕ)
+    (p : PassesColon (suc m.col) o h (along m 1)) (blank : Bool) (ad : ℕ) (deeper further : Bool)
+    → nat_le f.indent m.col ≡ further → (i : ℕ)
     → step 58 (slice_index o 0) i (core_of f (moment_at m (colon ∷ o) blank None true ad deeper))
     ≡ completed_step (value.opening_actions false m (core_of f (moment_at m (colon ∷ o) blank None true ad deeper)))
     (core_of (frame_behind further m.col f) (behind_value p.mark p.rest ad))
@@ -131,35 +124,16 @@ value_step f m o h p blank ad deeper further e i =
     alone false e (inl s) = rw (e, s) refl
     alone false e (inr s) = absurd (cc)
 
--- what is put into the queue
-value_places : Bool → Marker → List Place → List Place
-value_places true m ps =
-    (ps ++ bare_place (empty_piece m tokens.BlockMappingStart) ∷ []) ++ bare_place (empty_piece m tokens.Value) ∷ []
-value_places false m ps = ps ++ bare_place (empty_piece m tokens.Value) ∷ []
-
 value_performs : (f : Frame) (n : Moment) (further : Bool) (m : Marker) (ps : List Place)
-    → nat_le f.indent m.col ≡ further
-    → perform (value.opening_actions false m (core_of f n)) (queue_of ps) ≡ queue_of (value_places further m ps)
-unfolding value_places value.opening_actions
-value_performs f n true m ps e = rw e refl
-value_performs f n false m ps e = rw e refl
+    → nat_le f.indent m.col ≡ further → perform (value.opening_actions false m (core_of f n)) (queue_of ps)
+    ≡ queue_of (start_places further m tokens.BlockMappingStart m m tokens.Value ps)
+unfolding value.opening_actions
+value_performs f n true m ps e = rw e (start_performs true m tokens.BlockMappingStart m m tokens.Value ps)
+value_performs f n false m ps e = rw e (start_performs false m tokens.BlockMappingStart m m tokens.Value ps)
 
 -- the tokens of a `:`, before which a mapping may start
 abbrev pub value_kinds : Bool → List Kind
-value_kinds further = if further then tokens.BlockMappingStart ∷ tokens.Value ∷ [] else tokens.Value ∷ []
-
-value_are : (further : Bool) (m : Marker) (ps : List Place) (ts : List Kind) → place_kinds ps ≡ ts
-    → place_kinds (value_places further m ps) ≡ ts ++ value_kinds further
-unfolding value_places
-value_are true m ps ts e =
-    let first = place_kinds_append ps (bare_place (empty_piece m tokens.BlockMappingStart) ∷ [])
-    ∙ ap (λ (x : List Kind). x ++ tokens.BlockMappingStart ∷ []) e in
-    place_kinds_append (ps ++ bare_place (empty_piece m tokens.BlockMappingStart) ∷ [])
-    (bare_place (empty_piece m tokens.Value) ∷ []) ∙ ap (λ (x : List Kind). x ++ tokens.Value ∷ []) first
-    ∙ append_assoc ts (tokens.BlockMappingStart ∷ []) (tokens.Value ∷ [])
-value_are false m ps ts e =
-    place_kinds_append ps (bare_place (empty_piece m tokens.Value) ∷ [])
-    ∙ ap (λ (x : List Kind). x ++ tokens.Value ∷ []) e
+value_kinds further = start_kinds further tokens.BlockMappingStart tokens.Value
 
 -- the `:` of a value is read, which begins a mapping or goes on with one
 pub reads_value : {limit : ℕ} {start : State} {ts : List Kind} (f : Frame) (m : Marker) (o : List ℕ) (further : Bool)
@@ -175,7 +149,7 @@ reads_value {limit} {start} {ts} f m o further e far h count v none allowed =
     let p = passes_colon (suc m.col) o h (along m 1) in
     let g = frame_behind further m.col f in
     let t = behind_value p.mark p.rest v.adjacent in
-    let qs = value_places further m v.places in
+    let qs = start_places further m tokens.BlockMappingStart m m tokens.Value v.places in
     let n = moment_at m (58 ∷ o) v.blank None true v.adjacent deeper in
     let made : state_behind_content 58 (slice_index o 0) (state_of f n v.places) ≡ Ok (state_of g t qs) =
     ap (λ r. after_step r (queue_of v.places)) (value_step f m o h p v.blank v.adjacent deeper further e i)
@@ -190,30 +164,23 @@ reads_value {limit} {start} {ts} f m o further e far h count v none allowed =
     before_next (yaml.BehindMark m.col) g t qs (along m 1) o
     (steps_on f g m (58 ∷ o) v (colon_begins m o) far t qs there refl
     (room m.index p.mark.index (length o) limit p.low count))
-    (value_are further m v.places ts v.are) refl refl refl (le_next v.adjacent m.index v.low) p.lands
+    (start_are further m tokens.BlockMappingStart m m tokens.Value v.places ts v.are) refl refl refl
+    (le_next v.adjacent m.index v.low) p.lands
     (p.clean (least_column (core_of g t)) (least_within further m.col f t far))
     (or-true (crosses p.rest)) refl
   where
     room : (i j l limit : ℕ) → j ≤ i + 1 + l → i + suc l ≤ limit → j ≤ limit
     room i j l limit k h = omega (arith, k, h)
 
--- ## `:` behind a key
+-- ## `:` after a key
 
--- what stands in front of a key
+-- what comes before a key
 abbrev pub block_opening : Bool → Opening
 block_opening further = if further then opening.BlockMappingAndKey else opening.Key
 
--- behind the colon of a key
+-- after the colon of a key
 abbrev colon_moment : Marker → List ℕ → ℕ → Moment
-colon_moment n o ad = record {
-  cursor = cursor_at o n false;
-  key = None;
-  allowed = false;
-  adjacent = ad;
-  deeper = true;
-  required = false;
-  comment = None;
-}
+colon_moment n o ad = moment_at n o false None false ad true
 
 colon_step : (f : Frame) (r : Bool) (k : Candidate) (m : Marker) (indent : ℕ) (o : List ℕ)
     (h : IsBehindIndicator true indent o) (p : PassesColon indent o h (along m 1)) (blank a : Bool) (ad : ℕ)

@@ -1,7 +1,6 @@
--- Whether a break is ahead, before what is passed and behind it.
+-- Whether a break is ahead, before what is passed and after it.
 use Rattle.std.proofs.Common.{◌≡◌, ℕ, Bool, true, false, List, [], ◌∷◌, ◌++◌, slice_index, refl, sym, ap, ◌∙◌, append_assoc, inl, inr}
 use Rattle.std.specs.Prelude.{◌||◌, if◌then◌else◌}
-use Rattle.saphyr_input.specs.Indicators.{colon}
 use Rattle.saphyr_input.specs.Classes.{is_blank, is_break, line_feed}
 use Rattle.saphyr_input.specs.Places.{is_blank_or_break}
 use Rattle.saphyr_scalar.specs.declared.scalar.position.Marker.{Marker}
@@ -13,7 +12,7 @@ use Rattle.scalar_laws.specs.Spelling.Spaces.{AreEach, joined_pieces, IsSeparati
 use Rattle.saphyr_scanner.specs.declared.engine.level.Context.{Context}
 use Rattle.saphyr_scanner.specs.Steps.Level.{is_block}
 use Rattle.yaml_laws.proofs.Flow.States.{crosses, IsFresh}
-use Rattle.yaml_laws.proofs.Flow.Fillers.{EndsLine, spaces_are_blank, behind_is}
+use Rattle.yaml_laws.proofs.Flow.Fillers.{EndsLine, behind_is}
 use Rattle.yaml_laws.proofs.InBlock.Skips.{blanks_cross, rest_crosses, last_crosses}
 use Rattle.saphyr_input.proofs.Basics.Booleans.{clash}
 
@@ -22,11 +21,7 @@ pub fresh_in_flow : (x : Context) (o : List ℕ) (allowed : Bool) (there : Curso
     → IsFresh x o allowed there
 fresh_in_flow x o allowed there flow b e = absurd (clash (is_block x) b flow)
 
--- no break stands among spaces before a character that is passed in no gap
-pub spaces_uncrossed : (n : ℕ) (r : List ℕ) → crosses (spaces n ++ (colon ∷ r)) ≡ false
-spaces_uncrossed n r = blanks_cross (spaces n) (58 ∷ r) (spaces_are_blank n)
-
--- a break behind separation is one behind what stands before it
+-- a break after separation is one after what comes before it
 pub separation_crosses : (indent : ℕ) (w o : List ℕ) → IsSeparation indent w → crosses o ≡ true
     → crosses (w ++ o) ≡ true
 separation_crosses indent w o (lines, blanks, (pieces, each, lines_are), are, e) h = by_lines pieces each lines_are
@@ -49,7 +44,7 @@ feed_crosses : (t : List ℕ) → slice_index t 0 ≡ line_feed → crosses t �
 feed_crosses [] e = absurd (cc)
 feed_crosses (c ∷ cs) e = rw e refl
 
--- behind the rest of a line its break is still ahead
+-- after the rest of a line its break is still ahead
 pub line_rest_crosses : (rest more : List ℕ) → IsLineRest rest → EndsLine more → crosses (rest ++ more) ≡ true
     → crosses more ≡ true
 line_rest_crosses rest more h (inr feed) e = feed_crosses more feed
@@ -59,13 +54,13 @@ line_rest_crosses rest more (blanks, comment, are, k, is) (inl none) e =
     absurd (clash (crosses (rest ++ more)) e
     (ap crosses text ∙ last_crosses blanks comment are (behind_is blanks comment k)))
 
--- a break stands at the end of a line
+-- a break is at the end of a line
 pub content_crosses : (rest o : List ℕ) → IsLineRest rest → crosses (rest ++ (line_feed ∷ o)) ≡ true
 content_crosses rest o (blanks, comment, are, k, is) =
     ap crosses (ap (λ (t : List ℕ). t ++ (10 ∷ o)) is ∙ append_assoc blanks comment (10 ∷ o))
     ∙ rest_crosses blanks comment o are (behind_is blanks comment k)
 
--- ## Behind a plain scalar
+-- ## After a plain scalar
 
 break_ahead : (b : Bool) (c : ℕ) (cs : List ℕ) (blank break : Bool) → is_blank c ≡ blank → is_break c ≡ break
     → (blank || break) ≡ true → (b || crosses (c ∷ cs)) ≡ true → ((b || break) || crosses cs) ≡ true

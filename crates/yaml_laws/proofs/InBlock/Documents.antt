@@ -30,7 +30,7 @@ use Rattle.yaml_laws.proofs.InBlock.Documents.Nodes.{none_here, bare_clear, expl
 
 -- ## A document
 
--- The scanner has read a document, and stands behind it.
+-- The scanner has read a document, and comes after it.
 pub record DocumentStands (limit : ℕ) (start : State) (d : Document) (free : Bool) (others : List ℕ) (ts : List Kind) :
     Type 0 where
   pub tokens : List Kind
@@ -101,7 +101,7 @@ token_list : (ts directives node : List Kind) (k : Kind)
     → ((ts ++ directives) ++ k ∷ []) ++ node ≡ ts ++ (directives ++ k ∷ node)
 token_list ts directives node k = simp append_assoc
 
--- from a `---` on, behind the document's directives
+-- from a `---` on, after the document's directives
 reads_explicit : {limit : ℕ} {start : State} {now opened : Bool} → ReadsLeaves limit
     → (d : Document) (free : Bool) (t others : List ℕ) (ts : List Kind) → IsTrue free ⊎ (d.directives ≡ [])
     → d.explicit ≡ true → AreCompatible d.directives
@@ -130,12 +130,12 @@ clean_node : (directives node : List ℕ) → HasNoReturn (directives ++ (hyphen
     → HasNoReturn node
 clean_node directives node h = back_in _ (45 ∷ 45 ∷ 45 ∷ []) node (back_in _ directives (45 ∷ 45 ∷ 45 ∷ node) h)
 
--- where directives may stand, no key is asked for
+-- where directives may be, no key is asked for
 unopened : {limit : ℕ} {start : State} {free opened : Bool} {o : List ℕ} {ts : List Kind}
     → StandsInStream limit start free (Lined opened o) o ts → StandsInStream limit start free (Lined false o) o ts
 unopened {o = o} v = passes_over v (Lined false o) v.mark o refl v.count (v.line.0, λ e. absurd (cc)) v.lined
 
--- The scanner has read a document's directives, and stands before its `---`.
+-- The scanner has read a document's directives, and comes before its `---`.
 pub record MarkerStands (limit : ℕ) (start : State) (d : Document) (y : List ℕ) (ts : List Kind) : Type 0 where
   pub free : Bool
   pub opened : Bool

@@ -14,7 +14,7 @@ use Rattle.saphyr_scalar.specs.Views.Cursor.{Cursor, ◌>>=◌, along, separatio
 use Rattle.saphyr_scalar.specs.Spelling.Tag.{AreIn}
 use Rattle.saphyr_scalar.proofs.Given.{cursor_at}
 use Rattle.scalar_laws.specs.Spelling.Spaces.{IsCommentBehind}
-use Rattle.saphyr_scanner.specs.Steps.Core.{least_column, Core, completed_step, at_mark, perform, is_further, roll, remove_key}
+use Rattle.saphyr_scanner.specs.Steps.Core.{least_column, Core, completed_step, at_mark, from_to, perform, is_further, roll, remove_key}
 use Rattle.saphyr_scanner.specs.Steps.Level.{Candidate}
 use Rattle.saphyr_scanner.specs.Steps.Block.{block_entry_steps, next_entry, pass_dash, deepen, refuse_tab, behind_start}
 use Rattle.saphyr_scanner.specs.Steps.Passing.{pass_on, with_cursor}
@@ -33,19 +33,19 @@ use Rattle.yaml_laws.proofs.InBlock.States.{Frame, Moment, frame_at_column, mome
 use Rattle.yaml_laws.proofs.InBlock.Gaps.{past_stops}
 use Rattle.yaml_laws.proofs.InBlock.Skips.{IsCleanBehind}
 use Rattle.yaml_laws.proofs.InFlow.States.{least_low}
-use Rattle.yaml_laws.proofs.InBlock.Follows.{follows_itself, steps_from, goes_alike, left_key, left_again, lands, BeginsToken, begins_here, arrives_at, stays_open, deeper_at}
-use Rattle.saphyr_input.proofs.Basics.Booleans.{and_false}
-use Rattle.saphyr_scanner.proofs.Queues.{place_kinds, place_kinds_append, queue_of}
+use Rattle.yaml_laws.proofs.InBlock.Follows.{follows_itself, steps_from, goes_alike, left_key, left_again, lands, BeginsToken, begins_with, begins_here, arrives_at, stays_open, deeper_at}
+use Rattle.saphyr_scanner.proofs.Queues.{token_place, place_kinds, place_kinds_append, queue_of}
 
--- ## What stands behind an indicator
+-- ## What comes after an indicator
 
--- a blank or a break stands first
+-- a blank or a break comes first
 abbrev pub BeginsWhite : List ℕ → Type 0
 BeginsWhite [] = ⊥
 BeginsWhite (c ∷ cs) = IsTrue (is_blank c) ⊎ (c ≡ 10)
 
--- Behind an indicator stand blanks, and a comment behind some or none; then the end of the line, or a token. Behind tabs
--- that is no `-` of a compact sequence and, behind a colon and tabs alone, no word. No tab stands in the indentation of
+-- After an indicator are blanks, and a comment after some or none; then the end of the line, or a token. After
+-- tabs
+-- that is no `-` of a compact sequence and, after a colon and tabs alone, no word. No tab is in the indentation of
 -- what comes next, of so many columns.
 pub record IsBehindIndicator (colon : Bool) (indent : ℕ) (o : List ℕ) : Type 0 where
   pub blanks : List ℕ
@@ -66,7 +66,7 @@ pub record IsBehindIndicator (colon : Bool) (indent : ℕ) (o : List ℕ) : Type
   pub first : is_blank_or_breakz (slice_index o 0) ≡ true
   pub white : (o ≡ []) ⊎ BeginsWhite o
 
--- behind what is passed on the line
+-- after what is passed on the line
 abbrev pub front_end : {colon : Bool} {indent : ℕ} {o : List ℕ} → IsBehindIndicator colon indent o → Marker → Marker
 front_end h m = along m (length (h.blanks ++ h.comment))
 
@@ -77,7 +77,7 @@ separates o h m b = line_separated (cursor_at o m b) h.blanks h.comment h.more h
 
 -- ## A step
 
--- From a token a step leads on. Behind it no key is kept.
+-- From a token a step leads on. After it no key is kept.
 pub steps_on : {limit : ℕ} {start : State} {ts : List Kind} (f g : Frame) (m : Marker) (y : List ℕ)
     (v : At limit start f m y ts) → BeginsToken m y → f.indent ≤ m.col + 1 → (n : Moment) (qs : List Place)
     → state_behind_content (slice_index y 0) (slice_index y 1)
@@ -110,13 +110,7 @@ dash_is_no_marker (c ∷ cs) h = by_dash (c == 45) refl
     by_dash false e = rw e refl
 
 dash_begins : (m : Marker) (o : List ℕ) → is_blank_or_breakz (slice_index o 0) ≡ true → BeginsToken m (hyphen ∷ o)
-dash_begins m o h = record {
-  stop = (refl, refl, refl);
-  nul = refl;
-  byte_order_mark = refl;
-  directive = and_false (m.col == 0);
-  marker = rw (dash_is_no_marker o h, and_false (m.col == 0)) refl;
-}
+dash_begins m o h = begins_with 45 m o (refl, refl, refl) refl refl refl (dash_is_no_marker o h)
 
 deepens : (g : Frame) (n : Moment) → (d : Bool) × (deepen (core_of g n) ≡ core_of g (record n { deeper = d }))
 deepens g n = by_first (is_break (slice_index n.cursor.rest 0) || is_flow (slice_index n.cursor.rest 0)) refl
@@ -126,7 +120,7 @@ deepens g n = by_first (is_break (slice_index n.cursor.rest 0) || is_flow (slice
     by_first true e = (nat_lt 0 g.indent || n.deeper, rw e refl)
     by_first false e = (n.deeper, rw e refl)
 
--- what stands behind `-` on its line is passed
+-- what comes after `-` on its line is passed
 passes_dash : {colon : Bool} {indent : ℕ} (g : Frame) (n : Moment) (o : List ℕ) (h : IsBehindIndicator colon indent o)
     (m : Marker)
     → n.cursor ≡ cursor_at o m false
@@ -144,22 +138,13 @@ passes_dash g n o h m at =
           ∙ untabbed ∙ ap Ok d.1,
     )
 
--- the frame behind a `-`, and what it puts before its token
+-- the frame after a `-`, and what it puts before its token
 abbrev pub frame_behind : Bool → ℕ → Frame → Frame
 frame_behind further column f = if further then frame_at_column column f else f
 
--- behind `-`
+-- after `-`
 abbrev behind_dash : List ℕ → Marker → Bool → ℕ → Moment
-behind_dash more n deeper ad =
-    record {
-      cursor = cursor_at more n false;
-      key = None;
-      allowed = true;
-      adjacent = ad;
-      deeper = deeper;
-      required = false;
-      comment = None;
-    }
+behind_dash more n deeper ad = moment_at n more false None true ad deeper
 
 dash_enters : (f : Frame) (m : Marker) (o : List ℕ) (blank : Bool) (key : Option Candidate) (ad : ℕ)
     (deeper further : Bool)
@@ -200,38 +185,39 @@ dash_step f m o h blank key ad deeper further e i =
           (behind_start b m tokens.BlockSequenceStart (at_mark last.cursor.mark tokens.BlockEntry)) last) e),
     )
 
--- what is put into the queue
-dash_places : Bool → Marker → Marker → List Place → List Place
-dash_places true m n ps =
-    (ps ++ bare_place (empty_piece m tokens.BlockSequenceStart) ∷ []) ++ bare_place (empty_piece n tokens.BlockEntry)
-    ∷ []
-dash_places false m n ps = ps ++ bare_place (empty_piece n tokens.BlockEntry) ∷ []
+-- the places of an indicator at n to e, before which a collection may start at m
+pub start_places : Bool → Marker → Kind → Marker → Marker → Kind → List Place → List Place
+start_places true m opens n e kind ps = (ps ++ bare_place (empty_piece m opens) ∷ []) ++ token_place n e kind ∷ []
+start_places false m opens n e kind ps = ps ++ token_place n e kind ∷ []
 
-dash_performs : (further : Bool) (m n : Marker) (ps : List Place)
-    → perform (behind_start further m tokens.BlockSequenceStart (at_mark n tokens.BlockEntry)) (queue_of ps)
-    ≡ queue_of (dash_places further m n ps)
-unfolding dash_places
-dash_performs true m n ps = refl
-dash_performs false m n ps = refl
+pub start_performs : (further : Bool) (m : Marker) (opens : Kind) (n e : Marker) (kind : Kind) (ps : List Place)
+    → perform (behind_start further m opens (from_to n e kind)) (queue_of ps)
+    ≡ queue_of (start_places further m opens n e kind ps)
+unfolding start_places
+start_performs true m opens n e kind ps = refl
+start_performs false m opens n e kind ps = refl
+
+-- their tokens
+abbrev pub start_kinds : Bool → Kind → Kind → List Kind
+start_kinds further opens kind = if further then opens ∷ kind ∷ [] else kind ∷ []
+
+pub start_are : (further : Bool) (m : Marker) (opens : Kind) (n e : Marker) (kind : Kind) (ps : List Place)
+    (ts : List Kind) → place_kinds ps ≡ ts
+    → place_kinds (start_places further m opens n e kind ps) ≡ ts ++ start_kinds further opens kind
+unfolding start_places
+start_are true m opens n e kind ps ts is =
+    let first = place_kinds_append ps (bare_place (empty_piece m opens) ∷ []) ∙ ap (λ (x : List Kind). x ++ opens ∷ [])
+    is in
+    place_kinds_append (ps ++ bare_place (empty_piece m opens) ∷ []) (token_place n e kind ∷ [])
+    ∙ ap (λ (x : List Kind). x ++ kind ∷ []) first ∙ append_assoc ts (opens ∷ []) (kind ∷ [])
+start_are false m opens n e kind ps ts is =
+    place_kinds_append ps (token_place n e kind ∷ []) ∙ ap (λ (x : List Kind). x ++ kind ∷ []) is
 
 -- the tokens of a `-`, before which a sequence may start
 abbrev pub dash_kinds : Bool → List Kind
-dash_kinds further = if further then tokens.BlockSequenceStart ∷ tokens.BlockEntry ∷ [] else tokens.BlockEntry ∷ []
+dash_kinds further = start_kinds further tokens.BlockSequenceStart tokens.BlockEntry
 
-dash_are : (further : Bool) (m n : Marker) (ps : List Place) (ts : List Kind) → place_kinds ps ≡ ts
-    → place_kinds (dash_places further m n ps) ≡ ts ++ dash_kinds further
-unfolding dash_places
-dash_are true m n ps ts e =
-    let first = place_kinds_append ps (bare_place (empty_piece m tokens.BlockSequenceStart) ∷ [])
-    ∙ ap (λ (x : List Kind). x ++ tokens.BlockSequenceStart ∷ []) e in
-    place_kinds_append (ps ++ bare_place (empty_piece m tokens.BlockSequenceStart) ∷ [])
-    (bare_place (empty_piece n tokens.BlockEntry) ∷ []) ∙ ap (λ (x : List Kind). x ++ tokens.BlockEntry ∷ []) first
-    ∙ append_assoc ts (tokens.BlockSequenceStart ∷ []) (tokens.BlockEntry ∷ [])
-dash_are false m n ps ts e =
-    place_kinds_append ps (bare_place (empty_piece n tokens.BlockEntry) ∷ [])
-    ∙ ap (λ (x : List Kind). x ++ tokens.BlockEntry ∷ []) e
-
--- Behind an indicator content has to reach no column behind the next.
+-- After an indicator content has to reach no column after the next.
 pub least_within : (further : Bool) (column : ℕ) (f : Frame) (n : Moment) → f.indent ≤ column + 1
     → least_column (core_of (frame_behind further column f) n) ≤ suc column
 least_within further column f n far =
@@ -245,7 +231,7 @@ least_within further column f n far =
     by_frame true = omega arith
     by_frame false = omega (arith, far)
 
--- A raw state behind a token, told at the next one.
+-- A raw state after a token, told at the next one.
 pub before_next : {limit : ℕ} {start : State} {ts : List Kind} (place : Position) (g : Frame) (n : Moment)
     (qs : List Place) (m : Marker) (o : List ℕ) → LeadsTo limit (state_of g n qs) start → place_kinds qs ≡ ts
     → n.key ≡ None → n.required ≡ false → n.comment ≡ None → n.adjacent ≤ m.index
@@ -279,7 +265,8 @@ before_next {limit} {start} {ts} place g n qs m o leads are none free quiet low 
     left_none k e m = rw e refl
 
 -- `-` is read, which begins a sequence or goes on with one
-pub reads_dash : {colon : Bool} {limit : ℕ} {start : State} {ts : List Kind} (f : Frame) (m : Marker) (o : List ℕ) (further : Bool)
+pub reads_dash : {colon : Bool} {limit : ℕ} {start : State} {ts : List Kind} (f : Frame) (m : Marker) (o : List ℕ)
+    (further : Bool)
     → nat_le f.indent m.col ≡ further → f.indent ≤ m.col + 1 → IsBehindIndicator colon (suc m.col) o
     → m.index + length (hyphen ∷ o) ≤ limit → (v : At limit start f m (hyphen ∷ o) ts) → v.allowed ≡ true
     → Before limit start (yaml.BehindDash m.col) (frame_behind further m.col f) (along m 1) o
@@ -294,22 +281,25 @@ reads_dash {limit} {start} {ts} f m o further e far h count v allowed =
     let t = behind_dash h.more n s.0 v.adjacent in
     let made : state_behind_content 45 (slice_index o 0)
     (state_of f (moment_at m (45 ∷ o) v.blank v.key true v.adjacent deeper) v.places)
-    ≡ Ok (state_of g t (dash_places further m n v.places)) =
+    ≡ Ok (state_of g t (start_places further m tokens.BlockSequenceStart n n tokens.BlockEntry v.places)) =
     ap (λ r. after_step r (queue_of v.places)) s.1
     ∙ ap (λ (q : Queue). Ok (let r : State = record { core = core_of g t; queue = q } in r))
-    (dash_performs further m n v.places) in
+    (start_performs further m tokens.BlockSequenceStart n n tokens.BlockEntry v.places) in
     let there : state_behind_content 45 (slice_index o 0)
     (state_of f (moment_at m (45 ∷ o) v.blank v.key v.allowed v.adjacent deeper) v.places)
-    ≡ Ok (state_of g t (dash_places further m n v.places)) =
+    ≡ Ok (state_of g t (start_places further m tokens.BlockSequenceStart n n tokens.BlockEntry v.places)) =
     ap (λ (b : Bool). state_behind_content 45 (slice_index o 0)
     (state_of f (moment_at m (45 ∷ o) v.blank v.key b v.adjacent deeper) v.places)) allowed ∙ made in
     let size = ap length h.is ∙ length-append h.blanks (h.comment ++ h.more) in
     let inner = length-append h.comment h.more in
     let front = length-append h.blanks h.comment in
     let low : n.index ≤ limit = omega (arith, count, size, inner, front) in
-    before_next (yaml.BehindDash m.col) g t (dash_places further m n v.places) (along m 1) o
-    (steps_on f g m (45 ∷ o) v (dash_begins m o h.first) far t (dash_places further m n v.places) there refl low)
-    (dash_are further m n v.places ts v.are) refl refl refl (later v.adjacent m.index v.low) (h.lands (along m 1))
+    before_next (yaml.BehindDash m.col) g t (start_places further m tokens.BlockSequenceStart n n tokens.BlockEntry
+    v.places) (along m 1) o
+    (steps_on f g m (45 ∷ o) v (dash_begins m o h.first) far t (start_places further m tokens.BlockSequenceStart n n
+    tokens.BlockEntry v.places) there refl low)
+    (start_are further m tokens.BlockSequenceStart n n tokens.BlockEntry v.places ts v.are) refl refl refl
+    (later v.adjacent m.index v.low) (h.lands (along m 1))
     (h.clean (least_column (core_of g t)) (least_within further m.col f t far) n) (or_true (crosses h.more)) refl
   where
     later : (a b : ℕ) → a ≤ b → a ≤ b + 1

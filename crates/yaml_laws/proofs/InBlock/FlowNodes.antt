@@ -1,5 +1,5 @@
--- Nodes in flow style are read at block level, up to what is left of them (YAML 1.2.2, 8.2.3).
-use Rattle.std.proofs.Common.{◌≡◌, ℕ, ◌+◌, ◌^◌, ◌<◌, ◌≤◌, Bool, true, false, List, [], ◌∷◌, ◌++◌, length, slice_index, refl, sym, ap, ◌∙◌, arith, subst, append_assoc, IsTrue, ◌⊎◌, inl, inr}
+-- Keys on one line are read at block level, and nodes in flow style, up to what is left of them (YAML 1.2.2, 8.2.3).
+use Rattle.std.proofs.Common.{◌≡◌, ℕ, ◌+◌, ◌^◌, ◌<◌, ◌≤◌, Bool, true, false, List, [], ◌∷◌, ◌++◌, length, slice_index, refl, sym, ap, ◌∙◌, arith, subst, append_assoc, ◌⊎◌, inl, inr}
 use Rattle.std.specs.Prelude.{◌-◌, ◌||◌, ◌&&◌, ◌==◌, not, nat_le, nat_lt, Option, Some, None, if◌then◌else◌}
 use Rattle.std.proofs.lemmas.Bool.Decides.{nat_tests}
 use Rattle.std.proofs.lemmas.List.{length-append}
@@ -10,40 +10,111 @@ use Rattle.scalar_laws.specs.Spelling.Spaces.{IsEol}
 use Rattle.saphyr_scanner.specs.declared.engine.level.Context.TheVariants as context
 use Rattle.saphyr_scanner.specs.Steps.Core.{least_column}
 use Rattle.saphyr_scanner.specs.Steps.Level.{Candidate}
+use Rattle.saphyr_scanner.specs.Steps.Queue.{Place}
+use Rattle.saphyr_scanner.specs.Steps.State.{State}
 use Rattle.saphyr_scanner.specs.Grammar.Forest.{Node, Alias, Scalar, Seq, Map}
 use Rattle.saphyr_scanner.specs.Steps.Passing.{goes_on_behind}
 use Rattle.saphyr_scanner.specs.Grammar.TokenGrammar as grammar
 use Rattle.saphyr_scanner.specs.Grammar.Tokens.{Kind}
 use Rattle.saphyr_scanner.specs.Limits.{most_open}
 use Rattle.yaml_laws.specs.Grammar.BlockNodes.{Position, IsFlowInBlock}
-use Rattle.yaml_laws.specs.Grammar.FlowNodes.{IsFlowNode}
-use Rattle.yaml_laws.proofs.InFlow.States.{moment, least_low}
+use Rattle.yaml_laws.specs.Grammar.FlowNodes.{IsFlowNode, IsOnLine}
+use Rattle.yaml_laws.proofs.InFlow.States.{Around, moment, state_at, least_low, least}
 use Rattle.yaml_laws.proofs.Flow.States as flow
 use Rattle.yaml_laws.proofs.Flow.States.{moved, past, crosses, EndsDocument, IsLeft, IsBehindRoot, Since, ReaderPromises}
-use Rattle.yaml_laws.proofs.Flow.Places.{moved_append, moved_count}
-use Rattle.yaml_laws.proofs.Flow.GapSteps.{past_low}
-use Rattle.yaml_laws.proofs.Flow.Fillers.{rest_past}
-use Rattle.yaml_laws.proofs.Flow.Inks.{node_ink, mark_no_plain}
+use Rattle.yaml_laws.proofs.Flow.Places.{moved_append, moved_count, moved_along}
+use Rattle.yaml_laws.proofs.Flow.GapSteps.{past_low, past_ink}
+use Rattle.yaml_laws.proofs.Flow.Fillers.{rest_past, blanks_past}
+use Rattle.yaml_laws.proofs.Flow.Inks.{node_ink}
 use Rattle.yaml_laws.proofs.Documents.Lines.{eol}
 use Rattle.yaml_laws.proofs.Flow.NodesPass.{nodes_close}
-use Rattle.yaml_laws.proofs.InBlock.States.{Frame, Moment, core_of, IsStop, IsLeftOf, Before}
+use Rattle.yaml_laws.proofs.InBlock.States.{Frame, Moment, core_of, IsStop, IsLeftOf, At, Before, moment_at, state_of, tabbed, GoesOnAs}
 use Rattle.yaml_laws.proofs.InBlock.Gaps.{past_stops}
 use Rattle.yaml_laws.proofs.InBlock.Follows.{goes_alike, goes_on, IsQuiet, lands, left_key, left_again}
-use Rattle.yaml_laws.proofs.InBlock.Keys.{around_of}
 use Rattle.yaml_laws.proofs.InBlock.Lines.{IsLined, FitsOnLines, fits_front, fits_back, fits_so, later_line, moved_lined, past_line}
 use Rattle.yaml_laws.proofs.InBlock.Scalars.{gap_reaches, lands_behind}
 use Rattle.yaml_laws.proofs.InBlock.Crossings.{content_crosses}
-use Rattle.yaml_laws.proofs.InBlock.Statements.{context_at, ReadsAt, place_allows_block}
+use Rattle.yaml_laws.proofs.InBlock.Statements.{context_at, ReadsAt, place_allows_block, ReadsKey}
 use Rattle.yaml_laws.proofs.InBlock.BehindIndicators.{further_ink}
 use Rattle.yaml_laws.proofs.InBlock.Untabbed.{clean_past, settles}
 use Rattle.saphyr_input.proofs.Basics.Booleans.{or_true_swap}
 use Rattle.saphyr_scalar.proofs.Given.{cursor_at}
 use Rattle.saphyr_scanner.proofs.Taken.States.{too_far}
 use Rattle.saphyr_scanner.proofs.Queues.{place_kinds, place_kinds_append}
+use Rattle.yaml_laws.proofs.InFlow.KeyLines.{IsNear, not_far, deeper_at, is_required}
+use Rattle.yaml_laws.proofs.InFlow.KeyScalars.{colon_ink}
+use Rattle.yaml_laws.proofs.InFlow.Keys.{key_read, blanks_are_on_line, both_on_line}
+use Rattle.yaml_laws.proofs.InBlock.Skips.{right_untabbed}
+use Rattle.yaml_laws.proofs.InBlock.Texts.{ink_clean}
+use Rattle.yaml_laws.proofs.Documents.Stands.{none_of, document_ends_by_test}
 
--- ## What stands behind the end of its line
+-- a frame without what is required
+abbrev pub around_of : ℕ → Frame → Around
+around_of limit f = record { limit = limit; indent = f.indent; outers = f.outers; pending = false; required = false }
 
--- what stands behind the end of a line is reached from its start
+-- after a text on a key's line
+line_near : (m : Marker) (place : ℕ) (t : List ℕ) → IsOnLine t → length t ≤ 1024
+    → IsNear (record { mark = m; place = place }) (moved m t)
+line_near m place t line short =
+    subst (IsNear (record { mark = m; place = place })) (sym (moved_along m t line))
+    (record { line = refl; index = further m.index (length t) short })
+  where
+    further : (i l : ℕ) → l ≤ 1024 → i + l ≤ i + 1024
+    further i l h = omega (arith, h)
+
+pub reads_key : ReaderPromises → (limit : ℕ) (node : Node) → ReadsKey limit node
+reads_key reads limit node f m t o n far h line apart short white fits start ts v allowed =
+    let around = around_of limit f in
+    let y = t ++ (n.text ++ (58 ∷ o)) in
+    let k : Candidate = record { mark = m; place = length v.places } in
+    let r = key_read reads around refl node m t n o h line apart short white far fits.clear fits.below v.deeper v.blank
+    v.key v.adjacent v.places v.low in
+    let a = r.along in
+    let moment : Moment = record {
+      cursor = a.there;
+      key = Some k;
+      allowed = false;
+      adjacent = a.adjacent;
+      deeper = a.deeper;
+      required = is_required around (deeper_at around v.deeper m) m;
+      comment = None;
+    } in
+    let before : GoesOnAs limit start (state_of f (moment_at m y v.blank v.key true v.adjacent v.deeper) v.places) =
+    subst (λ (b : Bool). GoesOnAs limit start (state_of f (moment_at m y v.blank v.key b v.adjacent v.deeper) v.places))
+    allowed v.follows in
+    let place : moved (moved m t) n.text ≡ moved m (t ++ n.text) = sym (moved_append m t n.text) in
+    let right = a.right in
+    record {
+      moment = moment;
+      places = v.places;
+      key = a.piece;
+      others = a.others;
+      follows = goes_on before a.leads;
+      first = v.are;
+      tokens = r.tokens;
+      are = a.are;
+      node_are = r.are;
+      candidate = refl;
+      quiet = refl;
+      lands = ap (past 0 a.there.mark) a.rest
+          ∙ (blanks_past 0 a.white a.are_white a.there.mark (none_left a.there.mark.col)).is (58 ∷ o)
+          ∙ past_ink 0 (moved a.there.mark a.white) 58 o colon_ink
+          ∙ ap (λ (p : Marker). (p, 58 ∷ o)) (a.mark ∙ place);
+      untabbed = ap (tabbed (least f.indent a.deeper) a.there.mark a.there.blank_so_far false) a.rest
+          ∙ right_untabbed (least f.indent a.deeper) f.indent (least_low f.indent a.deeper) a.white (58 ∷ o) a.are_white
+          (ink_clean 58 o colon_ink) a.there.mark a.there.blank_so_far right;
+      near = not_far k (moved m (t ++ n.text))
+          (line_near m (length v.places) (t ++ n.text) (both_on_line t n.text line (blanks_are_on_line n.text n.are))
+          short);
+      low = subst (λ (p : Marker). a.adjacent ≤ p.index) place a.low;
+    }
+  where
+    none_left : (n : ℕ) → 0 ≤ n
+    none_left n = omega arith
+
+-- ## What comes after the end of its line
+
+-- what comes after the end of a line is reached from its start
 eol_moved : (column : ℕ) (m : Marker) (end o : List ℕ) → IsEol end o → column ≤ m.col
     → past column m (end ++ o) ≡ past column (moved m end) o
 eol_moved column m end o (inl (rest, h, is)) right =
@@ -51,18 +122,6 @@ eol_moved column m end o (inl (rest, h, is)) right =
     ap (past column m) text ∙ rest_past column m rest (10 ∷ o) h (inr refl) right
     ∙ ap (λ (k : Marker). past column k o) (sym (ap (moved m) is ∙ moved_append m rest (10 ∷ [])))
 eol_moved column m end o (inr (h, none)) right = rest_past column m end o h (inl none) right
-
-none_of : (a b c d e g : Bool) → (c ≡ false) ⊎ ((d ≡ false) ⊎ ((e ≡ false) ⊎ (g ≡ false)))
-    → (a && b && c && d && e && g) ≡ false
-none_of false b c d e g h = refl
-none_of true false c d e g h = refl
-none_of true true false d e g h = refl
-none_of true true true false e g h = refl
-none_of true true true true false g h = refl
-none_of true true true true true g (inl h) = absurd (cc)
-none_of true true true true true g (inr (inl h)) = absurd (cc)
-none_of true true true true true g (inr (inr (inl h))) = absurd (cc)
-none_of true true true true true g (inr (inr (inr h))) = h
 
 left_of : (deeper : Bool) (i col : ℕ) → col < i → (if deeper then nat_lt i col else nat_le i col) ≡ false
 left_of true i col h = grind (arith, nat_tests)
@@ -76,21 +135,16 @@ quiet_left f n m y h =
     (if n.deeper then nat_lt f.indent m.col else nat_le f.indent m.col) (not (is_z (slice_index y 0)))
     (not ((m.col == 0) && is_document_indicator y)) (can_be_plain false y) (by_end h))
   where
-    at_start : m.col ≡ 0 → IsTrue (is_document_indicator y) → not ((m.col == 0) && is_document_indicator y) ≡ false
-    at_start e k = rw e (ap not k)
-
     by_end : IsLeftOf f.indent m y
         → ((if n.deeper then nat_lt f.indent m.col else nat_le f.indent m.col) ≡ false)
         ⊎ ((not (is_z (slice_index y 0)) ≡ false)
         ⊎ ((not ((m.col == 0) && is_document_indicator y) ≡ false) ⊎ (can_be_plain false y ≡ false)))
-    by_end (inl (inl e)) = inr (inl (ap (λ (x : List ℕ). not (is_z (slice_index x 0))) e))
-    by_end (inl (inr (col, inl k))) = inr (inr (inl (at_start col k)))
-    by_end (inl (inr (col, inr k))) = inr (inr (inr (mark_no_plain y k)))
+    by_end (inl ends) = inr (document_ends_by_test m y ends)
     by_end (inr left) = inl (left_of n.deeper f.indent m.col left)
 
 -- ## Its tokens
 
--- they are so wherever the node stands at block level
+-- they are so wherever the node is at block level
 in_context : (place : Position) (node : Node) (ts : List Kind) → grammar.YieldsNode node grammar.InBlock ts
     → grammar.YieldsNode node (context_at place) ts
 in_context place (Alias name) ts h = h
@@ -103,12 +157,12 @@ in_context place (Map p pairs) ts (properties, content, are, inl h, is) = (prope
 in_context place (Map p pairs) ts (properties, content, are, inr h, is) =
     (properties, content, are, inr (place_allows_block place, h.1), is)
 
--- ## What may be a key behind it
+-- ## What may be a key after it
 
 far_left : (k : Candidate) (m : Marker) → k.mark.line < m.line → left_key (Some k) m ≡ None
 far_left k m h = rw (too_far k m h) refl
 
--- behind a break at the end of a text and what is passed then stands a later line
+-- after a break at the end of a text and what is passed then is a later line
 later_end : (limit : ℕ) → limit < 2 ^ 63 → (m : Marker) (a b rest o : List ℕ) → IsLined m
     → m.index + length ((a ++ (b ++ (rest ++ (line_feed ∷ [])))) ++ o) ≤ limit
     → (moved m a).line < (past 0 (moved m (a ++ (b ++ (rest ++ (line_feed ∷ []))))) o).0.line
@@ -135,7 +189,7 @@ none_kept k m t key n (inr (inl e)) none later = rw (e ∙ none) refl
 none_kept k m t key n (inr (inr (front, back, place, is, e))) none later =
     rw e (far_left (record { mark = moved m front; place = place }) n (later front back is))
 
--- behind a node and the end of its line the document ends, or a key may begin and none is kept
+-- after a node and the end of its line the document ends, or a key may begin and none is kept
 what_comes : (limit : ℕ) → limit < 2 ^ 63 → (m : Marker) (t : List ℕ) (at : Marker) (text end o : List ℕ)
     → moved m t ≡ moved (moved at text) end → FitsOnLines limit at (text ++ end) o → IsEol end o
     → (k : Option Candidate) → k ≡ None → (key : Option Candidate) → Since k at text key
@@ -166,7 +220,7 @@ what_comes limit short m t at text end o place fits (inl (rest, h, is)) k none_b
 
 -- ## The node
 
--- what stands behind a node, as its runs ask for it
+-- what comes after a node, as its runs ask for it
 behind_root : (f : Frame) (n : Marker) (end o : List ℕ) → IsEol end o → (q : Marker × List ℕ)
     → (f.indent ≤ n.col → past f.indent n (end ++ o) ≡ q) → IsStop q.1 → IsLeftOf f.indent q.0 q.1
     → IsBehindRoot f.indent n (end ++ o)
@@ -187,9 +241,53 @@ behind_root f n end o h q is stop left =
     by_text m [] stop (inr k) = inl (inl refl)
     by_text m (c ∷ cs) stop (inr k) = inr (record { left = k; first = c; others = cs; is = refl; blank = stop.0 })
 
+-- a moment after a piece that is closed
+abbrev behind_closed : {around : Around} {begun : Bool → State} {k : Option Candidate} {first n : Marker} {t o : List ℕ}
+    {ps : List Place} {us : List Kind} → flow.Closes around begun k first t ps n o us → Bool → Moment
+behind_closed c d = record {
+  cursor = c.run.there;
+  key = c.run.key;
+  allowed = c.run.allowed;
+  adjacent = c.run.adjacent;
+  deeper = d;
+  required = false;
+  comment = c.comment;
+}
+
+-- The scanner goes on after a piece in flow style as from the token at q.
+abbrev pub goes_behind : {limit : ℕ} {start : State} {f : Frame} {m : Marker} {y : List ℕ} {ts us : List Kind}
+    (v : At limit start f m y ts) {k : Option Candidate} {first n : Marker} {t o : List ℕ}
+    → (c : flow.Closes (around_of limit f) (state_at (around_of limit f)
+    (moment (cursor_at y m v.blank) context.Block v.key [] v.allowed v.adjacent v.places)) k first t v.places n o us)
+    → (q : Marker × List ℕ) → past f.indent n o ≡ q → IsStop q.1 → ((d : Bool) → IsQuiet f (behind_closed c d) q.0 q.1)
+    → At limit start f q.0 q.1 (ts ++ us)
+goes_behind {limit} {start} {f} {ts = ts} {us} v {n = n} {o} c q lands_at stop quiet =
+    let ran = c.run.leads.run v.deeper in
+    let there = behind_closed c ran.deeper in
+    let reached : past f.indent c.run.there.mark c.run.there.rest ≡ q = c.run.fits ∙ lands_at in
+    let s = settles f.indent c.run.there.mark c.run.there.rest
+    (subst (λ (z : Marker × List ℕ). IsStop z.1) (sym reached) stop) in
+    let clean = s.1 (least_column (core_of f there)) (least_low f.indent ran.deeper) c.run.there.blank_so_far in
+    let land = lands f there (v.places ++ c.run.new) q.0 q.1 refl (s.0 ∙ reached) clean (quiet ran.deeper) in
+    record {
+      blank = land.0;
+      key = left_key c.run.key q.0;
+      allowed = crosses c.run.there.rest || c.run.allowed;
+      adjacent = c.run.adjacent;
+      deeper = ran.deeper;
+      places = v.places ++ c.run.new;
+      follows = goes_alike (goes_on v.follows ran.leads) land.1 refl;
+      stop = stop;
+      near = left_again c.run.key q.0;
+      are = place_kinds_append v.places c.run.new ∙ ap (λ (x : List Kind). x ++ place_kinds c.run.new) v.are
+          ∙ ap (λ (x : List Kind). ts ++ x) c.run.are;
+      low = subst (λ (z : Marker × List ℕ). c.run.adjacent ≤ z.0.index) lands_at c.run.knows.0;
+    }
+
 pub reads_flow : ReaderPromises → (limit : ℕ) → limit < 2 ^ 63 → (node : Node)
     → ReadsAt limit node (IsFlowInBlock most_open node)
-reads_flow reads limit short node place f same m t o (gap, text, end, gap_is, node_is, apart, end_is, e) fits behind start ts
+reads_flow reads limit short node place f same m t o (gap, text, end, gap_is, node_is, apart, end_is, e) fits behind
+    start ts
     before =
     let around = around_of limit f in
     let at = moved m gap in
@@ -225,41 +323,14 @@ reads_flow reads limit short node place f same m t o (gap, text, end, gap_is, no
     let now = moment (cursor_at (text ++ rest) at v.blank) context.Block v.key [] v.allowed v.adjacent v.places in
     let r = nodes_close reads around refl node at text rest is inside root now (omega (arith, start_low, on)) refl in
     let c = r.closes in
-    let ran = c.leads.run v.deeper in
-    let there : Moment = record {
-      cursor = c.there;
-      key = c.key;
-      allowed = c.allowed;
-      adjacent = c.adjacent;
-      deeper = ran.deeper;
-      required = false;
-      comment = c.comment;
-    } in
-    let reached : past f.indent c.there.mark c.there.rest ≡ q = c.fits ∙ lands_at c.right in
-    let s = settles f.indent c.there.mark c.there.rest
-    (subst (λ (z : Marker × List ℕ). IsStop z.1) (sym reached) (past_stops (moved m t) o)) in
-    let clean = s.1 (least_column (core_of f there)) (least_low f.indent ran.deeper) c.there.blank_so_far in
-    let land = lands f there (v.places ++ c.new) q.0 q.1 refl (s.0 ∙ reached) clean
-    (quiet_left f there q.0 q.1 behind.left) in
+    let g = goes_behind v c q (lands_at c.run.right) (past_stops (moved m t) o)
+    (λ d. quiet_left f (behind_closed c d) q.0 q.1 behind.left) in
     record {
       tokens = r.tokens;
       are = inr (in_context place node r.tokens r.are);
       arrived = record {
-        at = record {
-          blank = land.0;
-          key = left_key c.key q.0;
-          allowed = crosses c.there.rest || c.allowed;
-          adjacent = c.adjacent;
-          deeper = ran.deeper;
-          places = v.places ++ c.new;
-          follows = goes_alike (goes_on v.follows ran.leads) land.1 refl;
-          stop = past_stops (moved m t) o;
-          near = left_again c.key q.0;
-          are = place_kinds_append v.places c.new ∙ ap (λ (x : List Kind). x ++ place_kinds c.new) v.are
-              ∙ ap (λ (x : List Kind). ts ++ x) c.are;
-          low = subst (λ (z : Marker × List ℕ). c.adjacent ≤ z.0.index) (lands_at c.right) c.low;
-        };
-        next = what_comes limit short m t at text end o place_is fits_all end_is v.key l.1 c.key c.late c.allowed
-            c.there.rest (λ e. c.fresh refl e);
+        at = g;
+        next = what_comes limit short m t at text end o place_is fits_all end_is v.key l.1 c.run.key c.run.knows.1
+            c.run.allowed c.run.there.rest (λ e. c.run.fresh refl e);
       };
     }

@@ -19,7 +19,7 @@ use Rattle.yaml_laws.proofs.Flow.States.{past}
 use Rattle.yaml_laws.proofs.InBlock.States.{Frame, Moment, moment_at, moment_with, core_of, state_of, crosses, IsUntabbed, IsStop, GoesOnAs}
 use Rattle.yaml_laws.proofs.InBlock.Gaps.{past_stops, gap_still, passes_to}
 use Rattle.saphyr_scalar.proofs.Given.{cursor_at}
-use Rattle.saphyr_input.proofs.Basics.Booleans.{and_or_false}
+use Rattle.saphyr_input.proofs.Basics.Booleans.{and_false, and_or_false}
 use Rattle.std.proofs.Math.Bool.{and-true}
 use Rattle.std.proofs.lemmas.Bool.{le-leb}
 use Rattle.saphyr_input.specs.Indicators.{percent_sign}
@@ -82,7 +82,7 @@ drops f n free = by_distance (is_too_far n.key n.cursor.mark) refl
     by_distance true h = rw (h, free) refl
     by_distance false h = rw (h, free) refl
 
--- the comment does not intercept what stands at the next token
+-- the comment does not intercept what is at the next token
 abbrev pub IsQuiet : Frame → Moment → Marker → List ℕ → Type 0
 IsQuiet f n m y = (n.comment ≡ None)
     ⊎ ((comment : Marker) (blank : Bool)
@@ -153,7 +153,7 @@ arrives_at f m y blank key a ad deeper ps stop near =
     ap (λ r. on_core r (queue_of ps) >>= λ (t : State). Ok (unroll (Some t.core.cursor.mark.col) t.core.cursor.mark t))
     (arrives_still f m y blank key a ad deeper stop near)
 
--- whether content stands one column further right, at a token
+-- whether content is one column further right, at a token
 abbrev pub deeper_at : Frame → Bool → Marker → Bool
 deeper_at f deeper m = deeper && nat_le f.indent m.col
 
@@ -174,13 +174,24 @@ stays_open f r m y blank key a ad deeper ps h = by_outers f.outers refl
     by_outers [] e = rw (e, not_right f.indent m.col h) refl
     by_outers (i ∷ is) e = rw (e, not_right f.indent m.col h) refl
 
--- a token begins here that is neither the end nor what stands at a line's start alone
+-- a token begins here that is neither the end nor what is at a line's start alone
 pub record BeginsToken (m : Marker) (y : List ℕ) : Type 0 where
   pub stop : IsStop y
   pub nul : is_z (slice_index y 0) ≡ false
   pub byte_order_mark : is_bom (slice_index y 0) ≡ false
   pub directive : ((m.col == 0) && (slice_index y 0 == percent_sign)) ≡ false
   pub marker : ((m.col == 0) && is_document_indicator y) ≡ false
+
+-- by its first character
+pub begins_with : (c : ℕ) (m : Marker) (o : List ℕ) → IsStop (c ∷ o) → is_z c ≡ false → is_bom c ≡ false
+    → (c == percent_sign) ≡ false → is_document_indicator (c ∷ o) ≡ false → BeginsToken m (c ∷ o)
+begins_with c m o stop nul mark sign none = record {
+  stop = stop;
+  nul = nul;
+  byte_order_mark = mark;
+  directive = ap (λ (b : Bool). (m.col == 0) && b) sign ∙ and_false (m.col == 0);
+  marker = ap (λ (b : Bool). (m.col == 0) && b) none ∙ and_false (m.col == 0);
+}
 
 far_enough : (i col : ℕ) (deeper : Bool) → i ≤ col + 1
     → nat_lt col (if deeper && nat_le i col then i else i - 1) ≡ false

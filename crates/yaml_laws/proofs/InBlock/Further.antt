@@ -1,4 +1,4 @@
--- A node at block level stands where more text follows as well, if what stands behind it ends with a break and has a
+-- A node at block level is where more text follows as well, if what comes after it ends with a break and has a
 -- token.
 use Rattle.std.proofs.Common.{◌≡◌, ℕ, Bool, true, false, List, [], ◌++◌, sym, ap, ◌∙◌, subst, append_assoc, ◌⊎◌, inl, inr}
 use Rattle.saphyr_scalar.specs.declared.scalar.position.Marker.{Marker}
@@ -29,13 +29,13 @@ flow_further : (more : List ℕ) (room : ℕ) (node : Node) (place : Position) (
 flow_further more room node place t o fed (gap, text, end, gap_is, is, apart, end_is, e) =
     (gap, text, end, gap_is, is, apart, end_further more end o fed end_is, e)
 
--- What stands behind ends with a break and has a token, and before it is told whether a tab stands ahead.
+-- What comes after ends with a break and has a token, and before it is told whether a tab is ahead.
 pub record IsTokenAhead (more o : List ℕ) : Type 0 where
   pub fed : EndsFed o
   pub token : has_token false o ≡ true
   pub tells : TellsTabs more o
 
--- in front of it stands what ends a line
+-- before it is what ends a line
 ends_fed : (t o : List ℕ) → EndsFed o → EndsWithLine t o → (m : Marker) → (moved m t).col ≡ 0
 ends_fed t o fed (inl h) = h
 ends_fed t o fed (inr e) = absurd (none_fed o fed e)
@@ -58,7 +58,7 @@ question_further more node o ends h (some, clear) = (
       ∙ tells_behind node o more (ends_fed node o h.fed ends) h.tells ∙ clear,
 )
 
--- how a node stands before that
+-- how a node comes before that
 abbrev GoesOn : List ℕ → (Position → List ℕ → List ℕ → Type 0) → Type 0
 GoesOn more Is = (place : Position) (t o : List ℕ) → IsTokenAhead more o → Is place t o → Is place t (o ++ more)
 

@@ -1,4 +1,4 @@
--- A block scalar stands where more text follows as well, if what stands behind it ends with a break and has a token.
+-- A block scalar is where more text follows as well, if what comes after it ends with a break and has a token.
 use Rattle.std.proofs.Common.{◌≡◌, ℕ, zero, suc, Bool, true, false, List, [], ◌∷◌, ◌++◌, ◌<◌, slice_index, refl, sym, ap, ◌∙◌, subst, append_assoc, ◌⊎◌, inl, inr}
 use Rattle.saphyr_input.specs.Classes.{is_z, is_yaml_non_break, line_feed, is_bom}
 use Rattle.saphyr_input.specs.Places.{is_document_indicator}
@@ -11,7 +11,7 @@ use Rattle.saphyr_values.specs.declared.block.BlockStyle.TheVariants as block
 use Rattle.saphyr_values.specs.declared.block.Chomping.{Chomping}
 use Rattle.saphyr_scanner.specs.Grammar.Forest.{Style, Literal, Folded, Plain, SingleQuoted, DoubleQuoted}
 use Rattle.yaml_laws.specs.Grammar.BlockNodes.{IsBehindScalar, IsBlockScalarText, IsStyled, EndsContent}
-use Rattle.yaml_laws.proofs.InBlock.MarkedLines.{fed_marker}
+use Rattle.yaml_laws.proofs.InBlock.LineStarts.{fed_marker}
 use Rattle.yaml_laws.proofs.InBlock.TabsAhead.{has_token, last_none}
 use Rattle.saphyr_input.proofs.Basics.Booleans.{clash}
 
@@ -58,13 +58,13 @@ pub content_ends_further : (more o : List ℕ) → EndsFed o → EndsContent o �
 content_ends_further more o fed (inl h) = inl (same_marker o more fed ∙ h)
 content_ends_further more o fed (inr h) = inr (ap is_bom (same_first o more fed) ∙ h)
 
--- behind spaces
+-- after spaces
 fed_back : (n : ℕ) (o front : List ℕ) → spaces n ++ o ≡ front ++ (line_feed ∷ []) → EndsFed o
 fed_back zero o front e = record { front = front; is = e }
 fed_back (suc n) o [] e = absurd (cc)
 fed_back (suc n) o (c ∷ cs) e = fed_back n o cs (cc)
 
--- behind any text
+-- after any text
 pub fed_behind : (a : List ℕ) (c : ℕ) (cs : List ℕ) → EndsFed (a ++ (c ∷ cs)) → EndsFed (c ∷ cs)
 fed_behind a c cs h = by_front a h.front h.is
   where

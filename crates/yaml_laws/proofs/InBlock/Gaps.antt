@@ -1,4 +1,4 @@
--- What stands between two tokens at block level: where it ends, whether a break stands in it, and a tab in its last
+-- What is between two tokens at block level: where it ends, whether a break is in it, and a tab in its last
 -- indentation.
 use Rattle.std.proofs.Common.{◌≡◌, ℕ, Bool, true, false, List, [], ◌∷◌, slice_index, refl, sym, ap, ◌∙◌, arith, Result, Ok, Err}
 use Rattle.std.specs.Prelude.{◌||◌, ◌&&◌, ◌==◌, not, nat_lt, if◌then◌else◌}
@@ -33,7 +33,7 @@ record StopsComment (least : ℕ) (m : Marker) (blank broke tab : Bool) (t : Lis
       (past_comment 0 m t).1
   stop : IsStop (past_comment 0 m t).1
 
--- no tab stands left of the first column
+-- no tab is left of the first column
 pub no_left : (m : Marker) (c : ℕ) → is_left_tab 0 m c ≡ false
 no_left m c = ap (λ (b : Bool). (c == 9) && b) (no_less m.col) ∙ none (c == 9)
   where
@@ -128,7 +128,7 @@ broke_by false false n q p e = ap broke_of (sym e)
     broke_of (Ok r) = r.broke
     broke_of (Err e) = false
 
--- a gap that is passed tells whether a break stands in it
+-- a gap that is passed tells whether a break is in it
 pub gap_broke : (least : ℕ) (m : Marker) (blank : Bool) (t : List ℕ) (p : GapEnd)
     → end_of_gap least m blank false false t ≡ Ok p → p.broke ≡ crosses t
 unfolding stop
@@ -143,7 +143,7 @@ gap_broke least m blank t p is =
 pub past_stops : (m : Marker) (t : List ℕ) → IsStop (past 0 m t).1
 past_stops m t = (gap_stops 0 m false false false t).stop
 
--- what stands between two tokens is passed where no tab indents
+-- what is between two tokens is passed where no tab indents
 pub record PassesTo (least : ℕ) (s : Cursor) (m : Marker) (y : List ℕ) : Type 0 where
   pub blank : Bool
   pub is : whole_gap least s

@@ -31,7 +31,7 @@ use Rattle.yaml_laws.proofs.Flow.Places.{moved_append, moved_count}
 use Rattle.yaml_laws.proofs.InBlock.States.{Frame, Moment, moment_at, core_of, state_of, tabbed, IsUntabbed, crosses, GoesOnAs, At, EndsDocument}
 use Rattle.yaml_laws.proofs.InBlock.Gaps.{past_stops}
 use Rattle.yaml_laws.proofs.InBlock.Skips.{skipped_past, spaces_skipped}
-use Rattle.yaml_laws.proofs.InBlock.Follows.{follows_itself, goes_alike, first_step, left_key, left_again, drops, lands, BeginsToken, begins_here, arrives_at, stays_open, deeper_at}
+use Rattle.yaml_laws.proofs.InBlock.Follows.{follows_itself, goes_alike, first_step, left_key, left_again, drops, lands, BeginsToken, begins_with, begins_here, arrives_at, stays_open, deeper_at}
 use Rattle.yaml_laws.proofs.InBlock.Lines.{FitsOnLines, fits_back}
 use Rattle.yaml_laws.proofs.InBlock.Statements.{EndsNodeAt, Arrived}
 use Rattle.yaml_laws.proofs.InBlock.ScalarTexts.{ReadsBlocks, block_taken}
@@ -50,7 +50,7 @@ abbrev pub sign : BlockStyle → ℕ
 sign block_style.Literal = 124
 sign block_style.Folded = 62
 
--- behind a block scalar
+-- after a block scalar
 abbrev behind_scalar : Cursor → Option Candidate → ℕ → Moment
 behind_scalar s key ad =
     record { cursor = s; key = key; allowed = true; adjacent = ad; deeper = false; required = false; comment = None }
@@ -58,7 +58,7 @@ behind_scalar s key ad =
 no_key_column : (i col : ℕ) → i ≤ col → (i == col + 1) ≡ false
 no_key_column i col h = grind (arith, nat_tests)
 
--- the core behind the saving of a key, with the header ahead
+-- the core after the saving of a key, with the header ahead
 pub saves : (f : Frame) (m : Marker) (y : List ℕ) (blank : Bool) (key : Option Candidate) (a : Bool) (ad : ℕ)
     (deeper : Bool) (i : ℕ) → f.indent ≤ m.col
     → save_key i (core_of f (moment_at m y blank key a ad deeper))
@@ -97,28 +97,14 @@ style_at_sign f block_style.Literal n second i = refl
 style_at_sign f block_style.Folded n second i = refl
 
 header_begins : (style : BlockStyle) (m : Marker) (o : List ℕ) → BeginsToken m (sign style ∷ o)
-header_begins block_style.Literal m o =
-    record {
-      stop = (refl, refl, refl);
-      nul = refl;
-      byte_order_mark = refl;
-      directive = and_false (m.col == 0);
-      marker = and_false (m.col == 0);
-    }
-header_begins block_style.Folded m o =
-    record {
-      stop = (refl, refl, refl);
-      nul = refl;
-      byte_order_mark = refl;
-      directive = and_false (m.col == 0);
-      marker = and_false (m.col == 0);
-    }
+header_begins block_style.Literal m o = begins_with 124 m o (refl, refl, refl) refl refl refl refl
+header_begins block_style.Folded m o = begins_with 62 m o (refl, refl, refl) refl refl refl refl
 
 sign_is_no_break : (style : BlockStyle) → is_break (sign style) ≡ false
 sign_is_no_break block_style.Literal = refl
 sign_is_no_break block_style.Folded = refl
 
--- ## A key that is dropped behind a line
+-- ## A key that is dropped after a line
 
 -- A candidate, where there is one, begins on this line or before it.
 abbrev pub IsOnLineOrBefore : Option Candidate → Marker → Type 0
@@ -150,7 +136,7 @@ spaces_tabbed : (least : ℕ) (m : Marker) (blank : Bool) (n : ℕ) (y : List �
 spaces_tabbed least m blank zero y = refl
 spaces_tabbed least m blank (suc n) y = spaces_tabbed least (moved m (32 ∷ [])) blank n y
 
--- where the scanner stands behind a block scalar
+-- where the scanner comes after a block scalar
 arrives_behind : {limit : ℕ} {start : State} (f : Frame) (left : Cursor) (key : Option Candidate) (ad : ℕ)
     (qs : List Place) (ts : List Kind) (k : Marker) (o : List ℕ)
     → LeadsTo limit (state_of f (behind_scalar left key ad) qs) start
@@ -239,7 +225,8 @@ reads_scalar laws {limit} {start} {ts} f style value m more t o short low begins
     ∙ ap (tabbed least (moved m t) b.left.blank_so_far false) (sym b.behind)
     ∙ behind.clean least (moved m t) b.left.blank_so_far in
     let size_y = length-append t o in
-    arrives_behind f b.left (left_key (saved v.allowed i m v.key) b.left.mark) v.adjacent qs (ts ++ piece.kind ∷ []) (moved m t) o leads
+    arrives_behind f b.left (left_key (saved v.allowed i m v.key) b.left.mark) v.adjacent qs (ts ++ piece.kind ∷ [])
+    (moved m t) o leads
     (place_kinds_append v.places (bare_place piece ∷ []) ∙ ap (λ (x : List Kind). x ++ piece.kind ∷ []) v.are)
     lands_at clean
     (omega (arith, lower, on, whole, size_y)) ends
@@ -267,7 +254,7 @@ reads_styled laws f Plain value m t o short low h fits behind v late = absurd h
 reads_styled laws f SingleQuoted value m t o short low h fits behind v late = absurd h
 reads_styled laws f DoubleQuoted value m t o short low h fits behind v late = absurd h
 
--- the same behind a piece of the text
+-- the same after a piece of the text
 pub reads_behind : ReadsBlocks
     → {limit : ℕ} {start : State} {ts : List Kind} (f : Frame) (style : Style) (value : List ℕ) (m : Marker)
     (w t o : List ℕ) → limit < 2 ^ 63 → f.indent ≤ (moved m w).col

@@ -1,4 +1,4 @@
--- What stands before a block collection is passed: its properties, or nothing, and the way to its first entry.
+-- What comes before a block collection is passed: its properties, or nothing, and the way to its first entry.
 use Rattle.std.proofs.Common.{◌≡◌, ℕ, ◌+◌, ◌≤◌, true, List, [], ◌∷◌, ◌++◌, refl, sym, ap, ◌∙◌, arith, subst, append_assoc, append-nil, inl, inr}
 use Rattle.std.specs.Prelude.{◌||◌, None}
 use Rattle.saphyr_scalar.specs.declared.scalar.position.Marker.{Marker}
@@ -19,7 +19,7 @@ use Rattle.yaml_laws.proofs.InBlock.Statements.{ReadsLeaves, IsNextLineText}
 use Rattle.yaml_laws.proofs.InBlock.Texts.{reaches, spaces_moved, indentation_col}
 use Rattle.std.proofs.Math.Bool.{or-true}
 
--- What stands before a collection at a column was read, up to its first token.
+-- What comes before a collection at a column was read, up to its first token.
 pub record LeadRead (limit : ℕ) (start : State) (p : Properties) (f : Frame) (m : Marker) (y : List ℕ)
     (ts : List Kind) : Type 0 where
   pub tokens : List Kind
@@ -28,7 +28,7 @@ pub record LeadRead (limit : ℕ) (start : State) (p : Properties) (f : Frame) (
   pub none : at.key ≡ None
   pub allowed : at.allowed ≡ true
 
--- where there are no properties, and what stands before is skipped
+-- where there are no properties, and what comes before is skipped
 plain_lead : {limit : ℕ} {start : State} {ts : List Kind} (p : Properties) (place : Position) (f : Frame) (m : Marker)
     (w y : List ℕ) → p ≡ no_properties → IsSkipped w → BeginsInk y
     → (is_compact place || crosses (w ++ y)) ≡ true → Before limit start place f m (w ++ y) ts
@@ -116,7 +116,7 @@ next_col m front end filler column end_is filler_is =
 spaced_col : (m : Marker) (n c : ℕ) → m.col ≡ c → (moved m (spaces n)).col ≡ c + n
 spaced_col m n c e = ap (λ (x : Marker). x.col) (spaces_moved m n) ∙ ap (λ (i : ℕ). i + n) e
 
--- the first token of a collection stands at its column
+-- the first token of a collection is at its column
 pub lead_col : (p : Properties) (place : Position) (least column : ℕ) (m : Marker) (lead : List ℕ) → IsPlaced place m
     → IsLead p place least column lead → (moved m lead).col ≡ column
 lead_col p place least column m lead at (inl (front, end, filler, low, front_is, end_is, filler_is, e)) =
@@ -133,7 +133,7 @@ lead_col p AtStart least column m lead at (inr (none, e)) =
     zero_plus : (n : ℕ) → 0 + n ≡ n
     zero_plus n = omega arith
 
--- a mapping stands to the right of what encloses it
+-- a mapping is to the right of what encloses it
 pub mapping_least : (p : Properties) (place : Position) (column : ℕ) (lead : List ℕ)
     → IsLead p place (indent_at place) column lead → indent_at place ≤ column
 mapping_least p place column lead (inl h) = h.3

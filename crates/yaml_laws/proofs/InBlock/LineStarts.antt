@@ -1,9 +1,9 @@
 -- Where lines begin in a text, and pieces of which no document marker begins a line.
 use Rattle.std.proofs.Common.{◌≡◌, ℕ, Bool, true, false, List, [], ◌∷◌, ◌++◌, IsTrue, refl, sym, ap, ◌∙◌, arith, subst, append_assoc, append-nil, ◌⊎◌, inl, inr}
 use Rattle.std.proofs.lemmas.Bool.Decides.{nat_tests}
-use Rattle.std.specs.Prelude.{◌&&◌, ◌==◌, not}
+use Rattle.std.specs.Prelude.{◌&&◌, ◌==◌, not, ◌||◌}
 use Rattle.saphyr_input.specs.Classes.{byte_order_mark, line_feed, is_blank, is_yaml_non_break}
-use Rattle.saphyr_input.specs.Places.{is_document_indicator}
+use Rattle.saphyr_input.specs.Places.{is_document_indicator, is_document_start, is_document_end}
 use Rattle.saphyr_scalar.specs.Spelling.Tag.{AreIn}
 use Rattle.scalar_laws.specs.Spelling.Spaces.{IsComment, IsFiller, IsLastFiller, IsLineRest, IsEol}
 use Rattle.yaml_laws.proofs.Flow.States.{marks_line}
@@ -12,10 +12,52 @@ use Rattle.yaml_laws.proofs.InBlock.Skips.{IsSkipped, nothing, one_space, one_br
 use Rattle.std.proofs.lemmas.Bool.{or_parts, or_from, and_right}
 use Rattle.saphyr_input.specs.Indicators.{full_stop, hyphen}
 use Rattle.saphyr_input.proofs.Basics.Characters.{non_break_no_feed, no_marker_at}
+use Rattle.yaml_laws.specs.Grammar.Yaml.{has_marker}
+
+lost_second : (a y z : Bool) → ((a && false && y) && z) ≡ false
+lost_second true y z = refl
+lost_second false y z = refl
+
+lost_third : (a b z : Bool) → ((a && b && false) && z) ≡ false
+lost_third true true z = refl
+lost_third true false z = refl
+lost_third false b z = refl
+
+feed_second : (c : ℕ) (t : List ℕ) → is_document_indicator (c ∷ line_feed ∷ t) ≡ false
+feed_second c t = or_from (is_document_start (c ∷ 10 ∷ t)) (is_document_end (c ∷ 10 ∷ t)) (lost_second (c == 45) _ _)
+    (lost_second (c == 46) _ _)
+
+feed_third : (c d : ℕ) (t : List ℕ) → is_document_indicator (c ∷ d ∷ line_feed ∷ t) ≡ false
+feed_third c d t = or_from (is_document_start (c ∷ d ∷ 10 ∷ t)) (is_document_end (c ∷ d ∷ 10 ∷ t))
+    (lost_third (c == 45) (d == 45) _) (lost_third (c == 46) (d == 46) _)
+
+-- a document marker ends before a line feed
+pub fed_marker : (c : ℕ) (cs behind : List ℕ)
+    → is_document_indicator (c ∷ ((cs ++ (line_feed ∷ [])) ++ behind))
+    ≡ is_document_indicator (c ∷ (cs ++ (line_feed ∷ [])))
+fed_marker c [] behind = feed_second c behind ∙ sym (feed_second c [])
+fed_marker c (d ∷ []) behind = feed_third c d behind ∙ sym (feed_third c d [])
+fed_marker c (d ∷ e ∷ []) behind = refl
+fed_marker c (d ∷ e ∷ f ∷ more) behind = refl
+
+pub fed_marks : (at_start : Bool) (t behind : List ℕ)
+    → marks_line at_start (t ++ (line_feed ∷ [])) behind ≡ has_marker at_start (t ++ (line_feed ∷ []))
+fed_marks at_start [] behind = refl
+fed_marks at_start (c ∷ cs) behind =
+    ap (λ (b : Bool). (at_start && b) || marks_line (c == line_feed) (cs ++ (10 ∷ [])) behind) (fed_marker c cs behind)
+    ∙ ap (λ (b : Bool). (at_start && is_document_indicator (c ∷ (cs ++ (10 ∷ [])))) || b)
+    (fed_marks (c == line_feed) cs behind)
+
+pub last_marks : (at_start : Bool) (t : List ℕ) → marks_line at_start t [] ≡ has_marker at_start t
+last_marks at_start [] = refl
+last_marks at_start (c ∷ cs) =
+    ap (λ (x : List ℕ). (at_start && is_document_indicator (c ∷ x)) || marks_line (c == line_feed) cs [])
+    (append-nil cs)
+    ∙ ap (λ (b : Bool). (at_start && is_document_indicator (c ∷ cs)) || b) (last_marks (c == line_feed) cs)
 
 -- ## Starts of lines
 
--- whether a line begins behind a text, which stands at a line's start or elsewhere
+-- whether a line begins after a text, which is at a line's start or elsewhere
 abbrev pub opens_line : Bool → List ℕ → Bool
 opens_line at_start [] = at_start
 opens_line at_start (c ∷ cs) = opens_line (c == line_feed) cs
@@ -30,7 +72,7 @@ opens_too at_start (c ∷ cs) e = e
 
 -- ## Pieces of which no document marker begins a line
 
--- wherever the piece stands, and whatever stands behind it
+-- wherever the piece is, and whatever comes after it
 abbrev pub IsUnmarked : List ℕ → Type 0
 IsUnmarked w = (at_start : Bool) (o : List ℕ) → marks_line at_start w o ≡ false
 
@@ -47,7 +89,7 @@ join_unmarked at_start (c ∷ cs) b o h k =
 pub both_unmarked : (a b : List ℕ) → IsUnmarked a → IsUnmarked b → IsUnmarked (a ++ b)
 both_unmarked a b h k at_start o = join_unmarked at_start a b o (h at_start (b ++ o)) k
 
--- behind a character with which no marker begins
+-- after a character with which no marker begins
 first_unmarked : (c : ℕ) (cs o : List ℕ) → (c == hyphen) ≡ false → (c == full_stop) ≡ false
     → marks_line (c == line_feed) cs o ≡ false → (at_start : Bool) → marks_line at_start (c ∷ cs) o ≡ false
 first_unmarked c cs o e f h at_start =
@@ -120,15 +162,15 @@ end_unmarked t o (inl (rest, h, e)) =
     (both_unmarked rest (10 ∷ []) (rest_unmarked rest h) (skipped_unmarked (10 ∷ []) (one_break [] nothing)))
 end_unmarked t o (inr h) = rest_unmarked t h.0
 
--- a byte order mark behind filler
+-- a byte order mark after filler
 pub mark_unmarked : (filler : List ℕ) → IsFiller filler → IsUnmarked (filler ++ (byte_order_mark ∷ []))
 mark_unmarked filler is =
     both_unmarked filler (65279 ∷ []) (skipped_unmarked filler (filler_skipped filler is))
     (line_unmarked 65279 [] refl refl (refl, tt))
 
--- ## A document marker stands behind such a piece
+-- ## A document marker comes after such a piece
 
--- The text has y at a line's start, behind a front.
+-- The text has y at a line's start, after a front.
 pub record HasLine (t y : List ℕ) : Type 0 where
   pub front : List ℕ
   pub is : t ≡ front ++ y

@@ -73,7 +73,7 @@ past_line m t =
     next : (l i n r : ℕ) → l ≤ i + 1 → i + suc n < 2 ^ 63 → min (l + 1) (2 ^ 64 - 1) ≤ r → l ≤ r
     next l i n r h low k = omega (arith, h, low, k)
 
--- behind a break stands a later line
+-- after a break is a later line
 pub later_line : (m : Marker) (a b : List ℕ) → IsLined m → m.index + length (a ++ (line_feed ∷ b)) < 2 ^ 63
     → m.line < (moved m (a ++ (line_feed ∷ b))).line
 later_line m a b h low =

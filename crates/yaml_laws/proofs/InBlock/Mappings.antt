@@ -26,7 +26,7 @@ use Rattle.saphyr_input.proofs.Basics.Booleans.{clash}
 
 -- ## Pairs
 
-pair_text : (front pair others o : List ℕ) → (front ++ (pair ++ others)) ++ o ≡ front ++ (pair ++ (others ++ o))
+pub pair_text : (front pair others o : List ℕ) → (front ++ (pair ++ others)) ++ o ≡ front ++ (pair ++ (others ++ o))
 pair_text front pair others o = simp append_assoc
 
 pub other_pairs_behind : {limit : ℕ} → ReadsLeaves limit → (pairs : Pairs) (column : ℕ) (m : Marker) (t o : List ℕ)
@@ -45,7 +45,7 @@ other_pairs_behind leaves (MorePairs key value pairs) column m t o (front, pair,
     let col = not_empty m t o first.0 first.1 starts (text ∙ first.2) in
     subst (EndsNodeAt (suc column) m) (sym text) (behind_indented column m front b.first b.others front_is b.ink col)
 
--- what is shown of the pairs behind the first
+-- what is shown of the pairs after the first
 abbrev pub ReadsOtherPairs : ℕ → Pairs → Type 0
 ReadsOtherPairs limit pairs =
     (g : Frame) (column : ℕ) → g.indent ≡ column + 1 → (m : Marker) (t o : List ℕ)
@@ -78,7 +78,7 @@ not_marker m c cs h ink (inr (col, inl k)) =
     zero_is : (n : ℕ) → n ≡ 0 → (n == 0) ≡ true
     zero_is n e = grind (arith, nat_tests)
 
--- a `:` ahead, behind a line's end
+-- a `:` ahead, after a line's end
 ahead_of_line : (n : Marker) (z : List ℕ) (column : ℕ) → StartsLine n z → is_value_ahead false column n.col z ≡ true
     → is_value_ahead false column 0 z ≡ true
 ahead_of_line n z column (inl e) h = subst (λ (c : ℕ). is_value_ahead false column c z ≡ true) e h

@@ -67,7 +67,7 @@ indent_near (BehindKey c) = omega arith
 indent_near BehindMarker = omega arith
 indent_near AtStart = omega arith
 
--- a sequence at the column of what encloses it stands in a mapping
+-- a sequence at the column of what encloses it is in a mapping
 in_mapping : (place : Position) (i col : ℕ) → i ≡ indent_at place → sequence_indent_at place ≤ col
     → nat_le i col ≡ false → grammar.IsInBlockMapping (context_at place)
 in_mapping (BehindMark c) i col same low e = tt
@@ -117,7 +117,7 @@ collection_closes {limit} {start} {ts} f column q low left v =
     by_next c (inl h) = inl h
     by_next c (inr h) = inr (c.1 ∙ h.0, c.2 ∙ h.1)
 
--- how a block sequence stands at a place
+-- how a block sequence is at a place
 abbrev IsBlockSequence : Properties → Nodes → Position → List ℕ → List ℕ → Type 0
 IsBlockSequence p nodes place t o =
     (m : ℕ) × (lead entries : List ℕ) × IsLead p place (sequence_indent_at place) m lead

@@ -33,7 +33,7 @@ use Rattle.saphyr_input.proofs.Basics.Numbers.{next_not_within}
 use Rattle.yaml_laws.proofs.InBlock.Sequences.{starts_behind, not_empty, frame_indent, suc_is, goes_on}
 
 -- A pair of a mapping at the column of n was read, inside its mapping's frame. It begins with a value only where its
--- `:` stands ahead, and it may lack a value where no `:` stands ahead behind it.
+-- `:` is ahead, and it may lack a value where no `:` is ahead after it.
 pub record PairRead (limit : ℕ) (start : State) (key value : Node) (g : Frame) (n : Marker) (t z : List ℕ)
     (ts : List Kind) : Type 0 where
   pub tokens : List Kind
@@ -175,7 +175,7 @@ keyless_list : (further : Bool) (ts vs : List Kind)
 keyless_list true ts vs = simp append_assoc
 keyless_list false ts vs = simp (append_assoc, append-nil)
 
--- behind a `:` alone, as behind that of a key
+-- after a `:` alone, as after that of a key
 as_behind_key : {limit : ℕ} {start : State} {ts : List Kind} (f : Frame) (m : Marker) (o : List ℕ)
     → Before limit start (BehindMark m.col) f (along m 1) o ts → Before limit start (BehindKey m.col) f (along m 1) o ts
 as_behind_key f m o v = record {

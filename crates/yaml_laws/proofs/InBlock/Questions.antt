@@ -1,18 +1,18 @@
 -- The `?` of a block mapping is read (YAML 1.2.2, 8.2.2).
-use Rattle.std.proofs.Common.{◌≡◌, ℕ, suc, ◌+◌, ◌≤◌, Bool, true, false, List, [], ◌∷◌, ◌++◌, length, slice_index, refl, sym, ap, ◌∙◌, arith, append_assoc, IsTrue, Ok, ◌⊎◌, inl, inr}
-use Rattle.std.specs.Prelude.{◌||◌, ◌==◌, nat_le, Option, None, if◌then◌else◌}
+use Rattle.std.proofs.Common.{◌≡◌, ℕ, suc, ◌+◌, ◌≤◌, Bool, true, false, List, [], ◌∷◌, ◌++◌, length, slice_index, refl, sym, ap, ◌∙◌, arith, IsTrue, Ok, ◌⊎◌, inl, inr}
+use Rattle.std.specs.Prelude.{◌||◌, ◌==◌, nat_le, Option, None}
 use Rattle.std.proofs.lemmas.Bool.Decides.{nat_tests}
 use Rattle.saphyr_input.specs.Classes.{is_blank, is_blank_or_breakz, line_feed, tab}
 use Rattle.saphyr_scalar.specs.declared.scalar.position.Marker.{Marker}
 use Rattle.saphyr_scalar.specs.Views.Cursor.{◌>>=◌, along}
 use Rattle.saphyr_scanner.specs.declared.engine.level.Context.TheVariants as context
-use Rattle.saphyr_scanner.specs.Steps.Core.{least_column, Core, completed_step, from_to, up_to_here, perform, is_further, roll, remove_key, with_context, in_block}
+use Rattle.saphyr_scanner.specs.Steps.Core.{least_column, Core, completed_step, from_to, up_to_here, is_further, roll, remove_key, with_context, in_block}
 use Rattle.saphyr_scanner.specs.Steps.Level.{Candidate, behind_question}
 use Rattle.saphyr_scanner.specs.Steps.Block as block
 use Rattle.saphyr_scanner.specs.Steps.Block.{behind_start}
 use Rattle.saphyr_scanner.specs.Steps.Gap as gap
 use Rattle.saphyr_scanner.specs.Steps.Passing.{with_cursor}
-use Rattle.saphyr_scanner.specs.Steps.Queue.{next, Place, Queue, bare_place, empty_piece}
+use Rattle.saphyr_scanner.specs.Steps.Queue.{next, Queue}
 use Rattle.saphyr_scanner.specs.Steps.State.{State, after_step}
 use Rattle.saphyr_scanner.specs.Grammar.Tokens as tokens
 use Rattle.saphyr_scanner.specs.Grammar.Tokens.{Kind}
@@ -23,14 +23,13 @@ use Rattle.yaml_laws.proofs.Flow.States.{past}
 use Rattle.yaml_laws.proofs.InBlock.States.{Frame, Moment, moment_at, core_of, state_of, IsStop, crosses, At, Before}
 use Rattle.yaml_laws.proofs.InBlock.Gaps.{past_stops, stop_tabbed}
 use Rattle.yaml_laws.proofs.InBlock.Skips.{has_tab, spaces_reach}
-use Rattle.yaml_laws.proofs.InBlock.Follows.{BeginsToken, deeper_at}
-use Rattle.yaml_laws.proofs.InBlock.Entries.{BeginsWhite, frame_behind, steps_on, before_next}
+use Rattle.yaml_laws.proofs.InBlock.Follows.{BeginsToken, begins_with, deeper_at}
+use Rattle.yaml_laws.proofs.InBlock.Entries.{BeginsWhite, frame_behind, steps_on, start_places, start_performs, start_kinds, start_are, before_next}
 use Rattle.saphyr_input.proofs.Basics.Numbers.{le_next}
-use Rattle.saphyr_input.proofs.Basics.Booleans.{and_false}
 use Rattle.std.proofs.Math.Bool.{or-true}
 use Rattle.std.proofs.lemmas.Bool.{or_parts}
 use Rattle.saphyr_input.specs.Indicators.{colon, question_mark}
-use Rattle.saphyr_scanner.proofs.Queues.{place_kinds, place_kinds_append, queue_of}
+use Rattle.saphyr_scanner.proofs.Queues.{queue_of}
 
 -- ## `?`
 
@@ -59,23 +58,8 @@ reach : (m : Marker) (o : List ℕ) → BeginsWhite o → has_tab o ≡ false
 reach m [] h clean = absurd h
 reach m (c ∷ cs) h clean = spaces_reach m false c cs (no_tab_first c cs h clean) clean
 
-mark_begins : (m : Marker) (o : List ℕ) → BeginsToken m (question_mark ∷ o)
-mark_begins m o = record {
-  stop = (refl, refl, refl);
-  nul = refl;
-  byte_order_mark = refl;
-  directive = and_false (m.col == 0);
-  marker = and_false (m.col == 0);
-}
-
 pub colon_begins : (m : Marker) (o : List ℕ) → BeginsToken m (colon ∷ o)
-colon_begins m o = record {
-  stop = (refl, refl, refl);
-  nul = refl;
-  byte_order_mark = refl;
-  directive = and_false (m.col == 0);
-  marker = and_false (m.col == 0);
-}
+colon_begins m o = begins_with 58 m o (refl, refl, refl) refl refl refl refl
 
 no_tab_here : (y : List ℕ) → IsStop y → (slice_index y 0 == tab) ≡ false
 no_tab_here [] h = refl
@@ -95,7 +79,7 @@ unfolding remove_key
 mark_enters f m y blank key ad deeper true e = (false, rw e refl)
 mark_enters f m y blank key ad deeper false e = (deeper, rw e refl)
 
--- behind `?`, at the next token
+-- after `?`, at the next token
 abbrev question_moment : Marker → List ℕ → Bool → ℕ → Bool → Moment
 question_moment n y blank ad deeper = moment_at n y blank None true ad deeper
 
@@ -138,37 +122,9 @@ question_step f m o blank key ad deeper further e h clean i =
           last) e),
     )
 
--- what is put into the queue
-mark_places : Bool → Marker → Marker → List Place → List Place
-mark_places true m n ps =
-    (ps ++ bare_place (empty_piece m tokens.BlockMappingStart) ∷ [])
-    ++ bare_place (record { span = record { start = m; end = n }; kind = tokens.Key }) ∷ []
-mark_places false m n ps = ps ++ bare_place (record { span = record { start = m; end = n }; kind = tokens.Key }) ∷ []
-
-mark_performs : (further : Bool) (m n : Marker) (ps : List Place)
-    → perform (behind_start further m tokens.BlockMappingStart (from_to m n tokens.Key)) (queue_of ps)
-    ≡ queue_of (mark_places further m n ps)
-unfolding mark_places
-mark_performs true m n ps = refl
-mark_performs false m n ps = refl
-
 -- the tokens before a key, where a mapping may start
 abbrev pub key_kinds : Bool → List Kind
-key_kinds further = if further then tokens.BlockMappingStart ∷ tokens.Key ∷ [] else tokens.Key ∷ []
-
-mark_are : (further : Bool) (m n : Marker) (ps : List Place) (ts : List Kind) → place_kinds ps ≡ ts
-    → place_kinds (mark_places further m n ps) ≡ ts ++ key_kinds further
-unfolding mark_places
-mark_are true m n ps ts e =
-    let first = place_kinds_append ps (bare_place (empty_piece m tokens.BlockMappingStart) ∷ [])
-    ∙ ap (λ (x : List Kind). x ++ tokens.BlockMappingStart ∷ []) e in
-    let key : Place = bare_place (record { span = record { start = m; end = n }; kind = tokens.Key }) in
-    place_kinds_append (ps ++ bare_place (empty_piece m tokens.BlockMappingStart) ∷ []) (key ∷ [])
-    ∙ ap (λ (x : List Kind). x ++ tokens.Key ∷ []) first
-    ∙ append_assoc ts (tokens.BlockMappingStart ∷ []) (tokens.Key ∷ [])
-mark_are false m n ps ts e =
-    let key : Place = bare_place (record { span = record { start = m; end = n }; kind = tokens.Key }) in
-    place_kinds_append ps (key ∷ []) ∙ ap (λ (x : List Kind). x ++ tokens.Key ∷ []) e
+key_kinds further = start_kinds further tokens.BlockMappingStart tokens.Key
 
 within_index : (i l j k limit : ℕ) → i + l ≡ j + k → j + k ≤ limit → i ≤ limit
 within_index i l j k limit e h = omega (arith, e, h)
@@ -191,12 +147,12 @@ reads_question {limit} {start} {ts} f m o further e far h clean count v allowed 
     let n = (past 0 (along m 1) o).0 in
     let y = (past 0 (along m 1) o).1 in
     let t = question_moment n y s.0 v.adjacent s.1 in
-    let qs = mark_places further m n v.places in
+    let qs = start_places further m tokens.BlockMappingStart m n tokens.Key v.places in
     let made : state_behind_content 63 (slice_index o 0)
     (state_of f (moment_at m (63 ∷ o) v.blank v.key true v.adjacent deeper) v.places) ≡ Ok (state_of g t qs) =
     ap (λ r. after_step r (queue_of v.places)) s.2
     ∙ ap (λ (q : Queue). Ok (let r : State = record { core = core_of g t; queue = q } in r))
-    (mark_performs further m n v.places) in
+    (start_performs further m tokens.BlockMappingStart m n tokens.Key v.places) in
     let there : state_behind_content 63 (slice_index o 0)
     (state_of f (moment_at m (63 ∷ o) v.blank v.key v.allowed v.adjacent deeper) v.places) ≡ Ok (state_of g t qs) =
     ap (λ (b : Bool). state_behind_content 63 (slice_index o 0)
@@ -204,8 +160,9 @@ reads_question {limit} {start} {ts} f m o further e far h clean count v allowed 
     let counted = past_count 0 (along m 1) o in
     let stop = past_stops (along m 1) o in
     before_next (yaml.BehindMark m.col) g t qs (along m 1) o
-    (steps_on f g m (63 ∷ o) v (mark_begins m o) far t qs there refl
+    (steps_on f g m (63 ∷ o) v (begins_with 63 m o (refl, refl, refl) refl refl refl refl) far t qs there refl
     (within_index n.index (length y) (m.index + 1) (length o) limit counted
     (shifted m.index (length o) limit count)))
-    (mark_are further m n v.places ts v.are) refl refl refl (le_next v.adjacent m.index v.low)
+    (start_are further m tokens.BlockMappingStart m n tokens.Key v.places ts v.are) refl refl refl (le_next v.adjacent
+    m.index v.low)
     (past_again 0 (along m 1) o) (stop_tabbed (least_column (core_of g t)) n s.0 y stop) (or-true (crosses y)) refl

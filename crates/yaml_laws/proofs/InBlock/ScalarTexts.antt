@@ -81,7 +81,7 @@ header_splits n chomping x _ (spelling.chomping_first mark a b d h k e) =
 
 -- ## Where a block scalar ends
 
--- what stands before `behind`: nothing, or what ends with a line
+-- what comes before `behind`: nothing, or what ends with a line
 record Ended (t behind : List ℕ) : Type 0 where
   front : List ℕ
   is : t ≡ front ++ behind
@@ -128,7 +128,8 @@ body_end i is_given o _ _ (spelling.first_and_last c cs some h e) = ended_at_las
 
 empty_lines_end : (i : ℕ) (o : List ℕ) (ls : List Line) (t : List ℕ) → spelling.AreEmptyLines i o ls t → Ended t o
 empty_lines_end i o _ _ spelling.no_empty_lines = record { front = []; is = refl; ends = inl refl }
-empty_lines_end i o _ _ (spelling.empty_line j ls t low r) = ended_behind_line (spaces j) t o (empty_lines_end i o ls t r)
+empty_lines_end i o _ _ (spelling.empty_line j ls t low r) = ended_behind_line (spaces j) t o (empty_lines_end i o ls
+    t r)
 empty_lines_end i o _ _ (spelling.empty_line_and_spaces j k low further e) =
     ended_at_last_line (spaces j ++ (10 ∷ spaces k)) o e
 
@@ -138,7 +139,7 @@ all_end indent i n is_given o ls t (inl h) = body_end i is_given o ls t h
 all_end indent i n is_given o _ _ (inr (spelling.empty_lines ls t are cond)) = empty_lines_end i o ls t are
 all_end indent i n is_given o _ _ (inr (spelling.spaces_alone j some low e)) = ended_at_last_line (spaces j) o e
 
--- where nothing is left, nothing stands behind
+-- where nothing is left, nothing comes after
 none_left : (t o : List ℕ) → Ended t o → t ≡ [] → o ≡ []
 none_left t o p e = by_front p.front (sym p.is ∙ e)
   where
@@ -148,7 +149,7 @@ none_left t o p e = by_front p.front (sym p.is ∙ e)
 
 -- ## The reading
 
--- From s a block scalar t was read, and o stands behind it, of which spaces may be passed.
+-- From s a block scalar t was read, and o comes after it, of which spaces may be passed.
 pub record BlockTaken (style : BlockStyle) (indent : ℕ) (value : List ℕ) (s : Cursor) (t o : List ℕ) : Type 0 where
   pub n : ℕ
   pub others : List ℕ
@@ -244,7 +245,7 @@ block_ends style value indent t o (i, n, chomping, lines, body, others, scalar, 
         subst (λ (y : List ℕ). EndsWithLine y o) (sym (append_cancel_right t (w ++ (10 ∷ p.front)) o text))
         (line_then w p.front o p.ends)
 
--- behind a block scalar stands a line's start, or nothing
+-- after a block scalar is a line's start, or nothing
 pub scalar_ends : (style : Style) (value : List ℕ) (indent : ℕ) (t o : List ℕ) → IsStyled style value indent t o
     → EndsWithLine t o
 scalar_ends Literal value indent t o (others, h, e) = block_ends block_style.Literal value indent t o h

@@ -1,6 +1,6 @@
--- Block scalars at block level, with what stands before them (YAML 1.2.2, 8.1).
-use Rattle.std.proofs.Common.{◌≡◌, ◌≢◌, ℕ, ◌+◌, ◌^◌, ◌<◌, ◌≤◌, true, false, List, [], ◌∷◌, ◌++◌, length, refl, sym, ap, ◌∙◌, arith, subst, append_assoc, append-nil, IsTrue, ◌⊎◌, inl, inr}
-use Rattle.std.specs.Prelude.{Option, Some, None}
+-- Block scalars at block level, with what comes before them (YAML 1.2.2, 8.1).
+use Rattle.std.proofs.Common.{◌≡◌, ◌≢◌, ℕ, ◌+◌, ◌^◌, ◌<◌, ◌≤◌, true, false, List, [], ◌∷◌, ◌++◌, length, refl, sym, ap, ◌∙◌, arith, subst, append_assoc, append-nil, IsTrue, inl, inr}
+use Rattle.std.specs.Prelude.{Option, None}
 use Rattle.std.proofs.lemmas.Bool.Decides.{nat_tests}
 use Rattle.saphyr_input.specs.Classes.{is_blank, is_break}
 use Rattle.saphyr_scalar.specs.Spelling.Tag.{AreIn}
@@ -8,20 +8,17 @@ use Rattle.saphyr_scalar.specs.declared.scalar.position.Marker.{Marker}
 use Rattle.saphyr_scalar.proofs.NoBreaks.{NoBreaks}
 use Rattle.scalar_laws.specs.Spelling.Spaces.{IsNextLine, IsGap}
 use Rattle.saphyr_scanner.specs.Steps.Level.{Candidate}
-use Rattle.saphyr_scanner.specs.Grammar.Forest.{Style, Tag, Properties, Scalar}
+use Rattle.saphyr_scanner.specs.Grammar.Forest.{Style, Properties, Scalar}
 use Rattle.saphyr_scanner.specs.Steps.State.{State}
 use Rattle.saphyr_scanner.specs.Grammar.Tokens.{Kind, scalar_token}
 use Rattle.saphyr_scanner.specs.Grammar.TokenGrammar as grammar
-use Rattle.saphyr_scanner.proofs.LineTexts.{name_no_break, tag_no_break}
-use Rattle.yaml_laws.specs.Grammar.FlowNodes.{IsAnchor, AreProperties, IsProperties}
-use Rattle.yaml_laws.specs.Grammar.TagSpelling.{IsTag}
+use Rattle.yaml_laws.specs.Grammar.FlowNodes.{IsProperties}
 use Rattle.yaml_laws.specs.Grammar.BlockNodes as yaml
 use Rattle.yaml_laws.specs.Grammar.BlockNodes.{Position as Position, indent_at, is_start, IsGapAt, IsStyled, IsScalarFront, IsScalarInBlock}
 use Rattle.yaml_laws.proofs.Flow.States.{moved, past}
 use Rattle.yaml_laws.proofs.Flow.Inks.{BeginsInk}
 use Rattle.yaml_laws.proofs.Flow.Names.{unbroken_along}
 use Rattle.yaml_laws.proofs.Flow.Places.{moved_append}
-use Rattle.yaml_laws.proofs.Flow.Tags.{tag_read}
 use Rattle.yaml_laws.proofs.Flow.WordGaps.{prefix_reaches}
 use Rattle.yaml_laws.proofs.InBlock.States.{Frame, IsPlaced, At, Before}
 use Rattle.yaml_laws.proofs.InBlock.Skips.{gap_passes}
@@ -48,7 +45,7 @@ start_reaches (yaml.BehindKey c) n h = absurd (let e : false ≡ true = h in cc)
 start_reaches yaml.BehindMarker n h = absurd (let e : false ≡ true = h in cc)
 start_reaches yaml.AtStart n h = omega arith
 
--- nor behind the next line's indentation
+-- nor after the next line's indentation
 next_line_reaches : (indent : ℕ) (m : Marker) (w : List ℕ) → IsNextLine indent w → indent ≤ (moved m w).col
 next_line_reaches indent m w (end, filler, front, end_is, filler_is, prefix, e) =
     let there : moved m w ≡ moved (moved (moved m end) filler) front = ap (moved m) e
@@ -62,7 +59,7 @@ unbroken_blanks (c ∷ cs) h = (unbroken c h.0, unbroken_blanks cs h.1)
     unbroken : (c : ℕ) → IsTrue (is_blank c) → is_break c ≡ false
     unbroken c h = grind (arith, nat_tests)
 
--- behind the gap before a node stands nothing that is left of it
+-- after the gap before a node is nothing that is left of it
 pub gap_reaches : (place : Position) (m : Marker) (gap : List ℕ) → IsGapAt place gap → IsPlaced place m
     → indent_at place ≤ (moved m gap).col
 gap_reaches place m gap (inl (some, are)) placed =
@@ -79,7 +76,7 @@ gap_reaches place m gap (inr (inr (first, e))) placed = start_reaches place (mov
 pub none_late : (k : Option Candidate) (m : Marker) → k ≡ None → IsOnLineOrBefore k m
 none_late k m e = subst (λ (x : Option Candidate). IsOnLineOrBefore x m) (sym e) tt
 
--- the state before a node is that behind the gap
+-- the state before a node is that after the gap
 pub lands_behind : {limit : ℕ} {start : State} {ts : List Kind} {place : Position} (f : Frame) (m : Marker)
     (gap y : List ℕ) → IsGapAt place gap → BeginsInk y → Before limit start place f m (gap ++ y) ts
     → (v : At limit start f (moved m gap) y ts) × (v.key ≡ None)
@@ -93,15 +90,16 @@ lands_behind {limit} {start} {ts} {place} f m gap y h ink b =
 
 -- ## Properties before the header
 
--- Properties, and the gap behind them, were read up to a token on their line or a later one.
+-- Properties, and the gap after them, were read up to a token on their line or a later one.
 pub record HeadRead (limit : ℕ) (start : State) (p : Properties) (f : Frame) (m : Marker) (y : List ℕ)
     (ts : List Kind) : Type 0 where
   pub tokens : List Kind
   pub are : grammar.YieldProperties p tokens
   pub at : At limit start f m y (ts ++ tokens)
   pub late : IsOnLineOrBefore at.key m
+  pub right : f.indent ≤ m.col
 
--- `t` is the properties, `gap` stands before them, and `between` behind.
+-- `t` is the properties, `gap` comes before them, and `between` after.
 abbrev pub ReadsHead : ℕ → Type 0
 ReadsHead limit =
     (p : Properties) (place : Position) (f : Frame) → f.indent ≡ indent_at place
@@ -112,49 +110,11 @@ ReadsHead limit =
     → Before limit start place f m (gap ++ (t ++ (between ++ y))) ts
     → HeadRead limit start p f (moved m (gap ++ (t ++ between))) y ts
 
-pub unbroken_anchor : (name t : List ℕ) → IsAnchor name t → NoBreaks t
-unbroken_anchor name t (h, e) = subst NoBreaks (sym e) (refl, name_no_break name h)
-
-pub unbroken_tag : (tag : Tag) (t : List ℕ) → IsTag tag t → NoBreaks t
-unbroken_tag tag t h = let r = tag_read tag t h in tag_no_break t r.handle r.suffix r.is
-
--- a text on one line, behind which nothing is left of it
-pub unbroken_reaches : (least : ℕ) (m : Marker) (t : List ℕ) → NoBreaks t → least ≤ m.col → least ≤ (moved m t).col
-unbroken_reaches least m t h low =
-    let line = ap (λ (j : Marker). j.col) (unbroken_along m t h) in omega (arith, line, low)
-
--- the gap behind a text
+-- the gap after a text
 pub text_gap_reaches : (least : ℕ) (m : Marker) (w : List ℕ) → IsGap least w → least ≤ m.col → least ≤ (moved m w).col
 text_gap_reaches least m w (inl (some, are)) low =
     let there = ap (λ (j : Marker). j.col) (unbroken_along m w (unbroken_blanks w are)) in omega (arith, there, low)
 text_gap_reaches least m w (inr h) low = next_line_reaches least m w h
-
-properties_reach : (least : ℕ) (anchor : Option (List ℕ)) (tag : Option Tag) (m : Marker) (t : List ℕ)
-    → AreProperties anchor tag least t → least ≤ m.col → least ≤ (moved m t).col
-properties_reach least None None m t h low = absurd h
-properties_reach least (Some name) None m t h low = unbroken_reaches least m t (unbroken_anchor name t h) low
-properties_reach least None (Some tag) m t h low = unbroken_reaches least m t (unbroken_tag tag t h) low
-properties_reach least (Some name) (Some tag) m t (a, gap, w, h, k, gapped, order) low = by_order order
-  where
-    both : (a b : List ℕ) → NoBreaks a → NoBreaks b → t ≡ a ++ (gap ++ b) → least ≤ (moved m t).col
-    both a b whole other e =
-        subst (λ (j : Marker). least ≤ j.col)
-        (sym (ap (moved m) e ∙ moved_append m a (gap ++ b) ∙ moved_append (moved m a) gap b))
-        (unbroken_reaches least (moved (moved m a) gap) b other
-        (text_gap_reaches least (moved m a) gap gapped (unbroken_reaches least m a whole low)))
-
-    by_order : (t ≡ a ++ (gap ++ w)) ⊎ (t ≡ w ++ (gap ++ a)) → least ≤ (moved m t).col
-    by_order (inl e) = both a w (unbroken_anchor name a h) (unbroken_tag tag w k) e
-    by_order (inr e) = both w a (unbroken_tag tag w k) (unbroken_anchor name a h) e
-
--- what stands behind properties isn't left of what they reach
-head_reaches : (p : Properties) (least : ℕ) (m : Marker) (gap t between : List ℕ) → IsProperties p least t
-    → IsGap least between → least ≤ (moved m gap).col → least ≤ (moved m (gap ++ (t ++ between))).col
-head_reaches p least m gap t between h gapped low =
-    subst (λ (j : Marker). least ≤ j.col)
-    (sym (moved_append m gap (t ++ between) ∙ moved_append (moved m gap) t between))
-    (text_gap_reaches least (moved (moved m gap) t) between gapped
-    (properties_reach least p.anchor p.tag (moved m gap) t h low))
 
 -- ## The leaf
 
@@ -180,7 +140,7 @@ reads_block_scalars laws {limit} short heads p style value place f same m t o
     ink : BeginsInk (text ++ o)
     ink = further_ink text o (sign_ink style value f.indent text o is)
 
-    -- behind a piece of the text, properties were read
+    -- after a piece of the text, properties were read
     behind_head : (w : List ℕ) (us : List Kind) → t ≡ w ++ text → grammar.YieldProperties p us
         → f.indent ≤ (moved m w).col → (v : At limit start f (moved m w) (text ++ o) (ts ++ us))
         → IsOnLineOrBefore v.key (moved m w)
@@ -223,7 +183,4 @@ reads_block_scalars laws {limit} short heads p style value place f same m t o
         subst (λ (x : List ℕ). Before limit start place f m x ts) inner before in
         let r = heads p place f same m gap properties between (text ++ o) gap_is h spaced ink
         (fits_front m w text o (fits_so m t (w ++ text) o whole fits)) start ts b in
-        let far = subst (λ (i : ℕ). i ≤ (moved m w).col) (sym same)
-        (head_reaches p (indent_at place) m gap properties between h spaced
-        (subst (λ (i : ℕ). i ≤ (moved m gap).col) same low)) in
-        behind_head w r.tokens whole r.are far r.at r.late
+        behind_head w r.tokens whole r.are r.right r.at r.late

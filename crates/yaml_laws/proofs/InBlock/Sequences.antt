@@ -23,7 +23,7 @@ use Rattle.yaml_laws.proofs.InBlock.Texts.{node_ends, behind_indented, indentati
 use Rattle.yaml_laws.proofs.InBlock.BehindIndicators.{dash_ink, node_behind}
 use Rattle.saphyr_input.proofs.Basics.Numbers.{next_not_within}
 
--- ## What stands behind an entry
+-- ## What comes after an entry
 
 pub not_empty : (m : Marker) (t o : List ℕ) (c : ℕ) (cs : List ℕ) → (m.col ≡ 0) ⊎ (t ++ o ≡ []) → t ++ o ≡ c ∷ cs
     → m.col ≡ 0
@@ -127,7 +127,7 @@ goes_on {n = n} {y = y} out v = by_next v.next
     by_next (inl h) = absurd (out h)
     by_next (inr h) = h
 
--- what is shown of the entries behind the first
+-- what is shown of the entries after the first
 abbrev pub ReadsOthers : ℕ → Nodes → Type 0
 ReadsOthers limit nodes =
     (g : Frame) (column : ℕ) → g.indent ≡ column + 1 → (m : Marker) (t o : List ℕ)

@@ -7,7 +7,7 @@ use Rattle.saphyr_scalar.specs.declared.scalar.position.Marker.{Marker}
 use Rattle.saphyr_scalar.specs.Reading.BlockLines.{spaces}
 use Rattle.saphyr_scalar.specs.Views.Cursor.{along, next_line}
 use Rattle.saphyr_scalar.specs.Spelling.Tag.{AreIn}
-use Rattle.scalar_laws.specs.Spelling.Spaces.{AreEach, AreSpaces, joined_pieces, IsComment, IsLineRest, IsLineEnd, IsFillerLine, IsFiller, IsLinePrefix, IsNextLine, IsGap}
+use Rattle.scalar_laws.specs.Spelling.Spaces.{AreEach, joined_pieces, IsComment, IsLineRest, IsLineEnd, IsFillerLine, IsFiller, IsLinePrefix, IsNextLine, IsGap}
 use Rattle.scalar_laws.proofs.Beginnings.{both_in}
 use Rattle.saphyr_scanner.specs.Steps.Gap as gap
 use Rattle.saphyr_scanner.specs.Steps.Gap.{is_tab_indentation}
@@ -33,7 +33,7 @@ pub data IsSkipped : List ℕ → Type 0 where
   one_rest : (blanks comment w : List ℕ) → AreIn is_blank blanks → (comment ≡ []) ⊎ IsComment comment → IsSkipped w
       → IsSkipped (blanks ++ (comment ++ (line_feed ∷ w)))
 
--- the rest of a line, its break, and what stands behind it
+-- the rest of a line, its break, and what comes after it
 rest_text : (blanks comment w y : List ℕ)
     → (blanks ++ (comment ++ (line_feed ∷ w))) ++ y ≡ blanks ++ (comment ++ (line_feed ∷ (w ++ y)))
 rest_text blanks comment w y = simp append_assoc
@@ -72,12 +72,9 @@ filler_skipped t (pieces, each, is) = subst IsSkipped (sym is) (lines pieces eac
     lines [] h = nothing
     lines (v ∷ vs) h = skipped_append v (joined_pieces vs) (filler_line_skipped v h.0) (lines vs h.1)
 
-pub are_spaces_skipped : (least : ℕ) (t : List ℕ) → AreSpaces least t → IsSkipped t
-are_spaces_skipped least t (n, low, is) = subst IsSkipped (sym is) (spaces_skipped n)
-
 -- ## What is known of it
 
--- the place behind it
+-- the place after it
 pub skipped_past : (m : Marker) (w y : List ℕ) → IsSkipped w → past 0 m (w ++ y) ≡ past 0 (moved m w) y
 skipped_past m _ y nothing = refl
 skipped_past m _ y (one_space w h) = skipped_past (along m 1) w y h
@@ -94,18 +91,6 @@ skipped_past m _ y (one_rest blanks comment w are k h) =
     ap (moved m) whole ∙ moved_append m front (10 ∷ w) in
     ap (past 0 m) text ∙ rest ∙ skipped_past line w y h ∙ ap (λ (n : Marker). past 0 n y) (sym place)
 
--- whether a break stands in it
-pub has_line : (w : List ℕ) → IsSkipped w → Bool
-has_line _ nothing = false
-has_line _ (one_space w h) = has_line w h
-has_line _ (one_break w h) = true
-has_line _ (one_rest blanks comment w are k h) = true
-
-pub spaces_no_line : (n : ℕ) → has_line (spaces n) (spaces_skipped n) ≡ false
-unfolding has_line spaces_skipped
-spaces_no_line zero = refl
-spaces_no_line (suc n) = spaces_no_line n
-
 pub words_cross : (words y : List ℕ) → AreIn is_yaml_non_break words → crosses_comment (words ++ (line_feed ∷ y)) ≡ true
 words_cross [] y h = refl
 words_cross (c ∷ cs) y h = rw h.0 (words_cross cs y h.1)
@@ -120,24 +105,16 @@ comment_crosses comment o (inl e) = ap (λ (x : List ℕ). crosses (x ++ (10 ∷
 comment_crosses comment o (inr (words, are, is)) =
     ap (λ (x : List ℕ). crosses (x ++ (10 ∷ o))) is ∙ words_cross words o are
 
--- behind the rest of a line, before its break
+-- after the rest of a line, before its break
 pub rest_crosses : (blanks comment o : List ℕ) → AreIn is_blank blanks → (comment ≡ []) ⊎ IsComment comment
     → crosses (blanks ++ (comment ++ (line_feed ∷ o))) ≡ true
 rest_crosses blanks comment o are k = blanks_cross blanks (comment ++ (10 ∷ o)) are ∙ comment_crosses comment o k
-
-pub skipped_crosses : (w y : List ℕ) (h : IsSkipped w) → crosses (w ++ y) ≡ (has_line w h || crosses y)
-unfolding has_line
-skipped_crosses _ y nothing = refl
-skipped_crosses _ y (one_space w h) = skipped_crosses w y h
-skipped_crosses _ y (one_break w h) = refl
-skipped_crosses _ y (one_rest blanks comment w are k h) =
-    ap crosses (rest_text blanks comment w y) ∙ rest_crosses blanks comment (w ++ y) are k
 
 words_end_uncrossed : (words : List ℕ) → AreIn is_yaml_non_break words → crosses_comment words ≡ false
 words_end_uncrossed [] h = refl
 words_end_uncrossed (c ∷ cs) h = rw h.0 (words_end_uncrossed cs h.1)
 
--- on a text's last line no break stands
+-- a text's last line has no break
 pub last_crosses : (blanks comment : List ℕ) → AreIn is_blank blanks → (comment ≡ []) ⊎ IsComment comment
     → crosses (blanks ++ (comment ++ [])) ≡ false
 last_crosses blanks comment are k =
@@ -147,22 +124,22 @@ last_crosses blanks comment are k =
     by_comment (inl e) = ap crosses e
     by_comment (inr (words, are, is)) = ap crosses is ∙ words_end_uncrossed words are
 
--- a break stands at the end of a line
+-- a break is at the end of a line
 pub line_end_crosses : (t y : List ℕ) → IsLineEnd t → crosses (t ++ y) ≡ true
 line_end_crosses t y (rest, (blanks, c, are, k, is_rest), is) =
     let text : t ++ y ≡ blanks ++ (c ++ (10 ∷ y)) = ap (λ (x : List ℕ). x ++ y)
     (is ∙ ap (λ (x : List ℕ). x ++ (10 ∷ [])) is_rest) ∙ simp append_assoc in
     ap crosses text ∙ rest_crosses blanks c y are (behind_is blanks c k)
 
--- No tab stands left of any column before the next token.
+-- No tab is left of any column before the next token.
 abbrev pub IsClean : List ℕ → Type 0
 IsClean y = (least : ℕ) (m : Marker) (blank : Bool) → tabbed least m blank false y ≡ false
 
--- None stands left of these columns before the next token.
+-- None is left of these columns before the next token.
 abbrev pub IsCleanIn : ℕ → List ℕ → Type 0
 IsCleanIn indent y = (least : ℕ) → least ≤ indent → (m : Marker) (blank : Bool) → tabbed least m blank false y ≡ false
 
--- The same behind a token on its line, where tabs are no indentation.
+-- The same after a token on its line, where tabs are no indentation.
 abbrev pub IsCleanBehind : ℕ → List ℕ → Type 0
 IsCleanBehind indent y = (least : ℕ) → least ≤ indent → (m : Marker) → tabbed least m false false y ≡ false
 
@@ -202,7 +179,7 @@ skipped_untabbed least _ y (one_rest blanks comment w are c h) k m blank =
 pub skipped_clean : (w y : List ℕ) → IsSkipped w → IsClean y → IsClean (w ++ y)
 skipped_clean w y h k least = skipped_untabbed least w y h (k least)
 
--- behind what is no blank, tabs are no matter
+-- after what is no blank, tabs are no matter
 pub blanks_untabbed : (least : ℕ) (w y : List ℕ) → AreIn is_blank w → IsClean y → (m : Marker)
     → tabbed least m false false (w ++ y) ≡ false
 blanks_untabbed least [] y are k m = k least m false
@@ -229,7 +206,7 @@ spaces_untabbed least (suc n) w y are k m blank far =
     shift : (i c n : ℕ) → i ≤ c + suc n → i ≤ c + 1 + n
     shift i c n h = omega (arith, h)
 
--- in front of a line's content the tabs stand behind its indentation
+-- before a line's content the tabs come after its indentation
 prefix_clean : (indent : ℕ) (w y : List ℕ) → IsLinePrefix indent w → IsClean y → IsCleanIn indent (w ++ y)
 prefix_clean indent w y (front, blanks, (n, reach, spaced), are, is) k least low m blank =
     let text : w ++ y ≡ spaces n ++ (blanks ++ y) = ap (λ (x : List ℕ). x ++ y)
@@ -247,15 +224,7 @@ lines_clean indent filler front y filler_is prefix k least low m blank =
     ∙ skipped_untabbed least filler (front ++ y) (filler_skipped filler filler_is)
     (prefix_clean indent front y prefix k least low) m blank
 
--- no tab of a gap is indentation
-pub gap_clean : (indent : ℕ) (w y : List ℕ) → IsGap indent w → IsClean y → IsCleanBehind indent (w ++ y)
-gap_clean indent w y (inl (some, are)) k least low m = blanks_untabbed least w y are k m
-gap_clean indent w y (inr (end, filler, front, end_is, filler_is, prefix, e)) k least low m =
-    ap (tabbed least m false false) (ap (λ (x : List ℕ). x ++ y) e ∙ append_assoc end (filler ++ front) y)
-    ∙ skipped_untabbed least end ((filler ++ front) ++ y) (line_end_skipped end end_is)
-    (lines_clean indent filler front y filler_is prefix k least low) m false
-
--- Whether a tab stands among the blanks before the next token.
+-- Whether a tab is among the blanks before the next token.
 abbrev mutual
   pub has_tab : List ℕ → Bool
   has_tab [] = false
@@ -292,7 +261,7 @@ rest_ends_clean [] comment are (inr h) least m blank tab = comment_ends_clean co
 rest_ends_clean (b ∷ bs) comment are k least m blank tab =
     rw are.0 (rest_ends_clean bs comment are.1 k least (along m 1) blank (is_tab_indentation least m blank b || tab))
 
--- ## Behind `?`
+-- ## After `?`
 
 record Spaces (m : Marker) (blank space : Bool) (t : List ℕ) : Type 0 where
   still_blank : Bool
@@ -430,26 +399,26 @@ pub spaces_reach : (m : Marker) (blank : Bool) (c : ℕ) (t : List ℕ) → (c �
     → has_tab (c ∷ t) ≡ false
     → (b : Bool) × (gap.end_of_spaces m blank false (c ∷ t) ≡ gap.spaces_end (past 0 m (c ∷ t)).0 b true
     (past 0 m (c ∷ t)).1)
-spaces_reach m blank c t (inl e) clean =
-    let p = spaces_are (along m 1) blank true t (subst (λ (x : ℕ). has_tab (x ∷ t) ≡ false) e clean) in
-    let last : gap.spaces_end (past 0 (along m 1) t).0 p.still_blank p.some (past 0 (along m 1) t).1
-    ≡ gap.spaces_end (past 0 (along m 1) t).0 p.still_blank true (past 0 (along m 1) t).1 =
-    ap (λ (s : Bool). gap.spaces_end (past 0 (along m 1) t).0 p.still_blank s (past 0 (along m 1) t).1)
-    (p.has refl) in (
-      p.still_blank,
-      subst (λ (x : ℕ). gap.end_of_spaces m blank false (x ∷ t)
-          ≡ gap.spaces_end (past 0 m (x ∷ t)).0 p.still_blank true (past 0 m (x ∷ t)).1) (sym e) (p.is ∙ last),
-    )
-spaces_reach m blank c t (inr e) clean =
-    let p = spaces_are (next_line m 1) true true t (subst (λ (x : ℕ). has_tab (x ∷ t) ≡ false) e clean) in
-    let last : gap.spaces_end (past 0 (next_line m 1) t).0 p.still_blank p.some (past 0 (next_line m 1) t).1
-    ≡ gap.spaces_end (past 0 (next_line m 1) t).0 p.still_blank true (past 0 (next_line m 1) t).1 =
-    ap (λ (s : Bool). gap.spaces_end (past 0 (next_line m 1) t).0 p.still_blank s (past 0 (next_line m 1) t).1)
-    (p.has refl) in (
-      p.still_blank,
-      subst (λ (x : ℕ). gap.end_of_spaces m blank false (x ∷ t)
-          ≡ gap.spaces_end (past 0 m (x ∷ t)).0 p.still_blank true (past 0 m (x ∷ t)).1) (sym e) (p.is ∙ last),
-    )
+spaces_reach m blank c t first clean = by_first first
+  where
+    from : (n : Marker) (b : Bool) → has_tab t ≡ false
+        → (some : Bool) × (gap.end_of_spaces n b true t ≡ gap.spaces_end (past 0 n t).0 some true (past 0 n t).1)
+    from n b none =
+        let p = spaces_are n b true t none in (
+          p.still_blank,
+          p.is ∙ ap (λ (s : Bool). gap.spaces_end (past 0 n t).0 p.still_blank s (past 0 n t).1)
+              (p.has refl),
+        )
+
+    Reaches : ℕ → Type 0
+    Reaches x = (b : Bool) × (gap.end_of_spaces m blank false (x ∷ t)
+        ≡ gap.spaces_end (past 0 m (x ∷ t)).0 b true (past 0 m (x ∷ t)).1)
+
+    by_first : (c ≡ 32) ⊎ (c ≡ line_feed) → Reaches c
+    by_first (inl e) =
+        subst Reaches (sym e) (from (along m 1) blank (subst (λ (x : ℕ). has_tab (x ∷ t) ≡ false) e clean))
+    by_first (inr e) =
+        subst Reaches (sym e) (from (next_line m 1) true (subst (λ (x : ℕ). has_tab (x ∷ t) ≡ false) e clean))
 
 -- ## The text before a token, tabs among it
 

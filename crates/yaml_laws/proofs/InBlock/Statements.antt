@@ -26,7 +26,7 @@ use Rattle.yaml_laws.proofs.InBlock.Skips.{IsClean}
 use Rattle.yaml_laws.proofs.InFlow.KeyScalars.{Blanks}
 use Rattle.yaml_laws.proofs.Flow.NoDashes.{NoDash}
 
--- in which part of the token grammar a node at a place stands
+-- in which part of the token grammar a node at a place is
 abbrev pub context_at : Position → grammar.Context
 context_at (BehindMark m) = grammar.InBlockMapping
 context_at (BehindKey m) = grammar.InBlockMapping
@@ -39,13 +39,13 @@ place_allows_block (BehindKey m) = tt
 place_allows_block BehindMarker = tt
 place_allows_block AtStart = tt
 
--- What stands behind a node, from m on: the next token ends the document or stands left of a column, and no tab stands
+-- What comes after a node, from m on: the next token ends the document or is left of a column, and no tab is
 -- before it on its line.
 pub record EndsNodeAt (column : ℕ) (m : Marker) (o : List ℕ) : Type 0 where
   pub left : IsLeftOf column (past 0 m o).0 (past 0 m o).1
   pub clean : IsClean o
 
--- The scanner stands before what is behind a piece, in a frame, where a key may begin, or the document ends.
+-- The scanner comes before what is after a piece, in a frame, where a key may begin, or the document ends.
 pub record ArrivedAt (limit : ℕ) (start : State) (f : Frame) (ts : List Kind) (q : Marker × List ℕ) : Type 0 where
   pub at : At limit start f q.0 q.1 ts
   pub next : EndsDocument q.0 q.1 ⊎ ((at.key ≡ None) × (at.allowed ≡ true))
@@ -53,7 +53,7 @@ pub record ArrivedAt (limit : ℕ) (start : State) (f : Frame) (ts : List Kind) 
 abbrev pub Arrived : ℕ → State → Frame → Marker → List ℕ → List Kind → Type 0
 Arrived limit start f m o ts = ArrivedAt limit start f ts (past 0 m o)
 
--- behind a text stands a line's start, or nothing
+-- after a text is a line's start, or nothing
 abbrev pub EndsWithLine : List ℕ → List ℕ → Type 0
 EndsWithLine t o = ((m : Marker) → (moved m t).col ≡ 0) ⊎ (o ≡ [])
 
@@ -62,7 +62,7 @@ abbrev pub AreRead : Node → Position → List Kind → Type 0
 AreRead node place ts = (IsFalse (is_start place) × (node ≡ left_out) × (ts ≡ []))
     ⊎ grammar.YieldsNode node (context_at place) ts
 
--- the same, wherever it stands
+-- the same, wherever it is
 pub as_optional : (node : Node) (place : Position) (ts : List Kind) → AreRead node place ts
     → grammar.YieldsOptional node (grammar.YieldsNode node (context_at place)) ts
 as_optional node place ts (inl h) = inl (h.1, h.2)
@@ -75,7 +75,7 @@ pub record NodeRead (limit : ℕ) (start : State) (node : Node) (place : Positio
   pub are : AreRead node place tokens
   pub arrived : Arrived limit start f m o (ts ++ tokens)
 
--- The text of a node at a place is read, where Is tells how it stands there.
+-- The text of a node at a place is read, where Is tells how it is there.
 abbrev pub ReadsAt : ℕ → Node → (Position → List ℕ → List ℕ → Type 0) → Type 0
 ReadsAt limit node Is =
     (place : Position) (f : Frame) → f.indent ≡ indent_at place → (m : Marker) (t o : List ℕ) → Is place t o
@@ -122,11 +122,11 @@ pub record PropertiesRead (limit : ℕ) (start : State) (p : Properties) (f : Fr
   pub none : at.key ≡ None
   pub allowed : at.allowed ≡ true
 
--- the rest of a line behind properties, its break, filler, and the indentation of the next token
+-- the rest of a line after properties, its break, filler, and the indentation of the next token
 abbrev pub IsNextLineText : List ℕ → Type 0
 IsNextLineText w = (end filler : List ℕ) × (n : ℕ) × IsLineEnd end × IsFiller filler × (w ≡ end ++ (filler ++ spaces n))
 
--- `t` is the properties, `front` stands before them, and `w` the rest of their line, filler and indentation.
+-- `t` is the properties, `front` comes before them, and `w` the rest of their line, filler and indentation.
 abbrev pub ReadsProperties : ℕ → Type 0
 ReadsProperties limit =
     (p : Properties) (place : Position) (f : Frame) → f.indent ≡ indent_at place → (m : Marker) (front t w y : List ℕ)
@@ -145,8 +145,8 @@ pub record ReadsLeaves (limit : ℕ) : Type 0 where
   pub key_ink : (node : Node) (indent : ℕ) (t : List ℕ) → IsPlainKeyNode node false indent t → BeginsInk t
   pub flow_ink : (node : Node) (room indent : ℕ) (in_flow : Bool) (t : List ℕ) → IsFlowNode room node in_flow indent t
       → BeginsInk t
-  pub flow_dash : (node : Node) (room indent : ℕ) (in_flow : Bool) (t o : List ℕ) → IsFlowNode room node in_flow indent t
-      → NoDash (t ++ o)
+  pub flow_dash : (node : Node) (room indent : ℕ) (in_flow : Bool) (t o : List ℕ)
+      → IsFlowNode room node in_flow indent t → NoDash (t ++ o)
   pub block_ink : (p : Properties) (style : Style) (value : List ℕ) (indent : ℕ) (front t o : List ℕ)
       → IsScalarFront p indent front → IsStyled style value indent t o → BeginsInk (front ++ t)
   pub scalar_ends : (style : Style) (value : List ℕ) (indent : ℕ) (t o : List ℕ) → IsStyled style value indent t o
@@ -162,7 +162,7 @@ pub record EntriesRead (limit : ℕ) (start : State) (nodes : Nodes) (g : Frame)
   pub arrived : Arrived limit start g m o (ts ++ tokens)
 
 -- The pairs of a mapping at a column were read, from m on, inside its frame. They begin with a value only where its `:`
--- stands ahead.
+-- is ahead.
 pub record PairsRead (limit : ℕ) (start : State) (pairs : Pairs) (column : ℕ) (g : Frame) (m : Marker) (t o : List ℕ)
     (ts : List Kind) : Type 0 where
   pub tokens : List Kind

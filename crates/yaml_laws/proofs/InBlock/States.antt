@@ -1,4 +1,4 @@
--- What is said of a piece of a text at block level, and of the states before it and behind it. Block collections may be
+-- What is said of a piece of a text at block level, and of the states before it and after it. Block collections may be
 -- open.
 use Rattle.std.proofs.Common.{◌≡◌, ℕ, ◌+◌, ◌<◌, ◌≤◌, Bool, true, false, List, [], ◌∷◌, slice_index, ◌⊎◌}
 use Rattle.std.specs.Prelude.{◌||◌, ◌&&◌, ◌==◌, Option, None, if◌then◌else◌}
@@ -87,7 +87,7 @@ state_of f n ps = record { core = core_of f n; queue = queue_of ps }
 
 -- ## Tabs
 
--- Whether a tab stands left of a column, with blanks alone before it, on the line of the next token: what `gap` knows
+-- Whether a tab is left of a column, with blanks alone before it, on the line of the next token: what `gap` knows
 -- where it stops. At the text's end it is no matter.
 abbrev mutual
   pub tabbed : ℕ → Marker → Bool → Bool → List ℕ → Bool
@@ -107,18 +107,18 @@ abbrev mutual
       else if is_break c then tabbed least (next_line m 1) true false cs
       else tab
 
--- no tab stands in the indentation before the next token
+-- no tab is in the indentation before the next token
 abbrev pub IsUntabbed : ℕ → Cursor → Type 0
 IsUntabbed least s = tabbed least s.mark s.blank_so_far false s.rest ≡ false
 
--- ## What stands behind
+-- ## What comes after
 
 -- the text's end, or a character that is passed in no gap
 abbrev pub IsStop : List ℕ → Type 0
 IsStop [] = Unit {0}
 IsStop (c ∷ cs) = (is_blank c ≡ false) × (is_break c ≡ false) × ((c == 35) ≡ false)
 
--- The next token ends the document, or stands left of a column.
+-- The next token ends the document, or is left of a column.
 abbrev pub IsLeftOf : ℕ → Marker → List ℕ → Type 0
 IsLeftOf column m y = EndsDocument m y ⊎ (m.col < column)
 
@@ -131,7 +131,7 @@ pub record GoesOnAs (limit : ℕ) (start s : State) : Type 0 where
   pub same : fetch reached ≡ fetch s
   pub running : reached.core.ended ≡ s.core.ended
 
--- The scanner stands before the token at m, where the text is y, and has read these tokens. Nothing is required there,
+-- The scanner comes before the token at m, where the text is y, and has read these tokens. Nothing is required there,
 -- and no comment has ended a scalar.
 pub record At (limit : ℕ) (start : State) (f : Frame) (m : Marker) (y : List ℕ) (ts : List Kind) : Type 0 where
   pub blank : Bool
@@ -148,14 +148,14 @@ pub record At (limit : ℕ) (start : State) (f : Frame) (m : Marker) (y : List �
 
 -- ## Before a node
 
--- whether a compact collection may stand at a place
+-- whether a compact collection may be at a place
 abbrev pub is_compact : Position → Bool
 is_compact (yaml.BehindDash m) = true
 is_compact (yaml.BehindMark m) = true
 is_compact yaml.AtStart = true
 is_compact _ = false
 
--- right behind what a place is behind
+-- right after what a place is after
 abbrev pub IsPlaced : Position → Marker → Type 0
 IsPlaced (yaml.BehindDash column) m = m.col ≡ column + 1
 IsPlaced (yaml.BehindMark column) m = m.col ≡ column + 1
@@ -163,7 +163,7 @@ IsPlaced (yaml.BehindKey column) m = column < m.col
 IsPlaced yaml.BehindMarker m = Unit {0}
 IsPlaced yaml.AtStart m = m.col ≡ 0
 
--- The scanner has read these tokens, and a node may come at a place, whose text and what is behind it stand at m.
+-- The scanner has read these tokens, and a node may come at a place, whose text and what is after it are at m.
 pub record Before (limit : ℕ) (start : State) (place : Position) (f : Frame) (m : Marker) (o : List ℕ)
     (ts : List Kind) : Type 0 where
   pub at : At limit start f (past 0 m o).0 (past 0 m o).1 ts

@@ -4,18 +4,152 @@ use Rattle.saphyr_input.specs.Classes.{byte_order_mark, is_bom}
 use Rattle.saphyr_input.specs.Indicators.{full_stop}
 use Rattle.saphyr_scalar.specs.declared.scalar.position.Marker.{Marker}
 use Rattle.scalar_laws.specs.Spelling.Spaces.{IsFiller, IsLastFiller, IsEol}
-use Rattle.saphyr_scanner.specs.Grammar.Forest.{Forest}
+use Rattle.saphyr_scanner.specs.Grammar.Forest.{Forest, Properties, Directive, Node, Alias, Scalar, Seq, Map, Document}
 use Rattle.yaml_laws.proofs.Flow.States.{IsInk, moved, past}
 use Rattle.yaml_laws.proofs.Flow.Fillers.{last_filler_past, rest_past}
 use Rattle.yaml_laws.proofs.Documents.Lines.{eol}
 use Rattle.yaml_laws.proofs.InBlock.States.{IsStop}
 use Rattle.yaml_laws.proofs.InBlock.Gaps.{ink_stop, stop_past}
-use Rattle.yaml_laws.proofs.InBlock.Skips.{IsSkipped, Passes, filler_skipped, skipped_passes}
+use Rattle.yaml_laws.proofs.InBlock.Skips.{IsSkipped, Passes, filler_skipped, skipped_passes, gap_passes, both_pass, skipped_append, spaces_skipped, line_end_skipped}
 use Rattle.yaml_laws.proofs.InBlock.Statements.{ReadsLeaves}
 use Rattle.yaml_laws.proofs.InBlock.Documents.Ends.{AreBlockDocuments, OpensMarker, dot_ink, suffix_text}
-use Rattle.yaml_laws.proofs.InBlock.Firsts.{HasToken, documents_token}
+use Rattle.saphyr_scalar.specs.Reading.BlockLines.{spaces}
+use Rattle.saphyr_scanner.specs.Limits.{most_open}
+use Rattle.yaml_laws.specs.Grammar.BlockNodes.{Position, BehindDash, BehindMark, BehindKey, BehindMarker, AtStart, indent_at, sequence_indent_at, IsLead, IsLeftOut, IsFlowInBlock, IsBlockNode}
+use Rattle.yaml_laws.specs.Grammar.Yaml as yaml
+use Rattle.yaml_laws.specs.Grammar.Yaml.{AreDirectives}
+use Rattle.yaml_laws.proofs.Flow.Inks.{BeginsInk, properties_ink}
+use Rattle.yaml_laws.proofs.InBlock.BehindIndicators.{dash_ink, further_ink, entries_ink, pairs_ink}
+use Rattle.yaml_laws.proofs.InBlock.Documents.DirectiveLines.{directive_line}
 
--- behind blanks, breaks and comments the text has this at its front
+-- ## A token after what is skipped
+
+-- The text has a token, after what is skipped.
+pub record HasToken (t : List ℕ) : Type 0 where
+  pub white : List ℕ
+  pub passes : Passes white
+  pub first : ℕ
+  pub others : List ℕ
+  pub ink : IsInk first
+  pub is : t ≡ white ++ (first ∷ others)
+
+ink_token : (w t u : List ℕ) → Passes w → BeginsInk t → u ≡ w ++ t → HasToken u
+ink_token w t u h b e = record {
+  white = w;
+  passes = h;
+  first = b.first;
+  others = b.others;
+  ink = b.ink;
+  is = e ∙ ap (λ (x : List ℕ). w ++ x) b.is;
+}
+
+pub token_front : (t o : List ℕ) → HasToken t → HasToken (t ++ o)
+token_front t o h = record {
+  white = h.white;
+  passes = h.passes;
+  first = h.first;
+  others = h.others ++ o;
+  ink = h.ink;
+  is = ap (λ (x : List ℕ). x ++ o) h.is ∙ append_assoc h.white (h.first ∷ h.others) o;
+}
+
+token_behind : (w t : List ℕ) → Passes w → HasToken t → HasToken (w ++ t)
+token_behind w t k h = record {
+  white = w ++ h.white;
+  passes = both_pass w h.white k h.passes;
+  first = h.first;
+  others = h.others;
+  ink = h.ink;
+  is = ap (λ (x : List ℕ). w ++ x) h.is ∙ sym (append_assoc w h.white (h.first ∷ h.others));
+}
+
+-- ## Nodes
+
+-- a collection, after what comes before it
+lead_token : (p : Properties) (place : Position) (least m : ℕ) (lead t u : List ℕ) → IsLead p place least m lead
+    → BeginsInk t → u ≡ lead ++ t → HasToken u
+lead_token p place least m lead t u (inl (front, end, filler, low, inl (none, empty), end_is, filler_is, e)) b is =
+    let w = end ++ (filler ++ spaces m) in
+    ink_token w t u (skipped_passes w (skipped_append end (filler ++ spaces m) (line_end_skipped end end_is)
+    (skipped_append filler (spaces m) (filler_skipped filler filler_is) (spaces_skipped m)))) b
+    (is ∙ ap (λ (x : List ℕ). x ++ t) (e ∙ ap (λ (x : List ℕ). x ++ w) empty))
+lead_token p place least m lead t u
+    (inl (front, end, filler, low, inr (gap, properties, gap_is, h, front_is), end_is, filler_is, e)) b is =
+    let w = end ++ (filler ++ spaces m) in
+    ink_token gap (properties ++ (w ++ t)) u (gap_passes place gap gap_is)
+    (further_ink properties (w ++ t) (properties_ink p (indent_at place) properties h))
+    (is ∙ ap (λ (x : List ℕ). x ++ t) (e ∙ ap (λ (x : List ℕ). x ++ w) front_is)
+    ∙ append_assoc (gap ++ properties) w t ∙ append_assoc gap properties (w ++ t))
+lead_token p (BehindDash column) least m lead t u (inr (none, (n, some, col, e))) b is =
+    ink_token (spaces n) t u (skipped_passes (spaces n) (spaces_skipped n)) b (is ∙ ap (λ (x : List ℕ). x ++ t) e)
+lead_token p (BehindMark column) least m lead t u (inr (none, (n, some, col, e))) b is =
+    ink_token (spaces n) t u (skipped_passes (spaces n) (spaces_skipped n)) b (is ∙ ap (λ (x : List ℕ). x ++ t) e)
+lead_token p (BehindKey column) least m lead t u (inr (none, h)) b is = absurd h
+lead_token p BehindMarker least m lead t u (inr (none, h)) b is = absurd h
+lead_token p AtStart least m lead t u (inr (none, e)) b is =
+    ink_token (spaces m) t u (skipped_passes (spaces m) (spaces_skipped m)) b (is ∙ ap (λ (x : List ℕ). x ++ t) e)
+
+flow_token : {limit : ℕ} → ReadsLeaves limit → (node : Node) (place : Position) (t o : List ℕ)
+    → IsFlowInBlock most_open node place t o → HasToken t
+flow_token leaves node place t o (gap, text, end, gap_is, is, apart, end_is, e) =
+    ink_token gap (text ++ end) t (gap_passes place gap gap_is)
+    (further_ink text end (leaves.flow_ink node most_open (indent_at place) false text is)) e
+
+-- a node is left out, or has a token
+pub node_token : {limit : ℕ} → ReadsLeaves limit → (node : Node) (place : Position) (t o : List ℕ)
+    → IsBlockNode most_open node place t o → IsLeftOut node place t o ⊎ HasToken t
+node_token leaves (Alias name) place t o h = inr (flow_token leaves (Alias name) place t o h)
+node_token leaves (Scalar p style value) place t o (inl h) = inl h
+node_token leaves (Scalar p style value) place t o (inr (inl h)) =
+    inr (flow_token leaves (Scalar p style value) place t o h)
+node_token leaves (Scalar p style value) place t o (inr (inr (gap, front, scalar, gap_is, front_is, h, e))) =
+    inr (ink_token gap (front ++ scalar) t (gap_passes place gap gap_is)
+    (leaves.block_ink p style value (indent_at place) front scalar o front_is h) e)
+node_token leaves (Seq p nodes) place t o (inl h) = inr (flow_token leaves (Seq p nodes) place t o h)
+node_token leaves (Seq p nodes) place t o (inr (m, lead, entries, lead_is, h, e)) =
+    inr (lead_token p place (sequence_indent_at place) m lead entries t lead_is (entries_ink nodes m entries o h) e)
+node_token leaves (Map p pairs) place t o (inl h) = inr (flow_token leaves (Map p pairs) place t o h)
+node_token leaves (Map p pairs) place t o (inr (m, lead, entries, lead_is, h, e)) =
+    inr (lead_token p place (indent_at place) m lead entries t lead_is (pairs_ink leaves pairs m entries o h) e)
+
+-- ## Documents
+
+percent_ink : IsInk 37
+percent_ink = record { blank = refl; break = refl; comment = refl; byte_order_mark = refl }
+
+ink_is_token : (c : ℕ) (cs t : List ℕ) → IsInk c → t ≡ c ∷ cs → HasToken t
+ink_is_token c cs t ink e = record { white = []; passes = λ m y. refl; first = c; others = cs; ink = ink; is = e }
+
+document_token : {limit : ℕ} → ReadsLeaves limit → (d : Document) (free : Bool) (t o : List ℕ)
+    → yaml.IsDocument (IsBlockNode most_open) d free t o → HasToken t
+document_token leaves d free t o (inl (is_free, (same, unmarked, is))) =
+    by_node (node_token leaves d.node AtStart t o is)
+  where
+    by_node : IsLeftOut d.node AtStart t o ⊎ HasToken t → HasToken t
+    by_node (inl h) = absurd (let k : true ≡ false = h.1 in cc)
+    by_node (inr h) = h
+document_token leaves d free t o (inr (may, (directives, node, explicit, compatible, are, unmarked, is, e))) =
+    by_directives d.directives are
+  where
+    by_directives : (ds : List Directive) → AreDirectives ds directives → HasToken t
+    by_directives [] h =
+        ink_is_token 45 (45 ∷ 45 ∷ node) t dash_ink (e ∙ ap (λ (x : List ℕ). x ++ (45 ∷ 45 ∷ 45 ∷ node)) h)
+    by_directives (k ∷ ks) (directive, filler, more, is, filler_is, others, text) =
+        let line = directive_line k directive is in
+        ink_is_token 37 ((line.others ++ (10 ∷ (filler ++ more))) ++ (45 ∷ 45 ∷ 45 ∷ node)) t percent_ink
+        (e ∙ ap (λ (x : List ℕ). x ++ (45 ∷ 45 ∷ 45 ∷ node))
+        (text ∙ ap (λ (x : List ℕ). x ++ (10 ∷ (filler ++ more))) line.is))
+
+-- A text with documents has a token; one without them is filler.
+pub documents_token : {limit : ℕ} → ReadsLeaves limit → (ds : Forest) (free : Bool) (t : List ℕ)
+    → AreBlockDocuments ds free t → ((ds ≡ []) × IsLastFiller t) ⊎ HasToken t
+documents_token leaves [] free t h = inl (refl, h)
+documents_token leaves (d ∷ ds) free t (filler, document, others, filler_is, is, behind, e) =
+    inr (subst HasToken (sym e)
+    (token_behind filler (document ++ others) (skipped_passes filler (filler_skipped filler filler_is))
+    (token_front document others (document_token leaves d free document others is))))
+
+-- after blanks, breaks and comments the text has this at its front
 abbrev pub StopsAt : List ℕ → List ℕ → Type 0
 StopsAt t s = (m : Marker) → (past 0 m t).1 ≡ s
 

@@ -32,7 +32,7 @@ use Rattle.scalar_laws.specs.Spelling.Spaces.{AreEach, joined_pieces}
 
 -- ## Between documents
 
--- The scanner has read what may stand before a document.
+-- The scanner has read what may come before a document.
 pub record PrefixStands (limit : ℕ) (start : State) (others : List ℕ) (ts : List Kind) : Type 0 where
   pub marks : List Kind
   pub are : AreEndsAndMarks marks
@@ -70,11 +70,16 @@ reads_prefix {limit = limit} {start = start} _ _ ts (end_prefix filler end more 
     (reads_end end (more ++ others)
     (passes_filler filler (46 ∷ 46 ∷ 46 ∷ (end ++ (more ++ others))) is first) end_is))
 
--- what stands behind a document and its byte order marks is read, where documents are
-reads_unmarked : {limit : ℕ} {start : State} (ds : Forest)
-    → ((free : Bool) (t : List ℕ) (ts : List Kind) → AreBlockDocuments ds free t → HasNoReturn t
+-- the documents are read, wherever they begin
+abbrev ReadsDocuments : ℕ → State → Forest → Type 0
+ReadsDocuments limit start ds =
+    (free : Bool) (t : List ℕ) (ts : List Kind) → AreBlockDocuments ds free t → HasNoReturn t
     → StandsInStream limit start free (Lined free t) t ts
-    → FinishesStream limit start (grammar.YieldDocuments ds free) ts)
+    → FinishesStream limit start (grammar.YieldDocuments ds free) ts
+
+-- what comes after a document and its byte order marks is read, where documents are
+reads_unmarked : {limit : ℕ} {start : State} (ds : Forest)
+    → ReadsDocuments limit start ds
     → (o : List ℕ) (ts : List Kind) → yaml.IsBehindMarks (AreBlockDocuments ds) o → HasNoReturn o
     → StandsInStream limit start false (Lined false o) o ts
     → FinishesStream limit start (grammar.YieldsBehindDocument (grammar.YieldDocuments ds)) ts
@@ -110,7 +115,7 @@ reads_unmarked {limit = limit} {start = start} ds go o ts
     behind_list : (ts marks us : List Kind) (k : Kind) → ((ts ++ k ∷ []) ++ marks) ++ us ≡ ts ++ (k ∷ (marks ++ us))
     behind_list ts marks us k = simp append_assoc
 
--- a byte order mark, and what stands behind a document
+-- a byte order mark, and what comes after a document
 pub mark_told : (Others : Bool → List Kind → Type 0) (ts : List Kind) → grammar.YieldsBehindDocument Others ts
     → grammar.YieldsBehindDocument Others (tokens.ByteOrderMark ∷ ts)
 mark_told Others ts (marks, end, others, are, h, e) =
@@ -118,9 +123,7 @@ mark_told Others ts (marks, end, others, are, h, e) =
 
 -- from its byte order marks on
 reads_marked : {limit : ℕ} {start : State} (ds : Forest)
-    → ((free : Bool) (t : List ℕ) (ts : List Kind) → AreBlockDocuments ds free t → HasNoReturn t
-    → StandsInStream limit start free (Lined free t) t ts
-    → FinishesStream limit start (grammar.YieldDocuments ds free) ts)
+    → ReadsDocuments limit start ds
     → (pieces : List (List ℕ)) (o : List ℕ) (ts : List Kind) → AreEach yaml.IsMarkBehindFiller pieces
     → yaml.IsBehindMarks (AreBlockDocuments ds) o → HasNoReturn o
     → StandsInStream limit start false (Lined false (joined_pieces pieces ++ o)) (joined_pieces pieces ++ o) ts
@@ -142,11 +145,9 @@ reads_marked {limit = limit} {start = start} ds go (piece ∷ pieces) o ts ((fil
       are = f.are ∙ append_assoc ts (tokens.ByteOrderMark ∷ []) f.others;
     }
 
--- what stands behind a document is read
+-- what comes after a document is read
 reads_behind : {limit : ℕ} {start : State} (ds : Forest)
-    → ((free : Bool) (t : List ℕ) (ts : List Kind) → AreBlockDocuments ds free t → HasNoReturn t
-    → StandsInStream limit start free (Lined free t) t ts
-    → FinishesStream limit start (grammar.YieldDocuments ds free) ts)
+    → ReadsDocuments limit start ds
     → (o : List ℕ) (ts : List Kind) → yaml.IsBehindDocument (AreBlockDocuments ds) o → HasNoReturn o
     → StandsInStream limit start false (Lined false o) o ts
     → FinishesStream limit start (grammar.YieldsBehindDocument (grammar.YieldDocuments ds)) ts

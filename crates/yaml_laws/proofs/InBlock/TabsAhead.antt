@@ -1,5 +1,5 @@
--- Where no tab stands ahead, none stands among the blanks before the next token. And what follows a token tells nothing
--- of what stands before it.
+-- Where no tab is ahead, none is among the blanks before the next token. And what follows a token tells nothing
+-- of what comes before it.
 use Rattle.std.proofs.Common.{◌≡◌, ℕ, ◌+◌, ◌≤◌, Bool, true, false, List, [], ◌∷◌, ◌++◌, slice_index, refl, sym, ap, ◌∙◌, arith, append_assoc, IsTrue, ◌⊎◌, inl, inr}
 use Rattle.std.specs.Prelude.{◌||◌, ◌&&◌, ◌==◌, not, if◌then◌else◌}
 use Rattle.std.proofs.lemmas.Bool.Decides.{nat_tests}
@@ -96,7 +96,7 @@ mutual
 
 -- ## Where more text follows
 
--- whether a tab stands ahead is told without what follows
+-- whether a tab is ahead is told without what follows
 abbrev pub TellsTabs : List ℕ → List ℕ → Type 0
 TellsTabs more o = has_tab_ahead false (o ++ more) ≡ has_tab_ahead false o
 
@@ -120,7 +120,7 @@ unbroken_no_feed c e = feed c (falsely (is_break c) e)
     feed : (c : ℕ) → is_break c ≡ false → (c == line_feed) ≡ false
     feed c e = grind (arith, nat_tests)
 
--- behind a text that ends a line
+-- after a text that ends a line
 same_ahead : (in_comment : Bool) (m : Marker) (t o more : List ℕ) → (in_comment ≡ true → 1 ≤ m.col)
     → (moved m t).col ≡ 0 → TellsTabs more o
     → has_tab_ahead in_comment (t ++ (o ++ more)) ≡ has_tab_ahead in_comment (t ++ o)
@@ -157,15 +157,15 @@ tells_token c cs more (blank, break, comment) = rw (no_tab c blank, no_space c b
     no_space : (c : ℕ) → is_blank c ≡ false → (c == space) ≡ false
     no_space c h = grind (arith, nat_tests)
 
--- ## Whether a token stands ahead
+-- ## Whether a token is ahead
 
--- behind blanks, breaks and comments; the first argument tells that a comment goes on
+-- after blanks, breaks and comments; the first argument tells that a comment goes on
 abbrev pub has_token : Bool → List ℕ → Bool
 has_token in_comment [] = false
 has_token true (c ∷ cs) = has_token (not (is_break c)) cs
 has_token false (c ∷ cs) = if (c == 9) || leads_on c then has_token (c == 35) cs else true
 
--- in front of one stands what ends a line
+-- before one is what ends a line
 token_front : (in_comment : Bool) (m : Marker) (t o : List ℕ) → (in_comment ≡ true → 1 ≤ m.col) → (moved m t).col ≡ 0
     → has_token false o ≡ true → has_token in_comment (t ++ o) ≡ true
 token_front true m [] o some e h = let k = some refl in absurd (omega (arith, k, e))
@@ -195,7 +195,7 @@ token_here c cs (blank, break, comment) = rw (no_tab c blank, no_space c blank, 
     no_space : (c : ℕ) → is_blank c ≡ false → (c == space) ≡ false
     no_space c h = grind (arith, nat_tests)
 
--- none stands in filler
+-- none is in filler
 words_none : (words o : List ℕ) → AreIn is_yaml_non_break words → has_token false o ≡ false
     → has_token true (words ++ (line_feed ∷ o)) ≡ false
 words_none [] o h k = k

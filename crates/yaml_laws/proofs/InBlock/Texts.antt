@@ -1,4 +1,4 @@
--- The texts of nodes at block level: where they end, and the columns and tokens behind what is skipped.
+-- The texts of nodes at block level: where they end, and the columns and tokens after what is skipped.
 use Rattle.std.proofs.Common.{◌≡◌, ℕ, zero, suc, ◌+◌, ◌<◌, ◌≤◌, List, [], ◌∷◌, ◌++◌, length, refl, sym, ap, ◌∙◌, arith, subst, append-nil, ◌⊎◌, inl, inr}
 use Rattle.std.specs.Prelude.{◌==◌, not}
 use Rattle.saphyr_input.specs.Classes.{line_feed}
@@ -135,7 +135,7 @@ spaces_moved m n = moved_along m (spaces n) (no_feeds n) ∙ ap (along m) (space
 none_and : (a b : ℕ) → a ≡ 0 → a + b ≡ b
 none_and a b e = omega (arith, e)
 
--- the column behind filler and indentation that begin at a line's start
+-- the column after filler and indentation that begin at a line's start
 pub indentation_col : (m : Marker) (column : ℕ) (w : List ℕ) → IsEntryIndentation column w → m.col ≡ 0
     → (moved m w).col ≡ column
 indentation_col m column w (filler, h, is) e =
@@ -161,7 +161,7 @@ pub reaches : (m : Marker) (w : List ℕ) (c : ℕ) (cs : List ℕ) → IsSkippe
     → past 0 m (w ++ (c ∷ cs)) ≡ (moved m w, c ∷ cs)
 reaches m w c cs h ink = passes_to m w c cs (skipped_passes w h) ink
 
--- What is skipped stands behind a node that ends a line, before a token at a column.
+-- What is skipped comes after a node that ends a line, before a token at a column.
 pub behind_indented : (column : ℕ) (m : Marker) (w : List ℕ) (c : ℕ) (cs : List ℕ) → IsEntryIndentation column w
     → IsInk c → m.col ≡ 0 → EndsNodeAt (suc column) m (w ++ (c ∷ cs))
 behind_indented column m w c cs h ink e =

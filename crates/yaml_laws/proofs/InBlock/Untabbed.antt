@@ -1,4 +1,4 @@
--- Where no tab stands left of a column on the line of a token, what is passed up to the next token doesn't depend on
+-- Where no tab is left of a column on the line of a token, what is passed up to the next token doesn't depend on
 -- the column.
 use Rattle.std.proofs.Common.{◌≡◌, ℕ, ◌≤◌, Bool, true, false, List, [], ◌∷◌, slice_index, refl, sym, ◌∙◌, subst}
 use Rattle.std.specs.Prelude.{◌||◌, ◌&&◌, ◌==◌, not, nat_lt}
@@ -162,8 +162,8 @@ clean_past column m t h = untabbed_past column m false t (h column m true)
 
 -- ## Up to a token
 
--- What is passed ends at a token: so does what is passed for the first column, and no tab stands in the indentation
--- before it, where none does already or no token stands on the rest of the line.
+-- What is passed ends at a token: so does what is passed for the first column, and no tab is in the indentation
+-- before it, if there is none already or no token is on the rest of the line.
 abbrev Settles : ℕ → Marker → List ℕ → Type 0
 Settles i m t = IsStop (past i m t).1
     → (past 0 m t ≡ past i m t)

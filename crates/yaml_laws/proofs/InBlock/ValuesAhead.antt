@@ -1,4 +1,4 @@
--- Whether the `:` of a value stands ahead, behind what is skipped and where more text follows.
+-- Whether the `:` of a value is ahead, after what is skipped and where more text follows.
 use Rattle.std.proofs.Common.{◌≡◌, ℕ, ◌+◌, Bool, true, false, List, [], ◌∷◌, ◌++◌, slice_index, refl, sym, ap, ◌∙◌, arith, subst, append_assoc, ◌⊎◌, inl, inr}
 use Rattle.std.specs.Prelude.{◌||◌, ◌==◌, not}
 use Rattle.std.proofs.lemmas.Bool.Decides.{nat_tests}
@@ -15,7 +15,7 @@ use Rattle.yaml_laws.proofs.InBlock.FurtherScalars.{EndsFed, fed_behind}
 use Rattle.yaml_laws.proofs.InBlock.Skips.{IsSkipped, nothing, one_space, one_break, one_rest}
 use Rattle.yaml_laws.proofs.InBlock.TabsAhead.{has_token}
 
--- ## Behind what is skipped
+-- ## After what is skipped
 
 words_ahead : (m : ℕ) (words o : List ℕ) → AreIn is_yaml_non_break words
     → is_value_ahead true m 0 (words ++ (line_feed ∷ o)) ≡ is_value_ahead false m 0 o
@@ -34,7 +34,7 @@ rest_ahead m column [] comment o are (inr (words, are_words, e)) =
     ap (λ (x : List ℕ). is_value_ahead false m column (x ++ (10 ∷ o))) e ∙ words_ahead m words o are_words
 rest_ahead m column (c ∷ cs) comment o are k = rw are.0 (rest_ahead m (column + 1) cs comment o are.1 k)
 
--- it stands at the column that is reached
+-- it is at the column that is reached
 pub skipped_ahead : (m : ℕ) (n : Marker) (w y : List ℕ) → IsSkipped w
     → is_value_ahead false m n.col (w ++ y) ≡ is_value_ahead false m (moved n w).col y
 skipped_ahead m n _ y nothing = refl

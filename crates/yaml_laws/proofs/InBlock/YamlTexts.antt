@@ -12,13 +12,11 @@ use Rattle.saphyr_scanner.proofs.Lazy.{handed_out}
 use Rattle.saphyr_scanner.proofs.Effects.Readers.{Readers}
 use Rattle.yaml_laws.specs.Grammar.Yaml.{IsYamlText}
 use Rattle.yaml_laws.specs.SameKinds.{HaveSameKinds}
-use Rattle.yaml_laws.proofs.Breaks.YamlTexts.{no_return_left, scans_too}
-use Rattle.yaml_laws.proofs.Breaks.Normal.{beside, normal_shorter}
+use Rattle.yaml_laws.proofs.Breaks.Normal.{no_return_left, scans_too, beside, normal_shorter}
 use Rattle.yaml_laws.proofs.Flow.Inks.{node_ink, plain_key_node_ink}
 use Rattle.yaml_laws.proofs.Flow.NoDashes.{node_no_dash}
 use Rattle.yaml_laws.proofs.Flow.States.{ReaderPromises}
-use Rattle.yaml_laws.proofs.InBlock.FlowNodes.{reads_flow}
-use Rattle.yaml_laws.proofs.InBlock.Keys.{reads_key}
+use Rattle.yaml_laws.proofs.InBlock.FlowNodes.{reads_flow, reads_key}
 use Rattle.yaml_laws.proofs.InBlock.Properties.{reads_head, reads_properties}
 use Rattle.yaml_laws.proofs.InBlock.ScalarTexts.{ReadsBlocks, block_ink, scalar_ends}
 use Rattle.yaml_laws.proofs.InBlock.Scalars as scalars

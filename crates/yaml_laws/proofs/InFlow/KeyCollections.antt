@@ -11,7 +11,7 @@ use Rattle.saphyr_scanner.specs.declared.engine.level.Context.TheVariants as con
 use Rattle.saphyr_scanner.specs.Grammar.Tokens.{Kind}
 use Rattle.saphyr_scanner.specs.Steps.Queue.{Place, Queue}
 use Rattle.saphyr_scanner.specs.Steps.Core.{from_to, completed_step}
-use Rattle.saphyr_scanner.specs.Steps.Level.{Candidate, Level, is_block, ends_pair}
+use Rattle.saphyr_scanner.specs.Steps.Level.{Candidate, Level, is_block, behind_entry, ends_pair}
 use Rattle.saphyr_scanner.specs.Steps.Flow.{close_collection}
 use Rattle.saphyr_scanner.specs.Steps.State.{State, on_core, after_step}
 use Rattle.saphyr_scanner.specs.Steps.Fetch.{step, state_behind_content, fetch_here, fetch, check_limit, fetch_within}
@@ -26,9 +26,9 @@ use Rattle.yaml_laws.proofs.Flow.States.{moved, past, IsParted}
 use Rattle.yaml_laws.proofs.Flow.Places.{moved_append, moved_index, clear_front}
 use Rattle.yaml_laws.proofs.Flow.GapSteps.{past_ink}
 use Rattle.yaml_laws.proofs.Flow.Fillers.{separation_past, right_behind}
-use Rattle.yaml_laws.proofs.Flow.Arrivals.{arrives, begins_here, within_index}
+use Rattle.yaml_laws.proofs.Flow.Tokens.{arrives, begins_here, within_index}
 use Rattle.yaml_laws.proofs.Flow.Separates.{separates}
-use Rattle.yaml_laws.proofs.Flow.Brackets.{mark_begins, mark_moved, mark_places, mark_puts, mark_kinds, pending}
+use Rattle.yaml_laws.proofs.Flow.Brackets.{mark_begins, mark_moved, mark_places, mark_puts, mark_kinds, pending, token_mark}
 use Rattle.yaml_laws.proofs.Flow.Collections.{Brackets, AreBrackets, bracket_text, RunsInside}
 use Rattle.saphyr_input.proofs.Basics.Numbers.{le_next}
 use Rattle.std.proofs.lemmas.Bool.{le-leb}
@@ -52,7 +52,7 @@ same_inside around d s x k ls a ad e = rw e refl
 
 -- ## The opening bracket
 
--- the state behind it
+-- the state after it
 record Opened (around : Around) (start : State) (b : Brackets) (k : Candidate) (qs : List Place) (e : Marker)
     (o : List ℕ) (ad : ℕ) : Type 0 where
   deeper : Bool
@@ -75,7 +75,7 @@ bracket_opens around same start b are k qs e o ad parted right below r =
     let kind = b.opens in
     let ls = level_of context.Block (Some k) ∷ [] in
     let p = separates around.indent (cursor_at o (along e 1) false) parted.separation parted.first parted.others
-    parted.is parted.parts right parted.ink in
+    parted.is parted.parts right parted.ends in
     let d = deepened around context.Block r.deeper in
     let new = token_place e p.there.mark kind ∷ [] in
     let st = state_at (calmed around) (moment p.there y None ls true ad (qs ++ new)) d in
@@ -90,13 +90,15 @@ bracket_opens around same start b are k qs e o ad parted right below r =
     let fetched : fetch start ≡ Ok st = r.fetches ∙ ap (λ q. after_step q (queue_of qs)) stepped in
     let low = within_index around.indent around.limit p.there (along e 1) o p.lands below in
     let fits : check_limit around.limit st ≡ Ok st = rw (le-leb p.there.mark.index around.limit low) refl in
-    let kept = ap (λ q. on_core q (queue_of (qs ++ new))) (drops_far_key (calmed around) d p.there y None ls true ad
+    let kept = ap (λ q. on_core q (queue_of (qs ++ new))) (drops_far_key (calmed around) None d p.there y None ls true
+    ad
     refl) ∙ ap (λ (j : Option Candidate). Ok (state_at (calmed around) (moment p.there y j ls true ad (qs ++ new)) d))
     (left_in_flow y None p.there.mark are.flows) in
     record {
       deeper = d;
       there = p.there;
-      lands = p.lands ∙ ap (λ (m : Marker). past around.indent m o) (mark_moved e b.opening are.opening_mark);
+      lands = p.lands
+          ∙ ap (λ (m : Marker). past around.indent m o) (mark_moved e b.opening (token_mark b.opening are.start));
       leads = onward start st st r.running (ap (λ q. q >>= check_limit around.limit) fetched ∙ fits) kept stay;
     }
 
@@ -113,16 +115,14 @@ record Closed (around : Around) (start : State) (k : Candidate) (qs : List Place
 
 bracket_closes : (around : Around) → around.pending ≡ around.required → (b : Brackets) → AreBrackets b
     → (inside : Context) → is_block inside ≡ false
-    → ((second i : ℕ) (d : Bool) (s : Cursor) (k : Option Candidate) (ms : List Level) (a : Bool) (ad : ℕ)
-    → step b.closing second i (core_at (calmed around) d s inside k ms a ad)
-    ≡ close_collection (ends_pair inside) b.closes (core_at (calmed around) d s inside k ms a ad))
+    → behind_entry inside ≡ b.context
     → (k : Candidate) (j : Option Candidate) (a : Bool) (ad : ℕ) (qs : List Place) (s : Cursor) (d : Bool) (e : Marker)
     (n : Blanks) (r : List ℕ) → InKey around k e ((b.closing ∷ []) ++ n.text) (colon ∷ r) → around.indent ≤ e.col
     → past around.indent s.mark s.rest ≡ past around.indent e (b.closing ∷ colon_text n r)
     → Closed around (state_at (calmed around) (moment s inside j (level_of context.Block (Some k) ∷ []) a ad qs) d) k qs
     (ends_pair inside) b.closes e (moved (along e 1) n.text) r ad d
 unfolding fetch state_behind_content fetch_within
-bracket_closes around same b are inside flows closing k j a ad qs s d e n r text right at =
+bracket_closes around same b are inside flows back k j a ad qs s d e n r text right at =
     let o = colon_text n r in
     let ls = level_of context.Block (Some k) ∷ [] in
     let mark = are.closing_mark in
@@ -138,7 +138,7 @@ bracket_closes around same b are inside flows closing k j a ad qs s d e n r text
     let ends = ends_pair inside in
     let new = mark_places ends e p.there.mark b.closes in
     let st = state_at around (moment p.there context.Block (Some k) [] false ad (qs ++ new)) d in
-    let stepped = closing (slice_index o 0) (length qs) d seen v.key ls v.allowed ad
+    let stepped = are.shuts (calmed around) inside flows back (slice_index o 0) (length qs) d seen v.key ls v.allowed ad
     ∙ ap (close_collection ends b.closes) (sym (same_inside around d seen inside v.key ls v.allowed ad flows))
     ∙ close_collection_gives ends b.closes b.closing o e v.blank around d inside v.key (Some k) context.Block []
     v.allowed ad p.found p.there p.is flows (λ _. same) in
@@ -208,7 +208,7 @@ collection_along around same start Is b are k qs w inside n r e ad parts parted 
     let text2 = in_back k e (b.opening ∷ w) (inside ++ (close ++ n.text)) (58 ∷ r) text1 in
     let text3 = in_back k here inside (close ++ n.text) (58 ∷ r) text2 in
     let right1 = in_right k e b.opening w (inside ++ (close ++ n.text)) (58 ∷ r) text1 in
-    let mark : moved e (b.opening ∷ []) ≡ along e 1 = sym (mark_moved e b.opening are.opening_mark) in
+    let mark : moved e (b.opening ∷ []) ≡ along e 1 = sym (mark_moved e b.opening (token_mark b.opening are.start)) in
     let split : here ≡ moved (moved e (b.opening ∷ [])) w = moved_append e (b.opening ∷ []) w in
     let below1 = below_open e body n.text (58 ∷ r) o1 texts text.below in
     let first = bracket_opens around same start b are k qs e o1 ad parted text.low below1
@@ -229,7 +229,8 @@ collection_along around same start Is b are k qs w inside n r e ad parts parted 
     let ended = subst (λ (z : Marker × List ℕ). q.adjacent ≤ z.0.index)
     (past_ink around.indent at_end b.closing o are.closing_mark.ink) q.knows in
     let qs2 = (qs ++ new1) ++ q.new in
-    let last = bracket_closes around same b are in_front.inside in_front.flows in_front.closes k q.key q.allowed
+    let last = bracket_closes around same b are in_front.inside in_front.flows in_front.back k q.key
+    q.allowed
     q.adjacent qs2 q.there ran.deeper at_end n r text3 q.right q.fits in
     let new3 = mark_places (ends_pair in_front.inside) at_end last.there.mark b.closes in
     let places : qs2 ++ new3 ≡ qs ++ (new1 ++ (q.new ++ new3)) =

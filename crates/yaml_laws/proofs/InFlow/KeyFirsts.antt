@@ -16,19 +16,15 @@ use Rattle.saphyr_scanner.specs.Steps.Flow.{open_collection}
 use Rattle.saphyr_scanner.specs.Steps.Fetch.{step}
 use Rattle.saphyr_scanner.specs.Grammar.Forest.{Style, Plain, SingleQuoted, DoubleQuoted, Literal, Folded, Tag, Properties, Node, Alias, Scalar, Seq, Map}
 use Rattle.yaml_laws.specs.Grammar.FlowNodes as yaml
-use Rattle.yaml_laws.specs.Grammar.FlowNodes.{IsBeforeContent, IsScalarNode, IsPlainKeyNode, IsFlowNode}
+use Rattle.yaml_laws.specs.Grammar.FlowNodes.{IsBeforeContent, IsScalarNode, IsPlainKeyNode, IsFlowNode, AreItems, AreFlowPairs}
 use Rattle.yaml_laws.specs.Grammar.FlowScalars.{IsFlowScalar}
 use Rattle.yaml_laws.specs.Grammar.TagSpelling.{IsTag}
 use Rattle.yaml_laws.proofs.InFlow.States.{Around, core_at}
 use Rattle.yaml_laws.proofs.InFlow.KeyLines.{Fresh, keyed}
-use Rattle.yaml_laws.proofs.InFlow.KeyTokens.{tag_begins, anchor_begins}
-use Rattle.yaml_laws.proofs.InFlow.KeyScalars.{scalar_begins}
-use Rattle.yaml_laws.proofs.Flow.Tokens.{Begins}
-use Rattle.yaml_laws.proofs.Flow.Names.{begins_anchor, begins_alias, alias_first}
-use Rattle.yaml_laws.proofs.Flow.Tags.{tag_read, tag_first}
-use Rattle.yaml_laws.proofs.Flow.Plains.{BeginsWord, word_begins, key_begins, token_begins, plain_dispatches}
-use Rattle.yaml_laws.proofs.Flow.Collections.{Brackets, AreBrackets}
-use Rattle.yaml_laws.proofs.Flow.Collections.Runs.{square, curly, are_square, are_curly, whole_text}
+use Rattle.yaml_laws.proofs.Flow.Names.{begins_anchor, begins_alias, tag_read, tag_first}
+use Rattle.yaml_laws.proofs.Flow.Plains.{BeginsWord, word_begins, key_begins, plain_dispatches}
+use Rattle.yaml_laws.proofs.Flow.Collections.{Brackets, AreBrackets, square, curly, are_square, are_curly}
+use Rattle.yaml_laws.proofs.Flow.Collections.Runs.{whole_text, IsBracketText}
 
 -- ## The first token keeps the key's place
 
@@ -137,105 +133,40 @@ fresh_front around p front t (inr (written, separation, g, some, parts, is)) h =
     (ap (λ (x : List ℕ). x ++ t) is ∙ append_assoc written separation t)
     (fresh_properties around p.anchor p.tag written (separation ++ t) g)
 
--- ## What begins a key begins a token
+scalar_fresh : (around : Around) (p : Properties) (style : Style) (value t o : List ℕ)
+    → IsScalarNode p style value false around.indent t → Fresh around (t ++ o)
+scalar_fresh around p style value t o (inl (plain, empty, h)) = fresh_properties around p.anchor p.tag t o h
+scalar_fresh around p style value t o (inr (front, content, before, g, e)) =
+    fresh_so around (t ++ o) (front ++ (content ++ o))
+    (ap (λ (x : List ℕ). x ++ o) e ∙ append_assoc front content o)
+    (fresh_front around p front (content ++ o) before (fresh_content around style value content o g))
 
-begins_so : (t u : List ℕ) → t ≡ u → Begins u → Begins t
-begins_so t u e h = subst Begins (sym e) h
-
-begins_front : (a t : List ℕ) → Begins a → Begins (a ++ t)
-begins_front a t b = record {
-  first = b.first;
-  others = b.others ++ t;
-  is = ap (λ (x : List ℕ). x ++ t) b.is;
-  ink = b.ink;
-  nul = b.nul;
-  directive = b.directive;
-}
-
-properties_begin : (indent : ℕ) (anchor : Option (List ℕ)) (tag : Option Tag) (t : List ℕ)
-    → yaml.AreProperties anchor tag indent t → Begins t
-properties_begin indent None None t h = absurd h
-properties_begin indent (Some name) None t h = anchor_begins name t h
-properties_begin indent None (Some tag) t h = tag_begins tag t h
-properties_begin indent (Some name) (Some tag) t (a, s, c, h, g, spaced, inl is) =
-    begins_so t (a ++ (s ++ c)) is (begins_front a (s ++ c) (anchor_begins name a h))
-properties_begin indent (Some name) (Some tag) t (c, s, a, h, g, spaced, inr is) =
-    begins_so t (a ++ (s ++ c)) is (begins_front a (s ++ c) (tag_begins tag a g))
-
-pub bracket_begins : (b : Brackets) → AreBrackets b → (t : List ℕ) → Begins (b.opening ∷ t)
-bracket_begins b are t =
-    record {
-      first = b.opening;
-      others = t;
-      is = refl;
-      ink = are.opening_mark.ink;
-      nul = are.opening_mark.nul;
-      directive = are.opening_mark.directive;
-    }
-
-front_begins : (indent : ℕ) (p : Properties) (front t : List ℕ) → IsBeforeContent p indent front → Begins t
-    → Begins (front ++ t)
-front_begins indent p front t (inl (none, is)) h = begins_so (front ++ t) t (ap (λ (x : List ℕ). x ++ t) is) h
-front_begins indent p front t (inr (written, separation, g, some, parts, is)) h =
-    begins_so (front ++ t) (written ++ (separation ++ t))
-    (ap (λ (x : List ℕ). x ++ t) is ∙ append_assoc written separation t)
-    (begins_front written (separation ++ t) (properties_begin indent p.anchor p.tag written g))
-
--- a key's text begins a token, and keeps the key's place, before what stands behind it
-pub record FirstOf (around : Around) (p o : List ℕ) : Type 0 where
-  pub begins : Begins p
-  pub fresh : Fresh around (p ++ o)
-
-fresh_behind : (around : Around) (p t o : List ℕ) → p ≡ t → FirstOf around t o → FirstOf around p o
-fresh_behind around p t o e h = subst (λ (x : List ℕ). FirstOf around x o) (sym e) h
-
-scalar_first : (around : Around) (p : Properties) (style : Style) (value t o : List ℕ)
-    → IsScalarNode p style value false around.indent t → FirstOf around t o
-scalar_first around p style value t o (inl (plain, empty, h)) =
-    record { begins = properties_begin around.indent p.anchor p.tag t h; fresh = fresh_properties around p.anchor p.tag t o h }
-scalar_first around p style value t o (inr (front, content, before, g, e)) =
-    fresh_behind around t (front ++ content) o e
-    (record {
-      begins = front_begins around.indent p front content before (scalar_begins around.indent style value content g);
-      fresh = fresh_so around ((front ++ content) ++ o) (front ++ (content ++ o)) (append_assoc front content o)
-          (fresh_front around p front (content ++ o) before (fresh_content around style value content o g));
-    })
-
-pub plain_key_first : (around : Around) (node : Node) (t r : List ℕ) → IsPlainKeyNode node false around.indent t
-    → FirstOf around t (colon ∷ r)
-plain_key_first around (Alias name) t r h = absurd h
-plain_key_first around (Seq p nodes) t r h = absurd h
-plain_key_first around (Map p pairs) t r h = absurd h
-plain_key_first around (Scalar p style value) t r (front, content, plain, before, g, is, e) =
+pub plain_key_fresh : (around : Around) (node : Node) (t r : List ℕ) → IsPlainKeyNode node false around.indent t
+    → Fresh around (t ++ (colon ∷ r))
+plain_key_fresh around (Alias name) t r h = absurd h
+plain_key_fresh around (Seq p nodes) t r h = absurd h
+plain_key_fresh around (Map p pairs) t r h = absurd h
+plain_key_fresh around (Scalar p style value) t r (front, content, plain, before, g, is, e) =
     let o = 58 ∷ r in
-    let w = key_begins false around.indent content r g in
-    fresh_behind around t (front ++ content) o e
-    (record {
-      begins = front_begins around.indent p front content before (token_begins false content o w);
-      fresh = fresh_so around ((front ++ content) ++ o) (front ++ (content ++ o)) (append_assoc front content o)
-          (fresh_front around p front (content ++ o) before (fresh_word around content o w));
-    })
+    fresh_so around (t ++ o) (front ++ (content ++ o))
+    (ap (λ (x : List ℕ). x ++ o) e ∙ append_assoc front content o)
+    (fresh_front around p front (content ++ o) before
+    (fresh_word around content o (key_begins false around.indent content r g)))
 
-brackets_first : (around : Around) (p : Properties) (b : Brackets) → AreBrackets b → (t o front rest : List ℕ)
-    → t ≡ front ++ (b.opening ∷ rest) → IsBeforeContent p around.indent front → FirstOf around t o
-brackets_first around p b are t o front rest e before =
-    fresh_behind around t (front ++ (b.opening ∷ rest)) o e
-    (record {
-      begins = front_begins around.indent p front (b.opening ∷ rest) before (bracket_begins b are rest);
-      fresh = fresh_so around ((front ++ (b.opening ∷ rest)) ++ o) (front ++ (b.opening ∷ (rest ++ o)))
-          (append_assoc front (b.opening ∷ rest) o)
-          (fresh_front around p front (b.opening ∷ (rest ++ o)) before (fresh_bracket around b are (rest ++ o)));
-    })
+brackets_fresh : (around : Around) (p : Properties) (b : Brackets) → AreBrackets b → (Text : ℕ → List ℕ → Type 0)
+    (room : ℕ) (t o : List ℕ) → IsBracketText b Text p room around.indent t → Fresh around (t ++ o)
+brackets_fresh around p b are Text room t o (left, opening, inside, r, (front, w, before, parts, e), h, is) =
+    let rest = w ++ (inside ++ (b.closing ∷ [])) in
+    fresh_so around (t ++ o) (front ++ (b.opening ∷ (rest ++ o)))
+    (ap (λ (x : List ℕ). x ++ o) (whole_text t opening front w inside b.opening b.closing is e)
+    ∙ append_assoc front (b.opening ∷ rest) o)
+    (fresh_front around p front (b.opening ∷ (rest ++ o)) before (fresh_bracket around b are (rest ++ o)))
 
-pub key_node_first : (around : Around) (room : ℕ) (node : Node) (t o : List ℕ) → IsFlowNode room node false
-    around.indent t
-    → FirstOf around t o
-key_node_first around room (Alias name) t o h =
-    record { begins = subst Begins (sym h.1) (alias_first name); fresh = fresh_alias around name t o h }
-key_node_first around room (Scalar p style value) t o h = scalar_first around p style value t o h
-key_node_first around room (Seq p nodes) t o (left, opening, inside, r, (front, w, f, parts, e), h, is) =
-    brackets_first around p square are_square t o front (w ++ (inside ++ (93 ∷ [])))
-    (whole_text t opening front w inside 91 93 is e) f
-key_node_first around room (Map p pairs) t o (left, opening, inside, r, (front, w, f, parts, e), h, is) =
-    brackets_first around p curly are_curly t o front (w ++ (inside ++ (125 ∷ [])))
-    (whole_text t opening front w inside 123 125 is e) f
+pub key_node_fresh : (around : Around) (room : ℕ) (node : Node) (t o : List ℕ)
+    → IsFlowNode room node false around.indent t → Fresh around (t ++ o)
+key_node_fresh around room (Alias name) t o h = fresh_alias around name t o h
+key_node_fresh around room (Scalar p style value) t o h = scalar_fresh around p style value t o h
+key_node_fresh around room (Seq p nodes) t o h =
+    brackets_fresh around p square are_square (λ left. AreItems left nodes around.indent) room t o h
+key_node_fresh around room (Map p pairs) t o h =
+    brackets_fresh around p curly are_curly (λ left. AreFlowPairs left pairs around.indent) room t o h

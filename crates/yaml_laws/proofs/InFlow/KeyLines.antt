@@ -1,7 +1,7 @@
 -- Tokens on the line of a key at block level: the scanner keeps the place where the key begins.
 use Rattle.std.proofs.Common.{◌≡◌, ℕ, ◌+◌, ◌≤◌, Bool, true, false, List, [], ◌∷◌, ◌++◌, length, slice_index, Ok, refl, ap, ◌∙◌, arith}
 use Rattle.std.proofs.Math.Nat.{zero-add}
-use Rattle.std.specs.Prelude.{◌-◌, ◌&&◌, ◌==◌, not, nat_lt, nat_le, Option, Some}
+use Rattle.std.specs.Prelude.{◌-◌, ◌&&◌, ◌==◌, not, nat_lt, nat_le, Option, Some, None}
 use Rattle.std.proofs.lemmas.Bool.Decides.{nat_tests}
 use Rattle.saphyr_input.specs.Classes.{is_blank}
 use Rattle.saphyr_input.specs.Places.{is_document_start, is_document_end}
@@ -23,7 +23,7 @@ use Rattle.yaml_laws.proofs.InFlow.States.{Around, core_at, state_at, least, lea
 use Rattle.yaml_laws.proofs.Flow.States.{moved, IsInk}
 use Rattle.yaml_laws.proofs.Flow.Gaps.{right_tab as no_left_tab}
 use Rattle.yaml_laws.proofs.Flow.Fillers.{right_tab, no_feed, blanks_past}
-use Rattle.yaml_laws.proofs.Flow.Arrivals.{BeginsToken}
+use Rattle.yaml_laws.proofs.Flow.Tokens.{BeginsToken}
 use Rattle.saphyr_scalar.proofs.Given.{cursor_at}
 use Rattle.saphyr_input.proofs.Basics.Numbers.{le_next}
 use Rattle.saphyr_input.proofs.Basics.Characters.{no_return}
@@ -34,7 +34,7 @@ use Rattle.saphyr_scanner.proofs.Gaps.{stop_here}
 
 -- ## A key is kept on its line
 
--- a place on the line of a key, at most 1,024 characters behind its start
+-- a place on the line of a key, at most 1,024 characters after its start
 pub record IsNear (k : Candidate) (m : Marker) : Type 0 where
   pub line : m.line ≡ k.mark.line
   pub index : m.index ≤ k.mark.index + 1024
@@ -97,7 +97,7 @@ line_arrives around d s k ad ps w c cs is are ink right near =
 
 -- ## A token is about to be read
 
--- The scanner reads a token of the key that is kept, which stands at e, where the text is t.
+-- The scanner reads a token of the key that is kept, which is at e, where the text is t.
 pub record Ready (around : Around) (start : State) (k : Candidate) (t : List ℕ) (e : Marker) (ad : ℕ)
     (qs : List Place) : Type 0 where
   pub deeper : Bool
@@ -107,7 +107,7 @@ pub record Ready (around : Around) (start : State) (k : Candidate) (t : List ℕ
       ≡ after_step (step (slice_index t 0) (slice_index t 1) (length qs)
       (core_at around deeper (cursor_at t e blank) context.Block (Some k) [] false ad)) (queue_of qs)
 
--- content stands no further left than its collection's entries
+-- content is no further left than its collection's entries
 begins_low : (around : Around) (d : Bool) (s : Cursor) (k : Option Candidate) (a : Bool) (ad : ℕ) (ps : List Place)
     → BeginsToken s.mark s.rest → nat_lt s.mark.col (least around.indent d) ≡ false
     → fetch_here (state_at around (moment s context.Block k [] a ad ps) d)
@@ -123,7 +123,7 @@ reaches_low : (around : Around) (d : Bool) (m : Marker) → around.indent ≤ m.
 reaches_low around d m right =
     let low = least_low around.indent d in le-ltb m.col (least around.indent d) (omega (arith, low, right))
 
--- behind another token of the key
+-- after another token of the key
 pub later_ready : (around : Around) (d : Bool) (s : Cursor) (k : Candidate) (ad : ℕ) (ps : List Place) (w : List ℕ)
     (c : ℕ) (cs : List ℕ) → s.rest ≡ w ++ (c ∷ cs) → AreIn is_blank w → IsInk c
     → around.indent ≤ s.mark.col → IsNear k (moved s.mark w) → BeginsToken (moved s.mark w) (c ∷ cs)
@@ -144,7 +144,7 @@ later_ready around d s k ad ps w c cs is are ink right near token =
           ∙ ap (λ (i : ℕ). after_step (step c (slice_index cs 0) i core) (queue_of ps)) (zero-add (length ps));
     }
 
--- whether a key has to stand at a column
+-- whether a key has to be at a column
 abbrev pub is_required : Around → Bool → Marker → Bool
 is_required around d m = not d && (around.indent == m.col + 1)
 
@@ -158,7 +158,7 @@ keyed around d m = record {
   required = is_required around d m;
 }
 
--- whether content has to stand further right at a key's line
+-- whether content has to be further right at a key's line
 abbrev pub deeper_at : Around → Bool → Marker → Bool
 deeper_at around d m = d && nat_le around.indent m.col
 
@@ -206,7 +206,8 @@ first_ready around calm d blank k ad ps m c cs ink right token fresh =
     let e = deeper_at around d m in
     let gapped = ink_gap (least around.indent d) c cs ink m blank ∙ stop_here m blank false (c ∷ cs) in
     let passed = ap (λ r. r >>= λ (p : GapEnd). check_comment (behind_gap here p)) gapped in
-    let reached = ap (λ r. r >>= drop_far_key) passed ∙ drops_far_key around d there context.Block k [] true ad calm in
+    let reached = ap (λ r. r >>= drop_far_key) passed ∙ drops_far_key around None d there context.Block k [] true ad
+    calm in
     let arrived = ap (λ r. on_core r (queue_of ps) >>= λ (t : State). Ok
     (unroll (Some t.core.cursor.mark.col) t.core.cursor.mark t)) reached
     ∙ ap Ok (no_ends m.col m around.outers (state_at around (moment there context.Block left [] true ad ps) e)

@@ -22,7 +22,7 @@ use Rattle.yaml_laws.proofs.InFlow.KeyTokens.{InKey, in_back, in_so, Along, alon
 use Rattle.yaml_laws.proofs.InFlow.KeyScalars.{Blanks, no_blanks, colon_text, colon_after, ContentReads, scalar_reads, plain_key_reads}
 use Rattle.yaml_laws.proofs.Flow.States.{moved, ReaderPromises}
 use Rattle.yaml_laws.proofs.Flow.Places.{moved_append}
-use Rattle.yaml_laws.proofs.Flow.Ends.{tag_ends_name, white_ends_tag}
+use Rattle.yaml_laws.proofs.Flow.Ends.{white_ends_tag}
 use Rattle.yaml_laws.proofs.Flow.ScalarNodes.{empty_are, bare_are, separation_ends, full_are}
 
 -- ## Keys
@@ -51,21 +51,26 @@ alias_key reads around start name k qs p n r e ad h apart text low ready =
     record {
       tokens = alias_token name ∷ [];
       are = refl;
-      along = alias_along reads around start k qs name p n.text (58 ∷ r) n.text (58 ∷ r) e ad h
-          (tag_ends_name false (colon_text n r) (some_blank n.text r n.are apart)) text refl n.are low ready;
+      along = alias_along reads around k name start qs p n.text (58 ∷ r) n.text (58 ∷ r) e ad h
+          (some_blank n.text r n.are apart) text refl n.are low ready;
     }
 
 empty_key : ReaderPromises → (around : Around) (start : State) (p : Properties) (k : Candidate) (qs : List Place)
     (t : List ℕ)
-    (n : Blanks) (r : List ℕ) (e : Marker) (ad : ℕ) → IsProperties p around.indent t → IsBeforeColon (Scalar p Plain []) n.text
+    (n : Blanks) (r : List ℕ) (e : Marker) (ad : ℕ) → IsProperties p around.indent t
+    → IsBeforeColon (Scalar p Plain []) n.text
     → InKey around k e (t ++ n.text) (colon ∷ r) → ad ≤ e.index → Ready around start k (t ++ colon_text n r) e ad qs
     → KeyAlong around start (Scalar p Plain []) k qs (colon_after e t n) (colon ∷ r)
 empty_key reads around start p k qs t n r e ad h apart text low ready =
     let a = properties_along reads around start k qs p.anchor p.tag t n.text (58 ∷ r) n.text (58 ∷ r) e ad h
     (some_blank n.text r n.are apart) text refl n.are low ready in
-    record { tokens = a.tokens; are = empty_are p around.indent t a.tokens grammar.InBlockMapping h a.are; along = a.along }
+    record {
+      tokens = a.tokens;
+      are = empty_are p around.indent t a.tokens grammar.InBlockMapping h a.are;
+      along = a.along;
+    }
 
--- what stands behind properties: separation on the line
+-- what comes after properties: separation on the line
 pub record Fronted (around : Around) (start : State) (p : Properties) (k : Candidate) (qs : List Place) (m : Marker)
     (y : List ℕ) : Type 0 where
   pub tokens : List Kind

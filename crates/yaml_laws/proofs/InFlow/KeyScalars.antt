@@ -35,16 +35,16 @@ use Rattle.yaml_laws.proofs.Flow.Places.{moved_index, clear_front}
 use Rattle.yaml_laws.proofs.Flow.GapSteps.{past_ink}
 use Rattle.yaml_laws.proofs.InBlock.Skips.{blanks_cross}
 use Rattle.yaml_laws.proofs.Flow.Fillers.{blanks_past}
-use Rattle.yaml_laws.proofs.Flow.Arrivals.{PassesGap}
+use Rattle.yaml_laws.proofs.Flow.Tokens.{PassesGap}
 use Rattle.yaml_laws.proofs.Flow.Separates.{separates}
-use Rattle.yaml_laws.proofs.Flow.Quotes.{EndsQuotes, style_of_quote, quote_first, behind_step, quoted_step}
+use Rattle.yaml_laws.proofs.Flow.Quotes.{EndsQuotes, style_of_quote, behind_step, quoted_step}
 use Rattle.yaml_laws.proofs.Flow.Plains.{BeginsWord, word_begins, key_begins, token_begins, plain_step}
 use Rattle.yaml_laws.proofs.Flow.Words.{plain_text, key_text}
-use Rattle.yaml_laws.proofs.Flow.Tokens.{Begins}
 use Rattle.std.proofs.lemmas.Bool.{eq-eqb}
 use Rattle.saphyr_input.specs.Indicators.{apostrophe, colon, number_sign}
 use Rattle.saphyr_input.proofs.Basics.Booleans.{clash}
 use Rattle.saphyr_scanner.proofs.Gaps.{stop_here}
+use Rattle.yaml_laws.proofs.Flow.Inks.{Begins, scalar_begins}
 
 pub colon_ink : IsInk 58
 colon_ink = record { blank = refl; break = refl; comment = refl; byte_order_mark = refl }
@@ -57,7 +57,7 @@ pub record Blanks : Type 0 where
 abbrev pub no_blanks : Blanks
 no_blanks = record { text = []; are = tt }
 
--- the blanks and the colon behind a key
+-- the blanks and the colon after a key
 abbrev pub colon_text : Blanks → List ℕ → List ℕ
 colon_text n r = n.text ++ (58 ∷ r)
 
@@ -187,7 +187,8 @@ pub plain_key_along : ReaderPromises
 plain_key_along reads around start k qs c cs r e ad h white text low ready =
     let clear = clear_front e (c ∷ cs) [] (58 ∷ r) text.clear in
     text_along reads around start k qs c cs no_blanks r e ad (key_begins false around.indent (c ∷ cs) r h)
-    (key_text false around.indent e (c ∷ cs) r h clear (key_ends_plain around.indent (moved e (c ∷ cs)) no_blanks r (in_right k e c cs [] (58 ∷ r) text) white)) text
+    (key_text false around.indent e (c ∷ cs) r h clear (key_ends_plain around.indent (moved e (c ∷ cs)) no_blanks r
+    (in_right k e c cs [] (58 ∷ r) text) white)) text
     low ready
 
 -- ## Quoted scalars
@@ -212,7 +213,7 @@ gap_to_colon around d s k ad m r is at_colon =
     ap (λ q. q >>= λ (p : GapEnd). check_comment (behind_gap (core_at around d s context.Block (Some k) [] false ad) p))
     gapped
 
--- what stands behind the closing quote, and the colon
+-- what comes after the closing quote, and the colon
 record KeyQuotes (around : Around) (start : Marker) (m : Marker) (n : Blanks) (r : List ℕ) : Type 0 where
   ends : EndsQuotes around start (mid_line m (colon_text n r)) context.Block
   rest : ends.there.rest ≡ colon ∷ r
@@ -247,7 +248,8 @@ no_quote (c ∷ cs) r are = no_apostrophe c are.0
     no_apostrophe c h = grind (arith, nat_tests)
 
 pub quotes_along : ReaderPromises
-    → (around : Around) (start : State) (k : Candidate) (qs : List Place) (quote : Quote) (value t : List ℕ) (n : Blanks)
+    → (around : Around) (start : State) (k : Candidate) (qs : List Place) (quote : Quote) (value t : List ℕ)
+    (n : Blanks)
     (r : List ℕ) (e : Marker) (ad : ℕ) → IsQuoted quote around.indent value t
     → InKey around k e (t ++ n.text) (colon ∷ r) → Ready around start k (t ++ colon_text n r) e ad qs
     → Along around start k qs (colon_after e t n) (colon ∷ r) (scalar_token (style_of_quote quote) value ∷ [])
@@ -274,7 +276,8 @@ quotes_along reads around start k qs quote value t n r e ad h text ready =
     } in
     let first : slice_index (t ++ o) 0 ≡ mark quote = ap (λ (y : List ℕ). slice_index (y ++ o) 0) h.5 in
     let there = cursor_at (58 ∷ r) m shut.blank_so_far in
-    let stepped = quoted_step reads around ready.deeper quote (length qs) e ready.blank value t o h clear (no_quote n.text r n.are)
+    let stepped = quoted_step reads around ready.deeper quote (length qs) e ready.blank value t o h clear
+    (no_quote n.text r n.are)
     context.Block (Some k) [] false ad (slice_index (t ++ o) 0) first (behind_key refl refl)
     ∙ behind_step around ready.deeper e (style_of_quote quote) (encode_utf8_all value)
     (mid_line end o) context.Block (Some k)
@@ -308,7 +311,8 @@ some_first : (in_flow : Bool) (indent : ℕ) (t : List ℕ) → IsPlain in_flow 
 some_first in_flow indent t h = let w = word_begins in_flow indent t [] h in (w.first, w.others, w.is)
 
 pub content_along : ReaderPromises
-    → (around : Around) (start : State) (k : Candidate) (qs : List Place) (style : Style) (value t : List ℕ) (n : Blanks)
+    → (around : Around) (start : State) (k : Candidate) (qs : List Place) (style : Style) (value t : List ℕ)
+    (n : Blanks)
     (r : List ℕ) (e : Marker) (ad : ℕ) → IsFlowScalar style value false around.indent t
     → is_blank_or_breakz (slice_index r 0) ≡ true → InKey around k e (t ++ n.text) (colon ∷ r) → ad ≤ e.index
     → Ready around start k (t ++ colon_text n r) e ad qs
@@ -328,26 +332,20 @@ content_along reads around start k qs Literal value t n r e ad h white text low 
 content_along reads around start k qs Folded value t n r e ad h white text low ready = absurd h
 
 -- how the content of a key is read, before spaces and its colon
-pub record ContentReads (around : Around) (style : Style) (value content : List ℕ) (n : Blanks) (r : List ℕ) : Type 0 where
-  pub begins : Begins content
-  pub along : (start : State) (k : Candidate) (qs : List Place) (e : Marker) (ad : ℕ)
-      → InKey around k e (content ++ n.text) (colon ∷ r) → ad ≤ e.index
-      → Ready around start k (content ++ colon_text n r) e ad qs
-      → Along around start k qs (colon_after e content n) (colon ∷ r) (scalar_token style value ∷ [])
-
-pub scalar_begins : (indent : ℕ) (style : Style) (value t : List ℕ) → IsFlowScalar style value false indent t → Begins t
-scalar_begins indent Plain value t h = token_begins false t [] (word_begins false indent t [] h.0)
-scalar_begins indent SingleQuoted value t h = subst Begins (sym h.5) (quote_first Single h.0)
-scalar_begins indent DoubleQuoted value t h = subst Begins (sym h.5) (quote_first Double h.0)
-scalar_begins indent Literal value t h = absurd h
-scalar_begins indent Folded value t h = absurd h
+pub record ContentReads (around : Around) (style : Style) (value content : List ℕ) (n : Blanks) (r : List ℕ) : Type 0
+  where
+    pub begins : Begins content
+    pub along : (start : State) (k : Candidate) (qs : List Place) (e : Marker) (ad : ℕ)
+        → InKey around k e (content ++ n.text) (colon ∷ r) → ad ≤ e.index
+        → Ready around start k (content ++ colon_text n r) e ad qs
+        → Along around start k qs (colon_after e content n) (colon ∷ r) (scalar_token style value ∷ [])
 
 pub scalar_reads : ReaderPromises → (around : Around) (style : Style) (value content : List ℕ) (n : Blanks) (r : List ℕ)
     → IsFlowScalar style value false around.indent content → is_blank_or_breakz (slice_index r 0) ≡ true
     → ContentReads around style value content n r
 scalar_reads reads around style value content n r h white =
     record {
-      begins = scalar_begins around.indent style value content h;
+      begins = scalar_begins around.indent style value false content h;
       along =
           λ start k qs e ad text low ready. content_along reads around start k qs style value content n r e ad h white
           text low ready;

@@ -1,8 +1,8 @@
--- The tokens of a key on one line at block level, one behind the other.
+-- The tokens of a key on one line at block level, one after the other.
 use Rattle.std.proofs.Common.{◌≡◌, ◌≢◌, ℕ, suc, ◌+◌, ◌≤◌, Bool, false, List, [], ◌∷◌, ◌++◌, length, slice_index, refl, sym, ap, ◌∙◌, arith, subst, append_assoc, inl, inr, encode_utf8_all}
 use Rattle.std.specs.Prelude.{option_map, Option, Some, None}
 use Rattle.std.proofs.lemmas.List.{length-append}
-use Rattle.saphyr_input.specs.Classes.{is_blank, is_break, is_anchor_char}
+use Rattle.saphyr_input.specs.Classes.{is_blank, is_break}
 use Rattle.saphyr_scalar.specs.declared.scalar.position.Marker.{Marker}
 use Rattle.saphyr_scalar.specs.Views.Cursor.{Cursor, along}
 use Rattle.saphyr_scalar.specs.Steps.Quoted.{mid_line}
@@ -31,16 +31,15 @@ use Rattle.yaml_laws.proofs.InFlow.ScalarsOnLine.{front_on_line, back_on_line, g
 use Rattle.yaml_laws.proofs.InFlow.KeyLines.{IsNear, Ready, later_ready, token_led}
 use Rattle.yaml_laws.proofs.Flow.States.{moved, IsClear, ReaderPromises}
 use Rattle.yaml_laws.proofs.Flow.Places.{moved_append, moved_index, moved_along, clear_front, clear_back}
-use Rattle.yaml_laws.proofs.Flow.Arrivals.{BeginsToken}
-use Rattle.yaml_laws.proofs.Flow.Tokens.{Begins, begins_token}
-use Rattle.yaml_laws.proofs.Flow.Names.{name_step, begins_anchor, begins_alias, anchor_first, tag_step, begins_tag}
-use Rattle.yaml_laws.proofs.Flow.Tags.{tag_read, tag_first}
+use Rattle.yaml_laws.proofs.Flow.Tokens.{BeginsToken, begins_token}
+use Rattle.yaml_laws.proofs.Flow.Names.{name_step, begins_anchor, begins_alias, tag_step, begins_tag, tag_read, tag_first}
 use Rattle.yaml_laws.proofs.Flow.Ends.{tag_ends_name, white_ends_tag}
 use Rattle.yaml_laws.proofs.Flow.Properties.{blank_first}
+use Rattle.yaml_laws.proofs.Flow.Inks.{Begins, tag_begins, anchor_begins}
 
 -- ## The rest of a key
 
--- The rest of a key, with the spaces before its colon, stands at e: it is on the key's line, and clear, and near.
+-- The rest of a key, with the spaces before its colon, is at e: it is on the key's line, and clear, and near.
 pub record InKey (around : Around) (k : Candidate) (e : Marker) (q behind : List ℕ) : Type 0 where
   pub line : e.line ≡ k.mark.line
   pub index : e.index + length q ≤ k.mark.index + 1024
@@ -87,7 +86,7 @@ in_back {around} k e a b behind h =
     within : (p q n : ℕ) → n ≡ p + q → e.index + n ≤ around.limit → e.index + p + q ≤ around.limit
     within p q n s h = omega (arith, s, h)
 
--- behind a character of a key stands nothing left of its collection
+-- after a character of a key is nothing left of its collection
 pub in_right : {around : Around} (k : Candidate) (e : Marker) (c : ℕ) (cs b behind : List ℕ)
     → InKey around k e ((c ∷ cs) ++ b) behind → around.indent ≤ (moved e (c ∷ cs)).col
 in_right {around} k e c cs b behind h =
@@ -111,7 +110,7 @@ in_so {around} k e p q behind is h = subst (λ (t : List ℕ). InKey around k e 
 
 -- ## What was read of a key
 
--- The scanner has read these tokens of a key, and y stands at m behind blanks on the line.
+-- The scanner has read these tokens of a key, and y is at m after blanks on the line.
 pub record Along (around : Around) (start : State) (k : Candidate) (qs : List Place) (m : Marker) (y : List ℕ)
     (ts : List Kind) : Type 0 where
   pub deeper : Bool
@@ -209,19 +208,26 @@ ends_there {around} {start} {k} {qs} e c cs b behind w y ad kind deeper h is are
       low = omega (arith, one, two, low);
     }
 
-pub name_along : ReaderPromises → (around : Around) (start : State) (k : Candidate) (qs : List Place) (token_of : List ℕ
-    → Kind)
-    (indicator : ℕ) (name b behind w y : List ℕ) (e : Marker) (ad : ℕ)
-    → ((second n : ℕ) (c : Core) → step indicator second n c ≡ property.name_steps token_of n c)
+-- a text of Is before what ends a tag is read as a token of this kind
+abbrev pub ReadsInKey : Around → Candidate → (List ℕ → Type 0) → Kind → Type 0
+ReadsInKey around k Is kind =
+    (start : State) (qs : List Place) (t b behind w y : List ℕ) (e : Marker) (ad : ℕ) → Is t
+    → EndsTag false (b ++ behind) → InKey around k e (t ++ b) behind → b ++ behind ≡ w ++ y → AreIn is_blank w
+    → ad ≤ e.index → Ready around start k (t ++ (b ++ behind)) e ad qs
+    → Along around start k qs (moved (moved e t) w) y (kind ∷ [])
+
+name_along : ReaderPromises → (around : Around) (k : Candidate) (token_of : List ℕ → Kind) (indicator : ℕ)
+    (name : List ℕ) → ((second n : ℕ) (c : Core) → step indicator second n c ≡ property.name_steps token_of n c)
     → is_break indicator ≡ false
-    → IsAnchorName name → is_anchor_char (slice_index (b ++ behind) 0) ≡ false
-    → InKey around k e ((indicator ∷ name) ++ b) behind → b ++ behind ≡ w ++ y → AreIn is_blank w → ad ≤ e.index
-    → Ready around start k ((indicator ∷ name) ++ (b ++ behind)) e ad qs
-    → Along around start k qs (moved (moved e (indicator ∷ name)) w) y (token_of (encode_utf8_all name) ∷ [])
-name_along reads around start k qs token_of indicator name b behind w y e ad begins break h ends text is are low r =
+    → ReadsInKey around k (λ t. IsAnchorName name × (t ≡ indicator ∷ name)) (token_of (encode_utf8_all name))
+name_along reads around k token_of indicator name begins break start qs t b behind w y e ad (h, e_is) ends_tag whole is
+    are low at =
     let o = b ++ behind in
     let end = moved e (indicator ∷ name) in
     let kind = token_of (encode_utf8_all name) in
+    let ends = tag_ends_name false o ends_tag in
+    subst (λ (p : List ℕ). InKey around k e (p ++ b) behind → Ready around start k (p ++ o) e ad qs
+    → Along around start k qs (moved (moved e p) w) y (kind ∷ [])) (sym e_is) (λ text r.
     let inside = in_back k e (indicator ∷ name) b behind text in
     let stepped = begins (slice_index (name ++ o) 0) (length qs)
     (core_at around r.deeper (cursor_at (indicator ∷ (name ++ o)) e r.blank) context.Block (Some k) [] false ad)
@@ -229,40 +235,19 @@ name_along reads around start k qs token_of indicator name b behind w y e ad beg
     (Some k) [] false ad (behind_key refl refl) in
     ends_there e indicator name b behind w y ad kind r.deeper text is are low
     (token_led around start k ((indicator ∷ name) ++ o) e ad qs r end kind (mid_line end o) ad (λ d. d) stepped
-    (in_near k end b behind inside) (in_limit k end b behind inside))
+    (in_near k end b behind inside) (in_limit k end b behind inside))) whole at
 
-pub anchor_along : ReaderPromises
-    → (around : Around) (start : State) (k : Candidate) (qs : List Place) (name t b behind w y : List ℕ) (e : Marker)
-    (ad : ℕ) → IsAnchor name t → is_anchor_char (slice_index (b ++ behind) 0) ≡ false
-    → InKey around k e (t ++ b) behind → b ++ behind ≡ w ++ y → AreIn is_blank w → ad ≤ e.index
-    → Ready around start k (t ++ (b ++ behind)) e ad qs
-    → Along around start k qs (moved (moved e t) w) y (anchor_token name ∷ [])
-anchor_along reads around start k qs name t b behind w y e ad h ends text is are low r =
-    subst (λ (p : List ℕ). InKey around k e (p ++ b) behind → Ready around start k (p ++ (b ++ behind)) e ad qs
-    → Along around start k qs (moved (moved e p) w) y (anchor_token name ∷ [])) (sym h.1)
-    (λ i z. name_along reads around start k qs tokens.Anchor 38 name b behind w y e ad begins_anchor refl h.0 ends i is
-    are low
-    z) text r
+anchor_along : ReaderPromises → (around : Around) (k : Candidate) (name : List ℕ)
+    → ReadsInKey around k (IsAnchor name) (anchor_token name)
+anchor_along reads around k name = name_along reads around k tokens.Anchor 38 name begins_anchor refl
 
-pub alias_along : ReaderPromises → (around : Around) (start : State) (k : Candidate) (qs : List Place)
-    (name t b behind w y : List ℕ) (e : Marker) (ad : ℕ) → IsAlias name t
-    → is_anchor_char (slice_index (b ++ behind) 0) ≡ false
-    → InKey around k e (t ++ b) behind → b ++ behind ≡ w ++ y → AreIn is_blank w → ad ≤ e.index
-    → Ready around start k (t ++ (b ++ behind)) e ad qs
-    → Along around start k qs (moved (moved e t) w) y (alias_token name ∷ [])
-alias_along reads around start k qs name t b behind w y e ad h ends text is are low r =
-    subst (λ (p : List ℕ). InKey around k e (p ++ b) behind → Ready around start k (p ++ (b ++ behind)) e ad qs
-    → Along around start k qs (moved (moved e p) w) y (alias_token name ∷ [])) (sym h.1)
-    (λ i z. name_along reads around start k qs tokens.Alias 42 name b behind w y e ad begins_alias refl h.0 ends i is
-    are low z)
-    text r
+pub alias_along : ReaderPromises → (around : Around) (k : Candidate) (name : List ℕ)
+    → ReadsInKey around k (IsAlias name) (alias_token name)
+alias_along reads around k name = name_along reads around k tokens.Alias 42 name begins_alias refl
 
-pub tag_along : ReaderPromises → (around : Around) (start : State) (k : Candidate) (qs : List Place) (tag : Tag)
-    (t b behind w y : List ℕ) (e : Marker) (ad : ℕ) → IsTag tag t → EndsTag false (b ++ behind)
-    → InKey around k e (t ++ b) behind → b ++ behind ≡ w ++ y → AreIn is_blank w → ad ≤ e.index
-    → Ready around start k (t ++ (b ++ behind)) e ad qs
-    → Along around start k qs (moved (moved e t) w) y (tag_token tag ∷ [])
-tag_along reads around start k qs tag t b behind w y e ad h ends text is are low r =
+tag_along : ReaderPromises → (around : Around) (k : Candidate) (tag : Tag)
+    → ReadsInKey around k (IsTag tag) (tag_token tag)
+tag_along reads around k tag start qs t b behind w y e ad h ends text is are low r =
     let o = b ++ behind in
     let g = tag_read tag t h in
     let f = tag_first t g.handle g.suffix g.is in
@@ -286,7 +271,7 @@ tag_along reads around start k qs tag t b behind w y e ad h ends text is are low
 
 -- ## Properties
 
--- the tokens of properties, and what stands behind them
+-- the tokens of properties, and what comes after them
 pub record PropertiesAlong (around : Around) (start : State) (k : Candidate) (qs : List Place)
     (anchor : Option (List ℕ)) (tag : Option Tag) (m : Marker) (y : List ℕ) : Type 0 where
   pub tokens : List Kind
@@ -295,22 +280,6 @@ pub record PropertiesAlong (around : Around) (start : State) (k : Candidate) (qs
 
 blanks_end_tag : (w y : List ℕ) → (w ≢ []) × AreIn is_blank w → EndsTag false (w ++ y)
 blanks_end_tag w y h = white_ends_tag false (w ++ y) (blank_first w y h)
-
-pub tag_begins : (tag : Tag) (t : List ℕ) → IsTag tag t → Begins t
-tag_begins tag t h =
-    let g = tag_read tag t h in
-    let f = tag_first t g.handle g.suffix g.is in
-    record {
-      first = 33;
-      others = f.0;
-      is = f.1;
-      ink = record { blank = refl; break = refl; comment = refl; byte_order_mark = refl };
-      nul = refl;
-      directive = refl;
-    }
-
-pub anchor_begins : (name t : List ℕ) → IsAnchor name t → Begins t
-anchor_begins name t h = subst Begins (sym h.1) (anchor_first name)
 
 -- two texts with blanks between
 spaced_parts : (t a s c b : List ℕ) → t ≡ a ++ (s ++ c) → t ++ b ≡ a ++ (s ++ (c ++ b))
@@ -323,6 +292,32 @@ blanks_between : (a s c t : List ℕ) (indent : ℕ) → IsGap indent s → t �
 blanks_between a s c t indent h e line =
     gap_of_blanks indent s h (front_on_line s c (s ++ c) refl (back_on_line a (s ++ c) t e line))
 
+-- two properties with a gap between
+both_along : {around : Around} {k : Candidate} {P Q : List ℕ → Type 0} {i j : Kind} → ReadsInKey around k P i
+    → ReadsInKey around k Q j → ((t : List ℕ) → Q t → Begins t) → (start : State) (qs : List Place)
+    (t a s c b behind w y : List ℕ) (e : Marker) (ad : ℕ) → P a → IsGap around.indent s → Q c → t ≡ a ++ (s ++ c)
+    → EndsTag false (b ++ behind) → InKey around k e (t ++ b) behind → b ++ behind ≡ w ++ y → AreIn is_blank w
+    → ad ≤ e.index → Ready around start k (t ++ (b ++ behind)) e ad qs
+    → Along around start k qs (moved (moved e t) w) y (i ∷ j ∷ [])
+both_along {around} {k} {i = i} {j} p q begins start qs t a s c b behind w y e ad h gapped g t_is ends text is are low
+    r =
+    let o = b ++ behind in
+    let rest = s ++ (c ++ b) in
+    let spaced = blanks_between a s c t around.indent gapped t_is (front_on_line t b (t ++ b) refl text.on_line) in
+    let whole = in_so k e (t ++ b) (a ++ rest) behind (spaced_parts t a s c b t_is) text in
+    let behind_is : rest ++ behind ≡ s ++ (c ++ o) = append_assoc s (c ++ b) behind
+    ∙ ap (λ (x : List ℕ). s ++ x) (append_assoc c b behind) in
+    let there = subst (λ (x : List ℕ). Ready around start k x e ad qs)
+    (spaced_parts t a s c o t_is ∙ ap (λ (x : List ℕ). a ++ x) (sym behind_is)) r in
+    let first = p start qs a rest behind s (c ++ o) e ad h
+    (subst (EndsTag false) (sym behind_is) (blanks_end_tag s (c ++ o) spaced)) whole behind_is spaced.1 low there in
+    let inside = in_back k (moved e a) s (c ++ b) behind (in_back k e a rest behind whole) in
+    let next = along_ready c o b behind first (begins c g) inside refl in
+    let second = q _ _ c b behind w y (moved (moved e a) s) first.adjacent g ends inside is are first.low next in
+    let place : moved (moved (moved e a) s) c ≡ moved e t =
+    sym (ap (moved e) t_is ∙ moved_append e a (s ++ c) ∙ moved_append (moved e a) s c) in
+    subst (λ (m : Marker). Along around start k qs (moved m w) y (i ∷ j ∷ [])) place (along_joins first second)
+
 pub properties_along : ReaderPromises
     → (around : Around) (start : State) (k : Candidate) (qs : List Place) (anchor : Option (List ℕ)) (tag : Option Tag)
     (t b behind w y : List ℕ) (e : Marker) (ad : ℕ) → yaml.AreProperties anchor tag around.indent t
@@ -334,65 +329,29 @@ properties_along reads around start k qs (Some name) None t b behind w y e ad h 
     record {
       tokens = anchor_token name ∷ [];
       are = refl;
-      along = anchor_along reads around start k qs name t b behind w y e ad h
-          (tag_ends_name false (b ++ behind) ends) text is are low r;
+      along = anchor_along reads around k name start qs t b behind w y e ad h ends text is are low r;
     }
 properties_along reads around start k qs None (Some tag) t b behind w y e ad h ends text is are low r =
     record {
       tokens = tag_token tag ∷ [];
       are = refl;
-      along = tag_along reads around start k qs tag t b behind w y e ad h ends text is are low r;
+      along = tag_along reads around k tag start qs t b behind w y e ad h ends text is are low r;
     }
 properties_along reads around start k qs (Some name) (Some tag) t b behind w y e ad (a, s, c, h, g, gapped, inl t_is)
     ends text is are low r =
-    let o = b ++ behind in
-    let rest = s ++ (c ++ b) in
-    let spaced = blanks_between a s c t around.indent gapped t_is
-    (front_on_line t b (t ++ b) refl text.on_line) in
-    let whole = in_so k e (t ++ b) (a ++ rest) behind (spaced_parts t a s c b t_is) text in
-    let behind_is : rest ++ behind ≡ s ++ (c ++ o) = append_assoc s (c ++ b) behind
-    ∙ ap (λ (x : List ℕ). s ++ x) (append_assoc c b behind) in
-    let there = subst (λ (x : List ℕ). Ready around start k x e ad qs)
-    (spaced_parts t a s c o t_is ∙ ap (λ (x : List ℕ). a ++ x) (sym behind_is)) r in
-    let first = anchor_along reads around start k qs name a rest behind s (c ++ o) e ad h
-    (tag_ends_name false (rest ++ behind) (subst (EndsTag false) (sym behind_is) (blanks_end_tag s (c ++ o) spaced)))
-    whole
-    behind_is spaced.1 low there in
-    let inside = in_back k (moved e a) s (c ++ b) behind (in_back k e a rest behind whole) in
-    let next = along_ready c o b behind first (tag_begins tag c g) inside refl in
-    let second = tag_along reads around _ k _ tag c b behind w y (moved (moved e a) s) first.adjacent g ends inside is
-    are first.low next in
-    let place : moved (moved (moved e a) s) c ≡ moved e t =
-    sym (ap (moved e) t_is ∙ moved_append e a (s ++ c) ∙ moved_append (moved e a) s c) in
     record {
       tokens = anchor_token name ∷ tag_token tag ∷ [];
       are = inl refl;
-      along = subst (λ (m : Marker). Along around start k qs (moved m w) y (anchor_token name ∷ tag_token tag ∷ []))
-          place (along_joins first second);
+      along = both_along (anchor_along reads around k name) (tag_along reads around k tag) (tag_begins tag) start qs t
+          a s
+          c b behind w y e ad h gapped g t_is ends text is are low r;
     }
 properties_along reads around start k qs (Some name) (Some tag) t b behind w y e ad (c, s, a, h, g, gapped, inr t_is)
     ends text is are low r =
-    let o = b ++ behind in
-    let rest = s ++ (c ++ b) in
-    let spaced = blanks_between a s c t around.indent gapped t_is
-    (front_on_line t b (t ++ b) refl text.on_line) in
-    let whole = in_so k e (t ++ b) (a ++ rest) behind (spaced_parts t a s c b t_is) text in
-    let behind_is : rest ++ behind ≡ s ++ (c ++ o) = append_assoc s (c ++ b) behind
-    ∙ ap (λ (x : List ℕ). s ++ x) (append_assoc c b behind) in
-    let there = subst (λ (x : List ℕ). Ready around start k x e ad qs)
-    (spaced_parts t a s c o t_is ∙ ap (λ (x : List ℕ). a ++ x) (sym behind_is)) r in
-    let first = tag_along reads around start k qs tag a rest behind s (c ++ o) e ad g
-    (subst (EndsTag false) (sym behind_is) (blanks_end_tag s (c ++ o) spaced)) whole behind_is spaced.1
-    low there in
-    let inside = in_back k (moved e a) s (c ++ b) behind (in_back k e a rest behind whole) in
-    let next = along_ready c o b behind first (anchor_begins name c h) inside refl in
-    let second = anchor_along reads around _ k _ name c b behind w y (moved (moved e a) s) first.adjacent h
-    (tag_ends_name false o ends) inside is are first.low next in
-    let place : moved (moved (moved e a) s) c ≡ moved e t =
-    sym (ap (moved e) t_is ∙ moved_append e a (s ++ c) ∙ moved_append (moved e a) s c) in
     record {
       tokens = tag_token tag ∷ anchor_token name ∷ [];
       are = inr refl;
-      along = subst (λ (m : Marker). Along around start k qs (moved m w) y (tag_token tag ∷ anchor_token name ∷ []))
-          place (along_joins first second);
+      along = both_along (tag_along reads around k tag) (anchor_along reads around k name) (anchor_begins name) start
+          qs t
+          a s c b behind w y e ad g gapped h t_is ends text is are low r;
     }

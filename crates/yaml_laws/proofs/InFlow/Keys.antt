@@ -1,5 +1,5 @@
 -- A node in flow style on one line at block level is read as a key.
-use Rattle.std.proofs.Common.{◌≡◌, ℕ, suc, ◌+◌, ◌≤◌, Bool, true, false, List, [], ◌∷◌, ◌++◌, length, slice_index, refl, sym, ap, arith, subst, inl, inr, IsTrue}
+use Rattle.std.proofs.Common.{◌≡◌, ℕ, suc, ◌+◌, ◌≤◌, Bool, true, false, List, [], ◌∷◌, ◌++◌, length, slice_index, refl, sym, ap, arith, subst, inl, inr, IsTrue, ◌∙◌, append_assoc}
 use Rattle.std.specs.Prelude.{Option, not, ◌==◌}
 use Rattle.std.proofs.lemmas.Bool.Decides.{nat_tests}
 use Rattle.saphyr_scalar.specs.Spelling.Tag.{AreIn}
@@ -10,27 +10,147 @@ use Rattle.saphyr_scanner.specs.declared.engine.level.Context.TheVariants as con
 use Rattle.saphyr_scanner.specs.Steps.Queue.{Place}
 use Rattle.saphyr_scanner.specs.Steps.Level.{Candidate}
 use Rattle.saphyr_scanner.specs.Steps.State.{State}
-use Rattle.saphyr_scanner.specs.Grammar.Forest.{Node, Alias, Scalar, Seq, Map}
+use Rattle.saphyr_scanner.specs.Grammar.Forest.{Node, Alias, Scalar, Seq, Map, Properties}
 use Rattle.saphyr_scanner.specs.Limits.{most_open}
-use Rattle.yaml_laws.specs.Grammar.FlowNodes.{IsOnLine, IsKeyText, IsBeforeColon, IsFlowNode}
+use Rattle.yaml_laws.specs.Grammar.FlowNodes.{IsOnLine, IsKeyText, IsBeforeColon, IsFlowNode, IsBeforeContent}
 use Rattle.yaml_laws.proofs.InFlow.States.{Around, state_at, moment}
 use Rattle.yaml_laws.proofs.InFlow.OnLine.{key_text_lowers}
 use Rattle.yaml_laws.proofs.InFlow.KeyLines.{Ready, Fresh, keyed, deeper_at, first_ready}
-use Rattle.yaml_laws.proofs.InFlow.KeyTokens.{InKey}
+use Rattle.yaml_laws.proofs.InFlow.KeyTokens.{InKey, in_back, in_right, in_so, Along, along_joins, along_ready}
 use Rattle.yaml_laws.proofs.InFlow.KeyScalars.{Blanks, colon_text, colon_after}
-use Rattle.yaml_laws.proofs.Flow.States.{moved, IsClear, ReaderPromises}
+use Rattle.yaml_laws.proofs.Flow.States.{moved, IsClear, ReaderPromises, FitsAround, IsParted}
 use Rattle.yaml_laws.proofs.Flow.Places.{clear_front}
-use Rattle.yaml_laws.proofs.Flow.Arrivals.{BeginsToken}
-use Rattle.yaml_laws.proofs.Flow.Tokens.{begins_token}
+use Rattle.yaml_laws.proofs.Flow.Tokens.{BeginsToken, begins_token}
 use Rattle.saphyr_scalar.proofs.Given.{cursor_at}
-use Rattle.yaml_laws.proofs.InFlow.KeyFirsts.{FirstOf, plain_key_first, key_node_first}
-use Rattle.yaml_laws.proofs.InFlow.KeyNodes.{KeyAlong, alias_key, scalar_key, plain_key}
-use Rattle.yaml_laws.proofs.InFlow.KeyBrackets.{sequence_key, mapping_key_reads}
+use Rattle.yaml_laws.proofs.InFlow.KeyFirsts.{plain_key_fresh, key_node_fresh}
+use Rattle.yaml_laws.proofs.InFlow.KeyNodes.{KeyAlong, alias_key, scalar_key, plain_key, fronted, front_parts, colon_after_parts}
+use Rattle.yaml_laws.proofs.InFlow.KeyCollections.{calmed, collection_along}
+use Rattle.yaml_laws.proofs.Flow.NodesPass.{sequence_read, mapping_read}
+use Rattle.scalar_laws.specs.Spelling.Spaces.{IsSeparation}
+use Rattle.saphyr_scanner.specs.Grammar.Tokens.{Kind}
+use Rattle.saphyr_scanner.specs.Grammar.TokenGrammar as grammar
+use Rattle.saphyr_scanner.proofs.Levels.{level_of}
+use Rattle.yaml_laws.proofs.Flow.Collections.{Brackets, AreBrackets, bracket_text, RunsInside}
+use Rattle.yaml_laws.proofs.Flow.Collections.Runs.{whole_text, IsBracketText, ReadsCollection}
+use Rattle.yaml_laws.proofs.Flow.Inks.{key_text_begins, starts}
+use Rattle.yaml_laws.proofs.Flow.Pieces.{parted_by}
+
+-- ## Collections
+
+record FrontedBrackets (around : Around) (start : State) (Is : List Kind → Type 0) (b : Brackets) (p : Properties)
+    (k : Candidate) (qs : List Place) (m : Marker) (y : List ℕ) : Type 0 where
+  properties : List Kind
+  are_properties : grammar.YieldProperties p properties
+  inside : List Kind
+  are : Is inside
+  along : Along around start k qs m y (properties ++ (b.opens ∷ (inside ++ b.closes ∷ [])))
+
+-- the run inside the brackets, wherever they are
+abbrev RunsAt : Around → (List Kind → Type 0) → Brackets → Candidate → List ℕ → List ℕ → Blanks → List ℕ → Type 0
+RunsAt around Is b k w inside n r =
+    (e : Marker) → InKey around k e (bracket_text b w inside ++ n.text) (58 ∷ r)
+    → RunsInside (calmed around) Is b context.Block [] (moved e (b.opening ∷ w)) inside (colon_text n r)
+
+brackets_key : ReaderPromises → (around : Around) → around.pending ≡ around.required
+    → (start : State) (Is : List Kind → Type 0) (b : Brackets) → AreBrackets b
+    → (p : Properties) (k : Candidate) (qs : List Place) (front w inside : List ℕ) (n : Blanks)
+    (r : List ℕ) (e : Marker) (ad : ℕ) → IsBeforeContent p around.indent front → IsSeparation around.indent w
+    → IsParted around.indent (w ++ (inside ++ (b.closing ∷ colon_text n r)))
+    → InKey around k e ((front ++ bracket_text b w inside) ++ n.text) (colon ∷ r) → ad ≤ e.index
+    → Ready around start k ((front ++ bracket_text b w inside) ++ colon_text n r) e ad qs
+    → RunsAt around Is b k w inside n r
+    → FrontedBrackets around start Is b p k qs (colon_after e (front ++ bracket_text b w inside) n) (colon ∷ r)
+brackets_key reads around same start Is b are p k qs front w inside n r e ad (inl (none, is)) parts parted text low
+    ready run =
+    let body = bracket_text b w inside in
+    subst (λ (f : List ℕ). InKey around k e ((f ++ body) ++ n.text) (58 ∷ r)
+    → Ready around start k ((f ++ body) ++ colon_text n r) e ad qs
+    → FrontedBrackets around start Is b p k qs (colon_after e (f ++ body) n) (58 ∷ r)) (sym is)
+    (λ i z. let c = collection_along around same start Is b are k qs w inside n r e ad parts parted i low z (run e i) in
+    record {
+      properties = [];
+      are_properties = subst (λ (q : Properties). grammar.YieldProperties q []) (sym none) refl;
+      inside = c.inside;
+      are = c.are;
+      along = c.along;
+    }) text ready
+brackets_key reads around same start Is b are p k qs front w inside n r e ad (inr (t, v, h, some, gap, is)) parts parted
+    text low ready run =
+    let body = bracket_text b w inside in
+    let whole = in_so k e ((front ++ body) ++ n.text) (t ++ (v ++ (body ++ n.text))) (58 ∷ r)
+    (front_parts front t v body n.text is) text in
+    let f = fronted reads around start p k qs t v body n.text (58 ∷ r) e ad h some gap whole low
+    (subst (λ (x : List ℕ). Ready around start k x e ad qs) (front_parts front t v body (colon_text n r) is) ready) in
+    let there = moved (moved e t) v in
+    let inner = in_back k (moved e t) v (body ++ n.text) (58 ∷ r)
+    (in_back k e t (v ++ (body ++ n.text)) (58 ∷ r) whole) in
+    let next = along_ready body (colon_text n r) n.text (58 ∷ r) f.along
+    (starts b.opening (w ++ (inside ++ (b.closing ∷ []))) (bracket_text b w inside) refl are.start) inner refl in
+    let c = collection_along around same _ Is b are k _ w inside n r there f.along.adjacent parts parted inner
+    f.along.low next (run there inner) in
+    subst (λ (m : Marker). FrontedBrackets around start Is b p k qs m (58 ∷ r)) (colon_after_parts e front t v body n
+    is)
+    (record {
+      properties = f.tokens;
+      are_properties = f.are;
+      inside = c.inside;
+      are = c.are;
+      along = along_joins f.along c.along;
+    })
+
+-- a piece inside a key's brackets
+inside_fits : (around : Around) (k : Candidate) (e : Marker) (c : ℕ) (w inside : List ℕ) (d : ℕ) (n : Blanks)
+    (r : List ℕ)
+    → InKey around k e (((c ∷ w) ++ (inside ++ (d ∷ []))) ++ n.text) (colon ∷ r)
+    → FitsAround (calmed around) (moved e (c ∷ w)) inside (d ∷ colon_text n r)
+inside_fits around k e c w inside d n r text =
+    let tail = inside ++ ((d ∷ []) ++ n.text) in
+    let same : ((c ∷ w) ++ (inside ++ (d ∷ []))) ++ n.text ≡ (c ∷ w) ++ tail =
+    append_assoc (c ∷ w) (inside ++ (d ∷ [])) n.text
+    ∙ ap (λ (x : List ℕ). (c ∷ w) ++ x) (append_assoc inside (d ∷ []) n.text) in
+    let text1 = in_so k e (((c ∷ w) ++ (inside ++ (d ∷ []))) ++ n.text) ((c ∷ w) ++ tail) (58 ∷ r) same text in
+    let text2 = in_back k e (c ∷ w) tail (58 ∷ r) text1 in
+    record {
+      clear = clear_front (moved e (c ∷ w)) inside ((d ∷ []) ++ n.text) (58 ∷ r) text2.clear;
+      below = subst (λ (t : List ℕ). (moved e (c ∷ w)).index + length t ≤ around.limit)
+          (append_assoc inside ((d ∷ []) ++ n.text) (58 ∷ r)) text2.below;
+      right = in_right k e c w tail (58 ∷ r) text1;
+      calm = refl;
+    }
+
+room_inside : (left : ℕ) → most_open ≡ suc left → left + 1 ≤ most_open
+room_inside left e = omega (arith, e)
+
+pub collection_key : {node : Node} {p : Properties} {b : Brackets} {Text : ℕ → List ℕ → Type 0}
+    {Are : List Kind → Type 0} → ReaderPromises → (around : Around) → around.pending ≡ around.required
+    → ReadsCollection (calmed around) node p b Text Are → (start : State) (k : Candidate) (qs : List Place) (t : List ℕ)
+    (n : Blanks) (r : List ℕ) (e : Marker) (ad : ℕ) → IsBracketText b Text p most_open around.indent t
+    → InKey around k e (t ++ n.text) (colon ∷ r) → ad ≤ e.index → Ready around start k (t ++ colon_text n r) e ad qs
+    → KeyAlong around start node k qs (colon_after e t n) (colon ∷ r)
+collection_key {node} {p} {b} {Are = Are} reads around same collection start k qs t n r e ad
+    (left, opening, inside, room, (front, w, f, parts, o), h, is) text low ready =
+    let whole : t ≡ front ++ bracket_text b w inside = whole_text t opening front w inside b.opening b.closing is o in
+    let entries = collection.entries left in
+    let run : RunsAt around Are b k w inside n r = λ m i j inner no_candidate fresh on right at.
+    entries.passes (moved m (b.opening ∷ w)) inside (colon_text n r) h
+    (inside_fits around k m b.opening w inside b.closing n r i) (record inner { outer = level_of context.Block j ∷ [] })
+    no_candidate fresh (room_inside left room) on at in
+    let c = brackets_key reads around same start Are b collection.are p k qs front w inside n r e ad f parts
+    (parted_by around.indent w (inside ++ (b.closing ∷ colon_text n r)) parts (entries.ink inside (colon_text n r) h))
+    (subst (λ (x : List ℕ). InKey around k e (x ++ n.text) (58 ∷ r)) whole text) low
+    (subst (λ (x : List ℕ). Ready around start k (x ++ colon_text n r) e ad qs) whole ready) run in
+    subst (λ (x : List ℕ). KeyAlong around start node k qs (colon_after e x n) (58 ∷ r)) (sym whole)
+    (record {
+      tokens = c.properties ++ (b.opens ∷ (c.inside ++ b.closes ∷ []));
+      are = collection.yields grammar.InBlockMapping c.properties c.inside c.are_properties c.are;
+      along = c.along;
+    })
 
 -- ## All keys
 
 key_along : ReaderPromises → (around : Around) → around.pending ≡ around.required
-    → (start : State) (node : Node) (k : Candidate) (qs : List Place) (t : List ℕ) (n : Blanks) (r : List ℕ) (e : Marker)
+    → (start : State) (node : Node) (k : Candidate) (qs : List Place) (t : List ℕ) (n : Blanks) (r : List ℕ)
+    (e : Marker)
     (ad : ℕ)
     → IsFlowNode most_open node false around.indent t → IsBeforeColon node n.text
     → is_blank_or_breakz (slice_index r 0) ≡ true → InKey around k e (t ++ n.text) (colon ∷ r) → ad ≤ e.index
@@ -41,13 +161,15 @@ key_along reads around same start (Alias name) k qs t n r e ad h apart white tex
 key_along reads around same start (Scalar p style value) k qs t n r e ad h apart white text low ready =
     scalar_key reads around start p style value k qs t n r e ad h apart white text low ready
 key_along reads around same start (Seq p nodes) k qs t n r e ad h apart white text low ready =
-    sequence_key reads around same start p nodes k qs t n r e ad h text low ready
+    collection_key reads around same (sequence_read reads (calmed around) p nodes) start k qs t n r e ad h text low
+    ready
 key_along reads around same start (Map p pairs) k qs t n r e ad h apart white text low ready =
-    mapping_key_reads reads around same start p pairs k qs t n r e ad h text low ready
+    collection_key reads around same (mapping_read reads (calmed around) p pairs) start k qs t n r e ad h text low ready
 
 -- the text of a key, whatever its form
 text_along : ReaderPromises → (around : Around) → around.pending ≡ around.required
-    → (start : State) (node : Node) (k : Candidate) (qs : List Place) (t : List ℕ) (n : Blanks) (r : List ℕ) (e : Marker)
+    → (start : State) (node : Node) (k : Candidate) (qs : List Place) (t : List ℕ) (n : Blanks) (r : List ℕ)
+    (e : Marker)
     (ad : ℕ)
     → IsKeyText (IsFlowNode most_open node false around.indent) node false around.indent t n.text
     → IsBeforeColon node n.text → is_blank_or_breakz (slice_index r 0) ≡ true
@@ -61,12 +183,12 @@ text_along reads around same start node k qs t n r e ad (inr (h, none)) apart wh
     → KeyAlong around start node k qs (moved (moved e t) w) (58 ∷ r)) (sym none)
     (λ i z. plain_key reads around start node k qs t r e ad h white i low z) text ready
 
-text_first : (around : Around) (node : Node) (t s r : List ℕ)
+text_fresh : (around : Around) (node : Node) (t s r : List ℕ)
     → IsKeyText (IsFlowNode most_open node false around.indent) node false around.indent t s
-    → FirstOf around t (s ++ (colon ∷ r))
-text_first around node t s r (inl h) = key_node_first around most_open node t (s ++ (58 ∷ r)) h
-text_first around node t s r (inr (h, none)) =
-    subst (λ (x : List ℕ). FirstOf around t (x ++ (58 ∷ r))) (sym none) (plain_key_first around node t r h)
+    → Fresh around (t ++ (s ++ (colon ∷ r)))
+text_fresh around node t s r (inl h) = key_node_fresh around most_open node t (s ++ (58 ∷ r)) h
+text_fresh around node t s r (inr (h, none)) =
+    subst (λ (x : List ℕ). Fresh around (t ++ (x ++ (58 ∷ r)))) (sym none) (plain_key_fresh around node t r h)
 
 pub blanks_are_on_line : (w : List ℕ) → AreIn is_blank w → IsOnLine w
 blanks_are_on_line [] are = tt
@@ -79,7 +201,7 @@ pub both_on_line : (a b : List ℕ) → IsOnLine a → IsOnLine b → IsOnLine (
 both_on_line [] b h k = k
 both_on_line (c ∷ cs) b h k = (h.0, both_on_line cs b h.1 k)
 
--- A key on one line is read from its first character on, up to the blanks before its colon. A key has to stand there
+-- A key on one line is read from its first character on, up to the blanks before its colon. A key has to be there
 -- where that is the column of the innermost collection.
 pub key_read : ReaderPromises → (around : Around) → around.pending ≡ false
     → (node : Node) (m : Marker) (p : List ℕ) (n : Blanks) (r : List ℕ)
@@ -95,10 +217,10 @@ key_read reads around calm node m p n r h line apart short white right clear bel
     let inner = keyed around (deeper_at around d m) m in
     let here : Candidate = record { mark = m; place = length ps } in
     let lowered = key_text_lowers (suc m.col) around.indent (lower m.col right) most_open node p n.text line h in
-    let f = text_first around node p n.text r lowered in
+    let b = key_text_begins false around.indent most_open node p n.text lowered in
     let o = colon_text n r in
-    let front : p ++ o ≡ f.begins.first ∷ (f.begins.others ++ o) = ap (λ (t : List ℕ). t ++ o) f.begins.is in
-    let token = begins_token m p o f.begins (clear_front m p n.text (58 ∷ r) clear) in
+    let front : p ++ o ≡ b.first ∷ (b.others ++ o) = ap (λ (t : List ℕ). t ++ o) b.is in
+    let token = begins_token m p o b (clear_front m p n.text (58 ∷ r) clear) in
     let text : InKey inner here m (p ++ n.text) (58 ∷ r) =
     record {
       line = refl;
@@ -111,8 +233,8 @@ key_read reads around calm node m p n r h line apart short white right clear bel
     let start = λ (t : List ℕ). state_at around (moment (cursor_at t m blank) context.Block k [] true ad ps) d in
     let ready : Ready inner (start (p ++ o)) here (p ++ o) m ad ps =
     subst (λ (t : List ℕ). Ready inner (start t) here t m ad ps) (sym front)
-    (first_ready around calm d blank k ad ps m f.begins.first (f.begins.others ++ o) f.begins.ink right
-    (subst (BeginsToken m) front token) (subst (Fresh around) front f.fresh)) in
+    (first_ready around calm d blank k ad ps m b.first (b.others ++ o) b.ink right
+    (subst (BeginsToken m) front token) (subst (Fresh around) front (text_fresh around node p n.text r lowered))) in
     text_along reads inner refl (start (p ++ o)) node here ps p n r m ad lowered apart white text low ready
   where
     lower : (n : ℕ) → around.indent ≤ n + 1 → around.indent ≤ suc n

@@ -6,7 +6,7 @@ use Rattle.yaml_laws.proofs.InFlow.ScalarsOnLine.{front_on_line, back_on_line, s
 
 -- ## Pairs
 
--- what holds of a text holds with less indentation, where the text stands on one line
+-- what holds of a text holds with less indentation, where the text is on one line
 abbrev Lowers : (List ℕ → Type 0) → (List ℕ → Type 0) → Type 0
 Lowers K L = (t : List ℕ) → IsOnLine t → K t → L t
 

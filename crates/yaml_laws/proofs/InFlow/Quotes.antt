@@ -1,9 +1,11 @@
 -- A quoted scalar ends right of a column that its lines reach.
 use Rattle.std.proofs.Common.{◌≡◌, ℕ, suc, ◌+◌, ◌≤◌, Bool, true, false, List, [], ◌∷◌, ◌++◌, drop, slice_index, refl, sym, ap, ◌∙◌, arith, subst, IsTrue, ◌⊎◌, inl, inr}
-use Rattle.std.specs.Prelude.{◌&&◌, ◌==◌, not, None}
-use Rattle.std.proofs.lemmas.Bool.{false≢true}
+use Rattle.std.specs.Prelude.{◌==◌, not, None}
+use Rattle.std.proofs.lemmas.Bool.{false≢true, or_parts, not-true}
+use Rattle.saphyr_input.proofs.Basics.Booleans.{and_true_left}
+use Rattle.scalar_laws.proofs.Breaks.Sides.{no_feed}
 use Rattle.std.proofs.lemmas.Bool.Decides.{nat_tests}
-use Rattle.saphyr_input.specs.Classes.{is_break, is_hex, is_breakz, space, line_feed, carriage_return}
+use Rattle.saphyr_input.specs.Classes.{is_break, is_hex, is_breakz, is_z, space, line_feed, carriage_return}
 use Rattle.saphyr_values.specs.Escapes.{digit_count}
 use Rattle.saphyr_values.proofs.ItemsRead.{short_escape_no_feed}
 use Rattle.saphyr_scalar.specs.declared.scalar.position.Marker.{Marker}
@@ -22,14 +24,14 @@ use Rattle.yaml_laws.proofs.Flow.Places.{moved_append, right_along}
 use Rattle.saphyr_input.proofs.Basics.Numbers.{le_next}
 use Rattle.scalar_laws.proofs.Beginnings.{back_in}
 
--- What stands at a place is right of a column, or is so behind spaces, or spaces end the line.
+-- What is at a place is right of a column, or is so after spaces, or spaces end the line.
 abbrev pub Reaches : ℕ → Marker → List ℕ → Type 0
 Reaches column m t = (column ≤ m.col + space_count t) ⊎ IsTrue (is_break (slice_index (drop (space_count t) t) 0))
 
 no_space : (c : ℕ) (t : List ℕ) → (c == space) ≡ false → space_count (c ∷ t) ≡ 0
 no_space c t e = rw e refl
 
--- behind a character that is no space and no break
+-- after a character that is no space and no break
 from_ink : (column : ℕ) (m : Marker) (c : ℕ) (t : List ℕ) → (c == space) ≡ false → is_break c ≡ false
     → Reaches column m (c ∷ t) → column ≤ m.col
 from_ink column m c t e f (inl h) = let none = no_space c t e in let n = space_count (c ∷ t) in omega (arith, none, h)
@@ -50,14 +52,8 @@ on_space column m t (inr h) =
     inr (subst (λ (n : ℕ). IsTrue (is_break (slice_index (drop n (32 ∷ t)) 0))) one h)
 
 itself_ink : (q : Quote) (c : ℕ) → IsTrue (stands_for_itself q c) → is_break c ≡ false
-itself_ink q c h = parts (is_breakz c) refl h
-  where
-    none : (c : ℕ) → is_breakz c ≡ false → is_break c ≡ false
-    none c h = grind (arith, nat_tests)
-
-    parts : (b : Bool) → is_breakz c ≡ b → (not b && not (is_special q c)) ≡ true → is_break c ≡ false
-    parts true e k = absurd (cc)
-    parts false e k = none c e
+itself_ink q c h = (or_parts (is_break c) (is_z c)
+    (not-true (is_breakz c) (and_true_left (not (is_breakz c)) (not (is_special q c)) h))).0
 
 feed_first : (t : List ℕ) → IsTrue (is_break (slice_index t 0)) → AreIn (λ c. not (c == carriage_return)) t
     → (cs : List ℕ) × (t ≡ line_feed ∷ cs)
@@ -93,9 +89,6 @@ hex_line (d ∷ ds) h = (one d h.0, hex_line ds h.1)
 
 -- ## To the end of the text
 
-no_feed_ink : (c : ℕ) → is_break c ≡ false → (c == line_feed) ≡ false
-no_feed_ink c h = grind (arith, nat_tests)
-
 mark_ink : (q : Quote) → ((mark q == space) ≡ false) × (is_break (mark q) ≡ false)
 mark_ink Single = (refl, refl)
 mark_ink Double = (refl, refl)
@@ -115,11 +108,11 @@ pub text_right : (column : ℕ) (q : Quote) (t : List ℕ) (items : List Item) (
 text_right column _ _ _ _ (closed q x h) fit e m reach clean =
     let ink = mark_ink q in
     subst (λ (y : List ℕ). column ≤ (moved m (mark q ∷ y)).col) (sym e)
-    (right_along column m (mark q ∷ []) (ap not (no_feed_ink (mark q) ink.1), tt)
+    (right_along column m (mark q ∷ []) (ap not (no_feed (mark q) ink.1), tt)
     (from_ink column m (mark q) x ink.0 ink.1 reach))
 text_right column _ _ _ _ (itself q c t items x h r) fit e m reach clean =
     let ink = itself_ink q c h in
-    let same : moved m (c ∷ t) ≡ moved (along m 1) t = rw (no_feed_ink c ink) refl in
+    let same : moved m (c ∷ t) ≡ moved (along m 1) t = rw (no_feed c ink) refl in
     subst (λ (k : Marker). column ≤ k.col) (sym same)
     (text_right column q t items x r fit e (along m 1) (by_space (c == space) refl) clean.1)
   where

@@ -1,4 +1,4 @@
--- On one line the indentation of a scalar in flow style, and of what stands before it, does not matter.
+-- On one line the indentation of a scalar in flow style, and of what comes before it, does not matter.
 use Rattle.std.proofs.Common.{◌≡◌, ◌≢◌, ℕ, ◌≤◌, Bool, true, false, List, [], ◌∷◌, ◌++◌, drop, slice_index, refl, sym, ap, ◌∙◌, arith, subst, append_assoc, IsTrue, ◌⊎◌, inl, inr}
 use Rattle.std.specs.Prelude.{◌==◌, not, Option, Some, None}
 use Rattle.saphyr_input.specs.Classes.{is_blank, is_break, line_feed}

@@ -22,6 +22,7 @@ use Rattle.saphyr_scanner.specs.Limits.{most_open}
 use Rattle.saphyr_scanner.proofs.Leads.{LeadsTo, stay, onward, leads_on}
 use Rattle.saphyr_scalar.proofs.Given.{cursor_at}
 use Rattle.std.proofs.lemmas.Bool.{le-leb}
+use Rattle.saphyr_input.proofs.Basics.Booleans.{and_false}
 use Rattle.saphyr_scanner.proofs.Levels.{saved, level_of, not_full}
 use Rattle.saphyr_scanner.proofs.Queues.{queue_of}
 
@@ -63,8 +64,8 @@ core_at around d s x k ls a ad =
       ended = false;
     }
 
--- What a step changes: the text that is left and where it stands, the level with the key that is kept at it, the levels
--- around it, whether a key may begin, where a colon may stand at once, and the places in the queue.
+-- What a step changes: the text that is left and where it is, the level with the key that is kept at it, the levels
+-- around it, whether a key may begin, where a colon may come at once, and the places in the queue.
 pub record FlowMoment : Type 0 where
   pub cursor : Cursor
   pub context : Context
@@ -91,13 +92,20 @@ root_moment now = record now { context = context.Block; outer = [] }
 abbrev pub moment_with : List Place → FlowMoment → FlowMoment
 moment_with new now = record now { places = now.places ++ new }
 
--- The state at a moment, and whether content has to stand one column further right, which comes last: it is so behind a
--- bracket, and not behind a plain scalar, and nothing that is read depends on it. So runs are told for both.
+-- The state at a moment, and whether content has to be one column further right, which comes last: it is so after a
+-- bracket, and not after a plain scalar, and nothing that is read depends on it. So runs are told for both.
 abbrev pub state_at : Around → FlowMoment → Bool → State
 state_at around now d = record {
   core = core_at around d now.cursor now.context now.key now.outer now.allowed now.adjacent;
   queue = queue_of now.places;
 }
+
+-- a core and a state with the comment that ended a plain scalar outside flow
+abbrev pub noted_core : Option Marker → Core → Core
+noted_core comment c = record c { comment = comment }
+
+abbrev pub noted : Option Marker → State → State
+noted comment s = record s { core = noted_core comment s.core }
 
 -- the column that content has to reach
 abbrev pub least : ℕ → Bool → ℕ
@@ -144,22 +152,23 @@ chains f g = record {
 abbrev pub key_left : Context → Option Candidate → Marker → Option Candidate
 key_left x k m = if is_block x && is_too_far k m then None else k
 
-pub drops_far_key : (around : Around) (d : Bool) (s : Cursor) (x : Context) (k : Option Candidate) (ls : List Level)
-    (a : Bool) (ad : ℕ) → around.pending ≡ false
-    → drop_far_key (core_at around d s x k ls a ad) ≡ Ok (core_at around d s x (key_left x k s.mark) ls a ad)
+pub drops_far_key : (around : Around) (comment : Option Marker) (d : Bool) (s : Cursor) (x : Context)
+    (k : Option Candidate) (ls : List Level) (a : Bool) (ad : ℕ) → around.pending ≡ false
+    → drop_far_key (noted_core comment (core_at around d s x k ls a ad))
+    ≡ Ok (noted_core comment (core_at around d s x (key_left x k s.mark) ls a ad))
 unfolding drop_far_key
-drops_far_key around d s context.Block k ls a ad calm = by_distance (is_too_far k s.mark) refl
+drops_far_key around comment d s context.Block k ls a ad calm = by_distance (is_too_far k s.mark) refl
   where
     by_distance : (far : Bool) → is_too_far k s.mark ≡ far
-        → drop_far_key (core_at around d s context.Block k ls a ad)
-        ≡ Ok (core_at around d s context.Block (key_left context.Block k s.mark) ls a ad)
+        → drop_far_key (noted_core comment (core_at around d s context.Block k ls a ad))
+        ≡ Ok (noted_core comment (core_at around d s context.Block (key_left context.Block k s.mark) ls a ad))
     by_distance true h = rw (h, calm) refl
     by_distance false h = rw h refl
-drops_far_key around d s context.FlowSequence k ls a ad calm = refl
-drops_far_key around d s context.FlowMapping k ls a ad calm = refl
-drops_far_key around d s context.FlowPair k ls a ad calm = refl
-drops_far_key around d s context.ExplicitFlowPair k ls a ad calm = refl
-drops_far_key around d s context.MarkedFlowPair k ls a ad calm = refl
+drops_far_key around comment d s context.FlowSequence k ls a ad calm = refl
+drops_far_key around comment d s context.FlowMapping k ls a ad calm = refl
+drops_far_key around comment d s context.FlowPair k ls a ad calm = refl
+drops_far_key around comment d s context.ExplicitFlowPair k ls a ad calm = refl
+drops_far_key around comment d s context.MarkedFlowPair k ls a ad calm = refl
 
 pub left_or_none : (x : Context) (k : Option Candidate) (m : Marker) → (key_left x k m ≡ None) ⊎ (key_left x k m ≡ k)
 left_or_none x k m = by_distance (is_block x && is_too_far k m) refl
@@ -204,7 +213,7 @@ none_unrolls around col m s context.MarkedFlowPair k ls a ad ps d h = refl
 
 -- ## Steps
 
--- whether content has to stand further right behind a step, by whether it had to before it
+-- whether content has to be further right after a step, by whether it had to before it
 pub record Deepens (around : Around) (to : Bool → Bool) : Type 0 where
   pub flat : around.indent ≡ 0 → to false ≡ false
 
@@ -214,7 +223,7 @@ as_before around = record { flat = λ _. refl }
 pub none_deeper : (around : Around) → Deepens around (λ d. false)
 none_deeper around = record { flat = λ _. refl }
 
--- behind a bracket
+-- after a bracket
 abbrev pub deepened : Around → Context → Bool → Bool
 deepened around x d = (is_block x && nat_lt 0 around.indent) || d
 
@@ -225,23 +234,23 @@ bracket_deepens around x = record { flat = λ e. rw e (none_further (is_block x)
     none_further true = refl
     none_further false = refl
 
--- from a state the scanner comes to another, but for the key outside flow
-pub record ComesAround (around : Around) (start : Bool → State) (next : FlowMoment) : Type 0 where
-  pub key : Option Candidate
-  pub leads : RunsTo around (state_at around (record next { key = key })) start
-  pub same : is_block next.context ≡ false → key ≡ next.key
-  pub kept : (key ≡ None) ⊎ (key ≡ next.key)
+-- from a state the scanner comes to another, with a comment noted or none, but for the key outside flow
+pub record ComesAround (around : Around) (start : Bool → State) (comment : Option Marker) (next : FlowMoment) : Type 0
+  where
+    pub key : Option Candidate
+    pub leads : RunsTo around (λ d. noted comment (state_at around (record next { key = key }) d)) start
+    pub same : is_block next.context ≡ false → key ≡ next.key
+    pub kept : (key ≡ None) ⊎ (key ≡ next.key)
 
 -- where a step gives this, it leads there
-pub comes : (around : Around) (start : Bool → State) (next : FlowMoment) (to : Bool → Bool) → Deepens around to
-    → ((d : Bool) → (start d).core.ended ≡ false)
-    → ((d : Bool) → fetch (start d) ≡ Ok (state_at around next (to d))) → next.cursor.mark.index ≤ around.limit
-    → around.pending ≡ false → ComesAround around start next
+pub comes : (around : Around) (start : Bool → State) (comment : Option Marker) (next : FlowMoment) (to : Bool → Bool)
+    → Deepens around to → ((d : Bool) → (start d).core.ended ≡ false)
+    → ((d : Bool) → fetch (start d) ≡ Ok (noted comment (state_at around next (to d))))
+    → next.cursor.mark.index ≤ around.limit → around.pending ≡ false → ComesAround around start comment next
 unfolding fetch_within
-comes around start next to deepens going is low calm =
-    let left = key_left next.context next.key next.cursor.mark in
+comes around start comment next to deepens going is low calm =
     record {
-      key = left;
+      key = key_left next.context next.key next.cursor.mark;
       leads = record { run = λ d. one d };
       same = left_in_flow next.context next.key next.cursor.mark;
       kept = left_or_none next.context next.key next.cursor.mark;
@@ -251,20 +260,21 @@ comes around start next to deepens going is low calm =
     flatly true e h = absurd (cc)
     flatly false e h = deepens.flat e
 
-    there : FlowMoment
-    there = record next { key = key_left next.context next.key next.cursor.mark }
+    there : Bool → State
+    there d = noted comment
+        (state_at around (record next { key = key_left next.context next.key next.cursor.mark }) d)
 
-    one : (d : Bool) → Run around d (state_at around there) (start d)
+    one : (d : Bool) → Run around d there (start d)
     one d =
-        let st = state_at around next (to d) in
+        let st = noted comment (state_at around next (to d)) in
         let fits : check_limit around.limit st ≡ Ok st = rw (le-leb next.cursor.mark.index around.limit low) refl in
         record {
           deeper = to d;
           flat = flatly d;
-          leads = onward (start d) st (state_at around there (to d)) (going d)
+          leads = onward (start d) st (there (to d)) (going d)
               (ap (λ r. r >>= check_limit around.limit) (is d) ∙ fits) (ap (λ r. on_core r (queue_of next.places))
-              (drops_far_key around (to d) next.cursor next.context next.key next.outer next.allowed next.adjacent
-              calm)) stay;
+              (drops_far_key around comment (to d) next.cursor next.context next.key next.outer next.allowed
+              next.adjacent calm)) stay;
         }
 
 -- ## Keys and brackets
@@ -273,8 +283,8 @@ pub off_column : (indent col : ℕ) (d : Bool) → indent ≤ col → (not d && 
 off_column indent col true h = refl
 off_column indent col false h = grind (arith, nat_tests)
 
--- What is known where a token begins: it stands right of the block collections, and at block level no key is required,
--- or it is no first token of a key, and stands on a key's line.
+-- What is known where a token begins: it is right of the block collections, and at block level no key is required,
+-- or it is no first token of a key, and is on a key's line.
 pub data Placed (around : Around) (x : Context) (a : Bool) (m : Marker) : Type 0 where
   inside : is_block x ≡ false → around.indent ≤ m.col → Placed around x a m
   right : around.pending ≡ false → around.indent ≤ m.col → Placed around x a m
@@ -284,33 +294,24 @@ pub placed_right : {around : Around} {m : Marker} (x : Context) (a : Bool) → a
     → around.indent ≤ m.col → Placed around x a m
 placed_right x a calm h = right calm h
 
-saves_in_flow : (n : ℕ) (around : Around) (d : Bool) (s : Cursor) (x : Context) (k : Option Candidate) (ls : List Level)
-    (a : Bool) (ad : ℕ) → is_block x ≡ false
+saves_open : (n : ℕ) (around : Around) (d : Bool) (s : Cursor) (x : Context) (k : Option Candidate) (ls : List Level)
+    (a : Bool) (ad : ℕ) → (is_block x ≡ false) ⊎ ((around.pending ≡ false) × (around.indent ≤ s.mark.col))
     → save_key n (core_at around d s x k ls a ad) ≡ core_at around d s x (saved a n s.mark k) ls a ad
-saves_in_flow n around d s x k ls false ad e = refl
-saves_in_flow n around d s context.Block k ls true ad e = absurd (cc)
-saves_in_flow n around d s context.FlowSequence k ls true ad e = refl
-saves_in_flow n around d s context.FlowMapping k ls true ad e = refl
-saves_in_flow n around d s context.FlowPair k ls true ad e = refl
-saves_in_flow n around d s context.ExplicitFlowPair k ls true ad e = refl
-saves_in_flow n around d s context.MarkedFlowPair k ls true ad e = refl
-
-saves_right : (n : ℕ) (around : Around) (d : Bool) (s : Cursor) (x : Context) (k : Option Candidate) (ls : List Level)
-    (a : Bool) (ad : ℕ) → around.pending ≡ false → around.indent ≤ s.mark.col
-    → save_key n (core_at around d s x k ls a ad) ≡ core_at around d s x (saved a n s.mark k) ls a ad
-saves_right n around d s x k ls false ad e h = refl
-saves_right n around d s context.Block k ls true ad e h = rw (off_column around.indent s.mark.col d h, e) refl
-saves_right n around d s context.FlowSequence k ls true ad e h = refl
-saves_right n around d s context.FlowMapping k ls true ad e h = refl
-saves_right n around d s context.FlowPair k ls true ad e h = refl
-saves_right n around d s context.ExplicitFlowPair k ls true ad e h = refl
-saves_right n around d s context.MarkedFlowPair k ls true ad e h = refl
+saves_open n around d s x k ls false ad h = refl
+saves_open n around d s context.Block k ls true ad (inl e) = absurd (cc)
+saves_open n around d s context.Block k ls true ad (inr (e, h)) =
+    rw (off_column around.indent s.mark.col d h, e) refl
+saves_open n around d s context.FlowSequence k ls true ad h = refl
+saves_open n around d s context.FlowMapping k ls true ad h = refl
+saves_open n around d s context.FlowPair k ls true ad h = refl
+saves_open n around d s context.ExplicitFlowPair k ls true ad h = refl
+saves_open n around d s context.MarkedFlowPair k ls true ad h = refl
 
 pub saves_key : (n : ℕ) (around : Around) (d : Bool) (s : Cursor) (x : Context) (k : Option Candidate) (ls : List Level)
     (a : Bool) (ad : ℕ) → Placed around x a s.mark
     → save_key n (core_at around d s x k ls a ad) ≡ core_at around d s x (saved a n s.mark k) ls a ad
-saves_key n around d s x k ls a ad (inside e h) = saves_in_flow n around d s x k ls a ad e
-saves_key n around d s x k ls a ad (right e h) = saves_right n around d s x k ls a ad e h
+saves_key n around d s x k ls a ad (inside e h) = saves_open n around d s x k ls a ad (inl e)
+saves_key n around d s x k ls a ad (right e h) = saves_open n around d s x k ls a ad (inr (e, h))
 saves_key n around d s x k ls a ad (behind_key b e) =
     subst (λ (q : Bool). save_key n (core_at around d s x k ls q ad)
     ≡ core_at around d s x (saved q n s.mark k) ls q ad) (sym e) refl
@@ -318,16 +319,10 @@ saves_key n around d s x k ls a ad (behind_key b e) =
 -- a plain scalar inside flow is right of the block collections
 pub plain_placed : (around : Around) (x : Context) (a : Bool) (m : Marker) → Placed around x a m
     → (not (is_block x) && nat_lt m.col around.indent) ≡ false
-plain_placed around x a m (inside e h) = further (not (is_block x)) (not_left around.indent m.col true h)
-  where
-    further : (p : Bool) → nat_lt m.col around.indent ≡ false → (p && nat_lt m.col around.indent) ≡ false
-    further true e = e
-    further false e = refl
-plain_placed around x a m (right e h) = further (not (is_block x)) (not_left around.indent m.col true h)
-  where
-    further : (p : Bool) → nat_lt m.col around.indent ≡ false → (p && nat_lt m.col around.indent) ≡ false
-    further true e = e
-    further false e = refl
+plain_placed around x a m (inside e h) =
+    ap (λ (b : Bool). not (is_block x) && b) (not_left around.indent m.col true h) ∙ and_false (not (is_block x))
+plain_placed around x a m (right e h) =
+    ap (λ (b : Bool). not (is_block x) && b) (not_left around.indent m.col true h) ∙ and_false (not (is_block x))
 plain_placed around x a m (behind_key b e) = rw b refl
 
 pub opening_steps_open : (y : Context) (kind : Kind) (n : ℕ) (around : Around) (d : Bool) (s : Cursor) (x : Context)

@@ -1,4 +1,4 @@
--- The tabs and breaks that a plain scalar's reader passes behind a scalar, where a token or the text's end is reached.
+-- The tabs and breaks that a plain scalar's reader passes after a scalar, where a token or the text's end is reached.
 use Rattle.std.proofs.Common.{◌≡◌, ℕ, ◌+◌, ◌≤◌, Bool, true, false, List, [], ◌∷◌, drop, slice_index, refl, sym, ap, ◌∙◌, arith, subst, IsTrue, ◌⊎◌, inl, inr}
 use Rattle.std.specs.Prelude.{◌||◌, ◌&&◌, ◌==◌, not, nat_lt, if◌then◌else◌}
 use Rattle.std.specs.List.{prefix_len}
@@ -47,9 +47,9 @@ lands_on_ink column m y (inl (inr (col, inl h))) = starts_marker y h
 lands_on_ink column m y (inl (inr (col, inr h))) = ap is_blank (bom_is (slice_index y 0) h)
 lands_on_ink column m y (inr h) = ap (λ (t : List ℕ). is_blank (slice_index t 0)) h.is ∙ h.blank
 
--- ## Where a tab stands in the indentation before a token, a comment or the text's end does
+-- ## After a tab in the indentation comes a comment or the text's end
 
--- from a place on, where a tab stands before it only if no token stands on the rest of the line
+-- from a place on, where a tab comes before it only if no token is on the rest of the line
 abbrev Tabs : ℕ → Marker → Bool → List ℕ → Type 0
 Tabs column m tab t =
     is_blank (slice_index (past column m t).1 0) ≡ false → (tab ≡ true → is_filler_rest t ≡ true)
@@ -96,7 +96,7 @@ other_white c cs h e = by_blank (is_blank c) refl h
     by_blank true f k = absurd (cc)
     by_blank false f k = rw (f, e) refl
 
--- the flag behind a blank or a break stands for a tab that ends nothing
+-- the flag after a blank or a break stands for a tab that ends nothing
 flag_rest : (column : ℕ) (m : Marker) (c : ℕ) (cs : List ℕ) (tab : Bool) → stops_tab column m c cs ≡ false
     → (is_blank c || ((c == carriage_return) && (slice_index cs 0 == line_feed))) ≡ true
     → (tab ≡ true → is_filler_rest (c ∷ cs) ≡ true)
@@ -113,7 +113,7 @@ flag_rest column m c cs tab t e h k =
     either false b true k = refl
     either false b false k = absurd (cc)
 
--- behind a break no tab stands
+-- no tab comes after a break
 no_flag : (column : ℕ) (m : Marker) (c : ℕ) (tab : Bool) → is_break c ≡ true → flag_on column m.col tab c ≡ false
 no_flag column m c tab e = rw (no_blank c e) refl
   where
@@ -178,7 +178,7 @@ tabs_right column m tab (c ∷ cs) h bare n b =
     (tabs_right column (along m 1) (flag_on column m.col tab c) cs) (tabs_right column (next_line m 1) false cs) h bare
     n b
 
--- ## Behind the blanks of a line
+-- ## After the blanks of a line
 
 -- before a character that is no blank the column does not matter
 any_column : (column a b : ℕ) (t : List ℕ) → is_blank (slice_index t 0) ≡ false

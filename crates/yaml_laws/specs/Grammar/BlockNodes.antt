@@ -1,5 +1,5 @@
 -- Nodes in block style (YAML 1.2.2, chapter 8), in texts whose breaks are line feeds.
--- `behind` is what stands behind a piece, up to the text's end; `room` is how many flow collections may be open at
+-- `behind` is what comes after a piece, up to the text's end; `room` is how many flow collections may be open at
 -- once.
 use Rattle.std.specs.Prelude.{◌≡◌, ◌≢◌, ℕ, suc, ◌+◌, ◌<◌, ◌≤◌, ◌⊎◌, Bool, true, false, not, ◌==◌, ◌&&◌, ◌||◌, List, [], ◌∷◌, ◌++◌, length, slice_index, IsTrue, IsFalse, codes, if◌then◌else◌}
 use Rattle.std.specs.List.{list_all}
@@ -17,16 +17,16 @@ use Rattle.scalar_laws.specs.Spelling.Spaces.{IsLineEnd, IsEol, IsFiller, IsLast
 use Rattle.saphyr_scanner.specs.Grammar.Forest.{Style, Literal, Folded, Properties, no_properties, Node, Alias, Scalar, Seq, Map, Nodes, NoNode, MoreNodes, Pairs, NoPair, MorePairs, left_out}
 use Rattle.yaml_laws.specs.Grammar.FlowNodes.{IsProperties, IsOnLine, IsKeyText, IsBeforeColon, IsFlowNode}
 
--- ## Where a node stands
+-- ## Where a node is
 
 pub data Position : Type 0 where
-  -- behind the `-` of the block sequence at this column
+  -- after the `-` of the block sequence at this column
   BehindDash : ℕ → Position
-  -- behind a `?`, or the `:` of its value, of the block mapping at this column
+  -- after a `?`, or the `:` of its value, of the block mapping at this column
   BehindMark : ℕ → Position
-  -- behind the colon of a key on one line, or of one that is left out, of the block mapping at this column
+  -- after the colon of a key on one line, or of one that is left out, of the block mapping at this column
   BehindKey : ℕ → Position
-  -- behind `---`
+  -- after `---`
   BehindMarker : Position
   -- at the start of a bare document
   AtStart : Position
@@ -38,7 +38,7 @@ indent_at (BehindMark m) = suc m
 indent_at (BehindKey m) = suc m
 indent_at _ = 0
 
--- 8.2.3 [201]: a block sequence in a block mapping may also stand at the mapping's column
+-- 8.2.3 [201]: a block sequence in a block mapping may also be at the mapping's column
 abbrev pub sequence_indent_at : Position → ℕ
 sequence_indent_at (BehindMark m) = m
 sequence_indent_at (BehindKey m) = m
@@ -48,10 +48,10 @@ abbrev pub is_start : Position → Bool
 is_start AtStart = true
 is_start _ = false
 
--- ## What stands before a node
+-- ## What comes before a node
 
--- what parts a node from what stands before it: blanks, or the line's end, filler, indentation and blanks; before a
--- bare document may stand nothing
+-- what parts a node from what comes before it: blanks, or the line's end, filler, indentation and blanks; before a
+-- bare document may be nothing
 abbrev pub IsGapAt : Position → List ℕ → Type 0
 IsGapAt place t =
     ((t ≢ []) × AreIn is_blank t) ⊎ (IsNextLine (indent_at place) t ⊎ (IsTrue (is_start place) × (t ≡ [])))
@@ -66,7 +66,7 @@ abbrev pub is_lone_tab : Position → List ℕ → List ℕ → Bool
 is_lone_tab place gap node =
     is_behind_colon place && (list_all (λ c. c == tab) gap && is_alpha (slice_index node 0))
 
--- 8.2.3 [200]: the properties of a block collection stand on a line before it, that of the indicator or a line of their
+-- 8.2.3 [200]: the properties of a block collection are on a line before it, that of the indicator or a line of their
 -- own
 abbrev pub IsCollectionFront : Properties → Position → List ℕ → Type 0
 IsCollectionFront p place t =
@@ -87,7 +87,7 @@ IsCompactLead (BehindMark column) m t = (n : ℕ) × (1 ≤ n) × (m ≡ column 
 IsCompactLead AtStart m t = t ≡ spaces m
 IsCompactLead _ m t = ⊥
 
--- what stands before a block collection's first entry, at column m
+-- what comes before a block collection's first entry, at column m
 abbrev pub IsLead : Properties → Position → ℕ → ℕ → List ℕ → Type 0
 IsLead p place least m t = IsNextLineLead p place least m t ⊎ ((p ≡ no_properties) × IsCompactLead place m t)
 
@@ -108,7 +108,7 @@ abbrev pub EndsContent : List ℕ → Type 0
 EndsContent t = IsTrue (is_document_indicator t) ⊎ IsTrue (is_bom (slice_index t 0))
 
 -- What may follow the lines of a block scalar whose content begins at column i: nothing, what ends the document's
--- content, a line that begins at or left of the enclosing collection's column, or a comment left of the content, behind
+-- content, a line that begins at or left of the enclosing collection's column, or a comment left of the content, after
 -- spaces alone; or filler up to the document's end whose first line has a tab left of the content.
 abbrev pub IsLineLeft : ℕ → ℕ → List ℕ → Type 0
 IsLineLeft indent i t =
@@ -116,7 +116,7 @@ IsLineLeft indent i t =
     × ((n < indent) ⊎ ((c ≡ number_sign) × (n < i)))
     × (t ≡ spaces n ++ (c ∷ others))
 
--- filler, and behind it the text's end or what ends the document's content
+-- filler, and after it the text's end or what ends the document's content
 abbrev pub IsFillerAtEnd : List ℕ → Type 0
 IsFillerAtEnd t =
     IsLastFiller t ⊎ ((filler others : List ℕ) × IsFiller filler × EndsContent others × (t ≡ filler ++ others))
@@ -155,9 +155,9 @@ IsScalarInBlock p style value place t behind =
 
 -- ## Pairs of a block mapping at column m
 
--- Below, K and V hold of a place, of the text of a key or a value there, and of what stands behind it.
+-- Below, K and V hold of a place, of the text of a key or a value there, and of what comes after it.
 
--- 8.2.2 [192], [193]: a key on one line, its colon at most 1,024 characters behind the key's start, and a value
+-- 8.2.2 [192], [193]: a key on one line, its colon at most 1,024 characters after the key's start, and a value
 abbrev pub IsImplicitPair : ℕ → Node → (Position → List ℕ → List ℕ → Type 0) → ℕ → List ℕ → List ℕ → Type 0
 IsImplicitPair room key V m t behind =
     (node between value : List ℕ) × IsKeyText (IsFlowNode room key false (suc m)) key false (suc m) node between
@@ -169,7 +169,7 @@ abbrev pub IsKeylessPair : Node → (Position → List ℕ → List ℕ → Type
 IsKeylessPair key V m t behind =
     (value : List ℕ) × (key ≡ left_out) × V (BehindKey m) value behind × (t ≡ codes ":" ++ value)
 
--- whether a tab stands before the first token of a text, outside comments; the first argument tells that a comment goes
+-- whether a tab comes before the first token of a text, outside comments; the first argument tells that a comment goes
 -- on
 abbrev pub has_tab_ahead : Bool → List ℕ → Bool
 has_tab_ahead in_comment [] = false
@@ -177,8 +177,8 @@ has_tab_ahead true (c ∷ cs) = has_tab_ahead (not (is_break c)) cs
 has_tab_ahead false (c ∷ cs) =
     (c == tab) || (((c == space) || is_break c || (c == number_sign)) && has_tab_ahead (c == number_sign) cs)
 
--- Behind a `?` stands something, and no tab before the next token: that of the key or, where the key is left out, that
--- of what stands behind it.
+-- After a `?` is something, and no tab before the next token: that of the key or, where the key is left out, that
+-- of what comes after it.
 abbrev pub IsBehindQuestion : List ℕ → List ℕ → Type 0
 IsBehindQuestion node behind = (node ≢ []) × IsFalse (has_tab_ahead false (node ++ behind))
 
@@ -199,7 +199,7 @@ IsKeyAlone value K m t behind =
     (node : List ℕ) × (value ≡ left_out) × IsBehindQuestion node behind × K (BehindMark m) node behind
     × IsFalse (is_value_ahead false m 0 behind) × (t ≡ codes "?" ++ node)
 
--- the `:` of a value at column m, behind filler
+-- the `:` of a value at column m, after filler
 abbrev pub IsValueMark : ℕ → List ℕ → Type 0
 IsValueMark m t = (filler : List ℕ) × IsFiller filler × (t ≡ filler ++ (spaces m ++ codes ":"))
 

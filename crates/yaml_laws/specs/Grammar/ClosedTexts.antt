@@ -23,11 +23,11 @@ abbrev pub marker_token : DocumentMarker → Kind
 marker_token Starts = tokens.DocumentStart
 marker_token Ends = tokens.DocumentEnd
 
--- behind this text a line begins: it is empty, or ends with a break
+-- after this text a line begins: it is empty, or ends with a break
 abbrev pub IsBeforeLine : List ℕ → Type 0
 IsBeforeLine front = (front ≡ []) ⊎ ((others : List ℕ) × (front ≡ others ++ line_feed ∷ []))
 
--- this text ends with byte order marks of the stream, which stand at its start, or behind a `...` line
+-- this text ends with byte order marks of the stream, which are at its start, or after a `...` line
 abbrev pub EndsWithMark : List ℕ → Type 0
 EndsWithMark front =
     (marks : List ℕ) × AreMany IsMarkBehindFiller marks
@@ -35,17 +35,18 @@ EndsWithMark front =
     ⊎ ((others rest : List ℕ) × IsBeforeLine others × IsLineRest rest
     × (front ≡ others ++ (codes "..." ++ (rest ++ line_feed ∷ marks)))))
 
--- behind this text a marker's line begins, perhaps with byte order marks, which take up no column
+-- after this text a marker's line begins, perhaps with byte order marks, which take up no column
 abbrev pub IsBeforeMarker : List ℕ → Type 0
 IsBeforeMarker front = IsBeforeLine front ⊎ EndsWithMark front
 
--- the text ends with the marker's line: the marker, what may stand behind it on its line, and the break
+-- the text ends with the marker's line: the marker, what may come after it on its line, and the break
 abbrev pub EndsWithMarker : (List ℕ → Type 0) → DocumentMarker → List ℕ → Type 0
 EndsWithMarker IsTail marker text =
     (front tail : List ℕ) × IsTail tail × IsBeforeMarker front
     × (text ≡ front ++ (marker_text marker ++ (tail ++ line_feed ∷ [])))
 
--- The tokens begin with those of a forest up to and with a marker's, behind which the stream's end would be the last.
+-- The tokens begin with those of a forest, up to and including a marker's. If the stream's end came next, these would
+-- be all.
 pub record HandsOut (marker : DocumentMarker) (forest : Forest) (r : Remaining) : Type 0 where
   pub earlier : List Kind
   pub more : List Kind

@@ -1,6 +1,6 @@
 -- Nodes in flow style (YAML 1.2.2, 6.9, 7.1, 7.4 and 7.5), in texts whose breaks are line feeds.
 -- `indent` is the first column to the right of the enclosing block collection, and 0 at the root; `in_flow` tells
--- whether a node stands inside brackets or braces; `room` is how many flow collections may still be opened.
+-- whether a node is inside brackets or braces; `room` is how many flow collections may still be opened.
 use Rattle.std.specs.Prelude.{◌≡◌, ◌≢◌, ℕ, suc, ◌⊎◌, Bool, true, false, not, ◌==◌, ◌||◌, List, [], ◌∷◌, ◌++◌, IsTrue, IsFalse, Option, Some, None, codes}
 use Rattle.std.specs.List.{list_all}
 use Rattle.saphyr_input.specs.Classes.{is_blank, is_break, tab, line_feed}
@@ -54,13 +54,13 @@ IsScalarNode p style value in_flow indent t =
 abbrev pub IsOnLine : List ℕ → Type 0
 IsOnLine t = AreIn (λ c. not (c == line_feed)) t
 
--- An alias, and properties alone: a colon right behind them would belong to their name.
+-- An alias, and properties alone: a colon right after them would belong to their name.
 abbrev pub needs_separation : Node → Bool
 needs_separation (Alias name) = true
 needs_separation (Scalar p Plain []) = true
 needs_separation _ = false
 
--- 7.4.2 [149]: a value may stand right behind the colon of a key in quotes, and of a flow collection with blanks alone
+-- 7.4.2 [149]: a value may come right after the colon of a key in quotes, and of a flow collection with blanks alone
 -- before its colon.
 abbrev pub allows_adjacent : Node → List ℕ → Bool
 allows_adjacent (Scalar p SingleQuoted value) separation = true
@@ -71,7 +71,7 @@ allows_adjacent _ separation = false
 
 -- Below, K and V hold of the texts of a key and of a value.
 
--- a colon, and behind it no value, or one behind separation, or one at once
+-- a colon, and after it no value, or one after separation, or one at once
 abbrev pub IsColonAndValue : Bool → Node → (List ℕ → Type 0) → ℕ → List ℕ → Type 0
 IsColonAndValue adjacent value V indent t =
     ((value ≡ left_out) × (t ≡ codes ":"))
@@ -89,7 +89,7 @@ IsPlainKeyNode (Scalar p style value) in_flow indent t =
     × (value ≡ plain_value content) × (t ≡ front ++ content)
 IsPlainKeyNode _ in_flow indent t = ⊥
 
--- a key before separation and a colon; where no separation stands, a plain scalar's last word may end with a colon
+-- a key before separation and a colon; where no separation is, a plain scalar's last word may end with a colon
 abbrev pub IsKeyText : (List ℕ → Type 0) → Node → Bool → ℕ → List ℕ → List ℕ → Type 0
 IsKeyText K key in_flow indent t separation = K t ⊎ (IsPlainKeyNode key in_flow indent t × (separation ≡ []))
 
@@ -111,13 +111,13 @@ IsKeyOnLineAndValue key value K V indent t =
 abbrev pub IsValueAlone : Node → Node → (List ℕ → Type 0) → ℕ → List ℕ → Type 0
 IsValueAlone key value V indent t = (key ≡ left_out) × IsColonAndValue false value V indent t
 
--- whether a tab stands in separation outside its comments; the first argument tells that a comment goes on
+-- whether a tab is in separation outside its comments; the first argument tells that a comment goes on
 abbrev pub has_tab_outside : Bool → List ℕ → Bool
 has_tab_outside in_comment [] = false
 has_tab_outside true (c ∷ cs) = has_tab_outside (not (is_break c)) cs
 has_tab_outside false (c ∷ cs) = (c == tab) || has_tab_outside (c == number_sign) cs
 
--- the separation behind a `?`; tabs stand in its comments alone
+-- the separation after a `?`; tabs are in its comments alone
 abbrev pub IsBehindMark : ℕ → List ℕ → Type 0
 IsBehindMark indent t = (t ≢ []) × IsSeparation indent t × IsFalse (has_tab_outside false t)
 
@@ -129,13 +129,13 @@ IsExplicitPair key value K V indent t =
     ⊎ (IsValueAlone key value V indent pair ⊎ IsKeyAndValue key value K V indent pair))
     × (t ≡ codes "?" ++ (separation ++ pair))
 
--- a `?` alone: the separation behind it is all that stands there
+-- a `?` alone: the separation after it is all that is there
 abbrev pub IsLoneMark : Node → Node → ℕ → List ℕ → Type 0
 IsLoneMark key value indent t =
     (separation : List ℕ) × (key ≡ left_out) × (value ≡ left_out) × IsBehindMark indent separation
     × (t ≡ codes "?" ++ separation)
 
--- ## Entries, each with the separation behind it
+-- ## Entries, each with the separation after it
 
 abbrev pub IsBeforeSeparation : (List ℕ → Type 0) → ℕ → List ℕ → Type 0
 IsBeforeSeparation P indent t =
@@ -166,11 +166,11 @@ IsSinglePair key value K V indent t =
 abbrev pub IsComma : ℕ → List ℕ → Type 0
 IsComma indent t = (separation : List ℕ) × IsSeparation indent separation × (t ≡ codes "," ++ separation)
 
--- behind the last entry: nothing, or a comma
+-- after the last entry: nothing, or a comma
 abbrev pub IsLastComma : ℕ → List ℕ → Type 0
 IsLastComma indent t = (t ≡ []) ⊎ IsComma indent t
 
--- a bracket or brace behind a collection's properties, with the separation behind it
+-- a bracket or brace after a collection's properties, with the separation after it
 abbrev pub IsOpening : Properties → List ℕ → ℕ → List ℕ → Type 0
 IsOpening p bracket indent t =
     (front separation : List ℕ) × IsBeforeContent p indent front × IsSeparation indent separation

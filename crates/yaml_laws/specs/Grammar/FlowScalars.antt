@@ -27,11 +27,11 @@ IsFirstWord in_flow word =
     IsWordIn in_flow word × IsTrue (begins_plain (slice_index word 0)) × (word ≢ codes "-") × (word ≢ codes "?")
     × (word ≢ codes ":")
 
--- 6.4 [70]: an empty line, of spaces or none, or of what stands before content
+-- 6.4 [70]: an empty line, of spaces or none, or of what comes before content
 abbrev pub IsEmptyLine : ℕ → List ℕ → Type 0
 IsEmptyLine indent t = (front : List ℕ) × (AreSpaces 0 front ⊎ IsLinePrefix indent front) × (t ≡ front ++ codes "\n")
 
--- 6.5 [74]: between words on different lines: blanks, the break, empty lines, and what stands before the next line's
+-- 6.5 [74]: between words on different lines: blanks, the break, empty lines, and what comes before the next line's
 -- content
 abbrev pub IsFoldedGap : ℕ → List ℕ → Type 0
 IsFoldedGap indent t =
@@ -42,11 +42,11 @@ IsFoldedGap indent t =
 abbrev pub IsWordGap : ℕ → List ℕ → Type 0
 IsWordGap indent t = ((t ≢ []) × AreIn is_blank t) ⊎ IsFoldedGap indent t
 
--- a lone `-` behind a word
+-- a lone `-` after a word
 abbrev pub IsLoneDash : ℕ → List ℕ → Type 0
 IsLoneDash indent t = (gap : List ℕ) × IsWordGap indent gap × (t ≡ gap ++ codes "-")
 
--- A word behind others. Inside flow the last word is no lone `-`, but such may stand before it.
+-- A word after others. Inside flow the last word is no lone `-`, but such may come before it.
 abbrev pub IsFurtherWord : Bool → ℕ → List ℕ → Type 0
 IsFurtherWord in_flow indent t =
     (dashes gap word : List ℕ) × AreMany (IsLoneDash indent) dashes × IsWordGap indent gap × IsWordIn in_flow word
@@ -61,7 +61,7 @@ IsPlain in_flow indent t =
 abbrev pub IsLastWord : Bool → List ℕ → Type 0
 IsLastWord in_flow word = (word ≢ []) × AreIn (is_word_ink in_flow) word × (slice_index word 0 ≢ number_sign)
 
--- A plain scalar that is a key, with the key's colon right behind it: words and a last one, or one word, which may be a
+-- A plain scalar that is a key, with the key's colon right after it: words and a last one, or one word, which may be a
 -- lone `-`, `?` or `:` too.
 abbrev pub IsPlainKey : Bool → ℕ → List ℕ → Type 0
 IsPlainKey in_flow indent t =

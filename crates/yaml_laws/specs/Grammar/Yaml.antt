@@ -11,7 +11,7 @@ use Rattle.yaml_laws.specs.Grammar.BlockNodes.{Position, AtStart, BehindMarker, 
 
 -- ## 6.8: directives
 
--- a directive, and behind it on its line blanks and a comment or none; of a reserved one the line is all its own
+-- a directive, and after it on its line blanks and a comment or none; of a reserved one the line is all its own
 abbrev pub IsDirective : Directive → List ℕ → Type 0
 IsDirective (Version major minor) t =
     (directive tail : List ℕ) × IsVersionDirective major minor directive × IsLineTail tail × (t ≡ directive ++ tail)
@@ -20,7 +20,7 @@ IsDirective (TagPrefix handle prefix) t =
     × IsLineTail tail × (t ≡ directive ++ tail)
 IsDirective (Reserved name) t = IsReservedDirective name t
 
--- directive lines, and filler behind each
+-- directive lines, and filler after each
 abbrev pub AreDirectives : List Directive → List ℕ → Type 0
 AreDirectives [] t = t ≡ []
 AreDirectives (d ∷ others) t =
@@ -29,13 +29,13 @@ AreDirectives (d ∷ others) t =
 
 -- ## 9.1: documents
 
--- 9.1.2 [206]: whether a document marker begins a line of a text, which stands at a line's start or elsewhere
+-- 9.1.2 [206]: whether a document marker begins a line of a text, which is at a line's start or elsewhere
 abbrev pub has_marker : Bool → List ℕ → Bool
 has_marker at_start [] = false
 has_marker at_start (c ∷ others) =
     (at_start && is_document_indicator (c ∷ others)) || has_marker (c == line_feed) others
 
--- Below, N holds of a node, its place, its text, and what stands behind that.
+-- Below, N holds of a node, its place, its text, and what comes after that.
 abbrev pub NodeTexts : Type 1
 NodeTexts = Node → Position → List ℕ → List ℕ → Type 0
 
@@ -50,7 +50,7 @@ IsExplicitDocument N d t behind =
     × AreDirectives d.directives directives × IsFalse (has_marker false node) × N d.node BehindMarker node behind
     × (t ≡ directives ++ (codes "---" ++ node))
 
--- A document. It may be bare or have directives only where it is free: at the start of the stream and behind a `...`
+-- A document. It may be bare or have directives only where it is free: at the start of the stream and after a `...`
 -- line.
 abbrev pub IsDocument : NodeTexts → Document → Bool → List ℕ → List ℕ → Type 0
 IsDocument N d free t behind =
@@ -59,7 +59,7 @@ IsDocument N d free t behind =
 
 -- ## 9.2: streams
 
--- 9.1.1, 9.1.2 [202], [205]: what may stand where a document is free, before `behind`: byte order marks and `...`
+-- 9.1.1, 9.1.2 [202], [205]: what may be where a document is free, before `behind`: byte order marks and `...`
 -- lines, any number of them, with filler before each
 pub data IsDocumentPrefix : List ℕ → List ℕ → Type 0 where
   no_prefix : (behind : List ℕ) → IsDocumentPrefix [] behind
@@ -69,7 +69,7 @@ pub data IsDocumentPrefix : List ℕ → List ℕ → Type 0 where
       → IsDocumentPrefix others behind
       → IsDocumentPrefix (filler ++ (codes "..." ++ (end ++ others))) behind
 
--- 9.1.2 [205]: a `...` line behind filler, and behind it what may stand before a document
+-- 9.1.2 [205]: a `...` line after filler, and after it what may come before a document
 abbrev pub IsDocumentSuffix : List ℕ → List ℕ → Type 0
 IsDocumentSuffix t behind =
     (filler end prefix : List ℕ) × IsFiller filler × IsEol end (prefix ++ behind) × IsDocumentPrefix prefix behind
@@ -79,25 +79,25 @@ IsDocumentSuffix t behind =
 abbrev pub IsMarkBehindFiller : List ℕ → Type 0
 IsMarkBehindFiller t = (filler : List ℕ) × IsFiller filler × (t ≡ filler ++ byte_order_mark ∷ [])
 
--- behind a document: what Others tells, or a `...` line first
+-- after a document: what Others tells, or a `...` line first
 abbrev pub IsBehindMarks : (Bool → List ℕ → Type 0) → List ℕ → Type 0
 IsBehindMarks Others t =
     Others false t ⊎ ((suffix others : List ℕ) × IsDocumentSuffix suffix others × Others true others
     × (t ≡ suffix ++ others))
 
--- 9.2 [211]: the same behind byte order marks, any number of them
+-- 9.2 [211]: the same after byte order marks, any number of them
 abbrev pub IsBehindDocument : (Bool → List ℕ → Type 0) → List ℕ → Type 0
 IsBehindDocument Others t =
     (marks others : List ℕ) × AreMany IsMarkBehindFiller marks × IsBehindMarks Others others × (t ≡ marks ++ others)
 
--- documents, with filler between and behind them
+-- documents, with filler between and after them
 abbrev pub AreDocuments : NodeTexts → Forest → Bool → List ℕ → Type 0
 AreDocuments N [] free t = IsLastFiller t
 AreDocuments N (d ∷ ds) free t =
     (filler document others : List ℕ) × IsFiller filler × IsDocument N d free document others
     × IsBehindDocument (AreDocuments N ds) others × (t ≡ filler ++ (document ++ others))
 
--- a stream: what may stand before a document, and documents
+-- a stream: what may come before a document, and documents
 abbrev pub IsStream : NodeTexts → Forest → List ℕ → Type 0
 IsStream N forest t = (prefix others : List ℕ) × IsDocumentPrefix prefix others × AreDocuments N forest true others
     × (t ≡ prefix ++ others)

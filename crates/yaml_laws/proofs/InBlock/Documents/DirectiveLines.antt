@@ -1,4 +1,4 @@
--- Directives stand on a line each, and no document marker begins a line of directives.
+-- Directives are on a line each, and no document marker begins a line of directives.
 use Rattle.std.proofs.Common.{◌≡◌, ℕ, Bool, List, [], ◌∷◌, ◌++◌, IsTrue, refl, sym, ap, ◌∙◌, arith, subst, inl, inr, codes}
 use Rattle.std.proofs.lemmas.Bool.Decides.{nat_tests}
 use Rattle.std.specs.Prelude.{◌||◌, ◌==◌, not}
@@ -13,7 +13,7 @@ use Rattle.yaml_laws.proofs.InBlock.Skips.{nothing, one_break, filler_skipped}
 use Rattle.yaml_laws.proofs.InBlock.LineStarts.{IsUnmarked, both_unmarked, line_unmarked, set_on_line, skipped_unmarked}
 use Rattle.saphyr_input.proofs.Basics.Characters.{blank_no_feed, non_break_no_feed}
 
--- ## Directives stand on a line
+-- ## Directives are on a line
 
 abbrev IsOneLine : List ℕ → Type 0
 IsOneLine t = AreIn (λ c. not (c == line_feed)) t

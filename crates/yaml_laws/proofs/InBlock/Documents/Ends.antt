@@ -1,4 +1,4 @@
--- What stands behind a document ends it, or begins with a document marker (YAML 1.2.2, chapter 9).
+-- What comes after a document ends it, or begins with a document marker (YAML 1.2.2, chapter 9).
 use Rattle.std.proofs.Common.{◌≡◌, ℕ, Bool, true, false, List, [], ◌∷◌, ◌++◌, slice_index, refl, sym, ap, ◌∙◌, subst, append_assoc, ◌⊎◌, inl, inr}
 use Rattle.std.specs.Prelude.{◌==◌, not}
 use Rattle.saphyr_input.specs.Classes.{is_blank_or_breakz, carriage_return, byte_order_mark}
@@ -31,15 +31,15 @@ AreBlockDocuments = AreDocuments (IsBlockNode most_open)
 abbrev pub HasNoReturn : List ℕ → Type 0
 HasNoReturn t = AreIn (λ c. not (c == carriage_return)) t
 
--- what stands behind a document lands where it ends
+-- what comes after a document lands where it ends
 abbrev pub Lands : Marker → List ℕ → Type 0
 Lands m o = EndsDocument (past 0 m o).0 (past 0 m o).1
 
--- behind a document no tab stands before the next token on its line
+-- after a document no tab comes before the next token on its line
 pub record IsPlainBehind (o : List ℕ) : Type 0 where
   pub clean : IsClean o
 
--- ## What stands behind a document ends it
+-- ## What comes after a document ends it
 
 pub no_directives : (d : Document) (t : List ℕ) → d.directives ≡ [] → AreDirectives d.directives t → t ≡ []
 no_directives d t e h = subst (λ ds. AreDirectives ds t) e h
@@ -70,13 +70,13 @@ last_plain o (filler, text, filler_is, (front, comment, are, k, text_is), is) =
 pub dot_ink : IsInk 46
 dot_ink = record { blank = refl; break = refl; comment = refl; byte_order_mark = refl }
 
--- a `...` line before what stands behind it
+-- a `...` line before what comes after it
 pub suffix_text : (filler end prefix others : List ℕ)
     → (filler ++ (full_stop ∷ full_stop ∷ full_stop ∷ (end ++ prefix))) ++ others
     ≡ filler ++ (full_stop ∷ full_stop ∷ full_stop ∷ (end ++ (prefix ++ others)))
 suffix_text filler end prefix others = simp append_assoc
 
--- before a byte order mark and what stands behind it
+-- before a byte order mark and what comes after it
 pub marks_text : (piece filler marks others : List ℕ) → piece ≡ filler ++ byte_order_mark ∷ []
     → (piece ++ marks) ++ others ≡ filler ++ (byte_order_mark ∷ (marks ++ others))
 marks_text piece filler marks others e =
@@ -84,7 +84,7 @@ marks_text piece filler marks others e =
     ∙ ap (λ (x : List ℕ). x ++ others) (append_assoc filler (65279 ∷ []) marks)
     ∙ append_assoc filler (65279 ∷ marks) others
 
--- behind a document stands a byte order mark first, behind filler, or none
+-- after a document is a byte order mark first, after filler, or none
 marks_first : (Others : Bool → List ℕ → Type 0) (o : List ℕ) → yaml.IsBehindDocument Others o
     → yaml.IsBehindMarks Others o
     ⊎ ((filler rest : List ℕ) × IsFiller filler × (o ≡ filler ++ (byte_order_mark ∷ rest)))
@@ -130,14 +130,14 @@ plain_behind ds o h = by_first (marks_first (AreBlockDocuments ds) o h)
     by_first (inl k) = plain_unmarked ds o k
     by_first (inr (filler, rest, filler_is, e)) = plain_marked filler 65279 rest o filler_is e (refl, refl, refl)
 
--- behind `---` stands a blank or a break
+-- after `---` is a blank or a break
 pub explicit_first : {limit : ℕ} → ReadsLeaves limit → (node : Node) (t others : List ℕ)
     → IsBlockNode most_open node BehindMarker t others → IsPlainBehind others
     → is_blank_or_breakz (slice_index (t ++ others) 0) ≡ true
 explicit_first leaves node t others h plain =
     let b = node_behind leaves node BehindMarker t others refl h plain.clean in b.first
 
--- behind filler a document marker or a byte order mark begins a line
+-- after filler a document marker or a byte order mark begins a line
 pub record OpensMarker (o : List ℕ) : Type 0 where
   pub filler : List ℕ
   pub filler_is : IsFiller filler
@@ -185,7 +185,13 @@ opens_unmarked leaves (d ∷ ds) o
           (explicit_first leaves d.node node others node_is (plain_behind ds others behind)));
       is = e ∙ ap (λ (x : List ℕ). filler ++ (x ++ others)) begins;
     })
-opens_unmarked leaves ds o (inr (suffix, others, (filler, end, prefix, filler_is, end_is, prefix_is, text), behind, e)) =
+opens_unmarked leaves ds o (inr (
+  suffix,
+  others,
+  (filler, end, prefix, filler_is, end_is, prefix_is, text),
+  behind,
+  e,
+)) =
     let m : Marker = record { index = 0; line = 1; col = 0 } in
     inr (record {
       filler = filler;
@@ -198,7 +204,7 @@ opens_unmarked leaves ds o (inr (suffix, others, (filler, end, prefix, filler_is
       is = e ∙ ap (λ (x : List ℕ). x ++ others) text ∙ suffix_text filler end prefix others;
     })
 
--- what stands behind a document: filler alone, a document marker, or a byte order mark
+-- what comes after a document: filler alone, a document marker, or a byte order mark
 pub opens_marker : {limit : ℕ} → ReadsLeaves limit → (ds : Forest) (o : List ℕ)
     → yaml.IsBehindDocument (AreBlockDocuments ds) o → ((ds ≡ []) × IsLastFiller o) ⊎ OpensMarker o
 opens_marker leaves ds o h = by_first (marks_first (AreBlockDocuments ds) o h)

@@ -19,7 +19,7 @@ use Rattle.yaml_laws.specs.Grammar.Yaml.{has_marker}
 use Rattle.yaml_laws.proofs.Flow.States.{IsClear, EndsDocument, marks_line, moved, past}
 use Rattle.yaml_laws.proofs.Flow.Places.{behind_character, moved_count}
 use Rattle.yaml_laws.proofs.Flow.GapSteps.{past_again}
-use Rattle.yaml_laws.proofs.InBlock.MarkedLines.{fed_marks, last_marks}
+use Rattle.yaml_laws.proofs.InBlock.LineStarts.{fed_marks, last_marks}
 use Rattle.yaml_laws.proofs.Documents.Stands.{AtLine, Lined, OffLine, StandsInStream}
 use Rattle.yaml_laws.proofs.InBlock.States.{Moment, root, moment_at, state_of, tabbed, tabbed_comment, crosses, IsStop, is_compact, IsPlaced, Before}
 use Rattle.yaml_laws.proofs.InBlock.Gaps.{past_stops}
@@ -38,7 +38,7 @@ use Rattle.yaml_laws.proofs.InBlock.Documents.Ends.{HasNoReturn, Lands, IsPlainB
 
 -- ## The text of a node is clear
 
--- a text behind which a line starts ends with a break
+-- a text after which a line starts ends with a break
 feed_last : (m : Marker) (c : ℕ) (cs : List ℕ) → (moved m (c ∷ cs)).col ≡ 0
     → (front : List ℕ) × (c ∷ cs ≡ front ++ (line_feed ∷ []))
 feed_last m c [] e = by_feed (c == line_feed) refl e
@@ -81,7 +81,7 @@ bare_clear m t others (inr e) clean h ends =
       no_marker = ap (λ (x : List ℕ). marks_line (m.col == 0) x others) (none_here t others e);
     }
 
--- the text behind a `---`
+-- the text after a `---`
 pub explicit_clear : (m : Marker) (t others : List ℕ) → OffLine m → HasNoReturn t → has_marker false t ≡ false
     → EndsWithLine t others → IsClear m t others
 explicit_clear m t others e clean h ends =
@@ -92,14 +92,14 @@ explicit_clear m t others e clean h ends =
 
 -- ## The node of a document
 
--- The scanner has read a document's node, and stands behind it.
+-- The scanner has read a document's node, and comes after it.
 pub record NodeStands (limit : ℕ) (start : State) (node : Node) (place : Position) (others : List ℕ) (ts : List Kind) :
     Type 0 where
   pub tokens : List Kind
   pub are : AreRead node place tokens
   pub stands : StandsInStream limit start false (Lined false others) others (ts ++ tokens)
 
--- at the end of a document it doesn't matter where content would have to stand
+-- at the end of a document it doesn't matter where content would have to be
 flat_here : (m : Marker) (y : List ℕ) (blank : Bool) (key : Option Candidate) (a : Bool) (ad : ℕ) (deeper : Bool)
     (ps : List Place) → EndsDocument m y
     → fetch_here (state_of root (moment_at m y blank key a ad deeper) ps)
@@ -149,7 +149,7 @@ tabbed_over_comment m blank c cs false true r e f g word on line = rw (e, f) on
 tabbed_over_comment m blank c cs false false true e f g word on line = rw (e, f, g) line
 tabbed_over_comment m blank c cs false false false e f g word on line = rw (e, f, g) refl
 
--- at the root no tab stands left of what is enclosed
+-- at the root no tab is left of what is enclosed
 mutual
   untabbed : (m : Marker) (blank : Bool) (t : List ℕ) → tabbed 0 m blank false t ≡ false
   untabbed m blank [] = refl

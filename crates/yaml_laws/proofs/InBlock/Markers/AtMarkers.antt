@@ -27,8 +27,8 @@ use Rattle.yaml_laws.proofs.InBlock.Markers.HandedMarkers.{Handed}
 
 -- ## Tokens up to a marker's
 
--- The scanner has handed out these tokens and others, up to and with a marker's own. Were the stream's end the next
--- token, Told would hold of the others.
+-- The scanner has handed out these tokens and others, up to and including a marker's own. Were the stream's end the
+-- next token, Told would hold of the others.
 pub record Closes (limit : ℕ) (start : State) (marker : DocumentMarker) (Told : List Kind → Type 0) (ts : List Kind) :
     Type 0 where
   pub earlier : List Kind
@@ -60,7 +60,7 @@ closes_as {marker = marker} each c = record {
   handed = c.handed;
 }
 
--- ends of documents and byte order marks, and documents behind them
+-- ends of documents and byte order marks, and documents after them
 abbrev pub YieldsAhead : Forest → List Kind → Type 0
 YieldsAhead ds t = (marks others : List Kind) × AreEndsAndMarks marks × grammar.YieldDocuments ds true others
     × (t ≡ marks ++ others)
@@ -92,7 +92,7 @@ end_behind ds t (all, (marks, others, are, told, same), e) = (
 
 -- ## The marker
 
--- what stands behind a marker: a blank or a break first, and a break last
+-- what comes after a marker: a blank or a break first, and a break last
 pub record IsMarkerRest (r : List ℕ) : Type 0 where
   pub first : is_blank_or_breakz (slice_index r 0) ≡ true
   pub fed : EndsFed r
@@ -105,7 +105,7 @@ marker_is_indicator Ends r h = end_ends r h.first
 pub dash_or_dot : (cs ds : List ℕ) → hyphen ∷ cs ≡ full_stop ∷ ds → ⊥
 dash_or_dot cs ds e = let k : true ≡ false = ap (λ (x : List ℕ). slice_index x 0 == 45) e in cc
 
--- What is to be shown where the marker is that of a document, or one behind a document. Its rest is r, and `more`
+-- What is to be shown where the marker is that of a document, or one after a document. Its rest is r, and `more`
 -- follows.
 abbrev pub StartsHere : ℕ → State → DocumentMarker → List ℕ → List ℕ → Type 0
 StartsHere limit start marker more r =
@@ -129,7 +129,7 @@ abbrev pub Found : ℕ → State → DocumentMarker → List ℕ → DocumentMar
 Found limit start marker more Starts r = StartsHere limit start marker more r
 Found limit start marker more Ends r = EndsHere limit start marker more r
 
--- behind this text stands the marker
+-- after this text is the marker
 abbrev pub Marked : DocumentMarker → List ℕ → List ℕ → Type 0
 Marked w r t = HasLine t (marker_text w ++ r)
 
@@ -139,7 +139,7 @@ marked_fed w r t h l = subst EndsFed (sym l.is)
 
 -- ## A `...` line and a byte order mark are passed
 
--- Behind a `...` line the scanner goes on with what may stand before documents.
+-- After a `...` line the scanner goes on with what may come before documents.
 pub passes_end : {limit : ℕ} {start : State} {marker : DocumentMarker} {free opened : Bool} (ds : Forest)
     (end o more : List ℕ) (ts : List Kind) → IsEol end o → EndsFed o
     → StandsInStream limit start free
@@ -152,7 +152,7 @@ passes_end ds end o more ts end_is fed v go =
     closes_on ts (tokens.DocumentEnd ∷ []) (λ all told. (all, told, refl))
     (go (ts ++ tokens.DocumentEnd ∷ []) (reads_end end (o ++ more) v (end_further more end o fed end_is)))
 
--- behind filler and a byte order mark
+-- after filler and a byte order mark
 pub passes_mark : {limit : ℕ} {start : State} {marker : DocumentMarker} (ds : Forest) (filler o : List ℕ)
     (ts : List Kind) → IsFiller filler
     → StandsInStream limit start true (Lined true (filler ++ (byte_order_mark ∷ o))) (filler ++ (byte_order_mark ∷ o))

@@ -1,4 +1,4 @@
--- Behind a document marker nothing that was read may yet be a key, so all tokens up to its own are handed out.
+-- After a document marker nothing that was read may yet be a key, so all tokens up to its own are handed out.
 use Rattle.std.proofs.Common.{◌≡◌, ℕ, ◌+◌, ◌≤◌, Bool, true, false, List, [], ◌∷◌, ◌++◌, length, slice_index, Ok, refl, ap, ◌∙◌, arith, inl, inr}
 use Rattle.std.proofs.lemmas.List.{length-append}
 use Rattle.std.specs.Prelude.{Option, None}
@@ -18,7 +18,7 @@ use Rattle.saphyr_scanner.specs.Steps.State.{State}
 use Rattle.saphyr_scanner.specs.Steps.Fetch.{fetch_here}
 use Rattle.saphyr_scanner.proofs.Leads.{LeadsTo, stay, onward, leads_on}
 use Rattle.yaml_laws.proofs.Flow.States.{EndsDocument, moved, past}
-use Rattle.yaml_laws.proofs.Flow.Arrivals.{within_index}
+use Rattle.yaml_laws.proofs.Flow.Tokens.{within_index}
 use Rattle.yaml_laws.proofs.Flow.Separates.{separates_rest}
 use Rattle.yaml_laws.proofs.Documents.Lines.{eol, eol_first, break_ends}
 use Rattle.yaml_laws.proofs.Documents.Stands.{reads_here, Lined, StandsInStream}

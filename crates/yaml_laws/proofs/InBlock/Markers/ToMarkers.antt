@@ -48,7 +48,7 @@ opens_marker_still o more fed k =
       is = ap (λ (x : List ℕ). x ++ more) k.is ∙ append_assoc k.filler (k.first ∷ k.others) more;
     }
 
--- a tab ahead stands before the marker
+-- a tab ahead comes before the marker
 tells_marked : (o more : List ℕ) → OpensMarker o → TellsTabs more o
 tells_marked o more k =
     subst (TellsTabs more) (sym k.is)
@@ -88,7 +88,7 @@ closes_beyond readers leaves w r more rest d ds free document others ts is behin
         (marker_is_indicator w r rest))
     opens (inr k) = k
 
--- behind the first dash of a document's marker
+-- after the first dash of a document's marker
 not_dashes : (node others : List ℕ) → marks_line false node others ≡ false
     → marks_line false (hyphen ∷ hyphen ∷ node) others ≡ false
 not_dashes node others h = h
@@ -149,7 +149,7 @@ closes_document {limit = limit} {start = start} {marker = marker} readers leaves
 
 -- ## Before documents
 
--- the marker is that of a `...` line, or stands behind it
+-- the marker is that of a `...` line, or comes after it
 closes_end : {limit : ℕ} {start : State} {marker : DocumentMarker} {free opened : Bool} (w : DocumentMarker)
     (r more : List ℕ) → IsMarkerRest r → Found limit start marker more w r
     → (ds : Forest) (filler end prefix others : List ℕ) (ts : List Kind) → IsFiller filler
@@ -207,7 +207,7 @@ closes_end {limit = limit} {start = start} {marker = marker} {free = free} {open
         first)
         (go k)
 
--- the marker stands in what may stand before documents, or in these
+-- the marker is in what may come before documents, or in these
 closes_prefix : {limit : ℕ} {start : State} {marker : DocumentMarker} (w : DocumentMarker) (r more : List ℕ)
     → IsMarkerRest r → Found limit start marker more w r → (ds : Forest)
     → ((t : List ℕ) (ts : List Kind) → AreBlockDocuments ds true t → HasNoReturn t
@@ -240,11 +240,16 @@ closes_prefix {limit = limit} {start = start} w r more rest found ds go _ _ ts
 
 -- ## Documents
 
+-- the documents are read up to the marker, wherever they begin
+abbrev ClosesDocuments : ℕ → State → DocumentMarker → DocumentMarker → List ℕ → List ℕ → Forest → Type 0
+ClosesDocuments limit start marker w r more ds =
+    (free : Bool) (t : List ℕ) (ts : List Kind) → AreBlockDocuments ds free t → HasNoReturn t
+    → StandsInStream limit start free (Lined free (t ++ more)) (t ++ more) ts → Marked w r t
+    → Closes limit start marker (grammar.YieldDocuments ds free) ts
+
 closes_unmarked : {limit : ℕ} {start : State} {marker : DocumentMarker} (w : DocumentMarker) (r more : List ℕ)
     → IsMarkerRest r → Found limit start marker more w r → (ds : Forest)
-    → ((free : Bool) (t : List ℕ) (ts : List Kind) → AreBlockDocuments ds free t → HasNoReturn t
-    → StandsInStream limit start free (Lined free (t ++ more)) (t ++ more) ts → Marked w r t
-    → Closes limit start marker (grammar.YieldDocuments ds free) ts)
+    → ClosesDocuments limit start marker w r more ds
     → (o : List ℕ) (ts : List Kind) → yaml.IsBehindMarks (AreBlockDocuments ds) o → HasNoReturn o
     → StandsInStream limit start false (Lined false (o ++ more)) (o ++ more) ts → Marked w r o
     → Closes limit start marker (grammar.YieldsBehindDocument (grammar.YieldDocuments ds)) ts
@@ -261,12 +266,10 @@ closes_unmarked {limit = limit} {start = start} {marker = marker} w r more rest 
     (subst (Marked w r) text line)
     (λ l us s. closes_prefix w r more rest found ds (go true) prefix others us prefix_is h left s l))
 
--- the marker stands behind a document's byte order marks
+-- the marker comes after a document's byte order marks
 closes_marked : {limit : ℕ} {start : State} {marker : DocumentMarker} (w : DocumentMarker) (r more : List ℕ)
     → IsMarkerRest r → Found limit start marker more w r → (ds : Forest)
-    → ((free : Bool) (t : List ℕ) (ts : List Kind) → AreBlockDocuments ds free t → HasNoReturn t
-    → StandsInStream limit start free (Lined free (t ++ more)) (t ++ more) ts → Marked w r t
-    → Closes limit start marker (grammar.YieldDocuments ds free) ts)
+    → ClosesDocuments limit start marker w r more ds
     → (pieces : List (List ℕ)) (o : List ℕ) (ts : List Kind) → AreEach yaml.IsMarkBehindFiller pieces
     → yaml.IsBehindMarks (AreBlockDocuments ds) o → HasNoReturn o
     → StandsInStream limit start false (Lined false ((joined_pieces pieces ++ o) ++ more))
@@ -291,9 +294,7 @@ closes_marked {limit = limit} {start = start} w r more rest found ds go (piece �
 
 closes_behind : {limit : ℕ} {start : State} {marker : DocumentMarker} (w : DocumentMarker) (r more : List ℕ)
     → IsMarkerRest r → Found limit start marker more w r → (ds : Forest)
-    → ((free : Bool) (t : List ℕ) (ts : List Kind) → AreBlockDocuments ds free t → HasNoReturn t
-    → StandsInStream limit start free (Lined free (t ++ more)) (t ++ more) ts → Marked w r t
-    → Closes limit start marker (grammar.YieldDocuments ds free) ts)
+    → ClosesDocuments limit start marker w r more ds
     → (o : List ℕ) (ts : List Kind) → yaml.IsBehindDocument (AreBlockDocuments ds) o → HasNoReturn o
     → StandsInStream limit start false (Lined false (o ++ more)) (o ++ more) ts → Marked w r o
     → Closes limit start marker (grammar.YieldsBehindDocument (grammar.YieldDocuments ds)) ts
@@ -304,7 +305,7 @@ closes_behind {limit = limit} {start = start} w r more rest found ds go o ts
     (subst (λ (x : List ℕ). StandsInStream limit start false (Lined false (x ++ more)) (x ++ more) ts) text v)
     (subst (Marked w r) text line)
 
--- The marker stands at a line's start of the documents' text: up to it they are read, and there what is to be shown is.
+-- The marker is at a line's start of the documents' text: up to it they are read, and there what is to be shown is.
 closes_documents : {limit : ℕ} {start : State} {marker : DocumentMarker} → ReaderPromises → ReadsLeaves limit
     → (w : DocumentMarker) (r more : List ℕ) → IsMarkerRest r → Found limit start marker more w r
     → (forest : Forest) (free : Bool) (t : List ℕ) (ts : List Kind) → AreBlockDocuments forest free t → HasNoReturn t
@@ -328,7 +329,7 @@ closes_documents {limit = limit} {start = start} readers leaves w r more rest fo
     (λ next us s. closes_behind w r more rest found ds (closes_documents readers leaves w r more rest found ds) others
     us behind (back_in _ document others left) s next)
 
--- The marker stands at a line's start of a stream, behind whose own start the scanner stands.
+-- The marker is at a line's start of a stream, after whose own start the scanner is.
 pub closes_stream : {limit : ℕ} {start : State} {marker : DocumentMarker} → ReaderPromises → ReadsLeaves limit
     → (w : DocumentMarker) (r more : List ℕ) → IsMarkerRest r → Found limit start marker more w r
     → (forest : Forest) (prefix others : List ℕ) (ts : List Kind) → IsDocumentPrefix prefix others
