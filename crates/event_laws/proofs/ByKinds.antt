@@ -24,7 +24,7 @@ use Rattle.event_laws.proofs.Happenings.{happenings_of}
 
 -- ## All steps
 
--- the same events but for their spans, and a fault behind both or none
+-- the same events but for their spans, and a fault after both or none
 record Alike (a b : Answer) : Type 0 where
   told : happenings_of b ≡ happenings_of a
   fault : is_some b.fault ≡ is_some a.fault
@@ -103,16 +103,14 @@ none_if : {X : Type 0} (o : Option X) → is_some o ≡ false → o ≡ None
 none_if None e = refl
 none_if (Some x) e = absurd (cc)
 
-pub exactly_too :
-    (keep : Bool) (a b : Remaining) (es : List Happening) → kinds a.pieces ≡ kinds b.pieces
+pub exactly_too : (keep : Bool) (a b : Remaining) (es : List Happening) → kinds a.pieces ≡ kinds b.pieces
     → GivesExactly es (to_come (keeping_tags keep (at_start a)))
     → GivesExactly es (to_come (keeping_tags keep (at_start b)))
 exactly_too keep a b es e g =
     let same = alike keep a b e in
     (none_if (to_come (keeping_tags keep (at_start b))).fault (same.fault ∙ ap is_some g.0), same.told ∙ g.1)
 
-pub first_too :
-    (keep : Bool) (a b : Remaining) (es : List Happening) → kinds a.pieces ≡ kinds b.pieces
+pub first_too : (keep : Bool) (a b : Remaining) (es : List Happening) → kinds a.pieces ≡ kinds b.pieces
     → GivesFirst es (to_come (keeping_tags keep (at_start a)))
     → GivesFirst es (to_come (keeping_tags keep (at_start b)))
 first_too keep a b es e g = (g.0, (alike keep a b e).told ∙ g.1)
@@ -130,11 +128,9 @@ all_kinds : (ks ls : List Kind) → kinds (map piece_of ks ++ map piece_of ls) �
 all_kinds ks ls = ap kinds (sym (map-append piece_of ks ls)) ∙ kinds_of (ks ++ ls)
 
 -- Tokens end with a marker's and the end of the stream, and give exactly these events. Where others follow the marker's
--- token, the events up to and with the marker's come first.
-pub closed_kinds :
-    (keep : Bool) (w : DocumentMarker) (earlier more : List Kind) (alone : List Piece) (followed : Remaining)
-    (first : List Happening)
-    → kinds alone ≡ earlier ++ marker_token w ∷ tokens.StreamEnd ∷ []
+-- token, the events up to and including the marker's come first.
+pub closed_kinds : (keep : Bool) (w : DocumentMarker) (earlier more : List Kind) (alone : List Piece)
+    (followed : Remaining) (first : List Happening) → kinds alone ≡ earlier ++ marker_token w ∷ tokens.StreamEnd ∷ []
     → kinds followed.pieces ≡ earlier ++ marker_token w ∷ more
     → GivesExactly (first ++ events_behind_marker w) (answer_of_tokens keep alone)
     → GivesFirst first (to_come (keeping_tags keep (at_start followed)))

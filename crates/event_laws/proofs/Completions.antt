@@ -13,7 +13,7 @@ use Rattle.saphyr_machine.specs.Events.{Happening}
 use Rattle.event_laws.specs.ForestEvents.{first_and_others}
 use Rattle.event_laws.proofs.Told.Telling.{Memory}
 use Rattle.event_laws.proofs.Remembering.{after, event_in, events_in}
-use Rattle.event_laws.proofs.Turned.Following.{Then, Exactly, IsNodeOf, IsOptionalOf, IsSkipped, IsAnyValueOf, FirstEntries, OtherEntries, FirstPairs, OtherPairs, BlockEntries, BlockPairs, InSequence, AtPairEnd, AtPairValue, InMapping, InBlockPairs, FollowsStates, IsOutside, IsInsideDocument, IsAlive, Starts}
+use Rattle.event_laws.proofs.Turned.Following.{Claim, Then, Exactly, IsNodeOf, IsOptionalOf, IsSkipped, IsAnyValueOf, FirstEntries, OtherEntries, FirstPairs, OtherPairs, BlockEntries, BlockPairs, InSequence, AtPairEnd, AtPairValue, InMapping, InBlockPairs, FollowsStates, IsOutside, IsInsideDocument, IsAlive, Starts}
 use Rattle.event_laws.proofs.Turned.Turning.{put}
 use Rattle.event_laws.proofs.Turned.Entries.{marked_value, any_value, collection_ends}
 use Rattle.event_laws.proofs.Turned.Block.{one_entry}
@@ -82,248 +82,130 @@ pub record Completion (s : State) (ss : List State) : Type 0 where
   pub quiet : AreQuiet parts
   pub some : parts ≢ []
 
+complete : (s : State) (ss : List State) (kinds : List Kind) (first : Part) (parts : List Part)
+    → FollowsStates s ss kinds (first ∷ parts) → ((ahead : List Kind) → Starts s ahead kinds)
+    → AreQuiet (first ∷ parts) → Completion s ss
+complete s ss kinds first parts follows starts quiet = record {
+  kinds = kinds;
+  parts = first ∷ parts;
+  follows = follows;
+  starts = starts;
+  quiet = quiet;
+  some = λ e. cc;
+}
+
 outside : (s : State) → IsOutside s → Completion s []
 outside state.StreamStart i =
-    record {
-      kinds = StreamStart ∷ StreamEnd ∷ [];
-      parts = OpenStream ∷ CloseStream ∷ [];
-      follows = ([], ([], StreamEnd ∷ [], tt, refl, refl), refl);
-      starts = λ ahead. tt;
-      some = λ e. cc;
-      quiet = (tt, (tt, tt));
-    }
+    complete _ _ (StreamStart ∷ StreamEnd ∷ []) OpenStream (CloseStream ∷ [])
+    ([], ([], StreamEnd ∷ [], tt, refl, refl), refl) (λ ahead. tt) (tt, (tt, tt))
 outside state.ImplicitDocumentStart i =
-    record {
-      kinds = StreamEnd ∷ [];
-      parts = CloseStream ∷ [];
-      follows = ([], [], StreamEnd ∷ [], tt, refl, refl, refl);
-      starts = λ ahead. tt;
-      some = λ e. cc;
-      quiet = (tt, tt);
-    }
+    complete _ _ (StreamEnd ∷ []) CloseStream [] ([], [], StreamEnd ∷ [], tt, refl, refl, refl) (λ ahead. tt) (tt, tt)
 outside state.DocumentStart i =
-    record {
-      kinds = StreamEnd ∷ [];
-      parts = CloseStream ∷ [];
-      follows = ([], [], StreamEnd ∷ [], tt, refl, refl, refl);
-      starts = λ ahead b. tt;
-      some = λ e. cc;
-      quiet = (tt, tt);
-    }
+    complete _ _ (StreamEnd ∷ []) CloseStream [] ([], [], StreamEnd ∷ [], tt, refl, refl, refl) (λ ahead b. tt)
+    (tt, tt)
 outside state.DocumentEnd i =
-    record {
-      kinds = StreamEnd ∷ [];
-      parts = CloseDocument ∷ CloseStream ∷ [];
-      follows = ([], ([], [], StreamEnd ∷ [], tt, inl (refl, refl), refl), refl);
-      starts = λ ahead. tt;
-      some = λ e. cc;
-      quiet = (tt, (tt, tt));
-    }
+    complete _ _ (StreamEnd ∷ []) CloseDocument (CloseStream ∷ [])
+    ([], ([], [], StreamEnd ∷ [], tt, inl (refl, refl), refl), refl) (λ ahead. tt) (tt, (tt, tt))
 outside _ i = elim i [ ]
 
 abbrev leaf : Part
 leaf = Leaf forest.no_properties Plain []
 
-skip : (R : List Kind → List Part → Type 0) (ks : List Kind) (ps : List Part) → R ks ps
-    → Then IsSkipped R ks (leaf ∷ ps)
+skip : (R : Claim) (ks : List Kind) (ps : List Part) → R ks ps → Then IsSkipped R ks (leaf ∷ ps)
 skip R ks ps r = put IsSkipped R [] (leaf ∷ []) ks ps (refl, refl) r
 
-maybe : (R : List Kind → List Part → Type 0) (ks : List Kind) (ps : List Part) → R ks ps
-    → Then (IsOptionalOf InFlow) R ks (leaf ∷ ps)
+maybe : (R : Claim) (ks : List Kind) (ps : List Part) → R ks ps → Then (IsOptionalOf InFlow) R ks (leaf ∷ ps)
 maybe R ks ps r = put (IsOptionalOf InFlow) R [] (leaf ∷ []) ks ps (forest.left_out, inl (refl, refl), refl) r
 
-entries_end : (R : List Kind → List Part → Type 0) (ks : List Kind) (ps : List Part) → R ks ps
+entries_end : (R : Claim) (ks : List Kind) (ps : List Part) → R ks ps
     → InSequence R (FlowSequenceEnd ∷ ks) (CloseSequence ∷ ps)
 entries_end R ks ps r = collection_ends OtherEntries R (FlowSequenceEnd ∷ []) CloseSequence ks ps
     (NoNode, inl refl, refl) r
 
-pairs_end : (R : List Kind → List Part → Type 0) (ks : List Kind) (ps : List Part) → R ks ps
+pairs_end : (R : Claim) (ks : List Kind) (ps : List Part) → R ks ps
     → InMapping R (FlowMappingEnd ∷ ks) (CloseMapping ∷ ps)
 pairs_end R ks ps r = collection_ends OtherPairs R (FlowMappingEnd ∷ []) CloseMapping ks ps (NoPair, inl refl, refl) r
 
-block_pairs_end : (R : List Kind → List Part → Type 0) (ks : List Kind) (ps : List Part) → R ks ps
+block_pairs_end : (R : Claim) (ks : List Kind) (ps : List Part) → R ks ps
     → InBlockPairs R (BlockEnd ∷ ks) (CloseMapping ∷ ps)
 block_pairs_end R ks ps r = collection_ends BlockPairs R (BlockEnd ∷ []) CloseMapping ks ps (NoPair, refl, refl) r
 
-pair_ends : (R : List Kind → List Part → Type 0) (ks : List Kind) (ps : List Part) → R ks ps
+pair_ends : (R : Claim) (ks : List Kind) (ps : List Part) → R ks ps
     → AtPairEnd R (FlowSequenceEnd ∷ ks) (CloseMapping ∷ CloseSequence ∷ ps)
 pair_ends R ks ps r = put (Exactly [] (CloseMapping ∷ [])) (InSequence R) [] (CloseMapping ∷ []) _ _ (refl, refl)
     (entries_end R ks ps r)
 
-pair_value : (R : List Kind → List Part → Type 0) (ks : List Kind) (ps : List Part) → R ks ps
+pair_value : (R : Claim) (ks : List Kind) (ps : List Part) → R ks ps
     → AtPairValue R (FlowSequenceEnd ∷ ks) (leaf ∷ CloseMapping ∷ CloseSequence ∷ ps)
 pair_value R ks ps r = put (IsAnyValueOf InFlow) (AtPairEnd R) [] (leaf ∷ []) _ _ (inr (refl, refl))
     (pair_ends R ks ps r)
 
 inside : (s other : State) (ss : List State) → IsInsideDocument s → Completion other ss → Completion s (other ∷ ss)
 inside state.DocumentContent o ss i c =
-    record {
-      kinds = c.kinds;
-      parts = leaf ∷ c.parts;
-      follows =
-          put (IsOptionalOf InBlock) (FollowsStates o ss) [] (leaf ∷ []) c.kinds c.parts (
-            forest.left_out,
-            inl (refl, refl),
-            refl,
-          )
-          c.follows;
-      starts = λ ahead. tt;
-      some = λ e. cc;
-      quiet = (refl, c.quiet);
-    }
+    complete _ _ c.kinds leaf c.parts
+    (put (IsOptionalOf InBlock) (FollowsStates o ss) [] (leaf ∷ []) c.kinds c.parts
+    (forest.left_out, inl (refl, refl), refl) c.follows) (λ ahead. tt) (refl, c.quiet)
 inside state.BlockNode o ss i c =
-    record {
-      kinds = scalar_token Plain [] ∷ c.kinds;
-      parts = leaf ∷ c.parts;
-      follows =
-          put (IsNodeOf InBlock) (FollowsStates o ss) (scalar_token Plain [] ∷ []) (leaf ∷ []) c.kinds c.parts
-          (forest.left_out, ([], scalar_token Plain [] ∷ [], refl, inl refl, refl), refl) c.follows;
-      starts = λ ahead. tt;
-      some = λ e. cc;
-      quiet = (refl, c.quiet);
-    }
+    complete _ _ (scalar_token Plain [] ∷ c.kinds) leaf c.parts
+    (put (IsNodeOf InBlock) (FollowsStates o ss) (scalar_token Plain [] ∷ []) (leaf ∷ []) c.kinds c.parts
+    (forest.left_out, ([], scalar_token Plain [] ∷ [], refl, inl refl, refl), refl) c.follows) (λ ahead. tt)
+    (refl, c.quiet)
 inside state.BlockSequenceEntry o ss i c =
-    record {
-      kinds = BlockEnd ∷ c.kinds;
-      parts = CloseSequence ∷ c.parts;
-      follows =
-          collection_ends BlockEntries (FollowsStates o ss) (BlockEnd ∷ []) CloseSequence c.kinds c.parts
-          (NoNode, refl, refl)
-          c.follows;
-      starts = λ ahead. tt;
-      some = λ e. cc;
-      quiet = (tt, c.quiet);
-    }
+    complete _ _ (BlockEnd ∷ c.kinds) CloseSequence c.parts
+    (collection_ends BlockEntries (FollowsStates o ss) (BlockEnd ∷ []) CloseSequence c.kinds c.parts
+    (NoNode, refl, refl) c.follows) (λ ahead. tt) (tt, c.quiet)
 inside state.IndentlessSequenceEntry o ss i c =
-    record {
-      kinds = BlockEntry ∷ c.kinds;
-      parts = leaf ∷ CloseSequence ∷ c.parts;
-      follows =
-          one_entry (Then (Exactly [] (CloseSequence ∷ [])) (FollowsStates o ss)) c.kinds
-          (leaf ∷ CloseSequence ∷ c.parts)
-          (put (IsOptionalOf InBlock) _ [] (leaf ∷ []) c.kinds (CloseSequence ∷ c.parts)
-          (forest.left_out, inl (refl, refl), refl)
-          (collection_ends BlockEntries (FollowsStates o ss) [] CloseSequence c.kinds c.parts (NoNode, refl, refl)
-          c.follows));
-      starts = λ ahead b. tt;
-      some = λ e. cc;
-      quiet = (refl, (tt, c.quiet));
-    }
+    complete _ _ (BlockEntry ∷ c.kinds) leaf (CloseSequence ∷ c.parts)
+    (one_entry (Then (Exactly [] (CloseSequence ∷ [])) (FollowsStates o ss)) c.kinds (leaf ∷ CloseSequence ∷ c.parts)
+    (put (IsOptionalOf InBlock) _ [] (leaf ∷ []) c.kinds (CloseSequence ∷ c.parts)
+    (forest.left_out, inl (refl, refl), refl)
+    (collection_ends BlockEntries (FollowsStates o ss) [] CloseSequence c.kinds c.parts (NoNode, refl, refl)
+    c.follows))) (λ ahead b. tt) (refl, (tt, c.quiet))
 inside state.BlockMappingKey o ss i c =
-    record {
-      kinds = BlockEnd ∷ c.kinds;
-      parts = CloseMapping ∷ c.parts;
-      follows = block_pairs_end (FollowsStates o ss) c.kinds c.parts c.follows;
-      starts = λ ahead b. absurd b;
-      some = λ e. cc;
-      quiet = (tt, c.quiet);
-    }
+    complete _ _ (BlockEnd ∷ c.kinds) CloseMapping c.parts
+    (block_pairs_end (FollowsStates o ss) c.kinds c.parts c.follows) (λ ahead b. absurd b) (tt, c.quiet)
 inside state.BlockMappingValue o ss i c =
-    record {
-      kinds = Value ∷ BlockEnd ∷ c.kinds;
-      parts = leaf ∷ CloseMapping ∷ c.parts;
-      follows =
-          inl (marked_value InBlockMapping (InBlockPairs (FollowsStates o ss)) (BlockEnd ∷ c.kinds)
-          (leaf ∷ CloseMapping ∷
-          c.parts)
-          (put (IsOptionalOf InBlockMapping) (InBlockPairs (FollowsStates o ss)) [] (leaf ∷ []) _ _
-          (forest.left_out, inl (refl, refl), refl) (block_pairs_end (FollowsStates o ss) c.kinds c.parts c.follows)));
-      starts = λ ahead b. tt;
-      some = λ e. cc;
-      quiet = (refl, (tt, c.quiet));
-    }
+    complete _ _ (Value ∷ BlockEnd ∷ c.kinds) leaf (CloseMapping ∷ c.parts)
+    (inl
+    (marked_value InBlockMapping (InBlockPairs (FollowsStates o ss)) (BlockEnd ∷ c.kinds)
+    (leaf ∷ CloseMapping ∷ c.parts)
+    (put (IsOptionalOf InBlockMapping) (InBlockPairs (FollowsStates o ss)) [] (leaf ∷ []) _ _
+    (forest.left_out, inl (refl, refl), refl) (block_pairs_end (FollowsStates o ss) c.kinds c.parts c.follows))))
+    (λ ahead b. tt) (refl, (tt, c.quiet))
 inside state.FlowSequenceFirstEntry o ss i c =
-    record {
-      kinds = FlowSequenceEnd ∷ c.kinds;
-      parts = CloseSequence ∷ c.parts;
-      follows =
-          collection_ends FirstEntries (FollowsStates o ss) (FlowSequenceEnd ∷ []) CloseSequence c.kinds c.parts
-          (NoNode, refl, refl)
-          c.follows;
-      starts = λ ahead. tt;
-      some = λ e. cc;
-      quiet = (tt, c.quiet);
-    }
+    complete _ _ (FlowSequenceEnd ∷ c.kinds) CloseSequence c.parts
+    (collection_ends FirstEntries (FollowsStates o ss) (FlowSequenceEnd ∷ []) CloseSequence c.kinds c.parts
+    (NoNode, refl, refl) c.follows) (λ ahead. tt) (tt, c.quiet)
 inside state.FlowSequenceEntry o ss i c =
-    record {
-      kinds = FlowSequenceEnd ∷ c.kinds;
-      parts = CloseSequence ∷ c.parts;
-      follows = entries_end (FollowsStates o ss) c.kinds c.parts c.follows;
-      starts = λ ahead. tt;
-      some = λ e. cc;
-      quiet = (tt, c.quiet);
-    }
+    complete _ _ (FlowSequenceEnd ∷ c.kinds) CloseSequence c.parts
+    (entries_end (FollowsStates o ss) c.kinds c.parts c.follows) (λ ahead. tt) (tt, c.quiet)
 inside state.FlowSequenceEntryMappingKey o ss i c =
-    record {
-      kinds = FlowSequenceEnd ∷ c.kinds;
-      parts = leaf ∷ leaf ∷ CloseMapping ∷ CloseSequence ∷ c.parts;
-      follows =
-          maybe (AtPairValue (FollowsStates o ss)) _ _ (pair_value (FollowsStates o ss) c.kinds c.parts c.follows);
-      starts = λ ahead. tt;
-      some = λ e. cc;
-      quiet = (refl, (refl, (tt, (tt, c.quiet))));
-    }
+    complete _ _ (FlowSequenceEnd ∷ c.kinds) leaf (leaf ∷ CloseMapping ∷ CloseSequence ∷ c.parts)
+    (maybe (AtPairValue (FollowsStates o ss)) _ _ (pair_value (FollowsStates o ss) c.kinds c.parts c.follows))
+    (λ ahead. tt) (refl, (refl, (tt, (tt, c.quiet))))
 inside state.FlowSequenceEntryMappingValue o ss i c =
-    record {
-      kinds = FlowSequenceEnd ∷ c.kinds;
-      parts = leaf ∷ CloseMapping ∷ CloseSequence ∷ c.parts;
-      follows = pair_value (FollowsStates o ss) c.kinds c.parts c.follows;
-      starts = λ ahead. tt;
-      some = λ e. cc;
-      quiet = (refl, (tt, (tt, c.quiet)));
-    }
+    complete _ _ (FlowSequenceEnd ∷ c.kinds) leaf (CloseMapping ∷ CloseSequence ∷ c.parts)
+    (pair_value (FollowsStates o ss) c.kinds c.parts c.follows) (λ ahead. tt) (refl, (tt, (tt, c.quiet)))
 inside (state.FlowSequenceEntryMappingEnd place) o ss i c =
-    record {
-      kinds = FlowSequenceEnd ∷ c.kinds;
-      parts = CloseMapping ∷ CloseSequence ∷ c.parts;
-      follows = pair_ends (FollowsStates o ss) c.kinds c.parts c.follows;
-      starts = λ ahead. tt;
-      some = λ e. cc;
-      quiet = (tt, (tt, c.quiet));
-    }
+    complete _ _ (FlowSequenceEnd ∷ c.kinds) CloseMapping (CloseSequence ∷ c.parts)
+    (pair_ends (FollowsStates o ss) c.kinds c.parts c.follows) (λ ahead. tt) (tt, (tt, c.quiet))
 inside state.FlowMappingFirstKey o ss i c =
-    record {
-      kinds = FlowMappingEnd ∷ c.kinds;
-      parts = CloseMapping ∷ c.parts;
-      follows =
-          collection_ends FirstPairs (FollowsStates o ss) (FlowMappingEnd ∷ []) CloseMapping c.kinds c.parts
-          (NoPair, refl, refl)
-          c.follows;
-      starts = λ ahead. tt;
-      some = λ e. cc;
-      quiet = (tt, c.quiet);
-    }
+    complete _ _ (FlowMappingEnd ∷ c.kinds) CloseMapping c.parts
+    (collection_ends FirstPairs (FollowsStates o ss) (FlowMappingEnd ∷ []) CloseMapping c.kinds c.parts
+    (NoPair, refl, refl) c.follows) (λ ahead. tt) (tt, c.quiet)
 inside state.FlowMappingKey o ss i c =
-    record {
-      kinds = FlowMappingEnd ∷ c.kinds;
-      parts = CloseMapping ∷ c.parts;
-      follows = pairs_end (FollowsStates o ss) c.kinds c.parts c.follows;
-      starts = λ ahead. tt;
-      some = λ e. cc;
-      quiet = (tt, c.quiet);
-    }
+    complete _ _ (FlowMappingEnd ∷ c.kinds) CloseMapping c.parts
+    (pairs_end (FollowsStates o ss) c.kinds c.parts c.follows) (λ ahead. tt) (tt, c.quiet)
 inside state.FlowMappingValue o ss i c =
-    record {
-      kinds = Value ∷ FlowMappingEnd ∷ c.kinds;
-      parts = leaf ∷ CloseMapping ∷ c.parts;
-      follows =
-          any_value InFlow (InMapping (FollowsStates o ss)) _ _
-          (marked_value InFlow (InMapping (FollowsStates o ss)) (FlowMappingEnd ∷ c.kinds)
-          (leaf ∷ CloseMapping ∷ c.parts)
-          (maybe (InMapping (FollowsStates o ss)) _ _ (pairs_end (FollowsStates o ss) c.kinds c.parts c.follows)));
-      starts = λ ahead b. tt;
-      some = λ e. cc;
-      quiet = (refl, (tt, c.quiet));
-    }
+    complete _ _ (Value ∷ FlowMappingEnd ∷ c.kinds) leaf (CloseMapping ∷ c.parts)
+    (any_value InFlow (InMapping (FollowsStates o ss)) _ _
+    (marked_value InFlow (InMapping (FollowsStates o ss)) (FlowMappingEnd ∷ c.kinds) (leaf ∷ CloseMapping ∷ c.parts)
+    (maybe (InMapping (FollowsStates o ss)) _ _ (pairs_end (FollowsStates o ss) c.kinds c.parts c.follows))))
+    (λ ahead b. tt) (refl, (tt, c.quiet))
 inside state.FlowMappingEmptyValue o ss i c =
-    record {
-      kinds = FlowMappingEnd ∷ c.kinds;
-      parts = leaf ∷ CloseMapping ∷ c.parts;
-      follows = skip (InMapping (FollowsStates o ss)) _ _ (pairs_end (FollowsStates o ss) c.kinds c.parts c.follows);
-      starts = λ ahead. tt;
-      some = λ e. cc;
-      quiet = (refl, (tt, c.quiet));
-    }
+    complete _ _ (FlowMappingEnd ∷ c.kinds) leaf (CloseMapping ∷ c.parts)
+    (skip (InMapping (FollowsStates o ss)) _ _ (pairs_end (FollowsStates o ss) c.kinds c.parts c.follows))
+    (λ ahead. tt) (refl, (tt, c.quiet))
 inside _ o ss i c = elim i [ ]
 
 pub completed : (ss : List State) (s : State) → IsAlive s ss → Completion s ss

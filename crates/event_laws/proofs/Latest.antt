@@ -48,7 +48,7 @@ each name (p ∷ ps) part earlier h e =
 pub all : (name : List ℕ) (front : List Part) (id : ℕ) → IsLatest name front id → latest_id name front ≡ Some id
 all name front id h = ap (latest_id name) h.6 ∙ each name h.0 h.1 h.2 h.3 h.4 ∙ ap (λ t. Some t) (sym h.5)
 
--- where a part opens no document and has no anchor of the name, the latest one stands before it
+-- where a part opens no document and has no anchor of the name, the latest one comes before it
 latest_stays : (name : List ℕ) (p : Part) (ps : List Part) (id : ℕ) → opens_document p ≡ false
     → is_named name (anchor_of p) ≡ false → IsLatest name ps id → IsLatest name (p ∷ ps) id
 latest_stays name p ps id e f h =

@@ -5,6 +5,7 @@ pub mod NodeStarts
 pub mod NameLaws
 pub mod DirectivesPass
 pub mod MemoryFits
+pub mod AddsUp
 pub mod AnchorCount
 pub mod Happenings
 pub mod Latest

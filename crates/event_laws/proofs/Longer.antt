@@ -1,4 +1,4 @@
--- More tokens behind those of a machine change nothing of what a step gives.
+-- More tokens after those of a machine change nothing of what a step gives.
 use Rattle.std.proofs.Common.{◌≡◌, ◌≢◌, List, [], ◌∷◌, ◌++◌, Option, Result, Ok, Err, refl, sym, ap, subst, ◌∙◌, ◌⊎◌, inl, inr}
 use Rattle.saphyr_scalar.specs.declared.scalar.fault.Refusal.{Refusal}
 use Rattle.saphyr_scanner.specs.Grammar.Tokens as tokens
@@ -18,7 +18,7 @@ use Rattle.event_laws.proofs.Beside.Maps.{becomes, tells_so, stay, still_expecte
 
 -- ## More tokens
 
--- Tokens that stand behind those of a machine, and what ends them. Those of the machine end with this marker's, or
+-- Tokens that come after those of a machine, and what ends them. Those of the machine end with this marker's, or
 -- `Early` holds: they may end too early.
 pub record More : Type 1 where
   pub Early : Type 0
@@ -29,7 +29,7 @@ pub record More : Type 1 where
 abbrev pub longer : More → Machine → Machine
 longer z m = with_more z.pieces z.refusal m
 
--- A token of the kind is the marker's, and none of the tokens ts stands behind it; or else B.
+-- A token of the kind is the marker's, and none of the tokens ts comes after it; or else B.
 abbrev pub IsLastOr : DocumentMarker → Type 0 → List Piece → Kind → Type 0
 IsLastOr w B ts tokens.DocumentStart = ((w ≡ Starts) × (ts ≡ [])) ⊎ B
 IsLastOr w B ts tokens.DocumentEnd = ((w ≡ Ends) × (ts ≡ [])) ⊎ B
@@ -44,7 +44,7 @@ End z (t ∷ ts) = IsLastOr z.marker (End z ts) ts t.kind
 abbrev pub IsLeft : More → Machine → Type 0
 IsLeft z m = End z m.tokens.pieces ⊎ ((m.tokens.pieces ≡ []) × Awaits z.marker m)
 
--- Behind an event: the marker's token is still to be read, or the event is the marker's own.
+-- After an event: the marker's token is still to be read, or the event is the marker's own.
 abbrev pub IsLeftBehind : More → Happening → Machine → Type 0
 IsLeftBehind z what m =
     End z m.tokens.pieces ⊎ ((m.tokens.pieces ≡ []) × Awaits z.marker m × (what ≡ marker_event z.marker))
@@ -53,7 +53,7 @@ pub left_behind : (z : More) (what : Happening) (m : Machine) → IsLeftBehind z
 left_behind z what m (inl e) = inl e
 left_behind z what m (inr (e, a, own)) = inr (e, a)
 
--- The second result, which is from more tokens, is the first with these tokens behind; or the tokens, which r ends,
+-- The second result, which is from more tokens, is the first with these tokens after; or the tokens, which r ends,
 -- ended too early.
 abbrev pub AgreesOrEndsEarly : More → Option Refusal → Result Told Refusal → Result Told Refusal → Type 0
 AgreesOrEndsEarly z r (Ok x) q = IsLeftBehind z x.what x.machine × (x.machine.tokens.refusal ≡ r)
@@ -65,7 +65,7 @@ AgreesOrEndsEarly z r (Err f) q = (z.Early × (f ≡ ending_refusal r)) ⊎ (q �
 abbrev more : More → Remaining → Remaining
 more z r = record { pieces = r.pieces ++ z.pieces; refusal = z.refusal }
 
--- the tokens that are left, which o ends, and those with more behind
+-- the tokens that are left, which o ends, and those with more after
 abbrev Rest : More → Option Refusal → Remaining → Remaining → Type 0
 Rest z o r q = End z r.pieces × (r.refusal ≡ o) × (q ≡ more z r)
 
@@ -107,8 +107,7 @@ with_longer z o =
 
 -- ## Each step
 
-becomes_longer :
-    (z : More) (o : Option Refusal) (T : Remaining → Remaining → Type 0) (m n : Machine)
+becomes_longer : (z : More) (o : Option Refusal) (T : Remaining → Remaining → Type 0) (m n : Machine)
     → With (with_longer z o) T m n → n.tokens ≡ more z m.tokens → n ≡ longer z m
 becomes_longer z o T m n near e =
     becomes (with_longer z o) T (λ p. p) (more z m.tokens) m.keep_tags m n (λ p q i. i) near e near.setting

@@ -42,7 +42,7 @@ is_inside_behind (OpenDocument _ _) b = true
 is_inside_behind CloseDocument b = false
 is_inside_behind _ b = b
 
--- a part that may stand inside a document, or outside
+-- a part that may be inside a document, or outside
 abbrev pub May : Bool → Part → Type 0
 May false OpenStream = Unit {0}
 May false CloseStream = Unit {0}
@@ -110,7 +110,7 @@ event_same false keep front e (OpenSequence p) more m h l = elim m [ ]
 event_same false keep front e (OpenMapping p) more m h l = elim m [ ]
 event_same b keep front e _ more m h l = refl
 
--- ## What is remembered behind a part
+-- ## What is remembered after a part
 
 latest_behind : (name : List ℕ) (p : Part) (front : List Part) (anchor : Option (List ℕ)) → opens_document p ≡ false
     → anchor_of p ≡ anchor → latest_id name (p ∷ front)
@@ -126,7 +126,7 @@ declared_behind keep handle p front o =
     ap (λ (b : Bool). if b then option_or (prefix_in handle (directives_of p))
     (if keep then prefix_declared_for keep handle front else None) else prefix_declared_for keep handle front) o
 
--- behind a part of a document with this anchor
+-- after a part of a document with this anchor
 fits_noted : (keep : Bool) (front : List Part) (e : Memory) (p : Part) (anchor : Option (List ℕ)) (more : ℕ)
     → opens_document p ≡ false → anchor_of p ≡ option_map encode_utf8_all anchor → FitsInside keep front e
     → anchors front + one_more_anchor (option_map encode_utf8_all anchor) more < 2 ^ 64
@@ -163,7 +163,7 @@ none_else handle other prefix (TagPrefix third text ∷ ds) g e =
     (different (handle_bytes handle) (handle_bytes third) (λ q. g.0 (sym e ∙ q)))
     ∙ none_else handle other prefix ds g.1 e
 
--- a directive alone, and the ones behind it
+-- a directive alone, and the ones after it
 one_prefix : (b : Bool) (x : List ℕ) (rest later : Option (List ℕ)) → (b ≡ true → rest ≡ None)
     → option_or rest (if b then Some x else later) ≡ option_or (if b then Some x else rest) later
 one_prefix true x rest later h = ap (λ (o : Option (List ℕ)). option_or o (Some x)) (h refl)
@@ -192,7 +192,7 @@ kept_meaning false false handle front names k h = refl
 kept_meaning true false handle front names k h = absurd (cc)
 kept_meaning false true handle front names k h = absurd (cc)
 
--- ## Behind each part
+-- ## After each part
 
 fits_after : (b keep : Bool) (front : List Part) (e : Memory) (p : Part) (more : ℕ) → May b p → FitsParts b keep front e
     → anchors front + one_more_anchor (anchor_of p) more < 2 ^ 64
@@ -231,8 +231,7 @@ room_moves None n more l = l
 room_moves (Some _) n more l = omega (arith, l)
 
 pub same_events : (ps : List Part) (b keep : Bool) (front : List Part) (e : Memory) → Within b ps
-    → FitsParts b keep front e
-    → anchors front + anchors ps < 2 ^ 64 → events_in e ps ≡ events_behind keep front ps
+    → FitsParts b keep front e → anchors front + anchors ps < 2 ^ 64 → events_in e ps ≡ events_behind keep front ps
 same_events [] b keep front e w h l = refl
 same_events (p ∷ ps) b keep front e w h l =
     ap (λ (o : Option Happening). first_and_others o (events_in (after p e) ps))

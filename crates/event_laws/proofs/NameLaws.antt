@@ -11,7 +11,7 @@ use Rattle.std.proofs.lemmas.Map.Lookups.{exact_bytes}
 use Rattle.std.proofs.lemmas.Slice.Eq.{bytes_eq-Decides}
 use Rattle.saphyr_machine.specs.Steps.Machine.{Names, meaning, with_meaning, is_listed, with_name}
 
--- a name that comes behind another is another name
+-- a name that comes after another is another name
 behind_is_other : (a b : List ℕ) → slice_cmp nat_cmp a b ≡ Greater → bytes_eq a b ≡ false
 behind_is_other a b h = sym (is_eq-slice_cmp a b) ∙ ap is_eq h
 

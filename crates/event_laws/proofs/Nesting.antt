@@ -40,8 +40,7 @@ record Begins (e : Option Happening) (o : Option (List Happening)) (es : List Ha
   joined : es ≡ first ∷ others
 
 first_and_others_begins : (e : Option Happening) (o : Option (List Happening)) (es : List Happening)
-    → first_and_others e o ≡ Some es
-    → Begins e o es
+    → first_and_others e o ≡ Some es → Begins e o es
 first_and_others_begins (Some h) (Some hs) es p = record { first = h; others = hs; is = refl; are = refl; joined = cc }
 first_and_others_begins (Some h) None es p = absurd (cc)
 first_and_others_begins None (Some hs) es p = absurd (cc)
@@ -90,7 +89,7 @@ given : (e h : Happening) (n : Nest) (m : Option Nest) → nest_behind_event e n
     → nest_behind_event h n ≡ m
 given e h n m each p = let same : e ≡ h = cc in ap (λ (g : Happening). nest_behind_event g n) (sym same) ∙ each
 
--- the nest behind a node
+-- the nest after a node
 abbrev at : Nest → NestPlace → Nest
 at n place = record { innermost = place; outer = n.outer }
 
@@ -102,8 +101,7 @@ behind_moved n place h = ap (option_map (λ (p : NestPlace). record n { innermos
 
 mutual
   node_passes : (keep : Bool) (node : Node) (front rest : List Part) (es : List Happening) (n : Nest)
-      (place : NestPlace)
-      → place_behind_node n.innermost ≡ Some place
+      (place : NestPlace) → place_behind_node n.innermost ≡ Some place
       → events_behind keep front (node_parts node ++ rest) ≡ Some es → PassesParts keep rest es n (at n place)
   node_passes keep (Alias name) front rest es n place h p =
       one_part keep front (parts.Reference name) rest es n _ p
@@ -160,8 +158,7 @@ abbrev stream : Nest
 stream = record { innermost = InStream; outer = [] }
 
 documents_pass : (keep : Bool) (documents : Forest) (front : List Part) (es : List Happening)
-    → events_behind keep front (document_parts documents) ≡ Some es
-    → PassesParts keep [] es stream nest_behind_stream
+    → events_behind keep front (document_parts documents) ≡ Some es → PassesParts keep [] es stream nest_behind_stream
 documents_pass keep [] front es p = one_part keep front parts.CloseStream [] es _ nest_behind_stream p
     (λ e q. given events.StreamEnd e _ _ refl q)
 documents_pass keep (d ∷ ds) front es p =
@@ -193,7 +190,7 @@ forest_nests forest keep es p =
 
 -- ## Beginnings
 
-whole_at_end : (ending : Option Ending) (o : Option Nest) (missing : List Happening) → IsCut ending missing
+pub whole_at_end : (ending : Option Ending) (o : Option Nest) (missing : List Happening) → IsCut ending missing
     → option_and_then (nest_behind_all missing) o ≡ Some nest_behind_stream → IsWhole ending o
 whole_at_end ending None missing h e = absurd (cc)
 whole_at_end (Some f) (Some n) missing h e = tt

@@ -1,4 +1,4 @@
--- Which token a node begins with, and which may stand behind it.
+-- Which token a node begins with, and which may come after it.
 use Rattle.std.proofs.Common.{◌≡◌, ◌≢◌, ℕ, List, [], ◌∷◌, ◌++◌, Option, Some, None, option_map, refl, subst, sym, ap, ◌∙◌, ◌⊎◌, inl, inr, append_assoc}
 use lib.Utf8.{encode}
 use Rattle.saphyr_scalar.specs.declared.scalar.position.Span.{Span}
@@ -104,7 +104,7 @@ node_head (forest.Seq p nodes) c t h =
 node_head (forest.Map p pairs) c t h =
     property_head c p.anchor p.tag h.0 h.1 t h.2 (inr (mapping_head c pairs h.1 h.3)) h.4
 
--- ## What may stand behind
+-- ## What may come after
 
 abbrev pub MayFollow : grammar.Context → Kind → Type 0
 MayFollow InFlow tokens.FlowEntry = Unit {0}
@@ -136,7 +136,7 @@ follow_is_content InBlockMapping (tokens.Anchor _) h = h
 follow_is_content InBlockMapping (tokens.Tag _ _) h = h
 follow_is_content _ _ h = tt
 
--- behind properties it shows that their node has no content
+-- after properties it shows that their node has no content
 pub follow_ends : (c : grammar.Context) (k : Kind) (q : steps.NodeProperties) (t : Piece) (m : Machine) → MayFollow c k
     → node_content_at k q (context_of c) t m ≡ node_without_content q t m
 follow_ends InFlow tokens.FlowEntry q t m h = refl
@@ -166,7 +166,7 @@ pub record NodeSays (n : Node) (c : grammar.Context) (t : List Kind) : Type 0 wh
       → TellsParts f (k ∷ ks) s ss (after_node n e) ps
       → SaysParts e m (node_parts n ++ ps)
 
--- The state behind the node may depend on the tokens that the node begins.
+-- The state after the node may depend on the tokens that the node begins.
 pub enters : (n : Node) (c : grammar.Context) (t : List Kind) → YieldsNode n c t → NodeSays n c t
     → (f : SpansByKinds) (k : Kind) (ks : List Kind) (machine : List Kind → Machine) (x : State)
     (behind : List Kind → State)
@@ -223,9 +223,36 @@ enters_or_skips n c t (inl h) g f k ks machine x behind ss e ps z more span skip
     skipped e (machine (k ∷ ks)) (at f (k ∷ ks) (behind (k ∷ ks)) ss e) ps span (more (k ∷ ks)) skip in
     left_out_says n t k ks f machine behind ss e ps h.0 h.1 q l
 
+-- ## Nodes after a mark
+
+-- After the token `mark`, in the state `x`, a node begins with its first token, and `y` is expected after it.
+abbrev pub BeginsBehind : Kind → grammar.Context → State → State → Type 0
+BeginsBehind mark c x y = (f : SpansByKinds) (j : Kind) (l : List Kind) (ss : List State) (e : Memory) → Starts c j
+    → event_step (at f (mark ∷ j ∷ l) x ss e) ≡ next_node (context_of c) (at f (j ∷ l) x (y ∷ ss) e)
+
+-- After these tokens, in the state `x`, a node is left out before a token that ends it, and `y` is expected.
+abbrev pub LeftOutBehind : List Kind → (Kind → Type 0) → (SpansByKinds → List Kind → Span) → State → State → Type 0
+LeftOutBehind front Ends span x y = (f : SpansByKinds) (k : Kind) (ks : List Kind) (ss : List State) (e : Memory)
+    → Ends k → event_step (at f (front ++ k ∷ ks) x ss e)
+    ≡ told_event empty_scalar (span f (k ∷ ks)) (at f (k ∷ ks) y ss e)
+
+-- So a node after the mark is told, or one that is left out.
+abbrev pub SaysBehind : Kind → grammar.Context → (Kind → Type 0) → State → State → Type 0
+SaysBehind mark c Ends x y = (n : Node) (t : List Kind) → YieldsOptional n (YieldsNode n c) t
+    → (YieldsNode n c t → NodeSays n c t) → (f : SpansByKinds) (k : Kind) (ks : List Kind) (ss : List State)
+    (e : Memory) (ps : List Part) → Ends k → TellsParts f (k ∷ ks) y ss (after_node n e) ps
+    → TellsParts f (mark ∷ (t ++ k ∷ ks)) x ss e (node_parts n ++ ps)
+
+pub says_behind : (mark : Kind) (c : grammar.Context) (Ends : Kind → Type 0) (span : SpansByKinds → List Kind → Span)
+    (x y : State) → x ≢ End → ((k : Kind) → Ends k → MayFollow c k) → BeginsBehind mark c x y
+    → LeftOutBehind (mark ∷ []) Ends span x y → SaysBehind mark c Ends x y
+says_behind mark c Ends span x y more follows begins skips n t h g f k ks ss e ps z l =
+    enters_or_skips n c t h g f k ks (λ l. at f (mark ∷ l) x ss e) x (λ l. y) ss e ps (follows k z) (λ l. more)
+    (span f (k ∷ ks)) (skips f k ks ss e z) (λ j l s. begins f j l ss e s) l
+
 -- ## Pairs
 
--- the tokens of a pair with both marks, and what stands behind it
+-- the tokens of a pair with both marks, and what comes after it
 pub marked_tokens : (t front back key value others : List Kind) → front ≡ tokens.Key ∷ key → back ≡ tokens.Value ∷ value
     → t ≡ front ++ back → t ++ others ≡ tokens.Key ∷ (key ++ tokens.Value ∷ (value ++ others))
 marked_tokens t front back key value others a b c =

@@ -14,7 +14,7 @@ abbrev pub ArePassed : List Piece → Type 0
 ArePassed [] = Unit {0}
 ArePassed (t ∷ ts) = BelongsToNone t.kind × ArePassed ts
 
--- `next` stands behind the tokens that are used
+-- `next` comes after the tokens that are used
 pub record HasOwn (used : List Piece) (what : Happening) (span : Span) (next : List Piece) : Type 0 where
   pub front : List Piece
   pub own : List Piece
@@ -42,7 +42,7 @@ behind_own t used what span b h =
       is_of = h.is_of;
     }
 
--- the events of a list and of the ones behind it
+-- the events of a list and of the ones after it
 from_front : (front own ts unread : List Piece) (what : Happening) (span : Span) (es : List (Happening × Span))
     → ArePassed front → IsOf what span own (ts ++ unread) → HaveTokens unread es ts
     → HaveTokens unread ((what, span) ∷ es) ((front ++ own) ++ ts)

@@ -1,4 +1,4 @@
--- Where tokens stand changes nothing of the events but their spans.
+-- Where tokens are changes nothing of the events but their spans.
 use Rattle.std.proofs.Common.{◌≡◌, ◌≢◌, map, None, Result, Ok, Err, refl, ap, ◌⊎◌, inl, inr}
 use Rattle.saphyr_scalar.specs.declared.scalar.position.Marker.{Marker}
 use Rattle.saphyr_scalar.specs.declared.scalar.position.Span.{Span}

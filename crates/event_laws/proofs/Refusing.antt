@@ -22,7 +22,7 @@ abbrev pub IsRefusedAt : (Marker → Type 0) → Option Refusal → Type 0
 IsRefusedAt P None = ⊥
 IsRefusedAt P (Some e) = P e.mark
 
--- the end of the stream, behind which none of the tokens ts stands, or else A
+-- the end of the stream, after which none of the tokens ts is, or else A
 abbrev pub IsLastOr : Type 0 → List Piece → Kind → Type 0
 IsLastOr A ts tokens.StreamEnd = ts ≡ []
 IsLastOr A ts _ = A
@@ -40,7 +40,7 @@ known_before_last : (A : Type 0) (ts : List Piece) (k : Kind) → is_end k ≡ f
 known_before_last A ts tokens.StreamEnd e h = absurd (cc)
 known_before_last A ts _ e h = h
 
--- the tokens stand at places of the text; behind the end of the stream nothing is known of them
+-- the tokens are at places of the text; after the end of the stream nothing is known of them
 abbrev placed : List ℕ → Walk
 placed text = record {
   Spans = λ a b. IsPlaceOf text a × IsPlaceOf text b;

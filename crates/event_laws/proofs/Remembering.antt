@@ -28,7 +28,7 @@ noted (Some name) e = record {
   keep = e.keep;
 }
 
--- the prefixes behind directives
+-- the prefixes after directives
 abbrev pub declaring : List Directive → Names (List ℕ) → Names (List ℕ)
 declaring [] names = names
 declaring (TagPrefix handle prefix ∷ others) names =
@@ -54,7 +54,7 @@ after (OpenSequence p) e = noted p.anchor e
 after (OpenMapping p) e = noted p.anchor e
 after _ e = e
 
--- the same behind all parts of a node
+-- the same after all parts of a node
 abbrev mutual
   pub after_node : Node → Memory → Memory
   after_node (forest.Alias name) e = e
@@ -127,8 +127,7 @@ first_and_others_parts None b es h = absurd (cc)
 -- one step tells the first part
 pub says : (e : Memory) (m n : Machine) (part : Part) (ps : List Part) → m.state ≢ End
     → ((w : Happening) → event_in e part ≡ Some w → (span : Span) × (event_step m ≡ told_event w span n))
-    → SaysParts (after part e) n ps
-    → SaysParts e m (part ∷ ps)
+    → SaysParts (after part e) n ps → SaysParts e m (part ∷ ps)
 says e m n part ps more go h es q =
     let r : (w : Happening) × (ws : List Happening) × (event_in e part ≡ Some w)
     × (events_in (after part e) ps ≡ Some ws) × (w ∷ ws ≡ es) =

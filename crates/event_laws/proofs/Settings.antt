@@ -122,8 +122,7 @@ setting b None (Some k) m i f e new other h = h
 setting b None None m i f e new other (moved, left) =
     (sets b m (other_state m _ moved other) ∙ ap (with_setting b) moved, ap (keeping_tags b) left)
 
--- any other event is handed out whatever the setting, which may be made before it or behind it
+-- any other event is handed out whatever the setting, which may be made before it or after it
 pub sets_behind : (e : Happening × Span) (old new : EventCursor) (b : Bool) → e.0 ≢ events.DocumentEnd
-    → Advances e old new
-    → Advances e (keeping_tags b old) (keeping_tags b new)
+    → Advances e old new → Advances e (keeping_tags b old) (keeping_tags b new)
 sets_behind e old new b other h = setting b old.current old.kept old.machine old.inside old.finished e new other h

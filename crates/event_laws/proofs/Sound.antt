@@ -25,9 +25,9 @@ use Rattle.event_laws.proofs.Remembering.{after, event_in, events_in}
 use Rattle.event_laws.proofs.MemoryFits.{Within, same_events}
 use Rattle.event_laws.proofs.Promises.Forests.{documents_within, all_compatible, at_first, fits_start}
 use Rattle.saphyr_machine.proofs.Unroll.{unroll, over, shrinks_at}
-use Rattle.event_laws.proofs.Turned.Following.{IsAlive, IsOutside, IsInsideDocument}
-use Rattle.event_laws.proofs.Turned.Turning.{machine, memory, Goes, Turned, weaker, kinds_append}
-use Rattle.event_laws.proofs.Turned.Entries.{Wanted}
+use Rattle.event_laws.proofs.Turned.Following.{Behind, Outside, FollowsStates, IsAlive, IsOutside, IsInsideDocument}
+use Rattle.event_laws.proofs.Turned.Turning.{machine, memory, Goes, weaker, kinds_append}
+use Rattle.event_laws.proofs.Turned.Entries.{Wanted, WantedIn, Turns}
 use Rattle.event_laws.proofs.Turned.Sequences as sequence
 use Rattle.event_laws.proofs.Turned.Mappings as mapping
 use Rattle.event_laws.proofs.Turned.Block as block
@@ -39,11 +39,6 @@ use Rattle.event_laws.proofs.Happenings.{happenings_of}
 
 -- ## Each step
 
--- a state before which any token may stand
-plainly : (F G : List Kind → List Part → Type 0) (e : Memory) (k : List Piece) (r : Result Told Refusal)
-    → ((ks : List Kind) (ps : List Part) → F ks ps → G ks ps) → Turned F e k r → MovesOn G e k r
-plainly F G e k r i h = moves G e k r (weaker F G e k r i h)
-
 outside_moves : (s x : State) (ts : List Piece) (r : Option Refusal) (e : Memory) → AreWellFormed ts → IsOutside s
     → MovesOn (Wanted s [] (kinds ts)) e ts (event_step_at s (machine ts r x [] e))
 outside_moves state.StreamStart x ts r e w i =
@@ -51,60 +46,42 @@ outside_moves state.StreamStart x ts r e w i =
 outside_moves state.ImplicitDocumentStart x ts r e w i = document.implicit_moves ts r x e w
 outside_moves state.DocumentStart x ts r e w i = document.explicit_moves ts r x e w
 outside_moves state.DocumentEnd x ts r e w i =
-    plainly _ (Wanted state.DocumentEnd [] (kinds ts)) e ts _ (λ ks ps f. (f, tt)) (behind.document_end_turned ts r x e)
+    moves (Wanted state.DocumentEnd [] (kinds ts)) e ts _ (weaker (Outside state.DocumentEnd)
+    (Wanted state.DocumentEnd [] (kinds ts)) e ts _ (λ ks ps f. (f, tt)) (behind.document_end_turned ts r x e))
 outside_moves _ x ts r e w i = elim i [ ]
 
-inside_moves : (s x o : State) (ss : List State) (ts : List Piece) (r : Option Refusal) (e : Memory) → AreWellFormed ts
-    → IsInsideDocument s → IsAlive o ss → MovesOn (Wanted s (o ∷ ss) (kinds ts)) e ts
-    (event_step_at s (machine ts r x (o ∷ ss) e))
-inside_moves state.DocumentContent x o ss ts r e w i a =
-    plainly _ (Wanted state.DocumentContent (o ∷ ss) (kinds ts)) e ts _ (λ ks ps f. (f, tt))
-    (behind.content_turned ts r x o ss e w a)
-inside_moves state.BlockNode x o ss ts r e w i a =
-    plainly _ (Wanted state.BlockNode (o ∷ ss) (kinds ts)) e ts _ (λ ks ps f. (f, tt))
-    (behind.block_node_turned ts r x o ss e w a)
-inside_moves state.BlockSequenceEntry x o ss ts r e w i a =
-    plainly _ (Wanted state.BlockSequenceEntry (o ∷ ss) (kinds ts)) e ts _ (λ ks ps f. (f, tt))
-    (block.sequence_entry_turned ts r x o ss e w a)
-inside_moves state.IndentlessSequenceEntry x o ss ts r e w i a =
-    moves (Wanted state.IndentlessSequenceEntry (o ∷ ss) (kinds ts)) e ts _
-    (block.indentless_entry_turned ts r x o ss e w a)
-inside_moves state.BlockMappingKey x o ss ts r e w i a =
-    moves (Wanted state.BlockMappingKey (o ∷ ss) (kinds ts)) e ts _ (block.mapping_key_turned ts r x o ss e w a)
-inside_moves state.BlockMappingValue x o ss ts r e w i a =
-    moves (Wanted state.BlockMappingValue (o ∷ ss) (kinds ts)) e ts _ (block.mapping_value_turned ts r x o ss e w a)
-inside_moves state.FlowSequenceFirstEntry x o ss ts r e w i a =
-    plainly _ (Wanted state.FlowSequenceFirstEntry (o ∷ ss) (kinds ts)) e ts _ (λ ks ps f. (f, tt))
-    (sequence.first_entry_turned ts r x o ss e w a)
-inside_moves state.FlowSequenceEntry x o ss ts r e w i a =
-    plainly _ (Wanted state.FlowSequenceEntry (o ∷ ss) (kinds ts)) e ts _ (λ ks ps f. (f, tt))
-    (sequence.other_entry_turned ts r x o ss e w a)
-inside_moves state.FlowSequenceEntryMappingKey x o ss ts r e w i a =
-    plainly _ (Wanted state.FlowSequenceEntryMappingKey (o ∷ ss) (kinds ts)) e ts _ (λ ks ps f. (f, tt))
-    (sequence.pair_key_turned ts r x o ss e w a)
-inside_moves state.FlowSequenceEntryMappingValue x o ss ts r e w i a =
-    plainly _ (Wanted state.FlowSequenceEntryMappingValue (o ∷ ss) (kinds ts)) e ts _ (λ ks ps f. (f, tt))
-    (sequence.pair_value_turned ts r x o ss e w a)
-inside_moves (state.FlowSequenceEntryMappingEnd place) x o ss ts r e w i a =
-    plainly _ (Wanted (state.FlowSequenceEntryMappingEnd place) (o ∷ ss) (kinds ts)) e ts _ (λ ks ps f. (f, tt))
-    (sequence.pair_end_turned place ts r x o ss e a)
-inside_moves state.FlowMappingFirstKey x o ss ts r e w i a =
-    plainly _ (Wanted state.FlowMappingFirstKey (o ∷ ss) (kinds ts)) e ts _ (λ ks ps f. (f, tt))
-    (mapping.first_pair_turned ts r x o ss e w a)
-inside_moves state.FlowMappingKey x o ss ts r e w i a =
-    plainly _ (Wanted state.FlowMappingKey (o ∷ ss) (kinds ts)) e ts _ (λ ks ps f. (f, tt))
-    (mapping.other_pair_turned ts r x o ss e w a)
-inside_moves state.FlowMappingValue x o ss ts r e w i a =
-    moves (Wanted state.FlowMappingValue (o ∷ ss) (kinds ts)) e ts _ (mapping.mapping_value_turned ts r x o ss e w a)
-inside_moves state.FlowMappingEmptyValue x o ss ts r e w i a =
-    plainly _ (Wanted state.FlowMappingEmptyValue (o ∷ ss) (kinds ts)) e ts _ (λ ks ps f. (f, tt))
-    (mapping.empty_value_turned ts r x o ss e a)
-inside_moves _ x o ss ts r e w i a = elim i [ ]
+-- a step inside a document, in a state before which any token may be
+any_before : (s : State) → Turns (λ _. Behind s) (event_step_at s)
+    → Turns (λ _ R ks ps. Behind s R ks ps × Unit {0}) (event_step_at s)
+any_before s h ts r x o ss e w a = weaker (Behind s (FollowsStates o ss)) (λ ks ps. Behind s (FollowsStates o ss) ks ps
+    × Unit {0}) e ts _ (λ ks ps f. (f, tt)) (h ts r x o ss e w a)
+
+inside_turned : (s : State) → IsInsideDocument s → Turns (WantedIn s) (event_step_at s)
+inside_turned state.DocumentContent i = any_before state.DocumentContent behind.content_turned
+inside_turned state.BlockNode i = any_before state.BlockNode behind.block_node_turned
+inside_turned state.BlockSequenceEntry i = any_before state.BlockSequenceEntry block.sequence_entry_turned
+inside_turned state.IndentlessSequenceEntry i = block.indentless_entry_turned
+inside_turned state.BlockMappingKey i = block.mapping_key_turned
+inside_turned state.BlockMappingValue i = block.mapping_value_turned
+inside_turned state.FlowSequenceFirstEntry i = any_before state.FlowSequenceFirstEntry sequence.first_entry_turned
+inside_turned state.FlowSequenceEntry i = any_before state.FlowSequenceEntry sequence.other_entry_turned
+inside_turned state.FlowSequenceEntryMappingKey i =
+    any_before state.FlowSequenceEntryMappingKey sequence.pair_key_turned
+inside_turned state.FlowSequenceEntryMappingValue i =
+    any_before state.FlowSequenceEntryMappingValue sequence.pair_value_turned
+inside_turned (state.FlowSequenceEntryMappingEnd place) i =
+    any_before (state.FlowSequenceEntryMappingEnd place) (sequence.pair_end_turned place)
+inside_turned state.FlowMappingFirstKey i = any_before state.FlowMappingFirstKey mapping.first_pair_turned
+inside_turned state.FlowMappingKey i = any_before state.FlowMappingKey mapping.other_pair_turned
+inside_turned state.FlowMappingValue i = mapping.mapping_value_turned
+inside_turned state.FlowMappingEmptyValue i = any_before state.FlowMappingEmptyValue mapping.empty_value_turned
+inside_turned _ i = elim i [ ]
 
 step_moves : (s x : State) (ss : List State) (ts : List Piece) (r : Option Refusal) (e : Memory) → AreWellFormed ts
     → IsAlive s ss → MovesOn (Wanted s ss (kinds ts)) e ts (event_step_at s (machine ts r x ss e))
 step_moves s x [] ts r e w a = outside_moves s x ts r e w a
-step_moves s x (o ∷ ss) ts r e w a = inside_moves s x o ss ts r e w a.0 a.1
+step_moves s x (o ∷ ss) ts r e w a =
+    moves (Wanted s (o ∷ ss) (kinds ts)) e ts _ (inside_turned s a.0 ts r x o ss e w a.1)
 
 -- ## All steps
 
@@ -146,8 +123,7 @@ finishes_at_fault s ss ts e f a =
     }
 
 events_joined : (part : Part) (ps : List Part) (e : Memory) (w : Happening) (es : List Happening)
-    → event_in e part ≡ Some w
-    → events_in (after part e) ps ≡ Some es → events_in e (part ∷ ps) ≡ Some (w ∷ es)
+    → event_in e part ≡ Some w → events_in (after part e) ps ≡ Some es → events_in e (part ∷ ps) ≡ Some (w ∷ es)
 events_joined part ps e w es h k =
     ap (λ (o : Option Happening). first_and_others o (events_in (after part e) ps)) h ∙ ap (first_and_others (Some w)) k
 

@@ -69,12 +69,12 @@ token_form (tokens.TagDirective handle prefix) at span s t i =
 token_form (tokens.ReservedDirective name) at span s t i = let d = i.4 in (d.0, d.2)
 token_form _ at span s t i = tt
 
--- behind the end of the stream no token stands
+-- no token comes after the end of the stream
 may_stand : (A : Type 0) (k : Kind) (ts : List Piece) → IsLastOr A ts k → MayStandBefore k ts
 may_stand A tokens.StreamEnd ts h = h
 may_stand A _ ts h = tt
 
--- and behind another the rest is ended
+-- and after another the rest is ended
 ended_behind : (P : Marker → Type 0) (r : Option Refusal) (k : Kind) (ts : List Piece) → IsLastOr (AreEnded P r ts) ts k
     → (ts ≡ []) ⊎ AreEnded P r ts
 ended_behind P r tokens.StreamEnd ts h = inl h

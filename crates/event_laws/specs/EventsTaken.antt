@@ -57,13 +57,13 @@ abbrev pub SpansAll : List Piece → Span → Type 0
 SpansAll [] span = ⊥
 SpansAll (p ∷ ps) span = Spans p ps span
 
--- content of its own token, behind properties or none
+-- content of its own token, after properties or none
 abbrev pub AreContentTokens : Kind → List Piece → Type 0
 AreContentTokens kind ts =
     (front : List Piece) × (own : Piece) × ((front ≡ []) ⊎ ArePropertyTokens front) × (own.kind ≡ kind)
     × (ts ≡ front ++ own ∷ [])
 
--- A block sequence at its mapping's column, which has no start of its own, behind properties or none: the first `-`
+-- A block sequence at its mapping's column, which has no start of its own, after properties or none: the first `-`
 -- comes next, and the span goes up to its end.
 abbrev pub BeginsEntries : List Piece → Span → List Piece → Type 0
 BeginsEntries ts span [] = ⊥
@@ -74,7 +74,7 @@ BeginsEntries ts span (entry ∷ others) =
 abbrev pub ArePairTokens : List Piece → Type 0
 ArePairTokens ts = (mark : Piece) × (mark.kind ≡ tokens.Key) × (ts ≡ mark ∷ [])
 
--- The tokens ts are the event's own, behind which others come, and it has their span. An explicit document's is its
+-- The tokens ts are the event's own, after which others come, and it has their span. An explicit document's is its
 -- `---`.
 abbrev pub IsOf : Happening → Span → List Piece → List Piece → Type 0
 IsOf (DocumentStart true) span ts others =
@@ -93,8 +93,8 @@ IsOf (MappingStart id tag) span ts others =
     × SpansAll ts span
 IsOf _ span ts others = ts ≡ []
 
--- The events have their tokens, in order, and no token of a node is passed over before the last of these. Behind them
--- all stand the tokens `unread`.
+-- The events have their tokens, in order, and no token of a node is passed over before the last of these. After them
+-- all are the tokens `unread`.
 pub data HaveTokens (unread : List Piece) : List (Happening × Span) → List Piece → Type 0 where
   nothing : (ts : List Piece) → HaveTokens unread [] ts
   passed : (es : List (Happening × Span)) (t : Piece) (ts : List Piece) → BelongsToNone t.kind → HaveTokens unread es ts
@@ -109,8 +109,7 @@ abbrev pub IsAllUnless : {X : Type 0} → Option Ending → List X → Type 0
 IsAllUnless None more = more ≡ []
 IsAllUnless (Some fault) more = Unit {0}
 
--- with no fault, all; with one, not all: behind the end of the stream, which is the last event of a forest, no fault
--- stands
+-- with no fault, all; with one, not all: no fault comes after the end of the stream, the last event of a forest
 abbrev pub IsCut : {X : Type 0} → Option Ending → List X → Type 0
 IsCut None more = more ≡ []
 IsCut (Some fault) more = more ≢ []

@@ -11,7 +11,7 @@ use Rattle.saphyr_machine.specs.Answer.{Answer, remaining_answer}
 abbrev pub GivesExactly : List Happening → Answer → Type 0
 GivesExactly es a = (a.fault ≡ None) × (map (λ (e : Happening × Span). e.0) a.events ≡ es)
 
--- the same events, whatever their spans, and a fault behind both or none
+-- the same events, whatever their spans, and a fault after both or none
 pub record TellTheSame (a b : Answer) : Type 0 where
   pub told : map (λ (e : Happening × Span). e.0) a.events ≡ map (λ (e : Happening × Span). e.0) b.events
   pub fault : is_some a.fault ≡ is_some b.fault

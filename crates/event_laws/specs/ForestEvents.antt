@@ -6,7 +6,7 @@ use Rattle.saphyr_machine.specs.Events.{Happening, StreamStart, StreamEnd, Docum
 use Rattle.event_laws.specs.Anchors.{latest_id, own_id}
 use Rattle.event_laws.specs.TagResolution.{any_resolution}
 
--- The event of a part, behind the parts before it, the latest first. There is none for an alias without an anchor of
+-- The event of a part, after the parts before it, the latest first. There is none for an alias without an anchor of
 -- its name, nor for a tag whose handle is not declared.
 abbrev pub event_of_part : Bool → List Part → Part → Option Happening
 event_of_part keep front OpenStream = Some StreamStart
@@ -27,7 +27,7 @@ abbrev pub first_and_others : Option Happening → Option (List Happening) → O
 first_and_others (Some event) (Some others) = Some (event ∷ others)
 first_and_others _ _ = None
 
--- the events of parts, behind the parts before them
+-- the events of parts, after the parts before them
 abbrev pub events_behind : Bool → List Part → List Part → Option (List Happening)
 events_behind keep front [] = Some []
 events_behind keep front (part ∷ others) =

@@ -1,4 +1,4 @@
--- More tokens behind those of a machine, and the answers of both.
+-- More tokens after those of a machine, and the answers of both.
 use Rattle.std.specs.Prelude.{◌≡◌, ◌⊎◌, List, ◌++◌, Option, Some}
 use Rattle.saphyr_scalar.specs.declared.scalar.position.Span.{Span}
 use Rattle.saphyr_scalar.specs.declared.scalar.fault.Refusal.{Refusal}
@@ -8,7 +8,7 @@ use Rattle.saphyr_machine.specs.Steps.Machine.{Machine}
 use Rattle.saphyr_machine.specs.Answer.{Answer, ending_of}
 pub use Rattle.yaml_laws.specs.Grammar.ClosedTexts.{marker_token}
 
--- more tokens stand behind those of the machine, and the refusal ends them all
+-- more tokens come after those of the machine, and the refusal ends them all
 abbrev pub with_more : List Piece → Option Refusal → Machine → Machine
 with_more us e m = record m { tokens = record { pieces = m.tokens.pieces ++ us; refusal = e } }
 

@@ -5,7 +5,7 @@ use Rattle.saphyr_scalar.specs.declared.scalar.position.Span.{Span}
 use Rattle.saphyr_machine.specs.Answer.{Ending, Answer}
 use Rattle.saphyr_machine.specs.Events.{Happening, Nothing, StreamStart, StreamEnd, DocumentStart, DocumentEnd, Alias, Scalar, SequenceStart, SequenceEnd, MappingStart, MappingEnd}
 
--- what stands around a place
+-- what is around a place
 pub data NestPlace : Type 0 where
   BeforeStream : NestPlace
   InStream : NestPlace
@@ -16,7 +16,7 @@ pub data NestPlace : Type 0 where
   BeforeKey : NestPlace
   BeforeValue : NestPlace
 
--- what stands around a place, the innermost first
+-- what is around a place, the innermost first
 pub record Nest : Type 0 where
   pub innermost : NestPlace
   pub outer : List NestPlace
@@ -25,11 +25,11 @@ pub record Nest : Type 0 where
 abbrev pub nest_before_stream : Nest
 nest_before_stream = record { innermost = BeforeStream; outer = [] }
 
--- behind the last
+-- after the last
 abbrev pub nest_behind_stream : Nest
 nest_behind_stream = record { innermost = BehindStream; outer = [] }
 
--- the place behind a node
+-- the place after a node
 abbrev pub place_behind_node : NestPlace → Option NestPlace
 place_behind_node BeforeRoot = Some BehindRoot
 place_behind_node InSequence = Some InSequence
@@ -56,7 +56,7 @@ with_next_place behind n = option_map (λ place. record n { innermost = place })
 abbrev pub nest_inside : NestPlace → Nest → Nest
 nest_inside place n = record { innermost = place; outer = n.innermost ∷ n.outer }
 
--- what stands around, where there is something
+-- what is around, where there is something
 abbrev pub nest_of_outer : List NestPlace → Option Nest
 nest_of_outer [] = None
 nest_of_outer (place ∷ places) = Some (record { innermost = place; outer = places })
@@ -76,7 +76,7 @@ abbrev pub end_mapping : Nest → NestPlace → Option Nest
 end_mapping n BeforeKey = option_and_then (with_next_place place_behind_node) (nest_around n)
 end_mapping n _ = None
 
--- behind an event, if it may come
+-- after an event, if it may come
 abbrev pub nest_behind_event : Happening → Nest → Option Nest
 nest_behind_event Nothing n = None
 nest_behind_event StreamStart n = with_next_place place_behind_stream_start n
@@ -90,7 +90,7 @@ nest_behind_event SequenceEnd n = end_sequence n n.innermost
 nest_behind_event (MappingStart id tag) n = Some (nest_inside BeforeKey n)
 nest_behind_event MappingEnd n = end_mapping n n.innermost
 
--- behind events, if they may come in this order
+-- after events, if they may come in this order
 abbrev pub nest_behind_all : List Happening → Nest → Option Nest
 nest_behind_all [] n = Some n
 nest_behind_all (h ∷ hs) n = option_and_then (nest_behind_all hs) (nest_behind_event h n)

@@ -58,7 +58,7 @@ events_behind_marker Starts = empty_scalar ∷ DocumentEnd ∷ StreamEnd ∷ []
 events_behind_marker Ends = StreamEnd ∷ []
 
 -- The text begins with `front`, which the premises are asked of: it ends with a marker's line, and `first` are its
--- events up to and with the marker's own. IsTail tells what may stand behind the marker on its line.
+-- events up to and including the marker's own. IsTail tells what may come after the marker on its line.
 pub record IsClosed (G : Grammar) (IsTail : List ℕ → Type 0) (limit : ℕ) (keep : Bool) (text : List ℕ)
     (first : List Happening) : Type 0 where
   pub front : List ℕ

@@ -1,4 +1,4 @@
--- The parts of a forest, in the order of their events: a collection comes before its entries and ends behind them, a
+-- The parts of a forest, in the order of their events: a collection comes before its entries and ends after them, a
 -- key comes before its value (YAML 1.2.2, 3.2.2.1 and 3.2.3).
 use Rattle.std.specs.Prelude.{ℕ, Bool, true, false, List, [], ◌∷◌, ◌++◌}
 use Rattle.saphyr_scanner.specs.Grammar.Forest.{Style, Properties, Node, Alias, Scalar, Seq, Map, Nodes, NoNode, MoreNodes, Pairs, NoPair, MorePairs, Directive, Forest}

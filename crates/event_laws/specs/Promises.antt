@@ -1,5 +1,5 @@
 -- The promises of `Parser::new`: on all texts, and on those of JSON and of YAML's grammar. Each is of a text and of
--- a parser at its start. The proof of each stands under its name in `proofs/Promises`.
+-- a parser at its start. The proof of each is under its name in `proofs/Promises`.
 use Rattle.std.specs.Prelude.{◌≤◌, ℕ, Bool, List}
 use Rattle.scalar_laws.specs.Spelling.Spaces.{IsLineRest}
 use Rattle.saphyr_scanner.specs.Grammar.Forest.{Forest, open_in_forest}
@@ -32,7 +32,7 @@ ReadsJson limit text parser = ReadsEach (IsShallowJson most_open) limit text par
 abbrev pub ReadsYaml : ℕ → List ℕ → EventCursor → Type 0
 ReadsYaml limit text parser = ReadsEach (IsYamlText most_open) limit text parser
 
--- Behind a beginning that a line of `---` or `...` closes, anything may follow. Behind the marker its line has blanks,
--- and behind some blanks a comment.
+-- After a beginning that a line of `---` or `...` closes, anything may follow. After the marker its line has blanks,
+-- and after some blanks a comment.
 abbrev pub ReadsClosedYaml : ℕ → List ℕ → EventCursor → Type 0
 ReadsClosedYaml limit text parser = ReadsClosed (IsYamlText most_open) IsLineRest limit text parser

@@ -7,7 +7,7 @@ use Rattle.saphyr_machine.specs.Steps.Machine.{Machine, Told}
 abbrev pub with_keep_tags : Bool → Machine → Machine
 with_keep_tags keep m = record m { keep_tags = keep }
 
--- the same event, and the machine behind it with this setting
+-- the same event, and the machine after it with this setting
 abbrev pub with_setting : Bool → Result Told Refusal → Result Told Refusal
 with_setting keep (Ok x) = Ok (record x { machine = with_keep_tags keep x.machine })
 with_setting keep (Err e) = Err e

@@ -1,5 +1,5 @@
 -- The tags of nodes, with prefixes in place of handles (YAML 1.2.2, 6.8.2 and 6.9.1).
--- Each definition looks back at the parts that stand before, the latest first.
+-- Each definition looks back at the parts that come before, the latest first.
 use Rattle.std.specs.Prelude.{ℕ, Bool, if◌then◌else◌, List, [], ◌∷◌, Option, Some, None, option_map, codes, encode_utf8_all}
 use Rattle.std.specs.Option.{option_or}
 use Rattle.std.specs.Str.{bytes_eq}

@@ -20,7 +20,7 @@ IsWellFormed (tokens.TagDirective handle prefix) =
 IsWellFormed (tokens.ReservedDirective name) = IsEncoded name
 IsWellFormed _ = Unit {0}
 
--- behind the end of the stream no token stands
+-- no token comes after the end of the stream
 abbrev pub MayStandBefore : Kind → List Piece → Type 0
 MayStandBefore tokens.StreamEnd ts = ts ≡ []
 MayStandBefore _ ts = Unit {0}

@@ -1,7 +1,7 @@
--- The line `---` is a text of YAML's grammar with all premises, and so a closed beginning, behind a byte order mark
+-- The line `---` is a text of YAML's grammar with all premises, and so a closed beginning, after a byte order mark
 -- too.
 use Rattle.std.specs.Prelude.{codes}
-use Rattle.std.proofs.Common.{◌≡◌, ℕ, Bool, true, false, List, [], ◌∷◌, Some, refl, inl, inr, arith}
+use Rattle.std.proofs.Common.{◌≡◌, ℕ, Bool, true, false, List, [], ◌∷◌, ◌++◌, Some, refl, inl, inr, arith}
 use Rattle.scalar_laws.specs.Spelling.Spaces.{AreMany, IsEol, IsFiller, IsLastFiller, IsLineRest}
 use Rattle.saphyr_scanner.specs.Limits.{most_open}
 use Rattle.saphyr_scanner.specs.Grammar.Forest.{left_out}
@@ -14,7 +14,8 @@ use Rattle.event_laws.specs.ForestEvents.{events}
 use Rattle.event_examples.specs.Examples.Forests as examples
 use Rattle.saphyr_machine.specs.Cursor.{EventCursor, keeping_tags, to_come}
 use Rattle.event_laws.specs.Exactly.{GivesExactly}
-use Rattle.event_laws.specs.Premises.{IsClosed, IsPromised, Starts, GivesFirst}
+use Rattle.event_laws.specs.Premises.{IsWithin, IsClosed, IsPromised, Starts, EndsWithMarker, GivesFirst}
+use Rattle.saphyr_input.specs.Breaks.{normalized}
 use Rattle.event_laws.specs.Promises.{ReadsYaml, ReadsClosedYaml}
 
 has_events : (keep : Bool) → events examples.start_forest keep ≡ Some examples.start_told
@@ -30,29 +31,37 @@ promised keep =
       has_events = has_events keep;
     }
 
--- nothing stands behind the marker
+-- nothing comes after the marker
 empty_line_rest : IsLineRest []
 empty_line_rest = ([], [], tt, inl refl, refl)
 
-pub line_closes : (keep : Bool)
-    → IsClosed (IsYamlText most_open) IsLineRest 100 keep (codes "---\n[") examples.start_events
-line_closes keep =
+-- a beginning that ends with that line, and a bracket after it
+start_closes : (keep : Bool) (front : List ℕ) → normalized (front ++ codes "[") ≡ normalized front ++ codes "["
+    → IsWithin 100 (front ++ codes "[") → EndsWithMarker IsLineRest Starts (normalized front)
+    → IsPromised (IsYamlText most_open) 100 keep examples.start_forest front examples.start_told
+    → IsClosed (IsYamlText most_open) IsLineRest 100 keep (front ++ codes "[") examples.start_events
+start_closes keep front begins within ends promised =
     record {
-      front = codes "---\n";
+      front = front;
       others = codes "[";
-      begins = refl;
-      within = omega arith;
+      begins = begins;
+      within = within;
       marker = Starts;
-      ends = ([], [], empty_line_rest, inl (inl refl), refl);
+      ends = ends;
       forest = examples.start_forest;
       told = examples.start_told;
-      promised = promised keep;
+      promised = promised;
       earlier = events.StreamStart ∷ [];
       is_first = refl;
       are_told = refl;
     }
 
--- ## The same line behind a byte order mark
+pub line_closes : (keep : Bool)
+    → IsClosed (IsYamlText most_open) IsLineRest 100 keep (codes "---\n[") examples.start_events
+line_closes keep = start_closes keep (codes "---\n") refl (omega arith) ([], [], empty_line_rest, inl (inl refl), refl)
+    (promised keep)
+
+-- ## The same line after a byte order mark
 
 no_filler : IsFiller []
 no_filler = ([], tt, refl)
@@ -93,22 +102,11 @@ marked_stands = (codes "\u{feff}", codes "---\n", one_mark (codes "---\n"), last
 pub marked : (keep : Bool)
     → IsClosed (IsYamlText most_open) IsLineRest 100 keep (codes "\u{feff}---\n[") examples.start_events
 marked keep =
-    record {
-      front = codes "\u{feff}---\n";
-      others = codes "[";
-      begins = refl;
-      within = omega arith;
-      marker = Starts;
-      ends = (codes "\u{feff}", [], empty_line_rest, inr (codes "\u{feff}", mark_ahead, inl refl), refl);
-      forest = examples.start_forest;
-      told = examples.start_told;
-      promised = record { stands_for = marked_stands; within = omega arith; has_events = has_events keep };
-      earlier = events.StreamStart ∷ [];
-      is_first = refl;
-      are_told = refl;
-    }
+    start_closes keep (codes "\u{feff}---\n") refl (omega arith)
+    (codes "\u{feff}", [], empty_line_rest, inr (codes "\u{feff}", mark_ahead, inl refl), refl)
+    (record { stands_for = marked_stands; within = omega arith; has_events = has_events keep })
 
--- ## Behind two of them, with an empty line between
+-- ## After two of them, with an empty line between
 
 one_line : IsFiller (codes "\n")
 one_line = (codes "\n" ∷ [], (([], ([], [], tt, inl refl, refl), refl), tt), refl)
@@ -130,28 +128,11 @@ marks_ahead =
 pub twice : (keep : Bool)
     → IsClosed (IsYamlText most_open) IsLineRest 100 keep (codes "\u{feff}\n\u{feff}---\n[") examples.start_events
 twice keep =
-    record {
-      front = codes "\u{feff}\n\u{feff}---\n";
-      others = codes "[";
-      begins = refl;
-      within = omega arith;
-      marker = Starts;
-      ends = (
-        codes "\u{feff}\n\u{feff}",
-        [],
-        empty_line_rest,
-        inr (codes "\u{feff}\n\u{feff}", marks_ahead, inl refl),
-        refl,
-      );
-      forest = examples.start_forest;
-      told = examples.start_told;
-      promised = record { stands_for = twice_stands; within = omega arith; has_events = has_events keep };
-      earlier = events.StreamStart ∷ [];
-      is_first = refl;
-      are_told = refl;
-    }
+    start_closes keep (codes "\u{feff}\n\u{feff}---\n") refl (omega arith)
+    (codes "\u{feff}\n\u{feff}", [], empty_line_rest, inr (codes "\u{feff}\n\u{feff}", marks_ahead, inl refl), refl)
+    (record { stands_for = twice_stands; within = omega arith; has_events = has_events keep })
 
--- ## Behind a `...` line
+-- ## After a `...` line
 
 behind_stands : IsYamlText most_open examples.two_starts (codes "---\n...\n\u{feff}---\n")
 behind_stands =

@@ -95,8 +95,7 @@ closes_start =
     }
 
 -- where the whole text is that line, what comes for it begins so
-pub reads_start :
-    (parser : EventCursor) → ReadsEach examples.IsStart 100 line parser
+pub reads_start : (parser : EventCursor) → ReadsEach examples.IsStart 100 line parser
     → ReadsClosed examples.IsStart examples.IsNothing 100 line parser
 reads_start parser r keep first c =
     let p : IsPromised examples.IsStart 100 keep c.forest line c.told =

@@ -1,4 +1,4 @@
--- Where a character does not stand in a text, no token that begins with it is taken from the text.
+-- Where a character is not in a text, no token that begins with it is taken from the text.
 use Rattle.std.proofs.Common.{◌≡◌, ℕ, true, false, List, [], ◌∷◌, sym, ap, ◌∙◌, arith, inl, inr}
 use Rattle.std.specs.Prelude.{◌≢◌, nat_lt, slice_index, IsFalse}
 use Rattle.std.proofs.lemmas.Bool.Decides.{nat_tests}

@@ -26,7 +26,7 @@ use Rattle.event_examples.specs.Examples.Forests.{plain_event}
 use Rattle.event_examples.specs.Examples.WrongAnswers as wrong
 use Rattle.event_examples.proofs.Wrong.Absent.{nowhere, without_text}
 use Rattle.event_examples.proofs.Wrong.OneBracket.{in_flow, behind_bracket}
-use Rattle.event_examples.proofs.Wrong.Stretches.{Stretch, AllStretch, stretches, alone, span_starts}
+use Rattle.event_examples.proofs.Wrong.Stretches.{Stretch, AllStretch, stretches, alone}
 
 nothing_open : (n : ℕ) → nat_lt 0 n ≡ false → nat_lt 0 (n - 1) ≡ false
 nothing_open n e = grind (arith, nat_tests)
@@ -104,27 +104,15 @@ bar_refused : (opened : Collections) (own : List Piece) (s u : Cursor) (span : S
     → AreContentTokens (tokens.Scalar style.Plain (codes "| a")) own → AreTokens opened own s u → SpansAll own span
     → span.start.index ≡ 2 → ⊥
 bar_refused opened own s u span r out content h spans first =
-    let lone = alone literal_text 2 124 (codes "\n a\n") refl (λ z. omega (arith, z))
-    (λ z. omega (arith, z)) _ opened own
+    let a = alone literal_text 2 124 (codes "\n a\n") refl (λ z. omega (arith, z)) (λ z. omega (arith, z)) _ opened own
     s u span r content h spans first in
-    let P : List Piece → Type 0 = λ l. AreTokens opened l s u in
-    let Q : List Piece → Type 0 = λ l. SpansAll l span in
-    by lone.0 lone.1 (subst P lone.2 h) (subst Q lone.2 spans)
-  where
-    by : (p : Piece) → p.kind ≡ tokens.Scalar style.Plain (codes "| a") → AreTokens opened (p ∷ []) s u
-        → SpansAll (p ∷ []) span → ⊥
-    by p kind (here, behind, apart, is, end) spans =
-        let K : Kind → Type 0 = λ k. IsToken (surroundings_in opened) k p.span here behind in
-        let plain = subst K kind is in
-        let index = ap (λ (m : Marker). m.index) (span_starts p [] span spans ∙ plain.start) in
-        let on = reaches_reaches (start_cursor literal_text) s here r
-        (apart_reached s.mark s.rest here.mark here.rest apart) in
-        let rest = at_index literal_text here 2 on (sym index ∙ first) in
-        let no : true ≡ false = sym (ap (λ l. is_one_of (codes "|>") (slice_index l 0)) rest)
-        ∙ plain.no_block_scalar out in
-        cc
+    let index = ap (λ (m : Marker). m.index) (a.starts ∙ a.taken.start) in
+    let rest = at_index literal_text a.here 2 a.on (sym index ∙ first) in
+    let no : true ≡ false =
+    sym (ap (λ l. is_one_of (codes "|>") (slice_index l 0)) rest) ∙ a.taken.no_block_scalar out in
+    cc
 
--- where no bracket stands in the text, none is open at any event
+-- where no bracket is in the text, none is open at any event
 abbrev pub AllOutside : (text : List ℕ) (opened : Collections) (from : Cursor) (es : List (Happening × Span))
     → AllStretch text opened from es → Type 0
 AllOutside text opened from [] h = Unit {0}
@@ -174,31 +162,17 @@ comma_refused : (opened : Collections) (own : List Piece) (s u : Cursor) → Rea
     → AreContentTokens (tokens.Scalar style.Plain (codes "a, b")) own → AreTokens opened own s u
     → SpansAll own wrong.both_entries → ⊥
 comma_refused opened own s u r inside from content h spans =
-    let lone = alone list_text 3 97 (codes ", b]\n") refl (λ z. omega (arith, z))
-    (λ z. omega (arith, z)) _ opened own s u
+    let a = alone list_text 3 97 (codes ", b]\n") refl (λ z. omega (arith, z)) (λ z. omega (arith, z)) _ opened own s u
     wrong.both_entries r content h spans refl in
-    let P : List Piece → Type 0 = λ l. AreTokens opened l s u in
-    let Q : List Piece → Type 0 = λ l. SpansAll l wrong.both_entries in
-    by lone.0 lone.1 (subst P lone.2 h) (subst Q lone.2 spans)
-  where
-    by : (p : Piece) → p.kind ≡ tokens.Scalar style.Plain (codes "a, b") → AreTokens opened (p ∷ []) s u
-        → SpansAll (p ∷ []) wrong.both_entries → ⊥
-    by p kind (here, behind, apart, is, end) spans =
-        let K : Kind → Type 0 = λ k. IsToken (surroundings_in opened) k p.span here behind in
-        let plain = subst K kind is in
-        let index : 3 ≡ here.mark.index =
-        ap (λ (m : Marker). m.index) (span_starts p [] wrong.both_entries spans ∙ plain.start) in
-        let before = apart_later s.mark s.rest here.mark here.rest apart in
-        let on = reaches_reaches (start_cursor list_text) s here r
-        (apart_reached s.mark s.rest here.mark here.rest apart) in
-        let rest = at_index list_text here 3 on (sym index) in
-        let reading = plain.reading in
-        let count = passed_index here.mark reading.piece in
-        let ends = ap (λ (m : Marker). m.index) reading.ends in
-        let stop : 7 ≡ p.span.end.index = ap (λ (s : Span). s.end.index) spans in
-        comma_is_not_safe reading.piece (reading.white ++ behind.rest) (sym rest ∙ reading.is)
-        (reading.safe (inside (omega (arith, from, index, before.index))))
-        (omega (arith, index, count, ends, stop))
+    let index : 3 ≡ a.here.mark.index = ap (λ (m : Marker). m.index) (a.starts ∙ a.taken.start) in
+    let before = apart_later s.mark s.rest a.here.mark a.here.rest a.apart in
+    let rest = at_index list_text a.here 3 a.on (sym index) in
+    let reading = a.taken.reading in
+    let count = passed_index a.here.mark reading.piece in
+    let ends = ap (λ (m : Marker). m.index) reading.ends in
+    let stop : 7 ≡ a.token.span.end.index = ap (λ (s : Span). s.end.index) a.spans in
+    comma_is_not_safe reading.piece (reading.white ++ a.behind.rest) (sym rest ∙ reading.is)
+    (reading.safe (inside (omega (arith, from, index, before.index)))) (omega (arith, index, count, ends, stop))
 
 pub one_entry_is_not_taken : (keep : Bool) → AreTaken keep list_text wrong.one_entry_events → ⊥
 one_entry_is_not_taken keep t =

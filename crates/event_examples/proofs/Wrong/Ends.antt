@@ -1,15 +1,16 @@
 -- The end of the stream is the last event of a forest, and so of an answer without a fault; with a fault it is none.
+use Rattle.std.specs.List.{AllByRecursion}
 use Rattle.std.proofs.Common.{◌≡◌, ◌≢◌, ℕ, Bool, List, [], ◌∷◌, ◌++◌, map, Option, Some, None, option_map, refl, sym, ap, ◌∙◌, subst, append_assoc}
 use Rattle.saphyr_scalar.specs.declared.scalar.position.Span.{Span}
-use Rattle.saphyr_scanner.specs.Grammar.Forest.{Node, Nodes, NoNode, MoreNodes, Pairs, NoPair, MorePairs, Forest}
-use Rattle.saphyr_scanner.specs.Grammar.Forest as forest
+use Rattle.saphyr_scanner.specs.Grammar.Forest.{Node, Forest}
 use Rattle.saphyr_machine.specs.Answer.{Answer, Ending}
 use Rattle.saphyr_machine.specs.Events as events
 use Rattle.saphyr_machine.specs.Events.{Happening}
 use Rattle.event_laws.specs.EventsTaken.{IsCut, AreTaken}
+use Rattle.event_laws.proofs.AddsUp.{IsInNode, of_node}
 use Rattle.event_laws.specs.ForestEvents as telling
 use Rattle.event_laws.specs.ForestEvents.{event_of_part, first_and_others, events_behind}
-use Rattle.event_laws.specs.Preorder.{Part, OpenStream, CloseStream, OpenDocument, CloseDocument, Reference, Leaf, OpenSequence, CloseSequence, OpenMapping, CloseMapping, node_parts, entry_parts, pair_parts, document_parts}
+use Rattle.event_laws.specs.Preorder.{Part, OpenStream, CloseStream, OpenDocument, CloseDocument, Reference, Leaf, OpenSequence, CloseSequence, OpenMapping, CloseMapping, node_parts, document_parts}
 use Rattle.event_examples.specs.Examples.WrongAnswers.{IsNoStreamEnd, HasNoStreamEnd, EndsSo, EndsWithStreamEnd}
 
 -- ## Parts
@@ -18,35 +19,20 @@ abbrev IsInner : Part → Type 0
 IsInner CloseStream = ⊥
 IsInner _ = Unit {0}
 
-abbrev AreInner : List Part → Type 0
-AreInner [] = Unit {0}
-AreInner (p ∷ ps) = IsInner p × AreInner ps
-
-inner_append : (ps qs : List Part) → AreInner ps → AreInner qs → AreInner (ps ++ qs)
+inner_append : (ps qs : List Part) → AllByRecursion IsInner ps → AllByRecursion IsInner qs
+    → AllByRecursion IsInner (ps ++ qs)
 inner_append [] qs a b = b
 inner_append (p ∷ ps) qs a b = (a.0, inner_append ps qs a.1 b)
 
-mutual
-  node_inner : (n : Node) → AreInner (node_parts n)
-  node_inner (forest.Alias name) = (tt, tt)
-  node_inner (forest.Scalar p style value) = (tt, tt)
-  node_inner (forest.Seq p nodes) =
-      (tt, inner_append (entry_parts nodes) (CloseSequence ∷ []) (entries_inner nodes) (tt, tt))
-  node_inner (forest.Map p pairs) =
-      (tt, inner_append (pair_parts pairs) (CloseMapping ∷ []) (pairs_inner pairs) (tt, tt))
+alone_inner : (p : Part) → IsInNode p → AllByRecursion IsInner (p ∷ [])
+alone_inner CloseStream i = elim i [ ]
+alone_inner _ i = (tt, tt)
 
-  entries_inner : (ns : Nodes) → AreInner (entry_parts ns)
-  entries_inner NoNode = tt
-  entries_inner (MoreNodes node nodes) =
-      inner_append (node_parts node) (entry_parts nodes) (node_inner node) (entries_inner nodes)
+node_inner : (n : Node) → AllByRecursion IsInner (node_parts n)
+node_inner = of_node (AllByRecursion IsInner) tt inner_append alone_inner
 
-  pairs_inner : (qs : Pairs) → AreInner (pair_parts qs)
-  pairs_inner NoPair = tt
-  pairs_inner (MorePairs key value pairs) =
-      inner_append (node_parts key) (node_parts value ++ pair_parts pairs) (node_inner key)
-      (inner_append (node_parts value) (pair_parts pairs) (node_inner value) (pairs_inner pairs))
-
-documents_inner : (f : Forest) → (ps : List Part) × AreInner ps × (document_parts f ≡ ps ++ CloseStream ∷ [])
+documents_inner : (f : Forest)
+    → (ps : List Part) × AllByRecursion IsInner ps × (document_parts f ≡ ps ++ CloseStream ∷ [])
 documents_inner [] = ([], tt, refl)
 documents_inner (d ∷ ds) =
     let r = documents_inner ds in
@@ -62,10 +48,6 @@ documents_inner (d ∷ ds) =
 
 -- ## Events
 
-abbrev NoEnds : List Happening → Type 0
-NoEnds [] = Unit {0}
-NoEnds (w ∷ ws) = IsNoStreamEnd w × NoEnds ws
-
 -- what is true of the event that is made is true of it
 pub mapped : (P : Happening → Type 0) {X : Type 0} (o : Option X) (make : X → Happening) (w : Happening)
     → ((x : X) → P (make x)) → option_map make o ≡ Some w → P w
@@ -77,8 +59,7 @@ pub is_event : (P : Happening → Type 0) (v w : Happening) → P v
 is_event P v w h e = let same : v ≡ w = cc in subst P same h
 
 event_no_end : (keep : Bool) (front : List Part) (p : Part) (w : Happening) → IsInner p
-    → event_of_part keep front p ≡ Some w
-    → IsNoStreamEnd w
+    → event_of_part keep front p ≡ Some w → IsNoStreamEnd w
 event_no_end keep front OpenStream w i e = is_event IsNoStreamEnd events.StreamStart w tt e
 event_no_end keep front CloseStream w i e = absurd i
 event_no_end keep front (OpenDocument explicit directives) w i e =
@@ -95,7 +76,7 @@ event_no_end keep front CloseMapping w i e = is_event IsNoStreamEnd events.Mappi
 record Closes (es : List Happening) : Type 0 where
   front : List Happening
   are : es ≡ front ++ events.StreamEnd ∷ []
-  none : NoEnds front
+  none : AllByRecursion IsNoStreamEnd front
 
 pub before_some : (o : Option Happening) (r : Option (List Happening)) (es : List Happening)
     → first_and_others o r ≡ Some es
@@ -104,7 +85,7 @@ before_some None r es e = absurd (cc)
 before_some (Some w) None es e = absurd (cc)
 before_some (Some w) (Some rs) es e = (w, rs, refl, refl, cc)
 
-parts_close : (keep : Bool) (front : List Part) (ps : List Part) (es : List Happening) → AreInner ps
+parts_close : (keep : Bool) (front : List Part) (ps : List Part) (es : List Happening) → AllByRecursion IsInner ps
     → events_behind keep front (ps ++ CloseStream ∷ []) ≡ Some es → Closes es
 parts_close keep front [] es i e = record { front = []; are = cc; none = tt }
 parts_close keep front (p ∷ ps) es i e =
@@ -129,7 +110,7 @@ abbrev events_alone : List (Happening × Span) → List Happening
 events_alone es = map (λ (e : Happening × Span). e.0) es
 
 whole_ends : (es : List (Happening × Span)) (front : List Happening) → events_alone es ≡ front ++ events.StreamEnd ∷ []
-    → NoEnds front → EndsSo None es
+    → AllByRecursion IsNoStreamEnd front → EndsSo None es
 whole_ends [] [] e n = absurd (cc)
 whole_ends [] (w ∷ front) e n = absurd (cc)
 whole_ends (x ∷ []) [] e n =
@@ -145,7 +126,8 @@ whole_ends (x ∷ es) (w ∷ front) e n =
     (x ∷ r.0, r.1, ap (λ l. x ∷ l) r.2, (subst IsNoStreamEnd (sym first) n.0, r.3))
 
 cut_ends : (es : List (Happening × Span)) (missing front : List Happening)
-    → events_alone es ++ missing ≡ front ++ events.StreamEnd ∷ [] → missing ≢ [] → NoEnds front → HasNoStreamEnd es
+    → events_alone es ++ missing ≡ front ++ events.StreamEnd ∷ [] → missing ≢ []
+    → AllByRecursion IsNoStreamEnd front → HasNoStreamEnd es
 cut_ends [] missing front e m n = tt
 cut_ends (x ∷ es) missing [] e m n = absurd (let over : events_alone es ++ missing ≡ [] = cc in none es over)
   where

@@ -18,6 +18,7 @@ use Rattle.saphyr_scanner.proofs.Taken.Parts.{open_all}
 use Rattle.saphyr_scanner.proofs.Taken.Places.{reaches_reaches, token_reached}
 use Rattle.taken_laws.proofs.Wrong.Standing.{at_index}
 use Rattle.saphyr_machine.specs.Events.{Happening, SequenceStart, MappingStart}
+use Rattle.event_laws.proofs.OwnTokens.{ArePassed}
 use Rattle.event_laws.specs.EventsTaken.{ArePropertyTokens, SpansAll, AreContentTokens, BelongsToNone, IsAnchorKind, IsTagKind, IsOf, AreTaken}
 use Rattle.event_examples.specs.Examples.Forests.{plain_event}
 use Rattle.event_examples.specs.Examples.WrongPlaces as wrong
@@ -26,12 +27,12 @@ use Rattle.event_examples.proofs.Wrong.Brackets.{stays_inside}
 use Rattle.event_examples.proofs.Wrong.FirstCharacters.{begins_token, stops_at, takes_nothing}
 use Rattle.event_examples.proofs.Wrong.OneBracket.{BehindBracket, behind_bracket}
 use Rattle.event_examples.proofs.Wrong.Owned.{content_end}
-use Rattle.event_examples.proofs.Wrong.Stretches.{AreSkipped, Stretch, stretches, alone, span_starts, word}
+use Rattle.event_examples.proofs.Wrong.Stretches.{Stretch, stretches, alone, word}
 
 abbrev pair_text : List ℕ
 pair_text = codes "[:a]"
 
--- inside brackets, before the colon, and behind no text that ends like JSON
+-- inside brackets, before the colon, and after no text that ends like JSON
 abbrev Before : Collections → Cursor → Type 0
 Before opened s = BehindBracket pair_text 0 opened s
 
@@ -116,7 +117,7 @@ stays opened (p ∷ ps) s u b n h =
 
 -- ## The tokens of the events up to the colon
 
-skipped_no_scalars : (ps : List Piece) → AreSkipped ps → AreNoScalars ps
+skipped_no_scalars : (ps : List Piece) → ArePassed ps → AreNoScalars ps
 skipped_no_scalars [] h = tt
 skipped_no_scalars (p ∷ ps) h = (by p.kind h.0, skipped_no_scalars ps h.1)
   where
@@ -158,7 +159,7 @@ mapping_no_scalars span own others (inr (inl c), spans) = content_no_scalars tok
 mapping_no_scalars span own others (inr (inr (mark, e, is)), spans) =
     subst AreNoScalars (sym is) (subst IsNoScalar (sym e) tt, tt)
 
--- a scalar at the colon's place ends behind it
+-- a scalar at the colon's place ends after it
 last_long : (opened : Collections) (front : List Piece) (p : Piece) (s u : Cursor) (value : List ℕ)
     → p.kind ≡ tokens.Scalar style.Plain value → AreTokens opened (front ++ p ∷ []) s u
     → s.mark.index < p.span.end.index
@@ -202,20 +203,11 @@ scalar_refused : (opened : Collections) (own : List Piece) (s u : Cursor) → Be
     → AreContentTokens (tokens.Scalar style.Plain (codes "a")) own → AreTokens opened own s u
     → SpansAll own wrong.span_of_a → ⊥
 scalar_refused opened own s u b content h spans =
-    let lone = alone pair_text 2 97 (codes "]") refl (λ z. omega (arith, z)) (λ z. omega (arith, z)) _ opened own s u
+    let a = alone pair_text 2 97 (codes "]") refl (λ z. omega (arith, z)) (λ z. omega (arith, z)) _ opened own s u
     wrong.span_of_a b.reached content h spans refl in
-    let P : List Piece → Type 0 = λ l. AreTokens opened l s u in
-    let Q : List Piece → Type 0 = λ l. SpansAll l wrong.span_of_a in
-    by lone.0 lone.1 (subst P lone.2 h) (subst Q lone.2 spans)
-  where
-    by : (p : Piece) → p.kind ≡ tokens.Scalar style.Plain (codes "a") → AreTokens opened (p ∷ []) s u
-        → SpansAll (p ∷ []) wrong.span_of_a → ⊥
-    by p kind (here, behind, apart, is, end) spans =
-        let K : Kind → Type 0 = λ k. IsToken (surroundings_in opened) k p.span here behind in
-        let start : 2 ≡ here.mark.index = ap (λ (m : Marker). m.index)
-        (span_starts p [] wrong.span_of_a spans ∙ (subst K kind is).start) in
-        let index = (stays_apart opened s here b apart).index in
-        omega (arith, start, index)
+    let start : 2 ≡ a.here.mark.index = ap (λ (m : Marker). m.index) (a.starts ∙ a.taken.start) in
+    let index = (stays_apart opened s a.here b a.apart).index in
+    omega (arith, start, index)
 
 pub colon_in_flow_is_not_taken : (keep : Bool) → AreTaken keep pair_text wrong.colon_in_flow → ⊥
 colon_in_flow_is_not_taken keep t =

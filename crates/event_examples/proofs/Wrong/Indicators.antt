@@ -1,5 +1,6 @@
--- Where nothing but `-`, `?` and `:` stands in a text, each of them stands at the column of a collection (YAML 1.2.2,
+-- Where nothing but `-`, `?` and `:` is in a text, each of them is at the column of a collection (YAML 1.2.2,
 -- 8.2).
+use Rattle.std.specs.List.{AllByRecursion}
 use Rattle.std.proofs.Common.{◌≡◌, ℕ, ◌+◌, ◌≤◌, Bool, true, false, List, [], ◌∷◌, length, drop, Option, None, refl, sym, ap, ◌∙◌, arith, subst, inl, inr, codes}
 use Rattle.std.specs.Prelude.{◌||◌, ◌==◌, if◌then◌else◌, nat_lt, slice_index, IsTrue}
 use Rattle.std.proofs.lemmas.Bool.{eq-eqb, eqb-true}
@@ -35,11 +36,6 @@ use Rattle.event_examples.proofs.Wrong.Whole.{whole}
 -- n is one of the columns
 abbrev IsIn : List ℕ → ℕ → Type 0
 IsIn columns n = IsTrue (is_one_of columns n)
-
--- each of the second is one of the first
-abbrev AreIn : List ℕ → List ℕ → Type 0
-AreIn columns [] = Unit {0}
-AreIn columns (n ∷ ns) = IsIn columns n × AreIn columns ns
 
 in_front : (n : ℕ) (columns : List ℕ) → IsIn (n ∷ columns) n
 in_front n columns = let same = eq-eqb n n refl in rw same refl
@@ -105,7 +101,7 @@ start_there columns (p ∷ ps) f =
 
 -- ## What is passed between tokens
 
--- only indicators follow, and where these stand in columns, so do those before
+-- only indicators follow, and where these are in columns, so are those before
 record Passed (columns : List ℕ) (m : Marker) (t : List ℕ) (n : Marker) (u : List ℕ) : Type 0 where
   only : has_only_indicators u ≡ true
   back : StandIn columns n.col u → StandIn columns m.col t
@@ -154,7 +150,7 @@ passed columns _ _ _ _ (taken.comment m words t n u are behind p) h = let z : fa
 -- outside brackets, where no key waits for its colon; what is open began at some of the columns
 record Along (columns : List ℕ) (all : Enclosures) (opened : Collections) : Type 0 where
   same : opened.columns ≡ all.columns
-  are : AreIn columns all.columns
+  are : AllByRecursion (IsIn columns) all.columns
   outside : opened.brackets ≡ 0
   block : all.inner.enclosure ≡ place.Block
   no_key : all.inner.key ≡ None
@@ -179,25 +175,26 @@ module _ (columns : List ℕ) (all : Enclosures) (opened : Collections) (a : Alo
   at_innermost : (n : ℕ) → least_column_in opened.columns ≡ n + 1 → IsIn columns n
   at_innermost n e = by all.columns a.are (sym (ap least_column_in a.same) ∙ e)
     where
-      by : (outer : List ℕ) → AreIn columns outer → least_column_in outer ≡ n + 1 → IsIn columns n
+      by : (outer : List ℕ) → AllByRecursion (IsIn columns) outer → least_column_in outer ≡ n + 1 → IsIn columns n
       by [] are e = absurd (omega (arith, e))
       by (c ∷ cs) are e = let same : c ≡ n = omega (arith, e) in subst (IsIn columns) same are.0
 
   at_colon : (n : ℕ) → is_at_column n all.columns ≡ true → IsIn columns n
   at_colon n e = by all.columns a.are e
     where
-      by : (outer : List ℕ) → AreIn columns outer → is_at_column n outer ≡ true → IsIn columns n
+      by : (outer : List ℕ) → AllByRecursion (IsIn columns) outer → is_at_column n outer ≡ true → IsIn columns n
       by [] are e = absurd (cc)
       by (c ∷ cs) are e = subst (IsIn columns) (sym (eqb-true n c e)) are.0
 
-  without_first : AreIn columns (without_innermost all.columns)
+  without_first : AllByRecursion (IsIn columns) (without_innermost all.columns)
   without_first = by all.columns a.are
     where
-      by : (outer : List ℕ) → AreIn columns outer → AreIn columns (without_innermost outer)
+      by : (outer : List ℕ) → AllByRecursion (IsIn columns) outer
+          → AllByRecursion (IsIn columns) (without_innermost outer)
       by [] are = tt
       by (c ∷ cs) are = are.1
 
-  -- what is open behind a token
+  -- what is open after a token
   turned : (k : Kind) (span : Span) → IsLone k span → IsMarked k span → StartsIn columns k span
       → IsTrue (may_stand all k span) → Along columns (enclosures_behind k span all) (open_behind k span opened)
   turned tokens.BlockSequenceStart span l m i f = record {
@@ -282,7 +279,7 @@ module _ (columns : List ℕ) (all : Enclosures) (opened : Collections) (a : Alo
 
 -- ## The whole text
 
--- behind the end of the stream nothing is left
+-- after the end of the stream nothing is left
 nothing_left : (opened : Collections) (ps : List Piece) (s u : Cursor) → AreTokens opened ps s u
     → EndsWith tokens.StreamEnd (kinds ps) → u.rest ≡ []
 nothing_left opened [] s u h e = absurd e

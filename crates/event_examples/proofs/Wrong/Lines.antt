@@ -1,4 +1,4 @@
--- No scalar goes on with what stands at the column of the sequence in which it is an entry (YAML 1.2.2, 6.1, 8.2.1).
+-- No scalar goes on with what is at the column of the sequence in which it is an entry (YAML 1.2.2, 6.1, 8.2.1).
 use Rattle.std.proofs.Common.{◌≡◌, ◌⊎◌, ℕ, zero, suc, ◌+◌, ◌≤◌, ◌<◌, Bool, true, false, List, [], ◌∷◌, ◌++◌, length, drop, None, refl, sym, ap, ◌∙◌, arith, subst, inl, inr, codes}
 use Rattle.std.specs.Prelude.{◌-◌, if◌then◌else◌, slice_index}
 use Rattle.saphyr_scalar.specs.declared.scalar.position.Marker.{Marker}
@@ -20,13 +20,14 @@ use Rattle.saphyr_scanner.proofs.Taken.Places.{Reaches, reaches_reaches, token_r
 use Rattle.taken_laws.proofs.Wrong.LaterLines.{line_at}
 use Rattle.taken_laws.proofs.Wrong.Standing.{at_index}
 use Rattle.saphyr_machine.specs.Events.{SequenceStart}
+use Rattle.event_laws.proofs.OwnTokens.{ArePassed}
 use Rattle.event_laws.specs.EventsTaken.{SpansAll, AreContentTokens, BelongsToNone, BeginsEntries, IsOf, AreTaken}
 use Rattle.event_examples.specs.Examples.Forests.{plain_event}
 use Rattle.event_examples.specs.Examples.WrongAnswers.{origin}
 use Rattle.event_examples.specs.Examples.WrongPlaces as wrong
 use Rattle.event_examples.proofs.Wrong.Brackets.{events_outside}
 use Rattle.event_examples.proofs.Wrong.OneBracket.{in_flow}
-use Rattle.event_examples.proofs.Wrong.Stretches.{AreSkipped, Stretch, stretches, alone, no_property, span_starts}
+use Rattle.event_examples.proofs.Wrong.Stretches.{Stretch, stretches, alone, no_property}
 
 abbrev lines_text : List ℕ
 lines_text = codes "- a\n-"
@@ -35,42 +36,27 @@ lines_text = codes "- a\n-"
 abbrev first_column : Collections → ℕ
 first_column opened = (surroundings_in opened).indent
 
--- ## The sequence stands at column 0
+-- ## The sequence is at column 0
 
 sequence_column : (opened : Collections) (own : List Piece) (s u : Cursor) → Reaches (start_cursor lines_text) s
     → AreContentTokens tokens.BlockSequenceStart own → AreTokens opened own s u → SpansAll own origin
     → first_column (open_all own opened) ≡ 1
 sequence_column opened own s u r content h spans =
-    let lone = alone lines_text 0 45 (codes " a\n-") refl (λ z. omega (arith, z)) (λ z. omega (arith, z)) _ opened own s
-    u origin r content h spans refl in
-    let Q : List Piece → Type 0 = λ l. SpansAll l origin in
-    subst (λ l. first_column (open_all l opened) ≡ 1) (sym lone.2) (by lone.0 lone.1 (subst Q lone.2 spans))
-  where
-    by : (p : Piece) → p.kind ≡ tokens.BlockSequenceStart → SpansAll (p ∷ []) origin
-        → first_column (open_behind p.kind p.span opened) ≡ 1
-    by p kind spans =
-        let col = ap (λ (s : Span). s.start.col) spans in
-        subst (λ k. first_column (open_behind k p.span opened) ≡ 1) (sym kind) (omega (arith, col))
+    let a = alone lines_text 0 45 (codes " a\n-") refl (λ z. omega (arith, z)) (λ z. omega (arith, z)) _ opened own s u
+    origin r content h spans refl in
+    let col = ap (λ (s : Span). s.start.col) a.spans in
+    subst (λ l. first_column (open_all l opened) ≡ 1) (sym a.is)
+    (subst (λ k. first_column (open_behind k a.token.span opened) ≡ 1) (sym a.kind) (omega (arith, col)))
 
 no_bracket : (opened : Collections) (own : List Piece) (s u : Cursor) → Reaches (start_cursor lines_text) s
     → AreContentTokens tokens.FlowSequenceStart own → AreTokens opened own s u → SpansAll own origin → ⊥
 no_bracket opened own s u r content h spans =
-    let lone = alone lines_text 0 45 (codes " a\n-") refl (λ z. omega (arith, z)) (λ z. omega (arith, z)) _ opened own s
-    u origin r content h spans refl in
-    let P : List Piece → Type 0 = λ l. AreTokens opened l s u in
-    let Q : List Piece → Type 0 = λ l. SpansAll l origin in
-    by lone.0 lone.1 (subst P lone.2 h) (subst Q lone.2 spans)
-  where
-    by : (p : Piece) → p.kind ≡ tokens.FlowSequenceStart → AreTokens opened (p ∷ []) s u → SpansAll (p ∷ []) origin → ⊥
-    by p kind (here, behind, apart, is, end) spans =
-        let K : Kind → Type 0 = λ k. IsToken (surroundings_in opened) k p.span here behind in
-        let bracket = subst K kind is in
-        let index : 0 ≡ here.mark.index = ap (λ (m : Marker). m.index) (span_starts p [] origin spans ∙ bracket.1) in
-        let on = reaches_reaches (start_cursor lines_text) s here r
-        (apart_reached s.mark s.rest here.mark here.rest apart) in
-        let rest = at_index lines_text here 0 on (sym index) in
-        let z : 45 ≡ 91 = ap (λ l. slice_index l 0) (sym rest ∙ bracket.0.0) in
-        omega (arith, z)
+    let a = alone lines_text 0 45 (codes " a\n-") refl (λ z. omega (arith, z)) (λ z. omega (arith, z)) _ opened own s u
+    origin r content h spans refl in
+    let index : 0 ≡ a.here.mark.index = ap (λ (m : Marker). m.index) (a.starts ∙ a.taken.1) in
+    let rest = at_index lines_text a.here 0 a.on (sym index) in
+    let z : 45 ≡ 91 = ap (λ l. slice_index l 0) (sym rest ∙ a.taken.0.0) in
+    omega (arith, z)
 
 no_entries : (opened : Collections) (own others : List Piece) (s u last : Cursor) → Reaches (start_cursor lines_text) s
     → AreTokens opened own s u → AreTokens (open_all own opened) others u last → BeginsEntries own origin others → ⊥
@@ -138,7 +124,7 @@ column_stays opened tokens.FlowMappingEnd span s t r l b h e = by (has_text span
 column_stays opened _ span s t r l b h e = e
 
 columns_stay : (opened : Collections) (ps : List Piece) (s u : Cursor) → Reaches (start_cursor lines_text) s
-    → u.mark.index ≤ 2 → AreSkipped ps → AreTokens opened ps s u → first_column opened ≡ 1
+    → u.mark.index ≤ 2 → ArePassed ps → AreTokens opened ps s u → first_column opened ≡ 1
     → first_column (open_all ps opened) ≡ 1
 columns_stay opened [] s u r l b h e = e
 columns_stay opened (p ∷ ps) s u r l b h e =
@@ -157,33 +143,21 @@ line_refused : (opened : Collections) (own : List Piece) (s u : Cursor) → Reac
     → AreContentTokens (tokens.Scalar style.Plain (codes "a -")) own → AreTokens opened own s u
     → SpansAll own wrong.both_lines → ⊥
 line_refused opened own s u r outside column content h spans =
-    let lone = alone lines_text 2 97 (codes "\n-") refl (λ z. omega (arith, z)) (λ z. omega (arith, z)) _ opened own s u
+    let a = alone lines_text 2 97 (codes "\n-") refl (λ z. omega (arith, z)) (λ z. omega (arith, z)) _ opened own s u
     wrong.both_lines r content h spans refl in
-    let P : List Piece → Type 0 = λ l. AreTokens opened l s u in
-    let Q : List Piece → Type 0 = λ l. SpansAll l wrong.both_lines in
-    by lone.0 lone.1 (subst P lone.2 h) (subst Q lone.2 spans)
-  where
-    by : (p : Piece) → p.kind ≡ tokens.Scalar style.Plain (codes "a -") → AreTokens opened (p ∷ []) s u
-        → SpansAll (p ∷ []) wrong.both_lines → ⊥
-    by p kind (here, behind, apart, is, end) spans =
-        let K : Kind → Type 0 = λ k. IsToken (surroundings_in opened) k p.span here behind in
-        let plain = subst K kind is in
-        let reading = plain.reading in
-        let start : 2 ≡ here.mark.index =
-        ap (λ (m : Marker). m.index) (span_starts p [] wrong.both_lines spans ∙ plain.start) in
-        let on = reaches_reaches (start_cursor lines_text) s here r
-        (apart_reached s.mark s.rest here.mark here.rest apart) in
-        let rest = at_index lines_text here 2 on (sym start) in
-        let count = passed_index here.mark reading.piece in
-        let ends = ap (λ (m : Marker). m.index) reading.ends in
-        let stop : 5 ≡ p.span.end.index = ap (λ (s : Span). s.end.index) spans in
-        let back = reading.white ++ behind.rest in
-        let R : Bool → Type 0 = λ f. ArePlainLines f (first_column opened) reading.piece back in
-        let S : ℕ → Type 0 = λ n. ArePlainLines false n reading.piece back in
-        let left : false ≡ true =
-        line_at (IsPlainLine false 1) reading.piece back (codes "a") (codes "-") (sym reading.is ∙ rest)
-        (omega (arith, start, stop, count, ends)) (subst S column (subst R outside plain.lines)) in
-        cc
+    let reading = a.taken.reading in
+    let start : 2 ≡ a.here.mark.index = ap (λ (m : Marker). m.index) (a.starts ∙ a.taken.start) in
+    let rest = at_index lines_text a.here 2 a.on (sym start) in
+    let count = passed_index a.here.mark reading.piece in
+    let ends = ap (λ (m : Marker). m.index) reading.ends in
+    let stop : 5 ≡ a.token.span.end.index = ap (λ (s : Span). s.end.index) a.spans in
+    let back = reading.white ++ a.behind.rest in
+    let R : Bool → Type 0 = λ f. ArePlainLines f (first_column opened) reading.piece back in
+    let S : ℕ → Type 0 = λ n. ArePlainLines false n reading.piece back in
+    let left : false ≡ true =
+    line_at (IsPlainLine false 1) reading.piece back (codes "a") (codes "-") (sym reading.is ∙ rest)
+    (omega (arith, start, stop, count, ends)) (subst S column (subst R outside a.taken.lines)) in
+    cc
 
 pub later_line_is_not_taken : (keep : Bool) → AreTaken keep lines_text wrong.later_line → ⊥
 later_line_is_not_taken keep t =
@@ -210,20 +184,11 @@ later_line_is_not_taken keep t =
             → AreContentTokens (tokens.Scalar style.Plain (codes "a -")) own → Reaches (start_cursor lines_text) s
             → SpansAll own wrong.both_lines → s.mark.index ≤ 2
         starts opened own s u h content r spans =
-            let lone = alone lines_text 2 97 (codes "\n-") refl (λ z. omega (arith, z)) (λ z. omega (arith, z)) _ opened
+            let a = alone lines_text 2 97 (codes "\n-") refl (λ z. omega (arith, z)) (λ z. omega (arith, z)) _ opened
             own s u wrong.both_lines r content h spans refl in
-            let P : List Piece → Type 0 = λ l. AreTokens opened l s u in
-            let Q : List Piece → Type 0 = λ l. SpansAll l wrong.both_lines in
-            first lone.0 lone.1 (subst P lone.2 h) (subst Q lone.2 spans)
-          where
-            first : (p : Piece) → p.kind ≡ tokens.Scalar style.Plain (codes "a -") → AreTokens opened (p ∷ []) s u
-                → SpansAll (p ∷ []) wrong.both_lines → s.mark.index ≤ 2
-            first p kind (here, behind, apart, is, end) spans =
-                let K : Kind → Type 0 = λ k. IsToken (surroundings_in opened) k p.span here behind in
-                let start = ap (λ (m : Marker). m.index)
-                (span_starts p [] wrong.both_lines spans ∙ (subst K kind is).start) in
-                let before = apart_later s.mark s.rest here.mark here.rest apart in
-                omega (arith, start, before.index)
+            let start = ap (λ (m : Marker). m.index) (a.starts ∙ a.taken.start) in
+            let before = apart_later s.mark s.rest a.here.mark a.here.rest a.apart in
+            omega (arith, start, before.index)
 
         by_tokens : (own : List Piece) → IsOf (plain_event (codes "a -")) wrong.both_lines own scalar.others
             → AreTokens (open_all scalar.skipped (open_all st.own (open_all st.skipped o))) own scalar.start scalar.end

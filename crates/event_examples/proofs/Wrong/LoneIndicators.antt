@@ -1,4 +1,4 @@
--- Texts of nothing but `-`, `?` and `:` that stand alone: no token of a node begins there, and so each key has its `?`
+-- Texts of nothing but `-`, `?` and `:` that are alone: no token of a node begins there, and so each key has its `?`
 -- (YAML 1.2.2, 7.4 and 8.2).
 use Rattle.std.proofs.Common.{◌≡◌, ◌⊎◌, ℕ, Bool, true, false, List, [], ◌∷◌, ◌++◌, refl, sym, ap, ◌∙◌, subst, inl, inr}
 use Rattle.std.specs.Prelude.{◌&&◌, ◌||◌, ◌==◌, if◌then◌else◌, slice_index, IsTrue, IsFalse}
@@ -140,7 +140,7 @@ module _ (at : Surroundings) (span : Span) (s t : Cursor) (only : has_only_indic
   lone (tokens.TagDirective handle prefix) h = lone_directive (tag_prefix handle prefix) h
   lone (tokens.ReservedDirective name) h = lone_directive (reserved name) h
 
--- ## Each key has its `?`, since no node stands behind the start of another
+-- ## Each key has its `?`, since no node comes after the start of another
 
 abbrev pub IsMarked : Kind → Span → Type 0
 IsMarked tokens.Key span = IsTrue (has_text span)

@@ -1,5 +1,5 @@
--- Where a `[` stands at the start of a sequence's span, it is the one token of the sequence's start, and brackets are
--- open behind it.
+-- Where a `[` is at the start of a sequence's span, it is the one token of the sequence's start, and brackets are
+-- open after it.
 use Rattle.std.proofs.Common.{◌≡◌, ℕ, ◌+◌, ◌<◌, Bool, true, false, List, [], ◌∷◌, ◌++◌, Option, drop, refl, sym, ap, ◌∙◌, arith, subst, inl, inr}
 use Rattle.std.specs.Prelude.{if◌then◌else◌}
 use Rattle.std.proofs.lemmas.Bool.{ltb-true}
@@ -16,13 +16,13 @@ use Rattle.saphyr_scanner.proofs.Taken.Parts.{open_all, tokens_append}
 use Rattle.saphyr_scanner.proofs.Taken.Places.{Reaches, reaches_reaches, tokens_reached}
 use Rattle.saphyr_machine.specs.Events.{ResolvedTag, SequenceStart}
 use Rattle.event_laws.specs.EventsTaken.{SpansAll, AreContentTokens, BeginsEntries, IsOf}
-use Rattle.event_examples.proofs.Wrong.Stretches.{alone, no_property, span_starts}
+use Rattle.event_examples.proofs.Wrong.Stretches.{Alone, alone, no_property}
 
 -- whether brackets are open
 abbrev pub in_flow : Collections → Bool
 in_flow opened = (surroundings_in opened).in_flow
 
--- behind the bracket at index n
+-- after the bracket at index n
 pub record BehindBracket (text : List ℕ) (n : ℕ) (opened : Collections) (s : Cursor) : Type 0 where
   pub reached : Reaches (start_cursor text) s
   pub index : s.mark.index ≡ n + 1
@@ -34,45 +34,18 @@ module _ (text : List ℕ) (n : ℕ) (more : List ℕ) (bracket_there : drop n t
   long : span.start.index < span.end.index
   long = ltb-true span.start.index span.end.index some
 
-  -- content of one token
-  record Alone (k : Kind) (opened : Collections) (own : List Piece) (s u : Cursor) : Type 0 where
-    token : Piece
-    is : own ≡ token ∷ []
-    here : Cursor
-    behind : Cursor
-    taken : IsToken (surroundings_in opened) k token.span here behind
-    tokens : AreTokens opened (token ∷ []) s u
-    spans : SpansAll (token ∷ []) span
-    kind : token.kind ≡ k
-    end : u ≡ behind
-
   one_token : (k : Kind) (opened : Collections) (own : List Piece) (s u : Cursor) → Reaches (start_cursor text) s
-      → AreContentTokens k own → AreTokens opened own s u → SpansAll own span → Alone k opened own s u
+      → AreContentTokens k own → AreTokens opened own s u → SpansAll own span → Alone text k opened own s u span
   one_token k opened own s u r content h spans =
-      let lone = alone text n 91 more bracket_there (λ z. omega (arith, z)) (λ z. omega (arith, z)) k opened own s u
-      span r content h spans first in
-      let P : List Piece → Type 0 = λ l. AreTokens opened l s u in
-      let Q : List Piece → Type 0 = λ l. SpansAll l span in
-      let one = subst P lone.2 h in
-      let K : Kind → Type 0 = λ k. IsToken (surroundings_in opened) k lone.0.span one.0 one.1 in
-      record {
-        token = lone.0;
-        is = lone.2;
-        here = one.0;
-        behind = one.1;
-        taken = subst K lone.1 one.3;
-        tokens = one;
-        spans = subst Q lone.2 spans;
-        kind = lone.1;
-        end = one.4;
-      }
+      alone text n 91 more bracket_there (λ z. omega (arith, z)) (λ z. omega (arith, z)) k opened own s u span r content
+      h spans first
 
   opens : (opened : Collections) (own : List Piece) (s u : Cursor) → Reaches (start_cursor text) s
       → AreContentTokens tokens.FlowSequenceStart own → AreTokens opened own s u → SpansAll own span
       → BehindBracket text n (open_all own opened) u
   opens opened own s u r content h spans =
       let a = one_token tokens.FlowSequenceStart opened own s u r content h spans in
-      let index = ap (λ (m : Marker). m.index) (span_starts a.token [] span a.spans ∙ a.taken.1) in
+      let index = ap (λ (m : Marker). m.index) (a.starts ∙ a.taken.1) in
       let further = ap (λ (m : Marker). m.index) a.taken.0.1 in
       let end = ap (λ (c : Cursor). c.mark.index) a.end in
       let F : Bool → Type 0 = λ b. (if b then false else opened.ends_json) ≡ false in

@@ -1,4 +1,4 @@
--- The properties of a block mapping stand on a line before its first key (YAML 1.2.2, 8.2.3): where there are no other
+-- The properties of a block mapping are on a line before its first key (YAML 1.2.2, 8.2.3): where there are no other
 -- mappings, none has its anchor on the line where it begins.
 use Rattle.std.proofs.Common.{◌≡◌, ◌⊎◌, ℕ, ◌<◌, Bool, true, false, List, [], ◌∷◌, ◌++◌, Option, Some, None, refl, sym, ap, ◌∙◌, arith, subst, inl, inr, codes}
 use Rattle.std.specs.Prelude.{◌||◌, if◌then◌else◌, nat_lt, IsTrue, IsFalse}
@@ -27,7 +27,7 @@ use Rattle.event_examples.proofs.Wrong.Whole.{whole, each_parts, EachEvent}
 
 -- ## Texts without brackets, `?` and `!`
 
--- an anchor stands on one line; there is no tag; and the tokens of mappings have no text
+-- an anchor is on one line; there is no tag; and the tokens of mappings have no text
 abbrev IsSimple : Kind → Span → Type 0
 IsSimple (tokens.Anchor name) span = span.end.line ≡ span.start.line
 IsSimple (tokens.Tag handle suffix) span = ⊥
@@ -106,7 +106,7 @@ no_flow_mappings all (p ∷ ps) n h e =
     let g = goes all p.kind p.span n.0 h.0 e in
     (g.none, no_flow_mappings (enclosures_behind p.kind p.span all) ps n.1 h.1 g.block)
 
--- ## Anchors and starts that stand beside each other
+-- ## Anchors and starts that are beside each other
 
 abbrev Beside : Kind → Span → Kind → Span → Type 0
 Beside (tokens.Anchor name) span tokens.BlockMappingStart start = span.end.line < start.start.line

@@ -1,28 +1,26 @@
 -- A tag that is told with a prefix other than the defaults has it from a directive, whose token is taken from the text
 -- (YAML 1.2.2, 6.8.2).
-use Rattle.std.proofs.Common.{◌≡◌, ◌⊎◌, ℕ, Bool, true, false, List, [], ◌∷◌, ◌++◌, map, Option, Some, None, option_map, refl, sym, ap, ◌∙◌, subst, inl, inr, codes, encode_utf8_all}
+use Rattle.std.proofs.Common.{◌≡◌, ◌⊎◌, ℕ, Bool, true, false, List, [], ◌∷◌, ◌++◌, map, Option, Some, None, option_map, refl, sym, ap, ◌∙◌, subst, inl, inr, encode_utf8_all}
 use Rattle.std.specs.Prelude.{if◌then◌else◌}
 use Rattle.std.specs.Option.{option_or}
 use Rattle.std.specs.Str.{bytes_eq}
-use Rattle.saphyr_scanner.specs.Grammar.Forest.{Handle, Primary, Secondary, Named, handle_bytes, Tag, NonSpecific, Verbatim, Shorthand, Directive, Version, TagPrefix, Reserved, Node, Nodes, NoNode, MoreNodes, Pairs, NoPair, MorePairs, Forest}
-use Rattle.saphyr_scanner.specs.Grammar.Forest as forest
+use Rattle.saphyr_scanner.specs.Grammar.Forest.{Handle, Primary, Secondary, Named, handle_bytes, Tag, NonSpecific, Verbatim, Shorthand, Directive, Version, TagPrefix, Reserved, Node, Forest}
 use Rattle.saphyr_scanner.specs.Grammar.TokenGrammar.{AreEndsAndMarks, YieldDocuments, Yields}
 use Rattle.saphyr_scanner.specs.Grammar.Tokens as tokens
 use Rattle.saphyr_scanner.specs.Grammar.Tokens.{Kind, directive_token}
 use Rattle.saphyr_scanner.specs.Views.Tokens.{Piece}
 use Rattle.saphyr_scanner.specs.TokensTaken.{Collections, open_behind}
+use Rattle.taken_laws.proofs.Wrong.ShortHandles.{wanted}
 use Rattle.taken_laws.proofs.Wrong.Standing.{StandsReached, AllStand}
 use Rattle.saphyr_machine.specs.Events as events
 use Rattle.saphyr_machine.specs.Events.{Happening, ResolvedTag}
 use Rattle.event_laws.specs.Anchors.{own_id}
 use Rattle.event_laws.specs.Exactly.{kinds}
 use Rattle.event_laws.specs.ForestEvents.{event_of_part, events_behind}
-use Rattle.event_laws.specs.Preorder.{Part, OpenStream, CloseStream, OpenDocument, CloseDocument, Reference, Leaf, OpenSequence, CloseSequence, OpenMapping, CloseMapping, directives_of, document_parts, entry_parts, node_parts, opens_document, pair_parts}
+use Rattle.event_laws.specs.Preorder.{Part, OpenStream, CloseStream, OpenDocument, CloseDocument, Reference, Leaf, OpenSequence, CloseSequence, OpenMapping, CloseMapping, directives_of, document_parts, node_parts, opens_document}
+use Rattle.event_laws.proofs.AddsUp.{IsInNode, of_node}
 use Rattle.event_laws.specs.TagResolution.{any_resolution, default_prefix, prefix_declared_for, prefix_in, prefix_of, resolution}
 use Rattle.event_examples.proofs.Wrong.Ends.{before_some}
-
-abbrev pub wanted : List ℕ
-wanted = codes "e!t:x"
 
 -- ## A tag has its prefix from a directive
 
@@ -158,8 +156,7 @@ event_somewhere keep front (OpenMapping p) w e t = absurd (unmapped _ _ w (λ x 
 event_somewhere keep front CloseMapping w e t = absurd (untold events.MappingEnd w e t)
 
 pub events_somewhere : (keep : Bool) (front ps : List Part) (es : List Happening)
-    → events_behind keep front ps ≡ Some es
-    → AnyTells es → Somewhere front ⊎ Somewhere ps
+    → events_behind keep front ps ≡ Some es → AnyTells es → Somewhere front ⊎ Somewhere ps
 events_somewhere keep front [] es e t = absurd (let same : es ≡ [] = cc in subst AnyTells same t)
 events_somewhere keep front (part ∷ ps) es e t =
     let w = before_some (event_of_part keep front part) (events_behind keep (part ∷ front) ps) es e in
@@ -198,34 +195,12 @@ alone_nowhere : (p : Part) → (AnyDeclares (directives_of p) → ⊥) → Somew
 alone_nowhere p none (inl d) = none d
 alone_nowhere p none (inr s) = s
 
-behind_nowhere : (p : Part) (ps : List Part) → (AnyDeclares (directives_of p) → ⊥) → (Somewhere ps → ⊥)
-    → Somewhere (p ∷ ps) → ⊥
-behind_nowhere p ps none more (inl d) = none d
-behind_nowhere p ps none more (inr s) = more s
+node_part_nowhere : (p : Part) → IsInNode p → Somewhere (p ∷ []) → ⊥
+node_part_nowhere (OpenDocument explicit directives) i s = i
+node_part_nowhere p i s = alone_nowhere p (λ d. d) s
 
-mutual
-  node_nowhere : (n : Node) → Somewhere (node_parts n) → ⊥
-  node_nowhere (forest.Alias name) s = alone_nowhere (Reference name) (λ d. d) s
-  node_nowhere (forest.Scalar p style value) s = alone_nowhere (Leaf p style value) (λ d. d) s
-  node_nowhere (forest.Seq p nodes) s =
-      behind_nowhere (OpenSequence p) (entry_parts nodes ++ CloseSequence ∷ []) (λ d. d)
-      (λ h. parted (entry_parts nodes) (CloseSequence ∷ []) (λ k. entries_nowhere nodes k)
-      (λ k. alone_nowhere CloseSequence (λ d. d) k) h) s
-  node_nowhere (forest.Map p pairs) s =
-      behind_nowhere (OpenMapping p) (pair_parts pairs ++ CloseMapping ∷ []) (λ d. d)
-      (λ h. parted (pair_parts pairs) (CloseMapping ∷ []) (λ k. pairs_nowhere pairs k)
-      (λ k. alone_nowhere CloseMapping (λ d. d) k) h) s
-
-  entries_nowhere : (ns : Nodes) → Somewhere (entry_parts ns) → ⊥
-  entries_nowhere NoNode s = s
-  entries_nowhere (MoreNodes node nodes) s =
-      parted (node_parts node) (entry_parts nodes) (λ k. node_nowhere node k) (λ k. entries_nowhere nodes k) s
-
-  pairs_nowhere : (qs : Pairs) → Somewhere (pair_parts qs) → ⊥
-  pairs_nowhere NoPair s = s
-  pairs_nowhere (MorePairs key value pairs) s =
-      parted (node_parts key) (node_parts value ++ pair_parts pairs) (λ k. node_nowhere key k)
-      (λ h. parted (node_parts value) (pair_parts pairs) (λ k. node_nowhere value k) (λ k. pairs_nowhere pairs k) h) s
+node_nowhere : (n : Node) → Somewhere (node_parts n) → ⊥
+node_nowhere = of_node (λ ps. Somewhere ps → ⊥) (λ s. s) parted node_part_nowhere
 
 abbrev pub InForest : Forest → Type 0
 InForest [] = ⊥
@@ -305,8 +280,7 @@ pub record DeclaringToken (text : List ℕ) : Type 0 where
   pub declares : DeclaresKind piece.kind
 
 pub kind_stands : (text : List ℕ) (opened : Collections) (ps : List Piece) → AllStand text opened ps
-    → AnyKind (kinds ps)
-    → DeclaringToken text
+    → AnyKind (kinds ps) → DeclaringToken text
 kind_stands text opened [] s h = absurd h
 kind_stands text opened (p ∷ ps) s (inl h) = record { there = opened; piece = p; stands = s.0; declares = h }
 kind_stands text opened (p ∷ ps) s (inr h) = kind_stands text (open_behind p.kind p.span opened) ps s.1 h

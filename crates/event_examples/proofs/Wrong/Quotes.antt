@@ -30,7 +30,7 @@ neither_quote q c e a b = by (mark_is q c e)
     by (inl k) = a k
     by (inr k) = b k
 
--- where nothing stands no text does
+-- where there is nothing, there is no text
 no_text : (q : Quote) (t : List ℕ) (items : List Item) (x : List ℕ) → IsText q t items x → t ≡ [] → ⊥
 no_text _ _ _ _ (closed q x h) e = cc
 no_text _ _ _ _ (itself q c t items x h r) e = cc

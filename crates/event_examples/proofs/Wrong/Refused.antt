@@ -43,12 +43,11 @@ break_first_is_not_taken keep t = white_refused (codes "a:\n b") (codes "b") _
 
 -- ## Block scalars over a marker, or over a NUL
 
--- all lines behind `|` are the scalar's
+-- all lines after `|` are the scalar's
 literal_lines : (before body value : List ℕ) (span : Span)
-    → OwnScalar (before ++ (vertical_bar ∷ line_feed ∷ body)) value Literal span
-    → has_character 124 before ≡ false → has_character 124 (line_feed ∷ body) ≡ false
-    → span.end.index ≡ length (before ++ (vertical_bar ∷ line_feed ∷ body))
-    → AreInside true body []
+    → OwnScalar (before ++ (vertical_bar ∷ line_feed ∷ body)) value Literal span → has_character 124 before ≡ false
+    → has_character 124 (line_feed ∷ body) ≡ false
+    → span.end.index ≡ length (before ++ (vertical_bar ∷ line_feed ∷ body)) → AreInside true body []
 literal_lines before body value span o b a e =
     let text = before ++ (124 ∷ 10 ∷ body) in
     let r = reached_behind (start_cursor text).mark text o.here.mark o.here.rest o.reached in
@@ -86,7 +85,7 @@ nul_inside_is_not_taken keep t = by (owned keep (codes "|\n a\0b\n") wrong.nul_i
         (record { start = marker_at 3 2 1; end = marker_at 7 3 0 }) o refl refl
         refl)
 
--- ## Faults behind the end, and no end
+-- ## Faults after the end, and no end
 
 pub fault_behind_the_end_is_not_taken : (keep : Bool) → AreTaken keep (codes "- a") wrong.fault_behind_the_end → ⊥
 fault_behind_the_end_is_not_taken keep t = (ends_with_stream_end keep (codes "- a") wrong.fault_behind_the_end

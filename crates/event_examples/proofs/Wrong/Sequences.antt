@@ -54,7 +54,7 @@ module _ (text : List ℕ) (none : marks_sequence text ≡ false) where
   no_entry at tokens.FlowSequenceStart span s t r h = stands_nowhere s (91 ∷ t.rest) r h.0.0 refl
   no_entry at _ span s t r h = tt
 
--- ## Behind the start of a sequence in block style stands an entry
+-- ## After the start of a sequence in block style is an entry
 
 abbrev BeginsNoSequence : Kind → Span → Type 0
 BeginsNoSequence tokens.BlockEntry span = ⊥

@@ -31,8 +31,7 @@ ends_before span (p ∷ ps) qs (inl h) = inl h
 ends_before span (p ∷ ps) qs (inr h) = inr (ends_before span ps qs h)
 
 ends_last : (span : Span) (front : List Piece) (own : Piece) → IsSequenceOpening own.kind
-    → SpansAll (front ++ own ∷ []) span
-    → EndsAt span (front ++ own ∷ [])
+    → SpansAll (front ++ own ∷ []) span → EndsAt span (front ++ own ∷ [])
 ends_last span front own o s = ends_further span front (own ∷ []) (inl (o, content_end front own span s))
 
 content_ends : (kind : Kind) (span : Span) (own : List Piece) → IsSequenceOpening kind → AreContentTokens kind own

@@ -1,4 +1,4 @@
--- The own tokens of each event stand one behind the other in the text.
+-- The own tokens of each event are one after the other in the text.
 use Rattle.std.proofs.Common.{◌≡◌, ◌⊎◌, ℕ, ◌<◌, Bool, List, [], ◌∷◌, ◌++◌, length, drop, refl, sym, ap, ◌∙◌, arith, append_assoc, subst, inl, inr}
 use Rattle.std.specs.Prelude.{◌≢◌, slice_index}
 use Rattle.std.proofs.lemmas.List.{length-append}
@@ -19,20 +19,17 @@ use Rattle.saphyr_scanner.proofs.Taken.Places.{Reaches, reaches_reaches, token_r
 use Rattle.taken_laws.proofs.Wrong.Standing.{at_index}
 use Rattle.saphyr_machine.specs.Answer.{Answer}
 use Rattle.saphyr_machine.specs.Events.{Happening}
+use Rattle.event_laws.proofs.OwnTokens.{ArePassed}
 use Rattle.event_laws.specs.EventsTaken as taking
 use Rattle.event_laws.specs.EventsTaken.{SpansAll, ArePropertyTokens, AreContentTokens, BelongsToNone, IsAnchorKind, IsTagKind, IsOf, HaveTokens, AreTaken}
 
-abbrev pub AreSkipped : List Piece → Type 0
-AreSkipped [] = Unit {0}
-AreSkipped (p ∷ ps) = BelongsToNone p.kind × AreSkipped ps
-
--- tokens that are passed over from a place of the text, an event's own ones behind them, and the others
+-- tokens that are passed over from a place of the text, an event's own ones after them, and the others
 pub record Stretch (text : List ℕ) (opened : Collections) (from : Cursor) (what : Happening) (span : Span) : Type
     0 where
   pub skipped : List Piece
   pub own : List Piece
   pub others : List Piece
-  pub are_skipped : AreSkipped skipped
+  pub are_skipped : ArePassed skipped
   pub is : IsOf what span own others
   pub start : Cursor
   pub end : Cursor
@@ -47,7 +44,7 @@ AllStretch text opened from [] = Unit {0}
 AllStretch text opened from (e ∷ es) =
     (s : Stretch text opened from e.0 e.1) × AllStretch text (open_all s.own (open_all s.skipped opened)) s.end es
 
--- behind a token that is passed over
+-- after a token that is passed over
 skipping : (text : List ℕ) (opened : Collections) (t : Piece) (from here behind : Cursor) (es : List (Happening × Span))
     → BelongsToNone t.kind → IsPassedOver from.mark from.rest here.mark here.rest
     → IsToken (surroundings_in opened) t.kind t.span here behind
@@ -166,7 +163,7 @@ tag_begins text handle suffix (inr (inr (back, is, some, written, whole))) = by 
     by (inl e) = (back, whole ∙ ap (λ l. l ++ back) e)
     by (inr (word, are, e)) = ((word ++ 33 ∷ []) ++ back, whole ∙ ap (λ l. l ++ back) e)
 
--- a word's span begins at its first character and ends behind it
+-- a word's span begins at its first character and ends after it
 pub record Word (span : Span) (s t : Cursor) : Type 0 where
   pub start : span.start ≡ s.mark
   pub long : s.mark.index < span.end.index
@@ -189,7 +186,7 @@ word at (tokens.Scalar style.Plain value) span s t w h =
     record { start = h.start; long = omega (arith, e, l, length-append r.front (r.last ∷ [])) }
 word at _ span s t w h = absurd w
 
--- ## Where content stands alone
+-- ## Where content is alone
 
 -- an anchor begins with `&` and a tag with `!`
 pub property_begins : (at : Surroundings) (k : Kind) (span : Span) (s t : Cursor) → IsAnchorKind k ⊎ IsTagKind k
@@ -212,9 +209,48 @@ span_starts p (q ∷ []) span e = ap (λ (s : Span). s.start) e
 span_starts p (q ∷ r ∷ []) span e = ap (λ (s : Span). s.start) e
 span_starts p (q ∷ r ∷ x ∷ xs) span e = absurd e
 
+-- content of one token
+pub record Alone (text : List ℕ) (k : Kind) (opened : Collections) (own : List Piece) (s u : Cursor) (span : Span) :
+    Type 0 where
+  pub token : Piece
+  pub is : own ≡ token ∷ []
+  pub kind : token.kind ≡ k
+  pub here : Cursor
+  pub behind : Cursor
+  pub on : Reaches (start_cursor text) here
+  pub apart : IsPassedOver s.mark s.rest here.mark here.rest
+  pub taken : IsToken (surroundings_in opened) k token.span here behind
+  pub end : u ≡ behind
+  pub tokens : AreTokens opened (token ∷ []) s u
+  pub spans : SpansAll (token ∷ []) span
+  pub starts : span.start ≡ token.span.start
+
+one_token : (text : List ℕ) (k : Kind) (opened : Collections) (own : List Piece) (s u : Cursor) (span : Span)
+    (p : Piece) → p.kind ≡ k → own ≡ p ∷ [] → Reaches (start_cursor text) s → AreTokens opened own s u
+    → SpansAll own span → Alone text k opened own s u span
+one_token text k opened own s u span p kind is r h spans =
+    let P : List Piece → Type 0 = λ l. AreTokens opened l s u in
+    let Q : List Piece → Type 0 = λ l. SpansAll l span in
+    let one = subst P is h in
+    let K : Kind → Type 0 = λ k. IsToken (surroundings_in opened) k p.span one.0 one.1 in
+    record {
+      token = p;
+      is = is;
+      kind = kind;
+      here = one.0;
+      behind = one.1;
+      on = reaches_reaches (start_cursor text) s one.0 r (apart_reached s.mark s.rest one.0.mark one.0.rest one.2);
+      apart = one.2;
+      taken = subst K kind one.3;
+      end = one.4;
+      tokens = one;
+      spans = subst Q is spans;
+      starts = span_starts p [] span (subst Q is spans);
+    }
+
 module _ (text : List ℕ) (n c : ℕ) (more : List ℕ) (there : drop n text ≡ c ∷ more) (no_anchor : c ≢ 38)
     (no_tag : c ≢ 33) where
-  -- no property stands there
+  -- no property is there
   pub no_property : (opened : Collections) (front back : List Piece) (s u : Cursor) (span : Span)
       → Reaches (start_cursor text) s → ArePropertyTokens front → AreTokens opened (front ++ back) s u
       → SpansAll (front ++ back) span → span.start.index ≡ n → ⊥
@@ -235,9 +271,9 @@ module _ (text : List ℕ) (n c : ℕ) (more : List ℕ) (there : drop n text �
   -- so content that begins there has no properties
   pub alone : (k : Kind) (opened : Collections) (own : List Piece) (s u : Cursor) (span : Span)
       → Reaches (start_cursor text) s → AreContentTokens k own → AreTokens opened own s u → SpansAll own span
-      → span.start.index ≡ n → (p : Piece) × (p.kind ≡ k) × (own ≡ p ∷ [])
+      → span.start.index ≡ n → Alone text k opened own s u span
   alone k opened own s u span r (front, p, inl e, kind, is) h spans first =
-      (p, kind, is ∙ ap (λ l. l ++ p ∷ []) e)
+      one_token text k opened own s u span p kind (is ∙ ap (λ l. l ++ p ∷ []) e) r h spans
   alone k opened own s u span r (front, p, inr are, kind, is) h spans first =
       let P : List Piece → Type 0 = λ l. AreTokens opened l s u in
       let Q : List Piece → Type 0 = λ l. SpansAll l span in

@@ -45,7 +45,7 @@ reaches_over f c (i ∷ inks) more (t ∷ x ∷ tag) behind e some are ends =
     (omega arith) are.1 ends in
     omega (arith, k)
 
--- the word at a `!` is a tag, behind which all of these stand
+-- the word at a `!` is a tag, after which all of these are
 record TagAt (k : Kind) (reach : ℕ) (span : Span) (t : Cursor) : Type 0 where
   is : IsTagKind k
   end : span.end ≡ t.mark

@@ -1,4 +1,4 @@
--- No mapping begins at the end of the text: behind its start stands its first key or a colon (YAML 1.2.2, 7.4, 8.2.2).
+-- No mapping begins at the end of the text: after its start is its first key or a colon (YAML 1.2.2, 7.4, 8.2.2).
 use Rattle.std.proofs.Common.{◌≡◌, ◌⊎◌, ℕ, ◌<◌, Bool, true, false, List, [], ◌∷◌, ◌++◌, length, Option, Some, None, refl, sym, ap, ◌∙◌, arith, subst, inl, inr}
 use Rattle.std.specs.Prelude.{◌||◌, if◌then◌else◌, slice_index, IsTrue, IsFalse}
 use Rattle.std.proofs.lemmas.List.{nil_from_length}
@@ -111,7 +111,7 @@ no_node e m columns (tokens.Scalar style value) span n h = n
 no_node e m columns tokens.FlowMappingStart span n h = let k : false ≡ true = sym n ∙ h in cc
 no_node e m columns _ span n h = let k : false ≡ true = h in cc
 
--- no token stands where a key waits
+-- no token is where a key waits
 no_key_waits : (opened : Collections) (all : Enclosures) (ps : List Piece) (s u : Cursor) (m : Marker)
     → all.inner.key ≡ Some m → s.rest ≡ [] → AreTokens opened ps s u → AreInPlace all ps
     → EndsWith tokens.StreamEnd (kinds ps) → ⊥
@@ -124,8 +124,7 @@ no_key_waits opened all (p ∷ ps) s u m waits none h i e =
 
 no_key : (opened : Collections) (all : Enclosures) (span : Span) (ps : List Piece) (s u : Cursor)
     → has_text span ≡ false → s.rest ≡ [] → AreTokens opened ps s u
-    → AreInPlace (enclosures_behind tokens.Key span all) ps
-    → EndsWith tokens.StreamEnd (kinds ps) → ⊥
+    → AreInPlace (enclosures_behind tokens.Key span all) ps → EndsWith tokens.StreamEnd (kinds ps) → ⊥
 no_key opened all span ps s u t none h i e =
     let P : Bool → Type 0 = λ b. AreInPlace (if b then turned_to (place.behind_question all.inner.enclosure) all
     else awaiting_colon span.start all) ps in
@@ -133,7 +132,7 @@ no_key opened all span ps s u t none h i e =
 
 -- ## There no mapping begins
 
--- behind the start of one in block style
+-- after the start of one in block style
 no_block_mapping : (opened : Collections) (all : Enclosures) (start : Span) (ps : List Piece) (s u : Cursor)
     → s.rest ≡ [] → AreTokens opened ps s u → AreInPlace (enclosures_behind tokens.BlockMappingStart start all) ps
     → EndsWith tokens.StreamEnd (kinds ps) → ⊥

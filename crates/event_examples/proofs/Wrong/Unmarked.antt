@@ -1,5 +1,6 @@
 -- A mapping has a `:`, a `?` or a `}` in its text (YAML 1.2.2, 7.4, 8.2.2): without these no mapping is taken where no
 -- fault ends the events.
+use Rattle.std.specs.List.{AllByRecursion}
 use Rattle.std.proofs.Common.{◌≡◌, ℕ, zero, suc, ◌+◌, Bool, true, false, List, [], ◌∷◌, Option, Some, None, refl, sym, ap, ◌∙◌, arith, subst}
 use Rattle.std.specs.Prelude.{◌||◌, if◌then◌else◌, is_some, IsTrue, IsFalse}
 use Rattle.saphyr_input.proofs.Basics.Booleans.{and_true_right}
@@ -22,13 +23,9 @@ abbrev IsNoPairValue : Enclosure → Type 0
 IsNoPairValue place.PairValue = ⊥
 IsNoPairValue _ = Unit {0}
 
-abbrev AreNoPairValues : List Enclosed → Type 0
-AreNoPairValues [] = Unit {0}
-AreNoPairValues (e ∷ es) = IsNoPairValue e.enclosure × AreNoPairValues es
-
--- behind no colon
+-- after no colon
 abbrev IsBehindNoColon : Enclosures → Type 0
-IsBehindNoColon all = IsNoPairValue all.inner.enclosure × AreNoPairValues all.outer
+IsBehindNoColon all = AllByRecursion (λ (e : Enclosed). IsNoPairValue e.enclosure) (all.inner ∷ all.outer)
 
 abbrev pub IsNoMappingEnd : Kind → Span → Type 0
 IsNoMappingEnd tokens.FlowMappingEnd span = ⊥
@@ -49,7 +46,8 @@ behind_no_colon : (all : Enclosures) (k : Kind) (span : Span) → IsUnmarked k s
 behind_no_colon all tokens.FlowSequenceStart span u h n = (tt, (tt, n))
 behind_no_colon all tokens.FlowSequenceEnd span u h n = (tt, left all.outer all.columns n.1)
   where
-    left : (es : List Enclosed) (columns : List ℕ) → AreNoPairValues es → IsBehindNoColon (place.left_for es columns)
+    left : (es : List Enclosed) (columns : List ℕ) → AllByRecursion (λ (e : Enclosed). IsNoPairValue e.enclosure) es
+        → IsBehindNoColon (place.left_for es columns)
     left [] columns n = (tt, tt)
     left (e ∷ es) columns n = n
 behind_no_colon all tokens.FlowMappingStart span u h n = (tt, by (has_text span))
@@ -152,7 +150,7 @@ pub no_bracket_ends : (key : Option Marker) (columns : List ℕ) (span : Span)
 no_bracket_ends None columns span h = let k : false ≡ true = h in cc
 no_bracket_ends (Some m) columns span h = let k : false ≡ true = h in cc
 
--- neither a comma nor the stream's end stands where a key waits
+-- neither a comma nor the stream's end is where a key waits
 abbrev IsNoNode : Kind → Type 0
 IsNoNode tokens.FlowEntry = Unit {0}
 IsNoNode tokens.StreamEnd = Unit {0}
@@ -191,7 +189,7 @@ moves waits n all tokens.FlowMappingStart span b x h s = absurd b
 moves waits n all tokens.FlowMappingEnd span b x h s = absurd b
 moves waits n all _ span b x h s = record { depth = n; stack = s; counts = refl }
 
--- a key stands in no brackets, where none waits
+-- a key is in no brackets, where none waits
 key_outside : (waits : Bool) (n : ℕ) (all : Enclosures) (span : Span) → has_text span ≡ false
     → IsTrue (may_stand all tokens.Key span) → HasStack waits n all → (n ≡ 0) × (waits ≡ false)
 key_outside waits zero all span t h s = (refl, by all.inner.key s.1 (fits_there all tokens.Key span h place.Block s.0))
@@ -276,7 +274,7 @@ BeginsNoMapping tokens.FlowMappingStart span = ⊥
 BeginsNoMapping tokens.BlockMappingStart span = ⊥
 BeginsNoMapping _ span = Unit {0}
 
--- behind the start of a mapping in block style stands a key or a value
+-- after the start of a mapping in block style is a key or a value
 nothing_follows : (all : Enclosures) (start : Span) (k : Kind) (span : Span) → IsBare k span → IsNoKey k span
     → IsTrue (may_stand (enclosures_behind tokens.BlockMappingStart start all) k span) → ⊥
 nothing_follows all start tokens.Key span b n h = n

@@ -73,7 +73,7 @@ abbrev pub EachEvent : (Happening → Span → Type 0) → List (Happening × Sp
 EachEvent Q [] = Unit {0}
 EachEvent Q (e ∷ es) = Q e.0 e.1 × EachEvent Q es
 
--- what is true of an event whose own tokens, and all behind these, P is true of
+-- what is true of an event whose own tokens, and all after these, P is true of
 pub each_event : (P : Kind → Span → Type 0) (Q : Happening → Span → Type 0) (es : List (Happening × Span))
     (ts : List Piece)
     → ((what : Happening) (span : Span) (own others : List Piece) → IsOf what span own others → Each P own

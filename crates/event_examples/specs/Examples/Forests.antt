@@ -157,7 +157,7 @@ abbrev pub start_told : List Happening
 start_told = events.StreamStart ∷ events.DocumentStart true ∷ plain_event [] ∷ events.DocumentEnd ∷ events.StreamEnd
     ∷ []
 
--- the same again, behind `...` and a byte order mark
+-- the same again, after `...` and a byte order mark
 abbrev pub two_starts : Forest
 two_starts = explicit [] left_out ∷ explicit [] left_out ∷ []
 

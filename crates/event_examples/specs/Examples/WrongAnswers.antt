@@ -46,54 +46,61 @@ span_of start end = record { start = start; end = end }
 abbrev pub origin : Span
 origin = span_of (marker_at 0 1 0) (marker_at 0 1 0)
 
--- `- a` with the value ` a`
-abbrev pub blank_first : Answer
-blank_first =
+-- at one place
+abbrev pub at : Marker → Span
+at place = span_of place place
+
+-- one document, which its start begins, whose node has these events, and which ends at a place
+abbrev pub document_of : Happening × Span → List (Happening × Span) → Marker → Answer
+document_of start node end =
     record {
       events =
           (events.StreamStart, origin) ∷
-          (events.DocumentStart false, origin) ∷
-          (events.SequenceStart 0 None, origin) ∷
-          (plain_event (codes " a"), span_of (marker_at 1 1 1) (marker_at 3 1 3)) ∷
-          (events.SequenceEnd, span_of (marker_at 3 1 3) (marker_at 3 1 3)) ∷
-          (events.DocumentEnd, span_of (marker_at 3 1 3) (marker_at 3 1 3)) ∷
-          (events.StreamEnd, span_of (marker_at 3 1 3) (marker_at 3 1 3)) ∷
-          [];
+          start ∷
+          (node ++ ((events.DocumentEnd, at end) ∷ (events.StreamEnd, at end) ∷ []));
       fault = None;
     }
+
+-- one without a `---`
+abbrev pub one_document : List (Happening × Span) → Marker → Answer
+one_document = document_of (events.DocumentStart false, origin)
+
+-- one with a `---` that has this span
+abbrev pub document_behind_mark : Span → List (Happening × Span) → Marker → Answer
+document_behind_mark span = document_of (events.DocumentStart true, span)
+
+-- `- a` with the value ` a`
+abbrev pub blank_first : Answer
+blank_first =
+    one_document (
+    (events.SequenceStart 0 None, origin) ∷
+    (plain_event (codes " a"), span_of (marker_at 1 1 1) (marker_at 3 1 3)) ∷
+    (events.SequenceEnd, at (marker_at 3 1 3)) ∷
+    []
+    ) (marker_at 3 1 3)
 
 -- `a:` LF ` b` with the value ` b`, the break folded
 abbrev pub break_first : Answer
 break_first =
-    record {
-      events =
-          (events.StreamStart, origin) ∷
-          (events.DocumentStart false, origin) ∷
-          (events.MappingStart 0 None, origin) ∷
-          (plain_event (codes "a"), span_of (marker_at 0 1 0) (marker_at 1 1 1)) ∷
-          (plain_event (codes " b"), span_of (marker_at 2 1 2) (marker_at 5 2 2)) ∷
-          (events.MappingEnd, span_of (marker_at 5 2 2) (marker_at 5 2 2)) ∷
-          (events.DocumentEnd, span_of (marker_at 5 2 2) (marker_at 5 2 2)) ∷
-          (events.StreamEnd, span_of (marker_at 5 2 2) (marker_at 5 2 2)) ∷
-          [];
-      fault = None;
-    }
+    one_document (
+    (events.MappingStart 0 None, origin) ∷
+    (plain_event (codes "a"), span_of (marker_at 0 1 0) (marker_at 1 1 1)) ∷
+    (plain_event (codes " b"), span_of (marker_at 2 1 2) (marker_at 5 2 2)) ∷
+    (events.MappingEnd, at (marker_at 5 2 2)) ∷
+    []
+    ) (marker_at 5 2 2)
 
 -- `- a` with all events, the end of the stream too, and then a fault
 abbrev pub fault_behind_the_end : Answer
 fault_behind_the_end =
-    record {
-      events =
-          (events.StreamStart, origin) ∷
-          (events.DocumentStart false, origin) ∷
-          (events.SequenceStart 0 None, origin) ∷
-          (plain_event (codes "a"), span_of (marker_at 2 1 2) (marker_at 3 1 3)) ∷
-          (events.SequenceEnd, span_of (marker_at 3 1 3) (marker_at 3 1 3)) ∷
-          (events.DocumentEnd, span_of (marker_at 3 1 3) (marker_at 3 1 3)) ∷
-          (events.StreamEnd, span_of (marker_at 3 1 3) (marker_at 3 1 3)) ∷
-          [];
-      fault = Some (Refused (marker_at 0 1 0) (codes "no text of the table"));
-    }
+    record (
+    one_document (
+    (events.SequenceStart 0 None, origin) ∷
+    (plain_event (codes "a"), span_of (marker_at 2 1 2) (marker_at 3 1 3)) ∷
+    (events.SequenceEnd, at (marker_at 3 1 3)) ∷
+    []
+    ) (marker_at 3 1 3)
+    ) { fault = Some (Refused (marker_at 0 1 0) (codes "no text of the table")) }
 
 -- nothing of `a`, without a fault
 abbrev pub no_events : Answer
@@ -102,63 +109,35 @@ no_events = record { events = []; fault = None }
 -- `--- |` LF `a` LF `---` LF `b` as one document
 abbrev pub marker_inside : Answer
 marker_inside =
-    record {
-      events =
-          (events.StreamStart, origin) ∷
-          (events.DocumentStart true, span_of (marker_at 0 1 0) (marker_at 3 1 3)) ∷
-          (events.Scalar (codes "a\n---\nb\n") Literal 0 None, span_of (marker_at 6 2 0) (marker_at 14 5 0)) ∷
-          (events.DocumentEnd, span_of (marker_at 14 5 0) (marker_at 14 5 0)) ∷
-          (events.StreamEnd, span_of (marker_at 14 5 0) (marker_at 14 5 0)) ∷
-          [];
-      fault = None;
-    }
+    document_behind_mark (span_of (marker_at 0 1 0) (marker_at 3 1 3))
+    ((events.Scalar (codes "a\n---\nb\n") Literal 0 None, span_of (marker_at 6 2 0) (marker_at 14 5 0)) ∷ [])
+    (marker_at 14 5 0)
 
 -- `|` LF ` a` NUL `b` as one scalar
 abbrev pub nul_inside : Answer
 nul_inside =
-    record {
-      events =
-          (events.StreamStart, origin) ∷
-          (events.DocumentStart false, origin) ∷
-          (events.Scalar (codes "a\0b\n") Literal 0 None, span_of (marker_at 3 2 1) (marker_at 7 3 0)) ∷
-          (events.DocumentEnd, span_of (marker_at 7 3 0) (marker_at 7 3 0)) ∷
-          (events.StreamEnd, span_of (marker_at 7 3 0) (marker_at 7 3 0)) ∷
-          [];
-      fault = None;
-    }
+    one_document ((events.Scalar (codes "a\0b\n") Literal 0 None, span_of (marker_at 3 2 1) (marker_at 7 3 0)) ∷ [])
+    (marker_at 7 3 0)
 
 -- `"a` LF `--- b"` as one scalar
 abbrev pub marker_in_quotes : Answer
 marker_in_quotes =
-    record {
-      events =
-          (events.StreamStart, origin) ∷
-          (events.DocumentStart false, origin) ∷
-          (events.Scalar (codes "a --- b") DoubleQuoted 0 None, span_of (marker_at 0 1 0) (marker_at 9 2 6)) ∷
-          (events.DocumentEnd, span_of (marker_at 9 2 6) (marker_at 9 2 6)) ∷
-          (events.StreamEnd, span_of (marker_at 9 2 6) (marker_at 9 2 6)) ∷
-          [];
-      fault = None;
-    }
+    one_document
+    ((events.Scalar (codes "a --- b") DoubleQuoted 0 None, span_of (marker_at 0 1 0) (marker_at 9 2 6)) ∷ [])
+    (marker_at 9 2 6)
 
 -- ## Answers in which something is too short, or goes on too far
 
--- the mapping `: v` of one line, with the value's event, and the place behind that line
+-- the mapping `: v` of one line, with the value's event, and the place after that line
 abbrev with_value : Happening × Span → Marker → Answer
 with_value value end =
-    record {
-      events =
-          (events.StreamStart, origin) ∷
-          (events.DocumentStart false, origin) ∷
-          (events.MappingStart 0 None, origin) ∷
-          (plain_event [], origin) ∷
-          value ∷
-          (events.MappingEnd, span_of end end) ∷
-          (events.DocumentEnd, span_of end end) ∷
-          (events.StreamEnd, span_of end end) ∷
-          [];
-      fault = None;
-    }
+    one_document (
+    (events.MappingStart 0 None, origin) ∷
+    (plain_event [], origin) ∷
+    value ∷
+    (events.MappingEnd, at end) ∷
+    []
+    ) end
 
 -- `: !a` LF with the tag `!` before `a`
 abbrev pub scalar_with_short_tag : Happening
@@ -188,33 +167,18 @@ cut_value_events =
 -- `--- |` LF ` a#b` LF so
 abbrev pub cut_line_events : Answer
 cut_line_events =
-    record {
-      events =
-          (events.StreamStart, origin) ∷
-          (events.DocumentStart true, span_of (marker_at 0 1 0) (marker_at 3 1 3)) ∷
-          (events.Scalar (codes "a") Literal 0 None, span_of (marker_at 7 2 1) (marker_at 8 2 2)) ∷
-          (events.DocumentEnd, span_of (marker_at 11 3 0) (marker_at 11 3 0)) ∷
-          (events.StreamEnd, span_of (marker_at 11 3 0) (marker_at 11 3 0)) ∷
-          [];
-      fault = None;
-    }
+    document_behind_mark (span_of (marker_at 0 1 0) (marker_at 3 1 3))
+    ((events.Scalar (codes "a") Literal 0 None, span_of (marker_at 7 2 1) (marker_at 8 2 2)) ∷ []) (marker_at 11 3 0)
 
 -- `%TAG !e!t:x` LF `--- !u v` LF with the handle `!`, which stands for `e!t:x` then
 abbrev pub short_handle_events : Answer
 short_handle_events =
-    record {
-      events =
-          (events.StreamStart, origin) ∷
-          (events.DocumentStart true, span_of (marker_at 12 2 0) (marker_at 15 2 3)) ∷ (
-            events.Scalar (codes "v") Plain 0 (Some (record { handle = codes "e!t:x"; suffix = codes "u" })),
-            span_of
-                (marker_at 16 2 4) (marker_at 20 2 8),
-          ) ∷
-          (events.DocumentEnd, span_of (marker_at 21 3 0) (marker_at 21 3 0)) ∷
-          (events.StreamEnd, span_of (marker_at 21 3 0) (marker_at 21 3 0)) ∷
-          [];
-      fault = None;
-    }
+    document_behind_mark (span_of (marker_at 12 2 0) (marker_at 15 2 3)) ((
+      events.Scalar (codes "v") Plain 0 (Some (record { handle = codes "e!t:x"; suffix = codes "u" })),
+      span_of (marker_at 16 2 4) (marker_at 20 2 8),
+    ) ∷
+    []
+    ) (marker_at 21 3 0)
 
 -- `: |` LF ` a` LF with the plain scalar `| a`
 abbrev pub bar_and_a : Span
@@ -232,21 +196,15 @@ both_entries = span_of (marker_at 3 1 3) (marker_at 7 1 7)
 
 abbrev pub one_entry_events : Answer
 one_entry_events =
-    record {
-      events =
-          (events.StreamStart, origin) ∷
-          (events.DocumentStart false, origin) ∷
-          (events.MappingStart 0 None, origin) ∷
-          (plain_event [], origin) ∷
-          (events.SequenceStart 0 None, bracket) ∷
-          (plain_event (codes "a, b"), both_entries) ∷
-          (events.SequenceEnd, span_of (marker_at 7 1 7) (marker_at 8 1 8)) ∷
-          (events.MappingEnd, span_of (marker_at 9 2 0) (marker_at 9 2 0)) ∷
-          (events.DocumentEnd, span_of (marker_at 9 2 0) (marker_at 9 2 0)) ∷
-          (events.StreamEnd, span_of (marker_at 9 2 0) (marker_at 9 2 0)) ∷
-          [];
-      fault = None;
-    }
+    one_document (
+    (events.MappingStart 0 None, origin) ∷
+    (plain_event [], origin) ∷
+    (events.SequenceStart 0 None, bracket) ∷
+    (plain_event (codes "a, b"), both_entries) ∷
+    (events.SequenceEnd, span_of (marker_at 7 1 7) (marker_at 8 1 8)) ∷
+    (events.MappingEnd, at (marker_at 9 2 0)) ∷
+    []
+    ) (marker_at 9 2 0)
 
 -- ## A place that is none
 

@@ -9,7 +9,7 @@ use Rattle.saphyr_machine.specs.Events.{Happening}
 use Rattle.saphyr_machine.specs.Answer.{Answer}
 use Rattle.taken_laws.specs.Examples.TakenTexts.{marker_at}
 use Rattle.event_examples.specs.Examples.Forests.{plain_event}
-use Rattle.event_examples.specs.Examples.WrongAnswers.{span_of, origin}
+use Rattle.event_examples.specs.Examples.WrongAnswers.{span_of, origin, at, one_document}
 
 -- ## What is true of each answer
 
@@ -26,7 +26,7 @@ abbrev pub IsNoSequence : Happening → Type 0
 IsNoSequence (events.SequenceStart id tag) = ⊥
 IsNoSequence _ = Unit {0}
 
--- `[`, or `-` behind which a blank, a break, NUL or the end stands
+-- `[`, or `-` before a blank, a break, NUL or the end
 abbrev pub begins_sequence : ℕ → List ℕ → Bool
 begins_sequence c behind = (c == left_bracket) || ((c == hyphen) && is_blank_or_breakz (slice_index behind 0))
 
@@ -45,7 +45,7 @@ abbrev pub collections_in : List (Happening × Span) → ℕ
 collections_in [] = 0
 collections_in (e ∷ es) = collections_begun e.0 + collections_in es
 
--- `-`, `?` and `:`, which begin what stands in a block collection
+-- `-`, `?` and `:`, which begin what is in a block collection
 abbrev pub is_block_indicator : ℕ → Bool
 is_block_indicator c = is_one_of (codes "-?:") c
 
@@ -59,36 +59,21 @@ abbrev pub has_only_indicators : List ℕ → Bool
 has_only_indicators [] = true
 has_only_indicators (c ∷ cs) = stands_alone c cs && has_only_indicators cs
 
--- the column behind a character
+-- the column after a character
 abbrev pub next_column : ℕ → ℕ → ℕ
 next_column c n = if c == line_feed then 0 else n + 1
 
--- the indicators of a text from column n on stand at columns of a list
+-- the indicators of a text from column n on are at columns of a list
 abbrev pub StandIn : List ℕ → ℕ → List ℕ → Type 0
 StandIn columns n [] = Unit {0}
 StandIn columns n (c ∷ cs) =
     (IsTrue (is_block_indicator c) → IsTrue (is_one_of columns n)) × StandIn columns (next_column c n) cs
 
--- they stand at no more columns than collections begin
+-- they are at no more columns than collections begin
 abbrev pub StandAtColumns : List ℕ → List (Happening × Span) → Type 0
 StandAtColumns text es = (columns : List ℕ) × (length columns ≤ collections_in es) × StandIn columns 0 text
 
 -- ## Wrong answers
-
--- one document without a `---`, whose node has these events, and which ends at a place
-abbrev pub one_document : List (Happening × Span) → Marker → Answer
-one_document node end =
-    record {
-      events =
-          (events.StreamStart, origin) ∷
-          (events.DocumentStart false, origin) ∷
-          (node ++ ((events.DocumentEnd, span_of end end) ∷ (events.StreamEnd, span_of end end) ∷ []));
-      fault = None;
-    }
-
--- at one place
-abbrev pub at : Marker → Span
-at place = span_of place place
 
 -- `{a` with the braces closed
 abbrev pub open_brace : Answer

@@ -1,12 +1,12 @@
--- Wrong answers in which something stands at a place where the standard has none of its kind.
+-- Wrong answers in which something is at a place where the standard has none of its kind.
 use Rattle.std.specs.Prelude.{[], ◌∷◌, None, codes}
 use Rattle.saphyr_scalar.specs.declared.scalar.position.Span.{Span}
 use Rattle.saphyr_machine.specs.Events as events
 use Rattle.saphyr_machine.specs.Answer.{Answer}
 use Rattle.taken_laws.specs.Examples.TakenTexts.{marker_at}
 use Rattle.event_examples.specs.Examples.Forests.{plain_event}
-use Rattle.event_examples.specs.Examples.WrongAnswers.{span_of, origin}
-use Rattle.event_examples.specs.Examples.WrongMappings.{one_document, at, one_collection}
+use Rattle.event_examples.specs.Examples.WrongAnswers.{span_of, origin, at, one_document}
+use Rattle.event_examples.specs.Examples.WrongMappings.{one_collection}
 
 -- `- a` LF `-` with one scalar
 abbrev pub both_lines : Span

@@ -23,7 +23,7 @@ use Rattle.event_laws.proofs.Beside.Passing.{Has, PassesAlike, passes, has, goes
 
 -- ## The beginnings of the stream and of documents
 
--- anchors are forgotten, and something is expected behind the document
+-- anchors are forgotten, and something is expected after the document
 opened_beside : (w : Beside) (T : Remaining → Remaining → Type 0) (s : State) (m n : Machine) → Expected w s s
     → With w T m n
     → With w T (with_state s (push state.DocumentEnd (without_anchors m)))
@@ -38,7 +38,7 @@ opened_beside w T s m n e near =
       setting = near.setting;
     }
 
--- behind a document's marker
+-- after a document's marker
 left_behind_marker : (w : Beside) (d : DocumentMarker) (m n : Machine) → With w (λ r q. w.Rest r q ⊎ w.Over d r q) m n
     → Awaits d m
     → Left w (marker_event d) m n
@@ -86,7 +86,7 @@ start_at : (w : Beside) → AtBoth w (Alike w) document.explicit_start_at docume
 start_at w tokens.StreamEnd t u m n h = enters_told w _ _ _ t.span u.span m n refl h.span h.behind
 start_at w k t u m n h = explicit_document_alike w k t u m n h
 
--- The first machine's tokens were all passed, and the step is the one behind them.
+-- The first machine's tokens were all passed, and the step is the one after them.
 abbrev pub PassedAll : Beside → Machine → Machine → (Machine → Result Told Refusal) → Type 0
 PassedAll w m n go = (ts : List Piece) × (us : List Piece) × With w (w.Over Ends) (with_pieces ts m) (with_pieces us n)
     × (go m ≡ go (with_pieces ts m)) × (go n ≡ go (with_pieces us n))

@@ -17,7 +17,7 @@ use Rattle.saphyr_machine.specs.Steps.Nodes.{register}
 
 -- ## What is alike
 
--- What is left behind a token of the kind: tokens as before, or nothing behind a marker that is the last.
+-- What is left after a token of the kind: tokens as before, or nothing after a marker that is the last.
 abbrev pub Behind : (Remaining → Remaining → Type 0) → (DocumentMarker → Remaining → Remaining → Type 0) → Kind
     → Remaining → Remaining → Type 0
 Behind Rest Over tokens.DocumentStart = λ r q. Rest r q ⊎ Over Starts r q
@@ -39,7 +39,7 @@ pub record Beside : Type 1 where
   pub Place : Marker → Marker → Type 0
   -- tokens that are left
   pub Rest : Remaining → Remaining → Type 0
-  -- what is left behind a marker that was the first machine's last token
+  -- what is left after a marker that was the first machine's last token
   pub Over : DocumentMarker → Remaining → Remaining → Type 0
   pub Setting : Bool → Bool → Type 0
   -- the first machine's tokens ended too early
@@ -80,8 +80,7 @@ abbrev pub Near : Beside → Machine → Machine → Type 0
 Near w m n = With w w.Rest m n
 
 -- other tokens, and something else is expected
-pub changed :
-    (w : Beside) (T U : Remaining → Remaining → Type 0) (m n : Machine) (r q : Remaining) (s x : State)
+pub changed : (w : Beside) (T U : Remaining → Remaining → Type 0) (m n : Machine) (r q : Remaining) (s x : State)
     (ss xs : List State) → U r q → Expected w s x → AllExpected w ss xs → With w T m n
     → With w U (record m { tokens = r; state = s; states = ss }) (record n { tokens = q; state = x; states = xs })
 changed w T U m n r q s x ss xs rest e es near =
@@ -94,7 +93,7 @@ changed w T U m n r q s x ss xs rest e es near =
       setting = near.setting;
     }
 
--- behind a token of the kind k, which may be put back
+-- after a token of the kind k, which may be put back
 pub record Held (w : Beside) (k : Kind) (t u : Piece) (m n : Machine) : Type 0 where
   pub kind : t.kind ≡ k
   pub same : u.kind ≡ k
@@ -114,8 +113,7 @@ GivesAlike w R (Ok x) (Ok y) = R x y
 GivesAlike w R (Ok x) (Err g) = ⊥
 GivesAlike w R (Err f) q = w.Early f ⊎ RefusesAlike w f q
 
-pub goes_on :
-    {X Y V W : Type 0} (w : Beside) (R : X → Y → Type 0) (S : V → W → Type 0) (p : Result X Refusal)
+pub goes_on : {X Y V W : Type 0} (w : Beside) (R : X → Y → Type 0) (S : V → W → Type 0) (p : Result X Refusal)
     (q : Result Y Refusal) (go : X → Result V Refusal) (ho : Y → Result W Refusal) → GivesAlike w R p q
     → ((x : X) (y : Y) → R x y → GivesAlike w S (go x) (ho y)) → GivesAlike w S (p >>= go) (q >>= ho)
 goes_on w R S (Ok x) (Ok y) go ho g h = h x y g
@@ -130,12 +128,12 @@ pub either :
 either w R true p r q s g h = g
 either w R false p r q s g h = h
 
--- what is expected behind a document's marker
+-- what is expected after a document's marker
 abbrev pub Awaits : DocumentMarker → Machine → Type 0
 Awaits Starts m = (m.state ≡ state.DocumentContent) × ((ss : List State) × (m.states ≡ state.DocumentEnd ∷ ss))
 Awaits Ends m = m.state ≡ state.ImplicitDocumentStart
 
--- two machines behind an event: tokens are left as before, or the event is that of a marker which was the last token
+-- two machines after an event: tokens are left as before, or the event is that of a marker which was the last token
 abbrev pub Left : Beside → Happening → Machine → Machine → Type 0
 Left w what m n =
     Near w m n ⊎ ((d : DocumentMarker) × With w (w.Over d) m n × Awaits d m × (what ≡ marker_event d))
@@ -155,7 +153,7 @@ abbrev pub Both : {X : Type 0} → (w : Beside) → (X → X → Type 0) → (Ma
     → (Machine → Result X Refusal) → Type 0
 Both w R go ho = (m n : Machine) → Near w m n → GivesAlike w R (go m) (ho n)
 
--- behind a token
+-- after a token
 abbrev pub AtBoth : {X : Type 0} → (w : Beside) → (X → X → Type 0) → (Kind → Piece → Machine → Result X Refusal)
     → (Kind → Piece → Machine → Result X Refusal) → Type 0
 AtBoth w R go ho = (k : Kind) (t u : Piece) (m n : Machine) → Held w k t u m n → GivesAlike w R (go k t m) (ho k u n)
@@ -178,10 +176,8 @@ pub ahead : (w : Beside) (m n : Machine) → Near w m n → Ahead w m.tokens.pie
 ahead w m n near = changed w _ _ m n _ _ _ _ _ _ near.tokens near.state near.states near
 
 -- the tokens are over
-pub over :
-    {X : Type 0} (w : Beside) (R : X → X → Type 0) (us : List Piece) (m n : Machine) (go : List Piece
-    → Result X Refusal)
-    → Ahead w [] us m n → go [] ≡ Err (ending_refusal n.tokens.refusal)
+pub over : {X : Type 0} (w : Beside) (R : X → X → Type 0) (us : List Piece) (m n : Machine)
+    (go : List Piece → Result X Refusal) → Ahead w [] us m n → go [] ≡ Err (ending_refusal n.tokens.refusal)
     → GivesAlike w R (Err (ending_refusal m.tokens.refusal)) (go us)
 over w R us m n go near is = by (w.none us m.tokens.refusal n.tokens.refusal near.tokens)
   where
@@ -239,9 +235,8 @@ pub pushes : (w : Beside) (T : Remaining → Remaining → Type 0) (s r : State)
     → With w T m n → With w T (push s m) (push r n)
 pushes w T s r m n e near = changed w _ _ m n _ _ _ _ _ _ near.tokens near.state (e, near.states) near
 
--- behind a token, something is expected later
-pub holds :
-    (w : Beside) (s r : State) (k : Kind) (t u : Piece) (m n : Machine) → Expected w s r → Held w k t u m n
+-- after a token, something is expected later
+pub holds : (w : Beside) (s r : State) (k : Kind) (t u : Piece) (m n : Machine) → Expected w s r → Held w k t u m n
     → Held w k t u (push s m) (push r n)
 holds w s r k t u m n e h =
     record {

@@ -106,9 +106,8 @@ behind_beside w a b x y id tag c i j =
     (λ k. node_content_at k (properties x y id tag) c)
     (content_beside w a b x y id tag c i j)
 
-next_beside :
-    (w : Beside) (a b x y : Marker) (id : ℕ) (tag : Option ResolvedTag) (c : NodeContext) → w.Place a x → w.Place b y
-    → Both w (Alike w) (next_content (properties a b id tag) c) (next_content (properties x y id tag) c)
+next_beside : (w : Beside) (a b x y : Marker) (id : ℕ) (tag : Option ResolvedTag) (c : NodeContext) → w.Place a x
+    → w.Place b y → Both w (Alike w) (next_content (properties a b id tag) c) (next_content (properties x y id tag) c)
 unfolding next_content node_content
 next_beside w a b x y id tag c i j m n near =
     taken w _ (λ k. node_content_at k (properties a b id tag) c)

@@ -13,7 +13,7 @@ use Rattle.event_laws.proofs.Beside.Machines.{Beside, Behind, SpansAlike, With, 
 
 -- ## Tokens that are passed
 
--- a token of both, and what is left behind it
+-- a token of both, and what is left after it
 abbrev pub Has : Beside → Piece × Machine → Piece × Machine → Type 0
 Has w x y = Held w x.0.kind x.0 y.0 x.1 y.1
 
@@ -27,7 +27,7 @@ abbrev pub PassesAlike : Beside → (Remaining → Remaining → Type 0) → (Ki
     → Result (Piece × Machine) Refusal → Result (Piece × Machine) Refusal → Type 0
 PassesAlike w S p m n a b = GivesAlike w (Has w) a b ⊎ StopsAlike w S p m n a b
 
--- what is left behind a token that is passed
+-- what is left after a token that is passed
 abbrev pub Goes : Beside → (Remaining → Remaining → Type 0) → (Kind → Bool) → Type 0
 Goes w S p = (k : Kind) (r q : Remaining) → p k ≡ true → Behind w.Rest w.Over k r q → w.Rest r q ⊎ S r q
 
@@ -37,10 +37,9 @@ has w k t u m n h = by t.kind h.kind refl
     by : (i : Kind) → i ≡ k → t.kind ≡ i → Held w i t u m n
     by i e y = rw e h
 
-pub passes :
-    (w : Beside) (S : Remaining → Remaining → Type 0) (p : Kind → Bool) → Goes w S p → (ts us : List Piece)
-    (m n : Machine) → Ahead w ts us m n → PassesAlike w S p m n (unpassed_token_from p ts m)
-    (unpassed_token_from p us n)
+pub passes : (w : Beside) (S : Remaining → Remaining → Type 0) (p : Kind → Bool) → Goes w S p
+    → (ts us : List Piece) (m n : Machine) → Ahead w ts us m n
+    → PassesAlike w S p m n (unpassed_token_from p ts m) (unpassed_token_from p us n)
 passes w S p go [] us m n a = inl (over w (Has w) us m n (λ us. unpassed_token_from p us n) a refl)
 passes w S p go (t ∷ ts) us m n a =
     rw x.is (by (p t.kind) refl (λ b. passes w S p go ts x.tail (with_pieces ts m) (with_pieces x.tail n) b))
@@ -99,10 +98,9 @@ behind_both w R p q go ho f g = goes_on w (Has w) R p q _ _ g
 abbrev Declares : Beside → List Piece → List Piece → Declared × Machine → Declared × Machine → Type 0
 Declares w ts us x y = (y.0 ≡ x.0) × Ahead w ts us x.1 y.1
 
-directive_beside :
-    (w : Beside) (k : Kind) (t u : Piece) (ts us : List Piece) (d : Declared) (m n : Machine)
-    → SpansAlike w t.span u.span
-    → Ahead w ts us m n → GivesAlike w (Declares w ts us) (directive_at k t d m) (directive_at k u d n)
+directive_beside : (w : Beside) (k : Kind) (t u : Piece) (ts us : List Piece) (d : Declared) (m n : Machine)
+    → SpansAlike w t.span u.span → Ahead w ts us m n
+    → GivesAlike w (Declares w ts us) (directive_at k t d m) (directive_at k u d n)
 directive_beside w (tokens.VersionDirective major minor) t u ts us d m n e a = by d.version
   where
     by :

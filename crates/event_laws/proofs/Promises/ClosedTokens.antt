@@ -1,4 +1,4 @@
--- Tokens up to a document marker's give the events up to and with its own, whatever follows.
+-- Tokens up to a document marker's give the events up to and including its own, whatever follows.
 use Rattle.std.proofs.Common.{◌≡◌, ◌≢◌, Bool, List, [], ◌∷◌, ◌++◌, Option, None, refl, sym, ap, ◌∙◌, subst, ◌⊎◌, inl, inr}
 use Rattle.std.proofs.lemmas.List.{append_assoc, append_cancel_right, append-nil, map-append}
 use Rattle.saphyr_scalar.specs.declared.scalar.position.Span.{Span}
@@ -37,16 +37,16 @@ start_step s state.ImplicitDocumentStart k i = refl
 start_step s state.DocumentStart k i = refl
 start_step s _ k i = absurd i
 
-goes : (x : State) → IsBetweenDocuments x → x ≢ state.End
-goes state.ImplicitDocumentStart i = λ e. absurd (cc)
-goes state.DocumentStart i = λ e. absurd (cc)
-goes _ i = absurd i
+pub not_over : (x : State) → IsBetweenDocuments x → x ≢ state.End
+not_over state.ImplicitDocumentStart i = λ e. absurd (cc)
+not_over state.DocumentStart i = λ e. absurd (cc)
+not_over _ i = absurd i
 
 start_is_told : (s : Span) (k : Machine) → IsBetweenDocuments k.state
     → remaining_answer (alone s k) ≡ record { events = (events.StreamEnd, s) ∷ []; fault = None }
 unfolding event_step
 start_is_told s k i =
-    unroll (alone s k) (goes k.state i) ∙ ap (λ q. answer_of_step q remaining_answer) (start_step s k.state k i)
+    unroll (alone s k) (not_over k.state i) ∙ ap (λ q. answer_of_step q remaining_answer) (start_step s k.state k i)
     ∙ ap (with_first_event (events.StreamEnd, s)) (over (with_state state.End (with_pieces [] (alone s k))) refl)
 
 abbrev in_document : List State → Machine → Machine
@@ -145,7 +145,7 @@ tokens_close keep w ts us x s e first is t =
     (first_told w s first m _ _ (goes_on (ended_by w end None) m (inl (marker_ends w end None ts x is))) t)
 
 -- Tokens end with a marker's and the end of the stream, and give exactly these events. Where others follow the marker's
--- token, the events up to and with the marker's come first.
+-- token, the events up to and including the marker's come first.
 pub closed_tokens :
     (keep : Bool) (w : DocumentMarker) (ts us : List Piece) (x y : Piece) (e : Option Refusal) (first : List Happening)
     → x.kind ≡ marker_token w → y.kind ≡ tokens.StreamEnd

@@ -64,7 +64,7 @@ step_given z m x e is = by (ended m.state)
     by (inl y) = absurd (none m.state y is)
     by (inr n) = agreed (steps_agree z m.state m n e)
 
--- a step gives the same with more tokens behind, which are left behind those that it leaves
+-- a step gives the same with more tokens after, which are left after those that it leaves
 pub same_step : (m : Machine) (us : List Piece) (e : Option Refusal) (x : Told) → event_step m ≡ Ok x
     → event_step (with_more us e m) ≡ Ok (record x { machine = with_more us e x.machine })
 same_step m us e x is = step_given (record { Early = Unit {0}; marker = Starts; pieces = us; refusal = e }) m x
@@ -72,16 +72,16 @@ same_step m us e x is = step_given (record { Early = Unit {0}; marker = Starts; 
 
 -- ## All steps
 
--- an answer behind events
+-- an answer after events
 abbrev pub behind_all : List (Happening × Span) → Answer → Answer
 behind_all es a = record { events = es ++ a.events; fault = a.fault }
 
--- where a machine wants another token behind the marker, unless its tokens ended too early
+-- where a machine wants another token after the marker, unless its tokens ended too early
 abbrev pub IsStopped : More → Machine → Type 0
 IsStopped z k = z.Early ⊎ ((k.tokens.pieces ≡ []) × (Awaits z.marker k ⊎ ((z.marker ≡ Ends) × IsBetweenDocuments
     k.state)))
 
--- The last of the events that a machine m tells, where k wants another token behind the marker, is the marker's own;
+-- The last of the events that a machine m tells, where k wants another token after the marker, is the marker's own;
 -- unless m had told it before, no document was open at `...`, or the tokens ended too early.
 abbrev pub IsLastToldBy : More → Machine → Machine → List (Happening × Span) → Type 0
 IsLastToldBy z m k es =
@@ -147,7 +147,7 @@ none_taken : (ts : List Piece) (m : Machine) (go : Piece × Machine → Result T
     → (taken_token_from ts m >>= go) ≡ Err (ending_refusal m.tokens.refusal)
 none_taken ts m go e = rw e refl
 
--- what waits for a token behind the marker gets none
+-- what waits for a token after the marker gets none
 none_awaited : (w : DocumentMarker) (m : Machine) → m.tokens.pieces ≡ [] → Awaits w m
     → event_step_at m.state m ≡ Err (ending_refusal m.tokens.refusal)
 unfolding implicit_start unpassed_token document_content
@@ -155,7 +155,7 @@ none_awaited Starts m e a =
     ap (λ s. event_step_at s m) a.0 ∙ none_taken m.tokens.pieces m _ e
 none_awaited Ends m e a = ap (λ s. event_step_at s m) a ∙ passed_from m.tokens.pieces m _ e
 
--- a step, and what comes behind it
+-- a step, and what comes after it
 first_step :
     (z : More) (m : Machine)
     → ((x : Told) → event_step m ≡ Ok x → IsLeft z x.machine
@@ -213,7 +213,7 @@ first_ones z r m a b (inl e) = inl e
 first_ones z r m a b (inr y) =
     inr (y.0, ((remaining_answer (longer z y.1.0)).events, ap (λ (v : Answer). v.events) y.1.2))
 
--- the events of a machine are the first ones with more tokens behind, and all where another fault than the end of its
+-- the events of a machine are the first ones with more tokens after, and all where another fault than the end of its
 -- tokens ends them, or none
 pub begins_as : (m : Machine) (us : List Piece) (e : Option Refusal)
     → BeginsAs (ending_refusal m.tokens.refusal) (remaining_answer m) (remaining_answer (with_more us e m))

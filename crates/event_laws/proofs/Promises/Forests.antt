@@ -1,49 +1,37 @@
 -- The tokens of a forest give its events.
-use Rattle.std.proofs.Common.{◌≡◌, ◌<◌, ◌^◌, ℕ, Bool, true, false, List, [], ◌∷◌, ◌++◌, Some, None, refl, sym, ap, ◌∙◌, subst, ◌⊎◌, inl, inr, append_assoc, arith}
+use Rattle.std.proofs.Common.{◌≡◌, ◌<◌, ◌^◌, ℕ, Bool, true, false, List, [], ◌∷◌, ◌++◌, Some, None, refl, sym, ◌∙◌, subst, ◌⊎◌, inl, inr, append_assoc, arith}
 use Rattle.std.specs.Prelude.{if◌then◌else◌, Option}
 use Rattle.saphyr_scalar.specs.declared.scalar.position.Span.{Span}
 use Rattle.saphyr_scalar.specs.declared.scalar.fault.Refusal.{Refusal}
-use Rattle.saphyr_scanner.specs.Grammar.Forest.{Node, Alias, Scalar, Seq, Map, Nodes, NoNode, MoreNodes, Pairs, NoPair, MorePairs, Directive, Document, AreCompatible, Forest}
+use Rattle.saphyr_scanner.specs.Grammar.Forest.{Node, Directive, Document, AreCompatible, Forest}
 use Rattle.saphyr_scanner.specs.Grammar.Tokens.{Kind, DocumentEnd}
 use Rattle.saphyr_scanner.specs.Grammar.TokenGrammar.{YieldsDocument, AreEndsAndMarks, YieldDocuments, Yields}
 use Rattle.saphyr_scanner.specs.Views.Tokens.{Piece, Remaining}
 use Rattle.event_laws.specs.Anchors.{anchors}
-use Rattle.event_laws.specs.Preorder.{Part, CloseDocument, CloseSequence, CloseMapping, node_parts, entry_parts, pair_parts, document_parts, parts}
+use Rattle.event_laws.specs.Preorder.{Part, OpenStream, CloseStream, OpenDocument, CloseDocument, node_parts, document_parts, parts}
 use Rattle.saphyr_machine.specs.Events.{Happening}
 use Rattle.event_laws.specs.ForestEvents.{events}
 use Rattle.saphyr_machine.specs.Steps.Machine.{no_anchors}
 use Rattle.saphyr_machine.specs.Cursor.{at_start, keeping_tags, to_come}
 use Rattle.event_laws.specs.Exactly.{GivesExactly, kinds, answer_of_tokens}
 use Rattle.event_laws.proofs.Told.Telling.{SpansByKinds, Memory, dressed, dress}
+use Rattle.event_laws.proofs.AddsUp.{IsInNode, of_node}
 use Rattle.event_laws.proofs.Remembering.{events_in}
 use Rattle.event_laws.proofs.Told.Streams.{stream_says}
 use Rattle.event_laws.proofs.MemoryFits.{FitsBetween, Within, same_events}
 
--- ## The parts of a forest stand in their places
+-- ## The parts of a forest are in their places
 
-mutual
-  node_within : (n : Node) (ps : List Part) → Within true ps → Within true (node_parts n ++ ps)
-  node_within (Alias name) ps h = (tt, h)
-  node_within (Scalar p style value) ps h = (tt, h)
-  node_within (Seq p ns) ps h =
-      (tt, rw (append_assoc (entry_parts ns) (CloseSequence ∷ []) ps) (nodes_within ns (CloseSequence ∷ ps) (tt, h)))
-  node_within (Map p qs) ps h =
-      (tt, rw (append_assoc (pair_parts qs) (CloseMapping ∷ []) ps) (pairs_within qs (CloseMapping ∷ ps) (tt, h)))
+alone_within : (p : Part) → IsInNode p → (ps : List Part) → Within true ps → Within true (p ∷ ps)
+alone_within OpenStream i ps h = elim i [ ]
+alone_within CloseStream i ps h = elim i [ ]
+alone_within (OpenDocument explicit directives) i ps h = elim i [ ]
+alone_within CloseDocument i ps h = elim i [ ]
+alone_within _ i ps h = (tt, h)
 
-  nodes_within : (ns : Nodes) (ps : List Part) → Within true ps → Within true (entry_parts ns ++ ps)
-  nodes_within NoNode ps h = h
-  nodes_within (MoreNodes n ns) ps h =
-      rw (append_assoc (node_parts n) (entry_parts ns) ps) (node_within n (entry_parts ns ++ ps) (nodes_within ns ps h))
-
-  pairs_within : (qs : Pairs) (ps : List Part) → Within true ps → Within true (pair_parts qs ++ ps)
-  pairs_within NoPair ps h = h
-  pairs_within (MorePairs key value qs) ps h =
-      let all : (node_parts key ++ (node_parts value ++ pair_parts qs)) ++ ps
-      ≡ node_parts key ++ (node_parts value ++ (pair_parts qs ++ ps)) =
-      append_assoc (node_parts key) (node_parts value ++ pair_parts qs) ps
-      ∙ ap (λ l. node_parts key ++ l) (append_assoc (node_parts value) (pair_parts qs) ps) in
-      rw all (node_within key (node_parts value ++ (pair_parts qs ++ ps))
-      (node_within value (pair_parts qs ++ ps) (pairs_within qs ps h)))
+node_within : (n : Node) (ps : List Part) → Within true ps → Within true (node_parts n ++ ps)
+node_within = of_node (λ qs. (ps : List Part) → Within true ps → Within true (qs ++ ps)) (λ ps h. h)
+    (λ ps qs f g rs h. rw (append_assoc ps qs rs) (f (qs ++ rs) (g rs h))) alone_within
 
 -- each document's directives go together
 abbrev pub AreAllCompatible : Forest → Type 0

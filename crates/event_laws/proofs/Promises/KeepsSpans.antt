@@ -1,4 +1,4 @@
--- The promise on spans: those of all events stand at places of the text, where those of the tokens do, in order.
+-- The promise on spans: those of all events are at places of the text, if those of the tokens are, in order.
 use Rattle.std.proofs.Common.{◌≡◌, ℕ, suc, ◌≤◌, Bool, true, false, List, [], ◌∷◌, length, Option, Some, None, inl, refl, sym, subst, arith}
 use Rattle.std.specs.Prelude.{if◌then◌else◌}
 use Rattle.std.proofs.lemmas.List.Elements.{All-nil, All-cons}
@@ -27,7 +27,7 @@ lower_pieces : (n low high : ℕ) (ps : List Piece) → low ≤ high → AreInOr
 lower_pieces n low high [] l h = omega (arith, l, h)
 lower_pieces n low high (p ∷ ps) l h = (let first = h.0 in omega (arith, l, first), h.1, h.2)
 
--- the tokens stand in order at places of the text
+-- the tokens are in order at places of the text
 abbrev ordered : List ℕ → Walk
 ordered text = record {
   Spans = λ a b. IsIn text (record { start = a; end = b });
@@ -154,7 +154,7 @@ keeps_spans text tokens h a later is =
     ahead_spans text later.current (answer_behind later.kept later.machine) stands.ahead
     (behind_spans text later.kept later.machine stands.between)
 
--- a parser that stands at the start of such tokens
+-- a parser that is at the start of such tokens
 pub parser_keeps_spans : (text : List ℕ) (tokens : Remaining) (c : EventCursor) → c ≡ at_start tokens
     → AreInOrder (length text) 0 tokens.pieces → AreAtPlaces text tokens.pieces → KeepsSpans text c
 parser_keeps_spans text tokens c is h a = subst (KeepsSpans text) (sym is) (keeps_spans text tokens h a)

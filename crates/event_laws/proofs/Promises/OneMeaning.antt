@@ -3,11 +3,8 @@ use Rattle.std.proofs.Common.{◌≤◌, ℕ, List, length, sym, ◌∙◌}
 use Rattle.saphyr_machine.specs.Cursor.{EventCursor}
 use Rattle.event_laws.specs.Premises.{Grammar, MeanTheSame, ReadsEach}
 
-pub mean_the_same :
-    (G H : Grammar) (limit : ℕ) (text : List ℕ) (parser : EventCursor) → length text ≤ limit
-    → ReadsEach G limit text parser
-    → ReadsEach H limit text parser
-    → MeanTheSame G H text
+pub mean_the_same : (G H : Grammar) (limit : ℕ) (text : List ℕ) (parser : EventCursor) → length text ≤ limit
+    → ReadsEach G limit text parser → ReadsEach H limit text parser → MeanTheSame G H text
 mean_the_same G H limit text parser short reads reads_too keep one other first second g h e f =
     let given = reads one keep first (record { stands_for = g; within = short; has_events = e }) in
     let given_too = reads_too other keep second (record { stands_for = h; within = short; has_events = f }) in

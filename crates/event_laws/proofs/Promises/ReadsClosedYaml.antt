@@ -57,10 +57,8 @@ front_begins_no_feed : (front behind cs : List ℕ) → cs ≡ front ++ behind �
 front_begins_no_feed [] behind cs e f = refl
 front_begins_no_feed (d ∷ ds) behind cs e f = subst (λ (vs : List ℕ). (slice_index vs 0 == 10) ≡ false) e f
 
-with_first :
-    (c : ℕ) (cs : List ℕ) (x : ℕ) (xs others : List ℕ) (return feed : Bool) → (c == carriage_return) ≡ return
-    → (slice_index cs 0 == line_feed) ≡ feed
-    → (normalized cs ≡ xs ++ others → WholeParts cs xs others)
+with_first : (c : ℕ) (cs : List ℕ) (x : ℕ) (xs others : List ℕ) (return feed : Bool) → (c == carriage_return) ≡ return
+    → (slice_index cs 0 == line_feed) ≡ feed → (normalized cs ≡ xs ++ others → WholeParts cs xs others)
     → (normalized cs ≡ x ∷ xs ++ others → WholeParts cs (x ∷ xs) others) → normalized (c ∷ cs) ≡ x ∷ xs ++ others
     → WholeParts (c ∷ cs) (x ∷ xs) others
 with_first c cs x xs others false feed e f less same n =
@@ -168,8 +166,7 @@ reads_closed G IsTail limit most sees bounds hands text keep first c =
 -- the same of YAML's grammar
 pub reads_closed_yaml : (limit : ℕ) → limit ≤ 4294967295 → BoundsTokens limit
     → HandsOutMarkers (IsYamlText most_open) IsLineRest limit → (text : List ℕ) (parser : EventCursor)
-    → parser ≡ at_start (scan limit text)
-    → ReadsClosedYaml limit text parser
+    → parser ≡ at_start (scan limit text) → ReadsClosedYaml limit text parser
 reads_closed_yaml limit most bounds hands text parser is =
     subst (ReadsClosedYaml limit text) (sym is)
     (reads_closed (IsYamlText most_open) IsLineRest limit most

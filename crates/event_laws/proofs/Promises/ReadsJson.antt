@@ -1,4 +1,4 @@
--- The promise on texts of JSON: each is a text of YAML's grammar, so a parser that stands at the start of its tokens
+-- The promise on texts of JSON: each is a text of YAML's grammar, so a parser that is at the start of its tokens
 -- gives exactly its forest's events. Its forest has no anchors, so no limit is asked for.
 use Rattle.std.proofs.Common.{◌≡◌, ◌≤◌, ◌<◌, ◌^◌, ℕ, List, length, arith, sym, subst}
 use Rattle.saphyr_scanner.specs.Grammar.Forest.{Forest, open_in_forest}
@@ -25,8 +25,7 @@ few_anchors : (forest : Forest) (text : List ℕ) → IsJson forest text → anc
 few_anchors forest text json = let none = json_has_no_anchors forest text json in omega (arith, none)
 
 pub reads_each_json : JsonIsYaml → ScansYaml → (limit : ℕ) (text : List ℕ) → length text < 2 ^ 63
-    → (parser : EventCursor) → parser ≡ at_start (scan limit text)
-    → ReadsJson limit text parser
+    → (parser : EventCursor) → parser ≡ at_start (scan limit text) → ReadsJson limit text parser
 reads_each_json stands scans limit text small parser is forest keep told p =
     let json = p.stands_for.0 in
     let yaml = stands most_open forest text json p.stands_for.1 in

@@ -1,4 +1,4 @@
--- The promise on texts of YAML's grammar: a parser that stands at the start of one's tokens gives exactly its
+-- The promise on texts of YAML's grammar: a parser that is at the start of one's tokens gives exactly its
 -- forest's events.
 use Rattle.std.proofs.Common.{◌≡◌, ◌+◌, ◌*◌, ◌≤◌, ◌<◌, ◌^◌, ℕ, List, length, arith}
 use Rattle.saphyr_scanner.specs.Grammar.Forest.{Forest}

@@ -57,7 +57,7 @@ abbrev pub TakesAllEvents : Type 0
 TakesAllEvents = (text : List ℕ) (tokens : Remaining) → AreTakenFrom text tokens → EndsWithStream tokens
     → length tokens.pieces < 2 ^ 64 → TakesEvents text (at_start tokens)
 
--- a parser that stands at the start of a text's tokens
+-- a parser that is at the start of a text's tokens
 pub parser_takes : TakesAllEvents → (limit : ℕ) (text : List ℕ) (r : Remaining) (c : EventCursor) → c ≡ at_start r
     → r ≡ scan limit text → AreTakenFrom text r → EndsWithStream (scan limit text)
     → length (scan limit text).pieces ≤ 5 * limit + 10 → limit ≤ 4294967295 → TakesEvents text c

@@ -1,10 +1,9 @@
 -- The entries of block collections are told.
-use Rattle.std.proofs.Common.{◌≡◌, List, ◌∷◌, ◌++◌, refl, subst, sym, inl, inr}
+use Rattle.std.proofs.Common.{◌≡◌, List, [], ◌∷◌, ◌++◌, refl, subst, sym, inl, inr}
 use Rattle.saphyr_scanner.specs.Grammar.Forest.{Node}
 use Rattle.saphyr_scanner.specs.Grammar.Forest as forest
 use Rattle.saphyr_scanner.specs.Grammar.Tokens.{Kind, BlockEntry, BlockEnd, Key, Value}
-use Rattle.saphyr_scanner.specs.Grammar.TokenGrammar.{InBlock, InBlockMapping, YieldsOptional, YieldsMarkedKey, YieldsMarkedValue, YieldsBlockPair, BeginsWithValue, YieldsNode}
-use Rattle.saphyr_machine.specs.declared.context.NodeContext.TheVariants.{Block, BlockMapping}
+use Rattle.saphyr_scanner.specs.Grammar.TokenGrammar.{InBlock, InBlockMapping, YieldsMarkedKey, YieldsMarkedValue, YieldsBlockPair, BeginsWithValue, YieldsNode}
 use Rattle.saphyr_machine.specs.declared.state.State.{State}
 use Rattle.saphyr_machine.specs.declared.state.State.TheVariants as state
 use Rattle.event_laws.specs.Preorder.{Part, node_parts}
@@ -12,14 +11,13 @@ use Rattle.saphyr_machine.specs.Steps.Machine.{told_event}
 use Rattle.saphyr_machine.specs.Events.{empty_scalar}
 use Rattle.saphyr_machine.specs.Steps.Block.{block_sequence_entry, block_sequence_node, indentless_sequence_entry, indentless_sequence_node, block_mapping_key, block_key_node, block_mapping_value, block_value_node}
 use Rattle.saphyr_machine.specs.Steps.Expected.{event_step}
-use Rattle.event_laws.proofs.Told.Telling.{SpansByKinds, Memory, at}
+use Rattle.event_laws.proofs.Told.Telling.{SpansByKinds, Memory, at, span_of_token}
 use Rattle.event_laws.proofs.Remembering.{after_node, TellsParts}
-use Rattle.event_laws.proofs.Told.Nodes.{next_node}
-use Rattle.event_laws.proofs.NodeStarts.{Starts, MayFollow, NodeSays, skipped, enters_or_skips, marked_tokens}
+use Rattle.event_laws.proofs.NodeStarts.{MayFollow, NodeSays, skipped, BeginsBehind, LeftOutBehind, SaysBehind, says_behind, marked_tokens}
 
 -- ## Entries of sequences
 
--- what stands behind an entry
+-- what comes after an entry
 abbrev pub EndsBlockEntry : Kind → Type 0
 EndsBlockEntry BlockEntry = Unit {0}
 EndsBlockEntry BlockEnd = Unit {0}
@@ -30,31 +28,22 @@ entry_end_follows BlockEntry h = tt
 entry_end_follows BlockEnd h = tt
 entry_end_follows _ h = elim h [ ]
 
-entry_begins : (f : SpansByKinds) (j : Kind) (l : List Kind) (ss : List State) (e : Memory) → Starts InBlock j
-    → event_step (at f (BlockEntry ∷ j ∷ l) state.BlockSequenceEntry ss e)
-    ≡ next_node Block (at f (j ∷ l) state.BlockSequenceEntry (state.BlockSequenceEntry ∷ ss) e)
+entry_begins : BeginsBehind BlockEntry InBlock state.BlockSequenceEntry state.BlockSequenceEntry
 unfolding event_step block_sequence_entry block_sequence_node
 entry_begins f BlockEntry l ss e h = elim h [ ]
 entry_begins f BlockEnd l ss e h = elim h [ ]
 entry_begins f _ l ss e h = refl
 
-entry_is_left_out : (f : SpansByKinds) (k : Kind) (ks : List Kind) (ss : List State) (e : Memory) → EndsBlockEntry k
-    → event_step (at f (BlockEntry ∷ k ∷ ks) state.BlockSequenceEntry ss e)
-    ≡ told_event empty_scalar (f (k ∷ ks)) (at f (k ∷ ks) state.BlockSequenceEntry ss e)
+entry_is_left_out : LeftOutBehind (BlockEntry ∷ []) EndsBlockEntry (λ f. f) state.BlockSequenceEntry
+    state.BlockSequenceEntry
 unfolding event_step block_sequence_entry block_sequence_node
 entry_is_left_out f BlockEntry ks ss e h = refl
 entry_is_left_out f BlockEnd ks ss e h = refl
 entry_is_left_out f _ ks ss e h = elim h [ ]
 
-pub entry_says : (n : Node) (t : List Kind) → YieldsOptional n (YieldsNode n InBlock) t
-    → (YieldsNode n InBlock t → NodeSays n InBlock t)
-    → (f : SpansByKinds) (k : Kind) (ks : List Kind) (ss : List State) (e : Memory) (ps : List Part) → EndsBlockEntry k
-    → TellsParts f (k ∷ ks) state.BlockSequenceEntry ss (after_node n e) ps
-    → TellsParts f (BlockEntry ∷ (t ++ k ∷ ks)) state.BlockSequenceEntry ss e (node_parts n ++ ps)
-entry_says n t h g f k ks ss e ps z l =
-    enters_or_skips n InBlock t h g f k ks (λ l. at f (BlockEntry ∷ l) state.BlockSequenceEntry ss e)
-    state.BlockSequenceEntry (λ l. state.BlockSequenceEntry) ss e ps (entry_end_follows k z) (λ l q. cc)
-    (f (k ∷ ks)) (entry_is_left_out f k ks ss e z) (λ j l s. entry_begins f j l ss e s) l
+pub entry_says : SaysBehind BlockEntry InBlock EndsBlockEntry state.BlockSequenceEntry state.BlockSequenceEntry
+entry_says = says_behind BlockEntry InBlock EndsBlockEntry (λ f. f) state.BlockSequenceEntry state.BlockSequenceEntry
+    (λ q. cc) entry_end_follows entry_begins entry_is_left_out
 
 -- ## Entries of sequences at the column of their mapping
 
@@ -73,9 +62,7 @@ pub mapping_follow_ends : (k : Kind) → MayFollow InBlockMapping k → EndsInde
 mapping_follow_ends BlockEntry h = tt
 mapping_follow_ends _ h = h
 
-indentless_begins : (f : SpansByKinds) (j : Kind) (l : List Kind) (ss : List State) (e : Memory) → Starts InBlock j
-    → event_step (at f (BlockEntry ∷ j ∷ l) state.IndentlessSequenceEntry ss e)
-    ≡ next_node Block (at f (j ∷ l) state.IndentlessSequenceEntry (state.IndentlessSequenceEntry ∷ ss) e)
+indentless_begins : BeginsBehind BlockEntry InBlock state.IndentlessSequenceEntry state.IndentlessSequenceEntry
 unfolding event_step indentless_sequence_entry indentless_sequence_node
 indentless_begins f BlockEntry l ss e h = elim h [ ]
 indentless_begins f Key l ss e h = elim h [ ]
@@ -83,10 +70,8 @@ indentless_begins f Value l ss e h = elim h [ ]
 indentless_begins f BlockEnd l ss e h = elim h [ ]
 indentless_begins f _ l ss e h = refl
 
-indentless_is_left_out : (f : SpansByKinds) (k : Kind) (ks : List Kind) (ss : List State) (e : Memory)
-    → EndsIndentless k
-    → event_step (at f (BlockEntry ∷ k ∷ ks) state.IndentlessSequenceEntry ss e)
-    ≡ told_event empty_scalar (f (k ∷ ks)) (at f (k ∷ ks) state.IndentlessSequenceEntry ss e)
+indentless_is_left_out : LeftOutBehind (BlockEntry ∷ []) EndsIndentless (λ f. f) state.IndentlessSequenceEntry
+    state.IndentlessSequenceEntry
 unfolding event_step indentless_sequence_entry indentless_sequence_node
 indentless_is_left_out f BlockEntry ks ss e h = refl
 indentless_is_left_out f Key ks ss e h = refl
@@ -94,52 +79,37 @@ indentless_is_left_out f Value ks ss e h = refl
 indentless_is_left_out f BlockEnd ks ss e h = refl
 indentless_is_left_out f _ ks ss e h = elim h [ ]
 
-pub indentless_says : (n : Node) (t : List Kind) → YieldsOptional n (YieldsNode n InBlock) t
-    → (YieldsNode n InBlock t → NodeSays n InBlock t)
-    → (f : SpansByKinds) (k : Kind) (ks : List Kind) (ss : List State) (e : Memory) (ps : List Part) → EndsIndentless k
-    → TellsParts f (k ∷ ks) state.IndentlessSequenceEntry ss (after_node n e) ps
-    → TellsParts f (BlockEntry ∷ (t ++ k ∷ ks)) state.IndentlessSequenceEntry ss e (node_parts n ++ ps)
-indentless_says n t h g f k ks ss e ps z l =
-    enters_or_skips n InBlock t h g f k ks (λ l. at f (BlockEntry ∷ l) state.IndentlessSequenceEntry ss e)
-    state.IndentlessSequenceEntry (λ l. state.IndentlessSequenceEntry) ss e ps (indentless_end_follows k z)
-    (λ l q. cc) (f (k ∷ ks)) (indentless_is_left_out f k ks ss e z) (λ j l s. indentless_begins f j l ss e s) l
+pub indentless_says : SaysBehind BlockEntry InBlock EndsIndentless state.IndentlessSequenceEntry
+    state.IndentlessSequenceEntry
+indentless_says = says_behind BlockEntry InBlock EndsIndentless (λ f. f) state.IndentlessSequenceEntry
+    state.IndentlessSequenceEntry (λ q. cc) indentless_end_follows indentless_begins indentless_is_left_out
 
 -- ## Entries of mappings
 
-block_key_begins : (f : SpansByKinds) (j : Kind) (l : List Kind) (ss : List State) (e : Memory)
-    → Starts InBlockMapping j
-    → event_step (at f (Key ∷ j ∷ l) state.BlockMappingKey ss e)
-    ≡ next_node BlockMapping (at f (j ∷ l) state.BlockMappingKey (state.BlockMappingValue ∷ ss) e)
+block_key_begins : BeginsBehind Key InBlockMapping state.BlockMappingKey state.BlockMappingValue
 unfolding event_step block_mapping_key block_key_node
 block_key_begins f Key l ss e h = elim h [ ]
 block_key_begins f Value l ss e h = elim h [ ]
 block_key_begins f BlockEnd l ss e h = elim h [ ]
 block_key_begins f _ l ss e h = refl
 
-key_is_left_out : (f : SpansByKinds) (k : Kind) (ks : List Kind) (ss : List State) (e : Memory)
-    → MayFollow InBlockMapping k
-    → event_step (at f (Key ∷ k ∷ ks) state.BlockMappingKey ss e)
-    ≡ told_event empty_scalar (f ks) (at f (k ∷ ks) state.BlockMappingValue ss e)
-unfolding event_step block_mapping_key block_key_node
+key_is_left_out : LeftOutBehind (Key ∷ []) (MayFollow InBlockMapping) span_of_token state.BlockMappingKey
+    state.BlockMappingValue
+unfolding event_step block_mapping_key block_key_node span_of_token
 key_is_left_out f Key ks ss e h = refl
 key_is_left_out f Value ks ss e h = refl
 key_is_left_out f BlockEnd ks ss e h = refl
 key_is_left_out f _ ks ss e h = elim h [ ]
 
-block_value_begins : (f : SpansByKinds) (j : Kind) (l : List Kind) (ss : List State) (e : Memory)
-    → Starts InBlockMapping j
-    → event_step (at f (Value ∷ j ∷ l) state.BlockMappingValue ss e)
-    ≡ next_node BlockMapping (at f (j ∷ l) state.BlockMappingValue (state.BlockMappingKey ∷ ss) e)
+block_value_begins : BeginsBehind Value InBlockMapping state.BlockMappingValue state.BlockMappingKey
 unfolding event_step block_mapping_value block_value_node
 block_value_begins f Key l ss e h = elim h [ ]
 block_value_begins f Value l ss e h = elim h [ ]
 block_value_begins f BlockEnd l ss e h = elim h [ ]
 block_value_begins f _ l ss e h = refl
 
-value_is_left_out : (f : SpansByKinds) (k : Kind) (ks : List Kind) (ss : List State) (e : Memory)
-    → MayFollow InBlockMapping k
-    → event_step (at f (Value ∷ k ∷ ks) state.BlockMappingValue ss e)
-    ≡ told_event empty_scalar (f (k ∷ ks)) (at f (k ∷ ks) state.BlockMappingKey ss e)
+value_is_left_out : LeftOutBehind (Value ∷ []) (MayFollow InBlockMapping) (λ f. f) state.BlockMappingValue
+    state.BlockMappingKey
 unfolding event_step block_mapping_value block_value_node
 value_is_left_out f Key ks ss e h = refl
 value_is_left_out f Value ks ss e h = refl
@@ -158,26 +128,14 @@ value_is_missing f Value ks ss e h n = absurd (n tt)
 value_is_missing f _ ks ss e h n = elim h [ ]
 
 -- the key, from its mark on
-key_says : (key : Node) (t : List Kind) → YieldsOptional key (YieldsNode key InBlockMapping) t
-    → (YieldsNode key InBlockMapping t → NodeSays key InBlockMapping t)
-    → (f : SpansByKinds) (k : Kind) (ks : List Kind) (ss : List State) (e : Memory) (ps : List Part)
-    → MayFollow InBlockMapping k → TellsParts f (k ∷ ks) state.BlockMappingValue ss (after_node key e) ps
-    → TellsParts f (Key ∷ (t ++ k ∷ ks)) state.BlockMappingKey ss e (node_parts key ++ ps)
-key_says key t h g f k ks ss e ps z l =
-    enters_or_skips key InBlockMapping t h g f k ks (λ l. at f (Key ∷ l) state.BlockMappingKey ss e)
-    state.BlockMappingKey (λ l. state.BlockMappingValue) ss e ps z (λ l q. cc) (f ks)
-    (key_is_left_out f k ks ss e z) (λ j l s. block_key_begins f j l ss e s) l
+key_says : SaysBehind Key InBlockMapping (MayFollow InBlockMapping) state.BlockMappingKey state.BlockMappingValue
+key_says = says_behind Key InBlockMapping (MayFollow InBlockMapping) span_of_token state.BlockMappingKey
+    state.BlockMappingValue (λ q. cc) (λ k z. z) block_key_begins key_is_left_out
 
 -- the value, from its mark on
-value_says : (value : Node) (t : List Kind) → YieldsOptional value (YieldsNode value InBlockMapping) t
-    → (YieldsNode value InBlockMapping t → NodeSays value InBlockMapping t)
-    → (f : SpansByKinds) (k : Kind) (ks : List Kind) (ss : List State) (e : Memory) (ps : List Part)
-    → MayFollow InBlockMapping k → TellsParts f (k ∷ ks) state.BlockMappingKey ss (after_node value e) ps
-    → TellsParts f (Value ∷ (t ++ k ∷ ks)) state.BlockMappingValue ss e (node_parts value ++ ps)
-value_says value t h g f k ks ss e ps z l =
-    enters_or_skips value InBlockMapping t h g f k ks (λ l. at f (Value ∷ l) state.BlockMappingValue ss e)
-    state.BlockMappingValue (λ l. state.BlockMappingKey) ss e ps z (λ l q. cc) (f (k ∷ ks))
-    (value_is_left_out f k ks ss e z) (λ j l s. block_value_begins f j l ss e s) l
+value_says : SaysBehind Value InBlockMapping (MayFollow InBlockMapping) state.BlockMappingValue state.BlockMappingKey
+value_says = says_behind Value InBlockMapping (MayFollow InBlockMapping) (λ f. f) state.BlockMappingValue
+    state.BlockMappingKey (λ q. cc) (λ k z. z) block_value_begins value_is_left_out
 
 -- a pair whose value is left out
 alone_says : (key : Node) (t : List Kind) → YieldsMarkedKey key (YieldsNode key InBlockMapping) t

@@ -1,5 +1,5 @@
 -- Collections are told, where their entries are.
-use Rattle.std.proofs.Common.{◌≡◌, List, [], ◌∷◌, ◌++◌, refl, subst, ap, ◌∙◌, inl, inr, append_assoc}
+use Rattle.std.proofs.Common.{◌≡◌, ◌≢◌, ℕ, Option, List, [], ◌∷◌, ◌++◌, refl, subst, ap, ◌∙◌, inl, inr, append_assoc}
 use Rattle.saphyr_scanner.specs.Grammar.Forest.{Node, Nodes, NoNode, MoreNodes, Pairs, NoPair, MorePairs}
 use Rattle.saphyr_scanner.specs.Grammar.Forest as forest
 use Rattle.saphyr_scanner.specs.Grammar.Tokens.{Kind, BlockSequenceStart, BlockMappingStart, BlockEnd, FlowSequenceStart, FlowSequenceEnd, FlowMappingStart, FlowMappingEnd, BlockEntry, FlowEntry, Key, Value}
@@ -8,41 +8,54 @@ use Rattle.saphyr_scanner.specs.Grammar.TokenGrammar.{InFlow, InBlock, InBlockMa
 use Rattle.saphyr_machine.specs.declared.state.State.{State}
 use Rattle.saphyr_machine.specs.declared.state.State.TheVariants as state
 use Rattle.event_laws.specs.Preorder.{Part, OpenSequence, CloseSequence, OpenMapping, CloseMapping, entry_parts, pair_parts}
-use Rattle.saphyr_machine.specs.Events.{SequenceStart, MappingStart}
-use Rattle.saphyr_machine.specs.Steps.Nodes.{span_up_to}
+use Rattle.saphyr_machine.specs.Events.{Happening, ResolvedTag, SequenceStart, MappingStart}
+use Rattle.saphyr_machine.specs.declared.context.NodeContext.{NodeContext}
+use Rattle.saphyr_machine.specs.Steps.Machine.{Machine, told_event}
+use Rattle.saphyr_machine.specs.Steps.Expected.{event_step}
+use Rattle.saphyr_machine.specs.Steps.Nodes.{NodeProperties, span_up_to, node_content_at}
 use Rattle.event_laws.proofs.Told.Telling.{SpansByKinds, Memory, at}
-use Rattle.event_laws.proofs.Remembering.{noted, after_nodes, after_pairs, TellsParts}
-use Rattle.event_laws.proofs.Told.Nodes.{next_node, node_opens}
+use Rattle.event_laws.proofs.Remembering.{noted, after, after_nodes, after_pairs, with_properties, event_in, SaysParts, TellsParts}
+use Rattle.event_laws.proofs.Told.Nodes.{next_node, node_opens, IsContentKind}
 use Rattle.event_laws.proofs.NodeStarts.{context_of, MayFollow, NodeSays}
 
 -- ## What a collection's entries are to tell
 
-pub record FlowEntriesSay (ns : Nodes) (t : List Kind) : Type 0 where
+-- In the state `x` the tokens, and `close` after them, tell the parts `inside`, and `closing` after them. What is
+-- remembered changes by `after`.
+pub record SayUpTo (close : Kind) (x : State) (closing : Part) (inside : List Part) (after : Memory → Memory)
+    (t : List Kind) : Type 0 where
   pub by : (f : SpansByKinds) (ks : List Kind) (s : State) (ss : List State) (e : Memory) (ps : List Part)
-      → TellsParts f ks s ss (after_nodes ns e) ps
-      → TellsParts f (t ++ FlowSequenceEnd ∷ ks) state.FlowSequenceFirstEntry (s ∷ ss) e
-      (entry_parts ns ++ CloseSequence ∷ ps)
+      → TellsParts f ks s ss (after e) ps
+      → TellsParts f (t ++ close ∷ ks) x (s ∷ ss) e (inside ++ closing ∷ ps)
 
-pub record FlowPairsSay (qs : Pairs) (t : List Kind) : Type 0 where
-  pub by : (f : SpansByKinds) (ks : List Kind) (s : State) (ss : List State) (e : Memory) (ps : List Part)
-      → TellsParts f ks s ss (after_pairs qs e) ps
-      → TellsParts f (t ++ FlowMappingEnd ∷ ks) state.FlowMappingFirstKey (s ∷ ss) e
-      (pair_parts qs ++ CloseMapping ∷ ps)
+abbrev pub EntriesSay : Kind → State → Nodes → List Kind → Type 0
+EntriesSay close x ns = SayUpTo close x CloseSequence (entry_parts ns) (after_nodes ns)
 
-pub record BlockEntriesSay (ns : Nodes) (t : List Kind) : Type 0 where
-  pub by : (f : SpansByKinds) (ks : List Kind) (s : State) (ss : List State) (e : Memory) (ps : List Part)
-      → TellsParts f ks s ss (after_nodes ns e) ps
-      → TellsParts f (t ++ BlockEnd ∷ ks) state.BlockSequenceEntry (s ∷ ss) e (entry_parts ns ++ CloseSequence ∷ ps)
+abbrev pub PairsSay : Kind → State → Pairs → List Kind → Type 0
+PairsSay close x qs = SayUpTo close x CloseMapping (pair_parts qs) (after_pairs qs)
+
+abbrev pub FlowEntriesSay : Nodes → List Kind → Type 0
+FlowEntriesSay = EntriesSay FlowSequenceEnd state.FlowSequenceFirstEntry
+
+abbrev pub FlowPairsSay : Pairs → List Kind → Type 0
+FlowPairsSay = PairsSay FlowMappingEnd state.FlowMappingFirstKey
+
+abbrev pub OtherEntriesSay : Nodes → List Kind → Type 0
+OtherEntriesSay = EntriesSay FlowSequenceEnd state.FlowSequenceEntry
+
+abbrev pub OtherPairsSay : Pairs → List Kind → Type 0
+OtherPairsSay = PairsSay FlowMappingEnd state.FlowMappingKey
+
+abbrev pub BlockEntriesSay : Nodes → List Kind → Type 0
+BlockEntriesSay = EntriesSay BlockEnd state.BlockSequenceEntry
+
+abbrev pub BlockPairsSay : Pairs → List Kind → Type 0
+BlockPairsSay = PairsSay BlockEnd state.BlockMappingKey
 
 pub record IndentlessSay (ns : Nodes) (t : List Kind) : Type 0 where
   pub by : (f : SpansByKinds) (k : Kind) (ks : List Kind) (s : State) (ss : List State) (e : Memory) (ps : List Part)
       → MayFollow InBlockMapping k → TellsParts f (k ∷ ks) s ss (after_nodes ns e) ps
       → TellsParts f (t ++ k ∷ ks) state.IndentlessSequenceEntry (s ∷ ss) e (entry_parts ns ++ CloseSequence ∷ ps)
-
-pub record BlockPairsSay (qs : Pairs) (t : List Kind) : Type 0 where
-  pub by : (f : SpansByKinds) (ks : List Kind) (s : State) (ss : List State) (e : Memory) (ps : List Part)
-      → TellsParts f ks s ss (after_pairs qs e) ps
-      → TellsParts f (t ++ BlockEnd ∷ ks) state.BlockMappingKey (s ∷ ss) e (pair_parts qs ++ CloseMapping ∷ ps)
 
 -- ## Collections
 
@@ -54,23 +67,39 @@ between front inside content t opening closing rest a b =
     rw (b, a) (append_assoc front (opening ∷ (inside ++ closing ∷ [])) rest
     ∙ ap (λ l. front ++ opening ∷ l) (append_assoc inside (closing ∷ []) rest))
 
+-- A collection between two tokens is told, after its properties, where what is inside is.
+opens : (opening close : Kind) (y : State) (first closing : Part) (make : ℕ → Option ResolvedTag → Happening)
+    (inside : List Part) (later : Memory → Memory) (p : forest.Properties) (d : NodeContext)
+    (front u content t : List Kind) (f : SpansByKinds) (rest : List Kind) (m : Machine) (x s : State) (ss : List State)
+    (e : Memory) (ps : List Part) → grammar.YieldProperties p front → IsContentKind opening
+    → content ≡ opening ∷ (u ++ close ∷ []) → t ≡ front ++ content → event_in e first ≡ with_properties make e p
+    → noted p.anchor e ≡ after first e
+    → ((q : NodeProperties) (l : List Kind)
+    → node_content_at opening q d (record { span = f l; kind = opening }) (at f l x (s ∷ ss) (noted p.anchor e))
+    ≡ told_event (make q.anchor q.tag) (span_up_to q (f l).end) (at f l y (s ∷ ss) (noted p.anchor e)))
+    → m.state ≢ state.End → event_step m ≡ next_node d (at f (t ++ rest) x (s ∷ ss) e)
+    → SayUpTo close y closing inside later u → TellsParts f rest s ss (later (noted p.anchor e)) ps
+    → SaysParts e m (first ∷ ((inside ++ closing ∷ []) ++ ps))
+opens opening close y first closing make inside later p d front u content t f rest m x s ss e ps h c k w v same step
+    more q g l =
+    let all : List Kind = u ++ close ∷ rest in
+    let told : TellsParts f all y (s ∷ ss) (noted p.anchor e) ((inside ++ closing ∷ []) ++ ps) =
+    rw (append_assoc inside (closing ∷ []) ps) (g.by f rest s ss (noted p.anchor e) ps l) in
+    node_opens f d x (s ∷ ss) e m (at f all y (s ∷ ss) (noted p.anchor e)) p front opening all first
+    ((inside ++ closing ∷ []) ++ ps) make h c more
+    (q ∙ ap (λ l. next_node d (at f l x (s ∷ ss) e)) (between front u content t opening close rest k w)) v
+    (λ r has. (span_up_to r (f all).end, step r all))
+    (subst (λ (b : Memory). SaysParts b (at f all y (s ∷ ss) (noted p.anchor e)) ((inside ++ closing ∷ []) ++ ps)) same
+    told)
+
 flow_sequence : (p : forest.Properties) (ns : Nodes) (c : grammar.Context) (front content t : List Kind)
     → grammar.YieldProperties p front
     → grammar.IsBetween FlowSequenceStart FlowSequenceEnd (YieldFlowEntries ns) content → t ≡ front ++ content
     → ((u : List Kind) → YieldFlowEntries ns u → FlowEntriesSay ns u) → NodeSays (forest.Seq p ns) c t
 flow_sequence p ns c front content t h d a g = record {
-  by = λ f k ks m x s ss e ps z more q l.
-      let rest : List Kind = d.0 ++ FlowSequenceEnd ∷ k ∷ ks in
-      let same : t ++ k ∷ ks ≡ front ++ FlowSequenceStart ∷ rest =
-      between front d.0 content t FlowSequenceStart FlowSequenceEnd (k ∷ ks) d.2 a in
-      let inside : TellsParts f rest state.FlowSequenceFirstEntry (s ∷ ss) (noted p.anchor e)
-      ((entry_parts ns ++ CloseSequence ∷ []) ++ ps) =
-      rw (append_assoc (entry_parts ns) (CloseSequence ∷ []) ps)
-      ((g d.0 d.1).by f (k ∷ ks) s ss (noted p.anchor e) ps l) in
-      node_opens f (context_of c) x (s ∷ ss) e m (at f rest state.FlowSequenceFirstEntry (s ∷ ss) (noted p.anchor e)) p
-      front FlowSequenceStart rest (OpenSequence p) ((entry_parts ns ++ CloseSequence ∷ []) ++ ps) SequenceStart h
-      tt more (q ∙ ap (λ u. next_node (context_of c) (at f u x (s ∷ ss) e)) same) refl
-      (λ r has. (span_up_to r (f rest).end, refl)) inside;
+  by = λ f k ks m x s ss e ps z more q l. opens FlowSequenceStart FlowSequenceEnd state.FlowSequenceFirstEntry
+      (OpenSequence p) CloseSequence SequenceStart (entry_parts ns) (after_nodes ns) p (context_of c) front d.0 content
+      t f (k ∷ ks) m x s ss e ps h tt d.2 a refl refl (λ q r. refl) more q (g d.0 d.1) l;
 }
 
 flow_mapping : (p : forest.Properties) (qs : Pairs) (c : grammar.Context) (front content t : List Kind)
@@ -78,18 +107,9 @@ flow_mapping : (p : forest.Properties) (qs : Pairs) (c : grammar.Context) (front
     → t ≡ front ++ content → ((u : List Kind) → YieldFlowPairs qs u → FlowPairsSay qs u)
     → NodeSays (forest.Map p qs) c t
 flow_mapping p qs c front content t h d a g = record {
-  by = λ f k ks m x s ss e ps z more q l.
-      let rest : List Kind = d.0 ++ FlowMappingEnd ∷ k ∷ ks in
-      let same : t ++ k ∷ ks ≡ front ++ FlowMappingStart ∷ rest = between front d.0 content t FlowMappingStart
-      FlowMappingEnd (k ∷ ks) d.2 a in
-      let inside : TellsParts f rest state.FlowMappingFirstKey (s ∷ ss) (noted p.anchor e)
-      ((pair_parts qs ++ CloseMapping ∷ []) ++ ps) =
-      rw (append_assoc (pair_parts qs) (CloseMapping ∷ []) ps)
-      ((g d.0 d.1).by f (k ∷ ks) s ss (noted p.anchor e) ps l) in
-      node_opens f (context_of c) x (s ∷ ss) e m (at f rest state.FlowMappingFirstKey (s ∷ ss) (noted p.anchor e)) p
-      front FlowMappingStart rest (OpenMapping p) ((pair_parts qs ++ CloseMapping ∷ []) ++ ps) MappingStart h tt
-      more (q ∙ ap (λ u. next_node (context_of c) (at f u x (s ∷ ss) e)) same) refl
-      (λ r has. (span_up_to r (f rest).end, refl)) inside;
+  by = λ f k ks m x s ss e ps z more q l. opens FlowMappingStart FlowMappingEnd state.FlowMappingFirstKey
+      (OpenMapping p) CloseMapping MappingStart (pair_parts qs) (after_pairs qs) p (context_of c) front d.0 content t f
+      (k ∷ ks) m x s ss e ps h tt d.2 a refl refl (λ q r. refl) more q (g d.0 d.1) l;
 }
 
 block_sequence : (p : forest.Properties) (ns : Nodes) (c : grammar.Context) (front content t : List Kind)
@@ -98,18 +118,9 @@ block_sequence : (p : forest.Properties) (ns : Nodes) (c : grammar.Context) (fro
     → ((u : List Kind) → YieldBlockEntries ns u → BlockEntriesSay ns u) → NodeSays (forest.Seq p ns) c t
 block_sequence p ns InFlow front content t h b d a g = elim b [ ]
 block_sequence p ns c front content t h b d a g = record {
-  by = λ f k ks m x s ss e ps z more q l.
-      let rest : List Kind = d.0 ++ BlockEnd ∷ k ∷ ks in
-      let same : t ++ k ∷ ks ≡ front ++ BlockSequenceStart ∷ rest =
-      between front d.0 content t BlockSequenceStart BlockEnd (k ∷ ks) d.2 a in
-      let inside : TellsParts f rest state.BlockSequenceEntry (s ∷ ss) (noted p.anchor e)
-      ((entry_parts ns ++ CloseSequence ∷ []) ++ ps) =
-      rw (append_assoc (entry_parts ns) (CloseSequence ∷ []) ps)
-      ((g d.0 d.1).by f (k ∷ ks) s ss (noted p.anchor e) ps l) in
-      node_opens f (context_of c) x (s ∷ ss) e m (at f rest state.BlockSequenceEntry (s ∷ ss) (noted p.anchor e)) p
-      front BlockSequenceStart rest (OpenSequence p) ((entry_parts ns ++ CloseSequence ∷ []) ++ ps) SequenceStart h
-      tt more (q ∙ ap (λ u. next_node (context_of c) (at f u x (s ∷ ss) e)) same) refl
-      (λ r has. (span_up_to r (f rest).end, refl)) inside;
+  by = λ f k ks m x s ss e ps z more q l. opens BlockSequenceStart BlockEnd state.BlockSequenceEntry (OpenSequence p)
+      CloseSequence SequenceStart (entry_parts ns) (after_nodes ns) p (context_of c) front d.0 content t f (k ∷ ks) m x
+      s ss e ps h tt d.2 a refl refl (λ q r. refl) more q (g d.0 d.1) l;
 }
 
 block_mapping : (p : forest.Properties) (qs : Pairs) (c : grammar.Context) (front content t : List Kind)
@@ -118,21 +129,12 @@ block_mapping : (p : forest.Properties) (qs : Pairs) (c : grammar.Context) (fron
     → ((u : List Kind) → YieldBlockPairs qs u → BlockPairsSay qs u) → NodeSays (forest.Map p qs) c t
 block_mapping p qs InFlow front content t h b d a g = elim b [ ]
 block_mapping p qs c front content t h b d a g = record {
-  by = λ f k ks m x s ss e ps z more q l.
-      let rest : List Kind = d.0 ++ BlockEnd ∷ k ∷ ks in
-      let same : t ++ k ∷ ks ≡ front ++ BlockMappingStart ∷ rest =
-      between front d.0 content t BlockMappingStart BlockEnd (k ∷ ks) d.2 a in
-      let inside : TellsParts f rest state.BlockMappingKey (s ∷ ss) (noted p.anchor e)
-      ((pair_parts qs ++ CloseMapping ∷ []) ++ ps) =
-      rw (append_assoc (pair_parts qs) (CloseMapping ∷ []) ps)
-      ((g d.0 d.1).by f (k ∷ ks) s ss (noted p.anchor e) ps l) in
-      node_opens f (context_of c) x (s ∷ ss) e m (at f rest state.BlockMappingKey (s ∷ ss) (noted p.anchor e)) p front
-      BlockMappingStart rest (OpenMapping p) ((pair_parts qs ++ CloseMapping ∷ []) ++ ps) MappingStart h tt more
-      (q ∙ ap (λ u. next_node (context_of c) (at f u x (s ∷ ss) e)) same) refl
-      (λ r has. (span_up_to r (f rest).end, refl)) inside;
+  by = λ f k ks m x s ss e ps z more q l. opens BlockMappingStart BlockEnd state.BlockMappingKey (OpenMapping p)
+      CloseMapping MappingStart (pair_parts qs) (after_pairs qs) p (context_of c) front d.0 content t f (k ∷ ks) m
+      x s ss e ps h tt d.2 a refl refl (λ q r. refl) more q (g d.0 d.1) l;
 }
 
--- a sequence at the column of its mapping begins with its first entry's token, which is left in front of the machine
+-- a sequence at the column of its mapping begins with its first entry's token, which is left before the machine
 indentless_sequence : (p : forest.Properties) (ns : Nodes) (c : grammar.Context) (front content others t : List Kind)
     → grammar.YieldProperties p front → grammar.IsInBlockMapping c → content ≡ BlockEntry ∷ others
     → t ≡ front ++ content → IndentlessSay ns content → NodeSays (forest.Seq p ns) c t
@@ -188,7 +190,7 @@ mapping_says p qs c t h flow block = by_content h.3
 
 -- ## Ends
 
--- the token behind an entry
+-- the token after an entry
 pub record Next (Fits : Kind → Type 0) (ts : List Kind) : Type 0 where
   pub first : Kind
   pub others : List Kind

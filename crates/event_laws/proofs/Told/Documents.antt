@@ -26,7 +26,7 @@ use Rattle.event_laws.proofs.Told.Collections.{Next}
 use Rattle.event_laws.proofs.Told.Trees.{node_says}
 use Rattle.event_laws.proofs.DirectivesPass.{passes, ends_pass, all_directives_pass}
 
--- ## The first token of a document, behind what is passed
+-- ## The first token of a document, after what is passed
 
 pub implicitly : (front : List Kind) (f : SpansByKinds) (k : Kind) (ks : List Kind) (e : Memory) → AreEndsAndMarks front
     → is_end_or_mark k ≡ false
@@ -64,7 +64,7 @@ stream_ends_at_once f e =
     plainly e (at f (StreamEnd ∷ []) state.DocumentStart [] e) (at f [] state.End [] e) CloseStream [] events.StreamEnd
     (f []) (λ q. cc) refl (explicitly f StreamEnd [] e refl) (over f e)
 
--- ## What stands behind a document
+-- ## What comes after a document
 
 abbrev pub EndsDocument : Kind → Type 0
 EndsDocument StreamEnd = Unit {0}
@@ -80,7 +80,7 @@ document_end_follows DocumentEnd h = tt
 document_end_follows ByteOrderMark h = tt
 document_end_follows _ h = elim h [ ]
 
--- behind a document without `...`
+-- after a document without `...`
 abbrev pub MayStandBehindDocument : Kind → Type 0
 MayStandBehindDocument StreamEnd = Unit {0}
 MayStandBehindDocument DocumentStart = Unit {0}
@@ -236,9 +236,8 @@ content_is_left_out f _ ks e h = elim h [ ]
 pub explicit_says : (n : Node) (ds : List Directive) (t : List Kind) → AreCompatible ds
     → YieldsOptional n (YieldsNode n InBlock) t
     → (f : SpansByKinds) (k : Kind) (ks : List Kind) (m : Machine) (x : State) (e : Memory) (ps : List Part)
-    → EndsDocument k
-    → m.state ≢ state.End → event_step m ≡ opened
-    (at f (map directive_token ds ++ DocumentStart ∷ (t ++ k ∷ ks)) x [] e)
+    → EndsDocument k → m.state ≢ state.End
+    → event_step m ≡ opened (at f (map directive_token ds ++ DocumentStart ∷ (t ++ k ∷ ks)) x [] e)
     → TellsParts f (k ∷ ks) state.DocumentEnd [] (after_node n (opening ds e)) ps
     → SaysParts e m (OpenDocument true ds ∷ (node_parts n ++ ps))
 explicit_says n ds t c h f k ks m x e ps z more q l =

@@ -1,6 +1,5 @@
--- Collections' entries are told, one behind the other.
+-- Collections' entries are told, one after the other.
 use Rattle.std.proofs.Common.{◌≡◌, List, [], ◌∷◌, ◌++◌, refl, subst, sym, ap, ◌∙◌, ◌⊎◌, inl, inr, append_assoc}
-use Rattle.saphyr_scalar.specs.declared.scalar.position.Span.{Span}
 use Rattle.saphyr_scanner.specs.Grammar.Forest.{no_properties, Properties, Node, Map, Nodes, NoNode, MoreNodes, Pairs, NoPair, MorePairs}
 use Rattle.saphyr_scanner.specs.Grammar.Tokens.{Kind, BlockEnd, FlowSequenceEnd, FlowMappingEnd, BlockEntry, FlowEntry, Key, Value}
 use Rattle.saphyr_scanner.specs.Grammar.TokenGrammar.{InFlow, InBlock, InBlockMapping, BeginsWithValue, YieldsOptional, IsListEnd, YieldsSinglePair, YieldsFlowPair, YieldsBlockPair, YieldsNode, YieldsPairEntry, YieldOtherFlowEntries, YieldOtherFlowPairs, YieldBlockEntries, YieldBlockPairs}
@@ -12,7 +11,7 @@ use Rattle.saphyr_machine.specs.Steps.Machine.{Machine}
 use Rattle.saphyr_machine.specs.Steps.Flow.{flow_sequence_first_entry, flow_sequence_entry, flow_mapping_first_key, flow_mapping_pair_behind_comma, flow_mapping_key}
 use Rattle.saphyr_machine.specs.Steps.Block.{block_sequence_entry, indentless_sequence_entry, block_mapping_key}
 use Rattle.saphyr_machine.specs.Steps.Expected.{event_step}
-use Rattle.event_laws.proofs.Told.Telling.{SpansByKinds, Memory, at}
+use Rattle.event_laws.proofs.Told.Telling.{SpansByKinds, Memory, at, span_of_token}
 use Rattle.event_laws.proofs.Remembering.{after_node, after_nodes, after_pairs, SaysParts, TellsParts, plainly}
 use Rattle.event_laws.proofs.NodeStarts.{MayFollow, NodeSays}
 use Rattle.event_laws.proofs.Told.SinglePairs.{EndsEntry, AtEntry, entry_says}
@@ -21,101 +20,55 @@ use Rattle.event_laws.proofs.Told.FlowPairs.{EndsPair, AtPair}
 use Rattle.event_laws.proofs.Told.FlowPairs as flow
 use Rattle.event_laws.proofs.Told.Block.{EndsBlockEntry, EndsIndentless, mapping_follow_ends, indentless_says}
 use Rattle.event_laws.proofs.Told.Block as block
-use Rattle.event_laws.proofs.Told.Collections.{FlowEntriesSay, FlowPairsSay, BlockEntriesSay, IndentlessSay, BlockPairsSay, Next, flow_entries_next, flow_pairs_next, block_entries_next, block_pairs_next, no_value}
+use Rattle.event_laws.proofs.Told.Collections.{SayUpTo, PairsSay, OtherEntriesSay, OtherPairsSay, FlowEntriesSay, FlowPairsSay, BlockEntriesSay, IndentlessSay, BlockPairsSay, Next, flow_entries_next, flow_pairs_next, block_entries_next, block_pairs_next, no_value}
 
 -- ## The ends of collections
 
--- the tokens of no entry
-no_entry_told : (f : SpansByKinds) (x : State) (ss : List State) (e : Memory) (ps : List Part) (t rest : List Kind)
-    → t ≡ []
-    → TellsParts f rest x ss e ps → TellsParts f (t ++ rest) x ss e ps
-no_entry_told f x ss e ps t rest h l = subst (λ (u : List Kind). TellsParts f (u ++ rest) x ss e ps) (sym h) l
-
-flow_sequence_ends : (f : SpansByKinds) (ks : List Kind) (s : State) (ss : List State) (e : Memory) (ps : List Part)
-    → TellsParts f ks s ss e ps → TellsParts f (FlowSequenceEnd ∷ ks) state.FlowSequenceFirstEntry (s ∷ ss) e
-    (CloseSequence ∷ ps)
+pub no_entries : FlowEntriesSay NoNode []
 unfolding event_step flow_sequence_first_entry
-flow_sequence_ends f ks s ss e ps l =
-    plainly e (at f (FlowSequenceEnd ∷ ks) state.FlowSequenceFirstEntry (s ∷ ss) e) (at f ks s ss e) CloseSequence ps
-    SequenceEnd (f ks) (λ q. cc) refl refl l
+no_entries = record {
+  by = λ f ks s ss e ps l. plainly e _ (at f ks s ss e) CloseSequence ps SequenceEnd (f ks) (λ q. cc) refl refl l;
+}
 
-other_sequence_ends : (f : SpansByKinds) (ks : List Kind) (s : State) (ss : List State) (e : Memory) (ps : List Part)
-    → TellsParts f ks s ss e ps → TellsParts f (FlowSequenceEnd ∷ ks) state.FlowSequenceEntry (s ∷ ss) e
-    (CloseSequence ∷ ps)
-unfolding event_step flow_sequence_entry
-other_sequence_ends f ks s ss e ps l =
-    plainly e (at f (FlowSequenceEnd ∷ ks) state.FlowSequenceEntry (s ∷ ss) e) (at f ks s ss e) CloseSequence ps
-    SequenceEnd (f ks) (λ q. cc) refl refl l
-
-comma_sequence_ends : (f : SpansByKinds) (ks : List Kind) (s : State) (ss : List State) (e : Memory) (ps : List Part)
-    → TellsParts f ks s ss e ps → TellsParts f (FlowEntry ∷ FlowSequenceEnd ∷ ks) state.FlowSequenceEntry (s ∷ ss) e
-    (CloseSequence ∷ ps)
+pub no_other_entries : (t : List Kind) → IsListEnd t → OtherEntriesSay NoNode t
 unfolding event_step flow_sequence_entry flow_sequence_first_entry
-comma_sequence_ends f ks s ss e ps l =
-    plainly e (at f (FlowEntry ∷ FlowSequenceEnd ∷ ks) state.FlowSequenceEntry (s ∷ ss) e) (at f ks s ss e)
-    CloseSequence ps SequenceEnd (f ks) (λ q. cc) refl refl l
+no_other_entries t (inl h) = subst (OtherEntriesSay NoNode) (sym h) (record {
+  by = λ f ks s ss e ps l. plainly e _ (at f ks s ss e) CloseSequence ps SequenceEnd (f ks) (λ q. cc) refl refl l;
+})
+no_other_entries t (inr h) = subst (OtherEntriesSay NoNode) (sym h) (record {
+  by = λ f ks s ss e ps l. plainly e _ (at f ks s ss e) CloseSequence ps SequenceEnd (f ks) (λ q. cc) refl refl l;
+})
 
-list_sequence_ends : (f : SpansByKinds) (t ks : List Kind) (s : State) (ss : List State) (e : Memory) (ps : List Part)
-    → (t ≡ []) ⊎ (t ≡ FlowEntry ∷ []) → TellsParts f ks s ss e ps
-    → TellsParts f (t ++ FlowSequenceEnd ∷ ks) state.FlowSequenceEntry (s ∷ ss) e (CloseSequence ∷ ps)
-list_sequence_ends f t ks s ss e ps (inl h) l =
-    no_entry_told f state.FlowSequenceEntry (s ∷ ss) e (CloseSequence ∷ ps) t (FlowSequenceEnd ∷ ks) h
-    (other_sequence_ends f ks s ss e ps l)
-list_sequence_ends f t ks s ss e ps (inr h) l =
-    subst (λ (u : List Kind). TellsParts f (u ++ FlowSequenceEnd ∷ ks) state.FlowSequenceEntry (s ∷ ss) e
-    (CloseSequence ∷ ps)) (sym h) (comma_sequence_ends f ks s ss e ps l)
-
-flow_mapping_ends : (f : SpansByKinds) (ks : List Kind) (s : State) (ss : List State) (e : Memory) (ps : List Part)
-    → TellsParts f ks s ss e ps → TellsParts f (FlowMappingEnd ∷ ks) state.FlowMappingFirstKey (s ∷ ss) e
-    (CloseMapping ∷ ps)
+pub no_pairs : FlowPairsSay NoPair []
 unfolding event_step flow_mapping_first_key
-flow_mapping_ends f ks s ss e ps l =
-    plainly e (at f (FlowMappingEnd ∷ ks) state.FlowMappingFirstKey (s ∷ ss) e) (at f ks s ss e) CloseMapping ps
-    MappingEnd (f ks) (λ q. cc) refl refl l
+no_pairs = record {
+  by = λ f ks s ss e ps l. plainly e _ (at f ks s ss e) CloseMapping ps MappingEnd (f ks) (λ q. cc) refl refl l;
+}
 
-other_mapping_ends : (f : SpansByKinds) (ks : List Kind) (s : State) (ss : List State) (e : Memory) (ps : List Part)
-    → TellsParts f ks s ss e ps → TellsParts f (FlowMappingEnd ∷ ks) state.FlowMappingKey (s ∷ ss) e (CloseMapping ∷ ps)
-unfolding event_step flow_mapping_key
-other_mapping_ends f ks s ss e ps l =
-    plainly e (at f (FlowMappingEnd ∷ ks) state.FlowMappingKey (s ∷ ss) e) (at f ks s ss e) CloseMapping ps MappingEnd
-    (f ks) (λ q. cc) refl refl l
-
-comma_mapping_ends : (f : SpansByKinds) (ks : List Kind) (s : State) (ss : List State) (e : Memory) (ps : List Part)
-    → TellsParts f ks s ss e ps → TellsParts f (FlowEntry ∷ FlowMappingEnd ∷ ks) state.FlowMappingKey (s ∷ ss) e
-    (CloseMapping ∷ ps)
+pub no_other_pairs : (t : List Kind) → IsListEnd t → OtherPairsSay NoPair t
 unfolding event_step flow_mapping_key flow_mapping_pair_behind_comma
-comma_mapping_ends f ks s ss e ps l =
-    plainly e (at f (FlowEntry ∷ FlowMappingEnd ∷ ks) state.FlowMappingKey (s ∷ ss) e) (at f ks s ss e) CloseMapping ps
-    MappingEnd (f (FlowMappingEnd ∷ ks)) (λ q. cc) refl refl l
+no_other_pairs t (inl h) = subst (OtherPairsSay NoPair) (sym h) (record {
+  by = λ f ks s ss e ps l. plainly e _ (at f ks s ss e) CloseMapping ps MappingEnd (f ks) (λ q. cc) refl refl l;
+})
+no_other_pairs t (inr h) = subst (OtherPairsSay NoPair) (sym h) (record {
+  by = λ f ks s ss e ps l. plainly e _ (at f ks s ss e) CloseMapping ps MappingEnd (f (FlowMappingEnd ∷ ks)) (λ q. cc)
+      refl refl l;
+})
 
-list_mapping_ends : (f : SpansByKinds) (t ks : List Kind) (s : State) (ss : List State) (e : Memory) (ps : List Part)
-    → (t ≡ []) ⊎ (t ≡ FlowEntry ∷ []) → TellsParts f ks s ss e ps
-    → TellsParts f (t ++ FlowMappingEnd ∷ ks) state.FlowMappingKey (s ∷ ss) e (CloseMapping ∷ ps)
-list_mapping_ends f t ks s ss e ps (inl h) l =
-    no_entry_told f state.FlowMappingKey (s ∷ ss) e (CloseMapping ∷ ps) t (FlowMappingEnd ∷ ks) h
-    (other_mapping_ends f ks s ss e ps l)
-list_mapping_ends f t ks s ss e ps (inr h) l =
-    subst (λ (u : List Kind). TellsParts f (u ++ FlowMappingEnd ∷ ks) state.FlowMappingKey (s ∷ ss) e
-    (CloseMapping ∷ ps))
-    (sym h) (comma_mapping_ends f ks s ss e ps l)
-
-block_sequence_ends : (f : SpansByKinds) (ks : List Kind) (s : State) (ss : List State) (e : Memory) (ps : List Part)
-    → TellsParts f ks s ss e ps → TellsParts f (BlockEnd ∷ ks) state.BlockSequenceEntry (s ∷ ss) e (CloseSequence ∷ ps)
+pub no_block_entries : BlockEntriesSay NoNode []
 unfolding event_step block_sequence_entry
-block_sequence_ends f ks s ss e ps l =
-    plainly e (at f (BlockEnd ∷ ks) state.BlockSequenceEntry (s ∷ ss) e) (at f ks s ss e) CloseSequence ps SequenceEnd
-    (f ks) (λ q. cc) refl refl l
+no_block_entries = record {
+  by = λ f ks s ss e ps l. plainly e _ (at f ks s ss e) CloseSequence ps SequenceEnd (f ks) (λ q. cc) refl refl l;
+}
 
-block_mapping_ends : (f : SpansByKinds) (ks : List Kind) (s : State) (ss : List State) (e : Memory) (ps : List Part)
-    → TellsParts f ks s ss e ps → TellsParts f (BlockEnd ∷ ks) state.BlockMappingKey (s ∷ ss) e (CloseMapping ∷ ps)
+pub no_block_pairs : BlockPairsSay NoPair []
 unfolding event_step block_mapping_key
-block_mapping_ends f ks s ss e ps l =
-    plainly e (at f (BlockEnd ∷ ks) state.BlockMappingKey (s ∷ ss) e) (at f ks s ss e) CloseMapping ps MappingEnd (f ks)
-    (λ q. cc) refl refl l
+no_block_pairs = record {
+  by = λ f ks s ss e ps l. plainly e _ (at f ks s ss e) CloseMapping ps MappingEnd (f ks) (λ q. cc) refl refl l;
+}
 
 indentless_ends : (f : SpansByKinds) (k : Kind) (ks : List Kind) (s : State) (ss : List State) (e : Memory)
-    (ps : List Part)
-    → MayFollow InBlockMapping k → TellsParts f (k ∷ ks) s ss e ps
+    (ps : List Part) → MayFollow InBlockMapping k → TellsParts f (k ∷ ks) s ss e ps
     → TellsParts f (k ∷ ks) state.IndentlessSequenceEntry (s ∷ ss) e (CloseSequence ∷ ps)
 unfolding event_step indentless_sequence_entry
 indentless_ends f Key ks s ss e ps z l =
@@ -129,6 +82,9 @@ indentless_ends f BlockEnd ks s ss e ps z l =
     CloseSequence ps SequenceEnd (f ks) (λ q. cc) refl refl l
 indentless_ends f _ ks s ss e ps z l = elim z [ ]
 
+pub no_indentless_entries : IndentlessSay NoNode []
+no_indentless_entries = record { by = indentless_ends }
+
 -- ## Where entries begin
 
 at_first_entry : (f : SpansByKinds) (ss : List State) (e : Memory)
@@ -141,32 +97,60 @@ at_other_entry : (f : SpansByKinds) (ss : List State) (e : Memory)
 unfolding event_step flow_sequence_first_entry flow_sequence_entry
 at_other_entry f ss e = record { goes_on = λ l q. cc; steps = λ k l. refl }
 
--- the span of the first token
-span_of_first : SpansByKinds → List Kind → Span
-span_of_first f [] = f []
-span_of_first f (k ∷ l) = f l
-
 at_first_pair : (f : SpansByKinds) (ss : List State) (e : Memory)
     → AtPair f state.FlowMappingFirstKey ss e (λ l. at f l state.FlowMappingFirstKey ss e)
-unfolding event_step flow_mapping_first_key span_of_first
-at_first_pair f ss e = record { goes_on = λ l q. cc; span = span_of_first f; steps = λ k l. refl }
+unfolding event_step flow_mapping_first_key span_of_token
+at_first_pair f ss e = record { goes_on = λ l q. cc; span = span_of_token f; steps = λ k l. refl }
 
 at_other_pair : (f : SpansByKinds) (ss : List State) (e : Memory)
     → AtPair f state.FlowMappingKey ss e (λ l. at f (FlowEntry ∷ l) state.FlowMappingKey ss e)
 unfolding event_step flow_mapping_key flow_mapping_pair_behind_comma
 at_other_pair f ss e = record { goes_on = λ l q. cc; span = f; steps = λ k l. refl }
 
--- an entry, with the token behind it shown
-entry_told : (Fits : Kind → Type 0) (f : SpansByKinds) (t u rest v : List Kind) (machine : List Kind → Machine)
-    (s : State)
-    (ss : List State) (e e' : Memory) (ps qs : List Part) → Next Fits (u ++ rest) → v ≡ t ++ u
-    → ((k : Kind) (ks : List Kind) → Fits k → TellsParts f (k ∷ ks) s ss e' ps → SaysParts e (machine (t ++ k ∷ ks)) qs)
-    → TellsParts f (u ++ rest) s ss e' ps → SaysParts e (machine (v ++ rest)) qs
-entry_told Fits f t u rest v machine s ss e e' ps qs n w go l =
-    let same : v ++ rest ≡ t ++ n.first ∷ n.others = ap (λ x. x ++ rest) w ∙ append_assoc t u rest
-    ∙ ap (λ x. t ++ x) n.is in
-    subst (λ (x : List Kind). SaysParts e (machine x) qs) (sym same)
-    (go n.first n.others n.fits (subst (λ (x : List Kind). TellsParts f x s ss e' ps) n.is l))
+-- ## An entry, and those after it
+
+-- an entry, with the token after it shown
+entry_told : (Fits : Kind → Type 0) (f : SpansByKinds) (front v t rest : List Kind) (x y : State) (ss : List State)
+    (e e' : Memory) (entry ps : List Part) → Next Fits (v ++ rest) → t ≡ front ++ v
+    → ((k : Kind) (ks : List Kind) → v ++ rest ≡ k ∷ ks → Fits k → TellsParts f (k ∷ ks) y ss e' ps
+    → TellsParts f (front ++ k ∷ ks) x ss e (entry ++ ps)) → TellsParts f (v ++ rest) y ss e' ps
+    → TellsParts f (t ++ rest) x ss e (entry ++ ps)
+entry_told Fits f front v t rest x y ss e e' entry ps n w go l =
+    let same : t ++ rest ≡ front ++ n.first ∷ n.others =
+    ap (λ l. l ++ rest) w ∙ append_assoc front v rest ∙ ap (λ l. front ++ l) n.is in
+    subst (λ (l : List Kind). TellsParts f l x ss e (entry ++ ps)) (sym same)
+    (go n.first n.others n.is n.fits (subst (λ (l : List Kind). TellsParts f l y ss e' ps) n.is l))
+
+-- an entry told with the token after it shown, and the others told in the state `y`
+first_and_others : (Fits : Kind → Type 0) (close : Kind) (x y : State) (closing : Part) (entry inside : List Part)
+    (now later : Memory → Memory) (front v t : List Kind) → ((ks : List Kind) → Next Fits (v ++ close ∷ ks))
+    → t ≡ front ++ v
+    → ((f : SpansByKinds) (k : Kind) (ls ks : List Kind) (ss : List State) (e : Memory) (ps : List Part)
+    → v ++ close ∷ ks ≡ k ∷ ls → Fits k → TellsParts f (k ∷ ls) y ss (now e) ps
+    → TellsParts f (front ++ k ∷ ls) x ss e (entry ++ ps)) → SayUpTo close y closing inside later v
+    → SayUpTo close x closing (entry ++ inside) (λ e. later (now e)) t
+first_and_others Fits close x y closing entry inside now later front v t next w go others = record {
+  by = λ f ks s ss e ps l.
+      rw (append_assoc entry inside (closing ∷ ps))
+      (entry_told Fits f front v t (close ∷ ks) x y (s ∷ ss) e (now e) entry (inside ++ closing ∷ ps) (next ks)
+      w
+      (λ k ls same z r. go f k ls ks (s ∷ ss) e (inside ++ closing ∷ ps) same z r) (others.by f ks s ss (now e) ps l));
+}
+
+-- the same of a pair
+pair_and_others : (Fits : Kind → Type 0) (close : Kind) (x y : State) (key value : Node) (qs : Pairs)
+    (front v t : List Kind) → ((ks : List Kind) → Next Fits (v ++ close ∷ ks)) → t ≡ front ++ v
+    → ((f : SpansByKinds) (k : Kind) (ls ks : List Kind) (ss : List State) (e : Memory) (ps : List Part)
+    → v ++ close ∷ ks ≡ k ∷ ls → Fits k → TellsParts f (k ∷ ls) y ss (after_node value (after_node key e)) ps
+    → TellsParts f (front ++ k ∷ ls) x ss e (node_parts key ++ (node_parts value ++ ps))) → PairsSay close y qs v
+    → PairsSay close x (MorePairs key value qs) t
+pair_and_others Fits close x y key value qs front v t next w go others =
+    subst (λ (l : List Part). SayUpTo close x CloseMapping l (after_pairs (MorePairs key value qs)) t)
+    (append_assoc (node_parts key) (node_parts value) (pair_parts qs))
+    (first_and_others Fits close x y CloseMapping (node_parts key ++ node_parts value) (pair_parts qs)
+    (λ e. after_node value (after_node key e)) (after_pairs qs) front v t next w
+    (λ f k ls ks ss e ps same z r. rw (append_assoc (node_parts key) (node_parts value) ps)
+    (go f k ls ks ss e ps same z r)) others)
 
 -- ## Brackets
 
@@ -175,12 +159,6 @@ pub record EntrySays (n : Node) (t : List Kind) : Type 0 where
       (e : Memory) (ps : List Part) → EndsEntry k → AtEntry f x ss e machine
       → TellsParts f (k ∷ ks) state.FlowSequenceEntry ss (after_node n e) ps
       → SaysParts e (machine (t ++ k ∷ ks)) (node_parts n ++ ps)
-
-pub record OtherEntriesSay (ns : Nodes) (t : List Kind) : Type 0 where
-  pub by : (f : SpansByKinds) (ks : List Kind) (s : State) (ss : List State) (e : Memory) (ps : List Part)
-      → TellsParts f ks s ss (after_nodes ns e) ps
-      → TellsParts f (t ++ FlowSequenceEnd ∷ ks) state.FlowSequenceEntry (s ∷ ss) e
-      (entry_parts ns ++ CloseSequence ∷ ps)
 
 -- a node, or a pair
 pub either_says : (n : Node) (t : List Kind) → YieldsNode n InFlow t ⊎ YieldsPairEntry n t
@@ -209,161 +187,70 @@ wrapped_pair p key value t bare h gk gv =
 
 pub first_entries : (n : Node) (ns : Nodes) (u v t : List Kind) → YieldOtherFlowEntries ns v → t ≡ u ++ v
     → EntrySays n u → OtherEntriesSay ns v → FlowEntriesSay (MoreNodes n ns) t
-first_entries n ns u v t h w first others = record {
-  by = λ f ks s ss e ps l.
-      rw (append_assoc (node_parts n) (entry_parts ns) (CloseSequence ∷ ps))
-      (entry_told EndsEntry f u v (FlowSequenceEnd ∷ ks) t (λ l. at f l state.FlowSequenceFirstEntry (s ∷ ss) e)
-      state.FlowSequenceEntry (s ∷ ss) e (after_node n e) (entry_parts ns ++ CloseSequence ∷ ps)
-      (node_parts n ++ (entry_parts ns ++ CloseSequence ∷ ps))
-      (flow_entries_next EndsEntry ns v FlowSequenceEnd ks tt tt h) w
-      (λ k ls z r. first.by f k ls (λ l. at f l state.FlowSequenceFirstEntry (s ∷ ss) e)
-      state.FlowSequenceFirstEntry (s ∷ ss) e (entry_parts ns ++ CloseSequence ∷ ps) z (at_first_entry f (s ∷ ss) e)
-      r) (others.by f ks s ss (after_node n e) ps l));
-}
+first_entries n ns u v t h w first others =
+    first_and_others EndsEntry FlowSequenceEnd state.FlowSequenceFirstEntry state.FlowSequenceEntry CloseSequence
+    (node_parts n) (entry_parts ns) (after_node n) (after_nodes ns) u v t
+    (λ ks. flow_entries_next EndsEntry ns v FlowSequenceEnd ks tt tt h) w
+    (λ f k ls ks ss e ps same z r. first.by f k ls (λ l. at f l state.FlowSequenceFirstEntry ss e)
+    state.FlowSequenceFirstEntry ss e ps z (at_first_entry f ss e) r) others
 
 pub other_entries : (n : Node) (ns : Nodes) (u v t : List Kind) → YieldOtherFlowEntries ns v → t ≡ FlowEntry ∷ (u ++ v)
     → EntrySays n u → OtherEntriesSay ns v → OtherEntriesSay (MoreNodes n ns) t
-other_entries n ns u v t h w first others = record {
-  by = λ f ks s ss e ps l.
-      let told : TellsParts f (FlowEntry ∷ ((u ++ v) ++ FlowSequenceEnd ∷ ks)) state.FlowSequenceEntry (s ∷ ss) e
-      ((node_parts n ++ entry_parts ns) ++ CloseSequence ∷ ps) =
-      rw (append_assoc (node_parts n) (entry_parts ns) (CloseSequence ∷ ps))
-      (entry_told EndsEntry f u v (FlowSequenceEnd ∷ ks) (u ++ v)
-      (λ l. at f (FlowEntry ∷ l) state.FlowSequenceEntry (s ∷ ss) e) state.FlowSequenceEntry (s ∷ ss) e
-      (after_node n e) (entry_parts ns ++ CloseSequence ∷ ps)
-      (node_parts n ++ (entry_parts ns ++ CloseSequence ∷ ps))
-      (flow_entries_next EndsEntry ns v FlowSequenceEnd ks tt tt h) refl
-      (λ k ls z r. first.by f k ls (λ l. at f (FlowEntry ∷ l) state.FlowSequenceEntry (s ∷ ss) e)
-      state.FlowSequenceEntry (s ∷ ss) e (entry_parts ns ++ CloseSequence ∷ ps) z (at_other_entry f (s ∷ ss) e) r)
-      (others.by f ks s ss (after_node n e) ps l)) in
-      subst (λ (x : List Kind). TellsParts f (x ++ FlowSequenceEnd ∷ ks) state.FlowSequenceEntry (s ∷ ss) e
-      ((node_parts n ++ entry_parts ns) ++ CloseSequence ∷ ps)) (sym w) told;
-}
-
-pub no_entries : (t : List Kind) → t ≡ [] → FlowEntriesSay NoNode t
-no_entries t h = record {
-  by =
-      λ f ks s ss e ps l. no_entry_told f state.FlowSequenceFirstEntry (s ∷ ss) e (CloseSequence ∷ ps) t
-      (FlowSequenceEnd ∷
-      ks)
-      h (flow_sequence_ends f ks s ss e ps l);
-}
-
-pub no_other_entries : (t : List Kind) → IsListEnd t → OtherEntriesSay NoNode t
-no_other_entries t h = record { by = λ f ks s ss e ps l. list_sequence_ends f t ks s ss e ps h l }
+other_entries n ns u v t h w first others =
+    first_and_others EndsEntry FlowSequenceEnd state.FlowSequenceEntry state.FlowSequenceEntry CloseSequence
+    (node_parts n) (entry_parts ns) (after_node n) (after_nodes ns) (FlowEntry ∷ u) v t
+    (λ ks. flow_entries_next EndsEntry ns v FlowSequenceEnd ks tt tt h) w
+    (λ f k ls ks ss e ps same z r. first.by f k ls (λ l. at f (FlowEntry ∷ l) state.FlowSequenceEntry ss e)
+    state.FlowSequenceEntry ss e ps z (at_other_entry f ss e) r) others
 
 -- ## Braces
-
-pub record OtherPairsSay (qs : Pairs) (t : List Kind) : Type 0 where
-  pub by : (f : SpansByKinds) (ks : List Kind) (s : State) (ss : List State) (e : Memory) (ps : List Part)
-      → TellsParts f ks s ss (after_pairs qs e) ps
-      → TellsParts f (t ++ FlowMappingEnd ∷ ks) state.FlowMappingKey (s ∷ ss) e (pair_parts qs ++ CloseMapping ∷ ps)
-
-same_pairs : (a b c ps : List Part) → (a ++ (b ++ c)) ++ ps ≡ a ++ (b ++ (c ++ ps))
-same_pairs a b c ps = simp append_assoc
 
 pub first_pairs : (key value : Node) (qs : Pairs) (u v t : List Kind) → YieldOtherFlowPairs qs v → t ≡ u ++ v
     → YieldsFlowPair key value (YieldsNode key InFlow) (YieldsNode value InFlow) u
     → ((u : List Kind) → YieldsNode key InFlow u → NodeSays key InFlow u)
     → ((u : List Kind) → YieldsNode value InFlow u → NodeSays value InFlow u) → OtherPairsSay qs v
     → FlowPairsSay (MorePairs key value qs) t
-first_pairs key value qs u v t h w d gk gv others = record {
-  by = λ f ks s ss e ps l.
-      let e' : Memory = after_node value (after_node key e) in
-      let behind : List Part = pair_parts qs ++ CloseMapping ∷ ps in
-      rw (same_pairs (node_parts key) (node_parts value) (pair_parts qs) (CloseMapping ∷ ps))
-      (entry_told EndsPair f u v (FlowMappingEnd ∷ ks) t (λ l. at f l state.FlowMappingFirstKey (s ∷ ss) e)
-      state.FlowMappingKey (s ∷ ss) e e' behind (node_parts key ++ (node_parts value ++ behind))
-      (flow_pairs_next EndsPair qs v FlowMappingEnd ks tt tt h) w
-      (λ k ls z r. flow.pair_says key value u d gk gv f k ls (λ l. at f l state.FlowMappingFirstKey (s ∷ ss) e)
-      state.FlowMappingFirstKey (s ∷ ss) e behind z (at_first_pair f (s ∷ ss) e) r) (others.by f ks s ss e' ps l));
-}
+first_pairs key value qs u v t h w d gk gv others =
+    pair_and_others EndsPair FlowMappingEnd state.FlowMappingFirstKey state.FlowMappingKey key value qs u v t
+    (λ ks. flow_pairs_next EndsPair qs v FlowMappingEnd ks tt tt h) w
+    (λ f k ls ks ss e ps same z r. flow.pair_says key value u d gk gv f k ls
+    (λ l. at f l state.FlowMappingFirstKey ss e) state.FlowMappingFirstKey ss e ps z (at_first_pair f ss e) r) others
 
 pub other_pairs : (key value : Node) (qs : Pairs) (u v t : List Kind) → YieldOtherFlowPairs qs v
     → t ≡ FlowEntry ∷ (u ++ v) → YieldsFlowPair key value (YieldsNode key InFlow) (YieldsNode value InFlow) u
     → ((u : List Kind) → YieldsNode key InFlow u → NodeSays key InFlow u)
     → ((u : List Kind) → YieldsNode value InFlow u → NodeSays value InFlow u) → OtherPairsSay qs v
     → OtherPairsSay (MorePairs key value qs) t
-other_pairs key value qs u v t h w d gk gv others = record {
-  by = λ f ks s ss e ps l.
-      let e' : Memory = after_node value (after_node key e) in
-      let behind : List Part = pair_parts qs ++ CloseMapping ∷ ps in
-      let told : TellsParts f (FlowEntry ∷ ((u ++ v) ++ FlowMappingEnd ∷ ks)) state.FlowMappingKey (s ∷ ss) e
-      ((node_parts key ++ (node_parts value ++ pair_parts qs)) ++ CloseMapping ∷ ps) =
-      rw (same_pairs (node_parts key) (node_parts value) (pair_parts qs) (CloseMapping ∷ ps))
-      (entry_told EndsPair f u v (FlowMappingEnd ∷ ks) (u ++ v)
-      (λ l. at f (FlowEntry ∷ l) state.FlowMappingKey (s ∷ ss) e) state.FlowMappingKey (s ∷ ss) e e' behind
-      (node_parts key ++ (node_parts value ++ behind)) (flow_pairs_next EndsPair qs v FlowMappingEnd ks tt tt h)
-      refl (λ k ls z r. flow.pair_says key value u d gk gv f k ls
-      (λ l. at f (FlowEntry ∷ l) state.FlowMappingKey (s ∷ ss) e) state.FlowMappingKey (s ∷ ss) e behind z
-      (at_other_pair f (s ∷ ss) e) r) (others.by f ks s ss e' ps l)) in
-      subst (λ (x : List Kind). TellsParts f (x ++ FlowMappingEnd ∷ ks) state.FlowMappingKey (s ∷ ss) e
-      ((node_parts key ++ (node_parts value ++ pair_parts qs)) ++ CloseMapping ∷ ps)) (sym w) told;
-}
-
-pub no_pairs : (t : List Kind) → t ≡ [] → FlowPairsSay NoPair t
-no_pairs t h = record {
-  by =
-      λ f ks s ss e ps l. no_entry_told f state.FlowMappingFirstKey (s ∷ ss) e (CloseMapping ∷ ps) t
-      (FlowMappingEnd ∷ ks) h
-      (flow_mapping_ends f ks s ss e ps l);
-}
-
-pub no_other_pairs : (t : List Kind) → IsListEnd t → OtherPairsSay NoPair t
-no_other_pairs t h = record { by = λ f ks s ss e ps l. list_mapping_ends f t ks s ss e ps h l }
+other_pairs key value qs u v t h w d gk gv others =
+    pair_and_others EndsPair FlowMappingEnd state.FlowMappingKey state.FlowMappingKey key value qs (FlowEntry ∷ u) v t
+    (λ ks. flow_pairs_next EndsPair qs v FlowMappingEnd ks tt tt h) w
+    (λ f k ls ks ss e ps same z r. flow.pair_says key value u d gk gv f k ls
+    (λ l. at f (FlowEntry ∷ l) state.FlowMappingKey ss e) state.FlowMappingKey ss e ps z (at_other_pair f ss e) r)
+    others
 
 -- ## Block collections
 
 pub block_entries : (n : Node) (ns : Nodes) (u v t : List Kind) → YieldsOptional n (YieldsNode n InBlock) u
     → YieldBlockEntries ns v → t ≡ BlockEntry ∷ (u ++ v) → (YieldsNode n InBlock u → NodeSays n InBlock u)
     → BlockEntriesSay ns v → BlockEntriesSay (MoreNodes n ns) t
-block_entries n ns u v t d h w g others = record {
-  by = λ f ks s ss e ps l.
-      let behind : List Part = entry_parts ns ++ CloseSequence ∷ ps in
-      let told : TellsParts f (BlockEntry ∷ ((u ++ v) ++ BlockEnd ∷ ks)) state.BlockSequenceEntry (s ∷ ss) e
-      ((node_parts n ++ entry_parts ns) ++ CloseSequence ∷ ps) =
-      rw (append_assoc (node_parts n) (entry_parts ns) (CloseSequence ∷ ps))
-      (entry_told EndsBlockEntry f u v (BlockEnd ∷ ks) (u ++ v)
-      (λ l. at f (BlockEntry ∷ l) state.BlockSequenceEntry (s ∷ ss) e) state.BlockSequenceEntry (s ∷ ss) e
-      (after_node n e) behind (node_parts n ++ behind) (block_entries_next EndsBlockEntry ns v BlockEnd ks tt tt h)
-      refl (λ k ls z r. block.entry_says n u d g f k ls (s ∷ ss) e behind z r)
-      (others.by f ks s ss (after_node n e) ps l)) in
-      subst (λ (x : List Kind). TellsParts f (x ++ BlockEnd ∷ ks) state.BlockSequenceEntry (s ∷ ss) e
-      ((node_parts n ++ entry_parts ns) ++ CloseSequence ∷ ps)) (sym w) told;
-}
-
-pub no_block_entries : (t : List Kind) → t ≡ [] → BlockEntriesSay NoNode t
-no_block_entries t h = record {
-  by =
-      λ f ks s ss e ps l. no_entry_told f state.BlockSequenceEntry (s ∷ ss) e (CloseSequence ∷ ps) t (BlockEnd ∷ ks) h
-      (block_sequence_ends f ks s ss e ps l);
-}
+block_entries n ns u v t d h w g others =
+    first_and_others EndsBlockEntry BlockEnd state.BlockSequenceEntry state.BlockSequenceEntry CloseSequence
+    (node_parts n) (entry_parts ns) (after_node n) (after_nodes ns) (BlockEntry ∷ u) v t
+    (λ ks. block_entries_next EndsBlockEntry ns v BlockEnd ks tt tt h) w
+    (λ f k ls ks ss e ps same z r. block.entry_says n u d g f k ls ss e ps z r) others
 
 pub indentless_entries : (n : Node) (ns : Nodes) (u v t : List Kind) → YieldsOptional n (YieldsNode n InBlock) u
     → YieldBlockEntries ns v → t ≡ BlockEntry ∷ (u ++ v) → (YieldsNode n InBlock u → NodeSays n InBlock u)
     → IndentlessSay ns v → IndentlessSay (MoreNodes n ns) t
 indentless_entries n ns u v t d h w g others = record {
   by = λ f j js s ss e ps y l.
-      let behind : List Part = entry_parts ns ++ CloseSequence ∷ ps in
-      let told : TellsParts f (BlockEntry ∷ ((u ++ v) ++ j ∷ js)) state.IndentlessSequenceEntry (s ∷ ss) e
-      ((node_parts n ++ entry_parts ns) ++ CloseSequence ∷ ps) =
       rw (append_assoc (node_parts n) (entry_parts ns) (CloseSequence ∷ ps))
-      (entry_told EndsIndentless f u v (j ∷ js) (u ++ v)
-      (λ l. at f (BlockEntry ∷ l) state.IndentlessSequenceEntry (s ∷ ss) e) state.IndentlessSequenceEntry (s ∷ ss) e
-      (after_node n e) behind (node_parts n ++ behind)
-      (block_entries_next EndsIndentless ns v j js tt (mapping_follow_ends j y) h) refl
-      (λ k ls z r. indentless_says n u d g f k ls (s ∷ ss) e behind z r)
-      (others.by f j js s ss (after_node n e) ps y l)) in
-      subst (λ (x : List Kind). TellsParts f (x ++ j ∷ js) state.IndentlessSequenceEntry (s ∷ ss) e
-      ((node_parts n ++ entry_parts ns) ++ CloseSequence ∷ ps)) (sym w) told;
+      (entry_told EndsIndentless f (BlockEntry ∷ u) v t (j ∷ js) state.IndentlessSequenceEntry
+      state.IndentlessSequenceEntry (s ∷ ss) e (after_node n e) (node_parts n) (entry_parts ns ++ CloseSequence ∷ ps)
+      (block_entries_next EndsIndentless ns v j js tt (mapping_follow_ends j y) h) w
+      (λ k ls same z r. indentless_says n u d g f k ls (s ∷ ss) e (entry_parts ns ++ CloseSequence ∷ ps) z r)
+      (others.by f j js s ss (after_node n e) ps y l));
 }
-
-pub no_indentless_entries : (t : List Kind) → t ≡ [] → IndentlessSay NoNode t
-no_indentless_entries t h =
-    record {
-      by = λ f k ks s ss e ps z l. no_entry_told f state.IndentlessSequenceEntry (s ∷ ss) e (CloseSequence ∷ ps) t
-          (k ∷ ks) h (indentless_ends f k ks s ss e ps z l);
-    }
 
 pub block_pairs : (key value : Node) (qs : Pairs) (u v t : List Kind)
     → YieldsBlockPair key value (YieldsNode key InBlockMapping) (YieldsNode value InBlockMapping) v u
@@ -371,28 +258,8 @@ pub block_pairs : (key value : Node) (qs : Pairs) (u v t : List Kind)
     → ((u : List Kind) → YieldsNode key InBlockMapping u → NodeSays key InBlockMapping u)
     → ((u : List Kind) → YieldsNode value InBlockMapping u → NodeSays value InBlockMapping u) → BlockPairsSay qs v
     → BlockPairsSay (MorePairs key value qs) t
-block_pairs key value qs u v t d h w gk gv others = record {
-  by = λ f ks s ss e ps l.
-      let e' : Memory = after_node value (after_node key e) in
-      let behind : List Part = pair_parts qs ++ CloseMapping ∷ ps in
-      let next : Next (MayFollow InBlockMapping) (v ++ BlockEnd ∷ ks) = block_pairs_next qs v ks h in
-      let keeps : ¬ (BeginsWithValue v) → ¬ (BeginsWithValue (next.first ∷ next.others)) =
-      λ no. subst (λ (x : List Kind). ¬ (BeginsWithValue x)) next.is (no_value v ks no) in
-      let same : t ++ BlockEnd ∷ ks ≡ u ++ next.first ∷ next.others =
-      ap (λ x. x ++ BlockEnd ∷ ks) w ∙ append_assoc u v (BlockEnd ∷ ks) ∙ ap (λ x. u ++ x) next.is in
-      let told : TellsParts f (u ++ next.first ∷ next.others) state.BlockMappingKey (s ∷ ss) e
-      (node_parts key ++ (node_parts value ++ behind)) =
-      block.pair_says key value v u d gk gv f next.first next.others (s ∷ ss) e behind next.fits keeps
-      (subst (λ (x : List Kind). TellsParts f x state.BlockMappingKey (s ∷ ss) e' behind) next.is
-      (others.by f ks s ss e' ps l)) in
-      rw (same_pairs (node_parts key) (node_parts value) (pair_parts qs) (CloseMapping ∷ ps))
-      (subst (λ (x : List Kind). TellsParts f x state.BlockMappingKey (s ∷ ss) e
-      (node_parts key ++ (node_parts value ++ behind))) (sym same) told);
-}
-
-pub no_block_pairs : (t : List Kind) → t ≡ [] → BlockPairsSay NoPair t
-no_block_pairs t h = record {
-  by =
-      λ f ks s ss e ps l. no_entry_told f state.BlockMappingKey (s ∷ ss) e (CloseMapping ∷ ps) t (BlockEnd ∷ ks) h
-      (block_mapping_ends f ks s ss e ps l);
-}
+block_pairs key value qs u v t d h w gk gv others =
+    pair_and_others (MayFollow InBlockMapping) BlockEnd state.BlockMappingKey state.BlockMappingKey key value qs u v t
+    (λ ks. block_pairs_next qs v ks h) w
+    (λ f k ls ks ss e ps same z r. block.pair_says key value v u d gk gv f k ls ss e ps z
+    (λ no. subst (λ (x : List Kind). ¬ (BeginsWithValue x)) same (no_value v ks no)) r) others

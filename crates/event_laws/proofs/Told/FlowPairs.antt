@@ -1,5 +1,5 @@
 -- The entries of braces are told.
-use Rattle.std.proofs.Common.{◌≡◌, ◌≢◌, List, ◌∷◌, ◌++◌, refl, subst, sym, ◌∙◌, ◌⊎◌, inl, inr}
+use Rattle.std.proofs.Common.{◌≡◌, ◌≢◌, List, [], ◌∷◌, ◌++◌, refl, subst, sym, ◌∙◌, ◌⊎◌, inl, inr}
 use Rattle.saphyr_scalar.specs.declared.scalar.position.Span.{Span}
 use Rattle.saphyr_scanner.specs.Grammar.Forest.{Node}
 use Rattle.saphyr_scanner.specs.Grammar.Forest as forest
@@ -15,12 +15,12 @@ use Rattle.saphyr_machine.specs.Events.{empty_scalar}
 use Rattle.saphyr_machine.specs.Steps.Nodes.{node_inside}
 use Rattle.saphyr_machine.specs.Steps.Flow.{flow_mapping_pair_at, flow_key_node, flow_mapping_value, flow_value_node, flow_mapping_empty_value}
 use Rattle.saphyr_machine.specs.Steps.Expected.{event_step}
-use Rattle.event_laws.proofs.Told.Telling.{SpansByKinds, Memory, at}
+use Rattle.event_laws.proofs.Told.Telling.{SpansByKinds, Memory, at, span_of_token}
 use Rattle.event_laws.proofs.Remembering.{after_node, SaysParts, TellsParts}
 use Rattle.event_laws.proofs.Told.Nodes.{next_node}
-use Rattle.event_laws.proofs.NodeStarts.{Starts, MayFollow, NodeSays, enters, skipped, enters_or_skips, marked_tokens}
+use Rattle.event_laws.proofs.NodeStarts.{Starts, MayFollow, NodeSays, enters, skipped, enters_or_skips, BeginsBehind, LeftOutBehind, SaysBehind, says_behind, marked_tokens}
 
--- what stands behind an entry of braces
+-- what comes after an entry of braces
 abbrev pub EndsPair : Kind → Type 0
 EndsPair FlowEntry = Unit {0}
 EndsPair FlowMappingEnd = Unit {0}
@@ -68,26 +68,20 @@ bare_key_begins _ s t m h = refl
 
 -- ## Values
 
-flow_value_begins : (f : SpansByKinds) (j : Kind) (l : List Kind) (ss : List State) (e : Memory) → Starts InFlow j
-    → event_step (at f (Value ∷ j ∷ l) state.FlowMappingValue ss e)
-    ≡ next_node Flow (at f (j ∷ l) state.FlowMappingValue (state.FlowMappingKey ∷ ss) e)
+flow_value_begins : BeginsBehind Value InFlow state.FlowMappingValue state.FlowMappingKey
 unfolding event_step flow_mapping_value flow_value_node
 flow_value_begins f FlowEntry l ss e h = elim h [ ]
 flow_value_begins f FlowMappingEnd l ss e h = elim h [ ]
 flow_value_begins f _ l ss e h = refl
 
-value_is_left_out : (f : SpansByKinds) (k : Kind) (ks : List Kind) (ss : List State) (e : Memory) → EndsPair k
-    → event_step (at f (Value ∷ k ∷ ks) state.FlowMappingValue ss e)
-    ≡ told_event empty_scalar (f (k ∷ ks)) (at f (k ∷ ks) state.FlowMappingKey ss e)
+value_is_left_out : LeftOutBehind (Value ∷ []) EndsPair (λ f. f) state.FlowMappingValue state.FlowMappingKey
 unfolding event_step flow_mapping_value flow_value_node
 value_is_left_out f FlowEntry ks ss e h = refl
 value_is_left_out f FlowMappingEnd ks ss e h = refl
 value_is_left_out f _ ks ss e h = elim h [ ]
 
-value_is_missing : (f : SpansByKinds) (k : Kind) (ks : List Kind) (ss : List State) (e : Memory) → EndsPair k
-    → event_step (at f (k ∷ ks) state.FlowMappingValue ss e)
-    ≡ told_event empty_scalar (f ks) (at f (k ∷ ks) state.FlowMappingKey ss e)
-unfolding event_step flow_mapping_value
+value_is_missing : LeftOutBehind [] EndsPair span_of_token state.FlowMappingValue state.FlowMappingKey
+unfolding event_step flow_mapping_value span_of_token
 value_is_missing f FlowEntry ks ss e h = refl
 value_is_missing f FlowMappingEnd ks ss e h = refl
 value_is_missing f _ ks ss e h = elim h [ ]
@@ -95,23 +89,17 @@ value_is_missing f _ ks ss e h = elim h [ ]
 -- ## The pair
 
 -- the value, from its mark on
-value_says : (value : Node) (t : List Kind) → YieldsOptional value (YieldsNode value InFlow) t
-    → (YieldsNode value InFlow t → NodeSays value InFlow t)
-    → (f : SpansByKinds) (k : Kind) (ks : List Kind) (ss : List State) (e : Memory) (ps : List Part) → EndsPair k
-    → TellsParts f (k ∷ ks) state.FlowMappingKey ss (after_node value e) ps
-    → TellsParts f (Value ∷ (t ++ k ∷ ks)) state.FlowMappingValue ss e (node_parts value ++ ps)
-value_says value t h g f k ks ss e ps z l =
-    enters_or_skips value InFlow t h g f k ks (λ l. at f (Value ∷ l) state.FlowMappingValue ss e) state.FlowMappingValue
-    (λ l. state.FlowMappingKey) ss e ps (pair_end_follows k z) (λ l q. cc) (f (k ∷ ks))
-    (value_is_left_out f k ks ss e z) (λ j l s. flow_value_begins f j l ss e s) l
+value_says : SaysBehind Value InFlow EndsPair state.FlowMappingValue state.FlowMappingKey
+value_says = says_behind Value InFlow EndsPair (λ f. f) state.FlowMappingValue state.FlowMappingKey (λ q. cc)
+    pair_end_follows flow_value_begins value_is_left_out
 
 -- no value
 missing_value_says : (f : SpansByKinds) (k : Kind) (ks : List Kind) (ss : List State) (e : Memory) (ps : List Part)
     → EndsPair k → TellsParts f (k ∷ ks) state.FlowMappingKey ss e ps
     → TellsParts f (k ∷ ks) state.FlowMappingValue ss e (node_parts forest.left_out ++ ps)
 missing_value_says f k ks ss e ps z l =
-    skipped e (at f (k ∷ ks) state.FlowMappingValue ss e) (at f (k ∷ ks) state.FlowMappingKey ss e) ps (f ks) (λ q. cc)
-    (value_is_missing f k ks ss e z) l
+    skipped e (at f (k ∷ ks) state.FlowMappingValue ss e) (at f (k ∷ ks) state.FlowMappingKey ss e) ps
+    (span_of_token f (k ∷ ks)) (λ q. cc) (value_is_missing f k ks ss e z) l
 
 -- the key, from its mark on
 key_says : (key : Node) (t : List Kind) → YieldsOptional key (YieldsNode key InFlow) t

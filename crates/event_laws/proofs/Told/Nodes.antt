@@ -1,4 +1,4 @@
--- Nodes, behind their properties, are told.
+-- Nodes, after their properties, are told.
 use Rattle.std.proofs.Common.{◌≡◌, ◌≢◌, ℕ, ◌<◌, false, List, [], ◌∷◌, ◌++◌, length, Option, Some, None, option_map, encode_utf8_all, codes, Result, Ok, refl, sym, ap, ◌∙◌, inl, inr, arith}
 use lib.Utf8.{encode}
 use Rattle.std.specs.Prelude.{if◌then◌else◌, nat_eq}

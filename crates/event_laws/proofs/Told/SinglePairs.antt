@@ -15,12 +15,12 @@ use Rattle.saphyr_machine.specs.Steps.Machine.{Machine, told_event}
 use Rattle.saphyr_machine.specs.Steps.Nodes.{node_inside}
 use Rattle.saphyr_machine.specs.Steps.Flow.{flow_sequence_first_entry_at, flow_sequence_entry_mapping_key, flow_sequence_entry_mapping_value, flow_sequence_entry_mapping_node, flow_sequence_entry_mapping_end}
 use Rattle.saphyr_machine.specs.Steps.Expected.{event_step}
-use Rattle.event_laws.proofs.Told.Telling.{SpansByKinds, Memory, at}
+use Rattle.event_laws.proofs.Told.Telling.{SpansByKinds, Memory, at, span_of_token}
 use Rattle.event_laws.proofs.Remembering.{after_node, SaysParts, TellsParts, plainly}
 use Rattle.event_laws.proofs.Told.Nodes.{next_node}
-use Rattle.event_laws.proofs.NodeStarts.{Starts, MayFollow, NodeSays, enters, skipped, enters_or_skips, marked_tokens}
+use Rattle.event_laws.proofs.NodeStarts.{Starts, MayFollow, NodeSays, enters, skipped, enters_or_skips, LeftOutBehind, marked_tokens}
 
--- what stands behind an entry of brackets
+-- what comes after an entry of brackets
 abbrev pub EndsEntry : Kind → Type 0
 EndsEntry FlowEntry = Unit {0}
 EndsEntry FlowSequenceEnd = Unit {0}
@@ -67,7 +67,7 @@ single_key_begins f FlowEntry l ss e h = elim h [ ]
 single_key_begins f FlowSequenceEnd l ss e h = elim h [ ]
 single_key_begins f _ l ss e h = refl
 
--- the state behind the value of a pair, which holds where the value's first token ends
+-- the state after the value of a pair, which holds where the value's first token ends
 behind_value : SpansByKinds → List Kind → State
 behind_value f [] = state.FlowSequenceEntry
 behind_value f (j ∷ l) = state.FlowSequenceEntryMappingEnd (f l).end
@@ -97,10 +97,9 @@ value_is_missing f FlowEntry ks ss e h = refl
 value_is_missing f FlowSequenceEnd ks ss e h = refl
 value_is_missing f _ ks ss e h = elim h [ ]
 
-key_is_left_out : (f : SpansByKinds) (k : Kind) (ks : List Kind) (ss : List State) (e : Memory) → EndsEntry k
-    → event_step (at f (k ∷ ks) state.FlowSequenceEntryMappingKey ss e)
-    ≡ told_event empty_scalar (f ks) (at f (k ∷ ks) state.FlowSequenceEntryMappingValue ss e)
-unfolding event_step flow_sequence_entry_mapping_key
+key_is_left_out : LeftOutBehind [] EndsEntry span_of_token state.FlowSequenceEntryMappingKey
+    state.FlowSequenceEntryMappingValue
+unfolding event_step flow_sequence_entry_mapping_key span_of_token
 key_is_left_out f FlowEntry ks ss e h = refl
 key_is_left_out f FlowSequenceEnd ks ss e h = refl
 key_is_left_out f _ ks ss e h = elim h [ ]
@@ -114,8 +113,7 @@ pair_ends_at f place l ss e ps h =
     ps MappingEnd (record { start = place; end = place }) (λ q. cc) refl refl h
 
 pair_ends : (f : SpansByKinds) (t : List Kind) (k : Kind) (ks : List Kind) (ss : List State) (e : Memory)
-    (ps : List Part)
-    → TellsParts f (k ∷ ks) state.FlowSequenceEntry ss e ps
+    (ps : List Part) → TellsParts f (k ∷ ks) state.FlowSequenceEntry ss e ps
     → TellsParts f (k ∷ ks) (behind_value f (t ++ k ∷ ks)) ss e (CloseMapping ∷ ps)
 unfolding behind_value
 pair_ends f [] k ks ss e ps h = pair_ends_at f _ (k ∷ ks) ss e ps h
@@ -151,7 +149,7 @@ key_alone_says key t h gk f k ks machine x ss e ps z a l =
     (node_parts key ++ (node_parts forest.left_out ++ CloseMapping ∷ ps)) =
     enters_or_skips key InFlow h.0 h.1 (gk h.0) f k ks (λ l. at f l state.FlowSequenceEntryMappingKey ss e)
     state.FlowSequenceEntryMappingKey (λ l. state.FlowSequenceEntryMappingValue) ss e
-    (node_parts forest.left_out ++ CloseMapping ∷ ps) (entry_end_follows k z) (λ l q. cc) (f ks)
+    (node_parts forest.left_out ++ CloseMapping ∷ ps) (entry_end_follows k z) (λ l q. cc) (span_of_token f (k ∷ ks))
     (key_is_left_out f k ks ss e z) (λ j l s. single_key_begins f j l ss e s) second in
     subst (λ (u : List Kind). SaysParts e (machine (u ++ k ∷ ks))
     (OpenMapping no_properties ∷ (node_parts key ++ (node_parts forest.left_out ++ CloseMapping ∷ ps)))) (sym h.2)

@@ -20,7 +20,7 @@ use Rattle.event_laws.proofs.Told.Documents.{EndsDocument, MayStandBehindDocumen
 
 -- ## The end of a document
 
--- what may stand behind the byte order marks at its end
+-- what may come after the byte order marks at its end
 abbrev MayStandBehindMarks : Kind → Type 0
 MayStandBehindMarks StreamEnd = Unit {0}
 MayStandBehindMarks DocumentStart = Unit {0}
@@ -33,7 +33,7 @@ behind_is_no_mark DocumentStart h = refl
 behind_is_no_mark DocumentEnd h = refl
 behind_is_no_mark _ h = elim h [ ]
 
--- the step at the end of a document, behind the marks
+-- the step at the end of a document, after the marks
 document_end_told : (f : SpansByKinds) (j : Kind) (l : List Kind) (e : Memory) → MayStandBehindMarks j
     → event_step (at f (j ∷ l) state.DocumentEnd [] e)
     ≡ document_end_at j (record { span = f l; kind = j }) (at f l state.DocumentEnd [] (closing e))
@@ -108,8 +108,7 @@ DocumentsSay ds false t = (f : SpansByKinds) (e : Memory) → TellsParts f t sta
 
 behind_says : (ds : Forest) (t : List Kind) → YieldsBehindDocument (YieldDocuments ds) t
     → ((free : Bool) (u : List Kind) → YieldDocuments ds free u → DocumentsSay ds free u)
-    → (f : SpansByKinds) (e : Memory)
-    → TellsParts f t state.DocumentEnd [] e (CloseDocument ∷ document_parts ds)
+    → (f : SpansByKinds) (e : Memory) → TellsParts f t state.DocumentEnd [] e (CloseDocument ∷ document_parts ds)
 behind_says ds t h g f e = by h.4
   where
     by : ((h.1 ≡ []) × YieldDocuments ds false h.2)
@@ -128,13 +127,20 @@ behind_says ds t h g f e = by h.4
         subst (λ (u : List Kind). TellsParts f u state.DocumentEnd [] e (CloseDocument ∷ document_parts ds)) (sym same)
         (ends_openly f h.0 (z.0 ++ h.2) e (document_parts ds) h.3 (g true h.2 z.3 f z.0 (closing e) z.1))
 
--- a document, with the token behind it
-bare_document_says : (d : Document) (t : List Kind) → YieldsBareDocument d t
-    → (f : SpansByKinds) (front : List Kind) (k : Kind) (ks : List Kind) (e : Memory) (ps : List Part)
-    → AreEndsAndMarks front
-    → EndsDocument k → ((c : Memory) → TellsParts f (k ∷ ks) state.DocumentEnd [] c ps)
+-- a document is told, with the token after it: one that may be bare, and one that may not
+abbrev FreeSays : Document → List Kind → Type 0
+FreeSays d t = (f : SpansByKinds) (front : List Kind) (k : Kind) (ks : List Kind) (e : Memory) (ps : List Part)
+    → AreEndsAndMarks front → EndsDocument k → ((c : Memory) → TellsParts f (k ∷ ks) state.DocumentEnd [] c ps)
     → TellsParts f (front ++ (t ++ k ∷ ks)) state.ImplicitDocumentStart [] e
     (OpenDocument d.explicit d.directives ∷ (node_parts d.node ++ ps))
+
+abbrev NextSays : Document → List Kind → Type 0
+NextSays d t = (f : SpansByKinds) (k : Kind) (ks : List Kind) (e : Memory) (ps : List Part) → EndsDocument k
+    → ((c : Memory) → TellsParts f (k ∷ ks) state.DocumentEnd [] c ps)
+    → TellsParts f (t ++ k ∷ ks) state.DocumentStart [] e
+    (OpenDocument d.explicit d.directives ∷ (node_parts d.node ++ ps))
+
+bare_document_says : (d : Document) (t : List Kind) → YieldsBareDocument d t → FreeSays d t
 bare_document_says d t h f front k ks e ps a z l =
     subst (λ (b : Bool). TellsParts f (front ++ (t ++ k ∷ ks)) state.ImplicitDocumentStart [] e
     (OpenDocument b d.directives ∷ (node_parts d.node ++ ps))) (sym h.0)
@@ -148,12 +154,7 @@ explicit_tokens : (ds : List Directive) (node t : List Kind) (k : Kind) (ks : Li
 explicit_tokens ds node t k ks e =
     ap (λ l. l ++ k ∷ ks) e ∙ append_assoc (map directive_token ds) (DocumentStart ∷ node) (k ∷ ks)
 
-explicit_document_says : (d : Document) (t : List Kind) → YieldsExplicitDocument d t
-    → (f : SpansByKinds) (front : List Kind) (k : Kind) (ks : List Kind) (e : Memory) (ps : List Part)
-    → AreEndsAndMarks front
-    → EndsDocument k → ((c : Memory) → TellsParts f (k ∷ ks) state.DocumentEnd [] c ps)
-    → TellsParts f (front ++ (t ++ k ∷ ks)) state.ImplicitDocumentStart [] e
-    (OpenDocument d.explicit d.directives ∷ (node_parts d.node ++ ps))
+explicit_document_says : (d : Document) (t : List Kind) → YieldsExplicitDocument d t → FreeSays d t
 explicit_document_says d t h f front k ks e ps a z l =
     let rest : List Kind = map directive_token d.directives ++ DocumentStart ∷ (h.0 ++ k ∷ ks) in
     let same : t ++ k ∷ ks ≡ rest = explicit_tokens d.directives h.0 t k ks h.4 in
@@ -166,12 +167,8 @@ explicit_document_says d t h f front k ks e ps a z l =
     (subst (λ (u : List Kind). TellsParts f (front ++ u) state.ImplicitDocumentStart [] e
     (OpenDocument true d.directives ∷ (node_parts d.node ++ ps))) (sym same) told)
 
--- behind another document without `...` between
-next_document_says : (d : Document) (t : List Kind) → d.directives ≡ [] → YieldsExplicitDocument d t
-    → (f : SpansByKinds) (k : Kind) (ks : List Kind) (e : Memory) (ps : List Part) → EndsDocument k
-    → ((c : Memory) → TellsParts f (k ∷ ks) state.DocumentEnd [] c ps)
-    → TellsParts f (t ++ k ∷ ks) state.DocumentStart [] e (OpenDocument d.explicit d.directives ∷
-    (node_parts d.node ++ ps))
+-- after another document without `...` between
+next_document_says : (d : Document) (t : List Kind) → d.directives ≡ [] → YieldsExplicitDocument d t → NextSays d t
 next_document_says d t none h f k ks e ps z l =
     let rest : List Kind = DocumentStart ∷ (h.0 ++ k ∷ ks) in
     let same : t ++ k ∷ ks ≡ rest = explicit_tokens d.directives h.0 t k ks h.4
@@ -187,23 +184,23 @@ next_document_says d t none h f k ks e ps z l =
     (OpenDocument true [] ∷ (node_parts d.node ++ ps)))
     (sym same) told))
 
-free_document_says : (d : Document) (t : List Kind) → YieldsDocument d true t
-    → (f : SpansByKinds) (front : List Kind) (k : Kind) (ks : List Kind) (e : Memory) (ps : List Part)
-    → AreEndsAndMarks front
-    → EndsDocument k → ((c : Memory) → TellsParts f (k ∷ ks) state.DocumentEnd [] c ps)
-    → TellsParts f (front ++ (t ++ k ∷ ks)) state.ImplicitDocumentStart [] e
-    (OpenDocument d.explicit d.directives ∷ (node_parts d.node ++ ps))
-free_document_says d t (inl h) f front k ks e ps a z l = bare_document_says d t h.1 f front k ks e ps a z l
-free_document_says d t (inr h) f front k ks e ps a z l = explicit_document_says d t h.1 f front k ks e ps a z l
+free_document_says : (d : Document) (t : List Kind) → YieldsDocument d true t → FreeSays d t
+free_document_says d t (inl h) = bare_document_says d t h.1
+free_document_says d t (inr h) = explicit_document_says d t h.1
 
-other_document_says : (d : Document) (t : List Kind) → YieldsDocument d false t
-    → (f : SpansByKinds) (k : Kind) (ks : List Kind) (e : Memory) (ps : List Part) → EndsDocument k
-    → ((c : Memory) → TellsParts f (k ∷ ks) state.DocumentEnd [] c ps)
-    → TellsParts f (t ++ k ∷ ks) state.DocumentStart [] e (OpenDocument d.explicit d.directives ∷
-    (node_parts d.node ++ ps))
-other_document_says d t (inl h) f k ks e ps z l = absurd (not_free h.0)
-other_document_says d t (inr (inl y, h)) f k ks e ps z l = absurd (not_free y)
-other_document_says d t (inr (inr y, h)) f k ks e ps z l = next_document_says d t y h f k ks e ps z l
+other_document_says : (d : Document) (t : List Kind) → YieldsDocument d false t → NextSays d t
+other_document_says d t (inl h) = absurd (not_free h.0)
+other_document_says d t (inr (inl y, h)) = absurd (not_free y)
+other_document_says d t (inr (inr y, h)) = next_document_says d t y h
+
+-- from the token after a document on
+rest_says : (ds : Forest) (t : List Kind) → YieldsBehindDocument (YieldDocuments ds) t
+    → ((free : Bool) (u : List Kind) → YieldDocuments ds free u → DocumentsSay ds free u) → (n : Next EndsDocument t)
+    → (f : SpansByKinds) (c : Memory)
+    → TellsParts f (n.first ∷ n.others) state.DocumentEnd [] c (CloseDocument ∷ document_parts ds)
+rest_says ds t h g n f c =
+    subst (λ (u : List Kind). TellsParts f u state.DocumentEnd [] c (CloseDocument ∷ document_parts ds)) n.is
+    (behind_says ds t h g f c)
 
 documents_say : (ds : Forest) (free : Bool) (t : List Kind) → YieldDocuments ds free t → DocumentsSay ds free t
 documents_say [] true t h =
@@ -215,23 +212,16 @@ documents_say [] false t h =
     (stream_ends_at_once f e)
 documents_say (d ∷ ds) true t h = λ f front e a.
     let n : Next EndsDocument h.1 = behind_head ds h.1 h.3 in
-    let behind : (c : Memory)
-    → TellsParts f (n.first ∷ n.others) state.DocumentEnd [] c (CloseDocument ∷ document_parts ds) =
-    λ c. subst (λ (u : List Kind). TellsParts f u state.DocumentEnd [] c (CloseDocument ∷ document_parts ds)) n.is
-    (behind_says ds h.1 h.3 (λ b u g. documents_say ds b u g) f c) in
     let same : t ≡ h.0 ++ n.first ∷ n.others = h.4 ∙ ap (λ l. h.0 ++ l) n.is in
     subst (λ (u : List Kind). TellsParts f (front ++ u) state.ImplicitDocumentStart [] e (document_parts (d ∷ ds)))
     (sym same) (free_document_says d h.0 h.2 f front n.first n.others e (CloseDocument ∷ document_parts ds) a n.fits
-    behind)
+    (rest_says ds h.1 h.3 (λ b u g. documents_say ds b u g) n f))
 documents_say (d ∷ ds) false t h = λ f e.
     let n : Next EndsDocument h.1 = behind_head ds h.1 h.3 in
-    let behind : (c : Memory)
-    → TellsParts f (n.first ∷ n.others) state.DocumentEnd [] c (CloseDocument ∷ document_parts ds) =
-    λ c. subst (λ (u : List Kind). TellsParts f u state.DocumentEnd [] c (CloseDocument ∷ document_parts ds)) n.is
-    (behind_says ds h.1 h.3 (λ b u g. documents_say ds b u g) f c) in
     let same : t ≡ h.0 ++ n.first ∷ n.others = h.4 ∙ ap (λ l. h.0 ++ l) n.is in
     subst (λ (u : List Kind). TellsParts f u state.DocumentStart [] e (document_parts (d ∷ ds))) (sym same)
-    (other_document_says d h.0 h.2 f n.first n.others e (CloseDocument ∷ document_parts ds) n.fits behind)
+    (other_document_says d h.0 h.2 f n.first n.others e (CloseDocument ∷ document_parts ds) n.fits
+    (rest_says ds h.1 h.3 (λ b u g. documents_say ds b u g) n f))
 
 pub stream_says : (forest : Forest) (t : List Kind) → Yields forest t → (f : SpansByKinds) (e : Memory)
     → TellsParts f t state.StreamStart [] e (parts forest)

@@ -1,4 +1,4 @@
--- Machines before tokens whose spans are told by the tokens behind them, and the events that they give.
+-- Machines before tokens whose spans are told by the tokens after them, and the events that they give.
 use Rattle.std.proofs.Common.{◌≡◌, ◌≢◌, ℕ, ◌<◌, ◌≤◌, Bool, false, List, [], ◌∷◌, length, None, Result, Ok, refl, sym, ap, ◌∙◌, subst, arith}
 use Rattle.std.specs.Prelude.{if◌then◌else◌}
 use Rattle.std.proofs.Math.Dec.{eqb}
@@ -18,13 +18,18 @@ use Rattle.saphyr_machine.proofs.Unroll.{unroll, over}
 
 -- ## Tokens by their kinds
 
--- the span of a token, told by the tokens behind it
+-- the span of a token, told by the tokens after it
 abbrev pub SpansByKinds : Type 0
 SpansByKinds = List Kind → Span
 
 abbrev pub dressed : SpansByKinds → List Kind → List Piece
 dressed f [] = []
 dressed f (k ∷ ks) = record { span = f ks; kind = k } ∷ dressed f ks
+
+-- the span of the first of these tokens
+unfoldable pub span_of_token : SpansByKinds → List Kind → Span
+span_of_token f [] = f []
+span_of_token f (k ∷ ks) = f ks
 
 -- what a machine remembers of the tokens that it has read
 pub record Memory : Type 0 where

@@ -1,5 +1,6 @@
--- The content of a node is turned, behind its properties.
-use Rattle.event_laws.proofs.OwnTokens.{HasOwn, whole, Shape, alone_is}
+-- The content of a node is turned, after its properties.
+use Rattle.event_laws.proofs.OwnTokens.{HasOwn, whole, Shape, StartsAt, content_spans, content_is, alone_is}
+use Rattle.event_laws.specs.EventsTaken.{AreContentTokens, SpansAll, IsOf}
 use Rattle.std.proofs.Common.{◌≡◌, ◌≤◌, ℕ, Bool, true, false, List, [], ◌∷◌, ◌++◌, length, Option, Some, None, option_map, encode_utf8_all, is_some, Ok, Err, refl, sym, ap, ◌∙◌, subst, inl, inr, append_assoc, arith, length-append}
 use Rattle.std.specs.Prelude.{if◌then◌else◌, nat_lt, ◌||◌}
 use Rattle.saphyr_scalar.specs.declared.scalar.position.Span.{Span}
@@ -18,18 +19,18 @@ use Rattle.saphyr_machine.specs.declared.context.NodeContext.{NodeContext}
 use Rattle.saphyr_machine.specs.declared.context.NodeContext.TheVariants.{Flow, Block, BlockMapping}
 use Rattle.saphyr_machine.specs.declared.state.State.{State}
 use Rattle.saphyr_machine.specs.declared.state.State.TheVariants as state
-use Rattle.event_laws.specs.Anchors.{one_more_anchor}
-use Rattle.event_laws.specs.Preorder.{Part, Leaf, OpenSequence, CloseSequence, OpenMapping, CloseMapping}
-use Rattle.saphyr_machine.specs.Events.{Happening, ResolvedTag, Scalar, SequenceStart, MappingStart}
+use Rattle.event_laws.specs.Anchors.{one_more_anchor, anchors}
+use Rattle.event_laws.specs.Preorder.{Part, Leaf, CloseMapping}
+use Rattle.saphyr_machine.specs.Events.{Happening, ResolvedTag, Scalar}
 use Rattle.event_laws.specs.Exactly.{kinds}
-use Rattle.saphyr_machine.specs.Steps.Nodes.{NodeProperties, has_property, node_without_content}
+use Rattle.saphyr_machine.specs.Steps.Nodes.{NodeProperties, span_up_to, has_property, node_without_content}
 use Rattle.event_laws.proofs.Told.Telling.{Memory}
-use Rattle.event_laws.proofs.Remembering.{noted, own_id_in, with_properties}
+use Rattle.event_laws.proofs.Remembering.{after, event_in, noted, own_id_in, with_properties}
 use Rattle.event_laws.proofs.Told.Nodes.{Has}
-use Rattle.event_laws.proofs.Turned.Following.{Then, Exactly, Claim, IsNodeOf, FirstEntries, FirstPairs, BlockEntries, BlockPairs, InBlockPairs, AtBlockValue, FollowsStates, IsAlive, BeginsWithEntry}
+use Rattle.event_laws.proofs.Turned.Following.{Then, Exactly, Claim, IsNodeOf, InBlockPairs, AtBlockValue, Behind, FollowsStates, IsInsideDocument, IsAlive, BeginsWithEntry}
 use Rattle.event_laws.proofs.Turned.Turning.{machine, Goes, Turned, kinds_append, around}
 
--- ## Where a node stands
+-- ## Where a node is
 
 abbrev pub place_of : NodeContext → grammar.Context
 place_of Flow = InFlow
@@ -41,12 +42,12 @@ IsPairState state.BlockMappingKey = Unit {0}
 IsPairState state.BlockMappingValue = Unit {0}
 IsPairState _ = ⊥
 
--- the state behind a key or a value of a block mapping
+-- the state after a key or a value of a block mapping
 abbrev pub Suits : NodeContext → State → Type 0
 Suits BlockMapping s = IsPairState s
 Suits _ s = Unit {0}
 
-abbrev pub NodeThen : NodeContext → State → List State → List Kind → List Part → Type 0
+abbrev pub NodeThen : NodeContext → State → List State → Claim
 NodeThen c s ss = Then (IsNodeOf (place_of c)) (FollowsStates s ss)
 
 -- ## Properties that were read
@@ -144,155 +145,42 @@ split front t u = ap (λ (l : List Kind). l ++ u) (kinds_append front (t ∷ [])
 pub taken_one : (front : List Piece) (t : Piece) (ts : List Piece) → front ++ t ∷ ts ≡ (front ++ t ∷ []) ++ ts
 taken_one front t ts = sym (append_assoc front (t ∷ []) ts)
 
-pub flow_sequence_goes : (t : Piece) (p : forest.Properties) (q : NodeProperties) (front : List Piece) (span : Span)
-    (c : grammar.Context) (ts : List Piece) (r : Option Refusal) (s : State) (ss : List State) (e : Memory)
-    → t.kind ≡ tokens.FlowSequenceStart → Fronted e p q front → IsAlive s ss
-    → HasOwn (front ++ t ∷ []) (SequenceStart q.anchor q.tag) span ts
-    → Goes (Then (IsNodeOf c) (FollowsStates s ss)) e (front ++ t ∷ ts)
+-- A collection begins with a token, and goes up to another, with the tokens of `A` between them.
+pub collection_goes : (A : Claim) (opening closing : Kind) (o : State) (part last : Part)
+    (make : ℕ → Option ResolvedTag → Happening) (sp : Span) (front : List Piece) (p : forest.Properties)
+    (q : NodeProperties) (c : NodeContext) (ts : List Piece) (r : Option Refusal) (s : State) (ss : List State)
+    (e : Memory) → event_in e part ≡ with_properties make e p → noted p.anchor e ≡ after part e
+    → anchors (part ∷ []) ≡ one_more_anchor (option_map encode_utf8_all p.anchor) 0 → IsInsideDocument o
+    → ((used : List Piece) (span : Span) → AreContentTokens opening used → SpansAll used span
+    → IsOf (make q.anchor q.tag) span used ts)
+    → ((R : Claim) (ks : List Kind) (ps : List Part) → Behind o R ks ps
+    → Then A (Then (Exactly (closing ∷ []) (last ∷ [])) R) ks ps)
+    → ((u f : List Kind) (w : List Part) → A u w → YieldProperties p f
+    → IsNodeOf (place_of c) (f ++ opening ∷ (u ++ closing ∷ [])) (part ∷ (w ++ last ∷ []))) → Fronted e p q front
+    → StartsAt front sp.start q → IsAlive s ss
+    → Goes (NodeThen c s ss) e (front ++ record { span = sp; kind = opening } ∷ ts)
     (record {
-      what = SequenceStart q.anchor q.tag;
-      span = span;
-      machine = machine ts r state.FlowSequenceFirstEntry (s ∷ ss) (noted p.anchor e);
+      what = make q.anchor q.tag;
+      span = span_up_to q sp.end;
+      machine = machine ts r o (s ∷ ss) (noted p.anchor e);
     })
-flow_sequence_goes t p q front span c ts r s ss e k h a o = record {
-  used = front ++ t ∷ [];
-  part = OpenSequence p;
-  taken = taken_one front t ts;
-  tells = with_told SequenceStart e p q h.has;
-  remembers = refl;
-  few = enough_for p front (t ∷ []) h.enough;
-  places = o;
-  alive = (tt, a);
-  makes = λ ks ps f st. around FirstEntries (FollowsStates s ss) (IsNodeOf c) (kinds (front ++ t ∷ []))
-      (tokens.FlowSequenceEnd ∷ []) (OpenSequence p) CloseSequence ks ps
-      (λ u w g. (
-        forest.Seq p g.0,
-        (
-          kinds front,
-          tokens.FlowSequenceStart
-              ∷ (u ++ tokens.FlowSequenceEnd ∷ []),
-          h.are,
-          inl (u, g.1, refl),
-          split front t (u ++ tokens.FlowSequenceEnd ∷ [])
-              ∙ ap (λ (y : Kind). kinds front ++ y ∷ (u ++ tokens.FlowSequenceEnd ∷ [])) k,
-        ),
-        ap
-            (λ (l : List Part). OpenSequence p ∷ (l ++ CloseSequence ∷ [])) g.2,
-      )) f;
-}
-
-pub flow_mapping_goes : (t : Piece) (p : forest.Properties) (q : NodeProperties) (front : List Piece) (span : Span)
-    (c : grammar.Context) (ts : List Piece) (r : Option Refusal) (s : State) (ss : List State) (e : Memory)
-    → t.kind ≡ tokens.FlowMappingStart → Fronted e p q front → IsAlive s ss
-    → HasOwn (front ++ t ∷ []) (MappingStart q.anchor q.tag) span ts
-    → Goes (Then (IsNodeOf c) (FollowsStates s ss)) e (front ++ t ∷ ts)
-    (record {
-      what = MappingStart q.anchor q.tag;
-      span = span;
-      machine = machine ts r state.FlowMappingFirstKey (s ∷ ss) (noted p.anchor e);
-    })
-flow_mapping_goes t p q front span c ts r s ss e k h a o = record {
-  used = front ++ t ∷ [];
-  part = OpenMapping p;
-  taken = taken_one front t ts;
-  tells = with_told MappingStart e p q h.has;
-  remembers = refl;
-  few = enough_for p front (t ∷ []) h.enough;
-  places = o;
-  alive = (tt, a);
-  makes = λ ks ps f st. around FirstPairs (FollowsStates s ss) (IsNodeOf c) (kinds (front ++ t ∷ []))
-      (tokens.FlowMappingEnd ∷ []) (OpenMapping p) CloseMapping ks ps
-      (λ u w g. (
-        forest.Map p g.0,
-        (
-          kinds front,
-          tokens.FlowMappingStart
-              ∷ (u ++ tokens.FlowMappingEnd ∷ []),
-          h.are,
-          inl (u, g.1, refl),
-          split front t (u ++ tokens.FlowMappingEnd ∷ [])
-              ∙ ap (λ (y : Kind). kinds front ++ y ∷ (u ++ tokens.FlowMappingEnd ∷ [])) k,
-        ),
-        ap
-            (λ (l : List Part). OpenMapping p ∷ (l ++ CloseMapping ∷ [])) g.2,
-      )) f;
-}
-
-pub block_sequence_goes : (t : Piece) (p : forest.Properties) (q : NodeProperties) (front : List Piece) (span : Span)
-    (c : grammar.Context) (ts : List Piece) (r : Option Refusal) (s : State) (ss : List State) (e : Memory)
-    → t.kind ≡ tokens.BlockSequenceStart → grammar.AllowsBlock c → Fronted e p q front → IsAlive s ss
-    → HasOwn (front ++ t ∷ []) (SequenceStart q.anchor q.tag) span ts
-    → Goes (Then (IsNodeOf c) (FollowsStates s ss)) e (front ++ t ∷ ts)
-    (record {
-      what = SequenceStart q.anchor q.tag;
-      span = span;
-      machine = machine ts r state.BlockSequenceEntry (s ∷ ss) (noted p.anchor e);
-    })
-block_sequence_goes t p q front span c ts r s ss e k b h a o = record {
-  used = front ++ t ∷ [];
-  part = OpenSequence p;
-  taken = taken_one front t ts;
-  tells = with_told SequenceStart e p q h.has;
-  remembers = refl;
-  few = enough_for p front (t ∷ []) h.enough;
-  places = o;
-  alive = (tt, a);
-  makes = λ ks ps f st. around BlockEntries (FollowsStates s ss) (IsNodeOf c) (kinds (front ++ t ∷ []))
-      (tokens.BlockEnd ∷ [])
-      (OpenSequence p) CloseSequence ks ps
-      (λ u w g. (
-        forest.Seq p g.0,
-        (
-          kinds front,
-          tokens.BlockSequenceStart
-              ∷ (u ++ tokens.BlockEnd ∷ []),
-          h.are,
-          inr (inl (b, (u, g.1, refl))),
-          split front t (u ++ tokens.BlockEnd ∷ [])
-              ∙ ap (λ (y : Kind). kinds front ++ y ∷ (u ++ tokens.BlockEnd ∷ [])) k,
-        ),
-        ap
-            (λ (l : List Part). OpenSequence p ∷ (l ++ CloseSequence ∷ [])) g.2,
-      )) f;
-}
-
-pub block_mapping_goes : (t : Piece) (p : forest.Properties) (q : NodeProperties) (front : List Piece) (span : Span)
-    (c : grammar.Context) (ts : List Piece) (r : Option Refusal) (s : State) (ss : List State) (e : Memory)
-    → t.kind ≡ tokens.BlockMappingStart → grammar.AllowsBlock c → Fronted e p q front → IsAlive s ss
-    → HasOwn (front ++ t ∷ []) (MappingStart q.anchor q.tag) span ts
-    → Goes (Then (IsNodeOf c) (FollowsStates s ss)) e (front ++ t ∷ ts)
-    (record {
-      what = MappingStart q.anchor q.tag;
-      span = span;
-      machine = machine ts r state.BlockMappingKey (s ∷ ss) (noted p.anchor e);
-    })
-block_mapping_goes t p q front span c ts r s ss e k b h a o = record {
-  used = front ++ t ∷ [];
-  part = OpenMapping p;
-  taken = taken_one front t ts;
-  tells = with_told MappingStart e p q h.has;
-  remembers = refl;
-  few = enough_for p front (t ∷ []) h.enough;
-  places = o;
-  alive = (tt, a);
-  makes = λ ks ps f st. around BlockPairs (FollowsStates s ss) (IsNodeOf c) (kinds (front ++ t ∷ []))
-      (tokens.BlockEnd ∷ [])
-      (OpenMapping p) CloseMapping ks ps
-      (λ u w g. (
-        forest.Map p g.0,
-        (
-          kinds front,
-          tokens.BlockMappingStart
-              ∷ (u ++ tokens.BlockEnd ∷ []),
-          h.are,
-          inr (b, (u, g.1, refl)),
-          split front t (u ++ tokens.BlockEnd ∷ [])
-              ∙ ap (λ (y : Kind). kinds front ++ y ∷ (u ++ tokens.BlockEnd ∷ [])) k,
-        ),
-        ap
-            (λ (l : List Part). OpenMapping p ∷ (l ++ CloseMapping ∷ [])) g.2,
-      )) f;
-}
+collection_goes A opening closing o part last make sp front p q c ts r s ss e tells same count i own inside node h b a =
+    let t : Piece = record { span = sp; kind = opening } in record {
+      used = front ++ t ∷ [];
+      part = part;
+      taken = taken_one front t ts;
+      tells = tells ∙ with_told make e p q h.has;
+      remembers = same;
+      few = (let l = enough_for p front (t ∷ []) h.enough in omega (arith, l, count));
+      places = whole _ _ _ (own (front ++ t ∷ []) (span_up_to q sp.end) (content_is opening front q t refl h.shape)
+          (content_spans front q t h.shape b));
+      alive = (i, a);
+      makes = λ ks ps f st. around A (FollowsStates s ss) (IsNodeOf (place_of c)) (kinds (front ++ t ∷ []))
+          (closing ∷ []) part last ks ps
+          (λ u w g. subst (λ (l : List Kind). IsNodeOf (place_of c) l (part ∷ (w ++ last ∷ [])))
+          (sym (split front t (u ++ closing ∷ []))) (node u (kinds front) w g h.are))
+          (inside (FollowsStates s ss) ks ps f);
+    }
 
 -- ## Sequences at the column of the mapping around them
 
@@ -331,8 +219,7 @@ at_value_begins R ks ps (inr h) =
     (in_pairs_begin R h.1.back h.1.second h.1.goes_on)
 
 pub no_entry : (s : State) (ss : List State) (ks : List Kind) (ps : List Part) → IsPairState s
-    → FollowsStates s ss ks ps
-    → BeginsWithEntry ks → ⊥
+    → FollowsStates s ss ks ps → BeginsWithEntry ks → ⊥
 no_entry state.BlockMappingKey [] ks ps i h = absurd h
 no_entry state.BlockMappingKey (o ∷ ss) ks ps i h = in_pairs_begin (FollowsStates o ss) ks ps h
 no_entry state.BlockMappingValue [] ks ps i h = absurd h

@@ -23,7 +23,7 @@ use Rattle.event_laws.proofs.NameLaws.{listed_test}
 use Rattle.event_laws.proofs.DirectivesPass.{IsFree, AreFree, declared_by}
 use Rattle.std.proofs.lemmas.Bool.{or_parts}
 
--- ## Directives that may stand together
+-- ## Directives that may be together
 
 was_unlisted : (name other : List ℕ) (names : List (List ℕ)) → is_listed name (with_name other names) ≡ false
     → (other ≢ name) × (is_listed name names ≡ false)
@@ -60,7 +60,7 @@ abbrev pub declaring_machine : List Directive → List Piece → Machine → Mac
 declaring_machine ds rest m =
     record m { tokens = record { pieces = rest; refusal = m.tokens.refusal }; prefixes = declaring ds m.prefixes }
 
--- directives, and the token behind them
+-- directives, and the token after them
 pub record PassesDirectives (ts : List Piece) (d : Declared) (m : Machine) (u : Piece) (n : Machine) : Type 0 where
   pub directives : List Directive
   pub used : List Piece

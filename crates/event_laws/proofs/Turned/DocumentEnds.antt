@@ -17,56 +17,46 @@ use Rattle.saphyr_machine.specs.declared.state.State.TheVariants as state
 use Rattle.event_laws.specs.Preorder.{Part, CloseDocument}
 use Rattle.event_laws.specs.Exactly.{kinds}
 use Rattle.saphyr_machine.specs.Steps.Machine.{◌>>=◌, Machine, with_pieces}
+use Rattle.saphyr_machine.specs.Steps.Nodes.{node}
 use Rattle.saphyr_machine.specs.Steps.Block.{block_node}
 use Rattle.saphyr_machine.specs.Steps.Documents.{is_mark, unpassed_token_from, unpassed_token, no_content, document_content_at, document_content, token_behind_marks_at, token_behind_marks, token_behind_document_at, token_behind_document, without_prefixes, document_end_at, document_end}
-use Rattle.event_laws.specs.WellFormed.{AreWellFormed}
 use Rattle.event_laws.proofs.Told.Telling.{Memory}
-use Rattle.event_laws.proofs.Turned.Following.{Then, IsNodeOf, IsOptionalOf, AreExplicit, Outside, FollowsStates, IsAlive, IsFree, BeginsFreely}
-use Rattle.event_laws.proofs.Turned.Turning.{machine, Turned, weaker, replace}
+use Rattle.event_laws.proofs.Turned.Following.{Then, IsNodeOf, IsOptionalOf, AreExplicit, Outside, FollowsStates, IsFree, BeginsFreely}
+use Rattle.event_laws.proofs.Turned.Turning.{machine, Turned, weaker}
 use Rattle.event_laws.proofs.Turned.Content.{split, taken_one}
 use Rattle.event_laws.proofs.Turned.Nodes.{node_turned}
-use Rattle.event_laws.proofs.Turned.Entries.{skip_optional}
+use Rattle.event_laws.proofs.Turned.Entries.{Turns, TurnsBehind, TurnsAt, by_token, skip_optional, some_node}
 
 -- ## Content
 
-pub block_node_turned : (ts : List Piece) (r : Option Refusal) (x s : State) (ss : List State) (e : Memory)
-    → AreWellFormed ts → IsAlive s ss
-    → Turned (Then (IsNodeOf InBlock) (FollowsStates s ss)) e ts (block_node (machine ts r x (s ∷ ss) e))
+pub block_node_turned : Turns (λ _. Then (IsNodeOf InBlock)) block_node
 unfolding block_node
-block_node_turned [] r x s ss e w a = tt
-block_node_turned (t ∷ ts) r x s ss e w a = node_turned t Block ts r x s ss e w tt a
+block_node_turned = by_token (λ _. Then (IsNodeOf InBlock)) (λ k. node Block)
+    (λ k sp ts r x s ss e w a. node_turned (record { span = sp; kind = k }) Block ts r x s ss e w tt a)
 
-no_content_turned : (t : Piece) (ts : List Piece) (r : Option Refusal) (x s : State) (ss : List State) (e : Memory)
-    → IsAlive s ss → Turned (Then (IsOptionalOf InBlock) (FollowsStates s ss)) e (t ∷ ts)
-    (no_content t (machine ts r x (s ∷ ss) e))
-no_content_turned t ts r x s ss e a = skip_optional InBlock t t.span ts r x s ss e a
+left_out : (k : Kind) → TurnsBehind (λ _. Then (IsOptionalOf InBlock)) k no_content
+left_out k sp ts r x s ss e w a = skip_optional InBlock (record { span = sp; kind = k }) sp ts r x s ss e a
 
-content_at_turned : (k : Kind) (sp : Span) (ts : List Piece) (r : Option Refusal) (x s : State) (ss : List State)
-    (e : Memory) → AreWellFormed (record { span = sp; kind = k } ∷ ts) → IsAlive s ss
-    → Turned (Then (IsOptionalOf InBlock) (FollowsStates s ss)) e (record { span = sp; kind = k } ∷ ts)
-    (document_content_at k (record { span = sp; kind = k }) (machine ts r x (s ∷ ss) e))
-content_at_turned (tokens.VersionDirective major minor) sp ts r x s ss e w a = no_content_turned _ ts r x s ss e a
-content_at_turned (tokens.TagDirective handle prefix) sp ts r x s ss e w a = no_content_turned _ ts r x s ss e a
-content_at_turned (tokens.ReservedDirective name) sp ts r x s ss e w a = no_content_turned _ ts r x s ss e a
-content_at_turned tokens.DocumentStart sp ts r x s ss e w a = no_content_turned _ ts r x s ss e a
-content_at_turned tokens.DocumentEnd sp ts r x s ss e w a = no_content_turned _ ts r x s ss e a
-content_at_turned tokens.ByteOrderMark sp ts r x s ss e w a = no_content_turned _ ts r x s ss e a
-content_at_turned tokens.StreamEnd sp ts r x s ss e w a = no_content_turned _ ts r x s ss e a
-content_at_turned k sp ts r x s ss e w a =
+content_at_turned : TurnsAt (λ _. Then (IsOptionalOf InBlock)) document_content_at
+content_at_turned (tokens.VersionDirective major minor) = left_out (tokens.VersionDirective major minor)
+content_at_turned (tokens.TagDirective handle prefix) = left_out (tokens.TagDirective handle prefix)
+content_at_turned (tokens.ReservedDirective name) = left_out (tokens.ReservedDirective name)
+content_at_turned tokens.DocumentStart = left_out tokens.DocumentStart
+content_at_turned tokens.DocumentEnd = left_out tokens.DocumentEnd
+content_at_turned tokens.ByteOrderMark = left_out tokens.ByteOrderMark
+content_at_turned tokens.StreamEnd = left_out tokens.StreamEnd
+content_at_turned k = λ sp ts r x s ss e w a.
     weaker (Then (IsNodeOf InBlock) (FollowsStates s ss)) (Then (IsOptionalOf InBlock) (FollowsStates s ss)) e _ _
-    (λ ks ps h. replace (IsNodeOf InBlock) (FollowsStates s ss) (IsOptionalOf InBlock) [] [] ks ps
-    (λ u q g. (g.0, inr g.1, g.2)) h) (node_turned (record { span = sp; kind = k }) Block ts r x s ss e w tt a)
+    (some_node InBlock (FollowsStates s ss))
+    (node_turned (record { span = sp; kind = k }) Block ts r x s ss e w tt a)
 
-pub content_turned : (ts : List Piece) (r : Option Refusal) (x s : State) (ss : List State) (e : Memory)
-    → AreWellFormed ts → IsAlive s ss
-    → Turned (Then (IsOptionalOf InBlock) (FollowsStates s ss)) e ts (document_content (machine ts r x (s ∷ ss) e))
+pub content_turned : Turns (λ _. Then (IsOptionalOf InBlock)) document_content
 unfolding document_content
-content_turned [] r x s ss e w a = tt
-content_turned (t ∷ ts) r x s ss e w a = content_at_turned t.kind t.span ts r x s ss e w a
+content_turned = by_token (λ _. Then (IsOptionalOf InBlock)) document_content_at content_at_turned
 
--- ## Byte order marks behind a document
+-- ## Byte order marks after a document
 
--- marks, and the token behind them
+-- marks, and the token after them
 record Marked (ts : List Piece) (m : Machine) (u : Piece) (n : Machine) : Type 0 where
   marks : List Piece
   rest : List Piece
@@ -84,8 +74,7 @@ mark_is tokens.ByteOrderMark h = refl
 mark_is _ h = absurd (cc)
 
 one_more_mark : (t : Piece) (ts : List Piece) (m : Machine) (r : Result (Piece × Machine) Refusal)
-    → is_mark t.kind ≡ true
-    → MarkedBy ts (with_pieces ts m) r → MarkedBy (t ∷ ts) m r
+    → is_mark t.kind ≡ true → MarkedBy ts (with_pieces ts m) r → MarkedBy (t ∷ ts) m r
 one_more_mark t ts m (Ok x) k h =
     record {
       marks = t ∷ h.marks;
@@ -102,9 +91,8 @@ marks_passed [] m = tt
 marks_passed (t ∷ ts) m = by (is_mark t.kind) refl (marks_passed ts (with_pieces ts m))
   where
     by : (b : Bool) → is_mark t.kind ≡ b → MarkedBy ts (with_pieces ts m)
-        (unpassed_token_from is_mark ts (with_pieces ts m))
-        → MarkedBy (t ∷ ts) m (if b then unpassed_token_from is_mark ts (with_pieces ts m) else Ok
-        (t, with_pieces ts m))
+        (unpassed_token_from is_mark ts (with_pieces ts m)) → MarkedBy (t ∷ ts) m
+        (if b then unpassed_token_from is_mark ts (with_pieces ts m) else Ok (t, with_pieces ts m))
     by true y h = one_more_mark t ts m _ y h
     by false y h = record { marks = []; rest = ts; are = refl; are_marks = tt; no_mark = y; leaves = refl }
 

@@ -22,7 +22,7 @@ use Rattle.saphyr_machine.specs.Steps.Documents.{is_end_or_mark, unpassed_token_
 use Rattle.event_laws.specs.WellFormed.{AreWellFormed}
 use Rattle.event_laws.proofs.Told.Telling.{Memory}
 use Rattle.event_laws.proofs.Remembering.{event_in}
-use Rattle.event_laws.proofs.Turned.Following.{Then, IsNodeOf, IsOptionalOf, AreExplicit, Outside, BeginsFreely}
+use Rattle.event_laws.proofs.Turned.Following.{Claim, Then, IsNodeOf, IsOptionalOf, AreExplicit, Outside, BeginsFreely}
 use Rattle.event_laws.proofs.Turned.Turning.{machine, Goes, Turned, weaker, behind}
 use Rattle.event_laws.proofs.Turned.Content.{split, taken_one}
 use Rattle.event_laws.proofs.Turned.Entries.{Wanted}
@@ -30,8 +30,8 @@ use Rattle.event_laws.proofs.Turned.Directives.{PassesDirectives, PassedBy, dire
 
 -- ## A step that may be the last
 
--- the end of the stream, behind which no token stands
-pub record Over (F : List Kind → List Part → Type 0) (e : Memory) (k : List Piece) (x : Told) : Type 0 where
+-- the end of the stream, after which no token comes
+pub record Over (F : Claim) (e : Memory) (k : List Piece) (x : Told) : Type 0 where
   pub part : Part
   pub is_over : x.machine.state ≡ state.End
   pub tells : event_in e part ≡ Some x.what
@@ -39,16 +39,15 @@ pub record Over (F : List Kind → List Part → Type 0) (e : Memory) (k : List 
   pub places : HasOwn k x.what x.span []
   pub makes : F (kinds k) (part ∷ [])
 
-abbrev pub MovesOn : (List Kind → List Part → Type 0) → Memory → List Piece → Result Told Refusal → Type 0
+abbrev pub MovesOn : Claim → Memory → List Piece → Result Told Refusal → Type 0
 MovesOn F e k (Ok x) = Goes F e k x ⊎ Over F e k x
 MovesOn F e k (Err f) = Unit {0}
 
-pub moves : (F : List Kind → List Part → Type 0) (e : Memory) (k : List Piece) (r : Result Told Refusal)
-    → Turned F e k r → MovesOn F e k r
+pub moves : (F : Claim) (e : Memory) (k : List Piece) (r : Result Told Refusal) → Turned F e k r → MovesOn F e k r
 moves F e k (Ok x) h = inl h
 moves F e k (Err f) h = tt
 
-behind_moves : (t : Piece) (F G : List Kind → List Part → Type 0) (e : Memory) (k : List Piece)
+behind_moves : (t : Piece) (F G : Claim) (e : Memory) (k : List Piece)
     (r : Result Told Refusal) → BelongsToNone t.kind
     → ((ks : List Kind) (ps : List Part) → F ks ps → G (t.kind ∷ ks) ps) → MovesOn F e k r → MovesOn G e (t ∷ k) r
 behind_moves t F G e k (Ok x) b i (inl h) = inl (behind t F G e k (Ok x) b i h)
@@ -65,7 +64,7 @@ behind_moves t F G e k (Err f) b i h = tt
 
 -- ## Tokens that are passed
 
-passing : (p : Kind → Bool) (G : List Kind → List Kind → List Part → Type 0) (e : Memory) (ts : List Piece)
+passing : (p : Kind → Bool) (G : List Kind → Claim) (e : Memory) (ts : List Piece)
     (m : Machine) (go : Piece × Machine → Result Told Refusal) → AreWellFormed ts
     → ((k : Kind) → p k ≡ true → BelongsToNone k)
     → ((k : Kind) (ahead ks : List Kind) (ps : List Part) → p k ≡ true → G ahead ks ps → G (k ∷ ahead) (k ∷ ks) ps)
@@ -112,7 +111,7 @@ are_passed (t ∷ used) (d ∷ ds) e =
 
 -- ## Documents that begin with `---` or directives
 
-abbrev Explicit : List Kind → List Kind → List Part → Type 0
+abbrev Explicit : List Kind → Claim
 Explicit ahead ks ps = (f : Forest) × AreExplicit f ks × (ps ≡ document_parts f)
     × (BeginsFreely ahead → BeginsFreely ks)
 
@@ -264,7 +263,7 @@ bare_turned t us r x e =
       makes = λ ks ps f b. (bare_makes ks ps f, tt);
     }
 
-stream_over : (F : List Kind → List Part → Type 0) (t : Piece) (us : List Piece) (x : Told) (e : Memory) → us ≡ []
+stream_over : (F : Claim) (t : Piece) (us : List Piece) (x : Told) (e : Memory) → us ≡ []
     → t.kind ≡ tokens.StreamEnd → x.what ≡ events.StreamEnd → x.machine.state ≡ state.End
     → F (tokens.StreamEnd ∷ []) (CloseStream ∷ []) → Over F e (t ∷ us) x
 stream_over F t us x e n k w o f = record {
@@ -283,6 +282,15 @@ stream_over F t us x e n k w o f = record {
       (sym (ap (λ (l : List Piece). t.kind ∷ kinds l) n ∙ ap (λ (l : Kind). l ∷ []) k)) f;
 }
 
+explicit_there : (k : Kind) (sp : Span) (us : List Piece) (r : Option Refusal) (x : State) (e : Memory)
+    → AreWellFormed (record { span = sp; kind = k } ∷ us)
+    → MovesOn (Wanted state.ImplicitDocumentStart [] (k ∷ kinds us)) e (record { span = sp; kind = k } ∷ us)
+    (explicit_document (record { span = sp; kind = k }) (machine us r x [] e))
+explicit_there k sp us r x e w =
+    moves (Wanted state.ImplicitDocumentStart [] (k ∷ kinds us)) e _ _
+    (weaker (Explicit (k ∷ kinds us)) (Wanted state.ImplicitDocumentStart [] (k ∷ kinds us)) e _ _
+    (explicit_first (k ∷ kinds us)) (explicit_turned (record { span = sp; kind = k }) us r x e w))
+
 implicit_at_moves : (k : Kind) (sp : Span) (us : List Piece) (r : Option Refusal) (x : State) (e : Memory)
     → AreWellFormed (record { span = sp; kind = k } ∷ us)
     → MovesOn (Wanted state.ImplicitDocumentStart [] (k ∷ kinds us)) e (record { span = sp; kind = k } ∷ us)
@@ -292,21 +300,12 @@ implicit_at_moves tokens.StreamEnd sp us r x e w =
     (record { span = sp; kind = tokens.StreamEnd }) us _ e w.1 refl refl refl
     (([], [], tokens.StreamEnd ∷ [], tt, refl, refl, refl), tt))
 implicit_at_moves (tokens.VersionDirective major minor) sp us r x e w =
-    moves _ e _ _ (weaker (Explicit (tokens.VersionDirective major minor ∷ kinds us))
-    (Wanted state.ImplicitDocumentStart [] (tokens.VersionDirective major minor ∷ kinds us)) e _ _
-    (explicit_first (tokens.VersionDirective major minor ∷ kinds us)) (explicit_turned _ us r x e w))
+    explicit_there (tokens.VersionDirective major minor) sp us r x e w
 implicit_at_moves (tokens.TagDirective handle prefix) sp us r x e w =
-    moves _ e _ _ (weaker (Explicit (tokens.TagDirective handle prefix ∷ kinds us))
-    (Wanted state.ImplicitDocumentStart [] (tokens.TagDirective handle prefix ∷ kinds us)) e _ _
-    (explicit_first (tokens.TagDirective handle prefix ∷ kinds us)) (explicit_turned _ us r x e w))
+    explicit_there (tokens.TagDirective handle prefix) sp us r x e w
 implicit_at_moves (tokens.ReservedDirective name) sp us r x e w =
-    moves _ e _ _ (weaker (Explicit (tokens.ReservedDirective name ∷ kinds us))
-    (Wanted state.ImplicitDocumentStart [] (tokens.ReservedDirective name ∷ kinds us)) e _ _
-    (explicit_first (tokens.ReservedDirective name ∷ kinds us)) (explicit_turned _ us r x e w))
-implicit_at_moves tokens.DocumentStart sp us r x e w =
-    moves _ e _ _ (weaker (Explicit (tokens.DocumentStart ∷ kinds us))
-    (Wanted state.ImplicitDocumentStart [] (tokens.DocumentStart ∷ kinds us)) e _ _
-    (explicit_first (tokens.DocumentStart ∷ kinds us)) (explicit_turned _ us r x e w))
+    explicit_there (tokens.ReservedDirective name) sp us r x e w
+implicit_at_moves tokens.DocumentStart sp us r x e w = explicit_there tokens.DocumentStart sp us r x e w
 implicit_at_moves k sp us r x e w =
     moves (Wanted state.ImplicitDocumentStart [] (k ∷ kinds us)) e _ _
     (bare_turned (record { span = sp; kind = k }) us r x e)

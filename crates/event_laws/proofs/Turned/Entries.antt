@@ -1,7 +1,7 @@
 -- Entries of collections are turned: nodes, nodes that are left out, and the ends of collections.
 use Rattle.event_laws.proofs.OwnTokens.{whole, passed_one}
 use Rattle.event_laws.specs.EventsTaken.{BelongsToNone, IsOf}
-use Rattle.std.proofs.Common.{◌≡◌, List, [], ◌∷◌, ◌++◌, Option, refl, sym, inl, inr, arith}
+use Rattle.std.proofs.Common.{◌≡◌, List, [], ◌∷◌, ◌++◌, Option, Result, refl, sym, inl, inr, arith}
 use Rattle.saphyr_scalar.specs.declared.scalar.position.Span.{Span}
 use Rattle.saphyr_scalar.specs.declared.scalar.style.ScalarStyle.TheVariants.{Plain}
 use Rattle.saphyr_scalar.specs.declared.scalar.fault.Refusal.{Refusal}
@@ -15,23 +15,23 @@ use Rattle.event_laws.specs.Anchors.{anchors}
 use Rattle.event_laws.specs.Preorder.{Part, Leaf, node_parts}
 use Rattle.event_laws.specs.Exactly.{kinds}
 use Rattle.saphyr_machine.specs.Events.{Happening}
-use Rattle.saphyr_machine.specs.Steps.Machine.{told_event, left_out_event, pop}
+use Rattle.saphyr_machine.specs.Steps.Machine.{◌>>=◌, Machine, Told, taken_token, told_event, left_out_event, pop}
 use Rattle.saphyr_machine.specs.Steps.Nodes.{node_inside}
 use Rattle.event_laws.specs.WellFormed.{AreWellFormed}
 use Rattle.event_laws.proofs.Told.Telling.{Memory}
 use Rattle.event_laws.proofs.Remembering.{after, event_in}
-use Rattle.event_laws.proofs.Turned.Following.{Then, Exactly, IsNodeOf, IsOptionalOf, IsValueOf, IsAnyValueOf, FollowsStates, IsAlive, Starts}
-use Rattle.event_laws.proofs.Turned.Turning.{machine, Turned, weaker, replace, put}
+use Rattle.event_laws.proofs.Turned.Following.{Claim, Then, Exactly, IsNodeOf, IsOptionalOf, IsValueOf, IsAnyValueOf, Behind, FollowsStates, IsInsideDocument, IsAlive, Starts}
+use Rattle.event_laws.proofs.Turned.Turning.{machine, Turned, weaker, behind, replace, put}
 use Rattle.event_laws.proofs.Turned.Content.{place_of, Suits}
 use Rattle.event_laws.proofs.Turned.Nodes.{node_turned}
 use Rattle.std.specs.Prelude.{Some}
 
 -- what may follow in a state, before these tokens
-abbrev pub Wanted : State → List State → List Kind → List Kind → List Part → Type 0
+abbrev pub Wanted : State → List State → List Kind → Claim
 Wanted s st ahead ks ps = FollowsStates s st ks ps × Starts s ahead ks
 
 -- a node is left out
-pub skipped : (F : List Kind → List Part → Type 0) (t : Piece) (sp : Span) (ts : List Piece) (r : Option Refusal)
+pub skipped : (F : Claim) (t : Piece) (sp : Span) (ts : List Piece) (r : Option Refusal)
     (x s : State) (st : List State) (e : Memory) → IsAlive s st
     → ((ks : List Kind) (ps : List Part) → FollowsStates s st ks ps → Starts s (kinds (t ∷ ts)) ks
     → F ks (Leaf forest.no_properties Plain [] ∷ ps)) → Turned F e (t ∷ ts) (left_out_event t s sp (machine ts r x st
@@ -57,55 +57,106 @@ skip_optional c t sp ts r x s st e a =
     (λ ks ps f b. put (IsOptionalOf c) (FollowsStates s st) [] (node_parts forest.left_out) ks ps
     (forest.left_out, inl (refl, refl), refl) f)
 
-pub entered : (c : NodeContext) (t : Piece) (ts : List Piece) (r : Option Refusal) (x s : State) (st : List State)
-    (e : Memory) → AreWellFormed (t ∷ ts) → Suits c s → IsAlive s st
-    → Turned (Then (IsNodeOf (place_of c)) (FollowsStates s st)) e (t ∷ ts) (node_inside s c t (machine ts r x st e))
-entered c t ts r x s st e w z a = node_turned t c ts r x s st e w z a
+pub some_node : (c : grammar.Context) (B : Claim) (ks : List Kind) (ps : List Part) → Then (IsNodeOf c) B ks ps
+    → Then (IsOptionalOf c) B ks ps
+some_node c B ks ps h = replace (IsNodeOf c) B (IsOptionalOf c) [] [] ks ps (λ u q g. (g.0, inr g.1, g.2)) h
 
-pub enter_optional : (c : NodeContext) (t : Piece) (ts : List Piece) (r : Option Refusal) (x s : State)
-    (st : List State)
-    (e : Memory) → AreWellFormed (t ∷ ts) → Suits c s → IsAlive s st
-    → Turned (Then (IsOptionalOf (place_of c)) (FollowsStates s st)) e (t ∷ ts)
-    (node_inside s c t (machine ts r x st e))
-enter_optional c t ts r x s st e w z a =
-    weaker (Then (IsNodeOf (place_of c)) (FollowsStates s st)) (Then (IsOptionalOf (place_of c)) (FollowsStates s st)) e
-    (t ∷ ts)
-    (node_inside s c t (machine ts r x st e))
-    (λ ks ps h. replace (IsNodeOf (place_of c)) (FollowsStates s st) (IsOptionalOf (place_of c)) [] [] ks ps
-    (λ u q g. (g.0, inr g.1, g.2)) h) (entered c t ts r x s st e w z a)
-
--- behind the mark of a value
-pub marked_value : (c : grammar.Context) (B : List Kind → List Part → Type 0) (ks : List Kind) (ps : List Part)
+-- after the mark of a value
+pub marked_value : (c : grammar.Context) (B : Claim) (ks : List Kind) (ps : List Part)
     → Then (IsOptionalOf c) B ks ps → Then (IsValueOf c) B (Value ∷ ks) ps
 marked_value c B ks ps h =
     replace (IsOptionalOf c) B (IsValueOf c) (Value ∷ []) [] ks ps (λ u q g. (g.0, (u, g.1, refl), g.2)) h
 
-pub any_value : (c : grammar.Context) (B : List Kind → List Part → Type 0) (ks : List Kind) (ps : List Part)
+pub any_value : (c : grammar.Context) (B : Claim) (ks : List Kind) (ps : List Part)
     → Then (IsValueOf c) B ks ps → Then (IsAnyValueOf c) B ks ps
 any_value c B ks ps h = replace (IsValueOf c) B (IsAnyValueOf c) [] [] ks ps (λ u q g. inl g) h
 
 -- the end of a collection, without more entries
-pub collection_ends : (A R : List Kind → List Part → Type 0) (close : List Kind) (closing : Part) (ks : List Kind)
+pub collection_ends : (A R : Claim) (close : List Kind) (closing : Part) (ks : List Kind)
     (ps : List Part) → A [] [] → R ks ps → Then A (Then (Exactly close (closing ∷ [])) R) (close ++ ks) (closing ∷ ps)
 collection_ends A R close closing ks ps a r =
     put A (Then (Exactly close (closing ∷ [])) R) [] [] (close ++ ks) (closing ∷ ps) a
     (put (Exactly close (closing ∷ [])) R close (closing ∷ []) ks ps (refl, refl) r)
 
--- its token
-pub ends : (F : List Kind → List Part → Type 0) (t : Piece) (what : Happening) (closing : Part) (sp : Span)
-    (ts : List Piece) (r : Option Refusal) (x s : State) (ss : List State) (e : Memory) → event_in e closing ≡ Some what
-    → after closing e ≡ e → anchors (closing ∷ []) ≡ 0 → BelongsToNone t.kind → IsOf what sp [] ts → IsAlive s ss
-    → ((ks : List Kind) (ps : List Part) → FollowsStates s ss ks ps → F (t.kind ∷ ks) (closing ∷ ps))
-    → Turned F e (t ∷ ts) (told_event what sp (pop (machine ts r x (s ∷ ss) e)))
-ends F t what closing sp ts r x s ss e tells same none b o a go =
+-- ## Steps inside a document
+
+-- what may follow in a state inside a document, before these tokens, if `R` says what may follow after
+abbrev pub WantedIn : State → List Kind → Claim → Claim
+WantedIn s ahead R ks ps = Behind s R ks ps × Starts s ahead ks
+
+-- Inside a document a step turns its tokens: it makes what `F` says of these tokens and of what may follow after.
+abbrev pub Turns : (List Kind → Claim → Claim) → (Machine → Result Told Refusal) → Type 0
+Turns F step = (ts : List Piece) (r : Option Refusal) (x s : State) (ss : List State) (e : Memory) → AreWellFormed ts
+    → IsAlive s ss → Turned (F (kinds ts) (FollowsStates s ss)) e ts (step (machine ts r x (s ∷ ss) e))
+
+-- so does a step that has taken a token of this kind
+abbrev pub TurnsBehind : (List Kind → Claim → Claim) → Kind → (Piece → Machine → Result Told Refusal) → Type 0
+TurnsBehind F k step = (sp : Span) (ts : List Piece) (r : Option Refusal) (x s : State) (ss : List State) (e : Memory)
+    → AreWellFormed (record { span = sp; kind = k } ∷ ts) → IsAlive s ss
+    → Turned (F (k ∷ kinds ts) (FollowsStates s ss)) e (record { span = sp; kind = k } ∷ ts)
+    (step (record { span = sp; kind = k }) (machine ts r x (s ∷ ss) e))
+
+-- ... of any kind
+abbrev pub TurnsAt : (List Kind → Claim → Claim) → (Kind → Piece → Machine → Result Told Refusal) → Type 0
+TurnsAt F step = (k : Kind) → TurnsBehind F k (step k)
+
+pub by_token : (F : List Kind → Claim → Claim) (step : Kind → Piece → Machine → Result Told Refusal) → TurnsAt F step
+    → Turns F (λ m. taken_token m >>= (λ t. step t.0.kind t.0 t.1))
+by_token F step h [] r x s ss e w a = tt
+by_token F step h (t ∷ ts) r x s ss e w a = h t.kind t.span ts r x s ss e w a
+
+-- the token belongs to no event
+pub passes : (F G : List Kind → Claim → Claim) (k : Kind) (step : Machine → Result Told Refusal) → BelongsToNone k
+    → ((ahead : List Kind) (R : Claim) (ks : List Kind) (ps : List Part) → F ahead R ks ps
+    → G (k ∷ ahead) R (k ∷ ks) ps) → Turns F step → TurnsBehind G k (λ t. step)
+passes F G k step b i h sp ts r x s ss e w a =
+    behind (record { span = sp; kind = k }) (F (kinds ts) (FollowsStates s ss)) (G (k ∷ kinds ts) (FollowsStates s ss))
+    e ts _ b (i (kinds ts) (FollowsStates s ss)) (h ts r x s ss e w.2 a)
+
+-- a node is left out before the token
+pub leaves_out : (F : List Kind → Claim → Claim) (o : State) (k : Kind) → IsInsideDocument o
+    → ((ahead : List Kind) (R : Claim) (ks : List Kind) (ps : List Part) → Behind o R ks ps → Starts o (k ∷ ahead) ks
+    → F (k ∷ ahead) R ks (Leaf forest.no_properties Plain [] ∷ ps)) → (span : Span)
+    → TurnsBehind F k (λ t. left_out_event t o span)
+leaves_out F o k i go span sp ts r x s ss e w a =
+    skipped (F (k ∷ kinds ts) (FollowsStates s ss)) (record { span = sp; kind = k }) span ts r x o (s ∷ ss) e (i, a)
+    (go (kinds ts) (FollowsStates s ss))
+
+pub skips : (c : grammar.Context) (o : State) (k : Kind) → IsInsideDocument o → (span : Span)
+    → TurnsBehind (λ _ R. Then (IsOptionalOf c) (Behind o R)) k (λ t. left_out_event t o span)
+skips c o k i span sp ts r x s ss e w a =
+    skip_optional c (record { span = sp; kind = k }) span ts r x o (s ∷ ss) e (i, a)
+
+-- a node begins with the token
+pub enters : (F : List Kind → Claim → Claim) (c : NodeContext) (o : State) (k : Kind) → Suits c o → IsInsideDocument o
+    → ((ahead : List Kind) (R : Claim) (ks : List Kind) (ps : List Part)
+    → Then (IsNodeOf (place_of c)) (Behind o R) ks ps → F (k ∷ ahead) R ks ps) → TurnsBehind F k (node_inside o c)
+enters F c o k z i go sp ts r x s ss e w a =
+    weaker (Then (IsNodeOf (place_of c)) (Behind o (FollowsStates s ss))) (F (k ∷ kinds ts) (FollowsStates s ss)) e _ _
+    (go (kinds ts) (FollowsStates s ss)) (node_turned (record { span = sp; kind = k }) c ts r x o (s ∷ ss) e w z (i, a))
+
+pub enters_optional : (c : NodeContext) (o : State) (k : Kind) → Suits c o → IsInsideDocument o
+    → TurnsBehind (λ _ R. Then (IsOptionalOf (place_of c)) (Behind o R)) k (node_inside o c)
+enters_optional c o k z i = enters (λ _ R. Then (IsOptionalOf (place_of c)) (Behind o R)) c o k z i
+    (λ _ R. some_node (place_of c) (Behind o R))
+
+-- a collection of no more entries ends with the token
+pub closes : (F : List Kind → Claim → Claim) (A : Claim) (k : Kind) (what : Happening) (closing : Part)
+    → ((e : Memory) → (event_in e closing ≡ Some what) × (after closing e ≡ e)) → anchors (closing ∷ []) ≡ 0
+    → BelongsToNone k → ((span : Span) (ts : List Piece) → IsOf what span [] ts) → A [] []
+    → ((ahead : List Kind) (R : Claim) (ks : List Kind) (ps : List Part)
+    → Then A (Then (Exactly (k ∷ []) (closing ∷ [])) R) (k ∷ ks) ps → F (k ∷ ahead) R (k ∷ ks) ps) → (span : Span)
+    → TurnsBehind F k (λ t m. told_event what span (pop m))
+closes F A k what closing tells none b own no_more go span sp ts r x s ss e w a =
     record {
-      used = t ∷ [];
+      used = record { span = sp; kind = k } ∷ [];
       part = closing;
       taken = refl;
-      tells = tells;
-      remembers = sym same;
+      tells = (tells e).0;
+      remembers = sym (tells e).1;
       few = omega (arith, none);
-      places = passed_one t what sp b o;
+      places = passed_one (record { span = sp; kind = k }) what span b (own span ts);
       alive = a;
-      makes = λ ks ps f c. go ks ps f;
+      makes = λ ks ps f c. go (kinds ts) (FollowsStates s ss) ks (closing ∷ ps)
+          (collection_ends A (FollowsStates s ss) (k ∷ []) closing ks ps no_more f);
     }

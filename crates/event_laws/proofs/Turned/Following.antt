@@ -15,8 +15,8 @@ use Rattle.event_laws.specs.Preorder.{Part, CloseDocument, CloseSequence, CloseM
 abbrev pub Claim : Type 1
 Claim = List Kind → List Part → Type 0
 
--- those of A, and behind them those of B
-pub record Then (A B : List Kind → List Part → Type 0) (ks : List Kind) (ps : List Part) : Type 0 where
+-- those of A, and after them those of B
+pub record Then (A B : Claim) (ks : List Kind) (ps : List Part) : Type 0 where
   pub front : List Kind
   pub back : List Kind
   pub first : List Part
@@ -70,7 +70,7 @@ BlockEntries ks ps = (ns : Nodes) × YieldBlockEntries ns ks × (ps ≡ entry_pa
 abbrev pub BlockPairs : Claim
 BlockPairs ks ps = (qs : Pairs) × YieldBlockPairs qs ks × (ps ≡ pair_parts qs)
 
--- ## Collections, with what follows behind them
+-- ## Collections, with what follows after them
 
 abbrev pub InSequence : Claim → Claim
 InSequence R = Then OtherEntries (Then (Exactly (tokens.FlowSequenceEnd ∷ []) (CloseSequence ∷ [])) R)
@@ -87,7 +87,7 @@ InMapping R = Then OtherPairs (Then (Exactly (tokens.FlowMappingEnd ∷ []) (Clo
 abbrev pub InBlockPairs : Claim → Claim
 InBlockPairs R = Then BlockPairs (Then (Exactly (tokens.BlockEnd ∷ []) (CloseMapping ∷ [])) R)
 
--- a value that is left out stands before no other
+-- a value that is left out comes before no other
 abbrev pub AtBlockValue : Claim → Claim
 AtBlockValue R ks ps = Then (IsValueOf InBlockMapping) (InBlockPairs R) ks ps
     ⊎ (¬ (BeginsWithValue ks) × Then IsSkipped (InBlockPairs R) ks ps)
@@ -132,8 +132,8 @@ Outside state.DocumentEnd ks ps =
     (f : Forest) × YieldsBehindDocument (YieldDocuments f) ks × (ps ≡ CloseDocument ∷ document_parts f)
 Outside _ ks ps = ⊥
 
--- what may follow in a state, with the states behind it
-abbrev pub FollowsStates : State → List State → List Kind → List Part → Type 0
+-- what may follow in a state, with the states after it
+abbrev pub FollowsStates : State → List State → Claim
 FollowsStates s [] = Outside s
 FollowsStates s (other ∷ others) = Behind s (FollowsStates other others)
 

@@ -17,19 +17,21 @@ use Rattle.saphyr_machine.specs.declared.context.NodeContext.{NodeContext}
 use Rattle.saphyr_machine.specs.declared.context.NodeContext.TheVariants.{Flow, Block, BlockMapping}
 use Rattle.saphyr_machine.specs.declared.state.State.{State}
 use Rattle.saphyr_machine.specs.declared.state.State.TheVariants as state
-use Rattle.event_laws.specs.Preorder.{Part, Reference, OpenSequence, CloseSequence, entry_parts}
-use Rattle.saphyr_machine.specs.Events.{ResolvedTag, Alias, SequenceStart}
+use Rattle.event_laws.specs.Preorder.{Part, Reference, OpenSequence, CloseSequence, OpenMapping, CloseMapping, entry_parts}
+use Rattle.saphyr_machine.specs.Events.{ResolvedTag, Alias, SequenceStart, MappingStart}
 use Rattle.event_laws.specs.Exactly.{kinds}
-use Rattle.saphyr_machine.specs.Steps.Machine.{◌>>=◌, taken_token, meaning, next_id}
+use Rattle.saphyr_machine.specs.Steps.Machine.{◌>>=◌, Told, taken_token, meaning, next_id}
+use Rattle.std.specs.Prelude.{if◌then◌else◌}
+use Rattle.saphyr_machine.specs.Steps.Contexts.{allows_block}
 use Rattle.saphyr_machine.specs.Steps.Tags.{resolved_tag_at}
 use Rattle.saphyr_machine.specs.Steps.Nodes.{NodeProperties, no_node_properties, node_content_at, node_content, next_content, alias_of, alias_node, node_behind_anchor_at, node_behind_anchor, node_behind_tag_at, node_behind_tag, node_at, node}
 use Rattle.event_laws.specs.WellFormed.{IsWellFormed, AreWellFormed}
 use Rattle.event_laws.proofs.Told.Telling.{Memory}
 use Rattle.event_laws.proofs.Remembering.{noted, resolve}
-use Rattle.event_laws.proofs.Turned.Following.{Then, Exactly, IsNodeOf, BlockEntries, FollowsStates, IsAlive, BeginsWithEntry}
+use Rattle.event_laws.proofs.Turned.Following.{Claim, Then, Exactly, IsNodeOf, FirstEntries, FirstPairs, BlockEntries, BlockPairs, FollowsStates, IsAlive, BeginsWithEntry}
 use Rattle.event_laws.proofs.Turned.Turning.{machine, Goes, Turned, put}
 use Rattle.event_laws.proofs.Turned.Tags.{ResolvesTo, stands}
-use Rattle.event_laws.proofs.Turned.Content.{place_of, IsPairState, Suits, NodeThen, Fronted, with_told, leaf_goes, alone_turned, flow_sequence_goes, flow_mapping_goes, block_sequence_goes, block_mapping_goes, no_entry}
+use Rattle.event_laws.proofs.Turned.Content.{place_of, IsPairState, Suits, NodeThen, Fronted, with_told, leaf_goes, alone_turned, collection_goes, no_entry}
 
 -- ## Sequences at the column of the mapping around them
 
@@ -108,6 +110,13 @@ scalar_turned style text value sp front p q c ts r x s ss e v h b a =
           (record { span = sp; kind = tokens.Scalar style (encode_utf8_all value) }) h.shape b,
     ))))
 
+-- a collection that block style alone allows
+where_block : (c : NodeContext) (F : Claim) (e : Memory) (k : List Piece) (in_block in_flow : Result Told Refusal)
+    → (grammar.AllowsBlock (place_of c) → Turned F e k in_block) → Turned F e k in_flow
+    → Turned F e k (if allows_block c then in_block else in_flow)
+where_block Flow F e k in_block in_flow y n = n
+where_block _ F e k in_block in_flow y n = y tt
+
 content_turned : (k : Kind) (sp : Span) (front : List Piece) (p : forest.Properties) (q : NodeProperties)
     (c : NodeContext)
     (ts : List Piece) (r : Option Refusal) (x : State) (s : State) (ss : List State) (e : Memory) → IsWellFormed k
@@ -117,56 +126,40 @@ content_turned : (k : Kind) (sp : Span) (front : List Piece) (p : forest.Propert
 content_turned (tokens.Scalar style text) sp front p q c ts r x s ss e w z h b a =
     scalar_turned style text w.0 sp front p q c ts r x s ss e w.1 h b a
 content_turned tokens.FlowSequenceStart sp front p q c ts r x s ss e w z h b a =
-    flow_sequence_goes _ p q front _ (place_of c) ts r s ss e refl h a
-    (whole _ _ _ (inl (
-      inl (content_is tokens.FlowSequenceStart front q
-          (record { span = sp; kind = tokens.FlowSequenceStart }) refl h.shape),
-      content_spans front q
-          (record { span = sp; kind = tokens.FlowSequenceStart }) h.shape b,
-    )))
+    collection_goes FirstEntries tokens.FlowSequenceStart tokens.FlowSequenceEnd state.FlowSequenceFirstEntry
+    (OpenSequence p) CloseSequence SequenceStart sp front p q c ts r s ss e refl refl refl tt
+    (λ u n k l. inl (inl k, l)) (λ R ks ps f. f)
+    (λ u f v g i. (
+      forest.Seq p g.0,
+      (f, tokens.FlowSequenceStart ∷ (u ++ tokens.FlowSequenceEnd ∷ []), i, inl (u, g.1, refl), refl),
+      ap (λ (l : List Part). OpenSequence p ∷ (l ++ CloseSequence ∷ [])) g.2,
+    )) h b a
 content_turned tokens.FlowMappingStart sp front p q c ts r x s ss e w z h b a =
-    flow_mapping_goes _ p q front _ (place_of c) ts r s ss e refl h a
-    (whole _ _ _ (
-      inl (content_is tokens.FlowMappingStart front q (record { span = sp; kind = tokens.FlowMappingStart })
-          refl h.shape),
-      content_spans front q (record { span = sp; kind = tokens.FlowMappingStart }) h.shape b,
-    ))
-content_turned tokens.BlockSequenceStart sp front p q Flow ts r x s ss e w z h b a =
-    alone_turned _ front p q Flow ts r x s ss e h a
-content_turned tokens.BlockSequenceStart sp front p q Block ts r x s ss e w z h b a =
-    block_sequence_goes _ p q front _ (place_of Block) ts r s ss e refl tt h a
-    (whole _ _ _ (inl (
-      inr (content_is tokens.BlockSequenceStart front q
-          (record { span = sp; kind = tokens.BlockSequenceStart }) refl h.shape),
-      content_spans front q
-          (record { span = sp; kind = tokens.BlockSequenceStart }) h.shape b,
-    )))
-content_turned tokens.BlockSequenceStart sp front p q BlockMapping ts r x s ss e w z h b a =
-    block_sequence_goes _ p q front _ (place_of BlockMapping) ts r s ss e refl tt h a
-    (whole _ _ _ (inl (
-      inr (content_is tokens.BlockSequenceStart front q
-          (record { span = sp; kind = tokens.BlockSequenceStart }) refl h.shape),
-      content_spans front q
-          (record { span = sp; kind = tokens.BlockSequenceStart }) h.shape b,
-    )))
-content_turned tokens.BlockMappingStart sp front p q Flow ts r x s ss e w z h b a =
-    alone_turned _ front p q Flow ts r x s ss e h a
-content_turned tokens.BlockMappingStart sp front p q Block ts r x s ss e w z h b a =
-    block_mapping_goes _ p q front _ (place_of Block) ts r s ss e refl tt h a
-    (whole _ _ _ (
-      inr (inl (content_is tokens.BlockMappingStart front q
-          (record { span = sp; kind = tokens.BlockMappingStart }) refl h.shape)),
-      content_spans front q
-          (record { span = sp; kind = tokens.BlockMappingStart }) h.shape b,
-    ))
-content_turned tokens.BlockMappingStart sp front p q BlockMapping ts r x s ss e w z h b a =
-    block_mapping_goes _ p q front _ (place_of BlockMapping) ts r s ss e refl tt h a
-    (whole _ _ _ (
-      inr (inl (content_is tokens.BlockMappingStart front q
-          (record { span = sp; kind = tokens.BlockMappingStart }) refl h.shape)),
-      content_spans front q
-          (record { span = sp; kind = tokens.BlockMappingStart }) h.shape b,
-    ))
+    collection_goes FirstPairs tokens.FlowMappingStart tokens.FlowMappingEnd state.FlowMappingFirstKey (OpenMapping p)
+    CloseMapping MappingStart sp front p q c ts r s ss e refl refl refl tt (λ u n k l. (inl k, l)) (λ R ks ps f. f)
+    (λ u f v g i. (
+      forest.Map p g.0,
+      (f, tokens.FlowMappingStart ∷ (u ++ tokens.FlowMappingEnd ∷ []), i, inl (u, g.1, refl), refl),
+      ap (λ (l : List Part). OpenMapping p ∷ (l ++ CloseMapping ∷ [])) g.2,
+    )) h b a
+content_turned tokens.BlockSequenceStart sp front p q c ts r x s ss e w z h b a =
+    where_block c (NodeThen c s ss) e _ _ _ (λ allowed. collection_goes BlockEntries tokens.BlockSequenceStart
+    tokens.BlockEnd state.BlockSequenceEntry (OpenSequence p) CloseSequence SequenceStart sp front p q c ts r s ss e
+    refl refl refl tt (λ u n k l. inl (inr k, l)) (λ R ks ps f. f)
+    (λ u f v g i. (
+      forest.Seq p g.0,
+      (f, tokens.BlockSequenceStart ∷ (u ++ tokens.BlockEnd ∷ []), i, inr (inl (allowed, (u, g.1, refl))), refl),
+      ap (λ (l : List Part). OpenSequence p ∷ (l ++ CloseSequence ∷ [])) g.2,
+    )) h b a) (alone_turned _ front p q c ts r x s ss e h a)
+content_turned tokens.BlockMappingStart sp front p q c ts r x s ss e w z h b a =
+    where_block c (NodeThen c s ss) e _ _ _ (λ allowed. collection_goes BlockPairs tokens.BlockMappingStart
+    tokens.BlockEnd state.BlockMappingKey (OpenMapping p) CloseMapping MappingStart sp front p q c ts r s ss e refl refl
+    refl tt (λ u n k l. (inr (inl k), l)) (λ R ks ps f. f)
+    (λ u f v g i. (
+      forest.Map p g.0,
+      (f, tokens.BlockMappingStart ∷ (u ++ tokens.BlockEnd ∷ []), i, inr (allowed, (u, g.1, refl)), refl),
+      ap (λ (l : List Part). OpenMapping p ∷ (l ++ CloseMapping ∷ [])) g.2,
+    )) h b a) (alone_turned _ front p q c ts r x s ss e h a)
 content_turned tokens.BlockEntry sp front p q Flow ts r x s ss e w z h b a =
     alone_turned _ front p q Flow ts r x s ss e h a
 content_turned tokens.BlockEntry sp front p q Block ts r x s ss e w z h b a =
@@ -178,9 +171,8 @@ content_turned k sp front p q c ts r x s ss e w z h b a =
     alone_turned (record { span = sp; kind = k }) front p q c ts r x s ss e h a
 
 next_turned : (ts front : List Piece) (p : forest.Properties) (q : NodeProperties) (c : NodeContext)
-    (r : Option Refusal)
-    (x : State) (s : State) (ss : List State) (e : Memory) → AreWellFormed ts → Suits c s → Fronted e p q front
-    → ((m : Marker) → StartsAt front m q) → IsAlive s ss
+    (r : Option Refusal) (x : State) (s : State) (ss : List State) (e : Memory) → AreWellFormed ts → Suits c s
+    → Fronted e p q front → ((m : Marker) → StartsAt front m q) → IsAlive s ss
     → Turned (NodeThen c s ss) e (front ++ ts) (next_content q c (machine ts r x (s ∷ ss) (noted p.anchor e)))
 unfolding next_content node_content
 next_turned [] front p q c r x s ss e w z h b a = tt
@@ -256,7 +248,7 @@ both_front text g v t u e (inr k) h =
       shape = (inr (subst IsTagKind (sym k.0) (tag_token_is g), subst IsAnchorKind (sym k.1) tt), refl, refl);
     }
 
--- a tag behind an anchor
+-- a tag after an anchor
 tag_behind : (rr : Result ResolvedTag Refusal) (text handle suffix : List ℕ) (t : Piece) (sp : Span) (c : NodeContext)
     (us : List Piece) (r : Option Refusal) (x : State) (s : State) (ss : List State) (e : Memory)
     → t.kind ≡ tokens.Anchor (encode_utf8_all text) → resolved_tag_at e.prefixes handle suffix t.span.start ≡ rr
@@ -289,9 +281,8 @@ behind_anchor_turned k sp text t c us r x s ss e h wk w z a =
 
 anchored_turned : (ts : List Piece) (text : List ℕ) (t : Piece) (c : NodeContext) (r : Option Refusal) (x : State)
     (s : State) (ss : List State) (e : Memory) → t.kind ≡ tokens.Anchor (encode_utf8_all text) → AreWellFormed ts
-    → Suits c s → IsAlive s ss
-    → Turned (NodeThen c s ss) e (t ∷ ts) (node_behind_anchor (encode_utf8_all text) t.span c
-    (machine ts r x (s ∷ ss) e))
+    → Suits c s → IsAlive s ss → Turned (NodeThen c s ss) e (t ∷ ts)
+    (node_behind_anchor (encode_utf8_all text) t.span c (machine ts r x (s ∷ ss) e))
 unfolding node_behind_anchor
 anchored_turned [] text t c r x s ss e h w z a = tt
 anchored_turned (u ∷ us) text t c r x s ss e h w z a =

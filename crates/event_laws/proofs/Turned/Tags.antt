@@ -91,9 +91,8 @@ pub secondary_bytes : handle_bytes Secondary ≡ codes "!!"
 unfolding encode
 secondary_bytes = refl
 
-refuses : (place : Marker) (handle prefix : List ℕ) → bytes_eq handle (codes "!!") ≡ false → is_named_handle handle ≡
-    true
-    → undeclared_prefix handle place ≡ Ok prefix → ⊥
+refuses : (place : Marker) (handle prefix : List ℕ) → bytes_eq handle (codes "!!") ≡ false → is_named_handle handle
+    ≡ true → undeclared_prefix handle place ≡ Ok prefix → ⊥
 refuses place handle prefix a b h =
     let no : undeclared_prefix handle place ≡ Err (record { text = fault.UndeclaredHandle; mark = place }) =
     rw (a, b) refl in cc

@@ -12,7 +12,7 @@ use Rattle.event_laws.specs.Exactly.{kinds}
 use Rattle.saphyr_machine.specs.Steps.Machine.{Machine, Told}
 use Rattle.event_laws.proofs.Told.Telling.{Memory}
 use Rattle.event_laws.proofs.Remembering.{after, event_in}
-use Rattle.event_laws.proofs.Turned.Following.{Then, Exactly, FollowsStates, IsAlive, Starts}
+use Rattle.event_laws.proofs.Turned.Following.{Claim, Then, Exactly, FollowsStates, IsAlive, Starts}
 
 abbrev pub machine : List Piece → Option Refusal → State → List State → Memory → Machine
 machine ts r s ss e = record {
@@ -27,8 +27,8 @@ machine ts r s ss e = record {
 abbrev pub memory : Machine → Memory
 memory m = record { anchors = m.anchors; prefixes = m.prefixes; keep = m.keep_tags }
 
--- A step that tells a part. What may follow it makes, behind the tokens that it used, what might follow before.
-pub record Goes (F : List Kind → List Part → Type 0) (e : Memory) (k : List Piece) (x : Told) : Type 0 where
+-- A step that tells a part. What may follow it makes, after the tokens that it used, what might follow before.
+pub record Goes (F : Claim) (e : Memory) (k : List Piece) (x : Told) : Type 0 where
   pub used : List Piece
   pub part : Part
   pub taken : k ≡ used ++ x.machine.tokens.pieces
@@ -40,12 +40,12 @@ pub record Goes (F : List Kind → List Part → Type 0) (e : Memory) (k : List 
   pub makes : (ks : List Kind) (ps : List Part) → FollowsStates x.machine.state x.machine.states ks ps
       → Starts x.machine.state (kinds x.machine.tokens.pieces) ks → F (kinds used ++ ks) (part ∷ ps)
 
-abbrev pub Turned : (List Kind → List Part → Type 0) → Memory → List Piece → Result Told Refusal → Type 0
+abbrev pub Turned : Claim → Memory → List Piece → Result Told Refusal → Type 0
 Turned F e k (Ok x) = Goes F e k x
 Turned F e k (Err f) = Unit {0}
 
 -- for more lists
-pub weaker : (F G : List Kind → List Part → Type 0) (e : Memory) (k : List Piece) (r : Result Told Refusal)
+pub weaker : (F G : Claim) (e : Memory) (k : List Piece) (r : Result Told Refusal)
     → ((ks : List Kind) (ps : List Part) → F ks ps → G ks ps) → Turned F e k r → Turned G e k r
 weaker F G e k (Ok x) i h =
     record {
@@ -61,10 +61,9 @@ weaker F G e k (Ok x) i h =
     }
 weaker F G e k (Err f) i h = tt
 
--- behind a token that is used too
-pub behind : (t : Piece) (F G : List Kind → List Part → Type 0) (e : Memory) (k : List Piece) (r : Result Told Refusal)
-    → BelongsToNone t.kind → ((ks : List Kind) (ps : List Part) → F ks ps → G (t.kind ∷ ks) ps) → Turned F e k r
-    → Turned G e (t ∷ k) r
+-- after a token that is used too
+pub behind : (t : Piece) (F G : Claim) (e : Memory) (k : List Piece) (r : Result Told Refusal) → BelongsToNone t.kind
+    → ((ks : List Kind) (ps : List Part) → F ks ps → G (t.kind ∷ ks) ps) → Turned F e k r → Turned G e (t ∷ k) r
 behind t F G e k (Ok x) b i h =
     record {
       used = t ∷ h.used;
@@ -86,7 +85,7 @@ kinds_append (t ∷ a) b = ap (λ (l : List Kind). t.kind ∷ l) (kinds_append a
 -- ## Lists with their parts
 
 -- the first two of three in one
-pub regroup : (A B C D : List Kind → List Part → Type 0) (ks : List Kind) (ps : List Part)
+pub regroup : (A B C D : Claim) (ks : List Kind) (ps : List Part)
     → ((a b : List Kind) (p q : List Part) → A a p → B b q → D (a ++ b) (p ++ q)) → Then A (Then B C) ks ps
     → Then D C ks ps
 regroup A B C D ks ps join h =
@@ -105,7 +104,7 @@ regroup A B C D ks ps join h =
     }
 
 -- other lists in front
-pub replace : (A B D : List Kind → List Part → Type 0) (u : List Kind) (w : List Part) (ks : List Kind) (ps : List Part)
+pub replace : (A B D : Claim) (u : List Kind) (w : List Part) (ks : List Kind) (ps : List Part)
     → ((a : List Kind) (p : List Part) → A a p → D (u ++ a) (w ++ p)) → Then A B ks ps → Then D B (u ++ ks) (w ++ ps)
 replace A B D u w ks ps join h = record {
   front = u ++ h.front;
@@ -118,8 +117,8 @@ replace A B D u w ks ps join h = record {
   parts_are = ap (λ (l : List Part). w ++ l) h.parts_are ∙ sym (append_assoc w h.first h.second);
 }
 
--- these lists in front of all
-pub put : (A R : List Kind → List Part → Type 0) (u : List Kind) (w : List Part) (ks : List Kind) (ps : List Part)
+-- these lists before all
+pub put : (A R : Claim) (u : List Kind) (w : List Part) (ks : List Kind) (ps : List Part)
     → A u w → R ks ps → Then A R (u ++ ks) (w ++ ps)
 put A R u w ks ps a r = record {
   front = u;
@@ -132,12 +131,22 @@ put A R u w ks ps a r = record {
   parts_are = refl;
 }
 
+-- the first two of three in one, with these lists in front
+pub join_behind : (A B C D : Claim) (u : List Kind) (w : List Part) (ks : List Kind) (ps : List Part)
+    → ((a b : List Kind) (p q : List Part) → A a p → B b q → D (u ++ (a ++ b)) (w ++ (p ++ q)))
+    → Then A (Then B C) ks ps → Then D C (u ++ ks) (w ++ ps)
+join_behind A B C D u w ks ps join h =
+    replace (λ a p. D (u ++ a) (w ++ p)) C D u w ks ps (λ a p x. x)
+    (regroup A B C (λ a p. D (u ++ a) (w ++ p)) ks ps join h)
+
+pub both_parts : {a b p q : List Part} → p ≡ a → q ≡ b → p ++ q ≡ a ++ b
+both_parts {a = a} {q = q} e f = ap (λ (l : List Part). l ++ q) e ∙ ap (λ (l : List Part). a ++ l) f
+
 -- between an opening and a closing
-pub around : (A R D : List Kind → List Part → Type 0) (u close : List Kind) (opening closing : Part) (ks : List Kind)
+pub around : (A R D : Claim) (u close : List Kind) (opening closing : Part) (ks : List Kind)
     (ps : List Part) → ((a : List Kind) (p : List Part) → A a p → D (u ++ (a ++ close)) (opening ∷ (p ++ closing ∷ [])))
     → Then A (Then (Exactly close (closing ∷ [])) R) ks ps → Then D R (u ++ ks) (opening ∷ ps)
 around A R D u close opening closing ks ps join h =
-    replace (λ a p. D (u ++ a) (opening ∷ p)) R D u (opening ∷ []) ks ps (λ a p x. x)
-    (regroup A (Exactly close (closing ∷ [])) R (λ a p. D (u ++ a) (opening ∷ p)) ks ps
+    join_behind A (Exactly close (closing ∷ [])) R D u (opening ∷ []) ks ps
     (λ a b p q x y. subst (λ (l : List Kind). D (u ++ (a ++ l)) (opening ∷ (p ++ q))) (sym y.0)
-    (subst (λ (l : List Part). D (u ++ (a ++ close)) (opening ∷ (p ++ l))) (sym y.1) (join a p x))) h)
+    (subst (λ (l : List Part). D (u ++ (a ++ close)) (opening ∷ (p ++ l))) (sym y.1) (join a p x))) h

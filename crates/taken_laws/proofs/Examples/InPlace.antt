@@ -1,4 +1,4 @@
--- A test of tokens each of which may stand where it does.
+-- A test of tokens each of which may be where it is.
 use Rattle.std.proofs.Common.{◌≡◌, Bool, true, List, [], ◌∷◌}
 use Rattle.std.specs.Prelude.{◌&&◌}
 use Rattle.std.proofs.lemmas.Bool.{and_parts}

@@ -15,7 +15,7 @@ use Rattle.taken_laws.proofs.Examples.TokenTexts.{span_from_to, TokenText, no_to
 use Rattle.taken_laws.proofs.Examples.TokenTexts.{stream_start_taken, stream_end_taken, mapping_start_taken, last_block_end_taken, key_taken, colon_taken}
 use Rattle.taken_laws.proofs.Examples.TokenTexts.{plain_taken, document_start_taken, letter_a, char, feed}
 
--- a header with nothing behind its indicators
+-- a header with nothing after its indicators
 header : (n : ℕ) (chomping : Chomping) (behind : List ℕ) (mark : ℕ) (indicators : List ℕ)
     → AreIndicators n chomping indicators → EndsHeader behind (codes "\n")
     → IsHeaderLine n chomping behind (mark ∷ (indicators ++ codes "\n"))

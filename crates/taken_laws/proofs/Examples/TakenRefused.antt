@@ -15,19 +15,16 @@ use Rattle.taken_laws.specs.Examples.TakenTexts.{marker_at}
 
 -- ## Nothing but blanks, breaks and comments is passed over
 
-still :
-    (m : Marker) (t : List ℕ) (n : Marker) (u : List ℕ) → IsPassedOver m t n u → IsFalse (is_blank (slice_index t 0))
-    → IsFalse (is_break (slice_index t 0)) → slice_index t 0 ≢ number_sign
+still : (m : Marker) (t : List ℕ) (n : Marker) (u : List ℕ) → IsPassedOver m t n u
+    → IsFalse (is_blank (slice_index t 0)) → IsFalse (is_break (slice_index t 0)) → slice_index t 0 ≢ number_sign
     → (n ≡ m) × (u ≡ t)
 still m t _ _ (nothing _ _) x y z = (refl, refl)
 still m _ n u (blank _ c t _ _ h s) x y z = cc
 still m t n u (line_break _ _ _ _ h s) x y z = cc
 still m _ n u (comment _ words t _ _ h g s) x y z = absurd (z refl)
 
-refusal_stays :
-    (m : Marker) (t : List ℕ) (n : Marker) (u : List ℕ) (c : ℕ) (cs : List ℕ) → IsPassedOver m t n u → t ≡ c ∷ cs
-    → is_blank c ≡ false → is_break c ≡ false → c ≢ number_sign
-    → (n ≡ m) × (u ≡ c ∷ cs)
+refusal_stays : (m : Marker) (t : List ℕ) (n : Marker) (u : List ℕ) (c : ℕ) (cs : List ℕ) → IsPassedOver m t n u
+    → t ≡ c ∷ cs → is_blank c ≡ false → is_break c ≡ false → c ≢ number_sign → (n ≡ m) × (u ≡ c ∷ cs)
 refusal_stays m t n u c cs s e x y z =
     let f : slice_index t 0 ≡ c = ap (λ v. slice_index v 0) e in
     let r = still m t n u s (ap (λ v. is_blank v) f ∙ x) (ap (λ v. is_break v) f ∙ y) (λ d. z (sym f ∙ d)) in
@@ -59,8 +56,7 @@ dropped_word_refused (
 
 -- ## `a` with the value `b`
 
-no_value :
-    (piece others front : List ℕ) (last : ℕ) → codes "a" ≡ piece ++ others → piece ≡ front ++ last ∷ []
+no_value : (piece others front : List ℕ) (last : ℕ) → codes "a" ≡ piece ++ others → piece ≡ front ++ last ∷ []
     → encode_utf8_all (plain_value (normalized piece)) ≡ codes "b" → ⊥
 unfolding encode
 no_value [] others [] last e f g = cc
@@ -81,7 +77,7 @@ other_value_refused (end, (here, behind, apart, (x, y, is), (h, b, a, scalar, re
     let r = scalar.reading in
     no_value r.piece (r.white ++ b.rest) r.front r.last (sym second ∙ r.is) r.closes r.value
 
--- ## `[]` with a bracket whose span starts behind it
+-- ## `[]` with a bracket whose span starts after it
 
 pub other_start_refused : AreTakenFrom (codes "[]") texts.other_start → ⊥
 other_start_refused (end, (here, behind, apart, (x, y, is), (h, b, a, (c, start, o), rest)), place, fin) =
@@ -91,7 +87,7 @@ other_start_refused (end, (here, behind, apart, (x, y, is), (h, b, a, (c, start,
     let z : 1 ≡ 0 = ap (λ v. v.index) same in
     omega (arith, z)
 
--- ## A place behind the text
+-- ## A place after the text
 
 pub place_behind : IsPlaceOf (codes "a") (marker_at 2 1 2) → ⊥
 place_behind (s, r, p, h) = omega arith

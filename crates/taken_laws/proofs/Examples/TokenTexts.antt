@@ -1,4 +1,4 @@
--- Tokens of small texts, a piece for each: what stands before a token, and the token with what stands behind it.
+-- Tokens of small texts, a piece for each: what comes before a token, and the token with what comes after it.
 use Rattle.std.proofs.Common.{◌≡◌, ℕ, ◌+◌, ◌<◌, ◌≤◌, Bool, true, false, List, [], ◌∷◌, ◌++◌, length, slice_index, None}
 use Rattle.std.proofs.Common.{inl, inr, refl, sym, arith, codes, ap, IsTrue, IsFalse}
 use Rattle.std.specs.Prelude.{encode_utf8_all}
@@ -44,7 +44,7 @@ span_from_to start end = record { start = start; end = end }
 
 -- ## Tokens in a row
 
--- from m, where t stands, to n, where u stands
+-- from m, where t is, to n, where u is
 pub record Tokens (opened : Collections) (ps : List Piece) (m : Marker) (t : List ℕ) (n : Marker) (u : List ℕ) :
     Type 0 where
   pub holds : AreTokens opened ps (cursor_here t m) (cursor_here u n)
@@ -56,10 +56,9 @@ pub record TokenText (at : Surroundings) (kind : Kind) (span : Span) (m : Marker
 pub no_token : {opened : Collections} {m : Marker} {t : List ℕ} → Tokens opened [] m t m t
 no_token = record { holds = refl }
 
--- behind what is passed over
+-- after what is passed over
 pub behind : {opened : Collections} {t v w u : List ℕ} {p : Piece} {ps : List Piece} {m a b n : Marker}
-    → IsPassedOver m t a v
-    → TokenText (surroundings_in opened) p.kind p.span a v b w
+    → IsPassedOver m t a v → TokenText (surroundings_in opened) p.kind p.span a v b w
     → Tokens (open_behind p.kind p.span opened) ps b w n u → Tokens opened (p ∷ ps) m t n u
 behind {v = v} {w} {a = a} {b} o h r = record { holds = (cursor_here v a, cursor_here w b, o, h.holds, r.holds) }
 
@@ -93,7 +92,7 @@ stream_start_taken = record { holds = (refl, inl refl, refl) }
 pub stream_end_taken : {at : Surroundings} {m : Marker} → TokenText at tokens.StreamEnd (span_from_to m m) m [] m []
 stream_end_taken = record { holds = (refl, (refl, inl refl, refl)) }
 
--- behind a last line that no break ends
+-- after a last line that no break ends
 pub stream_end_behind_taken : {at : Surroundings} {m : Marker}
     → TokenText at tokens.StreamEnd (span_from_to (next_line m 0) (next_line m 0)) m [] m []
 stream_end_behind_taken = record { holds = (refl, (refl, inr (refl, refl), refl)) }
@@ -106,7 +105,7 @@ pub mapping_start_taken : {at : Surroundings} {m : Marker} {t : List ℕ} → Is
     → at.indent ≤ m.col → TokenText at tokens.BlockMappingStart (span_from_to m m) m t m t
 mapping_start_taken b r = record { holds = (refl, refl, refl, b, r) }
 
--- before what stands left of the collection
+-- before what is left of the collection
 pub block_end_taken : {at : Surroundings} {m : Marker} {t : List ℕ} → IsTrue (begins_text (slice_index t 0))
     → m.col + 1 < at.indent → TokenText at tokens.BlockEnd (span_from_to m m) m t m t
 block_end_taken b l = record { holds = ((refl, inl refl, refl), b, inl l) }
@@ -126,7 +125,7 @@ key_taken b c = record { holds = inr (refl, refl, refl, b, c) }
 
 -- ## Indicators
 
--- n characters of blanks and a comment stand first
+-- n characters of blanks and a comment come first
 pub record Tail (t : List ℕ) (n : ℕ) : Type 0 where
   pub holds : (tail behind : List ℕ) × IsLineTail tail × (t ≡ tail ++ behind) × (length tail ≡ n)
 
@@ -155,8 +154,7 @@ indicator_taken : (c n : ℕ) (m : Marker) (t : List ℕ) → Tail t n
 indicator_taken c n m t h = ((refl, refl), refl, lies (along m 1) h)
 
 pub open_bracket_taken : {at : Surroundings} {n : ℕ} {m : Marker} {t : List ℕ} → Tail t n
-    → TokenText at tokens.FlowSequenceStart (span_from_to m (along (along m 1) n)) m (left_bracket ∷ t) (along m 1)
-    t
+    → TokenText at tokens.FlowSequenceStart (span_from_to m (along (along m 1) n)) m (left_bracket ∷ t) (along m 1) t
 open_bracket_taken {n = n} {m} {t} h = record { holds = indicator_taken 91 n m t h }
 
 pub close_bracket_taken : {at : Surroundings} {n : ℕ} {m : Marker} {t : List ℕ} → Tail t n
@@ -187,7 +185,7 @@ pub colon_taken : {at : Surroundings} {m : Marker} {others : List ℕ}
     → TokenText at tokens.Value (span_from_to m m) m (colon ∷ others) (along m 1) others
 colon_taken b = record { holds = ((refl, refl), (λ _. b), refl, refl, λ _. inr (rw b refl)) }
 
--- inside flow a colon behind what ends like JSON
+-- inside flow a colon after what ends like JSON
 pub json_colon_taken : {at : Surroundings} {m : Marker} {others : List ℕ} → at.in_flow ≡ true → at.ends_json ≡ true
     → TokenText at tokens.Value (span_from_to m m) m (colon ∷ others) (along m 1) others
 json_colon_taken flows json =
@@ -214,7 +212,7 @@ alias_taken {m = m} {bytes} {t} c h e n = record { holds = name_taken 42 c bytes
 
 -- ## Scalars
 
--- behind three characters
+-- after three characters
 abbrev pub third : Marker → Marker
 third m = along (along (along m 1) 1) 1
 
@@ -255,7 +253,7 @@ pub double_quoted_taken : {at : Surroundings} {n : ℕ} {bytes t : List ℕ} {m 
 double_quoted_taken {at = at} {n} {bytes} {t} {m} c h s b e =
     record { holds = in_quotes_taken Double at.indent c n bytes m t h s b refl refl e }
 
--- a character that may stand alone as a plain scalar
+-- a character that may be alone as a plain scalar
 pub record IsLetter (c : ℕ) : Type 0 where
   pub begins : IsTrue (may_begin_plain c)
   pub is_ink : IsFalse (is_blank_or_break c)
@@ -265,57 +263,36 @@ pub record IsLetter (c : ℕ) : Type 0 where
   pub above : 65 ≤ c
   pub below : c < 128
 
-pub letter_a : IsLetter 97
-letter_a = record {
-  begins = refl;
-  is_ink = refl;
-  no_indicator = refl;
-  no_block_scalar = refl;
-  no_flow = refl;
-  above = omega arith;
-  below = omega arith;
+letter : (c : ℕ) → IsTrue (may_begin_plain c) → IsFalse (is_blank_or_break c) → IsFalse (is_one_of (codes "-?:") c)
+    → IsFalse (is_one_of (codes "|>") c) → IsFalse (is_flow c) → (65 ≤ c) × (c < 128) → IsLetter c
+letter c begins is_ink no_indicator no_block_scalar no_flow between = record {
+  begins = begins;
+  is_ink = is_ink;
+  no_indicator = no_indicator;
+  no_block_scalar = no_block_scalar;
+  no_flow = no_flow;
+  above = between.0;
+  below = between.1;
 }
+
+pub letter_a : IsLetter 97
+letter_a = letter 97 refl refl refl refl refl (omega arith, omega arith)
 
 pub letter_b : IsLetter 98
-letter_b = record {
-  begins = refl;
-  is_ink = refl;
-  no_indicator = refl;
-  no_block_scalar = refl;
-  no_flow = refl;
-  above = omega arith;
-  below = omega arith;
-}
+letter_b = letter 98 refl refl refl refl refl (omega arith, omega arith)
 
 pub letter_c : IsLetter 99
-letter_c = record {
-  begins = refl;
-  is_ink = refl;
-  no_indicator = refl;
-  no_block_scalar = refl;
-  no_flow = refl;
-  above = omega arith;
-  below = omega arith;
-}
+letter_c = letter 99 refl refl refl refl refl (omega arith, omega arith)
 
 pub letter_v : IsLetter 118
-letter_v = record {
-  begins = refl;
-  is_ink = refl;
-  no_indicator = refl;
-  no_block_scalar = refl;
-  no_flow = refl;
-  above = omega arith;
-  below = omega arith;
-}
+letter_v = letter 118 refl refl refl refl refl (omega arith, omega arith)
 
 absent : (a : Bool) → a ≡ false → IsTrue a → (P : Type 0) → P
 absent a e h P = absurd (let f : false ≡ true = rw e at h in cc)
 
 pub plain_taken : {at : Surroundings} {c : ℕ} {m : Marker} {bytes t : List ℕ} → IsLetter c
-    → IsFalse (is_document_indicator (c ∷ t))
-    → IsTrue (ends_piece (slice_index t 0)) → encode_utf8_all (plain_value (normalized (c ∷ []))) ≡ bytes
-    → end_of_text m (c ∷ []) ≡ along m 1
+    → IsFalse (is_document_indicator (c ∷ t)) → IsTrue (ends_piece (slice_index t 0))
+    → encode_utf8_all (plain_value (normalized (c ∷ []))) ≡ bytes → end_of_text m (c ∷ []) ≡ along m 1
     → TokenText at (tokens.Scalar Plain bytes) (span_from_to m (along m 1)) m (c ∷ t) (along m 1) t
 plain_taken {at = at} {c} {t = t} l d f v e = record {
   holds = record {
@@ -384,7 +361,7 @@ byte_order_mark_taken c = record {
   holds = record { is = refl; at_start = c; start = refl; end = refl; goes_on = refl };
 }
 
--- a handle and a prefix, with nothing behind them on their line
+-- a handle and a prefix, with nothing after them on their line
 pub tag_directive_taken : {at : Surroundings} {m : Marker} {front back t : List ℕ} (handle prefix text : List ℕ)
     → IsReadTagDirective handle prefix text → front ≡ encode_utf8_all handle → back ≡ encode_utf8_all prefix → m.col ≡ 0
     → IsTrue (is_breakz (slice_index t 0))

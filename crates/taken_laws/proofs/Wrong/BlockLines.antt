@@ -1,4 +1,4 @@
--- A block scalar whose header is `|` or `>` alone, and which ends at the text's end, has all lines behind it.
+-- A block scalar whose header is `|` or `>` alone, and which ends at the text's end, has all lines after it.
 use Rattle.std.proofs.Common.{◌≡◌, ◌⊎◌, ℕ, zero, suc, ◌+◌, true, List, [], ◌∷◌, ◌++◌, length, refl, sym, ap, ◌∙◌, arith, subst, inl, inr}
 use Rattle.std.specs.Prelude.{slice_index}
 use Rattle.std.proofs.lemmas.List.{append-nil, append_cancel_left}
@@ -87,8 +87,7 @@ empty_by_length (c ∷ cs) e = absurd (omega (arith, e))
 -- the span ends at the text's end
 pub all_inside : (style : BlockStyle) (i : ℕ) (value : List ℕ) (span : Span) (s t : Cursor) (c : ℕ) (body : List ℕ)
     → IsBlockScalarToken style i value span s t → s.rest ≡ c ∷ line_feed ∷ body
-    → span.end.index ≡ s.mark.index + length s.rest
-    → AreInside true body []
+    → span.end.index ≡ s.mark.index + length s.rest → AreInside true body []
 all_inside style i value span s t c body h e end =
     let r = h.reading in
     let count = reached_counted s.mark s.rest t.mark t.rest (passed_reached s.mark s.rest t.mark t.rest h.passes) in

@@ -1,5 +1,5 @@
 -- At another column than its collection's no entry is taken, and no key. No block collection starts at the column of
--- the one around it, and none ends before what stands right of its column.
+-- the one around it, and none ends before what is right of its column.
 use Rattle.std.proofs.Common.{◌≡◌, ℕ, ◌+◌, ◌≤◌, ◌<◌, ◌⊎◌, true, false, List, [], ◌∷◌, length, drop, refl, sym, ap, ◌∙◌, arith, inl, inr}
 use Rattle.std.specs.Prelude.{codes, slice_index}
 use Rattle.saphyr_input.specs.Classes.{is_blank}
@@ -17,7 +17,7 @@ use Rattle.taken_laws.proofs.Wrong.Standing.{tokens_stand, at_index}
 
 -- ## Entries
 
--- at the column of the collection on the line of the span stands the `-`
+-- at the column of the collection on the line of the span is the `-`
 dash_stands : (text : List ℕ) (indent : ℕ) (span : Span) (s t : Cursor) (n : ℕ) → Reaches (start_cursor text) s
     → span.start.index + indent ≡ span.start.col + 1 + n → IsDash indent span s t
     → slice_index (drop n text) 0 ≡ hyphen

@@ -49,7 +49,7 @@ one_space : (i : ℕ) → IsReadLine i (codes " a") → i ≤ 1
 one_space i (inl e) = absurd (let k : false ≡ true = and_true_right (nat_le 2 i) false e in cc)
 one_space i (inr (text, e)) = one_space_before i text e
 
--- ` a#b` behind `|`: the scalar doesn't end before the `#`
+-- ` a#b` after `|`: the scalar doesn't end before the `#`
 pub cut_refused : (before : List ℕ) (indent : ℕ) (value : List ℕ) (span : Span) (s t : Cursor)
     → has_character 124 before ≡ false → Reaches (start_cursor (before ++ codes "|\n a#b\n")) s
     → IsBlockScalarToken block_style.Literal indent value span s t → span.end.index ≡ length before + 4

@@ -1,4 +1,4 @@
--- No scalar is taken of which a later line stands left of its collection.
+-- No scalar is taken of which a later line is left of its collection.
 use Rattle.std.proofs.Common.{◌≡◌, ℕ, ◌<◌, true, false, List, [], ◌∷◌, ◌++◌, length, drop, refl, sym, ap, ◌∙◌, arith, subst, codes}
 use Rattle.std.specs.Prelude.{slice_index}
 use Rattle.saphyr_input.specs.Classes.{is_break, line_feed}
@@ -20,7 +20,7 @@ use Rattle.taken_laws.proofs.Wrong.Standing.{tokens_stand, at_index}
 
 -- ## Plain scalars
 
--- behind a line feed inside a piece a later line stands
+-- after a line feed inside a piece a later line is
 pub line_at : (P : List ℕ → Type 0) (piece behind front line : List ℕ) → piece ++ behind ≡ front ++ line_feed ∷ line
     → length front < length piece → AreLaterLines P piece behind → P line
 line_at P [] behind front line e l h = absurd (omega (arith, l))

@@ -1,4 +1,4 @@
--- Tokens of which one stands out of its place are taken from no text.
+-- Tokens of which one is out of its place are taken from no text.
 use Rattle.std.proofs.Common.{◌≡◌, ℕ, true, false, List}
 use Rattle.saphyr_scanner.specs.TokensTaken.{AreTakenFrom}
 use Rattle.taken_laws.specs.Examples.OutOfPlace as texts

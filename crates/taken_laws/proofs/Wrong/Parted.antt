@@ -1,5 +1,5 @@
 -- A tag or a colon that no blank, break, NUL or end parts from what follows is not taken outside flow, and a colon
--- inside flow only behind what ends like JSON.
+-- inside flow only after what ends like JSON.
 use Rattle.std.proofs.Common.{◌≡◌, ℕ, ◌+◌, ◌⊎◌, Bool, true, false, List, drop, refl, sym, ap, ◌∙◌, arith, inl, inr}
 use Rattle.std.specs.Prelude.{◌||◌, ◌&&◌, codes, slice_index}
 use Rattle.saphyr_input.specs.Classes.{is_blank_or_breakz, is_flow}
@@ -10,7 +10,7 @@ use Rattle.saphyr_scanner.proofs.Taken.Places.{Reaches}
 use Rattle.taken_laws.specs.Examples.TakenTexts as texts
 use Rattle.taken_laws.proofs.Wrong.Standing.{tokens_stand, at_index}
 
--- what may stand behind a tag outside flow
+-- what may come after a tag outside flow
 abbrev ends_tag : List ℕ → Bool
 ends_tag l = is_blank_or_breakz (slice_index l 0) || (false && is_flow (slice_index l 0))
 
@@ -42,7 +42,7 @@ short_key_refused (end, tokens, place, fin) =
     let parted : false ≡ true = sym (ap (λ l. is_blank_or_breakz (slice_index l 0)) rest) ∙ colon.is.1 refl in
     cc
 
--- a colon at one index of a text and what stands behind it
+-- a colon at one index of a text and what comes after it
 colon_parted : (text : List ℕ) (n : ℕ) (m : Marker) (s t : Cursor) → Reaches (start_cursor text) t → m.index ≡ n
     → IsColon true false (record { start = m; end = m }) s t
     → parts_colon (slice_index (drop (n + 1) text) 0) ≡ true

@@ -28,8 +28,7 @@ first_byte c cs (b ∷ bs) ink e = by (is_blank_or_break b) refl
 
 value_begins_as_piece : (piece front others : List ℕ) (last : ℕ) (rest value : List ℕ) → piece ≡ front ++ last ∷ []
     → rest ≡ piece ++ others → is_blank_or_break (slice_index rest 0) ≡ false
-    → encode_utf8_all (plain_value (normalized piece)) ≡ value
-    → is_blank_or_break (slice_index value 0) ≡ false
+    → encode_utf8_all (plain_value (normalized piece)) ≡ value → is_blank_or_break (slice_index value 0) ≡ false
 value_begins_as_piece [] [] others last rest value e is ink v = absurd (cc)
 value_begins_as_piece [] (x ∷ xs) others last rest value e is ink v = absurd (cc)
 value_begins_as_piece (c ∷ cs) front others last rest value e is ink v =

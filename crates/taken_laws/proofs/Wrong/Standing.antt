@@ -1,4 +1,4 @@
--- Each token that is taken from a text stands at a place of it, before an end of the text.
+-- Each token that is taken from a text is at a place of it, before an end of the text.
 use Rattle.std.proofs.Common.{◌≡◌, ◌≢◌, ℕ, Bool, true, false, List, [], ◌∷◌, ◌++◌, length, take, drop, refl, sym, ap, ◌∙◌, arith, append_assoc}
 use Rattle.std.specs.Prelude.{◌||◌, ◌==◌, slice_index}
 use Rattle.std.specs.List.{list_any}
@@ -14,7 +14,7 @@ use Rattle.saphyr_scanner.proofs.Reached.{reached_counted, apart_reached}
 use Rattle.saphyr_scanner.proofs.Taken.Places.{Reaches, reaches_reaches, token_reached}
 use Rattle.std.proofs.lemmas.Bool.{eq-eqb}
 
--- the token stands at a place that is reached from the text's start, where these collections are open
+-- the token is at a place that is reached from the text's start, where these collections are open
 pub record StandsReached (text : List ℕ) (opened : Collections) (p : Piece) : Type 0 where
   pub here : Cursor
   pub behind : Cursor
@@ -47,7 +47,7 @@ pub front_stands : (text : List ℕ) (opened : Collections) (ps qs : List Piece)
 front_stands text opened [] qs h = tt
 front_stands text opened (p ∷ ps) qs h = (h.0, front_stands text (open_behind p.kind p.span opened) ps qs h.1)
 
--- ## What stands at a place is an end of the text
+-- ## What is at a place is an end of the text
 
 pub reached_behind : (m : Marker) (t : List ℕ) (n : Marker) (u : List ℕ) → IsReached m t n u
     → (front : List ℕ) × (t ≡ front ++ u)
@@ -63,7 +63,7 @@ reached_behind _ t n u (taken.line_break m _ _ _ e p) =
           ∙ sym (append_assoc (take (break_len t) t) r.0 u),
     )
 
--- at the text's start all of it stands
+-- at the text's start all of it is
 pub at_origin : (text : List ℕ) (u : Cursor) → Reaches (start_cursor text) u → u.mark.index ≡ 0 → u.rest ≡ text
 at_origin text u r e =
     let b = reached_behind _ text u.mark u.rest r in
@@ -74,7 +74,7 @@ at_origin text u r e =
     by [] h l = sym h
     by (c ∷ cs) h l = absurd (omega (arith, l))
 
--- at an index stands what is behind so many characters
+-- at an index is what is after so many characters
 pub at_index : (text : List ℕ) (u : Cursor) (n : ℕ) → Reaches (start_cursor text) u → u.mark.index ≡ n
     → u.rest ≡ drop n text
 at_index text u n r e =
@@ -87,7 +87,7 @@ at_index text u n r e =
     by [] n l = ap (λ k. drop k u.rest) l
     by (c ∷ cs) n l = ap (λ k. drop k (c ∷ (cs ++ u.rest))) l ∙ by cs (length cs) refl
 
--- ## A character that stands once in a text
+-- ## A character that is once in a text
 
 abbrev pub has_character : ℕ → List ℕ → Bool
 has_character c text = list_any (λ x. x == c) text

@@ -1,4 +1,4 @@
--- Tokens of small texts of which one stands out of its place.
+-- Tokens of small texts of which one is out of its place.
 use Rattle.std.specs.Prelude.{List, [], ◌∷◌, None, codes}
 use Rattle.saphyr_scanner.specs.Grammar.Forest.{Plain}
 use Rattle.saphyr_scanner.specs.Grammar.Tokens as tokens
@@ -12,7 +12,7 @@ stream_of pieces = record { pieces = empty_at (marker_at 0 1 0) tokens.StreamSta
 abbrev pub letter : Piece
 letter = piece_from_to (marker_at 0 1 0) (marker_at 1 1 1) (tokens.Scalar Plain (codes "a"))
 
--- the scalar `a` behind a bracket
+-- the scalar `a` after a bracket
 abbrev pub inner_letter : Piece
 inner_letter = piece_from_to (marker_at 1 1 1) (marker_at 2 1 2) (tokens.Scalar Plain (codes "a"))
 
@@ -23,7 +23,7 @@ key_alone =
     (empty_at (marker_at 0 1 0) tokens.BlockMappingStart ∷ empty_at (marker_at 0 1 0) tokens.Key ∷ letter
     ∷ empty_at (marker_at 1 2 0) tokens.BlockEnd ∷ empty_at (marker_at 1 2 0) tokens.StreamEnd ∷ [])
 
--- `a` LF `: b` as a block mapping whose colon stands on the next line
+-- `a` LF `: b` as a block mapping whose colon is on the next line
 abbrev pub key_on_two_lines : Remaining
 key_on_two_lines =
     stream_of
@@ -38,7 +38,7 @@ key_without_node =
     ∷ piece_from_to (marker_at 0 1 0) (marker_at 2 2 0) tokens.Key ∷ empty_at (marker_at 2 2 0) tokens.Key
     ∷ empty_at (marker_at 2 2 0) tokens.Value ∷ [])
 
--- a block mapping whose colon stands 1,025 characters behind the key's start
+-- a block mapping whose colon is 1,025 characters after the key's start
 abbrev pub long_key : Remaining
 long_key =
     stream_of
@@ -81,14 +81,14 @@ no_pair =
     stream_of
     (empty_at (marker_at 0 1 0) tokens.BlockMappingStart ∷ empty_at (marker_at 0 1 0) tokens.BlockEnd ∷ [])
 
--- `: :` as a block mapping of two entries, of which the second stands right of its column
+-- `: :` as a block mapping of two entries, of which the second is right of its column
 abbrev pub entry_right : Remaining
 entry_right =
     stream_of
     (empty_at (marker_at 0 1 0) tokens.BlockMappingStart ∷ empty_at (marker_at 0 1 0) tokens.Value
     ∷ empty_at (marker_at 2 1 2) tokens.Value ∷ [])
 
--- `? :` as an entry of a block mapping whose colon stands right of its column
+-- `? :` as an entry of a block mapping whose colon is right of its column
 abbrev pub colon_right : Remaining
 colon_right =
     stream_of
@@ -106,14 +106,14 @@ colon_left =
     ∷ piece_from_to (marker_at 4 1 4) (marker_at 5 1 5) (tokens.Scalar Plain (codes "a"))
     ∷ empty_at (marker_at 6 2 0) tokens.Value ∷ [])
 
--- `a` as a mapping in braces that don't stand there
+-- `a` as a mapping in braces that aren't there
 abbrev pub no_braces : Remaining
 no_braces =
     stream_of
     (empty_at (marker_at 0 1 0) tokens.FlowMappingStart ∷ letter ∷ empty_at (marker_at 1 2 0) tokens.FlowMappingEnd
     ∷ empty_at (marker_at 1 2 0) tokens.StreamEnd ∷ [])
 
--- `{a` as a mapping whose second brace doesn't stand there
+-- `{a` as a mapping whose second brace isn't there
 abbrev pub one_brace : Remaining
 one_brace =
     stream_of
@@ -141,7 +141,7 @@ pair_without_end =
     ∷ empty_at (marker_at 2 1 2) tokens.Value
     ∷ piece_from_to (marker_at 3 1 3) (marker_at 4 1 4) tokens.FlowSequenceEnd ∷ [])
 
--- `[a` LF `:]` as a single pair whose colon stands on the next line
+-- `[a` LF `:]` as a single pair whose colon is on the next line
 abbrev pub pair_on_two_lines : Remaining
 pair_on_two_lines =
     in_brackets
