@@ -15,7 +15,7 @@ BeginsBigEndian text = (rest : List ℕ) × (text ≡ 254 ∷ 255 ∷ rest)
 abbrev pub BeginsLittleEndian : List ℕ → Type 0
 BeginsLittleEndian text = (rest : List ℕ) × (text ≡ 255 ∷ 254 ∷ rest)
 
--- in UTF-32 two bytes of 0 stand behind the same two bytes
+-- in UTF-32 two bytes of 0 come after the same two bytes
 abbrev pub BeginsAsUtf32 : List ℕ → Type 0
 BeginsAsUtf32 text = (rest : List ℕ) × (text ≡ 255 ∷ 254 ∷ 0 ∷ 0 ∷ rest)
 

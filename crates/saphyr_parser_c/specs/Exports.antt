@@ -45,7 +45,7 @@ PeeksAt none code c new = TellsNone code c new
 PeeksAt (some old) code c new =
     (inner : Inner) × (s : Status) × (new ≡ some inner) × (code ≡ code_of s) × ShowsToC old s c inner
 
--- where a copy is made, it stands where the parser stands
+-- a copy, if one is made, is at the parser's place
 abbrev pub Copies : Inner → ℤ → Option Inner → Type 0
 Copies old code none = code ≡ code_of status.NoMemory
 Copies old code (some copy) = (code ≡ pos 0) × (copy.parser ≡ old.parser) × (handed copy ≡ None)

@@ -17,7 +17,7 @@ use Rattle.saphyr_parser_c.specs.declared.status.Status.TheVariants as status
 use Rattle.saphyr_parser_c.specs.Encoding.{BeginsAsUtf16}
 use Rattle.saphyr_parser_c.specs.Shown.{TellsC, TellsLent}
 
--- what was handed out last, which stands in the places for an event and for a fault
+-- what was handed out last, which is in the places for an event and for a fault
 abbrev pub handed : Inner → Option (Result (Event × Span) Fault)
 handed inner = item_at inner.next inner.fault inner.progress
 

@@ -1,4 +1,4 @@
--- Faults that tell the same, wherever their texts stand.
+-- Faults that tell the same, wherever their texts are.
 use Rattle.std.specs.Prelude.{◌≡◌, string_bytes}
 use Rattle.saphyr_parser.specs.Types.Fault.{Fault}
 use Rattle.saphyr_parser.specs.Types.Fault.TheVariants as fault

@@ -135,7 +135,7 @@ HasTexts t c = HasText t.value c.value × HasTagTexts t.tag c
 abbrev pub Holds : ToldFields → Marker → Marker → CEvent → Type 0
 Holds t start end c = HasNumbers t start end c × HasTexts t c
 
--- ## Texts that are kept: C is given the very memory in which they stand
+-- ## Texts that are kept: C is given the very memory in which they are
 
 abbrev pub StandsAt : Vec ℕ Global → CText → Type 0
 StandsAt bytes c = (c.at ≡ vec_ptr bytes) × (c.len ≡ vec_len bytes)

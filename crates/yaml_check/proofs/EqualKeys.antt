@@ -20,11 +20,11 @@ Places = List (Key × Marker)
 pub exact_key : CmpEqualImpliesEq key_cmp
 exact_key = exact_pairs (slice_cmp nat_cmp) (slice_cmp nat_cmp) exact_bytes exact_bytes
 
--- where a key stands first
+-- where a key comes first
 abbrev pub place_of : Key → Places → Option Marker
 place_of q ps = lookup (is_at (key_cmp q)) ps
 
--- what is kept of keys that came tells of each where it stands first
+-- what is kept of keys that came tells of each where it comes first
 abbrev pub AreFirst : Places → Places → Type 0
 AreFirst keys ps = (q : Key) → place_of q ps ≡ place_of q keys
 

@@ -11,7 +11,6 @@ pub mod Rules
 pub mod SizesKept
 pub mod SizesPassed
 pub mod SizesStand
-pub mod Stacks
 pub mod StatusLemmas
 pub mod Sums
 pub mod Told

@@ -1,4 +1,4 @@
--- What is found in a list of entries, behind one more of them.
+-- What is found in a list of entries, after one more of them.
 use Rattle.std.proofs.Common.{◌≡◌, List, [], ◌∷◌, ◌++◌, Option, Some, None, refl, sym, ap, subst, cond}
 use Rattle.std.specs.Prelude.{Bool, true, false}
 use Rattle.std.specs.Ordering.{match_ordering, is_eq}

@@ -1,4 +1,4 @@
--- What keys are open behind a node, and behind nodes.
+-- What keys are open after a node, and after nodes.
 use Rattle.std.proofs.Common.{◌≡◌, List, [], ◌∷◌, ◌++◌, refl, ap, ◌∙◌}
 use Rattle.std.specs.Prelude.{true, false}
 use Rattle.saphyr_parser.specs.Words.Span.{Span}
@@ -60,7 +60,7 @@ leaf_outer (Alias id) at k leaf = refl
 leaf_outer (Scalar text style id tag) at k leaf = refl
 leaf_outer _ at k leaf = absurd cc
 
--- a collection is passed, whose nodes leave open what stood round them
+-- a collection is passed, whose nodes leave open what was round them
 closed : (start end : Happening × Span) (inside : Events) (k : KeysOpen) → is_collection start.0 ≡ true
     → ends_collection end.0 ≡ true
     → ((k : KeysOpen) → (keys_all inside k).outer ≡ k.outer)
@@ -85,7 +85,7 @@ mutual
   nodes_outer _ (Beside es e nodes outside) k = ap (λ (j : KeysOpen). j.outer) (keys_all_append es (e ∷ []) k)
       ∙ ap (λ (j : KeysOpen). j.outer) (stays_outside e.0 e.1 (keys_all es k) outside) ∙ nodes_outer es nodes k
 
--- behind a node that is no scalar stands the next node
+-- after a node that is no scalar is the next node
 pub node_passed : (es : Events) → IsNode es → begins_with_scalar es ≡ false → (k : KeysOpen)
     → keys_all es k ≡ with_here (behind_node k.here) k
 node_passed _ (OneEvent (Alias id, at) leaf) other k = refl
@@ -94,7 +94,7 @@ node_passed _ (OneEvent (_, at) leaf) other k = absurd cc
 node_passed _ (Collection start inside end begins nodes ends) other k =
     closed start end inside k begins ends (nodes_outer inside nodes)
 
--- and behind a value, whatever it is
+-- and after a value, whatever it is
 pub value_passed : (es : Events) → IsNode es → (k : KeysOpen) → k.here.next ≡ next.Value
     → keys_all es k ≡ with_here (behind_node k.here) k
 value_passed _ (OneEvent (Alias id, at) leaf) k due = refl

@@ -1,4 +1,4 @@
--- What is open stands among the events: each collection behind its start, with the nodes that came in it.
+-- What is open is among the events: each collection after its start, with the nodes that came in it.
 use Rattle.std.proofs.Common.{◌≡◌, List, [], ◌∷◌, ◌++◌, Option, Some, None, refl, sym, ap, ◌∙◌, subst, append-nil, append_assoc}
 use Rattle.std.specs.Prelude.{true, false}
 use Rattle.saphyr_parser.specs.Words.Marker.{Marker}
@@ -13,7 +13,7 @@ use Rattle.yaml_check.specs.EqualKeys.{IsScalarAt, Due, KeyDue, ValueDue, HaveKe
 use Rattle.yaml_check.proofs.EqualKeys.{AreFirst, Places, first_kept}
 use Rattle.yaml_check.proofs.NodesPassed.{keys_all}
 
--- keys of a mapping came, and of each it is kept where it stands first
+-- keys of a mapping came, and of each it is kept where it comes first
 pub record KeepsKeys (due : Due) (start : Happening) (ps : Places) (inside : Events) : Type 0 where
   pub is_mapping : begins_mapping start ≡ true
   pub keys : Places
@@ -26,7 +26,7 @@ IsLevel next.Entry start ps inside = AreNodes inside
 IsLevel next.Key start ps inside = KeepsKeys KeyDue start ps inside
 IsLevel next.Value start ps inside = KeepsKeys ValueDue start ps inside
 
--- the innermost collection begins among these events, and what it stands in before it; the last stands for the stream
+-- the innermost collection begins among these events, and what it is in before it; the last stands for the stream
 abbrev pub StandsIn : List KeyLevel → KeyLevel → Events → Type 0
 StandsIn [] here events = here.next ≡ next.Entry
 StandsIn (l ∷ ls) here events = (front : Events) × (start : Happening × Span) × (inside : Events)
@@ -105,7 +105,7 @@ level_scalar next.Value start ps inside key e scalar is = record {
 
 -- ## One more event
 
--- what is so of the innermost collection, as far as it goes, is so of what stands open
+-- what is so of the innermost collection, as far as it goes, is so of what is open
 inside_more : (ls : List KeyLevel) (here there : KeyLevel) (events more : Events)
     → (here.next ≡ next.Entry → there.next ≡ next.Entry)
     → ((start : Happening) (inside : Events) → IsLevel here.next start here.places inside

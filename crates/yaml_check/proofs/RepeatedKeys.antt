@@ -1,4 +1,4 @@
--- It is told of a key exactly where an equal one stands in its mapping before.
+-- It is told of a key exactly where an equal one is in its mapping before.
 use Rattle.std.proofs.Common.{◌≡◌, ℕ, List, [], ◌∷◌, ◌++◌, Option, Some, None, refl, sym, ap, ◌∙◌, subst, append_assoc}
 use Rattle.std.specs.Prelude.{true, Contains, option_map}
 use Rattle.saphyr_parser.specs.Words.Marker.{Marker}
@@ -76,7 +76,7 @@ told_key k (Scalar text style id tag) place at first told = by (first_of (key_of
     by None is told = absurd cc
 told_key k _ place at first told = absurd cc
 
--- these events end inside a mapping in which a key may come, and a key stands first at this place
+-- these events end inside a mapping in which a key may come, and a key comes first at this place
 pub record IsInMapping (events : Events) (key : Key) (first : Marker) : Type 0 where
   pub front : Events
   pub mapping : Happening × Span
@@ -154,7 +154,7 @@ abbrev pub next_of : Due → Next
 next_of KeyDue = next.Key
 next_of ValueDue = next.Value
 
--- what is kept behind the start of a mapping and these entries
+-- what is kept after the start of a mapping and these entries
 pub record HasRead (due : Due) (keys : Places) (l : KeyLevel) : Type 0 where
   pub is_due : l.next ≡ next_of due
   pub are : AreFirst keys l.places

@@ -25,7 +25,7 @@ pub record Keeps (front inside : Events) (size : Size) : Type 0 where
   pub is_kept : size.nodes ≡ kept count
 
 -- The innermost collection begins among these events with this anchor, and what came in it stands for what is kept. So
--- it is with those that it stands in. The last stands for the stream.
+-- it is with those that it is in. The last stands for the stream.
 abbrev pub SizesIn : List Size → Size → Events → Type 0
 SizesIn [] here events = (count : NodeCount) × (here.nodes ≡ kept count)
 SizesIn (size ∷ sizes) here events = (front : Events) × (start : Happening × Span) × (inside : Events)

@@ -1,4 +1,4 @@
--- What sizes are open behind nodes, and which node an event ends.
+-- What sizes are open after nodes, and which node an event ends.
 use Rattle.std.proofs.Common.{◌≡◌, ℕ, List, [], ◌∷◌, ◌++◌, Some, refl, sym, ap, ◌∙◌, subst, append_assoc}
 use Rattle.std.specs.Prelude.{true}
 use Rattle.saphyr_parser.specs.Words.Span.{Span}

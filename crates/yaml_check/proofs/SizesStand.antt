@@ -1,4 +1,4 @@
--- Behind each event the sizes that are kept are those of the nodes that came.
+-- After each event the sizes that are kept are those of the nodes that came.
 use Rattle.std.proofs.Common.{◌≡◌, ℕ, List, [], ◌∷◌, ◌++◌, Some, None, refl, sym, ap, ◌∙◌, subst, append-nil, append_assoc}
 use Rattle.std.specs.Prelude.{true, false}
 use Rattle.saphyr_parser.specs.Words.Span.{Span}

@@ -1,4 +1,4 @@
--- What is told of events is told of one of them, behind what was seen of those before it.
+-- What is told of events is told of one of them, after what was seen of those before it.
 use Rattle.std.proofs.Common.{◌≡◌, ℕ, ◌<◌, List, [], ◌∷◌, ◌++◌, Option, Some, None, refl, sym, ap, subst, inl, inr, arith}
 use Rattle.std.specs.Prelude.{◌⊎◌, zero, suc, Contains, option_to_list, slice_index_or}
 use Rattle.std.proofs.lemmas.List.Elements.{Contains-append_left, Contains-append_right, Contains-append_cases}

@@ -1,4 +1,4 @@
--- One more warning is told behind those that were.
+-- One more warning is told after those that were.
 use Rattle.std.proofs.Common.{ℕ, ◌+◌, ◌<◌, List, [], ◌∷◌, ◌++◌, length, take, get_or, refl, sym, subst}
 use Rattle.std.proofs.lemmas.List.{take_more}
 use Rattle.yaml_check.specs.declared.finding.Finding.{Finding}

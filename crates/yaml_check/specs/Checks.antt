@@ -76,7 +76,7 @@ abbrev pub JudgesBytes : Result Verdict CheckFault → List ℕ → Options → 
 JudgesBytes r name options bytes old new =
     (IsUtf8 bytes × Judges r name options bytes old new) ⊎ ((¬ IsUtf8 bytes) × IsNeverRight r)
 
--- What a check of a source answers: the bytes that it has left, and those that the writer holds, before and behind.
+-- What a check of a source answers: the bytes that it has left, and those that the writer holds, before and after.
 -- Where the source can't be read, nothing is written.
 abbrev pub Checks : Result Verdict CheckFault → List ℕ → Options → Option (List ℕ) → Option (List ℕ)
     → Option (List ℕ) → Option (List ℕ) → Type 0

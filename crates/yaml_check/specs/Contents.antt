@@ -6,11 +6,11 @@ use Rattle.saphyr_parser.specs.Events.{Happening, DocumentStart, Scalar}
 use Rattle.yaml_check.specs.declared.finding.Finding.{Finding}
 use Rattle.yaml_check.specs.declared.finding.Warning.TheVariants as warning
 
--- outside documents, and behind the first event of one
+-- outside documents, and after the first event of one
 abbrev pub no_document : Option Marker
 no_document = None
 
--- where a document begins, right behind its start
+-- where a document begins, right after its start
 abbrev pub begun_behind : Happening → Marker → Option Marker
 begun_behind (DocumentStart explicit) place = Some place
 begun_behind _ place = None

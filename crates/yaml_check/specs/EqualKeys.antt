@@ -1,4 +1,4 @@
--- Keys that stand twice in a mapping.
+-- Keys that are twice in a mapping.
 use Rattle.std.specs.Prelude.{◌≡◌, ℕ, true, false, List, [], ◌∷◌, ◌++◌, Option}
 use Rattle.saphyr_parser.specs.Words.Marker.{Marker}
 use Rattle.saphyr_parser.specs.Words.Span.{Span}
@@ -22,7 +22,7 @@ pub data Due : Type 0 where
   KeyDue : Due
   ValueDue : Due
 
--- These events stand behind the start of a mapping, keys and values in turn. Those of its keys that are scalars are
+-- These events come after the start of a mapping, keys and values in turn. Those of its keys that are scalars are
 -- these, in their order, each with its place.
 pub data HaveKeys : Due → List (Key × Marker) → Events → Type 0 where
   NoEntry : HaveKeys KeyDue [] []
@@ -41,7 +41,7 @@ abbrev pub IsNoneOf : Key → List (Key × Marker) → Type 0
 IsNoneOf key [] = Unit {0}
 IsNoneOf key (k ∷ ks) = (¬ (k.0 ≡ key)) × IsNoneOf key ks
 
--- Of these keys the first that is equal to this one stands here.
+-- Of these keys the first that is equal to this one is here.
 pub record IsFirstOf (keys : List (Key × Marker)) (key : Key) (first : Marker) : Type 0 where
   pub before : List (Key × Marker)
   pub behind : List (Key × Marker)

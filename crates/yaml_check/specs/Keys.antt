@@ -1,4 +1,4 @@
--- The keys of the mappings that are open, and which of them stand twice.
+-- The keys of the mappings that are open, and which of them are twice.
 use Rattle.std.specs.Prelude.{ℕ, List, [], ◌∷◌, ◌++◌, Option, Some, None, option_map, string_bytes, String}
 use Rattle.std.specs.Ordering.{ordering_then, nat_cmp}
 use Rattle.std.specs.declared.cmp.Ordering.{Ordering}
@@ -30,7 +30,7 @@ key_bytes key = (string_bytes key.0, string_bytes key.1)
 abbrev pub key_cmp : Key → Key → Ordering
 key_cmp k q = ordering_then (slice_cmp nat_cmp k.0 q.0) (slice_cmp nat_cmp k.1 q.1)
 
--- What the next node is in a collection, and where each key stands first that it has so far.
+-- What the next node is in a collection, and where each key comes first that it has so far.
 pub record KeyLevel : Type 0 where
   pub next : Next
   pub places : List (Key × Marker)
@@ -46,7 +46,7 @@ next_behind next.Value = next.Key
 abbrev pub behind_node : KeyLevel → KeyLevel
 behind_node l = record { next = next_behind l.next; places = l.places }
 
--- where an equal key stands first, if one does
+-- where an equal key comes first, if one does
 abbrev pub first_place : Key → KeyLevel → Option Marker
 first_place key l = lookup (is_at (key_cmp key)) l.places
 
@@ -57,7 +57,7 @@ keep_first None key place l = record { next = l.next; places = insert_entry key_
 abbrev pub with_first_place : Key → Marker → KeyLevel → KeyLevel
 with_first_place key place l = keep_first (first_place key l) key place l
 
--- of a scalar that is a key: where an equal key stands first in its mapping, if one does
+-- of a scalar that is a key: where an equal key comes first in its mapping, if one does
 abbrev pub first_if : Next → Key → KeyLevel → Option Marker
 first_if next.Key key l = first_place key l
 first_if _ key l = None
@@ -72,7 +72,7 @@ with_key_if _ key place l = l
 abbrev pub behind_scalar : Key → Marker → KeyLevel → KeyLevel
 behind_scalar key place l = behind_node (with_key_if l.next key place l)
 
--- The innermost collection, and what it stands in, the innermost first. The last stands for the stream.
+-- The innermost collection, and what it is in, the innermost first. The last stands for the stream.
 pub record KeysOpen : Type 0 where
   pub here : KeyLevel
   pub outer : List KeyLevel

@@ -26,7 +26,7 @@ pub record IsEmptyDocument (events : List (Happening × Span)) (place : Marker) 
   pub split : events ≡ front ++ ((DocumentStart explicit, start) ∷ ((empty_scalar, root) ∷ back))
   pub begins : start.start ≡ place
 
--- A node begins here, behind so many others. An alias is a node, and so is one that is left out.
+-- A node begins here, after so many others. An alias is a node, and so is one that is left out.
 pub record IsNodeBehind (events : List (Happening × Span)) (count : ℕ) (place : Marker) : Type 0 where
   pub front : List (Happening × Span)
   pub node : Happening × Span
@@ -36,7 +36,7 @@ pub record IsNodeBehind (events : List (Happening × Span)) (count : ℕ) (place
   pub before : count_by (λ e. is_node e.0) front ≡ count
   pub begins : node.1.start ≡ place
 
--- how many collections are open behind an event, and behind events
+-- how many collections are open after an event, and after events
 abbrev pub collections_behind : Happening → ℕ → ℕ
 collections_behind what n = if ends_collection what then n - 1 else (if is_collection what then n + 1 else n)
 

@@ -26,7 +26,7 @@ ends_collection SequenceEnd = true
 ends_collection MappingEnd = true
 ends_collection _ = false
 
--- no part of a node: what the stream and documents begin and end with, which stands inside no collection
+-- no part of a node: what the stream and documents begin and end with, which is inside no collection
 abbrev pub is_outside : Happening → Bool
 is_outside Nothing = true
 is_outside StreamStart = true
@@ -42,7 +42,7 @@ mutual
     Collection : (start : Happening × Span) (inside : Events) (end : Happening × Span) → is_collection start.0 ≡ true
         → AreNodes inside → ends_collection end.0 ≡ true → IsNode (start ∷ (inside ++ end ∷ []))
 
-  -- These events are nodes, one behind the other.
+  -- These events are nodes, one after the other.
   pub data AreNodes : Events → Type 0 where
     NoNode : AreNodes []
     OneMore : (es node : Events) → AreNodes es → IsNode node → AreNodes (es ++ node)

@@ -9,7 +9,7 @@ use Rattle.yaml_check.specs.Texts.{error_line, name_and_place, warning_line}
 use Rattle.yaml_check.specs.Shown.{place_index}
 use Rattle.yaml_check.specs.Views.{IsView, excerpt}
 
--- One thing is told behind what was: its place, a line of text, and the line of the place with a caret.
+-- One thing is told after what was: its place, a line of text, and the line of the place with a caret.
 pub record AddsReport (name text : List ℕ) (place : Marker) (line old new : List ℕ) : Type 0 where
   pub view : View
   pub is_view : IsView text (place_index text place.index) place.col view
@@ -26,7 +26,7 @@ abbrev pub AddsFault : List ℕ → List ℕ → Option ScanError → List ℕ �
 AddsFault name text None old new = new ≡ old
 AddsFault name text (Some e) old new = AddsReport name text e.mark (error_line (string_bytes e.info)) old new
 
--- the warnings in their order, and the fault behind them
+-- the warnings in their order, and the fault after them
 abbrev pub IsReport : List ℕ → List ℕ → Findings → List ℕ → Type 0
 IsReport name text found bytes =
     (middle : List ℕ) × AddsWarnings name text found.warnings.items [] middle

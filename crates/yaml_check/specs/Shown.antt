@@ -40,10 +40,10 @@ visible_one c = if is_hidden c then escaped c else encode_utf8 c
 abbrev pub visible : List ℕ → List ℕ
 visible cs = flat_map visible_one cs
 
--- what stands in place of what is cut off
+-- what is in place of what is cut off
 abbrev pub cut : Bool → List ℕ
 cut is_cut = if is_cut then codes "..." else []
 
--- a place behind the end is the end
+-- a place after the end is the end
 abbrev pub place_index : List ℕ → ℕ → ℕ
 place_index text index = min index (length text)

@@ -20,7 +20,7 @@ no_end = 2 ^ 64 - 1
 abbrev pub add : ℕ → ℕ → ℕ
 add m n = min (m + n) no_end
 
--- The innermost collection with its anchor and its nodes so far, those that it stands in, the innermost first, and the
+-- The innermost collection with its anchor and its nodes so far, those that it is in, the innermost first, and the
 -- sizes of the nodes with anchors that have ended.
 pub record SizesOpen : Type 0 where
   pub here : Size
@@ -41,7 +41,7 @@ no_sizes = record { here = new_size 0; outer = []; known = [] }
 abbrev pub size_at : ℕ → SizesOpen → ℕ
 size_at id s = unwrap_or (lookup (is_at (nat_cmp id)) s.known) no_end
 
--- so many more nodes stand in the innermost collection
+-- so many more nodes are in the innermost collection
 abbrev pub more_nodes : ℕ → Size → Size
 more_nodes n size = record { anchor = size.anchor; nodes = add size.nodes n }
 

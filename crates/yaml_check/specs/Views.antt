@@ -3,12 +3,12 @@ use Rattle.std.specs.Prelude.{◌≡◌, ℕ, ◌+◌, ◌-◌, ◌≤◌, min, 
 use Rattle.yaml_check.specs.declared.view.View.{View}
 use Rattle.yaml_check.specs.Shown.{shown_columns, cut, line_goes_on, visible, StaysOnLine}
 
--- the characters of a line that stand before a place in this column
+-- the characters of a line that come before a place in this column
 abbrev pub front_of : List ℕ → ℕ → ℕ → List ℕ
 front_of text at col = slice_range text (at - min col at) at
 
--- What is shown round a place. Of what stands before it on its line the end is shown, and of what stands behind it the
--- beginning, up to a break at most. In all that takes 200 columns at most, and the caret stands under the place.
+-- What is shown round a place. Of what comes before it on its line the end is shown, and of what comes after it the
+-- beginning, up to a break at most. In all that takes 200 columns at most, and the caret is under the place.
 pub record IsView (text : List ℕ) (at col : ℕ) (v : View) : Type 0 where
   pub left : List ℕ
   pub front : front_of text at col ≡ left ++ v.front.now

@@ -35,7 +35,7 @@ pub record EndsNodeOf (id : ℕ) (events : Events) : Type 0 where
   pub anchored : anchor_of_node node ≡ Some id
 
 mutual
-  -- Behind the first events, the second ones are a node, and it stands for so many: a scalar for one, a collection for
+  -- After the first events, the second ones are a node, and it stands for so many: a scalar for one, a collection for
   -- one and those in it, and an alias for as many as the node that it repeats.
   pub data ExpandsTo : Events → Events → NodeCount → Type 0 where
     OneScalar : (front : Events) (text : List ℕ) (style : Style) (id : ℕ) (tag : Option ResolvedTag) (at : Span)
@@ -47,7 +47,7 @@ mutual
         → ends_collection end.0 ≡ true
         → ExpandsTo front (start ∷ (inside ++ end ∷ [])) (sum_of (Some 1) n)
 
-  -- the same of nodes, one behind the other
+  -- the same of nodes, one after the other
   pub data ExpandTo : Events → Events → NodeCount → Type 0 where
     NoneYet : (front : Events) → ExpandTo front [] (Some 0)
     OneMore : (front es node : Events) (m n : NodeCount) → ExpandTo front es m → ExpandsTo (front ++ es) node n
@@ -56,7 +56,7 @@ mutual
         → ExpandTo front (es ++ e ∷ []) n
 
   -- Of the nodes with this anchor among these events the one that ended last stands for so many. Where none has ended,
-  -- as where the alias stands in its own node, there is no end.
+  -- as where the alias is in its own node, there is no end.
   pub data Repeats : Events → ℕ → NodeCount → Type 0 where
     NotEnded : (id : ℕ) → Repeats [] id None
     EndsHere : (front node : Events) (id : ℕ) (n : NodeCount) → ExpandsTo front node n → anchor_of_node node ≡ Some id

@@ -1,6 +1,5 @@
 -- A search for an anchor, event after event.
 use Rattle.std.proofs.Common.{◌≡◌, ℕ, ◌<◌, List, [], ◌∷◌, ◌++◌, length, Some, None, sym, ap, subst, ◌∙◌, append_assoc, append-nil, arith}
-use Rattle.std.specs.Borrow.{Bor}
 use Rattle.saphyr_parser.specs.Events as events
 use Rattle.saphyr_parser.specs.Events.{Happening}
 use Rattle.yaml_tree.specs.declared.node.Node.{Node, out-Node, fold_out-Node}
@@ -57,9 +56,6 @@ pub record HasSearched (id : ℕ) (root : Node) (left : List Happening) : Type 0
   pub split : node_events root ≡ front ++ left
   pub none : HaveNoAnchor id front
 
-pub searches_none : (id : ℕ) (root : Node) (left : List Happening) → left ≡ node_events root → HasSearched id root left
-searches_none id root left e = record { front = []; split = sym e; none = tt }
-
 searches_more : (id : ℕ) (root : Node) (left others : List Happening) (h : Happening) → HasSearched id root left
     → left ≡ h ∷ others → (anchor_in_event h ≡ Some id → ⊥) → HasSearched id root others
 searches_more id root left others h s e other = record {
@@ -76,11 +72,6 @@ searches_node id depth root node left others s b other = searches_more id root l
 pub searches_end : (id : ℕ) (root : Node) (left others : List Happening) → HasSearched id root left
     → Turns Leave left others → HasSearched id root others
 searches_end id root left others s (h, end, e) = searches_more id root left others h s e (end_anchor h id end)
-
-pub finds_node : (id depth : ℕ) (root : Node) (node : Bor Node) (left others : List Happening) → HasSearched id root left
-    → BeginsNode node.now depth left others → anchor_of_node node.now ≡ Some id → FindsAnchor id root (Some node)
-finds_node id depth root node left others s b e =
-    (s.front, b.behind, s.split ∙ ap (λ (l : List Happening). s.front ++ l) b.own, s.none, e)
 
 pub finds_none : (id : ℕ) (root : Node) (left : List Happening) → HasSearched id root left → left ≡ []
     → FindsAnchor id root None

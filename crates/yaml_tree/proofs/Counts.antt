@@ -5,13 +5,11 @@ use Rattle.saphyr_scalar.specs.declared.scalar.style.ScalarStyle.{ScalarStyle}
 use Rattle.saphyr_parser.specs.Types.Tag.{Tag}
 use Rattle.saphyr_parser.specs.Events as events
 use Rattle.saphyr_parser.specs.Events.{Happening, SequenceEnd, MappingEnd}
-use Rattle.yaml_tree.specs.declared.node.Node.{Node, Alias, Scalar, out-Node, fold_out-Node, the_lemmas}
+use Rattle.yaml_tree.specs.declared.node.Node.{Node, Alias, Scalar, out-Node, the_lemmas}
 use Rattle.yaml_tree.specs.declared.node.Node.TheOpen.{Node-F}
 use Rattle.yaml_tree.specs.declared.node.Node.TheFolds.{ind-Node, fold-roll-Node, map-Node}
 use Rattle.yaml_tree.specs.declared.expanding.Counter.{Counter}
-use Rattle.yaml_tree.specs.declared.walk.Turn.TheVariants.{Leave}
 use Rattle.yaml_tree.specs.Unloading.{node_events, both_events, unload_step}
-use Rattle.yaml_tree.specs.Walking.{IsCollectionEnd, BeginsNode, Turns}
 use Rattle.yaml_tree.specs.Expanding.{Sizes, Expanded, most, no_sizes, followed_by, expanded, expanded_items, expanded_pairs, expand_step}
 use Rattle.yaml_tree.specs.CounterSeen.{Count, with_nodes, begun, left_to, left, entered_layer, counted, counted_all, size_in, AreOpen, Holds, IsCounting}
 use Rattle.yaml_tree.proofs.LastItems.{none_is_last, same_last}
@@ -121,38 +119,6 @@ counts_node = ind-Node IsCounted (λ x y is.
     (subst (λ (z : Node-F Node). Grows (unload_step (map-Node Node (List Happening) node_events z))
     (expand_step (map-Node Node (Sizes → Expanded) expanded z))) is (in_layer (λ e. e.0) (λ e. e.1) y)))
 
--- ## Event after event
-
-head_counted : (h start : Happening) (xs ys : List Happening) (c : Count) → h ∷ xs ≡ start ∷ ys
-    → counted start c ≡ counted h c
-head_counted h start xs ys c e = let same : h ≡ start = cc in ap (λ (k : Happening). counted k c) (sym same)
-
-layer_counted : (layer : Node-F Node) (behind others : List Happening) (start : Happening) (c : Count)
-    → unload_step (map-Node Node (List Happening) node_events layer) ++ behind ≡ start ∷ others
-    → counted start c ≡ entered_layer layer c
-layer_counted (Node-F.Alias id) behind others start c e = head_counted _ start _ others c e
-layer_counted (Node-F.Scalar text style id tag) behind others start c e = head_counted _ start _ others c e
-layer_counted (Node-F.Seq id tag nodes) behind others start c e = head_counted _ start _ others c e
-layer_counted (Node-F.Map id tag pairs) behind others start c e = head_counted _ start _ others c e
-
-node_counted : (node : Node) (behind others : List Happening) (start : Happening) (c : Count)
-    → node_events node ++ behind ≡ start ∷ others → counted start c ≡ entered_layer (out-Node node) c
-node_counted node behind others start c e =
-    layer_counted (out-Node node) behind others start c (rw fold_out-Node at e)
-
-end_counted : (h : Happening) (c : Count) → IsCollectionEnd h → counted h c ≡ left c
-end_counted events.SequenceEnd c end = refl
-end_counted events.MappingEnd c end = refl
-end_counted events.Nothing c end = absurd end
-end_counted events.StreamStart c end = absurd end
-end_counted events.StreamEnd c end = absurd end
-end_counted (events.DocumentStart explicit) c end = absurd end
-end_counted events.DocumentEnd c end = absurd end
-end_counted (events.Alias id) c end = absurd end
-end_counted (events.Scalar text style id tag) c end = absurd end
-end_counted (events.SequenceStart id tag) c end = absurd end
-end_counted (events.MappingStart id tag) c end = absurd end
-
 pub counts_none : (root : Node) (to_come : List Happening) (counter : Counter)
     → Holds counter (record { nodes = 0; sizes = no_sizes; levels = [] }) → to_come ≡ node_events root
     → IsCounting root to_come counter
@@ -161,28 +127,6 @@ counts_none root to_come counter holds e =
     let all = ap (λ (c : Count). c.nodes)
     (ap (λ (hs : List Happening). counted_all hs none) e ∙ (counts_node root).by none) in
     record { so_far = none; holds = holds; whole = omega (arith, all) }
-
-counts_more : (root : Node) (to_come others : List Happening) (old new : Counter) (h : Happening)
-    (k : IsCounting root to_come old) (c : Count) → to_come ≡ h ∷ others → counted h k.so_far ≡ c
-    → Holds new c → IsCounting root others new
-counts_more root to_come others old new h k c e same holds = record {
-  so_far = c;
-  holds = holds;
-  whole = ap (λ (d : Count). (counted_all others d).nodes) (sym same)
-      ∙ ap (λ (hs : List Happening). (counted_all hs k.so_far).nodes) (sym e) ∙ k.whole;
-}
-
-pub counts_start : (root node : Node) (depth : ℕ) (to_come others : List Happening) (old new : Counter)
-    → IsCounting root to_come old → BeginsNode node depth to_come others
-    → ((c : Count) → Holds old c → Holds new (entered_layer (out-Node node) c)) → IsCounting root others new
-counts_start root node depth to_come others old new k b keeps =
-    counts_more root to_come others old new b.start k _ b.next
-    (node_counted node b.behind others b.start k.so_far (sym b.own ∙ b.next)) (keeps k.so_far k.holds)
-
-pub counts_end : (root : Node) (to_come others : List Happening) (old new : Counter) → IsCounting root to_come old
-    → Turns Leave to_come others → ((c : Count) → Holds old c → Holds new (left c)) → IsCounting root others new
-counts_end root to_come others old new k (h, end, e) keeps =
-    counts_more root to_come others old new h k _ e (end_counted h k.so_far end) (keeps k.so_far k.holds)
 
 pub counts_all : (root : Node) (to_come : List Happening) (counter : Counter) → IsCounting root to_come counter
     → to_come ≡ [] → counter.nodes ≡ min most (expanded root no_sizes).nodes

@@ -32,7 +32,7 @@ none_ends : (before : List Happening) → AtMost StreamStart before → ends bef
 none_ends before (inl e) = ap ends e
 none_ends before (inr e) = ap ends e
 
--- behind the stream's start or nothing the counts are those of the document
+-- after the stream's start or nothing the counts are those of the document
 own_counts : (limits : Limits) (before hs : List Happening) → AtMost StreamStart before
     → StayWithin limits (before ++ hs) no_nodes → StayWithin limits hs no_nodes
 own_counts limits before hs (inl e) h =
@@ -89,7 +89,7 @@ finds limits before all left l d at t (nest, ds, is) =
       within = own_counts limits before (happenings t.taken) at t.loader.within;
     }
 
--- behind its end only the stream is open
+-- after its end only the stream is open
 stands_in_stream : (limits : Limits) (before : List Happening) (all left : Answer) (l : Loader)
     → TakesToEnd limits before all left l → nest_of l.builder ≡ nest_in_stream
 stands_in_stream limits before all left l t =
@@ -202,7 +202,7 @@ loads_last limits before b all left l (Err (fault.Parse f)) at on t h = absurd h
 loads_last limits before b all left l (Err (fault.TooManyNodes place most)) at on t h = absurd h
 loads_last limits before b all left l (Err (fault.TooDeep place most)) at on t h = absurd h
 
--- counts behind the stream's start or nothing forbid the same
+-- counts after the stream's start or nothing forbid the same
 own_stop : (f : TreeFault) (limits : Limits) (before hs : List Happening) (place : Marker) → AtMost StreamStart before
     → (Forbids f limits (StreamStart ∷ hs) place → Forbids f limits hs place)
     → Forbids f limits (before ++ hs) place → Forbids f limits hs place

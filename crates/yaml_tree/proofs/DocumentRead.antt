@@ -22,7 +22,7 @@ use Rattle.event_laws.proofs.Nesting.{nest_behind_all-append}
 
 -- ## Event after event
 
--- Behind the events `before` a loader has taken others, of which this holds.
+-- After the events `before` a loader has taken others, of which this holds.
 pub record ReadsOn (Hold : List Happening → Type 0) (limits : Limits) (before : List Happening)
     (all left : Answer) (l : Loader) : Type 0 where
   pub taken : List (Happening × Span)
@@ -104,7 +104,7 @@ stops_behind Hold f limits before all a b e old r h w = record {
   why = w;
 }
 
--- with others behind they don't nest either
+-- with others after they don't nest either
 nest_nowhere : (all a b : Answer) (before : List Happening) (es : List (Happening × Span)) (e : Happening × Span)
     → all.events ≡ es ++ a.events → a ≡ with_first_event e b
     → nest_behind_all ((before ++ happenings es) ++ e.0 ∷ []) nest_before_stream ≡ None
@@ -179,9 +179,9 @@ reads_rest Hold limits before all a b l r h k =
       loader = subst (λ (es : List Happening). HasTaken limits (before ++ es) l) same r.loader;
     }
 
--- ## Behind other events
+-- ## After other events
 
--- events, and others behind them
+-- events, and others after them
 pub record Parts (front : List (Happening × Span)) (all mid : Answer) : Type 0 where
   pub split : all.events ≡ front ++ mid.events
   pub fault : all.fault ≡ mid.fault

@@ -94,7 +94,7 @@ less_before : (es : List (Happening × Span)) (a b : Answer) (n : ℕ) → a.eve
     → a.fault ≡ b.fault → n < count b → n < count a
 less_before es a b n split same h = rw (split, same) (omega (arith, length-append es b.events, h))
 
--- behind an event less is left
+-- after an event less is left
 pub hands_less : (a b c : EventCursor) (e : Happening × Span) → HasHandedOut a b → Advances e b c
     → count (to_come c) < count (to_come a)
 hands_less a b c e h next =

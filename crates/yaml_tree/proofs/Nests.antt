@@ -1,4 +1,4 @@
--- What stays so of a nest, event after event: a stream stands in nothing, and a collection in a document.
+-- What stays so of a nest, event after event: a stream is in nothing, and a collection in a document.
 use Rattle.std.proofs.Common.{◌≡◌, List, [], ◌∷◌, ◌++◌, Option, Some, None, option_map, option_and_then, refl, sym, ap, subst, ◌∙◌}
 use Rattle.saphyr_parser.specs.Events.{Happening, Nothing, StreamStart, StreamEnd, DocumentStart, DocumentEnd, Alias, Scalar, SequenceStart, SequenceEnd, MappingStart, MappingEnd}
 use Rattle.saphyr_parser.specs.Nesting.{NestPlace, BeforeStream, InStream, BehindStream, BeforeRoot, BehindRoot, InSequence, BeforeKey, BeforeValue, Nest, nest_behind_stream, nest_inside, place_behind_node, place_behind_document, place_behind_stream_start, place_behind_stream_end, with_next_place, nest_of_outer, end_document, end_sequence, end_mapping, nest_behind_event, nest_behind_all}
@@ -30,7 +30,7 @@ collection_is_inner InSequence h = tt
 collection_is_inner BeforeKey h = tt
 collection_is_inner BeforeValue h = tt
 
--- the one place may become the other: what stands inside stays so, and so do collections
+-- the one place may become the other: what is inside stays so, and so do collections
 abbrev Follows : NestPlace → NestPlace → Type 0
 Follows p q = IsInner p → IsInner q × (IsCollection p → IsCollection q)
 
@@ -58,7 +58,7 @@ outside BeforeValue h = (refl, refl, refl)
 
 -- ## Steps
 
--- the innermost place becomes the one behind it
+-- the innermost place becomes the one after it
 record Moves (behind : NestPlace → Option NestPlace) (n m : Nest) : Type 0 where
   next : behind n.innermost ≡ Some m.innermost
   outer : n.outer ≡ m.outer
@@ -73,7 +73,7 @@ moves_to behind (Some q) n m is e =
 moves : (behind : NestPlace → Option NestPlace) (n m : Nest) → with_next_place behind n ≡ Some m → Moves behind n m
 moves behind n m e = moves_to behind (behind n.innermost) n m refl e
 
--- what stands around becomes the innermost, and moves
+-- what is around becomes the innermost, and moves
 record Closes (behind : NestPlace → Option NestPlace) (outer : List NestPlace) (m : Nest) : Type 0 where
   around : NestPlace
   split : outer ≡ around ∷ m.outer
@@ -107,7 +107,7 @@ ends BeforeValue outer m = (λ e. absurd (cc), λ e. absurd (cc), λ e. absurd (
 
 -- ## Events
 
--- behind one event, and then behind others
+-- after one event, and then after others
 record Between (h : Happening) (hs : List Happening) (n m : Nest) : Type 0 where
   middle : Nest
   first : nest_behind_event h n ≡ Some middle
@@ -121,7 +121,7 @@ between (Some k) h hs n m is e = record { middle = k; first = is; others = e }
 follows_none : (o : Option NestPlace) (p q : NestPlace) → (IsInner p → o ≡ None) → o ≡ Some q → Follows p q
 follows_none o p q nowhere e h = let none = nowhere h in absurd (cc)
 
--- What holds of an innermost place and those around it holds behind each event too.
+-- What holds of an innermost place and those around it holds after each event too.
 record Stays (Holds : NestPlace → List NestPlace → Type 0) : Type 0 where
   moves : (p q : NestPlace) (outer : List NestPlace) → Follows p q → Holds p outer → Holds q outer
   inside : (place p : NestPlace) (outer : List NestPlace) → IsInner place → Holds p outer → Holds place (p ∷ outer)
@@ -188,9 +188,9 @@ holds_behind Holds (x ∷ hs) n m stays h e =
     let parts = between (nest_behind_event x n) x hs n m refl e in
     holds_behind Holds hs parts.middle m stays (step Holds x n parts.middle stays h parts.first) parts.others
 
--- ## A stream stands in nothing
+-- ## A stream is in nothing
 
--- no place of a stream stands in another
+-- no place of a stream is in another
 abbrev pub AreGrounded : NestPlace → List NestPlace → Type 0
 AreGrounded p [] = Unit {0}
 AreGrounded p (q ∷ qs) = IsInner p × AreGrounded q qs
@@ -207,7 +207,7 @@ stays_grounded = record {
   behind_collection = λ p q r outer i e h. grounded_moves q r outer (follows_node q r e) h.1;
 }
 
--- where a document may stand in it nothing is open but the stream
+-- where a document may be in it nothing is open but the stream
 only_stream : (q r : NestPlace) (outer : List NestPlace) → AreGrounded q outer → place_behind_document q ≡ Some r
     → record { innermost = r; outer = outer } ≡ nest_in_stream
 only_stream InStream r [] g e = cc
@@ -237,9 +237,9 @@ pub leaves_stream : (hs : List Happening) (n m : Nest) → AreGrounded n.innermo
 leaves_stream hs n m g e = behind_end (nest_behind_all hs n) hs n m g refl
     (sym (nest_behind_all-append hs (DocumentEnd ∷ []) n) ∙ e)
 
--- ## A collection stands in a document
+-- ## A collection is in a document
 
--- right inside the stream stands a collection
+-- right inside the stream is a collection
 abbrev pub AreStuck : NestPlace → List NestPlace → Type 0
 AreStuck p [] = ⊥
 AreStuck p (q ∷ []) = IsCollection p × (q ≡ InStream)

@@ -18,7 +18,7 @@ use Rattle.yaml_tree.specs.DocumentSeen.{nest_in_stream}
 use Rattle.yaml_tree.proofs.Nests.{leaves_stream, never_ends}
 use Rattle.yaml_tree.proofs.DocumentFound.{two_nests}
 
--- ## Behind a document
+-- ## After a document
 
 -- from inside the stream these events lead to its end
 abbrev AreComplete : List Happening → Type 0

@@ -240,9 +240,6 @@ ended : (old s : Walk) → HasPassed old s → left_to_visit s ≡ [] → AreCol
 ended old s p none = subst AreCollectionEnds
     (sym (p.split ∙ ap (λ (l : List (Happening × Span)). p.passed ++ l) none ∙ append-nil p.passed)) p.ends
 
-pub ends_over : (old s : Walk) → HasPassed old s → to_visit s ≡ [] → AreCollectionEnds (left_to_visit old)
-ends_over old s p none = ended old s p (ap (λ (l : List Happening). zip l s.spans.now) none)
-
 no_spans : (hs : List Happening) (spans : List Span) → length spans ≡ 0 → zip hs spans ≡ []
 no_spans [] spans e = refl
 no_spans (h ∷ hs) [] e = refl

@@ -30,7 +30,7 @@ Grows (Err _) more nest old new = ⊥
 abbrev pub Follows : Result (Unit {0}) TreeFault → Happening → Builder → Builder → Type 0
 Follows result event old new = Grows result (event ∷ []) (nest_behind_event event (nest_of old)) old new
 
--- what has begun last is handed out, and what stands around it is left
+-- what has begun last is handed out, and what is around it is left
 abbrev pub HandsOutInnermost : Result Open TreeFault → Builder → Builder → Type 0
 HandsOutInnermost (Ok inner) old new =
     (builder_events old ≡ builder_events new ++ open_events inner) × (nest_around (nest_of old) ≡ Some (nest_of new))

@@ -39,7 +39,7 @@ entered_layer (Node-F.Scalar text style id tag) c = with_nodes id 1 c
 entered_layer (Node-F.Seq id tag nodes) c = begun id c
 entered_layer (Node-F.Map id tag pairs) c = begun id c
 
--- behind an event
+-- after an event
 abbrev pub counted : Happening → Count → Count
 counted (Alias id) c = with_nodes 0 (c.sizes id) c
 counted (Scalar text style id tag) c = with_nodes id 1 c
@@ -70,7 +70,7 @@ pub record Holds (counter : Counter) (c : Count) : Type 0 where
   pub sizes : (id : ℕ) → size_in counter.sizes id ≡ min most (c.sizes id)
   pub levels : AreOpen counter.levels.items c.levels
 
--- what a counter holds becomes the count of the tree behind the events that are left
+-- what a counter holds becomes the count of the tree after the events that are left
 pub record IsCounting (root : Node) (to_come : List Happening) (counter : Counter) : Type 0 where
   pub so_far : Count
   pub holds : Holds counter so_far

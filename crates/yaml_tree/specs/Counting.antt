@@ -20,7 +20,7 @@ with_collection c = record { nodes = c.nodes + 1; depth = c.depth + 1 }
 abbrev pub with_end : Counts → Counts
 with_end c = record { nodes = c.nodes; depth = c.depth - 1 }
 
--- behind an event; an alias is a node too
+-- after an event; an alias is a node too
 abbrev pub counts_behind : Happening → Counts → Counts
 counts_behind (Alias id) c = with_node c
 counts_behind (Scalar text style id tag) c = with_node c
@@ -38,7 +38,7 @@ pub record Fits (limits : Limits) (c : Counts) : Type 0 where
   pub nodes : c.nodes ≤ limits.nodes
   pub depth : c.depth ≤ limits.depth
 
--- behind each of the events the counts are within the limits
+-- after each of the events the counts are within the limits
 abbrev pub StayWithin : Limits → List Happening → Counts → Type 0
 StayWithin limits [] c = Unit {0}
 StayWithin limits (h ∷ hs) c = Fits limits (counts_behind h c) × StayWithin limits hs (counts_behind h c)

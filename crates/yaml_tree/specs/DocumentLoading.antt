@@ -18,7 +18,7 @@ use Rattle.yaml_tree.specs.Leaving.{HasHandedOut, LeavesFrom}
 
 -- ## Where a document may come next
 
--- an event that stands around documents, or begins one
+-- an event that is around documents, or begins one
 abbrev pub StandsBetween : Happening → Type 0
 StandsBetween StreamStart = Unit {0}
 StandsBetween (DocumentStart explicit) = Unit {0}
@@ -93,7 +93,7 @@ LoadsDocument limits (Err fault.NotFresh) all left =
     ((IsBetween all → ⊥) × (left ≡ all)) ⊎ (IsBetween all × FailsInDocument limits fault.NotFresh all left)
 LoadsDocument limits (Err f) all left = FailsInDocument limits f all left
 
--- Less is left behind a document, so that a loop over documents ends.
+-- Less is left after a document, so that a loop over documents ends.
 abbrev pub LeavesLess : Result (Option Document) TreeFault → Answer → Answer → Type 0
 LeavesLess (Ok (Some document)) all left = count left < count all
 LeavesLess _ all left = Unit {0}
@@ -106,8 +106,8 @@ LoadsEach limits (document ∷ documents) all left =
 
 -- ## Parsers that are left
 
--- Behind a look at the next event: behind the document, behind all events, behind the fault that was met, or behind
--- the event that could not be taken. Where the parser stands inside a document, nothing else is done.
+-- After a look at the next event: after the document, after all events, after the fault that was met, or after
+-- the event that could not be taken. Where the parser is inside a document, nothing else is done.
 abbrev pub LeavesBehindLook : Result (Option Document) TreeFault → EventCursor → EventCursor → Type 0
 LeavesBehindLook (Ok (Some document)) looked new = HasHandedOut looked new
 LeavesBehindLook (Ok None) looked new = AdvancesOver (to_come looked).events looked new × IsOver new

@@ -24,9 +24,9 @@ use Rattle.yaml_tree.specs.LoaderSeen.{HasTaken, Forbids}
 use Rattle.yaml_tree.specs.Leaving.{HasHandedOut, LeavesFrom}
 use Rattle.yaml_tree.specs.DocumentLoading.{IsBetween, with_stream_start, EndNoDocument}
 
--- ## Where a parser stands
+-- ## Where a parser is
 
--- Documents go on here behind these events, of which the next ones aren't.
+-- Documents go on here after these events, of which the next ones aren't.
 abbrev pub GoesOnBehind : List Happening → Answer → Type 0
 GoesOnBehind before a = IsBetween a × (with_stream_start (happenings a.events) ≡ before ++ happenings a.events)
 
@@ -38,7 +38,7 @@ StandsAt Inside all mid = (IsBetween all → ⊥) × (mid ≡ all)
 
 -- ## Events up to the end of a document
 
--- Behind the events `before` a loader takes others, of which the last alone ends a document.
+-- After the events `before` a loader takes others, of which the last alone ends a document.
 pub record TakesToEnd (limits : Limits) (before : List Happening) (all left : Answer) (l : Loader) : Type 0 where
   pub taken : List (Happening × Span)
   pub inner : List Happening
@@ -67,7 +67,7 @@ pub record StopsBehind (Hold : List Happening → Type 0) (f : TreeFault) (limit
   pub within : StayWithin limits (before ++ happenings taken) no_nodes
   pub why : Forbids f limits ((before ++ happenings taken) ++ event.0 ∷ []) event.1.start
 
--- the parser's memory ran out behind these events, of which this holds
+-- the parser's memory ran out after these events, of which this holds
 pub record RunsOutBehind (Hold : List Happening → Type 0) (limits : Limits) (before : List Happening)
     (all : Answer) : Type 0 where
   pub taken : List (Happening × Span)
@@ -78,7 +78,7 @@ pub record RunsOutBehind (Hold : List Happening → Type 0) (limits : Limits) (b
   pub inside : Hold (happenings taken)
   pub within : StayWithin limits (before ++ happenings taken) no_nodes
 
--- A fault behind events that were taken before, and what it leaves. Of those behind them this holds.
+-- A fault after events that were taken before, and what it leaves. Of those after them this holds.
 abbrev pub FailsBehind : (List Happening → Type 0) → Limits → List Happening → TreeFault → Answer → Answer → Type 0
 FailsBehind Hold limits before (fault.Parse (parse.Scan e)) all left =
     (all.fault ≡ Some (Refused e.mark (string_bytes e.info))) × Hold (happenings all.events)
@@ -102,12 +102,12 @@ TakesPart limits before (Ok true) all left l = TakesToEnd limits before all left
 TakesPart limits before (Ok false) all left l = TakesRest EndNoDocument limits before all left l
 TakesPart limits before (Err f) all left l = FailsBehind EndNoDocument limits before f all left
 
--- less is left behind a document
+-- less is left after a document
 abbrev pub Shrinks : Result Bool TreeFault → Answer → Answer → Type 0
 Shrinks (Ok true) all left = count left < count all
 Shrinks _ all left = Unit {0}
 
--- the parser behind a document, or behind all events, or behind a fault
+-- the parser after a document, or after all events, or after a fault
 abbrev pub LeavesPart : Result Bool TreeFault → EventCursor → EventCursor → Type 0
 LeavesPart (Ok true) first last = HasHandedOut first last
 LeavesPart (Ok false) first last = LeavesFrom {X = Bool} (Ok false) first last

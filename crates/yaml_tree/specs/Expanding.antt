@@ -13,18 +13,18 @@ most = 2 ^ 64 - 1
 abbrev pub Sizes : Type 0
 Sizes = ℕ → ℕ
 
--- Before the first node has ended. An alias for a node that has not ended stands inside it, so there is no end to the
+-- Before the first node has ended. An alias for a node that has not ended is inside it, so there is no end to the
 -- copies.
 abbrev pub no_sizes : Sizes
 no_sizes id = most
 
--- Behind a node with this anchor; 0 is none. An alias "refers to the most recent preceding node having the same
+-- After a node with this anchor; 0 is none. An alias "refers to the most recent preceding node having the same
 -- anchor".
 abbrev pub with_size : ℕ → ℕ → Sizes → Sizes
 with_size zero nodes sizes = sizes
 with_size (suc id) nodes sizes = λ other. if suc id == other then nodes else sizes other
 
--- how many nodes there are of a part of a tree, and the sizes behind it
+-- how many nodes there are of a part of a tree, and the sizes after it
 pub record Expanded : Type 0 where
   pub nodes : ℕ
   pub sizes : Sizes

@@ -8,20 +8,20 @@ use Rattle.yaml_tree.specs.declared.fault.TreeFault.{TreeFault}
 use Rattle.yaml_tree.specs.declared.fault.TreeFault.TheVariants as fault
 use Rattle.saphyr_parser.specs.Nesting.{IsAtStart}
 
--- Events were handed out, one after the other, behind which the second parser stands.
+-- Events were handed out, one after the other, after which the second parser is.
 pub record HasHandedOut (first last : EventCursor) : Type 0 where
   pub handed : List (Happening × Span)
   pub over : AdvancesOver handed first last
 
--- Where loading begins at the first parser, the second one is left: behind all events, behind the fault that was met,
--- or behind the event that could not be taken.
+-- Where loading begins at the first parser, the second one is left: after all events, after the fault that was met,
+-- or after the event that could not be taken.
 abbrev pub LeavesFrom : {X : Type 0} → Result X TreeFault → EventCursor → EventCursor → Type 0
 LeavesFrom (Ok x) first last = AdvancesOver (to_come first).events first last × IsOver last
 LeavesFrom (Err (fault.Parse f)) first last =
     (middle : EventCursor) × HasHandedOut first middle × FailsWith f middle last
 LeavesFrom (Err f) first last = HasHandedOut first last
 
--- The same behind a look at the first event; where that isn't the stream's start, nothing else is done.
+-- The same after a look at the first event; where that isn't the stream's start, nothing else is done.
 abbrev pub LeavesLooked : {X : Type 0} → Result X TreeFault → EventCursor → EventCursor → Type 0
 LeavesLooked (Err fault.NotFresh) looked new =
     (new ≡ looked) ⊎ (IsAtStart (to_come looked) × HasHandedOut looked new)

@@ -18,7 +18,7 @@ use Rattle.yaml_tree.specs.LoaderSeen.{HasTaken, Forbids}
 
 -- ## Answers
 
--- The last event that was handed out could not be taken. Those behind it are left.
+-- The last event that was handed out could not be taken. Those after it are left.
 pub record Stops (f : TreeFault) (limits : Limits) (all left : Answer) : Type 0 where
   pub taken : List (Happening × Span)
   pub event : Happening × Span
@@ -27,7 +27,7 @@ pub record Stops (f : TreeFault) (limits : Limits) (all left : Answer) : Type 0 
   pub within : StayWithin limits (happenings taken) no_nodes
   pub why : Forbids f limits (happenings taken ++ event.0 ∷ []) event.1.start
 
--- the parser's memory ran out behind these events, before anything that was still to come
+-- the parser's memory ran out after these events, before anything that was still to come
 pub record RunsOut (limits : Limits) (all : Answer) : Type 0 where
   pub taken : List (Happening × Span)
   pub lost : Answer

@@ -28,7 +28,7 @@ open_events (variants.Mapping id tag pairs key) = MappingStart id (option_map re
     (flat_map pair_events pairs.items ++ any_events key)
 open_events (variants.Ended documents) = StreamStart ∷ (flat_map document_events documents.items ++ StreamEnd ∷ [])
 
--- the place behind them
+-- the place after them
 abbrev pub place_of : Open → NestPlace
 place_of variants.Nothing = BeforeStream
 place_of (variants.Stream documents) = InStream
@@ -39,7 +39,7 @@ place_of (variants.Mapping id tag pairs None) = BeforeKey
 place_of (variants.Mapping id tag pairs (Some key)) = BeforeValue
 place_of (variants.Ended documents) = BehindStream
 
--- The events grow by these, behind which this place stands. Where there is no such place, the call is refused.
+-- The events grow by these, after which this place is. Where there is no such place, the call is refused.
 abbrev pub GrowsBy : Result Open TreeFault → List Happening → Option NestPlace → Open → Type 0
 GrowsBy (Ok new) more place old = (open_events new ≡ open_events old ++ more) × (place ≡ Some (place_of new))
 GrowsBy (Err fault.NotFresh) more place old = place ≡ None

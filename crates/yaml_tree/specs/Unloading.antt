@@ -1,5 +1,5 @@
 -- Unloading: the events of documents (YAML 1.2.2, 3.1). A node's events come in preorder, a collection's start before
--- its parts and its end behind them, a key before its value. It is what a loader turns round.
+-- its parts and its end after them, a key before its value. It is what a loader turns round.
 use Rattle.std.specs.Prelude.{List, [], ◌∷◌, ◌++◌, option_map, string_bytes}
 use Rattle.std.specs.List.{flat_map}
 use Rattle.saphyr_parser.specs.Events.{Happening, StreamStart, StreamEnd, DocumentStart, DocumentEnd, Alias, Scalar, SequenceStart, SequenceEnd, MappingStart, MappingEnd}

@@ -47,8 +47,8 @@ abbrev pub closings : List Happening → ℕ
 closings [] = 0
 closings (h ∷ hs) = closing h + closings hs
 
--- The next of these events begins the node, whose events they begin with; and so many collections stand around it as
--- end behind it and don't begin there.
+-- The next of these events begins the node, whose events they begin with; and so many collections are around it as
+-- end after it and don't begin there.
 pub record BeginsNode (node : Node) (depth : ℕ) (events others : List Happening) : Type 0 where
   pub start : Happening
   pub next : events ≡ start ∷ others
@@ -80,7 +80,7 @@ to_visit w = root_events w.root ++ frames_events w.levels.items
 abbrev pub left_to_visit : Walk → List (Happening × Span)
 left_to_visit w = zip (to_visit w) w.spans.now
 
--- ## Where a walk stands
+-- ## Where a walk is
 
 -- the step to the last of so many parts
 abbrev pub last_step : (ℕ → Step) → ℕ → List Step
@@ -156,14 +156,14 @@ abbrev pub TurnsWithin : Node → Turn → List Happening → Walk → Type 0
 TurnsWithin root (Enter node depth) old new = IsWalkOf root new × LeadsTo (path_of new) root node.now old
 TurnsWithin root _ old new = IsWalkOf root new
 
--- a node begins, behind which the events `old` come
+-- a node begins, after which the events `old` come
 abbrev pub Enters : Turn → Node → List Happening → List Happening → ℕ → Type 0
 Enters (Enter entered depth) node old new around =
     (entered.now ≡ node) × (depth ≡ around) × (start : Happening) × (node_events node ++ old ≡ start ∷ new)
 Enters _ node old new around = ⊥
 
 -- A visit of the next node: only ends of collections are passed before its event, whose span it has, and the path leads
--- to it. Where no visit comes, no node is left; behind lack of memory nothing more comes.
+-- to it. Where no visit comes, no node is left; after lack of memory nothing more comes.
 abbrev pub Visits : Walk → Option (Result Visit AllocError) → Walk → Type 0
 Visits old None new = AreCollectionEnds (left_to_visit old)
 Visits old (Some (Err e)) new = new.spans.now ≡ []

@@ -16,7 +16,7 @@ weight_step (Node-F.Map id tag pairs) = 2 + sum_by pair_weight pairs.items
 unfoldable pub node_weight : Node → ℕ
 node_weight = fold-Node ℕ weight_step
 
--- no node stands inside
+-- no node is inside
 abbrev pub IsBare : Node → Type 0
 IsBare node = node_weight node ≤ 2
 

@@ -1,4 +1,4 @@
--- `into_parts` reads the pointer, and hands out the box behind it.
+-- `into_parts` reads the pointer, and hands out the box after it.
 use Rattle.std.proofs.Common.{List, [], ◌∷◌, ◌++◌, refl, sym, subst, lit<}
 use mir.Val.{Val, vptr, vcons, vnil}
 use base.Logic.{SProp, ent, id⊢}
