@@ -1,4 +1,4 @@
--- What stands behind the front of a line, and before its end.
+-- What comes after the front of a line, and before its end.
 use Rattle.std.proofs.Common.{subst, true, false, ◌+◌, ◌≡◌, ◌≢◌, ℕ, List, [], ◌∷◌, ◌++◌, ◌==◌, ◌-◌, length, take, drop, reverse, refl, sym, ap, ◌∙◌, Option, Some, None, MatchOption, inl, inr, Bor}
 use Rattle.std.specs.Prelude.{option_map, unwrap_or, is_some}
 use Rattle.std.specs.Str.Pattern.{FindsTextPrefix, FindsTextSuffix, StripsPrefix, StripsSuffix}

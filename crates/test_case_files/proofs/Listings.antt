@@ -104,7 +104,7 @@ some_refused fault.OutOfMemory all refuses = refuses
 some_refused fault.Receiver all refuses = absurd refuses
 some_refused fault.InsideDocument all refuses = absurd refuses
 
--- Behind what is handed out less is to come.
+-- After what is handed out less is to come.
 pub hands_less : (item : Result (Event × Span) Fault) (old new : Answer) → HandsOutNext (Some item) old new
     → count new < count old
 hands_less (Ok e) old new hands =

@@ -1,4 +1,4 @@
--- What stands before the last ` @ ` of a line.
+-- What comes before the last ` @ ` of a line.
 use Rattle.std.proofs.Common.{◌≡◌, ℕ, zero, suc, ◌<◌, ◌≤◌, List, [], ◌∷◌, ◌++◌, length, take, drop, refl, sym, ap, ◌∙◌, Option, Some, None, MatchOption, true, false, if◌then◌else◌, Bor, arith}
 use Rattle.std.specs.Prelude.{option_map, unwrap_or, is_some, not, ◌&&◌}
 use Rattle.std.specs.Str.Pattern.{RFindsText, LacksTextAt, SplitsAroundMatch}

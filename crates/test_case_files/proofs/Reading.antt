@@ -1,6 +1,6 @@
 -- A line is read a character at a time.
-use Rattle.std.proofs.Common.{◌≡◌, ℕ, List, [], ◌∷◌, ◌++◌, refl, sym, ap, ◌∙◌, Option, append_assoc, inl, inr}
-use Rattle.std.specs.Prelude.{option_to_list}
+use Rattle.std.proofs.Common.{◌≡◌, ℕ, List, [], ◌∷◌, ◌++◌, refl, sym, ap, ◌∙◌, subst, Option, Some, None, append_assoc, append-nil, inl, inr}
+use Rattle.std.specs.Prelude.{encode_utf8, option_to_list}
 use Rattle.std.specs.Str.{encode_utf8_all}
 use Rattle.std.proofs.lemmas.Str.{encodes-append}
 use Rattle.test_case_files.specs.declared.escape.Escape.{Escape}
@@ -14,7 +14,7 @@ abbrev pub HasReadEscape : List ℕ → List ℕ → Escape → Type 0
 HasReadEscape cs text escape =
     (rest : List ℕ) → encode_utf8_all (text_of (cs ++ rest)) ≡ text ++ encode_utf8_all (text_behind_escape escape rest)
 
-pub reads_on : (cs text : List ℕ) (escape next : Escape) (c : ℕ) (given : Option ℕ) → HasReadEscape cs text escape
+reads_on : (cs text : List ℕ) (escape next : Escape) (c : ℕ) (given : Option ℕ) → HasReadEscape cs text escape
     → EscapeStep escape c given next
     → HasReadEscape (cs ++ c ∷ []) (text ++ encode_utf8_all (option_to_list given)) next
 reads_on cs text escape next c given before step rest =
@@ -22,6 +22,24 @@ reads_on cs text escape next c given before step rest =
     ∙ ap (λ l. text ++ encode_utf8_all l) (step rest)
     ∙ ap (λ l. text ++ l) (encodes-append (option_to_list given) (text_behind_escape next rest))
     ∙ sym (append_assoc text (encode_utf8_all (option_to_list given)) (encode_utf8_all (text_behind_escape next rest)))
+
+-- a character is read, and none is put there
+pub reads_none : (cs text : List ℕ) (escape next : Escape) (c : ℕ) (given : Option ℕ) → HasReadEscape cs text escape
+    → EscapeStep escape c given next → given ≡ None → HasReadEscape (cs ++ c ∷ []) text next
+reads_none cs text escape next c given before step is =
+    subst (λ t. HasReadEscape (cs ++ c ∷ []) t next)
+    (ap (λ o. text ++ encode_utf8_all (option_to_list o)) is ∙ append-nil text)
+    (reads_on cs text escape next c given before step)
+
+-- a character is read, and one is put there
+pub reads_one : (cs text grown : List ℕ) (escape next : Escape) (c x : ℕ) (given : Option ℕ)
+    → HasReadEscape cs text escape → EscapeStep escape c given next → given ≡ Some x → grown ≡ text ++ encode_utf8 x
+    → HasReadEscape (cs ++ c ∷ []) grown next
+reads_one cs text grown escape next c x given before step is put =
+    subst (λ t. HasReadEscape (cs ++ c ∷ []) t next)
+    (ap (λ o. text ++ encode_utf8_all (option_to_list o)) is ∙ ap (λ l. text ++ l) (append-nil (encode_utf8 x))
+    ∙ sym put)
+    (reads_on cs text escape next c given before step)
 
 -- An escape that the line cuts stands for nothing.
 pub nothing_left : (escape : Escape) → text_behind_escape escape [] ≡ []

@@ -14,7 +14,7 @@ with_line [] line = []
 with_line (s ∷ []) line = (s.0, s.1 ++ line ∷ []) ∷ []
 with_line (s ∷ t ∷ more) line = s ∷ with_line (t ∷ more) line
 
--- a line stands behind what comes before all sections, or in one of them
+-- a line comes after what comes before all sections, or in one of them
 abbrev with_line_before : List Section → List (List ℕ) → List ℕ → List (List ℕ)
 with_line_before [] body line = body ++ line ∷ []
 with_line_before (s ∷ more) body line = body

@@ -18,7 +18,7 @@ char_of n = if nat_lt n 55296 || (nat_lt 57343 n && nat_lt n 1114112) then n els
 abbrev pub with_digit : ℕ → ℕ → ℕ
 with_digit n c = if nat_lt (digit_value c) 16 then (n * 16 + digit_value c) % 2 ^ 32 else n
 
--- The text of a line; what a line gives behind a backslash, and behind the first digits of `\u{HEX}`.
+-- The text of a line; what a line gives after a backslash, and after the first digits of `\u{HEX}`.
 abbrev mutual
   pub text_of : List ℕ → List ℕ
   text_of [] = []
@@ -38,7 +38,7 @@ text_behind_escape escape.None cs = text_of cs
 text_behind_escape escape.Begun cs = behind_backslash cs
 text_behind_escape (escape.Number n) cs = behind_digits n cs
 
--- A character is read: another one may then stand there, and so much of an escape has been read.
+-- A character is read: another one may then be there, and so much of an escape has been read.
 abbrev pub EscapeStep : Escape → ℕ → Option ℕ → Escape → Type 0
 EscapeStep escape c given next =
     (cs : List ℕ) → text_behind_escape escape (c ∷ cs) ≡ option_to_list given ++ text_behind_escape next cs

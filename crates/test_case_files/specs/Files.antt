@@ -7,13 +7,13 @@ use Rattle.std.specs.List.{flat_map}
 use Rattle.std.specs.Str.{bytes_eq}
 use Rattle.test_case_files.specs.Escapes.{unescaped_bytes}
 
--- what stands behind the front of a line, where it begins so
+-- what comes after the front of a line, where it begins so
 abbrev pub text_behind : List ℕ → List ℕ → Option (List ℕ)
 text_behind [] line = Some line
 text_behind (c ∷ front) [] = None
 text_behind (c ∷ front) (d ∷ line) = if c == d then text_behind front line else None
 
--- what stands before the end of a line, where it ends so
+-- what comes before the end of a line, where it ends so
 abbrev pub text_before : List ℕ → List ℕ → Option (List ℕ)
 text_before end line = option_map reverse (text_behind (reverse end) (reverse line))
 
@@ -33,7 +33,7 @@ abbrev pub with_section : Option (List ℕ) → List (List ℕ) → List Section
 with_section None body sections = sections
 with_section (Some title) body sections = (title, body) ∷ sections
 
--- Each title begins a section. What stands before the first is none.
+-- Each title begins a section. What comes before the first is none.
 abbrev pub sections : List (List ℕ) → List Section
 sections [] = []
 sections (line ∷ lines) = with_section (title_of line) (up_to_title lines) (sections lines)
@@ -66,7 +66,7 @@ case_of s = record {
   lines = other_lines s.1;
 }
 
--- A line comes behind the lines of a case.
+-- A line comes after the lines of a case.
 abbrev pub TakesLine : List ℕ → CaseFields → CaseFields → Type 0
 TakesLine line old new =
     (title : List ℕ) (body : List (List ℕ)) → old ≡ case_of (title, body) → new ≡ case_of (title, body ++ line ∷ [])
@@ -83,10 +83,15 @@ fields_of c = record {
   lines = map string_bytes c.lines.items;
 }
 
+-- A line comes after those of a file, whose cases these are.
+abbrev pub LineComes : List ℕ → List Case → List Case → Type 0
+LineComes line old new =
+    (before : List (List ℕ)) → map fields_of old ≡ cases_of before → map fields_of new ≡ cases_of (before ++ line ∷ [])
+
 abbrev pub place_mark : List ℕ
 place_mark = codes " @ "
 
--- what stands before the last ` @ ` of a line, and all of a line that has none
+-- what comes before the last ` @ ` of a line, and all of a line that has none
 abbrev pub has_place : List ℕ → Bool
 has_place [] = false
 has_place (c ∷ line) = if is_some (text_behind place_mark (c ∷ line)) then true else has_place line

@@ -70,7 +70,7 @@ line_of_event e = event_line (happening e.0) e.1
 abbrev pub tag_of : Option Tag → Option ResolvedTag
 tag_of tag = option_map resolved_tag tag
 
--- A text is put behind a string, unless memory runs out.
+-- A text is put after a string, unless memory runs out.
 abbrev pub Pushes : Result (Unit {0}) AllocError → String Global → String Global → List ℕ → Type 0
 Pushes result old new text = OnOk result (string_bytes new ≡ string_bytes old ++ text)
 
@@ -98,7 +98,7 @@ abbrev pub line_of_item : Result (Event × Span) Fault → List ℕ
 line_of_item (Ok e) = line_of_event e
 line_of_item (Err f) = line_of_fault f
 
--- what is handed out or shown, behind its references
+-- what is handed out or shown, after its references
 abbrev pub item_of : Option (Result (Bor (Event × Span)) (Bor Fault)) → Option (Result (Event × Span) Fault)
 item_of item = option_map result_copied item
 

@@ -31,7 +31,7 @@ lines_of_end (Some f) = line_of_ending f ∷ []
 abbrev pub lines_of_answer : Answer → List (List ℕ)
 lines_of_answer a = lines_of_events a.events ++ lines_of_end a.fault
 
--- These events come first of all, and something is left behind them.
+-- These events come first of all, and something is left after them.
 pub record IsBefore (come : List (Happening × Span)) (all : Answer) : Type 0 where
   pub lost : Answer
   pub events : all.events ≡ come ++ lost.events

@@ -1,7 +1,7 @@
 //! The cases of a file.
 ghost use Rattle.std.specs.Prelude.{◌≡◌, [], IfOk, OnOk, map, option_map};
 ghost use Rattle.std.specs.Str.Lines.{lines};
-ghost use Rattle.test_case_files.specs.Files.{TakesLine, case_of, cases_of, fields_of};
+ghost use Rattle.test_case_files.specs.Files.{LineComes, TakesLine, case_of, cases_of, fields_of};
 ghost use Rattle.test_case_files.specs.Listings.{fault_line_of, is_fault_line};
 
 use crate::escape::unescaped;
@@ -22,13 +22,21 @@ pub fn parse_cases(alloc: Global, text: &str) -> Result<Vec<Case>, AllocError>
 {
     let mut cases = Vec::new(alloc);
     for line in text.lines() {
-        if let Some(title) = line.strip_prefix("= ") {
-            cases.push(Case::new(alloc, title)?)?;
-        } else if let Some(case) = cases.last_mut() {
-            case.take_line(alloc, line)?;
-        }
+        parse_line(alloc, &mut cases, line)?;
     }
     Ok(cases)
+}
+
+// Takes the next line of a file.
+fn parse_line(alloc: Global, cases: &mut Vec<Case>, line: &str) -> Result<(), AllocError>
+    ensures { OnOk result (LineComes line.now cases.old.items cases.new.items) }
+{
+    if let Some(title) = line.strip_prefix("= ") {
+        cases.push(Case::new(alloc, title)?)?;
+    } else if let Some(case) = cases.last_mut() {
+        case.take_line(alloc, line)?;
+    }
+    Ok(())
 }
 
 /// Whether a line is that of a fault.

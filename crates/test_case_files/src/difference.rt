@@ -16,7 +16,12 @@ pub enum Difference {
 impl Difference {
     /// A difference, or that there is no memory for its text.
     pub fn new(alloc: Global, text: &str) -> Self {
-        match String::from_str(alloc, text) {
+        Difference::told(String::from_str(alloc, text))
+    }
+
+    /// A difference with a text, or that there was no memory for it.
+    pub fn told(text: Result<String, AllocError>) -> Self {
+        match text {
             Ok(text) => Difference::Found(text),
             Err(error) => Difference::OutOfMemory(error),
         }
@@ -35,10 +40,7 @@ impl Difference {
     /// The difference, with where it was found.
     pub fn within(self, alloc: Global, place: &str) -> Self {
         match self {
-            Difference::Found(text) => match format!(in alloc; "{place}: {text}") {
-                Ok(text) => Difference::Found(text),
-                Err(error) => Difference::OutOfMemory(error),
-            },
+            Difference::Found(text) => Difference::told(format!(in alloc; "{place}: {text}")),
             Difference::OutOfMemory(error) => Difference::OutOfMemory(error),
         }
     }

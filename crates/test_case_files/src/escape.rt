@@ -5,7 +5,7 @@ ghost use Rattle.test_case_files.specs.Escapes.{EscapeStep, ReadsBack};
 
 use std::alloc::{AllocError, Global};
 
-/// A line with the characters for which its escapes stand.
+/// A line with the characters that its escapes stand for.
 pub fn unescaped(alloc: Global, line: &str) -> Result<String, AllocError>
     ensures is { IfOk result (λ text. string_bytes text ≡ escapes.unescaped_bytes line.now) }
     ensures written { IfOk result (λ text. ReadsBack line.now (string_bytes text)) }
@@ -31,7 +31,7 @@ pub enum Escape {
 }
 
 impl Escape {
-    // The character that stands there once the next one is read, and how much has then been read.
+    // The character that is there once the next one is read, and how much has then been read.
     fn read(self, c: char) -> (Option<char>, Escape)
         ensures { EscapeStep self c result.0 result.1 }
     {

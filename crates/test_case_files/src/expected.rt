@@ -68,9 +68,11 @@ impl<'a> Expected<'a> {
         ensures comes { OnOk result (Comes (item_of item.entry) self.old) }
         ensures rest { self.new ≡ (if is_ok result then drop 1 self.old else self.old) }
     {
-        self.is_next(item)?;
-        self.lines = self.lines.get(1..).unwrap_or(&[]);
-        Ok(())
+        let passed = self.is_next(item);
+        if passed.is_ok() {
+            self.lines = self.lines.get(1..).unwrap_or(&[]);
+        }
+        passed
     }
 
     /// The same of what was handed out.
@@ -81,7 +83,9 @@ impl<'a> Expected<'a> {
         ensures comes { OnOk result (Comes item.entry self.old) }
         ensures rest { self.new ≡ (if is_ok result then drop 1 self.old else self.old) }
     {
-        self.pass_item(&item)
+        let passed = self.pass_item(&item);
+        drop(item);
+        passed
     }
 
     /// The same of what is kept.
@@ -104,9 +108,7 @@ impl<'a> Expected<'a> {
     {
         match self.lines.first() {
             None => Ok(()),
-            Some(wanted) => Err(Difference::Found(format!(in self.alloc;
-                "{wanted:?} is missing"
-            )?)),
+            Some(wanted) => Err(Difference::told(format!(in self.alloc; "{wanted:?} is missing"))),
         }
     }
 }
@@ -118,9 +120,9 @@ fn is_first(alloc: Global, line: &String, lines: &[String]) -> Result<(), Differ
     match lines.first() {
         Some(wanted) if *wanted == *line => Ok(()),
         Some(wanted) => {
-            let text = format!(in alloc; "{line:?} in place of {wanted:?}")?;
-            Err(Difference::Found(text))
+            let text = format!(in alloc; "{line:?} in place of {wanted:?}");
+            Err(Difference::told(text))
         }
-        None => Err(Difference::Found(format!(in alloc; "{line:?} is too much")?)),
+        None => Err(Difference::told(format!(in alloc; "{line:?} is too much"))),
     }
 }

@@ -9,7 +9,7 @@ ghost use Rattle.test_case_files.specs.Lines.{Pushes};
 use saphyr_parser::{Event, Fault, Marker, ScalarStyle, Span, Tag};
 use std::alloc::AllocError;
 
-/// Puts the line of what a parser hands out behind a text.
+/// Puts the line of what a parser hands out after a text.
 ///
 /// The line of a fault is `! ` and what the fault prints, which is written out here: no clause of its own
 /// says what it is.
@@ -20,19 +20,37 @@ pub fn push_item(
     ensures { Pushes result line.old line.new (lines.line_of_item (result_copied item.entry)) }
 {
     match item {
-        Ok((event, span)) => {
-            line.push_str("> ")?;
-            push_event(line, event)?;
-            line.push_str(" @ ")?;
-            push_place(line, span.start)?;
-            line.push(' ')?;
-            push_place(line, span.end)
-        }
-        Err(Fault::Scan(error)) => write!(line, "! {error}"),
-        Err(Fault::OutOfMemory) => line.push_str("! out of memory"),
-        Err(Fault::Receiver) => line.push_str("! the receiver refused an event"),
-        Err(Fault::InsideDocument) => line.push_str("! load was called inside a document"),
+        Ok((event, span)) => push_event_line(line, event, *span),
+        Err(fault) => push_fault(line, fault),
     }
+}
+
+fn push_fault(line: &mut String, fault: &Fault) -> Result<(), AllocError>
+    ensures { Pushes result line.old line.new (lines.line_of_fault fault.now) }
+{
+    match fault {
+        Fault::Scan(error) => write!(line, "! {error}"),
+        Fault::OutOfMemory => line.push_str("! out of memory"),
+        Fault::Receiver => line.push_str("! the receiver refused an event"),
+        Fault::InsideDocument => line.push_str("! load was called inside a document"),
+    }
+}
+
+fn push_event_line(line: &mut String, event: &Event<'_>, span: Span) -> Result<(), AllocError>
+    ensures { Pushes result line.old line.new (lines.event_line (happening event.now) span) }
+{
+    line.push_str("> ")?;
+    push_event(line, event)?;
+    line.push_str(" @ ")?;
+    push_span(line, span)
+}
+
+fn push_span(line: &mut String, span: Span) -> Result<(), AllocError>
+    ensures { Pushes result line.old line.new (lines.span_text span) }
+{
+    push_place(line, span.start)?;
+    line.push(' ')?;
+    push_place(line, span.end)
 }
 
 fn push_place(line: &mut String, mark: Marker) -> Result<(), AllocError>

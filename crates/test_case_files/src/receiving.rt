@@ -109,11 +109,24 @@ impl<'a> ComparingReceiver<'a> {
         ensures fault { IfErr answer (λ f. OnOk result
             (IsNext (line_of_fault f) self.old.left × (self.new.left ≡ drop 1 self.old.left))) }
     {
-        self.check()?;
         match answer {
-            Ok(()) => Ok(()),
-            Err(fault) => self.expected.pass(Some(Err(&fault))),
+            Ok(()) => self.check(),
+            Err(fault) => {
+                let passed = self.check_fault(&fault);
+                drop(fault);
+                passed
+            }
         }
+    }
+
+    // What has come is as expected, and the line of a fault is the next one.
+    fn check_fault(&mut self, fault: &Fault) -> Result<(), Difference>
+        ensures same { OnOk result (self.old.differs ≡ false) }
+        ensures passes { OnOk result (IsNext (line_of_fault fault.now) self.old.left
+            × (self.new.left ≡ drop 1 self.old.left)) }
+    {
+        self.check()?;
+        self.expected.pass(Some(Err(fault)))
     }
 }
 
@@ -123,6 +136,9 @@ impl<'input> SpannedEventReceiver<'input> for ComparingReceiver<'_> {
     ghost receives = { λ s e r t. PassesLine r e.0 e.1 s t };
 
     fn on_event(&mut self, ev: Event<'input>, span: Span) -> Result<(), Refused> {
-        self.take(&(ev, span))
+        let event = (ev, span);
+        let taken = self.take(&event);
+        drop(event);
+        taken
     }
 }

@@ -69,7 +69,7 @@ impl KeepingWriter {
         }
     }
 
-    /// What is left of a text behind the bytes that came, where they are its beginning.
+    /// What is left of a text after the bytes that came, where they are its beginning.
     pub fn rest_of<'a>(&self, text: &'a str) -> Option<&'a [u8]>
         ensures { MatchOption result ⊤ (λ rest. text.now ≡ self.now ++ rest.now) }
     {

@@ -85,7 +85,7 @@ part_rest : (multi : Bool) (es : List (Happening × Span)) (f : Option Ending) �
 part_rest multi [] f = record { rest = []; split = refl; fewer = omega arith; some = λ h. h }
 part_rest multi (e ∷ es) f = rest_behind (is_last multi e.0) e es f (portion multi es f) (part_rest multi es f)
 
--- Memory ran out behind what was sent.
+-- Memory ran out after what was sent.
 lost_lines : (multi : Bool) (old new : EventCursor) (first last : Comparing)
     → Lost takes (portion_to_send multi old) old first last new → IsNext want_line last.left → drop 1 last.left ≡ []
     → ListAll first.left (to_come old)
@@ -343,7 +343,7 @@ lists_passed item old new lines left (Ok u) hands comes is =
     λ rest. lists_more item old new lines left hands comes is rest
 lists_passed item old new lines left (Err d) hands comes is = tt
 
--- The receiver refused the event behind the lines, and has passed them.
+-- The receiver refused the event after the lines, and has passed them.
 pub refused_ends : (result : Result (Unit {0}) Difference) (multi : Bool) (old new : EventCursor)
     (first last : Comparing) (before : List (String Global))
     → Stopped takes (portion_to_send multi old) old first last new → first.left ≡ before → OnOk result (last.left ≡ [])

@@ -19,7 +19,7 @@ DumpAgrees c = IsDump (fault_line_of c.lines.items) (dumped_text c.lines.items) 
 abbrev pub is_event_line : List ℕ → Bool
 is_event_line line = starts_with nat_eq line (codes "> ")
 
--- Where the event of this line is refused, the lines before it and those behind it list all others.
+-- Where the event of this line is refused, the lines before it and those after it list all others.
 abbrev pub RefusalAgrees : Case → ℕ → Type 0
 RefusalAgrees c place = (line : String Global) → slice_get c.lines.items place ≡ Some line
     → is_event_line (string_bytes line) ≡ true

@@ -18,7 +18,7 @@ IsDumpUpTo fault.OutOfMemory text all =
 IsDumpUpTo fault.Receiver text all = ⊥
 IsDumpUpTo fault.InsideDocument text all = ⊥
 
--- The text is all lines of the events, behind which no fault comes, or one with this line.
+-- The text is all lines of the events, after which no fault comes, or one with this line.
 abbrev pub IsDump : Option (List ℕ) → List ℕ → Answer → Type 0
 IsDump None text all = (text ≡ printed_lines all.events) × (all.fault ≡ None)
 IsDump (Some line) text all = (f : Fault) × (line ≡ line_of_fault f) × IsDumpUpTo f text all

@@ -16,7 +16,7 @@ pub record StandsBetween (parser : EventCursor) : Type 0 where
   pub finished : parser.finished ≡ None
   pub inside : parser.inside ≡ false
 
--- One event was refused: the lines before it are those of the events before it, and the lines behind it list what is
+-- One event was refused: the lines before it are those of the events before it, and the lines after it list what is
 -- left.
 pub record ListAllButOne (before others : List (String Global)) (all : Answer) : Type 0 where
   pub sent : List (Happening × Span)
@@ -32,7 +32,7 @@ abbrev pub HasMore : Bool → Answer → Type 0
 HasMore true all = 0 < count all
 HasMore false all = all ≡ empty_answer
 
--- While something is left the parser stands between documents.
+-- While something is left the parser is between documents.
 abbrev pub MayLoad : EventCursor → Type 0
 MayLoad parser = 0 < count (to_come parser) → StandsBetween parser
 

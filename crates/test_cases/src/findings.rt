@@ -10,7 +10,7 @@ use test_case_files::{Case, Difference};
 const MOST_SHOWN: usize = 20;
 
 /// What is compared with a case.
-#[derive(Clone, Copy, Debug)]
+#[derive(Clone, Copy)]
 pub enum Subject {
     /// The events, by each way to take them.
     Events,
@@ -49,12 +49,12 @@ impl Subject {
 pub struct Findings {
     /// How many cases agree.
     pub agreeing: usize,
-    /// The first differences, each behind the name of its case.
+    /// The first differences, each after the name of its case.
     pub differences: Vec<String>,
 }
 
 impl Findings {
-    // Puts a difference behind the others, while there are few.
+    // Puts a difference after the others, while there are few.
     fn put(&mut self, alloc: Global, name: &str, difference: Difference) -> Result<(), AllocError>
         ensures count { self.new.agreeing ≡ self.old.agreeing }
         ensures shown { OnOk result (0 < vec_len self.new.differences) }

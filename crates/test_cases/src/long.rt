@@ -1,5 +1,5 @@
 //! Texts that are long or deep.
-ghost use Rattle.std.specs.Prelude.{◌≡◌, ◌++◌, IfOk, None, OnOk, string_bytes};
+ghost use Rattle.std.specs.Prelude.{◌≡◌, ◌++◌, IfOk, OnOk, option_map, string_bytes};
 ghost use Rattle.test_cases.specs.Long as long;
 ghost use Rattle.test_cases.specs.Long.{DeepBlockAgrees, DeepFlowAgrees, LongKeyAgrees, IsDumpOf, times};
 
@@ -20,7 +20,7 @@ pub fn compare(alloc: Global) -> Result<(), Difference>
     Difference::found_in(alloc, "a long key", take_key(alloc))
 }
 
-// A colon may not stand before a brace, at the first of 10,000.
+// A colon may not be before a brace, at the first of 10,000.
 fn nest_flow(alloc: Global) -> Result<(), Difference>
     ensures { OnOk result DeepFlowAgrees }
 {
@@ -28,12 +28,7 @@ fn nest_flow(alloc: Global) -> Result<(), Difference>
     push_many(&mut text, "{a:", 10_000)?;
     push_many(&mut text, "}", 10_000)?;
     let fault = "! ':' may not precede any of `[{` in flow mapping at byte 2 line 1 column 3";
-    let dumped = Dumped {
-        alloc,
-        lines: "+STR\n",
-        fault: Some(fault),
-    };
-    compare_inputs(alloc, text.as_str(), &dumped)
+    is_dump_of(alloc, text.as_str(), Some(fault), "+STR\n")
 }
 
 // Block collections may be nested as deep as one likes.
@@ -42,7 +37,7 @@ fn nest_block(alloc: Global) -> Result<(), Difference>
 {
     let text = between(alloc, "", "- ", 10_000, "a")?;
     let lines = nested_lines(alloc)?;
-    is_dump_of(alloc, text.as_str(), lines.as_str())
+    is_dump_of(alloc, text.as_str(), None, lines.as_str())
 }
 
 // The lines of 10,000 nested sequences.
@@ -68,17 +63,18 @@ fn take_key(alloc: Global) -> Result<(), Difference>
         100_000,
         "\n=VAL :b\n-MAP\n-SEQ\n-DOC\n-STR\n",
     )?;
-    is_dump_of(alloc, text.as_str(), lines.as_str())
+    is_dump_of(alloc, text.as_str(), None, lines.as_str())
 }
 
-// The text gives these lines, and no fault.
-fn is_dump_of(alloc: Global, text: &str, lines: &str) -> Result<(), Difference>
-    ensures { OnOk result (IsDumpOf text.now None lines.now) }
+// The text gives these lines, and this fault or none.
+fn is_dump_of(alloc: Global, text: &str, fault: Option<&str>, lines: &str) -> Result<(), Difference>
+    ensures { OnOk result
+        (IsDumpOf text.now (option_map (λ line. line.now) fault.entry) lines.now) }
 {
     let dumped = Dumped {
         alloc,
         lines,
-        fault: None,
+        fault,
     };
     compare_inputs(alloc, text, &dumped)
 }
@@ -111,7 +107,7 @@ fn push_many(text: &mut String, piece: &str, count: usize) -> Result<(), AllocEr
 }
 
 /// What `dump` is to write and to answer.
-#[derive(Drop)]
+#[derive(Clone, Copy)]
 struct Dumped<'a> {
     alloc: Global,
     lines: &'a str,

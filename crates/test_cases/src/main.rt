@@ -15,6 +15,7 @@
 
 mod findings;
 mod inputs;
+mod limits;
 mod long;
 mod refusing;
 mod trees;
@@ -40,15 +41,18 @@ enum Failure {
 }
 
 fn main(rt: HostRuntime) -> Result<(), Failure> {
-    for name in FILES {
-        check_file(&rt, name, Subject::Events)?;
-    }
+    check_files(&rt, Subject::Events)?;
     check_file(&rt, "worked", Subject::RefusedEvents)?;
     check_file(&rt, "worked", Subject::FailedWrites)?;
-    for name in FILES {
-        check_file(&rt, name, Subject::Trees)?;
-    }
+    check_files(&rt, Subject::Trees)?;
     check_long_texts(&rt)
+}
+
+fn check_files(rt: &HostRuntime, subject: Subject) -> Result<(), Failure> {
+    for name in FILES {
+        check_file(rt, name, subject)?;
+    }
+    Ok(())
 }
 
 fn check_file(rt: &HostRuntime, name: &str, subject: Subject) -> Result<(), Failure> {

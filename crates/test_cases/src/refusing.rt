@@ -45,7 +45,7 @@ fn is_event(line: &String) -> bool
     line.starts_with("> ")
 }
 
-// Where the first of the lines behind is refused, those before it have come, and the others are left.
+// Where the first of the lines after is refused, those before it have come, and the others are left.
 fn refuse_between<T: CloneInput>(
     alloc: Global,
     parser: &mut Parser<'_, T>,
@@ -74,7 +74,10 @@ fn refuse_behind<T: Input>(
         → ListAllButOne before.now others (to_come parser.old)) }
 {
     let mut receiver = ComparingReceiver::refusing(alloc, before, before.len());
-    if is_refused(&parser.load(&mut receiver, true)) {
+    let answer = parser.load(&mut receiver, true);
+    let refused = is_refused(&answer);
+    drop(answer);
+    if refused {
         return receiver.check_end();
     }
     Err(Difference::new(alloc, "`load` doesn't answer the refusal"))

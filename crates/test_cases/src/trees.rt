@@ -6,18 +6,13 @@ ghost use Rattle.test_cases.specs.Agreement.{TreesAgree};
 ghost use Rattle.test_cases.specs.Trees.{HasTrees, IsTold};
 
 use crate::inputs::parser_of;
+use crate::limits::{WIDE, Wanted, first_beyond, needed};
 use crate::ways::{gives_one, is_left, is_left_to_clone};
 use saphyr_parser::{CloneInput, Event, Fault, Input, Parser, ScanError, Span};
 use std::alloc::{AllocError, Global};
-use test_case_files::{Case, Difference};
+use test_case_files::{Case, Difference, is_fault};
 use test_tree_events::events_of;
 use yaml_tree::{Document, Limits, TreeFault, load_documents};
-
-/// Limits that no text passes.
-const WIDE: Limits = Limits {
-    nodes: usize::MAX,
-    depth: usize::MAX,
-};
 
 /// Compares the trees of a text with the events that its parser gives: within limits as wide as the text
 /// needs, within limits of one less and of nothing, and on a parser that is not new.
@@ -36,33 +31,31 @@ fn compare_trees<T: CloneInput>(
         (ListAll lines.now (to_come parser.now) × HasTrees (to_come parser.now)) }
 {
     is_left_to_clone(alloc, parser, lines)?;
-    let given = Given::new(alloc, parser)?;
-    load_given(alloc, parser, lines, &given)
+    load_each(alloc, parser, lines)
 }
 
-fn load_given<T: CloneInput>(
+fn load_each<T: CloneInput>(
     alloc: Global,
     parser: &Parser<'_, T>,
     lines: &[String],
-    given: &Given<'_>,
 ) -> Result<(), Difference>
     ensures { OnOk result (HasTrees (to_come parser.now)) }
 {
-    load_clone(alloc, parser, given)?;
-    load_near(alloc, parser, lines, given)?;
+    load_clone(alloc, parser, lines)?;
+    load_near(alloc, parser, lines)?;
     load_again(alloc, parser)?;
-    load_late(alloc, parser, lines, given)
+    load_late(alloc, parser, lines)
 }
 
 fn load_clone<T: CloneInput>(
     alloc: Global,
     parser: &Parser<'_, T>,
-    given: &Given<'_>,
+    lines: &[String],
 ) -> Result<(), Difference>
     ensures { OnOk result (HasTrees (to_come parser.now)) }
 {
     let mut clone = parser.try_clone()?;
-    load_all(alloc, &mut clone, given, WIDE)
+    load_all(alloc, &mut clone, parser, lines, WIDE)
 }
 
 // Within limits as wide as the text needs, of one less and of nothing.
@@ -70,13 +63,12 @@ fn load_near<T: CloneInput>(
     alloc: Global,
     parser: &Parser<'_, T>,
     lines: &[String],
-    given: &Given<'_>,
 ) -> Result<(), Difference> {
-    let needed = given.needed();
+    let needed = needed(lines);
     for nodes in [0, needed.nodes.saturating_sub(1), needed.nodes] {
         for depth in [0, needed.depth.saturating_sub(1), needed.depth] {
             let limits = Limits { nodes, depth };
-            let loaded = load_within(alloc, parser, lines, given, limits);
+            let loaded = load_within(alloc, parser, lines, limits);
             found_within(alloc, limits, loaded)?;
         }
     }
@@ -94,87 +86,77 @@ fn found_within(
     Difference::found_in(alloc, place.as_str(), found)
 }
 
-// The answer within limits, and what is left behind it.
+// The answer within limits, and what is left after it.
 fn load_within<T: CloneInput>(
     alloc: Global,
     parser: &Parser<'_, T>,
     lines: &[String],
-    given: &Given<'_>,
     limits: Limits,
 ) -> Result<(), Difference> {
     let mut clone = parser.try_clone()?;
-    load_limited(alloc, &mut clone, lines, given, limits)
-}
-
-fn load_limited<T: Input + Drop>(
-    alloc: Global,
-    parser: &mut Parser<'_, T>,
-    lines: &[String],
-    given: &Given<'_>,
-    limits: Limits,
-) -> Result<(), Difference> {
-    match given.first_beyond(limits) {
+    match first_beyond(lines, limits) {
         Some((place, wanted)) => {
-            is_refused(
-                alloc,
-                parser,
-                limits,
-                &wanted,
-                lines.get(place..).unwrap_or(&[]),
-            )
+            let left = lines.get(place..).unwrap_or(&[]);
+            is_refused(alloc, &mut clone, limits, wanted, left)
         }
-        None => load_all(alloc, parser, given, limits),
+        None => load_all(alloc, &mut clone, parser, lines, limits),
     }
 }
 
-// All documents, or the fault of the text, and nothing is left.
-#[tactic(auto, using(crate::proofs::TreesTold::has_trees))]
-fn load_all<T: Input + Drop>(
+// All documents have the events of the fresh parser, or the fault of the text comes, and nothing is left.
+fn load_all<T: CloneInput>(
     alloc: Global,
     parser: &mut Parser<'_, T>,
-    given: &Given<'_>,
+    fresh: &Parser<'_, T>,
+    lines: &[String],
     limits: Limits,
 ) -> Result<(), Difference>
     ensures { OnOk result (HasTrees (to_come parser.old)) }
 {
     let answer = load_documents(alloc, parser, limits);
-    given.is_loaded(alloc, answer)?;
+    let loaded = is_loaded(alloc, &answer, fresh, lines);
+    drop(answer);
+    loaded?;
     is_left(alloc, parser, &[])
 }
 
 // A parser that has ended is not new.
 fn load_again<T: CloneInput>(alloc: Global, parser: &Parser<'_, T>) -> Result<(), Difference> {
     let mut clone = parser.try_clone()?;
-    pass_documents(alloc, &mut clone);
+    drop(load_documents(alloc, &mut clone, WIDE));
     is_late(alloc, &mut clone, &[])
 }
 
-fn pass_documents<T: Input>(alloc: Global, parser: &mut Parser<'_, T>) {
-    let _ = load_documents(alloc, parser, WIDE);
-}
-
-// Behind the first event nothing is passed, unless a fault comes next.
+// After the first event nothing is passed, unless a fault comes next.
 fn load_late<T: CloneInput>(
     alloc: Global,
     parser: &Parser<'_, T>,
     lines: &[String],
-    given: &Given<'_>,
 ) -> Result<(), Difference> {
     let mut clone = parser.try_clone()?;
     let _ = gives_one(&mut clone);
-    load_rest(alloc, &mut clone, lines, given)
+    load_rest(alloc, &mut clone, parser, lines)
 }
 
-fn load_rest<T: Input + Drop>(
+fn load_rest<T: CloneInput>(
     alloc: Global,
     parser: &mut Parser<'_, T>,
+    fresh: &Parser<'_, T>,
     lines: &[String],
-    given: &Given<'_>,
 ) -> Result<(), Difference> {
-    if given.events.len() == 1 {
-        return load_all(alloc, parser, given, WIDE);
+    let rest = lines.get(1..).unwrap_or(&[]);
+    if begins_with_fault(rest) {
+        return load_all(alloc, parser, fresh, lines, WIDE);
     }
-    is_late(alloc, parser, lines.get(1..).unwrap_or(&[]))
+    is_late(alloc, parser, rest)
+}
+
+fn begins_with_fault(lines: &[String]) -> bool {
+    matches!(lines.first(), Some(line) if is_fault(line.as_str()))
+}
+
+fn ends_with_fault(lines: &[String]) -> bool {
+    matches!(lines.last(), Some(line) if is_fault(line.as_str()))
 }
 
 // The parser is not new, and what it has left are the lines.
@@ -183,7 +165,7 @@ fn is_late<T: Input + Drop>(
     parser: &mut Parser<'_, T>,
     lines: &[String],
 ) -> Result<(), Difference> {
-    is_refused(alloc, parser, WIDE, &TreeFault::NotFresh, lines)
+    is_refused(alloc, parser, WIDE, Wanted::NotFresh, lines)
 }
 
 // Within these limits this fault is answered, and these lines are left.
@@ -191,148 +173,122 @@ fn is_refused<T: Input + Drop>(
     alloc: Global,
     parser: &mut Parser<'_, T>,
     limits: Limits,
-    wanted: &TreeFault,
+    wanted: Wanted<'_>,
     left: &[String],
 ) -> Result<(), Difference> {
-    let loaded = load_documents(alloc, parser, limits);
-    is_fault(alloc, &loaded, wanted)?;
+    let answer = load_documents(alloc, parser, limits);
+    let refused = is_wanted(alloc, &answer, wanted);
+    drop(answer);
+    refused?;
     is_left(alloc, parser, left)
 }
 
-fn is_fault(
+fn is_wanted(
     alloc: Global,
-    loaded: &Result<Vec<Document>, TreeFault>,
-    wanted: &TreeFault,
+    answer: &Result<Vec<Document>, TreeFault>,
+    wanted: Wanted<'_>,
 ) -> Result<(), Difference> {
-    let text = match loaded {
-        Err(fault) if *fault == *wanted => return Ok(()),
-        Err(fault) => format!(in alloc; "{fault} in place of {wanted}")?,
-        Ok(_) => format!(in alloc; "documents in place of {wanted}")?,
-    };
-    Err(Difference::Found(text))
-}
-
-// What a parser gives.
-#[derive(Drop)]
-struct Given<'a> {
-    events: Vec<(Event<'a>, Span)>,
-    fault: Option<Fault>,
-}
-
-impl<'a> Given<'a> {
-    fn new<T: CloneInput>(alloc: Global, parser: &Parser<'a, T>) -> Result<Self, AllocError> {
-        let mut given = Given {
-            events: Vec::new(alloc),
-            fault: None,
-        };
-        given.take_clone(parser)?;
-        Ok(given)
-    }
-
-    fn take_clone<T: CloneInput>(&mut self, parser: &Parser<'a, T>) -> Result<(), AllocError> {
-        let mut clone = parser.try_clone()?;
-        self.take(&mut clone)
-    }
-
-    fn take<T: Input + Drop>(&mut self, parser: &mut Parser<'a, T>) -> Result<(), AllocError> {
-        for item in parser.by_ref() {
-            self.push(item)?;
-        }
-        Ok(())
-    }
-
-    fn push(&mut self, item: Result<(Event<'a>, Span), Fault>) -> Result<(), AllocError> {
-        match item {
-            Ok(event) => self.events.push(event)?,
-            Err(fault) => self.fault = Some(fault),
-        }
-        Ok(())
-    }
-
-    // The least limits within which the documents are loaded.
-    fn needed(&self) -> Limits {
-        let mut needed = NOTHING;
-        let mut count = NOTHING;
-        for (event, _) in &self.events {
-            count = count_event(count, event);
-            needed.nodes = count.nodes;
-            needed.depth = needed.depth.max(count.depth);
-        }
-        needed
-    }
-
-    // The fault at the first event that passes a limit, and how many events have come with it.
-    fn first_beyond(&self, limits: Limits) -> Option<(usize, TreeFault)> {
-        let mut count = NOTHING;
-        for (place, (event, span)) in self.events.iter().enumerate() {
-            count = count_event(count, event);
-            if count.nodes > limits.nodes {
-                let fault = TreeFault::TooManyNodes(span.start, limits.nodes);
-                return Some((place + 1, fault));
-            }
-            if count.depth > limits.depth {
-                let fault = TreeFault::TooDeep(span.start, limits.depth);
-                return Some((place + 1, fault));
-            }
-        }
-        None
-    }
-
-    // The answer is all documents or, where a fault ends the events, that fault.
-    fn is_loaded(
-        &self,
-        alloc: Global,
-        answer: Result<Vec<Document>, TreeFault>,
-    ) -> Result<(), Difference>
-        ensures { OnOk result (IsTold answer) }
-    {
-        match answer {
-            Ok(documents) => self.has_loaded(alloc, documents.as_slice()),
-            Err(TreeFault::Parse(Fault::Scan(error))) => self.is_ended(alloc, &error),
-            Err(fault) => Err(Difference::Found(format!(in alloc; "{fault}")?)),
-        }
-    }
-
-    // A fault of the text ends the events, and it is this one.
-    fn is_ended(&self, alloc: Global, error: &ScanError) -> Result<(), Difference> {
-        match &self.fault {
-            Some(Fault::Scan(wanted)) if *error == *wanted => Ok(()),
-            _ => Err(Difference::Found(format!(in alloc; "{error}")?)),
-        }
-    }
-
-    // No fault ends the events, and the documents have them.
-    fn has_loaded(&self, alloc: Global, documents: &[Document]) -> Result<(), Difference> {
-        if self.fault.is_some() {
-            return Err(Difference::new(alloc, "documents in place of a fault"));
-        }
-        self.are_all(alloc, documents)?;
-        have_copies(alloc, documents)
-    }
-
-    // The documents have these events.
-    fn are_all(&self, alloc: Global, documents: &[Document]) -> Result<(), Difference> {
-        let events = events_of(alloc, documents)?;
-        self.are_given(alloc, events.as_slice())
-    }
-
-    fn are_given(&self, alloc: Global, events: &[Event<'_>]) -> Result<(), Difference> {
-        if events.len() != self.events.len() {
-            return Err(Difference::new(alloc, "more or fewer events"));
-        }
-        for (event, (wanted, _)) in events.iter().zip(&self.events) {
-            is_event(alloc, event, wanted)?;
-        }
-        Ok(())
+    match answer {
+        Err(fault) => is_wanted_fault(alloc, fault, wanted),
+        Ok(_) => Err(Difference::new(alloc, "documents in place of a fault")),
     }
 }
 
-fn is_event(alloc: Global, event: &Event<'_>, wanted: &Event<'_>) -> Result<(), Difference> {
-    if *event == *wanted {
+fn is_wanted_fault(alloc: Global, fault: &TreeFault, wanted: Wanted<'_>) -> Result<(), Difference> {
+    if wanted.is(alloc, fault)? {
         return Ok(());
     }
-    let text = format!(in alloc; "{event:?} in place of {wanted:?}")?;
-    Err(Difference::Found(text))
+    let name = wanted.name();
+    Err(Difference::told(format!(in alloc; "{fault} in place of {name}")))
+}
+
+// The answer is all documents or, where a fault ends the events, that fault.
+fn is_loaded<T: CloneInput>(
+    alloc: Global,
+    answer: &Result<Vec<Document>, TreeFault>,
+    fresh: &Parser<'_, T>,
+    lines: &[String],
+) -> Result<(), Difference>
+    ensures { OnOk result (IsTold answer.now) }
+{
+    match answer {
+        Ok(documents) => has_loaded(alloc, documents.as_slice(), fresh, lines),
+        Err(TreeFault::Parse(Fault::Scan(error))) => is_ended(alloc, error, lines),
+        Err(fault) => Err(Difference::told(format!(in alloc; "{fault}"))),
+    }
+}
+
+// A fault of the text ends the lines, and it is this one.
+fn is_ended(alloc: Global, error: &ScanError, lines: &[String]) -> Result<(), Difference> {
+    let line = format!(in alloc; "! {error}")?;
+    match lines.last() {
+        Some(wanted) if *wanted == line => Ok(()),
+        _ => Err(Difference::new(alloc, line.as_str())),
+    }
+}
+
+// No fault ends the lines, and the documents have the events of the parser.
+fn has_loaded<T: CloneInput>(
+    alloc: Global,
+    documents: &[Document],
+    fresh: &Parser<'_, T>,
+    lines: &[String],
+) -> Result<(), Difference> {
+    if ends_with_fault(lines) {
+        return Err(Difference::new(alloc, "documents in place of a fault"));
+    }
+    are_all(alloc, documents, fresh)?;
+    have_copies(alloc, documents)
+}
+
+fn are_all<T: CloneInput>(
+    alloc: Global,
+    documents: &[Document],
+    fresh: &Parser<'_, T>,
+) -> Result<(), Difference> {
+    let events = events_of(alloc, documents)?;
+    gives_clone(alloc, fresh, events.as_slice())
+}
+
+fn gives_clone<T: CloneInput>(
+    alloc: Global,
+    parser: &Parser<'_, T>,
+    events: &[Event<'_>],
+) -> Result<(), Difference> {
+    let mut clone = parser.try_clone()?;
+    gives_all(alloc, &mut clone, events)
+}
+
+// A parser gives these events, and no more.
+fn gives_all<T: Input>(
+    alloc: Global,
+    parser: &mut Parser<'_, T>,
+    events: &[Event<'_>],
+) -> Result<(), Difference> {
+    for event in events {
+        is_given(alloc, parser.next_event(), event)?;
+    }
+    if gives_one(parser) {
+        return Err(Difference::new(alloc, "events are missing"));
+    }
+    Ok(())
+}
+
+fn is_given(
+    alloc: Global,
+    item: Option<Result<(Event<'_>, Span), Fault>>,
+    event: &Event<'_>,
+) -> Result<(), Difference> {
+    let is_same = has_event(&item, event);
+    drop(item);
+    if is_same {
+        return Ok(());
+    }
+    Err(Difference::told(format!(in alloc; "{event:?} in place of another")))
+}
+
+fn has_event(item: &Option<Result<(Event<'_>, Span), Fault>>, event: &Event<'_>) -> bool {
+    matches!(item, Some(Ok((given, _))) if *given == *event)
 }
 
 // The documents have copies that equal them.
@@ -348,26 +304,4 @@ fn have_copies(alloc: Global, documents: &[Document]) -> Result<(), Difference> 
 fn has_copy(document: &Document) -> Result<bool, AllocError> {
     let copy = document.try_clone()?;
     Ok(copy == *document)
-}
-
-const NOTHING: Limits = Limits { nodes: 0, depth: 0 };
-
-// The nodes that have come with this event, and the collections that are open.
-fn count_event(count: Limits, event: &Event<'_>) -> Limits {
-    let Limits { nodes, depth } = count;
-    match event {
-        Event::Alias(_) | Event::Scalar(..) => Limits {
-            nodes: nodes.saturating_add(1),
-            depth,
-        },
-        Event::SequenceStart(..) | Event::MappingStart(..) => Limits {
-            nodes: nodes.saturating_add(1),
-            depth: depth.saturating_add(1),
-        },
-        Event::SequenceEnd | Event::MappingEnd => Limits {
-            nodes,
-            depth: depth.saturating_sub(1),
-        },
-        _ => count,
-    }
 }

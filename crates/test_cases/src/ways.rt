@@ -20,7 +20,7 @@ pub fn compare(alloc: Global, case: &Case) -> Result<(), Difference>
     compare_inputs(alloc, case.text.as_str(), &Ways { alloc, case })
 }
 
-#[derive(Drop)]
+#[derive(Clone, Copy)]
 struct Ways<'a> {
     alloc: Global,
     case: &'a Case,
@@ -113,7 +113,7 @@ fn load_each<T: CloneInput>(
 }
 
 // Has the next document handed over. Whether another may come: `load` is not called where nothing is left,
-// nor behind a fault, since it would hand over the end of the stream again, or answer that fault.
+// nor after a fault, since it would hand over the end of the stream again, or answer that fault.
 fn loads_on<T: CloneInput>(
     alloc: Global,
     parser: &mut Parser<'_, T>,
@@ -141,7 +141,10 @@ fn gives_more<T: CloneInput>(parser: &Parser<'_, T>) -> Result<bool, AllocError>
 pub fn gives_one<T: Input>(parser: &mut Parser<'_, T>) -> bool
     ensures { HasMore result (to_come parser.old) }
 {
-    parser.next_event().is_some()
+    let item = parser.next_event();
+    let gives = item.is_some();
+    drop(item);
+    gives
 }
 
 fn load_document<T: Input>(
@@ -167,6 +170,7 @@ fn is_unrefused(
     ensures { IfOk result (λ more. TakesAnswer answer more receiver.old receiver.new) }
 {
     if matches!(answer, Err(Fault::Receiver)) {
+        drop(answer);
         receiver.check()?;
         return Err(Difference::new(alloc, "an event is refused"));
     }
@@ -175,7 +179,7 @@ fn is_unrefused(
     Ok(more)
 }
 
-// `peek` shows each line, twice, before `next_event` gives it, and nothing behind the last.
+// `peek` shows each line, twice, before `next_event` gives it, and nothing after the last.
 fn by_peek<T: CloneInput>(
     alloc: Global,
     parser: &Parser<'_, T>,
@@ -224,7 +228,7 @@ fn pass_next<T: Input>(
     expected.pass_given(parser.next_event())
 }
 
-// At each place clones give what is left, before the next line is peeked and behind that.
+// At each place clones give what is left, before the next line is peeked and after that.
 fn by_clones<T: CloneInput>(
     alloc: Global,
     parser: &Parser<'_, T>,

@@ -100,24 +100,30 @@ pub fn is_dumped<T: Input + Drop>(
 {
     let mut writer = KeepingWriter::new(alloc, manner);
     let answer = dump(&mut parser, &mut writer);
-    let Some(rest) = writer.rest_of(text) else {
+    drop(parser);
+    let rest = writer.rest_of(text);
+    let has_failed = writer.has_failed();
+    drop(writer);
+    let Some(rest) = rest else {
         return Err(Difference::new(alloc, "other bytes are written"));
     };
     match answer {
-        Err(DumpFault::Write) if writer.has_failed() && !rest.is_empty() => Ok(true),
+        Err(DumpFault::Write) if has_failed && !rest.is_empty() => Ok(true),
         Ok(()) if rest.is_empty() && fault.is_none() => Ok(false),
-        Err(DumpFault::Parse(found)) if rest.is_empty() => is_fault(alloc, &found, fault),
+        Err(DumpFault::Parse(found)) if rest.is_empty() => is_fault(alloc, found, fault),
         _ => Err(Difference::new(alloc, "another answer")),
     }
 }
 
 // The line of a fault is as expected. No writer has failed.
-fn is_fault(alloc: Global, found: &Fault, fault: Option<&str>) -> Result<bool, Difference>
+fn is_fault(alloc: Global, found: Fault, fault: Option<&str>) -> Result<bool, Difference>
     ensures { IfOk result (λ has_failed. (has_failed ≡ false)
-        × (option_map (λ line. line.now) fault.entry ≡ Some (line_of_fault found.now))) }
+        × (option_map (λ line. line.now) fault.entry ≡ Some (line_of_fault found))) }
 {
     let mut line = String::new(alloc);
-    push_item(&mut line, Err(found))?;
+    let pushed = push_item(&mut line, Err(&found));
+    drop(found);
+    pushed?;
     if fault != Some(line.as_str()) {
         return Err(Difference::new(alloc, line.as_str()));
     }

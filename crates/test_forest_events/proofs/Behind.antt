@@ -1,4 +1,4 @@
--- The parts that stand before, with one more.
+-- The parts that come before, with one more.
 use Rattle.std.proofs.Common.{◌≡◌, ℕ, ◌+◌, ◌<◌, List, [], ◌∷◌, length, get_or, take, map, reverse, ◌∙◌, ap}
 use Rattle.std.proofs.lemmas.List.{map-append, reverse-append, take_more}
 use Rattle.test_forest_events.specs.TreeSeen.{part_view, parts_before}

@@ -1,9 +1,12 @@
 -- What contracts see of trees: a text as its characters.
-use Rattle.std.specs.Prelude.{ℕ, List, [], ◌∷◌, map, option_map, reverse, String, string_bytes}
+use Rattle.std.specs.Prelude.{ℕ, List, [], ◌∷◌, ◌++◌, Option, Some, None, codes, map, option_map, reverse, String, string_bytes}
 use Rattle.std.specs.Str.{chars}
 use Rattle.std.specs.declared.alloc.Global.{Global}
 use Rattle.saphyr_scanner.specs.Grammar.Forest as forest
 use Rattle.saphyr_parser.specs.Preorder as preorder
+use Rattle.saphyr_parser.specs.Types.Tag.{Tag}
+use Rattle.saphyr_parser.specs.Events.{ResolvedTag}
+use Rattle.saphyr_parser.specs.Views.Events.{resolved_tag}
 use Rattle.test_forest_events.specs.declared.tree.Handle.{Handle}
 use Rattle.test_forest_events.specs.declared.tree.Handle.TheVariants as handles
 use Rattle.test_forest_events.specs.declared.tree.WrittenTag.{WrittenTag}
@@ -24,6 +27,11 @@ abbrev pub handle_view : Handle → forest.Handle
 handle_view handles.Primary = forest.Primary
 handle_view handles.Secondary = forest.Secondary
 handle_view (handles.Named word) = forest.Named (text_view word)
+
+-- the handle around this word, if it has one, in UTF-8
+abbrev pub handle_around : Option (List ℕ) → List ℕ
+handle_around None = codes "!"
+handle_around (Some word) = codes "!" ++ (word ++ codes "!")
 
 abbrev pub tag_view : WrittenTag → forest.Tag
 tag_view tags.NonSpecific = forest.NonSpecific
@@ -81,6 +89,10 @@ part_view parts.CloseSequence = preorder.CloseSequence
 part_view (parts.OpenMapping p) = preorder.OpenMapping (properties_view p.now)
 part_view parts.CloseMapping = preorder.CloseMapping
 
--- parts that stand before, the latest first
+-- parts that come before, the latest first
 abbrev pub parts_before : List Part → List preorder.Part
 parts_before before = reverse (map part_view before)
+
+-- the tag of a node, which may be absent, or have a handle without a prefix
+abbrev pub resolved : Option (Option Tag) → Option (Option ResolvedTag)
+resolved tag = option_map (λ any. option_map resolved_tag any) tag

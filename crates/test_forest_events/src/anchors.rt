@@ -7,7 +7,7 @@ ghost use Rattle.test_forest_events.specs.TreeSeen.{parts_before};
 use crate::part::Part;
 use crate::text::is_same;
 
-/// The id of an anchor behind the parts.
+/// The id of an anchor after the parts.
 #[tactic(auto, using(crate::proofs::Behind::behind_more))]
 pub fn next_id(before: &[Part]) -> usize
     ensures { result ≡ suc (spec.anchors (parts_before before.now)) }

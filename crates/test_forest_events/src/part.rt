@@ -66,12 +66,24 @@ pub fn parts<'a>(alloc: Global, forest: &'a [Document]) -> Result<Vec<Part<'a>>,
         ≡ spec.parts (map document_view forest.now)) }
 {
     let mut parts = Vec::new(alloc);
-    push(&mut parts, Part::OpenStream)?;
-    for document in forest {
-        push_document(&mut parts, document)?;
+    match push_forest(&mut parts, forest) {
+        Ok(()) => Ok(parts),
+        Err(error) => {
+            drop(parts);
+            Err(error)
+        }
     }
-    push(&mut parts, Part::CloseStream)?;
-    Ok(parts)
+}
+
+fn push_forest<'a>(parts: &mut Vec<Part<'a>>, forest: &'a [Document]) -> Result<(), AllocError>
+    ensures { OnOk result (map part_view parts.new.items
+        ≡ map part_view parts.old.items ++ spec.parts (map document_view forest.now)) }
+{
+    push(parts, Part::OpenStream)?;
+    for document in forest {
+        push_document(parts, document)?;
+    }
+    push(parts, Part::CloseStream)
 }
 
 fn push_document<'a>(parts: &mut Vec<Part<'a>>, document: &'a Document) -> Result<(), AllocError>

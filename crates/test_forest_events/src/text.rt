@@ -17,3 +17,10 @@ pub fn owned(alloc: Global, text: &str) -> Result<String, AllocError>
 {
     String::from_str(alloc, text)
 }
+
+/// The text that a string holds.
+pub fn lent(text: &String) -> &str
+    ensures { result.now ≡ encode_utf8_all (chars (string_bytes text.now)) }
+{
+    text.as_str()
+}

@@ -21,7 +21,7 @@ pub enum WrittenTag {
     Shorthand(Handle, String),
 }
 
-/// What may stand before a node.
+/// What may come before a node.
 #[derive(Drop)]
 pub struct Properties {
     pub anchor: Option<String>,

@@ -1,8 +1,10 @@
 //! The events of a forest, one part after the other, each found by looking back at the parts before it.
-ghost use Rattle.std.specs.Prelude.{[], ◌≡◌, IfOk, map, option_map};
+ghost use Rattle.std.specs.Prelude.{[], ◌≡◌, IfOk, encode_utf8_all, map, option_map};
+ghost use Rattle.std.specs.Str.{chars};
 ghost use Rattle.saphyr_parser.specs.ForestEvents as spec;
 ghost use Rattle.saphyr_parser.specs.Views.Events.{happening};
-ghost use Rattle.test_forest_events.specs.TreeSeen.{parts_before, document_view, part_view, properties_view};
+ghost use Rattle.saphyr_parser.specs.Events.{Scalar, SequenceStart, MappingStart};
+ghost use Rattle.test_forest_events.specs.TreeSeen.{parts_before, document_view, part_view, properties_view, resolved};
 ghost use Rattle.saphyr_parser.specs.Anchors.{own_id};
 
 use crate::anchors::{latest, next_id};
@@ -10,7 +12,7 @@ use crate::part::{Part, parts};
 use crate::prefixes::resolve_any;
 use crate::text::owned;
 use crate::tree::{Document, Properties};
-use saphyr_parser::Event;
+use saphyr_parser::{Event, ScalarStyle, Tag};
 use std::alloc::{AllocError, Global};
 use std::borrow::CowStr;
 
@@ -59,39 +61,73 @@ fn event_of(
     ensures { IfOk result (λ event. option_map happening event
         ≡ spec.event_of_part keep (parts_before before.now) (part_view part.now)) }
 {
-    Ok(match part {
-        Part::OpenStream => Some(Event::StreamStart),
-        Part::CloseStream => Some(Event::StreamEnd),
-        Part::OpenDocument(explicit, _) => Some(Event::DocumentStart(*explicit)),
-        Part::CloseDocument => Some(Event::DocumentEnd),
+    match part {
+        Part::OpenStream => Ok(Some(Event::StreamStart)),
+        Part::CloseStream => Ok(Some(Event::StreamEnd)),
+        Part::OpenDocument(explicit, _) => Ok(Some(Event::DocumentStart(*explicit))),
+        Part::CloseDocument => Ok(Some(Event::DocumentEnd)),
         Part::Reference(name) => match latest(name, before) {
-            Some(id) => Some(Event::Alias(id)),
-            None => None,
+            Some(id) => Ok(Some(Event::Alias(id))),
+            None => Ok(None),
         },
         Part::Leaf(properties, style, text) => {
-            match resolve_any(alloc, &properties.tag, before, keep)? {
-                Some(tag) => {
-                    let text = CowStr::Owned(owned(alloc, text)?);
-                    Some(Event::Scalar(text, *style, own_anchor(properties, before), tag))
-                }
-                None => None,
-            }
+            let tag = resolve_any(alloc, &properties.tag, before, keep)?;
+            scalar(alloc, text, *style, own_anchor(properties, before), tag)
         }
         Part::OpenSequence(properties) => {
-            match resolve_any(alloc, &properties.tag, before, keep)? {
-                Some(tag) => Some(Event::SequenceStart(own_anchor(properties, before), tag)),
-                None => None,
-            }
+            let tag = resolve_any(alloc, &properties.tag, before, keep)?;
+            Ok(sequence_start(own_anchor(properties, before), tag))
         }
-        Part::CloseSequence => Some(Event::SequenceEnd),
+        Part::CloseSequence => Ok(Some(Event::SequenceEnd)),
         Part::OpenMapping(properties) => {
-            match resolve_any(alloc, &properties.tag, before, keep)? {
-                Some(tag) => Some(Event::MappingStart(own_anchor(properties, before), tag)),
-                None => None,
-            }
+            let tag = resolve_any(alloc, &properties.tag, before, keep)?;
+            Ok(mapping_start(own_anchor(properties, before), tag))
         }
-        Part::CloseMapping => Some(Event::MappingEnd),
-    })
+        Part::CloseMapping => Ok(Some(Event::MappingEnd)),
+    }
+}
+
+/// The event of a scalar, whose tag may be absent: `None` where its handle has no prefix.
+fn scalar(
+    alloc: Global,
+    text: &str,
+    style: ScalarStyle,
+    id: usize,
+    tag: Option<Option<Tag>>,
+) -> Result<Option<Event<'static>>, AllocError>
+    ensures { IfOk result (λ event. option_map happening event
+        ≡ option_map (Scalar (encode_utf8_all (chars text.now)) style id) (resolved tag)) }
+{
+    let Some(tag) = tag else {
+        return Ok(None);
+    };
+    match owned(alloc, text) {
+        Ok(text) => Ok(Some(Event::Scalar(CowStr::Owned(text), style, id, tag))),
+        Err(error) => {
+            drop(tag);
+            Err(error)
+        }
+    }
+}
+
+/// The same of a sequence.
+fn sequence_start(id: usize, tag: Option<Option<Tag>>) -> Option<Event<'static>>
+    ensures { option_map happening result ≡ option_map (SequenceStart id) (resolved tag) }
+{
+    match tag {
+        Some(tag) => Some(Event::SequenceStart(id, tag)),
+        None => None,
+    }
+}
+
+/// The same of a mapping.
+fn mapping_start(id: usize, tag: Option<Option<Tag>>) -> Option<Event<'static>>
+    ensures { option_map happening result ≡ option_map (MappingStart id) (resolved tag) }
+{
+    match tag {
+        Some(tag) => Some(Event::MappingStart(id, tag)),
+        None => None,
+    }
 }
 
 /// The id of a node's own anchor, 0 where it has none.

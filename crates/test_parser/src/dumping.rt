@@ -1,50 +1,50 @@
 //! What `dump` writes and answers, also where a writer fails, and the texts of its faults.
 use crate::helpers::{expect_that, is_text};
 use crate::writer::{Keeping, Manner, WHOLE};
-use saphyr_parser::{DumpFault, Fault, Marker, Parser, ScanError, StrInput, dump};
-use std::alloc::{AllocError, Global};
+use saphyr_parser::{DumpFault, Fault, Input, Marker, Parser, ScanError, dump};
+use std::alloc::Global;
 
-// `dump` answers so: the text of its fault, or nothing.
-fn is_answer(alloc: Global, answered: Result<(), DumpFault>, answer: &str) -> bool {
-    match answered {
-        Ok(()) => answer.is_empty(),
-        Err(fault) => is_text(fault.to_string(alloc), answer),
-    }
+// A fault prints this.
+fn prints(alloc: Global, fault: &DumpFault, text: &str) -> bool {
+    is_text(fault.to_string(alloc), text)
 }
 
-// `dump` answers so, and the writer has then taken these lines.
-fn is_dumped(
+// `dump` answers so, the text of its fault or nothing, and the writer has then taken these lines.
+fn is_dumped<T: Input + Drop>(
     alloc: Global,
-    parser: &mut Parser<'_, StrInput<'_>>,
+    parser: &mut Parser<'_, T>,
     out: &mut Keeping,
     answer: &str,
     lines: &str,
 ) -> bool {
-    is_answer(alloc, dump(parser, out), answer) && out.has_taken(lines)
+    let is_answer = match dump(parser, out) {
+        Ok(()) => answer.is_empty(),
+        Err(fault) => prints(alloc, &fault, answer),
+    };
+    is_answer && out.has_taken(lines)
 }
 
 // `dump` answers so, call by call, and after each the writer has taken these lines.
-fn are_dumped(
+fn are_dumped<T: Input + Drop>(
     alloc: Global,
-    parser: &mut Parser<'_, StrInput<'_>>,
+    mut parser: Parser<'_, T>,
     out: &mut Keeping,
     answers: &[&str],
     lines: &str,
 ) -> bool {
+    let mut holds = true;
     for answer in answers {
-        if !is_dumped(alloc, parser, out, answer, lines) {
-            return false;
-        }
+        holds = is_dumped(alloc, &mut parser, out, answer, lines) && holds;
     }
-    true
+    drop(parser);
+    holds
 }
 
 // The same of a text, with a writer that has taken nothing.
 fn dumps(alloc: Global, text: &str, manner: Manner, answers: &[&str], lines: &str) -> bool {
     let mut out = Keeping::new(alloc, manner);
-    let mut parser = Parser::new_from_str(alloc, text);
-    let holds = are_dumped(alloc, &mut parser, &mut out, answers, lines);
-    drop(parser);
+    let parser = Parser::new_from_str(alloc, text);
+    let holds = are_dumped(alloc, parser, &mut out, answers, lines);
     drop(out);
     holds
 }
@@ -75,12 +75,12 @@ fn is_filled(alloc: Global, room: usize, is_silent: bool) -> bool {
 #[test]
 fn stops_where_the_writer_fails(rt: HostRuntime) {
     for room in 0..10usize {
-        assert!(rt; is_filled(rt.alloc(), room, false), "{room}");
-        assert!(rt; is_filled(rt.alloc(), room, true), "{room}");
+        let holds = is_filled(rt.alloc(), room, false) && is_filled(rt.alloc(), room, true);
+        assert!(rt; holds, "{room}");
     }
 }
 
-// A second call has nothing to tell behind a fault.
+// A second call has nothing to tell after a fault.
 #[test]
 fn stops_at_a_fault(rt: HostRuntime) {
     let answers = &["found unprintable character at byte 0 line 1 column 1", ""];
@@ -88,16 +88,10 @@ fn stops_at_a_fault(rt: HostRuntime) {
     expect_that(&rt, holds, "\0");
 }
 
-// The fault of a refused text.
-fn refusal(alloc: Global, mark: Marker) -> Result<DumpFault, AllocError> {
-    let error = ScanError::new_str(alloc, mark, "x")?;
-    Ok(DumpFault::Parse(Fault::Scan(error)))
-}
-
-// A fault was made, and prints this.
-fn is_printed(alloc: Global, made: Result<DumpFault, AllocError>, text: &str) -> bool {
-    match made {
-        Ok(fault) => is_text(fault.to_string(alloc), text),
+// The fault of a text that is refused there prints this.
+fn prints_refusal(alloc: Global, mark: Marker, text: &str) -> bool {
+    match ScanError::new_str(alloc, mark, "x") {
+        Ok(error) => prints(alloc, &DumpFault::Parse(Fault::Scan(error)), text),
         Err(_) => false,
     }
 }
@@ -105,14 +99,12 @@ fn is_printed(alloc: Global, made: Result<DumpFault, AllocError>, text: &str) ->
 #[test]
 fn says_why_lines_are_missing(rt: HostRuntime) {
     let alloc = rt.alloc();
-    let place = Marker::new(3, 1, 3);
-    assert!(rt; is_printed(alloc, refusal(alloc, place), "x at byte 3 line 1 column 4"));
-    assert!(rt;
-        is_printed(
+    let holds = prints_refusal(alloc, Marker::new(3, 1, 3), "x at byte 3 line 1 column 4")
+        && prints(
             alloc,
-            Ok(DumpFault::Parse(Fault::OutOfMemory)),
-            "out of memory"
+            &DumpFault::Parse(Fault::OutOfMemory),
+            "out of memory",
         )
-    );
-    assert!(rt; is_printed(alloc, Ok(DumpFault::Write), "can't write"));
+        && prints(alloc, &DumpFault::Write, "can't write");
+    assert!(rt; holds);
 }

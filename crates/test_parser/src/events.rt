@@ -4,78 +4,7 @@ use crate::telling::{Calls, Row, expect_each};
 
 const AT_EACH_END: Calls = (&[Next, Peek, Next, Next, Peek], None);
 
-// Texts without documents.
-const WITHOUT_DOCUMENTS: &[Row] = &[
-    (
-        "",
-        AT_EACH_END,
-        "> +STR @ 0,1,0 0,1,0
-> -STR @ 0,1,0 0,1,0
-> -STR @ 0,1,0 0,1,0
-nothing
-nothing
-",
-    ),
-    (
-        "# c",
-        AT_EACH_END,
-        "> +STR @ 0,1,0 0,1,0
-> -STR @ 3,2,0 3,2,0
-> -STR @ 3,2,0 3,2,0
-nothing
-nothing
-",
-    ),
-];
-
-#[test]
-fn gives_the_events_of_a_text_without_documents(rt: HostRuntime) {
-    expect_each(&rt, rt.alloc(), WITHOUT_DOCUMENTS);
-}
-
 const AROUND_THE_FAULT: Calls = (&[], Some(&[Next, Peek, Peek, Next, Next, LoadPlaceless]));
-
-// Texts with a fault behind the stream's start.
-const REFUSED: &[Row] = &[
-    (
-        "\0",
-        AROUND_THE_FAULT,
-        "> +STR @ 0,1,0 0,1,0
-! found unprintable character at byte 0 line 1 column 1
-! found unprintable character at byte 0 line 1 column 1
-! found unprintable character at byte 0 line 1 column 1
-nothing
-! found unprintable character at byte 0 line 1 column 1
-",
-    ),
-    (
-        "}",
-        AROUND_THE_FAULT,
-        "> +STR @ 0,1,0 0,1,0
-! misplaced bracket at byte 0 line 1 column 1
-! misplaced bracket at byte 0 line 1 column 1
-! misplaced bracket at byte 0 line 1 column 1
-nothing
-! misplaced bracket at byte 0 line 1 column 1
-",
-    ),
-    (
-        "a\0b",
-        AROUND_THE_FAULT,
-        "> +STR @ 0,1,0 0,1,0
-! found unprintable character at byte 1 line 1 column 2
-! found unprintable character at byte 1 line 1 column 2
-! found unprintable character at byte 1 line 1 column 2
-nothing
-! found unprintable character at byte 1 line 1 column 2
-",
-    ),
-];
-
-#[test]
-fn gives_a_fault_once(rt: HostRuntime) {
-    expect_each(&rt, rt.alloc(), REFUSED);
-}
 
 // Three documents that use a prefix of the first.
 const PREFIXED: &str = "%TAG !prefix! tag:example.com,2011:
@@ -127,11 +56,68 @@ const BEFORE_THE_END: Calls = (&[Next, Next, Next, Next, Next, Next], Some(&[]))
 
 const BEHIND_A_PEEK: Calls = (&[Next, Next, Next, Next, Next, Next, Peek], Some(&[]));
 
+const ROWS: &[Row] = &[
+    // Texts without documents.
+    (
+        "",
+        AT_EACH_END,
+        "> +STR @ 0,1,0 0,1,0
+> -STR @ 0,1,0 0,1,0
+> -STR @ 0,1,0 0,1,0
+nothing
+nothing
+",
+    ),
+    (
+        "# c",
+        AT_EACH_END,
+        "> +STR @ 0,1,0 0,1,0
+> -STR @ 3,2,0 3,2,0
+> -STR @ 3,2,0 3,2,0
+nothing
+nothing
+",
+    ),
+    // Texts with a fault after the stream's start, which is given once.
+    (
+        "\0",
+        AROUND_THE_FAULT,
+        "> +STR @ 0,1,0 0,1,0
+! found unprintable character at byte 0 line 1 column 1
+! found unprintable character at byte 0 line 1 column 1
+! found unprintable character at byte 0 line 1 column 1
+nothing
+! found unprintable character at byte 0 line 1 column 1
+",
+    ),
+    (
+        "}",
+        AROUND_THE_FAULT,
+        "> +STR @ 0,1,0 0,1,0
+! misplaced bracket at byte 0 line 1 column 1
+! misplaced bracket at byte 0 line 1 column 1
+! misplaced bracket at byte 0 line 1 column 1
+nothing
+! misplaced bracket at byte 0 line 1 column 1
+",
+    ),
+    (
+        "a\0b",
+        AROUND_THE_FAULT,
+        "> +STR @ 0,1,0 0,1,0
+! found unprintable character at byte 1 line 1 column 2
+! found unprintable character at byte 1 line 1 column 2
+! found unprintable character at byte 1 line 1 column 2
+nothing
+! found unprintable character at byte 1 line 1 column 2
+",
+    ),
+    // Prefixes are kept from an end that is not yet read.
+    (PREFIXED, BEFORE_THE_END, KEPT),
+    (PREFIXED, BEHIND_A_PEEK, KEPT_LATE),
+];
+
 #[test]
-fn keeps_prefixes_from_an_end_that_is_not_yet_read(rt: HostRuntime) {
-    const ROWS: &[Row] = &[
-        (PREFIXED, BEFORE_THE_END, KEPT),
-        (PREFIXED, BEHIND_A_PEEK, KEPT_LATE),
-    ];
+fn tells_what_comes_and_each_fault(rt: HostRuntime) {
     expect_each(&rt, rt.alloc(), ROWS);
 }

@@ -1,13 +1,11 @@
 //! The tests of the parser, over its public names: of its events and faults, of its limit, of receivers, and of the
 //! lines that it prints.
 //!
-//! They stand in a crate of their own so that the parser is proved once and not a second time with its tests. A test
+//! They are in a crate of their own so that the parser is proved once and not a second time with its tests. A test
 //! states what is told as lines, and one helper compares them: so that few functions hold events and faults, which are
 //! dear to prove where they are dropped.
 #![tactic(auto)]
 
-#[cfg(test)]
-mod copies;
 #[cfg(test)]
 mod dumping;
 #[cfg(test)]

@@ -1,6 +1,6 @@
 //! Texts with limits on their characters.
 use crate::helpers::{expect_that, repeated};
-use crate::telling::{Calls, told_by_iter, told_by_list, told_by_str, told_within};
+use crate::telling::{Calls, told_by_iter, told_by_list, told_by_str};
 use std::alloc::Global;
 use std::process::Abort;
 
@@ -122,7 +122,7 @@ const THREE_CHARACTERS: &str = "> +STR @ 0,1,0 0,1,0
 // What a parser gives is asked of it alone.
 const NO_CALLS: Calls = (&[], None);
 
-// These are the lines, and behind them the text is too long or isn't.
+// These are the lines, and after them the text is too long or isn't.
 fn are_lines(told: String, lines: &str, is_too_long: bool) -> bool {
     let holds = match before_too_long(told.as_str()) {
         Some(before) => is_too_long && before == lines,
@@ -134,9 +134,9 @@ fn are_lines(told: String, lines: &str, is_too_long: bool) -> bool {
 
 // Three characters of a text may be read, and each input gives these lines.
 fn expect_by_each(rt: &impl Abort, alloc: Global, text: &str, lines: &str, is_too_long: bool) {
-    let by_str = told_within(alloc, text, 3, NO_CALLS);
+    let by_str = told_by_str(alloc, text, Some(3), NO_CALLS);
     expect_that(rt, are_lines(by_str, lines, is_too_long), text);
-    let by_iter = told_by_iter(alloc, text, 3, NO_CALLS);
+    let by_iter = told_by_iter(alloc, text, Some(3), NO_CALLS);
     expect_that(rt, are_lines(by_iter, lines, is_too_long), text);
     let by_list = told_by_list(alloc, text, Some(3), NO_CALLS);
     expect_that(rt, are_lines(by_list, lines, is_too_long), text);
@@ -162,7 +162,7 @@ fn are_beginning(told: String, all: &str) -> bool {
 // With each limit up to its length a text gives all these lines, or a beginning of them.
 fn gives_beginnings_of(alloc: Global, text: &str, all: &str) -> bool {
     for limit in 0..text.len() {
-        if !are_beginning(told_within(alloc, text, limit, NO_CALLS), all) {
+        if !are_beginning(told_by_str(alloc, text, Some(limit), NO_CALLS), all) {
             return false;
         }
     }
@@ -171,7 +171,7 @@ fn gives_beginnings_of(alloc: Global, text: &str, all: &str) -> bool {
 
 // With each limit up to its length a text gives what it gives without, or a beginning of that.
 fn gives_beginnings(alloc: Global, text: &str) -> bool {
-    let all = told_by_str(alloc, text, NO_CALLS);
+    let all = told_by_str(alloc, text, None, NO_CALLS);
     let holds = gives_beginnings_of(alloc, text, all.as_str());
     drop(all);
     holds

@@ -87,47 +87,6 @@ const PEEKED: &str = "> +STR @ 0,1,0 0,1,0
 loaded
 ";
 
-#[test]
-fn loads_documents_with_their_spans(rt: HostRuntime) {
-    const ROWS: &[Row] = &[
-        (
-            "a\n---\nb\n",
-            (&[Load, Load, Load, Load, Next], None),
-            TWO_DOCUMENTS,
-        ),
-        (
-            "{\"a\":[1,true]}",
-            (&[LoadAll, Load, Next], None),
-            COLLECTIONS,
-        ),
-        ("", (&[Peek, LoadAll], None), PEEKED),
-        ("", (&[Peek, LoadPlaceless], None), PEEKED),
-    ];
-    expect_each(&rt, rt.alloc(), ROWS);
-}
-
-const UP_TO_NONE: &str = "> +STR @ 0,1,0 0,1,0
-> +DOC @ 0,1,0 1,1,1
-> =VAL :a @ 0,1,0 1,1,1
-> -DOC @ 1,2,0 1,2,0
-> -STR @ 1,2,0 1,2,0
-loaded
-";
-
-const ENDS_INSIDE: &str = "> +STR @ 0,1,0 0,1,0
-> +DOC @ 0,1,0 1,1,1
-> +SEQ @ 0,1,0 1,1,1
-> =VAL :1 @ 1,1,1 2,1,2
-! while parsing a flow sequence, expected ',' or ']' at byte 2 line 2 column 1
-! while parsing a flow sequence, expected ',' or ']' at byte 2 line 2 column 1
-";
-
-#[test]
-fn loads_an_iterator_up_to_its_first_none(rt: HostRuntime) {
-    expect_lines(&rt, told_from(rt.alloc(), 0), UP_TO_NONE);
-    expect_lines(&rt, told_from(rt.alloc(), 3), ENDS_INSIDE);
-}
-
 const REFUSED: &str = "> +STR @ 0,1,0 0,1,0
 > +DOC @ 0,1,0 1,1,1
 ! the receiver refused an event
@@ -164,8 +123,20 @@ const LATER: &str = "> +STR @ 0,1,0 0,1,0
 ";
 
 #[test]
-fn stands_behind_a_refused_event_and_a_fault(rt: HostRuntime) {
+fn loads_documents_and_stands_behind_what_stopped_it(rt: HostRuntime) {
     const ROWS: &[Row] = &[
+        (
+            "a\n---\nb\n",
+            (&[Load, Load, Load, Load, Next], None),
+            TWO_DOCUMENTS,
+        ),
+        (
+            "{\"a\":[1,true]}",
+            (&[LoadAll, Load, Next], None),
+            COLLECTIONS,
+        ),
+        ("", (&[Peek, LoadAll], None), PEEKED),
+        ("", (&[Peek, LoadPlaceless], None), PEEKED),
         (
             "{\"a\":[1,true]}",
             (&[LoadRefused(2), LoadAll], None),
@@ -179,4 +150,26 @@ fn stands_behind_a_refused_event_and_a_fault(rt: HostRuntime) {
         ("&a x\n--- *a", (&[LoadAll], None), LATER),
     ];
     expect_each(&rt, rt.alloc(), ROWS);
+}
+
+const UP_TO_NONE: &str = "> +STR @ 0,1,0 0,1,0
+> +DOC @ 0,1,0 1,1,1
+> =VAL :a @ 0,1,0 1,1,1
+> -DOC @ 1,2,0 1,2,0
+> -STR @ 1,2,0 1,2,0
+loaded
+";
+
+const ENDS_INSIDE: &str = "> +STR @ 0,1,0 0,1,0
+> +DOC @ 0,1,0 1,1,1
+> +SEQ @ 0,1,0 1,1,1
+> =VAL :1 @ 1,1,1 2,1,2
+! while parsing a flow sequence, expected ',' or ']' at byte 2 line 2 column 1
+! while parsing a flow sequence, expected ',' or ']' at byte 2 line 2 column 1
+";
+
+#[test]
+fn loads_an_iterator_up_to_its_first_none(rt: HostRuntime) {
+    expect_lines(&rt, told_from(rt.alloc(), 0), UP_TO_NONE);
+    expect_lines(&rt, told_from(rt.alloc(), 3), ENDS_INSIDE);
 }

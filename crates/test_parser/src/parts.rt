@@ -1,4 +1,4 @@
-//! What an event tells of itself: its node's anchor and tag, and whether something begins or ends.
+//! What an event tells of itself, its node's anchor and tag, and whether something begins or ends, and equal copies.
 use crate::helpers::expect_that;
 use saphyr_parser::{Event, ScalarStyle, Tag};
 use std::alloc::{AllocError, Global};
@@ -21,8 +21,11 @@ enum Kind {
     MappingEnd,
 }
 
-// Of a kind of event, a number and a local tag: what is told of it.
-const TOLD: &[(Kind, usize, Option<&str>, &str)] = &[
+// The handle and the suffix of a tag, where there is one.
+type Parts<'a> = Option<(&'a str, &'a str)>;
+
+// Of a kind of event, a number and a tag: what is told of it.
+const TOLD: &[(Kind, usize, Parts, &str)] = &[
     (Kind::Nothing, 0, None, ""),
     (Kind::StreamStart, 0, None, "begins"),
     (Kind::StreamEnd, 0, None, "ends"),
@@ -32,39 +35,45 @@ const TOLD: &[(Kind, usize, Option<&str>, &str)] = &[
     (Kind::Alias, 1, None, ""),
     (Kind::Scalar, 0, None, ""),
     (Kind::Scalar, 1, None, "&1"),
-    (Kind::Scalar, 0, Some("x"), "!x"),
-    (Kind::Scalar, 2, Some("x"), "&2!x"),
+    (Kind::Scalar, 0, Some(("!", "x")), "!x"),
+    (Kind::Scalar, 2, Some(("!", "x")), "&2!x"),
+    (Kind::Scalar, 0, Some(("!", "foo")), "!foo"),
+    (
+        Kind::Scalar,
+        0,
+        Some(("tag:yaml.org,2002:", "str")),
+        "tag:yaml.org,2002:str",
+    ),
     (Kind::SequenceStart, 0, None, "begins"),
     (Kind::SequenceStart, 3, None, "begins&3"),
-    (Kind::SequenceStart, 3, Some("seq"), "begins&3!seq"),
+    (Kind::SequenceStart, 3, Some(("!", "seq")), "begins&3!seq"),
     (Kind::SequenceEnd, 0, None, "ends"),
     (Kind::MappingStart, 0, None, "begins"),
-    (Kind::MappingStart, 0, Some("map"), "begins!map"),
-    (Kind::MappingStart, 4, Some(""), "begins&4!"),
+    (Kind::MappingStart, 0, Some(("!", "map")), "begins!map"),
+    (Kind::MappingStart, 4, Some(("!", "")), "begins&4!"),
     (Kind::MappingEnd, 0, None, "ends"),
 ];
 
 #[test]
 fn tells_of_each_event(rt: HostRuntime) {
-    for &(kind, id, suffix, line) in TOLD {
-        expect_that(&rt, is_told(rt.alloc(), kind, id, suffix, line), line);
+    for &(kind, id, parts, line) in TOLD {
+        expect_that(&rt, is_told(rt.alloc(), kind, id, parts, line), line);
     }
 }
 
-// Whether this is told of the event of a kind.
-fn is_told(alloc: Global, kind: Kind, id: usize, suffix: Option<&str>, line: &str) -> bool {
-    match tag_of(alloc, suffix) {
+// Whether this is told of the event of a kind, which has an equal copy.
+fn is_told(alloc: Global, kind: Kind, id: usize, parts: Parts, line: &str) -> bool {
+    match tag_of(alloc, parts) {
         Ok(tag) => tells(alloc, event_of(kind, id, tag), line),
         Err(_) => false,
     }
 }
 
-// A local tag with this suffix, where there is one.
-fn tag_of(alloc: Global, suffix: Option<&str>) -> Result<Option<Tag>, AllocError> {
-    let Some(suffix) = suffix else {
+fn tag_of(alloc: Global, parts: Parts) -> Result<Option<Tag>, AllocError> {
+    let Some((handle, suffix)) = parts else {
         return Ok(None);
     };
-    let handle = String::from_str(alloc, "!")?;
+    let handle = String::from_str(alloc, handle)?;
     let suffix = String::from_str(alloc, suffix)?;
     Ok(Some(Tag { handle, suffix }))
 }
@@ -98,11 +107,29 @@ fn event_without_tag(kind: Kind, id: usize) -> Event<'static> {
 fn tells(alloc: Global, event: Event<'_>, line: &str) -> bool {
     let mut told = String::new(alloc);
     push_told(&mut told, &event);
+    let has_copies = is_copied(&event);
     drop(event);
-    told.as_str() == line
+    has_copies && told.as_str() == line
 }
 
-// Adds whether something begins or ends, the anchor's id behind `&`, and the tag.
+// Whether an event and its tag have equal copies.
+fn is_copied(event: &Event<'_>) -> bool {
+    let is_tag_copied = match event.tag() {
+        Some(tag) => is_made(tag.try_clone(), tag),
+        None => true,
+    };
+    is_tag_copied && is_made(event.try_clone(), event)
+}
+
+// Whether a value was made, and is equal to this one.
+fn is_made<V: PartialEq + Drop>(made: Result<V, AllocError>, like: &V) -> bool {
+    match made {
+        Ok(made) => made == *like,
+        Err(_) => false,
+    }
+}
+
+// Adds whether something begins or ends, the anchor's id after `&`, and the tag.
 fn push_told(told: &mut String, event: &Event<'_>) {
     let _ = told.push_str(if event.is_start() { "begins" } else { "" });
     let _ = told.push_str(if event.is_end() { "ends" } else { "" });

@@ -71,7 +71,7 @@ fn lines_behind_anchors(alloc: Global, count: usize, line: &str) -> String {
     lines
 }
 
-// The line of a node in a sequence, behind so many nodes with anchors.
+// The line of a node in a sequence, after so many nodes with anchors.
 fn expect_behind_anchors(rt: &impl Abort, alloc: Global, count: usize, node: &str, line: &str) {
     let text = repeated(alloc, &[("- &a x\n", count), ("- ", 1), (node, 1)]);
     let lines = lines_behind_anchors(alloc, count, line);
@@ -172,7 +172,7 @@ const EMPTY: Source = Source {
     is_broken: false,
 };
 
-// A source behind whose first bytes reading fails.
+// A source after whose first bytes reading fails.
 const BROKEN: Source = Source {
     rest: b"# c",
     is_broken: true,

@@ -29,10 +29,10 @@ pub enum Call {
     LoadRefused(usize),
 }
 
-/// Calls, and then those behind `keep_tags(true)`, where there is one.
+/// Calls, and then those after `keep_tags(true)`, where there is one.
 pub type Calls<'a> = (&'a [Call], Option<&'a [Call]>);
 
-// Writes down what it takes, and refuses an event behind so many.
+// Writes down what it takes, and refuses an event after so many.
 #[derive(Drop)]
 struct Writing<'a> {
     lines: &'a mut String,
@@ -46,15 +46,16 @@ impl<'input> SpannedEventReceiver<'input> for Writing<'_> {
 
     fn on_event(&mut self, ev: Event<'input>, span: Span) -> Result<(), Refused> {
         if self.before_refusal == 0 {
+            drop(ev);
             return Err(Refused);
         }
         self.before_refusal -= 1;
-        push_event(self.lines, (ev, span));
+        push_given(self.lines, Some(Ok((ev, span))));
         Ok(())
     }
 }
 
-// Writes down what it takes, as if all of it stood at the text's start.
+// Writes down what it takes, as if all of it was at the text's start.
 #[derive(Drop)]
 struct Placeless<'a> {
     lines: &'a mut String,
@@ -66,7 +67,8 @@ impl<'input> EventReceiver<'input> for Placeless<'_> {
     ghost takes = { λ _ _ _ _. ⊤ };
 
     fn on_event(&mut self, ev: Event<'input>) -> Result<(), Refused> {
-        push_event(self.lines, (ev, Span::empty(Marker::new(0, 1, 0))));
+        let span = Span::empty(Marker::new(0, 1, 0));
+        push_given(self.lines, Some(Ok((ev, span))));
         Ok(())
     }
 }
@@ -78,12 +80,6 @@ fn push_line(lines: &mut String, item: Option<Result<&(Event<'_>, Span), &Fault>
         None => lines.push_str("nothing"),
     };
     let _ = lines.push('\n');
-}
-
-// Adds the line of an event.
-fn push_event(lines: &mut String, event: (Event<'_>, Span)) {
-    push_line(lines, Some(Ok(&event)));
-    drop(event);
 }
 
 // Adds the line of what is handed out.
@@ -154,51 +150,46 @@ fn push_left<T: Input + Drop>(lines: &mut String, parser: Parser<'_, T>) {
     }
 }
 
-// Adds the lines of what a parser tells at each call, and then of what it has left.
-fn push_all<T: Input + Drop>(lines: &mut String, mut parser: Parser<'_, T>, calls: &[Call]) {
-    push_calls(lines, &mut parser, calls);
-    push_left(lines, parser);
-}
-
-// The same, with the calls behind `keep_tags(true)`.
-fn push_told<T: Input + Drop>(
-    lines: &mut String,
+/// The lines of what a parser tells at each call, and then of what it has left.
+pub fn told<T: Input + Drop>(
+    alloc: Global,
     mut parser: Parser<'_, T>,
     (calls, behind): Calls<'_>,
-) {
+) -> String {
+    let mut lines = String::new(alloc);
+    push_calls(&mut lines, &mut parser, calls);
     match behind {
         Some(behind) => {
-            push_calls(lines, &mut parser, calls);
-            push_all(lines, parser.keep_tags(true), behind);
+            let mut keeping = parser.keep_tags(true);
+            push_calls(&mut lines, &mut keeping, behind);
+            push_left(&mut lines, keeping);
         }
-        None => push_all(lines, parser, calls),
+        None => push_left(&mut lines, parser),
     }
-}
-
-/// The lines of what a parser tells at each call, and then of what it has left.
-pub fn told<T: Input + Drop>(alloc: Global, parser: Parser<'_, T>, calls: Calls<'_>) -> String {
-    let mut lines = String::new(alloc);
-    push_told(&mut lines, parser, calls);
     lines
 }
 
-// The lines of a parser over a text.
-fn told_of_str(alloc: Global, parser: Parser<'_, StrInput<'_>>, calls: Calls<'_>) -> String {
+// The same of an input, by `new` where there is no limit.
+fn told_of<T: Input + Drop>(
+    alloc: Global,
+    input: T,
+    limit: Option<usize>,
+    calls: Calls<'_>,
+) -> String {
+    let parser = match limit {
+        Some(limit) => Parser::with_limit(alloc, input, limit),
+        None => Parser::new(alloc, input),
+    };
     told(alloc, parser, calls)
 }
 
-/// The lines of a text at these calls.
-pub fn told_by_str(alloc: Global, text: &str, calls: Calls<'_>) -> String {
-    told_of_str(alloc, Parser::new_from_str(alloc, text), calls)
-}
-
-/// The same with a limit on its characters.
-pub fn told_within(alloc: Global, text: &str, limit: usize, calls: Calls<'_>) -> String {
-    told_of_str(
-        alloc,
-        Parser::with_limit(alloc, StrInput::new(text), limit),
-        calls,
-    )
+/// The lines of a text at these calls, where no more characters than the limit may be read.
+pub fn told_by_str(alloc: Global, text: &str, limit: Option<usize>, calls: Calls<'_>) -> String {
+    let parser = match limit {
+        Some(limit) => Parser::with_limit(alloc, StrInput::new(text), limit),
+        None => Parser::new_from_str(alloc, text),
+    };
+    told(alloc, parser, calls)
 }
 
 fn characters_of<'a>(alloc: Global, text: &'a str) -> Result<BufferedInput<Chars<'a>>, AllocError> {
@@ -208,32 +199,17 @@ fn characters_of<'a>(alloc: Global, text: &'a str) -> Result<BufferedInput<Chars
 }
 
 /// The same from an iterator.
-pub fn told_by_iter(alloc: Global, text: &str, limit: usize, calls: Calls<'_>) -> String {
+pub fn told_by_iter(alloc: Global, text: &str, limit: Option<usize>, calls: Calls<'_>) -> String {
     match characters_of(alloc, text) {
-        Ok(input) => told(alloc, Parser::with_limit(alloc, input, limit), calls),
+        Ok(input) => told_of(alloc, input, limit, calls),
         Err(_) => String::new(alloc),
     }
-}
-
-// The same from a list of characters, by `new` where there is no limit.
-fn told_of_list(
-    alloc: Global,
-    characters: &[char],
-    limit: Option<usize>,
-    calls: Calls<'_>,
-) -> String {
-    let list = Characters::new(characters);
-    let parser = match limit {
-        Some(limit) => Parser::with_limit(alloc, list, limit),
-        None => Parser::new(alloc, list),
-    };
-    told(alloc, parser, calls)
 }
 
 /// The same from a list of characters.
 pub fn told_by_list(alloc: Global, text: &str, limit: Option<usize>, calls: Calls<'_>) -> String {
     match text.chars().collect::<Vec<char>>(alloc) {
-        Ok(characters) => told_of_list(alloc, characters.as_slice(), limit, calls),
+        Ok(list) => told_of(alloc, Characters::new(list.as_slice()), limit, calls),
         Err(_) => String::new(alloc),
     }
 }
@@ -244,14 +220,14 @@ pub fn expect_lines(rt: &impl Abort, told: String, lines: &str) {
     drop(told);
 }
 
-/// A text, calls, and the lines that a parser tells at these, those that are left behind them included.
+/// A text, calls, and the lines that a parser tells at these, those that are left after them included.
 pub type Row<'a> = (&'a str, Calls<'a>, &'a str);
 
 /// A parser tells these lines of each text from a string, from an iterator and from a list of characters.
 pub fn expect_each(rt: &impl Abort, alloc: Global, rows: &[Row]) {
     for &(text, calls, lines) in rows {
-        expect_lines(rt, told_by_str(alloc, text, calls), lines);
-        expect_lines(rt, told_by_iter(alloc, text, usize::MAX, calls), lines);
+        expect_lines(rt, told_by_str(alloc, text, None, calls), lines);
+        expect_lines(rt, told_by_iter(alloc, text, None, calls), lines);
         expect_lines(rt, told_by_list(alloc, text, None, calls), lines);
     }
 }

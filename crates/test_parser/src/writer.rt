@@ -62,7 +62,7 @@ impl Write for Keeping {
     }
 }
 
-/// Bytes, behind which reading fails where it is broken.
+/// Bytes, after which reading fails where it is broken.
 #[derive(Clone, Copy)]
 pub struct Source<'a> {
     pub rest: &'a [u8],

@@ -231,10 +231,22 @@ const KEPT: &[Row] = &[
     ("", &[Step::ReadInLine(None), Step::Rest("")]),
 ];
 
+// Copies in mid-text, with places loaded.
+const COPIED: &[Row] = &[(
+    "one two three four five",
+    &[
+        Step::Load(6),
+        Step::SkipMany(4),
+        Step::Copy("two three four five"),
+        Step::Rest("two three four five"),
+    ],
+)];
+
 #[test]
 fn takes_characters_off(rt: HostRuntime) {
     expect_steps(&rt, rt.alloc(), TAKEN_OFF);
     expect_steps(&rt, rt.alloc(), KEPT);
+    expect_steps(&rt, rt.alloc(), COPIED);
 }
 
 #[test]

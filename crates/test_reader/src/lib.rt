@@ -1,7 +1,7 @@
 //! The tests of the crates that read a text, over their public names: of its characters, of its scalars, and of its
 //! tokens.
 //!
-//! They stand in a crate of their own so that those crates are proved once and not a second time with their tests.
+//! They are in a crate of their own so that those crates are proved once and not a second time with their tests.
 #![tactic(auto)]
 
 #[cfg(test)]

@@ -1,15 +1,19 @@
-//! What a reader of scalars tells of the text that it stands in front of, as a line. Few functions then hold what is
-//! read, which is dear to prove where it is dropped, and a test is a table of texts and lines.
+//! What a reader of scalars tells of the text that it is at, as a line. Few functions then hold what is
+//! read, which is dear to prove where it is dropped, and a test is a table of texts and lines. What calls a reader is
+//! generic over its input, and is called for a text in one place, since each call at a type is dear.
 //!
 //! A line has what was read, `@` and the places that belong to it, and but for a block scalar `>` and the place that is
-//! reached, with `blank` where only blanks stand before that on its line. Or it has `!`, a fault, and its place. A
+//! reached, with `blank` where only blanks come before that on its line. Or it has `!`, a fault, and its place. A
 //! place is an index, a line and a column.
+//!
+//! A row of a table is one text, since a table is dearer to prove the more fields its rows have: the first column
+//! right of the enclosing block collection, a space, the text that is read, ` => `, and the line.
 //!
 //! Where memory is lacking a piece of the line is missing, so that it is not the one that a test wants.
 
 use crate::helpers::expect;
 use saphyr_input::StrInput;
-use saphyr_input::input::SkipTabs;
+use saphyr_input::input::{Input, SkipTabs};
 use saphyr_scalar::scalar::TagParts;
 use saphyr_scalar::{
     BlockScalar, Directive, DirectiveLine, Marker, PlainScalar, Reader, Refusal, Stop,
@@ -17,11 +21,6 @@ use saphyr_scalar::{
 use saphyr_values::BlockStyle;
 use std::alloc::Global;
 use std::process::Abort;
-
-/// The first column right of the enclosing block collection, a text, and the line that is told of it.
-pub(crate) type Row<'a> = (usize, &'a str, &'a str);
-
-type TextReader<'a> = Reader<StrInput<'a>>;
 
 fn push_parts(line: &mut String, directive: &Directive) {
     let _ = match directive {
@@ -36,7 +35,7 @@ pub(crate) fn push(line: &mut String, text: &str) {
     let _ = line.push_str(text);
 }
 
-/// Adds a place behind a sign.
+/// Adds a place after a sign.
 pub(crate) fn push_place(line: &mut String, sign: &str, place: Marker) {
     let _ = write!(line, "{sign}{},{},{}", place.index, place.line, place.col);
 }
@@ -55,8 +54,8 @@ pub(crate) fn push_stop(line: &mut String, stop: Stop) -> bool {
     false
 }
 
-// Adds what is told of a quoted scalar, or of the name of an anchor or an alias. Whether it is told where the reader
-// then stands.
+// Adds what is told of a quoted scalar, or of the name of an anchor or an alias. Returns whether it is told where the
+// reader is after that.
 fn push_text(line: &mut String, read: Result<String, Stop>) -> bool {
     match read {
         Ok(text) => {
@@ -116,73 +115,69 @@ fn push_directive(line: &mut String, read: Result<DirectiveLine, Stop>) -> bool 
     }
 }
 
-// Adds what is told of a property or a directive, by its indicator.
-fn push_property(
+// Adds what is told of what a reader is at, by the character that it begins with. Returns whether it is told where
+// the reader is after that.
+fn push_found<T: Input>(
     line: &mut String,
     alloc: Global,
-    reader: &mut TextReader<'_>,
+    reader: &mut Reader<T>,
     in_flow: bool,
+    indent: usize,
 ) -> bool {
     match reader.look() {
         '!' => push_tag(line, reader.read_tag(alloc, in_flow)),
         '&' | '*' => push_text(line, reader.read_anchor(alloc)),
         '%' => push_directive(line, reader.read_directive(alloc)),
-        _ => false,
+        '"' => push_text(line, reader.read_double_quoted(alloc, indent)),
+        '\'' => push_text(line, reader.read_single_quoted(alloc, indent)),
+        '|' => push_block(
+            line,
+            reader.read_block_scalar(alloc, BlockStyle::Literal, indent),
+        ),
+        '>' => push_block(
+            line,
+            reader.read_block_scalar(alloc, BlockStyle::Folded, indent),
+        ),
+        _ => push_plain(line, reader.read_plain(alloc, in_flow, indent)),
     }
 }
 
-// Adds what is told of a scalar, by the character that it begins with.
-fn push_scalar(
+// Adds what is told of a text, after the blanks with which it begins.
+fn push_told<T: Input + Drop>(
     line: &mut String,
     alloc: Global,
-    reader: &mut TextReader<'_>,
-    in_flow: bool,
-    indent: usize,
-) -> bool {
-    let style = match reader.look() {
-        '"' => return push_text(line, reader.read_double_quoted(alloc, indent)),
-        '\'' => return push_text(line, reader.read_single_quoted(alloc, indent)),
-        '|' => BlockStyle::Literal,
-        '>' => BlockStyle::Folded,
-        _ => return push_plain(line, reader.read_plain(alloc, in_flow, indent)),
-    };
-    push_block(line, reader.read_block_scalar(alloc, style, indent))
-}
-
-// Adds what is told of what a reader stands in front of.
-fn push_told(
-    line: &mut String,
-    alloc: Global,
-    reader: &mut TextReader<'_>,
+    input: T,
     in_flow: bool,
     indent: usize,
 ) {
-    let has_place = match reader.look() {
-        '!' | '&' | '*' | '%' => push_property(line, alloc, reader, in_flow),
-        _ => push_scalar(line, alloc, reader, in_flow, indent),
-    };
-    if has_place {
+    let mut reader = Reader::new(input);
+    let _ = reader.skip_ws_to_eol(SkipTabs::Yes);
+    if push_found(line, alloc, &mut reader, in_flow, indent) {
         push_place(line, " > ", reader.mark());
         push(line, if reader.blank_so_far() { " blank" } else { "" });
     }
 }
 
-// Adds what is told of a text, behind the blanks with which it begins.
-fn push_all(line: &mut String, alloc: Global, in_flow: bool, indent: usize, text: &str) {
-    let mut reader = Reader::new(StrInput::new(text));
-    let _ = reader.skip_ws_to_eol(SkipTabs::Yes);
-    push_told(line, alloc, &mut reader, in_flow, indent);
+// A row: the first column right of the enclosing block collection, a text, and the line that is told of it.
+fn parts_of(row: &str) -> Option<(usize, &str, &str)> {
+    let (indent, row) = row.split_once(" ")?;
+    let (text, line) = row.split_once(" => ")?;
+    let indent = indent.parse::<usize>().ok()?;
+    Some((indent, text, line))
 }
 
-fn is_told(alloc: Global, in_flow: bool, indent: usize, text: &str, wanted: &str) -> bool {
+fn is_told(alloc: Global, in_flow: bool, row: &str) -> bool {
+    let Some((indent, text, wanted)) = parts_of(row) else {
+        return false;
+    };
     let mut line = String::new(alloc);
-    push_all(&mut line, alloc, in_flow, indent, text);
+    push_told(&mut line, alloc, StrInput::new(text), in_flow, indent);
     line.as_str() == wanted
 }
 
 /// Stops the test where another line is told than a row has, inside flow or outside.
-pub(crate) fn expect_told(rt: &impl Abort, alloc: Global, in_flow: bool, rows: &[Row]) {
-    for &(indent, text, line) in rows {
-        expect(rt, is_told(alloc, in_flow, indent, text, line), text);
+pub(crate) fn expect_told(rt: &impl Abort, alloc: Global, in_flow: bool, rows: &[&str]) {
+    for &row in rows {
+        expect(rt, is_told(alloc, in_flow, row), row);
     }
 }

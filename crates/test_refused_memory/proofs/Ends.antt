@@ -5,7 +5,7 @@ use Rattle.saphyr_scalar.specs.declared.scalar.position.Span.{Span}
 use Rattle.saphyr_parser.specs.Types.Event.{Event}
 use Rattle.saphyr_parser.specs.Types.Fault.{Fault}
 use Rattle.saphyr_parser.specs.Types.Fault.TheVariants as fault
-use Rattle.saphyr_parser.specs.Answer.{Answer, Ending, OutOfMemory, empty_answer, fault_alone}
+use Rattle.saphyr_parser.specs.Answer.{Answer, OutOfMemory, empty_answer}
 use Rattle.saphyr_parser.specs.Cursor.{HandsOutNext, Shows, Stays}
 use Rattle.test_case_files.specs.Listings.{ListAll, lines_of_answer}
 use Rattle.test_case_files.specs.declared.difference.Difference.{Difference}
@@ -20,13 +20,12 @@ nothing_shown None none old new is so shows (inr ran_out) =
 nothing_shown (Some x) true old new is so shows stays = absurd (cc)
 nothing_shown (Some x) false old new is so shows stays = absurd (cc)
 
-pub nothing_given : (given : Option (Result (Event × Span) Fault)) (none : Bool) (old new : Answer)
-    → is_some given ≡ not none → none ≡ true → HandsOutNext given old new → new ≡ empty_answer
-nothing_given None none old new is so hands = hands.1
-nothing_given (Some x) true old new is so hands = absurd (cc)
-nothing_given (Some x) false old new is so hands = absurd (cc)
+pub nothing_given : (given : Option (Result (Event × Span) Fault)) (old new : Answer) → given ≡ None
+    → HandsOutNext given old new → new ≡ empty_answer
+nothing_given None old new is hands = hands.1
+nothing_given (Some x) old new is hands = absurd (cc)
 
--- Behind lack of memory nothing is left.
+-- After lack of memory nothing is left.
 pub want_ends : (given : Option (Result (Event × Span) Fault)) (old new : Answer) → given ≡ Some (Err fault.OutOfMemory)
     → HandsOutNext given old new → new ≡ empty_answer
 want_ends None old new is hands = absurd (cc)

@@ -1,4 +1,4 @@
--- What stands where a parser tells lack of memory.
+-- What is where a parser tells lack of memory.
 use Rattle.std.specs.Prelude.{◌≡◌, Bool, true, false, List, drop, Option, Some, None, Result, Err, String}
 use Rattle.std.specs.declared.alloc.Global.{Global}
 use Rattle.saphyr_scalar.specs.declared.scalar.position.Span.{Span}

@@ -1,7 +1,7 @@
 //! Clones of a parser, of events and of faults.
 use crate::ended::is_ended_by_memory;
 use crate::outcome::Outcome;
-use crate::ways::{gives_want, is_want, pass_line, take_left};
+use crate::ways::{Kind, next_kind, pass_item, take_left};
 use saphyr_parser::{CloneInput, Event, Fault, Input, Parser, Span};
 use std::alloc::{AllocError, Global};
 use test_case_files::{Difference, Expected};
@@ -23,7 +23,7 @@ pub fn by_clones<T: CloneInput>(
         if is_due && take_clone(alloc, parser, left)? == Outcome::Refused {
             return is_untouched(alloc, parser, left);
         }
-        if gives_want(parser) {
+        if matches!(next_kind(parser), Kind::Want) {
             return is_ended_by_memory(alloc, parser);
         }
     }
@@ -54,7 +54,7 @@ fn is_untouched<T: CloneInput>(
     }
 }
 
-/// Each event is copied, and so is the fault behind them.
+/// Each event is copied, and so is the fault after them.
 pub fn by_copies<T: Input>(
     alloc: Global,
     parser: &mut Parser<'_, T>,
@@ -71,7 +71,7 @@ fn copy_lines<T: Input>(
 ) -> Result<Outcome, Difference> {
     let mut outcome = Outcome::Whole;
     for _ in expected.left() {
-        match copy_next(alloc, parser, expected)? {
+        match copy_line(alloc, parser.next_event(), expected)? {
             Some(Outcome::Whole) => {}
             Some(Outcome::Refused) => outcome = Outcome::Refused,
             None => return is_ended_by_memory(alloc, parser),
@@ -80,43 +80,33 @@ fn copy_lines<T: Input>(
     Ok(outcome)
 }
 
-// What is given next is copied, and is the next line; none where lack of memory is given.
-fn copy_next<T: Input>(
-    alloc: Global,
-    parser: &mut Parser<'_, T>,
-    expected: &mut Expected<'_>,
-) -> Result<Option<Outcome>, Difference> {
-    let item = parser.next_event();
-    copy_line(alloc, &item, expected)
-}
-
+// What was handed out is copied, and is the next line; none where it is lack of memory.
 fn copy_line(
     alloc: Global,
-    item: &Option<Result<(Event<'_>, Span), Fault>>,
+    item: Option<Result<(Event<'_>, Span), Fault>>,
     expected: &mut Expected<'_>,
 ) -> Result<Option<Outcome>, Difference> {
-    if is_want(item) {
+    let copied = copy_item(&item);
+    if !pass_item(item, expected)? {
         return Ok(None);
     }
-    let outcome = copy_item(alloc, item)?;
-    pass_line(item, expected)?;
-    Ok(Some(outcome))
+    match copied {
+        Some(outcome) => Ok(Some(outcome)),
+        None => Err(Difference::new(alloc, "a copy differs")),
+    }
 }
 
-// The copy of what was handed out equals it, or there is no memory for it.
-fn copy_item(
-    alloc: Global,
-    item: &Option<Result<(Event<'_>, Span), Fault>>,
-) -> Result<Outcome, Difference> {
+// The copy of what was handed out equals it, or there is no memory for it; none where it differs.
+fn copy_item(item: &Option<Result<(Event<'_>, Span), Fault>>) -> Option<Outcome> {
     let is_equal = match item {
         None => Ok(true),
         Some(Ok((event, _))) => has_copy(event),
         Some(Err(fault)) => has_fault_copy(fault),
     };
     match is_equal {
-        Ok(true) => Ok(Outcome::Whole),
-        Ok(false) => Err(Difference::new(alloc, "a copy differs")),
-        Err(_) => Ok(Outcome::Refused),
+        Ok(true) => Some(Outcome::Whole),
+        Ok(false) => None,
+        Err(_) => Some(Outcome::Refused),
     }
 }
 

@@ -1,15 +1,16 @@
-//! What stands behind all that a parser gives.
+//! What comes after all that a parser gives.
 ghost use Rattle.std.specs.Prelude.{◌≡◌, IfOk, OnOk, string_bytes, true};
 ghost use Rattle.saphyr_parser.specs.Answer.{empty_answer};
 ghost use Rattle.saphyr_parser.specs.Cursor.{to_come};
 ghost use Rattle.test_case_files.specs.Listings.{is_fault_line};
 ghost use Rattle.test_refused_memory.specs.declared.outcome.Outcome.TheVariants.{Refused};
 
-use crate::loading::load_next;
+use crate::loading::{is_over, load_next};
 use crate::outcome::Outcome;
+use crate::ways::{Kind, next_kind};
 use saphyr_parser::{Input, Parser};
 use std::alloc::Global;
-use test_case_files::{ComparingReceiver, Difference};
+use test_case_files::Difference;
 
 /// Whether the line is that of a fault.
 pub fn is_fault(line: &String) -> bool
@@ -25,13 +26,6 @@ fn shows_nothing<T: Input>(parser: &mut Parser<'_, T>) -> bool
     parser.peek().is_none()
 }
 
-// `next_event` gives nothing.
-fn gives_none<T: Input>(parser: &mut Parser<'_, T>) -> bool
-    ensures { result ≡ true → to_come parser.new ≡ empty_answer }
-{
-    parser.next_event().is_none()
-}
-
 /// Nothing is left to show or to give.
 fn gives_nothing<T: Input>(alloc: Global, parser: &mut Parser<'_, T>) -> Result<(), Difference>
     ensures before { OnOk result (to_come parser.old ≡ empty_answer) }
@@ -40,7 +34,7 @@ fn gives_nothing<T: Input>(alloc: Global, parser: &mut Parser<'_, T>) -> Result<
     if !shows_nothing(parser) {
         return Err(Difference::new(alloc, "`peek` shows more"));
     }
-    if !gives_none(parser) {
+    if !matches!(next_kind(parser), Kind::Nothing) {
         return Err(Difference::new(alloc, "`next_event` gives more"));
     }
     Ok(())
@@ -61,25 +55,14 @@ pub fn is_ended_by_memory<T: Input>(
     Ok(Outcome::Refused)
 }
 
-// `load` answers lack of memory and sends nothing, and nothing is left behind it.
+// `load` answers lack of memory and sends nothing, and nothing is left after it.
 fn keeps_want<T: Input>(alloc: Global, parser: &mut Parser<'_, T>) -> Result<(), Difference>
     ensures { OnOk result (to_come parser.new ≡ empty_answer) }
 {
-    let mut receiver = ComparingReceiver::new(alloc, &[]);
-    loads_want(alloc, parser, &mut receiver)
-}
-
-fn loads_want<T: Input>(
-    alloc: Global,
-    parser: &mut Parser<'_, T>,
-    receiver: &mut ComparingReceiver<'_>,
-) -> Result<(), Difference>
-    ensures { OnOk result (to_come parser.new ≡ empty_answer) }
-{
-    if load_next(parser, receiver, true)? == Outcome::Whole {
+    let (outcome, _) = load_next(alloc, parser, &[], true)?;
+    if outcome == Outcome::Whole {
         return Err(Difference::new(alloc, "`load` forgets lack of memory"));
     }
-    receiver.check_end()?;
     gives_nothing(alloc, parser)
 }
 
@@ -93,28 +76,11 @@ pub fn is_ended<T: Input>(
     ensures { OnOk result (to_come parser.old ≡ empty_answer) }
 {
     gives_nothing(alloc, parser)?;
-    loads_last(alloc, parser, last)
-}
-
-fn loads_last<T: Input>(
-    alloc: Global,
-    parser: &mut Parser<'_, T>,
-    last: &[String],
-) -> Result<Outcome, Difference> {
-    let mut receiver = ComparingReceiver::new(alloc, last);
-    loads_left(alloc, parser, &mut receiver)
-}
-
-// `load` sends or answers the lines that are left.
-fn loads_left<T: Input>(
-    alloc: Global,
-    parser: &mut Parser<'_, T>,
-    receiver: &mut ComparingReceiver<'_>,
-) -> Result<Outcome, Difference> {
-    if load_next(parser, receiver, true)? == Outcome::Refused {
-        return loads_fault(alloc, parser, receiver);
+    let (outcome, left) = load_next(alloc, parser, last, true)?;
+    if outcome == Outcome::Refused {
+        return loads_fault(alloc, parser, left);
     }
-    receiver.check_end()?;
+    is_over(alloc, left)?;
     Ok(Outcome::Whole)
 }
 
@@ -122,13 +88,13 @@ fn loads_left<T: Input>(
 fn loads_fault<T: Input>(
     alloc: Global,
     parser: &mut Parser<'_, T>,
-    receiver: &mut ComparingReceiver<'_>,
+    left: &[String],
 ) -> Result<Outcome, Difference> {
-    if !receiver.left().iter().any(is_fault) {
+    if !left.iter().any(is_fault) {
         return Err(Difference::new(alloc, "`load` finds no memory for the end"));
     }
     // Where there is no memory again, the line stays.
-    load_next(parser, receiver, true)?;
-    receiver.check_end()?;
+    let (_, left) = load_next(alloc, parser, left, true)?;
+    is_over(alloc, left)?;
     Ok(Outcome::Refused)
 }

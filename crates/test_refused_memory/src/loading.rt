@@ -4,70 +4,59 @@ use crate::outcome::Outcome;
 use crate::ways::{by_peek, give_want, last};
 use saphyr_parser::{Fault, Input, Parser};
 use std::alloc::Global;
-use test_case_files::{ComparingReceiver, Difference};
+use test_case_files::{ComparingReceiver, Difference, Expected};
 
-/// The events are taken by `load`, all at once or a document at a time.
+/// The events are taken by `load`, all at once or a document at a time, and with at most one call for each line.
 pub fn by_load<T: Input>(
     alloc: Global,
     parser: &mut Parser<'_, T>,
     lines: &[String],
     multi: bool,
 ) -> Result<Outcome, Difference> {
-    let mut receiver = ComparingReceiver::new(alloc, lines);
-    load_case(alloc, parser, &mut receiver, multi)
-}
-
-fn load_case<T: Input>(
-    alloc: Global,
-    parser: &mut Parser<'_, T>,
-    receiver: &mut ComparingReceiver<'_>,
-    multi: bool,
-) -> Result<Outcome, Difference> {
-    let lines = receiver.left();
-    if load_lines(parser, receiver, multi)? == Outcome::Refused {
-        return load_again(alloc, parser, receiver);
-    }
-    receiver.check_end()?;
-    end_load(alloc, parser, last(lines))
-}
-
-// `load` is called until no line is left, and at most once for each line.
-fn load_lines<T: Input>(
-    parser: &mut Parser<'_, T>,
-    receiver: &mut ComparingReceiver<'_>,
-    multi: bool,
-) -> Result<Outcome, Difference> {
-    for _ in receiver.left() {
-        if load_next(parser, receiver, multi)? == Outcome::Refused {
-            return Ok(Outcome::Refused);
+    let mut left = lines;
+    for _ in lines {
+        let (outcome, behind) = load_next(alloc, parser, left, multi)?;
+        if outcome == Outcome::Refused {
+            return load_again(alloc, parser, behind);
         }
-        if receiver.left().is_empty() {
+        left = behind;
+        if left.is_empty() {
             break;
         }
     }
-    Ok(Outcome::Whole)
+    is_over(alloc, left)?;
+    end_load(alloc, parser, last(lines))
 }
 
-/// `load` sends the lines that come next, and answers that of a fault. Or there is no memory: then that it has
-/// sent other lines is told by the receiver's next check.
-pub fn load_next<T: Input>(
+/// `load` sends the lines that come next, and answers that of a fault. Or there is no memory. Tells what is left.
+pub fn load_next<'a, T: Input>(
+    alloc: Global,
     parser: &mut Parser<'_, T>,
-    receiver: &mut ComparingReceiver<'_>,
+    lines: &'a [String],
     multi: bool,
-) -> Result<Outcome, Difference> {
-    let answer = parser.load(receiver, multi);
-    take_answer(receiver, answer)
+) -> Result<(Outcome, &'a [String]), Difference> {
+    let mut receiver = ComparingReceiver::new(alloc, lines);
+    let answer = parser.load(&mut receiver, multi);
+    take_answer(&mut receiver, answer)
 }
 
-fn take_answer(
-    receiver: &mut ComparingReceiver<'_>,
+fn take_answer<'a>(
+    receiver: &mut ComparingReceiver<'a>,
     answer: Result<(), Fault>,
-) -> Result<Outcome, Difference> {
+) -> Result<(Outcome, &'a [String]), Difference> {
     if matches!(answer, Err(Fault::OutOfMemory)) {
-        return Ok(Outcome::Refused);
+        drop(answer);
+        receiver.check()?;
+        return Ok((Outcome::Refused, receiver.left()));
     }
     receiver.check_answer(answer)?;
-    Ok(Outcome::Whole)
+    Ok((Outcome::Whole, receiver.left()))
+}
+
+/// No line is left.
+pub fn is_over(alloc: Global, left: &[String]) -> Result<(), Difference> {
+    let mut expected = Expected::new(alloc, left);
+    expected.is_next(None)
 }
 
 // A fault that `load` answered is still to be given, and the end of the stream isn't.
@@ -87,28 +76,13 @@ fn end_load<T: Input>(
 fn load_again<T: Input>(
     alloc: Global,
     parser: &mut Parser<'_, T>,
-    receiver: &mut ComparingReceiver<'_>,
+    left: &[String],
 ) -> Result<Outcome, Difference> {
-    receiver.check()?;
-    let left = receiver.left();
-    match load_next(parser, receiver, true)? {
-        Outcome::Refused => keep_want(alloc, parser, receiver, left),
-        Outcome::Whole => tell_fault(alloc, parser, left, receiver.left()),
+    match load_next(alloc, parser, left, true)? {
+        (Outcome::Refused, behind) if behind.len() == left.len() => give_want(alloc, parser),
+        (Outcome::Refused, _) => Err(Difference::new(alloc, "`load` sends more")),
+        (Outcome::Whole, behind) => tell_fault(alloc, parser, left, behind),
     }
-}
-
-// No other line has come than before, and lack of memory is still to be given.
-fn keep_want<T: Input>(
-    alloc: Global,
-    parser: &mut Parser<'_, T>,
-    receiver: &mut ComparingReceiver<'_>,
-    before: &[String],
-) -> Result<Outcome, Difference> {
-    receiver.check()?;
-    if receiver.left().len() != before.len() {
-        return Err(Difference::new(alloc, "`load` sends more"));
-    }
-    give_want(alloc, parser)
 }
 
 // The only line that was left was answered, a fault, which is still to be given.

@@ -1,11 +1,11 @@
-//! Looks at what stands where a request for memory is refused.
+//! Checks what a parser and a loader of trees give if a request for memory is refused.
 //!
 //!     test_refused_memory <CASE
 //!
 //! Reads a case of the tests from standard input, takes its events in each way that there is, and loads its
-//! documents. They are all that the case lists, or where a request for memory was refused a beginning of it
-//! and then lack of memory, and what stands behind that is as it is to be. A line for each way says which of
-//! both it was. The program itself refuses no request: `tests/refused_memory.py` has each be refused in turn.
+//! documents. They are all that the case lists. Or, if a request for memory was refused, they are a beginning of
+//! it, then out of memory, and what has to come after that. A line for each way says which of both it was. The
+//! program itself refuses no request: `tests/refused_memory.py` has each be refused in turn.
 //!
 //! The status is 1 where anything differs, and 2 where the case can't be read or compared, as for want of
 //! memory.
@@ -21,35 +21,14 @@ mod walks;
 mod ways;
 
 use outcome::Outcome;
-use saphyr_parser::{Parser, StrInput};
-use std::alloc::{AllocError, Global};
+use saphyr_parser::{CloneInput, Parser};
+use std::alloc::Global;
 use std::io;
 use std::process::ExitCode;
 use test_case_files::{Case, Difference, parse_cases, printed};
-use thiserror::Error;
-
-/// Why there is no line for a way.
-#[derive(Debug, Drop, Error)]
-enum Failure {
-    #[error("out of memory")]
-    OutOfMemory(#[from] AllocError),
-    #[error("the case can't be read, or the lines can't be printed")]
-    Io(#[from] io::Error),
-    #[error(transparent)]
-    Difference(#[from] Difference),
-}
-
-impl Failure {
-    fn status(&self) -> u8 {
-        match self {
-            Failure::Difference(Difference::Found(_)) => 1,
-            _ => 2,
-        }
-    }
-}
 
 /// A way to take events, or to have something else made that takes memory.
-#[derive(Clone, Copy, Debug)]
+#[derive(Clone, Copy)]
 enum Way {
     NextEvent,
     Peek,
@@ -65,50 +44,94 @@ enum Way {
     WalkTrees,
 }
 
-const WAYS: [Way; 12] = [
-    Way::NextEvent,
-    Way::Peek,
-    Way::LoadAll,
-    Way::LoadEach,
-    Way::TryClone,
-    Way::Copies,
-    Way::Dump,
-    Way::NewFromIter,
-    Way::NewStr,
-    Way::LoadDocuments,
-    Way::LoadEachDocument,
-    Way::WalkTrees,
+/// The ways, by the names that are printed.
+const WAYS: [(&str, Way); 12] = [
+    ("NextEvent", Way::NextEvent),
+    ("Peek", Way::Peek),
+    ("LoadAll", Way::LoadAll),
+    ("LoadEach", Way::LoadEach),
+    ("TryClone", Way::TryClone),
+    ("Copies", Way::Copies),
+    ("Dump", Way::Dump),
+    ("NewFromIter", Way::NewFromIter),
+    ("NewStr", Way::NewStr),
+    ("LoadDocuments", Way::LoadDocuments),
+    ("LoadEachDocument", Way::LoadEachDocument),
+    ("WalkTrees", Way::WalkTrees),
 ];
 
 fn main(rt: HostRuntime) -> ExitCode {
-    match run(&rt) {
+    let Ok(text) = io::read_to_string(rt.alloc(), rt.stdin()) else {
+        return fail(&rt, "the case can't be read", 2);
+    };
+    match take_cases(&rt, text.as_str()) {
         Ok(()) => ExitCode::SUCCESS,
-        Err(failure) => {
-            let _ = eprintln!(rt; "test_refused_memory: {failure}");
-            ExitCode::from(failure.status())
-        }
+        Err(status) => status,
     }
 }
 
-fn run(rt: &HostRuntime) -> Result<(), Failure> {
-    let text = io::read_to_string(rt.alloc(), rt.stdin())?;
-    for case in &parse_cases(rt.alloc(), text.as_str())? {
+// Says why there is no line for a way.
+fn fail(rt: &HostRuntime, why: &str, status: u8) -> ExitCode {
+    let _ = eprintln!(rt; "test_refused_memory: {why}");
+    ExitCode::from(status)
+}
+
+fn fail_by(rt: &HostRuntime, difference: Difference) -> ExitCode {
+    match difference {
+        Difference::Found(text) => fail(rt, text.as_str(), 1),
+        Difference::OutOfMemory(_) => fail(rt, "out of memory", 2),
+    }
+}
+
+fn take_cases(rt: &HostRuntime, text: &str) -> Result<(), ExitCode> {
+    let Ok(cases) = parse_cases(rt.alloc(), text) else {
+        return Err(fail(rt, "out of memory", 2));
+    };
+    for case in &cases {
         take_case(rt, case)?;
     }
     Ok(())
 }
 
-fn take_case(rt: &HostRuntime, case: &Case) -> Result<(), Failure> {
-    let lines = printed(rt.alloc(), case.lines.as_slice())?;
-    for way in WAYS {
-        let outcome = take(rt.alloc(), case, lines.as_str(), way)?;
-        println!(rt; "{way:?}: {}", outcome.name())?;
+fn take_case(rt: &HostRuntime, case: &Case) -> Result<(), ExitCode> {
+    let Ok(lines) = printed(rt.alloc(), case.lines.as_slice()) else {
+        return Err(fail(rt, "out of memory", 2));
+    };
+    for (name, way) in WAYS {
+        match take(rt.alloc(), case, lines.as_str(), way) {
+            Ok(outcome) => print(rt, name, outcome)?,
+            Err(difference) => return Err(fail_by(rt, difference)),
+        }
     }
     Ok(())
 }
 
+fn print(rt: &HostRuntime, name: &str, outcome: Outcome) -> Result<(), ExitCode> {
+    match println!(rt; "{name}: {}", outcome.name()) {
+        Ok(()) => Ok(()),
+        Err(_) => Err(fail(rt, "the lines can't be printed", 2)),
+    }
+}
+
 fn take(alloc: Global, case: &Case, text: &str, way: Way) -> Result<Outcome, Difference> {
-    let parser = &mut parser_of(alloc, case);
+    take_by(
+        alloc,
+        Parser::new_from_str(alloc, case.text.as_str()),
+        case,
+        text,
+        way,
+    )
+}
+
+// Generic, so that what an input promises is proved once and not for each way.
+fn take_by<T: CloneInput + Drop>(
+    alloc: Global,
+    parser: Parser<'_, T>,
+    case: &Case,
+    text: &str,
+    way: Way,
+) -> Result<Outcome, Difference> {
+    let parser = &mut parser.keep_tags(case.keeps_tags);
     let lines = case.lines.as_slice();
     match way {
         Way::NextEvent => ways::by_next_event(alloc, parser, lines),
@@ -124,8 +147,4 @@ fn take(alloc: Global, case: &Case, text: &str, way: Way) -> Result<Outcome, Dif
         Way::LoadEachDocument => trees::by_load_documents(alloc, parser, lines, true),
         Way::WalkTrees => walks::by_walks(alloc, parser, lines),
     }
-}
-
-fn parser_of<'a>(alloc: Global, case: &'a Case) -> Parser<'a, StrInput<'a>> {
-    Parser::new_from_str(alloc, case.text.as_str()).keep_tags(case.keeps_tags)
 }

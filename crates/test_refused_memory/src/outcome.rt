@@ -1,10 +1,10 @@
 //! How a comparison ends that finds no difference.
 
-#[derive(Clone, Copy, Debug, PartialEq, Eq)]
+#[derive(Clone, Copy, PartialEq)]
 pub enum Outcome {
     /// All is as the case lists it.
     Whole,
-    /// All is so up to a refused request for memory, and as it is to be behind that.
+    /// All is so up to a refused request for memory, and right after that.
     Refused,
 }
 

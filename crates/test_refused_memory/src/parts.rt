@@ -106,10 +106,11 @@ pub fn by_iterator(alloc: Global, case: &Case) -> Result<Outcome, Difference> {
     let iter = case.text.as_str().chars();
     lists_characters(&iter);
     match Parser::new_from_iter(alloc, iter) {
-        Ok(parser) => {
-            let mut parser = parser.keep_tags(case.keeps_tags);
-            by_next_event(alloc, &mut parser, case.lines.as_slice())
-        }
+        Ok(parser) => by_next_event(
+            alloc,
+            &mut parser.keep_tags(case.keeps_tags),
+            case.lines.as_slice(),
+        ),
         Err(_) => Ok(Outcome::Refused),
     }
 }

@@ -2,10 +2,10 @@
 use crate::ended::{is_ended, is_ended_by_memory};
 use crate::outcome::Outcome;
 use crate::parts::is_last;
-use crate::ways::{last, pass_line};
+use crate::ways::{Kind, last, next_kind, take_left};
 use saphyr_parser::{CloneInput, Event, Fault, Input, Parser, Span};
 use std::alloc::{AllocError, Global};
-use test_case_files::{Difference, Expected, push_item};
+use test_case_files::{Difference, Expected};
 use test_tree_events::events_of;
 use yaml_tree::{Document, Limits, TreeFault, load_document, load_documents};
 
@@ -17,7 +17,7 @@ pub const WIDE: Limits = Limits {
 
 /// How loading ends.
 #[derive(Clone, Copy)]
-enum Loaded {
+pub enum Loaded {
     /// With all documents, or with the fault of the text.
     Whole,
     /// There was no memory for the trees.
@@ -27,7 +27,7 @@ enum Loaded {
 }
 
 /// The documents are loaded, one at a time or all at once. Where there is no memory for the trees, the parser
-/// gives what comes behind the event that could not be taken.
+/// gives what comes after the event that could not be taken.
 pub fn by_load_documents<T: CloneInput>(
     alloc: Global,
     parser: &mut Parser<'_, T>,
@@ -87,7 +87,12 @@ fn judge<T: Input>(
     }
 }
 
-fn judge_fault(alloc: Global, fault: &TreeFault, last: &[String]) -> Result<Loaded, Difference> {
+/// The fault is that of the last line, or lack of memory.
+pub fn judge_fault(
+    alloc: Global,
+    fault: &TreeFault,
+    last: &[String],
+) -> Result<Loaded, Difference> {
     match fault {
         TreeFault::OutOfMemory => Ok(Loaded::TreesRefused),
         TreeFault::Parse(Fault::OutOfMemory) => Ok(Loaded::EventsRefused),
@@ -142,57 +147,32 @@ fn is_event(
     expected: &mut Expected<'_>,
 ) -> Result<(), Difference> {
     match item {
-        Some(Ok((given, _))) if *given == *event => pass_line(item, expected),
+        Some(Ok((given, _))) if *given == *event => expected.pass_item(item),
         Some(Err(Fault::OutOfMemory)) => Err(Difference::OutOfMemory(AllocError)),
         _ => Err(Difference::new(alloc, "a tree has other events")),
     }
 }
 
 // What a parser still gives is the last of the lines.
-fn goes_on<T: Input>(
+fn goes_on<T: CloneInput>(
     alloc: Global,
     parser: &mut Parser<'_, T>,
     lines: &[String],
 ) -> Result<Outcome, Difference> {
-    let left = lines_left(alloc, parser, lines.len())?;
-    if left.len() < lines.len() && lines.ends_with(left.as_slice()) {
+    let count = count_left(&mut parser.try_clone()?, lines.len());
+    let (_, left) = lines.split_at(lines.len().saturating_sub(count));
+    if left.len() < lines.len() && take_left(alloc, parser, left)? == Outcome::Whole {
         return Ok(Outcome::Refused);
     }
     Err(Difference::new(alloc, "the parser does not go on"))
 }
 
-// The lines of what a parser still gives, so many at most.
-fn lines_left<T: Input>(
-    alloc: Global,
-    parser: &mut Parser<'_, T>,
-    most: usize,
-) -> Result<Vec<String>, AllocError> {
-    let mut left = Vec::new(alloc);
-    for _ in 0..most {
-        match next_line(alloc, parser)? {
-            Some(line) => left.push(line)?,
-            None => break,
+// How many items a parser still gives, and so many at most.
+fn count_left<T: Input>(parser: &mut Parser<'_, T>, most: usize) -> usize {
+    for count in 0..most {
+        if matches!(next_kind(parser), Kind::Nothing) {
+            return count;
         }
     }
-    Ok(left)
-}
-
-fn next_line<T: Input>(
-    alloc: Global,
-    parser: &mut Parser<'_, T>,
-) -> Result<Option<String>, AllocError> {
-    let item = parser.next_event();
-    line_of(alloc, &item)
-}
-
-fn line_of(
-    alloc: Global,
-    item: &Option<Result<(Event<'_>, Span), Fault>>,
-) -> Result<Option<String>, AllocError> {
-    let Some(item) = item else {
-        return Ok(None);
-    };
-    let mut line = String::new(alloc);
-    push_item(&mut line, item.as_ref())?;
-    Ok(Some(line))
+    most
 }

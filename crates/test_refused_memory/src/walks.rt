@@ -1,12 +1,11 @@
 //! The nodes of trees, with their places and the paths to them.
 use crate::outcome::Outcome;
-use crate::parts::is_last;
-use crate::trees::WIDE;
+use crate::trees::{Loaded, WIDE, judge_fault};
 use crate::ways::last;
-use saphyr_parser::{Fault, Input, Parser, Span};
+use saphyr_parser::{Input, Parser, Span};
 use std::alloc::{AllocError, Global};
 use test_case_files::Difference;
-use yaml_tree::{Node, TreeFault, Walk, load_documents_with_spans};
+use yaml_tree::{Document, DocumentSpans, Node, TreeFault, Walk, load_documents_with_spans};
 
 /// The documents are loaded with their places, their nodes are counted, and the path to each node leads there. Where
 /// there is no memory for any of it, that is the answer.
@@ -18,18 +17,32 @@ pub fn by_walks<T: Input>(
     match walk_all(alloc, parser) {
         Ok(true) => Ok(Outcome::Whole),
         Ok(false) => Err(Difference::new(alloc, "a path does not lead to its node")),
-        Err(TreeFault::OutOfMemory | TreeFault::Parse(Fault::OutOfMemory)) => Ok(Outcome::Refused),
-        Err(TreeFault::Parse(fault)) => {
-            is_last(alloc, &fault, last(lines))?;
-            Ok(Outcome::Whole)
-        }
-        Err(fault) => Err(Difference::Found(format!(in alloc; "{fault}")?)),
+        Err(fault) => end_walks(alloc, fault, last(lines)),
+    }
+}
+
+fn end_walks(alloc: Global, fault: TreeFault, last: &[String]) -> Result<Outcome, Difference> {
+    match judge_fault(alloc, &fault, last) {
+        Ok(Loaded::Whole) => Ok(Outcome::Whole),
+        Ok(_) => Ok(Outcome::Refused),
+        Err(difference) => Err(difference),
     }
 }
 
 fn walk_all<T: Input>(alloc: Global, parser: &mut Parser<'_, T>) -> Result<bool, TreeFault> {
     let loaded = load_documents_with_spans(alloc, parser, WIDE)?;
-    for (document, spans) in loaded.documents.iter().zip(loaded.spans.iter()) {
+    match walk_documents(alloc, loaded.documents.as_slice(), loaded.spans.as_slice()) {
+        Ok(leads) => Ok(leads),
+        Err(error) => Err(TreeFault::from(error)),
+    }
+}
+
+fn walk_documents(
+    alloc: Global,
+    documents: &[Document],
+    spans: &[DocumentSpans],
+) -> Result<bool, AllocError> {
+    for (document, spans) in documents.iter().zip(spans.iter()) {
         document.expanded_nodes(alloc)?;
         if !leads_to_each(alloc, &document.root, spans.nodes.as_slice())? {
             return Ok(false);

@@ -1,5 +1,5 @@
 //! The ways to take events one by one.
-ghost use Rattle.std.specs.Prelude.{◌≡◌, ◌<◌, ◌-◌, Err, IfOk, OnOk, Ok, Some, drop, length, true};
+ghost use Rattle.std.specs.Prelude.{◌≡◌, ◌<◌, ◌-◌, Err, IfOk, None, OnOk, Ok, Some, drop, length, true};
 ghost use Rattle.saphyr_parser.specs.Types.Fault.TheVariants.{OutOfMemory};
 ghost use Rattle.saphyr_parser.specs.Answer as answer;
 ghost use Rattle.saphyr_parser.specs.Answer.{fault_alone, empty_answer};
@@ -7,6 +7,7 @@ ghost use Rattle.saphyr_parser.specs.Cursor.{Stays, count, to_come};
 ghost use Rattle.test_case_files.specs.Listings.{ListAll};
 ghost use Rattle.test_refused_memory.specs.Want.{IsInWant, PassesItem};
 ghost use Rattle.test_refused_memory.specs.declared.outcome.Outcome.TheVariants.{Refused, Whole};
+ghost use Rattle.test_refused_memory.specs.declared.ways.Kind.TheVariants.{Nothing};
 
 use crate::ended::{is_ended, is_ended_by_memory, is_fault};
 use crate::outcome::Outcome;
@@ -22,26 +23,15 @@ pub fn last(lines: &[String]) -> &[String]
     last
 }
 
-/// Whether lack of memory was handed out.
-pub fn is_want(item: &Option<Result<(Event<'_>, Span), Fault>>) -> bool
+// Whether lack of memory was handed out.
+fn is_want(item: &Option<Result<(Event<'_>, Span), Fault>>) -> bool
     ensures { result ≡ true → item.now ≡ Some (Err OutOfMemory) }
 {
     matches!(item, Some(Err(Fault::OutOfMemory)))
 }
 
-/// What was handed out is the next line.
-pub fn pass_line(
-    item: &Option<Result<(Event<'_>, Span), Fault>>,
-    expected: &mut Expected<'_>,
-) -> Result<(), Difference> {
-    match item {
-        Some(item) => expected.pass(Some(item.as_ref())),
-        None => expected.pass(None),
-    }
-}
-
-// What was handed out is the next line, or nothing where none is left. Or it is lack of memory, and then not.
-fn pass_item(
+/// What was handed out is the next line, or nothing where none is left. Or it is lack of memory, and then not.
+pub fn pass_item(
     item: Option<Result<(Event<'_>, Span), Fault>>,
     expected: &mut Expected<'_>,
 ) -> Result<bool, Difference>
@@ -167,9 +157,29 @@ fn shows_want<T: Input>(parser: &mut Parser<'_, T>) -> bool
     matches!(parser.peek(), Some(Err(Fault::OutOfMemory)))
 }
 
-/// `next_event` gives lack of memory, or what is passed over.
-pub fn gives_want<T: Input>(parser: &mut Parser<'_, T>) -> bool {
-    is_want(&parser.next_event())
+/// What `next_event` gave.
+#[derive(Clone, Copy)]
+pub enum Kind {
+    Nothing,
+    Want,
+    Other,
+}
+
+/// Takes what `next_event` gives, and passes over it.
+pub fn next_kind<T: Input>(parser: &mut Parser<'_, T>) -> Kind
+    ensures { result ≡ Nothing → to_come parser.new ≡ empty_answer }
+{
+    kind_of(&parser.next_event())
+}
+
+fn kind_of(item: &Option<Result<(Event<'_>, Span), Fault>>) -> Kind
+    ensures { result ≡ Nothing → item.now ≡ None }
+{
+    match item {
+        None => Kind::Nothing,
+        Some(Err(Fault::OutOfMemory)) => Kind::Want,
+        Some(_) => Kind::Other,
+    }
 }
 
 /// Lack of memory is shown until it is given, and then nothing is left.
@@ -182,7 +192,7 @@ pub fn give_want<T: Input>(alloc: Global, parser: &mut Parser<'_, T>) -> Result<
     if !(shows_want(parser) && shows_want(parser)) {
         return Err(Difference::new(alloc, "`peek` doesn't show lack of memory"));
     }
-    if !gives_want(parser) {
+    if !matches!(next_kind(parser), Kind::Want) {
         return Err(Difference::new(alloc, "`next_event` doesn't give what is shown"));
     }
     is_ended_by_memory(alloc, parser)

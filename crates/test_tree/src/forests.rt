@@ -3,13 +3,14 @@
 //! A test states a forest as a table, and its events as they print, so that few functions hold trees or events: these
 //! are dear to prove where they are dropped.
 
+use crate::helpers::{is_text, owned};
 use saphyr_parser::{Event, Tag};
 use saphyr_scalar::ScalarStyle;
 use std::alloc::{AllocError, Global};
 use test_forest_events::forest_events;
 use test_forest_events::tree::{Directive, Document, Handle, Node, Properties, WrittenTag};
 
-/// What may stand before a scalar. A handle is named by its word, and `!` by none.
+/// What may come before a scalar. A handle is named by its word, and `!` by none.
 #[derive(Clone, Copy)]
 enum Property {
     Anchor(&'static str),
@@ -39,29 +40,10 @@ struct Entry {
     root: Root,
 }
 
-fn handle(alloc: Global, word: Option<&str>) -> Result<Handle, AllocError> {
+fn handle(alloc: Global, word: Option<&str>) -> Handle {
     match word {
-        Some(word) => Ok(Handle::Named(String::from_str(alloc, word)?)),
-        None => Ok(Handle::Primary),
-    }
-}
-
-fn tag(alloc: Global, word: Option<&str>, suffix: &str) -> Result<WrittenTag, AllocError> {
-    let suffix = String::from_str(alloc, suffix)?;
-    Ok(WrittenTag::Shorthand(handle(alloc, word)?, suffix))
-}
-
-fn properties(alloc: Global, property: Option<Property>) -> Result<Properties, AllocError> {
-    match property {
-        None => Ok(NO_PROPERTIES),
-        Some(Property::Anchor(name)) => Ok(Properties {
-            anchor: Some(String::from_str(alloc, name)?),
-            tag: None,
-        }),
-        Some(Property::Tag(word, suffix)) => Ok(Properties {
-            anchor: None,
-            tag: Some(tag(alloc, word, suffix)?),
-        }),
+        Some(word) => Handle::Named(owned(alloc, word)),
+        None => Handle::Primary,
     }
 }
 
@@ -70,76 +52,77 @@ const NO_PROPERTIES: Properties = Properties {
     tag: None,
 };
 
-fn scalar(
-    alloc: Global,
-    property: Option<Property>,
-    style: ScalarStyle,
-    text: &str,
-) -> Result<Node, AllocError> {
-    let text = String::from_str(alloc, text)?;
-    Ok(Node::Scalar(properties(alloc, property)?, style, text))
+fn properties(alloc: Global, property: Option<Property>) -> Properties {
+    match property {
+        None => NO_PROPERTIES,
+        Some(Property::Anchor(name)) => Properties {
+            anchor: Some(owned(alloc, name)),
+            tag: None,
+        },
+        Some(Property::Tag(word, suffix)) => {
+            let tag = WrittenTag::Shorthand(handle(alloc, word), owned(alloc, suffix));
+            Properties {
+                anchor: None,
+                tag: Some(tag),
+            }
+        }
+    }
 }
 
-fn node(alloc: Global, leaf: Leaf) -> Result<Node, AllocError> {
+fn node(alloc: Global, leaf: Leaf) -> Node {
     match leaf {
-        Leaf::Alias(name) => Ok(Node::Alias(String::from_str(alloc, name)?)),
-        Leaf::Scalar(property, style, text) => scalar(alloc, property, style, text),
+        Leaf::Alias(name) => Node::Alias(owned(alloc, name)),
+        Leaf::Scalar(property, style, text) => {
+            Node::Scalar(properties(alloc, property), style, owned(alloc, text))
+        }
     }
 }
 
 fn sequence(alloc: Global, leaves: &[Leaf]) -> Result<Node, AllocError> {
     let mut nodes = Vec::new(alloc);
     for leaf in leaves {
-        nodes.push(node(alloc, *leaf)?)?;
+        nodes.push(node(alloc, *leaf))?;
     }
     Ok(Node::Seq(NO_PROPERTIES, nodes))
 }
 
-fn pair(alloc: Global, key: Leaf, leaves: &[Leaf]) -> Result<(Node, Node), AllocError> {
-    let key = node(alloc, key)?;
-    match sequence(alloc, leaves) {
-        Ok(value) => Ok((key, value)),
-        Err(fault) => {
-            drop(key);
-            Err(fault)
-        }
-    }
-}
-
 fn mapping(alloc: Global, key: Leaf, leaves: &[Leaf]) -> Result<Node, AllocError> {
+    let value = sequence(alloc, leaves)?;
     let mut pairs = Vec::new(alloc);
-    pairs.push(pair(alloc, key, leaves)?)?;
+    pairs.push((node(alloc, key), value))?;
     Ok(Node::Map(NO_PROPERTIES, pairs))
 }
 
 fn root_node(alloc: Global, root: Root) -> Result<Node, AllocError> {
     match root {
-        Root::Leaf(leaf) => node(alloc, leaf),
+        Root::Leaf(leaf) => Ok(node(alloc, leaf)),
         Root::Sequence(leaves) => sequence(alloc, leaves),
         Root::Mapping(key, leaves) => mapping(alloc, key, leaves),
     }
 }
 
-fn directive(alloc: Global, word: &str, prefix: &str) -> Result<Directive, AllocError> {
-    let prefix = String::from_str(alloc, prefix)?;
-    Ok(Directive::TagPrefix(handle(alloc, Some(word))?, prefix))
-}
-
 fn directives(alloc: Global, declared: Option<(&str, &str)>) -> Result<Vec<Directive>, AllocError> {
     let mut directives = Vec::new(alloc);
     if let Some((word, prefix)) = declared {
-        directives.push(directive(alloc, word, prefix)?)?;
+        let handle = handle(alloc, Some(word));
+        directives.push(Directive::TagPrefix(handle, owned(alloc, prefix)))?;
     }
     Ok(directives)
 }
 
 fn document(alloc: Global, entry: &Entry) -> Result<Document, AllocError> {
-    let directives = directives(alloc, entry.declared)?;
-    Ok(Document {
-        explicit: entry.explicit,
-        directives,
-        node: root_node(alloc, entry.root)?,
-    })
+    let node = root_node(alloc, entry.root)?;
+    match directives(alloc, entry.declared) {
+        Ok(directives) => Ok(Document {
+            explicit: entry.explicit,
+            directives,
+            node,
+        }),
+        Err(fault) => {
+            drop(node);
+            Err(fault)
+        }
+    }
 }
 
 fn forest(alloc: Global, entries: &[Entry]) -> Result<Vec<Document>, AllocError> {
@@ -158,16 +141,16 @@ fn printed(alloc: Global, forest: &[Document], keep: bool) -> Result<String, All
     text
 }
 
-// The same of the forest of a table.
-fn told(alloc: Global, entries: &[Entry], keep: bool) -> Result<String, AllocError> {
-    let forest = forest(alloc, entries)?;
-    printed(alloc, forest.as_slice(), keep)
-}
-
 // Whether the forest of a table has these events, where prefixes are kept for later documents or aren't.
-fn tells(alloc: Global, entries: &[Entry], keep: bool, events: &str) -> Result<bool, AllocError> {
-    let text = told(alloc, entries, keep)?;
-    Ok(text.as_str() == events)
+fn tells(alloc: Global, entries: &[Entry], keep: bool, events: &str) -> bool {
+    match forest(alloc, entries) {
+        Ok(forest) => {
+            let text = printed(alloc, forest.as_slice(), keep);
+            drop(forest);
+            is_text(text, events)
+        }
+        Err(_) => false,
+    }
 }
 
 const PLAIN: ScalarStyle = ScalarStyle::Plain;
@@ -184,13 +167,9 @@ const PAIR: &[Entry] = &[Entry {
     ),
 }];
 
-#[test]
-fn tells_nodes_in_preorder(rt: HostRuntime) {
-    let events = "Some([StreamStart, DocumentStart(false), MappingStart(0, None), \
-        Scalar(\"a\", DoubleQuoted, 0, None), SequenceStart(0, None), Scalar(\"1\", Plain, 0, None), \
-        Scalar(\"true\", Plain, 0, None), SequenceEnd, MappingEnd, DocumentEnd, StreamEnd])";
-    assert!(rt; tells(rt.alloc(), PAIR, false, events) == Ok(true));
-}
+const PAIR_TOLD: &str = "Some([StreamStart, DocumentStart(false), MappingStart(0, None), \
+    Scalar(\"a\", DoubleQuoted, 0, None), SequenceStart(0, None), Scalar(\"1\", Plain, 0, None), \
+    Scalar(\"true\", Plain, 0, None), SequenceEnd, MappingEnd, DocumentEnd, StreamEnd])";
 
 const REPEATED_ANCHOR: &[Entry] = &[Entry {
     explicit: false,
@@ -202,6 +181,10 @@ const REPEATED_ANCHOR: &[Entry] = &[Entry {
         Leaf::Alias("a"),
     ]),
 }];
+
+const ANCHOR_TOLD: &str = "Some([StreamStart, DocumentStart(false), SequenceStart(0, None), \
+    Scalar(\"x\", Plain, 1, None), Alias(1), Scalar(\"y\", Plain, 2, None), Alias(2), \
+    SequenceEnd, DocumentEnd, StreamEnd])";
 
 const ALIAS_OF_ANOTHER_DOCUMENT: &[Entry] = &[
     Entry {
@@ -216,27 +199,14 @@ const ALIAS_OF_ANOTHER_DOCUMENT: &[Entry] = &[
     },
 ];
 
-#[test]
-fn aliases_have_the_latest_anchor(rt: HostRuntime) {
-    let events = "Some([StreamStart, DocumentStart(false), SequenceStart(0, None), \
-        Scalar(\"x\", Plain, 1, None), Alias(1), Scalar(\"y\", Plain, 2, None), Alias(2), \
-        SequenceEnd, DocumentEnd, StreamEnd])";
-    assert!(rt; tells(rt.alloc(), REPEATED_ANCHOR, false, events) == Ok(true));
-    assert!(rt; tells(rt.alloc(), ALIAS_OF_ANOTHER_DOCUMENT, false, "None") == Ok(true));
-}
-
 const PRIMARY_HANDLE: &[Entry] = &[Entry {
     explicit: false,
     declared: None,
     root: Root::Leaf(Leaf::Scalar(Some(Property::Tag(None, "\u{e9}")), PLAIN, "x")),
 }];
 
-#[test]
-fn primary_handles_stand_for_themselves(rt: HostRuntime) {
-    let events = "Some([StreamStart, DocumentStart(false), \
-        Scalar(\"x\", Plain, 0, Some(Tag { handle: \"!\", suffix: \"\u{e9}\" })), DocumentEnd, StreamEnd])";
-    assert!(rt; tells(rt.alloc(), PRIMARY_HANDLE, false, events) == Ok(true));
-}
+const HANDLE_TOLD: &str = "Some([StreamStart, DocumentStart(false), \
+    Scalar(\"x\", Plain, 0, Some(Tag { handle: \"!\", suffix: \"\u{e9}\" })), DocumentEnd, StreamEnd])";
 
 const HANDLE_OF_THE_FIRST_DOCUMENT: &[Entry] = &[
     Entry {
@@ -251,52 +221,56 @@ const HANDLE_OF_THE_FIRST_DOCUMENT: &[Entry] = &[
     },
 ];
 
+const PREFIX_TOLD: &str = "Some([StreamStart, DocumentStart(true), \
+    Scalar(\"a\", Plain, 0, Some(Tag { handle: \"tag:example.com,2011:\", suffix: \"A\" })), \
+    DocumentEnd, DocumentStart(true), \
+    Scalar(\"c\", Plain, 0, Some(Tag { handle: \"tag:example.com,2011:\", suffix: \"B\" })), \
+    DocumentEnd, StreamEnd])";
+
+// Forests, whether prefixes are kept for later documents, and the events.
+const TOLD: &[(&[Entry], bool, &str)] = &[
+    // Nodes are told in preorder.
+    (PAIR, false, PAIR_TOLD),
+    // Aliases have the latest anchor of their document.
+    (REPEATED_ANCHOR, false, ANCHOR_TOLD),
+    (ALIAS_OF_ANOTHER_DOCUMENT, false, "None"),
+    // The primary handle stands for itself.
+    (PRIMARY_HANDLE, false, HANDLE_TOLD),
+    // Prefixes hold for later documents where they are kept.
+    (HANDLE_OF_THE_FIRST_DOCUMENT, false, "None"),
+    (HANDLE_OF_THE_FIRST_DOCUMENT, true, PREFIX_TOLD),
+];
+
 #[test]
-fn prefixes_hold_for_later_documents_where_kept(rt: HostRuntime) {
-    let events = "Some([StreamStart, DocumentStart(true), \
-        Scalar(\"a\", Plain, 0, Some(Tag { handle: \"tag:example.com,2011:\", suffix: \"A\" })), \
-        DocumentEnd, DocumentStart(true), \
-        Scalar(\"c\", Plain, 0, Some(Tag { handle: \"tag:example.com,2011:\", suffix: \"B\" })), \
-        DocumentEnd, StreamEnd])";
-    assert!(rt; tells(rt.alloc(), HANDLE_OF_THE_FIRST_DOCUMENT, false, "None") == Ok(true));
-    assert!(rt; tells(rt.alloc(), HANDLE_OF_THE_FIRST_DOCUMENT, true, events) == Ok(true));
+fn tells_forests(rt: HostRuntime) {
+    for &(entries, keep, events) in TOLD {
+        assert!(rt; tells(rt.alloc(), entries, keep, events), "{events:?}");
+    }
 }
 
-fn resolved_tag(alloc: Global, handle: &str, suffix: &str) -> Result<Tag, AllocError> {
-    let handle = String::from_str(alloc, handle)?;
-    Ok(Tag {
-        handle,
-        suffix: String::from_str(alloc, suffix)?,
-    })
+fn resolved_tag(alloc: Global, (handle, suffix): (&str, &str)) -> Tag {
+    Tag {
+        handle: owned(alloc, handle),
+        suffix: owned(alloc, suffix),
+    }
 }
 
-fn is_core(alloc: Global, (handle, suffix): (&str, &str)) -> Result<bool, AllocError> {
-    let tag = resolved_tag(alloc, handle, suffix)?;
-    let is_core = tag.is_yaml_core_schema();
+// Whether a tag prints so, and is of the core schema or isn't.
+fn is_tag(alloc: Global, tag: (&str, &str), text: &str, is_core: bool) -> bool {
+    let tag = resolved_tag(alloc, tag);
+    let is_core_too = tag.is_yaml_core_schema();
+    let printed = tag.to_string(alloc);
     drop(tag);
-    Ok(is_core)
+    is_text(printed, text) && is_core_too == is_core
 }
 
-fn prints(alloc: Global, (handle, suffix): (&str, &str), text: &str) -> Result<bool, AllocError> {
-    let tag = resolved_tag(alloc, handle, suffix)?;
-    let printed = tag.to_string(alloc)?;
-    Ok(printed.as_str() == text)
-}
-
-fn is_less(
-    alloc: Global,
-    (handle, suffix): (&str, &str),
-    other: (&str, &str),
-) -> Result<bool, AllocError> {
-    let tag = resolved_tag(alloc, handle, suffix)?;
-    Ok(tag < resolved_tag(alloc, other.0, other.1)?)
-}
-
-fn has_copy(event: &Event<'_>) -> Result<bool, AllocError> {
-    let copy = event.try_clone()?;
-    let is_same = copy == *event;
-    drop(copy);
-    Ok(is_same)
+fn is_less(alloc: Global, tag: (&str, &str), other: (&str, &str)) -> bool {
+    let tag = resolved_tag(alloc, tag);
+    let other = resolved_tag(alloc, other);
+    let is_less = tag < other;
+    drop(tag);
+    drop(other);
+    is_less
 }
 
 const LOCAL: (&str, &str) = ("!", "foo");
@@ -306,21 +280,26 @@ const CORE: (&str, &str) = ("tag:yaml.org,2002:", "str");
 #[test]
 fn prints_tags(rt: HostRuntime) {
     let alloc = rt.alloc();
-    assert!(rt; prints(alloc, LOCAL, "!foo") == Ok(true));
-    assert!(rt; is_core(alloc, LOCAL) == Ok(false));
-    assert!(rt; prints(alloc, CORE, "tag:yaml.org,2002:!str") == Ok(true));
-    assert!(rt; is_core(alloc, CORE) == Ok(true));
-    assert!(rt; is_less(alloc, LOCAL, CORE) == Ok(true));
+    assert!(rt; is_tag(alloc, LOCAL, "!foo", false));
+    assert!(rt; is_tag(alloc, CORE, "tag:yaml.org,2002:!str", true));
+    assert!(rt; is_less(alloc, LOCAL, CORE));
 }
 
-fn tagged_event_has_copy(alloc: Global) -> Result<bool, AllocError> {
-    let event = Event::SequenceStart(1, Some(resolved_tag(alloc, CORE.0, CORE.1)?));
-    let has_copy = has_copy(&event);
+fn tagged_event_has_copy(alloc: Global) -> bool {
+    let event = Event::SequenceStart(1, Some(resolved_tag(alloc, CORE)));
+    let has_copy = match event.try_clone() {
+        Ok(copy) => {
+            let is_same = copy == event;
+            drop(copy);
+            is_same
+        }
+        Err(_) => false,
+    };
     drop(event);
     has_copy
 }
 
 #[test]
 fn events_have_copies(rt: HostRuntime) {
-    assert!(rt; tagged_event_has_copy(rt.alloc()) == Ok(true));
+    assert!(rt; tagged_event_has_copy(rt.alloc()));
 }

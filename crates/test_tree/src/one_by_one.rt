@@ -1,13 +1,39 @@
-//! Documents one at a time: what call after call on one parser answers.
+//! What call after call on one parser answers, above all of one document at a time.
 
+use crate::helpers::{is_text, limits};
 use saphyr_parser::{Parser, StrInput};
 use std::alloc::{AllocError, Global};
-use yaml_tree::{Limits, TreeFault, load_document};
+use yaml_tree::{Limits, TreeFault, load_document, load_documents};
 
-const WIDE: Limits = Limits { nodes: 9, depth: 9 };
+/// Which documents a call loads.
+#[derive(Clone, Copy)]
+pub(crate) enum Call {
+    All,
+    Next,
+}
 
-// What a call answers, as it prints.
-fn next_answer(
+// All documents, as they print, or the fault.
+fn all_documents(
+    alloc: Global,
+    parser: &mut Parser<'_, StrInput<'_>>,
+    limits: Limits,
+) -> Result<String, AllocError> {
+    match load_documents(alloc, parser, limits) {
+        Ok(documents) => {
+            let text = format!(in alloc; "{documents:?}");
+            drop(documents);
+            text
+        }
+        Err(fault) => {
+            let text = format!(in alloc; "{fault}");
+            drop(fault);
+            text
+        }
+    }
+}
+
+// The same of the next document.
+fn next_document(
     alloc: Global,
     parser: &mut Parser<'_, StrInput<'_>>,
     limits: Limits,
@@ -26,32 +52,48 @@ fn next_answer(
     }
 }
 
-// Whether that is this.
-fn is_next_answer(
+// Whether a call answers what is printed so.
+fn is_answer(
     alloc: Global,
     parser: &mut Parser<'_, StrInput<'_>>,
+    call: Call,
     limits: Limits,
     wanted: &str,
-) -> Result<bool, AllocError> {
-    let answer = next_answer(alloc, parser, limits)?;
-    Ok(answer.as_str() == wanted)
+) -> bool {
+    let answer = match call {
+        Call::All => all_documents(alloc, parser, limits),
+        Call::Next => next_document(alloc, parser, limits),
+    };
+    is_text(answer, wanted)
 }
 
-// Whether calls, behind so many events of a text and within these limits, answer what is printed so.
-fn are_answers(
+// Whether the next calls answer what is printed so.
+fn are_next_answers(
     alloc: Global,
-    (text, events): (&str, usize),
+    parser: &mut Parser<'_, StrInput<'_>>,
+    call: Call,
     limits: Limits,
     wanted: &[&str],
-) -> Result<bool, AllocError> {
-    let mut parser = Parser::new_from_str(alloc, text);
-    pass(&mut parser, events);
+) -> bool {
     for answer in wanted {
-        if !is_next_answer(alloc, &mut parser, limits, answer)? {
-            return Ok(false);
+        if !is_answer(alloc, parser, call, limits, answer) {
+            return false;
         }
     }
-    Ok(true)
+    true
+}
+
+/// The same after so many events of a text.
+pub(crate) fn are_answers(
+    alloc: Global,
+    (text, events): (&str, usize),
+    call: Call,
+    limits: Limits,
+    wanted: &[&str],
+) -> bool {
+    let mut parser = Parser::new_from_str(alloc, text);
+    pass(&mut parser, events);
+    are_next_answers(alloc, &mut parser, call, limits, wanted)
 }
 
 // Takes so many events.
@@ -68,46 +110,49 @@ const B: &str =
 
 const EMPTY: &str = "Some(Document { explicit: true, root: Scalar(\"\", Plain, 0, None) })";
 
-const LATE: &str = "the parser has handed out events";
+pub(crate) const LATE: &str = "the parser has handed out events";
+
+const THREE: &str = "a\n--- [b]\n---\n";
+
+const WRONG: &str = "a\n---\nscalar\nkey: v\n";
+
+const FAULT: &str = "mapping values are not allowed in this context at byte 16 line 4 column 4";
+
+const TWO: &str = "a\n--- [b]\n";
+
+const GROWING: &str = "--- [b]\n--- [b]\n--- [[]]\n";
+
+const DEEP: &str = "more than 1 open collections at byte 21 line 3 column 6";
+
+const MANY: &str = "more than 1 nodes at byte 5 line 1 column 6";
+
+// Texts with the events that are taken first, the most nodes and open collections, and the answers.
+const ANSWERS: &[((&str, usize), (usize, usize), &[&str])] = &[
+    // Few documents.
+    (("", 0), (9, 9), &["None", "None"]),
+    (("a", 0), (9, 9), &[A, "None", "None"]),
+    ((THREE, 0), (9, 9), &[A, B, EMPTY, "None", "None"]),
+    // A fault comes after the documents before it.
+    ((WRONG, 0), (9, 9), &[A, FAULT, "None"]),
+    // Parsers between documents, and inside.
+    ((TWO, 1), (9, 9), &[A, B]),
+    ((TWO, 2), (9, 9), &[LATE, LATE]),
+    ((TWO, 3), (9, 9), &[LATE, LATE]),
+    ((TWO, 4), (9, 9), &[B, "None"]),
+    // Limits are on each document.
+    ((GROWING, 0), (2, 1), &[B, B, DEEP, LATE]),
+    ((GROWING, 0), (1, 1), &[MANY, LATE]),
+];
 
 #[test]
-fn streams_of_few_documents(rt: HostRuntime) {
-    let three = "a\n--- [b]\n---\n";
-    assert!(rt; are_answers(rt.alloc(), ("", 0), WIDE, &["None", "None"]) == Ok(true));
-    assert!(rt; are_answers(rt.alloc(), ("a", 0), WIDE, &[A, "None", "None"]) == Ok(true));
-    assert!(rt;
-        are_answers(rt.alloc(), (three, 0), WIDE, &[A, B, EMPTY, "None", "None"]) == Ok(true)
-    );
-}
-
-#[test]
-fn a_fault_comes_behind_the_documents_before_it(rt: HostRuntime) {
-    let fault = "mapping values are not allowed in this context at byte 16 line 4 column 4";
-    let text = "a\n---\nscalar\nkey: v\n";
-    assert!(rt; are_answers(rt.alloc(), (text, 0), WIDE, &[A, fault, "None"]) == Ok(true));
-}
-
-#[test]
-fn parsers_between_documents_and_inside(rt: HostRuntime) {
-    for (events, answers) in [
-        (1, [A, B]),
-        (2, [LATE, LATE]),
-        (3, [LATE, LATE]),
-        (4, [B, "None"]),
-    ] {
-        assert!(rt; are_answers(rt.alloc(), ("a\n--- [b]\n", events), WIDE, &answers) == Ok(true));
+fn what_calls_answer(rt: HostRuntime) {
+    for &((text, events), (nodes, depth), wanted) in ANSWERS {
+        let limits = limits(nodes, depth);
+        assert!(rt;
+            are_answers(rt.alloc(), (text, events), Call::Next, limits, wanted),
+            "{text:?}"
+        );
     }
-}
-
-#[test]
-fn limits_are_on_each_document(rt: HostRuntime) {
-    let text = "--- [b]\n--- [b]\n--- [[]]\n";
-    let two = Limits { nodes: 2, depth: 1 };
-    let deep = "more than 1 open collections at byte 21 line 3 column 6";
-    assert!(rt; are_answers(rt.alloc(), (text, 0), two, &[B, B, deep, LATE]) == Ok(true));
-    let one = Limits { nodes: 1, depth: 1 };
-    let many = "more than 1 nodes at byte 5 line 1 column 6";
-    assert!(rt; are_answers(rt.alloc(), (text, 0), one, &[many, LATE]) == Ok(true));
 }
 
 // How many documents of a text a `---` begins.
@@ -122,8 +167,17 @@ fn count_explicit(alloc: Global, text: &str, limits: Limits) -> Result<usize, Tr
     Ok(count)
 }
 
+fn are_two_explicit(alloc: Global, text: &str) -> bool {
+    match count_explicit(alloc, text, limits(9, 9)) {
+        Ok(count) => count == 2,
+        Err(fault) => {
+            drop(fault);
+            false
+        }
+    }
+}
+
 #[test]
 fn a_loop_over_documents(rt: HostRuntime) {
-    let count = count_explicit(rt.alloc(), "a\n--- [b]\n---\n", WIDE).expect(&rt, "no fault");
-    assert!(rt; count == 2);
+    assert!(rt; are_two_explicit(rt.alloc(), THREE));
 }

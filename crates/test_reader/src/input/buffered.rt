@@ -1,9 +1,9 @@
-//! Iterators as inputs: up to the first `None`, up to the limit, and cloned in mid-text.
+//! Iterators as inputs: up to the first `None`, and up to the limit.
 
 ghost use Rattle.std.specs.Prelude.{◌≡◌, ◌+◌, ◌<◌, ◌≤◌, ◌==◌, None, Some, if◌then◌else◌};
 
 use crate::helpers::expect;
-use crate::input::steps::{Step, characters_of, iter_follows};
+use crate::input::steps::{Step, iter_follows};
 use saphyr_input::BufferedInput;
 use saphyr_input::input::Input;
 use saphyr_input::law::lists_characters;
@@ -38,21 +38,22 @@ impl Iterator for Stutter<'_> {
     }
 }
 
-type StutterInput<'a> = BufferedInput<Stutter<'a>>;
-
-fn stuttering<'a>(alloc: Global, calls: &'a Cell<u8>) -> Result<StutterInput<'a>, AllocError> {
+fn stuttering<'a>(
+    alloc: Global,
+    calls: &'a Cell<u8>,
+) -> Result<BufferedInput<Stutter<'a>>, AllocError> {
     BufferedInput::new(alloc, Stutter { place: 0, calls })
 }
 
 // Takes the next character off. Whether it is this.
-fn gives(input: &mut StutterInput<'_>, c: char) -> bool {
+fn gives<T: Input>(input: &mut T, c: char) -> bool {
     let next = input.look_ch();
     input.skip();
     next == c
 }
 
 // Whether the input gives `a` and then nothing, where the iterator is asked twice.
-fn stops(mut input: StutterInput<'_>, calls: &Cell<u8>) -> bool {
+fn stops<T: Input + Drop>(mut input: T, calls: &Cell<u8>) -> bool {
     for (c, count) in [('a', 1), ('\0', 2), ('\0', 2), ('\0', 2)] {
         if !gives(&mut input, c) || calls.get() != count {
             return false;
@@ -99,37 +100,4 @@ fn is_within(alloc: Global, text: &str, limit: u64, steps: &[Step]) -> bool
 fn stops_at_the_limit(rt: HostRuntime) {
     const STEPS: &[Step] = &[Step::Load(4), Step::PeekNth(2, 'c'), Step::PeekNth(3, '\0')];
     expect(&rt, is_within(rt.alloc(), "abcdef", 3, STEPS), "abcdef");
-}
-
-// A copy of an input of which six places are loaded and four are taken off, and the input.
-fn copy_behind<'a>(
-    input: &mut BufferedInput<Chars<'a>>,
-) -> Result<BufferedInput<Chars<'a>>, AllocError> {
-    input.lookahead(6);
-    input.skip_n(4);
-    input.clone()
-}
-
-// Whether a copy and its input answer these steps, with as much loaded.
-fn is_copied(alloc: Global, mut input: BufferedInput<Chars<'_>>, steps: &[Step]) -> bool {
-    match copy_behind(&mut input) {
-        Ok(copy) => {
-            copy.buflen() == input.buflen()
-                && iter_follows(alloc, copy, steps)
-                && iter_follows(alloc, input, steps)
-        }
-        Err(_) => false,
-    }
-}
-
-#[test]
-fn clones_in_mid_text(rt: HostRuntime) {
-    const STEPS: &[Step] = &[Step::Rest("two three four five")];
-    let alloc = rt.alloc();
-    let text = "one two three four five";
-    let holds = match characters_of(alloc, text) {
-        Ok(input) => is_copied(alloc, input, STEPS),
-        Err(_) => false,
-    };
-    expect(&rt, holds, text);
 }

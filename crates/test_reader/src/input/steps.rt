@@ -2,7 +2,7 @@
 
 use crate::helpers::expect;
 use example_input::Characters;
-use saphyr_input::input::{Input, SkipTabs};
+use saphyr_input::input::{CloneInput, Input, SkipTabs};
 use saphyr_input::law::lists_characters;
 use saphyr_input::{BufferedInput, StrInput};
 use std::alloc::{AllocError, Global};
@@ -73,6 +73,8 @@ pub(super) enum Step<'a> {
     IsNot(Ask),
     /// Just these characters remain.
     Rest(&'a str),
+    /// `clone`: the copy has as much loaded, and just these characters remain of it.
+    Copy(&'a str),
 }
 
 /// A text, and the steps that are taken on it.
@@ -158,13 +160,25 @@ fn remains<T: Input>(input: &mut T, rest: &str) -> bool {
     input.look_ch() == '\0' && input.peek_opt().is_none()
 }
 
-// Whether so many characters were fetched, and the text is this behind them.
+// Whether so many characters were fetched, and the text is this after them.
 fn is_fetched(fetched: Result<usize, AllocError>, count: usize, out: &String, text: &str) -> bool {
     matches!(fetched, Ok(n) if n == count) && out.as_str() == text
 }
 
+// Whether a copy was made, has as much loaded, and just these characters remain of it.
+fn is_copied<T: Input + Drop>(copied: Result<T, AllocError>, loaded: usize, rest: &str) -> bool {
+    match copied {
+        Ok(mut copy) => {
+            let holds = copy.buflen() == loaded && remains(&mut copy, rest);
+            drop(copy);
+            holds
+        }
+        Err(_) => false,
+    }
+}
+
 // Whether a step is answered as it is to be.
-fn answers<T: Input>(input: &mut T, out: &mut String, step: Step<'_>) -> bool {
+fn answers<T: CloneInput + Drop>(input: &mut T, out: &mut String, step: Step<'_>) -> bool {
     match step {
         Step::Load(count) => loads(input, count),
         Step::Loaded(count) => input.buflen() == count,
@@ -191,10 +205,11 @@ fn answers<T: Input>(input: &mut T, out: &mut String, step: Step<'_>) -> bool {
         Step::Is(ask) => is_so(input, ask, true),
         Step::IsNot(ask) => is_so(input, ask, false),
         Step::Rest(rest) => remains(input, rest),
+        Step::Copy(rest) => is_copied(input.clone(), input.buflen(), rest),
     }
 }
 
-fn answers_all<T: Input>(input: &mut T, out: &mut String, steps: &[Step]) -> bool {
+fn answers_all<T: CloneInput + Drop>(input: &mut T, out: &mut String, steps: &[Step]) -> bool {
     for &step in steps {
         if !answers(input, out, step) {
             return false;
@@ -204,7 +219,7 @@ fn answers_all<T: Input>(input: &mut T, out: &mut String, steps: &[Step]) -> boo
 }
 
 // Whether each step is answered as it is to be, with nothing fetched before.
-fn follows<T: Input + Drop>(alloc: Global, mut input: T, steps: &[Step]) -> bool {
+fn follows<T: CloneInput + Drop>(alloc: Global, mut input: T, steps: &[Step]) -> bool {
     let mut out = String::new(alloc);
     answers_all(&mut input, &mut out, steps)
 }
@@ -214,11 +229,8 @@ pub(super) fn iter_follows(alloc: Global, input: BufferedInput<Chars<'_>>, steps
     follows(alloc, input, steps)
 }
 
-/// The characters of a text as those of an iterator.
-pub(super) fn characters_of<'a>(
-    alloc: Global,
-    text: &'a str,
-) -> Result<BufferedInput<Chars<'a>>, AllocError> {
+// The characters of a text as those of an iterator.
+fn characters_of<'a>(alloc: Global, text: &'a str) -> Result<BufferedInput<Chars<'a>>, AllocError> {
     let iter = text.chars();
     lists_characters(&iter);
     BufferedInput::new(alloc, iter)

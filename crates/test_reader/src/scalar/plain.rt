@@ -1,85 +1,62 @@
 //! Plain scalars of one line and of several, the comments that end them, and their faults (YAML 1.2.2, 7.3.3).
 
-use crate::told::{Row, expect_told};
+use crate::told::expect_told;
 
-const ONE_LINE_IN_BLOCK: &[Row] = &[
-    (1, "b c\t d : e", "b c\t d @ 6,1,6 > 7,1,7"),
-    (0, "a:b, c]", "a:b, c] @ 7,1,7 > 7,1,7"),
-    (0, "a#b:", "a#b @ 3,1,3 > 3,1,3"),
-    (0, "- x", "- x @ 3,1,3 > 3,1,3"),
-    (0, "a\0b", "a @ 1,1,1 > 1,1,1"),
-    (0, "a \u{feff}", "a @ 1,1,1 > 2,1,2"),
-    (2, "é", "é @ 1,1,1 > 1,1,1"),
+const IN_BLOCK: &[&str] = &[
+    // One line.
+    "1 b c\t d : e => b c\t d @ 6,1,6 > 7,1,7",
+    "0 a:b, c] => a:b, c] @ 7,1,7 > 7,1,7",
+    "0 a#b: => a#b @ 3,1,3 > 3,1,3",
+    "0 - x => - x @ 3,1,3 > 3,1,3",
+    "0 a\0b => a @ 1,1,1 > 1,1,1",
+    "0 a \u{feff} => a @ 1,1,1 > 2,1,2",
+    "2 é => é @ 1,1,1 > 1,1,1",
+    // Several lines.
+    "0 scalar\nkey: [1, 2]] => scalar key @ 10,2,3 > 10,2,3",
+    "0 key\n  : value => key @ 3,1,3 > 6,2,2 blank",
+    "0 a\n --- b => a --- b @ 8,2,6 > 8,2,6",
+    "0 a\n--- b => a @ 1,1,1 > 2,2,0 blank",
+    "1 b\r\nc: d => b @ 1,1,1 > 3,2,0 blank",
+    "2 b  \n \t\n  c \r\r\n\n d => b\nc @ 10,3,3 > 16,6,1 blank",
+    "1 b\n\t\n\n  c => b\n\nc @ 8,4,3 > 8,4,3",
+    "1 b\n \tc => b c @ 5,2,3 > 5,2,3",
+    "1 b\n \t => b @ 1,1,1 > 4,2,2 blank",
+    "1 b\n\t => b @ 1,1,1 > 3,2,1 blank",
+    "0 b\n => b @ 1,1,1 > 2,2,0 blank",
+    // Comments end scalars.
+    "1 b # c\n d => b @ 1,1,1 # 2,1,2 > 2,1,2",
+    "1 b\n # c\n d => b @ 1,1,1 > 3,2,1 blank",
+    "1 b\n\t# c\n d => b @ 1,1,1 # 3,2,1 > 3,2,1 blank",
+    "1 b\n\t \t# c => b @ 1,1,1 # 5,2,3 > 5,2,3 blank",
+    "1 b\n \t# c\n d => b @ 1,1,1 > 4,2,2 blank",
+    "0 b\n\t# c\nd => b @ 1,1,1 > 3,2,1 blank",
+    // Refused.
+    "1 a\n\tb => ! TabInsidePlain @ 0,1,0",
+    "3 a\n  \t  b => ! TabInsidePlain @ 0,1,0",
+    "1 a\n\t\u{feff} => ! MisplacedByteOrderMark @ 3,2,1",
+    "0 : a => ! PlainEnd @ 0,1,0",
 ];
 
-const ONE_LINE_IN_FLOW: &[Row] = &[
-    (0, "a:b, c]", "a:b @ 3,1,3 > 3,1,3"),
-    (0, "true ]", "true @ 4,1,4 > 5,1,5"),
-    (0, "a:]", "a @ 1,1,1 > 1,1,1"),
-];
-
-const LINES_IN_BLOCK: &[Row] = &[
-    (0, "scalar\nkey: [1, 2]]", "scalar key @ 10,2,3 > 10,2,3"),
-    (0, "key\n  : value", "key @ 3,1,3 > 6,2,2 blank"),
-    (0, "a\n --- b", "a --- b @ 8,2,6 > 8,2,6"),
-    (0, "a\n--- b", "a @ 1,1,1 > 2,2,0 blank"),
-    (1, "b\r\nc: d", "b @ 1,1,1 > 3,2,0 blank"),
-    (
-        2,
-        "b  \n \t\n  c \r\r\n\n d",
-        "b\nc @ 10,3,3 > 16,6,1 blank",
-    ),
-    (1, "b\n\t\n\n  c", "b\n\nc @ 8,4,3 > 8,4,3"),
-    (1, "b\n \tc", "b c @ 5,2,3 > 5,2,3"),
-    (1, "b\n \t", "b @ 1,1,1 > 4,2,2 blank"),
-    (1, "b\n\t", "b @ 1,1,1 > 3,2,1 blank"),
-    (0, "b\n", "b @ 1,1,1 > 2,2,0 blank"),
-];
-
-const LINES_IN_FLOW: &[Row] = &[
-    (0, "a\n\nb]", "a\nb @ 4,3,1 > 4,3,1"),
-    (0, "a\n: b}", "a @ 1,1,1 > 2,2,0 blank"),
-    (0, "a\n...\n", "a @ 1,1,1 > 2,2,0 blank"),
-];
-
-// Comments end scalars.
-const COMMENTED_IN_BLOCK: &[Row] = &[
-    (1, "b # c\n d", "b @ 1,1,1 # 2,1,2 > 2,1,2"),
-    (1, "b\n # c\n d", "b @ 1,1,1 > 3,2,1 blank"),
-    (1, "b\n\t# c\n d", "b @ 1,1,1 # 3,2,1 > 3,2,1 blank"),
-    (1, "b\n\t \t# c", "b @ 1,1,1 # 5,2,3 > 5,2,3 blank"),
-    (1, "b\n \t# c\n d", "b @ 1,1,1 > 4,2,2 blank"),
-    (0, "b\n\t# c\nd", "b @ 1,1,1 > 3,2,1 blank"),
-];
-
-const COMMENTED_IN_FLOW: &[Row] = &[
-    (1, "b # c\n d", "b @ 1,1,1 > 2,1,2"),
-    (1, "b\n\t# c\n d", "b @ 1,1,1 > 3,2,1 blank"),
+const IN_FLOW: &[&str] = &[
+    // One line.
+    "0 a:b, c] => a:b @ 3,1,3 > 3,1,3",
+    "0 true ] => true @ 4,1,4 > 5,1,5",
+    "0 a:] => a @ 1,1,1 > 1,1,1",
+    // Several lines.
+    "0 a\n\nb] => a\nb @ 4,3,1 > 4,3,1",
+    "0 a\n: b} => a @ 1,1,1 > 2,2,0 blank",
+    "0 a\n...\n => a @ 1,1,1 > 2,2,0 blank",
+    // Comments end scalars.
+    "1 b # c\n d => b @ 1,1,1 > 2,1,2",
+    "1 b\n\t# c\n d => b @ 1,1,1 > 3,2,1 blank",
+    // Refused.
+    "0 a -, b] => ! PlainDashBeforeFlow @ 2,1,2",
+    "0 a\n-] => ! PlainDashBeforeFlow @ 2,2,0",
+    "1 a\n\t] => ! TabInsidePlain @ 0,1,0",
 ];
 
 #[test]
 fn reads_plain_scalars(rt: HostRuntime) {
-    expect_told(&rt, rt.alloc(), false, ONE_LINE_IN_BLOCK);
-    expect_told(&rt, rt.alloc(), true, ONE_LINE_IN_FLOW);
-    expect_told(&rt, rt.alloc(), false, LINES_IN_BLOCK);
-    expect_told(&rt, rt.alloc(), true, LINES_IN_FLOW);
-    expect_told(&rt, rt.alloc(), false, COMMENTED_IN_BLOCK);
-    expect_told(&rt, rt.alloc(), true, COMMENTED_IN_FLOW);
-}
-
-#[test]
-fn refusals(rt: HostRuntime) {
-    const IN_BLOCK: &[Row] = &[
-        (1, "a\n\tb", "! TabInsidePlain @ 0,1,0"),
-        (3, "a\n  \t  b", "! TabInsidePlain @ 0,1,0"),
-        (1, "a\n\t\u{feff}", "! MisplacedByteOrderMark @ 3,2,1"),
-        (0, ": a", "! PlainEnd @ 0,1,0"),
-    ];
-    const IN_FLOW: &[Row] = &[
-        (0, "a -, b]", "! PlainDashBeforeFlow @ 2,1,2"),
-        (0, "a\n-]", "! PlainDashBeforeFlow @ 2,2,0"),
-        (1, "a\n\t]", "! TabInsidePlain @ 0,1,0"),
-    ];
     expect_told(&rt, rt.alloc(), false, IN_BLOCK);
     expect_told(&rt, rt.alloc(), true, IN_FLOW);
 }

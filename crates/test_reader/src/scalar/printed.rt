@@ -28,16 +28,42 @@ fn prints_the_faults_of_no_case(rt: HostRuntime) {
     expect_texts(&rt, rt.alloc(), FAULTS);
 }
 
-// Whether an error at this place is printed so.
+fn is_copied(error: &ScanError) -> bool {
+    match error.try_clone() {
+        Ok(copy) => copy == *error,
+        Err(_) => false,
+    }
+}
+
+// Whether the error has this text and this place, and an equal copy.
+fn is_error(error: &ScanError, info: &str, mark: Marker) -> bool {
+    error.info() == info && *error.marker() == mark && is_copied(error)
+}
+
+// Whether the error is equal to the one that a `String` of its text gives there.
+fn is_made_of_owned(alloc: Global, error: &ScanError, mark: Marker) -> bool {
+    match String::from_str(alloc, error.info()) {
+        Ok(info) => ScanError::new(mark, info) == *error,
+        Err(_) => false,
+    }
+}
+
+// Whether the error of the text `x` at this place is this, and is printed so.
+fn is_x(alloc: Global, error: &ScanError, mark: Marker, text: &str) -> bool {
+    is_error(error, "x", mark)
+        && is_made_of_owned(alloc, error, mark)
+        && is_text(format!(in alloc; "{error}"), text)
+}
+
 fn prints(alloc: Global, mark: Marker, text: &str) -> bool {
     match ScanError::new_str(alloc, mark, "x") {
-        Ok(error) => is_text(format!(in alloc; "{error}"), text),
+        Ok(error) => is_x(alloc, &error, mark, text),
         Err(_) => false,
     }
 }
 
 #[test]
-fn prints_an_error(rt: HostRuntime) {
+fn makes_and_prints_an_error(rt: HostRuntime) {
     const ROWS: &[(Place, &str)] = &[
         ((3, 1, 3), "x at byte 3 line 1 column 4"),
         (
@@ -47,18 +73,6 @@ fn prints_an_error(rt: HostRuntime) {
     ];
     for &(place, text) in ROWS {
         expect(&rt, prints(rt.alloc(), marker(place), text), text);
-    }
-}
-
-// Whether the error has this text, stands there, and has a copy that is the same.
-fn is_error(error: &ScanError, info: &str, mark: Marker) -> bool {
-    error.info() == info && *error.marker() == mark && is_copied(error)
-}
-
-fn is_copied(error: &ScanError) -> bool {
-    match error.try_clone() {
-        Ok(copy) => copy == *error,
-        Err(_) => false,
     }
 }
 
@@ -94,16 +108,17 @@ fn are_defaults(mark: Marker, span: Span) -> bool {
 
 #[test]
 fn measures_spans(rt: HostRuntime) {
-    assert!(rt; are_measured());
-    assert!(rt; has_parts(Marker::new(9, 2, 1), (9, 2, 1)));
-    assert!(rt; are_defaults(Marker::default(), Span::default()));
+    let holds = are_measured()
+        && has_parts(Marker::new(9, 2, 1), (9, 2, 1))
+        && are_defaults(Marker::default(), Span::default());
+    assert!(rt; holds);
 }
 
 fn is_printed(alloc: Global, mark: Marker, text: &str) -> bool {
     is_text(format!(in alloc; "{mark}"), text)
 }
 
-// A place as it is printed, and that it comes behind the one before.
+// A place as it is printed, and that it comes after the one before.
 #[test]
 fn prints_and_orders_places(rt: HostRuntime) {
     const ROWS: &[(Place, &str)] = &[
@@ -116,21 +131,20 @@ fn prints_and_orders_places(rt: HostRuntime) {
     let mut before = Marker::default();
     for &(place, text) in ROWS {
         let mark = marker(place);
-        expect(&rt, is_printed(rt.alloc(), mark, text), text);
-        expect(&rt, before <= mark && mark >= before, text);
+        let is_behind = before <= mark && mark >= before;
+        expect(&rt, is_behind && is_printed(rt.alloc(), mark, text), text);
         before = mark;
     }
 }
 
+fn are_ordered() -> bool {
+    ScalarStyle::Plain < ScalarStyle::SingleQuoted
+        && ScalarStyle::SingleQuoted < ScalarStyle::DoubleQuoted
+        && ScalarStyle::DoubleQuoted < ScalarStyle::Literal
+        && ScalarStyle::Literal < ScalarStyle::Folded
+}
+
 #[test]
 fn orders_the_styles(rt: HostRuntime) {
-    const PAIRS: &[(ScalarStyle, ScalarStyle)] = &[
-        (ScalarStyle::Plain, ScalarStyle::SingleQuoted),
-        (ScalarStyle::SingleQuoted, ScalarStyle::DoubleQuoted),
-        (ScalarStyle::DoubleQuoted, ScalarStyle::Literal),
-        (ScalarStyle::Literal, ScalarStyle::Folded),
-    ];
-    for &(first, second) in PAIRS {
-        assert!(rt; first < second);
-    }
+    assert!(rt; are_ordered());
 }

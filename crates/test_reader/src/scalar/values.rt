@@ -127,81 +127,87 @@ fn items_are_folded(rt: HostRuntime) {
     expect(&rt, is_text(folded(rt.alloc(), ITEMS), text), text);
 }
 
-// Whether the lines of a text, indented by so much, have this value in a style.
+// The style of a block scalar, what happens to its last breaks, and where its text ends.
+type Manner = (BlockStyle, Chomping, Ending);
+
+const FOLDED: Manner = (BlockStyle::Folded, Chomping::Clip, Ending::AtEnd);
+
+const STRIPPED: Manner = (BlockStyle::Literal, Chomping::Strip, Ending::AtEnd);
+
+const CLIPPED: Manner = (BlockStyle::Literal, Chomping::Clip, Ending::AtEnd);
+
+const KEPT: Manner = (BlockStyle::Literal, Chomping::Keep, Ending::AtEnd);
+
+const STRIPPED_AT_A_MARK: Manner = (BlockStyle::Literal, Chomping::Strip, Ending::AtMark);
+
+const CLIPPED_AT_A_MARK: Manner = (BlockStyle::Literal, Chomping::Clip, Ending::AtMark);
+
+const KEPT_AT_A_MARK: Manner = (BlockStyle::Literal, Chomping::Keep, Ending::AtMark);
+
+// A manner, how far lines are indented, the lines, and their value.
+const BLOCKS: &[(Manner, usize, &str, &str)] = &[
+    (FOLDED, 1, " a\n b\n\n  c\n d\n", "a b\n\n c\nd\n"),
+    (FOLDED, 1, " a\n  b\n c\n", "a\n b\nc\n"),
+    (FOLDED, 1, "\n a\n\n\n b", "\na\n\nb\n"),
+    (FOLDED, 1, " a\n\n \tb\n\n c\n", "a\n\n\tb\n\nc\n"),
+    (STRIPPED, 1, " a\n ", "a"),
+    (CLIPPED, 1, " a\n ", "a\n"),
+    (KEPT, 1, " a\n ", "a\n\n"),
+    (STRIPPED, 1, " a\n\n", "a"),
+    (CLIPPED, 1, " a\n\n", "a\n"),
+    (KEPT, 1, " a\n\n", "a\n\n"),
+    (STRIPPED, 1, "\n a\r\n\r b\r", "\na\n\nb"),
+    (CLIPPED, 1, "\n a\r\n\r b\r", "\na\n\nb\n"),
+    (KEPT, 1, "\n a\r\n\r b\r", "\na\n\nb\n"),
+    (STRIPPED, 2, "   a\n", " a"),
+    (CLIPPED, 2, "   a\n", " a\n"),
+    (KEPT, 2, "   a\n", " a\n"),
+    (STRIPPED, 2, "   a", " a"),
+    (CLIPPED, 2, "   a", " a\n"),
+    (KEPT, 2, "   a", " a\n"),
+    (STRIPPED, 2, "  a\n ", "a"),
+    (CLIPPED, 2, "  a\n ", "a\n"),
+    (KEPT, 2, "  a\n ", "a\n"),
+    (STRIPPED, 2, "  a\n  ", "a"),
+    (CLIPPED, 2, "  a\n  ", "a\n"),
+    (KEPT, 2, "  a\n  ", "a\n\n"),
+    (STRIPPED, 2, "  a\n   ", "a\n "),
+    (CLIPPED, 2, "  a\n   ", "a\n \n"),
+    (KEPT, 2, "  a\n   ", "a\n \n"),
+    (STRIPPED, 0, "", ""),
+    (CLIPPED, 0, "", ""),
+    (KEPT, 0, "", ""),
+    (STRIPPED, 0, "\n", ""),
+    (CLIPPED, 0, "\n", ""),
+    (KEPT, 0, "\n", "\n"),
+    (STRIPPED, 1, " ", ""),
+    (CLIPPED, 1, " ", ""),
+    (KEPT, 1, " ", "\n"),
+    (STRIPPED, 1, "\n ", ""),
+    (CLIPPED, 1, "\n ", ""),
+    (KEPT, 1, "\n ", "\n"),
+    (STRIPPED_AT_A_MARK, 1, " a", "a"),
+    (CLIPPED_AT_A_MARK, 1, " a", "a"),
+    (KEPT_AT_A_MARK, 1, " a", "a"),
+    (KEPT_AT_A_MARK, 1, " a\n ", "a\n"),
+    (KEPT_AT_A_MARK, 1, " ", ""),
+];
+
 fn is_block(
     alloc: Global,
-    (style, chomping, ending): (BlockStyle, Chomping, Ending),
-    (indentation, text): (usize, &str),
-    want: &str,
+    (style, chomping, ending): Manner,
+    indentation: usize,
+    lines: &str,
+    value: &str,
 ) -> bool {
-    let value = block_value(alloc, style, chomping, indentation, text, ending);
-    is_text(value, want)
+    let read = block_value(alloc, style, chomping, indentation, lines, ending);
+    is_text(read, value)
 }
 
 #[test]
-fn folded_block_scalars(rt: HostRuntime) {
-    const ROWS: &[(&str, &str)] = &[
-        (" a\n b\n\n  c\n d\n", "a b\n\n c\nd\n"),
-        (" a\n  b\n c\n", "a\n b\nc\n"),
-        ("\n a\n\n\n b", "\na\n\nb\n"),
-        (" a\n\n \tb\n\n c\n", "a\n\n\tb\n\nc\n"),
-    ];
-    let manner = (BlockStyle::Folded, Chomping::Clip, Ending::AtEnd);
-    for &(text, want) in ROWS {
-        expect(&rt, is_block(rt.alloc(), manner, (1, text), want), text);
-    }
-}
-
-// Whether the lines of a text, indented by so much, read so with their last breaks stripped, clipped or kept.
-fn is_literal(
-    alloc: Global,
-    lines: (usize, &str),
-    (stripped, clipped, kept): (&str, &str, &str),
-) -> bool {
-    let style = BlockStyle::Literal;
-    let ending = Ending::AtEnd;
-    is_block(alloc, (style, Chomping::Strip, ending), lines, stripped)
-        && is_block(alloc, (style, Chomping::Clip, ending), lines, clipped)
-        && is_block(alloc, (style, Chomping::Keep, ending), lines, kept)
-}
-
-#[test]
-fn literal_block_scalars(rt: HostRuntime) {
-    const ROWS: &[(usize, &str, &str, &str, &str)] = &[
-        (1, " a\n ", "a", "a\n", "a\n\n"),
-        (1, " a\n\n", "a", "a\n", "a\n\n"),
-        (1, "\n a\r\n\r b\r", "\na\n\nb", "\na\n\nb\n", "\na\n\nb\n"),
-        (2, "   a\n", " a", " a\n", " a\n"),
-        (2, "   a", " a", " a\n", " a\n"),
-        (2, "  a\n ", "a", "a\n", "a\n"),
-        (2, "  a\n  ", "a", "a\n", "a\n\n"),
-        (2, "  a\n   ", "a\n ", "a\n \n", "a\n \n"),
-        (0, "", "", "", ""),
-        (0, "\n", "", "", "\n"),
-        (1, " ", "", "", "\n"),
-        (1, "\n ", "", "", "\n"),
-    ];
-    for &(indentation, text, stripped, clipped, kept) in ROWS {
-        let values = (stripped, clipped, kept);
-        expect(
-            &rt,
-            is_literal(rt.alloc(), (indentation, text), values),
-            text,
-        );
-    }
-}
-
-#[test]
-fn block_scalars_cut_by_a_mark(rt: HostRuntime) {
-    const ROWS: &[(Chomping, &str, &str)] = &[
-        (Chomping::Strip, " a", "a"),
-        (Chomping::Clip, " a", "a"),
-        (Chomping::Keep, " a", "a"),
-        (Chomping::Keep, " a\n ", "a\n"),
-        (Chomping::Keep, " ", ""),
-    ];
-    for &(chomping, text, want) in ROWS {
-        let manner = (BlockStyle::Literal, chomping, Ending::AtMark);
-        expect(&rt, is_block(rt.alloc(), manner, (1, text), want), text);
+fn reads_block_scalars(rt: HostRuntime) {
+    for &(manner, indentation, lines, value) in BLOCKS {
+        let holds = is_block(rt.alloc(), manner, indentation, lines, value);
+        expect(&rt, holds, lines);
     }
 }

@@ -4,10 +4,10 @@ use Rattle.std.proofs.lemmas.Iterator.{YieldsList-from_chars}
 use Rattle.std.proofs.lemmas.Iterator.Consumers.{YieldsList-end}
 use Rattle.std.proofs.lemmas.List.{map-id, append-nil}
 use Rattle.test_case_files.specs.Escapes.{text_of}
-use Rattle.test_case_files.proofs.Reading.{nothing_left, reads_all_escaped}
+use Rattle.test_case_files.proofs.Reading.{nothing_left, reads_all_escaped, reads_none, reads_one}
 use Rattle.test_case_files.proofs.escape.unescaped.Goals as goal
 
--- behind the loop all characters of the line have come
+-- after the loop all characters of the line have come
 pub returns-clause-is : goal.returns-clause-is
 returns-clause-is c =
     let all =
@@ -21,3 +21,16 @@ returns-clause-is c =
 pub returns-clause-written : goal.returns-clause-written
 returns-clause-written c cs is =
     returns-clause-is c ∙ ap (λ l. encode_utf8_all (text_of l)) is ∙ ap encode_utf8_all (reads_all_escaped cs)
+
+pub loop-c-init : goal.loop-c-init
+loop-c-init c rest = sym (ap (λ l. l ++ encode_utf8_all (text_of rest)) c.new-text.ensures.bytes)
+
+pub loop-c-preserved : goal.loop-c-preserved
+loop-c-preserved c =
+    reads_none c.loop-c.yielded _ c.loop-c.escape _ c.in-Some.c _ c.loop-c.invariant c.read-given.ensures
+    c.in_default.is
+
+pub loop-c-preserved-in_ok-push : goal.loop-c-preserved-in_ok-push
+loop-c-preserved-in_ok-push c =
+    reads_one c.loop-c.yielded _ _ c.loop-c.escape _ c.in-Some.c _ _ c.loop-c.invariant c.read-given.ensures
+    c.in-Some-given.is c.in_ok-push.ensures.bytes

@@ -16,7 +16,7 @@ gives s r t = (r ≡ item s.place) × (s.place < 7 → t.place ≡ s.place + 1)
 callable : (s : Stutter) → IsCallable (λ _. ⊤) gives s
 callable s = (hlevel props, tt)
 
--- behind a place that gives nothing no item comes
+-- after a place that gives nothing no item comes
 ends : (s : Stutter) → item s.place ≡ None → Lists (λ _. ⊤) gives s []
 ends s e = (
   callable s,

@@ -1,4 +1,4 @@
-use Rattle.std.proofs.Common.{◌≡◌, true, subst}
+use Rattle.std.proofs.Common.{subst}
 use Rattle.std.proofs.lemmas.Result.{IfOk-weaker}
 use Rattle.saphyr_parser.specs.Cursor.{to_come}
 use Rattle.test_case_files.specs.Listings.{ListAll}

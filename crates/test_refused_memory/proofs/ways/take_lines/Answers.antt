@@ -1,7 +1,6 @@
 use Rattle.std.proofs.Common.{Some, subst}
 use Rattle.test_case_files.proofs.Listings.{hands_less, lists_more}
 use Rattle.test_refused_memory.specs.Want.{PassesItem}
-use Rattle.test_refused_memory.proofs.Ends.{want_ends}
 use Rattle.test_refused_memory.proofs.ways.take_lines.Goals as goal
 
 pub loop-item-preserved : goal.loop-item-preserved

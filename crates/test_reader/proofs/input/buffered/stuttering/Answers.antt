@@ -12,7 +12,7 @@ gives s r t = (r ≡ (if s.place == 0 then Some 97 else (if s.place == 2 then So
 callable : (s : Stutter) → IsCallable (λ _. ⊤) gives s
 callable s = (hlevel props, tt)
 
--- behind the first item no other comes
+-- after the first item no other comes
 lists_none : (s : Stutter) → s.place ≡ 1 → Lists (λ _. ⊤) gives s []
 lists_none s e = (
   callable s,
