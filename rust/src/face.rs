@@ -9,6 +9,7 @@
 
 use crate::encoding::NotUtf8;
 use crate::event::{Event, Tag};
+use crate::progress::{Progress, Stand};
 use crate::scanner::{Marker, ScalarStyle, ScanError, Span};
 use std::alloc::{handle_alloc_error, Layout};
 use std::borrow::Cow;
@@ -132,12 +133,14 @@ struct Reached {
 
 impl Reached {
     /// Goes on to a later place of the text, and returns how many bytes are before it.
+    #[inline]
     fn go_on(&mut self, text: &str, index: usize) -> Option<usize> {
         let more = index.checked_sub(self.characters)?;
-        let rest = text.get(self.bytes..)?;
-        self.bytes += if rest.as_bytes().get(..more)?.is_ascii() {
+        let ahead = text.as_bytes().get(self.bytes..)?.get(..more)?;
+        self.bytes += if ahead.is_ascii() {
             more
         } else {
+            let rest = text.get(self.bytes..)?;
             let mut characters = rest.chars();
             characters.nth(more.checked_sub(1)?)?;
             rest.len() - characters.as_str().len()
@@ -173,19 +176,20 @@ impl<'input> Face<'input> {
         }
     }
 
-    /// Hands out the next item.
+    /// Hands out the next item, and says where it leaves the parser.
     #[inline]
-    pub fn next(&mut self) -> Item<'input> {
+    pub fn next(&mut self, progress: &mut Progress) -> Item<'input> {
         // SAFETY: the handle has a parser, which no other call uses. The record was zeroed, and nothing but this call
         // has changed it.
         let status = unsafe { saphyr_next(self.handle.get_mut(), &mut self.record) };
         if status != EVENT {
             // SAFETY: the call was the last one with the parser, and wrote the record.
-            return unsafe { self.ending(status) }.map(Err);
+            let fault = unsafe { self.ending(status) }?;
+            return progress.end(fault);
         }
-        let span = Span::new(marker(&self.record.start), marker(&self.record.end));
         // SAFETY: the same.
-        Some(Ok((unsafe { self.event() }, span)))
+        let event = unsafe { self.event(progress) };
+        Some(Ok((event, self.record.span())))
     }
 
     /// The fault in place of an event, if there is one.
@@ -208,13 +212,22 @@ impl<'input> Face<'input> {
     /// # Safety
     /// The call wrote the record, and no other call with the parser came since.
     #[inline]
-    unsafe fn event(&mut self) -> Event<'input> {
+    unsafe fn event(&mut self, progress: &mut Progress) -> Event<'input> {
         let anchor = self.record.anchor;
         match self.record.kind {
             1 => Event::StreamStart,
-            2 => Event::StreamEnd,
-            3 => Event::DocumentStart(self.record.is_explicit != 0),
-            4 => Event::DocumentEnd,
+            2 => {
+                progress.stand = Stand::Behind(self.record.span());
+                Event::StreamEnd
+            }
+            3 => {
+                progress.stand = Stand::Inside;
+                Event::DocumentStart(self.record.is_explicit != 0)
+            }
+            4 => {
+                progress.stand = Stand::Between;
+                Event::DocumentEnd
+            }
             5 => Event::Alias(anchor),
             6 => {
                 let style = style(self.record.style);
@@ -237,6 +250,7 @@ impl<'input> Face<'input> {
     ///
     /// # Safety
     /// The same as of `event`.
+    #[inline]
     unsafe fn value(&mut self, style: ScalarStyle) -> Cow<'input, str> {
         // SAFETY: the caller ensures what this function requires.
         let value = unsafe { self.record.value.text() };
@@ -249,9 +263,13 @@ impl<'input> Face<'input> {
             ScalarStyle::Literal | ScalarStyle::Folded => return Cow::Owned(value.to_owned()),
         };
         let at = self.reached.go_on(text, self.record.start.index);
-        let piece = at.and_then(|at| text.get(at + quotes..at + quotes + value.len()));
+        let bytes = text.as_bytes();
+        let piece = at.and_then(|at| bytes.get(at + quotes..at + quotes + value.len()));
         match piece {
-            Some(piece) if piece == value => Cow::Borrowed(piece),
+            // SAFETY: these bytes are those of `value`, which is a text.
+            Some(piece) if piece == value.as_bytes() => {
+                Cow::Borrowed(unsafe { str::from_utf8_unchecked(piece) })
+            }
             _ => Cow::Owned(value.to_owned()),
         }
     }
@@ -288,6 +306,11 @@ impl Drop for Face<'_> {
 }
 
 impl Record {
+    #[inline]
+    fn span(&self) -> Span {
+        Span::new(marker(&self.start), marker(&self.end))
+    }
+
     fn zeroed() -> Self {
         Record {
             kind: 0,

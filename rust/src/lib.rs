@@ -35,6 +35,7 @@ mod face;
 pub mod input;
 mod parser;
 mod parts;
+mod progress;
 mod scanner;
 
 pub use crate::encoding::NotUtf8;

@@ -5,6 +5,7 @@ use crate::event::{Event, SpannedEventReceiver};
 use crate::face::{checked, Face, Item, Text};
 use crate::input::{buffered::BufferedInput, str::StrInput, Input};
 use crate::parts::Parts;
+use crate::progress::{Progress, Stand};
 use crate::scanner::{ScanError, Span};
 use std::fmt;
 
@@ -22,15 +23,6 @@ enum Source<'input, T> {
     Parts(Parts<T>),
 }
 
-/// Where a parser is among the documents of its text.
-#[derive(Clone, Copy, Debug, PartialEq, Eq)]
-enum Stand {
-    Between,
-    Inside,
-    /// The stream's end was handed out, with this place.
-    Behind(Span),
-}
-
 /// A parser of a text. It gives the events one after the other.
 ///
 /// `T` is the kind of input that the characters come from. A text in memory is read as far as each event needs. Before
@@ -40,9 +32,8 @@ pub struct Parser<'input, T: Input> {
     keep_tags: bool,
     /// The event that was peeked.
     peeked: Option<(Event<'input>, Span)>,
-    stand: Stand,
-    /// The fault that ended the events, and whether it was handed out.
-    fault: Option<(ScanError, bool)>,
+    /// Where the events that were handed out have led.
+    progress: Progress,
 }
 
 impl<'input> Parser<'input, StrInput<'input>> {
@@ -83,8 +74,7 @@ impl<'input, T: Input> Parser<'input, T> {
             source,
             keep_tags: false,
             peeked: None,
-            stand: Stand::Between,
-            fault: None,
+            progress: Progress::default(),
         }
     }
 
@@ -105,19 +95,16 @@ impl<'input, T: Input> Parser<'input, T> {
     /// # Errors
     /// The fault that ends the events, until it is handed out.
     pub fn peek(&mut self) -> Option<Result<&(Event<'input>, Span), ScanError>> {
-        if self.has_ended() {
-            return self.unsent_fault().map(Err);
+        if self.peeked.is_none() && !self.progress.has_ended() {
+            let stand = self.progress.stand;
+            self.peeked = self.read().and_then(Result::ok);
+            // The event was not handed out.
+            self.progress.stand = stand;
         }
-        if self.peeked.is_none() {
-            match self.read()? {
-                Ok(item) => self.peeked = Some(item),
-                Err(fault) => {
-                    self.fault = Some((fault, false));
-                    return self.unsent_fault().map(Err);
-                }
-            }
+        match &self.peeked {
+            Some(item) => Some(Ok(item)),
+            None => self.progress.unsent_fault().map(Err),
         }
-        self.peeked.as_ref().map(Ok)
     }
 
     /// Hands out the next event. If a fault ends the events, hands out that fault, once.
@@ -126,29 +113,12 @@ impl<'input, T: Input> Parser<'input, T> {
     /// The fault that ends the events.
     #[inline]
     pub fn next_event(&mut self) -> Option<ParseResult<'input>> {
-        if self.has_ended() {
-            self.give_fault()
-        } else {
-            self.give()
+        if self.progress.has_ended() {
+            return self.progress.give_fault();
         }
-    }
-
-    /// Hands out the next event or the fault, if neither the stream's end nor a fault was read before.
-    #[inline]
-    fn give(&mut self) -> Option<ParseResult<'input>> {
         let item = self.pass();
-        if let Some((_, was_sent)) = &mut self.fault {
-            *was_sent = true;
-        }
+        self.progress.was_sent = self.progress.fault.is_some();
         item
-    }
-
-    /// Hands out the fault that ended the events, once.
-    #[cold]
-    fn give_fault(&mut self) -> Option<ParseResult<'input>> {
-        let fault = self.unsent_fault()?;
-        self.fault = Some((fault.clone(), true));
-        Some(Err(fault))
     }
 
     /// Hands events to a receiver: those up to the end of a document or, with `multi` or if no document is left, up to
@@ -162,15 +132,15 @@ impl<'input, T: Input> Parser<'input, T> {
         recv: &mut R,
         multi: bool,
     ) -> Result<(), ScanError> {
-        match self.stand {
+        match self.progress.stand {
             Stand::Behind(span) => {
                 recv.on_event(Event::StreamEnd, span);
                 return Ok(());
             }
-            Stand::Inside if self.fault.is_none() => return Err(self.no_document()),
+            Stand::Inside if self.progress.fault.is_none() => return Err(self.no_document()),
             Stand::Inside | Stand::Between => {}
         }
-        while !self.has_ended() {
+        while !self.progress.has_ended() {
             let Some(item) = self.pass() else { break };
             let (event, span) = item?;
             let is_last = !multi && event == Event::DocumentEnd;
@@ -179,39 +149,23 @@ impl<'input, T: Input> Parser<'input, T> {
                 return Ok(());
             }
         }
-        self.fault
-            .as_ref()
-            .map_or(Ok(()), |(fault, _)| Err(fault.clone()))
-    }
-
-    /// Whether there is nothing left to read.
-    #[inline]
-    fn has_ended(&self) -> bool {
-        self.fault.is_some() || matches!(self.stand, Stand::Behind(_))
-    }
-
-    /// The fault that was not handed out yet.
-    fn unsent_fault(&self) -> Option<ScanError> {
-        let (fault, was_sent) = self.fault.as_ref()?;
-        (!was_sent).then(|| fault.clone())
+        self.progress.fault.clone().map_or(Ok(()), Err)
     }
 
     /// Passes the next event, if neither the stream's end nor a fault was read before. A fault is kept.
     #[inline]
     fn pass(&mut self) -> Option<ParseResult<'input>> {
-        let item = if self.peeked.is_some() {
-            self.peeked.take().map(Ok)
-        } else {
-            self.read()
-        };
-        match &item {
-            Some(Ok((Event::DocumentStart(_), _))) => self.stand = Stand::Inside,
-            Some(Ok((Event::DocumentEnd, _))) => self.stand = Stand::Between,
-            Some(Ok((Event::StreamEnd, span))) => self.stand = Stand::Behind(*span),
-            Some(Ok(_)) | None => {}
-            Some(Err(fault)) => self.fault = Some((fault.clone(), false)),
+        if self.peeked.is_some() {
+            return self.pass_peeked();
         }
-        item
+        self.read()
+    }
+
+    #[cold]
+    fn pass_peeked(&mut self) -> Option<ParseResult<'input>> {
+        let (event, span) = self.peeked.take()?;
+        self.progress.pass(&event, span);
+        Some(Ok((event, span)))
     }
 
     /// The fault that no document begins here, or the fault that comes next.
@@ -228,12 +182,20 @@ impl<'input, T: Input> Parser<'input, T> {
     /// Reads the next item.
     #[inline]
     fn read(&mut self) -> Item<'input> {
+        if let Source::Whole(face) = &mut self.source {
+            return face.next(&mut self.progress);
+        }
+        self.read_part()
+    }
+
+    /// The same at the start of a text, and of an input.
+    fn read_part(&mut self) -> Item<'input> {
         if let Source::Text(text) = self.source {
             self.source = Source::Whole(Face::new(Text::Borrowed(text), self.keep_tags));
         }
         match &mut self.source {
-            Source::Whole(face) => face.next(),
-            Source::Parts(parts) => parts.next(self.keep_tags),
+            Source::Whole(face) => face.next(&mut self.progress),
+            Source::Parts(parts) => parts.next(self.keep_tags, &mut self.progress),
             Source::Text(_) => unreachable!("its parser was made"),
         }
     }
@@ -255,8 +217,7 @@ impl<T: Input + Clone> Clone for Parser<'_, T> {
             source: self.source.clone(),
             keep_tags: self.keep_tags,
             peeked: self.peeked.clone(),
-            stand: self.stand,
-            fault: self.fault.clone(),
+            progress: self.progress.clone(),
         }
     }
 }
@@ -266,8 +227,7 @@ impl<T: Input> fmt::Debug for Parser<'_, T> {
         f.debug_struct("Parser")
             .field("keep_tags", &self.keep_tags)
             .field("peeked", &self.peeked)
-            .field("stand", &self.stand)
-            .field("fault", &self.fault)
+            .field("progress", &self.progress)
             .finish_non_exhaustive()
     }
 }

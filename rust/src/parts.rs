@@ -14,6 +14,7 @@ mod cutter;
 use crate::event::Event;
 use crate::face::{Face, Item, Text};
 use crate::input::Input;
+use crate::progress::Progress;
 use crate::scanner::{Marker, ScanError, Span};
 use cutter::Cutter;
 use std::sync::Arc;
@@ -75,8 +76,8 @@ impl<T: Input> Parts<T> {
         }
     }
 
-    /// Hands out the next item.
-    pub fn next(&mut self, keep_tags: bool) -> Item<'static> {
+    /// Hands out the next item, and says where it leaves the parser.
+    pub fn next(&mut self, keep_tags: bool, progress: &mut Progress) -> Item<'static> {
         if !self.has_begun {
             self.has_begun = true;
             return Some(Ok((Event::StreamStart, Span::empty(Marker::new(0, 1, 0)))));
@@ -87,12 +88,13 @@ impl<T: Input> Parts<T> {
                 Some(Ok((Event::StreamStart, _))) => {}
                 Some(Ok((event, span))) if part.is_behind(&event, span) => self.pass(),
                 Some(Ok((event, span))) => {
-                    let event = self.from.counted_on(event);
-                    return Some(Ok((event, self.from.span(span))));
+                    let (event, span) = (self.from.counted_on(event), self.from.span(span));
+                    progress.pass(&event, span);
+                    return Some(Ok((event, span)));
                 }
                 Some(Err(fault)) => {
                     let place = self.from.place(*fault.marker());
-                    return Some(Err(ScanError::new_str(place, fault.info())));
+                    return progress.end(ScanError::new_str(place, fault.info()));
                 }
                 None => return None,
             }
@@ -194,7 +196,7 @@ impl Part {
 
     fn next(&mut self) -> Item<'static> {
         self.given += 1;
-        self.face.next()
+        self.face.next(&mut Progress::default())
     }
 
     fn set_keep_tags(&mut self, value: bool) {
@@ -219,7 +221,7 @@ fn ending(text: &str) -> (usize, Option<ScanError>) {
     let mut face = Face::new(Text::Borrowed(text), false);
     let mut count = 0;
     loop {
-        match face.next() {
+        match face.next(&mut Progress::default()) {
             Some(Ok(_)) => count += 1,
             Some(Err(fault)) => return (count, Some(fault)),
             None => return (count, None),
