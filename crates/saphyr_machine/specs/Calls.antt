@@ -80,15 +80,6 @@ FailsFrom None None f old new =
 abbrev pub FailsWith : Fault → EventCursor → EventCursor → Type 0
 FailsWith f old new = FailsFrom old.current old.kept f old new
 
--- what is answered of a fault that was kept
-abbrev pub GivesFault : Option Kept → Option (Result (Event × Span) Fault) → EventCursor → EventCursor → Type 0
-GivesFault None None old new = new ≡ old
-GivesFault None (Some r) old new = ⊥
-GivesFault (Some k) None old new = (k.given ≡ true) × (new ≡ old)
-GivesFault (Some k) (Some (Ok e)) old new = ⊥
-GivesFault (Some k) (Some (Err f)) old new =
-    (k.given ≡ false) × IsToldAs k.fault f × (new ≡ record old { kept = given_fault f })
-
 -- ## Where nothing is left
 
 abbrev pub IsOverFrom : Option (Happening × Span) → Option Kept → Machine → Type 0

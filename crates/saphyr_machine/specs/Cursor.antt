@@ -56,12 +56,6 @@ count a = length a.events + (if is_some a.fault then 1 else 0)
 abbrev pub event_of : Event × Span → Happening × Span
 event_of e = (happening e.0, e.1)
 
--- what was read, where an event is written into its place
-abbrev pub item_in : {X : Type 0} → Event × Span → Option (Result X Fault) → Option (Result (Event × Span) Fault)
-item_in next None = None
-item_in next (Some (Ok x)) = Some (Ok next)
-item_in next (Some (Err f)) = Some (Err f)
-
 -- what ends the events; the last two faults are given by `load` alone
 abbrev pub ending_of_fault : Fault → Ending
 ending_of_fault (fault.Scan e) = Refused e.mark (string_bytes e.info)

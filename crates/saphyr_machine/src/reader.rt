@@ -2,7 +2,6 @@
 
 ghost use Rattle.std.specs.Prelude.{◌≡◌, None, Some, true, false, IfNone};
 ghost use Rattle.saphyr_machine.specs.Faults.{is_own};
-ghost use Rattle.saphyr_machine.specs.Cursor.{item_in};
 
 use crate::event::Event;
 use crate::fault::Fault;
@@ -33,22 +32,6 @@ pub struct EventReader<'input, T: Input> {
     pub(super) inside: bool,
     // The span of the stream's end, once that was handed out.
     pub(super) finished: Option<Span>,
-}
-
-// Writes the event that is handed out into its place.
-fn fill<'input>(
-    handed: Option<Result<(Event<'input>, Span), Fault>>,
-    next: &mut (Event<'input>, Span),
-) -> Option<Result<(), Fault>>
-    ensures { item_in next.new result ≡ handed.entry }
-{
-    match handed? {
-        Ok(item) => {
-            drop(replace(next, item));
-            Some(Ok(()))
-        }
-        Err(fault) => Some(Err(fault)),
-    }
 }
 
 impl<'input, T: Input> EventReader<'input, T> {
@@ -88,13 +71,20 @@ impl<'input, T: Input> EventReader<'input, T> {
             return;
         }
         let mut next = no_event();
-        match self.machine.read(&mut next) {
-            Some(Ok(())) => drop(self.current.replace(next)),
-            Some(Err(fault)) => {
+        let mut fault = Fault::OutOfMemory;
+        match self.machine.advance(&mut next, &mut fault) {
+            Progress::Event => {
+                drop(fault);
+                drop(self.current.replace(next));
+            }
+            Progress::Fault => {
                 drop(next);
                 self.keep(fault, false);
             }
-            None => drop(next),
+            Progress::Over => {
+                drop(next);
+                drop(fault);
+            }
         }
     }
 
@@ -134,123 +124,45 @@ impl<'input, T: Input> EventReader<'input, T> {
         drop(self.kept.replace(Kept { fault, given }));
     }
 
-    // Gives the fault that ended the events, unless it was given before. If it can't be copied, it is lost,
-    // and `OutOfMemory` replaces it.
-    fn give_fault(&mut self) -> Option<Result<(Event<'input>, Span), Fault>>
-        ensures { calls.GivesFault (cursor self.old).kept result (cursor self.old)
-            (cursor self.new) }
+    // Keeps a copy of the fault that is handed out. If it can't be copied, it is lost, and `OutOfMemory` replaces it.
+    #[inline(never)]
+    fn keep_copy(&mut self, fault: &mut Fault)
+        requires { is_own fault.old ≡ true }
+        ensures told { calls.IsToldAs (spec.ending_of_fault fault.old) fault.new }
+        ensures kept { cursor self.new
+            ≡ record (cursor self.old) { kept = calls.given_fault fault.new } }
     {
-        let Some(kept) = self.kept.take() else {
-            return None;
-        };
-        if kept.given {
-            self.keep(kept.fault, true);
-            return None;
-        }
-        match kept.fault.try_clone() {
-            Ok(copy) => {
-                self.keep(kept.fault, true);
-                Some(Err(copy))
-            }
+        match fault.try_clone() {
+            Ok(copy) => self.keep(copy, true),
             Err(_) => {
-                drop(kept);
+                drop(replace(fault, Fault::OutOfMemory));
                 self.keep(Fault::OutOfMemory, true);
-                Some(Err(Fault::OutOfMemory))
             }
         }
     }
 
-    // The same for a caller that has a place for the event.
-    #[inline(never)]
-    fn give_fault_into(&mut self, next: &mut (Event<'input>, Span)) -> Option<Result<(), Fault>>
-        ensures { calls.GivesFault (cursor self.old).kept (item_in next.new result)
-            (cursor self.old) (cursor self.new) }
-    {
-        fill(self.give_fault(), next)
-    }
-
-    // Hands out what was read ahead: an event, or the fault in place of it.
-    fn next_ahead(&mut self) -> Option<Result<(Event<'input>, Span), Fault>>
-        requires { IfNone self.old.current (spec.IsKept (cursor self.old).kept) }
-        ensures { calls.GivesNext result (cursor self.old) (cursor self.new) }
-    {
-        if let Some((event, span)) = self.current.take() {
-            self.remember(&event, span);
-            return Some(Ok((event, span)));
-        }
-        self.give_fault()
-    }
-
-    // The same, with the event written into its place.
-    #[inline(never)]
-    fn next_ahead_into(&mut self, next: &mut (Event<'input>, Span)) -> Option<Result<(), Fault>>
-        requires { IfNone self.old.current (spec.IsKept (cursor self.old).kept) }
-        ensures { calls.GivesNext (item_in next.new result) (cursor self.old) (cursor self.new) }
-    {
-        fill(self.next_ahead(), next)
-    }
-
-    /// Hands out the next event, which is written into its place.
-    #[inline(always)]
-    pub(super) fn next_into(
-        &mut self,
-        next: &mut (Event<'input>, Span),
-    ) -> Option<Result<(), Fault>>
-        ensures { calls.GivesNext (item_in next.new result) (cursor self.old) (cursor self.new) }
-    {
-        if self.current.is_some() || self.kept.is_some() {
-            return self.next_ahead_into(next);
-        }
-        match self.machine.read(next) {
-            Some(Ok(())) => {
-                self.remember(&next.0, next.1);
-                Some(Ok(()))
-            }
-            Some(Err(fault)) => {
-                self.keep(fault, false);
-                self.give_fault_into(next)
-            }
-            None => None,
-        }
-    }
-
-    // Hands out what was read ahead, into a place for an event or one for a fault.
+    // Hands out what was read ahead: an event, or the fault in place of it, unless that was handed out before.
     #[inline(never)]
     fn advance_ahead(&mut self, next: &mut (Event<'input>, Span), fault: &mut Fault) -> Progress
         requires { IfNone self.old.current (spec.IsKept (cursor self.old).kept) }
         ensures { calls.GivesNext (calls.item_at next.new fault.new result) (cursor self.old)
             (cursor self.new) }
     {
-        match self.next_ahead_into(next) {
-            Some(Ok(())) => Progress::Event,
-            Some(Err(told)) => {
-                drop(replace(fault, told));
-                Progress::Fault
-            }
-            None => Progress::Over,
+        if let Some(item) = self.current.take() {
+            self.remember(&item.0, item.1);
+            drop(replace(next, item));
+            return Progress::Event;
         }
-    }
-
-    // Keeps the fault that ended a reading, and hands it out.
-    #[inline(never)]
-    fn end_with(&mut self, next: &mut (Event<'input>, Span), fault: &mut Fault) -> Progress
-        requires { is_own fault.old ≡ true }
-        ensures { calls.GivesFault (Some (record
-            { fault = spec.ending_of_fault fault.old; given = false }))
-            (calls.item_at next.new fault.new result)
-            (record (cursor self.old)
-            { kept = Some (record { fault = spec.ending_of_fault fault.old; given = false }) })
-            (cursor self.new) }
-    {
-        self.keep(replace(fault, Fault::OutOfMemory), false);
-        match self.give_fault_into(next) {
-            Some(Ok(())) => Progress::Event,
-            Some(Err(told)) => {
-                drop(replace(fault, told));
-                Progress::Fault
-            }
-            None => Progress::Over,
+        let Some(kept) = self.kept.take() else {
+            return Progress::Over;
+        };
+        if kept.given {
+            self.keep(kept.fault, true);
+            return Progress::Over;
         }
+        drop(replace(fault, kept.fault));
+        self.keep_copy(fault);
+        Progress::Fault
     }
 
     /// Hands out the next event or fault, which is written into its place. Use this in a loop over the events: the
@@ -263,14 +175,13 @@ impl<'input, T: Input> EventReader<'input, T> {
         if self.current.is_some() || self.kept.is_some() {
             return self.advance_ahead(next, fault);
         }
-        match self.machine.advance(next, fault) {
-            Progress::Event => {
-                self.remember(&next.0, next.1);
-                Progress::Event
-            }
-            Progress::Fault => self.end_with(next, fault),
-            Progress::Over => Progress::Over,
+        let progress = self.machine.advance(next, fault);
+        match progress {
+            Progress::Event => self.remember(&next.0, next.1),
+            Progress::Fault => self.keep_copy(fault),
+            Progress::Over => {}
         }
+        progress
     }
 
     /// Hands out the next event.
@@ -279,14 +190,19 @@ impl<'input, T: Input> EventReader<'input, T> {
         ensures { calls.GivesNext result (cursor self.old) (cursor self.new) }
     {
         let mut next = no_event();
-        match self.next_into(&mut next) {
-            Some(Ok(())) => Some(Ok(next)),
-            Some(Err(fault)) => {
+        let mut fault = Fault::OutOfMemory;
+        match self.advance(&mut next, &mut fault) {
+            Progress::Event => {
+                drop(fault);
+                Some(Ok(next))
+            }
+            Progress::Fault => {
                 drop(next);
                 Some(Err(fault))
             }
-            None => {
+            Progress::Over => {
                 drop(next);
+                drop(fault);
                 None
             }
         }

@@ -16,7 +16,6 @@ use std::mem::replace;
 impl<T: Input> Machine<T> {
     ghost use Rattle.saphyr_machine.specs.Views.Machines.{machine_of, TellsBy};
     ghost use Rattle.saphyr_machine.specs.Calls.{Reads, item_at};
-    ghost use Rattle.saphyr_machine.specs.Cursor.{item_in};
     ghost use Rattle.saphyr_machine.specs.Faults.{IsFaultOf, is_foreign};
     ghost use Rattle.saphyr_machine.specs.declared.state.State.TheVariants.{End};
 
@@ -25,25 +24,6 @@ impl<T: Input> Machine<T> {
         ensures { IsTrue result ↔ ((machine_of self.now).state ≡ End) }
     {
         matches!(self.state, State::End)
-    }
-
-    // Reads the next event into its place, if there is one.
-    #[inline(always)]
-    #[tactic(auto, using(crate::proofs::Turns::refused))]
-    pub(super) fn read<'input>(
-        &mut self,
-        next: &mut (Event<'input>, Span),
-    ) -> Option<Result<(), Fault>>
-        ensures reads { Reads (item_in next.new result) (machine_of self.old)
-            (machine_of self.new) }
-        ensures own { is_foreign result ≡ false }
-    {
-        let mut fault = Fault::OutOfMemory;
-        match self.advance(next, &mut fault) {
-            Progress::Event => Some(Ok(())),
-            Progress::Fault => Some(Err(fault)),
-            Progress::Over => None,
-        }
     }
 
     // The fault in place of an event.
