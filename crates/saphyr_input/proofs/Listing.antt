@@ -65,6 +65,12 @@ module _ {S : Type 0} (can : S → Type 0) (gives : S → Option ℕ → S → T
   pending_none (suc left) s t p step = ap (take (suc left)) (after_none s t p.0 p.1 step)
 
   -- a clone that gives the same list
+
+  pub pending_of_clone : (left : ℕ) (s t : S) → Pending can gives left s
+      → ((xs : List ℕ) → Lists can gives s xs → Lists can gives t xs) → Pending can gives left t
+  pending_of_clone zero s t p same = tt
+  pending_of_clone (suc left) s t p same = (p.0, same p.0 p.1)
+
   pub pending_clone : (left : ℕ) (s t : S) (p : Pending can gives left s) (q : Pending can gives left t)
       → ((xs : List ℕ) → Lists can gives s xs → Lists can gives t xs)
       → pending can gives left t q ≡ pending can gives left s p

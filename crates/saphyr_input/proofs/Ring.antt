@@ -1,6 +1,8 @@
 -- What a ring holds of a text, and what the iterator after it still gives.
 use Rattle.std.specs.Prelude.{Option, slice_get, unwrap_or}
-use Rattle.std.proofs.Common.{◌≡◌, ℕ, zero, suc, ◌+◌, ◌<◌, ◌≤◌, List, [], ◌∷◌, ◌++◌, length, drop, slice_index, refl, sym, ap, ◌∙◌, arith}
+use Rattle.circular_buffer.specs.Buffer.{Buffer, buffer, keep_last}
+use Rattle.std.proofs.Common.{◌≡◌, ℕ, zero, suc, ◌+◌, ◌-◌, ◌<◌, ◌≤◌, List, [], ◌∷◌, ◌++◌, length, drop, slice_index, refl, sym, ap, ◌∙◌, arith, append_assoc}
+use Rattle.std.proofs.lemmas.List.{length-append}
 
 -- with no loaded place it holds nothing
 
@@ -21,6 +23,48 @@ pub one_behind : (held items left : List ℕ) (loaded c : ℕ) → length held �
 one_behind held items left loaded c few none is =
     rest_is held left loaded few none ∙ sym (ap (drop 1) (rest_is held items loaded few none ∙ is))
 
+-- a character that is put into a ring with room
+
+pub pushed : (before after : Buffer ℕ) (c : ℕ)
+    → after ≡ buffer (keep_last before.capacity (before.items ++ (c ∷ []))) before.capacity
+    → length before.items < before.capacity → after.items ≡ before.items ++ (c ∷ [])
+pushed before after c put room =
+    let none : length (before.items ++ (c ∷ [])) - before.capacity ≡ 0 =
+    omega (arith, length-append before.items (c ∷ []), room) in
+    ap (λ (b : Buffer ℕ). b.items) put ∙ ap (λ (n : ℕ). drop n (before.items ++ (c ∷ []))) none
+
+-- the first of the items that a copy lacks
+pub pushed_on : (before after : Buffer ℕ) (c : ℕ) (lacks left all : List ℕ)
+    → after ≡ buffer (keep_last before.capacity (before.items ++ (c ∷ []))) before.capacity
+    → before.items ++ lacks ≡ all → lacks ≡ c ∷ left → length all ≤ before.capacity → after.items ++ left ≡ all
+pushed_on before after c lacks left all put whole is within =
+    let now : before.items ++ (c ∷ left) ≡ all = ap (λ (xs : List ℕ). before.items ++ xs) (sym is) ∙ whole in
+    let long : length (before.items ++ (c ∷ left)) ≡ length all = ap length now in
+    ap (λ (xs : List ℕ). xs ++ left)
+    (pushed before after c put (omega (arith, length-append before.items (c ∷ left), long, within)))
+    ∙ append_assoc before.items (c ∷ []) left ∙ now
+
+-- a character that is put back where no place is loaded
+
+pub put_back : (before after : Buffer ℕ) (loaded c : ℕ) → length before.items ≤ loaded → loaded ≡ 0
+    → before.capacity ≡ 16
+    → after ≡ buffer (keep_last before.capacity (before.items ++ (c ∷ []))) before.capacity
+    → after.items ≡ c ∷ []
+put_back before after loaded c few none room put =
+    pushed before after c put (omega (arith, few, none, room))
+    ∙ ap (λ (xs : List ℕ). xs ++ (c ∷ [])) (none_held before.items loaded few none)
+
+pub put_back_rest : (held items left after : List ℕ) (loaded c : ℕ) → length held ≤ loaded → loaded ≡ 0
+    → items ≡ c ∷ left → after ≡ c ∷ [] → after ++ left ≡ held ++ items
+put_back_rest held items left after loaded c few none is put =
+    ap (λ (xs : List ℕ). xs ++ left) put ∙ sym is ∙ sym (rest_is held items loaded few none)
+
+pub one_held : (held : List ℕ) (c : ℕ) → held ≡ c ∷ [] → length held ≤ 1
+one_held held c is = rw is (omega arith)
+
+pub one_not_short : (held : List ℕ) (c : ℕ) → held ≡ c ∷ [] → length held < 1 → ⊥
+one_not_short held c is less = let one : length held ≡ 1 = ap length is in omega (arith, one, less)
+
 pub none_short : (n loaded : ℕ) → loaded ≡ 0 → n < loaded → ⊥
 none_short n loaded none less = omega (arith, none, less)
 
@@ -28,12 +72,10 @@ none_short n loaded none less = omega (arith, none, less)
 pub loaded_on : (first now after taken : ℕ) → first ≤ now + taken → now ≤ after + 1 → first ≤ after + (taken + 1)
 loaded_on first now after taken least less = omega arith
 
-pub one_loaded : (first now taken count : ℕ) → first ≤ now + taken → count ≤ first → taken < count → 1 ≤ now
-one_loaded first now taken count least loaded less = omega arith
-
 -- a loaded place, where nothing comes after a ring that is shorter than that
 
-shown_in : (held items : List ℕ) (n : ℕ) → (length held ≤ n → items ≡ []) → slice_get held n ≡ slice_get (held ++ items) n
+shown_in : (held items : List ℕ) (n : ℕ) → (length held ≤ n → items ≡ [])
+    → slice_get held n ≡ slice_get (held ++ items) n
 shown_in [] items n end = sym (ap (λ (xs : List ℕ). slice_get xs n) (end (omega arith)))
 shown_in (x ∷ xs) items zero end = refl
 shown_in (x ∷ xs) items (suc n) end = shown_in xs items n (λ l. end (omega (arith, l)))

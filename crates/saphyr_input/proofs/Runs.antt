@@ -105,6 +105,11 @@ run_shorter p start now after n c loaded z h r taken =
     let one = goes p now z (rw (← r.read) h) in
     rw taken (omega (arith, one.total))
 
+-- what is left where more was taken off
+pub left_on : (start now after : List ℕ) (n k : ℕ) → now ≡ drop n start → after ≡ drop k now
+    → after ≡ drop (n + k) start
+left_on start now after n k left more = more ∙ ap (drop k) left ∙ drop-drop k n start
+
 pub one_ready : (more loaded : ℕ) → more ≡ max 1 loaded → 1 ≤ more
 one_ready more loaded is = omega arith
 

@@ -8,8 +8,8 @@ mod buffered;
 mod cloning;
 pub(crate) mod str;
 
-use crate::char_set::{CharSet, SpacedSet};
-use crate::char_traits::{is_yaml_non_break, is_yaml_non_space};
+use crate::char_set::{Alpha, CharSet, NonSpace, SpacedSet};
+use crate::char_traits::is_yaml_non_break;
 pub use crate::char_traits::{
     is_alpha, is_blank, is_blank_or_breakz, is_break, is_breakz, is_digit, is_flow, is_z,
 };
@@ -341,15 +341,7 @@ pub trait Input {
             (rest self.new) (string_bytes out.old) (string_bytes out.new)) }
         ensures loaded { 1 ≤ loaded self.new }
     {
-        let mut count = 0;
-        let mut c = self.look_ch();
-        while is_alpha(c) {
-            out.push(c)?;
-            self.skip();
-            count += 1;
-            c = self.look_ch();
-        }
-        Ok(count)
+        self.fetch_while::<Alpha>(out)
     }
 
     /// Moves characters that are no blank, break, NUL or byte order mark to the end of `out`.
@@ -363,15 +355,7 @@ pub trait Input {
             (rest self.new) (string_bytes out.old) (string_bytes out.new)) }
         ensures loaded { 1 ≤ loaded self.new }
     {
-        let mut count = 0;
-        let mut c = self.look_ch();
-        while is_yaml_non_space(c) {
-            out.push(c)?;
-            self.skip();
-            count += 1;
-            c = self.look_ch();
-        }
-        Ok(count)
+        self.fetch_while::<NonSpace>(out)
     }
 
     /// Moves characters of a set to the end of `out`. Returns how many.

@@ -1,5 +1,5 @@
-use Rattle.std.proofs.Common.{◌≡◌, true, ◌∙◌, sym}
-use Rattle.saphyr_input.proofs.Runs.{runs_more, runs_text, run_counts, run_shorter, one_ready}
+use Rattle.std.proofs.Common.{◌≡◌, true, false, ◌∙◌, sym}
+use Rattle.saphyr_input.proofs.Runs.{runs_more, runs_text, transfers_all, run_counts, run_shorter, one_ready}
 use Rattle.saphyr_input.proofs.input.Input.fetch_while.Goals as goal
 
 pub loop-c-preserved : goal.loop-c-preserved
@@ -15,6 +15,11 @@ loop-c-preserved g c =
           c.in_ok-push.ensures.bytes;
     }
 
+pub returns-clause-ok : goal.returns-clause-ok
+returns-clause-ok g c =
+    let stops : g.C.CharSet.test c.loop-c.c ≡ false = sym c.has.ensures ∙ c.loop-c-test.false in
+    transfers_all g.C.CharSet.test _ _ _ _ _ _ _ stops c.loop-c.invariant.runs c.loop-c.invariant.text
+
 pub overflow_add-count : goal.overflow_add-count
 overflow_add-count g c =
     let p = g.C.CharSet.test in
@@ -27,4 +32,5 @@ loop-c-smaller g c =
     let p = g.C.CharSet.test in
     let z = g.met.C.CharSet.without_nul in
     let passes : p c.loop-c.c ≡ true = sym c.has.ensures ∙ c.loop-c-test.true in
-    run_shorter p _ _ _ _ _ _ z passes c.loop-c.invariant.runs (c.look_ch-c-in-loop-c.ensures.rest ∙ c.skip.ensures.rest)
+    run_shorter p _ _ _ _ _ _ z passes c.loop-c.invariant.runs
+    (c.look_ch-c-in-loop-c.ensures.rest ∙ c.skip.ensures.rest)

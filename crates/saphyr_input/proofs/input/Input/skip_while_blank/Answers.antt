@@ -23,4 +23,5 @@ overflow_add-count g c =
 pub loop-self-smaller : goal.loop-self-smaller
 loop-self-smaller g c =
     let passes : class.is_blank c.loop-self.c ≡ true = sym c.is_blank.ensures.test ∙ c.loop-self-test.true in
-    run_shorter class.is_blank _ _ _ _ _ _ refl passes c.loop-self.invariant (c.look_ch-c-in-loop-self.ensures.rest ∙ c.skip.ensures.rest)
+    run_shorter class.is_blank _ _ _ _ _ _ refl passes c.loop-self.invariant
+    (c.look_ch-c-in-loop-self.ensures.rest ∙ c.skip.ensures.rest)

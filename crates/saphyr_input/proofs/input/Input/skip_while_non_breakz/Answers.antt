@@ -8,12 +8,13 @@ loop-self-preserved g c =
     let passes : class.is_yaml_non_break c.loop-self.c ≡ true = sym c.is_yaml_non_break.ensures.test
     ∙ c.loop-self-test.true in
     let next = c.look_ch-c-in-loop-self.ensures in
-    runs_more class.is_yaml_non_break _ _ _ _ _ _ _ _ refl passes c.loop-self.invariant (next.rest ∙ c.skip.ensures.rest)
-    (rw next.rest next.value) (one_ready _ _ next.loaded)
+    runs_more class.is_yaml_non_break _ _ _ _ _ _ _ _ refl passes c.loop-self.invariant
+    (next.rest ∙ c.skip.ensures.rest) (rw next.rest next.value) (one_ready _ _ next.loaded)
 
 pub returns-clause-count : goal.returns-clause-count
 returns-clause-count g c =
-    let stops : class.is_yaml_non_break c.loop-self.c ≡ false = sym c.is_yaml_non_break.ensures.test ∙ c.loop-self-test.false in
+    let stops : class.is_yaml_non_break c.loop-self.c ≡ false = sym c.is_yaml_non_break.ensures.test
+    ∙ c.loop-self-test.false in
     runs_all class.is_yaml_non_break _ _ _ _ _ stops c.loop-self.invariant
 
 pub overflow_add-count : goal.overflow_add-count
@@ -26,4 +27,5 @@ pub loop-self-smaller : goal.loop-self-smaller
 loop-self-smaller g c =
     let passes : class.is_yaml_non_break c.loop-self.c ≡ true = sym c.is_yaml_non_break.ensures.test
     ∙ c.loop-self-test.true in
-    run_shorter class.is_yaml_non_break _ _ _ _ _ _ refl passes c.loop-self.invariant (c.look_ch-c-in-loop-self.ensures.rest ∙ c.skip.ensures.rest)
+    run_shorter class.is_yaml_non_break _ _ _ _ _ _ refl passes c.loop-self.invariant
+    (c.look_ch-c-in-loop-self.ensures.rest ∙ c.skip.ensures.rest)

@@ -1,9 +1,9 @@
-use Rattle.std.proofs.Common.{◌≡◌, true, ◌∙◌, refl, sym, ◌+◌, ◌<◌, ◌^◌}
+use Rattle.std.proofs.Common.{◌≡◌, true, ◌∙◌, refl, sym, ap, drop, ◌+◌, ◌<◌, ◌^◌}
 use Rattle.std.specs.Prelude.{◌==◌}
 use Rattle.std.proofs.lemmas.Bool.{false≢true}
 use Rattle.saphyr_input.specs.Classes as class
 use Rattle.saphyr_input.specs.Separation as separation
-use Rattle.saphyr_input.proofs.Runs.{runs_more, run_counts, run_shorter, one_ready}
+use Rattle.saphyr_input.proofs.Runs.{runs_more, run_counts, run_shorter, one_ready, left_on}
 use Rattle.saphyr_input.proofs.Separations.{skips_no_nul, met_more, with_comment, without_comment, blanks_met, within, still_there, none_long, bare_is, bare_says}
 use Rattle.saphyr_input.proofs.input.Input.skip_ws_to_eol.Goals as goal
 use Rattle.saphyr_input.proofs.input.Input.skip_ws_to_eol.Goals.{then-c-eq35+else-count-eq0, else-c-eq35}
@@ -60,7 +60,8 @@ loop-skip_tabs-smaller g c =
     let skipped = separation.is_skipped c.args.skip_tabs in
     let no_nul = skips_no_nul c.args.skip_tabs in
     let passes : skipped c.loop-skip_tabs.c ≡ true = sym c.skips.ensures ∙ c.loop-skip_tabs-test.true in
-    run_shorter skipped _ _ _ _ _ _ no_nul passes c.loop-skip_tabs.invariant.runs (c.look_ch-c-in-loop-skip_tabs.ensures.rest ∙ c.skip.ensures.rest)
+    run_shorter skipped _ _ _ _ _ _ no_nul passes c.loop-skip_tabs.invariant.runs
+    (c.look_ch-c-in-loop-skip_tabs.ensures.rest ∙ c.skip.ensures.rest)
 
 pub returns-then-count-eq0-clause-count : goal.returns-then-count-eq0-clause-count
 returns-then-count-eq0-clause-count g c =
@@ -87,3 +88,14 @@ returns-clause-refused g c =
         | else-c-eq35 w ↦ absurd (w.if-c-eq35.false (bare_says _ _ _ _ _ _ runs stops h).1)
       ],
     )
+
+pub returns-clause-rest : goal.returns-clause-rest
+returns-clause-rest g c =
+    let start = g.Self.Input.rest c.args.self.now in
+    let left = c.loop-skip_tabs.invariant.runs.ran.left in
+    elim c.if-c-eq35.branch [
+      | then-c-eq35+else-count-eq0 w ↦ ap g.Self.Input.rest w.self-is
+          ∙ left_on start _ _ _ _ left w.skip_while_non_breakz-count.ensures.rest
+          ∙ ap (λ n. drop n start) (sym w.count-is)
+      | else-c-eq35 w ↦ ap g.Self.Input.rest w.self-is ∙ left ∙ ap (λ n. drop n start) (sym w.count-is)
+    ]
