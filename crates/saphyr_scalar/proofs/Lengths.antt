@@ -83,18 +83,6 @@ part_left xs now at n fits left = rw (left, length-drop) (omega arith)
 
 -- a run that is taken off a character at a time
 
-pub run_counts : (p : ℕ → Bool) (start now : List ℕ) (n c loaded : ℕ) → p 0 ≡ false → p c ≡ true
-    → TakesRun p start now n c loaded → n + 1 < 2 ^ 64
-run_counts p start now n c loaded z h r =
-    let one = goes p now z (rw (← r.read) h) in
-    omega (arith, one.total, r.ran.total, r.countable)
-
-pub run_shorter : (p : ℕ → Bool) (start now after : List ℕ) (n c loaded : ℕ) → p 0 ≡ false → p c ≡ true
-    → TakesRun p start now n c loaded → after ≡ drop 1 now → length after < length now
-run_shorter p start now after n c loaded z h r taken =
-    let one = goes p now z (rw (← r.read) h) in
-    rw taken (omega (arith, one.total))
-
 pub run_place_fits : (p : ℕ → Bool) (start now : List ℕ) (n c loaded : ℕ) (m t : Marker)
     → TakesRun p start now n c loaded → t ≡ m → m.index + length start < 2 ^ 64 → t.index + n < 2 ^ 64
 run_place_fits p start now n c loaded m t r same fits = rw same (omega (arith, r.ran.total, fits))

@@ -13,6 +13,7 @@ mod property_law;
 mod quoted;
 mod reader;
 mod refusal_law;
+mod run;
 mod spare;
 mod style;
 mod tag;

@@ -1,15 +1,18 @@
 -- Version numbers, read a digit at a time, and where a prefix begins.
-use Rattle.std.proofs.Common.{◌≡◌, ℕ, suc, ◌+◌, ◌-◌, ◌*◌, ◌^◌, ◌<◌, ◌≤◌, true, List, [], ◌∷◌, length, drop, slice_index, refl, sym, ap, ◌∙◌, arith}
+use Rattle.std.proofs.Common.{◌≡◌, ℕ, suc, ◌+◌, ◌-◌, ◌*◌, ◌^◌, ◌<◌, ◌≤◌, true, false, List, Ok, [], ◌∷◌, length, drop, slice_index, refl, sym, ap, ◌∙◌, arith}
 use Rattle.std.specs.Prelude.{◌||◌, ◌==◌, nat_lt}
 use Rattle.std.proofs.Math.Nat.{pow-le-pow_right}
 use Rattle.std.proofs.lemmas.Grind.{pow_more}
+use Rattle.std.proofs.lemmas.Bool.{false≢true}
 use Rattle.std.proofs.lemmas.Bool.Decides.{nat_tests}
 use Rattle.saphyr_input.specs.Indicators.{exclamation_mark}
 use Rattle.saphyr_input.specs.Classes.{is_digit, is_tag_char}
 use Rattle.saphyr_input.proofs.Basics.Lists.{drop_one_shorter}
 use Rattle.saphyr_scalar.specs.declared.scalar.position.Marker.{Marker}
-use Rattle.saphyr_scalar.specs.Views.Cursor.{Cursor, along, pass}
-use Rattle.saphyr_scalar.specs.Steps.Directive.{number_from}
+use Rattle.saphyr_scalar.specs.Views.Cursor.{Cursor, along, pass, refuse}
+use Rattle.saphyr_scalar.specs.Steps.Directive.{number_from, number_end}
+use Rattle.saphyr_scalar.specs.declared.scalar.fault.FaultText.TheVariants as fault
+use Rattle.saphyr_scalar.specs.Steps.Quoted.{mid_line}
 
 -- a decimal digit stands for less than ten
 pub digit_small : (c : ℕ) → is_digit c ≡ true → c - 48 < 10
@@ -27,9 +30,6 @@ digits_fit n v c lt h few =
     let le : 10 ^ (n + 1) ≤ 10 ^ 9 = pow-le-pow_right some more in
     omega (arith, digits_below n v c lt h, le)
 
-pub digit_from : (c : ℕ) → is_digit c ≡ true → 48 ≤ c
-digit_from c h = grind (arith, nat_tests)
-
 pub shifted_fits : (n v c : ℕ) → v < 10 ^ n → is_digit c ≡ true → n < 9 → v * 10 < 2 ^ 32
 shifted_fits n v c lt h few = omega (arith, digits_fit n v c lt h few)
 
@@ -45,7 +45,7 @@ counts_on n few = omega arith
 digit_first : (start : Marker) (n v : ℕ) (m : Marker) (xs : List ℕ) → is_digit (slice_index xs 0) ≡ true → n < 9
     → number_from start n v m xs ≡ number_from start (suc n) (v * 10 + (slice_index xs 0 - 48)) (along m 1) (drop 1 xs)
 unfolding number_from
-digit_first start n v m [] h few = absurd (cc)
+digit_first start n v m [] h few = absurd (false≢true h)
 digit_first start n v m (c ∷ cs) h few = let small : nat_lt n 9 ≡ true = grind (arith, nat_tests) in rw (h, small) refl
 
 -- a digit that was taken off
@@ -56,6 +56,32 @@ digit_on start n v c s t u read h few passed same =
     let one : n + 1 ≡ suc n = omega arith in
     let digit : is_digit (slice_index s.rest 0) ≡ true = rw (← read) h in
     rw (one, read, same, passed) (sym (digit_first start n v s.mark s.rest digit few))
+
+-- where no digit comes next, the number ends
+pub number_ends : (start : Marker) (n v c : ℕ) (s : Cursor) → c ≡ slice_index s.rest 0 → is_digit c ≡ false
+    → number_from start n v s.mark s.rest ≡ number_end start n v (mid_line s.mark s.rest)
+unfolding number_from
+number_ends start n v c s read other = at_end s.rest (ap is_digit (sym read) ∙ other)
+  where
+    at_end : (xs : List ℕ) → is_digit (slice_index xs 0) ≡ false
+        → number_from start n v s.mark xs ≡ number_end start n v (mid_line s.mark xs)
+    at_end [] other = refl
+    at_end (x ∷ xs) other = rw other refl
+
+pub number_read : (start : Marker) (n v : ℕ) (s : Cursor) → (n ≡ 0 → ⊥) → number_end start n v s ≡ Ok (v, s)
+unfolding number_end
+number_read start n v s some = let none : (n == 0) ≡ false = grind (arith, nat_tests) in rw none refl
+
+-- a tenth digit is refused
+pub number_long : (start : Marker) (n v c : ℕ) (s : Cursor) → c ≡ slice_index s.rest 0 → is_digit c ≡ true → n ≡ 9
+    → number_from start n v s.mark s.rest ≡ refuse fault.VersionNumberTooLong start
+unfolding number_from
+number_long start n v c s read digit nine = at_tenth s.rest (ap is_digit (sym read) ∙ digit)
+  where
+    at_tenth : (xs : List ℕ) → is_digit (slice_index xs 0) ≡ true
+        → number_from start n v s.mark xs ≡ refuse fault.VersionNumberTooLong start
+    at_tenth [] h = absurd (false≢true h)
+    at_tenth (x ∷ xs) h = rw (h, nine) refl
 
 -- a place that shows a digit is a character
 pub digit_left : (c : ℕ) (xs : List ℕ) → c ≡ slice_index xs 0 → is_digit c ≡ true → 0 < length xs
@@ -69,5 +95,5 @@ digit_shorter c s t u read h passed same = rw (same, passed) (drop_one_shorter s
 -- a place that shows a character that a prefix may begin with is a character
 pub prefix_left : (xs : List ℕ) → ((slice_index xs 0 == exclamation_mark) || is_tag_char (slice_index xs 0)) ≡ true
     → 0 < length xs
-prefix_left [] h = absurd (cc)
+prefix_left [] h = absurd (false≢true h)
 prefix_left (c ∷ cs) h = omega arith

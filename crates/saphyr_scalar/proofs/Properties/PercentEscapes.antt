@@ -1,5 +1,6 @@
 -- Percent escapes, read a byte at a time, and the characters of uris.
 use Rattle.std.proofs.Common.{◌≡◌, ℕ, zero, suc, ◌+◌, ◌-◌, ◌*◌, ◌^◌, ◌<◌, ◌≤◌, true, false, List, [], ◌∷◌, ◌++◌, length, drop, length-drop, slice_index, nat_eq, Result, Ok, Err, refl, sym, ap, ◌∙◌, arith, subst}
+use Rattle.std.proofs.lemmas.Bool.{false≢true}
 use Rattle.std.specs.Prelude.{encode_utf8}
 use Rattle.std.proofs.Math.Nat.{pow-le-pow_right}
 use Rattle.std.proofs.lemmas.Grind.{pow_more}
@@ -184,8 +185,8 @@ by_set P uri suffix Uri = uri
 by_set P uri suffix Suffix = suffix
 
 no_nul : (set : UriSet) → is_in_set set 0 ≡ true → ⊥
-no_nul Uri h = absurd (cc)
-no_nul Suffix h = absurd (cc)
+no_nul Uri h = false≢true h
+no_nul Suffix h = false≢true h
 
 -- a place that shows a character of the set is a character
 pub has_left : (set : UriSet) (xs : List ℕ) → is_in_set set (slice_index xs 0) ≡ true → 0 < length xs

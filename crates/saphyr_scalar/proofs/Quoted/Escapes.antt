@@ -1,5 +1,6 @@
 -- Escapes of double quoted scalars, a step at a time.
 use Rattle.std.proofs.Common.{◌≡◌, ℕ, zero, suc, ◌+◌, ◌-◌, ◌*◌, ◌^◌, ◌<◌, ◌≤◌, true, false, List, [], ◌∷◌, length, drop, slice_index, Ok, refl, sym, ap, ◌∙◌, arith, subst, nat_eq}
+use Rattle.std.proofs.lemmas.Option.{none-some}
 use Rattle.std.proofs.lemmas.Bool.{false≢true}
 use Rattle.std.proofs.lemmas.Bool.Decides.{nat_tests}
 use Rattle.std.specs.Prelude.{Option, Some, None, unwrap_or}
@@ -76,7 +77,7 @@ no_nul_digits n e = absurd (cc)
 
 no_nul_escape : (c : ℕ) → short_escape 0 ≡ Some c → ⊥
 unfolding short_escape
-no_nul_escape c e = absurd (cc)
+no_nul_escape c e = none-some c e
 
 -- an escape of one letter has its letter
 pub letter_left : (xs : List ℕ) (c : ℕ) → slice_index xs 0 ≡ backslash → short_escape (slice_index xs 1) ≡ Some c
@@ -121,15 +122,15 @@ numbered_place start m xs (Some n) =
 
 no_x : (v : ℕ) → short_escape 120 ≡ Some v → ⊥
 unfolding short_escape
-no_x v e = absurd (cc)
+no_x v e = none-some v e
 
 no_u : (v : ℕ) → short_escape 117 ≡ Some v → ⊥
 unfolding short_escape
-no_u v e = absurd (cc)
+no_u v e = none-some v e
 
 no_U : (v : ℕ) → short_escape 85 ≡ Some v → ⊥
 unfolding short_escape
-no_U v e = absurd (cc)
+no_U v e = none-some v e
 
 -- an escape of one letter has no digits
 pub simple_no_digits : (c v : ℕ) → short_escape c ≡ Some v → None ≡ digit_count c

@@ -1,5 +1,6 @@
 -- What is read as an escape is spelled so.
 use Rattle.std.proofs.Common.{◌≡◌, ℕ, zero, suc, ◌+◌, ◌*◌, ◌≤◌, true, List, [], ◌∷◌, ◌++◌, length, length-append, drop, slice_index, Result, Ok, Err, refl, sym, ap, ◌∙◌, arith, subst, IsTrue}
+use Rattle.std.proofs.lemmas.Bool.{false≢true}
 use Rattle.std.specs.Prelude.{Option, Some, None}
 use Rattle.saphyr_input.specs.Indicators.{backslash}
 use Rattle.saphyr_input.specs.Classes.{is_hex, hex_value}
@@ -82,7 +83,7 @@ digits_spelled start (suc n) v t w s e =
     more : (xs : List ℕ) → is_hex (slice_index xs 0) ≡ true
         → Digits (v * 16 + hex_value (slice_index xs 0)) n (along t.mark 1) (drop 1 xs) w s
         → Digits v (suc n) t.mark xs w s
-    more [] hex d = absurd (cc)
+    more [] hex d = absurd (false≢true hex)
     more (c ∷ cs) hex d = record {
       ds = c ∷ d.ds;
       split = ap (λ y. c ∷ y) d.split;

@@ -1,5 +1,6 @@
 -- A double quoted scalar that is spelled on one line is read, without a fault, and gives its characters.
 use Rattle.std.proofs.Common.{◌≡◌, ℕ, suc, append_assoc, ◌+◌, Bool, true, false, List, [], ◌∷◌, ◌++◌, length, drop, Ok, refl, sym, ap, ◌∙◌, arith, encode_utf8_all, IsTrue}
+use Rattle.std.proofs.lemmas.Option.{none-some}
 use Rattle.std.specs.Prelude.{◌||◌, ◌&&◌, ◌==◌, not, encode_utf8, Option, Some, None}
 use Rattle.saphyr_input.specs.Indicators.{backslash, quotation_mark}
 use Rattle.saphyr_input.specs.Classes.{is_blank, is_break, is_breakz, is_hex}
@@ -55,7 +56,7 @@ itself_content c h other = content_of c (by_cases (is_blank c) (is_breakz c) (c 
 pub no_break_simple : (e c : ℕ) → short_escape e ≡ Some c → is_break e ≡ false
 unfolding short_escape
 no_break_simple e c h = by_test_eq (is_break e)
-    (λ is. absurd (break_cases e is (λ x. short_escape x ≡ Some c → ⊥) (λ k. absurd (cc)) (λ k. absurd (cc)) h))
+    (λ is. absurd (break_cases e is (λ x. short_escape x ≡ Some c → ⊥) (none-some c) (none-some c) h))
     (λ no_break. no_break)
   where
     by_test_eq : (b : Bool) → (b ≡ true → b ≡ false) → (b ≡ false → b ≡ false) → b ≡ false

@@ -9,7 +9,7 @@ use Rattle.saphyr_scalar.specs.declared.scalar.fault.Refusal.{Refusal}
 use Rattle.saphyr_scalar.specs.declared.scalar.fault.FaultText.TheVariants as fault
 use Rattle.saphyr_values.specs.declared.flow.Quote.{Quote}
 use Rattle.saphyr_values.specs.declared.flow.Quote.TheVariants.{Single, Double}
-use Rattle.saphyr_scalar.specs.Views.Cursor.{Cursor, ◌>>=◌, refuse, along, next_line, pass}
+use Rattle.saphyr_scalar.specs.Views.Cursor.{Cursor, ◌>>=◌, refuse, along, next_line, pass, pass_blanks}
 use Rattle.saphyr_values.specs.Flow as flow
 pub use Rattle.saphyr_scalar.specs.Spelling.LineBreaks.{break_len}
 pub use Rattle.saphyr_scalar.specs.Spelling.ClosingQuote.{is_closing}
@@ -159,6 +159,11 @@ abbrev pub single_quoted : ℕ → Cursor → TextRead
 single_quoted indent s = quoted Single indent s
 
 -- What calls that read a part of a scalar leave.
+
+-- the longest run of p is put after a text, and counts as blanks do
+abbrev pub with_front_run : (ℕ → Bool) → List ℕ → Cursor → List ℕ × Cursor
+with_front_run p text s =
+    (text ++ encode_utf8_all (take (prefix_len p s.rest) s.rest), pass_blanks (prefix_len p s.rest) s)
 
 -- the longest run of p is put after a text
 abbrev pub with_run : (ℕ → Bool) → List ℕ → Cursor → List ℕ × Cursor

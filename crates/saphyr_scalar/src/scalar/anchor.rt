@@ -3,7 +3,6 @@
 ghost use Rattle.std.specs.Prelude.{◌≡◌, ℕ, ◌<◌, List, length, refl};
 ghost use Rattle.saphyr_input.specs.Classes as class;
 ghost use Rattle.saphyr_scalar.specs.Steps.Anchor as spec;
-ghost use Rattle.saphyr_scalar.specs.Steps.Quoted as run;
 
 use crate::scalar::fault::{FaultText, Refusal, Stop};
 use crate::scalar::reader::Reader;
@@ -30,18 +29,7 @@ impl CharSet for AnchorSet {
 }
 
 impl<T: Input> Reader<T> {
-    ghost use Rattle.saphyr_scalar.specs.Views.Reader.{cursor_of, ReadsTextBy, AppendsBy};
-
-    // Moves the characters of a name to the end of a text.
-    fn read_anchor_characters(&mut self, text: &mut String) -> Result<(), Stop>
-        ensures { AppendsBy (run.with_run class.is_anchor_char) text.old self.old result text.new
-            self.new }
-    {
-        let count = self.input.fetch_while::<AnchorSet>(text)?;
-        self.mark = self.mark.along(count);
-        self.blank_so_far = false;
-        Ok(())
-    }
+    ghost use Rattle.saphyr_scalar.specs.Views.Reader.{cursor_of, ReadsTextBy};
 
     /// Takes off an anchor or an alias (YAML 1.2.2, 6.9.2 and 7.1), from its `&` or `*` on, and
     /// returns its name.
@@ -55,7 +43,7 @@ impl<T: Input> Reader<T> {
         let start = self.mark;
         self.skip_non_blank();
         let mut name = String::new(alloc);
-        self.read_anchor_characters(&mut name)?;
+        self.read_run::<AnchorSet>(&mut name)?;
         if name.is_empty() {
             return Err(Stop::Refused(Refusal {
                 text: FaultText::AnchorNameExpected,

@@ -4,12 +4,12 @@ ghost use Rattle.std.specs.Prelude.{◌≡◌, ◌==◌, ◌||◌, ℕ, ◌<◌,
 ghost use Rattle.saphyr_input.specs.Classes as class;
 ghost use Rattle.saphyr_input.specs.Indicators.{exclamation_mark, percent_sign};
 ghost use Rattle.saphyr_scalar.specs.Steps.Directive as spec;
-ghost use Rattle.saphyr_scalar.specs.Steps.Quoted as run;
 
 use crate::scalar::fault::{FaultText, Refusal, Stop};
 use crate::scalar::position::Marker;
 use crate::scalar::reader::Reader;
 use crate::scalar::tag::{UriSet, named_handle};
+use saphyr_input::char_set::{Alpha, NonSpace};
 use saphyr_input::char_traits::{is_blank_or_breakz, is_breakz, is_digit, is_tag_char};
 use saphyr_input::input::{Input, SkipTabs};
 use std::alloc::Global;
@@ -58,9 +58,7 @@ impl<T: Input> Reader<T> {
     {
         let start = self.mark;
         let mut name = String::new(alloc);
-        let count = self.input.fetch_while_is_yaml_non_space(&mut name)?;
-        self.mark = self.mark.along(count);
-        self.blank_so_far = false;
+        self.read_run::<NonSpace>(&mut name)?;
         if name.is_empty() {
             return Err(Stop::Refused(Refusal {
                 text: FaultText::DirectiveNameExpected,
@@ -162,7 +160,7 @@ impl<T: Input> Reader<T> {
         }
         self.skip_non_blank();
         let mut word = String::new(alloc);
-        self.read_tag_word(&mut word)?;
+        self.read_run::<Alpha>(&mut word)?;
         self.end_directive_handle(alloc, word.as_str(), start)
     }
 

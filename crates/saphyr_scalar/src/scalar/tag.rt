@@ -4,14 +4,13 @@ ghost use Rattle.std.specs.Prelude.{◌≡◌, ℕ, ◌+◌, ◌*◌, ◌<◌, �
 ghost use Rattle.saphyr_input.specs.Indicators.{exclamation_mark};
 ghost use Rattle.saphyr_input.specs.Classes as class;
 ghost use Rattle.saphyr_input.specs.Places.{TransfersRun};
-ghost use Rattle.saphyr_scalar.specs.Steps.Quoted as run;
 ghost use Rattle.saphyr_scalar.specs.Steps.Sets as sets;
 ghost use Rattle.saphyr_scalar.specs.Steps.Tag as spec;
 
 use crate::scalar::fault::{FaultText, Refusal, Stop};
 use crate::scalar::position::Marker;
 use crate::scalar::reader::Reader;
-use saphyr_input::char_set::CharSet;
+use saphyr_input::char_set::{Alpha, CharSet};
 use saphyr_input::char_traits::{
     as_hex, is_blank_or_breakz, is_flow, is_hex, is_tag_char, is_uri_char,
 };
@@ -251,17 +250,6 @@ impl<T: Input> Reader<T> {
         Ok(())
     }
 
-    // Moves the characters of a handle's word to the end of a text.
-    pub(crate) fn read_tag_word(&mut self, text: &mut String) -> Result<(), Stop>
-        ensures { AppendsBy (run.with_run class.is_alpha) text.old self.old result text.new
-            self.new }
-    {
-        let count = self.input.fetch_while_is_alpha(text)?;
-        self.mark = self.mark.along(count);
-        self.blank_so_far = false;
-        Ok(())
-    }
-
     // Takes off `!<uri>`.
     #[tactic(auto, unfolding(crate::specs::Steps::Tag::verbatim_tag, crate::specs::Steps::Tag::verbatim_end))]
     fn read_verbatim_tag(&mut self, alloc: Global) -> Result<TagParts, Stop>
@@ -316,7 +304,7 @@ impl<T: Input> Reader<T> {
         let start = self.mark;
         self.skip_non_blank();
         let mut word = String::new(alloc);
-        self.read_tag_word(&mut word)?;
+        self.read_run::<Alpha>(&mut word)?;
         if self.look() == '!' {
             self.skip_non_blank();
             return self.read_named_suffix(alloc, word.as_str(), start);

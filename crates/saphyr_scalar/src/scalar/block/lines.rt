@@ -31,7 +31,7 @@ fn indentation_left(limit: Option<usize>, col: usize) -> usize
 }
 
 impl<T: Input> Reader<T> {
-    ghost use Rattle.saphyr_scalar.specs.Views.Reader.{cursor_of, loaded, WritesBy, AppendsBy};
+    ghost use Rattle.saphyr_scalar.specs.Views.Reader.{cursor_of, loaded, WritesBy};
 
     // Takes off empty lines and the indentation after them, which may have a limit.
     pub(crate) fn skip_empty_block_lines(
@@ -73,15 +73,6 @@ impl<T: Input> Reader<T> {
             && !(indentation == 0 && self.input.next_is_document_indicator())
     }
 
-    // Moves the rest of a line to the end of a text.
-    fn read_block_line(&mut self, text: &mut String) -> Result<(), Stop>
-        ensures { AppendsBy spec.with_line text.old self.old result text.new self.new }
-    {
-        let count = self.input.fetch_while::<NonBreak>(text)?;
-        self.mark = self.mark.along(count);
-        Ok(())
-    }
-
     // Moves the content lines to the end of a text, after some empty lines, and returns what follows the
     // last content.
     pub(crate) fn read_block_lines(
@@ -110,7 +101,7 @@ impl<T: Input> Reader<T> {
             }
             let below = self.input.next_is_blank();
             push_break_before(text, style, above, lines.count, below)?;
-            self.read_block_line(text)?;
+            self.move_run::<NonBreak>(text)?;
             if !is_break(self.look()) {
                 return Ok(BlockEnd {
                     broken: false,

@@ -21,9 +21,9 @@ returns-then-not-is_break g c =
     let s = cursor_of c.loop-style.self in
     let t = cursor_of c.skip_empty_block_lines-lines.new.self in
     let here = cursor_of c.block_line_starts.new.self in
-    let end = cursor_of c.read_block_line.new.self in
+    let end = cursor_of c.move_run.new.self in
     let text = string_bytes c.loop-style.text in
-    let grown = string_bytes c.read_block_line.new.text in
+    let grown = string_bytes c.move_run.new.text in
     let below = c.next_is_blank-below.result in
     let skip = skipped c.args.style c.args.indentation c.loop-style.above c.loop-style.lines
     c.skip_empty_block_lines-lines.result s t c.skip_empty_block_lines-lines.ensures.taken in
@@ -31,7 +31,7 @@ returns-then-not-is_break g c =
     c.skip_empty_block_lines-lines.result text (string_bytes c.push_break_before.new.text) grown s t here end below
     skip c.block_line_starts.ensures.same
     (sym c.block_line_starts.ensures.value ∙ c.if-not-block_line_starts.false) c.next_is_blank-below.ensures
-    c.in_ok-push_break_before.ensures c.in_ok-read_block_line.ensures in
+    c.in_ok-push_break_before.ensures c.in_ok-move_run.ensures in
     ap Ok (sym c.loop-style.invariant.same ∙ one.0
     ∙ cut c.args.style c.args.indentation below grown end (cursor_of c.look.new.self) c.look.result c.look.ensures.same
     c.look.ensures.value (sym c.is_break.ensures.test ∙ c.if-not-is_break.true) one.1)
@@ -41,9 +41,9 @@ loop-style-smaller g c =
     let s = cursor_of c.loop-style.self in
     let t = cursor_of c.skip_empty_block_lines-lines.new.self in
     let here = cursor_of c.block_line_starts.new.self in
-    let end = cursor_of c.read_block_line.new.self in
+    let end = cursor_of c.move_run.new.self in
     let text = string_bytes c.loop-style.text in
-    let grown = string_bytes c.read_block_line.new.text in
+    let grown = string_bytes c.move_run.new.text in
     let below = c.next_is_blank-below.result in
     let skip = skipped c.args.style c.args.indentation c.loop-style.above c.loop-style.lines
     c.skip_empty_block_lines-lines.result s t c.skip_empty_block_lines-lines.ensures.taken in
@@ -51,7 +51,7 @@ loop-style-smaller g c =
     c.skip_empty_block_lines-lines.result text (string_bytes c.push_break_before.new.text) grown s t here end below
     skip c.block_line_starts.ensures.same
     (sym c.block_line_starts.ensures.value ∙ c.if-not-block_line_starts.false) c.next_is_blank-below.ensures
-    c.in_ok-push_break_before.ensures c.in_ok-read_block_line.ensures in
+    c.in_ok-push_break_before.ensures c.in_ok-move_run.ensures in
     let next = broken c.args.style c.args.indentation below grown end (cursor_of c.look.new.self)
     (cursor_of c.skip_line_break.new.self) c.look.result c.look.ensures.same c.look.ensures.value
     (sym c.is_break.ensures.test ∙ c.if-not-is_break.false) c.skip_line_break.ensures in
@@ -62,9 +62,9 @@ loop-style-preserved g c =
     let s = cursor_of c.loop-style.self in
     let t = cursor_of c.skip_empty_block_lines-lines.new.self in
     let here = cursor_of c.block_line_starts.new.self in
-    let end = cursor_of c.read_block_line.new.self in
+    let end = cursor_of c.move_run.new.self in
     let text = string_bytes c.loop-style.text in
-    let grown = string_bytes c.read_block_line.new.text in
+    let grown = string_bytes c.move_run.new.text in
     let below = c.next_is_blank-below.result in
     let skip = skipped c.args.style c.args.indentation c.loop-style.above c.loop-style.lines
     c.skip_empty_block_lines-lines.result s t c.skip_empty_block_lines-lines.ensures.taken in
@@ -72,7 +72,7 @@ loop-style-preserved g c =
     c.skip_empty_block_lines-lines.result text (string_bytes c.push_break_before.new.text) grown s t here end below
     skip c.block_line_starts.ensures.same
     (sym c.block_line_starts.ensures.value ∙ c.if-not-block_line_starts.false) c.next_is_blank-below.ensures
-    c.in_ok-push_break_before.ensures c.in_ok-read_block_line.ensures in
+    c.in_ok-push_break_before.ensures c.in_ok-move_run.ensures in
     let next = broken c.args.style c.args.indentation below grown end (cursor_of c.look.new.self)
     (cursor_of c.skip_line_break.new.self) c.look.result c.look.ensures.same c.look.ensures.value
     (sym c.is_break.ensures.test ∙ c.if-not-is_break.false) c.skip_line_break.ensures in

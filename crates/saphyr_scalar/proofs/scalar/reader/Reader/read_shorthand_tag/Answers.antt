@@ -6,22 +6,22 @@ use Rattle.saphyr_scalar.proofs.Plain.Pieces.{moves_failed}
 use Rattle.saphyr_scalar.proofs.Properties.TagSteps.{moves_unrefused, behind_word, mark_left, named_from, primary_refused, alone_read, primary_read}
 use Rattle.saphyr_scalar.proofs.scalar.reader.Reader.read_shorthand_tag.Goals as goal
 
-pub returns-in_err-read_tag_word : goal.returns-in_err-read_tag_word
-returns-in_err-read_tag_word g c = moves_unrefused _ _ _ _ _ c.from_residual.ensures.1 c.in_err-read_tag_word.ensures
+pub returns-in_err-read_run : goal.returns-in_err-read_run
+returns-in_err-read_run g c = moves_unrefused _ _ _ _ _ c.from_residual.ensures.1 c.in_err-read_run.ensures
 
 pub skip_non_blank-requires-then-look-eq33 : goal.skip_non_blank-requires-then-look-eq33
 skip_non_blank-requires-then-look-eq33 g c =
     let behind = behind_word (cursor_of c.args.self.now) (cursor_of c.skip_non_blank.new.self)
-    (cursor_of c.read_tag_word.new.self) (cursor_of c.look.new.self) _ (string_bytes c.read_tag_word.new.text)
-    c.look.result c.skip_non_blank.ensures c.new-word.ensures.bytes c.in_ok-read_tag_word.ensures c.look.ensures.value
+    (cursor_of c.read_run.new.self) (cursor_of c.look.new.self) _ (string_bytes c.read_run.new.text)
+    c.look.result c.skip_non_blank.ensures c.new-word.ensures.bytes c.in_ok-read_run.ensures c.look.ensures.value
     c.look.ensures.same in
     mark_left _ _ _ _ behind c.if-look-eq33.true
 
 pub returns-then-look-eq33 : goal.returns-then-look-eq33
 returns-then-look-eq33 g c =
     let behind = behind_word (cursor_of c.args.self.now) (cursor_of c.skip_non_blank.new.self)
-    (cursor_of c.read_tag_word.new.self) (cursor_of c.look.new.self) _ (string_bytes c.read_tag_word.new.text)
-    c.look.result c.skip_non_blank.ensures c.new-word.ensures.bytes c.in_ok-read_tag_word.ensures c.look.ensures.value
+    (cursor_of c.read_run.new.self) (cursor_of c.look.new.self) _ (string_bytes c.read_run.new.text)
+    c.look.result c.skip_non_blank.ensures c.new-word.ensures.bytes c.in_ok-read_run.ensures c.look.ensures.value
     c.look.ensures.same in
     subst (Moves (λ x. seen_tag x (cursor_of c.read_named_suffix.new.self)) c.read_named_suffix.result)
     (ap (λ w. named_tail c.args.self.now.mark w (cursor_of c.skip_non_blank-then-look-eq33.new.self))
@@ -32,8 +32,8 @@ returns-then-look-eq33 g c =
 pub returns-in_err-read_uri_characters : goal.returns-in_err-read_uri_characters
 returns-in_err-read_uri_characters g c =
     let behind = behind_word (cursor_of c.args.self.now) (cursor_of c.skip_non_blank.new.self)
-    (cursor_of c.read_tag_word.new.self) (cursor_of c.look.new.self) _ (string_bytes c.read_tag_word.new.text)
-    c.look.result c.skip_non_blank.ensures c.new-word.ensures.bytes c.in_ok-read_tag_word.ensures c.look.ensures.value
+    (cursor_of c.read_run.new.self) (cursor_of c.look.new.self) _ (string_bytes c.read_run.new.text)
+    c.look.result c.skip_non_blank.ensures c.new-word.ensures.bytes c.in_ok-read_run.ensures c.look.ensures.value
     c.look.ensures.same in
     moves_failed _ _ _ _ _ c.from_residual-in_err-read_uri_characters.ensures.1 c.in_err-read_uri_characters.ensures
     (λ r h. primary_refused _ _ _ _ r behind c.if-look-eq33.false h)
@@ -41,8 +41,8 @@ returns-in_err-read_uri_characters g c =
 pub returns-then-is_empty : goal.returns-then-is_empty
 returns-then-is_empty g c =
     let behind = behind_word (cursor_of c.args.self.now) (cursor_of c.skip_non_blank.new.self)
-    (cursor_of c.read_tag_word.new.self) (cursor_of c.look.new.self) _ (string_bytes c.read_tag_word.new.text)
-    c.look.result c.skip_non_blank.ensures c.new-word.ensures.bytes c.in_ok-read_tag_word.ensures c.look.ensures.value
+    (cursor_of c.read_run.new.self) (cursor_of c.look.new.self) _ (string_bytes c.read_run.new.text)
+    c.look.result c.skip_non_blank.ensures c.new-word.ensures.bytes c.in_ok-read_run.ensures c.look.ensures.value
     c.look.ensures.same in
     alone_read _ _ _ _ _ _ _ behind c.if-look-eq33.false c.in_ok-read_uri_characters.ensures
     (ap (λ n. n == 0) (sym c.read_uri_characters.new.text.bytes.ok.0) ∙ sym c.is_empty.ensures ∙ c.if-is_empty.true) c.in_ok-mark.ensures.ok
@@ -50,8 +50,8 @@ returns-then-is_empty g c =
 pub returns : goal.returns
 returns g c =
     let behind = behind_word (cursor_of c.args.self.now) (cursor_of c.skip_non_blank.new.self)
-    (cursor_of c.read_tag_word.new.self) (cursor_of c.look.new.self) _ (string_bytes c.read_tag_word.new.text)
-    c.look.result c.skip_non_blank.ensures c.new-word.ensures.bytes c.in_ok-read_tag_word.ensures c.look.ensures.value
+    (cursor_of c.read_run.new.self) (cursor_of c.look.new.self) _ (string_bytes c.read_run.new.text)
+    c.look.result c.skip_non_blank.ensures c.new-word.ensures.bytes c.in_ok-read_run.ensures c.look.ensures.value
     c.look.ensures.same in
     primary_read _ _ _ _ _ _ _ behind c.if-look-eq33.false c.in_ok-read_uri_characters.ensures
     (ap (λ n. n == 0) (sym c.read_uri_characters.new.text.bytes.ok.0) ∙ sym c.is_empty.ensures ∙ c.if-is_empty.false) c.in_ok-mark.ensures.ok

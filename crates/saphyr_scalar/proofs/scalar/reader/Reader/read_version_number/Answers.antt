@@ -1,8 +1,8 @@
-use Rattle.std.proofs.Common.{◌≡◌, true, slice_index, sym, ap, ◌∙◌}
+use Rattle.std.proofs.Common.{◌≡◌, true, false, slice_index, sym, ap, ◌∙◌}
 use Rattle.saphyr_input.specs.Classes as class
 use Rattle.saphyr_scalar.specs.Views.Cursor.{Cursor}
 use Rattle.saphyr_scalar.specs.Views.Reader.{cursor_of}
-use Rattle.saphyr_scalar.proofs.Directives.Numbers.{digit_on, digits_fit, digits_below, shifted_fits, below_nine, nine_at_most, counts_on, digit_left, digit_shorter}
+use Rattle.saphyr_scalar.proofs.Directives.Numbers.{digit_on, digits_fit, digits_below, shifted_fits, below_nine, nine_at_most, counts_on, digit_left, digit_shorter, number_ends, number_read, number_long}
 use Rattle.saphyr_scalar.proofs.scalar.reader.Reader.read_version_number.Goals as goal
 
 pub overflow_add-count : goal.overflow_add-count
@@ -46,3 +46,18 @@ loop-c-preserved g c =
       below = digits_below c.loop-c.count c.loop-c.value c.loop-c.c c.loop-c.invariant.below digit;
       read = c.look-c-in-loop-c.ensures.value ∙ sym (ap (λ (s : Cursor). slice_index s.rest 0) same);
     }
+
+pub returns : goal.returns
+returns g c =
+    let ends : class.is_digit c.loop-c.c ≡ false = sym c.is_digit.ensures.test ∙ c.loop-c-test.false in
+    sym c.loop-c.invariant.same
+    ∙ number_ends c.args.start c.loop-c.count c.loop-c.value c.loop-c.c (cursor_of c.loop-c.self)
+    c.loop-c.invariant.read ends
+    ∙ number_read c.args.start c.loop-c.count c.loop-c.value _ c.if-count-eq0.false
+
+pub returns-then-count-eq9 : goal.returns-then-count-eq9
+returns-then-count-eq9 g c =
+    let digit : class.is_digit c.loop-c.c ≡ true = sym c.is_digit.ensures.test ∙ c.loop-c-test.true in
+    sym c.loop-c.invariant.same
+    ∙ number_long c.args.start c.loop-c.count c.loop-c.value c.loop-c.c (cursor_of c.loop-c.self)
+    c.loop-c.invariant.read digit c.if-count-eq9.true

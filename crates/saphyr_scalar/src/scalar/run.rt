@@ -1,0 +1,32 @@
+//! Runs of a set of characters, moved from a text to the end of another.
+
+ghost use Rattle.saphyr_scalar.specs.Steps.Quoted as spec;
+
+use crate::scalar::fault::Stop;
+use crate::scalar::reader::Reader;
+use saphyr_input::char_set::CharSet;
+use saphyr_input::input::Input;
+
+impl<T: Input> Reader<T> {
+    ghost use Rattle.saphyr_scalar.specs.Views.Reader.{AppendsBy};
+
+    // Moves a run of a set. Whether only blanks are before the place stays as it is.
+    #[inline]
+    pub(crate) fn move_run<C: CharSet>(&mut self, text: &mut String) -> Result<(), Stop>
+        ensures { AppendsBy (spec.with_front_run C.test) text.old self.old result text.new self.new }
+    {
+        let count = self.input.fetch_while::<C>(text)?;
+        self.mark = self.mark.along(count);
+        Ok(())
+    }
+
+    // Moves a run of a set, after which the place is behind more than blanks.
+    #[inline]
+    pub(crate) fn read_run<C: CharSet>(&mut self, text: &mut String) -> Result<(), Stop>
+        ensures { AppendsBy (spec.with_run C.test) text.old self.old result text.new self.new }
+    {
+        self.move_run::<C>(text)?;
+        self.blank_so_far = false;
+        Ok(())
+    }
+}
