@@ -1,5 +1,5 @@
 -- Words of a plain scalar, and single spaces between them, taken off in one piece.
-use Rattle.std.proofs.Common.{◌≡◌, ℕ, zero, suc, ◌+◌, ◌^◌, ◌<◌, ◌≤◌, Bool, true, false, List, [], ◌∷◌, ◌++◌, length, length-drop, take, drop, slice_index, Result, Ok, refl, sym, ap, ◌∙◌, arith, encode_utf8_all, cond}
+use Rattle.std.proofs.Common.{◌≡◌, ℕ, zero, suc, ◌+◌, ◌^◌, ◌<◌, ◌≤◌, Bool, true, false, List, [], ◌∷◌, ◌++◌, length, length-drop, take, drop, slice_index, Result, Ok, refl, sym, ap, ◌∙◌, subst, arith, encode_utf8_all, cond}
 use Rattle.std.specs.Prelude.{◌&&◌, ◌||◌, ◌==◌, not, encode_utf8}
 use Rattle.std.specs.List.{prefix_len}
 use Rattle.std.proofs.lemmas.Bool.Decides.{nat_tests}
@@ -188,11 +188,34 @@ words_ran f text grown more s t u n k r w place =
       mark = place ∙ r.mark;
     }
 
+-- the same, where c comes next, and b is whether the word goes on with it
+pub record WordsTurn (f : Bool) (text grown : List ℕ) (s t : Cursor) (n c : ℕ) (b : Bool) : Type 0 where
+  pub ran : WordsRan f text grown s t n
+  pub read : c ≡ slice_index t.rest 0
+  pub goes : b ≡ is_in_word f t.rest
+
+pub words_turn : (f : Bool) (text grown more : List ℕ) (s t u v w : Cursor) (n k c : ℕ) (b : Bool)
+    → WordsRan f text grown s t n
+    → TransfersWords (in_plain f) (leads_plain f) k t.rest u.rest grown more → u.mark ≡ t.mark
+    → c ≡ slice_index u.rest 0 → v ≡ u → b ≡ is_in_word f v.rest → w ≡ v
+    → WordsTurn f text more s w (n + k) c b
+words_turn f text grown more s t u v w n k c b r moved place read seen goes same =
+    let still : u ≡ w = sym seen ∙ sym same in
+    record {
+      ran = subst (λ (x : Cursor). WordsRan f text more s x (n + k)) still
+          (words_ran f text grown more s t u n k r moved place);
+      read = read ∙ ap (λ (x : Cursor). slice_index x.rest 0) still;
+      goes = goes ∙ ap (λ (x : Cursor). is_in_word f x.rest) (sym same);
+    }
+
 -- a colon with which the word goes on
-pub colon_ran : (f : Bool) (text grown pushed : List ℕ) (s t u : Cursor) (n c : ℕ) → WordsRan f text grown s t n
-    → is_in_word f t.rest ≡ true → c ≡ slice_index t.rest 0 → pushed ≡ grown ++ encode_utf8 c
-    → u.rest ≡ drop 1 t.rest → u.mark ≡ t.mark → WordsRan f text pushed s u (n + 1)
-colon_ran f text grown pushed s t u n c r goes read e behind place =
+pub colon_ran : (f : Bool) (text grown pushed : List ℕ) (s t u : Cursor) (n c : ℕ) (b : Bool)
+    → WordsTurn f text grown s t n c b → b ≡ true → pushed ≡ grown ++ encode_utf8 c → u.rest ≡ drop 1 t.rest
+    → u.mark ≡ t.mark → WordsRan f text pushed s u (n + 1)
+colon_ran f text grown pushed s t u n c b turn is e behind place =
+    let r = turn.ran in
+    let read = turn.read in
+    let goes : is_in_word f t.rest ≡ true = sym turn.goes ∙ is in
     let on = λ (i : ℕ) (a : Marker). one_on f i a (along s.mark n) t.rest goes in
     record {
       same = λ i a. rw (e, behind, read)
@@ -210,14 +233,18 @@ colon_ran f text grown pushed s t u n c r goes read e behind place =
     one_on f i a m (c ∷ cs) h = word_on f i a m c cs h
 
 -- the words end
-pub words_done : (f : Bool) (text grown : List ℕ) (s t : Cursor) (n : ℕ) (m : Marker) → WordsRan f text grown s t n
-    → is_in_word f t.rest ≡ false → m ≡ along s.mark n → PlainWordsMoved f text grown s (mid_line m t.rest)
-words_done f text grown s t n m r stops place = record {
-  same = λ i a. ap (λ x. with_text grown (word f i a x t.rest)) place ∙ r.same i a;
-  on_line = refl;
-  stops = stops;
-  shorter = λ goes. some n r.left r.total goes;
-}
+pub words_done : (f : Bool) (text grown : List ℕ) (s t : Cursor) (n c : ℕ) (b : Bool) (m : Marker)
+    → WordsTurn f text grown s t n c b → b ≡ false → m ≡ along t.mark n
+    → PlainWordsMoved f text grown s (mid_line m t.rest)
+words_done f text grown s t n c b m turn is moved =
+    let r = turn.ran in
+    let place : m ≡ along s.mark n = moved ∙ ap (λ (x : Marker). along x n) r.mark in
+    record {
+      same = λ i a. ap (λ x. with_text grown (word f i a x t.rest)) place ∙ r.same i a;
+      on_line = refl;
+      stops = sym turn.goes ∙ is;
+      shorter = λ goes. some n r.left r.total goes;
+    }
   where
     some : (k : ℕ) → t.rest ≡ drop k s.rest → k + length t.rest ≡ length s.rest → is_in_word f s.rest ≡ true
         → length t.rest < length s.rest
@@ -240,6 +267,13 @@ ran_left f text grown s t n m r fits moved =
     let index : m.index ≡ t.mark.index + n = ap (λ (m : Marker). m.index) moved in
     omega (arith, r.total, fits, ap (λ (m : Marker). m.index) r.mark)
 
-pub ran_less : (f : Bool) (text grown more : List ℕ) (s t u : Cursor) (n k : ℕ) → WordsRan f text grown s t n
-    → WordsRan f text more s u (n + k + 1) → length u.rest < length t.rest
-ran_less f text grown more s t u n k r on = omega (arith, r.total, on.total)
+pub turn_fits : (f : Bool) (text grown : List ℕ) (s t : Cursor) (n c : ℕ) (b : Bool)
+    → WordsTurn f text grown s t n c b → b ≡ true → s.mark.index + length s.rest < 2 ^ 64 → n + 1 < 2 ^ 64
+turn_fits f text grown s t n c b turn is fits =
+    omega (arith, turn.ran.total, word_left f t.rest (sym turn.goes ∙ is), fits)
+
+pub turn_less : (f : Bool) (text grown more left : List ℕ) (s t u : Cursor) (n k c : ℕ) (b : Bool)
+    → WordsRan f text grown s t n → WordsTurn f text more s u (n + k) c b → b ≡ true → left ≡ drop 1 u.rest
+    → length left < length t.rest
+turn_less f text grown more left s t u n k c b r turn is behind =
+    rw (behind, length-drop) (omega (arith, r.total, turn.ran.total, word_left f u.rest (sym turn.goes ∙ is)))

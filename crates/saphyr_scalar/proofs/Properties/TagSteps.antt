@@ -94,7 +94,8 @@ pub alone_read : (s look t : Cursor) (word suffix mark : List ℕ) (c : ℕ) →
     → (c ≡ exclamation_mark → ⊥) → decoded_onto Suffix s.mark word look ≡ Ok (suffix, t)
     → (length suffix == 0) ≡ true → mark ≡ codes "!" → shorthand_tag s ≡ Ok (suffix, mark, t)
 alone_read s look t word suffix mark c b other h none is =
-    primary_from s look word c b other ∙ ap primary h ∙ ap (λ (x : TagRead). tag_read x.0 x.1 x.2) (no_suffix suffix t none)
+    primary_from s look word c b other ∙ ap primary h
+    ∙ ap (λ (x : TagRead). tag_read x.0 x.1 x.2) (no_suffix suffix t none)
     ∙ ap (λ m. tag_read suffix m t) (sym is)
 
 pub primary_read : (s look t : Cursor) (word suffix mark : List ℕ) (c : ℕ) → BehindWord s look word c

@@ -104,8 +104,8 @@ pub record IsBehindLines (i : ℕ) (t : Cursor) : Type 0 where
 
 -- ## The scalar
 
--- From s on there is a block scalar with this text: a header's line, and lines, up to t. Before the place `start`, on the
--- way, is no content: it is that of the header, or comes after its line.
+-- From s on there is a block scalar with this text: a header's line, and lines, up to t. Before the place `start`, on
+-- the way, is no content: it is that of the header, or comes after its line.
 pub record IsBlockText (style : BlockStyle) (indent : ℕ) (s : Cursor) (text : List ℕ) (start : Marker) (t : Cursor) :
     Type 0 where
   pub digit : ℕ

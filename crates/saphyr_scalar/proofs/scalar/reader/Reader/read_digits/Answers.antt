@@ -27,7 +27,8 @@ loop-preserved g c =
     record {
       same = digits_on c.args.start c.args.count c.loop.counter c.loop.value c.look-c.result c.as_hex.result
           (cursor_of c.loop.self) (cursor_of c.look-c.new.self) (cursor_of c.skip_non_blank.new.self)
-          c.loop-test.true c.look-c.ensures.value hex c.as_hex.ensures.value c.look-c.ensures.same c.skip_non_blank.ensures
+          c.loop-test.true c.look-c.ensures.value hex c.as_hex.ensures.value c.look-c.ensures.same
+          c.skip_non_blank.ensures
           ∙ c.loop.invariant.same;
       below = digits_below _ _ _ c.loop.invariant.below c.as_hex.ensures.digit;
     }

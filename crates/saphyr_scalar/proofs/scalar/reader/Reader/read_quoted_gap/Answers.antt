@@ -37,7 +37,8 @@ returns-then-is_break-clause-shorter g c =
     ap class.is_break (sym c.look-c.ensures.value) ∙ sym c.is_break.ensures.test ∙ c.if-is_break.true in
     let less : length behind.rest < length here.rest =
     below_at_most _ _ _
-    (break_on_shorter blanks (cursor_of c.look-c.new.self) behind breaks c.look-c.ensures.same c.skip_line_break.ensures)
+    (break_on_shorter blanks (cursor_of c.look-c.new.self) behind breaks c.look-c.ensures.same
+    c.skip_line_break.ensures)
     (moved_no_longer class.is_blank [] grown here blanks moved) in
     ok_shorter c.read_quoted_lines.result (length (cursor_of c.read_quoted_lines.new.self).rest) (length behind.rest)
     (length here.rest) less c.read_quoted_lines.ensures.shorter

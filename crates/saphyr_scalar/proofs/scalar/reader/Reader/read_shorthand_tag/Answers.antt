@@ -45,7 +45,8 @@ returns-then-is_empty g c =
     c.look.result c.skip_non_blank.ensures c.new-word.ensures.bytes c.in_ok-read_run.ensures c.look.ensures.value
     c.look.ensures.same in
     alone_read _ _ _ _ _ _ _ behind c.if-look-eq33.false c.in_ok-read_uri_characters.ensures
-    (ap (λ n. n == 0) (sym c.read_uri_characters.new.text.bytes.ok.0) ∙ sym c.is_empty.ensures ∙ c.if-is_empty.true) c.in_ok-mark.ensures.ok
+    (ap (λ n. n == 0) (sym c.read_uri_characters.new.text.bytes.ok.0) ∙ sym c.is_empty.ensures ∙ c.if-is_empty.true)
+    c.in_ok-mark.ensures.ok
 
 pub returns : goal.returns
 returns g c =
@@ -54,4 +55,5 @@ returns g c =
     c.look.result c.skip_non_blank.ensures c.new-word.ensures.bytes c.in_ok-read_run.ensures c.look.ensures.value
     c.look.ensures.same in
     primary_read _ _ _ _ _ _ _ behind c.if-look-eq33.false c.in_ok-read_uri_characters.ensures
-    (ap (λ n. n == 0) (sym c.read_uri_characters.new.text.bytes.ok.0) ∙ sym c.is_empty.ensures ∙ c.if-is_empty.false) c.in_ok-mark.ensures.ok
+    (ap (λ n. n == 0) (sym c.read_uri_characters.new.text.bytes.ok.0) ∙ sym c.is_empty.ensures ∙ c.if-is_empty.false)
+    c.in_ok-mark.ensures.ok

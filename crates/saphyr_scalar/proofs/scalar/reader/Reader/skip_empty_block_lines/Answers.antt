@@ -59,7 +59,8 @@ pub overflow_add-lines : goal.overflow_add-lines
 overflow_add-lines g c = record {
   fits = few_in_text c.loop-limit.lines.count _ (cursor_of c.loop-limit.self) (cursor_of c.skip_spaces.new.self)
       (cursor_of c.look.new.self) c.loop-limit.invariant.few c.loop-limit.self.fits c.skip_spaces.ensures
-      c.look.ensures.same (ap is_break (sym c.look.ensures.value) ∙ sym c.is_break.ensures.test ∙ c.if-not-is_break.false);
+      c.look.ensures.same
+      (ap is_break (sym c.look.ensures.value) ∙ sym c.is_break.ensures.test ∙ c.if-not-is_break.false);
 }
 
 pub returns-clause-few : goal.returns-clause-few
