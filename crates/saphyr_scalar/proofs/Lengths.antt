@@ -13,7 +13,7 @@ use Rattle.saphyr_scalar.specs.declared.scalar.position.Marker.{Marker}
 use Rattle.saphyr_scalar.specs.Views.Cursor.{Cursor, along}
 use Rattle.saphyr_input.proofs.Basics.Booleans.{clash, and_false}
 use Rattle.saphyr_input.proofs.WordRuns.{words_within}
-use Rattle.saphyr_input.proofs.Runs.{goes, TakesRun}
+use Rattle.saphyr_input.proofs.Runs.{TakesRun}
 
 -- a run is no longer than the text
 pub run_within : (p : ℕ → Bool) (xs : List ℕ) → prefix_len p xs ≤ length xs

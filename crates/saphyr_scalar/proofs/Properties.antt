@@ -11,3 +11,4 @@ pub mod TagsRead
 pub mod TagsSpelled
 pub mod UniqueBytes
 pub mod BareCharacters
+pub mod UriTurns

@@ -6,7 +6,7 @@ use Rattle.std.specs.List.{prefix_len}
 use Rattle.std.proofs.lemmas.Bool.Decides.{nat_tests}
 use Rattle.std.proofs.lemmas.List.Sums.{prefix_len-le-length}
 use Rattle.saphyr_input.specs.Classes.{space}
-use Rattle.saphyr_input.specs.Places.{spaces_within}
+use Rattle.saphyr_input.specs.Places.{spaces_within, is_blank_or_break}
 use Rattle.saphyr_input.proofs.WordRuns.{run_ends}
 use Rattle.saphyr_scalar.specs.declared.scalar.position.Marker.{Marker}
 use Rattle.saphyr_scalar.specs.declared.scalar.block.lines.EmptyLines.{EmptyLines}
@@ -78,6 +78,23 @@ lines_over i a t f most s u e =
     ap (λ (x : Cursor). lines i a t f x.mark x.rest) e
     ∙ over_run (lines i a t f) Always (λ m n _. tt) (λ m n cs _. lines_space i a t f m cs) s.mark
     (spaces_within most s.rest) s.rest tt (few most s.rest)
+
+-- the same, where a character was looked at after the spaces, and b is whether it is white
+pub record LineFront (i : ℕ) (a : Marker) (t : Bool) (f : List ℕ) (s u : Cursor) (b : Bool) : Type 0 where
+  pub reached : lines i a t f u.mark u.rest ≡ lines i a t f s.mark s.rest
+  pub white : is_blank_or_break (slice_index u.rest 0) ≡ b
+  pub blank : u.blank_so_far ≡ s.blank_so_far
+  pub shorter : (n : ℕ) → n < length u.rest → n < length s.rest
+
+pub line_front : (i : ℕ) (a : Marker) (t : Bool) (f : List ℕ) (most : ℕ) (s v u : Cursor) (c : ℕ) (b : Bool)
+    → v ≡ pass_spaces most s → c ≡ slice_index v.rest 0 → u ≡ v → b ≡ is_blank_or_break c
+    → LineFront i a t f s u b
+line_front i a t f most s v u c b spaces read same is = record {
+  reached = ap (λ (x : Cursor). lines i a t f x.mark x.rest) same ∙ lines_over i a t f most s v spaces;
+  white = ap (λ (x : Cursor). is_blank_or_break (slice_index x.rest 0)) same ∙ ap is_blank_or_break (sym read) ∙ sym is;
+  blank = ap (λ (x : Cursor). x.blank_so_far) (same ∙ spaces);
+  shorter = λ n less. turn_shorter n most s v u spaces same less;
+}
 
 -- between quotes
 

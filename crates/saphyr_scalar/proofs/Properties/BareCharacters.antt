@@ -1,23 +1,24 @@
 -- The characters of a URI that begin no escape, taken off in one piece.
-use Rattle.std.proofs.Common.{◌≡◌, ℕ, suc, ◌+◌, ◌≤◌, Bool, true, false, List, [], ◌∷◌, ◌++◌, length, length-drop, take, drop, slice_index, refl, sym, ap, ◌∙◌, arith, encode_utf8_all}
+use Rattle.std.proofs.Common.{◌≡◌, ℕ, suc, ◌+◌, ◌≤◌, Bool, true, false, List, [], ◌∷◌, ◌++◌, length, take, drop, slice_index, Result, Ok, refl, sym, ap, ◌∙◌, arith, subst, encode_utf8_all}
 use Rattle.std.specs.Prelude.{◌&&◌, ◌==◌, not, encode_utf8}
 use Rattle.std.specs.List.{prefix_len}
 use Rattle.std.proofs.lemmas.Bool.Decides.{nat_tests}
 use Rattle.std.proofs.lemmas.Bool.{not-true}
 use Rattle.saphyr_input.specs.Indicators.{percent_sign}
-use Rattle.saphyr_input.specs.Places.{TransfersRun}
 use Rattle.saphyr_input.proofs.WordRuns.{run_ends}
 use Rattle.saphyr_scalar.specs.declared.scalar.position.Marker.{Marker}
+use Rattle.saphyr_scalar.specs.declared.scalar.fault.Refusal.{Refusal}
 use Rattle.saphyr_scalar.specs.declared.scalar.tag.UriSet.{UriSet}
 use Rattle.saphyr_scalar.specs.declared.scalar.tag.UriSet.TheVariants.{Uri, Suffix}
-use Rattle.saphyr_scalar.specs.Views.Cursor.{Cursor, along}
-use Rattle.saphyr_scalar.specs.Steps.Quoted.{with_front}
+use Rattle.saphyr_scalar.specs.Views.Cursor.{Cursor, along, pass_blanks}
+use Rattle.saphyr_scalar.specs.Steps.Quoted.{with_front, with_front_run}
 use Rattle.saphyr_scalar.specs.Steps.Sets.{is_bare}
 use Rattle.saphyr_scalar.specs.Steps.Tag.{is_in_set, percent_escape, uri_character, decoded_characters, decoded_at}
 use Rattle.saphyr_scalar.proofs.Moving.{along_none, along_more}
 use Rattle.saphyr_scalar.proofs.Quoted.Inside.{front_twice, no_front}
 use Rattle.saphyr_scalar.proofs.Quoted.Words.{both_true}
 use Rattle.saphyr_input.proofs.Basics.Booleans.{by_test}
+use Rattle.saphyr_input.proofs.Basics.Lists.{drop_shorter}
 
 bare_passed : (set : UriSet) (start m : Marker) (c : ℕ) (cs : List ℕ) → is_bare set c ≡ true
     → decoded_characters set start 0 m (c ∷ cs) ≡ with_front (encode_utf8 c) (decoded_characters set start 0
@@ -50,34 +51,42 @@ run_piece set start m (c ∷ cs) =
     (along_more m 1 n (suc n) (omega arith))))
     (λ _. no_piece set start m (c ∷ cs))
 
-pub bare_moved : (set : UriSet) (start : Marker) (text grown : List ℕ) (n : ℕ) (s : Cursor) (left : List ℕ) (m : Marker)
-    → TransfersRun (is_bare set) n s.rest left text grown → m ≡ along s.mark n
-    → with_front grown (decoded_characters set start 0 m left) ≡ with_front text (decoded_at set start s)
-bare_moved set start text grown n s left m t place =
-    let all = sym (ap (with_front text) (run_piece set start s.mark s.rest)
-    ∙ front_twice text (encode_utf8_all (take (prefix_len (is_bare set) s.rest) s.rest)) _) in
-    rw (place, t.transfers.taken, t.transfers.appended, t.count) all
-
-pub bare_shorter : (set : UriSet) (text grown : List ℕ) (n : ℕ) (xs left : List ℕ)
-    → TransfersRun (is_bare set) n xs left text grown → length left ≤ length xs
-bare_shorter set text grown n xs left t = rw (t.transfers.taken, length-drop) (omega arith)
-
 no_bare_nul : (set : UriSet) → is_bare set 0 ≡ false
 no_bare_nul Uri = refl
 no_bare_nul Suffix = refl
 
--- after the run is an escape or no character of the set
-pub bare_stops : (set : UriSet) (text grown : List ℕ) (n : ℕ) (xs left : List ℕ)
-    → TransfersRun (is_bare set) n xs left text grown → (slice_index left 0 ≡ percent_sign → ⊥)
-    → is_in_set set (slice_index left 0) ≡ false
-bare_stops set text grown n xs left t other =
-    second (slice_index left 0 == 37) (is_in_set set (slice_index left 0)) no_escape stops
-  where
-    stops : is_bare set (slice_index left 0) ≡ false
-    stops = rw (t.transfers.taken, t.count) (run_ends (is_bare set) xs (no_bare_nul set))
+-- characters that begin no escape were moved, and c comes next
+pub record BareTurn (set : UriSet) (start : Marker) (text grown : List ℕ) (s t : Cursor) (c : ℕ) : Type 0 where
+  pub reached : with_front grown (decoded_at set start t) ≡ with_front text (decoded_at set start s)
+  pub read : c ≡ slice_index t.rest 0
+  pub stops : (c ≡ percent_sign → ⊥) → is_in_set set (slice_index t.rest 0) ≡ false
+  pub no_longer : length t.rest ≤ length s.rest
 
-    no_escape : (slice_index left 0 == percent_sign) ≡ false
-    no_escape = grind (arith, nat_tests)
+pub bare_turn : (set : UriSet) (start : Marker) (text grown : List ℕ) (s u t : Cursor) (c : ℕ)
+    → ◌≡◌ {A = Result (List ℕ × Cursor) Refusal} (Ok (with_front_run (is_bare set) text s)) (Ok (grown, u))
+    → c ≡ slice_index u.rest 0 → t ≡ u → BareTurn set start text grown s t c
+bare_turn set start text grown s u t c moved read same =
+    let p = is_bare set in
+    let n = prefix_len p s.rest in
+    let run = encode_utf8_all (take n s.rest) in
+    let pair : ◌≡◌ {A = List ℕ × Cursor} (with_front_run p text s) (grown, u) = cc in
+    let bytes : text ++ run ≡ grown = ap (λ (x : List ℕ × Cursor). x.0) pair in
+    let place : pass_blanks n s ≡ t = ap (λ (x : List ℕ × Cursor). x.1) pair ∙ sym same in
+    let seen : c ≡ slice_index t.rest 0 = read ∙ ap (λ (x : Cursor). slice_index x.rest 0) (sym same) in
+    let ends : p (slice_index t.rest 0) ≡ false =
+    subst (λ (x : Cursor). p (slice_index x.rest 0) ≡ false) place (run_ends p s.rest (no_bare_nul set)) in
+    record {
+      reached = ap (λ b. with_front b (decoded_at set start t)) (sym bytes)
+          ∙ ap (λ (x : Cursor). with_front (text ++ run) (decoded_at set start x)) (sym place)
+          ∙ sym (ap (with_front text) (run_piece set start s.mark s.rest) ∙ front_twice text run _);
+      read = seen;
+      stops = λ other. second (slice_index t.rest 0 == 37) (is_in_set set (slice_index t.rest 0))
+          (no_escape c (slice_index t.rest 0) seen other) ends;
+      no_longer = subst (λ (x : Cursor). length x.rest ≤ length s.rest) place (drop_shorter n s.rest);
+    }
+  where
+    no_escape : (c x : ℕ) → c ≡ x → (c ≡ percent_sign → ⊥) → (x == percent_sign) ≡ false
+    no_escape c x seen other = grind (arith, nat_tests)
 
     second : (a b : Bool) → a ≡ false → (not a && b) ≡ false → b ≡ false
     second true b is h = absurd (cc)

@@ -1,6 +1,5 @@
 -- Block scalars (YAML 1.2.2, 8.1), from their header on, in the steps in which they are read.
-use Rattle.std.specs.Prelude.{ℕ, ◌+◌, ◌-◌, ◌^◌, min, max, Bool, true, false, ◌||◌, ◌&&◌, ◌==◌, not, nat_lt, nat_le, List, [], ◌∷◌, ◌++◌, take, slice_index, Option, Some, None, is_some, unwrap_or, Result, Ok, if◌then◌else◌, encode_utf8_all, string_bytes}
-use Rattle.std.specs.List.{prefix_len}
+use Rattle.std.specs.Prelude.{ℕ, ◌+◌, ◌-◌, ◌^◌, min, max, Bool, true, false, ◌||◌, ◌&&◌, ◌==◌, not, nat_lt, nat_le, List, [], ◌∷◌, ◌++◌, slice_index, Option, Some, None, is_some, unwrap_or, Result, Ok, if◌then◌else◌, encode_utf8_all, string_bytes}
 use Rattle.saphyr_input.specs.Classes.{is_z, is_break, is_breakz, is_blank, is_digit, is_yaml_non_break, line_feed, carriage_return, space, tab}
 use Rattle.saphyr_input.specs.Places.{is_document_indicator}
 use Rattle.saphyr_input.specs.declared.input.SkipTabs.TheVariants.{Yes}
@@ -17,7 +16,7 @@ use Rattle.saphyr_scalar.specs.declared.scalar.block.BlockScalar.{BlockScalar}
 use Rattle.saphyr_scalar.specs.declared.scalar.block.header.BlockHeader.{BlockHeader}
 use Rattle.saphyr_scalar.specs.declared.scalar.block.lines.EmptyLines.{EmptyLines}
 use Rattle.saphyr_scalar.specs.declared.scalar.block.breaks.BlockEnd.{BlockEnd}
-use Rattle.saphyr_scalar.specs.Views.Cursor.{Cursor, ◌>>=◌, refuse, along, next_line, pass, pass_break, pass_comment, separation}
+use Rattle.saphyr_scalar.specs.Views.Cursor.{Cursor, ◌>>=◌, refuse, along, next_line, pass, pass_break, separation}
 use Rattle.saphyr_scalar.specs.Steps.Quoted.{with_front_run}
 use Rattle.saphyr_values.specs.Folding.{line_feeds, raw_break}
 

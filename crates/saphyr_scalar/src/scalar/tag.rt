@@ -3,7 +3,7 @@
 ghost use Rattle.std.specs.Prelude.{◌≡◌, ℕ, ◌+◌, ◌*◌, ◌<◌, ◌≤◌, ◌^◌, List, [], length, slice_index, string_bytes, Ok, IfOk, refl};
 ghost use Rattle.saphyr_input.specs.Indicators.{exclamation_mark};
 ghost use Rattle.saphyr_input.specs.Classes as class;
-ghost use Rattle.saphyr_input.specs.Places.{TransfersRun};
+ghost use Rattle.saphyr_scalar.specs.Steps.Quoted as run;
 ghost use Rattle.saphyr_scalar.specs.Steps.Sets as sets;
 ghost use Rattle.saphyr_scalar.specs.Steps.Tag as spec;
 
@@ -214,16 +214,14 @@ impl<T: Input> Reader<T> {
         Ok(c)
     }
 
-    // Moves characters of a set that begin no escape to the end of a text, and returns how many. The
-    // place stays.
-    fn fetch_bare_characters(&mut self, set: UriSet, text: &mut String) -> Result<usize, AllocError>
-        ensures run { IfOk result (λ n. TransfersRun (sets.is_bare set) n (cursor_of self.old).rest
-            (cursor_of self.new).rest (string_bytes text.old) (string_bytes text.new)) }
-        ensures mark { (cursor_of self.new).mark ≡ (cursor_of self.old).mark }
+    // Moves characters of a set that begin no escape to the end of a text.
+    fn read_bare_characters(&mut self, set: UriSet, text: &mut String) -> Result<(), Stop>
+        ensures { AppendsBy (run.with_front_run (sets.is_bare set)) text.old self.old result
+            text.new self.new }
     {
         match set {
-            UriSet::Uri => self.input.fetch_while::<PlainUri>(text),
-            UriSet::Suffix => self.input.fetch_while::<PlainSuffix>(text),
+            UriSet::Uri => self.move_run::<PlainUri>(text),
+            UriSet::Suffix => self.move_run::<PlainSuffix>(text),
         }
     }
 
@@ -238,8 +236,7 @@ impl<T: Input> Reader<T> {
             text.new self.new }
     {
         loop {
-            let count = self.fetch_bare_characters(set, text)?;
-            self.mark = self.mark.along(count);
+            self.read_bare_characters(set, text)?;
             if self.look() != '%' {
                 break;
             }

@@ -4,10 +4,10 @@ use Rattle.saphyr_scalar.specs.Steps.Tag.{decoded_at}
 use Rattle.saphyr_scalar.specs.Views.Reader.{cursor_of}
 use Rattle.saphyr_scalar.proofs.scalar.reader.Reader.read_uri_characters.Given as goal
 
-abbrev pub invariant-loop-count : goal.invariant-loop-count
-invariant-loop-count g l =
+abbrev pub invariant-loop-self : goal.invariant-loop-self
+invariant-loop-self g l =
     with_front (string_bytes l.text) (decoded_at l.set l.start (cursor_of l.self))
     ≡ with_front (string_bytes l.fn.text) (decoded_at l.set l.start (cursor_of l.fn.self))
 
-abbrev pub decreases-loop-count : goal.decreases-loop-count
-decreases-loop-count g l = length (cursor_of l.self).rest
+abbrev pub decreases-loop-self : goal.decreases-loop-self
+decreases-loop-self g l = length (cursor_of l.self).rest
