@@ -10,7 +10,7 @@ use Rattle.saphyr_input.specs.Places.{is_blank_or_break}
 use Rattle.saphyr_input.proofs.Basics.Booleans.{by_test, and_false}
 use Rattle.saphyr_scalar.specs.declared.scalar.position.Marker.{Marker}
 use Rattle.saphyr_scalar.specs.Views.Cursor.{Cursor, pass}
-use Rattle.saphyr_scalar.specs.Steps.Plain.{is_in_word, PlainWordsMoved, seen_gap, gap_from, gap, comment_of, with_text, word}
+use Rattle.saphyr_scalar.specs.Steps.Plain.{PlainGap, is_in_word, PlainWordsMoved, seen_gap, gap_from, gap, comment_of, with_text, word}
 use Rattle.saphyr_scalar.proofs.Moving.{along_none}
 use Rattle.saphyr_scalar.proofs.NoSeparation.{no_run}
 use Rattle.saphyr_scalar.proofs.Plain.Pieces.{GapMoved, goes_not, no_turn}
@@ -24,6 +24,10 @@ none_moved f text s ends line = record {
   stops = ends;
   shorter = λ goes. absurd (cc);
 }
+
+pub still_moved : (f : Bool) (i : ℕ) (a : Marker) (text : List ℕ) (s : Cursor) (g : PlainGap)
+    → is_in_word f s.rest ≡ false → s.blank_so_far ≡ false → gap i a s ≡ Ok g → GapMoved f i a text text s s g
+still_moved f i a text s g ends line is = record { moved = none_moved f text s ends line; is = is }
 
 pub none_passed : (s : Cursor) → s.blank_so_far ≡ false → pass 0 s ≡ s
 none_passed s line =
@@ -58,9 +62,6 @@ pub scalar_ends : (f : Bool) (i : ℕ) (a : Marker) (text : List ℕ) (s : Curso
     → s.blank_so_far ≡ false → is_blank_or_break (slice_index s.rest 0) ≡ false
     → with_text text (word f i a s.mark s.rest) ≡ Ok (text, s.mark, None, s)
 scalar_ends f i a text s ends line ink =
-    let moved : GapMoved f i a text text s s (seen_gap false [] s) = record {
-      moved = none_moved f text s ends line;
-      is = gap_before_ink i a s line ink;
-    } in
+    let moved = still_moved f i a text s (seen_gap false [] s) ends line (gap_before_ink i a s line ink) in
     no_turn f i a text text s s (seen_gap false [] s) s moved (goes_not f i s ends)
     ∙ ap (λ x. Ok (text, s.mark, x, s)) (no_comment f s ends)

@@ -5,7 +5,7 @@ use Rattle.saphyr_input.specs.Places.{is_blank_or_break}
 use Rattle.saphyr_scalar.specs.Views.Cursor.{Cursor}
 use Rattle.saphyr_scalar.specs.Steps.Plain as spec
 use Rattle.saphyr_scalar.specs.Views.Reader.{cursor_of, Moves}
-use Rattle.saphyr_scalar.proofs.Plain.Pieces.{plain_starts, plain_refused, no_plain, no_text, moves_refused}
+use Rattle.saphyr_scalar.proofs.Plain.Pieces.{started, plain_starts, plain_refused, no_plain, no_text, moves_refused}
 use Rattle.saphyr_scalar.proofs.Plain.WordEnds.{scalar_ends}
 use Rattle.saphyr_scalar.proofs.scalar.reader.Reader.read_plain.Goals as goal
 
@@ -20,8 +20,7 @@ returns-then-not-branch g c =
     let s = cursor_of c.args.self.now in
     let there = cursor_of c.plain_word_starts.new.self in
     no_plain f c.args.indent s there
-    (subst (λ (b : Bool). spec.word_starts f s ≡ Ok (b, there)) c.if-not-branch.true
-    c.in_ok-plain_word_starts.ensures)
+    (started (spec.word_starts f) s there _ _ c.if-not-branch.true c.in_ok-plain_word_starts.ensures)
 
 -- the scalar is what was moved of its first words, and what is left
 words_and_rest : (f : Bool) (i : ℕ) (s there end : Cursor) (text grown : List ℕ)
@@ -39,8 +38,7 @@ returns-then-is_break g c =
     let there = cursor_of c.plain_word_starts.new.self in
     let end = cursor_of c.read_plain_words.new.self in
     let grown = string_bytes c.read_plain_words.new.text in
-    let starts : spec.word_starts f s ≡ Ok (true, there) = subst (λ (b : Bool). spec.word_starts f s ≡ Ok (b, there))
-    c.if-not-branch.false c.in_ok-plain_word_starts.ensures in
+    let starts = started (spec.word_starts f) s there _ _ c.if-not-branch.false c.in_ok-plain_word_starts.ensures in
     let same = ap (λ (x : Cursor). spec.with_text grown (spec.word f i s.mark x.mark x.rest)) c.look-c.ensures.same
     ∙ words_and_rest f i s there end _ grown starts c.in_ok-text.ensures c.in_ok-read_plain_words.ensures in
     subst (λ (r : spec.PlainScalarRead). Moves (λ x. spec.seen_plain_scalar x (cursor_of c.read_plain_break.new.self))
@@ -54,8 +52,7 @@ returns-then-not-is_blank g c =
     let there = cursor_of c.plain_word_starts.new.self in
     let end = cursor_of c.read_plain_words.new.self in
     let grown = string_bytes c.read_plain_words.new.text in
-    let starts : spec.word_starts f s ≡ Ok (true, there) = subst (λ (b : Bool). spec.word_starts f s ≡ Ok (b, there))
-    c.if-not-branch.false c.in_ok-plain_word_starts.ensures in
+    let starts = started (spec.word_starts f) s there _ _ c.if-not-branch.false c.in_ok-plain_word_starts.ensures in
     let moved = c.in_ok-read_plain_words.ensures in
     let break : is_break (slice_index end.rest 0) ≡ false =
     ap is_break (sym c.look-c.ensures.value) ∙ sym c.is_break.ensures.test ∙ c.if-is_break.false in
@@ -74,8 +71,7 @@ returns g c =
     let there = cursor_of c.plain_word_starts.new.self in
     let end = cursor_of c.read_plain_words.new.self in
     let grown = string_bytes c.read_plain_words.new.text in
-    let starts : spec.word_starts f s ≡ Ok (true, there) = subst (λ (b : Bool). spec.word_starts f s ≡ Ok (b, there))
-    c.if-not-branch.false c.in_ok-plain_word_starts.ensures in
+    let starts = started (spec.word_starts f) s there _ _ c.if-not-branch.false c.in_ok-plain_word_starts.ensures in
     let same = ap (λ (x : Cursor). spec.with_text grown (spec.word f i s.mark x.mark x.rest)) c.look-c.ensures.same
     ∙ words_and_rest f i s there end _ grown starts c.in_ok-text.ensures c.in_ok-read_plain_words.ensures in
     subst (λ (r : spec.PlainScalarRead). Moves (λ x. spec.seen_plain_scalar x (cursor_of c.read_plain_rest.new.self))

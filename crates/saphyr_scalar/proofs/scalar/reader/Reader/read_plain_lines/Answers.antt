@@ -1,11 +1,11 @@
-use Rattle.std.proofs.Common.{◌≡◌, Bool, true, false, List, ◌++◌, string_bytes, Result, Ok, sym, ap, ◌∙◌, subst}
+use Rattle.std.proofs.Common.{◌≡◌, List, string_bytes, Result, Ok, sym, ap, ◌∙◌, subst}
 use Rattle.saphyr_scalar.specs.declared.scalar.fault.Refusal.{Refusal}
-use Rattle.saphyr_scalar.specs.Views.Cursor.{Cursor, ◌>>=◌}
+use Rattle.saphyr_scalar.specs.Views.Cursor.{◌>>=◌}
 use Rattle.saphyr_scalar.specs.Steps.Plain as spec
 use Rattle.saphyr_scalar.specs.Views.Reader.{cursor_of, Moves}
 use Rattle.saphyr_scalar.proofs.Plain.Gaps.{lines_read}
 use Rattle.saphyr_scalar.proofs.Plain.LineEnds.{gap_no_turn, gap_turn}
-use Rattle.saphyr_scalar.proofs.Plain.Pieces.{plain_behind_gap, goes_says}
+use Rattle.saphyr_scalar.proofs.Plain.Pieces.{plain_behind_gap, started, joined_by}
 use Rattle.saphyr_scalar.proofs.scalar.reader.Reader.read_plain_lines.Goals as goal
 
 pub returns-then-not-branch : goal.returns-then-not-branch
@@ -24,8 +24,7 @@ returns-then-not-branch g c =
     lines_read i start s.mark s.rest feeds behind (Ok c.in_ok-tabbed.tabbed)
     (subst (λ (b : List _). spec.feeds_onto i start b s ≡ Ok (spec.seen_gap c.in_ok-tabbed.tabbed feeds behind))
     c.new-feeds.ensures.bytes c.in_ok-tabbed.ensures) in
-    let over : spec.next_word_starts f i behind ≡ Ok (false, there) = subst
-    (λ (b : Bool). spec.next_word_starts f i behind ≡ Ok (b, there)) c.if-not-branch.true
+    let over = started (spec.next_word_starts f i) behind there _ _ c.if-not-branch.true
     c.in_ok-next_plain_word_starts.ensures in
     ap (λ (r : Result spec.PlainGap Refusal). spec.with_text text (r >>= plain_behind_gap f i start end)) lines
     ∙ gap_no_turn f i start end text gap there over
@@ -48,11 +47,9 @@ returns g c =
     lines_read i start s.mark s.rest feeds behind (Ok c.in_ok-tabbed.tabbed)
     (subst (λ (b : List _). spec.feeds_onto i start b s ≡ Ok (spec.seen_gap c.in_ok-tabbed.tabbed feeds behind))
     c.new-feeds.ensures.bytes c.in_ok-tabbed.ensures) in
-    let goes : spec.next_word_starts f i behind ≡ Ok (true, there) = subst
-    (λ (b : Bool). spec.next_word_starts f i behind ≡ Ok (b, there)) c.if-not-branch.false
+    let goes = started (spec.next_word_starts f i) behind there _ _ c.if-not-branch.false
     c.in_ok-next_plain_word_starts.ensures in
-    let joined = c.in_ok-push_gap.ensures ∙ ap (λ b. text ++ spec.gap_text there.blank_so_far b) c.as_str.ensures.value
-    ∙ ap (λ (x : Cursor). text ++ spec.gap_text x.blank_so_far feeds) (goes_says f i true behind there goes).same in
+    let joined = joined_by f i behind there text feeds _ _ goes c.in_ok-push_gap.ensures c.as_str.ensures.value in
     let same = c.in_ok-read_plain_words.ensures.same i start ∙ gap_turn f i start end text _ gap there goes joined
     ∙ sym (ap (λ (r : Result spec.PlainGap Refusal). spec.with_text text (r >>= plain_behind_gap f i start end))
     lines) in

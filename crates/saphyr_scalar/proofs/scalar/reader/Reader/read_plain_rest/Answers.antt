@@ -1,10 +1,10 @@
-use Rattle.std.proofs.Common.{◌≡◌, Bool, true, false, ◌++◌, length, string_bytes, Ok, sym, ap, ◌∙◌, subst, arith}
+use Rattle.std.proofs.Common.{◌≡◌, true, length, string_bytes, Ok, sym, ap, ◌∙◌, arith}
 use Rattle.saphyr_scalar.specs.Views.Cursor.{Cursor}
 use Rattle.saphyr_scalar.specs.Steps.Plain as spec
 use Rattle.saphyr_scalar.specs.Views.Reader.{cursor_of}
 use Rattle.saphyr_scalar.proofs.Plain.Gaps.{gap_end}
-use Rattle.saphyr_scalar.proofs.Plain.Pieces.{GapMoved, gap_refused, turn_refused, no_turn, turn, turn_goes, goes_says, moves_refused, moves_failed}
-use Rattle.saphyr_scalar.proofs.Plain.WordEnds.{none_moved}
+use Rattle.saphyr_scalar.proofs.Plain.Pieces.{gap_refused, turn_refused, no_turn, turn, started, joined_by, turn_goes, goes_says, moves_refused, moves_failed}
+use Rattle.saphyr_scalar.proofs.Plain.WordEnds.{none_moved, still_moved}
 use Rattle.saphyr_scalar.proofs.scalar.reader.Reader.read_plain_rest.Goals as goal
 
 pub returns-in_err-tabbed : goal.returns-in_err-tabbed
@@ -29,10 +29,7 @@ returns-in_err-next_plain_word_starts g c =
     let inv = c.loop-gap.invariant in
     let behind = cursor_of c.read_plain_gap.new.self in
     let gap = spec.seen_word_gap c.in_ok-tabbed.tabbed (string_bytes c.read_plain_gap.new.gap) behind in
-    let moved : GapMoved f i start text text here here gap = record {
-      moved = none_moved f text here inv.ended inv.on_line;
-      is = c.in_ok-tabbed.ensures;
-    } in
+    let moved = still_moved f i start text here gap inv.ended inv.on_line c.in_ok-tabbed.ensures in
     moves_refused _ _ _ _ c.from_residual-in_err-next_plain_word_starts.ensures.1
     (sym inv.same ∙ turn_refused f i start text text here here gap _ moved c.in_err-next_plain_word_starts.ensures)
 
@@ -47,12 +44,8 @@ returns-then-not-branch g c =
     let behind = cursor_of c.read_plain_gap.new.self in
     let there = cursor_of c.next_plain_word_starts.new.self in
     let gap = spec.seen_word_gap c.in_ok-tabbed.tabbed (string_bytes c.read_plain_gap.new.gap) behind in
-    let moved : GapMoved f i start text text here here gap = record {
-      moved = none_moved f text here inv.ended inv.on_line;
-      is = c.in_ok-tabbed.ensures;
-    } in
-    let over : spec.next_word_starts f i behind ≡ Ok (false, there) = subst
-    (λ (b : Bool). spec.next_word_starts f i behind ≡ Ok (b, there)) c.if-not-branch.true
+    let moved = still_moved f i start text here gap inv.ended inv.on_line c.in_ok-tabbed.ensures in
+    let over = started (spec.next_word_starts f i) behind there _ _ c.if-not-branch.true
     c.in_ok-next_plain_word_starts.ensures in
     sym inv.same ∙ no_turn f i start text text here here gap there moved over
     ∙ ap (λ x. Ok (text, here.mark, x, there)) (sym c.plain_comment-comment.ensures.value)
@@ -67,8 +60,7 @@ loop-gap-smaller g c =
     let behind = cursor_of c.read_plain_gap.new.self in
     let there = cursor_of c.next_plain_word_starts.new.self in
     let gap = spec.seen_word_gap c.in_ok-tabbed.tabbed (string_bytes c.read_plain_gap.new.gap) behind in
-    let goes : spec.next_word_starts f i behind ≡ Ok (true, there) = subst
-    (λ (b : Bool). spec.next_word_starts f i behind ≡ Ok (b, there)) c.if-not-branch.false
+    let goes = started (spec.next_word_starts f i) behind there _ _ c.if-not-branch.false
     c.in_ok-next_plain_word_starts.ensures in
     let end = gap_end i start here gap c.in_ok-tabbed.ensures in
     let same : length there.rest ≡ length behind.rest =
@@ -87,16 +79,10 @@ loop-gap-preserved g c =
     let behind = cursor_of c.read_plain_gap.new.self in
     let there = cursor_of c.next_plain_word_starts.new.self in
     let gap = spec.seen_word_gap c.in_ok-tabbed.tabbed (string_bytes c.read_plain_gap.new.gap) behind in
-    let moved : GapMoved f i start text text here here gap = record {
-      moved = none_moved f text here inv.ended inv.on_line;
-      is = c.in_ok-tabbed.ensures;
-    } in
-    let goes : spec.next_word_starts f i behind ≡ Ok (true, there) = subst
-    (λ (b : Bool). spec.next_word_starts f i behind ≡ Ok (b, there)) c.if-not-branch.false
+    let moved = still_moved f i start text here gap inv.ended inv.on_line c.in_ok-tabbed.ensures in
+    let goes = started (spec.next_word_starts f i) behind there _ _ c.if-not-branch.false
     c.in_ok-next_plain_word_starts.ensures in
-    let joined = c.in_ok-push_gap.ensures ∙ ap (λ b. text ++ spec.gap_text there.blank_so_far b) c.as_str.ensures.value
-    ∙ ap (λ (x : Cursor). text ++ spec.gap_text x.blank_so_far (string_bytes c.read_plain_gap.new.gap))
-    (goes_says f i true behind there goes).same in
+    let joined = joined_by f i behind there text _ _ _ goes c.in_ok-push_gap.ensures c.as_str.ensures.value in
     let words = c.in_ok-read_plain_words.ensures in
     record {
       same = words.same i start ∙ turn f i start text text _ here here gap there moved goes joined ∙ inv.same;
