@@ -1,9 +1,10 @@
 -- What is taken off a text is no longer than the text.
-use Rattle.std.proofs.Common.{◌≡◌, ℕ, ◌+◌, ◌^◌, ◌<◌, ◌≤◌, Bool, true, false, List, [], ◌∷◌, length, drop, ap, ◌∙◌, arith, subst}
+use Rattle.std.proofs.Common.{◌≡◌, ℕ, ◌+◌, ◌^◌, ◌<◌, ◌≤◌, Bool, true, false, List, [], ◌∷◌, length, drop, slice_index, ap, sym, ◌∙◌, arith, subst}
 use Rattle.std.specs.Prelude.{◌&&◌, ◌==◌}
 use Rattle.std.specs.List.{prefix_len}
 use Rattle.std.proofs.lemmas.List.{length-drop}
 use Rattle.std.proofs.lemmas.List.Sums.{prefix_len-le-length}
+use Rattle.std.proofs.lemmas.Bool.{false≢true}
 use Rattle.std.proofs.lemmas.Bool.Decides.{nat_tests}
 use Rattle.saphyr_input.specs.Classes.{is_yaml_non_break}
 use Rattle.saphyr_input.specs.Places.{next_2_are, words_len}
@@ -55,6 +56,15 @@ pub less_left : (k : ℕ) (s t u : Cursor) → k < length u.rest → u ≡ t →
     → k < length s.rest
 less_left k s t u less same most =
     below_at_most k (length t.rest) (length s.rest) (subst (λ (x : Cursor). k < length x.rest) same less) most
+
+-- a place that shows a character other than NUL is one
+pub seen_left : (s t : Cursor) (c d : ℕ) → c ≡ slice_index s.rest 0 → t ≡ s → (d == 0) ≡ false → c ≡ d
+    → 0 < length t.rest
+seen_left s t c d read same other is = rw same (some s.rest (sym read ∙ is))
+  where
+    some : (xs : List ℕ) → slice_index xs 0 ≡ d → 0 < length xs
+    some [] e = absurd (false≢true (sym other ∙ ap (λ (x : ℕ). x == 0) (sym e)))
+    some (x ∷ xs) e = omega arith
 
 pub countable : (at : ℕ) (xs : List ℕ) → at + length xs < 2 ^ 64 → length xs < 2 ^ 64
 countable at xs fits = omega arith

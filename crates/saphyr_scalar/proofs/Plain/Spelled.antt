@@ -13,6 +13,7 @@ use Rattle.saphyr_scalar.specs.Steps.Plain.{is_in_word, word_len, word_starts, n
 use Rattle.saphyr_scalar.specs.Reading.Plain.{end_of_text, IsSpelledPlain, IsSafeInFlow, ends_piece}
 use Rattle.saphyr_scalar.proofs.Moving.{along_none, along_more}
 use Rattle.saphyr_scalar.proofs.Quoted.Inside.{break_cases}
+use Rattle.saphyr_scalar.proofs.Quoted.Words.{both_true}
 use Rattle.saphyr_scalar.proofs.Plain.Words.{word_left}
 use Rattle.saphyr_scalar.proofs.Plain.Runs.{Ink, AreInk, NoFeed, same_ends}
 use Rattle.std.proofs.lemmas.Bool.{false≢true, eqb-true}
@@ -30,32 +31,24 @@ record WordCharacter (f : Bool) (c : ℕ) (cs : List ℕ) : Type 0 where
 
 word_character : (f : Bool) (c : ℕ) (cs : List ℕ) → is_in_word f (c ∷ cs) ≡ true → WordCharacter f c cs
 unfolding is_in_word
-word_character f c cs h = record {
-  no_nul = λ e. no (subst (λ x. (not (is_blank_or_breakz x) && can_be_plain f (x ∷ cs)) ≡ true) e h);
-  no_mark = λ e. no_bom (subst (λ x. (not (is_blank_or_breakz x) && can_be_plain f (x ∷ cs)) ≡ true) e h);
-  colon = λ e. colon_next f (slice_index cs 0)
-      (subst (λ x. (not (is_blank_or_breakz x) && can_be_plain f (x ∷ cs)) ≡ true) e h);
-  ink = by_parts (is_blank c) (is_break c) (is_z c) (can_be_plain f (c ∷ cs)) h;
-}
+word_character f c cs h =
+    let two = both_true (not (is_blank_or_breakz c)) (can_be_plain f (c ∷ cs)) h in
+    record {
+      no_nul = λ e. false≢true (subst (λ x. not (is_blank_or_breakz x) ≡ true) e two.0);
+      no_mark = λ e. false≢true (subst (λ x. can_be_plain f (x ∷ cs) ≡ true) e two.1);
+      colon = λ e. first_of (is_blank_or_breakz (slice_index cs 0)) (f && is_flow (slice_index cs 0))
+          (subst (λ x. can_be_plain f (x ∷ cs) ≡ true) e two.1);
+      ink = by_parts (is_blank c) (is_break c) (is_z c) two.0;
+    }
   where
-    no : false ≡ true → ⊥
-    no e = absurd (cc)
+    first_of : (a b : Bool) → not (a || b) ≡ true → a ≡ false
+    first_of false b x = refl
+    first_of true b x = absurd (false≢true x)
 
-    no_bom : false ≡ true → ⊥
-    no_bom e = absurd (cc)
-
-    colon_next : (f : Bool) (d : ℕ) → (true && not (is_blank_or_breakz d || (f && is_flow d))) ≡ true
-        → is_blank_or_breakz d ≡ false
-    colon_next f d e = first_of (is_blank_or_breakz d) (f && is_flow d) e
-      where
-        first_of : (a b : Bool) → (true && not (a || b)) ≡ true → a ≡ false
-        first_of false b x = refl
-        first_of true b x = absurd (cc)
-
-    by_parts : (a b z e : Bool) → (not (a || (b || z)) && e) ≡ true → (a || b) ≡ false
-    by_parts false false z e x = refl
-    by_parts true b z e x = absurd (cc)
-    by_parts false true z e x = absurd (cc)
+    by_parts : (a b z : Bool) → not (a || (b || z)) ≡ true → (a || b) ≡ false
+    by_parts false false z x = refl
+    by_parts true b z x = absurd (false≢true x)
+    by_parts false true z x = absurd (false≢true x)
 
 ink_line : (c : ℕ) (cs : List ℕ) → Ink c → ends_line c cs ≡ false
 ink_line c cs h = let no : is_break c ≡ false = second_of (is_blank c) (is_break c) h in rw no refl
