@@ -1,7 +1,7 @@
 -- The events of two texts that are the same up to a document marker.
 use Rattle.std.proofs.Common.{◌≡◌, ◌<◌, ℕ, Bool, true, false, List, [], ◌∷◌, ◌++◌, Option, Some, None, refl, sym, ap, ◌∙◌, subst, ◌⊎◌, inl, inr, length, slice_index, cond}
 use Rattle.std.specs.Prelude.{◌==◌}
-use Rattle.std.proofs.lemmas.List.{append_assoc, append-nil}
+use Rattle.std.proofs.lemmas.List.{append-nil}
 use Rattle.saphyr_input.specs.Indicators.{full_stop}
 use Rattle.saphyr_scalar.specs.declared.scalar.position.Span.{Span}
 use Rattle.saphyr_scalar.specs.declared.scalar.fault.Refusal.{Refusal}
@@ -18,6 +18,7 @@ use Rattle.event_laws.proofs.Longer.{More, longer}
 use Rattle.event_laws.proofs.Promises.CommonBeginnings.{IsLastToldBy, GoesOn, goes_on}
 use Rattle.event_laws.proofs.Promises.ClosedTokens.{ended_by, marker_ends, start}
 use Rattle.marker_laws.proofs.Between.{next_between}
+use Rattle.marker_laws.proofs.HandedTokens.{regrouped}
 use Rattle.marker_laws.specs.UpTo.{marker_kind, marker_piece, brackets_behind, brackets_behind_held, AlikeThrough}
 use Rattle.marker_laws.specs.UpTo as up_to
 use Rattle.marker_laws.specs.EventsUpTo.{answer_of_all, brackets_behind_all, before_all, BeginOutsideDocuments, EndWith, ComeFirst, own_event, AnswersAlike}
@@ -102,12 +103,6 @@ module _ (limit : ℕ) (v from : List ℕ) (keep : Bool) where
 
   w : (d : DocumentMarker) × IsMarker d kind
   w = marker_of from
-
-  -- tokens after the marker's
-  regrouped : (front : List Piece) (x : Piece) (r : Remaining)
-      → record { pieces = (front ++ x ∷ []) ++ r.pieces; refusal = r.refusal } ≡ before_all front (before x r)
-  regrouped front x r = ap (λ ts. let v : Remaining = record { pieces = ts; refusal = r.refusal } in v)
-      (append_assoc front (x ∷ []) r.pieces)
 
   behind : (front : List Piece) (line : ℕ) (r : Remaining) → let x = marker_piece (length v) line from in
       GoesOnFrom kind (answer_of_tokens keep (front ++ x ∷ [])) (answer_of_all keep (before_all front (before x r)))

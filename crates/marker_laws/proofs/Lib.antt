@@ -17,5 +17,8 @@ pub mod Markers
 pub mod OpenFlows
 pub mod Runs
 pub mod Through
+pub mod Longer
+pub mod HandedTokens
 pub mod Between
 pub mod Events
+pub mod EventsAsTheyCome

@@ -23,7 +23,7 @@ use Rattle.marker_laws.specs.Beside.{Ahead, Gives, refused, given, Cores, cores,
 use Rattle.marker_laws.specs.UpTo.{brackets_behind, marker_piece, Past, Reaches, starts, reads, hands, Fetched, on, marked, AlikeUpTo, same, token, marker}
 use Rattle.marker_laws.proofs.Ahead.{stands_at_line}
 use Rattle.marker_laws.proofs.Fetches.{holding}
-use Rattle.marker_laws.proofs.Markers.{read_same}
+use Rattle.marker_laws.proofs.Markers.{forgotten, read_same}
 use Rattle.marker_laws.proofs.OpenFlows.Steps.{start_same}
 use Rattle.marker_laws.proofs.OpenFlows.Held.{IsBalanced, read_balanced}
 
@@ -68,10 +68,10 @@ module _ (limit : ℕ) (v from : List ℕ) where
   marks (suc n) (suc m) k line s t a b comes opens h = marker n m line s t comes h opens
 
 -- so many characters of a text are read, and left
-abbrev counted : State → ℕ
+abbrev pub counted : State → ℕ
 counted s = s.core.cursor.mark.index + length s.core.cursor.rest
 
-counted_same : ReaderEnds → (limit : ℕ) (s t : State) → s.core.ended ≡ false → read limit s ≡ Ok t
+pub counted_same : ReaderEnds → (limit : ℕ) (s t : State) → s.core.ended ≡ false → read limit s ≡ Ok t
     → counted t ≡ counted s
 counted_same ends limit s t over e =
     ((given_of (effects.Fetched s) (read limit s) t (read_fetched limit s over) e).grows ends).ahead.counted
@@ -110,7 +110,7 @@ module _ (readers : Readers) (ends : ReaderEnds) (limit : ℕ) (v from : List �
       going _ _ (cores c {q = q} h) more k a b held here needs =
           both_by c.ended c.ended _ _ _ _ (AlikeUpTo limit v from k) refl (λ _ _. same none)
           (λ over _. after_same limit v from k _ _ (run n limit) (run m limit)
-          (read_same limit _ _ (states held (cores c h)))
+          (forgotten _ _ (read_same limit _ _ (states held (cores c h))))
           (λ s t i j f.
           let less = less_read readers limit (holding c held) s over i in
           let less_too = less_read readers limit (holding _ held) t over j in

@@ -3,7 +3,7 @@
 //! The functions are laws: they do nothing, and what matters is their proved clauses.
 #![tactic(auto)]
 
-ghost use Rattle.std.specs.Prelude.{◌≡◌, ℕ, Bool, true, false, List, [], ◌∷◌, ◌++◌, codes, slice_index};
+ghost use Rattle.std.specs.Prelude.{◌≡◌, ◌≤◌, ℕ, Bool, true, false, List, [], ◌∷◌, ◌++◌, codes, length, map, slice_index, None, Err};
 ghost use Rattle.saphyr_input.specs.Classes.{is_break};
 ghost use Rattle.saphyr_input.specs.declared.input.SkipTabs.{SkipTabs};
 ghost use Rattle.saphyr_scalar.specs.Views.Cursor.{Cursor, start_cursor, pass_break, pass_byte_order_mark, separation};
@@ -16,13 +16,22 @@ ghost use Rattle.saphyr_scalar.specs.Steps.Plain.{plain};
 ghost use Rattle.saphyr_scalar.specs.Steps.Block.{block_scalar};
 ghost use Rattle.saphyr_values.specs.declared.block.BlockStyle.{BlockStyle};
 ghost use Rattle.saphyr_scanner.specs.Grammar.Tokens.{StreamStart, StreamEnd, DocumentStart, FlowSequenceStart};
-ghost use Rattle.saphyr_scanner.specs.Steps.Fetch.{fetch_within};
+ghost use Rattle.saphyr_scanner.specs.Steps.Fetch.{fetch_within, needs_token};
 ghost use Rattle.saphyr_scanner.specs.Steps.Queue.{empty_piece};
-ghost use Rattle.saphyr_scanner.specs.Steps.Remaining.{scan, Scans};
+ghost use Rattle.saphyr_scanner.specs.Views.Tokens.{Piece, refusal_alone};
+ghost use Rattle.saphyr_scalar.specs.declared.scalar.fault.Refusal.{Refusal};
+ghost use Rattle.saphyr_scanner.specs.Steps.Remaining.{remaining, scan, Scans};
 ghost use Rattle.saphyr_scanner.specs.Steps.State.{State};
+ghost use Rattle.saphyr_scalar.specs.declared.scalar.position.Span.{Span};
+ghost use Rattle.saphyr_machine.specs.Events.{Happening};
+ghost use Rattle.saphyr_machine.specs.Steps.Machine.{Machine};
+ghost use Rattle.saphyr_machine.specs.Answer.{remaining_answer};
+ghost use Rattle.event_laws.specs.More.{with_more};
 ghost use Rattle.marker_laws.specs.Beside.{begins_line, Marked, Ahead, Stands, Beside, Before, Gives, Pairs, Triples, PlainReads, States, reading};
 ghost use Rattle.marker_laws.specs.UpTo.{AlikeThrough, AlikeUpTo, Fetched};
-ghost use Rattle.marker_laws.specs.EventsUpTo.{AnswersAlike};
+ghost use Rattle.marker_laws.specs.EventsUpTo.{AnswersAlike, answer_of_all, before_all};
+ghost use Rattle.marker_laws.specs.EventsAsTheyCome.{TellsTo, before_others, behind_events, with_tokens};
+ghost use Rattle.marker_laws.specs.GoesOn.{ScansTo, ScansAlike, extended_by, state_behind_token};
 
 use saphyr_scalar::scalar::{
     counts_each_block_scalar, reads_plain_values, spells_each_anchor, spells_each_directive,
@@ -110,6 +119,53 @@ pub fn gives_events_up_to_markers()
     scans_up_to_markers();
 }
 
+/// Let a scanner have read no token from behind a document marker. Whatever follows the marker, a scanner
+/// of that text comes to the same place, has handed out the same tokens and holds the same. So where more
+/// characters come, it goes on over them: the tokens that it has handed out come first in those of the
+/// longer text, and it hands out the others.
+pub fn goes_on_behind_markers()
+    ensures alike { (limit : ℕ) (v r q : List ℕ) → begins_line true v ≡ true → Marked r q
+        → (ts : List Piece) (s : State) → ScansTo limit (length v) (v ++ r) ts s
+        → ScansAlike limit v r q ts s }
+    ensures longer { (limit : ℕ) (v r more : List ℕ) → begins_line true v ≡ true → Marked r r
+        → (ts : List Piece) (s : State) → ScansTo limit (length v) (v ++ r) ts s
+        → ScansTo limit (length v) (v ++ r ++ more) ts (extended_by more s) }
+    ensures refused { (limit : ℕ) (v r more : List ℕ) → begins_line true v ≡ true → Marked r r
+        → (ts : List Piece) (s : State) (e : Refusal) → ScansTo limit (length v) (v ++ r) ts s
+        → needs_token s ≡ true → s.core.cursor.mark.index ≤ length v
+        → state_behind_token limit s ≡ Err e
+        → scan limit (v ++ r ++ more) ≡ before_all ts (refusal_alone e) }
+    ensures further { (limit stop later : ℕ) (text : List ℕ) → stop ≤ later
+        → (ts : List Piece) (s : State) → ScansTo limit stop text ts s
+        → ScansTo limit later text ts s }
+    ensures tokens { (limit stop : ℕ) (text : List ℕ) (ts : List Piece) (s : State)
+        → ScansTo limit stop text ts s → scan limit text ≡ before_all ts (remaining limit s) }
+{
+    takes_characters_off();
+    reads_plain_values();
+    spells_each_quoted();
+    counts_each_block_scalar();
+    spells_each_anchor();
+    spells_each_tag();
+    spells_each_directive();
+}
+
+/// Let a scanner have handed out tokens of a text, and a machine have told events of these tokens. The
+/// events of the text begin with them, and go on with those that the machine tells of what it has left
+/// and what is still to be scanned. So it is for a longer text, by the clause `longer` of
+/// `goes_on_behind_markers`.
+pub fn tells_events_as_tokens_come()
+    ensures first { (limit stop : ℕ) (keep : Bool) (text : List ℕ) (ts : List Piece) (s : State)
+        → ScansTo limit stop text ts s → (es : List (Happening × Span)) (m : Machine)
+        → TellsTo (with_tokens keep ts) es m → answer_of_all keep (scan limit text)
+        ≡ behind_events es (remaining_answer (before_others (remaining limit s) m)) }
+    ensures one_more { (keep : Bool) (ts us : List Piece) (es : List (Happening × Span)) (m : Machine)
+        → TellsTo (with_tokens keep ts) es m
+        → TellsTo (with_tokens keep (ts ++ us)) es (with_more us None m) }
+{
+    goes_on_behind_markers();
+}
+
 /// What begins with a marker, and what not: behind `---` a character is known, and behind `...` the
 /// rest of a line with its break, as a comment. A byte order mark ends no line, so the laws say
 /// nothing of a marker behind it.
@@ -121,6 +177,13 @@ pub fn tells_markers()
     ensures longer { (q : List ℕ) → ¬ Marked (codes "----\n") q }
     ensures line_alone { (q : List ℕ) → ¬ Marked (codes "... # c") q }
     ensures byte_order_mark { begins_line true (codes "\u{feff}") ≡ false }
+{}
+
+/// A scanner that may read up to a marker hands out the marker's token, and then needs the next one.
+pub fn comes_to_markers()
+    ensures { (ts : List Piece) × (s : State) × ScansTo 9 0 (codes "---\n") ts s
+        × (needs_token s ≡ true)
+        × (map (λ (t : Piece). t.kind) ts ≡ StreamStart ∷ DocumentStart ∷ []) }
 {}
 
 /// Behind a bracket the token of a marker waits, so that what follows decides whether it comes: it
