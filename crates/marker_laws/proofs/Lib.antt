@@ -22,3 +22,4 @@ pub mod HandedTokens
 pub mod Between
 pub mod Events
 pub mod EventsAsTheyCome
+pub mod Waiting

@@ -1,12 +1,14 @@
 -- The events that a machine has told of the tokens that came so far.
-use Rattle.std.specs.Prelude.{◌≡◌, Bool, List, [], ◌∷◌, ◌++◌, None, Ok}
+use Rattle.std.specs.Prelude.{◌≡◌, ◌⊎◌, Bool, List, [], ◌∷◌, ◌++◌, None, Ok}
 use Rattle.saphyr_scalar.specs.declared.scalar.position.Span.{Span}
 use Rattle.saphyr_scanner.specs.Views.Tokens.{Piece, Remaining}
+use Rattle.saphyr_machine.specs.declared.state.State.TheVariants as state
 use Rattle.saphyr_machine.specs.Events.{Happening}
 use Rattle.saphyr_machine.specs.Steps.Machine.{Machine, Told, fresh_machine}
 use Rattle.saphyr_machine.specs.Steps.Expected.{event_step}
 use Rattle.saphyr_machine.specs.Answer.{Answer}
-use Rattle.event_laws.specs.More.{with_more}
+use Rattle.event_laws.specs.More.{marker_token, with_more}
+use Rattle.event_laws.specs.Premises.{DocumentMarker}
 
 -- a machine that has told nothing, with these tokens so far; `keep` tells whether prefixes of tags are kept
 abbrev pub with_tokens : Bool → List Piece → Machine
@@ -19,6 +21,14 @@ before_others r m = with_more r.pieces r.refusal m
 -- these events, and then those of the answer
 abbrev pub behind_events : List (Happening × Span) → Answer → Answer
 behind_events es a = record { events = es ++ a.events; fault = a.fault }
+
+-- tokens of which the last is the marker's
+abbrev pub EndWithMarker : DocumentMarker → List Piece → Type 0
+EndWithMarker w ts = (front : List Piece) × (x : Piece) × (ts ≡ front ++ x ∷ []) × (x.kind ≡ marker_token w)
+
+-- no document is open
+abbrev pub IsOutside : Machine → Type 0
+IsOutside m = (m.state ≡ state.ImplicitDocumentStart) ⊎ (m.state ≡ state.DocumentStart)
 
 -- A machine tells these events, and is then this one.
 pub data TellsTo (m : Machine) : List (Happening × Span) → Machine → Type 0 where

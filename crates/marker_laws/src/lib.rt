@@ -3,7 +3,7 @@
 //! The functions are laws: they do nothing, and what matters is their proved clauses.
 #![tactic(auto)]
 
-ghost use Rattle.std.specs.Prelude.{◌≡◌, ◌≤◌, ℕ, Bool, true, false, List, [], ◌∷◌, ◌++◌, codes, length, map, slice_index, None, Err};
+ghost use Rattle.std.specs.Prelude.{◌≡◌, ◌≤◌, ℕ, Bool, true, false, List, [], ◌∷◌, ◌++◌, codes, length, map, slice_index, Option, None, Ok, Err, ◌⊎◌, ◌≢◌};
 ghost use Rattle.saphyr_input.specs.Classes.{is_break};
 ghost use Rattle.saphyr_input.specs.declared.input.SkipTabs.{SkipTabs};
 ghost use Rattle.saphyr_scalar.specs.Views.Cursor.{Cursor, start_cursor, pass_break, pass_byte_order_mark, separation};
@@ -24,13 +24,16 @@ ghost use Rattle.saphyr_scanner.specs.Steps.Remaining.{remaining, scan, Scans};
 ghost use Rattle.saphyr_scanner.specs.Steps.State.{State};
 ghost use Rattle.saphyr_scalar.specs.declared.scalar.position.Span.{Span};
 ghost use Rattle.saphyr_machine.specs.Events.{Happening};
-ghost use Rattle.saphyr_machine.specs.Steps.Machine.{Machine};
+ghost use Rattle.saphyr_machine.specs.Steps.Machine.{Machine, Told};
+ghost use Rattle.saphyr_machine.specs.Steps.Expected.{event_step};
+ghost use Rattle.saphyr_machine.specs.declared.state.State.TheVariants.{End};
+ghost use Rattle.event_laws.specs.Premises.{DocumentMarker, Ends, marker_event};
 ghost use Rattle.saphyr_machine.specs.Answer.{remaining_answer};
 ghost use Rattle.event_laws.specs.More.{with_more};
 ghost use Rattle.marker_laws.specs.Beside.{begins_line, Marked, Ahead, Stands, Beside, Before, Gives, Pairs, Triples, PlainReads, States, reading};
 ghost use Rattle.marker_laws.specs.UpTo.{AlikeThrough, AlikeUpTo, Fetched};
 ghost use Rattle.marker_laws.specs.EventsUpTo.{AnswersAlike, answer_of_all, before_all};
-ghost use Rattle.marker_laws.specs.EventsAsTheyCome.{TellsTo, before_others, behind_events, with_tokens};
+ghost use Rattle.marker_laws.specs.EventsAsTheyCome.{EndWithMarker, IsOutside, TellsTo, before_others, behind_events, with_tokens};
 ghost use Rattle.marker_laws.specs.GoesOn.{ScansTo, ScansAlike, extended_by, state_behind_token};
 
 use saphyr_scalar::scalar::{
@@ -165,6 +168,19 @@ pub fn tells_events_as_tokens_come()
 {
     goes_on_behind_markers();
 }
+
+/// Let the last token of a machine be a marker's. A step that tells an event leaves this token, or the
+/// event is the marker's own and no token is left. A step that is refused is refused whatever tokens
+/// follow; but if the marker is `...` and no document is open, it may want the next token.
+pub fn waits_behind_markers()
+    ensures told { (w : DocumentMarker) (m : Machine) (x : Told) → EndWithMarker w m.tokens.pieces
+        → event_step m ≡ Ok x → EndWithMarker w x.machine.tokens.pieces
+        ⊎ ((x.machine.tokens.pieces ≡ []) × (x.what ≡ marker_event w)) }
+    ensures refused { (w : DocumentMarker) (m : Machine) (e : Refusal) (us : List Piece)
+        (r : Option Refusal) → m.state ≢ End → EndWithMarker w m.tokens.pieces
+        → event_step m ≡ Err e
+        → (event_step (with_more us r m) ≡ Err e) ⊎ ((w ≡ Ends) × IsOutside m) }
+{}
 
 /// What begins with a marker, and what not: behind `---` a character is known, and behind `...` the
 /// rest of a line with its break, as a comment. A byte order mark ends no line, so the laws say
