@@ -19,6 +19,7 @@ use Rattle.event_laws.proofs.Promises.CommonBeginnings.{IsLastToldBy, GoesOn, go
 use Rattle.event_laws.proofs.Promises.ClosedTokens.{ended_by, marker_ends, start}
 use Rattle.marker_laws.proofs.Between.{next_between}
 use Rattle.marker_laws.proofs.HandedTokens.{regrouped}
+use Rattle.marker_laws.proofs.Outside.{nothing_left}
 use Rattle.marker_laws.specs.UpTo.{marker_kind, marker_piece, brackets_behind, brackets_behind_held, AlikeThrough}
 use Rattle.marker_laws.specs.UpTo as up_to
 use Rattle.marker_laws.specs.EventsUpTo.{answer_of_all, brackets_behind_all, before_all, BeginOutsideDocuments, EndWith, ComeFirst, own_event, AnswersAlike}
@@ -55,10 +56,6 @@ one_more : (front : List Piece) (t : Piece) (n : ℕ)
 one_more [] t n = refl
 one_more (s ∷ ts) t n = one_more ts t (brackets_behind s n)
 
-none_left : (ts : List Piece) (x : Piece) → ts ++ x ∷ [] ≡ [] → ⊥
-none_left [] x e = cc
-none_left (t ∷ ts) x e = cc
-
 own : (w : DocumentMarker) (kind : Kind) (es os : List (Happening × Span)) (s : Span) → IsMarker w kind
     → es ≡ os ++ (marker_event w, s) ∷ [] → EndWith (own_event kind) es
 own Starts kind es os s i h = rw i (os, s, h)
@@ -78,7 +75,7 @@ module _ (keep : Bool) (w : DocumentMarker) (ts us : List Piece) (x : Piece) (e 
         ⊎ ((x.kind ≡ tokens.DocumentEnd) × BeginOutsideDocuments (remaining_answer (longer z k)).events)
     ends_so k es (inl (inl h)) = absurd h
     ends_so k es (inl (inr h)) = inr (is ∙ ap more_tokens.marker_token h.0, next_between (longer z k) h.1)
-    ends_so k es (inr (inl h)) = absurd (none_left ts x h.0)
+    ends_so k es (inr (inl h)) = absurd (nothing_left ts x h.0)
     ends_so k es (inr (inr h)) = inl (own w x.kind es h.0 h.1 is h.2)
 
     goes_so : (a b : Answer) → GoesOn z None m a b → GoesOnFrom x.kind a b

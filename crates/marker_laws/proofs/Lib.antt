@@ -22,4 +22,5 @@ pub mod HandedTokens
 pub mod Between
 pub mod Events
 pub mod EventsAsTheyCome
+pub mod Outside
 pub mod Waiting

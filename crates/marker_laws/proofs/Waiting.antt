@@ -13,7 +13,8 @@ use Rattle.event_laws.specs.More.{marker_token, with_more}
 use Rattle.event_laws.proofs.Beside.Documents.{IsBetweenDocuments}
 use Rattle.event_laws.proofs.Longer.{End, IsLastOr, AgreesOrEndsEarly, PassesAll, steps_agree}
 use Rattle.event_laws.proofs.Promises.ClosedTokens.{ended_by, marker_ends}
-use Rattle.marker_laws.specs.EventsAsTheyCome.{EndWithMarker, IsOutside}
+use Rattle.marker_laws.proofs.Outside.{first_kept, refused_outside}
+use Rattle.marker_laws.specs.EventsAsTheyCome.{ArePassed, EndWithMarker, IsOutside}
 
 behind_first : (w : DocumentMarker) (t : Piece) (ts : List Piece) → EndWithMarker w ts → EndWithMarker w (t ∷ ts)
 behind_first w t ts (front, x, e, is) = (t ∷ front, x, ap (λ us. t ∷ us) e, is)
@@ -84,18 +85,24 @@ module _ (w : DocumentMarker) (us : List Piece) (e : Option Refusal) (m : Machin
   refused_of f (Err g) q is (inl a) = absurd a.0
   refused_of f (Err g) q is (inr a) = a ∙ is
 
-  refused_behind : (f : Refusal) → event_step_at m.state m ≡ Err f → Agree
-      → (event_step_at m.state (with_more us e m) ≡ Err f) ⊎ ((w ≡ Ends) × IsOutside m)
-  refused_behind f is (inl a) = inl (refused_of f _ _ is a)
-  refused_behind f is (inr p) = inr (p.1.0, outside m.state p.0)
-
 pub told_waits : (w : DocumentMarker) (m : Machine) (x : Told) → EndWithMarker w m.tokens.pieces → event_step m ≡ Ok x
     → EndWithMarker w x.machine.tokens.pieces ⊎ ((x.machine.tokens.pieces ≡ []) × (x.what ≡ marker_event w))
 unfolding event_step
 told_waits w m x h is = left_behind w [] None m x is (agree w [] None m (not_ended m.state m x is) h)
 
+refused_behind : (w : DocumentMarker) (m : Machine) (f : Refusal) (us : List Piece) (e : Option Refusal)
+    → event_step_at m.state m ≡ Err f → EndWithMarker w m.tokens.pieces → Agree w us e m
+    → (event_step_at m.state (with_more us e m) ≡ Err f)
+    ⊎ ((w ≡ Ends) × IsOutside m × ArePassed m.tokens.pieces)
+refused_behind w m f us e is h (inl a) = inl (refused_of w us e m f _ _ is a)
+refused_behind w m f us e is h (inr p) =
+    elim (first_kept m.tokens.pieces) [
+      | inl k ↦ inr (p.1.0, outside m.state p.0, k)
+      | inr k ↦ inl (refused_outside us e w m.state m f p.0 k h is)
+    ]
+
 pub refused_waits : (w : DocumentMarker) (m : Machine) (f : Refusal) (us : List Piece) (e : Option Refusal)
     → m.state ≢ state.End → EndWithMarker w m.tokens.pieces → event_step m ≡ Err f
-    → (event_step (with_more us e m) ≡ Err f) ⊎ ((w ≡ Ends) × IsOutside m)
+    → (event_step (with_more us e m) ≡ Err f) ⊎ ((w ≡ Ends) × IsOutside m × ArePassed m.tokens.pieces)
 unfolding event_step
-refused_waits w m f us e on h is = refused_behind w us e m f is (agree w us e m on h)
+refused_waits w m f us e on h is = refused_behind w m f us e is h (agree w us e m on h)

@@ -1,10 +1,11 @@
 -- The events that a machine has told of the tokens that came so far.
-use Rattle.std.specs.Prelude.{◌≡◌, ◌⊎◌, Bool, List, [], ◌∷◌, ◌++◌, None, Ok}
+use Rattle.std.specs.Prelude.{◌≡◌, ◌⊎◌, Bool, true, List, [], ◌∷◌, ◌++◌, None, Ok}
 use Rattle.saphyr_scalar.specs.declared.scalar.position.Span.{Span}
 use Rattle.saphyr_scanner.specs.Views.Tokens.{Piece, Remaining}
 use Rattle.saphyr_machine.specs.declared.state.State.TheVariants as state
 use Rattle.saphyr_machine.specs.Events.{Happening}
 use Rattle.saphyr_machine.specs.Steps.Machine.{Machine, Told, fresh_machine}
+use Rattle.saphyr_machine.specs.Steps.Documents.{is_end_or_mark}
 use Rattle.saphyr_machine.specs.Steps.Expected.{event_step}
 use Rattle.saphyr_machine.specs.Answer.{Answer}
 use Rattle.event_laws.specs.More.{marker_token, with_more}
@@ -29,6 +30,11 @@ EndWithMarker w ts = (front : List Piece) × (x : Piece) × (ts ≡ front ++ x �
 -- no document is open
 abbrev pub IsOutside : Machine → Type 0
 IsOutside m = (m.state ≡ state.ImplicitDocumentStart) ⊎ (m.state ≡ state.DocumentStart)
+
+-- these are ends of documents and byte order marks, which are passed outside documents
+abbrev pub ArePassed : List Piece → Type 0
+ArePassed [] = Unit {0}
+ArePassed (t ∷ ts) = (is_end_or_mark t.kind ≡ true) × ArePassed ts
 
 -- A machine tells these events, and is then this one.
 pub data TellsTo (m : Machine) : List (Happening × Span) → Machine → Type 0 where

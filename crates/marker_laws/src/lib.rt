@@ -33,7 +33,7 @@ ghost use Rattle.event_laws.specs.More.{with_more};
 ghost use Rattle.marker_laws.specs.Beside.{begins_line, Marked, Ahead, Stands, Beside, Before, Gives, Pairs, Triples, PlainReads, States, reading};
 ghost use Rattle.marker_laws.specs.UpTo.{AlikeThrough, AlikeUpTo, Fetched};
 ghost use Rattle.marker_laws.specs.EventsUpTo.{AnswersAlike, answer_of_all, before_all};
-ghost use Rattle.marker_laws.specs.EventsAsTheyCome.{EndWithMarker, IsOutside, TellsTo, before_others, behind_events, with_tokens};
+ghost use Rattle.marker_laws.specs.EventsAsTheyCome.{ArePassed, EndWithMarker, IsOutside, TellsTo, before_others, behind_events, with_tokens};
 ghost use Rattle.marker_laws.specs.GoesOn.{ScansTo, ScansAlike, extended_by, state_behind_token};
 
 use saphyr_scalar::scalar::{
@@ -162,8 +162,8 @@ pub fn tells_events_as_tokens_come()
         → ScansTo limit stop text ts s → (es : List (Happening × Span)) (m : Machine)
         → TellsTo (with_tokens keep ts) es m → answer_of_all keep (scan limit text)
         ≡ behind_events es (remaining_answer (before_others (remaining limit s) m)) }
-    ensures one_more { (keep : Bool) (ts us : List Piece) (es : List (Happening × Span)) (m : Machine)
-        → TellsTo (with_tokens keep ts) es m
+    ensures one_more { (keep : Bool) (ts us : List Piece) (es : List (Happening × Span))
+        (m : Machine) → TellsTo (with_tokens keep ts) es m
         → TellsTo (with_tokens keep (ts ++ us)) es (with_more us None m) }
 {
     goes_on_behind_markers();
@@ -171,7 +171,7 @@ pub fn tells_events_as_tokens_come()
 
 /// Let the last token of a machine be a marker's. A step that tells an event leaves this token, or the
 /// event is the marker's own and no token is left. A step that is refused is refused whatever tokens
-/// follow; but if the marker is `...` and no document is open, it may want the next token.
+/// follow; but if no document is open and all tokens are `...` and byte order marks, it wants the next.
 pub fn waits_behind_markers()
     ensures told { (w : DocumentMarker) (m : Machine) (x : Told) → EndWithMarker w m.tokens.pieces
         → event_step m ≡ Ok x → EndWithMarker w x.machine.tokens.pieces
@@ -179,7 +179,8 @@ pub fn waits_behind_markers()
     ensures refused { (w : DocumentMarker) (m : Machine) (e : Refusal) (us : List Piece)
         (r : Option Refusal) → m.state ≢ End → EndWithMarker w m.tokens.pieces
         → event_step m ≡ Err e
-        → (event_step (with_more us r m) ≡ Err e) ⊎ ((w ≡ Ends) × IsOutside m) }
+        → (event_step (with_more us r m) ≡ Err e) ⊎ ((w ≡ Ends) × IsOutside m
+        × ArePassed m.tokens.pieces) }
 {}
 
 /// What begins with a marker, and what not: behind `---` a character is known, and behind `...` the
