@@ -1,5 +1,5 @@
 -- Where tokens are changes nothing of the events but their spans.
-use Rattle.std.proofs.Common.{◌≡◌, ◌≢◌, map, None, Result, Ok, Err, refl, ap, ◌⊎◌, inl, inr}
+use Rattle.std.proofs.Common.{◌≡◌, ◌≢◌, map, None, Result, Ok, Err, refl, ap, subst, inl, inr}
 use Rattle.saphyr_scalar.specs.declared.scalar.position.Marker.{Marker}
 use Rattle.saphyr_scalar.specs.declared.scalar.position.Span.{Span}
 use Rattle.saphyr_scalar.specs.declared.scalar.fault.Refusal.{Refusal}
@@ -9,10 +9,12 @@ use Rattle.saphyr_scanner.specs.Views.Tokens.{Piece, Remaining}
 use Rattle.saphyr_machine.specs.declared.state.State.{State}
 use Rattle.saphyr_machine.specs.declared.state.State.TheVariants as state
 use Rattle.saphyr_machine.specs.Steps.Machine.{Machine, Told}
-use Rattle.saphyr_machine.specs.Steps.Expected.{event_step_at}
+use Rattle.saphyr_machine.specs.Steps.Expected.{event_step, event_step_at}
+use Rattle.saphyr_machine.specs.Calls.{LeavesEnd}
 use Rattle.saphyr_machine.specs.Events.{Happening}
+use Rattle.saphyr_machine.proofs.Calls.Handing.{goes_on}
 use Rattle.event_laws.proofs.Beside.Machines.{Beside, Behind, Left, TellsAlike}
-use Rattle.event_laws.proofs.Beside.Documents.{steps_beside, IsBetweenDocuments, PassedAll}
+use Rattle.event_laws.proofs.Beside.Documents.{steps_alike}
 use Rattle.event_laws.proofs.Beside.Maps.{placed, expected, puts, becomes, tells_so}
 
 -- ## Machines without places
@@ -91,19 +93,25 @@ told_same (Err f) (Ok y) (inl e) = absurd e
 told_same (Err f) (Ok y) (inr e) = absurd e
 told_same (Err f) (Err g) h = (g, refl)
 
-others_same : (s : State) (m : Machine) → s ≢ state.End
-    → Same (event_step_at s m) (event_step_at (placeless_state s) (placeless m))
-others_same s m on =
-    by (steps_beside without_places s (placeless_state s) m (placeless m)
+beside_placeless : (s : State) (m : Machine) → s ≢ state.End
+    → TellsAlike without_places (event_step_at s m) (event_step_at (placeless_state s) (placeless m))
+beside_placeless s m on =
+    steps_alike without_places (λ r q o. o) s (placeless_state s) m (placeless m)
     (expected without_places (λ p. no_place) (λ p. refl) s) on (λ e b c k. k)
-    (puts without_places _ (λ p. no_place) (placeless_tokens m.tokens) m.keep_tags m (λ p. refl) refl refl))
-  where
-    by : TellsAlike without_places (event_step_at s m) (event_step_at (placeless_state s) (placeless m))
-        ⊎ (IsBetweenDocuments s × PassedAll without_places m (placeless m) (event_step_at s))
-        → Same (event_step_at s m) (event_step_at (placeless_state s) (placeless m))
-    by (inl h) = told_same _ _ h
-    by (inr (i, p)) = absurd p.2.tokens
+    (puts without_places _ (λ p. no_place) (placeless_tokens m.tokens) m.keep_tags m (λ p. refl) refl refl)
 
 pub steps_same : (s : State) (m : Machine) → Same (event_step_at s m) (event_step_at (placeless_state s) (placeless m))
 steps_same state.End m = (_, refl)
-steps_same s m = others_same s m (λ e. absurd (cc))
+steps_same s m = told_same _ _ (beside_placeless s m (λ e. absurd (cc)))
+
+-- a step that tells the end of the stream ends the machine
+pub closes : (m : Machine) (x : Told) → event_step m ≡ Ok x → LeavesEnd x.what x.machine.state
+unfolding event_step
+closes m x e =
+    let P : Result Told Refusal → Type 0 = λ p. TellsAlike without_places p
+    (event_step_at (placeless_state m.state) (placeless m)) in
+    by _ (subst P e (beside_placeless m.state m (goes_on m x e)))
+  where
+    by : (q : Result Told Refusal) → TellsAlike without_places (Ok x) q → LeavesEnd x.what x.machine.state
+    by (Ok y) h = h.closes
+    by (Err g) h = absurd h

@@ -1,6 +1,6 @@
 -- Whether prefixes of tags are kept counts at the end of a document alone: every other step leaves the same with
 -- each value.
-use Rattle.std.proofs.Common.{◌≡◌, ◌≢◌, Bool, Option, Some, None, Result, Ok, Err, refl, ap, ◌∙◌, subst, ◌⊎◌, inl, inr}
+use Rattle.std.proofs.Common.{◌≡◌, ◌≢◌, Bool, Option, Some, None, Result, Ok, Err, refl, ap, ◌∙◌, subst, inl, inr}
 use Rattle.saphyr_scalar.specs.declared.scalar.position.Span.{Span}
 use Rattle.saphyr_scalar.specs.declared.scalar.fault.Refusal.{Refusal}
 use Rattle.saphyr_scanner.specs.Grammar.Tokens as tokens
@@ -17,7 +17,7 @@ use Rattle.saphyr_machine.specs.Cursor.{EventCursor, Kept, keeping_tags}
 use Rattle.saphyr_machine.specs.Calls.{Advances}
 use Rattle.event_laws.specs.Settings.{with_keep_tags, with_setting}
 use Rattle.event_laws.proofs.Beside.Machines.{Beside, Behind, Left, TellsAlike}
-use Rattle.event_laws.proofs.Beside.Documents.{IsBetweenDocuments, PassedAll, steps_beside}
+use Rattle.event_laws.proofs.Beside.Documents.{steps_alike}
 use Rattle.event_laws.proofs.Beside.Maps.{becomes, tells_so, stay, still_expected, leaves}
 
 -- ## All steps
@@ -63,22 +63,13 @@ set_same b (Err f) (Ok y) (inr e) = absurd e
 set_same b (Err f) (Err g) (inl e) = absurd e
 set_same b (Err f) (Err g) (inr e) = rw e refl
 
-others_at : (b : Bool) (s : State) (m : Machine) → s ≢ state.End → s ≢ state.DocumentEnd
-    → event_step_at s (with_keep_tags b m) ≡ with_setting b (event_step_at s m)
-others_at b s m on other =
-    by (steps_beside (with_set b) s s m (with_keep_tags b m) (still_expected (with_set b) (λ p. refl) s) on
-    (λ e. absurd (other e)) (leaves (with_set b) _ m.tokens b m (λ p. refl) refl refl))
-  where
-    by : TellsAlike (with_set b) (event_step_at s m) (event_step_at s (with_keep_tags b m))
-        ⊎ (IsBetweenDocuments s × PassedAll (with_set b) m (with_keep_tags b m) (event_step_at s))
-        → event_step_at s (with_keep_tags b m) ≡ with_setting b (event_step_at s m)
-    by (inl h) = set_same b _ _ h
-    by (inr (i, p)) = absurd p.2.tokens
-
 sets_at : (b : Bool) (s : State) (m : Machine) → s ≢ state.DocumentEnd
     → event_step_at s (with_keep_tags b m) ≡ with_setting b (event_step_at s m)
 sets_at b state.End m other = refl
-sets_at b s m other = others_at b s m (λ e. absurd (cc)) other
+sets_at b s m other =
+    set_same b _ _ (steps_alike (with_set b) (λ r q o. o) s s m (with_keep_tags b m)
+    (still_expected (with_set b) (λ p. refl) s) (λ e. absurd (cc)) (λ e. absurd (other e))
+    (leaves (with_set b) _ m.tokens b m (λ p. refl) refl refl))
 
 -- each step but that at the end of a document
 pub sets : (b : Bool) (m : Machine) → m.state ≢ state.DocumentEnd

@@ -25,211 +25,151 @@ module _ (w : Beside) where
   abbrev TokenBeside : (Kind → Piece → Machine → Result Told Refusal) → Type 0
   TokenBeside go = AtBoth w (Alike w) go go
 
-  abbrev StepBesideAt : (Span → Machine → Result Told Refusal) → Type 0
-  StepBesideAt go = (s r : Span) → SpansAlike w s r → Both w (Alike w) (go s) (go r)
-
   abbrev TokenBesideAt : (Kind → Span → Piece → Machine → Result Told Refusal) → Type 0
   TokenBesideAt go = (s r : Span) → SpansAlike w s r → AtBoth w (Alike w) (λ k. go k s) (λ k. go k r)
 
-  take : (go : Kind → Piece → Machine → Result Told Refusal) → TokenBeside go
+  pub take : (go : Kind → Piece → Machine → Result Told Refusal) → TokenBeside go
       → StepBeside (λ m. taken_token m >>= (λ t. go t.0.kind t.0 t.1))
   take go h m n near = taken w (Alike w) go go m n near h
 
-  take_at : (go : Kind → Span → Piece → Machine → Result Told Refusal) → TokenBesideAt go
-      → StepBesideAt (λ s m. taken_token m >>= (λ t. go t.0.kind s t.0 t.1))
+  -- the token before one has these spans
+  take_at : (go : Kind → Span → Piece → Machine → Result Told Refusal) → TokenBesideAt go → (s r : Span)
+      → SpansAlike w s r
+      → Both w (Alike w) (λ m. taken_token m >>= (λ t. go t.0.kind s t.0 t.1))
+      (λ m. taken_token m >>= (λ t. go t.0.kind r t.0 t.1))
   take_at go h s r e m n near = taken w (Alike w) (λ k. go k s) (λ k. go k r) m n near (h s r e)
 
-  goes_inside_beside : (x y : State) (c : NodeContext) (k : Kind) (t u : Piece) (m n : Machine) → Expected w x y
+  inside : (x y : State) (c : NodeContext) {k : Kind} {t u : Piece} {m n : Machine} → Expected w x y
       → Held w k t u m n → TellsAlike w (node_inside x c t m) (node_inside y c u n)
-  goes_inside_beside x y c k t u m n i h = node_beside w c k t u (push x m) (push y n) (holds w x y k t u m n i h)
+  inside x y c {k} {t} {u} {m} {n} i h =
+      node_beside w c k t u (push x m) (push y n) (holds w x y k t u m n i h)
 
-  leaves_out_beside : (x y : State) (s r : Span) (k : Kind) (t u : Piece) (m n : Machine) → Expected w x y
+  leaves_out : (x y : State) {s r : Span} {k : Kind} {t u : Piece} {m n : Machine} → Expected w x y
       → SpansAlike w s r → Held w k t u m n → TellsAlike w (left_out_event t x s m) (left_out_event u y r n)
-  leaves_out_beside x y s r k t u m n i e h = enters_told w _ x y s r (put_back t m) (put_back u n) i e h.back
+  leaves_out x y {s} {r} {k} {t} {u} {m} {n} i e h =
+      enters_told w _ x y s r (put_back t m) (put_back u n) i e h.back tt
 
-  sequence_node_at_beside : TokenBesideAt block.block_sequence_node_at
-  sequence_node_at_beside s r e tokens.BlockEntry t u m n h = leaves_out_beside _ _ s r _ t u m n refl e h
-  sequence_node_at_beside s r e tokens.BlockEnd t u m n h = leaves_out_beside _ _ s r _ t u m n refl e h
-  sequence_node_at_beside s r e k t u m n h = goes_inside_beside _ _ Block k t u m n refl h
+  -- ## Block collections
 
-  pub sequence_node_beside : StepBesideAt block.block_sequence_node
+  sequence_nodes : TokenBesideAt block.block_sequence_node_at
+  sequence_nodes s r e tokens.BlockEntry t u m n h = leaves_out _ _ refl e h
+  sequence_nodes s r e tokens.BlockEnd t u m n h = leaves_out _ _ refl e h
+  sequence_nodes s r e k t u m n h = inside _ _ Block refl h
+
+  pub sequence_entries : TokenBeside block.block_sequence_entry_at
   unfolding block.block_sequence_node
-  sequence_node_beside = take_at block.block_sequence_node_at sequence_node_at_beside
+  sequence_entries tokens.BlockEnd t u m n h = tells_end w _ t.span u.span m n h.span h.behind tt
+  sequence_entries tokens.BlockEntry t u m n h =
+      take_at block.block_sequence_node_at sequence_nodes t.span u.span h.span m n h.behind
+  sequence_entries k t u m n h = refuses w _ t u h.span
 
-  sequence_entry_at_beside : TokenBeside block.block_sequence_entry_at
-  sequence_entry_at_beside tokens.BlockEnd t u m n h = tells_end w _ t.span u.span m n h.span h.behind
-  sequence_entry_at_beside tokens.BlockEntry t u m n h = sequence_node_beside t.span u.span h.span m n h.behind
-  sequence_entry_at_beside k t u m n h = refuses w _ t u h.span
+  indentless_nodes : TokenBesideAt block.indentless_sequence_node_at
+  indentless_nodes s r e tokens.BlockEntry t u m n h = leaves_out _ _ refl e h
+  indentless_nodes s r e tokens.Key t u m n h = leaves_out _ _ refl e h
+  indentless_nodes s r e tokens.Value t u m n h = leaves_out _ _ refl e h
+  indentless_nodes s r e tokens.BlockEnd t u m n h = leaves_out _ _ refl e h
+  indentless_nodes s r e k t u m n h = inside _ _ Block refl h
 
-  pub sequence_entry_beside : StepBeside block.block_sequence_entry
-  unfolding block.block_sequence_entry
-  sequence_entry_beside = take block.block_sequence_entry_at sequence_entry_at_beside
-
-  indentless_node_at_beside : TokenBesideAt block.indentless_sequence_node_at
-  indentless_node_at_beside s r e tokens.BlockEntry t u m n h = leaves_out_beside _ _ s r _ t u m n refl e h
-  indentless_node_at_beside s r e tokens.Key t u m n h = leaves_out_beside _ _ s r _ t u m n refl e h
-  indentless_node_at_beside s r e tokens.Value t u m n h = leaves_out_beside _ _ s r _ t u m n refl e h
-  indentless_node_at_beside s r e tokens.BlockEnd t u m n h = leaves_out_beside _ _ s r _ t u m n refl e h
-  indentless_node_at_beside s r e k t u m n h = goes_inside_beside _ _ Block k t u m n refl h
-
-  pub indentless_node_beside : StepBesideAt block.indentless_sequence_node
+  pub indentless_entries : TokenBeside block.indentless_sequence_entry_at
   unfolding block.indentless_sequence_node
-  indentless_node_beside = take_at block.indentless_sequence_node_at indentless_node_at_beside
+  indentless_entries tokens.BlockEntry t u m n h =
+      take_at block.indentless_sequence_node_at indentless_nodes t.span u.span h.span m n h.behind
+  indentless_entries k t u m n h = tells_end w _ t.span u.span (put_back t m) (put_back u n) h.span h.back tt
 
-  indentless_entry_at_beside : TokenBeside block.indentless_sequence_entry_at
-  indentless_entry_at_beside tokens.BlockEntry t u m n h = indentless_node_beside t.span u.span h.span m n h.behind
-  indentless_entry_at_beside k t u m n h = tells_end w _ t.span u.span (put_back t m) (put_back u n) h.span h.back
+  key_nodes : TokenBeside block.block_key_node_at
+  key_nodes tokens.Key t u m n h = leaves_out _ _ refl h.span h
+  key_nodes tokens.Value t u m n h = leaves_out _ _ refl h.span h
+  key_nodes tokens.BlockEnd t u m n h = leaves_out _ _ refl h.span h
+  key_nodes k t u m n h = inside _ _ BlockMapping refl h
 
-  pub indentless_entry_beside : StepBeside block.indentless_sequence_entry
-  unfolding block.indentless_sequence_entry
-  indentless_entry_beside = take block.indentless_sequence_entry_at indentless_entry_at_beside
-
-  key_node_at_beside : TokenBeside block.block_key_node_at
-  key_node_at_beside tokens.Key t u m n h = leaves_out_beside _ _ t.span u.span _ t u m n refl h.span h
-  key_node_at_beside tokens.Value t u m n h = leaves_out_beside _ _ t.span u.span _ t u m n refl h.span h
-  key_node_at_beside tokens.BlockEnd t u m n h = leaves_out_beside _ _ t.span u.span _ t u m n refl h.span h
-  key_node_at_beside k t u m n h = goes_inside_beside _ _ BlockMapping k t u m n refl h
-
-  pub key_node_beside : StepBeside block.block_key_node
+  pub mapping_keys : TokenBeside block.block_mapping_key_at
   unfolding block.block_key_node
-  key_node_beside = take block.block_key_node_at key_node_at_beside
+  mapping_keys tokens.Key t u m n h = take block.block_key_node_at key_nodes m n h.behind
+  mapping_keys tokens.Value t u m n h = leaves_out _ _ refl h.span h
+  mapping_keys tokens.BlockEnd t u m n h = tells_end w _ t.span u.span m n h.span h.behind tt
+  mapping_keys k t u m n h = refuses w _ t u h.span
 
-  mapping_key_at_beside : TokenBeside block.block_mapping_key_at
-  mapping_key_at_beside tokens.Key t u m n h = key_node_beside m n h.behind
-  mapping_key_at_beside tokens.Value t u m n h = leaves_out_beside _ _ t.span u.span _ t u m n refl h.span h
-  mapping_key_at_beside tokens.BlockEnd t u m n h = tells_end w _ t.span u.span m n h.span h.behind
-  mapping_key_at_beside k t u m n h = refuses w _ t u h.span
+  value_nodes : TokenBesideAt block.block_value_node_at
+  value_nodes s r e tokens.Key t u m n h = leaves_out _ _ refl e h
+  value_nodes s r e tokens.Value t u m n h = leaves_out _ _ refl e h
+  value_nodes s r e tokens.BlockEnd t u m n h = leaves_out _ _ refl e h
+  value_nodes s r e k t u m n h = inside _ _ BlockMapping refl h
 
-  pub mapping_key_beside : StepBeside block.block_mapping_key
-  unfolding block.block_mapping_key
-  mapping_key_beside = take block.block_mapping_key_at mapping_key_at_beside
-
-  value_node_at_beside : TokenBesideAt block.block_value_node_at
-  value_node_at_beside s r e tokens.Key t u m n h = leaves_out_beside _ _ s r _ t u m n refl e h
-  value_node_at_beside s r e tokens.Value t u m n h = leaves_out_beside _ _ s r _ t u m n refl e h
-  value_node_at_beside s r e tokens.BlockEnd t u m n h = leaves_out_beside _ _ s r _ t u m n refl e h
-  value_node_at_beside s r e k t u m n h = goes_inside_beside _ _ BlockMapping k t u m n refl h
-
-  pub value_node_beside : StepBesideAt block.block_value_node
+  pub mapping_values : TokenBeside block.block_mapping_value_at
   unfolding block.block_value_node
-  value_node_beside = take_at block.block_value_node_at value_node_at_beside
+  mapping_values tokens.Value t u m n h =
+      take_at block.block_value_node_at value_nodes t.span u.span h.span m n h.behind
+  mapping_values k t u m n h = leaves_out _ _ refl h.span h
 
-  mapping_value_at_beside : TokenBeside block.block_mapping_value_at
-  mapping_value_at_beside tokens.Value t u m n h = value_node_beside t.span u.span h.span m n h.behind
-  mapping_value_at_beside k t u m n h = leaves_out_beside _ _ t.span u.span k t u m n refl h.span h
+  -- ## Flow collections
 
-  pub mapping_value_beside : StepBeside block.block_mapping_value
-  unfolding block.block_mapping_value
-  mapping_value_beside = take block.block_mapping_value_at mapping_value_at_beside
+  pub first_entries : TokenBeside flow.flow_sequence_first_entry_at
+  first_entries tokens.FlowSequenceEnd t u m n h = tells_end w _ t.span u.span m n h.span h.behind tt
+  first_entries tokens.Key t u m n h = enters_told w _ _ _ _ _ m n refl h.span h.behind tt
+  first_entries k t u m n h = inside _ _ Flow refl h
 
-  flow_entry_at_beside : TokenBeside flow.flow_sequence_first_entry_at
-  flow_entry_at_beside tokens.FlowSequenceEnd t u m n h = tells_end w _ t.span u.span m n h.span h.behind
-  flow_entry_at_beside tokens.Key t u m n h = enters_told w _ _ _ _ _ m n refl h.span h.behind
-  flow_entry_at_beside k t u m n h = goes_inside_beside _ _ Flow k t u m n refl h
-
-  pub flow_first_entry_beside : StepBeside flow.flow_sequence_first_entry
+  pub other_entries : TokenBeside flow.flow_sequence_entry_at
   unfolding flow.flow_sequence_first_entry
-  flow_first_entry_beside = take flow.flow_sequence_first_entry_at flow_entry_at_beside
+  other_entries tokens.FlowSequenceEnd t u m n h = tells_end w _ t.span u.span m n h.span h.behind tt
+  other_entries tokens.FlowEntry t u m n h = take flow.flow_sequence_first_entry_at first_entries m n h.behind
+  other_entries k t u m n h = refuses w _ t u h.span
 
-  flow_other_entry_at_beside : TokenBeside flow.flow_sequence_entry_at
-  flow_other_entry_at_beside tokens.FlowSequenceEnd t u m n h = tells_end w _ t.span u.span m n h.span h.behind
-  flow_other_entry_at_beside tokens.FlowEntry t u m n h = flow_first_entry_beside m n h.behind
-  flow_other_entry_at_beside k t u m n h = refuses w _ t u h.span
+  pub pair_keys : TokenBeside flow.flow_sequence_entry_mapping_key_at
+  pair_keys tokens.Value t u m n h = leaves_out _ _ refl h.span h
+  pair_keys tokens.FlowEntry t u m n h = leaves_out _ _ refl h.span h
+  pair_keys tokens.FlowSequenceEnd t u m n h = leaves_out _ _ refl h.span h
+  pair_keys k t u m n h = inside _ _ Flow refl h
 
-  pub flow_other_entry_beside : StepBeside flow.flow_sequence_entry
-  unfolding flow.flow_sequence_entry
-  flow_other_entry_beside = take flow.flow_sequence_entry_at flow_other_entry_at_beside
+  pair_nodes : TokenBeside flow.flow_sequence_entry_mapping_node_at
+  pair_nodes tokens.FlowEntry t u m n h = leaves_out _ _ (u.span.end, h.span.1, refl) h.span h
+  pair_nodes tokens.FlowSequenceEnd t u m n h = leaves_out _ _ (u.span.end, h.span.1, refl) h.span h
+  pair_nodes k t u m n h = inside _ _ Flow (u.span.end, h.span.1, refl) h
 
-  flow_pair_key_at_beside : TokenBeside flow.flow_sequence_entry_mapping_key_at
-  flow_pair_key_at_beside tokens.Value t u m n h = leaves_out_beside _ _ t.span u.span _ t u m n refl h.span h
-  flow_pair_key_at_beside tokens.FlowEntry t u m n h = leaves_out_beside _ _ t.span u.span _ t u m n refl h.span h
-  flow_pair_key_at_beside tokens.FlowSequenceEnd t u m n h =
-      leaves_out_beside _ _ t.span u.span _ t u m n refl h.span h
-  flow_pair_key_at_beside k t u m n h = goes_inside_beside _ _ Flow k t u m n refl h
-
-  pub flow_pair_key_beside : StepBeside flow.flow_sequence_entry_mapping_key
-  unfolding flow.flow_sequence_entry_mapping_key
-  flow_pair_key_beside = take flow.flow_sequence_entry_mapping_key_at flow_pair_key_at_beside
-
-  flow_pair_value_node_at_beside : TokenBeside flow.flow_sequence_entry_mapping_node_at
-  flow_pair_value_node_at_beside tokens.FlowEntry t u m n h =
-      leaves_out_beside _ _ t.span u.span _ t u m n (u.span.end, h.span.1, refl) h.span h
-  flow_pair_value_node_at_beside tokens.FlowSequenceEnd t u m n h =
-      leaves_out_beside _ _ t.span u.span _ t u m n (u.span.end, h.span.1, refl) h.span h
-  flow_pair_value_node_at_beside k t u m n h = goes_inside_beside _ _ Flow k t u m n (u.span.end, h.span.1, refl) h
-
-  pub flow_pair_value_node_beside : StepBeside flow.flow_sequence_entry_mapping_node
+  pub pair_values : TokenBeside flow.flow_sequence_entry_mapping_value_at
   unfolding flow.flow_sequence_entry_mapping_node
-  flow_pair_value_node_beside = take flow.flow_sequence_entry_mapping_node_at flow_pair_value_node_at_beside
+  pair_values tokens.Value t u m n h = take flow.flow_sequence_entry_mapping_node_at pair_nodes m n h.behind
+  pair_values k t u m n h = leaves_out _ _ (u.span.end, h.span.1, refl) h.span h
 
-  flow_pair_value_at_beside : TokenBeside flow.flow_sequence_entry_mapping_value_at
-  flow_pair_value_at_beside tokens.Value t u m n h = flow_pair_value_node_beside m n h.behind
-  flow_pair_value_at_beside k t u m n h = leaves_out_beside _ _ t.span u.span _ t u m n
-      (u.span.end, h.span.1, refl) h.span h
+  key_in_braces : TokenBeside flow.flow_key_node_at
+  key_in_braces tokens.Value t u m n h = leaves_out _ _ refl h.span h
+  key_in_braces tokens.FlowEntry t u m n h = leaves_out _ _ refl h.span h
+  key_in_braces tokens.FlowMappingEnd t u m n h = leaves_out _ _ refl h.span h
+  key_in_braces k t u m n h = inside _ _ Flow refl h
 
-  pub flow_pair_value_beside : StepBeside flow.flow_sequence_entry_mapping_value
-  unfolding flow.flow_sequence_entry_mapping_value
-  flow_pair_value_beside = take flow.flow_sequence_entry_mapping_value_at flow_pair_value_at_beside
+  pairs : TokenBesideAt flow.flow_mapping_pair_at
+  unfolding flow.flow_key_node
+  pairs s r e tokens.Key t u m n h = take flow.flow_key_node_at key_in_braces m n h.behind
+  pairs s r e tokens.Value t u m n h = leaves_out _ _ refl h.span h
+  pairs s r e tokens.FlowMappingEnd t u m n h = tells_end w _ s r m n e h.behind tt
+  pairs s r e k t u m n h = inside _ _ Flow refl h
 
-  pub flow_pair_end_beside : (p q : Marker) → w.Place p q
+  pub other_pairs : TokenBeside flow.flow_mapping_key_at
+  unfolding flow.flow_mapping_pair_behind_comma
+  other_pairs tokens.FlowMappingEnd t u m n h = tells_end w _ t.span u.span m n h.span h.behind tt
+  other_pairs tokens.FlowEntry t u m n h =
+      take_at flow.flow_mapping_pair_at pairs t.span u.span h.span m n h.behind
+  other_pairs k t u m n h = refuses w _ t u h.span
+
+  value_in_braces : TokenBesideAt flow.flow_value_node_at
+  value_in_braces s r e tokens.FlowEntry t u m n h = leaves_out _ _ refl e h
+  value_in_braces s r e tokens.FlowMappingEnd t u m n h = leaves_out _ _ refl e h
+  value_in_braces s r e k t u m n h = inside _ _ Flow refl h
+
+  pub values_in_braces : TokenBeside flow.flow_mapping_value_at
+  unfolding flow.flow_value_node
+  values_in_braces tokens.Value t u m n h =
+      take_at flow.flow_value_node_at value_in_braces t.span u.span h.span m n h.behind
+  values_in_braces k t u m n h = leaves_out _ _ refl h.span h
+
+  -- ## What steps take or leave out first
+
+  pub pair_ends : (p q : Marker) → w.Place p q
       → Both w (Alike w) (flow.flow_sequence_entry_mapping_end p) (flow.flow_sequence_entry_mapping_end q)
   unfolding flow.flow_sequence_entry_mapping_end
-  flow_pair_end_beside p q e m n near = enters_told w _ _ _ _ _ m n refl (e, e) near
+  pair_ends p q e m n near = enters_told w _ _ _ _ _ m n refl (e, e) near tt
 
-  flow_key_node_at_beside : TokenBeside flow.flow_key_node_at
-  flow_key_node_at_beside tokens.Value t u m n h = leaves_out_beside _ _ t.span u.span _ t u m n refl h.span h
-  flow_key_node_at_beside tokens.FlowEntry t u m n h = leaves_out_beside _ _ t.span u.span _ t u m n refl h.span h
-  flow_key_node_at_beside tokens.FlowMappingEnd t u m n h =
-      leaves_out_beside _ _ t.span u.span _ t u m n refl h.span h
-  flow_key_node_at_beside k t u m n h = goes_inside_beside _ _ Flow k t u m n refl h
+  pub first_pairs : TokenBeside (λ k t. flow.flow_mapping_pair_at k t.span t)
+  first_pairs k t u m n h = pairs t.span u.span h.span k t u m n h
 
-  pub flow_key_node_beside : StepBeside flow.flow_key_node
-  unfolding flow.flow_key_node
-  flow_key_node_beside = take flow.flow_key_node_at flow_key_node_at_beside
-
-  flow_pair_at_beside : TokenBesideAt flow.flow_mapping_pair_at
-  flow_pair_at_beside s r e tokens.Key t u m n h = flow_key_node_beside m n h.behind
-  flow_pair_at_beside s r e tokens.Value t u m n h = leaves_out_beside _ _ t.span u.span _ t u m n refl h.span h
-  flow_pair_at_beside s r e tokens.FlowMappingEnd t u m n h = tells_end w _ s r m n e h.behind
-  flow_pair_at_beside s r e k t u m n h = goes_inside_beside _ _ Flow k t u m n refl h
-
-  pub flow_first_pair_beside : StepBeside flow.flow_mapping_first_key
-  unfolding flow.flow_mapping_first_key
-  flow_first_pair_beside = take (λ k t. flow.flow_mapping_pair_at k t.span t)
-      (λ k t u v x h. flow_pair_at_beside t.span u.span h.span k t u v x h)
-
-  pub flow_pair_behind_comma_beside : StepBesideAt flow.flow_mapping_pair_behind_comma
-  unfolding flow.flow_mapping_pair_behind_comma
-  flow_pair_behind_comma_beside = take_at flow.flow_mapping_pair_at flow_pair_at_beside
-
-  flow_other_pair_at_beside : TokenBeside flow.flow_mapping_key_at
-  flow_other_pair_at_beside tokens.FlowMappingEnd t u m n h = tells_end w _ t.span u.span m n h.span h.behind
-  flow_other_pair_at_beside tokens.FlowEntry t u m n h = flow_pair_behind_comma_beside t.span u.span h.span m
-      n h.behind
-  flow_other_pair_at_beside k t u m n h = refuses w _ t u h.span
-
-  pub flow_other_pair_beside : StepBeside flow.flow_mapping_key
-  unfolding flow.flow_mapping_key
-  flow_other_pair_beside = take flow.flow_mapping_key_at flow_other_pair_at_beside
-
-  flow_value_node_at_beside : TokenBesideAt flow.flow_value_node_at
-  flow_value_node_at_beside s r e tokens.FlowEntry t u m n h = leaves_out_beside _ _ s r _ t u m n refl e h
-  flow_value_node_at_beside s r e tokens.FlowMappingEnd t u m n h = leaves_out_beside _ _ s r _ t u m n refl e h
-  flow_value_node_at_beside s r e k t u m n h = goes_inside_beside _ _ Flow k t u m n refl h
-
-  pub flow_value_node_beside : StepBesideAt flow.flow_value_node
-  unfolding flow.flow_value_node
-  flow_value_node_beside = take_at flow.flow_value_node_at flow_value_node_at_beside
-
-  flow_mapping_value_at_beside : TokenBeside flow.flow_mapping_value_at
-  flow_mapping_value_at_beside tokens.Value t u m n h = flow_value_node_beside t.span u.span h.span m n h.behind
-  flow_mapping_value_at_beside k t u m n h = leaves_out_beside _ _ t.span u.span k t u m n refl h.span h
-
-  pub flow_mapping_value_beside : StepBeside flow.flow_mapping_value
-  unfolding flow.flow_mapping_value
-  flow_mapping_value_beside = take flow.flow_mapping_value_at flow_mapping_value_at_beside
-
-  pub flow_empty_value_beside : StepBeside flow.flow_mapping_empty_value
-  unfolding flow.flow_mapping_empty_value
-  flow_empty_value_beside = take (λ k t. left_out_event t state.FlowMappingKey t.span)
-      (λ k t u v x h. leaves_out_beside _ _ t.span u.span k t u v x refl h.span h)
+  pub empty_values : TokenBeside (λ k t. left_out_event t state.FlowMappingKey t.span)
+  empty_values k t u m n h = leaves_out _ _ refl h.span h

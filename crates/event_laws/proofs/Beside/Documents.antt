@@ -10,11 +10,13 @@ use Rattle.saphyr_machine.specs.declared.context.NodeContext.TheVariants.{Block}
 use Rattle.saphyr_machine.specs.declared.state.State.{State}
 use Rattle.saphyr_machine.specs.declared.state.State.TheVariants as state
 use Rattle.event_laws.specs.Premises.{DocumentMarker, Starts, Ends, marker_event}
-use Rattle.saphyr_machine.specs.Steps.Machine.{◌>>=◌, Machine, Told, with_pieces, put_back, push, with_state, without_ids}
+use Rattle.saphyr_machine.specs.Steps.Machine.{◌>>=◌, Machine, Told, with_pieces, put_back, push, with_state, without_ids, left_out_event}
 use Rattle.saphyr_machine.specs.Steps.Documents as document
 use Rattle.saphyr_machine.specs.Steps.Documents.{unpassed_token_from, unpassed_token, is_mark, is_end_or_mark, none_declared, directives, without_anchors, without_prefixes}
 use Rattle.saphyr_machine.specs.Steps.Nodes.{node}
+use Rattle.saphyr_machine.specs.Steps.Block as block
 use Rattle.saphyr_machine.specs.Steps.Block.{block_node}
+use Rattle.saphyr_machine.specs.Steps.Flow as flow
 use Rattle.saphyr_machine.specs.Steps.Expected.{event_step_at}
 use Rattle.event_laws.proofs.Beside.Machines.{Beside, Expected, With, Near, GivesAlike, Awaits, Left, Alike, TellsAlike, Both, AtBoth, ahead, changed, taken, refuses, enters, tells, tells_end, enters_told}
 use Rattle.event_laws.proofs.Beside.Nodes.{node_beside}
@@ -49,7 +51,7 @@ left_behind_marker w d m n near awaits = by near.tokens
     by (inr o) = inr (d, changed w _ _ m n _ _ _ _ _ _ o near.state near.states near, awaits, refl)
 
 stream_at : (w : Beside) → AtBoth w (Alike w) document.stream_start_at document.stream_start_at
-stream_at w tokens.StreamStart t u m n h = enters_told w _ _ _ t.span u.span m n refl h.span h.behind
+stream_at w tokens.StreamStart t u m n h = enters_told w _ _ _ t.span u.span m n refl h.span h.behind tt
 stream_at w _ t u m n h = refuses w _ t u h.span
 
 explicit_at : (w : Beside) → AtBoth w (Alike w) document.explicit_document_at document.explicit_document_at
@@ -60,6 +62,7 @@ explicit_at w tokens.DocumentStart t u m n h =
       machine =
           left_behind_marker w Starts _ _ (opened_beside w _ state.DocumentContent m n refl h.behind)
           (refl, (m.states, refl));
+      closes = tt;
     }
 explicit_at w tokens.ByteOrderMark t u m n h = refuses w _ t u h.span
 explicit_at w _ t u m n h = refuses w _ t u h.span
@@ -74,16 +77,16 @@ explicit_document_alike w k t u m n h =
 
 implicit_at : (w : Beside) → AtBoth w (Alike w) document.implicit_start_at document.implicit_start_at
 unfolding document.bare_document
-implicit_at w tokens.StreamEnd t u m n h = enters_told w _ _ _ t.span u.span m n refl h.span h.behind
+implicit_at w tokens.StreamEnd t u m n h = enters_told w _ _ _ t.span u.span m n refl h.span h.behind refl
 implicit_at w (tokens.VersionDirective major minor) t u m n h = explicit_document_alike w _ t u m n h
 implicit_at w (tokens.TagDirective handle prefix) t u m n h = explicit_document_alike w _ t u m n h
 implicit_at w (tokens.ReservedDirective name) t u m n h = explicit_document_alike w _ t u m n h
 implicit_at w tokens.DocumentStart t u m n h = explicit_document_alike w _ t u m n h
 implicit_at w _ t u m n h = tells w _ t.span u.span _ _ h.span
-    (opened_beside w w.Rest state.BlockNode (put_back t m) (put_back u n) refl h.back)
+    (opened_beside w w.Rest state.BlockNode (put_back t m) (put_back u n) refl h.back) tt
 
 start_at : (w : Beside) → AtBoth w (Alike w) document.explicit_start_at document.explicit_start_at
-start_at w tokens.StreamEnd t u m n h = enters_told w _ _ _ t.span u.span m n refl h.span h.behind
+start_at w tokens.StreamEnd t u m n h = enters_told w _ _ _ t.span u.span m n refl h.span h.behind refl
 start_at w k t u m n h = explicit_document_alike w k t u m n h
 
 -- The first machine's tokens were all passed, and the step is the one after them.
@@ -122,7 +125,7 @@ explicit_start w m n near = starts_beside w m n document.explicit_start_at (star
 -- ## The content and the end of documents
 
 none_at : (w : Beside) → AtBoth w (Alike w) (λ k. document.no_content) (λ k. document.no_content)
-none_at w k t u m n h = tells_end w _ t.span u.span (put_back t m) (put_back u n) h.span h.back
+none_at w k t u m n h = tells_end w _ t.span u.span (put_back t m) (put_back u n) h.span h.back tt
 
 content_at : (w : Beside) → AtBoth w (Alike w) document.document_content_at document.document_content_at
 content_at w (tokens.VersionDirective major minor) t u m n h = none_at w _ t u m n h
@@ -188,11 +191,12 @@ end_at w tokens.DocumentEnd t u m n h =
       what = refl;
       span = h.span;
       machine = left_behind_marker w Ends _ _ (enters w _ state.ImplicitDocumentStart _ m n refl h.behind) refl;
+      closes = tt;
     }
 end_at w (tokens.VersionDirective major minor) t u m n h = refuses w _ t u h.span
 end_at w (tokens.TagDirective handle prefix) t u m n h = refuses w _ t u h.span
 end_at w (tokens.ReservedDirective name) t u m n h = refuses w _ t u h.span
-end_at w _ t u m n h = enters_told w _ _ _ t.span u.span (put_back t m) (put_back u n) refl h.span h.back
+end_at w _ t u m n h = enters_told w _ _ _ t.span u.span (put_back t m) (put_back u n) refl h.span h.back tt
 
 end_beside : (w : Beside) → KeepsSetting w → Both w (Alike w) document.document_end document.document_end
 unfolding document.document_end
@@ -228,7 +232,11 @@ pub steps_beside :
     → (s ≡ state.DocumentEnd → KeepsSetting w)
     → Near w m n → TellsAlike w (event_step_at s m) (event_step_at r n)
     ⊎ (IsBetweenDocuments s × PassedAll w m n (event_step_at s))
-unfolding block_node document.stream_start document.document_content
+unfolding block_node document.stream_start document.document_content block.block_sequence_entry
+    block.indentless_sequence_entry block.block_mapping_key block.block_mapping_value
+    flow.flow_sequence_first_entry flow.flow_sequence_entry flow.flow_sequence_entry_mapping_key
+    flow.flow_sequence_entry_mapping_value flow.flow_mapping_first_key flow.flow_mapping_key flow.flow_mapping_value
+    flow.flow_mapping_empty_value
 steps_beside w state.StreamStart r m n e on keeps near =
     rw e (inl (taken w _ document.stream_start_at document.stream_start_at m n near (stream_at w)))
 steps_beside w state.ImplicitDocumentStart r m n e on keeps near = rw e (start_passed (implicit_start w m n near))
@@ -238,22 +246,39 @@ steps_beside w state.DocumentContent r m n e on keeps near =
 steps_beside w state.DocumentEnd r m n e on keeps near = rw e (inl (end_beside w (keeps refl) m n near))
 steps_beside w state.BlockNode r m n e on keeps near =
     rw e (inl (taken w _ (λ k. node Block) (λ k. node Block) m n near (node_beside w Block)))
-steps_beside w state.BlockSequenceEntry r m n e on keeps near = rw e (inl (steps.sequence_entry_beside w m n near))
-steps_beside w state.IndentlessSequenceEntry r m n e on keeps near = rw e
-    (inl (steps.indentless_entry_beside w m n near))
-steps_beside w state.BlockMappingKey r m n e on keeps near = rw e (inl (steps.mapping_key_beside w m n near))
-steps_beside w state.BlockMappingValue r m n e on keeps near = rw e (inl (steps.mapping_value_beside w m n near))
-steps_beside w state.FlowSequenceFirstEntry r m n e on keeps near = rw e
-    (inl (steps.flow_first_entry_beside w m n near))
-steps_beside w state.FlowSequenceEntry r m n e on keeps near = rw e (inl (steps.flow_other_entry_beside w m n near))
-steps_beside w state.FlowSequenceEntryMappingKey r m n e on keeps near = rw e
-    (inl (steps.flow_pair_key_beside w m n near))
-steps_beside w state.FlowSequenceEntryMappingValue r m n e on keeps near = rw e
-    (inl (steps.flow_pair_value_beside w m n near))
+steps_beside w state.BlockSequenceEntry r m n e on keeps near =
+    rw e (inl (steps.take w _ (steps.sequence_entries w) m n near))
+steps_beside w state.IndentlessSequenceEntry r m n e on keeps near =
+    rw e (inl (steps.take w _ (steps.indentless_entries w) m n near))
+steps_beside w state.BlockMappingKey r m n e on keeps near = rw e (inl (steps.take w _ (steps.mapping_keys w) m n near))
+steps_beside w state.BlockMappingValue r m n e on keeps near =
+    rw e (inl (steps.take w _ (steps.mapping_values w) m n near))
+steps_beside w state.FlowSequenceFirstEntry r m n e on keeps near =
+    rw e (inl (steps.take w _ (steps.first_entries w) m n near))
+steps_beside w state.FlowSequenceEntry r m n e on keeps near =
+    rw e (inl (steps.take w _ (steps.other_entries w) m n near))
+steps_beside w state.FlowSequenceEntryMappingKey r m n e on keeps near =
+    rw e (inl (steps.take w _ (steps.pair_keys w) m n near))
+steps_beside w state.FlowSequenceEntryMappingValue r m n e on keeps near =
+    rw e (inl (steps.take w _ (steps.pair_values w) m n near))
 steps_beside w (state.FlowSequenceEntryMappingEnd p) r m n e on keeps near =
-    rw e.2 (inl (steps.flow_pair_end_beside w p e.0 e.1 m n near))
-steps_beside w state.FlowMappingFirstKey r m n e on keeps near = rw e (inl (steps.flow_first_pair_beside w m n near))
-steps_beside w state.FlowMappingKey r m n e on keeps near = rw e (inl (steps.flow_other_pair_beside w m n near))
-steps_beside w state.FlowMappingValue r m n e on keeps near = rw e (inl (steps.flow_mapping_value_beside w m n near))
-steps_beside w state.FlowMappingEmptyValue r m n e on keeps near = rw e (inl (steps.flow_empty_value_beside w m n near))
+    rw e.2 (inl (steps.pair_ends w p e.0 e.1 m n near))
+steps_beside w state.FlowMappingFirstKey r m n e on keeps near =
+    rw e (inl (steps.take w _ (steps.first_pairs w) m n near))
+steps_beside w state.FlowMappingKey r m n e on keeps near = rw e (inl (steps.take w _ (steps.other_pairs w) m n near))
+steps_beside w state.FlowMappingValue r m n e on keeps near =
+    rw e (inl (steps.take w _ (steps.values_in_braces w) m n near))
+steps_beside w state.FlowMappingEmptyValue r m n e on keeps near =
+    rw e (inl (steps.take w (λ k t. left_out_event t state.FlowMappingKey t.span) (steps.empty_values w) m n near))
 steps_beside w state.End r m n e on keeps near = rw e (absurd (on refl))
+
+-- The same where no marker that is the first machine's last token may be passed.
+pub steps_alike : (w : Beside) → ((r q : Remaining) → w.Over Ends r q → ⊥) → (s r : State) (m n : Machine)
+    → Expected w s r → s ≢ state.End → (s ≡ state.DocumentEnd → KeepsSetting w) → Near w m n
+    → TellsAlike w (event_step_at s m) (event_step_at r n)
+steps_alike w never s r m n e on keeps near = by (steps_beside w s r m n e on keeps near)
+  where
+    by : TellsAlike w (event_step_at s m) (event_step_at r n) ⊎ (IsBetweenDocuments s × PassedAll w m n (event_step_at s))
+        → TellsAlike w (event_step_at s m) (event_step_at r n)
+    by (inl h) = h
+    by (inr (i, p)) = absurd (never _ _ p.2.tokens)

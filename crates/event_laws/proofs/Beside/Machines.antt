@@ -14,6 +14,7 @@ use Rattle.saphyr_machine.specs.Events.{Happening}
 use Rattle.event_laws.specs.Premises.{DocumentMarker, Starts, Ends, marker_event}
 use Rattle.saphyr_machine.specs.Steps.Machine.{◌>>=◌, Machine, Told, told_event, refusal_at, ending_refusal, with_pieces, taken_token, taken_token_from, put_back, pop, pop_from, with_state, push, with_anchor}
 use Rattle.saphyr_machine.specs.Steps.Nodes.{register}
+use Rattle.saphyr_machine.specs.Calls.{LeavesEnd}
 
 -- ## What is alike
 
@@ -138,11 +139,12 @@ abbrev pub Left : Beside → Happening → Machine → Machine → Type 0
 Left w what m n =
     Near w m n ⊎ ((d : DocumentMarker) × With w (w.Over d) m n × Awaits d m × (what ≡ marker_event d))
 
--- the same event, and machines side by side
+-- the same event, and machines side by side, which the end of the stream ends
 pub record Alike (w : Beside) (x y : Told) : Type 0 where
   pub what : y.what ≡ x.what
   pub span : SpansAlike w x.span y.span
   pub machine : Left w x.what x.machine y.machine
+  pub closes : LeavesEnd x.what x.machine.state
 
 abbrev pub TellsAlike : Beside → Result Told Refusal → Result Told Refusal → Type 0
 TellsAlike w p q = GivesAlike w (Alike w) p q
@@ -261,8 +263,8 @@ registers w name m n near =
     }
 
 pub tells : (w : Beside) (what : Happening) (s r : Span) (m n : Machine) → SpansAlike w s r → Near w m n
-    → TellsAlike w (told_event what s m) (told_event what r n)
-tells w what s r m n e near = record { what = refl; span = e; machine = inl near }
+    → LeavesEnd what m.state → TellsAlike w (told_event what s m) (told_event what r n)
+tells w what s r m n e near c = record { what = refl; span = e; machine = inl near; closes = c }
 
 pub pops : (w : Beside) (m n : Machine) → Near w m n → Near w (pop m) (pop n)
 pops w m n near = by m.states n.states near.states
@@ -275,11 +277,11 @@ pops w m n near = by m.states n.states near.states
 
 -- an event that ends a node
 pub tells_end : (w : Beside) (what : Happening) (s r : Span) (m n : Machine) → SpansAlike w s r → Near w m n
-    → TellsAlike w (told_event what s (pop m)) (told_event what r (pop n))
+    → LeavesEnd what (pop m).state → TellsAlike w (told_event what s (pop m)) (told_event what r (pop n))
 tells_end w what s r m n e near = tells w what s r _ _ e (pops w m n near)
 
 -- a state without a place
 pub enters_told : (w : Beside) (what : Happening) (x y : State) (s r : Span) (m n : Machine) → Expected w x y
-    → SpansAlike w s r → Near w m n → TellsAlike w (told_event what s (with_state x m))
-    (told_event what r (with_state y n))
+    → SpansAlike w s r → Near w m n → LeavesEnd what x
+    → TellsAlike w (told_event what s (with_state x m)) (told_event what r (with_state y n))
 enters_told w what x y s r m n i e near = tells w what s r _ _ e (enters w w.Rest x y m n i near)

@@ -71,7 +71,7 @@ without_beside :
     → TellsAlike w (node_without_content (properties a b id tag) t m) (node_without_content (properties x y id tag) u n)
 without_beside w a b x y id tag k t u m n i j h =
     either w _ (has_property (properties a b id tag)) _ _ _ _
-    (tells_end w _ _ _ (put_back t m) (put_back u n) (i, j) h.back) (refuses w _ t u h.span)
+    (tells_end w _ _ _ (put_back t m) (put_back u n) (i, j) h.back tt) (refuses w _ t u h.span)
 
 content_beside :
     (w : Beside) (a b x y : Marker) (id : ℕ) (tag : Option ResolvedTag) (c : NodeContext) → w.Place a x → w.Place b y
@@ -86,15 +86,15 @@ content_beside w a b x y id tag c i j = at
 
     at : AtBoth w (Alike w) (λ k. node_content_at k (properties a b id tag) c)
         (λ k. node_content_at k (properties x y id tag) c)
-    at (tokens.Scalar style text) t u m n h = tells_end w _ _ _ m n (i, h.span.1) h.behind
-    at tokens.FlowSequenceStart t u m n h = enters_told w _ _ _ _ _ m n refl (i, h.span.1) h.behind
-    at tokens.FlowMappingStart t u m n h = enters_told w _ _ _ _ _ m n refl (i, h.span.1) h.behind
+    at (tokens.Scalar style text) t u m n h = tells_end w _ _ _ m n (i, h.span.1) h.behind tt
+    at tokens.FlowSequenceStart t u m n h = enters_told w _ _ _ _ _ m n refl (i, h.span.1) h.behind tt
+    at tokens.FlowMappingStart t u m n h = enters_told w _ _ _ _ _ m n refl (i, h.span.1) h.behind tt
     at tokens.BlockSequenceStart t u m n h = either w _ (allows_block c) _ _ _ _
-        (enters_told w _ _ _ _ _ m n refl (i, h.span.1) h.behind) (none _ t u m n h)
+        (enters_told w _ _ _ _ _ m n refl (i, h.span.1) h.behind tt) (none _ t u m n h)
     at tokens.BlockMappingStart t u m n h = either w _ (allows_block c) _ _ _ _
-        (enters_told w _ _ _ _ _ m n refl (i, h.span.1) h.behind) (none _ t u m n h)
+        (enters_told w _ _ _ _ _ m n refl (i, h.span.1) h.behind tt) (none _ t u m n h)
     at tokens.BlockEntry t u m n h = either w _ (allows_indentless c) _ _ _ _
-        (enters_told w _ _ _ _ _ (put_back t m) (put_back u n) refl (i, h.span.1) h.back) (none _ t u m n h)
+        (enters_told w _ _ _ _ _ (put_back t m) (put_back u n) refl (i, h.span.1) h.back tt) (none _ t u m n h)
     at _ t u m n h = none _ t u m n h
 
 behind_beside :
@@ -120,7 +120,7 @@ alias_beside w o p s r is e m n near = rw is (by o)
   where
     by : (o : Option ℕ) → TellsAlike w (alias_of o s m) (alias_of o r n)
     by None = inr (w.refused _ s.start r.start e.0)
-    by (Some id) = tells_end w _ s r m n e near
+    by (Some id) = tells_end w _ s r m n e near tt
 
 behind_anchor_beside :
     (w : Beside) (id : ℕ) (s r : Span) (c : NodeContext) → SpansAlike w s r

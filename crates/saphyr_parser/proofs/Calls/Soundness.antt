@@ -16,7 +16,7 @@ use Rattle.saphyr_machine.specs.Calls.{Advances, AdvancesOver, EndsTheStream, En
 use Rattle.saphyr_machine.proofs.Unroll.{over}
 use Rattle.saphyr_machine.proofs.Calls.Handing.{goes_on}
 use Rattle.saphyr_machine.proofs.Calls.Looking.{looks_stays, shows_head}
-use Rattle.saphyr_parser.proofs.Calls.StreamEnds.{closes}
+use Rattle.event_laws.proofs.Placeless.{closes}
 
 -- ## After an event
 
