@@ -28,7 +28,7 @@ use Rattle.event_laws.proofs.Told.Telling.{Memory}
 use Rattle.event_laws.proofs.Remembering.{after, event_in, noted, own_id_in, with_properties}
 use Rattle.event_laws.proofs.Told.Nodes.{Has}
 use Rattle.event_laws.proofs.Turned.Following.{Then, Exactly, Claim, IsNodeOf, InBlockPairs, AtBlockValue, Behind, FollowsStates, IsInsideDocument, IsAlive, BeginsWithEntry}
-use Rattle.event_laws.proofs.Turned.Turning.{machine, Goes, Turned, kinds_append, around}
+use Rattle.event_laws.proofs.Turned.Turning.{piece_of, machine, Goes, Turned, kinds_append, put, around}
 
 -- ## Where a node is
 
@@ -69,41 +69,7 @@ pub enough_for : (p : forest.Properties) (front own : List Piece)
     → one_more_anchor (option_map encode_utf8_all p.anchor) 0 ≤ length (front ++ own)
 enough_for p front own l = let a = length-append front own in omega (arith, l, a)
 
--- ## Scalars
-
-pub leaf_goes : (p : forest.Properties) (q : NodeProperties) (front own : List Piece) (style : ScalarStyle) (value :
-    List ℕ)
-    (span : Span) (c : grammar.Context) (ts : List Piece) (r : Option Refusal) (s : State) (ss : List State)
-    (e : Memory) → Fronted e p q front → YieldsScalar p style value (kinds own) → IsAlive s ss
-    → HasOwn (front ++ own) (Scalar (encode_utf8_all value) style q.anchor q.tag) span ts
-    → Goes (Then (IsNodeOf c) (FollowsStates s ss)) e (front ++ (own ++ ts))
-    (record {
-      what = Scalar (encode_utf8_all value) style q.anchor q.tag;
-      span = span;
-      machine = machine ts r s ss (noted p.anchor e);
-    })
-leaf_goes p q front own style value span c ts r s ss e h i a o = record {
-  used = front ++ own;
-  part = Leaf p style value;
-  taken = sym (append_assoc front own ts);
-  tells = with_told (Scalar (encode_utf8_all value) style) e p q h.has;
-  remembers = refl;
-  few = enough_for p front own h.enough;
-  places = o;
-  alive = a;
-  makes = λ ks ps f st. record {
-    front = kinds (front ++ own);
-    back = ks;
-    first = Leaf p style value ∷ [];
-    second = ps;
-    begins = (forest.Scalar p style value, (kinds front, kinds own, h.are, i, kinds_append front own), refl);
-    goes_on = f;
-    kinds_are = refl;
-    parts_are = refl;
-  };
-}
-
--- ## Properties alone
+-- ## What may be after properties
 
 none_has : (a : ℕ) (g : Option ResolvedTag) → a ≡ 0 → (let o : Option (Option ResolvedTag) = Some None in o) ≡ Some g
     → (nat_lt 0 a || is_some g) ≡ true → ⊥
@@ -117,27 +83,6 @@ has_one (Some a) None e q h t = tt
 has_one None (Some g) e q h t = tt
 has_one (Some a) (Some g) e q h t = tt
 
-pub alone_turned : (t : Piece) (front : List Piece) (p : forest.Properties) (q : NodeProperties) (c : NodeContext)
-    (ts : List Piece) (r : Option Refusal) (x : State) (s : State) (ss : List State) (e : Memory) → Fronted e p q front
-    → IsAlive s ss → Turned (NodeThen c s ss) e (front ++ t ∷ ts)
-    (node_without_content q t (machine ts r x (s ∷ ss) (noted p.anchor e)))
-alone_turned t front p q c ts r x s ss e h a = by (has_property q) refl
-  where
-    by : (b : Bool) → has_property q ≡ b
-        → Turned (NodeThen c s ss) e (front ++ t ∷ ts)
-        (if b then Ok (record {
-          what = Scalar [] Plain q.anchor q.tag;
-          span = record { start = q.start; end = q.behind };
-          machine = machine (t ∷ ts) r s ss (noted p.anchor e);
-        }) else Err
-        (record { text = fault.NodeContentExpected; mark = t.span.start }))
-    by true y = leaf_goes p q front [] Plain [] (record { start = q.start; end = q.behind }) (place_of c) (t ∷ ts) r s
-        ss e h (inr (has_one p.anchor p.tag e q h.has y, refl, refl, refl)) a
-        (whole (front ++ []) _ _ (alone_is front q h.shape))
-    by false y = tt
-
--- ## Collections
-
 pub split : (front : List Piece) (t : Piece) (u : List Kind) → kinds (front ++ t ∷ []) ++ u ≡ kinds front ++ t.kind ∷ u
 split front t u = ap (λ (l : List Kind). l ++ u) (kinds_append front (t ∷ []))
     ∙ append_assoc (kinds front) (t.kind ∷ []) u
@@ -145,42 +90,83 @@ split front t u = ap (λ (l : List Kind). l ++ u) (kinds_append front (t ∷ [])
 pub taken_one : (front : List Piece) (t : Piece) (ts : List Piece) → front ++ t ∷ ts ≡ (front ++ t ∷ []) ++ ts
 taken_one front t ts = sym (append_assoc front (t ∷ []) ts)
 
--- A collection begins with a token, and goes up to another, with the tokens of `A` between them.
-pub collection_goes : (A : Claim) (opening closing : Kind) (o : State) (part last : Part)
-    (make : ℕ → Option ResolvedTag → Happening) (sp : Span) (front : List Piece) (p : forest.Properties)
-    (q : NodeProperties) (c : NodeContext) (ts : List Piece) (r : Option Refusal) (s : State) (ss : List State)
-    (e : Memory) → event_in e part ≡ with_properties make e p → noted p.anchor e ≡ after part e
-    → anchors (part ∷ []) ≡ one_more_anchor (option_map encode_utf8_all p.anchor) 0 → IsInsideDocument o
-    → ((used : List Piece) (span : Span) → AreContentTokens opening used → SpansAll used span
-    → IsOf (make q.anchor q.tag) span used ts)
-    → ((R : Claim) (ks : List Kind) (ps : List Part) → Behind o R ks ps
-    → Then A (Then (Exactly (closing ∷ []) (last ∷ [])) R) ks ps)
-    → ((u f : List Kind) (w : List Part) → A u w → YieldProperties p f
-    → IsNodeOf (place_of c) (f ++ opening ∷ (u ++ closing ∷ [])) (part ∷ (w ++ last ∷ []))) → Fronted e p q front
-    → StartsAt front sp.start q → IsAlive s ss
-    → Goes (NodeThen c s ss) e (front ++ record { span = sp; kind = opening } ∷ ts)
-    (record {
-      what = make q.anchor q.tag;
-      span = span_up_to q sp.end;
-      machine = machine ts r o (s ∷ ss) (noted p.anchor e);
-    })
-collection_goes A opening closing o part last make sp front p q c ts r s ss e tells same count i own inside node h b a =
-    let t : Piece = record { span = sp; kind = opening } in record {
-      used = front ++ t ∷ [];
-      part = part;
-      taken = taken_one front t ts;
-      tells = tells ∙ with_told make e p q h.has;
-      remembers = same;
-      few = (let l = enough_for p front (t ∷ []) h.enough in omega (arith, l, count));
-      places = whole _ _ _ (own (front ++ t ∷ []) (span_up_to q sp.end) (content_is opening front q t refl h.shape)
-          (content_spans front q t h.shape b));
-      alive = (i, a);
-      makes = λ ks ps f st. around A (FollowsStates s ss) (IsNodeOf (place_of c)) (kinds (front ++ t ∷ []))
-          (closing ∷ []) part last ks ps
-          (λ u w g. subst (λ (l : List Kind). IsNodeOf (place_of c) l (part ∷ (w ++ last ∷ [])))
-          (sym (split front t (u ++ closing ∷ []))) (node u (kinds front) w g h.are))
-          (inside (FollowsStates s ss) ks ps f);
-    }
+module _ (p : forest.Properties) (q : NodeProperties) (front : List Piece) (r : Option Refusal) (s : State)
+    (ss : List State) (e : Memory) (h : Fronted e p q front) (a : IsAlive s ss) where
+  pub leaf_goes : (own : List Piece) (style : ScalarStyle) (value : List ℕ) (span : Span) (c : grammar.Context)
+      (ts : List Piece) → YieldsScalar p style value (kinds own)
+      → HasOwn (front ++ own) (Scalar (encode_utf8_all value) style q.anchor q.tag) span ts
+      → Goes (Then (IsNodeOf c) (FollowsStates s ss)) e (front ++ (own ++ ts))
+      (record {
+        what = Scalar (encode_utf8_all value) style q.anchor q.tag;
+        span = span;
+        machine = machine ts r s ss (noted p.anchor e);
+      })
+  leaf_goes own style value span c ts i o = record {
+    used = front ++ own;
+    part = Leaf p style value;
+    taken = sym (append_assoc front own ts);
+    tells = with_told (Scalar (encode_utf8_all value) style) e p q h.has;
+    remembers = refl;
+    few = enough_for p front own h.enough;
+    places = o;
+    alive = a;
+    makes = λ ks ps f st. put (IsNodeOf c) (FollowsStates s ss) (kinds (front ++ own)) (Leaf p style value ∷ []) ks ps
+        (forest.Scalar p style value, (kinds front, kinds own, h.are, i, kinds_append front own), refl) f;
+  }
+
+  -- nothing
+  pub alone_turned : (t : Piece) (c : NodeContext) (ts : List Piece) (x : State)
+      → Turned (NodeThen c s ss) e (front ++ t ∷ ts)
+      (node_without_content q t (machine ts r x (s ∷ ss) (noted p.anchor e)))
+  alone_turned t c ts x = by (has_property q) refl
+    where
+      by : (b : Bool) → has_property q ≡ b
+          → Turned (NodeThen c s ss) e (front ++ t ∷ ts)
+          (if b then Ok (record {
+            what = Scalar [] Plain q.anchor q.tag;
+            span = record { start = q.start; end = q.behind };
+            machine = machine (t ∷ ts) r s ss (noted p.anchor e);
+          }) else Err
+          (record { text = fault.NodeContentExpected; mark = t.span.start }))
+      by true y = leaf_goes [] Plain [] (record { start = q.start; end = q.behind }) (place_of c) (t ∷ ts)
+          (inr (has_one p.anchor p.tag e q h.has y, refl, refl, refl)) (whole (front ++ []) _ _ (alone_is front q h.shape))
+      by false y = tt
+
+  -- A collection begins with a token, and goes up to another, with the tokens of `A` between them.
+  pub collection_goes : (A : Claim) (opening closing : Kind) (o : State) (part last : Part)
+      (make : ℕ → Option ResolvedTag → Happening) (sp : Span) (c : NodeContext) (ts : List Piece)
+      → event_in e part ≡ with_properties make e p → noted p.anchor e ≡ after part e
+      → anchors (part ∷ []) ≡ one_more_anchor (option_map encode_utf8_all p.anchor) 0 → IsInsideDocument o
+      → ((used : List Piece) (span : Span) → AreContentTokens opening used → SpansAll used span
+      → IsOf (make q.anchor q.tag) span used ts)
+      → ((R : Claim) (ks : List Kind) (ps : List Part) → Behind o R ks ps
+      → Then A (Then (Exactly (closing ∷ []) (last ∷ [])) R) ks ps)
+      → ((u f : List Kind) (w : List Part) → A u w → YieldProperties p f
+      → IsNodeOf (place_of c) (f ++ opening ∷ (u ++ closing ∷ [])) (part ∷ (w ++ last ∷ [])))
+      → StartsAt front sp.start q
+      → Goes (NodeThen c s ss) e (front ++ piece_of opening sp ∷ ts)
+      (record {
+        what = make q.anchor q.tag;
+        span = span_up_to q sp.end;
+        machine = machine ts r o (s ∷ ss) (noted p.anchor e);
+      })
+  collection_goes A opening closing o part last make sp c ts tells same count i own inside node b =
+      let t : Piece = piece_of opening sp in record {
+        used = front ++ t ∷ [];
+        part = part;
+        taken = taken_one front t ts;
+        tells = tells ∙ with_told make e p q h.has;
+        remembers = same;
+        few = (let l = enough_for p front (t ∷ []) h.enough in omega (arith, l, count));
+        places = whole _ _ _ (own (front ++ t ∷ []) (span_up_to q sp.end) (content_is opening front q t refl h.shape)
+            (content_spans front q t h.shape b));
+        alive = (i, a);
+        makes = λ ks ps f st. around A (FollowsStates s ss) (IsNodeOf (place_of c)) (kinds (front ++ t ∷ []))
+            (closing ∷ []) part last ks ps
+            (λ u w g. subst (λ (l : List Kind). IsNodeOf (place_of c) l (part ∷ (w ++ last ∷ [])))
+            (sym (split front t (u ++ closing ∷ []))) (node u (kinds front) w g h.are))
+            (inside (FollowsStates s ss) ks ps f);
+      }
 
 -- ## Sequences at the column of the mapping around them
 

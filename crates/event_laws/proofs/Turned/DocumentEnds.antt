@@ -22,7 +22,7 @@ use Rattle.saphyr_machine.specs.Steps.Block.{block_node}
 use Rattle.saphyr_machine.specs.Steps.Documents.{is_mark, unpassed_token_from, unpassed_token, no_content, document_content_at, document_content, token_behind_marks_at, token_behind_marks, token_behind_document_at, token_behind_document, without_prefixes, document_end_at, document_end}
 use Rattle.event_laws.proofs.Told.Telling.{Memory}
 use Rattle.event_laws.proofs.Turned.Following.{Then, IsNodeOf, IsOptionalOf, AreExplicit, Outside, FollowsStates, IsFree, BeginsFreely}
-use Rattle.event_laws.proofs.Turned.Turning.{machine, Turned, weaker}
+use Rattle.event_laws.proofs.Turned.Turning.{piece_of, machine, Turned, weaker}
 use Rattle.event_laws.proofs.Turned.Content.{split, taken_one}
 use Rattle.event_laws.proofs.Turned.Nodes.{node_turned}
 use Rattle.event_laws.proofs.Turned.Entries.{Turns, TurnsBehind, TurnsAt, by_token, skip_optional, some_node}
@@ -31,8 +31,7 @@ use Rattle.event_laws.proofs.Turned.Entries.{Turns, TurnsBehind, TurnsAt, by_tok
 
 pub block_node_turned : Turns (λ _. Then (IsNodeOf InBlock)) block_node
 unfolding block_node
-block_node_turned = by_token (λ _. Then (IsNodeOf InBlock)) (λ k. node Block)
-    (λ k sp ts r x s ss e w a. node_turned (record { span = sp; kind = k }) Block ts r x s ss e w tt a)
+block_node_turned = by_token (λ _. Then (IsNodeOf InBlock)) (λ k. node Block) (λ k sp ts r x s ss e w a. node_turned Block r x s ss e tt a (piece_of k sp) ts w)
 
 left_out : (k : Kind) → TurnsBehind (λ _. Then (IsOptionalOf InBlock)) k no_content
 left_out k sp ts r x s ss e w a = skip_optional InBlock (record { span = sp; kind = k }) sp ts r x s ss e a
@@ -48,7 +47,7 @@ content_at_turned tokens.StreamEnd = left_out tokens.StreamEnd
 content_at_turned k = λ sp ts r x s ss e w a.
     weaker (Then (IsNodeOf InBlock) (FollowsStates s ss)) (Then (IsOptionalOf InBlock) (FollowsStates s ss)) e _ _
     (some_node InBlock (FollowsStates s ss))
-    (node_turned (record { span = sp; kind = k }) Block ts r x s ss e w tt a)
+    (node_turned Block r x s ss e tt a (piece_of k sp) ts w)
 
 pub content_turned : Turns (λ _. Then (IsOptionalOf InBlock)) document_content
 unfolding document_content

@@ -95,8 +95,7 @@ is_passed _ h = absurd (cc)
 
 directive_is_passed : (d : Directive) → BelongsToNone (directive_token d)
 directive_is_passed (forest.Version _ _) = tt
-directive_is_passed (forest.TagPrefix _ _) = tt
-directive_is_passed (forest.Reserved _) = tt
+directive_is_passed _ = tt
 
 first_of_all : (a b : Kind) (x y : List Kind) → (a ∷ x) ≡ (b ∷ y) → (a ≡ b) × (x ≡ y)
 first_of_all a b x y e = ((cc), (cc))

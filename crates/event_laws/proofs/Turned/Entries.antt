@@ -21,7 +21,7 @@ use Rattle.event_laws.specs.WellFormed.{AreWellFormed}
 use Rattle.event_laws.proofs.Told.Telling.{Memory}
 use Rattle.event_laws.proofs.Remembering.{after, event_in}
 use Rattle.event_laws.proofs.Turned.Following.{Claim, Then, Exactly, IsNodeOf, IsOptionalOf, IsValueOf, IsAnyValueOf, Behind, FollowsStates, IsInsideDocument, IsAlive, Starts}
-use Rattle.event_laws.proofs.Turned.Turning.{machine, Turned, weaker, behind, replace, put}
+use Rattle.event_laws.proofs.Turned.Turning.{piece_of, machine, Turned, weaker, behind, replace, put}
 use Rattle.event_laws.proofs.Turned.Content.{place_of, Suits}
 use Rattle.event_laws.proofs.Turned.Nodes.{node_turned}
 use Rattle.std.specs.Prelude.{Some}
@@ -92,9 +92,9 @@ Turns F step = (ts : List Piece) (r : Option Refusal) (x s : State) (ss : List S
 -- so does a step that has taken a token of this kind
 abbrev pub TurnsBehind : (List Kind → Claim → Claim) → Kind → (Piece → Machine → Result Told Refusal) → Type 0
 TurnsBehind F k step = (sp : Span) (ts : List Piece) (r : Option Refusal) (x s : State) (ss : List State) (e : Memory)
-    → AreWellFormed (record { span = sp; kind = k } ∷ ts) → IsAlive s ss
-    → Turned (F (k ∷ kinds ts) (FollowsStates s ss)) e (record { span = sp; kind = k } ∷ ts)
-    (step (record { span = sp; kind = k }) (machine ts r x (s ∷ ss) e))
+    → AreWellFormed (piece_of k sp ∷ ts) → IsAlive s ss
+    → Turned (F (k ∷ kinds ts) (FollowsStates s ss)) e (piece_of k sp ∷ ts)
+    (step (piece_of k sp) (machine ts r x (s ∷ ss) e))
 
 -- ... of any kind
 abbrev pub TurnsAt : (List Kind → Claim → Claim) → (Kind → Piece → Machine → Result Told Refusal) → Type 0
@@ -110,7 +110,7 @@ pub passes : (F G : List Kind → Claim → Claim) (k : Kind) (step : Machine �
     → ((ahead : List Kind) (R : Claim) (ks : List Kind) (ps : List Part) → F ahead R ks ps
     → G (k ∷ ahead) R (k ∷ ks) ps) → Turns F step → TurnsBehind G k (λ t. step)
 passes F G k step b i h sp ts r x s ss e w a =
-    behind (record { span = sp; kind = k }) (F (kinds ts) (FollowsStates s ss)) (G (k ∷ kinds ts) (FollowsStates s ss))
+    behind (piece_of k sp) (F (kinds ts) (FollowsStates s ss)) (G (k ∷ kinds ts) (FollowsStates s ss))
     e ts _ b (i (kinds ts) (FollowsStates s ss)) (h ts r x s ss e w.2 a)
 
 -- a node is left out before the token
@@ -119,13 +119,13 @@ pub leaves_out : (F : List Kind → Claim → Claim) (o : State) (k : Kind) → 
     → F (k ∷ ahead) R ks (Leaf forest.no_properties Plain [] ∷ ps)) → (span : Span)
     → TurnsBehind F k (λ t. left_out_event t o span)
 leaves_out F o k i go span sp ts r x s ss e w a =
-    skipped (F (k ∷ kinds ts) (FollowsStates s ss)) (record { span = sp; kind = k }) span ts r x o (s ∷ ss) e (i, a)
+    skipped (F (k ∷ kinds ts) (FollowsStates s ss)) (piece_of k sp) span ts r x o (s ∷ ss) e (i, a)
     (go (kinds ts) (FollowsStates s ss))
 
 pub skips : (c : grammar.Context) (o : State) (k : Kind) → IsInsideDocument o → (span : Span)
     → TurnsBehind (λ _ R. Then (IsOptionalOf c) (Behind o R)) k (λ t. left_out_event t o span)
 skips c o k i span sp ts r x s ss e w a =
-    skip_optional c (record { span = sp; kind = k }) span ts r x o (s ∷ ss) e (i, a)
+    skip_optional c (piece_of k sp) span ts r x o (s ∷ ss) e (i, a)
 
 -- a node begins with the token
 pub enters : (F : List Kind → Claim → Claim) (c : NodeContext) (o : State) (k : Kind) → Suits c o → IsInsideDocument o
@@ -133,7 +133,7 @@ pub enters : (F : List Kind → Claim → Claim) (c : NodeContext) (o : State) (
     → Then (IsNodeOf (place_of c)) (Behind o R) ks ps → F (k ∷ ahead) R ks ps) → TurnsBehind F k (node_inside o c)
 enters F c o k z i go sp ts r x s ss e w a =
     weaker (Then (IsNodeOf (place_of c)) (Behind o (FollowsStates s ss))) (F (k ∷ kinds ts) (FollowsStates s ss)) e _ _
-    (go (kinds ts) (FollowsStates s ss)) (node_turned (record { span = sp; kind = k }) c ts r x o (s ∷ ss) e w z (i, a))
+    (go (kinds ts) (FollowsStates s ss)) (node_turned c r x o (s ∷ ss) e z (i, a) (piece_of k sp) ts w)
 
 pub enters_optional : (c : NodeContext) (o : State) (k : Kind) → Suits c o → IsInsideDocument o
     → TurnsBehind (λ _ R. Then (IsOptionalOf (place_of c)) (Behind o R)) k (node_inside o c)
@@ -149,13 +149,13 @@ pub closes : (F : List Kind → Claim → Claim) (A : Claim) (k : Kind) (what : 
     → TurnsBehind F k (λ t m. told_event what span (pop m))
 closes F A k what closing tells none b own no_more go span sp ts r x s ss e w a =
     record {
-      used = record { span = sp; kind = k } ∷ [];
+      used = piece_of k sp ∷ [];
       part = closing;
       taken = refl;
       tells = (tells e).0;
       remembers = sym (tells e).1;
       few = omega (arith, none);
-      places = passed_one (record { span = sp; kind = k }) what span b (own span ts);
+      places = passed_one (piece_of k sp) what span b (own span ts);
       alive = a;
       makes = λ ks ps f c. go (kinds ts) (FollowsStates s ss) ks (closing ∷ ps)
           (collection_ends A (FollowsStates s ss) (k ∷ []) closing ks ps no_more f);

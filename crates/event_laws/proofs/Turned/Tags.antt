@@ -126,8 +126,7 @@ back (Shorthand handle suffix) = encode_utf8_all suffix
 
 token_is : (tag : Tag) → tokens.Tag (front tag) (back tag) ≡ tag_token tag
 token_is NonSpecific = refl
-token_is (Verbatim uri) = refl
-token_is (Shorthand handle suffix) = refl
+token_is _ = refl
 
 same : (a b : ResolvedTag) → (let r : Result ResolvedTag Refusal = Ok a in r) ≡ Ok b
     → (let o : Option ResolvedTag = Some a in o) ≡ Some b

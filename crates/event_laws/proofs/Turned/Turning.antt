@@ -2,6 +2,7 @@
 use Rattle.event_laws.proofs.OwnTokens.{HasOwn, behind_own}
 use Rattle.event_laws.specs.EventsTaken.{BelongsToNone}
 use Rattle.std.proofs.Common.{◌≡◌, ◌≤◌, List, [], ◌∷◌, ◌++◌, length, Option, Some, Result, Ok, Err, refl, sym, ap, ◌∙◌, subst, append_assoc, arith}
+use Rattle.saphyr_scalar.specs.declared.scalar.position.Span.{Span}
 use Rattle.saphyr_scalar.specs.declared.scalar.fault.Refusal.{Refusal}
 use Rattle.saphyr_scanner.specs.Grammar.Tokens.{Kind}
 use Rattle.saphyr_scanner.specs.Views.Tokens.{Piece}
@@ -13,6 +14,9 @@ use Rattle.saphyr_machine.specs.Steps.Machine.{Machine, Told}
 use Rattle.event_laws.proofs.Told.Telling.{Memory}
 use Rattle.event_laws.proofs.Remembering.{after, event_in}
 use Rattle.event_laws.proofs.Turned.Following.{Claim, Then, Exactly, FollowsStates, IsAlive, Starts}
+
+abbrev pub piece_of : Kind → Span → Piece
+piece_of k sp = record { span = sp; kind = k }
 
 abbrev pub machine : List Piece → Option Refusal → State → List State → Memory → Machine
 machine ts r s ss e = record {
