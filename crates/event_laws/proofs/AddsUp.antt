@@ -1,6 +1,6 @@
 -- A claim on tokens and the parts that they stand for: where it holds of the pieces of a forest, it holds of the whole.
 use Rattle.std.proofs.Common.{◌≡◌, ◌⊎◌, ℕ, Bool, true, false, List, [], ◌∷◌, ◌++◌, map, Option, Some, None, option_map, encode_utf8_all, refl, sym, ap, subst, inl, inr, append_assoc, append-nil}
-use Rattle.saphyr_scanner.specs.Grammar.Forest.{Tag, NonSpecific, Verbatim, Shorthand, Directive, Version, TagPrefix, Reserved, Properties, no_properties, Style, Plain, Node, Alias, Scalar, Seq, Map, Nodes, NoNode, MoreNodes, Pairs, NoPair, MorePairs, left_out, Document, Forest}
+use Rattle.saphyr_scanner.specs.Grammar.Forest.{Tag, NonSpecific, Directive, Version, Properties, no_properties, Style, Plain, Node, Alias, Scalar, Seq, Map, Nodes, NoNode, MoreNodes, Pairs, NoPair, MorePairs, left_out, Document, Forest}
 use Rattle.saphyr_scanner.specs.Grammar.Tokens as tokens
 use Rattle.saphyr_scanner.specs.Grammar.Tokens.{Kind, alias_token, anchor_token, tag_token, scalar_token, directive_token}
 use Rattle.saphyr_scanner.specs.Grammar.TokenGrammar as grammar
@@ -125,13 +125,11 @@ module _ (W : List Kind → List Part → Type 0) (a : AddsUp W) where
 
   tag_single : (tag : Tag) → IsSingle (tag_token tag)
   tag_single NonSpecific = tt
-  tag_single (Verbatim uri) = tt
-  tag_single (Shorthand handle suffix) = tt
+  tag_single _ = tt
 
   directive_single : (d : Directive) → IsSingle (directive_token d)
   directive_single (Version major minor) = tt
-  directive_single (TagPrefix handle prefix) = tt
-  directive_single (Reserved name) = tt
+  directive_single _ = tt
 
   properties : (anchor : Option (List ℕ)) (tag : Option Tag) (t : List Kind)
       → AreBoth (option_map anchor_token anchor) (option_map tag_token tag) t → W t []

@@ -5,7 +5,7 @@ use Rattle.saphyr_scanner.specs.Grammar.Tokens.{Kind, anchor_token, tag_token}
 use Rattle.saphyr_scanner.specs.Grammar.TokenGrammar.{AreBoth, Yields}
 use Rattle.event_laws.specs.Anchors.{anchor_of, one_more_anchor, anchors}
 use Rattle.event_laws.specs.Preorder.{Part, parts}
-use Rattle.event_laws.proofs.AddsUp.{Collection, FlowSequence, FlowMapping, BlockSequence, BlockMapping, opening, closing, opening_part, closing_part, of_forest}
+use Rattle.event_laws.proofs.AddsUp.{Collection, FlowSequence, opening, closing, opening_part, closing_part, of_forest}
 
 one_more_sum : (o : Option (List ℕ)) (a b : ℕ) → one_more_anchor o (a + b) ≡ one_more_anchor o a + b
 one_more_sum None a b = refl
@@ -34,9 +34,7 @@ around c p ps =
     by : (c : Collection) → anchors (opening_part c p ∷ []) + (anchors ps + anchors (closing_part c ∷ []))
         ≡ one_more_anchor (option_map encode_utf8_all p.anchor) 0 + anchors ps
     by FlowSequence = omega arith
-    by FlowMapping = omega arith
-    by BlockSequence = omega arith
-    by BlockMapping = omega arith
+    by _ = omega arith
 
 pub forest_count : (f : Forest) (t : List Kind) → Yields f t → anchors (parts f) ≤ length t
 forest_count = of_forest (λ t ps. anchors ps ≤ length t) (record {

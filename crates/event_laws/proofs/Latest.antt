@@ -1,21 +1,13 @@
 -- The step by step search for an anchor finds the latest one.
 use Rattle.std.proofs.Common.{◌≡◌, ◌≢◌, ℕ, suc, Bool, true, false, List, [], ◌∷◌, ◌++◌, Option, Some, None, if◌then◌else◌, refl, sym, ◌∙◌, ap}
 use Rattle.std.proofs.lemmas.Slice.Eq.{bytes_eq-Decides}
-use Rattle.event_laws.specs.Preorder.{Part, opens_document, OpenStream, CloseStream, OpenDocument, CloseDocument, Reference, Leaf, OpenSequence, CloseSequence, OpenMapping, CloseMapping}
+use Rattle.event_laws.specs.Preorder.{Part, opens_document, OpenDocument}
 use Rattle.event_laws.specs.Anchors.{anchor_of, anchors, is_named, latest_id, AreWithout, IsLatest}
 
 -- a part that opens a document has no anchor
 opens_none : (p : Part) (name : List ℕ) → anchor_of p ≡ Some name → opens_document p ≡ false
 opens_none (OpenDocument e ds) name h = cc
-opens_none OpenStream name h = refl
-opens_none CloseStream name h = refl
-opens_none CloseDocument name h = refl
-opens_none (Reference x) name h = refl
-opens_none (Leaf p s v) name h = refl
-opens_none (OpenSequence p) name h = refl
-opens_none CloseSequence name h = refl
-opens_none (OpenMapping p) name h = refl
-opens_none CloseMapping name h = refl
+opens_none _ name h = refl
 
 pub named : (name : List ℕ) → is_named name (Some name) ≡ true
 named name = (bytes_eq-Decides name name).1 refl

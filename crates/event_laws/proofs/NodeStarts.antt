@@ -50,8 +50,7 @@ pub record Head (c : grammar.Context) (t : List Kind) : Type 0 where
 
 tag_starts : (c : grammar.Context) (tag : Tag) → Starts c (tag_token tag)
 tag_starts c NonSpecific = tt
-tag_starts c (Verbatim uri) = tt
-tag_starts c (Shorthand handle suffix) = tt
+tag_starts c _ = tt
 
 -- tokens that begin with properties, or else with content
 property_head : (c : grammar.Context) (anchor : Option (List ℕ)) (tag : Option Tag) (front content t : List Kind)

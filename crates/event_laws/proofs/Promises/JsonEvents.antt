@@ -66,25 +66,16 @@ joined_are_bare (p ∷ ps) qs h k = (h.0, joined_are_bare ps qs h.1 k)
 
 member_name_is_bare : (n : Node) (t : List ℕ) → IsMemberName n t → AreBare (node_parts n)
 member_name_is_bare (forest.Scalar p DoubleQuoted v) t h = (h.0, tt)
-member_name_is_bare (forest.Scalar p Plain v) t h = elim h [ ]
-member_name_is_bare (forest.Scalar p SingleQuoted v) t h = elim h [ ]
-member_name_is_bare (forest.Scalar p Literal v) t h = elim h [ ]
-member_name_is_bare (forest.Scalar p Folded v) t h = elim h [ ]
-member_name_is_bare (Alias x) t h = elim h [ ]
-member_name_is_bare (forest.Seq p ns) t h = elim h [ ]
-member_name_is_bare (forest.Map p ps) t h = elim h [ ]
+member_name_is_bare _ t h = elim h [ ]
 
 mutual
   value : (n : Node) (t : List ℕ) → IsValue n t → AreBare (node_parts n)
   value (forest.Scalar p Plain v) t h = (h.0, tt)
   value (forest.Scalar p DoubleQuoted v) t h = (h.0, tt)
-  value (forest.Scalar p SingleQuoted v) t h = elim h [ ]
-  value (forest.Scalar p Literal v) t h = elim h [ ]
-  value (forest.Scalar p Folded v) t h = elim h [ ]
-  value (Alias x) t h = elim h [ ]
   value (forest.Seq p ns) t h =
       (h.3, joined_are_bare (entry_parts ns) (CloseSequence ∷ []) (elements ns h.1 h.5) (tt, tt))
   value (forest.Map p ps) t h = (h.3, joined_are_bare (pair_parts ps) (CloseMapping ∷ []) (members ps h.1 h.5) (tt, tt))
+  value _ t h = elim h [ ]
 
   elements : (ns : Nodes) (t : List ℕ) → AreElements ns t → AreBare (entry_parts ns)
   elements NoNode t h = tt

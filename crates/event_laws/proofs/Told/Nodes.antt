@@ -44,8 +44,7 @@ handle_stands handle names place prefix (Some other) h = cc
 pub handle_is_some : (handle : Handle) → 0 < length (handle_bytes handle)
 unfolding encode
 handle_is_some Primary = omega arith
-handle_is_some Secondary = omega arith
-handle_is_some (Named word) = omega arith
+handle_is_some _ = omega arith
 
 pub has_handle : (handle : List ℕ) (names : Names (List ℕ)) (place : Marker) → 0 < length handle
     → declared_prefix names handle place ≡ declared_prefix_or (meaning handle names) (undeclared_prefix handle place)

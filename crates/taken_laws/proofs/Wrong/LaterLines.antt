@@ -66,9 +66,7 @@ at_line _ _ _ _ (itself q c t items x h r) m e =
 at_line _ _ _ _ (broken q t items x h r) m e =
     let k : false ≡ true = sym (ap (λ l. is_quoted_line 2 (drop (break_len l) l)) e) ∙ m.0 in cc
 at_line _ _ _ _ (two_quotes t items x r) m e = let z : 10 ≡ 39 = heads 39 10 _ _ e in omega (arith, z)
-at_line _ _ _ _ (escaped f c t items x h r) m e = let z : 10 ≡ 92 = heads 92 10 _ _ e in omega (arith, z)
-at_line _ _ _ _ (numbered f c ds t items x h r) m e = let z : 10 ≡ 92 = heads 92 10 _ _ e in omega (arith, z)
-at_line _ _ _ _ (escaped_break t items x h r) m e = let z : 10 ≡ 92 = heads 92 10 _ _ e in omega (arith, z)
+at_line _ _ _ _ _ m e = let z : 10 ≡ 92 = heads 92 10 _ _ e in omega (arith, z)
 
 before_line : (q : Quote) (t : List ℕ) (items : List Item) (x : List ℕ) (is : IsText q t items x)
     → HasIndentedLines 2 q t items x is → t ≡ codes "a\nb\"" → ⊥
@@ -77,9 +75,7 @@ before_line _ _ _ _ (itself q c t items x h r) m e = at_line q t items x r m (ta
 before_line _ _ _ _ (broken q t items x h r) m e =
     let k : false ≡ true = sym (ap (λ l. is_break (slice_index l 0)) e) ∙ h in cc
 before_line _ _ _ _ (two_quotes t items x r) m e = let z : 97 ≡ 39 = heads 39 97 _ _ e in omega (arith, z)
-before_line _ _ _ _ (escaped f c t items x h r) m e = let z : 97 ≡ 92 = heads 92 97 _ _ e in omega (arith, z)
-before_line _ _ _ _ (numbered f c ds t items x h r) m e = let z : 97 ≡ 92 = heads 92 97 _ _ e in omega (arith, z)
-before_line _ _ _ _ (escaped_break t items x h r) m e = let z : 97 ≡ 92 = heads 92 97 _ _ e in omega (arith, z)
+before_line _ _ _ _ _ m e = let z : 97 ≡ 92 = heads 92 97 _ _ e in omega (arith, z)
 
 pub quoted_line_refused : AreTakenFrom (codes "- - \"a\nb\"") lines.quoted_line → ⊥
 quoted_line_refused (end, tokens, place, fin) =
