@@ -21,9 +21,7 @@ layer_anchor : (layer : Node-F Node) (behind others : List Happening) (start : H
     → unload_step (map-Node Node (List Happening) node_events layer) ++ behind ≡ start ∷ others
     → anchor_in_event start ≡ anchor_in_layer layer
 layer_anchor (Node-F.Alias id) behind others start e = head_anchor _ start _ others e
-layer_anchor (Node-F.Scalar text style id tag) behind others start e = head_anchor _ start _ others e
-layer_anchor (Node-F.Seq id tag nodes) behind others start e = head_anchor _ start _ others e
-layer_anchor (Node-F.Map id tag pairs) behind others start e = head_anchor _ start _ others e
+layer_anchor _ behind others start e = head_anchor _ start _ others e
 
 node_anchor : (node : Node) (behind others : List Happening) (start : Happening)
     → node_events node ++ behind ≡ start ∷ others → anchor_in_event start ≡ anchor_of_node node
@@ -33,15 +31,7 @@ node_anchor node behind others start e =
 end_anchor : (h : Happening) (id : ℕ) → IsCollectionEnd h → anchor_in_event h ≡ Some id → ⊥
 end_anchor events.SequenceEnd id end e = cc
 end_anchor events.MappingEnd id end e = cc
-end_anchor events.Nothing id end e = absurd end
-end_anchor events.StreamStart id end e = absurd end
-end_anchor events.StreamEnd id end e = absurd end
-end_anchor (events.DocumentStart explicit) id end e = absurd end
-end_anchor events.DocumentEnd id end e = absurd end
-end_anchor (events.Alias other) id end e = absurd end
-end_anchor (events.Scalar text style other tag) id end e = absurd end
-end_anchor (events.SequenceStart other tag) id end e = absurd end
-end_anchor (events.MappingStart other tag) id end e = absurd end
+end_anchor _ id end e = absurd end
 
 -- ## The search
 

@@ -1,17 +1,15 @@
 -- A count of expanded nodes, event after event, is the count of the tree.
 use Rattle.std.proofs.Common.{◌≡◌, ℕ, ◌+◌, min, List, [], ◌∷◌, ◌++◌, map, Option, Result, Ok, Err, OnOk, refl, sym, ap, subst, ◌∙◌, append_assoc, arith, rules, String, Global}
-use Rattle.std.specs.List.{flat_map}
 use Rattle.saphyr_scalar.specs.declared.scalar.style.ScalarStyle.{ScalarStyle}
 use Rattle.saphyr_parser.specs.Types.Tag.{Tag}
 use Rattle.saphyr_parser.specs.Events as events
 use Rattle.saphyr_parser.specs.Events.{Happening, SequenceEnd, MappingEnd}
 use Rattle.yaml_tree.specs.declared.node.Node.{Node, Alias, Scalar, out-Node, the_lemmas}
-use Rattle.yaml_tree.specs.declared.node.Node.TheOpen.{Node-F}
-use Rattle.yaml_tree.specs.declared.node.Node.TheFolds.{ind-Node, fold-roll-Node, map-Node}
 use Rattle.yaml_tree.specs.declared.expanding.Counter.{Counter}
-use Rattle.yaml_tree.specs.Unloading.{node_events, both_events, unload_step}
-use Rattle.yaml_tree.specs.Expanding.{Sizes, Expanded, most, no_sizes, followed_by, expanded, expanded_items, expanded_pairs, expand_step}
+use Rattle.yaml_tree.specs.Unloading.{node_events}
+use Rattle.yaml_tree.specs.Expanding.{Sizes, Expanded, most, no_sizes, followed_by, expanded}
 use Rattle.yaml_tree.specs.CounterSeen.{Count, with_nodes, begun, left_to, left, entered_layer, counted, counted_all, size_in, AreOpen, Holds, IsCounting}
+use Rattle.yaml_tree.proofs.EachNode.{of_node}
 use Rattle.yaml_tree.proofs.LastItems.{none_is_last, same_last}
 
 -- ## The events of a node
@@ -54,38 +52,6 @@ grows_by_both xs ys e f first second = record {
 abbrev IsCounted : Node → Type 0
 IsCounted n = Grows (node_events n) (expanded n)
 
--- W is a node with a proof beside it
-
-in_sequence : {W : Type 0} (node : W → Node) (holds : (w : W) → IsCounted (node w)) (ws : List W)
-    → Grows (flat_map (λ (events : List Happening). events) (map node_events (map node ws)))
-    (expanded_items (map expanded (map node ws)))
-in_sequence node holds [] = grows_by_none
-in_sequence node holds (w ∷ ws) = grows_by_both _ _ (expanded (node w)) (expanded_items (map expanded (map node ws)))
-    (holds w) (in_sequence node holds ws)
-
-abbrev both : (Node × Node) → List Happening × List Happening
-both p = (node_events p.0, node_events p.1)
-
-abbrev both_expanded : (Node × Node) → (Sizes → Expanded) × (Sizes → Expanded)
-both_expanded p = (expanded p.0, expanded p.1)
-
-in_pair : (key value : Node) (others : List Happening) (rest : Sizes → Expanded) → IsCounted key → IsCounted value
-    → Grows others rest → Grows ((node_events key ++ node_events value) ++ others)
-    (λ sizes. followed_by (expanded key sizes) (λ behind. followed_by (expanded value behind) rest))
-in_pair key value others rest k v r =
-    let values : Sizes → Expanded = λ sizes. followed_by (expanded value sizes) rest in
-    subst (λ (hs : List Happening). Grows hs (λ sizes. followed_by (expanded key sizes) values))
-    (sym (append_assoc (node_events key) (node_events value) others))
-    (grows_by_both _ _ (expanded key) values k (grows_by_both _ _ (expanded value) rest v r))
-
-in_mapping : {W : Type 0} (node : W → Node) (holds : (w : W) → IsCounted (node w)) (ws : List (W × W))
-    → Grows (flat_map both_events (map both (map (λ (p : W × W). (node p.0, node p.1)) ws)))
-    (expanded_pairs (map both_expanded (map (λ (p : W × W). (node p.0, node p.1)) ws)))
-in_mapping node holds [] = grows_by_none
-in_mapping {W} node holds (w ∷ ws) = in_pair (node w.0) (node w.1) _
-    (expanded_pairs (map both_expanded (map (λ (p : W × W). (node p.0, node p.1)) ws)))
-    (holds w.0) (holds w.1) (in_mapping node holds ws)
-
 around : (inner : List Happening) (e : Sizes → Expanded) (end : Happening) (id : ℕ) (c : Count) → Grows inner e
     → ((d : Count) → counted end d ≡ left d)
     → counted_all (inner ++ end ∷ []) (begun id c)
@@ -93,31 +59,15 @@ around : (inner : List Happening) (e : Sizes → Expanded) (end : Happening) (id
 around inner e end id c grows ends = counted-append inner (end ∷ []) (begun id c)
     ∙ ap (counted_all (end ∷ [])) (grows.by (begun id c)) ∙ ends (grown (e c.sizes) (begun id c))
 
-in_layer : {W : Type 0} (node : W → Node) (holds : (w : W) → IsCounted (node w)) (y : Node-F W)
-    → Grows (unload_step (map-Node Node (List Happening) node_events (map-Node W Node node y)))
-    (expand_step (map-Node Node (Sizes → Expanded) expanded (map-Node W Node node y)))
-in_layer node holds (Node-F.Alias id) = record { by = λ c. refl }
-in_layer node holds (Node-F.Scalar text style id tag) = record { by = λ c. refl }
-in_layer node holds (Node-F.Seq id tag nodes) = record {
-  by = λ c. around _
-      (expanded_items (map expanded (map node nodes.items))) SequenceEnd id c (in_sequence node holds nodes.items)
-      (λ d. refl);
-}
-in_layer {W} node holds (Node-F.Map id tag pairs) = record {
-  by = λ c. around _
-      (expanded_pairs (map both_expanded (map (λ (p : W × W). (node p.0, node p.1)) pairs.items))) MappingEnd id c
-      (in_mapping node holds pairs.items) (λ d. refl);
-}
-
-grows_as : {hs ks : List Happening} {e f : Sizes → Expanded} → ks ≡ hs → f ≡ e → Grows hs e → Grows ks f
-grows_as {hs} {ks} {e} {f} same alike grows =
-    subst (λ (l : List Happening). Grows l f) (sym same) (subst (Grows hs) (sym alike) grows)
-
 counts_node : (n : Node) → IsCounted n
-counts_node = ind-Node IsCounted (λ x y is.
-    grows_as (fold-roll-Node (List Happening) unload_step x) (fold-roll-Node (Sizes → Expanded) expand_step x)
-    (subst (λ (z : Node-F Node). Grows (unload_step (map-Node Node (List Happening) node_events z))
-    (expand_step (map-Node Node (Sizes → Expanded) expanded z))) is (in_layer (λ e. e.0) (λ e. e.1) y)))
+counts_node = of_node Grows (record {
+  nothing = grows_by_none;
+  both = grows_by_both;
+  alias = λ id. record { by = λ c. refl };
+  scalar = λ text style id tag. record { by = λ c. refl };
+  sequence = λ id tag inner e h. record { by = λ c. around inner e SequenceEnd id c h (λ d. refl) };
+  mapping = λ id tag inner e h. record { by = λ c. around inner e MappingEnd id c h (λ d. refl) };
+})
 
 pub counts_none : (root : Node) (to_come : List Happening) (counter : Counter)
     → Holds counter (record { nodes = 0; sizes = no_sizes; levels = [] }) → to_come ≡ node_events root

@@ -19,17 +19,8 @@ ends-append [] ys = omega arith
 ends-append (x ∷ xs) ys = omega (arith, ends-append xs ys)
 
 no_end : (h : Happening) → (h ≡ DocumentEnd → ⊥) → end h ≡ 0
-no_end Nothing n = refl
-no_end StreamStart n = refl
-no_end StreamEnd n = refl
-no_end (DocumentStart explicit) n = refl
 no_end DocumentEnd n = absurd (n refl)
-no_end (Alias id) n = refl
-no_end (Scalar text style id tag) n = refl
-no_end (SequenceStart id tag) n = refl
-no_end SequenceEnd n = refl
-no_end (MappingStart id tag) n = refl
-no_end MappingEnd n = refl
+no_end _ n = refl
 
 pub ends_none : (hs : List Happening) → EndNoDocument hs → ends hs ≡ 0
 ends_none [] n = refl

@@ -197,10 +197,7 @@ loads_last limits before false all left l (Ok (Some d)) at on t h =
 loads_last limits before false all left l (Ok None) at on t h = passes_stream limits before all left l at t h
 loads_last limits before false all left l (Err fault.NotFresh) at on t h =
     inr (on.0, not_whole before (happenings all.events) all.fault _ on.1 t.fault t.loader.nested h.0 h.1)
-loads_last limits before b all left l (Err fault.OutOfMemory) at on t h = absurd h
-loads_last limits before b all left l (Err (fault.Parse f)) at on t h = absurd h
-loads_last limits before b all left l (Err (fault.TooManyNodes place most)) at on t h = absurd h
-loads_last limits before b all left l (Err (fault.TooDeep place most)) at on t h = absurd h
+loads_last limits before b all left l (Err _) at on t h = absurd h
 
 -- counts after the stream's start or nothing forbid the same
 own_stop : (f : TreeFault) (limits : Limits) (before hs : List Happening) (place : Marker) → AtMost StreamStart before
@@ -275,9 +272,7 @@ runs_out limits all left (Err (fault.Parse parse.Receiver)) h l = l
 runs_out limits all left (Err (fault.Parse parse.InsideDocument)) h l = l
 runs_out limits all left (Err fault.NotFresh) h (inl late) = absurd (late.0 tt)
 runs_out limits all left (Err fault.NotFresh) h (inr ill) = absurd (ill.1 tt)
-runs_out limits all left (Err fault.OutOfMemory) h l = absurd (never_stops _ _ _ l.0)
-runs_out limits all left (Err (fault.TooManyNodes place most)) h l = absurd (never_stops _ _ _ l.0)
-runs_out limits all left (Err (fault.TooDeep place most)) h l = absurd (never_stops _ _ _ l.0)
+runs_out limits all left (Err _) h l = absurd (never_stops _ _ _ l.0)
 
 loads_behind_look : (limits : Limits) (all mid left : Answer) (r : Result (Option Document) TreeFault)
     → Stays all mid → LoadsDocument limits r mid left → LoadsDocument limits r all left
@@ -328,15 +323,9 @@ leaves_last limits before false old new l (Ok (Some d)) at on t h k =
 leaves_last limits before false old new l (Ok None) at on t h k = k
 leaves_last limits before false old new l (Err fault.NotFresh) at on t h k =
     inr (on.0, record { handed = (to_come old).events; over = k.0 })
-leaves_last limits before b old new l (Err fault.OutOfMemory) at on t h k = absurd h
-leaves_last limits before b old new l (Err (fault.Parse f)) at on t h k = absurd h
-leaves_last limits before b old new l (Err (fault.TooManyNodes place most)) at on t h k = absurd h
-leaves_last limits before b old new l (Err (fault.TooDeep place most)) at on t h k = absurd h
+leaves_last limits before b old new l (Err _) at on t h k = absurd h
 
 pub leaves_failed : (before : List Happening) (f : TreeFault) (old new : EventCursor)
     → GoesOnBehind before (to_come old) → LeavesPart (Err f) old new → LeavesBehindLook (Err f) old new
-leaves_failed before (fault.Parse f) old new on k = k
 leaves_failed before fault.NotFresh old new on k = inr (on.0, k)
-leaves_failed before fault.OutOfMemory old new on k = k
-leaves_failed before (fault.TooManyNodes place most) old new on k = k
-leaves_failed before (fault.TooDeep place most) old new on k = k
+leaves_failed before _ old new on k = k

@@ -37,18 +37,12 @@ pub leaves_at : (X : Type 0) (f : TreeFault) (limits : Limits) (events : List Ha
     (a b : EventCursor) → Forbids f limits events place → HasHandedOut a b
     → LeavesFrom {X = X} (Err f) a b
 leaves_at X (fault.Parse f) limits events place a b w h = absurd w
-leaves_at X fault.NotFresh limits events place a b w h = h
-leaves_at X fault.OutOfMemory limits events place a b w h = h
-leaves_at X (fault.TooManyNodes at most) limits events place a b w h = h
-leaves_at X (fault.TooDeep at most) limits events place a b w h = h
+leaves_at X _ limits events place a b w h = h
 
 pub leaves_looked : (X Y : Type 0) (f : TreeFault) (old looked new : EventCursor) → Looks old looked
     → IsAtStart (to_come looked) → LeavesFrom {X = X} (Err f) looked new → LeavesParser {X = Y} (Err f) old new
-leaves_looked X Y (fault.Parse f) old looked new l s h = record { looked = looked; looks = l; leaves = h }
 leaves_looked X Y fault.NotFresh old looked new l s h = record { looked = looked; looks = l; leaves = inr (s, h) }
-leaves_looked X Y fault.OutOfMemory old looked new l s h = record { looked = looked; looks = l; leaves = h }
-leaves_looked X Y (fault.TooManyNodes at most) old looked new l s h = record { looked = looked; looks = l; leaves = h }
-leaves_looked X Y (fault.TooDeep at most) old looked new l s h = record { looked = looked; looks = l; leaves = h }
+leaves_looked X Y _ old looked new l s h = record { looked = looked; looks = l; leaves = h }
 
 -- all events were taken, and the documents are finished
 pub leaves_behind : (r : Result (Vec Document Global) TreeFault) (b : Builder) (old looked new : EventCursor)
@@ -57,10 +51,7 @@ pub leaves_behind : (r : Result (Vec Document Global) TreeFault) (b : Builder) (
 leaves_behind (Ok documents) b old looked new l s h f = record { looked = looked; looks = l; leaves = h }
 leaves_behind (Err fault.NotFresh) b old looked new l s h f =
     record { looked = looked; looks = l; leaves = inr (s, record { handed = (to_come looked).events; over = h.0 }) }
-leaves_behind (Err fault.OutOfMemory) b old looked new l s h f = absurd f
-leaves_behind (Err (fault.Parse g)) b old looked new l s h f = absurd f
-leaves_behind (Err (fault.TooManyNodes at most)) b old looked new l s h f = absurd f
-leaves_behind (Err (fault.TooDeep at most)) b old looked new l s h f = absurd f
+leaves_behind (Err _) b old looked new l s h f = absurd f
 
 -- ## Document after document
 
@@ -85,10 +76,7 @@ leaves_rest x y a b c h (all, over) =
 pub leaves_fault : (X Y : Type 0) (f : TreeFault) (a b c : EventCursor) → HasHandedOut a b
     → LeavesFrom {X = X} (Err f) b c → LeavesFrom {X = Y} (Err f) a c
 leaves_fault X Y (fault.Parse f) a b c h (m, k, fails) = (m, hands_both a b m h k, fails)
-leaves_fault X Y fault.NotFresh a b c h k = hands_both a b c h k
-leaves_fault X Y fault.OutOfMemory a b c h k = hands_both a b c h k
-leaves_fault X Y (fault.TooManyNodes at most) a b c h k = hands_both a b c h k
-leaves_fault X Y (fault.TooDeep at most) a b c h k = hands_both a b c h k
+leaves_fault X Y _ a b c h k = hands_both a b c h k
 
 less_before : (es : List (Happening × Span)) (a b : Answer) (n : ℕ) → a.events ≡ es ++ b.events
     → a.fault ≡ b.fault → n < count b → n < count a

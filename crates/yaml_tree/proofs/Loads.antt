@@ -28,18 +28,12 @@ pub loads_all : (limits : Limits) (all left : Answer) (l : Loader) (r : Result (
 loads_all limits all left l (Ok documents) b t f = (f.0 ∙ t.0.written, t.1, t.0.within, t.2)
 loads_all limits all left l (Err fault.NotFresh) b t f =
     inr (b, λ w. f (whole_is_complete all.fault _ _ t.1 t.0.nested w))
-loads_all limits all left l (Err fault.OutOfMemory) b t f = absurd f
-loads_all limits all left l (Err (fault.Parse g)) b t f = absurd f
-loads_all limits all left l (Err (fault.TooManyNodes at most)) b t f = absurd f
-loads_all limits all left l (Err (fault.TooDeep at most)) b t f = absurd f
+loads_all limits all left l (Err _) b t f = absurd f
 
 pub loads_none : (limits : Limits) (all left : Answer) (f : TreeFault) → IsAtStart all → FailsToLoad limits f all left
     → LoadsDocuments limits (Err f) all left
 loads_none limits all left fault.NotFresh b h = inr (b, h)
-loads_none limits all left fault.OutOfMemory b h = h
-loads_none limits all left (fault.Parse g) b h = h
-loads_none limits all left (fault.TooManyNodes at most) b h = h
-loads_none limits all left (fault.TooDeep at most) b h = h
+loads_none limits all left _ b h = h
 
 -- ## Lack of memory before the first event
 
@@ -67,9 +61,7 @@ runs_out limits all left (Err (fault.Parse parse.Receiver)) h l = l
 runs_out limits all left (Err (fault.Parse parse.InsideDocument)) h l = l
 runs_out limits all left (Err fault.NotFresh) h (inl late) = absurd (late.0 tt)
 runs_out limits all left (Err fault.NotFresh) h (inr ill) = absurd (ill.1 tt)
-runs_out limits all left (Err fault.OutOfMemory) h l = absurd (never_stops _ _ _ l)
-runs_out limits all left (Err (fault.TooManyNodes at most)) h l = absurd (never_stops _ _ _ l)
-runs_out limits all left (Err (fault.TooDeep at most)) h l = absurd (never_stops _ _ _ l)
+runs_out limits all left (Err _) h l = absurd (never_stops _ _ _ l)
 
 pub loads_behind : (limits : Limits) (all mid left : Answer) (r : Result (Vec Document Global) TreeFault)
     → Stays all mid → LoadsDocuments limits r mid left → LoadsDocuments limits r all left

@@ -24,25 +24,19 @@ collection_is_inner : (p : NestPlace) → IsCollection p → IsInner p
 collection_is_inner BeforeStream h = h
 collection_is_inner InStream h = h
 collection_is_inner BehindStream h = h
-collection_is_inner BeforeRoot h = tt
-collection_is_inner BehindRoot h = tt
-collection_is_inner InSequence h = tt
-collection_is_inner BeforeKey h = tt
-collection_is_inner BeforeValue h = tt
+collection_is_inner _ h = tt
 
 -- the one place may become the other: what is inside stays so, and so do collections
 abbrev Follows : NestPlace → NestPlace → Type 0
 Follows p q = IsInner p → IsInner q × (IsCollection p → IsCollection q)
 
 follows_node : (p q : NestPlace) → place_behind_node p ≡ Some q → Follows p q
-follows_node BeforeStream q e h = absurd h
-follows_node InStream q e h = absurd h
-follows_node BehindStream q e h = absurd h
 follows_node BeforeRoot q e h = let same : BehindRoot ≡ q = cc in (subst IsInner same tt, λ c. absurd c)
 follows_node BehindRoot q e h = absurd (cc)
 follows_node InSequence q e h = let same : InSequence ≡ q = cc in (subst IsInner same tt, λ c. subst IsCollection same c)
 follows_node BeforeKey q e h = let same : BeforeValue ≡ q = cc in (subst IsInner same tt, λ c. subst IsCollection same c)
 follows_node BeforeValue q e h = let same : BeforeKey ≡ q = cc in (subst IsInner same tt, λ c. subst IsCollection same c)
+follows_node _ q e h = absurd h
 
 -- what leads on from a place of a stream leads nowhere from others
 outside : (p : NestPlace) → IsInner p
@@ -50,11 +44,7 @@ outside : (p : NestPlace) → IsInner p
 outside BeforeStream h = absurd h
 outside InStream h = absurd h
 outside BehindStream h = absurd h
-outside BeforeRoot h = (refl, refl, refl)
-outside BehindRoot h = (refl, refl, refl)
-outside InSequence h = (refl, refl, refl)
-outside BeforeKey h = (refl, refl, refl)
-outside BeforeValue h = (refl, refl, refl)
+outside _ h = (refl, refl, refl)
 
 -- ## Steps
 
@@ -99,11 +89,7 @@ ends InSequence outer m =
     (λ e. absurd (cc), λ e. (refl, closes place_behind_node outer m e), λ e. absurd (cc))
 ends BeforeKey outer m =
     (λ e. absurd (cc), λ e. absurd (cc), λ e. (refl, closes place_behind_node outer m e))
-ends BeforeStream outer m = (λ e. absurd (cc), λ e. absurd (cc), λ e. absurd (cc))
-ends InStream outer m = (λ e. absurd (cc), λ e. absurd (cc), λ e. absurd (cc))
-ends BehindStream outer m = (λ e. absurd (cc), λ e. absurd (cc), λ e. absurd (cc))
-ends BeforeRoot outer m = (λ e. absurd (cc), λ e. absurd (cc), λ e. absurd (cc))
-ends BeforeValue outer m = (λ e. absurd (cc), λ e. absurd (cc), λ e. absurd (cc))
+ends _ outer m = (λ e. absurd (cc), λ e. absurd (cc), λ e. absurd (cc))
 
 -- ## Events
 
@@ -212,13 +198,7 @@ only_stream : (q r : NestPlace) (outer : List NestPlace) → AreGrounded q outer
     → record { innermost = r; outer = outer } ≡ nest_in_stream
 only_stream InStream r [] g e = cc
 only_stream InStream r (s ∷ ss) g e = absurd g.0
-only_stream BeforeStream r outer g e = absurd (cc)
-only_stream BehindStream r outer g e = absurd (cc)
-only_stream BeforeRoot r outer g e = absurd (cc)
-only_stream BehindRoot r outer g e = absurd (cc)
-only_stream InSequence r outer g e = absurd (cc)
-only_stream BeforeKey r outer g e = absurd (cc)
-only_stream BeforeValue r outer g e = absurd (cc)
+only_stream _ r outer g e = absurd (cc)
 
 one_end : (n m : Nest) → HoldsOf AreGrounded n → nest_behind_event DocumentEnd n ≡ Some m → m ≡ nest_in_stream
 one_end n m g e =

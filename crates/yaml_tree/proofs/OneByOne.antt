@@ -8,7 +8,7 @@ use Rattle.saphyr_parser.specs.Events.{Happening, Nothing, StreamStart, StreamEn
 use Rattle.saphyr_parser.specs.Answer.{Answer, Ending}
 use Rattle.saphyr_parser.specs.EventsTaken.{IsCut, AreTaken}
 use Rattle.saphyr_parser.specs.Nesting.{Nest, nest_before_stream, nest_behind_stream, nest_behind_all, happenings, IsStreamStart, BeginsStream, IsAtStart, IsWhole, IsNested}
-use Rattle.event_laws.proofs.Nesting.{nest_behind_all-append, forest_nests, nests, starts}
+use Rattle.event_laws.proofs.Nesting.{nest_behind_all-append, forest_nests, whole_at_end, nests, starts}
 use Rattle.yaml_tree.specs.declared.fault.TreeFault.TheVariants as fault
 use Rattle.yaml_tree.specs.declared.tally.Limits.{Limits}
 use Rattle.yaml_tree.specs.declared.document.Document.{Document}
@@ -240,29 +240,11 @@ next_at_start : (es : List (Happening × Span)) (f : Option Ending) → BeginsSt
     → IsWhole f (nest_behind_all (happenings es) nest_before_stream) → IsNext es f
 next_at_start [] f b w = record { between = tt; nests = tt }
 next_at_start ((StreamStart, span) ∷ es) f b w = record { between = tt; nests = w }
-next_at_start ((Nothing, span) ∷ es) f b w = absurd b
-next_at_start ((StreamEnd, span) ∷ es) f b w = absurd b
-next_at_start ((DocumentStart explicit, span) ∷ es) f b w = absurd b
-next_at_start ((DocumentEnd, span) ∷ es) f b w = absurd b
-next_at_start ((Alias id, span) ∷ es) f b w = absurd b
-next_at_start ((Scalar text style id tag, span) ∷ es) f b w = absurd b
-next_at_start ((SequenceStart id tag, span) ∷ es) f b w = absurd b
-next_at_start ((SequenceEnd, span) ∷ es) f b w = absurd b
-next_at_start ((MappingStart id tag, span) ∷ es) f b w = absurd b
-next_at_start ((MappingEnd, span) ∷ es) f b w = absurd b
-
-whole_of : (f : Option Ending) (o : Option Nest) (missing : List Happening) → IsCut f missing
-    → option_and_then (nest_behind_all missing) o ≡ Some nest_behind_stream → IsWhole f o
-whole_of f None missing cut e = absurd (cc)
-whole_of (Some f) (Some n) missing cut e = tt
-whole_of None (Some n) missing cut e =
-    let same : nest_behind_all missing n ≡ Some n = ap (λ (hs : List Happening). nest_behind_all hs n) cut in
-    let found : Some n ≡ Some nest_behind_stream = sym same ∙ e in
-    cc
+next_at_start ((_, span) ∷ es) f b w = absurd b
 
 whole_from : (f : Option Ending) (hs missing : List Happening) → IsCut f missing → AreComplete (hs ++ missing)
     → IsWhole f (nest_behind_all hs nest_in_stream)
-whole_from f hs missing cut e = whole_of f (nest_behind_all hs nest_in_stream) missing cut
+whole_from f hs missing cut e = whole_at_end f (nest_behind_all hs nest_in_stream) missing cut
     (sym (nest_behind_all-append hs missing nest_in_stream) ∙ e)
 
 next_in_stream : (es : List (Happening × Span)) (f : Option Ending) (missing : List Happening)
@@ -271,17 +253,11 @@ next_in_stream : (es : List (Happening × Span)) (f : Option Ending) (missing : 
 next_in_stream [] f missing c w = record { between = tt; nests = tt }
 next_in_stream ((StreamEnd, span) ∷ es) f missing c w = record { between = tt; nests = w }
 next_in_stream ((DocumentStart explicit, span) ∷ es) f missing c w = record { between = tt; nests = w }
-next_in_stream ((Nothing, span) ∷ es) f missing c w = absurd (cc)
-next_in_stream ((StreamStart, span) ∷ es) f missing c w = absurd (cc)
-next_in_stream ((DocumentEnd, span) ∷ es) f missing c w = absurd (cc)
-next_in_stream ((Alias id, span) ∷ es) f missing c w = absurd (cc)
-next_in_stream ((Scalar text style id tag, span) ∷ es) f missing c w = absurd (cc)
 next_in_stream ((SequenceStart id tag, span) ∷ es) f missing c w =
     absurd (never_ends (happenings es ++ missing) _ (tt, refl) c)
-next_in_stream ((SequenceEnd, span) ∷ es) f missing c w = absurd (cc)
 next_in_stream ((MappingStart id tag, span) ∷ es) f missing c w =
     absurd (never_ends (happenings es ++ missing) _ (tt, refl) c)
-next_in_stream ((MappingEnd, span) ∷ es) f missing c w = absurd (cc)
+next_in_stream ((_, span) ∷ es) f missing c w = absurd (cc)
 
 never_inside : (limits : Limits) (left behind : Answer) → IsNext left.events left.fault
     → LoadsDocument limits (Err fault.NotFresh) left behind → ⊥

@@ -91,12 +91,7 @@ keeps_node StreamStart span k h = absurd h
 keeps_node StreamEnd span k h = absurd h
 keeps_node (DocumentStart explicit) span k h = absurd h
 keeps_node DocumentEnd span k h = absurd h
-keeps_node (Alias id) span k h = refl
-keeps_node (Scalar text style id tag) span k h = refl
-keeps_node (SequenceStart id tag) span k h = refl
-keeps_node SequenceEnd span k h = refl
-keeps_node (MappingStart id tag) span k h = refl
-keeps_node MappingEnd span k h = refl
+keeps_node _ span k h = refl
 
 abbrev with_spans : List Span → KeptSpans → KeptSpans
 with_spans spans k = record { ended = k.ended; start = k.start; nodes = k.nodes ++ spans }

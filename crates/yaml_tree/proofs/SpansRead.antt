@@ -71,10 +71,5 @@ tells_spans (Ok s) limits all mid left l first (inr lost) t k ended nodes finish
 pub leaves_alike : (r : Result SpannedDocuments TreeFault) (old new : EventCursor)
     → LeavesParser (documents_of r) old new → LeavesParser r old new
 leaves_alike (Ok s) old new h = record { looked = h.looked; looks = h.looks; leaves = h.leaves }
-leaves_alike (Err fault.NotFresh) old new h = record { looked = h.looked; looks = h.looks; leaves = h.leaves }
-leaves_alike (Err fault.OutOfMemory) old new h = record { looked = h.looked; looks = h.looks; leaves = h.leaves }
-leaves_alike (Err (fault.Parse f)) old new h = record { looked = h.looked; looks = h.looks; leaves = h.leaves }
-leaves_alike (Err (fault.TooManyNodes at most)) old new h =
-    record { looked = h.looked; looks = h.looks; leaves = h.leaves }
-leaves_alike (Err (fault.TooDeep at most)) old new h =
+leaves_alike _ old new h =
     record { looked = h.looked; looks = h.looks; leaves = h.leaves }

@@ -74,9 +74,7 @@ takes limits events h place old new (Ok u) t c g = record {
 takes limits events h place old new (Err fault.NotFresh) t c g = nested_more events h _ _ t.nested g
 takes limits events h place old new (Err fault.OutOfMemory) t c g = fits_along _ limits _ _ t.same_limits
     (counted_more events h old.tally _ t.counted refl) c.2
-takes limits events h place old new (Err (fault.Parse f)) t c g = absurd g
-takes limits events h place old new (Err (fault.TooManyNodes at most)) t c g = absurd g
-takes limits events h place old new (Err (fault.TooDeep at most)) t c g = absurd g
+takes limits events h place old new (Err _) t c g = absurd g
 
 pub exceeds : (limits : Limits) (events : List Happening) (h : Happening) (place : Marker) (old : Loader)
     (f : TreeFault) → HasTaken limits events old
@@ -86,9 +84,7 @@ exceeds limits events h place old (fault.TooManyNodes at most) t c = exceeds_mor
     (fault.TooManyNodes at most) _ limits _ _ place t.same_limits (counted_more events h old.tally _ t.counted refl) c
 exceeds limits events h place old (fault.TooDeep at most) t c = exceeds_more
     (fault.TooDeep at most) _ limits _ _ place t.same_limits (counted_more events h old.tally _ t.counted refl) c
-exceeds limits events h place old (fault.Parse f) t c = absurd c
-exceeds limits events h place old fault.OutOfMemory t c = absurd c
-exceeds limits events h place old fault.NotFresh t c = absurd c
+exceeds limits events h place old _ t c = absurd c
 
 -- an event within the limits is not taken for lack of memory
 pub lacks_memory : (limits : Limits) (events : List Happening) (h : Happening) (place : Marker) (old : Loader)

@@ -52,9 +52,7 @@ weight-Alias id = search (rules, the_lemmas)
 
 step_positive : (layer : Node-F ℕ) → 1 ≤ weight_step layer
 step_positive (Node-F.Alias id) = omega arith
-step_positive (Node-F.Scalar text style id tag) = omega arith
-step_positive (Node-F.Seq id tag nodes) = omega arith
-step_positive (Node-F.Map id tag pairs) = omega arith
+step_positive _ = omega arith
 
 pub positive : (n : Node) → 1 ≤ node_weight n
 unfolding node_weight
