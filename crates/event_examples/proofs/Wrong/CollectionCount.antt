@@ -6,7 +6,7 @@ use Rattle.saphyr_scanner.specs.Grammar.Forest.{Properties, Forest}
 use Rattle.saphyr_scanner.specs.Grammar.Tokens as tokens
 use Rattle.saphyr_scanner.specs.Grammar.Tokens.{Kind}
 use Rattle.saphyr_scanner.specs.Grammar.TokenGrammar.{Yields}
-use Rattle.event_laws.proofs.AddsUp.{Collection, FlowSequence, FlowMapping, BlockSequence, BlockMapping, opening, closing, opening_part, closing_part, IsSingle, of_forest}
+use Rattle.event_laws.proofs.AddsUp.{Collection, FlowSequence, opening, closing, opening_part, closing_part, IsSingle, of_forest}
 use Rattle.saphyr_machine.specs.Events as events
 use Rattle.saphyr_machine.specs.Events.{Happening}
 use Rattle.event_examples.specs.Examples.WrongMappings.{collections_begun, collections_in}
@@ -56,9 +56,7 @@ around c p inside ps x =
         → total token_starts (opening c ∷ (inside ++ closing c ∷ []))
         ≤ sum_of (opening_part c p ∷ (ps ++ closing_part c ∷ []))
     by FlowSequence t l = omega (arith, t, l, x)
-    by FlowMapping t l = omega (arith, t, l, x)
-    by BlockSequence t l = omega (arith, t, l, x)
-    by BlockMapping t l = omega (arith, t, l, x)
+    by _ t l = omega (arith, t, l, x)
 
 forest_starts : (f : Forest) (t : List Kind) → Yields f t → total token_starts t ≤ sum_of (parts f)
 forest_starts = of_forest (λ t ps. total token_starts t ≤ sum_of ps) (record {

@@ -10,7 +10,7 @@ use Rattle.event_laws.specs.EventsTaken.{IsCut, AreTaken}
 use Rattle.event_laws.proofs.AddsUp.{IsInNode, of_node}
 use Rattle.event_laws.specs.ForestEvents as telling
 use Rattle.event_laws.specs.ForestEvents.{event_of_part, first_and_others, events_behind}
-use Rattle.event_laws.specs.Preorder.{Part, OpenStream, CloseStream, OpenDocument, CloseDocument, Reference, Leaf, OpenSequence, CloseSequence, OpenMapping, CloseMapping, node_parts, document_parts}
+use Rattle.event_laws.specs.Preorder.{Part, OpenStream, CloseStream, OpenDocument, CloseDocument, Reference, CloseSequence, CloseMapping, node_parts, document_parts}
 use Rattle.event_examples.specs.Examples.WrongAnswers.{IsNoStreamEnd, HasNoStreamEnd, EndsSo, EndsWithStreamEnd}
 
 -- ## Parts
@@ -66,11 +66,9 @@ event_no_end keep front (OpenDocument explicit directives) w i e =
     is_event IsNoStreamEnd (events.DocumentStart explicit) w tt e
 event_no_end keep front CloseDocument w i e = is_event IsNoStreamEnd events.DocumentEnd w tt e
 event_no_end keep front (Reference name) w i e = mapped IsNoStreamEnd _ events.Alias w (λ x. tt) e
-event_no_end keep front (Leaf p style value) w i e = mapped IsNoStreamEnd _ _ w (λ x. tt) e
-event_no_end keep front (OpenSequence p) w i e = mapped IsNoStreamEnd _ _ w (λ x. tt) e
 event_no_end keep front CloseSequence w i e = is_event IsNoStreamEnd events.SequenceEnd w tt e
-event_no_end keep front (OpenMapping p) w i e = mapped IsNoStreamEnd _ _ w (λ x. tt) e
 event_no_end keep front CloseMapping w i e = is_event IsNoStreamEnd events.MappingEnd w tt e
+event_no_end keep front _ w i e = mapped IsNoStreamEnd _ _ w (λ x. tt) e
 
 -- events, of which the stream's end is the last, and no other is
 record Closes (es : List Happening) : Type 0 where

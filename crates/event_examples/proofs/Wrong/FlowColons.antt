@@ -19,15 +19,15 @@ use Rattle.saphyr_scanner.proofs.Taken.Places.{reaches_reaches, token_reached}
 use Rattle.taken_laws.proofs.Wrong.Standing.{at_index}
 use Rattle.saphyr_machine.specs.Events.{Happening, SequenceStart, MappingStart}
 use Rattle.event_laws.proofs.OwnTokens.{ArePassed}
-use Rattle.event_laws.specs.EventsTaken.{ArePropertyTokens, SpansAll, AreContentTokens, BelongsToNone, IsAnchorKind, IsTagKind, IsOf, AreTaken}
+use Rattle.event_laws.specs.EventsTaken.{SpansAll, AreContentTokens, BelongsToNone, IsAnchorKind, IsTagKind, IsOf, AreTaken}
 use Rattle.event_examples.specs.Examples.Forests.{plain_event}
 use Rattle.event_examples.specs.Examples.WrongPlaces as wrong
-use Rattle.event_examples.proofs.Wrong.Absent.{without_text}
+use Rattle.event_examples.proofs.Wrong.Absent.{Each, without_text}
 use Rattle.event_examples.proofs.Wrong.Brackets.{stays_inside}
 use Rattle.event_examples.proofs.Wrong.FirstCharacters.{begins_token, stops_at, takes_nothing}
 use Rattle.event_examples.proofs.Wrong.OneBracket.{BehindBracket, behind_bracket}
 use Rattle.event_examples.proofs.Wrong.Owned.{content_end}
-use Rattle.event_examples.proofs.Wrong.Stretches.{Stretch, stretches, alone, word}
+use Rattle.event_examples.proofs.Wrong.Stretches.{Stretch, stretches, each_property, each_content, alone, word}
 
 abbrev pair_text : List ℕ
 pair_text = codes "[:a]"
@@ -56,8 +56,7 @@ IsNoScalar (tokens.Scalar style value) = ⊥
 IsNoScalar _ = Unit {0}
 
 abbrev AreNoScalars : List Piece → Type 0
-AreNoScalars [] = Unit {0}
-AreNoScalars (p ∷ ps) = IsNoScalar p.kind × AreNoScalars ps
+AreNoScalars = Each (λ k span. IsNoScalar k)
 
 stays_put : (opened : Collections) (k : Kind) (span : Span) (s t : Cursor) → Before opened s → IsNoScalar k
     → IsToken (surroundings_in opened) k span s t → t ≡ s
@@ -125,37 +124,15 @@ skipped_no_scalars (p ∷ ps) h = (by p.kind h.0, skipped_no_scalars ps h.1)
     by (tokens.Scalar how value) b = b
     by _ b = tt
 
-no_scalars_append : (ps qs : List Piece) → AreNoScalars ps → AreNoScalars qs → AreNoScalars (ps ++ qs)
-no_scalars_append [] qs a b = b
-no_scalars_append (p ∷ ps) qs a b = (a.0, no_scalars_append ps qs a.1 b)
-
 property_no_scalar : (k : Kind) → IsAnchorKind k ⊎ IsTagKind k → IsNoScalar k
 property_no_scalar (tokens.Scalar how value) (inl h) = h
 property_no_scalar (tokens.Scalar how value) (inr h) = h
 property_no_scalar _ h = tt
 
-property_no_scalars : (ps : List Piece) → ArePropertyTokens ps → AreNoScalars ps
-property_no_scalars [] h = tt
-property_no_scalars (p ∷ []) h = (property_no_scalar p.kind h, tt)
-property_no_scalars (p ∷ q ∷ []) (inl h) =
-    (property_no_scalar p.kind (inl h.0), (property_no_scalar q.kind (inr h.1), tt))
-property_no_scalars (p ∷ q ∷ []) (inr h) =
-    (property_no_scalar p.kind (inr h.0), (property_no_scalar q.kind (inl h.1), tt))
-property_no_scalars (p ∷ q ∷ r ∷ ps) h = absurd h
-
-front_no_scalars : (front : List Piece) → (front ≡ []) ⊎ ArePropertyTokens front → AreNoScalars front
-front_no_scalars front (inl e) = subst AreNoScalars (sym e) tt
-front_no_scalars front (inr h) = property_no_scalars front h
-
-content_no_scalars : (kind : Kind) (own : List Piece) → IsNoScalar kind → AreContentTokens kind own → AreNoScalars own
-content_no_scalars kind own n (front, p, either, e, is) =
-    subst AreNoScalars (sym is)
-    (no_scalars_append front (p ∷ []) (front_no_scalars front either) (subst IsNoScalar (sym e) n, tt))
-
 mapping_no_scalars : (span : Span) (own others : List Piece) → IsOf (MappingStart 0 None) span own others
     → AreNoScalars own
-mapping_no_scalars span own others (inl c, spans) = content_no_scalars tokens.FlowMappingStart own tt c
-mapping_no_scalars span own others (inr (inl c), spans) = content_no_scalars tokens.BlockMappingStart own tt c
+mapping_no_scalars span own others (inl c, spans) = each_content IsNoScalar property_no_scalar tokens.FlowMappingStart own tt c
+mapping_no_scalars span own others (inr (inl c), spans) = each_content IsNoScalar property_no_scalar tokens.BlockMappingStart own tt c
 mapping_no_scalars span own others (inr (inr (mark, e, is)), spans) =
     subst AreNoScalars (sym is) (subst IsNoScalar (sym e) tt, tt)
 
@@ -182,7 +159,7 @@ empty_no_scalars opened own others s u from (inl ((front, p, either, e, is), spa
     let long = last_long opened front p s u [] e (subst P is h) in
     let end = ap (λ (m : Marker). m.index) (content_end front p wrong.at_colon (subst Q is spans)) in
     absurd (omega (arith, from, long, end))
-empty_no_scalars opened own others s u from (inr (inl h)) k = property_no_scalars own h.2
+empty_no_scalars opened own others s u from (inr (inl h)) k = each_property IsNoScalar property_no_scalar own h.2
 empty_no_scalars opened own others s u from (inr (inr h)) k = subst AreNoScalars (sym h.4) tt
 
 -- ## `[:a]` with a pair

@@ -109,14 +109,6 @@ module _ (at : Surroundings) (span : Span) (s t : Cursor) (only : has_only_indic
       begins_with_none s.rest 37 only (begins_with h.0 s.rest t.rest 37 h.5.is (directive_begins d h.0 h.4) refl) refl
 
   pub lone : (k : Kind) → IsToken at k span s t → IsLone k span
-  lone tokens.StreamStart h = tt
-  lone tokens.StreamEnd h = tt
-  lone tokens.BlockSequenceStart h = tt
-  lone tokens.BlockMappingStart h = tt
-  lone tokens.BlockEnd h = tt
-  lone tokens.BlockEntry h = tt
-  lone tokens.Key h = tt
-  lone tokens.Value h = tt
   lone tokens.FlowMappingStart (inl h) = absurd (not_first 123 t.rest h.0.0 refl)
   lone tokens.FlowMappingStart (inr h) = without_text span h.0
   lone tokens.FlowMappingEnd (inl h) = absurd (not_first 125 t.rest h.0.0 refl)
@@ -139,6 +131,7 @@ module _ (at : Surroundings) (span : Span) (s t : Cursor) (only : has_only_indic
   lone (tokens.VersionDirective major minor) h = lone_directive (version major minor) h
   lone (tokens.TagDirective handle prefix) h = lone_directive (tag_prefix handle prefix) h
   lone (tokens.ReservedDirective name) h = lone_directive (reserved name) h
+  lone _ h = tt
 
 -- ## Each key has its `?`, since no node comes after the start of another
 

@@ -4,7 +4,7 @@ use Rattle.std.proofs.Common.{◌≡◌, ◌⊎◌, ℕ, Bool, true, false, List
 use Rattle.std.specs.Prelude.{if◌then◌else◌}
 use Rattle.std.specs.Option.{option_or}
 use Rattle.std.specs.Str.{bytes_eq}
-use Rattle.saphyr_scanner.specs.Grammar.Forest.{Handle, Primary, Secondary, Named, handle_bytes, Tag, NonSpecific, Verbatim, Shorthand, Directive, Version, TagPrefix, Reserved, Node, Forest}
+use Rattle.saphyr_scanner.specs.Grammar.Forest.{Handle, Primary, handle_bytes, Tag, NonSpecific, Verbatim, Shorthand, Directive, Version, TagPrefix, Reserved, Node, Forest}
 use Rattle.saphyr_scanner.specs.Grammar.TokenGrammar.{AreEndsAndMarks, YieldDocuments, Yields}
 use Rattle.saphyr_scanner.specs.Grammar.Tokens as tokens
 use Rattle.saphyr_scanner.specs.Grammar.Tokens.{Kind, directive_token}
@@ -86,8 +86,7 @@ resolved_somewhere keep (Shorthand handle suffix) front r e h = by (prefix_of ke
   where
     no_default : (handle : Handle) → default_prefix handle ≡ Some wanted → ⊥
     no_default Primary e = cc
-    no_default Secondary e = cc
-    no_default (Named word) e = cc
+    no_default _ e = cc
 
     declared : (prefix_declared_for keep handle front ≡ Some wanted) ⊎ (default_prefix handle ≡ Some wanted)
         → Somewhere front

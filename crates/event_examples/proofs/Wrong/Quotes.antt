@@ -11,7 +11,7 @@ use Rattle.saphyr_scalar.specs.Views.Cursor.{start_cursor}
 use Rattle.saphyr_values.specs.Flow.{mark}
 use Rattle.saphyr_scalar.specs.Steps.Quoted.{break_len}
 use Rattle.saphyr_scalar.specs.Spelling.QuotedMarkers.{HasNoMarker}
-use Rattle.saphyr_scalar.specs.Spelling.Quoted.{IsText, closed, itself, broken, two_quotes, escaped, numbered, escaped_break, stands_for_itself}
+use Rattle.saphyr_scalar.specs.Spelling.Quoted.{IsText, closed, itself, broken, two_quotes, stands_for_itself}
 use Rattle.scalar_laws.proofs.Beginnings.{heads, tails}
 use Rattle.taken_laws.specs.Examples.TakenTexts.{marker_at}
 use Rattle.taken_laws.proofs.Wrong.Standing.{reached_behind, one_place}
@@ -32,14 +32,9 @@ neither_quote q c e a b = by (mark_is q c e)
 
 -- where there is nothing, there is no text
 no_text : (q : Quote) (t : List ℕ) (items : List Item) (x : List ℕ) → IsText q t items x → t ≡ [] → ⊥
-no_text _ _ _ _ (closed q x h) e = cc
-no_text _ _ _ _ (itself q c t items x h r) e = cc
 no_text _ _ _ _ (broken q t items x h r) e =
     let k : is_break 0 ≡ true = sym (ap (λ l. is_break (slice_index l 0)) e) ∙ h in cc
-no_text _ _ _ _ (two_quotes t items x r) e = cc
-no_text _ _ _ _ (escaped f c t items x h r) e = cc
-no_text _ _ _ _ (numbered f c ds t items x h r) e = cc
-no_text _ _ _ _ (escaped_break t items x h r) e = cc
+no_text _ _ _ _ _ e = cc
 
 -- before a line that begins with a marker
 at_marker : (q : Quote) (t : List ℕ) (items : List Item) (x : List ℕ) (is : IsText q t items x)
@@ -56,9 +51,7 @@ at_marker _ _ _ _ (broken q t items x h r) m e =
     (ap (λ l. is_document_indicator (drop (break_len l) l)) e) ∙ m.0 in
     cc
 at_marker _ _ _ _ (two_quotes t items x r) m e = let z : 10 ≡ 39 = heads 39 10 _ _ e in omega (arith, z)
-at_marker _ _ _ _ (escaped f c t items x h r) m e = let z : 10 ≡ 92 = heads 92 10 _ _ e in omega (arith, z)
-at_marker _ _ _ _ (numbered f c ds t items x h r) m e = let z : 10 ≡ 92 = heads 92 10 _ _ e in omega (arith, z)
-at_marker _ _ _ _ (escaped_break t items x h r) m e = let z : 10 ≡ 92 = heads 92 10 _ _ e in omega (arith, z)
+at_marker _ _ _ _ _ m e = let z : 10 ≡ 92 = heads 92 10 _ _ e in omega (arith, z)
 
 before_marker : (q : Quote) (t : List ℕ) (items : List Item) (x : List ℕ) (is : IsText q t items x)
     → HasNoMarker q t items x is → t ≡ codes "a\n--- b\"" → ⊥
@@ -68,9 +61,7 @@ before_marker _ _ _ _ (itself q c t items x h r) m e = at_marker q t items x r m
 before_marker _ _ _ _ (broken q t items x h r) m e =
     let k : is_break 97 ≡ true = sym (ap (λ l. is_break (slice_index l 0)) e) ∙ h in cc
 before_marker _ _ _ _ (two_quotes t items x r) m e = let z : 97 ≡ 39 = heads 39 97 _ _ e in omega (arith, z)
-before_marker _ _ _ _ (escaped f c t items x h r) m e = let z : 97 ≡ 92 = heads 92 97 _ _ e in omega (arith, z)
-before_marker _ _ _ _ (numbered f c ds t items x h r) m e = let z : 97 ≡ 92 = heads 92 97 _ _ e in omega (arith, z)
-before_marker _ _ _ _ (escaped_break t items x h r) m e = let z : 97 ≡ 92 = heads 92 97 _ _ e in omega (arith, z)
+before_marker _ _ _ _ _ m e = let z : 97 ≡ 92 = heads 92 97 _ _ e in omega (arith, z)
 
 -- the scalar begins at one of the two quotes
 either_quote : (front inside : List ℕ) → codes "\"a\n--- b\"" ≡ front ++ quotation_mark ∷ inside

@@ -21,6 +21,7 @@ use Rattle.saphyr_machine.specs.Answer.{Answer}
 use Rattle.saphyr_machine.specs.Events.{Happening}
 use Rattle.event_laws.proofs.OwnTokens.{ArePassed}
 use Rattle.event_laws.specs.EventsTaken as taking
+use Rattle.event_examples.proofs.Wrong.Absent.{Each}
 use Rattle.event_laws.specs.EventsTaken.{SpansAll, ArePropertyTokens, AreContentTokens, BelongsToNone, IsAnchorKind, IsTagKind, IsOf, HaveTokens, AreTaken}
 
 -- tokens that are passed over from a place of the text, an event's own ones after them, and the others
@@ -110,6 +111,30 @@ stretches keep text a t =
     all_stretch text b.unread a.events no_collections b.read (start_cursor text) r.taken.0 b.places
     (taken.nothing (start_cursor text).mark text) (subst P b.are_read r.taken.1)
 
+-- ## Claims on the tokens of content
+
+pub each_append : (P : Kind → Span → Type 0) (ps qs : List Piece) → Each P ps → Each P qs → Each P (ps ++ qs)
+each_append P [] qs a b = b
+each_append P (p ∷ ps) qs a b = (a.0, each_append P ps qs a.1 b)
+
+-- what is true of anchors and tags is true of properties, and of content that it is true of
+module _ (P : Kind → Type 0) (property : (k : Kind) → IsAnchorKind k ⊎ IsTagKind k → P k) where
+  pub each_property : (ps : List Piece) → ArePropertyTokens ps → Each (λ k span. P k) ps
+  each_property [] h = tt
+  each_property (p ∷ []) h = (property p.kind h, tt)
+  each_property (p ∷ q ∷ []) (inl h) = (property p.kind (inl h.0), (property q.kind (inr h.1), tt))
+  each_property (p ∷ q ∷ []) (inr h) = (property p.kind (inr h.0), (property q.kind (inl h.1), tt))
+  each_property (p ∷ q ∷ r ∷ ps) h = absurd h
+
+  pub each_content : (k : Kind) (ts : List Piece) → P k → AreContentTokens k ts → Each (λ k span. P k) ts
+  each_content k ts w (front, own, either, kind, is) =
+      subst (Each (λ k span. P k)) (sym is)
+      (each_append (λ k span. P k) front (own ∷ []) (by either) (subst P (sym kind) w, tt))
+    where
+      by : (front ≡ []) ⊎ ArePropertyTokens front → Each (λ k span. P k) front
+      by (inl e) = subst (Each (λ k span. P k)) (sym e) tt
+      by (inr h) = each_property front h
+
 -- ## Properties and plain scalars
 
 abbrev pub IsWord : Kind → Type 0
@@ -119,39 +144,13 @@ IsWord (tokens.Scalar style.Plain value) = Unit {0}
 IsWord _ = ⊥
 
 abbrev pub AreWords : List Piece → Type 0
-AreWords [] = Unit {0}
-AreWords (p ∷ ps) = IsWord p.kind × AreWords ps
+AreWords = Each (λ k span. IsWord k)
 
-words_append : (ps qs : List Piece) → AreWords ps → AreWords qs → AreWords (ps ++ qs)
-words_append [] qs a b = b
-words_append (p ∷ ps) qs a b = (a.0, words_append ps qs a.1 b)
-
-anchor_word : (k : Kind) → IsAnchorKind k → IsWord k
-anchor_word (tokens.Anchor name) h = tt
-anchor_word _ h = absurd h
-
-tag_word : (k : Kind) → IsTagKind k → IsWord k
-tag_word (tokens.Tag handle suffix) h = tt
-tag_word _ h = absurd h
-
-property_word : (k : Kind) → IsAnchorKind k ⊎ IsTagKind k → IsWord k
-property_word k (inl h) = anchor_word k h
-property_word k (inr h) = tag_word k h
-
-pub property_words : (ps : List Piece) → ArePropertyTokens ps → AreWords ps
-property_words [] h = tt
-property_words (p ∷ []) h = (property_word p.kind h, tt)
-property_words (p ∷ q ∷ []) (inl h) = (anchor_word p.kind h.0, (tag_word q.kind h.1, tt))
-property_words (p ∷ q ∷ []) (inr h) = (tag_word p.kind h.0, (anchor_word q.kind h.1, tt))
-property_words (p ∷ q ∷ r ∷ ps) h = absurd h
-
-pub content_words : (k : Kind) (ts : List Piece) → IsWord k → AreContentTokens k ts → AreWords ts
-content_words k ts w (front, own, either, kind, is) =
-    subst AreWords (sym is) (words_append front (own ∷ []) (by either) (subst IsWord (sym kind) w, tt))
-  where
-    by : (front ≡ []) ⊎ ArePropertyTokens front → AreWords front
-    by (inl e) = subst AreWords (sym e) tt
-    by (inr p) = property_words front p
+pub property_word : (k : Kind) → IsAnchorKind k ⊎ IsTagKind k → IsWord k
+property_word (tokens.Anchor name) h = tt
+property_word (tokens.Tag handle suffix) h = tt
+property_word _ (inl h) = absurd h
+property_word _ (inr h) = absurd h
 
 -- a tag begins with `!`, and so does each handle
 pub tag_begins : (text handle suffix : List ℕ) → IsTagText text handle suffix → (more : List ℕ) × (text ≡ 33 ∷ more)

@@ -19,7 +19,7 @@ use Rattle.saphyr_scanner.proofs.Taken.Places.{Reaches, reaches_reaches}
 use Rattle.taken_laws.proofs.Wrong.Standing.{at_index}
 use Rattle.event_laws.specs.EventsTaken.{SpansAll, IsTagKind, IsOf, AreTaken}
 use Rattle.event_examples.specs.Examples.WrongAnswers as wrong
-use Rattle.event_examples.proofs.Wrong.Stretches.{Stretch, stretches, IsWord, AreWords, content_words, property_words, word}
+use Rattle.event_examples.proofs.Wrong.Stretches.{Stretch, stretches, IsWord, AreWords, property_word, each_property, each_content, word}
 
 -- a character that no tag ends before
 abbrev goes_on : ℕ → Bool
@@ -152,7 +152,7 @@ short_tag_is_not_taken keep t = by (stretches keep (codes ": !a\n") wrong.short_
         by_tokens : (own : List Piece) → IsOf wrong.scalar_with_short_tag wrong.tag_and_a own st.others
             → AreTokens (open_all st.skipped o) own st.start st.end → ⊥
         by_tokens own (inl (content, spans)) h =
-            let w = content_words (tokens.Scalar style.Plain (codes "a")) own tt content in
+            let w = each_content IsWord property_word (tokens.Scalar style.Plain (codes "a")) own tt content in
             let over = goes_over (codes ": !a\n") 2 (codes "a") (codes "\n") refl (refl, tt) (open_all st.skipped o) own
             st.start st.end wrong.tag_and_a st.reached w h spans refl in
             by_further over.further
@@ -182,6 +182,6 @@ tag_before_comment_is_not_taken keep t =
         by_tokens : (own : List Piece) → IsOf wrong.empty_with_tag wrong.tag_alone own st.others
             → AreTokens (open_all st.skipped o) own st.start st.end → ⊥
         by_tokens own (inl (content, spans)) h =
-            refused own (content_words (tokens.Scalar style.Plain []) own tt content) h spans
-        by_tokens own (inr (inl (_, _, are, spans))) h = refused own (property_words own are) h spans
+            refused own (each_content IsWord property_word (tokens.Scalar style.Plain []) own tt content) h spans
+        by_tokens own (inr (inl (_, _, are, spans))) h = refused own (each_property IsWord property_word own are) h spans
         by_tokens own (inr (inr (_, _, _, none, _))) h = cc

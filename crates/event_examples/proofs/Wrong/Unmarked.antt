@@ -61,12 +61,8 @@ behind_no_colon all tokens.FlowMappingEnd span u h n =
 behind_no_colon all tokens.FlowEntry span u h n = (tt, (by all.inner.enclosure n.0, n.1))
   where
     by : (e : Enclosure) → IsNoPairValue e → IsNoPairValue (behind_comma e)
-    by place.MarkedEntry n = tt
-    by place.Block n = tt
-    by place.Sequence n = tt
-    by place.PairKey n = tt
     by place.PairValue n = absurd n
-    by place.Mapping n = tt
+    by _ n = tt
 behind_no_colon all tokens.Key span u h n =
     let P : Bool → Type 0 = λ b. IsBehindNoColon (if b then place.turned_to (place.behind_question all.inner.enclosure)
     all else awaiting_colon span.start all) in (tt, subst P (sym u) n)
